@@ -1,0 +1,4 @@
+pub mod Addresses
+pub mod Hashes
+pub mod Recency
+pub mod Words

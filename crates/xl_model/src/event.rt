@@ -1,0 +1,84 @@
+//! The events that a row is served, and their outcomes.
+
+use crate::address::{Kind, Order};
+use crate::leaf::Reply;
+use crate::perm::Perm;
+
+/// What a fence reaches, by address (the four scopes of SFENCE.VMA, RISC-V Privileged manual).
+#[derive(Clone, Copy, Debug, PartialEq, Eq)]
+pub enum Scope {
+    All,
+    Space { space: u16 },
+    Addr { va: u64 },
+    Page { space: u16, va: u64 },
+}
+
+/// What a fence reaches, by page.
+#[derive(Clone, Copy, Debug, PartialEq, Eq)]
+pub enum Reach {
+    All,
+    Space { space: u16 },
+    Addr { page: u64 },
+    Page { space: u16, page: u64 },
+}
+
+/// One step of a row: an access of the current space, or a command of one leaf.
+#[derive(Clone, Copy, Debug, PartialEq, Eq)]
+pub enum Event {
+    Access {
+        va: u64,
+        kind: Kind,
+    },
+    Map {
+        space: u16,
+        va: u64,
+        order: Order,
+        perm: Perm,
+    },
+    Unmap {
+        space: u16,
+        va: u64,
+        order: Order,
+    },
+    Protect {
+        space: u16,
+        va: u64,
+        order: Order,
+        perm: Perm,
+    },
+    Move {
+        space: u16,
+        from: u64,
+        to: u64,
+        order: Order,
+    },
+    Space {
+        space: u16,
+    },
+    Fence {
+        scope: Scope,
+    },
+}
+
+/// Why a command is refused, numbered from 1 in this order, which is also the order in which they
+/// are tested.
+#[derive(Clone, Copy, Debug, PartialEq, Eq)]
+pub enum Refusal {
+    BadSpace,
+    NotCanonical,
+    Misaligned,
+    Unmapped,
+    WrongSize,
+    Overlap,
+    NoFrames,
+    NoTable,
+    WayAtCap,
+}
+
+/// What an event came to: an access is replied to, a command is done or refused.
+#[derive(Clone, Copy, Debug, PartialEq, Eq)]
+pub enum Outcome {
+    Replied(Reply),
+    Done,
+    Refused(Refusal),
+}

@@ -1,0 +1,19 @@
+//! The types that every part of `xlate` speaks of: addresses, leaves, commands, rows and counts.
+//! The definitions that contracts cite stand in `specs/`.
+#![tactic(auto)]
+
+mod address;
+mod event;
+mod hash;
+mod leaf;
+mod perm;
+mod row;
+mod work;
+
+pub use address::{Kind, Mode, Order, allows, canonical, code, page_of};
+pub use event::{Event, Outcome, Reach, Refusal, Scope};
+pub use hash::{mix, way_hash};
+pub use leaf::{Leaf, Range, Reply};
+pub use perm::Perm;
+pub use row::{Counts, Purge, Row, Table, TlbSpec};
+pub use work::{Full, NoMemory, NoRoom, NoTable, Refused, Walk, Work};

@@ -1,0 +1,47 @@
+//! What a table answers to the machine above it.
+
+use crate::leaf::Leaf;
+
+/// There is no memory.
+#[derive(Clone, Copy, Debug, PartialEq, Eq)]
+pub struct NoMemory;
+
+/// A radix table has no free node.
+#[derive(Clone, Copy, Debug, PartialEq, Eq)]
+pub struct NoTable;
+
+/// A table holds as many entries as it can.
+#[derive(Clone, Copy, Debug, PartialEq, Eq)]
+pub struct Full;
+
+/// Why a table takes no leaf: it has no room, or every way of a cuckoo table is at its cap.
+#[derive(Clone, Copy, Debug, PartialEq, Eq)]
+pub enum NoRoom {
+    NoTable,
+    WayAtCap,
+}
+
+/// What a command cost in the table: displacements, those undone, slots migrated, growths begun
+/// (cuckoo tables), and cache entries purged.
+#[derive(Clone, Copy, Debug, PartialEq, Eq)]
+pub struct Work {
+    pub kicks: u64,
+    pub undone: u64,
+    pub migrated: u64,
+    pub growths: u64,
+    pub invalidated: u64,
+}
+
+/// A refused command, with what was done before the refusal.
+#[derive(Clone, Copy, Debug, PartialEq, Eq)]
+pub struct Refused {
+    pub why: NoRoom,
+    pub work: Work,
+}
+
+/// What a walk found, and how many walk caches hit.
+#[derive(Clone, Copy, Debug, PartialEq, Eq)]
+pub struct Walk {
+    pub leaf: Option<Leaf>,
+    pub cache_hits: u64,
+}
