@@ -8,6 +8,8 @@ mod hash;
 mod leaf;
 mod perm;
 mod row;
+mod structure;
+mod way;
 mod work;
 
 pub use address::{Kind, Mode, Order, allows, canonical, code, page_of};
@@ -16,4 +18,6 @@ pub use hash::{mix, way_hash};
 pub use leaf::{Leaf, Range, Reply};
 pub use perm::Perm;
 pub use row::{Counts, Purge, Row, Table, TlbSpec};
+pub use structure::Structure;
+pub use way::{Entry, Moves, WayRegs};
 pub use work::{Full, NoMemory, NoRoom, NoTable, Refused, Walk, Work};

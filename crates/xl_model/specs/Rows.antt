@@ -1,0 +1,15 @@
+-- A row of the configuration, as contracts see it.
+use Rattle.std.specs.Prelude.{ℕ, List, Bool, ◌<◌, ◌≤◌}
+use Rattle.xl_model.specs.declared.address.Mode.{Mode}
+use Rattle.xl_model.specs.declared.row.Purge.{Purge}
+use Rattle.xl_model.specs.declared.row.Table.{Table}
+use Rattle.xl_model.specs.declared.row.TlbSpec.{TlbSpec}
+
+pub record Row : Type 0 where
+  pub name : List ℕ
+  pub mode : Mode
+  pub frames : ℕ
+  pub spaces : ℕ
+  pub purge : Purge
+  pub table : Table
+  pub tlb : List TlbSpec

@@ -1,0 +1,154 @@
+-- TLB arrays in levels: look-up, fills, purges and fences. Each set of an array is a recency list.
+use Rattle.std.specs.Prelude.{ℕ, zero, suc, ◌+◌, ◌-◌, ◌/◌, ◌%◌, ◌==◌, Bool, true, false, ◌&&◌, not, nat_le, nat_lt, if◌then◌else◌, List, [], ◌∷◌, find, map, length, replicate, slice_index_or, slice_set, Option, None, Some}
+use Rattle.xl_model.specs.declared.address.Order.{Order}
+use Rattle.xl_model.specs.declared.address.Order.TheVariants as order
+use Rattle.xl_model.specs.declared.leaf.Leaf.{Leaf}
+use Rattle.xl_model.specs.declared.event.Reach.{Reach}
+use Rattle.xl_model.specs.declared.event.Reach.TheVariants as reach
+use Rattle.xl_model.specs.declared.row.Purge.{Purge}
+use Rattle.xl_model.specs.declared.row.Purge.TheVariants as purge
+use Rattle.xl_model.specs.declared.row.TlbSpec.{TlbSpec}
+use Rattle.xl_model.specs.Addresses.{pages_of, same_order}
+use Rattle.xl_model.specs.Recency.{touched, with_newest, purged}
+use Rattle.xl_model.specs.Mapping.{covers, is_leaf}
+
+pub record TlbArray : Type 0 where
+  pub spec : TlbSpec
+  pub sets : List (List Leaf)
+
+abbrev pub takes_order : TlbSpec → Order → Bool
+takes_order spec order.K4 = spec.k4
+takes_order spec order.M2 = spec.m2
+takes_order spec order.G1 = spec.g1
+
+-- the set of the leaf of this order that would cover the page
+abbrev pub set_number : TlbSpec → Order → ℕ → ℕ
+set_number spec o page = page / pages_of o % spec.sets
+
+abbrev pub set_at : TlbArray → Order → ℕ → List Leaf
+set_at a o page = slice_index_or a.sets (set_number a.spec o page) []
+
+abbrev pub covers_as : ℕ → ℕ → Order → Leaf → Bool
+covers_as space page o leaf = same_order leaf.order o && covers space page leaf
+
+abbrev pub where_taken : Bool → Option Leaf → Option Leaf
+where_taken true found = found
+where_taken false found = None
+
+abbrev pub found_as : TlbArray → ℕ → ℕ → Order → Option Leaf
+found_as a space page o = where_taken (takes_order a.spec o) (find (covers_as space page o) (set_at a o page))
+
+abbrev pub first_found : Option Leaf → Option Leaf → Option Leaf
+first_found (Some leaf) next = Some leaf
+first_found None next = next
+
+-- the orders are tried from 4 KiB up, and the newest leaf of the first that has one hits
+unfoldable pub array_hit : TlbArray → ℕ → ℕ → Option Leaf
+array_hit a space page =
+    first_found (found_as a space page order.K4)
+    (first_found (found_as a space page order.M2) (found_as a space page order.G1))
+
+abbrev pub with_set : TlbArray → ℕ → List Leaf → TlbArray
+with_set a i items = record a { sets = slice_set a.sets i items }
+
+-- the array with the leaf that hit in front of its set
+unfoldable pub array_touched : ℕ → ℕ → Leaf → TlbArray → TlbArray
+array_touched space page leaf a =
+    with_set a (set_number a.spec leaf.order page) (touched (covers_as space page leaf.order) (set_at a leaf.order page))
+
+abbrev pub filled_where : Bool → Leaf → TlbArray → TlbArray
+filled_where true leaf a =
+    with_set a (set_number a.spec leaf.order leaf.first) (with_newest a.spec.width leaf (set_at a leaf.order leaf.first))
+filled_where false leaf a = a
+
+-- the array with the leaf in front of its set, where it takes the leaf's order
+unfoldable pub array_filled : Leaf → TlbArray → TlbArray
+array_filled leaf a = filled_where (takes_order a.spec leaf.order) leaf a
+
+-- The arrays stand in rising level; the first that hits answers.
+pub record Answer : Type 0 where
+  pub leaf : Leaf
+  pub level : ℕ
+
+abbrev pub answered_by : Option Leaf → ℕ → Option Answer → Option Answer
+answered_by (Some leaf) level next = Some (record { leaf = leaf; level = level })
+answered_by None level next = next
+
+abbrev pub answer_of : List TlbArray → ℕ → ℕ → Option Answer
+answer_of [] space page = None
+answer_of (a ∷ arrays) space page = answered_by (array_hit a space page) a.spec.level (answer_of arrays space page)
+
+-- arrays of the levels up to the one that answered, or of all levels, are looked at
+abbrev pub is_looked : Option Answer → TlbArray → Bool
+is_looked None a = true
+is_looked (Some answer) a = nat_le a.spec.level answer.level
+
+abbrev pub is_hit : Option Leaf → Bool
+is_hit None = false
+is_hit (Some leaf) = true
+
+abbrev pub hits_at : Option Answer → ℕ → ℕ → TlbArray → Bool
+hits_at answer space page a = is_looked answer a && is_hit (array_hit a space page)
+
+abbrev pub misses_at : Option Answer → ℕ → ℕ → TlbArray → Bool
+misses_at answer space page a = is_looked answer a && not (is_hit (array_hit a space page))
+
+-- at a hit the array that answered is touched, and those of lower-numbered levels are filled
+abbrev pub touched_first : Option Leaf → ℕ → ℕ → TlbArray → List TlbArray → List TlbArray → List TlbArray
+touched_first (Some leaf) space page a arrays rest = array_touched space page leaf a ∷ arrays
+touched_first None space page a arrays rest = a ∷ rest
+
+abbrev pub all_touched : ℕ → ℕ → List TlbArray → List TlbArray
+all_touched space page [] = []
+all_touched space page (a ∷ arrays) =
+    touched_first (array_hit a space page) space page a arrays (all_touched space page arrays)
+
+abbrev pub filled_below : ℕ → Leaf → TlbArray → TlbArray
+filled_below level leaf a = if nat_lt a.spec.level level then array_filled leaf a else a
+
+unfoldable pub arrays_hit : Answer → ℕ → ℕ → List TlbArray → List TlbArray
+arrays_hit answer space page arrays = map (filled_below answer.level answer.leaf) (all_touched space page arrays)
+
+abbrev pub fills_array : ℕ → Leaf → TlbArray → Bool
+fills_array level leaf a = nat_lt a.spec.level level && takes_order a.spec leaf.order
+
+-- a walk that found a leaf fills the arrays of every level
+unfoldable pub arrays_filled : Leaf → List TlbArray → List TlbArray
+arrays_filled leaf arrays = map (array_filled leaf) arrays
+
+abbrev pub takes_leaf : Leaf → TlbArray → Bool
+takes_leaf leaf a = takes_order a.spec leaf.order
+
+-- what a purge removes: the leaf as it stood before, all leaves of its space, or all
+abbrev pub is_purged : Purge → Leaf → Leaf → Bool
+is_purged purge.Page old leaf = is_leaf old.space old.first old.order leaf
+is_purged purge.Space old leaf = leaf.space == old.space
+is_purged purge.All old leaf = true
+
+-- what a fence reaches
+abbrev pub reaches_leaf : Reach → Leaf → Bool
+reaches_leaf reach.All leaf = true
+reaches_leaf (reach.Space s) leaf = leaf.space == s
+reaches_leaf (reach.Addr page) leaf = covers leaf.space page leaf
+reaches_leaf (reach.Page s page) leaf = covers s page leaf
+
+abbrev pub array_without : (Leaf → Bool) → TlbArray → TlbArray
+array_without p a = record a { sets = map (purged p) a.sets }
+
+unfoldable pub arrays_without : (Leaf → Bool) → List TlbArray → List TlbArray
+arrays_without p arrays = map (array_without p) arrays
+
+abbrev pub leaves_in_sets : List (List Leaf) → ℕ
+leaves_in_sets [] = 0
+leaves_in_sets (s ∷ sets) = length s + leaves_in_sets sets
+
+-- how many leaves the arrays hold
+unfoldable pub leaves_in : List TlbArray → ℕ
+leaves_in [] = 0
+leaves_in (a ∷ arrays) = leaves_in_sets a.sets + leaves_in arrays
+
+abbrev pub opening_array : TlbSpec → TlbArray
+opening_array spec = record { spec = spec; sets = replicate spec.sets [] }
+
+unfoldable pub opening_arrays : List TlbSpec → List TlbArray
+opening_arrays specs = map opening_array specs

@@ -1,0 +1,77 @@
+//! The trait of the five tables.
+
+ghost use Rattle.std.specs.Prelude.{◌≡◌, false};
+ghost use Rattle.xl_model.specs.Mapping.{leaf_at_page, meets_any};
+ghost use Rattle.xl_model.specs.Changes.{Insert, Remove, Protect, Relocate, IsNamed};
+ghost use Rattle.xl_model.specs.Structures.{TableState, IsBlock, IsPage, IsLeafFor, table_answer, table_after, walk_answer, table_walked, fence_answer, table_fenced};
+
+use crate::address::Order;
+use crate::event::Reach;
+use crate::leaf::Leaf;
+use crate::perm::Perm;
+use crate::work::{Refused, Walk, Work};
+
+/// A table of a row: what holds the leaves of its mapping and answers walks. Contracts see it as its
+/// `table`: the leaves, sorted by space and first page, the shape, the walk caches and the loads.
+///
+/// Only `walk` changes the loads. A refused change leaves the leaves and the caches, and of the shape
+/// all but the growths that a cuckoo table was forced to. After a change that is made exactly the
+/// entries of the precise purge have left the caches, and `Work` tells how many. No call allocates.
+pub trait Structure: Drop {
+    ghost table: { Self → TableState };
+
+    /// Whether a leaf of the space has a page of the block of this order at page `first`.
+    fn meets(&self, space: u16, first: u64, order: Order) -> bool
+        requires { IsBlock (table self.now).shape space first order }
+        ensures { result ≡ meets_any space first order (table self.now).leaves };
+
+    /// The leaf that covers the page, None exactly where there is none.
+    fn leaf_at(&self, space: u16, page: u64) -> Option<Leaf>
+        requires { IsPage (table self.now).shape space page }
+        ensures { result ≡ leaf_at_page space page (table self.now).leaves };
+
+    /// Adds a leaf that no leaf meets. Refused where there is no room, and then where every way of a
+    /// cuckoo table is at its cap.
+    fn insert(&mut self, leaf: Leaf) -> Result<Work, Refused>
+        requires valid { IsLeafFor (table self.old).shape leaf }
+        requires free { meets_any leaf.space leaf.first leaf.order (table self.old).leaves ≡ false }
+        ensures answer { result ≡ table_answer (Insert leaf) (table self.old) }
+        ensures after { table self.new ≡ table_after (Insert leaf) (table self.old) };
+
+    /// Drops a leaf that is there. Refused where a table of ranges has no room for the result.
+    fn remove(&mut self, space: u16, first: u64, order: Order) -> Result<Work, Refused>
+        requires { IsNamed space first order (table self.old).leaves }
+        ensures answer { result ≡ table_answer (Remove space first order) (table self.old) }
+        ensures after { table self.new ≡ table_after (Remove space first order) (table self.old) };
+
+    /// Gives a leaf that is there another permission. Refused as `remove`.
+    fn protect(&mut self, space: u16, first: u64, order: Order, perm: Perm) -> Result<Work, Refused>
+        requires { IsNamed space first order (table self.old).leaves }
+        ensures answer { result ≡ table_answer (Protect space first order perm) (table self.old) }
+        ensures after { table self.new ≡ table_after (Protect space first order perm) (table self.old) };
+
+    /// Moves a leaf that is there to the page `to`, where no leaf meets it, with its frame and
+    /// permission. Refused as `insert`, judged with both leaves there, and for ranges on the result too.
+    fn relocate(&mut self, space: u16, first: u64, to: u64, order: Order) -> Result<Work, Refused>
+        requires there { IsNamed space first order (table self.old).leaves }
+        requires valid { IsBlock (table self.old).shape space to order }
+        requires free { meets_any space to order (table self.old).leaves ≡ false }
+        ensures answer { result ≡ table_answer (Relocate space first to order) (table self.old) }
+        ensures after { table self.new ≡ table_after (Relocate space first to order) (table self.old) };
+
+    /// The leaf that covers the page, found by a walk, with the cache hits of the walk. The loads rise
+    /// by those of the walk, and the caches are touched and filled.
+    fn walk(&mut self, space: u16, page: u64) -> Walk
+        requires { IsPage (table self.old).shape space page }
+        ensures answer { result ≡ walk_answer space page (table self.old) }
+        ensures after { table self.new ≡ table_walked space page (table self.old) };
+
+    /// Removes from the caches what a fence reaches, and tells how many entries left.
+    fn fence(&mut self, reach: Reach) -> u64
+        ensures answer { result ≡ fence_answer reach (table self.old) }
+        ensures after { table self.new ≡ table_fenced reach (table self.old) };
+
+    /// The loads of all walks so far, modulo 2^64.
+    fn loads(&self) -> u64
+        ensures { result ≡ (table self.now).loads };
+}
