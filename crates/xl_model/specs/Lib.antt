@@ -22,3 +22,7 @@ pub mod Tlb
 pub mod Tally
 pub mod RowRun
 pub mod Items
+pub mod Image
+pub mod Lines
+pub mod Report
+pub mod Computing

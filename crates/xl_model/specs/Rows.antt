@@ -2,6 +2,7 @@
 use Rattle.std.specs.Prelude.{ℕ, List, Bool, ◌<◌, ◌≤◌}
 use Rattle.xl_model.specs.declared.address.Mode.{Mode}
 use Rattle.xl_model.specs.declared.row.Purge.{Purge}
+use Rattle.xl_model.specs.declared.row.Row.{Row as RowFields}
 use Rattle.xl_model.specs.declared.row.Table.{Table}
 use Rattle.xl_model.specs.declared.row.TlbSpec.{TlbSpec}
 
@@ -13,3 +14,8 @@ pub record Row : Type 0 where
   pub purge : Purge
   pub table : Table
   pub tlb : List TlbSpec
+
+-- the row that a value of the code's row is
+abbrev pub row_of : RowFields → Row
+row_of r = record {
+    name = r.name.bytes; mode = r.mode; frames = r.frames; spaces = r.spaces; purge = r.purge; table = r.table; tlb = r.tlb.items }
