@@ -7,9 +7,9 @@ use Rattle.xl_model.specs.Nodes.{Node, up, number_of}
 use Rattle.xl_model.specs.Walks.{number_or_0}
 
 pub record Word : Type 0 where
-    pub node : ℕ
-    pub index : ℕ
-    pub word : ℕ
+  pub node : ℕ
+  pub index : ℕ
+  pub word : ℕ
 
 -- words are sorted by node, then index
 abbrev pub with_word : Word → List Word → List Word
@@ -38,7 +38,7 @@ abbrev pub with_leaves : List Leaf → List (Option Node) → List Word → List
 with_leaves [] nodes words = words
 with_leaves (leaf ∷ leaves) nodes words =
     with_leaves leaves nodes
-        (with_word (slot_word leaf.space (level_of leaf.order) (up (level_of leaf.order) leaf.first) nodes (leaf_word leaf.frame leaf.perm)) words)
+    (with_word (slot_word leaf.space (level_of leaf.order) (up (level_of leaf.order) leaf.first) nodes (leaf_word leaf.frame leaf.perm)) words)
 
 unfoldable pub image : ℕ → List Leaf → List (Option Node) → List Word
 image levels leaves nodes = with_leaves leaves nodes (with_pointers levels 0 nodes nodes [])

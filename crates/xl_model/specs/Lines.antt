@@ -28,8 +28,8 @@ hex16 n = hex_digits 16 n
 unfoldable pub with_verdicts : List ℕ → Counts → List ℕ
 with_verdicts line c =
     line ++ codes " accesses=" ++ decimal c.accesses ++ codes " ok=" ++ decimal c.ok
-        ++ codes " unmapped=" ++ decimal c.unmapped ++ codes " denied=" ++ decimal c.denied
-        ++ codes " notcanonical=" ++ decimal c.not_canonical ++ codes " accepted=" ++ decimal c.accepted
+    ++ codes " unmapped=" ++ decimal c.unmapped ++ codes " denied=" ++ decimal c.denied
+    ++ codes " notcanonical=" ++ decimal c.not_canonical ++ codes " accepted=" ++ decimal c.accepted
 
 abbrev pub with_rest : List ℕ → List ℕ → List ℕ
 with_rest line [] = line
@@ -46,17 +46,17 @@ with_refusals line c = with_numbers (line ++ codes " refused=") c.refused
 unfoldable pub with_walks : List ℕ → Counts → List ℕ
 with_walks line c =
     line ++ codes " walks=" ++ decimal c.walks ++ codes " reads=" ++ decimal c.reads
-        ++ codes " wchits=" ++ decimal c.wc_hits ++ codes " fills=" ++ decimal c.fills
+    ++ codes " wchits=" ++ decimal c.wc_hits ++ codes " fills=" ++ decimal c.fills
 
 unfoldable pub with_moves : List ℕ → Counts → List ℕ
 with_moves line c =
     line ++ codes " kicks=" ++ decimal c.kicks ++ codes " undone=" ++ decimal c.undone
-        ++ codes " migrated=" ++ decimal c.migrated ++ codes " growths=" ++ decimal c.growths
+    ++ codes " migrated=" ++ decimal c.migrated ++ codes " growths=" ++ decimal c.growths
 
 unfoldable pub with_fences : List ℕ → Counts → List ℕ
 with_fences line c =
     line ++ codes " fences=" ++ decimal c.fences ++ codes " invalidated=" ++ decimal c.invalidated
-        ++ codes " pasum=" ++ hex16 c.pasum
+    ++ codes " pasum=" ++ hex16 c.pasum
 
 abbrev pub with_more_arrays : List ℕ → ℕ → List ℕ → List ℕ → List ℕ
 with_more_arrays line zero hits misses = line
@@ -92,7 +92,7 @@ with_reply line k va reply.NotCanonical = line ++ codes " notcanonical " ++ deci
 unfoldable pub answer_line : List ℕ → ℕ → Kind → ℕ → ℕ → Reply → List ℕ
 answer_line name number k space va answer =
     with_reply (name ++ codes " " ++ decimal number ++ kind_letter k ++ decimal space ++ codes " " ++ hex16 va) k va answer
-        ++ codes "\n"
+    ++ codes "\n"
 
 -- The line of a command: NAME cmd VERB OUTCOME. An access has no such line.
 abbrev pub verb_of : Event → List ℕ

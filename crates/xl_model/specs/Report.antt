@@ -18,8 +18,8 @@ use Rattle.xl_model.specs.Lines.{row_line, answer_line, command_line, image_line
 
 -- a row with its progress
 pub record Served : Type 0 where
-    pub row : Row
-    pub progress : Progress
+  pub row : Row
+  pub progress : Progress
 
 abbrev pub serve : Item → Served → Served
 serve item s = record s { progress = after_item s.row item s.progress }
@@ -38,7 +38,7 @@ abbrev pub with_demand : Option DemandArea → List ℕ → Row → ℕ → ℕ 
 with_demand None text row number va k s = text
 with_demand (Some area) text row number va k s =
     with_second (outcome_of row (map_of area va) s) (with_command text row (map_of area va) s) row number va k
-        (after_event row (map_of area va) s)
+    (after_event row (map_of area va) s)
 
 -- the lines of one item in one row
 unfoldable pub with_item : List ℕ → Row → Item → Progress → List ℕ
@@ -46,7 +46,7 @@ with_item text row (Command e) p = with_command text row e p.state
 with_item text row (Declared area) p = text
 with_item text row (Referenced number va k) p =
     with_demand (area_wanted row va k p.areas p.state) (with_access text row number va k p.state) row number va k
-        (after_event row (event.Access va k) p.state)
+    (after_event row (event.Access va k) p.state)
 
 abbrev pub with_answers : List ℕ → Item → List Served → List ℕ
 with_answers text item [] = text
@@ -96,4 +96,4 @@ images_where false text rows = text
 unfoldable pub report : Bool → Bool → List Row → List Item → List ℕ
 report answers images rows items =
     images_where images (with_rows (answers_where answers items (opened rows)) (all_served items (opened rows)))
-        (all_served items (opened rows))
+    (all_served items (opened rows))

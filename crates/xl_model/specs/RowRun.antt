@@ -105,6 +105,11 @@ arrays_after purge (Some old) arrays = arrays_without (is_purged purge old) arra
 abbrev pub purged_at : Row → Change → RowState → List TlbArray
 purged_at row c s = arrays_after row.purge (old_leaf c s.table.leaves) s.arrays
 
+-- a refusal for want of room leaves nothing else; one at the caps leaves the work of its attempts
+abbrev pub counts_refused : NoRoom → Work → Counts → Counts
+counts_refused why.NoTable work c = count_refusal refused.NoTable c
+counts_refused why.WayAtCap work c = count_refusal refused.WayAtCap (count_work work c)
+
 abbrev pub changed_by : Result Work Refused → Row → Change → RowState → RowState
 changed_by (Ok work) row c s = record s {
   table = table_after c s.table;
@@ -113,7 +118,7 @@ changed_by (Ok work) row c s = record s {
 }
 changed_by (Err r) row c s = record s {
   table = table_after c s.table;
-  counts = count_refusal (refusal_of r.why) (count_work r.work s.counts);
+  counts = counts_refused r.why r.work s.counts;
 }
 
 abbrev pub outcome_by : Result Work Refused → Outcome

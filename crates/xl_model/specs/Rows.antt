@@ -18,4 +18,11 @@ pub record Row : Type 0 where
 -- the row that a value of the code's row is
 abbrev pub row_of : RowFields → Row
 row_of r = record {
-    name = r.name.bytes; mode = r.mode; frames = r.frames; spaces = r.spaces; purge = r.purge; table = r.table; tlb = r.tlb.items }
+  name = r.name.bytes;
+  mode = r.mode;
+  frames = r.frames;
+  spaces = r.spaces;
+  purge = r.purge;
+  table = r.table;
+  tlb = r.tlb.items;
+}

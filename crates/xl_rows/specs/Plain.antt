@@ -1,0 +1,34 @@
+-- The row that most reports begin with, and words for what stands in many of them.
+use Rattle.std.specs.Prelude.{ℕ, true, false, List, [], ◌∷◌, codes}
+use Rattle.std.proofs.Common.{refl}
+use Rattle.xl_model.specs.declared.address.Mode.TheVariants as mode
+use Rattle.xl_model.specs.declared.perm.Perm.{Perm}
+use Rattle.xl_model.specs.declared.row.Purge.TheVariants as purge
+use Rattle.xl_model.specs.declared.row.Table.TheVariants as table
+use Rattle.xl_model.specs.declared.row.TlbSpec.{TlbSpec}
+use Rattle.xl_model.specs.Rows.{Row}
+
+-- Sv39, 64 frames, two spaces, a radix table of 64 frames without caches, and no TLB
+abbrev pub plain_row : Row
+plain_row = record {
+    name = codes "a"; mode = mode.Sv39; frames = 64; spaces = 2; purge = purge.Page;
+    table = table.Radix 64 (0 ∷ 0 ∷ 0 ∷ 0 ∷ []); tlb = [] }
+
+-- one array of one set of eight leaves of every order
+abbrev pub one_array : List TlbSpec
+one_array = record { level = 1; sets = 1; width = 8; k4 = true; m2 = true; g1 = true } ∷ []
+
+abbrev pub perm_r___ : Perm
+perm_r___ = record { r = true; w = false; x = false; u = false; legal = refl }
+
+abbrev pub perm_r__u : Perm
+perm_r__u = record { r = true; w = false; x = false; u = true; legal = refl }
+
+abbrev pub perm_r_xu : Perm
+perm_r_xu = record { r = true; w = false; x = true; u = true; legal = refl }
+
+abbrev pub perm_rw_u : Perm
+perm_rw_u = record { r = true; w = true; x = false; u = true; legal = refl }
+
+abbrev pub perm_rwxu : Perm
+perm_rwxu = record { r = true; w = true; x = true; u = true; legal = refl }

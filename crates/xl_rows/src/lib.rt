@@ -1,0 +1,11 @@
+//! Reports worked out by hand or by other programs, each proved to be what the definitions give. No
+//! function here does anything: each is there for its clause, which is proved by computation.
+#![tactic(auto)]
+
+pub mod accesses;
+pub mod chains;
+pub mod commands;
+pub mod cuckoo;
+pub mod radix;
+pub mod ranges;
+pub mod tlbs;
