@@ -59,7 +59,7 @@ unfolding count_refusal count_fills count_look count_walk
 looked_by_commutes r (Some answer) page s = refl
 looked_by_commutes r None page s =
     filled_commutes r (leaf_at_page s.space page s.table.leaves)
-        (walk_made s.space page (record s { counts = count_look None s.space page s.arrays s.counts }))
+    (walk_made s.space page (record s { counts = count_look None s.space page s.arrays s.counts }))
 
 looked_commutes : (r : Refusal) (canonical : Bool) (page : ℕ) (s : RowState) → looked_where canonical page (with_refusal r s) ≡ with_refusal r (looked_where canonical page s)
 unfolding looked
@@ -70,9 +70,9 @@ accessed_commutes : (r : Refusal) (row : Row) (va : ℕ) (k : Kind) (s : RowStat
 unfolding accessed reply_to
 accessed_commutes r row va k s =
     ap (λ (t : RowState). let u : RowState = record t { counts = count_reply (reply_to row s va k) va t.counts } in u)
-        (looked_commutes r (is_canonical row.mode va) (page_of row.mode va) s)
-        ∙ (let t : RowState = looked_where (is_canonical row.mode va) (page_of row.mode va) s in
-            ap (λ (c : Counts). let u : RowState = record t { counts = c } in u) (reply_commutes r (reply_to row s va k) va t.counts))
+    (looked_commutes r (is_canonical row.mode va) (page_of row.mode va) s)
+    ∙ (let t : RowState = looked_where (is_canonical row.mode va) (page_of row.mode va) s in
+    ap (λ (c : Counts). let u : RowState = record t { counts = c } in u) (reply_commutes r (reply_to row s va k) va t.counts))
 
 work_commutes : (r : Refusal) (work : Work) (c : Counts) → count_work work (count_refusal r c) ≡ count_refusal r (count_work work c)
 unfolding count_refusal count_work

@@ -38,7 +38,7 @@ leaves_nothing refused.WayAtCap = false
 abbrev pub ARefusalLeavesNothing : Type 0
 ARefusalLeavesNothing =
     (row : Row) (s : RowState) (e : Event) (r : Refusal) (further : List Event)
-        → outcome_of row e s ≡ outcome.Refused r
-        → leaves_nothing r ≡ true
-        → (outcomes_of row further (after_event row e s) ≡ outcomes_of row further s)
-            × (after_events row further (after_event row e s) ≡ with_refusal r (after_events row further s))
+    → outcome_of row e s ≡ outcome.Refused r
+    → leaves_nothing r ≡ true
+    → (outcomes_of row further (after_event row e s) ≡ outcomes_of row further s)
+    × (after_events row further (after_event row e s) ≡ with_refusal r (after_events row further s))

@@ -6,8 +6,6 @@ ghost use Rattle.xl_laws.specs.Refusals.{ARefusalLeavesNothing};
 
 /// A command refused for another cause than the cap of the ways leaves nothing but its count, whatever
 /// events follow.
-#[tactic(auto, using(crate::proofs::Refusals::a_refusal_leaves_nothing))]
 pub fn a_refusal_leaves_nothing()
     ensures { ARefusalLeavesNothing }
-{
-}
+{}
