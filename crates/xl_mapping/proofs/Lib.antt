@@ -1,0 +1,6 @@
+pub mod Members
+pub mod Insertion
+pub mod Lowest
+pub mod Places
+pub mod Kept
+pub mod Ruled

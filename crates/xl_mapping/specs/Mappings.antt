@@ -1,0 +1,22 @@
+-- What holds of every mapping: its leaves are valid for the row and sorted, no two of one space cover a
+-- page, and no two of any spaces hold a frame.
+use Rattle.std.specs.Prelude.{ℕ, ◌≡◌, ◌+◌, ◌*◌, ◌^◌, ◌<◌, ◌≤◌, true, List}
+use Rattle.xl_model.specs.declared.leaf.Leaf.{Leaf}
+use Rattle.xl_model.specs.Addresses.{levels_of, pages_of}
+use Rattle.xl_model.specs.Mapping.{covers, holds_frames}
+use Rattle.xl_model.specs.Rows.{Row}
+use Rattle.xl_mapping.specs.Members.{In, IsSorted}
+
+-- a leaf that stands at its own places in the row's pages and frames; its permission is legal by its type
+pub record IsLeafOf (row : Row) (leaf : Leaf) : Type 0 where
+  pub space_in : leaf.space < row.spaces
+  pub pages_in : leaf.first + pages_of leaf.order ≤ 2 ^ (9 * levels_of row.mode)
+  pub pages_aligned : (e : ℕ) × (leaf.first ≡ e * pages_of leaf.order)
+  pub frames_in : leaf.frame + pages_of leaf.order ≤ row.frames
+  pub frames_aligned : (e : ℕ) × (leaf.frame ≡ e * pages_of leaf.order)
+
+pub record IsMapping (row : Row) (leaves : List Leaf) : Type 0 where
+  pub sorted : IsSorted leaves
+  pub valid : (x : Leaf) → In x leaves → IsLeafOf row x
+  pub pages : (x y : Leaf) (page : ℕ) → In x leaves → In y leaves → covers x.space page x ≡ true → covers x.space page y ≡ true → x ≡ y
+  pub frames : (x y : Leaf) (frame : ℕ) → In x leaves → In y leaves → holds_frames frame 1 x ≡ true → holds_frames frame 1 y ≡ true → x ≡ y
