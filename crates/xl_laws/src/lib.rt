@@ -3,9 +3,25 @@
 #![tactic(auto)]
 
 ghost use Rattle.xl_laws.specs.Refusals.{ARefusalLeavesNothing};
+ghost use Rattle.xl_laws.specs.Runs.{TheLeavesAreAMapping, AReplyIsByTheMapping, TheLowestIsTheLeast};
 
 /// A command refused for another cause than the cap of the ways leaves nothing but its count, whatever
 /// events follow.
 pub fn a_refusal_leaves_nothing()
     ensures { ARefusalLeavesNothing }
+{}
+
+/// After every list of items the leaves are a mapping.
+pub fn the_leaves_are_a_mapping()
+    ensures { TheLeavesAreAMapping }
+{}
+
+/// An access is replied to by the mapping alone.
+pub fn a_reply_is_by_the_mapping()
+    ensures { AReplyIsByTheMapping }
+{}
+
+/// The lowest free block is the least one.
+pub fn the_lowest_is_the_least()
+    ensures { TheLowestIsTheLeast }
 {}
