@@ -22,7 +22,7 @@ use Rattle.xl_mapping.proofs.Lowest.{lowest-is-lowest}
 use Rattle.xl_laws.specs.Runs.{TheLeavesAreAMapping, AReplyIsByTheMapping, TheLowestIsTheLeast}
 use Rattle.xl_laws.proofs.Runs.{Keeps, run-keeps}
 
-filled-leaves : (found : Option Leaf) (s : RowState) → (walk_filled found s).table ≡ s.table
+pub filled-leaves : (found : Option Leaf) (s : RowState) → (walk_filled found s).table ≡ s.table
 filled-leaves None s = refl
 filled-leaves (Some leaf) s = refl
 
@@ -46,7 +46,7 @@ table-leaves P c t Made same new = new
 table-leaves P c t NoSpace same new = same
 table-leaves P c t NoPlace same new = same
 
-changed-table : (answer : Result Work Refused) (row : Row) (c : Change) (s : RowState) → (changed_by answer row c s).table ≡ table_after c s.table
+pub changed-table : (answer : Result Work Refused) (row : Row) (c : Change) (s : RowState) → (changed_by answer row c s).table ≡ table_after c s.table
 changed-table (Ok work) row c s = refl
 changed-table (Err r) row c s = refl
 

@@ -3,6 +3,7 @@
 #![tactic(auto)]
 
 ghost use Rattle.xl_laws.specs.Refusals.{ARefusalLeavesNothing};
+ghost use Rattle.xl_laws.specs.Cuckoo.{KeysHaveTheirSlots, ARefusalKeepsEveryWord, MigratingMovesNoEntry};
 ghost use Rattle.xl_laws.specs.Runs.{TheLeavesAreAMapping, AReplyIsByTheMapping, TheLowestIsTheLeast};
 
 /// A command refused for another cause than the cap of the ways leaves nothing but its count, whatever
@@ -24,4 +25,19 @@ pub fn a_reply_is_by_the_mapping()
 /// The lowest free block is the least one.
 pub fn the_lowest_is_the_least()
     ensures { TheLowestIsTheLeast }
+{}
+
+/// Two keys of one way never have one slot, after every list of items.
+pub fn keys_have_their_slots()
+    ensures { KeysHaveTheirSlots }
+{}
+
+/// A cuckoo insertion that finds every way at its cap leaves every key and word as before.
+pub fn a_refusal_keeps_every_word()
+    ensures { ARefusalKeepsEveryWord }
+{}
+
+/// Migrating slots moves no entry.
+pub fn migrating_moves_no_entry()
+    ensures { MigratingMovesNoEntry }
 {}
