@@ -91,11 +91,11 @@ kept-inserted row x xs m valid apart free =
     (λ y i h. none-true _ (free y i) h)
 
 -- what a named leaf is
-named-In : (space first : ℕ) (o : Order) (x : Leaf) (xs : List Leaf) → leaf_named space first o xs ≡ Some x → In x xs
+pub named-In : (space first : ℕ) (o : Order) (x : Leaf) (xs : List Leaf) → leaf_named space first o xs ≡ Some x → In x xs
 unfolding leaf_named
 named-In space first o x xs h = find-In (is_leaf space first o) x xs h
 
-named-is : (space first : ℕ) (o : Order) (x : Leaf) (xs : List Leaf) → leaf_named space first o xs ≡ Some x → is_leaf space first o x ≡ true
+pub named-is : (space first : ℕ) (o : Order) (x : Leaf) (xs : List Leaf) → leaf_named space first o xs ≡ Some x → is_leaf space first o x ≡ true
 unfolding leaf_named
 named-is space first o x xs h = find-passes (is_leaf space first o) x xs h
 

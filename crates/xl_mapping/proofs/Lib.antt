@@ -4,3 +4,4 @@ pub mod Lowest
 pub mod Places
 pub mod Kept
 pub mod Ruled
+pub mod Stays

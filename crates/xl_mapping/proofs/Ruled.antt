@@ -15,7 +15,7 @@ use Rattle.xl_model.specs.Rows.{Row}
 use Rattle.xl_model.specs.Changes.{Change, Insert, Remove, Protect, Relocate, changed}
 use Rattle.xl_model.specs.Rules.{or_else, unless, place_rule, named_rule, there_rule, overlap_rule, frames_rule, rule, change_of, insert_at}
 use Rattle.xl_mapping.specs.Members.{In}
-use Rattle.xl_mapping.specs.Mappings.{IsLeafOf, IsMapping}
+use Rattle.xl_mapping.specs.Mappings.{IsLeafOf, IsMapping, IsNewLeaf, IsNewPlace, IsSound}
 use Rattle.xl_mapping.specs.Lowest.{IsLowest, IsAnswer}
 use Rattle.xl_mapping.proofs.Lowest.{lowest-is-lowest}
 use Rattle.xl_mapping.proofs.Places.{page-block}
@@ -60,56 +60,72 @@ pub no-overlap : (row : Row) (leaves : List Leaf) (space va : ℕ) (o : Order) �
     → meets_any space (page_of row.mode va) o leaves ≡ false
 no-overlap row leaves space va o h = not-true _ (unless-true _ _ h)
 
--- a map's leaf stands at the lowest free block
-pub inserted-by : (row : Row) (space va : ℕ) (o : Order) (perm : Perm) (leaves : List Leaf) (at : Option ℕ) (c : Change)
-    → IsMapping row leaves → rule row leaves (event.Map space va o perm) ≡ None → IsAnswer row.frames (pages_of o) leaves at
-    → insert_at space (page_of row.mode va) o (record { space = space; first = page_of row.mode va; order = o; frame = 0; perm = perm }) at ≡ Some c
-    → IsMapping row (changed c leaves)
-unfolding rule
-inserted-by row space va o perm leaves None c m ruled is told = absurd (cc)
-inserted-by row space va o perm leaves (Some at) c m ruled is told =
-    let place : HasPlace row space o (va ∷ []) = has-place row space o (va ∷ []) (or-first _ _ ruled) in
-    let apart : meets_any space (page_of row.mode va) o leaves ≡ false = no-overlap row leaves space va o (or-first _ _ (or-second _ _ ruled)) in
-    let block = page-block row.mode o va (and-first _ _ place.all_aligned) in
-    let leaf : Leaf = record { space = space; first = page_of row.mode va; order = o; frame = at; perm = perm } in
-    let same : Insert leaf ≡ c = cc in
-    let P : Change → Type 0 = λ d. IsMapping row (changed d leaves) in
-    subst P same (kept-inserted row leaf leaves m
-    (record { space_in = place.space_in; pages_in = block.0; pages_aligned = block.1; frames_in = is.fits; frames_aligned = is.aligned })
-    apart is.is_free)
-
 and-second : (a b : Bool) → (a && b) ≡ true → b ≡ true
 and-second true b h = h
 and-second false b h = absurd (cc)
 
-moved-by : (row : Row) (leaves : List Leaf) (space from to : ℕ) (o : Order) → IsMapping row leaves
-    → rule row leaves (event.Move space from to o) ≡ None
-    → IsMapping row (changed (Relocate space (page_of row.mode from) (page_of row.mode to) o) leaves)
+-- a map's leaf stands at the lowest free block
+new-leaf : (row : Row) (space va : ℕ) (o : Order) (perm : Perm) (leaves : List Leaf) (at : Option ℕ) (c : Change)
+    → rule row leaves (event.Map space va o perm) ≡ None → IsAnswer row.frames (pages_of o) leaves at
+    → insert_at space (page_of row.mode va) o (record { space = space; first = page_of row.mode va; order = o; frame = 0; perm = perm }) at ≡ Some c
+    → IsSound row leaves c
 unfolding rule
-moved-by row leaves space from to o m ruled =
+new-leaf row space va o perm leaves None c ruled is told = absurd (cc)
+new-leaf row space va o perm leaves (Some at) c ruled is told =
+    let place : HasPlace row space o (va ∷ []) = has-place row space o (va ∷ []) (or-first _ _ ruled) in
+    let block = page-block row.mode o va (and-first _ _ place.all_aligned) in
+    let leaf : Leaf = record { space = space; first = page_of row.mode va; order = o; frame = at; perm = perm } in
+    let same : Insert leaf ≡ c = cc in
+    let P : Change → Type 0 = λ d. IsSound row leaves d in
+    subst P same (record {
+      valid = record { space_in = place.space_in; pages_in = block.0; pages_aligned = block.1; frames_in = is.fits; frames_aligned = is.aligned };
+      apart = no-overlap row leaves space va o (or-first _ _ (or-second _ _ ruled));
+      free = is.is_free;
+    })
+
+new-place : (row : Row) (leaves : List Leaf) (space from to : ℕ) (o : Order)
+    → rule row leaves (event.Move space from to o) ≡ None → IsNewPlace row leaves space (page_of row.mode to) o
+unfolding rule
+new-place row leaves space from to o ruled =
     let place : HasPlace row space o (from ∷ to ∷ []) = has-place row space o (from ∷ to ∷ []) (or-first _ _ ruled) in
-    let apart : meets_any space (page_of row.mode to) o leaves ≡ false = no-overlap row leaves space to o (or-second _ _ (or-second _ _ ruled)) in
     let block = page-block row.mode o to (and-first _ _ (and-second _ _ place.all_aligned)) in
-    kept-relocated row space (page_of row.mode from) (page_of row.mode to) o leaves m block.0 block.1 apart
+    record {
+      space_in = place.space_in;
+      pages_in = block.0;
+      pages_aligned = block.1;
+      apart = no-overlap row leaves space to o (or-second _ _ (or-second _ _ ruled));
+    }
+
+-- a command that no refusal stops is a sound change
+pub sound-of : (row : Row) (leaves : List Leaf) (e : Event) (c : Change) → rule row leaves e ≡ None
+    → change_of row leaves e ≡ Some c → IsSound row leaves c
+unfolding change_of
+sound-of row leaves (event.Access va k) c ruled told = absurd (cc)
+sound-of row leaves (event.Map space va o perm) c ruled told =
+    new-leaf row space va o perm leaves (lowest row.frames o leaves) c ruled (lowest-is-lowest row.frames o leaves) told
+sound-of row leaves (event.Unmap space va o) c ruled told =
+    let same : Remove space (page_of row.mode va) o ≡ c = cc in
+    let P : Change → Type 0 = λ d. IsSound row leaves d in
+    subst P same tt
+sound-of row leaves (event.Protect space va o perm) c ruled told =
+    let same : Protect space (page_of row.mode va) o perm ≡ c = cc in
+    let P : Change → Type 0 = λ d. IsSound row leaves d in
+    subst P same tt
+sound-of row leaves (event.Move space from to o) c ruled told =
+    let same : Relocate space (page_of row.mode from) (page_of row.mode to) o ≡ c = cc in
+    let P : Change → Type 0 = λ d. IsSound row leaves d in
+    subst P same (new-place row leaves space from to o ruled)
+sound-of row leaves (event.Space space) c ruled told = absurd (cc)
+sound-of row leaves (event.Fence to) c ruled told = absurd (cc)
+
+-- a sound change leaves a mapping
+pub kept-sound : (row : Row) (leaves : List Leaf) (c : Change) → IsMapping row leaves → IsSound row leaves c → IsMapping row (changed c leaves)
+kept-sound row leaves (Insert leaf) m s = kept-inserted row leaf leaves m s.valid s.apart s.free
+kept-sound row leaves (Remove space first o) m s = kept-removed row space first o leaves m
+kept-sound row leaves (Protect space first o perm) m s = kept-protected row space first o perm leaves m
+kept-sound row leaves (Relocate space first to o) m s = kept-relocated row space first to o leaves m s.pages_in s.pages_aligned s.apart
 
 -- a command that no refusal stops leaves a mapping
 pub kept-changed : (row : Row) (leaves : List Leaf) (e : Event) (c : Change) → IsMapping row leaves → rule row leaves e ≡ None
     → change_of row leaves e ≡ Some c → IsMapping row (changed c leaves)
-unfolding change_of
-kept-changed row leaves (event.Access va k) c m ruled told = absurd (cc)
-kept-changed row leaves (event.Map space va o perm) c m ruled told =
-    inserted-by row space va o perm leaves (lowest row.frames o leaves) c m ruled (lowest-is-lowest row.frames o leaves) told
-kept-changed row leaves (event.Unmap space va o) c m ruled told =
-    let same : Remove space (page_of row.mode va) o ≡ c = cc in
-    let P : Change → Type 0 = λ d. IsMapping row (changed d leaves) in
-    subst P same (kept-removed row space (page_of row.mode va) o leaves m)
-kept-changed row leaves (event.Protect space va o perm) c m ruled told =
-    let same : Protect space (page_of row.mode va) o perm ≡ c = cc in
-    let P : Change → Type 0 = λ d. IsMapping row (changed d leaves) in
-    subst P same (kept-protected row space (page_of row.mode va) o perm leaves m)
-kept-changed row leaves (event.Move space from to o) c m ruled told =
-    let same : Relocate space (page_of row.mode from) (page_of row.mode to) o ≡ c = cc in
-    let P : Change → Type 0 = λ d. IsMapping row (changed d leaves) in
-    subst P same (moved-by row leaves space from to o m ruled)
-kept-changed row leaves (event.Space space) c m ruled told = absurd (cc)
-kept-changed row leaves (event.Fence to) c m ruled told = absurd (cc)
+kept-changed row leaves e c m ruled told = kept-sound row leaves c m (sound-of row leaves e c ruled told)

@@ -1,3 +1,3 @@
 pub mod Members
-pub mod Mappings
 pub mod Lowest
+pub mod Mappings
