@@ -4,3 +4,6 @@ pub mod Leaves
 pub mod Slots
 pub mod Cuckoo
 pub mod Shapes
+pub mod FreshArrays
+pub mod Numbers
+pub mod FreshNodes
