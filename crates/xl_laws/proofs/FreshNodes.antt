@@ -292,3 +292,6 @@ same-length levels level start found space page nodes (c ∷ cs) = ap suc (same-
 pub without-length : (p : Numbered → Bool) (cs : List (Cached Numbered)) → length (all_without p cs) ≡ length cs
 without-length p [] = refl
 without-length p (c ∷ cs) = ap suc (without-length p cs)
+
+pub without-few : (p : Numbered → Bool) (cs : List (Cached Numbered)) (levels : ℕ) → length cs < levels → length (all_without p cs) < levels
+without-few p cs levels few = let P : ℕ → Type 0 = λ n. n < levels in subst P (sym (without-length p cs)) few

@@ -7,3 +7,6 @@ pub mod Shapes
 pub mod FreshArrays
 pub mod Numbers
 pub mod FreshNodes
+pub mod FreshSections
+pub mod FreshRanges
+pub mod Fresh

@@ -2,6 +2,7 @@
 //! that they stand for. No function here does anything: each is there for its clause.
 #![tactic(auto)]
 
+ghost use Rattle.xl_laws.specs.Fresh.{NothingIsStale};
 ghost use Rattle.xl_laws.specs.Refusals.{ARefusalLeavesNothing};
 ghost use Rattle.xl_laws.specs.Cuckoo.{KeysHaveTheirSlots, ARefusalKeepsEveryWord, MigratingMovesNoEntry};
 ghost use Rattle.xl_laws.specs.Runs.{TheLeavesAreAMapping, AReplyIsByTheMapping, TheLowestIsTheLeast};
@@ -40,4 +41,11 @@ pub fn a_refusal_keeps_every_word()
 /// Migrating slots moves no entry.
 pub fn migrating_moves_no_entry()
     ensures { MigratingMovesNoEntry }
+{}
+
+/// After every list of items each leaf of a TLB array is a leaf of the mapping, each cached node has its
+/// number, each cached section the mapping's bits and its leaf's way, and each page of a cached range is
+/// covered as the range says.
+pub fn nothing_is_stale()
+    ensures { NothingIsStale }
 {}
