@@ -81,7 +81,7 @@ pub record Joins (leaf : Leaf) (r : Range) : Type 0 where
   pub pages_next : leaf.first + pages_of leaf.order ≡ r.start
   pub frames_next : leaf.frame + pages_of leaf.order ≡ r.frame
 
-joins : (leaf : Leaf) (r : Range) → goes_into leaf r ≡ true → Joins leaf r
+pub joins : (leaf : Leaf) (r : Range) → goes_into leaf r ≡ true → Joins leaf r
 joins leaf r h = record {
   space_same = grind (arith, nat_tests);
   order_same = orders-same leaf.order r.order (grind (arith, nat_tests));

@@ -10,3 +10,4 @@ pub mod FreshNodes
 pub mod FreshSections
 pub mod FreshRanges
 pub mod Fresh
+pub mod Sentences

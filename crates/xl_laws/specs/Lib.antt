@@ -2,3 +2,4 @@ pub mod Refusals
 pub mod Runs
 pub mod Cuckoo
 pub mod Fresh
+pub mod Sentences

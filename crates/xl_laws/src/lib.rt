@@ -5,6 +5,7 @@
 ghost use Rattle.xl_laws.specs.Fresh.{NothingIsStale};
 ghost use Rattle.xl_laws.specs.Refusals.{ARefusalLeavesNothing};
 ghost use Rattle.xl_laws.specs.Cuckoo.{KeysHaveTheirSlots, ARefusalKeepsEveryWord, MigratingMovesNoEntry};
+ghost use Rattle.xl_laws.specs.Sentences.{TheRangesAreMaximalRuns, ANodeTakesTheLowestNumber};
 ghost use Rattle.xl_laws.specs.Runs.{TheLeavesAreAMapping, AReplyIsByTheMapping, TheLowestIsTheLeast};
 
 /// A command refused for another cause than the cap of the ways leaves nothing but its count, whatever
@@ -48,4 +49,14 @@ pub fn migrating_moves_no_entry()
 /// covered as the range says.
 pub fn nothing_is_stale()
     ensures { NothingIsStale }
+{}
+
+/// The ranges of a list of leaves are its maximal runs.
+pub fn the_ranges_are_maximal_runs()
+    ensures { TheRangesAreMaximalRuns }
+{}
+
+/// A new node takes the lowest number that no node has.
+pub fn a_node_takes_the_lowest_number()
+    ensures { ANodeTakesTheLowestNumber }
 {}
