@@ -1,5 +1,5 @@
 -- The counts of a row, each modulo 2^64.
-use Rattle.std.specs.Prelude.{ℕ, zero, suc, ◌+◌, ◌*◌, ◌%◌, ◌^◌, Bool, true, false, List, [], ◌∷◌, length, replicate, slice_index_or, slice_set, count_by, Option, None, Some}
+use Rattle.std.specs.Prelude.{ℕ, ◌<◌, zero, suc, ◌+◌, ◌*◌, ◌%◌, ◌^◌, Bool, true, false, List, [], ◌∷◌, length, replicate, slice_index_or, slice_set, count_by, Option, None, Some}
 use Rattle.xl_model.specs.declared.leaf.Leaf.{Leaf}
 use Rattle.xl_model.specs.declared.leaf.Reply.{Reply}
 use Rattle.xl_model.specs.declared.leaf.Reply.TheVariants as reply
@@ -55,6 +55,13 @@ count_refusal r c = record c { refused = one_more_at (refusal_place r) c.refused
 
 abbrev pub physical : ℕ → ℕ → ℕ
 physical frame va = frame * 4096 + va % 4096
+
+-- a frame whose physical addresses are below 2^64
+abbrev pub IsSmall : Reply → Type 0
+IsSmall (reply.Frame frame) = frame < 2 ^ 52
+IsSmall reply.NotCanonical = Unit {0}
+IsSmall reply.Unmapped = Unit {0}
+IsSmall reply.Denied = Unit {0}
 
 -- an access, by its reply; the physical address of one that is served goes into `pasum`
 unfoldable pub count_reply : Reply → ℕ → Counts → Counts

@@ -9,6 +9,7 @@ mod leaf;
 mod perm;
 mod row;
 mod structure;
+mod tally;
 mod way;
 mod work;
 

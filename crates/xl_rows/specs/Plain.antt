@@ -11,8 +11,14 @@ use Rattle.xl_model.specs.Rows.{Row}
 -- Sv39, 64 frames, two spaces, a radix table of 64 frames without caches, and no TLB
 abbrev pub plain_row : Row
 plain_row = record {
-    name = codes "a"; mode = mode.Sv39; frames = 64; spaces = 2; purge = purge.Page;
-    table = table.Radix 64 (0 ∷ 0 ∷ 0 ∷ 0 ∷ []); tlb = [] }
+  name = codes "a";
+  mode = mode.Sv39;
+  frames = 64;
+  spaces = 2;
+  purge = purge.Page;
+  table = table.Radix 64 (0 ∷ 0 ∷ 0 ∷ 0 ∷ []);
+  tlb = [];
+}
 
 -- one array of one set of eight leaves of every order
 abbrev pub one_array : List TlbSpec
