@@ -1,0 +1,4 @@
+pub mod Digits
+pub mod Perms
+pub mod Scripts
+pub mod Texts

@@ -1,0 +1,7 @@
+use Rattle.std.proofs.Common.{◌≡◌, drop, ◌<◌, ◌^◌}
+use Rattle.xl_script.specs.Numbers.{number_in}
+use Rattle.xl_script.proofs.Digits.{number_after}
+use Rattle.xl_script.proofs.number.number.Given as goal
+
+abbrev pub invariant-loop-digit : goal.invariant-loop-digit
+invariant-loop-digit l = (number_after l.base l.n (drop l.digit-index l.digits) ≡ number_in l.base l.digits) × (l.n < 2 ^ 64)

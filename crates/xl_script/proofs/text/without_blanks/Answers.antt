@@ -1,0 +1,9 @@
+use Rattle.std.proofs.lemmas.List.{take_rest}
+use Rattle.xl_script.proofs.Texts.{skip_blanks, blanks_end}
+use Rattle.xl_script.proofs.text.without_blanks.Goals as goal
+
+pub returns-clause-same : goal.returns-clause-same
+returns-clause-same c = rw take_rest (skip_blanks c.args.line.now c.blank_length.result c.blank_length.ensures.value)
+
+pub returns-clause-front : goal.returns-clause-front
+returns-clause-front c = rw take_rest (blanks_end c.args.line.now c.blank_length.result c.blank_length.ensures.value)

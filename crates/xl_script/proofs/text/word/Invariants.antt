@@ -1,0 +1,6 @@
+use Rattle.std.proofs.Common.{◌≡◌, ◌-◌, slice_get}
+use Rattle.xl_script.specs.Texts.{words_of}
+use Rattle.xl_script.proofs.text.word.Given as goal
+
+abbrev pub invariant-loop : goal.invariant-loop
+invariant-loop l = slice_get (words_of l.rest) (l.i - l.counter) ≡ slice_get (words_of l.fn.line) l.i
