@@ -4,6 +4,9 @@ ghost use Rattle.std.specs.Prelude.{◌≡◌, ◌+◌, ◌*◌, ◌^◌, ◌<�
 ghost use Rattle.std.specs.Char.{digit_value};
 ghost use Rattle.xl_script.specs.Numbers.{number_in, decimal_of, hexadecimal_of, without_prefix, below};
 
+/// The most digits of a hexadecimal number.
+const DIGITS: usize = 16;
+
 /// A number with one digit more in this base. None where the byte is no digit, or the number passes
 /// 2^64 - 1.
 fn with_digit(n: u64, digit: u8, base: u32) -> Option<u64>
@@ -57,19 +60,6 @@ pub fn decimal(word: &[u8], least: u64, most: u64) -> Option<u64>
     }
 }
 
-/// A hexadecimal number of 1 to 16 digits of either case, with or without `0x` before them. None
-/// where the word is none.
-#[tactic(auto, unfolding(crate::specs::Numbers::hexadecimal_of))]
-pub fn hexadecimal(word: &[u8]) -> Option<u64>
-    ensures { result ≡ hexadecimal_of word.now }
-{
-    let digits = without_prefix(word);
-    if digits.is_empty() || digits.len() > 16 {
-        return None;
-    }
-    number(digits, 16)
-}
-
 /// A word without `0x` at its front.
 fn without_prefix(word: &[u8]) -> &[u8]
     ensures { result.now ≡ without_prefix word.now }
@@ -78,4 +68,17 @@ fn without_prefix(word: &[u8]) -> &[u8]
         [b'0', b'x', digits @ ..] => digits,
         _ => word,
     }
+}
+
+/// A hexadecimal number of 1 to 16 digits of either case, with or without `0x` before them. None
+/// where the word is none.
+#[tactic(auto, unfolding(crate::specs::Numbers::hexadecimal_of))]
+pub fn hexadecimal(word: &[u8]) -> Option<u64>
+    ensures { result ≡ hexadecimal_of word.now }
+{
+    let digits = without_prefix(word);
+    if digits.is_empty() || digits.len() > DIGITS {
+        return None;
+    }
+    number(digits, 16)
 }

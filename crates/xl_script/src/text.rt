@@ -24,6 +24,13 @@ fn without_return(line: &[u8]) -> &[u8]
     }
 }
 
+/// The place of a text's first newline.
+fn first_newline(text: &[u8]) -> Option<usize>
+    ensures { result ≡ position (λ byte. byte == 10) text.now }
+{
+    text.iter().position(|byte| *byte == b'\n')
+}
+
 /// The number of bytes before the first newline.
 #[tactic(auto, using(crate::proofs::Texts::place_within))]
 fn line_length(text: &[u8]) -> usize
@@ -60,20 +67,6 @@ fn first_other(line: &[u8]) -> Option<usize>
     line.iter().position(|byte| !is_blank(*byte))
 }
 
-/// The place of a line's first blank.
-fn first_blank(line: &[u8]) -> Option<usize>
-    ensures { result ≡ position is_blank line.now }
-{
-    line.iter().position(|byte| is_blank(*byte))
-}
-
-/// The place of a text's first newline.
-fn first_newline(text: &[u8]) -> Option<usize>
-    ensures { result ≡ position (λ byte. byte == 10) text.now }
-{
-    text.iter().position(|byte| *byte == b'\n')
-}
-
 /// The number of blanks at a line's front.
 #[tactic(auto, using(crate::proofs::Texts::place_within))]
 fn blank_length(line: &[u8]) -> usize
@@ -89,6 +82,13 @@ fn without_blanks(line: &[u8]) -> &[u8]
     ensures front { 0 < length result.now → is_blank (slice_index result.now 0) ≡ false }
 {
     &line[blank_length(line)..]
+}
+
+/// The place of a line's first blank.
+fn first_blank(line: &[u8]) -> Option<usize>
+    ensures { result ≡ position is_blank line.now }
+{
+    line.iter().position(|byte| is_blank(*byte))
 }
 
 /// The number of bytes before the first blank.
