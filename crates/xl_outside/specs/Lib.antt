@@ -1,0 +1,3 @@
+pub mod Outside
+pub mod Memory
+pub mod Whole

@@ -1,0 +1,88 @@
+-- What the folder and the sink in memory hold, and what they answer.
+use Rattle.std.specs.Prelude.{◌≡◌, ℕ, ◌+◌, ◌-◌, ◌^◌, ◌==◌, ◌≤◌, min, Bool, ◌||◌, List, [], ◌∷◌, ◌++◌, length, take, if◌then◌else◌, Option, None, Some, Result, Ok, Err}
+use Rattle.std.specs.declared.alloc.Global.{Global}
+use Rattle.std.specs.declared.vec.Vec.{Vec}
+use Rattle.std.specs.declared.string.String.{String}
+use Rattle.std.specs.String.{string_bytes}
+use Rattle.std.specs.List.{list_any}
+use Rattle.xl_outside.specs.Outside.{Files, file_of}
+use Rattle.xl_outside.specs.declared.folder.Unread.{Unread}
+use Rattle.xl_outside.specs.declared.folder.Unread.TheVariants.{Missing, Failed}
+use Rattle.xl_outside.specs.declared.sink.Failed.{Failed as PutFailed}
+
+-- one more, up to a counter's last value
+abbrev pub raised : ℕ → ℕ
+raised n = min (n + 1) (2 ^ 64 - 1)
+
+-- whether the call of this number is to fail
+abbrev pub is_listed : List ℕ → ℕ → Bool
+is_listed failing number = list_any (λ n. n == number) failing
+
+-- the names and bytes of files
+abbrev pub told : List (String Global × Vec ℕ Global) → Files
+told [] = []
+told (f ∷ fs) = (string_bytes f.0, f.1.items) ∷ told fs
+
+-- a folder in memory: its files, the numbers of the calls that are to fail, the most bytes of a
+-- call, and how many calls, faults and absences there were
+pub record FolderState : Type 0 where
+  pub held : Files
+  pub failing : List ℕ
+  pub piece : ℕ
+  pub calls : ℕ
+  pub failed : ℕ
+  pub missed : ℕ
+
+abbrev pub opened_folder : Files → List ℕ → ℕ → FolderState
+opened_folder fs numbers most = record { held = fs; failing = numbers; piece = most; calls = 0; failed = 0; missed = 0 }
+
+-- no call of it is to fail, and its faults don't stand at the counter's last value
+abbrev pub NeverFails : FolderState → Type 0
+NeverFails s = (s.failing ≡ []) × (s.failed ≡ 0)
+
+-- what a read of a file comes to: the least of the piece, the room and what is left
+abbrev pub part_of : Option (List ℕ) → ℕ → ℕ → ℕ → Result ℕ Unread
+part_of None at room piece = Err Missing
+part_of (Some file) at room piece = Ok (min piece (min room (length file - at)))
+
+-- The call of the next number is answered Failed where that number is listed, else by the file.
+abbrev pub read_answer : FolderState → List ℕ → ℕ → ℕ → Result ℕ Unread
+read_answer s name at room =
+    if is_listed s.failing (raised s.calls) then Err Failed else part_of (file_of s.held name) at room s.piece
+
+-- a call and its answer are counted; nothing else changes
+abbrev pub after_read : FolderState → Result ℕ Unread → FolderState
+after_read s (Ok n) = record s { calls = raised s.calls }
+after_read s (Err Failed) = record s { calls = raised s.calls; failed = raised s.failed }
+after_read s (Err Missing) = record s { calls = raised s.calls; missed = raised s.missed }
+
+-- a sink in memory: what was written, how many bytes it holds at most, the numbers of the puts that
+-- are to fail, the most bytes of a put, and how many puts of bytes and faults there were
+pub record SinkState : Type 0 where
+  pub text : List ℕ
+  pub capacity : ℕ
+  pub failing : List ℕ
+  pub piece : ℕ
+  pub puts : ℕ
+  pub failed : ℕ
+
+abbrev pub opened_sink : ℕ → List ℕ → ℕ → SinkState
+opened_sink room numbers most = record { text = []; capacity = room; failing = numbers; piece = most; puts = 0; failed = 0 }
+
+-- no put of it is to fail while so many more bytes come, and its faults don't stand at the counter's last value
+abbrev pub HasRoom : SinkState → ℕ → Type 0
+HasRoom s more = (s.failing ≡ []) × (s.failed ≡ 0) × (length s.text + more ≤ s.capacity)
+
+-- what a put of so many bytes, at least one, comes to: the least of the piece, the room and the bytes
+abbrev pub put_part : SinkState → ℕ → Result ℕ PutFailed
+put_part s count =
+    if is_listed s.failing (raised s.puts) || (s.capacity - length s.text == 0) then Err (record {})
+    else Ok (min s.piece (min (s.capacity - length s.text) count))
+
+-- an empty piece is answered 0
+abbrev pub put_answer : SinkState → ℕ → Result ℕ PutFailed
+put_answer s count = if count == 0 then Ok 0 else put_part s count
+
+abbrev pub after_put : SinkState → List ℕ → Result ℕ PutFailed → SinkState
+after_put s bytes (Ok n) = record s { text = s.text ++ take n bytes; puts = if length bytes == 0 then s.puts else raised s.puts }
+after_put s bytes (Err e) = record s { puts = raised s.puts; failed = raised s.failed }

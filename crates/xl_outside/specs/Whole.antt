@@ -1,0 +1,27 @@
+-- What a whole file, read up to a limit, comes to.
+use Rattle.std.specs.Prelude.{◌≡◌, ℕ, ◌+◌, List, take, Option, None, Some, Result, Ok, Err}
+use Rattle.std.specs.declared.alloc.Global.{Global}
+use Rattle.std.specs.declared.vec.Vec.{Vec}
+use Rattle.xl_outside.specs.declared.whole.ReadStop.{ReadStop}
+use Rattle.xl_outside.specs.declared.whole.ReadStop.TheVariants as stop
+use Rattle.xl_outside.specs.declared.folder.Unread.{Unread}
+use Rattle.xl_outside.specs.declared.folder.Unread.TheVariants.{Missing, Failed}
+
+abbrev pub stop_of : Unread → ReadStop
+stop_of Missing = stop.Missing
+stop_of Failed = stop.Failed
+
+-- A file that is there is read to its end, or its first `limit + 1` bytes are; it is never missing,
+-- and what isn't there is never read.
+abbrev pub TellsWhole : Option (List ℕ) → ℕ → Result (Vec ℕ Global) ReadStop → Type 0
+TellsWhole None limit (Ok bytes) = ⊥
+TellsWhole None limit (Err e) = Unit {0}
+TellsWhole (Some file) limit (Ok bytes) = bytes.items ≡ take (limit + 1) file
+TellsWhole (Some file) limit (Err stop.Missing) = ⊥
+TellsWhole (Some file) limit (Err stop.Failed) = Unit {0}
+TellsWhole (Some file) limit (Err stop.NoMemory) = Unit {0}
+
+-- the answer is this stop
+abbrev pub IsStop : Result (Vec ℕ Global) ReadStop → ReadStop → Type 0
+IsStop (Ok bytes) e = ⊥
+IsStop (Err d) e = d ≡ e

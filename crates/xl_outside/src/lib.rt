@@ -1,0 +1,24 @@
+//! What lies outside: a folder whose files are read in pieces, and a sink that takes bytes.
+//!
+//! Each has two implementations: one in memory that fails where it is told to, whose contract says
+//! all that it does, and one over the system, which is the trusted edge.
+#![tactic(auto)]
+
+mod folder;
+mod host_folder;
+mod host_out;
+mod mem_folder;
+mod mem_sink;
+mod sink;
+mod whole;
+
+pub use folder::{Folder, Unread};
+pub use host_folder::HostFolder;
+pub use host_out::{HostErr, HostOut};
+pub use mem_folder::MemFolder;
+pub use mem_sink::MemSink;
+pub use sink::{Failed, Sink, put_all};
+pub use whole::{ReadStop, read_whole};
+
+#[cfg(test)]
+mod tests;
