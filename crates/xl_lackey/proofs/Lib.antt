@@ -1,0 +1,5 @@
+pub mod Long
+pub mod Numbers
+pub mod Places
+pub mod Splits
+pub mod Steps

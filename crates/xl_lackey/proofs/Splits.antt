@@ -1,0 +1,113 @@
+-- A text and the first line that a newline ends in it.
+use Rattle.std.proofs.Common.{◌≡◌, ◌≢◌, ℕ, ◌+◌, ◌-◌, ◌*◌, ◌≤◌, ◌<◌, Bool, true, false, List, [], ◌∷◌, ◌++◌, length, take, drop, suc, zero, refl, ap, arith, ◌∙◌, sym, subst}
+use Rattle.std.specs.Prelude.{Option, None, Some, ◌==◌, if◌then◌else◌, slice_index}
+use Rattle.std.specs.Option.{option_map}
+use Rattle.std.proofs.lemmas.List.{take_rest, length-take-le, drop-drop}
+use Rattle.memchr.specs.Find.{IsFirstByte, is_byte, Nowhere, NoneBefore, Passes}
+use Rattle.xl_lackey.specs.declared.line.Verdict.{Verdict}
+use Rattle.xl_lackey.specs.declared.line.Verdict.TheVariants.{Skipped, Found, Bad}
+use Rattle.xl_lackey.specs.Lines.{parted, in_front, judge}
+use Rattle.xl_lackey.specs.Stream.{onto, lines_of, onto_ended, ended_lines, items, with_verdict, first_due, of_due, next_line, Left}
+
+-- the line and what follows it, put into a text's lines
+abbrev starts_ended : Option (List ℕ × List ℕ) → List (List ℕ) → Type 0
+starts_ended None lines = lines ≡ []
+starts_ended (Some parts) lines = lines ≡ parts.0 ∷ ended_lines parts.1
+
+ended_by_part : (b : ℕ) (parts : Option (List ℕ × List ℕ)) (lines : List (List ℕ)) → starts_ended parts lines
+    → starts_ended (option_map (in_front b) parts) (onto_ended b lines)
+ended_by_part b None lines h = ap (onto_ended b) h
+ended_by_part b (Some parts) lines h = ap (onto_ended b) h
+
+ended_of : (text : List ℕ) → starts_ended (parted 10 text) (ended_lines text)
+ended_of [] = refl
+ended_of (b ∷ bs) =
+    elim (b == 10) as (λ t. starts_ended (if t then Some ([], bs) else option_map (in_front b) (parted 10 bs)) (if t then ([] ∷ ended_lines bs) else onto_ended b (ended_lines bs)))
+    [ true ↦ refl | false ↦ ended_by_part b (parted 10 bs) (ended_lines bs) (ended_of bs) ]
+
+abbrev starts_lines : Option (List ℕ × List ℕ) → List ℕ → List (List ℕ) → Type 0
+starts_lines None rest lines = Unit {0}
+starts_lines (Some parts) rest lines = lines ≡ parts.0 ∷ lines_of (parts.1 ++ rest)
+
+lines_by_part : (b : ℕ) (parts : Option (List ℕ × List ℕ)) (rest : List ℕ) (lines : List (List ℕ)) → starts_lines parts rest lines
+    → starts_lines (option_map (in_front b) parts) rest (onto b lines)
+lines_by_part b None rest lines h = tt
+lines_by_part b (Some parts) rest lines h = ap (onto b) h
+
+lines_from : (text rest : List ℕ) → starts_lines (parted 10 text) rest (lines_of (text ++ rest))
+lines_from [] rest = tt
+lines_from (b ∷ bs) rest =
+    elim (b == 10) as (λ t. starts_lines (if t then Some ([], bs) else option_map (in_front b) (parted 10 bs)) rest (if t then ([] ∷ lines_of (bs ++ rest)) else onto b (lines_of (bs ++ rest))))
+    [ true ↦ refl | false ↦ lines_by_part b (parted 10 bs) rest (lines_of (bs ++ rest)) (lines_from bs rest) ]
+
+-- the first line of a text that a newline ends, and what is left behind it
+pub ended_first : (text line after : List ℕ) → parted 10 text ≡ Some (line, after) → ended_lines text ≡ line ∷ ended_lines after
+ended_first text line after h =
+    let P : Option (List ℕ × List ℕ) → Type 0 = λ parts. starts_ended parts (ended_lines text) in subst P h (ended_of text)
+
+pub ended_none : (text : List ℕ) → parted 10 text ≡ None → ended_lines text ≡ []
+ended_none text h =
+    let P : Option (List ℕ × List ℕ) → Type 0 = λ parts. starts_ended parts (ended_lines text) in subst P h (ended_of text)
+
+pub lines_first : (text rest line after : List ℕ) → parted 10 text ≡ Some (line, after) → lines_of (text ++ rest) ≡ line ∷ lines_of (after ++ rest)
+lines_first text rest line after h =
+    let P : Option (List ℕ × List ℕ) → Type 0 = λ parts. starts_lines parts rest (lines_of (text ++ rest)) in subst P h (lines_from text rest)
+
+-- one step of the reading, by what the line is
+pub due_step : (n m : ℕ) (text line after : List ℕ) (v : Verdict) (due : ℕ × Verdict) → parted 10 text ≡ Some (line, after)
+    → first_due n (ended_lines text) ≡ due → m ≡ next_line n → v ≡ judge line → of_due m v (first_due m (ended_lines after)) ≡ due
+due_step n m text line after v due h k e f =
+    rw (e, f) (sym (ap (first_due n) (ended_first text line after h)) ∙ k)
+
+pub items_step : (n m : ℕ) (text rest line after : List ℕ) (v : Verdict) (left : Left) → parted 10 text ≡ Some (line, after)
+    → items n (lines_of (text ++ rest)) ≡ left → m ≡ next_line n → v ≡ judge line
+    → with_verdict m v (items m (lines_of (after ++ rest))) ≡ left
+items_step n m text rest line after v left h k e f =
+    rw (e, f) (sym (ap (items n) (lines_first text rest line after h)) ∙ k)
+
+pub due_found : (n : ℕ) (v : Verdict) (later : ℕ × Verdict) → v ≢ Skipped → of_due n v later ≡ (n, v)
+due_found n Skipped later h = absurd (h refl)
+due_found n (Found l a s) later h = refl
+due_found n (Bad why) later h = refl
+
+false_of_not : (t : Bool) → ¬ (t ≡ true) → t ≡ false
+false_of_not true h = absurd (h refl)
+false_of_not false h = refl
+
+-- the first newline, as the search answers it
+some_first : (text : List ℕ) (at : ℕ) → at < length text → (slice_index text at == 10) ≡ true
+    → ((k : ℕ) → k < at → ¬ ((slice_index text k == 10) ≡ true)) → parted 10 text ≡ Some (take at text, drop (at + 1) text)
+some_first [] at h e before = absurd (omega arith)
+some_first (b ∷ bs) zero h e before =
+    ap (λ (t : Bool). if t then Some ([], bs) else option_map (in_front b) (parted 10 bs)) e
+some_first (b ∷ bs) (suc at) h e before =
+    let no : (b == 10) ≡ false = false_of_not (b == 10) (before 0 (omega arith)) in
+    let on = some_first bs at (omega arith) e (λ k l. before (suc k) (omega arith)) in
+    let s : suc at + 1 ≡ suc (at + 1) = omega arith in
+    ap (λ (t : Bool). if t then Some ([], bs) else option_map (in_front b) (parted 10 bs)) no
+      ∙ ap (option_map (in_front b)) on ∙ rw s refl
+
+none_first : (text : List ℕ) → ((k : ℕ) → k < length text → ¬ ((slice_index text k == 10) ≡ true)) → parted 10 text ≡ None
+none_first [] before = refl
+none_first (b ∷ bs) before =
+    let no : (b == 10) ≡ false = false_of_not (b == 10) (before 0 (omega arith)) in
+    ap (λ (t : Bool). if t then Some ([], bs) else option_map (in_front b) (parted 10 bs)) no
+      ∙ ap (option_map (in_front b)) (none_first bs (λ k l. before (suc k) (omega arith)))
+
+pub line_none : (text : List ℕ) (from : ℕ) → IsFirstByte (is_byte 10) (take (length text - from) (drop from text)) None
+    → None ≡ parted 10 (drop from text)
+line_none text from h =
+    let hay = take (length text - from) (drop from text) in
+    sym (ap (parted 10) (sym (take_rest text from)) ∙ none_first hay (λ k l. h k (omega arith) l))
+
+pub line_some : (text : List ℕ) (from at : ℕ) → from ≤ length text
+    → IsFirstByte (is_byte 10) (take (length text - from) (drop from text)) (Some at)
+    → (let line = take at (take (length text - from) (drop from text)) in Some (line, drop (from + (length line + 1)) text)) ≡ parted 10 (drop from text)
+line_some text from at h first =
+    let hay = take (length text - from) (drop from text) in
+    let e : hay ≡ drop from text = take_rest text from in
+    let part = some_first hay at first.0.high first.1 (λ k l. first.0.before k (omega arith) l) in
+    let size : length (take at hay) ≡ at = length-take-le at hay (omega (arith, first.0.high)) in
+    let tail : drop (from + (length (take at hay) + 1)) text ≡ drop (at + 1) hay =
+        ap (λ (n : ℕ). drop (from + (n + 1)) text) size ∙ sym (drop-drop (at + 1) from text) ∙ sym (ap (drop (at + 1)) e) in
+    ap (λ (t : List ℕ). Some (take at hay, t)) tail ∙ sym part ∙ ap (parted 10) e

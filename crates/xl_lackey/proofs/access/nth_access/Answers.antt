@@ -1,0 +1,14 @@
+use Rattle.std.proofs.Common.{arith, ◌∙◌}
+use Rattle.xl_model.specs.declared.address.Kind.TheVariants.{Load, Store}
+use Rattle.xl_lackey.proofs.Places.{get_first_going, get_second_going}
+use Rattle.xl_lackey.proofs.access.nth_access.Goals as goal
+
+pub returns-then-i-pages : goal.returns-then-i-pages
+returns-then-i-pages c =
+    let r = c.args.reference.now in
+    rw c.in-M.is (c.access-then-i-pages.ensures ∙ get_first_going Load Store r.addr r.size c.args.i (omega arith))
+
+pub returns-else-i-pages : goal.returns-else-i-pages
+returns-else-i-pages c =
+    let r = c.args.reference.now in
+    rw c.in-M.is (c.access-else-i-pages.ensures ∙ get_second_going Load Store r.addr r.size c.args.i _ (omega arith))

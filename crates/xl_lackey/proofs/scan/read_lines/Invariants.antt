@@ -1,0 +1,13 @@
+use Rattle.std.proofs.Common.{◌≡◌, ◌≤◌, ◌-◌, ◌++◌, List, ℕ, drop, length}
+use Rattle.xl_lackey.specs.Stream.{ended_lines, first_due, lines_of, items}
+use Rattle.xl_lackey.proofs.scan.read_lines.Given as goal
+
+abbrev pub invariant-loop-line : goal.invariant-loop-line
+invariant-loop-line l = record {
+  within : l.used ≤ length l.text;
+  first : first_due l.lines (ended_lines (drop l.used l.text)) ≡ first_due l.before (ended_lines l.text);
+  reads : (rest : List ℕ) → items l.lines (lines_of (drop l.used l.text ++ rest)) ≡ items l.before (lines_of (l.text ++ rest));
+}
+
+abbrev pub decreases-loop-line : goal.decreases-loop-line
+decreases-loop-line l = length l.text - l.used

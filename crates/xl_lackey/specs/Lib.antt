@@ -1,0 +1,4 @@
+pub mod Accesses
+pub mod Answers
+pub mod Lines
+pub mod Stream

@@ -1,0 +1,56 @@
+//! The accesses of a reference.
+
+ghost use Rattle.std.specs.Prelude.{◌≡◌, ℕ, ◌+◌, ◌*◌, ◌/◌, ◌^◌, ◌<◌, ◌≤◌, slice_get};
+ghost use Rattle.xl_lackey.specs.Accesses.{borders as borders_of, places, each, accesses};
+
+use xl_model::Kind;
+
+use crate::reference::{Letter, Reference};
+
+/// The bytes of a page.
+const PAGE: u64 = 4096;
+
+/// The access of this number, from 0, and its kind; None where there are no more.
+///
+/// A reference is one access for each 4 KiB page that it touches, in rising order: the first at its
+/// address, the others at their page's start. A modify is all its loads, and then all its stores.
+pub fn nth_access(reference: &Reference, i: u32) -> Option<(u64, Kind)>
+    ensures { result ≡ slice_get (accesses reference.now) i }
+{
+    match reference.letter {
+        Letter::I => access(reference, Kind::Fetch, i),
+        Letter::L => access(reference, Kind::Load, i),
+        Letter::S => access(reference, Kind::Store, i),
+        Letter::M => {
+            let pages = borders(reference) + 1;
+            if i < pages {
+                access(reference, Kind::Load, i)
+            } else {
+                access(reference, Kind::Store, i - pages)
+            }
+        }
+    }
+}
+
+/// The access of this number in one going over the pages touched.
+fn access(reference: &Reference, kind: Kind, i: u32) -> Option<(u64, Kind)>
+    ensures { result ≡ slice_get (each kind (places reference.now.addr reference.now.size)) i }
+{
+    if i == 0 {
+        Some((reference.addr, kind))
+    } else if i <= borders(reference) {
+        Some(((reference.addr / PAGE + i as u64) * PAGE, kind))
+    } else {
+        None
+    }
+}
+
+/// How many page borders lie between the first byte touched and the last.
+fn borders(reference: &Reference) -> u32
+    ensures value { result ≡ borders_of reference.now.addr reference.now.size }
+    ensures few { result ≤ 16 }
+    ensures reach { (reference.now.addr / 4096 + result) * 4096 < 2 ^ 64 }
+{
+    let last = reference.addr + (reference.size.max(1) as u64 - 1);
+    (last / PAGE - reference.addr / PAGE) as u32
+}

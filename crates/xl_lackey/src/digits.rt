@@ -1,0 +1,88 @@
+//! Digits, and the blanks before them.
+
+ghost use Rattle.std.specs.Prelude.{◌≡◌, ℕ, ◌+◌, ◌^◌, ◌<◌, ◌≤◌, min, length, drop, Option, IfSome};
+ghost use Rattle.std.specs.Option.{option_map};
+ghost use Rattle.xl_lackey.specs.Lines.{is_blank as is_blank_byte, is_digit as is_digit_byte, hex_digit as digit_of, front, after, address_in, decimal_value, size_in};
+
+/// Whether a byte is a space or a tab.
+pub(crate) fn is_blank(byte: u8) -> bool
+    ensures { result ≡ is_blank_byte byte }
+{
+    byte == b' ' || byte == b'\t'
+}
+
+/// How many blanks a text begins with.
+pub(crate) fn count_blanks(text: &[u8]) -> usize
+    ensures within { result ≤ length text.now }
+    ensures rest { drop result text.now ≡ after is_blank_byte text.now }
+{
+    for (at, byte) in text.iter().enumerate() {
+        if !is_blank(*byte) {
+            return at;
+        }
+    }
+    text.len()
+}
+
+fn hex_digit(byte: u8) -> Option<u64>
+    ensures value { result ≡ digit_of byte }
+    ensures bound { IfSome result (λ d. d < 16) }
+{
+    match byte {
+        b'0'..=b'9' => Some((byte - b'0') as u64),
+        b'a'..=b'f' => Some((byte - b'a') as u64 + 10),
+        b'A'..=b'F' => Some((byte - b'A') as u64 + 10),
+        _ => None,
+    }
+}
+
+/// An address of 1 to 16 hexadecimal digits that a comma ends, and the comma's place.
+pub(crate) fn address(text: &[u8]) -> Option<(u64, usize)>
+    ensures within { IfSome result (λ r. r.1 < length text.now) }
+    ensures value { option_map (λ r. (r.0, drop (r.1 + 1) text.now)) result ≡ address_in text.now }
+{
+    let mut value = 0;
+    for (at, byte) in text.iter().enumerate() {
+        if *byte == b',' {
+            return if at == 0 { None } else { Some((value, at)) };
+        }
+        let Some(digit) = hex_digit(*byte) else {
+            return None;
+        };
+        if at == 16 {
+            return None;
+        }
+        value = value * 16 + digit;
+    }
+    None
+}
+
+#[tactic(auto, using(crate::proofs::Numbers::length_front))]
+/// A size of 1 to 6 decimal digits, at most 65536, and how many digits it has.
+pub(crate) fn size(text: &[u8]) -> Option<(u32, usize)>
+    ensures within { IfSome result (λ r. r.1 ≤ length text.now) }
+    ensures value { result ≡ size_in text.now }
+{
+    let (value, count) = decimal(text);
+    if 1 <= count && count <= 6 && value <= 65536 {
+        Some((value, count))
+    } else {
+        None
+    }
+}
+
+/// The value and the number of the decimal digits that a text begins with, of which the first seven
+/// are read.
+fn decimal(text: &[u8]) -> (u32, usize)
+    ensures count { result.1 ≡ min 7 (length (front is_digit_byte text.now)) }
+    ensures value { result.1 < 7 → result.0 ≡ decimal_value 0 (front is_digit_byte text.now) }
+{
+    let mut value = 0;
+    for (at, byte) in text.iter().enumerate() {
+        if at == 7 || !byte.is_ascii_digit() {
+            return (value, at);
+        }
+        value = value * 10 + (*byte - b'0') as u32;
+    }
+    (value, text.len())
+}

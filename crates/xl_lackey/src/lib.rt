@@ -1,0 +1,16 @@
+//! Memory traces of Valgrind's tool Lackey (`--trace-mem=yes`), read in pieces of any size.
+#![tactic(auto)]
+
+mod access;
+mod digits;
+mod fault;
+mod line;
+mod next;
+mod reader;
+mod reference;
+mod scan;
+
+pub use access::nth_access;
+pub use next::Next;
+pub use reader::Reader;
+pub use reference::{Letter, Reference};

@@ -1,0 +1,229 @@
+//! A reader that is fed the trace in pieces.
+
+ghost use Rattle.std.specs.Prelude.{◌≡◌, ◌≢◌, ◌↔◌, ℕ, ◌+◌, ◌-◌, ◌<◌, ◌≤◌, ◌++◌, [], List, true, false, length, take, drop, Option, Some, None, IfOk};
+ghost use Rattle.xl_lackey.specs.Lines.{parted, IsProper};
+ghost use Rattle.xl_lackey.specs.Stream.{fresh, left, records_of, IsWaiting};
+ghost use Rattle.xl_lackey.specs.Answers.{Answers};
+
+use std::alloc::Global;
+use std::marker::Model;
+
+use xl_model::NoMemory;
+
+use crate::fault::Fault;
+use crate::line::{Verdict, judge};
+use crate::next::Next;
+use crate::reference::Reference;
+use crate::scan::read_lines;
+
+/// How many bytes a reader holds at most.
+const ROOM: usize = 65536;
+
+/// How many bytes of an unended line tell what a long line is: those of the longest good one, with a
+/// carriage return, and one more.
+const TELLING: usize = 258;
+
+/// A reader of a trace, which is fed the trace's bytes in pieces.
+#[derive(Drop)]
+pub struct Reader {
+    buf: Vec<u8>,
+    start: usize,
+    end: usize,
+    lines: u64,
+    finished: bool,
+    bad: Option<Fault>,
+}
+
+impl Model for Reader {
+    ghost use Rattle.std.specs.Prelude.{◌≡◌, ◌≤◌, take, drop};
+    ghost use Rattle.std.specs.Vec.{vec_len};
+    ghost use Rattle.xl_lackey.specs.Stream.{State};
+
+    ghost Value = { State };
+
+    ghost view = { λ r. record { lines = r.lines; held = drop r.start (take r.end r.buf.items); finished = r.finished; bad = r.bad } };
+
+    ghost invariant = { λ r. (vec_len r.buf ≡ 65536) × (r.start ≤ r.end) × (r.end ≤ 65536) };
+}
+
+impl Reader {
+    /// A reader that was fed nothing yet. All memory that it wants is taken here.
+    pub fn open(alloc: Global) -> Result<Reader, NoMemory>
+        ensures new { IfOk result (λ r. r ≡ fresh) }
+        ensures reads { IfOk result (λ r. (rest : List ℕ) → left r rest ≡ records_of rest) }
+    {
+        let Ok(buf) = vec![in alloc; 0; ROOM] else {
+            return Err(NoMemory);
+        };
+        Ok(Reader {
+            buf,
+            start: 0,
+            end: 0,
+            lines: 0,
+            finished: false,
+            bad: None,
+        })
+    }
+
+    /// How many bytes the next piece may have.
+    pub fn room(&self) -> usize
+        ensures { result + length self.now.held ≡ 65536 }
+    {
+        ROOM - (self.end - self.start)
+    }
+
+    /// Takes the next bytes of the trace.
+    pub fn feed(&mut self, piece: &[u8])
+        requires room { length piece.now + length self.old.held ≤ 65536 }
+        requires unfinished { self.old.finished ≡ false }
+        ensures held { self.new ≡ record self.old { held = self.old.held ++ piece.now } }
+        ensures reads { (rest : List ℕ) → left self.new rest ≡ left self.old (piece.now ++ rest) }
+    {
+        let held = self.end - self.start;
+        shift(self.buf.as_mut_slice(), self.start, self.end);
+        append(self.buf.as_mut_slice(), held, piece);
+        self.start = 0;
+        self.end = held + piece.len();
+    }
+
+    /// Says that the trace has ended.
+    pub fn finish(&mut self)
+        ensures finished { self.new ≡ record self.old { finished = true } }
+        ensures reads { left self.new [] ≡ left self.old [] }
+    {
+        self.finished = true;
+    }
+
+    /// The next record, or why there is none now.
+    pub fn next(&mut self) -> Next
+        ensures answers { Answers result self.old self.new }
+        ensures more { (result ≡ Next.More) ↔ IsWaiting self.old }
+    {
+        if let Some(fault) = self.bad_line() {
+            return Next::BadLine {
+                line: fault.line,
+                reason: fault.reason,
+            };
+        }
+        let scan = read_lines(self.held(), self.lines());
+        self.pass(scan.used, scan.lines);
+        match scan.verdict {
+            Verdict::Skipped => self.end_of_held(),
+            Verdict::Found { letter, addr, size } => Next::Found(Reference {
+                letter,
+                addr,
+                size,
+                line: scan.lines,
+            }),
+            Verdict::Bad { reason } => self.refuse(scan.lines, reason),
+        }
+    }
+
+    /// Where no newline is held: waits for more bytes, or judges the last line.
+    fn end_of_held(&mut self) -> Next
+        requires good { self.old.bad ≡ None }
+        requires no_newline { parted 10 self.old.held ≡ None }
+        ensures answers { Answers result self.old self.new }
+        ensures more { (result ≡ Next.More) ↔ (self.old.finished ≡ false) }
+    {
+        if self.is_finished() {
+            self.last_line()
+        } else {
+            self.keep_telling();
+            Next::More
+        }
+    }
+
+    /// Judges the last line, which no newline ends, where it isn't empty.
+    fn last_line(&mut self) -> Next
+        requires good { self.old.bad ≡ None }
+        requires no_newline { parted 10 self.old.held ≡ None }
+        requires finished { self.old.finished ≡ true }
+        ensures answers { Answers result self.old self.new }
+        ensures more { result ≢ Next.More }
+    {
+        let count = self.held().len();
+        if count == 0 {
+            return Next::End;
+        }
+        let verdict = judge(self.held());
+        let line = self.lines().wrapping_add(1);
+        self.pass(count, line);
+        match verdict {
+            Verdict::Skipped => Next::End,
+            Verdict::Found { letter, addr, size } => Next::Found(Reference {
+                letter,
+                addr,
+                size,
+                line,
+            }),
+            Verdict::Bad { reason } => self.refuse(line, reason),
+        }
+    }
+
+    fn held(&self) -> &[u8]
+        ensures value { result.now ≡ self.entry.now.held }
+        ensures few { length result.now ≤ 65536 }
+    {
+        &self.buf.as_slice()[self.start..self.end]
+    }
+
+    fn lines(&self) -> u64
+        ensures { result ≡ self.now.lines }
+    {
+        self.lines
+    }
+
+    fn is_finished(&self) -> bool
+        ensures { result ≡ self.now.finished }
+    {
+        self.finished
+    }
+
+    fn bad_line(&self) -> Option<Fault>
+        ensures { result ≡ self.now.bad }
+    {
+        self.bad
+    }
+
+    /// Goes on behind the first `used` bytes held, which end so many lines in all.
+    fn pass(&mut self, used: usize, lines: u64)
+        requires { used ≤ length self.old.held }
+        ensures { self.new ≡ record self.old { lines = lines; held = drop used self.old.held } }
+    {
+        self.start += used;
+        self.lines = lines;
+    }
+
+    /// Of an unended line lets all bytes go but those that tell what a long line is.
+    fn keep_telling(&mut self)
+        ensures { self.new ≡ record self.old { held = take 258 self.old.held } }
+    {
+        self.end = self.end.min(self.start + TELLING);
+    }
+
+    fn refuse(&mut self, line: u64, reason: u8) -> Next
+        ensures answer { result ≡ Next.BadLine line reason }
+        ensures kept { self.new ≡ record self.old { bad = Some (record { line = line; reason = reason }) } }
+    {
+        self.bad = Some(Fault { line, reason });
+        Next::BadLine { line, reason }
+    }
+}
+
+/// Moves the bytes from `start` to `end` to the front.
+fn shift(buf: &mut [u8], start: usize, end: usize)
+    requires order { start ≤ end }
+    requires within { end ≤ length buf.old }
+    ensures { take (end - start) buf.new ≡ drop start (take end buf.old) }
+{
+    buf.copy_within(start..end, 0);
+}
+
+/// Puts a piece behind the first `held` bytes.
+fn append(buf: &mut [u8], held: usize, piece: &[u8])
+    requires { held + length piece.now ≤ length buf.old }
+    ensures { take (held + length piece.now) buf.new ≡ take held buf.old ++ piece.now }
+{
+    buf[held..held + piece.len()].copy_from_slice(piece);
+}
