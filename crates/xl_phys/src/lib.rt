@@ -1,0 +1,10 @@
+//! Memory of 64-bit words that is read by lines of four words, where each load counts.
+#![tactic(auto)]
+
+mod bus;
+mod memory;
+#[cfg(test)]
+mod tests;
+
+pub use bus::{Bus, line_of};
+pub use memory::PhysMem;

@@ -1,0 +1,47 @@
+-- What a PTE word says at a level (RISC-V Privileged manual). Bit 0 is V, 1 R, 2 W, 3 X, 4 U; bits 10 to 53
+-- are the PPN. Any of bits 54 to 63 makes a word reserved; bits 5 to 9 are not looked at.
+use Rattle.std.specs.Prelude.{ℕ, ◌*◌, ◌/◌, ◌%◌, ◌^◌, ◌<◌, ◌==◌, Bool, true, false, if◌then◌else◌, IsTrue, refl}
+use Rattle.xl_model.specs.Addresses.{is_legal}
+use Rattle.xl_model.specs.declared.perm.Perm.{Perm}
+use Rattle.xl_pte.specs.declared.word.Pte.{Pte}
+use Rattle.xl_pte.specs.declared.word.Pte.TheVariants.{Invalid, Pointer, Leaf, Reserved, Misaligned}
+
+-- whether bit k of a word is set
+abbrev pub bit : ℕ → ℕ → Bool
+bit word k = word / 2 ^ k % 2 == 1
+
+-- the PPN: the number of a node, or of a leaf's first frame
+abbrev pub number_of : ℕ → ℕ
+number_of word = word / 2 ^ 10 % 2 ^ 44
+
+-- a node's number at level 0 is reserved: the walk can't go on
+abbrev pub pointer_at : ℕ → ℕ → Pte
+pointer_at level number = if level == 0 then Reserved else Pointer number
+
+-- a leaf's first frame is a multiple of the frames that the leaf has
+abbrev pub leaf_at : ℕ → ℕ → Perm → Pte
+leaf_at level number p = if number % 2 ^ (9 * level) == 0 then Leaf number p else Misaligned
+
+-- By the bits R, W, X and U: W without R is reserved, a word without R, W and X points, all else is a leaf.
+abbrev pub says : Bool → Bool → Bool → Bool → ℕ → ℕ → Pte
+says false true x u level number = Reserved
+says false false false u level number = pointer_at level number
+says false false true u level number =
+    leaf_at level number (record { r = false; w = false; x = true; u = u; legal = refl })
+says true w x u level number = leaf_at level number (record { r = true; w = w; x = x; u = u; legal = refl })
+
+unfoldable pub decode_of : ℕ → ℕ → Pte
+decode_of word level =
+    if bit word 0
+    then (if word / 2 ^ 54 == 0
+    then says (bit word 1) (bit word 2) (bit word 3) (bit word 4) level (number_of word)
+    else Reserved)
+    else Invalid
+
+-- numbers are below 2^44, and permissions are legal
+abbrev pub IsProper : Pte → Type 0
+IsProper (Pointer node) = node < 2 ^ 44
+IsProper (Leaf frame p) = (frame < 2 ^ 44) × IsTrue (is_legal p.r p.w p.x)
+IsProper Invalid = Unit {0}
+IsProper Reserved = Unit {0}
+IsProper Misaligned = Unit {0}

@@ -1,0 +1,10 @@
+//! PTE words (RISC-V Privileged manual): the words of pointers and leaves, and what a word says.
+#![tactic(auto)]
+
+mod laws;
+#[cfg(test)]
+mod tests;
+mod word;
+
+pub use laws::words_read_back;
+pub use word::{Pte, decode, leaf_word, pointer};

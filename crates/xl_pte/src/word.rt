@@ -1,0 +1,100 @@
+//! Words and what they say.
+
+ghost use Rattle.std.specs.Prelude.{◌≡◌, ◌≤◌, ◌<◌, ◌^◌};
+ghost use Rattle.xl_model.specs.Words.{pointer_word, leaf_word as word_of_leaf};
+ghost use Rattle.xl_pte.specs.Decode.{bit as bit_of, pointer_at as pointer_said, leaf_at as leaf_said, decode_of, IsProper};
+
+use xl_model::Perm;
+
+/// What a PTE word says at a level of the table.
+#[derive(Clone, Copy, Debug, PartialEq, Eq)]
+pub enum Pte {
+    /// There is nothing.
+    Invalid,
+    /// The walk goes on in this node, one level down.
+    Pointer { node: u64 },
+    /// A leaf of this level, from this frame on.
+    Leaf { frame: u64, perm: Perm },
+    /// A word that the manual, or this project's profile of it, reserves.
+    Reserved,
+    /// A leaf above level 0 whose frame isn't a multiple of its size.
+    Misaligned,
+}
+
+/// The word of a pointer to `node`: V alone is set.
+#[tactic(auto, unfolding(xl_model::specs::Words::pointer_word))]
+pub fn pointer(node: u64) -> u64
+    requires { node < 2 ^ 44 }
+    ensures { result ≡ pointer_word node }
+{
+    node * 1024 + 1
+}
+
+/// The word of a leaf that begins at `frame`: V, A, D and the permission bits are set.
+#[tactic(auto, unfolding(xl_model::specs::Words::leaf_word))]
+pub fn leaf_word(frame: u64, perm: Perm) -> u64
+    requires { frame < 2 ^ 44 }
+    ensures { result ≡ word_of_leaf frame perm }
+{
+    let flags = 0xc1
+        + (perm.r as u64 * 2 + (perm.w as u64 * 4 + (perm.x as u64 * 8 + perm.u as u64 * 16)));
+    frame * 1024 + flags
+}
+
+/// Whether bit `k` of `word` is set.
+fn bit(word: u64, k: u32) -> bool
+    requires { k < 64 }
+    ensures { result ≡ bit_of word k }
+{
+    (word >> k) % 2 == 1
+}
+
+/// The word of node `number` at `level`: reserved at level 0, where no walk goes on.
+fn pointer_at(level: usize, number: u64) -> Pte
+    ensures { result ≡ pointer_said level number }
+{
+    if level == 0 {
+        Pte::Reserved
+    } else {
+        Pte::Pointer { node: number }
+    }
+}
+
+/// The word of a leaf of `level` from frame `number` on.
+fn leaf_at(level: usize, number: u64, perm: Perm) -> Pte
+    requires { level ≤ 4 }
+    ensures { result ≡ leaf_said level number perm }
+{
+    if number % (1 << (9 * level)) == 0 {
+        Pte::Leaf {
+            frame: number,
+            perm,
+        }
+    } else {
+        Pte::Misaligned
+    }
+}
+
+/// What `word` says at `level`. A number in the answer is below 2^44. Bits G, A, D and RSW are not
+/// looked at, and bit U of a pointer isn't either; any of bits 54 to 63 makes the word reserved.
+#[tactic(auto, unfolding(crate::specs::Decode::decode_of))]
+pub fn decode(word: u64, level: usize) -> Pte
+    requires { level ≤ 4 }
+    ensures value { result ≡ decode_of word level }
+    ensures proper { IsProper result }
+{
+    if word % 2 == 0 {
+        return Pte::Invalid;
+    }
+    if word >> 54 != 0 {
+        return Pte::Reserved;
+    }
+    let number = word >> 10;
+    let (r, w, x, u) = (bit(word, 1), bit(word, 2), bit(word, 3), bit(word, 4));
+    match (r, w, x) {
+        (false, true, _) => Pte::Reserved,
+        (false, false, false) => pointer_at(level, number),
+        (false, false, true) => leaf_at(level, number, Perm { r, w, x, u }),
+        (true, _, _) => leaf_at(level, number, Perm { r, w, x, u }),
+    }
+}
