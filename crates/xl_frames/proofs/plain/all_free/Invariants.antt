@@ -1,0 +1,6 @@
+use Rattle.std.proofs.Common.{◌≡◌, ℕ, ◌+◌, ◌<◌, true, false}
+use Rattle.std.specs.Prelude.{slice_index_or}
+use Rattle.xl_frames.proofs.plain.all_free.Given as goal
+
+abbrev pub invariant-loop-i : goal.invariant-loop-i
+invariant-loop-i l = (k : ℕ) → k < l.i → slice_index_or l.flags (l.first + k) false ≡ true

@@ -1,0 +1,215 @@
+//! A binary tree over a power of two of frames, in pre-order: the root, the tree of the lower half,
+//! the tree of the upper half. So each subtree is a part of the slice.
+//!
+//! A node holds one more than the greatest order of an aligned free block under it: 0 where no frame
+//! is free, and its height plus one where all are. What lies below such a node is stale, and is put
+//! right when a part of it is marked. So a large block costs no more than a small one.
+
+ghost use Rattle.std.specs.Prelude.{◌≡◌, ℕ, ◌+◌, ◌-◌, ◌*◌, ◌^◌, ◌<◌, ◌≤◌, ◌++◌, true, false, length, slice_set, replicate, IfSome, IfNone};
+ghost use Rattle.xl_frames.specs.Pool.{IsLowest, HasNone, marked};
+ghost use Rattle.xl_frames.specs.Tree.{root, lower, upper, joined as joined_of, whole_number as number_of_whole, flags_of, IsTree, IsOpen, IsPool, pool_of};
+
+/// The number of frames under a node of this height, which is also the place of its upper half.
+pub(crate) fn frames_under(height: u8) -> usize
+    requires { height < 32 }
+    ensures { result ≡ 2 ^ height }
+{
+    1 << height
+}
+
+/// The number of a node of this height whose halves have these numbers.
+fn joined(height: u8, lower: u8, upper: u8) -> u8
+    requires { height < 32 }
+    ensures { result ≡ joined_of height lower upper }
+{
+    if lower == height && upper == height {
+        height + 1
+    } else {
+        lower.max(upper)
+    }
+}
+
+/// The number of a node that is free as a whole, or taken as a whole.
+fn whole_number(height: u8, free: bool) -> u8
+    requires { height < 32 }
+    ensures { result ≡ number_of_whole height free }
+{
+    if free { height + 1 } else { 0 }
+}
+
+/// The tree of the lower half of the frames.
+fn lower_half(tree: &[u8], height: u8) -> &[u8]
+    requires small { height < 32 }
+    requires above { 2 ^ height < length tree.now }
+    ensures { result.now ≡ lower height tree.now }
+{
+    let middle = frames_under(height);
+    &tree[1..middle]
+}
+
+/// The tree of the upper half of the frames.
+fn upper_half(tree: &[u8], height: u8) -> &[u8]
+    requires small { height < 32 }
+    requires above { 2 ^ height < length tree.now }
+    ensures { result.now ≡ upper height tree.now }
+{
+    let middle = frames_under(height);
+    &tree[middle..]
+}
+
+/// The first frame of the lowest free block of 2 to the `order` frames. None where there is none.
+fn lowest(tree: &[u8], height: u8, order: u8) -> Option<usize>
+    requires small { height < 32 }
+    requires tree { IsTree height tree.now }
+    ensures some { IfSome result (IsLowest (flags_of height tree.now) (2 ^ order)) }
+    ensures none { IfNone result (root tree.now ≤ order) }
+{
+    if tree[0] <= order {
+        return None;
+    }
+    if tree[0] > height {
+        return Some(0);
+    }
+    let lower = lower_half(tree, height);
+    if lower[0] > order {
+        return lowest(lower, height - 1, order);
+    }
+    match lowest(upper_half(tree, height), height - 1, order) {
+        Some(at) => Some(frames_under(height - 1) + at),
+        None => None,
+    }
+}
+
+/// Writes a node's number.
+fn write_root(tree: &mut [u8], number: u8)
+    requires { 0 < length tree.old }
+    ensures { tree.new ≡ slice_set tree.old 0 number }
+{
+    tree[0] = number;
+}
+
+/// Writes the same number to the roots of both halves.
+fn write_halves(tree: &mut [u8], middle: usize, number: u8)
+    requires lower { 1 < length tree.old }
+    requires upper { middle < length tree.old }
+    ensures { tree.new ≡ slice_set (slice_set tree.old 1 number) middle number }
+{
+    tree[1] = number;
+    tree[middle] = number;
+}
+
+/// Puts the halves of a node right where the node is free as a whole, or taken as a whole.
+fn open(tree: &mut [u8], height: u8)
+    requires above { 0 < height }
+    requires small { height < 32 }
+    requires tree { IsTree height tree.old }
+    ensures opened { IsOpen height tree.new }
+    ensures flags { flags_of (height - 1) (lower height tree.new) ++ flags_of (height - 1) (upper height tree.new) ≡ flags_of height tree.old }
+{
+    let middle = frames_under(height);
+    if tree[0] == 0 {
+        write_halves(tree, middle, 0);
+    } else if tree[0] > height {
+        write_halves(tree, middle, height);
+    }
+}
+
+/// Makes the frames from `from` up to `to` free or taken, all of them.
+fn mark(tree: &mut [u8], height: u8, from: usize, to: usize, free: bool)
+    requires small { height < 32 }
+    requires tree { IsTree height tree.old }
+    requires fits { to ≤ 2 ^ height }
+    ensures tree { IsTree height tree.new }
+    ensures flags { flags_of height tree.new ≡ marked (flags_of height tree.old) from (to - from) free }
+{
+    if from >= to {
+        return;
+    }
+    if to - from == frames_under(height) {
+        write_root(tree, whole_number(height, free));
+        return;
+    }
+    open(tree, height);
+    let half = frames_under(height - 1);
+    let middle = frames_under(height);
+    mark(
+        &mut tree[1..middle],
+        height - 1,
+        from.min(half),
+        to.min(half),
+        free,
+    );
+    mark(
+        &mut tree[middle..],
+        height - 1,
+        from.saturating_sub(half),
+        to.saturating_sub(half),
+        free,
+    );
+    let number = joined(height, tree[1], tree[middle]);
+    write_root(tree, number);
+}
+
+/// The least height of a tree over this many frames.
+pub(crate) fn height_of(count: usize) -> u8
+    requires { count ≤ 2 ^ 22 }
+    ensures fits { count ≤ 2 ^ result }
+    ensures small { result ≤ 22 }
+{
+    for height in 0..22 {
+        if count <= frames_under(height) {
+            return height;
+        }
+    }
+    22
+}
+
+/// Makes the first `count` frames of a tree free in which all are taken.
+pub(crate) fn free_first(tree: &mut [u8], height: u8, count: usize)
+    requires small { height < 32 }
+    requires fits { count ≤ 2 ^ height }
+    requires tree { tree.old ≡ replicate (2 * 2 ^ height - 1) 0 }
+    ensures tree { IsPool height count tree.new }
+    ensures flags { pool_of height count tree.new ≡ replicate count true }
+{
+    mark(tree, height, 0, count, true);
+}
+
+/// The first frame of the lowest free block of 2 to the `order` frames.
+pub(crate) fn find_block(tree: &[u8], height: u8, count: usize, order: u8) -> Option<usize>
+    requires { IsPool height count tree.now }
+    ensures some { IfSome result (IsLowest (pool_of height count tree.now) (2 ^ order)) }
+    ensures none { IfNone result (HasNone (pool_of height count tree.now) (2 ^ order)) }
+{
+    lowest(tree, height, order)
+}
+
+/// Takes the lowest free block of 2 to the `order` frames.
+pub(crate) fn take_block(tree: &mut [u8], height: u8, count: usize, order: u8) -> Option<usize>
+    requires pool { IsPool height count tree.old }
+    requires small { order < 32 }
+    ensures tree { IsPool height count tree.new }
+    ensures lowest { IfSome result (IsLowest (pool_of height count tree.old) (2 ^ order)) }
+    ensures taken { IfSome result (λ at. pool_of height count tree.new ≡ marked (pool_of height count tree.old) at (2 ^ order) false) }
+    ensures none { IfNone result (HasNone (pool_of height count tree.old) (2 ^ order)) }
+    ensures unchanged { IfNone result (tree.new ≡ tree.old) }
+{
+    match find_block(tree, height, count, order) {
+        Some(at) => {
+            mark(tree, height, at, at + frames_under(order), false);
+            Some(at)
+        }
+        None => None,
+    }
+}
+
+/// Makes a block of 2 to the `order` frames free.
+pub(crate) fn give_block(tree: &mut [u8], height: u8, count: usize, at: usize, order: u8)
+    requires pool { IsPool height count tree.old }
+    requires small { order < 32 }
+    requires fits { at + 2 ^ order ≤ count }
+    ensures tree { IsPool height count tree.new }
+    ensures flags { pool_of height count tree.new ≡ marked (pool_of height count tree.old) at (2 ^ order) true }
+{
+    mark(tree, height, at, at + frames_under(order), true);
+}
