@@ -1,0 +1,51 @@
+-- A scan that stops at the first item that meets a test, against `find`, `touched` and `purged`.
+use Rattle.std.proofs.Common.{◌≡◌, ℕ, zero, suc, ◌+◌, ◌-◌, ◌<◌, ◌≤◌, Bool, true, false, not, List, [], ◌∷◌, ◌++◌, length, get_or, take, drop, find, filter, Option, Some, None, refl, sym, ◌∙◌, ap, arith}
+use Rattle.std.specs.List.{remove}
+use Rattle.xl_model.specs.Recency.{without_first, in_front, touched, purged}
+use Rattle.xl_recency.specs.Lists.{IsTest, IsFirst, AllFail}
+
+module _ {A : Type 0} (q : A → Bool) where
+  pub find_at : (xs : List A) (at : ℕ) (d : A) → at < length xs → ((k : ℕ) → k < at → q (get_or xs k d) ≡ false) → q (get_or xs at d) ≡ true
+      → find q xs ≡ Some (get_or xs at d)
+  find_at [] at d l b m = absurd (omega arith)
+  find_at (x ∷ xs) zero d l b m = let e : q x ≡ true = m in rw e refl
+  find_at (x ∷ xs) (suc at) d l b m =
+      let e : q x ≡ false = b 0 (omega arith) in
+      rw e (find_at xs at d (omega arith) (λ k s. b (suc k) (omega arith)) m)
+
+  pub without_at : (xs : List A) (at : ℕ) (d : A) → at < length xs → ((k : ℕ) → k < at → q (get_or xs k d) ≡ false) → q (get_or xs at d) ≡ true
+      → without_first q xs ≡ remove xs at
+  without_at [] at d l b m = absurd (omega arith)
+  without_at (x ∷ xs) zero d l b m = let e : q x ≡ true = m in rw e refl
+  without_at (x ∷ xs) (suc at) d l b m =
+      let e : q x ≡ false = b 0 (omega arith) in
+      rw e (ap (λ (ys : List A). x ∷ ys) (without_at xs at d (omega arith) (λ k s. b (suc k) (omega arith)) m))
+
+  pub find_none : (xs : List A) → ((k : ℕ) (d : A) → k < length xs → q (get_or xs k d) ≡ false) → find q xs ≡ None
+  find_none [] b = refl
+  find_none (x ∷ xs) b =
+      let e : q x ≡ false = b 0 x (omega arith) in
+      rw e (find_none xs (λ k d s. b (suc k) d (omega arith)))
+
+  pub without_none : (xs : List A) → ((k : ℕ) (d : A) → k < length xs → q (get_or xs k d) ≡ false) → without_first q xs ≡ xs
+  without_none [] b = refl
+  without_none (x ∷ xs) b =
+      let e : q x ≡ false = b 0 x (omega arith) in
+      rw e (ap (λ (ys : List A). x ∷ ys) (without_none xs (λ k d s. b (suc k) d (omega arith))))
+
+module _ {A : Type 0} (answers : A → Bool → Type 0) (q : A → Bool) (test : IsTest answers q) where
+  pub found : (xs : List A) (at : ℕ) (x : A) → at < length xs → IsFirst answers xs at → x ≡ get_or xs at x → Some x ≡ find q xs
+  found xs at x l f is =
+      ap (λ (y : A). Some y) is
+      ∙ sym (find_at q xs at x l (λ k s. sym (test.same _ _ (f.before k x s))) (sym (test.same _ _ (f.meets x))))
+
+  pub moved : (xs : List A) (at : ℕ) (x : A) → at < length xs → IsFirst answers xs at → x ≡ get_or xs at x → x ∷ remove xs at ≡ touched q xs
+  moved xs at x l f is =
+      rw (sym (found xs at x l f is), without_at q xs at x l (λ k s. sym (test.same _ _ (f.before k x s))) (sym (test.same _ _ (f.meets x)))) refl
+
+  pub none_found : (xs : List A) → AllFail answers xs → None ≡ find q xs
+  none_found xs f = sym (find_none q xs (λ k d s. sym (test.same _ _ (f.fails k d s))))
+
+  pub none_moved : (xs : List A) → AllFail answers xs → xs ≡ touched q xs
+  none_moved xs f =
+      rw (sym (none_found xs f)) (sym (without_none q xs (λ k d s. sym (test.same _ _ (f.fails k d s)))))

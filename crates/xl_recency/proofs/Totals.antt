@@ -1,0 +1,17 @@
+-- The items of all sets, when one set changes.
+use Rattle.std.proofs.Common.{◌≡◌, ℕ, zero, suc, ◌+◌, ◌<◌, ◌++◌, List, [], ◌∷◌, length, get_or, set, map, take, drop, refl, ap, ◌∙◌, arith}
+use Rattle.std.proofs.lemmas.List.{get_or_default}
+use Rattle.std.proofs.lemmas.List.Edits.{map_over_more}
+use Rattle.xl_recency.specs.Lists.{items_in}
+
+pub items_in-set : {A : Type 0} (sets : List (List A)) (i n : ℕ) (d new : List A) → i < length sets
+    → n + length new ≡ length (get_or sets i d) → n + items_in (set sets i new) ≡ items_in sets
+items_in-set [] i n d new l e = absurd (omega arith)
+items_in-set (s ∷ sets) zero n d new l e = let f : n + length new ≡ length s = e in omega arith
+items_in-set (s ∷ sets) (suc i) n d new l e = omega (arith, items_in-set sets i n d new (omega arith) e)
+
+pub mapped_more : {A : Type 0} (f : A → A) (xs ys : List A) (i : ℕ) (d new : A) → i < length xs
+    → ys ≡ map f (take i xs) ++ drop i xs → i < length ys → new ≡ f (get_or ys i d)
+    → set ys i new ≡ map f (take (i + 1) xs) ++ drop (i + 1) xs
+mapped_more {A} f xs ys i d new l e m is =
+    ap (λ (y : A). set ys i y) is ∙ map_over_more f xs ys i (get_or ys i d) l e (get_or_default ys i d (get_or ys i d) m)

@@ -1,0 +1,18 @@
+use Rattle.std.proofs.Common.{ℕ, ◌≡◌, ◌+◌, ◌<◌, ◌≤◌, true, false, not, length, refl, sym, ◌∙◌, ap, arith}
+use Rattle.std.proofs.lemmas.Fn.{says_at}
+use Rattle.std.proofs.lemmas.List.Filters.{FiltersInPlace-more_no, FiltersInPlace-more_set}
+use Rattle.xl_recency.proofs.kernel.keep_failing.Goals as goal
+use Rattle.xl_recency.proofs.kernel.keep_failing.Goals.{then-not-test, else-not-test}
+
+pub loop-i-preserved : goal.loop-i-preserved
+loop-i-preserved g c = record {
+  within = elim c.if-not-test.branch [ then-not-test w ↦ omega arith | else-not-test w ↦ omega arith ];
+  in_place = λ q test.
+      let same = test.same _ _ (says_at g.P.Fn c.test.ensures refl) in
+      elim c.if-not-test.branch [
+        | then-not-test w ↦ rw (w.items-is, w.kept-is)
+            (FiltersInPlace-more_set (c.loop-i.invariant.in_place q test) (omega arith) (ap not (sym same ∙ w.if-not-test.true)) c.index-items-i.is)
+        | else-not-test w ↦ rw (w.items-is, w.kept-is)
+            (FiltersInPlace-more_no (c.loop-i.invariant.in_place q test) (omega arith) (ap not (sym same ∙ w.if-not-test.false)) c.index-items-i.is)
+      ];
+}

@@ -1,0 +1,5 @@
+use Rattle.std.proofs.Common.{◌≡◌, [], replicate}
+use Rattle.xl_recency.proofs.sets.Sets.open.Given as goal
+
+abbrev pub invariant-opened : goal.invariant-opened
+invariant-opened g l = l.sets.items ≡ replicate l.counter []

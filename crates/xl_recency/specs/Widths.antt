@@ -1,0 +1,26 @@
+-- The widths of recency lists, and a list of any of them.
+use Rattle.std.specs.Prelude.{ℕ, ◌==◌, Bool, ◌||◌, IsTrue, List, []}
+use Rattle.xl_model.specs.Caches.{Cached}
+use Rattle.xl_recency.specs.declared.item.Item.{Item}
+use Rattle.xl_recency.specs.declared.cache.Slots.{Slots}
+use Rattle.xl_recency.specs.declared.cache.Slots.TheVariants as slots
+
+-- 0, or one of the nine widths
+abbrev pub IsWidth : ℕ → Type 0
+IsWidth width =
+    IsTrue (width == 0 || (width == 1 || (width == 2 || (width == 4 || (width == 6 || (width == 8 || (width == 12 || (width == 16 || (width == 32 || width == 64)))))))))
+
+abbrev pub cached : ℕ → List Item → Cached Item
+cached width items = record { width = width; items = items }
+
+abbrev pub cached_in : Slots → Cached Item
+cached_in slots.W0 = cached 0 []
+cached_in (slots.W1 items) = cached 1 items
+cached_in (slots.W2 items) = cached 2 items
+cached_in (slots.W4 items) = cached 4 items
+cached_in (slots.W6 items) = cached 6 items
+cached_in (slots.W8 items) = cached 8 items
+cached_in (slots.W12 items) = cached 12 items
+cached_in (slots.W16 items) = cached 16 items
+cached_in (slots.W32 items) = cached 32 items
+cached_in (slots.W64 items) = cached 64 items

@@ -1,0 +1,117 @@
+//! A recency list of a width that is known when the program runs.
+
+ghost use Rattle.std.specs.Prelude.{◌≡◌, ℕ, ◌+◌, ◌*◌, ◌^◌, ◌<◌, ◌≤◌, List, [], ◌∷◌, length, find, drop, option_to_list, IfOk};
+ghost use Rattle.std.specs.Fn.{FnReturnsAt};
+ghost use Rattle.xl_model.specs.Recency.{touched, with_newest, purged};
+ghost use Rattle.xl_model.specs.Caches.{empty_cache};
+ghost use Rattle.xl_recency.specs.Lists.{IsTest};
+ghost use Rattle.xl_recency.specs.Widths.{IsWidth};
+
+use crate::item::Item;
+use crate::ways::Ways;
+use std::alloc::Global;
+use std::marker::Model;
+use xl_model::NoMemory;
+
+/// The list of each width.
+#[derive(Drop)]
+enum Slots {
+    W0,
+    W1(Ways<1>),
+    W2(Ways<2>),
+    W4(Ways<4>),
+    W6(Ways<6>),
+    W8(Ways<8>),
+    W12(Ways<12>),
+    W16(Ways<16>),
+    W32(Ways<32>),
+    W64(Ways<64>),
+}
+
+/// A recency list of a width from 0 to 64. Contracts see the width and the list, newest first.
+#[derive(Drop)]
+pub struct Cache {
+    slots: Slots,
+}
+
+impl Model for Cache {
+    ghost use Rattle.xl_model.specs.Caches.{Cached};
+    ghost use Rattle.xl_recency.specs.declared.item.Item.{Item};
+
+    ghost Value = { Cached Item };
+
+    ghost use Rattle.xl_recency.specs.Widths.{cached_in};
+
+    ghost view = { λ c. cached_in c.slots };
+}
+
+/// `$some` with the list of the cache's width, or `$none` at width 0.
+macro_rules! at_width {
+    ($slots:expr, $ways:ident => $some:expr, $none:expr) => {
+        match $slots {
+            Slots::W0 => $none,
+            Slots::W1($ways) => $some,
+            Slots::W2($ways) => $some,
+            Slots::W4($ways) => $some,
+            Slots::W6($ways) => $some,
+            Slots::W8($ways) => $some,
+            Slots::W12($ways) => $some,
+            Slots::W16($ways) => $some,
+            Slots::W32($ways) => $some,
+            Slots::W64($ways) => $some,
+        }
+    };
+}
+
+impl Cache {
+    /// An empty list of the width.
+    pub fn open(alloc: Global, width: u8) -> Result<Cache, NoMemory>
+        requires { IsWidth width }
+        ensures { IfOk result (λ cache. cache ≡ empty_cache width) }
+    {
+        let slots = match width {
+            0 => Slots::W0,
+            1 => Slots::W1(Ways::open(alloc)?),
+            2 => Slots::W2(Ways::open(alloc)?),
+            4 => Slots::W4(Ways::open(alloc)?),
+            6 => Slots::W6(Ways::open(alloc)?),
+            8 => Slots::W8(Ways::open(alloc)?),
+            12 => Slots::W12(Ways::open(alloc)?),
+            16 => Slots::W16(Ways::open(alloc)?),
+            32 => Slots::W32(Ways::open(alloc)?),
+            _ => Slots::W64(Ways::open(alloc)?),
+        };
+        Ok(Cache { slots })
+    }
+
+    /// Brings the newest item that meets the test to the front, and gives it. None where none
+    /// meets it; then nothing changes.
+    pub fn touch<P: Fn(&Item) -> bool>(&mut self, test: P) -> Option<Item>
+        requires { P.IsAlwaysCallable test }
+        ensures found { (q : _) → IsTest (FnReturnsAt P.Fn test) q → result ≡ find q self.old.items }
+        ensures moved { (q : _) → IsTest (FnReturnsAt P.Fn test) q → self.new.items ≡ touched q self.old.items }
+        ensures width { self.new.width ≡ self.old.width }
+    {
+        at_width!(&mut self.slots, ways => ways.touch(test), None)
+    }
+
+    /// Puts the item in front, and gives the one that left: Some where the list was full. At width
+    /// 0 that is the item itself.
+    pub fn fill(&mut self, item: Item) -> Option<Item>
+        ensures list { self.new.items ≡ with_newest self.old.width item self.old.items }
+        ensures left { option_to_list result ≡ drop self.old.width (item ∷ self.old.items) }
+        ensures width { self.new.width ≡ self.old.width }
+    {
+        at_width!(&mut self.slots, ways => ways.fill(item), Some(item))
+    }
+
+    /// Removes the items that meet the test; the others stay in order. Gives how many left.
+    pub fn remove_where<P: Fn(&Item) -> bool>(&mut self, test: P) -> u64
+        requires { P.IsAlwaysCallable test }
+        ensures kept { (q : _) → IsTest (FnReturnsAt P.Fn test) q → self.new.items ≡ purged q self.old.items }
+        ensures count { result + length self.new.items ≡ length self.old.items }
+        ensures width { self.new.width ≡ self.old.width }
+    {
+        at_width!(&mut self.slots, ways => ways.remove_where(test), 0)
+    }
+}

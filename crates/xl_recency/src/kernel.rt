@@ -1,0 +1,64 @@
+//! The work on slices.
+
+ghost use Rattle.std.specs.Prelude.{◌≡◌, ℕ, ◌∷◌, ◌<◌, ◌≤◌, not, length, take, find, filter, IfSome, IfNone};
+ghost use Rattle.std.specs.List.{remove};
+ghost use Rattle.std.specs.Fn.{FnReturnsAt};
+ghost use Rattle.xl_model.specs.Recency.{touched, purged};
+ghost use Rattle.xl_recency.specs.Lists.{IsTest, IsFirst, AllFail};
+
+/// Puts the item in front, in place of the one at `at`.
+pub(crate) fn put_in_front<T: Copy>(items: &mut [T], at: usize, item: T)
+    requires { at < length items.old }
+    ensures { items.new ≡ item ∷ remove items.old at }
+{
+    items.copy_within(0..at, 1);
+    items[0] = item;
+}
+
+/// The place of the first item that meets the test.
+pub(crate) fn first_place<T, P: Fn(&T) -> bool>(items: &[T], test: &P) -> Option<usize>
+    requires { P.IsAlwaysCallable test.now }
+    ensures within { IfSome result (λ at. at < length items.now) }
+    ensures some { IfSome result (IsFirst (FnReturnsAt P.Fn test.now) items.now) }
+    ensures none { IfNone result (AllFail (FnReturnsAt P.Fn test.now) items.now) }
+{
+    for (i, item) in items.iter().enumerate() {
+        if test(item) {
+            return Some(i);
+        }
+    }
+    None
+}
+
+/// Moves the items that fail the test to the front, in order: how many there are.
+pub(crate) fn keep_failing<T: Copy, P: Fn(&T) -> bool>(items: &mut [T], test: &P) -> usize
+    requires { P.IsAlwaysCallable test.now }
+    ensures within { result ≤ length items.old }
+    ensures kept { (q : _) → IsTest (FnReturnsAt P.Fn test.now) q → take result items.new ≡ purged q items.old }
+{
+    let mut kept = 0;
+    for i in 0..items.len() {
+        let item = items[i];
+        if !test(&item) {
+            items[kept] = item;
+            kept += 1;
+        }
+    }
+    kept
+}
+
+/// Brings the first item that meets the test to the front.
+pub(crate) fn touch_first<T: Copy, P: Fn(&T) -> bool>(items: &mut [T], test: &P) -> Option<T>
+    requires { P.IsAlwaysCallable test.now }
+    ensures found { (q : _) → IsTest (FnReturnsAt P.Fn test.now) q → result ≡ find q items.old }
+    ensures moved { (q : _) → IsTest (FnReturnsAt P.Fn test.now) q → items.new ≡ touched q items.old }
+{
+    match first_place(items, test) {
+        Some(at) => {
+            let item = items[at];
+            put_in_front(items, at, item);
+            Some(item)
+        }
+        None => None,
+    }
+}

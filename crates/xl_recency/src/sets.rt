@@ -1,0 +1,98 @@
+//! Recency lists of one width, by number.
+
+ghost use Rattle.std.specs.Prelude.{◌≡◌, ℕ, ◌+◌, ◌*◌, ◌^◌, ◌<◌, ◌≤◌, List, [], ◌∷◌, length, find, drop, map, replicate, slice_index_or, slice_set, option_to_list, IfOk};
+ghost use Rattle.std.specs.Fn.{FnReturnsAt};
+ghost use Rattle.xl_model.specs.Recency.{touched, with_newest, purged};
+ghost use Rattle.xl_recency.specs.Lists.{IsTest, items_in};
+
+use crate::item::Item;
+use crate::ways::Ways;
+use std::alloc::Global;
+use std::marker::Model;
+use xl_model::NoMemory;
+
+/// Sets of at most `W` items each. Contracts see the list of the sets' lists, newest first each.
+#[derive(Drop)]
+pub struct Sets<const W: usize> {
+    sets: Vec<Ways<W>>,
+}
+
+impl<const W: usize> Model for Sets<W> {
+    ghost use Rattle.std.specs.Prelude.{List, length, ◌≤◌, ◌^◌};
+    ghost use Rattle.xl_recency.specs.declared.item.Item.{Item};
+
+    ghost Value = { List (List Item) };
+
+    ghost view = { λ s. s.sets.items };
+
+    ghost invariant = { λ s. length s.sets.items ≤ 2 ^ 32 };
+}
+
+/// Removes the items of every set that meet the test: how many left.
+fn remove_from_each<const W: usize, P: Fn(&Item) -> bool>(sets: &mut [Ways<W>], test: &P) -> u64
+    requires width { W ≤ 64 }
+    requires fits { length sets.old ≤ 2 ^ 32 }
+    requires test { P.IsAlwaysCallable test.now }
+    ensures kept { (q : _) → IsTest (FnReturnsAt P.Fn test.now) q → sets.new ≡ map (purged q) sets.old }
+    ensures count { result + items_in sets.new ≡ items_in sets.old }
+{
+    let mut count = 0;
+    for ways in sets.iter_mut() {
+        count += ways.remove(test);
+    }
+    count
+}
+
+impl<const W: usize> Sets<W> {
+    /// Empty sets, as many as `count` says.
+    pub fn open(alloc: Global, count: u32) -> Result<Sets<W>, NoMemory>
+        requires { W ≤ 64 }
+        ensures { IfOk result (λ sets. sets ≡ replicate count []) }
+    {
+        let Ok(mut sets) = Vec::with_capacity(alloc, count as usize) else {
+            return Err(NoMemory);
+        };
+        'opened: for _ in 0..count {
+            if sets.push(Ways::open(alloc)?).is_err() {
+                return Err(NoMemory);
+            }
+        }
+        Ok(Sets { sets })
+    }
+
+    /// Brings the newest item of the set that meets the test to the front, and gives it. None where
+    /// none meets it; then nothing changes.
+    pub fn touch<P: Fn(&Item) -> bool>(&mut self, set: usize, test: P) -> Option<Item>
+        requires width { W ≤ 64 }
+        requires set { set < length self.old }
+        requires test { P.IsAlwaysCallable test }
+        ensures found { (q : _) → IsTest (FnReturnsAt P.Fn test) q → result ≡ find q (slice_index_or self.old set []) }
+        ensures moved { (q : _) → IsTest (FnReturnsAt P.Fn test) q → self.new ≡ slice_set self.old set (touched q (slice_index_or self.old set [])) }
+    {
+        let ways = &mut self.sets[set];
+        ways.touch(test)
+    }
+
+    /// Puts the item in front of the set, and gives the one that left: Some where the set was full.
+    pub fn fill(&mut self, set: usize, item: Item) -> Option<Item>
+        requires some { 0 < W }
+        requires width { W ≤ 64 }
+        requires set { set < length self.old }
+        ensures list { self.new ≡ slice_set self.old set (with_newest W item (slice_index_or self.old set [])) }
+        ensures left { option_to_list result ≡ drop W (item ∷ slice_index_or self.old set []) }
+    {
+        let ways = &mut self.sets[set];
+        ways.fill(item)
+    }
+
+    /// Removes the items of every set that meet the test; the others stay in order. Gives how many
+    /// left.
+    pub fn remove_where<P: Fn(&Item) -> bool>(&mut self, test: P) -> u64
+        requires width { W ≤ 64 }
+        requires test { P.IsAlwaysCallable test }
+        ensures kept { (q : _) → IsTest (FnReturnsAt P.Fn test) q → self.new ≡ map (purged q) self.old }
+        ensures count { result + items_in self.new ≡ items_in self.old }
+    {
+        remove_from_each(&mut self.sets, &test)
+    }
+}

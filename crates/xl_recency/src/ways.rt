@@ -1,0 +1,96 @@
+//! The recency list that serves: an array with the newest item first.
+
+ghost use Rattle.std.specs.Prelude.{◌≡◌, ℕ, ◌+◌, ◌*◌, ◌^◌, ◌<◌, ◌≤◌, List, [], ◌∷◌, length, find, drop, option_to_list, IsOk, IfOk};
+ghost use Rattle.std.specs.Fn.{FnReturnsAt};
+ghost use Rattle.xl_model.specs.Recency.{touched, with_newest, purged};
+ghost use Rattle.xl_recency.specs.Lists.{IsTest};
+
+use crate::item::Item;
+use crate::kernel::{keep_failing, put_in_front, touch_first};
+use std::alloc::Global;
+use std::marker::Model;
+use xl_model::NoMemory;
+
+/// A recency list of at most `W` items. Contracts see the list, newest first.
+#[derive(Drop)]
+pub struct Ways<const W: usize> {
+    slots: [Item; W],
+    len: usize,
+}
+
+impl<const W: usize> Model for Ways<W> {
+    ghost use Rattle.std.specs.Prelude.{List, take, ◌≤◌};
+    ghost use Rattle.xl_recency.specs.declared.item.Item.{Item};
+
+    ghost Value = { List Item };
+
+    ghost view = { λ s. take s.len s.slots };
+
+    ghost invariant = { λ s. s.len ≤ W };
+}
+
+impl<const W: usize> Ways<W> {
+    /// An empty list. It stands in the value itself, so memory is never wanting.
+    pub fn open(_alloc: Global) -> Result<Ways<W>, NoMemory>
+        ensures ok { IsOk result }
+        ensures empty { IfOk result (λ ways. ways ≡ []) }
+    {
+        Ok(Ways {
+            slots: [Item {
+                tag: 0,
+                word: 0,
+                more: 0,
+            }; W],
+            len: 0,
+        })
+    }
+
+    /// Brings the newest item that meets the test to the front, and gives it. None where none
+    /// meets it; then nothing changes.
+    pub fn touch<P: Fn(&Item) -> bool>(&mut self, test: P) -> Option<Item>
+        requires { P.IsAlwaysCallable test }
+        ensures found { (q : _) → IsTest (FnReturnsAt P.Fn test) q → result ≡ find q self.old }
+        ensures moved { (q : _) → IsTest (FnReturnsAt P.Fn test) q → self.new ≡ touched q self.old }
+    {
+        touch_first(&mut self.slots[..self.len], &test)
+    }
+
+    /// Puts the item in front, and gives the one that left: Some where the list was full.
+    pub fn fill(&mut self, item: Item) -> Option<Item>
+        requires { 0 < W }
+        ensures list { self.new ≡ with_newest W item self.old }
+        ensures left { option_to_list result ≡ drop W (item ∷ self.old) }
+    {
+        if self.len < W {
+            let at = self.len;
+            self.len += 1;
+            put_in_front(&mut self.slots[..self.len], at, item);
+            None
+        } else {
+            let last = self.slots[W - 1];
+            put_in_front(&mut self.slots, W - 1, item);
+            Some(last)
+        }
+    }
+
+    /// Removes the items that meet the test; the others stay in order. Gives how many left.
+    pub fn remove_where<P: Fn(&Item) -> bool>(&mut self, test: P) -> u64
+        requires { P.IsAlwaysCallable test }
+        ensures kept { (q : _) → IsTest (FnReturnsAt P.Fn test) q → self.new ≡ purged q self.old }
+        ensures count { result + length self.new ≡ length self.old }
+    {
+        self.remove(&test)
+    }
+
+    /// What `remove_where` does, by a test that is kept.
+    pub(crate) fn remove<P: Fn(&Item) -> bool>(&mut self, test: &P) -> u64
+        requires { P.IsAlwaysCallable test.now }
+        ensures kept { (q : _) → IsTest (FnReturnsAt P.Fn test.now) q → self.new ≡ purged q self.old }
+        ensures count { result + length self.new ≡ length self.old }
+        ensures most { result ≤ W }
+    {
+        let before = self.len;
+        self.len = keep_failing(&mut self.slots[..before], test);
+        (before - self.len) as u64
+    }
+}
