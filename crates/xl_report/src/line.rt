@@ -1,0 +1,101 @@
+//! A line that is being put together.
+
+ghost use Rattle.std.specs.Prelude.{◌≡◌, ◌+◌, ◌≤◌, ◌<◌, ◌++◌, [], length, take, decimal};
+ghost use Rattle.xl_model.specs.Lines.{hex16, hex_digits};
+
+use itoa::Buffer;
+use std::marker::Model;
+
+/// The most bytes of a line.
+pub(crate) const LONGEST: usize = 1024;
+
+/// The bytes of a line so far.
+#[derive(Drop)]
+pub(crate) struct Line {
+    bytes: [u8; LONGEST],
+    len: usize,
+}
+
+impl Model for Line {
+    ghost use Rattle.std.specs.Prelude.{ℕ, List, take, ◌≤◌};
+
+    ghost Value = { List ℕ };
+
+    ghost view = { λ l. take l.len l.bytes };
+
+    ghost invariant = { λ l. l.len ≤ 1024 };
+}
+
+impl Line {
+    /// An empty line.
+    pub(crate) fn new() -> Line
+        ensures { result ≡ [] }
+    {
+        Line {
+            bytes: [0; LONGEST],
+            len: 0,
+        }
+    }
+
+    /// Puts bytes at the line's end.
+    pub(crate) fn add(&mut self, bytes: &[u8])
+        requires { length self.old + length bytes.now ≤ 1024 }
+        ensures { self.new ≡ self.old ++ bytes.now }
+    {
+        put(&mut self.bytes, self.len, bytes);
+        self.len += bytes.len();
+    }
+
+    /// Puts a decimal number at the line's end.
+    pub(crate) fn number(&mut self, n: u64)
+        requires { length self.old + 20 ≤ 1024 }
+        ensures text { self.new ≡ self.old ++ decimal n }
+        ensures grows { length self.new ≤ length self.old + 20 }
+    {
+        let mut buffer = Buffer::new();
+        self.add(buffer.format(n).as_bytes());
+    }
+
+    /// Puts the 16 hexadecimal digits of a number at the line's end.
+    #[tactic(auto, unfolding(xl_model::specs::Lines::hex16))]
+    pub(crate) fn hex(&mut self, n: u64)
+        requires { length self.old + 16 ≤ 1024 }
+        ensures text { self.new ≡ self.old ++ hex16 n }
+        ensures grows { length self.new ≡ length self.old + 16 }
+    {
+        self.add(&hex_text(n));
+    }
+
+    /// The line so far.
+    pub(crate) fn bytes(&self) -> &[u8]
+        ensures { result.now ≡ self.entry.now }
+    {
+        &self.bytes[..self.len]
+    }
+}
+
+/// Puts bytes into a buffer behind the first `at`.
+fn put(buffer: &mut [u8], at: usize, bytes: &[u8])
+    requires { at + length bytes.now ≤ length buffer.old }
+    ensures { take (at + length bytes.now) buffer.new ≡ take at buffer.old ++ bytes.now }
+{
+    buffer[at..at + bytes.len()].copy_from_slice(bytes);
+}
+
+/// The 16 hexadecimal digits of a number, in lower case.
+fn hex_text(n: u64) -> [u8; 16]
+    ensures { result ≡ hex_digits 16 n }
+{
+    let mut text = [0; 16];
+    let mut left = n;
+    for i in (0..16usize).rev() {
+        let digit = (left % 16) as u8;
+        text[i] = if digit < 10 {
+            b'0' + digit
+        } else {
+            b'a' + digit - 10
+        };
+        left /= 16;
+    }
+    text
+}
