@@ -5,6 +5,7 @@ use arrayvec::{ArrayString, ArrayVec};
 use xl_model::{Counts, Mode, Purge, Row, Table};
 use xl_outside::MemSink;
 
+#[tactic(auto, unfolding(xl_model::specs::Tally::no_counts))]
 #[test]
 fn a_row_is_written_in_pieces(rt: HostRuntime) {
     let mut name = ArrayString::new();
