@@ -1,14 +1,14 @@
 -- A line that no newline ends yet, and how much of it tells what it is.
-use Rattle.std.proofs.Common.{◌≡◌, ◌≢◌, ℕ, ◌+◌, ◌-◌, ◌≤◌, ◌<◌, Bool, true, false, List, [], ◌∷◌, ◌++◌, length, take, drop, suc, zero, refl, ap, arith, ◌∙◌, sym, subst, inl, inr, append_assoc, length-append}
+use Rattle.std.proofs.Common.{◌≡◌, ℕ, ◌-◌, ◌<◌, Bool, true, false, List, [], ◌∷◌, ◌++◌, length, take, suc, zero, refl, ap, arith, ◌∙◌, sym, inl, inr, length-append}
 use Rattle.std.specs.Prelude.{Option, None, Some, ◌==◌, nat_lt, if◌then◌else◌, slice_index}
 use Rattle.std.specs.Option.{option_map}
 use Rattle.std.proofs.lemmas.Bool.{cases_lt}
 use Rattle.std.proofs.lemmas.List.{length-take-le, take_all}
 use Rattle.std.proofs.lemmas.Bool.Decides.{nat_tests}
 use Rattle.xl_lackey.specs.declared.line.Verdict.{Verdict}
-use Rattle.xl_lackey.specs.declared.line.Verdict.TheVariants.{Skipped, Found, Bad}
-use Rattle.xl_lackey.specs.Lines.{parted, in_front, judge, of_text, of_words, after, is_blank, is_remark, without_return}
-use Rattle.xl_lackey.specs.Stream.{onto, lines_of, items, with_verdict, next_line, Left}
+use Rattle.xl_lackey.specs.declared.line.Verdict.TheVariants.{Skipped, Bad}
+use Rattle.xl_lackey.specs.Lines.{parted, in_front, judge, of_text, of_words, after, is_blank, is_remark}
+use Rattle.xl_lackey.specs.Stream.{onto, lines_of, items, with_verdict, next_line}
 
 -- a line without a newline, at the front of other lines
 abbrev joined : List ℕ → List (List ℕ) → List (List ℕ)
@@ -40,7 +40,7 @@ lines_joined (b ∷ []) rest h k =
 lines_joined (b ∷ c ∷ l) rest h k =
     let no = no_newline b (c ∷ l) h in
     ap (λ (t : Bool). if t then ([] ∷ lines_of ((c ∷ l) ++ rest)) else onto b (lines_of ((c ∷ l) ++ rest))) no.0
-      ∙ ap (onto b) (lines_joined (c ∷ l) rest no.1 (omega arith)) ∙ more_bytes b (c ∷ l) (lines_of rest)
+    ∙ ap (onto b) (lines_joined (c ∷ l) rest no.1 (omega arith)) ∙ more_bytes b (c ∷ l) (lines_of rest)
 
 -- the last line, where no newline ends it
 pub last_line : (l : List ℕ) → parted 10 l ≡ None → 0 < length l → lines_of (l ++ []) ≡ l ∷ []
@@ -75,7 +75,7 @@ items_joined n a b c xs ys [] h k =
     ap (λ (v : Verdict). with_verdict (next_line n) v ([], None)) (judge_long a b c xs h ∙ sym (judge_long a b c ys k))
 items_joined n a b c xs ys (l ∷ ls) h k =
     ap (λ (v : Verdict). with_verdict (next_line n) v (items (next_line n) ls))
-      (judge_long a b c (xs ++ l) (omega (arith, length-append xs l)) ∙ sym (judge_long a b c (ys ++ l) (omega (arith, length-append ys l))))
+    (judge_long a b c (xs ++ l) (omega (arith, length-append xs l)) ∙ sym (judge_long a b c (ys ++ l) (omega (arith, length-append ys l))))
 
 parted_take : (n : ℕ) (l : List ℕ) → parted 10 l ≡ None → parted 10 (take n l) ≡ None
 parted_take zero l h = refl
@@ -83,7 +83,7 @@ parted_take (suc n) [] h = refl
 parted_take (suc n) (b ∷ bs) h =
     let no = no_newline b bs h in
     ap (λ (t : Bool). if t then Some ([], take n bs) else option_map (in_front b) (parted 10 (take n bs))) no.0
-      ∙ ap (option_map (in_front b)) (parted_take n bs no.1)
+    ∙ ap (option_map (in_front b)) (parted_take n bs no.1)
 
 let_long_go : (n : ℕ) (held rest : List ℕ) → parted 10 held ≡ None → 258 < length held
     → items n (lines_of (take 258 held ++ rest)) ≡ items n (lines_of (held ++ rest))
@@ -93,8 +93,8 @@ let_long_go n (a ∷ b ∷ []) rest h l = absurd (omega arith)
 let_long_go n (a ∷ b ∷ c ∷ xs) rest h l =
     let size : length (take 255 xs) ≡ 255 = length-take-le 255 xs (omega arith) in
     ap (items n) (lines_joined (take 258 (a ∷ b ∷ c ∷ xs)) rest (parted_take 258 (a ∷ b ∷ c ∷ xs) h) (omega arith))
-      ∙ items_joined n a b c (take 255 xs) xs (lines_of rest) (omega arith) (omega arith)
-      ∙ sym (ap (items n) (lines_joined (a ∷ b ∷ c ∷ xs) rest h (omega arith)))
+    ∙ items_joined n a b c (take 255 xs) xs (lines_of rest) (omega arith) (omega arith)
+    ∙ sym (ap (items n) (lines_joined (a ∷ b ∷ c ∷ xs) rest h (omega arith)))
 
 pub let_go : (n : ℕ) (held rest : List ℕ) → parted 10 held ≡ None → items n (lines_of (take 258 held ++ rest)) ≡ items n (lines_of (held ++ rest))
 let_go n held rest h = elim (cases_lt 258 (length held)) [ inl l ↦ let_long_go n held rest h l | inr l ↦ ap (λ (kept : List ℕ). items n (lines_of (kept ++ rest))) (take_all 258 held l) ]

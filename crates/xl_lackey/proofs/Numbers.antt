@@ -1,10 +1,10 @@
 -- Addresses and sizes from the left, one digit at a time.
-use Rattle.std.proofs.Common.{◌≡◌, ℕ, ◌+◌, ◌*◌, ◌^◌, ◌≤◌, ◌<◌, Bool, true, false, ◌&&◌, List, [], ◌∷◌, length, drop, suc, zero, refl, ap, arith, ◌∙◌, sym, inl, inr}
+use Rattle.std.proofs.Common.{◌≡◌, ℕ, ◌+◌, ◌*◌, ◌^◌, ◌≤◌, ◌<◌, Bool, true, false, ◌&&◌, List, [], ◌∷◌, length, suc, zero, refl, ap, arith, ◌∙◌, sym, inl, inr}
 use Rattle.std.specs.Prelude.{◌==◌, nat_le, if◌then◌else◌, Option, None, Some}
 use Rattle.std.specs.Option.{option_map, option_and_then}
 use Rattle.std.proofs.Math.Nat.{pow-le-pow_right, eq-or-lt_of_le}
 use Rattle.std.proofs.lemmas.Bool.Decides.{nat_tests}
-use Rattle.xl_lackey.specs.Lines.{front, hex_digit, hex_value, parted, in_front, address_of, before, with_rest, address_in}
+use Rattle.xl_lackey.specs.Lines.{front, hex_digit, hex_value, parted, in_front, before, with_rest, address_in}
 
 -- an address from the left: its value so far, and how many digits it has so far
 abbrev pub hex_at : ℕ → ℕ → List ℕ → Option (ℕ × List ℕ)
@@ -32,32 +32,32 @@ at_comma value (suc count) bs h =
     let e : is_length (suc count + length {A = ℕ} []) ≡ true = grind (arith, nat_tests) in
     let u : (suc count == 0) ≡ false = grind (arith, nat_tests) in
     ap (λ (t : Bool). if◌then◌else◌ {A = Option (ℕ × List ℕ)} t None (Some (value, bs))) u
-      ∙ sym (ap (λ (t : Bool). before bs (if t then Some value else None)) e)
+    ∙ sym (ap (λ (t : Bool). before bs (if t then Some value else None)) e)
 
 -- a digit before it, where it is one too many and where it isn't
 full : (value count d : ℕ) (ds rest : List ℕ) (on : Option (ℕ × List ℕ)) → count ≡ 16
     → (if count == 16 then None else on)
-      ≡ before rest (if is_length (count + suc (length ds)) then hex_value (value * 16 + d) ds else None)
+    ≡ before rest (if is_length (count + suc (length ds)) then hex_value (value * 16 + d) ds else None)
 full value count d ds rest on e =
     let t : is_length (count + suc (length ds)) ≡ false = grind (arith, nat_tests) in
     let u : (count == 16) ≡ true = grind (arith, nat_tests) in
     ap (λ (b : Bool). if b then None else on) u
-      ∙ sym (ap (λ (b : Bool). before rest (if b then hex_value (value * 16 + d) ds else None)) t)
+    ∙ sym (ap (λ (b : Bool). before rest (if b then hex_value (value * 16 + d) ds else None)) t)
 
 not_full : (value count d : ℕ) (ds rest : List ℕ) (on : Option (ℕ × List ℕ))
     → (count + 1 ≤ 16 → on ≡ ended (value * 16 + d) (count + 1) (ds, rest)) → count < 16
     → (if count == 16 then None else on)
-      ≡ before rest (if is_length (count + suc (length ds)) then hex_value (value * 16 + d) ds else None)
+    ≡ before rest (if is_length (count + suc (length ds)) then hex_value (value * 16 + d) ds else None)
 not_full value count d ds rest on h l =
     let u : (count == 16) ≡ false = grind (arith, nat_tests) in
     let e : count + 1 + length ds ≡ count + suc (length ds) = omega arith in
     ap (λ (b : Bool). if b then None else on) u ∙ h (omega arith)
-      ∙ ap (λ (n : ℕ). before rest (if is_length n then hex_value (value * 16 + d) ds else None)) e
+    ∙ ap (λ (n : ℕ). before rest (if is_length n then hex_value (value * 16 + d) ds else None)) e
 
 at_digit : (value count d : ℕ) (ds rest : List ℕ) (on : Option (ℕ × List ℕ))
     → (count + 1 ≤ 16 → on ≡ ended (value * 16 + d) (count + 1) (ds, rest)) → count ≤ 16
     → (if count == 16 then None else on)
-      ≡ before rest (if is_length (count + suc (length ds)) then hex_value (value * 16 + d) ds else None)
+    ≡ before rest (if is_length (count + suc (length ds)) then hex_value (value * 16 + d) ds else None)
 at_digit value count d ds rest on h k =
     elim (eq-or-lt_of_le {n = count} {m = 16} k) [ inl e ↦ full value count d ds rest on e | inr l ↦ not_full value count d ds rest on h l ]
 
@@ -80,25 +80,26 @@ none_on count on h k = elim (eq-or-lt_of_le {n = count} {m = 16} h) [ inl e ↦ 
 at_byte : (value count b : ℕ) (parts : Option (List ℕ × List ℕ)) (on : ℕ → Option (ℕ × List ℕ)) → count ≤ 16
     → ((d : ℕ) → count + 1 ≤ 16 → on d ≡ option_and_then (ended (value * 16 + d) (count + 1)) parts)
     → option_and_then (λ d. if count == 16 then None else on d) (hex_digit b)
-      ≡ option_and_then (ended value count) (option_map (in_front b) parts)
+    ≡ option_and_then (ended value count) (option_map (in_front b) parts)
 at_byte value count b None on h k =
     elim (hex_digit b) as (λ r. option_and_then (λ d. if count == 16 then None else on d) r ≡ None)
     [ None ↦ refl | Some d ↦ none_on count (on d) h (k d) ]
 at_byte value count b (Some parts) on h k =
     elim (hex_digit b) as (λ r. option_and_then (λ d. if count == 16 then None else on d) r
-        ≡ before parts.1 (if is_length (count + suc (length parts.0)) then option_and_then (λ d. hex_value (value * 16 + d) parts.0) r else None))
-    [ None ↦ sym (none_either (is_length (count + suc (length parts.0))) parts.1)
-    | Some d ↦ at_digit value count d parts.0 parts.1 (on d) (k d) h ]
+    ≡ before parts.1 (if is_length (count + suc (length parts.0)) then option_and_then (λ d. hex_value (value * 16 + d) parts.0) r else None)) [
+      | None ↦ sym (none_either (is_length (count + suc (length parts.0))) parts.1)
+      | Some d ↦ at_digit value count d parts.0 parts.1 (on d) (k d) h
+    ]
 
 pub hex_at_is : (bs : List ℕ) (value count : ℕ) → count ≤ 16 → hex_at value count bs ≡ option_and_then (ended value count) (parted 44 bs)
 hex_at_is [] value count h = refl
 hex_at_is (b ∷ bs) value count h =
     let step = at_byte value count b (parted 44 bs) (λ d. hex_at (value * 16 + d) (count + 1) bs) h
-        (λ d k. hex_at_is bs (value * 16 + d) (count + 1) k) in
+    (λ d k. hex_at_is bs (value * 16 + d) (count + 1) k) in
     elim (b == 44) as (λ t.
-        (if t then (if count == 0 then None else Some (value, bs))
-          else option_and_then (λ d. if count == 16 then None else hex_at (value * 16 + d) (count + 1) bs) (hex_digit b))
-        ≡ option_and_then (ended value count) (if t then Some ([], bs) else option_map (in_front b) (parted 44 bs)))
+    (if t then (if count == 0 then None else Some (value, bs))
+    else option_and_then (λ d. if count == 16 then None else hex_at (value * 16 + d) (count + 1) bs) (hex_digit b))
+    ≡ option_and_then (ended value count) (if t then Some ([], bs) else option_map (in_front b) (parted 44 bs)))
     [ true ↦ at_comma value count bs h | false ↦ step ]
 
 with_rest_is : (parts : Option (List ℕ × List ℕ)) → option_and_then (ended 0 0) parts ≡ option_and_then with_rest parts

@@ -1,6 +1,6 @@
 -- Where the accesses of a reference stand in their list.
-use Rattle.std.proofs.Common.{◌≡◌, ℕ, ◌+◌, ◌-◌, ◌*◌, ◌/◌, ◌≤◌, ◌<◌, List, [], ◌∷◌, ◌++◌, length, suc, zero, refl, ap, arith, ◌∙◌, sym}
-use Rattle.std.specs.Prelude.{Option, None, Some, slice_get}
+use Rattle.std.proofs.Common.{◌≡◌, ℕ, ◌+◌, ◌*◌, ◌/◌, ◌≤◌, ◌<◌, List, [], ◌∷◌, ◌++◌, length, suc, zero, refl, ap, arith, ◌∙◌, sym}
+use Rattle.std.specs.Prelude.{None, Some, slice_get}
 use Rattle.xl_model.specs.declared.address.Kind.{Kind}
 use Rattle.xl_lackey.specs.Accesses.{starts, places, each, borders}
 
@@ -52,4 +52,4 @@ get_second_going a b addr size i j h =
     let e = length_starts a (borders addr size) (addr / 4096 + 1) in
     let k : length (each a (places addr size)) + j ≡ i = omega arith in
     sym (get_back (each a (places addr size)) (each b (places addr size)) j)
-      ∙ ap (slice_get (each a (places addr size) ++ each b (places addr size))) k
+    ∙ ap (slice_get (each a (places addr size) ++ each b (places addr size))) k

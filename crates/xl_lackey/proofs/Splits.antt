@@ -1,9 +1,9 @@
 -- A text and the first line that a newline ends in it.
-use Rattle.std.proofs.Common.{◌≡◌, ◌≢◌, ℕ, ◌+◌, ◌-◌, ◌*◌, ◌≤◌, ◌<◌, Bool, true, false, List, [], ◌∷◌, ◌++◌, length, take, drop, suc, zero, refl, ap, arith, ◌∙◌, sym, subst}
+use Rattle.std.proofs.Common.{◌≡◌, ◌≢◌, ℕ, ◌+◌, ◌-◌, ◌≤◌, ◌<◌, Bool, true, false, List, [], ◌∷◌, ◌++◌, length, take, drop, suc, zero, refl, ap, arith, ◌∙◌, sym, subst}
 use Rattle.std.specs.Prelude.{Option, None, Some, ◌==◌, if◌then◌else◌, slice_index}
 use Rattle.std.specs.Option.{option_map}
 use Rattle.std.proofs.lemmas.List.{take_rest, length-take-le, drop-drop}
-use Rattle.memchr.specs.Find.{IsFirstByte, is_byte, Nowhere, NoneBefore, Passes}
+use Rattle.memchr.specs.Find.{IsFirstByte, is_byte}
 use Rattle.xl_lackey.specs.declared.line.Verdict.{Verdict}
 use Rattle.xl_lackey.specs.declared.line.Verdict.TheVariants.{Skipped, Found, Bad}
 use Rattle.xl_lackey.specs.Lines.{parted, in_front, judge}
@@ -85,14 +85,14 @@ some_first (b ∷ bs) (suc at) h e before =
     let on = some_first bs at (omega arith) e (λ k l. before (suc k) (omega arith)) in
     let s : suc at + 1 ≡ suc (at + 1) = omega arith in
     ap (λ (t : Bool). if t then Some ([], bs) else option_map (in_front b) (parted 10 bs)) no
-      ∙ ap (option_map (in_front b)) on ∙ rw s refl
+    ∙ ap (option_map (in_front b)) on ∙ rw s refl
 
 none_first : (text : List ℕ) → ((k : ℕ) → k < length text → ¬ ((slice_index text k == 10) ≡ true)) → parted 10 text ≡ None
 none_first [] before = refl
 none_first (b ∷ bs) before =
     let no : (b == 10) ≡ false = false_of_not (b == 10) (before 0 (omega arith)) in
     ap (λ (t : Bool). if t then Some ([], bs) else option_map (in_front b) (parted 10 bs)) no
-      ∙ ap (option_map (in_front b)) (none_first bs (λ k l. before (suc k) (omega arith)))
+    ∙ ap (option_map (in_front b)) (none_first bs (λ k l. before (suc k) (omega arith)))
 
 pub line_none : (text : List ℕ) (from : ℕ) → IsFirstByte (is_byte 10) (take (length text - from) (drop from text)) None
     → None ≡ parted 10 (drop from text)
@@ -109,5 +109,5 @@ line_some text from at h first =
     let part = some_first hay at first.0.high first.1 (λ k l. first.0.before k (omega arith) l) in
     let size : length (take at hay) ≡ at = length-take-le at hay (omega (arith, first.0.high)) in
     let tail : drop (from + (length (take at hay) + 1)) text ≡ drop (at + 1) hay =
-        ap (λ (n : ℕ). drop (from + (n + 1)) text) size ∙ sym (drop-drop (at + 1) from text) ∙ sym (ap (drop (at + 1)) e) in
+    ap (λ (n : ℕ). drop (from + (n + 1)) text) size ∙ sym (drop-drop (at + 1) from text) ∙ sym (ap (drop (at + 1)) e) in
     ap (λ (t : List ℕ). Some (take at hay, t)) tail ∙ sym part ∙ ap (parted 10) e

@@ -1,17 +1,17 @@
 -- What the steps of a reader do to what is left for it.
-use Rattle.std.proofs.Common.{◌≡◌, ◌≢◌, ℕ, ◌+◌, ◌-◌, ◌≤◌, ◌<◌, Bool, true, false, List, [], ◌∷◌, ◌++◌, length, take, drop, min, suc, zero, refl, ap, ap₂, arith, ◌∙◌, sym, subst, inl, inr}
+use Rattle.std.proofs.Common.{◌≡◌, ℕ, ◌+◌, ◌-◌, ◌≤◌, ◌<◌, true, List, [], ◌++◌, length, take, drop, min, ap, ap₂, arith, ◌∙◌, sym, subst, inl, inr}
 use Rattle.std.specs.Prelude.{Option, None, Some}
 use Rattle.std.proofs.lemmas.Bool.{cases_lt}
 use Rattle.std.proofs.lemmas.List.{take-take, take_all, drop-take, drop_all, take-append-le, length-take, length-take-le, length-drop}
 use Rattle.std.specs.List.{copy_within}
 use Rattle.xl_lackey.specs.declared.fault.Fault.{Fault}
 use Rattle.xl_lackey.specs.declared.line.Verdict.{Verdict}
-use Rattle.xl_lackey.specs.declared.line.Verdict.TheVariants.{Skipped, Found, Bad}
+use Rattle.xl_lackey.specs.declared.line.Verdict.TheVariants.{Skipped, Bad}
 use Rattle.xl_lackey.specs.declared.next.Next.{Next}
 use Rattle.xl_lackey.specs.declared.next.Next.TheVariants as answer
 use Rattle.xl_lackey.specs.Lines.{parted, judge}
-use Rattle.xl_lackey.specs.Stream.{State, Item, Left, left, left_of, lines_of, items, with_verdict, next_line, MayCome}
-use Rattle.xl_lackey.specs.Answers.{Answers, Gives, Waits, Ends, Refuses, with_item, item_of}
+use Rattle.xl_lackey.specs.Stream.{State, Item, Left, left, left_of, lines_of, items, with_verdict, next_line}
+use Rattle.xl_lackey.specs.Answers.{Answers, Gives, Ends, Refuses, with_item}
 use Rattle.xl_lackey.proofs.Long.{last_line, let_go}
 
 take_short : (m n : ℕ) (l : List ℕ) → m < n → take (min n m) l ≡ take m (take n l)
@@ -39,16 +39,16 @@ pub left_passed : (s t : State) (text : List ℕ) (before used n : ℕ) (v : Ver
     → t ≡ record s { lines = n; held = drop used s.held } → (rest : List ℕ) → left s rest ≡ with_verdict n v (left t rest)
 left_passed s t text before used n v h a b reads e rest =
     left_good s rest h
-      ∙ sym (ap₂ (λ (m : ℕ) (bs : List ℕ). items m (lines_of (bs ++ rest))) b a)
-      ∙ reads rest
-      ∙ ap (λ (bs : List ℕ). with_verdict n v (items n (lines_of (drop used bs ++ rest)))) a
-      ∙ sym (ap (with_verdict n v) (ap (λ (u : State). left u rest) e ∙ ap (λ (c : Option Fault). left_of c n (drop used s.held ++ rest)) h))
+    ∙ sym (ap₂ (λ (m : ℕ) (bs : List ℕ). items m (lines_of (bs ++ rest))) b a)
+    ∙ reads rest
+    ∙ ap (λ (bs : List ℕ). with_verdict n v (items n (lines_of (drop used bs ++ rest)))) a
+    ∙ sym (ap (with_verdict n v) (ap (λ (u : State). left u rest) e ∙ ap (λ (c : Option Fault). left_of c n (drop used s.held ++ rest)) h))
 
 -- bytes of a long line that are let go
 pub left_kept : (s t : State) → s.bad ≡ None → parted 10 s.held ≡ None → t ≡ record s { held = take 258 s.held } → (rest : List ℕ) → left t rest ≡ left s rest
 left_kept s t h none e rest =
     ap (λ (u : State). left u rest) e ∙ ap (λ (b : Option Fault). left_of b s.lines (take 258 s.held ++ rest)) h
-      ∙ let_go s.lines s.held rest none ∙ sym (left_good s rest h)
+    ∙ let_go s.lines s.held rest none ∙ sym (left_good s rest h)
 
 -- the last line
 pub left_last : (s : State) (n : ℕ) (v : Verdict) → s.bad ≡ None → parted 10 s.held ≡ None → 0 < length s.held → v ≡ judge s.held → n ≡ next_line s.lines
@@ -60,28 +60,28 @@ left_last s n v h none k e f =
 pub answers_on : (r : Next) (old mid new : State) → ((rest : List ℕ) → left old rest ≡ left mid rest) → mid.finished ≡ old.finished
     → length mid.held ≤ length old.held → Answers r mid new → Answers r old new
 answers_on (answer.Found r) old mid new same f k h = record {
-    reads = λ rest m. same rest ∙ h.reads rest (λ q. m (sym f ∙ q));
-    fewer = omega (arith, h.fewer);
-    finished = h.finished ∙ f;
-    good = h.good;
+  reads = λ rest m. same rest ∙ h.reads rest (λ q. m (sym f ∙ q));
+  fewer = omega (arith, h.fewer);
+  finished = h.finished ∙ f;
+  good = h.good;
 }
 answers_on answer.More old mid new same f k h = record {
-    reads = λ rest. h.reads rest ∙ sym (same rest);
-    unfinished = h.unfinished;
-    good = h.good;
-    room = h.room;
+  reads = λ rest. h.reads rest ∙ sym (same rest);
+  unfinished = h.unfinished;
+  good = h.good;
+  room = h.room;
 }
 answers_on answer.End old mid new same f k h = record {
-    finished = sym f ∙ h.finished;
-    reads = same [] ∙ h.reads;
-    stays = h.stays;
-    still = h.still;
+  finished = sym f ∙ h.finished;
+  reads = same [] ∙ h.reads;
+  stays = h.stays;
+  still = h.still;
 }
 answers_on (answer.BadLine n why) old mid new same f k h = record {
-    reads = λ rest m. same rest ∙ h.reads rest (λ q. m (sym f ∙ q));
-    stays = h.stays;
-    kept = h.kept;
-    finished = h.finished ∙ f;
+  reads = λ rest m. same rest ∙ h.reads rest (λ q. m (sym f ∙ q));
+  stays = h.stays;
+  kept = h.kept;
+  finished = h.finished ∙ f;
 }
 
 -- the last line, judged: nothing comes after it
@@ -91,41 +91,41 @@ passed s n = record s { lines = n; held = drop (length s.held) s.held }
 left_emptied : (s t : State) (n : ℕ) → s.bad ≡ None → t ≡ passed s n → left t [] ≡ ([], None)
 left_emptied s t n h p =
     ap (λ (u : State). left u []) p ∙ ap (λ (c : Option Fault). left_of c n (drop (length s.held) s.held ++ [])) h
-      ∙ ap (λ (bs : List ℕ). items n (lines_of (bs ++ []))) (drop_all (length s.held) s.held (omega arith))
+    ∙ ap (λ (bs : List ℕ). items n (lines_of (bs ++ []))) (drop_all (length s.held) s.held (omega arith))
 
 pub last_skipped : (s t : State) (n : ℕ) → s.bad ≡ None → s.finished ≡ true → parted 10 s.held ≡ None → 0 < length s.held
     → Skipped ≡ judge s.held → n ≡ next_line s.lines → t ≡ passed s n → Ends s t
 last_skipped s t n h w none k e f p = record {
-    finished = w;
-    reads = left_last s n Skipped h none k e f;
-    stays = left_emptied s t n h p;
-    still = ap (λ (u : State). u.finished) p ∙ w;
+  finished = w;
+  reads = left_last s n Skipped h none k e f;
+  stays = left_emptied s t n h p;
+  still = ap (λ (u : State). u.finished) p ∙ w;
 }
 
 pub last_found : (s t : State) (n : ℕ) (v : Verdict) (r : Item) → s.bad ≡ None → s.finished ≡ true → parted 10 s.held ≡ None → 0 < length s.held
     → v ≡ judge s.held → n ≡ next_line s.lines → t ≡ passed s n
     → ((later : Left) → with_verdict n v later ≡ with_item r later) → Gives r s t
 last_found s t n v r h w none k e f p same = record {
-    reads = λ rest m.
-        let P : List ℕ → Type 0 = λ bs. left s bs ≡ with_item r (left t bs) in
-        subst P (sym (m w)) (left_last s n v h none k e f ∙ same ([], None) ∙ sym (ap (with_item r) (left_emptied s t n h p)));
-    fewer =
-        let size : length t.held ≡ length (drop (length s.held) s.held) = ap (λ (u : State). length u.held) p in
-        omega (arith, size, length-drop (length s.held) s.held);
-    finished = ap (λ (u : State). u.finished) p;
-    good = ap (λ (u : State). u.bad) p ∙ h;
+  reads = λ rest m.
+      let P : List ℕ → Type 0 = λ bs. left s bs ≡ with_item r (left t bs) in
+      subst P (sym (m w)) (left_last s n v h none k e f ∙ same ([], None) ∙ sym (ap (with_item r) (left_emptied s t n h p)));
+  fewer =
+      let size : length t.held ≡ length (drop (length s.held) s.held) = ap (λ (u : State). length u.held) p in
+      omega (arith, size, length-drop (length s.held) s.held);
+  finished = ap (λ (u : State). u.finished) p;
+  good = ap (λ (u : State). u.bad) p ∙ h;
 }
 
 pub last_bad : (s t u : State) (n why : ℕ) → s.bad ≡ None → s.finished ≡ true → parted 10 s.held ≡ None → 0 < length s.held
     → Bad why ≡ judge s.held → n ≡ next_line s.lines → t ≡ passed s n → u ≡ record t { bad = Some (record { line = n; reason = why }) }
     → Refuses (record { line = n; reason = why }) s u
 last_bad s t u n why h w none k e f p q = record {
-    reads = λ rest m.
-        let P : List ℕ → Type 0 = λ bs. left s bs ≡ ([], Some (record { line = n; reason = why })) in
-        subst P (sym (m w)) (left_last s n (Bad why) h none k e f);
-    stays = λ rest. ap (λ (x : State). left x rest) q;
-    kept = ap (λ (x : State). x.bad) q;
-    finished = ap (λ (x : State). x.finished) q ∙ ap (λ (x : State). x.finished) p;
+  reads = λ rest m.
+      let P : List ℕ → Type 0 = λ bs. left s bs ≡ ([], Some (record { line = n; reason = why })) in
+      subst P (sym (m w)) (left_last s n (Bad why) h none k e f);
+  stays = λ rest. ap (λ (x : State). left x rest) q;
+  kept = ap (λ (x : State). x.bad) q;
+  finished = ap (λ (x : State). x.finished) q ∙ ap (λ (x : State). x.finished) p;
 }
 
 -- bytes moved to the front
@@ -135,7 +135,7 @@ shifted xs i j h k =
     let size : length (take n (drop i xs)) ≡ n = length-take-le n (drop i xs) (omega (arith, length-drop i xs)) in
     let e : i + n ≡ j = omega arith in
     take-append-le n (take n (drop i xs)) (drop (0 + n) xs) (omega arith) ∙ take-take n n (drop i xs) (omega arith)
-      ∙ sym (drop-take i n xs) ∙ ap (λ (m : ℕ). drop i (take m xs)) e
+    ∙ sym (drop-take i n xs) ∙ ap (λ (m : ℕ). drop i (take m xs)) e
 
 -- all bytes held are passed
 pub emptied : (s t : State) (used n : ℕ) → used ≡ length s.held → t ≡ record s { lines = n; held = drop used s.held } → t ≡ passed s n

@@ -1,5 +1,5 @@
 -- The accesses of a reference: one for each 4 KiB page that its bytes touch, in rising order.
-use Rattle.std.specs.Prelude.{ℕ, zero, suc, ◌+◌, ◌-◌, ◌*◌, ◌/◌, max, List, [], ◌∷◌, ◌++◌, map}
+use Rattle.std.specs.Prelude.{ℕ, zero, suc, ◌+◌, ◌-◌, ◌*◌, ◌/◌, max, List, [], ◌∷◌, ◌++◌}
 use Rattle.xl_model.specs.declared.address.Kind.{Kind}
 use Rattle.xl_model.specs.declared.address.Kind.TheVariants.{Fetch, Load, Store}
 use Rattle.xl_lackey.specs.declared.reference.Letter.{Letter}

@@ -1,5 +1,5 @@
 -- What an answer of a reader says of what is left for it, before and after.
-use Rattle.std.specs.Prelude.{◌≡◌, ℕ, ◌<◌, ◌≤◌, true, false, List, [], ◌∷◌, length, Option, None, Some}
+use Rattle.std.specs.Prelude.{◌≡◌, ℕ, ◌<◌, ◌≤◌, true, false, List, [], ◌∷◌, length, None, Some}
 use Rattle.xl_lackey.specs.declared.reference.Reference.{Reference}
 use Rattle.xl_lackey.specs.declared.fault.Fault.{Fault}
 use Rattle.xl_lackey.specs.declared.next.Next.{Next}

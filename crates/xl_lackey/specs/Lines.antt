@@ -1,6 +1,6 @@
 -- One line of a Lackey trace, without the newline that ends it (Valgrind manual, Lackey, `--trace-mem=yes`).
 -- A blank is a space (32) or a tab (9). `#` is 35, `,` is 44.
-use Rattle.std.specs.Prelude.{ℕ, ◌+◌, ◌-◌, ◌*◌, ◌^◌, ◌<◌, ◌≤◌, ◌==◌, ◌&&◌, ◌||◌, nat_le, nat_lt, max, Bool, true, false, List, [], ◌∷◌, length, take, drop, slice_index, codes, if◌then◌else◌, Option, None, Some}
+use Rattle.std.specs.Prelude.{ℕ, ◌+◌, ◌-◌, ◌*◌, ◌^◌, ◌≤◌, ◌==◌, ◌&&◌, ◌||◌, nat_le, nat_lt, max, Bool, true, List, [], ◌∷◌, length, take, drop, slice_index, codes, if◌then◌else◌, Option, None, Some}
 use Rattle.std.specs.Option.{option_map, option_and_then}
 use Rattle.std.specs.List.{starts_with}
 use Rattle.xl_lackey.specs.declared.reference.Letter.{Letter}
@@ -22,6 +22,7 @@ is_digit b = nat_le 48 b && nat_le b 57
 abbrev pub front : (ℕ → Bool) → List ℕ → List ℕ
 front test [] = []
 front test (b ∷ bs) = if test b then b ∷ front test bs else []
+
 abbrev pub after : (ℕ → Bool) → List ℕ → List ℕ
 after test [] = []
 after test (b ∷ bs) = if test b then after test bs else (b ∷ bs)
@@ -34,7 +35,7 @@ without_return line = if slice_index line (length line - 1) == 13 then take (len
 abbrev pub is_remark : List ℕ → Bool
 is_remark text =
     starts_with ◌==◌ text (codes "==") || starts_with ◌==◌ text (codes "--") || starts_with ◌==◌ text (codes "**")
-      || starts_with ◌==◌ text (codes "SB ") || starts_with ◌==◌ text (codes "#")
+    || starts_with ◌==◌ text (codes "SB ") || starts_with ◌==◌ text (codes "#")
 
 abbrev pub letter_of : ℕ → Option Letter
 letter_of b =
@@ -61,6 +62,7 @@ decimal_value value (b ∷ bs) = decimal_value (value * 10 + (b - 48)) bs
 -- what stands before the first byte of a kind and after it; None where there is none
 abbrev pub in_front : ℕ → List ℕ × List ℕ → List ℕ × List ℕ
 in_front b parts = (b ∷ parts.0, parts.1)
+
 abbrev pub parted : ℕ → List ℕ → Option (List ℕ × List ℕ)
 parted kind [] = None
 parted kind (b ∷ bs) = if b == kind then Some ([], bs) else option_map (in_front b) (parted kind bs)
@@ -73,8 +75,10 @@ address_of digits = if nat_le 1 (length digits) && nat_le (length digits) 16 the
 abbrev pub before : List ℕ → Option ℕ → Option (ℕ × List ℕ)
 before text None = None
 before text (Some addr) = Some (addr, text)
+
 abbrev pub with_rest : List ℕ × List ℕ → Option (ℕ × List ℕ)
 with_rest parts = before parts.1 (address_of parts.0)
+
 abbrev pub address_in : List ℕ → Option (ℕ × List ℕ)
 address_in text = option_and_then with_rest (parted 44 text)
 

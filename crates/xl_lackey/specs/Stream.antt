@@ -1,5 +1,5 @@
 -- The records of a trace, read from its bytes, and what a reader of it stands at.
-use Rattle.std.specs.Prelude.{◌≡◌, ℕ, ◌+◌, ◌%◌, ◌^◌, ◌<◌, ◌≤◌, ◌==◌, Bool, true, false, List, [], ◌∷◌, ◌++◌, length, if◌then◌else◌, Option, None, Some}
+use Rattle.std.specs.Prelude.{◌≡◌, ℕ, ◌+◌, ◌%◌, ◌^◌, ◌==◌, Bool, true, false, List, [], ◌∷◌, ◌++◌, if◌then◌else◌, Option, None, Some}
 use Rattle.xl_lackey.specs.declared.reference.Letter.{Letter}
 use Rattle.xl_lackey.specs.declared.line.Verdict.{Verdict}
 use Rattle.xl_lackey.specs.declared.line.Verdict.TheVariants.{Skipped, Found, Bad}
@@ -10,6 +10,7 @@ use Rattle.xl_lackey.specs.Lines.{judge}
 abbrev pub onto : ℕ → List (List ℕ) → List (List ℕ)
 onto b [] = (b ∷ []) ∷ []
 onto b (line ∷ lines) = (b ∷ line) ∷ lines
+
 abbrev pub lines_of : List ℕ → List (List ℕ)
 lines_of [] = []
 lines_of (b ∷ bs) = if b == 10 then ([] ∷ lines_of bs) else onto b (lines_of bs)
@@ -18,6 +19,7 @@ lines_of (b ∷ bs) = if b == 10 then ([] ∷ lines_of bs) else onto b (lines_of
 abbrev pub onto_ended : ℕ → List (List ℕ) → List (List ℕ)
 onto_ended b [] = []
 onto_ended b (line ∷ lines) = (b ∷ line) ∷ lines
+
 abbrev pub ended_lines : List ℕ → List (List ℕ)
 ended_lines [] = []
 ended_lines (b ∷ bs) = if b == 10 then ([] ∷ ended_lines bs) else onto_ended b (ended_lines bs)
@@ -57,6 +59,7 @@ abbrev pub of_due : ℕ → Verdict → ℕ × Verdict → ℕ × Verdict
 of_due n Skipped later = later
 of_due n (Found l a s) later = (n, Found l a s)
 of_due n (Bad why) later = (n, Bad why)
+
 abbrev pub first_due : ℕ → List (List ℕ) → ℕ × Verdict
 first_due n [] = (n, Skipped)
 first_due n (line ∷ lines) = of_due (next_line n) (judge line) (first_due (next_line n) lines)
@@ -77,6 +80,7 @@ fresh = record { lines = 0; held = []; finished = false; bad = None }
 abbrev pub left_of : Option Fault → ℕ → List ℕ → Left
 left_of None n bytes = items n (lines_of bytes)
 left_of (Some fault) n bytes = ([], Some fault)
+
 abbrev pub left : State → List ℕ → Left
 left s rest = left_of s.bad s.lines (s.held ++ rest)
 

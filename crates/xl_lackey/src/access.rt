@@ -3,9 +3,8 @@
 ghost use Rattle.std.specs.Prelude.{◌≡◌, ℕ, ◌+◌, ◌*◌, ◌/◌, ◌^◌, ◌<◌, ◌≤◌, slice_get};
 ghost use Rattle.xl_lackey.specs.Accesses.{borders as borders_of, places, each, accesses};
 
-use xl_model::Kind;
-
 use crate::reference::{Letter, Reference};
+use xl_model::Kind;
 
 /// The bytes of a page.
 const PAGE: u64 = 4096;

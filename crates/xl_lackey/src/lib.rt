@@ -14,3 +14,6 @@ pub use access::nth_access;
 pub use next::Next;
 pub use reader::Reader;
 pub use reference::{Letter, Reference};
+
+#[cfg(test)]
+mod tests;

@@ -13,9 +13,15 @@ pub(crate) enum Verdict {
     /// No record, and no fault.
     Skipped,
     /// A record.
-    Found { letter: Letter, addr: u64, size: u32 },
+    Found {
+        letter: Letter,
+        addr: u64,
+        size: u32,
+    },
     /// Outside the grammar, for the first reason that holds.
-    Bad { reason: u8 },
+    Bad {
+        reason: u8,
+    },
 }
 
 /// The most bytes of a line that isn't skipped by its first bytes.

@@ -5,16 +5,14 @@ ghost use Rattle.xl_lackey.specs.Lines.{parted, IsProper};
 ghost use Rattle.xl_lackey.specs.Stream.{fresh, left, records_of, IsWaiting};
 ghost use Rattle.xl_lackey.specs.Answers.{Answers};
 
-use std::alloc::Global;
-use std::marker::Model;
-
-use xl_model::NoMemory;
-
 use crate::fault::Fault;
 use crate::line::{Verdict, judge};
 use crate::next::Next;
 use crate::reference::Reference;
 use crate::scan::read_lines;
+use std::alloc::Global;
+use std::marker::Model;
+use xl_model::NoMemory;
 
 /// How many bytes a reader holds at most.
 const ROOM: usize = 65536;

@@ -5,9 +5,8 @@ ghost use Rattle.std.specs.Option.{option_map};
 ghost use Rattle.xl_lackey.specs.Lines.{parted, IsProper};
 ghost use Rattle.xl_lackey.specs.Stream.{ended_lines, first_due, lines_of, items, with_verdict};
 
-use memchr::memchr;
-
 use crate::line::{Verdict, judge};
+use memchr::memchr;
 
 /// How far the lines of a text were read: up to its first line that isn't skipped, or over all that a
 /// newline ends.
@@ -37,7 +36,11 @@ pub(crate) fn read_lines(text: &[u8], before: u64) -> Scan
         lines = lines.wrapping_add(1);
         match judge(line) {
             Verdict::Skipped => {}
-            verdict => return Scan { used, lines, verdict },
+            verdict => return Scan {
+                used,
+                lines,
+                verdict,
+            },
         }
     }
     Scan {

@@ -1,7 +1,7 @@
-use Rattle.std.proofs.Common.{◌≡◌, ℕ, ◌+◌, ◌%◌, ◌^◌, drop, length, arith, sym, ap, ◌∙◌, refl}
+use Rattle.std.proofs.Common.{◌≡◌, ◌+◌, drop, length, arith, sym, ap, ◌∙◌, refl}
 use Rattle.std.specs.Prelude.{None}
 use Rattle.xl_lackey.specs.Lines.{parted}
-use Rattle.xl_lackey.specs.Stream.{ended_lines, first_due, lines_of, items, next_line}
+use Rattle.xl_lackey.specs.Stream.{ended_lines, first_due, next_line}
 use Rattle.xl_lackey.proofs.Splits.{due_step, items_step, due_found, ended_none}
 use Rattle.xl_lackey.proofs.scan.read_lines.Goals as goal
 
@@ -11,24 +11,24 @@ loop-line-preserved c =
     let n = c.loop-line.lines in
     let after = drop (c.loop-line.used + (length c.in-Some.line.now + 1)) text in
     let verdict = sym c.in-Skipped.is ∙ c.judge.ensures.value in record {
-    within = omega (arith, c.in-Some.ensures.within);
-    first = due_step n _ (drop c.loop-line.used text) c.in-Some.line.now after _ _ (sym c.in-Some.ensures.line) c.loop-line.invariant.first refl verdict;
-    reads = λ rest. items_step n _ (drop c.loop-line.used text) rest c.in-Some.line.now after _ _ (sym c.in-Some.ensures.line) (c.loop-line.invariant.reads rest) refl verdict;
-}
+      within = omega (arith, c.in-Some.ensures.within);
+      first = due_step n _ (drop c.loop-line.used text) c.in-Some.line.now after _ _ (sym c.in-Some.ensures.line) c.loop-line.invariant.first refl verdict;
+      reads = λ rest. items_step n _ (drop c.loop-line.used text) rest c.in-Some.line.now after _ _ (sym c.in-Some.ensures.line) (c.loop-line.invariant.reads rest) refl verdict;
+    }
 
 pub returns-in_default-judge : goal.returns-in_default-judge
 returns-in_default-judge c =
     let text = c.args.text.now in
     let n = c.loop-line.lines in
     let after = drop (c.loop-line.used + (length c.in-Some.line.now + 1)) text in record {
-    within = omega (arith, c.in-Some.ensures.within);
-    first = sym (due_found (next_line n) c.judge.result (first_due (next_line n) (ended_lines after)) c.in_default-judge.not-Skipped)
-        ∙ due_step n _ (drop c.loop-line.used text) c.in-Some.line.now after c.judge.result _ (sym c.in-Some.ensures.line) c.loop-line.invariant.first refl c.judge.ensures.value;
-    proper = c.judge.ensures.proper;
-    reads = λ rest. sym (items_step n _ (drop c.loop-line.used text) rest c.in-Some.line.now after c.judge.result _ (sym c.in-Some.ensures.line) (c.loop-line.invariant.reads rest) refl c.judge.ensures.value);
-    takes = λ h. omega arith;
-    ends = λ h. absurd (c.in_default-judge.not-Skipped h);
-}
+      within = omega (arith, c.in-Some.ensures.within);
+      first = sym (due_found (next_line n) c.judge.result (first_due (next_line n) (ended_lines after)) c.in_default-judge.not-Skipped)
+          ∙ due_step n _ (drop c.loop-line.used text) c.in-Some.line.now after c.judge.result _ (sym c.in-Some.ensures.line) c.loop-line.invariant.first refl c.judge.ensures.value;
+      proper = c.judge.ensures.proper;
+      reads = λ rest. sym (items_step n _ (drop c.loop-line.used text) rest c.in-Some.line.now after c.judge.result _ (sym c.in-Some.ensures.line) (c.loop-line.invariant.reads rest) refl c.judge.ensures.value);
+      takes = λ h. omega arith;
+      ends = λ h. absurd (c.in_default-judge.not-Skipped h);
+    }
 
 pub returns-clause-first : goal.returns-clause-first
 returns-clause-first c =

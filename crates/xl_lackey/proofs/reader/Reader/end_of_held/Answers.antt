@@ -7,8 +7,8 @@ pub returns-else-is_finished-clause-answers : goal.returns-else-is_finished-clau
 returns-else-is_finished-clause-answers c =
     let e = c.keep_telling.ensures in
     let size = ap (λ (u : State). length u.held) e in record {
-    reads = left_kept c.args.self.now c.keep_telling.new.self c.requires.good c.requires.no_newline e;
-    unfinished = ap (λ (u : State). u.finished) e ∙ sym c.is_finished.ensures ∙ c.if-is_finished.false;
-    good = ap (λ (u : State). u.bad) e ∙ c.requires.good;
-    room = omega (arith, size, length-take 258 c.args.self.now.held);
-}
+      reads = left_kept c.args.self.now c.keep_telling.new.self c.requires.good c.requires.no_newline e;
+      unfinished = ap (λ (u : State). u.finished) e ∙ sym c.is_finished.ensures ∙ c.if-is_finished.false;
+      good = ap (λ (u : State). u.bad) e ∙ c.requires.good;
+      room = omega (arith, size, length-take 258 c.args.self.now.held);
+    }

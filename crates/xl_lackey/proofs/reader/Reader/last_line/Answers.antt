@@ -1,7 +1,7 @@
-use Rattle.std.proofs.Common.{◌≡◌, ◌<◌, ℕ, ap, ◌∙◌, sym, arith, length, drop, refl}
-use Rattle.xl_lackey.specs.declared.line.Verdict.TheVariants.{Skipped, Found, Bad}
+use Rattle.std.proofs.Common.{ap, ◌∙◌, sym, arith, length, refl}
+use Rattle.xl_lackey.specs.declared.line.Verdict.TheVariants.{Found}
 use Rattle.xl_lackey.specs.Lines.{judge}
-use Rattle.xl_lackey.specs.Stream.{State, next_line}
+use Rattle.xl_lackey.specs.Stream.{next_line}
 use Rattle.xl_lackey.proofs.Steps.{last_skipped, last_found, last_bad, emptied}
 use Rattle.xl_lackey.proofs.reader.Reader.last_line.Goals as goal
 
@@ -10,23 +10,23 @@ returns-in-Skipped-clause-answers c =
     let s = c.args.self.now in
     let size = ap length c.held-count.ensures.value in
     last_skipped s c.pass.new.self (next_line c.lines-line.result) c.requires.good c.requires.finished c.requires.no_newline (omega arith)
-      (sym c.in-Skipped.is ∙ c.judge-verdict.ensures.value ∙ ap judge c.held.ensures.value) (ap next_line c.lines-line.ensures)
-      (emptied s c.pass.new.self _ _ size c.pass.ensures)
+    (sym c.in-Skipped.is ∙ c.judge-verdict.ensures.value ∙ ap judge c.held.ensures.value) (ap next_line c.lines-line.ensures)
+    (emptied s c.pass.new.self _ _ size c.pass.ensures)
 
 pub returns-in-Found-clause-answers : goal.returns-in-Found-clause-answers
 returns-in-Found-clause-answers c =
     let s = c.args.self.now in
     let size = ap length c.held-count.ensures.value in
     last_found s c.pass.new.self (next_line c.lines-line.result) (Found c.in-Found.letter c.in-Found.addr c.in-Found.size) _
-      c.requires.good c.requires.finished c.requires.no_newline (omega arith)
-      (sym c.in-Found.is ∙ c.judge-verdict.ensures.value ∙ ap judge c.held.ensures.value) (ap next_line c.lines-line.ensures)
-      (emptied s c.pass.new.self _ _ size c.pass.ensures) (λ later. refl)
+    c.requires.good c.requires.finished c.requires.no_newline (omega arith)
+    (sym c.in-Found.is ∙ c.judge-verdict.ensures.value ∙ ap judge c.held.ensures.value) (ap next_line c.lines-line.ensures)
+    (emptied s c.pass.new.self _ _ size c.pass.ensures) (λ later. refl)
 
 pub returns-in-Bad-clause-answers : goal.returns-in-Bad-clause-answers
 returns-in-Bad-clause-answers c =
     let s = c.args.self.now in
     let size = ap length c.held-count.ensures.value in
     rw c.refuse.ensures.answer (last_bad s c.pass.new.self c.refuse.new.self (next_line c.lines-line.result) c.in-Bad.reason
-      c.requires.good c.requires.finished c.requires.no_newline (omega arith)
-      (sym c.in-Bad.is ∙ c.judge-verdict.ensures.value ∙ ap judge c.held.ensures.value) (ap next_line c.lines-line.ensures)
-      (emptied s c.pass.new.self _ _ size c.pass.ensures) c.refuse.ensures.kept)
+    c.requires.good c.requires.finished c.requires.no_newline (omega arith)
+    (sym c.in-Bad.is ∙ c.judge-verdict.ensures.value ∙ ap judge c.held.ensures.value) (ap next_line c.lines-line.ensures)
+    (emptied s c.pass.new.self _ _ size c.pass.ensures) c.refuse.ensures.kept)

@@ -11,8 +11,8 @@ returns-in-Skipped-clause-answers c =
     let scan = c.read_lines-scan.result in
     let size = ap (λ (u : State). length u.held) c.pass.ensures in
     let passed = left_passed old mid c.held.result.now c.lines.result scan.used scan.lines scan.verdict
-        (sym c.bad_line.ensures ∙ c.in_default.is) c.held.ensures.value c.lines.ensures c.read_lines-scan.ensures.reads c.pass.ensures in
+    (sym c.bad_line.ensures ∙ c.in_default.is) c.held.ensures.value c.lines.ensures c.read_lines-scan.ensures.reads c.pass.ensures in
     answers_on c.end_of_held.result old mid c.end_of_held.new.self
-      (λ rest. passed rest ∙ ap (λ (v : Verdict). with_verdict scan.lines v (left mid rest)) c.in-Skipped.is)
-      (ap (λ (u : State). u.finished) c.pass.ensures)
-      (omega (arith, size, length-drop scan.used old.held)) c.end_of_held.ensures.answers
+    (λ rest. passed rest ∙ ap (λ (v : Verdict). with_verdict scan.lines v (left mid rest)) c.in-Skipped.is)
+    (ap (λ (u : State). u.finished) c.pass.ensures)
+    (omega (arith, size, length-drop scan.used old.held)) c.end_of_held.ensures.answers
