@@ -1,2 +1,5 @@
 pub mod Scans
 pub mod Totals
+pub mod Order
+pub mod Touches
+pub mod Ranks

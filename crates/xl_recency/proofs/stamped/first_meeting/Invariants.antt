@@ -1,0 +1,6 @@
+use Rattle.std.proofs.Common.{ℕ, ◌<◌, false, get_or}
+use Rattle.std.specs.Fn.{FnReturnsAt}
+use Rattle.xl_recency.proofs.stamped.first_meeting.Given as goal
+
+abbrev pub invariant-loop-i : goal.invariant-loop-i
+invariant-loop-i g l = (k : ℕ) (d : _) → k < l.i → FnReturnsAt g.P.Fn l.test (get_or l.places k d).item false

@@ -1,0 +1,37 @@
+use Rattle.std.proofs.Common.{◌≡◌, ℕ, ◌+◌, ◌<◌, ◌≤◌, not, length, get_or, refl, sym, ◌∙◌, ap, arith}
+use Rattle.std.proofs.lemmas.Fn.{says_at}
+use Rattle.std.proofs.lemmas.List.Filters.{FiltersInPlace-all, FiltersInPlace-more_no, FiltersInPlace-more_set}
+use Rattle.std.proofs.lemmas.List.{get_or_default}
+use Rattle.xl_recency.specs.declared.stamped.Place.{Place}
+use Rattle.xl_recency.specs.Stamps.{newest_first, AreStamps}
+use Rattle.xl_recency.proofs.Touches.{no_place, purged_step, stamps_skip, stamps_keep}
+use Rattle.xl_recency.proofs.stamped.keep_places.Goals as goal
+use Rattle.xl_recency.proofs.stamped.keep_places.Goals.{then-not-test, else-not-test}
+
+pub loop-i-preserved : goal.loop-i-preserved
+loop-i-preserved g c =
+    let inside : c.loop-i.i < length c.loop-i.places = omega arith in
+    let x : Place = get_or c.loop-i.places c.loop-i.i no_place in
+    let is : x ≡ get_or c.loop-i.places c.loop-i.i x = get_or_default c.loop-i.places c.loop-i.i no_place x inside in
+    record {
+      within = elim c.if-not-test.branch [ then-not-test w ↦ omega arith | else-not-test w ↦ omega arith ];
+      in_place = λ q test.
+          let same = test.same _ _ (says_at g.P.Fn c.test.ensures refl) in
+          elim c.if-not-test.branch [
+            | then-not-test w ↦ rw (w.places-is, w.kept-is)
+                (FiltersInPlace-more_set {x = x} (c.loop-i.invariant.in_place q test) inside (ap not (sym same ∙ w.if-not-test.true)) is)
+            | else-not-test w ↦ rw (w.places-is, w.kept-is)
+                (FiltersInPlace-more_no {x = x} (c.loop-i.invariant.in_place q test) inside (ap not (sym same ∙ w.if-not-test.false)) is)
+          ];
+      stamps = λ last stamps.
+          elim c.if-not-test.branch [
+            | then-not-test w ↦ rw (w.places-is, w.kept-is)
+                (stamps_keep c.loop-i.places c.loop-i.kept c.loop-i.i last x c.loop-i.invariant.within inside is (c.loop-i.invariant.stamps last stamps))
+            | else-not-test w ↦ rw (w.places-is, w.kept-is)
+                (stamps_skip c.loop-i.places c.loop-i.kept c.loop-i.i last x inside (c.loop-i.invariant.stamps last stamps))
+          ];
+    }
+
+pub returns-clause-kept : goal.returns-clause-kept
+returns-clause-kept g c = λ q test last stamps.
+    ap newest_first (FiltersInPlace-all (c.loop-i.invariant.in_place q test) c.loop-i-test.false) ∙ purged_step q last c.args.places.now stamps

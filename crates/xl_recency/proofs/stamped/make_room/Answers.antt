@@ -1,0 +1,10 @@
+use Rattle.std.proofs.Common.{◌≡◌, ◌∙◌, ap, arith}
+use Rattle.xl_recency.specs.Stamps.{newest_first, AreStamps}
+use Rattle.xl_recency.proofs.Ranks.{renumbered_same, stamps_renumbered}
+use Rattle.xl_recency.proofs.stamped.make_room.Goals as goal
+
+pub returns-clause-same : goal.returns-clause-same
+returns-clause-same c = ap newest_first c.renumber.ensures ∙ renumbered_same c.args.places.now
+
+pub returns-clause-stamps : goal.returns-clause-stamps
+returns-clause-stamps c = rw (c.renumber.ensures) (stamps_renumbered c.args.places.now c.args.last.now c.requires.stamps)

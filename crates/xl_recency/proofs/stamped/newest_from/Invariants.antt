@@ -1,0 +1,10 @@
+use Rattle.std.proofs.Common.{ℕ, ◌<◌, length}
+use Rattle.std.specs.Fn.{FnReturnsAt}
+use Rattle.xl_recency.specs.Stamps.{IsNewest}
+use Rattle.xl_recency.proofs.stamped.newest_from.Given as goal
+
+abbrev pub invariant-loop-i : goal.invariant-loop-i
+invariant-loop-i g l = record {
+  within : l.newest < length l.places;
+  newest : IsNewest (FnReturnsAt g.P.Fn l.test) l.places l.i l.newest;
+}

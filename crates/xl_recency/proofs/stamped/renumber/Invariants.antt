@@ -1,0 +1,17 @@
+use Rattle.std.proofs.Common.{◌≡◌, ℕ, ◌<◌, ◌++◌, length, get_or, map, take, drop}
+use Rattle.xl_recency.specs.Stamps.{rank_of, renumbered}
+use Rattle.xl_recency.proofs.stamped.renumber.Given as goal
+
+-- the first ranks are those of the stamps in the first places
+abbrev pub invariant-loop-i : goal.invariant-loop-i
+invariant-loop-i l = record {
+  ranks : (k : ℕ) (d : _) → k < l.i → get_or l.ranks k 0 ≡ rank_of l.places (get_or l.places k d).stamp;
+  long : length l.ranks ≡ length l.places;
+}
+
+abbrev pub invariant-loop-i-2 : goal.invariant-loop-i-2
+invariant-loop-i-2 l = record {
+  ranks : (k : ℕ) (d : _) → k < length l.fn.places → get_or l.ranks k 0 ≡ rank_of l.fn.places (get_or l.fn.places k d).stamp;
+  places : l.places ≡ map (renumbered l.fn.places) (take l.i l.fn.places) ++ drop l.i l.fn.places;
+  long : length l.ranks ≡ length l.fn.places;
+}

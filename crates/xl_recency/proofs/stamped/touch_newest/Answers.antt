@@ -1,0 +1,24 @@
+use Rattle.std.proofs.Common.{◌≡◌, ℕ, ◌+◌, ◌<◌, find, refl, sym, ◌∙◌, ap, arith}
+use Rattle.xl_model.specs.Recency.{touched}
+use Rattle.xl_recency.specs.Stamps.{newest_first, AreStamps}
+use Rattle.xl_recency.proofs.Touches.{stamped_at, touch_step, touch_none, stamps_set}
+use Rattle.xl_recency.proofs.stamped.touch_newest.Goals as goal
+
+pub returns-in-Some : goal.returns-in-Some
+returns-in-Some g c =
+    let room = c.make_room.ensures in
+    let at = c.newest_from-at.ensures in
+    record {
+      found = λ q test. (touch_step _ q test c.args.places.now c.make_room.new.places c.newest_from-at.result c.make_room.new.last at.within room.stamps at.newest room.same).0;
+      moved = λ q test. (touch_step _ q test c.args.places.now c.make_room.new.places c.newest_from-at.result c.make_room.new.last at.within room.stamps at.newest room.same).1;
+      stamps = stamps_set c.make_room.new.places c.newest_from-at.result c.make_room.new.last _ room.stamps (omega arith);
+    }
+
+pub returns-in-None : goal.returns-in-None
+returns-in-None g c =
+    let room = c.make_room.ensures in
+    record {
+      found = λ q test. (touch_none _ q test c.make_room.new.places c.in-None.ensures.none).0 ∙ ap (find q) room.same;
+      moved = λ q test. (touch_none _ q test c.make_room.new.places c.in-None.ensures.none).1 ∙ ap (touched q) room.same;
+      stamps = room.stamps;
+    }
