@@ -17,6 +17,7 @@ use Rattle.xl_model.specs.Walks.{is_tag, start_level, number_or_0, numbered, nod
 use Rattle.xl_mapping.specs.Members.{In}
 use Rattle.xl_mapping.proofs.Members.{any-In, In-any}
 use Rattle.xl_mapping.proofs.Kept.{named-In}
+use Rattle.xl_mapping.proofs.Ends.{covered-under}
 use Rattle.xl_mapping.proofs.Stays.{changed-In}
 use Rattle.xl_laws.specs.Fresh.{TagFresh, TagsFresh}
 use Rattle.xl_laws.proofs.FreshArrays.{touched-In, newest-In, purged-In}
@@ -144,40 +145,6 @@ tags-after levels c leaves nodes cs fresh d e i j =
       needed = need;
       there = kept-at levels (changed c leaves) e.node (wide levels (brought c leaves) nodes) e.number (wide-at levels (brought c leaves) e.node nodes e.number old.there) need;
     }
-
--- a leaf that covers a page stands under each slot of the page above its level
-up-one : (e first page : ℕ) → first ≡ e * 512 → first ≤ page → page < first + 512 → page / 512 ≡ first / 512
-up-one e first page a b c = omega arith
-
-up-two : (e first page : ℕ) → first ≡ e * 262144 → first ≤ page → page < first + 262144 → page / 512 / 512 ≡ first / 512 / 512
-up-two e first page a b c = omega arith
-
-up-more : (k l first page : ℕ) → up l first ≡ up l page → up (k + l) first ≡ up (k + l) page
-up-more zero l first page h = let e : zero + l ≡ l = omega arith in rw e h
-up-more (suc k) l first page h =
-    let e : suc k + l ≡ suc (k + l) = omega arith in
-    rw e (ap (λ (n : ℕ). n / 512) (up-more k l first page h))
-
-up-from : (l m first page : ℕ) → up l first ≡ up l page → l ≤ m → up m first ≡ up m page
-up-from l m first page h le = let e : m - l + l ≡ m = omega arith in let P : ℕ → Type 0 = λ k. up k first ≡ up k page in subst P e (up-more (m - l) l first page h)
-
-up-covers : (space page m : ℕ) (leaf : Leaf) (e : ℕ) → covers space page leaf ≡ true → leaf.first ≡ e * pages_of leaf.order → level_of leaf.order ≤ m → up m leaf.first ≡ up m page
-up-covers space page m leaf e h aligned le =
-    go leaf.order (grind (arith, nat_tests)) (grind (arith, nat_tests)) aligned le
-  where
-    go : (o : Order) → leaf.first ≤ page → page < leaf.first + pages_of o → leaf.first ≡ e * pages_of o → level_of o ≤ m → up m leaf.first ≡ up m page
-    go order.K4 a b c d = let f : leaf.first ≡ page = omega arith in ap (up m) f
-    go order.M2 a b c d = up-from 1 m leaf.first page (sym (up-one e leaf.first page c a b)) d
-    go order.G1 a b c d = up-from 2 m leaf.first page (sym (up-two e leaf.first page c a b)) d
-
-covered-under : (space page level : ℕ) (leaf : Leaf) (e : ℕ) → covers space page leaf ≡ true → leaf.first ≡ e * pages_of leaf.order → level_of leaf.order ≤ level
-    → is_under space (suc level) (up (suc level) page) leaf ≡ true
-covered-under space page level leaf e h aligned le =
-    let a : up (suc level) leaf.first ≡ up (suc level) page = up-covers space page (suc level) leaf e h aligned (omega arith) in
-    under-by space (suc level) (up (suc level) leaf.first) (up (suc level) page) leaf (grind (arith, nat_tests)) (omega arith) a refl
-  where
-    under-by : (space l b c : ℕ) (leaf : Leaf) → leaf.space ≡ space → level_of leaf.order < l → b ≡ c → up l leaf.first ≡ b → is_under space l c leaf ≡ true
-    under-by space l b c leaf x y z w = let v : up l leaf.first ≡ c = w ∙ z in grind (arith, nat_tests)
 
 node-by : (y : Node) (s l p : ℕ) → y.space ≡ s → y.level ≡ l → y.prefix ≡ p → y ≡ record { space = s; level = l; prefix = p }
 node-by y s l p a b c = rw (← a, ← b, ← c) refl

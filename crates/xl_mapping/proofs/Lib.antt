@@ -5,3 +5,4 @@ pub mod Places
 pub mod Kept
 pub mod Ruled
 pub mod Stays
+pub mod Ends

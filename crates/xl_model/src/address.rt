@@ -1,7 +1,7 @@
 //! Addresses, page sizes and kinds of access.
 
-ghost use Rattle.std.specs.Prelude.{◌≡◌, IsTrue};
-ghost use Rattle.xl_model.specs.Addresses.{levels_of, is_canonical, page_of as page_number, allows as is_allowed, code_of};
+ghost use Rattle.std.specs.Prelude.{◌≡◌, ◌*◌};
+ghost use Rattle.xl_model.specs.Addresses.{levels_of, level_of, pages_of, is_canonical, page_of as page_number, allows as is_allowed, code_of};
 
 use crate::perm::Perm;
 
@@ -32,6 +32,37 @@ pub enum Order {
     K4,
     M2,
     G1,
+}
+
+impl Order {
+    /// The 4 KiB pages of a leaf of this order.
+    pub fn pages(&self) -> u64
+        ensures { result ≡ pages_of self.now }
+    {
+        match self {
+            Order::K4 => 1,
+            Order::M2 => 512,
+            Order::G1 => 262_144,
+        }
+    }
+
+    /// The bytes of a leaf of this order.
+    pub fn bytes(&self) -> u64
+        ensures { result ≡ 4096 * pages_of self.now }
+    {
+        4096 * self.pages()
+    }
+
+    /// The level of a radix table at which a leaf of this order stands.
+    pub fn level(&self) -> usize
+        ensures { result ≡ level_of self.now }
+    {
+        match self {
+            Order::K4 => 0,
+            Order::M2 => 1,
+            Order::G1 => 2,
+        }
+    }
 }
 
 /// The kind of an access.
