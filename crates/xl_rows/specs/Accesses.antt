@@ -1,5 +1,5 @@
 -- Accesses of every kind, page sizes and modes.
-use Rattle.std.specs.Prelude.{ℕ, true, false, List, [], ◌∷◌, codes}
+use Rattle.std.specs.Prelude.{List, [], ◌∷◌, codes}
 use Rattle.xl_model.specs.declared.address.Mode.TheVariants as mode
 use Rattle.xl_model.specs.declared.address.Order.TheVariants as order
 use Rattle.xl_model.specs.declared.address.Kind.TheVariants as kind

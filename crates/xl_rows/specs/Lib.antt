@@ -6,3 +6,10 @@ pub mod ChainRows
 pub mod CuckooRows
 pub mod RangeRows
 pub mod TlbRows
+pub mod ByHandArrays
+pub mod ByHandPurges
+pub mod ByHandNodes
+pub mod ByHandRanges
+pub mod ByHandChains
+pub mod ByHandWays
+pub mod ByHandCommands

@@ -1,5 +1,5 @@
 -- The row that most reports begin with, and words for what stands in many of them.
-use Rattle.std.specs.Prelude.{ℕ, true, false, List, [], ◌∷◌, codes}
+use Rattle.std.specs.Prelude.{true, false, List, [], ◌∷◌, codes}
 use Rattle.std.proofs.Common.{refl}
 use Rattle.xl_model.specs.declared.address.Mode.TheVariants as mode
 use Rattle.xl_model.specs.declared.perm.Perm.{Perm}

@@ -1,12 +1,12 @@
 -- Radix tables: nodes, walk caches and images.
-use Rattle.std.specs.Prelude.{ℕ, true, false, List, [], ◌∷◌, codes}
+use Rattle.std.specs.Prelude.{List, [], ◌∷◌}
 use Rattle.xl_model.specs.declared.address.Mode.TheVariants as mode
 use Rattle.xl_model.specs.declared.address.Order.TheVariants as order
 use Rattle.xl_model.specs.declared.address.Kind.TheVariants as kind
 use Rattle.xl_model.specs.declared.event.Event.TheVariants as event
 use Rattle.xl_model.specs.declared.row.Table.TheVariants as table
 use Rattle.xl_model.specs.Rows.{Row}
-use Rattle.xl_model.specs.Items.{Item, Command, Declared, Referenced}
+use Rattle.xl_model.specs.Items.{Item, Command, Referenced}
 use Rattle.xl_rows.specs.Plain.{plain_row, perm_r__u}
 
 -- The only node is the root: a 4 KiB leaf has no nodes, a 1 GiB leaf needs none.

@@ -1,12 +1,12 @@
 -- TLB arrays: hits, fills, purges and fences.
-use Rattle.std.specs.Prelude.{ℕ, true, false, List, [], ◌∷◌, codes}
+use Rattle.std.specs.Prelude.{true, List, [], ◌∷◌}
 use Rattle.xl_model.specs.declared.address.Order.TheVariants as order
 use Rattle.xl_model.specs.declared.address.Kind.TheVariants as kind
 use Rattle.xl_model.specs.declared.event.Event.TheVariants as event
 use Rattle.xl_model.specs.declared.event.Scope.TheVariants as scope
 use Rattle.xl_model.specs.declared.row.Purge.TheVariants as purge
 use Rattle.xl_model.specs.Rows.{Row}
-use Rattle.xl_model.specs.Items.{Item, Command, Declared, Referenced}
+use Rattle.xl_model.specs.Items.{Item, Command, Referenced}
 use Rattle.xl_rows.specs.Plain.{plain_row, one_array, perm_r__u, perm_rw_u}
 
 -- A store on a read-only leaf that hits.

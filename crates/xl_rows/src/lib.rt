@@ -3,6 +3,13 @@
 #![tactic(auto)]
 
 pub mod accesses;
+pub mod by_hand_arrays;
+pub mod by_hand_chains;
+pub mod by_hand_commands;
+pub mod by_hand_nodes;
+pub mod by_hand_purges;
+pub mod by_hand_ranges;
+pub mod by_hand_ways;
 pub mod chains;
 pub mod commands;
 pub mod cuckoo;
