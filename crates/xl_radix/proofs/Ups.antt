@@ -1,0 +1,55 @@
+-- Pages and the blocks in which they lie.
+use Rattle.std.proofs.Common.{ℕ, zero, suc, ◌≡◌, ◌+◌, ◌-◌, ◌*◌, ◌/◌, ◌%◌, ◌^◌, ◌<◌, ◌≤◌, ◌==◌, Bool, true, false, ◌&&◌, nat_lt, nat_le, ◌⊎◌, inl, inr, refl, ap, sym, ◌∙◌, subst, arith}
+use Rattle.std.proofs.lemmas.Bool.Decides.{nat_tests}
+use Rattle.xl_model.specs.declared.address.Order.{Order}
+use Rattle.xl_model.specs.declared.address.Order.TheVariants as order
+use Rattle.xl_model.specs.Addresses.{level_of, pages_of}
+use Rattle.xl_model.specs.Nodes.{up}
+
+pub up-shift : (l page : ℕ) → l < 5 → page / 2 ^ (9 * l) ≡ up l page
+up-shift zero page h = omega arith
+up-shift (suc zero) page h = omega arith
+up-shift (suc (suc zero)) page h = omega arith
+up-shift (suc (suc (suc zero))) page h = omega arith
+up-shift (suc (suc (suc (suc zero)))) page h = omega arith
+up-shift (suc (suc (suc (suc (suc l))))) page h = absurd (omega arith)
+
+pub up-top : (top page : ℕ) → 3 ≤ top → top ≤ 5 → page < 2 ^ (9 * top) → up top page ≡ 0
+up-top zero page h g b = absurd (omega arith)
+up-top (suc zero) page h g b = absurd (omega arith)
+up-top (suc (suc zero)) page h g b = absurd (omega arith)
+up-top (suc (suc (suc zero))) page h g b = omega arith
+up-top (suc (suc (suc (suc zero)))) page h g b = omega arith
+up-top (suc (suc (suc (suc (suc zero))))) page h g b = omega arith
+up-top (suc (suc (suc (suc (suc (suc l)))))) page h g b = absurd (omega arith)
+
+pub up-pages : (o : Order) (page : ℕ) → up (level_of o) page ≡ page / pages_of o
+up-pages order.K4 page = omega arith
+up-pages order.M2 page = omega arith
+up-pages order.G1 page = omega arith
+
+pub level-low : (o : Order) → level_of o ≤ 2
+level-low order.K4 = omega arith
+level-low order.M2 = omega arith
+level-low order.G1 = omega arith
+
+pub up-same : (l m x y : ℕ) → l ≤ m → up l x ≡ up l y → up m x ≡ up m y
+up-same l zero x y h e = let z : l ≡ 0 = omega arith in rw z at e
+up-same l (suc m) x y h e = elim (split l m h) [
+  | inl q ↦ subst (λ (k : ℕ). up k x ≡ up k y) q e
+  | inr g ↦ ap (λ (v : ℕ). v / 512) (up-same l m x y g e)
+]
+  where
+    split : (l m : ℕ) → l ≤ suc m → (l ≡ suc m) ⊎ (l ≤ m)
+    split l m h = grind arith
+
+-- A page in a leaf's interval is in its block, and conversely.
+pub covers-up : (o : Order) (first page : ℕ) → up (level_of o) first * pages_of o ≡ first → (nat_le first page && nat_lt page (first + pages_of o)) ≡ true → up (level_of o) page ≡ up (level_of o) first
+covers-up order.K4 first page a h = grind (arith, nat_tests)
+covers-up order.M2 first page a h = grind (arith, nat_tests)
+covers-up order.G1 first page a h = grind (arith, nat_tests)
+
+pub up-covers : (o : Order) (first page : ℕ) → up (level_of o) first * pages_of o ≡ first → up (level_of o) page ≡ up (level_of o) first → (nat_le first page && nat_lt page (first + pages_of o)) ≡ true
+up-covers order.K4 first page a h = grind (arith, nat_tests)
+up-covers order.M2 first page a h = grind (arith, nat_tests)
+up-covers order.G1 first page a h = grind (arith, nat_tests)

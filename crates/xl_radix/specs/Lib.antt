@@ -1,0 +1,5 @@
+pub mod Image
+pub mod ReadBack
+pub mod Walk
+pub mod Table
+pub mod Steps

@@ -1,0 +1,15 @@
+//! Radix tables: nodes of 512 PTE words, 3, 4 or 5 levels (RISC-V Privileged manual, Sv39, Sv48 and
+//! Sv57). The table is its own memory: what a walk over its words finds are its leaves.
+#![tactic(auto)]
+
+mod node;
+mod radix;
+mod store;
+#[cfg(test)]
+mod tests;
+mod walk_end;
+
+pub use node::Node;
+pub use radix::Radix;
+pub use store::index_of;
+pub use walk_end::WalkEnd;

@@ -1,0 +1,150 @@
+//! The table.
+
+ghost use Rattle.std.specs.Prelude.{◌≡◌, ◌+◌, ◌*◌, ◌≤◌, ◌<◌, slice_index, length, [], IfOk, OnErr, OnOk, is_ok, false};
+ghost use Rattle.xl_model.specs.Changes.{Insert};
+ghost use Rattle.xl_model.specs.Mapping.{leaf_at_page, meets_any, with_leaf};
+ghost use Rattle.xl_model.specs.Nodes.{opening_nodes, with_leaf_nodes};
+ghost use Rattle.xl_model.specs.Room.{has_room};
+ghost use Rattle.xl_model.specs.Shapes.{shape_after};
+ghost use Rattle.xl_model.specs.Structures.{IsBlock, IsPage, IsLeafFor};
+ghost use Rattle.xl_radix.specs.Steps.{shape_of};
+ghost use Rattle.xl_radix.specs.Walk.{WordsReadBack};
+
+use crate::store::{Store, level_of};
+use std::alloc::Global;
+use std::marker::Model;
+use xl_model::{Leaf, NoMemory, NoTable, Order};
+use xl_phys::Bus;
+
+/// A radix table of LEVELS levels over words of its own. Contracts see its leaves, sorted by space and
+/// first page, its nodes by number, its words, its spaces and its loads.
+#[derive(Drop)]
+pub struct Radix<const LEVELS: usize> {
+    store: Store<LEVELS>,
+    free: usize,
+    loads: u64,
+}
+
+impl<const LEVELS: usize> Model for Radix<LEVELS> {
+    ghost use Rattle.std.specs.Prelude.{◌≡◌};
+    ghost use Rattle.xl_model.specs.Nodes.{free_count};
+    ghost use Rattle.xl_radix.specs.Table.{Table, IsExact};
+
+    ghost Value = { Table };
+
+    ghost view = { λ r. record { leaves = r.store.leaves; nodes = r.store.nodes; words = r.store.words; spaces = r.store.spaces; loads = r.loads } };
+
+    ghost invariant = { λ r. IsExact LEVELS r.store.leaves r.store.nodes × (r.free ≡ free_count r.store.nodes) };
+}
+
+impl<const LEVELS: usize> Radix<LEVELS> {
+    /// A table without leaves, with node numbers below `table_frames`. Numbers 0 to `spaces - 1` are
+    /// the roots of the spaces.
+    ///
+    /// # Errors
+    ///
+    /// `NoMemory` where there is no memory.
+    pub fn open(alloc: Global, table_frames: u32, spaces: u16) -> Result<Radix<LEVELS>, NoMemory>
+        requires levels { (3 ≤ LEVELS) × (LEVELS ≤ 5) }
+        requires spaces { (1 ≤ spaces) × (spaces ≤ 64) }
+        requires frames { (spaces ≤ table_frames) × (table_frames ≤ 16384) }
+        ensures leaves { IfOk result (λ r. r.leaves ≡ []) }
+        ensures nodes { IfOk result (λ r. r.nodes ≡ opening_nodes LEVELS spaces table_frames) }
+        ensures spaces { IfOk result (λ r. r.spaces ≡ spaces) }
+        ensures loads { IfOk result (λ r. r.loads ≡ 0) }
+    {
+        match Store::open(alloc, table_frames as usize, spaces) {
+            Ok(store) => Ok(Radix {
+                store,
+                free: table_frames as usize - spaces as usize,
+                loads: 0,
+            }),
+            Err(_) => Err(NoMemory),
+        }
+    }
+
+    /// Whether a leaf of the space has a page of the block of this order at page `first`.
+    pub fn meets(&self, space: u16, first: u64, order: Order) -> bool
+        requires { IsBlock (shape_of LEVELS self.now) space first order }
+        ensures { result ≡ meets_any space first order self.now.leaves }
+    {
+        self.store.meets(space, first, order)
+    }
+
+    /// The leaf that covers the page, None exactly where there is none. It is found by a walk of the
+    /// words, which doesn't count as loads.
+    pub fn leaf_at(&self, space: u16, page: u64) -> Option<Leaf>
+        requires { IsPage (shape_of LEVELS self.now) space page }
+        ensures { result ≡ leaf_at_page space page self.now.leaves }
+    {
+        self.store.leaf_at(space, page)
+    }
+
+    /// Adds a leaf that no leaf meets. New nodes take the lowest free numbers, upper ones first.
+    ///
+    /// # Errors
+    ///
+    /// `NoTable` exactly where the nodes that the leaf lacks are more than the free numbers; then
+    /// nothing changes.
+    pub fn add(&mut self, leaf: Leaf) -> Result<(), NoTable>
+        requires valid { IsLeafFor (shape_of LEVELS self.old) leaf }
+        requires free { meets_any leaf.space leaf.first leaf.order self.old.leaves ≡ false }
+        ensures answer { is_ok result ≡ has_room (Insert leaf) self.old.leaves (shape_of LEVELS self.old) }
+        ensures refused { OnErr result (self.new ≡ self.old) }
+        ensures leaves { OnOk result (self.new.leaves ≡ with_leaf leaf self.old.leaves) }
+        ensures nodes { OnOk result (self.new.nodes ≡ with_leaf_nodes LEVELS leaf self.old.nodes) }
+        ensures shape { OnOk result (shape_of LEVELS self.new ≡ shape_after (Insert leaf) self.old.leaves (shape_of LEVELS self.old)) }
+        ensures spaces { self.new.spaces ≡ self.old.spaces }
+        ensures loads { self.new.loads ≡ self.old.loads }
+    {
+        let end = self.store.end_for(&leaf);
+        let lacking = end.level - level_of(leaf.order);
+        if lacking > self.free {
+            return Err(NoTable);
+        }
+        self.store.place(end, leaf);
+        self.free -= lacking;
+        Ok(())
+    }
+
+    /// Word `index` of node number `node`.
+    pub fn word(&self, node: u32, index: u32) -> u64
+        requires node { node < length self.now.nodes }
+        requires index { index < 512 }
+        ensures { result ≡ slice_index self.now.words (node * 512 + index) }
+    {
+        self.store.word(node as usize, index as usize)
+    }
+
+    /// What the table keeps: its words read back, by the manual's walk over a list of words, as its
+    /// leaves, from each root and from every other node at its level and number.
+    pub fn words_read_back(&self)
+        ensures { WordsReadBack LEVELS self.now.spaces self.now.leaves self.now.nodes self.now.words }
+    {
+        self.store.words_read_back();
+    }
+}
+
+impl<const LEVELS: usize> Bus for Radix<LEVELS> {
+    ghost use Rattle.std.specs.Prelude.{refl};
+    ghost use Rattle.xl_phys.specs.Lines.{counted};
+
+    ghost words = { λ r. r.words };
+
+    ghost count = { λ r. r.loads };
+
+    ghost loaded = { λ r. record r { loads = counted r.loads } };
+
+    fn load(&mut self, line: usize) -> Option<[u64; 4]> {
+        self.loads = self.loads.wrapping_add(1);
+        self.store.line(line)
+    }
+
+    fn loads(&self) -> u64 {
+        self.loads
+    }
+
+    ghost words_stay = { λ r. refl };
+
+    ghost counts_one = { λ r. refl };
+}

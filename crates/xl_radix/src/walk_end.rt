@@ -1,0 +1,30 @@
+//! What a walk over words ends with.
+
+use xl_model::Perm;
+
+/// The end of the manual's walk, with the level at which it came.
+#[derive(Clone, Copy, Debug, PartialEq, Eq)]
+pub enum WalkEnd {
+    /// A leaf of this level, from this frame on.
+    Leaf {
+        level: usize,
+        frame: u64,
+        perm: Perm,
+    },
+    /// Nothing is there.
+    Invalid {
+        level: usize,
+    },
+    /// A reserved word.
+    Reserved {
+        level: usize,
+    },
+    /// A leaf whose frame isn't a multiple of its size.
+    Misaligned {
+        level: usize,
+    },
+    /// The word's line isn't all there.
+    OutOfBus {
+        level: usize,
+    },
+}
