@@ -1,0 +1,50 @@
+//! A step of a walk.
+
+ghost use Rattle.std.specs.Prelude.{◌≡◌, ◌<◌, ◌≤◌, ◌^◌};
+ghost use Rattle.xl_radix_walk.specs.Path.{word_in, step_of, IsStep};
+
+use xl_phys::Bus;
+use xl_pte::{Pte, decode};
+use xl_radix::{WalkEnd, index_of};
+
+/// Where a walk goes on, one level down, or what it ends with.
+pub(crate) enum Step {
+    GoesOn(u64),
+    Ends(WalkEnd),
+}
+
+/// Loads the word of the page in `node` of this level. None where its line isn't all there.
+fn word<B: Bus>(bus: &mut B, level: usize, node: u64, page: u64) -> Option<Pte>
+    requires level { level < 5 }
+    requires node { node < 2 ^ 44 }
+    ensures said { result ≡ word_in (B.words bus.old) level node page }
+    ensures bus { bus.new ≡ B.loaded bus.old }
+{
+    let place = node * 512 + index_of(page, level) as u64;
+    let words = bus.load((place / 4) as usize)?;
+    Some(decode(words[(place % 4) as usize], level))
+}
+
+fn said(word: Option<Pte>, level: usize) -> Step
+    ensures { result ≡ step_of word level }
+{
+    match word {
+        None => Step::Ends(WalkEnd::OutOfBus { level }),
+        Some(Pte::Pointer { node }) => Step::GoesOn(node),
+        Some(Pte::Invalid) => Step::Ends(WalkEnd::Invalid { level }),
+        Some(Pte::Leaf { frame, perm }) => Step::Ends(WalkEnd::Leaf { level, frame, perm }),
+        Some(Pte::Reserved) => Step::Ends(WalkEnd::Reserved { level }),
+        Some(Pte::Misaligned) => Step::Ends(WalkEnd::Misaligned { level }),
+    }
+}
+
+/// Loads the word of the page in `node` of this level, and says what it says.
+pub(crate) fn take_step<B: Bus>(bus: &mut B, level: usize, node: u64, page: u64) -> Step
+    requires level { level < 5 }
+    requires node { node < 2 ^ 44 }
+    ensures is_step { IsStep (B.words bus.old) level node page result }
+    ensures bus { bus.new ≡ B.loaded bus.old }
+{
+    let word = word(bus, level, node, page);
+    said(word, level)
+}
