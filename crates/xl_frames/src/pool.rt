@@ -61,7 +61,7 @@ impl Frames {
         ensures none { IfNone result (HasNone self.old (pages_of order)) }
         ensures unchanged { IfNone result (self.new ≡ self.old) }
     {
-        match take_block(&mut self.tree, self.height, self.count, exponent(order)) {
+        match take_block(&mut self.tree, self.height, exponent(order)) {
             Some(frame) => Some(frame as u64),
             None => None,
         }
@@ -72,7 +72,7 @@ impl Frames {
         ensures yes { OnTrue result ((block : ℕ) × IsFree self.now (block * pages_of order) (pages_of order)) }
         ensures no { OnFalse result (HasNone self.now (pages_of order)) }
     {
-        find_block(&self.tree, self.height, self.count, exponent(order)).is_some()
+        find_block(&self.tree, self.height, exponent(order)).is_some()
     }
 
     /// Gives back the block of the order that begins at `frame`. Its frames are free again, and no
@@ -81,12 +81,6 @@ impl Frames {
         requires { frame + pages_of order ≤ length self.old }
         ensures { self.new ≡ marked self.old frame (pages_of order) true }
     {
-        give_block(
-            &mut self.tree,
-            self.height,
-            self.count,
-            frame as usize,
-            exponent(order),
-        );
+        give_block(&mut self.tree, self.height, frame as usize, exponent(order));
     }
 }

@@ -176,25 +176,27 @@ pub(crate) fn free_first(tree: &mut [u8], height: u8, count: usize)
 }
 
 /// The first frame of the lowest free block of 2 to the `order` frames.
-pub(crate) fn find_block(tree: &[u8], height: u8, count: usize, order: u8) -> Option<usize>
-    requires { IsPool height count tree.now }
-    ensures some { IfSome result (IsLowest (pool_of height count tree.now) (2 ^ order)) }
-    ensures none { IfNone result (HasNone (pool_of height count tree.now) (2 ^ order)) }
+pub(crate) fn find_block(tree: &[u8], height: u8, order: u8) -> Option<usize>
+    requires small { height < 32 }
+    requires tree { IsTree height tree.now }
+    ensures some { (count : ℕ) → IsPool height count tree.now → IfSome result (IsLowest (pool_of height count tree.now) (2 ^ order)) }
+    ensures none { (count : ℕ) → IsPool height count tree.now → IfNone result (HasNone (pool_of height count tree.now) (2 ^ order)) }
 {
     lowest(tree, height, order)
 }
 
 /// Takes the lowest free block of 2 to the `order` frames.
-pub(crate) fn take_block(tree: &mut [u8], height: u8, count: usize, order: u8) -> Option<usize>
-    requires pool { IsPool height count tree.old }
-    requires small { order < 32 }
-    ensures tree { IsPool height count tree.new }
-    ensures lowest { IfSome result (IsLowest (pool_of height count tree.old) (2 ^ order)) }
-    ensures taken { IfSome result (λ at. pool_of height count tree.new ≡ marked (pool_of height count tree.old) at (2 ^ order) false) }
-    ensures none { IfNone result (HasNone (pool_of height count tree.old) (2 ^ order)) }
+pub(crate) fn take_block(tree: &mut [u8], height: u8, order: u8) -> Option<usize>
+    requires height { height < 32 }
+    requires order { order < 32 }
+    requires tree { IsTree height tree.old }
+    ensures tree { (count : ℕ) → IsPool height count tree.old → IsPool height count tree.new }
+    ensures lowest { (count : ℕ) → IsPool height count tree.old → IfSome result (IsLowest (pool_of height count tree.old) (2 ^ order)) }
+    ensures taken { (count : ℕ) → IsPool height count tree.old → IfSome result (λ at. pool_of height count tree.new ≡ marked (pool_of height count tree.old) at (2 ^ order) false) }
+    ensures none { (count : ℕ) → IsPool height count tree.old → IfNone result (HasNone (pool_of height count tree.old) (2 ^ order)) }
     ensures unchanged { IfNone result (tree.new ≡ tree.old) }
 {
-    match find_block(tree, height, count, order) {
+    match lowest(tree, height, order) {
         Some(at) => {
             mark(tree, height, at, at + frames_under(order), false);
             Some(at)
@@ -204,12 +206,13 @@ pub(crate) fn take_block(tree: &mut [u8], height: u8, count: usize, order: u8) -
 }
 
 /// Makes a block of 2 to the `order` frames free.
-pub(crate) fn give_block(tree: &mut [u8], height: u8, count: usize, at: usize, order: u8)
-    requires pool { IsPool height count tree.old }
-    requires small { order < 32 }
-    requires fits { at + 2 ^ order ≤ count }
-    ensures tree { IsPool height count tree.new }
-    ensures flags { pool_of height count tree.new ≡ marked (pool_of height count tree.old) at (2 ^ order) true }
+pub(crate) fn give_block(tree: &mut [u8], height: u8, at: usize, order: u8)
+    requires height { height < 32 }
+    requires order { order < 32 }
+    requires tree { IsTree height tree.old }
+    requires fits { at + 2 ^ order ≤ 2 ^ height }
+    ensures tree { (count : ℕ) → IsPool height count tree.old → at + 2 ^ order ≤ count → IsPool height count tree.new }
+    ensures flags { (count : ℕ) → IsPool height count tree.old → at + 2 ^ order ≤ count → pool_of height count tree.new ≡ marked (pool_of height count tree.old) at (2 ^ order) true }
 {
     mark(tree, height, at, at + frames_under(order), true);
 }

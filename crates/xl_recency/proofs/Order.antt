@@ -1,10 +1,9 @@
 -- Places by stamp: each keeps its order when others go, and a place with a new greatest stamp comes first.
-use Rattle.std.proofs.Common.{◌≡◌, ℕ, zero, suc, ◌+◌, ◌-◌, ◌<◌, ◌≤◌, Bool, true, false, not, cond, eqb, ltb, List, [], ◌∷◌, ◌++◌, length, get_or, set, take, drop, map, find, filter, Option, Some, None, refl, sym, ◌∙◌, ap, arith, inl, inr, ◌⊎◌}
-use Rattle.std.proofs.lemmas.Bool.{cases_lt, cases_eq, cases_Bool, lt-ltb, le-ltb, eq-eqb, ne_eqb}
-use Rattle.xl_model.specs.Recency.{without_first, in_front, touched, purged}
+use Rattle.std.proofs.Common.{◌≡◌, ℕ, zero, suc, ◌<◌, ◌≤◌, Bool, true, false, List, [], ◌∷◌, ◌++◌, length, get_or, set, map, filter, refl, sym, ◌∙◌, ap, arith, inl, inr, ◌⊎◌}
+use Rattle.std.proofs.lemmas.Bool.{cases_lt, cases_eq, cases_Bool, lt-ltb, le-ltb}
 use Rattle.xl_recency.specs.declared.item.Item.{Item}
 use Rattle.xl_recency.specs.declared.stamped.Place.{Place}
-use Rattle.xl_recency.specs.Stamps.{with_place, by_stamp, item_of, newest_first, Each, Apart, AreStamps}
+use Rattle.xl_recency.specs.Stamps.{with_place, by_stamp, item_of, Each, Apart}
 
 -- ---- what holds of each place
 

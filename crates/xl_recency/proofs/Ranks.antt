@@ -1,14 +1,13 @@
 -- Stamps numbered anew by their ranks keep their order.
-use Rattle.std.proofs.Common.{◌≡◌, ℕ, zero, suc, ◌+◌, ◌-◌, ◌<◌, ◌≤◌, Bool, true, false, cond, leb, ltb, List, [], ◌∷◌, ◌++◌, length, get_or, set, take, drop, map, zero-add, refl, sym, ◌∙◌, ap, arith, inl, inr, ◌⊎◌}
+use Rattle.std.proofs.Common.{◌≡◌, ℕ, ◌+◌, ◌-◌, ◌<◌, ◌≤◌, cond, leb, ltb, List, [], ◌∷◌, ◌++◌, length, get_or, set, take, drop, map, zero-add, refl, sym, ◌∙◌, ap, arith, inl, inr, ◌⊎◌}
 use Rattle.std.proofs.lemmas.Bool.{cases_lt, cases_eq, lt-ltb, le-ltb, le-leb, lt-leb}
-use Rattle.std.proofs.lemmas.Bool.Decides.{nat_tests}
 use Rattle.std.proofs.lemmas.List.{length-map, length-take, length-drop, length-append, get_or-append_right, get_or-drop, get_or_default}
 use Rattle.std.proofs.lemmas.List.Edits.{map_over_more}
 use Rattle.std.proofs.lemmas.List.Sums.{sum_by-cons}
 use Rattle.xl_recency.specs.declared.item.Item.{Item}
 use Rattle.xl_recency.specs.declared.stamped.Place.{Place}
 use Rattle.xl_recency.specs.Stamps.{with_place, by_stamp, item_of, newest_first, Each, Apart, AreStamps, rank_of, renumbered}
-use Rattle.xl_recency.proofs.Order.{each_mono, each_by_stamp, In, each_in}
+use Rattle.xl_recency.proofs.Order.{each_mono, each_by_stamp, In}
 
 rank_skip : (y : Place) (ys : List Place) (s : ℕ) → s < y.stamp → rank_of (y ∷ ys) s ≡ rank_of ys s
 rank_skip y ys s l = sum_by-cons (λ (x : Place). cond (leb x.stamp s) 1 0) y ys ∙ rw (lt-leb y.stamp s l) (zero-add (rank_of ys s))

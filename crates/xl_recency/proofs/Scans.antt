@@ -1,7 +1,7 @@
 -- A scan that stops at the first item that meets a test, against `find`, `touched` and `purged`.
-use Rattle.std.proofs.Common.{◌≡◌, ℕ, zero, suc, ◌+◌, ◌-◌, ◌<◌, ◌≤◌, Bool, true, false, not, List, [], ◌∷◌, ◌++◌, length, get_or, take, drop, find, filter, Option, Some, None, refl, sym, ◌∙◌, ap, arith}
+use Rattle.std.proofs.Common.{◌≡◌, ℕ, zero, suc, ◌<◌, Bool, true, false, List, [], ◌∷◌, length, get_or, find, Some, None, refl, sym, ◌∙◌, ap, arith}
 use Rattle.std.specs.List.{remove}
-use Rattle.xl_model.specs.Recency.{without_first, in_front, touched, purged}
+use Rattle.xl_model.specs.Recency.{without_first, touched}
 use Rattle.xl_recency.specs.Lists.{IsTest, IsFirst, AllFail}
 
 module _ {A : Type 0} (q : A → Bool) where

@@ -1,3 +1,4 @@
 pub mod Lists
 pub mod Widths
 pub mod Stamps
+pub mod SetLists

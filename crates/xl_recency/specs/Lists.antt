@@ -1,5 +1,5 @@
 -- What closures and scans answer, and sets of recency lists.
-use Rattle.std.specs.Prelude.{◌≡◌, ℕ, ◌+◌, ◌<◌, ◌≤◌, Bool, true, false, List, [], ◌∷◌, length, slice_index_or}
+use Rattle.std.specs.Prelude.{◌≡◌, ℕ, ◌+◌, ◌<◌, Bool, true, false, List, [], ◌∷◌, length, slice_index_or}
 
 -- a closure computes this test
 pub record IsTest {A : Type 0} (answers : A → Bool → Type 0) (test : A → Bool) : Type 0 where

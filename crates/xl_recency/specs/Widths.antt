@@ -1,5 +1,5 @@
 -- The widths of recency lists, and a list of any of them.
-use Rattle.std.specs.Prelude.{ℕ, ◌==◌, Bool, ◌||◌, IsTrue, List, []}
+use Rattle.std.specs.Prelude.{ℕ, ◌==◌, ◌||◌, IsTrue, List, []}
 use Rattle.xl_model.specs.Caches.{Cached}
 use Rattle.xl_recency.specs.declared.item.Item.{Item}
 use Rattle.xl_recency.specs.declared.cache.Slots.{Slots}

@@ -68,6 +68,7 @@ impl<const W: usize> Sets<W> {
         requires test { P.IsAlwaysCallable test }
         ensures found { (q : _) → IsTest (FnReturnsAt P.Fn test) q → result ≡ find q (slice_index_or self.old set []) }
         ensures moved { (q : _) → IsTest (FnReturnsAt P.Fn test) q → self.new ≡ slice_set self.old set (touched q (slice_index_or self.old set [])) }
+        ensures count { length self.new ≡ length self.old }
     {
         let ways = &mut self.sets[set];
         ways.touch(test)
@@ -91,7 +92,8 @@ impl<const W: usize> Sets<W> {
         requires width { W ≤ 64 }
         requires test { P.IsAlwaysCallable test }
         ensures kept { (q : _) → IsTest (FnReturnsAt P.Fn test) q → self.new ≡ map (purged q) self.old }
-        ensures count { result + items_in self.new ≡ items_in self.old }
+        ensures left { result + items_in self.new ≡ items_in self.old }
+        ensures count { length self.new ≡ length self.old }
     {
         remove_from_each(&mut self.sets, &test)
     }

@@ -1,5 +1,5 @@
 //! The recency list that leaves each item in its place and stamps it: the newest has the greatest
-//! stamp. Its calls scan the stamps, under the contracts of the list that serves.
+//! stamp. Its calls scan the stamps, under the contracts of the array.
 
 ghost use Rattle.std.specs.Prelude.{◌≡◌, ℕ, ◌+◌, ◌-◌, ◌*◌, ◌^◌, ◌<◌, ◌≤◌, nat_le, true, false, List, [], ◌∷◌, ◌++◌, length, find, take, drop, map, count_by, slice_index_or, slice_set, option_to_list, IfOk, IfSome, IfNone};
 ghost use Rattle.std.specs.Fn.{FnReturnsAt};
@@ -233,7 +233,7 @@ fn keep_used<P: Fn(&Item) -> bool>(places: &mut [Place], len: usize, test: &P) -
 }
 
 impl<const W: usize> Ways<W> {
-    /// An empty list. None of memory is wanted later.
+    /// An empty list. Its places are all there from now on.
     pub fn open(alloc: Global) -> Result<Ways<W>, NoMemory>
         requires { W ≤ 64 }
         ensures { IfOk result (λ ways. ways ≡ []) }

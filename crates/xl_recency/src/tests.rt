@@ -1,7 +1,9 @@
 //! The stamps' end, and one list of calls on both forms, at each width.
 
-ghost use Rattle.std.specs.Prelude.{◌≤◌, ◌<◌};
+ghost use Rattle.std.specs.Prelude.{◌≡◌, ◌≤◌, ◌<◌, ◌==◌, find};
+ghost use Rattle.xl_model.specs.Recency.{touched};
 
+use crate::associative::SetAssociative;
 use crate::cache::Cache;
 use crate::item::Item;
 use crate::sets::Sets;
@@ -71,6 +73,59 @@ fn sets_stand_apart(rt: HostRuntime) {
     assert_eq!(rt; sets.touch(1, |item| item.tag == 1), None);
     assert_eq!(rt; sets.touch(2, |item| item.tag == 1), Some(item(1)));
     assert_eq!(rt; sets.remove_where(|item| item.tag == 1), 2);
+}
+
+#[test]
+fn sets_of_a_width_stand_apart(rt: HostRuntime) {
+    let Ok(mut array) = SetAssociative::open(rt.alloc(), 1, 2) else {
+        assert!(rt; false);
+        return;
+    };
+    assert_eq!(rt; array.fill(0, item(1)), None);
+    assert_eq!(rt; array.fill(1, item(2)), None);
+    assert_eq!(rt; array.fill(1, item(3)), Some(item(2)));
+    assert_eq!(rt; array.touch(0, |item| item.tag == 1), Some(item(1)));
+    assert_eq!(rt; array.remove_where(|_| true), 2);
+}
+
+/// How a caller reads the contract of `touch`: the item with the tag comes to the front.
+fn touch_tag(ways: &mut Ways<8>, tag: u64) -> Option<Item>
+    ensures found { result ≡ find (λ item. item.tag == tag) ways.old }
+    ensures moved { ways.new ≡ touched (λ item. item.tag == tag) ways.old }
+{
+    ways.touch(|item| item.tag == tag)
+}
+
+#[test]
+fn the_newest_of_two_alike_is_touched(rt: HostRuntime) {
+    let Ok(mut ways) = Ways::<8>::open(rt.alloc()) else {
+        assert!(rt; false);
+        return;
+    };
+    assert_eq!(rt;
+        ways.fill(Item {
+            tag: 1,
+            word: 1,
+            more: 0
+        }),
+        None
+    );
+    assert_eq!(rt;
+        ways.fill(Item {
+            tag: 1,
+            word: 2,
+            more: 0
+        }),
+        None
+    );
+    assert_eq!(rt;
+        touch_tag(&mut ways, 1),
+        Some(Item {
+            tag: 1,
+            word: 2,
+            more: 0
+        })
+    );
 }
 
 /// 10,000 calls on a list of each form: whether they answer alike.

@@ -1,4 +1,4 @@
-//! The recency list that serves: an array with the newest item first.
+//! The recency list as an array with the newest item first.
 
 ghost use Rattle.std.specs.Prelude.{◌≡◌, ℕ, ◌+◌, ◌*◌, ◌^◌, ◌<◌, ◌≤◌, List, [], ◌∷◌, length, find, drop, option_to_list, IsOk, IfOk};
 ghost use Rattle.std.specs.Fn.{FnReturnsAt};

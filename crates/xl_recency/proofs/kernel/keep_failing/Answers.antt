@@ -1,4 +1,4 @@
-use Rattle.std.proofs.Common.{ℕ, ◌≡◌, ◌+◌, ◌<◌, ◌≤◌, true, false, not, length, refl, sym, ◌∙◌, ap, arith}
+use Rattle.std.proofs.Common.{not, refl, sym, ◌∙◌, ap, arith}
 use Rattle.std.proofs.lemmas.Fn.{says_at}
 use Rattle.std.proofs.lemmas.List.Filters.{FiltersInPlace-more_no, FiltersInPlace-more_set}
 use Rattle.xl_recency.proofs.kernel.keep_failing.Goals as goal

@@ -1,4 +1,4 @@
-use Rattle.std.proofs.Common.{ℕ, ◌≤◌, not}
+use Rattle.std.proofs.Common.{◌≤◌, not}
 use Rattle.std.specs.Fn.{FnReturnsAt}
 use Rattle.std.proofs.lemmas.List.Filters.{FiltersInPlace}
 use Rattle.xl_recency.specs.Lists.{IsTest}

@@ -1,4 +1,4 @@
-use Rattle.std.proofs.Common.{ℕ, ◌≡◌, ◌∙◌}
+use Rattle.std.proofs.Common.{◌∙◌}
 use Rattle.xl_recency.proofs.Scans.{found, moved, none_found, none_moved}
 use Rattle.xl_recency.proofs.kernel.touch_first.Goals as goal
 

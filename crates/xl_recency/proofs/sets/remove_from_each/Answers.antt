@@ -1,4 +1,4 @@
-use Rattle.std.proofs.Common.{◌≡◌, ℕ, ◌+◌, ◌*◌, ◌<◌, ◌≤◌, ◌++◌, length, map, take, drop, ap, ◌∙◌, arith}
+use Rattle.std.proofs.Common.{◌<◌, length, arith}
 use Rattle.xl_model.specs.Recency.{purged}
 use Rattle.xl_recency.proofs.Totals.{items_in-set, mapped_more}
 use Rattle.xl_recency.proofs.sets.remove_from_each.Goals as goal

@@ -1,6 +1,5 @@
-use Rattle.std.proofs.Common.{◌≡◌, ℕ, ◌+◌, ◌<◌, length, drop, arith}
+use Rattle.std.proofs.Common.{◌≡◌, ◌<◌, length, drop, arith}
 use Rattle.std.proofs.lemmas.List.{length-take, length-drop}
-use Rattle.xl_recency.specs.Stamps.{newest_first, AreStamps}
 use Rattle.xl_recency.proofs.Touches.{free_step}
 use Rattle.xl_recency.proofs.stamped.fill_place.Goals as goal
 

@@ -1,9 +1,9 @@
-use Rattle.std.proofs.Common.{◌≡◌, ℕ, ◌+◌, ◌<◌, ◌≤◌, not, length, get_or, refl, sym, ◌∙◌, ap, arith}
+use Rattle.std.proofs.Common.{◌≡◌, ◌<◌, not, length, get_or, refl, sym, ◌∙◌, ap, arith}
 use Rattle.std.proofs.lemmas.Fn.{says_at}
 use Rattle.std.proofs.lemmas.List.Filters.{FiltersInPlace-all, FiltersInPlace-more_no, FiltersInPlace-more_set}
 use Rattle.std.proofs.lemmas.List.{get_or_default}
 use Rattle.xl_recency.specs.declared.stamped.Place.{Place}
-use Rattle.xl_recency.specs.Stamps.{newest_first, AreStamps}
+use Rattle.xl_recency.specs.Stamps.{newest_first}
 use Rattle.xl_recency.proofs.Touches.{no_place, purged_step, stamps_skip, stamps_keep}
 use Rattle.xl_recency.proofs.stamped.keep_places.Goals as goal
 use Rattle.xl_recency.proofs.stamped.keep_places.Goals.{then-not-test, else-not-test}

@@ -1,5 +1,5 @@
-use Rattle.std.proofs.Common.{◌≡◌, ◌∙◌, ap, arith}
-use Rattle.xl_recency.specs.Stamps.{newest_first, AreStamps}
+use Rattle.std.proofs.Common.{◌∙◌, ap}
+use Rattle.xl_recency.specs.Stamps.{newest_first}
 use Rattle.xl_recency.proofs.Ranks.{renumbered_same, stamps_renumbered}
 use Rattle.xl_recency.proofs.stamped.make_room.Goals as goal
 

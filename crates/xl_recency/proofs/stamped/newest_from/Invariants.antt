@@ -1,4 +1,4 @@
-use Rattle.std.proofs.Common.{ℕ, ◌<◌, length}
+use Rattle.std.proofs.Common.{◌<◌, length}
 use Rattle.std.specs.Fn.{FnReturnsAt}
 use Rattle.xl_recency.specs.Stamps.{IsNewest}
 use Rattle.xl_recency.proofs.stamped.newest_from.Given as goal

@@ -1,7 +1,7 @@
-use Rattle.std.proofs.Common.{◌≡◌, ℕ, ◌+◌, ◌<◌, length, get_or, set, sym, ◌∙◌, ap, inl, inr, arith}
+use Rattle.std.proofs.Common.{◌≡◌, ◌<◌, length, set, ◌∙◌, ap, inl, inr, arith}
 use Rattle.std.proofs.lemmas.Bool.{cases_lt}
 use Rattle.std.proofs.lemmas.List.{length-set, get_or-set_same, get_or-set_other, get_or_default}
-use Rattle.xl_recency.specs.Stamps.{rank_of, renumbered}
+use Rattle.xl_recency.specs.Stamps.{rank_of}
 use Rattle.xl_recency.proofs.Ranks.{renumbered_more}
 use Rattle.xl_recency.proofs.stamped.renumber.Goals as goal
 

@@ -1,5 +1,4 @@
-use Rattle.std.proofs.Common.{◌≡◌, ℕ, ◌+◌, ◌<◌, length, arith}
-use Rattle.xl_recency.specs.Stamps.{newest_first, AreStamps}
+use Rattle.std.proofs.Common.{arith}
 use Rattle.xl_recency.proofs.Touches.{full_step, stamps_set}
 use Rattle.xl_recency.proofs.stamped.replace_oldest.Goals as goal
 

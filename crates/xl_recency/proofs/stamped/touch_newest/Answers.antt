@@ -1,7 +1,6 @@
-use Rattle.std.proofs.Common.{◌≡◌, ℕ, ◌+◌, ◌<◌, find, refl, sym, ◌∙◌, ap, arith}
+use Rattle.std.proofs.Common.{find, ◌∙◌, ap, arith}
 use Rattle.xl_model.specs.Recency.{touched}
-use Rattle.xl_recency.specs.Stamps.{newest_first, AreStamps}
-use Rattle.xl_recency.proofs.Touches.{stamped_at, touch_step, touch_none, stamps_set}
+use Rattle.xl_recency.proofs.Touches.{touch_step, touch_none, stamps_set}
 use Rattle.xl_recency.proofs.stamped.touch_newest.Goals as goal
 
 pub returns-in-Some : goal.returns-in-Some

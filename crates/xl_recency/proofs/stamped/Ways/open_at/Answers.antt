@@ -1,4 +1,4 @@
-use Rattle.std.proofs.Common.{◌≡◌, ℕ, ◌-◌, ◌≤◌, arith}
+use Rattle.std.proofs.Common.{◌-◌, arith}
 use Rattle.xl_recency.proofs.Touches.{no_stamps, no_items}
 use Rattle.xl_recency.proofs.stamped.Ways.open_at.Goals as goal
 

@@ -1,0 +1,32 @@
+//! Runs many calls on the parts whose speed matters, for a script that times them. Each line of input
+//! names a part and how many calls to make; each line of output adds a checksum of the answers.
+#![tactic(auto)]
+
+mod blocks;
+mod lists;
+
+use std::io;
+use std::str::FromStr;
+
+fn main(rt: HostRuntime) -> io::Result<()> {
+    for line in rt.lines(rt.alloc()) {
+        let line = line?;
+        let Some((part, calls)) = line.as_str().split_once(' ') else {
+            println!(rt; "a part and a number of calls are wanted")?;
+            continue;
+        };
+        let Ok(calls) = u64::from_str(calls) else {
+            println!(rt; "a number of calls is wanted")?;
+            continue;
+        };
+        let answers = match part {
+            "lists" => lists::answers(rt.alloc(), calls),
+            _ => blocks::answers(rt.alloc(), 1 << 22, calls),
+        };
+        match answers {
+            Ok(sum) => println!(rt; "{part} {calls} {sum}")?,
+            Err(_) => println!(rt; "{part} {calls} no memory")?,
+        }
+    }
+    Ok(())
+}
