@@ -8,7 +8,7 @@ use Rattle.std.proofs.lemmas.Bool.Decides.{nat_tests}
 use Rattle.xl_lackey.specs.declared.line.Verdict.{Verdict}
 use Rattle.xl_lackey.specs.declared.line.Verdict.TheVariants.{Skipped, Bad}
 use Rattle.xl_lackey.specs.Lines.{parted, in_front, judge, of_text, of_words, after, is_blank, is_remark}
-use Rattle.xl_lackey.specs.Stream.{onto, lines_of, items, with_verdict, next_line}
+use Rattle.xl_lackey.specs.Stream.{onto, lines_of, onto_ended, ended_lines, items, with_verdict, next_line}
 
 -- a line without a newline, at the front of other lines
 abbrev joined : List ℕ → List (List ℕ) → List (List ℕ)
@@ -77,7 +77,7 @@ items_joined n a b c xs ys (l ∷ ls) h k =
     ap (λ (v : Verdict). with_verdict (next_line n) v (items (next_line n) ls))
     (judge_long a b c (xs ++ l) (omega (arith, length-append xs l)) ∙ sym (judge_long a b c (ys ++ l) (omega (arith, length-append ys l))))
 
-parted_take : (n : ℕ) (l : List ℕ) → parted 10 l ≡ None → parted 10 (take n l) ≡ None
+pub parted_take : (n : ℕ) (l : List ℕ) → parted 10 l ≡ None → parted 10 (take n l) ≡ None
 parted_take zero l h = refl
 parted_take (suc n) [] h = refl
 parted_take (suc n) (b ∷ bs) h =
@@ -98,3 +98,47 @@ let_long_go n (a ∷ b ∷ c ∷ xs) rest h l =
 
 pub let_go : (n : ℕ) (held rest : List ℕ) → parted 10 held ≡ None → items n (lines_of (take 258 held ++ rest)) ≡ items n (lines_of (held ++ rest))
 let_go n held rest h = elim (cases_lt 258 (length held)) [ inl l ↦ let_long_go n held rest h l | inr l ↦ ap (λ (kept : List ℕ). items n (lines_of (kept ++ rest))) (take_all 258 held l) ]
+
+-- the same of the lines that a newline ends: the line is one of them once its newline comes
+abbrev joined_ended : List ℕ → List (List ℕ) → List (List ℕ)
+joined_ended l [] = []
+joined_ended l (k ∷ ks) = (l ++ k) ∷ ks
+
+joined_nothing : (ls : List (List ℕ)) → ls ≡ joined_ended [] ls
+joined_nothing [] = refl
+joined_nothing (k ∷ ks) = refl
+
+more_ended : (b : ℕ) (l : List ℕ) (ls : List (List ℕ)) → onto_ended b (joined_ended l ls) ≡ joined_ended (b ∷ l) ls
+more_ended b l [] = refl
+more_ended b l (k ∷ ks) = refl
+
+ended_joined : (l rest : List ℕ) → parted 10 l ≡ None → ended_lines (l ++ rest) ≡ joined_ended l (ended_lines rest)
+ended_joined [] rest h = joined_nothing (ended_lines rest)
+ended_joined (b ∷ l) rest h =
+    let no = no_newline b l h in
+    ap (λ (t : Bool). if t then ([] ∷ ended_lines (l ++ rest)) else onto_ended b (ended_lines (l ++ rest))) no.0
+    ∙ ap (onto_ended b) (ended_joined l rest no.1) ∙ more_ended b l (ended_lines rest)
+
+pub none_ended : (l : List ℕ) → parted 10 l ≡ None → ended_lines (l ++ []) ≡ []
+none_ended l h = ended_joined l [] h
+
+items_ended : (n a b c : ℕ) (xs ys : List ℕ) (ls : List (List ℕ)) → 254 < length xs → 254 < length ys
+    → items n (joined_ended (a ∷ b ∷ c ∷ xs) ls) ≡ items n (joined_ended (a ∷ b ∷ c ∷ ys) ls)
+items_ended n a b c xs ys [] h k = refl
+items_ended n a b c xs ys (l ∷ ls) h k = items_joined n a b c xs ys (l ∷ ls) h k
+
+let_long_ended : (n : ℕ) (held rest : List ℕ) → parted 10 held ≡ None → 258 < length held
+    → items n (ended_lines (take 258 held ++ rest)) ≡ items n (ended_lines (held ++ rest))
+let_long_ended n [] rest h l = absurd (omega arith)
+let_long_ended n (a ∷ []) rest h l = absurd (omega arith)
+let_long_ended n (a ∷ b ∷ []) rest h l = absurd (omega arith)
+let_long_ended n (a ∷ b ∷ c ∷ xs) rest h l =
+    let size : length (take 255 xs) ≡ 255 = length-take-le 255 xs (omega arith) in
+    ap (items n) (ended_joined (take 258 (a ∷ b ∷ c ∷ xs)) rest (parted_take 258 (a ∷ b ∷ c ∷ xs) h))
+    ∙ items_ended n a b c (take 255 xs) xs (ended_lines rest) (omega arith) (omega arith)
+    ∙ sym (ap (items n) (ended_joined (a ∷ b ∷ c ∷ xs) rest h))
+
+pub let_go_ended : (n : ℕ) (held rest : List ℕ) → parted 10 held ≡ None → items n (ended_lines (take 258 held ++ rest)) ≡ items n (ended_lines (held ++ rest))
+let_go_ended n held rest h =
+    elim (cases_lt 258 (length held))
+    [ inl l ↦ let_long_ended n held rest h l | inr l ↦ ap (λ (kept : List ℕ). items n (ended_lines (kept ++ rest))) (take_all 258 held l) ]

@@ -40,6 +40,21 @@ lines_from (b ∷ bs) rest =
     elim (b == 10) as (λ t. starts_lines (if t then Some ([], bs) else option_map (in_front b) (parted 10 bs)) rest (if t then ([] ∷ lines_of (bs ++ rest)) else onto b (lines_of (bs ++ rest))))
     [ true ↦ refl | false ↦ lines_by_part b (parted 10 bs) rest (lines_of (bs ++ rest)) (lines_from bs rest) ]
 
+abbrev starts_due : Option (List ℕ × List ℕ) → List ℕ → List (List ℕ) → Type 0
+starts_due None rest lines = Unit {0}
+starts_due (Some parts) rest lines = lines ≡ parts.0 ∷ ended_lines (parts.1 ++ rest)
+
+due_by_part : (b : ℕ) (parts : Option (List ℕ × List ℕ)) (rest : List ℕ) (lines : List (List ℕ)) → starts_due parts rest lines
+    → starts_due (option_map (in_front b) parts) rest (onto_ended b lines)
+due_by_part b None rest lines h = tt
+due_by_part b (Some parts) rest lines h = ap (onto_ended b) h
+
+due_from : (text rest : List ℕ) → starts_due (parted 10 text) rest (ended_lines (text ++ rest))
+due_from [] rest = tt
+due_from (b ∷ bs) rest =
+    elim (b == 10) as (λ t. starts_due (if t then Some ([], bs) else option_map (in_front b) (parted 10 bs)) rest (if t then ([] ∷ ended_lines (bs ++ rest)) else onto_ended b (ended_lines (bs ++ rest))))
+    [ true ↦ refl | false ↦ due_by_part b (parted 10 bs) rest (ended_lines (bs ++ rest)) (due_from bs rest) ]
+
 -- the first line of a text that a newline ends, and what is left behind it
 pub ended_first : (text line after : List ℕ) → parted 10 text ≡ Some (line, after) → ended_lines text ≡ line ∷ ended_lines after
 ended_first text line after h =
@@ -53,6 +68,10 @@ pub lines_first : (text rest line after : List ℕ) → parted 10 text ≡ Some 
 lines_first text rest line after h =
     let P : Option (List ℕ × List ℕ) → Type 0 = λ parts. starts_lines parts rest (lines_of (text ++ rest)) in subst P h (lines_from text rest)
 
+pub ended_more : (text rest line after : List ℕ) → parted 10 text ≡ Some (line, after) → ended_lines (text ++ rest) ≡ line ∷ ended_lines (after ++ rest)
+ended_more text rest line after h =
+    let P : Option (List ℕ × List ℕ) → Type 0 = λ parts. starts_due parts rest (ended_lines (text ++ rest)) in subst P h (due_from text rest)
+
 -- one step of the reading, by what the line is
 pub due_step : (n m : ℕ) (text line after : List ℕ) (v : Verdict) (due : ℕ × Verdict) → parted 10 text ≡ Some (line, after)
     → first_due n (ended_lines text) ≡ due → m ≡ next_line n → v ≡ judge line → of_due m v (first_due m (ended_lines after)) ≡ due
@@ -64,6 +83,12 @@ pub items_step : (n m : ℕ) (text rest line after : List ℕ) (v : Verdict) (le
     → with_verdict m v (items m (lines_of (after ++ rest))) ≡ left
 items_step n m text rest line after v left h k e f =
     rw (e, f) (sym (ap (items n) (lines_first text rest line after h)) ∙ k)
+
+pub ended_step : (n m : ℕ) (text rest line after : List ℕ) (v : Verdict) (left : Left) → parted 10 text ≡ Some (line, after)
+    → items n (ended_lines (text ++ rest)) ≡ left → m ≡ next_line n → v ≡ judge line
+    → with_verdict m v (items m (ended_lines (after ++ rest))) ≡ left
+ended_step n m text rest line after v left h k e f =
+    rw (e, f) (sym (ap (items n) (ended_more text rest line after h)) ∙ k)
 
 pub due_found : (n : ℕ) (v : Verdict) (later : ℕ × Verdict) → v ≢ Skipped → of_due n v later ≡ (n, v)
 due_found n Skipped later h = absurd (h refl)

@@ -1,5 +1,5 @@
 -- What the steps of a reader do to what is left for it.
-use Rattle.std.proofs.Common.{◌≡◌, ℕ, ◌+◌, ◌-◌, ◌≤◌, ◌<◌, true, List, [], ◌++◌, length, take, drop, min, ap, ap₂, arith, ◌∙◌, sym, subst, inl, inr}
+use Rattle.std.proofs.Common.{◌≡◌, ℕ, ◌+◌, ◌-◌, ◌≤◌, ◌<◌, true, false, List, [], ◌++◌, length, take, drop, min, ap, ap₂, arith, ◌∙◌, sym, subst, inl, inr}
 use Rattle.std.specs.Prelude.{Option, None, Some}
 use Rattle.std.proofs.lemmas.Bool.{cases_lt}
 use Rattle.std.proofs.lemmas.List.{take-take, take_all, drop-take, drop_all, take-append-le, length-take, length-take-le, length-drop}
@@ -10,9 +10,9 @@ use Rattle.xl_lackey.specs.declared.line.Verdict.TheVariants.{Skipped, Bad}
 use Rattle.xl_lackey.specs.declared.next.Next.{Next}
 use Rattle.xl_lackey.specs.declared.next.Next.TheVariants as answer
 use Rattle.xl_lackey.specs.Lines.{parted, judge}
-use Rattle.xl_lackey.specs.Stream.{State, Item, Left, left, left_of, lines_of, items, with_verdict, next_line}
+use Rattle.xl_lackey.specs.Stream.{State, Item, Left, left, left_of, lines_of, due, due_of, ended_lines, items, with_verdict, next_line}
 use Rattle.xl_lackey.specs.Answers.{Answers, Gives, Ends, Refuses, with_item}
-use Rattle.xl_lackey.proofs.Long.{last_line, let_go}
+use Rattle.xl_lackey.proofs.Long.{last_line, let_go, let_go_ended, none_ended, parted_take}
 
 take_short : (m n : ℕ) (l : List ℕ) → m < n → take (min n m) l ≡ take m (take n l)
 take_short m n l h = let e : min n m ≡ m = omega arith in rw e (sym (take-take m n l (omega arith)))
@@ -44,11 +44,34 @@ left_passed s t text before used n v h a b reads e rest =
     ∙ ap (λ (bs : List ℕ). with_verdict n v (items n (lines_of (drop used bs ++ rest)))) a
     ∙ sym (ap (with_verdict n v) (ap (λ (u : State). left u rest) e ∙ ap (λ (c : Option Fault). left_of c n (drop used s.held ++ rest)) h))
 
+pub due_good : (s : State) (rest : List ℕ) → s.bad ≡ None → due s rest ≡ items s.lines (ended_lines (s.held ++ rest))
+due_good s rest h = ap (λ (b : Option Fault). due_of b s.lines (s.held ++ rest)) h
+
+pub due_passed : (s t : State) (text : List ℕ) (before used n : ℕ) (v : Verdict) → s.bad ≡ None → text ≡ s.held → before ≡ s.lines
+    → ((rest : List ℕ) → items before (ended_lines (text ++ rest)) ≡ with_verdict n v (items n (ended_lines (drop used text ++ rest))))
+    → t ≡ record s { lines = n; held = drop used s.held } → (rest : List ℕ) → due s rest ≡ with_verdict n v (due t rest)
+due_passed s t text before used n v h a b ended e rest =
+    due_good s rest h
+    ∙ sym (ap₂ (λ (m : ℕ) (bs : List ℕ). items m (ended_lines (bs ++ rest))) b a)
+    ∙ ended rest
+    ∙ ap (λ (bs : List ℕ). with_verdict n v (items n (ended_lines (drop used bs ++ rest)))) a
+    ∙ sym (ap (with_verdict n v) (ap (λ (u : State). due u rest) e ∙ ap (λ (c : Option Fault). due_of c n (drop used s.held ++ rest)) h))
+
 -- bytes of a long line that are let go
 pub left_kept : (s t : State) → s.bad ≡ None → parted 10 s.held ≡ None → t ≡ record s { held = take 258 s.held } → (rest : List ℕ) → left t rest ≡ left s rest
 left_kept s t h none e rest =
     ap (λ (u : State). left u rest) e ∙ ap (λ (b : Option Fault). left_of b s.lines (take 258 s.held ++ rest)) h
     ∙ let_go s.lines s.held rest none ∙ sym (left_good s rest h)
+
+pub due_kept : (s t : State) → s.bad ≡ None → parted 10 s.held ≡ None → t ≡ record s { held = take 258 s.held } → (rest : List ℕ) → due t rest ≡ due s rest
+due_kept s t h none e rest =
+    ap (λ (u : State). due u rest) e ∙ ap (λ (b : Option Fault). due_of b s.lines (take 258 s.held ++ rest)) h
+    ∙ let_go_ended s.lines s.held rest none ∙ sym (due_good s rest h)
+
+pub due_none : (s t : State) → s.bad ≡ None → parted 10 s.held ≡ None → t ≡ record s { held = take 258 s.held } → due t [] ≡ ([], None)
+due_none s t h none e =
+    ap (λ (u : State). due u []) e ∙ ap (λ (b : Option Fault). due_of b s.lines (take 258 s.held ++ [])) h
+    ∙ ap (items s.lines) (none_ended (take 258 s.held) (parted_take 258 s.held none))
 
 -- the last line
 pub left_last : (s : State) (n : ℕ) (v : Verdict) → s.bad ≡ None → parted 10 s.held ≡ None → 0 < length s.held → v ≡ judge s.held → n ≡ next_line s.lines
@@ -57,28 +80,33 @@ left_last s n v h none k e f =
     rw (e, f) (left_good s [] h ∙ ap (items s.lines) (last_line s.held none k))
 
 -- an answer after lines that were skipped
-pub answers_on : (r : Next) (old mid new : State) → ((rest : List ℕ) → left old rest ≡ left mid rest) → mid.finished ≡ old.finished
+pub answers_on : (r : Next) (old mid new : State) → ((rest : List ℕ) → left old rest ≡ left mid rest)
+    → ((rest : List ℕ) → due old rest ≡ due mid rest) → mid.finished ≡ old.finished
     → length mid.held ≤ length old.held → Answers r mid new → Answers r old new
-answers_on (answer.Found r) old mid new same f k h = record {
+answers_on (answer.Found r) old mid new same due_same f k h = record {
   reads = λ rest m. same rest ∙ h.reads rest (λ q. m (sym f ∙ q));
+  ended = λ g rest. due_same rest ∙ h.ended (f ∙ g) rest;
   fewer = omega (arith, h.fewer);
   finished = h.finished ∙ f;
   good = h.good;
 }
-answers_on answer.More old mid new same f k h = record {
+answers_on answer.More old mid new same due_same f k h = record {
   reads = λ rest. h.reads rest ∙ sym (same rest);
+  ended = λ rest. h.ended rest ∙ sym (due_same rest);
+  none = h.none;
   unfinished = h.unfinished;
   good = h.good;
   room = h.room;
 }
-answers_on answer.End old mid new same f k h = record {
+answers_on answer.End old mid new same due_same f k h = record {
   finished = sym f ∙ h.finished;
   reads = same [] ∙ h.reads;
   stays = h.stays;
   still = h.still;
 }
-answers_on (answer.BadLine n why) old mid new same f k h = record {
+answers_on (answer.BadLine n why) old mid new same due_same f k h = record {
   reads = λ rest m. same rest ∙ h.reads rest (λ q. m (sym f ∙ q));
+  ended = λ g rest. due_same rest ∙ h.ended (f ∙ g) rest;
   stays = h.stays;
   kept = h.kept;
   finished = h.finished ∙ f;
@@ -92,6 +120,9 @@ left_emptied : (s t : State) (n : ℕ) → s.bad ≡ None → t ≡ passed s n �
 left_emptied s t n h p =
     ap (λ (u : State). left u []) p ∙ ap (λ (c : Option Fault). left_of c n (drop (length s.held) s.held ++ [])) h
     ∙ ap (λ (bs : List ℕ). items n (lines_of (bs ++ []))) (drop_all (length s.held) s.held (omega arith))
+
+true≢false : ¬ (true ≡ false)
+true≢false e = cc
 
 pub last_skipped : (s t : State) (n : ℕ) → s.bad ≡ None → s.finished ≡ true → parted 10 s.held ≡ None → 0 < length s.held
     → Skipped ≡ judge s.held → n ≡ next_line s.lines → t ≡ passed s n → Ends s t
@@ -109,6 +140,7 @@ last_found s t n v r h w none k e f p same = record {
   reads = λ rest m.
       let P : List ℕ → Type 0 = λ bs. left s bs ≡ with_item r (left t bs) in
       subst P (sym (m w)) (left_last s n v h none k e f ∙ same ([], None) ∙ sym (ap (with_item r) (left_emptied s t n h p)));
+  ended = λ g rest. absurd (true≢false (sym w ∙ g));
   fewer =
       let size : length t.held ≡ length (drop (length s.held) s.held) = ap (λ (u : State). length u.held) p in
       omega (arith, size, length-drop (length s.held) s.held);
@@ -123,6 +155,7 @@ last_bad s t u n why h w none k e f p q = record {
   reads = λ rest m.
       let P : List ℕ → Type 0 = λ bs. left s bs ≡ ([], Some (record { line = n; reason = why })) in
       subst P (sym (m w)) (left_last s n (Bad why) h none k e f);
+  ended = λ g rest. absurd (true≢false (sym w ∙ g));
   stays = λ rest. ap (λ (x : State). left x rest) q;
   kept = ap (λ (x : State). x.bad) q;
   finished = ap (λ (x : State). x.finished) q ∙ ap (λ (x : State). x.finished) p;

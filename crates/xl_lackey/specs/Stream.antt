@@ -84,6 +84,14 @@ left_of (Some fault) n bytes = ([], Some fault)
 abbrev pub left : State → List ℕ → Left
 left s rest = left_of s.bad s.lines (s.held ++ rest)
 
+-- what the lines that end give, where these bytes are still to come; a last line without a newline isn't judged
+abbrev pub due_of : Option Fault → ℕ → List ℕ → Left
+due_of None n bytes = items n (ended_lines bytes)
+due_of (Some fault) n bytes = ([], Some fault)
+
+abbrev pub due : State → List ℕ → Left
+due s rest = due_of s.bad s.lines (s.held ++ rest)
+
 -- bytes that may still come: none once the input has ended
 abbrev pub MayCome : State → List ℕ → Type 0
 MayCome s rest = s.finished ≡ true → rest ≡ []

@@ -2,7 +2,7 @@
 
 ghost use Rattle.std.specs.Prelude.{◌≡◌, ◌≢◌, ◌↔◌, ℕ, ◌+◌, ◌-◌, ◌<◌, ◌≤◌, ◌++◌, [], List, true, false, length, take, drop, Option, Some, None, IfOk};
 ghost use Rattle.xl_lackey.specs.Lines.{parted, IsProper};
-ghost use Rattle.xl_lackey.specs.Stream.{fresh, left, records_of, IsWaiting};
+ghost use Rattle.xl_lackey.specs.Stream.{fresh, left, due, records_of, IsWaiting};
 ghost use Rattle.xl_lackey.specs.Answers.{Answers};
 
 use crate::fault::Fault;
@@ -76,6 +76,7 @@ impl Reader {
         requires unfinished { self.old.finished ≡ false }
         ensures held { self.new ≡ record self.old { held = self.old.held ++ piece.now } }
         ensures reads { (rest : List ℕ) → left self.new rest ≡ left self.old (piece.now ++ rest) }
+        ensures ended { (rest : List ℕ) → due self.new rest ≡ due self.old (piece.now ++ rest) }
     {
         let held = self.end - self.start;
         shift(self.buf.as_mut_slice(), self.start, self.end);

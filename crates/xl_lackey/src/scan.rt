@@ -26,6 +26,7 @@ pub(crate) fn read_lines(text: &[u8], before: u64) -> Scan
     ensures first { (result.lines, result.verdict) ≡ first_due before (ended_lines text.now) }
     ensures proper { IsProper result.verdict }
     ensures reads { (rest : List ℕ) → items before (lines_of (text.now ++ rest)) ≡ with_verdict result.lines result.verdict (items result.lines (lines_of (drop result.used text.now ++ rest))) }
+    ensures ended { (rest : List ℕ) → items before (ended_lines (text.now ++ rest)) ≡ with_verdict result.lines result.verdict (items result.lines (ended_lines (drop result.used text.now ++ rest))) }
     ensures takes { result.verdict ≢ Verdict.Skipped → 0 < result.used }
     ensures ends { result.verdict ≡ Verdict.Skipped → parted 10 (drop result.used text.now) ≡ None }
 {

@@ -2,7 +2,7 @@ use Rattle.std.proofs.Common.{◌≡◌, ◌+◌, drop, length, arith, sym, ap, 
 use Rattle.std.specs.Prelude.{None}
 use Rattle.xl_lackey.specs.Lines.{parted}
 use Rattle.xl_lackey.specs.Stream.{ended_lines, first_due, next_line}
-use Rattle.xl_lackey.proofs.Splits.{due_step, items_step, due_found, ended_none}
+use Rattle.xl_lackey.proofs.Splits.{due_step, items_step, ended_step, due_found, ended_none}
 use Rattle.xl_lackey.proofs.scan.read_lines.Goals as goal
 
 pub loop-line-preserved : goal.loop-line-preserved
@@ -14,6 +14,7 @@ loop-line-preserved c =
       within = omega (arith, c.in-Some.ensures.within);
       first = due_step n _ (drop c.loop-line.used text) c.in-Some.line.now after _ _ (sym c.in-Some.ensures.line) c.loop-line.invariant.first refl verdict;
       reads = λ rest. items_step n _ (drop c.loop-line.used text) rest c.in-Some.line.now after _ _ (sym c.in-Some.ensures.line) (c.loop-line.invariant.reads rest) refl verdict;
+      ended = λ rest. ended_step n _ (drop c.loop-line.used text) rest c.in-Some.line.now after _ _ (sym c.in-Some.ensures.line) (c.loop-line.invariant.ended rest) refl verdict;
     }
 
 pub returns-in_default-judge : goal.returns-in_default-judge
@@ -26,6 +27,7 @@ returns-in_default-judge c =
           ∙ due_step n _ (drop c.loop-line.used text) c.in-Some.line.now after c.judge.result _ (sym c.in-Some.ensures.line) c.loop-line.invariant.first refl c.judge.ensures.value;
       proper = c.judge.ensures.proper;
       reads = λ rest. sym (items_step n _ (drop c.loop-line.used text) rest c.in-Some.line.now after c.judge.result _ (sym c.in-Some.ensures.line) (c.loop-line.invariant.reads rest) refl c.judge.ensures.value);
+      ended = λ rest. sym (ended_step n _ (drop c.loop-line.used text) rest c.in-Some.line.now after c.judge.result _ (sym c.in-Some.ensures.line) (c.loop-line.invariant.ended rest) refl c.judge.ensures.value);
       takes = λ h. omega arith;
       ends = λ h. absurd (c.in_default-judge.not-Skipped h);
     }

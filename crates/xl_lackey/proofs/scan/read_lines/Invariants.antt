@@ -7,6 +7,7 @@ invariant-loop-line l = record {
   within : l.used ≤ length l.text;
   first : first_due l.lines (ended_lines (drop l.used l.text)) ≡ first_due l.before (ended_lines l.text);
   reads : (rest : List ℕ) → items l.lines (lines_of (drop l.used l.text ++ rest)) ≡ items l.before (lines_of (l.text ++ rest));
+  ended : (rest : List ℕ) → items l.lines (ended_lines (drop l.used l.text ++ rest)) ≡ items l.before (ended_lines (l.text ++ rest));
 }
 
 abbrev pub decreases-loop-line : goal.decreases-loop-line
