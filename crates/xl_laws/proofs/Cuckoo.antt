@@ -1,18 +1,14 @@
 -- Two keys of one way never have one slot, and a refused insertion keeps every key and word.
-use Rattle.std.proofs.Common.{◌≡◌, refl, sym, ap, ◌∙◌, subst, ℕ, zero, suc, Bool, true, false, cond, List, [], ◌∷◌, ◌++◌, Option, None, Some, ◌⊎◌, inl, inr, ◌&&◌, not, ◌<◌, ◌≤◌, ◌+◌, ◌-◌, ◌*◌, ◌%◌, ◌^◌, min, nat_lt, nat_le, nat_eq, ◌==◌, arith, map, length, slice_set, slice_index_or}
+use Rattle.std.proofs.Common.{◌≡◌, refl, sym, ap, ◌∙◌, subst, ℕ, zero, suc, Bool, true, false, cond, List, [], ◌∷◌, ◌++◌, Option, None, Some, inl, inr, ◌&&◌, not, ◌≤◌, ◌+◌, min, ◌==◌, arith, map, length, slice_set}
 use Rattle.std.specs.Prelude.{find}
 use Rattle.std.proofs.lemmas.Bool.Decides.{nat_tests}
 use Rattle.std.proofs.Math.Seq.{map-set_same}
-use Rattle.xl_model.specs.declared.leaf.Leaf.{Leaf}
-use Rattle.xl_model.specs.declared.address.Order.{Order}
-use Rattle.xl_model.specs.declared.address.Order.TheVariants as order
 use Rattle.xl_model.specs.declared.way.Entry.{Entry}
 use Rattle.xl_model.specs.declared.way.Moves.{Moves}
 use Rattle.xl_model.specs.declared.way.WayRegs.{WayRegs}
 use Rattle.xl_model.specs.Hashes.{way_hash}
-use Rattle.xl_model.specs.Ways.{WayShape, slot_at, slot, has_key, occupant, with_entry, without_key, without_occupant, swapped, with_word, reworded, without_entry, slots_left, begun_regs, regs_after, advanced, begun, opening_way}
+use Rattle.xl_model.specs.Ways.{WayShape, slot_at, slot, occupant, with_entry, without_occupant, swapped, with_word, reworded, without_entry, slots_left, begun_regs, regs_after, advanced, begun, opening_way}
 use Rattle.xl_model.specs.Placing.{one_if, way_at, put_in, next_way, start_way, Attempt, Stands, Fails, Displaced, by_occupant, attempt, to_grow, Candidate, growing_now, forced, forced_moves, Placing, Placed, AtCap, after_attempt, with_growth, growths_left, placing, place, no_moves, settled_way, begins, begun_if_full, settled, after_placing, insertion}
-use Rattle.xl_mapping.specs.Members.{In}
 use Rattle.xl_mapping.proofs.Members.{map-In, find-passes}
 use Rattle.xl_laws.specs.Cuckoo.{how_many, stands_at, SlotsApart, AllApart, entries_of, ARefusalKeepsEveryWord, MigratingMovesNoEntry}
 use Rattle.xl_laws.proofs.Slots.{before_slot, slot-back, begun-slot, how-many-le, how-many-same, how-many-with, how-many-without, how-many-out, how-many-none, how-many-reworded}

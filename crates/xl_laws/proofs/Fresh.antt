@@ -1,12 +1,10 @@
 -- Nothing is stale: what every event keeps of arrays and caches.
-use Rattle.std.proofs.Common.{◌≡◌, refl, sym, ap, ◌∙◌, subst, ℕ, zero, suc, ◌+◌, ◌-◌, ◌*◌, ◌<◌, ◌≤◌, Bool, true, false, not, cond, List, [], ◌∷◌, length, Option, None, Some, Result, Ok, Err, ◌⊎◌, inl, inr, nat_le, ◌&&◌, arith}
+use Rattle.std.proofs.Common.{◌≡◌, refl, sym, ap, subst, ℕ, zero, suc, ◌+◌, ◌-◌, ◌*◌, ◌<◌, ◌≤◌, Bool, true, false, List, [], ◌∷◌, length, Option, None, Some, inl, inr, arith}
 use Rattle.std.specs.Prelude.{find}
-use Rattle.std.specs.List.{list_any}
 use Rattle.std.proofs.lemmas.Bool.Decides.{nat_tests}
 use Rattle.xl_model.specs.declared.address.Kind.{Kind}
 use Rattle.xl_model.specs.declared.address.Mode.{Mode}
 use Rattle.xl_model.specs.declared.address.Mode.TheVariants as mode
-use Rattle.xl_model.specs.declared.address.Order.{Order}
 use Rattle.xl_model.specs.declared.address.Order.TheVariants as order
 use Rattle.xl_model.specs.declared.leaf.Leaf.{Leaf}
 use Rattle.xl_model.specs.declared.leaf.Range.{Range}
@@ -16,33 +14,29 @@ use Rattle.xl_model.specs.declared.event.Reach.{Reach}
 use Rattle.xl_model.specs.declared.event.Refusal.{Refusal}
 use Rattle.xl_model.specs.declared.row.Table.{Table}
 use Rattle.xl_model.specs.declared.row.Table.TheVariants as table
-use Rattle.xl_model.specs.declared.work.Refused.{Refused}
-use Rattle.xl_model.specs.declared.work.Work.{Work}
 use Rattle.xl_model.specs.Addresses.{levels_of, pages_of, is_canonical, page_of}
 use Rattle.xl_model.specs.Mapping.{covers, leaf_at_page}
 use Rattle.xl_model.specs.Rows.{Row}
-use Rattle.xl_model.specs.Changes.{Change, Insert, Remove, Protect, Relocate, old_leaf, new_leaf, changed}
+use Rattle.xl_model.specs.Changes.{Change, old_leaf, changed}
 use Rattle.xl_model.specs.Rules.{rule, change_of}
-use Rattle.xl_model.specs.Nodes.{Node, in_nodes, free_count, leaf_nodes_missing, only_needed}
-use Rattle.xl_model.specs.Placing.{Placing}
-use Rattle.xl_model.specs.Sections.{Section}
+use Rattle.xl_model.specs.Nodes.{Node, in_nodes, only_needed}
 use Rattle.xl_model.specs.Ranges.{ranges_of, holds_page}
-use Rattle.xl_model.specs.Shapes.{Shape, Radix, Chained, Cuckoo, Runs, CuckooWays, CuckooRules, brought, placed_leaf, is_placed, ways_of, ways_brought, ways_taken, widened, narrowed, shape_after, opening_shape}
+use Rattle.xl_model.specs.Shapes.{Shape, Radix, Chained, Cuckoo, Runs, CuckooWays, CuckooRules, brought, ways_brought, ways_taken, widened, narrowed, shape_after, opening_shape}
 use Rattle.xl_model.specs.Room.{room_for, has_room}
-use Rattle.xl_model.specs.Caches.{Caches, NodeCaches, SectionCaches, RangeCache, NoCaches, Cached, Numbered, empty_caches, empty_cache, section_caches, opening_caches, caches_purged, caches_fenced, reaches_space, reaches_range}
+use Rattle.xl_model.specs.Caches.{Caches, NodeCaches, SectionCaches, RangeCache, NoCaches, Cached, Numbered, empty_caches, section_caches, opening_caches, caches_purged, caches_fenced, reaches_space, reaches_range}
 use Rattle.xl_model.specs.Walks.{range_walk_by, walked, start_level, is_page_section, fills_m2, is_found}
 use Rattle.xl_model.specs.Structures.{answer_by, TableState, Verdict, Made, NoSpace, NoPlace, finds_place, verdict_by, verdict, table_made, table_answer, table_after, after_by, table_walked, table_fenced}
 use Rattle.xl_model.specs.Tally.{count_look}
-use Rattle.xl_model.specs.Tlb.{TlbArray, Answer, answer_of, arrays_filled, reaches_leaf, arrays_without}
-use Rattle.xl_model.specs.RowRun.{RowState, opening, walk_filled, walk_made, looked_by, looked, looked_where, accessed, arrays_after, purged_at, changed_by, changed_where, fenced, reach_of, served, after_rule, after_event}
+use Rattle.xl_model.specs.Tlb.{Answer, answer_of, reaches_leaf}
+use Rattle.xl_model.specs.RowRun.{RowState, opening, walk_filled, walk_made, looked_by, looked, looked_where, accessed, purged_at, changed_by, changed_where, fenced, reach_of, served, after_rule, after_event}
 use Rattle.xl_mapping.specs.Members.{In}
 use Rattle.xl_mapping.specs.Mappings.{IsMapping, IsSound}
 use Rattle.xl_mapping.proofs.Members.{find-In, find-passes}
 use Rattle.xl_mapping.proofs.Ruled.{sound-of, kept-sound}
-use Rattle.xl_laws.specs.Fresh.{ArraysFresh, TagsFresh, SectionsFresh, RangesFresh, RangeFresh, CachesFresh, IsFresh, NothingIsStale}
+use Rattle.xl_laws.specs.Fresh.{ArraysFresh, CachesFresh, NothingIsStale}
 use Rattle.xl_laws.proofs.Runs.{Keeps, run-keeps}
-use Rattle.xl_laws.proofs.Leaves.{mapping-kept, opening-mapping}
-use Rattle.xl_laws.proofs.FreshArrays.{answer-held, hit-fresh, filled-fresh, without-fresh, changed-fresh, opening-fresh}
+use Rattle.xl_laws.proofs.Leaves.{opening-mapping}
+use Rattle.xl_laws.proofs.FreshArrays.{hit-fresh, filled-fresh, without-fresh, changed-fresh, opening-fresh}
 use Rattle.xl_laws.proofs.FreshNodes.{NodesFull, wide, HasPath, IsFound, full-after, tags-after, tags-fenced, tags-walked, same-length, without-few}
 use Rattle.xl_laws.proofs.FreshSections.{section-walked, section-fenced, section-after, section-refused, refused-same}
 use Rattle.xl_laws.proofs.FreshRanges.{ranges-fresh, range-filled, range-touched, range-fenced, range-after}

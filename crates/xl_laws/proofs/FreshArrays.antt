@@ -1,6 +1,6 @@
 -- Leaves of TLB arrays: touched, filled, purged.
-use Rattle.std.proofs.Common.{◌≡◌, refl, sym, ap, ◌∙◌, subst, ℕ, zero, suc, ◌+◌, ◌*◌, ◌^◌, Bool, true, false, not, cond, List, [], ◌∷◌, take, Option, None, Some, ◌⊎◌, inl, inr, map, slice_set, slice_index_or, nat_lt, ◌==◌, ◌&&◌, arith}
-use Rattle.std.specs.Prelude.{find, filter, replicate}
+use Rattle.std.proofs.Common.{◌≡◌, refl, sym, ◌∙◌, subst, ℕ, zero, suc, Bool, true, false, not, cond, List, [], ◌∷◌, Option, None, Some, ◌⊎◌, inl, inr, map, slice_set, slice_index_or, nat_lt, ◌==◌, arith}
+use Rattle.std.specs.Prelude.{find, replicate}
 use Rattle.std.proofs.lemmas.Bool.Decides.{nat_tests}
 use Rattle.xl_model.specs.declared.address.Order.{Order}
 use Rattle.xl_model.specs.declared.address.Order.TheVariants as order
@@ -9,11 +9,10 @@ use Rattle.xl_model.specs.declared.row.Purge.{Purge}
 use Rattle.xl_model.specs.declared.row.Purge.TheVariants as purge
 use Rattle.xl_model.specs.declared.row.TlbSpec.{TlbSpec}
 use Rattle.xl_model.specs.Addresses.{same_order}
-use Rattle.xl_model.specs.Mapping.{leaf_at_page, covers, is_leaf}
 use Rattle.xl_model.specs.Recency.{without_first, in_front, touched, with_newest, purged}
 use Rattle.xl_model.specs.Rows.{Row}
 use Rattle.xl_model.specs.Changes.{Change, old_leaf, changed}
-use Rattle.xl_model.specs.Tlb.{TlbArray, set_number, set_at, with_set, where_taken, takes_order, covers_as, found_as, first_found, array_hit, array_touched, filled_where, array_filled, Answer, answered_by, answer_of, touched_first, all_touched, filled_below, arrays_hit, arrays_filled, is_purged, array_without, arrays_without, opening_array, opening_arrays}
+use Rattle.xl_model.specs.Tlb.{TlbArray, set_number, set_at, where_taken, takes_order, covers_as, found_as, first_found, array_hit, array_touched, filled_where, array_filled, Answer, answered_by, answer_of, touched_first, all_touched, filled_below, arrays_hit, arrays_filled, is_purged, array_without, arrays_without, opening_array, opening_arrays}
 use Rattle.xl_model.specs.RowRun.{arrays_after}
 use Rattle.xl_mapping.specs.Members.{In}
 use Rattle.xl_mapping.specs.Mappings.{IsMapping, IsSound}

@@ -1,19 +1,16 @@
 -- Node tags: every node that the mapping needs has a number, and a cached tag has that of its node.
-use Rattle.std.proofs.Common.{◌≡◌, refl, sym, ap, ◌∙◌, subst, ℕ, zero, suc, ◌+◌, ◌-◌, ◌*◌, ◌/◌, ◌%◌, ◌^◌, ◌<◌, ◌≤◌, Bool, true, false, not, cond, List, [], ◌∷◌, length, Option, None, Some, ◌⊎◌, inl, inr, map, slice_index_or, nat_lt, nat_le, ◌==◌, ◌&&◌, ◌||◌, arith}
+use Rattle.std.proofs.Common.{◌≡◌, refl, sym, ap, ◌∙◌, subst, ℕ, suc, ◌+◌, ◌-◌, ◌*◌, ◌<◌, ◌≤◌, Bool, true, false, not, cond, List, [], ◌∷◌, length, Option, None, Some, ◌⊎◌, inl, inr, slice_index_or, nat_lt, nat_le, ◌==◌, ◌&&◌, ◌||◌, arith}
 use Rattle.std.specs.List.{list_any, position_from}
 use Rattle.std.proofs.lemmas.Bool.Decides.{nat_tests}
 use Rattle.xl_model.specs.declared.address.Order.{Order}
-use Rattle.xl_model.specs.declared.address.Order.TheVariants as order
-use Rattle.xl_model.specs.declared.perm.Perm.{Perm}
 use Rattle.xl_model.specs.declared.leaf.Leaf.{Leaf}
 use Rattle.xl_model.specs.Addresses.{level_of, pages_of}
 use Rattle.xl_model.specs.Mapping.{covers, leaf_named}
-use Rattle.xl_model.specs.Recency.{touched, with_newest, purged}
-use Rattle.xl_model.specs.Changes.{Change, Insert, Remove, Protect, Relocate, old_leaf, new_leaf, changed, with_perm, at_page}
-use Rattle.xl_model.specs.Nodes.{up, Node, node_at, is_below, is_under, in_nodes, number_of, free_count, with_path, with_leaf_nodes, leaf_nodes_missing, is_needed, kept_node, only_needed}
+use Rattle.xl_model.specs.Changes.{Change, Insert, Remove, Protect, Relocate, new_leaf, changed, with_perm}
+use Rattle.xl_model.specs.Nodes.{up, Node, node_at, is_below, is_under, in_nodes, number_of, free_count, with_path, with_leaf_nodes, leaf_nodes_missing, is_needed, only_needed}
 use Rattle.xl_model.specs.Shapes.{brought}
 use Rattle.xl_model.specs.Caches.{Cached, Numbered, without_items, all_without}
-use Rattle.xl_model.specs.Walks.{is_tag, start_level, number_or_0, numbered, node_cache_after, node_caches_after, with_touch, with_fill}
+use Rattle.xl_model.specs.Walks.{is_tag, number_or_0, numbered, node_cache_after, node_caches_after, with_touch, with_fill}
 use Rattle.xl_mapping.specs.Members.{In}
 use Rattle.xl_mapping.proofs.Members.{any-In, In-any}
 use Rattle.xl_mapping.proofs.Kept.{named-In}
@@ -21,7 +18,7 @@ use Rattle.xl_mapping.proofs.Ends.{covered-under}
 use Rattle.xl_mapping.proofs.Stays.{changed-In}
 use Rattle.xl_laws.specs.Fresh.{TagFresh, TagsFresh}
 use Rattle.xl_laws.proofs.FreshArrays.{touched-In, newest-In, purged-In}
-use Rattle.xl_laws.proofs.Numbers.{position-none, position-any, position-at, path-at, path-has, path-puts, kept-at, kept-has}
+use Rattle.xl_laws.proofs.Numbers.{position-none, position-at, path-at, path-has, path-puts, kept-at, kept-has}
 
 -- every node below the root that the mapping needs is there
 pub record NodesFull (levels : ℕ) (leaves : List Leaf) (nodes : List (Option Node)) : Type 0 where

@@ -1,6 +1,6 @@
 -- Cached ranges: each page of a maximal run is covered, and a change takes the ranges of the old leaf.
-use Rattle.std.proofs.Common.{◌≡◌, refl, sym, ap, ◌∙◌, subst, ℕ, zero, suc, ◌+◌, ◌-◌, ◌*◌, ◌/◌, ◌^◌, ◌<◌, ◌≤◌, Bool, true, false, not, cond, List, [], ◌∷◌, Option, None, Some, ◌⊎◌, inl, inr, nat_lt, nat_le, ◌==◌, ◌&&◌, ◌||◌, arith}
-use Rattle.std.specs.Prelude.{find, IsTrue}
+use Rattle.std.proofs.Common.{◌≡◌, refl, sym, ap, ◌∙◌, subst, ℕ, ◌+◌, ◌-◌, ◌*◌, ◌<◌, ◌≤◌, Bool, true, false, not, cond, List, [], ◌∷◌, Option, None, Some, inl, inr, nat_lt, ◌&&◌, ◌||◌, arith}
+use Rattle.std.specs.Prelude.{IsTrue}
 use Rattle.std.proofs.lemmas.Bool.Decides.{nat_tests}
 use Rattle.std.proofs.Math.Bool.{Bool-set}
 use Rattle.xl_model.specs.declared.address.Order.{Order}
@@ -8,18 +8,16 @@ use Rattle.xl_model.specs.declared.address.Order.TheVariants as order
 use Rattle.xl_model.specs.declared.perm.Perm.{Perm}
 use Rattle.xl_model.specs.declared.leaf.Leaf.{Leaf}
 use Rattle.xl_model.specs.declared.leaf.Range.{Range}
-use Rattle.xl_model.specs.Addresses.{pages_of, level_of, same_order}
+use Rattle.xl_model.specs.Addresses.{pages_of, same_order}
 use Rattle.xl_model.specs.Mapping.{covers}
-use Rattle.xl_model.specs.Recency.{touched, with_newest, purged}
 use Rattle.xl_model.specs.Rows.{Row}
 use Rattle.xl_model.specs.Changes.{Change, old_leaf, changed}
 use Rattle.xl_model.specs.Sections.{same_bit}
 use Rattle.xl_model.specs.Ranges.{same_perm, range_of_leaf, goes_into, joined, ranges_of, holds_page}
 use Rattle.xl_model.specs.Caches.{Cached, without_items, holds_first}
-use Rattle.xl_model.specs.Walks.{with_range, with_touch, with_fill}
+use Rattle.xl_model.specs.Walks.{with_range, with_touch}
 use Rattle.xl_mapping.specs.Members.{In}
 use Rattle.xl_mapping.specs.Mappings.{IsMapping, IsSound}
-use Rattle.xl_mapping.proofs.Members.{find-In}
 use Rattle.xl_mapping.proofs.Stays.{stays-changed}
 use Rattle.xl_laws.specs.Fresh.{PageCovered, RangeFresh, RangesFresh}
 use Rattle.xl_laws.proofs.FreshArrays.{touched-In, newest-In, purged-In}

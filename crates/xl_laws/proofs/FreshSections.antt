@@ -1,6 +1,5 @@
 -- Cached sections: filled as they are, and out where their bits or their way change.
-use Rattle.std.proofs.Common.{◌≡◌, refl, sym, ap, ◌∙◌, subst, ℕ, zero, suc, ◌+◌, ◌*◌, ◌/◌, Bool, true, false, not, cond, List, [], ◌∷◌, Option, None, Some, ◌⊎◌, inl, inr, map, nat_lt, nat_le, ◌==◌, ◌&&◌, ◌||◌, arith}
-use Rattle.std.specs.Prelude.{find}
+use Rattle.std.proofs.Common.{◌≡◌, refl, sym, ap, ◌∙◌, subst, ℕ, ◌+◌, ◌*◌, Bool, true, false, not, List, [], ◌∷◌, Option, None, Some, inl, inr, map, ◌&&◌, arith}
 use Rattle.std.specs.List.{list_any}
 use Rattle.std.proofs.lemmas.Bool.Decides.{nat_tests}
 use Rattle.xl_model.specs.declared.address.Order.{Order}
@@ -10,14 +9,12 @@ use Rattle.xl_model.specs.declared.way.Entry.{Entry}
 use Rattle.xl_model.specs.declared.way.Moves.{Moves}
 use Rattle.xl_model.specs.Chains.{key_of}
 use Rattle.xl_model.specs.Addresses.{pages_of}
-use Rattle.xl_model.specs.Recency.{touched, with_newest, purged}
 use Rattle.xl_model.specs.Ways.{WayShape, has_key}
-use Rattle.xl_model.specs.Placing.{Placing, Placed, AtCap, is_held, holder_from, insertion}
-use Rattle.xl_model.specs.Sections.{Section, section_of, same_bit, same_way, same_section, way_where, holds_order}
+use Rattle.xl_model.specs.Placing.{Placing, Placed, AtCap, is_held, holder_from}
+use Rattle.xl_model.specs.Sections.{Section, section_of, same_bit, same_way, same_section}
 use Rattle.xl_model.specs.Shapes.{CuckooRules, CuckooWays, ways_of, with_ways, leaf_entry, placed_leaf, ways_placed, ways_brought, is_placed}
 use Rattle.xl_model.specs.Caches.{Cached, without_items, has_changed}
-use Rattle.xl_model.specs.Walks.{is_page_section, section_of_page, section_after, with_touch, with_fill}
-use Rattle.xl_mapping.specs.Members.{In}
+use Rattle.xl_model.specs.Walks.{is_page_section, section_of_page, section_after}
 use Rattle.xl_laws.specs.Cuckoo.{entries_of}
 use Rattle.xl_laws.specs.Fresh.{SectionsFresh}
 use Rattle.xl_laws.proofs.Cuckoo.{a_refusal_keeps_every_word}

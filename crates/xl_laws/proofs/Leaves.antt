@@ -1,21 +1,20 @@
 -- The leaves after an event.
-use Rattle.std.proofs.Common.{◌≡◌, refl, sym, ap, ◌∙◌, subst, ℕ, Bool, true, false, List, [], ◌∷◌, Option, None, Some, Result, Ok, Err}
+use Rattle.std.proofs.Common.{◌≡◌, refl, sym, ap, subst, ℕ, Bool, true, false, List, Option, None, Some, Result, Ok, Err}
 use Rattle.xl_model.specs.declared.address.Kind.{Kind}
 use Rattle.xl_model.specs.declared.leaf.Leaf.{Leaf}
 use Rattle.xl_model.specs.declared.event.Event.{Event}
 use Rattle.xl_model.specs.declared.event.Event.TheVariants as event
-use Rattle.xl_model.specs.declared.event.Outcome.TheVariants as outcome
 use Rattle.xl_model.specs.declared.event.Refusal.{Refusal}
 use Rattle.xl_model.specs.declared.work.Refused.{Refused}
 use Rattle.xl_model.specs.declared.work.Work.{Work}
 use Rattle.xl_model.specs.Addresses.{is_canonical, page_of}
-use Rattle.xl_model.specs.Mapping.{leaf_at_page, flat}
+use Rattle.xl_model.specs.Mapping.{leaf_at_page}
 use Rattle.xl_model.specs.Rows.{Row}
 use Rattle.xl_model.specs.Changes.{Change, changed}
-use Rattle.xl_model.specs.Rules.{rule, change_of}
-use Rattle.xl_model.specs.Structures.{TableState, Verdict, Made, NoSpace, NoPlace, verdict, table_made, table_answer, answer_by, table_after, after_by, table_walked, table_fenced}
+use Rattle.xl_model.specs.Rules.{rule}
+use Rattle.xl_model.specs.Structures.{TableState, Verdict, Made, NoSpace, NoPlace, verdict, table_made, table_answer, table_after, after_by, table_walked, table_fenced}
 use Rattle.xl_model.specs.Tlb.{Answer, answer_of}
-use Rattle.xl_model.specs.RowRun.{RowState, opening, walk_filled, walk_made, looked_by, looked, looked_where, reply_to, accessed, changed_by, changed_where, fenced, reach_of, served, after_rule, after_event, outcome_of}
+use Rattle.xl_model.specs.RowRun.{RowState, opening, walk_filled, looked_by, looked, looked_where, reply_to, accessed, changed_by, changed_where, fenced, served, after_rule, after_event, outcome_of}
 use Rattle.xl_mapping.specs.Mappings.{IsMapping}
 use Rattle.xl_mapping.proofs.Ruled.{kept-changed}
 use Rattle.xl_mapping.proofs.Lowest.{lowest-is-lowest}

@@ -1,10 +1,9 @@
 -- Numbers of nodes: what a new node and a change of the mapping leave of them.
-use Rattle.std.proofs.Common.{◌≡◌, refl, sym, ap, ◌∙◌, subst, ℕ, zero, suc, ◌+◌, ◌-◌, ◌*◌, ◌/◌, ◌^◌, ◌<◌, ◌≤◌, Bool, true, false, not, cond, List, [], ◌∷◌, ◌++◌, length, Option, None, Some, ◌⊎◌, inl, inr, map, slice_index_or, nat_lt, nat_le, ◌==◌, ◌&&◌, ◌||◌, arith}
+use Rattle.std.proofs.Common.{◌≡◌, refl, subst, ℕ, zero, suc, ◌+◌, ◌-◌, ◌<◌, ◌≤◌, Bool, true, false, cond, List, [], ◌∷◌, Option, None, Some, map, slice_index_or, nat_le, ◌==◌, ◌||◌, arith}
 use Rattle.std.specs.List.{list_any, position_from}
 use Rattle.std.proofs.lemmas.Bool.Decides.{nat_tests}
 use Rattle.xl_model.specs.declared.leaf.Leaf.{Leaf}
-use Rattle.xl_model.specs.Addresses.{level_of}
-use Rattle.xl_model.specs.Nodes.{up, Node, is_below, is_under, in_nodes, number_of, put_first, unless_there, with_node, with_path, one_unless, missing, free_count, with_leaf_nodes, leaf_nodes_missing, is_needed, kept_node, only_needed}
+use Rattle.xl_model.specs.Nodes.{up, Node, is_below, in_nodes, number_of, put_first, unless_there, with_node, with_path, one_unless, missing, free_count, is_needed, kept_node}
 
 -- a test that a free number doesn't pass
 pub put-at : (x y : Node) (nodes : List (Option Node)) (n : ℕ) → slice_index_or nodes n None ≡ Some y → slice_index_or (put_first x nodes) n None ≡ Some y

@@ -1,9 +1,8 @@
 -- A refusal leaves nothing but its count: a step commutes with one refusal more.
-use Rattle.std.proofs.Common.{◌≡◌, refl, subst, sym, ap, ◌∙◌, ℕ, zero, suc, Bool, true, false, List, [], ◌∷◌, Option, None, Some, Result, Ok, Err, slice_set, slice_index_or}
+use Rattle.std.proofs.Common.{◌≡◌, refl, subst, sym, ap, ◌∙◌, ℕ, zero, suc, Bool, true, false, List, [], ◌∷◌, Option, None, Some, Result, Ok, Err}
 use Rattle.xl_model.specs.declared.address.Kind.{Kind}
 use Rattle.xl_model.specs.declared.event.Event.{Event}
 use Rattle.xl_model.specs.declared.event.Event.TheVariants as event
-use Rattle.xl_model.specs.declared.event.Outcome.{Outcome}
 use Rattle.xl_model.specs.declared.event.Outcome.TheVariants as outcome
 use Rattle.xl_model.specs.declared.event.Refusal.{Refusal}
 use Rattle.xl_model.specs.declared.event.Refusal.TheVariants as refused
@@ -20,11 +19,10 @@ use Rattle.xl_model.specs.Mapping.{leaf_at_page}
 use Rattle.xl_model.specs.Rows.{Row}
 use Rattle.xl_model.specs.Changes.{Change}
 use Rattle.xl_model.specs.Rules.{rule, change_of}
-use Rattle.xl_model.specs.Placing.{plus}
-use Rattle.xl_model.specs.Structures.{TableState, Verdict, Made, NoSpace, NoPlace, verdict, table_answer, answer_by, table_after, after_by}
+use Rattle.xl_model.specs.Structures.{Verdict, Made, NoSpace, NoPlace, verdict, table_answer, answer_by, table_after}
 use Rattle.xl_model.specs.Tally.{refusal_place, one_more_at, count_refusal, count_reply, count_walk, count_fills, count_look, count_work, count_accepted, count_invalidated, count_fence}
 use Rattle.xl_model.specs.Tlb.{Answer, answer_of}
-use Rattle.xl_model.specs.RowRun.{RowState, walk_filled, walk_made, looked_by, looked, looked_where, reply_to, accessed, changed_by, changed_where, changed_outcome, outcome_by, counts_refused, fenced, reach_of, served, after_rule, after_event, served_outcome, outcome_after_rule, outcome_of}
+use Rattle.xl_model.specs.RowRun.{RowState, walk_filled, walk_made, looked_by, looked, looked_where, reply_to, accessed, changed_by, changed_where, changed_outcome, outcome_by, counts_refused, fenced, served, after_rule, after_event, served_outcome, outcome_after_rule, outcome_of}
 use Rattle.xl_laws.specs.Refusals.{with_refusal, after_events, outcomes_of, leaves_nothing, ARefusalLeavesNothing}
 
 one_more_commutes : (i j : ℕ) (xs : List ℕ) → one_more_at i (one_more_at j xs) ≡ one_more_at j (one_more_at i xs)

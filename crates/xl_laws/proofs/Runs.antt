@@ -1,15 +1,12 @@
 -- What every event keeps, every run keeps.
-use Rattle.std.proofs.Common.{◌≡◌, refl, sym, ap, ◌∙◌, subst, ℕ, Bool, true, false, List, [], ◌∷◌, Option, None, Some}
-use Rattle.xl_model.specs.declared.address.Kind.{Kind}
-use Rattle.xl_model.specs.declared.leaf.Reply.{Reply}
-use Rattle.xl_model.specs.declared.leaf.Reply.TheVariants as reply
+use Rattle.std.proofs.Common.{ℕ, List, [], ◌∷◌, Option, None, Some}
 use Rattle.xl_model.specs.declared.event.Event.{Event}
 use Rattle.xl_model.specs.declared.event.Event.TheVariants as event
 use Rattle.xl_model.specs.declared.event.Outcome.{Outcome}
 use Rattle.xl_model.specs.declared.event.Outcome.TheVariants as outcome
 use Rattle.xl_model.specs.Rows.{Row}
-use Rattle.xl_model.specs.RowRun.{RowState, opening, after_event, outcome_of, reply_to}
-use Rattle.xl_model.specs.Items.{Item, Command, Declared, Referenced, DemandArea, Progress, again_where, demanded, map_of, area_wanted, area_for, wanted, referenced, after_item, after_items, at_opening, run}
+use Rattle.xl_model.specs.RowRun.{RowState, opening, after_event, outcome_of}
+use Rattle.xl_model.specs.Items.{Item, Command, Declared, Referenced, DemandArea, Progress, again_where, demanded, map_of, area_wanted, referenced, after_item, after_items, at_opening, run}
 
 -- a fact that each event keeps
 abbrev pub Keeps : Row → (RowState → Type 0) → Type 0

@@ -1,15 +1,13 @@
 -- Maximal runs, and the lowest free number.
-use Rattle.std.proofs.Common.{◌≡◌, refl, sym, ap, ◌∙◌, subst, ℕ, zero, suc, ◌+◌, ◌-◌, ◌*◌, ◌<◌, ◌≤◌, Bool, true, false, cond, List, [], ◌∷◌, ◌++◌, length, Option, None, Some, ◌⊎◌, inl, inr, slice_set, slice_index_or, nat_lt, nat_le, ◌==◌, ◌&&◌, arith}
-use Rattle.std.proofs.lemmas.Bool.Decides.{nat_tests}
+use Rattle.std.proofs.Common.{◌≡◌, refl, sym, ap, ◌∙◌, subst, ℕ, zero, suc, ◌+◌, ◌-◌, ◌<◌, ◌≤◌, true, false, cond, List, [], ◌∷◌, length, Option, None, Some, ◌==◌, ◌&&◌, arith}
 use Rattle.xl_model.specs.declared.address.Order.{Order}
-use Rattle.xl_model.specs.declared.address.Order.TheVariants as order
 use Rattle.xl_model.specs.declared.perm.Perm.{Perm}
 use Rattle.xl_model.specs.declared.leaf.Leaf.{Leaf}
 use Rattle.xl_model.specs.declared.leaf.Range.{Range}
 use Rattle.xl_model.specs.Addresses.{pages_of, same_order}
-use Rattle.xl_model.specs.Nodes.{Node, put_first}
+use Rattle.xl_model.specs.Nodes.{Node}
 use Rattle.xl_model.specs.Ranges.{same_perm, range_of_leaf, goes_into, joined, ranges_of}
-use Rattle.xl_laws.specs.Sentences.{AreConsecutive, IsRun, AreRuns, runs_on, NoneRunsOn, TheRangesAreMaximalRuns, IsLowestNumber, ANodeTakesTheLowestNumber}
+use Rattle.xl_laws.specs.Sentences.{AreConsecutive, IsRun, AreRuns, runs_on, NoneRunsOn, TheRangesAreMaximalRuns, ANodeTakesTheLowestNumber}
 use Rattle.xl_laws.proofs.FreshRanges.{Joins, joins}
 
 -- a run looked at from a range of the same kind

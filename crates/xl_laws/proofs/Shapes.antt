@@ -1,5 +1,5 @@
 -- What a shape keeps at every change, it keeps in every run.
-use Rattle.std.proofs.Common.{◌≡◌, refl, sym, ap, ◌∙◌, subst, ℕ, zero, suc, ◌+◌, Bool, true, false, List, [], ◌∷◌, Option, None, Some, Result, Ok, Err, ◌⊎◌, inl, inr, map}
+use Rattle.std.proofs.Common.{◌≡◌, refl, sym, ap, subst, ℕ, zero, suc, ◌+◌, Bool, true, false, List, Option, None, Some, inl, inr, map}
 use Rattle.xl_model.specs.declared.address.Kind.{Kind}
 use Rattle.xl_model.specs.declared.address.Order.{Order}
 use Rattle.xl_model.specs.declared.address.Order.TheVariants as order
@@ -9,22 +9,19 @@ use Rattle.xl_model.specs.declared.event.Event.TheVariants as event
 use Rattle.xl_model.specs.declared.event.Refusal.{Refusal}
 use Rattle.xl_model.specs.declared.row.Table.{Table}
 use Rattle.xl_model.specs.declared.row.Table.TheVariants as table
-use Rattle.xl_model.specs.declared.work.Refused.{Refused}
-use Rattle.xl_model.specs.declared.work.Work.{Work}
 use Rattle.xl_model.specs.Addresses.{levels_of, is_canonical, page_of}
 use Rattle.xl_model.specs.Mapping.{leaf_at_page}
 use Rattle.xl_model.specs.Rows.{Row}
-use Rattle.xl_model.specs.Changes.{Change, Insert, Remove, Protect, Relocate, old_leaf, new_leaf}
+use Rattle.xl_model.specs.Changes.{Change, Insert, Remove, Protect, Relocate, old_leaf}
 use Rattle.xl_model.specs.Rules.{rule, change_of}
 use Rattle.xl_model.specs.Words.{leaf_word}
-use Rattle.xl_model.specs.Ways.{WayShape, with_word, without_entry, opening_way}
+use Rattle.xl_model.specs.Ways.{WayShape, with_word, without_entry}
 use Rattle.xl_model.specs.Placing.{Placing, Placed, AtCap}
 use Rattle.xl_model.specs.Shapes.{CuckooRules, CuckooWays, Shape, Radix, Chained, Cuckoo, Runs, ways_of, with_ways, leaf_entry, brought, placed_leaf, ways_placed, ways_brought, ways_taken, widened, narrowed, shape_after, opening_ways, opening_shape}
-use Rattle.xl_model.specs.Structures.{TableState, Verdict, Made, NoSpace, NoPlace, verdict, table_made, table_answer, answer_by, table_after, after_by, table_walked, table_fenced}
+use Rattle.xl_model.specs.Structures.{TableState, Verdict, Made, NoSpace, NoPlace, verdict, table_made, table_answer, table_after, after_by, table_walked, table_fenced}
 use Rattle.xl_model.specs.Tlb.{Answer, answer_of}
-use Rattle.xl_model.specs.RowRun.{RowState, opening, walk_filled, looked_by, looked, looked_where, accessed, changed_by, changed_where, fenced, reach_of, served, after_rule, after_event}
+use Rattle.xl_model.specs.RowRun.{RowState, opening, looked_by, looked, looked_where, accessed, changed_where, fenced, served, after_rule, after_event}
 use Rattle.xl_model.specs.Items.{Item, run}
-use Rattle.xl_mapping.specs.Members.{In}
 use Rattle.xl_laws.specs.Cuckoo.{SlotsApart, AllApart, ShapeApart, KeysHaveTheirSlots}
 use Rattle.xl_laws.proofs.Cuckoo.{PlacingApart, insertion-apart, opening-apart, reworded-apart, without-apart, mapped-apart}
 use Rattle.xl_laws.proofs.Leaves.{filled-leaves, changed-table}

@@ -1,14 +1,13 @@
 -- Slots of a growing way: the slot before is a function of the slot after, so keys apart stay apart.
-use Rattle.std.proofs.Common.{zero-add, ◌≡◌, refl, sym, ap, ◌∙◌, subst, ℕ, zero, suc, Bool, true, false, cond, List, [], ◌∷◌, Option, None, Some, ◌&&◌, ◌<◌, ◌≤◌, ◌+◌, ◌-◌, ◌*◌, ◌%◌, ◌^◌, nat_lt, nat_le, nat_eq, ◌==◌, arith, map}
+use Rattle.std.proofs.Common.{zero-add, ◌≡◌, refl, sym, ap, subst, ℕ, Bool, true, false, cond, List, [], ◌∷◌, None, Some, ◌&&◌, ◌<◌, ◌≤◌, ◌+◌, ◌%◌, ◌^◌, nat_lt, ◌==◌, arith, map}
 use Rattle.std.specs.Prelude.{find}
 use Rattle.std.proofs.lemmas.Bool.Decides.{nat_tests}
 use Rattle.std.proofs.Math.Pow.{mod-mod-pow}
 use Rattle.xl_model.specs.declared.way.Entry.{Entry}
 use Rattle.xl_model.specs.declared.way.WayRegs.{WayRegs}
-use Rattle.xl_model.specs.Hashes.{way_hash}
-use Rattle.xl_model.specs.Ways.{WayShape, slot_at, slot, has_key, occupant, with_entry, without_key, without_occupant, swapped, with_word, reworded, without_entry, slots_left, begun_regs, regs_after, advanced, begun, opening_way}
+use Rattle.xl_model.specs.Ways.{slot_at, with_entry, without_key, reworded, slots_left, begun_regs, regs_after}
 use Rattle.xl_model.specs.Placing.{one_if}
-use Rattle.xl_laws.specs.Cuckoo.{how_many, stands_at, SlotsApart}
+use Rattle.xl_laws.specs.Cuckoo.{how_many}
 
 low-bits : (h s : ℕ) → h % 2 ^ (s + 1) % 2 ^ s ≡ h % 2 ^ s
 low-bits h s = let e : s + 1 ≡ 1 + s = omega arith in

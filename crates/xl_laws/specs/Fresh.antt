@@ -1,5 +1,5 @@
 -- Never a stale entry: what TLB arrays and walk caches hold is what the mapping and the shape have.
-use Rattle.std.specs.Prelude.{ℕ, ◌≡◌, ◌+◌, ◌-◌, ◌*◌, ◌<◌, ◌⊎◌, true, Bool, List, [], ◌∷◌, length, slice_index_or, Option, None, Some}
+use Rattle.std.specs.Prelude.{ℕ, ◌≡◌, ◌+◌, ◌-◌, ◌*◌, ◌⊎◌, true, List, [], ◌∷◌, slice_index_or, Option, None, Some}
 use Rattle.xl_model.specs.declared.address.Order.{Order}
 use Rattle.xl_model.specs.declared.address.Order.TheVariants as order
 use Rattle.xl_model.specs.declared.leaf.Leaf.{Leaf}
@@ -10,10 +10,9 @@ use Rattle.xl_model.specs.Nodes.{Node, is_needed}
 use Rattle.xl_model.specs.Ways.{WayShape}
 use Rattle.xl_model.specs.Sections.{Section, section_of}
 use Rattle.xl_model.specs.Ranges.{holds_page}
-use Rattle.xl_model.specs.Shapes.{Shape, Radix, Chained, Cuckoo, Runs, CuckooWays}
-use Rattle.xl_model.specs.Caches.{Caches, NodeCaches, SectionCaches, RangeCache, NoCaches, Cached, Numbered}
+use Rattle.xl_model.specs.Shapes.{Shape, Radix, Cuckoo, Runs}
+use Rattle.xl_model.specs.Caches.{Caches, NodeCaches, SectionCaches, RangeCache, Cached, Numbered}
 use Rattle.xl_model.specs.Tlb.{TlbArray}
-use Rattle.xl_model.specs.Structures.{TableState}
 use Rattle.xl_model.specs.Rows.{Row}
 use Rattle.xl_model.specs.RowRun.{RowState}
 use Rattle.xl_model.specs.Items.{Item, run}

@@ -1,5 +1,5 @@
 -- What holds after every list of items, from the opening state: demand is in it.
-use Rattle.std.specs.Prelude.{ℕ, ◌≡◌, true, List}
+use Rattle.std.specs.Prelude.{ℕ, ◌≡◌, List}
 use Rattle.xl_model.specs.declared.address.Kind.{Kind}
 use Rattle.xl_model.specs.declared.address.Order.{Order}
 use Rattle.xl_model.specs.declared.event.Event.TheVariants as event
@@ -8,9 +8,6 @@ use Rattle.xl_model.specs.declared.leaf.Leaf.{Leaf}
 use Rattle.xl_model.specs.Addresses.{pages_of}
 use Rattle.xl_model.specs.Mapping.{flat}
 use Rattle.xl_model.specs.Frames.{lowest}
-use Rattle.xl_model.specs.Caches.{Caches}
-use Rattle.xl_model.specs.Tlb.{TlbArray}
-use Rattle.xl_model.specs.Structures.{TableState}
 use Rattle.xl_model.specs.Rows.{Row}
 use Rattle.xl_model.specs.RowRun.{RowState, outcome_of}
 use Rattle.xl_model.specs.Items.{Item, run}

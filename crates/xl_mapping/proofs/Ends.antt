@@ -1,5 +1,5 @@
 -- Slots of a page, and where the nodes of a covered page end.
-use Rattle.std.proofs.Common.{◌≡◌, refl, sym, ap, ◌∙◌, subst, ℕ, zero, suc, ◌+◌, ◌-◌, ◌*◌, ◌/◌, ◌<◌, ◌≤◌, Bool, true, false, cond, List, ◌⊎◌, inl, inr, nat_lt, nat_le, ◌==◌, ◌&&◌, arith}
+use Rattle.std.proofs.Common.{◌≡◌, refl, sym, ap, ◌∙◌, subst, ℕ, zero, suc, ◌+◌, ◌-◌, ◌*◌, ◌/◌, ◌<◌, ◌≤◌, Bool, true, false, cond, List, ◌⊎◌, inl, inr, nat_lt, arith}
 use Rattle.std.specs.List.{list_any}
 use Rattle.std.proofs.lemmas.Bool.Decides.{nat_tests}
 use Rattle.xl_model.specs.declared.address.Order.{Order}
@@ -11,7 +11,7 @@ use Rattle.xl_model.specs.Nodes.{up, is_under, in_nodes}
 use Rattle.xl_model.specs.Rows.{Row}
 use Rattle.xl_model.specs.Walks.{end_level}
 use Rattle.xl_mapping.specs.Members.{In}
-use Rattle.xl_mapping.specs.Mappings.{IsMapping, IsLeafOf}
+use Rattle.xl_mapping.specs.Mappings.{IsMapping}
 use Rattle.xl_mapping.proofs.Members.{any-In, In-any}
 
 -- a leaf that covers a page stands under each slot of the page above its level

@@ -1,5 +1,5 @@
 -- A leaf put into a sorted list of leaves, and one taken out.
-use Rattle.std.proofs.Common.{◌≡◌, refl, sym, ap, ◌∙◌, subst, ℕ, zero, suc, Bool, true, false, not, cond, List, [], ◌∷◌, Option, None, Some, map, ◌⊎◌, inl, inr, ◌&&◌, ◌||◌, ◌<◌, ◌+◌, ◌*◌, ◌^◌, nat_lt, nat_eq, ◌==◌, arith}
+use Rattle.std.proofs.Common.{◌≡◌, refl, sym, ap, ◌∙◌, subst, ℕ, Bool, true, false, cond, List, [], ◌∷◌, ◌⊎◌, inl, inr, ◌<◌, ◌+◌, ◌*◌, ◌^◌, nat_lt, ◌==◌, arith}
 use Rattle.std.specs.Prelude.{filter}
 use Rattle.std.proofs.lemmas.Bool.Decides.{nat_tests}
 use Rattle.xl_model.specs.declared.leaf.Leaf.{Leaf}

@@ -1,18 +1,18 @@
 -- What every mapping keeps, at each of the four changes of a leaf.
-use Rattle.std.proofs.Common.{◌≡◌, refl, sym, ap, ◌∙◌, subst, ℕ, zero, suc, Bool, true, false, List, [], ◌∷◌, Option, None, Some, ◌⊎◌, inl, inr, ◌<◌, ◌≤◌, ◌+◌, ◌*◌, ◌^◌, arith}
+use Rattle.std.proofs.Common.{◌≡◌, refl, sym, ap, ◌∙◌, subst, ℕ, Bool, true, false, List, Option, None, Some, inl, inr, ◌≤◌, ◌+◌, ◌*◌, ◌^◌}
 use Rattle.xl_model.specs.declared.address.Order.{Order}
 use Rattle.xl_model.specs.declared.perm.Perm.{Perm}
 use Rattle.xl_model.specs.declared.leaf.Leaf.{Leaf}
 use Rattle.xl_model.specs.Addresses.{levels_of, pages_of}
-use Rattle.xl_model.specs.Mapping.{covers, meets_block, holds_frames, is_leaf, leaf_key, meets_any, leaf_named, with_leaf, without_leaf}
+use Rattle.xl_model.specs.Mapping.{meets_block, holds_frames, is_leaf, leaf_key, meets_any, leaf_named, with_leaf, without_leaf}
 use Rattle.xl_model.specs.Rows.{Row}
-use Rattle.xl_model.specs.Changes.{Change, Insert, Remove, Protect, Relocate, changed, with_new, without_old, with_perm, at_page}
-use Rattle.xl_mapping.specs.Members.{In, IsSorted}
+use Rattle.xl_model.specs.Changes.{Insert, Remove, Protect, Relocate, changed, with_new, without_old, with_perm, at_page}
+use Rattle.xl_mapping.specs.Members.{In}
 use Rattle.xl_mapping.specs.Mappings.{IsLeafOf, IsMapping}
 use Rattle.xl_mapping.specs.Lowest.{IsFree}
 use Rattle.xl_mapping.proofs.Members.{find-In, find-passes, any-false}
 use Rattle.xl_mapping.proofs.Insertion.{with-In, sorted-with, sorted-without, without-In, without-other}
-use Rattle.xl_mapping.proofs.Places.{covers-meets, meets-covers, holds-meets, frame-shared, named-key, named-space, named-first, named-order}
+use Rattle.xl_mapping.proofs.Places.{covers-meets, meets-covers, holds-meets, frame-shared, named-space, named-order}
 
 -- a leaf that meets no other and holds no other's frame
 pub kept-with : (row : Row) (x : Leaf) (xs : List Leaf) → IsMapping row xs → IsLeafOf row x

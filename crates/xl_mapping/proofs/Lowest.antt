@@ -1,5 +1,5 @@
 -- The least free candidate is the lowest free block.
-use Rattle.std.proofs.Common.{◌≡◌, refl, sym, ap, ◌∙◌, subst, ℕ, zero, suc, Bool, true, false, not, cond, List, [], ◌∷◌, Option, None, Some, map, ◌⊎◌, inl, inr, ◌&&◌, ◌||◌, ◌<◌, ◌≤◌, ◌+◌, ◌-◌, ◌*◌, ◌/◌, ◌^◌, min, nat_lt, nat_le, nat_eq, ◌==◌, arith}
+use Rattle.std.proofs.Common.{◌≡◌, refl, sym, ◌∙◌, subst, ℕ, zero, suc, true, false, not, List, [], ◌∷◌, Option, None, Some, map, inl, inr, ◌&&◌, ◌<◌, ◌≤◌, ◌+◌, ◌-◌, ◌*◌, ◌/◌, min, nat_le, arith}
 use Rattle.std.specs.Prelude.{filter}
 use Rattle.std.specs.List.{list_any}
 use Rattle.std.proofs.lemmas.Bool.Decides.{nat_tests}
@@ -10,8 +10,8 @@ use Rattle.xl_model.specs.Addresses.{pages_of}
 use Rattle.xl_model.specs.Mapping.{holds_frames}
 use Rattle.xl_model.specs.Frames.{is_free_block, behind, lesser, least, lowest}
 use Rattle.xl_mapping.specs.Members.{In}
-use Rattle.xl_mapping.specs.Lowest.{IsFree, IsLowest, HasNoFree, IsAnswer}
-use Rattle.xl_mapping.proofs.Members.{any-false, any-In, In-any, filter-In, filter-passes, In-filter, In-map, map-In}
+use Rattle.xl_mapping.specs.Lowest.{IsFree, IsAnswer}
+use Rattle.xl_mapping.proofs.Members.{any-false, any-In, filter-In, filter-passes, In-filter, In-map, map-In}
 
 -- the least of a list is a member, and no member is less
 IsLeast : Option ℕ → List ℕ → Type 0

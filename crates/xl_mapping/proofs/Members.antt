@@ -1,7 +1,7 @@
 -- Members found by tests: `find`, `list_any`, `filter`, `map` and `take` against membership.
-use Rattle.std.proofs.Common.{◌≡◌, refl, sym, ap, ◌∙◌, subst, ℕ, zero, suc, Bool, true, false, not, cond, List, [], ◌∷◌, take, Option, None, Some, map, ◌⊎◌, inl, inr, ◌&&◌, ◌||◌, ◌<◌, nat_lt, nat_eq, ◌==◌, arith}
+use Rattle.std.proofs.Common.{◌≡◌, refl, sym, ap, subst, ℕ, zero, suc, Bool, true, false, cond, List, [], ◌∷◌, take, None, Some, map, inl, inr, ◌||◌}
 use Rattle.std.specs.Prelude.{find, filter}
-use Rattle.std.specs.List.{list_any, list_all}
+use Rattle.std.specs.List.{list_any}
 use Rattle.xl_mapping.specs.Members.{In}
 
 -- what is found is a member and passes

@@ -1,5 +1,5 @@
 -- What a command that no refusal stops has shown of its leaf.
-use Rattle.std.proofs.Common.{◌≡◌, refl, sym, ap, ◌∙◌, subst, ℕ, zero, suc, Bool, true, false, not, List, [], ◌∷◌, Option, None, Some, ◌⊎◌, inl, inr, ◌<◌, ◌≤◌, ◌+◌, ◌*◌, ◌^◌, ◌&&◌, nat_lt, arith}
+use Rattle.std.proofs.Common.{◌≡◌, refl, subst, ℕ, Bool, true, false, not, List, [], ◌∷◌, Option, None, Some, ◌<◌, ◌&&◌, nat_lt, arith}
 use Rattle.std.specs.List.{list_all}
 use Rattle.std.proofs.lemmas.Bool.Decides.{nat_tests}
 use Rattle.xl_model.specs.declared.address.Order.{Order}
@@ -8,15 +8,14 @@ use Rattle.xl_model.specs.declared.leaf.Leaf.{Leaf}
 use Rattle.xl_model.specs.declared.event.Event.{Event}
 use Rattle.xl_model.specs.declared.event.Event.TheVariants as event
 use Rattle.xl_model.specs.declared.event.Refusal.{Refusal}
-use Rattle.xl_model.specs.Addresses.{levels_of, pages_of, page_of, is_canonical, is_aligned}
-use Rattle.xl_model.specs.Mapping.{meets_any, is_leaf}
+use Rattle.xl_model.specs.Addresses.{pages_of, page_of, is_canonical, is_aligned}
+use Rattle.xl_model.specs.Mapping.{meets_any}
 use Rattle.xl_model.specs.Frames.{lowest}
 use Rattle.xl_model.specs.Rows.{Row}
 use Rattle.xl_model.specs.Changes.{Change, Insert, Remove, Protect, Relocate, changed}
-use Rattle.xl_model.specs.Rules.{or_else, unless, place_rule, named_rule, there_rule, overlap_rule, frames_rule, rule, change_of, insert_at}
-use Rattle.xl_mapping.specs.Members.{In}
-use Rattle.xl_mapping.specs.Mappings.{IsLeafOf, IsMapping, IsNewLeaf, IsNewPlace, IsSound}
-use Rattle.xl_mapping.specs.Lowest.{IsLowest, IsAnswer}
+use Rattle.xl_model.specs.Rules.{or_else, unless, place_rule, overlap_rule, rule, change_of, insert_at}
+use Rattle.xl_mapping.specs.Mappings.{IsMapping, IsNewPlace, IsSound}
+use Rattle.xl_mapping.specs.Lowest.{IsAnswer}
 use Rattle.xl_mapping.proofs.Lowest.{lowest-is-lowest}
 use Rattle.xl_mapping.proofs.Places.{page-block}
 use Rattle.xl_mapping.proofs.Kept.{kept-inserted, kept-removed, kept-protected, kept-relocated}

@@ -1,5 +1,5 @@
 -- Which leaves a change leaves as they were: all but the old one.
-use Rattle.std.proofs.Common.{◌≡◌, refl, sym, ap, ◌∙◌, subst, ℕ, zero, suc, Bool, true, false, List, [], ◌∷◌, Option, None, Some, ◌⊎◌, inl, inr, ◌<◌, ◌≤◌, ◌+◌, ◌*◌, ◌^◌, arith}
+use Rattle.std.proofs.Common.{◌≡◌, refl, sym, ◌∙◌, subst, ℕ, true, false, List, Option, None, Some, ◌⊎◌, inl, inr, ◌<◌, ◌≤◌, ◌+◌, ◌*◌, ◌^◌, arith}
 use Rattle.std.proofs.lemmas.Bool.Decides.{nat_tests}
 use Rattle.xl_model.specs.declared.address.Mode.{Mode}
 use Rattle.xl_model.specs.declared.address.Mode.TheVariants as mode
@@ -8,15 +8,15 @@ use Rattle.xl_model.specs.declared.address.Order.TheVariants as order
 use Rattle.xl_model.specs.declared.perm.Perm.{Perm}
 use Rattle.xl_model.specs.declared.leaf.Leaf.{Leaf}
 use Rattle.xl_model.specs.Addresses.{levels_of, pages_of}
-use Rattle.xl_model.specs.Mapping.{covers, meets_block, is_leaf, leaf_key, meets_any, leaf_named, with_leaf, without_leaf}
+use Rattle.xl_model.specs.Mapping.{meets_block, leaf_key, meets_any, leaf_named, without_leaf}
 use Rattle.xl_model.specs.Rows.{Row}
 use Rattle.xl_model.specs.Changes.{Change, Insert, Remove, Protect, Relocate, old_leaf, new_leaf, changed, with_new, without_old, with_perm, at_page}
-use Rattle.xl_mapping.specs.Members.{In, IsSorted}
-use Rattle.xl_mapping.specs.Mappings.{IsLeafOf, IsMapping, IsNewLeaf, IsNewPlace, IsSound}
+use Rattle.xl_mapping.specs.Members.{In}
+use Rattle.xl_mapping.specs.Mappings.{IsLeafOf, IsMapping, IsNewPlace, IsSound}
 use Rattle.xl_mapping.proofs.Members.{any-false}
 use Rattle.xl_mapping.proofs.Insertion.{with-In, stays-with, without-In, In-without, same-place}
 use Rattle.xl_mapping.proofs.Kept.{named-In, named-is}
-use Rattle.xl_mapping.proofs.Places.{named-space, named-order}
+use Rattle.xl_mapping.proofs.Places.{named-space}
 
 -- pages of a valid leaf are below 2^52
 pub first-small : (row : Row) (x : Leaf) → IsLeafOf row x → x.first < 2 ^ 52

@@ -1,6 +1,5 @@
 -- Walk caches: what they hold, and what purges and fences take from them.
-use Rattle.std.specs.Prelude.{ℕ, zero, suc, ◌+◌, ◌-◌, ◌==◌, Bool, true, false, ◌&&◌, not, List, [], ◌∷◌, map, filter, length, Option, None, Some}
-use Rattle.std.specs.List.{list_any}
+use Rattle.std.specs.Prelude.{ℕ, zero, suc, ◌+◌, ◌-◌, ◌==◌, Bool, true, false, not, List, [], ◌∷◌, length, Option, None, Some}
 use Rattle.xl_model.specs.declared.address.Order.{Order}
 use Rattle.xl_model.specs.declared.address.Order.TheVariants as order
 use Rattle.xl_model.specs.declared.leaf.Leaf.{Leaf}
@@ -10,11 +9,11 @@ use Rattle.xl_model.specs.declared.event.Reach.TheVariants as reach
 use Rattle.xl_model.specs.declared.row.Table.{Table}
 use Rattle.xl_model.specs.declared.row.Table.TheVariants as table
 use Rattle.xl_model.specs.Recency.{purged}
-use Rattle.xl_model.specs.Changes.{Change, Insert, Remove, Protect, Relocate, old_leaf, changed}
+use Rattle.xl_model.specs.Changes.{Change, old_leaf, changed}
 use Rattle.xl_model.specs.Nodes.{Node, is_needed}
 use Rattle.xl_model.specs.Sections.{Section, section_of, same_section}
 use Rattle.xl_model.specs.Ranges.{holds_page}
-use Rattle.xl_model.specs.Shapes.{Shape, Radix, Chained, Cuckoo, Runs, ways_of, CuckooWays}
+use Rattle.xl_model.specs.Shapes.{Shape, Radix, Cuckoo, Runs, ways_of, CuckooWays}
 
 -- a recency list of a width, newest first
 pub record Cached (A : Type 0) : Type 0 where

@@ -1,6 +1,6 @@
 -- Keys and tags, and the chains of a hashed or clustered table (the clustered table follows Talluri,
 -- Hill and Khalidi, 1995: sixteen consecutive pages under one tag).
-use Rattle.std.specs.Prelude.{ℕ, zero, suc, ◌+◌, ◌*◌, ◌/◌, ◌%◌, ◌^◌, ◌==◌, Bool, true, false, nat_lt, if◌then◌else◌, List, [], ◌∷◌, filter, length}
+use Rattle.std.specs.Prelude.{ℕ, suc, ◌+◌, ◌*◌, ◌/◌, ◌%◌, ◌^◌, ◌==◌, Bool, nat_lt, if◌then◌else◌, List, [], ◌∷◌, filter}
 use Rattle.std.specs.List.{list_any}
 use Rattle.xl_model.specs.declared.address.Order.{Order}
 use Rattle.xl_model.specs.declared.leaf.Leaf.{Leaf}

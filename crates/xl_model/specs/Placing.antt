@@ -4,7 +4,6 @@ use Rattle.std.specs.Prelude.{ℕ, zero, suc, ◌+◌, ◌-◌, ◌*◌, ◌%◌
 use Rattle.std.specs.List.{list_any}
 use Rattle.xl_model.specs.declared.way.Entry.{Entry}
 use Rattle.xl_model.specs.declared.way.Moves.{Moves}
-use Rattle.xl_model.specs.declared.way.WayRegs.{WayRegs}
 use Rattle.xl_model.specs.Hashes.{way_hash}
 use Rattle.xl_model.specs.Ways.{WayShape, has_key, occupant, swapped, slots_left, advanced, begun, opening_way}
 

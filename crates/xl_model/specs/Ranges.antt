@@ -1,6 +1,6 @@
 -- Ranges (Karakostas and others, 2015): the maximal runs of leaves of one space, order and permission that
 -- are consecutive in pages and frames; and which ranges a search of the treap reads.
-use Rattle.std.specs.Prelude.{ℕ, ◌+◌, ◌*◌, ◌^◌, ◌==◌, Bool, true, false, ◌&&◌, ◌||◌, not, nat_le, nat_lt, if◌then◌else◌, List, [], ◌∷◌, count_by, find, Option, None, Some}
+use Rattle.std.specs.Prelude.{ℕ, ◌+◌, ◌*◌, ◌^◌, ◌==◌, Bool, ◌&&◌, ◌||◌, not, nat_le, nat_lt, if◌then◌else◌, List, [], ◌∷◌, count_by}
 use Rattle.std.specs.List.{list_all}
 use Rattle.xl_model.specs.declared.perm.Perm.{Perm}
 use Rattle.xl_model.specs.declared.leaf.Leaf.{Leaf}

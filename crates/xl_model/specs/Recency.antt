@@ -1,5 +1,5 @@
 -- Recency lists (LRU): newest first. Each TLB set, each walk cache and the range TLB is one.
-use Rattle.std.specs.Prelude.{ℕ, Bool, true, false, not, if◌then◌else◌, List, [], ◌∷◌, find, filter, take, Option, None, Some}
+use Rattle.std.specs.Prelude.{ℕ, Bool, not, if◌then◌else◌, List, [], ◌∷◌, find, filter, take, Option, None, Some}
 
 -- the list without its newest item that meets the test
 abbrev pub without_first : {A : Type 0} → (A → Bool) → List A → List A

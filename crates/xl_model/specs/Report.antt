@@ -8,7 +8,6 @@ use Rattle.xl_model.specs.declared.event.Event.{Event}
 use Rattle.xl_model.specs.declared.event.Event.TheVariants as event
 use Rattle.xl_model.specs.declared.event.Outcome.{Outcome}
 use Rattle.xl_model.specs.declared.event.Outcome.TheVariants as outcome
-use Rattle.xl_model.specs.declared.row.Counts.{Counts}
 use Rattle.xl_model.specs.Rows.{Row}
 use Rattle.xl_model.specs.Shapes.{Shape, Radix, Chained, Cuckoo, Runs}
 use Rattle.xl_model.specs.RowRun.{RowState, after_event, outcome_of, reply_to}

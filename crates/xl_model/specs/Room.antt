@@ -1,6 +1,6 @@
 -- Whether a table has room for a change: for a leaf at a new place, and in a table of ranges for the
 -- ranges that the change leaves too.
-use Rattle.std.specs.Prelude.{ℕ, Bool, true, false, ◌&&◌, nat_le, List, length, Option, None, Some}
+use Rattle.std.specs.Prelude.{Bool, true, ◌&&◌, nat_le, List, length, Option, None, Some}
 use Rattle.xl_model.specs.declared.address.Order.TheVariants as order
 use Rattle.xl_model.specs.declared.leaf.Leaf.{Leaf}
 use Rattle.xl_model.specs.Changes.{Change, changed, with_both}

@@ -1,5 +1,5 @@
 -- The state of a row, and what each event does to it.
-use Rattle.std.specs.Prelude.{ℕ, zero, suc, ◌+◌, ◌-◌, Bool, true, false, List, [], ◌∷◌, count_by, length, Option, None, Some, Result, Ok, Err}
+use Rattle.std.specs.Prelude.{ℕ, ◌-◌, Bool, true, false, List, [], count_by, length, Option, None, Some, Result, Ok, Err}
 use Rattle.xl_model.specs.declared.address.Kind.{Kind}
 use Rattle.xl_model.specs.declared.leaf.Leaf.{Leaf}
 use Rattle.xl_model.specs.declared.leaf.Reply.{Reply}
@@ -22,7 +22,7 @@ use Rattle.xl_model.specs.declared.work.Work.{Work}
 use Rattle.xl_model.specs.Addresses.{levels_of, is_canonical, page_of}
 use Rattle.xl_model.specs.Mapping.{leaf_at_page, flat}
 use Rattle.xl_model.specs.Rows.{Row}
-use Rattle.xl_model.specs.Changes.{Change, Insert, Remove, Protect, Relocate, old_leaf}
+use Rattle.xl_model.specs.Changes.{Change, old_leaf}
 use Rattle.xl_model.specs.Rules.{rule, change_of}
 use Rattle.xl_model.specs.Shapes.{opening_shape}
 use Rattle.xl_model.specs.Caches.{opening_caches}

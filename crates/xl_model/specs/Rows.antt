@@ -1,5 +1,5 @@
 -- A row of the configuration, as contracts see it.
-use Rattle.std.specs.Prelude.{ℕ, List, Bool, ◌<◌, ◌≤◌}
+use Rattle.std.specs.Prelude.{ℕ, List}
 use Rattle.xl_model.specs.declared.address.Mode.{Mode}
 use Rattle.xl_model.specs.declared.row.Purge.{Purge}
 use Rattle.xl_model.specs.declared.row.Row.{Row as RowFields}

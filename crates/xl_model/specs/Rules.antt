@@ -1,5 +1,5 @@
 -- Refusals 1 to 7, in the order in which they are tested, and the change that a command is.
-use Rattle.std.specs.Prelude.{ℕ, Bool, true, false, not, nat_lt, List, [], ◌∷◌, Option, None, Some, IsSome}
+use Rattle.std.specs.Prelude.{ℕ, Bool, true, false, not, nat_lt, List, [], ◌∷◌, Option, None, Some}
 use Rattle.std.specs.List.{list_all}
 use Rattle.xl_model.specs.declared.address.Order.{Order}
 use Rattle.xl_model.specs.declared.leaf.Leaf.{Leaf}
@@ -9,8 +9,8 @@ use Rattle.xl_model.specs.declared.event.Event.{Event}
 use Rattle.xl_model.specs.declared.event.Event.TheVariants as event
 use Rattle.xl_model.specs.declared.event.Refusal.{Refusal}
 use Rattle.xl_model.specs.declared.event.Refusal.TheVariants as refused
-use Rattle.xl_model.specs.Addresses.{is_canonical, is_aligned, page_of, same_order}
-use Rattle.xl_model.specs.Mapping.{leaf_at_page, leaf_named, is_leaf, meets_any}
+use Rattle.xl_model.specs.Addresses.{is_canonical, is_aligned, page_of}
+use Rattle.xl_model.specs.Mapping.{leaf_at_page, is_leaf, meets_any}
 use Rattle.xl_model.specs.Frames.{lowest}
 use Rattle.xl_model.specs.Changes.{Change, Insert, Remove, Protect, Relocate}
 use Rattle.xl_model.specs.Rows.{Row}

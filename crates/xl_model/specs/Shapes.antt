@@ -1,5 +1,5 @@
 -- Shapes: what a table keeps beside its leaves, and how each change of a leaf changes it.
-use Rattle.std.specs.Prelude.{ℕ, zero, suc, ◌+◌, ◌-◌, Bool, true, false, List, [], ◌∷◌, map, Option, None, Some}
+use Rattle.std.specs.Prelude.{ℕ, zero, suc, ◌+◌, Bool, true, false, List, [], ◌∷◌, map, Option, None, Some}
 use Rattle.xl_model.specs.declared.address.Order.{Order}
 use Rattle.xl_model.specs.declared.address.Order.TheVariants as order
 use Rattle.xl_model.specs.declared.leaf.Leaf.{Leaf}
@@ -12,7 +12,7 @@ use Rattle.xl_model.specs.Changes.{Change, Insert, Remove, Protect, Relocate, ol
 use Rattle.xl_model.specs.Nodes.{Node, with_leaf_nodes, only_needed, opening_nodes}
 use Rattle.xl_model.specs.Chains.{key_of, leaf_tag, with_tag, only_used_tags}
 use Rattle.xl_model.specs.Ways.{WayShape, with_word, without_entry, opening_way}
-use Rattle.xl_model.specs.Placing.{Placing, Placed, AtCap, no_moves, insertion}
+use Rattle.xl_model.specs.Placing.{Placing, Placed, AtCap, insertion}
 
 -- the parameters of a cuckoo table
 pub record CuckooRules : Type 0 where

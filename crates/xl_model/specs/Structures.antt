@@ -1,22 +1,21 @@
 -- A table as the layers above see it: its leaves, shape, caches and loads; and what its calls answer and leave.
-use Rattle.std.specs.Prelude.{ℕ, ◌+◌, ◌-◌, ◌%◌, ◌^◌, ◌<◌, ◌≤◌, ◌≡◌, ◌*◌, Bool, true, false, List, [], Option, None, Some, Result, Ok, Err}
+use Rattle.std.specs.Prelude.{ℕ, ◌+◌, ◌-◌, ◌^◌, ◌<◌, ◌≤◌, ◌≡◌, ◌*◌, Bool, true, false, List, Option, None, Some, Result, Ok, Err}
 use Rattle.xl_model.specs.declared.address.Order.{Order}
 use Rattle.xl_model.specs.declared.leaf.Leaf.{Leaf}
 use Rattle.xl_model.specs.declared.event.Reach.{Reach}
 use Rattle.xl_model.specs.declared.way.Moves.{Moves}
-use Rattle.xl_model.specs.declared.work.NoRoom.{NoRoom}
 use Rattle.xl_model.specs.declared.work.NoRoom.TheVariants as why
 use Rattle.xl_model.specs.declared.work.Refused.{Refused}
 use Rattle.xl_model.specs.declared.work.Walk.{Walk}
 use Rattle.xl_model.specs.declared.work.Work.{Work}
 use Rattle.xl_model.specs.Addresses.{pages_of}
-use Rattle.xl_model.specs.Mapping.{leaf_at_page, meets_any}
+use Rattle.xl_model.specs.Mapping.{leaf_at_page}
 use Rattle.xl_model.specs.Changes.{Change, changed}
 use Rattle.xl_model.specs.Placing.{plus, no_moves}
-use Rattle.xl_model.specs.Shapes.{Shape, Radix, Chained, Cuckoo, Runs, brought, widened, shape_after, CuckooRules, CuckooWays, placed_leaf, moves_of, is_placed}
+use Rattle.xl_model.specs.Shapes.{Shape, Radix, Chained, Cuckoo, Runs, brought, widened, shape_after, placed_leaf, moves_of, is_placed}
 use Rattle.xl_model.specs.Room.{has_room}
 use Rattle.xl_model.specs.Caches.{Caches, entries_in, caches_purged, caches_fenced}
-use Rattle.xl_model.specs.Walks.{Walked, walked}
+use Rattle.xl_model.specs.Walks.{walked}
 
 pub record TableState : Type 0 where
   pub leaves : List Leaf

@@ -1,6 +1,5 @@
 -- The counts of a row, each modulo 2^64.
-use Rattle.std.specs.Prelude.{ℕ, ◌<◌, zero, suc, ◌+◌, ◌*◌, ◌%◌, ◌^◌, Bool, true, false, List, [], ◌∷◌, length, replicate, slice_index_or, slice_set, count_by, Option, None, Some}
-use Rattle.xl_model.specs.declared.leaf.Leaf.{Leaf}
+use Rattle.std.specs.Prelude.{ℕ, ◌<◌, ◌+◌, ◌*◌, ◌%◌, ◌^◌, Bool, true, false, List, [], ◌∷◌, slice_index_or, slice_set, Option}
 use Rattle.xl_model.specs.declared.leaf.Reply.{Reply}
 use Rattle.xl_model.specs.declared.leaf.Reply.TheVariants as reply
 use Rattle.xl_model.specs.declared.event.Refusal.{Refusal}

@@ -1,5 +1,5 @@
 -- One walk of a table: how many loads it makes, and what it touches and fills in the walk caches.
-use Rattle.std.specs.Prelude.{ℕ, zero, suc, ◌+◌, ◌-◌, ◌*◌, ◌/◌, ◌==◌, Bool, true, false, ◌&&◌, ◌||◌, not, nat_le, nat_lt, if◌then◌else◌, List, [], ◌∷◌, find, map, length, Option, None, Some}
+use Rattle.std.specs.Prelude.{ℕ, zero, suc, ◌+◌, ◌-◌, ◌/◌, ◌==◌, Bool, true, false, ◌&&◌, not, nat_le, nat_lt, if◌then◌else◌, List, [], ◌∷◌, find, length, Option, None, Some}
 use Rattle.std.specs.List.{list_any}
 use Rattle.xl_model.specs.declared.address.Order.{Order}
 use Rattle.xl_model.specs.declared.address.Order.TheVariants as order
@@ -10,11 +10,10 @@ use Rattle.xl_model.specs.Recency.{touched, with_newest}
 use Rattle.xl_model.specs.Mapping.{leaf_at_page}
 use Rattle.xl_model.specs.Nodes.{Node, node_at, up, in_nodes, number_of}
 use Rattle.xl_model.specs.Chains.{tag_of, chain_of, bucket_of, examined, has_tag}
-use Rattle.xl_model.specs.Ways.{WayShape}
 use Rattle.xl_model.specs.Sections.{Section, section_of, is_section, holds}
 use Rattle.xl_model.specs.Ranges.{ranges_of, holds_page, range_reads}
 use Rattle.xl_model.specs.Shapes.{Shape, Radix, Chained, Cuckoo, Runs, CuckooWays, ways_of}
-use Rattle.xl_model.specs.Caches.{Caches, NodeCaches, SectionCaches, RangeCache, NoCaches, Cached, Numbered}
+use Rattle.xl_model.specs.Caches.{Caches, NodeCaches, SectionCaches, RangeCache, Cached, Numbered}
 
 -- what a walk comes to: its loads, its cache hits, and the caches after it
 pub record Walked : Type 0 where

@@ -5,7 +5,6 @@ use Rattle.xl_model.specs.Addresses.{is_legal}
 use Rattle.xl_model.specs.Words.{leaf_word, pointer_word, bit_if}
 use Rattle.xl_model.specs.declared.perm.Perm.{Perm}
 use Rattle.xl_pte.specs.Decode.{bit, number_of, says, leaf_at, decode_of}
-use Rattle.xl_pte.specs.declared.word.Pte.{Pte}
 use Rattle.xl_pte.specs.declared.word.Pte.TheVariants.{Pointer, Leaf}
 
 pub says-legal : (r w x u : Bool) (h : is_legal r w x ≡ true) (level number : ℕ) →

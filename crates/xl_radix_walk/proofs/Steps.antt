@@ -18,11 +18,11 @@ back_by (Some p) words level page = end_at p level (λ next. reading words level
 back-is : (words : List ℕ) (level node page : ℕ) → radix_back words level node page ≡ back_by (word_in words level node page) words level page
 unfolding radix_back back_by
 back-is words level node page = go (is_there words (place_of level node page))
-    where
-        go : (b : Bool) → cond b (end_at (decode_of (slice_index words (place_of level node page)) level) level (λ next. reading words level next page)) (end.OutOfBus level)
-            ≡ back_by (cond b (Some (decode_of (slice_index words (place_of level node page)) level)) None) words level page
-        go true = refl
-        go false = refl
+  where
+    go : (b : Bool) → cond b (end_at (decode_of (slice_index words (place_of level node page)) level) level (λ next. reading words level next page)) (end.OutOfBus level)
+        ≡ back_by (cond b (Some (decode_of (slice_index words (place_of level node page)) level)) None) words level page
+    go true = refl
+    go false = refl
 
 path_by : Option Pte → List ℕ → ℕ → ℕ → List ℕ
 path_by None words level page = []
@@ -31,11 +31,11 @@ path_by (Some p) words level page = entered p (λ next. entering words level nex
 path-is : (words : List ℕ) (level node page : ℕ) → radix_path words level node page ≡ path_by (word_in words level node page) words level page
 unfolding radix_path path_by
 path-is words level node page = go (is_there words (place_of level node page))
-    where
-        go : (b : Bool) → cond b (entered (decode_of (slice_index words (place_of level node page)) level) (λ next. entering words level next page)) []
-            ≡ path_by (cond b (Some (decode_of (slice_index words (place_of level node page)) level)) None) words level page
-        go true = refl
-        go false = refl
+  where
+    go : (b : Bool) → cond b (entered (decode_of (slice_index words (place_of level node page)) level) (λ next. entering words level next page)) []
+        ≡ path_by (cond b (Some (decode_of (slice_index words (place_of level node page)) level)) None) words level page
+    go true = refl
+    go false = refl
 
 -- the numbers that words point to, and where
 Points : Pte → ℕ → Type 0
@@ -48,18 +48,18 @@ Points pte.Misaligned level = Unit {0}
 pointer-points : (level number : ℕ) → number < 2 ^ 44 → Points (pointer_at level number) level
 unfolding Points
 pointer-points level number h = go (level == 0) refl
-    where
-        go : (b : Bool) → (level == 0) ≡ b → Points (cond b pte.Reserved (pte.Pointer number)) level
-        go true t = tt
-        go false t = (h, grind (arith, nat_tests))
+  where
+    go : (b : Bool) → (level == 0) ≡ b → Points (cond b pte.Reserved (pte.Pointer number)) level
+    go true t = tt
+    go false t = (h, grind (arith, nat_tests))
 
 leaf-points : (level number : ℕ) (p : Perm) → Points (leaf_at level number p) level
 unfolding Points
 leaf-points level number p = go (number % 2 ^ (9 * level) == 0)
-    where
-        go : (b : Bool) → Points (cond b (pte.Leaf number p) pte.Misaligned) level
-        go true = tt
-        go false = tt
+  where
+    go : (b : Bool) → Points (cond b (pte.Leaf number p) pte.Misaligned) level
+    go true = tt
+    go false = tt
 
 says-points : (r w x u : Bool) (level number : ℕ) → number < 2 ^ 44 → Points (says r w x u level number) level
 unfolding Points
@@ -71,19 +71,19 @@ says-points true w x u level number h = leaf-points level number _
 decode-points : (word level : ℕ) → Points (decode_of word level) level
 unfolding Points decode_of
 decode-points word level = go (bit word 0) (word / 2 ^ 54 == 0)
-    where
-        go : (a b : Bool) → Points (cond a (cond b (says (bit word 1) (bit word 2) (bit word 3) (bit word 4) level (number_of word)) pte.Reserved) pte.Invalid) level
-        go true true = says-points (bit word 1) (bit word 2) (bit word 3) (bit word 4) level (number_of word) (omega arith)
-        go true false = tt
-        go false b = tt
+  where
+    go : (a b : Bool) → Points (cond a (cond b (says (bit word 1) (bit word 2) (bit word 3) (bit word 4) level (number_of word)) pte.Reserved) pte.Invalid) level
+    go true true = says-points (bit word 1) (bit word 2) (bit word 3) (bit word 4) level (number_of word) (omega arith)
+    go true false = tt
+    go false b = tt
 
 word-points : (words : List ℕ) (level node page : ℕ) (p : Pte) → word_in words level node page ≡ Some p → Points p level
 word-points words level node page p h = go (is_there words (place_of level node page)) h
-    where
-        go : (b : Bool) → cond b (Some (decode_of (slice_index words (place_of level node page)) level)) None ≡ Some p → Points p level
-        go true k = let e : decode_of (slice_index words (place_of level node page)) level ≡ p = cc in
-            let P : Pte → Type 0 = λ q. Points q level in subst P e (decode-points (slice_index words (place_of level node page)) level)
-        go false k = absurd (cc)
+  where
+    go : (b : Bool) → cond b (Some (decode_of (slice_index words (place_of level node page)) level)) None ≡ Some p → Points p level
+    go true k = let e : decode_of (slice_index words (place_of level node page)) level ≡ p = cc in
+        let P : Pte → Type 0 = λ q. Points q level in subst P e (decode-points (slice_index words (place_of level node page)) level)
+    go false k = absurd (cc)
 
 on : (words : List ℕ) (level node page next : ℕ) → 0 < level → next < 2 ^ 44 → radix_back words level node page ≡ reading words level next page
     → radix_path words level node page ≡ next ∷ entering words level next page → GoesTo words level node page next
@@ -105,8 +105,8 @@ by-word words level node page (Some pte.Misaligned) h = record { end = back-is w
 by-word words level node page (Some (pte.Pointer next)) h =
     let points : Points (pte.Pointer next) level = word-points words level node page (pte.Pointer next) h in
     on words level node page next points.1 points.0
-        (back-is words level node page ∙ ap (λ (o : Option Pte). back_by o words level page) h)
-        (path-is words level node page ∙ ap (λ (o : Option Pte). path_by o words level page) h)
+    (back-is words level node page ∙ ap (λ (o : Option Pte). back_by o words level page) h)
+    (path-is words level node page ∙ ap (λ (o : Option Pte). path_by o words level page) h)
 
 pub is_step : (words : List ℕ) (level node page : ℕ) (o : Option Pte) → o ≡ word_in words level node page → IsStep words level node page (step_of o level)
 is_step words level node page o h = by-word words level node page o (sym h)

@@ -56,15 +56,15 @@ step_of (Some pte.Misaligned) level = step.Ends (end.Misaligned level)
 
 -- a step of the walk over words
 pub record GoesTo (words : List ℕ) (level node page next : ℕ) : Type 0 where
-    pub above : 0 < level
-    pub end : radix_back words level node page ≡ radix_back words (level - 1) next page
-    pub path : radix_path words level node page ≡ next ∷ radix_path words (level - 1) next page
-    pub small : next < 2 ^ 44
+  pub above : 0 < level
+  pub end : radix_back words level node page ≡ radix_back words (level - 1) next page
+  pub path : radix_path words level node page ≡ next ∷ radix_path words (level - 1) next page
+  pub small : next < 2 ^ 44
 
 pub record EndsWith (words : List ℕ) (level node page : ℕ) (e : WalkEnd) : Type 0 where
-    pub end : radix_back words level node page ≡ e
-    pub path : radix_path words level node page ≡ []
-    pub level_is : end_of e ≡ level
+  pub end : radix_back words level node page ≡ e
+  pub path : radix_path words level node page ≡ []
+  pub level_is : end_of e ≡ level
 
 abbrev pub IsStep : List ℕ → ℕ → ℕ → ℕ → Step → Type 0
 IsStep words level node page (step.GoesOn next) = GoesTo words level node page next

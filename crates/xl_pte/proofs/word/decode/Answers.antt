@@ -1,4 +1,4 @@
-use Rattle.std.proofs.Common.{◌≡◌, ℕ, ◌/◌, ◌^◌, ◌==◌, true, sym, ◌∙◌, arith}
+use Rattle.std.proofs.Common.{◌≡◌, ◌/◌, ◌^◌, ◌==◌, true, sym, ◌∙◌, arith}
 use Rattle.xl_pte.specs.Decode.{bit}
 use Rattle.xl_pte.proofs.Bits.{decode-leaf, number-shifted}
 use Rattle.xl_pte.proofs.word.decode.Goals as goal
