@@ -2,6 +2,8 @@
 #![tactic(auto)]
 
 mod step;
+#[cfg(test)]
+mod tests;
 mod walker;
 
 pub use walker::walk;

@@ -1,0 +1,7 @@
+pub mod Same
+pub mod Keeps
+pub mod Fronts
+pub mod Scans
+pub mod Tags
+pub mod Tables
+pub mod Pages

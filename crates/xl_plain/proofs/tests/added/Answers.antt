@@ -1,0 +1,27 @@
+use Rattle.std.proofs.Common.{◌≡◌, ◌∙◌, ℕ, ap, ◌<◌, ◌+◌, ◌*◌, ◌^◌, arith}
+use Rattle.xl_model.specs.declared.address.Order.TheVariants as order
+use Rattle.xl_model.specs.Shapes.{Shape}
+use Rattle.xl_model.specs.Structures.{IsBlock, spaces_of, page_limit}
+use Rattle.xl_plain.proofs.Pages.{change-same}
+use Rattle.xl_plain.proofs.tests.added.Goals as goal
+
+one_page : (shape : Shape) (first : ℕ) → first < 100 → spaces_of shape ≡ 64 → page_limit shape ≡ 2 ^ 45 → IsBlock shape 1 first order.K4
+one_page shape first h s p = record { space_in = omega arith; pages_in = omega arith; aligned = (first, omega arith) }
+
+pub meets-requires : goal.meets-requires
+meets-requires c = one_page c.args.table.now.shape c.args.first c.requires.small c.requires.spaces c.requires.pages
+
+pub insert-requires-clause-valid : goal.insert-requires-clause-valid
+insert-requires-clause-valid c = record {
+  block = one_page c.args.table.now.shape c.args.first c.requires.small c.requires.spaces c.requires.pages;
+  frames_in = omega arith;
+  frames_aligned = (7, omega arith);
+}
+
+pub returns-clause-spaces : goal.returns-clause-spaces
+returns-clause-spaces c =
+    ap (λ t. spaces_of t.shape) c.insert.ensures.after ∙ (change-same _ c.args.table.now).spaces ∙ c.requires.spaces
+
+pub returns-clause-pages : goal.returns-clause-pages
+returns-clause-pages c =
+    ap (λ t. page_limit t.shape) c.insert.ensures.after ∙ (change-same _ c.args.table.now).pages ∙ c.requires.pages
