@@ -1,5 +1,7 @@
 pub mod Long
 pub mod Numbers
+pub mod OwnForm
 pub mod Places
 pub mod Splits
 pub mod Steps
+mod Table

@@ -1,12 +1,12 @@
 -- A text and the first line that a newline ends in it.
-use Rattle.std.proofs.Common.{◌≡◌, ◌≢◌, ℕ, ◌+◌, ◌-◌, ◌≤◌, ◌<◌, Bool, true, false, List, [], ◌∷◌, ◌++◌, length, take, drop, suc, zero, refl, ap, arith, ◌∙◌, sym, subst}
+use Rattle.std.proofs.Common.{◌≡◌, ◌≢◌, ℕ, ◌+◌, ◌<◌, Bool, true, false, List, [], ◌∷◌, ◌++◌, length, take, drop, suc, zero, refl, ap, arith, ◌∙◌, sym, subst}
 use Rattle.std.specs.Prelude.{Option, None, Some, ◌==◌, if◌then◌else◌, slice_index}
 use Rattle.std.specs.Option.{option_map}
-use Rattle.std.proofs.lemmas.List.{take_rest, length-take-le, drop-drop}
 use Rattle.memchr.specs.Find.{IsFirstByte, is_byte}
 use Rattle.xl_lackey.specs.declared.line.Verdict.{Verdict}
 use Rattle.xl_lackey.specs.declared.line.Verdict.TheVariants.{Skipped, Found, Bad}
 use Rattle.xl_lackey.specs.Lines.{parted, in_front, judge}
+use Rattle.xl_lackey.specs.Usual.{judged, judged_line}
 use Rattle.xl_lackey.specs.Stream.{onto, lines_of, onto_ended, ended_lines, items, with_verdict, first_due, of_due, next_line, Left}
 
 -- the line and what follows it, put into a text's lines
@@ -119,20 +119,37 @@ none_first (b ∷ bs) before =
     ap (λ (t : Bool). if t then Some ([], bs) else option_map (in_front b) (parted 10 bs)) no
     ∙ ap (option_map (in_front b)) (none_first bs (λ k l. before (suc k) (omega arith)))
 
-pub line_none : (text : List ℕ) (from : ℕ) → IsFirstByte (is_byte 10) (take (length text - from) (drop from text)) None
-    → None ≡ parted 10 (drop from text)
-line_none text from h =
-    let hay = take (length text - from) (drop from text) in
-    sym (ap (parted 10) (sym (take_rest text from)) ∙ none_first hay (λ k l. h k (omega arith) l))
+abbrev pub got : {A : Type 0} → A → Option A → A
+got a None = a
+got a (Some b) = b
 
-pub line_some : (text : List ℕ) (from at : ℕ) → from ≤ length text
-    → IsFirstByte (is_byte 10) (take (length text - from) (drop from text)) (Some at)
-    → (let line = take at (take (length text - from) (drop from text)) in Some (line, drop (from + (length line + 1)) text)) ≡ parted 10 (drop from text)
-line_some text from at h first =
-    let hay = take (length text - from) (drop from text) in
-    let e : hay ≡ drop from text = take_rest text from in
-    let part = some_first hay at first.0.high first.1 (λ k l. first.0.before k (omega arith) l) in
-    let size : length (take at hay) ≡ at = length-take-le at hay (omega (arith, first.0.high)) in
-    let tail : drop (from + (length (take at hay) + 1)) text ≡ drop (at + 1) hay =
-    ap (λ (n : ℕ). drop (from + (n + 1)) text) size ∙ sym (drop-drop (at + 1) from text) ∙ sym (ap (drop (at + 1)) e) in
-    ap (λ (t : List ℕ). Some (take at hay, t)) tail ∙ sym part ∙ ap (parted 10) e
+-- the first line of a text, and what it is, by the place of its newline
+pub line_none : (text : List ℕ) → IsFirstByte (is_byte 10) text None → None ≡ judged_line text
+line_none text h = sym (ap (option_map judged) (none_first text (λ k l. h k (omega arith) l)))
+
+pub line_some : (text : List ℕ) (at : ℕ) → IsFirstByte (is_byte 10) text (Some at)
+    → Some (drop (at + 1) text, judge (take at text)) ≡ judged_line text
+line_some text at first =
+    sym (ap (option_map judged) (some_first text at first.0.high first.1 (λ k l. first.0.before k (omega arith) l)))
+
+-- the line of a text of which it is known what it is and what follows it
+pub record IsFirst (text after : List ℕ) (v : Verdict) : Type 0 where
+  pub line : List ℕ
+  pub parts : parted 10 text ≡ Some (line, after)
+  pub verdict : v ≡ judge line
+
+first_by : (text after : List ℕ) (v : Verdict) (o : Option (List ℕ × List ℕ)) → parted 10 text ≡ o → option_map judged o ≡ Some (after, v) → IsFirst text after v
+first_by text after v None h e = cc
+first_by text after v (Some (line, rest)) h e =
+    let both : (rest, judge line) ≡ (after, v) = ap (got (after, v)) e in record {
+      line = line;
+      parts = h ∙ ap (λ (xs : List ℕ). Some (line, xs)) (ap (λ (p : List ℕ × Verdict). p.0) both);
+      verdict = sym (ap (λ (p : List ℕ × Verdict). p.1) both);
+    }
+
+pub first_is : (text after : List ℕ) (v : Verdict) → judged_line text ≡ Some (after, v) → IsFirst text after v
+first_is text after v h = first_by text after v (parted 10 text) refl h
+
+pub none_is : (text : List ℕ) (o : Option (List ℕ × List ℕ)) → parted 10 text ≡ o → option_map judged o ≡ None → parted 10 text ≡ None
+none_is text None h e = h
+none_is text (Some parts) h e = cc

@@ -24,16 +24,28 @@ pub(crate) fn count_blanks(text: &[u8]) -> usize
     text.len()
 }
 
+/// The value of each byte as a hexadecimal digit, and 16 where it is none. Which digit comes next can't
+/// be foretold, so a test of each range would cost more than a look-up.
+const HEX_DIGITS: [u8; 256] = [
+    16, 16, 16, 16, 16, 16, 16, 16, 16, 16, 16, 16, 16, 16, 16, 16, 16, 16, 16, 16, 16, 16, 16, 16,
+    16, 16, 16, 16, 16, 16, 16, 16, 16, 16, 16, 16, 16, 16, 16, 16, 16, 16, 16, 16, 16, 16, 16, 16,
+    0, 1, 2, 3, 4, 5, 6, 7, 8, 9, 16, 16, 16, 16, 16, 16, 16, 10, 11, 12, 13, 14, 15, 16, 16, 16,
+    16, 16, 16, 16, 16, 16, 16, 16, 16, 16, 16, 16, 16, 16, 16, 16, 16, 16, 16, 16, 16, 16, 16, 10,
+    11, 12, 13, 14, 15, 16, 16, 16, 16, 16, 16, 16, 16, 16, 16, 16, 16, 16, 16, 16, 16, 16, 16, 16,
+    16, 16, 16, 16, 16, 16, 16, 16, 16, 16, 16, 16, 16, 16, 16, 16, 16, 16, 16, 16, 16, 16, 16, 16,
+    16, 16, 16, 16, 16, 16, 16, 16, 16, 16, 16, 16, 16, 16, 16, 16, 16, 16, 16, 16, 16, 16, 16, 16,
+    16, 16, 16, 16, 16, 16, 16, 16, 16, 16, 16, 16, 16, 16, 16, 16, 16, 16, 16, 16, 16, 16, 16, 16,
+    16, 16, 16, 16, 16, 16, 16, 16, 16, 16, 16, 16, 16, 16, 16, 16, 16, 16, 16, 16, 16, 16, 16, 16,
+    16, 16, 16, 16, 16, 16, 16, 16, 16, 16, 16, 16, 16, 16, 16, 16, 16, 16, 16, 16, 16, 16, 16, 16,
+    16, 16, 16, 16, 16, 16, 16, 16, 16, 16, 16, 16, 16, 16,
+];
+
 fn hex_digit(byte: u8) -> Option<u64>
     ensures value { result ≡ digit_of byte }
     ensures bound { IfSome result (λ d. d < 16) }
 {
-    match byte {
-        b'0'..=b'9' => Some((byte - b'0') as u64),
-        b'a'..=b'f' => Some((byte - b'a') as u64 + 10),
-        b'A'..=b'F' => Some((byte - b'A') as u64 + 10),
-        _ => None,
-    }
+    let value = HEX_DIGITS[byte as usize];
+    if value < 16 { Some(value as u64) } else { None }
 }
 
 /// An address of 1 to 16 hexadecimal digits that a comma ends, and the comma's place.
@@ -43,16 +55,11 @@ pub(crate) fn address(text: &[u8]) -> Option<(u64, usize)>
 {
     let mut value = 0;
     for (at, byte) in text.iter().enumerate() {
-        if *byte == b',' {
-            return if at == 0 { None } else { Some((value, at)) };
+        match hex_digit(*byte) {
+            Some(digit) if at < 16 => value = value * 16 + digit,
+            None if *byte == b',' && at > 0 => return Some((value, at)),
+            _ => return None,
         }
-        let Some(digit) = hex_digit(*byte) else {
-            return None;
-        };
-        if at == 16 {
-            return None;
-        }
-        value = value * 16 + digit;
     }
     None
 }

@@ -9,6 +9,7 @@ mod next;
 mod reader;
 mod reference;
 mod scan;
+mod usual;
 
 pub use access::nth_access;
 pub use next::Next;

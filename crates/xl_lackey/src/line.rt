@@ -2,7 +2,7 @@
 
 ghost use Rattle.std.specs.Prelude.{◌≡◌, ℕ, ◌+◌, ◌-◌, ◌^◌, ◌≤◌, length, take, drop, Option};
 ghost use Rattle.std.specs.Option.{option_map};
-ghost use Rattle.xl_lackey.specs.Lines.{without_return as cut_return, is_remark as begins_as_remark, letter_of as letter_by, is_blank as is_blank_byte, after, address_after as address_in_words, judge as verdict_of, of_text, of_words, of_letter, of_address, of_size, size_in, of_end, IsProper};
+ghost use Rattle.xl_lackey.specs.Lines.{without_return as cut_return, is_remark as begins_as_remark, letter_of as letter_by, is_blank as is_blank_byte, after, address_after as address_in_words, judge as verdict_of, of_text, of_words, of_letter, of_address, of_size, size_in, of_end, fits as is_within, IsProper};
 
 use crate::digits;
 use crate::reference::Letter;
@@ -129,8 +129,15 @@ fn read_end(letter: Letter, addr: u64, size: u32, text: &[u8]) -> Verdict
     if blanks < text.len() && text[blanks] != b'#' {
         return Verdict::Bad { reason: 4 };
     }
-    if u64::MAX - addr < size.max(1) as u64 - 1 {
+    if !fits(addr, size) {
         return Verdict::Bad { reason: 5 };
     }
     Verdict::Found { letter, addr, size }
+}
+
+/// Whether the bytes touched, from the address on and at least one, end at 2^64 - 1 at the latest.
+pub(crate) fn fits(addr: u64, size: u32) -> bool
+    ensures { result ≡ is_within addr size }
+{
+    u64::MAX - addr >= size.max(1) as u64 - 1
 }

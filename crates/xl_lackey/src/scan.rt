@@ -3,9 +3,11 @@
 ghost use Rattle.std.specs.Prelude.{◌≡◌, ℕ, ◌+◌, ◌-◌, ◌<◌, ◌≤◌, ◌++◌, List, ◌≢◌, length, drop, Option, IfSome, None};
 ghost use Rattle.std.specs.Option.{option_map};
 ghost use Rattle.xl_lackey.specs.Lines.{parted, IsProper};
+ghost use Rattle.xl_lackey.specs.Usual.{judged_line};
 ghost use Rattle.xl_lackey.specs.Stream.{ended_lines, first_due, lines_of, items, with_verdict};
 
 use crate::line::{Verdict, judge};
+use crate::usual::usual_line;
 use memchr::memchr;
 
 /// How far the lines of a text were read: up to its first line that isn't skipped, or over all that a
@@ -32,10 +34,10 @@ pub(crate) fn read_lines(text: &[u8], before: u64) -> Scan
 {
     let mut used = 0;
     let mut lines = before;
-    while let Some(line) = first_line(text, used) {
-        used += line.len() + 1;
+    while let Some((count, verdict)) = next_line(text, used) {
+        used += count;
         lines = lines.wrapping_add(1);
-        match judge(line) {
+        match verdict {
             Verdict::Skipped => {}
             verdict => return Scan {
                 used,
@@ -51,15 +53,32 @@ pub(crate) fn read_lines(text: &[u8], before: u64) -> Scan
     }
 }
 
-/// The first line from a place on that a newline ends, without the newline.
-fn first_line(text: &[u8], from: usize) -> Option<&[u8]>
+/// The first line from a place on that a newline ends: how many bytes it has with the newline, and what
+/// it is.
+fn next_line(text: &[u8], from: usize) -> Option<(usize, Verdict)>
     requires { from ≤ length text.now }
-    ensures within { IfSome result (λ line. from + (length line.now + 1) ≤ length text.entry.now) }
-    ensures line { option_map (λ line. (line.now, drop (from + (length line.now + 1)) text.entry.now)) result ≡ parted 10 (drop from text.entry.now) }
+    ensures within { IfSome result (λ r. from + r.0 ≤ length text.now) }
+    ensures some { IfSome result (λ r. 0 < r.0) }
+    ensures line { option_map (λ r. (drop (from + r.0) text.now, r.1)) result ≡ judged_line (drop from text.now) }
+    ensures proper { IfSome result (λ r. IsProper r.1) }
 {
     let rest = &text[from..];
-    match memchr(b'\n', rest) {
-        Some(at) => Some(&rest[..at]),
+    match usual_line(rest) {
+        Some(found) => Some(found),
+        None => any_line(rest),
+    }
+}
+
+/// The first line of a text that a newline ends, in whatever form: how many bytes it has with the
+/// newline, and what it is.
+fn any_line(text: &[u8]) -> Option<(usize, Verdict)>
+    ensures within { IfSome result (λ r. r.0 ≤ length text.now) }
+    ensures some { IfSome result (λ r. 0 < r.0) }
+    ensures line { option_map (λ r. (drop r.0 text.now, r.1)) result ≡ judged_line text.now }
+    ensures proper { IfSome result (λ r. IsProper r.1) }
+{
+    match memchr(b'\n', text) {
+        Some(at) => Some((at + 1, judge(&text[..at]))),
         None => None,
     }
 }

@@ -2,13 +2,13 @@ use Rattle.std.proofs.Common.{◌≡◌, ◌≤◌, ◌-◌, ◌++◌, List, ℕ
 use Rattle.xl_lackey.specs.Stream.{ended_lines, first_due, lines_of, items}
 use Rattle.xl_lackey.proofs.scan.read_lines.Given as goal
 
-abbrev pub invariant-loop-line : goal.invariant-loop-line
-invariant-loop-line l = record {
+abbrev pub invariant-loop-count : goal.invariant-loop-count
+invariant-loop-count l = record {
   within : l.used ≤ length l.text;
   first : first_due l.lines (ended_lines (drop l.used l.text)) ≡ first_due l.before (ended_lines l.text);
   reads : (rest : List ℕ) → items l.lines (lines_of (drop l.used l.text ++ rest)) ≡ items l.before (lines_of (l.text ++ rest));
   ended : (rest : List ℕ) → items l.lines (ended_lines (drop l.used l.text ++ rest)) ≡ items l.before (ended_lines (l.text ++ rest));
 }
 
-abbrev pub decreases-loop-line : goal.decreases-loop-line
-decreases-loop-line l = length l.text - l.used
+abbrev pub decreases-loop-count : goal.decreases-loop-count
+decreases-loop-count l = length l.text - l.used
