@@ -9,7 +9,7 @@ ghost use Rattle.xl_bench.specs.Serving.{IsPlaced, IsFew, mapped, accessed, RunA
 
 use crate::machine::Machine;
 use crate::tape::{Tape, TapeStop};
-use xl_lackey::{Reference, nth_access};
+use xl_lackey::{Reference, nth_access, sole_access};
 use xl_model::{Order, Perm};
 use xl_outside::Folder;
 use xl_script::{Command, Script};
@@ -131,6 +131,16 @@ fn serve_records<F: Folder>(
 
 /// Serves the accesses of a record.
 fn serve_record(machine: &mut Machine, reference: &Reference)
+    ensures { machine.new ≡ accessed (accesses reference.now) machine.old }
+{
+    match sole_access(reference) {
+        Some((va, kind)) => machine.access(va, kind),
+        None => serve_accesses(machine, reference),
+    }
+}
+
+/// Serves the accesses of a record, one by one.
+fn serve_accesses(machine: &mut Machine, reference: &Reference)
     ensures { machine.new ≡ accessed (accesses reference.now) machine.old }
 {
     for i in 0..64 {

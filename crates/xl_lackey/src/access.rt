@@ -1,6 +1,6 @@
 //! The accesses of a reference.
 
-ghost use Rattle.std.specs.Prelude.{◌≡◌, ℕ, ◌+◌, ◌*◌, ◌/◌, ◌^◌, ◌<◌, ◌≤◌, slice_get};
+ghost use Rattle.std.specs.Prelude.{◌≡◌, ℕ, ◌+◌, ◌*◌, ◌/◌, ◌^◌, ◌<◌, ◌≤◌, [], ◌∷◌, length, slice_get, IfSome, IfNone};
 ghost use Rattle.xl_lackey.specs.Accesses.{borders as borders_of, places, each, accesses};
 
 use crate::reference::{Letter, Reference};
@@ -28,6 +28,24 @@ pub fn nth_access(reference: &Reference, i: u32) -> Option<(u64, Kind)>
                 access(reference, Kind::Store, i - pages)
             }
         }
+    }
+}
+
+/// The access of a reference that is one access alone, as nearly all are; None where it is several.
+pub fn sole_access(reference: &Reference) -> Option<(u64, Kind)>
+    ensures one { IfSome result (λ access. accesses reference.now ≡ access ∷ []) }
+    ensures several { IfNone result (1 < length (accesses reference.now)) }
+{
+    let kind = match reference.letter {
+        Letter::I => Kind::Fetch,
+        Letter::L => Kind::Load,
+        Letter::S => Kind::Store,
+        Letter::M => return None,
+    };
+    if borders(reference) == 0 {
+        Some((reference.addr, kind))
+    } else {
+        None
     }
 }
 

@@ -11,7 +11,7 @@ mod reference;
 mod scan;
 mod usual;
 
-pub use access::nth_access;
+pub use access::{nth_access, sole_access};
 pub use next::Next;
 pub use reader::Reader;
 pub use reference::{Letter, Reference};

@@ -2,7 +2,7 @@ use Rattle.std.proofs.Common.{arith, sym, ◌∙◌}
 use Rattle.std.proofs.lemmas.Bool.Decides.{nat_tests}
 use Rattle.xl_lackey.specs.Accesses.{accesses}
 use Rattle.xl_bench.proofs.Serves.{accesses-go, accesses-end, accesses-all}
-use Rattle.xl_bench.proofs.serve.serve_record.Goals as goal
+use Rattle.xl_bench.proofs.serve.serve_accesses.Goals as goal
 
 pub returns-in_default : goal.returns-in_default
 returns-in_default c =
