@@ -1,3 +1,4 @@
+pub mod Bytes
 pub mod Long
 pub mod Numbers
 pub mod OwnForm

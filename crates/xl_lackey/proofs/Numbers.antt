@@ -1,9 +1,12 @@
 -- Addresses and sizes from the left, one digit at a time.
-use Rattle.std.proofs.Common.{◌≡◌, ℕ, ◌+◌, ◌*◌, ◌^◌, ◌≤◌, ◌<◌, Bool, true, false, ◌&&◌, List, [], ◌∷◌, length, suc, zero, refl, ap, arith, ◌∙◌, sym, inl, inr}
+use Rattle.std.proofs.Common.{◌≡◌, ℕ, ◌+◌, ◌*◌, ◌^◌, ◌≤◌, ◌<◌, Bool, true, false, ◌&&◌, List, [], ◌∷◌, ◌++◌, length, suc, zero, take, drop, refl, ap, ap₂, arith, ◌∙◌, sym, inl, inr}
+use native.Mathlib.Numerals.{unary_clauses}
 use Rattle.std.specs.Prelude.{◌==◌, nat_le, if◌then◌else◌, Option, None, Some}
 use Rattle.std.specs.Option.{option_map, option_and_then}
 use Rattle.std.proofs.Math.Nat.{pow-le-pow_right, eq-or-lt_of_le}
 use Rattle.std.proofs.lemmas.Bool.Decides.{nat_tests}
+use Rattle.std.proofs.lemmas.List.{length-take-le, take-append-drop}
+use Rattle.xl_lackey.proofs.Bytes.{got, differs}
 use Rattle.xl_lackey.specs.Lines.{front, hex_digit, hex_value, parted, in_front, before, with_rest, address_in}
 
 -- an address from the left: its value so far, and how many digits it has so far
@@ -110,6 +113,45 @@ with_rest_is (Some parts) =
 
 pub whole_address : (text : List ℕ) → hex_at 0 0 text ≡ address_in text
 whole_address text = hex_at_is text 0 0 (omega arith) ∙ with_rest_is (parted 44 text)
+
+pub digit_and_rest : (o : Option ℕ) (on : ℕ → Option ℕ) (v : ℕ) → option_and_then on o ≡ Some v → (d : ℕ) × (o ≡ Some d) × (on d ≡ Some v)
+digit_and_rest None on v h = cc
+digit_and_rest (Some d) on v h = (d, refl, h)
+
+-- one digit more at the right
+pub hex_more : (value v : ℕ) (bs : List ℕ) (b d : ℕ) → hex_value value bs ≡ Some v → hex_digit b ≡ Some d → hex_value value (bs ++ b ∷ []) ≡ Some (v * 16 + d)
+hex_more value v [] b d h e =
+    ap (option_and_then (λ k. Some (value * 16 + k))) e ∙ ap (λ (n : ℕ). Some (n * 16 + d)) (ap (got 0) h)
+hex_more value v (c ∷ cs) b d h e =
+    let parts = digit_and_rest (hex_digit c) (λ k. hex_value (value * 16 + k) cs) v h in
+    ap (option_and_then (λ k. hex_value (value * 16 + k) (cs ++ b ∷ []))) parts.1 ∙ hex_more (value * 16 + parts.0) v cs b d parts.2 e
+
+-- an address goes on behind its first digits
+pub hex_front : (value v count : ℕ) (bs rest : List ℕ) → hex_value value bs ≡ Some v → count + length bs ≤ 16
+    → hex_at value count (bs ++ rest) ≡ hex_at v (count + length bs) rest
+hex_front value v count [] rest h few =
+    let z : count ≡ count + 0 = omega arith in ap₂ (λ (n m : ℕ). hex_at n m rest) (ap (got 0) h) z
+hex_front value v count (b ∷ bs) rest h few =
+    let parts = digit_and_rest (hex_digit b) (λ d. hex_value (value * 16 + d) bs) v h in
+    let other : (b == 44) ≡ false = differs hex_digit b 44 (Some parts.0) None parts.1 refl (λ e. cc) in
+    let less : (count == 16) ≡ false = grind (arith, nat_tests) in
+    let s : count + 1 + length bs ≡ count + suc (length bs) = omega arith in
+    ap (λ (t : Bool). if t then (if count == 0 then None else Some (value, bs ++ rest))
+    else option_and_then (λ d. if count == 16 then None else hex_at (value * 16 + d) (count + 1) (bs ++ rest)) (hex_digit b)) other
+    ∙ ap (option_and_then (λ d. if count == 16 then None else hex_at (value * 16 + d) (count + 1) (bs ++ rest))) parts.1
+    ∙ ap (λ (t : Bool). if t then None else hex_at (value * 16 + parts.0) (count + 1) (bs ++ rest)) less
+    ∙ hex_front (value * 16 + parts.0) v (count + 1) bs rest parts.2 (omega arith) ∙ ap (λ (n : ℕ). hex_at v n rest) s
+
+pub after_first : (text : List ℕ) (v count : ℕ) → hex_value 0 (take count text) ≡ Some v → count ≤ length text → count ≤ 16
+    → hex_at v count (drop count text) ≡ address_in text
+after_first text v count h within few =
+    let size : length (take count text) ≡ count = length-take-le count text within in
+    let n : 0 + length (take count text) ≡ count = omega (arith, size) in
+    sym (ap (λ (k : ℕ). hex_at v k (drop count text)) n) ∙ sym (hex_front 0 v 0 (take count text) (drop count text) h (omega (arith, size)))
+    ∙ ap (hex_at 0 0) (take-append-drop count text) ∙ whole_address text
+
+pub power_more : (i : ℕ) → 16 ^ (i + 1) ≡ 16 ^ i * 16
+power_more i = simp unary_clauses refl
 
 pub hex_small : (count value : ℕ) → count ≤ 15 → value < 16 ^ count → value < 2 ^ 60
 hex_small count value h k = omega (arith, pow-le-pow_right {n = 16} (omega arith) {i = count} {j = 15} h)

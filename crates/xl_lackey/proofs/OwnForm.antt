@@ -10,7 +10,8 @@ use Rattle.xl_lackey.specs.declared.reference.Letter.TheVariants as letter
 use Rattle.xl_lackey.specs.declared.line.Verdict.{Verdict}
 use Rattle.xl_lackey.specs.declared.line.Verdict.TheVariants.{Found, Bad}
 use Rattle.xl_lackey.specs.Lines.{front, after, is_blank, is_digit, hex_digit, hex_value, decimal_value, parted, in_front, address_of, with_rest, before, address_in, is_size, size_in, fits, of_end, of_size, of_address, of_words, of_text, without_return, judge}
-use Rattle.xl_lackey.proofs.Splits.{got}
+use Rattle.xl_lackey.proofs.Bytes.{got, differs}
+use Rattle.xl_lackey.proofs.Numbers.{digit_and_rest}
 use Rattle.xl_lackey.specs.Usual.{usual_front, judged, judged_line}
 
 -- no byte of a list is this one
@@ -33,17 +34,8 @@ parted_over k (x ∷ xs) ys h =
     → (if t then Some ([], xs ++ k ∷ ys) else option_map (in_front x) (parted k (xs ++ k ∷ ys))) ≡ Some (x ∷ xs, ys))
     [ true ↦ λ e. cc | false ↦ λ e. ap (option_map (in_front x)) (parted_over k xs ys e) ] h
 
--- a byte that passes a test isn't one that doesn't
-differs : {A : Type 0} (f : ℕ → A) (b k : ℕ) (x y : A) → f b ≡ x → f k ≡ y → (x ≡ y → ⊥) → (b == k) ≡ false
-differs f b k x y h g apart =
-    elim (eqb_tells b k) [ inl p ↦ absurd (apart (sym h ∙ ap f p.1 ∙ g)) | inr p ↦ p.0 ]
-
 skips : (k b : ℕ) (bs : List ℕ) → (b == k) ≡ false → avoids k (b ∷ bs) ≡ avoids k bs
 skips k b bs h = ap (λ (t : Bool). if t then false else avoids k bs) h
-
-digit_and_rest : (o : Option ℕ) (on : ℕ → Option ℕ) (v : ℕ) → option_and_then on o ≡ Some v → (d : ℕ) × (o ≡ Some d) × (on d ≡ Some v)
-digit_and_rest None on v h = cc
-digit_and_rest (Some d) on v h = (d, refl, h)
 
 hex_avoids : (k : ℕ) → hex_digit k ≡ None → (value : ℕ) (bs : List ℕ) (v : ℕ) → hex_value value bs ≡ Some v → avoids k bs ≡ true
 hex_avoids k none value [] v h = refl

@@ -6,6 +6,7 @@ use Rattle.memchr.specs.Find.{IsFirstByte, is_byte}
 use Rattle.xl_lackey.specs.declared.line.Verdict.{Verdict}
 use Rattle.xl_lackey.specs.declared.line.Verdict.TheVariants.{Skipped, Found, Bad}
 use Rattle.xl_lackey.specs.Lines.{parted, in_front, judge}
+use Rattle.xl_lackey.proofs.Bytes.{got}
 use Rattle.xl_lackey.specs.Usual.{judged, judged_line}
 use Rattle.xl_lackey.specs.Stream.{onto, lines_of, onto_ended, ended_lines, items, with_verdict, first_due, of_due, next_line, Left}
 
@@ -118,10 +119,6 @@ none_first (b ∷ bs) before =
     let no : (b == 10) ≡ false = false_of_not (b == 10) (before 0 (omega arith)) in
     ap (λ (t : Bool). if t then Some ([], bs) else option_map (in_front b) (parted 10 bs)) no
     ∙ ap (option_map (in_front b)) (none_first bs (λ k l. before (suc k) (omega arith)))
-
-abbrev pub got : {A : Type 0} → A → Option A → A
-got a None = a
-got a (Some b) = b
 
 -- the first line of a text, and what it is, by the place of its newline
 pub line_none : (text : List ℕ) → IsFirstByte (is_byte 10) text None → None ≡ judged_line text

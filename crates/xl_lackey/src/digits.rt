@@ -1,8 +1,8 @@
 //! Digits, and the blanks before them.
 
-ghost use Rattle.std.specs.Prelude.{◌≡◌, ℕ, ◌+◌, ◌^◌, ◌<◌, ◌≤◌, min, length, drop, Option, IfSome};
+ghost use Rattle.std.specs.Prelude.{◌≡◌, ℕ, ◌+◌, ◌^◌, ◌<◌, ◌≤◌, min, length, take, drop, Option, Some, IfSome};
 ghost use Rattle.std.specs.Option.{option_map};
-ghost use Rattle.xl_lackey.specs.Lines.{is_blank as is_blank_byte, is_digit as is_digit_byte, hex_digit as digit_of, front, after, address_in, decimal_value, size_in};
+ghost use Rattle.xl_lackey.specs.Lines.{is_blank as is_blank_byte, is_digit as is_digit_byte, hex_digit as digit_of, hex_value, front, after, address_in, decimal_value, size_in};
 
 /// Whether a byte is a space or a tab.
 pub(crate) fn is_blank(byte: u8) -> bool
@@ -53,15 +53,45 @@ pub(crate) fn address(text: &[u8]) -> Option<(u64, usize)>
     ensures within { IfSome result (λ r. r.1 < length text.now) }
     ensures value { option_map (λ r. (r.0, drop (r.1 + 1) text.now)) result ≡ address_in text.now }
 {
-    let mut value = 0;
-    for (at, byte) in text.iter().enumerate() {
-        match hex_digit(*byte) {
+    let (mut value, count) = first_digits(text);
+    for at in count..text.len() {
+        match hex_digit(text[at]) {
             Some(digit) if at < 16 => value = value * 16 + digit,
-            None if *byte == b',' && at > 0 => return Some((value, at)),
+            None if text[at] == b',' && at > 0 => return Some((value, at)),
             _ => return None,
         }
     }
     None
+}
+
+/// The value of the first digits of a text, and how many they are: eight or none. Nearly all addresses
+/// have as many, and they are read with no look at where the text ends.
+fn first_digits(text: &[u8]) -> (u64, usize)
+    ensures value { hex_value 0 (take result.1 text.now) ≡ Some result.0 }
+    ensures within { result.1 ≤ length text.now }
+    ensures few { result.1 ≤ 8 }
+    ensures small { result.0 < 16 ^ result.1 }
+{
+    if text.len() < 8 {
+        return (0, 0);
+    }
+    match eight_digits(text) {
+        Some(value) => (value, 8),
+        None => (0, 0),
+    }
+}
+
+/// The value of the first eight bytes of a text, where they are hexadecimal digits.
+fn eight_digits(text: &[u8]) -> Option<u64>
+    requires { 8 ≤ length text.now }
+    ensures value { IfSome result (λ v. hex_value 0 (take 8 text.now) ≡ Some v) }
+    ensures small { IfSome result (λ v. v < 16 ^ 8) }
+{
+    let mut value = 0;
+    for i in 0..8 {
+        value = value * 16 + hex_digit(text[i])?;
+    }
+    Some(value)
 }
 
 #[tactic(auto, using(crate::proofs::Numbers::length_front))]

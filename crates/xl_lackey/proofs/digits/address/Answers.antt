@@ -1,12 +1,13 @@
 use Rattle.std.proofs.Common.{arith}
-use Rattle.xl_lackey.proofs.Numbers.{whole_address, hex_small}
+use Rattle.xl_lackey.proofs.Numbers.{after_first, hex_small}
 use Rattle.xl_lackey.proofs.digits.address.Goals as goal
 
 pub loop-at-init : goal.loop-at-init
 loop-at-init c = record {
-  few = omega arith;
-  small = omega arith;
-  same = whole_address c.args.text.now;
+  few = omega (arith, c.first_digits-value.ensures.few);
+  small = c.first_digits-value.ensures.small;
+  same = after_first c.args.text.now c.first_digits-value.result.0 c.first_digits-value.result.1 c.first_digits-value.ensures.value
+      c.first_digits-value.ensures.within (omega (arith, c.first_digits-value.ensures.few));
 }
 
 pub overflow_mul-value : goal.overflow_mul-value
