@@ -48,7 +48,9 @@ fn hex_digit(byte: u8) -> Option<u64>
     if value < 16 { Some(value as u64) } else { None }
 }
 
-/// An address of 1 to 16 hexadecimal digits that a comma ends, and the comma's place.
+/// An address of 1 to 16 hexadecimal digits that a comma ends, and the comma's place. In line, since a
+/// call would hand the pair over through memory; so are the sizes below.
+#[inline(always)]
 pub(crate) fn address(text: &[u8]) -> Option<(u64, usize)>
     ensures within { IfSome result (λ r. r.1 < length text.now) }
     ensures value { option_map (λ r. (r.0, drop (r.1 + 1) text.now)) result ≡ address_in text.now }
@@ -96,6 +98,7 @@ fn eight_digits(text: &[u8]) -> Option<u64>
 
 #[tactic(auto, using(crate::proofs::Numbers::length_front))]
 /// A size of 1 to 6 decimal digits, at most 65536, and how many digits it has.
+#[inline(always)]
 pub(crate) fn size(text: &[u8]) -> Option<(u32, usize)>
     ensures within { IfSome result (λ r. r.1 ≤ length text.now) }
     ensures value { result ≡ size_in text.now }
@@ -110,6 +113,7 @@ pub(crate) fn size(text: &[u8]) -> Option<(u32, usize)>
 
 /// The value and the number of the decimal digits that a text begins with, of which the first seven
 /// are read.
+#[inline(always)]
 fn decimal(text: &[u8]) -> (u32, usize)
     ensures count { result.1 ≡ min 7 (length (front is_digit_byte text.now)) }
     ensures value { result.1 < 7 → result.0 ≡ decimal_value 0 (front is_digit_byte text.now) }
