@@ -72,17 +72,16 @@ impl Machine {
     pub(crate) fn map(&mut self, space: u16, va: u64, order: Order, perm: Perm)
         ensures { self.new ≡ after_event built_in (event.Map space va order perm) self.old }
     {
-        match self.refusal(space, va, order, perm) {
+        match self.refusal(space, va, order) {
             Some(refusal) => self.refuse(refusal),
             None => self.insert(space, va, order, perm),
         }
     }
 
     /// The first refusal of a map that holds, but for want of room in the table.
-    fn refusal(&self, space: u16, va: u64, order: Order, perm: Perm) -> Option<Refusal>
-        ensures { result ≡ rule built_in self.now.table.leaves (event.Map space va order perm) }
+    fn refusal(&self, space: u16, va: u64, order: Order) -> Option<Refusal>
+        ensures { (perm : Perm) → result ≡ rule built_in self.now.table.leaves (event.Map space va order perm) }
     {
-        let _ = perm;
         if space >= 1 {
             return Some(Refusal::BadSpace);
         }
