@@ -22,11 +22,11 @@ fn front(text: &str, len: usize) -> &str {
 #[test]
 fn the_line_is_the_same_in_pieces_of_any_size(rt: HostRuntime) -> Result<(), Fail> {
     for piece in [1, 2, 3, 7] {
-        Given {
+        let given = Given {
             piece,
             ..Given::files(SCRIPT, TRACE)
-        }
-        .must_end(&rt, Status::Ok, LINE, "")?;
+        };
+        given.must_end(&rt, Status::Ok, LINE, "")?;
     }
     Ok(())
 }
