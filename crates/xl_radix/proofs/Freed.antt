@@ -6,11 +6,11 @@ use Rattle.std.proofs.lemmas.List.{get_or-set_same, get_or-set_other, length-set
 use Rattle.xl_model.specs.declared.leaf.Leaf.{Leaf}
 use Rattle.xl_model.specs.Addresses.{level_of}
 use Rattle.xl_model.specs.Nodes.{up, Node, is_below, in_nodes, number_of, free_count}
-use Rattle.xl_radix.specs.Image.{leaf_in, entry, slot_word, word_of}
-use Rattle.xl_radix.specs.Table.{In, IsImage, IsNearly, IsRooted}
+use Rattle.xl_mapping.specs.Members.{In}
+use Rattle.xl_radix.specs.Image.{leaf_in, entry, word_at, word_of}
+use Rattle.xl_radix.specs.Table.{IsImage, IsNearly, IsRooted}
 use Rattle.xl_radix.specs.Steps.{Stands}
 use Rattle.xl_radix.proofs.Numbers.{node-in, number-some, number-none, number-there, number-set-any, below-some, is-below, below-is, Is}
-use Rattle.xl_radix.proofs.Ups.{up-same}
 use Rattle.xl_radix.proofs.Slots.{At, Under, leaf-in-some, leaf-in-none, in-nodes, in-nodes-leaf}
 use Rattle.xl_radix.proofs.Ends.{split-le, word-none, none-word}
 use Rattle.xl_radix.proofs.Made.{Which, That, Another, which, new_node, new-below, places, stands-is, some-same}
@@ -35,7 +35,7 @@ nothing-in top s l q k c leaves nodes words image empty h =
     let zero-word = empty.zeros (c % 512) (omega arith) in
     let word : word_of leaves nodes (Some (new_node s l q)) (c % 512) ≡ 0 = ap (λ (o : Option Node). word_of leaves nodes o (c % 512)) (sym empty.below) ∙ sym same ∙ zero-word in
     let at : q * 512 + c % 512 ≡ c = omega arith in
-    word-none s l c leaves nodes (subst (λ (v : ℕ). slot_word leaves nodes s l v ≡ 0) at word)
+    word-none s l c leaves nodes (subst (λ (v : ℕ). word_at leaves nodes s l v ≡ 0) at word)
 
 -- So the mapping needs it no more.
 pub not-needed : (top s l q k : ℕ) (leaves : List Leaf) (nodes : List (Option Node)) (words : List ℕ) → IsImage top leaves nodes words → IsEmpty s l q k nodes words → suc l ≤ top → in_nodes s (suc l) q leaves ≡ true → ⊥
@@ -92,8 +92,8 @@ freed-keeps s l q k a b c nodes words empty not there h =
       | Another e f ↦ there (sym (freed-number-other s l q k a b c nodes words empty (plain s l q a b c e)) ∙ h)
     ]
 
-freed-word : (s l q k a b c : ℕ) (leaves : List Leaf) (nodes : List (Option Node)) (words : List ℕ) → IsEmpty s l q k nodes words → is_below a b c (Some (new_node s l q)) ≡ false → slot_word leaves (freed_nodes k nodes) a b c ≡ slot_word leaves nodes a b c
-unfolding slot_word
+freed-word : (s l q k a b c : ℕ) (leaves : List Leaf) (nodes : List (Option Node)) (words : List ℕ) → IsEmpty s l q k nodes words → is_below a b c (Some (new_node s l q)) ≡ false → word_at leaves (freed_nodes k nodes) a b c ≡ word_at leaves nodes a b c
+unfolding word_at
 freed-word s l q k a b c leaves nodes words empty f = ap (entry (leaf_in a b c leaves)) (freed-number-other s l q k a b c nodes words empty f)
 
 abbrev pub freed_words : ℕ → ℕ → List ℕ → List ℕ
@@ -131,7 +131,7 @@ freed-same top s page l k n m i leaves nodes words image at no-leaf empty h g =
         let c : stand.0 ≡ new_node s l (up (suc l) page) = some-same (sym stand.1 ∙ a) in
         levels stand.0 (new_node s l (up (suc l) page)) c stand.2.level_is refl) ∙ ap (λ (v : ℕ). slice_index words (v * 512 + i)) e ∙ empty.zeros i g
 
-    zero-at-slot : slot_word leaves (freed_nodes k nodes) s (suc l) (up (suc l) page) ≡ 0
+    zero-at-slot : word_at leaves (freed_nodes k nodes) s (suc l) (up (suc l) page) ≡ 0
     zero-at-slot = none-word s (suc l) (up (suc l) page) leaves (freed_nodes k nodes) no-leaf (freed-number-same top s l (up (suc l) page) k leaves nodes words image empty)
 
     that : (node : Node) → slice_index_or nodes m None ≡ Some node → node.space ≡ s → node.level ≡ suc l → node.prefix * 512 + i ≡ up (suc l) page → slice_index (freed_words n (up (suc l) page % 512) words) (m * 512 + i) ≡ 0
@@ -154,7 +154,7 @@ freed-same top s page l k n m i leaves nodes words image at no-leaf empty h g =
         let i3 : node.prefix ≡ up (suc l) page / 512 = sym (ap (λ (v : Node). v.prefix) c) ∙ stand.2.prefix_is in
         not (i1, omega (arith, i2), omega (arith, i3, p.1))
 
-    some : (node : Node) → slice_index_or nodes m None ≡ Some node → Which s (suc l) (up (suc l) page) node.space node.level (node.prefix * 512 + i) → slice_index (freed_words n (up (suc l) page % 512) words) (m * 512 + i) ≡ slot_word leaves (freed_nodes k nodes) node.space node.level (node.prefix * 512 + i)
+    some : (node : Node) → slice_index_or nodes m None ≡ Some node → Which s (suc l) (up (suc l) page) node.space node.level (node.prefix * 512 + i) → slice_index (freed_words n (up (suc l) page % 512) words) (m * 512 + i) ≡ word_at leaves (freed_nodes k nodes) node.space node.level (node.prefix * 512 + i)
     some node f (That a b c) = that node f a b c ∙ sym (rw (a, b, c) zero-at-slot)
     some node f (Another a b) =
         kept (differs node f b) ∙ image.same m i h g ∙ ap (λ (o : Option Node). word_of leaves nodes o i) f ∙ sym (freed-word s l (up (suc l) page) k node.space node.level (node.prefix * 512 + i) leaves nodes words empty (plain s l (up (suc l) page) node.space node.level (node.prefix * 512 + i) a))

@@ -12,13 +12,14 @@ use Rattle.xl_model.specs.Nodes.{up, Node, is_below, in_nodes, number_of, free_c
 use Rattle.xl_model.specs.Room.{has_room}
 use Rattle.xl_model.specs.Shapes.{Radix}
 use Rattle.xl_model.specs.Structures.{IsBlock, IsLeafFor}
+use Rattle.xl_mapping.specs.Members.{In}
 use Rattle.xl_pte.specs.Decode.{decode_of}
 use Rattle.xl_pte.specs.declared.word.Pte.{Pte}
-use Rattle.xl_radix.specs.Image.{leaf_in, slot_word}
+use Rattle.xl_mapping.proofs.Members.{any-false}
+use Rattle.xl_radix.specs.Image.{leaf_in, word_at}
 use Rattle.xl_radix.specs.ReadBack.{order_of, leaf_said}
-use Rattle.xl_radix.specs.Table.{Table, In, IsProper, IsNew, IsMapping, IsImage, IsExact, IsStore}
+use Rattle.xl_radix.specs.Table.{Table, IsRadixLeaf, IsNew, IsRadixMapping, IsImage, IsExact, IsStore}
 use Rattle.xl_radix.specs.Steps.{Stands, IsEnd, shape_of}
-use Rattle.xl_radix.proofs.Lists.{none-any}
 use Rattle.xl_radix.proofs.Numbers.{number-some}
 use Rattle.xl_radix.proofs.Ups.{up-top}
 use Rattle.xl_radix.proofs.Meets.{Met, meets}
@@ -114,7 +115,7 @@ is-new top spaces x leaves nodes words used store valid free =
     never : (y : Leaf) → In y leaves → up (level_of x.order) x.first * pages_of x.order ≡ x.first → Met x.space x.first (level_of x.order) y → ⊥
     never y i aligned m =
         let t = meets x.space x.first x.order y (store.mapping.proper y i).aligned aligned m in
-        let f = none-any (meets_block x.space x.first x.order) leaves y free i in cc
+        let f = any-false (meets_block x.space x.first x.order) y leaves free i in cc
 
 pub room-is : (levels k : ℕ) (x : Leaf) (t : Table) (b : Bool) → missing x.space x.first (level_of x.order) (levels - 1 - level_of x.order) t.nodes ≡ k → nat_le k (free_count t.nodes) ≡ b → has_room (Insert x) t.leaves (shape_of levels t) ≡ b
 unfolding has_room leaf_nodes_missing

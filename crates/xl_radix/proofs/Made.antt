@@ -7,8 +7,9 @@ use Rattle.xl_model.specs.declared.leaf.Leaf.{Leaf}
 use Rattle.xl_model.specs.Addresses.{level_of}
 use Rattle.xl_model.specs.Words.{pointer_word}
 use Rattle.xl_model.specs.Nodes.{up, Node, is_below, in_nodes, number_of, with_node, unless_there, put_first}
-use Rattle.xl_radix.specs.Image.{leaf_in, entry, slot_word, word_of}
-use Rattle.xl_radix.specs.Table.{In, IsImage, IsNearly, IsRooted}
+use Rattle.xl_mapping.specs.Members.{In}
+use Rattle.xl_radix.specs.Image.{leaf_in, entry, word_at, word_of}
+use Rattle.xl_radix.specs.Table.{IsImage, IsNearly, IsRooted}
 use Rattle.xl_radix.specs.Steps.{Stands}
 use Rattle.xl_radix.proofs.Numbers.{node-in, number-some, number-none, number-there, number-set-other, number-only, below-some, is-below, below-is, Is}
 use Rattle.xl_radix.proofs.Slots.{At, Under, leaf-in-some, in-nodes}
@@ -81,8 +82,8 @@ made-keeps s l q k a b c leaves nodes spot there h =
     plain e = let h : suc l - 1 ≡ l = omega arith in rw h at e
 
 -- the words of the new node are 0
-pub made-empty : (top s l q k i : ℕ) (leaves : List Leaf) (nodes : List (Option Node)) (words : List ℕ) → IsImage top leaves nodes words → suc l ≤ top → IsSpot s l q k leaves nodes → i < 512 → slot_word leaves (made_nodes s l q k nodes) s l (q * 512 + i) ≡ 0
-unfolding slot_word
+pub made-empty : (top s l q k i : ℕ) (leaves : List Leaf) (nodes : List (Option Node)) (words : List ℕ) → IsImage top leaves nodes words → suc l ≤ top → IsSpot s l q k leaves nodes → i < 512 → word_at leaves (made_nodes s l q k nodes) s l (q * 512 + i) ≡ 0
+unfolding word_at
 made-empty top s l q k i leaves nodes words image low spot h =
     rw (no-leaf, no-node) refl
   where
@@ -117,12 +118,12 @@ made-empty top s l q k i leaves nodes words image low spot h =
     ] refl
 
 -- The word of a slot other than that of the new node stays.
-pub made-word : (s l q k a b c : ℕ) (leaves : List Leaf) (nodes : List (Option Node)) → IsSpot s l q k leaves nodes → is_below a b c (Some (new_node s l q)) ≡ false → slot_word leaves (made_nodes s l q k nodes) a b c ≡ slot_word leaves nodes a b c
-unfolding slot_word
+pub made-word : (s l q k a b c : ℕ) (leaves : List Leaf) (nodes : List (Option Node)) → IsSpot s l q k leaves nodes → is_below a b c (Some (new_node s l q)) ≡ false → word_at leaves (made_nodes s l q k nodes) a b c ≡ word_at leaves nodes a b c
+unfolding word_at
 made-word s l q k a b c leaves nodes spot f = ap (entry (leaf_in a b c leaves)) (made-number-other s l q k a b c leaves nodes spot f)
 
-pub made-pointer : (s l q k : ℕ) (leaves : List Leaf) (nodes : List (Option Node)) → IsSpot s l q k leaves nodes → slot_word leaves (made_nodes s l q k nodes) s (suc l) q ≡ pointer_word k
-unfolding slot_word
+pub made-pointer : (s l q k : ℕ) (leaves : List Leaf) (nodes : List (Option Node)) → IsSpot s l q k leaves nodes → word_at leaves (made_nodes s l q k nodes) s (suc l) q ≡ pointer_word k
+unfolding word_at
 made-pointer s l q k leaves nodes spot = rw (spot.empty, made-number-same s l q k leaves nodes spot) refl
 
 abbrev pub made_words : ℕ → ℕ → ℕ → List ℕ → List ℕ
@@ -193,7 +194,7 @@ made-same top s page l k n m i leaves nodes words image low at spot h g =
     plain : (a b c : ℕ) → is_below a b c (Some (new_node s (suc l - 1) (up (suc l) page))) ≡ false → is_below a b c (Some (new_node s l (up (suc l) page))) ≡ false
     plain a b c e = let h : suc l - 1 ≡ l = omega arith in rw h at e
 
-    some : (node : Node) → slice_index_or nodes m None ≡ Some node → Which s (suc l) (up (suc l) page) node.space node.level (node.prefix * 512 + i) → slice_index (made_words n (up (suc l) page % 512) k words) (m * 512 + i) ≡ slot_word leaves (made_nodes s l (up (suc l) page) k nodes) node.space node.level (node.prefix * 512 + i)
+    some : (node : Node) → slice_index_or nodes m None ≡ Some node → Which s (suc l) (up (suc l) page) node.space node.level (node.prefix * 512 + i) → slice_index (made_words n (up (suc l) page % 512) k words) (m * 512 + i) ≡ word_at leaves (made_nodes s l (up (suc l) page) k nodes) node.space node.level (node.prefix * 512 + i)
     some node f (That a b c) = that node f a b c ∙ sym (rw (a, b, c) (made-pointer s l (up (suc l) page) k leaves nodes spot))
     some node f (Another a b) =
         kept (differs node f b) ∙ image.same m i h g ∙ ap (λ (o : Option Node). word_of leaves nodes o i) f ∙ sym (made-word s l (up (suc l) page) k node.space node.level (node.prefix * 512 + i) leaves nodes spot (plain node.space node.level (node.prefix * 512 + i) a))

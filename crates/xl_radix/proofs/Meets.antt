@@ -7,8 +7,8 @@ use Rattle.xl_model.specs.declared.leaf.Leaf.{Leaf}
 use Rattle.xl_model.specs.Addresses.{level_of, pages_of}
 use Rattle.xl_model.specs.Mapping.{meets_block, covers}
 use Rattle.xl_model.specs.Nodes.{up}
-use Rattle.xl_radix.specs.Table.{IsProper}
-use Rattle.xl_radix.proofs.Ups.{up-same, covers-up, up-covers}
+use Rattle.xl_radix.specs.Table.{IsRadixLeaf}
+use Rattle.xl_radix.proofs.Ups.{covers-up, up-covers}
 
 abbrev pub Overlap : ℕ → ℕ → ℕ → ℕ → Type 0
 Overlap l first m page = ((l ≤ m) × (up m first ≡ up m page)) ⊎ ((m ≤ l) × (up l first ≡ up l page))

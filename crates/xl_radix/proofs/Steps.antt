@@ -8,14 +8,15 @@ use Rattle.xl_model.specs.Addresses.{level_of, pages_of}
 use Rattle.xl_model.specs.Mapping.{with_leaf}
 use Rattle.xl_model.specs.Words.{pointer_word, leaf_word}
 use Rattle.xl_model.specs.Nodes.{up, Node, is_below, in_nodes, number_of, put_first, free_count}
+use Rattle.xl_mapping.specs.Members.{In}
 use Rattle.xl_pte.specs.Decode.{decode_of}
 use Rattle.xl_pte.specs.declared.word.Pte.{Pte}
 use Rattle.xl_pte.specs.declared.word.Pte.TheVariants as pte
-use Rattle.xl_radix.specs.Image.{leaf_in, slot_word}
+use Rattle.xl_radix.specs.Image.{leaf_in, word_at}
 use Rattle.xl_radix.specs.ReadBack.{read_back}
 use Rattle.std.specs.List.{position}
 use Rattle.std.specs.Prelude.{is_none}
-use Rattle.xl_radix.specs.Table.{filled, In, IsNew, IsMapping, IsImage, IsNearly, IsExact, IsCounted, IsRooted, IsStore}
+use Rattle.xl_radix.specs.Table.{filled, IsNew, IsRadixMapping, IsImage, IsNearly, IsExact, IsCounted, IsRooted, IsStore}
 use Rattle.xl_radix.specs.Steps.{Stands, IsEnd, IsReady}
 use Rattle.xl_radix.proofs.Numbers.{node-in, below-some, free-none, number-some, number-none, number-there}
 use Rattle.xl_radix.proofs.Slots.{At, Under, Says, says, stands-word, pointer-low, leaf-in-some, in-nodes-leaf}
@@ -26,7 +27,7 @@ use Rattle.xl_radix.proofs.Backs.{reads-back}
 use Rattle.xl_radix.proofs.Counts.{counted-more, filled-le}
 
 -- The word that was read, in the node that stands at a page, is that of the slot.
-pub read-word : (top spaces s page l n i w : ℕ) (leaves : List Leaf) (nodes : List (Option Node)) (words used : List ℕ) → IsStore top spaces leaves nodes words used → Stands s page l n nodes → i ≡ up l page % 512 → w ≡ slice_index_or words (n * 512 + i) w → w ≡ slot_word leaves nodes s l (up l page)
+pub read-word : (top spaces s page l n i w : ℕ) (leaves : List Leaf) (nodes : List (Option Node)) (words used : List ℕ) → IsStore top spaces leaves nodes words used → Stands s page l n nodes → i ≡ up l page % 512 → w ≡ slice_index_or words (n * 512 + i) w → w ≡ word_at leaves nodes s l (up l page)
 read-word top spaces s page l n i w leaves nodes words used store at e f =
     let r = stands-word top s page l n leaves nodes words store.image at in
     let inside : n * 512 + i < length words = let z = store.image.size in let y = r.0 in omega arith in
@@ -44,7 +45,7 @@ next-stands s page (suc l) n leaves nodes h =
     let e : suc l - 1 ≡ l = omega arith in
     rw e (record { stands = (number-some s (suc l) (up (suc l) page) n nodes h.1).1 })
 
-pub stops : (top spaces s l q : ℕ) (w : Pte) (leaves : List Leaf) (nodes : List (Option Node)) → l < top → IsMapping top spaces leaves → IsExact top leaves nodes → Says w s l q leaves nodes → ((n : ℕ) → w ≡ pte.Pointer n → ⊥) → number_of s l q nodes ≡ None
+pub stops : (top spaces s l q : ℕ) (w : Pte) (leaves : List Leaf) (nodes : List (Option Node)) → l < top → IsRadixMapping top spaces leaves → IsExact top leaves nodes → Says w s l q leaves nodes → ((n : ℕ) → w ≡ pte.Pointer n → ⊥) → number_of s l q nodes ≡ None
 stops top spaces s l q pte.Invalid leaves nodes low m exact h not = h.1
 stops top spaces s l q (pte.Pointer n) leaves nodes low m exact h not = absurd (not n refl)
 stops top spaces s l q (pte.Leaf frame perm) leaves nodes low m exact h not =
@@ -84,7 +85,7 @@ made-step top spaces s page l k n leaves nodes words used store low ready within
     let counted = counted-more 512 n (up (suc l) page % 512) (pointer_word k) nodes words used refl store.counted store.image.size r.0 (omega arith) empty (pointer-filled k) in
     let below : up (suc l) page * 512 + up l page % 512 ≡ up l page = omega arith in
     let zero_word = made-empty top s l (up (suc l) page) k (up l page % 512) leaves nodes words store.image (omega arith) spot (omega arith) in
-    let none = word-none s l (up l page) leaves (made_nodes s l (up (suc l) page) k nodes) (subst (λ (v : ℕ). slot_word leaves (made_nodes s l (up (suc l) page) k nodes) s l v ≡ 0) below zero_word) in
+    let none = word-none s l (up l page) leaves (made_nodes s l (up (suc l) page) k nodes) (subst (λ (v : ℕ). word_at leaves (made_nodes s l (up (suc l) page) k nodes) s l v ≡ 0) below zero_word) in
     record {
       store = record {
         high = store.high;

@@ -19,10 +19,10 @@ entry (Some leaf) _ = leaf_word leaf.frame leaf.perm
 entry None (Some number) = pointer_word number
 entry None None = 0
 
-unfoldable pub slot_word : List Leaf → List (Option Node) → ℕ → ℕ → ℕ → ℕ
-slot_word leaves nodes space l block = entry (leaf_in space l block leaves) (number_of space l block nodes)
+unfoldable pub word_at : List Leaf → List (Option Node) → ℕ → ℕ → ℕ → ℕ
+word_at leaves nodes space l block = entry (leaf_in space l block leaves) (number_of space l block nodes)
 
 -- the word at an index of a node; a number that no node has, has words 0
 abbrev pub word_of : List Leaf → List (Option Node) → Option Node → ℕ → ℕ
 word_of leaves nodes None index = 0
-word_of leaves nodes (Some node) index = slot_word leaves nodes node.space node.level (node.prefix * 512 + index)
+word_of leaves nodes (Some node) index = word_at leaves nodes node.space node.level (node.prefix * 512 + index)
