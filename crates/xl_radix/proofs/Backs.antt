@@ -16,6 +16,7 @@ use Rattle.xl_radix.specs.Image.{is_slot, leaf_in, word_at, word_of}
 use Rattle.xl_radix.specs.ReadBack.{order_of, leaf_said, leaf_by, leaf_here, with_some, read_to, read_back}
 use Rattle.xl_radix.specs.Table.{IsRadixLeaf, IsRadixMapping, IsImage}
 use Rattle.xl_radix.specs.Steps.{Stands}
+use Rattle.xl_radix.proofs.Cases.{split-less}
 use Rattle.xl_radix.proofs.Lists.{same-sorted}
 use Rattle.xl_radix.proofs.Numbers.{number-some, number-there, below-some, Is}
 use Rattle.xl_radix.proofs.Ups.{level-low}
@@ -154,14 +155,11 @@ some-keeps top spaces leaves (Some z) xs x m all i j =
 pub read-there : (top spaces k place : ℕ) (leaves : List Leaf) (nodes : List (Option Node)) (words : List ℕ) (x : Leaf) → IsRadixMapping top spaces leaves → IsImage top leaves nodes words → length nodes ≤ 16384 → k ≤ length nodes * 512 → In x leaves → leaf_here nodes words place ≡ Some x → place < k → In x (read_to nodes words k)
 read-there top spaces zero place leaves nodes words x m image small h i e g = absurd (omega arith)
 read-there top spaces (suc k) place leaves nodes words x m image small h i e g =
-    elim (split place k g) [
+    elim (split-less place k g) [
       | inl f ↦ newest (ap (leaf_here nodes words) (sym f) ∙ e)
       | inr f ↦ some-keeps top spaces leaves (leaf_here nodes words k) (read_to nodes words k) x m (λ z t. here-in top spaces k leaves nodes words z m image small (omega arith) t) i (read-there top spaces k place leaves nodes words x m image small (omega arith) i e f)
     ]
   where
-    split : (place k : ℕ) → place < suc k → (place ≡ k) ⊎ (place < k)
-    split place k h = grind arith
-
     newest : leaf_here nodes words k ≡ Some x → In x (with_some (leaf_here nodes words k) (read_to nodes words k))
     newest t = rw t (In-with x (read_to nodes words k))
 

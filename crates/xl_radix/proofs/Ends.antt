@@ -15,6 +15,7 @@ use Rattle.xl_mapping.proofs.Ends.{up-from}
 use Rattle.xl_radix.specs.Image.{leaf_in, entry, word_at}
 use Rattle.xl_radix.specs.Table.{IsRadixMapping, IsRadixLeaf, IsImage, IsExact, IsStore, IsRooted}
 use Rattle.xl_radix.specs.Steps.{Stands, IsEnd}
+use Rattle.xl_radix.proofs.Cases.{split-le}
 use Rattle.xl_radix.proofs.Lists.{find-nothing, any-nothing}
 use Rattle.xl_radix.proofs.Numbers.{number-some, number-none, number-there}
 use Rattle.xl_radix.proofs.Ups.{level-low}
@@ -25,9 +26,6 @@ use Rattle.xl_radix.proofs.Slots.{At, Under, leaf-in-some, leaf-in-none, in-node
 pub record IsTable (top spaces : ℕ) (leaves : List Leaf) (nodes : List (Option Node)) (words : List ℕ) (used : List ℕ) : Type 0 where
   pub store : IsStore top spaces leaves nodes words used
   pub exact : IsExact top leaves nodes
-
-pub split-le : (a b : ℕ) → a ≤ b → (a ≡ b) ⊎ (a < b)
-split-le a b h = grind arith
 
 -- A leaf that lies at the block of a slot, at its level or below, is seen at the slot.
 pub seen-low : (top s l q : ℕ) (leaves : List Leaf) (nodes : List (Option Node)) (words : List ℕ) (y : Leaf) → IsImage top leaves nodes words → l < top → leaf_in s l q leaves ≡ None → number_of s l q nodes ≡ None → In y leaves → y.space ≡ s → level_of y.order ≤ l → up l y.first ≡ q → ⊥

@@ -7,6 +7,7 @@ use Rattle.xl_model.specs.Mapping.{with_leaf, leaf_key}
 use Rattle.xl_mapping.specs.Members.{In, IsSorted}
 use Rattle.xl_mapping.proofs.Members.{find-In, find-passes, find-only, any-In}
 use Rattle.xl_mapping.proofs.Insertion.{with-In, In-with, above-In}
+use Rattle.xl_radix.proofs.Cases.{Lies, Same, Before, After, lies}
 
 pub find-nothing : (p : Leaf → Bool) (xs : List Leaf) → ((y : Leaf) → In y xs → p y ≡ true → ⊥) → find p xs ≡ None
 find-nothing p xs not =
@@ -20,22 +21,6 @@ any-nothing p xs not =
     elim (list_any p xs) as (λ b. list_any p xs ≡ b → b ≡ false) [
       | true ↦ λ e. let r = any-In p xs e in absurd (not r.0 r.1 r.2)
       | false ↦ λ e. refl
-    ] refl
-
--- How a leaf's key lies to another's.
-data Lies (a b : ℕ) : Type 0 where
-  Same : a ≡ b → (a == b) ≡ true → Lies a b
-  Before : a < b → (a == b) ≡ false → nat_lt a b ≡ true → Lies a b
-  After : b < a → (a == b) ≡ false → nat_lt a b ≡ false → Lies a b
-
-lies : (a b : ℕ) → Lies a b
-lies a b =
-    elim (a == b) as (λ t. (a == b) ≡ t → Lies a b) [
-      | true ↦ λ e. Same (grind (arith, nat_tests)) e
-      | false ↦ λ e. elim (nat_lt a b) as (λ t. nat_lt a b ≡ t → Lies a b) [
-        | true ↦ λ f. Before (grind (arith, nat_tests)) e f
-        | false ↦ λ f. After (grind (arith, nat_tests)) e f
-      ] refl
     ] refl
 
 -- A test that the new leaf doesn't meet finds what it found, where no leaf has the new one's key.

@@ -8,6 +8,7 @@ use Rattle.xl_model.specs.Addresses.{level_of, pages_of}
 use Rattle.xl_model.specs.Mapping.{meets_block, covers}
 use Rattle.xl_model.specs.Nodes.{up}
 use Rattle.xl_radix.specs.Table.{IsRadixLeaf}
+use Rattle.xl_radix.proofs.Cases.{same-number, number-same}
 use Rattle.xl_radix.proofs.Ups.{covers-up, up-covers}
 
 abbrev pub Overlap : ℕ → ℕ → ℕ → ℕ → Type 0
@@ -53,12 +54,6 @@ and-true false b h = cc
 
 both-true : (a b : Bool) → a ≡ true → b ≡ true → (a && b) ≡ true
 both-true a b e f = rw (e, f) refl
-
-same-number : (a b : ℕ) → (a == b) ≡ true → a ≡ b
-same-number a b h = grind (arith, nat_tests)
-
-number-same : (a b : ℕ) → a ≡ b → (a == b) ≡ true
-number-same a b h = grind (arith, nat_tests)
 
 -- What it means that a leaf meets a block.
 pub record Met (space at : ℕ) (level : ℕ) (leaf : Leaf) : Type 0 where

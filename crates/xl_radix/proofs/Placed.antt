@@ -13,11 +13,12 @@ use Rattle.xl_mapping.proofs.Ends.{up-from}
 use Rattle.xl_radix.specs.Image.{is_slot, leaf_in, entry, word_at, word_of}
 use Rattle.xl_radix.specs.Table.{IsNew, IsRadixLeaf, IsRadixMapping, IsImage, IsNearly, IsExact}
 use Rattle.xl_radix.specs.Steps.{Stands, IsReady}
+use Rattle.xl_radix.proofs.Cases.{split-less}
 use Rattle.xl_radix.proofs.Lists.{find-with, find-with-other}
 use Rattle.xl_radix.proofs.Numbers.{number-some, number-there, below-some, is-below, Is}
 use Rattle.xl_radix.proofs.Ups.{level-low}
 use Rattle.xl_radix.proofs.Slots.{At, Under, slot-at, at-slot, leaf-in-none, in-nodes, in-nodes-leaf}
-use Rattle.xl_radix.proofs.Made.{places, stands-is, some-same}
+use Rattle.xl_radix.proofs.Made.{other-slot, no-slot}
 
 pub no-key : (top spaces : ℕ) (x : Leaf) (leaves : List Leaf) → IsRadixMapping top spaces leaves → IsNew top spaces x leaves → (y : Leaf) → In y leaves → leaf_key x ≡ leaf_key y → ⊥
 no-key top spaces x leaves m new y i e =
@@ -50,7 +51,7 @@ placed-word : (s l q : ℕ) (x : Leaf) (leaves : List Leaf) (nodes : List (Optio
 unfolding word_at
 placed-word s l q x leaves nodes e = rw e refl
 
-same-word : (s l q : ℕ) (new leaves : List Leaf) (nodes : List (Option Node)) → leaf_in s l q new ≡ leaf_in s l q leaves → word_at new nodes s l q ≡ word_at leaves nodes s l q
+pub same-word : (s l q : ℕ) (new leaves : List Leaf) (nodes : List (Option Node)) → leaf_in s l q new ≡ leaf_in s l q leaves → word_at new nodes s l q ≡ word_at leaves nodes s l q
 unfolding word_at
 same-word s l q new leaves nodes e = rw e refl
 
@@ -58,11 +59,8 @@ same-word s l q new leaves nodes e = rw e refl
 pub above : (top s page l n b : ℕ) (leaves : List Leaf) (nodes : List (Option Node)) (words : List ℕ) → IsImage top leaves nodes words → Stands s page l n nodes → l < b → b ≤ top → number_of s b (up b page) nodes ≡ None → ⊥
 above top s page l n zero leaves nodes words image at h g e = omega arith
 above top s page l n (suc b) leaves nodes words image at h g e =
-    next (split l b h) (λ k. above top s page l n b leaves nodes words image at k (omega arith))
+    next (split-less l b h) (λ k. above top s page l n b leaves nodes words image at k (omega arith))
   where
-    split : (l b : ℕ) → l < suc b → (l ≡ b) ⊎ (l < b)
-    split l b h = grind arith
-
     up-from : (number_of s b (up b page) nodes ≡ None → ⊥) → ⊥
     up-from there = elim (number_of s b (up b page) nodes) as (λ o. number_of s b (up b page) nodes ≡ o → ⊥) [
       | None ↦ λ f. there f
@@ -79,28 +77,25 @@ above top s page l n (suc b) leaves nodes words image at h g e =
 abbrev pub placed_words : Leaf → ℕ → List ℕ → List ℕ
 placed_words x n words = slice_set words (n * 512 + up (level_of x.order) x.first % 512) (leaf_word x.frame x.perm)
 
+-- The place of a leaf's word is that of no slot at which the leaf doesn't stand.
+pub other-leaf-slot : (x : Leaf) (n m i : ℕ) (nodes : List (Option Node)) (node : Node) → Stands x.space x.first (level_of x.order) n nodes → i < 512 → slice_index_or nodes m None ≡ Some node → is_slot node.space node.level (node.prefix * 512 + i) x ≡ false → m * 512 + i ≢ n * 512 + up (level_of x.order) x.first % 512
+other-leaf-slot x n m i nodes node at g f not =
+    other-slot x.space x.first (level_of x.order) n m i nodes node at g f (λ e.
+    let t = at-slot node.space node.level (node.prefix * 512 + i) x (record { space_is = sym e.0; level_is = sym e.1; block_is = subst (λ (v : ℕ). up v x.first ≡ node.prefix * 512 + i) (sym e.1) (sym e.2) }) in cc)
+
 pub placed-same : (top spaces : ℕ) (x : Leaf) (n m i : ℕ) (leaves : List Leaf) (nodes : List (Option Node)) (words : List ℕ) → IsRadixMapping top spaces leaves → IsImage top leaves nodes words → IsNew top spaces x leaves → IsReady x.space x.first (level_of x.order) n leaves nodes → m < length nodes → i < 512 →
     slice_index (placed_words x n words) (m * 512 + i) ≡ word_of (with_leaf x leaves) nodes (slice_index_or nodes m None) i
 placed-same top spaces x n m i leaves nodes words mapping image new hole h g =
     elim (slice_index_or nodes m None) as (λ o. slice_index_or nodes m None ≡ o → slice_index (placed_words x n words) (m * 512 + i) ≡ word_of (with_leaf x leaves) nodes o i) [
-      | None ↦ λ f. kept (none-place f) ∙ image.same m i h g ∙ ap (λ (o : Option Node). word_of leaves nodes o i) f
+      | None ↦ λ f. kept (no-slot x.space x.first (level_of x.order) n m i nodes hole.at g f) ∙ image.same m i h g ∙ ap (λ (o : Option Node). word_of leaves nodes o i) f
       | Some node ↦ λ f. elim (is_slot node.space node.level (node.prefix * 512 + i) x) as (λ t. is_slot node.space node.level (node.prefix * 512 + i) x ≡ t → slice_index (placed_words x n words) (m * 512 + i) ≡ word_at (with_leaf x leaves) nodes node.space node.level (node.prefix * 512 + i)) [
         | true ↦ λ e. let a = slot-at node.space node.level (node.prefix * 512 + i) x e in that node f a ∙ sym (placed-word node.space node.level (node.prefix * 512 + i) x (with_leaf x leaves) nodes (placed-leaf-same top spaces node.space node.level (node.prefix * 512 + i) x n leaves nodes hole a))
-        | false ↦ λ e. kept (differs node f e) ∙ image.same m i h g ∙ ap (λ (o : Option Node). word_of leaves nodes o i) f ∙ sym (same-word node.space node.level (node.prefix * 512 + i) (with_leaf x leaves) leaves nodes (placed-leaf-other top spaces node.space node.level (node.prefix * 512 + i) x leaves mapping new e))
+        | false ↦ λ e. kept (other-leaf-slot x n m i nodes node hole.at g f e) ∙ image.same m i h g ∙ ap (λ (o : Option Node). word_of leaves nodes o i) f ∙ sym (same-word node.space node.level (node.prefix * 512 + i) (with_leaf x leaves) leaves nodes (placed-leaf-other top spaces node.space node.level (node.prefix * 512 + i) x leaves mapping new e))
       ] refl
     ] refl
   where
-    stand : (node : Node) × (slice_index_or nodes n None ≡ Some node) × Is x.space (suc (level_of x.order)) (up (suc (level_of x.order)) x.first) node
-    stand = stands-is x.space x.first (level_of x.order) n nodes hole.at
-
     kept : (m * 512 + i ≢ n * 512 + up (level_of x.order) x.first % 512) → slice_index (placed_words x n words) (m * 512 + i) ≡ slice_index words (m * 512 + i)
     kept d = get_or-set_other words (n * 512 + up (level_of x.order) x.first % 512) (m * 512 + i) (leaf_word x.frame x.perm) 0 d
-
-    none-place : slice_index_or nodes m None ≡ None → m * 512 + i ≢ n * 512 + up (level_of x.order) x.first % 512
-    none-place f d =
-        let p = places m n i (up (level_of x.order) x.first % 512) g (omega arith) d in
-        let a : slice_index_or nodes n None ≡ None = subst (λ (v : ℕ). slice_index_or nodes v None ≡ None) p.0 f in
-        let b = stand.1 in cc
 
     that : (node : Node) → slice_index_or nodes m None ≡ Some node → At node.space node.level (node.prefix * 512 + i) x → slice_index (placed_words x n words) (m * 512 + i) ≡ leaf_word x.frame x.perm
     that node f a =
@@ -111,18 +106,6 @@ placed-same top spaces x n m i leaves nodes words mapping image new hole h g =
         let e : m ≡ n = image.apart x.space (suc (level_of x.order)) (up (suc (level_of x.order)) x.first) m n here hole.at.stands in
         let inside : n * 512 + up (level_of x.order) x.first % 512 < length words = omega (arith, image.size, e) in
         rw (e, idx) (get_or-set_same words (n * 512 + up (level_of x.order) x.first % 512) (leaf_word x.frame x.perm) 0 inside)
-
-    differs : (node : Node) → slice_index_or nodes m None ≡ Some node → is_slot node.space node.level (node.prefix * 512 + i) x ≡ false → m * 512 + i ≢ n * 512 + up (level_of x.order) x.first % 512
-    differs node f not d =
-        let p = places m n i (up (level_of x.order) x.first % 512) g (omega arith) d in
-        let a : slice_index_or nodes n None ≡ Some node = subst (λ (v : ℕ). slice_index_or nodes v None ≡ Some node) p.0 f in
-        let c : stand.0 ≡ node = some-same (sym stand.1 ∙ a) in
-        let i1 : node.space ≡ x.space = sym (ap (λ (v : Node). v.space) c) ∙ stand.2.space_is in
-        let i2 : node.level + 1 ≡ suc (level_of x.order) = sym (ap (λ (v : Node). v.level + 1) c) ∙ stand.2.level_is in
-        let i3 : node.prefix ≡ up (level_of x.order) x.first / 512 = sym (ap (λ (v : Node). v.prefix) c) ∙ stand.2.prefix_is in
-        let l1 : level_of x.order ≡ node.level = omega (arith, i2) in
-        let b1 : up (level_of x.order) x.first ≡ node.prefix * 512 + i = omega (arith, i3, p.1) in
-        let t = at-slot node.space node.level (node.prefix * 512 + i) x (record { space_is = sym i1; level_is = l1; block_is = subst (λ (v : ℕ). up v x.first ≡ node.prefix * 512 + i) l1 b1 }) in cc
 
 pub placed : (top spaces : ℕ) (x : Leaf) (n : ℕ) (leaves : List Leaf) (nodes : List (Option Node)) (words : List ℕ) → 3 ≤ top → IsRadixMapping top spaces leaves → IsImage top leaves nodes words → IsNew top spaces x leaves → IsReady x.space x.first (level_of x.order) n leaves nodes → IsImage top (with_leaf x leaves) nodes (placed_words x n words)
 placed top spaces x n leaves nodes words high mapping image new hole = record {

@@ -25,6 +25,7 @@ use Rattle.xl_radix.proofs.Ends.{not-both, word-none}
 use Rattle.xl_radix.proofs.Made.{new_node, new-below}
 use Rattle.xl_radix.proofs.Backs.{reads-back, own-slot}
 use Rattle.xl_radix.proofs.Counts.{counted-less, filled-zeros}
+use Rattle.xl_radix.proofs.Steps.{recounted}
 use Rattle.xl_radix.proofs.Unplaced.{IsHeld, unplaced, unplaced-mapping, unplaced-nearly, unplaced_words}
 use Rattle.xl_radix.proofs.Freed.{IsEmpty, node-is, freed, freed-at, freed-rooted, freed-nearly, freed_nodes, freed_words}
 
@@ -126,9 +127,6 @@ freed-count (None ∷ nodes) zero x h = cc
 freed-count (Some y ∷ nodes) zero x h = refl
 freed-count (None ∷ nodes) (suc k) x h = let e = freed-count nodes k x h in omega arith
 freed-count (Some y ∷ nodes) (suc k) x h = freed-count nodes k x h
-
-recounted : (nodes new : List (Option Node)) (words used : List ℕ) → length new ≡ length nodes → IsCounted nodes words used → IsCounted new words used
-recounted nodes new words used e c = record { places = c.places ∙ sym e; each = λ n h. c.each n (omega arith) }
 
 pointer-filled : (s l q k : ℕ) (leaves : List Leaf) (nodes : List (Option Node)) → leaf_in s l q leaves ≡ None → number_of s l q nodes ≡ Some k → word_at leaves nodes s l q ≢ 0
 unfolding word_at pointer_word

@@ -70,7 +70,7 @@ leaf-filled : (x : Leaf) → leaf_word x.frame x.perm ≢ 0
 unfolding leaf_word
 leaf-filled x e = omega (arith, e)
 
-recounted : (nodes new : List (Option Node)) (words used : List ℕ) → length new ≡ length nodes → IsCounted nodes words used → IsCounted new words used
+pub recounted : (nodes new : List (Option Node)) (words used : List ℕ) → length new ≡ length nodes → IsCounted nodes words used → IsCounted new words used
 recounted nodes new words used e c = record { places = c.places ∙ sym e; each = λ n h. c.each n (omega arith) }
 
 pub made-step : (top spaces s page l k n : ℕ) (leaves : List Leaf) (nodes : List (Option Node)) (words used : List ℕ) → IsStore top spaces leaves nodes words used → suc l < top → IsReady s page (suc l) n leaves nodes → k < length nodes → slice_index_or nodes k None ≡ None →

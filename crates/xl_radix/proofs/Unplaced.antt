@@ -16,7 +16,9 @@ use Rattle.xl_radix.specs.Steps.{Stands}
 use Rattle.xl_radix.proofs.Lists.{find-nothing}
 use Rattle.xl_radix.proofs.Numbers.{number-some, number-there, below-some, is-below, Is}
 use Rattle.xl_radix.proofs.Slots.{At, Under, slot-at, at-slot, leaf-in-some, leaf-in-none, in-nodes, in-nodes-leaf}
-use Rattle.xl_radix.proofs.Made.{places, stands-is, some-same}
+use Rattle.xl_radix.proofs.Made.{no-slot}
+use Rattle.xl_radix.proofs.Ends.{none-word}
+use Rattle.xl_radix.proofs.Placed.{same-word, other-leaf-slot}
 
 -- the test that a removal keeps a leaf by
 abbrev pub stays : ℕ → ℕ → Leaf → Bool
@@ -70,14 +72,6 @@ unfolding leaf_in without_leaf
 unplaced-leaf-other top spaces s l q x leaves m i f =
     filter-find (is_slot s l q) (stays x.space x.first) leaves (λ y j e. let g = same-place y x leaves m.sorted j i (leaves-key x.space x.first y e) in ap (is_slot s l q) g ∙ f)
 
-same-word : (s l q : ℕ) (new leaves : List Leaf) (nodes : List (Option Node)) → leaf_in s l q new ≡ leaf_in s l q leaves → word_at new nodes s l q ≡ word_at leaves nodes s l q
-unfolding word_at
-same-word s l q new leaves nodes e = rw e refl
-
-empty-word : (s l q : ℕ) (leaves : List Leaf) (nodes : List (Option Node)) → leaf_in s l q leaves ≡ None → number_of s l q nodes ≡ None → word_at leaves nodes s l q ≡ 0
-unfolding word_at
-empty-word s l q leaves nodes e f = rw (e, f) refl
-
 -- the leaf is in the table, at the node that stands there, and no node is below its slot
 pub record IsHeld (x : Leaf) (n : ℕ) (leaves : List Leaf) (nodes : List (Option Node)) : Type 0 where
   pub there : In x leaves
@@ -91,24 +85,15 @@ pub unplaced-same : (top spaces : ℕ) (x : Leaf) (n m i : ℕ) (leaves : List L
     slice_index (unplaced_words x n words) (m * 512 + i) ≡ word_of (without_leaf x.space x.first leaves) nodes (slice_index_or nodes m None) i
 unplaced-same top spaces x n m i leaves nodes words mapping image held h g =
     elim (slice_index_or nodes m None) as (λ o. slice_index_or nodes m None ≡ o → slice_index (unplaced_words x n words) (m * 512 + i) ≡ word_of (without_leaf x.space x.first leaves) nodes o i) [
-      | None ↦ λ f. kept (none-place f) ∙ image.same m i h g ∙ ap (λ (o : Option Node). word_of leaves nodes o i) f
+      | None ↦ λ f. kept (no-slot x.space x.first (level_of x.order) n m i nodes held.at g f) ∙ image.same m i h g ∙ ap (λ (o : Option Node). word_of leaves nodes o i) f
       | Some node ↦ λ f. elim (is_slot node.space node.level (node.prefix * 512 + i) x) as (λ t. is_slot node.space node.level (node.prefix * 512 + i) x ≡ t → slice_index (unplaced_words x n words) (m * 512 + i) ≡ word_at (without_leaf x.space x.first leaves) nodes node.space node.level (node.prefix * 512 + i)) [
         | true ↦ λ e. let a = slot-at node.space node.level (node.prefix * 512 + i) x e in that node f a
-        | false ↦ λ e. kept (differs node f e) ∙ image.same m i h g ∙ ap (λ (o : Option Node). word_of leaves nodes o i) f ∙ sym (same-word node.space node.level (node.prefix * 512 + i) (without_leaf x.space x.first leaves) leaves nodes (unplaced-leaf-other top spaces node.space node.level (node.prefix * 512 + i) x leaves mapping held.there e))
+        | false ↦ λ e. kept (other-leaf-slot x n m i nodes node held.at g f e) ∙ image.same m i h g ∙ ap (λ (o : Option Node). word_of leaves nodes o i) f ∙ sym (same-word node.space node.level (node.prefix * 512 + i) (without_leaf x.space x.first leaves) leaves nodes (unplaced-leaf-other top spaces node.space node.level (node.prefix * 512 + i) x leaves mapping held.there e))
       ] refl
     ] refl
   where
-    stand : (node : Node) × (slice_index_or nodes n None ≡ Some node) × Is x.space (suc (level_of x.order)) (up (suc (level_of x.order)) x.first) node
-    stand = stands-is x.space x.first (level_of x.order) n nodes held.at
-
     kept : (m * 512 + i ≢ n * 512 + up (level_of x.order) x.first % 512) → slice_index (unplaced_words x n words) (m * 512 + i) ≡ slice_index words (m * 512 + i)
     kept d = get_or-set_other words (n * 512 + up (level_of x.order) x.first % 512) (m * 512 + i) 0 0 d
-
-    none-place : slice_index_or nodes m None ≡ None → m * 512 + i ≢ n * 512 + up (level_of x.order) x.first % 512
-    none-place f d =
-        let p = places m n i (up (level_of x.order) x.first % 512) g (omega arith) d in
-        let a : slice_index_or nodes n None ≡ None = subst (λ (v : ℕ). slice_index_or nodes v None ≡ None) p.0 f in
-        let b = stand.1 in cc
 
     that : (node : Node) → slice_index_or nodes m None ≡ Some node → At node.space node.level (node.prefix * 512 + i) x → slice_index (unplaced_words x n words) (m * 512 + i) ≡ word_at (without_leaf x.space x.first leaves) nodes node.space node.level (node.prefix * 512 + i)
     that node f a =
@@ -121,19 +106,7 @@ unplaced-same top spaces x n m i leaves nodes words mapping image held h g =
         let none : number_of node.space node.level (node.prefix * 512 + i) nodes ≡ None = rw (← a.space_is, ← a.level_is, ← c) held.absent in
         let zero-word : slice_index (unplaced_words x n words) (n * 512 + up (level_of x.order) x.first % 512) ≡ 0 = get_or-set_same words (n * 512 + up (level_of x.order) x.first % 512) 0 0 inside in
         subst (λ (v : ℕ). slice_index (unplaced_words x n words) v ≡ 0) (let p : n * 512 + up (level_of x.order) x.first % 512 ≡ m * 512 + i = omega (arith, e, idx) in p) zero-word
-        ∙ sym (empty-word node.space node.level (node.prefix * 512 + i) (without_leaf x.space x.first leaves) nodes (unplaced-leaf-same top spaces node.space node.level (node.prefix * 512 + i) x leaves mapping held.there a) none)
-
-    differs : (node : Node) → slice_index_or nodes m None ≡ Some node → is_slot node.space node.level (node.prefix * 512 + i) x ≡ false → m * 512 + i ≢ n * 512 + up (level_of x.order) x.first % 512
-    differs node f not d =
-        let p = places m n i (up (level_of x.order) x.first % 512) g (omega arith) d in
-        let a : slice_index_or nodes n None ≡ Some node = subst (λ (v : ℕ). slice_index_or nodes v None ≡ Some node) p.0 f in
-        let c : stand.0 ≡ node = some-same (sym stand.1 ∙ a) in
-        let i1 : node.space ≡ x.space = sym (ap (λ (v : Node). v.space) c) ∙ stand.2.space_is in
-        let i2 : node.level + 1 ≡ suc (level_of x.order) = sym (ap (λ (v : Node). v.level + 1) c) ∙ stand.2.level_is in
-        let i3 : node.prefix ≡ up (level_of x.order) x.first / 512 = sym (ap (λ (v : Node). v.prefix) c) ∙ stand.2.prefix_is in
-        let l1 : level_of x.order ≡ node.level = omega (arith, i2) in
-        let b1 : up (level_of x.order) x.first ≡ node.prefix * 512 + i = omega (arith, i3, p.1) in
-        let t = at-slot node.space node.level (node.prefix * 512 + i) x (record { space_is = sym i1; level_is = l1; block_is = subst (λ (v : ℕ). up v x.first ≡ node.prefix * 512 + i) l1 b1 }) in cc
+        ∙ sym (none-word node.space node.level (node.prefix * 512 + i) (without_leaf x.space x.first leaves) nodes (unplaced-leaf-same top spaces node.space node.level (node.prefix * 512 + i) x leaves mapping held.there a) none)
 
 pub unplaced : (top spaces : ℕ) (x : Leaf) (n : ℕ) (leaves : List Leaf) (nodes : List (Option Node)) (words : List ℕ) → IsRadixMapping top spaces leaves → IsImage top leaves nodes words → IsHeld x n leaves nodes → IsImage top (without_leaf x.space x.first leaves) nodes (unplaced_words x n words)
 unplaced top spaces x n leaves nodes words mapping image held = record {

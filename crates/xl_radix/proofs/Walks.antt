@@ -18,12 +18,10 @@ use Rattle.xl_radix.specs.Image.{leaf_in, word_at}
 use Rattle.xl_radix.specs.Table.{IsImage, IsExact}
 use Rattle.xl_radix.specs.Steps.{Stands}
 use Rattle.xl_radix.specs.Walk.{place_of, is_there, end_at, reading, radix_back, walk_end, WordsReadBack}
+use Rattle.xl_radix.proofs.Cases.{split-le}
 use Rattle.xl_radix.proofs.Numbers.{number-some, number-only}
 use Rattle.xl_radix.proofs.Slots.{Under, Says, says, stands-word, pointer-low, leaf-in-some, in-nodes-leaf}
 use Rattle.xl_radix.proofs.Ends.{IsTable, seen-low, found-at, found-none}
-
-split-le : (a b : ℕ) → a ≤ b → (a ≡ b) ⊎ (a < b)
-split-le a b h = grind arith
 
 end-is : (n a l s page : ℕ) (leaves : List Leaf) → a ≤ l → l ≤ a + n → ((h : ℕ) → h < l → in_nodes s (suc h) (up (suc h) page) leaves ≡ true → ⊥) → (l ≡ a + n) ⊎ (in_nodes s (suc l) (up (suc l) page) leaves ≡ true) → end_level n a s page leaves ≡ l
 end-is zero a l s page leaves h g none last = omega arith
