@@ -1,5 +1,5 @@
 -- The words of a table read back as its leaves.
-use Rattle.std.proofs.Common.{ℕ, zero, suc, ◌≡◌, ◌≢◌, ◌+◌, ◌-◌, ◌*◌, ◌/◌, ◌%◌, ◌^◌, ◌<◌, ◌≤◌, Bool, true, false, ◌⊎◌, inl, inr, List, length, slice_index, slice_index_or, Option, Some, None, refl, ap, sym, ◌∙◌, subst, arith}
+use Rattle.std.proofs.Common.{ℕ, zero, suc, ◌≡◌, ◌+◌, ◌*◌, ◌/◌, ◌%◌, ◌<◌, ◌≤◌, true, ◌⊎◌, inl, inr, List, length, slice_index_or, Option, Some, None, refl, ap, sym, ◌∙◌, subst, arith}
 use Rattle.std.proofs.lemmas.Bool.{cases_lt}
 use Rattle.xl_model.specs.declared.address.Order.{Order}
 use Rattle.xl_model.specs.declared.address.Order.TheVariants as order
@@ -8,19 +8,17 @@ use Rattle.xl_model.specs.Addresses.{level_of, pages_of}
 use Rattle.xl_model.specs.Mapping.{with_leaf, leaf_key}
 use Rattle.xl_model.specs.Nodes.{up, Node, is_below, in_nodes, number_of}
 use Rattle.xl_mapping.specs.Members.{In, IsSorted}
-use Rattle.xl_pte.specs.Decode.{decode_of}
 use Rattle.xl_pte.specs.declared.word.Pte.{Pte}
 use Rattle.xl_pte.specs.declared.word.Pte.TheVariants as pte
 use Rattle.xl_mapping.proofs.Insertion.{with-In, In-with, stays-with, sorted-with, same-place}
-use Rattle.xl_radix.specs.Image.{is_slot, leaf_in, word_at, word_of}
+use Rattle.xl_radix.specs.Image.{leaf_in, word_of}
 use Rattle.xl_radix.specs.ReadBack.{order_of, leaf_said, leaf_by, leaf_here, with_some, read_to, read_back}
-use Rattle.xl_radix.specs.Table.{IsRadixLeaf, IsRadixMapping, IsImage}
-use Rattle.xl_radix.specs.Steps.{Stands}
+use Rattle.xl_radix.specs.Table.{IsRadixMapping, IsImage}
 use Rattle.xl_radix.proofs.Cases.{split-less}
 use Rattle.xl_radix.proofs.Lists.{same-sorted}
-use Rattle.xl_radix.proofs.Numbers.{number-some, number-there, below-some, Is}
+use Rattle.xl_radix.proofs.Numbers.{number-some, below-some, Is}
 use Rattle.xl_radix.proofs.Ups.{level-low}
-use Rattle.xl_radix.proofs.Slots.{At, Under, Says, says, leaf-in-some, leaf-in-none, in-nodes}
+use Rattle.xl_radix.proofs.Slots.{At, Says, says, leaf-in-some, leaf-in-none, in-nodes}
 
 order-of-level : (o : Order) → order_of (level_of o) ≡ Some o
 order-of-level order.K4 = refl

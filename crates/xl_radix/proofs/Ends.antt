@@ -1,26 +1,25 @@
 -- Where a walk stops, and what it says of the mapping.
-use Rattle.std.proofs.Common.{ℕ, zero, suc, ◌≡◌, ◌+◌, ◌-◌, ◌*◌, ◌/◌, ◌%◌, ◌^◌, ◌<◌, ◌≤◌, ◌==◌, Bool, true, false, ◌&&◌, nat_lt, nat_le, ◌⊎◌, inl, inr, List, length, slice_index, slice_index_or, Option, Some, None, refl, ap, sym, ◌∙◌, subst, arith}
+use Rattle.std.proofs.Common.{ℕ, suc, ◌≡◌, ◌*◌, ◌<◌, ◌≤◌, true, false, ◌⊎◌, inl, inr, List, Option, Some, None, refl, ap, sym, ◌∙◌, subst, arith}
 use Rattle.std.proofs.lemmas.Bool.{cases_lt}
 use Rattle.std.specs.List.{list_any}
-use Rattle.std.proofs.lemmas.Bool.Decides.{nat_tests}
 use Rattle.xl_model.specs.declared.address.Order.{Order}
 use Rattle.xl_model.specs.declared.leaf.Leaf.{Leaf}
 use Rattle.xl_model.specs.Addresses.{level_of, pages_of}
 use Rattle.xl_model.specs.Mapping.{leaf_at_page, covers, meets_any, meets_block}
 use Rattle.xl_model.specs.Words.{leaf_word, pointer_word}
-use Rattle.xl_model.specs.Nodes.{up, Node, is_below, in_nodes, number_of}
+use Rattle.xl_model.specs.Nodes.{up, Node, number_of}
 use Rattle.xl_mapping.specs.Members.{In}
 use Rattle.xl_mapping.proofs.Members.{find-only, In-any}
 use Rattle.xl_mapping.proofs.Ends.{up-from}
 use Rattle.xl_radix.specs.Image.{leaf_in, entry, word_at}
-use Rattle.xl_radix.specs.Table.{IsRadixMapping, IsRadixLeaf, IsImage, IsExact, IsStore, IsRooted}
+use Rattle.xl_radix.specs.Table.{IsRadixMapping, IsImage, IsExact, IsStore}
 use Rattle.xl_radix.specs.Steps.{Stands, IsEnd}
 use Rattle.xl_radix.proofs.Cases.{split-le}
 use Rattle.xl_radix.proofs.Lists.{find-nothing, any-nothing}
-use Rattle.xl_radix.proofs.Numbers.{number-some, number-none, number-there}
+use Rattle.xl_radix.proofs.Numbers.{number-some}
 use Rattle.xl_radix.proofs.Ups.{level-low}
 use Rattle.xl_radix.proofs.Meets.{Overlap, Met, met, meets, covered, covering}
-use Rattle.xl_radix.proofs.Slots.{At, Under, leaf-in-some, leaf-in-none, in-nodes, in-nodes-leaf, pointer-low}
+use Rattle.xl_radix.proofs.Slots.{At, Under, leaf-in-some, leaf-in-none, in-nodes, in-nodes-leaf}
 
 -- What holds between calls.
 pub record IsTable (top spaces : ℕ) (leaves : List Leaf) (nodes : List (Option Node)) (words : List ℕ) (used : List ℕ) : Type 0 where

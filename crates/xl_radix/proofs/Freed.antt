@@ -1,17 +1,16 @@
 -- An empty node is given back.
-use Rattle.std.proofs.Common.{ℕ, zero, suc, ◌≡◌, ◌≢◌, ◌+◌, ◌-◌, ◌*◌, ◌/◌, ◌%◌, ◌^◌, ◌<◌, ◌≤◌, ◌==◌, Bool, true, false, ◌&&◌, ◌⊎◌, inl, inr, List, [], ◌∷◌, length, slice_index, slice_index_or, slice_set, Option, Some, None, refl, ap, sym, ◌∙◌, subst, arith}
-use Rattle.std.proofs.lemmas.Bool.{cases_lt}
+use Rattle.std.proofs.Common.{ℕ, suc, ◌≡◌, ◌≢◌, ◌+◌, ◌-◌, ◌*◌, ◌/◌, ◌%◌, ◌<◌, ◌≤◌, ◌==◌, true, false, ◌⊎◌, inl, inr, List, length, slice_index, slice_index_or, slice_set, Option, Some, None, refl, ap, sym, ◌∙◌, subst, arith}
 use Rattle.std.proofs.lemmas.Bool.Decides.{nat_tests}
 use Rattle.std.proofs.lemmas.List.{get_or-set_same, get_or-set_other, length-set}
 use Rattle.xl_model.specs.declared.leaf.Leaf.{Leaf}
 use Rattle.xl_model.specs.Addresses.{level_of}
-use Rattle.xl_model.specs.Nodes.{up, Node, is_below, in_nodes, number_of, free_count}
+use Rattle.xl_model.specs.Nodes.{up, Node, is_below, in_nodes, number_of}
 use Rattle.xl_mapping.specs.Members.{In}
 use Rattle.xl_radix.specs.Image.{leaf_in, entry, word_at, word_of}
 use Rattle.xl_radix.specs.Table.{IsImage, IsNearly, IsRooted}
 use Rattle.xl_radix.specs.Steps.{Stands}
 use Rattle.xl_radix.proofs.Cases.{split-le}
-use Rattle.xl_radix.proofs.Numbers.{node-in, number-some, number-none, number-there, number-set-any, below-some, is-below, below-is, Is}
+use Rattle.xl_radix.proofs.Numbers.{node-in, number-some, number-there, number-set-any, is-below, below-is, Is}
 use Rattle.xl_radix.proofs.Slots.{At, Under, leaf-in-some, leaf-in-none, in-nodes, in-nodes-leaf}
 use Rattle.xl_radix.proofs.Ends.{word-none, none-word}
 use Rattle.xl_radix.proofs.Made.{Which, That, Another, which, new_node, new-below, places, stands-is, some-same, other-slot, no-slot}

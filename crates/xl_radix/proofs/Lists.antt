@@ -1,13 +1,12 @@
 -- What a test finds in a list, also with one leaf more; and that a sorted list is known by its members.
-use Rattle.std.proofs.Common.{ℕ, ◌≡◌, ◌<◌, ◌==◌, Bool, true, false, nat_lt, cond, inl, inr, List, [], ◌∷◌, Option, Some, None, refl, ap, sym, arith}
+use Rattle.std.proofs.Common.{◌≡◌, ◌<◌, Bool, true, false, cond, inl, inr, List, [], ◌∷◌, Some, None, refl, ap, sym, arith}
 use Rattle.std.specs.List.{find, list_any}
-use Rattle.std.proofs.lemmas.Bool.Decides.{nat_tests}
 use Rattle.xl_model.specs.declared.leaf.Leaf.{Leaf}
 use Rattle.xl_model.specs.Mapping.{with_leaf, leaf_key}
 use Rattle.xl_mapping.specs.Members.{In, IsSorted}
 use Rattle.xl_mapping.proofs.Members.{find-In, find-passes, find-only, any-In}
 use Rattle.xl_mapping.proofs.Insertion.{with-In, In-with, above-In}
-use Rattle.xl_radix.proofs.Cases.{Lies, Same, Before, After, lies}
+use Rattle.xl_radix.proofs.Cases.{Same, Before, After, lies}
 
 pub find-nothing : (p : Leaf → Bool) (xs : List Leaf) → ((y : Leaf) → In y xs → p y ≡ true → ⊥) → find p xs ≡ None
 find-nothing p xs not =

@@ -1,6 +1,5 @@
 -- What the table's questions answer.
-use Rattle.std.proofs.Common.{ℕ, zero, suc, ◌≡◌, ◌≢◌, ◌+◌, ◌-◌, ◌*◌, ◌/◌, ◌%◌, ◌^◌, ◌<◌, ◌≤◌, ◌==◌, Bool, true, false, not, nat_le, ◌⊎◌, inl, inr, List, length, slice_index, slice_index_or, Option, Some, None, refl, ap, sym, ◌∙◌, subst, arith}
-use Rattle.std.proofs.lemmas.Bool.{cases_lt}
+use Rattle.std.proofs.Common.{ℕ, zero, suc, ◌≡◌, ◌≢◌, ◌+◌, ◌-◌, ◌*◌, ◌%◌, ◌^◌, ◌<◌, ◌≤◌, ◌==◌, Bool, true, false, not, nat_le, ◌⊎◌, inl, inr, List, slice_index_or, Option, Some, None, refl, sym, ◌∙◌, arith}
 use Rattle.std.proofs.lemmas.Bool.Decides.{nat_tests}
 use Rattle.xl_model.specs.declared.address.Order.{Order}
 use Rattle.xl_model.specs.declared.address.Order.TheVariants as order
@@ -8,7 +7,7 @@ use Rattle.xl_model.specs.declared.leaf.Leaf.{Leaf}
 use Rattle.xl_model.specs.Addresses.{level_of, pages_of}
 use Rattle.xl_model.specs.Changes.{Insert}
 use Rattle.xl_model.specs.Mapping.{leaf_at_page, meets_any, meets_block}
-use Rattle.xl_model.specs.Nodes.{up, Node, is_below, in_nodes, number_of, free_count, missing, leaf_nodes_missing}
+use Rattle.xl_model.specs.Nodes.{up, Node, number_of, free_count, missing, leaf_nodes_missing}
 use Rattle.xl_model.specs.Room.{has_room}
 use Rattle.xl_model.specs.Shapes.{Radix}
 use Rattle.xl_model.specs.Structures.{IsBlock, IsLeafFor}
@@ -16,14 +15,13 @@ use Rattle.xl_mapping.specs.Members.{In}
 use Rattle.xl_pte.specs.Decode.{decode_of}
 use Rattle.xl_pte.specs.declared.word.Pte.{Pte}
 use Rattle.xl_mapping.proofs.Members.{any-false}
-use Rattle.xl_radix.specs.Image.{leaf_in, word_at}
+use Rattle.xl_radix.specs.Image.{leaf_in}
 use Rattle.xl_radix.specs.ReadBack.{order_of, leaf_said}
-use Rattle.xl_radix.specs.Table.{Table, IsRadixLeaf, IsNew, IsRadixMapping, IsImage, IsExact, IsStore}
-use Rattle.xl_radix.specs.Steps.{Stands, IsEnd, shape_of}
-use Rattle.xl_radix.proofs.Numbers.{number-some}
+use Rattle.xl_radix.specs.Table.{Table, IsNew, IsStore}
+use Rattle.xl_radix.specs.Steps.{IsEnd, shape_of}
 use Rattle.xl_radix.proofs.Ups.{up-top}
 use Rattle.xl_radix.proofs.Meets.{Met, meets}
-use Rattle.xl_radix.proofs.Slots.{Says, says, pointer-low}
+use Rattle.xl_radix.proofs.Slots.{pointer-low}
 use Rattle.xl_radix.proofs.Ends.{IsTable, found-at, found-none, no-leaf-meets, a-leaf-meets}
 use Rattle.xl_radix.proofs.Backs.{said-is}
 use Rattle.xl_radix.proofs.Steps.{read-word, read-says}

@@ -1,18 +1,17 @@
 -- A node is made below an empty slot.
-use Rattle.std.proofs.Common.{ℕ, zero, suc, ◌≡◌, ◌≢◌, ◌+◌, ◌-◌, ◌*◌, ◌/◌, ◌%◌, ◌^◌, ◌<◌, ◌≤◌, ◌==◌, Bool, true, false, ◌&&◌, ◌⊎◌, inl, inr, List, length, slice_index, slice_index_or, slice_set, Option, Some, None, refl, ap, sym, ◌∙◌, subst, arith}
-use Rattle.std.proofs.lemmas.Bool.{cases_lt}
+use Rattle.std.proofs.Common.{ℕ, suc, ◌≡◌, ◌≢◌, ◌+◌, ◌-◌, ◌*◌, ◌/◌, ◌%◌, ◌<◌, ◌≤◌, ◌==◌, true, false, ◌⊎◌, inl, inr, List, length, slice_index, slice_index_or, slice_set, Option, Some, None, refl, ap, sym, ◌∙◌, subst, arith}
 use Rattle.std.proofs.lemmas.Bool.Decides.{nat_tests}
 use Rattle.std.proofs.lemmas.List.{get_or-set_same, get_or-set_other, length-set}
 use Rattle.xl_model.specs.declared.leaf.Leaf.{Leaf}
 use Rattle.xl_model.specs.Addresses.{level_of}
 use Rattle.xl_model.specs.Words.{pointer_word}
-use Rattle.xl_model.specs.Nodes.{up, Node, is_below, in_nodes, number_of, with_node, unless_there, put_first}
+use Rattle.xl_model.specs.Nodes.{up, Node, is_below, in_nodes, number_of}
 use Rattle.xl_mapping.specs.Members.{In}
 use Rattle.xl_radix.specs.Image.{leaf_in, entry, word_at, word_of}
 use Rattle.xl_radix.specs.Table.{IsImage, IsNearly, IsRooted}
 use Rattle.xl_radix.specs.Steps.{Stands}
-use Rattle.xl_radix.proofs.Numbers.{node-in, number-some, number-none, number-there, number-set-other, number-only, below-some, is-below, below-is, Is}
-use Rattle.xl_radix.proofs.Slots.{At, Under, leaf-in-some, in-nodes}
+use Rattle.xl_radix.proofs.Numbers.{number-some, number-none, number-there, number-set-other, number-only, below-some, is-below, below-is, Is}
+use Rattle.xl_radix.proofs.Slots.{At, leaf-in-some, in-nodes}
 
 -- The node below slot (s, l + 1, q).
 abbrev pub new_node : ℕ → ℕ → ℕ → Node

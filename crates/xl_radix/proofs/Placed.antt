@@ -1,22 +1,20 @@
 -- A leaf comes to its slot.
-use Rattle.std.proofs.Common.{ℕ, zero, suc, ◌≡◌, ◌≢◌, ◌+◌, ◌-◌, ◌*◌, ◌/◌, ◌%◌, ◌^◌, ◌<◌, ◌≤◌, ◌==◌, Bool, true, false, ◌&&◌, ◌⊎◌, inl, inr, List, length, slice_index, slice_index_or, slice_set, Option, Some, None, refl, ap, sym, ◌∙◌, subst, arith}
+use Rattle.std.proofs.Common.{ℕ, zero, suc, ◌≡◌, ◌≢◌, ◌+◌, ◌*◌, ◌%◌, ◌^◌, ◌<◌, ◌≤◌, true, false, ◌⊎◌, inl, inr, List, length, slice_index, slice_index_or, slice_set, Option, Some, None, refl, ap, sym, ◌∙◌, subst, arith}
 use Rattle.std.proofs.lemmas.Bool.{cases_lt}
 use Rattle.std.proofs.lemmas.List.{get_or-set_same, get_or-set_other, length-set}
 use Rattle.xl_model.specs.declared.leaf.Leaf.{Leaf}
-use Rattle.xl_model.specs.Addresses.{level_of, pages_of}
+use Rattle.xl_model.specs.Addresses.{level_of}
 use Rattle.xl_model.specs.Mapping.{with_leaf, leaf_key}
 use Rattle.xl_model.specs.Words.{leaf_word}
 use Rattle.xl_model.specs.Nodes.{up, Node, is_below, in_nodes, number_of}
 use Rattle.xl_mapping.specs.Members.{In}
 use Rattle.xl_mapping.proofs.Insertion.{with-In, In-with, stays-with, sorted-with}
-use Rattle.xl_mapping.proofs.Ends.{up-from}
-use Rattle.xl_radix.specs.Image.{is_slot, leaf_in, entry, word_at, word_of}
+use Rattle.xl_radix.specs.Image.{is_slot, leaf_in, word_at, word_of}
 use Rattle.xl_radix.specs.Table.{IsNew, IsRadixLeaf, IsRadixMapping, IsImage, IsNearly, IsExact}
 use Rattle.xl_radix.specs.Steps.{Stands, IsReady}
 use Rattle.xl_radix.proofs.Cases.{split-less}
 use Rattle.xl_radix.proofs.Lists.{find-with, find-with-other}
-use Rattle.xl_radix.proofs.Numbers.{number-some, number-there, below-some, is-below, Is}
-use Rattle.xl_radix.proofs.Ups.{level-low}
+use Rattle.xl_radix.proofs.Numbers.{number-some, number-there, is-below}
 use Rattle.xl_radix.proofs.Slots.{At, Under, slot-at, at-slot, leaf-in-none, in-nodes, in-nodes-leaf}
 use Rattle.xl_radix.proofs.Made.{other-slot, no-slot}
 

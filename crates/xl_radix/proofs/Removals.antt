@@ -1,28 +1,27 @@
 -- Steps of a removal.
-use Rattle.std.proofs.Common.{ℕ, zero, suc, ◌≡◌, ◌≢◌, ◌+◌, ◌-◌, ◌*◌, ◌/◌, ◌%◌, ◌^◌, ◌<◌, ◌≤◌, ◌==◌, Bool, true, false, ◌⊎◌, inl, inr, List, [], ◌∷◌, length, slice_index, slice_index_or, slice_set, Option, Some, None, refl, ap, sym, ◌∙◌, subst, arith}
+use Rattle.std.proofs.Common.{ℕ, zero, suc, ◌≡◌, ◌≢◌, ◌+◌, ◌-◌, ◌*◌, ◌%◌, ◌<◌, ◌≤◌, true, false, ◌⊎◌, inl, inr, List, [], ◌∷◌, length, slice_index, slice_index_or, slice_set, Option, Some, None, refl, ap, sym, ◌∙◌, subst, arith}
 use Rattle.std.specs.Prelude.{is_some}
 use Rattle.std.proofs.lemmas.Bool.{cases_lt}
-use Rattle.std.proofs.lemmas.Bool.Decides.{nat_tests}
 use Rattle.std.proofs.lemmas.Grind.{get_or_default_zero}
 use Rattle.std.proofs.lemmas.List.{length-set}
 use Rattle.xl_model.specs.declared.address.Order.{Order}
 use Rattle.xl_model.specs.declared.leaf.Leaf.{Leaf}
-use Rattle.xl_model.specs.Addresses.{level_of, pages_of}
+use Rattle.xl_model.specs.Addresses.{level_of}
 use Rattle.xl_model.specs.Changes.{IsNamed}
-use Rattle.xl_model.specs.Mapping.{without_leaf, leaf_named, is_leaf}
+use Rattle.xl_model.specs.Mapping.{without_leaf, leaf_named}
 use Rattle.xl_model.specs.Words.{leaf_word, pointer_word}
-use Rattle.xl_model.specs.Nodes.{up, Node, is_below, in_nodes, number_of, free_count}
+use Rattle.xl_model.specs.Nodes.{up, Node, number_of, free_count}
 use Rattle.xl_mapping.specs.Members.{In}
 use Rattle.xl_mapping.proofs.Kept.{named-In, named-is}
 use Rattle.xl_mapping.proofs.Places.{named-space, named-first, named-order}
-use Rattle.xl_radix.specs.Image.{leaf_in, entry, word_at}
+use Rattle.xl_radix.specs.Image.{leaf_in, word_at}
 use Rattle.xl_radix.specs.ReadBack.{read_back}
-use Rattle.xl_radix.specs.Table.{filled, IsRadixMapping, IsImage, IsNearly, IsExact, IsCounted, IsRooted, IsStore}
-use Rattle.xl_radix.specs.Steps.{Stands, IsLess, IsTaken}
-use Rattle.xl_radix.proofs.Numbers.{node-in, number-some, number-none, number-there, number-only, below-some, is-below, below-is, Is}
-use Rattle.xl_radix.proofs.Slots.{At, Under, stands-word, in-nodes}
-use Rattle.xl_radix.proofs.Ends.{not-both, word-none}
-use Rattle.xl_radix.proofs.Made.{new_node, new-below}
+use Rattle.xl_radix.specs.Table.{filled, IsNearly, IsExact, IsCounted, IsStore}
+use Rattle.xl_radix.specs.Steps.{Stands, IsTaken}
+use Rattle.xl_radix.proofs.Numbers.{node-in, number-only, below-some, below-is}
+use Rattle.xl_radix.proofs.Slots.{stands-word}
+use Rattle.xl_radix.proofs.Ends.{not-both}
+use Rattle.xl_radix.proofs.Made.{new_node}
 use Rattle.xl_radix.proofs.Backs.{reads-back, own-slot}
 use Rattle.xl_radix.proofs.Counts.{counted-less, filled-zeros}
 use Rattle.xl_radix.proofs.Steps.{recounted}

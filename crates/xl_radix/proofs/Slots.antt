@@ -1,10 +1,10 @@
 -- What the slots of a table say.
-use Rattle.std.proofs.Common.{ℕ, zero, suc, ◌≡◌, ◌+◌, ◌-◌, ◌*◌, ◌/◌, ◌%◌, ◌^◌, ◌<◌, ◌≤◌, ◌==◌, Bool, true, false, ◌&&◌, nat_lt, nat_le, ◌⊎◌, inl, inr, List, length, slice_index, slice_index_or, Option, Some, None, refl, ap, sym, ◌∙◌, subst, arith}
+use Rattle.std.proofs.Common.{ℕ, zero, suc, ◌≡◌, ◌+◌, ◌*◌, ◌%◌, ◌^◌, ◌<◌, ◌≤◌, true, List, length, slice_index, Option, Some, None, refl, ap, ◌∙◌, subst, arith}
 use Rattle.std.proofs.lemmas.Bool.Decides.{nat_tests}
 use Rattle.xl_model.specs.declared.leaf.Leaf.{Leaf}
-use Rattle.xl_model.specs.Addresses.{level_of, pages_of}
+use Rattle.xl_model.specs.Addresses.{level_of}
 use Rattle.xl_model.specs.Words.{leaf_word, pointer_word}
-use Rattle.xl_model.specs.Nodes.{up, Node, is_below, is_under, in_nodes, number_of}
+use Rattle.xl_model.specs.Nodes.{up, Node, is_under, in_nodes, number_of}
 use Rattle.xl_mapping.specs.Members.{In}
 use Rattle.xl_pte.specs.Decode.{decode_of}
 use Rattle.xl_pte.specs.declared.word.Pte.{Pte}
@@ -12,11 +12,9 @@ use Rattle.xl_pte.specs.declared.word.Pte.TheVariants as pte
 use Rattle.xl_pte.proofs.Bits.{decode-made-leaf, decode-made-pointer}
 use Rattle.xl_mapping.proofs.Members.{find-In, find-passes, find-None, any-In, In-any}
 use Rattle.xl_radix.specs.Image.{is_slot, leaf_in, entry, word_at, word_of}
-use Rattle.xl_radix.specs.Table.{IsRadixMapping, IsRadixLeaf, IsImage, IsExact, IsStore, IsRooted}
+use Rattle.xl_radix.specs.Table.{IsRadixMapping, IsImage}
 use Rattle.xl_radix.specs.Steps.{Stands}
-use Rattle.xl_radix.proofs.Numbers.{node-in, number-some, number-none, number-there, below-some, is-below, below-is, Is}
-use Rattle.xl_radix.proofs.Ups.{level-low}
-use Rattle.xl_radix.proofs.Meets.{Overlap, Met}
+use Rattle.xl_radix.proofs.Numbers.{node-in, number-some, below-some, Is}
 
 -- A leaf at a slot.
 pub record At (space l block : ℕ) (leaf : Leaf) : Type 0 where

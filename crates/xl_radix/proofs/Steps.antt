@@ -1,13 +1,12 @@
 -- Steps of the table's functions.
-use Rattle.std.proofs.Common.{ℕ, zero, suc, ◌≡◌, ◌≢◌, ◌+◌, ◌-◌, ◌*◌, ◌/◌, ◌%◌, ◌^◌, ◌<◌, ◌≤◌, ◌==◌, Bool, true, false, ◌⊎◌, inl, inr, List, length, slice_index, slice_index_or, slice_set, Option, Some, None, refl, ap, sym, ◌∙◌, subst, arith}
-use Rattle.std.proofs.lemmas.Bool.{cases_lt}
+use Rattle.std.proofs.Common.{ℕ, zero, suc, ◌≡◌, ◌≢◌, ◌+◌, ◌-◌, ◌*◌, ◌%◌, ◌<◌, ◌≤◌, ◌⊎◌, inl, inr, List, length, slice_index, slice_index_or, slice_set, Option, Some, None, refl, ap, sym, ◌∙◌, subst, arith}
 use Rattle.std.proofs.lemmas.Grind.{get_or_default_zero}
 use Rattle.std.proofs.lemmas.List.{length-set}
 use Rattle.xl_model.specs.declared.leaf.Leaf.{Leaf}
-use Rattle.xl_model.specs.Addresses.{level_of, pages_of}
+use Rattle.xl_model.specs.Addresses.{level_of}
 use Rattle.xl_model.specs.Mapping.{with_leaf}
 use Rattle.xl_model.specs.Words.{pointer_word, leaf_word}
-use Rattle.xl_model.specs.Nodes.{up, Node, is_below, in_nodes, number_of, put_first, free_count}
+use Rattle.xl_model.specs.Nodes.{up, Node, number_of, free_count}
 use Rattle.xl_mapping.specs.Members.{In}
 use Rattle.xl_pte.specs.Decode.{decode_of}
 use Rattle.xl_pte.specs.declared.word.Pte.{Pte}
@@ -16,11 +15,11 @@ use Rattle.xl_radix.specs.Image.{leaf_in, word_at}
 use Rattle.xl_radix.specs.ReadBack.{read_back}
 use Rattle.std.specs.List.{position}
 use Rattle.std.specs.Prelude.{is_none}
-use Rattle.xl_radix.specs.Table.{filled, IsNew, IsRadixMapping, IsImage, IsNearly, IsExact, IsCounted, IsRooted, IsStore}
+use Rattle.xl_radix.specs.Table.{filled, IsNew, IsRadixMapping, IsNearly, IsExact, IsCounted, IsStore}
 use Rattle.xl_radix.specs.Steps.{Stands, IsEnd, IsReady}
-use Rattle.xl_radix.proofs.Numbers.{node-in, below-some, free-none, number-some, number-none, number-there}
+use Rattle.xl_radix.proofs.Numbers.{node-in, below-some, free-none, number-some}
 use Rattle.xl_radix.proofs.Slots.{At, Under, Says, says, stands-word, pointer-low, leaf-in-some, in-nodes-leaf}
-use Rattle.xl_radix.proofs.Ends.{IsTable, not-both, word-none, none-word}
+use Rattle.xl_radix.proofs.Ends.{not-both, word-none, none-word}
 use Rattle.xl_radix.proofs.Made.{IsSpot, new_node, made_nodes, made_words, made, made-stands, made-empty, made-rooted, made-nearly}
 use Rattle.xl_radix.proofs.Placed.{placed, placed-mapping, placed-exact, placed_words}
 use Rattle.xl_radix.proofs.Backs.{reads-back}

@@ -1,21 +1,21 @@
 -- A leaf leaves its slot.
-use Rattle.std.proofs.Common.{ℕ, zero, suc, ◌≡◌, ◌≢◌, ◌+◌, ◌-◌, ◌*◌, ◌/◌, ◌%◌, ◌^◌, ◌<◌, ◌≤◌, ◌==◌, Bool, true, false, cond, if◌then◌else◌, ◌&&◌, ◌⊎◌, inl, inr, List, [], ◌∷◌, length, slice_index, slice_index_or, slice_set, Option, Some, None, refl, ap, sym, ◌∙◌, subst, arith}
+use Rattle.std.proofs.Common.{ℕ, suc, ◌≡◌, ◌≢◌, ◌+◌, ◌*◌, ◌%◌, ◌^◌, ◌<◌, ◌≤◌, ◌==◌, Bool, true, false, cond, if◌then◌else◌, ◌⊎◌, inl, inr, List, [], ◌∷◌, length, slice_index, slice_index_or, slice_set, Option, Some, None, refl, ap, sym, ◌∙◌, subst, arith}
 use Rattle.std.specs.List.{find, filter}
 use Rattle.std.proofs.lemmas.Bool.{cases_lt}
 use Rattle.std.proofs.lemmas.Bool.Decides.{nat_tests}
 use Rattle.std.proofs.lemmas.List.{get_or-set_same, get_or-set_other, length-set}
 use Rattle.xl_model.specs.declared.leaf.Leaf.{Leaf}
-use Rattle.xl_model.specs.Addresses.{level_of, pages_of}
+use Rattle.xl_model.specs.Addresses.{level_of}
 use Rattle.xl_model.specs.Mapping.{without_leaf, leaf_key}
 use Rattle.xl_model.specs.Nodes.{up, Node, is_below, in_nodes, number_of}
-use Rattle.xl_mapping.specs.Members.{In, IsSorted}
+use Rattle.xl_mapping.specs.Members.{In}
 use Rattle.xl_mapping.proofs.Insertion.{without-In, without-other, In-without, sorted-without, same-place}
-use Rattle.xl_radix.specs.Image.{is_slot, leaf_in, entry, word_at, word_of}
-use Rattle.xl_radix.specs.Table.{IsRadixLeaf, IsRadixMapping, IsImage, IsNearly, IsExact}
+use Rattle.xl_radix.specs.Image.{is_slot, leaf_in, word_at, word_of}
+use Rattle.xl_radix.specs.Table.{IsRadixMapping, IsImage, IsNearly, IsExact}
 use Rattle.xl_radix.specs.Steps.{Stands}
 use Rattle.xl_radix.proofs.Lists.{find-nothing}
-use Rattle.xl_radix.proofs.Numbers.{number-some, number-there, below-some, is-below, Is}
-use Rattle.xl_radix.proofs.Slots.{At, Under, slot-at, at-slot, leaf-in-some, leaf-in-none, in-nodes, in-nodes-leaf}
+use Rattle.xl_radix.proofs.Numbers.{is-below}
+use Rattle.xl_radix.proofs.Slots.{At, Under, slot-at, in-nodes, in-nodes-leaf}
 use Rattle.xl_radix.proofs.Made.{no-slot}
 use Rattle.xl_radix.proofs.Ends.{none-word}
 use Rattle.xl_radix.proofs.Placed.{same-word, other-leaf-slot}

@@ -1,11 +1,10 @@
 -- The manual's walk over the words of a table.
-use Rattle.std.proofs.Common.{ℕ, zero, suc, ◌≡◌, ◌≢◌, ◌+◌, ◌-◌, ◌*◌, ◌/◌, ◌%◌, ◌^◌, ◌<◌, ◌≤◌, ◌==◌, Bool, true, false, nat_le, if◌then◌else◌, ◌⊎◌, inl, inr, List, length, slice_index, slice_index_or, Option, Some, None, refl, ap, sym, ◌∙◌, subst, arith}
-use Rattle.std.proofs.lemmas.Bool.{cases_lt}
+use Rattle.std.proofs.Common.{ℕ, zero, suc, ◌≡◌, ◌+◌, ◌-◌, ◌*◌, ◌/◌, ◌%◌, ◌<◌, ◌≤◌, Bool, true, false, nat_le, if◌then◌else◌, ◌⊎◌, inl, inr, List, length, slice_index, Option, Some, None, refl, sym, ◌∙◌, subst, arith}
 use Rattle.std.proofs.lemmas.Bool.Decides.{nat_tests}
 use Rattle.xl_model.specs.declared.leaf.Leaf.{Leaf}
 use Rattle.xl_model.specs.Addresses.{level_of}
 use Rattle.xl_model.specs.Mapping.{leaf_at_page}
-use Rattle.xl_model.specs.Nodes.{up, Node, is_below, in_nodes, number_of}
+use Rattle.xl_model.specs.Nodes.{up, Node, in_nodes, number_of}
 use Rattle.xl_model.specs.Walks.{end_level}
 use Rattle.xl_mapping.specs.Members.{In}
 use Rattle.xl_pte.specs.Decode.{decode_of}
@@ -13,11 +12,9 @@ use Rattle.xl_pte.specs.declared.word.Pte.{Pte}
 use Rattle.xl_pte.specs.declared.word.Pte.TheVariants as pte
 use Rattle.xl_mapping.proofs.Ends.{up-from}
 use Rattle.xl_radix.specs.declared.walk_end.WalkEnd.{WalkEnd}
-use Rattle.xl_radix.specs.declared.walk_end.WalkEnd.TheVariants as end
-use Rattle.xl_radix.specs.Image.{leaf_in, word_at}
-use Rattle.xl_radix.specs.Table.{IsImage, IsExact}
+use Rattle.xl_radix.specs.Image.{leaf_in}
 use Rattle.xl_radix.specs.Steps.{Stands}
-use Rattle.xl_radix.specs.Walk.{place_of, is_there, end_at, reading, radix_back, walk_end, WordsReadBack}
+use Rattle.xl_radix.specs.Walk.{place_of, end_at, reading, radix_back, walk_end, WordsReadBack}
 use Rattle.xl_radix.proofs.Cases.{split-le}
 use Rattle.xl_radix.proofs.Numbers.{number-some, number-only}
 use Rattle.xl_radix.proofs.Slots.{Under, Says, says, stands-word, pointer-low, leaf-in-some, in-nodes-leaf}

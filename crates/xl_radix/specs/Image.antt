@@ -1,6 +1,6 @@
 -- The words of a radix table, as its mapping and its nodes give them (RISC-V Privileged manual, the walk).
 -- A slot is named by its space, its level l and its block of 512^l pages.
-use Rattle.std.specs.Prelude.{ℕ, ◌+◌, ◌*◌, ◌==◌, Bool, true, false, ◌&&◌, List, find, Option, None, Some}
+use Rattle.std.specs.Prelude.{ℕ, ◌+◌, ◌*◌, ◌==◌, Bool, ◌&&◌, List, find, Option, None, Some}
 use Rattle.xl_model.specs.declared.leaf.Leaf.{Leaf}
 use Rattle.xl_model.specs.Addresses.{level_of}
 use Rattle.xl_model.specs.Words.{pointer_word, leaf_word}

@@ -1,5 +1,4 @@
-use Rattle.std.proofs.Common.{ℕ, ◌≡◌, ◌≤◌, ◌<◌, lit<, arith}
-use Rattle.xl_radix.specs.Steps.{IsEnd}
+use Rattle.std.proofs.Common.{lit<}
 use Rattle.xl_radix.proofs.Looks.{met-word, block-first}
 use Rattle.xl_radix.proofs.Ups.{level-low}
 use Rattle.xl_radix.proofs.store.Store.meets.Goals as goal

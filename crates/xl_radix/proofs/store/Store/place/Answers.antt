@@ -1,5 +1,5 @@
-use Rattle.std.proofs.Common.{ℕ, ◌≡◌, ◌+◌, ◌-◌, ◌*◌, ◌<◌, ◌≤◌, refl, ap, sym, ◌∙◌, lit<, arith}
-use Rattle.xl_model.specs.Nodes.{with_path, with_leaf_nodes}
+use Rattle.std.proofs.Common.{sym, lit<, arith}
+use Rattle.xl_model.specs.Nodes.{with_leaf_nodes}
 use Rattle.xl_radix.proofs.Placed.{nearly-start}
 use Rattle.xl_radix.proofs.Steps.{end-ready}
 use Rattle.xl_radix.proofs.store.Store.place.Goals as goal

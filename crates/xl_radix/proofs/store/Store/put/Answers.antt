@@ -1,6 +1,6 @@
-use Rattle.std.proofs.Common.{ℕ, ◌≡◌, ◌+◌, ◌-◌, ◌*◌, ◌%◌, ◌<◌, ◌≤◌, length, slice_index_or, Option, Some, None, refl, ap, sym, ◌∙◌, arith}
+use Rattle.std.proofs.Common.{ℕ, ◌≡◌, ◌%◌, ap, ◌∙◌, arith}
 use Rattle.xl_model.specs.Addresses.{level_of}
-use Rattle.xl_model.specs.Nodes.{Node, up}
+use Rattle.xl_model.specs.Nodes.{up}
 use Rattle.xl_radix.proofs.Steps.{put-step, count-fits, stands-in}
 use Rattle.xl_radix.proofs.store.Store.put.Goals as goal
 
