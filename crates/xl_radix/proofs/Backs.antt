@@ -5,6 +5,7 @@ use Rattle.xl_model.specs.declared.address.Order.{Order}
 use Rattle.xl_model.specs.declared.address.Order.TheVariants as order
 use Rattle.xl_model.specs.declared.leaf.Leaf.{Leaf}
 use Rattle.xl_model.specs.Addresses.{level_of, pages_of}
+use Rattle.xl_model.specs.Changes.{with_new}
 use Rattle.xl_model.specs.Mapping.{with_leaf, leaf_key}
 use Rattle.xl_model.specs.Nodes.{up, Node, is_below, in_nodes, number_of}
 use Rattle.xl_mapping.specs.Members.{In, IsSorted}
@@ -12,7 +13,7 @@ use Rattle.xl_pte.specs.declared.word.Pte.{Pte}
 use Rattle.xl_pte.specs.declared.word.Pte.TheVariants as pte
 use Rattle.xl_mapping.proofs.Insertion.{with-In, In-with, stays-with, sorted-with, same-place}
 use Rattle.xl_radix.specs.Image.{leaf_in, word_of}
-use Rattle.xl_radix.specs.ReadBack.{order_of, leaf_said, leaf_by, leaf_here, with_some, read_to, read_back}
+use Rattle.xl_radix.specs.ReadBack.{order_of, leaf_said, leaf_by, leaf_here, read_to, read_back}
 use Rattle.xl_radix.specs.Table.{IsRadixMapping, IsImage}
 use Rattle.xl_radix.proofs.Cases.{split-less}
 use Rattle.xl_radix.proofs.Lists.{same-sorted}
@@ -119,11 +120,11 @@ has-place top spaces leaves nodes words x high m image small i =
               ∙ ap (λ (o : Option Node). leaf_of leaves o (up (level_of x.order) x.first % 512)) b.1 ∙ named b.0 b.2 ∙ own-slot top spaces leaves x m i,
         )
 
-some-in : (o : Option Leaf) (xs : List Leaf) (y : Leaf) → In y (with_some o xs) → (o ≡ Some y) ⊎ In y xs
+some-in : (o : Option Leaf) (xs : List Leaf) (y : Leaf) → In y (with_new o xs) → (o ≡ Some y) ⊎ In y xs
 some-in None xs y i = inr i
 some-in (Some x) xs y i = elim (with-In y x xs i) [ inl e ↦ inl (ap Some (sym e)) | inr j ↦ inr j ]
 
-some-sorted : (o : Option Leaf) (xs : List Leaf) → IsSorted xs → IsSorted (with_some o xs)
+some-sorted : (o : Option Leaf) (xs : List Leaf) → IsSorted xs → IsSorted (with_new o xs)
 some-sorted None xs h = h
 some-sorted (Some x) xs h = sorted-with x xs h
 
@@ -139,7 +140,7 @@ read-in top spaces (suc k) leaves nodes words y m image small h i =
       | inr j ↦ read-in top spaces k leaves nodes words y m image small (omega arith) j
     ]
 
-some-keeps : (top spaces : ℕ) (leaves : List Leaf) (o : Option Leaf) (xs : List Leaf) (x : Leaf) → IsRadixMapping top spaces leaves → ((z : Leaf) → o ≡ Some z → In z leaves) → In x leaves → In x xs → In x (with_some o xs)
+some-keeps : (top spaces : ℕ) (leaves : List Leaf) (o : Option Leaf) (xs : List Leaf) (x : Leaf) → IsRadixMapping top spaces leaves → ((z : Leaf) → o ≡ Some z → In z leaves) → In x leaves → In x xs → In x (with_new o xs)
 some-keeps top spaces leaves None xs x m all i j = j
 some-keeps top spaces leaves (Some z) xs x m all i j =
     elim (cases_lt (leaf_key z) (leaf_key x)) [
@@ -158,7 +159,7 @@ read-there top spaces (suc k) place leaves nodes words x m image small h i e g =
       | inr f ↦ some-keeps top spaces leaves (leaf_here nodes words k) (read_to nodes words k) x m (λ z t. here-in top spaces k leaves nodes words z m image small (omega arith) t) i (read-there top spaces k place leaves nodes words x m image small (omega arith) i e f)
     ]
   where
-    newest : leaf_here nodes words k ≡ Some x → In x (with_some (leaf_here nodes words k) (read_to nodes words k))
+    newest : leaf_here nodes words k ≡ Some x → In x (with_new (leaf_here nodes words k) (read_to nodes words k))
     newest t = rw t (In-with x (read_to nodes words k))
 
 pub reads-back : (top spaces : ℕ) (leaves : List Leaf) (nodes : List (Option Node)) (words : List ℕ) → 3 ≤ top → IsRadixMapping top spaces leaves → IsImage top leaves nodes words → length nodes ≤ 16384 → read_back nodes words ≡ leaves

@@ -31,7 +31,7 @@ pub record IsRadixLeaf (top spaces : ℕ) (leaf : Leaf) : Type 0 where
   pub frame_in : leaf.frame < 2 ^ 44
   pub frame_aligned : leaf.frame % 2 ^ (9 * level_of leaf.order) ≡ 0
 
--- The leaves are proper, sorted, and no two of a space have a page in common.
+-- Each leaf is one of such a table, they are sorted, and no two of a space have a page in common.
 pub record IsRadixMapping (top spaces : ℕ) (leaves : List Leaf) : Type 0 where
   pub proper : (x : Leaf) → In x leaves → IsRadixLeaf top spaces x
   pub sorted : IsSorted leaves

@@ -5,7 +5,7 @@ use Rattle.xl_radix.proofs.store.Store.meets.Goals as goal
 
 pub end_of-node-requires : goal.end_of-node-requires
 end_of-node-requires g c =
-    (lit< tt, (c.requires.exact, (c.requires.block.space_in, (block-first g.row.LEVELS _ c.args.space c.args.first c.args.order _ c.requires.block, rw c.level.ensures (level-low c.args.order)))))
+    (lit< tt, (c.requires.exact, (c.requires.block.space_in, (block-first g.row.LEVELS _ c.args.space c.args.first c.args.order _ c.requires.block, rw c.level.ensures (level-low _)))))
 
 pub returns : goal.returns
 returns g c =
