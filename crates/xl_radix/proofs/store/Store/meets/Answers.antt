@@ -1,11 +1,11 @@
-use Rattle.std.proofs.Common.{lit<}
+use Rattle.std.proofs.Common.{lit<, arith}
 use Rattle.xl_radix.proofs.Looks.{met-word, block-first}
 use Rattle.xl_radix.proofs.Ups.{level-low}
 use Rattle.xl_radix.proofs.store.Store.meets.Goals as goal
 
 pub end_of-node-requires : goal.end_of-node-requires
 end_of-node-requires g c =
-    (lit< tt, (c.requires.exact, (c.requires.block.space_in, (block-first g.row.LEVELS _ c.args.space c.args.first c.args.order _ c.requires.block, rw c.level.ensures (level-low _)))))
+    (lit< tt, (c.requires.exact, (c.requires.block.space_in, (block-first g.row.LEVELS _ c.args.space c.args.first c.args.order _ c.requires.block, let e = c.level.ensures in grind (arith, level-low)))))
 
 pub returns : goal.returns
 returns g c =
