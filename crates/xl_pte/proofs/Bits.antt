@@ -4,7 +4,7 @@ use Rattle.std.proofs.Math.Bool.{Bool-set}
 use Rattle.xl_model.specs.Addresses.{is_legal}
 use Rattle.xl_model.specs.Words.{leaf_word, pointer_word, bit_if}
 use Rattle.xl_model.specs.declared.perm.Perm.{Perm}
-use Rattle.xl_pte.specs.Decode.{bit, number_of, says, leaf_at, decode_of}
+use Rattle.xl_pte.specs.Decode.{bit, ppn_of, says, leaf_at, decode_of}
 use Rattle.xl_pte.specs.declared.word.Pte.TheVariants.{Pointer, Leaf}
 
 pub says-legal : (r w x u : Bool) (h : is_legal r w x ≡ true) (level number : ℕ) →
@@ -32,7 +32,7 @@ pub record AreBits (word frame : ℕ) (r w x u : Bool) : Type 0 where
   pub is_w : bit word 2 ≡ w
   pub is_x : bit word 3 ≡ x
   pub is_u : bit word 4 ≡ u
-  pub number : number_of word ≡ frame
+  pub number : ppn_of word ≡ frame
 
 pub leaf-bits : (r w x u : Bool) (frame : ℕ) → frame < 2 ^ 44 →
     AreBits (frame * 1024 + (0xc1 + (bit_if r 2 + (bit_if w 4 + (bit_if x 8 + bit_if u 16))))) frame r w x u
@@ -53,12 +53,12 @@ leaf-bits false false true false frame h = grind arith
 leaf-bits false false false true frame h = grind arith
 leaf-bits false false false false frame h = grind arith
 
-pub number-shifted : (word : ℕ) → word / 2 ^ 54 ≡ 0 → number_of word ≡ word / 2 ^ 10
+pub number-shifted : (word : ℕ) → word / 2 ^ 54 ≡ 0 → ppn_of word ≡ word / 2 ^ 10
 number-shifted word h = omega arith
 
 -- A word whose bits are those of a legal permission is decoded as a leaf.
 pub decode-leaf : (word level number : ℕ) (p : Perm) → bit word 0 ≡ true → (word / 2 ^ 54 == 0) ≡ true →
-    number_of word ≡ number → bit word 1 ≡ p.r → bit word 2 ≡ p.w → bit word 3 ≡ p.x → bit word 4 ≡ p.u →
+    ppn_of word ≡ number → bit word 1 ≡ p.r → bit word 2 ≡ p.w → bit word 3 ≡ p.x → bit word 4 ≡ p.u →
     leaf_at level number p ≡ decode_of word level
 unfolding decode_of
 decode-leaf word level number p v high en er ew ex eu =

@@ -11,8 +11,8 @@ abbrev pub bit : ℕ → ℕ → Bool
 bit word k = word / 2 ^ k % 2 == 1
 
 -- the PPN: the number of a node, or of a leaf's first frame
-abbrev pub number_of : ℕ → ℕ
-number_of word = word / 2 ^ 10 % 2 ^ 44
+abbrev pub ppn_of : ℕ → ℕ
+ppn_of word = word / 2 ^ 10 % 2 ^ 44
 
 -- a node's number at level 0 is reserved: the walk can't go on
 abbrev pub pointer_at : ℕ → ℕ → Pte
@@ -34,7 +34,7 @@ unfoldable pub decode_of : ℕ → ℕ → Pte
 decode_of word level =
     if bit word 0
     then (if word / 2 ^ 54 == 0
-    then says (bit word 1) (bit word 2) (bit word 3) (bit word 4) level (number_of word)
+    then says (bit word 1) (bit word 2) (bit word 3) (bit word 4) level (ppn_of word)
     else Reserved)
     else Invalid
 

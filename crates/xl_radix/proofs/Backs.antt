@@ -1,23 +1,25 @@
 -- The words of a table read back as its leaves.
-use Rattle.std.proofs.Common.{ℕ, zero, suc, ◌≡◌, ◌≢◌, ◌+◌, ◌-◌, ◌*◌, ◌/◌, ◌%◌, ◌^◌, ◌<◌, ◌≤◌, Bool, true, false, ◌⊎◌, inl, inr, List, length, slice_index, slice_index_or, Option, Some, None, refl, ap, sym, ◌∙◌, subst, arith}
+use Rattle.std.proofs.Common.{ℕ, zero, suc, ◌≡◌, ◌+◌, ◌*◌, ◌/◌, ◌%◌, ◌<◌, ◌≤◌, true, ◌⊎◌, inl, inr, List, length, slice_index_or, Option, Some, None, refl, ap, sym, ◌∙◌, subst, arith}
 use Rattle.std.proofs.lemmas.Bool.{cases_lt}
 use Rattle.xl_model.specs.declared.address.Order.{Order}
 use Rattle.xl_model.specs.declared.address.Order.TheVariants as order
 use Rattle.xl_model.specs.declared.leaf.Leaf.{Leaf}
 use Rattle.xl_model.specs.Addresses.{level_of, pages_of}
+use Rattle.xl_model.specs.Changes.{with_new}
 use Rattle.xl_model.specs.Mapping.{with_leaf, leaf_key}
 use Rattle.xl_model.specs.Nodes.{up, Node, is_below, in_nodes, number_of}
-use Rattle.xl_pte.specs.Decode.{decode_of}
+use Rattle.xl_mapping.specs.Members.{In, IsSorted}
 use Rattle.xl_pte.specs.declared.word.Pte.{Pte}
 use Rattle.xl_pte.specs.declared.word.Pte.TheVariants as pte
-use Rattle.xl_radix.specs.Image.{is_slot, leaf_in, slot_word, word_of}
-use Rattle.xl_radix.specs.ReadBack.{order_of, leaf_said, leaf_by, leaf_here, with_some, read_to, read_back}
-use Rattle.xl_radix.specs.Table.{In, IsSorted, IsProper, IsMapping, IsImage}
-use Rattle.xl_radix.specs.Steps.{Stands}
-use Rattle.xl_radix.proofs.Lists.{with-in, with-new, with-old, with-sorted, same-sorted}
-use Rattle.xl_radix.proofs.Numbers.{number-some, number-there, below-some, Is}
+use Rattle.xl_mapping.proofs.Insertion.{with-In, In-with, stays-with, sorted-with, same-place}
+use Rattle.xl_radix.specs.Image.{leaf_in, word_of}
+use Rattle.xl_radix.specs.ReadBack.{order_of, leaf_said, leaf_by, leaf_here, read_to, read_back}
+use Rattle.xl_radix.specs.Table.{IsRadixMapping, IsImage}
+use Rattle.xl_radix.proofs.Cases.{split-less}
+use Rattle.xl_radix.proofs.Lists.{same-sorted}
+use Rattle.xl_radix.proofs.Numbers.{number-some, below-some, Is}
 use Rattle.xl_radix.proofs.Ups.{level-low}
-use Rattle.xl_radix.proofs.Slots.{At, Under, Says, says, leaf-in-some, leaf-in-none, in-nodes}
+use Rattle.xl_radix.proofs.Slots.{At, Says, says, leaf-in-some, leaf-in-none, in-nodes}
 
 order-of-level : (o : Order) → order_of (level_of o) ≡ Some o
 order-of-level order.K4 = refl
@@ -40,7 +42,7 @@ said-leaf s l q x at aligned =
     rw e (rw (← at.space_is, f) refl)
 
 -- What a slot's word says is its leaf.
-pub said-is : (top spaces s l q : ℕ) (leaves : List Leaf) (nodes : List (Option Node)) (w : Pte) → IsMapping top spaces leaves → Says w s l q leaves nodes → leaf_said s q (order_of l) w ≡ leaf_in s l q leaves
+pub said-is : (top spaces s l q : ℕ) (leaves : List Leaf) (nodes : List (Option Node)) (w : Pte) → IsRadixMapping top spaces leaves → Says w s l q leaves nodes → leaf_said s q (order_of l) w ≡ leaf_in s l q leaves
 said-is top spaces s l q leaves nodes pte.Invalid m h = said-none s q (order_of l) ∙ sym h.0
 said-is top spaces s l q leaves nodes (pte.Pointer n) m h = said-pointer s q n (order_of l) ∙ sym h.0
 said-is top spaces s l q leaves nodes (pte.Leaf frame perm) m h =
@@ -54,12 +56,12 @@ abbrev pub leaf_of : List Leaf → Option Node → ℕ → Option Leaf
 leaf_of leaves None i = None
 leaf_of leaves (Some node) i = leaf_in node.space node.level (node.prefix * 512 + i) leaves
 
-by-is : (top spaces i : ℕ) (leaves : List Leaf) (nodes : List (Option Node)) (o : Option Node) → IsMapping top spaces leaves → length nodes ≤ 16384 → leaf_by o i (word_of leaves nodes o i) ≡ leaf_of leaves o i
+by-is : (top spaces i : ℕ) (leaves : List Leaf) (nodes : List (Option Node)) (o : Option Node) → IsRadixMapping top spaces leaves → length nodes ≤ 16384 → leaf_by o i (word_of leaves nodes o i) ≡ leaf_of leaves o i
 by-is top spaces i leaves nodes None m small = refl
 by-is top spaces i leaves nodes (Some node) m small =
     said-is top spaces node.space node.level (node.prefix * 512 + i) leaves nodes _ m (says top spaces node.space node.level (node.prefix * 512 + i) leaves nodes m small)
 
-pub here-is : (top spaces n i : ℕ) (leaves : List Leaf) (nodes : List (Option Node)) (words : List ℕ) → IsMapping top spaces leaves → IsImage top leaves nodes words → length nodes ≤ 16384 → n < length nodes → i < 512 → leaf_here nodes words (n * 512 + i) ≡ leaf_of leaves (slice_index_or nodes n None) i
+pub here-is : (top spaces n i : ℕ) (leaves : List Leaf) (nodes : List (Option Node)) (words : List ℕ) → IsRadixMapping top spaces leaves → IsImage top leaves nodes words → length nodes ≤ 16384 → n < length nodes → i < 512 → leaf_here nodes words (n * 512 + i) ≡ leaf_of leaves (slice_index_or nodes n None) i
 unfolding leaf_here
 here-is top spaces n i leaves nodes words m image small h g =
     let a : (n * 512 + i) / 512 ≡ n = omega arith in
@@ -70,14 +72,14 @@ leaf-of-in : (leaves : List Leaf) (o : Option Node) (i : ℕ) (y : Leaf) → lea
 leaf-of-in leaves None i y h = cc
 leaf-of-in leaves (Some node) i y h = (leaf-in-some node.space node.level (node.prefix * 512 + i) leaves y h).0
 
-pub here-in : (top spaces k : ℕ) (leaves : List Leaf) (nodes : List (Option Node)) (words : List ℕ) (y : Leaf) → IsMapping top spaces leaves → IsImage top leaves nodes words → length nodes ≤ 16384 → k < length nodes * 512 → leaf_here nodes words k ≡ Some y → In y leaves
+pub here-in : (top spaces k : ℕ) (leaves : List Leaf) (nodes : List (Option Node)) (words : List ℕ) (y : Leaf) → IsRadixMapping top spaces leaves → IsImage top leaves nodes words → length nodes ≤ 16384 → k < length nodes * 512 → leaf_here nodes words k ≡ Some y → In y leaves
 here-in top spaces k leaves nodes words y m image small h e =
     let a : k / 512 * 512 + k % 512 ≡ k = omega arith in
     let f : leaf_here nodes words k ≡ leaf_of leaves (slice_index_or nodes (k / 512) None) (k % 512) = ap (leaf_here nodes words) (sym a) ∙ here-is top spaces (k / 512) (k % 512) leaves nodes words m image small (omega arith) (omega arith) in
     leaf-of-in leaves (slice_index_or nodes (k / 512) None) (k % 512) y (sym f ∙ e)
 
 -- A leaf's slot has the leaf.
-pub own-slot : (top spaces : ℕ) (leaves : List Leaf) (x : Leaf) → IsMapping top spaces leaves → In x leaves → leaf_in x.space (level_of x.order) (up (level_of x.order) x.first) leaves ≡ Some x
+pub own-slot : (top spaces : ℕ) (leaves : List Leaf) (x : Leaf) → IsRadixMapping top spaces leaves → In x leaves → leaf_in x.space (level_of x.order) (up (level_of x.order) x.first) leaves ≡ Some x
 own-slot top spaces leaves x m i =
     elim (leaf_in x.space (level_of x.order) (up (level_of x.order) x.first) leaves) as (λ o. leaf_in x.space (level_of x.order) (up (level_of x.order) x.first) leaves ≡ o → o ≡ Some x) [
       | None ↦ λ e. absurd (leaf-in-none x.space (level_of x.order) (up (level_of x.order) x.first) leaves x e i (record { space_is = refl; level_is = refl; block_is = refl }))
@@ -88,7 +90,7 @@ own-slot top spaces leaves x m i =
     same y r = m.apart y x r.0 i r.1.space_is (omega (arith, r.1.level_is)) r.1.block_is
 
 -- Each leaf has a place.
-pub has-place : (top spaces : ℕ) (leaves : List Leaf) (nodes : List (Option Node)) (words : List ℕ) (x : Leaf) → 3 ≤ top → IsMapping top spaces leaves → IsImage top leaves nodes words → length nodes ≤ 16384 → In x leaves → (k : ℕ) × (k < length nodes * 512) × (leaf_here nodes words k ≡ Some x)
+pub has-place : (top spaces : ℕ) (leaves : List Leaf) (nodes : List (Option Node)) (words : List ℕ) (x : Leaf) → 3 ≤ top → IsRadixMapping top spaces leaves → IsImage top leaves nodes words → length nodes ≤ 16384 → In x leaves → (k : ℕ) × (k < length nodes * 512) × (leaf_here nodes words k ≡ Some x)
 has-place top spaces leaves nodes words x high m image small i =
     elim (number_of x.space (suc (level_of x.order)) (up (suc (level_of x.order)) x.first) nodes) as (λ o. number_of x.space (suc (level_of x.order)) (up (suc (level_of x.order)) x.first) nodes ≡ o → (k : ℕ) × (k < length nodes * 512) × (leaf_here nodes words k ≡ Some x)) [
       | None ↦ λ e. absurd (image.full x.space (suc (level_of x.order)) (up (suc (level_of x.order)) x.first) under low e)
@@ -118,31 +120,19 @@ has-place top spaces leaves nodes words x high m image small i =
               ∙ ap (λ (o : Option Node). leaf_of leaves o (up (level_of x.order) x.first % 512)) b.1 ∙ named b.0 b.2 ∙ own-slot top spaces leaves x m i,
         )
 
--- Leaves of one key are one.
-pub key-leaf : (top spaces : ℕ) (leaves : List Leaf) (x y : Leaf) → IsMapping top spaces leaves → In x leaves → In y leaves → leaf_key x ≡ leaf_key y → x ≡ y
-key-leaf top spaces leaves x y m i j e =
-    let a : x.first < 2 ^ 52 = (m.proper x i).key_in in
-    let b : y.first < 2 ^ 52 = (m.proper y j).key_in in
-    let s : x.space ≡ y.space = omega (arith, a, b, e) in
-    let f : x.first ≡ y.first = omega (arith, a, b, e) in
-    elim (cases_lt (level_of x.order) (level_of y.order)) [
-      | inl lt ↦ m.apart x y i j s (omega arith) (ap (up (level_of y.order)) f)
-      | inr ge ↦ sym (m.apart y x j i (sym s) ge (ap (up (level_of x.order)) (sym f)))
-    ]
-
-some-in : (o : Option Leaf) (xs : List Leaf) (y : Leaf) → In y (with_some o xs) → (o ≡ Some y) ⊎ In y xs
+some-in : (o : Option Leaf) (xs : List Leaf) (y : Leaf) → In y (with_new o xs) → (o ≡ Some y) ⊎ In y xs
 some-in None xs y i = inr i
-some-in (Some x) xs y i = elim (with-in x xs y i) [ inl e ↦ inl (ap Some (sym e)) | inr j ↦ inr j ]
+some-in (Some x) xs y i = elim (with-In y x xs i) [ inl e ↦ inl (ap Some (sym e)) | inr j ↦ inr j ]
 
-some-sorted : (o : Option Leaf) (xs : List Leaf) → IsSorted xs → IsSorted (with_some o xs)
+some-sorted : (o : Option Leaf) (xs : List Leaf) → IsSorted xs → IsSorted (with_new o xs)
 some-sorted None xs h = h
-some-sorted (Some x) xs h = with-sorted x xs h
+some-sorted (Some x) xs h = sorted-with x xs h
 
 pub read-sorted : (nodes : List (Option Node)) (words : List ℕ) (k : ℕ) → IsSorted (read_to nodes words k)
 read-sorted nodes words zero = tt
 read-sorted nodes words (suc k) = some-sorted (leaf_here nodes words k) (read_to nodes words k) (read-sorted nodes words k)
 
-pub read-in : (top spaces k : ℕ) (leaves : List Leaf) (nodes : List (Option Node)) (words : List ℕ) (y : Leaf) → IsMapping top spaces leaves → IsImage top leaves nodes words → length nodes ≤ 16384 → k ≤ length nodes * 512 → In y (read_to nodes words k) → In y leaves
+pub read-in : (top spaces k : ℕ) (leaves : List Leaf) (nodes : List (Option Node)) (words : List ℕ) (y : Leaf) → IsRadixMapping top spaces leaves → IsImage top leaves nodes words → length nodes ≤ 16384 → k ≤ length nodes * 512 → In y (read_to nodes words k) → In y leaves
 read-in top spaces zero leaves nodes words y m image small h i = absurd i
 read-in top spaces (suc k) leaves nodes words y m image small h i =
     elim (some-in (leaf_here nodes words k) (read_to nodes words k) y i) [
@@ -150,32 +140,29 @@ read-in top spaces (suc k) leaves nodes words y m image small h i =
       | inr j ↦ read-in top spaces k leaves nodes words y m image small (omega arith) j
     ]
 
-some-keeps : (top spaces : ℕ) (leaves : List Leaf) (o : Option Leaf) (xs : List Leaf) (x : Leaf) → IsMapping top spaces leaves → ((z : Leaf) → o ≡ Some z → In z leaves) → In x leaves → In x xs → In x (with_some o xs)
+some-keeps : (top spaces : ℕ) (leaves : List Leaf) (o : Option Leaf) (xs : List Leaf) (x : Leaf) → IsRadixMapping top spaces leaves → ((z : Leaf) → o ≡ Some z → In z leaves) → In x leaves → In x xs → In x (with_new o xs)
 some-keeps top spaces leaves None xs x m all i j = j
 some-keeps top spaces leaves (Some z) xs x m all i j =
     elim (cases_lt (leaf_key z) (leaf_key x)) [
-      | inl lt ↦ with-old z xs x j (λ e. omega (arith, e))
+      | inl lt ↦ stays-with x z xs j (λ e. omega (arith, e))
       | inr ge ↦ elim (cases_lt (leaf_key x) (leaf_key z)) [
-        | inl lt ↦ with-old z xs x j (λ e. omega (arith, e))
-        | inr le ↦ let e : x ≡ z = key-leaf top spaces leaves x z m i (all z refl) (omega arith) in subst (λ (v : Leaf). In v (with_leaf z xs)) (sym e) (with-new z xs)
+        | inl lt ↦ stays-with x z xs j (λ e. omega (arith, e))
+        | inr le ↦ let e : x ≡ z = same-place x z leaves m.sorted i (all z refl) (omega arith) in subst (λ (v : Leaf). In v (with_leaf z xs)) (sym e) (In-with z xs)
       ]
     ]
 
-pub read-there : (top spaces k place : ℕ) (leaves : List Leaf) (nodes : List (Option Node)) (words : List ℕ) (x : Leaf) → IsMapping top spaces leaves → IsImage top leaves nodes words → length nodes ≤ 16384 → k ≤ length nodes * 512 → In x leaves → leaf_here nodes words place ≡ Some x → place < k → In x (read_to nodes words k)
+pub read-there : (top spaces k place : ℕ) (leaves : List Leaf) (nodes : List (Option Node)) (words : List ℕ) (x : Leaf) → IsRadixMapping top spaces leaves → IsImage top leaves nodes words → length nodes ≤ 16384 → k ≤ length nodes * 512 → In x leaves → leaf_here nodes words place ≡ Some x → place < k → In x (read_to nodes words k)
 read-there top spaces zero place leaves nodes words x m image small h i e g = absurd (omega arith)
 read-there top spaces (suc k) place leaves nodes words x m image small h i e g =
-    elim (split place k g) [
+    elim (split-less place k g) [
       | inl f ↦ newest (ap (leaf_here nodes words) (sym f) ∙ e)
       | inr f ↦ some-keeps top spaces leaves (leaf_here nodes words k) (read_to nodes words k) x m (λ z t. here-in top spaces k leaves nodes words z m image small (omega arith) t) i (read-there top spaces k place leaves nodes words x m image small (omega arith) i e f)
     ]
   where
-    split : (place k : ℕ) → place < suc k → (place ≡ k) ⊎ (place < k)
-    split place k h = grind arith
+    newest : leaf_here nodes words k ≡ Some x → In x (with_new (leaf_here nodes words k) (read_to nodes words k))
+    newest t = rw t (In-with x (read_to nodes words k))
 
-    newest : leaf_here nodes words k ≡ Some x → In x (with_some (leaf_here nodes words k) (read_to nodes words k))
-    newest t = rw t (with-new x (read_to nodes words k))
-
-pub reads-back : (top spaces : ℕ) (leaves : List Leaf) (nodes : List (Option Node)) (words : List ℕ) → 3 ≤ top → IsMapping top spaces leaves → IsImage top leaves nodes words → length nodes ≤ 16384 → read_back nodes words ≡ leaves
+pub reads-back : (top spaces : ℕ) (leaves : List Leaf) (nodes : List (Option Node)) (words : List ℕ) → 3 ≤ top → IsRadixMapping top spaces leaves → IsImage top leaves nodes words → length nodes ≤ 16384 → read_back nodes words ≡ leaves
 unfolding read_back
 reads-back top spaces leaves nodes words high m image small =
     same-sorted (read_to nodes words (length nodes * 512)) leaves (read-sorted nodes words (length nodes * 512)) m.sorted

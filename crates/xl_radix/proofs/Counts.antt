@@ -1,10 +1,11 @@
 -- The words of a node that aren't 0.
-use Rattle.std.proofs.Common.{ℕ, zero, suc, ◌≡◌, ◌≢◌, ◌+◌, ◌-◌, ◌*◌, ◌/◌, ◌%◌, ◌^◌, ◌<◌, ◌≤◌, ◌==◌, Bool, true, false, ◌⊎◌, inl, inr, List, [], ◌∷◌, length, slice_index, slice_index_or, slice_set, Option, Some, None, refl, ap, sym, ◌∙◌, subst, arith}
+use Rattle.std.proofs.Common.{ℕ, zero, suc, ◌≡◌, ◌≢◌, ◌+◌, ◌-◌, ◌*◌, ◌<◌, ◌≤◌, ◌==◌, true, false, ◌⊎◌, inl, inr, List, [], ◌∷◌, length, slice_index, slice_set, Option, refl, ap, sym, ◌∙◌, subst, arith}
 use Rattle.std.proofs.lemmas.Bool.{cases_lt}
 use Rattle.std.proofs.lemmas.Bool.Decides.{nat_tests}
 use Rattle.std.proofs.lemmas.List.{get_or-set_same, get_or-set_other, length-set}
 use Rattle.xl_model.specs.Nodes.{Node}
 use Rattle.xl_radix.specs.Table.{one_if_filled, filled, IsCounted}
+use Rattle.xl_radix.proofs.Cases.{split-less, same-number, other-number}
 
 one-le : (w : ℕ) → one_if_filled w ≤ 1
 one-le zero = omega arith
@@ -41,14 +42,11 @@ pub filled-more : (words : List ℕ) (at n i w : ℕ) → i < n → at + i < len
 unfolding filled
 filled-more words at zero i w h g e f = absurd (omega arith)
 filled-more words at (suc n) i w h g e f =
-    elim (split i n h) [
+    elim (split-less i n h) [
       | inl k ↦ last k
       | inr k ↦ before k (filled-more words at n i w k g e f)
     ]
   where
-    split : (i n : ℕ) → i < suc n → (i ≡ n) ⊎ (i < n)
-    split i n h = grind arith
-
     last : i ≡ n → filled (slice_set words (at + i) w) at n + one_if_filled (slice_index (slice_set words (at + i) w) (at + n)) ≡ filled words at n + one_if_filled (slice_index words (at + n)) + 1
     last k =
         let a = filled-other words at n (at + i) w (inr (omega arith)) in
@@ -67,13 +65,10 @@ pub filled-less : (words : List ℕ) (at n i : ℕ) → i < n → slice_index wo
 unfolding filled
 filled-less words at zero i h e = absurd (omega arith)
 filled-less words at (suc n) i h e =
-    elim (split i n h) [
+    elim (split-less i n h) [
       | inl k ↦ let c : slice_index words (at + n) ≡ 0 = subst (λ (v : ℕ). slice_index words (at + v) ≡ 0) k e in let l = filled-le words at n in rw c (omega arith)
       | inr k ↦ let r = filled-less words at n i k e in let g = one-le (slice_index words (at + n)) in omega arith
     ]
-  where
-    split : (i n : ℕ) → i < suc n → (i ≡ n) ⊎ (i < n)
-    split i n h = grind arith
 
 pub filled-nothing : (words : List ℕ) (at n : ℕ) → ((i : ℕ) → i < n → slice_index words (at + i) ≡ 0) → filled words at n ≡ 0
 unfolding filled
@@ -93,12 +88,6 @@ counted-more size n i w nodes words used big c len h g e f = record {
   ] refl;
 }
   where
-    same-number : (m n : ℕ) → (m == n) ≡ true → m ≡ n
-    same-number m n t = grind (arith, nat_tests)
-
-    other-number : (m n : ℕ) → (m == n) ≡ false → m ≢ n
-    other-number m n t = grind (arith, nat_tests)
-
     same : (m : ℕ) → m ≡ n → m < length nodes → slice_index (slice_set used n (slice_index used n + 1)) m ≡ filled (slice_set words (n * 512 + i) w) (m * 512) 512
     same m t k =
         let inside : n * 512 + i < length words = omega (arith, len, big) in
@@ -130,12 +119,6 @@ counted-less size n i nodes words used big c len h g f = record {
   ] refl;
 }
   where
-    same-number : (m n : ℕ) → (m == n) ≡ true → m ≡ n
-    same-number m n t = grind (arith, nat_tests)
-
-    other-number : (m n : ℕ) → (m == n) ≡ false → m ≢ n
-    other-number m n t = grind (arith, nat_tests)
-
     inside : n * 512 + i < length words
     inside = omega (arith, len, big)
 
@@ -168,14 +151,11 @@ pub filled-zeros : (words : List ℕ) (at n i : ℕ) → filled words at n ≡ 0
 unfolding filled
 filled-zeros words at zero i e h = absurd (omega arith)
 filled-zeros words at (suc n) i e h =
-    elim (split i n h) [
+    elim (split-less i n h) [
       | inl k ↦ subst (λ (v : ℕ). slice_index words (at + v) ≡ 0) (sym k) (one-none (slice_index words (at + n)) (omega arith))
       | inr k ↦ filled-zeros words at n i (omega arith) k
     ]
   where
-    split : (i n : ℕ) → i < suc n → (i ≡ n) ⊎ (i < n)
-    split i n h = grind arith
-
     one-none : (w : ℕ) → one_if_filled w ≡ 0 → w ≡ 0
     one-none zero e = refl
     one-none (suc w) e = absurd (omega arith)

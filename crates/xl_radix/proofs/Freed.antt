@@ -1,19 +1,19 @@
 -- An empty node is given back.
-use Rattle.std.proofs.Common.{ℕ, zero, suc, ◌≡◌, ◌≢◌, ◌+◌, ◌-◌, ◌*◌, ◌/◌, ◌%◌, ◌^◌, ◌<◌, ◌≤◌, ◌==◌, Bool, true, false, ◌&&◌, ◌⊎◌, inl, inr, List, [], ◌∷◌, length, slice_index, slice_index_or, slice_set, Option, Some, None, refl, ap, sym, ◌∙◌, subst, arith}
-use Rattle.std.proofs.lemmas.Bool.{cases_lt}
+use Rattle.std.proofs.Common.{ℕ, suc, ◌≡◌, ◌≢◌, ◌+◌, ◌-◌, ◌*◌, ◌/◌, ◌%◌, ◌<◌, ◌≤◌, ◌==◌, true, false, ◌⊎◌, inl, inr, List, length, slice_index, slice_index_or, slice_set, Option, Some, None, refl, ap, sym, ◌∙◌, subst, arith}
 use Rattle.std.proofs.lemmas.Bool.Decides.{nat_tests}
 use Rattle.std.proofs.lemmas.List.{get_or-set_same, get_or-set_other, length-set}
 use Rattle.xl_model.specs.declared.leaf.Leaf.{Leaf}
 use Rattle.xl_model.specs.Addresses.{level_of}
-use Rattle.xl_model.specs.Nodes.{up, Node, is_below, in_nodes, number_of, free_count}
-use Rattle.xl_radix.specs.Image.{leaf_in, entry, slot_word, word_of}
-use Rattle.xl_radix.specs.Table.{In, IsImage, IsNearly, IsRooted}
+use Rattle.xl_model.specs.Nodes.{up, Node, is_below, in_nodes, number_of}
+use Rattle.xl_mapping.specs.Members.{In}
+use Rattle.xl_radix.specs.Image.{leaf_in, entry, word_at, word_of}
+use Rattle.xl_radix.specs.Table.{IsImage, IsNearly, IsRooted}
 use Rattle.xl_radix.specs.Steps.{Stands}
-use Rattle.xl_radix.proofs.Numbers.{node-in, number-some, number-none, number-there, number-set-any, below-some, is-below, below-is, Is}
-use Rattle.xl_radix.proofs.Ups.{up-same}
+use Rattle.xl_radix.proofs.Cases.{split-le}
+use Rattle.xl_radix.proofs.Numbers.{node-in, number-some, number-there, number-set-any, is-below, below-is, Is}
 use Rattle.xl_radix.proofs.Slots.{At, Under, leaf-in-some, leaf-in-none, in-nodes, in-nodes-leaf}
-use Rattle.xl_radix.proofs.Ends.{split-le, word-none, none-word}
-use Rattle.xl_radix.proofs.Made.{Which, That, Another, which, new_node, new-below, places, stands-is, some-same}
+use Rattle.xl_radix.proofs.Ends.{word-none, none-word}
+use Rattle.xl_radix.proofs.Made.{Which, That, Another, which, new_node, new-below, places, stands-is, some-same, other-slot, no-slot}
 
 -- Node k is below slot (s, l + 1, q), and its words are 0.
 pub record IsEmpty (s l q k : ℕ) (nodes : List (Option Node)) (words : List ℕ) : Type 0 where
@@ -35,7 +35,7 @@ nothing-in top s l q k c leaves nodes words image empty h =
     let zero-word = empty.zeros (c % 512) (omega arith) in
     let word : word_of leaves nodes (Some (new_node s l q)) (c % 512) ≡ 0 = ap (λ (o : Option Node). word_of leaves nodes o (c % 512)) (sym empty.below) ∙ sym same ∙ zero-word in
     let at : q * 512 + c % 512 ≡ c = omega arith in
-    word-none s l c leaves nodes (subst (λ (v : ℕ). slot_word leaves nodes s l v ≡ 0) at word)
+    word-none s l c leaves nodes (subst (λ (v : ℕ). word_at leaves nodes s l v ≡ 0) at word)
 
 -- So the mapping needs it no more.
 pub not-needed : (top s l q k : ℕ) (leaves : List Leaf) (nodes : List (Option Node)) (words : List ℕ) → IsImage top leaves nodes words → IsEmpty s l q k nodes words → suc l ≤ top → in_nodes s (suc l) q leaves ≡ true → ⊥
@@ -92,8 +92,8 @@ freed-keeps s l q k a b c nodes words empty not there h =
       | Another e f ↦ there (sym (freed-number-other s l q k a b c nodes words empty (plain s l q a b c e)) ∙ h)
     ]
 
-freed-word : (s l q k a b c : ℕ) (leaves : List Leaf) (nodes : List (Option Node)) (words : List ℕ) → IsEmpty s l q k nodes words → is_below a b c (Some (new_node s l q)) ≡ false → slot_word leaves (freed_nodes k nodes) a b c ≡ slot_word leaves nodes a b c
-unfolding slot_word
+freed-word : (s l q k a b c : ℕ) (leaves : List Leaf) (nodes : List (Option Node)) (words : List ℕ) → IsEmpty s l q k nodes words → is_below a b c (Some (new_node s l q)) ≡ false → word_at leaves (freed_nodes k nodes) a b c ≡ word_at leaves nodes a b c
+unfolding word_at
 freed-word s l q k a b c leaves nodes words empty f = ap (entry (leaf_in a b c leaves)) (freed-number-other s l q k a b c nodes words empty f)
 
 abbrev pub freed_words : ℕ → ℕ → List ℕ → List ℕ
@@ -105,7 +105,7 @@ freed-same top s page l k n m i leaves nodes words image at no-leaf empty h g =
     elim (freed-at s l (up (suc l) page) k m nodes words empty) [
       | inl e ↦ rw e.1 (own e.0)
       | inr e ↦ rw e.1 (elim (slice_index_or nodes m None) as (λ o. slice_index_or nodes m None ≡ o → slice_index (freed_words n (up (suc l) page % 512) words) (m * 512 + i) ≡ word_of leaves (freed_nodes k nodes) o i) [
-        | None ↦ λ f. kept (none-place f) ∙ image.same m i h g ∙ ap (λ (o : Option Node). word_of leaves nodes o i) f
+        | None ↦ λ f. kept (no-slot s page (suc l) n m i nodes at g f) ∙ image.same m i h g ∙ ap (λ (o : Option Node). word_of leaves nodes o i) f
         | Some node ↦ λ f. some node f (which s l (up (suc l) page) node.space node.level (node.prefix * 512 + i))
       ] refl)
     ]
@@ -116,12 +116,6 @@ freed-same top s page l k n m i leaves nodes words image at no-leaf empty h g =
     kept : (m * 512 + i ≢ n * 512 + up (suc l) page % 512) → slice_index (freed_words n (up (suc l) page % 512) words) (m * 512 + i) ≡ slice_index words (m * 512 + i)
     kept d = get_or-set_other words (n * 512 + up (suc l) page % 512) (m * 512 + i) 0 0 d
 
-    none-place : slice_index_or nodes m None ≡ None → m * 512 + i ≢ n * 512 + up (suc l) page % 512
-    none-place f d =
-        let p = places m n i (up (suc l) page % 512) g (omega arith) d in
-        let a : slice_index_or nodes n None ≡ None = subst (λ (v : ℕ). slice_index_or nodes v None ≡ None) p.0 f in
-        let b = stand.1 in cc
-
     levels : (a b : Node) → a ≡ b → a.level + 1 ≡ suc (suc l) → b.level ≡ l → ⊥
     levels a b e f g = let k : a.level ≡ b.level = ap (λ (v : Node). v.level) e in omega arith
 
@@ -131,7 +125,7 @@ freed-same top s page l k n m i leaves nodes words image at no-leaf empty h g =
         let c : stand.0 ≡ new_node s l (up (suc l) page) = some-same (sym stand.1 ∙ a) in
         levels stand.0 (new_node s l (up (suc l) page)) c stand.2.level_is refl) ∙ ap (λ (v : ℕ). slice_index words (v * 512 + i)) e ∙ empty.zeros i g
 
-    zero-at-slot : slot_word leaves (freed_nodes k nodes) s (suc l) (up (suc l) page) ≡ 0
+    zero-at-slot : word_at leaves (freed_nodes k nodes) s (suc l) (up (suc l) page) ≡ 0
     zero-at-slot = none-word s (suc l) (up (suc l) page) leaves (freed_nodes k nodes) no-leaf (freed-number-same top s l (up (suc l) page) k leaves nodes words image empty)
 
     that : (node : Node) → slice_index_or nodes m None ≡ Some node → node.space ≡ s → node.level ≡ suc l → node.prefix * 512 + i ≡ up (suc l) page → slice_index (freed_words n (up (suc l) page % 512) words) (m * 512 + i) ≡ 0
@@ -144,20 +138,10 @@ freed-same top s page l k n m i leaves nodes words image at no-leaf empty h g =
         let zero-word : slice_index (freed_words n (up (suc l) page % 512) words) (n * 512 + up (suc l) page % 512) ≡ 0 = get_or-set_same words (n * 512 + up (suc l) page % 512) 0 0 inside in
         subst (λ (v : ℕ). slice_index (freed_words n (up (suc l) page % 512) words) v ≡ 0) (let p : n * 512 + up (suc l) page % 512 ≡ m * 512 + i = omega (arith, e, idx) in p) zero-word
 
-    differs : (node : Node) → slice_index_or nodes m None ≡ Some node → ((node.space ≡ s) × (node.level ≡ suc l) × (node.prefix * 512 + i ≡ up (suc l) page) → ⊥) → m * 512 + i ≢ n * 512 + up (suc l) page % 512
-    differs node f not d =
-        let p = places m n i (up (suc l) page % 512) g (omega arith) d in
-        let a : slice_index_or nodes n None ≡ Some node = subst (λ (v : ℕ). slice_index_or nodes v None ≡ Some node) p.0 f in
-        let c : stand.0 ≡ node = some-same (sym stand.1 ∙ a) in
-        let i1 : node.space ≡ s = sym (ap (λ (v : Node). v.space) c) ∙ stand.2.space_is in
-        let i2 : node.level + 1 ≡ suc (suc l) = sym (ap (λ (v : Node). v.level + 1) c) ∙ stand.2.level_is in
-        let i3 : node.prefix ≡ up (suc l) page / 512 = sym (ap (λ (v : Node). v.prefix) c) ∙ stand.2.prefix_is in
-        not (i1, omega (arith, i2), omega (arith, i3, p.1))
-
-    some : (node : Node) → slice_index_or nodes m None ≡ Some node → Which s (suc l) (up (suc l) page) node.space node.level (node.prefix * 512 + i) → slice_index (freed_words n (up (suc l) page % 512) words) (m * 512 + i) ≡ slot_word leaves (freed_nodes k nodes) node.space node.level (node.prefix * 512 + i)
+    some : (node : Node) → slice_index_or nodes m None ≡ Some node → Which s (suc l) (up (suc l) page) node.space node.level (node.prefix * 512 + i) → slice_index (freed_words n (up (suc l) page % 512) words) (m * 512 + i) ≡ word_at leaves (freed_nodes k nodes) node.space node.level (node.prefix * 512 + i)
     some node f (That a b c) = that node f a b c ∙ sym (rw (a, b, c) zero-at-slot)
     some node f (Another a b) =
-        kept (differs node f b) ∙ image.same m i h g ∙ ap (λ (o : Option Node). word_of leaves nodes o i) f ∙ sym (freed-word s l (up (suc l) page) k node.space node.level (node.prefix * 512 + i) leaves nodes words empty (plain s l (up (suc l) page) node.space node.level (node.prefix * 512 + i) a))
+        kept (other-slot s page (suc l) n m i nodes node at g f b) ∙ image.same m i h g ∙ ap (λ (o : Option Node). word_of leaves nodes o i) f ∙ sym (freed-word s l (up (suc l) page) k node.space node.level (node.prefix * 512 + i) leaves nodes words empty (plain s l (up (suc l) page) node.space node.level (node.prefix * 512 + i) a))
 
 pub freed : (top s page l k n : ℕ) (leaves : List Leaf) (nodes : List (Option Node)) (words : List ℕ) → IsImage top leaves nodes words → suc l < top → Stands s page (suc l) n nodes → leaf_in s (suc l) (up (suc l) page) leaves ≡ None → IsEmpty s l (up (suc l) page) k nodes words → IsImage top leaves (freed_nodes k nodes) (freed_words n (up (suc l) page % 512) words)
 freed top s page l k n leaves nodes words image low at no-leaf empty = record {

@@ -1,6 +1,5 @@
 -- What the table's questions answer.
-use Rattle.std.proofs.Common.{ℕ, zero, suc, ◌≡◌, ◌≢◌, ◌+◌, ◌-◌, ◌*◌, ◌/◌, ◌%◌, ◌^◌, ◌<◌, ◌≤◌, ◌==◌, Bool, true, false, not, nat_le, ◌⊎◌, inl, inr, List, length, slice_index, slice_index_or, Option, Some, None, refl, ap, sym, ◌∙◌, subst, arith}
-use Rattle.std.proofs.lemmas.Bool.{cases_lt}
+use Rattle.std.proofs.Common.{ℕ, zero, suc, ◌≡◌, ◌≢◌, ◌+◌, ◌-◌, ◌*◌, ◌%◌, ◌^◌, ◌<◌, ◌≤◌, ◌==◌, Bool, true, false, not, nat_le, ◌⊎◌, inl, inr, List, slice_index_or, Option, Some, None, refl, sym, ◌∙◌, arith}
 use Rattle.std.proofs.lemmas.Bool.Decides.{nat_tests}
 use Rattle.xl_model.specs.declared.address.Order.{Order}
 use Rattle.xl_model.specs.declared.address.Order.TheVariants as order
@@ -8,21 +7,21 @@ use Rattle.xl_model.specs.declared.leaf.Leaf.{Leaf}
 use Rattle.xl_model.specs.Addresses.{level_of, pages_of}
 use Rattle.xl_model.specs.Changes.{Insert}
 use Rattle.xl_model.specs.Mapping.{leaf_at_page, meets_any, meets_block}
-use Rattle.xl_model.specs.Nodes.{up, Node, is_below, in_nodes, number_of, free_count, missing, leaf_nodes_missing}
+use Rattle.xl_model.specs.Nodes.{up, Node, number_of, free_count, missing, leaf_nodes_missing}
 use Rattle.xl_model.specs.Room.{has_room}
 use Rattle.xl_model.specs.Shapes.{Radix}
 use Rattle.xl_model.specs.Structures.{IsBlock, IsLeafFor}
+use Rattle.xl_mapping.specs.Members.{In}
 use Rattle.xl_pte.specs.Decode.{decode_of}
 use Rattle.xl_pte.specs.declared.word.Pte.{Pte}
-use Rattle.xl_radix.specs.Image.{leaf_in, slot_word}
+use Rattle.xl_mapping.proofs.Members.{any-false}
+use Rattle.xl_radix.specs.Image.{leaf_in}
 use Rattle.xl_radix.specs.ReadBack.{order_of, leaf_said}
-use Rattle.xl_radix.specs.Table.{Table, In, IsProper, IsNew, IsMapping, IsImage, IsExact, IsStore}
-use Rattle.xl_radix.specs.Steps.{Stands, IsEnd, shape_of}
-use Rattle.xl_radix.proofs.Lists.{none-any}
-use Rattle.xl_radix.proofs.Numbers.{number-some}
+use Rattle.xl_radix.specs.Table.{Table, IsNew, IsStore}
+use Rattle.xl_radix.specs.Steps.{IsEnd, shape_of}
 use Rattle.xl_radix.proofs.Ups.{up-top}
 use Rattle.xl_radix.proofs.Meets.{Met, meets}
-use Rattle.xl_radix.proofs.Slots.{Says, says, pointer-low}
+use Rattle.xl_radix.proofs.Slots.{pointer-low}
 use Rattle.xl_radix.proofs.Ends.{IsTable, found-at, found-none, no-leaf-meets, a-leaf-meets}
 use Rattle.xl_radix.proofs.Backs.{said-is}
 use Rattle.xl_radix.proofs.Steps.{read-word, read-says}
@@ -114,7 +113,7 @@ is-new top spaces x leaves nodes words used store valid free =
     never : (y : Leaf) → In y leaves → up (level_of x.order) x.first * pages_of x.order ≡ x.first → Met x.space x.first (level_of x.order) y → ⊥
     never y i aligned m =
         let t = meets x.space x.first x.order y (store.mapping.proper y i).aligned aligned m in
-        let f = none-any (meets_block x.space x.first x.order) leaves y free i in cc
+        let f = any-false (meets_block x.space x.first x.order) y leaves free i in cc
 
 pub room-is : (levels k : ℕ) (x : Leaf) (t : Table) (b : Bool) → missing x.space x.first (level_of x.order) (levels - 1 - level_of x.order) t.nodes ≡ k → nat_le k (free_count t.nodes) ≡ b → has_room (Insert x) t.leaves (shape_of levels t) ≡ b
 unfolding has_room leaf_nodes_missing

@@ -1,17 +1,17 @@
 -- A node is made below an empty slot.
-use Rattle.std.proofs.Common.{ℕ, zero, suc, ◌≡◌, ◌≢◌, ◌+◌, ◌-◌, ◌*◌, ◌/◌, ◌%◌, ◌^◌, ◌<◌, ◌≤◌, ◌==◌, Bool, true, false, ◌&&◌, ◌⊎◌, inl, inr, List, length, slice_index, slice_index_or, slice_set, Option, Some, None, refl, ap, sym, ◌∙◌, subst, arith}
-use Rattle.std.proofs.lemmas.Bool.{cases_lt}
+use Rattle.std.proofs.Common.{ℕ, suc, ◌≡◌, ◌≢◌, ◌+◌, ◌-◌, ◌*◌, ◌/◌, ◌%◌, ◌<◌, ◌≤◌, ◌==◌, true, false, ◌⊎◌, inl, inr, List, length, slice_index, slice_index_or, slice_set, Option, Some, None, refl, ap, sym, ◌∙◌, subst, arith}
 use Rattle.std.proofs.lemmas.Bool.Decides.{nat_tests}
 use Rattle.std.proofs.lemmas.List.{get_or-set_same, get_or-set_other, length-set}
 use Rattle.xl_model.specs.declared.leaf.Leaf.{Leaf}
 use Rattle.xl_model.specs.Addresses.{level_of}
 use Rattle.xl_model.specs.Words.{pointer_word}
-use Rattle.xl_model.specs.Nodes.{up, Node, is_below, in_nodes, number_of, with_node, unless_there, put_first}
-use Rattle.xl_radix.specs.Image.{leaf_in, entry, slot_word, word_of}
-use Rattle.xl_radix.specs.Table.{In, IsImage, IsNearly, IsRooted}
+use Rattle.xl_model.specs.Nodes.{up, Node, is_below, in_nodes, number_of}
+use Rattle.xl_mapping.specs.Members.{In}
+use Rattle.xl_radix.specs.Image.{leaf_in, entry, word_at, word_of}
+use Rattle.xl_radix.specs.Table.{IsImage, IsNearly, IsRooted}
 use Rattle.xl_radix.specs.Steps.{Stands}
-use Rattle.xl_radix.proofs.Numbers.{node-in, number-some, number-none, number-there, number-set-other, number-only, below-some, is-below, below-is, Is}
-use Rattle.xl_radix.proofs.Slots.{At, Under, leaf-in-some, in-nodes}
+use Rattle.xl_radix.proofs.Numbers.{number-some, number-none, number-there, number-set-other, number-only, below-some, is-below, below-is, Is}
+use Rattle.xl_radix.proofs.Slots.{At, leaf-in-some, in-nodes}
 
 -- The node below slot (s, l + 1, q).
 abbrev pub new_node : ℕ → ℕ → ℕ → Node
@@ -81,8 +81,8 @@ made-keeps s l q k a b c leaves nodes spot there h =
     plain e = let h : suc l - 1 ≡ l = omega arith in rw h at e
 
 -- the words of the new node are 0
-pub made-empty : (top s l q k i : ℕ) (leaves : List Leaf) (nodes : List (Option Node)) (words : List ℕ) → IsImage top leaves nodes words → suc l ≤ top → IsSpot s l q k leaves nodes → i < 512 → slot_word leaves (made_nodes s l q k nodes) s l (q * 512 + i) ≡ 0
-unfolding slot_word
+pub made-empty : (top s l q k i : ℕ) (leaves : List Leaf) (nodes : List (Option Node)) (words : List ℕ) → IsImage top leaves nodes words → suc l ≤ top → IsSpot s l q k leaves nodes → i < 512 → word_at leaves (made_nodes s l q k nodes) s l (q * 512 + i) ≡ 0
+unfolding word_at
 made-empty top s l q k i leaves nodes words image low spot h =
     rw (no-leaf, no-node) refl
   where
@@ -117,12 +117,12 @@ made-empty top s l q k i leaves nodes words image low spot h =
     ] refl
 
 -- The word of a slot other than that of the new node stays.
-pub made-word : (s l q k a b c : ℕ) (leaves : List Leaf) (nodes : List (Option Node)) → IsSpot s l q k leaves nodes → is_below a b c (Some (new_node s l q)) ≡ false → slot_word leaves (made_nodes s l q k nodes) a b c ≡ slot_word leaves nodes a b c
-unfolding slot_word
+pub made-word : (s l q k a b c : ℕ) (leaves : List Leaf) (nodes : List (Option Node)) → IsSpot s l q k leaves nodes → is_below a b c (Some (new_node s l q)) ≡ false → word_at leaves (made_nodes s l q k nodes) a b c ≡ word_at leaves nodes a b c
+unfolding word_at
 made-word s l q k a b c leaves nodes spot f = ap (entry (leaf_in a b c leaves)) (made-number-other s l q k a b c leaves nodes spot f)
 
-pub made-pointer : (s l q k : ℕ) (leaves : List Leaf) (nodes : List (Option Node)) → IsSpot s l q k leaves nodes → slot_word leaves (made_nodes s l q k nodes) s (suc l) q ≡ pointer_word k
-unfolding slot_word
+pub made-pointer : (s l q k : ℕ) (leaves : List Leaf) (nodes : List (Option Node)) → IsSpot s l q k leaves nodes → word_at leaves (made_nodes s l q k nodes) s (suc l) q ≡ pointer_word k
+unfolding word_at
 made-pointer s l q k leaves nodes spot = rw (spot.empty, made-number-same s l q k leaves nodes spot) refl
 
 abbrev pub made_words : ℕ → ℕ → ℕ → List ℕ → List ℕ
@@ -139,13 +139,32 @@ some-same e = cc
 pub places : (n m i j : ℕ) → i < 512 → j < 512 → n * 512 + i ≡ m * 512 + j → (n ≡ m) × (i ≡ j)
 places n m i j h g e = (omega arith, omega arith)
 
+-- The place of a page's word in the node that stands there is no other slot's, and no place of a free number.
+pub other-slot : (s page l n m i : ℕ) (nodes : List (Option Node)) (node : Node) → Stands s page l n nodes → i < 512 → slice_index_or nodes m None ≡ Some node → ((node.space ≡ s) × (node.level ≡ l) × (node.prefix * 512 + i ≡ up l page) → ⊥) → m * 512 + i ≢ n * 512 + up l page % 512
+other-slot s page l n m i nodes node at g f not d =
+    let stand = stands-is s page l n nodes at in
+    let p = places m n i (up l page % 512) g (omega arith) d in
+    let a : slice_index_or nodes n None ≡ Some node = subst (λ (v : ℕ). slice_index_or nodes v None ≡ Some node) p.0 f in
+    let c : stand.0 ≡ node = some-same (sym stand.1 ∙ a) in
+    let i1 : node.space ≡ s = sym (ap (λ (v : Node). v.space) c) ∙ stand.2.space_is in
+    let i2 : node.level + 1 ≡ suc l = sym (ap (λ (v : Node). v.level + 1) c) ∙ stand.2.level_is in
+    let i3 : node.prefix ≡ up l page / 512 = sym (ap (λ (v : Node). v.prefix) c) ∙ stand.2.prefix_is in
+    not (i1, omega (arith, i2), omega (arith, i3, p.1))
+
+pub no-slot : (s page l n m i : ℕ) (nodes : List (Option Node)) → Stands s page l n nodes → i < 512 → slice_index_or nodes m None ≡ None → m * 512 + i ≢ n * 512 + up l page % 512
+no-slot s page l n m i nodes at g f d =
+    let stand = stands-is s page l n nodes at in
+    let p = places m n i (up l page % 512) g (omega arith) d in
+    let a : slice_index_or nodes n None ≡ None = subst (λ (v : ℕ). slice_index_or nodes v None ≡ None) p.0 f in
+    let b = stand.1 in cc
+
 pub made-same : (top s page l k n m i : ℕ) (leaves : List Leaf) (nodes : List (Option Node)) (words : List ℕ) → IsImage top leaves nodes words → suc l < top → Stands s page (suc l) n nodes → IsSpot s l (up (suc l) page) k leaves nodes → m < length nodes → i < 512 →
     slice_index (made_words n (up (suc l) page % 512) k words) (m * 512 + i) ≡ word_of leaves (made_nodes s l (up (suc l) page) k nodes) (slice_index_or (made_nodes s l (up (suc l) page) k nodes) m None) i
 made-same top s page l k n m i leaves nodes words image low at spot h g =
     elim (made-at s l q k m leaves nodes spot) [
       | inl e ↦ rw e.1 (kept (new-place e.0) ∙ image.same m i h g ∙ ap (λ (o : Option Node). word_of leaves nodes o i) (subst (λ (v : ℕ). slice_index_or nodes v None ≡ None) (sym e.0) spot.free) ∙ sym (made-empty top s l q k i leaves nodes words image (omega arith) spot g))
       | inr e ↦ rw e.1 (elim (slice_index_or nodes m None) as (λ o. slice_index_or nodes m None ≡ o → slice_index (made_words n (q % 512) k words) (m * 512 + i) ≡ word_of leaves (made_nodes s l q k nodes) o i) [
-        | None ↦ λ f. kept (none-place f) ∙ image.same m i h g ∙ ap (λ (o : Option Node). word_of leaves nodes o i) f
+        | None ↦ λ f. kept (no-slot s page (suc l) n m i nodes at g f) ∙ image.same m i h g ∙ ap (λ (o : Option Node). word_of leaves nodes o i) f
         | Some node ↦ λ f. some node f (which s l q node.space node.level (node.prefix * 512 + i))
       ] refl)
     ]
@@ -153,23 +172,11 @@ made-same top s page l k n m i leaves nodes words image low at spot h g =
     q : ℕ
     q = up (suc l) page
 
-    stand : (node : Node) × (slice_index_or nodes n None ≡ Some node) × Is s (suc (suc l)) (up (suc (suc l)) page) node
-    stand = stands-is s page (suc l) n nodes at
-
     kept : (m * 512 + i ≢ n * 512 + up (suc l) page % 512) → slice_index (made_words n (up (suc l) page % 512) k words) (m * 512 + i) ≡ slice_index words (m * 512 + i)
     kept d = get_or-set_other words (n * 512 + up (suc l) page % 512) (m * 512 + i) (pointer_word k) 0 d
 
     new-place : m ≡ k → m * 512 + i ≢ n * 512 + up (suc l) page % 512
-    new-place e d =
-        let p = places m n i (up (suc l) page % 512) g (omega arith) d in
-        let a : slice_index_or nodes n None ≡ None = subst (λ (v : ℕ). slice_index_or nodes v None ≡ None) (sym e ∙ p.0) spot.free in
-        let b = stand.1 in cc
-
-    none-place : slice_index_or nodes m None ≡ None → m * 512 + i ≢ n * 512 + up (suc l) page % 512
-    none-place f d =
-        let p = places m n i (up (suc l) page % 512) g (omega arith) d in
-        let a : slice_index_or nodes n None ≡ None = subst (λ (v : ℕ). slice_index_or nodes v None ≡ None) p.0 f in
-        let b = stand.1 in cc
+    new-place e = no-slot s page (suc l) n m i nodes at g (subst (λ (v : ℕ). slice_index_or nodes v None ≡ None) (sym e) spot.free)
 
     that : (node : Node) → slice_index_or nodes m None ≡ Some node → node.space ≡ s → node.level ≡ suc l → node.prefix * 512 + i ≡ up (suc l) page → slice_index (made_words n (up (suc l) page % 512) k words) (m * 512 + i) ≡ pointer_word k
     that node f a b c =
@@ -180,23 +187,13 @@ made-same top s page l k n m i leaves nodes words image low at spot h g =
         let inside : n * 512 + up (suc l) page % 512 < length words = omega (arith, image.size, e) in
         rw (e, idx) (get_or-set_same words (n * 512 + up (suc l) page % 512) (pointer_word k) 0 inside)
 
-    differs : (node : Node) → slice_index_or nodes m None ≡ Some node → ((node.space ≡ s) × (node.level ≡ suc l) × (node.prefix * 512 + i ≡ up (suc l) page) → ⊥) → m * 512 + i ≢ n * 512 + up (suc l) page % 512
-    differs node f not d =
-        let p = places m n i (up (suc l) page % 512) g (omega arith) d in
-        let a : slice_index_or nodes n None ≡ Some node = subst (λ (v : ℕ). slice_index_or nodes v None ≡ Some node) p.0 f in
-        let c : stand.0 ≡ node = some-same (sym stand.1 ∙ a) in
-        let i1 : node.space ≡ s = sym (ap (λ (v : Node). v.space) c) ∙ stand.2.space_is in
-        let i2 : node.level + 1 ≡ suc (suc l) = sym (ap (λ (v : Node). v.level + 1) c) ∙ stand.2.level_is in
-        let i3 : node.prefix ≡ up (suc l) page / 512 = sym (ap (λ (v : Node). v.prefix) c) ∙ stand.2.prefix_is in
-        not (i1, omega (arith, i2), omega (arith, i3, p.1))
-
     plain : (a b c : ℕ) → is_below a b c (Some (new_node s (suc l - 1) (up (suc l) page))) ≡ false → is_below a b c (Some (new_node s l (up (suc l) page))) ≡ false
     plain a b c e = let h : suc l - 1 ≡ l = omega arith in rw h at e
 
-    some : (node : Node) → slice_index_or nodes m None ≡ Some node → Which s (suc l) (up (suc l) page) node.space node.level (node.prefix * 512 + i) → slice_index (made_words n (up (suc l) page % 512) k words) (m * 512 + i) ≡ slot_word leaves (made_nodes s l (up (suc l) page) k nodes) node.space node.level (node.prefix * 512 + i)
+    some : (node : Node) → slice_index_or nodes m None ≡ Some node → Which s (suc l) (up (suc l) page) node.space node.level (node.prefix * 512 + i) → slice_index (made_words n (up (suc l) page % 512) k words) (m * 512 + i) ≡ word_at leaves (made_nodes s l (up (suc l) page) k nodes) node.space node.level (node.prefix * 512 + i)
     some node f (That a b c) = that node f a b c ∙ sym (rw (a, b, c) (made-pointer s l (up (suc l) page) k leaves nodes spot))
     some node f (Another a b) =
-        kept (differs node f b) ∙ image.same m i h g ∙ ap (λ (o : Option Node). word_of leaves nodes o i) f ∙ sym (made-word s l (up (suc l) page) k node.space node.level (node.prefix * 512 + i) leaves nodes spot (plain node.space node.level (node.prefix * 512 + i) a))
+        kept (other-slot s page (suc l) n m i nodes node at g f b) ∙ image.same m i h g ∙ ap (λ (o : Option Node). word_of leaves nodes o i) f ∙ sym (made-word s l (up (suc l) page) k node.space node.level (node.prefix * 512 + i) leaves nodes spot (plain node.space node.level (node.prefix * 512 + i) a))
 
 pub made : (top s page l k n : ℕ) (leaves : List Leaf) (nodes : List (Option Node)) (words : List ℕ) → IsImage top leaves nodes words → suc l < top → Stands s page (suc l) n nodes → IsSpot s l (up (suc l) page) k leaves nodes → IsImage top leaves (made_nodes s l (up (suc l) page) k nodes) (made_words n (up (suc l) page % 512) k words)
 made top s page l k n leaves nodes words image low at spot = record {

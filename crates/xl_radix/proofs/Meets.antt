@@ -1,5 +1,5 @@
 -- Blocks of pages that meet.
-use Rattle.std.proofs.Common.{ℕ, zero, suc, ◌≡◌, ◌+◌, ◌-◌, ◌*◌, ◌/◌, ◌%◌, ◌^◌, ◌<◌, ◌≤◌, ◌==◌, Bool, true, false, ◌&&◌, nat_lt, nat_le, ◌⊎◌, inl, inr, refl, ap, sym, ◌∙◌, subst, arith}
+use Rattle.std.proofs.Common.{ℕ, ◌≡◌, ◌+◌, ◌*◌, ◌≤◌, ◌==◌, Bool, true, false, ◌&&◌, nat_lt, nat_le, ◌⊎◌, inl, inr, refl, sym, arith}
 use Rattle.std.proofs.lemmas.Bool.Decides.{nat_tests}
 use Rattle.xl_model.specs.declared.address.Order.{Order}
 use Rattle.xl_model.specs.declared.address.Order.TheVariants as order
@@ -7,8 +7,8 @@ use Rattle.xl_model.specs.declared.leaf.Leaf.{Leaf}
 use Rattle.xl_model.specs.Addresses.{level_of, pages_of}
 use Rattle.xl_model.specs.Mapping.{meets_block, covers}
 use Rattle.xl_model.specs.Nodes.{up}
-use Rattle.xl_radix.specs.Table.{IsProper}
-use Rattle.xl_radix.proofs.Ups.{up-same, covers-up, up-covers}
+use Rattle.xl_radix.proofs.Cases.{same-number, number-same}
+use Rattle.xl_radix.proofs.Ups.{covers-up, up-covers}
 
 abbrev pub Overlap : ℕ → ℕ → ℕ → ℕ → Type 0
 Overlap l first m page = ((l ≤ m) × (up m first ≡ up m page)) ⊎ ((m ≤ l) × (up l first ≡ up l page))
@@ -53,12 +53,6 @@ and-true false b h = cc
 
 both-true : (a b : Bool) → a ≡ true → b ≡ true → (a && b) ≡ true
 both-true a b e f = rw (e, f) refl
-
-same-number : (a b : ℕ) → (a == b) ≡ true → a ≡ b
-same-number a b h = grind (arith, nat_tests)
-
-number-same : (a b : ℕ) → a ≡ b → (a == b) ≡ true
-number-same a b h = grind (arith, nat_tests)
 
 -- What it means that a leaf meets a block.
 pub record Met (space at : ℕ) (level : ℕ) (leaf : Leaf) : Type 0 where

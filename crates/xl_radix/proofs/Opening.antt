@@ -1,13 +1,12 @@
 -- A table that is opened.
-use Rattle.std.proofs.Common.{ℕ, zero, suc, ◌≡◌, ◌≢◌, ◌+◌, ◌-◌, ◌*◌, ◌/◌, ◌%◌, ◌^◌, ◌<◌, ◌≤◌, ◌==◌, Bool, true, false, ◌⊎◌, inl, inr, List, [], ◌∷◌, ◌++◌, length, replicate, slice_index, slice_index_or, Option, Some, None, refl, ap, sym, ◌∙◌, subst, append_assoc, length-append, arith}
+use Rattle.std.proofs.Common.{ℕ, zero, suc, ◌≡◌, ◌+◌, ◌-◌, ◌*◌, ◌<◌, ◌≤◌, Bool, true, false, inl, inr, List, [], ◌∷◌, ◌++◌, length, replicate, slice_index, slice_index_or, Option, Some, None, refl, ap, sym, ◌∙◌, subst, append_assoc, length-append, arith}
 use Rattle.std.proofs.lemmas.Bool.{cases_lt}
 use Rattle.std.proofs.lemmas.List.{get_or-replicate, get_or_past, length-replicate}
-use Rattle.xl_model.specs.declared.leaf.Leaf.{Leaf}
-use Rattle.xl_model.specs.Nodes.{up, Node, is_below, in_nodes, number_of, free_count, roots, opening_nodes}
-use Rattle.xl_radix.specs.Image.{leaf_in, slot_word, word_of}
+use Rattle.xl_model.specs.Nodes.{Node, is_below, in_nodes, number_of, free_count, roots, opening_nodes}
+use Rattle.xl_radix.specs.Image.{leaf_in, word_of}
 use Rattle.xl_radix.specs.ReadBack.{read_back}
-use Rattle.xl_radix.specs.Table.{In, filled, IsMapping, IsImage, IsExact, IsCounted, IsRooted, IsStore}
-use Rattle.xl_radix.proofs.Numbers.{number-some, number-none, below-some, below-is, is-below, node-in}
+use Rattle.xl_radix.specs.Table.{filled, IsImage, IsExact, IsCounted, IsStore}
+use Rattle.xl_radix.proofs.Numbers.{number-some, below-some, is-below}
 use Rattle.xl_radix.proofs.Ends.{none-word}
 use Rattle.xl_radix.proofs.Backs.{reads-back}
 use Rattle.xl_radix.proofs.Counts.{filled-nothing}

@@ -1,8 +1,7 @@
 -- The nodes of a page's path.
-use Rattle.std.proofs.Common.{ℕ, zero, suc, ◌≡◌, ◌≢◌, ◌+◌, ◌-◌, ◌*◌, ◌/◌, ◌%◌, ◌^◌, ◌<◌, ◌≤◌, ◌==◌, Bool, true, false, ◌⊎◌, inl, inr, List, length, slice_index, slice_index_or, slice_set, Option, Some, None, refl, ap, sym, ◌∙◌, subst, arith}
-use Rattle.std.proofs.lemmas.Bool.{cases_lt}
+use Rattle.std.proofs.Common.{ℕ, zero, suc, ◌≡◌, ◌+◌, ◌-◌, ◌<◌, ◌≤◌, ◌⊎◌, inl, inr, List, Option, Some, None, refl, ap, ◌∙◌, arith}
 use Rattle.xl_model.specs.declared.leaf.Leaf.{Leaf}
-use Rattle.xl_model.specs.Nodes.{up, Node, is_below, number_of, put_first, unless_there, with_node, with_path, one_unless, missing}
+use Rattle.xl_model.specs.Nodes.{up, Node, number_of, put_first, unless_there, with_node, with_path, one_unless, missing}
 use Rattle.xl_radix.specs.Table.{IsImage, IsStore}
 use Rattle.xl_radix.specs.Steps.{Stands, IsEnd}
 use Rattle.xl_radix.proofs.Numbers.{number-some}

@@ -1,28 +1,30 @@
 -- Steps of a removal.
-use Rattle.std.proofs.Common.{ℕ, zero, suc, ◌≡◌, ◌≢◌, ◌+◌, ◌-◌, ◌*◌, ◌/◌, ◌%◌, ◌^◌, ◌<◌, ◌≤◌, ◌==◌, Bool, true, false, ◌⊎◌, inl, inr, List, [], ◌∷◌, length, slice_index, slice_index_or, slice_set, Option, Some, None, refl, ap, sym, ◌∙◌, subst, arith}
+use Rattle.std.proofs.Common.{ℕ, zero, suc, ◌≡◌, ◌≢◌, ◌+◌, ◌-◌, ◌*◌, ◌%◌, ◌<◌, ◌≤◌, true, false, ◌⊎◌, inl, inr, List, [], ◌∷◌, length, slice_index, slice_index_or, slice_set, Option, Some, None, refl, ap, sym, ◌∙◌, subst, arith}
 use Rattle.std.specs.Prelude.{is_some}
 use Rattle.std.proofs.lemmas.Bool.{cases_lt}
-use Rattle.std.proofs.lemmas.Bool.Decides.{nat_tests}
 use Rattle.std.proofs.lemmas.Grind.{get_or_default_zero}
 use Rattle.std.proofs.lemmas.List.{length-set}
 use Rattle.xl_model.specs.declared.address.Order.{Order}
 use Rattle.xl_model.specs.declared.leaf.Leaf.{Leaf}
-use Rattle.xl_model.specs.Addresses.{level_of, pages_of}
+use Rattle.xl_model.specs.Addresses.{level_of}
 use Rattle.xl_model.specs.Changes.{IsNamed}
-use Rattle.xl_model.specs.Mapping.{without_leaf, leaf_named, is_leaf}
+use Rattle.xl_model.specs.Mapping.{without_leaf, leaf_named}
 use Rattle.xl_model.specs.Words.{leaf_word, pointer_word}
-use Rattle.xl_model.specs.Nodes.{up, Node, is_below, in_nodes, number_of, free_count}
-use Rattle.xl_radix.specs.Image.{leaf_in, entry, slot_word}
+use Rattle.xl_model.specs.Nodes.{up, Node, number_of, free_count}
+use Rattle.xl_mapping.specs.Members.{In}
+use Rattle.xl_mapping.proofs.Kept.{named-In, named-is}
+use Rattle.xl_mapping.proofs.Places.{named-space, named-first, named-order}
+use Rattle.xl_radix.specs.Image.{leaf_in, word_at}
 use Rattle.xl_radix.specs.ReadBack.{read_back}
-use Rattle.xl_radix.specs.Table.{In, filled, IsMapping, IsImage, IsNearly, IsExact, IsCounted, IsRooted, IsStore}
-use Rattle.xl_radix.specs.Steps.{Stands, IsLess, IsTaken}
-use Rattle.xl_radix.proofs.Lists.{find-in}
-use Rattle.xl_radix.proofs.Numbers.{node-in, number-some, number-none, number-there, number-only, below-some, is-below, below-is, Is}
-use Rattle.xl_radix.proofs.Slots.{At, Under, stands-word, in-nodes}
-use Rattle.xl_radix.proofs.Ends.{not-both, word-none}
-use Rattle.xl_radix.proofs.Made.{new_node, new-below}
+use Rattle.xl_radix.specs.Table.{filled, IsNearly, IsExact, IsCounted, IsStore}
+use Rattle.xl_radix.specs.Steps.{Stands, IsTaken}
+use Rattle.xl_radix.proofs.Numbers.{node-in, number-only, below-some, below-is}
+use Rattle.xl_radix.proofs.Slots.{stands-word}
+use Rattle.xl_radix.proofs.Ends.{not-both}
+use Rattle.xl_radix.proofs.Made.{new_node}
 use Rattle.xl_radix.proofs.Backs.{reads-back, own-slot}
 use Rattle.xl_radix.proofs.Counts.{counted-less, filled-zeros}
+use Rattle.xl_radix.proofs.Steps.{recounted}
 use Rattle.xl_radix.proofs.Unplaced.{IsHeld, unplaced, unplaced-mapping, unplaced-nearly, unplaced_words}
 use Rattle.xl_radix.proofs.Freed.{IsEmpty, node-is, freed, freed-at, freed-rooted, freed-nearly, freed_nodes, freed_words}
 
@@ -33,15 +35,11 @@ pub record Named (s f l : ℕ) (x : Leaf) (leaves : List Leaf) : Type 0 where
   pub first_is : x.first ≡ f
   pub level_is : level_of x.order ≡ l
 
-leaf-is : (s f : ℕ) (o : Order) (x : Leaf) → is_leaf s f o x ≡ true → (x.space ≡ s) × (x.first ≡ f) × (level_of x.order ≡ level_of o)
-leaf-is s f o x h = (grind (arith, nat_tests), grind (arith, nat_tests), grind (arith, nat_tests))
-
 pub named : (s f : ℕ) (o : Order) (leaves : List Leaf) → IsNamed s f o leaves → (x : Leaf) × Named s f (level_of o) x leaves
-unfolding leaf_named
 named s f o leaves h =
     elim (leaf_named s f o leaves) as (λ r. leaf_named s f o leaves ≡ r → is_some r ≡ true → (x : Leaf) × Named s f (level_of o) x leaves) [
       | None ↦ λ e g. absurd (no g)
-      | Some x ↦ λ e g. let r = find-in (is_leaf s f o) leaves x e in let i = leaf-is s f o x r.1 in (x, record { there = r.0; space_is = i.0; first_is = i.1; level_is = i.2 })
+      | Some x ↦ λ e g. let is = named-is s f o x leaves e in (x, record { there = named-In s f o x leaves e; space_is = named-space s f o x is; first_is = named-first s f o x is; level_is = ap level_of (named-order s f o x is) })
     ] refl h
   where
     no : false ≡ true → ⊥
@@ -53,8 +51,8 @@ pub record ClearStep (top spaces s f l u : ℕ) (leaves : List Leaf) (nodes : Li
   pub nearly : IsNearly top s f l (without_leaf s f leaves) nodes
   pub some : 0 < u
 
-leaf-filled : (s l q : ℕ) (x : Leaf) (leaves : List Leaf) (nodes : List (Option Node)) → leaf_in s l q leaves ≡ Some x → slot_word leaves nodes s l q ≢ 0
-unfolding slot_word leaf_word
+leaf-filled : (s l q : ℕ) (x : Leaf) (leaves : List Leaf) (nodes : List (Option Node)) → leaf_in s l q leaves ≡ Some x → word_at leaves nodes s l q ≢ 0
+unfolding word_at leaf_word
 leaf-filled s l q x leaves nodes e f = let g = rw e at f in omega (arith, g)
 
 filled-count : (size n i u : ℕ) (nodes : List (Option Node)) (words used : List ℕ) → IsCounted nodes words used → size ≡ 512 → n < length nodes → i < size → slice_index words (n * 512 + i) ≢ 0 → u ≡ slice_index used n → 0 < u
@@ -129,11 +127,8 @@ freed-count (Some y ∷ nodes) zero x h = refl
 freed-count (None ∷ nodes) (suc k) x h = let e = freed-count nodes k x h in omega arith
 freed-count (Some y ∷ nodes) (suc k) x h = freed-count nodes k x h
 
-recounted : (nodes new : List (Option Node)) (words used : List ℕ) → length new ≡ length nodes → IsCounted nodes words used → IsCounted new words used
-recounted nodes new words used e c = record { places = c.places ∙ sym e; each = λ n h. c.each n (omega arith) }
-
-pointer-filled : (s l q k : ℕ) (leaves : List Leaf) (nodes : List (Option Node)) → leaf_in s l q leaves ≡ None → number_of s l q nodes ≡ Some k → slot_word leaves nodes s l q ≢ 0
-unfolding slot_word pointer_word
+pointer-filled : (s l q k : ℕ) (leaves : List Leaf) (nodes : List (Option Node)) → leaf_in s l q leaves ≡ None → number_of s l q nodes ≡ Some k → word_at leaves nodes s l q ≢ 0
+unfolding word_at pointer_word
 pointer-filled s l q k leaves nodes e f g = let h = rw (e, f) at g in omega (arith, h)
 
 release-core : (top spaces s page l n k : ℕ) (leaves : List Leaf) (nodes : List (Option Node)) (words used : List ℕ) → IsStore top spaces leaves nodes words used → suc l < top → Stands s page (suc l) n nodes → Stands s page l k nodes → leaf_in s (suc l) (up (suc l) page) leaves ≡ None → slice_index used k ≡ 0 →

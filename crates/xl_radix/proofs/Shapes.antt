@@ -1,11 +1,11 @@
 -- The shape after a leaf was added: each node is one that the leaves need, so none is dropped.
-use Rattle.std.proofs.Common.{ℕ, zero, suc, ◌≡◌, ◌+◌, ◌-◌, ◌==◌, Bool, true, false, ◌&&◌, ◌||◌, cond, List, [], ◌∷◌, map, Option, None, Some, slice_index_or, ◌⊎◌, inl, inr, refl, ap, sym, ◌∙◌, subst, arith}
+use Rattle.std.proofs.Common.{ℕ, suc, ◌≡◌, ◌+◌, ◌==◌, Bool, true, false, ◌||◌, List, [], ◌∷◌, map, Option, None, Some, slice_index_or, ◌⊎◌, inl, inr, refl, ap, sym, subst, arith}
 use Rattle.std.proofs.lemmas.Bool.Decides.{nat_tests}
 use Rattle.xl_model.specs.declared.leaf.Leaf.{Leaf}
 use Rattle.xl_model.specs.Mapping.{with_leaf}
 use Rattle.xl_model.specs.Changes.{Insert, changed}
 use Rattle.xl_model.specs.Nodes.{Node, is_below, in_nodes, is_needed, kept_node, only_needed, with_leaf_nodes}
-use Rattle.xl_model.specs.Shapes.{Shape, Radix, shape_after}
+use Rattle.xl_model.specs.Shapes.{Radix, shape_after}
 use Rattle.xl_radix.specs.Table.{IsExact}
 
 same : (n : ℕ) → (n == n) ≡ true

@@ -1,21 +1,20 @@
 -- What the slots of a table say.
-use Rattle.std.proofs.Common.{ℕ, zero, suc, ◌≡◌, ◌+◌, ◌-◌, ◌*◌, ◌/◌, ◌%◌, ◌^◌, ◌<◌, ◌≤◌, ◌==◌, Bool, true, false, ◌&&◌, nat_lt, nat_le, ◌⊎◌, inl, inr, List, length, slice_index, slice_index_or, Option, Some, None, refl, ap, sym, ◌∙◌, subst, arith}
+use Rattle.std.proofs.Common.{ℕ, zero, suc, ◌≡◌, ◌+◌, ◌*◌, ◌%◌, ◌^◌, ◌<◌, ◌≤◌, true, List, length, slice_index, Option, Some, None, refl, ap, ◌∙◌, subst, arith}
 use Rattle.std.proofs.lemmas.Bool.Decides.{nat_tests}
 use Rattle.xl_model.specs.declared.leaf.Leaf.{Leaf}
-use Rattle.xl_model.specs.Addresses.{level_of, pages_of}
+use Rattle.xl_model.specs.Addresses.{level_of}
 use Rattle.xl_model.specs.Words.{leaf_word, pointer_word}
-use Rattle.xl_model.specs.Nodes.{up, Node, is_below, is_under, in_nodes, number_of}
+use Rattle.xl_model.specs.Nodes.{up, Node, is_under, in_nodes, number_of}
+use Rattle.xl_mapping.specs.Members.{In}
 use Rattle.xl_pte.specs.Decode.{decode_of}
 use Rattle.xl_pte.specs.declared.word.Pte.{Pte}
 use Rattle.xl_pte.specs.declared.word.Pte.TheVariants as pte
 use Rattle.xl_pte.proofs.Bits.{decode-made-leaf, decode-made-pointer}
-use Rattle.xl_radix.specs.Image.{is_slot, leaf_in, entry, slot_word, word_of}
-use Rattle.xl_radix.specs.Table.{In, IsMapping, IsProper, IsImage, IsExact, IsStore, IsRooted}
+use Rattle.xl_mapping.proofs.Members.{find-In, find-passes, find-None, any-In, In-any}
+use Rattle.xl_radix.specs.Image.{is_slot, leaf_in, entry, word_at, word_of}
+use Rattle.xl_radix.specs.Table.{IsRadixMapping, IsImage}
 use Rattle.xl_radix.specs.Steps.{Stands}
-use Rattle.xl_radix.proofs.Lists.{find-in, find-none, any-in, in-any, none-any}
-use Rattle.xl_radix.proofs.Numbers.{node-in, number-some, number-none, number-there, below-some, is-below, below-is, Is}
-use Rattle.xl_radix.proofs.Ups.{up-same, level-low}
-use Rattle.xl_radix.proofs.Meets.{Overlap, Met}
+use Rattle.xl_radix.proofs.Numbers.{node-in, number-some, below-some, Is}
 
 -- A leaf at a slot.
 pub record At (space l block : ℕ) (leaf : Leaf) : Type 0 where
@@ -51,19 +50,19 @@ is-under s l q x h = let a = h.space_is in let b = h.level_in in let c = h.block
 
 pub leaf-in-some : (s l q : ℕ) (leaves : List Leaf) (x : Leaf) → leaf_in s l q leaves ≡ Some x → In x leaves × At s l q x
 unfolding leaf_in
-leaf-in-some s l q leaves x h = let r = find-in (is_slot s l q) leaves x h in (r.0, slot-at s l q x r.1)
+leaf-in-some s l q leaves x h = (find-In (is_slot s l q) x leaves h, slot-at s l q x (find-passes (is_slot s l q) x leaves h))
 
 pub leaf-in-none : (s l q : ℕ) (leaves : List Leaf) (x : Leaf) → leaf_in s l q leaves ≡ None → In x leaves → At s l q x → ⊥
 unfolding leaf_in
-leaf-in-none s l q leaves x h i a = let f = find-none (is_slot s l q) leaves x h i in let t = at-slot s l q x a in cc
+leaf-in-none s l q leaves x h i a = let f = find-None (is_slot s l q) x leaves h i in let t = at-slot s l q x a in cc
 
 pub in-nodes : (s l q : ℕ) (leaves : List Leaf) (x : Leaf) → In x leaves → Under s l q x → in_nodes s l q leaves ≡ true
 unfolding in_nodes
-in-nodes s l q leaves x i u = in-any (is_under s l q) leaves x i (is-under s l q x u)
+in-nodes s l q leaves x i u = In-any (is_under s l q) x leaves i (is-under s l q x u)
 
 pub in-nodes-leaf : (s l q : ℕ) (leaves : List Leaf) → in_nodes s l q leaves ≡ true → (x : Leaf) × In x leaves × Under s l q x
 unfolding in_nodes
-in-nodes-leaf s l q leaves h = let r = any-in (is_under s l q) leaves h in (r.0, r.1, under-is s l q r.0 r.2)
+in-nodes-leaf s l q leaves h = let r = any-In (is_under s l q) leaves h in (r.0, r.1, under-is s l q r.0 r.2)
 
 -- What the word of a slot says.
 abbrev pub Says : Pte → ℕ → ℕ → ℕ → List Leaf → List (Option Node) → Type 0
@@ -87,8 +86,8 @@ pub pointer-low : (s l q n : ℕ) (nodes : List (Option Node)) → number_of s l
 pointer-low s zero q n nodes h = absurd (no-pointer s q n nodes h)
 pointer-low s (suc l) q n nodes h = omega arith
 
-pub says : (top spaces s l q : ℕ) (leaves : List Leaf) (nodes : List (Option Node)) → IsMapping top spaces leaves → length nodes ≤ 16384 → Says (decode_of (slot_word leaves nodes s l q) l) s l q leaves nodes
-unfolding slot_word
+pub says : (top spaces s l q : ℕ) (leaves : List Leaf) (nodes : List (Option Node)) → IsRadixMapping top spaces leaves → length nodes ≤ 16384 → Says (decode_of (word_at leaves nodes s l q) l) s l q leaves nodes
+unfolding word_at
 says top spaces s l q leaves nodes m small =
     elim (leaf_in s l q leaves) as (λ o. leaf_in s l q leaves ≡ o → Says (decode_of (entry o (number_of s l q nodes)) l) s l q leaves nodes) [
       | Some x ↦ λ e. leaf x e
@@ -113,14 +112,14 @@ says top spaces s l q leaves nodes m small =
         rw (decode-made-pointer n l high low) (e, f)
 
 -- The word of a page in the node of its level is that of its slot.
-pub stands-word : (top s page l n : ℕ) (leaves : List Leaf) (nodes : List (Option Node)) (words : List ℕ) → IsImage top leaves nodes words → Stands s page l n nodes → (n < length nodes) × (slice_index words (n * 512 + up l page % 512) ≡ slot_word leaves nodes s l (up l page))
+pub stands-word : (top s page l n : ℕ) (leaves : List Leaf) (nodes : List (Option Node)) (words : List ℕ) → IsImage top leaves nodes words → Stands s page l n nodes → (n < length nodes) × (slice_index words (n * 512 + up l page % 512) ≡ word_at leaves nodes s l (up l page))
 stands-word top s page l n leaves nodes words image at =
     let b = below-some s (suc l) (up (suc l) page) _ at.stands in
     let inside : n < length nodes = node-in n nodes b.0 b.1 in
     let same = image.same n (up l page % 512) inside (omega arith) in
     (inside, same ∙ ap (λ (o : Option Node). word_of leaves nodes o (up l page % 512)) b.1 ∙ named b.0 b.2)
   where
-    named : (node : Node) → Is s (suc l) (up (suc l) page) node → slot_word leaves nodes node.space node.level (node.prefix * 512 + up l page % 512) ≡ slot_word leaves nodes s l (up l page)
+    named : (node : Node) → Is s (suc l) (up (suc l) page) node → word_at leaves nodes node.space node.level (node.prefix * 512 + up l page % 512) ≡ word_at leaves nodes s l (up l page)
     named node is =
         let a = is.space_is in
         let b : node.level ≡ l = omega (arith, is.level_is) in

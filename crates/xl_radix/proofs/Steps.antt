@@ -1,32 +1,32 @@
 -- Steps of the table's functions.
-use Rattle.std.proofs.Common.{ℕ, zero, suc, ◌≡◌, ◌≢◌, ◌+◌, ◌-◌, ◌*◌, ◌/◌, ◌%◌, ◌^◌, ◌<◌, ◌≤◌, ◌==◌, Bool, true, false, ◌⊎◌, inl, inr, List, length, slice_index, slice_index_or, slice_set, Option, Some, None, refl, ap, sym, ◌∙◌, subst, arith}
-use Rattle.std.proofs.lemmas.Bool.{cases_lt}
+use Rattle.std.proofs.Common.{ℕ, zero, suc, ◌≡◌, ◌≢◌, ◌+◌, ◌-◌, ◌*◌, ◌%◌, ◌<◌, ◌≤◌, ◌⊎◌, inl, inr, List, length, slice_index, slice_index_or, slice_set, Option, Some, None, refl, ap, sym, ◌∙◌, subst, arith}
 use Rattle.std.proofs.lemmas.Grind.{get_or_default_zero}
 use Rattle.std.proofs.lemmas.List.{length-set}
 use Rattle.xl_model.specs.declared.leaf.Leaf.{Leaf}
-use Rattle.xl_model.specs.Addresses.{level_of, pages_of}
+use Rattle.xl_model.specs.Addresses.{level_of}
 use Rattle.xl_model.specs.Mapping.{with_leaf}
 use Rattle.xl_model.specs.Words.{pointer_word, leaf_word}
-use Rattle.xl_model.specs.Nodes.{up, Node, is_below, in_nodes, number_of, put_first, free_count}
+use Rattle.xl_model.specs.Nodes.{up, Node, number_of, free_count}
+use Rattle.xl_mapping.specs.Members.{In}
 use Rattle.xl_pte.specs.Decode.{decode_of}
 use Rattle.xl_pte.specs.declared.word.Pte.{Pte}
 use Rattle.xl_pte.specs.declared.word.Pte.TheVariants as pte
-use Rattle.xl_radix.specs.Image.{leaf_in, slot_word}
+use Rattle.xl_radix.specs.Image.{leaf_in, word_at}
 use Rattle.xl_radix.specs.ReadBack.{read_back}
 use Rattle.std.specs.List.{position}
 use Rattle.std.specs.Prelude.{is_none}
-use Rattle.xl_radix.specs.Table.{filled, In, IsNew, IsMapping, IsImage, IsNearly, IsExact, IsCounted, IsRooted, IsStore}
+use Rattle.xl_radix.specs.Table.{filled, IsNew, IsRadixMapping, IsNearly, IsExact, IsCounted, IsStore}
 use Rattle.xl_radix.specs.Steps.{Stands, IsEnd, IsReady}
-use Rattle.xl_radix.proofs.Numbers.{node-in, below-some, free-none, number-some, number-none, number-there}
+use Rattle.xl_radix.proofs.Numbers.{node-in, below-some, free-none, number-some}
 use Rattle.xl_radix.proofs.Slots.{At, Under, Says, says, stands-word, pointer-low, leaf-in-some, in-nodes-leaf}
-use Rattle.xl_radix.proofs.Ends.{IsTable, not-both, word-none, none-word}
+use Rattle.xl_radix.proofs.Ends.{not-both, word-none, none-word}
 use Rattle.xl_radix.proofs.Made.{IsSpot, new_node, made_nodes, made_words, made, made-stands, made-empty, made-rooted, made-nearly}
 use Rattle.xl_radix.proofs.Placed.{placed, placed-mapping, placed-exact, placed_words}
 use Rattle.xl_radix.proofs.Backs.{reads-back}
 use Rattle.xl_radix.proofs.Counts.{counted-more, filled-le}
 
 -- The word that was read, in the node that stands at a page, is that of the slot.
-pub read-word : (top spaces s page l n i w : ℕ) (leaves : List Leaf) (nodes : List (Option Node)) (words used : List ℕ) → IsStore top spaces leaves nodes words used → Stands s page l n nodes → i ≡ up l page % 512 → w ≡ slice_index_or words (n * 512 + i) w → w ≡ slot_word leaves nodes s l (up l page)
+pub read-word : (top spaces s page l n i w : ℕ) (leaves : List Leaf) (nodes : List (Option Node)) (words used : List ℕ) → IsStore top spaces leaves nodes words used → Stands s page l n nodes → i ≡ up l page % 512 → w ≡ slice_index_or words (n * 512 + i) w → w ≡ word_at leaves nodes s l (up l page)
 read-word top spaces s page l n i w leaves nodes words used store at e f =
     let r = stands-word top s page l n leaves nodes words store.image at in
     let inside : n * 512 + i < length words = let z = store.image.size in let y = r.0 in omega arith in
@@ -44,7 +44,7 @@ next-stands s page (suc l) n leaves nodes h =
     let e : suc l - 1 ≡ l = omega arith in
     rw e (record { stands = (number-some s (suc l) (up (suc l) page) n nodes h.1).1 })
 
-pub stops : (top spaces s l q : ℕ) (w : Pte) (leaves : List Leaf) (nodes : List (Option Node)) → l < top → IsMapping top spaces leaves → IsExact top leaves nodes → Says w s l q leaves nodes → ((n : ℕ) → w ≡ pte.Pointer n → ⊥) → number_of s l q nodes ≡ None
+pub stops : (top spaces s l q : ℕ) (w : Pte) (leaves : List Leaf) (nodes : List (Option Node)) → l < top → IsRadixMapping top spaces leaves → IsExact top leaves nodes → Says w s l q leaves nodes → ((n : ℕ) → w ≡ pte.Pointer n → ⊥) → number_of s l q nodes ≡ None
 stops top spaces s l q pte.Invalid leaves nodes low m exact h not = h.1
 stops top spaces s l q (pte.Pointer n) leaves nodes low m exact h not = absurd (not n refl)
 stops top spaces s l q (pte.Leaf frame perm) leaves nodes low m exact h not =
@@ -69,7 +69,7 @@ leaf-filled : (x : Leaf) → leaf_word x.frame x.perm ≢ 0
 unfolding leaf_word
 leaf-filled x e = omega (arith, e)
 
-recounted : (nodes new : List (Option Node)) (words used : List ℕ) → length new ≡ length nodes → IsCounted nodes words used → IsCounted new words used
+pub recounted : (nodes new : List (Option Node)) (words used : List ℕ) → length new ≡ length nodes → IsCounted nodes words used → IsCounted new words used
 recounted nodes new words used e c = record { places = c.places ∙ sym e; each = λ n h. c.each n (omega arith) }
 
 pub made-step : (top spaces s page l k n : ℕ) (leaves : List Leaf) (nodes : List (Option Node)) (words used : List ℕ) → IsStore top spaces leaves nodes words used → suc l < top → IsReady s page (suc l) n leaves nodes → k < length nodes → slice_index_or nodes k None ≡ None →
@@ -84,7 +84,7 @@ made-step top spaces s page l k n leaves nodes words used store low ready within
     let counted = counted-more 512 n (up (suc l) page % 512) (pointer_word k) nodes words used refl store.counted store.image.size r.0 (omega arith) empty (pointer-filled k) in
     let below : up (suc l) page * 512 + up l page % 512 ≡ up l page = omega arith in
     let zero_word = made-empty top s l (up (suc l) page) k (up l page % 512) leaves nodes words store.image (omega arith) spot (omega arith) in
-    let none = word-none s l (up l page) leaves (made_nodes s l (up (suc l) page) k nodes) (subst (λ (v : ℕ). slot_word leaves (made_nodes s l (up (suc l) page) k nodes) s l v ≡ 0) below zero_word) in
+    let none = word-none s l (up l page) leaves (made_nodes s l (up (suc l) page) k nodes) (subst (λ (v : ℕ). word_at leaves (made_nodes s l (up (suc l) page) k nodes) s l v ≡ 0) below zero_word) in
     record {
       store = record {
         high = store.high;

@@ -1,52 +1,28 @@
 -- A leaf leaves its slot.
-use Rattle.std.proofs.Common.{ℕ, zero, suc, ◌≡◌, ◌≢◌, ◌+◌, ◌-◌, ◌*◌, ◌/◌, ◌%◌, ◌^◌, ◌<◌, ◌≤◌, ◌==◌, Bool, true, false, cond, if◌then◌else◌, ◌&&◌, ◌⊎◌, inl, inr, List, [], ◌∷◌, length, slice_index, slice_index_or, slice_set, Option, Some, None, refl, ap, sym, ◌∙◌, subst, arith}
+use Rattle.std.proofs.Common.{ℕ, suc, ◌≡◌, ◌≢◌, ◌+◌, ◌*◌, ◌%◌, ◌^◌, ◌<◌, ◌≤◌, ◌==◌, Bool, true, false, cond, if◌then◌else◌, ◌⊎◌, inl, inr, List, [], ◌∷◌, length, slice_index, slice_index_or, slice_set, Option, Some, None, refl, ap, sym, ◌∙◌, subst, arith}
 use Rattle.std.specs.List.{find, filter}
 use Rattle.std.proofs.lemmas.Bool.{cases_lt}
 use Rattle.std.proofs.lemmas.Bool.Decides.{nat_tests}
 use Rattle.std.proofs.lemmas.List.{get_or-set_same, get_or-set_other, length-set}
 use Rattle.xl_model.specs.declared.leaf.Leaf.{Leaf}
-use Rattle.xl_model.specs.Addresses.{level_of, pages_of}
+use Rattle.xl_model.specs.Addresses.{level_of}
 use Rattle.xl_model.specs.Mapping.{without_leaf, leaf_key}
 use Rattle.xl_model.specs.Nodes.{up, Node, is_below, in_nodes, number_of}
-use Rattle.xl_radix.specs.Image.{is_slot, leaf_in, entry, slot_word, word_of}
-use Rattle.xl_radix.specs.Table.{In, IsSorted, IsProper, IsMapping, IsImage, IsNearly, IsExact}
+use Rattle.xl_mapping.specs.Members.{In}
+use Rattle.xl_mapping.proofs.Insertion.{without-In, without-other, In-without, sorted-without, same-place}
+use Rattle.xl_radix.specs.Image.{is_slot, leaf_in, word_at, word_of}
+use Rattle.xl_radix.specs.Table.{IsRadixMapping, IsImage, IsNearly, IsExact}
 use Rattle.xl_radix.specs.Steps.{Stands}
-use Rattle.xl_radix.proofs.Lists.{find-nothing, find-only}
-use Rattle.xl_radix.proofs.Numbers.{number-some, number-there, below-some, is-below, Is}
-use Rattle.xl_radix.proofs.Slots.{At, Under, slot-at, at-slot, leaf-in-some, leaf-in-none, in-nodes, in-nodes-leaf}
-use Rattle.xl_radix.proofs.Backs.{key-leaf}
-use Rattle.xl_radix.proofs.Made.{places, stands-is, some-same}
+use Rattle.xl_radix.proofs.Lists.{find-nothing}
+use Rattle.xl_radix.proofs.Numbers.{is-below}
+use Rattle.xl_radix.proofs.Slots.{At, Under, slot-at, in-nodes, in-nodes-leaf}
+use Rattle.xl_radix.proofs.Made.{no-slot}
+use Rattle.xl_radix.proofs.Ends.{none-word}
+use Rattle.xl_radix.proofs.Placed.{same-word, other-leaf-slot}
 
 -- the test that a removal keeps a leaf by
 abbrev pub stays : ℕ → ℕ → Leaf → Bool
 stays space first leaf = if leaf.space * 2 ^ 52 + leaf.first == space * 2 ^ 52 + first then false else true
-
-filter-in : (p : Leaf → Bool) (xs : List Leaf) (y : Leaf) → In y (filter p xs) → In y xs × (p y ≡ true)
-filter-in p [] y i = absurd i
-filter-in p (x ∷ xs) y i =
-    elim (p x) as (λ b. p x ≡ b → In y (cond b (x ∷ filter p xs) (filter p xs)) → In y (x ∷ xs) × (p y ≡ true)) [
-      | true ↦ λ e j. elim j [ inl q ↦ (inl q, ap p q ∙ e) | inr k ↦ let r = filter-in p xs y k in (inr r.0, r.1) ]
-      | false ↦ λ e j. let r = filter-in p xs y j in (inr r.0, r.1)
-    ] refl i
-
-in-filter : (p : Leaf → Bool) (xs : List Leaf) (y : Leaf) → In y xs → p y ≡ true → In y (filter p xs)
-in-filter p [] y i t = absurd i
-in-filter p (x ∷ xs) y i t =
-    elim (p x) as (λ b. p x ≡ b → In y (cond b (x ∷ filter p xs) (filter p xs))) [
-      | true ↦ λ e. elim i as (λ _. In y (x ∷ filter p xs)) [ inl q ↦ inl q | inr k ↦ inr (in-filter p xs y k t) ]
-      | false ↦ λ e. elim i as (λ _. In y (filter p xs)) [ inl q ↦ absurd (no (sym t ∙ ap p q ∙ e)) | inr k ↦ in-filter p xs y k t ]
-    ] refl
-  where
-    no : true ≡ false → ⊥
-    no e = cc
-
-filter-sorted : (p : Leaf → Bool) (xs : List Leaf) → IsSorted xs → IsSorted (filter p xs)
-filter-sorted p [] h = tt
-filter-sorted p (x ∷ xs) h =
-    elim (p x) as (λ b. IsSorted (cond b (x ∷ filter p xs) (filter p xs))) [
-      | true ↦ ((λ y i. h.0 y (filter-in p xs y i).0), filter-sorted p xs h.1)
-      | false ↦ filter-sorted p xs h.1
-    ]
 
 -- A test that no leaf that leaves meets finds what it found.
 filter-find : (p q : Leaf → Bool) (xs : List Leaf) → ((y : Leaf) → In y xs → q y ≡ false → p y ≡ false) → find p (filter q xs) ≡ find p xs
@@ -65,42 +41,22 @@ leaves-key s f y e =
       | false ↦ λ t g. cc
     ] refl e
 
-key-leaves : (s f : ℕ) (y : Leaf) → y.space * 2 ^ 52 + y.first ≡ s * 2 ^ 52 + f → stays s f y ≡ false
-key-leaves s f y e = let t : (y.space * 2 ^ 52 + y.first == s * 2 ^ 52 + f) ≡ true = grind (arith, nat_tests) in rw t refl
-
-stays-or : (s f : ℕ) (y : Leaf) → (stays s f y ≡ true) ⊎ (stays s f y ≡ false)
-stays-or s f y = elim (stays s f y) as (λ b. (b ≡ true) ⊎ (b ≡ false)) [ true ↦ inl refl | false ↦ inr refl ]
-
 pub without-in : (x : Leaf) (leaves : List Leaf) (y : Leaf) → In y (without_leaf x.space x.first leaves) → In y leaves × (y ≡ x → ⊥)
-unfolding without_leaf
 without-in x leaves y i =
-    let r = filter-in (stays x.space x.first) leaves y i in
-    (r.0, λ e. let f = key-leaves x.space x.first y (ap leaf_key e) in both r.1 f)
-  where
-    both : stays x.space x.first y ≡ true → stays x.space x.first y ≡ false → ⊥
-    both a b = cc
+    (without-In y x.space x.first leaves i, λ e. without-other y x.space x.first leaves i (ap leaf_key e))
 
-pub in-without : (top spaces : ℕ) (x : Leaf) (leaves : List Leaf) (y : Leaf) → IsMapping top spaces leaves → In x leaves → In y leaves → (y ≡ x → ⊥) → In y (without_leaf x.space x.first leaves)
-unfolding without_leaf
-in-without top spaces x leaves y m i j not =
-    elim (stays-or x.space x.first y) [
-      | inl t ↦ in-filter (stays x.space x.first) leaves y j t
-      | inr f ↦ absurd (not (key-leaf top spaces leaves y x m j i (leaves-key x.space x.first y f)))
-    ]
+pub in-without : (top spaces : ℕ) (x : Leaf) (leaves : List Leaf) (y : Leaf) → IsRadixMapping top spaces leaves → In x leaves → In y leaves → (y ≡ x → ⊥) → In y (without_leaf x.space x.first leaves)
+in-without top spaces x leaves y m i j not = In-without y x.space x.first leaves j (λ e. not (same-place y x leaves m.sorted j i e))
 
-unplaced-sorted : (x : Leaf) (leaves : List Leaf) → IsSorted leaves → IsSorted (without_leaf x.space x.first leaves)
-unfolding without_leaf
-unplaced-sorted x leaves h = filter-sorted (stays x.space x.first) leaves h
-
-pub unplaced-mapping : (top spaces : ℕ) (x : Leaf) (leaves : List Leaf) → IsMapping top spaces leaves → IsMapping top spaces (without_leaf x.space x.first leaves)
+pub unplaced-mapping : (top spaces : ℕ) (x : Leaf) (leaves : List Leaf) → IsRadixMapping top spaces leaves → IsRadixMapping top spaces (without_leaf x.space x.first leaves)
 unplaced-mapping top spaces x leaves m = record {
   proper = λ y i. m.proper y (without-in x leaves y i).0;
-  sorted = unplaced-sorted x leaves m.sorted;
+  sorted = sorted-without x.space x.first leaves m.sorted;
   apart = λ y z i j s h e. m.apart y z (without-in x leaves y i).0 (without-in x leaves z j).0 s h e;
 }
 
 -- The leaf's own slot is empty, and the other slots have what they had.
-pub unplaced-leaf-same : (top spaces s l q : ℕ) (x : Leaf) (leaves : List Leaf) → IsMapping top spaces leaves → In x leaves → At s l q x → leaf_in s l q (without_leaf x.space x.first leaves) ≡ None
+pub unplaced-leaf-same : (top spaces s l q : ℕ) (x : Leaf) (leaves : List Leaf) → IsRadixMapping top spaces leaves → In x leaves → At s l q x → leaf_in s l q (without_leaf x.space x.first leaves) ≡ None
 unfolding leaf_in
 unplaced-leaf-same top spaces s l q x leaves m i at =
     find-nothing (is_slot s l q) (without_leaf x.space x.first leaves) (λ y j t. other y (without-in x leaves y j) (slot-at s l q y t))
@@ -111,18 +67,10 @@ unplaced-leaf-same top spaces s l q x leaves m i at =
         let block : up (level_of x.order) y.first ≡ up (level_of x.order) x.first = let P : ℕ → Type 0 = λ k. up k y.first ≡ up k x.first in subst P (sym at.level_is) (a.block_is ∙ sym at.block_is) in
         r.1 (m.apart y x r.0 i (a.space_is ∙ sym at.space_is) h block)
 
-pub unplaced-leaf-other : (top spaces s l q : ℕ) (x : Leaf) (leaves : List Leaf) → IsMapping top spaces leaves → In x leaves → is_slot s l q x ≡ false → leaf_in s l q (without_leaf x.space x.first leaves) ≡ leaf_in s l q leaves
+pub unplaced-leaf-other : (top spaces s l q : ℕ) (x : Leaf) (leaves : List Leaf) → IsRadixMapping top spaces leaves → In x leaves → is_slot s l q x ≡ false → leaf_in s l q (without_leaf x.space x.first leaves) ≡ leaf_in s l q leaves
 unfolding leaf_in without_leaf
 unplaced-leaf-other top spaces s l q x leaves m i f =
-    filter-find (is_slot s l q) (stays x.space x.first) leaves (λ y j e. let g = key-leaf top spaces leaves y x m j i (leaves-key x.space x.first y e) in ap (is_slot s l q) g ∙ f)
-
-same-word : (s l q : ℕ) (new leaves : List Leaf) (nodes : List (Option Node)) → leaf_in s l q new ≡ leaf_in s l q leaves → slot_word new nodes s l q ≡ slot_word leaves nodes s l q
-unfolding slot_word
-same-word s l q new leaves nodes e = rw e refl
-
-empty-word : (s l q : ℕ) (leaves : List Leaf) (nodes : List (Option Node)) → leaf_in s l q leaves ≡ None → number_of s l q nodes ≡ None → slot_word leaves nodes s l q ≡ 0
-unfolding slot_word
-empty-word s l q leaves nodes e f = rw (e, f) refl
+    filter-find (is_slot s l q) (stays x.space x.first) leaves (λ y j e. let g = same-place y x leaves m.sorted j i (leaves-key x.space x.first y e) in ap (is_slot s l q) g ∙ f)
 
 -- the leaf is in the table, at the node that stands there, and no node is below its slot
 pub record IsHeld (x : Leaf) (n : ℕ) (leaves : List Leaf) (nodes : List (Option Node)) : Type 0 where
@@ -133,30 +81,21 @@ pub record IsHeld (x : Leaf) (n : ℕ) (leaves : List Leaf) (nodes : List (Optio
 abbrev pub unplaced_words : Leaf → ℕ → List ℕ → List ℕ
 unplaced_words x n words = slice_set words (n * 512 + up (level_of x.order) x.first % 512) 0
 
-pub unplaced-same : (top spaces : ℕ) (x : Leaf) (n m i : ℕ) (leaves : List Leaf) (nodes : List (Option Node)) (words : List ℕ) → IsMapping top spaces leaves → IsImage top leaves nodes words → IsHeld x n leaves nodes → m < length nodes → i < 512 →
+pub unplaced-same : (top spaces : ℕ) (x : Leaf) (n m i : ℕ) (leaves : List Leaf) (nodes : List (Option Node)) (words : List ℕ) → IsRadixMapping top spaces leaves → IsImage top leaves nodes words → IsHeld x n leaves nodes → m < length nodes → i < 512 →
     slice_index (unplaced_words x n words) (m * 512 + i) ≡ word_of (without_leaf x.space x.first leaves) nodes (slice_index_or nodes m None) i
 unplaced-same top spaces x n m i leaves nodes words mapping image held h g =
     elim (slice_index_or nodes m None) as (λ o. slice_index_or nodes m None ≡ o → slice_index (unplaced_words x n words) (m * 512 + i) ≡ word_of (without_leaf x.space x.first leaves) nodes o i) [
-      | None ↦ λ f. kept (none-place f) ∙ image.same m i h g ∙ ap (λ (o : Option Node). word_of leaves nodes o i) f
-      | Some node ↦ λ f. elim (is_slot node.space node.level (node.prefix * 512 + i) x) as (λ t. is_slot node.space node.level (node.prefix * 512 + i) x ≡ t → slice_index (unplaced_words x n words) (m * 512 + i) ≡ slot_word (without_leaf x.space x.first leaves) nodes node.space node.level (node.prefix * 512 + i)) [
+      | None ↦ λ f. kept (no-slot x.space x.first (level_of x.order) n m i nodes held.at g f) ∙ image.same m i h g ∙ ap (λ (o : Option Node). word_of leaves nodes o i) f
+      | Some node ↦ λ f. elim (is_slot node.space node.level (node.prefix * 512 + i) x) as (λ t. is_slot node.space node.level (node.prefix * 512 + i) x ≡ t → slice_index (unplaced_words x n words) (m * 512 + i) ≡ word_at (without_leaf x.space x.first leaves) nodes node.space node.level (node.prefix * 512 + i)) [
         | true ↦ λ e. let a = slot-at node.space node.level (node.prefix * 512 + i) x e in that node f a
-        | false ↦ λ e. kept (differs node f e) ∙ image.same m i h g ∙ ap (λ (o : Option Node). word_of leaves nodes o i) f ∙ sym (same-word node.space node.level (node.prefix * 512 + i) (without_leaf x.space x.first leaves) leaves nodes (unplaced-leaf-other top spaces node.space node.level (node.prefix * 512 + i) x leaves mapping held.there e))
+        | false ↦ λ e. kept (other-leaf-slot x n m i nodes node held.at g f e) ∙ image.same m i h g ∙ ap (λ (o : Option Node). word_of leaves nodes o i) f ∙ sym (same-word node.space node.level (node.prefix * 512 + i) (without_leaf x.space x.first leaves) leaves nodes (unplaced-leaf-other top spaces node.space node.level (node.prefix * 512 + i) x leaves mapping held.there e))
       ] refl
     ] refl
   where
-    stand : (node : Node) × (slice_index_or nodes n None ≡ Some node) × Is x.space (suc (level_of x.order)) (up (suc (level_of x.order)) x.first) node
-    stand = stands-is x.space x.first (level_of x.order) n nodes held.at
-
     kept : (m * 512 + i ≢ n * 512 + up (level_of x.order) x.first % 512) → slice_index (unplaced_words x n words) (m * 512 + i) ≡ slice_index words (m * 512 + i)
     kept d = get_or-set_other words (n * 512 + up (level_of x.order) x.first % 512) (m * 512 + i) 0 0 d
 
-    none-place : slice_index_or nodes m None ≡ None → m * 512 + i ≢ n * 512 + up (level_of x.order) x.first % 512
-    none-place f d =
-        let p = places m n i (up (level_of x.order) x.first % 512) g (omega arith) d in
-        let a : slice_index_or nodes n None ≡ None = subst (λ (v : ℕ). slice_index_or nodes v None ≡ None) p.0 f in
-        let b = stand.1 in cc
-
-    that : (node : Node) → slice_index_or nodes m None ≡ Some node → At node.space node.level (node.prefix * 512 + i) x → slice_index (unplaced_words x n words) (m * 512 + i) ≡ slot_word (without_leaf x.space x.first leaves) nodes node.space node.level (node.prefix * 512 + i)
+    that : (node : Node) → slice_index_or nodes m None ≡ Some node → At node.space node.level (node.prefix * 512 + i) x → slice_index (unplaced_words x n words) (m * 512 + i) ≡ word_at (without_leaf x.space x.first leaves) nodes node.space node.level (node.prefix * 512 + i)
     that node f a =
         let c : up (level_of x.order) x.first ≡ node.prefix * 512 + i = let e = a.level_is in rw e a.block_is in
         let pre : node.prefix ≡ up (suc (level_of x.order)) x.first = omega (arith, c) in
@@ -167,21 +106,9 @@ unplaced-same top spaces x n m i leaves nodes words mapping image held h g =
         let none : number_of node.space node.level (node.prefix * 512 + i) nodes ≡ None = rw (← a.space_is, ← a.level_is, ← c) held.absent in
         let zero-word : slice_index (unplaced_words x n words) (n * 512 + up (level_of x.order) x.first % 512) ≡ 0 = get_or-set_same words (n * 512 + up (level_of x.order) x.first % 512) 0 0 inside in
         subst (λ (v : ℕ). slice_index (unplaced_words x n words) v ≡ 0) (let p : n * 512 + up (level_of x.order) x.first % 512 ≡ m * 512 + i = omega (arith, e, idx) in p) zero-word
-        ∙ sym (empty-word node.space node.level (node.prefix * 512 + i) (without_leaf x.space x.first leaves) nodes (unplaced-leaf-same top spaces node.space node.level (node.prefix * 512 + i) x leaves mapping held.there a) none)
+        ∙ sym (none-word node.space node.level (node.prefix * 512 + i) (without_leaf x.space x.first leaves) nodes (unplaced-leaf-same top spaces node.space node.level (node.prefix * 512 + i) x leaves mapping held.there a) none)
 
-    differs : (node : Node) → slice_index_or nodes m None ≡ Some node → is_slot node.space node.level (node.prefix * 512 + i) x ≡ false → m * 512 + i ≢ n * 512 + up (level_of x.order) x.first % 512
-    differs node f not d =
-        let p = places m n i (up (level_of x.order) x.first % 512) g (omega arith) d in
-        let a : slice_index_or nodes n None ≡ Some node = subst (λ (v : ℕ). slice_index_or nodes v None ≡ Some node) p.0 f in
-        let c : stand.0 ≡ node = some-same (sym stand.1 ∙ a) in
-        let i1 : node.space ≡ x.space = sym (ap (λ (v : Node). v.space) c) ∙ stand.2.space_is in
-        let i2 : node.level + 1 ≡ suc (level_of x.order) = sym (ap (λ (v : Node). v.level + 1) c) ∙ stand.2.level_is in
-        let i3 : node.prefix ≡ up (level_of x.order) x.first / 512 = sym (ap (λ (v : Node). v.prefix) c) ∙ stand.2.prefix_is in
-        let l1 : level_of x.order ≡ node.level = omega (arith, i2) in
-        let b1 : up (level_of x.order) x.first ≡ node.prefix * 512 + i = omega (arith, i3, p.1) in
-        let t = at-slot node.space node.level (node.prefix * 512 + i) x (record { space_is = sym i1; level_is = l1; block_is = subst (λ (v : ℕ). up v x.first ≡ node.prefix * 512 + i) l1 b1 }) in cc
-
-pub unplaced : (top spaces : ℕ) (x : Leaf) (n : ℕ) (leaves : List Leaf) (nodes : List (Option Node)) (words : List ℕ) → IsMapping top spaces leaves → IsImage top leaves nodes words → IsHeld x n leaves nodes → IsImage top (without_leaf x.space x.first leaves) nodes (unplaced_words x n words)
+pub unplaced : (top spaces : ℕ) (x : Leaf) (n : ℕ) (leaves : List Leaf) (nodes : List (Option Node)) (words : List ℕ) → IsRadixMapping top spaces leaves → IsImage top leaves nodes words → IsHeld x n leaves nodes → IsImage top (without_leaf x.space x.first leaves) nodes (unplaced_words x n words)
 unplaced top spaces x n leaves nodes words mapping image held = record {
   size = length-set {A = ℕ} words (n * 512 + up (level_of x.order) x.first % 512) 0 ∙ image.size;
   same = λ m i h g. unplaced-same top spaces x n m i leaves nodes words mapping image held h g;
@@ -194,7 +121,7 @@ unplaced top spaces x n leaves nodes words mapping image held = record {
     full a b c r g = image.full a b c (in-nodes a b c leaves r.0 (without-in x leaves r.0 r.1).0 r.2) g
 
 -- After the leaf left, the nodes of its path alone may be needed no more.
-pub unplaced-nearly : (top spaces : ℕ) (x : Leaf) (leaves : List Leaf) (nodes : List (Option Node)) → IsMapping top spaces leaves → In x leaves → IsExact top leaves nodes → IsNearly top x.space x.first (level_of x.order) (without_leaf x.space x.first leaves) nodes
+pub unplaced-nearly : (top spaces : ℕ) (x : Leaf) (leaves : List Leaf) (nodes : List (Option Node)) → IsRadixMapping top spaces leaves → In x leaves → IsExact top leaves nodes → IsNearly top x.space x.first (level_of x.order) (without_leaf x.space x.first leaves) nodes
 unplaced-nearly top spaces x leaves nodes m i exact = record {
   nearly = λ a b c n h. needed a b c (exact.needed a b c n h);
 }
@@ -204,7 +131,7 @@ unplaced-nearly top spaces x leaves nodes m i exact = record {
       | inl lt ↦ inr (in-without top spaces x leaves z m i j (λ e. let f = ap leaf_key e in omega (arith, f, lt)))
       | inr ge ↦ elim (cases_lt (leaf_key x) (leaf_key z)) [
         | inl lt ↦ inr (in-without top spaces x leaves z m i j (λ e. let f = ap leaf_key e in omega (arith, f, lt)))
-        | inr le ↦ inl (key-leaf top spaces leaves z x m j i (omega arith))
+        | inr le ↦ inl (same-place z x leaves m.sorted j i (omega arith))
       ]
     ]
 

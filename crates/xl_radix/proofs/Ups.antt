@@ -1,5 +1,5 @@
 -- Pages and the blocks in which they lie.
-use Rattle.std.proofs.Common.{ℕ, zero, suc, ◌≡◌, ◌+◌, ◌-◌, ◌*◌, ◌/◌, ◌%◌, ◌^◌, ◌<◌, ◌≤◌, ◌==◌, Bool, true, false, ◌&&◌, nat_lt, nat_le, ◌⊎◌, inl, inr, refl, ap, sym, ◌∙◌, subst, arith}
+use Rattle.std.proofs.Common.{ℕ, zero, suc, ◌≡◌, ◌+◌, ◌*◌, ◌/◌, ◌^◌, ◌<◌, ◌≤◌, true, ◌&&◌, nat_lt, nat_le, arith}
 use Rattle.std.proofs.lemmas.Bool.Decides.{nat_tests}
 use Rattle.xl_model.specs.declared.address.Order.{Order}
 use Rattle.xl_model.specs.declared.address.Order.TheVariants as order
@@ -32,16 +32,6 @@ pub level-low : (o : Order) → level_of o ≤ 2
 level-low order.K4 = omega arith
 level-low order.M2 = omega arith
 level-low order.G1 = omega arith
-
-pub up-same : (l m x y : ℕ) → l ≤ m → up l x ≡ up l y → up m x ≡ up m y
-up-same l zero x y h e = let z : l ≡ 0 = omega arith in rw z at e
-up-same l (suc m) x y h e = elim (split l m h) [
-  | inl q ↦ subst (λ (k : ℕ). up k x ≡ up k y) q e
-  | inr g ↦ ap (λ (v : ℕ). v / 512) (up-same l m x y g e)
-]
-  where
-    split : (l m : ℕ) → l ≤ suc m → (l ≡ suc m) ⊎ (l ≤ m)
-    split l m h = grind arith
 
 -- A page in a leaf's interval is in its block, and conversely.
 pub covers-up : (o : Order) (first page : ℕ) → up (level_of o) first * pages_of o ≡ first → (nat_le first page && nat_lt page (first + pages_of o)) ≡ true → up (level_of o) page ≡ up (level_of o) first

@@ -1,28 +1,24 @@
 -- The manual's walk over the words of a table.
-use Rattle.std.proofs.Common.{ℕ, zero, suc, ◌≡◌, ◌≢◌, ◌+◌, ◌-◌, ◌*◌, ◌/◌, ◌%◌, ◌^◌, ◌<◌, ◌≤◌, ◌==◌, Bool, true, false, nat_le, if◌then◌else◌, ◌⊎◌, inl, inr, List, length, slice_index, slice_index_or, Option, Some, None, refl, ap, sym, ◌∙◌, subst, arith}
-use Rattle.std.proofs.lemmas.Bool.{cases_lt}
+use Rattle.std.proofs.Common.{ℕ, zero, suc, ◌≡◌, ◌+◌, ◌-◌, ◌*◌, ◌/◌, ◌%◌, ◌<◌, ◌≤◌, Bool, true, false, nat_le, if◌then◌else◌, ◌⊎◌, inl, inr, List, length, slice_index, Option, Some, None, refl, sym, ◌∙◌, subst, arith}
 use Rattle.std.proofs.lemmas.Bool.Decides.{nat_tests}
 use Rattle.xl_model.specs.declared.leaf.Leaf.{Leaf}
 use Rattle.xl_model.specs.Addresses.{level_of}
 use Rattle.xl_model.specs.Mapping.{leaf_at_page}
-use Rattle.xl_model.specs.Nodes.{up, Node, is_below, in_nodes, number_of}
+use Rattle.xl_model.specs.Nodes.{up, Node, in_nodes, number_of}
 use Rattle.xl_model.specs.Walks.{end_level}
+use Rattle.xl_mapping.specs.Members.{In}
 use Rattle.xl_pte.specs.Decode.{decode_of}
 use Rattle.xl_pte.specs.declared.word.Pte.{Pte}
 use Rattle.xl_pte.specs.declared.word.Pte.TheVariants as pte
+use Rattle.xl_mapping.proofs.Ends.{up-from}
 use Rattle.xl_radix.specs.declared.walk_end.WalkEnd.{WalkEnd}
-use Rattle.xl_radix.specs.declared.walk_end.WalkEnd.TheVariants as end
-use Rattle.xl_radix.specs.Image.{leaf_in, slot_word}
-use Rattle.xl_radix.specs.Table.{In, IsImage, IsExact}
+use Rattle.xl_radix.specs.Image.{leaf_in}
 use Rattle.xl_radix.specs.Steps.{Stands}
-use Rattle.xl_radix.specs.Walk.{place_of, is_there, end_at, reading, radix_back, walk_end, WordsReadBack}
+use Rattle.xl_radix.specs.Walk.{place_of, end_at, reading, radix_back, walk_end, WordsReadBack}
+use Rattle.xl_radix.proofs.Cases.{split-le}
 use Rattle.xl_radix.proofs.Numbers.{number-some, number-only}
-use Rattle.xl_radix.proofs.Ups.{up-same}
 use Rattle.xl_radix.proofs.Slots.{Under, Says, says, stands-word, pointer-low, leaf-in-some, in-nodes-leaf}
 use Rattle.xl_radix.proofs.Ends.{IsTable, seen-low, found-at, found-none}
-
-split-le : (a b : ℕ) → a ≤ b → (a ≡ b) ⊎ (a < b)
-split-le a b h = grind arith
 
 end-is : (n a l s page : ℕ) (leaves : List Leaf) → a ≤ l → l ≤ a + n → ((h : ℕ) → h < l → in_nodes s (suc h) (up (suc h) page) leaves ≡ true → ⊥) → (l ≡ a + n) ⊎ (in_nodes s (suc l) (up (suc l) page) leaves ≡ true) → end_level n a s page leaves ≡ l
 end-is zero a l s page leaves h g none last = omega arith
@@ -52,7 +48,7 @@ end-here top spaces s page l n leaves nodes words used t low at e f =
     none : (h : ℕ) → h < l → (z : Leaf) × In z leaves × Under s (suc h) (up (suc h) page) z → ⊥
     none h g r =
         let lower : level_of r.0.order < suc h = r.2.level_in in
-        seen-low top s l (up l page) leaves nodes words r.0 t.store.image low e f r.1 r.2.space_is (omega arith) (up-same (suc h) l r.0.first page (omega arith) r.2.block_is)
+        seen-low top s l (up l page) leaves nodes words r.0 t.store.image low e f r.1 r.2.space_is (omega arith) (up-from (suc h) l r.0.first page r.2.block_is (omega arith))
 
     last : (suc l ≡ top) ⊎ (in_nodes s (suc l) (up (suc l) page) leaves ≡ true) → (l ≡ 0 + (top - 1)) ⊎ (in_nodes s (suc l) (up (suc l) page) leaves ≡ true)
     last (inl g) = inl (omega arith)

@@ -1,6 +1,6 @@
 -- The words of a radix table, as its mapping and its nodes give them (RISC-V Privileged manual, the walk).
 -- A slot is named by its space, its level l and its block of 512^l pages.
-use Rattle.std.specs.Prelude.{ℕ, ◌+◌, ◌*◌, ◌==◌, Bool, true, false, ◌&&◌, List, find, Option, None, Some}
+use Rattle.std.specs.Prelude.{ℕ, ◌+◌, ◌*◌, ◌==◌, Bool, ◌&&◌, List, find, Option, None, Some}
 use Rattle.xl_model.specs.declared.leaf.Leaf.{Leaf}
 use Rattle.xl_model.specs.Addresses.{level_of}
 use Rattle.xl_model.specs.Words.{pointer_word, leaf_word}
@@ -19,10 +19,10 @@ entry (Some leaf) _ = leaf_word leaf.frame leaf.perm
 entry None (Some number) = pointer_word number
 entry None None = 0
 
-unfoldable pub slot_word : List Leaf → List (Option Node) → ℕ → ℕ → ℕ → ℕ
-slot_word leaves nodes space l block = entry (leaf_in space l block leaves) (number_of space l block nodes)
+unfoldable pub word_at : List Leaf → List (Option Node) → ℕ → ℕ → ℕ → ℕ
+word_at leaves nodes space l block = entry (leaf_in space l block leaves) (number_of space l block nodes)
 
 -- the word at an index of a node; a number that no node has, has words 0
 abbrev pub word_of : List Leaf → List (Option Node) → Option Node → ℕ → ℕ
 word_of leaves nodes None index = 0
-word_of leaves nodes (Some node) index = slot_word leaves nodes node.space node.level (node.prefix * 512 + index)
+word_of leaves nodes (Some node) index = word_at leaves nodes node.space node.level (node.prefix * 512 + index)

@@ -1,10 +1,10 @@
 -- The leaves that the words of a radix table say.
-use Rattle.std.specs.Prelude.{ℕ, zero, suc, ◌+◌, ◌*◌, ◌/◌, ◌%◌, ◌^◌, ◌==◌, if◌then◌else◌, List, [], length, slice_index, slice_index_or, Option, None, Some}
+use Rattle.std.specs.Prelude.{ℕ, zero, suc, ◌+◌, ◌*◌, ◌/◌, ◌%◌, List, [], length, slice_index, slice_index_or, Option, None, Some}
 use Rattle.xl_model.specs.declared.address.Order.{Order}
 use Rattle.xl_model.specs.declared.address.Order.TheVariants as order
 use Rattle.xl_model.specs.declared.leaf.Leaf.{Leaf}
 use Rattle.xl_model.specs.Addresses.{pages_of}
-use Rattle.xl_model.specs.Mapping.{with_leaf}
+use Rattle.xl_model.specs.Changes.{with_new}
 use Rattle.xl_model.specs.Nodes.{Node}
 use Rattle.xl_pte.specs.Decode.{decode_of}
 use Rattle.xl_pte.specs.declared.word.Pte.{Pte}
@@ -35,14 +35,10 @@ leaf_by (Some node) index word =
 unfoldable pub leaf_here : List (Option Node) → List ℕ → ℕ → Option Leaf
 leaf_here nodes words place = leaf_by (slice_index_or nodes (place / 512) None) (place % 512) (slice_index words place)
 
-abbrev pub with_some : Option Leaf → List Leaf → List Leaf
-with_some None leaves = leaves
-with_some (Some leaf) leaves = with_leaf leaf leaves
-
 -- the leaves at the first places
 abbrev pub read_to : List (Option Node) → List ℕ → ℕ → List Leaf
 read_to nodes words zero = []
-read_to nodes words (suc place) = with_some (leaf_here nodes words place) (read_to nodes words place)
+read_to nodes words (suc place) = with_new (leaf_here nodes words place) (read_to nodes words place)
 
 -- the leaves of all words, sorted
 unfoldable pub read_back : List (Option Node) → List ℕ → List Leaf

@@ -1,5 +1,5 @@
 -- Steps of the walk and of the making of nodes.
-use Rattle.std.specs.Prelude.{ℕ, suc, ◌≡◌, ◌+◌, ◌-◌, ◌<◌, ◌≤◌, Bool, true, false, ◌⊎◌, List, length, slice_index_or, Option, None, Some}
+use Rattle.std.specs.Prelude.{ℕ, suc, ◌≡◌, ◌+◌, ◌-◌, ◌<◌, ◌≤◌, true, ◌⊎◌, List, length, slice_index_or, Option, None}
 use Rattle.xl_model.specs.declared.leaf.Leaf.{Leaf}
 use Rattle.xl_model.specs.Nodes.{up, Node, is_below, number_of, with_path, missing, free_count}
 use Rattle.xl_model.specs.Shapes.{Shape, Radix}

@@ -1,9 +1,9 @@
 -- What a radix table keeps.
-use Rattle.std.specs.Prelude.{ℕ, zero, suc, ◌≡◌, ◌+◌, ◌-◌, ◌*◌, ◌/◌, ◌%◌, ◌^◌, ◌<◌, ◌≤◌, ◌==◌, Bool, true, false, if◌then◌else◌, ◌⊎◌, List, [], ◌∷◌, length, slice_index, slice_index_or, Option, None, Some}
+use Rattle.std.specs.Prelude.{ℕ, zero, suc, ◌≡◌, ◌+◌, ◌*◌, ◌/◌, ◌%◌, ◌^◌, ◌<◌, ◌≤◌, true, ◌⊎◌, List, length, slice_index, slice_index_or, Option, None}
 use Rattle.xl_model.specs.declared.leaf.Leaf.{Leaf}
 use Rattle.xl_model.specs.Addresses.{level_of, pages_of}
-use Rattle.xl_model.specs.Mapping.{leaf_key}
-use Rattle.xl_model.specs.Nodes.{up, Node, is_below, in_nodes, number_of, free_count}
+use Rattle.xl_model.specs.Nodes.{up, Node, is_below, in_nodes, number_of}
+use Rattle.xl_mapping.specs.Members.{In, IsSorted}
 use Rattle.xl_radix.specs.Image.{word_of}
 
 -- A radix table: its leaves, its nodes by number, its words, its spaces, and the loads made of it.
@@ -22,12 +22,8 @@ pub record Stored : Type 0 where
   pub used : List ℕ
   pub spaces : ℕ
 
-abbrev pub In : Leaf → List Leaf → Type 0
-In x [] = ⊥
-In x (y ∷ ys) = (x ≡ y) ⊎ In x ys
-
 -- A leaf of a table with this many levels and spaces: its pages and frames are aligned.
-pub record IsProper (top spaces : ℕ) (leaf : Leaf) : Type 0 where
+pub record IsRadixLeaf (top spaces : ℕ) (leaf : Leaf) : Type 0 where
   pub space_in : leaf.space < spaces
   pub aligned : up (level_of leaf.order) leaf.first * pages_of leaf.order ≡ leaf.first
   pub first_in : up top leaf.first ≡ 0
@@ -35,19 +31,15 @@ pub record IsProper (top spaces : ℕ) (leaf : Leaf) : Type 0 where
   pub frame_in : leaf.frame < 2 ^ 44
   pub frame_aligned : leaf.frame % 2 ^ (9 * level_of leaf.order) ≡ 0
 
-abbrev pub IsSorted : List Leaf → Type 0
-IsSorted [] = Unit {0}
-IsSorted (x ∷ xs) = ((y : Leaf) → In y xs → leaf_key x < leaf_key y) × IsSorted xs
-
--- The leaves are proper, sorted, and no two of a space have a page in common.
-pub record IsMapping (top spaces : ℕ) (leaves : List Leaf) : Type 0 where
-  pub proper : (x : Leaf) → In x leaves → IsProper top spaces x
+-- Each leaf is one of such a table, they are sorted, and no two of a space have a page in common.
+pub record IsRadixMapping (top spaces : ℕ) (leaves : List Leaf) : Type 0 where
+  pub proper : (x : Leaf) → In x leaves → IsRadixLeaf top spaces x
   pub sorted : IsSorted leaves
   pub apart : (x y : Leaf) → In x leaves → In y leaves → x.space ≡ y.space → level_of x.order ≤ level_of y.order → up (level_of y.order) x.first ≡ up (level_of y.order) y.first → x ≡ y
 
 -- A leaf that no leaf of a table meets, at its level or at theirs.
 pub record IsNew (top spaces : ℕ) (x : Leaf) (leaves : List Leaf) : Type 0 where
-  pub proper : IsProper top spaces x
+  pub proper : IsRadixLeaf top spaces x
   pub over : (y : Leaf) → In y leaves → y.space ≡ x.space → level_of y.order ≤ level_of x.order → up (level_of x.order) y.first ≡ up (level_of x.order) x.first → ⊥
   pub under : (y : Leaf) → In y leaves → y.space ≡ x.space → level_of x.order ≤ level_of y.order → up (level_of y.order) y.first ≡ up (level_of y.order) x.first → ⊥
 
@@ -92,7 +84,7 @@ pub record IsRooted (top spaces : ℕ) (nodes : List (Option Node)) : Type 0 whe
 pub record IsStore (top spaces : ℕ) (leaves : List Leaf) (nodes : List (Option Node)) (words : List ℕ) (used : List ℕ) : Type 0 where
   pub high : 3 ≤ top
   pub low : top ≤ 5
-  pub mapping : IsMapping top spaces leaves
+  pub mapping : IsRadixMapping top spaces leaves
   pub image : IsImage top leaves nodes words
   pub counted : IsCounted nodes words used
   pub rooted : IsRooted top spaces nodes

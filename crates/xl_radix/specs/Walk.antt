@@ -1,5 +1,5 @@
 -- The walk of the manual over a list of words (RISC-V Privileged manual).
-use Rattle.std.specs.Prelude.{ℕ, zero, suc, ◌≡◌, ◌+◌, ◌-◌, ◌*◌, ◌/◌, ◌%◌, ◌^◌, ◌<◌, ◌==◌, Bool, true, false, nat_le, if◌then◌else◌, List, length, slice_index, slice_index_or, Option, None, Some}
+use Rattle.std.specs.Prelude.{ℕ, zero, suc, ◌≡◌, ◌+◌, ◌-◌, ◌*◌, ◌/◌, ◌%◌, ◌<◌, Bool, nat_le, if◌then◌else◌, List, length, slice_index, slice_index_or, Option, None, Some}
 use Rattle.xl_model.specs.declared.leaf.Leaf.{Leaf}
 use Rattle.xl_model.specs.Addresses.{level_of}
 use Rattle.xl_model.specs.Mapping.{leaf_at_page}

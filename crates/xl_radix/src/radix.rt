@@ -10,7 +10,7 @@ ghost use Rattle.xl_model.specs.Structures.{IsBlock, IsPage, IsLeafFor};
 ghost use Rattle.xl_radix.specs.Steps.{shape_of};
 ghost use Rattle.xl_radix.specs.Walk.{WordsReadBack};
 
-use crate::store::{Store, level_of};
+use crate::store::Store;
 use std::alloc::Global;
 use std::marker::Model;
 use xl_model::{Leaf, NoMemory, NoTable, Order};
@@ -98,7 +98,7 @@ impl<const LEVELS: usize> Radix<LEVELS> {
         ensures loads { self.new.loads ≡ self.old.loads }
     {
         let end = self.store.end_for(&leaf);
-        let lacking = end.level - level_of(leaf.order);
+        let lacking = end.level - leaf.order.level();
         if lacking > self.free {
             return Err(NoTable);
         }

@@ -1,7 +1,7 @@
 //! The words of a radix table with its nodes, and the steps that change them.
 
 ghost use Rattle.std.specs.Prelude.{◌≡◌, ◌+◌, ◌-◌, ◌*◌, ◌/◌, ◌%◌, ◌^◌, ◌<◌, ◌≤◌, length, slice_index, slice_index_or, slice_set, true, false, None, Some, [], is_none, position, IfOk, IfSome, IfNone};
-ghost use Rattle.xl_model.specs.Addresses.{level_of as order_level, pages_of as order_pages};
+ghost use Rattle.xl_model.specs.Addresses.{level_of};
 ghost use Rattle.xl_model.specs.Mapping.{with_leaf, leaf_at_page, meets_any};
 ghost use Rattle.xl_model.specs.Nodes.{up, is_below, free_count, put_first, number_of, with_path, with_leaf_nodes, opening_nodes};
 ghost use Rattle.xl_model.specs.Shapes.{Radix};
@@ -47,29 +47,6 @@ impl<const LEVELS: usize> Model for Store<LEVELS> {
     ghost invariant = { λ s. IsStore LEVELS s.spaces (read_back s.nodes.items s.words.items) s.nodes.items s.words.items s.used.items };
 }
 
-/// The level at which a leaf of this order stands.
-pub fn level_of(order: Order) -> usize
-    ensures value { result ≡ order_level order }
-    ensures low { result ≤ 2 }
-{
-    match order {
-        Order::K4 => 0,
-        Order::M2 => 1,
-        Order::G1 => 2,
-    }
-}
-
-/// The pages of a leaf of this order.
-pub fn pages_of(order: Order) -> u64
-    ensures { result ≡ order_pages order }
-{
-    match order {
-        Order::K4 => 1,
-        Order::M2 => 512,
-        Order::G1 => 262_144,
-    }
-}
-
 /// The order of the leaves of a level; levels above 2 have none.
 fn order_of(level: usize) -> Option<Order>
     ensures { result ≡ level_order level }
@@ -90,7 +67,7 @@ fn leaf_of(space: u16, block: u64, level: usize, pte: Pte) -> Option<Leaf>
     match (order_of(level), pte) {
         (Some(order), Pte::Leaf { frame, perm }) => Some(Leaf {
             space,
-            first: block * pages_of(order),
+            first: block * order.pages(),
             order,
             frame,
             perm,
@@ -208,7 +185,7 @@ impl<const LEVELS: usize> Store<LEVELS> {
         requires block { IsBlock (Radix LEVELS self.now.spaces self.now.nodes) space first order }
         ensures { result ≡ meets_any space first order self.now.leaves }
     {
-        let Place { node, level } = self.end_of(space, first, level_of(order));
+        let Place { node, level } = self.end_of(space, first, order.level());
         self.words[node * 512 + index_of(first, level)] != 0
     }
 
@@ -217,12 +194,12 @@ impl<const LEVELS: usize> Store<LEVELS> {
         requires exact { IsExact LEVELS self.now.leaves self.now.nodes }
         requires valid { IsLeafFor (Radix LEVELS self.now.spaces self.now.nodes) leaf.now }
         requires free { meets_any leaf.now.space leaf.now.first leaf.now.order self.now.leaves ≡ false }
-        ensures end { IsEnd LEVELS leaf.now.space leaf.now.first (order_level leaf.now.order) result.level result.node self.now.nodes }
+        ensures end { IsEnd LEVELS leaf.now.space leaf.now.first (level_of leaf.now.order) result.level result.node self.now.nodes }
         ensures new { IsNew LEVELS self.now.spaces leaf.now self.now.leaves }
     {
         // What `new` says rests on what the type keeps, which a look at a field brings in.
         let _words = &self.words;
-        self.end_of(leaf.space, leaf.first, level_of(leaf.order))
+        self.end_of(leaf.space, leaf.first, leaf.order.level())
     }
 
     /// Word `index` of node number `node`.
@@ -304,14 +281,14 @@ impl<const LEVELS: usize> Store<LEVELS> {
     /// Puts a leaf into its slot, which is empty.
     fn put(&mut self, node: usize, leaf: Leaf)
         requires new { IsNew LEVELS self.old.spaces leaf self.old.leaves }
-        requires ready { IsReady leaf.space leaf.first (order_level leaf.order) node self.old.leaves self.old.nodes }
+        requires ready { IsReady leaf.space leaf.first (level_of leaf.order) node self.old.leaves self.old.nodes }
         ensures leaves { self.new.leaves ≡ with_leaf leaf self.old.leaves }
         ensures nodes { self.new.nodes ≡ self.old.nodes }
         ensures spaces { self.new.spaces ≡ self.old.spaces }
-        ensures exact { IsNearly LEVELS leaf.space leaf.first (order_level leaf.order) self.old.leaves self.old.nodes → IsExact LEVELS self.new.leaves self.new.nodes }
+        ensures exact { IsNearly LEVELS leaf.space leaf.first (level_of leaf.order) self.old.leaves self.old.nodes → IsExact LEVELS self.new.leaves self.new.nodes }
     {
         self.used[node] += 1;
-        let at = node * 512 + index_of(leaf.first, level_of(leaf.order));
+        let at = node * 512 + index_of(leaf.first, leaf.order.level());
         self.words[at] = leaf_word(leaf.frame, leaf.perm);
     }
 
@@ -319,15 +296,15 @@ impl<const LEVELS: usize> Store<LEVELS> {
     pub fn place(&mut self, from: Place, leaf: Leaf)
         requires new { IsNew LEVELS self.old.spaces leaf self.old.leaves }
         requires exact { IsExact LEVELS self.old.leaves self.old.nodes }
-        requires end { IsEnd LEVELS leaf.space leaf.first (order_level leaf.order) from.level from.node self.old.nodes }
-        requires free { from.level ≤ free_count self.old.nodes + order_level leaf.order }
+        requires end { IsEnd LEVELS leaf.space leaf.first (level_of leaf.order) from.level from.node self.old.nodes }
+        requires free { from.level ≤ free_count self.old.nodes + level_of leaf.order }
         ensures leaves { self.new.leaves ≡ with_leaf leaf self.old.leaves }
         ensures nodes { self.new.nodes ≡ with_leaf_nodes LEVELS leaf self.old.nodes }
         ensures spaces { self.new.spaces ≡ self.old.spaces }
         ensures exact { IsExact LEVELS self.new.leaves self.new.nodes }
-        ensures free { free_count self.new.nodes + (from.level - order_level leaf.order) ≡ free_count self.old.nodes }
+        ensures free { free_count self.new.nodes + (from.level - level_of leaf.order) ≡ free_count self.old.nodes }
     {
-        let node = self.path(leaf.space, leaf.first, from, level_of(leaf.order));
+        let node = self.path(leaf.space, leaf.first, from, leaf.order.level());
         self.put(node, leaf);
     }
 }

@@ -1,14 +1,14 @@
 -- What a word says is a step of the walk.
-use Rattle.std.proofs.Common.{◌≡◌, refl, sym, ap, ◌∙◌, subst, ℕ, zero, suc, ◌+◌, ◌-◌, ◌*◌, ◌/◌, ◌%◌, ◌^◌, ◌<◌, ◌≤◌, Bool, true, false, cond, List, [], ◌∷◌, Option, None, Some, slice_index, nat_le, ◌==◌, arith}
+use Rattle.std.proofs.Common.{◌≡◌, refl, sym, ap, ◌∙◌, subst, ℕ, zero, suc, ◌-◌, ◌*◌, ◌/◌, ◌%◌, ◌^◌, ◌<◌, Bool, true, false, cond, List, [], ◌∷◌, Option, None, Some, slice_index, ◌==◌, arith}
 use Rattle.std.proofs.lemmas.Bool.Decides.{nat_tests}
 use Rattle.xl_model.specs.declared.perm.Perm.{Perm}
-use Rattle.xl_pte.specs.Decode.{decode_of, says, pointer_at, leaf_at, bit, number_of}
+use Rattle.xl_pte.specs.Decode.{decode_of, says, pointer_at, leaf_at, bit, ppn_of}
 use Rattle.xl_pte.specs.declared.word.Pte.{Pte}
 use Rattle.xl_pte.specs.declared.word.Pte.TheVariants as pte
 use Rattle.xl_radix.specs.declared.walk_end.WalkEnd.{WalkEnd}
 use Rattle.xl_radix.specs.declared.walk_end.WalkEnd.TheVariants as end
 use Rattle.xl_radix.specs.Walk.{place_of, is_there, end_at, reading, radix_back}
-use Rattle.xl_radix_walk.specs.Path.{entered, entering, radix_path, word_in, step_of, GoesTo, EndsWith, IsStep}
+use Rattle.xl_radix_walk.specs.Path.{entered, entering, radix_path, word_in, step_of, GoesTo, IsStep}
 
 -- a walk by what its first word says
 back_by : Option Pte → List ℕ → ℕ → ℕ → WalkEnd
@@ -72,8 +72,8 @@ decode-points : (word level : ℕ) → Points (decode_of word level) level
 unfolding Points decode_of
 decode-points word level = go (bit word 0) (word / 2 ^ 54 == 0)
   where
-    go : (a b : Bool) → Points (cond a (cond b (says (bit word 1) (bit word 2) (bit word 3) (bit word 4) level (number_of word)) pte.Reserved) pte.Invalid) level
-    go true true = says-points (bit word 1) (bit word 2) (bit word 3) (bit word 4) level (number_of word) (omega arith)
+    go : (a b : Bool) → Points (cond a (cond b (says (bit word 1) (bit word 2) (bit word 3) (bit word 4) level (ppn_of word)) pte.Reserved) pte.Invalid) level
+    go true true = says-points (bit word 1) (bit word 2) (bit word 3) (bit word 4) level (ppn_of word) (omega arith)
     go true false = tt
     go false b = tt
 

@@ -1,7 +1,6 @@
 //! The lines of a script, each with a reader of its own.
 
-ghost use Rattle.std.specs.Prelude.{◌≡◌, ◌∷◌, [], ◌*◌, ◌≤◌, MatchResult, IfOk};
-ghost use Rattle.xl_model.specs.Addresses.{pages_of};
+ghost use Rattle.std.specs.Prelude.{◌≡◌, ◌∷◌, [], ◌≤◌, MatchResult, IfOk};
 ghost use Rattle.xl_script.specs.Texts.{words_of};
 ghost use Rattle.xl_script.specs.Numbers.{decimal_of};
 ghost use Rattle.xl_script.specs.Words.{order_of};
@@ -39,17 +38,6 @@ fn map_order(word: &[u8]) -> Option<Order>
     }
 }
 
-/// The bytes of a leaf of this order.
-fn bytes(order: Order) -> u64
-    ensures { result ≡ 4096 * pages_of order }
-{
-    match order {
-        Order::K4 => 4096,
-        Order::M2 => 2 << 20,
-        Order::G1 => 1 << 30,
-    }
-}
-
 /// A map, by its five words.
 #[tactic(auto, unfolding(crate::specs::Scripts::map_with))]
 fn map_words(
@@ -66,7 +54,7 @@ fn map_words(
     let order = map_order(order).ok_or(Reason::Order)?;
     let perm = perm_word(perm).ok_or(Reason::Perm)?;
     let n = number(n, 1, 1_048_576)?;
-    if n * bytes(order) - 1 > u64::MAX - va {
+    if n * order.bytes() - 1 > u64::MAX - va {
         return Err(Reason::PastTheEnd);
     }
     Ok(Command::Map {

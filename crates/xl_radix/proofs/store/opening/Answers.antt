@@ -1,4 +1,4 @@
-use Rattle.std.proofs.Common.{ℕ, ◌≡◌, ◌-◌, ◌++◌, replicate, None, ap, sym, ◌∙◌, arith}
+use Rattle.std.proofs.Common.{ℕ, ◌≡◌, ◌-◌, ◌++◌, replicate, ap, ◌∙◌, arith}
 use Rattle.xl_model.specs.Nodes.{roots, opening_nodes}
 use Rattle.xl_radix.proofs.Opening.{roots-step, free-step, none-node}
 use Rattle.xl_radix.proofs.store.opening.Goals as goal

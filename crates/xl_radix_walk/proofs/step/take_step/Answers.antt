@@ -1,4 +1,3 @@
-use Rattle.std.proofs.Common.{subst, sym}
 use Rattle.xl_radix_walk.proofs.Steps.{is_step}
 use Rattle.xl_radix_walk.proofs.step.take_step.Goals as goal
 

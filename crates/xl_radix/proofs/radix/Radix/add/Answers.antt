@@ -1,4 +1,4 @@
-use Rattle.std.proofs.Common.{ℕ, ◌≡◌, ◌≤◌, ◌<◌, ◌-◌, nat_le, Bool, true, false, sym, ◌∙◌, refl, arith}
+use Rattle.std.proofs.Common.{ℕ, ◌≡◌, ◌≤◌, ◌<◌, ◌-◌, nat_le, true, false, sym, refl, arith}
 use Rattle.std.proofs.lemmas.Bool.Decides.{nat_tests}
 use Rattle.xl_radix.specs.Table.{Table}
 use Rattle.xl_radix.proofs.Looks.{room-is}
@@ -13,19 +13,19 @@ enough k free have lack e f h = grind (arith, nat_tests)
 
 pub returns-then-lacking-self-clause-answer : goal.returns-then-lacking-self-clause-answer
 returns-then-lacking-self-clause-answer g c =
-    let e = c.level_of.ensures.value in
+    let e = c.level.ensures in
     let end = c.end_for-end.ensures.end in
     let i = c.self.inside in
     let t : Table = record { leaves = i.store.leaves; nodes = i.store.nodes; words = i.store.words; spaces = i.store.spaces; loads = i.loads } in
-    rw (← c.self.view_is) (sym (room-is g.row.LEVELS _ c.args.leaf t false end.lacks (too-many _ c.self.inside.free _ (c.end_for-end.result.level - c.level_of.result) (rw e refl) c.self.invariant.1 c.if-lacking-self.true)))
+    rw (← c.self.view_is) (sym (room-is g.row.LEVELS _ c.args.leaf t false end.lacks (too-many _ c.self.inside.free _ (c.end_for-end.result.level - c.level.result) (rw e refl) c.self.invariant.1 c.if-lacking-self.true)))
 
 pub returns-clause-answer : goal.returns-clause-answer
 returns-clause-answer g c =
-    let e = c.level_of.ensures.value in
+    let e = c.level.ensures in
     let end = c.end_for-end.ensures.end in
     let i = c.self.inside in
     let t : Table = record { leaves = i.store.leaves; nodes = i.store.nodes; words = i.store.words; spaces = i.store.spaces; loads = i.loads } in
-    rw (← c.self.view_is) (sym (room-is g.row.LEVELS _ c.args.leaf t true end.lacks (enough _ c.self.inside.free _ (c.end_for-end.result.level - c.level_of.result) (rw e refl) c.self.invariant.1 c.if-lacking-self.false)))
+    rw (← c.self.view_is) (sym (room-is g.row.LEVELS _ c.args.leaf t true end.lacks (enough _ c.self.inside.free _ (c.end_for-end.result.level - c.level.result) (rw e refl) c.self.invariant.1 c.if-lacking-self.false)))
 
 pub returns-clause-shape : goal.returns-clause-shape
 returns-clause-shape g c =

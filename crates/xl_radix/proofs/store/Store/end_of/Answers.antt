@@ -1,8 +1,6 @@
-use Rattle.std.proofs.Common.{ℕ, ◌≡◌, ◌-◌, sym, ◌∙◌, subst, inl, inr, arith}
-use Rattle.xl_model.specs.Nodes.{up, number_of}
-use Rattle.xl_pte.specs.Decode.{decode_of}
+use Rattle.std.proofs.Common.{◌≡◌, sym, subst, inl, inr, arith}
+use Rattle.xl_model.specs.Nodes.{up}
 use Rattle.xl_pte.specs.declared.word.Pte.{Pte}
-use Rattle.xl_pte.specs.declared.word.Pte.TheVariants as pte
 use Rattle.xl_radix.specs.ReadBack.{read_back}
 use Rattle.xl_radix.proofs.Slots.{Says}
 use Rattle.xl_radix.proofs.Steps.{read-says, next-stands, stops}

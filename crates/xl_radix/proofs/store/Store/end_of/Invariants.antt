@@ -1,4 +1,4 @@
-use Rattle.std.proofs.Common.{ℕ, ◌≤◌, ◌<◌}
+use Rattle.std.proofs.Common.{◌≤◌, ◌<◌}
 use Rattle.xl_radix.specs.Steps.{Stands}
 use Rattle.xl_radix.proofs.store.Store.end_of.Given as goal
 

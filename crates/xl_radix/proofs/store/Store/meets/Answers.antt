@@ -1,17 +1,17 @@
-use Rattle.std.proofs.Common.{ℕ, ◌≡◌, ◌≤◌, ◌<◌, lit<, arith}
-use Rattle.xl_radix.specs.Steps.{IsEnd}
+use Rattle.std.proofs.Common.{lit<, arith}
 use Rattle.xl_radix.proofs.Looks.{met-word, block-first}
+use Rattle.xl_radix.proofs.Ups.{level-low}
 use Rattle.xl_radix.proofs.store.Store.meets.Goals as goal
 
 pub end_of-node-requires : goal.end_of-node-requires
 end_of-node-requires g c =
-    (lit< tt, (c.requires.exact, (c.requires.block.space_in, (block-first g.row.LEVELS _ c.args.space c.args.first c.args.order _ c.requires.block, c.level_of.ensures.low))))
+    (lit< tt, (c.requires.exact, (c.requires.block.space_in, (block-first g.row.LEVELS _ c.args.space c.args.first c.args.order _ c.requires.block, let e = c.level.ensures in grind (arith, level-low)))))
 
 pub returns : goal.returns
 returns g c =
     let exact = rw (← c.self.view_is) at c.requires.exact in
     let block = rw (← c.self.view_is) at c.requires.block in
     let end = rw (← c.self.view_is) at c.end_of-node.ensures in
-    let e = c.level_of.ensures.value in
+    let e = c.level.ensures in
     let there = rw e at end in
     rw (← c.self.view_is) (met-word g.row.LEVELS _ c.args.space c.args.first c.end_of-node.result.level c.end_of-node.result.node c.index_of.result c.index.result.now c.args.order _ _ _ _ (record { store = c.self.invariant; exact = exact }) block there c.index_of.ensures.value c.index.ensures)

@@ -1,4 +1,4 @@
-use Rattle.std.proofs.Common.{ℕ, ◌≡◌, ◌-◌, ◌+◌, ◌≤◌, ◌<◌, ap, sym, ◌∙◌, arith}
+use Rattle.std.proofs.Common.{arith}
 use Rattle.xl_radix.proofs.Opening.{opening-store, opening-back, opening-exact, opening-count}
 use Rattle.xl_radix.proofs.store.Store.open.Goals as goal
 

@@ -1,4 +1,4 @@
-use Rattle.std.proofs.Common.{ℕ, ◌≡◌, ◌+◌, ◌-◌, ◌*◌, ◌<◌, ◌≤◌, refl, ap, sym, ◌∙◌, arith}
+use Rattle.std.proofs.Common.{◌-◌, ap, sym, ◌∙◌, arith}
 use Rattle.xl_model.specs.Nodes.{with_path}
 use Rattle.xl_radix.proofs.Paths.{path-step}
 use Rattle.xl_radix.proofs.store.Store.path.Goals as goal

@@ -1,4 +1,4 @@
-use Rattle.std.proofs.Common.{ℕ, ◌≡◌, ◌≤◌, ◌<◌, ◌+◌, ◌-◌}
+use Rattle.std.proofs.Common.{◌≡◌, ◌≤◌, ◌<◌, ◌+◌, ◌-◌}
 use Rattle.xl_model.specs.Nodes.{free_count, with_path}
 use Rattle.xl_radix.specs.Table.{IsNearly}
 use Rattle.xl_radix.specs.Steps.{IsReady}

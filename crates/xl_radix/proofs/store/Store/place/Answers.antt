@@ -1,12 +1,12 @@
-use Rattle.std.proofs.Common.{ℕ, ◌≡◌, ◌+◌, ◌-◌, ◌*◌, ◌<◌, ◌≤◌, refl, ap, sym, ◌∙◌, lit<, arith}
-use Rattle.xl_model.specs.Nodes.{with_path, with_leaf_nodes}
+use Rattle.std.proofs.Common.{sym, lit<, arith}
+use Rattle.xl_model.specs.Nodes.{with_leaf_nodes}
 use Rattle.xl_radix.proofs.Placed.{nearly-start}
 use Rattle.xl_radix.proofs.Steps.{end-ready}
 use Rattle.xl_radix.proofs.store.Store.place.Goals as goal
 
 pub path-node-requires : goal.path-node-requires
 path-node-requires g c =
-    let e = c.level_of.ensures.value in
+    let e = c.level.ensures in
     let end = c.requires.end in (
       lit< tt,
       (
@@ -17,7 +17,7 @@ path-node-requires g c =
             end.level_in,
             (
               let h = c.requires.free in omega arith,
-              nearly-start g.row.LEVELS c.args.leaf.space c.args.leaf.first c.level_of.result _ _ c.requires.exact,
+              nearly-start g.row.LEVELS c.args.leaf.space c.args.leaf.first c.level.result _ _ c.requires.exact,
             ),
           ),
         ),
@@ -27,5 +27,5 @@ path-node-requires g c =
 pub returns-clause-nodes : goal.returns-clause-nodes
 unfolding with_leaf_nodes
 returns-clause-nodes g c =
-    let e = c.level_of.ensures.value in
+    let e = c.level.ensures in
     rw (c.put.ensures.nodes, c.path-node.ensures.nodes, e) (sym c.requires.end.path)

@@ -1,0 +1,33 @@
+-- How two numbers lie.
+use Rattle.std.proofs.Common.{ℕ, suc, ◌≡◌, ◌≢◌, ◌<◌, ◌≤◌, ◌==◌, true, false, nat_lt, ◌⊎◌, refl, arith}
+use Rattle.std.proofs.lemmas.Bool.Decides.{nat_tests}
+
+pub split-le : (a b : ℕ) → a ≤ b → (a ≡ b) ⊎ (a < b)
+split-le a b h = grind arith
+
+pub split-less : (a b : ℕ) → a < suc b → (a ≡ b) ⊎ (a < b)
+split-less a b h = grind arith
+
+pub same-number : (a b : ℕ) → (a == b) ≡ true → a ≡ b
+same-number a b h = grind (arith, nat_tests)
+
+pub other-number : (a b : ℕ) → (a == b) ≡ false → a ≢ b
+other-number a b h = grind (arith, nat_tests)
+
+pub number-same : (a b : ℕ) → a ≡ b → (a == b) ≡ true
+number-same a b h = grind (arith, nat_tests)
+
+pub data Lies (a b : ℕ) : Type 0 where
+  Same : a ≡ b → (a == b) ≡ true → Lies a b
+  Before : a < b → (a == b) ≡ false → nat_lt a b ≡ true → Lies a b
+  After : b < a → (a == b) ≡ false → nat_lt a b ≡ false → Lies a b
+
+pub lies : (a b : ℕ) → Lies a b
+lies a b =
+    elim (a == b) as (λ t. (a == b) ≡ t → Lies a b) [
+      | true ↦ λ e. Same (grind (arith, nat_tests)) e
+      | false ↦ λ e. elim (nat_lt a b) as (λ t. nat_lt a b ≡ t → Lies a b) [
+        | true ↦ λ f. Before (grind (arith, nat_tests)) e f
+        | false ↦ λ f. After (grind (arith, nat_tests)) e f
+      ] refl
+    ] refl
