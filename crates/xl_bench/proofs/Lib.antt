@@ -11,3 +11,4 @@ pub mod Plays
 pub mod Placed
 pub mod Endings
 pub mod Arrays
+pub mod Messages

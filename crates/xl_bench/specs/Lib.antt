@@ -6,4 +6,5 @@ pub mod Trails
 pub mod Tapes
 pub mod Serving
 pub mod Endings
+pub mod Messages
 pub mod Stops

@@ -1,5 +1,5 @@
 -- Why a run stops, and what that says of how it ends where nothing fails.
-use Rattle.std.specs.Prelude.{ℕ, ◌≡◌, List, codes, Option, Result, Ok, Err}
+use Rattle.std.specs.Prelude.{ℕ, ◌≡◌, List, [], codes, Option, Result, Ok, Err}
 use Rattle.xl_model.specs.declared.row.Counts.{Counts}
 use Rattle.xl_model.specs.Lines.{row_line}
 use Rattle.xl_outside.specs.declared.whole.ReadStop.{ReadStop}
@@ -15,6 +15,7 @@ use Rattle.xl_bench.specs.declared.tape.TapeStop.{TapeStop}
 use Rattle.xl_bench.specs.declared.tape.TapeStop.TheVariants as tape
 use Rattle.xl_bench.specs.Trails.{BadAt, TooLong}
 use Rattle.xl_bench.specs.Endings.{Ending, Reports, BadScript, BadTrace, Absent, of_script, of_trace}
+use Rattle.xl_bench.specs.Messages.{script_message, trace_message}
 
 abbrev pub status_at : Stop → Status
 status_at why.Usage = status.Usage
@@ -30,6 +31,22 @@ status_at why.NoFile = status.NoFile
 abbrev pub status_by : Result (Unit {0}) Stop → Status
 status_by (Ok u) = status.Ok
 status_by (Err stop) = status_at stop
+
+-- the message of a stop; of an answer
+abbrev pub text_at : Stop → List ℕ
+text_at why.Usage = codes "xlate: usage: --script FILE --trace FILE\n"
+text_at why.ScriptTooLong = script_message script.TooLong
+text_at (why.ScriptLine line reason) = script_message (script.BadLine line reason)
+text_at why.TraceTooLong = trace_message TooLong
+text_at (why.TraceLine line reason) = trace_message (BadAt (record { line = line; reason = reason }))
+text_at why.ReadFault = codes "xlate: read fault\n"
+text_at why.WriteFault = codes "xlate: write fault\n"
+text_at why.NoMemory = codes "xlate: no memory\n"
+text_at why.NoFile = codes "xlate: no file\n"
+
+abbrev pub text_by : Result (Unit {0}) Stop → List ℕ
+text_by (Ok u) = []
+text_by (Err stop) = text_at stop
 
 abbrev pub of_read : ReadStop → Stop
 of_read read.Missing = why.NoFile

@@ -1,6 +1,6 @@
 //! A run: the report of the built-in row over a script and a trace.
 
-ghost use Rattle.std.specs.Prelude.{◌≡◌, ℕ, ◌≤◌, ◌↔◌, List, length, map, codes, Option, Some, None, Ok, Err, All, IfSome, IfNone, IfOk, IfErr, OnOk, OnErr, IsOk, string_bytes};
+ghost use Rattle.std.specs.Prelude.{◌≡◌, ℕ, ◌≤◌, ◌↔◌, List, length, map, codes, Option, Some, None, option_map, Ok, Err, All, IfSome, IfNone, IfOk, IfErr, OnOk, OnErr, IsOk, string_bytes};
 ghost use Rattle.xl_model.specs.Rows.{row_of};
 ghost use Rattle.xl_model.specs.Lines.{row_line};
 ghost use Rattle.xl_outside.specs.Outside.{file_of, Rose, with_more, WroteFront};
@@ -8,7 +8,8 @@ ghost use Rattle.xl_script.specs.Scripts.{script_of};
 ghost use Rattle.xl_bench.specs.BuiltIn.{built_in};
 ghost use Rattle.xl_bench.specs.Serving.{IsPlaced};
 ghost use Rattle.xl_bench.specs.Endings.{names_of, of_script, of_trace, ending, text_of, Answers, HasCause, Completes};
-ghost use Rattle.xl_bench.specs.Stops.{status_by, Parses, Leads, Comes, IsHalt};
+ghost use Rattle.xl_bench.specs.Messages.{message, Says};
+ghost use Rattle.xl_bench.specs.Stops.{status_by, text_by, Parses, Leads, Comes, IsHalt};
 
 use crate::machine::Machine;
 use crate::serve::serve;
@@ -18,15 +19,16 @@ use crate::tape::Tape;
 use arrayvec::{ArrayString, ArrayVec};
 use std::alloc::Global;
 use xl_model::{Counts, Mode, Purge, Row, Table};
-use xl_outside::{Folder, Sink, read_whole};
+use xl_outside::{Folder, Sink, put_all, read_whole};
 use xl_report::write_row;
 use xl_script::{Script, parse};
 
 /// The most bytes of a script.
 const LIMIT: usize = 1_048_576;
 
-/// Runs the script over the trace, and writes the report once the trace has ended. The words are the
-/// program's name, `--script`, a name, `--trace` and a name.
+/// Runs the script over the trace, and writes the report to `out` once the trace has ended. Where
+/// that does not come about, a line on `err` says why. The words are the program's name, `--script`,
+/// a name, `--trace` and a name.
 pub fn run<F: Folder, K: Sink, E: Sink>(
     alloc: Global,
     words: &Vec<String>,
@@ -37,14 +39,30 @@ pub fn run<F: Folder, K: Sink, E: Sink>(
     ensures told { IfSome (F.files folder.old) (λ fs. Answers result (ending (map string_bytes words.now.items) fs) (K.written out.old) (K.written out.new)) }
     ensures usage { (result ≡ Status.Usage) ↔ (names_of (map string_bytes words.now.items) ≡ None) }
     ensures cause { HasCause result (F.faults folder.old) (F.faults folder.new) (F.absences folder.old) (F.absences folder.new) (K.put_faults out.old) (K.put_faults out.new) }
+    ensures said { IfSome (message result (option_map (ending (map string_bytes words.now.items)) (F.files folder.old))) (λ text. Says text (E.put_faults err.old) (E.put_faults err.new) (E.written err.old) (E.written err.new)) }
     ensures complete { F.steady folder.old → IfSome (F.files folder.old) (λ fs. K.roomy out.old (length (text_of (ending (map string_bytes words.now.items) fs))) → Completes result (ending (map string_bytes words.now.items) fs)) }
 {
-    match report(alloc, words, folder, out) {
+    let end = report(alloc, words, folder, out);
+    tell(err, end);
+    status(end)
+}
+
+/// The status of a run that ended so.
+fn status(end: Result<(), Stop>) -> Status
+    ensures { result ≡ status_by end }
+{
+    match end {
         Ok(()) => Status::Ok,
-        Err(stop) => {
-            stop.tell(err);
-            stop.status()
-        }
+        Err(stop) => stop.status(),
+    }
+}
+
+/// Says why the run stopped. Where that can't be said, it isn't.
+fn tell<E: Sink>(err: &mut E, end: Result<(), Stop>)
+    ensures { Says (text_by end) (E.put_faults err.old) (E.put_faults err.new) (E.written err.old) (E.written err.new) }
+{
+    if let Err(stop) = end {
+        let _ = put_all(err, stop.message().bytes());
     }
 }
 
@@ -59,6 +77,7 @@ fn report<F: Folder, K: Sink>(
     ensures told { IfSome (F.files folder.old) (λ fs. Answers (status_by result) (ending (map string_bytes words.now.items) fs) (K.written out.old) (K.written out.new)) }
     ensures usage { (status_by result ≡ Status.Usage) ↔ (names_of (map string_bytes words.now.items) ≡ None) }
     ensures cause { HasCause (status_by result) (F.faults folder.old) (F.faults folder.new) (F.absences folder.old) (F.absences folder.new) (K.put_faults out.old) (K.put_faults out.new) }
+    ensures text { IfSome (message (status_by result) (option_map (ending (map string_bytes words.now.items)) (F.files folder.old))) (λ text. text ≡ text_by result) }
     ensures complete { F.steady folder.old → IfSome (F.files folder.old) (λ fs. K.roomy out.old (length (text_of (ending (map string_bytes words.now.items) fs))) → Completes (status_by result) (ending (map string_bytes words.now.items) fs)) }
 {
     let Some((script, trace)) = names(words) else {

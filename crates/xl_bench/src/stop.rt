@@ -1,14 +1,14 @@
 //! Why a run stopped.
 
-ghost use Rattle.std.specs.Prelude.{◌≡◌};
+ghost use Rattle.std.specs.Prelude.{◌≡◌, ◌≤◌, ◌++◌, length, codes, decimal};
 ghost use Rattle.xl_bench.specs.declared.stop.Stop.TheVariants as why;
-ghost use Rattle.xl_bench.specs.Stops.{status_at, of_read, of_fault, of_tape};
+ghost use Rattle.xl_bench.specs.Stops.{status_at, text_at, of_read, of_fault, of_tape};
 
 use crate::status::Status;
 use crate::tape::TapeStop;
-use itoa::Buffer;
 use xl_model::NoMemory;
-use xl_outside::{ReadStop, Sink, put_all};
+use xl_outside::ReadStop;
+use xl_report::Line;
 use xl_script::ScriptFault;
 
 /// Why a run stopped.
@@ -90,37 +90,39 @@ impl Stop {
         }
     }
 
-    /// Says why the run stopped. Where that can't be said, it isn't.
-    pub(crate) fn tell<E: Sink>(self, err: &mut E) {
+    /// The message of a run that stopped so.
+    pub(crate) fn message(self) -> Line
+        ensures { result ≡ text_at self }
+    {
+        let mut message = Line::new();
         match self {
-            Stop::Usage => say(err, b"xlate: usage: --script FILE --trace FILE\n"),
-            Stop::ScriptTooLong => say(err, b"xlate: script: too long\n"),
-            Stop::ScriptLine { line, reason } => say_line(
-                err,
-                b"xlate: script line ",
-                line,
-                reason,
-            ),
-            Stop::TraceTooLong => say(err, b"xlate: trace: too long\n"),
-            Stop::TraceLine { line, reason } => say_line(err, b"xlate: trace line ", line, reason),
-            Stop::ReadFault => say(err, b"xlate: read fault\n"),
-            Stop::WriteFault => say(err, b"xlate: write fault\n"),
-            Stop::NoMemory => say(err, b"xlate: no memory\n"),
-            Stop::NoFile => say(err, b"xlate: no file\n"),
+            Stop::Usage => message.add(b"xlate: usage: --script FILE --trace FILE\n"),
+            Stop::ScriptTooLong => message.add(b"xlate: script: too long\n"),
+            Stop::ScriptLine { line, reason } => {
+                message.add(b"xlate: script line ");
+                add_place(&mut message, line, reason);
+            }
+            Stop::TraceTooLong => message.add(b"xlate: trace: too long\n"),
+            Stop::TraceLine { line, reason } => {
+                message.add(b"xlate: trace line ");
+                add_place(&mut message, line, reason);
+            }
+            Stop::ReadFault => message.add(b"xlate: read fault\n"),
+            Stop::WriteFault => message.add(b"xlate: write fault\n"),
+            Stop::NoMemory => message.add(b"xlate: no memory\n"),
+            Stop::NoFile => message.add(b"xlate: no file\n"),
         }
+        message
     }
 }
 
-fn say<E: Sink>(err: &mut E, text: &[u8]) {
-    let _ = put_all(err, text);
-}
-
-/// Says which line is bad, and the reason.
-fn say_line<E: Sink>(err: &mut E, text: &[u8], line: u64, reason: u8) {
-    let mut buffer = Buffer::new();
-    say(err, text);
-    say(err, buffer.format(line).as_bytes());
-    say(err, b": reason ");
-    say(err, buffer.format(reason).as_bytes());
-    say(err, b"\n");
+/// Adds the number of a line, and the reason for which it is bad.
+fn add_place(message: &mut Line, line: u64, reason: u8)
+    requires { length message.old ≤ 100 }
+    ensures { message.new ≡ message.old ++ decimal line ++ codes ": reason " ++ decimal reason ++ codes "\n" }
+{
+    message.number(line);
+    message.add(b": reason ");
+    message.number(reason as u64);
+    message.add(b"\n");
 }

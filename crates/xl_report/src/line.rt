@@ -7,11 +7,11 @@ use itoa::Buffer;
 use std::marker::Model;
 
 /// The most bytes of a line.
-pub(crate) const LONGEST: usize = 1024;
+const LONGEST: usize = 1024;
 
-/// The bytes of a line so far.
+/// A line of at most 1024 bytes that is being put together. Contracts see its bytes so far.
 #[derive(Drop)]
-pub(crate) struct Line {
+pub struct Line {
     bytes: [u8; LONGEST],
     len: usize,
 }
@@ -28,7 +28,7 @@ impl Model for Line {
 
 impl Line {
     /// An empty line.
-    pub(crate) fn new() -> Line
+    pub fn new() -> Line
         ensures { result ≡ [] }
     {
         Line {
@@ -38,7 +38,7 @@ impl Line {
     }
 
     /// Puts bytes at the line's end.
-    pub(crate) fn add(&mut self, bytes: &[u8])
+    pub fn add(&mut self, bytes: &[u8])
         requires { length self.old + length bytes.now ≤ 1024 }
         ensures { self.new ≡ self.old ++ bytes.now }
     {
@@ -47,7 +47,7 @@ impl Line {
     }
 
     /// Puts a decimal number at the line's end.
-    pub(crate) fn number(&mut self, n: u64)
+    pub fn number(&mut self, n: u64)
         requires { length self.old + 20 ≤ 1024 }
         ensures text { self.new ≡ self.old ++ decimal n }
         ensures grows { length self.new ≤ length self.old + 20 }
@@ -58,7 +58,7 @@ impl Line {
 
     /// Puts the 16 hexadecimal digits of a number at the line's end.
     #[tactic(auto, unfolding(xl_model::specs::Lines::hex16))]
-    pub(crate) fn hex(&mut self, n: u64)
+    pub fn hex(&mut self, n: u64)
         requires { length self.old + 16 ≤ 1024 }
         ensures text { self.new ≡ self.old ++ hex16 n }
         ensures grows { length self.new ≡ length self.old + 16 }
@@ -67,7 +67,7 @@ impl Line {
     }
 
     /// The line so far.
-    pub(crate) fn bytes(&self) -> &[u8]
+    pub fn bytes(&self) -> &[u8]
         ensures { result.now ≡ self.entry.now }
     {
         &self.bytes[..self.len]
