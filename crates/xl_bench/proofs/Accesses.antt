@@ -1,5 +1,5 @@
 -- Accesses of the built-in row.
-use Rattle.std.proofs.Common.{◌≡◌, refl, sym, ap, ◌∙◌, subst, ℕ, zero, suc, ◌+◌, ◌-◌, ◌*◌, ◌/◌, ◌%◌, ◌^◌, ◌<◌, ◌≤◌, Bool, true, false, cond, List, [], Option, None, Some, nat_lt, nat_le, ◌==◌, ◌&&◌, arith}
+use Rattle.std.proofs.Common.{◌≡◌, refl, sym, ap, ◌∙◌, subst, ℕ, zero, suc, ◌+◌, ◌-◌, ◌*◌, ◌/◌, ◌%◌, ◌^◌, ◌<◌, ◌≤◌, Bool, true, false, cond, List, Option, None, Some, arith}
 use Rattle.std.specs.Prelude.{find}
 use Rattle.std.proofs.lemmas.Bool.Decides.{nat_tests}
 use Rattle.xl_model.specs.declared.address.Kind.{Kind}
@@ -15,7 +15,7 @@ use Rattle.xl_model.specs.Addresses.{is_canonical, page_of, pages_of, level_of, 
 use Rattle.xl_model.specs.Mapping.{covers, leaf_at_page, reply_by}
 use Rattle.xl_model.specs.Nodes.{up, Node, in_nodes, number_of}
 use Rattle.xl_model.specs.Placing.{plus}
-use Rattle.xl_model.specs.Tally.{count_reply, count_walk, count_fills}
+use Rattle.xl_model.specs.Tally.{count_reply, count_walk}
 use Rattle.xl_model.specs.RowRun.{after_event}
 use Rattle.xl_model.specs.Walks.{end_level}
 use Rattle.xl_mapping.specs.Members.{In}
@@ -25,7 +25,6 @@ use Rattle.xl_mapping.proofs.Ends.{leaf-ends}
 use Rattle.xl_phys.specs.Lines.{counted}
 use Rattle.xl_radix.specs.Table.{Table}
 use Rattle.xl_radix.specs.declared.walk_end.WalkEnd.{WalkEnd}
-use Rattle.xl_radix.specs.declared.walk_end.WalkEnd.TheVariants as end
 use Rattle.xl_radix.specs.Walk.{radix_back, walk_end, WordsReadBack}
 use Rattle.xl_radix_walk.specs.Path.{end_of, loaded_times}
 use Rattle.xl_bench.specs.BuiltIn.{built_in}

@@ -1,5 +1,5 @@
 -- A row counts in as many arrays as it has.
-use Rattle.std.proofs.Common.{◌≡◌, refl, ℕ, ◌∙◌, Bool, true, false, List, Option, None, Some, Ok, Err, ap}
+use Rattle.std.proofs.Common.{◌≡◌, refl, ℕ, ◌∙◌, Bool, true, false, List, Option, None, Some, Ok, Err}
 use Rattle.xl_model.specs.declared.address.Kind.{Kind}
 use Rattle.xl_model.specs.declared.leaf.Leaf.{Leaf}
 use Rattle.xl_model.specs.declared.leaf.Reply.{Reply}
@@ -21,9 +21,9 @@ use Rattle.xl_model.specs.Rules.{rule, change_of}
 use Rattle.xl_model.specs.Structures.{table_answer}
 use Rattle.xl_model.specs.Tally.{no_counts, count_refusal, count_reply, count_walk, count_fills, count_look, count_work, count_accepted, count_invalidated, count_fence}
 use Rattle.xl_model.specs.Tlb.{Answer, answer_of}
-use Rattle.xl_model.specs.RowRun.{RowState, opening, walk_filled, walk_made, looked_by, looked, looked_where, accessed, reply_to, changed_by, changed_where, counts_refused, fenced, reach_of, served, after_rule, after_event}
+use Rattle.xl_model.specs.RowRun.{RowState, opening, walk_filled, walk_made, looked_by, looked, looked_where, accessed, reply_to, changed_by, changed_where, counts_refused, fenced, served, after_rule, after_event}
 use Rattle.xl_model.specs.Items.{Item, after_items, at_opening, run}
-use Rattle.xl_laws.proofs.Runs.{Keeps, run-keeps}
+use Rattle.xl_laws.proofs.Runs.{run-keeps}
 use Rattle.xl_bench.specs.BuiltIn.{built_in}
 
 abbrev pub arrays_in : RowState → ℕ

@@ -1,6 +1,6 @@
 -- What the steps of a run say of its ending.
-use Rattle.std.proofs.Common.{◌≡◌, ℕ, ◌+◌, ◌≤◌, ◌<◌, Bool, true, false, List, [], ◌∷◌, length, take, refl, ap, sym, ◌∙◌, subst, codes, arith, length-take, inl, inr}
-use Rattle.std.specs.Prelude.{Option, None, Some, Result, Ok, Err, nat_lt, if◌then◌else◌, min}
+use Rattle.std.proofs.Common.{◌≡◌, ℕ, ◌<◌, Bool, false, List, [], ◌∷◌, length, take, refl, ap, sym, ◌∙◌, subst, codes, arith, length-take, inl, inr}
+use Rattle.std.specs.Prelude.{Option, None, Some, Result, Ok, Err, nat_lt, if◌then◌else◌}
 use Rattle.std.specs.declared.alloc.Global.{Global}
 use Rattle.std.specs.declared.vec.Vec.{Vec}
 use Rattle.std.proofs.lemmas.Bool.{cases_lt, lt-ltb}
@@ -8,7 +8,7 @@ use Rattle.std.proofs.lemmas.List.{take_all}
 use Rattle.xl_model.specs.declared.row.Counts.{Counts}
 use Rattle.xl_model.specs.Rows.{Row}
 use Rattle.xl_model.specs.RowRun.{RowState, opening}
-use Rattle.xl_model.specs.Items.{Item, after_item, after_items, at_opening}
+use Rattle.xl_model.specs.Items.{Item, after_items, at_opening}
 use Rattle.xl_model.specs.Lines.{row_line}
 use Rattle.xl_model.specs.Report.{Served, serve, all_served, with_rows, report}
 use Rattle.xl_outside.specs.Whole.{TellsWhole}

@@ -1,5 +1,5 @@
 -- Events of the built-in row.
-use Rattle.std.proofs.Common.{◌≡◌, refl, sym, ap, ◌∙◌, subst, ℕ, zero, suc, ◌+◌, ◌-◌, ◌*◌, ◌<◌, ◌≤◌, Bool, true, false, not, cond, List, [], ◌∷◌, length, Option, None, Some, Result, Ok, Err, nat_lt, nat_le, ◌==◌, ◌&&◌, arith}
+use Rattle.std.proofs.Common.{◌≡◌, refl, sym, ap, ◌∙◌, subst, ℕ, suc, ◌+◌, Bool, true, false, cond, List, [], ◌∷◌, Option, None, Some, Ok, Err, nat_lt, nat_le, ◌==◌, ◌&&◌}
 use Rattle.xl_model.specs.declared.address.Kind.{Kind}
 use Rattle.xl_model.specs.declared.address.Mode.TheVariants as mode
 use Rattle.xl_model.specs.declared.address.Order.{Order}
@@ -7,11 +7,10 @@ use Rattle.xl_model.specs.declared.perm.Perm.{Perm}
 use Rattle.xl_model.specs.declared.leaf.Leaf.{Leaf}
 use Rattle.xl_model.specs.declared.leaf.Reply.TheVariants as reply
 use Rattle.xl_model.specs.declared.event.Event.TheVariants as event
-use Rattle.xl_model.specs.declared.event.Refusal.{Refusal}
 use Rattle.xl_model.specs.declared.event.Refusal.TheVariants as refused
 use Rattle.xl_model.specs.declared.row.Counts.{Counts}
 use Rattle.xl_model.specs.Addresses.{is_canonical, page_of, level_of}
-use Rattle.xl_model.specs.Mapping.{leaf_at_page, with_leaf, reply_by, reply_where, flat}
+use Rattle.xl_model.specs.Mapping.{leaf_at_page, with_leaf, reply_by, flat}
 use Rattle.xl_model.specs.Frames.{lowest}
 use Rattle.xl_model.specs.Changes.{Change, Insert, changed}
 use Rattle.xl_model.specs.Rules.{rule, change_of}
@@ -19,22 +18,16 @@ use Rattle.xl_model.specs.Nodes.{Node, up}
 use Rattle.xl_model.specs.Placing.{plus}
 use Rattle.xl_model.specs.Shapes.{Shape, Radix, shape_after}
 use Rattle.xl_model.specs.Room.{has_room}
-use Rattle.xl_model.specs.Caches.{Caches, NodeCaches, Cached, Numbered, empty_cache, caches_purged}
-use Rattle.xl_model.specs.Walks.{walked, node_cache_after, node_caches_after, is_tag, numbered, with_touch, with_fill, end_level}
+use Rattle.xl_model.specs.Caches.{Caches, empty_cache, caches_purged}
+use Rattle.xl_model.specs.Walks.{walked, node_cache_after, node_caches_after, is_tag, numbered, with_touch, with_fill}
 use Rattle.xl_model.specs.declared.work.Refused.{Refused}
 use Rattle.xl_model.specs.declared.work.NoRoom.TheVariants as why
-use Rattle.xl_model.specs.Structures.{TableState, Verdict, Made, NoSpace, verdict, verdict_by, table_made, table_answer, table_after, table_walked}
-use Rattle.xl_model.specs.Tally.{count_refusal, count_reply, count_walk, count_look, count_fills}
-use Rattle.xl_model.specs.RowRun.{RowState, opening, walk_filled, walk_made, looked_by, looked, looked_where, reply_to, accessed, changed_by, changed_where, served, after_event}
-use Rattle.xl_model.specs.Tlb.{answer_of, arrays_filled, leaves_in}
+use Rattle.xl_model.specs.Structures.{TableState, Made, NoSpace, verdict, table_made, table_answer, table_after, table_walked}
+use Rattle.xl_model.specs.Tally.{count_refusal, count_reply, count_walk, count_look}
+use Rattle.xl_model.specs.RowRun.{RowState, walk_filled, walk_made, looked, reply_to, accessed, changed_by, served, after_event}
+use Rattle.xl_model.specs.Tlb.{arrays_filled, leaves_in}
 use Rattle.xl_bench.specs.BuiltIn.{built_in}
 use Rattle.xl_bench.specs.Machines.{no_caches, table_of, state_of, no_work, done_counts, reads_of, filled_counts}
-
--- a map that a rule refuses
-pub map-refused : (space va : ℕ) (o : Order) (perm : Perm) (s : RowState) (r : Refusal) → rule built_in s.table.leaves (event.Map space va o perm) ≡ Some r
-    → after_event built_in (event.Map space va o perm) s ≡ record s { counts = count_refusal r s.counts }
-unfolding after_event
-map-refused space va o perm s r is = rw is refl
 
 abbrev pub new_leaf : ℕ → ℕ → Order → ℕ → Perm → Leaf
 new_leaf space va o at perm = record { space = space; first = page_of mode.Sv39 va; order = o; frame = at; perm = perm }

@@ -1,5 +1,5 @@
 -- Maps of the built-in row: refusals, and what the machine keeps.
-use Rattle.std.proofs.Common.{◌≡◌, refl, sym, ap, ◌∙◌, subst, ℕ, zero, suc, ◌+◌, ◌-◌, ◌*◌, ◌%◌, ◌^◌, ◌<◌, ◌≤◌, Bool, true, false, not, cond, List, [], ◌∷◌, length, Option, None, Some, nat_lt, nat_le, ◌==◌, ◌&&◌, ◌⊎◌, inl, inr, arith, slice_index_or}
+use Rattle.std.proofs.Common.{◌≡◌, refl, sym, ◌∙◌, subst, ℕ, zero, suc, ◌+◌, ◌-◌, ◌*◌, ◌%◌, ◌<◌, ◌≤◌, Bool, true, false, List, [], ◌∷◌, length, Option, None, Some, nat_lt, arith, slice_index_or}
 use Rattle.std.specs.Prelude.{replicate}
 use Rattle.std.proofs.lemmas.List.{length-replicate, get_or-replicate}
 use Rattle.std.proofs.lemmas.Bool.Decides.{nat_tests}
@@ -16,10 +16,10 @@ use Rattle.xl_model.specs.declared.row.Counts.{Counts}
 use Rattle.xl_model.specs.Addresses.{is_canonical, is_aligned, page_of, pages_of}
 use Rattle.xl_model.specs.Mapping.{meets_any, with_leaf}
 use Rattle.xl_model.specs.Frames.{lowest}
-use Rattle.xl_model.specs.Changes.{Change, Insert, changed}
-use Rattle.xl_model.specs.Rules.{rule, change_of, place_rule, overlap_rule, frames_rule}
+use Rattle.xl_model.specs.Changes.{Insert, changed}
+use Rattle.xl_model.specs.Rules.{rule, change_of, frames_rule}
 use Rattle.xl_model.specs.Nodes.{Node, opening_nodes}
-use Rattle.xl_model.specs.Shapes.{Shape, Radix, shape_after, opening_shape}
+use Rattle.xl_model.specs.Shapes.{Radix, shape_after, opening_shape}
 use Rattle.xl_model.specs.Room.{has_room}
 use Rattle.xl_model.specs.Caches.{opening_caches}
 use Rattle.xl_model.specs.Structures.{IsBlock, IsLeafFor}
@@ -28,18 +28,17 @@ use Rattle.xl_model.specs.Tlb.{opening_arrays}
 use Rattle.xl_model.specs.RowRun.{RowState, opening, after_event}
 use Rattle.xl_mapping.specs.Lowest.{HasNoFree, IsAnswer}
 use Rattle.xl_mapping.proofs.Lowest.{lowest-is-lowest}
-use Rattle.xl_mapping.specs.Members.{In}
-use Rattle.xl_mapping.specs.Mappings.{IsMapping, IsLeafOf, IsNewLeaf, IsSound}
+use Rattle.xl_mapping.specs.Mappings.{IsNewLeaf}
 use Rattle.xl_mapping.proofs.Insertion.{stays-with}
 use Rattle.xl_mapping.proofs.Kept.{kept-inserted}
 use Rattle.xl_mapping.proofs.Places.{page-block}
 use Rattle.xl_mapping.proofs.Ruled.{or-second, sound-of}
 use Rattle.xl_mapping.proofs.Stays.{other-key, first-small}
-use Rattle.xl_frames.specs.Pool.{IsFree, IsLowest, HasNone, marked}
+use Rattle.xl_frames.specs.Pool.{IsFree, marked}
 use Rattle.xl_bench.specs.BuiltIn.{built_in}
 use Rattle.xl_bench.specs.Pools.{IsPoolOf}
-use Rattle.xl_bench.specs.Machines.{IsKept, no_caches, state_of, done_counts}
-use Rattle.xl_bench.proofs.Pools.{lowest-some, lowest-none, pool-taken, pool-given, free-of}
+use Rattle.xl_bench.specs.Machines.{IsKept, state_of, done_counts}
+use Rattle.xl_bench.proofs.Pools.{pool-taken, pool-given, free-of}
 use Rattle.xl_bench.proofs.Machines.{new_leaf, map-done, map-no-room}
 
 -- refusals, one by one

@@ -1,11 +1,8 @@
 -- What is left of a script and a trace gives what the whole gives.
-use Rattle.std.proofs.Common.{◌≡◌, refl, sym, ap, ◌∙◌, subst, ℕ, zero, suc, ◌+◌, ◌-◌, ◌^◌, ◌<◌, ◌≤◌, Bool, true, false, List, [], ◌∷◌, length, Option, None, Some, Result, Ok, Err, arith}
-use Rattle.std.specs.Prelude.{drop, slice_get, All}
+use Rattle.std.proofs.Common.{◌≡◌, refl, sym, ap, ◌∙◌, subst, ℕ, zero, suc, ◌+◌, ◌-◌, ◌^◌, ◌<◌, ◌≤◌, true, List, [], ◌∷◌, length, Option, None, Some, Result, Ok, Err, arith}
+use Rattle.std.specs.Prelude.{drop, slice_get}
 use Rattle.std.proofs.lemmas.List.{drop_all, drop_more}
-use Rattle.std.proofs.lemmas.List.Elements.{All-get_or}
 use Rattle.std.proofs.lemmas.Option.{slice_get_within, get_or_from_slice_get}
-use Rattle.xl_model.specs.declared.address.Order.{Order}
-use Rattle.xl_model.specs.declared.perm.Perm.{Perm}
 use Rattle.xl_model.specs.RowRun.{RowState}
 use Rattle.xl_script.specs.declared.command.Command.{Command}
 use Rattle.xl_script.specs.declared.command.Command.TheVariants as command
@@ -15,9 +12,9 @@ use Rattle.xl_lackey.specs.Answers.{item_of}
 use Rattle.xl_lackey.specs.Accesses.{accesses, accesses_at, places}
 use Rattle.xl_bench.specs.declared.tape.TapeStop.{TapeStop}
 use Rattle.xl_bench.specs.declared.tape.TapeStop.TheVariants as why
-use Rattle.xl_bench.specs.Trails.{AtEnd, TooLong, Trail, Progress, ahead}
-use Rattle.xl_bench.specs.Tapes.{IsUnfed, IsWithin, Stands, Gave, Stops}
-use Rattle.xl_bench.specs.Serving.{FailsAt, ServeAnswers, IsPlaced, mapped, accessed, replayed, played, Goes, RunsOut, RunAnswers, RestAnswers, HasGone, CommandAnswers, IsFew}
+use Rattle.xl_bench.specs.Trails.{AtEnd, Trail, Progress, ahead}
+use Rattle.xl_bench.specs.Tapes.{IsUnfed, IsWithin, Gave}
+use Rattle.xl_bench.specs.Serving.{FailsAt, ServeAnswers, accessed, replayed, played, Goes, RunsOut, RunAnswers, RestAnswers, HasGone, CommandAnswers, IsFew}
 use Rattle.xl_bench.proofs.Few.{few}
 use Rattle.xl_bench.proofs.Serves.{items-played}
 
@@ -32,20 +29,6 @@ pub record Partly (n i : ℕ) (file : List ℕ) (old new : Progress) (s t : RowS
 abbrev pub Gone : ℕ → ℕ → Option (List ℕ) → Progress → Progress → RowState → RowState → Type 0
 Gone n i None old new s t = (i ≡ 0) × IsUnfed new
 Gone n i (Some file) old new s t = Partly n i file old new s t
-
-pub gone-start : (n : ℕ) (file : Option (List ℕ)) (p : Progress) (s : RowState) → Stands file p → Gone n 0 file p p s s
-gone-start n None p s h = (refl, h)
-gone-start n (Some file) p s h = record {
-  same = λ cs. let e : n - 0 ≡ n = omega arith in ap (λ (k : ℕ). played (command.Run k ∷ cs) (ahead file p).records s) e;
-  whole = refl;
-  end = refl;
-  count = omega arith;
-  within = h;
-}
-
-pub gone-stands : (n i : ℕ) (file : Option (List ℕ)) (old new : Progress) (s t : RowState) → Gone n i file old new s t → Stands file new
-gone-stands n i None old new s t h = h.1
-gone-stands n i (Some file) old new s t h = h.within
 
 play-one : (k : ℕ) (x : Record) (rs qs : List Record) (t u : RowState) (cs : List Command) → rs ≡ x ∷ qs → u ≡ accessed (accesses_at x.letter (places x.addr x.size)) t
     → played (command.Run k ∷ cs) qs u ≡ played (command.Run (suc k) ∷ cs) rs t
@@ -103,21 +86,6 @@ gone-ended n i (Some file) old mid new s t g give =
       },
     )
 
-pub gone-all : (n i : ℕ) (file : Option (List ℕ)) (old new : Progress) (s t : RowState) → i ≡ n → Gone n i file old new s t → RunAnswers n file (Ok false) old new s t
-gone-all n i None old new s t e g = (sym e ∙ g.0, g.1)
-gone-all n i (Some file) old new s t e g =
-    let z : n - i ≡ 0 = omega arith in
-    let c : i + length (ahead file new).records ≡ length (ahead file old).records = g.count in
-    record {
-      goes = λ cs. record {
-        same = ap (λ (k : ℕ). played (command.Run k ∷ cs) (ahead file new).records t) (sym z) ∙ g.same cs;
-        end = g.end;
-        fewer = omega arith;
-        within = g.within;
-      };
-      count = omega arith;
-    }
-
 -- a stop later on is one of what was left at first
 stop-back : (file : Option (List ℕ)) (stop : TapeStop) (old mid : Progress) → ((f : List ℕ) → file ≡ Some f → (ahead f mid).end ≡ (ahead f old).end)
     → FailsAt file stop mid → FailsAt file stop old
@@ -129,104 +97,6 @@ stop-back (Some file) why.Missing old mid e h = absurd h
 stop-back (Some file) why.Failed old mid e h = tt
 stop-back (Some file) (why.Bad line reason) old mid e h = sym (e file refl) ∙ h
 stop-back (Some file) why.TooLong old mid e h = sym (e file refl) ∙ h
-
-stop-end : (file : Option (List ℕ)) (stop : TapeStop) (p : Progress) → Stops file stop p → FailsAt file stop p
-stop-end None why.Missing p h = tt
-stop-end None why.Failed p h = tt
-stop-end None (why.Bad line reason) p h = absurd h
-stop-end None why.TooLong p h = absurd h
-stop-end (Some file) why.Missing p h = absurd h
-stop-end (Some file) why.Failed p h = tt
-stop-end (Some file) (why.Bad line reason) p h = ap (λ (z : Trail). z.end) h
-stop-end (Some file) why.TooLong p h = ap (λ (z : Trail). z.end) h
-
-gone-end : (n i : ℕ) (file : Option (List ℕ)) (old mid : Progress) (s t : RowState) → Gone n i file old mid s t → (f : List ℕ) → file ≡ Some f → (ahead f mid).end ≡ (ahead f old).end
-gone-end n i None old mid s t g f e = absurd (grind arith)
-gone-end n i (Some file) old mid s t g f e =
-    let P : Option (List ℕ) → Type 0 = λ z. Gone n i z old mid s t in
-    let h : Partly n i f old mid s t = subst P e g in h.end
-
-run-err : (n : ℕ) (file : Option (List ℕ)) (stop : TapeStop) (old new : Progress) (s t : RowState) → FailsAt file stop old → RunAnswers n file (Err stop) old new s t
-run-err n None stop old new s t h = h
-run-err n (Some file) stop old new s t h = h
-
-pub err-run : (n : ℕ) (file : Option (List ℕ)) (stop : TapeStop) (old new : Progress) (s t : RowState) → RunAnswers n file (Err stop) old new s t → FailsAt file stop old
-err-run n None stop old new s t h = h
-err-run n (Some file) stop old new s t h = h
-
-pub gone-stops : (n i : ℕ) (file : Option (List ℕ)) (stop : TapeStop) (old mid new : Progress) (s t u : RowState) → Gone n i file old mid s t → Stops file stop mid
-    → RunAnswers n file (Err stop) old new s u
-gone-stops n i file stop old mid new s t u g h =
-    run-err n file stop old new s u (stop-back file stop old mid (gone-end n i file old mid s t g) (stop-end file stop mid h))
-
--- the rest of the trace
-pub rest-ended : (n : ℕ) (file : Option (List ℕ)) (b : Bool) (u : Unit {0}) (old new : Progress) (s t : RowState) → b ≡ true → RunAnswers n file (Ok b) old new s t
-    → RestAnswers file (Ok u) old new s t
-rest-ended n None true u old new s t e h = absurd h
-rest-ended n None false u old new s t e h = absurd (grind arith)
-rest-ended n (Some file) true u old new s t e h = h.0
-rest-ended n (Some file) false u old new s t e h = absurd (grind arith)
-
-pub rest-endless : (n : ℕ) (file : Option (List ℕ)) (b : Bool) (old new : Progress) (s t : RowState) → n ≡ 2 ^ 64 - 1 → b ≡ false → RunAnswers n file (Ok b) old new s t → IsFew file old
-    → RestAnswers file (Err why.TooLong) old new s t
-rest-endless n file true old new s t e b h few = absurd (grind arith)
-rest-endless n None false old new s t e b h few = let z : n ≡ 0 = h.0 in absurd (omega arith)
-rest-endless n (Some file) false old new s t e b h few =
-    let c : n + length (ahead file new).records ≡ length (ahead file old).records = h.count in
-    let f : length (ahead file old).records ≤ 2 ^ 35 = few in absurd (omega arith)
-
-pub rest-err : (n : ℕ) (file : Option (List ℕ)) (stop : TapeStop) (old new : Progress) (s t : RowState) → RunAnswers n file (Err stop) old new s t → RestAnswers file (Err stop) old new s t
-rest-err n None stop old new s t h = h
-rest-err n (Some file) stop old new s t h = h
-
--- the commands
-pub command-map : (space va : ℕ) (o : Order) (perm : Perm) (n : ℕ) (file : Option (List ℕ)) (u : Unit {0}) (p : Progress) (s t : RowState) → Stands file p → t ≡ mapped space va o perm n s
-    → CommandAnswers (command.Map space va o perm n) file (Ok u) p p s t
-command-map space va o perm n None u p s t h d = λ cs. h
-command-map space va o perm n (Some file) u p s t h d = λ cs. record {
-  same = ap (λ (z : RowState). played cs (ahead file p).records z) d;
-  end = refl;
-  fewer = omega arith;
-  within = h;
-}
-
-pub command-run : (n : ℕ) (file : Option (List ℕ)) (b : Bool) (u : Unit {0}) (old new : Progress) (s t : RowState) → RunAnswers n file (Ok b) old new s t
-    → CommandAnswers (command.Run n) file (Ok u) old new s t
-command-run n None true u old new s t h = absurd h
-command-run n None false u old new s t h = λ cs. h.1
-command-run n (Some file) true u old new s t h = h.1
-command-run n (Some file) false u old new s t h = h.goes
-
-pub command-err : (n : ℕ) (c : Command) (file : Option (List ℕ)) (stop : TapeStop) (old new : Progress) (s t : RowState) → RunAnswers n file (Err stop) old new s t
-    → CommandAnswers c file (Err stop) old new s t
-command-err n c None stop old new s t h = h
-command-err n c (Some file) stop old new s t h = h
-
-pub command-rest : (file : Option (List ℕ)) (result : Result (Unit {0}) TapeStop) (old new : Progress) (s t : RowState) → RestAnswers file result old new s t
-    → CommandAnswers command.RunRest file result old new s t
-command-rest None (Ok u) old new s t h = absurd h
-command-rest None (Err stop) old new s t h = h
-command-rest (Some file) (Err stop) old new s t h = h
-command-rest (Some file) (Ok u) old new s t h =
-    let l : length (ahead file new).records ≡ 0 = ap length h.none in
-    λ cs. record {
-      same = ap (λ (z : List Record). played cs z t) h.none ∙ ap (λ (z : RowState). played cs [] z) h.same;
-      end = h.after ∙ sym h.end;
-      fewer = omega arith;
-      within = h.within;
-    }
-
--- the script
-pub serve-start : (cs : List Command) (file : Option (List ℕ)) (p : Progress) (s : RowState) → Stands file p → HasGone cs cs file p p s s
-serve-start cs None p s h = h
-serve-start cs (Some file) p s h = record { same = refl; end = refl; fewer = omega arith; within = h }
-
-pub serve-stands : (bs cs : List Command) (file : Option (List ℕ)) (old new : Progress) (s t : RowState) → HasGone bs cs file old new s t → Stands file new
-serve-stands bs cs None old new s t h = h
-serve-stands bs cs (Some file) old new s t h = h.within
-
-pub placed-at : (cs : List Command) (i : ℕ) (c : Command) → All IsPlaced cs → slice_get cs i ≡ Some c → IsPlaced c
-placed-at cs i c all h = subst IsPlaced (get_or_from_slice_get cs i c c h) (All-get_or IsPlaced cs i c (slice_get_within cs i c h) all)
 
 command-left : (cs : List Command) (i : ℕ) (c : Command) → slice_get cs i ≡ Some c → drop i cs ≡ c ∷ drop (i + 1) cs
 command-left cs i c h = drop_more cs i c (slice_get_within cs i c h) ∙ ap (λ (z : Command). z ∷ drop (i + 1) cs) (get_or_from_slice_get cs i c c h)
@@ -259,19 +129,6 @@ has-end bs cs None old mid s t g f e = absurd (grind arith)
 has-end bs cs (Some file) old mid s t g f e =
     let P : Option (List ℕ) → Type 0 = λ z. HasGone bs cs z old mid s t in
     let h : Goes bs cs f old mid s t = subst P e g in h.end
-
-err-command : (c : Command) (file : Option (List ℕ)) (stop : TapeStop) (old new : Progress) (s t : RowState) → CommandAnswers c file (Err stop) old new s t → FailsAt file stop old
-err-command c None stop old new s t h = h
-err-command c (Some file) stop old new s t h = h
-
-serve-err : (bs : List Command) (file : Option (List ℕ)) (stop : TapeStop) (old : Progress) (s t : RowState) → FailsAt file stop old → ServeAnswers bs file (Err stop) old s t
-serve-err bs None stop old s t h = h
-serve-err bs (Some file) stop old s t h = h
-
-pub serve-stops : (bs cs : List Command) (c : Command) (file : Option (List ℕ)) (stop : TapeStop) (old mid new : Progress) (s t u : RowState)
-    → HasGone bs cs file old mid s t → CommandAnswers c file (Err stop) mid new t u → ServeAnswers bs file (Err stop) old s u
-serve-stops bs cs c file stop old mid new s t u g h =
-    serve-err bs file stop old s u (stop-back file stop old mid (has-end bs cs file old mid s t g) (err-command c file stop mid new t u h))
 
 pub serve-ends : (bs : List Command) (i : ℕ) (file : Option (List ℕ)) (result : Result (Unit {0}) TapeStop) (old mid new : Progress) (s t u : RowState) → length bs ≤ i
     → HasGone bs (drop i bs) file old mid s t → RestAnswers file result mid new t u → ServeAnswers bs file result old s u

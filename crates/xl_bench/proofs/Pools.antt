@@ -1,9 +1,7 @@
 -- The lowest free block of a pool is the lowest block that no leaf holds.
-use Rattle.std.proofs.Common.{◌≡◌, refl, sym, ap, ◌∙◌, subst, ℕ, zero, suc, ◌+◌, ◌-◌, ◌*◌, ◌<◌, ◌≤◌, Bool, true, false, not, cond, List, [], ◌∷◌, ◌++◌, length, take, drop, Option, None, Some, ◌⊎◌, inl, inr, slice_index_or, nat_lt, nat_le, ◌==◌, ◌&&◌, ◌||◌, arith, length-append}
-use Rattle.std.specs.Prelude.{replicate}
+use Rattle.std.proofs.Common.{◌≡◌, refl, sym, ap, ◌∙◌, subst, ℕ, ◌+◌, ◌*◌, ◌<◌, ◌≤◌, Bool, true, false, not, List, length, Option, None, Some, inl, inr, slice_index_or, nat_lt, nat_le, arith}
 use Rattle.std.specs.List.{list_any}
 use Rattle.std.proofs.lemmas.Bool.Decides.{nat_tests}
-use Rattle.std.proofs.lemmas.Grind.{common_steps}
 use Rattle.xl_model.specs.declared.address.Order.{Order}
 use Rattle.xl_model.specs.declared.address.Order.TheVariants as order
 use Rattle.xl_model.specs.declared.leaf.Leaf.{Leaf}
@@ -11,19 +9,13 @@ use Rattle.xl_model.specs.Addresses.{pages_of}
 use Rattle.xl_model.specs.Mapping.{holds_frames, with_leaf}
 use Rattle.xl_model.specs.Frames.{lowest}
 use Rattle.xl_mapping.specs.Members.{In}
-use Rattle.xl_mapping.specs.Lowest.{IsFree as IsFreeOf, IsLowest as IsLowestOf, HasNoFree, IsAnswer}
+use Rattle.xl_mapping.specs.Lowest.{IsFree as IsFreeOf, IsAnswer}
 use Rattle.xl_mapping.proofs.Members.{any-false, any-In, In-any}
-use Rattle.xl_mapping.proofs.Insertion.{with-In, In-with, stays-with}
+use Rattle.xl_mapping.proofs.Insertion.{with-In, In-with}
 use Rattle.xl_mapping.proofs.Lowest.{lowest-is-lowest}
 use Rattle.xl_frames.specs.Pool.{IsFree, IsLowest, HasNone, marked}
 use Rattle.xl_frames.proofs.Marks.{length-marked, marked_inside, marked_below, marked_above}
 use Rattle.xl_bench.specs.Pools.{IsPoolOf}
-
-not-of : (a b : Bool) → a ≡ not b → b ≡ not a
-not-of true true h = absurd (cc)
-not-of true false h = refl
-not-of false true h = refl
-not-of false false h = absurd (cc)
 
 positive : (o : Order) → 0 < pages_of o
 positive order.K4 = omega arith

@@ -6,11 +6,11 @@ use Rattle.std.proofs.lemmas.List.{drop_all}
 use Rattle.xl_lackey.specs.declared.fault.Fault.{Fault}
 use Rattle.xl_lackey.specs.declared.reference.Reference.{Reference}
 use Rattle.xl_lackey.specs.Stream.{Item, Left, left, due, MayCome}
-use Rattle.xl_lackey.specs.Answers.{Gives, Waits, Ends, Refuses, item_of}
+use Rattle.xl_lackey.specs.Answers.{Gives, Ends, Refuses, item_of}
 use Rattle.xl_bench.specs.Trails.{AtEnd, BadAt, TooLong, trail, Progress, limit, ahead, with_record}
 use Rattle.xl_bench.specs.Tapes.{IsUnfed, IsWithin, Stands, Keeps, Plays, IsDone, Gave, Stops, nothing}
 use Rattle.xl_bench.specs.declared.tape.TapeStop.TheVariants as why
-use Rattle.xl_bench.proofs.Pieces.{long, short, keeps_both, false≢true}
+use Rattle.xl_bench.proofs.Pieces.{long, short, false≢true}
 
 either : (t : Bool) → (t ≡ true → ⊥) → t ≡ false
 either true h = absurd (h refl)
@@ -51,21 +51,6 @@ plays file r old new w g a = record {
   within = same_within file old new w a g.finished;
 }
 
-keeps_waiting : (file : List ℕ) (old new : Progress) → IsWithin file old → Waits old.reader new.reader → new.at ≡ old.at → Keeps file old new
-keeps_waiting file old new w g a =
-    let part = w.part in
-    let most = w.most in record {
-      same = elim (cases_lt limit (length file)) [
-        | inl h ↦
-            long file new h ∙ ap (λ (k : ℕ). trail (due new.reader (drop k (take limit file))) TooLong) a
-            ∙ ap (λ (l : Left). trail l TooLong) (g.ended (drop old.at (take limit file))) ∙ sym (long file old h)
-        | inr h ↦
-            short file new h ∙ ap (λ (k : ℕ). trail (left new.reader (drop k file)) AtEnd) a
-            ∙ ap (λ (l : Left). trail l AtEnd) (g.reads (drop old.at file)) ∙ sym (short file old h)
-      ];
-      within = record { part = omega arith; most = omega arith; all = λ h. absurd (false≢true (sym g.unfinished ∙ h)) };
-    }
-
 ended_is : (file : List ℕ) (p : Progress) → IsWithin file p → p.reader.finished ≡ true → left p.reader [] ≡ ([], None) → ahead file p ≡ nothing AtEnd
 ended_is file p w f none =
     let a = w.all f in
@@ -104,36 +89,16 @@ none_ended old new u g = false≢true (sym u.unfinished ∙ g.finished)
 none_refused : (fault : Fault) (old new : Progress) → IsUnfed old → Refuses fault old.reader new.reader → ⊥
 none_refused fault old new u g = fault≢none fault (ap (λ (l : Left). l.1) (sym (g.reads [] (λ _. refl)) ∙ u.none))
 
-unfed_waiting : (old new : Progress) → IsUnfed old → Waits old.reader new.reader → new.at ≡ old.at → IsUnfed new
-unfed_waiting old new u g a = record { none = g.reads [] ∙ u.none; unfinished = g.unfinished; first = a ∙ u.first }
-
 -- what is left is still the same; nothing was fed of a file that isn't there
 abbrev pub Still : Option (List ℕ) → Progress → Progress → Type 0
 Still None old new = IsUnfed new
 Still (Some file) old new = Keeps file old new
-
-pub still_first : (file : Option (List ℕ)) (p : Progress) → Stands file p → Still file p p
-still_first None p h = h
-still_first (Some file) p h = record { same = refl; within = h }
-
-pub still_waiting : (file : Option (List ℕ)) (old mid new : Progress) → Still file old mid → Waits mid.reader new.reader → new.at ≡ mid.at → Still file old new
-still_waiting None old mid new s g a = unfed_waiting mid new s g a
-still_waiting (Some file) old mid new s g a = keeps_both file old mid new s (keeps_waiting file mid new s.within g a)
-
-pub still_stands : (file : Option (List ℕ)) (old new : Progress) → Still file old new → Stands file new
-still_stands None old new s = s
-still_stands (Some file) old new s = s.within
 
 pub gave_found : (file : Option (List ℕ)) (r : Reference) (old mid new : Progress) → Still file old mid → Gives (item_of r) mid.reader new.reader → new.at ≡ mid.at
     → Gave file (Some r) old new
 gave_found None r old mid new s g a = none_given (item_of r) mid new s g
 gave_found (Some file) r old mid new s g a =
     let p = plays file r mid new s.within g a in record { record_is = sym s.same ∙ p.record_is; within = p.within }
-
-pub gave_end : (file : Option (List ℕ)) (old mid new : Progress) → Still file old mid → Ends mid.reader new.reader → new.at ≡ mid.at → Gave file None old new
-gave_end None old mid new s g a = none_ended mid new s g
-gave_end (Some file) old mid new s g a =
-    let d = done file mid new s.within g a in record { before = sym s.same ∙ d.before; after = d.after; within = d.within }
 
 pub stops_bad : (file : Option (List ℕ)) (line reason : ℕ) (old mid new : Progress) → Still file old mid
     → Refuses (record { line = line; reason = reason }) mid.reader new.reader → Stops file (why.Bad line reason) old

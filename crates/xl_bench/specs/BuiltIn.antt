@@ -1,5 +1,5 @@
 -- The built-in row: Sv39, 4096 frames, one space, a radix table of 64 frames without walk caches, no TLB.
-use Rattle.std.specs.Prelude.{ℕ, List, [], ◌∷◌, codes}
+use Rattle.std.specs.Prelude.{[], ◌∷◌, codes}
 use Rattle.xl_model.specs.declared.address.Mode.TheVariants as mode
 use Rattle.xl_model.specs.declared.row.Purge.TheVariants as purge
 use Rattle.xl_model.specs.declared.row.Table.TheVariants as table

@@ -1,12 +1,10 @@
 -- What a run comes to where nothing fails: how it ends, and what is written.
-use Rattle.std.specs.Prelude.{ℕ, ◌≡◌, ◌+◌, ◌<◌, ◌⊎◌, ◌++◌, true, false, List, [], ◌∷◌, codes, decimal, length, Option, None, Some, Result, Ok, Err}
+use Rattle.std.specs.Prelude.{ℕ, ◌≡◌, ◌⊎◌, false, List, [], ◌∷◌, codes, Option, None, Some, Result, Ok, Err}
 use Rattle.std.specs.Str.{bytes_eq}
 use Rattle.std.specs.Prelude.{if◌then◌else◌, ◌&&◌}
 use Rattle.xl_model.specs.Report.{report}
-use Rattle.xl_lackey.specs.declared.fault.Fault.{Fault}
 use Rattle.xl_script.specs.declared.command.Command.{Command}
 use Rattle.xl_script.specs.declared.fault.ScriptFault.{ScriptFault}
-use Rattle.xl_script.specs.declared.fault.ScriptFault.TheVariants as script
 use Rattle.xl_script.specs.Scripts.{script_of}
 use Rattle.xl_outside.specs.Outside.{Files, file_of, Rose, with_more, WroteFront}
 use Rattle.xl_bench.specs.declared.status.Status.{Status}

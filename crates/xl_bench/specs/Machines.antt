@@ -8,7 +8,7 @@ use Rattle.xl_model.specs.Addresses.{allows}
 use Rattle.xl_model.specs.declared.row.Counts.{Counts}
 use Rattle.xl_model.specs.declared.work.Work.{Work}
 use Rattle.xl_model.specs.Nodes.{Node}
-use Rattle.xl_model.specs.Shapes.{Shape, Radix}
+use Rattle.xl_model.specs.Shapes.{Radix}
 use Rattle.xl_model.specs.Caches.{Caches, NodeCaches, empty_cache}
 use Rattle.xl_model.specs.Walks.{end_level}
 use Rattle.xl_model.specs.Structures.{TableState}

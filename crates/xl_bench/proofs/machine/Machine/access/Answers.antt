@@ -1,10 +1,8 @@
-use Rattle.std.proofs.Common.{◌≡◌, ◌<◌, ◌+◌, ◌-◌, false, true, sym, ◌∙◌, refl, arith}
-use Rattle.xl_model.specs.declared.event.Event.TheVariants as event
+use Rattle.std.proofs.Common.{◌≡◌, ◌+◌, ◌-◌, sym, ◌∙◌, refl}
 use Rattle.xl_model.specs.Mapping.{leaf_at_page}
 use Rattle.xl_model.specs.Walks.{end_level}
 use Rattle.xl_radix.specs.Walk.{walk_end}
 use Rattle.xl_radix_walk.specs.Path.{end_of}
-use Rattle.xl_bench.specs.contracts.machine.Machine.{the_view}
 use Rattle.xl_bench.proofs.Accesses.{back-from-root, low-end, access-refused, access-done, kept-walked, page-below}
 use Rattle.xl_bench.proofs.machine.Machine.access.Goals as goal
 

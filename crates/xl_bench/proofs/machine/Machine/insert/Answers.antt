@@ -1,4 +1,4 @@
-use Rattle.std.proofs.Common.{◌≡◌, ◌<◌, false, true, sym, ◌∙◌, None, Some, refl, arith, lit<}
+use Rattle.std.proofs.Common.{◌≡◌, None, Some, refl, lit<}
 use Rattle.xl_model.specs.declared.event.Event.TheVariants as event
 use Rattle.xl_model.specs.Addresses.{pages_of}
 use Rattle.xl_model.specs.Frames.{lowest}

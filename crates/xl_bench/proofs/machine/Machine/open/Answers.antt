@@ -1,4 +1,3 @@
-use Rattle.std.proofs.Common.{refl, arith}
 use Rattle.xl_bench.proofs.Maps.{opening-is, opening-kept}
 use Rattle.xl_bench.proofs.machine.Machine.open.Goals as goal
 

@@ -1,7 +1,5 @@
-use Rattle.std.proofs.Common.{◌≡◌, ◌<◌, ◌%◌, ◌==◌, ◌*◌, true, false, sym, ap, ◌∙◌, subst, Bool, ℕ, refl, arith, lit<}
-use Rattle.xl_model.specs.Mapping.{meets_any}
-use Rattle.xl_model.specs.Addresses.{is_aligned, page_of, pages_of}
-use Rattle.xl_model.specs.declared.address.Mode.TheVariants as mode
+use Rattle.std.proofs.Common.{◌≡◌, true, sym, ◌∙◌, lit<}
+use Rattle.xl_model.specs.Addresses.{is_aligned}
 use Rattle.xl_bench.proofs.Maps.{rule-space, rule-canonical, rule-aligned, rule-overlap, rule-frames, some-rule, block-of, aligned-by, misaligned-by}
 use Rattle.xl_bench.proofs.Pools.{lowest-none}
 use Rattle.xl_bench.proofs.machine.Machine.refusal.Goals as goal
