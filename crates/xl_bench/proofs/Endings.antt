@@ -25,7 +25,6 @@ use Rattle.xl_bench.specs.Trails.{Progress, at_first, trace_of}
 use Rattle.xl_bench.specs.Serving.{ServeAnswers, Serves}
 use Rattle.xl_bench.specs.Endings.{Reports, of_trail, of_trace, of_commands, of_script}
 use Rattle.xl_bench.specs.Stops.{Parses, Leads, Comes}
-use Rattle.xl_bench.proofs.Arrays.{no_arrays}
 
 -- a text of which more than the limit was read is too long as it was
 abbrev judged : Bool → List ℕ → Result (List Command) ScriptFault
@@ -70,15 +69,13 @@ unfolding report
 one_row row items = ap (λ rows. with_rows [] rows) (one_served items (record { row = row; progress = at_opening row }))
 
 -- the trace's file
-pub comes_counted : (file : Option (List ℕ)) (commands : List Command) (p : Progress) (before after : RowState) (counts result : Counts) (u : Unit {0})
+pub comes_counted : (file : Option (List ℕ)) (commands : List Command) (p : Progress) (before after : RowState) (counts : Counts) (u : Unit {0})
     → ServeAnswers commands file (Ok u) p before after → p ≡ at_first → before ≡ opening built_in → counts ≡ after.counts
-    → result ≡ record counts { arrays = 0 } → Comes (of_trace commands file) (Ok result)
-comes_counted None commands p before after counts result u h first opened is cleared = absurd h
-comes_counted (Some file) commands p before after counts result u h first opened is cleared =
+    → Comes (of_trace commands file) (Ok counts)
+comes_counted None commands p before after counts u h first opened is = absurd h
+comes_counted (Some file) commands p before after counts u h first opened is =
     let served : Serves commands file at_first (opening built_in) after =
     subst (λ s. Serves commands file at_first s after) opened (subst (λ q. Serves commands file q before after) first h) in
     let items : List Item = items_of commands 1 (trace_of file).records in
     let ran : counts ≡ (after_items built_in items (at_opening built_in)).state.counts = is ∙ ap (λ (s : RowState). s.counts) (served.1 1) in
-    let none : counts.arrays ≡ 0 = ap (λ (k : Counts). k.arrays) ran ∙ no_arrays items in
-    let same : result ≡ counts = cleared ∙ ap (λ (n : ℕ). record counts { arrays = n }) (sym none) in
-    ap (of_trail commands (trace_of file)) served.0 ∙ ap Reports (one_row built_in items ∙ ap (λ c. row_line (codes "a") c) (sym (same ∙ ran)))
+    ap (of_trail commands (trace_of file)) served.0 ∙ ap Reports (one_row built_in items ∙ ap (λ c. row_line (codes "a") c) (sym ran))

@@ -33,6 +33,7 @@ pub(crate) struct Machine {
 }
 
 impl Model for Machine {
+    ghost use Rattle.std.specs.Prelude.{◌≡◌};
     ghost use Rattle.xl_model.specs.RowRun.{RowState};
     ghost use Rattle.xl_bench.specs.Machines.{state_of, IsKept};
 
@@ -40,7 +41,7 @@ impl Model for Machine {
 
     ghost view = { λ m. state_of m.table.leaves m.table.nodes m.table.loads m.counts };
 
-    ghost invariant = { λ m. IsKept m.table.leaves m.table.spaces m.frames };
+    ghost invariant = { λ m. IsKept m.table.leaves m.table.spaces m.frames × (m.counts.arrays ≡ 0) };
 }
 
 impl Machine {
@@ -63,7 +64,8 @@ impl Machine {
 
     /// The counts so far.
     pub(crate) fn counts(&self) -> Counts
-        ensures { result ≡ self.now.counts }
+        ensures counts { result ≡ self.now.counts }
+        ensures arrays { result.arrays ≡ 0 }
     {
         self.counts
     }

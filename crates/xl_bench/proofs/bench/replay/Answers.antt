@@ -15,8 +15,7 @@ returns-clause-told g c =
     let before = c.in_ok-machine.machine in
     let after = c.serve.new.machine in
     let counts = c.counts.result in
-    let answer = c.without_arrays.result in
     some_one (g.F.Folder.files c.args.folder.now) (λ fs. ServeAnswers commands (file_of fs name) (Ok c.in_ok-serve.field-0) tape before after)
-    (λ fs. Comes (of_trace commands (file_of fs name)) (Ok answer)) c.in_ok-serve.ensures.told
-    (λ fs h. comes_counted (file_of fs name) commands tape before after counts answer c.in_ok-serve.field-0 h c.in_ok-tape.ensures.first
-    c.in_ok-machine.ensures c.counts.ensures c.without_arrays.ensures)
+    (λ fs. Comes (of_trace commands (file_of fs name)) (Ok counts)) c.in_ok-serve.ensures.told
+    (λ fs h. comes_counted (file_of fs name) commands tape before after counts c.in_ok-serve.field-0 h c.in_ok-tape.ensures.first
+    c.in_ok-machine.ensures c.counts.ensures.counts)

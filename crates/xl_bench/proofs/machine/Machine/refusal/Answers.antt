@@ -19,7 +19,7 @@ returns-then-va-bytes-ne0 c = λ perm.
 pub meets-requires : goal.meets-requires
 meets-requires c =
     let aligned : is_aligned c.args.order c.args.va ≡ true = aligned-by c.args.order c.args.va c.bytes.result c.bytes.ensures c.if-va-bytes-ne0.false in
-    (lit< tt, rw c.page_of.ensures (block-of c.args.space c.args.va c.self.inside.table.spaces c.args.order c.self.inside.table.nodes c.if-space-ge1.false c.self.invariant.one_space aligned))
+    (lit< tt, rw c.page_of.ensures (block-of c.args.space c.args.va c.self.inside.table.spaces c.args.order c.self.inside.table.nodes c.if-space-ge1.false c.self.invariant.0.one_space aligned))
 
 pub returns-then-meets : goal.returns-then-meets
 returns-then-meets c = λ perm.
@@ -32,10 +32,10 @@ returns-then-not-can_take c = λ perm.
     let aligned : is_aligned c.args.order c.args.va ≡ true = aligned-by c.args.order c.args.va c.bytes.result c.bytes.ensures c.if-va-bytes-ne0.false in
     rw (← c.self.view_is) (sym (rule-frames c.self.inside.table.leaves c.args.space c.args.va c.args.order perm c.if-space-ge1.false (sym c.canonical.ensures ∙ c.if-not-canonical.false) aligned
     (rw c.page_of.ensures at (sym c.meets.ensures ∙ c.if-meets.false))
-    (lowest-none 4096 c.args.order c.self.inside.table.leaves c.self.inside.frames c.self.invariant.pool_is c.if-not-can_take.ensures.no)))
+    (lowest-none 4096 c.args.order c.self.inside.table.leaves c.self.inside.frames c.self.invariant.0.pool_is c.if-not-can_take.ensures.no)))
 
 pub returns : goal.returns
 returns c = λ perm.
     let aligned : is_aligned c.args.order c.args.va ≡ true = aligned-by c.args.order c.args.va c.bytes.result c.bytes.ensures c.if-va-bytes-ne0.false in
-    rw (← c.self.view_is) (sym (some-rule c.self.inside.table.leaves c.args.space c.args.va c.args.order perm c.self.inside.frames c.self.invariant.pool_is c.if-space-ge1.false
+    rw (← c.self.view_is) (sym (some-rule c.self.inside.table.leaves c.args.space c.args.va c.args.order perm c.self.inside.frames c.self.invariant.0.pool_is c.if-space-ge1.false
     (sym c.canonical.ensures ∙ c.if-not-canonical.false) aligned (rw c.page_of.ensures at (sym c.meets.ensures ∙ c.if-meets.false)) c.if-not-can_take.ensures.yes))
