@@ -1,5 +1,5 @@
 -- One array more.
-use Rattle.std.proofs.Common.{◌≡◌, refl, sym, ◌∙◌, ℕ, zero, suc, ◌<◌, ◌≤◌, ◌+◌, ◌-◌, List, [], ◌∷◌, ◌++◌, length, drop, slice_index, get_or, add-one, arith, drop-cons}
+use Rattle.std.proofs.Common.{◌≡◌, refl, ℕ, suc, ◌<◌, ◌+◌, ◌-◌, List, ◌∷◌, ◌++◌, length, drop, slice_index, add-one, arith, drop-cons}
 use Rattle.std.specs.Prelude.{codes, decimal}
 use Rattle.xl_model.specs.Lines.{with_more_arrays}
 

@@ -1,6 +1,5 @@
-use Rattle.std.proofs.Common.{◌≡◌, sym, ap, length-append, ◌∙◌, ◌<◌, ◌+◌, ◌-◌, ◌++◌, length, drop, arith}
+use Rattle.std.proofs.Common.{◌≡◌, sym, ap, length-append, ◌∙◌, ◌+◌, length, arith}
 use Rattle.std.specs.Prelude.{codes}
-use Rattle.xl_model.specs.Lines.{with_arrays, with_more_arrays}
 use Rattle.xl_report.proofs.Steps.{next_array}
 use Rattle.xl_report.proofs.row.arrays.Goals as goal
 

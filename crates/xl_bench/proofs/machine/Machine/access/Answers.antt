@@ -32,10 +32,11 @@ reply_at-requires c =
     low-end c.page_of-page.result c.self.inside.table.leaves c.walk-end.result c.self.invariant.0.mapping ends
 
 pub invariant_of-self-2 : goal.invariant_of-self-2
-invariant_of-self-2 c =
-    (kept-walked (2 + 1 - end_of c.walk-end.result) c.self.inside.table c.walk-end.new.bus c.self.inside.frames c.self.invariant.0 c.walk-end.ensures.bus,
-    none_replied c.reply_at.result c.args.va c.count_walk.new.counts c.reply-2.new.self
-    (none_walked c.walk-end.result c.self.inside.counts c.count_walk.new.counts c.self.invariant.1 c.count_walk.ensures) c.reply-2.ensures)
+invariant_of-self-2 c = (
+  kept-walked (2 + 1 - end_of c.walk-end.result) c.self.inside.table c.walk-end.new.bus c.self.inside.frames c.self.invariant.0 c.walk-end.ensures.bus,
+  none_replied c.reply_at.result c.args.va c.count_walk.new.counts c.reply-2.new.self
+      (none_walked c.walk-end.result c.self.inside.counts c.count_walk.new.counts c.self.invariant.1 c.count_walk.ensures) c.reply-2.ensures,
+)
 
 pub returns : goal.returns
 returns c =

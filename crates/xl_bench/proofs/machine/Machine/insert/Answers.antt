@@ -33,10 +33,11 @@ invariant_of-self c =
     let low : lowest 4096 c.args.order c.self.inside.table.leaves ≡ Some c.in-Some.frame =
     lowest-some 4096 c.args.order c.self.inside.table.leaves c.self.inside.frames c.in-Some.frame c.self.invariant.0.pool_is c.in-Some.ensures.lowest in
     let new : IsNewLeaf built_in c.self.inside.table.leaves (leaf_at_first c.args.space c.page_of.result c.args.order c.in-Some.frame c.args.perm) =
-    leaf-ready-at c.self.inside.table.leaves c.args.space c.args.va c.page_of.result c.in-Some.frame c.args.order c.args.perm c.page_of.ensures ruled low in
-    (kept-mapped c.self.inside.table.leaves c.add.new.self.leaves c.self.inside.table.spaces c.add.new.self.spaces c.self.inside.frames c.take.new.self
-    (leaf_at_first c.args.space c.page_of.result c.args.order c.in-Some.frame c.args.perm) c.self.invariant.0 new c.in-Ok.ensures.leaves c.in-Ok.ensures.spaces c.in-Some.ensures.taken,
-    none_done c.self.inside.counts c.done.new.counts c.self.invariant.1 c.done.ensures)
+    leaf-ready-at c.self.inside.table.leaves c.args.space c.args.va c.page_of.result c.in-Some.frame c.args.order c.args.perm c.page_of.ensures ruled low in (
+      kept-mapped c.self.inside.table.leaves c.add.new.self.leaves c.self.inside.table.spaces c.add.new.self.spaces c.self.inside.frames c.take.new.self
+          (leaf_at_first c.args.space c.page_of.result c.args.order c.in-Some.frame c.args.perm) c.self.invariant.0 new c.in-Ok.ensures.leaves c.in-Ok.ensures.spaces c.in-Some.ensures.taken,
+      none_done c.self.inside.counts c.done.new.counts c.self.invariant.1 c.done.ensures,
+    )
 
 pub invariant_of-self-in-Err : goal.invariant_of-self-in-Err
 invariant_of-self-in-Err c =
@@ -44,10 +45,11 @@ invariant_of-self-in-Err c =
     let low : lowest 4096 c.args.order c.self.inside.table.leaves ≡ Some c.in-Some.frame =
     lowest-some 4096 c.args.order c.self.inside.table.leaves c.self.inside.frames c.in-Some.frame c.self.invariant.0.pool_is c.in-Some.ensures.lowest in
     let new : IsNewLeaf built_in c.self.inside.table.leaves (leaf_at_first c.args.space c.page_of.result c.args.order c.in-Some.frame c.args.perm) =
-    leaf-ready-at c.self.inside.table.leaves c.args.space c.args.va c.page_of.result c.in-Some.frame c.args.order c.args.perm c.page_of.ensures ruled low in
-    (kept-given c.self.inside.table.leaves c.add.new.self.leaves c.self.inside.table.spaces c.add.new.self.spaces c.in-Some.frame (pages_of c.args.order) c.self.inside.frames c.take.new.self c.give.new.self
-    c.self.invariant.0 new.valid.frames_in (c.in-Some.ensures.lowest).is_free (rw c.in-Err.ensures.refused refl) c.in-Err.ensures.spaces c.in-Some.ensures.taken c.give.ensures,
-    none_refused (why.NoTable) c.self.inside.counts c.refuse.new.self c.self.invariant.1 c.refuse.ensures)
+    leaf-ready-at c.self.inside.table.leaves c.args.space c.args.va c.page_of.result c.in-Some.frame c.args.order c.args.perm c.page_of.ensures ruled low in (
+      kept-given c.self.inside.table.leaves c.add.new.self.leaves c.self.inside.table.spaces c.add.new.self.spaces c.in-Some.frame (pages_of c.args.order) c.self.inside.frames c.take.new.self c.give.new.self
+          c.self.invariant.0 new.valid.frames_in (c.in-Some.ensures.lowest).is_free (rw c.in-Err.ensures.refused refl) c.in-Err.ensures.spaces c.in-Some.ensures.taken c.give.ensures,
+      none_refused (why.NoTable) c.self.inside.counts c.refuse.new.self c.self.invariant.1 c.refuse.ensures,
+    )
 
 pub returns-in-Ok : goal.returns-in-Ok
 returns-in-Ok c =

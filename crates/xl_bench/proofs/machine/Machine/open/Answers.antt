@@ -3,9 +3,11 @@ use Rattle.xl_bench.proofs.Maps.{opening-is, opening-kept}
 use Rattle.xl_bench.proofs.machine.Machine.open.Goals as goal
 
 pub invariant_of-result : goal.invariant_of-result
-invariant_of-result c =
-    (opening-kept c.in_ok-table.table.leaves c.in_ok-table.table.spaces c.in_ok-frames.frames
-    c.in_ok-table.ensures.leaves c.in_ok-table.ensures.spaces c.in_ok-frames.ensures, none_at_opening c.none.result c.none.ensures)
+invariant_of-result c = (
+  opening-kept c.in_ok-table.table.leaves c.in_ok-table.table.spaces c.in_ok-frames.frames
+      c.in_ok-table.ensures.leaves c.in_ok-table.ensures.spaces c.in_ok-frames.ensures,
+  none_at_opening c.none.result c.none.ensures,
+)
 
 pub returns : goal.returns
 returns c =
