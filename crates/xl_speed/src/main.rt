@@ -21,7 +21,11 @@ fn main(rt: HostRuntime) -> io::Result<()> {
         };
         let answers = match part {
             "lists" => lists::answers(rt.alloc(), calls),
-            _ => blocks::answers(rt.alloc(), 1 << 22, calls),
+            "blocks" => blocks::answers(rt.alloc(), 1 << 22, calls),
+            _ => {
+                println!(rt; "the parts are lists and blocks")?;
+                continue;
+            }
         };
         match answers {
             Ok(sum) => println!(rt; "{part} {calls} {sum}")?,
