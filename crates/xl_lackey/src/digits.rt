@@ -57,11 +57,14 @@ pub(crate) fn address(text: &[u8]) -> Option<(u64, usize)>
 {
     let (mut value, count) = first_digits(text);
     for at in count..text.len() {
-        match hex_digit(text[at]) {
-            Some(digit) if at < 16 => value = value * 16 + digit,
-            None if text[at] == b',' && at > 0 => return Some((value, at)),
-            _ => return None,
+        if text[at] == b',' {
+            return if at == 0 { None } else { Some((value, at)) };
         }
+        let digit = hex_digit(text[at])?;
+        if at == 16 {
+            return None;
+        }
+        value = value * 16 + digit;
     }
     None
 }

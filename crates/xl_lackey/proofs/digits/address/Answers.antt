@@ -14,4 +14,4 @@ pub overflow_mul-value : goal.overflow_mul-value
 overflow_mul-value c = omega (arith, hex_small c.loop-at.at c.loop-at.value (omega arith) c.loop-at.invariant.small)
 
 pub overflow_add-value : goal.overflow_add-value
-overflow_add-value c = omega (arith, c.in-Some.ensures.bound, hex_small c.loop-at.at c.loop-at.value (omega arith) c.loop-at.invariant.small)
+overflow_add-value c = omega (arith, c.in_ok-digit.ensures.bound, hex_small c.loop-at.at c.loop-at.value (omega arith) c.loop-at.invariant.small)
