@@ -15,7 +15,7 @@ use Rattle.xl_outside.specs.Whole.{TellsWhole}
 use Rattle.xl_script.specs.declared.command.Command.{Command}
 use Rattle.xl_script.specs.declared.fault.ScriptFault.{ScriptFault}
 use Rattle.xl_script.specs.declared.fault.ScriptFault.TheVariants as script
-use Rattle.xl_script.specs.Texts.{lines_of}
+use Rattle.xl_script.specs.Texts.{script_lines}
 use Rattle.xl_script.specs.Scripts.{of_lines, script_of}
 use Rattle.xl_bench.specs.declared.stop.Stop.{Stop}
 use Rattle.xl_bench.specs.declared.stop.Stop.TheVariants as why
@@ -28,7 +28,7 @@ use Rattle.xl_bench.specs.Stops.{Parses, Leads, Comes}
 
 -- a text of which more than the limit was read is too long as it was
 abbrev judged : Bool → List ℕ → Result (List Command) ScriptFault
-judged long text = if long then Err script.TooLong else of_lines 1 (lines_of text)
+judged long text = if long then Err script.TooLong else of_lines 1 (script_lines text)
 
 pub cut : (text : List ℕ) → script_of (take 1048577 text) ≡ script_of text
 unfolding script_of

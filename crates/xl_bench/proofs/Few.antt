@@ -4,7 +4,8 @@ use Rattle.std.specs.Prelude.{take, drop}
 use Rattle.std.proofs.lemmas.List.{length-append, length-drop}
 use Rattle.xl_lackey.specs.declared.fault.Fault.{Fault}
 use Rattle.xl_lackey.specs.Lines.{judge}
-use Rattle.xl_lackey.specs.Stream.{Left, left, due, lines_of, ended_lines, onto, onto_ended, items, next_line, with_verdict, left_of, due_of}
+use Rattle.xl_text.specs.Texts.{onto, lines_of}
+use Rattle.xl_lackey.specs.Stream.{Left, left, due, ended_lines, onto_ended, items, next_line, with_verdict, left_of, due_of}
 use Rattle.xl_bench.specs.Trails.{AtEnd, TooLong, Progress, limit, trail}
 use Rattle.xl_bench.specs.Serving.{IsFew}
 use Rattle.xl_bench.proofs.Pieces.{not_below_of_test}

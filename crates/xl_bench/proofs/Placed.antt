@@ -12,7 +12,7 @@ use Rattle.xl_script.specs.declared.command.Command.{Command}
 use Rattle.xl_script.specs.declared.command.Command.TheVariants as command
 use Rattle.xl_script.specs.declared.fault.ScriptFault.{ScriptFault}
 use Rattle.xl_script.specs.declared.fault.ScriptFault.TheVariants as fault
-use Rattle.xl_script.specs.Texts.{lines_of, words_of}
+use Rattle.xl_script.specs.Texts.{script_lines, words_of}
 use Rattle.xl_script.specs.Numbers.{hexadecimal_of}
 use Rattle.xl_script.specs.Words.{order_of, perm_of}
 use Rattle.xl_script.specs.Scripts.{◌>>=◌, number, only_4k, placed, map_with, map_line, run_line, named, of_words, of_line, and_then, of_lines, script_of}
@@ -101,9 +101,9 @@ of_lines_good number (line ∷ lines) =
 script_good : (text : List ℕ) → GoodLines (script_of text)
 unfolding script_of
 script_good text =
-    elim (nat_lt 1048576 (length text)) as (λ v. GoodLines (if v then Err fault.TooLong else of_lines 1 (lines_of text))) [
+    elim (nat_lt 1048576 (length text)) as (λ v. GoodLines (if v then Err fault.TooLong else of_lines 1 (script_lines text))) [
       | true ↦ tt
-      | false ↦ of_lines_good 1 (lines_of text)
+      | false ↦ of_lines_good 1 (script_lines text)
     ]
 
 all_good : (commands : List Command) → AllGood commands → All IsPlaced commands

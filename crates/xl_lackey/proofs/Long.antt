@@ -5,10 +5,11 @@ use Rattle.std.specs.Option.{option_map}
 use Rattle.std.proofs.lemmas.Bool.{cases_lt}
 use Rattle.std.proofs.lemmas.List.{length-take-le, take_all}
 use Rattle.std.proofs.lemmas.Bool.Decides.{nat_tests}
+use Rattle.xl_text.specs.Texts.{is_blank, onto, lines_of}
 use Rattle.xl_lackey.specs.declared.line.Verdict.{Verdict}
 use Rattle.xl_lackey.specs.declared.line.Verdict.TheVariants.{Skipped, Bad}
-use Rattle.xl_lackey.specs.Lines.{parted, in_front, judge, of_text, of_words, after, is_blank, is_remark}
-use Rattle.xl_lackey.specs.Stream.{onto, lines_of, onto_ended, ended_lines, items, with_verdict, next_line}
+use Rattle.xl_lackey.specs.Lines.{parted, in_front, judge, of_text, of_words, after, is_remark}
+use Rattle.xl_lackey.specs.Stream.{onto_ended, ended_lines, items, with_verdict, next_line}
 
 -- a line without a newline, at the front of other lines
 abbrev joined : List ℕ → List (List ℕ) → List (List ℕ)

@@ -5,11 +5,12 @@ use Rattle.std.specs.Option.{option_map, option_and_then}
 use Rattle.std.proofs.Math.Seq.{drop-length}
 use Rattle.std.proofs.lemmas.List.{append_assoc, drop-drop}
 use Rattle.std.proofs.lemmas.Bool.Decides.{nat_tests, eqb_tells}
+use Rattle.xl_text.specs.Texts.{is_blank, without_return}
 use Rattle.xl_lackey.specs.declared.reference.Letter.{Letter}
 use Rattle.xl_lackey.specs.declared.reference.Letter.TheVariants as letter
 use Rattle.xl_lackey.specs.declared.line.Verdict.{Verdict}
 use Rattle.xl_lackey.specs.declared.line.Verdict.TheVariants.{Found, Bad}
-use Rattle.xl_lackey.specs.Lines.{front, after, is_blank, is_digit, hex_digit, hex_value, decimal_value, parted, in_front, address_of, with_rest, before, address_in, is_size, size_in, fits, of_end, of_size, of_address, of_words, of_text, without_return, judge}
+use Rattle.xl_lackey.specs.Lines.{front, after, is_digit, hex_digit, hex_value, decimal_value, parted, in_front, address_of, with_rest, before, address_in, is_size, size_in, fits, of_end, of_size, of_address, of_words, of_text, judge}
 use Rattle.xl_lackey.proofs.Bytes.{got, differs}
 use Rattle.xl_lackey.proofs.Numbers.{digit_and_rest}
 use Rattle.xl_lackey.specs.Usual.{usual_front, judged, judged_line}

@@ -3,12 +3,13 @@ use Rattle.std.proofs.Common.{◌≡◌, ◌≢◌, ℕ, ◌+◌, ◌<◌, Bool,
 use Rattle.std.specs.Prelude.{Option, None, Some, ◌==◌, if◌then◌else◌, slice_index}
 use Rattle.std.specs.Option.{option_map}
 use Rattle.memchr.specs.Find.{IsFirstByte, is_byte}
+use Rattle.xl_text.specs.Texts.{onto, lines_of}
 use Rattle.xl_lackey.specs.declared.line.Verdict.{Verdict}
 use Rattle.xl_lackey.specs.declared.line.Verdict.TheVariants.{Skipped, Found, Bad}
 use Rattle.xl_lackey.specs.Lines.{parted, in_front, judge}
 use Rattle.xl_lackey.proofs.Bytes.{got}
 use Rattle.xl_lackey.specs.Usual.{judged, judged_line}
-use Rattle.xl_lackey.specs.Stream.{onto, lines_of, onto_ended, ended_lines, items, with_verdict, first_due, of_due, next_line, Left}
+use Rattle.xl_lackey.specs.Stream.{onto_ended, ended_lines, items, with_verdict, first_due, of_due, next_line, Left}
 
 -- the line and what follows it, put into a text's lines
 abbrev starts_ended : Option (List ℕ × List ℕ) → List (List ℕ) → Type 0

@@ -4,13 +4,14 @@ use Rattle.std.specs.Prelude.{Option, None, Some}
 use Rattle.std.proofs.lemmas.Bool.{cases_lt}
 use Rattle.std.proofs.lemmas.List.{take-take, take_all, drop-take, drop_all, take-append-le, length-take, length-take-le, length-drop}
 use Rattle.std.specs.List.{copy_within}
+use Rattle.xl_text.specs.Texts.{lines_of}
 use Rattle.xl_lackey.specs.declared.fault.Fault.{Fault}
 use Rattle.xl_lackey.specs.declared.line.Verdict.{Verdict}
 use Rattle.xl_lackey.specs.declared.line.Verdict.TheVariants.{Skipped, Bad}
 use Rattle.xl_lackey.specs.declared.next.Next.{Next}
 use Rattle.xl_lackey.specs.declared.next.Next.TheVariants as answer
 use Rattle.xl_lackey.specs.Lines.{parted, judge}
-use Rattle.xl_lackey.specs.Stream.{State, Item, Left, left, left_of, lines_of, due, due_of, ended_lines, items, with_verdict, next_line}
+use Rattle.xl_lackey.specs.Stream.{State, Item, Left, left, left_of, due, due_of, ended_lines, items, with_verdict, next_line}
 use Rattle.xl_lackey.specs.Answers.{Answers, Gives, Ends, Refuses, with_item}
 use Rattle.xl_lackey.proofs.Long.{last_line, let_go, let_go_ended, none_ended, parted_take}
 

@@ -1,8 +1,9 @@
 -- One line of a Lackey trace, without the newline that ends it (Valgrind manual, Lackey, `--trace-mem=yes`).
--- A blank is a space (32) or a tab (9). `#` is 35, `,` is 44.
-use Rattle.std.specs.Prelude.{ℕ, ◌+◌, ◌-◌, ◌*◌, ◌^◌, ◌≤◌, ◌==◌, ◌&&◌, ◌||◌, nat_le, nat_lt, max, Bool, true, List, [], ◌∷◌, length, take, drop, slice_index, codes, if◌then◌else◌, Option, None, Some}
+-- A blank is a space or a tab. `#` is 35, `,` is 44.
+use Rattle.std.specs.Prelude.{ℕ, ◌+◌, ◌-◌, ◌*◌, ◌^◌, ◌≤◌, ◌==◌, ◌&&◌, ◌||◌, nat_le, nat_lt, max, Bool, true, List, [], ◌∷◌, length, drop, codes, if◌then◌else◌, Option, None, Some}
 use Rattle.std.specs.Option.{option_map, option_and_then}
 use Rattle.std.specs.List.{starts_with}
+use Rattle.xl_text.specs.Texts.{is_blank, without_return}
 use Rattle.xl_lackey.specs.declared.reference.Letter.{Letter}
 use Rattle.xl_lackey.specs.declared.reference.Letter.TheVariants as letter
 use Rattle.xl_lackey.specs.declared.line.Verdict.{Verdict}
@@ -11,9 +12,6 @@ use Rattle.xl_lackey.specs.declared.line.Verdict.TheVariants.{Skipped, Found, Ba
 -- the most bytes of a line that isn't skipped by its first bytes
 abbrev pub longest : ℕ
 longest = 256
-
-abbrev pub is_blank : ℕ → Bool
-is_blank b = (b == 32) || (b == 9)
 
 abbrev pub is_digit : ℕ → Bool
 is_digit b = nat_le 48 b && nat_le b 57
@@ -26,10 +24,6 @@ front test (b ∷ bs) = if test b then b ∷ front test bs else []
 abbrev pub after : (ℕ → Bool) → List ℕ → List ℕ
 after test [] = []
 after test (b ∷ bs) = if test b then after test bs else (b ∷ bs)
-
--- a line without the carriage return (13) at its end
-abbrev pub without_return : List ℕ → List ℕ
-without_return line = if slice_index line (length line - 1) == 13 then take (length line - 1) line else line
 
 -- the first bytes of lines that are skipped, however long they are
 abbrev pub is_remark : List ℕ → Bool

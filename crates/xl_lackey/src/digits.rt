@@ -2,19 +2,15 @@
 
 ghost use Rattle.std.specs.Prelude.{◌≡◌, ℕ, ◌+◌, ◌^◌, ◌<◌, ◌≤◌, min, length, take, drop, Option, Some, IfSome};
 ghost use Rattle.std.specs.Option.{option_map};
-ghost use Rattle.xl_lackey.specs.Lines.{is_blank as is_blank_byte, is_digit as is_digit_byte, hex_digit as digit_of, hex_value, front, after, address_in, decimal_value, size_in};
+ghost use Rattle.xl_text.specs.Texts.{is_blank};
+ghost use Rattle.xl_lackey.specs.Lines.{is_digit as is_digit_byte, hex_digit as digit_of, hex_value, front, after, address_in, decimal_value, size_in};
 
-/// Whether a byte is a space or a tab.
-pub(crate) fn is_blank(byte: u8) -> bool
-    ensures { result ≡ is_blank_byte byte }
-{
-    byte == b' ' || byte == b'\t'
-}
+use xl_text::is_blank;
 
 /// How many blanks a text begins with.
 pub(crate) fn count_blanks(text: &[u8]) -> usize
     ensures within { result ≤ length text.now }
-    ensures rest { drop result text.now ≡ after is_blank_byte text.now }
+    ensures rest { drop result text.now ≡ after is_blank text.now }
 {
     for (at, byte) in text.iter().enumerate() {
         if !is_blank(*byte) {

@@ -2,10 +2,12 @@
 
 ghost use Rattle.std.specs.Prelude.{◌≡◌, ℕ, ◌+◌, ◌-◌, ◌^◌, ◌≤◌, length, take, drop, Option};
 ghost use Rattle.std.specs.Option.{option_map};
-ghost use Rattle.xl_lackey.specs.Lines.{without_return as cut_return, is_remark as begins_as_remark, letter_of as letter_by, is_blank as is_blank_byte, after, address_after as address_in_words, judge as verdict_of, of_text, of_words, of_letter, of_address, of_size, size_in, of_end, fits as is_within, IsProper};
+ghost use Rattle.xl_text.specs.Texts.{is_blank};
+ghost use Rattle.xl_lackey.specs.Lines.{is_remark as begins_as_remark, letter_of as letter_by, after, address_after as address_in_words, judge as verdict_of, of_text, of_words, of_letter, of_address, of_size, size_in, of_end, fits as is_within, IsProper};
 
 use crate::digits;
 use crate::reference::Letter;
+use xl_text::without_return;
 
 /// What a line of the trace is.
 #[derive(Clone, Copy, Debug, PartialEq, Eq)]
@@ -34,16 +36,6 @@ pub(crate) fn judge(line: &[u8]) -> Verdict
     ensures proper { IsProper result }
 {
     read_text(without_return(line))
-}
-
-fn without_return(line: &[u8]) -> &[u8]
-    ensures { result.now ≡ cut_return line.entry.now }
-{
-    if !line.is_empty() && line[line.len() - 1] == b'\r' {
-        &line[..line.len() - 1]
-    } else {
-        line
-    }
 }
 
 /// Whether a line is skipped by its first bytes, however long it is.
@@ -122,7 +114,7 @@ fn read_size(letter: Letter, addr: u64, text: &[u8]) -> Verdict
 
 fn read_end(letter: Letter, addr: u64, size: u32, text: &[u8]) -> Verdict
     requires { size ≤ 65536 }
-    ensures value { result ≡ of_end letter addr size (after is_blank_byte text.now) }
+    ensures value { result ≡ of_end letter addr size (after is_blank text.now) }
     ensures proper { IsProper result }
 {
     let blanks = digits::count_blanks(text);

@@ -4,7 +4,8 @@ ghost use Rattle.std.specs.Prelude.{◌≡◌, ℕ, ◌+◌, ◌-◌, ◌<◌, �
 ghost use Rattle.std.specs.Option.{option_map};
 ghost use Rattle.xl_lackey.specs.Lines.{parted, IsProper};
 ghost use Rattle.xl_lackey.specs.Usual.{judged_line};
-ghost use Rattle.xl_lackey.specs.Stream.{ended_lines, first_due, lines_of, items, with_verdict};
+ghost use Rattle.xl_text.specs.Texts.{lines_of};
+ghost use Rattle.xl_lackey.specs.Stream.{ended_lines, first_due, items, with_verdict};
 
 use crate::line::{Verdict, judge};
 use crate::usual::usual_line;

@@ -4,9 +4,8 @@ use Rattle.std.specs.List.{position_or_len, slice_range}
 use Rattle.std.proofs.lemmas.Bool.{ne_eqb, eqb-true}
 use Rattle.std.proofs.lemmas.List.Sums.{prefix_len-le-length, prefix_len_stops}
 use Rattle.std.proofs.lemmas.List.{take-take, drop-drop, drop_all, get_or-drop}
-use Rattle.std.specs.Cmp.Lexicographic.{pointwise}
-use Rattle.std.proofs.Common.{nat_eq, ◌&&◌}
-use Rattle.xl_script.specs.Texts.{on_first, raw_lines, without_return, lines_of, to_newline, is_blank, pieces, up_to_comment, words_of}
+use Rattle.xl_text.specs.Texts.{is_blank, onto, lines_of, without_return}
+use Rattle.xl_script.specs.Texts.{script_lines, to_newline, pieces, up_to_comment, words_of}
 
 -- a place is within the list
 pub place_within : {X : Type 0} (p : X → Bool) (xs : List X) → position_or_len p xs ≤ length xs
@@ -41,10 +40,10 @@ word_end bs = position_or_len is_blank bs
 first_piece : (bs : List ℕ) → pieces bs ≡ take (word_end bs) bs ∷ later_pieces (drop (word_end bs) bs)
 first_piece [] = refl
 first_piece (b ∷ bs) = elim (is_blank b) as (λ v.
-    (if v then [] ∷ pieces bs else on_first b (pieces bs))
+    (if v then [] ∷ pieces bs else onto b (pieces bs))
     ≡ take (cond (not v) (1 + word_end bs) 0) (b ∷ bs) ∷ later_pieces (drop (cond (not v) (1 + word_end bs) 0) (b ∷ bs))) [
       | true ↦ refl
-      | false ↦ rw one-add (ap (on_first b) (first_piece bs))
+      | false ↦ rw one-add (ap (onto b) (first_piece bs))
     ]
 
 -- what follows the first piece has the later words
@@ -62,7 +61,7 @@ twice_not : (v : Bool) → not (not v) ≡ false → v ≡ false
 twice_not true h = h
 twice_not false h = refl
 
-comment : (ps : List (List ℕ)) → up_to_comment (on_first 35 ps) ≡ []
+comment : (ps : List (List ℕ)) → up_to_comment (onto 35 ps) ≡ []
 comment [] = refl
 comment (p ∷ ps) = refl
 
@@ -99,31 +98,31 @@ comment_first (b ∷ bs) some is = let hash : b ≡ 35 = is in rw hash (comment 
 
 -- a text's first line ends at its first newline
 line_first : (b : ℕ) (bs : List ℕ)
-    → raw_lines (b ∷ bs) ≡ take (to_newline (b ∷ bs)) (b ∷ bs) ∷ raw_lines (drop (to_newline (b ∷ bs)) bs)
+    → lines_of (b ∷ bs) ≡ take (to_newline (b ∷ bs)) (b ∷ bs) ∷ lines_of (drop (to_newline (b ∷ bs)) bs)
 line_first b [] = elim (b == 10) as (λ v. (if v then [] ∷ [] else (b ∷ []) ∷ [])
-    ≡ take (cond (not v) (1 + 0) 0) (b ∷ []) ∷ raw_lines (drop (cond (not v) (1 + 0) 0) []))
+    ≡ take (cond (not v) (1 + 0) 0) (b ∷ []) ∷ lines_of (drop (cond (not v) (1 + 0) 0) []))
     [ true ↦ refl | false ↦ refl ]
-line_first b (c ∷ cs) = elim (b == 10) as (λ v. (if v then [] ∷ raw_lines (c ∷ cs) else on_first b (raw_lines (c ∷ cs)))
+line_first b (c ∷ cs) = elim (b == 10) as (λ v. (if v then [] ∷ lines_of (c ∷ cs) else onto b (lines_of (c ∷ cs)))
     ≡ take (cond (not v) (1 + to_newline (c ∷ cs)) 0) (b ∷ c ∷ cs)
-    ∷ raw_lines (drop (cond (not v) (1 + to_newline (c ∷ cs)) 0) (c ∷ cs))) [
+    ∷ lines_of (drop (cond (not v) (1 + to_newline (c ∷ cs)) 0) (c ∷ cs))) [
       | true ↦ refl
-      | false ↦ rw one-add (ap (on_first b) (line_first c cs))
+      | false ↦ rw one-add (ap (onto b) (line_first c cs))
     ]
 
 lines_at : (text : List ℕ) → 0 < length text
-    → lines_of text ≡ without_return (take (to_newline text) text) ∷ lines_of (drop (to_newline text + 1) text)
-unfolding lines_of
+    → script_lines text ≡ without_return (take (to_newline text) text) ∷ script_lines (drop (to_newline text + 1) text)
+unfolding script_lines
 lines_at [] some = absurd (omega arith)
 lines_at (b ∷ bs) some = rw add-one (ap (map without_return) (line_first b bs))
 
 -- the first line of a text that isn't empty, and the lines after it
 pub lines_first : (text : List ℕ) (n : ℕ) → 0 < length text → n ≡ to_newline text
-    → lines_of text ≡ without_return (take n text) ∷ lines_of (drop (n + 1) text)
+    → script_lines text ≡ without_return (take n text) ∷ script_lines (drop (n + 1) text)
 lines_first text n some is = rw is (lines_at text some)
 
 -- past a text's end stands no line
-pub no_lines : (text : List ℕ) (at : ℕ) → length text ≤ at → lines_of (drop at text) ≡ []
-unfolding lines_of
+pub no_lines : (text : List ℕ) (at : ℕ) → length text ≤ at → script_lines (drop at text) ≡ []
+unfolding script_lines
 no_lines text at past = rw (drop_all at text past) refl
 
 module _ (text : List ℕ) (at n : ℕ) (front : List ℕ) where
@@ -141,36 +140,18 @@ module _ (text : List ℕ) (at n : ℕ) (front : List ℕ) where
 
   -- a line that a newline ends
   pub line_found : at < length text → n ≡ to_newline (drop at text) → IsFront
-      → lines_of (drop at text) ≡ slice_range text at (at + length front) ∷ lines_of (drop (at + n + 1) text)
+      → script_lines (drop at text) ≡ slice_range text at (at + length front) ∷ script_lines (drop (at + n + 1) text)
   line_found some value h =
       let tail : drop (n + 1) (drop at text) ≡ drop (at + n + 1) text =
       drop-drop (n + 1) at text ∙ ap (λ k. drop k text) (omega arith) in
       lines_first (drop at text) n (omega (arith, length-drop at text)) value
-      ∙ ap₂ (λ a b. a ∷ lines_of b) (fronts h) tail
+      ∙ ap₂ (λ a b. a ∷ script_lines b) (fronts h) tail
 
   -- a last line that no newline ends
   pub line_last : at < length text → n ≡ to_newline (drop at text) → length (drop at text) ≤ n → IsFront
-      → lines_of (drop at text) ≡ slice_range text at (at + length front) ∷ lines_of (drop (length text) text)
+      → script_lines (drop at text) ≡ slice_range text at (at + length front) ∷ script_lines (drop (length text) text)
   line_last some value unended h =
       let tail : drop (n + 1) (drop at text) ≡ drop (length text) text =
       drop_all (n + 1) (drop at text) (omega arith) ∙ sym (drop_all (length text) text (omega arith)) in
       lines_first (drop at text) n (omega (arith, length-drop at text)) value
-      ∙ ap₂ (λ a b. a ∷ lines_of b) (fronts h) tail
-
--- a carriage return at a line's end is dropped
-pub return_dropped : (line : List ℕ) → pointwise nat_eq (drop (length line - 1) line) (13 ∷ []) ≡ true
-    → take (length line - 1) line ≡ without_return line
-return_dropped [] ends = cc
-return_dropped (b ∷ []) ends = elim (b == 13) as (λ v. (v && true) ≡ true → [] ≡ (if v then [] else b ∷ [])) [ true ↦ λ h. refl | false ↦ λ h. cc ] ends
-return_dropped (b ∷ c ∷ bs) ends =
-    let shorter : suc (suc (length bs)) - 1 ≡ suc (suc (length bs) - 1) = omega arith in
-    rw shorter (ap (λ front. b ∷ front) (return_dropped (c ∷ bs) (rw shorter at ends)))
-
--- a line with no carriage return at its end stays
-pub return_kept : (line : List ℕ) → pointwise nat_eq (drop (length line - 1) line) (13 ∷ []) ≡ false
-    → line ≡ without_return line
-return_kept [] ends = refl
-return_kept (b ∷ []) ends = elim (b == 13) as (λ v. (v && true) ≡ false → b ∷ [] ≡ (if v then [] else b ∷ [])) [ true ↦ λ h. cc | false ↦ λ h. refl ] ends
-return_kept (b ∷ c ∷ bs) ends =
-    let shorter : suc (suc (length bs)) - 1 ≡ suc (suc (length bs) - 1) = omega arith in
-    ap (λ front. b ∷ front) (return_kept (c ∷ bs) (rw shorter at ends))
+      ∙ ap₂ (λ a b. a ∷ script_lines b) (fronts h) tail

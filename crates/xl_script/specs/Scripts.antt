@@ -12,7 +12,7 @@ use Rattle.xl_script.specs.declared.fault.ScriptFault.{ScriptFault}
 use Rattle.xl_script.specs.declared.fault.ScriptFault.TheVariants as fault
 use Rattle.xl_script.specs.declared.fault.Reason.{Reason}
 use Rattle.xl_script.specs.declared.fault.Reason.TheVariants as reason
-use Rattle.xl_script.specs.Texts.{lines_of, words_of}
+use Rattle.xl_script.specs.Texts.{script_lines, words_of}
 use Rattle.xl_script.specs.Numbers.{decimal_of, hexadecimal_of}
 use Rattle.xl_script.specs.Words.{order_of, perm_of}
 
@@ -101,7 +101,7 @@ of_lines number (line ∷ lines) = and_then number (of_line line) (of_lines (num
 
 -- the commands of a script, or why it has none: it is too long, or has a bad line
 unfoldable pub script_of : List ℕ → Result (List Command) ScriptFault
-script_of text = if nat_lt 1048576 (length text) then Err fault.TooLong else of_lines 1 (lines_of text)
+script_of text = if nat_lt 1048576 (length text) then Err fault.TooLong else of_lines 1 (script_lines text)
 
 -- commands before those that a reading gives
 abbrev pub after : List Command → Result (List Command) ScriptFault → Result (List Command) ScriptFault

@@ -3,26 +3,10 @@
 ghost use Rattle.std.specs.Prelude.{◌≡◌, ◌+◌, ◌==◌, ◌<◌, ◌≤◌, false, min, not, List, [], ◌∷◌, length, take, drop, IfNone, IfSome, slice_get, slice_index, slice_range};
 ghost use Rattle.std.specs.Option.{option_copied};
 ghost use Rattle.std.specs.List.{position, position_or_len};
-ghost use Rattle.xl_script.specs.Texts.{is_blank, lines_of, to_newline, words_of, without_return};
+ghost use Rattle.xl_text.specs.Texts.{is_blank, without_return};
+ghost use Rattle.xl_script.specs.Texts.{script_lines, to_newline, words_of};
 
-/// Whether a byte parts words.
-fn is_blank(byte: u8) -> bool
-    ensures { result ≡ is_blank byte }
-{
-    byte == b' ' || byte == b'\t'
-}
-
-/// A line without the carriage return that ends it.
-fn without_return(line: &[u8]) -> &[u8]
-    ensures value { result.now ≡ without_return line.now }
-    ensures front { result.now ≡ take (length result.now) line.now }
-    ensures within { length result.now ≤ length line.now }
-{
-    match line.strip_suffix(b"\r") {
-        Some(front) => front,
-        None => line,
-    }
-}
+use xl_text::{is_blank, without_return};
 
 /// The place of a text's first newline.
 fn first_newline(text: &[u8]) -> Option<usize>
@@ -47,7 +31,7 @@ pub fn line(text: &[u8], at: usize) -> (usize, usize)
     ensures bounds { (at ≤ result.0) × (result.0 ≤ result.1) × (at < result.1) × (result.1 ≤ length text.now) }
     ensures end { result.0 ≡ at + length (without_return (take (to_newline (drop at text.now)) (drop at text.now))) }
     ensures next { result.1 ≡ min (at + to_newline (drop at text.now) + 1) (length text.now) }
-    ensures lines { lines_of (drop at text.now) ≡ slice_range text.now at result.0 ∷ lines_of (drop result.1 text.now) }
+    ensures lines { script_lines (drop at text.now) ≡ slice_range text.now at result.0 ∷ script_lines (drop result.1 text.now) }
 {
     let rest = &text[at..];
     let length = line_length(rest);

@@ -1,5 +1,6 @@
 use Rattle.std.proofs.Common.{◌≡◌, drop}
-use Rattle.xl_lackey.specs.Lines.{after, is_blank}
+use Rattle.xl_text.specs.Texts.{is_blank}
+use Rattle.xl_lackey.specs.Lines.{after}
 use Rattle.xl_lackey.proofs.digits.count_blanks.Given as goal
 
 abbrev pub invariant-loop-at : goal.invariant-loop-at

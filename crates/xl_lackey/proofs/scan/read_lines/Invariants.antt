@@ -1,5 +1,6 @@
 use Rattle.std.proofs.Common.{◌≡◌, ◌≤◌, ◌-◌, ◌++◌, List, ℕ, drop, length}
-use Rattle.xl_lackey.specs.Stream.{ended_lines, first_due, lines_of, items}
+use Rattle.xl_text.specs.Texts.{lines_of}
+use Rattle.xl_lackey.specs.Stream.{ended_lines, first_due, items}
 use Rattle.xl_lackey.proofs.scan.read_lines.Given as goal
 
 abbrev pub invariant-loop-count : goal.invariant-loop-count
