@@ -22,6 +22,7 @@ use Rattle.xl_mapping.specs.Members.{In}
 use Rattle.xl_mapping.specs.Mappings.{IsMapping}
 use Rattle.xl_mapping.proofs.Members.{find-In, find-passes}
 use Rattle.xl_mapping.proofs.Ends.{leaf-ends}
+use Rattle.xl_mapping.proofs.Orders.{level-low, pages-some}
 use Rattle.xl_phys.specs.Lines.{counted}
 use Rattle.xl_radix.specs.Table.{Table}
 use Rattle.xl_radix.specs.declared.walk_end.WalkEnd.{WalkEnd}
@@ -48,23 +49,13 @@ end-below (suc n) a space page leaves =
       | false ↦ let e : end_level n (a + 1) space page leaves ≤ a + 1 + n = end-below n (a + 1) space page leaves in omega arith
     ]
 
-level-below : (o : Order) → level_of o ≤ 2
-level-below order.K4 = omega arith
-level-below order.M2 = omega arith
-level-below order.G1 = omega arith
-
-positive : (o : Order) → 0 < pages_of o
-positive order.K4 = omega arith
-positive order.M2 = omega arith
-positive order.G1 = omega arith
-
 low-by : (page : ℕ) (leaves : List Leaf) (found : Option Leaf) → IsMapping built_in leaves → ((x : Leaf) → found ≡ Some x → In x leaves) → IsLow (walk_end found (end_level 2 0 0 page leaves))
 low-by page leaves None m known = end-below 2 0 0 page leaves
 low-by page leaves (Some x) m known =
     let v = m.valid x (known x refl) in
-    let p : 0 < pages_of x.order = positive x.order in
+    let p : 0 < pages_of x.order = pages-some x.order in
     let f : x.frame + pages_of x.order ≤ 4096 = v.frames_in in
-    (level-below x.order, omega arith)
+    (level-low x.order, omega arith)
 
 pub low-end : (page : ℕ) (leaves : List Leaf) (e : WalkEnd) → IsMapping built_in leaves → e ≡ walk_end (leaf_at_page 0 page leaves) (end_level 2 0 0 page leaves) → IsLow e
 unfolding leaf_at_page
@@ -142,7 +133,7 @@ unfolding leaf_at_page
 access-done va page k leaves nodes r bus counts after walked e answer m canonical p l n is b w a c =
     let found : Option Leaf = find (covers 0 page) leaves in
     let ends : (x : Leaf) → found ≡ Some x → end_level 2 0 0 page leaves ≡ level_of x.order =
-    λ x h. leaf-ends built_in leaves x 0 page 2 m (find-In (covers 0 page) x leaves h) (find-passes (covers 0 page) x leaves h) (level-below x.order) in
+    λ x h. leaf-ends built_in leaves x 0 page 2 m (find-In (covers 0 page) x leaves h) (find-passes (covers 0 page) x leaves h) (level-low x.order) in
     let level : end_of e ≡ end_level 2 0 0 page leaves = ap end_of is ∙ end-is found (end_level 2 0 0 page leaves) ends in
     let high : end_level 2 0 0 page leaves ≤ 2 = end-below 2 0 0 page leaves in
     let loads : bus.loads ≡ plus r.loads (reads_of page leaves) =

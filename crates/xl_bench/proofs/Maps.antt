@@ -5,7 +5,6 @@ use Rattle.std.proofs.lemmas.List.{length-replicate, get_or-replicate}
 use Rattle.std.proofs.lemmas.Bool.Decides.{nat_tests}
 use Rattle.xl_model.specs.declared.address.Mode.TheVariants as mode
 use Rattle.xl_model.specs.declared.address.Order.{Order}
-use Rattle.xl_model.specs.declared.address.Order.TheVariants as order
 use Rattle.xl_model.specs.declared.perm.Perm.{Perm}
 use Rattle.xl_model.specs.declared.leaf.Leaf.{Leaf}
 use Rattle.xl_model.specs.declared.event.Event.{Event}
@@ -34,6 +33,7 @@ use Rattle.xl_mapping.proofs.Kept.{kept-inserted}
 use Rattle.xl_mapping.proofs.Places.{page-block}
 use Rattle.xl_mapping.proofs.Ruled.{or-second, sound-of}
 use Rattle.xl_mapping.proofs.Stays.{other-key, first-small}
+use Rattle.xl_mapping.proofs.Orders.{pages-some}
 use Rattle.xl_frames.specs.Pool.{IsFree, marked}
 use Rattle.xl_bench.specs.BuiltIn.{built_in}
 use Rattle.xl_bench.specs.Pools.{IsPoolOf}
@@ -88,13 +88,8 @@ some-free leaves pool o block tie free none =
     let P : Option ℕ → Type 0 = λ m. IsAnswer 4096 (pages_of o) leaves m in
     let nothing : HasNoFree 4096 (pages_of o) leaves = subst P none (lowest-is-lowest 4096 o leaves) in
     let fits : block * pages_of o + pages_of o ≤ 4096 = block-fits o block pool tie.size free in
-    nothing block fits (free-of 4096 (block * pages_of o) (pages_of o) leaves pool tie (positive o) fits free)
+    nothing block fits (free-of 4096 (block * pages_of o) (pages_of o) leaves pool tie (pages-some o) fits free)
   where
-    positive : (o : Order) → 0 < pages_of o
-    positive order.K4 = omega arith
-    positive order.M2 = omega arith
-    positive order.G1 = omega arith
-
     inside : (pool : List Bool) (f : ℕ) → slice_index_or pool f false ≡ true → f < length pool
     inside [] f h = absurd (cc)
     inside (x ∷ xs) zero h = omega arith
@@ -102,7 +97,7 @@ some-free leaves pool o block tie free none =
 
     block-fits : (o : Order) (block : ℕ) (pool : List Bool) → length pool ≡ 4096 → IsFree pool (block * pages_of o) (pages_of o) → block * pages_of o + pages_of o ≤ 4096
     block-fits o block pool size free =
-        let some : 0 < pages_of o = positive o in
+        let some : 0 < pages_of o = pages-some o in
         let last : block * pages_of o + pages_of o - 1 < length pool =
         inside pool (block * pages_of o + pages_of o - 1) (free.each (block * pages_of o + pages_of o - 1) (omega arith) (omega arith)) in
         omega arith

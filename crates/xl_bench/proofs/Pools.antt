@@ -3,7 +3,6 @@ use Rattle.std.proofs.Common.{◌≡◌, refl, sym, ap, ◌∙◌, subst, ℕ, �
 use Rattle.std.specs.List.{list_any}
 use Rattle.std.proofs.lemmas.Bool.Decides.{nat_tests}
 use Rattle.xl_model.specs.declared.address.Order.{Order}
-use Rattle.xl_model.specs.declared.address.Order.TheVariants as order
 use Rattle.xl_model.specs.declared.leaf.Leaf.{Leaf}
 use Rattle.xl_model.specs.Addresses.{pages_of}
 use Rattle.xl_model.specs.Mapping.{holds_frames, with_leaf}
@@ -13,14 +12,10 @@ use Rattle.xl_mapping.specs.Lowest.{IsFree as IsFreeOf, IsAnswer}
 use Rattle.xl_mapping.proofs.Members.{any-false, any-In, In-any}
 use Rattle.xl_mapping.proofs.Insertion.{with-In, In-with}
 use Rattle.xl_mapping.proofs.Lowest.{lowest-is-lowest}
+use Rattle.xl_mapping.proofs.Orders.{pages-some}
 use Rattle.xl_frames.specs.Pool.{IsFree, IsLowest, HasNone, marked}
 use Rattle.xl_frames.proofs.Marks.{length-marked, marked_inside, marked_below, marked_above}
 use Rattle.xl_bench.specs.Pools.{IsPoolOf}
-
-positive : (o : Order) → 0 < pages_of o
-positive order.K4 = omega arith
-positive order.M2 = omega arith
-positive order.G1 = omega arith
 
 -- a leaf that holds a frame of a block holds some frame of it
 shared : (at size : ℕ) (x : Leaf) → 0 < size → 0 < pages_of x.order → holds_frames at size x ≡ true → (f : ℕ) × (at ≤ f) × (f < at + size) × (holds_frames f 1 x ≡ true)
@@ -63,7 +58,7 @@ free-of frames at size leaves pool tie some fits free x i = go (holds_frames at 
   where
     go : (b : Bool) → holds_frames at size x ≡ b → holds_frames at size x ≡ false
     go true t =
-        let f = shared at size x some (positive x.order) t in
+        let f = shared at size x some (pages-some x.order) t in
         let held : list_any (holds_frames f.0 1) leaves ≡ true = In-any (holds_frames f.0 1) x leaves i f.3 in
         let flag : slice_index_or pool f.0 false ≡ true = free.each f.0 f.1 f.2 in
         let low : f.0 < frames = let k : f.0 < at + size = f.2 in omega arith in
@@ -94,7 +89,7 @@ lowest-by frames o leaves pool at tie low None is =
     let fits : at + pages_of o ≤ frames = let k : at + pages_of o ≤ length pool = low.fits in let s : length pool ≡ frames = tie.size in omega arith in
     let P : ℕ → Type 0 = λ n. IsFreeOf (pages_of o) n leaves in
     let Q : ℕ → Type 0 = λ n. n + pages_of o ≤ frames in
-    absurd (is e.0 (subst Q e.1 fits) (subst P e.1 (free-of frames at (pages_of o) leaves pool tie (positive o) fits low.is_free)))
+    absurd (is e.0 (subst Q e.1 fits) (subst P e.1 (free-of frames at (pages_of o) leaves pool tie (pages-some o) fits low.is_free)))
 lowest-by frames o leaves pool at tie low (Some b) is =
     let e = low.aligned in
     let d = is.aligned in
@@ -102,7 +97,7 @@ lowest-by frames o leaves pool at tie low (Some b) is =
     let P : ℕ → Type 0 = λ n. IsFreeOf (pages_of o) n leaves in
     let Q : ℕ → Type 0 = λ n. n + pages_of o ≤ frames in
     let R : ℕ → Type 0 = λ n. IsFree pool n (pages_of o) in
-    let one : b ≤ e.0 * pages_of o = is.least e.0 (subst Q e.1 fits) (subst P e.1 (free-of frames at (pages_of o) leaves pool tie (positive o) fits low.is_free)) in
+    let one : b ≤ e.0 * pages_of o = is.least e.0 (subst Q e.1 fits) (subst P e.1 (free-of frames at (pages_of o) leaves pool tie (pages-some o) fits low.is_free)) in
     let two : at ≤ d.0 * pages_of o = low.least d.0 (subst R d.1 (free-in frames b (pages_of o) leaves pool tie is.fits is.is_free)) in
     let x : at ≡ e.0 * pages_of o = e.1 in
     let y : b ≡ d.0 * pages_of o = d.1 in

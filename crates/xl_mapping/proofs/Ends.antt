@@ -13,6 +13,7 @@ use Rattle.xl_model.specs.Walks.{end_level}
 use Rattle.xl_mapping.specs.Members.{In}
 use Rattle.xl_mapping.specs.Mappings.{IsMapping}
 use Rattle.xl_mapping.proofs.Members.{any-In, In-any}
+use Rattle.xl_mapping.proofs.Places.{first-covered}
 
 -- a leaf that covers a page stands under each slot of the page above its level
 up-one : (e first page : ℕ) → first ≡ e * 512 → first ≤ page → page < first + 512 → page / 512 ≡ first / 512
@@ -80,14 +81,6 @@ in-block x z space e a b aligned same = go x.order aligned same (λ low high. gr
     go order.K4 c d end = end (omega arith) (omega arith)
     go order.M2 c d end = end (omega arith) (omega arith)
     go order.G1 c d end = end (omega arith) (omega arith)
-
-first-covered : (z : Leaf) → covers z.space z.first z ≡ true
-first-covered z = let p : 0 < pages_of z.order = positive z.order in grind (arith, nat_tests)
-  where
-    positive : (o : Order) → 0 < pages_of o
-    positive order.K4 = omega arith
-    positive order.M2 = omega arith
-    positive order.G1 = omega arith
 
 -- no node of a covered page is below its leaf's level
 none-below : (row : Row) (leaves : List Leaf) (x : Leaf) (space page h : ℕ) → IsMapping row leaves → In x leaves → covers space page x ≡ true → h < level_of x.order

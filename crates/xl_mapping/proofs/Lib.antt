@@ -1,4 +1,5 @@
 pub mod Members
+pub mod Orders
 pub mod Insertion
 pub mod Lowest
 pub mod Places

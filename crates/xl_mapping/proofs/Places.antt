@@ -8,6 +8,11 @@ use Rattle.xl_model.specs.declared.address.Order.TheVariants as order
 use Rattle.xl_model.specs.declared.leaf.Leaf.{Leaf}
 use Rattle.xl_model.specs.Addresses.{levels_of, level_of, pages_of, page_of, is_aligned}
 use Rattle.xl_model.specs.Mapping.{covers, meets_block, holds_frames, is_leaf, leaf_key}
+use Rattle.xl_mapping.proofs.Orders.{pages-some}
+
+-- a leaf covers its first page
+pub first-covered : (x : Leaf) → covers x.space x.first x ≡ true
+first-covered x = let p : 0 < pages_of x.order = pages-some x.order in grind (arith, nat_tests)
 
 -- two leaves that cover one page of a space: each meets the other's block
 pub covers-meets : (space page : ℕ) (x y : Leaf) → covers space page x ≡ true → covers space page y ≡ true
@@ -20,22 +25,14 @@ pub meets-covers : (x y : Leaf) → meets_block x.space x.first x.order y ≡ tr
 meets-covers x y h =
     elim (nat_le x.first y.first) as (λ b. nat_le x.first y.first ≡ b → (page : ℕ) × (covers x.space page x ≡ true) × (covers x.space page y ≡ true)) [
       | true ↦ λ t. (y.first, meets-first x y h t, meets-own x y h)
-      | false ↦ λ t. (x.first, own-first x, meets-second x y h t)
+      | false ↦ λ t. (x.first, first-covered x, meets-second x y h t)
     ] refl
   where
-    positive : (o : Order) → 0 < pages_of o
-    positive order.K4 = omega arith
-    positive order.M2 = omega arith
-    positive order.G1 = omega arith
-
-    own-first : (x : Leaf) → covers x.space x.first x ≡ true
-    own-first x = let p : 0 < pages_of x.order = positive x.order in grind (arith, nat_tests)
-
     meets-first : (x y : Leaf) → meets_block x.space x.first x.order y ≡ true → nat_le x.first y.first ≡ true → covers x.space y.first x ≡ true
     meets-first x y h t = grind (arith, nat_tests)
 
     meets-own : (x y : Leaf) → meets_block x.space x.first x.order y ≡ true → covers x.space y.first y ≡ true
-    meets-own x y h = let p : 0 < pages_of y.order = positive y.order in grind (arith, nat_tests)
+    meets-own x y h = let p : 0 < pages_of y.order = pages-some y.order in grind (arith, nat_tests)
 
     meets-second : (x y : Leaf) → meets_block x.space x.first x.order y ≡ true → nat_le x.first y.first ≡ false → covers x.space x.first y ≡ true
     meets-second x y h t = grind (arith, nat_tests)
@@ -54,13 +51,8 @@ frame-shared x y h =
       | false ↦ λ t. (x.frame, own-frame x, second-held x y h t)
     ] refl
   where
-    positive : (o : Order) → 0 < pages_of o
-    positive order.K4 = omega arith
-    positive order.M2 = omega arith
-    positive order.G1 = omega arith
-
     own-frame : (x : Leaf) → holds_frames x.frame 1 x ≡ true
-    own-frame x = let p : 0 < pages_of x.order = positive x.order in grind (arith, nat_tests)
+    own-frame x = let p : 0 < pages_of x.order = pages-some x.order in grind (arith, nat_tests)
 
     first-held : (x y : Leaf) → holds_frames x.frame (pages_of x.order) y ≡ true → nat_le x.frame y.frame ≡ true → holds_frames y.frame 1 x ≡ true
     first-held x y h t = grind (arith, nat_tests)

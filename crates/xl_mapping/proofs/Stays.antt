@@ -17,6 +17,7 @@ use Rattle.xl_mapping.proofs.Members.{any-false}
 use Rattle.xl_mapping.proofs.Insertion.{with-In, stays-with, without-In, In-without, same-place}
 use Rattle.xl_mapping.proofs.Kept.{named-In, named-is}
 use Rattle.xl_mapping.proofs.Places.{named-space}
+use Rattle.xl_mapping.proofs.Orders.{pages-some}
 
 -- pages of a valid leaf are below 2^52
 pub first-small : (row : Row) (x : Leaf) → IsLeafOf row x → x.first < 2 ^ 52
@@ -47,16 +48,11 @@ place-small row leaves space to o v = go row.mode o v.pages_in
     go mode.Sv57 order.M2 h = omega arith
     go mode.Sv57 order.G1 h = omega arith
 
-positive : (o : Order) → 0 < pages_of o
-positive order.K4 = omega arith
-positive order.M2 = omega arith
-positive order.G1 = omega arith
-
 -- a leaf at the first page of a block meets it
 meets-at : (space first : ℕ) (o : Order) (x : Leaf) → x.first < 2 ^ 52 → first < 2 ^ 52 → leaf_key x ≡ space * 2 ^ 52 + first → meets_block space first o x ≡ true
 meets-at space first o x a b e =
-    let p : 0 < pages_of o = positive o in
-    let q : 0 < pages_of x.order = positive x.order in
+    let p : 0 < pages_of o = pages-some o in
+    let q : 0 < pages_of x.order = pages-some x.order in
     let s : x.space ≡ space = omega arith in
     let f : x.first ≡ first = omega arith in
     grind (arith, nat_tests)

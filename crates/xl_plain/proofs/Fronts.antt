@@ -1,7 +1,6 @@
 -- What each call leaves: the kept leaves, and their mapping.
-use Rattle.std.proofs.Common.{◌≡◌, refl, sym, ap, ◌∙◌, subst, ℕ, suc, length, Bool, true, false, not, cond, List, [], ◌∷◌, map, ◌⊎◌, inl, inr, ◌&&◌, ◌||◌, ◌<◌, ◌+◌, ◌*◌, ◌^◌, nat_lt, nat_eq, ◌==◌, arith}
+use Rattle.std.proofs.Common.{◌≡◌, refl, sym, ap, ◌∙◌, subst, ℕ, suc, length, Bool, true, false, not, cond, List, [], ◌∷◌, map, ◌⊎◌, inl, inr, ◌+◌, ◌*◌, ◌^◌, nat_lt}
 use Rattle.std.specs.Prelude.{filter}
-use Rattle.std.specs.List.{list_any}
 use Rattle.xl_model.specs.declared.address.Order.{Order}
 use Rattle.xl_model.specs.declared.perm.Perm.{Perm}
 use Rattle.xl_model.specs.declared.leaf.Leaf.{Leaf}
@@ -10,10 +9,10 @@ use Rattle.xl_model.specs.Chains.{bucket_of, leaf_tag}
 use Rattle.xl_mapping.specs.Members.{In, IsSorted}
 use Rattle.xl_mapping.proofs.Members.{any-false, filter-In, filter-passes, In-filter, map-In, In-map}
 use Rattle.xl_mapping.proofs.Insertion.{with-In, In-with, stays-with, sorted-with, sorted-without, without-In, without-other, In-without, same-place}
-use Rattle.xl_mapping.proofs.Places.{named-key, named-space, named-first}
+use Rattle.xl_mapping.proofs.Places.{named-key}
 use Rattle.xl_plain.specs.Kept.{IsPlaced, IsApart, IsKept, mapping_of, in_front, without_named, protected_where, with_perm_named}
 use Rattle.xl_plain.proofs.Same.{same-sorted}
-use Rattle.xl_plain.proofs.Keeps.{In-all, all-In, none-any, both, meets-sym, key-apart, kept-tail, mapping-sorted, mapping-In, In-mapping, kept-filter}
+use Rattle.xl_plain.proofs.Keeps.{In-all, all-In, none-any, both, meets-sym, key-apart, mapping-sorted, mapping-In, In-mapping, kept-filter}
 
 -- a new leaf
 pub front-In : (b : ℕ) (z x : Leaf) (xs : List Leaf) → In z (in_front b x xs) → (z ≡ x) ⊎ In z xs

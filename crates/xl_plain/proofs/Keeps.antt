@@ -1,16 +1,15 @@
 -- Kept leaves: those of the mapping, at places of their own.
-use Rattle.std.proofs.Common.{◌≡◌, refl, sym, ap, ◌∙◌, subst, ℕ, zero, suc, Bool, true, false, not, cond, List, [], ◌∷◌, length, get_or, ◌⊎◌, inl, inr, ◌&&◌, ◌||◌, ◌<◌, ◌≤◌, ◌+◌, ◌*◌, ◌^◌, nat_lt, nat_eq, ◌==◌, arith}
+use Rattle.std.proofs.Common.{◌≡◌, refl, sym, ◌∙◌, subst, ℕ, zero, suc, Bool, true, false, cond, List, [], ◌∷◌, length, get_or, inl, inr, ◌<◌, ◌^◌, arith}
 use Rattle.std.specs.Prelude.{filter}
 use Rattle.std.specs.List.{list_any, All}
 use Rattle.std.proofs.lemmas.Bool.Decides.{nat_tests}
-use Rattle.xl_model.specs.declared.address.Order.{Order}
-use Rattle.xl_model.specs.declared.address.Order.TheVariants as order
 use Rattle.xl_model.specs.declared.leaf.Leaf.{Leaf}
 use Rattle.xl_model.specs.Addresses.{pages_of}
 use Rattle.xl_model.specs.Mapping.{meets_block, leaf_key, with_leaf}
 use Rattle.xl_mapping.specs.Members.{In, IsSorted}
 use Rattle.xl_mapping.proofs.Members.{any-false, filter-In}
 use Rattle.xl_mapping.proofs.Insertion.{with-In, In-with, stays-with, sorted-with}
+use Rattle.xl_mapping.proofs.Orders.{pages-some}
 use Rattle.xl_plain.specs.Kept.{IsPlaced, IsApart, IsKept, mapping_of}
 
 get-In : {A : Type 0} (xs : List A) (k : ℕ) (d : A) → k < length xs → In (get_or xs k d) xs
@@ -39,16 +38,11 @@ both b t f = let e : true ≡ false = sym t ∙ f in absurd (cc)
 pub meets-sym : (x y : Leaf) → meets_block x.space x.first x.order y ≡ false → meets_block y.space y.first y.order x ≡ false
 meets-sym x y h = grind (arith, nat_tests)
 
-positive : (o : Order) → 0 < pages_of o
-positive order.K4 = omega arith
-positive order.M2 = omega arith
-positive order.G1 = omega arith
-
 -- leaves of one place meet
 pub place-meets : (x y : Leaf) → IsPlaced x → IsPlaced y → leaf_key y ≡ leaf_key x → meets_block x.space x.first x.order y ≡ true
 place-meets x y a b e =
-    let p : 0 < pages_of x.order = positive x.order in
-    let q : 0 < pages_of y.order = positive y.order in
+    let p : 0 < pages_of x.order = pages-some x.order in
+    let q : 0 < pages_of y.order = pages-some y.order in
     let k : x.first < 2 ^ 45 = a.page_in in
     let l : y.first < 2 ^ 45 = b.page_in in
     let s : y.space ≡ x.space = omega arith in

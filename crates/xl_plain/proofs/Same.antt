@@ -1,5 +1,5 @@
 -- Lists with the same members: sorted ones are one list, and a test finds the same in either.
-use Rattle.std.proofs.Common.{◌≡◌, refl, sym, ap, ◌∙◌, subst, ℕ, Bool, true, false, List, [], ◌∷◌, Option, None, Some, ◌⊎◌, inl, inr, ◌<◌, arith}
+use Rattle.std.proofs.Common.{◌≡◌, refl, sym, ap, ◌∙◌, Bool, true, false, List, [], ◌∷◌, Option, None, Some, inl, inr, ◌<◌, arith}
 use Rattle.std.specs.Prelude.{find}
 use Rattle.std.specs.List.{list_any}
 use Rattle.xl_model.specs.declared.leaf.Leaf.{Leaf}

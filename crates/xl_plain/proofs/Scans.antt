@@ -1,13 +1,10 @@
 -- Loops over the kept leaves, one leaf at a step.
-use Rattle.std.proofs.Common.{◌≡◌, refl, sym, ap, ◌∙◌, subst, ℕ, suc, Bool, true, false, not, cond, List, [], ◌∷◌, ◌++◌, Option, Some, map, take, drop, zero, set, get_or, length, append_assoc, add-one, ◌<◌, ◌≤◌, ◌+◌, nat_lt, nat_eq, ◌==◌, arith}
+use Rattle.std.proofs.Common.{◌≡◌, refl, sym, ap, ◌∙◌, ℕ, suc, Bool, true, false, List, [], ◌∷◌, ◌++◌, Some, map, take, drop, get_or, length, append_assoc, add-one, ◌<◌, ◌≤◌, ◌+◌, nat_lt, ◌==◌, arith}
 use Rattle.std.proofs.Math.Seq.{drop-cons}
 use Rattle.std.proofs.lemmas.List.{take_more}
 use Rattle.std.proofs.lemmas.Bool.Decides.{nat_tests}
 use Rattle.std.specs.Prelude.{find}
-use Rattle.xl_model.specs.declared.address.Order.{Order}
-use Rattle.xl_model.specs.declared.perm.Perm.{Perm}
 use Rattle.xl_model.specs.declared.leaf.Leaf.{Leaf}
-use Rattle.xl_model.specs.Mapping.{is_leaf}
 use Rattle.xl_model.specs.Chains.{bucket_of, leaf_tag, chain_of, examined}
 use Rattle.xl_plain.specs.Kept.{in_front}
 

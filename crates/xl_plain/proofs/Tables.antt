@@ -1,5 +1,5 @@
 -- What the calls answer and leave, for a table of kept leaves.
-use Rattle.std.proofs.Common.{◌≡◌, refl, sym, ap, ◌∙◌, subst, ℕ, suc, Bool, true, false, cond, List, [], ◌∷◌, map, length, Option, None, Some, Result, Ok, Err, ◌⊎◌, inl, inr, ◌<◌, ◌≤◌, ◌+◌, ◌*◌, ◌^◌, nat_le, nat_lt, arith}
+use Rattle.std.proofs.Common.{◌≡◌, refl, sym, ap, ◌∙◌, subst, ℕ, suc, true, false, List, map, length, Option, None, Some, Result, Ok, Err, ◌<◌, ◌≤◌, ◌+◌, ◌^◌, nat_le, nat_lt, arith}
 use Rattle.std.specs.Prelude.{find, is_some}
 use Rattle.std.specs.List.{list_any}
 use Rattle.std.proofs.lemmas.Bool.Decides.{nat_tests}
@@ -13,23 +13,23 @@ use Rattle.xl_model.specs.declared.work.NoRoom.TheVariants as why
 use Rattle.xl_model.specs.declared.work.Refused.{Refused}
 use Rattle.xl_model.specs.declared.work.Walk.{Walk}
 use Rattle.xl_model.specs.declared.work.Work.{Work}
-use Rattle.xl_model.specs.Mapping.{meets_block, covers, is_leaf, leaf_key, meets_any, leaf_at_page, leaf_named, with_leaf, without_leaf}
-use Rattle.xl_model.specs.Changes.{Change, Insert, Remove, Protect, Relocate, IsNamed, changed, at_page, with_perm}
+use Rattle.xl_model.specs.Mapping.{meets_block, covers, is_leaf, meets_any, leaf_at_page, leaf_named, with_leaf, without_leaf}
+use Rattle.xl_model.specs.Changes.{Change, Insert, Remove, Protect, Relocate, IsNamed, changed, at_page}
 use Rattle.xl_model.specs.Chains.{leaf_tag, with_tag, only_used_tags}
 use Rattle.xl_model.specs.Placing.{plus, no_moves}
 use Rattle.xl_model.specs.Shapes.{Shape, Chained, brought, widened, narrowed, shape_after}
 use Rattle.xl_model.specs.Room.{room_for, has_room}
-use Rattle.xl_model.specs.Caches.{Caches, NoCaches, caches_purged, caches_fenced}
+use Rattle.xl_model.specs.Caches.{NoCaches, caches_purged, caches_fenced}
 use Rattle.xl_model.specs.Walks.{chains_reads, orders_tried, walked}
 use Rattle.xl_model.specs.Structures.{TableState, IsBlock, fence_answer, table_fenced, walk_answer, table_walked, Made, moves_made, finds_place, answer_by, after_by, verdict_by, verdict, table_made, table_answer, table_after}
-use Rattle.xl_mapping.specs.Members.{In, IsSorted}
+use Rattle.xl_mapping.specs.Members.{In}
 use Rattle.xl_mapping.proofs.Members.{find-only, any-false}
 use Rattle.xl_mapping.proofs.Kept.{named-In, named-is}
-use Rattle.xl_mapping.proofs.Places.{covers-meets, named-key, named-space, named-first, named-order}
+use Rattle.xl_mapping.proofs.Places.{covers-meets, named-space, named-order}
 use Rattle.xl_plain.specs.Kept.{IsPlaced, IsKept, mapping_of, in_front, without_named, with_perm_named, table_of}
 use Rattle.xl_plain.proofs.Same.{any-same, find-same}
-use Rattle.xl_plain.proofs.Keeps.{all-In, both, kept-filter, kept-same, mapping-sorted, mapping-In, In-mapping}
-use Rattle.xl_plain.proofs.Fronts.{IsNew, front-In, In-front, stays-front, kept-front, mapping-front, mapping-without, mapping-protected, named-same, new-key, with-without}
+use Rattle.xl_plain.proofs.Keeps.{both, kept-filter, kept-same, mapping-sorted, mapping-In, In-mapping}
+use Rattle.xl_plain.proofs.Fronts.{IsNew, stays-front, kept-front, mapping-front, mapping-without, mapping-protected, named-same, new-key, with-without}
 use Rattle.xl_plain.proofs.Tags.{with-tag, length-front, length-tags, all-used, used-without, used-protected}
 
 -- the reading calls

@@ -1,5 +1,5 @@
 -- Tags of kept leaves: each has its own, and how each call changes their list.
-use Rattle.std.proofs.Common.{◌≡◌, refl, sym, ap, ◌∙◌, subst, ℕ, suc, Bool, true, false, not, cond, List, [], ◌∷◌, map, length, ◌⊎◌, inl, inr, ◌&&◌, ◌||◌, ◌<◌, ◌≤◌, ◌+◌, ◌*◌, ◌/◌, ◌^◌, nat_lt, nat_eq, ◌==◌, arith}
+use Rattle.std.proofs.Common.{◌≡◌, refl, sym, ap, ◌∙◌, subst, ℕ, suc, Bool, true, false, not, cond, List, [], ◌∷◌, map, length, inl, inr, ◌<◌, ◌+◌, ◌^◌, nat_lt, ◌==◌, arith}
 use Rattle.std.specs.Prelude.{filter}
 use Rattle.std.specs.List.{list_any}
 use Rattle.std.proofs.lemmas.Bool.Decides.{nat_tests}
@@ -11,10 +11,10 @@ use Rattle.xl_model.specs.Addresses.{pages_of}
 use Rattle.xl_model.specs.Mapping.{meets_block, is_leaf}
 use Rattle.xl_model.specs.Chains.{tag_of, bucket_of, leaf_tag, in_front_of_bucket, has_tag, with_tag, only_used_tags}
 use Rattle.xl_mapping.specs.Members.{In}
-use Rattle.xl_mapping.proofs.Members.{any-In, In-any, map-In, In-map, filter-In, filter-passes, In-filter}
+use Rattle.xl_mapping.proofs.Members.{In-any, map-In, filter-In, filter-passes, In-filter}
 use Rattle.xl_plain.specs.Kept.{IsPlaced, IsKept, mapping_of, in_front, without_named, protected_where, with_perm_named}
 use Rattle.xl_plain.proofs.Keeps.{all-In, both, none-any, kept-same, mapping-In, In-mapping, kept-filter}
-use Rattle.xl_plain.proofs.Fronts.{IsNew, given, perm-named-is, kept-front, kept-protected}
+use Rattle.xl_plain.proofs.Fronts.{IsNew, given, perm-named-is, kept-protected}
 
 -- leaves of one tag share a page
 pub record Shares (s t f g : ℕ) (o p : Order) : Type 0 where

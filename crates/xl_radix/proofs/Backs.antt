@@ -18,7 +18,7 @@ use Rattle.xl_radix.specs.Table.{IsRadixMapping, IsImage}
 use Rattle.xl_radix.proofs.Cases.{split-less}
 use Rattle.xl_radix.proofs.Lists.{same-sorted}
 use Rattle.xl_radix.proofs.Numbers.{number-some, below-some, Is}
-use Rattle.xl_radix.proofs.Ups.{level-low}
+use Rattle.xl_mapping.proofs.Orders.{level-low}
 use Rattle.xl_radix.proofs.Slots.{At, Says, says, leaf-in-some, leaf-in-none, in-nodes}
 
 order-of-level : (o : Order) → order_of (level_of o) ≡ Some o

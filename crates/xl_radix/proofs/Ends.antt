@@ -17,7 +17,7 @@ use Rattle.xl_radix.specs.Steps.{Stands, IsEnd}
 use Rattle.xl_radix.proofs.Cases.{split-le}
 use Rattle.xl_radix.proofs.Lists.{find-nothing, any-nothing}
 use Rattle.xl_radix.proofs.Numbers.{number-some}
-use Rattle.xl_radix.proofs.Ups.{level-low}
+use Rattle.xl_mapping.proofs.Orders.{level-low}
 use Rattle.xl_radix.proofs.Meets.{Overlap, Met, met, meets, covered, covering}
 use Rattle.xl_radix.proofs.Slots.{At, Under, leaf-in-some, leaf-in-none, in-nodes, in-nodes-leaf}
 

@@ -15,6 +15,7 @@ use Rattle.xl_mapping.specs.Members.{In}
 use Rattle.xl_pte.specs.Decode.{decode_of}
 use Rattle.xl_pte.specs.declared.word.Pte.{Pte}
 use Rattle.xl_mapping.proofs.Members.{any-false}
+use Rattle.xl_mapping.proofs.Orders.{pages-some}
 use Rattle.xl_radix.specs.Image.{leaf_in}
 use Rattle.xl_radix.specs.ReadBack.{order_of, leaf_said}
 use Rattle.xl_radix.specs.Table.{Table, IsNew, IsStore}
@@ -56,11 +57,6 @@ aligned-frame : (o : Order) (frame e : ℕ) → frame ≡ e * pages_of o → fra
 aligned-frame order.K4 frame e h = omega arith
 aligned-frame order.M2 frame e h = omega arith
 aligned-frame order.G1 frame e h = omega arith
-
-pages-some : (o : Order) → 0 < pages_of o
-pages-some order.K4 = omega arith
-pages-some order.M2 = omega arith
-pages-some order.G1 = omega arith
 
 limit-low : (top page : ℕ) → 3 ≤ top → top ≤ 5 → page < 2 ^ (9 * top) → page < 2 ^ 52
 limit-low zero page h g b = absurd (omega arith)

@@ -28,11 +28,6 @@ up-pages order.K4 page = omega arith
 up-pages order.M2 page = omega arith
 up-pages order.G1 page = omega arith
 
-pub level-low : (o : Order) → level_of o ≤ 2
-level-low order.K4 = omega arith
-level-low order.M2 = omega arith
-level-low order.G1 = omega arith
-
 -- A page in a leaf's interval is in its block, and conversely.
 pub covers-up : (o : Order) (first page : ℕ) → up (level_of o) first * pages_of o ≡ first → (nat_le first page && nat_lt page (first + pages_of o)) ≡ true → up (level_of o) page ≡ up (level_of o) first
 covers-up order.K4 first page a h = grind (arith, nat_tests)

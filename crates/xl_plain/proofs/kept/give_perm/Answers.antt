@@ -1,4 +1,4 @@
-use Rattle.std.proofs.Common.{◌≡◌, ◌∙◌, sym, ap, ◌++◌, [], map, take, drop, set, length, append-nil, arith}
+use Rattle.std.proofs.Common.{◌∙◌, sym, ap, ◌++◌, map, take, set, append-nil, arith}
 use Rattle.std.proofs.lemmas.List.{drop_all, take_all}
 use Rattle.std.proofs.lemmas.List.Edits.{map_over_more}
 use Rattle.xl_plain.proofs.Fronts.{given, perm-named-is}

@@ -1,4 +1,4 @@
-use Rattle.std.proofs.Common.{◌≡◌, ◌∙◌, sym, ap, find, drop, length, [], arith}
+use Rattle.std.proofs.Common.{◌∙◌, sym, ap, find, arith}
 use Rattle.std.proofs.lemmas.List.{drop_all}
 use Rattle.xl_model.specs.Mapping.{is_leaf}
 use Rattle.xl_plain.proofs.Scans.{find-here, find-past}

@@ -1,4 +1,4 @@
-use Rattle.std.proofs.Common.{◌≡◌, ◌++◌, ◌∷◌, take, drop}
+use Rattle.std.proofs.Common.{◌≡◌, ◌++◌, take, drop}
 use Rattle.xl_plain.specs.Kept.{in_front}
 use Rattle.xl_plain.proofs.kept.place_of.Given as goal
 

@@ -1,6 +1,6 @@
-use Rattle.std.proofs.Common.{◌≡◌, ◌∙◌, sym, ap, subst, true, false, Some, find, is_some}
+use Rattle.std.proofs.Common.{◌≡◌, ◌∙◌, sym, ap, subst, Some, find, is_some}
 use Rattle.xl_model.specs.Mapping.{is_leaf, leaf_named}
-use Rattle.xl_model.specs.Changes.{Remove, Relocate, IsNamed}
+use Rattle.xl_model.specs.Changes.{Remove, IsNamed}
 use Rattle.xl_model.specs.Structures.{TableState, table_answer, table_after}
 use Rattle.xl_plain.specs.Kept.{mapping_of}
 use Rattle.xl_plain.proofs.Keeps.{both}

@@ -1,4 +1,4 @@
-use Rattle.std.proofs.Common.{◌≡◌, ◌∙◌, sym, ap, subst, ◌≤◌, arith}
+use Rattle.std.proofs.Common.{◌∙◌, sym, ap, subst, arith}
 use Rattle.xl_model.specs.Changes.{Remove, IsNamed}
 use Rattle.xl_model.specs.Structures.{TableState, table_answer, table_after}
 use Rattle.xl_plain.specs.Kept.{IsKept, without_named, table_of}
