@@ -1,6 +1,7 @@
 pub mod Members
 pub mod Orders
 pub mod Insertion
+pub mod Sorted
 pub mod Lowest
 pub mod Places
 pub mod Kept

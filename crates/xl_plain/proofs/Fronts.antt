@@ -11,7 +11,7 @@ use Rattle.xl_mapping.proofs.Members.{any-false, filter-In, filter-passes, In-fi
 use Rattle.xl_mapping.proofs.Insertion.{with-In, In-with, stays-with, sorted-with, sorted-without, without-In, without-other, In-without, same-place}
 use Rattle.xl_mapping.proofs.Places.{named-key}
 use Rattle.xl_plain.specs.Kept.{IsPlaced, IsApart, IsKept, mapping_of, in_front, without_named, protected_where, with_perm_named}
-use Rattle.xl_plain.proofs.Same.{same-sorted}
+use Rattle.xl_mapping.proofs.Sorted.{same-sorted}
 use Rattle.xl_plain.proofs.Keeps.{In-all, all-In, none-any, both, meets-sym, key-apart, mapping-sorted, mapping-In, In-mapping, kept-filter}
 
 -- a new leaf

@@ -16,7 +16,7 @@ use Rattle.xl_radix.specs.Image.{leaf_in, word_of}
 use Rattle.xl_radix.specs.ReadBack.{order_of, leaf_said, leaf_by, leaf_here, read_to, read_back}
 use Rattle.xl_radix.specs.Table.{IsRadixMapping, IsImage}
 use Rattle.xl_radix.proofs.Cases.{split-less}
-use Rattle.xl_radix.proofs.Lists.{same-sorted}
+use Rattle.xl_mapping.proofs.Sorted.{same-sorted}
 use Rattle.xl_radix.proofs.Numbers.{number-some, below-some, Is}
 use Rattle.xl_mapping.proofs.Orders.{level-low}
 use Rattle.xl_radix.proofs.Slots.{At, Says, says, leaf-in-some, leaf-in-none, in-nodes}

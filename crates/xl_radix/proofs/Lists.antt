@@ -1,11 +1,11 @@
--- What a test finds in a list, also with one leaf more; and that a sorted list is known by its members.
-use Rattle.std.proofs.Common.{◌≡◌, ◌<◌, Bool, true, false, cond, inl, inr, List, [], ◌∷◌, Some, None, refl, ap, sym, arith}
+-- What a test finds in a list, also with one leaf more.
+use Rattle.std.proofs.Common.{◌≡◌, Bool, true, false, cond, inl, inr, List, [], ◌∷◌, Some, None, refl, ap}
 use Rattle.std.specs.List.{find, list_any}
 use Rattle.xl_model.specs.declared.leaf.Leaf.{Leaf}
 use Rattle.xl_model.specs.Mapping.{with_leaf, leaf_key}
-use Rattle.xl_mapping.specs.Members.{In, IsSorted}
+use Rattle.xl_mapping.specs.Members.{In}
 use Rattle.xl_mapping.proofs.Members.{find-In, find-passes, find-only, any-In}
-use Rattle.xl_mapping.proofs.Insertion.{with-In, In-with, above-In}
+use Rattle.xl_mapping.proofs.Insertion.{with-In, In-with}
 use Rattle.xl_radix.proofs.Cases.{Same, Before, After, lies}
 
 pub find-nothing : (p : Leaf → Bool) (xs : List Leaf) → ((y : Leaf) → In y xs → p y ≡ true → ⊥) → find p xs ≡ None
@@ -35,34 +35,3 @@ find-with-other p x (z ∷ zs) f not =
 pub find-with : (p : Leaf → Bool) (x : Leaf) (xs : List Leaf) → p x ≡ true → ((y : Leaf) → In y xs → p y ≡ true → ⊥) → find p (with_leaf x xs) ≡ Some x
 find-with p x xs t not =
     find-only p x (with_leaf x xs) (In-with x xs) t (λ y i u. elim (with-In y x xs i) [ inl e ↦ e | inr r ↦ absurd (not y r u) ])
-
--- Sorted lists of the same members are one.
-pub same-sorted : (xs ys : List Leaf) → IsSorted xs → IsSorted ys → ((z : Leaf) → In z xs → In z ys) → ((z : Leaf) → In z ys → In z xs) → xs ≡ ys
-same-sorted [] [] s t f g = refl
-same-sorted [] (y ∷ ys) s t f g = absurd (g y (inl refl))
-same-sorted (x ∷ xs) [] s t f g = absurd (f x (inl refl))
-same-sorted (x ∷ xs) (y ∷ ys) s t f g = joined heads (same-sorted xs ys s.1 t.1 (forth heads) (back heads))
-  where
-    heads : x ≡ y
-    heads = elim (f x (inl refl)) [
-      | inl e ↦ e
-      | inr i ↦ elim (g y (inl refl)) [
-        | inl e ↦ sym e
-        | inr j ↦ let a : leaf_key y < leaf_key x = above-In (leaf_key y) x ys t.0 i in let b : leaf_key x < leaf_key y = above-In (leaf_key x) y xs s.0 j in absurd (omega (arith, a, b))
-      ]
-    ]
-
-    forth : x ≡ y → (z : Leaf) → In z xs → In z ys
-    forth e z i = elim (f z (inr i)) [
-      | inl q ↦ let a : leaf_key x < leaf_key z = above-In (leaf_key x) z xs s.0 i in let b : leaf_key z ≡ leaf_key y = ap leaf_key q in let c : leaf_key x ≡ leaf_key y = ap leaf_key e in absurd (omega (arith, a, b, c))
-      | inr r ↦ r
-    ]
-
-    back : x ≡ y → (z : Leaf) → In z ys → In z xs
-    back e z i = elim (g z (inr i)) [
-      | inl q ↦ let a : leaf_key y < leaf_key z = above-In (leaf_key y) z ys t.0 i in let b : leaf_key z ≡ leaf_key x = ap leaf_key q in let c : leaf_key x ≡ leaf_key y = ap leaf_key e in absurd (omega (arith, a, b, c))
-      | inr r ↦ r
-    ]
-
-    joined : x ≡ y → xs ≡ ys → x ∷ xs ≡ y ∷ ys
-    joined e r = cc
