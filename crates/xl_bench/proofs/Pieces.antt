@@ -1,7 +1,7 @@
 -- What is left of a file when its next piece was fed, and where it ends.
 use Rattle.std.proofs.Common.{◌≡◌, ℕ, ◌+◌, ◌≤◌, ◌<◌, ◌⊎◌, Bool, true, false, List, [], ◌++◌, length, take, drop, refl, ap, arith, ◌∙◌, sym, inl, inr, append_assoc, length-take}
 use Rattle.std.specs.Prelude.{Option, None, Some, nat_lt, if◌then◌else◌}
-use Rattle.std.proofs.lemmas.Bool.{cases_lt}
+use Rattle.std.proofs.lemmas.Bool.{cases_lt, false≢true}
 use Rattle.std.proofs.lemmas.Bool.Decides.{nat_tests}
 use Rattle.std.proofs.lemmas.List.{drop-drop, drop-take, drop_all, take-take, take-append-drop}
 use Rattle.xl_lackey.specs.Stream.{State, Left, left, left_of, due, due_of}
@@ -20,9 +20,6 @@ short file p h =
     ap (λ (t : Bool). if t then trail (due p.reader (drop p.at (take limit file))) TooLong else trail (left p.reader (drop p.at file)) AtEnd) e
 
 -- nothing was read yet
-pub false≢true : ¬ (false ≡ true)
-false≢true e = cc
-
 pub stands_first : (file : Option (List ℕ)) → Stands file at_first
 stands_first None = record { none = refl; unfinished = refl; first = refl }
 stands_first (Some file) = record { part = omega arith; most = omega arith; all = λ h. absurd (false≢true h) }

@@ -1,7 +1,7 @@
 -- What the reader's answer says of what is left of the file.
-use Rattle.std.proofs.Common.{◌≡◌, ℕ, ◌≤◌, ◌<◌, Bool, true, false, List, [], ◌∷◌, length, take, drop, refl, ap, arith, ◌∙◌, sym, inl, inr}
+use Rattle.std.proofs.Common.{◌≡◌, ℕ, ◌≤◌, ◌<◌, true, false, List, [], ◌∷◌, length, take, drop, refl, ap, arith, ◌∙◌, sym, inl, inr}
 use Rattle.std.specs.Prelude.{Option, None, Some}
-use Rattle.std.proofs.lemmas.Bool.{cases_lt}
+use Rattle.std.proofs.lemmas.Bool.{cases_lt, false_from_ne_true, false≢true}
 use Rattle.std.proofs.lemmas.List.{drop_all}
 use Rattle.xl_lackey.specs.declared.fault.Fault.{Fault}
 use Rattle.xl_lackey.specs.declared.reference.Reference.{Reference}
@@ -10,15 +10,11 @@ use Rattle.xl_lackey.specs.Answers.{Gives, Ends, Refuses, item_of}
 use Rattle.xl_bench.specs.Trails.{AtEnd, BadAt, TooLong, trail, Progress, limit, ahead, with_record}
 use Rattle.xl_bench.specs.Tapes.{IsUnfed, IsWithin, Stands, Keeps, Plays, IsDone, Gave, Stops, nothing}
 use Rattle.xl_bench.specs.declared.tape.TapeStop.TheVariants as why
-use Rattle.xl_bench.proofs.Pieces.{long, short, false≢true}
-
-either : (t : Bool) → (t ≡ true → ⊥) → t ≡ false
-either true h = absurd (h refl)
-either false h = refl
+use Rattle.xl_bench.proofs.Pieces.{long, short}
 
 -- a file past the limit isn't at its end
 unfinished : (file : List ℕ) (p : Progress) → IsWithin file p → limit < length file → p.reader.finished ≡ false
-unfinished file p w h = either p.reader.finished (λ t. let a = w.all t in let m = w.most in omega arith)
+unfinished file p w h = false_from_ne_true p.reader.finished (λ t. let a = w.all t in let m = w.most in omega arith)
 
 may_come : (file : List ℕ) (p : Progress) → IsWithin file p → MayCome p.reader (drop p.at file)
 may_come file p w t = let a = w.all t in drop_all p.at file (omega arith)

@@ -3,6 +3,7 @@ use Rattle.std.proofs.Common.{◌≡◌, refl, sym, ap, ◌∙◌, subst, ℕ, z
 use Rattle.std.specs.Prelude.{find}
 use Rattle.std.proofs.lemmas.Bool.Decides.{nat_tests}
 use Rattle.std.proofs.Math.Seq.{map-set_same}
+use Rattle.std.proofs.lemmas.Bool.{eq-eqb}
 use Rattle.xl_model.specs.declared.way.Entry.{Entry}
 use Rattle.xl_model.specs.declared.way.Moves.{Moves}
 use Rattle.xl_model.specs.declared.way.WayRegs.{WayRegs}
@@ -64,12 +65,9 @@ advanced-apart n w growing h at =
     (λ x t.
     let e : slot_at (regs_after n w.regs) (way_hash w.number x.key) ≡ at = grind (arith, nat_tests) in
     let f : slot_at w.regs (way_hash w.number x.key) ≡ before_slot w.regs at = slot-back w.regs n (way_hash w.number x.key) at growing e in
-    rw f (same-numbers (before_slot w.regs at))) in
+    rw f (eq-eqb (before_slot w.regs at) (before_slot w.regs at) refl)) in
     let b : how_many (stands_at w.regs w.number (before_slot w.regs at)) w.entries ≤ 1 = h (before_slot w.regs at) in
     omega arith
-  where
-    same-numbers : (n : ℕ) → (n == n) ≡ true
-    same-numbers n = grind (arith, nat_tests)
 
 pub begun-apart : (w : WayShape) → w.regs.growing ≡ false → SlotsApart w → SlotsApart (begun w)
 unfolding begun slot

@@ -1,7 +1,7 @@
 -- Leaves of TLB arrays: touched, filled, purged.
-use Rattle.std.proofs.Common.{◌≡◌, refl, sym, ◌∙◌, subst, ℕ, zero, suc, Bool, true, false, not, cond, List, [], ◌∷◌, Option, None, Some, ◌⊎◌, inl, inr, map, slice_set, slice_index_or, nat_lt, ◌==◌, arith}
+use Rattle.std.proofs.Common.{◌≡◌, refl, sym, ◌∙◌, subst, ℕ, zero, suc, Bool, true, false, not, cond, List, [], ◌∷◌, Option, None, Some, ◌⊎◌, inl, inr, map, slice_set, slice_index_or, nat_lt}
 use Rattle.std.specs.Prelude.{find, replicate}
-use Rattle.std.proofs.lemmas.Bool.Decides.{nat_tests}
+use Rattle.std.proofs.lemmas.Bool.{eq-eqb}
 use Rattle.xl_model.specs.declared.address.Order.{Order}
 use Rattle.xl_model.specs.declared.address.Order.TheVariants as order
 use Rattle.xl_model.specs.declared.leaf.Leaf.{Leaf}
@@ -174,16 +174,13 @@ pub without-fresh : (p : Leaf → Bool) (arrays : List TlbArray) (leaves : List 
 unfolding arrays_without
 without-fresh p arrays leaves fresh leaf h = fresh leaf (without-held p leaf arrays h).0
 
-same-number : (n : ℕ) → (n == n) ≡ true
-same-number n = grind (arith, nat_tests)
-
 -- every purge takes the old leaf itself
 takes-old : (kind : Purge) (old : Leaf) → is_purged kind old old ≡ true
-takes-old purge.Page old = rw (same-number old.space, same-number old.first) (same-level old.order)
+takes-old purge.Page old = rw (eq-eqb old.space old.space refl, eq-eqb old.first old.first refl) (same-level old.order)
   where
     same-level : (o : Order) → same_order o o ≡ true
-    same-level o = same-number _
-takes-old purge.Space old = same-number old.space
+    same-level o = eq-eqb _ _ refl
+takes-old purge.Space old = eq-eqb old.space old.space refl
 takes-old purge.All old = refl
 
 purged-other : (kind : Purge) (old leaf : Leaf) → is_purged kind old leaf ≡ false → leaf ≡ old → ⊥

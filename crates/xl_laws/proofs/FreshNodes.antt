@@ -2,6 +2,8 @@
 use Rattle.std.proofs.Common.{◌≡◌, refl, sym, ap, ◌∙◌, subst, ℕ, suc, ◌+◌, ◌-◌, ◌*◌, ◌<◌, ◌≤◌, Bool, true, false, not, cond, List, [], ◌∷◌, length, Option, None, Some, ◌⊎◌, inl, inr, slice_index_or, nat_lt, nat_le, ◌==◌, ◌&&◌, ◌||◌, arith}
 use Rattle.std.specs.List.{list_any, position_from}
 use Rattle.std.proofs.lemmas.Bool.Decides.{nat_tests}
+use Rattle.std.specs.Cmp.{second_so}
+use Rattle.std.proofs.lemmas.Bool.{not-false}
 use Rattle.xl_model.specs.declared.address.Order.{Order}
 use Rattle.xl_model.specs.declared.leaf.Leaf.{Leaf}
 use Rattle.xl_model.specs.Addresses.{level_of, pages_of}
@@ -126,10 +128,6 @@ pub tags-fenced : (p : Numbered → Bool) (levels : ℕ) (leaves : List Leaf) (n
 tags-fenced p levels leaves nodes cs fresh c e i j = let k = without-tags p cs c e i j in fresh k.0 e k.1 k.2
 
 -- after a change: the tags that stay are those of needed nodes, and these keep their numbers
-stays-true : (b : Bool) → not b ≡ false → b ≡ true
-stays-true true h = refl
-stays-true false h = absurd (cc)
-
 pub tags-after : (levels : ℕ) (c : Change) (leaves : List Leaf) (nodes : List (Option Node)) (cs : List (Cached Numbered)) → TagsFresh levels leaves nodes cs
     → TagsFresh levels (changed c leaves) (only_needed levels (changed c leaves) (wide levels (brought c leaves) nodes))
     (all_without (λ e. not (is_needed levels (changed c leaves) e.node)) cs)
@@ -137,7 +135,7 @@ unfolding only_needed
 tags-after levels c leaves nodes cs fresh d e i j =
     let k = without-tags (λ (x : Numbered). not (is_needed levels (changed c leaves) x.node)) cs d e i j in
     let old : TagFresh levels leaves nodes e = fresh k.0 e k.1 k.2 in
-    let need : is_needed levels (changed c leaves) e.node ≡ true = stays-true _ k.3 in
+    let need : is_needed levels (changed c leaves) e.node ≡ true = not-false _ k.3 in
     record {
       needed = need;
       there = kept-at levels (changed c leaves) e.node (wide levels (brought c leaves) nodes) e.number (wide-at levels (brought c leaves) e.node nodes e.number old.there) need;
@@ -199,14 +197,10 @@ filled-tag level start leaf space page nodes c e i =
       | false ↦ λ j. go (nat_lt level start && nat_le (level_of leaf.order) level) refl j
     ] i
   where
-    second : (a b : Bool) → (a && b) ≡ true → b ≡ true
-    second true b h = h
-    second false b h = absurd (cc)
-
     go : (b : Bool) → (nat_lt level start && nat_le (level_of leaf.order) level) ≡ b
         → In e (cond b (with_fill (numbered level space page nodes) c) c).items → In e c.items ⊎ ((level_of leaf.order ≤ level) × (e ≡ numbered level space page nodes))
     go true t j =
-        let low : nat_le (level_of leaf.order) level ≡ true = second _ _ t in
+        let low : nat_le (level_of leaf.order) level ≡ true = second_so _ _ t in
         elim (newest-In c.width e (numbered level space page nodes) c.items j) [
           | inl same ↦ inr (grind (arith, nat_tests), same)
           | inr k ↦ inl k

@@ -1,7 +1,9 @@
 -- Cached sections: filled as they are, and out where their bits or their way change.
-use Rattle.std.proofs.Common.{◌≡◌, refl, sym, ap, ◌∙◌, subst, ℕ, ◌+◌, ◌*◌, Bool, true, false, not, List, [], ◌∷◌, Option, None, Some, inl, inr, map, ◌&&◌, arith}
+use Rattle.std.proofs.Common.{◌≡◌, refl, sym, ap, ◌∙◌, subst, ℕ, ◌+◌, ◌*◌, Bool, true, false, List, [], ◌∷◌, Option, None, Some, inl, inr, map, arith}
 use Rattle.std.specs.List.{list_any}
 use Rattle.std.proofs.lemmas.Bool.Decides.{nat_tests}
+use Rattle.std.specs.Cmp.{first_so, second_so}
+use Rattle.std.proofs.lemmas.Bool.{not-false}
 use Rattle.xl_model.specs.declared.address.Order.{Order}
 use Rattle.xl_model.specs.declared.address.Order.TheVariants as order
 use Rattle.xl_model.specs.declared.leaf.Leaf.{Leaf}
@@ -20,7 +22,7 @@ use Rattle.xl_laws.specs.Fresh.{SectionsFresh}
 use Rattle.xl_laws.proofs.Cuckoo.{a_refusal_keeps_every_word}
 use Rattle.xl_laws.proofs.FreshArrays.{touched-In, newest-In, purged-In}
 
-bits-same : (a b : Bool) → same_bit a b ≡ true → a ≡ b
+pub bits-same : (a b : Bool) → same_bit a b ≡ true → a ≡ b
 bits-same true true h = refl
 bits-same true false h = absurd (cc)
 bits-same false true h = absurd (cc)
@@ -32,14 +34,6 @@ ways-same None (Some b) h = absurd (cc)
 ways-same (Some a) None h = absurd (cc)
 ways-same (Some a) (Some b) h = let e : a ≡ b = grind (arith, nat_tests) in ap Some e
 
-first-of : (a b : Bool) → (a && b) ≡ true → a ≡ true
-first-of true b h = refl
-first-of false b h = h
-
-second-of : (a b : Bool) → (a && b) ≡ true → b ≡ true
-second-of true b h = h
-second-of false b h = absurd (cc)
-
 by-fields : (a b : Section) → a.space ≡ b.space → a.block ≡ b.block → a.has_k4 ≡ b.has_k4 → a.has_m2 ≡ b.has_m2 → a.has_g1 ≡ b.has_g1 → a.way ≡ b.way → a ≡ b
 by-fields a b s k x y z w =
     let A : Section = record { space = a.space; block = a.block; has_k4 = a.has_k4; has_m2 = a.has_m2; has_g1 = a.has_g1; way = a.way } in
@@ -49,10 +43,10 @@ by-fields a b s k x y z w =
 
 sections-same : (a b : Section) → a.space ≡ b.space → a.block ≡ b.block → same_section a b ≡ true → a ≡ b
 sections-same a b s k h =
-    let k4 : a.has_k4 ≡ b.has_k4 = bits-same a.has_k4 b.has_k4 (first-of _ _ (first-of _ _ h)) in
-    let m2 : a.has_m2 ≡ b.has_m2 = bits-same a.has_m2 b.has_m2 (second-of _ _ (first-of _ _ h)) in
-    let g1 : a.has_g1 ≡ b.has_g1 = bits-same a.has_g1 b.has_g1 (first-of _ _ (second-of _ _ h)) in
-    let w : a.way ≡ b.way = ways-same a.way b.way (second-of _ _ (second-of _ _ h)) in
+    let k4 : a.has_k4 ≡ b.has_k4 = bits-same a.has_k4 b.has_k4 (first_so _ _ (first_so _ _ h)) in
+    let m2 : a.has_m2 ≡ b.has_m2 = bits-same a.has_m2 b.has_m2 (second_so _ _ (first_so _ _ h)) in
+    let g1 : a.has_g1 ≡ b.has_g1 = bits-same a.has_g1 b.has_g1 (first_so _ _ (second_so _ _ h)) in
+    let w : a.way ≡ b.way = ways-same a.way b.way (second_so _ _ (second_so _ _ h)) in
     by-fields a b s k k4 m2 g1 w
 
 -- what a walk leaves
@@ -72,10 +66,6 @@ section-walked size space page leaves ways true None c fresh s i =
 pub section-fenced : (p : Section → Bool) (size : Order) (leaves : List Leaf) (ways : List WayShape) (c : Cached Section)
     → SectionsFresh size leaves ways c → SectionsFresh size leaves ways (without_items p c)
 section-fenced p size leaves ways c fresh s i = fresh s (purged-In p s c.items i).0
-
-not-false : (b : Bool) → not b ≡ false → b ≡ true
-not-false true h = refl
-not-false false h = absurd (cc)
 
 -- what a change leaves
 pub section-after : (size : Order) (before : List Leaf) (ways : CuckooWays) (after : List Leaf) (new_ways : CuckooWays) (c : Cached Section)

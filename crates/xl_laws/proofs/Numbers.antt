@@ -2,6 +2,7 @@
 use Rattle.std.proofs.Common.{◌≡◌, refl, subst, ℕ, zero, suc, ◌+◌, ◌-◌, ◌<◌, ◌≤◌, Bool, true, false, cond, List, [], ◌∷◌, Option, None, Some, map, slice_index_or, nat_le, ◌==◌, ◌||◌, arith}
 use Rattle.std.specs.List.{list_any, position_from}
 use Rattle.std.proofs.lemmas.Bool.Decides.{nat_tests}
+use Rattle.std.proofs.Math.Bool.{or-true}
 use Rattle.xl_model.specs.declared.leaf.Leaf.{Leaf}
 use Rattle.xl_model.specs.Nodes.{up, Node, is_below, in_nodes, number_of, put_first, unless_there, with_node, with_path, one_unless, missing, free_count, is_needed, kept_node}
 
@@ -209,9 +210,5 @@ kept-has levels space l block leaves (x ∷ nodes) h need =
     → (is_below space l block (kept_node levels leaves x) || list_any (is_below space l block) (map (kept_node levels leaves) nodes)) ≡ true) [
       | true ↦ λ t k. let e : kept_node levels leaves x ≡ x = below-needed levels space l block leaves x t need in rw (e, t) refl
       | false ↦ λ t k. let rest : list_any (is_below space l block) (map (kept_node levels leaves) nodes) ≡ true = kept-has levels space l block leaves nodes k need in
-          rw rest (go (is_below space l block (kept_node levels leaves x)))
+          rw rest (or-true (is_below space l block (kept_node levels leaves x)))
     ] refl h
-  where
-    go : (b : Bool) → (b || true) ≡ true
-    go true = refl
-    go false = refl

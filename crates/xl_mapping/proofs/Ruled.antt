@@ -1,7 +1,9 @@
 -- What a command that no refusal stops has shown of its leaf.
-use Rattle.std.proofs.Common.{◌≡◌, refl, subst, ℕ, Bool, true, false, not, List, [], ◌∷◌, Option, None, Some, ◌<◌, ◌&&◌, nat_lt, arith}
+use Rattle.std.proofs.Common.{◌≡◌, refl, subst, ℕ, Bool, true, false, List, [], ◌∷◌, Option, None, Some, ◌<◌, nat_lt, arith}
 use Rattle.std.specs.List.{list_all}
 use Rattle.std.proofs.lemmas.Bool.Decides.{nat_tests}
+use Rattle.std.proofs.lemmas.Bool.{not-true}
+use Rattle.std.specs.Cmp.{first_so, second_so}
 use Rattle.xl_model.specs.declared.address.Order.{Order}
 use Rattle.xl_model.specs.declared.perm.Perm.{Perm}
 use Rattle.xl_model.specs.declared.leaf.Leaf.{Leaf}
@@ -32,10 +34,6 @@ pub unless-true : (b : Bool) (r : Refusal) → unless b r ≡ None → b ≡ tru
 unless-true true r h = refl
 unless-true false r h = absurd (cc)
 
-not-true : (b : Bool) → not b ≡ true → b ≡ false
-not-true true h = absurd (cc)
-not-true false h = refl
-
 -- the three tests of a place
 pub record HasPlace (row : Row) (space : ℕ) (o : Order) (addresses : List ℕ) : Type 0 where
   pub space_in : space < row.spaces
@@ -51,17 +49,9 @@ has-place row space o addresses h =
       all_aligned = unless-true _ _ (or-second _ _ (or-second _ _ h));
     }
 
-and-first : (a b : Bool) → (a && b) ≡ true → a ≡ true
-and-first true b h = refl
-and-first false b h = h
-
 pub no-overlap : (row : Row) (leaves : List Leaf) (space va : ℕ) (o : Order) → overlap_rule row leaves space va o ≡ None
     → meets_any space (page_of row.mode va) o leaves ≡ false
 no-overlap row leaves space va o h = not-true _ (unless-true _ _ h)
-
-and-second : (a b : Bool) → (a && b) ≡ true → b ≡ true
-and-second true b h = h
-and-second false b h = absurd (cc)
 
 -- a map's leaf stands at the lowest free block
 new-leaf : (row : Row) (space va : ℕ) (o : Order) (perm : Perm) (leaves : List Leaf) (at : Option ℕ) (c : Change)
@@ -72,7 +62,7 @@ unfolding rule
 new-leaf row space va o perm leaves None c ruled is told = absurd (cc)
 new-leaf row space va o perm leaves (Some at) c ruled is told =
     let place : HasPlace row space o (va ∷ []) = has-place row space o (va ∷ []) (or-first _ _ ruled) in
-    let block = page-block row.mode o va (and-first _ _ place.all_aligned) in
+    let block = page-block row.mode o va (first_so _ _ place.all_aligned) in
     let leaf : Leaf = record { space = space; first = page_of row.mode va; order = o; frame = at; perm = perm } in
     let same : Insert leaf ≡ c = cc in
     let P : Change → Type 0 = λ d. IsSound row leaves d in
@@ -87,7 +77,7 @@ new-place : (row : Row) (leaves : List Leaf) (space from to : ℕ) (o : Order)
 unfolding rule
 new-place row leaves space from to o ruled =
     let place : HasPlace row space o (from ∷ to ∷ []) = has-place row space o (from ∷ to ∷ []) (or-first _ _ ruled) in
-    let block = page-block row.mode o to (and-first _ _ (and-second _ _ place.all_aligned)) in
+    let block = page-block row.mode o to (first_so _ _ (second_so _ _ place.all_aligned)) in
     record {
       space_in = place.space_in;
       pages_in = block.0;

@@ -1,6 +1,7 @@
 -- What each call leaves: the kept leaves, and their mapping.
 use Rattle.std.proofs.Common.{◌≡◌, refl, sym, ap, ◌∙◌, subst, ℕ, suc, length, Bool, true, false, not, cond, List, [], ◌∷◌, map, ◌⊎◌, inl, inr, ◌+◌, ◌*◌, ◌^◌, nat_lt}
 use Rattle.std.specs.Prelude.{filter}
+use Rattle.std.proofs.lemmas.Bool.{false_from_ne_true, not-true}
 use Rattle.xl_model.specs.declared.address.Order.{Order}
 use Rattle.xl_model.specs.declared.perm.Perm.{Perm}
 use Rattle.xl_model.specs.declared.leaf.Leaf.{Leaf}
@@ -95,10 +96,6 @@ named-one s f o old z xs k i named j e = same-place z old (mapping_of xs) (mappi
 pub named-same : (s f : ℕ) (o : Order) (old z : Leaf) (xs : List Leaf) → IsKept xs → In old xs → is_leaf s f o old ≡ true → In z xs → is_leaf s f o z ≡ true → z ≡ old
 named-same s f o old z xs k i named j h = named-one s f o old z xs k i named j (named-key s f o z h ∙ sym (named-key s f o old named))
 
-not-false : (b : Bool) → not b ≡ true → b ≡ false
-not-false true h = absurd (cc)
-not-false false h = refl
-
 false-not : (b : Bool) → (b ≡ true → ⊥) → not b ≡ true
 false-not true h = absurd (h refl)
 false-not false h = refl
@@ -124,7 +121,7 @@ mapping-without s f o old xs k i named =
     let m : In z (filter p xs) = mapping-In z (filter p xs) j in
     let n : In z xs = filter-In p z xs m in
     In-without z old.space old.first (mapping_of xs) (In-mapping z xs k n)
-    (other-key s f o old z xs k i named n (not-false (is_leaf s f o z) (filter-passes p z xs m))))
+    (other-key s f o old z xs k i named n (not-true (is_leaf s f o z) (filter-passes p z xs m))))
 
 -- another permission
 same-meets : (a b : Bool) (perm : Perm) (x y : Leaf)
@@ -169,10 +166,6 @@ pub given-no : (s f : ℕ) (o : Order) (perm : Perm) (x : Leaf) → is_leaf s f 
 unfolding given
 given-no s f o perm x h = rw h refl
 
-false-where : (b : Bool) → (b ≡ true → ⊥) → b ≡ false
-false-where true h = absurd (h refl)
-false-where false h = refl
-
 mapping-given : (s f : ℕ) (o : Order) (perm : Perm) (old : Leaf) (xs : List Leaf) → IsKept xs → In old xs → is_leaf s f o old ≡ true
     → with_leaf (record old { perm = perm }) (without_leaf old.space old.first (mapping_of xs)) ≡ mapping_of (map (given s f o perm) xs)
 mapping-given s f o perm old xs k i named =
@@ -186,7 +179,7 @@ mapping-given s f o perm old xs k i named =
           subst P (given-yes s f o perm old named ∙ sym e) (In-map (given s f o perm) old xs i)
       | inr m ↦
           let n : In z xs = mapping-In z xs (without-In z old.space old.first (mapping_of xs) m) in
-          let unnamed : is_leaf s f o z ≡ false = false-where (is_leaf s f o z) (λ h. without-other z old.space old.first (mapping_of xs) m (named-key s f o z h ∙ sym (named-key s f o old named))) in
+          let unnamed : is_leaf s f o z ≡ false = false_from_ne_true (is_leaf s f o z) (λ h. without-other z old.space old.first (mapping_of xs) m (named-key s f o z h ∙ sym (named-key s f o old named))) in
           let P : Leaf → Type 0 = λ w. In w ys in
           subst P (given-no s f o perm z unnamed) (In-map (given s f o perm) z xs n)
     ]))

@@ -1,9 +1,10 @@
 -- Loops over the kept leaves, one leaf at a step.
-use Rattle.std.proofs.Common.{◌≡◌, refl, sym, ap, ◌∙◌, ℕ, suc, Bool, true, false, List, [], ◌∷◌, ◌++◌, Some, map, take, drop, get_or, length, append_assoc, add-one, ◌<◌, ◌≤◌, ◌+◌, nat_lt, ◌==◌, arith}
+use Rattle.std.proofs.Common.{◌≡◌, refl, sym, ap, ◌∙◌, ℕ, suc, Bool, true, false, List, [], ◌∷◌, ◌++◌, Some, map, take, drop, get_or, length, append_assoc, add-one, ◌<◌, ◌≤◌, ◌+◌, nat_lt, arith}
 use Rattle.std.proofs.Math.Seq.{drop-cons}
 use Rattle.std.proofs.lemmas.List.{take_more}
 use Rattle.std.proofs.lemmas.Bool.Decides.{nat_tests}
 use Rattle.std.specs.Prelude.{find}
+use Rattle.std.proofs.lemmas.Bool.{eq-eqb, ne_eqb}
 use Rattle.xl_model.specs.declared.leaf.Leaf.{Leaf}
 use Rattle.xl_model.specs.Chains.{bucket_of, leaf_tag, chain_of, examined}
 use Rattle.xl_plain.specs.Kept.{in_front}
@@ -58,26 +59,20 @@ front-none b leaf = refl
 abbrev pub searched : ℕ → ℕ → ℕ → List Leaf → ℕ
 searched buckets bucket tag xs = examined tag (chain_of buckets bucket (map (leaf_tag 1) xs))
 
-equal : (m n : ℕ) → m ≡ n → (m == n) ≡ true
-equal m n e = grind (arith, nat_tests)
-
-unequal : (m n : ℕ) → (m ≡ n → ⊥) → (m == n) ≡ false
-unequal m n e = grind (arith, nat_tests)
-
 other-first : (b bucket tag : ℕ) (x : Leaf) (xs : List Leaf) → (bucket_of b (leaf_tag 1 x) ≡ bucket → ⊥)
     → searched b bucket tag (x ∷ xs) ≡ searched b bucket tag xs
 unfolding chain_of
-other-first b bucket tag x xs e = rw (unequal (bucket_of b (leaf_tag 1 x)) bucket e) refl
+other-first b bucket tag x xs e = rw (ne_eqb (bucket_of b (leaf_tag 1 x)) bucket e) refl
 
 found-first : (b bucket tag : ℕ) (x : Leaf) (xs : List Leaf) → bucket_of b (leaf_tag 1 x) ≡ bucket → leaf_tag 1 x ≡ tag
     → searched b bucket tag (x ∷ xs) ≡ 1
 unfolding chain_of
-found-first b bucket tag x xs e f = rw (equal (bucket_of b (leaf_tag 1 x)) bucket e) (rw (equal (leaf_tag 1 x) tag f) refl)
+found-first b bucket tag x xs e f = rw (eq-eqb (bucket_of b (leaf_tag 1 x)) bucket e) (rw (eq-eqb (leaf_tag 1 x) tag f) refl)
 
 passed-first : (b bucket tag : ℕ) (x : Leaf) (xs : List Leaf) → bucket_of b (leaf_tag 1 x) ≡ bucket → (leaf_tag 1 x ≡ tag → ⊥)
     → searched b bucket tag (x ∷ xs) ≡ suc (searched b bucket tag xs)
 unfolding chain_of
-passed-first b bucket tag x xs e f = rw (equal (bucket_of b (leaf_tag 1 x)) bucket e) (rw (unequal (leaf_tag 1 x) tag f) refl)
+passed-first b bucket tag x xs e f = rw (eq-eqb (bucket_of b (leaf_tag 1 x)) bucket e) (rw (ne_eqb (leaf_tag 1 x) tag f) refl)
 
 pub searched-other : (b bucket tag : ℕ) (xs : List Leaf) (i : ℕ) (x : Leaf) (n u : ℕ) → i < length xs → x ≡ get_or xs i x
     → u ≡ leaf_tag 1 x → n ≡ bucket_of b u → (n ≡ bucket → ⊥)

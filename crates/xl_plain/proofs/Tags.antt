@@ -3,6 +3,7 @@ use Rattle.std.proofs.Common.{◌≡◌, refl, sym, ap, ◌∙◌, subst, ℕ, s
 use Rattle.std.specs.Prelude.{filter}
 use Rattle.std.specs.List.{list_any}
 use Rattle.std.proofs.lemmas.Bool.Decides.{nat_tests}
+use Rattle.std.proofs.lemmas.Bool.{eqb-true, eq-eqb, false_from_ne_true}
 use Rattle.xl_model.specs.declared.address.Order.{Order}
 use Rattle.xl_model.specs.declared.address.Order.TheVariants as order
 use Rattle.xl_model.specs.declared.perm.Perm.{Perm}
@@ -42,22 +43,12 @@ tag-meets x y a b e =
     let g : x.first < y.first + pages_of y.order = shares.second in
     grind (arith, nat_tests)
 
-same-tag : (m n : ℕ) → (m == n) ≡ true → m ≡ n
-same-tag m n h = grind (arith, nat_tests)
-
-tag-same : (m n : ℕ) → m ≡ n → (m == n) ≡ true
-tag-same m n h = grind (arith, nat_tests)
-
-false-where : (b : Bool) → (b ≡ true → ⊥) → b ≡ false
-false-where true h = absurd (h refl)
-false-where false h = refl
-
 -- a new leaf's tag is new
 tag-absent : (x : Leaf) (xs : List Leaf) → IsKept xs → IsPlaced x → IsNew x xs → has_tag (map (leaf_tag 1) xs) (leaf_tag 1 x) ≡ false
 tag-absent x xs k at new =
-    none-any (λ t. t == leaf_tag 1 x) (map (leaf_tag 1) xs) (λ t i. false-where (t == leaf_tag 1 x) (λ h.
+    none-any (λ t. t == leaf_tag 1 x) (map (leaf_tag 1) xs) (λ t i. false_from_ne_true (t == leaf_tag 1 x) (λ h.
     let found = map-In (leaf_tag 1) t xs i in
-    let e : leaf_tag 1 x ≡ leaf_tag 1 found.0 = sym (same-tag t (leaf_tag 1 x) h) ∙ found.2 in
+    let e : leaf_tag 1 x ≡ leaf_tag 1 found.0 = sym (eqb-true t (leaf_tag 1 x) h) ∙ found.2 in
     both _ (tag-meets x found.0 at (all-In IsPlaced found.0 xs k.placed found.1) e) (new found.0 found.1)))
 
 tags-front : (b : ℕ) (x : Leaf) (xs : List Leaf) → in_front_of_bucket b (leaf_tag 1 x) (map (leaf_tag 1) xs) ≡ map (leaf_tag 1) (in_front b x xs)
@@ -104,7 +95,7 @@ filter-all q [] all = refl
 filter-all q (t ∷ ts) all = rw (all t (inl refl)) (ap (λ us. t ∷ us) (filter-all q ts (λ u i. all u (inr i))))
 
 is-used : (x : Leaf) (leaves : List Leaf) → In x leaves → list_any (λ (leaf : Leaf). leaf_tag 1 leaf == leaf_tag 1 x) leaves ≡ true
-is-used x leaves i = In-any (λ (leaf : Leaf). leaf_tag 1 leaf == leaf_tag 1 x) x leaves i (tag-same _ _ refl)
+is-used x leaves i = In-any (λ (leaf : Leaf). leaf_tag 1 leaf == leaf_tag 1 x) x leaves i (eq-eqb _ _ refl)
 
 -- every kept leaf's tag is used
 pub all-used : (xs : List Leaf) → IsKept xs → only_used_tags 1 (mapping_of xs) (map (leaf_tag 1) xs) ≡ map (leaf_tag 1) xs
@@ -130,10 +121,10 @@ used-without s f o xs k =
     let p : Leaf → Bool = λ leaf. not (is_leaf s f o leaf) in
     tags-filter (λ t. list_any (λ leaf. leaf_tag 1 leaf == t) (mapping_of (filter p xs))) p xs (λ x i.
     elim (is_leaf s f o x) as (λ b. is_leaf s f o x ≡ b → list_any (λ (leaf : Leaf). leaf_tag 1 leaf == leaf_tag 1 x) (mapping_of (filter p xs)) ≡ not b) [
-      | true ↦ λ h. none-any (λ (leaf : Leaf). leaf_tag 1 leaf == leaf_tag 1 x) (mapping_of (filter p xs)) (λ z j. false-where (leaf_tag 1 z == leaf_tag 1 x) (λ t.
+      | true ↦ λ h. none-any (λ (leaf : Leaf). leaf_tag 1 leaf == leaf_tag 1 x) (mapping_of (filter p xs)) (λ z j. false_from_ne_true (leaf_tag 1 z == leaf_tag 1 x) (λ t.
           let m : In z (filter p xs) = mapping-In z (filter p xs) j in
           let n : In z xs = filter-In p z xs m in
-          let same : z ≡ x = kept-same z x xs k n i (tag-meets z x (all-In IsPlaced z xs k.placed n) (all-In IsPlaced x xs k.placed i) (same-tag _ _ t)) in
+          let same : z ≡ x = kept-same z x xs k n i (tag-meets z x (all-In IsPlaced z xs k.placed n) (all-In IsPlaced x xs k.placed i) (eqb-true _ _ t)) in
           let P : Leaf → Type 0 = λ w. p w ≡ true in
           not-passes (is_leaf s f o x) h (subst P same (filter-passes p z xs m))))
       | false ↦ λ h. is-used x (mapping_of (filter p xs)) (In-mapping x (filter p xs) (kept-filter p xs k) (In-filter p x xs i (not-true (is_leaf s f o x) h)))

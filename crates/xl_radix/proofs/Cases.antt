@@ -1,5 +1,5 @@
 -- How two numbers lie.
-use Rattle.std.proofs.Common.{ℕ, suc, ◌≡◌, ◌≢◌, ◌<◌, ◌≤◌, ◌==◌, true, false, nat_lt, ◌⊎◌, refl, arith}
+use Rattle.std.proofs.Common.{ℕ, suc, ◌≡◌, ◌<◌, ◌≤◌, ◌==◌, true, false, nat_lt, ◌⊎◌, refl, arith}
 use Rattle.std.proofs.lemmas.Bool.Decides.{nat_tests}
 
 pub split-le : (a b : ℕ) → a ≤ b → (a ≡ b) ⊎ (a < b)
@@ -7,15 +7,6 @@ split-le a b h = grind arith
 
 pub split-less : (a b : ℕ) → a < suc b → (a ≡ b) ⊎ (a < b)
 split-less a b h = grind arith
-
-pub same-number : (a b : ℕ) → (a == b) ≡ true → a ≡ b
-same-number a b h = grind (arith, nat_tests)
-
-pub other-number : (a b : ℕ) → (a == b) ≡ false → a ≢ b
-other-number a b h = grind (arith, nat_tests)
-
-pub number-same : (a b : ℕ) → a ≡ b → (a == b) ≡ true
-number-same a b h = grind (arith, nat_tests)
 
 pub data Lies (a b : ℕ) : Type 0 where
   Same : a ≡ b → (a == b) ≡ true → Lies a b

@@ -1,11 +1,11 @@
 -- The words of a node that aren't 0.
 use Rattle.std.proofs.Common.{ℕ, zero, suc, ◌≡◌, ◌≢◌, ◌+◌, ◌-◌, ◌*◌, ◌<◌, ◌≤◌, ◌==◌, true, false, ◌⊎◌, inl, inr, List, [], ◌∷◌, length, slice_index, slice_set, Option, refl, ap, sym, ◌∙◌, subst, arith}
-use Rattle.std.proofs.lemmas.Bool.{cases_lt}
+use Rattle.std.proofs.lemmas.Bool.{cases_lt, eqb-true, eqb-false}
 use Rattle.std.proofs.lemmas.Bool.Decides.{nat_tests}
 use Rattle.std.proofs.lemmas.List.{get_or-set_same, get_or-set_other, length-set}
 use Rattle.xl_model.specs.Nodes.{Node}
 use Rattle.xl_radix.specs.Table.{one_if_filled, filled, IsCounted}
-use Rattle.xl_radix.proofs.Cases.{split-less, same-number, other-number}
+use Rattle.xl_radix.proofs.Cases.{split-less}
 
 one-le : (w : ℕ) → one_if_filled w ≤ 1
 one-le zero = omega arith
@@ -78,13 +78,17 @@ filled-nothing words at (suc n) h =
     let b = h n (omega arith) in
     rw (a, b) refl
 
+-- a place in one node is outside another
+apart : (m n i size : ℕ) → m ≢ n → size ≡ 512 → i < size → (n * 512 + i < m * 512) ⊎ (m * 512 + size ≤ n * 512 + i)
+apart m n i size t big g = elim (cases_lt n m) [ inl a ↦ inl (omega arith) | inr a ↦ inr (omega arith) ]
+
 -- A word comes to an empty place of a node.
 pub counted-more : (size n i w : ℕ) (nodes : List (Option Node)) (words used : List ℕ) → size ≡ 512 → IsCounted nodes words used → length words ≡ length nodes * 512 → n < length nodes → i < size → slice_index words (n * 512 + i) ≡ 0 → w ≢ 0 → IsCounted nodes (slice_set words (n * 512 + i) w) (slice_set used n (slice_index used n + 1))
 counted-more size n i w nodes words used big c len h g e f = record {
   places = length-set used n (slice_index used n + 1) ∙ c.places;
   each = λ m k. elim (m == n) as (λ t. (m == n) ≡ t → slice_index (slice_set used n (slice_index used n + 1)) m ≡ filled (slice_set words (n * 512 + i) w) (m * 512) 512) [
-    | true ↦ λ t. same m (same-number m n t) k
-    | false ↦ λ t. other m (other-number m n t) k
+    | true ↦ λ t. same m (eqb-true m n t) k
+    | false ↦ λ t. other m (eqb-false m n t) k
   ] refl;
 }
   where
@@ -95,13 +99,10 @@ counted-more size n i w nodes words used big c len h g e f = record {
         let b = subst (λ (v : ℕ). filled (slice_set words (n * 512 + i) w) (n * 512) v ≡ filled words (n * 512) v + 1) big (filled-more words (n * 512) size i w g inside e f) in
         rw t (a ∙ ap (λ (v : ℕ). v + 1) (c.each n h) ∙ sym b)
 
-    apart : (m n size : ℕ) → m ≢ n → size ≡ 512 → i < size → (n * 512 + i < m * 512) ⊎ (m * 512 + size ≤ n * 512 + i)
-    apart m n size t big g = elim (cases_lt n m) [ inl a ↦ inl (omega arith) | inr a ↦ inr (omega arith) ]
-
     other : (m : ℕ) → m ≢ n → m < length nodes → slice_index (slice_set used n (slice_index used n + 1)) m ≡ filled (slice_set words (n * 512 + i) w) (m * 512) 512
     other m t k =
         let a : slice_index (slice_set used n (slice_index used n + 1)) m ≡ slice_index used m = get_or-set_other used n m (slice_index used n + 1) 0 t in
-        let b = subst (λ (v : ℕ). filled (slice_set words (n * 512 + i) w) (m * 512) v ≡ filled words (m * 512) v) big (filled-other words (m * 512) size (n * 512 + i) w (apart m n size t big g)) in
+        let b = subst (λ (v : ℕ). filled (slice_set words (n * 512 + i) w) (m * 512) v ≡ filled words (m * 512) v) big (filled-other words (m * 512) size (n * 512 + i) w (apart m n i size t big g)) in
         a ∙ c.each m k ∙ sym b
 
 set-back : (words : List ℕ) (p w : ℕ) → p < length words → slice_index words p ≡ w → slice_set (slice_set words p 0) p w ≡ words
@@ -114,8 +115,8 @@ pub counted-less : (size n i : ℕ) (nodes : List (Option Node)) (words used : L
 counted-less size n i nodes words used big c len h g f = record {
   places = length-set used n (slice_index used n - 1) ∙ c.places;
   each = λ m k. elim (m == n) as (λ t. (m == n) ≡ t → slice_index (slice_set used n (slice_index used n - 1)) m ≡ filled (slice_set words (n * 512 + i) 0) (m * 512) 512) [
-    | true ↦ λ t. same m (same-number m n t) k
-    | false ↦ λ t. other m (other-number m n t) k
+    | true ↦ λ t. same m (eqb-true m n t) k
+    | false ↦ λ t. other m (eqb-false m n t) k
   ] refl;
 }
   where
@@ -137,13 +138,10 @@ counted-less size n i nodes words used big c len h g f = record {
         minus : (u a b : ℕ) → u ≡ a → b + 1 ≡ a → u - 1 ≡ b
         minus u a b e f = omega arith
 
-    apart : (m n size : ℕ) → m ≢ n → size ≡ 512 → i < size → (n * 512 + i < m * 512) ⊎ (m * 512 + size ≤ n * 512 + i)
-    apart m n size t big g = elim (cases_lt n m) [ inl a ↦ inl (omega arith) | inr a ↦ inr (omega arith) ]
-
     other : (m : ℕ) → m ≢ n → m < length nodes → slice_index (slice_set used n (slice_index used n - 1)) m ≡ filled (slice_set words (n * 512 + i) 0) (m * 512) 512
     other m t k =
         let a : slice_index (slice_set used n (slice_index used n - 1)) m ≡ slice_index used m = get_or-set_other used n m (slice_index used n - 1) 0 t in
-        let b = subst (λ (v : ℕ). filled (slice_set words (n * 512 + i) 0) (m * 512) v ≡ filled words (m * 512) v) big (filled-other words (m * 512) size (n * 512 + i) 0 (apart m n size t big g)) in
+        let b = subst (λ (v : ℕ). filled (slice_set words (n * 512 + i) 0) (m * 512) v ≡ filled words (m * 512) v) big (filled-other words (m * 512) size (n * 512 + i) 0 (apart m n i size t big g)) in
         a ∙ c.each m k ∙ sym b
 
 -- a run that counts none has no word but 0

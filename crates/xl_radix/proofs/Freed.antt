@@ -2,6 +2,8 @@
 use Rattle.std.proofs.Common.{ℕ, suc, ◌≡◌, ◌≢◌, ◌+◌, ◌-◌, ◌*◌, ◌/◌, ◌%◌, ◌<◌, ◌≤◌, ◌==◌, true, false, ◌⊎◌, inl, inr, List, length, slice_index, slice_index_or, slice_set, Option, Some, None, refl, ap, sym, ◌∙◌, subst, arith}
 use Rattle.std.proofs.lemmas.Bool.Decides.{nat_tests}
 use Rattle.std.proofs.lemmas.List.{get_or-set_same, get_or-set_other, length-set}
+use Rattle.std.proofs.lemmas.Option.{same_Some}
+use Rattle.std.proofs.lemmas.Bool.{false≢true}
 use Rattle.xl_model.specs.declared.leaf.Leaf.{Leaf}
 use Rattle.xl_model.specs.Addresses.{level_of}
 use Rattle.xl_model.specs.Nodes.{up, Node, is_below, in_nodes, number_of}
@@ -13,7 +15,7 @@ use Rattle.xl_radix.proofs.Cases.{split-le}
 use Rattle.xl_radix.proofs.Numbers.{node-in, number-some, number-there, number-set-any, is-below, below-is, Is}
 use Rattle.xl_radix.proofs.Slots.{At, Under, leaf-in-some, leaf-in-none, in-nodes, in-nodes-leaf}
 use Rattle.xl_radix.proofs.Ends.{word-none, none-word}
-use Rattle.xl_radix.proofs.Made.{Which, That, Another, which, new_node, new-below, places, stands-is, some-same, other-slot, no-slot}
+use Rattle.xl_radix.proofs.Made.{Which, That, Another, which, new_node, new-below, places, stands-is, other-slot, no-slot}
 
 -- Node k is below slot (s, l + 1, q), and its words are 0.
 pub record IsEmpty (s l q k : ℕ) (nodes : List (Option Node)) (words : List ℕ) : Type 0 where
@@ -122,7 +124,7 @@ freed-same top s page l k n m i leaves nodes words image at no-leaf empty h g =
     own : m ≡ k → slice_index (freed_words n (up (suc l) page % 512) words) (m * 512 + i) ≡ 0
     own e = kept (λ d. let p = places m n i (up (suc l) page % 512) g (omega arith) d in
         let a : slice_index_or nodes n None ≡ Some (new_node s l (up (suc l) page)) = subst (λ (v : ℕ). slice_index_or nodes v None ≡ Some (new_node s l (up (suc l) page))) (sym e ∙ p.0) empty.below in
-        let c : stand.0 ≡ new_node s l (up (suc l) page) = some-same (sym stand.1 ∙ a) in
+        let c : stand.0 ≡ new_node s l (up (suc l) page) = same_Some _ _ (sym stand.1 ∙ a) in
         levels stand.0 (new_node s l (up (suc l) page)) c stand.2.level_is refl) ∙ ap (λ (v : ℕ). slice_index words (v * 512 + i)) e ∙ empty.zeros i g
 
     zero-at-slot : word_at leaves (freed_nodes k nodes) s (suc l) (up (suc l) page) ≡ 0
@@ -154,12 +156,9 @@ freed top s page l k n leaves nodes words image low at no-leaf empty = record {
   where
     old : (a b c m : ℕ) → is_below a b c (slice_index_or (freed_nodes k nodes) m None) ≡ true → is_below a b c (slice_index_or nodes m None) ≡ true
     old a b c m h = elim (freed-at s l (up (suc l) page) k m nodes words empty) [
-      | inl e ↦ let g = rw e.1 at h in absurd (no g)
+      | inl e ↦ let g = rw e.1 at h in absurd (false≢true g)
       | inr e ↦ rw e.1 at h
     ]
-      where
-        no : false ≡ true → ⊥
-        no e = cc
 
     closed : (a b c m : ℕ) → is_below a b c (slice_index_or nodes m None) ≡ true → (b ≡ top) ⊎ ((number_of a (suc b) (c / 512) nodes ≡ None → ⊥) × (b < top)) → (b ≡ top) ⊎ ((number_of a (suc b) (c / 512) (freed_nodes k nodes) ≡ None → ⊥) × (b < top))
     closed a b c m h (inl e) = inl e
@@ -193,14 +192,11 @@ freed-rooted top spaces s l q k nodes words rooted low empty =
 pub freed-nearly : (top s page l k : ℕ) (leaves : List Leaf) (nodes : List (Option Node)) (words : List ℕ) → IsImage top leaves nodes words → IsEmpty s l (up (suc l) page) k nodes words → IsNearly top s page l leaves nodes → IsNearly top s page (suc l) leaves (freed_nodes k nodes)
 freed-nearly top s page l k leaves nodes words image empty nearly = record {
   nearly = λ a b c n h. elim (freed-at s l (up (suc l) page) k n nodes words empty) [
-    | inl e ↦ let g = rw e.1 at h in absurd (no g)
+    | inl e ↦ let g = rw e.1 at h in absurd (false≢true g)
     | inr e ↦ higher a b c n h (nearly.nearly a b c n (rw e.1 at h))
   ];
 }
   where
-    no : false ≡ true → ⊥
-    no e = cc
-
     gone : (a b c n : ℕ) → is_below a b c (slice_index_or (freed_nodes k nodes) n None) ≡ true → a ≡ s → b ≡ suc l → c ≡ up b page → ⊥
     gone a b c n h e f g =
         let c1 : c ≡ up (suc l) page = g ∙ ap (λ (v : ℕ). up v page) f in

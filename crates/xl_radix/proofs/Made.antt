@@ -2,6 +2,7 @@
 use Rattle.std.proofs.Common.{ℕ, suc, ◌≡◌, ◌≢◌, ◌+◌, ◌-◌, ◌*◌, ◌/◌, ◌%◌, ◌<◌, ◌≤◌, ◌==◌, true, false, ◌⊎◌, inl, inr, List, length, slice_index, slice_index_or, slice_set, Option, Some, None, refl, ap, sym, ◌∙◌, subst, arith}
 use Rattle.std.proofs.lemmas.Bool.Decides.{nat_tests}
 use Rattle.std.proofs.lemmas.List.{get_or-set_same, get_or-set_other, length-set}
+use Rattle.std.proofs.lemmas.Option.{same_Some}
 use Rattle.xl_model.specs.declared.leaf.Leaf.{Leaf}
 use Rattle.xl_model.specs.Addresses.{level_of}
 use Rattle.xl_model.specs.Words.{pointer_word}
@@ -132,9 +133,6 @@ made_words n index k words = slice_set words (n * 512 + index) (pointer_word k)
 pub stands-is : (s page l n : ℕ) (nodes : List (Option Node)) → Stands s page l n nodes → (node : Node) × (slice_index_or nodes n None ≡ Some node) × Is s (suc l) (up (suc l) page) node
 stands-is s page l n nodes at = below-some s (suc l) (up (suc l) page) _ at.stands
 
-pub some-same : {a b : Node} → Some a ≡ Some b → a ≡ b
-some-same e = cc
-
 -- a slot's place is its own
 pub places : (n m i j : ℕ) → i < 512 → j < 512 → n * 512 + i ≡ m * 512 + j → (n ≡ m) × (i ≡ j)
 places n m i j h g e = (omega arith, omega arith)
@@ -145,7 +143,7 @@ other-slot s page l n m i nodes node at g f not d =
     let stand = stands-is s page l n nodes at in
     let p = places m n i (up l page % 512) g (omega arith) d in
     let a : slice_index_or nodes n None ≡ Some node = subst (λ (v : ℕ). slice_index_or nodes v None ≡ Some node) p.0 f in
-    let c : stand.0 ≡ node = some-same (sym stand.1 ∙ a) in
+    let c : stand.0 ≡ node = same_Some _ _ (sym stand.1 ∙ a) in
     let i1 : node.space ≡ s = sym (ap (λ (v : Node). v.space) c) ∙ stand.2.space_is in
     let i2 : node.level + 1 ≡ suc l = sym (ap (λ (v : Node). v.level + 1) c) ∙ stand.2.level_is in
     let i3 : node.prefix ≡ up l page / 512 = sym (ap (λ (v : Node). v.prefix) c) ∙ stand.2.prefix_is in

@@ -1,13 +1,13 @@
 -- Blocks of pages that meet.
 use Rattle.std.proofs.Common.{ℕ, ◌≡◌, ◌+◌, ◌*◌, ◌≤◌, ◌==◌, Bool, true, false, ◌&&◌, nat_lt, nat_le, ◌⊎◌, inl, inr, refl, sym, arith}
 use Rattle.std.proofs.lemmas.Bool.Decides.{nat_tests}
+use Rattle.std.proofs.lemmas.Bool.{eqb-true, eq-eqb}
 use Rattle.xl_model.specs.declared.address.Order.{Order}
 use Rattle.xl_model.specs.declared.address.Order.TheVariants as order
 use Rattle.xl_model.specs.declared.leaf.Leaf.{Leaf}
 use Rattle.xl_model.specs.Addresses.{level_of, pages_of}
 use Rattle.xl_model.specs.Mapping.{meets_block, covers}
 use Rattle.xl_model.specs.Nodes.{up}
-use Rattle.xl_radix.proofs.Cases.{same-number, number-same}
 use Rattle.xl_radix.proofs.Ups.{covers-up, up-covers}
 
 abbrev pub Overlap : ℕ → ℕ → ℕ → ℕ → Type 0
@@ -62,17 +62,17 @@ pub record Met (space at : ℕ) (level : ℕ) (leaf : Leaf) : Type 0 where
 pub met : (space at : ℕ) (o : Order) (leaf : Leaf) → up (level_of leaf.order) leaf.first * pages_of leaf.order ≡ leaf.first → up (level_of o) at * pages_of o ≡ at → meets_block space at o leaf ≡ true → Met space at (level_of o) leaf
 met space at o leaf h g t =
     let r = and-true (leaf.space == space) (meets_at leaf.first (pages_of leaf.order) at (pages_of o)) t in
-    record { space_is = same-number leaf.space space r.0; overlap = meets-up leaf.order o leaf.first at h g r.1 }
+    record { space_is = eqb-true leaf.space space r.0; overlap = meets-up leaf.order o leaf.first at h g r.1 }
 
 pub meets : (space at : ℕ) (o : Order) (leaf : Leaf) → up (level_of leaf.order) leaf.first * pages_of leaf.order ≡ leaf.first → up (level_of o) at * pages_of o ≡ at → Met space at (level_of o) leaf → meets_block space at o leaf ≡ true
 meets space at o leaf h g m =
-    both-true (leaf.space == space) (meets_at leaf.first (pages_of leaf.order) at (pages_of o)) (number-same leaf.space space m.space_is) (up-meets leaf.order o leaf.first at h g m.overlap)
+    both-true (leaf.space == space) (meets_at leaf.first (pages_of leaf.order) at (pages_of o)) (eq-eqb leaf.space space m.space_is) (up-meets leaf.order o leaf.first at h g m.overlap)
 
 pub covered : (space page : ℕ) (leaf : Leaf) → up (level_of leaf.order) leaf.first * pages_of leaf.order ≡ leaf.first → covers space page leaf ≡ true → (leaf.space ≡ space) × (up (level_of leaf.order) leaf.first ≡ up (level_of leaf.order) page)
 covered space page leaf h t =
     let r = and-true (leaf.space == space) (nat_le leaf.first page && nat_lt page (leaf.first + pages_of leaf.order)) t in
-    (same-number leaf.space space r.0, sym (covers-up leaf.order leaf.first page h r.1))
+    (eqb-true leaf.space space r.0, sym (covers-up leaf.order leaf.first page h r.1))
 
 pub covering : (space page : ℕ) (leaf : Leaf) → up (level_of leaf.order) leaf.first * pages_of leaf.order ≡ leaf.first → leaf.space ≡ space → up (level_of leaf.order) leaf.first ≡ up (level_of leaf.order) page → covers space page leaf ≡ true
 covering space page leaf h s e =
-    both-true (leaf.space == space) (nat_le leaf.first page && nat_lt page (leaf.first + pages_of leaf.order)) (number-same leaf.space space s) (up-covers leaf.order leaf.first page h (sym e))
+    both-true (leaf.space == space) (nat_le leaf.first page && nat_lt page (leaf.first + pages_of leaf.order)) (eq-eqb leaf.space space s) (up-covers leaf.order leaf.first page h (sym e))

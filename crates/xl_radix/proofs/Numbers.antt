@@ -6,10 +6,8 @@ use Rattle.std.specs.List.{position_from, position}
 use Rattle.std.specs.Prelude.{is_none}
 use Rattle.std.proofs.lemmas.Iterator.Adapters.{position_from-zero}
 use Rattle.std.proofs.lemmas.Bool.Decides.{nat_tests}
+use Rattle.std.proofs.lemmas.Option.{same_Some}
 use Rattle.xl_model.specs.Nodes.{Node, is_below, number_of, put_first, free_count}
-
-some-number : {a b : ℕ} → Some a ≡ Some b → a ≡ b
-some-number e = cc
 
 pub position-some : (p : Option Node → Bool) (xs : List (Option Node)) (b n : ℕ) → position_from p b xs ≡ Some n → (k : ℕ) × (n ≡ b + k) × (k < length xs) × (p (slice_index_or xs k None) ≡ true)
 position-some p [] b n h = cc
@@ -102,7 +100,7 @@ below-some s l q (Some node) h = (node, refl, below-is s l q node h)
 lowest-put : (nodes : List (Option Node)) (b k : ℕ) (x : Node) → position_from is_none b nodes ≡ Some (b + k) → slice_set nodes k (Some x) ≡ put_first x nodes
 lowest-put [] b k x h = cc
 lowest-put (None ∷ nodes) b zero x h = refl
-lowest-put (None ∷ nodes) b (suc k) x h = let e : b ≡ b + suc k = some-number h in absurd (omega (arith, e))
+lowest-put (None ∷ nodes) b (suc k) x h = let e : b ≡ b + suc k = same_Some _ _ h in absurd (omega (arith, e))
 lowest-put (Some y ∷ nodes) b zero x h =
     let r = position-some is_none nodes (b + 1) (b + 0) h in
     absurd (omega (arith, r.1))

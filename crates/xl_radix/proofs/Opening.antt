@@ -2,6 +2,7 @@
 use Rattle.std.proofs.Common.{ℕ, zero, suc, ◌≡◌, ◌+◌, ◌-◌, ◌*◌, ◌<◌, ◌≤◌, Bool, true, false, inl, inr, List, [], ◌∷◌, ◌++◌, length, replicate, slice_index, slice_index_or, Option, Some, None, refl, ap, sym, ◌∙◌, subst, append_assoc, length-append, arith}
 use Rattle.std.proofs.lemmas.Bool.{cases_lt}
 use Rattle.std.proofs.lemmas.List.{get_or-replicate, get_or_past, length-replicate}
+use Rattle.std.proofs.lemmas.Option.{same_Some}
 use Rattle.xl_model.specs.Nodes.{Node, is_below, in_nodes, number_of, free_count, roots, opening_nodes}
 use Rattle.xl_radix.specs.Image.{leaf_in, word_of}
 use Rattle.xl_radix.specs.ReadBack.{read_back}
@@ -65,13 +66,10 @@ pub opening-is : (levels spaces frames n : ℕ) (node : Node) → slice_index_or
 unfolding opening_nodes
 opening-is levels spaces frames n node h =
     elim (cases_lt n spaces) [
-      | inl lt ↦ let e = root-at levels 0 spaces (frames - spaces) n lt in let z : 0 + n ≡ n = omega arith in (lt, same (sym h ∙ e ∙ rw z refl))
+      | inl lt ↦ let e = root-at levels 0 spaces (frames - spaces) n lt in let z : 0 + n ≡ n = omega arith in (lt, same_Some _ _ (sym h ∙ e ∙ rw z refl))
       | inr ge ↦ let e = free-at levels 0 spaces (frames - spaces) n ge in absurd (differ (sym e ∙ h))
     ]
   where
-    same : {a b : Node} → Some a ≡ Some b → a ≡ b
-    same e = cc
-
     differ : none-node ≡ Some node → ⊥
     differ e = cc
 

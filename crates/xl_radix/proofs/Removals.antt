@@ -1,7 +1,7 @@
 -- Steps of a removal.
-use Rattle.std.proofs.Common.{ℕ, zero, suc, ◌≡◌, ◌≢◌, ◌+◌, ◌-◌, ◌*◌, ◌%◌, ◌<◌, ◌≤◌, true, false, ◌⊎◌, inl, inr, List, [], ◌∷◌, length, slice_index, slice_index_or, slice_set, Option, Some, None, refl, ap, sym, ◌∙◌, subst, arith}
+use Rattle.std.proofs.Common.{ℕ, zero, suc, ◌≡◌, ◌≢◌, ◌+◌, ◌-◌, ◌*◌, ◌%◌, ◌<◌, ◌≤◌, true, ◌⊎◌, inl, inr, List, [], ◌∷◌, length, slice_index, slice_index_or, slice_set, Option, Some, None, refl, ap, sym, ◌∙◌, subst, arith}
 use Rattle.std.specs.Prelude.{is_some}
-use Rattle.std.proofs.lemmas.Bool.{cases_lt}
+use Rattle.std.proofs.lemmas.Bool.{cases_lt, false≢true}
 use Rattle.std.proofs.lemmas.Grind.{get_or_default_zero}
 use Rattle.std.proofs.lemmas.List.{length-set}
 use Rattle.xl_model.specs.declared.address.Order.{Order}
@@ -38,12 +38,9 @@ pub record Named (s f l : ℕ) (x : Leaf) (leaves : List Leaf) : Type 0 where
 pub named : (s f : ℕ) (o : Order) (leaves : List Leaf) → IsNamed s f o leaves → (x : Leaf) × Named s f (level_of o) x leaves
 named s f o leaves h =
     elim (leaf_named s f o leaves) as (λ r. leaf_named s f o leaves ≡ r → is_some r ≡ true → (x : Leaf) × Named s f (level_of o) x leaves) [
-      | None ↦ λ e g. absurd (no g)
+      | None ↦ λ e g. absurd (false≢true g)
       | Some x ↦ λ e g. let is = named-is s f o x leaves e in (x, record { there = named-In s f o x leaves e; space_is = named-space s f o x is; first_is = named-first s f o x is; level_is = ap level_of (named-order s f o x is) })
     ] refl h
-  where
-    no : false ≡ true → ⊥
-    no e = cc
 
 pub record ClearStep (top spaces s f l u : ℕ) (leaves : List Leaf) (nodes : List (Option Node)) (words used : List ℕ) : Type 0 where
   pub store : IsStore top spaces (without_leaf s f leaves) nodes words used

@@ -1,6 +1,8 @@
 -- The shape after a leaf was added: each node is one that the leaves need, so none is dropped.
-use Rattle.std.proofs.Common.{ℕ, suc, ◌≡◌, ◌+◌, ◌==◌, Bool, true, false, ◌||◌, List, [], ◌∷◌, map, Option, None, Some, slice_index_or, ◌⊎◌, inl, inr, refl, ap, sym, subst, arith}
+use Rattle.std.proofs.Common.{ℕ, suc, ◌≡◌, ◌+◌, ◌==◌, true, List, [], ◌∷◌, map, Option, None, Some, slice_index_or, ◌⊎◌, inl, inr, refl, ap, sym, subst, arith}
 use Rattle.std.proofs.lemmas.Bool.Decides.{nat_tests}
+use Rattle.std.proofs.lemmas.Bool.{eq-eqb}
+use Rattle.std.proofs.Math.Bool.{or-true}
 use Rattle.xl_model.specs.declared.leaf.Leaf.{Leaf}
 use Rattle.xl_model.specs.Mapping.{with_leaf}
 use Rattle.xl_model.specs.Changes.{Insert, changed}
@@ -8,19 +10,12 @@ use Rattle.xl_model.specs.Nodes.{Node, is_below, in_nodes, is_needed, kept_node,
 use Rattle.xl_model.specs.Shapes.{Radix, shape_after}
 use Rattle.xl_radix.specs.Table.{IsExact}
 
-same : (n : ℕ) → (n == n) ≡ true
-same n = grind (arith, nat_tests)
-
 own-slot : (node : Node) → is_below node.space (node.level + 1) node.prefix (Some node) ≡ true
-own-slot node = rw (same node.space, same (node.level + 1), same node.prefix) refl
+own-slot node = rw (eq-eqb node.space node.space refl, eq-eqb (node.level + 1) (node.level + 1) refl, eq-eqb node.prefix node.prefix refl) refl
 
 needed-by : (top : ℕ) (leaves : List Leaf) (node : Node) → (node.level + 1 ≡ top) ⊎ (in_nodes node.space (node.level + 1) node.prefix leaves ≡ true) → is_needed top leaves node ≡ true
 needed-by top leaves node (inl e) = let t : (node.level + 1 == top) ≡ true = grind (arith, nat_tests) in rw t refl
-needed-by top leaves node (inr n) = rw n (go (node.level + 1 == top))
-  where
-    go : (b : Bool) → (b || true) ≡ true
-    go true = refl
-    go false = refl
+needed-by top leaves node (inr n) = rw n (or-true (node.level + 1 == top))
 
 kept-one : (top : ℕ) (leaves : List Leaf) (nodes : List (Option Node)) (n : ℕ) (x : Option Node) → IsExact top leaves nodes → slice_index_or nodes n None ≡ x → kept_node top leaves x ≡ x
 kept-one top leaves nodes n None exact e = refl

@@ -1,6 +1,7 @@
 -- The manual's walk over the words of a table.
-use Rattle.std.proofs.Common.{ℕ, zero, suc, ◌≡◌, ◌+◌, ◌-◌, ◌*◌, ◌/◌, ◌%◌, ◌<◌, ◌≤◌, Bool, true, false, nat_le, if◌then◌else◌, ◌⊎◌, inl, inr, List, length, slice_index, Option, Some, None, refl, sym, ◌∙◌, subst, arith}
+use Rattle.std.proofs.Common.{ℕ, zero, suc, ◌≡◌, ◌+◌, ◌-◌, ◌*◌, ◌/◌, ◌%◌, ◌<◌, ◌≤◌, Bool, true, nat_le, if◌then◌else◌, ◌⊎◌, inl, inr, List, length, slice_index, Option, Some, None, refl, sym, ◌∙◌, subst, arith}
 use Rattle.std.proofs.lemmas.Bool.Decides.{nat_tests}
+use Rattle.std.proofs.lemmas.Bool.{false_from_ne_true}
 use Rattle.xl_model.specs.declared.leaf.Leaf.{Leaf}
 use Rattle.xl_model.specs.Addresses.{level_of}
 use Rattle.xl_model.specs.Mapping.{leaf_at_page}
@@ -25,13 +26,9 @@ end-is zero a l s page leaves h g none last = omega arith
 end-is (suc n) a l s page leaves h g none last =
     elim (split-le a l h) [
       | inl e ↦ at e last
-      | inr lt ↦ rw (absent (in_nodes s (suc a) (up (suc a) page) leaves) (none a lt)) (end-is n (a + 1) l s page leaves (omega arith) (omega arith) none (more last))
+      | inr lt ↦ rw (false_from_ne_true (in_nodes s (suc a) (up (suc a) page) leaves) (none a lt)) (end-is n (a + 1) l s page leaves (omega arith) (omega arith) none (more last))
     ]
   where
-    absent : (b : Bool) → (b ≡ true → ⊥) → b ≡ false
-    absent true h = absurd (h refl)
-    absent false h = refl
-
     more : (l ≡ a + suc n) ⊎ (in_nodes s (suc l) (up (suc l) page) leaves ≡ true) → (l ≡ a + 1 + n) ⊎ (in_nodes s (suc l) (up (suc l) page) leaves ≡ true)
     more (inl e) = inl (omega arith)
     more (inr e) = inr e
