@@ -48,10 +48,6 @@ unfolding count_refusal count_fills
 filled_commutes r None s = refl
 filled_commutes r (Some leaf) s = refl
 
-made_commutes : (r : Refusal) (space page : ℕ) (s : RowState) → walk_made space page (with_refusal r s) ≡ with_refusal r (walk_made space page s)
-unfolding count_refusal count_walk
-made_commutes r space page s = refl
-
 looked_by_commutes : (r : Refusal) (answer : Option Answer) (page : ℕ) (s : RowState) → looked_by answer page (with_refusal r s) ≡ with_refusal r (looked_by answer page s)
 unfolding count_refusal count_fills count_look count_walk
 looked_by_commutes r (Some answer) page s = refl

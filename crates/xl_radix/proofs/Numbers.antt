@@ -44,9 +44,6 @@ node-in n nodes node e = elim (cases_lt n (length nodes)) [
     past : (n : ℕ) (nodes : List (Option Node)) (node : Node) → slice_index_or nodes n None ≡ Some node → length nodes ≤ n → ⊥
     past n nodes node e ge = let f = get_or_past nodes n None ge in cc
 
-pub below-none : (s l q : ℕ) → is_below s l q None ≡ false
-below-none s l q = refl
-
 pub number-some : (s l q n : ℕ) (nodes : List (Option Node)) → number_of s l q nodes ≡ Some n → (n < length nodes) × (is_below s l q (slice_index_or nodes n None) ≡ true)
 unfolding number_of
 number-some s l q n nodes h =

@@ -23,11 +23,6 @@ up-top (suc (suc (suc (suc zero)))) page h g b = omega arith
 up-top (suc (suc (suc (suc (suc zero))))) page h g b = omega arith
 up-top (suc (suc (suc (suc (suc (suc l)))))) page h g b = absurd (omega arith)
 
-pub up-pages : (o : Order) (page : ℕ) → up (level_of o) page ≡ page / pages_of o
-up-pages order.K4 page = omega arith
-up-pages order.M2 page = omega arith
-up-pages order.G1 page = omega arith
-
 -- A page in a leaf's interval is in its block, and conversely.
 pub covers-up : (o : Order) (first page : ℕ) → up (level_of o) first * pages_of o ≡ first → (nat_le first page && nat_lt page (first + pages_of o)) ≡ true → up (level_of o) page ≡ up (level_of o) first
 covers-up order.K4 first page a h = grind (arith, nat_tests)
