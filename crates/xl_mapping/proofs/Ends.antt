@@ -50,7 +50,7 @@ covered-under space page level leaf e h aligned le =
     under-by space l b c leaf x y z w = let v : up l leaf.first ≡ c = w ∙ z in grind (arith, nat_tests)
 
 -- the nodes of a page end at the first level, from this one on, whose node is needed
-end-is : (n a l space page : ℕ) (leaves : List Leaf) → a ≤ l → l ≤ a + n
+pub end-is : (n a l space page : ℕ) (leaves : List Leaf) → a ≤ l → l ≤ a + n
     → ((h : ℕ) → h < l → in_nodes space (suc h) (up (suc h) page) leaves ≡ false)
     → (l ≡ a + n) ⊎ (in_nodes space (suc l) (up (suc l) page) leaves ≡ true) → end_level n a space page leaves ≡ l
 end-is zero a l space page leaves low high none last = omega arith

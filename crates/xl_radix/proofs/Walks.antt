@@ -1,5 +1,5 @@
 -- The manual's walk over the words of a table.
-use Rattle.std.proofs.Common.{ℕ, zero, suc, ◌≡◌, ◌+◌, ◌-◌, ◌*◌, ◌/◌, ◌%◌, ◌<◌, ◌≤◌, Bool, true, nat_le, if◌then◌else◌, ◌⊎◌, inl, inr, List, length, slice_index, Option, Some, None, refl, sym, ◌∙◌, subst, arith}
+use Rattle.std.proofs.Common.{ℕ, zero, suc, ◌≡◌, ◌+◌, ◌-◌, ◌*◌, ◌/◌, ◌%◌, ◌<◌, Bool, true, nat_le, if◌then◌else◌, ◌⊎◌, inl, inr, List, length, slice_index, Option, Some, None, refl, sym, ◌∙◌, subst, arith}
 use Rattle.std.proofs.lemmas.Bool.Decides.{nat_tests}
 use Rattle.std.proofs.lemmas.Bool.{false_from_ne_true}
 use Rattle.xl_model.specs.declared.leaf.Leaf.{Leaf}
@@ -11,36 +11,19 @@ use Rattle.xl_mapping.specs.Members.{In}
 use Rattle.xl_pte.specs.Decode.{decode_of}
 use Rattle.xl_pte.specs.declared.word.Pte.{Pte}
 use Rattle.xl_pte.specs.declared.word.Pte.TheVariants as pte
-use Rattle.xl_mapping.proofs.Ends.{up-from}
+use Rattle.xl_mapping.proofs.Ends.{up-from, end-is}
 use Rattle.xl_radix.specs.declared.walk_end.WalkEnd.{WalkEnd}
 use Rattle.xl_radix.specs.Image.{leaf_in}
 use Rattle.xl_radix.specs.Steps.{Stands}
 use Rattle.xl_radix.specs.Walk.{place_of, end_at, reading, radix_back, walk_end, WordsReadBack}
-use Rattle.xl_radix.proofs.Cases.{split-le}
 use Rattle.xl_radix.proofs.Numbers.{number-some, number-only}
 use Rattle.xl_radix.proofs.Slots.{Under, Says, says, stands-word, pointer-low, leaf-in-some, in-nodes-leaf}
 use Rattle.xl_radix.proofs.Ends.{IsTable, seen-low, found-at, found-none}
 
-end-is : (n a l s page : ℕ) (leaves : List Leaf) → a ≤ l → l ≤ a + n → ((h : ℕ) → h < l → in_nodes s (suc h) (up (suc h) page) leaves ≡ true → ⊥) → (l ≡ a + n) ⊎ (in_nodes s (suc l) (up (suc l) page) leaves ≡ true) → end_level n a s page leaves ≡ l
-end-is zero a l s page leaves h g none last = omega arith
-end-is (suc n) a l s page leaves h g none last =
-    elim (split-le a l h) [
-      | inl e ↦ at e last
-      | inr lt ↦ rw (false_from_ne_true (in_nodes s (suc a) (up (suc a) page) leaves) (none a lt)) (end-is n (a + 1) l s page leaves (omega arith) (omega arith) none (more last))
-    ]
-  where
-    more : (l ≡ a + suc n) ⊎ (in_nodes s (suc l) (up (suc l) page) leaves ≡ true) → (l ≡ a + 1 + n) ⊎ (in_nodes s (suc l) (up (suc l) page) leaves ≡ true)
-    more (inl e) = inl (omega arith)
-    more (inr e) = inr e
-
-    at : a ≡ l → (l ≡ a + suc n) ⊎ (in_nodes s (suc l) (up (suc l) page) leaves ≡ true) → end_level (suc n) a s page leaves ≡ l
-    at e (inl f) = absurd (omega arith)
-    at e (inr f) = let t : in_nodes s (suc a) (up (suc a) page) leaves ≡ true = subst (λ (v : ℕ). in_nodes s (suc v) (up (suc v) page) leaves ≡ true) (sym e) f in rw t e
-
 -- Where a slot of a node that stands at a page is empty, the mapping's nodes end.
 end-here : (top spaces s page l n : ℕ) (leaves : List Leaf) (nodes : List (Option Node)) (words used : List ℕ) → IsTable top spaces leaves nodes words used → l < top → Stands s page l n nodes → leaf_in s l (up l page) leaves ≡ None → number_of s l (up l page) nodes ≡ None → end_level (top - 1) 0 s page leaves ≡ l
 end-here top spaces s page l n leaves nodes words used t low at e f =
-    end-is (top - 1) 0 l s page leaves (omega arith) (omega arith) (λ h g k. none h g (in-nodes-leaf s (suc h) (up (suc h) page) leaves k)) (last (t.exact.needed s (suc l) (up (suc l) page) n at.stands))
+    end-is (top - 1) 0 l s page leaves (omega arith) (omega arith) (λ h g. false_from_ne_true _ (λ k. none h g (in-nodes-leaf s (suc h) (up (suc h) page) leaves k))) (last (t.exact.needed s (suc l) (up (suc l) page) n at.stands))
   where
     none : (h : ℕ) → h < l → (z : Leaf) × In z leaves × Under s (suc h) (up (suc h) page) z → ⊥
     none h g r =
