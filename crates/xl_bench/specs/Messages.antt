@@ -26,17 +26,23 @@ bad_message (BadScript fault) = script_message fault
 bad_message (BadTrace end) = trace_message end
 bad_message Absent = []
 
+-- the message of a status that has one for all its causes
+abbrev pub status_message : Status → List ℕ
+status_message status.Ok = []
+status_message status.Usage = codes "xlate: usage: --script FILE --trace FILE\n"
+status_message status.BadConfig = []
+status_message status.BadScript = []
+status_message status.BadTrace = []
+status_message status.ReadFault = codes "xlate: read fault\n"
+status_message status.WriteFault = codes "xlate: write fault\n"
+status_message status.NoMemory = codes "xlate: no memory\n"
+status_message status.NoFile = codes "xlate: no file\n"
+
 -- the message of a status; which line is bad, only the ending knows
 abbrev pub message : Status → Option Ending → Option (List ℕ)
-message status.Ok e = Some []
-message status.Usage e = Some (codes "xlate: usage: --script FILE --trace FILE\n")
-message status.BadConfig e = Some []
 message status.BadScript e = option_map bad_message e
 message status.BadTrace e = option_map bad_message e
-message status.ReadFault e = Some (codes "xlate: read fault\n")
-message status.WriteFault e = Some (codes "xlate: write fault\n")
-message status.NoMemory e = Some (codes "xlate: no memory\n")
-message status.NoFile e = Some (codes "xlate: no file\n")
+message s e = Some (status_message s)
 
 -- a text was put into a sink of these faults and this content: its beginning, and where no fault rose, all of it
 pub record Says (text : List ℕ) (faults faults_after : ℕ) (before after : Option (List ℕ)) : Type 0 where

@@ -15,7 +15,7 @@ use Rattle.xl_bench.specs.declared.tape.TapeStop.{TapeStop}
 use Rattle.xl_bench.specs.declared.tape.TapeStop.TheVariants as tape
 use Rattle.xl_bench.specs.Trails.{BadAt, TooLong}
 use Rattle.xl_bench.specs.Endings.{Ending, Reports, BadScript, BadTrace, Absent, of_script, of_trace}
-use Rattle.xl_bench.specs.Messages.{script_message, trace_message}
+use Rattle.xl_bench.specs.Messages.{status_message, script_message, trace_message}
 
 abbrev pub status_at : Stop → Status
 status_at why.Usage = status.Usage
@@ -34,15 +34,15 @@ status_by (Err stop) = status_at stop
 
 -- the message of a stop; of an answer
 abbrev pub text_at : Stop → List ℕ
-text_at why.Usage = codes "xlate: usage: --script FILE --trace FILE\n"
+text_at why.Usage = status_message status.Usage
 text_at why.ScriptTooLong = script_message script.TooLong
 text_at (why.ScriptLine line reason) = script_message (script.BadLine line reason)
 text_at why.TraceTooLong = trace_message TooLong
 text_at (why.TraceLine line reason) = trace_message (BadAt (record { line = line; reason = reason }))
-text_at why.ReadFault = codes "xlate: read fault\n"
-text_at why.WriteFault = codes "xlate: write fault\n"
-text_at why.NoMemory = codes "xlate: no memory\n"
-text_at why.NoFile = codes "xlate: no file\n"
+text_at why.ReadFault = status_message status.ReadFault
+text_at why.WriteFault = status_message status.WriteFault
+text_at why.NoMemory = status_message status.NoMemory
+text_at why.NoFile = status_message status.NoFile
 
 abbrev pub text_by : Result (Unit {0}) Stop → List ℕ
 text_by (Ok u) = []

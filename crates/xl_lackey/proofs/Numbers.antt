@@ -6,7 +6,8 @@ use Rattle.std.specs.Option.{option_map, option_and_then}
 use Rattle.std.proofs.Math.Nat.{pow-le-pow_right, eq-or-lt_of_le}
 use Rattle.std.proofs.lemmas.Bool.Decides.{nat_tests}
 use Rattle.std.proofs.lemmas.List.{length-take-le, take-append-drop}
-use Rattle.xl_lackey.proofs.Bytes.{got, differs}
+use Rattle.std.proofs.lemmas.Option.{same_Some}
+use Rattle.xl_lackey.proofs.Bytes.{differs}
 use Rattle.xl_lackey.specs.Lines.{front, hex_digit, hex_value, parted, in_front, before, with_rest, address_in}
 
 -- an address from the left: its value so far, and how many digits it has so far
@@ -121,7 +122,7 @@ digit_and_rest (Some d) on v h = (d, refl, h)
 -- one digit more at the right
 pub hex_more : (value v : ℕ) (bs : List ℕ) (b d : ℕ) → hex_value value bs ≡ Some v → hex_digit b ≡ Some d → hex_value value (bs ++ b ∷ []) ≡ Some (v * 16 + d)
 hex_more value v [] b d h e =
-    ap (option_and_then (λ k. Some (value * 16 + k))) e ∙ ap (λ (n : ℕ). Some (n * 16 + d)) (ap (got 0) h)
+    ap (option_and_then (λ k. Some (value * 16 + k))) e ∙ ap (λ (n : ℕ). Some (n * 16 + d)) (same_Some value v h)
 hex_more value v (c ∷ cs) b d h e =
     let parts = digit_and_rest (hex_digit c) (λ k. hex_value (value * 16 + k) cs) v h in
     ap (option_and_then (λ k. hex_value (value * 16 + k) (cs ++ b ∷ []))) parts.1 ∙ hex_more (value * 16 + parts.0) v cs b d parts.2 e
@@ -130,7 +131,7 @@ hex_more value v (c ∷ cs) b d h e =
 pub hex_front : (value v count : ℕ) (bs rest : List ℕ) → hex_value value bs ≡ Some v → count + length bs ≤ 16
     → hex_at value count (bs ++ rest) ≡ hex_at v (count + length bs) rest
 hex_front value v count [] rest h few =
-    let z : count ≡ count + 0 = omega arith in ap₂ (λ (n m : ℕ). hex_at n m rest) (ap (got 0) h) z
+    let z : count ≡ count + 0 = omega arith in ap₂ (λ (n m : ℕ). hex_at n m rest) (same_Some value v h) z
 hex_front value v count (b ∷ bs) rest h few =
     let parts = digit_and_rest (hex_digit b) (λ d. hex_value (value * 16 + d) bs) v h in
     let other : (b == 44) ≡ false = differs hex_digit b 44 (Some parts.0) None parts.1 refl (λ e. cc) in

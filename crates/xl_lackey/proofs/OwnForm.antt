@@ -2,16 +2,17 @@
 use Rattle.std.proofs.Common.{◌≡◌, ℕ, zero, suc, ◌+◌, ◌-◌, ◌*◌, ◌<◌, ◌≤◌, Bool, true, false, List, [], ◌∷◌, ◌++◌, length, length-append, take, drop, refl, ap, ap₂, arith, ◌∙◌, sym, subst, inl, inr}
 use Rattle.std.specs.Prelude.{Option, None, Some, ◌==◌, nat_le, nat_lt, ◌&&◌, if◌then◌else◌, slice_index}
 use Rattle.std.specs.Option.{option_map, option_and_then}
-use Rattle.std.proofs.Math.Seq.{drop-length}
-use Rattle.std.proofs.lemmas.List.{append_assoc, drop-drop}
+use Rattle.std.proofs.Math.Seq.{drop-length, drop-append-add}
+use Rattle.std.proofs.lemmas.List.{append_assoc, drop-drop, drop_more}
 use Rattle.std.proofs.lemmas.Bool.Decides.{nat_tests, eqb_tells}
 use Rattle.xl_text.specs.Texts.{is_blank, without_return}
 use Rattle.xl_lackey.specs.declared.reference.Letter.{Letter}
 use Rattle.xl_lackey.specs.declared.reference.Letter.TheVariants as letter
 use Rattle.xl_lackey.specs.declared.line.Verdict.{Verdict}
 use Rattle.xl_lackey.specs.declared.line.Verdict.TheVariants.{Found, Bad}
-use Rattle.xl_lackey.specs.Lines.{front, after, is_digit, hex_digit, hex_value, decimal_value, parted, in_front, address_of, with_rest, before, address_in, is_size, size_in, fits, of_end, of_size, of_address, of_words, of_text, judge}
-use Rattle.xl_lackey.proofs.Bytes.{got, differs}
+use Rattle.xl_lackey.specs.Lines.{front, after, is_digit, hex_digit, hex_value, decimal_value, parted, in_front, address_of, with_rest, before, address_in, is_size, size_in, fits, of_end, of_size, of_address, of_text, judge}
+use Rattle.std.proofs.lemmas.Option.{same_Some}
+use Rattle.xl_lackey.proofs.Bytes.{differs}
 use Rattle.xl_lackey.proofs.Numbers.{digit_and_rest}
 use Rattle.xl_lackey.specs.Usual.{usual_front, judged, judged_line}
 
@@ -112,7 +113,7 @@ address_by : (text digits later rest : List ℕ) (addr : ℕ) (o : Option ℕ) �
     → before later o ≡ Some (addr, rest) → IsAddress text digits rest addr
 address_by text digits later rest addr None h g e = cc
 address_by text digits later rest addr (Some a) h g e =
-    let both : (a, later) ≡ (addr, rest) = ap (got (addr, rest)) e in
+    let both : (a, later) ≡ (addr, rest) = same_Some (a, later) (addr, rest) e in
     let value : a ≡ addr = ap (λ (p : ℕ × List ℕ). p.0) both in
     let same : later ≡ rest = ap (λ (p : ℕ × List ℕ). p.1) both in
     let is : address_of digits ≡ Some addr = g ∙ ap Some value in
@@ -145,23 +146,25 @@ front_avoids letter.S = (refl, refl)
 front_avoids letter.M = (refl, refl)
 
 -- a text that begins as Lackey writes it goes on with its address
+begun : (l : Letter) (text : List ℕ) → of_text (usual_front l ++ text)
+    ≡ (if nat_lt 256 (length (usual_front l ++ text)) then Bad 6 else of_address l (address_in (after is_blank text)))
+begun letter.I text = refl
+begun letter.L text = refl
+begun letter.S text = refl
+begun letter.M text = refl
+
+front_length : (l : Letter) → length (usual_front l) ≡ 3
+front_length letter.I = refl
+front_length letter.L = refl
+front_length letter.S = refl
+front_length letter.M = refl
+
 of_front : (l : Letter) (text : List ℕ) → length text ≤ 253 → after is_blank text ≡ text → of_text (usual_front l ++ text) ≡ of_address l (address_in text)
-of_front letter.I text h e =
-    let few : nat_lt 256 (length (usual_front letter.I ++ text)) ≡ false = grind (arith, nat_tests) in
-    ap (λ (t : Bool). if t then Bad 6 else of_words (after is_blank (usual_front letter.I ++ text))) few
-    ∙ ap (λ (xs : List ℕ). of_address letter.I (address_in xs)) e
-of_front letter.L text h e =
-    let few : nat_lt 256 (length (usual_front letter.L ++ text)) ≡ false = grind (arith, nat_tests) in
-    ap (λ (t : Bool). if t then Bad 6 else of_words (after is_blank (usual_front letter.L ++ text))) few
-    ∙ ap (λ (xs : List ℕ). of_address letter.L (address_in xs)) e
-of_front letter.S text h e =
-    let few : nat_lt 256 (length (usual_front letter.S ++ text)) ≡ false = grind (arith, nat_tests) in
-    ap (λ (t : Bool). if t then Bad 6 else of_words (after is_blank (usual_front letter.S ++ text))) few
-    ∙ ap (λ (xs : List ℕ). of_address letter.S (address_in xs)) e
-of_front letter.M text h e =
-    let few : nat_lt 256 (length (usual_front letter.M ++ text)) ≡ false = grind (arith, nat_tests) in
-    ap (λ (t : Bool). if t then Bad 6 else of_words (after is_blank (usual_front letter.M ++ text))) few
-    ∙ ap (λ (xs : List ℕ). of_address letter.M (address_in xs)) e
+of_front l text h e =
+    let size : length (usual_front l ++ text) ≤ 256 = omega (arith, length-append (usual_front l) text, front_length l) in
+    let few : nat_lt 256 (length (usual_front l ++ text)) ≡ false = grind (arith, nat_tests) in
+    begun l text ∙ ap (λ (t : Bool). if t then Bad 6 else of_address l (address_in (after is_blank text))) few
+    ∙ ap (λ (xs : List ℕ). of_address l (address_in xs)) e
 
 abbrev sized : List ℕ → Option (ℕ × ℕ)
 sized digits = if is_size digits then Some (decimal_value 0 digits, length digits) else None
@@ -190,7 +193,7 @@ own_parts : (l : Letter) (text digits u rest : List ℕ) (addr size n : ℕ) →
 own_parts l text digits u rest addr size n is sizes newline within =
     let sd = front is_digit u in
     let read = checked (is_size sd) (Some (decimal_value 0 sd, length sd)) (size, n) sizes in
-    let count : length sd ≡ n = ap (λ (p : ℕ × ℕ). p.1) (ap (got (size, n)) read.1) in
+    let count : length sd ≡ n = ap (λ (p : ℕ × ℕ). p.1) (same_Some (decimal_value 0 sd, length sd) (size, n) read.1) in
     let few : length sd ≤ 6 = grind (arith, nat_tests, read.0) in
     let again : size_in sd ≡ Some (size, length sd) =
     ap sized (front_again is_digit u) ∙ sizes ∙ ap (λ (k : ℕ). Some (size, k)) (sym count) in
@@ -213,25 +216,17 @@ own_line l text u rest addr size n h sizes newline within =
     own_parts l text parts.0 u rest addr size n parts.1 sizes newline within
 
 after_front : (l : Letter) (text : List ℕ) (n : ℕ) → drop (3 + n) (usual_front l ++ text) ≡ drop n text
-after_front letter.I text n = sym (drop-drop n 3 (usual_front letter.I ++ text))
-after_front letter.L text n = sym (drop-drop n 3 (usual_front letter.L ++ text))
-after_front letter.S text n = sym (drop-drop n 3 (usual_front letter.S ++ text))
-after_front letter.M text n = sym (drop-drop n 3 (usual_front letter.M ++ text))
-
-from_place : (xs : List ℕ) (i : ℕ) → i < length xs → drop i xs ≡ slice_index xs i ∷ drop (suc i) xs
-from_place [] i h = absurd (omega arith)
-from_place (x ∷ xs) zero h = refl
-from_place (x ∷ xs) (suc i) h = from_place xs i (omega arith)
+after_front l text n = ap (λ (k : ℕ). drop (k + n) (usual_front l ++ text)) (sym (front_length l)) ∙ drop-append-add (usual_front l) text n
 
 -- the line by the places of its parts
 pub own_at : (l : Letter) (text numbers u : List ℕ) (addr comma size digits : ℕ) → text ≡ usual_front l ++ numbers → u ≡ drop (comma + 1) numbers
     → Some (addr, drop (comma + 1) numbers) ≡ address_in numbers → Some (size, digits) ≡ size_in u → digits < length u → slice_index u digits ≡ 10
     → fits addr size ≡ true → judged_line text ≡ Some (drop (comma + digits + 5) text, Found l addr size)
 own_at l text numbers u addr comma size digits h e address sizes within newline fit =
-    let next : drop digits u ≡ 10 ∷ drop (suc digits) u = from_place u digits within ∙ ap (λ (b : ℕ). b ∷ drop (suc digits) u) newline in
-    let tail : drop (suc digits) u ≡ drop (comma + digits + 5) text =
-    ap (drop (suc digits)) e ∙ drop-drop (suc digits) (comma + 1) numbers ∙ ap (λ (n : ℕ). drop n numbers) (omega arith)
+    let next : drop digits u ≡ 10 ∷ drop (digits + 1) u = drop_more u digits 0 within ∙ ap (λ (b : ℕ). b ∷ drop (digits + 1) u) newline in
+    let tail : drop (digits + 1) u ≡ drop (comma + digits + 5) text =
+    ap (drop (digits + 1)) e ∙ drop-drop (digits + 1) (comma + 1) numbers ∙ ap (λ (n : ℕ). drop n numbers) (omega arith)
     ∙ sym (after_front l numbers (comma + digits + 2)) ∙ ap₂ (λ (n : ℕ) (xs : List ℕ). drop n xs) (omega arith) (sym h) in
     let address_is : address_in numbers ≡ Some (addr, u) = sym address ∙ ap (λ (xs : List ℕ). Some (addr, xs)) (sym e) in
-    ap judged_line h ∙ own_line l numbers u (drop (suc digits) u) addr size digits address_is (sym sizes) next fit
+    ap judged_line h ∙ own_line l numbers u (drop (digits + 1) u) addr size digits address_is (sym sizes) next fit
     ∙ ap (λ (xs : List ℕ). Some (xs, Found l addr size)) tail

@@ -7,7 +7,7 @@ use Rattle.xl_text.specs.Texts.{onto, lines_of}
 use Rattle.xl_lackey.specs.declared.line.Verdict.{Verdict}
 use Rattle.xl_lackey.specs.declared.line.Verdict.TheVariants.{Skipped, Found, Bad}
 use Rattle.xl_lackey.specs.Lines.{parted, in_front, judge}
-use Rattle.xl_lackey.proofs.Bytes.{got}
+use Rattle.std.proofs.lemmas.Option.{same_Some}
 use Rattle.xl_lackey.specs.Usual.{judged, judged_line}
 use Rattle.xl_lackey.specs.Stream.{onto_ended, ended_lines, items, with_verdict, first_due, of_due, next_line, Left}
 
@@ -139,7 +139,7 @@ pub record IsFirst (text after : List ℕ) (v : Verdict) : Type 0 where
 first_by : (text after : List ℕ) (v : Verdict) (o : Option (List ℕ × List ℕ)) → parted 10 text ≡ o → option_map judged o ≡ Some (after, v) → IsFirst text after v
 first_by text after v None h e = cc
 first_by text after v (Some (line, rest)) h e =
-    let both : (rest, judge line) ≡ (after, v) = ap (got (after, v)) e in record {
+    let both : (rest, judge line) ≡ (after, v) = same_Some (rest, judge line) (after, v) e in record {
       line = line;
       parts = h ∙ ap (λ (xs : List ℕ). Some (line, xs)) (ap (λ (p : List ℕ × Verdict). p.0) both);
       verdict = sym (ap (λ (p : List ℕ × Verdict). p.1) both);

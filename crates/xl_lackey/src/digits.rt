@@ -95,9 +95,9 @@ fn eight_digits(text: &[u8]) -> Option<u64>
     Some(value)
 }
 
-#[tactic(auto, using(crate::proofs::Numbers::length_front))]
 /// A size of 1 to 6 decimal digits, at most 65536, and how many digits it has.
 #[inline(always)]
+#[tactic(auto, using(crate::proofs::Numbers::length_front))]
 pub(crate) fn size(text: &[u8]) -> Option<(u32, usize)>
     ensures within { IfSome result (λ r. r.1 ≤ length text.now) }
     ensures value { result ≡ size_in text.now }

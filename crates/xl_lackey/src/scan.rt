@@ -71,7 +71,7 @@ fn next_line(text: &[u8], from: usize) -> Option<(usize, Verdict)>
 }
 
 /// The first line of a text that a newline ends, in whatever form: how many bytes it has with the
-/// newline, and what it is. A call, so that what it wants is not made ready where it is not wanted.
+/// newline, and what it is. Not in line, since its search would else be made ready for every line.
 #[inline(never)]
 fn any_line(text: &[u8]) -> Option<(usize, Verdict)>
     ensures within { IfSome result (λ r. r.0 ≤ length text.now) }
