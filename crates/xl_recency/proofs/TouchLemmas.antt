@@ -7,8 +7,8 @@ use Rattle.xl_recency.specs.Lists.{IsTest}
 use Rattle.xl_recency.specs.declared.item.Item.{Item}
 use Rattle.xl_recency.specs.declared.stamped.Place.{Place}
 use Rattle.xl_recency.specs.Stamps.{with_place, by_stamp, item_of, newest_first, Each, Apart, AreStamps, IsNewest, NoneMeets}
-use Rattle.xl_recency.proofs.Order.{each_mono, each_all, each_at, each_by_stamp, each_set, each_push, In, in_at, in_by_stamp, each_in, Sorted, sorted, with_greatest, length-by_stamp, filter_all, by_stamp-filter, map-filter, filter_without, filter_with}
-use Rattle.xl_recency.proofs.Scans.{find_none, without_none}
+use Rattle.xl_recency.proofs.OrderLemmas.{each_mono, each_all, each_at, each_by_stamp, each_set, each_push, In, in_at, in_by_stamp, each_in, Sorted, sorted, with_greatest, length-by_stamp, filter_all, by_stamp-filter, map-filter, filter_without, filter_with}
+use Rattle.xl_recency.proofs.ScanLemmas.{find_none, without_none}
 
 -- whether a place has another stamp
 abbrev pub is_other : ℕ → Place → Bool

@@ -7,7 +7,7 @@ use Rattle.std.proofs.lemmas.List.Sums.{sum_by-cons}
 use Rattle.xl_recency.specs.declared.item.Item.{Item}
 use Rattle.xl_recency.specs.declared.stamped.Place.{Place}
 use Rattle.xl_recency.specs.Stamps.{with_place, by_stamp, item_of, newest_first, Each, Apart, AreStamps, rank_of, renumbered}
-use Rattle.xl_recency.proofs.Order.{each_mono, each_by_stamp, In}
+use Rattle.xl_recency.proofs.OrderLemmas.{each_mono, each_by_stamp, In}
 
 rank_skip : (y : Place) (ys : List Place) (s : ℕ) → s < y.stamp → rank_of (y ∷ ys) s ≡ rank_of ys s
 rank_skip y ys s l = sum_by-cons (λ (x : Place). cond (leb x.stamp s) 1 0) y ys ∙ rw (lt-leb y.stamp s l) (zero-add (rank_of ys s))
