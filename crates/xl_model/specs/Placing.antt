@@ -4,12 +4,9 @@ use Rattle.std.specs.Prelude.{ℕ, zero, suc, ◌+◌, ◌-◌, ◌*◌, ◌%◌
 use Rattle.std.specs.List.{list_any}
 use Rattle.xl_model.specs.declared.way.Entry.{Entry}
 use Rattle.xl_model.specs.declared.way.Moves.{Moves}
+use Rattle.xl_model.specs.Base.{plus, one_if}
 use Rattle.xl_model.specs.Hashes.{way_hash}
 use Rattle.xl_model.specs.Ways.{WayShape, has_key, occupant, swapped, slots_left, advanced, begun, opening_way}
-
--- counts are modulo 2^64
-abbrev pub plus : ℕ → ℕ → ℕ
-plus a b = (a + b) % 2 ^ 64
 
 abbrev pub no_moves : Moves
 no_moves = record { kicks = 0; undone = 0; migrated = 0; growths = 0 }
@@ -125,10 +122,6 @@ begins threshold w =
 
 abbrev pub begun_if_full : ℕ → WayShape → WayShape
 begun_if_full threshold w = if begins threshold w then begun w else w
-
-abbrev pub one_if : Bool → ℕ
-one_if true = 1
-one_if false = 0
 
 abbrev pub total : (WayShape → ℕ) → List WayShape → ℕ
 total f [] = 0

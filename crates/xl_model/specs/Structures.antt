@@ -11,7 +11,8 @@ use Rattle.xl_model.specs.declared.work.Work.{Work}
 use Rattle.xl_model.specs.Addresses.{pages_of}
 use Rattle.xl_model.specs.Mapping.{leaf_at_page}
 use Rattle.xl_model.specs.Changes.{Change, changed}
-use Rattle.xl_model.specs.Placing.{plus, no_moves}
+use Rattle.xl_model.specs.Base.{plus}
+use Rattle.xl_model.specs.Placing.{no_moves}
 use Rattle.xl_model.specs.Shapes.{Shape, Radix, Chained, Cuckoo, Runs, brought, widened, shape_after, placed_leaf, moves_of, is_placed}
 use Rattle.xl_model.specs.Room.{has_room}
 use Rattle.xl_model.specs.Caches.{Caches, entries_in, caches_purged, caches_fenced}
@@ -105,6 +106,21 @@ fence_answer to t = entries_in t.caches - entries_in (caches_fenced to t.caches)
 
 unfoldable pub table_fenced : Reach → TableState → TableState
 table_fenced to t = record t { caches = caches_fenced to t.caches }
+
+-- A call answers a change as the definitions do, and leaves the table that they leave.
+pub record IsChange (c : Change) (old : TableState) (result : Result Work Refused) (new : TableState) : Type 0 where
+  pub answer : result ≡ table_answer c old
+  pub after : new ≡ table_after c old
+
+-- A call answers a walk as the definitions do, and leaves the table that they leave.
+pub record IsWalk (space page : ℕ) (old : TableState) (result : Walk) (new : TableState) : Type 0 where
+  pub answer : result ≡ walk_answer space page old
+  pub after : new ≡ table_walked space page old
+
+-- A call answers a fence as the definitions do, and leaves the table that they leave.
+pub record IsFence (to : Reach) (old : TableState) (result : ℕ) (new : TableState) : Type 0 where
+  pub answer : result ≡ fence_answer to old
+  pub after : new ≡ table_fenced to old
 
 -- spaces and pages that a table of this shape takes
 abbrev pub spaces_of : Shape → ℕ

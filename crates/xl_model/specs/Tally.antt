@@ -6,7 +6,7 @@ use Rattle.xl_model.specs.declared.event.Refusal.{Refusal}
 use Rattle.xl_model.specs.declared.event.Refusal.TheVariants as refused
 use Rattle.xl_model.specs.declared.row.Counts.{Counts}
 use Rattle.xl_model.specs.declared.work.Work.{Work}
-use Rattle.xl_model.specs.Placing.{plus}
+use Rattle.xl_model.specs.Base.{plus}
 use Rattle.xl_model.specs.Tlb.{TlbArray, Answer, hits_at, misses_at}
 
 unfoldable pub no_counts : ℕ → Counts

@@ -1,5 +1,5 @@
 -- TLB arrays in levels: look-up, fills, purges and fences. Each set of an array is a recency list.
-use Rattle.std.specs.Prelude.{ℕ, ◌+◌, ◌/◌, ◌%◌, ◌==◌, Bool, true, false, ◌&&◌, not, nat_le, nat_lt, if◌then◌else◌, List, [], ◌∷◌, find, map, length, replicate, slice_index_or, slice_set, Option, None, Some}
+use Rattle.std.specs.Prelude.{ℕ, ◌+◌, ◌/◌, ◌%◌, ◌==◌, Bool, true, false, ◌&&◌, not, nat_le, nat_lt, if◌then◌else◌, List, [], ◌∷◌, find, map, length, replicate, slice_index_or, slice_set, is_some, Option, None, Some}
 use Rattle.xl_model.specs.declared.address.Order.{Order}
 use Rattle.xl_model.specs.declared.address.Order.TheVariants as order
 use Rattle.xl_model.specs.declared.leaf.Leaf.{Leaf}
@@ -83,15 +83,11 @@ abbrev pub is_looked : Option Answer → TlbArray → Bool
 is_looked None a = true
 is_looked (Some answer) a = nat_le a.spec.level answer.level
 
-abbrev pub is_hit : Option Leaf → Bool
-is_hit None = false
-is_hit (Some leaf) = true
-
 abbrev pub hits_at : Option Answer → ℕ → ℕ → TlbArray → Bool
-hits_at answer space page a = is_looked answer a && is_hit (array_hit a space page)
+hits_at answer space page a = is_looked answer a && is_some (array_hit a space page)
 
 abbrev pub misses_at : Option Answer → ℕ → ℕ → TlbArray → Bool
-misses_at answer space page a = is_looked answer a && not (is_hit (array_hit a space page))
+misses_at answer space page a = is_looked answer a && not (is_some (array_hit a space page))
 
 -- at a hit the array that answered is touched, and those of lower-numbered levels are filled
 abbrev pub touched_first : Option Leaf → ℕ → ℕ → TlbArray → List TlbArray → List TlbArray → List TlbArray

@@ -1,10 +1,11 @@
 -- One walk of a table: how many loads it makes, and what it touches and fills in the walk caches.
-use Rattle.std.specs.Prelude.{ℕ, zero, suc, ◌+◌, ◌-◌, ◌/◌, ◌==◌, Bool, true, false, ◌&&◌, not, nat_le, nat_lt, if◌then◌else◌, List, [], ◌∷◌, find, length, Option, None, Some}
+use Rattle.std.specs.Prelude.{ℕ, zero, suc, ◌+◌, ◌-◌, ◌/◌, ◌==◌, Bool, true, false, ◌&&◌, not, nat_le, nat_lt, if◌then◌else◌, List, [], ◌∷◌, find, length, is_some, Option, None, Some}
 use Rattle.std.specs.List.{list_any}
 use Rattle.xl_model.specs.declared.address.Order.{Order}
 use Rattle.xl_model.specs.declared.address.Order.TheVariants as order
 use Rattle.xl_model.specs.declared.leaf.Leaf.{Leaf}
 use Rattle.xl_model.specs.declared.leaf.Range.{Range}
+use Rattle.xl_model.specs.Base.{one_if, number_or_0}
 use Rattle.xl_model.specs.Addresses.{level_of, pages_of, same_order}
 use Rattle.xl_model.specs.Recency.{touched, with_newest}
 use Rattle.xl_model.specs.Mapping.{leaf_at_page}
@@ -43,10 +44,6 @@ end_level zero level space page leaves = level
 end_level (suc n) level space page leaves =
     if in_nodes space (suc level) (up (suc level) page) leaves then level else end_level n (level + 1) space page leaves
 
-abbrev pub number_or_0 : Option ℕ → ℕ
-number_or_0 None = 0
-number_or_0 (Some n) = n
-
 abbrev pub numbered : ℕ → ℕ → ℕ → List (Option Node) → Numbered
 numbered level space page nodes =
     record { node = node_at space level page; number = number_or_0 (number_of space (suc level) (up (suc level) page) nodes) }
@@ -65,21 +62,17 @@ node_caches_after level start found space page nodes [] = []
 node_caches_after level start found space page nodes (c ∷ cs) =
     node_cache_after level start found space page nodes c ∷ node_caches_after (level + 1) start found space page nodes cs
 
-abbrev pub one_where : Bool → ℕ
-one_where true = 1
-one_where false = 0
-
 abbrev pub radix_walk_from : ℕ → ℕ → Option Leaf → List Leaf → List (Option Node) → List (Cached Numbered) → ℕ → ℕ → Walked
 radix_walk_from levels start found leaves nodes cs space page = record {
   reads = start - end_level (levels - 1) 0 space page leaves + 1;
-  cache_hits = one_where (nat_lt start (length cs));
+  cache_hits = one_if (nat_lt start (length cs));
   caches = NodeCaches (node_caches_after 0 start found space page nodes cs);
 }
 
 -- Hashed and clustered. An order is tried by its chain, up to and with the order of the page's leaf; a
 -- clustered table reads one line more where the block is found.
 abbrev pub slot_read : ℕ → Bool → ℕ
-slot_read group found = if group == 1 then 0 else one_where found
+slot_read group found = if group == 1 then 0 else one_if found
 
 abbrev pub chain_reads : ℕ → ℕ → List ℕ → ℕ → ℕ
 chain_reads group buckets tags tag =
@@ -130,24 +123,16 @@ section_after size space page leaves ways fills (Some hit) c = with_touch (is_pa
 section_after size space page leaves ways false None c = c
 section_after size space page leaves ways true None c = with_fill (section_of_page size space page leaves ways) c
 
-abbrev pub is_found : Option Leaf → Bool
-is_found None = false
-is_found (Some leaf) = true
-
 abbrev pub fills_m2 : Option Leaf → Bool
 fills_m2 None = false
 fills_m2 (Some leaf) = not (same_order leaf.order order.G1)
 
-abbrev pub is_there : Option Section → Bool
-is_there None = false
-is_there (Some s) = true
-
 abbrev pub cuckoo_walk_by : Option Section → Option Section → Option Leaf → List Leaf → CuckooWays → Cached Section → Cached Section → ℕ → ℕ → Walked
 cuckoo_walk_by hit2 hit1 found leaves ways m2 g1 space page = record {
   reads = probes (length ways.k4) hit2 hit1 order.K4 + (probes (length ways.k4) hit2 hit1 order.M2 + probes (length ways.k4) hit2 hit1 order.G1);
-  cache_hits = one_where (is_there hit2) + one_where (is_there hit1);
+  cache_hits = one_if (is_some hit2) + one_if (is_some hit1);
   caches = SectionCaches (section_after order.M2 space page leaves ways (fills_m2 found) hit2 m2)
-      (section_after order.G1 space page leaves ways (is_found found) hit1 g1);
+      (section_after order.G1 space page leaves ways (is_some found) hit1 g1);
 }
 
 -- Range. The newest cached range that holds the page answers without a load.

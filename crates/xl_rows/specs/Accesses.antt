@@ -5,7 +5,8 @@ use Rattle.xl_model.specs.declared.address.Order.TheVariants as order
 use Rattle.xl_model.specs.declared.address.Kind.TheVariants as kind
 use Rattle.xl_model.specs.declared.event.Event.TheVariants as event
 use Rattle.xl_model.specs.Rows.{Row}
-use Rattle.xl_model.specs.Items.{Item, Command, Declared, Referenced}
+use Rattle.xl_model.specs.declared.script.Item.{Item}
+use Rattle.xl_model.specs.declared.script.Item.TheVariants.{Command, Declared, Referenced}
 use Rattle.xl_rows.specs.Plain.{plain_row, one_array, perm_r__u, perm_rw_u, perm_rwxu}
 
 -- A captured trace with one demand area: six pages fault once each and get frames 0 to 5.

@@ -6,7 +6,8 @@ use Rattle.xl_model.specs.declared.address.Kind.TheVariants as kind
 use Rattle.xl_model.specs.declared.event.Event.TheVariants as event
 use Rattle.xl_model.specs.declared.row.Table.TheVariants as table
 use Rattle.xl_model.specs.Rows.{Row}
-use Rattle.xl_model.specs.Items.{Item, Command, Referenced}
+use Rattle.xl_model.specs.declared.script.Item.{Item}
+use Rattle.xl_model.specs.declared.script.Item.TheVariants.{Command, Referenced}
 use Rattle.xl_rows.specs.Plain.{plain_row, perm_r__u, perm_rw_u, perm_rwxu, perm_r_xu}
 
 -- Walk caches of four tags for levels 0 and 1. The walk of the 2 MiB leaf at page 512 reads the root and the node of

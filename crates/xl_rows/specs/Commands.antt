@@ -4,7 +4,8 @@ use Rattle.xl_model.specs.declared.address.Order.TheVariants as order
 use Rattle.xl_model.specs.declared.address.Kind.TheVariants as kind
 use Rattle.xl_model.specs.declared.event.Event.TheVariants as event
 use Rattle.xl_model.specs.Rows.{Row}
-use Rattle.xl_model.specs.Items.{Item, Command, Referenced}
+use Rattle.xl_model.specs.declared.script.Item.{Item}
+use Rattle.xl_model.specs.declared.script.Item.TheVariants.{Command, Referenced}
 use Rattle.xl_rows.specs.Plain.{plain_row, perm_r__u, perm_rw_u}
 
 -- A move to its own place meets the moved leaf; a move elsewhere is done.

@@ -7,6 +7,7 @@ use Rattle.xl_model.specs.declared.row.Purge.TheVariants as purge
 use Rattle.xl_model.specs.declared.row.Table.TheVariants as table
 use Rattle.xl_model.specs.declared.row.TlbSpec.{TlbSpec}
 use Rattle.xl_model.specs.Rows.{Row}
+use Rattle.xl_model.specs.Report.{Flags}
 
 -- Sv39, 64 frames, two spaces, a radix table of 64 frames without caches, and no TLB
 abbrev pub plain_row : Row
@@ -38,3 +39,15 @@ perm_rw_u = record { r = true; w = true; x = false; u = true; legal = refl }
 
 abbrev pub perm_rwxu : Perm
 perm_rwxu = record { r = true; w = true; x = true; u = true; legal = refl }
+
+-- The rows alone are asked for.
+abbrev pub rows_alone : Flags
+rows_alone = record { answers = false; images = false }
+
+-- Rows and a line for each access and command.
+abbrev pub with_answers : Flags
+with_answers = record { answers = true; images = false }
+
+-- Rows and the words of radix tables.
+abbrev pub with_images : Flags
+with_images = record { answers = false; images = true }
