@@ -65,10 +65,8 @@ impl Frames {
         requires limit { n ≤ 2 ^ 22 }
         ensures { IfOk result (λ pool. pool ≡ replicate n true) }
     {
-        match vec![in alloc; true; n as usize] {
-            Ok(flags) => Ok(Frames { flags }),
-            Err(_) => Err(NoMemory),
-        }
+        let flags = vec![in alloc; true; n as usize]?;
+        Ok(Frames { flags })
     }
 
     /// Takes the lowest free block of the order, and gives the number of its first frame. None

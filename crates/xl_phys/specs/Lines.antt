@@ -11,7 +11,7 @@ pub record IsWord (words : List ℕ) (place word : ℕ) : Type 0 where
   pub there : 4 * (place / 4) + 4 ≤ length words
   pub same : word ≡ slice_index words place
 
--- one load more, modulo 2^64
+-- One load more, modulo 2^64.
 abbrev pub counted : ℕ → ℕ
 counted loads = (loads + 1) % 2 ^ 64
 

@@ -8,9 +8,9 @@ use Rattle.xl_model.specs.Mapping.{covers, leaf_at_page}
 use Rattle.xl_model.specs.Nodes.{up, in_nodes}
 use Rattle.xl_model.specs.Walks.{end_level}
 use Rattle.xl_mapping.specs.Members.{In}
-use Rattle.xl_mapping.proofs.Members.{find-In, find-passes}
-use Rattle.xl_mapping.proofs.Orders.{level-low}
-use Rattle.xl_mapping.proofs.Ends.{up-from, end-is}
+use Rattle.xl_mapping.proofs.MemberLemmas.{find-In, find-passes}
+use Rattle.xl_mapping.proofs.OrderLemmas.{level-low}
+use Rattle.xl_mapping.proofs.EndLemmas.{up-from, end-is}
 use Rattle.xl_pte.specs.declared.word.Pte.TheVariants as pte
 use Rattle.xl_radix.specs.ReadBack.{order_of, leaf_said}
 use Rattle.xl_radix.specs.Table.{IsRadixMapping}

@@ -15,6 +15,7 @@ mod OpeningLemmas
 mod PoolLemmas
 mod LookLemmas
 mod FoundLemmas
+mod FilledLemmas
 mod WalkLemmas
 mod TakenLeafLemmas
 pub mod FreedNodeLemmas

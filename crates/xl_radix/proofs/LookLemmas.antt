@@ -14,9 +14,9 @@ use Rattle.xl_model.specs.Structures.{IsBlock, IsLeafFor}
 use Rattle.xl_mapping.specs.Members.{In}
 use Rattle.xl_pte.specs.Decode.{decode_of}
 use Rattle.xl_pte.specs.declared.word.Pte.{Pte}
-use Rattle.xl_mapping.proofs.Members.{any-false}
-use Rattle.xl_mapping.proofs.Orders.{pages-some}
-use Rattle.xl_radix.specs.Image.{leaf_in}
+use Rattle.xl_mapping.proofs.MemberLemmas.{any-false}
+use Rattle.xl_mapping.proofs.OrderLemmas.{pages-some}
+use Rattle.xl_model.specs.Image.{leaf_in}
 use Rattle.xl_radix.specs.ReadBack.{order_of, leaf_said}
 use Rattle.xl_radix.specs.Table.{Table, IsNew, IsStore}
 use Rattle.xl_radix.specs.Steps.{IsEnd, shape_of}

@@ -2,8 +2,8 @@
 use Rattle.std.proofs.Common.{ℕ, zero, suc, ◌≡◌, ◌+◌, ◌<◌, ◌≤◌, Bool, true, false, cond, inl, inr, List, [], ◌∷◌, length, slice_index_or, slice_set, Option, Some, None, refl, ap, sym, ◌∙◌, arith}
 use Rattle.std.proofs.lemmas.Bool.{cases_lt}
 use Rattle.std.proofs.lemmas.List.{get_or_past}
-use Rattle.std.specs.List.{position_from, position}
-use Rattle.std.specs.Prelude.{is_none}
+use Rattle.std.specs.List.{list_any, position_from, position}
+use Rattle.std.specs.Prelude.{is_none, is_some}
 use Rattle.std.proofs.lemmas.Iterator.Adapters.{position_from-zero}
 use Rattle.std.proofs.lemmas.Bool.Decides.{nat_tests}
 use Rattle.std.proofs.lemmas.Option.{same_Some}
@@ -130,3 +130,16 @@ pub put-first-count : (nodes : List (Option Node)) (x : Node) → 0 < free_count
 put-first-count [] x h = absurd (omega arith)
 put-first-count (None ∷ nodes) x h = refl
 put-first-count (Some y ∷ nodes) x h = put-first-count nodes x h
+
+position-any : (p : Option Node → Bool) (xs : List (Option Node)) (b : ℕ) → list_any p xs ≡ is_some (position_from p b xs)
+position-any p [] b = refl
+position-any p (x ∷ xs) b =
+    elim (p x) as (λ t. p x ≡ t → list_any p (x ∷ xs) ≡ is_some (cond t (Some b) (position_from p (b + 1) xs))) [
+      | true ↦ λ e. rw e refl
+      | false ↦ λ e. rw e (position-any p xs (b + 1))
+    ] refl
+
+-- Some node has a name where the name has a number.
+pub any_number : (s l q : ℕ) (nodes : List (Option Node)) → list_any (is_below s l q) nodes ≡ is_some (number_of s l q nodes)
+unfolding number_of
+any_number s l q nodes = position-any (is_below s l q) nodes 0

@@ -4,7 +4,7 @@ use Rattle.std.proofs.lemmas.Bool.{cases_lt}
 use Rattle.std.proofs.lemmas.List.{get_or-replicate, get_or_past, length-replicate}
 use Rattle.std.proofs.lemmas.Option.{same_Some}
 use Rattle.xl_model.specs.Nodes.{Node, is_below, in_nodes, number_of, free_count, roots, opening_nodes}
-use Rattle.xl_radix.specs.Image.{leaf_in, word_of}
+use Rattle.xl_model.specs.Image.{leaf_in, word_of}
 use Rattle.xl_radix.specs.ReadBack.{read_back}
 use Rattle.xl_radix.specs.Table.{filled, IsImage, IsExact, IsCounted, IsStore}
 use Rattle.xl_radix.proofs.NumberLemmas.{number-some, below-some, is-below}

@@ -8,18 +8,18 @@ use Rattle.xl_model.specs.Mapping.{with_leaf, without_leaf, leaf_named, leaf_at_
 use Rattle.xl_model.specs.Words.{leaf_word}
 use Rattle.xl_model.specs.Nodes.{up, Node, number_of, only_needed}
 use Rattle.xl_mapping.specs.Members.{In}
-use Rattle.xl_mapping.proofs.Kept.{named-In}
+use Rattle.xl_mapping.proofs.MappingLemmas.{named-In}
 use Rattle.std.proofs.lemmas.Bool.{false≢true}
 use Rattle.xl_model.specs.declared.address.Order.{Order}
 use Rattle.xl_model.specs.Changes.{Protect, IsNamed, changed}
 use Rattle.xl_model.specs.Shapes.{Radix, shape_after}
-use Rattle.xl_mapping.proofs.Kept.{named-is}
-use Rattle.xl_mapping.proofs.Places.{named-space, named-first, named-order}
-use Rattle.xl_mapping.proofs.Orders.{level-low}
+use Rattle.xl_mapping.proofs.MappingLemmas.{named-is}
+use Rattle.xl_mapping.proofs.PlaceLemmas.{named-space, named-first, named-order}
+use Rattle.xl_mapping.proofs.OrderLemmas.{level-low}
 use Rattle.xl_radix.proofs.CaseLemmas.{split-le}
 use Rattle.xl_radix.proofs.ShapeLemmas.{all-needed}
 use Rattle.xl_radix.proofs.TakingLemmas.{named-needs}
-use Rattle.xl_radix.specs.Image.{leaf_in}
+use Rattle.xl_model.specs.Image.{leaf_in}
 use Rattle.xl_radix.specs.ReadBack.{read_back}
 use Rattle.xl_radix.specs.Table.{IsNew, IsRadixLeaf, IsRadixMapping, IsExact, IsStore}
 use Rattle.xl_radix.specs.Steps.{Stands, IsReady, IsEnd}

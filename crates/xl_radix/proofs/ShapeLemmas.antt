@@ -1,14 +1,15 @@
 -- The shape after a leaf was added: each node is one that the leaves need, so none is dropped.
-use Rattle.std.proofs.Common.{ℕ, suc, ◌≡◌, ◌+◌, ◌==◌, true, List, [], ◌∷◌, map, Option, None, Some, slice_index_or, ◌⊎◌, inl, inr, refl, ap, sym, subst, arith}
+use Rattle.std.proofs.Common.{ℕ, suc, ◌≡◌, ◌+◌, ◌==◌, true, List, [], ◌∷◌, map, length, Option, None, Some, slice_index_or, ◌⊎◌, inl, inr, refl, ap, sym, subst, arith}
 use Rattle.std.proofs.lemmas.Bool.Decides.{nat_tests}
 use Rattle.std.proofs.lemmas.Bool.{eq-eqb}
 use Rattle.std.proofs.Math.Bool.{or-true}
 use Rattle.xl_model.specs.declared.leaf.Leaf.{Leaf}
 use Rattle.xl_model.specs.Mapping.{with_leaf}
 use Rattle.xl_model.specs.Changes.{Insert, changed}
-use Rattle.xl_model.specs.Nodes.{Node, is_below, in_nodes, is_needed, kept_node, only_needed, with_leaf_nodes}
+use Rattle.xl_model.specs.Nodes.{Node, is_below, in_nodes, is_needed, kept_node, only_needed, with_leaf_nodes, free_count}
 use Rattle.xl_model.specs.Shapes.{Radix, shape_after}
 use Rattle.xl_radix.specs.Table.{IsExact}
+use Rattle.xl_radix.specs.Steps.{IsLess}
 
 pub own-slot : (node : Node) → is_below node.space (node.level + 1) node.prefix (Some node) ≡ true
 own-slot node = rw (eq-eqb node.space node.space refl, eq-eqb (node.level + 1) (node.level + 1) refl, eq-eqb node.prefix node.prefix refl) refl
@@ -45,3 +46,13 @@ shape-added top spaces leaf leaves new_leaves nodes new exact e f =
     let kept : only_needed top (with_leaf leaf leaves) new ≡ new = subst P e (all-needed top new_leaves new exact) in
     let Q : List (Option Node) → Type 0 = λ n. Radix top spaces new ≡ Radix top spaces (only_needed top (with_leaf leaf leaves) n) in
     subst Q f (ap (Radix top spaces) (sym kept))
+
+-- Where the nodes stay, none was given back.
+pub less-same : (nodes new : List (Option Node)) → new ≡ nodes → IsLess nodes new
+less-same nodes new e = record {
+  size = ap length e;
+  each = λ n. inl (ap (λ (l : List (Option Node)). slice_index_or l n None) e);
+}
+
+pub count-same : (nodes new : List (Option Node)) → new ≡ nodes → free_count new ≡ free_count nodes + 0
+count-same nodes new e = let f = ap free_count e in omega arith

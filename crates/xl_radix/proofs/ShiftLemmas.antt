@@ -10,20 +10,21 @@ use Rattle.xl_model.specs.declared.address.Order.TheVariants as order
 use Rattle.xl_model.specs.declared.leaf.Leaf.{Leaf}
 use Rattle.xl_model.specs.declared.perm.Perm.{Perm}
 use Rattle.xl_model.specs.Addresses.{level_of, pages_of}
-use Rattle.xl_model.specs.Changes.{Relocate, IsNamed, changed}
+use Rattle.xl_model.specs.Changes.{Insert, Remove, Relocate, IsNamed, changed}
 use Rattle.xl_model.specs.Mapping.{with_leaf, without_leaf, leaf_key, leaf_at_page, leaf_named, is_leaf, meets_any, meets_block}
-use Rattle.xl_model.specs.Nodes.{Node, up}
-use Rattle.xl_model.specs.Shapes.{Radix, brought}
+use Rattle.xl_model.specs.Nodes.{Node, up, with_leaf_nodes, only_needed, free_count}
+use Rattle.xl_model.specs.Room.{has_room}
+use Rattle.xl_model.specs.Shapes.{Radix, brought, shape_after}
 use Rattle.xl_model.specs.Structures.{IsBlock, IsLeafFor}
 use Rattle.xl_mapping.specs.Members.{In, IsSorted}
-use Rattle.xl_mapping.proofs.Insertion.{with-In, In-with, stays-with, sorted-with, sorted-without, without-In, without-other, In-without}
-use Rattle.xl_mapping.proofs.Kept.{named-In, named-is}
-use Rattle.xl_mapping.proofs.Members.{find-None, any-false}
-use Rattle.xl_mapping.proofs.Orders.{pages-some}
-use Rattle.xl_mapping.proofs.Places.{named-space, named-first, named-order}
-use Rattle.xl_mapping.proofs.Sorted.{same-sorted}
-use Rattle.xl_radix.specs.Table.{IsRadixMapping, IsStore}
-use Rattle.xl_radix.specs.Steps.{IsMove}
+use Rattle.xl_mapping.proofs.InsertionLemmas.{with-In, In-with, stays-with, sorted-with, sorted-without, without-In, without-other, In-without}
+use Rattle.xl_mapping.proofs.MappingLemmas.{named-In, named-is}
+use Rattle.xl_mapping.proofs.MemberLemmas.{find-None, any-false}
+use Rattle.xl_mapping.proofs.OrderLemmas.{pages-some}
+use Rattle.xl_mapping.proofs.PlaceLemmas.{named-space, named-first, named-order}
+use Rattle.xl_mapping.proofs.SortedLemmas.{same-sorted}
+use Rattle.xl_radix.specs.Table.{Table, IsRadixMapping, IsStore}
+use Rattle.xl_radix.specs.Steps.{shape_of, IsLess, IsMove, IsMade}
 use Rattle.xl_radix.proofs.EndLemmas.{found-at}
 use Rattle.xl_radix.proofs.ReadBackLemmas.{own-slot}
 
@@ -141,4 +142,26 @@ moves top spaces s f to o x leaves nodes words used store e block free =
       free = free;
       named = found-some (is_leaf s f o) x (with_leaf new leaves) (stays-with x new leaves i (λ k. none x i (sym k))) is;
       after = sym (changed-is s f to o x leaves e a b d ∙ with-without s f new leaves store.mapping.sorted none other);
+    }
+
+-- There is room for a move where there is room for the leaf as it stands afterwards.
+pub room-moved : (top s f to : ℕ) (o : Order) (x : Leaf) (t : Table) → IsMove top t.spaces s f to o x t.leaves t.nodes → has_room (Insert x) t.leaves (shape_of top t) ≡ has_room (Relocate s f to o) t.leaves (shape_of top t)
+unfolding has_room
+room-moved top s f to o x t move = rw move.brings refl
+
+-- The leaf as it stands afterwards comes, then the old one goes.
+pub shifted : (top s f to given : ℕ) (o : Order) (x : Leaf) (old mid new : Table) → IsMove top old.spaces s f to o x old.leaves old.nodes
+    → mid.leaves ≡ with_leaf x old.leaves → mid.nodes ≡ with_leaf_nodes top x old.nodes → mid.spaces ≡ old.spaces → mid.loads ≡ old.loads
+    → IsMade top (Remove s f o) given mid new → new.leaves ≡ without_leaf s f mid.leaves → IsMade top (Relocate s f to o) given old new
+unfolding shape_after
+shifted top s f to given o x old mid new move el en es ed made gone =
+    let after : new.leaves ≡ changed (Relocate s f to o) old.leaves = gone ∙ ap (without_leaf s f) el ∙ move.after in
+    let needed : only_needed top (changed (Remove s f o) mid.leaves) mid.nodes ≡ only_needed top (changed (Relocate s f to o) old.leaves) (with_leaf_nodes top x old.nodes) =
+    ap (λ (l : List Leaf). only_needed top l mid.nodes) (sym made.leaves ∙ after) ∙ ap (only_needed top (changed (Relocate s f to o) old.leaves)) en in
+    record {
+      leaves = after;
+      shape = made.shape ∙ rw move.brings (ap (λ (v : ℕ). Radix top v (only_needed top (changed (Remove s f o) mid.leaves) mid.nodes)) es ∙ ap (Radix top old.spaces) needed);
+      less = rw move.brings (subst (λ (l : List (Option Node)). IsLess l new.nodes) en made.less);
+      count = rw move.brings (made.count ∙ ap (λ (l : List (Option Node)). free_count l + given) en);
+      loads = made.loads ∙ ed;
     }

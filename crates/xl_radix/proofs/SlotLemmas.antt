@@ -10,8 +10,8 @@ use Rattle.xl_pte.specs.Decode.{decode_of}
 use Rattle.xl_pte.specs.declared.word.Pte.{Pte}
 use Rattle.xl_pte.specs.declared.word.Pte.TheVariants as pte
 use Rattle.xl_pte.proofs.BitLemmas.{decode-made-leaf, decode-made-pointer}
-use Rattle.xl_mapping.proofs.Members.{find-In, find-passes, find-None, any-In, In-any}
-use Rattle.xl_radix.specs.Image.{is_slot, leaf_in, entry, word_at, word_of}
+use Rattle.xl_mapping.proofs.MemberLemmas.{find-In, find-passes, find-None, any-In, In-any}
+use Rattle.xl_model.specs.Image.{is_slot, leaf_in, entry, word_at, word_of}
 use Rattle.xl_radix.specs.Table.{IsRadixMapping, IsImage}
 use Rattle.xl_radix.specs.Steps.{Stands}
 use Rattle.xl_radix.proofs.NumberLemmas.{node-in, number-some, below-some, Is}

@@ -11,7 +11,7 @@ use Rattle.xl_mapping.specs.Members.{In}
 use Rattle.xl_pte.specs.Decode.{decode_of}
 use Rattle.xl_pte.specs.declared.word.Pte.{Pte}
 use Rattle.xl_pte.specs.declared.word.Pte.TheVariants as pte
-use Rattle.xl_radix.specs.Image.{leaf_in, word_at}
+use Rattle.xl_model.specs.Image.{leaf_in, word_at}
 use Rattle.xl_radix.specs.ReadBack.{read_back}
 use Rattle.std.specs.List.{position}
 use Rattle.std.specs.Prelude.{is_none}

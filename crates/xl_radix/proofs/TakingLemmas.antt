@@ -12,10 +12,10 @@ use Rattle.xl_model.specs.Nodes.{up, Node, is_below, in_nodes, number_of, free_c
 use Rattle.std.specs.Prelude.{is_some}
 use Rattle.xl_model.specs.Shapes.{Radix, shape_after}
 use Rattle.xl_mapping.specs.Members.{In}
-use Rattle.xl_mapping.proofs.Kept.{named-is}
-use Rattle.xl_mapping.proofs.Places.{named-space, named-first}
-use Rattle.xl_mapping.proofs.Insertion.{without-In}
-use Rattle.xl_radix.specs.Image.{is_slot, leaf_in}
+use Rattle.xl_mapping.proofs.MappingLemmas.{named-is}
+use Rattle.xl_mapping.proofs.PlaceLemmas.{named-space, named-first}
+use Rattle.xl_mapping.proofs.InsertionLemmas.{without-In}
+use Rattle.xl_model.specs.Image.{is_slot, leaf_in}
 use Rattle.xl_radix.specs.Table.{filled, IsNearly, IsExact, IsImage, IsStore}
 use Rattle.xl_radix.specs.Steps.{Stands, IsLess, IsTaken}
 use Rattle.xl_radix.proofs.ListLemmas.{find-nothing}

@@ -11,14 +11,16 @@ use Rattle.xl_mapping.specs.Members.{In}
 use Rattle.xl_pte.specs.Decode.{decode_of}
 use Rattle.xl_pte.specs.declared.word.Pte.{Pte}
 use Rattle.xl_pte.specs.declared.word.Pte.TheVariants as pte
-use Rattle.xl_mapping.proofs.Ends.{up-from, end-is}
+use Rattle.xl_mapping.proofs.EndLemmas.{up-from, end-is}
 use Rattle.xl_radix.specs.declared.walk_end.WalkEnd.{WalkEnd}
-use Rattle.xl_radix.specs.Image.{leaf_in}
+use Rattle.xl_model.specs.Image.{leaf_in}
 use Rattle.xl_radix.specs.Steps.{Stands}
-use Rattle.xl_radix.specs.Walk.{place_of, end_at, reading, radix_back, walk_end, WordsReadBack}
+use Rattle.xl_radix.specs.Walk.{place_of, end_at, reading, radix_back, walk_end, LeavesSaid, WordsReadBack}
 use Rattle.xl_radix.proofs.NumberLemmas.{number-some, number-only}
 use Rattle.xl_radix.proofs.SlotLemmas.{Under, Says, says, stands-word, pointer-low, leaf-in-some, in-nodes-leaf}
+use Rattle.xl_radix.proofs.FilledLemmas.{words-image}
 use Rattle.xl_radix.proofs.FoundLemmas.{leaf-ends, leaf-said}
+use Rattle.xl_radix.specs.Table.{IsStore}
 use Rattle.xl_radix.proofs.EndLemmas.{IsTable, seen-low, found-at, found-none}
 
 -- Where a slot of a node that stands at a page is empty, the mapping's nodes end.
@@ -87,14 +89,20 @@ back-is : (top spaces s page l n : ℕ) (leaves : List Leaf) (nodes : List (Opti
 unfolding radix_back
 back-is top spaces s page l n leaves nodes words used t at = reads top spaces s page l n leaves nodes words used t at
 
+leaves-said : (top spaces : ℕ) (leaves : List Leaf) (nodes : List (Option Node)) (words used : List ℕ) → IsStore top spaces leaves nodes words used → LeavesSaid top leaves nodes
+leaves-said top spaces leaves nodes words used store = record {
+  ends = λ s page x e. leaf-ends top spaces s page x leaves store.high store.mapping e;
+  said = λ s page x e. leaf-said top spaces s page x leaves store.mapping e;
+  levels = (store.high, store.low);
+  small = store.rooted.small;
+}
+
 pub words-back : (top spaces : ℕ) (leaves : List Leaf) (nodes : List (Option Node)) (words used : List ℕ) → IsTable top spaces leaves nodes words used → WordsReadBack top spaces leaves nodes words
 words-back top spaces leaves nodes words used t = record {
   roots = λ s h. number-only s top 0 s nodes (t.store.rooted.root s h) (λ m g. t.store.image.apart s top 0 m s g (t.store.rooted.root s h));
   back = λ s page l n e. back-is top spaces s page l n leaves nodes words used t (stands-at s l page n nodes e);
   entered = λ s page l n next e f. entered s l (up l page) next leaves nodes _ f (place-says top spaces s page l n leaves nodes words used t (stands-at s l page n nodes e));
-  image = t.store.image.same;
-  levels = (t.store.high, t.store.low);
-  small = t.store.rooted.small;
-  ends = λ s page x e. leaf-ends top spaces s page x leaves t.store.high t.store.mapping e;
-  said = λ s page x e. leaf-said top spaces s page x leaves t.store.mapping e;
+  each = t.store.image.same;
+  filled = words-image top leaves nodes words t.store.image;
+  kept = leaves-said top spaces leaves nodes words used t.store;
 }

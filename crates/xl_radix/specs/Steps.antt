@@ -7,7 +7,7 @@ use Rattle.xl_model.specs.Mapping.{with_leaf, without_leaf, meets_any}
 use Rattle.xl_model.specs.Nodes.{up, Node, is_below, number_of, with_path, with_leaf_nodes, missing, free_count}
 use Rattle.xl_model.specs.Shapes.{Shape, Radix, brought, shape_after}
 use Rattle.xl_model.specs.Structures.{IsLeafFor}
-use Rattle.xl_radix.specs.Image.{leaf_in}
+use Rattle.xl_model.specs.Image.{leaf_in}
 use Rattle.xl_radix.specs.Table.{Table}
 
 -- The node of this number is the page's at this level.

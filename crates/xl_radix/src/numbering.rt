@@ -1,6 +1,7 @@
 //! The numbers of nodes.
 
 ghost use Rattle.std.specs.Prelude.{◌≡◌, ◌+◌, ◌<◌, ◌≤◌, ◌^◌, length, slice_set, slice_index_or, None, Some, position, is_none, is_some, replicate, IfOk, IfSome, IfNone};
+ghost use Rattle.std.specs.List.{list_any};
 ghost use Rattle.xl_model.specs.Nodes.{is_below, number_of, put_first, opening_nodes};
 
 use crate::node::Node;
@@ -25,6 +26,25 @@ impl Model for Numbers {
     ghost view = { λ n. n.nodes.items };
 
     ghost invariant = { λ n. n.pool ≡ map is_none n.nodes.items };
+}
+
+/// Whether a number's node has this name.
+fn has_name(node: &Option<Node>, space: u16, level: usize, prefix: u64) -> bool
+    ensures { result ≡ is_below space (level + 1) prefix node.now }
+{
+    match node {
+        Some(node) => node.has_name(space, level, prefix),
+        None => false,
+    }
+}
+
+/// Whether some number's node has this name.
+fn any_has_name(nodes: &[Option<Node>], space: u16, level: usize, prefix: u64) -> bool
+    ensures { result ≡ list_any (is_below space (level + 1) prefix) nodes.now }
+{
+    nodes
+        .iter()
+        .any(|node| has_name(node, space, level, prefix))
 }
 
 impl Numbers {
@@ -57,14 +77,7 @@ impl Numbers {
     pub fn has_node(&self, space: u16, level: usize, prefix: u64) -> bool
         ensures { result ≡ is_some (number_of space (level + 1) prefix self.now) }
     {
-        self.nodes.iter().any(|node: &Option<Node>|
-            ensures { result ≡ is_below space (level + 1) prefix node.now }
-        {
-            match node {
-                Some(node) => node.has_name(space, level, prefix),
-                None => false,
-            }
-        })
+        any_has_name(&self.nodes, space, level, prefix)
     }
 
     /// Whether a node has this number.
@@ -83,12 +96,9 @@ impl Numbers {
         requires frames { frames ≤ 16384 }
         ensures { IfOk result (λ n. n ≡ replicate frames None) }
     {
-        let Ok(mut nodes) = Vec::with_capacity(alloc, frames) else {
-            return Err(NoMemory);
-        };
+        let mut nodes = Vec::with_capacity(alloc, frames)?;
         'free: for _number in 0..frames {
-            let pushed = nodes.push(None);
-            if pushed.is_err() {
+            if nodes.push(None).is_err() {
                 return Err(NoMemory);
             }
         }

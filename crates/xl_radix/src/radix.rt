@@ -53,14 +53,11 @@ impl<const LEVELS: usize> Radix<LEVELS> {
         ensures spaces { IfOk result (λ r. r.spaces ≡ spaces) }
         ensures loads { IfOk result (λ r. r.loads ≡ 0) }
     {
-        match Store::open(alloc, table_frames as usize, spaces) {
-            Ok(store) => Ok(Radix {
-                store,
-                free: table_frames as usize - spaces as usize,
-                loads: 0,
-            }),
-            Err(_) => Err(NoMemory),
-        }
+        Ok(Radix {
+            store: Store::open(alloc, table_frames as usize, spaces)?,
+            free: table_frames as usize - spaces as usize,
+            loads: 0,
+        })
     }
 
     /// Whether a leaf of the space has a page of the block of this order at page `first`.

@@ -11,14 +11,14 @@ ghost use Rattle.xl_phys.specs.Lines.{IsLine, IsWord};
 ghost use Rattle.xl_radix.specs.ReadBack.{order_of as level_order, leaf_said};
 ghost use Rattle.xl_radix.specs.Walk.{WordsReadBack};
 ghost use Rattle.xl_radix.specs.Table.{IsExact, IsNearly, IsNew};
-ghost use Rattle.xl_radix.specs.Image.{leaf_in};
+ghost use Rattle.xl_model.specs.Image.{leaf_in};
 ghost use Rattle.xl_radix.specs.Steps.{IsEnd, Stands, IsReady, IsTaken, IsLess, IsMove};
 
 use crate::node::Node;
 use crate::numbering::Numbers;
-use std::alloc::{AllocError, Global};
+use std::alloc::Global;
 use std::marker::Model;
-use xl_model::{Leaf, Order, Perm};
+use xl_model::{Leaf, NoMemory, Order, Perm};
 use xl_phys::{line_of, word_of};
 use xl_pte::{Pte, decode, leaf_word, pointer};
 
@@ -98,7 +98,7 @@ pub fn index_of(page: u64, level: usize) -> usize
 
 impl<const LEVELS: usize> Store<LEVELS> {
     /// A table of roots alone, with `frames` node numbers.
-    pub fn open(alloc: Global, frames: usize, spaces: u16) -> Result<Store<LEVELS>, AllocError>
+    pub fn open(alloc: Global, frames: usize, spaces: u16) -> Result<Store<LEVELS>, NoMemory>
         requires levels { (3 ≤ LEVELS) × (LEVELS ≤ 5) }
         requires some { 0 < frames }
         requires spaces { spaces ≤ frames }
@@ -109,9 +109,7 @@ impl<const LEVELS: usize> Store<LEVELS> {
         ensures exact { IfOk result (λ s. IsExact LEVELS s.leaves s.nodes) }
         ensures free { IfOk result (λ s. free_count s.nodes + spaces ≡ frames) }
     {
-        let Ok(numbers) = Numbers::open(alloc, LEVELS, frames, spaces) else {
-            return Err(AllocError);
-        };
+        let numbers = Numbers::open(alloc, LEVELS, frames, spaces)?;
         let words = vec![in alloc; 0u64; frames * 512]?;
         let used = vec![in alloc; 0u16; frames]?;
         Ok(Store {

@@ -9,7 +9,7 @@ use Rattle.xl_model.specs.Caches.{Cached, Numbered}
 use Rattle.xl_model.specs.Walks.{start_level, end_level, node_caches_after, one_where}
 use Rattle.xl_model.specs.Walks.{walked, radix_walk_from}
 use Rattle.xl_model.specs.Caches.{NodeCaches}
-use Rattle.xl_model.specs.Placing.{plus}
+use Rattle.xl_model.specs.Base.{plus}
 use Rattle.xl_model.specs.Structures.{walk_answer, table_walked}
 use Rattle.xl_radix.specs.declared.walk_end.WalkEnd.{WalkEnd}
 use Rattle.xl_radix.specs.Table.{Table}

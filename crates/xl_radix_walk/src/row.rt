@@ -4,7 +4,8 @@ ghost use Rattle.std.specs.Prelude.{◌≡◌, suc, ◌+◌, ◌-◌, ◌*◌, �
 ghost use Rattle.xl_model.specs.Changes.{Remove, IsNamed};
 ghost use Rattle.xl_model.specs.Mapping.{leaf_at_page};
 ghost use Rattle.xl_model.specs.Nodes.{up, number_of};
-ghost use Rattle.xl_model.specs.Placing.{plus, no_moves};
+ghost use Rattle.xl_model.specs.Base.{plus};
+ghost use Rattle.xl_model.specs.Placing.{no_moves};
 ghost use Rattle.xl_model.specs.Walks.{end_level};
 ghost use Rattle.xl_model.specs.Structures.{IsPage, walk_answer, table_walked, table_answer, table_after, work_of, fence_answer, table_fenced};
 ghost use Rattle.xl_radix.specs.Walk.{walk_end};

@@ -49,9 +49,7 @@ impl<const W: usize> Sets<W> {
         requires { W ≤ 64 }
         ensures { IfOk result (λ sets. sets ≡ replicate count []) }
     {
-        let Ok(mut sets) = Vec::with_capacity(alloc, count as usize) else {
-            return Err(NoMemory);
-        };
+        let mut sets = Vec::with_capacity(alloc, count as usize)?;
         'opened: for _ in 0..count {
             if sets.push(Ways::open(alloc)?).is_err() {
                 return Err(NoMemory);

@@ -267,14 +267,12 @@ impl<const W: usize> Ways<W> {
                 more: 0,
             },
         };
-        match vec![in alloc; free; W] {
-            Ok(places) => Ok(Ways {
-                places,
-                len: 0,
-                last: next - 1,
-            }),
-            Err(_) => Err(NoMemory),
-        }
+        let places = vec![in alloc; free; W]?;
+        Ok(Ways {
+            places,
+            len: 0,
+            last: next - 1,
+        })
     }
 
     /// The last stamp that was given.

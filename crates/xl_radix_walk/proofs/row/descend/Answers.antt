@@ -1,5 +1,5 @@
 use Rattle.std.proofs.Common.{ℕ, suc, ◌≡◌, ◌+◌, ◌-◌, ◌≤◌, ap, sym, ◌∙◌, subst, arith}
-use Rattle.xl_model.specs.Placing.{plus}
+use Rattle.xl_model.specs.Base.{plus}
 use Rattle.xl_model.specs.Walks.{end_level}
 use Rattle.xl_radix.specs.Table.{Table}
 use Rattle.xl_radix.proofs.NumberLemmas.{number-some}

@@ -1,6 +1,6 @@
 use Rattle.std.proofs.Common.{◌≡◌, ◌≤◌, ◌-◌, None, slice_index, refl, sym, lit<, arith}
 use Rattle.xl_model.specs.Nodes.{up}
-use Rattle.xl_radix.specs.Image.{leaf_in}
+use Rattle.xl_model.specs.Image.{leaf_in}
 use Rattle.xl_radix.specs.Steps.{Stands}
 use Rattle.xl_radix.proofs.TakingLemmas.{named-needs, empty-without, unused, still-nearly, stays}
 use Rattle.xl_radix.proofs.store.Store.+take_leaf_below.Goals as goal

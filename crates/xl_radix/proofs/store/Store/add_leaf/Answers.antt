@@ -4,8 +4,8 @@ use Rattle.xl_radix.proofs.PlacedLeafLemmas.{nearly-start}
 use Rattle.xl_radix.proofs.StepLemmas.{end-ready}
 use Rattle.xl_radix.proofs.store.Store.add_leaf.Goals as goal
 
-pub path-node-requires : goal.path-node-requires
-path-node-requires g c =
+pub make_path-node-requires : goal.make_path-node-requires
+make_path-node-requires g c =
     let e = c.level.ensures in
     let end = c.requires.end in (
       lit< tt,
