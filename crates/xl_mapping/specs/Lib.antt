@@ -1,4 +1,5 @@
 pub mod Members
+pub mod Buckets
 pub mod Sections
 pub mod Lowest
 pub mod Mappings
