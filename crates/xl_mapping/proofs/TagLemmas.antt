@@ -5,17 +5,18 @@ use Rattle.std.specs.List.{list_any}
 use Rattle.std.proofs.lemmas.Bool.Decides.{nat_tests}
 use Rattle.std.proofs.lemmas.Bool.{eqb-true, eq-eqb, false_from_ne_true}
 use Rattle.xl_model.specs.declared.address.Order.{Order}
-use Rattle.xl_model.specs.declared.address.Order.TheVariants as order
 use Rattle.xl_model.specs.declared.perm.Perm.{Perm}
 use Rattle.xl_model.specs.declared.leaf.Leaf.{Leaf}
 use Rattle.xl_model.specs.Addresses.{pages_of}
 use Rattle.xl_model.specs.Mapping.{meets_block, is_leaf}
 use Rattle.xl_model.specs.Chains.{tag_of, bucket_of, leaf_tag, in_front_of_bucket, has_tag, with_tag, only_used_tags}
 use Rattle.xl_mapping.specs.Members.{In}
-use Rattle.xl_mapping.proofs.Members.{In-any, map-In, filter-In, filter-passes, In-filter}
-use Rattle.xl_plain.specs.Kept.{IsPlaced, IsKept, mapping_of, in_front, without_named, protected_where, with_perm_named}
-use Rattle.xl_plain.proofs.Keeps.{all-In, both, none-any, kept-same, mapping-In, In-mapping, kept-filter}
-use Rattle.xl_plain.proofs.Fronts.{IsNew, given, perm-named-is, kept-protected}
+use Rattle.xl_mapping.proofs.MemberLemmas.{In-any, map-In, filter-In, filter-passes, In-filter, all-In}
+use Rattle.xl_mapping.specs.Kept.{IsPlaced, IsKept, mapping_of, in_front, without_named, protected_where, with_perm_named}
+use Rattle.xl_mapping.proofs.SameLemmas.{both, none-any}
+use Rattle.xl_mapping.proofs.KeptLemmas.{kept-same, mapping-In, In-mapping, kept-filter}
+use Rattle.xl_mapping.proofs.FrontLemmas.{IsNew, given, perm-named-is, kept-protected}
+use Rattle.xl_model.specs.declared.address.Order.TheVariants as order
 
 -- leaves of one tag share a page
 pub record Shares (s t f g : ℕ) (o p : Order) : Type 0 where

@@ -1,5 +1,5 @@
 -- Leaves of TLB arrays: touched, filled, purged.
-use Rattle.std.proofs.Common.{◌≡◌, refl, sym, ◌∙◌, subst, ℕ, zero, suc, Bool, true, false, not, cond, List, [], ◌∷◌, Option, None, Some, ◌⊎◌, inl, inr, map, slice_set, slice_index_or, nat_lt}
+use Rattle.std.proofs.Common.{◌≡◌, refl, sym, ◌∙◌, subst, ℕ, zero, suc, Bool, true, false, cond, List, [], ◌∷◌, Option, None, Some, ◌⊎◌, inl, inr, map, slice_set, slice_index_or, nat_lt}
 use Rattle.std.specs.Prelude.{find, replicate}
 use Rattle.std.proofs.lemmas.Bool.{eq-eqb}
 use Rattle.xl_model.specs.declared.address.Order.{Order}
@@ -9,45 +9,17 @@ use Rattle.xl_model.specs.declared.row.Purge.{Purge}
 use Rattle.xl_model.specs.declared.row.Purge.TheVariants as purge
 use Rattle.xl_model.specs.declared.row.TlbSpec.{TlbSpec}
 use Rattle.xl_model.specs.Addresses.{same_order}
-use Rattle.xl_model.specs.Recency.{without_first, in_front, touched, with_newest, purged}
+use Rattle.xl_model.specs.Recency.{touched, with_newest, purged}
 use Rattle.xl_model.specs.Rows.{Row}
 use Rattle.xl_model.specs.Changes.{Change, old_leaf, changed}
 use Rattle.xl_model.specs.Tlb.{TlbArray, set_number, set_at, where_taken, takes_order, covers_as, found_as, first_found, array_hit, array_touched, filled_where, array_filled, Answer, answered_by, answer_of, touched_first, all_touched, filled_below, arrays_hit, arrays_filled, is_purged, array_without, arrays_without, opening_array, opening_arrays}
 use Rattle.xl_model.specs.RowRun.{arrays_after}
 use Rattle.xl_mapping.specs.Members.{In}
 use Rattle.xl_mapping.specs.Mappings.{IsMapping, IsSound}
-use Rattle.xl_mapping.proofs.Members.{find-In, take-In, filter-In, filter-passes}
-use Rattle.xl_mapping.proofs.Stays.{stays-changed}
-use Rattle.xl_laws.specs.Fresh.{InSets, Held, ArraysFresh}
-
--- recency lists
-without-first-In : {A : Type 0} (p : A → Bool) (x : A) (xs : List A) → In x (without_first p xs) → In x xs
-without-first-In p x [] i = i
-without-first-In {A} p x (y ∷ ys) i =
-    elim (p y) as (λ b. In x (cond b ys (y ∷ without_first p ys)) → In x (y ∷ ys)) [
-      | true ↦ λ j. inr j
-      | false ↦ λ j. elim j [ inl e ↦ inl e | inr k ↦ inr (without-first-In p x ys k) ]
-    ] i
-
-in-front-In : {A : Type 0} (p : A → Bool) (x : A) (o : Option A) (xs : List A) → find p xs ≡ o → In x (in_front o (without_first p xs)) → In x xs
-in-front-In p x None xs found i = without-first-In p x xs i
-in-front-In {A} p x (Some y) xs found (inl e) = let P : A → Type 0 = λ z. In z xs in subst P (sym e) (find-In p y xs found)
-in-front-In p x (Some y) xs found (inr i) = without-first-In p x xs i
-
-pub touched-In : {A : Type 0} (p : A → Bool) (x : A) (xs : List A) → In x (touched p xs) → In x xs
-touched-In p x xs i = in-front-In p x (find p xs) xs refl i
-
-pub newest-In : {A : Type 0} (width : ℕ) (x y : A) (xs : List A) → In x (with_newest width y xs) → (x ≡ y) ⊎ In x xs
-newest-In width x y xs i = take-In width x (y ∷ xs) i
-
-pub purged-In : {A : Type 0} (p : A → Bool) (x : A) (xs : List A) → In x (purged p xs) → In x xs × (p x ≡ false)
-purged-In {A} p x xs i =
-    let t : not (p x) ≡ true = filter-passes (λ (y : A). not (p y)) x xs i in
-    (filter-In (λ (y : A). not (p y)) x xs i, go (p x) refl t)
-  where
-    go : (b : Bool) → p x ≡ b → not (p x) ≡ true → p x ≡ false
-    go true e t = let k : false ≡ true = rw e at t in absurd (cc)
-    go false e t = e
+use Rattle.xl_mapping.proofs.MemberLemmas.{find-In}
+use Rattle.xl_mapping.proofs.RecencyLemmas.{touched-In, newest-In, purged-In}
+use Rattle.xl_mapping.proofs.ChangeLemmas.{stays-changed}
+use Rattle.xl_mapping.specs.Fresh.{InSets, Held, ArraysFresh}
 
 -- sets
 set-In : (leaf : Leaf) (sets : List (List Leaf)) (i : ℕ) (v : List Leaf) → InSets leaf (slice_set sets i v) → In leaf v ⊎ InSets leaf sets

@@ -23,9 +23,9 @@ use Rattle.xl_model.specs.Tlb.{Answer, answer_of}
 use Rattle.xl_model.specs.RowRun.{RowState, opening, looked_by, looked, looked_where, accessed, changed_where, fenced, served, after_rule, after_event}
 use Rattle.xl_model.specs.Items.{Item, run}
 use Rattle.xl_laws.specs.Cuckoo.{SlotsApart, AllApart, ShapeApart, KeysHaveTheirSlots}
-use Rattle.xl_laws.proofs.Cuckoo.{PlacingApart, insertion-apart, opening-apart, reworded-apart, without-apart, mapped-apart}
-use Rattle.xl_laws.proofs.Leaves.{filled-leaves, changed-table}
-use Rattle.xl_laws.proofs.Runs.{Keeps, run-keeps}
+use Rattle.xl_laws.proofs.WayLemmas.{PlacingApart, insertion-apart, opening-apart, reworded-apart, without-apart, mapped-apart}
+use Rattle.xl_laws.proofs.LeafLemmas.{filled-leaves, changed-table}
+use Rattle.xl_laws.proofs.RunLemmas.{Keeps, run-keeps}
 
 -- a fact of shapes that each change keeps, and each refused attempt
 pub record ShapeKeeps (P : Shape → Type 0) : Type 0 where

@@ -4,12 +4,10 @@ use Rattle.std.specs.Prelude.{find, is_some}
 use Rattle.std.specs.List.{list_any}
 use Rattle.std.proofs.lemmas.Bool.Decides.{nat_tests}
 use Rattle.xl_model.specs.declared.address.Order.{Order}
-use Rattle.xl_model.specs.declared.address.Order.TheVariants as order
 use Rattle.xl_model.specs.Addresses.{pages_of}
 use Rattle.xl_model.specs.declared.perm.Perm.{Perm}
 use Rattle.xl_model.specs.declared.leaf.Leaf.{Leaf}
 use Rattle.xl_model.specs.declared.event.Reach.{Reach}
-use Rattle.xl_model.specs.declared.work.NoRoom.TheVariants as why
 use Rattle.xl_model.specs.declared.work.Refused.{Refused}
 use Rattle.xl_model.specs.declared.work.Walk.{Walk}
 use Rattle.xl_model.specs.declared.work.Work.{Work}
@@ -23,14 +21,16 @@ use Rattle.xl_model.specs.Caches.{NoCaches, caches_purged, caches_fenced}
 use Rattle.xl_model.specs.Walks.{chains_reads, orders_tried, walked}
 use Rattle.xl_model.specs.Structures.{TableState, IsBlock, fence_answer, table_fenced, walk_answer, table_walked, Made, moves_made, finds_place, answer_by, after_by, verdict_by, verdict, table_made, table_answer, table_after}
 use Rattle.xl_mapping.specs.Members.{In}
-use Rattle.xl_mapping.proofs.Members.{find-only, any-false}
-use Rattle.xl_mapping.proofs.Kept.{named-In, named-is}
-use Rattle.xl_mapping.proofs.Places.{covers-meets, named-space, named-order}
-use Rattle.xl_plain.specs.Kept.{IsPlaced, IsKept, mapping_of, in_front, without_named, with_perm_named, table_of}
-use Rattle.xl_plain.proofs.Same.{any-same, find-same}
-use Rattle.xl_plain.proofs.Keeps.{both, kept-filter, kept-same, mapping-sorted, mapping-In, In-mapping}
-use Rattle.xl_plain.proofs.Fronts.{IsNew, stays-front, kept-front, mapping-front, mapping-without, mapping-protected, named-same, new-key, with-without}
-use Rattle.xl_plain.proofs.Tags.{with-tag, length-front, length-tags, all-used, used-without, used-protected}
+use Rattle.xl_mapping.proofs.MemberLemmas.{find-only, any-false}
+use Rattle.xl_mapping.proofs.MappingLemmas.{named-In, named-is}
+use Rattle.xl_mapping.proofs.PlaceLemmas.{covers-meets, named-space, named-order}
+use Rattle.xl_mapping.specs.Kept.{IsPlaced, IsKept, mapping_of, in_front, without_named, with_perm_named, table_of}
+use Rattle.xl_mapping.proofs.SameLemmas.{any-same, find-same, both}
+use Rattle.xl_mapping.proofs.KeptLemmas.{kept-filter, kept-same, mapping-sorted, mapping-In, In-mapping}
+use Rattle.xl_mapping.proofs.FrontLemmas.{IsNew, stays-front, kept-front, mapping-front, mapping-without, mapping-protected, named-same, new-key, with-without}
+use Rattle.xl_mapping.proofs.TagLemmas.{with-tag, length-front, length-tags, all-used, used-without, used-protected}
+use Rattle.xl_model.specs.declared.address.Order.TheVariants as order
+use Rattle.xl_model.specs.declared.work.NoRoom.TheVariants as why
 
 -- the reading calls
 pub meets-mapping : (s f : ℕ) (o : Order) (xs : List Leaf) → IsKept xs → list_any (meets_block s f o) xs ≡ meets_any s f o (mapping_of xs)

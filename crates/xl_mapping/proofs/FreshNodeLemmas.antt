@@ -1,26 +1,27 @@
 -- Node tags: every node that the mapping needs has a number, and a cached tag has that of its node.
-use Rattle.std.proofs.Common.{◌≡◌, refl, sym, ap, ◌∙◌, subst, ℕ, suc, ◌+◌, ◌-◌, ◌*◌, ◌<◌, ◌≤◌, Bool, true, false, not, cond, List, [], ◌∷◌, length, Option, None, Some, ◌⊎◌, inl, inr, slice_index_or, nat_lt, nat_le, ◌==◌, ◌&&◌, ◌||◌, arith}
+use Rattle.std.proofs.Common.{◌≡◌, refl, sym, ap, ◌∙◌, subst, ℕ, suc, ◌+◌, ◌-◌, ◌<◌, ◌≤◌, Bool, true, false, not, cond, List, [], ◌∷◌, length, Option, None, Some, ◌⊎◌, inl, inr, slice_index_or, nat_lt, nat_le, ◌==◌, ◌&&◌, ◌||◌, arith}
 use Rattle.std.specs.List.{list_any, position_from}
 use Rattle.std.proofs.lemmas.Bool.Decides.{nat_tests}
 use Rattle.std.specs.Cmp.{second_so}
 use Rattle.std.proofs.lemmas.Bool.{not-false}
 use Rattle.xl_model.specs.declared.address.Order.{Order}
 use Rattle.xl_model.specs.declared.leaf.Leaf.{Leaf}
-use Rattle.xl_model.specs.Addresses.{level_of, pages_of}
-use Rattle.xl_model.specs.Mapping.{covers, leaf_named}
+use Rattle.xl_model.specs.Addresses.{level_of}
+use Rattle.xl_model.specs.Mapping.{leaf_named}
 use Rattle.xl_model.specs.Changes.{Change, Insert, Remove, Protect, Relocate, new_leaf, changed, with_perm}
 use Rattle.xl_model.specs.Nodes.{up, Node, node_at, is_below, is_under, in_nodes, number_of, free_count, with_path, with_leaf_nodes, leaf_nodes_missing, is_needed, only_needed}
 use Rattle.xl_model.specs.Shapes.{brought}
 use Rattle.xl_model.specs.Caches.{Cached, Numbered, without_items, all_without}
 use Rattle.xl_model.specs.Walks.{is_tag, number_or_0, numbered, node_cache_after, node_caches_after, with_touch, with_fill}
 use Rattle.xl_mapping.specs.Members.{In}
-use Rattle.xl_mapping.proofs.Members.{any-In, In-any}
-use Rattle.xl_mapping.proofs.Kept.{named-In}
-use Rattle.xl_mapping.proofs.Ends.{covered-under}
-use Rattle.xl_mapping.proofs.Stays.{changed-In}
-use Rattle.xl_laws.specs.Fresh.{TagFresh, TagsFresh}
-use Rattle.xl_laws.proofs.FreshArrays.{touched-In, newest-In, purged-In}
-use Rattle.xl_laws.proofs.Numbers.{position-none, position-at, path-at, path-has, path-puts, kept-at, kept-has}
+use Rattle.xl_mapping.proofs.MemberLemmas.{any-In, In-any}
+use Rattle.xl_mapping.proofs.MappingLemmas.{named-In}
+use Rattle.xl_mapping.proofs.EndLemmas.{covered-under}
+use Rattle.xl_mapping.proofs.ChangeLemmas.{changed-In}
+use Rattle.xl_mapping.specs.Mappings.{IsFound}
+use Rattle.xl_mapping.specs.Fresh.{TagFresh, LevelFresh, TagsFresh}
+use Rattle.xl_mapping.proofs.RecencyLemmas.{touched-In, newest-In, purged-In}
+use Rattle.xl_mapping.proofs.NumberLemmas.{position-none, position-at, path-at, path-has, path-puts, kept-at, kept-has}
 
 -- every node below the root that the mapping needs is there
 pub record NodesFull (levels : ℕ) (leaves : List Leaf) (nodes : List (Option Node)) : Type 0 where
@@ -109,44 +110,45 @@ full-after levels c leaves nodes f room = record {
       need;
 }
 
--- lists of caches
-cache-of : (p : Numbered → Bool) (c : Cached Numbered) (cs : List (Cached Numbered)) → In c (all_without p cs) → (d : Cached Numbered) × In d cs × (c ≡ without_items p d)
-cache-of p c [] i = absurd i
-cache-of p c (d ∷ ds) (inl e) = (d, inl refl, e)
-cache-of p c (d ∷ ds) (inr i) = let found = cache-of p c ds i in (found.0, inr found.1, found.2)
+-- the caches without the tags that pass a test
+level-without : (p : Numbered → Bool) (levels level : ℕ) (leaves : List Leaf) (nodes : List (Option Node)) (c : Cached Numbered)
+    → LevelFresh levels level leaves nodes c → LevelFresh levels level leaves nodes (without_items p c)
+level-without p levels level leaves nodes c fresh e i = fresh e (purged-In p e c.items i).0
 
-pub without-tags : (p : Numbered → Bool) (cs : List (Cached Numbered)) (c : Cached Numbered) (e : Numbered) → In c (all_without p cs) → In e c.items
-    → (d : Cached Numbered) × In d cs × In e d.items × (p e ≡ false)
-without-tags p cs c e i j =
-    let found = cache-of p c cs i in
-    let P : Cached Numbered → Type 0 = λ x. In e x.items in
-    let k = purged-In p e found.0.items (subst P found.2 j) in
-    (found.0, found.1, k.0, k.1)
-
-pub tags-fenced : (p : Numbered → Bool) (levels : ℕ) (leaves : List Leaf) (nodes : List (Option Node)) (cs : List (Cached Numbered))
-    → TagsFresh levels leaves nodes cs → TagsFresh levels leaves nodes (all_without p cs)
-tags-fenced p levels leaves nodes cs fresh c e i j = let k = without-tags p cs c e i j in fresh k.0 e k.1 k.2
+pub tags-fenced : (p : Numbered → Bool) (levels level : ℕ) (leaves : List Leaf) (nodes : List (Option Node)) (cs : List (Cached Numbered))
+    → TagsFresh levels level leaves nodes cs → TagsFresh levels level leaves nodes (all_without p cs)
+tags-fenced p levels level leaves nodes [] fresh = tt
+tags-fenced p levels level leaves nodes (c ∷ cs) (here, rest) =
+    (level-without p levels level leaves nodes c here, tags-fenced p levels (level + 1) leaves nodes cs rest)
 
 -- after a change: the tags that stay are those of needed nodes, and these keep their numbers
-pub tags-after : (levels : ℕ) (c : Change) (leaves : List Leaf) (nodes : List (Option Node)) (cs : List (Cached Numbered)) → TagsFresh levels leaves nodes cs
-    → TagsFresh levels (changed c leaves) (only_needed levels (changed c leaves) (wide levels (brought c leaves) nodes))
-    (all_without (λ e. not (is_needed levels (changed c leaves) e.node)) cs)
+tag-after : (levels level : ℕ) (c : Change) (leaves : List Leaf) (nodes : List (Option Node)) (e : Numbered) → TagFresh levels level leaves nodes e
+    → is_needed levels (changed c leaves) e.node ≡ true
+    → TagFresh levels level (changed c leaves) (only_needed levels (changed c leaves) (wide levels (brought c leaves) nodes)) e
 unfolding only_needed
-tags-after levels c leaves nodes cs fresh d e i j =
-    let k = without-tags (λ (x : Numbered). not (is_needed levels (changed c leaves) x.node)) cs d e i j in
-    let old : TagFresh levels leaves nodes e = fresh k.0 e k.1 k.2 in
-    let need : is_needed levels (changed c leaves) e.node ≡ true = not-false _ k.3 in
-    record {
-      needed = need;
-      there = kept-at levels (changed c leaves) e.node (wide levels (brought c leaves) nodes) e.number (wide-at levels (brought c leaves) e.node nodes e.number old.there) need;
-    }
+tag-after levels level c leaves nodes e old need = record {
+  of_level = old.of_level;
+  needed = need;
+  there = kept-at levels (changed c leaves) e.node (wide levels (brought c leaves) nodes) e.number (wide-at levels (brought c leaves) e.node nodes e.number old.there) need;
+}
+
+pub tags-after : (levels level : ℕ) (c : Change) (leaves : List Leaf) (nodes : List (Option Node)) (cs : List (Cached Numbered)) → TagsFresh levels level leaves nodes cs
+    → TagsFresh levels level (changed c leaves) (only_needed levels (changed c leaves) (wide levels (brought c leaves) nodes))
+    (all_without (λ e. not (is_needed levels (changed c leaves) e.node)) cs)
+tags-after levels level c leaves nodes [] fresh = tt
+tags-after levels level c leaves nodes (d ∷ ds) (here, rest) = (
+  λ e i.
+      let k = purged-In (λ (x : Numbered). not (is_needed levels (changed c leaves) x.node)) e d.items i in
+      tag-after levels level c leaves nodes e (here e k.0) (not-false _ k.1),
+  tags-after levels (level + 1) c leaves nodes ds rest,
+)
 
 node-by : (y : Node) (s l p : ℕ) → y.space ≡ s → y.level ≡ l → y.prefix ≡ p → y ≡ record { space = s; level = l; prefix = p }
 node-by y s l p a b c = rw (← a, ← b, ← c) refl
 
 -- what a walk fills in
 numbered-fresh : (levels level space page : ℕ) (leaves : List Leaf) (nodes : List (Option Node)) → NodesFull levels leaves nodes → suc level < levels
-    → in_nodes space (suc level) (up (suc level) page) leaves ≡ true → TagFresh levels leaves nodes (numbered level space page nodes)
+    → in_nodes space (suc level) (up (suc level) page) leaves ≡ true → TagFresh levels level leaves nodes (numbered level space page nodes)
 unfolding number_of
 numbered-fresh levels level space page leaves nodes f below need =
     go (position_from (is_below space (suc level) (up (suc level) page)) 0 nodes) refl
@@ -170,20 +172,14 @@ numbered-fresh levels level space page leaves nodes f below need =
         ap Some (node-by y space level (up (suc level) page) a b c)
 
     go : (o : Option ℕ) → position_from (is_below space (suc level) (up (suc level) page)) 0 nodes ≡ o
-        → TagFresh levels leaves nodes (record { node = node_at space level page; number = number_or_0 o })
+        → TagFresh levels level leaves nodes (record { node = node_at space level page; number = number_or_0 o })
     go None is = let no : list_any (is_below space (suc level) (up (suc level) page)) nodes ≡ false = position-none (is_below space (suc level) (up (suc level) page)) 0 nodes is in
         let k : false ≡ true = sym no ∙ here in absurd (cc)
     go (Some n) is =
         let found = position-at (is_below space (suc level) (up (suc level) page)) 0 n nodes is in
         let e : n ≡ found.0 = let z : n ≡ 0 + found.0 = found.1 in omega arith in
         let P : ℕ → Type 0 = λ k. slice_index_or nodes k None ≡ Some (node_at space level page) in
-        record { needed = needs 0; there = subst P (sym e) (node-is (slice_index_or nodes found.0 None) found.2) }
-
--- the leaf that a walk found covers its page and stands at a multiple of its size
-pub record IsFound (space page : ℕ) (leaves : List Leaf) (leaf : Leaf) : Type 0 where
-  pub member : In leaf leaves
-  pub covers_page : covers space page leaf ≡ true
-  pub aligned : (e : ℕ) × (leaf.first ≡ e * pages_of leaf.order)
+        record { of_level = refl; needed = needs 0; there = subst P (sym e) (node-is (slice_index_or nodes found.0 None) found.2) }
 
 filled-tag : (level start : ℕ) (leaf : Leaf) (space page : ℕ) (nodes : List (Option Node)) (c : Cached Numbered) (e : Numbered)
     → In e (cond (level == start) (with_touch (is_tag space (up (suc level) page)) c)
@@ -200,9 +196,10 @@ filled-tag level start leaf space page nodes c e i =
     go : (b : Bool) → (nat_lt level start && nat_le (level_of leaf.order) level) ≡ b
         → In e (cond b (with_fill (numbered level space page nodes) c) c).items → In e c.items ⊎ ((level_of leaf.order ≤ level) × (e ≡ numbered level space page nodes))
     go true t j =
-        let low : nat_le (level_of leaf.order) level ≡ true = second_so _ _ t in
+        let test : nat_le (level_of leaf.order) level ≡ true = second_so (nat_lt level start) (nat_le (level_of leaf.order) level) t in
+        let low : level_of leaf.order ≤ level = grind (arith, nat_tests) in
         elim (newest-In c.width e (numbered level space page nodes) c.items j) [
-          | inl same ↦ inr (grind (arith, nat_tests), same)
+          | inl same ↦ inr (low, same)
           | inr k ↦ inl k
         ]
     go false t j = inl j
@@ -217,8 +214,7 @@ touched-tag level start space page c e i =
 
 tag-walked : (levels level start : ℕ) (found : Option Leaf) (space page : ℕ) (leaves : List Leaf) (nodes : List (Option Node)) (c : Cached Numbered)
     → NodesFull levels leaves nodes → ((leaf : Leaf) → found ≡ Some leaf → IsFound space page leaves leaf) → suc level < levels
-    → ((e : Numbered) → In e c.items → TagFresh levels leaves nodes e)
-    → (e : Numbered) → In e (node_cache_after level start found space page nodes c).items → TagFresh levels leaves nodes e
+    → LevelFresh levels level leaves nodes c → LevelFresh levels level leaves nodes (node_cache_after level start found space page nodes c)
 unfolding in_nodes
 tag-walked levels level start None space page leaves nodes c f is below fresh e i = fresh e (touched-tag level start space page c e i)
 tag-walked levels level start (Some leaf) space page leaves nodes c f is below fresh e i =
@@ -228,19 +224,18 @@ tag-walked levels level start (Some leaf) space page leaves nodes c f is below f
           let it : IsFound space page leaves leaf = is leaf refl in
           let under : is_under space (suc level) (up (suc level) page) leaf ≡ true = covered-under space page level leaf it.aligned.0 it.covers_page it.aligned.1 new.0 in
           let need : list_any (is_under space (suc level) (up (suc level) page)) leaves ≡ true = In-any (is_under space (suc level) (up (suc level) page)) leaf leaves it.member under in
-          let P : Numbered → Type 0 = λ x. TagFresh levels leaves nodes x in
+          let P : Numbered → Type 0 = λ x. TagFresh levels level leaves nodes x in
           subst P (sym new.1) (numbered-fresh levels level space page leaves nodes f below need)
     ]
 
 pub tags-walked : (levels level start : ℕ) (found : Option Leaf) (space page : ℕ) (leaves : List Leaf) (nodes : List (Option Node)) (cs : List (Cached Numbered))
     → NodesFull levels leaves nodes → ((leaf : Leaf) → found ≡ Some leaf → IsFound space page leaves leaf) → length cs + level < levels
-    → TagsFresh levels leaves nodes cs → TagsFresh levels leaves nodes (node_caches_after level start found space page nodes cs)
-tags-walked levels level start found space page leaves nodes [] f is few fresh c e i j = absurd i
-tags-walked levels level start found space page leaves nodes (d ∷ ds) f is few fresh c e (inl same) j =
-    let P : Cached Numbered → Type 0 = λ x. In e x.items in
-    tag-walked levels level start found space page leaves nodes d f is (omega arith) (λ x k. fresh d x (inl refl) k) e (subst P same j)
-tags-walked levels level start found space page leaves nodes (d ∷ ds) f is few fresh c e (inr i) j =
-    tags-walked levels (level + 1) start found space page leaves nodes ds f is (omega arith) (λ x y k l. fresh x y (inr k) l) c e i j
+    → TagsFresh levels level leaves nodes cs → TagsFresh levels level leaves nodes (node_caches_after level start found space page nodes cs)
+tags-walked levels level start found space page leaves nodes [] f is few fresh = tt
+tags-walked levels level start found space page leaves nodes (d ∷ ds) f is few (here, rest) = (
+  tag-walked levels level start found space page leaves nodes d f is (omega arith) here,
+  tags-walked levels (level + 1) start found space page leaves nodes ds f is (omega arith) rest,
+)
 
 pub same-length : (levels level start : ℕ) (found : Option Leaf) (space page : ℕ) (nodes : List (Option Node)) (cs : List (Cached Numbered))
     → length (node_caches_after level start found space page nodes cs) ≡ length cs

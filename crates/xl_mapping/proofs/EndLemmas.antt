@@ -12,8 +12,8 @@ use Rattle.xl_model.specs.Rows.{Row}
 use Rattle.xl_model.specs.Walks.{end_level}
 use Rattle.xl_mapping.specs.Members.{In}
 use Rattle.xl_mapping.specs.Mappings.{IsMapping}
-use Rattle.xl_mapping.proofs.Members.{any-In, In-any}
-use Rattle.xl_mapping.proofs.Places.{first-covered}
+use Rattle.xl_mapping.proofs.MemberLemmas.{any-In, In-any}
+use Rattle.xl_mapping.proofs.PlaceLemmas.{first-covered}
 
 -- a leaf that covers a page stands under each slot of the page above its level
 up-one : (e first page : ℕ) → first ≡ e * 512 → first ≤ page → page < first + 512 → page / 512 ≡ first / 512

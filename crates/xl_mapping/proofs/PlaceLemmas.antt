@@ -6,9 +6,9 @@ use Rattle.xl_model.specs.declared.address.Mode.TheVariants as mode
 use Rattle.xl_model.specs.declared.address.Order.{Order}
 use Rattle.xl_model.specs.declared.address.Order.TheVariants as order
 use Rattle.xl_model.specs.declared.leaf.Leaf.{Leaf}
-use Rattle.xl_model.specs.Addresses.{levels_of, level_of, pages_of, page_of, is_aligned}
+use Rattle.xl_model.specs.Addresses.{levels_of, pages_of, page_of, is_aligned}
 use Rattle.xl_model.specs.Mapping.{covers, meets_block, holds_frames, is_leaf, leaf_key}
-use Rattle.xl_mapping.proofs.Orders.{pages-some}
+use Rattle.xl_mapping.proofs.OrderLemmas.{pages-some, same-level}
 
 -- a leaf covers its first page
 pub first-covered : (x : Leaf) → covers x.space x.first x ≡ true
@@ -72,17 +72,6 @@ named-space space first o x h = grind (arith, nat_tests)
 
 pub named-first : (space first : ℕ) (o : Order) (x : Leaf) → is_leaf space first o x ≡ true → x.first ≡ first
 named-first space first o x h = grind (arith, nat_tests)
-
-same-level : (a b : Order) → level_of a ≡ level_of b → a ≡ b
-same-level order.K4 order.K4 h = refl
-same-level order.K4 order.M2 h = absurd (omega arith)
-same-level order.K4 order.G1 h = absurd (omega arith)
-same-level order.M2 order.K4 h = absurd (omega arith)
-same-level order.M2 order.M2 h = refl
-same-level order.M2 order.G1 h = absurd (omega arith)
-same-level order.G1 order.K4 h = absurd (omega arith)
-same-level order.G1 order.M2 h = absurd (omega arith)
-same-level order.G1 order.G1 h = refl
 
 pub named-order : (space first : ℕ) (o : Order) (x : Leaf) → is_leaf space first o x ≡ true → x.order ≡ o
 named-order space first o x h = same-level x.order o (grind (arith, nat_tests))

@@ -16,10 +16,10 @@ use Rattle.xl_model.specs.Structures.{TableState, Verdict, Made, NoSpace, NoPlac
 use Rattle.xl_model.specs.Tlb.{Answer, answer_of}
 use Rattle.xl_model.specs.RowRun.{RowState, opening, walk_filled, looked_by, looked, looked_where, reply_to, accessed, changed_by, changed_where, fenced, served, after_rule, after_event, outcome_of}
 use Rattle.xl_mapping.specs.Mappings.{IsMapping}
-use Rattle.xl_mapping.proofs.Ruled.{kept-changed}
-use Rattle.xl_mapping.proofs.Lowest.{lowest-is-lowest}
+use Rattle.xl_mapping.proofs.RuleLemmas.{kept-changed}
+use Rattle.xl_mapping.proofs.LowestLemmas.{lowest-is-lowest}
 use Rattle.xl_laws.specs.Runs.{TheLeavesAreAMapping, AReplyIsByTheMapping, TheLowestIsTheLeast}
-use Rattle.xl_laws.proofs.Runs.{Keeps, run-keeps}
+use Rattle.xl_laws.proofs.RunLemmas.{Keeps, run-keeps}
 
 pub filled-leaves : (found : Option Leaf) (s : RowState) → (walk_filled found s).table ≡ s.table
 filled-leaves None s = refl

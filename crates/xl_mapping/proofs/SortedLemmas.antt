@@ -3,7 +3,7 @@ use Rattle.std.proofs.Common.{◌≡◌, refl, sym, ap, List, [], ◌∷◌, inl
 use Rattle.xl_model.specs.declared.leaf.Leaf.{Leaf}
 use Rattle.xl_model.specs.Mapping.{leaf_key}
 use Rattle.xl_mapping.specs.Members.{In, AllAbove, IsSorted}
-use Rattle.xl_mapping.proofs.Insertion.{above-In}
+use Rattle.xl_mapping.proofs.InsertionLemmas.{above-In}
 
 heads : (x y : Leaf) (xs ys : List Leaf) → AllAbove (leaf_key x) xs → AllAbove (leaf_key y) ys → In x (y ∷ ys) → In y (x ∷ xs) → x ≡ y
 heads x y xs ys above_x above_y (inl e) j = e

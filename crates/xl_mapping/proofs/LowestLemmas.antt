@@ -11,7 +11,7 @@ use Rattle.xl_model.specs.Mapping.{holds_frames}
 use Rattle.xl_model.specs.Frames.{is_free_block, behind, lesser, least, lowest}
 use Rattle.xl_mapping.specs.Members.{In}
 use Rattle.xl_mapping.specs.Lowest.{IsFree, IsAnswer}
-use Rattle.xl_mapping.proofs.Members.{any-false, any-In, filter-In, filter-passes, In-filter, In-map, map-In}
+use Rattle.xl_mapping.proofs.MemberLemmas.{any-false, any-In, filter-In, filter-passes, In-filter, In-map, map-In}
 
 -- the least of a list is a member, and no member is less
 IsLeast : Option ℕ → List ℕ → Type 0

@@ -8,12 +8,13 @@ use Rattle.xl_model.specs.declared.leaf.Leaf.{Leaf}
 use Rattle.xl_model.specs.Mapping.{meets_block, is_leaf, leaf_key, with_leaf, without_leaf}
 use Rattle.xl_model.specs.Chains.{bucket_of, leaf_tag}
 use Rattle.xl_mapping.specs.Members.{In, IsSorted}
-use Rattle.xl_mapping.proofs.Members.{any-false, filter-In, filter-passes, In-filter, map-In, In-map}
-use Rattle.xl_mapping.proofs.Insertion.{with-In, In-with, stays-with, sorted-with, sorted-without, without-In, without-other, In-without, same-place}
-use Rattle.xl_mapping.proofs.Places.{named-key}
-use Rattle.xl_plain.specs.Kept.{IsPlaced, IsApart, IsKept, mapping_of, in_front, without_named, protected_where, with_perm_named}
-use Rattle.xl_mapping.proofs.Sorted.{same-sorted}
-use Rattle.xl_plain.proofs.Keeps.{In-all, all-In, none-any, both, meets-sym, key-apart, mapping-sorted, mapping-In, In-mapping, kept-filter}
+use Rattle.xl_mapping.proofs.MemberLemmas.{any-false, filter-In, filter-passes, In-filter, map-In, In-map, In-all, all-In}
+use Rattle.xl_mapping.proofs.InsertionLemmas.{with-In, In-with, stays-with, sorted-with, sorted-without, without-In, without-other, In-without, same-place}
+use Rattle.xl_mapping.proofs.PlaceLemmas.{named-key}
+use Rattle.xl_mapping.specs.Kept.{IsPlaced, IsApart, IsKept, mapping_of, in_front, without_named, protected_where, with_perm_named}
+use Rattle.xl_mapping.proofs.SortedLemmas.{same-sorted}
+use Rattle.xl_mapping.proofs.SameLemmas.{none-any, both}
+use Rattle.xl_mapping.proofs.KeptLemmas.{meets-sym, key-apart, mapping-sorted, mapping-In, In-mapping, kept-filter}
 
 -- a new leaf
 pub front-In : (b : ℕ) (z x : Leaf) (xs : List Leaf) → In z (in_front b x xs) → (z ≡ x) ⊎ In z xs

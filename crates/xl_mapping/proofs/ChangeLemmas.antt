@@ -13,11 +13,11 @@ use Rattle.xl_model.specs.Rows.{Row}
 use Rattle.xl_model.specs.Changes.{Change, Insert, Remove, Protect, Relocate, old_leaf, new_leaf, changed, with_new, without_old, with_perm, at_page}
 use Rattle.xl_mapping.specs.Members.{In}
 use Rattle.xl_mapping.specs.Mappings.{IsLeafOf, IsMapping, IsNewPlace, IsSound}
-use Rattle.xl_mapping.proofs.Members.{any-false}
-use Rattle.xl_mapping.proofs.Insertion.{with-In, stays-with, without-In, In-without, same-place}
-use Rattle.xl_mapping.proofs.Kept.{named-In, named-is}
-use Rattle.xl_mapping.proofs.Places.{named-space}
-use Rattle.xl_mapping.proofs.Orders.{pages-some}
+use Rattle.xl_mapping.proofs.MemberLemmas.{any-false}
+use Rattle.xl_mapping.proofs.InsertionLemmas.{with-In, stays-with, without-In, In-without, same-place}
+use Rattle.xl_mapping.proofs.MappingLemmas.{named-In, named-is}
+use Rattle.xl_mapping.proofs.PlaceLemmas.{named-space}
+use Rattle.xl_mapping.proofs.OrderLemmas.{pages-some}
 
 -- pages of a valid leaf are below 2^52
 pub first-small : (row : Row) (x : Leaf) → IsLeafOf row x → x.first < 2 ^ 52

@@ -1,7 +1,7 @@
--- Members found by tests: `find`, `list_any`, `filter`, `map` and `take` against membership.
-use Rattle.std.proofs.Common.{◌≡◌, refl, sym, ap, subst, ℕ, zero, suc, Bool, true, false, cond, List, [], ◌∷◌, take, None, Some, map, inl, inr, ◌||◌}
+-- Members found by tests: `find`, `list_any`, `filter`, `map`, `take` and `All` against membership.
+use Rattle.std.proofs.Common.{◌≡◌, refl, sym, ap, subst, ℕ, zero, suc, ◌<◌, Bool, true, false, cond, List, [], ◌∷◌, ◌++◌, length, get_or, take, None, Some, map, ◌⊎◌, inl, inr, ◌||◌, arith}
 use Rattle.std.specs.Prelude.{find, filter}
-use Rattle.std.specs.List.{list_any}
+use Rattle.std.specs.List.{list_any, All}
 use Rattle.xl_mapping.specs.Members.{In}
 
 -- what is found is a member and passes
@@ -129,3 +129,35 @@ take-In zero x xs i = absurd i
 take-In (suc n) x [] i = absurd i
 take-In (suc n) x (y ∷ ys) (inl e) = inl e
 take-In (suc n) x (y ∷ ys) (inr i) = inr (take-In n x ys i)
+
+-- appended lists
+pub In-left : {A : Type 0} (x : A) (xs ys : List A) → In x xs → In x (xs ++ ys)
+In-left x [] ys i = absurd i
+In-left x (y ∷ xs) ys (inl e) = inl e
+In-left x (y ∷ xs) ys (inr i) = inr (In-left x xs ys i)
+
+pub In-right : {A : Type 0} (x : A) (xs ys : List A) → In x ys → In x (xs ++ ys)
+In-right x [] ys i = i
+In-right x (y ∷ xs) ys i = inr (In-right x xs ys i)
+
+pub In-append : {A : Type 0} (x : A) (xs ys : List A) → In x (xs ++ ys) → In x xs ⊎ In x ys
+In-append x [] ys i = inr i
+In-append x (y ∷ xs) ys (inl e) = inl (inl e)
+In-append x (y ∷ xs) ys (inr i) = elim (In-append x xs ys i) [ inl j ↦ inl (inr j) | inr j ↦ inr j ]
+
+-- std's word for every member
+get-In : {A : Type 0} (xs : List A) (k : ℕ) (d : A) → k < length xs → In (get_or xs k d) xs
+get-In [] k d h = absurd (omega arith)
+get-In (x ∷ xs) zero d h = inl refl
+get-In (x ∷ xs) (suc k) d h = inr (get-In xs k d (omega arith))
+
+pub In-all : {A : Type 0} (P : A → Type 0) (xs : List A) → ((x : A) → In x xs → P x) → All P xs
+In-all P xs f = λ k d h. f (get_or xs k d) (get-In xs k d h)
+
+pub all-tail : {A : Type 0} (P : A → Type 0) (x : A) (xs : List A) → All P (x ∷ xs) → All P xs
+all-tail P x xs h = λ k d l. h (suc k) d (omega arith)
+
+pub all-In : {A : Type 0} (P : A → Type 0) (x : A) (xs : List A) → All P xs → In x xs → P x
+all-In P x [] h i = absurd i
+all-In P x (y ∷ ys) h (inl e) = subst P (sym e) (h zero y (omega arith))
+all-In P x (y ∷ ys) h (inr i) = all-In P x ys (all-tail P y ys h) i

@@ -1,45 +1,49 @@
 -- Nothing is stale: what every event keeps of arrays and caches.
-use Rattle.std.proofs.Common.{◌≡◌, refl, sym, ap, subst, ℕ, zero, suc, ◌+◌, ◌-◌, ◌*◌, ◌<◌, ◌≤◌, Bool, true, false, List, [], ◌∷◌, length, Option, None, Some, inl, inr, arith}
+use Rattle.std.proofs.Common.{◌≡◌, refl, sym, ap, subst, ℕ, zero, suc, ◌+◌, ◌-◌, ◌*◌, ◌<◌, ◌≤◌, Bool, true, false, not, List, [], ◌∷◌, length, Option, None, Some, arith}
 use Rattle.std.specs.Prelude.{find}
 use Rattle.std.proofs.lemmas.Bool.Decides.{nat_tests}
 use Rattle.xl_model.specs.declared.address.Kind.{Kind}
 use Rattle.xl_model.specs.declared.address.Mode.{Mode}
-use Rattle.xl_model.specs.declared.address.Mode.TheVariants as mode
-use Rattle.xl_model.specs.declared.address.Order.TheVariants as order
 use Rattle.xl_model.specs.declared.leaf.Leaf.{Leaf}
 use Rattle.xl_model.specs.declared.leaf.Range.{Range}
 use Rattle.xl_model.specs.declared.event.Event.{Event}
-use Rattle.xl_model.specs.declared.event.Event.TheVariants as event
 use Rattle.xl_model.specs.declared.event.Reach.{Reach}
 use Rattle.xl_model.specs.declared.event.Refusal.{Refusal}
 use Rattle.xl_model.specs.declared.row.Table.{Table}
-use Rattle.xl_model.specs.declared.row.Table.TheVariants as table
-use Rattle.xl_model.specs.Addresses.{levels_of, pages_of, is_canonical, page_of}
+use Rattle.xl_model.specs.Addresses.{levels_of, level_of, pages_of, is_canonical, page_of, same_order}
 use Rattle.xl_model.specs.Mapping.{covers, leaf_at_page}
 use Rattle.xl_model.specs.Rows.{Row}
 use Rattle.xl_model.specs.Changes.{Change, old_leaf, changed}
 use Rattle.xl_model.specs.Rules.{rule, change_of}
-use Rattle.xl_model.specs.Nodes.{Node, in_nodes, only_needed}
+use Rattle.xl_model.specs.Nodes.{Node, in_nodes, only_needed, opening_nodes}
 use Rattle.xl_model.specs.Ranges.{ranges_of, holds_page}
 use Rattle.xl_model.specs.Shapes.{Shape, Radix, Chained, Cuckoo, Runs, CuckooWays, CuckooRules, brought, ways_brought, ways_taken, widened, narrowed, shape_after, opening_shape}
 use Rattle.xl_model.specs.Room.{room_for, has_room}
-use Rattle.xl_model.specs.Caches.{Caches, NodeCaches, SectionCaches, RangeCache, NoCaches, Cached, Numbered, empty_caches, section_caches, opening_caches, caches_purged, caches_fenced, reaches_space, reaches_range}
-use Rattle.xl_model.specs.Walks.{range_walk_by, walked, start_level, is_page_section, fills_m2, is_found}
+use Rattle.xl_model.specs.Caches.{Caches, NodeCaches, SectionCaches, RangeCache, NoCaches, Numbered, empty_caches, section_caches, opening_caches, caches_purged, caches_fenced, reaches_space, reaches_range}
+use Rattle.xl_model.specs.Walks.{section_of_page, range_walk_by, walked, start_level, is_page_section, fills_m2, is_found}
 use Rattle.xl_model.specs.Structures.{answer_by, TableState, Verdict, Made, NoSpace, NoPlace, finds_place, verdict_by, verdict, table_made, table_answer, table_after, after_by, table_walked, table_fenced}
 use Rattle.xl_model.specs.Tally.{count_look}
 use Rattle.xl_model.specs.Tlb.{Answer, answer_of, reaches_leaf}
 use Rattle.xl_model.specs.RowRun.{RowState, opening, walk_filled, walk_made, looked_by, looked, looked_where, accessed, purged_at, changed_by, changed_where, fenced, reach_of, served, after_rule, after_event}
 use Rattle.xl_mapping.specs.Members.{In}
-use Rattle.xl_mapping.specs.Mappings.{IsMapping, IsSound}
-use Rattle.xl_mapping.proofs.Members.{find-In, find-passes}
-use Rattle.xl_mapping.proofs.Ruled.{sound-of, kept-sound}
-use Rattle.xl_laws.specs.Fresh.{ArraysFresh, CachesFresh, NothingIsStale}
-use Rattle.xl_laws.proofs.Runs.{Keeps, run-keeps}
-use Rattle.xl_laws.proofs.Leaves.{opening-mapping}
-use Rattle.xl_laws.proofs.FreshArrays.{hit-fresh, filled-fresh, without-fresh, changed-fresh, opening-fresh}
-use Rattle.xl_laws.proofs.FreshNodes.{NodesFull, wide, HasPath, IsFound, full-after, tags-after, tags-fenced, tags-walked, same-length, without-few}
-use Rattle.xl_laws.proofs.FreshSections.{section-walked, section-fenced, section-after, section-refused, refused-same}
-use Rattle.xl_laws.proofs.FreshRanges.{ranges-fresh, range-filled, range-touched, range-fenced, range-after}
+use Rattle.xl_mapping.specs.Mappings.{IsMapping, IsFound, IsSound}
+use Rattle.xl_mapping.proofs.OrderLemmas.{level-low}
+use Rattle.xl_mapping.proofs.MemberLemmas.{find-In, find-passes}
+use Rattle.xl_mapping.proofs.RuleLemmas.{sound-of, kept-sound}
+use Rattle.xl_mapping.specs.Fresh.{has_leaves, ArraysFresh, TagsFresh, CachesFresh}
+use Rattle.xl_laws.specs.Fresh.{NothingIsStale}
+use Rattle.xl_laws.proofs.RunLemmas.{Keeps, run-keeps}
+use Rattle.xl_laws.proofs.LeafLemmas.{opening-mapping}
+use Rattle.xl_mapping.proofs.FreshArrayLemmas.{hit-fresh, filled-fresh, without-fresh, changed-fresh, opening-fresh}
+use Rattle.xl_mapping.proofs.FreshNodeLemmas.{NodesFull, wide, HasPath, full-after, tags-after, tags-fenced, tags-walked, same-length, without-few}
+use Rattle.xl_mapping.proofs.FreshSectionLemmas.{section-some, section-walked, section-fenced, section-after, section-refused}
+use Rattle.xl_laws.proofs.CapLemmas.{refused-same}
+use Rattle.xl_mapping.proofs.FreshRangeLemmas.{ranges-fresh, range-filled, range-touched, range-fenced, range-after}
+use Rattle.xl_model.specs.declared.address.Mode.TheVariants as mode
+use Rattle.xl_model.specs.declared.address.Order.{Order}
+use Rattle.xl_model.specs.declared.address.Order.TheVariants as order
+use Rattle.xl_model.specs.declared.event.Event.TheVariants as event
+use Rattle.xl_model.specs.declared.row.Table.TheVariants as table
 
 -- what a table keeps: its caches are fresh; of a radix table every needed node is there, and no cache is the root's
 ShapeFull : Shape → Caches → List Leaf → Type 0
@@ -59,6 +63,22 @@ found-leaf row space page leaves m leaf h =
 
 all-known : (row : Row) (leaves : List Leaf) → IsMapping row leaves → (x : Leaf) → In x leaves → In x leaves × ((e : ℕ) × (x.first ≡ e * pages_of x.order))
 all-known row leaves m x i = (i, (m.valid x i).pages_aligned)
+
+-- a section that is filled has leaves
+middle-some : (space page : ℕ) (leaves : List Leaf) (ways : CuckooWays) (found : Option Leaf) → ((leaf : Leaf) → found ≡ Some leaf → IsFound space page leaves leaf)
+    → fills_m2 found ≡ true → has_leaves (section_of_page order.M2 space page leaves ways) ≡ true
+middle-some space page leaves ways None is fills = absurd (cc)
+middle-some space page leaves ways (Some leaf) is fills = section-some order.M2 space page leaves ways leaf (is leaf refl) (small leaf.order fills)
+  where
+    small : (o : Order) → not (same_order o order.G1) ≡ true → level_of o ≤ 1
+    small order.K4 h = omega arith
+    small order.M2 h = omega arith
+    small order.G1 h = absurd (cc)
+
+large-some : (space page : ℕ) (leaves : List Leaf) (ways : CuckooWays) (found : Option Leaf) → ((leaf : Leaf) → found ≡ Some leaf → IsFound space page leaves leaf)
+    → is_found found ≡ true → has_leaves (section_of_page order.G1 space page leaves ways) ≡ true
+large-some space page leaves ways None is fills = absurd (cc)
+large-some space page leaves ways (Some leaf) is fills = section-some order.G1 space page leaves ways leaf (is leaf refl) (level-low leaf.order)
 
 -- a walk
 walk-fresh : (row : Row) (space page : ℕ) (leaves : List Leaf) (shape : Shape) (kept : Caches) → IsMapping row leaves → CachesFresh shape kept leaves → ShapeFull shape kept leaves
@@ -82,8 +102,10 @@ walk-fresh row space page leaves (Chained group buckets entries tags) kept m fre
 walk-fresh row space page leaves (Cuckoo rules ways) (NodeCaches cs) m fresh full = (tt, tt)
 walk-fresh row space page leaves (Cuckoo rules ways) (SectionCaches m2 g1) m (a, b) full = (
   (
-    section-walked order.M2 space page leaves ways (fills_m2 (leaf_at_page space page leaves)) (find (is_page_section order.M2 space page) m2.items) m2 a,
-    section-walked order.G1 space page leaves ways (is_found (leaf_at_page space page leaves)) (find (is_page_section order.G1 space page) g1.items) g1 b,
+    section-walked order.M2 space page leaves ways (fills_m2 (leaf_at_page space page leaves)) (find (is_page_section order.M2 space page) m2.items) m2
+        (middle-some space page leaves ways (leaf_at_page space page leaves) (found-leaf row space page leaves m)) a,
+    section-walked order.G1 space page leaves ways (is_found (leaf_at_page space page leaves)) (find (is_page_section order.G1 space page) g1.items) g1
+        (large-some space page leaves ways (leaf_at_page space page leaves) (found-leaf row space page leaves m)) b,
   ),
   tt,
 )
@@ -146,7 +168,7 @@ made-radix : (row : Row) (c : Change) (leaves : List Leaf) (levels spaces : ℕ)
     → AfterFresh c leaves (Radix levels spaces nodes) kept (Radix levels spaces (only_needed levels (changed c leaves) (wide levels (brought c leaves) nodes)))
 unfolding AfterFresh ShapeFull caches_purged has_room
 made-radix row c leaves levels spaces nodes (NodeCaches cs) room fresh (full, few) = (
-  tags-after levels c leaves nodes cs fresh,
+  tags-after levels 0 c leaves nodes cs fresh,
   (full-after levels c leaves nodes full (path-room (brought c leaves) c leaves levels spaces nodes room), without-few _ cs levels few),
 )
 made-radix row c leaves levels spaces nodes (SectionCaches m2 g1) room fresh full = (tt, tt)
@@ -313,7 +335,7 @@ fence-fresh : (to : Reach) (leaves : List Leaf) (shape : Shape) (kept : Caches) 
     → CachesFresh shape (caches_fenced to kept) leaves × ShapeFull shape (caches_fenced to kept) leaves
 unfolding caches_fenced ShapeFull
 fence-fresh to leaves (Radix levels spaces nodes) (NodeCaches cs) fresh (full, few) =
-    (tags-fenced (λ e. reaches_space to e.node.space) levels leaves nodes cs fresh, (full, without-few (λ (x : Numbered). reaches_space to x.node.space) cs levels few))
+    (tags-fenced (λ e. reaches_space to e.node.space) levels 0 leaves nodes cs fresh, (full, without-few (λ (x : Numbered). reaches_space to x.node.space) cs levels few))
 fence-fresh to leaves (Radix levels spaces nodes) (SectionCaches m2 g1) fresh full = (tt, tt)
 fence-fresh to leaves (Radix levels spaces nodes) (RangeCache c) fresh full = (tt, tt)
 fence-fresh to leaves (Radix levels spaces nodes) NoCaches fresh full = (tt, tt)
@@ -353,11 +375,10 @@ unfolding after_event
 event-kept row e s k = ruled-kept row e s (rule row s.table.leaves e) refl k
 
 -- the opening state
-empty-tags : (n : ℕ) (widths : List ℕ) (c : Cached Numbered) (e : Numbered) → In c (empty_caches n widths) → In e c.items → ⊥
-empty-tags zero widths c e i j = i
-empty-tags (suc n) [] c e i j = i
-empty-tags (suc n) (w ∷ widths) c e (inl same) j = let P : Cached Numbered → Type 0 = λ x. In e x.items in subst P same j
-empty-tags (suc n) (w ∷ widths) c e (inr i) j = empty-tags n widths c e i j
+empty-tags : (levels level n : ℕ) (nodes : List (Option Node)) (widths : List ℕ) → TagsFresh levels level [] nodes (empty_caches n widths)
+empty-tags levels level zero nodes widths = tt
+empty-tags levels level (suc n) nodes [] = tt
+empty-tags levels level (suc n) nodes (w ∷ widths) = (λ e i. absurd i, empty-tags levels (level + 1) n nodes widths)
 
 empty-few : (n : ℕ) (widths : List ℕ) → length (empty_caches {A = Numbered} n widths) ≤ n
 empty-few zero widths = omega arith
@@ -368,7 +389,7 @@ opening-table : (levels spaces : ℕ) (t : Table) → 0 < levels
     → CachesFresh (opening_shape levels spaces t) (opening_caches levels t) [] × ShapeFull (opening_shape levels spaces t) (opening_caches levels t) []
 unfolding opening_shape opening_caches ShapeFull in_nodes
 opening-table levels spaces (table.Radix frames widths) positive = (
-  λ c e i j. absurd (empty-tags (levels - 1) widths c e i j),
+  empty-tags levels 0 (levels - 1) (opening_nodes levels spaces frames) widths,
   (
     record { full = λ space l block need below. absurd (cc) },
     let e : length (empty_caches {A = Numbered} (levels - 1) widths) ≤ levels - 1 = empty-few (levels - 1) widths in omega arith,

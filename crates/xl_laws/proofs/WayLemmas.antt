@@ -10,9 +10,10 @@ use Rattle.xl_model.specs.declared.way.WayRegs.{WayRegs}
 use Rattle.xl_model.specs.Hashes.{way_hash}
 use Rattle.xl_model.specs.Ways.{WayShape, slot_at, slot, occupant, with_entry, without_occupant, swapped, with_word, reworded, without_entry, slots_left, begun_regs, regs_after, advanced, begun, opening_way}
 use Rattle.xl_model.specs.Placing.{one_if, way_at, put_in, next_way, start_way, Attempt, Stands, Fails, Displaced, by_occupant, attempt, to_grow, Candidate, growing_now, forced, forced_moves, Placing, Placed, AtCap, after_attempt, with_growth, growths_left, placing, place, no_moves, settled_way, begins, begun_if_full, settled, after_placing, insertion}
-use Rattle.xl_mapping.proofs.Members.{map-In, find-passes}
-use Rattle.xl_laws.specs.Cuckoo.{how_many, stands_at, SlotsApart, AllApart, entries_of, ARefusalKeepsEveryWord, MigratingMovesNoEntry}
-use Rattle.xl_laws.proofs.Slots.{before_slot, slot-back, begun-slot, how-many-le, how-many-same, how-many-with, how-many-without, how-many-out, how-many-none, how-many-reworded}
+use Rattle.xl_mapping.proofs.MemberLemmas.{map-In, find-passes}
+use Rattle.xl_laws.specs.Cuckoo.{how_many, stands_at, SlotsApart, AllApart, ARefusalKeepsEveryWord, MigratingMovesNoEntry}
+use Rattle.xl_mapping.specs.Sections.{entries_of}
+use Rattle.xl_laws.proofs.SlotLemmas.{before_slot, slot-back, begun-slot, how-many-le, how-many-same, how-many-with, how-many-without, how-many-out, how-many-none, how-many-reworded}
 
 -- keys of one slot
 same-slot : (r : WayRegs) (number : ℕ) (x y : Entry) → x.key ≡ y.key → slot r number x.key ≡ slot r number y.key

@@ -1,62 +1,24 @@
 -- Cached ranges: each page of a maximal run is covered, and a change takes the ranges of the old leaf.
-use Rattle.std.proofs.Common.{◌≡◌, refl, sym, ap, ◌∙◌, subst, ℕ, ◌+◌, ◌-◌, ◌*◌, ◌<◌, ◌≤◌, Bool, true, false, not, cond, List, [], ◌∷◌, Option, None, Some, inl, inr, nat_lt, ◌&&◌, ◌||◌, arith}
-use Rattle.std.specs.Prelude.{IsTrue}
+use Rattle.std.proofs.Common.{◌≡◌, refl, sym, ◌∙◌, subst, ℕ, ◌+◌, ◌-◌, ◌*◌, ◌<◌, ◌≤◌, Bool, true, false, cond, List, [], ◌∷◌, Option, None, Some, inl, inr, nat_lt, arith}
 use Rattle.std.proofs.lemmas.Bool.Decides.{nat_tests}
-use Rattle.std.proofs.Math.Bool.{Bool-set}
-use Rattle.std.specs.Cmp.{first_so, second_so}
 use Rattle.xl_model.specs.declared.address.Order.{Order}
 use Rattle.xl_model.specs.declared.address.Order.TheVariants as order
-use Rattle.xl_model.specs.declared.perm.Perm.{Perm}
 use Rattle.xl_model.specs.declared.leaf.Leaf.{Leaf}
 use Rattle.xl_model.specs.declared.leaf.Range.{Range}
-use Rattle.xl_model.specs.Addresses.{pages_of, same_order}
+use Rattle.xl_model.specs.Addresses.{pages_of}
 use Rattle.xl_model.specs.Mapping.{covers}
 use Rattle.xl_model.specs.Rows.{Row}
 use Rattle.xl_model.specs.Changes.{Change, old_leaf, changed}
-use Rattle.xl_model.specs.Ranges.{same_perm, range_of_leaf, goes_into, joined, ranges_of, holds_page}
+use Rattle.xl_model.specs.Ranges.{range_of_leaf, goes_into, joined, ranges_of, holds_page}
 use Rattle.xl_model.specs.Caches.{Cached, without_items, holds_first}
 use Rattle.xl_model.specs.Walks.{with_range, with_touch}
 use Rattle.xl_mapping.specs.Members.{In}
 use Rattle.xl_mapping.specs.Mappings.{IsMapping, IsSound}
-use Rattle.xl_mapping.proofs.Stays.{stays-changed}
-use Rattle.xl_laws.proofs.FreshSections.{bits-same}
-use Rattle.xl_laws.specs.Fresh.{PageCovered, RangeFresh, RangesFresh}
-use Rattle.xl_laws.proofs.FreshArrays.{touched-In, newest-In, purged-In}
-
-orders-same : (a b : Order) → same_order a b ≡ true → a ≡ b
-orders-same order.K4 order.K4 h = refl
-orders-same order.K4 order.M2 h = absurd (cc)
-orders-same order.K4 order.G1 h = absurd (cc)
-orders-same order.M2 order.K4 h = absurd (cc)
-orders-same order.M2 order.M2 h = refl
-orders-same order.M2 order.G1 h = absurd (cc)
-orders-same order.G1 order.K4 h = absurd (cc)
-orders-same order.G1 order.M2 h = absurd (cc)
-orders-same order.G1 order.G1 h = refl
-
--- whatever the proof that its bits are legal, a permission is its bits
-IsPerm : Perm → Bool → Bool → Bool → Bool → Type 0
-IsPerm a r w x u = (legal : IsTrue ((r || x) && (r || not w))) → a ≡ record { r = r; w = w; x = x; u = u; legal = legal }
-
-one-proof : (r w x : Bool) (p q : IsTrue ((r || x) && (r || not w))) → p ≡ q
-one-proof r w x p q = let prop : IsProp (IsTrue ((r || x) && (r || not w))) = hlevel (Bool-set) in prop p q
-
-own-bits : (a : Perm) → IsPerm a a.r a.w a.x a.u
-unfolding IsPerm
-own-bits a legal = ap (λ (l : IsTrue ((a.r || a.x) && (a.r || not a.w))). let p : Perm = record { r = a.r; w = a.w; x = a.x; u = a.u; legal = l } in p) (one-proof a.r a.w a.x a.legal legal)
-
-perms-same : (a b : Perm) → same_perm a b ≡ true → a ≡ b
-unfolding IsPerm
-perms-same a b h =
-    let r : a.r ≡ b.r = bits-same a.r b.r (first_so _ _ (first_so _ _ h)) in
-    let w : a.w ≡ b.w = bits-same a.w b.w (second_so _ _ (first_so _ _ h)) in
-    let x : a.x ≡ b.x = bits-same a.x b.x (first_so _ _ (second_so _ _ h)) in
-    let u : a.u ≡ b.u = bits-same a.u b.u (second_so _ _ (second_so _ _ h)) in
-    let P : Bool → Type 0 = λ t. IsPerm a t a.w a.x a.u in
-    let Q : Bool → Type 0 = λ t. IsPerm a b.r t a.x a.u in
-    let R : Bool → Type 0 = λ t. IsPerm a b.r b.w t a.u in
-    let S : Bool → Type 0 = λ t. IsPerm a b.r b.w b.x t in
-    (subst S u (subst R x (subst Q w (subst P r (own-bits a))))) b.legal
+use Rattle.xl_mapping.proofs.ChangeLemmas.{stays-changed}
+use Rattle.xl_mapping.proofs.OrderLemmas.{orders-same}
+use Rattle.xl_mapping.proofs.PermLemmas.{perms-same}
+use Rattle.xl_mapping.specs.Fresh.{PageCovered, RangeFresh, RangesFresh}
+use Rattle.xl_mapping.proofs.RecencyLemmas.{touched-In, newest-In, purged-In}
 
 -- what goes into a range is of its kind
 pub record Joins (leaf : Leaf) (r : Range) : Type 0 where

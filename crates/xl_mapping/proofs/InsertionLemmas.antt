@@ -5,7 +5,7 @@ use Rattle.std.proofs.lemmas.Bool.Decides.{nat_tests}
 use Rattle.xl_model.specs.declared.leaf.Leaf.{Leaf}
 use Rattle.xl_model.specs.Mapping.{leaf_key, with_leaf, without_leaf}
 use Rattle.xl_mapping.specs.Members.{In, AllAbove, IsSorted}
-use Rattle.xl_mapping.proofs.Members.{filter-In, filter-passes, In-filter}
+use Rattle.xl_mapping.proofs.MemberLemmas.{filter-In, filter-passes, In-filter}
 
 -- the tests of a list with one leaf more, taken one by one
 abbrev with_by : Bool → Bool → Leaf → Leaf → List Leaf → List Leaf

@@ -18,9 +18,9 @@ use Rattle.xl_model.specs.Changes.{Change, Insert, Remove, Protect, Relocate, ch
 use Rattle.xl_model.specs.Rules.{or_else, unless, place_rule, overlap_rule, rule, change_of, insert_at}
 use Rattle.xl_mapping.specs.Mappings.{IsMapping, IsNewPlace, IsSound}
 use Rattle.xl_mapping.specs.Lowest.{IsAnswer}
-use Rattle.xl_mapping.proofs.Lowest.{lowest-is-lowest}
-use Rattle.xl_mapping.proofs.Places.{page-block}
-use Rattle.xl_mapping.proofs.Kept.{kept-inserted, kept-removed, kept-protected, kept-relocated}
+use Rattle.xl_mapping.proofs.LowestLemmas.{lowest-is-lowest}
+use Rattle.xl_mapping.proofs.PlaceLemmas.{page-block}
+use Rattle.xl_mapping.proofs.MappingLemmas.{kept-inserted, kept-removed, kept-protected, kept-relocated}
 
 pub or-first : (a b : Option Refusal) → or_else a b ≡ None → a ≡ None
 or-first None b h = refl

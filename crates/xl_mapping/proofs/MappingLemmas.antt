@@ -10,9 +10,9 @@ use Rattle.xl_model.specs.Changes.{Insert, Remove, Protect, Relocate, changed, w
 use Rattle.xl_mapping.specs.Members.{In}
 use Rattle.xl_mapping.specs.Mappings.{IsLeafOf, IsMapping}
 use Rattle.xl_mapping.specs.Lowest.{IsFree}
-use Rattle.xl_mapping.proofs.Members.{find-In, find-passes, any-false}
-use Rattle.xl_mapping.proofs.Insertion.{with-In, sorted-with, sorted-without, without-In, without-other}
-use Rattle.xl_mapping.proofs.Places.{covers-meets, meets-covers, holds-meets, frame-shared, named-space, named-order}
+use Rattle.xl_mapping.proofs.MemberLemmas.{find-In, find-passes, any-false}
+use Rattle.xl_mapping.proofs.InsertionLemmas.{with-In, sorted-with, sorted-without, without-In, without-other}
+use Rattle.xl_mapping.proofs.PlaceLemmas.{covers-meets, meets-covers, holds-meets, frame-shared, named-space, named-order}
 
 -- a leaf that meets no other and holds no other's frame
 pub kept-with : (row : Row) (x : Leaf) (xs : List Leaf) → IsMapping row xs → IsLeafOf row x

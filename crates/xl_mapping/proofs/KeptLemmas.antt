@@ -1,39 +1,16 @@
 -- Kept leaves: those of the mapping, at places of their own.
-use Rattle.std.proofs.Common.{◌≡◌, refl, sym, ◌∙◌, subst, ℕ, zero, suc, Bool, true, false, cond, List, [], ◌∷◌, length, get_or, inl, inr, ◌<◌, ◌^◌, arith}
+use Rattle.std.proofs.Common.{◌≡◌, refl, sym, ◌∙◌, subst, Bool, true, false, cond, List, [], ◌∷◌, inl, inr, ◌<◌, ◌^◌, arith}
 use Rattle.std.specs.Prelude.{filter}
-use Rattle.std.specs.List.{list_any, All}
 use Rattle.std.proofs.lemmas.Bool.Decides.{nat_tests}
 use Rattle.xl_model.specs.declared.leaf.Leaf.{Leaf}
 use Rattle.xl_model.specs.Addresses.{pages_of}
 use Rattle.xl_model.specs.Mapping.{meets_block, leaf_key, with_leaf}
 use Rattle.xl_mapping.specs.Members.{In, IsSorted}
-use Rattle.xl_mapping.proofs.Members.{any-false, filter-In}
-use Rattle.xl_mapping.proofs.Insertion.{with-In, In-with, stays-with, sorted-with}
-use Rattle.xl_mapping.proofs.Orders.{pages-some}
-use Rattle.xl_plain.specs.Kept.{IsPlaced, IsApart, IsKept, mapping_of}
-
-get-In : {A : Type 0} (xs : List A) (k : ℕ) (d : A) → k < length xs → In (get_or xs k d) xs
-get-In [] k d h = absurd (omega arith)
-get-In (x ∷ xs) zero d h = inl refl
-get-In (x ∷ xs) (suc k) d h = inr (get-In xs k d (omega arith))
-
-pub In-all : {A : Type 0} (P : A → Type 0) (xs : List A) → ((x : A) → In x xs → P x) → All P xs
-In-all P xs f = λ k d h. f (get_or xs k d) (get-In xs k d h)
-
-all-tail : {A : Type 0} (P : A → Type 0) (x : A) (xs : List A) → All P (x ∷ xs) → All P xs
-all-tail P x xs h = λ k d l. h (suc k) d (omega arith)
-
-pub all-In : {A : Type 0} (P : A → Type 0) (x : A) (xs : List A) → All P xs → In x xs → P x
-all-In P x [] h i = absurd i
-all-In P x (y ∷ ys) h (inl e) = subst P (sym e) (h zero y (omega arith))
-all-In P x (y ∷ ys) h (inr i) = all-In P x ys (all-tail P y ys h) i
-
-pub none-any : {A : Type 0} (p : A → Bool) (xs : List A) → ((x : A) → In x xs → p x ≡ false) → list_any p xs ≡ false
-none-any p [] h = refl
-none-any p (x ∷ xs) h = rw (h x (inl refl)) (none-any p xs (λ z i. h z (inr i)))
-
-pub both : (b : Bool) → b ≡ true → b ≡ false → ⊥
-both b t f = let e : true ≡ false = sym t ∙ f in absurd (cc)
+use Rattle.xl_mapping.proofs.MemberLemmas.{any-false, filter-In, In-all, all-tail, all-In}
+use Rattle.xl_mapping.proofs.SameLemmas.{none-any, both}
+use Rattle.xl_mapping.proofs.InsertionLemmas.{with-In, In-with, stays-with, sorted-with}
+use Rattle.xl_mapping.proofs.OrderLemmas.{pages-some}
+use Rattle.xl_mapping.specs.Kept.{IsPlaced, IsApart, IsKept, mapping_of}
 
 pub meets-sym : (x y : Leaf) → meets_block x.space x.first x.order y ≡ false → meets_block y.space y.first y.order x ≡ false
 meets-sym x y h = grind (arith, nat_tests)
