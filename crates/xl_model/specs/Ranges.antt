@@ -9,9 +9,11 @@ use Rattle.xl_model.specs.Addresses.{pages_of, same_order}
 use Rattle.xl_model.specs.Hashes.{mix}
 use Rattle.xl_model.specs.Base.{same_bit, one_if}
 
+-- Two permissions are the same.
 abbrev pub same_perm : Perm → Perm → Bool
 same_perm a b = (same_bit a.r b.r && same_bit a.w b.w) && (same_bit a.x b.x && same_bit a.u b.u)
 
+-- The range of a single leaf.
 abbrev pub range_of_leaf : Leaf → Range
 range_of_leaf leaf = record {
   space = leaf.space;
@@ -28,6 +30,7 @@ goes_into leaf r =
     ((leaf.space == r.space) && (same_order leaf.order r.order && same_perm leaf.perm r.perm))
     && ((leaf.first + pages_of leaf.order == r.start) && (leaf.frame + pages_of leaf.order == r.frame))
 
+-- A leaf in front of the ranges behind it: it goes into the first of them where it can.
 abbrev pub joined : Leaf → List Range → List Range
 joined leaf [] = range_of_leaf leaf ∷ []
 joined leaf (r ∷ rs) =
@@ -40,9 +43,11 @@ unfoldable pub ranges_of : List Leaf → List Range
 ranges_of [] = []
 ranges_of (leaf ∷ leaves) = joined leaf (ranges_of leaves)
 
+-- A range holds a page of a space.
 abbrev pub holds_page : ℕ → ℕ → Range → Bool
 holds_page space page r = (r.space == space) && (nat_le r.start page && nat_lt page (r.start + r.pages))
 
+-- The key of a range: 2^52 for each space before it, and its first page.
 abbrev pub range_key : Range → ℕ
 range_key r = r.space * 2 ^ 52 + r.start
 

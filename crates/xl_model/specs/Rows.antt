@@ -9,6 +9,7 @@ use Rattle.xl_model.specs.declared.row.Row.{Row as RowFields}
 use Rattle.xl_model.specs.declared.row.Table.{Table}
 use Rattle.xl_model.specs.declared.row.TlbSpec.{TlbSpec}
 
+-- A row: a translation design with its limits.
 pub record Row : Type 0 where
   pub name : List ℕ
   pub mode : Mode

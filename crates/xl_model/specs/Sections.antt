@@ -27,10 +27,12 @@ counts_for size space block leaf =
     (leaf.space == space)
     && (nat_le (level_of leaf.order) (level_of size) && (leaf.first / pages_of size == block))
 
+-- A leaf of this order counts for a section.
 abbrev pub holds_order : Order → ℕ → ℕ → Order → List Leaf → Bool
 holds_order size space block o leaves =
     list_any (λ leaf. counts_for size space block leaf && same_order leaf.order o) leaves
 
+-- A way, where a section is a leaf of its own order.
 abbrev pub way_where : Bool → Option ℕ → Option ℕ
 way_where true way = way
 way_where false way = None
@@ -66,17 +68,20 @@ section_keys size (leaf ∷ leaves) =
 abbrev pub section_count : Order → List Leaf → ℕ
 section_count size leaves = length (section_keys size leaves)
 
+-- Two sections tell the same way, or both none.
 abbrev pub same_way : Option ℕ → Option ℕ → Bool
 same_way None None = true
 same_way None (Some b) = false
 same_way (Some a) None = false
 same_way (Some a) (Some b) = a == b
 
+-- Two sections of one place tell the same.
 abbrev pub same_section : Section → Section → Bool
 same_section a b =
     (same_bit a.has_k4 b.has_k4 && same_bit a.has_m2 b.has_m2)
     && (same_bit a.has_g1 b.has_g1 && same_way a.way b.way)
 
+-- A section is that of this block of a space.
 abbrev pub is_section : ℕ → ℕ → Section → Bool
 is_section space block s = (s.space == space) && (s.block == block)
 

@@ -13,6 +13,7 @@ use Rattle.xl_rows.specs.Plain.{plain_row, one_array, perm_r__u, perm_rw_u, perm
 abbrev pub a_realistic_run_rows : List Row
 a_realistic_run_rows = (record plain_row { tlb = one_array }) ∷ []
 
+-- What is served then.
 abbrev pub a_realistic_run_items : List Item
 a_realistic_run_items =
     (Declared (record { space = 0; page = 0; pages = 67108864; order = order.K4; perm = perm_rwxu })) ∷
@@ -35,6 +36,7 @@ a_realistic_run_items =
 abbrev pub nothing_served_rows : List Row
 nothing_served_rows = plain_row ∷ []
 
+-- What is served then.
 abbrev pub nothing_served_items : List Item
 nothing_served_items =
     []
@@ -43,6 +45,7 @@ nothing_served_items =
 abbrev pub page_sizes_sv39_rows : List Row
 page_sizes_sv39_rows = (record plain_row { frames = 524288 }) ∷ []
 
+-- What is served then.
 abbrev pub page_sizes_sv39_items : List Item
 page_sizes_sv39_items =
     (Command (event.Map 0 0 order.K4 perm_rwxu)) ∷
@@ -56,6 +59,7 @@ page_sizes_sv39_items =
 abbrev pub page_sizes_sv48_rows : List Row
 page_sizes_sv48_rows = (record plain_row { mode = mode.Sv48; frames = 524288 }) ∷ []
 
+-- What is served then.
 abbrev pub page_sizes_sv48_items : List Item
 page_sizes_sv48_items =
     (Command (event.Map 0 0 order.K4 perm_rwxu)) ∷
@@ -69,6 +73,7 @@ page_sizes_sv48_items =
 abbrev pub page_sizes_sv57_rows : List Row
 page_sizes_sv57_rows = (record plain_row { mode = mode.Sv57; frames = 524288 }) ∷ []
 
+-- What is served then.
 abbrev pub page_sizes_sv57_items : List Item
 page_sizes_sv57_items =
     (Command (event.Map 0 0 order.K4 perm_rwxu)) ∷
@@ -82,6 +87,7 @@ page_sizes_sv57_items =
 abbrev pub an_unmapped_load_rows : List Row
 an_unmapped_load_rows = plain_row ∷ []
 
+-- What is served then.
 abbrev pub an_unmapped_load_items : List Item
 an_unmapped_load_items =
     (Referenced 1 4096 kind.Load) ∷ []
@@ -90,6 +96,7 @@ an_unmapped_load_items =
 abbrev pub two_modes_rows : List Row
 two_modes_rows = plain_row ∷ (record plain_row { name = codes "b"; mode = mode.Sv48 }) ∷ []
 
+-- What is served then.
 abbrev pub two_modes_items : List Item
 two_modes_items =
     (Referenced 1 274877906944 kind.Load) ∷ []
@@ -98,6 +105,7 @@ two_modes_items =
 abbrev pub three_modes_rows : List Row
 three_modes_rows = plain_row ∷ (record plain_row { name = codes "b"; mode = mode.Sv48 }) ∷ (record plain_row { name = codes "c"; mode = mode.Sv57 }) ∷ []
 
+-- What is served then.
 abbrev pub three_modes_items : List Item
 three_modes_items =
     (Referenced 1 36028797018963968 kind.Load) ∷
@@ -107,6 +115,7 @@ three_modes_items =
 abbrev pub a_modify_over_a_page_boundary_rows : List Row
 a_modify_over_a_page_boundary_rows = plain_row ∷ []
 
+-- What is served then.
 abbrev pub a_modify_over_a_page_boundary_items : List Item
 a_modify_over_a_page_boundary_items =
     (Command (event.Map 0 4096 order.K4 perm_rw_u)) ∷
@@ -120,6 +129,7 @@ a_modify_over_a_page_boundary_items =
 abbrev pub the_top_of_the_range_rows : List Row
 the_top_of_the_range_rows = plain_row ∷ []
 
+-- What is served then.
 abbrev pub the_top_of_the_range_items : List Item
 the_top_of_the_range_items =
     (Command (event.Map 0 18446744073709547520 order.K4 perm_r__u)) ∷
@@ -129,6 +139,7 @@ the_top_of_the_range_items =
 abbrev pub the_top_of_the_range_sv57_rows : List Row
 the_top_of_the_range_sv57_rows = (record plain_row { mode = mode.Sv57 }) ∷ []
 
+-- What is served then.
 abbrev pub the_top_of_the_range_sv57_items : List Item
 the_top_of_the_range_sv57_items =
     (Command (event.Map 0 18446744073709547520 order.K4 perm_r__u)) ∷
@@ -138,6 +149,7 @@ the_top_of_the_range_sv57_items =
 abbrev pub two_unmapped_accesses_rows : List Row
 two_unmapped_accesses_rows = plain_row ∷ []
 
+-- What is served then.
 abbrev pub two_unmapped_accesses_items : List Item
 two_unmapped_accesses_items =
     (Referenced 1 67150000 kind.Fetch) ∷
@@ -147,6 +159,7 @@ two_unmapped_accesses_items =
 abbrev pub a_first_run_rows : List Row
 a_first_run_rows = (record plain_row { frames = 4096; spaces = 1 }) ∷ []
 
+-- What is served then.
 abbrev pub a_first_run_items : List Item
 a_first_run_items =
     (Command (event.Map 0 4096 order.K4 perm_r__u)) ∷
@@ -158,6 +171,7 @@ a_first_run_items =
 abbrev pub demanded_pages_rows : List Row
 demanded_pages_rows = plain_row ∷ []
 
+-- What is served then.
 abbrev pub demanded_pages_items : List Item
 demanded_pages_items =
     (Declared (record { space = 0; page = 65536; pages = 4096; order = order.K4; perm = perm_rwxu })) ∷

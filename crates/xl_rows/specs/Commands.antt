@@ -12,6 +12,7 @@ use Rattle.xl_rows.specs.Plain.{plain_row, perm_r__u, perm_rw_u}
 abbrev pub a_move_onto_itself_rows : List Row
 a_move_onto_itself_rows = plain_row ∷ []
 
+-- What is served then.
 abbrev pub a_move_onto_itself_items : List Item
 a_move_onto_itself_items =
     (Command (event.Map 0 4096 order.K4 perm_r__u)) ∷
@@ -24,6 +25,7 @@ a_move_onto_itself_items =
 abbrev pub a_move_onto_itself_again_rows : List Row
 a_move_onto_itself_again_rows = (record plain_row { frames = 4096; spaces = 1 }) ∷ []
 
+-- What is served then.
 abbrev pub a_move_onto_itself_again_items : List Item
 a_move_onto_itself_again_items =
     (Command (event.Map 0 4096 order.K4 perm_r__u)) ∷
@@ -36,6 +38,7 @@ a_move_onto_itself_again_items =
 abbrev pub no_block_of_511_frames_rows : List Row
 no_block_of_511_frames_rows = (record plain_row { frames = 511 }) ∷ []
 
+-- What is served then.
 abbrev pub no_block_of_511_frames_items : List Item
 no_block_of_511_frames_items =
     (Command (event.Map 0 0 order.M2 perm_r__u)) ∷ []
@@ -44,6 +47,7 @@ no_block_of_511_frames_items =
 abbrev pub no_block_of_1023_frames_rows : List Row
 no_block_of_1023_frames_rows = (record plain_row { frames = 1023 }) ∷ []
 
+-- What is served then.
 abbrev pub no_block_of_1023_frames_items : List Item
 no_block_of_1023_frames_items =
     (Command (event.Map 0 0 order.K4 perm_r__u)) ∷
@@ -53,6 +57,7 @@ no_block_of_1023_frames_items =
 abbrev pub a_block_of_1024_frames_rows : List Row
 a_block_of_1024_frames_rows = (record plain_row { frames = 1024 }) ∷ []
 
+-- What is served then.
 abbrev pub a_block_of_1024_frames_items : List Item
 a_block_of_1024_frames_items =
     (Command (event.Map 0 0 order.K4 perm_r__u)) ∷
@@ -62,6 +67,7 @@ a_block_of_1024_frames_items =
 abbrev pub seven_refusals_rows : List Row
 seven_refusals_rows = (record plain_row { frames = 512; spaces = 1 }) ∷ []
 
+-- What is served then.
 abbrev pub seven_refusals_items : List Item
 seven_refusals_items =
     (Command (event.Map 9 0 order.K4 perm_r__u)) ∷
@@ -77,6 +83,7 @@ seven_refusals_items =
 abbrev pub a_freed_block_taken_again_rows : List Row
 a_freed_block_taken_again_rows = (record plain_row { frames = 4096; spaces = 1 }) ∷ []
 
+-- What is served then.
 abbrev pub a_freed_block_taken_again_items : List Item
 a_freed_block_taken_again_items =
     (Command (event.Map 0 2097152 order.M2 perm_rw_u)) ∷

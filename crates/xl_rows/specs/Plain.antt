@@ -25,18 +25,23 @@ plain_row = record {
 abbrev pub one_array : List TlbSpec
 one_array = record { level = 1; sets = 1; width = 8; k4 = true; m2 = true; g1 = true } ∷ []
 
+-- Read, for the supervisor alone.
 abbrev pub perm_r___ : Perm
 perm_r___ = record { r = true; w = false; x = false; u = false; legal = refl }
 
+-- Read.
 abbrev pub perm_r__u : Perm
 perm_r__u = record { r = true; w = false; x = false; u = true; legal = refl }
 
+-- Read and execute.
 abbrev pub perm_r_xu : Perm
 perm_r_xu = record { r = true; w = false; x = true; u = true; legal = refl }
 
+-- Read and write.
 abbrev pub perm_rw_u : Perm
 perm_rw_u = record { r = true; w = true; x = false; u = true; legal = refl }
 
+-- Read, write and execute.
 abbrev pub perm_rwxu : Perm
 perm_rwxu = record { r = true; w = true; x = true; u = true; legal = refl }
 

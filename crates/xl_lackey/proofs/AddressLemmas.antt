@@ -1,14 +1,44 @@
 -- Addresses and sizes from the left, one digit at a time.
 use Rattle.std.proofs.Common.{◌≡◌, ℕ, ◌+◌, ◌*◌, ◌^◌, ◌≤◌, ◌<◌, Bool, true, false, ◌&&◌, List, [], ◌∷◌, ◌++◌, length, suc, zero, take, drop, refl, ap, ap₂, arith, ◌∙◌, sym, inl, inr}
 use native.Mathlib.Numerals.{unary_clauses}
-use Rattle.std.specs.Prelude.{◌==◌, nat_le, if◌then◌else◌, Option, None, Some}
+use Rattle.std.specs.Prelude.{◌==◌, nat_le, nat_lt, ◌⊎◌, if◌then◌else◌, Option, None, Some}
 use Rattle.std.specs.Option.{option_map, option_and_then}
 use Rattle.std.proofs.Math.Nat.{pow-le-pow_right, eq-or-lt_of_le}
+use Rattle.std.specs.Char.{digit_value}
+use Rattle.std.proofs.lemmas.Bool.{cases_lt, lt-ltb, le-ltb}
 use Rattle.std.proofs.lemmas.Bool.Decides.{nat_tests}
+use Rattle.xl_text.specs.Numbers.{number_in}
+use Rattle.xl_text.proofs.DigitLemmas.{number_after, none_read, digit_read, no_digit}
 use Rattle.std.proofs.lemmas.List.{length-take-le, take-append-drop}
 use Rattle.std.proofs.lemmas.Option.{same_Some}
-use Rattle.xl_lackey.proofs.Bytes.{differs}
-use Rattle.xl_lackey.specs.Lines.{front, hex_digit, hex_value, parted, in_front, before, with_rest, address_in}
+use Rattle.xl_lackey.proofs.ByteLemmas.{differs}
+use Rattle.xl_lackey.specs.Digits.{hex_digit, hex_value}
+use Rattle.xl_lackey.specs.Lines.{front, parted, in_front, before, with_rest, address_in}
+
+-- a digit read is a digit of base 16
+digit_is : (b : ℕ) → hex_digit b ≡ (if nat_lt (digit_value b) 16 then Some (digit_value b) else None)
+digit_is b = grind (arith, nat_tests)
+
+by_digit : (value b : ℕ) (bs : List ℕ) → ((v : ℕ) → hex_value v bs ≡ number_after 16 v bs)
+    → (digit_value b < 16) ⊎ (16 ≤ digit_value b)
+    → option_and_then (λ d. hex_value (value * 16 + d) bs) (if nat_lt (digit_value b) 16 then Some (digit_value b) else None)
+    ≡ number_after 16 value (b ∷ bs)
+by_digit value b bs h (inl small) =
+    ap (λ (t : Bool). option_and_then (λ d. hex_value (value * 16 + d) bs) (if t then Some (digit_value b) else None)) (lt-ltb _ _ small)
+    ∙ h (value * 16 + digit_value b) ∙ sym (digit_read 16 value b bs small)
+by_digit value b bs h (inr large) =
+    ap (λ (t : Bool). option_and_then (λ d. hex_value (value * 16 + d) bs) (if t then Some (digit_value b) else None)) (le-ltb _ _ large)
+    ∙ sym (no_digit 16 value b bs large)
+
+value_is : (value : ℕ) (bs : List ℕ) → hex_value value bs ≡ number_after 16 value bs
+value_is value [] = let e : value ≡ value * 16 ^ 0 + 0 = omega arith in ap Some e
+value_is value (b ∷ bs) =
+    ap (option_and_then (λ d. hex_value (value * 16 + d) bs)) (digit_is b)
+    ∙ by_digit value b bs (λ v. value_is v bs) (cases_lt (digit_value b) 16)
+
+-- digits read from the front give the number that they stand for
+pub number_is : (bs : List ℕ) → hex_value 0 bs ≡ number_in 16 bs
+number_is bs = value_is 0 bs ∙ none_read 16 bs
 
 -- an address from the left: its value so far, and how many digits it has so far
 abbrev pub hex_at : ℕ → ℕ → List ℕ → Option (ℕ × List ℕ)
@@ -111,6 +141,7 @@ with_rest_is None = refl
 with_rest_is (Some parts) =
     let e : 0 + length parts.0 ≡ length parts.0 = omega arith in
     ap (λ (n : ℕ). before parts.1 (if is_length n then hex_value 0 parts.0 else None)) e
+    ∙ ap (λ (v : Option ℕ). before parts.1 (if is_length (length parts.0) then v else None)) (number_is parts.0)
 
 pub whole_address : (text : List ℕ) → hex_at 0 0 text ≡ address_in text
 whole_address text = hex_at_is text 0 0 (omega arith) ∙ with_rest_is (parted 44 text)

@@ -10,10 +10,12 @@ use Rattle.xl_lackey.specs.declared.reference.Letter.{Letter}
 use Rattle.xl_lackey.specs.declared.reference.Letter.TheVariants as letter
 use Rattle.xl_lackey.specs.declared.line.Verdict.{Verdict}
 use Rattle.xl_lackey.specs.declared.line.Verdict.TheVariants.{Found, Bad}
-use Rattle.xl_lackey.specs.Lines.{front, after, is_digit, hex_digit, hex_value, decimal_value, parted, in_front, address_of, with_rest, before, address_in, is_size, size_in, fits, of_end, of_size, of_address, of_text, judge}
+use Rattle.xl_lackey.specs.Digits.{hex_digit, hex_value}
+use Rattle.xl_text.specs.Numbers.{address_of, number_in}
+use Rattle.xl_lackey.specs.Lines.{front, after, is_digit, decimal_value, parted, in_front, with_rest, before, address_in, is_size, size_in, fits, of_end, of_size, of_address, of_text, judge}
 use Rattle.std.proofs.lemmas.Option.{same_Some}
-use Rattle.xl_lackey.proofs.Bytes.{differs}
-use Rattle.xl_lackey.proofs.Numbers.{digit_and_rest}
+use Rattle.xl_lackey.proofs.ByteLemmas.{differs}
+use Rattle.xl_lackey.proofs.AddressLemmas.{digit_and_rest, number_is}
 use Rattle.xl_lackey.specs.Usual.{usual_front, judged, judged_line}
 
 -- no byte of a list is this one
@@ -117,12 +119,12 @@ address_by text digits later rest addr (Some a) h g e =
     let value : a ≡ addr = ap (λ (p : ℕ × List ℕ). p.0) both in
     let same : later ≡ rest = ap (λ (p : ℕ × List ℕ). p.1) both in
     let is : address_of digits ≡ Some addr = g ∙ ap Some value in
-    let parts = checked (nat_le 1 (length digits) && nat_le (length digits) 16) (hex_value 0 digits) addr is in
+    let parts = checked (nat_le 1 (length digits) && nat_le (length digits) 16) (number_in 16 digits) addr is in
     let few = within_16 (length digits) parts.0 in record {
       whole = around 44 text digits later h ∙ ap (λ (xs : List ℕ). digits ++ 44 ∷ xs) same;
       some = few.0;
       few = few.1;
-      value = parts.1;
+      value = number_is digits ∙ parts.1;
       is_address = is;
     }
 

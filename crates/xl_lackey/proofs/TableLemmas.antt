@@ -2,7 +2,7 @@
 use Rattle.std.proofs.Common.{◌≡◌, ℕ, zero, suc, ◌+◌, ◌<◌, ◌≤◌, Bool, true, false, List, [], ◌∷◌, length, get_or, refl, ap, arith, ◌∙◌}
 use Rattle.std.specs.Prelude.{Option, None, Some, IfSome, ◌==◌, if◌then◌else◌}
 use Rattle.std.proofs.lemmas.Bool.Decides.{nat_tests}
-use Rattle.xl_lackey.specs.Lines.{hex_digit}
+use Rattle.xl_lackey.specs.Digits.{hex_digit}
 use Rattle.xl_lackey.specs.declared.digits.TheConstants.{HEX_DIGITS}
 
 abbrev value_or_16 : Option ℕ → ℕ
