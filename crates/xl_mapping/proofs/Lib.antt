@@ -22,7 +22,11 @@ pub mod TagLemmas
 pub mod ReadLemmas
 pub mod TableLemmas
 pub mod MoveLemmas
+pub mod LimitLemmas
+pub mod PoolLemmas
+pub mod PoolChangeLemmas
 pub mod NumberLemmas
+pub mod HitLemmas
 pub mod FreshArrayLemmas
 pub mod FreshSectionLemmas
 pub mod FreshRangeLemmas

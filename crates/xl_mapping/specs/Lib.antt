@@ -4,4 +4,6 @@ pub mod Sections
 pub mod Lowest
 pub mod Mappings
 pub mod Kept
+pub mod Limits
+pub mod Pools
 pub mod Fresh
