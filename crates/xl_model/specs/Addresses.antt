@@ -36,6 +36,7 @@ pages_of order.K4 = 1
 pages_of order.M2 = 512
 pages_of order.G1 = 262144
 
+-- Two orders are the same.
 abbrev pub same_order : Order → Order → Bool
 same_order a b = level_of a == level_of b
 

@@ -25,6 +25,7 @@ pub record Numbered : Type 0 where
   pub node : Node
   pub number : ℕ
 
+-- The walk caches of a table, by its kind.
 pub data Caches : Type 0 where
   -- one cache per node level, level 0 first
   NodeCaches : (levels : List (Cached Numbered)) → Caches
@@ -33,13 +34,16 @@ pub data Caches : Type 0 where
   RangeCache : (ranges : Cached Range) → Caches
   NoCaches : Caches
 
+-- A cache without the items that meet a test.
 abbrev pub without_items : {A : Type 0} → (A → Bool) → Cached A → Cached A
 without_items p c = record c { items = purged p c.items }
 
+-- Each cache without them.
 abbrev pub all_without : {A : Type 0} → (A → Bool) → List (Cached A) → List (Cached A)
 all_without p [] = []
 all_without p (c ∷ cs) = without_items p c ∷ all_without p cs
 
+-- How many items the caches of all levels hold.
 abbrev pub items_in : List (Cached Numbered) → ℕ
 items_in [] = 0
 items_in (c ∷ cs) = length c.items + items_in cs
@@ -57,6 +61,7 @@ has_changed size before ways after new_ways s =
     not (same_section (section_of size s.space s.block before (ways_of size ways))
     (section_of size s.space s.block after (ways_of size new_ways)))
 
+-- A range holds the old leaf's first page.
 abbrev pub holds_first : Option Leaf → Range → Bool
 holds_first None r = false
 holds_first (Some leaf) r = holds_page leaf.space leaf.first r
@@ -79,12 +84,14 @@ reaches_space (reach.Space s) space = space == s
 reaches_space (reach.Addr page) space = false
 reaches_space (reach.Page s page) space = false
 
+-- A fence reaches a cached range: by its space, or by a page that it holds.
 abbrev pub reaches_range : Reach → Range → Bool
 reaches_range reach.All r = true
 reaches_range (reach.Space s) r = r.space == s
 reaches_range (reach.Addr page) r = holds_page r.space page r
 reaches_range (reach.Page s page) r = holds_page s page r
 
+-- The caches after a fence: what it reaches has left.
 unfoldable pub caches_fenced : Reach → Caches → Caches
 caches_fenced to (NodeCaches cs) = NodeCaches (all_without (λ e. reaches_space to e.node.space) cs)
 caches_fenced to (SectionCaches m2 g1) =
@@ -92,6 +99,7 @@ caches_fenced to (SectionCaches m2 g1) =
 caches_fenced to (RangeCache ranges) = RangeCache (without_items (reaches_range to) ranges)
 caches_fenced to NoCaches = NoCaches
 
+-- An empty cache of a width.
 abbrev pub empty_cache : {A : Type 0} → ℕ → Cached A
 empty_cache width = record { width = width; items = [] }
 
@@ -101,10 +109,12 @@ empty_caches zero widths = []
 empty_caches (suc n) [] = []
 empty_caches (suc n) (width ∷ widths) = empty_cache width ∷ empty_caches n widths
 
+-- The two empty caches of a cuckoo table, 2 MiB sections first.
 abbrev pub section_caches : List ℕ → Caches
 section_caches (m2 ∷ g1 ∷ widths) = SectionCaches (empty_cache m2) (empty_cache g1)
 section_caches widths = SectionCaches (empty_cache 0) (empty_cache 0)
 
+-- The empty caches of a table that is opened.
 unfoldable pub opening_caches : ℕ → Table → Caches
 opening_caches levels (table.Radix frames widths) = NodeCaches (empty_caches (levels - 1) widths)
 opening_caches levels (table.Hashed buckets entries) = NoCaches

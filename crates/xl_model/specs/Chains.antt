@@ -15,6 +15,7 @@ key_of group space o page = space * 2 ^ 45 + page / pages_of o / group
 abbrev pub tag_of : ℕ → ℕ → Order → ℕ → ℕ
 tag_of group space o page = level_of o * 2 ^ 60 + key_of group space o page
 
+-- The tag of a leaf, or of its group.
 abbrev pub leaf_tag : ℕ → Leaf → ℕ
 leaf_tag group leaf = tag_of group leaf.space leaf.order leaf.first
 
@@ -22,9 +23,11 @@ leaf_tag group leaf = tag_of group leaf.space leaf.order leaf.first
 abbrev pub bucket_of : ℕ → ℕ → ℕ
 bucket_of buckets tag = mix tag % buckets
 
+-- The tags of a bucket, newest first.
 unfoldable pub chain_of : ℕ → ℕ → List ℕ → List ℕ
 chain_of buckets bucket tags = filter (λ t. bucket_of buckets t == bucket) tags
 
+-- The tags with one more, in front of those of its bucket.
 abbrev pub in_front_of_bucket : ℕ → ℕ → List ℕ → List ℕ
 in_front_of_bucket buckets tag [] = tag ∷ []
 in_front_of_bucket buckets tag (t ∷ ts) =
@@ -32,6 +35,7 @@ in_front_of_bucket buckets tag (t ∷ ts) =
     then t ∷ in_front_of_bucket buckets tag ts
     else (tag ∷ t ∷ ts)
 
+-- A tag stands among these.
 abbrev pub has_tag : List ℕ → ℕ → Bool
 has_tag tags tag = list_any (λ t. t == tag) tags
 

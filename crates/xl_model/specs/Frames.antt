@@ -7,6 +7,7 @@ use Rattle.xl_model.specs.declared.leaf.Leaf.{Leaf}
 use Rattle.xl_model.specs.Addresses.{pages_of}
 use Rattle.xl_model.specs.Mapping.{holds_frames}
 
+-- The block of so many frames from here on lies among the frames, and no leaf holds one of them.
 abbrev pub is_free_block : ℕ → ℕ → List Leaf → ℕ → Bool
 is_free_block frames size leaves at = nat_le (at + size) frames && not (list_any (holds_frames at size) leaves)
 
@@ -14,14 +15,17 @@ is_free_block frames size leaves at = nat_le (at + size) frames && not (list_any
 abbrev pub behind : ℕ → Leaf → ℕ
 behind size leaf = (leaf.frame + pages_of leaf.order + (size - 1)) / size * size
 
+-- The lesser of a number and another, if there is another.
 abbrev pub lesser : ℕ → Option ℕ → Option ℕ
 lesser x None = Some x
 lesser x (Some y) = Some (min x y)
 
+-- The least of some numbers; none of no number.
 abbrev pub least : List ℕ → Option ℕ
 least [] = None
 least (x ∷ xs) = lesser x (least xs)
 
+-- The lowest free block of frames for a leaf of this order; none where no block is free.
 unfoldable pub lowest : ℕ → Order → List Leaf → Option ℕ
 lowest frames order leaves =
     least (filter (is_free_block frames (pages_of order) leaves) (0 ∷ map (behind (pages_of order)) leaves))

@@ -1,3 +1,4 @@
+pub mod Base
 pub mod Addresses
 pub mod Hashes
 pub mod Words
@@ -24,5 +25,8 @@ pub mod RowRun
 pub mod Items
 pub mod Image
 pub mod Lines
+pub mod Scenes
 pub mod Report
+pub mod Courses
+pub mod Endings
 pub mod Computing

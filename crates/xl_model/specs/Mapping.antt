@@ -29,12 +29,15 @@ holds_frames at size leaf = nat_lt leaf.frame (at + size) && nat_lt at (leaf.fra
 abbrev pub is_leaf : ℕ → ℕ → Order → Leaf → Bool
 is_leaf space first order leaf = (leaf.space == space) && ((leaf.first == first) && same_order leaf.order order)
 
+-- The leaf that covers a page of a space.
 unfoldable pub leaf_at_page : ℕ → ℕ → List Leaf → Option Leaf
 leaf_at_page space page leaves = find (covers space page) leaves
 
+-- Some leaf has a page of a block.
 unfoldable pub meets_any : ℕ → ℕ → Order → List Leaf → Bool
 meets_any space first order leaves = list_any (meets_block space first order) leaves
 
+-- The leaf of exactly this space, first page and order.
 unfoldable pub leaf_named : ℕ → ℕ → Order → List Leaf → Option Leaf
 leaf_named space first order leaves = find (is_leaf space first order) leaves
 
@@ -54,11 +57,13 @@ with_leaf leaf (x ∷ xs) =
 unfoldable pub without_leaf : ℕ → ℕ → List Leaf → List Leaf
 without_leaf space first leaves = filter (λ leaf. if leaf.space * 2 ^ 52 + leaf.first == space * 2 ^ 52 + first then false else true) leaves
 
+-- The reply to a canonical access, by the leaf that covers its page.
 abbrev pub reply_by : Option Leaf → ℕ → Kind → Reply
 reply_by None page kind = reply.Unmapped
 reply_by (Some leaf) page kind =
     if allows leaf.perm kind then reply.Frame (leaf.frame + (page - leaf.first)) else reply.Denied
 
+-- Not canonical, or else the answer.
 abbrev pub reply_where : Bool → Reply → Reply
 reply_where false answer = reply.NotCanonical
 reply_where true answer = answer

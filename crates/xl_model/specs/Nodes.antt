@@ -16,6 +16,7 @@ pub record Node : Type 0 where
   pub level : ℕ
   pub prefix : ℕ
 
+-- A page's node of this level.
 abbrev pub node_at : ℕ → ℕ → ℕ → Node
 node_at space level page = record { space = space; level = level; prefix = up (suc level) page }
 
@@ -43,10 +44,12 @@ put_first x [] = []
 put_first x (None ∷ nodes) = Some x ∷ nodes
 put_first x (Some y ∷ nodes) = Some y ∷ put_first x nodes
 
+-- The nodes as they are where the node has a number; else the new ones.
 abbrev pub unless_there : Option ℕ → List (Option Node) → List (Option Node) → List (Option Node)
 unless_there None nodes new = new
 unless_there (Some n) nodes new = nodes
 
+-- The nodes with the node below a slot: a new one takes the lowest free number.
 unfoldable pub with_node : ℕ → ℕ → ℕ → List (Option Node) → List (Option Node)
 with_node space l block nodes =
     unless_there (number_of space l block nodes) nodes
@@ -58,6 +61,7 @@ with_path space page l zero nodes = nodes
 with_path space page l (suc d) nodes =
     with_path space page l d (with_node space (l + suc d) (up (l + suc d) page) nodes)
 
+-- One where there is no number, else none.
 abbrev pub one_unless : Option ℕ → ℕ
 one_unless None = 1
 one_unless (Some n) = 0
@@ -68,6 +72,7 @@ missing space page l zero nodes = 0
 missing space page l (suc d) nodes =
     one_unless (number_of space (l + suc d) (up (l + suc d) page) nodes) + missing space page l d nodes
 
+-- How many numbers are free.
 abbrev pub free_count : List (Option Node) → ℕ
 free_count [] = 0
 free_count (None ∷ nodes) = free_count nodes + 1
@@ -78,6 +83,7 @@ unfoldable pub with_leaf_nodes : ℕ → Leaf → List (Option Node) → List (O
 with_leaf_nodes levels leaf nodes =
     with_path leaf.space leaf.first (level_of leaf.order) (levels - 1 - level_of leaf.order) nodes
 
+-- How many nodes a leaf lacks in a table of so many levels.
 unfoldable pub leaf_nodes_missing : ℕ → Leaf → List (Option Node) → ℕ
 leaf_nodes_missing levels leaf nodes =
     missing leaf.space leaf.first (level_of leaf.order) (levels - 1 - level_of leaf.order) nodes
@@ -87,6 +93,7 @@ abbrev pub is_needed : ℕ → List Leaf → Node → Bool
 is_needed levels leaves node =
     (node.level + 1 == levels) || in_nodes node.space (node.level + 1) node.prefix leaves
 
+-- A node that the mapping needs stays; the number of another is free.
 abbrev pub kept_node : ℕ → List Leaf → Option Node → Option Node
 kept_node levels leaves None = None
 kept_node levels leaves (Some node) = if is_needed levels leaves node then Some node else None

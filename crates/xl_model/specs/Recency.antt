@@ -6,6 +6,7 @@ abbrev pub without_first : {A : Type 0} → (A → Bool) → List A → List A
 without_first p [] = []
 without_first p (x ∷ xs) = if p x then xs else (x ∷ without_first p xs)
 
+-- An item, if there is one, in front of others.
 abbrev pub in_front : {A : Type 0} → Option A → List A → List A
 in_front None xs = xs
 in_front (Some x) xs = x ∷ xs

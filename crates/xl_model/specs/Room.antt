@@ -10,6 +10,7 @@ use Rattle.xl_model.specs.Sections.{section_count}
 use Rattle.xl_model.specs.Ranges.{ranges_of}
 use Rattle.xl_model.specs.Shapes.{Shape, Radix, Chained, Cuckoo, Runs, brought}
 
+-- A table has room for the leaf that a change brings, and for what the change leaves.
 abbrev pub room_for : Option Leaf → Change → List Leaf → Shape → Bool
 -- the nodes that the leaf lacks are at most the free ones
 room_for (Some leaf) c leaves (Radix levels spaces nodes) = nat_le (leaf_nodes_missing levels leaf nodes) (free_count nodes)
@@ -27,5 +28,6 @@ room_for None c leaves (Radix levels spaces nodes) = true
 room_for None c leaves (Chained group buckets entries tags) = true
 room_for None c leaves (Cuckoo rules ways) = true
 
+-- A table has room for a change.
 unfoldable pub has_room : Change → List Leaf → Shape → Bool
 has_room c leaves shape = room_for (brought c leaves) c leaves shape

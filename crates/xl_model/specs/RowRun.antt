@@ -31,6 +31,7 @@ use Rattle.xl_model.specs.Structures.{TableState, table_answer, table_after, tab
 use Rattle.xl_model.specs.Tlb.{TlbArray, Answer, answer_of, arrays_hit, fills_array, arrays_filled, takes_leaf, is_purged, reaches_leaf, arrays_without, leaves_in, opening_arrays}
 use Rattle.xl_model.specs.Tally.{no_counts, count_refusal, count_reply, count_walk, count_fills, count_look, count_work, count_accepted, count_invalidated, count_fence}
 
+-- The state of a row: its table, the current space, its TLB arrays and its counts.
 pub record RowState : Type 0 where
   pub table : TableState
   pub space : ℕ
@@ -60,6 +61,7 @@ walk_filled (Some leaf) s = record s {
   counts = count_fills (count_by (takes_leaf leaf) s.arrays) s.counts;
 }
 
+-- A walk is made, and counted with its loads and cache hits.
 abbrev pub walk_made : ℕ → ℕ → RowState → RowState
 walk_made space page s = record s {
   table = table_walked space page s.table;
@@ -67,6 +69,7 @@ walk_made space page s = record s {
       (walked s.table.shape s.table.caches s.table.leaves space page).cache_hits s.counts;
 }
 
+-- A look-up: an array answers, or all miss and a walk is made.
 abbrev pub looked_by : Option Answer → ℕ → RowState → RowState
 looked_by (Some answer) page s = record s {
   arrays = arrays_hit answer s.space page s.arrays;
@@ -77,6 +80,7 @@ looked_by None page s =
     walk_filled (leaf_at_page s.space page s.table.leaves)
     (walk_made s.space page (record s { counts = count_look None s.space page s.arrays s.counts }))
 
+-- A look-up of a page in the current space.
 unfoldable pub looked : ℕ → RowState → RowState
 looked page s = looked_by (answer_of s.arrays s.space page) page s
 
@@ -85,9 +89,11 @@ abbrev pub looked_where : Bool → ℕ → RowState → RowState
 looked_where true page s = looked page s
 looked_where false page s = s
 
+-- The reply to an access: that of the flat mapping.
 unfoldable pub reply_to : Row → RowState → ℕ → Kind → Reply
 reply_to row s va kind = flat s.table.leaves row.mode s.space va kind
 
+-- A row after an access: it was looked up where it is canonical, and its reply is counted.
 unfoldable pub accessed : Row → ℕ → Kind → RowState → RowState
 accessed row va kind s =
     let after = looked_where (is_canonical row.mode va) (page_of row.mode va) s in
@@ -98,10 +104,12 @@ abbrev pub refusal_of : NoRoom → Refusal
 refusal_of why.NoTable = refused.NoTable
 refusal_of why.WayAtCap = refused.WayAtCap
 
+-- The arrays after a purge of the leaf as it stood; without such a leaf nothing is purged.
 abbrev pub arrays_after : Purge → Option Leaf → List TlbArray → List TlbArray
 arrays_after purge None arrays = arrays
 arrays_after purge (Some old) arrays = arrays_without (is_purged purge old) arrays
 
+-- The arrays after a change's purge, by the row's policy.
 abbrev pub purged_at : Row → Change → RowState → List TlbArray
 purged_at row c s = arrays_after row.purge (old_leaf c s.table.leaves) s.arrays
 
@@ -110,6 +118,7 @@ abbrev pub counts_refused : NoRoom → Work → Counts → Counts
 counts_refused why.NoTable work c = count_refusal refused.NoTable c
 counts_refused why.WayAtCap work c = count_refusal refused.WayAtCap (count_work work c)
 
+-- A row after a change, by what the table answers: made, with its purge, or refused.
 abbrev pub changed_by : Result Work Refused → Row → Change → RowState → RowState
 changed_by (Ok work) row c s = record s {
   table = table_after c s.table;
@@ -121,14 +130,17 @@ changed_by (Err r) row c s = record s {
   counts = counts_refused r.why r.work s.counts;
 }
 
+-- Done, or refused for want of room.
 abbrev pub outcome_by : Result Work Refused → Outcome
 outcome_by (Ok work) = outcome.Done
 outcome_by (Err r) = outcome.Refused (refusal_of r.why)
 
+-- A row after a change, if there is one.
 abbrev pub changed_where : Option Change → Row → RowState → RowState
 changed_where None row s = s
 changed_where (Some c) row s = changed_by (table_answer c s.table) row c s
 
+-- The outcome of a change, if there is one.
 abbrev pub changed_outcome : Option Change → RowState → Outcome
 changed_outcome None s = outcome.Done
 changed_outcome (Some c) s = outcome_by (table_answer c s.table)
@@ -140,6 +152,7 @@ reach_of row (scope.Space space) = reach.Space space
 reach_of row (scope.Addr va) = reach.Addr (page_of row.mode va)
 reach_of row (scope.Page space va) = reach.Page space (page_of row.mode va)
 
+-- A row after a fence: what it reaches has left the arrays and the caches.
 unfoldable pub fenced : Reach → RowState → RowState
 fenced to s = record s {
   table = table_fenced to s.table;
@@ -159,6 +172,7 @@ served row (event.Move space from to o) s = changed_where (change_of row s.table
 served row (event.Space space) s = record s { space = space; counts = count_accepted s.counts }
 served row (event.Fence to) s = fenced (reach_of row to) s
 
+-- A row after a refusal by a rule, or after the event is served.
 abbrev pub after_rule : Option Refusal → Row → Event → RowState → RowState
 after_rule (Some r) row e s = record s { counts = count_refusal r s.counts }
 after_rule None row e s = served row e s
@@ -167,12 +181,14 @@ after_rule None row e s = served row e s
 unfoldable pub after_event : Row → Event → RowState → RowState
 after_event row e s = after_rule (rule row s.table.leaves e) row e s
 
+-- The outcome of an event that no rule stops.
 abbrev pub served_outcome : Row → Event → RowState → Outcome
 served_outcome row (event.Access va kind) s = outcome.Replied (reply_to row s va kind)
 served_outcome row (event.Space space) s = outcome.Done
 served_outcome row (event.Fence to) s = outcome.Done
 served_outcome row e s = changed_outcome (change_of row s.table.leaves e) s
 
+-- The refusal by a rule, or else the outcome of the event.
 abbrev pub outcome_after_rule : Option Refusal → Row → Event → RowState → Outcome
 outcome_after_rule (Some r) row e s = outcome.Refused r
 outcome_after_rule None row e s = served_outcome row e s

@@ -15,10 +15,12 @@ use Rattle.xl_model.specs.Frames.{lowest}
 use Rattle.xl_model.specs.Changes.{Change, Insert, Remove, Protect, Relocate}
 use Rattle.xl_model.specs.Rows.{Row}
 
+-- The first refusal, or else the second.
 abbrev pub or_else : Option Refusal → Option Refusal → Option Refusal
 or_else (Some r) next = Some r
 or_else None next = next
 
+-- A refusal, unless the test holds.
 abbrev pub unless : Bool → Refusal → Option Refusal
 unless true r = None
 unless false r = Some r
@@ -35,6 +37,7 @@ abbrev pub named_rule : Option Leaf → ℕ → ℕ → Order → Option Refusal
 named_rule None space first o = Some refused.Unmapped
 named_rule (Some leaf) space first o = unless (is_leaf space first o leaf) refused.WrongSize
 
+-- 4 and 5 of a command's address: exactly the leaf that is named covers its page.
 abbrev pub there_rule : Row → List Leaf → ℕ → ℕ → Order → Option Refusal
 there_rule row leaves space va o = named_rule (leaf_at_page space (page_of row.mode va) leaves) space (page_of row.mode va) o
 
@@ -47,6 +50,7 @@ abbrev pub frames_rule : Option ℕ → Option Refusal
 frames_rule None = Some refused.NoFrames
 frames_rule (Some at) = None
 
+-- 1 and 2 of a fence, which names a space, an address or both.
 abbrev pub fence_rule : Row → Scope → Option Refusal
 fence_rule row scope.All = None
 fence_rule row (scope.Space space) = unless (nat_lt space row.spaces) refused.BadSpace
@@ -54,6 +58,7 @@ fence_rule row (scope.Addr va) = unless (is_canonical row.mode va) refused.NotCa
 fence_rule row (scope.Page space va) =
     or_else (unless (nat_lt space row.spaces) refused.BadSpace) (unless (is_canonical row.mode va) refused.NotCanonical)
 
+-- The first of refusals 1 to 7 that holds for an event.
 unfoldable pub rule : Row → List Leaf → Event → Option Refusal
 rule row leaves (event.Access va kind) = None
 rule row leaves (event.Map space va o perm) =
@@ -69,6 +74,7 @@ rule row leaves (event.Move space from to o) =
 rule row leaves (event.Space space) = unless (nat_lt space row.spaces) refused.BadSpace
 rule row leaves (event.Fence s) = fence_rule row s
 
+-- A leaf comes, in the frames from here on.
 abbrev pub insert_at : ℕ → ℕ → Order → Leaf → Option ℕ → Option Change
 insert_at space first o leaf None = None
 insert_at space first o leaf (Some at) = Some (Insert (record leaf { frame = at }))

@@ -28,6 +28,7 @@ pub record CuckooWays : Type 0 where
   pub m2 : List WayShape
   pub g1 : List WayShape
 
+-- What a table keeps beside its leaves, by its kind.
 pub data Shape : Type 0 where
   -- the nodes by number; the numbers are as many as the table has frames
   Radix : (levels : ℕ) → (spaces : ℕ) → (nodes : List (Option Node)) → Shape
@@ -36,11 +37,13 @@ pub data Shape : Type 0 where
   Cuckoo : (rules : CuckooRules) → (ways : CuckooWays) → Shape
   Runs : (ranges : ℕ) → Shape
 
+-- The ways of the table of an order.
 abbrev pub ways_of : Order → CuckooWays → List WayShape
 ways_of order.K4 ws = ws.k4
 ways_of order.M2 ws = ws.m2
 ways_of order.G1 ws = ws.g1
 
+-- The ways with others for an order.
 abbrev pub with_ways : Order → List WayShape → CuckooWays → CuckooWays
 with_ways order.K4 ways ws = record ws { k4 = ways }
 with_ways order.M2 ways ws = record ws { m2 = ways }
@@ -57,17 +60,21 @@ brought (Remove space first o) leaves = None
 brought (Protect space first o perm) leaves = None
 brought (Relocate space first to o) leaves = new_leaf (Relocate space first to o) leaves
 
+-- What the insertion of a leaf comes to in the table of its order.
 abbrev pub placed_leaf : CuckooRules → CuckooWays → Leaf → Placing
 placed_leaf rules ws leaf = insertion rules.kick_limit rules.migrate rules.threshold (ways_of leaf.order ws) (leaf_entry leaf)
 
+-- The ways after an insertion.
 abbrev pub ways_placed : Placing → List WayShape
 ways_placed (Placed ways moved m) = ways
 ways_placed (AtCap ways m) = ways
 
+-- What an insertion did.
 abbrev pub moves_of : Placing → Moves
 moves_of (Placed ways moved m) = m
 moves_of (AtCap ways m) = m
 
+-- An insertion found a place.
 abbrev pub is_placed : Placing → Bool
 is_placed (Placed ways moved m) = true
 is_placed (AtCap ways m) = false
@@ -103,6 +110,7 @@ narrowed c leaves (Chained group buckets entries tags) = Chained group buckets e
 narrowed c leaves (Cuckoo rules ways) = Cuckoo rules (ways_taken c (old_leaf c leaves) ways)
 narrowed c leaves (Runs ranges) = Runs ranges
 
+-- The shape after a change: what the new leaf needs comes, then what no leaf needs any more goes.
 unfoldable pub shape_after : Change → List Leaf → Shape → Shape
 shape_after c leaves shape = narrowed c leaves (widened (brought c leaves) shape)
 

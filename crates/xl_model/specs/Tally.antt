@@ -6,9 +6,10 @@ use Rattle.xl_model.specs.declared.event.Refusal.{Refusal}
 use Rattle.xl_model.specs.declared.event.Refusal.TheVariants as refused
 use Rattle.xl_model.specs.declared.row.Counts.{Counts}
 use Rattle.xl_model.specs.declared.work.Work.{Work}
-use Rattle.xl_model.specs.Placing.{plus}
+use Rattle.xl_model.specs.Base.{plus}
 use Rattle.xl_model.specs.Tlb.{TlbArray, Answer, hits_at, misses_at}
 
+-- All counts are 0, of a row with so many arrays.
 unfoldable pub no_counts : ℕ → Counts
 no_counts arrays = record {
   accesses = 0;
@@ -46,12 +47,15 @@ refusal_place refused.NoFrames = 6
 refusal_place refused.NoTable = 7
 refusal_place refused.WayAtCap = 8
 
+-- One more at a place of a list of counts.
 abbrev pub one_more_at : ℕ → List ℕ → List ℕ
 one_more_at i xs = slice_set xs i (plus (slice_index_or xs i 0) 1)
 
+-- A refusal more.
 unfoldable pub count_refusal : Refusal → Counts → Counts
 count_refusal r c = record c { refused = one_more_at (refusal_place r) c.refused }
 
+-- The physical address in a frame of an address.
 abbrev pub physical : ℕ → ℕ → ℕ
 physical frame va = frame * 4096 + va % 4096
 
@@ -70,13 +74,16 @@ count_reply reply.NotCanonical va c = record c { accesses = plus c.accesses 1; n
 count_reply reply.Unmapped va c = record c { accesses = plus c.accesses 1; unmapped = plus c.unmapped 1 }
 count_reply reply.Denied va c = record c { accesses = plus c.accesses 1; denied = plus c.denied 1 }
 
+-- A walk more, with its loads and its cache hits.
 unfoldable pub count_walk : ℕ → ℕ → Counts → Counts
 count_walk reads cache_hits c =
     record c { walks = plus c.walks 1; reads = plus c.reads reads; wc_hits = plus c.wc_hits cache_hits }
 
+-- So many fills of arrays more.
 unfoldable pub count_fills : ℕ → Counts → Counts
 count_fills fills c = record c { fills = plus c.fills fills }
 
+-- One more where a test holds.
 abbrev pub one_more_where : Bool → ℕ → ℕ
 one_more_where true n = plus n 1
 one_more_where false n = n
@@ -104,11 +111,14 @@ count_work w c = record c {
   invalidated = plus c.invalidated w.invalidated;
 }
 
+-- A command more that was done.
 unfoldable pub count_accepted : Counts → Counts
 count_accepted c = record c { accepted = plus c.accepted 1 }
 
+-- So many entries more that left by a purge or a fence.
 unfoldable pub count_invalidated : ℕ → Counts → Counts
 count_invalidated n c = record c { invalidated = plus c.invalidated n }
 
+-- A fence more.
 unfoldable pub count_fence : Counts → Counts
 count_fence c = record c { fences = plus c.fences 1 }

@@ -1,5 +1,5 @@
 -- TLB arrays in levels: look-up, fills, purges and fences. Each set of an array is a recency list.
-use Rattle.std.specs.Prelude.{ℕ, ◌+◌, ◌/◌, ◌%◌, ◌==◌, Bool, true, false, ◌&&◌, not, nat_le, nat_lt, if◌then◌else◌, List, [], ◌∷◌, find, map, length, replicate, slice_index_or, slice_set, Option, None, Some}
+use Rattle.std.specs.Prelude.{ℕ, ◌+◌, ◌/◌, ◌%◌, ◌==◌, Bool, true, false, ◌&&◌, not, nat_le, nat_lt, if◌then◌else◌, List, [], ◌∷◌, find, map, length, replicate, slice_index_or, slice_set, is_some, Option, None, Some}
 use Rattle.xl_model.specs.declared.address.Order.{Order}
 use Rattle.xl_model.specs.declared.address.Order.TheVariants as order
 use Rattle.xl_model.specs.declared.leaf.Leaf.{Leaf}
@@ -12,10 +12,12 @@ use Rattle.xl_model.specs.Addresses.{pages_of, same_order}
 use Rattle.xl_model.specs.Recency.{touched, with_newest, purged}
 use Rattle.xl_model.specs.Mapping.{covers, is_leaf}
 
+-- A TLB array: what it is, and the leaves of each of its sets, newest first.
 pub record TlbArray : Type 0 where
   pub spec : TlbSpec
   pub sets : List (List Leaf)
 
+-- An array takes leaves of this order.
 abbrev pub takes_order : TlbSpec → Order → Bool
 takes_order spec order.K4 = spec.k4
 takes_order spec order.M2 = spec.m2
@@ -25,19 +27,24 @@ takes_order spec order.G1 = spec.g1
 abbrev pub set_number : TlbSpec → Order → ℕ → ℕ
 set_number spec o page = page / pages_of o % spec.sets
 
+-- The leaves of the set in which a leaf of this order that covers the page would stand.
 abbrev pub set_at : TlbArray → Order → ℕ → List Leaf
 set_at a o page = slice_index_or a.sets (set_number a.spec o page) []
 
+-- A leaf of this order that covers the page.
 abbrev pub covers_as : ℕ → ℕ → Order → Leaf → Bool
 covers_as space page o leaf = same_order leaf.order o && covers space page leaf
 
+-- What was found, where the array takes the order.
 abbrev pub where_taken : Bool → Option Leaf → Option Leaf
 where_taken true found = found
 where_taken false found = None
 
+-- The newest leaf of this order in the array that covers the page.
 abbrev pub found_as : TlbArray → ℕ → ℕ → Order → Option Leaf
 found_as a space page o = where_taken (takes_order a.spec o) (find (covers_as space page o) (set_at a o page))
 
+-- The first of two leaves that is there.
 abbrev pub first_found : Option Leaf → Option Leaf → Option Leaf
 first_found (Some leaf) next = Some leaf
 first_found None next = next
@@ -48,6 +55,7 @@ array_hit a space page =
     first_found (found_as a space page order.K4)
     (first_found (found_as a space page order.M2) (found_as a space page order.G1))
 
+-- An array with other leaves in a set.
 abbrev pub with_set : TlbArray → ℕ → List Leaf → TlbArray
 with_set a i items = record a { sets = slice_set a.sets i items }
 
@@ -56,6 +64,7 @@ unfoldable pub array_touched : ℕ → ℕ → Leaf → TlbArray → TlbArray
 array_touched space page leaf a =
     with_set a (set_number a.spec leaf.order page) (touched (covers_as space page leaf.order) (set_at a leaf.order page))
 
+-- A leaf in front of its set, which keeps as many as the width says, where the array takes its order.
 abbrev pub filled_where : Bool → Leaf → TlbArray → TlbArray
 filled_where true leaf a =
     with_set a (set_number a.spec leaf.order leaf.first) (with_newest a.spec.width leaf (set_at a leaf.order leaf.first))
@@ -70,10 +79,12 @@ pub record Answer : Type 0 where
   pub leaf : Leaf
   pub level : ℕ
 
+-- The answer of an array that hits, or else that of those behind it.
 abbrev pub answered_by : Option Leaf → ℕ → Option Answer → Option Answer
 answered_by (Some leaf) level next = Some (record { leaf = leaf; level = level })
 answered_by None level next = next
 
+-- The first array that hits, with its level.
 abbrev pub answer_of : List TlbArray → ℕ → ℕ → Option Answer
 answer_of [] space page = None
 answer_of (a ∷ arrays) space page = answered_by (array_hit a space page) a.spec.level (answer_of arrays space page)
@@ -83,32 +94,32 @@ abbrev pub is_looked : Option Answer → TlbArray → Bool
 is_looked None a = true
 is_looked (Some answer) a = nat_le a.spec.level answer.level
 
-abbrev pub is_hit : Option Leaf → Bool
-is_hit None = false
-is_hit (Some leaf) = true
-
+-- An array that is looked at, and hits.
 abbrev pub hits_at : Option Answer → ℕ → ℕ → TlbArray → Bool
-hits_at answer space page a = is_looked answer a && is_hit (array_hit a space page)
+hits_at answer space page a = is_looked answer a && is_some (array_hit a space page)
 
+-- An array that is looked at, and misses.
 abbrev pub misses_at : Option Answer → ℕ → ℕ → TlbArray → Bool
-misses_at answer space page a = is_looked answer a && not (is_hit (array_hit a space page))
+misses_at answer space page a = is_looked answer a && not (is_some (array_hit a space page))
 
--- at a hit the array that answered is touched, and those of lower-numbered levels are filled
-abbrev pub touched_first : Option Leaf → ℕ → ℕ → TlbArray → List TlbArray → List TlbArray → List TlbArray
-touched_first (Some leaf) space page a arrays rest = array_touched space page leaf a ∷ arrays
-touched_first None space page a arrays rest = a ∷ rest
-
-abbrev pub all_touched : ℕ → ℕ → List TlbArray → List TlbArray
-all_touched space page [] = []
-all_touched space page (a ∷ arrays) =
-    touched_first (array_hit a space page) space page a arrays (all_touched space page arrays)
-
+-- An array before the one that answers is filled where its level is a lower one.
 abbrev pub filled_below : ℕ → Leaf → TlbArray → TlbArray
 filled_below level leaf a = if nat_lt a.spec.level level then array_filled leaf a else a
 
-unfoldable pub arrays_hit : Answer → ℕ → ℕ → List TlbArray → List TlbArray
-arrays_hit answer space page arrays = map (filled_below answer.level answer.leaf) (all_touched space page arrays)
+-- The first array that hits is touched, and those behind it stay.
+abbrev pub touched_or : Option Leaf → ℕ → ℕ → TlbArray → List TlbArray → List TlbArray → List TlbArray
+touched_or (Some leaf) space page a arrays before = array_touched space page leaf a ∷ arrays
+touched_or None space page a arrays before = before
 
+-- The arrays after a hit: those before the array that answered are filled where their level is a lower one, and
+-- that array is touched.
+unfoldable pub arrays_hit : Answer → ℕ → ℕ → List TlbArray → List TlbArray
+arrays_hit answer space page [] = []
+arrays_hit answer space page (a ∷ arrays) =
+    touched_or (array_hit a space page) space page a arrays
+    (filled_below answer.level answer.leaf a ∷ arrays_hit answer space page arrays)
+
+-- A hit at this level fills an array.
 abbrev pub fills_array : ℕ → Leaf → TlbArray → Bool
 fills_array level leaf a = nat_lt a.spec.level level && takes_order a.spec leaf.order
 
@@ -116,6 +127,7 @@ fills_array level leaf a = nat_lt a.spec.level level && takes_order a.spec leaf.
 unfoldable pub arrays_filled : Leaf → List TlbArray → List TlbArray
 arrays_filled leaf arrays = map (array_filled leaf) arrays
 
+-- An array takes a leaf's order.
 abbrev pub takes_leaf : Leaf → TlbArray → Bool
 takes_leaf leaf a = takes_order a.spec leaf.order
 
@@ -132,12 +144,15 @@ reaches_leaf (reach.Space s) leaf = leaf.space == s
 reaches_leaf (reach.Addr page) leaf = covers leaf.space page leaf
 reaches_leaf (reach.Page s page) leaf = covers s page leaf
 
+-- An array without the leaves that meet a test.
 abbrev pub array_without : (Leaf → Bool) → TlbArray → TlbArray
 array_without p a = record a { sets = map (purged p) a.sets }
 
+-- The arrays without the leaves that meet a test.
 unfoldable pub arrays_without : (Leaf → Bool) → List TlbArray → List TlbArray
 arrays_without p arrays = map (array_without p) arrays
 
+-- How many leaves some sets hold.
 abbrev pub leaves_in_sets : List (List Leaf) → ℕ
 leaves_in_sets [] = 0
 leaves_in_sets (s ∷ sets) = length s + leaves_in_sets sets
@@ -147,8 +162,10 @@ unfoldable pub leaves_in : List TlbArray → ℕ
 leaves_in [] = 0
 leaves_in (a ∷ arrays) = leaves_in_sets a.sets + leaves_in arrays
 
+-- An array whose sets are empty.
 abbrev pub opening_array : TlbSpec → TlbArray
 opening_array spec = record { spec = spec; sets = replicate spec.sets [] }
 
+-- The empty arrays of a row that is opened.
 unfoldable pub opening_arrays : List TlbSpec → List TlbArray
 opening_arrays specs = map opening_array specs

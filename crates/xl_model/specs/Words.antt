@@ -2,6 +2,7 @@
 use Rattle.std.specs.Prelude.{ℕ, ◌+◌, ◌*◌, Bool, true, false}
 use Rattle.xl_model.specs.declared.perm.Perm.{Perm}
 
+-- The value of a bit, where it is set.
 abbrev pub bit_if : Bool → ℕ → ℕ
 bit_if true value = value
 bit_if false value = 0

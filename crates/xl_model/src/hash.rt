@@ -14,10 +14,10 @@ pub fn mix(x: u64) -> u64
 }
 
 /// The hash of `key` in cuckoo way `way`: `mix` of the key moved by `way + 1` golden ratios.
+/// Of `n` ways a key's first is `way_hash(n, key) % n`.
 #[tactic(auto, unfolding(crate::specs::Hashes::way_hash))]
 pub fn way_hash(way: u64, key: u64) -> u64
-    requires { way < 4 }
     ensures { result ≡ hashed way key }
 {
-    mix(key.wrapping_add((way + 1).wrapping_mul(0x9e37_79b9_7f4a_7c15)))
+    mix(key.wrapping_add(way.wrapping_add(1).wrapping_mul(0x9e37_79b9_7f4a_7c15)))
 }

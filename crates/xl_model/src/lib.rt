@@ -4,10 +4,12 @@
 
 mod address;
 mod event;
+mod fault;
 mod hash;
 mod leaf;
 mod perm;
 mod row;
+mod script;
 mod structure;
 mod tally;
 mod way;
@@ -15,10 +17,12 @@ mod work;
 
 pub use address::{Kind, Mode, Order, allows, canonical, code, page_of};
 pub use event::{Event, Outcome, Reach, Refusal, Scope};
+pub use fault::InputFault;
 pub use hash::{mix, way_hash};
 pub use leaf::{Leaf, Range, Reply};
 pub use perm::Perm;
 pub use row::{Counts, Purge, Row, Table, TlbSpec};
+pub use script::{Area, Command, Item};
 pub use structure::Structure;
 pub use way::{Entry, Moves, WayRegs};
 pub use work::{Full, NoMemory, NoRoom, NoTable, Refused, Walk, Work};

@@ -3,7 +3,7 @@
 ghost use Rattle.std.specs.Prelude.{◌≡◌, false};
 ghost use Rattle.xl_model.specs.Mapping.{leaf_at_page, meets_any};
 ghost use Rattle.xl_model.specs.Changes.{Insert, Remove, Protect, Relocate, IsNamed};
-ghost use Rattle.xl_model.specs.Structures.{TableState, IsBlock, IsPage, IsLeafFor, table_answer, table_after, walk_answer, table_walked, fence_answer, table_fenced};
+ghost use Rattle.xl_model.specs.Structures.{TableState, IsBlock, IsPage, IsLeafFor, IsChange, IsWalk, IsFence};
 
 use crate::address::Order;
 use crate::event::Reach;
@@ -35,20 +35,17 @@ pub trait Structure: Drop {
     fn insert(&mut self, leaf: Leaf) -> Result<Work, Refused>
         requires valid { IsLeafFor (table self.old).shape leaf }
         requires free { meets_any leaf.space leaf.first leaf.order (table self.old).leaves ≡ false }
-        ensures answer { result ≡ table_answer (Insert leaf) (table self.old) }
-        ensures after { table self.new ≡ table_after (Insert leaf) (table self.old) };
+        ensures changes { IsChange (Insert leaf) (table self.old) result (table self.new) };
 
     /// Drops a leaf that is there. Refused where a table of ranges has no room for the result.
     fn remove(&mut self, space: u16, first: u64, order: Order) -> Result<Work, Refused>
         requires { IsNamed space first order (table self.old).leaves }
-        ensures answer { result ≡ table_answer (Remove space first order) (table self.old) }
-        ensures after { table self.new ≡ table_after (Remove space first order) (table self.old) };
+        ensures changes { IsChange (Remove space first order) (table self.old) result (table self.new) };
 
     /// Gives a leaf that is there another permission. Refused as `remove`.
     fn protect(&mut self, space: u16, first: u64, order: Order, perm: Perm) -> Result<Work, Refused>
         requires { IsNamed space first order (table self.old).leaves }
-        ensures answer { result ≡ table_answer (Protect space first order perm) (table self.old) }
-        ensures after { table self.new ≡ table_after (Protect space first order perm) (table self.old) };
+        ensures changes { IsChange (Protect space first order perm) (table self.old) result (table self.new) };
 
     /// Moves a leaf that is there to the page `to`, where no leaf meets it, with its frame and
     /// permission. Refused as `insert`, judged with both leaves there, and for ranges on the result too.
@@ -56,20 +53,17 @@ pub trait Structure: Drop {
         requires there { IsNamed space first order (table self.old).leaves }
         requires valid { IsBlock (table self.old).shape space to order }
         requires free { meets_any space to order (table self.old).leaves ≡ false }
-        ensures answer { result ≡ table_answer (Relocate space first to order) (table self.old) }
-        ensures after { table self.new ≡ table_after (Relocate space first to order) (table self.old) };
+        ensures changes { IsChange (Relocate space first to order) (table self.old) result (table self.new) };
 
     /// The leaf that covers the page, found by a walk, with the cache hits of the walk. The loads rise
     /// by those of the walk, and the caches are touched and filled.
     fn walk(&mut self, space: u16, page: u64) -> Walk
         requires { IsPage (table self.old).shape space page }
-        ensures answer { result ≡ walk_answer space page (table self.old) }
-        ensures after { table self.new ≡ table_walked space page (table self.old) };
+        ensures walks { IsWalk space page (table self.old) result (table self.new) };
 
     /// Removes from the caches what a fence reaches, and tells how many entries left.
     fn fence(&mut self, reach: Reach) -> u64
-        ensures answer { result ≡ fence_answer reach (table self.old) }
-        ensures after { table self.new ≡ table_fenced reach (table self.old) };
+        ensures fences { IsFence reach (table self.old) result (table self.new) };
 
     /// The loads of all walks so far, modulo 2^64.
     fn loads(&self) -> u64

@@ -1,10 +1,23 @@
 //! What a table answers to the machine above it.
 
+ghost use Rattle.std.specs.Prelude.{◌≡◌};
+ghost use Rattle.xl_model.specs.Placing.{no_moves};
+ghost use Rattle.xl_model.specs.Structures.{work_of};
+
 use crate::leaf::Leaf;
+use std::alloc::AllocError;
 
 /// There is no memory.
 #[derive(Clone, Copy, Debug, PartialEq, Eq)]
 pub struct NoMemory;
+
+impl From<AllocError> for NoMemory {
+    ghost from_gives = { λ _ _. Unit {0} };
+
+    fn from(_error: AllocError) -> NoMemory {
+        NoMemory
+    }
+}
 
 /// A radix table has no free node.
 #[derive(Clone, Copy, Debug, PartialEq, Eq)]
@@ -30,6 +43,21 @@ pub struct Work {
     pub migrated: u64,
     pub growths: u64,
     pub invalidated: u64,
+}
+
+impl Work {
+    /// No work at all.
+    pub fn none() -> Work
+        ensures { result ≡ work_of no_moves 0 }
+    {
+        Work {
+            kicks: 0,
+            undone: 0,
+            migrated: 0,
+            growths: 0,
+            invalidated: 0,
+        }
+    }
 }
 
 /// A refused command, with what was done before the refusal.

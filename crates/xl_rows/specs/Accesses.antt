@@ -5,13 +5,15 @@ use Rattle.xl_model.specs.declared.address.Order.TheVariants as order
 use Rattle.xl_model.specs.declared.address.Kind.TheVariants as kind
 use Rattle.xl_model.specs.declared.event.Event.TheVariants as event
 use Rattle.xl_model.specs.Rows.{Row}
-use Rattle.xl_model.specs.Items.{Item, Command, Declared, Referenced}
+use Rattle.xl_model.specs.declared.script.Item.{Item}
+use Rattle.xl_model.specs.declared.script.Item.TheVariants.{Command, Declared, Referenced}
 use Rattle.xl_rows.specs.Plain.{plain_row, one_array, perm_r__u, perm_rw_u, perm_rwxu}
 
 -- A captured trace with one demand area: six pages fault once each and get frames 0 to 5.
 abbrev pub a_realistic_run_rows : List Row
 a_realistic_run_rows = (record plain_row { tlb = one_array }) ∷ []
 
+-- What is served then.
 abbrev pub a_realistic_run_items : List Item
 a_realistic_run_items =
     (Declared (record { space = 0; page = 0; pages = 67108864; order = order.K4; perm = perm_rwxu })) ∷
@@ -34,6 +36,7 @@ a_realistic_run_items =
 abbrev pub nothing_served_rows : List Row
 nothing_served_rows = plain_row ∷ []
 
+-- What is served then.
 abbrev pub nothing_served_items : List Item
 nothing_served_items =
     []
@@ -42,6 +45,7 @@ nothing_served_items =
 abbrev pub page_sizes_sv39_rows : List Row
 page_sizes_sv39_rows = (record plain_row { frames = 524288 }) ∷ []
 
+-- What is served then.
 abbrev pub page_sizes_sv39_items : List Item
 page_sizes_sv39_items =
     (Command (event.Map 0 0 order.K4 perm_rwxu)) ∷
@@ -55,6 +59,7 @@ page_sizes_sv39_items =
 abbrev pub page_sizes_sv48_rows : List Row
 page_sizes_sv48_rows = (record plain_row { mode = mode.Sv48; frames = 524288 }) ∷ []
 
+-- What is served then.
 abbrev pub page_sizes_sv48_items : List Item
 page_sizes_sv48_items =
     (Command (event.Map 0 0 order.K4 perm_rwxu)) ∷
@@ -68,6 +73,7 @@ page_sizes_sv48_items =
 abbrev pub page_sizes_sv57_rows : List Row
 page_sizes_sv57_rows = (record plain_row { mode = mode.Sv57; frames = 524288 }) ∷ []
 
+-- What is served then.
 abbrev pub page_sizes_sv57_items : List Item
 page_sizes_sv57_items =
     (Command (event.Map 0 0 order.K4 perm_rwxu)) ∷
@@ -81,6 +87,7 @@ page_sizes_sv57_items =
 abbrev pub an_unmapped_load_rows : List Row
 an_unmapped_load_rows = plain_row ∷ []
 
+-- What is served then.
 abbrev pub an_unmapped_load_items : List Item
 an_unmapped_load_items =
     (Referenced 1 4096 kind.Load) ∷ []
@@ -89,6 +96,7 @@ an_unmapped_load_items =
 abbrev pub two_modes_rows : List Row
 two_modes_rows = plain_row ∷ (record plain_row { name = codes "b"; mode = mode.Sv48 }) ∷ []
 
+-- What is served then.
 abbrev pub two_modes_items : List Item
 two_modes_items =
     (Referenced 1 274877906944 kind.Load) ∷ []
@@ -97,6 +105,7 @@ two_modes_items =
 abbrev pub three_modes_rows : List Row
 three_modes_rows = plain_row ∷ (record plain_row { name = codes "b"; mode = mode.Sv48 }) ∷ (record plain_row { name = codes "c"; mode = mode.Sv57 }) ∷ []
 
+-- What is served then.
 abbrev pub three_modes_items : List Item
 three_modes_items =
     (Referenced 1 36028797018963968 kind.Load) ∷
@@ -106,6 +115,7 @@ three_modes_items =
 abbrev pub a_modify_over_a_page_boundary_rows : List Row
 a_modify_over_a_page_boundary_rows = plain_row ∷ []
 
+-- What is served then.
 abbrev pub a_modify_over_a_page_boundary_items : List Item
 a_modify_over_a_page_boundary_items =
     (Command (event.Map 0 4096 order.K4 perm_rw_u)) ∷
@@ -119,6 +129,7 @@ a_modify_over_a_page_boundary_items =
 abbrev pub the_top_of_the_range_rows : List Row
 the_top_of_the_range_rows = plain_row ∷ []
 
+-- What is served then.
 abbrev pub the_top_of_the_range_items : List Item
 the_top_of_the_range_items =
     (Command (event.Map 0 18446744073709547520 order.K4 perm_r__u)) ∷
@@ -128,6 +139,7 @@ the_top_of_the_range_items =
 abbrev pub the_top_of_the_range_sv57_rows : List Row
 the_top_of_the_range_sv57_rows = (record plain_row { mode = mode.Sv57 }) ∷ []
 
+-- What is served then.
 abbrev pub the_top_of_the_range_sv57_items : List Item
 the_top_of_the_range_sv57_items =
     (Command (event.Map 0 18446744073709547520 order.K4 perm_r__u)) ∷
@@ -137,6 +149,7 @@ the_top_of_the_range_sv57_items =
 abbrev pub two_unmapped_accesses_rows : List Row
 two_unmapped_accesses_rows = plain_row ∷ []
 
+-- What is served then.
 abbrev pub two_unmapped_accesses_items : List Item
 two_unmapped_accesses_items =
     (Referenced 1 67150000 kind.Fetch) ∷
@@ -146,6 +159,7 @@ two_unmapped_accesses_items =
 abbrev pub a_first_run_rows : List Row
 a_first_run_rows = (record plain_row { frames = 4096; spaces = 1 }) ∷ []
 
+-- What is served then.
 abbrev pub a_first_run_items : List Item
 a_first_run_items =
     (Command (event.Map 0 4096 order.K4 perm_r__u)) ∷
@@ -157,6 +171,7 @@ a_first_run_items =
 abbrev pub demanded_pages_rows : List Row
 demanded_pages_rows = plain_row ∷ []
 
+-- What is served then.
 abbrev pub demanded_pages_items : List Item
 demanded_pages_items =
     (Declared (record { space = 0; page = 65536; pages = 4096; order = order.K4; perm = perm_rwxu })) ∷

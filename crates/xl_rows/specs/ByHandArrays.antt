@@ -4,7 +4,8 @@ use Rattle.xl_model.specs.declared.address.Order.TheVariants as order
 use Rattle.xl_model.specs.declared.address.Kind.TheVariants as kind
 use Rattle.xl_model.specs.declared.event.Event.TheVariants as event
 use Rattle.xl_model.specs.Rows.{Row}
-use Rattle.xl_model.specs.Items.{Item, Command, Referenced}
+use Rattle.xl_model.specs.declared.script.Item.{Item}
+use Rattle.xl_model.specs.declared.script.Item.TheVariants.{Command, Referenced}
 use Rattle.xl_rows.specs.Plain.{plain_row, perm_r__u}
 
 -- A touch at a full set, and the fill after it. One set of two leaves, newest first; a walk is 3 loads.
@@ -14,6 +15,7 @@ use Rattle.xl_rows.specs.Plain.{plain_row, perm_r__u}
 abbrev pub a_touch_at_a_full_set_rows : List Row
 a_touch_at_a_full_set_rows = (record plain_row { tlb = (record { level = 1; sets = 1; width = 2; k4 = true; m2 = true; g1 = true }) ∷ [] }) ∷ []
 
+-- What is served then.
 abbrev pub a_touch_at_a_full_set_items : List Item
 a_touch_at_a_full_set_items =
     (Command (event.Map 0 4096 order.K4 perm_r__u)) ∷
@@ -33,6 +35,7 @@ a_touch_at_a_full_set_items =
 abbrev pub a_touch_in_the_middle_rows : List Row
 a_touch_in_the_middle_rows = (record plain_row { tlb = (record { level = 1; sets = 1; width = 4; k4 = true; m2 = true; g1 = true }) ∷ [] }) ∷ []
 
+-- What is served then.
 abbrev pub a_touch_in_the_middle_items : List Item
 a_touch_in_the_middle_items =
     (Command (event.Map 0 4096 order.K4 perm_r__u)) ∷
@@ -60,6 +63,7 @@ a_touch_in_the_middle_items =
 abbrev pub a_hit_in_the_third_level_rows : List Row
 a_hit_in_the_third_level_rows = (record plain_row { frames = 1024; tlb = (record { level = 1; sets = 1; width = 1; k4 = true; m2 = false; g1 = false }) ∷ (record { level = 2; sets = 1; width = 1; k4 = false; m2 = true; g1 = false }) ∷ (record { level = 3; sets = 1; width = 4; k4 = true; m2 = true; g1 = true }) ∷ [] }) ∷ []
 
+-- What is served then.
 abbrev pub a_hit_in_the_third_level_items : List Item
 a_hit_in_the_third_level_items =
     (Command (event.Map 0 4096 order.K4 perm_r__u)) ∷
@@ -81,6 +85,7 @@ a_hit_in_the_third_level_items =
 abbrev pub a_hit_in_the_third_level_fills_two_rows : List Row
 a_hit_in_the_third_level_fills_two_rows = (record plain_row { frames = 1024; tlb = (record { level = 1; sets = 1; width = 1; k4 = true; m2 = true; g1 = false }) ∷ (record { level = 2; sets = 1; width = 1; k4 = true; m2 = false; g1 = false }) ∷ (record { level = 3; sets = 1; width = 4; k4 = true; m2 = true; g1 = true }) ∷ [] }) ∷ []
 
+-- What is served then.
 abbrev pub a_hit_in_the_third_level_fills_two_items : List Item
 a_hit_in_the_third_level_fills_two_items =
     (Command (event.Map 0 4096 order.K4 perm_r__u)) ∷
@@ -102,6 +107,7 @@ a_hit_in_the_third_level_fills_two_items =
 abbrev pub a_hit_in_a_later_level_touches_it_rows : List Row
 a_hit_in_a_later_level_touches_it_rows = (record plain_row { tlb = (record { level = 1; sets = 1; width = 1; k4 = true; m2 = true; g1 = true }) ∷ (record { level = 2; sets = 1; width = 2; k4 = true; m2 = true; g1 = true }) ∷ [] }) ∷ []
 
+-- What is served then.
 abbrev pub a_hit_in_a_later_level_touches_it_items : List Item
 a_hit_in_a_later_level_touches_it_items =
     (Command (event.Map 0 4096 order.K4 perm_r__u)) ∷
@@ -122,6 +128,7 @@ a_hit_in_a_later_level_touches_it_items =
 abbrev pub a_hit_in_the_first_level_touches_it_alone_rows : List Row
 a_hit_in_the_first_level_touches_it_alone_rows = (record plain_row { tlb = (record { level = 1; sets = 1; width = 2; k4 = true; m2 = true; g1 = true }) ∷ (record { level = 2; sets = 1; width = 2; k4 = true; m2 = true; g1 = true }) ∷ [] }) ∷ []
 
+-- What is served then.
 abbrev pub a_hit_in_the_first_level_touches_it_alone_items : List Item
 a_hit_in_the_first_level_touches_it_alone_items =
     (Command (event.Map 0 4096 order.K4 perm_r__u)) ∷
@@ -140,6 +147,7 @@ a_hit_in_the_first_level_touches_it_alone_items =
 abbrev pub two_sets_rows : List Row
 two_sets_rows = (record plain_row { tlb = (record { level = 1; sets = 2; width = 1; k4 = true; m2 = false; g1 = false }) ∷ [] }) ∷ []
 
+-- What is served then.
 abbrev pub two_sets_items : List Item
 two_sets_items =
     (Command (event.Map 0 4096 order.K4 perm_r__u)) ∷
@@ -161,6 +169,7 @@ two_sets_items =
 abbrev pub sets_by_the_order_rows : List Row
 sets_by_the_order_rows = (record plain_row { frames = 2048; tlb = (record { level = 1; sets = 2; width = 1; k4 = true; m2 = true; g1 = false }) ∷ [] }) ∷ []
 
+-- What is served then.
 abbrev pub sets_by_the_order_items : List Item
 sets_by_the_order_items =
     (Command (event.Map 0 2097152 order.M2 perm_r__u)) ∷
@@ -180,6 +189,7 @@ sets_by_the_order_items =
 abbrev pub three_orders_in_one_array_rows : List Row
 three_orders_in_one_array_rows = (record plain_row { frames = 524288; tlb = (record { level = 1; sets = 1; width = 4; k4 = true; m2 = true; g1 = true }) ∷ [] }) ∷ []
 
+-- What is served then.
 abbrev pub three_orders_in_one_array_items : List Item
 three_orders_in_one_array_items =
     (Command (event.Map 0 0 order.K4 perm_r__u)) ∷
@@ -197,6 +207,7 @@ three_orders_in_one_array_items =
 abbrev pub a_denied_access_fills_rows : List Row
 a_denied_access_fills_rows = (record plain_row { tlb = (record { level = 1; sets = 1; width = 4; k4 = true; m2 = true; g1 = true }) ∷ [] }) ∷ []
 
+-- What is served then.
 abbrev pub a_denied_access_fills_items : List Item
 a_denied_access_fills_items =
     (Command (event.Map 0 4096 order.K4 perm_r__u)) ∷
@@ -208,6 +219,7 @@ a_denied_access_fills_items =
 abbrev pub accesses_that_fill_nothing_rows : List Row
 accesses_that_fill_nothing_rows = (record plain_row { tlb = (record { level = 1; sets = 1; width = 4; k4 = true; m2 = true; g1 = true }) ∷ [] }) ∷ []
 
+-- What is served then.
 abbrev pub accesses_that_fill_nothing_items : List Item
 accesses_that_fill_nothing_items =
     (Referenced 1 274877906944 kind.Load) ∷

@@ -5,7 +5,8 @@ use Rattle.xl_model.specs.declared.address.Kind.TheVariants as kind
 use Rattle.xl_model.specs.declared.event.Event.TheVariants as event
 use Rattle.xl_model.specs.declared.row.Table.TheVariants as table
 use Rattle.xl_model.specs.Rows.{Row}
-use Rattle.xl_model.specs.Items.{Item, Command, Referenced}
+use Rattle.xl_model.specs.declared.script.Item.{Item}
+use Rattle.xl_model.specs.declared.script.Item.TheVariants.{Command, Referenced}
 use Rattle.xl_rows.specs.Plain.{plain_row, perm_r__u, perm_rw_u}
 
 -- One bucket, newest first. Pages 1, 2, 3: [3, 2, 1]. Page 1 moves to page 5: [5, 3, 2]. Page 5: the head and 1 entry,
@@ -13,6 +14,7 @@ use Rattle.xl_rows.specs.Plain.{plain_row, perm_r__u, perm_rw_u}
 abbrev pub a_moved_tag_is_in_front_rows : List Row
 a_moved_tag_is_in_front_rows = (record plain_row { table = table.Hashed 1 8 }) ∷ []
 
+-- What is served then.
 abbrev pub a_moved_tag_is_in_front_items : List Item
 a_moved_tag_is_in_front_items =
     (Command (event.Map 0 4096 order.K4 perm_r__u)) ∷
@@ -27,6 +29,7 @@ a_moved_tag_is_in_front_items =
 abbrev pub a_protect_leaves_the_place_rows : List Row
 a_protect_leaves_the_place_rows = (record plain_row { table = table.Hashed 1 8 }) ∷ []
 
+-- What is served then.
 abbrev pub a_protect_leaves_the_place_items : List Item
 a_protect_leaves_the_place_items =
     (Command (event.Map 0 4096 order.K4 perm_r__u)) ∷
@@ -42,6 +45,7 @@ a_protect_leaves_the_place_items =
 abbrev pub a_removal_closes_up_rows : List Row
 a_removal_closes_up_rows = (record plain_row { table = table.Hashed 1 8 }) ∷ []
 
+-- What is served then.
 abbrev pub a_removal_closes_up_items : List Item
 a_removal_closes_up_items =
     (Command (event.Map 0 4096 order.K4 perm_r__u)) ∷
@@ -61,6 +65,7 @@ a_removal_closes_up_items =
 abbrev pub two_buckets_rows : List Row
 two_buckets_rows = (record plain_row { table = table.Hashed 2 8 }) ∷ []
 
+-- What is served then.
 abbrev pub two_buckets_items : List Item
 two_buckets_items =
     (Command (event.Map 0 0 order.K4 perm_r__u)) ∷
@@ -79,6 +84,7 @@ two_buckets_items =
 abbrev pub empty_slots_of_two_blocks_rows : List Row
 empty_slots_of_two_blocks_rows = (record plain_row { frames = 1024; table = table.Clustered 1 8 }) ∷ []
 
+-- What is served then.
 abbrev pub empty_slots_of_two_blocks_items : List Item
 empty_slots_of_two_blocks_items =
     (Command (event.Map 0 4096 order.K4 perm_r__u)) ∷
@@ -92,6 +98,7 @@ empty_slots_of_two_blocks_items =
 abbrev pub a_page_into_a_block_rows : List Row
 a_page_into_a_block_rows = (record plain_row { table = table.Clustered 1 8 }) ∷ []
 
+-- What is served then.
 abbrev pub a_page_into_a_block_items : List Item
 a_page_into_a_block_items =
     (Command (event.Map 0 4096 order.K4 perm_r__u)) ∷
@@ -108,6 +115,7 @@ a_page_into_a_block_items =
 abbrev pub an_empty_block_is_removed_rows : List Row
 an_empty_block_is_removed_rows = (record plain_row { table = table.Clustered 1 8 }) ∷ []
 
+-- What is served then.
 abbrev pub an_empty_block_is_removed_items : List Item
 an_empty_block_is_removed_items =
     (Command (event.Map 0 4096 order.K4 perm_r__u)) ∷
@@ -126,6 +134,7 @@ an_empty_block_is_removed_items =
 abbrev pub a_move_within_a_block_rows : List Row
 a_move_within_a_block_rows = (record plain_row { table = table.Clustered 1 2 }) ∷ []
 
+-- What is served then.
 abbrev pub a_move_within_a_block_items : List Item
 a_move_within_a_block_items =
     (Command (event.Map 0 4096 order.K4 perm_r__u)) ∷
@@ -140,6 +149,7 @@ a_move_within_a_block_items =
 abbrev pub tags_of_two_spaces_rows : List Row
 tags_of_two_spaces_rows = (record plain_row { table = table.Hashed 1 8 }) ∷ []
 
+-- What is served then.
 abbrev pub tags_of_two_spaces_items : List Item
 tags_of_two_spaces_items =
     (Command (event.Map 0 4096 order.K4 perm_r__u)) ∷

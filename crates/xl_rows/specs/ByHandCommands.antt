@@ -6,7 +6,8 @@ use Rattle.xl_model.specs.declared.event.Event.TheVariants as event
 use Rattle.xl_model.specs.declared.event.Scope.TheVariants as scope
 use Rattle.xl_model.specs.declared.row.Table.TheVariants as table
 use Rattle.xl_model.specs.Rows.{Row}
-use Rattle.xl_model.specs.Items.{Item, Command, Declared, Referenced}
+use Rattle.xl_model.specs.declared.script.Item.{Item}
+use Rattle.xl_model.specs.declared.script.Item.TheVariants.{Command, Declared, Referenced}
 use Rattle.xl_rows.specs.Plain.{plain_row, perm_r__u, perm_rw_u, perm_r___}
 
 -- One frame, a radix table of 4 frames: 2 roots, and 2 nodes that the first map takes, as it takes the frame. Address 2^38 is
@@ -17,6 +18,7 @@ use Rattle.xl_rows.specs.Plain.{plain_row, perm_r__u, perm_rw_u, perm_r___}
 abbrev pub refusals_in_order_rows : List Row
 refusals_in_order_rows = (record plain_row { frames = 1; table = table.Radix 4 (0 ∷ 0 ∷ 0 ∷ 0 ∷ []) }) ∷ []
 
+-- What is served then.
 abbrev pub refusals_in_order_items : List Item
 refusals_in_order_items =
     (Command (event.Map 0 0 order.K4 perm_r__u)) ∷
@@ -36,6 +38,7 @@ refusals_in_order_items =
 abbrev pub moves_refused_in_order_rows : List Row
 moves_refused_in_order_rows = plain_row ∷ []
 
+-- What is served then.
 abbrev pub moves_refused_in_order_items : List Item
 moves_refused_in_order_items =
     (Command (event.Map 0 4096 order.K4 perm_r__u)) ∷
@@ -55,6 +58,7 @@ moves_refused_in_order_items =
 abbrev pub protects_and_unmaps_refused_in_order_rows : List Row
 protects_and_unmaps_refused_in_order_rows = (record plain_row { frames = 1024 }) ∷ []
 
+-- What is served then.
 abbrev pub protects_and_unmaps_refused_in_order_items : List Item
 protects_and_unmaps_refused_in_order_items =
     (Command (event.Map 0 2097152 order.M2 perm_r__u)) ∷
@@ -75,6 +79,7 @@ protects_and_unmaps_refused_in_order_items =
 abbrev pub fences_and_spaces_refused_rows : List Row
 fences_and_spaces_refused_rows = plain_row ∷ []
 
+-- What is served then.
 abbrev pub fences_and_spaces_refused_items : List Item
 fences_and_spaces_refused_items =
     (Command (event.Space 2)) ∷
@@ -90,6 +95,7 @@ fences_and_spaces_refused_items =
 abbrev pub no_room_before_the_cap_rows : List Row
 no_room_before_the_cap_rows = (record plain_row { table = table.Cuckoo 2 0 0 50 2 1 1 4 (0 ∷ 0 ∷ []) }) ∷ []
 
+-- What is served then.
 abbrev pub no_room_before_the_cap_items : List Item
 no_room_before_the_cap_items =
     (Command (event.Map 0 0 order.K4 perm_r__u)) ∷
@@ -102,6 +108,7 @@ no_room_before_the_cap_items =
 abbrev pub an_area_of_another_space_rows : List Row
 an_area_of_another_space_rows = plain_row ∷ []
 
+-- What is served then.
 abbrev pub an_area_of_another_space_items : List Item
 an_area_of_another_space_items =
     (Declared (record { space = 1; page = 0; pages = 16; order = order.K4; perm = perm_r__u })) ∷
@@ -114,6 +121,7 @@ an_area_of_another_space_items =
 abbrev pub two_areas_over_one_page_rows : List Row
 two_areas_over_one_page_rows = plain_row ∷ []
 
+-- What is served then.
 abbrev pub two_areas_over_one_page_items : List Item
 two_areas_over_one_page_items =
     (Declared (record { space = 1; page = 0; pages = 16; order = order.K4; perm = perm_r__u })) ∷
@@ -128,6 +136,7 @@ two_areas_over_one_page_items =
 abbrev pub a_demand_of_a_large_page_rows : List Row
 a_demand_of_a_large_page_rows = (record plain_row { frames = 1024 }) ∷ []
 
+-- What is served then.
 abbrev pub a_demand_of_a_large_page_items : List Item
 a_demand_of_a_large_page_items =
     (Declared (record { space = 0; page = 512; pages = 1024; order = order.M2; perm = perm_r__u })) ∷
@@ -141,6 +150,7 @@ a_demand_of_a_large_page_items =
 abbrev pub a_demand_that_is_refused_rows : List Row
 a_demand_that_is_refused_rows = (record plain_row { frames = 1 }) ∷ []
 
+-- What is served then.
 abbrev pub a_demand_that_is_refused_items : List Item
 a_demand_that_is_refused_items =
     (Command (event.Map 0 2101248 order.K4 perm_r__u)) ∷
@@ -154,6 +164,7 @@ a_demand_that_is_refused_items =
 abbrev pub only_an_unmapped_access_demands_rows : List Row
 only_an_unmapped_access_demands_rows = plain_row ∷ []
 
+-- What is served then.
 abbrev pub only_an_unmapped_access_demands_items : List Item
 only_an_unmapped_access_demands_items =
     (Command (event.Map 0 4096 order.K4 perm_r__u)) ∷
@@ -167,6 +178,7 @@ only_an_unmapped_access_demands_items =
 abbrev pub the_edges_of_an_area_rows : List Row
 the_edges_of_an_area_rows = plain_row ∷ []
 
+-- What is served then.
 abbrev pub the_edges_of_an_area_items : List Item
 the_edges_of_an_area_items =
     (Referenced 1 16384 kind.Load) ∷
@@ -182,6 +194,7 @@ the_edges_of_an_area_items =
 abbrev pub an_area_of_high_addresses_rows : List Row
 an_area_of_high_addresses_rows = plain_row ∷ []
 
+-- What is served then.
 abbrev pub an_area_of_high_addresses_items : List Item
 an_area_of_high_addresses_items =
     (Declared (record { space = 0; page = 67108864; pages = 16; order = order.K4; perm = perm_r___ })) ∷

@@ -6,7 +6,8 @@ use Rattle.xl_model.specs.declared.address.Kind.TheVariants as kind
 use Rattle.xl_model.specs.declared.event.Event.TheVariants as event
 use Rattle.xl_model.specs.declared.row.Table.TheVariants as table
 use Rattle.xl_model.specs.Rows.{Row}
-use Rattle.xl_model.specs.Items.{Item, Command, Referenced}
+use Rattle.xl_model.specs.declared.script.Item.{Item}
+use Rattle.xl_model.specs.declared.script.Item.TheVariants.{Command, Referenced}
 use Rattle.xl_rows.specs.Plain.{plain_row, perm_r__u, perm_rw_u, perm_rwxu, perm_r_xu}
 
 -- Walk caches of four tags for levels 0 and 1. The walk of the 2 MiB leaf at page 512 reads the root and the node of
@@ -17,6 +18,7 @@ use Rattle.xl_rows.specs.Plain.{plain_row, perm_r__u, perm_rw_u, perm_rwxu, perm
 abbrev pub a_large_leaf_fills_one_cache_rows : List Row
 a_large_leaf_fills_one_cache_rows = (record plain_row { frames = 1024; table = table.Radix 64 (4 ∷ 4 ∷ 0 ∷ 0 ∷ []) }) ∷ []
 
+-- What is served then.
 abbrev pub a_large_leaf_fills_one_cache_items : List Item
 a_large_leaf_fills_one_cache_items =
     (Command (event.Map 0 2097152 order.M2 perm_r__u)) ∷
@@ -31,6 +33,7 @@ a_large_leaf_fills_one_cache_items =
 abbrev pub the_tags_of_a_large_leaf_rows : List Row
 the_tags_of_a_large_leaf_rows = (record plain_row { frames = 1024; table = table.Radix 64 (4 ∷ 4 ∷ 0 ∷ 0 ∷ []) }) ∷ []
 
+-- What is served then.
 abbrev pub the_tags_of_a_large_leaf_items : List Item
 the_tags_of_a_large_leaf_items =
     (Command (event.Map 0 2097152 order.M2 perm_r__u)) ∷
@@ -43,6 +46,7 @@ the_tags_of_a_large_leaf_items =
 abbrev pub a_1g_leaf_fills_no_cache_rows : List Row
 a_1g_leaf_fills_no_cache_rows = (record plain_row { frames = 262144; table = table.Radix 64 (4 ∷ 4 ∷ 0 ∷ 0 ∷ []) }) ∷ []
 
+-- What is served then.
 abbrev pub a_1g_leaf_fills_no_cache_items : List Item
 a_1g_leaf_fills_no_cache_items =
     (Command (event.Map 0 1073741824 order.G1 perm_r__u)) ∷
@@ -57,6 +61,7 @@ a_1g_leaf_fills_no_cache_items =
 abbrev pub a_walk_from_the_middle_fills_below_rows : List Row
 a_walk_from_the_middle_fills_below_rows = (record plain_row { mode = mode.Sv48; table = table.Radix 64 (4 ∷ 4 ∷ 4 ∷ 0 ∷ []) }) ∷ []
 
+-- What is served then.
 abbrev pub a_walk_from_the_middle_fills_below_items : List Item
 a_walk_from_the_middle_fills_below_items =
     (Command (event.Map 0 4096 order.K4 perm_r__u)) ∷
@@ -73,6 +78,7 @@ a_walk_from_the_middle_fills_below_items =
 abbrev pub a_touch_of_a_node_tag_rows : List Row
 a_touch_of_a_node_tag_rows = (record plain_row { table = table.Radix 64 (2 ∷ 0 ∷ 0 ∷ 0 ∷ []) }) ∷ []
 
+-- What is served then.
 abbrev pub a_touch_of_a_node_tag_items : List Item
 a_touch_of_a_node_tag_items =
     (Command (event.Map 0 4096 order.K4 perm_r__u)) ∷
@@ -91,6 +97,7 @@ a_touch_of_a_node_tag_items =
 abbrev pub unmapped_pages_below_cached_nodes_rows : List Row
 unmapped_pages_below_cached_nodes_rows = (record plain_row { table = table.Radix 64 (4 ∷ 4 ∷ 0 ∷ 0 ∷ []) }) ∷ []
 
+-- What is served then.
 abbrev pub unmapped_pages_below_cached_nodes_items : List Item
 unmapped_pages_below_cached_nodes_items =
     (Command (event.Map 0 4096 order.K4 perm_r__u)) ∷
@@ -110,6 +117,7 @@ unmapped_pages_below_cached_nodes_items =
 abbrev pub a_freed_number_taken_again_rows : List Row
 a_freed_number_taken_again_rows = plain_row ∷ []
 
+-- What is served then.
 abbrev pub a_freed_number_taken_again_items : List Item
 a_freed_number_taken_again_items =
     (Command (event.Map 0 4096 order.K4 perm_r__u)) ∷
@@ -124,6 +132,7 @@ a_freed_number_taken_again_items =
 abbrev pub a_move_makes_before_it_frees_rows : List Row
 a_move_makes_before_it_frees_rows = plain_row ∷ []
 
+-- What is served then.
 abbrev pub a_move_makes_before_it_frees_items : List Item
 a_move_makes_before_it_frees_items =
     (Command (event.Map 0 4096 order.K4 perm_r__u)) ∷
@@ -136,6 +145,7 @@ a_move_makes_before_it_frees_items =
 abbrev pub words_of_large_leaves_rows : List Row
 words_of_large_leaves_rows = (record plain_row { frames = 524288 }) ∷ []
 
+-- What is served then.
 abbrev pub words_of_large_leaves_items : List Item
 words_of_large_leaves_items =
     (Command (event.Map 1 4194304 order.M2 perm_rwxu)) ∷
@@ -149,6 +159,7 @@ words_of_large_leaves_items =
 abbrev pub a_hit_at_level_0_touches_no_other_rows : List Row
 a_hit_at_level_0_touches_no_other_rows = (record plain_row { table = table.Radix 64 (4 ∷ 2 ∷ 0 ∷ 0 ∷ []) }) ∷ []
 
+-- What is served then.
 abbrev pub a_hit_at_level_0_touches_no_other_items : List Item
 a_hit_at_level_0_touches_no_other_items =
     (Command (event.Map 0 4096 order.K4 perm_r__u)) ∷
@@ -165,6 +176,7 @@ a_hit_at_level_0_touches_no_other_items =
 abbrev pub a_protect_leaves_node_tags_rows : List Row
 a_protect_leaves_node_tags_rows = (record plain_row { table = table.Radix 64 (4 ∷ 4 ∷ 0 ∷ 0 ∷ []) }) ∷ []
 
+-- What is served then.
 abbrev pub a_protect_leaves_node_tags_items : List Item
 a_protect_leaves_node_tags_items =
     (Command (event.Map 0 4096 order.K4 perm_r__u)) ∷
@@ -177,6 +189,7 @@ a_protect_leaves_node_tags_items =
 abbrev pub a_move_takes_a_node_tag_rows : List Row
 a_move_takes_a_node_tag_rows = (record plain_row { table = table.Radix 64 (4 ∷ 4 ∷ 0 ∷ 0 ∷ []) }) ∷ []
 
+-- What is served then.
 abbrev pub a_move_takes_a_node_tag_items : List Item
 a_move_takes_a_node_tag_items =
     (Command (event.Map 0 4096 order.K4 perm_r__u)) ∷

@@ -7,7 +7,8 @@ use Rattle.xl_model.specs.declared.event.Scope.TheVariants as scope
 use Rattle.xl_model.specs.declared.row.Purge.TheVariants as purge
 use Rattle.xl_model.specs.declared.row.Table.TheVariants as table
 use Rattle.xl_model.specs.Rows.{Row}
-use Rattle.xl_model.specs.Items.{Item, Command, Referenced}
+use Rattle.xl_model.specs.declared.script.Item.{Item}
+use Rattle.xl_model.specs.declared.script.Item.TheVariants.{Command, Referenced}
 use Rattle.xl_rows.specs.Plain.{plain_row, perm_r__u, perm_rw_u}
 
 -- The array holds pages 1 and 2 of space 0 and page 1 of space 1, each filled by a miss and a walk of 3 loads.
@@ -16,6 +17,7 @@ use Rattle.xl_rows.specs.Plain.{plain_row, perm_r__u, perm_rw_u}
 abbrev pub unmap_by_page_rows : List Row
 unmap_by_page_rows = (record plain_row { tlb = (record { level = 1; sets = 1; width = 8; k4 = true; m2 = true; g1 = true }) ∷ [] }) ∷ []
 
+-- What is served then.
 abbrev pub unmap_by_page_items : List Item
 unmap_by_page_items =
     (Command (event.Map 0 4096 order.K4 perm_r__u)) ∷
@@ -36,6 +38,7 @@ unmap_by_page_items =
 abbrev pub unmap_by_space_rows : List Row
 unmap_by_space_rows = (record plain_row { purge = purge.Space; tlb = (record { level = 1; sets = 1; width = 8; k4 = true; m2 = true; g1 = true }) ∷ [] }) ∷ []
 
+-- What is served then.
 abbrev pub unmap_by_space_items : List Item
 unmap_by_space_items =
     (Command (event.Map 0 4096 order.K4 perm_r__u)) ∷
@@ -56,6 +59,7 @@ unmap_by_space_items =
 abbrev pub unmap_by_all_rows : List Row
 unmap_by_all_rows = (record plain_row { purge = purge.All; tlb = (record { level = 1; sets = 1; width = 8; k4 = true; m2 = true; g1 = true }) ∷ [] }) ∷ []
 
+-- What is served then.
 abbrev pub unmap_by_all_items : List Item
 unmap_by_all_items =
     (Command (event.Map 0 4096 order.K4 perm_r__u)) ∷
@@ -76,6 +80,7 @@ unmap_by_all_items =
 abbrev pub protect_by_page_rows : List Row
 protect_by_page_rows = (record plain_row { tlb = (record { level = 1; sets = 1; width = 8; k4 = true; m2 = true; g1 = true }) ∷ [] }) ∷ []
 
+-- What is served then.
 abbrev pub protect_by_page_items : List Item
 protect_by_page_items =
     (Command (event.Map 0 4096 order.K4 perm_r__u)) ∷
@@ -96,6 +101,7 @@ protect_by_page_items =
 abbrev pub protect_by_space_rows : List Row
 protect_by_space_rows = (record plain_row { purge = purge.Space; tlb = (record { level = 1; sets = 1; width = 8; k4 = true; m2 = true; g1 = true }) ∷ [] }) ∷ []
 
+-- What is served then.
 abbrev pub protect_by_space_items : List Item
 protect_by_space_items =
     (Command (event.Map 0 4096 order.K4 perm_r__u)) ∷
@@ -116,6 +122,7 @@ protect_by_space_items =
 abbrev pub protect_by_all_rows : List Row
 protect_by_all_rows = (record plain_row { purge = purge.All; tlb = (record { level = 1; sets = 1; width = 8; k4 = true; m2 = true; g1 = true }) ∷ [] }) ∷ []
 
+-- What is served then.
 abbrev pub protect_by_all_items : List Item
 protect_by_all_items =
     (Command (event.Map 0 4096 order.K4 perm_r__u)) ∷
@@ -136,6 +143,7 @@ protect_by_all_items =
 abbrev pub move_by_page_rows : List Row
 move_by_page_rows = (record plain_row { tlb = (record { level = 1; sets = 1; width = 8; k4 = true; m2 = true; g1 = true }) ∷ [] }) ∷ []
 
+-- What is served then.
 abbrev pub move_by_page_items : List Item
 move_by_page_items =
     (Command (event.Map 0 4096 order.K4 perm_r__u)) ∷
@@ -156,6 +164,7 @@ move_by_page_items =
 abbrev pub move_by_space_rows : List Row
 move_by_space_rows = (record plain_row { purge = purge.Space; tlb = (record { level = 1; sets = 1; width = 8; k4 = true; m2 = true; g1 = true }) ∷ [] }) ∷ []
 
+-- What is served then.
 abbrev pub move_by_space_items : List Item
 move_by_space_items =
     (Command (event.Map 0 4096 order.K4 perm_r__u)) ∷
@@ -176,6 +185,7 @@ move_by_space_items =
 abbrev pub move_by_all_rows : List Row
 move_by_all_rows = (record plain_row { purge = purge.All; tlb = (record { level = 1; sets = 1; width = 8; k4 = true; m2 = true; g1 = true }) ∷ [] }) ∷ []
 
+-- What is served then.
 abbrev pub move_by_all_items : List Item
 move_by_all_items =
     (Command (event.Map 0 4096 order.K4 perm_r__u)) ∷
@@ -194,6 +204,7 @@ move_by_all_items =
 abbrev pub a_map_purges_nothing_rows : List Row
 a_map_purges_nothing_rows = (record plain_row { purge = purge.All; tlb = (record { level = 1; sets = 1; width = 8; k4 = true; m2 = true; g1 = true }) ∷ [] }) ∷ []
 
+-- What is served then.
 abbrev pub a_map_purges_nothing_items : List Item
 a_map_purges_nothing_items =
     (Command (event.Map 0 4096 order.K4 perm_r__u)) ∷
@@ -206,6 +217,7 @@ a_map_purges_nothing_items =
 abbrev pub a_refused_command_purges_nothing_rows : List Row
 a_refused_command_purges_nothing_rows = (record plain_row { purge = purge.All; tlb = (record { level = 1; sets = 1; width = 8; k4 = true; m2 = true; g1 = true }) ∷ [] }) ∷ []
 
+-- What is served then.
 abbrev pub a_refused_command_purges_nothing_items : List Item
 a_refused_command_purges_nothing_items =
     (Command (event.Map 0 4096 order.K4 perm_r__u)) ∷
@@ -219,6 +231,7 @@ a_refused_command_purges_nothing_items =
 abbrev pub a_purge_in_every_level_rows : List Row
 a_purge_in_every_level_rows = (record plain_row { tlb = (record { level = 1; sets = 1; width = 2; k4 = true; m2 = true; g1 = true }) ∷ (record { level = 2; sets = 1; width = 4; k4 = true; m2 = true; g1 = true }) ∷ [] }) ∷ []
 
+-- What is served then.
 abbrev pub a_purge_in_every_level_items : List Item
 a_purge_in_every_level_items =
     (Command (event.Map 0 4096 order.K4 perm_r__u)) ∷
@@ -232,6 +245,7 @@ a_purge_in_every_level_items =
 abbrev pub node_tags_at_a_purge_of_all_rows : List Row
 node_tags_at_a_purge_of_all_rows = (record plain_row { purge = purge.All; table = table.Radix 64 (4 ∷ 4 ∷ 0 ∷ 0 ∷ []); tlb = (record { level = 1; sets = 1; width = 8; k4 = true; m2 = true; g1 = true }) ∷ [] }) ∷ []
 
+-- What is served then.
 abbrev pub node_tags_at_a_purge_of_all_items : List Item
 node_tags_at_a_purge_of_all_items =
     (Command (event.Map 0 4096 order.K4 perm_r__u)) ∷
@@ -249,6 +263,7 @@ node_tags_at_a_purge_of_all_items =
 abbrev pub fence_of_addr_of_both_spaces_rows : List Row
 fence_of_addr_of_both_spaces_rows = (record plain_row { table = table.Range 4 4; tlb = (record { level = 1; sets = 1; width = 8; k4 = true; m2 = true; g1 = true }) ∷ [] }) ∷ []
 
+-- What is served then.
 abbrev pub fence_of_addr_of_both_spaces_items : List Item
 fence_of_addr_of_both_spaces_items =
     (Command (event.Map 0 4096 order.K4 perm_r__u)) ∷
@@ -273,6 +288,7 @@ fence_of_addr_of_both_spaces_items =
 abbrev pub fence_of_addr_of_one_space_rows : List Row
 fence_of_addr_of_one_space_rows = (record plain_row { table = table.Range 4 4; tlb = (record { level = 1; sets = 1; width = 8; k4 = true; m2 = true; g1 = true }) ∷ [] }) ∷ []
 
+-- What is served then.
 abbrev pub fence_of_addr_of_one_space_items : List Item
 fence_of_addr_of_one_space_items =
     (Command (event.Map 0 4096 order.K4 perm_r__u)) ∷
@@ -297,6 +313,7 @@ fence_of_addr_of_one_space_items =
 abbrev pub fence_of_page_of_space_1_rows : List Row
 fence_of_page_of_space_1_rows = (record plain_row { table = table.Range 4 4; tlb = (record { level = 1; sets = 1; width = 8; k4 = true; m2 = true; g1 = true }) ∷ [] }) ∷ []
 
+-- What is served then.
 abbrev pub fence_of_page_of_space_1_items : List Item
 fence_of_page_of_space_1_items =
     (Command (event.Map 0 4096 order.K4 perm_r__u)) ∷
@@ -321,6 +338,7 @@ fence_of_page_of_space_1_items =
 abbrev pub fence_of_page_of_space_0_rows : List Row
 fence_of_page_of_space_0_rows = (record plain_row { table = table.Range 4 4; tlb = (record { level = 1; sets = 1; width = 8; k4 = true; m2 = true; g1 = true }) ∷ [] }) ∷ []
 
+-- What is served then.
 abbrev pub fence_of_page_of_space_0_items : List Item
 fence_of_page_of_space_0_items =
     (Command (event.Map 0 4096 order.K4 perm_r__u)) ∷
@@ -344,6 +362,7 @@ fence_of_page_of_space_0_items =
 abbrev pub fence_of_page_of_no_leaf_rows : List Row
 fence_of_page_of_no_leaf_rows = (record plain_row { table = table.Range 4 4; tlb = (record { level = 1; sets = 1; width = 8; k4 = true; m2 = true; g1 = true }) ∷ [] }) ∷ []
 
+-- What is served then.
 abbrev pub fence_of_page_of_no_leaf_items : List Item
 fence_of_page_of_no_leaf_items =
     (Command (event.Map 0 4096 order.K4 perm_r__u)) ∷
@@ -368,6 +387,7 @@ fence_of_page_of_no_leaf_items =
 abbrev pub fence_of_space_0_rows : List Row
 fence_of_space_0_rows = (record plain_row { table = table.Range 4 4; tlb = (record { level = 1; sets = 1; width = 8; k4 = true; m2 = true; g1 = true }) ∷ [] }) ∷ []
 
+-- What is served then.
 abbrev pub fence_of_space_0_items : List Item
 fence_of_space_0_items =
     (Command (event.Map 0 4096 order.K4 perm_r__u)) ∷
@@ -392,6 +412,7 @@ fence_of_space_0_items =
 abbrev pub fence_of_all_rows : List Row
 fence_of_all_rows = (record plain_row { table = table.Range 4 4; tlb = (record { level = 1; sets = 1; width = 8; k4 = true; m2 = true; g1 = true }) ∷ [] }) ∷ []
 
+-- What is served then.
 abbrev pub fence_of_all_items : List Item
 fence_of_all_items =
     (Command (event.Map 0 4096 order.K4 perm_r__u)) ∷
@@ -413,6 +434,7 @@ fence_of_all_items =
 abbrev pub node_tags_at_a_fence_by_addr_rows : List Row
 node_tags_at_a_fence_by_addr_rows = (record plain_row { table = table.Radix 64 (4 ∷ 4 ∷ 0 ∷ 0 ∷ []) }) ∷ []
 
+-- What is served then.
 abbrev pub node_tags_at_a_fence_by_addr_items : List Item
 node_tags_at_a_fence_by_addr_items =
     (Command (event.Map 0 4096 order.K4 perm_r__u)) ∷
@@ -431,6 +453,7 @@ node_tags_at_a_fence_by_addr_items =
 abbrev pub node_tags_at_a_fence_by_page_rows : List Row
 node_tags_at_a_fence_by_page_rows = (record plain_row { table = table.Radix 64 (4 ∷ 4 ∷ 0 ∷ 0 ∷ []) }) ∷ []
 
+-- What is served then.
 abbrev pub node_tags_at_a_fence_by_page_items : List Item
 node_tags_at_a_fence_by_page_items =
     (Command (event.Map 0 4096 order.K4 perm_r__u)) ∷
@@ -449,6 +472,7 @@ node_tags_at_a_fence_by_page_items =
 abbrev pub node_tags_at_a_fence_by_space_rows : List Row
 node_tags_at_a_fence_by_space_rows = (record plain_row { table = table.Radix 64 (4 ∷ 4 ∷ 0 ∷ 0 ∷ []) }) ∷ []
 
+-- What is served then.
 abbrev pub node_tags_at_a_fence_by_space_items : List Item
 node_tags_at_a_fence_by_space_items =
     (Command (event.Map 0 4096 order.K4 perm_r__u)) ∷
@@ -467,6 +491,7 @@ node_tags_at_a_fence_by_space_items =
 abbrev pub node_tags_at_a_fence_of_all_rows : List Row
 node_tags_at_a_fence_of_all_rows = (record plain_row { table = table.Radix 64 (4 ∷ 4 ∷ 0 ∷ 0 ∷ []) }) ∷ []
 
+-- What is served then.
 abbrev pub node_tags_at_a_fence_of_all_items : List Item
 node_tags_at_a_fence_of_all_items =
     (Command (event.Map 0 4096 order.K4 perm_r__u)) ∷
@@ -485,6 +510,7 @@ node_tags_at_a_fence_of_all_items =
 abbrev pub sections_at_a_fence_by_addr_rows : List Row
 sections_at_a_fence_by_addr_rows = (record plain_row { table = table.Cuckoo 2 4 4 100 4 1 4 4 (4 ∷ 4 ∷ []) }) ∷ []
 
+-- What is served then.
 abbrev pub sections_at_a_fence_by_addr_items : List Item
 sections_at_a_fence_by_addr_items =
     (Command (event.Map 0 4096 order.K4 perm_r__u)) ∷
@@ -503,6 +529,7 @@ sections_at_a_fence_by_addr_items =
 abbrev pub sections_at_a_fence_by_page_rows : List Row
 sections_at_a_fence_by_page_rows = (record plain_row { table = table.Cuckoo 2 4 4 100 4 1 4 4 (4 ∷ 4 ∷ []) }) ∷ []
 
+-- What is served then.
 abbrev pub sections_at_a_fence_by_page_items : List Item
 sections_at_a_fence_by_page_items =
     (Command (event.Map 0 4096 order.K4 perm_r__u)) ∷
@@ -521,6 +548,7 @@ sections_at_a_fence_by_page_items =
 abbrev pub sections_at_a_fence_by_space_rows : List Row
 sections_at_a_fence_by_space_rows = (record plain_row { table = table.Cuckoo 2 4 4 100 4 1 4 4 (4 ∷ 4 ∷ []) }) ∷ []
 
+-- What is served then.
 abbrev pub sections_at_a_fence_by_space_items : List Item
 sections_at_a_fence_by_space_items =
     (Command (event.Map 0 4096 order.K4 perm_r__u)) ∷
@@ -539,6 +567,7 @@ sections_at_a_fence_by_space_items =
 abbrev pub sections_at_a_fence_of_all_rows : List Row
 sections_at_a_fence_of_all_rows = (record plain_row { table = table.Cuckoo 2 4 4 100 4 1 4 4 (4 ∷ 4 ∷ []) }) ∷ []
 
+-- What is served then.
 abbrev pub sections_at_a_fence_of_all_items : List Item
 sections_at_a_fence_of_all_items =
     (Command (event.Map 0 4096 order.K4 perm_r__u)) ∷
@@ -558,6 +587,7 @@ sections_at_a_fence_of_all_items =
 abbrev pub a_fence_inside_a_large_leaf_rows : List Row
 a_fence_inside_a_large_leaf_rows = (record plain_row { frames = 1024; tlb = (record { level = 1; sets = 1; width = 8; k4 = true; m2 = true; g1 = true }) ∷ [] }) ∷ []
 
+-- What is served then.
 abbrev pub a_fence_inside_a_large_leaf_items : List Item
 a_fence_inside_a_large_leaf_items =
     (Command (event.Map 0 2097152 order.M2 perm_r__u)) ∷

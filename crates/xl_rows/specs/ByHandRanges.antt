@@ -5,7 +5,8 @@ use Rattle.xl_model.specs.declared.address.Kind.TheVariants as kind
 use Rattle.xl_model.specs.declared.event.Event.TheVariants as event
 use Rattle.xl_model.specs.declared.row.Table.TheVariants as table
 use Rattle.xl_model.specs.Rows.{Row}
-use Rattle.xl_model.specs.Items.{Item, Command, Referenced}
+use Rattle.xl_model.specs.declared.script.Item.{Item}
+use Rattle.xl_model.specs.declared.script.Item.TheVariants.{Command, Referenced}
 use Rattle.xl_rows.specs.Plain.{plain_row, perm_r__u, perm_rw_u}
 
 -- Ranges of one page each at 1, 3, 5, 7, 9, 11, 13: frames 0 to 6 are consecutive, but the pages aren't. The order of
@@ -19,6 +20,7 @@ use Rattle.xl_rows.specs.Plain.{plain_row, perm_r__u, perm_rw_u}
 abbrev pub reads_on_both_sides_of_a_gap_rows : List Row
 reads_on_both_sides_of_a_gap_rows = (record plain_row { table = table.Range 8 0 }) ∷ []
 
+-- What is served then.
 abbrev pub reads_on_both_sides_of_a_gap_items : List Item
 reads_on_both_sides_of_a_gap_items =
     (Command (event.Map 0 4096 order.K4 perm_r__u)) ∷
@@ -42,6 +44,7 @@ reads_on_both_sides_of_a_gap_items =
 abbrev pub reads_inside_a_long_range_rows : List Row
 reads_inside_a_long_range_rows = (record plain_row { table = table.Range 8 0 }) ∷ []
 
+-- What is served then.
 abbrev pub reads_inside_a_long_range_items : List Item
 reads_inside_a_long_range_items =
     (Command (event.Map 0 4096 order.K4 perm_r__u)) ∷
@@ -60,6 +63,7 @@ reads_inside_a_long_range_items =
 abbrev pub ranges_of_both_spaces_in_one_treap_rows : List Row
 ranges_of_both_spaces_in_one_treap_rows = (record plain_row { table = table.Range 8 0 }) ∷ []
 
+-- What is served then.
 abbrev pub ranges_of_both_spaces_in_one_treap_items : List Item
 ranges_of_both_spaces_in_one_treap_items =
     (Command (event.Map 0 4096 order.K4 perm_r__u)) ∷
@@ -79,6 +83,7 @@ ranges_of_both_spaces_in_one_treap_items =
 abbrev pub the_newest_of_two_cached_ranges_rows : List Row
 the_newest_of_two_cached_ranges_rows = (record plain_row { table = table.Range 8 2 }) ∷ []
 
+-- What is served then.
 abbrev pub the_newest_of_two_cached_ranges_items : List Item
 the_newest_of_two_cached_ranges_items =
     (Command (event.Map 0 4096 order.K4 perm_r__u)) ∷
@@ -96,6 +101,7 @@ the_newest_of_two_cached_ranges_items =
 abbrev pub a_touch_of_a_cached_range_rows : List Row
 a_touch_of_a_cached_range_rows = (record plain_row { table = table.Range 8 2 }) ∷ []
 
+-- What is served then.
 abbrev pub a_touch_of_a_cached_range_items : List Item
 a_touch_of_a_cached_range_items =
     (Command (event.Map 0 4096 order.K4 perm_r__u)) ∷
@@ -117,6 +123,7 @@ a_touch_of_a_cached_range_items =
 abbrev pub an_unmap_beside_cached_ranges_rows : List Row
 an_unmap_beside_cached_ranges_rows = (record plain_row { table = table.Range 8 4 }) ∷ []
 
+-- What is served then.
 abbrev pub an_unmap_beside_cached_ranges_items : List Item
 an_unmap_beside_cached_ranges_items =
     (Command (event.Map 0 4096 order.K4 perm_r__u)) ∷
@@ -138,6 +145,7 @@ an_unmap_beside_cached_ranges_items =
 abbrev pub an_unmap_beside_a_shorter_range_rows : List Row
 an_unmap_beside_a_shorter_range_rows = (record plain_row { table = table.Range 8 4 }) ∷ []
 
+-- What is served then.
 abbrev pub an_unmap_beside_a_shorter_range_items : List Item
 an_unmap_beside_a_shorter_range_items =
     (Command (event.Map 0 4096 order.K4 perm_r__u)) ∷
@@ -151,6 +159,7 @@ an_unmap_beside_a_shorter_range_items =
 abbrev pub an_unmap_under_two_cached_ranges_rows : List Row
 an_unmap_under_two_cached_ranges_rows = (record plain_row { table = table.Range 8 4 }) ∷ []
 
+-- What is served then.
 abbrev pub an_unmap_under_two_cached_ranges_items : List Item
 an_unmap_under_two_cached_ranges_items =
     (Command (event.Map 0 4096 order.K4 perm_r__u)) ∷
@@ -167,6 +176,7 @@ an_unmap_under_two_cached_ranges_items =
 abbrev pub a_protect_beside_cached_ranges_rows : List Row
 a_protect_beside_cached_ranges_rows = (record plain_row { table = table.Range 8 4 }) ∷ []
 
+-- What is served then.
 abbrev pub a_protect_beside_cached_ranges_items : List Item
 a_protect_beside_cached_ranges_items =
     (Command (event.Map 0 4096 order.K4 perm_r__u)) ∷
@@ -186,6 +196,7 @@ a_protect_beside_cached_ranges_items =
 abbrev pub a_move_beside_cached_ranges_rows : List Row
 a_move_beside_cached_ranges_rows = (record plain_row { table = table.Range 8 4 }) ∷ []
 
+-- What is served then.
 abbrev pub a_move_beside_cached_ranges_items : List Item
 a_move_beside_cached_ranges_items =
     (Command (event.Map 0 4096 order.K4 perm_r__u)) ∷
@@ -204,6 +215,7 @@ a_move_beside_cached_ranges_items =
 abbrev pub ranges_are_of_one_order_rows : List Row
 ranges_are_of_one_order_rows = (record plain_row { frames = 2048; table = table.Range 1 0 }) ∷ []
 
+-- What is served then.
 abbrev pub ranges_are_of_one_order_items : List Item
 ranges_are_of_one_order_items =
     (Command (event.Map 0 2097152 order.M2 perm_r__u)) ∷
@@ -216,6 +228,7 @@ ranges_are_of_one_order_items =
 abbrev pub ranges_are_of_one_space_rows : List Row
 ranges_are_of_one_space_rows = (record plain_row { table = table.Range 1 0 }) ∷ []
 
+-- What is served then.
 abbrev pub ranges_are_of_one_space_items : List Item
 ranges_are_of_one_space_items =
     (Command (event.Map 0 4096 order.K4 perm_r__u)) ∷
@@ -229,6 +242,7 @@ ranges_are_of_one_space_items =
 abbrev pub ranges_are_consecutive_in_frames_rows : List Row
 ranges_are_consecutive_in_frames_rows = (record plain_row { table = table.Range 2 0 }) ∷ []
 
+-- What is served then.
 abbrev pub ranges_are_consecutive_in_frames_items : List Item
 ranges_are_consecutive_in_frames_items =
     (Command (event.Map 0 4096 order.K4 perm_r__u)) ∷

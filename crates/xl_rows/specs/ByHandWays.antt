@@ -5,7 +5,8 @@ use Rattle.xl_model.specs.declared.address.Kind.TheVariants as kind
 use Rattle.xl_model.specs.declared.event.Event.TheVariants as event
 use Rattle.xl_model.specs.declared.row.Table.TheVariants as table
 use Rattle.xl_model.specs.Rows.{Row}
-use Rattle.xl_model.specs.Items.{Item, Command, Referenced}
+use Rattle.xl_model.specs.declared.script.Item.{Item}
+use Rattle.xl_model.specs.declared.script.Item.TheVariants.{Command, Referenced}
 use Rattle.xl_rows.specs.Plain.{plain_row, perm_r__u, perm_rw_u}
 use Rattle.xl_model.specs.declared.way.Entry.{Entry}
 use Rattle.xl_model.specs.declared.way.WayRegs.{WayRegs}
@@ -23,15 +24,19 @@ pub record WayState : Type 0 where
   pub regs : WayRegs
   pub keys : List Standing
 
+-- An entry that stands in a slot of its way.
 abbrev pub in_slot : ℕ → ℕ → Standing
 in_slot at key = record { slot = at; key = key }
 
+-- A way with these registers and entries.
 abbrev pub way_at : ℕ → ℕ → Bool → List Standing → WayState
 way_at s p growing keys = record { regs = record { s = s; p = p; growing = growing }; keys = keys }
 
+-- What stands in the ways.
 abbrev pub standing : WayShape → Entry → Standing
 standing w e = in_slot (slot w.regs w.number e.key) e.key
 
+-- The state of a way.
 abbrev pub way_state : WayShape → WayState
 way_state w = record { regs = w.regs; keys = map (standing w) w.entries }
 
@@ -53,12 +58,15 @@ k4_ways shape = []
 abbrev pub growth_row : Row
 growth_row = record plain_row { table = table.Cuckoo 2 0 2 50 1 1 4 4 (0 ∷ 0 ∷ []) }
 
+-- A map of page 0.
 abbrev pub map_0 : Item
 map_0 = Command (event.Map 0 0 order.K4 perm_r__u)
 
+-- An unmap of page 0.
 abbrev pub unmap_0 : Item
 unmap_0 = Command (event.Unmap 0 0 order.K4)
 
+-- A map of the page whose key shares slots with that of page 0.
 abbrev pub map_b : Item
 map_b = Command (event.Map 0 5056786432 order.K4 perm_r__u)
 
@@ -81,9 +89,11 @@ ways_after n = k4_ways (run growth_row (take n growth_commands)).table.shape
 abbrev pub below_the_rehash_pointer_row : Row
 below_the_rehash_pointer_row = record plain_row { table = table.Cuckoo 2 1 2 50 4 1 4 4 (0 ∷ 0 ∷ []) }
 
+-- The row by itself.
 abbrev pub below_the_rehash_pointer_rows : List Row
 below_the_rehash_pointer_rows = below_the_rehash_pointer_row ∷ []
 
+-- What is served then.
 abbrev pub below_the_rehash_pointer_items : List Item
 below_the_rehash_pointer_items =
     (Command (event.Map 0 57344 order.K4 perm_r__u)) ∷
@@ -99,9 +109,11 @@ below_the_rehash_pointer_items =
 abbrev pub the_old_slot_is_free_row : Row
 the_old_slot_is_free_row = record plain_row { table = table.Cuckoo 2 1 2 50 4 1 4 4 (0 ∷ 0 ∷ []) }
 
+-- The row by itself.
 abbrev pub the_old_slot_is_free_rows : List Row
 the_old_slot_is_free_rows = the_old_slot_is_free_row ∷ []
 
+-- What is served then.
 abbrev pub the_old_slot_is_free_items : List Item
 the_old_slot_is_free_items =
     (Command (event.Map 0 57344 order.K4 perm_r__u)) ∷
@@ -122,9 +134,11 @@ the_old_slot_is_free_items =
 abbrev pub which_way_grows_row : Row
 which_way_grows_row = record plain_row { table = table.Cuckoo 3 0 2 100 1 1 4 4 (0 ∷ 0 ∷ []) }
 
+-- The row by itself.
 abbrev pub which_way_grows_rows : List Row
 which_way_grows_rows = which_way_grows_row ∷ []
 
+-- What is served then.
 abbrev pub which_way_grows_items : List Item
 which_way_grows_items =
     (Command (event.Map 0 0 order.K4 perm_r__u)) ∷
@@ -143,9 +157,11 @@ which_way_grows_items =
 abbrev pub a_forced_growth_of_a_growing_way_row : Row
 a_forced_growth_of_a_growing_way_row = record plain_row { table = table.Cuckoo 2 1 2 50 1 1 4 4 (0 ∷ 0 ∷ []) }
 
+-- The row by itself.
 abbrev pub a_forced_growth_of_a_growing_way_rows : List Row
 a_forced_growth_of_a_growing_way_rows = a_forced_growth_of_a_growing_way_row ∷ []
 
+-- What is served then.
 abbrev pub a_forced_growth_of_a_growing_way_items : List Item
 a_forced_growth_of_a_growing_way_items =
     (Command (event.Map 0 0 order.K4 perm_r__u)) ∷
@@ -160,9 +176,11 @@ a_forced_growth_of_a_growing_way_items =
 abbrev pub kicks_in_three_ways_row : Row
 kicks_in_three_ways_row = record plain_row { table = table.Cuckoo 3 0 0 100 2 1 4 4 (0 ∷ 0 ∷ []) }
 
+-- The row by itself.
 abbrev pub kicks_in_three_ways_rows : List Row
 kicks_in_three_ways_rows = kicks_in_three_ways_row ∷ []
 
+-- What is served then.
 abbrev pub kicks_in_three_ways_items : List Item
 kicks_in_three_ways_items =
     (Command (event.Map 0 4096 order.K4 perm_r__u)) ∷
@@ -177,9 +195,11 @@ kicks_in_three_ways_items =
 abbrev pub kicks_in_four_ways_row : Row
 kicks_in_four_ways_row = record plain_row { table = table.Cuckoo 4 0 0 100 3 1 4 4 (0 ∷ 0 ∷ []) }
 
+-- The row by itself.
 abbrev pub kicks_in_four_ways_rows : List Row
 kicks_in_four_ways_rows = kicks_in_four_ways_row ∷ []
 
+-- What is served then.
 abbrev pub kicks_in_four_ways_items : List Item
 kicks_in_four_ways_items =
     (Command (event.Map 0 0 order.K4 perm_r__u)) ∷
@@ -198,9 +218,11 @@ kicks_in_four_ways_items =
 abbrev pub growths_before_a_refusal_stay_row : Row
 growths_before_a_refusal_stay_row = record plain_row { table = table.Cuckoo 2 0 1 100 1 1 4 4 (4 ∷ 4 ∷ []) }
 
+-- The row by itself.
 abbrev pub growths_before_a_refusal_stay_rows : List Row
 growths_before_a_refusal_stay_rows = growths_before_a_refusal_stay_row ∷ []
 
+-- What is served then.
 abbrev pub growths_before_a_refusal_stay_items : List Item
 growths_before_a_refusal_stay_items =
     (Command (event.Map 0 0 order.K4 perm_r__u)) ∷
@@ -218,9 +240,11 @@ growths_before_a_refusal_stay_items =
 abbrev pub a_moved_key_still_counts_row : Row
 a_moved_key_still_counts_row = record plain_row { table = table.Cuckoo 2 1 2 50 4 1 4 4 (0 ∷ 0 ∷ []) }
 
+-- The row by itself.
 abbrev pub a_moved_key_still_counts_rows : List Row
 a_moved_key_still_counts_rows = a_moved_key_still_counts_row ∷ []
 
+-- What is served then.
 abbrev pub a_moved_key_still_counts_items : List Item
 a_moved_key_still_counts_items =
     (Command (event.Map 0 24576 order.K4 perm_r__u)) ∷
@@ -233,9 +257,11 @@ a_moved_key_still_counts_items =
 abbrev pub the_last_slots_of_a_growth_row : Row
 the_last_slots_of_a_growth_row = record plain_row { table = table.Cuckoo 2 2 3 25 4 3 4 4 (0 ∷ 0 ∷ []) }
 
+-- The row by itself.
 abbrev pub the_last_slots_of_a_growth_rows : List Row
 the_last_slots_of_a_growth_rows = the_last_slots_of_a_growth_row ∷ []
 
+-- What is served then.
 abbrev pub the_last_slots_of_a_growth_items : List Item
 the_last_slots_of_a_growth_items =
     (Command (event.Map 0 4096 order.K4 perm_r__u)) ∷
@@ -248,9 +274,11 @@ the_last_slots_of_a_growth_items =
 abbrev pub a_growth_ends_and_the_next_begins_row : Row
 a_growth_ends_and_the_next_begins_row = record plain_row { table = table.Cuckoo 2 0 2 1 4 1 4 4 (0 ∷ 0 ∷ []) }
 
+-- The row by itself.
 abbrev pub a_growth_ends_and_the_next_begins_rows : List Row
 a_growth_ends_and_the_next_begins_rows = a_growth_ends_and_the_next_begins_row ∷ []
 
+-- What is served then.
 abbrev pub a_growth_ends_and_the_next_begins_items : List Item
 a_growth_ends_and_the_next_begins_items =
     (Command (event.Map 0 4096 order.K4 perm_r__u)) ∷
@@ -262,9 +290,11 @@ a_growth_ends_and_the_next_begins_items =
 abbrev pub each_order_has_ways_of_its_own_row : Row
 each_order_has_ways_of_its_own_row = record plain_row { frames = 1024; table = table.Cuckoo 2 1 2 1 4 1 4 4 (0 ∷ 0 ∷ []) }
 
+-- The row by itself.
 abbrev pub each_order_has_ways_of_its_own_rows : List Row
 each_order_has_ways_of_its_own_rows = each_order_has_ways_of_its_own_row ∷ []
 
+-- What is served then.
 abbrev pub each_order_has_ways_of_its_own_items : List Item
 each_order_has_ways_of_its_own_items =
     (Command (event.Map 0 4096 order.K4 perm_r__u)) ∷
@@ -281,6 +311,7 @@ each_order_has_ways_of_its_own_items =
 abbrev pub a_leaf_displaced_back_to_its_way_rows : List Row
 a_leaf_displaced_back_to_its_way_rows = (record plain_row { frames = 2048; table = table.Cuckoo 2 1 1 100 5 1 4 4 (4 ∷ 4 ∷ []) }) ∷ []
 
+-- What is served then.
 abbrev pub a_leaf_displaced_back_to_its_way_items : List Item
 a_leaf_displaced_back_to_its_way_items =
     (Command (event.Map 0 12582912 order.M2 perm_r__u)) ∷
@@ -301,6 +332,7 @@ a_leaf_displaced_back_to_its_way_items =
 abbrev pub a_1g_leaf_beside_a_cached_section_rows : List Row
 a_1g_leaf_beside_a_cached_section_rows = (record plain_row { frames = 524288; table = table.Cuckoo 2 4 4 100 4 1 4 4 (1 ∷ 4 ∷ []) }) ∷ []
 
+-- What is served then.
 abbrev pub a_1g_leaf_beside_a_cached_section_items : List Item
 a_1g_leaf_beside_a_cached_section_items =
     (Command (event.Map 0 4096 order.K4 perm_r__u)) ∷
@@ -318,6 +350,7 @@ a_1g_leaf_beside_a_cached_section_items =
 abbrev pub a_map_changes_a_cached_section_rows : List Row
 a_map_changes_a_cached_section_rows = (record plain_row { frames = 1024; table = table.Cuckoo 2 4 4 100 4 1 4 4 (4 ∷ 4 ∷ []) }) ∷ []
 
+-- What is served then.
 abbrev pub a_map_changes_a_cached_section_items : List Item
 a_map_changes_a_cached_section_items =
     (Command (event.Map 0 4096 order.K4 perm_r__u)) ∷
@@ -333,6 +366,7 @@ a_map_changes_a_cached_section_items =
 abbrev pub sections_that_stay_and_leave_rows : List Row
 sections_that_stay_and_leave_rows = (record plain_row { table = table.Cuckoo 2 4 4 100 4 1 4 4 (4 ∷ 4 ∷ []) }) ∷ []
 
+-- What is served then.
 abbrev pub sections_that_stay_and_leave_items : List Item
 sections_that_stay_and_leave_items =
     (Command (event.Map 0 4096 order.K4 perm_r__u)) ∷
@@ -350,6 +384,7 @@ sections_that_stay_and_leave_items =
 abbrev pub a_touch_of_a_cached_section_rows : List Row
 a_touch_of_a_cached_section_rows = (record plain_row { table = table.Cuckoo 2 4 4 100 4 1 4 4 (2 ∷ 0 ∷ []) }) ∷ []
 
+-- What is served then.
 abbrev pub a_touch_of_a_cached_section_items : List Item
 a_touch_of_a_cached_section_items =
     (Command (event.Map 0 4096 order.K4 perm_r__u)) ∷
@@ -367,6 +402,7 @@ a_touch_of_a_cached_section_items =
 abbrev pub a_protect_leaves_sections_rows : List Row
 a_protect_leaves_sections_rows = (record plain_row { table = table.Cuckoo 2 4 4 100 4 1 4 4 (4 ∷ 4 ∷ []) }) ∷ []
 
+-- What is served then.
 abbrev pub a_protect_leaves_sections_items : List Item
 a_protect_leaves_sections_items =
     (Command (event.Map 0 4096 order.K4 perm_r__u)) ∷
@@ -380,6 +416,7 @@ a_protect_leaves_sections_items =
 abbrev pub a_move_changes_sections_rows : List Row
 a_move_changes_sections_rows = (record plain_row { table = table.Cuckoo 2 4 4 100 4 1 4 4 (4 ∷ 4 ∷ []) }) ∷ []
 
+-- What is served then.
 abbrev pub a_move_changes_sections_items : List Item
 a_move_changes_sections_items =
     (Command (event.Map 0 4096 order.K4 perm_r__u)) ∷
@@ -392,6 +429,7 @@ a_move_changes_sections_items =
 abbrev pub a_large_leaf_known_by_one_section_rows : List Row
 a_large_leaf_known_by_one_section_rows = (record plain_row { frames = 1024; table = table.Cuckoo 2 4 4 100 4 1 4 4 (4 ∷ 0 ∷ []) }) ∷ []
 
+-- What is served then.
 abbrev pub a_large_leaf_known_by_one_section_items : List Item
 a_large_leaf_known_by_one_section_items =
     (Command (event.Map 0 2097152 order.M2 perm_r__u)) ∷
@@ -404,9 +442,11 @@ a_large_leaf_known_by_one_section_items =
 abbrev pub keys_of_two_spaces_row : Row
 keys_of_two_spaces_row = record plain_row { table = table.Cuckoo 2 4 4 100 4 1 4 4 (0 ∷ 0 ∷ []) }
 
+-- The row by itself.
 abbrev pub keys_of_two_spaces_rows : List Row
 keys_of_two_spaces_rows = keys_of_two_spaces_row ∷ []
 
+-- What is served then.
 abbrev pub keys_of_two_spaces_items : List Item
 keys_of_two_spaces_items =
     (Command (event.Map 0 4096 order.K4 perm_r__u)) ∷

@@ -5,13 +5,15 @@ use Rattle.xl_model.specs.declared.address.Kind.TheVariants as kind
 use Rattle.xl_model.specs.declared.event.Event.TheVariants as event
 use Rattle.xl_model.specs.declared.row.Table.TheVariants as table
 use Rattle.xl_model.specs.Rows.{Row}
-use Rattle.xl_model.specs.Items.{Item, Command, Referenced}
+use Rattle.xl_model.specs.declared.script.Item.{Item}
+use Rattle.xl_model.specs.declared.script.Item.TheVariants.{Command, Referenced}
 use Rattle.xl_rows.specs.Plain.{plain_row, perm_r__u}
 
 -- One bucket with three entries: 4, 3, 2 loads, and 12 for an absent page.
 abbrev pub hashed_rows : List Row
 hashed_rows = (record plain_row { table = table.Hashed 1 4 }) ∷ []
 
+-- What is served then.
 abbrev pub hashed_items : List Item
 hashed_items =
     (Command (event.Map 0 4096 order.K4 perm_r__u)) ∷
@@ -26,6 +28,7 @@ hashed_items =
 abbrev pub clustered_rows : List Row
 clustered_rows = (record plain_row { table = table.Clustered 1 4 }) ∷ []
 
+-- What is served then.
 abbrev pub clustered_items : List Item
 clustered_items =
     (Command (event.Map 0 4096 order.K4 perm_r__u)) ∷
@@ -39,6 +42,7 @@ clustered_items =
 abbrev pub hashed_large_rows : List Row
 hashed_large_rows = (record plain_row { frames = 1024; table = table.Hashed 1 4 }) ∷ []
 
+-- What is served then.
 abbrev pub hashed_large_items : List Item
 hashed_large_items =
     (Command (event.Map 0 2097152 order.M2 perm_r__u)) ∷
@@ -50,6 +54,7 @@ hashed_large_items =
 abbrev pub clustered_large_rows : List Row
 clustered_large_rows = (record plain_row { frames = 1024; table = table.Clustered 1 4 }) ∷ []
 
+-- What is served then.
 abbrev pub clustered_large_items : List Item
 clustered_large_items =
     (Command (event.Map 0 2097152 order.M2 perm_r__u)) ∷
@@ -61,6 +66,7 @@ clustered_large_items =
 abbrev pub entries_used_up_rows : List Row
 entries_used_up_rows = (record plain_row { table = table.Hashed 1 1 }) ∷ []
 
+-- What is served then.
 abbrev pub entries_used_up_items : List Item
 entries_used_up_items =
     (Command (event.Map 0 4096 order.K4 perm_r__u)) ∷
@@ -73,6 +79,7 @@ entries_used_up_items =
 abbrev pub blocks_used_up_rows : List Row
 blocks_used_up_rows = (record plain_row { table = table.Clustered 1 1 }) ∷ []
 
+-- What is served then.
 abbrev pub blocks_used_up_items : List Item
 blocks_used_up_items =
     (Command (event.Map 0 0 order.K4 perm_r__u)) ∷

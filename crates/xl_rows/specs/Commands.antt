@@ -4,13 +4,15 @@ use Rattle.xl_model.specs.declared.address.Order.TheVariants as order
 use Rattle.xl_model.specs.declared.address.Kind.TheVariants as kind
 use Rattle.xl_model.specs.declared.event.Event.TheVariants as event
 use Rattle.xl_model.specs.Rows.{Row}
-use Rattle.xl_model.specs.Items.{Item, Command, Referenced}
+use Rattle.xl_model.specs.declared.script.Item.{Item}
+use Rattle.xl_model.specs.declared.script.Item.TheVariants.{Command, Referenced}
 use Rattle.xl_rows.specs.Plain.{plain_row, perm_r__u, perm_rw_u}
 
 -- A move to its own place meets the moved leaf; a move elsewhere is done.
 abbrev pub a_move_onto_itself_rows : List Row
 a_move_onto_itself_rows = plain_row ∷ []
 
+-- What is served then.
 abbrev pub a_move_onto_itself_items : List Item
 a_move_onto_itself_items =
     (Command (event.Map 0 4096 order.K4 perm_r__u)) ∷
@@ -23,6 +25,7 @@ a_move_onto_itself_items =
 abbrev pub a_move_onto_itself_again_rows : List Row
 a_move_onto_itself_again_rows = (record plain_row { frames = 4096; spaces = 1 }) ∷ []
 
+-- What is served then.
 abbrev pub a_move_onto_itself_again_items : List Item
 a_move_onto_itself_again_items =
     (Command (event.Map 0 4096 order.K4 perm_r__u)) ∷
@@ -35,6 +38,7 @@ a_move_onto_itself_again_items =
 abbrev pub no_block_of_511_frames_rows : List Row
 no_block_of_511_frames_rows = (record plain_row { frames = 511 }) ∷ []
 
+-- What is served then.
 abbrev pub no_block_of_511_frames_items : List Item
 no_block_of_511_frames_items =
     (Command (event.Map 0 0 order.M2 perm_r__u)) ∷ []
@@ -43,6 +47,7 @@ no_block_of_511_frames_items =
 abbrev pub no_block_of_1023_frames_rows : List Row
 no_block_of_1023_frames_rows = (record plain_row { frames = 1023 }) ∷ []
 
+-- What is served then.
 abbrev pub no_block_of_1023_frames_items : List Item
 no_block_of_1023_frames_items =
     (Command (event.Map 0 0 order.K4 perm_r__u)) ∷
@@ -52,6 +57,7 @@ no_block_of_1023_frames_items =
 abbrev pub a_block_of_1024_frames_rows : List Row
 a_block_of_1024_frames_rows = (record plain_row { frames = 1024 }) ∷ []
 
+-- What is served then.
 abbrev pub a_block_of_1024_frames_items : List Item
 a_block_of_1024_frames_items =
     (Command (event.Map 0 0 order.K4 perm_r__u)) ∷
@@ -61,6 +67,7 @@ a_block_of_1024_frames_items =
 abbrev pub seven_refusals_rows : List Row
 seven_refusals_rows = (record plain_row { frames = 512; spaces = 1 }) ∷ []
 
+-- What is served then.
 abbrev pub seven_refusals_items : List Item
 seven_refusals_items =
     (Command (event.Map 9 0 order.K4 perm_r__u)) ∷
@@ -76,6 +83,7 @@ seven_refusals_items =
 abbrev pub a_freed_block_taken_again_rows : List Row
 a_freed_block_taken_again_rows = (record plain_row { frames = 4096; spaces = 1 }) ∷ []
 
+-- What is served then.
 abbrev pub a_freed_block_taken_again_items : List Item
 a_freed_block_taken_again_items =
     (Command (event.Map 0 2097152 order.M2 perm_rw_u)) ∷

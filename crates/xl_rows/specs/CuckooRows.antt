@@ -6,13 +6,15 @@ use Rattle.xl_model.specs.declared.address.Kind.TheVariants as kind
 use Rattle.xl_model.specs.declared.event.Event.TheVariants as event
 use Rattle.xl_model.specs.declared.row.Table.TheVariants as table
 use Rattle.xl_model.specs.Rows.{Row}
-use Rattle.xl_model.specs.Items.{Item, Command, Referenced}
+use Rattle.xl_model.specs.declared.script.Item.{Item}
+use Rattle.xl_model.specs.declared.script.Item.TheVariants.{Command, Referenced}
 use Rattle.xl_rows.specs.Plain.{plain_row, perm_r__u}
 
 -- Three ways: 9 loads without cached sections, 3 with them.
 abbrev pub sections_rows : List Row
 sections_rows = (record plain_row { table = table.Cuckoo 3 2 4 50 4 1 4 4 (4 ∷ 4 ∷ []) }) ∷ []
 
+-- What is served then.
 abbrev pub sections_items : List Item
 sections_items =
     (Command (event.Map 0 0 order.K4 perm_r__u)) ∷
@@ -24,6 +26,7 @@ sections_items =
 abbrev pub growth_rows : List Row
 growth_rows = (record plain_row { table = table.Cuckoo 2 0 2 50 1 1 4 4 (0 ∷ 0 ∷ []) }) ∷ []
 
+-- What is served then.
 abbrev pub growth_items : List Item
 growth_items =
     (Command (event.Map 0 0 order.K4 perm_r__u)) ∷
@@ -48,6 +51,7 @@ growth_items =
 abbrev pub a_way_at_its_cap_rows : List Row
 a_way_at_its_cap_rows = (record plain_row { table = table.Cuckoo 2 0 0 50 2 1 4 4 (0 ∷ 0 ∷ []) }) ∷ []
 
+-- What is served then.
 abbrev pub a_way_at_its_cap_items : List Item
 a_way_at_its_cap_items =
     (Command (event.Map 0 0 order.K4 perm_r__u)) ∷
@@ -61,6 +65,7 @@ a_way_at_its_cap_items =
 abbrev pub sections_used_up_rows : List Row
 sections_used_up_rows = (record plain_row { table = table.Cuckoo 3 2 4 50 4 1 1 4 (4 ∷ 4 ∷ []) }) ∷ []
 
+-- What is served then.
 abbrev pub sections_used_up_items : List Item
 sections_used_up_items =
     (Command (event.Map 0 0 order.K4 perm_r__u)) ∷
@@ -74,6 +79,7 @@ sections_used_up_items =
 abbrev pub a_way_known_rows : List Row
 a_way_known_rows = (record plain_row { frames = 1024; table = table.Cuckoo 3 2 4 50 4 1 4 4 (4 ∷ 4 ∷ []) }) ∷ []
 
+-- What is served then.
 abbrev pub a_way_known_items : List Item
 a_way_known_items =
     (Command (event.Map 0 2097152 order.M2 perm_r__u)) ∷
@@ -85,6 +91,7 @@ a_way_known_items =
 abbrev pub a_displaced_leaf_rows : List Row
 a_displaced_leaf_rows = (record plain_row { mode = mode.Sv48; frames = 1024; table = table.Cuckoo 2 0 2 50 1 1 4 4 (4 ∷ 4 ∷ []) }) ∷ []
 
+-- What is served then.
 abbrev pub a_displaced_leaf_items : List Item
 a_displaced_leaf_items =
     (Command (event.Map 0 0 order.M2 perm_r__u)) ∷

@@ -6,13 +6,15 @@ use Rattle.xl_model.specs.declared.address.Kind.TheVariants as kind
 use Rattle.xl_model.specs.declared.event.Event.TheVariants as event
 use Rattle.xl_model.specs.declared.row.Table.TheVariants as table
 use Rattle.xl_model.specs.Rows.{Row}
-use Rattle.xl_model.specs.Items.{Item, Command, Referenced}
+use Rattle.xl_model.specs.declared.script.Item.{Item}
+use Rattle.xl_model.specs.declared.script.Item.TheVariants.{Command, Referenced}
 use Rattle.xl_rows.specs.Plain.{plain_row, perm_r__u}
 
 -- The only node is the root: a 4 KiB leaf has no nodes, a 1 GiB leaf needs none.
 abbrev pub no_node_left_rows : List Row
 no_node_left_rows = (record plain_row { frames = 262144; spaces = 1; table = table.Radix 1 (0 ∷ 0 ∷ 0 ∷ 0 ∷ []) }) ∷ []
 
+-- What is served then.
 abbrev pub no_node_left_items : List Item
 no_node_left_items =
     (Command (event.Map 0 4096 order.K4 perm_r__u)) ∷
@@ -23,6 +25,7 @@ no_node_left_items =
 abbrev pub walk_caches_rows : List Row
 walk_caches_rows = (record plain_row { table = table.Radix 64 (4 ∷ 4 ∷ 0 ∷ 0 ∷ []) }) ∷ []
 
+-- What is served then.
 abbrev pub walk_caches_items : List Item
 walk_caches_items =
     (Command (event.Map 0 4096 order.K4 perm_r__u)) ∷
@@ -37,6 +40,7 @@ walk_caches_items =
 abbrev pub a_walk_from_the_middle_rows : List Row
 a_walk_from_the_middle_rows = (record plain_row { mode = mode.Sv48; table = table.Radix 64 (4 ∷ 4 ∷ 4 ∷ 0 ∷ []) }) ∷ []
 
+-- What is served then.
 abbrev pub a_walk_from_the_middle_items : List Item
 a_walk_from_the_middle_items =
     (Command (event.Map 0 4096 order.K4 perm_r__u)) ∷
@@ -48,6 +52,7 @@ a_walk_from_the_middle_items =
 abbrev pub walk_caches_sv57_rows : List Row
 walk_caches_sv57_rows = (record plain_row { mode = mode.Sv57; table = table.Radix 64 (4 ∷ 4 ∷ 4 ∷ 4 ∷ []) }) ∷ []
 
+-- What is served then.
 abbrev pub walk_caches_sv57_items : List Item
 walk_caches_sv57_items =
     (Command (event.Map 0 4096 order.K4 perm_r__u)) ∷
@@ -59,6 +64,7 @@ walk_caches_sv57_items =
 abbrev pub nodes_used_up_rows : List Row
 nodes_used_up_rows = (record plain_row { spaces = 1; table = table.Radix 3 (0 ∷ 0 ∷ 0 ∷ 0 ∷ []) }) ∷ []
 
+-- What is served then.
 abbrev pub nodes_used_up_items : List Item
 nodes_used_up_items =
     (Command (event.Map 0 4096 order.K4 perm_r__u)) ∷
@@ -72,6 +78,7 @@ nodes_used_up_items =
 abbrev pub an_image_rows : List Row
 an_image_rows = plain_row ∷ []
 
+-- What is served then.
 abbrev pub an_image_items : List Item
 an_image_items =
     (Command (event.Map 0 4096 order.K4 perm_r__u)) ∷ []

@@ -5,13 +5,15 @@ use Rattle.xl_model.specs.declared.address.Kind.TheVariants as kind
 use Rattle.xl_model.specs.declared.event.Event.TheVariants as event
 use Rattle.xl_model.specs.declared.row.Table.TheVariants as table
 use Rattle.xl_model.specs.Rows.{Row}
-use Rattle.xl_model.specs.Items.{Item, Command, Referenced}
+use Rattle.xl_model.specs.declared.script.Item.{Item}
+use Rattle.xl_model.specs.declared.script.Item.TheVariants.{Command, Referenced}
 use Rattle.xl_rows.specs.Plain.{plain_row, perm_r__u, perm_rw_u}
 
 -- An unmap that would part a range is refused; one at its end is done.
 abbrev pub no_range_left_rows : List Row
 no_range_left_rows = (record plain_row { table = table.Range 1 0 }) ∷ []
 
+-- What is served then.
 abbrev pub no_range_left_items : List Item
 no_range_left_items =
     (Command (event.Map 0 4096 order.K4 perm_r__u)) ∷
@@ -26,6 +28,7 @@ no_range_left_items =
 abbrev pub depth_rows : List Row
 depth_rows = (record plain_row { table = table.Range 4 4 }) ∷ []
 
+-- What is served then.
 abbrev pub depth_items : List Item
 depth_items =
     (Command (event.Map 0 20480 order.K4 perm_r__u)) ∷
@@ -39,6 +42,7 @@ depth_items =
 abbrev pub three_ranges_rows : List Row
 three_ranges_rows = (record plain_row { table = table.Range 3 0 }) ∷ []
 
+-- What is served then.
 abbrev pub three_ranges_items : List Item
 three_ranges_items =
     (Command (event.Map 0 4096 order.K4 perm_r__u)) ∷
@@ -51,6 +55,7 @@ three_ranges_items =
 abbrev pub two_ranges_rows : List Row
 two_ranges_rows = (record plain_row { table = table.Range 2 0 }) ∷ []
 
+-- What is served then.
 abbrev pub two_ranges_items : List Item
 two_ranges_items =
     (Command (event.Map 0 4096 order.K4 perm_r__u)) ∷
@@ -63,6 +68,7 @@ two_ranges_items =
 abbrev pub ranges_used_up_rows : List Row
 ranges_used_up_rows = (record plain_row { table = table.Range 1 0 }) ∷ []
 
+-- What is served then.
 abbrev pub ranges_used_up_items : List Item
 ranges_used_up_items =
     (Command (event.Map 0 4096 order.K4 perm_r__u)) ∷

@@ -6,13 +6,15 @@ use Rattle.xl_model.specs.declared.event.Event.TheVariants as event
 use Rattle.xl_model.specs.declared.event.Scope.TheVariants as scope
 use Rattle.xl_model.specs.declared.row.Purge.TheVariants as purge
 use Rattle.xl_model.specs.Rows.{Row}
-use Rattle.xl_model.specs.Items.{Item, Command, Referenced}
+use Rattle.xl_model.specs.declared.script.Item.{Item}
+use Rattle.xl_model.specs.declared.script.Item.TheVariants.{Command, Referenced}
 use Rattle.xl_rows.specs.Plain.{plain_row, one_array, perm_r__u, perm_rw_u}
 
 -- A store on a read-only leaf that hits.
 abbrev pub denied_on_a_hit_rows : List Row
 denied_on_a_hit_rows = (record plain_row { tlb = one_array }) ∷ []
 
+-- What is served then.
 abbrev pub denied_on_a_hit_items : List Item
 denied_on_a_hit_items =
     (Command (event.Map 0 4096 order.K4 perm_r__u)) ∷
@@ -23,6 +25,7 @@ denied_on_a_hit_items =
 abbrev pub denied_on_a_hit_told_rows : List Row
 denied_on_a_hit_told_rows = (record plain_row { tlb = one_array }) ∷ []
 
+-- What is served then.
 abbrev pub denied_on_a_hit_told_items : List Item
 denied_on_a_hit_told_items =
     (Command (event.Map 0 4096 order.K4 perm_r__u)) ∷
@@ -33,6 +36,7 @@ denied_on_a_hit_told_items =
 abbrev pub a_protect_rows : List Row
 a_protect_rows = (record plain_row { tlb = one_array }) ∷ []
 
+-- What is served then.
 abbrev pub a_protect_items : List Item
 a_protect_items =
     (Command (event.Map 0 4096 order.K4 perm_r__u)) ∷
@@ -45,6 +49,7 @@ a_protect_items =
 abbrev pub an_unmap_rows : List Row
 an_unmap_rows = (record plain_row { tlb = one_array }) ∷ []
 
+-- What is served then.
 abbrev pub an_unmap_items : List Item
 an_unmap_items =
     (Command (event.Map 0 4096 order.K4 perm_rw_u)) ∷
@@ -57,6 +62,7 @@ an_unmap_items =
 abbrev pub spaces_and_fences_rows : List Row
 spaces_and_fences_rows = (record plain_row { tlb = one_array }) ∷ []
 
+-- What is served then.
 abbrev pub spaces_and_fences_items : List Item
 spaces_and_fences_items =
     (Command (event.Map 0 4096 order.K4 perm_r__u)) ∷
@@ -77,6 +83,7 @@ spaces_and_fences_items =
 abbrev pub two_levels_rows : List Row
 two_levels_rows = (record plain_row { tlb = (record { level = 1; sets = 1; width = 1; k4 = true; m2 = true; g1 = true }) ∷ (record { level = 2; sets = 1; width = 4; k4 = true; m2 = true; g1 = true }) ∷ [] }) ∷ []
 
+-- What is served then.
 abbrev pub two_levels_items : List Item
 two_levels_items =
     (Command (event.Map 0 4096 order.K4 perm_r__u)) ∷
@@ -89,6 +96,7 @@ two_levels_items =
 abbrev pub purge_all_rows : List Row
 purge_all_rows = (record plain_row { purge = purge.All; tlb = one_array }) ∷ []
 
+-- What is served then.
 abbrev pub purge_all_items : List Item
 purge_all_items =
     (Command (event.Map 0 4096 order.K4 perm_r__u)) ∷
@@ -102,6 +110,7 @@ purge_all_items =
 abbrev pub purge_page_rows : List Row
 purge_page_rows = (record plain_row { tlb = one_array }) ∷ []
 
+-- What is served then.
 abbrev pub purge_page_items : List Item
 purge_page_items =
     (Command (event.Map 0 4096 order.K4 perm_r__u)) ∷
