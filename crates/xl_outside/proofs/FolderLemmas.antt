@@ -1,5 +1,5 @@
 -- Calls on a folder, one after another.
-use Rattle.std.proofs.Common.{◌≡◌, ℕ, ◌^◌, ◌-◌, ◌<◌, ◌≤◌, refl, ◌∙◌, inl, inr, arith}
+use Rattle.std.proofs.Common.{◌≡◌, ℕ, refl, ◌∙◌, inl, inr, arith}
 use Rattle.std.specs.Prelude.{Option}
 use Rattle.xl_outside.specs.Outside.{Counted}
 use Rattle.xl_outside.specs.Folders.{Files, FolderAfter, ReadFate, Fine, ReadFailed, FileMissing, FateCounts}

@@ -1,9 +1,8 @@
 -- Texts that are written to a sink, in parts and one after another.
-use Rattle.std.proofs.Common.{◌≡◌, ℕ, ◌+◌, ◌-◌, ◌<◌, ◌≤◌, Bool, true, false, List, [], ◌∷◌, ◌++◌, length, take, drop, refl, sym, ap, subst, ◌∙◌, inl, inr, arith, append_assoc, length-append, length-drop}
+use Rattle.std.proofs.Common.{◌≡◌, ℕ, ◌+◌, ◌-◌, ◌≤◌, Bool, true, false, List, [], ◌∷◌, ◌++◌, length, take, drop, refl, sym, ap, subst, ◌∙◌, inl, inr, arith, append_assoc, length-append, length-drop}
 use Rattle.std.specs.Prelude.{Option, None, Some}
 use Rattle.std.proofs.lemmas.List.{take-append-le, take_rest}
 use Rattle.std.proofs.Math.Seq.{take-add, take-append-add}
-use Rattle.xl_outside.specs.Outside.{Counted}
 use Rattle.xl_outside.specs.Sinks.{SinkAfter, Wrote, WroteFront, WriteCounts, with_more}
 
 -- the first `a`, and `n` of the rest as a slice of it is written

@@ -1,5 +1,5 @@
 -- Open files: what reading on from a place gives, and what it leaves.
-use Rattle.std.specs.Prelude.{◌≡◌, ℕ, ◌+◌, ◌==◌, Bool, true, List, [], if◌then◌else◌, Option, None, Some, Result, Ok, Err, is_some, option_map}
+use Rattle.std.specs.Prelude.{◌≡◌, ℕ, ◌+◌, ◌==◌, true, List, [], if◌then◌else◌, Option, None, Some, Result, Ok, Err, is_some, option_map}
 use Rattle.xl_outside.specs.Folders.{Files, file_of, Reads}
 use Rattle.xl_outside.specs.declared.folder.Unread.{Unread}
 use Rattle.xl_outside.specs.declared.folder.Unread.TheVariants.{Missing, Failed}

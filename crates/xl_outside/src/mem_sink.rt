@@ -46,11 +46,8 @@ impl MemSink {
         requires { 0 < piece }
         ensures { IfOk result (λ s. s ≡ opened_sink capacity failing.items piece) }
     {
-        let Ok(bytes) = Vec::with_capacity(alloc, capacity) else {
-            return Err(NoMemory);
-        };
         Ok(MemSink {
-            bytes,
+            bytes: Vec::with_capacity(alloc, capacity)?,
             capacity,
             failing,
             piece,

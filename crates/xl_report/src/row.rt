@@ -2,7 +2,7 @@
 
 ghost use Rattle.std.specs.Prelude.{◌≡◌, ◌+◌, ◌≤◌, ◌<◌, ◌++◌, ℕ, length, codes, decimal, is_ok};
 ghost use Rattle.xl_model.specs.Lines.{with_verdicts, with_refusals, with_numbers, with_rest, with_walks, with_moves, with_fences, with_tlb, with_arrays, with_more_arrays, row_line};
-ghost use Rattle.xl_outside.specs.Puts.{Puts};
+ghost use Rattle.xl_outside.specs.Sinks.{SinkAfter};
 
 use crate::line::Line;
 use xl_model::{Counts, Row};
@@ -15,7 +15,8 @@ use xl_outside::{Failed, Sink, put_all};
 /// `Failed` only where the sink's faults rose; then the beginning of the line was appended.
 pub fn write_row<K: Sink>(out: &mut K, row: &Row, counts: &Counts) -> Result<(), Failed>
     requires { counts.now.arrays ≤ 6 }
-    ensures { Puts K.written K.put_faults K.roomy (row_line row.now.name.bytes counts.now) out.old out.new (is_ok result) }
+    ensures { SinkAfter K.written K.put_faults K.roomy (row_line row.now.name.bytes counts.now)
+        out.old out.new (is_ok result) }
 {
     let mut line = Line::new();
     fill(&mut line, row.name.as_bytes(), counts);

@@ -1,4 +1,4 @@
-use Rattle.std.proofs.Common.{◌≡◌, ◌≤◌, ◌+◌, ◌-◌}
+use Rattle.std.proofs.Common.{◌≤◌, ◌+◌, ◌-◌}
 use Rattle.std.specs.Option.{IfSome}
 use Rattle.std.specs.Vec.{vec_len}
 use Rattle.xl_outside.specs.Folders.{file_of, FolderAfter, Fine}
