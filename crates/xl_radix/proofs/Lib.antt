@@ -20,7 +20,7 @@ mod WalkLemmas
 mod TakenLeafLemmas
 pub mod FreedNodeLemmas
 mod RemovalLemmas
-mod ShapeLemmas
+pub mod ShapeLemmas
 pub mod TakingLemmas
 mod PermLemmas
 mod ShiftLemmas

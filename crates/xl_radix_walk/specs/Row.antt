@@ -3,9 +3,12 @@ use Rattle.std.specs.Prelude.{ℕ, suc, ◌≡◌, ◌+◌, ◌-◌, ◌*◌, �
 use Rattle.xl_model.specs.Nodes.{up, Node, number_of}
 use Rattle.xl_model.specs.Caches.{Cached, Numbered, NodeCaches, reaches_space}
 use Rattle.xl_model.specs.declared.event.Reach.{Reach}
+use Rattle.xl_model.specs.declared.work.NoRoom.{NoRoom}
+use Rattle.xl_model.specs.declared.work.Refused.{Refused}
+use Rattle.xl_model.specs.Placing.{no_moves}
 use Rattle.xl_model.specs.Recency.{with_newest, purged}
 use Rattle.xl_model.specs.Shapes.{Radix}
-use Rattle.xl_model.specs.Structures.{TableState}
+use Rattle.xl_model.specs.Structures.{TableState, work_of}
 use Rattle.xl_mapping.specs.Members.{In}
 use Rattle.xl_model.specs.declared.leaf.Leaf.{Leaf}
 use Rattle.xl_pte.specs.declared.word.Pte.TheVariants as pte
@@ -121,3 +124,7 @@ is_fenced to item = reaches_space to (item.tag / 281474976710656)
 abbrev pub fenced_caches : Reach → List (Cached Item) → List (Cached Item)
 fenced_caches to [] = []
 fenced_caches to (c ∷ cs) = record c { items = purged (is_fenced to) c.items } ∷ fenced_caches to cs
+
+-- A change that is refused for this cause, without any work.
+abbrev pub refused_for : NoRoom → Refused
+refused_for why = record { why = why; work = work_of no_moves 0 }

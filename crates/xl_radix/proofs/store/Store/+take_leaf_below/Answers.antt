@@ -6,9 +6,19 @@ use Rattle.xl_radix.proofs.TakingLemmas.{named-needs, empty-without, unused, sti
 use Rattle.xl_radix.proofs.store.Store.+take_leaf_below.Goals as goal
 
 pub node_below-node-requires : goal.node_below-node-requires
-node_below-node-requires g t c =
-    (lit< tt, (c.requires.exact, (c.requires.at, (c.requires.high,
-      named-needs c.args.space c.args.first c.args.from.level c.args.order _ c.requires.named (let a = c.requires.low in let b = c.level.ensures in let d = c.if-from-level.false in omega arith)))))
+node_below-node-requires g t c = (
+  lit< tt,
+  (
+    c.requires.exact,
+    (
+      c.requires.at,
+      (
+        c.requires.high,
+        named-needs c.args.space c.args.first c.args.from.level c.args.order _ c.requires.named (let a = c.requires.low in let b = c.level.ensures in let d = c.if-from-level.false in omega arith),
+      ),
+    ),
+  ),
+)
 
 pub returns-then-index-ne0-clause-nearly : goal.returns-then-index-ne0-clause-nearly
 returns-then-index-ne0-clause-nearly g t c =
