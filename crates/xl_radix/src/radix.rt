@@ -252,7 +252,7 @@ impl<const LEVELS: usize> Bus for Radix<LEVELS> {
     }
 
     fn word(&mut self, place: usize) -> Option<u64> {
-        self.loads = self.loads.wrapping_add(1);
+        self.count_loads(1);
         self.store.word_in(place)
     }
 
