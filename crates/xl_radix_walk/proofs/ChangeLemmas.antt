@@ -4,6 +4,7 @@ use Rattle.xl_model.specs.declared.leaf.Leaf.{Leaf}
 use Rattle.xl_model.specs.declared.work.NoRoom.TheVariants as why
 use Rattle.xl_model.specs.declared.work.Refused.{Refused}
 use Rattle.xl_model.specs.declared.work.Work.{Work}
+use Rattle.xl_model.specs.Addresses.{level_of}
 use Rattle.xl_model.specs.Changes.{Change, Insert, changed}
 use Rattle.xl_model.specs.Mapping.{with_leaf}
 use Rattle.xl_model.specs.Nodes.{Node, free_count, only_needed, with_leaf_nodes}
@@ -25,7 +26,7 @@ use Rattle.xl_radix_walk.proofs.PurgeLemmas.{purged-in, numbered-purged, entries
 numbered-brought : (top : ℕ) (b : Option Leaf) (nodes : List (Option Node)) (cs : List (Cached Item)) → AreNumbered 0 nodes cs → AreNumbered 0 (with_brought top b nodes) cs
 unfolding with_leaf_nodes
 numbered-brought top None nodes cs all = all
-numbered-brought top (Some x) nodes cs all = numbered-path 0 x.space x.first _ _ nodes cs all
+numbered-brought top (Some x) nodes cs all = numbered-path 0 x.space x.first (level_of x.order) (top - 1 - level_of x.order) nodes cs all
 
 -- Where no node was given back, each tag has its number yet.
 pub none-left : (top given : ℕ) (c : Change) (t new : Table) (cs : List (Cached Item)) → IsMade top c given t new → given ≡ 0 → AreNumbered 0 t.nodes cs → AreNumbered 0 new.nodes cs
@@ -72,8 +73,8 @@ row-made top given c t new cs after w row made room ea ew =
     record {
       row = rw (kept, after2) (record { high = row.high; low = row.low; caches = let z = row.caches in omega arith; numbered = numbered-purged 0 top m nodes cs all });
       change = record {
-        answer = ?;
-        after = ?;
+        answer = rw (ew, after2, room, placed, moved, ← made.shape, ← inside, entries-in 0 (purged_caches (only_needed top m nodes) cs), entries-in 0 cs) refl;
+        after = rw (room, placed, ← made.shape, made.leaves, made.loads, after2, inside) refl;
       };
     }
 

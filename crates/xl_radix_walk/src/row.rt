@@ -1,7 +1,7 @@
 //! A radix table with its walk caches.
 
 ghost use Rattle.std.specs.Prelude.{◌≡◌, suc, ◌+◌, ◌-◌, ◌*◌, ◌^◌, ◌<◌, ◌≤◌, [], false, slice_index, None, Some, length, is_some};
-ghost use Rattle.xl_model.specs.declared.work.NoRoom.TheVariants.{NoTable};
+ghost use Rattle.xl_model.specs.declared.work.NoRoom.TheVariants as why;
 ghost use Rattle.xl_model.specs.Changes.{Insert, Remove, Protect, Relocate, IsNamed};
 ghost use Rattle.xl_model.specs.Mapping.{leaf_at_page, meets_any};
 ghost use Rattle.xl_model.specs.Nodes.{up, number_of};
@@ -18,7 +18,7 @@ use crate::caches::{Start, fence_caches, fill, look, purge_given};
 use crate::walk;
 use arrayvec::ArrayVec;
 use std::marker::Model;
-use xl_model::{Leaf, NoRoom, Order, Perm, Reach, Refused, Structure, Walk, Work};
+use xl_model::{Leaf, NoRoom, NoTable, Order, Perm, Reach, Refused, Structure, Walk, Work};
 use xl_phys::Bus;
 use xl_pte::Pte;
 use xl_radix::{Radix, WalkEnd, block_of, leaf_of};
@@ -148,7 +148,7 @@ fn settle<const LEVELS: usize>(radix: &Radix<LEVELS>, caches: &mut [Cache], give
 
 /// A change that is refused for want of a free node.
 fn no_table() -> Refused
-    ensures { result ≡ refused_for NoTable }
+    ensures { result ≡ refused_for why.NoTable }
 {
     Refused {
         why: NoRoom::NoTable,
@@ -169,10 +169,10 @@ fn insert_leaf<const LEVELS: usize>(
     ensures changes { IsChange (Insert leaf) (row_table LEVELS (row_of radix.old caches.old))
         result (row_table LEVELS (row_of radix.new caches.new)) }
 {
-    let Ok(()) = radix.add(leaf) else {
-        return Err(no_table());
-    };
-    Ok(settle(radix, caches, 0))
+    match radix.add(leaf) {
+        Ok(()) => Ok(settle(radix, caches, 0)),
+        Err(NoTable) => Err(no_table()),
+    }
 }
 
 /// Takes out a leaf.
@@ -232,10 +232,10 @@ fn relocate_leaf<const LEVELS: usize>(
         (row_table LEVELS (row_of radix.old caches.old))
         result (row_table LEVELS (row_of radix.new caches.new)) }
 {
-    let Ok(given) = radix.shift_counted(space, first, to, order) else {
-        return Err(no_table());
-    };
-    Ok(settle(radix, caches, given))
+    match radix.shift_counted(space, first, to, order) {
+        Ok(given) => Ok(settle(radix, caches, given)),
+        Err(NoTable) => Err(no_table()),
+    }
 }
 
 /// Removes what a fence reaches.

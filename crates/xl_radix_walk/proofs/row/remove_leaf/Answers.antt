@@ -1,5 +1,7 @@
-use Rattle.std.proofs.Common.{◌≤◌, length, lit<, refl, arith}
+use Rattle.std.proofs.Common.{◌≤◌, length, lit<, refl, sym, arith}
 use Rattle.xl_model.specs.Changes.{Remove}
+use Rattle.xl_model.specs.Room.{has_room}
+use Rattle.xl_radix.specs.Steps.{IsMade}
 use Rattle.xl_radix_walk.proofs.ChangeLemmas.{none-left, MadeRow, row-made}
 use Rattle.xl_radix_walk.proofs.row.remove_leaf.Goals as goal
 
@@ -8,11 +10,14 @@ settle-requires g c =
     let a = c.requires.row.caches in
     let b = c.requires.row.low in
     let few : length c.args.caches.now ≤ 4 = omega arith in
-    (lit< tt, (few, λ e. none-left g.row.LEVELS c.take_out_counted-given.result (Remove c.args.space c.args.first c.args.order) c.args.radix.now c.take_out_counted-given.new.self c.args.caches.now c.take_out_counted-given.ensures.made e c.requires.row.numbered))
+    let made : IsMade g.row.LEVELS (Remove c.args.space c.args.first c.args.order) c.take_out_counted-given.result c.args.radix.now c.take_out_counted-given.new.self = c.take_out_counted-given.ensures.made in
+    (lit< tt, (few, λ e. none-left g.row.LEVELS c.take_out_counted-given.result (Remove c.args.space c.args.first c.args.order) c.args.radix.now c.take_out_counted-given.new.self c.args.caches.now made e c.requires.row.numbered))
 
 pub returns : goal.returns
+unfolding has_room
 returns g c =
+    let made : IsMade g.row.LEVELS (Remove c.args.space c.args.first c.args.order) c.take_out_counted-given.result c.args.radix.now c.take_out_counted-given.new.self = c.take_out_counted-given.ensures.made in
     let r : MadeRow g.row.LEVELS (Remove c.args.space c.args.first c.args.order) c.args.radix.now c.take_out_counted-given.new.self c.args.caches.now c.settle.new.caches c.settle.result =
     row-made g.row.LEVELS c.take_out_counted-given.result (Remove c.args.space c.args.first c.args.order) c.args.radix.now c.take_out_counted-given.new.self c.args.caches.now c.settle.new.caches c.settle.result
-    c.requires.row c.take_out_counted-given.ensures.made refl c.settle.ensures.caches c.settle.ensures.work in
+    c.requires.row made refl c.settle.ensures.caches c.settle.ensures.work in
     record { row = r.row; changes = r.change }
