@@ -1,24 +1,28 @@
 //! A radix table with its walk caches.
 
-ghost use Rattle.std.specs.Prelude.{◌≡◌, suc, ◌+◌, ◌-◌, ◌*◌, ◌^◌, ◌<◌, ◌≤◌, [], false, slice_index, None, Some, length, is_some};
+ghost use Rattle.std.specs.Prelude.{◌≡◌, suc, ◌+◌, ◌-◌, ◌*◌, ◌^◌, ◌<◌, ◌≤◌, [], false, slice_index, map, None, Some, length, is_some, IsTrue, IfOk};
+ghost use Rattle.std.specs.List.{list_all};
 ghost use Rattle.xl_model.specs.declared.work.NoRoom.TheVariants as why;
 ghost use Rattle.xl_model.specs.Changes.{Insert, Remove, Protect, Relocate, IsNamed};
 ghost use Rattle.xl_model.specs.Mapping.{leaf_at_page, meets_any};
 ghost use Rattle.xl_model.specs.Nodes.{up, number_of};
 ghost use Rattle.xl_model.specs.Base.{plus};
+ghost use Rattle.xl_model.specs.Caches.{empty_cache};
+ghost use Rattle.xl_model.specs.Rows.{is_width};
 ghost use Rattle.xl_model.specs.Placing.{no_moves};
 ghost use Rattle.xl_model.specs.Walks.{end_level};
 ghost use Rattle.xl_model.specs.Structures.{IsBlock, IsLeafFor, IsPage, IsChange, IsWalk, IsFence, work_of};
 ghost use Rattle.xl_radix.specs.Walk.{walk_end};
 ghost use Rattle.xl_radix.specs.Steps.{shape_of};
-ghost use Rattle.xl_radix_walk.specs.Row.{AreNumbered, entries_of, filled_by, leaf_told, purged_caches, refused_for, start_or, IsPath, IsRow, row_of, row_table};
+ghost use Rattle.xl_radix_walk.specs.Row.{AreNumbered, entries_of, filled_by, leaf_told, opening_table, purged_caches, refused_for, start_or, IsPath, IsRow, row_of, row_table};
 ghost use Rattle.xl_radix.specs.Walk.{end_of};
 
 use crate::caches::{Start, fence_caches, fill, look, purge_given};
 use crate::walk;
 use arrayvec::ArrayVec;
+use std::alloc::Global;
 use std::marker::Model;
-use xl_model::{Leaf, NoRoom, NoTable, Order, Perm, Reach, Refused, Structure, Walk, Work};
+use xl_model::{Leaf, NoMemory, NoRoom, NoTable, Order, Perm, Reach, Refused, Structure, Walk, Work};
 use xl_phys::Bus;
 use xl_pte::Pte;
 use xl_radix::{Radix, WalkEnd, block_of, leaf_of};
@@ -249,7 +253,45 @@ fn fence_row(caches: &mut [Cache], reach: Reach) -> u64
     fence_caches(caches, reach)
 }
 
+/// Empty caches of these widths.
+fn open_caches(alloc: Global, widths: &[u8]) -> Result<Vec<Cache>, NoMemory>
+    requires { IsTrue (list_all is_width widths.now) }
+    ensures { IfOk result (λ caches. caches.items ≡ map empty_cache widths.now) }
+{
+    let mut caches = Vec::with_capacity(alloc, widths.len())?;
+    'opened: for width in widths {
+        if caches.push(Cache::open(alloc, *width)?).is_err() {
+            return Err(NoMemory);
+        }
+    }
+    Ok(caches)
+}
+
 impl<const LEVELS: usize> RadixRow<LEVELS> {
+    /// A row without leaves, as `Radix::open` opens its table, and with empty walk caches. `widths`
+    /// has their widths, level 0 first; those after the first `LEVELS - 1` aren't used.
+    ///
+    /// # Errors
+    ///
+    /// `NoMemory` where there is no memory.
+    pub fn open(
+        alloc: Global,
+        table_frames: u32,
+        spaces: u16,
+        widths: [u8; 4],
+    ) -> Result<RadixRow<LEVELS>, NoMemory>
+        requires levels { (3 ≤ LEVELS) × (LEVELS ≤ 5) }
+        requires spaces { (1 ≤ spaces) × (spaces ≤ 64) }
+        requires frames { (spaces ≤ table_frames) × (table_frames ≤ 16384) }
+        requires widths { IsTrue (list_all is_width widths) }
+        ensures { IfOk result (λ row.
+            row_table LEVELS row ≡ opening_table LEVELS table_frames spaces widths) }
+    {
+        let radix = Radix::open(alloc, table_frames, spaces)?;
+        let caches = open_caches(alloc, &widths[..LEVELS - 1])?;
+        Ok(RadixRow { radix, caches })
+    }
+
     /// Word `index` of node number `node`.
     pub fn word(&self, node: u32, index: u32) -> u64
         requires node { node < length self.now.radix.nodes }
