@@ -14,7 +14,7 @@ mod PathLemmas
 mod OpeningLemmas
 mod PoolLemmas
 mod LookLemmas
-mod FoundLemmas
+pub mod FoundLemmas
 mod FilledLemmas
 mod WalkLemmas
 mod TakenLeafLemmas

@@ -120,6 +120,13 @@ impl<const LEVELS: usize> Store<LEVELS> {
         })
     }
 
+    /// How many spaces there are.
+    pub fn spaces(&self) -> u16
+        ensures { result ≡ self.now.spaces }
+    {
+        self.spaces
+    }
+
     /// The walk of a page from its space's root, down to level `least` or to a word that is no pointer.
     pub fn end_of(&self, space: u16, page: u64, least: usize) -> Place
         requires exact { IsExact LEVELS self.now.leaves self.now.nodes }
