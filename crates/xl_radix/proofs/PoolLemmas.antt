@@ -1,12 +1,12 @@
 -- The pool of free numbers beside the nodes by number.
-use Rattle.std.proofs.Common.{ℕ, zero, suc, ◌≡◌, ◌+◌, ◌-◌, ◌*◌, ◌<◌, ◌≤◌, Bool, true, false, cond, List, [], ◌∷◌, ◌++◌, map, replicate, length, slice_index_or, slice_set, Option, Some, None, refl, ap, sym, ◌∙◌, subst, arith}
+use Rattle.std.proofs.Common.{ℕ, zero, suc, ◌≡◌, ◌+◌, ◌-◌, ◌<◌, ◌≤◌, Bool, true, false, List, [], ◌∷◌, ◌++◌, map, replicate, length, slice_index_or, slice_set, Option, Some, None, refl, ap, sym, ◌∙◌, subst, arith}
 use Rattle.std.specs.List.{position_from, position}
 use Rattle.std.specs.Prelude.{is_none}
 use Rattle.std.proofs.lemmas.Iterator.Adapters.{position_from-zero}
 use Rattle.xl_model.specs.Nodes.{Node, put_first, free_count, roots, opening_nodes}
 use Rattle.xl_frames.specs.Pool.{IsLowest, HasNone, marked}
 use Rattle.xl_frames.proofs.MarkLemmas.{lowest_number, no_number, marked_number}
-use Rattle.xl_radix.proofs.NumberLemmas.{put-lowest, free-none}
+use Rattle.xl_radix.proofs.NumberLemmas.{free-none}
 use Rattle.xl_radix.proofs.OpeningLemmas.{opening-count, none-node}
 use Rattle.std.specs.Prelude.{IfSome, IfNone}
 

@@ -1,21 +1,19 @@
 -- A leaf moves: its new place is free, its old name stays beside the new leaf, and the order in which the two
 -- come and go doesn't matter.
-use Rattle.std.proofs.Common.{ℕ, zero, suc, ◌≡◌, ◌+◌, ◌*◌, ◌/◌, ◌%◌, ◌^◌, ◌<◌, ◌≤◌, ◌⊎◌, inl, inr, Bool, true, false, List, [], ◌∷◌, find, Option, Some, None, refl, ap, sym, ◌∙◌, subst, arith}
+use Rattle.std.proofs.Common.{ℕ, zero, suc, ◌≡◌, ◌+◌, ◌*◌, ◌/◌, ◌%◌, ◌^◌, ◌<◌, ◌≤◌, inl, inr, true, false, List, Option, Some, None, refl, ap, sym, ◌∙◌, subst, arith}
 use Rattle.std.specs.Prelude.{is_some}
 use Rattle.std.proofs.lemmas.Bool.{false≢true}
 use Rattle.std.proofs.lemmas.Bool.Decides.{nat_tests}
-use Rattle.std.proofs.lemmas.Option.{same_Some}
 use Rattle.xl_model.specs.declared.address.Order.{Order}
 use Rattle.xl_model.specs.declared.address.Order.TheVariants as order
 use Rattle.xl_model.specs.declared.leaf.Leaf.{Leaf}
-use Rattle.xl_model.specs.declared.perm.Perm.{Perm}
 use Rattle.xl_model.specs.Addresses.{level_of, pages_of}
 use Rattle.xl_model.specs.Changes.{Insert, Remove, Relocate, IsNamed, changed}
 use Rattle.xl_model.specs.Mapping.{with_leaf, without_leaf, leaf_key, leaf_at_page, leaf_named, is_leaf, meets_any, meets_block}
-use Rattle.xl_model.specs.Nodes.{Node, up, with_leaf_nodes, only_needed, free_count}
+use Rattle.xl_model.specs.Nodes.{Node, with_leaf_nodes, only_needed, free_count}
 use Rattle.xl_model.specs.Room.{has_room}
 use Rattle.xl_model.specs.Shapes.{Radix, brought, shape_after}
-use Rattle.xl_model.specs.Structures.{IsBlock, IsLeafFor}
+use Rattle.xl_model.specs.Structures.{IsBlock}
 use Rattle.xl_mapping.specs.Members.{In, IsSorted}
 use Rattle.xl_mapping.proofs.InsertionLemmas.{with-In, In-with, stays-with, sorted-with, sorted-without, without-In, without-other, In-without}
 use Rattle.xl_mapping.proofs.MappingLemmas.{named-In, named-is}

@@ -2,7 +2,6 @@
 use Rattle.std.proofs.Common.{ℕ, zero, suc, ◌≡◌, ◌≢◌, ◌+◌, ◌-◌, ◌*◌, ◌<◌, ◌≤◌, ◌==◌, Bool, true, false, ◌⊎◌, inl, inr, List, [], ◌∷◌, map, length, slice_index, slice_index_or, Option, Some, None, refl, ap, sym, ◌∙◌, subst, arith}
 use Rattle.std.proofs.lemmas.Bool.{false≢true, false_from_ne_true}
 use Rattle.std.proofs.lemmas.Bool.Decides.{nat_tests}
-use Rattle.std.proofs.lemmas.Grind.{get_or_default_zero}
 use Rattle.xl_model.specs.declared.address.Order.{Order}
 use Rattle.xl_model.specs.declared.leaf.Leaf.{Leaf}
 use Rattle.xl_model.specs.Addresses.{level_of}
@@ -11,16 +10,15 @@ use Rattle.xl_model.specs.Mapping.{without_leaf, leaf_named}
 use Rattle.xl_model.specs.Nodes.{up, Node, is_below, in_nodes, number_of, free_count, is_needed, kept_node, only_needed}
 use Rattle.std.specs.Prelude.{is_some}
 use Rattle.xl_model.specs.Shapes.{Radix, shape_after}
-use Rattle.xl_mapping.specs.Members.{In}
 use Rattle.xl_mapping.proofs.MappingLemmas.{named-is}
 use Rattle.xl_mapping.proofs.PlaceLemmas.{named-space, named-first}
 use Rattle.xl_mapping.proofs.InsertionLemmas.{without-In}
 use Rattle.xl_model.specs.Image.{is_slot, leaf_in}
-use Rattle.xl_radix.specs.Table.{filled, IsNearly, IsExact, IsImage, IsStore}
+use Rattle.xl_radix.specs.Table.{IsNearly, IsExact, IsStore}
 use Rattle.xl_radix.specs.Steps.{Stands, IsLess, IsTaken}
 use Rattle.xl_radix.proofs.ListLemmas.{find-nothing}
 use Rattle.xl_radix.proofs.NumberLemmas.{node-in, below-some, number-some}
-use Rattle.xl_radix.proofs.SlotLemmas.{Under, slot-at, in-nodes, leaf-in-none}
+use Rattle.xl_radix.proofs.SlotLemmas.{slot-at, in-nodes, leaf-in-none}
 use Rattle.xl_radix.proofs.MadeNodeLemmas.{new_node}
 use Rattle.xl_radix.proofs.CountLemmas.{filled-some}
 use Rattle.xl_radix.proofs.FreedNodeLemmas.{node-is, filled-needed, kept-nearly}

@@ -1,5 +1,5 @@
 -- The words of a table that are not 0.
-use Rattle.std.specs.Prelude.{ℕ, zero, suc, ◌/◌, ◌%◌, List, [], ◌∷◌}
+use Rattle.std.specs.Prelude.{ℕ, suc, ◌/◌, ◌%◌, List, [], ◌∷◌}
 use Rattle.xl_model.specs.Image.{Word, unless_zero}
 
 -- The words that are not 0 from a place on, each with its node and its index there: a node has 512 words.

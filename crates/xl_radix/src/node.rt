@@ -2,8 +2,8 @@
 
 use std::marker::Model;
 
-/// The name of a node: its level, and the space and the pages that it serves, by their number divided
-/// by `512^(level + 1)`.
+/// The name of a node: its level, and the space and the pages that it serves, by their number
+/// divided by `512^(level + 1)`.
 #[derive(Drop)]
 pub struct Node {
     space: u16,

@@ -16,8 +16,8 @@ use std::marker::Model;
 use xl_model::{Leaf, NoMemory, NoTable, Order, Perm};
 use xl_phys::Bus;
 
-/// A radix table of LEVELS levels over words of its own. Contracts see its leaves, sorted by space and
-/// first page, its nodes by number, its words, its spaces and its loads.
+/// A radix table of LEVELS levels over words of its own. Contracts see its leaves, sorted by space
+/// and first page, its nodes by number, its words, its spaces and its loads.
 #[derive(Drop)]
 pub struct Radix<const LEVELS: usize> {
     store: Store<LEVELS>,
@@ -32,14 +32,16 @@ impl<const LEVELS: usize> Model for Radix<LEVELS> {
 
     ghost Value = { Table };
 
-    ghost view = { λ r. record { leaves = r.store.leaves; nodes = r.store.nodes; words = r.store.words; spaces = r.store.spaces; loads = r.loads } };
+    ghost view = { λ r. record { leaves = r.store.leaves; nodes = r.store.nodes;
+        words = r.store.words; spaces = r.store.spaces; loads = r.loads } };
 
-    ghost invariant = { λ r. IsExact LEVELS r.store.leaves r.store.nodes × (r.free ≡ free_count r.store.nodes) };
+    ghost invariant = { λ r. IsExact LEVELS r.store.leaves r.store.nodes
+        × (r.free ≡ free_count r.store.nodes) };
 }
 
 impl<const LEVELS: usize> Radix<LEVELS> {
-    /// A table without leaves, with node numbers below `table_frames`. Numbers 0 to `spaces - 1` are
-    /// the roots of the spaces.
+    /// A table without leaves, with node numbers below `table_frames`. Numbers 0 to `spaces - 1`
+    /// are the roots of the spaces.
     ///
     /// # Errors
     ///
@@ -75,8 +77,8 @@ impl<const LEVELS: usize> Radix<LEVELS> {
         self.store.meets(space, first, order)
     }
 
-    /// The leaf that covers the page, None exactly where there is none. It is found by a walk of the
-    /// words, which doesn't count as loads.
+    /// The leaf that covers the page, None exactly where there is none. It is found by a walk of
+    /// the words, which doesn't count as loads.
     pub fn leaf_at(&self, space: u16, page: u64) -> Option<Leaf>
         requires { IsPage (shape_of LEVELS self.now) space page }
         ensures { result ≡ leaf_at_page space page self.now.leaves }
@@ -93,11 +95,13 @@ impl<const LEVELS: usize> Radix<LEVELS> {
     pub fn add(&mut self, leaf: Leaf) -> Result<(), NoTable>
         requires valid { IsLeafFor (shape_of LEVELS self.old) leaf }
         requires free { meets_any leaf.space leaf.first leaf.order self.old.leaves ≡ false }
-        ensures answer { is_ok result ≡ has_room (Insert leaf) self.old.leaves (shape_of LEVELS self.old) }
+        ensures answer { is_ok result ≡ has_room (Insert leaf) self.old.leaves (shape_of LEVELS
+            self.old) }
         ensures refused { OnErr result (self.new ≡ self.old) }
         ensures leaves { OnOk result (self.new.leaves ≡ with_leaf leaf self.old.leaves) }
         ensures nodes { OnOk result (self.new.nodes ≡ with_leaf_nodes LEVELS leaf self.old.nodes) }
-        ensures shape { OnOk result (shape_of LEVELS self.new ≡ shape_after (Insert leaf) self.old.leaves (shape_of LEVELS self.old)) }
+        ensures shape { OnOk result (shape_of LEVELS self.new ≡
+            shape_after (Insert leaf) self.old.leaves (shape_of LEVELS self.old)) }
         ensures spaces { self.new.spaces ≡ self.old.spaces }
         ensures loads { self.new.loads ≡ self.old.loads }
     {
@@ -144,8 +148,8 @@ impl<const LEVELS: usize> Radix<LEVELS> {
     ///
     /// # Errors
     ///
-    /// `NoTable` exactly where the nodes that the leaf lacks at its new place are more than the free
-    /// numbers, with the leaf still at its old place; then nothing changes.
+    /// `NoTable` exactly where the nodes that the leaf lacks at its new place are more than the
+    /// free numbers, with the leaf still at its old place; then nothing changes.
     pub fn shift(&mut self, space: u16, first: u64, to: u64, order: Order) -> Result<(), NoTable>
         requires named { IsNamed space first order self.old.leaves }
         requires block { IsBlock (shape_of LEVELS self.old) space to order }
@@ -191,7 +195,8 @@ impl<const LEVELS: usize> Radix<LEVELS> {
         requires named { IsNamed space first order self.now.leaves }
         requires block { IsBlock (shape_of LEVELS self.now) space to order }
         requires free { meets_any space to order self.now.leaves ≡ false }
-        ensures { IsMove LEVELS self.now.spaces space first to order result self.now.leaves self.now.nodes }
+        ensures { IsMove LEVELS self.now.spaces space first to order result self.now.leaves
+            self.now.nodes }
     {
         self.store.moved(space, first, to, order)
     }
@@ -237,7 +242,8 @@ impl<const LEVELS: usize> Radix<LEVELS> {
     /// What the table keeps: its words read back, by the manual's walk over a list of words, as its
     /// leaves, from each root and from every other node at its level and number.
     pub fn words_read_back(&self)
-        ensures { WordsReadBack LEVELS self.now.spaces self.now.leaves self.now.nodes self.now.words }
+        ensures { WordsReadBack LEVELS self.now.spaces self.now.leaves self.now.nodes
+            self.now.words }
     {
         self.store.words_read_back();
     }

@@ -45,9 +45,11 @@ impl<const LEVELS: usize> Model for Store<LEVELS> {
 
     ghost Value = { Stored };
 
-    ghost view = { λ s. record { leaves = read_back s.numbers s.words.items; nodes = s.numbers; words = s.words.items; used = s.used.items; spaces = s.spaces } };
+    ghost view = { λ s. record { leaves = read_back s.numbers s.words.items; nodes = s.numbers;
+        words = s.words.items; used = s.used.items; spaces = s.spaces } };
 
-    ghost invariant = { λ s. IsStore LEVELS s.spaces (read_back s.numbers s.words.items) s.numbers s.words.items s.used.items };
+    ghost invariant = { λ s. IsStore LEVELS s.spaces (read_back s.numbers s.words.items)
+        s.numbers s.words.items s.used.items };
 }
 
 /// The order of the leaves of a level; levels above 2 have none.
@@ -127,7 +129,8 @@ impl<const LEVELS: usize> Store<LEVELS> {
         self.spaces
     }
 
-    /// The walk of a page from its space's root, down to level `least` or to a word that is no pointer.
+    /// The walk of a page from its space's root, down to level `least` or to a word that is no
+    /// pointer.
     pub fn end_of(&self, space: u16, page: u64, least: usize) -> Place
         requires exact { IsExact LEVELS self.now.leaves self.now.nodes }
         requires space { space < self.now.spaces }
@@ -176,8 +179,10 @@ impl<const LEVELS: usize> Store<LEVELS> {
     pub fn end_for(&self, leaf: &Leaf) -> Place
         requires exact { IsExact LEVELS self.now.leaves self.now.nodes }
         requires valid { IsLeafFor (Radix LEVELS self.now.spaces self.now.nodes) leaf.now }
-        requires free { meets_any leaf.now.space leaf.now.first leaf.now.order self.now.leaves ≡ false }
-        ensures end { IsEnd LEVELS leaf.now.space leaf.now.first (level_of leaf.now.order) result.level result.node self.now.nodes }
+        requires free { meets_any leaf.now.space leaf.now.first leaf.now.order self.now.leaves ≡
+            false }
+        ensures end { IsEnd LEVELS leaf.now.space leaf.now.first (level_of leaf.now.order)
+            result.level result.node self.now.nodes }
         ensures new { IsNew LEVELS self.now.spaces leaf.now self.now.leaves }
     {
         // What `new` says rests on what the type keeps, which a look at a field brings in.
@@ -211,7 +216,8 @@ impl<const LEVELS: usize> Store<LEVELS> {
     /// The words read back as the leaves, by the manual's walk.
     pub fn words_read_back(&self)
         requires { IsExact LEVELS self.now.leaves self.now.nodes }
-        ensures { WordsReadBack LEVELS self.now.spaces self.now.leaves self.now.nodes self.now.words }
+        ensures { WordsReadBack LEVELS self.now.spaces self.now.leaves self.now.nodes
+            self.now.words }
     {
         // A look at a field brings in what the type keeps.
         let _words = &self.words;
@@ -248,10 +254,14 @@ impl<const LEVELS: usize> Store<LEVELS> {
         requires high { above.level < LEVELS }
         requires free { 0 < free_count self.old.nodes }
         ensures leaves { self.new.leaves ≡ self.old.leaves }
-        ensures nodes { self.new.nodes ≡ put_first (record { space = space; level = above.level - 1; prefix = up above.level page }) self.old.nodes }
+        ensures nodes { self.new.nodes ≡ put_first
+            (record { space = space; level = above.level - 1; prefix = up above.level page })
+            self.old.nodes }
         ensures spaces { self.new.spaces ≡ self.old.spaces }
         ensures ready { IsReady space page (above.level - 1) result self.new.leaves self.new.nodes }
-        ensures nearly { (l : _) → l < above.level → IsNearly LEVELS space page l self.old.leaves self.old.nodes → IsNearly LEVELS space page l self.new.leaves self.new.nodes }
+        ensures nearly { (l : _) → l < above.level →
+            IsNearly LEVELS space page l self.old.leaves self.old.nodes →
+            IsNearly LEVELS space page l self.new.leaves self.new.nodes }
         ensures free { free_count self.new.nodes + 1 ≡ free_count self.old.nodes }
     {
         // What the type keeps comes in by a look at a field.
@@ -275,11 +285,13 @@ impl<const LEVELS: usize> Store<LEVELS> {
         requires free { from.level ≤ free_count self.old.nodes + least }
         requires nearly { IsNearly LEVELS space page least self.old.leaves self.old.nodes }
         ensures leaves { self.new.leaves ≡ self.old.leaves }
-        ensures nodes { self.new.nodes ≡ with_path space page least (from.level - least) self.old.nodes }
+        ensures nodes { self.new.nodes ≡
+            with_path space page least (from.level - least) self.old.nodes }
         ensures spaces { self.new.spaces ≡ self.old.spaces }
         ensures ready { IsReady space page least result self.new.leaves self.new.nodes }
         ensures nearly { IsNearly LEVELS space page least self.new.leaves self.new.nodes }
-        ensures free { free_count self.new.nodes + (from.level - least) ≡ free_count self.old.nodes }
+        ensures free { free_count self.new.nodes + (from.level - least) ≡
+            free_count self.old.nodes }
     {
         let mut at = from;
         'down: while at.level > least {
@@ -295,11 +307,13 @@ impl<const LEVELS: usize> Store<LEVELS> {
     /// Puts a leaf into its slot, which is empty.
     fn write_leaf(&mut self, node: usize, leaf: Leaf)
         requires new { IsNew LEVELS self.old.spaces leaf self.old.leaves }
-        requires ready { IsReady leaf.space leaf.first (level_of leaf.order) node self.old.leaves self.old.nodes }
+        requires ready { IsReady leaf.space leaf.first (level_of leaf.order) node self.old.leaves
+            self.old.nodes }
         ensures leaves { self.new.leaves ≡ with_leaf leaf self.old.leaves }
         ensures nodes { self.new.nodes ≡ self.old.nodes }
         ensures spaces { self.new.spaces ≡ self.old.spaces }
-        ensures exact { IsNearly LEVELS leaf.space leaf.first (level_of leaf.order) self.old.leaves self.old.nodes → IsExact LEVELS self.new.leaves self.new.nodes }
+        ensures exact { IsNearly LEVELS leaf.space leaf.first (level_of leaf.order)
+            self.old.leaves self.old.nodes → IsExact LEVELS self.new.leaves self.new.nodes }
     {
         self.used[node] += 1;
         let at = node * 512 + index_of(leaf.first, leaf.order.level());
@@ -310,13 +324,15 @@ impl<const LEVELS: usize> Store<LEVELS> {
     pub fn add_leaf(&mut self, from: Place, leaf: Leaf)
         requires new { IsNew LEVELS self.old.spaces leaf self.old.leaves }
         requires exact { IsExact LEVELS self.old.leaves self.old.nodes }
-        requires end { IsEnd LEVELS leaf.space leaf.first (level_of leaf.order) from.level from.node self.old.nodes }
+        requires end { IsEnd LEVELS leaf.space leaf.first (level_of leaf.order)
+            from.level from.node self.old.nodes }
         requires free { from.level ≤ free_count self.old.nodes + level_of leaf.order }
         ensures leaves { self.new.leaves ≡ with_leaf leaf self.old.leaves }
         ensures nodes { self.new.nodes ≡ with_leaf_nodes LEVELS leaf self.old.nodes }
         ensures spaces { self.new.spaces ≡ self.old.spaces }
         ensures exact { IsExact LEVELS self.new.leaves self.new.nodes }
-        ensures free { free_count self.new.nodes + (from.level - level_of leaf.order) ≡ free_count self.old.nodes }
+        ensures free { free_count self.new.nodes + (from.level - level_of leaf.order) ≡
+            free_count self.old.nodes }
     {
         let node = self.make_path(leaf.space, leaf.first, from, leaf.order.level());
         self.write_leaf(node, leaf);
@@ -330,7 +346,8 @@ impl<const LEVELS: usize> Store<LEVELS> {
         ensures leaves { self.new.leaves ≡ without_leaf space first self.old.leaves }
         ensures nodes { self.new.nodes ≡ self.old.nodes }
         ensures spaces { self.new.spaces ≡ self.old.spaces }
-        ensures nearly { IsNearly LEVELS space first (level_of order) self.new.leaves self.new.nodes }
+        ensures nearly { IsNearly LEVELS space first (level_of order) self.new.leaves
+            self.new.nodes }
     {
         self.used[node] -= 1;
         let at = node * 512 + index_of(first, order.level());
@@ -342,7 +359,8 @@ impl<const LEVELS: usize> Store<LEVELS> {
         requires exact { IsExact LEVELS self.old.leaves self.old.nodes }
         requires there { leaf_named old.space old.first old.order self.old.leaves ≡ Some old }
         requires at { Stands old.space old.first (level_of old.order) node self.old.nodes }
-        ensures leaves { self.new.leaves ≡ with_leaf (record old { perm = perm }) (without_leaf old.space old.first self.old.leaves) }
+        ensures leaves { self.new.leaves ≡ with_leaf (record old { perm = perm })
+            (without_leaf old.space old.first self.old.leaves) }
         ensures nodes { self.new.nodes ≡ self.old.nodes }
         ensures spaces { self.new.spaces ≡ self.old.spaces }
         ensures exact { IsExact LEVELS self.new.leaves self.new.nodes }
@@ -357,7 +375,8 @@ impl<const LEVELS: usize> Store<LEVELS> {
     pub fn set_perm(&mut self, space: u16, first: u64, order: Order, perm: Perm)
         requires exact { IsExact LEVELS self.old.leaves self.old.nodes }
         requires named { IsNamed space first order self.old.leaves }
-        ensures leaves { self.new.leaves ≡ changed (Protect space first order perm) self.old.leaves }
+        ensures leaves { self.new.leaves ≡
+            changed (Protect space first order perm) self.old.leaves }
         ensures nodes { self.new.nodes ≡ self.old.nodes }
         ensures spaces { self.new.spaces ≡ self.old.spaces }
         ensures exact { IsExact LEVELS self.new.leaves self.new.nodes }
@@ -376,7 +395,8 @@ impl<const LEVELS: usize> Store<LEVELS> {
         requires named { IsNamed space first order self.now.leaves }
         requires block { IsBlock (Radix LEVELS self.now.spaces self.now.nodes) space to order }
         requires free { meets_any space to order self.now.leaves ≡ false }
-        ensures { IsMove LEVELS self.now.spaces space first to order result self.now.leaves self.now.nodes }
+        ensures { IsMove LEVELS self.now.spaces space first to order result self.now.leaves
+            self.now.nodes }
     {
         // What the type keeps comes in by a look at a field.
         let _words = &self.words;
@@ -408,7 +428,8 @@ impl<const LEVELS: usize> Store<LEVELS> {
         requires below { Stands space page (above.level - 1) child self.old.nodes }
         requires empty { leaf_in space above.level (up above.level page) self.old.leaves ≡ None }
         requires unused { slice_index self.old.used child ≡ 0 }
-        requires nearly { IsNearly LEVELS space page (above.level - 1) self.old.leaves self.old.nodes }
+        requires nearly { IsNearly LEVELS space page (above.level - 1) self.old.leaves
+            self.old.nodes }
         ensures leaves { self.new.leaves ≡ self.old.leaves }
         ensures spaces { self.new.spaces ≡ self.old.spaces }
         ensures taken { IsTaken above.level 1 self.old.nodes self.new.nodes }
@@ -437,8 +458,8 @@ impl<const LEVELS: usize> Store<LEVELS> {
         }
     }
 
-    /// Takes out a leaf below a node that stands at it, and gives back the nodes below this one that
-    /// are empty then. Answers how many.
+    /// Takes out a leaf below a node that stands at it, and gives back the nodes below this one
+    /// that are empty then. Answers how many.
     fn take_leaf_below(&mut self, space: u16, first: u64, order: Order, from: Place) -> usize
         requires exact { IsExact LEVELS self.old.leaves self.old.nodes }
         requires named { IsNamed space first order self.old.leaves }

@@ -155,10 +155,7 @@ fn a_leaf_has_its_path_of_lowest_numbers(rt: HostRuntime) -> Result<(), Fail> {
 fn the_last_number_is_taken_and_no_more(rt: HostRuntime) -> Result<(), Fail> {
     let mut asked = Asked::<4>::open(rt.alloc(), 6, 2)?;
     assert_eq!(rt; asked.add(leaf(0, 0, Order::K4, 0)), Some(Ok(())));
-    assert_eq!(rt;
-        asked.add(leaf(1, 0, Order::K4, 0)),
-        Some(Err(NoTable))
-    );
+    assert_eq!(rt; asked.add(leaf(1, 0, Order::K4, 0)), Some(Err(NoTable)));
     assert_eq!(rt; asked.add(leaf(1, 0, Order::G1, 0)), Some(Ok(())));
     assert_eq!(rt; asked.table.load(0), Some([0x801, 0, 0, 0]));
     assert_eq!(rt; asked.table.load(128), Some([0x1401, 0, 0, 0]));
@@ -187,19 +184,13 @@ fn large_leaves_stand_high(rt: HostRuntime) -> Result<(), Fail> {
 fn a_number_is_taken_again_at_another_level(rt: HostRuntime) -> Result<(), Fail> {
     let mut asked = Asked::<3>::open(rt.alloc(), 3, 1)?;
     let page = leaf(0, 1, Order::K4, 0);
-    assert_eq!(rt;
-        asked.add(leaf(0, 512, Order::M2, 512)),
-        Some(Ok(()))
-    );
+    assert_eq!(rt; asked.add(leaf(0, 512, Order::M2, 512)), Some(Ok(())));
     assert_eq!(rt; asked.add(page), Some(Ok(())));
     assert_eq!(rt; asked.table.load(256), Some([0, 0xd3, 0, 0]));
     assert_eq!(rt; asked.take_out(0, 1), Some(page));
 
     // Number 2 was the node of the first 2 MiB, and is that of the second 1 GiB now.
-    assert_eq!(rt;
-        asked.add(leaf(0, 262_144, Order::M2, 1024)),
-        Some(Ok(()))
-    );
+    assert_eq!(rt; asked.add(leaf(0, 262_144, Order::M2, 1024)), Some(Ok(())));
     assert_eq!(rt; asked.table.load(0), Some([0x401, 0x801, 0, 0]));
     assert_eq!(rt; asked.table.load(128), Some([0, 0x8_00d3, 0, 0]));
     assert_eq!(rt; asked.table.load(256), Some([0x10_00d3, 0, 0, 0]));
@@ -223,7 +214,8 @@ fn a_leaf_moves_within_a_node_and_to_others(rt: HostRuntime) -> Result<(), Fail>
     assert_eq!(rt; asked.table.load(385), Some([0xd3, 0, 0, 0]));
     assert_eq!(rt; asked.filled(), 4);
 
-    // To a node that is made under the last free number; then none is left, though a node would be free.
+    // To a node that is made under the last free number; then none is left, though a node would be
+    // free.
     assert_eq!(rt; asked.shift(0, 516, 1031), Some(Ok(())));
     assert_eq!(rt; asked.shift(0, 515, 1536), Some(Err(NoTable)));
     assert_eq!(rt; asked.table.load(0), Some([0x401, 0, 0, 0]));

@@ -1,24 +1,23 @@
 -- A change of a row: the tags of the nodes that were given back leave the caches, and no others.
-use Rattle.std.proofs.Common.{ℕ, suc, ◌≡◌, ◌+◌, ◌-◌, ◌≤◌, Bool, true, false, is_some, List, length, Option, None, Some, Result, Ok, Err, refl, ap, sym, ◌∙◌, subst, arith}
+use Rattle.std.proofs.Common.{ℕ, ◌≡◌, ◌-◌, true, false, List, Option, None, Some, Ok, Err, refl, ap, sym, ◌∙◌, subst, arith}
 use Rattle.xl_model.specs.declared.leaf.Leaf.{Leaf}
 use Rattle.xl_model.specs.declared.work.NoRoom.TheVariants as why
-use Rattle.xl_model.specs.declared.work.Refused.{Refused}
 use Rattle.xl_model.specs.declared.work.Work.{Work}
 use Rattle.xl_model.specs.Addresses.{level_of}
 use Rattle.xl_model.specs.Changes.{Change, Insert, changed}
 use Rattle.xl_model.specs.Mapping.{with_leaf}
 use Rattle.xl_model.specs.Nodes.{Node, free_count, only_needed, with_leaf_nodes}
-use Rattle.xl_model.specs.Caches.{Cached, NodeCaches, caches_purged}
+use Rattle.xl_model.specs.Caches.{Cached, caches_purged}
 use Rattle.xl_model.specs.Placing.{no_moves}
 use Rattle.xl_model.specs.Room.{has_room}
-use Rattle.xl_model.specs.Shapes.{Shape, Radix, brought, widened, narrowed, shape_after}
-use Rattle.xl_model.specs.Structures.{TableState, IsChange, moves_made, finds_place, verdict, table_made, table_answer, table_after, work_of}
+use Rattle.xl_model.specs.Shapes.{Radix, brought, widened, narrowed, shape_after}
+use Rattle.xl_model.specs.Structures.{IsChange, moves_made, finds_place, verdict, table_made, table_answer, table_after, work_of}
 use Rattle.xl_recency.specs.declared.item.Item.{Item}
 use Rattle.xl_radix.specs.Table.{Table}
-use Rattle.xl_radix.specs.Steps.{IsLess, IsMade, shape_of, with_brought}
+use Rattle.xl_radix.specs.Steps.{IsMade, shape_of, with_brought}
 use Rattle.xl_radix.proofs.ShapeLemmas.{less-same, count-same}
 use Rattle.xl_radix.proofs.TakingLemmas.{less-none}
-use Rattle.xl_radix_walk.specs.Row.{AreNumbered, IsRow, refused_for, row_of, row_table, purged_caches, entries_of, caches_in}
+use Rattle.xl_radix_walk.specs.Row.{AreNumbered, IsRow, refused_for, row_of, row_table, purged_caches, entries_of}
 use Rattle.xl_radix_walk.proofs.KeptLemmas.{numbered-path}
 use Rattle.xl_radix_walk.proofs.PurgeLemmas.{purged-in, numbered-purged, entries-in, purged-length}
 

@@ -1,7 +1,6 @@
 -- A walk of a table's own words.
-use Rattle.std.proofs.Common.{ℕ, zero, suc, ◌≡◌, ◌+◌, ◌-◌, ◌*◌, ◌/◌, ◌%◌, ◌^◌, ◌<◌, ◌≤◌, Bool, true, false, if◌then◌else◌, ◌⊎◌, inl, inr, List, [], ◌∷◌, length, slice_index, Option, Some, None, refl, ap, sym, ◌∙◌, subst, arith}
+use Rattle.std.proofs.Common.{ℕ, zero, suc, ◌≡◌, ◌+◌, ◌-◌, ◌%◌, ◌^◌, ◌<◌, ◌≤◌, true, false, if◌then◌else◌, ◌⊎◌, inl, inr, List, [], slice_index, Option, Some, None, refl, ap, sym, ◌∙◌, subst, arith}
 use Rattle.xl_model.specs.declared.leaf.Leaf.{Leaf}
-use Rattle.xl_model.specs.Addresses.{level_of}
 use Rattle.xl_model.specs.Base.{plus}
 use Rattle.xl_model.specs.Mapping.{leaf_at_page}
 use Rattle.xl_model.specs.Nodes.{up, Node, number_of}
@@ -10,11 +9,9 @@ use Rattle.xl_phys.specs.Lines.{counted}
 use Rattle.xl_pte.specs.Decode.{decode_of}
 use Rattle.xl_pte.specs.declared.word.Pte.{Pte}
 use Rattle.xl_pte.specs.declared.word.Pte.TheVariants as pte
-use Rattle.xl_radix.specs.declared.walk_end.WalkEnd.{WalkEnd}
 use Rattle.xl_radix.specs.declared.walk_end.WalkEnd.TheVariants as end
 use Rattle.xl_radix.specs.Table.{Table}
 use Rattle.xl_radix.specs.Walk.{place_of, is_there, end_at, reading, radix_back, walk_end, WordsReadBack}
-use Rattle.xl_radix.proofs.NumberLemmas.{number-some}
 use Rattle.xl_radix.specs.Walk.{end_of}
 use Rattle.xl_radix_walk.specs.Path.{entered, entering, radix_path, loaded_times}
 use Rattle.xl_radix_walk.specs.Row.{IsPath}
@@ -64,10 +61,10 @@ pub path-is : (words : List ℕ) (top spaces s page l node : ℕ) (leaves : List
 path-is words top spaces s page zero node leaves nodes back at h low high = absurd (omega arith)
 path-is words top spaces s page (suc k) node leaves nodes back at h low high =
     path-by words top spaces s page (suc k) node leaves nodes back at
-      (λ next i e f g.
-        let a : suc k - 1 - 1 - i ≡ k - 1 - i = omega arith in
-        subst (λ (v : ℕ). number_of s (suc i) (up (suc i) page) nodes ≡ Some (slice_index (entering words (suc k) next page) v)) (sym a) (path-is words top spaces s page k next leaves nodes back e i f (omega arith)))
-      h low high
+    (λ next i e f g.
+    let a : suc k - 1 - 1 - i ≡ k - 1 - i = omega arith in
+    subst (λ (v : ℕ). number_of s (suc i) (up (suc i) page) nodes ≡ Some (slice_index (entering words (suc k) next page) v)) (sym a) (path-is words top spaces s page k next leaves nodes back e i f (omega arith)))
+    h low high
 
 pub end-at-level : (top s page : ℕ) (leaves : List Leaf) (words : List ℕ) (spaces : ℕ) (nodes : List (Option Node)) → WordsReadBack top spaces leaves nodes words → end_of (walk_end (leaf_at_page s page leaves) (end_level (top - 1) 0 s page leaves)) ≡ end_level (top - 1) 0 s page leaves
 end-at-level top s page leaves words spaces nodes back =

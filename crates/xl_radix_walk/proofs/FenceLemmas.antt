@@ -1,11 +1,10 @@
 -- Fences on walk caches.
-use Rattle.std.proofs.Common.{ℕ, suc, ◌≡◌, ◌+◌, ◌-◌, ◌/◌, ◌≤◌, Bool, true, false, not, if◌then◌else◌, List, [], ◌∷◌, map, length, Option, Some, refl, ap, sym, ◌∙◌, subst, arith}
+use Rattle.std.proofs.Common.{ℕ, suc, ◌≡◌, ◌+◌, ◌-◌, ◌/◌, Bool, true, false, not, if◌then◌else◌, List, [], ◌∷◌, map, length, Option, refl, ap, subst, arith}
 use Rattle.xl_model.specs.declared.event.Reach.{Reach}
 use Rattle.xl_model.specs.Nodes.{Node}
 use Rattle.xl_model.specs.Caches.{Cached, Numbered, all_without, reaches_space, caches_fenced}
 use Rattle.xl_model.specs.Recency.{purged}
 use Rattle.xl_model.specs.Structures.{IsFence, fence_answer, table_fenced}
-use Rattle.xl_mapping.specs.Members.{In}
 use Rattle.xl_mapping.proofs.MemberLemmas.{filter-In}
 use Rattle.xl_recency.specs.declared.item.Item.{Item}
 use Rattle.xl_radix.specs.Table.{Table}

@@ -1,7 +1,6 @@
 -- New nodes leave each node its number.
 use Rattle.std.proofs.Common.{ℕ, zero, suc, ◌≡◌, ◌+◌, ◌-◌, ◌/◌, ◌%◌, Bool, true, false, cond, List, [], ◌∷◌, Option, Some, None, refl, ap, sym, ◌∙◌, subst, arith}
 use Rattle.std.specs.List.{position_from}
-use Rattle.std.proofs.lemmas.Bool.Decides.{nat_tests}
 use Rattle.xl_model.specs.Nodes.{up, Node, is_below, number_of, put_first, unless_there, with_node, with_path}
 use Rattle.xl_model.specs.Caches.{Cached}
 use Rattle.xl_recency.specs.declared.item.Item.{Item}

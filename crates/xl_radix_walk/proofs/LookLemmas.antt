@@ -1,16 +1,16 @@
 -- Looks into walk caches.
-use Rattle.std.proofs.Common.{ℕ, zero, suc, ◌≡◌, ◌+◌, ◌-◌, ◌*◌, ◌/◌, ◌%◌, ◌^◌, ◌<◌, ◌≤◌, ◌==◌, Bool, true, false, cond, ◌&&◌, ◌||◌, ◌⊎◌, inl, inr, List, [], ◌∷◌, map, find, length, Option, Some, None, refl, ap, sym, ◌∙◌, subst, arith}
+use Rattle.std.proofs.Common.{ℕ, zero, suc, ◌≡◌, ◌+◌, ◌*◌, ◌/◌, ◌%◌, ◌^◌, ◌<◌, ◌≤◌, ◌==◌, Bool, true, false, cond, ◌&&◌, ◌||◌, ◌⊎◌, inl, inr, List, [], ◌∷◌, map, find, Option, Some, None, refl, sym, ◌∙◌, subst, arith}
 use Rattle.std.specs.List.{list_any}
 use Rattle.std.proofs.lemmas.Bool.Decides.{nat_tests}
 use Rattle.std.proofs.lemmas.Bool.{eq-eqb}
 use Rattle.xl_model.specs.Nodes.{up, Node, number_of}
 use Rattle.xl_model.specs.Caches.{Cached, Numbered}
 use Rattle.xl_model.specs.Recency.{touched, without_first, in_front}
-use Rattle.xl_model.specs.Walks.{is_tag, start_level, with_touch, node_cache_after, node_caches_after}
+use Rattle.xl_model.specs.Walks.{is_tag, start_level, node_caches_after}
 use Rattle.xl_mapping.specs.Members.{In}
 use Rattle.xl_mapping.proofs.MemberLemmas.{find-In, find-passes}
 use Rattle.xl_recency.specs.declared.item.Item.{Item}
-use Rattle.xl_radix_walk.specs.Row.{tag_at, has_tag, numbered_in, cache_in, caches_in, AllNumbered, AreNumbered}
+use Rattle.xl_radix_walk.specs.Row.{tag_at, has_tag, numbered_in, caches_in, AreNumbered}
 
 pub up-le : (l page : ℕ) → up l page ≤ page
 up-le zero page = omega arith

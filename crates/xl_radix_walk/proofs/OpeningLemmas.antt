@@ -1,11 +1,10 @@
 -- A row at its opening.
-use Rattle.std.proofs.Common.{ℕ, zero, suc, ◌≡◌, ◌+◌, ◌-◌, ◌<◌, ◌≤◌, Bool, true, false, ◌&&◌, List, [], ◌∷◌, map, take, length, slice_index, Option, refl, ap, sym, ◌∙◌, arith}
+use Rattle.std.proofs.Common.{ℕ, zero, suc, ◌≡◌, ◌+◌, ◌-◌, ◌<◌, ◌≤◌, Bool, true, false, ◌&&◌, List, [], ◌∷◌, map, take, length, slice_index, Option, refl, ap, arith}
 use Rattle.std.specs.List.{list_all}
 use Rattle.std.proofs.lemmas.List.{length-map}
-use Rattle.xl_model.specs.declared.row.Table.TheVariants as table
-use Rattle.xl_model.specs.Caches.{Cached, Numbered, NodeCaches, empty_cache, empty_caches, opening_caches}
+use Rattle.xl_model.specs.Caches.{Cached, Numbered, empty_cache, empty_caches, opening_caches}
 use Rattle.xl_model.specs.Nodes.{Node, opening_nodes}
-use Rattle.xl_model.specs.Shapes.{Radix, opening_shape}
+use Rattle.xl_model.specs.Shapes.{opening_shape}
 use Rattle.xl_recency.specs.declared.item.Item.{Item}
 use Rattle.xl_radix.specs.Table.{Table}
 use Rattle.xl_radix_walk.specs.Row.{caches_in, AreNumbered, IsRow, row_of, row_table, opening_table}

@@ -1,17 +1,15 @@
 -- The precise purge of walk caches.
-use Rattle.std.proofs.Common.{ℕ, zero, suc, ◌≡◌, ◌+◌, ◌-◌, ◌*◌, ◌/◌, ◌%◌, ◌<◌, ◌≤◌, ◌==◌, Bool, true, false, not, cond, is_some, if◌then◌else◌, ◌⊎◌, inl, inr, List, [], ◌∷◌, map, filter, length, slice_index_or, Option, Some, None, refl, ap, sym, ◌∙◌, subst, arith}
+use Rattle.std.proofs.Common.{ℕ, zero, suc, ◌≡◌, ◌+◌, ◌/◌, ◌%◌, Bool, true, false, not, is_some, if◌then◌else◌, ◌⊎◌, inl, inr, List, [], ◌∷◌, map, length, slice_index_or, Option, Some, None, refl, ap, sym, ◌∙◌}
 use Rattle.std.specs.List.{position_from}
-use Rattle.std.proofs.lemmas.Bool.Decides.{nat_tests}
-use Rattle.std.proofs.lemmas.Option.{same_Some}
 use Rattle.xl_model.specs.declared.leaf.Leaf.{Leaf}
-use Rattle.xl_model.specs.Nodes.{up, Node, is_below, number_of, is_needed, kept_node, only_needed}
-use Rattle.xl_model.specs.Caches.{Cached, Numbered, without_items, all_without, items_in}
+use Rattle.xl_model.specs.Nodes.{Node, is_below, number_of, is_needed, kept_node, only_needed}
+use Rattle.xl_model.specs.Caches.{Cached, Numbered, all_without, items_in}
 use Rattle.xl_model.specs.Recency.{purged}
 use Rattle.xl_mapping.specs.Members.{In}
 use Rattle.xl_recency.specs.declared.item.Item.{Item}
-use Rattle.xl_radix.proofs.NumberLemmas.{number-some, below-some, below-is, is-below, Is}
+use Rattle.xl_radix.proofs.NumberLemmas.{number-some, below-some, below-is}
 use Rattle.xl_radix.proofs.FreedNodeLemmas.{node-is}
-use Rattle.xl_radix_walk.specs.Row.{numbered_in, cache_in, caches_in, AllNumbered, AreNumbered, is_gone, purged_caches, entries_of}
+use Rattle.xl_radix_walk.specs.Row.{numbered_in, caches_in, AllNumbered, AreNumbered, is_gone, purged_caches, entries_of}
 
 -- Where each tag's number is its node's, no tag leaves.
 pub none-gone : (level : ℕ) (nodes : List (Option Node)) (cs : List (Cached Item)) → AreNumbered level nodes cs → purged_caches nodes cs ≡ cs

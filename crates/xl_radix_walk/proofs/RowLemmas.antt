@@ -1,5 +1,5 @@
 -- A walk of a row.
-use Rattle.std.proofs.Common.{ℕ, suc, ◌≡◌, ◌+◌, ◌-◌, ◌*◌, ◌/◌, ◌<◌, ◌≤◌, ◌^◌, Bool, true, false, nat_lt, is_some, List, [], ◌∷◌, length, Option, zero, Some, None, refl, ap, sym, ◌∙◌, subst, arith}
+use Rattle.std.proofs.Common.{ℕ, suc, ◌≡◌, ◌+◌, ◌-◌, ◌*◌, ◌<◌, ◌≤◌, ◌^◌, nat_lt, is_some, List, [], ◌∷◌, length, Option, zero, Some, None, refl, ap, sym, ◌∙◌, subst, arith}
 use Rattle.std.specs.Prelude.{IfSome, IfNone}
 use Rattle.std.proofs.lemmas.Bool.Decides.{nat_tests}
 use Rattle.xl_model.specs.declared.leaf.Leaf.{Leaf}
@@ -7,14 +7,12 @@ use Rattle.xl_model.specs.Mapping.{leaf_at_page}
 use Rattle.xl_model.specs.Nodes.{up, Node, number_of}
 use Rattle.xl_model.specs.Caches.{Cached, Numbered}
 use Rattle.xl_model.specs.Walks.{start_level, end_level, node_caches_after}
-use Rattle.xl_model.specs.Walks.{walked, radix_walk_from}
-use Rattle.xl_model.specs.Caches.{NodeCaches}
+use Rattle.xl_model.specs.Walks.{walked}
 use Rattle.xl_model.specs.Base.{one_if, plus}
 use Rattle.xl_model.specs.Structures.{walk_answer, table_walked}
 use Rattle.xl_radix.specs.declared.walk_end.WalkEnd.{WalkEnd}
 use Rattle.xl_radix.specs.Table.{Table}
 use Rattle.xl_recency.specs.declared.item.Item.{Item}
-use Rattle.xl_radix.specs.declared.walk_end.WalkEnd.TheVariants as end
 use Rattle.xl_radix.specs.Walk.{walk_end, WordsReadBack}
 use Rattle.xl_radix_walk.specs.declared.caches.Start.{Start}
 use Rattle.xl_radix_walk.specs.Row.{caches_in, AreNumbered, filled_by, leaf_told, start_or, IsPath, IsRow, row_of, row_table}

@@ -1,5 +1,5 @@
 -- Steps of the quick walk.
-use Rattle.std.proofs.Common.{◌≡◌, refl, sym, ap, ◌∙◌, subst, ℕ, zero, suc, ◌+◌, ◌-◌, ◌*◌, ◌/◌, ◌%◌, ◌^◌, ◌<◌, Bool, true, false, List, slice_index, ◌==◌, arith}
+use Rattle.std.proofs.Common.{◌≡◌, refl, sym, ap, ◌∙◌, subst, ℕ, zero, suc, ◌-◌, ◌*◌, ◌/◌, ◌%◌, ◌^◌, ◌<◌, true, List, slice_index, ◌==◌, arith}
 use Rattle.std.specs.Prelude.{Option, None, Some, IfSome}
 use Rattle.std.proofs.lemmas.Bool.Decides.{nat_tests}
 use Rattle.xl_model.specs.declared.address.Kind.{Kind}
@@ -9,8 +9,7 @@ use Rattle.xl_model.specs.Addresses.{is_legal, allows}
 use Rattle.xl_pte.specs.Decode.{decode_of, leaf_at, bit}
 use Rattle.xl_pte.specs.declared.word.Pte.TheVariants as pte
 use Rattle.xl_pte.proofs.BitLemmas.{decode-leaf, number-shifted}
-use Rattle.xl_radix.specs.declared.walk_end.WalkEnd.TheVariants as end
-use Rattle.xl_radix.specs.Walk.{place_of, is_there, end_at, reading, radix_back}
+use Rattle.xl_radix.specs.Walk.{place_of, radix_back}
 use Rattle.xl_radix_walk.specs.Quick.{Points, Allows, HasWord, Finds}
 
 pub steps-on : (words : List ℕ) (level node page word next : ℕ) → 0 < level → HasWord words level node page word → Points word next

@@ -46,7 +46,7 @@ pub(crate) fn look(caches: &mut [Cache], level: usize, space: u16, page: u64) ->
         (start_level level space page (caches_in level caches.old) ≡ level + length caches.old) }
     ensures caches { caches_in level caches.new ≡
         node_caches_after level (start_level level space page (caches_in level caches.old))
-            None space page [] (caches_in level caches.old) }
+        None space page [] (caches_in level caches.old) }
     ensures length { length caches.new ≡ length caches.old }
     ensures number { (nodes : _) → AreNumbered level nodes caches.old → IfSome result (λ s.
         number_of space (suc s.level) (up (suc s.level) page) nodes ≡ Some s.node) }
@@ -115,11 +115,11 @@ fn purge_cache<const LEVELS: usize>(cache: &mut Cache, radix: &Radix<LEVELS>) ->
     ensures width { cache.new.width ≡ cache.old.width }
     ensures most { result ≤ 64 }
 {
-    cache.remove_where(|item: &Item|
-        ensures { result ≡ is_gone radix.entry.now.nodes item.now }
-    {
-        !radix.has_number(item.word as usize)
-    })
+    cache.remove_where(
+        |item: &Item|
+            ensures { result ≡ is_gone radix.entry.now.nodes item.now }
+        { !radix.has_number(item.word as usize) },
+    )
 }
 
 /// Removes from all caches the items whose numbers no node has. Gives how many left.
@@ -170,11 +170,11 @@ fn fence_cache(cache: &mut Cache, reach: Reach) -> u64
     ensures width { cache.new.width ≡ cache.old.width }
     ensures most { result ≤ 64 }
 {
-    cache.remove_where(|item: &Item|
-        ensures { result ≡ is_fenced reach item.now }
-    {
-        reaches(reach, item.tag / 0x1_0000_0000_0000)
-    })
+    cache.remove_where(
+        |item: &Item|
+            ensures { result ≡ is_fenced reach item.now }
+        { reaches(reach, item.tag / 0x1_0000_0000_0000) },
+    )
 }
 
 /// Removes what a fence reaches from all caches. Gives how many left.

@@ -22,7 +22,9 @@ use crate::walk;
 use arrayvec::ArrayVec;
 use std::alloc::Global;
 use std::marker::Model;
-use xl_model::{Leaf, NoMemory, NoRoom, NoTable, Order, Perm, Reach, Refused, Structure, Walk, Work};
+use xl_model::{
+    Leaf, NoMemory, NoRoom, NoTable, Order, Perm, Reach, Refused, Structure, Walk, Work,
+};
 use xl_phys::Bus;
 use xl_pte::Pte;
 use xl_radix::{Radix, WalkEnd, block_of, leaf_of};
@@ -68,14 +70,19 @@ fn descend<const LEVELS: usize>(
     page: u64,
     path: &mut ArrayVec<u64, 4>,
 ) -> WalkEnd
-    requires node { number_of space (suc from.level) (up (suc from.level) page) radix.old.nodes ≡ Some from.node }
+    requires node { number_of space (suc from.level) (up (suc from.level) page) radix.old.nodes ≡
+        Some from.node }
     requires level { from.level < LEVELS }
     requires path { path.old.items ≡ [] }
-    ensures end { result ≡ walk_end (leaf_at_page space page radix.old.leaves) (end_level (LEVELS - 1) 0 space page radix.old.leaves) }
+    ensures end { result ≡ walk_end (leaf_at_page space page radix.old.leaves)
+        (end_level (LEVELS - 1) 0 space page radix.old.leaves) }
     ensures low { end_level (LEVELS - 1) 0 space page radix.old.leaves ≤ from.level }
-    ensures path { IsPath (end_level (LEVELS - 1) 0 space page radix.old.leaves) from.level space page path.new.items radix.old.nodes }
+    ensures path { IsPath (end_level (LEVELS - 1) 0 space page radix.old.leaves)
+        from.level space page path.new.items radix.old.nodes }
     ensures length { length path.new.items + end_of result ≡ from.level }
-    ensures loads { radix.new ≡ record radix.old { loads = plus radix.old.loads (from.level - end_level (LEVELS - 1) 0 space page radix.old.leaves + 1) } }
+    ensures loads { radix.new ≡ record radix.old {
+        loads = plus radix.old.loads
+            (from.level - end_level (LEVELS - 1) 0 space page radix.old.leaves + 1) } }
 {
     radix.words_read_back();
     walk::<Radix<LEVELS>, LEVELS>(radix, from.level, from.node, page, path)
@@ -99,7 +106,14 @@ fn found_leaf(space: u16, page: u64, end: WalkEnd) -> Option<Leaf>
 }
 
 /// Fills the caches with the nodes of a walk that ended at a leaf.
-fn fill_found(caches: &mut [Cache], end: &WalkEnd, start: usize, space: u16, page: u64, path: &[u64])
+fn fill_found(
+    caches: &mut [Cache],
+    end: &WalkEnd,
+    start: usize,
+    space: u16,
+    page: u64,
+    path: &[u64],
+)
     requires levels { length caches.old ≤ 4 }
     requires page { page < 2 ^ 45 }
     requires path { start ≤ length path.now + end_of end.now }
@@ -340,13 +354,7 @@ impl<const LEVELS: usize> Structure for RadixRow<LEVELS> {
         protect_leaf(&mut self.radix, &mut self.caches, space, first, order, perm)
     }
 
-    fn relocate(
-        &mut self,
-        space: u16,
-        first: u64,
-        to: u64,
-        order: Order,
-    ) -> Result<Work, Refused> {
+    fn relocate(&mut self, space: u16, first: u64, to: u64, order: Order) -> Result<Work, Refused> {
         relocate_leaf(&mut self.radix, &mut self.caches, space, first, to, order)
     }
 

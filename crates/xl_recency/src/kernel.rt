@@ -34,7 +34,8 @@ pub(crate) fn first_place<T, P: Fn(&T) -> bool>(items: &[T], test: &P) -> Option
 pub(crate) fn keep_failing<T: Copy, P: Fn(&T) -> bool>(items: &mut [T], test: &P) -> usize
     requires { P.IsAlwaysCallable test.now }
     ensures within { result ≤ length items.old }
-    ensures kept { (q : _) → IsTest (FnReturnsAt P.Fn test.now) q → take result items.new ≡ purged q items.old }
+    ensures kept { (q : _) → IsTest (FnReturnsAt P.Fn test.now) q → take result items.new ≡
+        purged q items.old }
 {
     let mut kept = 0;
     for i in 0..items.len() {
@@ -50,7 +51,8 @@ pub(crate) fn keep_failing<T: Copy, P: Fn(&T) -> bool>(items: &mut [T], test: &P
 /// Brings the first item that meets the test to the front.
 pub(crate) fn touch_first<T: Copy, P: Fn(&T) -> bool>(items: &mut [T], test: &P) -> Option<T>
     requires { P.IsAlwaysCallable test.now }
-    ensures { (q : _) → IsTest (FnReturnsAt P.Fn test.now) q → Touches q items.old items.new result }
+    ensures { (q : _) → IsTest (FnReturnsAt P.Fn test.now) q →
+        Touches q items.old items.new result }
 {
     match first_place(items, test) {
         Some(at) => {

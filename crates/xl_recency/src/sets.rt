@@ -32,7 +32,8 @@ fn remove_from_each<const W: usize, P: Fn(&Item) -> bool>(sets: &mut [Ways<W>], 
     requires width { W ≤ 64 }
     requires fits { length sets.old ≤ 2 ^ 32 }
     requires test { P.IsAlwaysCallable test.now }
-    ensures kept { (q : _) → IsTest (FnReturnsAt P.Fn test.now) q → PurgesAll q sets.old sets.new result }
+    ensures kept { (q : _) → IsTest (FnReturnsAt P.Fn test.now) q →
+        PurgesAll q sets.old sets.new result }
     ensures count { result + items_in sets.new ≡ items_in sets.old }
     ensures most { result ≤ 64 * length sets.old }
 {
@@ -100,7 +101,8 @@ impl<const W: usize> Sets<W> {
     pub fn remove_where<P: Fn(&Item) -> bool>(&mut self, test: P) -> u64
         requires width { W ≤ 64 }
         requires test { P.IsAlwaysCallable test }
-        ensures kept { (q : _) → IsTest (FnReturnsAt P.Fn test) q → PurgesAll q self.old self.new result }
+        ensures kept { (q : _) → IsTest (FnReturnsAt P.Fn test) q →
+            PurgesAll q self.old self.new result }
         ensures count { result + items_in self.new ≡ items_in self.old }
         ensures most { result ≤ 64 * length self.old }
         ensures sets { length self.new ≡ length self.old }
@@ -108,12 +110,14 @@ impl<const W: usize> Sets<W> {
         remove_from_each(&mut self.sets, &test)
     }
 
-    /// Removes the items of one set that meet the test; the others stay in order. Gives how many left.
+    /// Removes the items of one set that meet the test; the others stay in order. Gives how many
+    /// left.
     pub fn remove_in<P: Fn(&Item) -> bool>(&mut self, set: usize, test: P) -> u64
         requires width { W ≤ 64 }
         requires set { set < length self.old }
         requires test { P.IsAlwaysCallable test }
-        ensures kept { (q : _) → IsTest (FnReturnsAt P.Fn test) q → PurgesIn q set self.old self.new result }
+        ensures kept { (q : _) → IsTest (FnReturnsAt P.Fn test) q →
+            PurgesIn q set self.old self.new result }
         ensures count { result + items_in self.new ≡ items_in self.old }
         ensures most { result ≤ 64 }
         ensures sets { length self.new ≡ length self.old }

@@ -37,7 +37,8 @@ impl<const W: usize> Model for Ways<W> {
 
     ghost view = { λ s. newest_first (take s.len s.places.items) };
 
-    ghost invariant = { λ s. (s.len ≤ W) × (length s.places.items ≡ W) × (W ≤ 64) × AreStamps s.last (take s.len s.places.items) };
+    ghost invariant = { λ s. (s.len ≤ W) × (length s.places.items ≡ W) × (W ≤ 64) ×
+        AreStamps s.last (take s.len s.places.items) };
 }
 
 /// The place of an item that meets the test.
@@ -63,7 +64,8 @@ fn first_meeting<P: Fn(&Item) -> bool>(places: &[Place], test: &P) -> Option<usi
 fn newest_from<P: Fn(&Item) -> bool>(places: &[Place], first: usize, test: &P) -> usize
     requires test { P.IsAlwaysCallable test.now }
     requires within { first < length places.now }
-    requires meets { (d : _) → FnReturnsAt P.Fn test.now (slice_index_or places.now first d).item true }
+    requires meets { (d : _) → FnReturnsAt P.Fn test.now (slice_index_or
+        places.now first d).item true }
     requires before { (k : ℕ) (d : _) → k < first →
         FnReturnsAt P.Fn test.now (slice_index_or places.now k d).item false }
     ensures within { result < length places.now }
@@ -114,7 +116,8 @@ fn renumber(places: &mut [Place], ranks: &mut [u64])
     }
 }
 
-/// Makes room for one more stamp after `last`: where stamps are at their end, they are numbered anew.
+/// Makes room for one more stamp after `last`: where stamps are at their end, they are numbered
+/// anew.
 fn make_room(places: &mut [Place], last: &mut u64)
     requires few { length places.old ≤ 64 }
     requires stamps { AreStamps last.old places.old }
@@ -307,7 +310,8 @@ impl<const W: usize> Ways<W> {
     /// Removes the items that meet the test; the others stay in order. Gives how many left.
     pub fn remove_where<P: Fn(&Item) -> bool>(&mut self, test: P) -> u64
         requires { P.IsAlwaysCallable test }
-        ensures kept { (q : _) → IsTest (FnReturnsAt P.Fn test) q → Purges q self.old self.new result }
+        ensures kept { (q : _) → IsTest (FnReturnsAt P.Fn test) q →
+            Purges q self.old self.new result }
         ensures count { result + length self.new ≡ length self.old }
         ensures most { result ≤ W }
     {

@@ -86,9 +86,11 @@ fn fills_last_set(alloc: Global, width: u8, count: u32) -> Result<bool, NoMemory
 {
     let mut array = SetAssociative::open(alloc, width, count)?;
     let last = count as usize - 1;
-    Ok(array.fill(last, item(1)).is_none()
-        && array.touch(last, |item| item.tag == 1) == Some(item(1))
-        && array.remove_where(|_| true) == 1)
+    Ok(
+        array.fill(last, item(1)).is_none()
+            && array.touch(last, |item| item.tag == 1) == Some(item(1))
+            && array.remove_where(|_| true) == 1,
+    )
 }
 
 /// The greatest arrays of each width, which have 16,384 places.

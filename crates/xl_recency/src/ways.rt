@@ -90,7 +90,8 @@ impl<const W: usize> Ways<W> {
     /// Removes the items that meet the test; the others stay in order. Gives how many left.
     pub fn remove_where<P: Fn(&Item) -> bool>(&mut self, test: P) -> u64
         requires { P.IsAlwaysCallable test }
-        ensures kept { (q : _) → IsTest (FnReturnsAt P.Fn test) q → Purges q self.old self.new result }
+        ensures kept { (q : _) → IsTest (FnReturnsAt P.Fn test) q →
+            Purges q self.old self.new result }
         ensures count { result + length self.new ≡ length self.old }
         ensures most { result ≤ W }
     {
@@ -100,7 +101,8 @@ impl<const W: usize> Ways<W> {
     /// What `remove_where` does, by a test that is kept.
     pub(crate) fn remove<P: Fn(&Item) -> bool>(&mut self, test: &P) -> u64
         requires { P.IsAlwaysCallable test.now }
-        ensures kept { (q : _) → IsTest (FnReturnsAt P.Fn test.now) q → Purges q self.old self.new result }
+        ensures kept { (q : _) → IsTest (FnReturnsAt P.Fn test.now) q →
+            Purges q self.old self.new result }
         ensures count { result + length self.new ≡ length self.old }
         ensures most { result ≤ W }
     {

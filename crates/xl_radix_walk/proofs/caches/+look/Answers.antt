@@ -1,7 +1,6 @@
-use Rattle.std.proofs.Common.{◌≡◌, ◌+◌, ◌∷◌, length, find, Some, None, refl, sym, ◌∙◌, ap, subst, arith}
+use Rattle.std.proofs.Common.{◌≡◌, ◌+◌, length, find, Some, None, sym, ◌∙◌, arith}
 use Rattle.xl_model.specs.Recency.{touched}
-use Rattle.xl_model.specs.Walks.{start_level, node_caches_after}
-use Rattle.xl_radix_walk.specs.Row.{has_tag, tag_at, caches_in, AreNumbered}
+use Rattle.xl_radix_walk.specs.Row.{has_tag, tag_at}
 use Rattle.xl_radix_walk.proofs.LookLemmas.{Hit, hit, Miss, miss}
 use Rattle.xl_radix_walk.proofs.caches.+look.Goals as goal
 
@@ -77,4 +76,3 @@ returns-in-None-clause-kept t c =
     let moved : c.touch_tag.new.cache.items ≡ touched (has_tag (tag_at c.args.space c.args.level c.args.page)) c.in-Some.first.now.items = rw (← c.tag_of.ensures) c.touch_tag.ensures.touched.moved in
     let h : Miss c.args.level c.args.space c.args.page c.in-Some.first.now c.touch_tag.new.cache c.in-Some.rest.now = miss c.args.level c.args.space c.args.page c.in-Some.first.now c.touch_tag.new.cache c.in-Some.rest.now c.requires.page found moved c.touch_tag.ensures.width in
     λ nodes all. let f = rw e at all in h.kept nodes c.look.new.caches f (c.look.ensures.kept nodes f.1)
-

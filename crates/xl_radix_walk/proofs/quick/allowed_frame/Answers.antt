@@ -1,4 +1,4 @@
-use Rattle.std.proofs.Common.{◌≡◌, ◌/◌, ◌%◌, ◌^◌, refl, sym, ap, ◌∙◌, arith}
+use Rattle.std.proofs.Common.{◌≡◌, ◌/◌, sym, ap, ◌∙◌}
 use Rattle.xl_radix_walk.specs.Quick.{Allows}
 use Rattle.xl_radix_walk.proofs.StraightLemmas.{allowed-by, bit_of}
 use Rattle.xl_radix_walk.proofs.quick.allowed_frame.Goals as goal

@@ -1,11 +1,7 @@
-use Rattle.std.proofs.Common.{ℕ, suc, ◌≡◌, ◌+◌, ◌-◌, ◌≤◌, ap, sym, ◌∙◌, subst, arith}
-use Rattle.xl_model.specs.Base.{plus}
+use Rattle.std.proofs.Common.{suc, ◌≡◌, ◌+◌, ◌-◌, ap, ◌∙◌, arith}
 use Rattle.xl_model.specs.Walks.{end_level}
-use Rattle.xl_radix.specs.Table.{Table}
 use Rattle.xl_radix.proofs.NumberLemmas.{number-some}
 use Rattle.xl_radix.specs.Walk.{end_of}
-use Rattle.xl_radix_walk.specs.Path.{loaded_times}
-use Rattle.xl_radix_walk.specs.Row.{IsPath}
 use Rattle.xl_radix_walk.proofs.DescentLemmas.{loads-are, end-at-level, walk-path}
 use Rattle.xl_radix_walk.proofs.row.descend.Goals as goal
 

@@ -1,4 +1,4 @@
-use Rattle.std.proofs.Common.{lit<, arith}
+use Rattle.std.proofs.Common.{arith}
 use Rattle.xl_radix_walk.proofs.LookLemmas.{up-le}
 use Rattle.xl_radix_walk.proofs.row.found_leaf.Goals as goal
 

@@ -1,4 +1,4 @@
-use Rattle.std.proofs.Common.{◌≤◌, length, lit<, refl, sym, arith}
+use Rattle.std.proofs.Common.{◌≤◌, length, lit<, refl, arith}
 use Rattle.xl_model.specs.Changes.{Protect}
 use Rattle.xl_model.specs.Room.{has_room}
 use Rattle.xl_radix.specs.Steps.{IsMade}

@@ -1,4 +1,4 @@
-use Rattle.std.proofs.Common.{◌≤◌, length, lit<, refl, sym, arith}
+use Rattle.std.proofs.Common.{◌≤◌, length, lit<, sym, arith}
 use Rattle.xl_model.specs.Changes.{Relocate}
 use Rattle.xl_radix.specs.Steps.{IsMade}
 use Rattle.xl_radix_walk.proofs.ChangeLemmas.{none-left, MadeRow, row-made, row-refused}

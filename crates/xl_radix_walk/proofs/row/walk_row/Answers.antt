@@ -1,7 +1,7 @@
-use Rattle.std.proofs.Common.{◌≡◌, ◌<◌, ◌^◌, lit<, ap, sym, ◌∙◌, subst, arith}
+use Rattle.std.proofs.Common.{◌≡◌, lit<, ap, sym, ◌∙◌, subst}
 use Rattle.xl_model.specs.Nodes.{up, number_of}
-use Rattle.std.proofs.Common.{ℕ, suc, Some, List}
-use Rattle.xl_radix_walk.specs.Row.{start_or, IsPath, filled_by}
+use Rattle.std.proofs.Common.{ℕ, Some, List}
+use Rattle.xl_radix_walk.specs.Row.{filled_by}
 use Rattle.xl_radix_walk.proofs.RowLemmas.{IsStart, is-start, WalkedRow, row-walked, row-answer, page-low, up-top}
 use Rattle.xl_radix_walk.proofs.row.walk_row.Goals as goal
 

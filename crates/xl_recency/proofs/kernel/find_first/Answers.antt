@@ -1,4 +1,3 @@
-use Rattle.std.proofs.Common.{◌∙◌}
 use Rattle.xl_recency.proofs.ScanLemmas.{found, none_found}
 use Rattle.xl_recency.proofs.kernel.find_first.Goals as goal
 

@@ -1,4 +1,4 @@
-use Rattle.std.proofs.Common.{◌≡◌, ◌∙◌, ap, arith, replicate, None, ℕ}
+use Rattle.std.proofs.Common.{◌≡◌, arith}
 use Rattle.xl_radix.proofs.PoolLemmas.{all-free}
 use Rattle.xl_radix.proofs.numbering.Numbers.empty.Goals as goal
 

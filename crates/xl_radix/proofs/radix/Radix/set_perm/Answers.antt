@@ -1,5 +1,4 @@
-use Rattle.std.proofs.Common.{◌+◌, refl, ap, sym, ◌∙◌, arith}
-use Rattle.xl_model.specs.Nodes.{free_count}
+use Rattle.std.proofs.Common.{refl}
 use Rattle.xl_radix.proofs.PermLemmas.{shape-protected}
 use Rattle.xl_radix.proofs.ShapeLemmas.{less-same, count-same}
 use Rattle.xl_radix.proofs.radix.Radix.set_perm.Goals as goal

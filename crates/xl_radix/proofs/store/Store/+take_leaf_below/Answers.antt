@@ -1,15 +1,24 @@
-use Rattle.std.proofs.Common.{◌≡◌, ◌≤◌, ◌-◌, None, slice_index, refl, sym, lit<, arith}
+use Rattle.std.proofs.Common.{◌≡◌, ◌-◌, None, slice_index, lit<, arith}
 use Rattle.xl_model.specs.Nodes.{up}
 use Rattle.xl_model.specs.Image.{leaf_in}
-use Rattle.xl_radix.specs.Steps.{Stands}
 use Rattle.xl_radix.proofs.StepLemmas.{stands-in}
 use Rattle.xl_radix.proofs.TakingLemmas.{named-needs, empty-without, still-nearly, stays, is-zero, not-zero}
 use Rattle.xl_radix.proofs.store.Store.+take_leaf_below.Goals as goal
 
 pub node_below-node-requires : goal.node_below-node-requires
-node_below-node-requires g t c =
-    (lit< tt, (c.requires.exact, (c.requires.at, (c.requires.high,
-      named-needs c.args.space c.args.first c.args.from.level c.args.order _ c.requires.named (let a = c.requires.low in let b = c.level.ensures in let d = c.if-from-level.false in omega arith)))))
+node_below-node-requires g t c = (
+  lit< tt,
+  (
+    c.requires.exact,
+    (
+      c.requires.at,
+      (
+        c.requires.high,
+        named-needs c.args.space c.args.first c.args.from.level c.args.order _ c.requires.named (let a = c.requires.low in let b = c.level.ensures in let d = c.if-from-level.false in omega arith),
+      ),
+    ),
+  ),
+)
 
 pub is_unused-requires : goal.is_unused-requires
 is_unused-requires g t c =

@@ -1,9 +1,7 @@
 use Rattle.std.proofs.Common.{ℕ, ◌≡◌, ◌-◌, Some, slice_set, refl, ap, sym, ◌∙◌, arith}
-use Rattle.std.specs.List.{position}
-use Rattle.std.specs.Prelude.{is_none}
 use Rattle.xl_model.specs.Nodes.{Node, up}
 use Rattle.xl_radix.proofs.NumberLemmas.{lowest-is, put-lowest, put-first-count}
-use Rattle.xl_radix.proofs.StepLemmas.{made-step-at, count-fits, stands-in, some-free}
+use Rattle.xl_radix.proofs.StepLemmas.{made-step-at, count-fits, stands-in}
 use Rattle.xl_radix.proofs.PoolLemmas.{not-none}
 use Rattle.xl_radix.proofs.store.Store.make_node.Goals as goal
 

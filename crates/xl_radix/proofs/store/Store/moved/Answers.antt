@@ -1,4 +1,4 @@
-use Rattle.std.proofs.Common.{◌≡◌, Some, lit<, ap, sym, subst, ◌∙◌}
+use Rattle.std.proofs.Common.{◌≡◌, lit<, sym, subst, ◌∙◌}
 use Rattle.std.proofs.lemmas.Option.{same_Some}
 use Rattle.xl_model.specs.declared.leaf.Leaf.{Leaf}
 use Rattle.xl_radix.specs.Steps.{IsMove}

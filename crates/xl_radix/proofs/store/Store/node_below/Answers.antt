@@ -1,4 +1,4 @@
-use Rattle.std.proofs.Common.{◌≡◌, sym, subst, arith}
+use Rattle.std.proofs.Common.{sym, subst, arith}
 use Rattle.xl_model.specs.Nodes.{up}
 use Rattle.xl_pte.specs.declared.word.Pte.{Pte}
 use Rattle.xl_radix.specs.ReadBack.{read_back}

@@ -1,4 +1,4 @@
-use Rattle.std.proofs.Common.{◌≡◌, ◌≤◌, Some, lit<, ap, sym, subst, ◌∙◌, arith}
+use Rattle.std.proofs.Common.{◌≡◌, Some, lit<, ap, sym, subst, ◌∙◌, arith}
 use Rattle.std.proofs.lemmas.Option.{same_Some}
 use Rattle.xl_model.specs.declared.leaf.Leaf.{Leaf}
 use Rattle.xl_model.specs.Addresses.{level_of}
@@ -6,7 +6,7 @@ use Rattle.xl_model.specs.Mapping.{leaf_named}
 use Rattle.xl_mapping.proofs.OrderLemmas.{level-low}
 use Rattle.xl_radix.specs.Steps.{Stands}
 use Rattle.xl_radix.specs.ReadBack.{read_back}
-use Rattle.xl_radix.proofs.PermLemmas.{Found, found-named, named-page, protected-is}
+use Rattle.xl_radix.proofs.PermLemmas.{found-named, named-page, protected-is}
 use Rattle.xl_radix.proofs.store.Store.set_perm.Goals as goal
 
 pub end_of-node-requires : goal.end_of-node-requires

@@ -1,4 +1,4 @@
-use Rattle.std.proofs.Common.{◌≡◌, ◌-◌, length, take, ap, arith}
+use Rattle.std.proofs.Common.{◌≡◌, ◌-◌, length, take, arith}
 use Rattle.std.proofs.lemmas.List.{length-take}
 use Rattle.xl_model.specs.Rows.{is_width}
 use Rattle.xl_radix_walk.proofs.OpeningLemmas.{all-taken, opening-row, opening-is}

@@ -6,8 +6,8 @@ pub returns-clause-kept : goal.returns-clause-kept
 returns-clause-kept g c =
     let within : c.args.set < length c.self.inside.sets.items = omega (arith, ap length c.self.view_is) in
     λ q test. rw (← c.self.view_is)
-        (purged_in q c.self.inside.sets.items c.args.set c.remove.result c.index_mut-ways.result.now c.remove.new.self within
-        c.index_mut-ways.ensures.value (c.remove.ensures.kept q test))
+    (purged_in q c.self.inside.sets.items c.args.set c.remove.result c.index_mut-ways.result.now c.remove.new.self within
+    c.index_mut-ways.ensures.value (c.remove.ensures.kept q test))
 
 pub returns-clause-count : goal.returns-clause-count
 returns-clause-count g c =
