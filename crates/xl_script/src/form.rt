@@ -25,9 +25,9 @@ pub trait Form {
         ensures { Hears result self.new (said self.old (words_of line.now)) };
 }
 
-/// The number of lines of a text, at least.
+/// The number of lines of a text, at least, and of its commands.
 fn count_lines(text: &[u8]) -> usize {
-    text.iter().filter(|byte| **byte == b'\n').count()
+    text.iter().filter(|byte| **byte == b'\n').count().saturating_add(1)
 }
 
 /// Puts a command behind the others.
