@@ -25,6 +25,8 @@ pub mod ReadLemmas
 pub mod TallyLemmas
 pub mod SectionLemmas
 pub mod BlockLemmas
+pub mod EntryLemmas
+pub mod SearchLemmas
 pub mod TableLemmas
 pub mod MoveLemmas
 pub mod LimitLemmas

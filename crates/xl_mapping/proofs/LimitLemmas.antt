@@ -1,6 +1,5 @@
 -- A table takes the same spaces and pages after each call, and only a walk counts loads.
-use Rattle.std.proofs.Common.{◌≡◌, ◌∙◌, sym, subst, ℕ, refl, ap, List, Option, None, Some, Result, ◌<◌}
-use Rattle.xl_model.specs.declared.address.Order.{Order}
+use Rattle.std.proofs.Common.{◌≡◌, ◌∙◌, sym, subst, ℕ, refl, List, Option, None, Some, Result, ◌<◌}
 use Rattle.xl_model.specs.declared.event.Reach.{Reach}
 use Rattle.xl_model.specs.declared.leaf.Leaf.{Leaf}
 use Rattle.xl_model.specs.declared.work.Refused.{Refused}
@@ -8,7 +7,7 @@ use Rattle.xl_model.specs.declared.work.Walk.{Walk}
 use Rattle.xl_model.specs.declared.work.Work.{Work}
 use Rattle.xl_model.specs.Changes.{Change}
 use Rattle.xl_model.specs.Shapes.{Shape, Radix, Chained, Cuckoo, Runs, brought, widened, narrowed, shape_after}
-use Rattle.xl_model.specs.Structures.{TableState, Verdict, Made, NoSpace, NoPlace, spaces_of, page_limit, IsPage, IsBlock, IsChange, IsWalk, IsFence, after_by, verdict, table_made, table_after, table_walked, table_fenced}
+use Rattle.xl_model.specs.Structures.{TableState, Verdict, Made, NoSpace, NoPlace, IsPage, IsChange, IsWalk, IsFence, after_by, verdict, table_made, table_after, table_walked, table_fenced}
 use Rattle.xl_mapping.specs.Limits.{SameLimits}
 
 widened-same : (o : Option Leaf) (s : Shape) → SameLimits s (widened o s)

@@ -11,7 +11,7 @@ use Rattle.xl_model.specs.Mapping.{leaf_key, with_leaf}
 use Rattle.xl_model.specs.Sections.{counts_for, section_key, with_key, section_keys, section_count}
 use Rattle.xl_mapping.specs.Members.{In, Once}
 use Rattle.xl_mapping.specs.Sections.{key_in, counts_at}
-use Rattle.xl_mapping.proofs.MemberLemmas.{In-any, any-false}
+use Rattle.xl_mapping.proofs.MemberLemmas.{any-false}
 use Rattle.xl_mapping.proofs.SameLemmas.{any-same}
 use Rattle.xl_mapping.proofs.OnceLemmas.{once-same}
 use Rattle.xl_mapping.proofs.InsertionLemmas.{with-In, In-with, stays-with}

@@ -4,6 +4,7 @@ pub mod Lowest
 pub mod Mappings
 pub mod Kept
 pub mod Sections
+pub mod Entries
 pub mod Limits
 pub mod Codes
 pub mod Pools
