@@ -38,3 +38,4 @@ pub mod FreshArrayLemmas
 pub mod FreshSectionLemmas
 pub mod FreshRangeLemmas
 pub mod FreshNodeLemmas
+pub mod SceneLemmas

@@ -9,3 +9,4 @@ pub mod Limits
 pub mod Codes
 pub mod Pools
 pub mod Fresh
+pub mod Scenes
