@@ -1,2 +1,3 @@
 mod DocumentLemmas
+mod FitLemmas
 mod ItemLemmas

@@ -34,40 +34,24 @@ fn with_order(order: Order, spec: TlbSpec) -> Option<TlbSpec>
     ensures { result ≡ with_order order spec }
 {
     match order {
-        Order::K4 => {
-            if spec.k4 {
-                return None;
-            }
-            Some(TlbSpec { k4: true, ..spec })
-        }
-        Order::M2 => {
-            if spec.m2 {
-                return None;
-            }
-            Some(TlbSpec { m2: true, ..spec })
-        }
-        Order::G1 => {
-            if spec.g1 {
-                return None;
-            }
-            Some(TlbSpec { g1: true, ..spec })
-        }
+        Order::K4 if !spec.k4 => Some(TlbSpec { k4: true, ..spec }),
+        Order::M2 if !spec.m2 => Some(TlbSpec { m2: true, ..spec }),
+        Order::G1 if !spec.g1 => Some(TlbSpec { g1: true, ..spec }),
+        _ => None,
     }
 }
 
+/// The array with the order that a value must be.
 fn order(row: u32, value: &Value, spec: TlbSpec) -> Result<TlbSpec, KeyFault>
     ensures { Reads (λ t. t) result (order_of row (view value.now) spec) }
 {
     let text = text(row, 22, value)?;
-    let Some(order) = order_named(text) else {
-        return Err(KeyFault { row, key: 22, rule: Rule::Outside });
-    };
-    match with_order(order, spec) {
-        Some(spec) => Ok(spec),
-        None => Err(KeyFault { row, key: 22, rule: Rule::Outside }),
-    }
+    let fault = KeyFault { row, key: 22, rule: Rule::Outside };
+    let order = order_named(text).ok_or(fault)?;
+    with_order(order, spec).ok_or(fault)
 }
 
+/// The array with the orders of these values, one after another.
 fn orders_from(row: u32, values: &Array, spec: TlbSpec) -> Result<TlbSpec, KeyFault>
     ensures { Reads (λ t. t) result (orders_from row (array_view values.now) spec) }
 {
@@ -83,7 +67,7 @@ fn orders(row: u32, table: &Table, spec: TlbSpec) -> Result<TlbSpec, KeyFault>
     ensures { Reads (λ t. t) result (orders_in row (table_view table.now) spec) }
 {
     let values = array(row, 22, found(row, 22, "orders", table)?)?;
-    if values.len() < 1 || values.len() > 3 {
+    if values.is_empty() || values.len() > 3 {
         return Err(KeyFault { row, key: 22, rule: Rule::Outside });
     }
     orders_from(row, values, spec)
@@ -151,6 +135,7 @@ fn arrays_from(row: u32, values: &Array) -> Result<ArrayVec<TlbSpec, 6>, KeyFaul
     Ok(arrays)
 }
 
+/// Whether a level is the one before or one more.
 fn follows(level: u8, before: u8) -> bool
     ensures { result ≡ ((level == before) || (level == before + 1)) }
 {
@@ -179,6 +164,7 @@ fn levels_rise(arrays: &[TlbSpec]) -> bool
     }
 }
 
+/// Whether two arrays of one level have an order in common.
 fn clash(t: &TlbSpec, u: &TlbSpec) -> bool
     ensures { result ≡ clash t.now u.now }
 {

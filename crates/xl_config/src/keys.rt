@@ -1,6 +1,6 @@
 //! The reading of one key.
 
-ghost use Rattle.std.specs.Prelude.{◌≡◌, ◌≤◌, length, option_map, codes};
+ghost use Rattle.std.specs.Prelude.{◌≡◌, ◌≤◌, length, option_map, codes, IfSome, IfOk};
 ghost use Rattle.std.specs.List.{list_all};
 ghost use Rattle.toml.specs.Data.{get_member};
 ghost use Rattle.toml.specs.View.{view, array_view, table_view, items_view};
@@ -24,45 +24,34 @@ pub(crate) fn at<'a>(table: &'a Table, name: &str) -> Option<&'a Value>
 pub(crate) fn found<'a>(row: u32, key: u8, name: &str, table: &'a Table) -> Result<&'a Value, KeyFault>
     ensures { Reads (λ v. view v.now) result (found row key name.now (table_view table.now)) }
 {
-    match at(table, name) {
-        Some(value) => Ok(value),
-        None => Err(KeyFault { row, key, rule: Rule::Missing }),
-    }
+    at(table, name).ok_or(KeyFault { row, key, rule: Rule::Missing })
 }
 
 /// A text.
 pub(crate) fn text(row: u32, key: u8, value: &Value) -> Result<&str, KeyFault>
     ensures { Reads (λ s. s.now) result (text_of row key (view value.now)) }
 {
-    match value.as_str() {
-        Some(text) => Ok(text),
-        None => Err(KeyFault { row, key, rule: Rule::WrongType }),
-    }
+    value.as_str().ok_or(KeyFault { row, key, rule: Rule::WrongType })
 }
 
 /// An array.
 pub(crate) fn array(row: u32, key: u8, value: &Value) -> Result<&Array, KeyFault>
     ensures { Reads (λ a. array_view a.now) result (array_of row key (view value.now)) }
 {
-    match value.as_array() {
-        Some(array) => Ok(array),
-        None => Err(KeyFault { row, key, rule: Rule::WrongType }),
-    }
+    value.as_array().ok_or(KeyFault { row, key, rule: Rule::WrongType })
 }
 
 /// A table.
 pub(crate) fn table(row: u32, key: u8, value: &Value) -> Result<&Table, KeyFault>
     ensures { Reads (λ t. table_view t.now) result (table_of row key (view value.now)) }
 {
-    match value.as_table() {
-        Some(table) => Ok(table),
-        None => Err(KeyFault { row, key, rule: Rule::WrongType }),
-    }
+    value.as_table().ok_or(KeyFault { row, key, rule: Rule::WrongType })
 }
 
-/// The number, where it is from least to most.
+/// An integer, where it is from least to most.
 fn between(least: u32, most: u32, number: i64) -> Option<u32>
-    ensures { result ≡ between least most number }
+    ensures value { result ≡ between least most number }
+    ensures within { IfSome result (λ n. n ≤ most) }
 {
     if number >= i64::from(least) && number <= i64::from(most) {
         Some(number as u32)
@@ -73,41 +62,20 @@ fn between(least: u32, most: u32, number: i64) -> Option<u32>
 
 /// The number at a key, from least to most.
 pub(crate) fn number(row: u32, key: u8, name: &str, least: u32, most: u32, table: &Table) -> Result<u32, KeyFault>
-    ensures { Reads (λ n. n) result (number_in row key name.now least most (table_view table.now)) }
+    ensures value { Reads (λ n. n) result (number_in row key name.now least most (table_view table.now)) }
+    ensures within { IfOk result (λ n. n ≤ most) }
 {
     let value = found(row, key, name, table)?;
-    let Some(number) = value.as_integer() else {
-        return Err(KeyFault { row, key, rule: Rule::WrongType });
-    };
-    match between(least, most, number) {
-        Some(number) => Ok(number),
-        None => Err(KeyFault { row, key, rule: Rule::Outside }),
-    }
-}
-
-/// The number, where it is from least to most.
-fn small_between(least: u8, most: u8, number: i64) -> Option<u8>
-    ensures { result ≡ between least most number }
-{
-    if number >= i64::from(least) && number <= i64::from(most) {
-        Some(number as u8)
-    } else {
-        None
-    }
+    let number = value.as_integer().ok_or(KeyFault { row, key, rule: Rule::WrongType })?;
+    between(least, most, number).ok_or(KeyFault { row, key, rule: Rule::Outside })
 }
 
 /// The small number at a key, from least to most.
 pub(crate) fn small(row: u32, key: u8, name: &str, least: u8, most: u8, table: &Table) -> Result<u8, KeyFault>
     ensures { Reads (λ n. n) result (number_in row key name.now least most (table_view table.now)) }
 {
-    let value = found(row, key, name, table)?;
-    let Some(number) = value.as_integer() else {
-        return Err(KeyFault { row, key, rule: Rule::WrongType });
-    };
-    match small_between(least, most, number) {
-        Some(number) => Ok(number),
-        None => Err(KeyFault { row, key, rule: Rule::Outside }),
-    }
+    let number = number(row, key, name, u32::from(least), u32::from(most), table)?;
+    Ok(number as u8)
 }
 
 /// The widths of recency lists.
@@ -119,13 +87,16 @@ fn is_width(n: u8) -> bool
     WIDTHS.iter().any(|width| *width == n)
 }
 
+/// An integer, where it is a width from `least` on.
 fn width_between(least: u8, number: i64) -> Option<u8>
     requires { least ≤ 1 }
     ensures { result ≡ width_by least number }
 {
-    match small_between(0, 64, number) {
-        Some(n) if is_width(n) && least <= n => Some(n),
-        _ => None,
+    let width = between(0, 64, number)? as u8;
+    if is_width(width) && least <= width {
+        Some(width)
+    } else {
+        None
     }
 }
 
@@ -134,13 +105,8 @@ pub(crate) fn width(row: u32, key: u8, least: u8, value: &Value) -> Result<u8, K
     requires { least ≤ 1 }
     ensures { Reads (λ n. n) result (width_of row key least (view value.now)) }
 {
-    let Some(number) = value.as_integer() else {
-        return Err(KeyFault { row, key, rule: Rule::WrongType });
-    };
-    match width_between(least, number) {
-        Some(number) => Ok(number),
-        None => Err(KeyFault { row, key, rule: Rule::Outside }),
-    }
+    let number = value.as_integer().ok_or(KeyFault { row, key, rule: Rule::WrongType })?;
+    width_between(least, number).ok_or(KeyFault { row, key, rule: Rule::Outside })
 }
 
 fn is_name_byte(b: u8) -> bool
@@ -179,10 +145,7 @@ pub(crate) fn mode(row: u32, table: &Table) -> Result<Mode, KeyFault>
     ensures { Reads (λ m. m) result (mode_in row (table_view table.now)) }
 {
     let text = text(row, 2, found(row, 2, "mode", table)?)?;
-    match mode_named(text) {
-        Some(mode) => Ok(mode),
-        None => Err(KeyFault { row, key: 2, rule: Rule::Outside }),
-    }
+    mode_named(text).ok_or(KeyFault { row, key: 2, rule: Rule::Outside })
 }
 
 /// The kinds of table that can be opened: a kind that comes has its word here.
@@ -200,10 +163,7 @@ pub(crate) fn kind(row: u32, table: &Table) -> Result<TableKind, KeyFault>
     ensures { Reads (λ k. k) result (kind_in row (table_view table.now)) }
 {
     let text = text(row, 5, found(row, 5, "table", table)?)?;
-    match kind_named(text) {
-        Some(kind) => Ok(kind),
-        None => Err(KeyFault { row, key: 5, rule: Rule::Outside }),
-    }
+    kind_named(text).ok_or(KeyFault { row, key: 5, rule: Rule::Outside })
 }
 
 fn purge_named(text: &str) -> Option<Purge>
@@ -227,10 +187,7 @@ pub(crate) fn purge(row: u32, table: &Table) -> Result<Purge, KeyFault>
         return Ok(Purge::Page);
     };
     let text = text(row, 6, value)?;
-    match purge_named(text) {
-        Some(purge) => Ok(purge),
-        None => Err(KeyFault { row, key: 6, rule: Rule::Outside }),
-    }
+    purge_named(text).ok_or(KeyFault { row, key: 6, rule: Rule::Outside })
 }
 
 pub(crate) fn range_tlb(row: u32, table: &Table) -> Result<u8, KeyFault>

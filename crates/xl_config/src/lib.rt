@@ -10,3 +10,6 @@ mod tables;
 
 pub use fault::ConfigFault;
 pub use rows::read;
+
+#[cfg(test)]
+mod tests;

@@ -1,12 +1,12 @@
 //! The rows of a text.
 
-ghost use Rattle.std.specs.Prelude.{◌≡◌, ◌↔◌, ◌≤◌, ◌<◌, Err, None, IfErr, ◌∷◌, [], length, map, option_map, string_bytes, is_some, IfOk};
+ghost use Rattle.std.specs.Prelude.{◌≡◌, ◌↔◌, ◌≤◌, ◌<◌, Err, None, IfErr, ◌∷◌, [], length, map, option_map, string_bytes, is_some, IfOk, All};
 ghost use Rattle.std.specs.List.{list_any, list_all};
 ghost use Rattle.std.specs.BTreeMap.{keys};
 ghost use Rattle.toml.specs.Data.{as_table};
 ghost use Rattle.std.specs.Str.{bytes_eq};
 ghost use Rattle.toml.specs.View.{view, array_view, table_view, items_view};
-ghost use Rattle.xl_model.specs.Rows.{row_of};
+ghost use Rattle.xl_model.specs.Rows.{row_of, IsRow};
 ghost use Rattle.xl_config.specs.Keys.{Reads, Gives, name_in};
 ghost use Rattle.xl_config.specs.Arrays.{only_known};
 ghost use Rattle.xl_config.specs.Tables.{is_known};
@@ -40,7 +40,10 @@ fn any_named(name: &str, rows: &[Row]) -> bool
 }
 
 fn name(row: u32, rows: &[Row], table: &Table) -> Result<ArrayString<16>, KeyFault>
-    ensures { Reads (λ s. s.bytes) result (name_in row (names_of (map row_of rows.now)) (table_view table.now)) }
+    ensures {
+        Reads (λ s. s.bytes) result
+            (name_in row (names_of (map row_of rows.now)) (table_view table.now))
+    }
 {
     let text = text(row, 1, found(row, 1, "name", table)?)?;
     if !is_name(text) {
@@ -69,19 +72,21 @@ fn all_row_keys(kind: TableKind, table: &Table) -> bool
 
 /// A row of this number, behind others.
 #[tactic(auto, unfolding(crate::specs::Rows::row_in))]
-fn one_row(number_of_row: u32, rows: &[Row], toml: &Table) -> Result<Row, KeyFault>
-    ensures { Reads row_of result (row_in number_of_row (names_of (map row_of rows.now)) (table_view toml.now)) }
+fn one_row(row: u32, rows: &[Row], toml: &Table) -> Result<Row, KeyFault>
+    ensures {
+        Reads row_of result (row_in row (names_of (map row_of rows.now)) (table_view toml.now))
+    }
 {
-    let name = name(number_of_row, rows, toml)?;
-    let mode = mode(number_of_row, toml)?;
-    let frames = number(number_of_row, 3, "frames", 1, 4_194_304, toml)?;
-    let spaces = small(number_of_row, 4, "spaces", 1, 64, toml)?;
-    let kind = kind(number_of_row, toml)?;
-    let purge = purge(number_of_row, toml)?;
-    let table = table(kind, number_of_row, mode, spaces, toml)?;
-    let tlb = arrays(number_of_row, toml)?;
+    let name = name(row, rows, toml)?;
+    let mode = mode(row, toml)?;
+    let frames = number(row, 3, "frames", 1, 4_194_304, toml)?;
+    let spaces = small(row, 4, "spaces", 1, 64, toml)?;
+    let kind = kind(row, toml)?;
+    let purge = purge(row, toml)?;
+    let table = table(kind, row, mode, spaces, toml)?;
+    let tlb = arrays(row, toml)?;
     if !has_row_keys(kind, toml) {
-        return Err(KeyFault { row: number_of_row, key: 23, rule: Rule::NotAllowed });
+        return Err(KeyFault { row, key: 23, rule: Rule::NotAllowed });
     }
     Ok(Row {
         name,
@@ -130,7 +135,7 @@ fn elements(table: &Table) -> Result<&Array, KeyFault>
     ensures few { IfOk result (λ a. length a.now.items ≤ 16) }
 {
     let values = array(0, 0, found(0, 0, "row", table)?)?;
-    if values.len() < 1 || values.len() > 16 {
+    if values.is_empty() || values.len() > 16 {
         return Err(KeyFault { row: 0, key: 0, rule: Rule::Outside });
     }
     if !all_tables(values) {
@@ -143,14 +148,19 @@ fn elements(table: &Table) -> Result<&Array, KeyFault>
 }
 
 fn element_row(number: u32, rows: &[Row], value: &Value) -> Result<Row, KeyFault>
-    ensures { Reads row_of result (element_in number (names_of (map row_of rows.now)) (view value.now)) }
+    ensures {
+        Reads row_of result (element_in number (names_of (map row_of rows.now)) (view value.now))
+    }
 {
     one_row(number, rows, table_of(0, 0, value)?)
 }
 
 fn rows_from(alloc: Global, values: &Array) -> Result<Vec<Row>, ConfigFault>
     requires { length values.now.items ≤ 16 }
-    ensures reading { Gives (λ rows. map row_of rows.items) result (keyed (rows_from 1 (array_view values.now) [])) }
+    ensures reading {
+        Gives (λ rows. map row_of rows.items) result
+            (keyed (rows_from 1 (array_view values.now) []))
+    }
     ensures keys { IfErr result (λ e. ¬ (e ≡ ConfigFault.TooLong) × ¬ (e ≡ ConfigFault.BadToml)) }
 {
     let mut rows = Vec::new(alloc);
@@ -170,7 +180,10 @@ fn rows_from(alloc: Global, values: &Array) -> Result<Vec<Row>, ConfigFault>
 
 #[tactic(auto, unfolding(crate::specs::Rows::rows_in))]
 fn rows(alloc: Global, table: &Table) -> Result<Vec<Row>, ConfigFault>
-    ensures reading { Gives (λ rows. map row_of rows.items) result (keyed (rows_in (table_view table.now))) }
+    ensures reading {
+        Gives (λ rows. map row_of rows.items) result (keyed (rows_in (table_view table.now)))
+    }
+    ensures fit { IfOk result (λ rows. All IsRow (map row_of rows.items)) }
     ensures keys { IfErr result (λ e. ¬ (e ≡ ConfigFault.TooLong) × ¬ (e ≡ ConfigFault.BadToml)) }
 {
     match elements(table) {
@@ -199,12 +212,18 @@ fn document(alloc: Global, text: &[u8]) -> Result<Table, ConfigFault>
     }
 }
 
-/// The rows of a text, or the first fault of it.
+/// The rows of a configuration: a TOML document of at most 65,536 bytes, with an array `row` of 1 to 16
+/// tables. Each row keeps the rules of a row. It is too long where it has more bytes; else it is no TOML
+/// where `toml` reads no document; else the first key counts that breaks a rule, the keys of each row in
+/// the order of their numbers. Where there is no memory, the answer may be that.
 #[tactic(auto, unfolding(crate::specs::Config::config))]
 pub fn read(alloc: Global, text: &[u8]) -> Result<Vec<Row>, ConfigFault>
     ensures reading { Gives (λ rows. map row_of rows.items) result (config text.now) }
+    ensures fit { IfOk result (λ rows. All IsRow (map row_of rows.items)) }
     ensures too_long { (result ≡ Err ConfigFault.TooLong) ↔ (65536 < length text.now) }
-    ensures bad_toml { result ≡ Err ConfigFault.BadToml → (length text.now ≤ 65536) × (document_of text.now ≡ None) }
+    ensures bad_toml {
+        result ≡ Err ConfigFault.BadToml → (length text.now ≤ 65536) × (document_of text.now ≡ None)
+    }
 {
     if text.len() > LIMIT {
         return Err(ConfigFault::TooLong);

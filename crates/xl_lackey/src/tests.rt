@@ -137,7 +137,10 @@ fn a_hundred_thousand_records_are_read(rt: HostRuntime) -> Result<(), Fail> {
     }
     let told = read(rt.alloc(), text.as_slice(), 4096)?;
     assert_eq!(rt; told.records.len(), 100_000);
-    assert_eq!(rt; told.records.get(99_999).copied(), Some((Letter::M, 0x1_ffef_fe08, 8, 100_000)));
+    assert_eq!(rt;
+        told.records.get(99_999).copied(),
+        Some((Letter::M, 0x1_ffef_fe08, 8, 100_000))
+    );
     assert_eq!(rt; told.bad, (0, 0));
     Ok(())
 }

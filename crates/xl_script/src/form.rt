@@ -27,7 +27,10 @@ pub trait Form {
 
 /// The number of lines of a text, at least, and of its commands.
 fn count_lines(text: &[u8]) -> usize {
-    text.iter().filter(|byte| **byte == b'\n').count().saturating_add(1)
+    text.iter()
+        .filter(|byte| **byte == b'\n')
+        .count()
+        .saturating_add(1)
 }
 
 /// Puts a command behind the others.
@@ -48,9 +51,7 @@ fn add_line<F: Form>(
     number: u64,
     line: &[u8],
 ) -> Result<(), ScriptFault>
-    ensures {
-        Adds result commands.old.items commands.new.items form.new number (F.said form.old (words_of line.now))
-    }
+    ensures { Adds result commands.old.items commands.new.items form.new number (F.said form.old (words_of line.now)) }
 {
     match form.read_line(line) {
         Ok(Some(command)) => push(commands, command),

@@ -79,7 +79,11 @@ fn the_first_thing_wrong_gives_the_reason(rt: HostRuntime) {
         ("demand 0 fffffffffffff000 2 4k r--u", 6),
     ];
     for (line, reason) in lines {
-        assert_eq!(rt; bad_line(rt.alloc(), line.as_bytes()), Some((1, reason)), "{line}");
+        assert_eq!(rt;
+            bad_line(rt.alloc(), line.as_bytes()),
+            Some((1, reason)),
+            "{line}"
+        );
     }
 }
 
@@ -98,17 +102,73 @@ fn each_line_says_its_command(rt: HostRuntime) -> Result<(), Fail> {
     let last = 0xffff_ffff_ffff_f000;
     let order = Order::K4;
     let lines = [
-        ("map 65535 FFFFfffffffff000 4k r--u", Command::Map { space: 65_535, va: last, order, perm, n: 1 }),
-        ("\tunmap  0 0x0000000000001000 4k 1048576 # x\r", Command::Unmap { space: 0, va: 0x1000, order, n: 1_048_576 }),
-        ("protect 0 0 1g r--u 1", Command::Protect { space: 0, va: 0, order: Order::G1, perm, n: 1 }),
-        ("move 0 fffffffffffff000 0 4k", Command::Move { space: 0, from: last, to: 0, order, n: 1 }),
+        (
+            "map 65535 FFFFfffffffff000 4k r--u",
+            Command::Map {
+                space: 65_535,
+                va: last,
+                order,
+                perm,
+                n: 1,
+            },
+        ),
+        (
+            "\tunmap  0 0x0000000000001000 4k 1048576 # x\r",
+            Command::Unmap {
+                space: 0,
+                va: 0x1000,
+                order,
+                n: 1_048_576,
+            },
+        ),
+        (
+            "protect 0 0 1g r--u 1",
+            Command::Protect {
+                space: 0,
+                va: 0,
+                order: Order::G1,
+                perm,
+                n: 1,
+            },
+        ),
+        (
+            "move 0 fffffffffffff000 0 4k",
+            Command::Move {
+                space: 0,
+                from: last,
+                to: 0,
+                order,
+                n: 1,
+            },
+        ),
         ("space 7", Command::Space { space: 7 }),
         ("fence all", Command::Fence { scope: Scope::All }),
-        ("fence space 65535", Command::Fence { scope: Scope::Space { space: 65_535 } }),
-        ("fence addr ffffffffffffffff", Command::Fence { scope: Scope::Addr { va: u64::MAX } }),
-        ("fence page 2 a", Command::Fence { scope: Scope::Page { space: 2, va: 10 } }),
-        ("demand 1 ffffffffffe00000 512 2m r--u", Command::Demand { area }),
-        ("# c\n \t\r\n\nrun 4294967295 #", Command::Run { n: 4_294_967_295 }),
+        (
+            "fence space 65535",
+            Command::Fence {
+                scope: Scope::Space { space: 65_535 },
+            },
+        ),
+        (
+            "fence addr ffffffffffffffff",
+            Command::Fence {
+                scope: Scope::Addr { va: u64::MAX },
+            },
+        ),
+        (
+            "fence page 2 a",
+            Command::Fence {
+                scope: Scope::Page { space: 2, va: 10 },
+            },
+        ),
+        (
+            "demand 1 ffffffffffe00000 512 2m r--u",
+            Command::Demand { area },
+        ),
+        (
+            "# c\n \t\r\n\nrun 4294967295 #",
+            Command::Run { n: 4_294_967_295 },
+        ),
         ("run rest\r", Command::RunRest),
     ];
     for (line, command) in lines {
@@ -137,7 +197,11 @@ fn the_257th_area_is_bad(rt: HostRuntime) -> Result<(), Fail> {
 
 #[test]
 fn a_script_may_be_long_and_is_too_long_past_1048576_bytes(rt: HostRuntime) -> Result<(), Fail> {
-    let long = repeated(rt.alloc(), b"space 0 # a script of more than 64 KiB, and of more than 1,000 commands\n", 1_100)?;
+    let long = repeated(
+        rt.alloc(),
+        b"space 0 # a script of more than 64 KiB, and of more than 1,000 commands\n",
+        1_100,
+    )?;
     match parse(rt.alloc(), &long) {
         Ok(script) => assert_eq!(rt; script.len(), 1_100),
         Err(_) => assert!(rt; false, "there is memory"),
