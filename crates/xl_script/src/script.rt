@@ -31,7 +31,8 @@ impl Model for Script {
 
     ghost view = { λ s. s.commands.items };
 
-    ghost invariant = { λ s. (All IsPlaced s.commands.items) × (count_by is_area s.commands.items ≤ 256) };
+    ghost invariant = { λ s. (All IsPlaced s.commands.items)
+        × (count_by is_area s.commands.items ≤ 256) };
 }
 
 impl Script {
