@@ -319,11 +319,14 @@ all_arrays_fit row ms = by_value (get_member (codes "tlb") ms)
     agreed ts h =
         checked_fits ArraysAre (bad row 22 rule.Disagrees) (agree ts) ts (λ is.
         let both = both_true (levels_rise ts) (none_clash ts) is in record { few = h.0; each = h.1; levels = both.0; apart = both.1 })
+
     few_of : (n : ℕ) (ts : List TlbSpec) → nat_le n 6 ≡ true → AreArrays (0 + n) ts → AreArrays 6 ts
     few_of n ts less h = (omega (arith, h.0, leb-true n 6 less), h.1)
+
     weaker : (n : ℕ) (r : _) → nat_le n 6 ≡ true → Fits (AreArrays (0 + n)) r → Fits (AreArrays 6) r
     weaker n (Ok ts) less h = few_of n ts less h
     weaker n (Err e) less h = tt
+
     by_value : (o : Option Data) → Fits ArraysAre (arrays_by row o)
     by_value None = record { few = omega arith; each = refl; levels = refl; apart = refl }
     by_value (Some d) =

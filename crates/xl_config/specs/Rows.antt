@@ -26,7 +26,15 @@ row_in row earlier ms =
     table_in kind row mode spaces ms >>= (λ table.
     arrays_in row ms >>= (λ tlb.
     checked (bad row 23 rule.NotAllowed) (only_known (is_known kind) ms)
-        (record { name = name; mode = mode; frames = frames; spaces = spaces; purge = purge; table = table; tlb = tlb })))))))))
+    (record {
+      name = name;
+      mode = mode;
+      frames = frames;
+      spaces = spaces;
+      purge = purge;
+      table = table;
+      tlb = tlb;
+    })))))))))
 
 -- The row that an element of the array is.
 abbrev pub element_in : ℕ → List (List ℕ) → Data → Result Row KeyFault

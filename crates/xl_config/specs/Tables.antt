@@ -72,8 +72,9 @@ abbrev pub is_key_of : TableKind → List ℕ → Bool
 is_key_of kind.Radix k = bytes_eq k (codes "table_frames") || bytes_eq k (codes "walk_caches")
 is_key_of kind.Hashed k = bytes_eq k (codes "buckets") || bytes_eq k (codes "entries")
 is_key_of kind.Clustered k = bytes_eq k (codes "buckets") || bytes_eq k (codes "blocks")
-is_key_of kind.Cuckoo k = bytes_eq k (codes "walk_caches") || bytes_eq k (codes "ways") || bytes_eq k (codes "start_bits") || bytes_eq k (codes "cap_bits")
-    || bytes_eq k (codes "threshold") || bytes_eq k (codes "kick_limit") || bytes_eq k (codes "migrate")
+is_key_of kind.Cuckoo k =
+    bytes_eq k (codes "walk_caches") || bytes_eq k (codes "ways") || bytes_eq k (codes "start_bits")
+    || bytes_eq k (codes "cap_bits") || bytes_eq k (codes "threshold") || bytes_eq k (codes "kick_limit") || bytes_eq k (codes "migrate")
     || bytes_eq k (codes "sections_2m") || bytes_eq k (codes "sections_1g")
 is_key_of kind.Range k = bytes_eq k (codes "ranges") || bytes_eq k (codes "range_tlb")
 

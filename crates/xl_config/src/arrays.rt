@@ -46,7 +46,11 @@ fn order(row: u32, value: &Value, spec: TlbSpec) -> Result<TlbSpec, KeyFault>
     ensures { Reads (λ t. t) result (order_of row (view value.now) spec) }
 {
     let text = text(row, 22, value)?;
-    let fault = KeyFault { row, key: 22, rule: Rule::Outside };
+    let fault = KeyFault {
+        row,
+        key: 22,
+        rule: Rule::Outside,
+    };
     let order = order_named(text).ok_or(fault)?;
     with_order(order, spec).ok_or(fault)
 }
@@ -68,7 +72,11 @@ fn orders(row: u32, table: &Table, spec: TlbSpec) -> Result<TlbSpec, KeyFault>
 {
     let values = array(row, 22, found(row, 22, "orders", table)?)?;
     if values.is_empty() || values.len() > 3 {
-        return Err(KeyFault { row, key: 22, rule: Rule::Outside });
+        return Err(KeyFault {
+            row,
+            key: 22,
+            rule: Rule::Outside,
+        });
     }
     orders_from(row, values, spec)
 }
@@ -115,10 +123,18 @@ fn one_array(row: u32, table: &Table) -> Result<TlbSpec, KeyFault>
     };
     let spec = orders(row, table, bare)?;
     if u64::from(sets) * u64::from(width) > 16_384 {
-        return Err(KeyFault { row, key: 22, rule: Rule::Outside });
+        return Err(KeyFault {
+            row,
+            key: 22,
+            rule: Rule::Outside,
+        });
     }
     if !has_array_keys(table) {
-        return Err(KeyFault { row, key: 22, rule: Rule::NotAllowed });
+        return Err(KeyFault {
+            row,
+            key: 22,
+            rule: Rule::NotAllowed,
+        });
     }
     Ok(spec)
 }
@@ -209,11 +225,19 @@ pub(crate) fn arrays(row: u32, table: &Table) -> Result<ArrayVec<TlbSpec, 6>, Ke
     };
     let values = array(row, 22, value)?;
     if values.len() > 6 {
-        return Err(KeyFault { row, key: 22, rule: Rule::Outside });
+        return Err(KeyFault {
+            row,
+            key: 22,
+            rule: Rule::Outside,
+        });
     }
     let arrays = arrays_from(row, values)?;
     if !agree(arrays.as_slice()) {
-        return Err(KeyFault { row, key: 22, rule: Rule::Disagrees });
+        return Err(KeyFault {
+            row,
+            key: 22,
+            rule: Rule::Disagrees,
+        });
     }
     Ok(arrays)
 }

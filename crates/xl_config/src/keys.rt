@@ -21,31 +21,52 @@ pub(crate) fn at<'a>(table: &'a Table, name: &str) -> Option<&'a Value>
 }
 
 /// The value at a key that must be there.
-pub(crate) fn found<'a>(row: u32, key: u8, name: &str, table: &'a Table) -> Result<&'a Value, KeyFault>
+pub(crate) fn found<'a>(
+    row: u32,
+    key: u8,
+    name: &str,
+    table: &'a Table,
+) -> Result<&'a Value, KeyFault>
     ensures { Reads (λ v. view v.now) result (found row key name.now (table_view table.now)) }
 {
-    at(table, name).ok_or(KeyFault { row, key, rule: Rule::Missing })
+    at(table, name).ok_or(KeyFault {
+        row,
+        key,
+        rule: Rule::Missing,
+    })
 }
 
 /// A text.
 pub(crate) fn text(row: u32, key: u8, value: &Value) -> Result<&str, KeyFault>
     ensures { Reads (λ s. s.now) result (text_of row key (view value.now)) }
 {
-    value.as_str().ok_or(KeyFault { row, key, rule: Rule::WrongType })
+    value.as_str().ok_or(KeyFault {
+        row,
+        key,
+        rule: Rule::WrongType,
+    })
 }
 
 /// An array.
 pub(crate) fn array(row: u32, key: u8, value: &Value) -> Result<&Array, KeyFault>
     ensures { Reads (λ a. array_view a.now) result (array_of row key (view value.now)) }
 {
-    value.as_array().ok_or(KeyFault { row, key, rule: Rule::WrongType })
+    value.as_array().ok_or(KeyFault {
+        row,
+        key,
+        rule: Rule::WrongType,
+    })
 }
 
 /// A table.
 pub(crate) fn table(row: u32, key: u8, value: &Value) -> Result<&Table, KeyFault>
     ensures { Reads (λ t. table_view t.now) result (table_of row key (view value.now)) }
 {
-    value.as_table().ok_or(KeyFault { row, key, rule: Rule::WrongType })
+    value.as_table().ok_or(KeyFault {
+        row,
+        key,
+        rule: Rule::WrongType,
+    })
 }
 
 /// An integer, where it is from least to most.
@@ -61,17 +82,40 @@ fn between(least: u32, most: u32, number: i64) -> Option<u32>
 }
 
 /// The number at a key, from least to most.
-pub(crate) fn number(row: u32, key: u8, name: &str, least: u32, most: u32, table: &Table) -> Result<u32, KeyFault>
-    ensures value { Reads (λ n. n) result (number_in row key name.now least most (table_view table.now)) }
+pub(crate) fn number(
+    row: u32,
+    key: u8,
+    name: &str,
+    least: u32,
+    most: u32,
+    table: &Table,
+) -> Result<u32, KeyFault>
+    ensures value { Reads (λ n. n) result
+        (number_in row key name.now least most (table_view table.now)) }
     ensures within { IfOk result (λ n. n ≤ most) }
 {
     let value = found(row, key, name, table)?;
-    let number = value.as_integer().ok_or(KeyFault { row, key, rule: Rule::WrongType })?;
-    between(least, most, number).ok_or(KeyFault { row, key, rule: Rule::Outside })
+    let number = value.as_integer().ok_or(KeyFault {
+        row,
+        key,
+        rule: Rule::WrongType,
+    })?;
+    between(least, most, number).ok_or(KeyFault {
+        row,
+        key,
+        rule: Rule::Outside,
+    })
 }
 
 /// The small number at a key, from least to most.
-pub(crate) fn small(row: u32, key: u8, name: &str, least: u8, most: u8, table: &Table) -> Result<u8, KeyFault>
+pub(crate) fn small(
+    row: u32,
+    key: u8,
+    name: &str,
+    least: u8,
+    most: u8,
+    table: &Table,
+) -> Result<u8, KeyFault>
     ensures { Reads (λ n. n) result (number_in row key name.now least most (table_view table.now)) }
 {
     let number = number(row, key, name, u32::from(least), u32::from(most), table)?;
@@ -105,8 +149,16 @@ pub(crate) fn width(row: u32, key: u8, least: u8, value: &Value) -> Result<u8, K
     requires { least ≤ 1 }
     ensures { Reads (λ n. n) result (width_of row key least (view value.now)) }
 {
-    let number = value.as_integer().ok_or(KeyFault { row, key, rule: Rule::WrongType })?;
-    width_between(least, number).ok_or(KeyFault { row, key, rule: Rule::Outside })
+    let number = value.as_integer().ok_or(KeyFault {
+        row,
+        key,
+        rule: Rule::WrongType,
+    })?;
+    width_between(least, number).ok_or(KeyFault {
+        row,
+        key,
+        rule: Rule::Outside,
+    })
 }
 
 fn is_name_byte(b: u8) -> bool
@@ -145,7 +197,11 @@ pub(crate) fn mode(row: u32, table: &Table) -> Result<Mode, KeyFault>
     ensures { Reads (λ m. m) result (mode_in row (table_view table.now)) }
 {
     let text = text(row, 2, found(row, 2, "mode", table)?)?;
-    mode_named(text).ok_or(KeyFault { row, key: 2, rule: Rule::Outside })
+    mode_named(text).ok_or(KeyFault {
+        row,
+        key: 2,
+        rule: Rule::Outside,
+    })
 }
 
 /// The kinds of table that can be opened: a kind that comes has its word here.
@@ -163,7 +219,11 @@ pub(crate) fn kind(row: u32, table: &Table) -> Result<TableKind, KeyFault>
     ensures { Reads (λ k. k) result (kind_in row (table_view table.now)) }
 {
     let text = text(row, 5, found(row, 5, "table", table)?)?;
-    kind_named(text).ok_or(KeyFault { row, key: 5, rule: Rule::Outside })
+    kind_named(text).ok_or(KeyFault {
+        row,
+        key: 5,
+        rule: Rule::Outside,
+    })
 }
 
 fn purge_named(text: &str) -> Option<Purge>
@@ -187,11 +247,16 @@ pub(crate) fn purge(row: u32, table: &Table) -> Result<Purge, KeyFault>
         return Ok(Purge::Page);
     };
     let text = text(row, 6, value)?;
-    purge_named(text).ok_or(KeyFault { row, key: 6, rule: Rule::Outside })
+    purge_named(text).ok_or(KeyFault {
+        row,
+        key: 6,
+        rule: Rule::Outside,
+    })
 }
 
 pub(crate) fn range_tlb(row: u32, table: &Table) -> Result<u8, KeyFault>
-    ensures { Reads (λ n. n) result (range_tlb_by row (get_member (codes "range_tlb") (table_view table.now))) }
+    ensures { Reads (λ n. n) result
+        (range_tlb_by row (get_member (codes "range_tlb") (table_view table.now))) }
 {
     match at(table, "range_tlb") {
         Some(value) => width(row, 21, 0, value),
@@ -214,7 +279,12 @@ fn widths(row: u32, values: &Array, widths: &mut [u8]) -> Result<(), KeyFault>
 
 /// Writes the widths of walk caches over zeros, where the key is there.
 #[tactic(auto, using(crate::proofs::ItemLemmas::count_view))]
-pub(crate) fn caches(row: u32, count: usize, caches: &mut [u8], table: &Table) -> Result<(), KeyFault>
+pub(crate) fn caches(
+    row: u32,
+    count: usize,
+    caches: &mut [u8],
+    table: &Table,
+) -> Result<(), KeyFault>
     requires { count ≤ length caches.old }
     ensures { Fills result caches.new (caches_in row count caches.old (table_view table.now)) }
 {
@@ -223,7 +293,11 @@ pub(crate) fn caches(row: u32, count: usize, caches: &mut [u8], table: &Table) -
     };
     let values = array(row, 8, value)?;
     if values.len() != count {
-        return Err(KeyFault { row, key: 8, rule: Rule::Outside });
+        return Err(KeyFault {
+            row,
+            key: 8,
+            rule: Rule::Outside,
+        });
     }
     widths(row, values, caches)
 }

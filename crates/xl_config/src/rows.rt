@@ -15,13 +15,15 @@ ghost use Rattle.xl_config.specs.Config.{document_of, config, keyed, parsed};
 
 use crate::arrays::arrays;
 use crate::fault::{ConfigFault, KeyFault, Rule};
-use crate::keys::{array, found, is_name, kind, mode, number, purge, small, table as table_of, text};
+use crate::keys::{
+    array, found, is_name, kind, mode, number, purge, small, table as table_of, text,
+};
 use crate::kind::TableKind;
 use crate::tables::{is_known, table};
 use arrayvec::ArrayString;
 use std::alloc::Global;
-use toml::{Table, Value};
 use toml::value::Array;
+use toml::{Table, Value};
 use xl_model::Row;
 
 /// The most bytes that a text may have.
@@ -40,21 +42,31 @@ fn any_named(name: &str, rows: &[Row]) -> bool
 }
 
 fn name(row: u32, rows: &[Row], table: &Table) -> Result<ArrayString<16>, KeyFault>
-    ensures {
-        Reads (λ s. s.bytes) result
-            (name_in row (names_of (map row_of rows.now)) (table_view table.now))
-    }
+    ensures { Reads (λ s. s.bytes) result
+        (name_in row (names_of (map row_of rows.now)) (table_view table.now)) }
 {
     let text = text(row, 1, found(row, 1, "name", table)?)?;
     if !is_name(text) {
-        return Err(KeyFault { row, key: 1, rule: Rule::Outside });
+        return Err(KeyFault {
+            row,
+            key: 1,
+            rule: Rule::Outside,
+        });
     }
     if is_taken(text, rows) {
-        return Err(KeyFault { row, key: 1, rule: Rule::Disagrees });
+        return Err(KeyFault {
+            row,
+            key: 1,
+            rule: Rule::Disagrees,
+        });
     }
     match ArrayString::from(text) {
         Ok(name) => Ok(name),
-        Err(_) => Err(KeyFault { row, key: 1, rule: Rule::Outside }),
+        Err(_) => Err(KeyFault {
+            row,
+            key: 1,
+            rule: Rule::Outside,
+        }),
     }
 }
 
@@ -73,9 +85,7 @@ fn all_row_keys(kind: TableKind, table: &Table) -> bool
 /// A row of this number, behind others.
 #[tactic(auto, unfolding(crate::specs::Rows::row_in))]
 fn one_row(row: u32, rows: &[Row], toml: &Table) -> Result<Row, KeyFault>
-    ensures {
-        Reads row_of result (row_in row (names_of (map row_of rows.now)) (table_view toml.now))
-    }
+    ensures { Reads row_of result (row_in row (names_of (map row_of rows.now)) (table_view toml.now)) }
 {
     let name = name(row, rows, toml)?;
     let mode = mode(row, toml)?;
@@ -86,7 +96,11 @@ fn one_row(row: u32, rows: &[Row], toml: &Table) -> Result<Row, KeyFault>
     let table = table(kind, row, mode, spaces, toml)?;
     let tlb = arrays(row, toml)?;
     if !has_row_keys(kind, toml) {
-        return Err(KeyFault { row, key: 23, rule: Rule::NotAllowed });
+        return Err(KeyFault {
+            row,
+            key: 23,
+            rule: Rule::NotAllowed,
+        });
     }
     Ok(Row {
         name,
@@ -136,31 +150,39 @@ fn elements(table: &Table) -> Result<&Array, KeyFault>
 {
     let values = array(0, 0, found(0, 0, "row", table)?)?;
     if values.is_empty() || values.len() > 16 {
-        return Err(KeyFault { row: 0, key: 0, rule: Rule::Outside });
+        return Err(KeyFault {
+            row: 0,
+            key: 0,
+            rule: Rule::Outside,
+        });
     }
     if !all_tables(values) {
-        return Err(KeyFault { row: 0, key: 0, rule: Rule::WrongType });
+        return Err(KeyFault {
+            row: 0,
+            key: 0,
+            rule: Rule::WrongType,
+        });
     }
     if !is_alone(table) {
-        return Err(KeyFault { row: 0, key: 0, rule: Rule::NotAllowed });
+        return Err(KeyFault {
+            row: 0,
+            key: 0,
+            rule: Rule::NotAllowed,
+        });
     }
     Ok(values)
 }
 
 fn element_row(number: u32, rows: &[Row], value: &Value) -> Result<Row, KeyFault>
-    ensures {
-        Reads row_of result (element_in number (names_of (map row_of rows.now)) (view value.now))
-    }
+    ensures { Reads row_of result (element_in number (names_of (map row_of rows.now)) (view value.now)) }
 {
     one_row(number, rows, table_of(0, 0, value)?)
 }
 
 fn rows_from(alloc: Global, values: &Array) -> Result<Vec<Row>, ConfigFault>
     requires { length values.now.items ≤ 16 }
-    ensures reading {
-        Gives (λ rows. map row_of rows.items) result
-            (keyed (rows_from 1 (array_view values.now) []))
-    }
+    ensures reading { Gives (λ rows. map row_of rows.items) result
+        (keyed (rows_from 1 (array_view values.now) [])) }
     ensures keys { IfErr result (λ e. ¬ (e ≡ ConfigFault.TooLong) × ¬ (e ≡ ConfigFault.BadToml)) }
 {
     let mut rows = Vec::new(alloc);
@@ -180,9 +202,7 @@ fn rows_from(alloc: Global, values: &Array) -> Result<Vec<Row>, ConfigFault>
 
 #[tactic(auto, unfolding(crate::specs::Rows::rows_in))]
 fn rows(alloc: Global, table: &Table) -> Result<Vec<Row>, ConfigFault>
-    ensures reading {
-        Gives (λ rows. map row_of rows.items) result (keyed (rows_in (table_view table.now)))
-    }
+    ensures reading { Gives (λ rows. map row_of rows.items) result (keyed (rows_in (table_view table.now))) }
     ensures fit { IfOk result (λ rows. All IsRow (map row_of rows.items)) }
     ensures keys { IfErr result (λ e. ¬ (e ≡ ConfigFault.TooLong) × ¬ (e ≡ ConfigFault.BadToml)) }
 {
@@ -221,9 +241,7 @@ pub fn read(alloc: Global, text: &[u8]) -> Result<Vec<Row>, ConfigFault>
     ensures reading { Gives (λ rows. map row_of rows.items) result (config text.now) }
     ensures fit { IfOk result (λ rows. All IsRow (map row_of rows.items)) }
     ensures too_long { (result ≡ Err ConfigFault.TooLong) ↔ (65536 < length text.now) }
-    ensures bad_toml {
-        result ≡ Err ConfigFault.BadToml → (length text.now ≤ 65536) × (document_of text.now ≡ None)
-    }
+    ensures bad_toml { result ≡ Err ConfigFault.BadToml → (length text.now ≤ 65536) × (document_of text.now ≡ None) }
 {
     if text.len() > LIMIT {
         return Err(ConfigFault::TooLong);

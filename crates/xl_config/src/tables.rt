@@ -78,7 +78,13 @@ fn range(row: u32, table: &Toml) -> Result<Table, KeyFault>
     Ok(Table::Range { ranges, range_tlb })
 }
 
-pub(crate) fn table(kind: TableKind, row: u32, mode: Mode, spaces: u8, table: &Toml) -> Result<Table, KeyFault>
+pub(crate) fn table(
+    kind: TableKind,
+    row: u32,
+    mode: Mode,
+    spaces: u8,
+    table: &Toml,
+) -> Result<Table, KeyFault>
     ensures { Reads (λ t. t) result (table_in kind row mode spaces (table_view table.now)) }
 {
     match kind {
@@ -93,7 +99,13 @@ pub(crate) fn table(kind: TableKind, row: u32, mode: Mode, spaces: u8, table: &T
 fn is_common_key(key: &str) -> bool
     ensures { result ≡ is_common_key key.now }
 {
-    key == "name" || key == "mode" || key == "frames" || key == "spaces" || key == "table" || key == "purge" || key == "tlb"
+    key == "name"
+        || key == "mode"
+        || key == "frames"
+        || key == "spaces"
+        || key == "table"
+        || key == "purge"
+        || key == "tlb"
 }
 
 fn is_key_of(kind: TableKind, key: &str) -> bool
