@@ -1,22 +1,20 @@
 -- A row that is read keeps the rules of a row.
-use Rattle.std.proofs.Common.{◌≡◌, ℕ, ℤ, pos, zero, suc, ◌+◌, ◌-◌, ◌*◌, ◌≤◌, ◌<◌, Bool, true, false, ◌&&◌, ◌||◌, nat_le, List, [], ◌∷◌, ◌++◌, length, drop, set, Option, None, Some, Ok, Err, refl, ap, ap₂, sym, ◌∙◌, subst, arith, length-set, length-append, if◌then◌else◌, codes}
+use Rattle.std.proofs.Common.{◌≡◌, ℕ, ℤ, pos, zero, suc, ◌+◌, ◌-◌, ◌*◌, ◌≤◌, ◌<◌, Bool, true, false, ◌&&◌, ◌||◌, nat_le, List, [], ◌∷◌, ◌++◌, length, drop, set, Option, None, Some, Ok, Err, refl, ap, sym, ◌∙◌, subst, arith, length-append, if◌then◌else◌, codes}
 use Rattle.std.specs.Prelude.{Result, IfOk, All, ◌==◌, slice_set}
 use Rattle.std.specs.List.{list_all, list_any}
 use Rattle.std.specs.Str.{bytes_eq}
 use Rattle.std.proofs.lemmas.Bool.{leb-true, eqb-true}
 use Rattle.std.proofs.lemmas.Option.{same_Some}
-use Rattle.std.proofs.lemmas.Bool.Decides.{nat_tests}
 use Rattle.std.proofs.lemmas.List.{drop-set-lt}
 use Rattle.std.proofs.lemmas.List.Folds.{list_all-append}
 use Rattle.std.proofs.lemmas.List.Elements.{All-nil, All-push}
-use Rattle.toml.specs.Data.{Data, Items, no_items, item, Members, get_member, as_integer, as_str, as_array, as_table}
+use Rattle.toml.specs.Data.{Data, Items, no_items, item, Members, get_member, as_integer}
 use Rattle.xl_model.specs.Addresses.{levels_of}
 use Rattle.xl_model.specs.declared.address.Mode.{Mode}
 use Rattle.xl_model.specs.declared.address.Mode.TheVariants as mode
 use Rattle.xl_model.specs.declared.address.Order.{Order}
 use Rattle.xl_model.specs.declared.address.Order.TheVariants as order
 use Rattle.xl_model.specs.declared.row.Table.{Table}
-use Rattle.xl_model.specs.declared.row.Table.TheVariants as table
 use Rattle.xl_model.specs.declared.row.TlbSpec.{TlbSpec}
 use Rattle.xl_model.specs.Rows.{Row, IsRow, is_table, is_array, is_within, is_width, is_name_byte, levels_rise, none_clash}
 use Rattle.xl_config.specs.declared.fault.ConfigFault.{ConfigFault}
