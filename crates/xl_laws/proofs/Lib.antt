@@ -1,9 +1,10 @@
 mod RefusalLemmas
 mod RunLemmas
 mod LeafLemmas
-mod SlotLemmas
-mod WayLemmas
 mod ShapeLemmas
+mod SlotLemmas
+mod WayKeepLemmas
+mod WayLemmas
 mod CapLemmas
 mod FreshLemmas
 mod SentenceLemmas

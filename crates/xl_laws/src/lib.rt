@@ -4,7 +4,7 @@
 
 ghost use Rattle.xl_laws.specs.Fresh.{NothingIsStale};
 ghost use Rattle.xl_laws.specs.Refusals.{ARefusalLeavesNothing};
-ghost use Rattle.xl_laws.specs.Cuckoo.{KeysHaveTheirSlots, ARefusalKeepsEveryWord, MigratingMovesNoEntry};
+ghost use Rattle.xl_laws.specs.Cuckoo.{KeysHaveTheirSlots, ThePointerIsBelowTheSlots, ARefusalKeepsEveryWord, MigratingMovesNoEntry};
 ghost use Rattle.xl_laws.specs.Sentences.{TheRangesAreMaximalRuns, ANodeTakesTheLowestNumber};
 ghost use Rattle.xl_laws.specs.Scenes.{ItemsMayBeServedInParts, TheToldTextOnlyGrows, WhatIsToldFirstStandsFirst, TellingChangesNoRow, EachRowRunsByItself, TheTextIsTheReport, AFaultEndsTheText, ItemsMayStandBeforeInParts};
 ghost use Rattle.xl_laws.specs.Limits.{EachCallKeepsTheLimits, TheLimitsStay};
@@ -34,6 +34,11 @@ pub fn the_lowest_is_the_least()
 /// Two keys of one way never have one slot, after every list of items.
 pub fn keys_have_their_slots()
     ensures { KeysHaveTheirSlots }
+{}
+
+/// The rehash pointer of each way is below the way's slots, after every list of items.
+pub fn the_pointer_is_below_the_slots()
+    ensures { ThePointerIsBelowTheSlots }
 {}
 
 /// A cuckoo insertion that finds every way at its cap leaves every key and word as before.
