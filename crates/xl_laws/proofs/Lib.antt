@@ -10,3 +10,5 @@ mod FreshLemmas
 mod SentenceLemmas
 mod SceneLawLemmas
 mod LimitLawLemmas
+mod TableRunLemmas
+mod TagLawLemmas

@@ -5,3 +5,4 @@ pub mod Fresh
 pub mod Sentences
 pub mod Scenes
 pub mod Limits
+pub mod Tags

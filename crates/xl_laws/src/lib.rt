@@ -7,6 +7,7 @@ ghost use Rattle.xl_laws.specs.Refusals.{ARefusalLeavesNothing};
 ghost use Rattle.xl_laws.specs.Cuckoo.{KeysHaveTheirSlots, ThePointerIsBelowTheSlots, ARefusalKeepsEveryWord, MigratingMovesNoEntry};
 ghost use Rattle.xl_laws.specs.Sentences.{TheRangesAreMaximalRuns, ANodeTakesTheLowestNumber};
 ghost use Rattle.xl_laws.specs.Scenes.{ItemsMayBeServedInParts, TheToldTextOnlyGrows, WhatIsToldFirstStandsFirst, TellingChangesNoRow, EachRowRunsByItself, TheTextIsTheReport, AFaultEndsTheText, ItemsMayStandBeforeInParts};
+ghost use Rattle.xl_laws.specs.Tags.{TheTagsAreTheLeaves};
 ghost use Rattle.xl_laws.specs.Limits.{EachCallKeepsTheLimits, TheLimitsStay};
 ghost use Rattle.xl_laws.specs.Runs.{TheLeavesAreAMapping, AReplyIsByTheMapping, TheLowestIsTheLeast};
 
@@ -116,4 +117,9 @@ pub fn each_call_keeps_the_limits()
 /// After every list of items a row's table takes the spaces and pages that it took when it was opened.
 pub fn the_limits_stay()
     ensures { TheLimitsStay }
+{}
+
+/// After every list of items the tags of a hashed or clustered table are exactly those of its leaves.
+pub fn the_tags_are_the_leaves()
+    ensures { TheTagsAreTheLeaves }
 {}

@@ -61,7 +61,7 @@ wide-puts levels space l block leaf nodes room under below =
     subst Q c (subst P a h)
 
 -- a node that the mapping needs after a change is one that it needed, or the new leaf's
-new-brought : (c : Change) (leaves : List Leaf) (y : Leaf) → new_leaf c leaves ≡ Some y
+pub new-brought : (c : Change) (leaves : List Leaf) (y : Leaf) → new_leaf c leaves ≡ Some y
     → (brought c leaves ≡ Some y) ⊎ ((z : Leaf) × In z leaves × (y.space ≡ z.space) × (y.first ≡ z.first) × (y.order ≡ z.order))
 new-brought (Insert leaf) leaves y h = inl h
 new-brought (Remove space first o) leaves y h = absurd (cc)
