@@ -38,6 +38,8 @@ use Rattle.xl_mapping.proofs.FreshArrayLemmas.{hit-fresh, filled-fresh, without-
 use Rattle.xl_mapping.proofs.FreshNodeLemmas.{NodesFull, wide, HasPath, full-after, tags-after, tags-fenced, tags-walked, same-length, without-few}
 use Rattle.xl_mapping.proofs.FreshSectionLemmas.{section-some, section-walked, section-fenced, section-after, section-refused}
 use Rattle.xl_laws.proofs.CapLemmas.{refused-same}
+use Rattle.xl_laws.proofs.TableRunLemmas.{made-room, caps-placed}
+use Rattle.xl_mapping.proofs.CoverLemmas.{found-leaf}
 use Rattle.xl_mapping.proofs.FreshRangeLemmas.{ranges-fresh, range-filled, range-touched, range-fenced, range-after}
 use Rattle.xl_model.specs.declared.address.Mode.TheVariants as mode
 use Rattle.xl_model.specs.declared.address.Order.{Order}
@@ -54,13 +56,7 @@ record TableFresh (t : TableState) : Type 0 where
   fresh : CachesFresh t.shape t.caches t.leaves
   full : ShapeFull t.shape t.caches t.leaves
 
--- the leaf of a page
-found-leaf : (row : Row) (space page : ℕ) (leaves : List Leaf) → IsMapping row leaves → (leaf : Leaf) → leaf_at_page space page leaves ≡ Some leaf → IsFound space page leaves leaf
-unfolding leaf_at_page
-found-leaf row space page leaves m leaf h =
-    let i : In leaf leaves = find-In (covers space page) leaf leaves h in
-    record { member = i; covers_page = find-passes (covers space page) leaf leaves h; aligned = (m.valid leaf i).pages_aligned }
-
+-- what is known of every leaf
 all-known : (row : Row) (leaves : List Leaf) → IsMapping row leaves → (x : Leaf) → In x leaves → In x leaves × ((e : ℕ) × (x.first ≡ e * pages_of x.order))
 all-known row leaves m x i = (i, (m.valid x i).pages_aligned)
 
@@ -244,17 +240,6 @@ refused-shape (Some leaf) leaves (Cuckoo rules ways) (SectionCaches m2 g1) caps 
 )
 refused-shape (Some leaf) leaves (Cuckoo rules ways) (RangeCache c) caps fresh = (tt, tt)
 refused-shape (Some leaf) leaves (Cuckoo rules ways) NoCaches caps fresh = (tt, tt)
-
--- what a verdict says
-made-room : (room placed : Bool) → verdict_by room placed ≡ Made → room ≡ true
-made-room true true h = refl
-made-room true false h = absurd (cc)
-made-room false placed h = absurd (cc)
-
-caps-placed : (room placed : Bool) → verdict_by room placed ≡ NoPlace → placed ≡ false
-caps-placed true true h = absurd (cc)
-caps-placed true false h = refl
-caps-placed false placed h = absurd (cc)
 
 -- a state with all that it keeps
 record Kept (row : Row) (s : RowState) : Type 0 where

@@ -12,3 +12,4 @@ mod SceneLawLemmas
 mod LimitLawLemmas
 mod TableRunLemmas
 mod TagLawLemmas
+mod NodeLawLemmas

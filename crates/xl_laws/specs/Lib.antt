@@ -6,3 +6,4 @@ pub mod Sentences
 pub mod Scenes
 pub mod Limits
 pub mod Tags
+pub mod Nodes

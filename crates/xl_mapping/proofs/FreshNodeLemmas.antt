@@ -37,7 +37,7 @@ unfoldable pub HasPath : ℕ → Option Leaf → List (Option Node) → Type 0
 HasPath levels None nodes = Unit {0}
 HasPath levels (Some leaf) nodes = leaf_nodes_missing levels leaf nodes ≤ free_count nodes
 
-wide-at : (levels : ℕ) (leaf : Option Leaf) (y : Node) (nodes : List (Option Node)) (n : ℕ) → slice_index_or nodes n None ≡ Some y → slice_index_or (wide levels leaf nodes) n None ≡ Some y
+pub wide-at : (levels : ℕ) (leaf : Option Leaf) (y : Node) (nodes : List (Option Node)) (n : ℕ) → slice_index_or nodes n None ≡ Some y → slice_index_or (wide levels leaf nodes) n None ≡ Some y
 unfolding wide with_leaf_nodes
 wide-at levels None y nodes n h = h
 wide-at levels (Some leaf) y nodes n h = path-at leaf.space leaf.first (level_of leaf.order) (levels - 1 - level_of leaf.order) y nodes n h
