@@ -38,6 +38,7 @@ use Rattle.xl_mapping.proofs.FreshArrayLemmas.{hit-fresh, filled-fresh, without-
 use Rattle.xl_mapping.proofs.FreshNodeLemmas.{NodesFull, wide, HasPath, full-after, tags-after, tags-fenced, tags-walked, same-length, without-few}
 use Rattle.xl_mapping.proofs.FreshSectionLemmas.{section-some, section-walked, section-fenced, section-after, section-refused}
 use Rattle.xl_laws.proofs.CapLemmas.{refused-same}
+use Rattle.xl_laws.proofs.AfterLemmas.{radix-after, cuckoo-after, runs-after, chained-after, path-room}
 use Rattle.xl_laws.proofs.TableRunLemmas.{made-room, caps-placed}
 use Rattle.xl_mapping.proofs.CoverLemmas.{found-leaf}
 use Rattle.xl_mapping.proofs.FreshRangeLemmas.{ranges-fresh, range-filled, range-touched, range-fenced, range-after}
@@ -121,39 +122,6 @@ walk-fresh row space page leaves (Runs limit) (RangeCache c) m fresh full = go (
     )
 walk-fresh row space page leaves (Runs limit) NoCaches m fresh full = (tt, tt)
 
--- shapes after a change
-radix-widened : (leaf : Option Leaf) (levels spaces : ℕ) (nodes : List (Option Node)) → widened leaf (Radix levels spaces nodes) ≡ Radix levels spaces (wide levels leaf nodes)
-unfolding wide
-radix-widened None levels spaces nodes = refl
-radix-widened (Some leaf) levels spaces nodes = refl
-
-radix-after : (c : Change) (leaves : List Leaf) (levels spaces : ℕ) (nodes : List (Option Node))
-    → shape_after c leaves (Radix levels spaces nodes) ≡ Radix levels spaces (only_needed levels (changed c leaves) (wide levels (brought c leaves) nodes))
-unfolding shape_after
-radix-after c leaves levels spaces nodes = ap (narrowed c leaves) (radix-widened (brought c leaves) levels spaces nodes)
-
-cuckoo-widened : (leaf : Option Leaf) (rules : CuckooRules) (ways : CuckooWays) → widened leaf (Cuckoo rules ways) ≡ Cuckoo rules (ways_brought rules leaf ways)
-cuckoo-widened None rules ways = refl
-cuckoo-widened (Some leaf) rules ways = refl
-
-cuckoo-after : (c : Change) (leaves : List Leaf) (rules : CuckooRules) (ways : CuckooWays)
-    → shape_after c leaves (Cuckoo rules ways) ≡ Cuckoo rules (ways_taken c (old_leaf c leaves) (ways_brought rules (brought c leaves) ways))
-unfolding shape_after
-cuckoo-after c leaves rules ways = ap (narrowed c leaves) (cuckoo-widened (brought c leaves) rules ways)
-
-runs-widened : (leaf : Option Leaf) (limit : ℕ) → widened leaf (Runs limit) ≡ Runs limit
-runs-widened None limit = refl
-runs-widened (Some leaf) limit = refl
-
-runs-after : (c : Change) (leaves : List Leaf) (limit : ℕ) → shape_after c leaves (Runs limit) ≡ Runs limit
-unfolding shape_after
-runs-after c leaves limit = ap (narrowed c leaves) (runs-widened (brought c leaves) limit)
-
-path-room : (brings : Option Leaf) (c : Change) (leaves : List Leaf) (levels spaces : ℕ) (nodes : List (Option Node)) → room_for brings c leaves (Radix levels spaces nodes) ≡ true → HasPath levels brings nodes
-unfolding HasPath
-path-room None c leaves levels spaces nodes h = tt
-path-room (Some leaf) c leaves levels spaces nodes h = grind (arith, nat_tests)
-
 -- a shape and its caches after a change that is made
 AfterFresh : Change → List Leaf → Shape → Caches → Shape → Type 0
 AfterFresh c leaves before kept after =
@@ -195,15 +163,6 @@ any-chained group buckets entries tags (NodeCaches cs) leaves = (tt, tt)
 any-chained group buckets entries tags (SectionCaches m2 g1) leaves = (tt, tt)
 any-chained group buckets entries tags (RangeCache c) leaves = (tt, tt)
 any-chained group buckets entries tags NoCaches leaves = (tt, tt)
-
-chained-after : (c : Change) (leaves : List Leaf) (group buckets entries : ℕ) (tags : List ℕ)
-    → (new : List ℕ) × (shape_after c leaves (Chained group buckets entries tags) ≡ Chained group buckets entries new)
-unfolding shape_after
-chained-after c leaves group buckets entries tags = go (brought c leaves)
-  where
-    go : (leaf : Option Leaf) → (new : List ℕ) × (narrowed c leaves (widened leaf (Chained group buckets entries tags)) ≡ Chained group buckets entries new)
-    go None = (_, refl)
-    go (Some leaf) = (_, refl)
 
 made-shape : (row : Row) (c : Change) (leaves : List Leaf) (shape : Shape) (kept : Caches) → IsMapping row leaves → IsSound row leaves c → has_room c leaves shape ≡ true
     → CachesFresh shape kept leaves → ShapeFull shape kept leaves → AfterFresh c leaves shape kept (shape_after c leaves shape)

@@ -13,3 +13,5 @@ mod LimitLawLemmas
 mod TableRunLemmas
 mod TagLawLemmas
 mod NodeLawLemmas
+mod AfterLemmas
+mod NodeRunLemmas

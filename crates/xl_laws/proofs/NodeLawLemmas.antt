@@ -15,13 +15,13 @@ use Rattle.xl_mapping.proofs.FreshNodeLemmas.{NodesFull, wide, HasPath, wide-at,
 use Rattle.xl_laws.specs.Nodes.{root_of, IsNodeOf, AreNumbered}
 
 -- a node at a number, and the tests that it passes
-at-any : (p : Option Node → Bool) (x : Node) (nodes : List (Option Node)) (n : ℕ) → slice_index_or nodes n None ≡ Some x → p (Some x) ≡ true → list_any p nodes ≡ true
+pub at-any : (p : Option Node → Bool) (x : Node) (nodes : List (Option Node)) (n : ℕ) → slice_index_or nodes n None ≡ Some x → p (Some x) ≡ true → list_any p nodes ≡ true
 at-any p x [] n h t = absurd (cc)
 at-any p x (y ∷ nodes) zero h t = let e : p y ≡ true = ap p h ∙ t in rw e refl
 at-any p x (y ∷ nodes) (suc n) h t =
     elim (p y) as (λ b. (b || list_any p nodes) ≡ true) [ true ↦ refl | false ↦ at-any p x nodes n h t ]
 
-any-at : (p : Option Node → Bool) (nodes : List (Option Node)) → list_any p nodes ≡ true → (n : ℕ) × (p (slice_index_or nodes n None) ≡ true)
+pub any-at : (p : Option Node → Bool) (nodes : List (Option Node)) → list_any p nodes ≡ true → (n : ℕ) × (p (slice_index_or nodes n None) ≡ true)
 any-at p [] h = absurd (cc)
 any-at p (y ∷ nodes) h =
     elim (p y) as (λ b. p y ≡ b → (b || list_any p nodes) ≡ true → (n : ℕ) × (p (slice_index_or (y ∷ nodes) n None) ≡ true)) [
@@ -41,9 +41,6 @@ below-is space l block (Some x) h =
     let c : x.prefix ≡ block = grind (arith, nat_tests) in
     let d : x.level ≡ l - 1 = omega arith in
     (x, refl, node-by x space (l - 1) block a d c, b)
-
-own-below : (x : Node) → is_below x.space (x.level + 1) x.prefix (Some x) ≡ true
-own-below x = rw (eq-eqb x.space x.space refl, eq-eqb (x.level + 1) (x.level + 1) refl, eq-eqb x.prefix x.prefix refl) refl
 
 -- no node has two numbers
 abbrev pub NumberedOnce : List (Option Node) → Type 0

@@ -8,6 +8,7 @@ ghost use Rattle.xl_laws.specs.Cuckoo.{KeysHaveTheirSlots, ThePointerIsBelowTheS
 ghost use Rattle.xl_laws.specs.Sentences.{TheRangesAreMaximalRuns, ANodeTakesTheLowestNumber};
 ghost use Rattle.xl_laws.specs.Scenes.{ItemsMayBeServedInParts, TheToldTextOnlyGrows, WhatIsToldFirstStandsFirst, TellingChangesNoRow, EachRowRunsByItself, TheTextIsTheReport, AFaultEndsTheText, ItemsMayStandBeforeInParts};
 ghost use Rattle.xl_laws.specs.Tags.{TheTagsAreTheLeaves};
+ghost use Rattle.xl_laws.specs.Nodes.{TheNodesAreTheMappings, RoomIsForAllNodes};
 ghost use Rattle.xl_laws.specs.Limits.{EachCallKeepsTheLimits, TheLimitsStay};
 ghost use Rattle.xl_laws.specs.Runs.{TheLeavesAreAMapping, AReplyIsByTheMapping, TheLowestIsTheLeast};
 
@@ -122,4 +123,14 @@ pub fn the_limits_stay()
 /// After every list of items the tags of a hashed or clustered table are exactly those of its leaves.
 pub fn the_tags_are_the_leaves()
     ensures { TheTagsAreTheLeaves }
+{}
+
+/// After every list of items the nodes with numbers are exactly those that the mapping needs, each with one number.
+pub fn the_nodes_are_the_mappings()
+    ensures { TheNodesAreTheMappings }
+{}
+
+/// A radix table has room for a leaf where the nodes of the mapping with it are at most the table's frames.
+pub fn room_is_for_all_nodes()
+    ensures { RoomIsForAllNodes }
 {}
