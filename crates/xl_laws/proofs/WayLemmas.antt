@@ -15,7 +15,9 @@ use Rattle.xl_model.specs.Placing.{way_at, start_way, Attempt, Stands, Fails, at
 use Rattle.xl_mapping.proofs.MemberLemmas.{find-passes}
 use Rattle.xl_laws.specs.Cuckoo.{stands_at, SlotsApart, KeysHaveTheirSlots, IsPointer, HasPointer, ThePointerIsBelowTheSlots, ARefusalKeepsEveryWord, MigratingMovesNoEntry}
 use Rattle.xl_mapping.specs.Sections.{entries_of, tally}
-use Rattle.xl_laws.proofs.SlotLemmas.{before_slot, slot-back, begun-slot, tally-le, tally-same, tally-with_entry, tally-without_key, tally-out, tally-none, tally-reworded}
+use Rattle.xl_mapping.proofs.PlacingLemmas.{forced-entries}
+use Rattle.xl_laws.proofs.SlotLemmas.{before_slot, slot-back, begun-slot}
+use Rattle.xl_mapping.proofs.WayTallyLemmas.{tally-le, tally-same, tally-with_entry, tally-without_key, tally-out, tally-none, tally-reworded}
 use Rattle.xl_laws.proofs.WayKeepLemmas.{WayKeeps, run-each}
 
 -- keys of one slot
@@ -142,14 +144,6 @@ pub the_pointer_is_below_the_slots : ThePointerIsBelowTheSlots
 the_pointer_is_below_the_slots row items = run-each HasPointer pointer-keeps row items
 
 -- a refusal keeps every key and word
-forced-entries : (w : WayShape) → (forced w).entries ≡ w.entries
-unfolding forced advanced begun
-forced-entries w = go w.regs.growing
-  where
-    go : (b : Bool) → (cond b w (begun w)).entries ≡ w.entries
-    go true = refl
-    go false = refl
-
 AsBefore : List WayShape → Placing → Type 0
 AsBefore ways (Placed after moved m) = Unit {0}
 AsBefore ways (AtCap after m) = map entries_of after ≡ map entries_of ways
