@@ -4,7 +4,7 @@ use Rattle.std.proofs.lemmas.Bool.Decides.{nat_tests}
 use Rattle.xl_model.specs.declared.leaf.Leaf.{Leaf}
 use Rattle.xl_model.specs.Changes.{Change, old_leaf, changed}
 use Rattle.xl_model.specs.Nodes.{Node, only_needed}
-use Rattle.xl_model.specs.Shapes.{Shape, Radix, Chained, Cuckoo, Runs, CuckooWays, CuckooRules, brought, ways_brought, ways_taken, widened, narrowed, shape_after}
+use Rattle.xl_model.specs.Shapes.{Radix, Chained, Cuckoo, Runs, CuckooWays, CuckooRules, brought, ways_brought, ways_taken, widened, narrowed, shape_after}
 use Rattle.xl_model.specs.Room.{room_for}
 use Rattle.xl_mapping.proofs.FreshNodeLemmas.{wide, HasPath}
 

@@ -1,7 +1,6 @@
 -- Nothing is stale: what every event keeps of arrays and caches.
-use Rattle.std.proofs.Common.{◌≡◌, refl, sym, ap, subst, ℕ, zero, suc, ◌+◌, ◌-◌, ◌*◌, ◌<◌, ◌≤◌, Bool, true, false, not, List, [], ◌∷◌, length, Option, None, Some, arith}
+use Rattle.std.proofs.Common.{◌≡◌, refl, sym, subst, ℕ, zero, suc, ◌+◌, ◌-◌, ◌*◌, ◌<◌, ◌≤◌, Bool, true, false, not, List, [], ◌∷◌, length, Option, None, Some, arith}
 use Rattle.std.specs.Prelude.{find, is_some}
-use Rattle.std.proofs.lemmas.Bool.Decides.{nat_tests}
 use Rattle.xl_model.specs.declared.address.Kind.{Kind}
 use Rattle.xl_model.specs.declared.address.Mode.{Mode}
 use Rattle.xl_model.specs.declared.leaf.Leaf.{Leaf}
@@ -17,25 +16,25 @@ use Rattle.xl_model.specs.Changes.{Change, old_leaf, changed}
 use Rattle.xl_model.specs.Rules.{rule, change_of}
 use Rattle.xl_model.specs.Nodes.{Node, in_nodes, only_needed, opening_nodes}
 use Rattle.xl_model.specs.Ranges.{ranges_of, holds_page}
-use Rattle.xl_model.specs.Shapes.{Shape, Radix, Chained, Cuckoo, Runs, CuckooWays, CuckooRules, brought, ways_brought, ways_taken, widened, narrowed, shape_after, opening_shape}
-use Rattle.xl_model.specs.Room.{room_for, has_room}
+use Rattle.xl_model.specs.Shapes.{Shape, Radix, Chained, Cuckoo, Runs, CuckooWays, CuckooRules, brought, ways_brought, ways_taken, widened, shape_after, opening_shape}
+use Rattle.xl_model.specs.Room.{has_room}
 use Rattle.xl_model.specs.Caches.{Caches, NodeCaches, SectionCaches, RangeCache, NoCaches, Numbered, empty_caches, section_caches, opening_caches, caches_purged, caches_fenced, reaches_space, reaches_range}
 use Rattle.xl_model.specs.Walks.{section_of_page, range_walk_by, walked, start_level, is_page_section, fills_m2}
-use Rattle.xl_model.specs.Structures.{answer_by, TableState, Verdict, Made, NoSpace, NoPlace, finds_place, verdict_by, verdict, table_made, table_answer, table_after, after_by, table_walked, table_fenced}
+use Rattle.xl_model.specs.Structures.{answer_by, TableState, Verdict, Made, NoSpace, NoPlace, finds_place, verdict, table_made, table_answer, table_after, after_by, table_walked, table_fenced}
 use Rattle.xl_model.specs.Tally.{count_look}
 use Rattle.xl_model.specs.Tlb.{Answer, answer_of, reaches_leaf}
 use Rattle.xl_model.specs.RowRun.{RowState, opening, walk_filled, walk_made, looked_by, looked, looked_where, accessed, purged_at, changed_by, changed_where, fenced, reach_of, served, after_rule, after_event}
 use Rattle.xl_mapping.specs.Members.{In}
 use Rattle.xl_mapping.specs.Mappings.{IsMapping, IsFound, IsSound}
 use Rattle.xl_mapping.proofs.OrderLemmas.{level-low}
-use Rattle.xl_mapping.proofs.MemberLemmas.{find-In, find-passes}
+use Rattle.xl_mapping.proofs.MemberLemmas.{find-In}
 use Rattle.xl_mapping.proofs.RuleLemmas.{sound-of, kept-sound}
 use Rattle.xl_mapping.specs.Fresh.{has_leaves, ArraysFresh, TagsFresh, CachesFresh}
 use Rattle.xl_laws.specs.Fresh.{NothingIsStale}
 use Rattle.xl_laws.proofs.RunLemmas.{Keeps, run-keeps}
 use Rattle.xl_laws.proofs.LeafLemmas.{opening-mapping}
 use Rattle.xl_mapping.proofs.FreshArrayLemmas.{hit-fresh, filled-fresh, without-fresh, changed-fresh, opening-fresh}
-use Rattle.xl_mapping.proofs.FreshNodeLemmas.{NodesFull, wide, HasPath, full-after, tags-after, tags-fenced, tags-walked, same-length, without-few}
+use Rattle.xl_mapping.proofs.FreshNodeLemmas.{NodesFull, wide, full-after, tags-after, tags-fenced, tags-walked, same-length, without-few}
 use Rattle.xl_mapping.proofs.FreshSectionLemmas.{section-some, section-walked, section-fenced, section-after, section-refused}
 use Rattle.xl_laws.proofs.CapLemmas.{refused-same}
 use Rattle.xl_laws.proofs.AfterLemmas.{radix-after, cuckoo-after, runs-after, chained-after, path-room}

@@ -15,3 +15,4 @@ mod TagLawLemmas
 mod NodeLawLemmas
 mod AfterLemmas
 mod NodeRunLemmas
+mod KeyLawLemmas

@@ -1,16 +1,15 @@
 -- The nodes with numbers are exactly those that the mapping needs, at every change.
-use Rattle.std.proofs.Common.{◌≡◌, refl, sym, ap, ◌∙◌, subst, ℕ, zero, suc, ◌+◌, ◌-◌, ◌<◌, ◌≤◌, Bool, true, false, cond, List, [], ◌∷◌, ◌++◌, map, length, Option, None, Some, ◌⊎◌, inl, inr, slice_index_or, ◌==◌, ◌&&◌, ◌||◌, arith}
+use Rattle.std.proofs.Common.{◌≡◌, refl, sym, ap, ◌∙◌, subst, ℕ, zero, suc, ◌+◌, ◌-◌, ◌<◌, ◌≤◌, Bool, true, false, cond, List, [], ◌∷◌, ◌++◌, map, Option, None, Some, ◌⊎◌, inl, inr, slice_index_or, ◌==◌, ◌||◌, arith}
 use Rattle.std.specs.Prelude.{replicate}
 use Rattle.std.specs.List.{list_any, position_from}
 use Rattle.std.proofs.lemmas.Bool.Decides.{nat_tests}
-use Rattle.std.proofs.lemmas.Bool.{eq-eqb}
 use Rattle.xl_model.specs.declared.leaf.Leaf.{Leaf}
 use Rattle.xl_model.specs.Addresses.{level_of}
 use Rattle.xl_model.specs.Changes.{Change, changed}
 use Rattle.xl_model.specs.Nodes.{up, Node, is_below, in_nodes, is_under, number_of, put_first, unless_there, with_node, with_path, with_leaf_nodes, is_needed, kept_node, only_needed, roots, opening_nodes}
 use Rattle.xl_model.specs.Shapes.{brought}
 use Rattle.xl_mapping.proofs.MemberLemmas.{any-In}
-use Rattle.xl_mapping.proofs.NumberLemmas.{position-none, is-new, path-at, kept-at}
+use Rattle.xl_mapping.proofs.NumberLemmas.{position-none, is-new, kept-at}
 use Rattle.xl_mapping.proofs.FreshNodeLemmas.{NodesFull, wide, HasPath, wide-at, full-after}
 use Rattle.xl_laws.specs.Nodes.{root_of, IsNodeOf, AreNumbered}
 

@@ -11,7 +11,7 @@ use Rattle.xl_model.specs.declared.row.Table.TheVariants as table
 use Rattle.xl_model.specs.Addresses.{levels_of, level_of}
 use Rattle.xl_model.specs.Rows.{Row}
 use Rattle.xl_model.specs.Changes.{Change, changed}
-use Rattle.xl_model.specs.Nodes.{up, Node, is_below, in_nodes, is_under, number_of, one_unless, missing, free_count, leaf_nodes_missing, only_needed}
+use Rattle.xl_model.specs.Nodes.{up, Node, is_below, in_nodes, is_under, number_of, one_unless, missing, free_count, leaf_nodes_missing}
 use Rattle.xl_model.specs.Shapes.{Shape, Radix, Chained, Cuckoo, Runs, CuckooRules, CuckooWays, brought, widened, narrowed, shape_after, opening_shape}
 use Rattle.xl_model.specs.Room.{has_room, room_for}
 use Rattle.xl_model.specs.Structures.{finds_place}
@@ -20,10 +20,9 @@ use Rattle.xl_mapping.specs.Members.{In, Once}
 use Rattle.xl_mapping.proofs.MemberLemmas.{In-left, In-right, In-append}
 use Rattle.xl_mapping.proofs.OnceLemmas.{same-by, once-append}
 use Rattle.xl_mapping.proofs.NumberLemmas.{position-none, position-any}
-use Rattle.xl_mapping.proofs.FreshNodeLemmas.{wide, HasPath}
-use Rattle.xl_laws.specs.Nodes.{root_of, IsNodeOf, AreNumbered, HasNumbers, TheNodesAreTheMappings, AreNodesOf, RoomIsForAllNodes}
+use Rattle.xl_laws.specs.Nodes.{IsNodeOf, AreNumbered, HasNumbers, TheNodesAreTheMappings, AreNodesOf, RoomIsForAllNodes}
 use Rattle.xl_laws.proofs.AfterLemmas.{radix-after, path-room}
-use Rattle.xl_laws.proofs.TableRunLemmas.{TableKeeps, run-holds}
+use Rattle.xl_laws.proofs.TableRunLemmas.{run-holds}
 use Rattle.xl_laws.proofs.NodeLawLemmas.{NumberedOnce, at-any, any-at, below-is, numbered-after, numbered-opening}
 
 -- a radix table has levels

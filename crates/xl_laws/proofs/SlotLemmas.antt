@@ -1,13 +1,9 @@
 -- Slots of a growing way: the slot before is a function of the slot after, so keys apart stay apart.
-use Rattle.std.proofs.Common.{zero-add, ◌≡◌, refl, sym, ap, subst, ℕ, Bool, true, false, cond, List, [], ◌∷◌, None, Some, ◌&&◌, ◌<◌, ◌≤◌, ◌+◌, ◌%◌, ◌^◌, nat_lt, ◌==◌, arith, map}
-use Rattle.std.specs.Prelude.{find}
+use Rattle.std.proofs.Common.{zero-add, ◌≡◌, refl, sym, subst, ℕ, Bool, true, false, cond, ◌&&◌, ◌<◌, ◌+◌, ◌%◌, ◌^◌, nat_lt, ◌==◌, arith}
 use Rattle.std.proofs.lemmas.Bool.Decides.{nat_tests}
 use Rattle.std.proofs.Math.Pow.{mod-mod-pow}
-use Rattle.xl_model.specs.declared.way.Entry.{Entry}
 use Rattle.xl_model.specs.declared.way.WayRegs.{WayRegs}
-use Rattle.xl_model.specs.Ways.{slot_at, with_entry, without_key, reworded, slots_left, begun_regs, regs_after}
-use Rattle.xl_model.specs.Base.{one_if}
-use Rattle.xl_mapping.specs.Sections.{tally}
+use Rattle.xl_model.specs.Ways.{slot_at, slots_left, begun_regs, regs_after}
 
 low-bits : (h s : ℕ) → h % 2 ^ (s + 1) % 2 ^ s ≡ h % 2 ^ s
 low-bits h s = let e : s + 1 ≡ 1 + s = omega arith in

@@ -1,5 +1,5 @@
 -- What the leaves and the shape of a table keep at every change, they keep in every run.
-use Rattle.std.proofs.Common.{◌≡◌, sym, subst, ap, refl, true, false, Bool, List, [], Option, None, Some}
+use Rattle.std.proofs.Common.{◌≡◌, sym, subst, refl, true, false, Bool, List, [], Option, None, Some}
 use Rattle.xl_model.specs.declared.address.Kind.{Kind}
 use Rattle.xl_model.specs.declared.leaf.Leaf.{Leaf}
 use Rattle.xl_model.specs.declared.event.Event.{Event}

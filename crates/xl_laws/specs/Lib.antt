@@ -7,3 +7,4 @@ pub mod Scenes
 pub mod Limits
 pub mod Tags
 pub mod Nodes
+pub mod Keys

@@ -9,6 +9,7 @@ ghost use Rattle.xl_laws.specs.Sentences.{TheRangesAreMaximalRuns, ANodeTakesThe
 ghost use Rattle.xl_laws.specs.Scenes.{ItemsMayBeServedInParts, TheToldTextOnlyGrows, WhatIsToldFirstStandsFirst, TellingChangesNoRow, EachRowRunsByItself, TheTextIsTheReport, AFaultEndsTheText, ItemsMayStandBeforeInParts};
 ghost use Rattle.xl_laws.specs.Tags.{TheTagsAreTheLeaves};
 ghost use Rattle.xl_laws.specs.Nodes.{TheNodesAreTheMappings, RoomIsForAllNodes};
+ghost use Rattle.xl_laws.specs.Keys.{EachLeafHasItsKey};
 ghost use Rattle.xl_laws.specs.Limits.{EachCallKeepsTheLimits, TheLimitsStay};
 ghost use Rattle.xl_laws.specs.Runs.{TheLeavesAreAMapping, AReplyIsByTheMapping, TheLowestIsTheLeast};
 
@@ -133,4 +134,10 @@ pub fn the_nodes_are_the_mappings()
 /// A radix table has room for a leaf where the nodes of the mapping with it are at most the table's frames.
 pub fn room_is_for_all_nodes()
     ensures { RoomIsForAllNodes }
+{}
+
+/// After every list of items each leaf of a cuckoo row has its key in one way of its order, and no other key stands
+/// there.
+pub fn each_leaf_has_its_key()
+    ensures { EachLeafHasItsKey }
 {}
