@@ -33,7 +33,8 @@ ShapeEach P (Runs ranges) = Unit {0}
 
 -- After every list of items two keys of one way have two slots.
 abbrev pub KeysHaveTheirSlots : Type 0
-KeysHaveTheirSlots = (row : Row) (items : List Item) → ShapeEach SlotsApart (run row items).table.shape
+KeysHaveTheirSlots =
+    (row : Row) (items : List Item) → ShapeEach SlotsApart (run row items).table.shape
 
 -- the rehash pointer is below the way's slots, and 0 where the way does not grow
 pub record IsPointer (r : WayRegs) : Type 0 where
@@ -46,7 +47,8 @@ HasPointer w = IsPointer w.regs
 
 -- After every list of items the rehash pointer of each way is below the way's slots.
 abbrev pub ThePointerIsBelowTheSlots : Type 0
-ThePointerIsBelowTheSlots = (row : Row) (items : List Item) → ShapeEach HasPointer (run row items).table.shape
+ThePointerIsBelowTheSlots =
+    (row : Row) (items : List Item) → ShapeEach HasPointer (run row items).table.shape
 
 -- An insertion that finds every way at its cap leaves each way's keys and words as they were.
 abbrev pub ARefusalKeepsEveryWord : Type 0

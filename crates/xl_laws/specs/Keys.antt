@@ -11,7 +11,8 @@ use Rattle.xl_model.specs.Items.{run}
 use Rattle.xl_mapping.specs.Members.{In}
 use Rattle.xl_mapping.specs.Sections.{tally, entries_in}
 
--- each leaf of an order has its key and word in the ways, no other entry stands there, and each key stands in one way alone
+-- each leaf of an order has its key and word in the ways, no other entry stands there, and each key
+-- stands in one way alone
 pub record AreEntriesOf (o : Order) (leaves : List Leaf) (ways : List WayShape) : Type 0 where
   pub once : (key : ℕ) → tally (has_key key) (entries_in ways) ≤ 1
   pub there : (leaf : Leaf) → In leaf leaves → leaf.order ≡ o → In (leaf_entry leaf) (entries_in ways)
@@ -24,6 +25,9 @@ HasEntries leaves (Chained group buckets entries tags) = Unit {0}
 HasEntries leaves (Cuckoo rules ways) = (o : Order) → AreEntriesOf o leaves (ways_of o ways)
 HasEntries leaves (Runs ranges) = Unit {0}
 
--- After every list of items each leaf of a cuckoo row has its key in one way of its order, and no other key stands there.
+-- After every list of items each leaf of a cuckoo row has its key in one way of its order, and no
+-- other key stands there.
 abbrev pub EachLeafHasItsKey : Type 0
-EachLeafHasItsKey = (row : Row) (items : List Item) → IsRow row → HasEntries (run row items).table.leaves (run row items).table.shape
+EachLeafHasItsKey =
+    (row : Row) (items : List Item) → IsRow row
+    → HasEntries (run row items).table.leaves (run row items).table.shape

@@ -22,6 +22,9 @@ HasTags leaves (Chained group buckets entries tags) = AreTagsOf group leaves tag
 HasTags leaves (Cuckoo rules ways) = Unit {0}
 HasTags leaves (Runs ranges) = Unit {0}
 
--- After every list of items the tags of a hashed or clustered table are exactly those of its leaves.
+-- After every list of items the tags of a hashed or clustered table are exactly those of its
+-- leaves.
 abbrev pub TheTagsAreTheLeaves : Type 0
-TheTagsAreTheLeaves = (row : Row) (items : List Item) → HasTags (run row items).table.leaves (run row items).table.shape
+TheTagsAreTheLeaves =
+    (row : Row) (items : List Item)
+    → HasTags (run row items).table.leaves (run row items).table.shape

@@ -1,4 +1,5 @@
--- Lists in which no member stands twice: by their members alone it is known which is the shorter.
+-- Lists in which no member stands twice: by their members alone it is known which is the shorter. For lists of free
+-- places too.
 use Rattle.std.proofs.Common.{◌≡◌, refl, sym, ap, subst, ℕ, suc, ◌≤◌, true, false, cond, List, [], ◌∷◌, ◌++◌, length, ◌==◌, inl, inr, arith, Bool, ◌∙◌}
 use Rattle.std.proofs.lemmas.Bool.Decides.{nat_tests}
 use Rattle.xl_mapping.specs.Members.{In, Once}
