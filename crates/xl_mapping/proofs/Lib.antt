@@ -42,3 +42,4 @@ pub mod FreshSectionLemmas
 pub mod FreshRangeLemmas
 pub mod FreshNodeLemmas
 pub mod SceneLemmas
+pub mod HolderLemmas
