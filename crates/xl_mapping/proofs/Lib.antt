@@ -43,3 +43,11 @@ pub mod FreshRangeLemmas
 pub mod FreshNodeLemmas
 pub mod SceneLemmas
 pub mod HolderLemmas
+pub mod RunLemmas
+pub mod TouchLemmas
+pub mod JoinLemmas
+pub mod SpreadLemmas
+pub mod LeafInLemmas
+pub mod PieceLemmas
+pub mod LeftLemmas
+pub mod CutLemmas
