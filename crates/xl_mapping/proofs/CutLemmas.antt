@@ -1,11 +1,10 @@
 -- For the table of ranges: a leaf cut out of maximal ranges leaves maximal ranges, of the other leaves.
-use Rattle.std.proofs.Common.{◌≡◌, refl, sym, ap, ◌∙◌, subst, ℕ, zero, suc, ◌+◌, ◌-◌, ◌*◌, ◌/◌, ◌^◌, ◌<◌, ◌≤◌, Bool, true, false, List, [], ◌∷◌, filter, ◌⊎◌, inl, inr, ◌==◌, arith}
+use Rattle.std.proofs.Common.{◌≡◌, refl, sym, ap, ◌∙◌, subst, ℕ, zero, suc, ◌+◌, ◌*◌, ◌^◌, ◌<◌, ◌≤◌, true, false, List, [], ◌∷◌, filter, inl, inr, ◌==◌, arith}
 use Rattle.std.proofs.lemmas.Bool.Decides.{nat_tests}
 use Rattle.xl_model.specs.declared.address.Order.{Order}
-use Rattle.xl_model.specs.declared.leaf.Leaf.{Leaf}
 use Rattle.xl_model.specs.declared.leaf.Range.{Range}
 use Rattle.xl_model.specs.Addresses.{pages_of}
-use Rattle.xl_model.specs.Mapping.{leaf_key, without_leaf}
+use Rattle.xl_model.specs.Mapping.{without_leaf}
 use Rattle.xl_model.specs.Ranges.{range_key, end_key}
 use Rattle.xl_mapping.specs.Members.{In}
 use Rattle.xl_mapping.specs.HeldRanges.{run_on, first_leaf, leaves_in, spread, touches, Stops, IsRange, IsHeld, pages_before, pages_behind, part_behind, before_on, behind_on, pieces, IsLeafIn, cut}

@@ -1,6 +1,6 @@
 -- A key that an insertion does not bring and does not displace stays in its way, and no way comes or goes. For the
 -- cuckoo table, and for the purge of cached sections in its row.
-use Rattle.std.proofs.Common.{◌≡◌, refl, sym, ap, ◌∙◌, subst, ℕ, zero, suc, ◌+◌, Bool, true, false, cond, not, List, [], ◌∷◌, ◌++◌, length, map, ◌==◌, slice_set, Option, None, Some, inl, arith}
+use Rattle.std.proofs.Common.{◌≡◌, refl, sym, ap, ◌∙◌, subst, ℕ, zero, suc, ◌+◌, true, false, cond, not, List, [], ◌∷◌, ◌++◌, length, ◌==◌, slice_set, Option, None, Some, inl, arith}
 use Rattle.std.proofs.lemmas.Bool.Decides.{nat_tests}
 use Rattle.std.proofs.Math.Seq.{map-set_same}
 use Rattle.std.proofs.lemmas.List.{length-map}
@@ -150,7 +150,8 @@ insertion-stays key limit most threshold ways after x moved m h n e = go (placin
     go (Placed vs mv k) s t =
         let same : settled most threshold vs ≡ after = cc in
         let told : mv ≡ moved = cc in
-        let r = s (subst (λ l. NotIn key l) (sym told) n) in
-        (ap (λ (us : List WayShape). length us) (sym same) ∙ settled-length vs ∙ r.0,
-        ap (λ us. holder_from 0 us key) (sym same) ∙ holder-same 0 (settled most threshold vs) vs key (settled-entries most threshold vs) ∙ r.1 0)
+        let r = s (subst (λ l. NotIn key l) (sym told) n) in (
+          ap (λ (us : List WayShape). length us) (sym same) ∙ settled-length vs ∙ r.0,
+          ap (λ us. holder_from 0 us key) (sym same) ∙ holder-same 0 (settled most threshold vs) vs key (settled-entries most threshold vs) ∙ r.1 0,
+        )
     go (AtCap vs k) s t = absurd (cc)

@@ -1,14 +1,14 @@
 -- For the table of ranges: the held range that a named leaf stands in, and how many pages of it lie before and behind the leaf.
-use Rattle.std.proofs.Common.{◌≡◌, refl, sym, ap, ◌∙◌, subst, ℕ, zero, suc, ◌+◌, ◌-◌, ◌*◌, ◌^◌, ◌<◌, ◌≤◌, Bool, true, false, cond, List, [], ◌∷◌, Option, None, Some, ◌⊎◌, inl, inr, ◌==◌, ◌&&◌, find, nat_le, nat_lt, arith}
+use Rattle.std.proofs.Common.{◌≡◌, refl, sym, ap, ◌∙◌, subst, ℕ, zero, suc, ◌+◌, ◌-◌, ◌*◌, ◌^◌, ◌<◌, ◌≤◌, true, false, cond, List, [], ◌∷◌, Some, ◌⊎◌, inl, inr, find, arith}
 use Rattle.std.proofs.lemmas.Bool.Decides.{nat_tests}
 use Rattle.xl_model.specs.declared.address.Order.{Order}
 use Rattle.xl_model.specs.declared.leaf.Leaf.{Leaf}
 use Rattle.xl_model.specs.declared.leaf.Range.{Range}
 use Rattle.xl_model.specs.Addresses.{pages_of}
 use Rattle.xl_model.specs.Mapping.{leaf_key, is_leaf}
-use Rattle.xl_model.specs.Ranges.{range_key, end_key, holds_page}
+use Rattle.xl_model.specs.Ranges.{end_key, holds_page}
 use Rattle.xl_mapping.specs.Members.{In}
-use Rattle.xl_mapping.specs.HeldRanges.{next_leaf, run_on, first_leaf, leaves_in, spread, IsRange, IsHeld, pages_before, pages_behind, part_behind, IsLeafIn}
+use Rattle.xl_mapping.specs.HeldRanges.{next_leaf, run_on, first_leaf, leaves_in, spread, IsHeld, pages_before, pages_behind, part_behind, IsLeafIn}
 use Rattle.xl_mapping.proofs.OrderLemmas.{pages-some}
 use Rattle.xl_mapping.proofs.PlaceLemmas.{named-space, named-first, named-order}
 use Rattle.xl_mapping.proofs.RunLemmas.{leaves-is}
@@ -29,7 +29,7 @@ named-run : (space first : ℕ) (o : Order) (n : ℕ) (l x : Leaf) (rest : List 
 named-run space first o zero l x rest e = inr e
 named-run space first o (suc n) l x rest e =
     elim (is_leaf space first o l) as (λ b. is_leaf space first o l ≡ b → cond b (Some l) (find (is_leaf space first o) (run_on n (next_leaf l) rest)) ≡ Some x
-        → InRun space first o (suc n) l x ⊎ (find (is_leaf space first o) rest ≡ Some x)) [
+    → InRun space first o (suc n) l x ⊎ (find (is_leaf space first o) rest ≡ Some x)) [
       | true ↦ λ t f. inl (record {
         before = 0;
         behind = n;
@@ -105,7 +105,7 @@ next-of-leap space first o r i =
     let e : r.start + a * pages_of o + pages_of o ≡ first + pages_of o = omega arith in
     let f : r.frame + a * pages_of o + pages_of o ≡ r.frame + (first + pages_of o - r.start) = omega arith in
     let P : Order → Type 0 = λ q. (let l : Leaf = record { space = r.space; first = r.start + a * pages_of q + pages_of q; order = r.order; frame = r.frame + a * pages_of q + pages_of q; perm = r.perm } in l)
-        ≡ first_leaf (part_behind first o r) in
+    ≡ first_leaf (part_behind first o r) in
     subst P (sym same) (rw (e, f) refl)
 
 pub leap-key : (space first : ℕ) (o : Order) (r : Range) (i : IsLeafIn space first o r) → leaf_key (leap i.before (first_leaf r)) ≡ space * 2 ^ 52 + first

@@ -1,13 +1,11 @@
 -- For the table of ranges: what is left of a range without a leaf of it are maximal ranges.
-use Rattle.std.proofs.Common.{◌≡◌, refl, sym, ap, ◌∙◌, subst, ℕ, zero, suc, ◌+◌, ◌-◌, ◌*◌, ◌/◌, ◌^◌, ◌<◌, ◌≤◌, Bool, true, false, List, [], ◌∷◌, ◌==◌, arith}
-use Rattle.std.proofs.lemmas.Bool.Decides.{nat_tests}
+use Rattle.std.proofs.Common.{◌≡◌, refl, sym, ◌∙◌, subst, ℕ, zero, suc, ◌+◌, ◌*◌, ◌<◌, ◌≤◌, List, [], ◌∷◌, arith}
 use Rattle.xl_model.specs.declared.address.Order.{Order}
-use Rattle.xl_model.specs.declared.leaf.Leaf.{Leaf}
 use Rattle.xl_model.specs.declared.leaf.Range.{Range}
 use Rattle.xl_model.specs.Addresses.{pages_of}
 use Rattle.xl_model.specs.Ranges.{range_key, end_key}
-use Rattle.xl_mapping.specs.HeldRanges.{first_leaf, leaves_in, touches, Stops, IsRange, IsHeld, pages_before, pages_behind, part_behind, before_on, behind_on, pieces, IsLeafIn}
-use Rattle.xl_mapping.proofs.TouchLemmas.{Touch, touch, touch-key, some-pages, not-touching}
+use Rattle.xl_mapping.specs.HeldRanges.{touches, Stops, IsRange, IsHeld, pages_before, pages_behind, part_behind, before_on, behind_on, IsLeafIn}
+use Rattle.xl_mapping.proofs.TouchLemmas.{touch, touch-key, not-touching}
 use Rattle.xl_mapping.proofs.JoinLemmas.{lower}
 use Rattle.xl_mapping.proofs.LeafInLemmas.{Sizes, sizes}
 

@@ -1,15 +1,15 @@
 -- For the table of ranges: what is left of a range without a leaf of it has the range's other leaves.
-use Rattle.std.proofs.Common.{◌≡◌, refl, sym, ap, ◌∙◌, subst, ℕ, zero, suc, ◌+◌, ◌-◌, ◌*◌, ◌/◌, ◌^◌, ◌<◌, ◌≤◌, Bool, true, false, cond, List, [], ◌∷◌, filter, ◌==◌, arith}
+use Rattle.std.proofs.Common.{◌≡◌, refl, sym, ap, ◌∙◌, subst, ℕ, zero, suc, ◌+◌, ◌*◌, ◌/◌, ◌^◌, ◌<◌, ◌≤◌, Bool, true, false, cond, List, [], ◌∷◌, filter, ◌==◌, arith}
 use Rattle.std.proofs.lemmas.Bool.Decides.{nat_tests}
 use Rattle.xl_model.specs.declared.address.Order.{Order}
 use Rattle.xl_model.specs.declared.leaf.Leaf.{Leaf}
 use Rattle.xl_model.specs.declared.leaf.Range.{Range}
 use Rattle.xl_model.specs.Addresses.{pages_of}
 use Rattle.xl_model.specs.Mapping.{leaf_key}
-use Rattle.xl_model.specs.Ranges.{range_key, end_key}
-use Rattle.xl_mapping.specs.HeldRanges.{next_leaf, run_on, first_leaf, leaves_in, spread, IsRange, IsHeld, pages_before, pages_behind, part_behind, before_on, behind_on, pieces, IsLeafIn}
+use Rattle.xl_model.specs.Ranges.{end_key}
+use Rattle.xl_mapping.specs.HeldRanges.{next_leaf, run_on, first_leaf, leaves_in, spread, IsRange, IsHeld, pages_before, pages_behind, part_behind, before_on, behind_on, IsLeafIn}
 use Rattle.xl_mapping.proofs.OrderLemmas.{pages-some}
-use Rattle.xl_mapping.proofs.RunLemmas.{leaves-is, count-is}
+use Rattle.xl_mapping.proofs.RunLemmas.{count-is}
 use Rattle.xl_mapping.proofs.TouchLemmas.{leap, run-add, some-pages}
 use Rattle.xl_mapping.proofs.LeafInLemmas.{Sizes, sizes, next-of-leap, leap-key}
 

@@ -1,12 +1,12 @@
 -- For the table of ranges: the leaves of maximal ranges with a range of one leaf more are their leaves with that leaf.
-use Rattle.std.proofs.Common.{◌≡◌, refl, sym, ap, ◌∙◌, subst, ℕ, zero, suc, ◌+◌, ◌*◌, ◌<◌, ◌≤◌, Bool, true, false, cond, List, [], ◌∷◌, ◌==◌, nat_lt, arith}
+use Rattle.std.proofs.Common.{◌≡◌, refl, sym, ap, ◌∙◌, ℕ, zero, suc, ◌+◌, ◌*◌, ◌<◌, ◌≤◌, true, false, cond, List, [], ◌∷◌, ◌==◌, nat_lt, arith}
 use Rattle.std.proofs.lemmas.Bool.Decides.{nat_tests}
 use Rattle.xl_model.specs.declared.leaf.Leaf.{Leaf}
 use Rattle.xl_model.specs.declared.leaf.Range.{Range}
 use Rattle.xl_model.specs.Addresses.{pages_of}
 use Rattle.xl_model.specs.Mapping.{leaf_key, with_leaf}
 use Rattle.xl_model.specs.Ranges.{range_key, range_of_leaf, end_key}
-use Rattle.xl_mapping.specs.HeldRanges.{next_leaf, run_on, first_leaf, leaves_in, spread, touches, Stops, IsRange, IsHeld, IsClear, grown, glue, join}
+use Rattle.xl_mapping.specs.HeldRanges.{next_leaf, run_on, first_leaf, leaves_in, spread, touches, IsRange, IsHeld, IsClear, grown, glue, join}
 use Rattle.xl_mapping.proofs.OrderLemmas.{pages-some}
 use Rattle.xl_mapping.proofs.RunLemmas.{leaves-is, count-is}
 use Rattle.xl_mapping.proofs.TouchLemmas.{Touch, touch, touch-key, grown-range, run-grown, some-pages}
@@ -51,7 +51,7 @@ spread-join low l [] h is clear = one-leaf l []
 spread-join low l (r ∷ rs) (above, also, stops, rest) is (apart, clear) =
     let x : Range = range_of_leaf l in
     elim (nat_lt (range_key r) (range_key x)) as (λ b. nat_lt (range_key r) (range_key x) ≡ b
-        → spread (cond b (cond (touches r x) (glue (grown r x) rs) (r ∷ join x rs)) (glue x (r ∷ rs))) ≡ with_leaf l (spread (r ∷ rs))) [
+    → spread (cond b (cond (touches r x) (glue (grown r x) rs) (r ∷ join x rs)) (glue x (r ∷ rs))) ≡ with_leaf l (spread (r ∷ rs))) [
       | true ↦ λ lt.
           let less : range_key r < range_key x = grind (arith, nat_tests) in
           let ends : end_key r ≤ range_key x = clear-ends x r is less apart in

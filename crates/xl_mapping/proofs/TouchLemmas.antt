@@ -1,11 +1,11 @@
 -- For the table of ranges: what ranges that touch share, and the leaves of both.
-use Rattle.std.proofs.Common.{◌≡◌, refl, sym, ap, ◌∙◌, subst, ℕ, zero, suc, ◌+◌, ◌-◌, ◌*◌, ◌/◌, ◌^◌, ◌<◌, ◌≤◌, Bool, true, false, List, [], ◌∷◌, ◌==◌, ◌&&◌, arith}
+use Rattle.std.proofs.Common.{◌≡◌, refl, sym, ap, ◌∙◌, subst, ℕ, zero, suc, ◌+◌, ◌*◌, ◌<◌, true, false, List, [], ◌∷◌, arith}
 use Rattle.std.proofs.lemmas.Bool.Decides.{nat_tests}
 use Rattle.xl_model.specs.declared.address.Order.{Order}
 use Rattle.xl_model.specs.declared.leaf.Leaf.{Leaf}
 use Rattle.xl_model.specs.declared.leaf.Range.{Range}
-use Rattle.xl_model.specs.Addresses.{pages_of, same_order}
-use Rattle.xl_model.specs.Ranges.{same_perm, range_key, end_key}
+use Rattle.xl_model.specs.Addresses.{pages_of}
+use Rattle.xl_model.specs.Ranges.{range_key, end_key}
 use Rattle.xl_mapping.specs.HeldRanges.{next_leaf, run_on, first_leaf, leaves_in, begins, touches, Stops, IsRange, grown}
 use Rattle.xl_mapping.proofs.OrderLemmas.{pages-some, orders-same}
 use Rattle.xl_mapping.proofs.PermLemmas.{perms-same}
