@@ -51,3 +51,6 @@ pub mod LeafInLemmas
 pub mod PieceLemmas
 pub mod LeftLemmas
 pub mod CutLemmas
+pub mod PageRangeLemmas
+pub mod MeetRangeLemmas
+pub mod CutCountLemmas

@@ -1,11 +1,12 @@
 -- For the table of ranges: the maximal ranges that it holds, the leaves that they stand for, a range put
 -- among them, and a leaf cut out of one.
-use Rattle.std.specs.Prelude.{ℕ, zero, suc, ◌+◌, ◌-◌, ◌*◌, ◌/◌, ◌^◌, ◌<◌, ◌≤◌, ◌≡◌, ◌⊎◌, ◌==◌, Bool, false, ◌&&◌, nat_lt, if◌then◌else◌, List, [], ◌∷◌}
+use Rattle.std.specs.Prelude.{ℕ, zero, suc, ◌+◌, ◌-◌, ◌*◌, ◌/◌, ◌^◌, ◌<◌, ◌≤◌, ◌≡◌, ◌⊎◌, ◌==◌, Bool, false, ◌&&◌, nat_lt, if◌then◌else◌, List, [], ◌∷◌, Option, None, Some}
 use Rattle.xl_model.specs.declared.leaf.Leaf.{Leaf}
 use Rattle.xl_model.specs.declared.leaf.Range.{Range}
 use Rattle.xl_model.specs.declared.address.Order.{Order}
 use Rattle.xl_model.specs.Addresses.{pages_of, same_order}
 use Rattle.xl_model.specs.Ranges.{same_perm, range_of_leaf, range_key, end_key}
+use Rattle.std.proofs.Common.{Option}
 
 -- The leaf behind one of its kind, next in pages and frames.
 abbrev pub next_leaf : Leaf → Leaf
@@ -113,6 +114,11 @@ behind_on (suc n) x rest = x ∷ rest
 abbrev pub pieces : ℕ → Order → Range → List Range → List Range
 pieces first o r rest = before_on (pages_before first r) r (behind_on (pages_behind first o r) (part_behind first o r) rest)
 
+-- One range where it has pages, none where it has none.
+abbrev pub some_if : ℕ → ℕ
+some_if zero = 0
+some_if (suc n) = 1
+
 -- A leaf stands in a range, so many leaves from its beginning and so many from its end.
 pub record IsLeafIn (space first : ℕ) (o : Order) (r : Range) : Type 0 where
   pub before : ℕ
@@ -126,3 +132,26 @@ pub record IsLeafIn (space first : ℕ) (o : Order) (r : Range) : Type 0 where
 unfoldable pub cut : ℕ → Order → Range → List Range → List Range
 cut first o r [] = []
 cut first o r (q ∷ qs) = if range_key q == range_key r then pieces first o r qs else (q ∷ cut first o r qs)
+
+-- The pages of whole leaves of a range before that of a page.
+abbrev pub skipped : ℕ → Range → ℕ
+skipped page r = (page - r.start) / pages_of r.order * pages_of r.order
+
+-- The leaf of a range that covers a page.
+abbrev pub leaf_in : ℕ → Range → Leaf
+leaf_in page r = record {
+  space = r.space;
+  first = r.start + skipped page r;
+  order = r.order;
+  frame = r.frame + skipped page r;
+  perm = r.perm;
+}
+
+-- The leaf that covers a page, by the range that holds the page.
+abbrev pub leaf_by : ℕ → Option Range → Option Leaf
+leaf_by page None = None
+leaf_by page (Some r) = Some (leaf_in page r)
+
+-- A range meets the pages of a space from one on to before another.
+unfoldable pub meets_range : ℕ → ℕ → ℕ → Range → Bool
+meets_range space f e r = (r.space == space) && (nat_lt r.start e && nat_lt f (r.start + r.pages))
