@@ -25,7 +25,7 @@ use Rattle.xl_model.specs.Placing.{Placing, Placed, AtCap}
 use Rattle.xl_model.specs.Shapes.{Shape, Radix, Chained, Cuckoo, Runs, CuckooRules, CuckooWays, ways_of, with_ways, leaf_entry, brought, placed_leaf, ways_placed, is_placed, ways_brought, ways_taken, widened, narrowed, shape_after, opening_ways, opening_shape}
 use Rattle.xl_model.specs.Structures.{finds_place}
 use Rattle.xl_mapping.specs.Members.{In}
-use Rattle.xl_mapping.specs.Mappings.{IsLeafOf, IsMapping, IsNewPlace, IsSound}
+use Rattle.xl_mapping.specs.Mappings.{IsMapping, IsNewPlace, IsSound}
 use Rattle.xl_mapping.specs.Sections.{tally, entries_in}
 use Rattle.xl_mapping.proofs.MemberLemmas.{In-any, any-In}
 use Rattle.xl_mapping.proofs.InsertionLemmas.{same-place, without-In, without-other}
