@@ -25,14 +25,14 @@ use Rattle.xl_model.specs.Placing.{Placing, Placed, AtCap}
 use Rattle.xl_model.specs.Shapes.{Shape, Radix, Chained, Cuckoo, Runs, CuckooRules, CuckooWays, ways_of, with_ways, leaf_entry, brought, placed_leaf, ways_placed, is_placed, ways_brought, ways_taken, widened, narrowed, shape_after, opening_ways, opening_shape}
 use Rattle.xl_model.specs.Structures.{finds_place}
 use Rattle.xl_mapping.specs.Members.{In}
-use Rattle.xl_mapping.specs.Mappings.{IsLeafOf, IsMapping, IsNewPlace, IsSound}
+use Rattle.xl_mapping.specs.Mappings.{IsMapping, IsNewPlace, IsSound}
 use Rattle.xl_mapping.specs.Sections.{tally, entries_in}
 use Rattle.xl_mapping.proofs.MemberLemmas.{In-any, any-In}
 use Rattle.xl_mapping.proofs.InsertionLemmas.{same-place, without-In, without-other}
 use Rattle.xl_mapping.proofs.OrderLemmas.{orders-same, order-same}
 use Rattle.xl_mapping.proofs.MappingLemmas.{named-In, named-is}
 use Rattle.xl_mapping.proofs.PlaceLemmas.{named-space, named-order}
-use Rattle.xl_mapping.proofs.ChangeLemmas.{other-key, first-small, place-small}
+use Rattle.xl_mapping.proofs.ChangeLemmas.{other-key, first-small, place-small, first-low}
 use Rattle.xl_mapping.proofs.TallyLemmas.{tally-any, tally-each, tally-only, tally-most}
 use Rattle.xl_mapping.proofs.LeafTallyLemmas.{sorted-once, tally-with, tally-less}
 use Rattle.xl_mapping.proofs.WayTallyLemmas.{ways-without, ways-reworded}
@@ -138,20 +138,6 @@ worded-by ws old word o p =
     ] refl
 
 -- leaves of one order and key are one
-small-first : (row : Row) (x : Leaf) → IsLeafOf row x → x.first < 2 ^ 45
-small-first row x v = go row.mode x.order v.pages_in
-  where
-    go : (m : Mode) (o : Order) → x.first + pages_of o ≤ 2 ^ (9 * levels_of m) → x.first < 2 ^ 45
-    go mode.Sv39 order.K4 h = omega arith
-    go mode.Sv39 order.M2 h = omega arith
-    go mode.Sv39 order.G1 h = omega arith
-    go mode.Sv48 order.K4 h = omega arith
-    go mode.Sv48 order.M2 h = omega arith
-    go mode.Sv48 order.G1 h = omega arith
-    go mode.Sv57 order.K4 h = omega arith
-    go mode.Sv57 order.M2 h = omega arith
-    go mode.Sv57 order.G1 h = omega arith
-
 key-place : (o : Order) (s t f g d e : ℕ) → f < 2 ^ 45 → g < 2 ^ 45 → f ≡ d * pages_of o → g ≡ e * pages_of o
     → s * 2 ^ 45 + f / pages_of o / 1 ≡ t * 2 ^ 45 + g / pages_of o / 1 → (s ≡ t) × (f ≡ g)
 key-place order.K4 s t f g d e a b c h k = (omega arith, omega arith)
@@ -171,7 +157,7 @@ keys-apart x y a b c d same k =
 one-key : (row : Row) (leaves : List Leaf) (x y : Leaf) → IsMapping row leaves → In x leaves → In y leaves → y.order ≡ x.order → (leaf_entry y).key ≡ (leaf_entry x).key → y ≡ x
 one-key row leaves x y m i j same k =
     same-place y x leaves m.sorted j i
-    (keys-apart x y (small-first row x (m.valid x i)) (small-first row y (m.valid y j)) (m.valid x i).pages_aligned (m.valid y j).pages_aligned same k)
+    (keys-apart x y (first-low row x (m.valid x i)) (first-low row y (m.valid y j)) (m.valid x i).pages_aligned (m.valid y j).pages_aligned same k)
 
 -- the leaves whose entry has an old leaf's key
 split-by : (o : Order) (key : ℕ) (q : Entry → Bool) (z : Leaf) → leaf_by o (λ e. has_key key e && q e) z ≡ true → (z.order ≡ o) × ((leaf_entry z).key ≡ key)
@@ -308,7 +294,7 @@ moved-counted row rules ws old new leaves m i apart small aligned placed c = rec
     not-key =
         elim (same_order new.order old.order) as (λ b. same_order new.order old.order ≡ b → (b && ((leaf_entry new).key == (leaf_entry old).key)) ≡ false) [
           | true ↦ λ t. elim ((leaf_entry new).key == (leaf_entry old).key) as (λ b. ((leaf_entry new).key == (leaf_entry old).key) ≡ b → b ≡ false) [
-            | true ↦ λ k. absurd (apart old i (sym (keys-apart old new (small-first row old (m.valid old i)) small (m.valid old i).pages_aligned aligned (orders-same new.order old.order t) (grind (arith, nat_tests)))))
+            | true ↦ λ k. absurd (apart old i (sym (keys-apart old new (first-low row old (m.valid old i)) small (m.valid old i).pages_aligned aligned (orders-same new.order old.order t) (grind (arith, nat_tests)))))
             | false ↦ λ k. refl
           ] refl
           | false ↦ λ t. refl

@@ -19,34 +19,26 @@ use Rattle.xl_mapping.proofs.MappingLemmas.{named-In, named-is}
 use Rattle.xl_mapping.proofs.PlaceLemmas.{named-space}
 use Rattle.xl_mapping.proofs.OrderLemmas.{pages-some}
 
--- pages of a valid leaf are below 2^52
+-- a page of a mode is below 2^45
+pub page-low : (m : Mode) (o : Order) (page : ℕ) → page + pages_of o ≤ 2 ^ (9 * levels_of m) → page < 2 ^ 45
+page-low mode.Sv39 order.K4 page h = omega arith
+page-low mode.Sv39 order.M2 page h = omega arith
+page-low mode.Sv39 order.G1 page h = omega arith
+page-low mode.Sv48 order.K4 page h = omega arith
+page-low mode.Sv48 order.M2 page h = omega arith
+page-low mode.Sv48 order.G1 page h = omega arith
+page-low mode.Sv57 order.K4 page h = omega arith
+page-low mode.Sv57 order.M2 page h = omega arith
+page-low mode.Sv57 order.G1 page h = omega arith
+
+pub first-low : (row : Row) (x : Leaf) → IsLeafOf row x → x.first < 2 ^ 45
+first-low row x v = page-low row.mode x.order x.first v.pages_in
+
 pub first-small : (row : Row) (x : Leaf) → IsLeafOf row x → x.first < 2 ^ 52
-first-small row x v = go row.mode x.order v.pages_in
-  where
-    go : (m : Mode) (o : Order) → x.first + pages_of o ≤ 2 ^ (9 * levels_of m) → x.first < 2 ^ 52
-    go mode.Sv39 order.K4 h = omega arith
-    go mode.Sv39 order.M2 h = omega arith
-    go mode.Sv39 order.G1 h = omega arith
-    go mode.Sv48 order.K4 h = omega arith
-    go mode.Sv48 order.M2 h = omega arith
-    go mode.Sv48 order.G1 h = omega arith
-    go mode.Sv57 order.K4 h = omega arith
-    go mode.Sv57 order.M2 h = omega arith
-    go mode.Sv57 order.G1 h = omega arith
+first-small row x v = let a : x.first < 2 ^ 45 = first-low row x v in omega arith
 
 pub place-small : (row : Row) (leaves : List Leaf) (space to : ℕ) (o : Order) → IsNewPlace row leaves space to o → to < 2 ^ 52
-place-small row leaves space to o v = go row.mode o v.pages_in
-  where
-    go : (m : Mode) (q : Order) → to + pages_of q ≤ 2 ^ (9 * levels_of m) → to < 2 ^ 52
-    go mode.Sv39 order.K4 h = omega arith
-    go mode.Sv39 order.M2 h = omega arith
-    go mode.Sv39 order.G1 h = omega arith
-    go mode.Sv48 order.K4 h = omega arith
-    go mode.Sv48 order.M2 h = omega arith
-    go mode.Sv48 order.G1 h = omega arith
-    go mode.Sv57 order.K4 h = omega arith
-    go mode.Sv57 order.M2 h = omega arith
-    go mode.Sv57 order.G1 h = omega arith
+place-small row leaves space to o v = let a : to < 2 ^ 45 = page-low row.mode o to v.pages_in in omega arith
 
 -- a leaf at the first page of a block meets it
 meets-at : (space first : ℕ) (o : Order) (x : Leaf) → x.first < 2 ^ 52 → first < 2 ^ 52 → leaf_key x ≡ space * 2 ^ 52 + first → meets_block space first o x ≡ true

@@ -1,17 +1,19 @@
 -- What a plain table keeps, and what its searches and walks load.
 use Rattle.std.specs.Prelude.{ℕ, ◌+◌, ◌^◌, ◌<◌, ◌≤◌, List, map, Option}
+use Rattle.std.specs.declared.vec.Vec.{Vec}
+use Rattle.std.specs.Vec.{vec_items, vec_len, vec_capacity}
 use Rattle.xl_model.specs.declared.leaf.Leaf.{Leaf}
 use Rattle.xl_model.specs.Chains.{leaf_tag, bucket_of, chain_of, examined}
 use Rattle.xl_model.specs.Walks.{chains_reads, orders_tried}
 use Rattle.xl_mapping.specs.Kept.{IsKept}
 
 -- The leaves are kept ones, no more than the entries, and there is room for as many as the entries.
-pub record IsPlain (items : List Leaf) (buckets entries len capacity : ℕ) : Type 0 where
-  pub kept : IsKept items
+pub record IsPlain {Z : Type 0} (leaves : Vec Leaf Z) (buckets entries : ℕ) : Type 0 where
+  pub kept : IsKept (vec_items leaves)
   pub some_buckets : 0 < buckets
   pub few : entries ≤ 2 ^ 20
-  pub within : len ≤ entries
-  pub room : entries ≤ capacity
+  pub within : vec_len leaves ≤ entries
+  pub room : entries ≤ vec_capacity leaves
 
 -- The tags of leaves, in their order.
 abbrev pub tags_of : List Leaf → List ℕ

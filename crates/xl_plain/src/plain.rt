@@ -26,13 +26,12 @@ impl Model for PlainTable {
 
     ghost Value = { TableState };
 
-    ghost use Rattle.std.specs.Vec.{vec_len, vec_capacity};
     ghost use Rattle.xl_mapping.specs.Kept.{table_of};
     ghost use Rattle.xl_plain.specs.Plain.{IsPlain};
 
     ghost view = { λ p. table_of p.buckets p.entries p.loads p.leaves.items };
 
-    ghost invariant = { λ p. IsPlain p.leaves.items p.buckets p.entries (vec_len p.leaves) (vec_capacity p.leaves) };
+    ghost invariant = { λ p. IsPlain p.leaves p.buckets p.entries };
 }
 
 impl PlainTable {
