@@ -1,0 +1,3 @@
+mod ToldLemmas
+mod PieceLemmas
+mod RecordLemmas

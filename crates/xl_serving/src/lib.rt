@@ -1,0 +1,9 @@
+//! A script that is served over a trace: the trace that is read while it is replayed, the order in
+//! which commands and accesses are served, and how a run ends. The rows are whatever is served.
+#![tactic(auto)]
+
+mod tape;
+mod trace;
+
+pub use tape::Tape;
+pub use trace::{Numbered, Trace, TraceStop};
