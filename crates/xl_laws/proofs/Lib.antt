@@ -7,3 +7,5 @@ mod ShapeLemmas
 mod CapLemmas
 mod FreshLemmas
 mod SentenceLemmas
+mod SceneLawLemmas
+mod LimitLawLemmas

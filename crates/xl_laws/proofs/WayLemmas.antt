@@ -9,11 +9,12 @@ use Rattle.xl_model.specs.declared.way.Moves.{Moves}
 use Rattle.xl_model.specs.declared.way.WayRegs.{WayRegs}
 use Rattle.xl_model.specs.Hashes.{way_hash}
 use Rattle.xl_model.specs.Ways.{WayShape, slot_at, slot, occupant, with_entry, without_occupant, swapped, with_word, reworded, without_entry, slots_left, begun_regs, regs_after, advanced, begun, opening_way}
-use Rattle.xl_model.specs.Placing.{one_if, way_at, put_in, next_way, start_way, Attempt, Stands, Fails, Displaced, by_occupant, attempt, to_grow, Candidate, growing_now, forced, forced_moves, Placing, Placed, AtCap, after_attempt, with_growth, growths_left, placing, place, no_moves, settled_way, begins, begun_if_full, settled, after_placing, insertion}
+use Rattle.xl_model.specs.Base.{one_if}
+use Rattle.xl_model.specs.Placing.{way_at, put_in, next_way, start_way, Attempt, Stands, Fails, Displaced, by_occupant, attempt, to_grow, Candidate, growing_now, forced, forced_moves, Placing, Placed, AtCap, after_attempt, with_growth, growths_left, placing, place, no_moves, settled_way, begins, begun_if_full, settled, after_placing, insertion}
 use Rattle.xl_mapping.proofs.MemberLemmas.{map-In, find-passes}
-use Rattle.xl_laws.specs.Cuckoo.{how_many, stands_at, SlotsApart, AllApart, ARefusalKeepsEveryWord, MigratingMovesNoEntry}
-use Rattle.xl_mapping.specs.Sections.{entries_of}
-use Rattle.xl_laws.proofs.SlotLemmas.{before_slot, slot-back, begun-slot, how-many-le, how-many-same, how-many-with, how-many-without, how-many-out, how-many-none, how-many-reworded}
+use Rattle.xl_laws.specs.Cuckoo.{stands_at, SlotsApart, AllApart, ARefusalKeepsEveryWord, MigratingMovesNoEntry}
+use Rattle.xl_mapping.specs.Sections.{entries_of, tally}
+use Rattle.xl_laws.proofs.SlotLemmas.{before_slot, slot-back, begun-slot, tally-le, tally-same, tally-with_entry, tally-without_key, tally-out, tally-none, tally-reworded}
 
 -- keys of one slot
 same-slot : (r : WayRegs) (number : ℕ) (x y : Entry) → x.key ≡ y.key → slot r number x.key ≡ slot r number y.key
@@ -25,58 +26,58 @@ same-test r number at x y e = let k : slot r number x.key ≡ slot r number y.ke
 -- what is left of a list whose occupant of the new key's slot is out
 left-at : (r : WayRegs) (number : ℕ) (x : Entry) (xs : List Entry) (o : Option Entry)
     → find (λ (e : Entry). slot r number e.key == slot r number x.key) xs ≡ o
-    → how_many (λ (e : Entry). slot r number e.key == slot r number x.key) xs ≤ 1
-    → how_many (λ (e : Entry). slot r number e.key == slot r number x.key) (without_occupant o xs) ≡ 0
-left-at r number x xs None found few = how-many-none (λ (e : Entry). slot r number e.key == slot r number x.key) xs found
+    → tally (λ (e : Entry). slot r number e.key == slot r number x.key) xs ≤ 1
+    → tally (λ (e : Entry). slot r number e.key == slot r number x.key) (without_occupant o xs) ≡ 0
+left-at r number x xs None found few = tally-none (λ (e : Entry). slot r number e.key == slot r number x.key) xs found
 left-at r number x xs (Some e) found few =
-    let out = how-many-out (λ (e : Entry). slot r number e.key == slot r number x.key) e xs found
+    let out = tally-out (λ (e : Entry). slot r number e.key == slot r number x.key) e xs found
     (λ y k. let a : slot r number y.key ≡ slot r number e.key = same-slot r number y e k in
     let b : (slot r number e.key == slot r number x.key) ≡ true = find-passes (λ (e : Entry). slot r number e.key == slot r number x.key) e xs found in
     rw a b) in
     omega arith
 
-out-le : (p : Entry → Bool) (o : Option Entry) (xs : List Entry) → how_many p (without_occupant o xs) ≤ how_many p xs
+out-le : (p : Entry → Bool) (o : Option Entry) (xs : List Entry) → tally p (without_occupant o xs) ≤ tally p xs
 out-le p None xs = omega arith
-out-le p (Some e) xs = how-many-without p e.key xs
+out-le p (Some e) xs = tally-without_key p e.key xs
 
 pub swapped-apart : (w : WayShape) (x : Entry) → SlotsApart w → SlotsApart (swapped w x)
 unfolding swapped occupant
 swapped-apart w x h at =
     let out : List Entry = without_occupant (find (λ (e : Entry). slot w.regs w.number e.key == slot w.regs w.number x.key) w.entries) w.entries in
-    let sum : how_many (stands_at w.regs w.number at) (with_entry x out) ≡ one_if (stands_at w.regs w.number at x) + how_many (stands_at w.regs w.number at) out =
-    how-many-with (stands_at w.regs w.number at) x out in
-    rw sum (elim (slot w.regs w.number x.key == at) as (λ b. (slot w.regs w.number x.key == at) ≡ b → one_if b + how_many (stands_at w.regs w.number at) out ≤ 1) [
+    let sum : tally (stands_at w.regs w.number at) (with_entry x out) ≡ one_if (stands_at w.regs w.number at x) + tally (stands_at w.regs w.number at) out =
+    tally-with_entry (stands_at w.regs w.number at) x out in
+    rw sum (elim (slot w.regs w.number x.key == at) as (λ b. (slot w.regs w.number x.key == at) ≡ b → one_if b + tally (stands_at w.regs w.number at) out ≤ 1) [
       | true ↦ λ t.
           let e : slot w.regs w.number x.key ≡ at = grind (arith, nat_tests) in
-          let P : ℕ → Type 0 = λ i. how_many (stands_at w.regs w.number i) out ≡ 0 in
-          let none : how_many (stands_at w.regs w.number at) out ≡ 0 =
+          let P : ℕ → Type 0 = λ i. tally (stands_at w.regs w.number i) out ≡ 0 in
+          let none : tally (stands_at w.regs w.number at) out ≡ 0 =
           subst P e (left-at w.regs w.number x w.entries (find (λ (e : Entry). slot w.regs w.number e.key == slot w.regs w.number x.key) w.entries) refl (h (slot w.regs w.number x.key))) in
           omega arith
       | false ↦ λ t.
-          let a : how_many (stands_at w.regs w.number at) out ≤ how_many (stands_at w.regs w.number at) w.entries = out-le (stands_at w.regs w.number at) _ w.entries in
-          let b : how_many (stands_at w.regs w.number at) w.entries ≤ 1 = h at in
+          let a : tally (stands_at w.regs w.number at) out ≤ tally (stands_at w.regs w.number at) w.entries = out-le (stands_at w.regs w.number at) _ w.entries in
+          let b : tally (stands_at w.regs w.number at) w.entries ≤ 1 = h at in
           omega arith
     ] refl)
 
 pub advanced-apart : (n : ℕ) (w : WayShape) → w.regs.growing ≡ true → SlotsApart w → SlotsApart (advanced n w)
 unfolding advanced slot
 advanced-apart n w growing h at =
-    let a : how_many (stands_at (regs_after n w.regs) w.number at) w.entries ≤ how_many (stands_at w.regs w.number (before_slot w.regs at)) w.entries =
-    how-many-le (stands_at (regs_after n w.regs) w.number at) (stands_at w.regs w.number (before_slot w.regs at)) w.entries
+    let a : tally (stands_at (regs_after n w.regs) w.number at) w.entries ≤ tally (stands_at w.regs w.number (before_slot w.regs at)) w.entries =
+    tally-le (stands_at (regs_after n w.regs) w.number at) (stands_at w.regs w.number (before_slot w.regs at)) w.entries
     (λ x t.
     let e : slot_at (regs_after n w.regs) (way_hash w.number x.key) ≡ at = grind (arith, nat_tests) in
     let f : slot_at w.regs (way_hash w.number x.key) ≡ before_slot w.regs at = slot-back w.regs n (way_hash w.number x.key) at growing e in
     rw f (eq-eqb (before_slot w.regs at) (before_slot w.regs at) refl)) in
-    let b : how_many (stands_at w.regs w.number (before_slot w.regs at)) w.entries ≤ 1 = h (before_slot w.regs at) in
+    let b : tally (stands_at w.regs w.number (before_slot w.regs at)) w.entries ≤ 1 = h (before_slot w.regs at) in
     omega arith
 
 pub begun-apart : (w : WayShape) → w.regs.growing ≡ false → SlotsApart w → SlotsApart (begun w)
 unfolding begun slot
 begun-apart w still h at =
-    let a : how_many (stands_at (begun_regs w.regs) w.number at) w.entries ≡ how_many (stands_at w.regs w.number at) w.entries =
-    how-many-same (stands_at (begun_regs w.regs) w.number at) (stands_at w.regs w.number at) w.entries
+    let a : tally (stands_at (begun_regs w.regs) w.number at) w.entries ≡ tally (stands_at w.regs w.number at) w.entries =
+    tally-same (stands_at (begun_regs w.regs) w.number at) (stands_at w.regs w.number at) w.entries
     (λ x. let e : slot_at (begun_regs w.regs) (way_hash w.number x.key) ≡ slot_at w.regs (way_hash w.number x.key) = begun-slot w.regs (way_hash w.number x.key) still in rw e refl) in
-    let b : how_many (stands_at w.regs w.number at) w.entries ≤ 1 = h at in
+    let b : tally (stands_at w.regs w.number at) w.entries ≤ 1 = h at in
     omega arith
 
 pub opening-apart : (s cap number : ℕ) → SlotsApart (opening_way s cap number)
@@ -86,16 +87,16 @@ opening-apart s cap number at = omega arith
 pub reworded-apart : (key word : ℕ) (w : WayShape) → SlotsApart w → SlotsApart (with_word key word w)
 unfolding with_word
 reworded-apart key word w h at =
-    let a : how_many (stands_at w.regs w.number at) (map (reworded key word) w.entries) ≡ how_many (stands_at w.regs w.number at) w.entries =
-    how-many-reworded (stands_at w.regs w.number at) key word w.entries (λ x y e. same-test w.regs w.number at x y e) in
-    let b : how_many (stands_at w.regs w.number at) w.entries ≤ 1 = h at in
+    let a : tally (stands_at w.regs w.number at) (map (reworded key word) w.entries) ≡ tally (stands_at w.regs w.number at) w.entries =
+    tally-reworded (stands_at w.regs w.number at) key word w.entries (λ x y e. same-test w.regs w.number at x y e) in
+    let b : tally (stands_at w.regs w.number at) w.entries ≤ 1 = h at in
     omega arith
 
 pub without-apart : (key : ℕ) (w : WayShape) → SlotsApart w → SlotsApart (without_entry key w)
 unfolding without_entry
 without-apart key w h at =
-    let a = how-many-without (stands_at w.regs w.number at) key w.entries in
-    let b : how_many (stands_at w.regs w.number at) w.entries ≤ 1 = h at in
+    let a = tally-without_key (stands_at w.regs w.number at) key w.entries in
+    let b : tally (stands_at w.regs w.number at) w.entries ≤ 1 = h at in
     omega arith
 
 -- the ways of a table

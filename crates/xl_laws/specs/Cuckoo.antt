@@ -4,28 +4,28 @@ use Rattle.xl_model.specs.declared.way.Entry.{Entry}
 use Rattle.xl_model.specs.declared.way.Moves.{Moves}
 use Rattle.xl_model.specs.declared.way.WayRegs.{WayRegs}
 use Rattle.xl_model.specs.Ways.{WayShape, slot, advanced}
-use Rattle.xl_model.specs.Placing.{one_if, AtCap, insertion}
+use Rattle.xl_model.specs.Base.{one_if}
+use Rattle.xl_model.specs.Placing.{AtCap, insertion}
 use Rattle.xl_model.specs.Shapes.{Shape, Radix, Chained, Cuckoo, Runs}
 use Rattle.xl_model.specs.Rows.{Row}
-use Rattle.xl_model.specs.Items.{Item, run}
+use Rattle.xl_model.specs.declared.script.Item.{Item}
+use Rattle.xl_model.specs.Items.{run}
 use Rattle.xl_mapping.specs.Members.{In}
-use Rattle.xl_mapping.specs.Sections.{entries_of}
+use Rattle.xl_mapping.specs.Sections.{entries_of, tally}
 
--- how many members pass a test
-abbrev pub how_many : {A : Type 0} → (A → Bool) → List A → ℕ
-how_many p [] = 0
-how_many p (x ∷ xs) = one_if (p x) + how_many p xs
-
+-- an entry stands in this slot of a way
 abbrev pub stands_at : WayRegs → ℕ → ℕ → Entry → Bool
 stands_at r number at e = slot r number e.key == at
 
 -- no slot of the way has two keys
 abbrev pub SlotsApart : WayShape → Type 0
-SlotsApart w = (at : ℕ) → how_many (stands_at w.regs w.number at) w.entries ≤ 1
+SlotsApart w = (at : ℕ) → tally (stands_at w.regs w.number at) w.entries ≤ 1
 
+-- no slot of any of the ways has two keys
 abbrev pub AllApart : List WayShape → Type 0
 AllApart ways = (w : WayShape) → In w ways → SlotsApart w
 
+-- in each way of a cuckoo table no slot has two keys
 abbrev pub ShapeApart : Shape → Type 0
 ShapeApart (Radix levels spaces nodes) = Unit {0}
 ShapeApart (Chained group buckets entries tags) = Unit {0}

@@ -3,3 +3,5 @@ pub mod Runs
 pub mod Cuckoo
 pub mod Fresh
 pub mod Sentences
+pub mod Scenes
+pub mod Limits

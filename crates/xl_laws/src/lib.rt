@@ -6,6 +6,8 @@ ghost use Rattle.xl_laws.specs.Fresh.{NothingIsStale};
 ghost use Rattle.xl_laws.specs.Refusals.{ARefusalLeavesNothing};
 ghost use Rattle.xl_laws.specs.Cuckoo.{KeysHaveTheirSlots, ARefusalKeepsEveryWord, MigratingMovesNoEntry};
 ghost use Rattle.xl_laws.specs.Sentences.{TheRangesAreMaximalRuns, ANodeTakesTheLowestNumber};
+ghost use Rattle.xl_laws.specs.Scenes.{ItemsMayBeServedInParts, TheToldTextOnlyGrows, WhatIsToldFirstStandsFirst, TellingChangesNoRow, EachRowRunsByItself, TheTextIsTheReport, AFaultEndsTheText, ItemsMayStandBeforeInParts};
+ghost use Rattle.xl_laws.specs.Limits.{EachCallKeepsTheLimits, TheLimitsStay};
 ghost use Rattle.xl_laws.specs.Runs.{TheLeavesAreAMapping, AReplyIsByTheMapping, TheLowestIsTheLeast};
 
 /// A command refused for another cause than the cap of the ways leaves nothing but its count, whatever
@@ -59,4 +61,54 @@ pub fn the_ranges_are_maximal_runs()
 /// A new node takes the lowest number that no node has.
 pub fn a_node_takes_the_lowest_number()
     ensures { ANodeTakesTheLowestNumber }
+{}
+
+/// Items may be served in two parts, one after the other.
+pub fn items_may_be_served_in_parts()
+    ensures { ItemsMayBeServedInParts }
+{}
+
+/// What was told stays told, and items put their text behind it.
+pub fn the_told_text_only_grows()
+    ensures { TheToldTextOnlyGrows }
+{}
+
+/// What some items tell is the beginning of what they tell with others behind them.
+pub fn what_is_told_first_stands_first()
+    ensures { WhatIsToldFirstStandsFirst }
+{}
+
+/// What is served does not depend on what is told.
+pub fn telling_changes_no_row()
+    ensures { TellingChangesNoRow }
+{}
+
+/// Rows that are served together come to what each comes to alone.
+pub fn each_row_runs_by_itself()
+    ensures { EachRowRunsByItself }
+{}
+
+/// Where no fault ends the input, the text of a run is the report.
+pub fn the_text_is_the_report()
+    ensures { TheTextIsTheReport }
+{}
+
+/// Where a fault ends the input, the text of a run is what was told before it.
+pub fn a_fault_ends_the_text()
+    ensures { AFaultEndsTheText }
+{}
+
+/// Items that stand before a course may be put there in two parts.
+pub fn items_may_stand_before_in_parts()
+    ensures { ItemsMayStandBeforeInParts }
+{}
+
+/// A table takes the same spaces and pages after each change, walk and fence.
+pub fn each_call_keeps_the_limits()
+    ensures { EachCallKeepsTheLimits }
+{}
+
+/// After every list of items a row's table takes the spaces and pages that it took when it was opened.
+pub fn the_limits_stay()
+    ensures { TheLimitsStay }
 {}
