@@ -1,3 +1,7 @@
 mod ToldLemmas
 mod PieceLemmas
 mod RecordLemmas
+mod ServedLemmas
+mod CourseLemmas
+mod ItemLemmas
+mod AreaLemmas

@@ -49,7 +49,7 @@ gives_short file r old new w g a m h =
 gives : (file : List ℕ) (r : Record) (old new : Progress) → IsWithin file old → Gives r old.reader new.reader → new.at ≡ old.at → new.number ≡ next_number old.number
     → ahead file old ≡ with_record (accesses_of old.number r) (ahead file new)
 gives file r old new w g a m = elim (cases_lt limit (length file))
-      [ inl h ↦ gives_long file r old new w g a m h | inr h ↦ gives_short file r old new w g a m h ]
+    [ inl h ↦ gives_long file r old new w g a m h | inr h ↦ gives_short file r old new w g a m h ]
 
 ended_is : (file : List ℕ) (p : Progress) → IsWithin file p → p.reader.finished ≡ true → left p.reader [] ≡ ([], None) → ahead file p ≡ at_end None
 ended_is file p w f none =
@@ -99,10 +99,11 @@ gave_found (Some file) r old mid found new s g a m e =
     let reader = ap (λ (p : Progress). p.reader) e in
     let at = ap (λ (p : Progress). p.at) e in
     let number = ap (λ (p : Progress). p.number) e in
-    let step : Gives (record_of r) mid.reader new.reader = rw reader g in
-    ( same_within file mid new s.within (at ∙ a) (ap (λ (p : Progress). p.reader.finished) e ∙ g.finished),
+    let step : Gives (record_of r) mid.reader new.reader = rw reader g in (
+      same_within file mid new s.within (at ∙ a) (ap (λ (p : Progress). p.reader.finished) e ∙ g.finished),
       sym s.same ∙ gives file (record_of r) mid new s.within step (at ∙ a) (number ∙ ap next_number m)
-        ∙ ap (λ (k : ℕ). with_record (accesses_of k (record_of r)) (ahead file new)) (sym m) )
+          ∙ ap (λ (k : ℕ). with_record (accesses_of k (record_of r)) (ahead file new)) (sym m),
+    )
 
 -- the trace has ended
 pub gave_none : (file : Option (List ℕ)) (old mid new : Progress) → Still file old mid → Ends mid.reader new.reader → new.at ≡ mid.at

@@ -1,12 +1,13 @@
 -- What serving leaves of the rows and of the sink that is told.
-use Rattle.std.specs.Prelude.{◌≡◌, ℕ, Bool, true, false, List, Option, None, Some, Result, Ok, Err, OnOk}
+use Rattle.std.specs.Prelude.{◌≡◌, ℕ, Bool, true, false, List, [], ◌∷◌, ◌++◌, Option, None, Some, Result, Ok, Err, OnOk}
 use Rattle.xl_model.specs.declared.fault.InputFault.{InputFault}
 use Rattle.xl_model.specs.declared.event.Event.{Event}
 use Rattle.xl_model.specs.declared.event.Event.TheVariants as event
 use Rattle.xl_model.specs.declared.script.Command.{Command}
 use Rattle.xl_model.specs.declared.script.Command.TheVariants as command
 use Rattle.xl_model.specs.declared.script.Item.{Item}
-use Rattle.xl_model.specs.Scenes.{Scene, lives_after, untold, told_by}
+use Rattle.xl_model.specs.declared.script.Area.{Area}
+use Rattle.xl_model.specs.Scenes.{Served, Scene, scenes_after, told_by}
 use Rattle.xl_model.specs.Courses.{Course, Trail, before, ended, block_address}
 use Rattle.xl_outside.specs.Folders.{ReadFate, Fine, ReadFailed}
 use Rattle.xl_outside.specs.Sinks.{SinkAfter}
@@ -16,14 +17,18 @@ use Rattle.xl_serving.specs.declared.trace.TraceStop.{TraceStop}
 use Rattle.xl_serving.specs.declared.trace.TraceStop.TheVariants as trace
 use Rattle.xl_serving.specs.Tapes.{fault_fate}
 
+-- These rows, where these areas were declared.
+abbrev pub scene_of : List Served → List Area → Scene
+scene_of rows areas = record { rows = rows; areas = areas }
+
 -- The scene is that after the items; where a put failed, nothing is said of it.
-abbrev pub SceneAfter : Bool → Bool → List Item → Scene → Scene → Type 0
-SceneAfter true answers items s t = t ≡ (lives_after answers items (untold s)).scene
-SceneAfter false answers items s t = Unit {0}
+abbrev pub SceneAfter : Bool → List Item → Scene → Scene → Type 0
+SceneAfter true items s t = t ≡ scenes_after items s
+SceneAfter false items s t = Unit {0}
 
 -- These items were served, and what they tell was written: whole, or up to a put that failed.
 pub record HasServed {K : Type 0} (written : K → Option (List ℕ)) (faults : K → ℕ) (roomy : K → ℕ → Type 0) (answers : Bool) (items : List Item) (p q : Scene) (k l : K) (whole : Bool) : Type 0 where
-  pub scene_is : SceneAfter whole answers items p q
+  pub scene_is : SceneAfter whole items p q
   pub writes : SinkAfter written faults roomy (told_by answers items p) k l whole
 
 -- Of this course some items were served and told, and that course is left.

@@ -2,8 +2,14 @@
 //! which commands and accesses are served, and how a run ends. The rows are whatever is served.
 #![tactic(auto)]
 
+mod areas;
+mod rows;
+mod serving;
 mod tape;
 mod trace;
 
+pub use areas::Areas;
+pub use rows::Rows;
+pub use serving::{ServeStop, serve};
 pub use tape::Tape;
 pub use trace::{Numbered, Trace, TraceStop};
