@@ -5,3 +5,4 @@ mod ServedLemmas
 mod CourseLemmas
 mod ItemLemmas
 mod AreaLemmas
+mod EndLemmas

@@ -15,7 +15,7 @@ use Rattle.xl_serving.specs.declared.serving.ServeStop.{ServeStop}
 use Rattle.xl_serving.specs.declared.serving.ServeStop.TheVariants as why
 use Rattle.xl_serving.specs.declared.trace.TraceStop.{TraceStop}
 use Rattle.xl_serving.specs.declared.trace.TraceStop.TheVariants as trace
-use Rattle.xl_serving.specs.Tapes.{fault_fate}
+use Rattle.xl_serving.specs.Tapes.{fault_fate, IsMet}
 
 -- These rows, where these areas were declared.
 abbrev pub scene_of : List Served → List Area → Scene
@@ -66,6 +66,12 @@ abbrev pub serve_stop_fate : ServeStop → ReadFate
 serve_stop_fate (why.Input fault) = fault_fate fault
 serve_stop_fate why.ReadFault = ReadFailed
 serve_stop_fate why.WriteFault = Fine
+
+-- Serving stops at a fault that is met in reading, or at a failed read or write.
+abbrev pub ServingIsMet : ServeStop → Type 0
+ServingIsMet (why.Input fault) = IsMet fault
+ServingIsMet why.ReadFault = Unit {0}
+ServingIsMet why.WriteFault = Unit {0}
 
 -- Whether no put failed in serving.
 abbrev pub is_written : {A : Type 0} → Result A ServeStop → Bool

@@ -116,6 +116,23 @@ abbrev pub trace_stop_fate : TraceStop → ReadFate
 trace_stop_fate (why.Input fault) = fault_fate fault
 trace_stop_fate why.ReadFault = ReadFailed
 
+-- A fault that is met in the reading of a file; a fault of the words is none.
+abbrev pub IsMet : InputFault → Type 0
+IsMet fault.Words = ⊥
+IsMet fault.ConfigTooLong = Unit {0}
+IsMet fault.ConfigNotToml = Unit {0}
+IsMet (fault.ConfigKey row key rule) = Unit {0}
+IsMet fault.ScriptTooLong = Unit {0}
+IsMet (fault.ScriptLine line reason) = Unit {0}
+IsMet fault.TraceTooLong = Unit {0}
+IsMet (fault.TraceLine line reason) = Unit {0}
+IsMet fault.NoFile = Unit {0}
+
+-- The trace stops at a fault that is met in reading, or at a failed read.
+abbrev pub TraceIsMet : TraceStop → Type 0
+TraceIsMet (why.Input fault) = IsMet fault
+TraceIsMet why.ReadFault = Unit {0}
+
 -- How much is still to be done before the reader has all.
 abbrev pub to_come_of : Bool → ℕ → ℕ
 to_come_of true at = 0

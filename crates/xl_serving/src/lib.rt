@@ -4,12 +4,18 @@
 
 mod areas;
 mod rows;
+mod running;
 mod serving;
+mod status;
+mod stop;
 mod tape;
 mod trace;
 
 pub use areas::Areas;
 pub use rows::Rows;
+pub use running::report;
 pub use serving::{ServeStop, serve};
+pub use status::Status;
+pub use stop::Stop;
 pub use tape::Tape;
 pub use trace::{Numbered, Trace, TraceStop};

@@ -1,6 +1,6 @@
 //! The commands of a script, served over a trace.
 
-ghost use Rattle.std.specs.Prelude.{◌≡◌, ◌+◌, ◌*◌, ◌^◌, ◌≤◌, ◌<◌, IfSome, length, is_ok, false, None, List, []};
+ghost use Rattle.std.specs.Prelude.{◌≡◌, ◌+◌, ◌*◌, ◌^◌, ◌≤◌, ◌<◌, IfErr, IfSome, length, is_ok, false, None, List, []};
 ghost use Rattle.xl_model.specs.declared.script.Area.{Area};
 ghost use Rattle.xl_model.specs.Courses.{accesses_items, events_from, ran, ran_all, course_by, course, ended};
 ghost use Rattle.xl_outside.specs.Folders.{file_of, FolderAfter, fate_by};
@@ -8,7 +8,7 @@ ghost use Rattle.xl_outside.specs.Sinks.{WriteCounts};
 ghost use Rattle.xl_script.specs.Placing.{IsPlaced, is_area};
 ghost use Rattle.xl_lackey.specs.Accesses.{accesses};
 ghost use Rattle.xl_serving.specs.declared.serving.ServeStop.TheVariants as why;
-ghost use Rattle.xl_serving.specs.Serving.{HasServed, Serves, ServesPart, scene_of, count_of, event_at, of_trace_stop, serve_stop_fate, is_written};
+ghost use Rattle.xl_serving.specs.Serving.{HasServed, Serves, ServesPart, scene_of, count_of, event_at, of_trace_stop, serve_stop_fate, is_written, ServingIsMet};
 
 use crate::areas::Areas;
 use crate::rows::Rows;
@@ -71,6 +71,7 @@ pub fn serve<R: Rows, T: Trace, F: Folder, K: Sink>(
     ensures leaves { FolderAfter F.files F.faults F.absences F.steady folder.old folder.new
         (fate_by serve_stop_fate result) }
     ensures counts { WriteCounts (is_written result) (K.put_faults out.old) (K.put_faults out.new) }
+    ensures met { IfErr result ServingIsMet }
 {
     for i in 0..script.len() {
         let command = script.command(i);
@@ -106,6 +107,7 @@ fn serve_command<R: Rows, T: Trace, F: Folder, K: Sink>(
     ensures leaves { FolderAfter F.files F.faults F.absences F.steady folder.old folder.new
         (fate_by serve_stop_fate result) }
     ensures counts { WriteCounts (is_written result) (K.put_faults out.old) (K.put_faults out.new) }
+    ensures met { IfErr result ServingIsMet }
 {
     match command {
         Command::Run { n } => serve_run(rows, areas, answers, out, trace, folder, name, n),
@@ -137,6 +139,7 @@ fn serve_rest<R: Rows, T: Trace, F: Folder, K: Sink>(
     ensures leaves { FolderAfter F.files F.faults F.absences F.steady folder.old folder.new
         (fate_by serve_stop_fate result) }
     ensures counts { WriteCounts (is_written result) (K.put_faults out.old) (K.put_faults out.new) }
+    ensures met { IfErr result ServingIsMet }
 {
     'records: loop {
         let Some(found) = trace.next(folder, name)? else {
@@ -167,6 +170,7 @@ fn serve_run<R: Rows, T: Trace, F: Folder, K: Sink>(
     ensures leaves { FolderAfter F.files F.faults F.absences F.steady folder.old folder.new
         (fate_by serve_stop_fate result) }
     ensures counts { WriteCounts (is_written result) (K.put_faults out.old) (K.put_faults out.new) }
+    ensures met { IfErr result ServingIsMet }
 {
     for i in 0..n {
         let Some(found) = trace.next(folder, name)? else {

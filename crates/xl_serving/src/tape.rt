@@ -1,11 +1,11 @@
 //! A trace that is read in pieces while it is replayed.
 
-ghost use Rattle.std.specs.Prelude.{◌≡◌, ℕ, ◌+◌, ◌-◌, ◌^◌, ◌<◌, ◌≤◌, ◌⊎◌, ◌++◌, [], List, true, false, min, length, take, drop, nat_lt, Option, Some, None, IfOk, OnOk, IfSome, IsSome};
+ghost use Rattle.std.specs.Prelude.{◌≡◌, ℕ, ◌+◌, ◌-◌, ◌^◌, ◌<◌, ◌≤◌, ◌⊎◌, ◌++◌, [], List, true, false, min, length, take, drop, nat_lt, Option, Some, None, IfOk, IfErr, OnOk, IfSome, IsSome};
 ghost use Rattle.xl_outside.specs.Folders.{file_of, FolderAfter, fate_by, unread_fate};
 ghost use Rattle.xl_lackey.specs.Stream.{due};
 ghost use Rattle.xl_lackey.specs.Answers.{Answers};
 ghost use Rattle.xl_serving.specs.Traces.{Progress, at_first, next_number, trail_of, left_of};
-ghost use Rattle.xl_serving.specs.Tapes.{IsFedFrom, FillAnswers, TraceAnswers, FeedAnswers, MoreAnswers, stop_of, trace_stop_fate, to_come, size_of};
+ghost use Rattle.xl_serving.specs.Tapes.{IsFedFrom, TraceIsMet, FillAnswers, TraceAnswers, FeedAnswers, MoreAnswers, stop_of, trace_stop_fate, to_come, size_of};
 
 use crate::trace::{Numbered, Trace, TraceStop};
 use std::alloc::Global;
@@ -122,6 +122,7 @@ impl Tape {
             → FillAnswers (file_of fs name.now) result self.old self.new) }
         ensures leaves { FolderAfter F.files F.faults F.absences F.steady folder.old folder.new
             (fate_by trace_stop_fate result) }
+        ensures met { IfErr result TraceIsMet }
         ensures less { OnOk result (to_come self.new < to_come self.old) }
         ensures no_more { OnOk result (size_of self.new ≤ size_of self.old) }
     {
@@ -141,6 +142,7 @@ impl Tape {
             → FillAnswers (file_of fs name.now) result self.old self.new) }
         ensures leaves { FolderAfter F.files F.faults F.absences F.steady folder.old folder.new
             (fate_by trace_stop_fate result) }
+        ensures met { IfErr result TraceIsMet }
         ensures less { OnOk result (to_come self.new < to_come self.old) }
         ensures no_more { OnOk result (size_of self.new ≤ size_of self.old) }
     {
@@ -161,6 +163,7 @@ impl Tape {
             → FillAnswers (file_of fs name.now) result self.old self.new) }
         ensures leaves { FolderAfter F.files F.faults F.absences F.steady folder.old folder.new
             (fate_by trace_stop_fate result) }
+        ensures met { IfErr result TraceIsMet }
         ensures less { OnOk result (to_come self.new < to_come self.old) }
         ensures no_more { OnOk result (size_of self.new ≤ size_of self.old) }
     {

@@ -1,9 +1,9 @@
 //! Where the records of a run come from.
 
-ghost use Rattle.std.specs.Prelude.{◌≡◌, ℕ, ◌<◌, List, Option, IfOk, IfSome, IsSome};
+ghost use Rattle.std.specs.Prelude.{◌≡◌, ℕ, ◌<◌, List, Option, IfOk, IfErr, IfSome, IsSome};
 ghost use Rattle.xl_model.specs.Courses.{Trail};
 ghost use Rattle.xl_outside.specs.Folders.{file_of, FolderAfter, fate_by};
-ghost use Rattle.xl_serving.specs.Tapes.{TraceAnswers, trace_stop_fate};
+ghost use Rattle.xl_serving.specs.Tapes.{TraceAnswers, TraceIsMet, trace_stop_fate};
 
 use std::alloc::Global;
 use thiserror::Error;
@@ -54,5 +54,6 @@ pub trait Trace: Sized {
             (left self.new (file_of fs name.now)) result) }
         ensures leaves { FolderAfter F.files F.faults F.absences F.steady folder.old folder.new
             (fate_by trace_stop_fate result) }
+        ensures met { IfErr result TraceIsMet }
         ensures shrinks { IfOk result (λ r. IsSome r → size self.new < size self.old) };
 }
