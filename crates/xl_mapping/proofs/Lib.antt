@@ -24,6 +24,9 @@ pub mod TagLemmas
 pub mod ReadLemmas
 pub mod TallyLemmas
 pub mod SectionLemmas
+pub mod LeafTallyLemmas
+pub mod WayTallyLemmas
+pub mod PlacingLemmas
 pub mod BlockLemmas
 pub mod EntryLemmas
 pub mod SearchLemmas
