@@ -1,6 +1,0 @@
-//! Runs whose answers were worked out by hand.
-
-mod faults;
-mod given;
-mod rows;
-mod stops;
