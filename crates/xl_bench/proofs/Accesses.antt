@@ -14,21 +14,20 @@ use Rattle.xl_model.specs.declared.row.Counts.{Counts}
 use Rattle.xl_model.specs.Addresses.{is_canonical, page_of, pages_of, level_of, allows}
 use Rattle.xl_model.specs.Mapping.{covers, leaf_at_page, reply_by}
 use Rattle.xl_model.specs.Nodes.{up, Node, in_nodes, number_of}
-use Rattle.xl_model.specs.Base.{plus}
+use Rattle.xl_model.specs.Placing.{plus}
 use Rattle.xl_model.specs.Tally.{count_reply, count_walk}
 use Rattle.xl_model.specs.RowRun.{after_event}
 use Rattle.xl_model.specs.Walks.{end_level}
 use Rattle.xl_mapping.specs.Members.{In}
 use Rattle.xl_mapping.specs.Mappings.{IsMapping}
-use Rattle.xl_mapping.proofs.MemberLemmas.{find-In, find-passes}
-use Rattle.xl_mapping.proofs.EndLemmas.{leaf-ends}
-use Rattle.xl_mapping.proofs.OrderLemmas.{level-low, pages-some}
+use Rattle.xl_mapping.proofs.Members.{find-In, find-passes}
+use Rattle.xl_mapping.proofs.Ends.{leaf-ends}
+use Rattle.xl_mapping.proofs.Orders.{level-low, pages-some}
 use Rattle.xl_phys.specs.Lines.{counted}
 use Rattle.xl_radix.specs.Table.{Table}
 use Rattle.xl_radix.specs.declared.walk_end.WalkEnd.{WalkEnd}
 use Rattle.xl_radix.specs.Walk.{radix_back, walk_end, WordsReadBack}
-use Rattle.xl_radix.specs.Walk.{end_of}
-use Rattle.xl_radix_walk.specs.Path.{loaded_times}
+use Rattle.xl_radix_walk.specs.Path.{end_of, loaded_times}
 use Rattle.xl_bench.specs.BuiltIn.{built_in}
 use Rattle.xl_bench.specs.Machines.{IsKept, state_of, reads_of, filled_counts, walk_counts, pages_at, allowed, reply_at, IsLow}
 use Rattle.xl_bench.proofs.Machines.{access-canonical, access-other}

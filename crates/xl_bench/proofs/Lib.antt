@@ -1,5 +1,14 @@
-mod Pools
-mod Machines
-mod Maps
-mod Accesses
-mod Arrays
+pub mod Pools
+pub mod Machines
+pub mod Maps
+pub mod Accesses
+pub mod Pieces
+pub mod Replies
+pub mod Told
+pub mod Serves
+pub mod Few
+pub mod Plays
+pub mod Placed
+pub mod Endings
+pub mod Arrays
+pub mod Messages

@@ -15,7 +15,7 @@ use Rattle.xl_model.specs.Frames.{lowest}
 use Rattle.xl_model.specs.Changes.{Change, Insert, changed}
 use Rattle.xl_model.specs.Rules.{rule, change_of}
 use Rattle.xl_model.specs.Nodes.{Node, up}
-use Rattle.xl_model.specs.Base.{plus}
+use Rattle.xl_model.specs.Placing.{plus}
 use Rattle.xl_model.specs.Shapes.{Shape, Radix, shape_after}
 use Rattle.xl_model.specs.Room.{has_room}
 use Rattle.xl_model.specs.Caches.{Caches, empty_cache, caches_purged}

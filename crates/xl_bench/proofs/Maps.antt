@@ -26,14 +26,14 @@ use Rattle.xl_model.specs.Tally.{no_counts, count_refusal}
 use Rattle.xl_model.specs.Tlb.{opening_arrays}
 use Rattle.xl_model.specs.RowRun.{RowState, opening, after_event}
 use Rattle.xl_mapping.specs.Lowest.{HasNoFree, IsAnswer}
-use Rattle.xl_mapping.proofs.LowestLemmas.{lowest-is-lowest}
+use Rattle.xl_mapping.proofs.Lowest.{lowest-is-lowest}
 use Rattle.xl_mapping.specs.Mappings.{IsNewLeaf}
-use Rattle.xl_mapping.proofs.InsertionLemmas.{stays-with}
-use Rattle.xl_mapping.proofs.MappingLemmas.{kept-inserted}
-use Rattle.xl_mapping.proofs.PlaceLemmas.{page-block}
-use Rattle.xl_mapping.proofs.RuleLemmas.{or-second, sound-of}
-use Rattle.xl_mapping.proofs.ChangeLemmas.{other-key, first-small}
-use Rattle.xl_mapping.proofs.OrderLemmas.{pages-some}
+use Rattle.xl_mapping.proofs.Insertion.{stays-with}
+use Rattle.xl_mapping.proofs.Kept.{kept-inserted}
+use Rattle.xl_mapping.proofs.Places.{page-block}
+use Rattle.xl_mapping.proofs.Ruled.{or-second, sound-of}
+use Rattle.xl_mapping.proofs.Stays.{other-key, first-small}
+use Rattle.xl_mapping.proofs.Orders.{pages-some}
 use Rattle.xl_frames.specs.Pool.{IsFree, marked}
 use Rattle.xl_bench.specs.BuiltIn.{built_in}
 use Rattle.xl_bench.specs.Pools.{IsPoolOf}

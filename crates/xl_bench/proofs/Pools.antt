@@ -9,10 +9,10 @@ use Rattle.xl_model.specs.Mapping.{holds_frames, with_leaf}
 use Rattle.xl_model.specs.Frames.{lowest}
 use Rattle.xl_mapping.specs.Members.{In}
 use Rattle.xl_mapping.specs.Lowest.{IsFree as IsFreeOf, IsAnswer}
-use Rattle.xl_mapping.proofs.MemberLemmas.{any-false, any-In, In-any}
-use Rattle.xl_mapping.proofs.InsertionLemmas.{with-In, In-with}
-use Rattle.xl_mapping.proofs.LowestLemmas.{lowest-is-lowest}
-use Rattle.xl_mapping.proofs.OrderLemmas.{pages-some}
+use Rattle.xl_mapping.proofs.Members.{any-false, any-In, In-any}
+use Rattle.xl_mapping.proofs.Insertion.{with-In, In-with}
+use Rattle.xl_mapping.proofs.Lowest.{lowest-is-lowest}
+use Rattle.xl_mapping.proofs.Orders.{pages-some}
 use Rattle.xl_frames.specs.Pool.{IsFree, IsLowest, HasNone, marked}
 use Rattle.xl_frames.proofs.MarkLemmas.{length-marked, marked_inside, marked_below, marked_above}
 use Rattle.xl_bench.specs.Pools.{IsPoolOf}

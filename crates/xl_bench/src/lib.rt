@@ -1,6 +1,14 @@
 //! The workbench: one row over a script and a trace.
 #![tactic(auto)]
 
+mod bench;
 mod machine;
+mod serve;
+mod status;
+mod stop;
+mod tape;
+#[cfg(test)]
+mod tests;
 
-pub use machine::Machine;
+pub use bench::run;
+pub use status::Status;

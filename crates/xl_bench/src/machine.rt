@@ -26,7 +26,7 @@ const ROOT: usize = LEVELS - 1;
 
 /// The machine of the built-in row. Contracts see the row's state.
 #[derive(Drop)]
-pub struct Machine {
+pub(crate) struct Machine {
     table: Radix<3>,
     frames: Frames,
     counts: Counts,
@@ -50,7 +50,7 @@ impl Machine {
     /// # Errors
     ///
     /// `NoMemory` where there is no memory.
-    pub fn open(alloc: Global) -> Result<Machine, NoMemory>
+    pub(crate) fn open(alloc: Global) -> Result<Machine, NoMemory>
         ensures { IfOk result (λ m. m ≡ opening built_in) }
     {
         let table = Radix::open(alloc, 64, 1)?;
@@ -63,7 +63,7 @@ impl Machine {
     }
 
     /// The counts so far.
-    pub fn counts(&self) -> Counts
+    pub(crate) fn counts(&self) -> Counts
         ensures counts { result ≡ self.now.counts }
         ensures arrays { result.arrays ≡ 0 }
     {
@@ -71,7 +71,7 @@ impl Machine {
     }
 
     /// Serves a map.
-    pub fn map(&mut self, space: u16, va: u64, order: Order, perm: Perm)
+    pub(crate) fn map(&mut self, space: u16, va: u64, order: Order, perm: Perm)
         ensures { self.new ≡ after_event built_in (event.Map space va order perm) self.old }
     {
         match self.refusal(space, va, order) {
@@ -133,7 +133,7 @@ impl Machine {
     }
 
     /// Serves an access.
-    pub fn access(&mut self, va: u64, kind: Kind)
+    pub(crate) fn access(&mut self, va: u64, kind: Kind)
         ensures { self.new ≡ after_event built_in (event.Access va kind) self.old }
     {
         if !canonical(Mode::Sv39, va) {

@@ -2,7 +2,7 @@ use Rattle.std.proofs.Common.{◌≡◌, ◌+◌, ◌-◌, sym, ◌∙◌, refl}
 use Rattle.xl_model.specs.Mapping.{leaf_at_page}
 use Rattle.xl_model.specs.Walks.{end_level}
 use Rattle.xl_radix.specs.Walk.{walk_end}
-use Rattle.xl_radix.specs.Walk.{end_of}
+use Rattle.xl_radix_walk.specs.Path.{end_of}
 use Rattle.xl_model.specs.declared.leaf.Reply.TheVariants as reply
 use Rattle.xl_bench.proofs.Arrays.{none_replied, none_walked}
 use Rattle.xl_bench.proofs.Accesses.{back-from-root, low-end, access-refused, access-done, kept-walked, page-below}

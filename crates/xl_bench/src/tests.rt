@@ -1,0 +1,6 @@
+//! Runs whose answers were worked out by hand.
+
+mod faults;
+mod given;
+mod rows;
+mod stops;
