@@ -1,15 +1,14 @@
 -- Areas that a script declares.
 use Rattle.std.proofs.Common.{◌≡◌, refl, sym, ap, ◌∙◌, subst, ℕ, ◌+◌, ◌<◌, ◌≤◌, Bool, true, false, cond, List, [], ◌∷◌, ◌++◌, length, take, arith, length-append}
-use Rattle.std.specs.Prelude.{Option, None, Some, slice_get, count_by}
+use Rattle.std.specs.Prelude.{Option, Some, slice_get, count_by}
 use Rattle.std.proofs.lemmas.List.Sums.{count_by_more_no, count_by_more_yes, sum_by-take-drop}
 use Rattle.std.proofs.lemmas.Option.{slice_get_within, get_or_from_slice_get}
 use Rattle.xl_model.specs.declared.script.Area.{Area}
 use Rattle.xl_model.specs.declared.script.Command.{Command}
 use Rattle.xl_model.specs.declared.script.Command.TheVariants as command
-use Rattle.xl_model.specs.declared.script.Item.{Item}
 use Rattle.xl_model.specs.declared.script.Item.TheVariants.{Declared}
 use Rattle.xl_model.specs.Items.{state_after}
-use Rattle.xl_model.specs.Scenes.{Served, Scene, rows_after, rows_lines, item_lines, lines_where, scene_after, scenes_after, told_by}
+use Rattle.xl_model.specs.Scenes.{Served, rows_after, rows_lines, item_lines, scene_after, scenes_after, told_by}
 use Rattle.xl_script.specs.Placing.{is_area}
 use Rattle.xl_outside.specs.Sinks.{SinkAfter}
 use Rattle.xl_outside.proofs.SinkLemmas.{sink_same}

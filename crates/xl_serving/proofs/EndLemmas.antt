@@ -10,10 +10,10 @@ use Rattle.xl_model.specs.declared.fault.InputFault.TheVariants as fault
 use Rattle.xl_model.specs.declared.script.Command.{Command}
 use Rattle.xl_model.specs.declared.script.Item.{Item}
 use Rattle.xl_model.specs.Scenes.{Scene, Live, scenes_after, told_by}
-use Rattle.xl_model.specs.Courses.{Course, Trail, ended, before, course}
+use Rattle.xl_model.specs.Courses.{Course, ended, before}
 use Rattle.xl_model.specs.Report.{Flags, row_lines, tail}
-use Rattle.xl_model.specs.Endings.{Ending, faulted, followed, live_of, text_by, text_of}
-use Rattle.xl_outside.specs.Sinks.{with_more, WroteFront, SinkAfter}
+use Rattle.xl_model.specs.Endings.{Ending, faulted, followed, live_of, text_by}
+use Rattle.xl_outside.specs.Sinks.{WroteFront, SinkAfter}
 use Rattle.xl_outside.specs.Whole.{TellsWhole}
 use Rattle.xl_outside.specs.declared.whole.ReadStop.{ReadStop}
 use Rattle.xl_outside.specs.declared.whole.ReadStop.TheVariants as read
@@ -28,8 +28,8 @@ use Rattle.xl_serving.specs.declared.serving.ServeStop.TheVariants as serve
 use Rattle.xl_serving.specs.declared.stop.Stop.{Stop}
 use Rattle.xl_serving.specs.declared.stop.Stop.TheVariants as why
 use Rattle.xl_serving.specs.Serving.{Reached, Serves}
-use Rattle.xl_serving.specs.Stops.{of_read, of_serve_stop}
-use Rattle.xl_serving.specs.Endings.{rows_alone, ending_of, script_ending, script_fault, EndsAs, Ends, Leads, Parses}
+use Rattle.xl_serving.specs.Stops.{of_read, of_serve_stop, status_by, status_with}
+use Rattle.xl_serving.specs.Endings.{Answers, rows_alone, ending_of, script_fault, EndsAs, Ends, Leads, Parses}
 
 items_none : (xs : List Item) → xs ++ [] ≡ xs
 items_none [] = refl
@@ -161,3 +161,19 @@ leads_unread None read.NoMemory h = λ t s b. refl
 leads_unread (Some file) read.Missing h = absurd h
 leads_unread (Some file) read.Failed h = λ t s b. record { done = []; left = (ending_of (script_of file) t s).items; split = refl; wrote = with_none b }
 leads_unread (Some file) read.NoMemory h = λ t s b. refl
+
+-- what the end of a run says, its status says
+pub answers_by : (r : Result (Unit {0}) Stop) (e : Ending) (b a : Option (List ℕ)) → EndsAs r e b a → Answers (status_by r) e b a
+answers_by (Ok u) e b a h = (ap status_with (sym h.0), h.1)
+answers_by (Err why.ReadFault) e b a h = h
+answers_by (Err why.WriteFault) e b a h = h
+answers_by (Err why.NoMemory) e b a h = h
+answers_by (Err (why.Input fault.Words)) e b a h = (ap status_with (sym h.0), h.1)
+answers_by (Err (why.Input fault.ConfigTooLong)) e b a h = (ap status_with (sym h.0), h.1)
+answers_by (Err (why.Input fault.ConfigNotToml)) e b a h = (ap status_with (sym h.0), h.1)
+answers_by (Err (why.Input (fault.ConfigKey row key rule))) e b a h = (ap status_with (sym h.0), h.1)
+answers_by (Err (why.Input fault.ScriptTooLong)) e b a h = (ap status_with (sym h.0), h.1)
+answers_by (Err (why.Input (fault.ScriptLine line reason))) e b a h = (ap status_with (sym h.0), h.1)
+answers_by (Err (why.Input fault.TraceTooLong)) e b a h = (ap status_with (sym h.0), h.1)
+answers_by (Err (why.Input (fault.TraceLine line reason))) e b a h = (ap status_with (sym h.0), h.1)
+answers_by (Err (why.Input fault.NoFile)) e b a h = (ap status_with (sym h.0), h.1)

@@ -4,9 +4,8 @@ use Rattle.std.specs.Prelude.{Option, None, Some, nat_lt, if◌then◌else◌}
 use Rattle.std.proofs.lemmas.Bool.{cases_lt, false≢true}
 use Rattle.std.proofs.lemmas.Bool.Decides.{nat_tests}
 use Rattle.std.proofs.lemmas.List.{drop-drop, drop-take, drop_all, take-take, take-append-drop}
-use Rattle.xl_model.specs.declared.fault.InputFault.{InputFault}
 use Rattle.xl_model.specs.declared.fault.InputFault.TheVariants.{TraceTooLong}
-use Rattle.xl_model.specs.Courses.{Trail, at_end}
+use Rattle.xl_model.specs.Courses.{at_end}
 use Rattle.xl_lackey.specs.Stream.{State, Left, left, due, left_by, unless_bad}
 use Rattle.xl_text.specs.Texts.{lines_by}
 use Rattle.xl_serving.specs.declared.trace.TraceStop.TheVariants as why

@@ -1,19 +1,17 @@
 -- What the reader's answer says of the records that are left.
-use Rattle.std.proofs.Common.{◌≡◌, ℕ, ◌≤◌, ◌<◌, true, false, List, [], ◌∷◌, length, take, drop, refl, ap, arith, ◌∙◌, sym, inl, inr, Bool}
+use Rattle.std.proofs.Common.{◌≡◌, ℕ, ◌≤◌, ◌<◌, true, false, List, [], ◌∷◌, length, take, drop, refl, ap, arith, ◌∙◌, sym, inl, inr}
 use Rattle.std.specs.Prelude.{Option, None, Some, Ok}
 use Rattle.std.proofs.lemmas.Bool.{cases_lt, false_from_ne_true, false≢true}
 use Rattle.std.proofs.lemmas.List.{drop_all}
-use Rattle.xl_model.specs.declared.fault.InputFault.{InputFault}
 use Rattle.xl_model.specs.declared.fault.InputFault.TheVariants.{TraceTooLong, TraceLine}
-use Rattle.xl_model.specs.Courses.{Trail, at_end}
+use Rattle.xl_model.specs.Courses.{at_end}
 use Rattle.xl_lackey.specs.declared.fault.Fault.{Fault}
 use Rattle.xl_lackey.specs.declared.reference.Reference.{Reference}
 use Rattle.xl_lackey.specs.Stream.{Record, Left, left, due, MayCome}
 use Rattle.xl_lackey.specs.Answers.{Gives, Ends, Refuses, record_of}
 use Rattle.xl_serving.specs.declared.trace.TraceStop.TheVariants as why
-use Rattle.xl_serving.specs.declared.trace.Numbered.{Numbered}
 use Rattle.xl_serving.specs.Traces.{trail, Progress, limit, ahead, left_of, next_number, accesses_of, with_record}
-use Rattle.xl_serving.specs.Tapes.{IsUnfed, IsWithin, IsFedFrom, KeepsLeft, GivesRecord, TraceAnswers, EndsBy}
+use Rattle.xl_serving.specs.Tapes.{IsUnfed, IsWithin, IsFedFrom, KeepsLeft, TraceAnswers, EndsBy}
 use Rattle.xl_serving.proofs.PieceLemmas.{long, short}
 
 -- a file past the limit isn't at its end

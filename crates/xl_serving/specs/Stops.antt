@@ -1,10 +1,10 @@
 -- Why a run stops, and the status that it has then.
-use Rattle.std.specs.Prelude.{ℕ, Bool, true, false, Result, Ok, Err}
+use Rattle.std.specs.Prelude.{Bool, true, false, Option, None, Some, Result, Ok, Err}
 use Rattle.xl_model.specs.declared.fault.InputFault.{InputFault}
 use Rattle.xl_model.specs.declared.fault.InputFault.TheVariants as fault
 use Rattle.xl_outside.specs.declared.whole.ReadStop.{ReadStop}
 use Rattle.xl_outside.specs.declared.whole.ReadStop.TheVariants as read
-use Rattle.xl_outside.specs.Folders.{ReadFate, Fine, ReadFailed}
+use Rattle.xl_outside.specs.Folders.{ReadFate, Fine, ReadFailed, FileMissing}
 use Rattle.xl_script.specs.declared.fault.ScriptFault.{ScriptFault}
 use Rattle.xl_script.specs.declared.fault.ScriptFault.TheVariants as script
 use Rattle.xl_serving.specs.declared.serving.ServeStop.{ServeStop}
@@ -26,6 +26,11 @@ status_of_fault (fault.ScriptLine line reason) = status.BadScript
 status_of_fault fault.TraceTooLong = status.BadTrace
 status_of_fault (fault.TraceLine line reason) = status.BadTrace
 status_of_fault fault.NoFile = status.NoFile
+
+-- The status of a run that this fault ends, or none.
+abbrev pub status_with : Option InputFault → Status
+status_with None = status.Ok
+status_with (Some fault) = status_of_fault fault
 
 -- The status of a run that stops so.
 abbrev pub status_at : Stop → Status
@@ -61,6 +66,17 @@ of_serve_stop serve.WriteFault = why.WriteFault
 abbrev pub as_stop : {A : Type 0} → Result A ServeStop → Result A Stop
 as_stop (Ok a) = Ok a
 as_stop (Err stop) = Err (of_serve_stop stop)
+
+-- What a status tells of the folder.
+abbrev pub status_fate : Status → ReadFate
+status_fate status.NoFile = FileMissing
+status_fate status.ReadFault = ReadFailed
+status_fate _ = Fine
+
+-- Whether a status tells of no failed put.
+abbrev pub is_status_put : Status → Bool
+is_status_put status.WriteFault = false
+is_status_put _ = true
 
 -- What a stop tells of the folder.
 abbrev pub stop_fate : Stop → ReadFate

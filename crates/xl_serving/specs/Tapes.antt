@@ -3,7 +3,6 @@ use Rattle.std.specs.Prelude.{◌≡◌, ℕ, ◌+◌, ◌-◌, ◌≤◌, ◌�
 use Rattle.xl_model.specs.declared.fault.InputFault.{InputFault}
 use Rattle.xl_model.specs.declared.fault.InputFault.TheVariants as fault
 use Rattle.xl_model.specs.Courses.{Trail, at_end}
-use Rattle.xl_lackey.specs.declared.reference.Reference.{Reference}
 use Rattle.xl_lackey.specs.Stream.{State, left}
 use Rattle.xl_lackey.specs.Answers.{record_of}
 use Rattle.xl_outside.specs.declared.folder.Unread.{Unread}

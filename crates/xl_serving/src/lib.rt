@@ -13,7 +13,7 @@ mod trace;
 
 pub use areas::Areas;
 pub use rows::Rows;
-pub use running::report;
+pub use running::run;
 pub use serving::{ServeStop, serve};
 pub use status::Status;
 pub use stop::Stop;

@@ -1,4 +1,4 @@
-use Rattle.std.specs.Prelude.{Ok, Err, None, []}
+use Rattle.std.specs.Prelude.{Err, None, []}
 use Rattle.xl_outside.specs.Folders.{file_of}
 use Rattle.xl_model.specs.Courses.{course, ended}
 use Rattle.xl_serving.specs.declared.serving.ServeStop.TheVariants as why

@@ -1,12 +1,11 @@
-use Rattle.std.proofs.Common.{◌≡◌, ◌+◌, ◌≤◌, ◌<◌, ◌∙◌, sym, ap, subst, List, length, take, arith, refl, Ok, Err}
-use Rattle.std.specs.Prelude.{drop, count_by, slice_get, Some, None}
+use Rattle.std.proofs.Common.{◌+◌, ◌≤◌, ◌∙◌, sym, ap, List, length, arith, refl, Ok, Err}
+use Rattle.std.specs.Prelude.{drop, Some, None}
 use Rattle.std.proofs.lemmas.Bool.Decides.{nat_tests}
 use Rattle.xl_model.specs.declared.script.Area.{Area}
 use Rattle.xl_model.specs.declared.script.Command.{Command}
 use Rattle.xl_model.specs.Courses.{course, course_by, ran_all, ended}
 use Rattle.xl_outside.specs.Folders.{file_of}
 use Rattle.xl_outside.proofs.FolderLemmas.{folder_then, folder_same}
-use Rattle.xl_script.specs.Placing.{is_area}
 use Rattle.xl_serving.specs.Serving.{ServesPart, scene_of}
 use Rattle.xl_serving.proofs.ToldLemmas.{told_all, told_one, told_then, is_err_by}
 use Rattle.xl_serving.proofs.AreaLemmas.{no_area, areas_more, areas_same, areas_room, length_more}

@@ -1,9 +1,5 @@
-use Rattle.std.proofs.Common.{◌≡◌, ◌∙◌, ◌<◌, ◌≤◌, ◌+◌, ℕ, sym, ap, arith, length}
-use Rattle.std.specs.Prelude.{Some, slice_get}
+use Rattle.std.proofs.Common.{◌<◌, ◌≤◌, arith}
 use Rattle.std.proofs.lemmas.Bool.Decides.{nat_tests}
-use Rattle.xl_model.specs.declared.event.Event.{Event}
-use Rattle.xl_model.specs.declared.script.Item.TheVariants.{Command}
-use Rattle.xl_model.specs.Courses.{events_from}
 use Rattle.xl_serving.specs.Serving.{event_at, count_of}
 use Rattle.xl_serving.proofs.ServedLemmas.{served_next, served_lost, served_all}
 use Rattle.xl_serving.proofs.ItemLemmas.{the_nth_event, length-events}

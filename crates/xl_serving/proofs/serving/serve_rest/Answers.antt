@@ -1,4 +1,4 @@
-use Rattle.std.proofs.Common.{arith, subst, ◌∙◌, Option, Ok, Err}
+use Rattle.std.proofs.Common.{subst, ◌∙◌, Option, Ok, Err}
 use Rattle.xl_model.specs.Courses.{ran_all}
 use Rattle.xl_outside.specs.Folders.{file_of}
 use Rattle.xl_outside.proofs.FolderLemmas.{folder_then}

@@ -1,4 +1,3 @@
-use Rattle.std.specs.Prelude.{Some}
 use Rattle.xl_model.specs.declared.fault.InputFault.TheVariants.{TraceTooLong}
 use Rattle.xl_outside.specs.Folders.{file_of}
 use Rattle.xl_serving.specs.declared.trace.TraceStop.TheVariants as why

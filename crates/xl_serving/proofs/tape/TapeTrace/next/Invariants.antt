@@ -1,4 +1,4 @@
-use Rattle.std.proofs.Common.{◌≡◌, ◌≤◌}
+use Rattle.std.proofs.Common.{◌≤◌}
 use Rattle.std.specs.Option.{IfSome}
 use Rattle.xl_outside.specs.Folders.{file_of, FolderAfter, Fine}
 use Rattle.xl_serving.specs.Tapes.{IsFedFrom, to_come, size_of}

@@ -1,6 +1,6 @@
 use Rattle.std.proofs.Common.{sym, subst, refl, ◌≡◌}
 use Rattle.xl_lackey.specs.Stream.{State}
-use Rattle.xl_serving.specs.Traces.{Progress, trail_of, left_of}
+use Rattle.xl_serving.specs.Traces.{trail_of, left_of}
 use Rattle.xl_serving.specs.Tapes.{IsFedFrom}
 use Rattle.xl_serving.proofs.PieceLemmas.{fed_first}
 use Rattle.xl_serving.proofs.tape.TapeTrace.open.Goals as goal
