@@ -6,3 +6,4 @@ mod CourseLemmas
 mod ItemLemmas
 mod AreaLemmas
 mod EndLemmas
+mod NoRowLemmas

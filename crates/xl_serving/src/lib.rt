@@ -19,3 +19,6 @@ pub use status::Status;
 pub use stop::Stop;
 pub use tape::Tape;
 pub use trace::{Numbered, Trace, TraceStop};
+
+#[cfg(test)]
+mod tests;
