@@ -1,4 +1,4 @@
-mod FolderLemmas
+pub mod FolderLemmas
 mod FrontLemmas
-mod SinkLemmas
+pub mod SinkLemmas
 mod StreamLemmas

@@ -29,7 +29,7 @@ append_none : (xs : List ℕ) → xs ≡ xs ++ []
 append_none [] = refl
 append_none (x ∷ xs) = ap (λ (ys : List ℕ). x ∷ ys) (append_none xs)
 
-with_none : (w : Option (List ℕ)) → w ≡ with_more w []
+pub with_none : (w : Option (List ℕ)) → w ≡ with_more w []
 with_none None = refl
 with_none (Some text) = ap Some (append_none text)
 
@@ -70,7 +70,7 @@ sink_then written faults roomy xs ys a b c whole x y = record {
       (t.0, subst (roomy c) e t.1);
 }
 
-front_of_more : (a c : Option (List ℕ)) (xs ys : List ℕ) → WroteFront a xs c → WroteFront a (xs ++ ys) c
+pub front_of_more : (a c : Option (List ℕ)) (xs ys : List ℕ) → WroteFront a xs c → WroteFront a (xs ++ ys) c
 front_of_more a c xs ys k =
     let size : length (xs ++ ys) ≡ length xs + length ys = length-append xs ys in
     let fits : k.0 ≤ length xs = k.1 in

@@ -1,0 +1,76 @@
+-- Areas that a script declares.
+use Rattle.std.proofs.Common.{◌≡◌, refl, sym, ap, ◌∙◌, subst, ℕ, ◌+◌, ◌<◌, ◌≤◌, Bool, true, false, cond, List, [], ◌∷◌, ◌++◌, length, take, arith, length-append}
+use Rattle.std.specs.Prelude.{Option, Some, slice_get, count_by}
+use Rattle.std.proofs.lemmas.List.Sums.{count_by_more_no, count_by_more_yes, sum_by-take-drop}
+use Rattle.std.proofs.lemmas.Option.{slice_get_within, get_or_from_slice_get}
+use Rattle.xl_model.specs.declared.script.Area.{Area}
+use Rattle.xl_model.specs.declared.script.Command.{Command}
+use Rattle.xl_model.specs.declared.script.Command.TheVariants as command
+use Rattle.xl_model.specs.declared.script.Item.TheVariants.{Declared}
+use Rattle.xl_model.specs.Items.{state_after}
+use Rattle.xl_model.specs.Scenes.{Served, rows_after, rows_lines, item_lines, scene_after, scenes_after, told_by}
+use Rattle.xl_script.specs.Placing.{is_area}
+use Rattle.xl_outside.specs.Sinks.{SinkAfter}
+use Rattle.xl_outside.proofs.SinkLemmas.{sink_same}
+use Rattle.xl_serving.specs.Serving.{HasServed, scene_of}
+
+declared_rows : (area : Area) (areas : List Area) (rows : List Served) → rows_after (Declared area) areas rows ≡ rows
+unfolding state_after
+declared_rows area areas [] = refl
+declared_rows area areas (r ∷ rows) = ap (λ (rest : List Served). r ∷ rest) (declared_rows area areas rows)
+
+declared_lines : (area : Area) (areas : List Area) (rows : List Served) → rows_lines (Declared area) areas rows ≡ []
+unfolding item_lines
+declared_lines area areas [] = refl
+declared_lines area areas (r ∷ rows) = declared_lines area areas rows
+
+declared_told : (answers : Bool) (area : Area) (areas : List Area) (rows : List Served) → told_by answers (Declared area ∷ []) (scene_of rows areas) ≡ []
+declared_told true area areas rows = declared_lines area areas rows
+declared_told false area areas rows = refl
+
+declared_scene : (area : Area) (areas : List Area) (rows : List Served) → scene_of rows (areas ++ area ∷ []) ≡ scenes_after (Declared area ∷ []) (scene_of rows areas)
+unfolding scene_after
+declared_scene area areas rows = ap (λ (z : List Served). scene_of z (areas ++ area ∷ [])) (sym (declared_rows area areas rows))
+
+-- an area is declared: nothing is told, and all rows stay
+pub served_area : {K : Type 0} (written : K → Option (List ℕ)) (faults : K → ℕ) (roomy : K → ℕ → Type 0) (answers : Bool) (area : Area) (areas : List Area) (rows : List Served) (k : K)
+    → HasServed written faults roomy answers (Declared area ∷ []) (scene_of rows areas) (scene_of rows (areas ++ area ∷ [])) k k true
+served_area written faults roomy answers area areas rows k = record {
+  scene_is = declared_scene area areas rows;
+  writes = subst (λ (text : List ℕ). SinkAfter written faults roomy text k k true) (sym (declared_told answers area areas rows)) (sink_same written faults roomy k);
+}
+
+-- a command that isn't a demand declares no area
+pub no_area : (c : Command) → ((a : Area) → c ≡ command.Demand a → ⊥) → is_area c ≡ false
+no_area (command.Map space va o perm n) h = refl
+no_area (command.Unmap space va o n) h = refl
+no_area (command.Protect space va o perm n) h = refl
+no_area (command.Move space from to o n) h = refl
+no_area (command.Space space) h = refl
+no_area (command.Fence scope) h = refl
+no_area (command.Demand area) h = absurd (h area refl)
+no_area (command.Run n) h = refl
+no_area command.RunRest h = refl
+
+-- how many areas the first commands declare
+few_taken : (n : ℕ) (cs : List Command) → count_by is_area (take n cs) ≤ count_by is_area cs
+few_taken n cs = let e = sum_by-take-drop (λ c. cond (is_area c) 1 0) cs n in omega arith
+
+pub areas_more : (cs : List Command) (i : ℕ) (a : Area) (c : Command) → slice_get cs i ≡ Some c → c ≡ command.Demand a
+    → count_by is_area (take (i + 1) cs) ≡ count_by is_area (take i cs) + 1
+areas_more cs i a c h e =
+    count_by_more_yes is_area cs i c (slice_get_within cs i c h) (ap is_area (get_or_from_slice_get cs i c c h ∙ e))
+
+pub areas_same : (cs : List Command) (i : ℕ) (c : Command) → slice_get cs i ≡ Some c → is_area c ≡ false
+    → count_by is_area (take (i + 1) cs) ≡ count_by is_area (take i cs)
+areas_same cs i c h e =
+    count_by_more_no is_area cs i c (slice_get_within cs i c h) (ap is_area (get_or_from_slice_get cs i c c h) ∙ e)
+
+pub areas_room : (cs : List Command) (i : ℕ) (a : Area) (c : Command) → slice_get cs i ≡ Some c → c ≡ command.Demand a → count_by is_area cs ≤ 256
+    → count_by is_area (take i cs) < 256
+areas_room cs i a c h e most =
+    let m = areas_more cs i a c h e in
+    let f = few_taken (i + 1) cs in omega arith
+
+pub length_more : (areas : List Area) (a : Area) → length (areas ++ a ∷ []) ≡ length areas + 1
+length_more areas a = length-append areas (a ∷ [])

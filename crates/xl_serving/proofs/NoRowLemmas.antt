@@ -1,0 +1,25 @@
+-- No rows at all: nothing is told, and nothing changes.
+use Rattle.std.proofs.Common.{◌≡◌, refl, sym, ap, subst, ℕ, Bool, true, false, List, [], ◌∷◌}
+use Rattle.std.specs.Prelude.{Option}
+use Rattle.xl_model.specs.declared.script.Area.{Area}
+use Rattle.xl_model.specs.declared.script.Item.{Item}
+use Rattle.xl_model.specs.Items.{areas_after}
+use Rattle.xl_model.specs.Scenes.{scene_after, scenes_after, told_by}
+use Rattle.xl_outside.specs.Sinks.{SinkAfter}
+use Rattle.xl_outside.proofs.SinkLemmas.{sink_same}
+use Rattle.xl_serving.specs.Serving.{HasServed, scene_of}
+
+none_told : (answers : Bool) (item : Item) (areas : List Area) → told_by answers (item ∷ []) (scene_of [] areas) ≡ []
+none_told true item areas = refl
+none_told false item areas = refl
+
+none_changed : (item : Item) (areas : List Area) → areas_after item areas ≡ areas → scene_of [] areas ≡ scenes_after (item ∷ []) (scene_of [] areas)
+unfolding scene_after
+none_changed item areas e = ap (λ (z : List Area). scene_of [] z) (sym e)
+
+pub none_served : {K : Type 0} (written : K → Option (List ℕ)) (faults : K → ℕ) (roomy : K → ℕ → Type 0) (answers : Bool) (item : Item) (areas : List Area) (k : K) → areas_after item areas ≡ areas
+    → HasServed written faults roomy answers (item ∷ []) (scene_of [] areas) (scene_of [] areas) k k true
+none_served written faults roomy answers item areas k e = record {
+  scene_is = none_changed item areas e;
+  writes = subst (λ (text : List ℕ). SinkAfter written faults roomy text k k true) (sym (none_told answers item areas)) (sink_same written faults roomy k);
+}

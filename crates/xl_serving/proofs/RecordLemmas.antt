@@ -1,0 +1,118 @@
+-- What the reader's answer says of the records that are left.
+use Rattle.std.proofs.Common.{◌≡◌, ℕ, ◌≤◌, ◌<◌, true, false, List, [], ◌∷◌, length, take, drop, refl, ap, arith, ◌∙◌, sym, inl, inr}
+use Rattle.std.specs.Prelude.{Option, None, Some, Ok}
+use Rattle.std.proofs.lemmas.Bool.{cases_lt, false_from_ne_true, false≢true}
+use Rattle.std.proofs.lemmas.List.{drop_all}
+use Rattle.xl_model.specs.declared.fault.InputFault.TheVariants.{TraceTooLong, TraceLine}
+use Rattle.xl_model.specs.Courses.{at_end}
+use Rattle.xl_lackey.specs.declared.fault.Fault.{Fault}
+use Rattle.xl_lackey.specs.declared.reference.Reference.{Reference}
+use Rattle.xl_lackey.specs.Stream.{Record, Left, left, due, MayCome}
+use Rattle.xl_lackey.specs.Answers.{Gives, Ends, Refuses, record_of}
+use Rattle.xl_serving.specs.declared.trace.TraceStop.TheVariants as why
+use Rattle.xl_serving.specs.Traces.{trail, Progress, limit, ahead, left_of, next_number, accesses_of, with_record}
+use Rattle.xl_serving.specs.Tapes.{IsUnfed, IsWithin, IsFedFrom, KeepsLeft, TraceAnswers, EndsBy}
+use Rattle.xl_serving.proofs.PieceLemmas.{long, short}
+
+-- a file past the limit isn't at its end
+unfinished : (file : List ℕ) (p : Progress) → IsWithin file p → limit < length file → p.reader.finished ≡ false
+unfinished file p w h = false_from_ne_true p.reader.finished (λ t. let a = w.all t in let m = w.most in omega arith)
+
+may_come : (file : List ℕ) (p : Progress) → IsWithin file p → MayCome true p.reader (drop p.at file)
+may_come file p w t = let a = w.all t in drop_all p.at file (omega arith)
+
+same_within : (file : List ℕ) (old new : Progress) → IsWithin file old → new.at ≡ old.at → new.reader.finished ≡ old.reader.finished → IsWithin file new
+same_within file old new w a f =
+    let part = w.part in
+    let most = w.most in record { part = omega arith; most = omega arith; all = λ h. a ∙ w.all (sym f ∙ h) }
+
+gives_long : (file : List ℕ) (r : Record) (old new : Progress) → IsWithin file old → Gives r old.reader new.reader → new.at ≡ old.at → new.number ≡ next_number old.number → limit < length file
+    → ahead file old ≡ with_record (accesses_of old.number r) (ahead file new)
+gives_long file r old new w g a m h =
+    long file old h
+    ∙ ap (λ (l : Left). trail old.number l (Some TraceTooLong)) (g.reads false (drop old.at (take limit file)) (unfinished file old w h))
+    ∙ ap (λ (k : ℕ). with_record (accesses_of old.number r) (trail (next_number old.number) (due new.reader (drop k (take limit file))) (Some TraceTooLong))) (sym a)
+    ∙ ap (λ (k : ℕ). with_record (accesses_of old.number r) (trail k (due new.reader (drop new.at (take limit file))) (Some TraceTooLong))) (sym m)
+    ∙ ap (with_record (accesses_of old.number r)) (sym (long file new h))
+
+gives_short : (file : List ℕ) (r : Record) (old new : Progress) → IsWithin file old → Gives r old.reader new.reader → new.at ≡ old.at → new.number ≡ next_number old.number → length file ≤ limit
+    → ahead file old ≡ with_record (accesses_of old.number r) (ahead file new)
+gives_short file r old new w g a m h =
+    short file old h
+    ∙ ap (λ (l : Left). trail old.number l None) (g.reads true (drop old.at file) (may_come file old w))
+    ∙ ap (λ (k : ℕ). with_record (accesses_of old.number r) (trail (next_number old.number) (left new.reader (drop k file)) None)) (sym a)
+    ∙ ap (λ (k : ℕ). with_record (accesses_of old.number r) (trail k (left new.reader (drop new.at file)) None)) (sym m)
+    ∙ ap (with_record (accesses_of old.number r)) (sym (short file new h))
+
+gives : (file : List ℕ) (r : Record) (old new : Progress) → IsWithin file old → Gives r old.reader new.reader → new.at ≡ old.at → new.number ≡ next_number old.number
+    → ahead file old ≡ with_record (accesses_of old.number r) (ahead file new)
+gives file r old new w g a m = elim (cases_lt limit (length file))
+    [ inl h ↦ gives_long file r old new w g a m h | inr h ↦ gives_short file r old new w g a m h ]
+
+ended_is : (file : List ℕ) (p : Progress) → IsWithin file p → p.reader.finished ≡ true → left p.reader [] ≡ ([], None) → ahead file p ≡ at_end None
+ended_is file p w f none =
+    let a = w.all f in
+    let m = w.most in
+    let e : drop p.at file ≡ [] = drop_all p.at file (omega arith) in
+    short file p (omega arith) ∙ ap (λ (bs : List ℕ). trail p.number (left p.reader bs) None) e ∙ ap (λ (l : Left). trail p.number l None) none
+
+refused : (file : List ℕ) (line reason : ℕ) (old new : Progress) → IsWithin file old → Refuses (record { line = line; reason = reason }) old.reader new.reader
+    → ahead file old ≡ at_end (Some (TraceLine line reason))
+refused file line reason old new w g = elim (cases_lt limit (length file)) [
+  | inl h ↦ long file old h ∙ ap (λ (l : Left). trail old.number l (Some TraceTooLong)) (g.reads false (drop old.at (take limit file)) (unfinished file old w h))
+  | inr h ↦ short file old h ∙ ap (λ (l : Left). trail old.number l None) (g.reads true (drop old.at file) (may_come file old w))
+]
+
+-- of a file that isn't there nothing was fed, and so there is no answer but that more is wanted
+record≢none : (r : Record) (rs : List Record) → r ∷ rs ≡ [] → ⊥
+record≢none r rs e = let k : true ≡ false = cc in absurd (false≢true (sym k))
+
+fault≢none : (fault : Fault) → Some fault ≡ None → ⊥
+fault≢none fault e = let k : true ≡ false = cc in absurd (false≢true (sym k))
+
+none_given : (r : Record) (old new : Progress) → IsUnfed old → Gives r old.reader new.reader → ⊥
+none_given r old new u g = record≢none r _ (ap (λ (l : Left). l.0) (sym (g.reads true [] (λ _. refl)) ∙ u.none))
+
+none_ended : (old new : Progress) → IsUnfed old → Ends old.reader new.reader → ⊥
+none_ended old new u g = false≢true (sym u.unfinished ∙ g.finished)
+
+none_refused : (fault : Fault) (old new : Progress) → IsUnfed old → Refuses fault old.reader new.reader → ⊥
+none_refused fault old new u g = fault≢none fault (ap (λ (l : Left). l.1) (sym (g.reads true [] (λ _. refl)) ∙ u.none))
+
+-- What is left is still the same; nothing was fed of a file that isn't there.
+abbrev pub Still : Option (List ℕ) → Progress → Progress → Type 0
+Still None old new = IsUnfed new
+Still (Some file) old new = KeepsLeft file old new
+
+pub still_first : (file : Option (List ℕ)) (p : Progress) → IsFedFrom file p → Still file p p
+still_first None p h = h
+still_first (Some file) p h = record { same = refl; within = h }
+
+-- a record was found, and numbered
+pub gave_found : (file : Option (List ℕ)) (r : Reference) (old mid found new : Progress) → Still file old mid → Gives (record_of r) mid.reader found.reader → found.at ≡ mid.at
+    → found.number ≡ mid.number → new ≡ record found { number = next_number found.number }
+    → TraceAnswers (IsFedFrom file new) (left_of file old) (left_of file new) (Ok (Some (record { number = found.number; reference = r })))
+gave_found None r old mid found new s g a m e = absurd (none_given (record_of r) mid found s g)
+gave_found (Some file) r old mid found new s g a m e =
+    let reader = ap (λ (p : Progress). p.reader) e in
+    let at = ap (λ (p : Progress). p.at) e in
+    let number = ap (λ (p : Progress). p.number) e in
+    let step : Gives (record_of r) mid.reader new.reader = rw reader g in (
+      same_within file mid new s.within (at ∙ a) (ap (λ (p : Progress). p.reader.finished) e ∙ g.finished),
+      sym s.same ∙ gives file (record_of r) mid new s.within step (at ∙ a) (number ∙ ap next_number m)
+          ∙ ap (λ (k : ℕ). with_record (accesses_of k (record_of r)) (ahead file new)) (sym m),
+    )
+
+-- the trace has ended
+pub gave_none : (file : Option (List ℕ)) (old mid new : Progress) → Still file old mid → Ends mid.reader new.reader → new.at ≡ mid.at
+    → TraceAnswers (IsFedFrom file new) (left_of file old) (left_of file new) (Ok None)
+gave_none None old mid new s g a = absurd (none_ended mid new s g)
+gave_none (Some file) old mid new s g a =
+    let k = same_within file mid new s.within a (g.still ∙ sym g.finished) in
+    (k, sym s.same ∙ ended_is file mid s.within g.finished g.reads, ended_is file new k g.still g.stays)
+
+-- a line is bad
+pub stops_bad : (file : Option (List ℕ)) (line reason : ℕ) (old mid new : Progress) → Still file old mid
+    → Refuses (record { line = line; reason = reason }) mid.reader new.reader → EndsBy (why.Input (TraceLine line reason)) (left_of file old)
+stops_bad None line reason old mid new s g = absurd (none_refused _ mid new s g)
+stops_bad (Some file) line reason old mid new s g = sym s.same ∙ refused file line reason mid new s.within g

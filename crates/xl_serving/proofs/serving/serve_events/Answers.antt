@@ -1,0 +1,24 @@
+use Rattle.std.proofs.Common.{◌<◌, ◌≤◌, arith}
+use Rattle.std.proofs.lemmas.Bool.Decides.{nat_tests}
+use Rattle.xl_serving.specs.Serving.{event_at, count_of}
+use Rattle.xl_serving.proofs.ServedLemmas.{served_next, served_lost, served_all}
+use Rattle.xl_serving.proofs.ItemLemmas.{the_nth_event, length-events}
+use Rattle.xl_serving.proofs.serving.serve_events.Goals as goal
+
+pub returns-in-Err : goal.returns-in-Err
+returns-in-Err g c =
+    let less : c.loop-i.i < count_of c.args.command = let e = c.count-i-end.ensures in grind (arith, nat_tests) in
+    (served_lost c.args.answers _ c.loop-i.i _ _ _ _ _ _ _ (the_nth_event (event_at c.args.command) (count_of c.args.command) c.loop-i.i c.nth_event.result less c.nth_event.ensures)
+    c.loop-i.invariant c.in-Err.ensures)
+
+pub loop-i-preserved : goal.loop-i-preserved
+loop-i-preserved g c =
+    let less : c.loop-i.i < count_of c.args.command = let e = c.count-i-end.ensures in grind (arith, nat_tests) in
+    served_next c.args.answers _ c.loop-i.i _ _ _ _ _ _ _ (the_nth_event (event_at c.args.command) (count_of c.args.command) c.loop-i.i c.nth_event.result less c.nth_event.ensures)
+    c.loop-i.invariant c.in-Ok.ensures
+
+pub returns : goal.returns
+returns g c =
+    let size = length-events (event_at c.args.command) 0 (count_of c.args.command) in
+    let all : count_of c.args.command ≤ c.loop-i.i = let e = c.count-i-end.ensures in grind (arith, nat_tests) in
+    served_all c.args.answers _ c.loop-i.i _ _ _ _ (omega arith) c.loop-i.invariant

@@ -1,0 +1,17 @@
+use Rattle.xl_model.specs.declared.fault.InputFault.TheVariants.{TraceTooLong}
+use Rattle.xl_outside.specs.Folders.{file_of}
+use Rattle.xl_serving.specs.declared.trace.TraceStop.TheVariants as why
+use Rattle.xl_serving.specs.Traces.{limit, left_of}
+use Rattle.xl_serving.specs.Tapes.{IsFedFrom, HasMore, EndsBy}
+use Rattle.xl_serving.proofs.ToldLemmas.{told_one}
+use Rattle.xl_serving.proofs.PieceLemmas.{too_long}
+use Rattle.xl_serving.proofs.tape.Tape.end_at_limit.Goals as goal
+
+pub returns-then-more-clause-told : goal.returns-then-more-clause-told
+returns-then-more-clause-told g c =
+    let p = c.args.self.now in
+    let name = c.args.name.now in
+    told_one (g.F.Folder.files c.args.folder.now) (λ fs. HasMore (file_of fs name) limit c.in_ok-more.more)
+    (λ fs. IsFedFrom (file_of fs name) p → EndsBy (why.Input TraceTooLong) (left_of (file_of fs name) p))
+    c.in_ok-more.ensures.told
+    (λ fs h w. too_long (file_of fs name) p c.in_ok-more.more h c.if-more.true c.requires.limit c.requires.none)

@@ -1,0 +1,6 @@
+pub mod Traces
+pub mod Tapes
+pub mod Serving
+pub mod Stops
+pub mod Messages
+pub mod Endings

@@ -1,0 +1,24 @@
+//! A script that is served over a trace: the trace that is read while it is replayed, the order in
+//! which commands and accesses are served, and how a run ends. The rows are whatever is served.
+#![tactic(auto)]
+
+mod areas;
+mod rows;
+mod running;
+mod serving;
+mod status;
+mod stop;
+mod tape;
+mod trace;
+
+pub use areas::Areas;
+pub use rows::Rows;
+pub use running::run;
+pub use serving::{ServeStop, serve};
+pub use status::Status;
+pub use stop::Stop;
+pub use tape::Tape;
+pub use trace::{Numbered, Trace, TraceStop};
+
+#[cfg(test)]
+mod tests;

@@ -1,0 +1,49 @@
+//! What a script is served to.
+
+ghost use Rattle.std.specs.Prelude.{List, [], ◌∷◌, is_ok};
+ghost use Rattle.xl_model.specs.declared.script.Item.TheVariants.{Command, Referenced};
+ghost use Rattle.xl_model.specs.Scenes.{Served};
+ghost use Rattle.xl_model.specs.Report.{row_lines};
+ghost use Rattle.xl_outside.specs.Sinks.{SinkAfter};
+ghost use Rattle.xl_serving.specs.Serving.{HasServed, scene_of};
+
+use xl_model::{Area, Event, Kind};
+use xl_outside::{Failed, Sink};
+
+/// Rows that are served: each item, with the events of its demand, by one row after another. Where
+/// answers are asked for, the lines of an item are written as it is served.
+pub trait Rows {
+    /// The rows with their states.
+    ghost rows: { Self → List Served };
+
+    /// Serves an event of a command, where these areas were declared.
+    fn command<K: Sink>(
+        &mut self,
+        event: Event,
+        areas: &[Area],
+        answers: bool,
+        out: &mut K,
+    ) -> Result<(), Failed>
+        ensures { HasServed K.written K.put_faults K.roomy answers (Command event ∷ [])
+            (scene_of (rows self.old) areas.now) (scene_of (rows self.new) areas.now)
+            out.old out.new (is_ok result) };
+
+    /// Serves an access of the record of this number, where these areas were declared.
+    fn access<K: Sink>(
+        &mut self,
+        number: u64,
+        va: u64,
+        kind: Kind,
+        areas: &[Area],
+        answers: bool,
+        out: &mut K,
+    ) -> Result<(), Failed>
+        ensures { HasServed K.written K.put_faults K.roomy answers (Referenced number va kind ∷ [])
+            (scene_of (rows self.old) areas.now) (scene_of (rows self.new) areas.now)
+            out.old out.new (is_ok result) };
+
+    /// Writes a line for each row.
+    fn write_rows<K: Sink>(&self, out: &mut K) -> Result<(), Failed>
+        ensures { SinkAfter K.written K.put_faults K.roomy (row_lines (rows self.now))
+            out.old out.new (is_ok result) };
+}

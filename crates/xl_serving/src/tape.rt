@@ -1,0 +1,258 @@
+//! A trace that is read in pieces while it is replayed.
+
+ghost use Rattle.std.specs.Prelude.{◌≡◌, ℕ, ◌+◌, ◌-◌, ◌^◌, ◌<◌, ◌≤◌, ◌⊎◌, ◌++◌, [], List, true, false, min, length, take, drop, nat_lt, Option, Some, None, IfOk, IfErr, OnOk, IfSome, IsSome};
+ghost use Rattle.xl_outside.specs.Folders.{file_of, FolderAfter, fate_by, unread_fate};
+ghost use Rattle.xl_lackey.specs.Stream.{due};
+ghost use Rattle.xl_lackey.specs.Answers.{Answers};
+ghost use Rattle.xl_serving.specs.Traces.{Progress, at_first, next_number, trail_of, left_of};
+ghost use Rattle.xl_serving.specs.Tapes.{IsFedFrom, TraceIsMet, FillAnswers, TraceAnswers, FeedAnswers, MoreAnswers, stop_of, trace_stop_fate, to_come, size_of};
+
+use crate::trace::{Numbered, Trace, TraceStop};
+use std::alloc::Global;
+use std::marker::Model;
+use xl_lackey::{Next, Reader, Reference};
+use xl_model::{InputFault, NoMemory};
+use xl_outside::{Folder, Unread};
+
+/// The most bytes of a trace.
+const LIMIT: u64 = 1 << 34;
+
+/// How many bytes a piece has at most.
+const PIECE: usize = 65536;
+
+impl From<Unread> for TraceStop {
+    ghost from_gives = { λ unread stop. stop ≡ stop_of unread };
+
+    fn from(unread: Unread) -> TraceStop {
+        match unread {
+            Unread::Missing => TraceStop::Input(InputFault::NoFile),
+            Unread::Failed => TraceStop::ReadFault,
+        }
+    }
+}
+
+/// A trace that is read while it is replayed: the file's next bytes are asked for only where the
+/// reader holds no line that must be answered.
+#[derive(Drop)]
+pub struct Tape {
+    reader: Reader,
+    /// The place in the file up to which it was fed to the reader.
+    at: u64,
+    /// The number of the next record.
+    number: u64,
+    /// The bytes of a piece on their way from the folder to the reader.
+    piece: Vec<u8>,
+}
+
+impl Model for Tape {
+    ghost use Rattle.std.specs.Prelude.{◌≡◌, ◌≤◌, ◌^◌};
+    ghost use Rattle.std.specs.Vec.{vec_len};
+    ghost use Rattle.xl_serving.specs.Traces.{Progress};
+
+    ghost Value = { Progress };
+
+    ghost view = { λ t. record { reader = t.reader; at = t.at; number = t.number } };
+
+    ghost invariant = { λ t. (vec_len t.piece ≡ 65536) × (t.at ≤ 2 ^ 34) };
+}
+
+impl Trace for Tape {
+    ghost trail = { trail_of };
+
+    ghost left = { λ t file. left_of file t };
+
+    ghost stands = { λ t file. IsFedFrom file t };
+
+    ghost size = { size_of };
+
+    fn open(alloc: Global) -> Result<Tape, NoMemory> {
+        Ok(Tape {
+            reader: Reader::open(alloc)?,
+            at: 0,
+            number: 1,
+            piece: vec![in alloc; 0; PIECE]?,
+        })
+    }
+
+    fn next<F: Folder>(
+        &mut self,
+        folder: &mut F,
+        name: &str,
+    ) -> Result<Option<Numbered>, TraceStop> {
+        'pieces: loop {
+            match self.answer() {
+                Next::Found(reference) => return Ok(Some(self.number(reference))),
+                Next::End => return Ok(None),
+                Next::BadLine { line, reason } => {
+                    return Err(TraceStop::Input(InputFault::TraceLine { line, reason }));
+                }
+                Next::More => self.fill(folder, name)?,
+            }
+        }
+    }
+}
+
+impl Tape {
+    /// What the reader has next.
+    fn answer(&mut self) -> Next
+        ensures answers { Answers result self.old.reader self.new.reader }
+        ensures at { self.new.at ≡ self.old.at }
+        ensures number { self.new.number ≡ self.old.number }
+        ensures waits { result ≡ Next.More → (self.old.reader.finished ≡ false) × (self.new.reader.finished ≡ false) }
+    {
+        self.reader.next()
+    }
+
+    /// Numbers a record.
+    fn number(&mut self, reference: Reference) -> Numbered
+        ensures numbered { result ≡ record { number = self.old.number; reference = reference } }
+        ensures next { self.new ≡ record self.old { number = next_number self.old.number } }
+    {
+        let number = self.number;
+        self.number = number.wrapping_add(1);
+        Numbered { number, reference }
+    }
+
+    /// Feeds the next piece of the file, or says that it has ended.
+    fn fill<F: Folder>(&mut self, folder: &mut F, name: &str) -> Result<(), TraceStop>
+        requires unfinished { self.old.reader.finished ≡ false }
+        requires room { length self.old.reader.held ≤ 258 }
+        requires none { due self.old.reader [] ≡ ([], None) }
+        ensures told { IfSome (F.files folder.old) (λ fs. IsFedFrom (file_of fs name.now) self.old
+            → FillAnswers (file_of fs name.now) result self.old self.new) }
+        ensures leaves { FolderAfter F.files F.faults F.absences F.steady folder.old folder.new
+            (fate_by trace_stop_fate result) }
+        ensures met { IfErr result TraceIsMet }
+        ensures less { OnOk result (to_come self.new < to_come self.old) }
+        ensures no_more { OnOk result (size_of self.new ≤ size_of self.old) }
+    {
+        if self.at() == LIMIT {
+            self.end_at_limit(folder, name)
+        } else {
+            self.next_piece(folder, name)
+        }
+    }
+
+    /// At the limit: the file ends there, or it is too long.
+    fn end_at_limit<F: Folder>(&mut self, folder: &mut F, name: &str) -> Result<(), TraceStop>
+        requires unfinished { self.old.reader.finished ≡ false }
+        requires none { due self.old.reader [] ≡ ([], None) }
+        requires limit { self.old.at ≡ 2 ^ 34 }
+        ensures told { IfSome (F.files folder.old) (λ fs. IsFedFrom (file_of fs name.now) self.old
+            → FillAnswers (file_of fs name.now) result self.old self.new) }
+        ensures leaves { FolderAfter F.files F.faults F.absences F.steady folder.old folder.new
+            (fate_by trace_stop_fate result) }
+        ensures met { IfErr result TraceIsMet }
+        ensures less { OnOk result (to_come self.new < to_come self.old) }
+        ensures no_more { OnOk result (size_of self.new ≤ size_of self.old) }
+    {
+        let more = has_more(folder, name, LIMIT)?;
+        if more {
+            return Err(TraceStop::Input(InputFault::TraceTooLong));
+        }
+        self.finish();
+        Ok(())
+    }
+
+    /// Below the limit: feeds the next piece, and finishes the reader where the file has ended.
+    fn next_piece<F: Folder>(&mut self, folder: &mut F, name: &str) -> Result<(), TraceStop>
+        requires unfinished { self.old.reader.finished ≡ false }
+        requires room { length self.old.reader.held ≤ 258 }
+        requires below { self.old.at < 2 ^ 34 }
+        ensures told { IfSome (F.files folder.old) (λ fs. IsFedFrom (file_of fs name.now) self.old
+            → FillAnswers (file_of fs name.now) result self.old self.new) }
+        ensures leaves { FolderAfter F.files F.faults F.absences F.steady folder.old folder.new
+            (fate_by trace_stop_fate result) }
+        ensures met { IfErr result TraceIsMet }
+        ensures less { OnOk result (to_come self.new < to_come self.old) }
+        ensures no_more { OnOk result (size_of self.new ≤ size_of self.old) }
+    {
+        let count = self.pull(folder, name)?;
+        if count == 0 {
+            self.finish();
+        }
+        Ok(())
+    }
+
+    /// Feeds the next piece, and answers how many bytes it has.
+    fn pull<F: Folder>(&mut self, folder: &mut F, name: &str) -> Result<usize, Unread>
+        requires unfinished { self.old.reader.finished ≡ false }
+        requires room { length self.old.reader.held ≤ 258 }
+        requires below { self.old.at < 2 ^ 34 }
+        ensures told { IfSome (F.files folder.old) (λ fs.
+            FeedAnswers (file_of fs name.now) self.old.at result self.old.reader self.new.reader) }
+        ensures leaves { FolderAfter F.files F.faults F.absences F.steady folder.old folder.new
+            (fate_by unread_fate result) }
+        ensures at { IfOk result (λ n. (self.new.at ≡ self.old.at + n) × (self.new.number ≡ self.old.number)) }
+        ensures most { IfOk result (λ n. self.old.at + n ≤ 2 ^ 34) }
+        ensures held { IfOk result (λ n. length self.new.reader.held ≡ length self.old.reader.held + n) }
+        ensures unfinished { OnOk result (self.new.reader.finished ≡ false) }
+    {
+        let wanted = self.wanted();
+        let buf = self.piece.as_mut_slice();
+        let count = feed_from(&mut self.reader, buf, wanted, self.at, folder, name)?;
+        self.at += count as u64;
+        Ok(count)
+    }
+
+    /// How many bytes the next piece may have: all for which the reader has room, or all to the limit.
+    fn wanted(&self) -> usize
+        requires room { length self.now.reader.held ≤ 258 }
+        requires below { self.now.at < 2 ^ 34 }
+        ensures { result ≡ min (2 ^ 34 - self.now.at) (65536 - length self.now.reader.held) }
+    {
+        let left = LIMIT - self.at;
+        left.min(self.reader.room() as u64) as usize
+    }
+
+    fn at(&self) -> u64
+        ensures value { result ≡ self.now.at }
+        ensures most { result ≤ 2 ^ 34 }
+    {
+        self.at
+    }
+
+    fn finish(&mut self)
+        ensures { self.new ≡ record self.old { reader = record self.old.reader { finished = true } } }
+    {
+        self.reader.finish();
+    }
+}
+
+/// Reads a piece of a file, of at most `wanted` bytes from a place on, into the buffer, feeds it, and
+/// answers how many bytes it has.
+fn feed_from<F: Folder>(
+    reader: &mut Reader,
+    buf: &mut [u8],
+    wanted: usize,
+    at: u64,
+    folder: &mut F,
+    name: &str,
+) -> Result<usize, Unread>
+    requires unfinished { reader.old.finished ≡ false }
+    requires wanted { (0 < wanted) × (wanted ≤ length buf.old) }
+    requires room { wanted + length reader.old.held ≤ 65536 }
+    ensures count { IfOk result (λ n. n ≤ wanted) }
+    ensures told { IfSome (F.files folder.old) (λ fs.
+        FeedAnswers (file_of fs name.now) at result reader.old reader.new) }
+    ensures leaves { FolderAfter F.files F.faults F.absences F.steady folder.old folder.new
+        (fate_by unread_fate result) }
+    ensures held { IfOk result (λ n. length reader.new.held ≡ length reader.old.held + n) }
+    ensures unfinished { OnOk result (reader.new.finished ≡ false) }
+{
+    let piece = &mut buf[..wanted];
+    let count = folder.read_at(name, at, piece)?;
+    reader.feed(&piece[..count]);
+    Ok(count)
+}
+
+/// Whether a file has bytes from a place on.
+fn has_more<F: Folder>(folder: &mut F, name: &str, at: u64) -> Result<bool, Unread>
+    ensures told { IfSome (F.files folder.old) (λ fs. MoreAnswers (file_of fs name.now) at result) }
+    ensures leaves { FolderAfter F.files F.faults F.absences F.steady folder.old folder.new
+        (fate_by unread_fate result) }
+{
+    let mut byte = [0; 1];
+    let count = folder.read_at(name, at, &mut byte)?;
+    Ok(count > 0)
+}

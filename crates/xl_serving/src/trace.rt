@@ -1,0 +1,59 @@
+//! Where the records of a run come from.
+
+ghost use Rattle.std.specs.Prelude.{◌≡◌, ℕ, ◌<◌, List, Option, IfOk, IfErr, IfSome, IsSome};
+ghost use Rattle.xl_model.specs.Courses.{Trail};
+ghost use Rattle.xl_outside.specs.Folders.{file_of, FolderAfter, fate_by};
+ghost use Rattle.xl_serving.specs.Tapes.{TraceAnswers, TraceIsMet, trace_stop_fate};
+
+use std::alloc::Global;
+use thiserror::Error;
+use xl_lackey::Reference;
+use xl_model::{InputFault, NoMemory};
+use xl_outside::Folder;
+
+/// Why a trace gives no record.
+#[derive(Clone, Copy, Debug, PartialEq, Eq, Error)]
+pub enum TraceStop {
+    /// A bad line, a trace that is too long, or no file.
+    #[error("the trace is at fault")]
+    Input(InputFault),
+    /// A read failed.
+    #[error("a read failed")]
+    ReadFault,
+}
+
+/// A record of the trace, with its number.
+#[derive(Clone, Copy, Debug)]
+pub struct Numbered {
+    pub number: u64,
+    pub reference: Reference,
+}
+
+/// A trace that is read while it is replayed.
+pub trait Trace: Sized {
+    /// The whole trace, where its file has these bytes or isn't there.
+    ghost trail: { Option (List ℕ) → Trail };
+
+    /// What is left of it, where its file has these bytes or isn't there.
+    ghost left: { Self → Option (List ℕ) → Trail };
+
+    /// It was fed from such a file alone.
+    ghost stands: { Self → Option (List ℕ) → Type 0 };
+
+    /// How much is left at most, whatever its file.
+    ghost size: { Self → ℕ };
+
+    /// A trace of which nothing was read yet. All memory that it wants is taken here.
+    fn open(alloc: Global) -> Result<Self, NoMemory>
+        ensures { IfOk result (λ t. (file : Option (List ℕ)) → stands t file × (left t file ≡ trail file)) };
+
+    /// The next record of the file `name`, or None at its end.
+    fn next<F: Folder>(&mut self, folder: &mut F, name: &str) -> Result<Option<Numbered>, TraceStop>
+        ensures told { IfSome (F.files folder.old) (λ fs. stands self.old (file_of fs name.now)
+            → TraceAnswers (stands self.new (file_of fs name.now)) (left self.old (file_of fs name.now))
+            (left self.new (file_of fs name.now)) result) }
+        ensures leaves { FolderAfter F.files F.faults F.absences F.steady folder.old folder.new
+            (fate_by trace_stop_fate result) }
+        ensures met { IfErr result TraceIsMet }
+        ensures shrinks { IfOk result (λ r. IsSome r → size self.new < size self.old) };
+}
