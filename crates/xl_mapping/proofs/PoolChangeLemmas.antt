@@ -21,7 +21,7 @@ use Rattle.xl_mapping.proofs.MappingLemmas.{named-In}
 use Rattle.xl_mapping.proofs.ChangeLemmas.{stays-changed, changed-In}
 use Rattle.xl_mapping.proofs.PoolLemmas.{no-leaf}
 use Rattle.xl_frames.specs.Pool.{IsFree, marked}
-use Rattle.xl_frames.proofs.Marks.{length-marked, marked_inside, marked_below, marked_above}
+use Rattle.xl_frames.proofs.MarkLemmas.{length-marked, marked_inside, marked_below, marked_above}
 
 -- a block that is taken for a leaf
 taken-each : (leaf : Leaf) (leaves : List Leaf) (f : ℕ) → IsFreeOf (pages_of leaf.order) leaf.frame leaves → leaf.frame ≤ f → f < leaf.frame + pages_of leaf.order
