@@ -1,10 +1,8 @@
 -- What a table takes stays the same, at each call and in every run.
-use Rattle.std.proofs.Common.{◌≡◌, ◌∙◌, refl, List, Option}
-use Rattle.xl_model.specs.declared.leaf.Leaf.{Leaf}
+use Rattle.std.proofs.Common.{◌∙◌, refl}
 use Rattle.xl_model.specs.Addresses.{levels_of}
-use Rattle.xl_model.specs.Changes.{Change}
 use Rattle.xl_model.specs.RowRun.{opening}
-use Rattle.xl_model.specs.Shapes.{Shape, brought, widened, narrowed, shape_after, opening_shape}
+use Rattle.xl_model.specs.Shapes.{Shape, widened, shape_after, opening_shape}
 use Rattle.xl_mapping.specs.Limits.{SameLimits}
 use Rattle.xl_mapping.proofs.LimitLemmas.{widened-same, shape-same, limits-changed, limits-walked, limits-fenced}
 use Rattle.xl_laws.specs.Limits.{EachCallKeepsTheLimits, TheLimitsStay}

@@ -1,5 +1,5 @@
 -- Laws of all rows together.
-use Rattle.std.proofs.Common.{◌≡◌, ap, ◌∙◌, refl, None, Some, Option}
+use Rattle.std.proofs.Common.{ap, Option}
 use Rattle.xl_model.specs.declared.fault.InputFault.{InputFault}
 use Rattle.xl_model.specs.Scenes.{Live, lives_after, untold, opening_scene}
 use Rattle.xl_model.specs.Report.{report}

@@ -5,3 +5,6 @@ pub mod Fresh
 pub mod Sentences
 pub mod Scenes
 pub mod Limits
+pub mod Tags
+pub mod Nodes
+pub mod Keys

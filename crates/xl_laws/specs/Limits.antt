@@ -16,6 +16,9 @@ EachCallKeepsTheLimits =
     × ((space page : ℕ) → SameLimits t.shape (table_walked space page t).shape)
     × ((to : Reach) → SameLimits t.shape (table_fenced to t).shape)
 
--- After every list of items a row's table takes the spaces and pages that it took when it was opened.
+-- After every list of items a row's table takes the spaces and pages that it took when it was
+-- opened.
 abbrev pub TheLimitsStay : Type 0
-TheLimitsStay = (row : Row) (items : List Item) → SameLimits (opening row).table.shape (run row items).table.shape
+TheLimitsStay =
+    (row : Row) (items : List Item)
+    → SameLimits (opening row).table.shape (run row items).table.shape

@@ -1,4 +1,5 @@
--- What holds of all rows together: items served in parts, what is told meanwhile, and the text of an ending.
+-- What holds of all rows together: items served in parts, what is told meanwhile, and the text of
+-- an ending.
 use Rattle.std.specs.Prelude.{◌≡◌, Bool, List, ◌++◌, None, Some}
 use Rattle.xl_model.specs.declared.fault.InputFault.{InputFault}
 use Rattle.xl_model.specs.declared.script.Item.{Item}
@@ -51,4 +52,5 @@ AFaultEndsTheText =
 
 -- Items that stand before a course may be put there in two parts.
 abbrev pub ItemsMayStandBeforeInParts : Type 0
-ItemsMayStandBeforeInParts = (xs ys : List Item) (c : Course) → before (xs ++ ys) c ≡ before xs (before ys c)
+ItemsMayStandBeforeInParts =
+    (xs ys : List Item) (c : Course) → before (xs ++ ys) c ≡ before xs (before ys c)

@@ -1,4 +1,4 @@
--- The one leaf that covers a page, and the one that a name names.
+-- The one leaf that covers a page, and the one that a name names. For the machine too.
 use Rattle.std.proofs.Common.{◌≡◌, sym, ◌∙◌, subst, ℕ, true, List, Some, arith}
 use Rattle.std.proofs.lemmas.Bool.Decides.{nat_tests}
 use Rattle.xl_model.specs.declared.address.Order.{Order}

@@ -1,4 +1,4 @@
--- A leaf with which the arrays answer is held by one of them, and covers the page.
+-- A leaf with which the arrays answer is held by one of them, and covers the page. For the machine too.
 use Rattle.std.proofs.Common.{◌≡◌, refl, subst, ℕ, zero, suc, Bool, true, false, List, [], ◌∷◌, Option, None, Some, inl, inr, slice_index_or}
 use Rattle.std.specs.Prelude.{find}
 use Rattle.std.specs.Cmp.{second_so}

@@ -1,4 +1,4 @@
--- A table takes the same spaces and pages after each call, and only a walk counts loads.
+-- A table takes the same spaces and pages after each call, and only a walk counts loads. For the machine too.
 use Rattle.std.proofs.Common.{◌≡◌, ◌∙◌, sym, subst, ℕ, refl, List, Option, None, Some, Result, ◌<◌}
 use Rattle.xl_model.specs.declared.event.Reach.{Reach}
 use Rattle.xl_model.specs.declared.leaf.Leaf.{Leaf}

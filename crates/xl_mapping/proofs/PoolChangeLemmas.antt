@@ -1,5 +1,5 @@
 -- A pool of frames through each change: a block is taken for a new leaf, given back for one that goes, and a leaf
--- that moves or gets another permission keeps its frames.
+-- that moves or gets another permission keeps its frames. For the machine.
 use Rattle.std.proofs.Common.{◌≡◌, refl, sym, ap, ◌∙◌, subst, ℕ, ◌+◌, ◌<◌, ◌≤◌, Bool, true, false, not, ◌&&◌, List, length, Some, inl, inr, slice_index_or, nat_lt, arith}
 use Rattle.std.specs.List.{list_any}
 use Rattle.std.proofs.lemmas.Bool.Decides.{nat_tests}

@@ -1,4 +1,4 @@
--- The lowest free block of a pool is the lowest block that no leaf holds.
+-- The lowest free block of a pool is the lowest block that no leaf holds. For the machine.
 use Rattle.std.proofs.Common.{◌≡◌, refl, sym, ap, ◌∙◌, subst, ℕ, ◌+◌, ◌*◌, ◌<◌, ◌≤◌, Bool, true, false, not, List, length, Option, None, Some, slice_index_or, nat_le, arith}
 use Rattle.std.specs.List.{list_any}
 use Rattle.std.proofs.lemmas.Bool.Decides.{nat_tests}

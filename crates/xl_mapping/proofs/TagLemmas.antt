@@ -1,4 +1,4 @@
--- Tags of kept leaves: each has its own, and how each call changes their list.
+-- Tags of kept leaves: each has its own, and how each call changes their list. For the tables of chains.
 use Rattle.std.proofs.Common.{◌≡◌, refl, sym, ap, ◌∙◌, subst, ℕ, suc, Bool, true, false, not, cond, List, [], ◌∷◌, map, length, inl, inr, ◌<◌, ◌+◌, ◌^◌, ◌==◌, arith, ◌⊎◌, ◌||◌}
 use Rattle.std.specs.Prelude.{filter}
 use Rattle.std.specs.List.{list_any}

@@ -1,6 +1,6 @@
 -- How many members pass a test: of two lists together, of a list with an item more in front of its bucket, and of
 -- kept leaves with one less or with another permission. For the counts of leaves by section.
-use Rattle.std.proofs.Common.{◌≡◌, refl, sym, ap, ◌∙◌, ℕ, ◌+◌, ◌≤◌, Bool, true, false, not, cond, List, [], ◌∷◌, ◌++◌, map, length, nat_lt, ◌==◌, ◌||◌, inl, inr, arith}
+use Rattle.std.proofs.Common.{◌≡◌, refl, sym, ap, ◌∙◌, ℕ, ◌+◌, ◌≤◌, Bool, true, false, not, cond, List, [], ◌∷◌, ◌++◌, map, length, nat_lt, ◌==◌, ◌||◌, inl, inr, arith, ◌&&◌, subst}
 use Rattle.std.specs.List.{list_any}
 use Rattle.std.proofs.lemmas.Bool.Decides.{nat_tests}
 use Rattle.xl_model.specs.declared.address.Order.{Order}
@@ -9,7 +9,7 @@ use Rattle.xl_model.specs.declared.leaf.Leaf.{Leaf}
 use Rattle.xl_model.specs.Base.{one_if}
 use Rattle.xl_model.specs.Chains.{bucket_of}
 use Rattle.xl_model.specs.Mapping.{is_leaf}
-use Rattle.xl_mapping.specs.Members.{In}
+use Rattle.xl_mapping.specs.Members.{In, Once}
 use Rattle.xl_mapping.specs.Buckets.{in_front_by}
 use Rattle.xl_mapping.specs.Kept.{IsKept, without_named, with_perm_named}
 use Rattle.xl_mapping.specs.Sections.{tally}
@@ -17,6 +17,7 @@ use Rattle.xl_mapping.proofs.SameLemmas.{both}
 use Rattle.xl_mapping.proofs.KeptLemmas.{kept-tail}
 use Rattle.xl_mapping.proofs.WithoutLemmas.{named-same, without-yes, without-no, without-all, behind}
 use Rattle.xl_mapping.proofs.GivenLemmas.{given, given-yes, given-no, perm-named-is}
+use Rattle.std.specs.Prelude.{filter}
 
 pub tally-short : {A : Type 0} (p : A → Bool) (xs : List A) → tally p xs ≤ length xs
 tally-short p [] = omega arith
@@ -92,3 +93,46 @@ tally-given p s f o perm xs same =
       | true ↦ λ t. ap p (given-yes s f o perm x t) ∙ same x
       | false ↦ λ t. ap p (given-no s f o perm x t)
     ] refl)
+
+-- a member that stands once and alone passes
+pub tally-zero : {A : Type 0} (q : A → Bool) (xs : List A) → ((z : A) → In z xs → q z ≡ true → ⊥) → tally q xs ≡ 0
+tally-zero q [] no_one = refl
+tally-zero q (x ∷ xs) no_one =
+    let on : tally q xs ≡ 0 = tally-zero q xs (λ z i. no_one z (inr i)) in
+    elim (q x) as (λ b. q x ≡ b → one_if b + tally q xs ≡ 0) [
+      | true ↦ λ t. absurd (no_one x (inl refl) t)
+      | false ↦ λ t. omega arith
+    ] refl
+
+pub tally-only : {A : Type 0} (q : A → Bool) (x : A) (xs : List A) → Once xs → In x xs → ((z : A) → In z xs → q z ≡ true → z ≡ x) → tally q xs ≡ one_if (q x)
+tally-only q x [] once i only = absurd i
+tally-only {A} q x (y ∷ ys) (first, rest) (inl e) only =
+    let none : tally q ys ≡ 0 = tally-zero q ys (λ z j t. first (subst (λ w. In w ys) (only z (inr j) t ∙ e) j)) in
+    ap (λ w. one_if (q w) + tally q ys) (sym e) ∙ (let k : one_if (q x) + tally q ys ≡ one_if (q x) = omega arith in k)
+tally-only {A} q x (y ∷ ys) (first, rest) (inr i) only =
+    let on : tally q ys ≡ one_if (q x) = tally-only q x ys rest i (λ z j. only z (inr j)) in
+    elim (q y) as (λ b. q y ≡ b → one_if b + tally q ys ≡ one_if (q x)) [
+      | true ↦ λ t. absurd (first (subst (λ w. In w ys) (sym (only y (inl refl) t)) i))
+      | false ↦ λ t. omega arith
+    ] refl
+
+-- where any two that pass are one, at most one passes
+pub tally-most : {A : Type 0} (q : A → Bool) (xs : List A) → Once xs → ((y z : A) → In y xs → In z xs → q y ≡ true → q z ≡ true → y ≡ z) → tally q xs ≤ 1
+tally-most q [] once one = omega arith
+tally-most {A} q (x ∷ xs) (first, rest) one =
+    elim (q x) as (λ b. q x ≡ b → one_if b + tally q xs ≤ 1) [
+      | true ↦ λ t.
+          let none : tally q xs ≡ 0 = tally-zero q xs (λ z i u. first (subst (λ w. In w xs) (one z x (inr i) (inl refl) u t) i)) in
+          omega arith
+      | false ↦ λ t. let on : tally q xs ≤ 1 = tally-most q xs rest (λ y z i j. one y z (inr i) (inr j)) in omega arith
+    ] refl
+
+-- what is filtered out, and what stays
+pub tally-filter : {A : Type 0} (f q : A → Bool) (xs : List A) → tally q xs ≡ tally q (filter f xs) + tally (λ z. not (f z) && q z) xs
+tally-filter f q [] = refl
+tally-filter f q (x ∷ xs) =
+    let on : tally q xs ≡ tally q (filter f xs) + tally (λ z. not (f z) && q z) xs = tally-filter f q xs in
+    elim (f x) as (λ b. one_if (q x) + tally q xs ≡ tally q (cond b (x ∷ filter f xs) (filter f xs)) + (one_if (not b && q x) + tally (λ z. not (f z) && q z) xs)) [
+      | true ↦ omega arith
+      | false ↦ omega arith
+    ]

@@ -48,7 +48,6 @@ mapping-without s f o old xs k i named =
     In-without z old.space old.first (mapping_of xs) (In-mapping z xs k n)
     (other-key s f o old z xs k i named n (not-true (is_leaf s f o z) (filter-passes p z xs m))))
 
-
 pub kept-without : (s f : ℕ) (o : Order) (xs : List Leaf) → IsKept xs → IsKept (without_named s f o xs)
 unfolding without_named
 kept-without s f o xs k = kept-filter _ xs k

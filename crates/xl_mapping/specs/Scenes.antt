@@ -9,7 +9,8 @@ use Rattle.xl_model.specs.Scenes.{Served}
 -- each row after some items, served by itself
 abbrev pub rows_by : List Item → List Area → List Served → List Served
 rows_by items areas [] = []
-rows_by items areas (r ∷ rows) = record r { state = states_after r.row items areas r.state } ∷ rows_by items areas rows
+rows_by items areas (r ∷ rows) =
+    record r { state = states_after r.row items areas r.state } ∷ rows_by items areas rows
 
 -- each row with its own run over some items
 abbrev pub ran_by : List Item → List Row → List Served

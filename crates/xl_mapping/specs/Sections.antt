@@ -1,5 +1,5 @@
 -- Leaves counted by a test, and the sections in which leaves lie.
-use Rattle.std.specs.Prelude.{ℕ, ◌+◌, ◌*◌, ◌/◌, ◌≡◌, ◌==◌, Bool, ◌&&◌, nat_le, List, [], ◌∷◌}
+use Rattle.std.specs.Prelude.{ℕ, ◌+◌, ◌*◌, ◌/◌, ◌≡◌, ◌==◌, Bool, ◌&&◌, nat_le, List, [], ◌∷◌, ◌++◌}
 use Rattle.xl_model.specs.declared.address.Order.{Order}
 use Rattle.xl_model.specs.declared.leaf.Leaf.{Leaf}
 use Rattle.xl_model.specs.declared.way.Entry.{Entry}
@@ -34,3 +34,8 @@ pub record IsAligned (leaf : Leaf) : Type 0 where
 -- the entries that stand in a way
 abbrev pub entries_of : WayShape → List Entry
 entries_of w = w.entries
+
+-- the entries of all ways, way by way
+abbrev pub entries_in : List WayShape → List Entry
+entries_in [] = []
+entries_in (w ∷ ways) = w.entries ++ entries_in ways
