@@ -1,20 +1,29 @@
 //! What a script is served to.
 
-ghost use Rattle.std.specs.Prelude.{List, [], ◌∷◌, is_ok};
+ghost use Rattle.std.specs.Prelude.{◌≡◌, List, [], ◌∷◌, is_ok, IfOk};
 ghost use Rattle.xl_model.specs.declared.script.Item.TheVariants.{Command, Referenced};
-ghost use Rattle.xl_model.specs.Scenes.{Served};
+ghost use Rattle.xl_model.specs.Rows.{Row};
+ghost use Rattle.xl_model.specs.Scenes.{Served, opened};
 ghost use Rattle.xl_model.specs.Report.{row_lines};
 ghost use Rattle.xl_outside.specs.Sinks.{SinkAfter};
 ghost use Rattle.xl_serving.specs.Serving.{HasServed, scene_of};
 
-use xl_model::{Area, Event, Kind};
+use std::alloc::Global;
+use xl_model::{Area, Event, Kind, NoMemory};
 use xl_outside::{Failed, Sink};
 
 /// Rows that are served: each item, with the events of its demand, by one row after another. Where
 /// answers are asked for, the lines of an item are written as it is served.
-pub trait Rows {
+pub trait Rows: Sized {
+    /// The designs of the rows, in their order.
+    ghost designs: { List Row };
+
     /// The rows with their states.
     ghost rows: { Self → List Served };
+
+    /// The rows in their opening states. All memory that they want is taken here.
+    fn open(alloc: Global) -> Result<Self, NoMemory>
+        ensures { IfOk result (λ r. rows r ≡ opened designs) };
 
     /// Serves an event of a command, where these areas were declared.
     fn command<K: Sink>(
