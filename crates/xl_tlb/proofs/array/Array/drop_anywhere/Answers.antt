@@ -1,0 +1,12 @@
+use Rattle.std.proofs.Common.{◌∙◌, ap}
+use Rattle.xl_model.specs.declared.address.Order.TheVariants as order
+use Rattle.xl_tlb.specs.Arrays.{covers_anywhere, covers_anywhere_as}
+use Rattle.xl_model.specs.Tlb.{TlbArray, array_without}
+use Rattle.xl_tlb.proofs.Drops.{array_in_turn, each_order}
+use Rattle.xl_tlb.proofs.array.Array.drop_anywhere.Goals as goal
+
+pub returns-clause-array : goal.returns-clause-array
+returns-clause-array g c =
+    c.drop_anywhere_as-3.ensures.array
+    ∙ ap (λ (a : TlbArray). array_without (covers_anywhere_as c.args.page order.G1) a) (c.drop_anywhere_as-2.ensures.array ∙ ap (λ (a : TlbArray). array_without (covers_anywhere_as c.args.page order.M2) a) c.drop_anywhere_as.ensures.array)
+    ∙ array_in_turn (covers_anywhere_as c.args.page order.K4) (covers_anywhere_as c.args.page order.M2) (covers_anywhere_as c.args.page order.G1) (covers_anywhere c.args.page) (λ x. each_order x.space c.args.page x) c.args.self.now
