@@ -29,7 +29,8 @@ use Rattle.xl_mapping.proofs.RuleLemmas.{kept-sound, sound-of}
 use Rattle.xl_mapping.proofs.FreshArrayLemmas.{changed-fresh}
 use Rattle.xl_mapping.proofs.LimitLemmas.{limits-changed, loads-changed}
 use Rattle.xl_tlb.specs.Tlbs.{TlbState}
-use Rattle.xl_machine.specs.Served.{Served, counts_of, state_of, served, after_of, done_counts, IsRowFor, IsPoolOf, IsServed}
+use Rattle.xl_mapping.specs.Pools.{IsPoolOf}
+use Rattle.xl_machine.specs.Served.{Served, counts_of, state_of, served, after_of, done_counts, IsRowFor, IsServed}
 
 -- an event that is no change
 no-access : (row : Row) (leaves : List Leaf) (va : ℕ) (k : Kind) (c : Change) → change_of row leaves (event.Access va k) ≡ Some c → ⊥
@@ -116,14 +117,15 @@ module _ (row : Row) (e : Event) (c : Change) (table : TableState) (ruled : rule
           space_in = kept.space_in;
         })
 
-    pub refused-kept : (r : Refused) (new : TableState) → Err r ≡ table_answer c table → new ≡ table_after c table → IsServed row new current tlb pool
-    refused-kept r new a n =
+    pub refused-kept : (r : Refused) (new : TableState) (after : List Bool) → Err r ≡ table_answer c table → new ≡ table_after c table
+        → IsPoolOf row.frames table.leaves after → IsServed row new current tlb after
+    refused-kept r new after a n tie =
         let l : (table_after c table).leaves ≡ table.leaves = refused_leaves c table r (sym a) in
         rw n (record {
           fits = row-fits row c table kept.fits;
           mapping = rw l kept.mapping;
           fresh = rw l kept.fresh;
-          pool_is = rw l kept.pool_is;
+          pool_is = rw l tie;
           space_in = kept.space_in;
         })
 

@@ -20,7 +20,7 @@ use Rattle.xl_model.specs.Tally.{no_counts}
 use Rattle.xl_mapping.specs.Mappings.{IsMapping}
 use Rattle.xl_mapping.proofs.FreshArrayLemmas.{opening-fresh}
 use Rattle.xl_tlb.specs.Tlbs.{NoneBelow, IsRising, IsSpec, AreSpecs, TlbState, tlb_opening}
-use Rattle.xl_machine.specs.Served.{Served, served, opened, IsRowFor, IsPoolOf, IsServed}
+use Rattle.xl_machine.specs.Served.{served, opened, IsRowFor, IsServed}
 
 -- levels that rise by one at most rise
 none-below : (low level : ℕ) (specs : List TlbSpec) → low ≤ level → NoneBelow level specs → NoneBelow low specs

@@ -1,0 +1,138 @@
+-- What a command that no rule refuses has shown: its change, the leaf that it names, the place that it takes.
+use Rattle.std.proofs.Common.{◌≡◌, ℕ, ◌+◌, ◌*◌, ◌^◌, ◌<◌, ◌≤◌, Bool, true, false, List, [], ◌∷◌, is_some, Option, None, Some, refl, sym, ◌∙◌, ap, subst, arith}
+use Rattle.xl_model.specs.declared.address.Order.{Order}
+use Rattle.xl_model.specs.declared.perm.Perm.{Perm}
+use Rattle.xl_model.specs.declared.leaf.Leaf.{Leaf}
+use Rattle.xl_model.specs.declared.event.Event.TheVariants as event
+use Rattle.xl_model.specs.Addresses.{page_of, levels_of, pages_of}
+use Rattle.xl_model.specs.Mapping.{covers, is_leaf, leaf_at_page, leaf_named, meets_any}
+use Rattle.xl_model.specs.Frames.{lowest}
+use Rattle.xl_model.specs.Rows.{Row}
+use Rattle.xl_model.specs.Changes.{Change, Insert, Remove, Protect, Relocate, IsNamed}
+use Rattle.xl_model.specs.Rules.{rule, change_of, there_rule, named_rule, frames_rule}
+use Rattle.xl_model.specs.Structures.{TableState, IsPage, IsBlock, IsLeafFor}
+use Rattle.xl_mapping.specs.Members.{In}
+use Rattle.xl_mapping.specs.Mappings.{IsMapping, IsLeafOf, IsNewLeaf, IsNewPlace}
+use Rattle.xl_mapping.proofs.MemberLemmas.{find-In}
+use Rattle.xl_mapping.proofs.RuleLemmas.{or-first, or-second, unless-true, has-place, sound-of}
+use Rattle.xl_mapping.proofs.CoverLemmas.{named-by}
+use Rattle.xl_model.specs.declared.row.Purge.{Purge}
+use Rattle.xl_model.specs.Changes.{changed, old_leaf}
+use Rattle.xl_model.specs.RowRun.{arrays_after}
+use Rattle.xl_frames.specs.Pool.{marked}
+use Rattle.xl_mapping.specs.Pools.{IsPoolOf}
+use Rattle.xl_mapping.proofs.ChangeLemmas.{stays-changed}
+use Rattle.xl_mapping.proofs.PoolChangeLemmas.{pool-taken}
+use Rattle.xl_tlb.specs.Tlbs.{TlbState, tlb_purged}
+use Rattle.xl_tlb.specs.Arrays.{IsFit}
+use Rattle.xl_machine.specs.Served.{IsRowFor}
+use Rattle.xl_machine.proofs.Accesses.{leaf_fit}
+
+-- the change that each command is
+pub unmap-is : (row : Row) (leaves : List Leaf) (space va : ℕ) (o : Order) → change_of row leaves (event.Unmap space va o) ≡ Some (Remove space (page_of row.mode va) o)
+unfolding change_of
+unmap-is row leaves space va o = refl
+
+pub protect-is : (row : Row) (leaves : List Leaf) (space va : ℕ) (o : Order) (perm : Perm) → change_of row leaves (event.Protect space va o perm) ≡ Some (Protect space (page_of row.mode va) o perm)
+unfolding change_of
+protect-is row leaves space va o perm = refl
+
+pub move-is : (row : Row) (leaves : List Leaf) (space from to : ℕ) (o : Order) → change_of row leaves (event.Move space from to o) ≡ Some (Relocate space (page_of row.mode from) (page_of row.mode to) o)
+unfolding change_of
+move-is row leaves space from to o = refl
+
+pub map-is : (row : Row) (leaves : List Leaf) (space va : ℕ) (o : Order) (perm : Perm) (at : ℕ) → lowest row.frames o leaves ≡ Some at
+    → change_of row leaves (event.Map space va o perm) ≡ Some (Insert (record { space = space; first = page_of row.mode va; order = o; frame = at; perm = perm }))
+unfolding change_of
+map-is row leaves space va o perm at e = rw e refl
+
+-- a map has frames
+pub has-frames : (row : Row) (leaves : List Leaf) (space va : ℕ) (o : Order) (perm : Perm) → rule row leaves (event.Map space va o perm) ≡ None → lowest row.frames o leaves ≡ None → ⊥
+unfolding rule
+has-frames row leaves space va o perm r e =
+    let k : frames_rule (lowest row.frames o leaves) ≡ None = or-second _ _ (or-second _ _ r) in
+    let m : frames_rule None ≡ None = rw e at k in
+    cc
+
+-- the space and the named leaf of a command
+pub there-unmap : (row : Row) (leaves : List Leaf) (space va : ℕ) (o : Order) → rule row leaves (event.Unmap space va o) ≡ None → (space < row.spaces) × (there_rule row leaves space va o ≡ None)
+unfolding rule
+there-unmap row leaves space va o r = ((has-place row space o (va ∷ []) (or-first _ _ r)).space_in, or-second _ _ r)
+
+pub there-protect : (row : Row) (leaves : List Leaf) (space va : ℕ) (o : Order) (perm : Perm) → rule row leaves (event.Protect space va o perm) ≡ None → (space < row.spaces) × (there_rule row leaves space va o ≡ None)
+unfolding rule
+there-protect row leaves space va o perm r = ((has-place row space o (va ∷ []) (or-first _ _ r)).space_in, or-second _ _ r)
+
+pub there-move : (row : Row) (leaves : List Leaf) (space from to : ℕ) (o : Order) → rule row leaves (event.Move space from to o) ≡ None → (space < row.spaces) × (there_rule row leaves space from o ≡ None)
+unfolding rule
+there-move row leaves space from to o r = ((has-place row space o (from ∷ to ∷ []) (or-first _ _ r)).space_in, or-first _ _ (or-second _ _ r))
+
+-- the new place of a move, and the new leaf of a map
+pub place-move : (row : Row) (leaves : List Leaf) (space from to : ℕ) (o : Order) → rule row leaves (event.Move space from to o) ≡ None → IsNewPlace row leaves space (page_of row.mode to) o
+place-move row leaves space from to o r = sound-of row leaves (event.Move space from to o) (Relocate space (page_of row.mode from) (page_of row.mode to) o) r (move-is row leaves space from to o)
+
+pub leaf-map : (row : Row) (leaves : List Leaf) (space va : ℕ) (o : Order) (perm : Perm) (at : ℕ) → rule row leaves (event.Map space va o perm) ≡ None → lowest row.frames o leaves ≡ Some at
+    → IsNewLeaf row leaves (record { space = space; first = page_of row.mode va; order = o; frame = at; perm = perm })
+leaf-map row leaves space va o perm at r e = sound-of row leaves (event.Map space va o perm) (Insert (record { space = space; first = page_of row.mode va; order = o; frame = at; perm = perm })) r (map-is row leaves space va o perm at e)
+
+-- what a row takes, its table takes
+module _ (row : Row) (table : TableState) (fits : IsRowFor row table) where
+  pub page-for : (space page : ℕ) → space < row.spaces → page < 2 ^ (9 * levels_of row.mode) → IsPage table.shape space page
+  page-for space page s p = let a = fits.spaces_in in let b = fits.pages_in in record { space_in = omega arith; page_in = omega arith }
+
+  pub block-for : (space to : ℕ) (o : Order) → IsNewPlace row table.leaves space to o → IsBlock table.shape space to o
+  block-for space to o new =
+      let a = fits.spaces_in in let b = fits.pages_in in let s = new.space_in in let p = new.pages_in in
+      record { space_in = omega arith; pages_in = omega arith; aligned = new.pages_aligned }
+
+  pub leaf-for : (leaf : Leaf) → IsLeafOf row leaf → IsLeafFor table.shape leaf
+  leaf-for leaf new =
+      let a = fits.spaces_in in let b = fits.pages_in in let s = new.space_in in let p = new.pages_in in let f = new.frames_in in let g = fits.few_frames in
+      record {
+        block = record { space_in = omega arith; pages_in = omega arith; aligned = new.pages_aligned };
+        frames_in = omega arith;
+        frames_aligned = new.frames_aligned;
+      }
+
+-- the leaf that covers the page of a command that names one
+module _ (row : Row) (table : TableState) (space va : ℕ) (o : Order) (there : there_rule row table.leaves space va o ≡ None) (mapping : IsMapping row table.leaves) where
+  pub is-covered : (x : Leaf) × (leaf_at_page space (page_of row.mode va) table.leaves ≡ Some x)
+  is-covered = go (leaf_at_page space (page_of row.mode va) table.leaves) refl there
+    where
+      go : (f : Option Leaf) → leaf_at_page space (page_of row.mode va) table.leaves ≡ f → named_rule f space (page_of row.mode va) o ≡ None
+          → (x : Leaf) × (leaf_at_page space (page_of row.mode va) table.leaves ≡ Some x)
+      go None e n = cc
+      go (Some x) e n = (x, e)
+
+  module _ (old : Leaf) (found : Some old ≡ leaf_at_page space (page_of row.mode va) table.leaves) where
+    member : In old table.leaves
+    unfolding leaf_at_page
+    member = find-In (covers space (page_of row.mode va)) old table.leaves (sym found)
+
+    is-it : is_leaf space (page_of row.mode va) o old ≡ true
+    is-it = let k : named_rule (Some old) space (page_of row.mode va) o ≡ None = rw (← found) at there in unless-true _ _ k
+
+    pub named : leaf_named space (page_of row.mode va) o table.leaves ≡ Some old
+    named = named-by row table.leaves space (page_of row.mode va) o old mapping member is-it
+
+    pub is-named : IsNamed space (page_of row.mode va) o table.leaves
+    is-named = ap (λ (f : Option Leaf). is_some f) named
+
+    pub valid : IsLeafOf row old
+    valid = mapping.valid old member
+
+    pub old-fit : IsRowFor row table → IsFit old
+    old-fit fits = leaf_fit row table old fits valid
+
+-- the arrays after a purge of the leaf as it stood
+pub purged-is : (purge : Purge) (c : Change) (leaves : List Leaf) (old : Leaf) (tlb next : TlbState) → old_leaf c leaves ≡ Some old → next ≡ tlb_purged purge old tlb
+    → next ≡ record tlb { arrays = arrays_after purge (old_leaf c leaves) tlb.arrays }
+unfolding tlb_purged
+purged-is purge c leaves old tlb next e n = rw e n
+
+-- the pool with the frames of a new leaf taken
+pub pool-mapped : (row : Row) (leaf : Leaf) (leaves : List Leaf) (pool : List Bool) → IsMapping row leaves → IsNewLeaf row leaves leaf → IsPoolOf row.frames leaves pool
+    → IsPoolOf row.frames (changed (Insert leaf) leaves) (marked pool leaf.frame (pages_of leaf.order) false)
+unfolding changed
+pool-mapped row leaf leaves pool m new tie =
+    pool-taken row.frames leaf leaves pool tie new.valid.frames_in new.free (λ x i. stays-changed row leaves (Insert leaf) x m new i (λ y e s. cc))
