@@ -1,0 +1,14 @@
+use Rattle.xl_model.specs.Rows.{row_of}
+use Rattle.xl_machine.proofs.OpenLemmas.{rising, opening-kept, opening-is}
+use Rattle.xl_machine.proofs.machine.Machine.open.Goals as goal
+
+pub open-requires-2-clause-rising : goal.open-requires-2-clause-rising
+open-requires-2-clause-rising g c = rising c.args.row.tlb.items c.requires.row.levels_are
+
+pub invariant_of-result : goal.invariant_of-result
+invariant_of-result g c =
+    opening-kept (row_of c.args.row) (g.S.Structure.table c.args.table) c.in_ok-tlb.tlb c.in_ok-frames.frames c.requires.row c.requires.table c.in_ok-tlb.ensures c.in_ok-frames.ensures
+
+pub returns : goal.returns
+returns g c =
+    opening-is (row_of c.args.row) (g.S.Structure.table c.args.table) c.in_ok-tlb.tlb c.none-counts.result c.len.result c.requires.table c.in_ok-tlb.ensures c.none-counts.ensures c.len.ensures.value

@@ -1,0 +1,17 @@
+use Rattle.std.proofs.Common.{◌≡◌, None}
+use Rattle.xl_model.specs.declared.event.Event.TheVariants as event
+use Rattle.xl_model.specs.Rows.{row_of}
+use Rattle.xl_machine.specs.Rules.{rule_of}
+use Rattle.xl_machine.specs.Served.{served}
+use Rattle.xl_machine.proofs.FenceLemmas.{switched-kept, switched-is}
+use Rattle.xl_machine.proofs.machine.Machine.switch.Goals as goal
+
+pub invariant_of-self : goal.invariant_of-self
+invariant_of-self g c =
+    let ruled : rule_of (event.Space c.args.space) (served (row_of c.self.inside.row) (g.S.Structure.table c.self.inside.table) c.self.inside.space c.self.inside.tlb c.self.inside.counts) ≡ None = rw (← c.self.view_is) at c.requires in
+    switched-kept (row_of c.self.inside.row) (g.S.Structure.table c.self.inside.table) c.self.inside.space c.args.space c.self.inside.tlb c.self.inside.frames c.self.inside.counts c.self.invariant ruled
+
+pub returns : goal.returns
+returns g c =
+    let ruled : rule_of (event.Space c.args.space) (served (row_of c.self.inside.row) (g.S.Structure.table c.self.inside.table) c.self.inside.space c.self.inside.tlb c.self.inside.counts) ≡ None = rw (← c.self.view_is) at c.requires in
+    rw (c.accept.ensures, ← c.self.view_is) (switched-is (row_of c.self.inside.row) (g.S.Structure.table c.self.inside.table) c.self.inside.space c.args.space c.self.inside.tlb c.self.inside.counts ruled)
