@@ -72,8 +72,8 @@ impl<S: Structure> Machine<S> {
     {
         Counts {
             reads: self.table.loads(),
-            hits: self.tlb.hits(),
-            misses: self.tlb.misses(),
+            hits: self.tlb.all_hits(),
+            misses: self.tlb.all_misses(),
             fills: self.tlb.fills(),
             ..self.counts
         }

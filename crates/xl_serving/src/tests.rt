@@ -5,7 +5,7 @@ ghost use Rattle.std.specs.Prelude.{[]};
 use crate::{Rows, Status, Tape, run};
 use std::alloc::{AllocError, Global};
 use std::test::Fail;
-use xl_model::{Area, Event, Kind};
+use xl_model::{Area, Event, Kind, NoMemory};
 use xl_outside::{Failed, MemFolder, MemSink, Sink};
 
 /// No rows.
@@ -13,7 +13,13 @@ use xl_outside::{Failed, MemFolder, MemSink, Sink};
 struct NoRows;
 
 impl Rows for NoRows {
+    ghost designs = { [] };
+
     ghost rows = { λ _. [] };
+
+    fn open(_alloc: Global) -> Result<NoRows, NoMemory> {
+        Ok(NoRows)
+    }
 
     fn command<K: Sink>(
         &mut self,
@@ -138,7 +144,6 @@ fn each_run_has_its_ending_and_its_message(rt: HostRuntime) -> Result<(), Fail> 
         let status = run::<NoRows, Tape, MemFolder, MemSink, MemSink>(
             alloc,
             &given,
-            &mut NoRows,
             &mut files,
             &mut out,
             &mut err,

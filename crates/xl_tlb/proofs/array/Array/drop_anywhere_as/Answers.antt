@@ -1,7 +1,7 @@
 use Rattle.xl_tlb.specs.Arrays.{covers_anywhere_as}
 use Rattle.xl_tlb.specs.Coding.{has_block, tag_of}
-use Rattle.xl_tlb.proofs.Codes.{same_block}
-use Rattle.xl_tlb.proofs.Drops.{drop_array, drop_kept, drop_there, left_over, block_there}
+use Rattle.xl_tlb.proofs.TagLemmas.{same_block}
+use Rattle.xl_tlb.proofs.DropLemmas.{drop_array, drop_kept, drop_there, left_over, block_there}
 use Rattle.xl_tlb.proofs.array.Array.drop_anywhere_as.Goals as goal
 
 pub invariant_of-self : goal.invariant_of-self
@@ -10,7 +10,7 @@ invariant_of-self g c =
     (λ x. same_block x c.args.page c.args.order)
     (drop_there c.self.inside.spec c.self.inside.sets c.drop_block.new.sets g.row.W _ (has_block (tag_of 0 c.args.page c.args.order)) c.self.invariant
     (block_there c.self.inside.spec c.args.page c.args.order)
-    (rw (c.set_of-set.ensures.value, c.tag_of-tag.ensures) at c.drop_block.ensures.kept))
+    (rw (c.set_of-set.ensures.value, c.tag_of-tag.ensures) at c.drop_block.ensures.gone.kept))
     g.row.W c.self.invariant
 
 pub returns-clause-array : goal.returns-clause-array
@@ -19,7 +19,7 @@ returns-clause-array g c =
     (λ x. same_block x c.args.page c.args.order)
     (drop_there c.self.inside.spec c.self.inside.sets c.drop_block.new.sets g.row.W _ (has_block (tag_of 0 c.args.page c.args.order)) c.self.invariant
     (block_there c.self.inside.spec c.args.page c.args.order)
-    (rw (c.set_of-set.ensures.value, c.tag_of-tag.ensures) at c.drop_block.ensures.kept)))
+    (rw (c.set_of-set.ensures.value, c.tag_of-tag.ensures) at c.drop_block.ensures.gone.kept)))
 
 pub returns-clause-left : goal.returns-clause-left
-returns-clause-left g c = rw (← c.self.view_is) (left_over c.drop_block.result c.self.inside.sets c.drop_block.new.sets c.drop_block.ensures.left)
+returns-clause-left g c = rw (← c.self.view_is) (left_over c.drop_block.result c.self.inside.sets c.drop_block.new.sets c.drop_block.ensures.gone.count)

@@ -1,7 +1,7 @@
 use Rattle.xl_model.specs.Tlb.{covers_as}
 use Rattle.xl_tlb.specs.Coding.{has_tag, tag_of}
-use Rattle.xl_tlb.proofs.Codes.{same_tag}
-use Rattle.xl_tlb.proofs.Drops.{drop_array, drop_kept, drop_there, left_over, tag_there}
+use Rattle.xl_tlb.proofs.TagLemmas.{same_tag}
+use Rattle.xl_tlb.proofs.DropLemmas.{drop_array, drop_kept, drop_there, left_over, tag_there}
 use Rattle.xl_tlb.proofs.array.Array.drop_as.Goals as goal
 
 pub invariant_of-self : goal.invariant_of-self
@@ -10,7 +10,7 @@ invariant_of-self g c =
     (λ x. same_tag x c.args.space c.args.page c.args.order c.requires.space)
     (drop_there c.self.inside.spec c.self.inside.sets c.drop_tag.new.sets g.row.W _ (has_tag (tag_of c.args.space c.args.page c.args.order)) c.self.invariant
     (tag_there c.self.inside.spec c.args.space c.args.page c.args.order c.requires.space)
-    (rw (c.set_of-set.ensures.value, c.tag_of-tag.ensures) at c.drop_tag.ensures.kept))
+    (rw (c.set_of-set.ensures.value, c.tag_of-tag.ensures) at c.drop_tag.ensures.gone.kept))
     g.row.W c.self.invariant
 
 pub returns-clause-array : goal.returns-clause-array
@@ -19,7 +19,7 @@ returns-clause-array g c =
     (λ x. same_tag x c.args.space c.args.page c.args.order c.requires.space)
     (drop_there c.self.inside.spec c.self.inside.sets c.drop_tag.new.sets g.row.W _ (has_tag (tag_of c.args.space c.args.page c.args.order)) c.self.invariant
     (tag_there c.self.inside.spec c.args.space c.args.page c.args.order c.requires.space)
-    (rw (c.set_of-set.ensures.value, c.tag_of-tag.ensures) at c.drop_tag.ensures.kept)))
+    (rw (c.set_of-set.ensures.value, c.tag_of-tag.ensures) at c.drop_tag.ensures.gone.kept)))
 
 pub returns-clause-left : goal.returns-clause-left
-returns-clause-left g c = rw (← c.self.view_is) (left_over c.drop_tag.result c.self.inside.sets c.drop_tag.new.sets c.drop_tag.ensures.left)
+returns-clause-left g c = rw (← c.self.view_is) (left_over c.drop_tag.result c.self.inside.sets c.drop_tag.new.sets c.drop_tag.ensures.gone.count)

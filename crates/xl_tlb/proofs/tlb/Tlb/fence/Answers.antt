@@ -1,6 +1,6 @@
 use Rattle.std.proofs.Common.{◌≡◌, ◌++◌, length, take, drop, sym, ◌∙◌, ap}
 use Rattle.xl_model.specs.Tlb.{reaches_leaf}
-use Rattle.xl_tlb.proofs.Each.{written, purge_kept, fence_after}
+use Rattle.xl_tlb.proofs.TlbLemmas.{written, purge_kept, fence_after}
 use Rattle.xl_tlb.proofs.tlb.Tlb.fence.Goals as goal
 
 pub invariant_of-self : goal.invariant_of-self
