@@ -30,7 +30,8 @@ use Rattle.xl_mapping.proofs.FreshArrayLemmas.{changed-fresh}
 use Rattle.xl_mapping.proofs.LimitLemmas.{limits-changed, loads-changed}
 use Rattle.xl_tlb.specs.Tlbs.{TlbState}
 use Rattle.xl_mapping.specs.Pools.{IsPoolOf}
-use Rattle.xl_machine.specs.Served.{Served, counts_of, state_of, served, after_of, done_counts, IsRowFor, IsServed}
+use Rattle.xl_model.specs.Scenes.{Served}
+use Rattle.xl_machine.specs.Served.{counts_of, state_of, served, after_of, done_counts, IsRowFor, IsServed}
 
 -- an event that is no change
 no-access : (row : Row) (leaves : List Leaf) (va : ℕ) (k : Kind) (c : Change) → change_of row leaves (event.Access va k) ≡ Some c → ⊥
@@ -134,7 +135,7 @@ module _ (row : Row) (e : Event) (c : Change) (table : TableState) (ruled : rule
     purged = arrays_after row.purge (old_leaf c table.leaves) tlb.arrays
 
     done-by : (work : Work) (left : ℕ) → left + leaves_in purged ≡ leaves_in tlb.arrays
-        → changed_by (Ok work) row c (state_of table current tlb counts) ≡ state_of (table_after c table) current (record tlb { arrays = purged }) (done_counts work left counts)
+        → changed_by (Ok work) row c (state_of (length row.tlb) table current tlb counts) ≡ state_of (length row.tlb) (table_after c table) current (record tlb { arrays = purged }) (done_counts work left counts)
     unfolding count_accepted count_invalidated count_work
     done-by work left e =
         let n : leaves_in tlb.arrays - leaves_in purged ≡ left = omega (arith, e) in
@@ -146,15 +147,15 @@ module _ (row : Row) (e : Event) (c : Change) (table : TableState) (ruled : rule
         → served row new current next (done_counts work left counts) ≡ after_of e (served row table current tlb counts)
     done-state work left new next a n p m =
         let k : left + leaves_in purged ≡ leaves_in tlb.arrays = rw p at m in
-        rw (n, p) (ap (λ (s : RowState). let v : Served = record { row = row; state = s } in v) (sym (event-is row e c (state_of table current tlb counts) ruled is ∙ rw (← a) (done-by work left k))))
+        rw (n, p) (ap (λ (s : RowState). let v : Served = record { row = row; state = s } in v) (sym (event-is row e c (state_of (length row.tlb) table current tlb counts) ruled is ∙ rw (← a) (done-by work left k))))
 
-    pub done-answer : (work : Work) → Ok work ≡ table_answer c table → outcome.Done ≡ outcome_of row e (state_of table current tlb counts)
-    done-answer work a = sym (outcome-is row e c (state_of table current tlb counts) ruled is ∙ rw (← a) refl)
+    pub done-answer : (work : Work) → Ok work ≡ table_answer c table → outcome.Done ≡ outcome_of row e (state_of (length row.tlb) table current tlb counts)
+    done-answer work a = sym (outcome-is row e c (state_of (length row.tlb) table current tlb counts) ruled is ∙ rw (← a) refl)
 
-    pub refused-answer : (r : Refused) → Err r ≡ table_answer c table → outcome.Refused (refusal_of r.why) ≡ outcome_of row e (state_of table current tlb counts)
-    refused-answer r a = sym (outcome-is row e c (state_of table current tlb counts) ruled is ∙ rw (← a) refl)
+    pub refused-answer : (r : Refused) → Err r ≡ table_answer c table → outcome.Refused (refusal_of r.why) ≡ outcome_of row e (state_of (length row.tlb) table current tlb counts)
+    refused-answer r a = sym (outcome-is row e c (state_of (length row.tlb) table current tlb counts) ruled is ∙ rw (← a) refl)
 
-    refusal-passes : (w : NoRoom) (work : Work) (t : TableState) → t.loads ≡ table.loads → counts_refused w work (counts_of table tlb counts) ≡ counts_of t tlb (counts_refused w work counts)
+    refusal-passes : (w : NoRoom) (work : Work) (t : TableState) → t.loads ≡ table.loads → counts_refused w work (counts_of (length row.tlb) table tlb counts) ≡ counts_of (length row.tlb) t tlb (counts_refused w work counts)
     unfolding count_refusal count_work
     refusal-passes why.NoTable work t l = rw l refl
     refusal-passes why.WayAtCap work t l = rw l refl
@@ -163,6 +164,6 @@ module _ (row : Row) (e : Event) (c : Change) (table : TableState) (ruled : rule
         → served row new current tlb (counts_refused r.why r.work counts) ≡ after_of e (served row table current tlb counts)
     refused-state r new a n =
         let q = refusal-passes r.why r.work (table_after c table) (loads-changed c table) in
-        let same : changed_by (Err r) row c (state_of table current tlb counts) ≡ state_of (table_after c table) current tlb (counts_refused r.why r.work counts) =
+        let same : changed_by (Err r) row c (state_of (length row.tlb) table current tlb counts) ≡ state_of (length row.tlb) (table_after c table) current tlb (counts_refused r.why r.work counts) =
         ap (λ (k : Counts). let s : RowState = record { table = table_after c table; space = current; arrays = tlb.arrays; counts = k } in s) q in
-        rw n (ap (λ (s : RowState). let v : Served = record { row = row; state = s } in v) (sym (event-is row e c (state_of table current tlb counts) ruled is ∙ rw (← a) same)))
+        rw n (ap (λ (s : RowState). let v : Served = record { row = row; state = s } in v) (sym (event-is row e c (state_of (length row.tlb) table current tlb counts) ruled is ∙ rw (← a) same)))

@@ -1,5 +1,5 @@
 -- A fence of a machine, and a change of its space.
-use Rattle.std.proofs.Common.{◌≡◌, refl, sym, ◌∙◌, ap, subst, ℕ, ◌+◌, ◌-◌, ◌*◌, ◌^◌, ◌<◌, ◌≤◌, Bool, true, false, nat_lt, List, Option, None, Some, arith}
+use Rattle.std.proofs.Common.{length, ◌≡◌, refl, sym, ◌∙◌, ap, subst, ℕ, ◌+◌, ◌-◌, ◌*◌, ◌^◌, ◌<◌, ◌≤◌, Bool, true, false, nat_lt, List, Option, None, Some, arith}
 use Rattle.std.proofs.lemmas.Bool.Decides.{nat_tests}
 use Rattle.xl_model.specs.declared.event.Event.TheVariants as event
 use Rattle.xl_model.specs.declared.event.Reach.{Reach}
@@ -19,7 +19,8 @@ use Rattle.xl_mapping.proofs.RuleLemmas.{or-first, unless-true}
 use Rattle.xl_tlb.specs.Arrays.{InLimits}
 use Rattle.xl_tlb.specs.Tlbs.{TlbState, tlb_fenced}
 use Rattle.xl_machine.specs.Rules.{rule_of}
-use Rattle.xl_machine.specs.Served.{Served, counts_of, state_of, served, after_of, fence_counts, IsRowFor, IsServed}
+use Rattle.xl_model.specs.Scenes.{Served}
+use Rattle.xl_machine.specs.Served.{counts_of, state_of, served, after_of, fence_counts, IsRowFor, IsServed}
 use Rattle.xl_machine.proofs.Accesses.{page_small}
 
 -- a space that no rule refuses
@@ -74,8 +75,8 @@ pub fenced-kept : (row : Row) (table new : TableState) (space : ℕ) (tlb next :
     → new ≡ table_fenced to table → next ≡ tlb_fenced to tlb → IsServed row new space next pool
 fenced-kept row table new space tlb next pool to kept n t = rw (n, t) (kept-by row table space tlb pool to kept)
 
-state-by : (table : TableState) (space : ℕ) (tlb : TlbState) (counts : Counts) (to : Reach) (left : ℕ) → left + leaves_in (tlb_fenced to tlb).arrays ≡ leaves_in tlb.arrays
-    → fenced to (state_of table space tlb counts) ≡ state_of (table_fenced to table) space (tlb_fenced to tlb) (fence_counts (fence_answer to table) left counts)
+state-by : {n : ℕ} (table : TableState) (space : ℕ) (tlb : TlbState) (counts : Counts) (to : Reach) (left : ℕ) → left + leaves_in (tlb_fenced to tlb).arrays ≡ leaves_in tlb.arrays
+    → fenced to (state_of n table space tlb counts) ≡ state_of n (table_fenced to table) space (tlb_fenced to tlb) (fence_counts (fence_answer to table) left counts)
 unfolding fenced table_fenced tlb_fenced count_accepted count_fence count_invalidated
 state-by table space tlb counts to left e =
     let n : leaves_in tlb.arrays - leaves_in (arrays_without (reaches_leaf to) tlb.arrays) ≡ left = omega (arith, e) in
@@ -92,4 +93,4 @@ pub fenced-is : (row : Row) (table new : TableState) (space : ℕ) (tlb next : T
 fenced-is row table new space tlb next counts s entries left ruled e n t l =
     let k : left + leaves_in (tlb_fenced (reach_of row s) tlb).arrays ≡ leaves_in tlb.arrays = rw t at l in
     rw (e, n, t) (ap (λ (x : RowState). let v : Served = record { row = row; state = x } in v)
-    (sym (event-is row s (state_of table space tlb counts) ruled ∙ state-by table space tlb counts (reach_of row s) left k)))
+    (sym (event-is row s (state_of (length row.tlb) table space tlb counts) ruled ∙ state-by table space tlb counts (reach_of row s) left k)))

@@ -19,7 +19,8 @@ use Rattle.xl_mapping.proofs.PlaceLemmas.{page-block}
 use Rattle.xl_mapping.proofs.PoolLemmas.{free-of, lowest-none}
 use Rattle.xl_frames.specs.Pool.{IsFree, HasNone}
 use Rattle.xl_machine.specs.Rules.{rule_of}
-use Rattle.xl_machine.specs.Served.{Served, IsRowFor}
+use Rattle.xl_model.specs.Scenes.{Served}
+use Rattle.xl_machine.specs.Served.{IsRowFor}
 use Rattle.xl_mapping.specs.Pools.{IsPoolOf}
 
 -- a block that is free in the pool is free of leaves, so that there is a lowest one

@@ -15,7 +15,8 @@ use Rattle.xl_model.specs.Structures.{TableState}
 use Rattle.xl_model.specs.Tally.{count_refusal}
 use Rattle.xl_tlb.specs.Tlbs.{TlbState}
 use Rattle.xl_machine.specs.Rules.{rule_of}
-use Rattle.xl_machine.specs.Served.{Served, served, after_of}
+use Rattle.xl_model.specs.Scenes.{Served}
+use Rattle.xl_machine.specs.Served.{served, after_of}
 
 -- an event that a rule refuses
 pub refused-outcome : (e : Event) (v : Served) (r : Refusal) → rule_of e v ≡ Some r → outcome.Refused r ≡ outcome_of v.row e v.state

@@ -1,6 +1,6 @@
 //! A machine that is opened, and what it tells.
 
-ghost use Rattle.std.specs.Prelude.{◌≡◌, IfOk};
+ghost use Rattle.std.specs.Prelude.{◌≡◌, ◌≤◌, IfOk};
 ghost use Rattle.xl_model.specs.Mapping.{leaf_at_page};
 ghost use Rattle.xl_model.specs.RowRun.{opening};
 ghost use Rattle.xl_model.specs.Rows.{row_of, IsRow};
@@ -68,9 +68,11 @@ impl<S: Structure> Machine<S> {
 
     /// The counts so far.
     pub fn counts(&self) -> Counts
-        ensures { result ≡ self.now.state.counts }
+        ensures counts { result ≡ self.now.state.counts }
+        ensures few { result.arrays ≤ 6 }
     {
         Counts {
+            arrays: self.row.tlb.len(),
             reads: self.table.loads(),
             hits: self.tlb.all_hits(),
             misses: self.tlb.all_misses(),

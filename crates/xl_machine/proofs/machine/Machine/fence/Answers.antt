@@ -2,7 +2,8 @@ use Rattle.std.proofs.Common.{◌≡◌, None, ap}
 use Rattle.xl_model.specs.declared.event.Event.TheVariants as event
 use Rattle.xl_model.specs.Rows.{row_of}
 use Rattle.xl_machine.specs.Rules.{rule_of}
-use Rattle.xl_machine.specs.Served.{Served, served}
+use Rattle.xl_model.specs.Scenes.{Served}
+use Rattle.xl_machine.specs.Served.{served}
 use Rattle.xl_machine.proofs.FenceLemmas.{reach-in, fenced-kept, fenced-is}
 use Rattle.xl_machine.proofs.machine.Machine.fence.Goals as goal
 

@@ -2,7 +2,7 @@ use Rattle.std.proofs.Common.{◌≡◌, [], ◌∷◌, Option, None, Some, sym,
 use Rattle.xl_model.specs.declared.event.Refusal.{Refusal}
 use Rattle.xl_model.specs.Rows.{Row, row_of}
 use Rattle.xl_model.specs.Rules.{place_rule}
-use Rattle.xl_machine.specs.Served.{Served}
+use Rattle.xl_model.specs.Scenes.{Served}
 use Rattle.xl_machine.proofs.RefusalLemmas.{place-of, map-place, map-overlap, map-frames}
 use Rattle.xl_machine.proofs.machine.Machine.map_refusal.Goals as goal
 

@@ -1,6 +1,6 @@
 use Rattle.std.proofs.Common.{◌≡◌, [], ◌∷◌, Option, None, Some, sym, ◌∙◌, ap}
 use Rattle.xl_model.specs.Rows.{row_of}
-use Rattle.xl_machine.specs.Served.{Served}
+use Rattle.xl_model.specs.Scenes.{Served}
 use Rattle.xl_machine.proofs.RefusalLemmas.{place-of, unmap-place, unmap-there}
 use Rattle.xl_machine.proofs.machine.Machine.unmap_refusal.Goals as goal
 
