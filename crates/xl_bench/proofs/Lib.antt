@@ -1,14 +1,1 @@
-pub mod Pools
-pub mod Machines
-pub mod Maps
-pub mod Accesses
-pub mod Pieces
-pub mod Replies
-pub mod Told
-pub mod Serves
-pub mod Few
-pub mod Plays
-pub mod Placed
-pub mod Endings
-pub mod Arrays
-pub mod Messages
+pub mod LineLemmas

@@ -1,10 +1,2 @@
 pub mod BuiltIn
-pub mod Events
-pub mod Pools
-pub mod Machines
-pub mod Trails
-pub mod Tapes
-pub mod Serving
-pub mod Endings
-pub mod Messages
-pub mod Stops
+pub mod Lines

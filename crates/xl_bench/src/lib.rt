@@ -1,14 +1,12 @@
-//! The workbench: one row over a script and a trace.
+//! The workbench: the built-in row over a script and a trace.
 #![tactic(auto)]
 
 mod bench;
-mod machine;
-mod serve;
-mod status;
-mod stop;
-mod tape;
+mod demand;
+mod row;
 #[cfg(test)]
 mod tests;
 
 pub use bench::run;
-pub use status::Status;
+pub use row::BuiltInRow;
+pub use xl_serving::Status;

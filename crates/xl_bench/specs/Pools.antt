@@ -1,9 +1,0 @@
--- A pool of frames beside a mapping: a frame is free where no leaf holds it.
-use Rattle.std.specs.Prelude.{ℕ, ◌≡◌, ◌<◌, Bool, false, not, List, length, slice_index_or}
-use Rattle.std.specs.List.{list_any}
-use Rattle.xl_model.specs.declared.leaf.Leaf.{Leaf}
-use Rattle.xl_model.specs.Mapping.{holds_frames}
-
-pub record IsPoolOf (frames : ℕ) (leaves : List Leaf) (pool : List Bool) : Type 0 where
-  pub size : length pool ≡ frames
-  pub each : (frame : ℕ) → frame < frames → slice_index_or pool frame false ≡ not (list_any (holds_frames frame 1) leaves)
