@@ -1,8 +1,10 @@
-pub mod Bytes
-pub mod Long
-pub mod Numbers
-pub mod OwnForm
-pub mod Places
-pub mod Splits
-pub mod Steps
-mod Table
+mod AccessLemmas
+mod AddressLemmas
+mod ByteLemmas
+mod LaneLemmas
+mod LongLineLemmas
+mod NearLineLemmas
+mod OwnFormLemmas
+mod SplitLemmas
+mod StepLemmas
+mod TableLemmas

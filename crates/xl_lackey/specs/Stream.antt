@@ -1,57 +1,49 @@
 -- The records of a trace, read from its bytes, and what a reader of it stands at.
-use Rattle.std.specs.Prelude.{◌≡◌, ℕ, ◌+◌, ◌%◌, ◌^◌, ◌==◌, Bool, true, false, List, [], ◌∷◌, ◌++◌, if◌then◌else◌, Option, None, Some}
-use Rattle.xl_text.specs.Texts.{lines_of}
+use Rattle.std.specs.Prelude.{◌≡◌, ℕ, ◌+◌, ◌%◌, ◌^◌, Bool, true, false, List, [], ◌∷◌, ◌++◌, Option, None, Some}
+use Rattle.xl_text.specs.Texts.{lines_of, ended_lines, lines_by}
 use Rattle.xl_lackey.specs.declared.reference.Letter.{Letter}
 use Rattle.xl_lackey.specs.declared.line.Verdict.{Verdict}
 use Rattle.xl_lackey.specs.declared.line.Verdict.TheVariants.{Skipped, Found, Bad}
 use Rattle.xl_lackey.specs.declared.fault.Fault.{Fault}
 use Rattle.xl_lackey.specs.Lines.{judge}
 
--- the lines of a text that a newline (10) ends
-abbrev pub onto_ended : ℕ → List (List ℕ) → List (List ℕ)
-onto_ended b [] = []
-onto_ended b (line ∷ lines) = (b ∷ line) ∷ lines
-
-abbrev pub ended_lines : List ℕ → List (List ℕ)
-ended_lines [] = []
-ended_lines (b ∷ bs) = if b == 10 then ([] ∷ ended_lines bs) else onto_ended b (ended_lines bs)
-
--- the line after so many; lines are numbered from 1, modulo 2 ^ 64
+-- The number of the line after so many: lines are numbered from 1, modulo 2 ^ 64.
 abbrev pub next_line : ℕ → ℕ
 next_line n = (n + 1) % 2 ^ 64
 
--- a record of the trace, with the number of its line
-pub record Item : Type 0 where
+-- A record of the trace, with the number of its line.
+pub record Record : Type 0 where
   pub letter : Letter
   pub addr : ℕ
   pub size : ℕ
   pub line : ℕ
 
--- the records of some lines, and after them the end, which is None, or the first bad line
+-- The records of some lines, and after them the end, which is None, or the first bad line.
 abbrev pub Left : Type 0
-Left = List Item × Option Fault
+Left = List Record × Option Fault
 
--- a line of this number and verdict, and what comes after it
+-- What a line of this number and verdict gives, before what comes after it.
 abbrev pub with_verdict : ℕ → Verdict → Left → Left
 with_verdict n Skipped later = later
 with_verdict n (Found l a s) later = (record { letter = l; addr = a; size = s; line = n } ∷ later.0, later.1)
 with_verdict n (Bad why) later = ([], Some (record { line = n; reason = why }))
 
--- the records of lines that follow the first `n`
-abbrev pub items : ℕ → List (List ℕ) → Left
-items n [] = ([], None)
-items n (line ∷ lines) = with_verdict (next_line n) (judge line) (items (next_line n) lines)
+-- The records of lines that follow the first `n`.
+abbrev pub records : ℕ → List (List ℕ) → Left
+records n [] = ([], None)
+records n (line ∷ lines) = with_verdict (next_line n) (judge line) (records (next_line n) lines)
 
--- the records of a whole trace, and its end or first bad line
+-- The records of a whole trace, and its end or first bad line.
 abbrev pub records_of : List ℕ → Left
-records_of text = items 0 (lines_of text)
+records_of text = records 0 (lines_of text)
 
--- the number and the verdict of the first line that isn't skipped; Skipped where there is none
+-- A line's number and verdict where it isn't skipped, else those of a later line.
 abbrev pub of_due : ℕ → Verdict → ℕ × Verdict → ℕ × Verdict
 of_due n Skipped later = later
 of_due n (Found l a s) later = (n, Found l a s)
 of_due n (Bad why) later = (n, Bad why)
 
+-- The number and the verdict of the first line that isn't skipped; Skipped where there is none.
 abbrev pub first_due : ℕ → List (List ℕ) → ℕ × Verdict
 first_due n [] = (n, Skipped)
 first_due n (line ∷ lines) = of_due (next_line n) (judge line) (first_due (next_line n) lines)
@@ -65,29 +57,34 @@ pub record State : Type 0 where
   pub finished : Bool
   pub bad : Option Fault
 
+-- A reader that was fed nothing yet.
 abbrev pub fresh : State
 fresh = record { lines = 0; held = []; finished = false; bad = None }
 
--- what is left for a reader at which these bytes are still to come
-abbrev pub left_of : Option Fault → ℕ → List ℕ → Left
-left_of None n bytes = items n (lines_of bytes)
-left_of (Some fault) n bytes = ([], Some fault)
+-- What some lines after the first `n` give to a reader; nothing but the bad line, where it answered one.
+abbrev pub unless_bad : Option Fault → ℕ → List (List ℕ) → Left
+unless_bad None n lines = records n lines
+unless_bad (Some fault) n lines = ([], Some fault)
 
+-- What a reader at which these bytes are still to come has before it; `last` says whether a last line
+-- without a newline counts.
+abbrev pub left_by : Bool → State → List ℕ → Left
+left_by last s rest = unless_bad s.bad s.lines (lines_by last (s.held ++ rest))
+
+-- What is left for a reader at which these bytes are all that is still to come.
 abbrev pub left : State → List ℕ → Left
-left s rest = left_of s.bad s.lines (s.held ++ rest)
+left s rest = left_by true s rest
 
--- what the lines that end give, where these bytes are still to come; a last line without a newline isn't judged
-abbrev pub due_of : Option Fault → ℕ → List ℕ → Left
-due_of None n bytes = items n (ended_lines bytes)
-due_of (Some fault) n bytes = ([], Some fault)
-
+-- What a reader gives of the lines that end, where these bytes are next to come.
 abbrev pub due : State → List ℕ → Left
-due s rest = due_of s.bad s.lines (s.held ++ rest)
+due s rest = left_by false s rest
 
--- bytes that may still come: none once the input has ended
-abbrev pub MayCome : State → List ℕ → Type 0
-MayCome s rest = s.finished ≡ true → rest ≡ []
+-- Bytes that may still come: none once the input has ended. Where a last line without a newline doesn't
+-- count, the input hasn't ended.
+abbrev pub MayCome : Bool → State → List ℕ → Type 0
+MayCome true s rest = s.finished ≡ true → rest ≡ []
+MayCome false s rest = s.finished ≡ false
 
--- the input hasn't ended, no bad line was answered, and each line that the bytes held end is skipped
+-- The input hasn't ended, no bad line was answered, and each line that the bytes held end is skipped.
 abbrev pub IsWaiting : State → Type 0
 IsWaiting s = (s.finished ≡ false) × (s.bad ≡ None) × ((first_due s.lines (ended_lines s.held)).1 ≡ Skipped)

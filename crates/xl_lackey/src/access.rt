@@ -1,6 +1,6 @@
 //! The accesses of a reference.
 
-ghost use Rattle.std.specs.Prelude.{◌≡◌, ℕ, ◌+◌, ◌*◌, ◌/◌, ◌^◌, ◌<◌, ◌≤◌, [], ◌∷◌, length, slice_get, IfSome, IfNone};
+ghost use Rattle.std.specs.Prelude.{IsTrue, ◌↔◌, ◌≡◌, ℕ, ◌+◌, ◌*◌, ◌/◌, ◌^◌, ◌<◌, ◌≤◌, [], ◌∷◌, length, slice_get, IfSome, IfNone};
 ghost use Rattle.xl_lackey.specs.Accesses.{borders as borders_of, places, each, accesses};
 
 use crate::reference::{Letter, Reference};
@@ -42,11 +42,19 @@ pub fn sole_access(reference: &Reference) -> Option<(u64, Kind)>
         Letter::S => Kind::Store,
         Letter::M => return None,
     };
-    if borders(reference) == 0 {
+    if is_within_page(reference) {
         Some((reference.addr, kind))
     } else {
         None
     }
+}
+
+/// Whether all bytes touched lie in one page.
+#[inline(always)]
+fn is_within_page(reference: &Reference) -> bool
+    ensures { IsTrue result ↔ (borders_of reference.now.addr reference.now.size ≡ 0) }
+{
+    reference.addr % PAGE + reference.size.max(1) as u64 <= PAGE
 }
 
 /// The access of this number in one going over the pages touched.

@@ -1,10 +1,14 @@
 //! Digits, and the blanks before them.
 
-ghost use Rattle.std.specs.Prelude.{◌≡◌, ℕ, ◌+◌, ◌^◌, ◌<◌, ◌≤◌, min, length, take, drop, Option, Some, IfSome};
+ghost use Rattle.std.specs.Prelude.{map, IsTrue, slice_index, ◌≡◌, ℕ, ◌+◌, ◌^◌, ◌<◌, ◌≤◌, min, length, take, drop, Option, Some, IfSome};
 ghost use Rattle.std.specs.Option.{option_map};
 ghost use Rattle.xl_text.specs.Texts.{is_blank};
-ghost use Rattle.xl_lackey.specs.Lines.{is_digit as is_digit_byte, hex_digit as digit_of, hex_value, front, after, address_in, decimal_value, size_in};
+ghost use Rattle.std.specs.Simd.Lanes.{Each1};
+ghost use Rattle.xl_lackey.specs.Lanes.{lane_value, number_of};
+ghost use Rattle.xl_lackey.specs.Digits.{hex_digit as digit_of, hex_value};
+ghost use Rattle.xl_lackey.specs.Lines.{is_digit as is_digit_byte, front, after, address_in, decimal_value, size_in};
 
+use std::simd::prelude::*;
 use xl_text::is_blank;
 
 /// How many blanks a text begins with.
@@ -82,22 +86,92 @@ fn first_digits(text: &[u8]) -> (u64, usize)
     }
 }
 
-/// The value of the first eight bytes of a text, where they are hexadecimal digits.
-fn eight_digits(text: &[u8]) -> Option<u64>
+/// The value of the first eight bytes of a text, where they are hexadecimal digits. The eight bytes are
+/// looked at side by side.
+#[inline(always)]
+pub(crate) fn eight_digits(text: &[u8]) -> Option<u64>
     requires { 8 ≤ length text.now }
     ensures value { IfSome result (λ v. hex_value 0 (take 8 text.now) ≡ Some v) }
     ensures small { IfSome result (λ v. v < 16 ^ 8) }
 {
-    let mut value = 0;
-    for i in 0..8 {
-        value = value * 16 + hex_digit(text[i])?;
+    let values = lane_values(u8x8::from_slice(text));
+    if are_digits(values) {
+        Some(number(values))
+    } else {
+        None
     }
-    Some(value)
+}
+
+/// The value of each byte as a hexadecimal digit, and 16 or more where it is none.
+#[inline(always)]
+fn lane_values(bytes: u8x8) -> u8x8
+    ensures { result ≡ map lane_value bytes }
+{
+    let digits = bytes - u8x8::splat(b'0');
+    let letters = ((bytes | u8x8::splat(32)) - u8x8::splat(b'a')).saturating_add(u8x8::splat(10));
+    digits.simd_lt(u8x8::splat(10)).select(digits, letters)
+}
+
+#[inline(always)]
+fn are_digits(values: u8x8) -> bool
+    ensures { IsTrue result → Each1 (λ d. d < 16) values }
+{
+    values.simd_ge(u8x8::splat(16)).to_bitmask() == 0
+}
+
+/// The number of eight hexadecimal digits.
+#[inline(always)]
+fn number(digits: u8x8) -> u64
+    requires { Each1 (λ d. d < 16) digits }
+    ensures value { result ≡ number_of 0 digits }
+    ensures small { result < 16 ^ 8 }
+{
+    let high = digits.swizzle([6, 4, 2, 0]);
+    let low = digits.swizzle([7, 5, 3, 1]);
+    let bytes = high * u8x4::splat(16) + low;
+    u32x1::from_le_bytes(bytes).to_array()[0] as u64
+}
+
+/// An address of eight digits or of ten, as nearly all are, and the place of the comma that ends it.
+#[inline(always)]
+pub(crate) fn near_address(text: &[u8]) -> Option<(u64, usize)>
+    requires { 11 ≤ length text.now }
+    ensures within { IfSome result (λ r. r.1 ≤ 10) }
+    ensures small { IfSome result (λ r. r.0 < 16 ^ 10) }
+    ensures value { IfSome result (λ r. Some (r.0, drop (r.1 + 1) text.now) ≡ address_in text.now) }
+{
+    let eight = eight_digits(text)?;
+    if text[8] == b',' {
+        return Some((eight, 8));
+    }
+    let ninth = hex_digit(text[8])?;
+    let tenth = hex_digit(text[9])?;
+    if text[10] == b',' {
+        Some(((eight * 16 + ninth) * 16 + tenth, 10))
+    } else {
+        None
+    }
+}
+
+/// A size of one digit that a newline ends.
+#[inline(always)]
+pub(crate) fn near_size(text: &[u8]) -> Option<u32>
+    requires { 2 ≤ length text.now }
+    ensures small { IfSome result (λ s. s < 10) }
+    ensures newline { IfSome result (λ s. slice_index text.now 1 ≡ 10) }
+    ensures value { IfSome result (λ s. Some (s, 1) ≡ size_in text.now) }
+{
+    let size = text[0].wrapping_sub(b'0');
+    if size < 10 && text[1] == b'\n' {
+        Some(size as u32)
+    } else {
+        None
+    }
 }
 
 /// A size of 1 to 6 decimal digits, at most 65536, and how many digits it has.
 #[inline(always)]
-#[tactic(auto, using(crate::proofs::Numbers::length_front))]
+#[tactic(auto, using(crate::proofs::AddressLemmas::length_front))]
 pub(crate) fn size(text: &[u8]) -> Option<(u32, usize)>
     ensures within { IfSome result (λ r. r.1 ≤ length text.now) }
     ensures value { result ≡ size_in text.now }

@@ -1,8 +1,8 @@
 //! A reader that is fed the trace in pieces.
 
-ghost use Rattle.std.specs.Prelude.{◌≡◌, ◌≢◌, ◌↔◌, ℕ, ◌+◌, ◌-◌, ◌<◌, ◌≤◌, ◌++◌, [], List, true, false, length, take, drop, Option, Some, None, IfOk};
-ghost use Rattle.xl_lackey.specs.Lines.{parted, IsProper};
-ghost use Rattle.xl_lackey.specs.Stream.{fresh, left, due, records_of, IsWaiting};
+ghost use Rattle.std.specs.Prelude.{◌≡◌, ◌≢◌, ◌↔◌, ℕ, ◌+◌, ◌-◌, ◌<◌, ◌≤◌, ◌++◌, [], List, Bool, true, false, length, take, drop, Option, Some, None, IfOk};
+ghost use Rattle.xl_lackey.specs.Lines.{parted};
+ghost use Rattle.xl_lackey.specs.Stream.{fresh, left, left_by, records_of, IsWaiting};
 ghost use Rattle.xl_lackey.specs.Answers.{Answers};
 
 use crate::fault::Fault;
@@ -75,8 +75,7 @@ impl Reader {
         requires room { length piece.now + length self.old.held ≤ 65536 }
         requires unfinished { self.old.finished ≡ false }
         ensures held { self.new ≡ record self.old { held = self.old.held ++ piece.now } }
-        ensures reads { (rest : List ℕ) → left self.new rest ≡ left self.old (piece.now ++ rest) }
-        ensures ended { (rest : List ℕ) → due self.new rest ≡ due self.old (piece.now ++ rest) }
+        ensures reads { (last : Bool) (rest : List ℕ) → left_by last self.new rest ≡ left_by last self.old (piece.now ++ rest) }
     {
         let held = self.end - self.start;
         shift(self.buf.as_mut_slice(), self.start, self.end);

@@ -20,6 +20,6 @@ pub struct Reference {
     pub size: u32,
     /// Lines are numbered from 1, modulo 2^64.
     pub line: u64,
-    ghost small: { size ≤ 65536 },
-    ghost in_memory: { addr + max size 1 ≤ 2 ^ 64 },
+    pub ghost small: { size ≤ 65536 },
+    pub ghost in_memory: { addr + max size 1 ≤ 2 ^ 64 },
 }

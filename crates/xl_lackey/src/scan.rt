@@ -1,14 +1,11 @@
 //! The next line of a text that matters.
 
-ghost use Rattle.std.specs.Prelude.{◌≡◌, ℕ, ◌+◌, ◌-◌, ◌<◌, ◌≤◌, ◌++◌, List, ◌≢◌, length, drop, Option, IfSome, None};
-ghost use Rattle.std.specs.Option.{option_map};
-ghost use Rattle.xl_lackey.specs.Lines.{parted, IsProper};
+ghost use Rattle.std.specs.Prelude.{◌≡◌, ◌≤◌, length, drop, None, IfSome, IfNone};
 ghost use Rattle.xl_lackey.specs.Usual.{judged_line};
-ghost use Rattle.xl_text.specs.Texts.{lines_of};
-ghost use Rattle.xl_lackey.specs.Stream.{ended_lines, first_due, items, with_verdict};
+ghost use Rattle.xl_lackey.specs.Scans.{IsFirstLine, Scans};
 
 use crate::line::{Verdict, judge};
-use crate::usual::usual_line;
+use crate::usual::{near_line, usual_line};
 use memchr::memchr;
 
 /// How far the lines of a text were read: up to its first line that isn't skipped, or over all that a
@@ -25,13 +22,7 @@ pub(crate) struct Scan {
 
 /// Reads the lines of a text, of which so many came before it.
 pub(crate) fn read_lines(text: &[u8], before: u64) -> Scan
-    ensures within { result.used ≤ length text.now }
-    ensures first { (result.lines, result.verdict) ≡ first_due before (ended_lines text.now) }
-    ensures proper { IsProper result.verdict }
-    ensures reads { (rest : List ℕ) → items before (lines_of (text.now ++ rest)) ≡ with_verdict result.lines result.verdict (items result.lines (lines_of (drop result.used text.now ++ rest))) }
-    ensures ended { (rest : List ℕ) → items before (ended_lines (text.now ++ rest)) ≡ with_verdict result.lines result.verdict (items result.lines (ended_lines (drop result.used text.now ++ rest))) }
-    ensures takes { result.verdict ≢ Verdict.Skipped → 0 < result.used }
-    ensures ends { result.verdict ≡ Verdict.Skipped → parted 10 (drop result.used text.now) ≡ None }
+    ensures { Scans before text.now result }
 {
     let mut used = 0;
     let mut lines = before;
@@ -58,15 +49,25 @@ pub(crate) fn read_lines(text: &[u8], before: u64) -> Scan
 /// it is.
 fn next_line(text: &[u8], from: usize) -> Option<(usize, Verdict)>
     requires { from ≤ length text.now }
-    ensures within { IfSome result (λ r. from + r.0 ≤ length text.now) }
-    ensures some { IfSome result (λ r. 0 < r.0) }
-    ensures line { option_map (λ r. (drop (from + r.0) text.now, r.1)) result ≡ judged_line (drop from text.now) }
-    ensures proper { IfSome result (λ r. IsProper r.1) }
+    ensures some { IfSome result (λ r. IsFirstLine (drop from text.now) r.0 r.1) }
+    ensures none { IfNone result (judged_line (drop from text.now) ≡ None) }
 {
     let rest = &text[from..];
-    match usual_line(rest) {
+    match near_line(rest) {
         Some(found) => Some(found),
-        None => any_line(rest),
+        None => far_line(rest),
+    }
+}
+
+/// The same of a line that the quick way didn't read. Not in line, so that it costs the others nothing.
+#[inline(never)]
+fn far_line(text: &[u8]) -> Option<(usize, Verdict)>
+    ensures some { IfSome result (λ r. IsFirstLine text.now r.0 r.1) }
+    ensures none { IfNone result (judged_line text.now ≡ None) }
+{
+    match usual_line(text) {
+        Some(found) => Some(found),
+        None => any_line(text),
     }
 }
 
@@ -74,10 +75,8 @@ fn next_line(text: &[u8], from: usize) -> Option<(usize, Verdict)>
 /// newline, and what it is. Not in line, since its search would else be made ready for every line.
 #[inline(never)]
 fn any_line(text: &[u8]) -> Option<(usize, Verdict)>
-    ensures within { IfSome result (λ r. r.0 ≤ length text.now) }
-    ensures some { IfSome result (λ r. 0 < r.0) }
-    ensures line { option_map (λ r. (drop r.0 text.now, r.1)) result ≡ judged_line text.now }
-    ensures proper { IfSome result (λ r. IsProper r.1) }
+    ensures some { IfSome result (λ r. IsFirstLine text.now r.0 r.1) }
+    ensures none { IfNone result (judged_line text.now ≡ None) }
 {
     match memchr(b'\n', text) {
         Some(at) => Some((at + 1, judge(&text[..at]))),

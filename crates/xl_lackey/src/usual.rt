@@ -1,10 +1,10 @@
 //! Lines in the form that Lackey itself writes, which nearly all lines of a trace have.
 
 ghost use Rattle.std.specs.Prelude.{◌≡◌, ◌+◌, ◌-◌, ◌<◌, ◌≤◌, ◌++◌, length, drop, Some, IfSome};
-ghost use Rattle.xl_lackey.specs.Lines.{IsProper};
-ghost use Rattle.xl_lackey.specs.Usual.{usual_front, judged_line};
+ghost use Rattle.xl_lackey.specs.Usual.{usual_front};
+ghost use Rattle.xl_lackey.specs.Scans.{IsFirstLine};
 
-use crate::digits::{address, size};
+use crate::digits::{address, near_address, near_size, size};
 use crate::line::{Verdict, fits};
 use crate::reference::Letter;
 
@@ -12,10 +12,7 @@ use crate::reference::Letter;
 /// has, and what it is. Such a line is read in one go, its end found on the way. None says nothing of
 /// the text.
 pub(crate) fn usual_line(text: &[u8]) -> Option<(usize, Verdict)>
-    ensures within { IfSome result (λ r. r.0 ≤ length text.now) }
-    ensures some { IfSome result (λ r. 0 < r.0) }
-    ensures line { IfSome result (λ r. judged_line text.now ≡ Some (drop r.0 text.now, r.1)) }
-    ensures proper { IfSome result (λ r. IsProper r.1) }
+    ensures { IfSome result (λ r. IsFirstLine text.now r.0 r.1) }
 {
     let (letter, numbers) = usual_letter(text)?;
     let (addr, comma) = address(numbers)?;
@@ -29,7 +26,23 @@ pub(crate) fn usual_line(text: &[u8]) -> Option<(usize, Verdict)>
     }
 }
 
+/// The same of a line with an address of eight digits or of ten and a size of one digit, as nearly all
+/// are. It is the quick way: no place is looked for.
+#[inline(always)]
+pub(crate) fn near_line(text: &[u8]) -> Option<(usize, Verdict)>
+    ensures { IfSome result (λ r. IsFirstLine text.now r.0 r.1) }
+{
+    if text.len() < 16 {
+        return None;
+    }
+    let (letter, numbers) = usual_letter(text)?;
+    let (addr, comma) = near_address(numbers)?;
+    let size = near_size(&numbers[comma + 1..])?;
+    Some((comma + 6, Verdict::Found { letter, addr, size }))
+}
+
 /// The letter of a record and the blanks around it, as Lackey writes them, and what follows them.
+#[inline(always)]
 fn usual_letter(text: &[u8]) -> Option<(Letter, &[u8])>
     ensures { IfSome result (λ r. text.entry.now ≡ usual_front r.0 ++ r.1.now) }
 {

@@ -1,13 +1,9 @@
-pub mod Refusals
-pub mod Runs
-pub mod Leaves
-pub mod Slots
-pub mod Cuckoo
-pub mod Shapes
-pub mod FreshArrays
-pub mod Numbers
-pub mod FreshNodes
-pub mod FreshSections
-pub mod FreshRanges
-pub mod Fresh
-pub mod Sentences
+mod RefusalLemmas
+mod RunLemmas
+mod LeafLemmas
+mod SlotLemmas
+mod WayLemmas
+mod ShapeLemmas
+mod CapLemmas
+mod FreshLemmas
+mod SentenceLemmas

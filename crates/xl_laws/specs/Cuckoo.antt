@@ -9,6 +9,7 @@ use Rattle.xl_model.specs.Shapes.{Shape, Radix, Chained, Cuckoo, Runs}
 use Rattle.xl_model.specs.Rows.{Row}
 use Rattle.xl_model.specs.Items.{Item, run}
 use Rattle.xl_mapping.specs.Members.{In}
+use Rattle.xl_mapping.specs.Sections.{entries_of}
 
 -- how many members pass a test
 abbrev pub how_many : {A : Type 0} → (A → Bool) → List A → ℕ
@@ -34,9 +35,6 @@ ShapeApart (Runs ranges) = Unit {0}
 -- After every list of items two keys of one way have two slots.
 abbrev pub KeysHaveTheirSlots : Type 0
 KeysHaveTheirSlots = (row : Row) (items : List Item) → ShapeApart (run row items).table.shape
-
-abbrev pub entries_of : WayShape → List Entry
-entries_of w = w.entries
 
 -- An insertion that finds every way at its cap leaves each way's keys and words as they were.
 abbrev pub ARefusalKeepsEveryWord : Type 0

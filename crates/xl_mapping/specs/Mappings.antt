@@ -24,6 +24,12 @@ pub record IsMapping (row : Row) (leaves : List Leaf) : Type 0 where
   pub pages : (x y : Leaf) (page : ℕ) → In x leaves → In y leaves → covers x.space page x ≡ true → covers x.space page y ≡ true → x ≡ y
   pub frames : (x y : Leaf) (frame : ℕ) → In x leaves → In y leaves → holds_frames frame 1 x ≡ true → holds_frames frame 1 y ≡ true → x ≡ y
 
+-- A leaf that a walk finds for a page: one of the leaves, which covers the page and stands at a multiple of its size.
+pub record IsFound (space page : ℕ) (leaves : List Leaf) (leaf : Leaf) : Type 0 where
+  pub member : In leaf leaves
+  pub covers_page : covers space page leaf ≡ true
+  pub aligned : (e : ℕ) × (leaf.first ≡ e * pages_of leaf.order)
+
 -- What a command that no refusal stops has shown of its change: a new leaf is valid, meets no leaf and
 -- holds free frames; a new place is a block of the row's pages that no leaf meets.
 pub record IsNewLeaf (row : Row) (leaves : List Leaf) (leaf : Leaf) : Type 0 where

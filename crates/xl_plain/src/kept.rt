@@ -7,7 +7,7 @@ ghost use Rattle.xl_model.specs.Addresses.{pages_of, level_of};
 ghost use Rattle.xl_model.specs.Mapping.{covers as is_covering, meets_block, is_leaf};
 ghost use Rattle.xl_model.specs.Chains.{tag_of as order_tag, leaf_tag as tag_of_leaf, bucket_of as tag_bucket, chain_of, examined};
 ghost use Rattle.xl_model.specs.Walks.{chains_reads, orders_tried, orders_up_to};
-ghost use Rattle.xl_plain.specs.Kept.{IsPlaced, in_front, without_named, protected_where, with_perm_named};
+ghost use Rattle.xl_mapping.specs.Kept.{IsPlaced, in_front, without_named, protected_where, with_perm_named};
 
 use xl_model::{Leaf, Order, Perm, mix};
 

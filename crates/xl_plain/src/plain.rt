@@ -4,7 +4,7 @@ ghost use Rattle.std.specs.Prelude.{◌≡◌, ◌≤◌, ◌^◌, false, [], If
 ghost use Rattle.xl_model.specs.Mapping.{meets_any};
 ghost use Rattle.xl_model.specs.Changes.{Insert};
 ghost use Rattle.xl_model.specs.Structures.{IsBlock, table_answer, table_after};
-ghost use Rattle.xl_plain.specs.Kept.{table_of};
+ghost use Rattle.xl_mapping.specs.Kept.{table_of};
 
 use crate::kept::{any_meets, covering, give_perm, named, place_of, take_out, walk_loads};
 use std::alloc::Global;
@@ -27,7 +27,7 @@ impl Model for PlainTable {
 
     ghost use Rattle.std.specs.Prelude.{◌<◌, ◌≤◌, ◌^◌};
     ghost use Rattle.std.specs.Vec.{vec_len, vec_capacity};
-    ghost use Rattle.xl_plain.specs.Kept.{IsKept, table_of};
+    ghost use Rattle.xl_mapping.specs.Kept.{IsKept, table_of};
 
     ghost view = { λ p. table_of p.buckets p.entries p.loads p.leaves.items };
 

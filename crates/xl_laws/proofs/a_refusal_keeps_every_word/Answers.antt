@@ -1,4 +1,4 @@
-use Rattle.xl_laws.proofs.Cuckoo.{a_refusal_keeps_every_word}
+use Rattle.xl_laws.proofs.WayLemmas.{a_refusal_keeps_every_word}
 use Rattle.xl_laws.proofs.a_refusal_keeps_every_word.Goals as goal
 
 pub returns : goal.returns

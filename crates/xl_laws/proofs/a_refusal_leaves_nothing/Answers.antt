@@ -1,4 +1,4 @@
-use Rattle.xl_laws.proofs.Refusals.{a_refusal_leaves_nothing}
+use Rattle.xl_laws.proofs.RefusalLemmas.{a_refusal_leaves_nothing}
 use Rattle.xl_laws.proofs.a_refusal_leaves_nothing.Goals as goal
 
 pub returns : goal.returns

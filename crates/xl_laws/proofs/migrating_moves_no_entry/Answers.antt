@@ -1,4 +1,4 @@
-use Rattle.xl_laws.proofs.Cuckoo.{migrating_moves_no_entry}
+use Rattle.xl_laws.proofs.WayLemmas.{migrating_moves_no_entry}
 use Rattle.xl_laws.proofs.migrating_moves_no_entry.Goals as goal
 
 pub returns : goal.returns

@@ -1,4 +1,4 @@
-use Rattle.xl_laws.proofs.Fresh.{nothing_is_stale}
+use Rattle.xl_laws.proofs.FreshLemmas.{nothing_is_stale}
 use Rattle.xl_laws.proofs.nothing_is_stale.Goals as goal
 
 pub returns : goal.returns

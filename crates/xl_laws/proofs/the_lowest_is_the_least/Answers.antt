@@ -1,4 +1,4 @@
-use Rattle.xl_laws.proofs.Leaves.{the_lowest_is_the_least}
+use Rattle.xl_laws.proofs.LeafLemmas.{the_lowest_is_the_least}
 use Rattle.xl_laws.proofs.the_lowest_is_the_least.Goals as goal
 
 pub returns : goal.returns

@@ -1,4 +1,4 @@
-use Rattle.xl_laws.proofs.Sentences.{the_ranges_are_maximal_runs}
+use Rattle.xl_laws.proofs.SentenceLemmas.{the_ranges_are_maximal_runs}
 use Rattle.xl_laws.proofs.the_ranges_are_maximal_runs.Goals as goal
 
 pub returns : goal.returns

@@ -1,5 +1,5 @@
 use Rattle.std.proofs.Common.{arith, sym}
-use Rattle.xl_lackey.proofs.Places.{get_later, get_none}
+use Rattle.xl_lackey.proofs.AccessLemmas.{get_later, get_none}
 use Rattle.xl_lackey.proofs.access.access.Goals as goal
 
 pub returns-then-i-borders : goal.returns-then-i-borders

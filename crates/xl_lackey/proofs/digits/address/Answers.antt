@@ -1,5 +1,5 @@
 use Rattle.std.proofs.Common.{arith}
-use Rattle.xl_lackey.proofs.Numbers.{after_first, hex_small}
+use Rattle.xl_lackey.proofs.AddressLemmas.{after_first, hex_small}
 use Rattle.xl_lackey.proofs.digits.address.Goals as goal
 
 pub loop-at-init : goal.loop-at-init

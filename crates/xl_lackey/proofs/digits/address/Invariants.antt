@@ -1,6 +1,6 @@
 use Rattle.std.proofs.Common.{◌≡◌, ◌≤◌, ◌<◌, ◌^◌, drop}
 use Rattle.xl_lackey.specs.Lines.{address_in}
-use Rattle.xl_lackey.proofs.Numbers.{hex_at}
+use Rattle.xl_lackey.proofs.AddressLemmas.{hex_at}
 use Rattle.xl_lackey.proofs.digits.address.Given as goal
 
 abbrev pub invariant-loop-at : goal.invariant-loop-at

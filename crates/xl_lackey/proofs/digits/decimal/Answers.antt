@@ -1,5 +1,5 @@
 use Rattle.std.proofs.Common.{arith}
-use Rattle.xl_lackey.proofs.Numbers.{decimal_small}
+use Rattle.xl_lackey.proofs.AddressLemmas.{decimal_small}
 use Rattle.xl_lackey.proofs.digits.decimal.Goals as goal
 
 pub overflow_mul-value : goal.overflow_mul-value

@@ -1,7 +1,7 @@
 use Rattle.std.proofs.Common.{◌<◌, ◌≤◌, get_or, arith}
 use Rattle.std.proofs.lemmas.Bool.Decides.{nat_tests}
 use Rattle.xl_lackey.specs.declared.digits.TheConstants.{HEX_DIGITS}
-use Rattle.xl_lackey.proofs.Table.{digit_read, digit_refused}
+use Rattle.xl_lackey.proofs.TableLemmas.{digit_read, digit_refused}
 use Rattle.xl_lackey.proofs.digits.hex_digit.Goals as goal
 
 pub returns-then-value-lt16-clause-value : goal.returns-then-value-lt16-clause-value

@@ -1,4 +1,4 @@
-use Rattle.xl_lackey.proofs.Steps.{shifted}
+use Rattle.xl_lackey.proofs.StepLemmas.{shifted}
 use Rattle.xl_lackey.proofs.reader.shift.Goals as goal
 
 pub returns : goal.returns

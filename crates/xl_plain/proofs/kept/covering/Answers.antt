@@ -1,7 +1,7 @@
 use Rattle.std.proofs.Common.{◌∙◌, sym, ap, find, arith}
 use Rattle.std.proofs.lemmas.List.{drop_all}
 use Rattle.xl_model.specs.Mapping.{covers}
-use Rattle.xl_plain.proofs.Scans.{find-here, find-past}
+use Rattle.xl_plain.proofs.ScanLemmas.{find-here, find-past}
 use Rattle.xl_plain.proofs.kept.covering.Goals as goal
 
 pub returns-then-covers : goal.returns-then-covers

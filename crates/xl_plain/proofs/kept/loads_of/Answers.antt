@@ -1,6 +1,6 @@
 use Rattle.std.proofs.Common.{◌≡◌, ◌∙◌, ℕ, ◌+◌, ◌≤◌, suc, ap, drop, arith}
 use Rattle.std.proofs.lemmas.List.{drop_all}
-use Rattle.xl_plain.proofs.Scans.{searched, searched-here, searched-more, searched-other, searched-none}
+use Rattle.xl_plain.proofs.ScanLemmas.{searched, searched-here, searched-more, searched-other, searched-none}
 use Rattle.xl_plain.proofs.kept.loads_of.Goals as goal
 use Rattle.xl_plain.proofs.kept.loads_of.Goals.{then-bucket_of-bucket+else-other-tag, else-bucket_of-bucket}
 

@@ -1,5 +1,5 @@
 use Rattle.std.proofs.Common.{◌≡◌, ◌+◌, ◌≤◌, drop}
-use Rattle.xl_plain.proofs.Scans.{searched}
+use Rattle.xl_plain.proofs.ScanLemmas.{searched}
 use Rattle.xl_plain.proofs.kept.loads_of.Given as goal
 
 abbrev pub invariant-loop-leaf : goal.invariant-loop-leaf

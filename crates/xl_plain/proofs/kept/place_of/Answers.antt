@@ -1,8 +1,8 @@
 use Rattle.std.proofs.Common.{◌≡◌, ◌∙◌, sym, ap, ◌++◌, ◌∷◌, [], take, drop, length, arith}
 use Rattle.std.proofs.lemmas.List.{drop_all, take_all}
 use Rattle.xl_model.specs.Chains.{bucket_of}
-use Rattle.xl_plain.specs.Kept.{in_front}
-use Rattle.xl_plain.proofs.Scans.{place-here, place-past, front-none}
+use Rattle.xl_mapping.specs.Kept.{in_front}
+use Rattle.xl_plain.proofs.ScanLemmas.{place-here, place-past, front-none}
 use Rattle.xl_plain.proofs.kept.place_of.Goals as goal
 
 pub returns-then-bucket-bucket_of-clause-place : goal.returns-then-bucket-bucket_of-clause-place

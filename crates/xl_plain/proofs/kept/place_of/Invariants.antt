@@ -1,5 +1,5 @@
 use Rattle.std.proofs.Common.{◌≡◌, ◌++◌, take, drop}
-use Rattle.xl_plain.specs.Kept.{in_front}
+use Rattle.xl_mapping.specs.Kept.{in_front}
 use Rattle.xl_plain.proofs.kept.place_of.Given as goal
 
 abbrev pub invariant-loop-i : goal.invariant-loop-i

@@ -1,7 +1,7 @@
 use Rattle.std.proofs.Common.{rules, not}
 use Rattle.std.proofs.lemmas.Fn.{filter_same}
 use Rattle.xl_model.specs.Mapping.{is_leaf}
-use Rattle.xl_plain.specs.Kept.{without_named}
+use Rattle.xl_mapping.specs.Kept.{without_named}
 use Rattle.xl_plain.proofs.kept.take_out.Goals as goal
 
 pub returns-clause-items : goal.returns-clause-items

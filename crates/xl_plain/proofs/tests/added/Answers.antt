@@ -2,7 +2,7 @@ use Rattle.std.proofs.Common.{◌≡◌, ◌∙◌, ℕ, ap, ◌<◌, ◌+◌, �
 use Rattle.xl_model.specs.declared.address.Order.TheVariants as order
 use Rattle.xl_model.specs.Shapes.{Shape}
 use Rattle.xl_model.specs.Structures.{IsBlock, spaces_of, page_limit}
-use Rattle.xl_plain.proofs.Pages.{change-same}
+use Rattle.xl_plain.proofs.PageLemmas.{change-same}
 use Rattle.xl_plain.proofs.tests.added.Goals as goal
 
 one_page : (shape : Shape) (first : ℕ) → first < 100 → spaces_of shape ≡ 64 → page_limit shape ≡ 2 ^ 45 → IsBlock shape 1 first order.K4

@@ -1,6 +1,6 @@
 use Rattle.std.proofs.Common.{◌∙◌, ap}
 use Rattle.xl_model.specs.Structures.{spaces_of, page_limit}
-use Rattle.xl_plain.proofs.Pages.{walk-same}
+use Rattle.xl_plain.proofs.PageLemmas.{walk-same}
 use Rattle.xl_plain.proofs.tests.loads_of.Goals as goal
 
 pub returns-clause-spaces : goal.returns-clause-spaces

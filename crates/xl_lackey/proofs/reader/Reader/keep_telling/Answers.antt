@@ -1,5 +1,5 @@
 use Rattle.std.proofs.Common.{refl}
-use Rattle.xl_lackey.proofs.Steps.{take_part}
+use Rattle.xl_lackey.proofs.StepLemmas.{take_part}
 use Rattle.xl_lackey.proofs.reader.Reader.keep_telling.Goals as goal
 
 pub returns : goal.returns

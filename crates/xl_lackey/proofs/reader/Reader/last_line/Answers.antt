@@ -2,7 +2,7 @@ use Rattle.std.proofs.Common.{ap, ◌∙◌, sym, arith, length, refl}
 use Rattle.xl_lackey.specs.declared.line.Verdict.TheVariants.{Found}
 use Rattle.xl_lackey.specs.Lines.{judge}
 use Rattle.xl_lackey.specs.Stream.{next_line}
-use Rattle.xl_lackey.proofs.Steps.{last_skipped, last_found, last_bad, emptied}
+use Rattle.xl_lackey.proofs.StepLemmas.{last_skipped, last_found, last_bad, emptied}
 use Rattle.xl_lackey.proofs.reader.Reader.last_line.Goals as goal
 
 pub returns-in-Skipped-clause-answers : goal.returns-in-Skipped-clause-answers

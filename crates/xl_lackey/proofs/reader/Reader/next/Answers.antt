@@ -1,7 +1,7 @@
-use Rattle.std.proofs.Common.{ap, ◌∙◌, sym, arith, length, length-drop}
+use Rattle.std.proofs.Common.{Bool, ap, ◌∙◌, sym, arith, length, length-drop}
 use Rattle.xl_lackey.specs.declared.line.Verdict.{Verdict}
-use Rattle.xl_lackey.specs.Stream.{State, with_verdict, left, due}
-use Rattle.xl_lackey.proofs.Steps.{left_passed, due_passed, answers_on}
+use Rattle.xl_lackey.specs.Stream.{State, with_verdict, left_by}
+use Rattle.xl_lackey.proofs.StepLemmas.{left_passed, answers_on}
 use Rattle.xl_lackey.proofs.reader.Reader.next.Goals as goal
 
 pub returns-in-Skipped-clause-answers : goal.returns-in-Skipped-clause-answers
@@ -10,12 +10,9 @@ returns-in-Skipped-clause-answers c =
     let mid = c.pass.new.self in
     let scan = c.read_lines-scan.result in
     let size = ap (λ (u : State). length u.held) c.pass.ensures in
-    let passed = left_passed old mid c.held.result.now c.lines.result scan.used scan.lines scan.verdict
-    (sym c.bad_line.ensures ∙ c.in_default.is) c.held.ensures.value c.lines.ensures c.read_lines-scan.ensures.reads c.pass.ensures in
-    let ended = due_passed old mid c.held.result.now c.lines.result scan.used scan.lines scan.verdict
-    (sym c.bad_line.ensures ∙ c.in_default.is) c.held.ensures.value c.lines.ensures c.read_lines-scan.ensures.ended c.pass.ensures in
+    let passed = λ (last : Bool). left_passed last old mid c.held.result.now c.lines.result scan.used scan.lines scan.verdict
+    (sym c.bad_line.ensures ∙ c.in_default.is) c.held.ensures.value c.lines.ensures (c.read_lines-scan.ensures.reads last) c.pass.ensures in
     answers_on c.end_of_held.result old mid c.end_of_held.new.self
-    (λ rest. passed rest ∙ ap (λ (v : Verdict). with_verdict scan.lines v (left mid rest)) c.in-Skipped.is)
-    (λ rest. ended rest ∙ ap (λ (v : Verdict). with_verdict scan.lines v (due mid rest)) c.in-Skipped.is)
+    (λ last rest. passed last rest ∙ ap (λ (v : Verdict). with_verdict scan.lines v (left_by last mid rest)) c.in-Skipped.is)
     (ap (λ (u : State). u.finished) c.pass.ensures)
     (omega (arith, size, length-drop scan.used old.held)) c.end_of_held.ensures.answers

@@ -4,9 +4,9 @@ use Rattle.std.specs.Vec.{vec_len}
 use Rattle.xl_model.specs.Mapping.{meets_any}
 use Rattle.xl_model.specs.Changes.{Insert}
 use Rattle.xl_model.specs.Structures.{TableState, IsBlock, table_answer, table_after}
-use Rattle.xl_plain.specs.Kept.{IsPlaced, IsKept, in_front, table_of}
-use Rattle.xl_plain.proofs.Fronts.{IsNew, kept-front}
-use Rattle.xl_plain.proofs.Tables.{IsMade, IsRefused, is-new, block-placed, inserted, not-inserted}
+use Rattle.xl_mapping.specs.Kept.{IsPlaced, IsKept, in_front, table_of}
+use Rattle.xl_mapping.proofs.FrontLemmas.{IsNew, kept-front}
+use Rattle.xl_mapping.proofs.TableLemmas.{IsMade, IsRefused, is-new, block-placed, inserted, not-inserted}
 use Rattle.xl_plain.proofs.plain.PlainTable.add.Goals as goal
 
 pub place_of-place-requires-clause-new : goal.place_of-place-requires-clause-new

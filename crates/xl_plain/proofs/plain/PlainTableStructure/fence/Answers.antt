@@ -1,6 +1,6 @@
 use Rattle.std.proofs.Common.{◌∙◌, sym, ap}
 use Rattle.xl_model.specs.Structures.{fence_answer, table_fenced}
-use Rattle.xl_plain.proofs.Tables.{fence-none, fenced-same}
+use Rattle.xl_mapping.proofs.TableLemmas.{fence-none, fenced-same}
 use Rattle.xl_plain.proofs.plain.PlainTableStructure.fence.Goals as goal
 
 pub returns-clause-answer : goal.returns-clause-answer

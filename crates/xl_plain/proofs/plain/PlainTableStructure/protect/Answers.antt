@@ -3,9 +3,9 @@ use Rattle.std.proofs.lemmas.List.{with_items_is}
 use Rattle.std.specs.Vec.{with_items}
 use Rattle.xl_model.specs.Changes.{Protect, IsNamed}
 use Rattle.xl_model.specs.Structures.{TableState, table_answer, table_after}
-use Rattle.xl_plain.specs.Kept.{IsKept, with_perm_named, table_of}
-use Rattle.xl_plain.proofs.Fronts.{kept-protected, length-protected}
-use Rattle.xl_plain.proofs.Tables.{IsMade, Named, named-of, protected}
+use Rattle.xl_mapping.specs.Kept.{IsKept, with_perm_named, table_of}
+use Rattle.xl_mapping.proofs.FrontLemmas.{kept-protected, length-protected}
+use Rattle.xl_mapping.proofs.TableLemmas.{IsMade, Named, named-of, protected}
 use Rattle.xl_plain.proofs.plain.PlainTableStructure.protect.Goals as goal
 
 pub invariant_of-self : goal.invariant_of-self

@@ -2,9 +2,9 @@ use Rattle.std.proofs.Common.{◌≡◌, ◌∙◌, sym, ap, subst, Some, find, 
 use Rattle.xl_model.specs.Mapping.{is_leaf, leaf_named}
 use Rattle.xl_model.specs.Changes.{Remove, IsNamed}
 use Rattle.xl_model.specs.Structures.{TableState, table_answer, table_after}
-use Rattle.xl_plain.specs.Kept.{mapping_of}
-use Rattle.xl_plain.proofs.Keeps.{both}
-use Rattle.xl_plain.proofs.Tables.{IsMove, moved, named-mapping, moved-block, moved-free, whole-move}
+use Rattle.xl_mapping.specs.Kept.{mapping_of}
+use Rattle.xl_mapping.proofs.SameLemmas.{both}
+use Rattle.xl_mapping.proofs.TableLemmas.{IsMove, moved, named-mapping, moved-block, moved-free, whole-move}
 use Rattle.xl_plain.proofs.plain.PlainTableStructure.relocate.Goals as goal
 
 pub unreachable-requires : goal.unreachable-requires

@@ -1,8 +1,8 @@
 use Rattle.std.proofs.Common.{◌∙◌, sym, ap, subst, arith}
 use Rattle.xl_model.specs.Changes.{Remove, IsNamed}
 use Rattle.xl_model.specs.Structures.{TableState, table_answer, table_after}
-use Rattle.xl_plain.specs.Kept.{IsKept, without_named, table_of}
-use Rattle.xl_plain.proofs.Tables.{IsMade, Named, named-of, kept-without, removed}
+use Rattle.xl_mapping.specs.Kept.{IsKept, without_named, table_of}
+use Rattle.xl_mapping.proofs.TableLemmas.{IsMade, Named, named-of, kept-without, removed}
 use Rattle.xl_plain.proofs.plain.PlainTableStructure.remove.Goals as goal
 
 pub invariant_of-self : goal.invariant_of-self

@@ -3,8 +3,8 @@ use Rattle.xl_model.specs.Mapping.{leaf_at_page}
 use Rattle.xl_model.specs.Chains.{leaf_tag}
 use Rattle.xl_model.specs.Walks.{chains_reads, orders_tried}
 use Rattle.xl_model.specs.Structures.{walk_answer, table_walked}
-use Rattle.xl_plain.specs.Kept.{mapping_of}
-use Rattle.xl_plain.proofs.Tables.{walk-leaf, walk-loads}
+use Rattle.xl_mapping.specs.Kept.{mapping_of}
+use Rattle.xl_mapping.proofs.TableLemmas.{walk-leaf, walk-loads}
 use Rattle.xl_plain.proofs.plain.PlainTableStructure.walk.Goals as goal
 
 pub returns-clause-answer : goal.returns-clause-answer

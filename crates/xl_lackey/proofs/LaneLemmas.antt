@@ -1,0 +1,83 @@
+-- Eight bytes side by side, as lanes.
+use Rattle.std.proofs.Common.{◌≡◌, ℕ, zero, suc, ◌+◌, ◌-◌, ◌*◌, ◌%◌, ◌^◌, ◌<◌, Bool, true, false, List, [], ◌∷◌, map, length, replicate, bit_or, refl, sym, ap, subst, arith, ◌∙◌, w8, Fits}
+use Rattle.std.specs.Prelude.{Option, None, Some, ◌==◌, nat_le, if◌then◌else◌}
+use Rattle.std.specs.Option.{option_and_then}
+use Rattle.std.proofs.lemmas.Bool.Decides.{nat_tests}
+use lib.Lanes.{zip2, sel_l, top, Each1}
+use Rattle.xl_lackey.specs.Digits.{hex_digit, hex_value}
+use Rattle.xl_lackey.specs.Lanes.{lane_value, less, is_below, number_of}
+
+-- a fact of any eight elements is one of a list of eight
+pub by_eight : (P : List ℕ → Type 0) → ((a b c d e f g h : ℕ) → P (a ∷ b ∷ c ∷ d ∷ e ∷ f ∷ g ∷ h ∷ [])) → (xs : List ℕ) → length xs ≡ 8 → P xs
+by_eight P q [] k = absurd (omega arith)
+by_eight P q (a ∷ []) k = absurd (omega arith)
+by_eight P q (a ∷ b ∷ []) k = absurd (omega arith)
+by_eight P q (a ∷ b ∷ c ∷ []) k = absurd (omega arith)
+by_eight P q (a ∷ b ∷ c ∷ d ∷ []) k = absurd (omega arith)
+by_eight P q (a ∷ b ∷ c ∷ d ∷ e ∷ []) k = absurd (omega arith)
+by_eight P q (a ∷ b ∷ c ∷ d ∷ e ∷ f ∷ []) k = absurd (omega arith)
+by_eight P q (a ∷ b ∷ c ∷ d ∷ e ∷ f ∷ g ∷ []) k = absurd (omega arith)
+by_eight P q (a ∷ b ∷ c ∷ d ∷ e ∷ f ∷ g ∷ h ∷ []) k = q a b c d e f g h
+by_eight P q (a ∷ b ∷ c ∷ d ∷ e ∷ f ∷ g ∷ h ∷ i ∷ rest) k = absurd (omega arith)
+
+-- all lanes at once, as the vectors' operations give them
+abbrev pub flip : ℕ → ℕ
+flip a = 2 ^ 8 - 1 - a
+
+abbrev pub plus : ℕ → ℕ → ℕ
+plus a b = (a + b) % 2 ^ 8
+
+abbrev pub letters : List ℕ → List ℕ
+letters xs = zip2 less (zip2 bit_or xs (replicate 8 32)) (replicate 8 97)
+
+abbrev pub read_lanes : List ℕ → List ℕ
+read_lanes xs =
+    sel_l (map (top 7) (zip2 is_below (zip2 less xs (replicate 8 48)) (replicate 8 10))) (zip2 less xs (replicate 8 48))
+    (zip2 plus (letters xs) (sel_l (map (top 7) (zip2 is_below (replicate 8 10) (map flip (letters xs)))) (replicate 8 10) (map flip (letters xs))))
+
+pub lanes_read : (xs : List ℕ) → length xs ≡ 8 → read_lanes xs ≡ map lane_value xs
+lanes_read xs k = by_eight (λ xs. read_lanes xs ≡ map lane_value xs) (λ a b c d e f g h. refl) xs k
+
+-- a lane below 16 is the byte's value, for all 256 bytes at once
+abbrev right_at : ℕ → ℕ → Option ℕ → Bool
+right_at b v None = nat_le 16 v
+right_at b v (Some d) = v == d
+
+abbrev all_right : ℕ → ℕ → Bool
+all_right zero b = true
+all_right (suc n) b = if right_at b (lane_value b) (hex_digit b) then all_right n (suc b) else false
+
+all_bytes : all_right 256 0 ≡ true
+all_bytes = refl
+
+both_hold : (t on : Bool) → (if t then on else false) ≡ true → (t ≡ true) × (on ≡ true)
+both_hold true on h = (refl, h)
+both_hold false on h = cc
+
+right_of : (n b k : ℕ) → all_right n b ≡ true → k < n → right_at (b + k) (lane_value (b + k)) (hex_digit (b + k)) ≡ true
+right_of zero b k h l = absurd (omega arith)
+right_of (suc n) b zero h l =
+    let z : b + 0 ≡ b = omega arith in
+    rw z ((both_hold (right_at b (lane_value b) (hex_digit b)) (all_right n (suc b)) h).0)
+right_of (suc n) b (suc k) h l =
+    let t = both_hold (right_at b (lane_value b) (hex_digit b)) (all_right n (suc b)) h in
+    let s : suc b + k ≡ b + suc k = omega arith in
+    let P : ℕ → Type 0 = λ m. right_at m (lane_value m) (hex_digit m) ≡ true in
+    subst P s (right_of n (suc b) k t.1 (omega arith))
+
+by_right : (b v : ℕ) (o : Option ℕ) → right_at b v o ≡ true → v < 16 → o ≡ Some v
+by_right b v None h l = absurd (grind (arith, nat_tests))
+by_right b v (Some d) h l = let e : v ≡ d = grind (arith, nat_tests) in ap Some (sym e)
+
+pub lane_digit : (b : ℕ) → b < 256 → lane_value b < 16 → hex_digit b ≡ Some (lane_value b)
+lane_digit b h l =
+    let z : 0 + b ≡ b = omega arith in
+    let P : ℕ → Type 0 = λ m. right_at m (lane_value m) (hex_digit m) ≡ true in
+    by_right b (lane_value b) (hex_digit b) (subst P z (right_of 256 0 b all_bytes h)) l
+
+-- so digits in all lanes are the bytes' number
+pub lanes_number : (value : ℕ) (bs : List ℕ) → Each1 (Fits w8) bs → Each1 (λ d. d < 16) (map lane_value bs) → hex_value value bs ≡ Some (number_of value (map lane_value bs))
+lanes_number value [] f h = refl
+lanes_number value (b ∷ bs) f h =
+    ap (option_and_then (λ d. hex_value (value * 16 + d) bs)) (lane_digit b f.0.fits h.0)
+    ∙ lanes_number (value * 16 + lane_value b) bs f.1 h.1
