@@ -1,6 +1,6 @@
 -- Nothing is stale: what every event keeps of arrays and caches.
 use Rattle.std.proofs.Common.{◌≡◌, refl, sym, ap, subst, ℕ, zero, suc, ◌+◌, ◌-◌, ◌*◌, ◌<◌, ◌≤◌, Bool, true, false, not, List, [], ◌∷◌, length, Option, None, Some, arith}
-use Rattle.std.specs.Prelude.{find}
+use Rattle.std.specs.Prelude.{find, is_some}
 use Rattle.std.proofs.lemmas.Bool.Decides.{nat_tests}
 use Rattle.xl_model.specs.declared.address.Kind.{Kind}
 use Rattle.xl_model.specs.declared.address.Mode.{Mode}
@@ -20,7 +20,7 @@ use Rattle.xl_model.specs.Ranges.{ranges_of, holds_page}
 use Rattle.xl_model.specs.Shapes.{Shape, Radix, Chained, Cuckoo, Runs, CuckooWays, CuckooRules, brought, ways_brought, ways_taken, widened, narrowed, shape_after, opening_shape}
 use Rattle.xl_model.specs.Room.{room_for, has_room}
 use Rattle.xl_model.specs.Caches.{Caches, NodeCaches, SectionCaches, RangeCache, NoCaches, Numbered, empty_caches, section_caches, opening_caches, caches_purged, caches_fenced, reaches_space, reaches_range}
-use Rattle.xl_model.specs.Walks.{section_of_page, range_walk_by, walked, start_level, is_page_section, fills_m2, is_found}
+use Rattle.xl_model.specs.Walks.{section_of_page, range_walk_by, walked, start_level, is_page_section, fills_m2}
 use Rattle.xl_model.specs.Structures.{answer_by, TableState, Verdict, Made, NoSpace, NoPlace, finds_place, verdict_by, verdict, table_made, table_answer, table_after, after_by, table_walked, table_fenced}
 use Rattle.xl_model.specs.Tally.{count_look}
 use Rattle.xl_model.specs.Tlb.{Answer, answer_of, reaches_leaf}
@@ -76,7 +76,7 @@ middle-some space page leaves ways (Some leaf) is fills = section-some order.M2 
     small order.G1 h = absurd (cc)
 
 large-some : (space page : ℕ) (leaves : List Leaf) (ways : CuckooWays) (found : Option Leaf) → ((leaf : Leaf) → found ≡ Some leaf → IsFound space page leaves leaf)
-    → is_found found ≡ true → has_leaves (section_of_page order.G1 space page leaves ways) ≡ true
+    → is_some found ≡ true → has_leaves (section_of_page order.G1 space page leaves ways) ≡ true
 large-some space page leaves ways None is fills = absurd (cc)
 large-some space page leaves ways (Some leaf) is fills = section-some order.G1 space page leaves ways leaf (is leaf refl) (level-low leaf.order)
 
@@ -104,7 +104,7 @@ walk-fresh row space page leaves (Cuckoo rules ways) (SectionCaches m2 g1) m (a,
   (
     section-walked order.M2 space page leaves ways (fills_m2 (leaf_at_page space page leaves)) (find (is_page_section order.M2 space page) m2.items) m2
         (middle-some space page leaves ways (leaf_at_page space page leaves) (found-leaf row space page leaves m)) a,
-    section-walked order.G1 space page leaves ways (is_found (leaf_at_page space page leaves)) (find (is_page_section order.G1 space page) g1.items) g1
+    section-walked order.G1 space page leaves ways (is_some (leaf_at_page space page leaves)) (find (is_page_section order.G1 space page) g1.items) g1
         (large-some space page leaves ways (leaf_at_page space page leaves) (found-leaf row space page leaves m)) b,
   ),
   tt,

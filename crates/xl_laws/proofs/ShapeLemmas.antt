@@ -2,13 +2,10 @@
 use Rattle.std.proofs.Common.{◌≡◌, refl, sym, ap, subst, ℕ, zero, suc, ◌+◌, Bool, true, false, List, Option, None, Some, inl, inr, map}
 use Rattle.xl_model.specs.declared.address.Kind.{Kind}
 use Rattle.xl_model.specs.declared.address.Order.{Order}
-use Rattle.xl_model.specs.declared.address.Order.TheVariants as order
 use Rattle.xl_model.specs.declared.leaf.Leaf.{Leaf}
 use Rattle.xl_model.specs.declared.event.Event.{Event}
-use Rattle.xl_model.specs.declared.event.Event.TheVariants as event
 use Rattle.xl_model.specs.declared.event.Refusal.{Refusal}
 use Rattle.xl_model.specs.declared.row.Table.{Table}
-use Rattle.xl_model.specs.declared.row.Table.TheVariants as table
 use Rattle.xl_model.specs.Addresses.{levels_of, is_canonical, page_of}
 use Rattle.xl_model.specs.Mapping.{leaf_at_page}
 use Rattle.xl_model.specs.Rows.{Row}
@@ -21,11 +18,15 @@ use Rattle.xl_model.specs.Shapes.{CuckooRules, CuckooWays, Shape, Radix, Chained
 use Rattle.xl_model.specs.Structures.{TableState, Verdict, Made, NoSpace, NoPlace, verdict, table_made, table_answer, table_after, after_by, table_walked, table_fenced}
 use Rattle.xl_model.specs.Tlb.{Answer, answer_of}
 use Rattle.xl_model.specs.RowRun.{RowState, opening, looked_by, looked, looked_where, accessed, changed_where, fenced, served, after_rule, after_event}
-use Rattle.xl_model.specs.Items.{Item, run}
+use Rattle.xl_model.specs.declared.script.Item.{Item}
+use Rattle.xl_model.specs.Items.{run}
 use Rattle.xl_laws.specs.Cuckoo.{SlotsApart, AllApart, ShapeApart, KeysHaveTheirSlots}
 use Rattle.xl_laws.proofs.WayLemmas.{PlacingApart, insertion-apart, opening-apart, reworded-apart, without-apart, mapped-apart}
 use Rattle.xl_laws.proofs.LeafLemmas.{filled-leaves, changed-table}
 use Rattle.xl_laws.proofs.RunLemmas.{Keeps, run-keeps}
+use Rattle.xl_model.specs.declared.address.Order.TheVariants as order
+use Rattle.xl_model.specs.declared.event.Event.TheVariants as event
+use Rattle.xl_model.specs.declared.row.Table.TheVariants as table
 
 -- a fact of shapes that each change keeps, and each refused attempt
 pub record ShapeKeeps (P : Shape → Type 0) : Type 0 where

@@ -6,7 +6,7 @@ use Rattle.std.proofs.Math.Pow.{mod-mod-pow}
 use Rattle.xl_model.specs.declared.way.Entry.{Entry}
 use Rattle.xl_model.specs.declared.way.WayRegs.{WayRegs}
 use Rattle.xl_model.specs.Ways.{slot_at, with_entry, without_key, reworded, slots_left, begun_regs, regs_after}
-use Rattle.xl_model.specs.Placing.{one_if}
+use Rattle.xl_model.specs.Base.{one_if}
 use Rattle.xl_laws.specs.Cuckoo.{how_many}
 
 low-bits : (h s : ℕ) → h % 2 ^ (s + 1) % 2 ^ s ≡ h % 2 ^ s

@@ -9,7 +9,8 @@ use Rattle.xl_model.specs.declared.way.Moves.{Moves}
 use Rattle.xl_model.specs.declared.way.WayRegs.{WayRegs}
 use Rattle.xl_model.specs.Hashes.{way_hash}
 use Rattle.xl_model.specs.Ways.{WayShape, slot_at, slot, occupant, with_entry, without_occupant, swapped, with_word, reworded, without_entry, slots_left, begun_regs, regs_after, advanced, begun, opening_way}
-use Rattle.xl_model.specs.Placing.{one_if, way_at, put_in, next_way, start_way, Attempt, Stands, Fails, Displaced, by_occupant, attempt, to_grow, Candidate, growing_now, forced, forced_moves, Placing, Placed, AtCap, after_attempt, with_growth, growths_left, placing, place, no_moves, settled_way, begins, begun_if_full, settled, after_placing, insertion}
+use Rattle.xl_model.specs.Base.{one_if}
+use Rattle.xl_model.specs.Placing.{way_at, put_in, next_way, start_way, Attempt, Stands, Fails, Displaced, by_occupant, attempt, to_grow, Candidate, growing_now, forced, forced_moves, Placing, Placed, AtCap, after_attempt, with_growth, growths_left, placing, place, no_moves, settled_way, begins, begun_if_full, settled, after_placing, insertion}
 use Rattle.xl_mapping.proofs.MemberLemmas.{map-In, find-passes}
 use Rattle.xl_laws.specs.Cuckoo.{how_many, stands_at, SlotsApart, AllApart, ARefusalKeepsEveryWord, MigratingMovesNoEntry}
 use Rattle.xl_mapping.specs.Sections.{entries_of}

@@ -4,10 +4,12 @@ use Rattle.xl_model.specs.declared.way.Entry.{Entry}
 use Rattle.xl_model.specs.declared.way.Moves.{Moves}
 use Rattle.xl_model.specs.declared.way.WayRegs.{WayRegs}
 use Rattle.xl_model.specs.Ways.{WayShape, slot, advanced}
-use Rattle.xl_model.specs.Placing.{one_if, AtCap, insertion}
+use Rattle.xl_model.specs.Base.{one_if}
+use Rattle.xl_model.specs.Placing.{AtCap, insertion}
 use Rattle.xl_model.specs.Shapes.{Shape, Radix, Chained, Cuckoo, Runs}
 use Rattle.xl_model.specs.Rows.{Row}
-use Rattle.xl_model.specs.Items.{Item, run}
+use Rattle.xl_model.specs.declared.script.Item.{Item}
+use Rattle.xl_model.specs.Items.{run}
 use Rattle.xl_mapping.specs.Members.{In}
 use Rattle.xl_mapping.specs.Sections.{entries_of}
 

@@ -2,7 +2,8 @@
 use Rattle.std.specs.Prelude.{List}
 use Rattle.xl_model.specs.Rows.{Row}
 use Rattle.xl_model.specs.RowRun.{RowState}
-use Rattle.xl_model.specs.Items.{Item, run}
+use Rattle.xl_model.specs.declared.script.Item.{Item}
+use Rattle.xl_model.specs.Items.{run}
 use Rattle.xl_mapping.specs.Fresh.{ArraysFresh, CachesFresh}
 
 -- what the arrays and the walk caches of a row hold is not stale

@@ -2,17 +2,18 @@
 use Rattle.std.specs.Prelude.{ℕ, ◌≡◌, List}
 use Rattle.xl_model.specs.declared.address.Kind.{Kind}
 use Rattle.xl_model.specs.declared.address.Order.{Order}
-use Rattle.xl_model.specs.declared.event.Event.TheVariants as event
-use Rattle.xl_model.specs.declared.event.Outcome.TheVariants as outcome
 use Rattle.xl_model.specs.declared.leaf.Leaf.{Leaf}
 use Rattle.xl_model.specs.Addresses.{pages_of}
 use Rattle.xl_model.specs.Mapping.{flat}
 use Rattle.xl_model.specs.Frames.{lowest}
 use Rattle.xl_model.specs.Rows.{Row}
 use Rattle.xl_model.specs.RowRun.{RowState, outcome_of}
-use Rattle.xl_model.specs.Items.{Item, run}
+use Rattle.xl_model.specs.declared.script.Item.{Item}
+use Rattle.xl_model.specs.Items.{run}
 use Rattle.xl_mapping.specs.Mappings.{IsMapping}
 use Rattle.xl_mapping.specs.Lowest.{IsAnswer}
+use Rattle.xl_model.specs.declared.event.Event.TheVariants as event
+use Rattle.xl_model.specs.declared.event.Outcome.TheVariants as outcome
 
 -- The leaves are a mapping: valid for the row and sorted, no two of a space on one page, no two in one frame.
 abbrev pub TheLeavesAreAMapping : Type 0

@@ -12,7 +12,7 @@ use Rattle.xl_model.specs.Addresses.{same_order}
 use Rattle.xl_model.specs.Recency.{touched, with_newest, purged}
 use Rattle.xl_model.specs.Rows.{Row}
 use Rattle.xl_model.specs.Changes.{Change, old_leaf, changed}
-use Rattle.xl_model.specs.Tlb.{TlbArray, set_number, set_at, where_taken, takes_order, covers_as, found_as, first_found, array_hit, array_touched, filled_where, array_filled, Answer, answered_by, answer_of, touched_first, all_touched, filled_below, arrays_hit, arrays_filled, is_purged, array_without, arrays_without, opening_array, opening_arrays}
+use Rattle.xl_model.specs.Tlb.{TlbArray, set_number, set_at, where_taken, takes_order, covers_as, found_as, first_found, array_hit, array_touched, filled_where, array_filled, Answer, answered_by, answer_of, filled_below, touched_or, arrays_hit, arrays_filled, is_purged, array_without, arrays_without, opening_array, opening_arrays}
 use Rattle.xl_model.specs.RowRun.{arrays_after}
 use Rattle.xl_mapping.specs.Members.{In}
 use Rattle.xl_mapping.specs.Mappings.{IsMapping, IsSound}
@@ -20,6 +20,7 @@ use Rattle.xl_mapping.proofs.MemberLemmas.{find-In}
 use Rattle.xl_mapping.proofs.RecencyLemmas.{touched-In, newest-In, purged-In}
 use Rattle.xl_mapping.proofs.ChangeLemmas.{stays-changed}
 use Rattle.xl_mapping.specs.Fresh.{InSets, Held, ArraysFresh}
+use Rattle.xl_mapping.proofs.HitLemmas.{get-In, answer-held}
 
 -- sets
 set-In : (leaf : Leaf) (sets : List (List Leaf)) (i : ℕ) (v : List Leaf) → InSets leaf (slice_set sets i v) → In leaf v ⊎ InSets leaf sets
@@ -28,11 +29,6 @@ set-In leaf (s ∷ sets) zero v (inl j) = inl j
 set-In leaf (s ∷ sets) zero v (inr j) = inr (inr j)
 set-In leaf (s ∷ sets) (suc i) v (inl j) = inr (inl j)
 set-In leaf (s ∷ sets) (suc i) v (inr j) = elim (set-In leaf sets i v j) [ inl k ↦ inl k | inr k ↦ inr (inr k) ]
-
-get-In : (leaf : Leaf) (sets : List (List Leaf)) (i : ℕ) → In leaf (slice_index_or sets i []) → InSets leaf sets
-get-In leaf [] i h = absurd h
-get-In leaf (s ∷ sets) zero h = inl h
-get-In leaf (s ∷ sets) (suc i) h = inr (get-In leaf sets i h)
 
 purged-sets : (p : Leaf → Bool) (leaf : Leaf) (sets : List (List Leaf)) → InSets leaf (map (purged p) sets) → InSets leaf sets × (p leaf ≡ false)
 purged-sets p leaf [] h = absurd h
@@ -63,65 +59,34 @@ filled-sets : (new leaf : Leaf) (a : TlbArray) → InSets leaf (array_filled new
 unfolding array_filled
 filled-sets new leaf a i = filled-by (takes_order a.spec new.order) new leaf a i
 
--- what hits is held
-found-as-In : (a : TlbArray) (space page : ℕ) (o : Order) (leaf : Leaf) → found_as a space page o ≡ Some leaf → InSets leaf a.sets
-found-as-In a space page o leaf h = go (takes_order a.spec o) h
-  where
-    go : (b : Bool) → where_taken b (find (covers_as space page o) (set_at a o page)) ≡ Some leaf → InSets leaf a.sets
-    go true k = get-In leaf a.sets (set_number a.spec o page) (find-In (covers_as space page o) leaf (set_at a o page) k)
-    go false k = absurd (cc)
-
-first-In : (a : TlbArray) (leaf : Leaf) (x y : Option Leaf) → (x ≡ Some leaf → InSets leaf a.sets) → (y ≡ Some leaf → InSets leaf a.sets)
-    → first_found x y ≡ Some leaf → InSets leaf a.sets
-first-In a leaf None y f g h = g h
-first-In a leaf (Some z) y f g h = f h
-
-hit-In : (a : TlbArray) (space page : ℕ) (leaf : Leaf) → array_hit a space page ≡ Some leaf → InSets leaf a.sets
-unfolding array_hit
-hit-In a space page leaf h =
-    first-In a leaf (found_as a space page order.K4) (first_found (found_as a space page order.M2) (found_as a space page order.G1))
-    (found-as-In a space page order.K4 leaf)
-    (first-In a leaf (found_as a space page order.M2) (found_as a space page order.G1)
-    (found-as-In a space page order.M2 leaf) (found-as-In a space page order.G1 leaf)) h
-
-pub answer-held : (arrays : List TlbArray) (space page : ℕ) (answer : Answer) → answer_of arrays space page ≡ Some answer → Held answer.leaf arrays
-answer-held [] space page answer h = absurd (cc)
-answer-held (a ∷ arrays) space page answer h = go (array_hit a space page) refl h (λ k. answer-held arrays space page answer k)
-  where
-    go : (o : Option Leaf) → array_hit a space page ≡ o → answered_by o a.spec.level (answer_of arrays space page) ≡ Some answer
-        → (answer_of arrays space page ≡ Some answer → Held answer.leaf arrays) → Held answer.leaf (a ∷ arrays)
-    go None is k next = inr (next k)
-    go (Some leaf) is k next =
-        let same : leaf ≡ answer.leaf = cc in
-        let P : Leaf → Type 0 = λ z. InSets z a.sets in
-        inl (subst P same (hit-In a space page leaf is))
-
 -- all arrays
-all-touched-held : (space page : ℕ) (leaf : Leaf) (arrays : List TlbArray) → Held leaf (all_touched space page arrays) → Held leaf arrays
-all-touched-held space page leaf [] h = h
-all-touched-held space page leaf (a ∷ arrays) h = go (array_hit a space page) h (λ k. all-touched-held space page leaf arrays k)
-  where
-    go : (o : Option Leaf) → Held leaf (touched_first o space page a arrays (all_touched space page arrays))
-        → (Held leaf (all_touched space page arrays) → Held leaf arrays) → Held leaf (a ∷ arrays)
-    go None k next = elim k [ inl i ↦ inl i | inr j ↦ inr (next j) ]
-    go (Some hit) k next = elim k [ inl i ↦ inl (touched-sets space page hit leaf a i) | inr j ↦ inr j ]
-
-below-held : (level : ℕ) (new leaf : Leaf) (arrays : List TlbArray) → Held leaf (map (filled_below level new) arrays) → (leaf ≡ new) ⊎ Held leaf arrays
-below-held level new leaf [] h = absurd h
-below-held level new leaf (a ∷ arrays) (inl i) =
-    elim (nat_lt a.spec.level level) as (λ b. InSets leaf (cond b (array_filled new a) a).sets → (leaf ≡ new) ⊎ Held leaf (a ∷ arrays)) [
-      | true ↦ λ j. elim (filled-sets new leaf a j) [ inl e ↦ inl e | inr k ↦ inr (inl k) ]
-      | false ↦ λ j. inr (inl j)
+-- a hit moves leaves, and fills the arrays before with the leaf that answered
+below-sets : (level : ℕ) (new leaf : Leaf) (a : TlbArray) → InSets leaf (filled_below level new a).sets → (leaf ≡ new) ⊎ InSets leaf a.sets
+below-sets level new leaf a i =
+    elim (nat_lt a.spec.level level) as (λ b. InSets leaf (cond b (array_filled new a) a).sets → (leaf ≡ new) ⊎ InSets leaf a.sets) [
+      | true ↦ λ j. filled-sets new leaf a j
+      | false ↦ λ j. inr j
     ] i
-below-held level new leaf (a ∷ arrays) (inr i) = elim (below-held level new leaf arrays i) [ inl e ↦ inl e | inr k ↦ inr (inr k) ]
+
+hit-held : (answer : Answer) (space page : ℕ) (leaf : Leaf) (arrays : List TlbArray) → Held leaf (arrays_hit answer space page arrays) → (leaf ≡ answer.leaf) ⊎ Held leaf arrays
+unfolding arrays_hit
+hit-held answer space page leaf [] h = absurd h
+hit-held answer space page leaf (a ∷ arrays) h = go (array_hit a space page) h (λ k. hit-held answer space page leaf arrays k)
+  where
+    go : (o : Option Leaf) → Held leaf (touched_or o space page a arrays (filled_below answer.level answer.leaf a ∷ arrays_hit answer space page arrays))
+        → (Held leaf (arrays_hit answer space page arrays) → (leaf ≡ answer.leaf) ⊎ Held leaf arrays) → (leaf ≡ answer.leaf) ⊎ Held leaf (a ∷ arrays)
+    go (Some hit) k next = elim k [ inl i ↦ inr (inl (touched-sets space page hit leaf a i)) | inr j ↦ inr (inr j) ]
+    go None k next = elim k [
+      | inl i ↦ elim (below-sets answer.level answer.leaf leaf a i) [ inl e ↦ inl e | inr l ↦ inr (inl l) ]
+      | inr j ↦ elim (next j) [ inl e ↦ inl e | inr l ↦ inr (inr l) ]
+    ]
 
 pub hit-fresh : (arrays : List TlbArray) (leaves : List Leaf) (space page : ℕ) (answer : Answer) → ArraysFresh arrays leaves
     → answer_of arrays space page ≡ Some answer → ArraysFresh (arrays_hit answer space page arrays) leaves
-unfolding arrays_hit
 hit-fresh arrays leaves space page answer fresh is leaf h =
-    elim (below-held answer.level answer.leaf leaf (all_touched space page arrays) h) [
+    elim (hit-held answer space page leaf arrays h) [
       | inl e ↦ let P : Leaf → Type 0 = λ z. In z leaves in subst P (sym e) (fresh answer.leaf (answer-held arrays space page answer is))
-      | inr k ↦ fresh leaf (all-touched-held space page leaf arrays k)
+      | inr k ↦ fresh leaf k
     ]
 
 filled-held : (new leaf : Leaf) (arrays : List TlbArray) → Held leaf (map (array_filled new) arrays) → (leaf ≡ new) ⊎ Held leaf arrays

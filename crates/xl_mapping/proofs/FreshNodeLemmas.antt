@@ -12,7 +12,8 @@ use Rattle.xl_model.specs.Changes.{Change, Insert, Remove, Protect, Relocate, ne
 use Rattle.xl_model.specs.Nodes.{up, Node, node_at, is_below, is_under, in_nodes, number_of, free_count, with_path, with_leaf_nodes, leaf_nodes_missing, is_needed, only_needed}
 use Rattle.xl_model.specs.Shapes.{brought}
 use Rattle.xl_model.specs.Caches.{Cached, Numbered, without_items, all_without}
-use Rattle.xl_model.specs.Walks.{is_tag, number_or_0, numbered, node_cache_after, node_caches_after, with_touch, with_fill}
+use Rattle.xl_model.specs.Walks.{is_tag, numbered, node_cache_after, node_caches_after, with_touch, with_fill}
+use Rattle.xl_model.specs.Base.{number_or_0}
 use Rattle.xl_mapping.specs.Members.{In}
 use Rattle.xl_mapping.proofs.MemberLemmas.{any-In, In-any}
 use Rattle.xl_mapping.proofs.MappingLemmas.{named-In}

@@ -8,12 +8,11 @@ use Rattle.xl_model.specs.declared.address.Order.{Order}
 use Rattle.xl_model.specs.declared.address.Order.TheVariants as order
 use Rattle.xl_model.specs.declared.leaf.Leaf.{Leaf}
 use Rattle.xl_model.specs.declared.way.Entry.{Entry}
-use Rattle.xl_model.specs.Chains.{key_of}
 use Rattle.xl_model.specs.Addresses.{level_of, pages_of, same_order}
 use Rattle.xl_model.specs.Mapping.{covers}
 use Rattle.xl_model.specs.Ways.{WayShape, has_key}
 use Rattle.xl_model.specs.Placing.{is_held, holder_from}
-use Rattle.xl_model.specs.Sections.{Section, section_of, counts_for, holds_order, same_way, same_section}
+use Rattle.xl_model.specs.Sections.{Section, section_key, section_of, counts_for, holds_order, same_way, same_section}
 use Rattle.xl_model.specs.Shapes.{CuckooWays, ways_of}
 use Rattle.xl_model.specs.Caches.{Cached, without_items, has_changed}
 use Rattle.xl_model.specs.Walks.{is_page_section, section_of_page, section_after}
@@ -139,7 +138,7 @@ section-same : (size : Order) (space block : ℕ) (leaves : List Leaf) (xs ys : 
     → section_of size space block leaves xs ≡ section_of size space block leaves ys
 unfolding section_of
 section-same size space block leaves xs ys e =
-    let h : holder_from 0 xs (key_of 1 space size (block * pages_of size)) ≡ holder_from 0 ys (key_of 1 space size (block * pages_of size)) = holder-same 0 xs ys (key_of 1 space size (block * pages_of size)) e in
+    let h : holder_from 0 xs (section_key space block) ≡ holder_from 0 ys (section_key space block) = holder-same 0 xs ys (section_key space block) e in
     rw h refl
 
 -- ways with the same entries leave every section

@@ -2,6 +2,8 @@ pub mod MemberLemmas
 pub mod SameLemmas
 pub mod OnceLemmas
 pub mod RecencyLemmas
+pub mod BucketLemmas
+pub mod GatherLemmas
 pub mod OrderLemmas
 pub mod PermLemmas
 pub mod InsertionLemmas
@@ -14,9 +16,17 @@ pub mod ChangeLemmas
 pub mod EndLemmas
 pub mod KeptLemmas
 pub mod FrontLemmas
+pub mod WithoutLemmas
+pub mod GivenLemmas
 pub mod TagLemmas
+pub mod ReadLemmas
 pub mod TableLemmas
+pub mod MoveLemmas
+pub mod LimitLemmas
+pub mod PoolLemmas
+pub mod PoolChangeLemmas
 pub mod NumberLemmas
+pub mod HitLemmas
 pub mod FreshArrayLemmas
 pub mod FreshSectionLemmas
 pub mod FreshRangeLemmas

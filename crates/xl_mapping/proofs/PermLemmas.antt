@@ -4,7 +4,7 @@ use Rattle.std.specs.Prelude.{IsTrue}
 use Rattle.std.specs.Cmp.{first_so, second_so}
 use Rattle.std.proofs.Props.{props}
 use Rattle.xl_model.specs.declared.perm.Perm.{Perm}
-use Rattle.xl_model.specs.Sections.{same_bit}
+use Rattle.xl_model.specs.Base.{same_bit}
 use Rattle.xl_model.specs.Ranges.{same_perm}
 
 pub one-proof : (b : Bool) (k l : b ≡ true) → k ≡ l

@@ -1,9 +1,9 @@
--- A sorted list of leaves is known by its members.
-use Rattle.std.proofs.Common.{◌≡◌, refl, sym, ap, List, [], ◌∷◌, inl, inr, ◌<◌, arith}
+-- A sorted list of leaves is known by its members; one leaf put in and another taken out, in either order.
+use Rattle.std.proofs.Common.{◌≡◌, refl, sym, ap, subst, ℕ, List, [], ◌∷◌, inl, inr, ◌<◌, ◌+◌, ◌*◌, ◌^◌, arith}
 use Rattle.xl_model.specs.declared.leaf.Leaf.{Leaf}
-use Rattle.xl_model.specs.Mapping.{leaf_key}
+use Rattle.xl_model.specs.Mapping.{leaf_key, with_leaf, without_leaf}
 use Rattle.xl_mapping.specs.Members.{In, AllAbove, IsSorted}
-use Rattle.xl_mapping.proofs.InsertionLemmas.{above-In}
+use Rattle.xl_mapping.proofs.InsertionLemmas.{above-In, with-In, In-with, stays-with, sorted-with, sorted-without, without-In, without-other, In-without}
 
 heads : (x y : Leaf) (xs ys : List Leaf) → AllAbove (leaf_key x) xs → AllAbove (leaf_key y) ys → In x (y ∷ ys) → In y (x ∷ xs) → x ≡ y
 heads x y xs ys above_x above_y (inl e) j = e
@@ -32,3 +32,20 @@ same-sorted (x ∷ xs) (y ∷ ys) (above_x, rest_x) (above_y, rest_y) there back
     (λ z i. behind z x y xs ys above_x head i (there z (inr i)))
     (λ z i. behind z y x ys xs above_y (sym head) i (back z (inr i))) in
     cc
+
+-- putting one leaf in and taking another out, in either order
+pub with-without : (s f : ℕ) (x : Leaf) (xs : List Leaf) → IsSorted xs → (leaf_key x ≡ s * 2 ^ 52 + f → ⊥)
+    → ((z : Leaf) → In z xs → leaf_key z ≡ leaf_key x → ⊥)
+    → with_leaf x (without_leaf s f xs) ≡ without_leaf s f (with_leaf x xs)
+with-without s f x xs sorted other new =
+    same-sorted (with_leaf x (without_leaf s f xs)) (without_leaf s f (with_leaf x xs))
+    (sorted-with x (without_leaf s f xs) (sorted-without s f xs sorted)) (sorted-without s f (with_leaf x xs) (sorted-with x xs sorted))
+    (λ z i. elim (with-In z x (without_leaf s f xs) i) [
+      | inl e ↦ let P : Leaf → Type 0 = λ w. In w (without_leaf s f (with_leaf x xs)) in
+          subst P (sym e) (In-without x s f (with_leaf x xs) (In-with x xs) other)
+      | inr j ↦ In-without z s f (with_leaf x xs) (stays-with z x xs (without-In z s f xs j) (new z (without-In z s f xs j))) (without-other z s f xs j)
+    ])
+    (λ z i. elim (with-In z x xs (without-In z s f (with_leaf x xs) i)) [
+      | inl e ↦ let P : Leaf → Type 0 = λ w. In w (with_leaf x (without_leaf s f xs)) in subst P (sym e) (In-with x (without_leaf s f xs))
+      | inr j ↦ stays-with z x (without_leaf s f xs) (In-without z s f xs j (without-other z s f (with_leaf x xs) i)) (new z j)
+    ])

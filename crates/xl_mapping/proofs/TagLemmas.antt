@@ -1,5 +1,5 @@
 -- Tags of kept leaves: each has its own, and how each call changes their list.
-use Rattle.std.proofs.Common.{◌≡◌, refl, sym, ap, ◌∙◌, subst, ℕ, suc, Bool, true, false, not, cond, List, [], ◌∷◌, map, length, inl, inr, ◌<◌, ◌+◌, ◌^◌, nat_lt, ◌==◌, arith}
+use Rattle.std.proofs.Common.{◌≡◌, refl, sym, ap, ◌∙◌, subst, ℕ, suc, Bool, true, false, not, cond, List, [], ◌∷◌, map, length, inl, inr, ◌<◌, ◌+◌, ◌^◌, ◌==◌, arith}
 use Rattle.std.specs.Prelude.{filter}
 use Rattle.std.specs.List.{list_any}
 use Rattle.std.proofs.lemmas.Bool.Decides.{nat_tests}
@@ -9,13 +9,15 @@ use Rattle.xl_model.specs.declared.perm.Perm.{Perm}
 use Rattle.xl_model.specs.declared.leaf.Leaf.{Leaf}
 use Rattle.xl_model.specs.Addresses.{pages_of}
 use Rattle.xl_model.specs.Mapping.{meets_block, is_leaf}
-use Rattle.xl_model.specs.Chains.{tag_of, bucket_of, leaf_tag, in_front_of_bucket, has_tag, with_tag, only_used_tags}
+use Rattle.xl_model.specs.Chains.{tag_of, leaf_tag, in_front_of_bucket, has_tag, with_tag, only_used_tags}
 use Rattle.xl_mapping.specs.Members.{In}
 use Rattle.xl_mapping.proofs.MemberLemmas.{In-any, map-In, filter-In, filter-passes, In-filter, all-In}
 use Rattle.xl_mapping.specs.Kept.{IsPlaced, IsKept, mapping_of, in_front, without_named, protected_where, with_perm_named}
 use Rattle.xl_mapping.proofs.SameLemmas.{both, none-any}
 use Rattle.xl_mapping.proofs.KeptLemmas.{kept-same, mapping-In, In-mapping, kept-filter}
-use Rattle.xl_mapping.proofs.FrontLemmas.{IsNew, given, perm-named-is, kept-protected}
+use Rattle.xl_mapping.proofs.BucketLemmas.{tags-by}
+use Rattle.xl_mapping.proofs.FrontLemmas.{IsNew}
+use Rattle.xl_mapping.proofs.GivenLemmas.{given, perm-named-is, kept-protected}
 use Rattle.xl_model.specs.declared.address.Order.TheVariants as order
 
 -- leaves of one tag share a page
@@ -45,7 +47,7 @@ tag-meets x y a b e =
     grind (arith, nat_tests)
 
 -- a new leaf's tag is new
-tag-absent : (x : Leaf) (xs : List Leaf) → IsKept xs → IsPlaced x → IsNew x xs → has_tag (map (leaf_tag 1) xs) (leaf_tag 1 x) ≡ false
+pub tag-absent : (x : Leaf) (xs : List Leaf) → IsKept xs → IsPlaced x → IsNew x xs → has_tag (map (leaf_tag 1) xs) (leaf_tag 1 x) ≡ false
 tag-absent x xs k at new =
     none-any (λ t. t == leaf_tag 1 x) (map (leaf_tag 1) xs) (λ t i. false_from_ne_true (t == leaf_tag 1 x) (λ h.
     let found = map-In (leaf_tag 1) t xs i in
@@ -54,27 +56,11 @@ tag-absent x xs k at new =
 
 tags-front : (b : ℕ) (x : Leaf) (xs : List Leaf) → in_front_of_bucket b (leaf_tag 1 x) (map (leaf_tag 1) xs) ≡ map (leaf_tag 1) (in_front b x xs)
 unfolding in_front
-tags-front b x [] = refl
-tags-front b x (y ∷ ys) =
-    elim (nat_lt (bucket_of b (leaf_tag 1 y)) (bucket_of b (leaf_tag 1 x))) as (λ t.
-    cond t (leaf_tag 1 y ∷ in_front_of_bucket b (leaf_tag 1 x) (map (leaf_tag 1) ys)) (leaf_tag 1 x ∷ leaf_tag 1 y ∷ map (leaf_tag 1) ys)
-    ≡ map (leaf_tag 1) (cond t (y ∷ in_front b x ys) (x ∷ y ∷ ys))) [
-      | true ↦ ap (λ ts. leaf_tag 1 y ∷ ts) (tags-front b x ys)
-      | false ↦ refl
-    ]
+tags-front b x xs = tags-by (leaf_tag 1) b x xs
 
 pub with-tag : (b : ℕ) (x : Leaf) (xs : List Leaf) → IsKept xs → IsPlaced x → IsNew x xs → with_tag b (leaf_tag 1 x) (map (leaf_tag 1) xs) ≡ map (leaf_tag 1) (in_front b x xs)
 unfolding with_tag
 with-tag b x xs k at new = rw (tag-absent x xs k at new) (tags-front b x xs)
-
-pub length-front : (b : ℕ) (x : Leaf) (xs : List Leaf) → length (in_front b x xs) ≡ suc (length xs)
-unfolding in_front
-length-front b x [] = refl
-length-front b x (y ∷ ys) =
-    elim (nat_lt (bucket_of b (leaf_tag 1 y)) (bucket_of b (leaf_tag 1 x))) as (λ t. length (cond t (y ∷ in_front b x ys) (x ∷ y ∷ ys)) ≡ suc (suc (length ys))) [
-      | true ↦ ap suc (length-front b x ys)
-      | false ↦ refl
-    ]
 
 pub length-tags : (xs : List Leaf) → length (map (leaf_tag 1) xs) ≡ length xs
 length-tags [] = refl

@@ -1,6 +1,9 @@
 pub mod Members
+pub mod Buckets
 pub mod Sections
 pub mod Lowest
 pub mod Mappings
 pub mod Kept
+pub mod Limits
+pub mod Pools
 pub mod Fresh

@@ -1,2 +1,4 @@
-pub mod Fronts
-pub mod Pieces
+mod FolderLemmas
+mod FrontLemmas
+mod SinkLemmas
+mod StreamLemmas

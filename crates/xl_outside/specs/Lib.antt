@@ -1,3 +1,6 @@
 pub mod Outside
+pub mod Folders
+pub mod Sinks
+pub mod Streams
 pub mod Memory
 pub mod Whole

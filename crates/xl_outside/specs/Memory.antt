@@ -1,18 +1,15 @@
 -- What the folder and the sink in memory hold, and what they answer.
-use Rattle.std.specs.Prelude.{◌≡◌, ℕ, ◌+◌, ◌-◌, ◌^◌, ◌==◌, ◌≤◌, min, Bool, ◌||◌, List, [], ◌∷◌, ◌++◌, length, take, if◌then◌else◌, Option, None, Some, Result, Ok, Err}
+use Rattle.std.specs.Prelude.{◌≡◌, ℕ, ◌+◌, ◌-◌, ◌==◌, ◌≤◌, min, Bool, ◌||◌, List, [], ◌∷◌, ◌++◌, length, take, if◌then◌else◌, Option, None, Some, Result, Ok, Err}
 use Rattle.std.specs.declared.alloc.Global.{Global}
 use Rattle.std.specs.declared.vec.Vec.{Vec}
 use Rattle.std.specs.declared.string.String.{String}
 use Rattle.std.specs.String.{string_bytes}
 use Rattle.std.specs.List.{list_any}
-use Rattle.xl_outside.specs.Outside.{Files, file_of}
+use Rattle.xl_outside.specs.Outside.{raised}
+use Rattle.xl_outside.specs.Folders.{Files, file_of}
 use Rattle.xl_outside.specs.declared.folder.Unread.{Unread}
 use Rattle.xl_outside.specs.declared.folder.Unread.TheVariants.{Missing, Failed}
 use Rattle.xl_outside.specs.declared.sink.Failed.{Failed as PutFailed}
-
--- one more, up to a counter's last value
-abbrev pub raised : ℕ → ℕ
-raised n = min (n + 1) (2 ^ 64 - 1)
 
 -- whether the call of this number is to fail
 abbrev pub is_listed : List ℕ → ℕ → Bool
@@ -33,6 +30,7 @@ pub record FolderState : Type 0 where
   pub failed : ℕ
   pub missed : ℕ
 
+-- a folder in memory that no call was made on
 abbrev pub opened_folder : Files → List ℕ → ℕ → FolderState
 opened_folder fs numbers most = record { held = fs; failing = numbers; piece = most; calls = 0; failed = 0; missed = 0 }
 
@@ -66,6 +64,7 @@ pub record SinkState : Type 0 where
   pub puts : ℕ
   pub failed : ℕ
 
+-- a sink in memory that nothing was put to
 abbrev pub opened_sink : ℕ → List ℕ → ℕ → SinkState
 opened_sink room numbers most = record { text = []; capacity = room; failing = numbers; piece = most; puts = 0; failed = 0 }
 
@@ -83,6 +82,7 @@ put_part s count =
 abbrev pub put_answer : SinkState → ℕ → Result ℕ PutFailed
 put_answer s count = if count == 0 then Ok 0 else put_part s count
 
+-- a put of bytes is counted and writes what it took, or counts as a fault; nothing else changes
 abbrev pub after_put : SinkState → List ℕ → Result ℕ PutFailed → SinkState
 after_put s bytes (Ok n) = record s { text = s.text ++ take n bytes; puts = if length bytes == 0 then s.puts else raised s.puts }
 after_put s bytes (Err e) = record s { puts = raised s.puts; failed = raised s.failed }

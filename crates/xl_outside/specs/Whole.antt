@@ -7,6 +7,7 @@ use Rattle.xl_outside.specs.declared.whole.ReadStop.TheVariants as stop
 use Rattle.xl_outside.specs.declared.folder.Unread.{Unread}
 use Rattle.xl_outside.specs.declared.folder.Unread.TheVariants.{Missing, Failed}
 
+-- why the file wasn't read, after a read that gave nothing
 abbrev pub stop_of : Unread → ReadStop
 stop_of Missing = stop.Missing
 stop_of Failed = stop.Failed
@@ -20,8 +21,3 @@ TellsWhole (Some file) limit (Ok bytes) = bytes.items ≡ take (limit + 1) file
 TellsWhole (Some file) limit (Err stop.Missing) = ⊥
 TellsWhole (Some file) limit (Err stop.Failed) = Unit {0}
 TellsWhole (Some file) limit (Err stop.NoMemory) = Unit {0}
-
--- the answer is this stop
-abbrev pub IsStop : Result (Vec ℕ Global) ReadStop → ReadStop → Type 0
-IsStop (Ok bytes) e = ⊥
-IsStop (Err d) e = d ≡ e

@@ -1,14 +1,18 @@
 //! A folder of files that are read in pieces.
 
 ghost use Rattle.std.specs.Prelude.{◌≡◌, ℕ, ◌+◌, ◌-◌, ◌^◌, ◌<◌, ◌≤◌, length, take, drop, Option, IfOk, IfSome};
-ghost use Rattle.xl_outside.specs.Outside.{Files, file_of, Rose, Tells, IsUnread};
+ghost use Rattle.xl_outside.specs.Folders.{Files, file_of, Tells, FolderAfter, fate_by, unread_fate};
+
+use thiserror::Error;
 
 /// Why a read gave nothing.
-#[derive(Clone, Copy, Debug, PartialEq, Eq)]
+#[derive(Clone, Copy, Debug, PartialEq, Eq, Error)]
 pub enum Unread {
     /// No file of this name can be had.
+    #[error("no such file")]
     Missing,
     /// The read failed.
+    #[error("a read failed")]
     Failed,
 }
 
@@ -30,11 +34,8 @@ pub trait Folder {
     /// many: 0 for a buffer that isn't empty exactly where `at` is at or past the file's end.
     fn read_at(&mut self, name: &str, at: u64, buf: &mut [u8]) -> Result<usize, Unread>
         ensures count { IfOk result (λ n. n ≤ length buf.new) }
-        ensures told { IfSome (files self.old) (λ fs. Tells (file_of fs name.now) at result buf.old buf.new) }
-        ensures failed { IsUnread result Unread.Failed → Rose (faults self.old) (faults self.new) }
-        ensures missing { IsUnread result Unread.Missing → Rose (absences self.old) (absences self.new) }
-        ensures faults_grow { faults self.old ≤ faults self.new }
-        ensures absences_grow { absences self.old ≤ absences self.new }
-        ensures keeps { files self.new ≡ files self.old }
-        ensures calm { steady self.old → (Rose (faults self.old) (faults self.new) → ⊥) × steady self.new };
+        ensures told { IfSome (files self.old)
+            (λ fs. Tells (file_of fs name.now) at result buf.old buf.new) }
+        ensures leaves { FolderAfter files faults absences steady self.old self.new
+            (fate_by unread_fate result) };
 }

@@ -9,15 +9,21 @@ mod host_folder;
 mod host_out;
 mod mem_folder;
 mod mem_sink;
+mod open_folder;
+mod open_sink;
 mod sink;
+mod stream;
 mod whole;
 
 pub use folder::{Folder, Unread};
-pub use host_folder::HostFolder;
+pub use host_folder::{HostFile, HostFiles, HostFolder};
 pub use host_out::{HostErr, HostOut};
 pub use mem_folder::MemFolder;
 pub use mem_sink::MemSink;
+pub use open_folder::OpenFolder;
+pub use open_sink::{OpenSink, Writer};
 pub use sink::{Failed, Sink, put_all};
+pub use stream::{Opener, Placed, Stream};
 pub use whole::{ReadStop, read_whole};
 
 #[cfg(test)]

@@ -1,8 +1,8 @@
 //! A folder in memory, which fails where it is told to.
 
 ghost use Rattle.std.specs.Prelude.{◌≡◌, ℕ, ◌+◌, ◌-◌, ◌^◌, ◌<◌, ◌≤◌, min, length, take, drop, Option, Some, None, Ok, Err, if◌then◌else◌, IfOk, IfSome, option_copied, option_map};
-ghost use Rattle.xl_outside.specs.Outside.{Files, file_of, Rose, Tells, IsUnread, Reads};
-ghost use Rattle.xl_outside.specs.Memory.{told, is_listed, part_of, opened_folder, NeverFails, read_answer, after_read};
+ghost use Rattle.xl_outside.specs.Folders.{Files, file_of, Tells, Reads, FolderAfter, fate_by, unread_fate};
+ghost use Rattle.xl_outside.specs.Memory.{FolderState, told, is_listed, part_of, opened_folder, NeverFails, read_answer, after_read};
 
 use crate::folder::{Folder, Unread};
 use std::marker::Model;
@@ -63,12 +63,9 @@ impl Folder for MemFolder {
         ensures after { self.new ≡ after_read self.old result }
         ensures count { IfOk result (λ n. n ≤ length buf.new) }
         ensures told { Tells (file_of self.old.held name.now) at result buf.old buf.new }
-        ensures failed { IsUnread result Unread.Failed → Rose self.old.failed self.new.failed }
-        ensures missing { IsUnread result Unread.Missing → Rose self.old.missed self.new.missed }
-        ensures faults_grow { self.old.failed ≤ self.new.failed }
-        ensures absences_grow { self.old.missed ≤ self.new.missed }
-        ensures keeps { self.new.held ≡ self.old.held }
-        ensures calm { NeverFails self.old → (Rose self.old.failed self.new.failed → ⊥) × NeverFails self.new }
+        ensures leaves { FolderAfter (λ (s : FolderState). Some s.held)
+            (λ (s : FolderState). s.failed) (λ (s : FolderState). s.missed) NeverFails
+            self.old self.new (fate_by unread_fate result) }
     {
         self.calls = self.calls.saturating_add(1);
         let answer = if self.failing.contains(&self.calls) {

@@ -1,8 +1,8 @@
 //! A sink in memory, which fails where it is told to.
 
 ghost use Rattle.std.specs.Prelude.{◌≡◌, ℕ, ◌+◌, ◌-◌, ◌^◌, ◌<◌, ◌≤◌, ◌++◌, [], min, length, take, drop, Option, Some, Ok, Err, if◌then◌else◌, IfOk, OnErr};
-ghost use Rattle.xl_outside.specs.Outside.{Rose, with_more};
-ghost use Rattle.xl_outside.specs.Memory.{is_listed, opened_sink, HasRoom, put_answer, after_put};
+ghost use Rattle.xl_outside.specs.Sinks.{with_more, PutAfter};
+ghost use Rattle.xl_outside.specs.Memory.{SinkState, is_listed, opened_sink, HasRoom, put_answer, after_put};
 
 use crate::sink::{Failed, Sink};
 use std::alloc::Global;
@@ -46,11 +46,8 @@ impl MemSink {
         requires { 0 < piece }
         ensures { IfOk result (λ s. s ≡ opened_sink capacity failing.items piece) }
     {
-        let Ok(bytes) = Vec::with_capacity(alloc, capacity) else {
-            return Err(NoMemory);
-        };
         Ok(MemSink {
-            bytes,
+            bytes: Vec::with_capacity(alloc, capacity)?,
             capacity,
             failing,
             piece,
@@ -78,14 +75,9 @@ impl Sink for MemSink {
         ensures answer { result ≡ put_answer self.old (length bytes.now) }
         ensures after { self.new ≡ after_put self.old bytes.now result }
         ensures count { IfOk result (λ n. n ≤ length bytes.now) }
-        ensures ok { IfOk result (λ n. Some self.new.text ≡ with_more (Some self.old.text) (take n bytes.now)) }
-        ensures err { OnErr result (Some self.new.text ≡ Some self.old.text) }
-        ensures failed { OnErr result (Rose self.old.failed self.new.failed) }
-        ensures stuck { IfOk result (λ n. n ≡ 0 → 0 < length bytes.now → Rose self.old.failed self.new.failed) }
         ensures empty { length bytes.now ≡ 0 → result ≡ Ok 0 }
-        ensures empty_counts_nothing { length bytes.now ≡ 0 → self.new.failed ≡ self.old.failed }
-        ensures faults_grow { self.old.failed ≤ self.new.failed }
-        ensures calm { (room : ℕ) → HasRoom self.old room → length bytes.now ≤ room → (Rose self.old.failed self.new.failed → ⊥) × IfOk result (λ n. HasRoom self.new (room - n)) }
+        ensures leaves { PutAfter (λ (s : SinkState). Some s.text) (λ (s : SinkState). s.failed)
+            HasRoom bytes.now self.old self.new result }
     {
         if bytes.is_empty() {
             return Ok(0);

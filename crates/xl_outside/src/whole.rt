@@ -2,21 +2,25 @@
 
 ghost use Rattle.std.specs.Prelude.{◌≡◌, ℕ, ◌+◌, ◌-◌, ◌^◌, ◌<◌, ◌≤◌, length, take, drop, Option, IfOk, OnOk, IfSome, ◌++◌};
 ghost use Rattle.std.specs.Vec.{vec_len};
-ghost use Rattle.xl_outside.specs.Outside.{Files, file_of, Rose};
+ghost use Rattle.xl_outside.specs.Folders.{file_of, FolderAfter, fate_by, read_stop_fate};
 ghost use Rattle.xl_outside.specs.declared.whole.ReadStop.TheVariants as reason;
-ghost use Rattle.xl_outside.specs.Whole.{TellsWhole, IsStop, stop_of};
+ghost use Rattle.xl_outside.specs.Whole.{TellsWhole, stop_of};
 
 use crate::folder::{Folder, Unread};
 use std::alloc::{AllocError, Global};
+use thiserror::Error;
 
 /// Why a file wasn't read.
-#[derive(Clone, Copy, Debug, PartialEq, Eq)]
+#[derive(Clone, Copy, Debug, PartialEq, Eq, Error)]
 pub enum ReadStop {
     /// No file of this name can be had.
+    #[error("no such file")]
     Missing,
     /// A read failed.
+    #[error("a read failed")]
     Failed,
     /// No memory was there for its bytes.
+    #[error("no memory")]
     NoMemory,
 }
 
@@ -48,13 +52,10 @@ pub fn read_whole<F: Folder>(
 ) -> Result<Vec<u8>, ReadStop>
     requires { limit < 2 ^ 63 }
     ensures size { IfOk result (λ bytes. vec_len bytes ≤ limit + 1) }
-    ensures told { IfSome (F.files folder.old) (λ fs. TellsWhole (file_of fs name.now) limit result) }
-    ensures failed { IsStop result ReadStop.Failed → Rose (F.faults folder.old) (F.faults folder.new) }
-    ensures missing { IsStop result ReadStop.Missing → Rose (F.absences folder.old) (F.absences folder.new) }
-    ensures faults_grow { F.faults folder.old ≤ F.faults folder.new }
-    ensures absences_grow { F.absences folder.old ≤ F.absences folder.new }
-    ensures keeps { F.files folder.new ≡ F.files folder.old }
-    ensures calm { F.steady folder.old → (IsStop result ReadStop.Failed → ⊥) × F.steady folder.new }
+    ensures told { IfSome (F.files folder.old)
+        (λ fs. TellsWhole (file_of fs name.now) limit result) }
+    ensures leaves { FolderAfter F.files F.faults F.absences F.steady folder.old folder.new
+        (fate_by read_stop_fate result) }
 {
     let mut bytes = Vec::new(alloc);
     let mut buf = [0; 8192];

@@ -1,2 +1,1 @@
 mod ScanLemmas
-mod PageLemmas

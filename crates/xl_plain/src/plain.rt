@@ -3,7 +3,7 @@
 ghost use Rattle.std.specs.Prelude.{◌≡◌, ◌≤◌, ◌^◌, false, [], IfOk};
 ghost use Rattle.xl_model.specs.Mapping.{meets_any};
 ghost use Rattle.xl_model.specs.Changes.{Insert};
-ghost use Rattle.xl_model.specs.Structures.{IsBlock, table_answer, table_after};
+ghost use Rattle.xl_model.specs.Structures.{IsBlock, IsChange};
 ghost use Rattle.xl_mapping.specs.Kept.{table_of};
 
 use crate::kept::{any_meets, covering, give_perm, named, place_of, take_out, walk_loads};
@@ -65,8 +65,7 @@ impl PlainTable {
     fn add(&mut self, leaf: Leaf) -> Result<Work, Refused>
         requires valid { IsBlock self.old.shape leaf.space leaf.first leaf.order }
         requires free { meets_any leaf.space leaf.first leaf.order self.old.leaves ≡ false }
-        ensures answer { result ≡ table_answer (Insert leaf) self.old }
-        ensures after { self.new ≡ table_after (Insert leaf) self.old }
+        ensures changes { IsChange (Insert leaf) self.old result self.new }
     {
         if self.leaves.len() >= self.entries as usize {
             return Err(Refused {

@@ -1,9 +1,11 @@
-//! A line that is put together in a fixed buffer, and put once; the line of a row.
+//! A line that is put together in a fixed buffer, and put once; the lines of a report.
 #![tactic(auto)]
 
+mod answer;
 mod line;
 mod row;
 
+pub use answer::{write_answer, write_command, write_image};
 pub use line::Line;
 pub use row::write_row;
 

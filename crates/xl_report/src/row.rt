@@ -1,8 +1,8 @@
 //! The line of a row.
 
-ghost use Rattle.std.specs.Prelude.{◌≡◌, ◌+◌, ◌≤◌, ◌<◌, ◌++◌, ℕ, length, codes, decimal, IsOk, OnOk, OnErr};
+ghost use Rattle.std.specs.Prelude.{◌≡◌, ◌+◌, ◌≤◌, ◌<◌, ◌++◌, ℕ, length, codes, decimal, is_ok};
 ghost use Rattle.xl_model.specs.Lines.{with_verdicts, with_refusals, with_numbers, with_rest, with_walks, with_moves, with_fences, with_tlb, with_arrays, with_more_arrays, row_line};
-ghost use Rattle.xl_outside.specs.Outside.{Rose, with_more, WroteFront};
+ghost use Rattle.xl_outside.specs.Sinks.{SinkAfter};
 
 use crate::line::Line;
 use xl_model::{Counts, Row};
@@ -15,11 +15,8 @@ use xl_outside::{Failed, Sink, put_all};
 /// `Failed` only where the sink's faults rose; then the beginning of the line was appended.
 pub fn write_row<K: Sink>(out: &mut K, row: &Row, counts: &Counts) -> Result<(), Failed>
     requires { counts.now.arrays ≤ 6 }
-    ensures ok { OnOk result (K.written out.new ≡ with_more (K.written out.old) (row_line row.now.name.bytes counts.now)) }
-    ensures err { OnErr result (WroteFront (K.written out.old) (row_line row.now.name.bytes counts.now) (K.written out.new)) }
-    ensures failed { OnErr result (Rose (K.put_faults out.old) (K.put_faults out.new)) }
-    ensures faults_grow { K.put_faults out.old ≤ K.put_faults out.new }
-    ensures calm { (room : ℕ) → K.roomy out.old room → length (row_line row.now.name.bytes counts.now) ≤ room → IsOk result }
+    ensures { SinkAfter K.written K.put_faults K.roomy (row_line row.now.name.bytes counts.now)
+        out.old out.new (is_ok result) }
 {
     let mut line = Line::new();
     fill(&mut line, row.name.as_bytes(), counts);

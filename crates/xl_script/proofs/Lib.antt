@@ -1,4 +1,4 @@
-pub mod Digits
-pub mod Perms
-pub mod Scripts
-pub mod Texts
+mod DigitLemmas
+mod PermLemmas
+mod ScriptLemmas
+mod TextLemmas

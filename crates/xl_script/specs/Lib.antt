@@ -1,4 +1,7 @@
-pub mod Texts
+pub mod Commands
 pub mod Numbers
-pub mod Words
+pub mod Placing
+pub mod Plain
 pub mod Scripts
+pub mod Texts
+pub mod Words

@@ -1,21 +1,38 @@
 //! The lines of a script, each with a reader of its own.
 
-ghost use Rattle.std.specs.Prelude.{◌≡◌, ◌∷◌, [], ◌≤◌, MatchResult, IfOk};
+ghost use Rattle.std.specs.Prelude.{◌≡◌, ◌∷◌, [], ◌≤◌, ◌+◌, ◌*◌, ◌^◌, MatchResult, IfOk, nat_le};
 ghost use Rattle.xl_script.specs.Texts.{words_of};
-ghost use Rattle.xl_script.specs.Numbers.{decimal_of};
-ghost use Rattle.xl_script.specs.Words.{order_of};
-ghost use Rattle.xl_script.specs.Scripts.{only_4k, number, map_with, map_line, run_line, named, of_line};
+ghost use Rattle.xl_script.specs.Placing.{end_of, ends_of};
+ghost use Rattle.xl_script.specs.Commands.{number, space_in, address_in, order_in, perm_in, count_in, leaves_in, leaves_of, map_line, protect_line, unmap_words, unmap_line, move_words, move_line, space_line, fence_all, fence_space, fence_addr, fence_page, fence_by, fence_line, area_at, demand_words, demand_line, run_line, named, placed};
 
-use crate::command::Command;
 use crate::fault::Reason;
 use crate::number::{decimal, hexadecimal};
 use crate::text::next_word;
 use crate::words::{is, order_word, perm_word};
-use xl_model::Order;
+use xl_model::{Area, Command, Order, Perm, Scope};
+
+/// The most pages of an area.
+const AREA_PAGES: u64 = 1 << 45;
+
+/// The number of 4 KiB pages in 64 bits.
+const PAGES: u64 = 1 << 52;
+
+/// Leaves of one order and permission, whose blocks follow one another.
+#[derive(Clone, Copy)]
+pub(crate) struct Leaves {
+    pub(crate) space: u16,
+    pub(crate) va: u64,
+    pub(crate) order: Order,
+    pub(crate) perm: Perm,
+    pub(crate) n: u32,
+}
 
 /// The next word of a line that needs one more, and what follows it.
 fn needed(line: &[u8]) -> Result<(&[u8], &[u8]), Reason>
-    ensures { MatchResult result (λ found. words_of line.now ≡ found.0.now ∷ words_of found.1.now) (λ why. (words_of line.now ≡ []) × (why ≡ Reason.WordCount)) }
+    ensures {
+        MatchResult result (λ found. words_of line.now ≡ found.0.now ∷ words_of found.1.now)
+            (λ why. (words_of line.now ≡ []) × (why ≡ Reason.WordCount))
+    }
 {
     next_word(line).ok_or(Reason::WordCount)
 }
@@ -28,59 +45,312 @@ fn number(word: &[u8], least: u64, most: u64) -> Result<u64, Reason>
     decimal(word, least, most).ok_or(Reason::Number)
 }
 
-/// The size of a page that a map may name.
-fn map_order(word: &[u8]) -> Option<Order>
-    ensures { result ≡ only_4k (order_of word.now) }
+/// The number of a space.
+fn space(word: &[u8]) -> Result<u16, Reason>
+    ensures { result ≡ space_in word.now }
 {
-    match order_word(word) {
-        Some(Order::K4) => Some(Order::K4),
-        _ => None,
-    }
+    let space = number(word, 0, 65_535)?;
+    Ok(space as u16)
 }
 
-/// A map, by its five words.
-#[tactic(auto, unfolding(crate::specs::Scripts::map_with))]
-fn map_words(
-    space: &[u8],
-    addr: &[u8],
-    order: &[u8],
-    perm: &[u8],
-    n: &[u8],
-) -> Result<Command, Reason>
-    ensures { result ≡ map_with space.now addr.now order.now perm.now n.now }
+fn address(word: &[u8]) -> Result<u64, Reason>
+    ensures { result ≡ address_in word.now }
 {
-    let space = number(space, 0, 65_535)?;
-    let va = hexadecimal(addr).ok_or(Reason::Number)?;
-    let order = map_order(order).ok_or(Reason::Order)?;
-    let perm = perm_word(perm).ok_or(Reason::Perm)?;
-    let n = number(n, 1, 1_048_576)?;
-    if n * order.bytes() - 1 > u64::MAX - va {
-        return Err(Reason::PastTheEnd);
-    }
-    Ok(Command::Map {
-        space: space as u16,
-        va,
-        order,
-        perm,
-        n: n as u32,
+    hexadecimal(word).ok_or(Reason::Number)
+}
+
+fn order(word: &[u8]) -> Result<Order, Reason>
+    ensures { result ≡ order_in word.now }
+{
+    order_word(word).ok_or(Reason::Order)
+}
+
+fn perm(word: &[u8]) -> Result<Perm, Reason>
+    ensures { result ≡ perm_in word.now }
+{
+    perm_word(word).ok_or(Reason::Perm)
+}
+
+/// How many leaves a line names.
+fn count(word: &[u8]) -> Result<u32, Reason>
+    ensures { result ≡ count_in word.now }
+{
+    let n = number(word, 1, 1_048_576)?;
+    Ok(n as u32)
+}
+
+/// Leaves, by their five words.
+#[tactic(auto, unfolding(crate::specs::Commands::leaves_in))]
+fn leaves_by(
+    space_word: &[u8],
+    addr: &[u8],
+    size: &[u8],
+    perm_word: &[u8],
+    n: &[u8],
+) -> Result<Leaves, Reason>
+    ensures { result ≡ leaves_in space_word.now addr.now size.now perm_word.now n.now }
+{
+    Ok(Leaves {
+        space: space(space_word)?,
+        va: address(addr)?,
+        order: order(size)?,
+        perm: perm(perm_word)?,
+        n: count(n)?,
     })
+}
+
+/// `SPACE ADDR ORDER PERM [N]`
+fn leaves_line(rest: &[u8]) -> Result<Leaves, Reason>
+    ensures { result ≡ leaves_of (words_of rest.now) }
+{
+    let (space, rest) = needed(rest)?;
+    let (addr, rest) = needed(rest)?;
+    let (size, rest) = needed(rest)?;
+    let (perm, rest) = needed(rest)?;
+    let Some((n, rest)) = next_word(rest) else {
+        return leaves_by(space, addr, size, perm, b"1");
+    };
+    if next_word(rest).is_some() {
+        return Err(Reason::WordCount);
+    }
+    leaves_by(space, addr, size, perm, n)
 }
 
 /// `map SPACE ADDR ORDER PERM [N]`: what follows its first word.
 fn map_line(rest: &[u8]) -> Result<Command, Reason>
     ensures { result ≡ map_line (words_of rest.now) }
 {
+    let Leaves { space, va, order, perm, n } = leaves_line(rest)?;
+    Ok(Command::Map {
+        space,
+        va,
+        order,
+        perm,
+        n,
+    })
+}
+
+/// `protect SPACE ADDR ORDER PERM [N]`: what follows its first word.
+fn protect_line(rest: &[u8]) -> Result<Command, Reason>
+    ensures { result ≡ protect_line (words_of rest.now) }
+{
+    let Leaves { space, va, order, perm, n } = leaves_line(rest)?;
+    Ok(Command::Protect {
+        space,
+        va,
+        order,
+        perm,
+        n,
+    })
+}
+
+/// An unmap, by its four words.
+#[tactic(auto, unfolding(crate::specs::Commands::unmap_words))]
+fn unmap_by(space_word: &[u8], addr: &[u8], size: &[u8], n: &[u8]) -> Result<Command, Reason>
+    ensures { result ≡ unmap_words space_word.now addr.now size.now n.now }
+{
+    Ok(Command::Unmap {
+        space: space(space_word)?,
+        va: address(addr)?,
+        order: order(size)?,
+        n: count(n)?,
+    })
+}
+
+/// `unmap SPACE ADDR ORDER [N]`: what follows its first word.
+fn unmap_line(rest: &[u8]) -> Result<Command, Reason>
+    ensures { result ≡ unmap_line (words_of rest.now) }
+{
     let (space, rest) = needed(rest)?;
     let (addr, rest) = needed(rest)?;
-    let (order, rest) = needed(rest)?;
-    let (perm, rest) = needed(rest)?;
+    let (size, rest) = needed(rest)?;
     let Some((n, rest)) = next_word(rest) else {
-        return map_words(space, addr, order, perm, b"1");
+        return unmap_by(space, addr, size, b"1");
     };
     if next_word(rest).is_some() {
         return Err(Reason::WordCount);
     }
-    map_words(space, addr, order, perm, n)
+    unmap_by(space, addr, size, n)
+}
+
+/// A move, by its five words.
+#[tactic(auto, unfolding(crate::specs::Commands::move_words))]
+fn move_by(
+    space_word: &[u8],
+    from: &[u8],
+    to: &[u8],
+    size: &[u8],
+    n: &[u8],
+) -> Result<Command, Reason>
+    ensures { result ≡ move_words space_word.now from.now to.now size.now n.now }
+{
+    Ok(Command::Move {
+        space: space(space_word)?,
+        from: address(from)?,
+        to: address(to)?,
+        order: order(size)?,
+        n: count(n)?,
+    })
+}
+
+/// `move SPACE FROM TO ORDER [N]`: what follows its first word.
+fn move_line(rest: &[u8]) -> Result<Command, Reason>
+    ensures { result ≡ move_line (words_of rest.now) }
+{
+    let (space, rest) = needed(rest)?;
+    let (from, rest) = needed(rest)?;
+    let (to, rest) = needed(rest)?;
+    let (size, rest) = needed(rest)?;
+    let Some((n, rest)) = next_word(rest) else {
+        return move_by(space, from, to, size, b"1");
+    };
+    if next_word(rest).is_some() {
+        return Err(Reason::WordCount);
+    }
+    move_by(space, from, to, size, n)
+}
+
+/// `space SPACE`: what follows its first word.
+fn space_line(rest: &[u8]) -> Result<Command, Reason>
+    ensures { result ≡ space_line (words_of rest.now) }
+{
+    let (word, rest) = needed(rest)?;
+    if next_word(rest).is_some() {
+        return Err(Reason::WordCount);
+    }
+    let space = space(word)?;
+    Ok(Command::Space { space })
+}
+
+/// `fence all`: what follows these words.
+fn fence_all(rest: &[u8]) -> Result<Command, Reason>
+    ensures { result ≡ fence_all (words_of rest.now) }
+{
+    if next_word(rest).is_some() {
+        return Err(Reason::WordCount);
+    }
+    Ok(Command::Fence { scope: Scope::All })
+}
+
+/// `fence space SPACE`: what follows its first two words.
+fn fence_space(rest: &[u8]) -> Result<Command, Reason>
+    ensures { result ≡ fence_space (words_of rest.now) }
+{
+    let (word, rest) = needed(rest)?;
+    if next_word(rest).is_some() {
+        return Err(Reason::WordCount);
+    }
+    let space = space(word)?;
+    Ok(Command::Fence {
+        scope: Scope::Space { space },
+    })
+}
+
+/// `fence addr ADDR`: what follows its first two words.
+fn fence_addr(rest: &[u8]) -> Result<Command, Reason>
+    ensures { result ≡ fence_addr (words_of rest.now) }
+{
+    let (word, rest) = needed(rest)?;
+    if next_word(rest).is_some() {
+        return Err(Reason::WordCount);
+    }
+    let va = address(word)?;
+    Ok(Command::Fence {
+        scope: Scope::Addr { va },
+    })
+}
+
+/// `fence page SPACE ADDR`: what follows its first two words.
+fn fence_page(rest: &[u8]) -> Result<Command, Reason>
+    ensures { result ≡ fence_page (words_of rest.now) }
+{
+    let (space_word, rest) = needed(rest)?;
+    let (addr, rest) = needed(rest)?;
+    if next_word(rest).is_some() {
+        return Err(Reason::WordCount);
+    }
+    let space = space(space_word)?;
+    let va = address(addr)?;
+    Ok(Command::Fence {
+        scope: Scope::Page { space, va },
+    })
+}
+
+/// A fence, by the word that says how far it reaches, and what follows it.
+#[tactic(auto, unfolding(crate::specs::Commands::fence_by))]
+fn fence_by(reach: &[u8], rest: &[u8]) -> Result<Command, Reason>
+    ensures { result ≡ fence_by reach.now (words_of rest.now) }
+{
+    if is(reach, b"all") {
+        fence_all(rest)
+    } else if is(reach, b"space") {
+        fence_space(rest)
+    } else if is(reach, b"addr") {
+        fence_addr(rest)
+    } else if is(reach, b"page") {
+        fence_page(rest)
+    } else {
+        Err(Reason::FirstWord)
+    }
+}
+
+/// A fence: what follows its first word.
+fn fence_line(rest: &[u8]) -> Result<Command, Reason>
+    ensures { result ≡ fence_line (words_of rest.now) }
+{
+    let (reach, rest) = needed(rest)?;
+    fence_by(reach, rest)
+}
+
+/// An area of whole pages of its order.
+fn area_at(space: u16, va: u64, pages: u64, order: Order, perm: Perm) -> Result<Command, Reason>
+    ensures { result ≡ area_at space va pages order perm }
+{
+    if va % order.bytes() != 0 || pages % order.pages() != 0 {
+        return Err(Reason::PastTheEnd);
+    }
+    let area = Area {
+        space,
+        page: va / 4096,
+        pages,
+        order,
+        perm,
+    };
+    Ok(Command::Demand { area })
+}
+
+/// A demand, by its five words.
+#[tactic(auto, unfolding(crate::specs::Commands::demand_words))]
+fn demand_by(
+    space_word: &[u8],
+    addr: &[u8],
+    pages: &[u8],
+    size: &[u8],
+    perm_word: &[u8],
+) -> Result<Command, Reason>
+    ensures { result ≡ demand_words space_word.now addr.now pages.now size.now perm_word.now }
+{
+    let space = space(space_word)?;
+    let va = address(addr)?;
+    let pages = number(pages, 1, AREA_PAGES)?;
+    let order = order(size)?;
+    let perm = perm(perm_word)?;
+    area_at(space, va, pages, order, perm)
+}
+
+/// `demand SPACE ADDR PAGES ORDER PERM`: what follows its first word.
+fn demand_line(rest: &[u8]) -> Result<Command, Reason>
+    ensures { result ≡ demand_line (words_of rest.now) }
+{
+    let (space, rest) = needed(rest)?;
+    let (addr, rest) = needed(rest)?;
+    let (pages, rest) = needed(rest)?;
+    let (size, rest) = needed(rest)?;
+    let (perm, rest) = needed(rest)?;
+    if next_word(rest).is_some() {
+        return Err(Reason::WordCount);
+    }
+    demand_by(space, addr, pages, size, perm)
 }
 
 /// `run N` or `run rest`: what follows its first word.
@@ -98,12 +368,25 @@ fn run_line(rest: &[u8]) -> Result<Command, Reason>
     Ok(Command::Run { n })
 }
 
-/// The command of a line, by its first word.
-fn named(first: &[u8], rest: &[u8]) -> Result<Command, Reason>
+/// The command of a line, by its first word and what follows it.
+#[tactic(auto, unfolding(crate::specs::Commands::named))]
+pub(crate) fn named(first: &[u8], rest: &[u8]) -> Result<Command, Reason>
     ensures { result ≡ named first.now (words_of rest.now) }
 {
     if is(first, b"map") {
         map_line(rest)
+    } else if is(first, b"unmap") {
+        unmap_line(rest)
+    } else if is(first, b"protect") {
+        protect_line(rest)
+    } else if is(first, b"move") {
+        move_line(rest)
+    } else if is(first, b"space") {
+        space_line(rest)
+    } else if is(first, b"fence") {
+        fence_line(rest)
+    } else if is(first, b"demand") {
+        demand_line(rest)
     } else if is(first, b"run") {
         run_line(rest)
     } else {
@@ -111,13 +394,36 @@ fn named(first: &[u8], rest: &[u8]) -> Result<Command, Reason>
     }
 }
 
-/// The command of a line, or None where the line has no word.
-pub(crate) fn read_line(line: &[u8]) -> Result<Option<Command>, Reason>
-    ensures { result ≡ of_line line.now }
+/// Whether blocks that follow one another end by the last address of 64 bits.
+fn fits(va: u64, order: Order, n: u32) -> bool
+    ensures { result ≡ nat_le (end_of va order n) (2 ^ 64) }
 {
-    let Some((first, rest)) = next_word(line) else {
-        return Ok(None);
+    (n as u64 * order.bytes()).saturating_sub(1) <= u64::MAX - va
+}
+
+/// Whether an area ends by the last address of 64 bits.
+fn area_fits(area: Area) -> bool
+    ensures { result ≡ nat_le ((area.page + area.pages) * 4096) (2 ^ 64) }
+{
+    area.page <= PAGES && area.pages <= PAGES - area.page
+}
+
+/// A command, where all that it names lies in 64 bits.
+#[tactic(auto, unfolding(crate::specs::Commands::placed))]
+pub(crate) fn placed(command: Command) -> Result<Command, Reason>
+    ensures { result ≡ placed command }
+{
+    let fits = match command {
+        Command::Map { va, order, n, .. } => fits(va, order, n),
+        Command::Unmap { va, order, n, .. } => fits(va, order, n),
+        Command::Protect { va, order, n, .. } => fits(va, order, n),
+        Command::Move { from, to, order, n, .. } => fits(from, order, n) && fits(to, order, n),
+        Command::Demand { area } => area_fits(area),
+        _ => true,
     };
-    let command = named(first, rest)?;
-    Ok(Some(command))
+    if fits {
+        Ok(command)
+    } else {
+        Err(Reason::PastTheEnd)
+    }
 }

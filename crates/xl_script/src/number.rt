@@ -2,7 +2,8 @@
 
 ghost use Rattle.std.specs.Prelude.{◌≡◌, ◌+◌, ◌*◌, ◌^◌, ◌<◌, ◌≤◌, IfSome, IsTrue, SomeIff};
 ghost use Rattle.std.specs.Char.{digit_value};
-ghost use Rattle.xl_script.specs.Numbers.{number_in, decimal_of, hexadecimal_of, without_prefix, below};
+ghost use Rattle.xl_text.specs.Numbers.{number_in};
+ghost use Rattle.xl_script.specs.Numbers.{decimal_of, hexadecimal_of, without_prefix, below};
 
 /// The most digits of a hexadecimal number.
 const DIGITS: usize = 16;

@@ -16,7 +16,7 @@ fn first_newline(text: &[u8]) -> Option<usize>
 }
 
 /// The number of bytes before the first newline.
-#[tactic(auto, using(crate::proofs::Texts::place_within))]
+#[tactic(auto, using(crate::proofs::TextLemmas::place_within))]
 fn line_length(text: &[u8]) -> usize
     ensures value { result ≡ to_newline text.now }
     ensures within { result ≤ length text.now }
@@ -52,7 +52,7 @@ fn first_other(line: &[u8]) -> Option<usize>
 }
 
 /// The number of blanks at a line's front.
-#[tactic(auto, using(crate::proofs::Texts::place_within))]
+#[tactic(auto, using(crate::proofs::TextLemmas::place_within))]
 fn blank_length(line: &[u8]) -> usize
     ensures value { result ≡ position_or_len (λ byte. not (is_blank byte)) line.now }
     ensures within { result ≤ length line.now }
@@ -76,7 +76,7 @@ fn first_blank(line: &[u8]) -> Option<usize>
 }
 
 /// The number of bytes before the first blank.
-#[tactic(auto, using(crate::proofs::Texts::place_within))]
+#[tactic(auto, using(crate::proofs::TextLemmas::place_within))]
 fn word_length(line: &[u8]) -> usize
     ensures value { result ≡ position_or_len is_blank line.now }
     ensures within { result ≤ length line.now }

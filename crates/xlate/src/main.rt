@@ -1,6 +1,9 @@
 //! Runs address-translation designs over a trace of memory accesses.
 #![tactic(auto)]
 
+ghost use Rattle.std.specs.Prelude.{◌≡◌};
+ghost use Rattle.xlate.specs.Codes.{code_of};
+
 use std::env;
 use std::io::ErrorKind;
 use std::process::ExitCode;
@@ -34,7 +37,9 @@ fn answer(rt: HostRuntime) -> u8 {
 }
 
 /// The exit code of a status.
-fn code(status: Status) -> u8 {
+fn code(status: Status) -> u8
+    ensures { result ≡ code_of status }
+{
     match status {
         Status::Ok => 0,
         Status::Usage => 1,

@@ -1,13 +1,12 @@
 use Rattle.std.proofs.Common.{◌≡◌, ◌≤◌, ◌-◌, ℕ, length, take}
-use Rattle.xl_outside.specs.Outside.{with_more}
+use Rattle.xl_outside.specs.Sinks.{with_more}
 use Rattle.xl_outside.proofs.sink.put_all.Given as goal
 
 abbrev pub invariant-loop-done : goal.invariant-loop-done
 invariant-loop-done g l = record {
   within : l.done ≤ length l.bytes;
   so_far : g.K.Sink.written l.out ≡ with_more (g.K.Sink.written l.fn.out) (take l.done l.bytes);
-  none : length l.bytes ≡ 0 → g.K.Sink.put_faults l.out ≡ g.K.Sink.put_faults l.fn.out;
-  grow : g.K.Sink.put_faults l.fn.out ≤ g.K.Sink.put_faults l.out;
+  counts : g.K.Sink.put_faults l.out ≡ g.K.Sink.put_faults l.fn.out;
   calm : (room : ℕ) → g.K.Sink.roomy l.fn.out room → length l.bytes ≤ room → g.K.Sink.roomy l.out (room - l.done);
 }
 

@@ -1,7 +1,7 @@
 use Rattle.std.proofs.Common.{◌∙◌, sym, ap, ◌++◌, map, take, set, append-nil, arith}
 use Rattle.std.proofs.lemmas.List.{drop_all, take_all}
 use Rattle.std.proofs.lemmas.List.Edits.{map_over_more}
-use Rattle.xl_mapping.proofs.FrontLemmas.{given, perm-named-is}
+use Rattle.xl_mapping.proofs.GivenLemmas.{given, perm-named-is}
 use Rattle.xl_plain.proofs.kept.give_perm.Goals as goal
 
 pub loop-leaf-preserved : goal.loop-leaf-preserved

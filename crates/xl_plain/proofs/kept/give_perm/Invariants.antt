@@ -1,5 +1,5 @@
 use Rattle.std.proofs.Common.{◌≡◌, ◌++◌, map, take, drop}
-use Rattle.xl_mapping.proofs.FrontLemmas.{given}
+use Rattle.xl_mapping.proofs.GivenLemmas.{given}
 use Rattle.xl_plain.proofs.kept.give_perm.Given as goal
 
 abbrev pub invariant-loop-leaf : goal.invariant-loop-leaf

@@ -1,8 +1,8 @@
-use Rattle.std.proofs.Common.{◌≡◌, ◌∙◌, ℕ, ap, ◌<◌, ◌+◌, ◌*◌, ◌^◌, arith}
+use Rattle.std.proofs.Common.{◌≡◌, ◌∙◌, ℕ, ◌<◌, ◌^◌, arith}
 use Rattle.xl_model.specs.declared.address.Order.TheVariants as order
 use Rattle.xl_model.specs.Shapes.{Shape}
 use Rattle.xl_model.specs.Structures.{IsBlock, spaces_of, page_limit}
-use Rattle.xl_plain.proofs.PageLemmas.{change-same}
+use Rattle.xl_mapping.proofs.LimitLemmas.{same-change}
 use Rattle.xl_plain.proofs.tests.added.Goals as goal
 
 one_page : (shape : Shape) (first : ℕ) → first < 100 → spaces_of shape ≡ 64 → page_limit shape ≡ 2 ^ 45 → IsBlock shape 1 first order.K4
@@ -19,9 +19,7 @@ insert-requires-clause-valid c = record {
 }
 
 pub returns-clause-spaces : goal.returns-clause-spaces
-returns-clause-spaces c =
-    ap (λ t. spaces_of t.shape) c.insert.ensures.after ∙ (change-same _ c.args.table.now).spaces ∙ c.requires.spaces
+returns-clause-spaces c = (same-change _ c.args.table.now _ c.insert.result c.insert.ensures.changes).spaces ∙ c.requires.spaces
 
 pub returns-clause-pages : goal.returns-clause-pages
-returns-clause-pages c =
-    ap (λ t. page_limit t.shape) c.insert.ensures.after ∙ (change-same _ c.args.table.now).pages ∙ c.requires.pages
+returns-clause-pages c = (same-change _ c.args.table.now _ c.insert.result c.insert.ensures.changes).pages ∙ c.requires.pages

@@ -1,12 +1,9 @@
-use Rattle.std.proofs.Common.{◌∙◌, ap}
-use Rattle.xl_model.specs.Structures.{spaces_of, page_limit}
-use Rattle.xl_plain.proofs.PageLemmas.{walk-same}
+use Rattle.std.proofs.Common.{◌∙◌}
+use Rattle.xl_mapping.proofs.LimitLemmas.{same-walk}
 use Rattle.xl_plain.proofs.tests.loads_of.Goals as goal
 
 pub returns-clause-spaces : goal.returns-clause-spaces
-returns-clause-spaces c =
-    ap (λ t. spaces_of t.shape) c.walk-walk.ensures.after ∙ (walk-same 1 c.args.page c.args.table.now).spaces ∙ c.requires.spaces
+returns-clause-spaces c = (same-walk 1 c.args.page c.args.table.now _ c.walk-walk.result c.walk-walk.ensures.walks).spaces ∙ c.requires.spaces
 
 pub returns-clause-pages : goal.returns-clause-pages
-returns-clause-pages c =
-    ap (λ t. page_limit t.shape) c.walk-walk.ensures.after ∙ (walk-same 1 c.args.page c.args.table.now).pages ∙ c.requires.pages
+returns-clause-pages c = (same-walk 1 c.args.page c.args.table.now _ c.walk-walk.result c.walk-walk.ensures.walks).pages ∙ c.requires.pages

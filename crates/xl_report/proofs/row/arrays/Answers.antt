@@ -1,6 +1,6 @@
 use Rattle.std.proofs.Common.{◌≡◌, sym, ap, length-append, ◌∙◌, ◌+◌, length, arith}
 use Rattle.std.specs.Prelude.{codes}
-use Rattle.xl_report.proofs.Steps.{next_array}
+use Rattle.xl_report.proofs.ArrayLemmas.{next_array}
 use Rattle.xl_report.proofs.row.arrays.Goals as goal
 
 pub loop-i-preserved : goal.loop-i-preserved

@@ -1,6 +1,7 @@
 use Rattle.std.proofs.Common.{◌∙◌, sym, ap, drop, arith, ◌^◌, ◌+◌}
 use Rattle.xl_script.specs.Numbers.{below}
-use Rattle.xl_script.proofs.Digits.{number_after, all_read, none_read, next_digit, refused}
+use Rattle.xl_text.proofs.DigitLemmas.{number_after, none_read}
+use Rattle.xl_script.proofs.DigitLemmas.{all_read, next_digit, refused}
 use Rattle.xl_script.proofs.number.number.Goals as goal
 
 pub loop-digit-init : goal.loop-digit-init

@@ -1,7 +1,10 @@
-use Rattle.xl_script.proofs.Scripts.{script_read}
+use Rattle.std.proofs.Common.{◌∙◌, ap, sym, ℕ}
+use Rattle.xl_script.specs.Scripts.{text_read}
+use Rattle.xl_script.specs.Plain.{plain_said}
+use Rattle.xl_script.proofs.ScriptLemmas.{script_keeps}
 use Rattle.xl_script.proofs.script.parse.Goals as goal
 
-pub returns-clause-reading : goal.returns-clause-reading
-returns-clause-reading c =
-    let l = c.loop-at in
-    script_read c.args.text.now l.at l.number l.commands.items c.if-text-gt-LIMIT.false c.loop-at-test.false l.invariant.0
+pub invariant_of-result : goal.invariant_of-result
+invariant_of-result c =
+    script_keeps c.args.text.now c.read_text.new.form c.in_ok-commands.commands.items
+    (ap (λ (n : ℕ). text_read plain_said n c.args.text.now) (sym c.new.ensures) ∙ c.in_ok-commands.ensures.reading)

@@ -1,5 +1,5 @@
 use Rattle.std.proofs.lemmas.List.{take_rest}
-use Rattle.xl_script.proofs.Texts.{line_found, line_last}
+use Rattle.xl_script.proofs.TextLemmas.{line_found, line_last}
 use Rattle.xl_script.proofs.text.line.Goals as goal
 
 pub returns-then-length-rest-clause-lines : goal.returns-then-length-rest-clause-lines

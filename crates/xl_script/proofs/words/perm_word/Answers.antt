@@ -1,4 +1,4 @@
-use Rattle.xl_script.proofs.Perms.{perm_read}
+use Rattle.xl_script.proofs.PermLemmas.{perm_read}
 use Rattle.xl_script.proofs.words.perm_word.Goals as goal
 
 pub returns : goal.returns

@@ -1,6 +1,6 @@
 use Rattle.std.proofs.Common.{◌∙◌, ap, find}
 use Rattle.xl_model.specs.Mapping.{covers, leaf_at_page}
-use Rattle.xl_mapping.proofs.TableLemmas.{leaf-at-mapping}
+use Rattle.xl_mapping.proofs.ReadLemmas.{leaf-at-mapping}
 use Rattle.xl_plain.proofs.plain.PlainTableStructure.leaf_at.Goals as goal
 
 pub returns : goal.returns

@@ -1,7 +1,7 @@
 use Rattle.std.proofs.Common.{◌∙◌, ap}
 use Rattle.std.specs.List.{list_any}
 use Rattle.xl_model.specs.Mapping.{meets_block, meets_any}
-use Rattle.xl_mapping.proofs.TableLemmas.{meets-mapping}
+use Rattle.xl_mapping.proofs.ReadLemmas.{meets-mapping}
 use Rattle.xl_plain.proofs.plain.PlainTableStructure.meets.Goals as goal
 
 pub returns : goal.returns

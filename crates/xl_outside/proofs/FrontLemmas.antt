@@ -3,8 +3,8 @@ use Rattle.std.proofs.Common.{◌≡◌, ℕ, ◌≤◌, ◌+◌, List, [], ◌+
 use Rattle.std.specs.Prelude.{Option, None, Some, Ok}
 use Rattle.std.specs.Option.{IfSome}
 use Rattle.std.proofs.lemmas.List.{take-take}
-use Rattle.xl_outside.specs.Outside.{Files, file_of, Tells}
-use Rattle.xl_outside.proofs.Pieces.{take_more}
+use Rattle.xl_outside.specs.Folders.{Files, file_of, Tells}
+use Rattle.std.proofs.Math.Seq.{take-add}
 
 -- nothing of a file that isn't there, and the first bytes of one that is
 abbrev pub IsFrontOf : Option (List ℕ) → List ℕ → Type 0
@@ -20,7 +20,7 @@ front_more (Some file) xs n w old new front reads h k =
     sym (take-take w n new h) ∙ ap (take w) reads.bytes ∙ take-take w n (drop (length xs) file) h in
     let size : length (xs ++ take w new) ≡ length xs + w = omega (arith, length-append xs (take w new), length-take w new) in
     ap (λ (ys : List ℕ). ys ++ take w new) front ∙ ap (λ (ys : List ℕ). take (length xs) file ++ ys) part
-    ∙ take_more file (length xs) w ∙ sym (ap (λ (m : ℕ). take m file) size)
+    ∙ sym (take-add (length xs) w file) ∙ sym (ap (λ (m : ℕ). take m file) size)
 
 -- the same, of the file of a name in a folder that tells its files
 pub more_read : (fs gs : Option Files) (name xs : List ℕ) (at n w : ℕ) (old new after : List ℕ) → gs ≡ fs

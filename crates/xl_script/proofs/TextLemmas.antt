@@ -4,8 +4,8 @@ use Rattle.std.specs.List.{position_or_len, slice_range}
 use Rattle.std.proofs.lemmas.Bool.{ne_eqb, eqb-true}
 use Rattle.std.proofs.lemmas.List.Sums.{prefix_len-le-length, prefix_len_stops}
 use Rattle.std.proofs.lemmas.List.{take-take, drop-drop, drop_all, get_or-drop}
-use Rattle.xl_text.specs.Texts.{is_blank, onto, lines_of, without_return}
-use Rattle.xl_script.specs.Texts.{script_lines, to_newline, pieces, up_to_comment, words_of}
+use Rattle.xl_text.specs.Texts.{is_blank, in_first, lines_of, without_return}
+use Rattle.xl_script.specs.Texts.{script_lines, to_newline, onto, pieces, up_to_comment, words_of}
 
 -- a place is within the list
 pub place_within : {X : Type 0} (p : X → Bool) (xs : List X) → position_or_len p xs ≤ length xs
@@ -102,11 +102,11 @@ line_first : (b : ℕ) (bs : List ℕ)
 line_first b [] = elim (b == 10) as (λ v. (if v then [] ∷ [] else (b ∷ []) ∷ [])
     ≡ take (cond (not v) (1 + 0) 0) (b ∷ []) ∷ lines_of (drop (cond (not v) (1 + 0) 0) []))
     [ true ↦ refl | false ↦ refl ]
-line_first b (c ∷ cs) = elim (b == 10) as (λ v. (if v then [] ∷ lines_of (c ∷ cs) else onto b (lines_of (c ∷ cs)))
+line_first b (c ∷ cs) = elim (b == 10) as (λ v. (if v then [] ∷ lines_of (c ∷ cs) else in_first true b (lines_of (c ∷ cs)))
     ≡ take (cond (not v) (1 + to_newline (c ∷ cs)) 0) (b ∷ c ∷ cs)
     ∷ lines_of (drop (cond (not v) (1 + to_newline (c ∷ cs)) 0) (c ∷ cs))) [
       | true ↦ refl
-      | false ↦ rw one-add (ap (onto b) (line_first c cs))
+      | false ↦ rw one-add (ap (in_first true b) (line_first c cs))
     ]
 
 lines_at : (text : List ℕ) → 0 < length text

@@ -1,48 +1,16 @@
--- Laws of digits: a number read from the front, one digit after another.
+-- Numbers read from the front, one digit after another, up to a limit.
 use Rattle.std.proofs.Common.{◌≡◌, ℕ, ◌+◌, ◌*◌, ◌^◌, ◌≤◌, ◌<◌, Bool, true, false, if◌then◌else◌, nat_lt, List, [], ◌∷◌, length, drop, Option, Some, None, refl, ap, sym, ◌∙◌, arith, add-one, get_or, inl, inr, nat_le}
 use Rattle.std.specs.Option.{option_map}
 use Rattle.std.specs.Prelude.{IfSome}
 use Rattle.std.specs.Char.{digit_value, is_digit}
-use Rattle.std.proofs.Math.Nat.{pow-zero, pow-suc, add-mul, mul_assoc, mul_comm, one-le-pow, le-mul_of_pos_right, pow-le-pow_right}
+use Rattle.std.proofs.Math.Nat.{pow-zero, pow-suc, one-le-pow, le-mul_of_pos_right, pow-le-pow_right}
 use Rattle.std.proofs.lemmas.Bool.{ltb-true, le-ltb, lt-ltb, le-leb, cases_lt}
 use Rattle.std.proofs.lemmas.Nat.{mul-add-lt}
 use Rattle.std.proofs.lemmas.List.{drop_all}
 use Rattle.std.proofs.Math.Seq.{drop-cons}
-use Rattle.xl_script.specs.Numbers.{number_in, below, address}
-
--- the number that n and then these digits stand for
-abbrev pub number_after : ℕ → ℕ → List ℕ → Option ℕ
-number_after base n cs = option_map (λ v. n * base ^ length cs + v) (number_in base cs)
-
-after_zero : (p : ℕ) (o : Option ℕ) → option_map (λ v. 0 * p + v) o ≡ o
-after_zero p None = refl
-after_zero p (Some v) = ap Some (omega arith)
-
-pub none_read : (base : ℕ) (cs : List ℕ) → number_after base 0 cs ≡ number_in base cs
-none_read base cs = after_zero (base ^ length cs) (number_in base cs)
-
-shifted : (n base d p v : ℕ) → n * (p * base) + (d * p + v) ≡ (n * base + d) * p + v
-shifted n base d p v =
-    let one : (n * base + d) * p ≡ n * base * p + d * p = add-mul (n * base) d p in
-    let two : n * base * p ≡ n * (base * p) = mul_assoc n base p in
-    let three : n * (base * p) ≡ n * (p * base) = ap (λ k. n * k) (mul_comm base p) in
-    omega arith
-
-digit_shifted : (n base d p : ℕ) (o : Option ℕ)
-    → option_map (λ v. n * (p * base) + v) (option_map (λ v. d * p + v) o) ≡ option_map (λ v. (n * base + d) * p + v) o
-digit_shifted n base d p None = refl
-digit_shifted n base d p (Some v) = ap Some (shifted n base d p v)
-
--- one digit more is read
-pub digit_read : (base n c : ℕ) (cs : List ℕ) → digit_value c < base
-    → number_after base n (c ∷ cs) ≡ number_after base (n * base + digit_value c) cs
-digit_read base n c cs small =
-    let is : is_digit c base ≡ true = lt-ltb _ _ small in
-    rw (is, pow-suc) (digit_shifted n base (digit_value c) (base ^ length cs) (number_in base cs))
-
--- a byte that is no digit
-pub no_digit : (base n c : ℕ) (cs : List ℕ) → base ≤ digit_value c → number_after base n (c ∷ cs) ≡ None
-no_digit base n c cs large = let is : is_digit c base ≡ false = le-ltb _ _ large in rw is refl
+use Rattle.xl_text.specs.Numbers.{number_in, address_of}
+use Rattle.xl_text.proofs.DigitLemmas.{number_after, digit_read, no_digit}
+use Rattle.xl_script.specs.Numbers.{below}
 
 large_stays : (limit n p : ℕ) (o : Option ℕ) → 0 < p → limit ≤ n → below limit (option_map (λ v. n * p + v) o) ≡ None
 large_stays limit n p None some large = refl
@@ -107,7 +75,7 @@ some_weaker m n None le h = h
 some_weaker m n (Some v) le h = omega arith
 
 -- up to 16 hexadecimal digits are below 2 ^ 64
-pub address_read : (ds : List ℕ) → 0 < length ds → length ds ≤ 16 → below (2 ^ 64) (number_in 16 ds) ≡ address ds
+pub address_read : (ds : List ℕ) → 0 < length ds → length ds ≤ 16 → below (2 ^ 64) (number_in 16 ds) ≡ address_of ds
 address_read ds some few =
     let at_least : nat_le 1 (length ds) ≡ true = le-leb _ _ (omega arith) in
     let at_most : nat_le (length ds) 16 ≡ true = le-leb _ _ few in

@@ -1,0 +1,14 @@
+-- Open files and the files of a folder.
+use Rattle.std.proofs.Common.{◌≡◌, ℕ, List, true, false, refl, sym, ap, ◌∙◌}
+use Rattle.std.specs.Prelude.{Option, None, Some}
+use Rattle.std.specs.Option.{IfSome}
+use Rattle.xl_outside.specs.Folders.{Files, file_of}
+use Rattle.xl_outside.specs.Streams.{StreamState, IsFileOf, IsNamed}
+
+-- a file that is open, and was opened by this name, is the file of this name
+pub named_file : (files : Option Files) (state : Option StreamState) (name : List ℕ)
+    → ((fs : Files) → files ≡ Some fs → IsFileOf fs state) → IfSome state (λ s. s.name ≡ name)
+    → IfSome files (λ fs. IsNamed state name (file_of fs name))
+named_file None state name held named = tt
+named_file (Some fs) None name held named = let none : false ≡ true = (held fs refl).0 in absurd (cc)
+named_file (Some fs) (Some s) name held named = (named, ap (λ (n : List ℕ). file_of fs n) (sym named) ∙ (held fs refl).1)

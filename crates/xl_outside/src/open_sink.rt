@@ -1,0 +1,55 @@
+//! A sink over what is written to.
+
+ghost use Rattle.std.specs.Prelude.{◌≡◌, ℕ, ◌≤◌, List, Option, length, take, IfOk, OnErr};
+ghost use Rattle.xl_outside.specs.Sinks.{with_more};
+
+use crate::sink::{Failed, Sink};
+use std::io;
+
+/// What bytes are written to.
+pub trait Writer {
+    /// All bytes that were written, where it tells them.
+    ghost text: { Self → Option (List ℕ) };
+
+    /// Writes the first bytes of these, and answers how many.
+    fn write_some(&mut self, bytes: &[u8]) -> io::Result<usize>
+        ensures count { IfOk result (λ n. n ≤ length bytes.now) }
+        ensures took { IfOk result (λ n. text self.new ≡ with_more (text self.old) (take n bytes.now)) }
+        ensures failed { OnErr result (text self.new ≡ text self.old) };
+}
+
+/// A sink over what is written to: it tells what its writer tells. A write that fails, or takes none
+/// of the bytes, is a fault.
+#[derive(Drop)]
+pub struct OpenSink<W: Writer> {
+    to: W,
+    faults: u64,
+}
+
+impl<W: Writer + Drop> OpenSink<W> {
+    pub fn over(to: W) -> OpenSink<W>
+        ensures to { result.to ≡ to }
+        ensures faults { result.faults ≡ 0 }
+    {
+        OpenSink { to, faults: 0 }
+    }
+}
+
+impl<W: Writer + Drop> Sink for OpenSink<W> {
+    ghost written = { λ s. W.text s.to };
+
+    ghost put_faults = { λ s. s.faults };
+
+    fn put(&mut self, bytes: &[u8]) -> Result<usize, Failed> {
+        if bytes.is_empty() {
+            return Ok(0);
+        }
+        match self.to.write_some(bytes) {
+            Ok(count) if count > 0 => Ok(count),
+            _ => {
+                self.faults = self.faults.saturating_add(1);
+                Err(Failed)
+            }
+        }
+    }
+}

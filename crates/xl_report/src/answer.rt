@@ -1,0 +1,163 @@
+//! The lines of accesses, commands and images.
+
+ghost use Rattle.std.specs.Prelude.{◌≡◌, ◌+◌, ◌≤◌, ◌<◌, ◌++◌, ℕ, length, codes, decimal, is_ok};
+ghost use Rattle.xl_model.specs.Tally.{IsSmall, physical};
+ghost use Rattle.xl_model.specs.Lines.{kind_letter, with_reply, answer_line, verb_of, with_outcome, command_line, image_line};
+ghost use Rattle.xl_outside.specs.Sinks.{SinkAfter};
+
+use crate::line::Line;
+use xl_model::{Event, Kind, Outcome, Reply, Row, code};
+use xl_outside::{Failed, Sink, put_all};
+
+/// Appends the line of an access: the row's name, the record's number, the access, and its reply. A
+/// frame that is replied is below 2^52, so that its physical addresses are below 2^64.
+///
+/// # Errors
+///
+/// `Failed` only where the sink's faults rose; then the beginning of the line was appended.
+#[tactic(auto, unfolding(xl_model::specs::Lines::answer_line))]
+pub fn write_answer<K: Sink>(
+    out: &mut K,
+    row: &Row,
+    number: u64,
+    kind: Kind,
+    space: u16,
+    va: u64,
+    reply: Reply,
+) -> Result<(), Failed>
+    requires { IsSmall reply }
+    ensures { SinkAfter K.written K.put_faults K.roomy
+        (answer_line row.now.name.bytes number kind space va reply) out.old out.new (is_ok result) }
+{
+    let mut line = Line::new();
+    line.add(row.name.as_bytes());
+    line.add(b" ");
+    line.number(number);
+    line.add(letter(kind));
+    line.number(space as u64);
+    line.add(b" ");
+    line.hex(va);
+    add_reply(&mut line, kind, va, reply);
+    line.add(b"\n");
+    put_all(out, line.bytes())
+}
+
+/// The letter of a kind of access, between blanks.
+fn letter(kind: Kind) -> &'static [u8]
+    ensures text { result.now ≡ kind_letter kind }
+    ensures size { length result.now ≡ 3 }
+{
+    match kind {
+        Kind::Fetch => b" I ",
+        Kind::Load => b" L ",
+        Kind::Store => b" S ",
+    }
+}
+
+/// Puts a reply at the line's end: the physical address, or the code of the fault.
+fn add_reply(line: &mut Line, kind: Kind, va: u64, reply: Reply)
+    requires small { IsSmall reply }
+    requires room { length line.old + 40 ≤ 1024 }
+    ensures text { line.new ≡ with_reply line.old kind va reply }
+    ensures grows { length line.new ≤ length line.old + 40 }
+{
+    let fault: &[u8] = match reply {
+        Reply::Frame(frame) => {
+            line.add(b" ok ");
+            line.hex(frame * 4096 + va % 4096);
+            return;
+        }
+        Reply::Unmapped => b" unmapped ",
+        Reply::Denied => b" denied ",
+        Reply::NotCanonical => b" notcanonical ",
+    };
+    line.add(fault);
+    line.number(code(kind) as u64);
+}
+
+/// Appends the line of a command: the row's name, the command's verb, and what it came to. An event
+/// that is an access has no verb, and a reply no word.
+///
+/// # Errors
+///
+/// `Failed` only where the sink's faults rose; then the beginning of the line was appended.
+#[tactic(auto, unfolding(xl_model::specs::Lines::command_line))]
+pub fn write_command<K: Sink>(
+    out: &mut K,
+    row: &Row,
+    event: Event,
+    outcome: Outcome,
+) -> Result<(), Failed>
+    ensures { SinkAfter K.written K.put_faults K.roomy
+        (command_line row.now.name.bytes event outcome) out.old out.new (is_ok result) }
+{
+    let mut line = Line::new();
+    line.add(row.name.as_bytes());
+    line.add(verb(event));
+    add_outcome(&mut line, outcome);
+    line.add(b"\n");
+    put_all(out, line.bytes())
+}
+
+/// The verb of a command, behind what marks a command's line.
+fn verb(event: Event) -> &'static [u8]
+    ensures text { result.now ≡ verb_of event }
+    ensures size { length result.now ≤ 12 }
+{
+    match event {
+        Event::Access { .. } => b"",
+        Event::Map { .. } => b" cmd map",
+        Event::Unmap { .. } => b" cmd unmap",
+        Event::Protect { .. } => b" cmd protect",
+        Event::Move { .. } => b" cmd move",
+        Event::Space { .. } => b" cmd space",
+        Event::Fence { .. } => b" cmd fence",
+    }
+}
+
+/// Puts what a command came to at the line's end.
+fn add_outcome(line: &mut Line, outcome: Outcome)
+    requires { length line.old + 40 ≤ 1024 }
+    ensures text { line.new ≡ with_outcome line.old outcome }
+    ensures grows { length line.new ≤ length line.old + 40 }
+{
+    match outcome {
+        Outcome::Replied(_) => {}
+        Outcome::Done => line.add(b" ok"),
+        Outcome::Refused(refusal) => {
+            line.add(b" refused ");
+            line.number(refusal.place() as u64 + 1);
+        }
+    }
+}
+
+/// Appends the line of a word of a radix table: the row's name, the node's number, the word's index
+/// in the node, and the word.
+///
+/// # Errors
+///
+/// `Failed` only where the sink's faults rose; then the beginning of the line was appended.
+#[tactic(auto, unfolding(xl_model::specs::Lines::image_line))]
+pub fn write_image<K: Sink>(
+    out: &mut K,
+    row: &Row,
+    node: u32,
+    index: u32,
+    word: u64,
+) -> Result<(), Failed>
+    ensures { SinkAfter K.written K.put_faults K.roomy
+        (image_line row.now.name.bytes (record { node = node; index = index; word = word }))
+        out.old out.new (is_ok result) }
+{
+    let mut line = Line::new();
+    line.add(b"image ");
+    line.add(row.name.as_bytes());
+    line.add(b" ");
+    line.number(node as u64);
+    line.add(b" ");
+    line.number(index as u64);
+    line.add(b" ");
+    line.hex(word);
+    line.add(b"\n");
+    put_all(out, line.bytes())
+}

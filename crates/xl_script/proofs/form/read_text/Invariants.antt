@@ -1,0 +1,16 @@
+use Rattle.std.proofs.Common.{◌≡◌, ◌≤◌, ◌+◌, ◌-◌, drop, length}
+use Rattle.xl_script.specs.Texts.{script_lines}
+use Rattle.xl_script.specs.Scripts.{after, lines_read}
+use Rattle.xl_script.proofs.form.read_text.Given as goal
+
+-- the commands so far and the lines left come to what the whole text comes to
+abbrev pub invariant-loop-at : goal.invariant-loop-at
+invariant-loop-at g l = record {
+  reading : after l.commands.items (lines_read g.F.Form.said l.form l.number (script_lines (drop l.at l.text)))
+      ≡ lines_read g.F.Form.said l.fn.form 1 (script_lines l.text);
+  counted : l.number ≤ l.at + 1;
+  within : l.at ≤ length l.text;
+}
+
+abbrev pub decreases-loop-at : goal.decreases-loop-at
+decreases-loop-at g l = length l.text - l.at
