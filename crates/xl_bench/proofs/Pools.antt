@@ -14,7 +14,7 @@ use Rattle.xl_mapping.proofs.Insertion.{with-In, In-with}
 use Rattle.xl_mapping.proofs.Lowest.{lowest-is-lowest}
 use Rattle.xl_mapping.proofs.Orders.{pages-some}
 use Rattle.xl_frames.specs.Pool.{IsFree, IsLowest, HasNone, marked}
-use Rattle.xl_frames.proofs.Marks.{length-marked, marked_inside, marked_below, marked_above}
+use Rattle.xl_frames.proofs.MarkLemmas.{length-marked, marked_inside, marked_below, marked_above}
 use Rattle.xl_bench.specs.Pools.{IsPoolOf}
 
 -- a leaf that holds a frame of a block holds some frame of it

@@ -1,6 +1,6 @@
-pub mod Blocks
-pub mod Halves
-pub mod Marks
-pub mod Nodes
-pub mod Pools
-pub mod Search
+mod BlockLemmas
+mod HalfLemmas
+pub mod MarkLemmas
+mod NodeLemmas
+mod PoolLemmas
+mod SearchLemmas

@@ -1,6 +1,6 @@
 //! The blocks of each order.
 
-ghost use Rattle.std.specs.Prelude.{◌≡◌, ◌≤◌, ◌<◌, ◌^◌};
+ghost use Rattle.std.specs.Prelude.{◌≡◌, ◌≤◌, ◌^◌};
 ghost use Rattle.xl_model.specs.Addresses.{pages_of};
 
 use xl_model::Order;
@@ -14,17 +14,5 @@ pub(crate) fn exponent(order: Order) -> u8
         Order::K4 => 0,
         Order::M2 => 9,
         Order::G1 => 18,
-    }
-}
-
-/// The number of frames of an order's block.
-pub(crate) fn pages(order: Order) -> usize
-    ensures frames { result ≡ pages_of order }
-    ensures some { 0 < result }
-{
-    match order {
-        Order::K4 => 1,
-        Order::M2 => 1 << 9,
-        Order::G1 => 1 << 18,
     }
 }

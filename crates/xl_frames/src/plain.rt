@@ -5,7 +5,6 @@ ghost use Rattle.std.specs.Bool.{OnTrue, OnFalse};
 ghost use Rattle.xl_model.specs.Addresses.{pages_of};
 ghost use Rattle.xl_frames.specs.Pool.{IsFree, IsLowest, HasNone, marked};
 
-use crate::order::pages;
 use std::alloc::Global;
 use std::marker::Model;
 use xl_model::{NoMemory, Order};
@@ -66,10 +65,8 @@ impl Frames {
         requires limit { n ≤ 2 ^ 22 }
         ensures { IfOk result (λ pool. pool ≡ replicate n true) }
     {
-        match vec![in alloc; true; n as usize] {
-            Ok(flags) => Ok(Frames { flags }),
-            Err(_) => Err(NoMemory),
-        }
+        let flags = vec![in alloc; true; n as usize]?;
+        Ok(Frames { flags })
     }
 
     /// Takes the lowest free block of the order, and gives the number of its first frame. None
@@ -80,7 +77,7 @@ impl Frames {
         ensures none { IfNone result (HasNone self.old (pages_of order)) }
         ensures unchanged { IfNone result (self.new ≡ self.old) }
     {
-        let size = pages(order);
+        let size = order.pages() as usize;
         match lowest(&self.flags, size) {
             Some(first) => {
                 mark(&mut self.flags, first, size, false);
@@ -95,7 +92,7 @@ impl Frames {
         ensures yes { OnTrue result ((block : ℕ) × IsFree self.now (block * pages_of order) (pages_of order)) }
         ensures no { OnFalse result (HasNone self.now (pages_of order)) }
     {
-        lowest(&self.flags, pages(order)).is_some()
+        lowest(&self.flags, order.pages() as usize).is_some()
     }
 
     /// Gives back the block of the order that begins at `frame`. Its frames are free again, and no
@@ -104,6 +101,6 @@ impl Frames {
         requires { frame + pages_of order ≤ length self.old }
         ensures { self.new ≡ marked self.old frame (pages_of order) true }
     {
-        mark(&mut self.flags, frame as usize, pages(order), true);
+        mark(&mut self.flags, frame as usize, order.pages() as usize, true);
     }
 }

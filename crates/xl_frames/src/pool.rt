@@ -40,17 +40,13 @@ impl Frames {
     {
         let count = n as usize;
         let height = height_of(count);
-        match vec![in alloc; 0; 2 * frames_under(height) - 1] {
-            Ok(mut tree) => {
-                free_first(&mut tree, height, count);
-                Ok(Frames {
-                    tree,
-                    height,
-                    count,
-                })
-            }
-            Err(_) => Err(NoMemory),
-        }
+        let mut tree = vec![in alloc; 0; 2 * frames_under(height) - 1]?;
+        free_first(&mut tree, height, count);
+        Ok(Frames {
+            tree,
+            height,
+            count,
+        })
     }
 
     /// Takes the lowest free block of the order, and gives the number of its first frame. None

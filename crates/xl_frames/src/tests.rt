@@ -3,39 +3,47 @@
 ghost use Rattle.std.specs.Prelude.{◌≡◌, ℕ, ◌≤◌, ◌^◌, false, length, slice_index_or, slice_set, IfOk, IfSome, IfNone};
 ghost use Rattle.xl_frames.specs.Pool.{IsLowestNumber};
 
-use crate::order::pages;
 use crate::plain;
 use crate::pool::Frames;
 use std::alloc::Global;
+use std::test::Fail;
 use xl_model::{NoMemory, Order, mix};
 
 #[test]
-fn blocks_come_from_below(rt: HostRuntime) {
-    let Ok(mut pool) = Frames::open(rt.alloc(), 1023) else {
-        assert!(rt; false);
-        return;
-    };
+fn blocks_come_from_below(rt: HostRuntime) -> Result<(), Fail> {
+    let mut pool = Frames::open(rt.alloc(), 1023)?;
     assert_eq!(rt; pool.take(Order::K4), Some(0));
     assert_eq!(rt; pool.can_take(Order::M2), false);
     assert_eq!(rt; pool.take(Order::M2), None);
     assert_eq!(rt; pool.take(Order::G1), None);
     assert_eq!(rt; pool.take(Order::K4), Some(1));
     assert_eq!(rt; pool.can_take(Order::K4), true);
+    Ok(())
 }
 
 #[test]
-fn a_block_given_back_is_taken_again(rt: HostRuntime) {
-    let Ok(mut pool) = Frames::open(rt.alloc(), 512) else {
-        assert!(rt; false);
-        return;
-    };
-    let Some(frame) = pool.take(Order::M2) else {
-        assert!(rt; false);
-        return;
-    };
+fn a_block_given_back_is_taken_again(rt: HostRuntime) -> Result<(), Fail> {
+    let mut pool = Frames::open(rt.alloc(), 512)?;
+    let frame = pool.take(Order::M2).ok_or("no block of 2 MiB")?;
     assert_eq!(rt; pool.can_take(Order::K4), false);
     pool.give(frame, Order::M2);
     assert_eq!(rt; pool.take(Order::M2), Some(0));
+    Ok(())
+}
+
+/// The greatest pools have 16 blocks of 1 GiB.
+const MOST: u32 = 1 << 22;
+
+#[test]
+fn the_greatest_pools_have_ample_memory(rt: HostRuntime) -> Result<(), Fail> {
+    let mut tree = Frames::open(rt.alloc(), MOST)?;
+    let mut scan = plain::Frames::open(rt.alloc(), MOST)?;
+    for block in 0..16 {
+        assert_eq!(rt; tree.take(Order::G1), Some(block * 262_144));
+    }
+    assert_eq!(rt; tree.take(Order::K4), None);
+    assert_eq!(rt; scan.take(Order::G1), Some(0));
+    Ok(())
 }
 
 /// Two blocks of 1 GiB, the second one frame short.
@@ -67,7 +75,7 @@ fn answer_alike(tree: &mut Frames, scan: &mut plain::Frames, random: u64) -> boo
     if random / 16 % 2 == 0 {
         return tree.can_take(order) == scan.can_take(order) && tree.take(order) == scan.take(order);
     }
-    let size = pages(order) as u64;
+    let size = order.pages();
     let frame = random / 32 % 64 * size;
     if frame + size <= COUNT as u64 {
         tree.give(frame, order);
@@ -77,19 +85,17 @@ fn answer_alike(tree: &mut Frames, scan: &mut plain::Frames, random: u64) -> boo
 }
 
 #[test]
-fn both_pools_answer_alike(rt: HostRuntime) {
-    let Ok((mut tree, mut scan)) = open_both(rt.alloc(), COUNT) else {
-        assert!(rt; false);
-        return;
-    };
+fn both_pools_answer_alike(rt: HostRuntime) -> Result<(), Fail> {
+    let (mut tree, mut scan) = open_both(rt.alloc(), COUNT)?;
     for call in 0..10_000 {
         let alike = answer_alike(&mut tree, &mut scan, mix(call));
         assert!(rt; alike, "at call {call}");
     }
+    Ok(())
 }
 
 /// A pool as one of numbers: takes the lowest that is free.
-#[tactic(auto, using(crate::proofs::Marks::lowest_number, crate::proofs::Marks::marked_number, crate::proofs::Marks::no_number))]
+#[tactic(auto, using(crate::proofs::MarkLemmas::lowest_number, crate::proofs::MarkLemmas::marked_number, crate::proofs::MarkLemmas::no_number))]
 fn take_number(numbers: &mut Frames) -> Option<u64>
     ensures lowest { IfSome result (IsLowestNumber numbers.old) }
     ensures taken { IfSome result (λ at. numbers.new ≡ slice_set numbers.old at false) }
@@ -102,13 +108,11 @@ fn take_number(numbers: &mut Frames) -> Option<u64>
 }
 
 #[test]
-fn numbers_come_in_order(rt: HostRuntime) {
-    let Ok(mut numbers) = Frames::open(rt.alloc(), 3) else {
-        assert!(rt; false);
-        return;
-    };
+fn numbers_come_in_order(rt: HostRuntime) -> Result<(), Fail> {
+    let mut numbers = Frames::open(rt.alloc(), 3)?;
     assert_eq!(rt; take_number(&mut numbers), Some(0));
     assert_eq!(rt; take_number(&mut numbers), Some(1));
     assert_eq!(rt; take_number(&mut numbers), Some(2));
     assert_eq!(rt; take_number(&mut numbers), None);
+    Ok(())
 }

@@ -104,7 +104,8 @@ fn open(tree: &mut [u8], height: u8)
     requires small { height < 32 }
     requires tree { IsTree height tree.old }
     ensures opened { IsOpen height tree.new }
-    ensures flags { flags_of (height - 1) (lower height tree.new) ++ flags_of (height - 1) (upper height tree.new) ≡ flags_of height tree.old }
+    ensures flags { flags_of (height - 1) (lower height tree.new) ++
+        flags_of (height - 1) (upper height tree.new) ≡ flags_of height tree.old }
 {
     let middle = frames_under(height);
     if tree[0] == 0 {
@@ -154,6 +155,7 @@ fn mark(tree: &mut [u8], height: u8, from: usize, to: usize, free: bool)
 pub(crate) fn height_of(count: usize) -> u8
     requires { count ≤ 2 ^ 22 }
     ensures fits { count ≤ 2 ^ result }
+    ensures least { (height : ℕ) → height < result → 2 ^ height < count }
     ensures small { result ≤ 22 }
 {
     for height in 0..22 {
@@ -179,8 +181,10 @@ pub(crate) fn free_first(tree: &mut [u8], height: u8, count: usize)
 pub(crate) fn find_block(tree: &[u8], height: u8, order: u8) -> Option<usize>
     requires small { height < 32 }
     requires tree { IsTree height tree.now }
-    ensures some { (count : ℕ) → IsPool height count tree.now → IfSome result (IsLowest (pool_of height count tree.now) (2 ^ order)) }
-    ensures none { (count : ℕ) → IsPool height count tree.now → IfNone result (HasNone (pool_of height count tree.now) (2 ^ order)) }
+    ensures some { (count : ℕ) → IsPool height count tree.now →
+        IfSome result (IsLowest (pool_of height count tree.now) (2 ^ order)) }
+    ensures none { (count : ℕ) → IsPool height count tree.now →
+        IfNone result (HasNone (pool_of height count tree.now) (2 ^ order)) }
 {
     lowest(tree, height, order)
 }
@@ -191,9 +195,13 @@ pub(crate) fn take_block(tree: &mut [u8], height: u8, order: u8) -> Option<usize
     requires order { order < 32 }
     requires tree { IsTree height tree.old }
     ensures tree { (count : ℕ) → IsPool height count tree.old → IsPool height count tree.new }
-    ensures lowest { (count : ℕ) → IsPool height count tree.old → IfSome result (IsLowest (pool_of height count tree.old) (2 ^ order)) }
-    ensures taken { (count : ℕ) → IsPool height count tree.old → IfSome result (λ at. pool_of height count tree.new ≡ marked (pool_of height count tree.old) at (2 ^ order) false) }
-    ensures none { (count : ℕ) → IsPool height count tree.old → IfNone result (HasNone (pool_of height count tree.old) (2 ^ order)) }
+    ensures lowest { (count : ℕ) → IsPool height count tree.old →
+        IfSome result (IsLowest (pool_of height count tree.old) (2 ^ order)) }
+    ensures taken { (count : ℕ) → IsPool height count tree.old →
+        IfSome result (λ at. pool_of height count tree.new ≡
+            marked (pool_of height count tree.old) at (2 ^ order) false) }
+    ensures none { (count : ℕ) → IsPool height count tree.old →
+        IfNone result (HasNone (pool_of height count tree.old) (2 ^ order)) }
     ensures unchanged { IfNone result (tree.new ≡ tree.old) }
 {
     match lowest(tree, height, order) {
@@ -211,8 +219,10 @@ pub(crate) fn give_block(tree: &mut [u8], height: u8, at: usize, order: u8)
     requires order { order < 32 }
     requires tree { IsTree height tree.old }
     requires fits { at + 2 ^ order ≤ 2 ^ height }
-    ensures tree { (count : ℕ) → IsPool height count tree.old → at + 2 ^ order ≤ count → IsPool height count tree.new }
-    ensures flags { (count : ℕ) → IsPool height count tree.old → at + 2 ^ order ≤ count → pool_of height count tree.new ≡ marked (pool_of height count tree.old) at (2 ^ order) true }
+    ensures tree { (count : ℕ) → IsPool height count tree.old → at + 2 ^ order ≤ count →
+        IsPool height count tree.new }
+    ensures flags { (count : ℕ) → IsPool height count tree.old → at + 2 ^ order ≤ count →
+        pool_of height count tree.new ≡ marked (pool_of height count tree.old) at (2 ^ order) true }
 {
     mark(tree, height, at, at + frames_under(order), true);
 }

@@ -1,7 +1,6 @@
 -- Nothing is stale: what every event keeps of arrays and caches.
-use Rattle.std.proofs.Common.{◌≡◌, refl, sym, ap, subst, ℕ, zero, suc, ◌+◌, ◌-◌, ◌*◌, ◌<◌, ◌≤◌, Bool, true, false, not, List, [], ◌∷◌, length, Option, None, Some, arith}
+use Rattle.std.proofs.Common.{◌≡◌, refl, sym, subst, ℕ, zero, suc, ◌+◌, ◌-◌, ◌*◌, ◌<◌, ◌≤◌, Bool, true, false, not, List, [], ◌∷◌, length, Option, None, Some, arith}
 use Rattle.std.specs.Prelude.{find, is_some}
-use Rattle.std.proofs.lemmas.Bool.Decides.{nat_tests}
 use Rattle.xl_model.specs.declared.address.Kind.{Kind}
 use Rattle.xl_model.specs.declared.address.Mode.{Mode}
 use Rattle.xl_model.specs.declared.leaf.Leaf.{Leaf}
@@ -17,27 +16,30 @@ use Rattle.xl_model.specs.Changes.{Change, old_leaf, changed}
 use Rattle.xl_model.specs.Rules.{rule, change_of}
 use Rattle.xl_model.specs.Nodes.{Node, in_nodes, only_needed, opening_nodes}
 use Rattle.xl_model.specs.Ranges.{ranges_of, holds_page}
-use Rattle.xl_model.specs.Shapes.{Shape, Radix, Chained, Cuckoo, Runs, CuckooWays, CuckooRules, brought, ways_brought, ways_taken, widened, narrowed, shape_after, opening_shape}
-use Rattle.xl_model.specs.Room.{room_for, has_room}
+use Rattle.xl_model.specs.Shapes.{Shape, Radix, Chained, Cuckoo, Runs, CuckooWays, CuckooRules, brought, ways_brought, ways_taken, widened, shape_after, opening_shape}
+use Rattle.xl_model.specs.Room.{has_room}
 use Rattle.xl_model.specs.Caches.{Caches, NodeCaches, SectionCaches, RangeCache, NoCaches, Numbered, empty_caches, section_caches, opening_caches, caches_purged, caches_fenced, reaches_space, reaches_range}
 use Rattle.xl_model.specs.Walks.{section_of_page, range_walk_by, walked, start_level, is_page_section, fills_m2}
-use Rattle.xl_model.specs.Structures.{answer_by, TableState, Verdict, Made, NoSpace, NoPlace, finds_place, verdict_by, verdict, table_made, table_answer, table_after, after_by, table_walked, table_fenced}
+use Rattle.xl_model.specs.Structures.{answer_by, TableState, Verdict, Made, NoSpace, NoPlace, finds_place, verdict, table_made, table_answer, table_after, after_by, table_walked, table_fenced}
 use Rattle.xl_model.specs.Tally.{count_look}
 use Rattle.xl_model.specs.Tlb.{Answer, answer_of, reaches_leaf}
 use Rattle.xl_model.specs.RowRun.{RowState, opening, walk_filled, walk_made, looked_by, looked, looked_where, accessed, purged_at, changed_by, changed_where, fenced, reach_of, served, after_rule, after_event}
 use Rattle.xl_mapping.specs.Members.{In}
 use Rattle.xl_mapping.specs.Mappings.{IsMapping, IsFound, IsSound}
 use Rattle.xl_mapping.proofs.OrderLemmas.{level-low}
-use Rattle.xl_mapping.proofs.MemberLemmas.{find-In, find-passes}
+use Rattle.xl_mapping.proofs.MemberLemmas.{find-In}
 use Rattle.xl_mapping.proofs.RuleLemmas.{sound-of, kept-sound}
 use Rattle.xl_mapping.specs.Fresh.{has_leaves, ArraysFresh, TagsFresh, CachesFresh}
 use Rattle.xl_laws.specs.Fresh.{NothingIsStale}
 use Rattle.xl_laws.proofs.RunLemmas.{Keeps, run-keeps}
 use Rattle.xl_laws.proofs.LeafLemmas.{opening-mapping}
 use Rattle.xl_mapping.proofs.FreshArrayLemmas.{hit-fresh, filled-fresh, without-fresh, changed-fresh, opening-fresh}
-use Rattle.xl_mapping.proofs.FreshNodeLemmas.{NodesFull, wide, HasPath, full-after, tags-after, tags-fenced, tags-walked, same-length, without-few}
+use Rattle.xl_mapping.proofs.FreshNodeLemmas.{NodesFull, wide, full-after, tags-after, tags-fenced, tags-walked, same-length, without-few}
 use Rattle.xl_mapping.proofs.FreshSectionLemmas.{section-some, section-walked, section-fenced, section-after, section-refused}
 use Rattle.xl_laws.proofs.CapLemmas.{refused-same}
+use Rattle.xl_laws.proofs.AfterLemmas.{radix-after, cuckoo-after, runs-after, chained-after, path-room}
+use Rattle.xl_laws.proofs.TableRunLemmas.{made-room, caps-placed}
+use Rattle.xl_mapping.proofs.CoverLemmas.{found-leaf}
 use Rattle.xl_mapping.proofs.FreshRangeLemmas.{ranges-fresh, range-filled, range-touched, range-fenced, range-after}
 use Rattle.xl_model.specs.declared.address.Mode.TheVariants as mode
 use Rattle.xl_model.specs.declared.address.Order.{Order}
@@ -54,13 +56,7 @@ record TableFresh (t : TableState) : Type 0 where
   fresh : CachesFresh t.shape t.caches t.leaves
   full : ShapeFull t.shape t.caches t.leaves
 
--- the leaf of a page
-found-leaf : (row : Row) (space page : ℕ) (leaves : List Leaf) → IsMapping row leaves → (leaf : Leaf) → leaf_at_page space page leaves ≡ Some leaf → IsFound space page leaves leaf
-unfolding leaf_at_page
-found-leaf row space page leaves m leaf h =
-    let i : In leaf leaves = find-In (covers space page) leaf leaves h in
-    record { member = i; covers_page = find-passes (covers space page) leaf leaves h; aligned = (m.valid leaf i).pages_aligned }
-
+-- what is known of every leaf
 all-known : (row : Row) (leaves : List Leaf) → IsMapping row leaves → (x : Leaf) → In x leaves → In x leaves × ((e : ℕ) × (x.first ≡ e * pages_of x.order))
 all-known row leaves m x i = (i, (m.valid x i).pages_aligned)
 
@@ -125,39 +121,6 @@ walk-fresh row space page leaves (Runs limit) (RangeCache c) m fresh full = go (
     )
 walk-fresh row space page leaves (Runs limit) NoCaches m fresh full = (tt, tt)
 
--- shapes after a change
-radix-widened : (leaf : Option Leaf) (levels spaces : ℕ) (nodes : List (Option Node)) → widened leaf (Radix levels spaces nodes) ≡ Radix levels spaces (wide levels leaf nodes)
-unfolding wide
-radix-widened None levels spaces nodes = refl
-radix-widened (Some leaf) levels spaces nodes = refl
-
-radix-after : (c : Change) (leaves : List Leaf) (levels spaces : ℕ) (nodes : List (Option Node))
-    → shape_after c leaves (Radix levels spaces nodes) ≡ Radix levels spaces (only_needed levels (changed c leaves) (wide levels (brought c leaves) nodes))
-unfolding shape_after
-radix-after c leaves levels spaces nodes = ap (narrowed c leaves) (radix-widened (brought c leaves) levels spaces nodes)
-
-cuckoo-widened : (leaf : Option Leaf) (rules : CuckooRules) (ways : CuckooWays) → widened leaf (Cuckoo rules ways) ≡ Cuckoo rules (ways_brought rules leaf ways)
-cuckoo-widened None rules ways = refl
-cuckoo-widened (Some leaf) rules ways = refl
-
-cuckoo-after : (c : Change) (leaves : List Leaf) (rules : CuckooRules) (ways : CuckooWays)
-    → shape_after c leaves (Cuckoo rules ways) ≡ Cuckoo rules (ways_taken c (old_leaf c leaves) (ways_brought rules (brought c leaves) ways))
-unfolding shape_after
-cuckoo-after c leaves rules ways = ap (narrowed c leaves) (cuckoo-widened (brought c leaves) rules ways)
-
-runs-widened : (leaf : Option Leaf) (limit : ℕ) → widened leaf (Runs limit) ≡ Runs limit
-runs-widened None limit = refl
-runs-widened (Some leaf) limit = refl
-
-runs-after : (c : Change) (leaves : List Leaf) (limit : ℕ) → shape_after c leaves (Runs limit) ≡ Runs limit
-unfolding shape_after
-runs-after c leaves limit = ap (narrowed c leaves) (runs-widened (brought c leaves) limit)
-
-path-room : (brings : Option Leaf) (c : Change) (leaves : List Leaf) (levels spaces : ℕ) (nodes : List (Option Node)) → room_for brings c leaves (Radix levels spaces nodes) ≡ true → HasPath levels brings nodes
-unfolding HasPath
-path-room None c leaves levels spaces nodes h = tt
-path-room (Some leaf) c leaves levels spaces nodes h = grind (arith, nat_tests)
-
 -- a shape and its caches after a change that is made
 AfterFresh : Change → List Leaf → Shape → Caches → Shape → Type 0
 AfterFresh c leaves before kept after =
@@ -200,15 +163,6 @@ any-chained group buckets entries tags (SectionCaches m2 g1) leaves = (tt, tt)
 any-chained group buckets entries tags (RangeCache c) leaves = (tt, tt)
 any-chained group buckets entries tags NoCaches leaves = (tt, tt)
 
-chained-after : (c : Change) (leaves : List Leaf) (group buckets entries : ℕ) (tags : List ℕ)
-    → (new : List ℕ) × (shape_after c leaves (Chained group buckets entries tags) ≡ Chained group buckets entries new)
-unfolding shape_after
-chained-after c leaves group buckets entries tags = go (brought c leaves)
-  where
-    go : (leaf : Option Leaf) → (new : List ℕ) × (narrowed c leaves (widened leaf (Chained group buckets entries tags)) ≡ Chained group buckets entries new)
-    go None = (_, refl)
-    go (Some leaf) = (_, refl)
-
 made-shape : (row : Row) (c : Change) (leaves : List Leaf) (shape : Shape) (kept : Caches) → IsMapping row leaves → IsSound row leaves c → has_room c leaves shape ≡ true
     → CachesFresh shape kept leaves → ShapeFull shape kept leaves → AfterFresh c leaves shape kept (shape_after c leaves shape)
 unfolding AfterFresh
@@ -244,17 +198,6 @@ refused-shape (Some leaf) leaves (Cuckoo rules ways) (SectionCaches m2 g1) caps 
 )
 refused-shape (Some leaf) leaves (Cuckoo rules ways) (RangeCache c) caps fresh = (tt, tt)
 refused-shape (Some leaf) leaves (Cuckoo rules ways) NoCaches caps fresh = (tt, tt)
-
--- what a verdict says
-made-room : (room placed : Bool) → verdict_by room placed ≡ Made → room ≡ true
-made-room true true h = refl
-made-room true false h = absurd (cc)
-made-room false placed h = absurd (cc)
-
-caps-placed : (room placed : Bool) → verdict_by room placed ≡ NoPlace → placed ≡ false
-caps-placed true true h = absurd (cc)
-caps-placed true false h = refl
-caps-placed false placed h = absurd (cc)
 
 -- a state with all that it keeps
 record Kept (row : Row) (s : RowState) : Type 0 where

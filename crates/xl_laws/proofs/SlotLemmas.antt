@@ -1,13 +1,9 @@
 -- Slots of a growing way: the slot before is a function of the slot after, so keys apart stay apart.
-use Rattle.std.proofs.Common.{zero-add, ◌≡◌, refl, sym, ap, subst, ℕ, Bool, true, false, cond, List, [], ◌∷◌, None, Some, ◌&&◌, ◌<◌, ◌≤◌, ◌+◌, ◌%◌, ◌^◌, nat_lt, ◌==◌, arith, map}
-use Rattle.std.specs.Prelude.{find}
+use Rattle.std.proofs.Common.{zero-add, ◌≡◌, refl, sym, subst, ℕ, Bool, true, false, cond, ◌&&◌, ◌<◌, ◌+◌, ◌%◌, ◌^◌, nat_lt, ◌==◌, arith}
 use Rattle.std.proofs.lemmas.Bool.Decides.{nat_tests}
 use Rattle.std.proofs.Math.Pow.{mod-mod-pow}
-use Rattle.xl_model.specs.declared.way.Entry.{Entry}
 use Rattle.xl_model.specs.declared.way.WayRegs.{WayRegs}
-use Rattle.xl_model.specs.Ways.{slot_at, with_entry, without_key, reworded, slots_left, begun_regs, regs_after}
-use Rattle.xl_model.specs.Base.{one_if}
-use Rattle.xl_laws.specs.Cuckoo.{how_many}
+use Rattle.xl_model.specs.Ways.{slot_at, slots_left, begun_regs, regs_after}
 
 low-bits : (h s : ℕ) → h % 2 ^ (s + 1) % 2 ^ s ≡ h % 2 ^ s
 low-bits h s = let e : s + 1 ≡ 1 + s = omega arith in
@@ -83,69 +79,3 @@ slot-back r n h at growing e = go (n == slots_left r) refl
 -- a way that isn't growing and begins to grow: every key stays in its slot
 pub begun-slot : (r : WayRegs) (h : ℕ) → r.growing ≡ false → slot_at (begun_regs r) h ≡ slot_at r h
 begun-slot r h e = rw e (grind (arith, nat_tests))
-
--- counts of entries
-pub how-many-le : (p q : Entry → Bool) (xs : List Entry) → ((x : Entry) → p x ≡ true → q x ≡ true) → how_many p xs ≤ how_many q xs
-how-many-le p q [] h = omega arith
-how-many-le p q (x ∷ xs) h =
-    let rest : how_many p xs ≤ how_many q xs = how-many-le p q xs h in
-    let first : one_if (p x) ≤ one_if (q x) = go (p x) refl in
-    omega arith
-  where
-    go : (b : Bool) → p x ≡ b → one_if (p x) ≤ one_if (q x)
-    go true t = let u : q x ≡ true = h x t in rw (t, u) (omega arith)
-    go false t = rw t (omega arith)
-
-pub how-many-same : (p q : Entry → Bool) (xs : List Entry) → ((x : Entry) → p x ≡ q x) → how_many p xs ≡ how_many q xs
-how-many-same p q [] h = refl
-how-many-same p q (x ∷ xs) h = let a : p x ≡ q x = h x in let b : how_many p xs ≡ how_many q xs = how-many-same p q xs h in rw (a, b) refl
-
-pub how-many-with : (p : Entry → Bool) (x : Entry) (xs : List Entry) → how_many p (with_entry x xs) ≡ one_if (p x) + how_many p xs
-how-many-with p x [] = refl
-how-many-with p x (y ∷ ys) =
-    elim (nat_lt y.key x.key) as (λ b. how_many p (cond b (y ∷ with_entry x ys) (x ∷ y ∷ ys)) ≡ one_if (p x) + (one_if (p y) + how_many p ys)) [
-      | true ↦ let e : how_many p (with_entry x ys) ≡ one_if (p x) + how_many p ys = how-many-with p x ys in omega arith
-      | false ↦ refl
-    ]
-
-pub how-many-without : (p : Entry → Bool) (key : ℕ) (xs : List Entry) → how_many p (without_key key xs) ≤ how_many p xs
-how-many-without p key [] = omega arith
-how-many-without p key (y ∷ ys) =
-    elim (y.key == key) as (λ b. how_many p (cond b ys (y ∷ without_key key ys)) ≤ one_if (p y) + how_many p ys) [
-      | true ↦ omega arith
-      | false ↦ let e : how_many p (without_key key ys) ≤ how_many p ys = how-many-without p key ys in omega arith
-    ]
-
--- where a key's entries pass, and one of them is there, taking it out leaves one fewer
-pub how-many-out : (p : Entry → Bool) (e : Entry) (xs : List Entry) → find p xs ≡ Some e → ((x : Entry) → x.key ≡ e.key → p x ≡ true)
-    → how_many p (without_key e.key xs) + 1 ≡ how_many p xs
-how-many-out p e [] found h = absurd (cc)
-how-many-out p e (y ∷ ys) found h =
-    elim (y.key == e.key) as (λ b. (y.key == e.key) ≡ b → how_many p (cond b ys (y ∷ without_key e.key ys)) + 1 ≡ one_if (p y) + how_many p ys) [
-      | true ↦ λ t. let k : p y ≡ true = h y (grind (arith, nat_tests)) in rw k (omega arith)
-      | false ↦ λ t.
-          elim (p y) as (λ b. p y ≡ b → cond b (Some y) (find p ys) ≡ Some e → one_if b + how_many p (without_key e.key ys) + 1 ≡ one_if b + how_many p ys) [
-            | true ↦ λ u k. let same : y ≡ e = cc in let key : y.key ≡ e.key = ap (λ (x : Entry). x.key) same in absurd (grind (arith, nat_tests))
-            | false ↦ λ u k. let rest : how_many p (without_key e.key ys) + 1 ≡ how_many p ys = how-many-out p e ys k h in omega arith
-          ] refl found
-    ] refl
-
-pub how-many-none : (p : Entry → Bool) (xs : List Entry) → find p xs ≡ None → how_many p xs ≡ 0
-how-many-none p [] h = refl
-how-many-none p (y ∷ ys) h =
-    elim (p y) as (λ b. cond b (Some y) (find p ys) ≡ None → one_if b + how_many p ys ≡ 0) [
-      | true ↦ λ k. absurd (cc)
-      | false ↦ λ k. let e : how_many p ys ≡ 0 = how-many-none p ys k in omega arith
-    ] h
-
-pub how-many-reworded : (p : Entry → Bool) (key word : ℕ) (xs : List Entry) → ((x y : Entry) → x.key ≡ y.key → p x ≡ p y)
-    → how_many p (map (reworded key word) xs) ≡ how_many p xs
-how-many-reworded p key word [] h = refl
-how-many-reworded p key word (x ∷ xs) h =
-    let rest : how_many p (map (reworded key word) xs) ≡ how_many p xs = how-many-reworded p key word xs h in
-    let first : p (reworded key word x) ≡ p x = h (reworded key word x) x (go (x.key == key)) in
-    rw (first, rest) refl
-  where
-    go : (b : Bool) → (cond b (record x { word = word }) x).key ≡ x.key
-    go true = refl
-    go false = refl

@@ -3,3 +3,8 @@ pub mod Runs
 pub mod Cuckoo
 pub mod Fresh
 pub mod Sentences
+pub mod Scenes
+pub mod Limits
+pub mod Tags
+pub mod Nodes
+pub mod Keys

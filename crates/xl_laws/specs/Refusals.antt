@@ -13,10 +13,12 @@ use Rattle.xl_model.specs.RowRun.{RowState, after_event, outcome_of}
 abbrev pub with_refusal : Refusal → RowState → RowState
 with_refusal r s = record s { counts = count_refusal r s.counts }
 
+-- the state after some events
 abbrev pub after_events : Row → List Event → RowState → RowState
 after_events row [] s = s
 after_events row (e ∷ events) s = after_events row events (after_event row e s)
 
+-- the outcomes of some events
 abbrev pub outcomes_of : Row → List Event → RowState → List Outcome
 outcomes_of row [] s = []
 outcomes_of row (e ∷ events) s = outcome_of row e s ∷ outcomes_of row events (after_event row e s)
@@ -33,8 +35,8 @@ leaves_nothing refused.NoFrames = true
 leaves_nothing refused.NoTable = true
 leaves_nothing refused.WayAtCap = false
 
--- After such a refusal, in whatever state, the run goes on as if the command had not been there: the
--- outcomes of all further events are the same, and the state but for that refusal's count.
+-- After such a refusal, in whatever state, the run goes on as if the command had not been there:
+-- the outcomes of all further events are the same, and the state but for that refusal's count.
 abbrev pub ARefusalLeavesNothing : Type 0
 ARefusalLeavesNothing =
     (row : Row) (s : RowState) (e : Event) (r : Refusal) (further : List Event)

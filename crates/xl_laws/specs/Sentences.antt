@@ -1,4 +1,5 @@
--- Definitions that compute, and the sentences that they stand for: maximal runs, and the lowest free number.
+-- Definitions that compute, and the sentences that they stand for: maximal runs, and the lowest
+-- free number.
 use Rattle.std.specs.Prelude.{ℕ, ◌≡◌, ◌+◌, ◌-◌, ◌<◌, ◌≤◌, ◌==◌, ◌&&◌, Bool, false, List, [], ◌∷◌, ◌++◌, length, slice_set, slice_index_or, Option, None, Some}
 use Rattle.xl_model.specs.declared.leaf.Leaf.{Leaf}
 use Rattle.xl_model.specs.declared.leaf.Range.{Range}
@@ -6,20 +7,24 @@ use Rattle.xl_model.specs.Addresses.{pages_of, same_order}
 use Rattle.xl_model.specs.Nodes.{Node, put_first}
 use Rattle.xl_model.specs.Ranges.{same_perm, ranges_of}
 
--- leaves of one space, order and permission, consecutive in pages and in frames from here on, and so many pages of them
+-- leaves of one space, order and permission, consecutive in pages and in frames from here on, and
+-- so many pages of them
 abbrev pub AreConsecutive : Range → ℕ → ℕ → ℕ → List Leaf → Type 0
 AreConsecutive r start frame pages [] = pages ≡ 0
 AreConsecutive r start frame pages (x ∷ xs) =
     (x.space ≡ r.space) × (x.order ≡ r.order) × (x.perm ≡ r.perm) × (x.first ≡ start) × (x.frame ≡ frame) × (pages_of r.order ≤ pages)
     × AreConsecutive r (start + pages_of r.order) (frame + pages_of r.order) (pages - pages_of r.order) xs
 
+-- these leaves are the run that a range says
 abbrev pub IsRun : Range → List Leaf → Type 0
 IsRun r leaves = AreConsecutive r r.start r.frame r.pages leaves
 
 -- the leaves are parted, in their order, into one run for each range
 abbrev pub AreRuns : List Range → List Leaf → Type 0
 AreRuns [] leaves = leaves ≡ []
-AreRuns (r ∷ rs) leaves = (xs : List Leaf) × (ys : List Leaf) × (leaves ≡ xs ++ ys) × (0 < length xs) × IsRun r xs × AreRuns rs ys
+AreRuns (r ∷ rs) leaves =
+    (xs : List Leaf) × (ys : List Leaf) × (leaves ≡ xs ++ ys) × (0 < length xs) × IsRun r xs
+    × AreRuns rs ys
 
 -- a range ends where another of its kind begins
 abbrev pub runs_on : Range → Range → Bool
@@ -35,7 +40,8 @@ NoneRunsOn (a ∷ b ∷ rs) = (runs_on a b ≡ false) × NoneRunsOn (b ∷ rs)
 
 -- The ranges of a list of leaves are its maximal runs.
 abbrev pub TheRangesAreMaximalRuns : Type 0
-TheRangesAreMaximalRuns = (leaves : List Leaf) → AreRuns (ranges_of leaves) leaves × NoneRunsOn (ranges_of leaves)
+TheRangesAreMaximalRuns =
+    (leaves : List Leaf) → AreRuns (ranges_of leaves) leaves × NoneRunsOn (ranges_of leaves)
 
 -- a number that no node has
 pub record IsLowestNumber (nodes : List (Option Node)) (n : ℕ) : Type 0 where

@@ -1,4 +1,4 @@
--- An item put in front of its bucket: the members, the tags, and the chains of the buckets.
+-- An item put in front of its bucket: the members, the tags, and the chains of the buckets. For chains in words too.
 use Rattle.std.proofs.Common.{◌≡◌, refl, ap, ℕ, suc, true, false, cond, List, [], ◌∷◌, map, length, nat_lt, ◌==◌, ◌⊎◌, inl, inr, arith}
 use Rattle.std.specs.Prelude.{filter}
 use Rattle.std.proofs.lemmas.Bool.Decides.{nat_tests}

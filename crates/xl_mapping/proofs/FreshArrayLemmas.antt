@@ -1,9 +1,8 @@
 -- Leaves of TLB arrays: touched, filled, purged.
-use Rattle.std.proofs.Common.{◌≡◌, refl, sym, ◌∙◌, subst, ℕ, zero, suc, Bool, true, false, cond, List, [], ◌∷◌, Option, None, Some, ◌⊎◌, inl, inr, map, slice_set, slice_index_or, nat_lt}
-use Rattle.std.specs.Prelude.{find, replicate}
+use Rattle.std.proofs.Common.{◌≡◌, refl, sym, ◌∙◌, subst, ℕ, zero, suc, Bool, true, false, cond, List, [], ◌∷◌, Option, None, Some, ◌⊎◌, inl, inr, map, slice_set, nat_lt}
+use Rattle.std.specs.Prelude.{replicate}
 use Rattle.std.proofs.lemmas.Bool.{eq-eqb}
 use Rattle.xl_model.specs.declared.address.Order.{Order}
-use Rattle.xl_model.specs.declared.address.Order.TheVariants as order
 use Rattle.xl_model.specs.declared.leaf.Leaf.{Leaf}
 use Rattle.xl_model.specs.declared.row.Purge.{Purge}
 use Rattle.xl_model.specs.declared.row.Purge.TheVariants as purge
@@ -12,11 +11,10 @@ use Rattle.xl_model.specs.Addresses.{same_order}
 use Rattle.xl_model.specs.Recency.{touched, with_newest, purged}
 use Rattle.xl_model.specs.Rows.{Row}
 use Rattle.xl_model.specs.Changes.{Change, old_leaf, changed}
-use Rattle.xl_model.specs.Tlb.{TlbArray, set_number, set_at, where_taken, takes_order, covers_as, found_as, first_found, array_hit, array_touched, filled_where, array_filled, Answer, answered_by, answer_of, filled_below, touched_or, arrays_hit, arrays_filled, is_purged, array_without, arrays_without, opening_array, opening_arrays}
+use Rattle.xl_model.specs.Tlb.{TlbArray, set_number, set_at, takes_order, covers_as, array_hit, array_touched, filled_where, array_filled, Answer, answer_of, filled_below, touched_or, arrays_hit, arrays_filled, is_purged, array_without, arrays_without, opening_array, opening_arrays}
 use Rattle.xl_model.specs.RowRun.{arrays_after}
 use Rattle.xl_mapping.specs.Members.{In}
 use Rattle.xl_mapping.specs.Mappings.{IsMapping, IsSound}
-use Rattle.xl_mapping.proofs.MemberLemmas.{find-In}
 use Rattle.xl_mapping.proofs.RecencyLemmas.{touched-In, newest-In, purged-In}
 use Rattle.xl_mapping.proofs.ChangeLemmas.{stays-changed}
 use Rattle.xl_mapping.specs.Fresh.{InSets, Held, ArraysFresh}

@@ -37,7 +37,7 @@ unfoldable pub HasPath : ℕ → Option Leaf → List (Option Node) → Type 0
 HasPath levels None nodes = Unit {0}
 HasPath levels (Some leaf) nodes = leaf_nodes_missing levels leaf nodes ≤ free_count nodes
 
-wide-at : (levels : ℕ) (leaf : Option Leaf) (y : Node) (nodes : List (Option Node)) (n : ℕ) → slice_index_or nodes n None ≡ Some y → slice_index_or (wide levels leaf nodes) n None ≡ Some y
+pub wide-at : (levels : ℕ) (leaf : Option Leaf) (y : Node) (nodes : List (Option Node)) (n : ℕ) → slice_index_or nodes n None ≡ Some y → slice_index_or (wide levels leaf nodes) n None ≡ Some y
 unfolding wide with_leaf_nodes
 wide-at levels None y nodes n h = h
 wide-at levels (Some leaf) y nodes n h = path-at leaf.space leaf.first (level_of leaf.order) (levels - 1 - level_of leaf.order) y nodes n h
@@ -61,7 +61,7 @@ wide-puts levels space l block leaf nodes room under below =
     subst Q c (subst P a h)
 
 -- a node that the mapping needs after a change is one that it needed, or the new leaf's
-new-brought : (c : Change) (leaves : List Leaf) (y : Leaf) → new_leaf c leaves ≡ Some y
+pub new-brought : (c : Change) (leaves : List Leaf) (y : Leaf) → new_leaf c leaves ≡ Some y
     → (brought c leaves ≡ Some y) ⊎ ((z : Leaf) × In z leaves × (y.space ≡ z.space) × (y.first ≡ z.first) × (y.order ≡ z.order))
 new-brought (Insert leaf) leaves y h = inl h
 new-brought (Remove space first o) leaves y h = absurd (cc)

@@ -71,4 +71,3 @@ mapping-front b x xs k at new =
       | inl e ↦ let P : Leaf → Type 0 = λ w. In w (with_leaf x (mapping_of xs)) in subst P (sym e) (In-with x (mapping_of xs))
       | inr j ↦ stays-with z x (mapping_of xs) (In-mapping z xs k j) (new-key x z xs k at new j)
     ])
-

@@ -1,4 +1,4 @@
--- Buckets one after another: an item more, items less, what is found, and the chain of a bucket.
+-- Buckets one after another: an item more, items less, what is found, and the chain of a bucket. For chains in words.
 use Rattle.std.proofs.Common.{◌≡◌, refl, sym, ap, ◌∙◌, subst, ℕ, zero, suc, ◌<◌, ◌≤◌, Bool, true, false, cond, List, [], ◌∷◌, ◌++◌, map, length, nat_lt, ◌==◌, None, Some, inl, inr, length-append, arith}
 use Rattle.std.specs.Prelude.{find, filter}
 use Rattle.std.proofs.lemmas.List.{append-nil, map-append}

@@ -106,4 +106,3 @@ length-protected s f o perm xs = ap length (perm-named-is s f o perm xs) ∙ len
 pub mapping-protected : (s f : ℕ) (o : Order) (perm : Perm) (old : Leaf) (xs : List Leaf) → IsKept xs → In old xs → is_leaf s f o old ≡ true
     → with_leaf (record old { perm = perm }) (without_leaf old.space old.first (mapping_of xs)) ≡ mapping_of (with_perm_named s f o perm xs)
 mapping-protected s f o perm old xs k i named = rw (perm-named-is s f o perm xs) (mapping-given s f o perm old xs k i named)
-

@@ -1,5 +1,5 @@
--- A leaf with which the arrays answer is held by one of them, and covers the page.
-use Rattle.std.proofs.Common.{◌≡◌, refl, subst, ℕ, zero, suc, Bool, true, false, ◌&&◌, List, [], ◌∷◌, Option, None, Some, inl, inr, slice_index_or}
+-- A leaf with which the arrays answer is held by one of them, and covers the page. For the machine too.
+use Rattle.std.proofs.Common.{◌≡◌, refl, subst, ℕ, zero, suc, Bool, true, false, List, [], ◌∷◌, Option, None, Some, inl, inr, slice_index_or}
 use Rattle.std.specs.Prelude.{find}
 use Rattle.std.specs.Cmp.{second_so}
 use Rattle.xl_model.specs.declared.address.Order.{Order}

@@ -6,6 +6,7 @@ pub mod BucketLemmas
 pub mod GatherLemmas
 pub mod OrderLemmas
 pub mod PermLemmas
+pub mod CodeLemmas
 pub mod InsertionLemmas
 pub mod SortedLemmas
 pub mod LowestLemmas
@@ -14,12 +15,21 @@ pub mod MappingLemmas
 pub mod RuleLemmas
 pub mod ChangeLemmas
 pub mod EndLemmas
+pub mod CoverLemmas
 pub mod KeptLemmas
 pub mod FrontLemmas
 pub mod WithoutLemmas
 pub mod GivenLemmas
 pub mod TagLemmas
 pub mod ReadLemmas
+pub mod TallyLemmas
+pub mod SectionLemmas
+pub mod LeafTallyLemmas
+pub mod WayTallyLemmas
+pub mod PlacingLemmas
+pub mod BlockLemmas
+pub mod EntryLemmas
+pub mod SearchLemmas
 pub mod TableLemmas
 pub mod MoveLemmas
 pub mod LimitLemmas
@@ -31,3 +41,4 @@ pub mod FreshArrayLemmas
 pub mod FreshSectionLemmas
 pub mod FreshRangeLemmas
 pub mod FreshNodeLemmas
+pub mod SceneLemmas

@@ -1,6 +1,5 @@
--- A table takes the same spaces and pages after each call, and only a walk counts loads.
-use Rattle.std.proofs.Common.{◌≡◌, ◌∙◌, sym, subst, ℕ, refl, ap, List, Option, None, Some, Result, ◌<◌}
-use Rattle.xl_model.specs.declared.address.Order.{Order}
+-- A table takes the same spaces and pages after each call, and only a walk counts loads. For the machine too.
+use Rattle.std.proofs.Common.{◌≡◌, ◌∙◌, sym, subst, ℕ, refl, List, Option, None, Some, Result, ◌<◌}
 use Rattle.xl_model.specs.declared.event.Reach.{Reach}
 use Rattle.xl_model.specs.declared.leaf.Leaf.{Leaf}
 use Rattle.xl_model.specs.declared.work.Refused.{Refused}
@@ -8,10 +7,10 @@ use Rattle.xl_model.specs.declared.work.Walk.{Walk}
 use Rattle.xl_model.specs.declared.work.Work.{Work}
 use Rattle.xl_model.specs.Changes.{Change}
 use Rattle.xl_model.specs.Shapes.{Shape, Radix, Chained, Cuckoo, Runs, brought, widened, narrowed, shape_after}
-use Rattle.xl_model.specs.Structures.{TableState, Verdict, Made, NoSpace, NoPlace, spaces_of, page_limit, IsPage, IsBlock, IsChange, IsWalk, IsFence, after_by, verdict, table_made, table_after, table_walked, table_fenced}
+use Rattle.xl_model.specs.Structures.{TableState, Verdict, Made, NoSpace, NoPlace, IsPage, IsChange, IsWalk, IsFence, after_by, verdict, table_made, table_after, table_walked, table_fenced}
 use Rattle.xl_mapping.specs.Limits.{SameLimits}
 
-widened-same : (o : Option Leaf) (s : Shape) → SameLimits s (widened o s)
+pub widened-same : (o : Option Leaf) (s : Shape) → SameLimits s (widened o s)
 widened-same None s = record { spaces = refl; pages = refl }
 widened-same (Some leaf) (Radix levels spaces nodes) = record { spaces = refl; pages = refl }
 widened-same (Some leaf) (Chained group buckets entries tags) = record { spaces = refl; pages = refl }
@@ -24,12 +23,16 @@ narrowed-same c leaves (Chained group buckets entries tags) = record { spaces = 
 narrowed-same c leaves (Cuckoo rules ways) = record { spaces = refl; pages = refl }
 narrowed-same c leaves (Runs ranges) = record { spaces = refl; pages = refl }
 
-after-same : (v : Verdict) (c : Change) (t : TableState) → SameLimits t.shape (after_by v c t).shape
-unfolding table_made shape_after
-after-same Made c t =
-    let a = narrowed-same c t.leaves (widened (brought c t.leaves) t.shape) in
-    let b = widened-same (brought c t.leaves) t.shape in
+pub shape-same : (c : Change) (leaves : List Leaf) (s : Shape) → SameLimits s (shape_after c leaves s)
+unfolding shape_after
+shape-same c leaves s =
+    let a = narrowed-same c leaves (widened (brought c leaves) s) in
+    let b = widened-same (brought c leaves) s in
     record { spaces = a.spaces ∙ b.spaces; pages = a.pages ∙ b.pages }
+
+after-same : (v : Verdict) (c : Change) (t : TableState) → SameLimits t.shape (after_by v c t).shape
+unfolding table_made
+after-same Made c t = shape-same c t.leaves t.shape
 after-same NoSpace c t = record { spaces = refl; pages = refl }
 after-same NoPlace c t = widened-same (brought c t.leaves) t.shape
 

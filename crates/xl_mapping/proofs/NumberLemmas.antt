@@ -70,7 +70,7 @@ position-at p i n (x ∷ xs) h =
     ] refl h
 
 -- what with_node leaves
-is-new : (space l block : ℕ) → 0 < l → is_below space l block (Some (record { space = space; level = l - 1; prefix = block })) ≡ true
+pub is-new : (space l block : ℕ) → 0 < l → is_below space l block (Some (record { space = space; level = l - 1; prefix = block })) ≡ true
 is-new space l block h = grind (arith, nat_tests)
 
 not-new : (space l block space2 l2 block2 : ℕ) → 0 < l → (l2 ≡ l → ⊥) → is_below space2 l2 block2 (Some (record { space = space; level = l - 1; prefix = block })) ≡ false

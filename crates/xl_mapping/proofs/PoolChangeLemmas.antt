@@ -1,5 +1,5 @@
 -- A pool of frames through each change: a block is taken for a new leaf, given back for one that goes, and a leaf
--- that moves or gets another permission keeps its frames.
+-- that moves or gets another permission keeps its frames. For the machine.
 use Rattle.std.proofs.Common.{◌≡◌, refl, sym, ap, ◌∙◌, subst, ℕ, ◌+◌, ◌<◌, ◌≤◌, Bool, true, false, not, ◌&&◌, List, length, Some, inl, inr, slice_index_or, nat_lt, arith}
 use Rattle.std.specs.List.{list_any}
 use Rattle.std.proofs.lemmas.Bool.Decides.{nat_tests}
@@ -21,7 +21,7 @@ use Rattle.xl_mapping.proofs.MappingLemmas.{named-In}
 use Rattle.xl_mapping.proofs.ChangeLemmas.{stays-changed, changed-In}
 use Rattle.xl_mapping.proofs.PoolLemmas.{no-leaf}
 use Rattle.xl_frames.specs.Pool.{IsFree, marked}
-use Rattle.xl_frames.proofs.Marks.{length-marked, marked_inside, marked_below, marked_above}
+use Rattle.xl_frames.proofs.MarkLemmas.{length-marked, marked_inside, marked_below, marked_above}
 
 -- a block that is taken for a leaf
 taken-each : (leaf : Leaf) (leaves : List Leaf) (f : ℕ) → IsFreeOf (pages_of leaf.order) leaf.frame leaves → leaf.frame ≤ f → f < leaf.frame + pages_of leaf.order

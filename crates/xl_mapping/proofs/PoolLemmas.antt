@@ -1,20 +1,18 @@
--- The lowest free block of a pool is the lowest block that no leaf holds.
-use Rattle.std.proofs.Common.{◌≡◌, refl, sym, ap, ◌∙◌, subst, ℕ, ◌+◌, ◌*◌, ◌<◌, ◌≤◌, Bool, true, false, not, List, length, Option, None, Some, inl, inr, slice_index_or, nat_lt, nat_le, arith}
+-- The lowest free block of a pool is the lowest block that no leaf holds. For the machine.
+use Rattle.std.proofs.Common.{◌≡◌, refl, sym, ap, ◌∙◌, subst, ℕ, ◌+◌, ◌*◌, ◌<◌, ◌≤◌, Bool, true, false, not, List, length, Option, None, Some, slice_index_or, nat_le, arith}
 use Rattle.std.specs.List.{list_any}
 use Rattle.std.proofs.lemmas.Bool.Decides.{nat_tests}
 use Rattle.xl_model.specs.declared.address.Order.{Order}
 use Rattle.xl_model.specs.declared.leaf.Leaf.{Leaf}
 use Rattle.xl_model.specs.Addresses.{pages_of}
-use Rattle.xl_model.specs.Mapping.{holds_frames, with_leaf}
+use Rattle.xl_model.specs.Mapping.{holds_frames}
 use Rattle.xl_model.specs.Frames.{lowest}
 use Rattle.xl_mapping.specs.Members.{In}
 use Rattle.xl_mapping.specs.Lowest.{IsFree as IsFreeOf, IsAnswer}
-use Rattle.xl_mapping.proofs.MemberLemmas.{any-false, any-In, In-any}
-use Rattle.xl_mapping.proofs.InsertionLemmas.{with-In, In-with}
+use Rattle.xl_mapping.proofs.MemberLemmas.{any-In, In-any}
 use Rattle.xl_mapping.proofs.LowestLemmas.{lowest-is-lowest}
 use Rattle.xl_mapping.proofs.OrderLemmas.{pages-some}
-use Rattle.xl_frames.specs.Pool.{IsFree, IsLowest, HasNone, marked}
-use Rattle.xl_frames.proofs.Marks.{length-marked, marked_inside, marked_below, marked_above}
+use Rattle.xl_frames.specs.Pool.{IsFree, IsLowest, HasNone}
 use Rattle.xl_mapping.specs.Pools.{IsPoolOf}
 
 -- a leaf that holds a frame of a block holds some frame of it

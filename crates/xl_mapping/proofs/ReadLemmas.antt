@@ -15,6 +15,7 @@ use Rattle.xl_mapping.proofs.PlaceLemmas.{covers-meets}
 use Rattle.xl_mapping.proofs.KeptLemmas.{kept-same, mapping-In, In-mapping}
 use Rattle.xl_mapping.proofs.FrontLemmas.{IsNew}
 use Rattle.xl_mapping.proofs.WithoutLemmas.{named-same}
+
 pub meets-mapping : (s f : ℕ) (o : Order) (xs : List Leaf) → IsKept xs → list_any (meets_block s f o) xs ≡ meets_any s f o (mapping_of xs)
 unfolding meets_any
 meets-mapping s f o xs k = any-same (meets_block s f o) xs (mapping_of xs) (λ z i. In-mapping z xs k i) (λ z i. mapping-In z xs i)

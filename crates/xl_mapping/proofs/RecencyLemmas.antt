@@ -1,5 +1,5 @@
 -- Recency lists: what is in them after a touch, a fill and a purge; and each of these under `map`, for lists
--- of words that are seen as lists of leaves, nodes, sections or ranges.
+-- of words that are seen as lists of leaves, nodes, sections or ranges (the TLB and the walk caches).
 use Rattle.std.proofs.Common.{◌≡◌, ℕ, Bool, true, false, not, cond, List, [], ◌∷◌, map, find, Option, Some, None, ◌⊎◌, inl, inr, refl, sym, ◌∙◌, ap, subst}
 use Rattle.std.proofs.lemmas.List.{take-map}
 use Rattle.xl_model.specs.Recency.{without_first, in_front, touched, with_newest, purged}

@@ -1,5 +1,5 @@
--- Tags of kept leaves: each has its own, and how each call changes their list.
-use Rattle.std.proofs.Common.{◌≡◌, refl, sym, ap, ◌∙◌, subst, ℕ, suc, Bool, true, false, not, cond, List, [], ◌∷◌, map, length, inl, inr, ◌<◌, ◌+◌, ◌^◌, ◌==◌, arith}
+-- Tags of kept leaves: each has its own, and how each call changes their list. For the tables of chains.
+use Rattle.std.proofs.Common.{◌≡◌, refl, sym, ap, ◌∙◌, subst, ℕ, suc, Bool, true, false, not, cond, List, [], ◌∷◌, map, length, inl, inr, ◌<◌, ◌+◌, ◌^◌, ◌==◌, arith, ◌⊎◌, ◌||◌}
 use Rattle.std.specs.Prelude.{filter}
 use Rattle.std.specs.List.{list_any}
 use Rattle.std.proofs.lemmas.Bool.Decides.{nat_tests}
@@ -11,7 +11,7 @@ use Rattle.xl_model.specs.Addresses.{pages_of}
 use Rattle.xl_model.specs.Mapping.{meets_block, is_leaf}
 use Rattle.xl_model.specs.Chains.{tag_of, leaf_tag, in_front_of_bucket, has_tag, with_tag, only_used_tags}
 use Rattle.xl_mapping.specs.Members.{In}
-use Rattle.xl_mapping.proofs.MemberLemmas.{In-any, map-In, filter-In, filter-passes, In-filter, all-In}
+use Rattle.xl_mapping.proofs.MemberLemmas.{In-any, map-In, filter-In, filter-passes, In-filter, all-In, any-In}
 use Rattle.xl_mapping.specs.Kept.{IsPlaced, IsKept, mapping_of, in_front, without_named, protected_where, with_perm_named}
 use Rattle.xl_mapping.proofs.SameLemmas.{both, none-any}
 use Rattle.xl_mapping.proofs.KeptLemmas.{kept-same, mapping-In, In-mapping, kept-filter}
@@ -19,6 +19,7 @@ use Rattle.xl_mapping.proofs.BucketLemmas.{tags-by}
 use Rattle.xl_mapping.proofs.FrontLemmas.{IsNew}
 use Rattle.xl_mapping.proofs.GivenLemmas.{given, perm-named-is, kept-protected}
 use Rattle.xl_model.specs.declared.address.Order.TheVariants as order
+use Rattle.xl_mapping.proofs.PlaceLemmas.{named-space, named-order, named-first}
 
 -- leaves of one tag share a page
 pub record Shares (s t f g : ℕ) (o p : Order) : Type 0 where
@@ -134,3 +135,37 @@ pub used-protected : (s f : ℕ) (o : Order) (perm : Perm) (xs : List Leaf) → 
 used-protected s f o perm xs k =
     ap (only_used_tags 1 (mapping_of (with_perm_named s f o perm xs))) (sym (tags-protected s f o perm xs))
     ∙ all-used (with_perm_named s f o perm xs) (kept-protected s f o perm xs k)
+
+-- leaves of one tag are one, and a named leaf's tag is the name's
+pub tag-one : (x y : Leaf) (xs : List Leaf) → IsKept xs → In x xs → In y xs → leaf_tag 1 x ≡ leaf_tag 1 y → x ≡ y
+tag-one x y xs k i j e = kept-same x y xs k i j (tag-meets x y (all-In IsPlaced x xs k.placed i) (all-In IsPlaced y xs k.placed j) e)
+
+pub named-tag : (group s f : ℕ) (o : Order) (x : Leaf) → is_leaf s f o x ≡ true → leaf_tag group x ≡ tag_of group s o f
+named-tag group s f o x h =
+    ap (λ a. tag_of group a x.order x.first) (named-space s f o x h) ∙ ap (λ p. tag_of group s p x.first) (named-order s f o x h) ∙ ap (tag_of group s o) (named-first s f o x h)
+
+-- one leaf less takes its tag, where no other leaf has it, and no other tag
+pub used-less : (group : ℕ) (x : Leaf) (xs rest : List Leaf) (tags : List ℕ) → ((t : ℕ) → In t tags → list_any (λ leaf. leaf_tag group leaf == t) xs ≡ true)
+    → ((z : Leaf) → In z xs → (z ≡ x) ⊎ In z rest) → only_used_tags group rest tags
+    ≡ filter (λ t. not (t == leaf_tag group x) || list_any (λ leaf. leaf_tag group leaf == leaf_tag group x) rest) tags
+unfolding only_used_tags
+used-less group x xs rest tags used split =
+    filter-same (λ t. list_any (λ leaf. leaf_tag group leaf == t) rest) (λ t. not (t == leaf_tag group x) || list_any (λ leaf. leaf_tag group leaf == leaf_tag group x) rest) tags (λ t i.
+    elim (t == leaf_tag group x) as (λ b. (t == leaf_tag group x) ≡ b → list_any (λ leaf. leaf_tag group leaf == t) rest ≡ (not b || list_any (λ leaf. leaf_tag group leaf == leaf_tag group x) rest)) [
+      | true ↦ λ e. let same : t ≡ leaf_tag group x = eqb-true t (leaf_tag group x) e in ap (λ n. list_any (λ leaf. leaf_tag group leaf == n) rest) same
+      | false ↦ λ e. other t e (any-In (λ leaf. leaf_tag group leaf == t) xs (used t i))
+    ] refl)
+  where
+    filter-same : (p q : ℕ → Bool) (ts : List ℕ) → ((t : ℕ) → In t ts → p t ≡ q t) → filter p ts ≡ filter q ts
+    filter-same p q [] h = refl
+    filter-same p q (t ∷ ts) h = ap (λ b. cond b (t ∷ filter p ts) (filter p ts)) (h t (inl refl)) ∙ ap (λ us. cond (q t) (t ∷ us) us) (filter-same p q ts (λ u i. h u (inr i)))
+
+    other : (t : ℕ) → (t == leaf_tag group x) ≡ false → ((z : Leaf) × In z xs × ((leaf_tag group z == t) ≡ true)) → list_any (λ leaf. leaf_tag group leaf == t) rest ≡ true
+    other t e found = elim (split found.0 found.1) [
+      | inl same ↦
+          let a : leaf_tag group found.0 ≡ t = eqb-true _ _ found.2 in
+          let b : leaf_tag group found.0 ≡ leaf_tag group x = ap (leaf_tag group) same in
+          let c : (t == leaf_tag group x) ≡ true = eq-eqb t (leaf_tag group x) (sym a ∙ b) in
+          absurd (both _ c e)
+      | inr j ↦ In-any (λ leaf. leaf_tag group leaf == t) found.0 rest j found.2
+    ]

@@ -1,18 +1,18 @@
 -- The kept leaf of a name, and the leaves without it.
-use Rattle.std.proofs.Common.{◌≡◌, refl, sym, ◌∙◌, subst, ℕ, Bool, true, false, not, List}
+use Rattle.std.proofs.Common.{◌≡◌, refl, sym, ◌∙◌, subst, ℕ, Bool, true, false, not, List, [], ◌∷◌, ◌∷◌, ap, inl, cond, inr}
 use Rattle.std.specs.Prelude.{filter}
 use Rattle.std.proofs.lemmas.Bool.{not-true}
 use Rattle.xl_model.specs.declared.address.Order.{Order}
 use Rattle.xl_model.specs.declared.leaf.Leaf.{Leaf}
-use Rattle.xl_model.specs.Mapping.{is_leaf, leaf_key, without_leaf}
+use Rattle.xl_model.specs.Mapping.{is_leaf, leaf_key, without_leaf, meets_block}
 use Rattle.xl_mapping.specs.Members.{In}
-use Rattle.xl_mapping.proofs.MemberLemmas.{filter-In, filter-passes, In-filter}
+use Rattle.xl_mapping.proofs.MemberLemmas.{filter-In, filter-passes, In-filter, all-In, any-false}
 use Rattle.xl_mapping.proofs.InsertionLemmas.{sorted-without, without-In, without-other, In-without, same-place}
 use Rattle.xl_mapping.proofs.PlaceLemmas.{named-key}
-use Rattle.xl_mapping.specs.Kept.{IsKept, mapping_of, without_named}
+use Rattle.xl_mapping.specs.Kept.{IsKept, mapping_of, without_named, IsPlaced}
 use Rattle.xl_mapping.proofs.SortedLemmas.{same-sorted}
 use Rattle.xl_mapping.proofs.SameLemmas.{both}
-use Rattle.xl_mapping.proofs.KeptLemmas.{mapping-sorted, mapping-In, In-mapping, kept-filter}
+use Rattle.xl_mapping.proofs.KeptLemmas.{mapping-sorted, mapping-In, In-mapping, kept-filter, key-apart}
 
 -- a leaf that has the named leaf's place is that leaf
 pub named-one : (s f : ℕ) (o : Order) (old z : Leaf) (xs : List Leaf) → IsKept xs → In old xs → is_leaf s f o old ≡ true → In z xs → leaf_key z ≡ leaf_key old → z ≡ old
@@ -48,7 +48,32 @@ mapping-without s f o old xs k i named =
     In-without z old.space old.first (mapping_of xs) (In-mapping z xs k n)
     (other-key s f o old z xs k i named n (not-true (is_leaf s f o z) (filter-passes p z xs m))))
 
-
 pub kept-without : (s f : ℕ) (o : Order) (xs : List Leaf) → IsKept xs → IsKept (without_named s f o xs)
 unfolding without_named
 kept-without s f o xs k = kept-filter _ xs k
+
+-- the list without the leaves of a name, one leaf after another
+pub without-none : (s f : ℕ) (o : Order) → without_named s f o [] ≡ []
+unfolding without_named
+without-none s f o = refl
+
+pub without-yes : (s f : ℕ) (o : Order) (x : Leaf) (xs : List Leaf) → is_leaf s f o x ≡ true → without_named s f o (x ∷ xs) ≡ without_named s f o xs
+unfolding without_named
+without-yes s f o x xs t = ap (λ b. cond (not b) (x ∷ filter (λ leaf. not (is_leaf s f o leaf)) xs) (filter (λ leaf. not (is_leaf s f o leaf)) xs)) t
+
+pub without-no : (s f : ℕ) (o : Order) (x : Leaf) (xs : List Leaf) → is_leaf s f o x ≡ false → without_named s f o (x ∷ xs) ≡ x ∷ without_named s f o xs
+unfolding without_named
+without-no s f o x xs t = ap (λ b. cond (not b) (x ∷ filter (λ leaf. not (is_leaf s f o leaf)) xs) (filter (λ leaf. not (is_leaf s f o leaf)) xs)) t
+
+pub without-all : (s f : ℕ) (o : Order) (xs : List Leaf) → ((x : Leaf) → In x xs → is_leaf s f o x ≡ false) → without_named s f o xs ≡ xs
+without-all s f o [] n = without-none s f o
+without-all s f o (x ∷ xs) n = without-no s f o x xs (n x (inl refl)) ∙ ap (λ ys. x ∷ ys) (without-all s f o xs (λ y i. n y (inr i)))
+
+-- behind a named leaf no other has the name
+pub behind : (s f : ℕ) (o : Order) (x : Leaf) (xs : List Leaf) → IsKept (x ∷ xs) → is_leaf s f o x ≡ true → (z : Leaf) → In z xs → is_leaf s f o z ≡ false
+behind s f o x xs k t z i =
+    elim (is_leaf s f o z) as (λ b. is_leaf s f o z ≡ b → b ≡ false) [
+      | true ↦ λ u. absurd (key-apart x z (all-In IsPlaced x (x ∷ xs) k.placed (inl refl)) (all-In IsPlaced z (x ∷ xs) k.placed (inr i))
+          (any-false (meets_block x.space x.first x.order) z xs k.apart.0 i) (named-key s f o z u ∙ sym (named-key s f o x t)))
+      | false ↦ λ u. refl
+    ] refl

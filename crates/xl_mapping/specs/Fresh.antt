@@ -37,18 +37,21 @@ pub record TagFresh (levels level : ℕ) (leaves : List Leaf) (nodes : List (Opt
 
 -- the nodes cached for one level are fresh
 abbrev pub LevelFresh : ℕ → ℕ → List Leaf → List (Option Node) → Cached Numbered → Type 0
-LevelFresh levels level leaves nodes c = (e : Numbered) → In e c.items → TagFresh levels level leaves nodes e
+LevelFresh levels level leaves nodes c =
+    (e : Numbered) → In e c.items → TagFresh levels level leaves nodes e
 
 -- the caches of this level and of those above it are fresh
 abbrev pub TagsFresh : ℕ → ℕ → List Leaf → List (Option Node) → List (Cached Numbered) → Type 0
 TagsFresh levels level leaves nodes [] = Unit {0}
-TagsFresh levels level leaves nodes (c ∷ cs) = LevelFresh levels level leaves nodes c × TagsFresh levels (level + 1) leaves nodes cs
+TagsFresh levels level leaves nodes (c ∷ cs) =
+    LevelFresh levels level leaves nodes c × TagsFresh levels (level + 1) leaves nodes cs
 
 -- a section in which some leaf lies
 abbrev pub has_leaves : Section → Bool
 has_leaves s = s.has_k4 || (s.has_m2 || s.has_g1)
 
--- a cached section has the mapping's bits, and the way in which its leaf's key stands; some leaf lies in it
+-- a cached section has the mapping's bits, and the way in which its leaf's key stands; some leaf
+-- lies in it
 pub record SectionFresh (size : Order) (leaves : List Leaf) (ways : List WayShape) (s : Section) : Type 0 where
   pub is : s ≡ section_of size s.space s.block leaves ways
   pub some : has_leaves s ≡ true
@@ -57,7 +60,8 @@ pub record SectionFresh (size : Order) (leaves : List Leaf) (ways : List WayShap
 abbrev pub SectionsFresh : Order → List Leaf → List WayShape → Cached Section → Type 0
 SectionsFresh size leaves ways c = (s : Section) → In s c.items → SectionFresh size leaves ways s
 
--- a page of a range is covered by a leaf of the range's order and permission, with the frame that the range says
+-- a page of a range is covered by a leaf of the range's order and permission, with the frame that
+-- the range says
 pub record PageCovered (leaves : List Leaf) (r : Range) (page : ℕ) : Type 0 where
   pub leaf : Leaf
   pub member : In leaf leaves
@@ -75,7 +79,8 @@ pub record RangeFresh (leaves : List Leaf) (r : Range) : Type 0 where
 abbrev pub RangesFresh : List Leaf → Cached Range → Type 0
 RangesFresh leaves c = (r : Range) → In r c.items → RangeFresh leaves r
 
--- the walk caches of a table are fresh, each kind in its own way; a hashed or clustered table has none
+-- the walk caches of a table are fresh, each kind in its own way; a hashed or clustered table has
+-- none
 abbrev pub CachesFresh : Shape → Caches → List Leaf → Type 0
 CachesFresh (Radix levels spaces nodes) (NodeCaches cs) leaves = TagsFresh levels 0 leaves nodes cs
 CachesFresh (Cuckoo rules ways) (SectionCaches m2 g1) leaves =

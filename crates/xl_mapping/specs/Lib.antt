@@ -1,9 +1,12 @@
 pub mod Members
 pub mod Buckets
-pub mod Sections
 pub mod Lowest
 pub mod Mappings
 pub mod Kept
+pub mod Sections
+pub mod Entries
 pub mod Limits
+pub mod Codes
 pub mod Pools
 pub mod Fresh
+pub mod Scenes

@@ -17,7 +17,8 @@ pub record IsLowest (frames size : ℕ) (leaves : List Leaf) (at : ℕ) : Type 0
 
 -- no such block is free
 abbrev pub HasNoFree : ℕ → ℕ → List Leaf → Type 0
-HasNoFree frames size leaves = (e : ℕ) → e * size + size ≤ frames → IsFree size (e * size) leaves → ⊥
+HasNoFree frames size leaves =
+    (e : ℕ) → e * size + size ≤ frames → IsFree size (e * size) leaves → ⊥
 
 -- what is found is the lowest; where nothing is, there is none
 abbrev pub IsAnswer : ℕ → ℕ → List Leaf → Option ℕ → Type 0

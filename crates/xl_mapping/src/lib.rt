@@ -1,2 +1,4 @@
-//! What many crates need to know of mappings: members found by tests, a leaf put in and taken out.
+//! Definitions and lemmas on mappings that the tables, the machine and the laws stand on: members
+//! found by tests, leaves put in and taken out, kept leaves and their tags, counts of leaves, what
+//! is fresh in arrays and caches, pools of frames, and rows served together. It has no code.
 #![tactic(auto)]

@@ -1,7 +1,7 @@
 //! What a walk reads from.
 
-ghost use Rattle.std.specs.Prelude.{ℕ, ◌≡◌, ◌+◌, ◌*◌, ◌<◌, List, length, IfSome, IfNone};
-ghost use Rattle.xl_phys.specs.Lines.{IsLine, counted};
+ghost use Rattle.std.specs.Prelude.{ℕ, ◌≡◌, ◌+◌, ◌*◌, ◌/◌, ◌<◌, List, length, IfSome, IfNone};
+ghost use Rattle.xl_phys.specs.Lines.{IsLine, IsWord, counted};
 
 /// A memory of words that is loaded by lines of four words: line k has words `4 * k` to
 /// `4 * k + 3`. A walk that is given a bus and numbers alone can answer only from what it loads.
@@ -22,6 +22,17 @@ pub trait Bus {
         ensures none { IfNone result (length (words self.old) < 4 * line + 4) }
         ensures after { self.new ≡ loaded self.old };
 
+    /// Loads the line of word `place`, and answers that word. None exactly where the line's four words
+    /// aren't all there; that counts too.
+    fn word(&mut self, place: usize) -> Option<u64>
+        ensures some { IfSome result (IsWord (words self.old) place) }
+        ensures none { IfNone result (length (words self.old) < 4 * (place / 4) + 4) }
+        ensures after { self.new ≡ loaded self.old }
+    {
+        let line = self.load(place / 4)?;
+        Some(line[place % 4])
+    }
+
     /// The loads made so far, modulo 2^64.
     fn loads(&self) -> u64
         ensures { result ≡ count self.now };
@@ -29,6 +40,18 @@ pub trait Bus {
     ghost words_stay: { (b : Self) → words (loaded b) ≡ words b };
 
     ghost counts_one: { (b : Self) → count (loaded b) ≡ counted (count b) };
+}
+
+/// The word at `place`, None where its line isn't all there.
+pub fn word_of(words: &[u64], place: usize) -> Option<u64>
+    ensures some { IfSome result (IsWord words.now place) }
+    ensures none { IfNone result (length words.now < 4 * (place / 4) + 4) }
+{
+    if place / 4 >= words.len() / 4 {
+        None
+    } else {
+        Some(words[place])
+    }
 }
 
 /// The four words of line `line` of `words`, None where they aren't all there.

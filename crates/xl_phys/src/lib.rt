@@ -6,5 +6,5 @@ mod memory;
 #[cfg(test)]
 mod tests;
 
-pub use bus::{Bus, line_of};
+pub use bus::{Bus, line_of, word_of};
 pub use memory::PhysMem;

@@ -34,10 +34,8 @@ impl PhysMem {
         ensures words { IfOk result (λ m. m.words ≡ replicate words 0) }
         ensures loads { IfOk result (λ m. m.loads ≡ 0) }
     {
-        match vec![in alloc; 0u64; words] {
-            Ok(words) => Ok(PhysMem { words, loads: 0 }),
-            Err(_) => Err(NoMemory),
-        }
+        let words = vec![in alloc; 0u64; words]?;
+        Ok(PhysMem { words, loads: 0 })
     }
 
     /// Word `at`, without a load.

@@ -6,7 +6,8 @@ ghost use Rattle.std.specs.Vec.{vec_len, vec_capacity};
 ghost use Rattle.xl_model.specs.Addresses.{pages_of, level_of};
 ghost use Rattle.xl_model.specs.Mapping.{covers as is_covering, meets_block, is_leaf};
 ghost use Rattle.xl_model.specs.Chains.{tag_of as order_tag, leaf_tag as tag_of_leaf, bucket_of as tag_bucket, chain_of, examined};
-ghost use Rattle.xl_model.specs.Walks.{chains_reads, orders_tried, orders_up_to};
+ghost use Rattle.xl_model.specs.Walks.{orders_tried, orders_up_to};
+ghost use Rattle.xl_plain.specs.Plain.{search_loads, walk_loads as loads_of_walk};
 ghost use Rattle.xl_mapping.specs.Kept.{IsPlaced, in_front, without_named, protected_where, with_perm_named};
 
 use xl_model::{Leaf, Order, Perm, mix};
@@ -93,13 +94,13 @@ fn bucket_of(buckets: u32, tag: u64) -> u64
     mix(tag) % buckets as u64
 }
 
-/// The loads of a search for the tag in its bucket: one for the bucket, and one for each leaf up to and
-/// with the one that has the tag.
+/// The loads of a search for the tag in its bucket: one for the bucket, and one for each leaf up to
+/// and with the one that has the tag.
 pub(crate) fn loads_of(items: &[Leaf], buckets: u32, tag: u64) -> u64
     requires some { 0 < buckets }
     requires placed { All IsPlaced items.now }
     requires few { length items.now ≤ 2 ^ 20 }
-    ensures loads { result ≡ 1 + examined tag (chain_of buckets (tag_bucket buckets tag) (map (tag_of_leaf 1) items.now)) }
+    ensures loads { result ≡ search_loads buckets tag items.now }
     ensures bounded { result ≤ 2 ^ 20 + 1 }
 {
     let bucket = bucket_of(buckets, tag);
@@ -139,7 +140,7 @@ pub(crate) fn walk_loads(
     requires few { length items.now ≤ 2 ^ 20 }
     requires space_in { space < 64 }
     requires page_in { page < 2 ^ 45 }
-    ensures { result ≡ chains_reads 1 buckets (map (tag_of_leaf 1) items.now) space page (orders_tried found) }
+    ensures { result ≡ loads_of_walk buckets items.now space page found }
 {
     let k4 = loads_of(items, buckets, tag_of(space, Order::K4, page));
     let m2 = loads_of(items, buckets, tag_of(space, Order::M2, page));

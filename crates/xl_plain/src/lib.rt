@@ -1,5 +1,5 @@
-//! A plain table: the leaves of a mapping in one `Vec`, in the order of the chains of a hashed table.
-//! It serves the calls of every table, and shows how little those need.
+//! A plain table: the leaves of a mapping in one `Vec`, in the order of the chains of a hashed
+//! table. It serves the calls of every table, and shows how little those need.
 #![tactic(auto)]
 
 mod kept;

@@ -11,7 +11,8 @@ use std::alloc::Global;
 use std::marker::Model;
 use xl_model::{Leaf, NoMemory, NoRoom, Order, Perm, Reach, Refused, Structure, Walk, Work};
 
-/// A hashed table whose chains are searched leaf by leaf in one list. Nothing is allocated after `open`.
+/// A hashed table whose chains are searched leaf by leaf in one list. Nothing is allocated after
+/// `open`.
 #[derive(Drop)]
 pub struct PlainTable {
     leaves: Vec<Leaf>,
@@ -25,13 +26,15 @@ impl Model for PlainTable {
 
     ghost Value = { TableState };
 
-    ghost use Rattle.std.specs.Prelude.{◌<◌, ◌≤◌, ◌^◌};
     ghost use Rattle.std.specs.Vec.{vec_len, vec_capacity};
-    ghost use Rattle.xl_mapping.specs.Kept.{IsKept, table_of};
+    ghost use Rattle.xl_mapping.specs.Kept.{table_of};
+    ghost use Rattle.xl_plain.specs.Plain.{IsPlain};
 
     ghost view = { λ p. table_of p.buckets p.entries p.loads p.leaves.items };
 
-    ghost invariant = { λ p. IsKept p.leaves.items × (0 < p.buckets) × (p.entries ≤ 2 ^ 20) × (vec_len p.leaves ≤ p.entries) × (p.entries ≤ vec_capacity p.leaves) };
+    ghost invariant = {
+        λ p. IsPlain p.leaves.items p.buckets p.entries (vec_len p.leaves) (vec_capacity p.leaves)
+    };
 }
 
 /// The work of a change of a table that keeps no caches.

@@ -1,4 +1,5 @@
-//! The loads of walks through one bucket of three leaves, and a fourth leaf for which there is no room.
+//! The loads of walks through one bucket of three leaves, and a fourth leaf for which there is no
+//! room.
 
 ghost use Rattle.std.specs.Prelude.{◌≡◌, ◌<◌, ◌^◌};
 ghost use Rattle.xl_model.specs.Structures.{spaces_of, page_limit};
@@ -68,7 +69,8 @@ fn a_search_reads_up_to_its_leaf_and_a_full_table_refuses(rt: HostRuntime) {
             };
             assert_eq!(rt; added(&mut table, 40), Some(Err(refused)));
 
-            // One load for the bucket, and one for each leaf up to the one that is sought, newest first.
+            // One load for the bucket, and one for each leaf up to the one that is sought, newest
+            // first.
             assert_eq!(rt; loads_of(&mut table, 20), 2);
             assert_eq!(rt; loads_of(&mut table, 10), 3);
             assert_eq!(rt; loads_of(&mut table, 30), 4);

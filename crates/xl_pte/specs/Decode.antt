@@ -6,19 +6,19 @@ use Rattle.xl_model.specs.declared.perm.Perm.{Perm}
 use Rattle.xl_pte.specs.declared.word.Pte.{Pte}
 use Rattle.xl_pte.specs.declared.word.Pte.TheVariants.{Invalid, Pointer, Leaf, Reserved, Misaligned}
 
--- whether bit k of a word is set
+-- Whether bit k of a word is set.
 abbrev pub bit : ℕ → ℕ → Bool
 bit word k = word / 2 ^ k % 2 == 1
 
--- the PPN: the number of a node, or of a leaf's first frame
+-- The PPN: the number of a node, or of a leaf's first frame.
 abbrev pub ppn_of : ℕ → ℕ
 ppn_of word = word / 2 ^ 10 % 2 ^ 44
 
--- a node's number at level 0 is reserved: the walk can't go on
+-- A pointer says its node; at level 0 it is reserved, since the walk can't go on.
 abbrev pub pointer_at : ℕ → ℕ → Pte
 pointer_at level number = if level == 0 then Reserved else Pointer number
 
--- a leaf's first frame is a multiple of the frames that the leaf has
+-- A leaf of a level is misaligned unless its first frame is a multiple of its 512^level frames.
 abbrev pub leaf_at : ℕ → ℕ → Perm → Pte
 leaf_at level number p = if number % 2 ^ (9 * level) == 0 then Leaf number p else Misaligned
 
@@ -30,6 +30,8 @@ says false false true u level number =
     leaf_at level number (record { r = false; w = false; x = true; u = u; legal = refl })
 says true w x u level number = leaf_at level number (record { r = true; w = w; x = x; u = u; legal = refl })
 
+-- What a word says at a level: nothing where V isn't set, reserved where any of bits 54 to 63 is set, else what
+-- the bits R, W, X and U say.
 unfoldable pub decode_of : ℕ → ℕ → Pte
 decode_of word level =
     if bit word 0
@@ -38,7 +40,7 @@ decode_of word level =
     else Reserved)
     else Invalid
 
--- numbers are below 2^44, and permissions are legal
+-- The number that a word says is below 2^44, and its permission is legal.
 abbrev pub IsProper : Pte → Type 0
 IsProper (Pointer node) = node < 2 ^ 44
 IsProper (Leaf frame p) = (frame < 2 ^ 44) × IsTrue (is_legal p.r p.w p.x)

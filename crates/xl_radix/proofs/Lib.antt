@@ -1,20 +1,26 @@
-pub mod Cases
-pub mod Lists
-pub mod Numbers
-pub mod Ups
-pub mod Meets
-pub mod Slots
-pub mod Ends
-pub mod Made
-pub mod Placed
-pub mod Backs
-pub mod Counts
-pub mod Steps
-pub mod Paths
-pub mod Opening
-pub mod Looks
-pub mod Walks
-pub mod Unplaced
-pub mod Freed
-pub mod Removals
-pub mod Shapes
+mod CaseLemmas
+mod ListLemmas
+pub mod NumberLemmas
+mod UpLemmas
+mod MeetLemmas
+mod SlotLemmas
+mod EndLemmas
+mod MadeNodeLemmas
+mod PlacedLeafLemmas
+mod ReadBackLemmas
+mod CountLemmas
+mod StepLemmas
+mod PathLemmas
+mod OpeningLemmas
+mod PoolLemmas
+mod LookLemmas
+mod FoundLemmas
+mod FilledLemmas
+mod WalkLemmas
+mod TakenLeafLemmas
+pub mod FreedNodeLemmas
+mod RemovalLemmas
+mod ShapeLemmas
+pub mod TakingLemmas
+mod PermLemmas
+mod ShiftLemmas

@@ -1,5 +1,5 @@
-pub mod Image
 pub mod ReadBack
+pub mod Filled
 pub mod Walk
 pub mod Table
 pub mod Steps

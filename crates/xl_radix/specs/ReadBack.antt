@@ -10,14 +10,14 @@ use Rattle.xl_pte.specs.Decode.{decode_of}
 use Rattle.xl_pte.specs.declared.word.Pte.{Pte}
 use Rattle.xl_pte.specs.declared.word.Pte.TheVariants as pte
 
--- the order of the leaves of a level; levels above 2 have none
+-- The order of the leaves of a level; levels above 2 have none.
 abbrev pub order_of : ℕ → Option Order
 order_of zero = Some order.K4
 order_of (suc zero) = Some order.M2
 order_of (suc (suc zero)) = Some order.G1
 order_of (suc (suc (suc l))) = None
 
--- what a word says, at this place of a node
+-- The leaf of a space and a block of pages that a word of this order says.
 abbrev pub leaf_said : ℕ → ℕ → Option Order → Pte → Option Leaf
 leaf_said space block None word = None
 leaf_said space block (Some o) (pte.Leaf frame perm) =
@@ -27,19 +27,21 @@ leaf_said space block (Some o) (pte.Pointer node) = None
 leaf_said space block (Some o) pte.Reserved = None
 leaf_said space block (Some o) pte.Misaligned = None
 
+-- The leaf that a word says, at this index of a node.
 abbrev pub leaf_by : Option Node → ℕ → ℕ → Option Leaf
 leaf_by None index word = None
 leaf_by (Some node) index word =
     leaf_said node.space (node.prefix * 512 + index) (order_of node.level) (decode_of word node.level)
 
+-- The leaf that the word at a place says.
 unfoldable pub leaf_here : List (Option Node) → List ℕ → ℕ → Option Leaf
 leaf_here nodes words place = leaf_by (slice_index_or nodes (place / 512) None) (place % 512) (slice_index words place)
 
--- the leaves at the first places
+-- The leaves that the words at the first places say.
 abbrev pub read_to : List (Option Node) → List ℕ → ℕ → List Leaf
 read_to nodes words zero = []
 read_to nodes words (suc place) = with_new (leaf_here nodes words place) (read_to nodes words place)
 
--- the leaves of all words, sorted
+-- The leaves that all words say, sorted.
 unfoldable pub read_back : List (Option Node) → List ℕ → List Leaf
 read_back nodes words = read_to nodes words (length nodes * 512)

@@ -1,12 +1,16 @@
 -- Steps of the walk and of the making of nodes.
-use Rattle.std.specs.Prelude.{ℕ, suc, ◌≡◌, ◌+◌, ◌-◌, ◌<◌, ◌≤◌, true, ◌⊎◌, List, length, slice_index_or, Option, None}
+use Rattle.std.specs.Prelude.{ℕ, suc, ◌≡◌, ◌+◌, ◌-◌, ◌<◌, ◌≤◌, true, false, ◌⊎◌, List, length, slice_index_or, Option, None, Some}
 use Rattle.xl_model.specs.declared.leaf.Leaf.{Leaf}
-use Rattle.xl_model.specs.Nodes.{up, Node, is_below, number_of, with_path, missing, free_count}
-use Rattle.xl_model.specs.Shapes.{Shape, Radix}
-use Rattle.xl_radix.specs.Image.{leaf_in}
+use Rattle.xl_model.specs.declared.address.Order.{Order}
+use Rattle.xl_model.specs.Changes.{Change, Relocate, IsNamed, changed}
+use Rattle.xl_model.specs.Mapping.{with_leaf, without_leaf, meets_any}
+use Rattle.xl_model.specs.Nodes.{up, Node, is_below, number_of, with_path, with_leaf_nodes, missing, free_count}
+use Rattle.xl_model.specs.Shapes.{Shape, Radix, brought, shape_after}
+use Rattle.xl_model.specs.Structures.{IsLeafFor}
+use Rattle.xl_model.specs.Image.{leaf_in}
 use Rattle.xl_radix.specs.Table.{Table}
 
--- a number's node is that of a page at a level
+-- The node of this number is the page's at this level.
 pub record Stands (space page level number : ℕ) (nodes : List (Option Node)) : Type 0 where
   pub stands : is_below space (suc level) (up (suc level) page) (slice_index_or nodes number None) ≡ true
 
@@ -26,7 +30,7 @@ pub record IsReady (space page level number : ℕ) (leaves : List Leaf) (nodes :
   pub empty : leaf_in space level (up level page) leaves ≡ None
   pub absent : number_of space level (up level page) nodes ≡ None
 
--- the shape of a table of this many levels
+-- The shape of a table of this many levels.
 abbrev pub shape_of : ℕ → Table → Shape
 shape_of levels t = Radix levels t.spaces t.nodes
 
@@ -35,8 +39,31 @@ pub record IsLess (old new : List (Option Node)) : Type 0 where
   pub size : length new ≡ length old
   pub each : (n : ℕ) → (slice_index_or new n None ≡ slice_index_or old n None) ⊎ (slice_index_or new n None ≡ None)
 
--- So many nodes were given back, and none that stands at the page at this level or above.
-pub record IsTaken (space page level given : ℕ) (old new : List (Option Node)) : Type 0 where
+-- So many nodes were given back, and none of this level or above.
+pub record IsTaken (level given : ℕ) (old new : List (Option Node)) : Type 0 where
   pub less : IsLess old new
-  pub others : (h n : ℕ) → level ≤ h → Stands space page h n old → Stands space page h n new
+  pub others : (a b c n : ℕ) → level < b → is_below a b c (slice_index_or old n None) ≡ true → is_below a b c (slice_index_or new n None) ≡ true
   pub count : free_count new ≡ free_count old + given
+
+-- A leaf that moves, as it stands afterwards: a leaf that the table can take, at a block that no leaf meets.
+-- Beside it the old one still has its name, and without the old one the mapping is that after the move.
+pub record IsMove (top spaces space first to : ℕ) (order : Order) (leaf : Leaf) (leaves : List Leaf) (nodes : List (Option Node)) : Type 0 where
+  pub brings : brought (Relocate space first to order) leaves ≡ Some leaf
+  pub valid : IsLeafFor (Radix top spaces nodes) leaf
+  pub free : meets_any leaf.space leaf.first leaf.order leaves ≡ false
+  pub named : IsNamed space first order (with_leaf leaf leaves)
+  pub after : without_leaf space first (with_leaf leaf leaves) ≡ changed (Relocate space first to order) leaves
+
+-- The nodes with those that a leaf lacks, where there is a leaf.
+abbrev pub with_brought : ℕ → Option Leaf → List (Option Node) → List (Option Node)
+with_brought top None nodes = nodes
+with_brought top (Some leaf) nodes = with_leaf_nodes top leaf nodes
+
+-- A change was made: the nodes that the new leaf lacked have come, and then so many that no leaf needs were
+-- given back.
+pub record IsMade (top : ℕ) (c : Change) (given : ℕ) (old new : Table) : Type 0 where
+  pub leaves : new.leaves ≡ changed c old.leaves
+  pub shape : shape_of top new ≡ shape_after c old.leaves (shape_of top old)
+  pub less : IsLess (with_brought top (brought c old.leaves) old.nodes) new.nodes
+  pub count : free_count new.nodes ≡ free_count (with_brought top (brought c old.leaves) old.nodes) + given
+  pub loads : new.loads ≡ old.loads

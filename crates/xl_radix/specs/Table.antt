@@ -4,7 +4,7 @@ use Rattle.xl_model.specs.declared.leaf.Leaf.{Leaf}
 use Rattle.xl_model.specs.Addresses.{level_of, pages_of}
 use Rattle.xl_model.specs.Nodes.{up, Node, is_below, in_nodes, number_of}
 use Rattle.xl_mapping.specs.Members.{In, IsSorted}
-use Rattle.xl_radix.specs.Image.{word_of}
+use Rattle.xl_model.specs.Image.{word_of}
 
 -- A radix table: its leaves, its nodes by number, its words, its spaces, and the loads made of it.
 pub record Table : Type 0 where
@@ -60,16 +60,17 @@ pub record IsExact (top : ℕ) (leaves : List Leaf) (nodes : List (Option Node))
 pub record IsNearly (top space page l : ℕ) (leaves : List Leaf) (nodes : List (Option Node)) : Type 0 where
   pub nearly : (a b c n : ℕ) → is_below a b c (slice_index_or nodes n None) ≡ true → (b ≡ top) ⊎ ((in_nodes a b c leaves ≡ true) ⊎ ((a ≡ space) × (l < b) × (c ≡ up b page)))
 
--- the words of the first places that aren't 0
+-- 1 for a word that isn't 0, else 0.
 abbrev pub one_if_filled : ℕ → ℕ
 one_if_filled zero = 0
 one_if_filled (suc word) = 1
 
+-- How many of the words from a place on, so many of them, aren't 0.
 unfoldable pub filled : List ℕ → ℕ → ℕ → ℕ
 filled words from zero = 0
 filled words from (suc n) = filled words from n + one_if_filled (slice_index words (from + n))
 
--- each node's number of words that aren't 0
+-- Each number's count is how many of its words aren't 0.
 pub record IsCounted (nodes : List (Option Node)) (words : List ℕ) (used : List ℕ) : Type 0 where
   pub places : length used ≡ length nodes
   pub each : (n : ℕ) → n < length nodes → slice_index used n ≡ filled words (n * 512) 512

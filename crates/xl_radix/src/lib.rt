@@ -3,6 +3,7 @@
 #![tactic(auto)]
 
 mod node;
+pub mod numbering;
 mod radix;
 mod store;
 #[cfg(test)]
@@ -11,5 +12,5 @@ mod walk_end;
 
 pub use node::Node;
 pub use radix::Radix;
-pub use store::index_of;
+pub use store::{block_of, index_of, leaf_of};
 pub use walk_end::WalkEnd;

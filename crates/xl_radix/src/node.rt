@@ -20,7 +20,8 @@ impl Model for Node {
 }
 
 impl Node {
-    ghost use Rattle.std.specs.Prelude.{◌≡◌};
+    ghost use Rattle.std.specs.Prelude.{◌≡◌, ◌+◌, Some};
+    ghost use Rattle.xl_model.specs.Nodes.{is_below};
 
     /// The node of this name.
     pub fn new(space: u16, level: u8, prefix: u64) -> Node
@@ -31,5 +32,12 @@ impl Node {
             level,
             prefix,
         }
+    }
+
+    /// Whether the node has this name.
+    pub fn has_name(&self, space: u16, level: usize, prefix: u64) -> bool
+        ensures { result ≡ is_below space (level + 1) prefix (Some self.now) }
+    {
+        self.space == space && (self.level as usize == level && self.prefix == prefix)
     }
 }

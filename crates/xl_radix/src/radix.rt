@@ -1,19 +1,19 @@
 //! The table.
 
-ghost use Rattle.std.specs.Prelude.{◌≡◌, ◌+◌, ◌*◌, ◌≤◌, ◌<◌, slice_index, length, [], IfOk, OnErr, OnOk, is_ok, false};
-ghost use Rattle.xl_model.specs.Changes.{Insert};
-ghost use Rattle.xl_model.specs.Mapping.{leaf_at_page, meets_any, with_leaf};
-ghost use Rattle.xl_model.specs.Nodes.{opening_nodes, with_leaf_nodes};
+ghost use Rattle.std.specs.Prelude.{ℕ, ◌≡◌, ◌+◌, ◌*◌, ◌%◌, ◌^◌, ◌≤◌, ◌<◌, slice_index, slice_index_or, is_some, None, length, [], IfOk, OnErr, OnOk, is_ok, false};
+ghost use Rattle.xl_model.specs.Changes.{Insert, Remove, Protect, Relocate, IsNamed};
+ghost use Rattle.xl_model.specs.Mapping.{leaf_at_page, meets_any, with_leaf, without_leaf};
+ghost use Rattle.xl_model.specs.Nodes.{number_of, opening_nodes, with_leaf_nodes};
 ghost use Rattle.xl_model.specs.Room.{has_room};
 ghost use Rattle.xl_model.specs.Shapes.{shape_after};
 ghost use Rattle.xl_model.specs.Structures.{IsBlock, IsPage, IsLeafFor};
-ghost use Rattle.xl_radix.specs.Steps.{shape_of};
+ghost use Rattle.xl_radix.specs.Steps.{shape_of, IsMove, IsMade};
 ghost use Rattle.xl_radix.specs.Walk.{WordsReadBack};
 
 use crate::store::Store;
 use std::alloc::Global;
 use std::marker::Model;
-use xl_model::{Leaf, NoMemory, NoTable, Order};
+use xl_model::{Leaf, NoMemory, NoTable, Order, Perm};
 use xl_phys::Bus;
 
 /// A radix table of LEVELS levels over words of its own. Contracts see its leaves, sorted by space and
@@ -53,14 +53,11 @@ impl<const LEVELS: usize> Radix<LEVELS> {
         ensures spaces { IfOk result (λ r. r.spaces ≡ spaces) }
         ensures loads { IfOk result (λ r. r.loads ≡ 0) }
     {
-        match Store::open(alloc, table_frames as usize, spaces) {
-            Ok(store) => Ok(Radix {
-                store,
-                free: table_frames as usize - spaces as usize,
-                loads: 0,
-            }),
-            Err(_) => Err(NoMemory),
-        }
+        Ok(Radix {
+            store: Store::open(alloc, table_frames as usize, spaces)?,
+            free: table_frames as usize - spaces as usize,
+            loads: 0,
+        })
     }
 
     /// Whether a leaf of the space has a page of the block of this order at page `first`.
@@ -102,9 +99,101 @@ impl<const LEVELS: usize> Radix<LEVELS> {
         if lacking > self.free {
             return Err(NoTable);
         }
-        self.store.place(end, leaf);
+        self.store.add_leaf(end, leaf);
         self.free -= lacking;
         Ok(())
+    }
+
+    /// Takes out a leaf that is there. The nodes that no leaf needs then are given back.
+    pub fn take_out(&mut self, space: u16, first: u64, order: Order)
+        requires { IsNamed space first order self.old.leaves }
+        ensures { (given : ℕ) × IsMade LEVELS (Remove space first order) given self.old self.new }
+    {
+        self.take_out_counted(space, first, order);
+    }
+
+    /// What `take_out` does, and how many nodes were given back.
+    pub fn take_out_counted(&mut self, space: u16, first: u64, order: Order) -> usize
+        requires { IsNamed space first order self.old.leaves }
+        ensures made { IsMade LEVELS (Remove space first order) result self.old self.new }
+        ensures leaves { self.new.leaves ≡ without_leaf space first self.old.leaves }
+    {
+        let given = self.store.take_leaf(space, first, order);
+        self.free += given;
+        given
+    }
+
+    /// Gives a leaf that is there another permission.
+    pub fn set_perm(&mut self, space: u16, first: u64, order: Order, perm: Perm)
+        requires { IsNamed space first order self.old.leaves }
+        ensures made { IsMade LEVELS (Protect space first order perm) 0 self.old self.new }
+        ensures nodes { self.new.nodes ≡ self.old.nodes }
+    {
+        self.store.set_perm(space, first, order, perm);
+    }
+
+    /// Moves a leaf that is there to a block that no leaf meets, with its frame and permission. New
+    /// nodes take the lowest free numbers before any node is given back.
+    ///
+    /// # Errors
+    ///
+    /// `NoTable` exactly where the nodes that the leaf lacks at its new place are more than the free
+    /// numbers, with the leaf still at its old place; then nothing changes.
+    pub fn shift(&mut self, space: u16, first: u64, to: u64, order: Order) -> Result<(), NoTable>
+        requires named { IsNamed space first order self.old.leaves }
+        requires block { IsBlock (shape_of LEVELS self.old) space to order }
+        requires free { meets_any space to order self.old.leaves ≡ false }
+        ensures answer { is_ok result ≡
+            has_room (Relocate space first to order) self.old.leaves (shape_of LEVELS self.old) }
+        ensures refused { OnErr result (self.new ≡ self.old) }
+        ensures made { OnOk result ((given : ℕ) ×
+            IsMade LEVELS (Relocate space first to order) given self.old self.new) }
+    {
+        self.shift_counted(space, first, to, order)?;
+        Ok(())
+    }
+
+    /// What `shift` does, and how many nodes were given back.
+    ///
+    /// # Errors
+    ///
+    /// As `shift`.
+    pub fn shift_counted(
+        &mut self,
+        space: u16,
+        first: u64,
+        to: u64,
+        order: Order,
+    ) -> Result<usize, NoTable>
+        requires named { IsNamed space first order self.old.leaves }
+        requires block { IsBlock (shape_of LEVELS self.old) space to order }
+        requires free { meets_any space to order self.old.leaves ≡ false }
+        ensures answer { is_ok result ≡
+            has_room (Relocate space first to order) self.old.leaves (shape_of LEVELS self.old) }
+        ensures refused { OnErr result (self.new ≡ self.old) }
+        ensures made { IfOk result (λ given.
+            IsMade LEVELS (Relocate space first to order) given self.old self.new) }
+    {
+        let moved = self.moved(space, first, to, order);
+        self.add(moved)?;
+        Ok(self.take_out_counted(space, first, order))
+    }
+
+    /// A leaf that is there as it would stand at another block, which no leaf meets.
+    fn moved(&self, space: u16, first: u64, to: u64, order: Order) -> Leaf
+        requires named { IsNamed space first order self.now.leaves }
+        requires block { IsBlock (shape_of LEVELS self.now) space to order }
+        requires free { meets_any space to order self.now.leaves ≡ false }
+        ensures { IsMove LEVELS self.now.spaces space first to order result self.now.leaves self.now.nodes }
+    {
+        self.store.moved(space, first, to, order)
+    }
+
+    /// Whether the node of this space, level and prefix is there.
+    pub fn has_node(&self, space: u16, level: usize, prefix: u64) -> bool
+        ensures { result ≡ is_some (number_of space (level + 1) prefix self.now.nodes) }
+    {
+        self.store.has_node(space, level, prefix)
     }
 
     /// Word `index` of node number `node`.
@@ -114,6 +203,28 @@ impl<const LEVELS: usize> Radix<LEVELS> {
         ensures { result ≡ slice_index self.now.words (node * 512 + index) }
     {
         self.store.word(node as usize, index as usize)
+    }
+
+    /// All words: 512 of each node number.
+    pub fn words(&self) -> &[u64]
+        ensures value { result.now ≡ self.entry.now.words }
+        ensures lines { length result.now % 4 ≡ 0 }
+    {
+        self.store.words()
+    }
+
+    /// Counts so many loads, which were made by reading the words at once.
+    pub fn count_loads(&mut self, loads: u64)
+        ensures { self.new ≡ record self.old { loads = (self.old.loads + loads) % 2 ^ 64 } }
+    {
+        self.loads = self.loads.wrapping_add(loads);
+    }
+
+    /// Whether a node has this number.
+    pub fn has_number(&self, number: usize) -> bool
+        ensures { result ≡ is_some (slice_index_or self.now.nodes number None) }
+    {
+        self.store.has_number(number)
     }
 
     /// What the table keeps: its words read back, by the manual's walk over a list of words, as its
@@ -138,6 +249,11 @@ impl<const LEVELS: usize> Bus for Radix<LEVELS> {
     fn load(&mut self, line: usize) -> Option<[u64; 4]> {
         self.loads = self.loads.wrapping_add(1);
         self.store.line(line)
+    }
+
+    fn word(&mut self, place: usize) -> Option<u64> {
+        self.loads = self.loads.wrapping_add(1);
+        self.store.word_in(place)
     }
 
     fn loads(&self) -> u64 {

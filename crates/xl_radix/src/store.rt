@@ -1,22 +1,25 @@
 //! The words of a radix table with its nodes, and the steps that change them.
 
-ghost use Rattle.std.specs.Prelude.{◌≡◌, ◌+◌, ◌-◌, ◌*◌, ◌/◌, ◌%◌, ◌^◌, ◌<◌, ◌≤◌, length, slice_index, slice_index_or, slice_set, true, false, None, Some, [], is_none, position, IfOk, IfSome, IfNone};
+ghost use Rattle.std.specs.Prelude.{◌≡◌, ◌+◌, ◌-◌, ◌*◌, ◌/◌, ◌%◌, ◌^◌, ◌<◌, ◌≤◌, length, slice_index, slice_index_or, slice_set, true, false, None, Some, [], is_none, is_some, position, IfOk, IfSome, IfNone};
 ghost use Rattle.xl_model.specs.Addresses.{level_of};
-ghost use Rattle.xl_model.specs.Mapping.{with_leaf, leaf_at_page, meets_any};
-ghost use Rattle.xl_model.specs.Nodes.{up, is_below, free_count, put_first, number_of, with_path, with_leaf_nodes, opening_nodes};
+ghost use Rattle.xl_model.specs.Changes.{IsNamed, Protect, changed};
+ghost use Rattle.xl_model.specs.Mapping.{with_leaf, without_leaf, leaf_named, leaf_at_page, meets_any};
+ghost use Rattle.xl_model.specs.Nodes.{up, is_below, in_nodes, free_count, put_first, number_of, with_path, with_leaf_nodes, opening_nodes, only_needed};
 ghost use Rattle.xl_model.specs.Shapes.{Radix};
 ghost use Rattle.xl_model.specs.Structures.{IsBlock, IsLeafFor};
-ghost use Rattle.xl_phys.specs.Lines.{IsLine};
+ghost use Rattle.xl_phys.specs.Lines.{IsLine, IsWord};
 ghost use Rattle.xl_radix.specs.ReadBack.{order_of as level_order, leaf_said};
 ghost use Rattle.xl_radix.specs.Walk.{WordsReadBack};
 ghost use Rattle.xl_radix.specs.Table.{IsExact, IsNearly, IsNew};
-ghost use Rattle.xl_radix.specs.Steps.{IsEnd, Stands, IsReady};
+ghost use Rattle.xl_model.specs.Image.{leaf_in};
+ghost use Rattle.xl_radix.specs.Steps.{IsEnd, Stands, IsReady, IsTaken, IsLess, IsMove};
 
 use crate::node::Node;
-use std::alloc::{AllocError, Global};
+use crate::numbering::Numbers;
+use std::alloc::Global;
 use std::marker::Model;
-use xl_model::{Leaf, Order};
-use xl_phys::line_of;
+use xl_model::{Leaf, NoMemory, Order, Perm};
+use xl_phys::{line_of, word_of};
 use xl_pte::{Pte, decode, leaf_word, pointer};
 
 /// Where a walk stands: a node and its level, and so the page's word in it.
@@ -31,7 +34,7 @@ pub struct Place {
 #[derive(Drop)]
 pub struct Store<const LEVELS: usize> {
     words: Vec<u64>,
-    nodes: Vec<Option<Node>>,
+    numbers: Numbers,
     used: Vec<u16>,
     spaces: u16,
 }
@@ -42,9 +45,9 @@ impl<const LEVELS: usize> Model for Store<LEVELS> {
 
     ghost Value = { Stored };
 
-    ghost view = { λ s. record { leaves = read_back s.nodes.items s.words.items; nodes = s.nodes.items; words = s.words.items; used = s.used.items; spaces = s.spaces } };
+    ghost view = { λ s. record { leaves = read_back s.numbers s.words.items; nodes = s.numbers; words = s.words.items; used = s.used.items; spaces = s.spaces } };
 
-    ghost invariant = { λ s. IsStore LEVELS s.spaces (read_back s.nodes.items s.words.items) s.nodes.items s.words.items s.used.items };
+    ghost invariant = { λ s. IsStore LEVELS s.spaces (read_back s.numbers s.words.items) s.numbers s.words.items s.used.items };
 }
 
 /// The order of the leaves of a level; levels above 2 have none.
@@ -60,7 +63,7 @@ fn order_of(level: usize) -> Option<Order>
 }
 
 /// The leaf that a word says, at a block of pages of its level.
-fn leaf_of(space: u16, block: u64, level: usize, pte: Pte) -> Option<Leaf>
+pub fn leaf_of(space: u16, block: u64, level: usize, pte: Pte) -> Option<Leaf>
     requires { block < 2 ^ 46 }
     ensures { result ≡ leaf_said space block (level_order level) pte }
 {
@@ -93,38 +96,11 @@ pub fn index_of(page: u64, level: usize) -> usize
     (block_of(page, level) % 512) as usize
 }
 
-/// The lowest number that no node has, None where each number has one.
-fn lowest_free(nodes: &[Option<Node>]) -> Option<usize>
-    ensures { result ≡ position is_none nodes.now }
-{
-    nodes.iter().position(|node| node.is_none())
-}
-
-/// The nodes of an opened table: the roots of `spaces` spaces, and then free numbers.
-fn opening(
-    alloc: Global,
-    levels: usize,
-    frames: usize,
-    spaces: u16,
-) -> Result<Vec<Option<Node>>, AllocError>
-    requires levels { (3 ≤ levels) × (levels ≤ 5) }
-    requires spaces { spaces ≤ frames }
-    ensures { IfOk result (λ v. v.items ≡ opening_nodes levels spaces frames) }
-{
-    let mut nodes = Vec::with_capacity(alloc, frames)?;
-    'roots: for space in 0..spaces {
-        nodes.push(Some(Node::new(space, levels as u8 - 1, 0)))?;
-    }
-    'free: for _number in spaces as usize..frames {
-        nodes.push(None)?;
-    }
-    Ok(nodes)
-}
-
 impl<const LEVELS: usize> Store<LEVELS> {
     /// A table of roots alone, with `frames` node numbers.
-    pub fn open(alloc: Global, frames: usize, spaces: u16) -> Result<Store<LEVELS>, AllocError>
+    pub fn open(alloc: Global, frames: usize, spaces: u16) -> Result<Store<LEVELS>, NoMemory>
         requires levels { (3 ≤ LEVELS) × (LEVELS ≤ 5) }
+        requires some { 0 < frames }
         requires spaces { spaces ≤ frames }
         requires frames { frames ≤ 16384 }
         ensures leaves { IfOk result (λ s. s.leaves ≡ []) }
@@ -133,12 +109,12 @@ impl<const LEVELS: usize> Store<LEVELS> {
         ensures exact { IfOk result (λ s. IsExact LEVELS s.leaves s.nodes) }
         ensures free { IfOk result (λ s. free_count s.nodes + spaces ≡ frames) }
     {
-        let nodes = opening(alloc, LEVELS, frames, spaces)?;
+        let numbers = Numbers::open(alloc, LEVELS, frames, spaces)?;
         let words = vec![in alloc; 0u64; frames * 512]?;
         let used = vec![in alloc; 0u16; frames]?;
         Ok(Store {
             words,
-            nodes,
+            numbers,
             used,
             spaces,
         })
@@ -211,6 +187,20 @@ impl<const LEVELS: usize> Store<LEVELS> {
         self.words[node * 512 + index]
     }
 
+    /// Whether a node of this name is there.
+    pub fn has_node(&self, space: u16, level: usize, prefix: u64) -> bool
+        ensures { result ≡ is_some (number_of space (level + 1) prefix self.now.nodes) }
+    {
+        self.numbers.has_node(space, level, prefix)
+    }
+
+    /// Whether a node has this number.
+    pub fn has_number(&self, number: usize) -> bool
+        ensures { result ≡ is_some (slice_index_or self.now.nodes number None) }
+    {
+        self.numbers.has(number)
+    }
+
     /// The words read back as the leaves, by the manual's walk.
     pub fn words_read_back(&self)
         requires { IsExact LEVELS self.now.leaves self.now.nodes }
@@ -218,6 +208,22 @@ impl<const LEVELS: usize> Store<LEVELS> {
     {
         // A look at a field brings in what the type keeps.
         let _words = &self.words;
+    }
+
+    /// All words.
+    pub fn words(&self) -> &[u64]
+        ensures value { result.now ≡ self.entry.now.words }
+        ensures size { length result.now ≡ length self.entry.now.nodes * 512 }
+    {
+        &self.words
+    }
+
+    /// The word at a place, None where its line isn't all there.
+    pub fn word_in(&self, place: usize) -> Option<u64>
+        ensures some { IfSome result (IsWord self.now.words place) }
+        ensures none { IfNone result (length self.now.words < 4 * (place / 4) + 4) }
+    {
+        word_of(&self.words, place)
     }
 
     /// The four words of a line, None where they aren't all there.
@@ -229,7 +235,7 @@ impl<const LEVELS: usize> Store<LEVELS> {
     }
 
     /// Makes the node below a slot that is empty, under the lowest free number.
-    fn make(&mut self, space: u16, page: u64, above: Place) -> usize
+    fn make_node(&mut self, space: u16, page: u64, above: Place) -> usize
         requires ready { IsReady space page above.level above.node self.old.leaves self.old.nodes }
         requires low { 0 < above.level }
         requires high { above.level < LEVELS }
@@ -241,12 +247,13 @@ impl<const LEVELS: usize> Store<LEVELS> {
         ensures nearly { (l : _) → l < above.level → IsNearly LEVELS space page l self.old.leaves self.old.nodes → IsNearly LEVELS space page l self.new.leaves self.new.nodes }
         ensures free { free_count self.new.nodes + 1 ≡ free_count self.old.nodes }
     {
-        let Some(number) = lowest_free(&self.nodes) else {
+        // What the type keeps comes in by a look at a field.
+        let _words = &self.words;
+        let name = Node::new(space, above.level as u8 - 1, block_of(page, above.level));
+        let Some(number) = self.numbers.take(name) else {
             unreachable!()
         };
         let at = above.node * 512 + index_of(page, above.level);
-        let name = Node::new(space, above.level as u8 - 1, block_of(page, above.level));
-        self.nodes[number] = Some(name);
         self.words[at] = pointer(number as u64);
         self.used[above.node] += 1;
         number
@@ -254,7 +261,7 @@ impl<const LEVELS: usize> Store<LEVELS> {
 
     /// Makes the nodes of a page's path that are missing: those below an empty slot, down to level
     /// `least`, upper ones first. Answers the lowest one's number.
-    fn path(&mut self, space: u16, page: u64, from: Place, least: usize) -> usize
+    fn make_path(&mut self, space: u16, page: u64, from: Place, least: usize) -> usize
         requires ready { IsReady space page from.level from.node self.old.leaves self.old.nodes }
         requires low { least ≤ from.level }
         requires high { from.level < LEVELS }
@@ -269,7 +276,7 @@ impl<const LEVELS: usize> Store<LEVELS> {
     {
         let mut at = from;
         'down: while at.level > least {
-            let node = self.make(space, page, at);
+            let node = self.make_node(space, page, at);
             at = Place {
                 node,
                 level: at.level - 1,
@@ -279,7 +286,7 @@ impl<const LEVELS: usize> Store<LEVELS> {
     }
 
     /// Puts a leaf into its slot, which is empty.
-    fn put(&mut self, node: usize, leaf: Leaf)
+    fn write_leaf(&mut self, node: usize, leaf: Leaf)
         requires new { IsNew LEVELS self.old.spaces leaf self.old.leaves }
         requires ready { IsReady leaf.space leaf.first (level_of leaf.order) node self.old.leaves self.old.nodes }
         ensures leaves { self.new.leaves ≡ with_leaf leaf self.old.leaves }
@@ -293,7 +300,7 @@ impl<const LEVELS: usize> Store<LEVELS> {
     }
 
     /// Adds a leaf that no leaf meets, where the walk for it stops. The free numbers are enough.
-    pub fn place(&mut self, from: Place, leaf: Leaf)
+    pub fn add_leaf(&mut self, from: Place, leaf: Leaf)
         requires new { IsNew LEVELS self.old.spaces leaf self.old.leaves }
         requires exact { IsExact LEVELS self.old.leaves self.old.nodes }
         requires end { IsEnd LEVELS leaf.space leaf.first (level_of leaf.order) from.level from.node self.old.nodes }
@@ -304,7 +311,168 @@ impl<const LEVELS: usize> Store<LEVELS> {
         ensures exact { IsExact LEVELS self.new.leaves self.new.nodes }
         ensures free { free_count self.new.nodes + (from.level - level_of leaf.order) ≡ free_count self.old.nodes }
     {
-        let node = self.path(leaf.space, leaf.first, from, leaf.order.level());
-        self.put(node, leaf);
+        let node = self.make_path(leaf.space, leaf.first, from, leaf.order.level());
+        self.write_leaf(node, leaf);
+    }
+
+    /// Takes a leaf out of its slot, in the node that stands there.
+    fn clear_leaf(&mut self, space: u16, first: u64, order: Order, node: usize)
+        requires exact { IsExact LEVELS self.old.leaves self.old.nodes }
+        requires named { IsNamed space first order self.old.leaves }
+        requires at { Stands space first (level_of order) node self.old.nodes }
+        ensures leaves { self.new.leaves ≡ without_leaf space first self.old.leaves }
+        ensures nodes { self.new.nodes ≡ self.old.nodes }
+        ensures spaces { self.new.spaces ≡ self.old.spaces }
+        ensures nearly { IsNearly LEVELS space first (level_of order) self.new.leaves self.new.nodes }
+    {
+        self.used[node] -= 1;
+        let at = node * 512 + index_of(first, order.level());
+        self.words[at] = 0;
+    }
+
+    /// Gives a leaf another permission, in the node that stands at it.
+    fn write_perm(&mut self, node: usize, old: Leaf, perm: Perm)
+        requires exact { IsExact LEVELS self.old.leaves self.old.nodes }
+        requires there { leaf_named old.space old.first old.order self.old.leaves ≡ Some old }
+        requires at { Stands old.space old.first (level_of old.order) node self.old.nodes }
+        ensures leaves { self.new.leaves ≡ with_leaf (record old { perm = perm }) (without_leaf old.space old.first self.old.leaves) }
+        ensures nodes { self.new.nodes ≡ self.old.nodes }
+        ensures spaces { self.new.spaces ≡ self.old.spaces }
+        ensures exact { IsExact LEVELS self.new.leaves self.new.nodes }
+    {
+        // What the type keeps comes in by a look at a field.
+        let _words = &self.words;
+        let at = node * 512 + index_of(old.first, old.order.level());
+        self.words[at] = leaf_word(old.frame, perm);
+    }
+
+    /// Gives a leaf that is there another permission.
+    pub fn set_perm(&mut self, space: u16, first: u64, order: Order, perm: Perm)
+        requires exact { IsExact LEVELS self.old.leaves self.old.nodes }
+        requires named { IsNamed space first order self.old.leaves }
+        ensures leaves { self.new.leaves ≡ changed (Protect space first order perm) self.old.leaves }
+        ensures nodes { self.new.nodes ≡ self.old.nodes }
+        ensures spaces { self.new.spaces ≡ self.old.spaces }
+        ensures exact { IsExact LEVELS self.new.leaves self.new.nodes }
+    {
+        let _words = &self.words;
+        let Place { node, .. } = self.end_of(space, first, order.level());
+        let Some(old) = self.leaf_at(space, first) else {
+            unreachable!()
+        };
+        self.write_perm(node, old, perm);
+    }
+
+    /// A leaf that is there as it would stand at another block, which no leaf meets.
+    pub fn moved(&self, space: u16, first: u64, to: u64, order: Order) -> Leaf
+        requires exact { IsExact LEVELS self.now.leaves self.now.nodes }
+        requires named { IsNamed space first order self.now.leaves }
+        requires block { IsBlock (Radix LEVELS self.now.spaces self.now.nodes) space to order }
+        requires free { meets_any space to order self.now.leaves ≡ false }
+        ensures { IsMove LEVELS self.now.spaces space first to order result self.now.leaves self.now.nodes }
+    {
+        // What the type keeps comes in by a look at a field.
+        let _words = &self.words;
+        let Some(old) = self.leaf_at(space, first) else {
+            unreachable!()
+        };
+        Leaf {
+            space,
+            first: to,
+            order,
+            frame: old.frame,
+            perm: old.perm,
+        }
+    }
+
+    /// Gives back an empty node of a page's path.
+    fn free_node(&mut self, space: u16, page: u64, above: Place, child: usize)
+        requires low { 0 < above.level }
+        requires high { above.level < LEVELS }
+        requires at { Stands space page above.level above.node self.old.nodes }
+        requires below { Stands space page (above.level - 1) child self.old.nodes }
+        requires empty { leaf_in space above.level (up above.level page) self.old.leaves ≡ None }
+        requires unused { slice_index self.old.used child ≡ 0 }
+        requires nearly { IsNearly LEVELS space page (above.level - 1) self.old.leaves self.old.nodes }
+        ensures leaves { self.new.leaves ≡ self.old.leaves }
+        ensures spaces { self.new.spaces ≡ self.old.spaces }
+        ensures taken { IsTaken above.level 1 self.old.nodes self.new.nodes }
+        ensures nearly { IsNearly LEVELS space page above.level self.new.leaves self.new.nodes }
+    {
+        self.used[above.node] -= 1;
+        let at = above.node * 512 + index_of(page, above.level);
+        self.words[at] = 0;
+        self.numbers.give(child);
+    }
+
+    /// The node below a slot that has one.
+    fn node_below(&self, space: u16, page: u64, above: Place) -> usize
+        requires exact { IsExact LEVELS self.now.leaves self.now.nodes }
+        requires at { Stands space page above.level above.node self.now.nodes }
+        requires high { above.level < LEVELS }
+        requires needed { in_nodes space above.level (up above.level page) self.now.leaves ≡ true }
+        ensures low { 0 < above.level }
+        ensures at { Stands space page (above.level - 1) result self.now.nodes }
+        ensures empty { leaf_in space above.level (up above.level page) self.now.leaves ≡ None }
+    {
+        let word = self.words[above.node * 512 + index_of(page, above.level)];
+        match decode(word, above.level) {
+            Pte::Pointer { node } => node as usize,
+            _ => unreachable!(),
+        }
+    }
+
+    /// Takes out a leaf below a node that stands at it, and gives back the nodes below this one that
+    /// are empty then. Answers how many.
+    fn take_leaf_below(&mut self, space: u16, first: u64, order: Order, from: Place) -> usize
+        requires exact { IsExact LEVELS self.old.leaves self.old.nodes }
+        requires named { IsNamed space first order self.old.leaves }
+        requires at { Stands space first from.level from.node self.old.nodes }
+        requires low { level_of order ≤ from.level }
+        requires high { from.level < LEVELS }
+        ensures leaves { self.new.leaves ≡ without_leaf space first self.old.leaves }
+        ensures spaces { self.new.spaces ≡ self.old.spaces }
+        ensures taken { IsTaken from.level result self.old.nodes self.new.nodes }
+        ensures nearly { IsNearly LEVELS space first from.level self.new.leaves self.new.nodes }
+        ensures few { result ≤ from.level }
+    {
+        if from.level == order.level() {
+            self.clear_leaf(space, first, order, from.node);
+            return 0;
+        }
+        let node = self.node_below(space, first, from);
+        let below = Place {
+            node,
+            level: from.level - 1,
+        };
+        let given = self.take_leaf_below(space, first, order, below);
+        if self.used[node] != 0 {
+            return given;
+        }
+        self.free_node(space, first, from, node);
+        given + 1
+    }
+
+    /// Takes out a leaf, and gives back the nodes that no leaf needs then. Answers how many.
+    pub fn take_leaf(&mut self, space: u16, first: u64, order: Order) -> usize
+        requires exact { IsExact LEVELS self.old.leaves self.old.nodes }
+        requires named { IsNamed space first order self.old.leaves }
+        ensures leaves { self.new.leaves ≡ without_leaf space first self.old.leaves }
+        ensures nodes { self.new.nodes ≡ only_needed LEVELS self.new.leaves self.old.nodes }
+        ensures spaces { self.new.spaces ≡ self.old.spaces }
+        ensures exact { IsExact LEVELS self.new.leaves self.new.nodes }
+        ensures free { free_count self.new.nodes ≡ free_count self.old.nodes + result }
+        ensures less { IsLess self.old.nodes self.new.nodes }
+        ensures small { free_count self.new.nodes ≤ 16384 }
+    {
+        // What the type keeps comes in by a look at a field.
+        let _words = &self.words;
+        let root = Place {
+            node: space as usize,
+            level: LEVELS - 1,
+        };
+        let given = self.take_leaf_below(space, first, order, root);
+        let _words_left = &self.words;
+        given
     }
 }

@@ -1,5 +1,7 @@
 //! What a walk over words ends with.
 
+ghost use Rattle.std.specs.Prelude.{◌≡◌};
+
 use xl_model::Perm;
 
 /// The end of the manual's walk, with the level at which it came.
@@ -27,4 +29,21 @@ pub enum WalkEnd {
     OutOfBus {
         level: usize,
     },
+}
+
+impl WalkEnd {
+    ghost use Rattle.xl_radix.specs.Walk.{end_of};
+
+    /// The level at which the walk ended.
+    pub fn level(&self) -> usize
+        ensures { result ≡ end_of self.now }
+    {
+        match *self {
+            WalkEnd::Leaf { level, .. }
+            | WalkEnd::Invalid { level }
+            | WalkEnd::Reserved { level }
+            | WalkEnd::Misaligned { level }
+            | WalkEnd::OutOfBus { level } => level,
+        }
+    }
 }

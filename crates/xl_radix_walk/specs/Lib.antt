@@ -1,1 +1,3 @@
 pub mod Path
+pub mod Row
+pub mod Quick

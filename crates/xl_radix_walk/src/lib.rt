@@ -1,9 +1,15 @@
-//! The walk of a radix table over a bus.
+//! The walk of a radix table over a bus, and the row of a radix table with its walk caches.
 #![tactic(auto)]
 
+mod caches;
+mod quick;
+mod row;
 mod step;
 #[cfg(test)]
 mod tests;
 mod walker;
 
+pub use quick::quick_frame;
+pub use row::RadixRow;
 pub use walker::walk;
+pub use xl_radix::WalkEnd;

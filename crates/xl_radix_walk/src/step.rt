@@ -1,8 +1,10 @@
 //! A step of a walk.
 
-ghost use Rattle.std.specs.Prelude.{◌≡◌, ◌<◌, ◌≤◌, ◌^◌};
-ghost use Rattle.xl_radix_walk.specs.Path.{word_in, step_of, IsStep};
+ghost use Rattle.std.specs.Prelude.{Some, ◌≡◌, ◌<◌, ◌≤◌, ◌^◌};
+ghost use Rattle.xl_pte.specs.Decode.{decode_of};
+ghost use Rattle.xl_radix_walk.specs.Path.{step_of, IsStep};
 
+use crate::quick::pointed;
 use xl_phys::Bus;
 use xl_pte::{Pte, decode};
 use xl_radix::{WalkEnd, index_of};
@@ -11,18 +13,6 @@ use xl_radix::{WalkEnd, index_of};
 pub(crate) enum Step {
     GoesOn(u64),
     Ends(WalkEnd),
-}
-
-/// Loads the word of the page in `node` of this level. None where its line isn't all there.
-fn word<B: Bus>(bus: &mut B, level: usize, node: u64, page: u64) -> Option<Pte>
-    requires level { level < 5 }
-    requires node { node < 2 ^ 44 }
-    ensures said { result ≡ word_in (B.words bus.old) level node page }
-    ensures bus { bus.new ≡ B.loaded bus.old }
-{
-    let place = node * 512 + index_of(page, level) as u64;
-    let words = bus.load((place / 4) as usize)?;
-    Some(decode(words[(place % 4) as usize], level))
 }
 
 fn said(word: Option<Pte>, level: usize) -> Step
@@ -38,6 +28,19 @@ fn said(word: Option<Pte>, level: usize) -> Step
     }
 }
 
+/// What a word says, pointers first.
+fn judged(word: u64, level: usize) -> Step
+    requires { level < 5 }
+    ensures { result ≡ step_of (Some (decode_of word level)) level }
+{
+    if level > 0 {
+        if let Some(next) = pointed(word) {
+            return Step::GoesOn(next);
+        }
+    }
+    said(Some(decode(word, level)), level)
+}
+
 /// Loads the word of the page in `node` of this level, and says what it says.
 pub(crate) fn take_step<B: Bus>(bus: &mut B, level: usize, node: u64, page: u64) -> Step
     requires level { level < 5 }
@@ -45,6 +48,9 @@ pub(crate) fn take_step<B: Bus>(bus: &mut B, level: usize, node: u64, page: u64)
     ensures is_step { IsStep (B.words bus.old) level node page result }
     ensures bus { bus.new ≡ B.loaded bus.old }
 {
-    let word = word(bus, level, node, page);
-    said(word, level)
+    let place = node * 512 + index_of(page, level) as u64;
+    match bus.word(place as usize) {
+        None => Step::Ends(WalkEnd::OutOfBus { level }),
+        Some(word) => judged(word, level),
+    }
 }

@@ -1,8 +1,9 @@
 //! The walk.
 
-ghost use Rattle.std.specs.Prelude.{◌≡◌, ℕ, ◌+◌, ◌-◌, ◌*◌, ◌^◌, ◌%◌, ◌<◌, ◌≤◌, [], ◌++◌};
+ghost use Rattle.std.specs.Prelude.{◌≡◌, ℕ, ◌+◌, ◌-◌, ◌*◌, ◌^◌, ◌%◌, ◌<◌, ◌≤◌, [], ◌++◌, length};
 ghost use Rattle.xl_radix.specs.Walk.{radix_back};
-ghost use Rattle.xl_radix_walk.specs.Path.{end_of, radix_path, loaded_times};
+ghost use Rattle.xl_radix.specs.Walk.{end_of};
+ghost use Rattle.xl_radix_walk.specs.Path.{radix_path, loaded_times};
 
 use crate::step::{Step, take_step};
 use arrayvec::ArrayVec;
@@ -26,6 +27,7 @@ pub fn walk<B: Bus, const LEVELS: usize>(
     ensures end { result ≡ radix_back (B.words bus.old) start node page }
     ensures path { path.new.items ≡ radix_path (B.words bus.old) start node page }
     ensures level { end_of result ≤ start }
+    ensures length { length path.new.items + end_of result ≡ start }
     ensures bus { bus.new ≡ loaded_times B.loaded (start + 1 - end_of result) bus.old }
 {
     let mut level = start;

@@ -1,5 +1,5 @@
-pub mod Scans
-pub mod Totals
-pub mod Order
-pub mod Touches
-pub mod Ranks
+mod ScanLemmas
+mod TotalLemmas
+mod OrderLemmas
+mod TouchLemmas
+mod RankLemmas

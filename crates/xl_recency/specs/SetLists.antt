@@ -4,17 +4,20 @@ use Rattle.xl_recency.specs.declared.item.Item.{Item}
 use Rattle.xl_recency.specs.declared.associative.Lists.{Lists}
 use Rattle.xl_recency.specs.declared.associative.Lists.TheVariants as lists
 
--- sets of at most `width` items each, newest first
+-- Sets of recency lists, each of at most `width` items, newest first.
 pub record SetLists : Type 0 where
   pub width : ℕ
   pub sets : List (List Item)
 
+-- These sets, of this width.
 abbrev pub of_width : ℕ → List (List Item) → SetLists
 of_width width sets = record { width = width; sets = sets }
 
+-- As many empty sets as `count` says, of this width.
 abbrev pub empty_sets : ℕ → ℕ → SetLists
 empty_sets width count = of_width width (replicate count [])
 
+-- The sets that stand in the variant of their width, with that width.
 abbrev pub lists_in : Lists → SetLists
 lists_in (lists.W1 sets) = of_width 1 sets
 lists_in (lists.W2 sets) = of_width 2 sets

@@ -5,14 +5,16 @@ use Rattle.xl_recency.specs.declared.item.Item.{Item}
 use Rattle.xl_recency.specs.declared.cache.Slots.{Slots}
 use Rattle.xl_recency.specs.declared.cache.Slots.TheVariants as slots
 
--- 0, or one of the nine widths
+-- A width that a recency list can have: 0, 1, 2, 4, 6, 8, 12, 16, 32 or 64.
 abbrev pub IsWidth : ℕ → Type 0
 IsWidth width =
     IsTrue (width == 0 || (width == 1 || (width == 2 || (width == 4 || (width == 6 || (width == 8 || (width == 12 || (width == 16 || (width == 32 || width == 64)))))))))
 
+-- A list of items of this width.
 abbrev pub cached : ℕ → List Item → Cached Item
 cached width items = record { width = width; items = items }
 
+-- The list that stands in the variant of its width, with that width; at width 0 it is empty.
 abbrev pub cached_in : Slots → Cached Item
 cached_in slots.W0 = cached 0 []
 cached_in (slots.W1 items) = cached 1 items

@@ -1,9 +1,8 @@
 //! Recency lists by number, of one width that is known when the program runs.
 
-ghost use Rattle.std.specs.Prelude.{◌≡◌, ℕ, ◌+◌, ◌*◌, ◌^◌, ◌<◌, ◌≤◌, List, [], ◌∷◌, length, find, drop, map, replicate, slice_index_or, slice_set, option_to_list, IfOk};
+ghost use Rattle.std.specs.Prelude.{◌≡◌, ◌+◌, ◌*◌, ◌^◌, ◌<◌, ◌≤◌, length, IfOk};
 ghost use Rattle.std.specs.Fn.{FnReturnsAt};
-ghost use Rattle.xl_model.specs.Recency.{touched, with_newest, purged};
-ghost use Rattle.xl_recency.specs.Lists.{IsTest, items_in};
+ghost use Rattle.xl_recency.specs.Lists.{IsTest, items_in, TouchesIn, FillsIn, PurgesAll};
 ghost use Rattle.xl_recency.specs.Widths.{IsWidth};
 ghost use Rattle.xl_recency.specs.SetLists.{empty_sets};
 
@@ -85,9 +84,9 @@ impl SetAssociative {
     pub fn touch<P: Fn(&Item) -> bool>(&mut self, set: usize, test: P) -> Option<Item>
         requires set { set < length self.old.sets }
         requires test { P.IsAlwaysCallable test }
-        ensures found { (q : _) → IsTest (FnReturnsAt P.Fn test) q → result ≡ find q (slice_index_or self.old.sets set []) }
-        ensures moved { (q : _) → IsTest (FnReturnsAt P.Fn test) q → self.new.sets ≡ slice_set self.old.sets set (touched q (slice_index_or self.old.sets set [])) }
-        ensures count { length self.new.sets ≡ length self.old.sets }
+        ensures touched { (q : _) → IsTest (FnReturnsAt P.Fn test) q →
+            TouchesIn q set self.old.sets self.new.sets result }
+        ensures sets { length self.new.sets ≡ length self.old.sets }
         ensures width { self.new.width ≡ self.old.width }
     {
         at_width!(&mut self.lists, sets => sets.touch(set, test))
@@ -96,8 +95,7 @@ impl SetAssociative {
     /// Puts the item in front of the set, and gives the one that left: Some where the set was full.
     pub fn fill(&mut self, set: usize, item: Item) -> Option<Item>
         requires { set < length self.old.sets }
-        ensures list { self.new.sets ≡ slice_set self.old.sets set (with_newest self.old.width item (slice_index_or self.old.sets set [])) }
-        ensures left { option_to_list result ≡ drop self.old.width (item ∷ slice_index_or self.old.sets set []) }
+        ensures filled { FillsIn self.old.width set item self.old.sets self.new.sets result }
         ensures width { self.new.width ≡ self.old.width }
     {
         at_width!(&mut self.lists, sets => sets.fill(set, item))
@@ -107,9 +105,11 @@ impl SetAssociative {
     /// left.
     pub fn remove_where<P: Fn(&Item) -> bool>(&mut self, test: P) -> u64
         requires { P.IsAlwaysCallable test }
-        ensures kept { (q : _) → IsTest (FnReturnsAt P.Fn test) q → self.new.sets ≡ map (purged q) self.old.sets }
-        ensures left { result + items_in self.new.sets ≡ items_in self.old.sets }
-        ensures count { length self.new.sets ≡ length self.old.sets }
+        ensures kept { (q : _) → IsTest (FnReturnsAt P.Fn test) q →
+            PurgesAll q self.old.sets self.new.sets result }
+        ensures count { result + items_in self.new.sets ≡ items_in self.old.sets }
+        ensures most { result ≤ 64 * length self.old.sets }
+        ensures sets { length self.new.sets ≡ length self.old.sets }
         ensures width { self.new.width ≡ self.old.width }
     {
         at_width!(&mut self.lists, sets => sets.remove_where(test))

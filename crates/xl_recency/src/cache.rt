@@ -1,10 +1,9 @@
 //! A recency list of a width that is known when the program runs.
 
-ghost use Rattle.std.specs.Prelude.{◌≡◌, ℕ, ◌+◌, ◌*◌, ◌^◌, ◌<◌, ◌≤◌, List, [], ◌∷◌, length, find, drop, option_to_list, IfOk};
+ghost use Rattle.std.specs.Prelude.{◌≡◌, ◌+◌, ◌≤◌, length, IsOk, IfOk};
 ghost use Rattle.std.specs.Fn.{FnReturnsAt};
-ghost use Rattle.xl_model.specs.Recency.{touched, with_newest, purged};
 ghost use Rattle.xl_model.specs.Caches.{empty_cache};
-ghost use Rattle.xl_recency.specs.Lists.{IsTest};
+ghost use Rattle.xl_recency.specs.Lists.{IsTest, Touches, Fills, Purges};
 ghost use Rattle.xl_recency.specs.Widths.{IsWidth};
 
 use crate::item::Item;
@@ -64,10 +63,11 @@ macro_rules! at_width {
 }
 
 impl Cache {
-    /// An empty list of the width.
+    /// An empty list of the width. It stands in the value itself, so memory is never wanting.
     pub fn open(alloc: Global, width: u8) -> Result<Cache, NoMemory>
         requires { IsWidth width }
-        ensures { IfOk result (λ cache. cache ≡ empty_cache width) }
+        ensures ok { IsOk result }
+        ensures empty { IfOk result (λ cache. cache ≡ empty_cache width) }
     {
         let slots = match width {
             0 => Slots::W0,
@@ -84,12 +84,21 @@ impl Cache {
         Ok(Cache { slots })
     }
 
+    /// How many items the list holds.
+    pub fn len(&self) -> usize
+        ensures value { result ≡ length self.now.items }
+        ensures few { result ≤ self.now.width }
+        ensures width { self.now.width ≤ 64 }
+    {
+        at_width!(&self.slots, ways => ways.len(), 0)
+    }
+
     /// Brings the newest item that meets the test to the front, and gives it. None where none
     /// meets it; then nothing changes.
     pub fn touch<P: Fn(&Item) -> bool>(&mut self, test: P) -> Option<Item>
         requires { P.IsAlwaysCallable test }
-        ensures found { (q : _) → IsTest (FnReturnsAt P.Fn test) q → result ≡ find q self.old.items }
-        ensures moved { (q : _) → IsTest (FnReturnsAt P.Fn test) q → self.new.items ≡ touched q self.old.items }
+        ensures touched { (q : _) → IsTest (FnReturnsAt P.Fn test) q →
+            Touches q self.old.items self.new.items result }
         ensures width { self.new.width ≡ self.old.width }
     {
         at_width!(&mut self.slots, ways => ways.touch(test), None)
@@ -98,8 +107,7 @@ impl Cache {
     /// Puts the item in front, and gives the one that left: Some where the list was full. At width
     /// 0 that is the item itself.
     pub fn fill(&mut self, item: Item) -> Option<Item>
-        ensures list { self.new.items ≡ with_newest self.old.width item self.old.items }
-        ensures left { option_to_list result ≡ drop self.old.width (item ∷ self.old.items) }
+        ensures filled { Fills self.old.width item self.old.items self.new.items result }
         ensures width { self.new.width ≡ self.old.width }
     {
         at_width!(&mut self.slots, ways => ways.fill(item), Some(item))
@@ -108,8 +116,10 @@ impl Cache {
     /// Removes the items that meet the test; the others stay in order. Gives how many left.
     pub fn remove_where<P: Fn(&Item) -> bool>(&mut self, test: P) -> u64
         requires { P.IsAlwaysCallable test }
-        ensures kept { (q : _) → IsTest (FnReturnsAt P.Fn test) q → self.new.items ≡ purged q self.old.items }
+        ensures kept { (q : _) → IsTest (FnReturnsAt P.Fn test) q →
+            Purges q self.old.items self.new.items result }
         ensures count { result + length self.new.items ≡ length self.old.items }
+        ensures most { result ≤ 64 }
         ensures width { self.new.width ≡ self.old.width }
     {
         at_width!(&mut self.slots, ways => ways.remove_where(test), 0)

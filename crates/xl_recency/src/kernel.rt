@@ -1,10 +1,10 @@
 //! The work on slices.
 
-ghost use Rattle.std.specs.Prelude.{◌≡◌, ℕ, ◌∷◌, ◌<◌, ◌≤◌, not, length, take, find, filter, IfSome, IfNone};
+ghost use Rattle.std.specs.Prelude.{◌≡◌, ◌∷◌, ◌<◌, ◌≤◌, length, take, find, IfSome, IfNone};
 ghost use Rattle.std.specs.List.{remove};
 ghost use Rattle.std.specs.Fn.{FnReturnsAt};
-ghost use Rattle.xl_model.specs.Recency.{touched, purged};
-ghost use Rattle.xl_recency.specs.Lists.{IsTest, IsFirst, AllFail};
+ghost use Rattle.xl_model.specs.Recency.{purged};
+ghost use Rattle.xl_recency.specs.Lists.{IsTest, IsFirst, AllFail, Touches};
 
 /// Puts the item in front, in place of the one at `at`.
 pub(crate) fn put_in_front<T: Copy>(items: &mut [T], at: usize, item: T)
@@ -50,8 +50,7 @@ pub(crate) fn keep_failing<T: Copy, P: Fn(&T) -> bool>(items: &mut [T], test: &P
 /// Brings the first item that meets the test to the front.
 pub(crate) fn touch_first<T: Copy, P: Fn(&T) -> bool>(items: &mut [T], test: &P) -> Option<T>
     requires { P.IsAlwaysCallable test.now }
-    ensures found { (q : _) → IsTest (FnReturnsAt P.Fn test.now) q → result ≡ find q items.old }
-    ensures moved { (q : _) → IsTest (FnReturnsAt P.Fn test.now) q → items.new ≡ touched q items.old }
+    ensures { (q : _) → IsTest (FnReturnsAt P.Fn test.now) q → Touches q items.old items.new result }
 {
     match first_place(items, test) {
         Some(at) => {
@@ -59,6 +58,17 @@ pub(crate) fn touch_first<T: Copy, P: Fn(&T) -> bool>(items: &mut [T], test: &P)
             put_in_front(items, at, item);
             Some(item)
         }
+        None => None,
+    }
+}
+
+/// The first item that meets the test.
+pub(crate) fn find_first<T: Copy, P: Fn(&T) -> bool>(items: &[T], test: &P) -> Option<T>
+    requires { P.IsAlwaysCallable test.now }
+    ensures { (q : _) → IsTest (FnReturnsAt P.Fn test.now) q → result ≡ find q items.now }
+{
+    match first_place(items, test) {
+        Some(at) => Some(items[at]),
         None => None,
     }
 }

@@ -1,9 +1,8 @@
 //! Recency lists of one width, by number.
 
-ghost use Rattle.std.specs.Prelude.{◌≡◌, ℕ, ◌+◌, ◌*◌, ◌^◌, ◌<◌, ◌≤◌, List, [], ◌∷◌, length, find, drop, map, replicate, slice_index_or, slice_set, option_to_list, IfOk};
+ghost use Rattle.std.specs.Prelude.{◌≡◌, ◌+◌, ◌*◌, ◌^◌, ◌<◌, ◌≤◌, [], length, find, replicate, slice_index_or, IfOk};
 ghost use Rattle.std.specs.Fn.{FnReturnsAt};
-ghost use Rattle.xl_model.specs.Recency.{touched, with_newest, purged};
-ghost use Rattle.xl_recency.specs.Lists.{IsTest, items_in};
+ghost use Rattle.xl_recency.specs.Lists.{IsTest, items_in, TouchesIn, FillsIn, PurgesIn, PurgesAll};
 
 use crate::item::Item;
 use crate::ways::Ways;
@@ -33,8 +32,9 @@ fn remove_from_each<const W: usize, P: Fn(&Item) -> bool>(sets: &mut [Ways<W>], 
     requires width { W ≤ 64 }
     requires fits { length sets.old ≤ 2 ^ 32 }
     requires test { P.IsAlwaysCallable test.now }
-    ensures kept { (q : _) → IsTest (FnReturnsAt P.Fn test.now) q → sets.new ≡ map (purged q) sets.old }
+    ensures kept { (q : _) → IsTest (FnReturnsAt P.Fn test.now) q → PurgesAll q sets.old sets.new result }
     ensures count { result + items_in sets.new ≡ items_in sets.old }
+    ensures most { result ≤ 64 * length sets.old }
 {
     let mut count = 0;
     for ways in sets.iter_mut() {
@@ -49,9 +49,7 @@ impl<const W: usize> Sets<W> {
         requires { W ≤ 64 }
         ensures { IfOk result (λ sets. sets ≡ replicate count []) }
     {
-        let Ok(mut sets) = Vec::with_capacity(alloc, count as usize) else {
-            return Err(NoMemory);
-        };
+        let mut sets = Vec::with_capacity(alloc, count as usize)?;
         'opened: for _ in 0..count {
             if sets.push(Ways::open(alloc)?).is_err() {
                 return Err(NoMemory);
@@ -66,12 +64,24 @@ impl<const W: usize> Sets<W> {
         requires width { W ≤ 64 }
         requires set { set < length self.old }
         requires test { P.IsAlwaysCallable test }
-        ensures found { (q : _) → IsTest (FnReturnsAt P.Fn test) q → result ≡ find q (slice_index_or self.old set []) }
-        ensures moved { (q : _) → IsTest (FnReturnsAt P.Fn test) q → self.new ≡ slice_set self.old set (touched q (slice_index_or self.old set [])) }
-        ensures count { length self.new ≡ length self.old }
+        ensures touched { (q : _) → IsTest (FnReturnsAt P.Fn test) q →
+            TouchesIn q set self.old self.new result }
+        ensures sets { length self.new ≡ length self.old }
     {
         let ways = &mut self.sets[set];
         ways.touch(test)
+    }
+
+    /// The newest item of the set that meets the test.
+    pub fn find<P: Fn(&Item) -> bool>(&self, set: usize, test: P) -> Option<Item>
+        requires width { W ≤ 64 }
+        requires set { set < length self.now }
+        requires test { P.IsAlwaysCallable test }
+        ensures { (q : _) → IsTest (FnReturnsAt P.Fn test) q →
+            result ≡ find q (slice_index_or self.now set []) }
+    {
+        let ways = &self.sets[set];
+        ways.find(test)
     }
 
     /// Puts the item in front of the set, and gives the one that left: Some where the set was full.
@@ -79,8 +89,7 @@ impl<const W: usize> Sets<W> {
         requires some { 0 < W }
         requires width { W ≤ 64 }
         requires set { set < length self.old }
-        ensures list { self.new ≡ slice_set self.old set (with_newest W item (slice_index_or self.old set [])) }
-        ensures left { option_to_list result ≡ drop W (item ∷ slice_index_or self.old set []) }
+        ensures { FillsIn W set item self.old self.new result }
     {
         let ways = &mut self.sets[set];
         ways.fill(item)
@@ -91,10 +100,25 @@ impl<const W: usize> Sets<W> {
     pub fn remove_where<P: Fn(&Item) -> bool>(&mut self, test: P) -> u64
         requires width { W ≤ 64 }
         requires test { P.IsAlwaysCallable test }
-        ensures kept { (q : _) → IsTest (FnReturnsAt P.Fn test) q → self.new ≡ map (purged q) self.old }
-        ensures left { result + items_in self.new ≡ items_in self.old }
-        ensures count { length self.new ≡ length self.old }
+        ensures kept { (q : _) → IsTest (FnReturnsAt P.Fn test) q → PurgesAll q self.old self.new result }
+        ensures count { result + items_in self.new ≡ items_in self.old }
+        ensures most { result ≤ 64 * length self.old }
+        ensures sets { length self.new ≡ length self.old }
     {
         remove_from_each(&mut self.sets, &test)
+    }
+
+    /// Removes the items of one set that meet the test; the others stay in order. Gives how many left.
+    pub fn remove_in<P: Fn(&Item) -> bool>(&mut self, set: usize, test: P) -> u64
+        requires width { W ≤ 64 }
+        requires set { set < length self.old }
+        requires test { P.IsAlwaysCallable test }
+        ensures kept { (q : _) → IsTest (FnReturnsAt P.Fn test) q → PurgesIn q set self.old self.new result }
+        ensures count { result + items_in self.new ≡ items_in self.old }
+        ensures most { result ≤ 64 }
+        ensures sets { length self.new ≡ length self.old }
+    {
+        let ways = &mut self.sets[set];
+        ways.remove(&test)
     }
 }

@@ -1,10 +1,10 @@
 //! The recency list that leaves each item in its place and stamps it: the newest has the greatest
 //! stamp. Its calls scan the stamps, under the contracts of the array.
 
-ghost use Rattle.std.specs.Prelude.{◌≡◌, ℕ, ◌+◌, ◌-◌, ◌*◌, ◌^◌, ◌<◌, ◌≤◌, nat_le, true, false, List, [], ◌∷◌, ◌++◌, length, find, take, drop, map, count_by, slice_index_or, slice_set, option_to_list, IfOk, IfSome, IfNone};
+ghost use Rattle.std.specs.Prelude.{◌≡◌, ℕ, ◌+◌, ◌-◌, ◌^◌, ◌<◌, ◌≤◌, true, false, None, Some, [], length, take, map, slice_index_or, IfOk, IfSome, IfNone};
 ghost use Rattle.std.specs.Fn.{FnReturnsAt};
-ghost use Rattle.xl_model.specs.Recency.{touched, with_newest, purged};
-ghost use Rattle.xl_recency.specs.Lists.{IsTest};
+ghost use Rattle.xl_model.specs.Recency.{purged};
+ghost use Rattle.xl_recency.specs.Lists.{IsTest, Touches, Fills, Purges};
 ghost use Rattle.xl_recency.specs.Stamps.{newest_first, AreStamps, IsNewest, NoneMeets, rank_of, renumbered};
 
 use crate::item::Item;
@@ -44,8 +44,10 @@ impl<const W: usize> Model for Ways<W> {
 fn first_meeting<P: Fn(&Item) -> bool>(places: &[Place], test: &P) -> Option<usize>
     requires { P.IsAlwaysCallable test.now }
     ensures within { IfSome result (λ at. at < length places.now) }
-    ensures some { IfSome result (λ at. (d : _) → FnReturnsAt P.Fn test.now (slice_index_or places.now at d).item true) }
-    ensures before { IfSome result (λ at. (k : ℕ) (d : _) → k < at → FnReturnsAt P.Fn test.now (slice_index_or places.now k d).item false) }
+    ensures some { IfSome result (λ at. (d : _) →
+        FnReturnsAt P.Fn test.now (slice_index_or places.now at d).item true) }
+    ensures before { IfSome result (λ at. (k : ℕ) (d : _) → k < at →
+        FnReturnsAt P.Fn test.now (slice_index_or places.now k d).item false) }
     ensures none { IfNone result (NoneMeets (FnReturnsAt P.Fn test.now) places.now) }
 {
     for (i, place) in places.iter().enumerate() {
@@ -62,7 +64,8 @@ fn newest_from<P: Fn(&Item) -> bool>(places: &[Place], first: usize, test: &P) -
     requires test { P.IsAlwaysCallable test.now }
     requires within { first < length places.now }
     requires meets { (d : _) → FnReturnsAt P.Fn test.now (slice_index_or places.now first d).item true }
-    requires before { (k : ℕ) (d : _) → k < first → FnReturnsAt P.Fn test.now (slice_index_or places.now k d).item false }
+    requires before { (k : ℕ) (d : _) → k < first →
+        FnReturnsAt P.Fn test.now (slice_index_or places.now k d).item false }
     ensures within { result < length places.now }
     ensures newest { IsNewest (FnReturnsAt P.Fn test.now) places.now (length places.now) result }
 {
@@ -79,7 +82,8 @@ fn newest_from<P: Fn(&Item) -> bool>(places: &[Place], first: usize, test: &P) -
 fn oldest(places: &[Place]) -> usize
     requires { 0 < length places.now }
     ensures within { result < length places.now }
-    ensures least { (k : ℕ) (d : _) → k < length places.now → (slice_index_or places.now result d).stamp ≤ (slice_index_or places.now k d).stamp }
+    ensures least { (k : ℕ) (d : _) → k < length places.now →
+        (slice_index_or places.now result d).stamp ≤ (slice_index_or places.now k d).stamp }
 {
     let mut oldest = 0;
     for i in 0..places.len() {
@@ -136,8 +140,8 @@ fn touch_newest<P: Fn(&Item) -> bool>(
     requires test { P.IsAlwaysCallable test.now }
     requires few { length places.old ≤ 64 }
     requires stamps { AreStamps last.old places.old }
-    ensures found { (q : _) → IsTest (FnReturnsAt P.Fn test.now) q → result ≡ find q (newest_first places.old) }
-    ensures moved { (q : _) → IsTest (FnReturnsAt P.Fn test.now) q → newest_first places.new ≡ touched q (newest_first places.old) }
+    ensures touched { (q : _) → IsTest (FnReturnsAt P.Fn test.now) q →
+        Touches q (newest_first places.old) (newest_first places.new) result }
     ensures stamps { AreStamps last.new places.new }
 {
     make_room(places, last);
@@ -158,8 +162,8 @@ fn fill_place(places: &mut [Place], len: usize, last: &mut u64, item: Item)
     requires few { length places.old ≤ 64 }
     requires free { len < length places.old }
     requires stamps { AreStamps last.old (take len places.old) }
-    ensures list { newest_first (take (len + 1) places.new) ≡ with_newest (length places.old) item (newest_first (take len places.old)) }
-    ensures left { [] ≡ drop (length places.old) (item ∷ newest_first (take len places.old)) }
+    ensures filled { Fills (length places.old) item
+        (newest_first (take len places.old)) (newest_first (take (len + 1) places.new)) None }
     ensures stamps { AreStamps last.new (take (len + 1) places.new) }
 {
     make_room(&mut places[..len], last);
@@ -172,8 +176,8 @@ fn replace_oldest(places: &mut [Place], last: &mut u64, item: Item) -> Item
     requires some { 0 < length places.old }
     requires few { length places.old ≤ 64 }
     requires stamps { AreStamps last.old places.old }
-    ensures list { newest_first places.new ≡ with_newest (length places.old) item (newest_first places.old) }
-    ensures left { result ∷ [] ≡ drop (length places.old) (item ∷ newest_first places.old) }
+    ensures filled { Fills (length places.old) item
+        (newest_first places.old) (newest_first places.new) (Some result) }
     ensures stamps { AreStamps last.new places.new }
 {
     make_room(places, last);
@@ -188,8 +192,11 @@ fn replace_oldest(places: &mut [Place], last: &mut u64, item: Item) -> Item
 fn keep_places<P: Fn(&Item) -> bool>(places: &mut [Place], test: &P) -> usize
     requires { P.IsAlwaysCallable test.now }
     ensures within { result ≤ length places.old }
-    ensures kept { (q : _) → IsTest (FnReturnsAt P.Fn test.now) q → (last : ℕ) → AreStamps last places.old → newest_first (take result places.new) ≡ purged q (newest_first places.old) }
-    ensures stamps { (last : ℕ) → AreStamps last places.old → AreStamps last (take result places.new) }
+    ensures kept { (q : _) → IsTest (FnReturnsAt P.Fn test.now) q →
+        (last : ℕ) → AreStamps last places.old →
+        newest_first (take result places.new) ≡ purged q (newest_first places.old) }
+    ensures stamps { (last : ℕ) → AreStamps last places.old →
+        AreStamps last (take result places.new) }
 {
     let mut kept = 0;
     for i in 0..places.len() {
@@ -213,8 +220,8 @@ fn touch_used<P: Fn(&Item) -> bool>(
     requires used { len ≤ length places.old }
     requires few { length places.old ≤ 64 }
     requires stamps { AreStamps last.old (take len places.old) }
-    ensures found { (q : _) → IsTest (FnReturnsAt P.Fn test.now) q → result ≡ find q (newest_first (take len places.old)) }
-    ensures moved { (q : _) → IsTest (FnReturnsAt P.Fn test.now) q → newest_first (take len places.new) ≡ touched q (newest_first (take len places.old)) }
+    ensures touched { (q : _) → IsTest (FnReturnsAt P.Fn test.now) q →
+        Touches q (newest_first (take len places.old)) (newest_first (take len places.new)) result }
     ensures stamps { AreStamps last.new (take len places.new) }
 {
     touch_newest(&mut places[..len], last, test)
@@ -225,9 +232,13 @@ fn keep_used<P: Fn(&Item) -> bool>(places: &mut [Place], len: usize, test: &P) -
     requires test { P.IsAlwaysCallable test.now }
     requires used { len ≤ length places.old }
     ensures within { result ≤ len }
-    ensures count { (len - result) + length (newest_first (take result places.new)) ≡ length (newest_first (take len places.old)) }
-    ensures kept { (q : _) → IsTest (FnReturnsAt P.Fn test.now) q → (last : ℕ) → AreStamps last (take len places.old) → newest_first (take result places.new) ≡ purged q (newest_first (take len places.old)) }
-    ensures stamps { (last : ℕ) → AreStamps last (take len places.old) → AreStamps last (take result places.new) }
+    ensures count { (len - result) + length (newest_first (take result places.new)) ≡
+        length (newest_first (take len places.old)) }
+    ensures kept { (q : _) → IsTest (FnReturnsAt P.Fn test.now) q →
+        (last : ℕ) → AreStamps last (take len places.old) →
+        newest_first (take result places.new) ≡ purged q (newest_first (take len places.old)) }
+    ensures stamps { (last : ℕ) → AreStamps last (take len places.old) →
+        AreStamps last (take result places.new) }
 {
     keep_places(&mut places[..len], test)
 }
@@ -241,7 +252,8 @@ impl<const W: usize> Ways<W> {
         Ways::open_at(alloc, 1)
     }
 
-    /// An empty list whose first stamp is `next`.
+    /// An empty list whose first stamp is `next`. Lists that were opened at other stamps answer
+    /// alike.
     pub fn open_at(alloc: Global, next: u64) -> Result<Ways<W>, NoMemory>
         requires width { W ≤ 64 }
         requires next { 1 ≤ next }
@@ -255,22 +267,25 @@ impl<const W: usize> Ways<W> {
                 more: 0,
             },
         };
-        match vec![in alloc; free; W] {
-            Ok(places) => Ok(Ways {
-                places,
-                len: 0,
-                last: next - 1,
-            }),
-            Err(_) => Err(NoMemory),
-        }
+        let places = vec![in alloc; free; W]?;
+        Ok(Ways {
+            places,
+            len: 0,
+            last: next - 1,
+        })
+    }
+
+    /// The last stamp that was given.
+    #[cfg(test)]
+    pub(crate) fn last_stamp(&self) -> u64 {
+        self.last
     }
 
     /// Brings the newest item that meets the test to the front, and gives it. None where none
     /// meets it; then nothing changes.
     pub fn touch<P: Fn(&Item) -> bool>(&mut self, test: P) -> Option<Item>
         requires { P.IsAlwaysCallable test }
-        ensures found { (q : _) → IsTest (FnReturnsAt P.Fn test) q → result ≡ find q self.old }
-        ensures moved { (q : _) → IsTest (FnReturnsAt P.Fn test) q → self.new ≡ touched q self.old }
+        ensures { (q : _) → IsTest (FnReturnsAt P.Fn test) q → Touches q self.old self.new result }
     {
         touch_used(&mut self.places, self.len, &mut self.last, &test)
     }
@@ -278,8 +293,7 @@ impl<const W: usize> Ways<W> {
     /// Puts the item in front, and gives the one that left: Some where the list was full.
     pub fn fill(&mut self, item: Item) -> Option<Item>
         requires { 0 < W }
-        ensures list { self.new ≡ with_newest W item self.old }
-        ensures left { option_to_list result ≡ drop W (item ∷ self.old) }
+        ensures { Fills W item self.old self.new result }
     {
         if self.len < W {
             fill_place(&mut self.places, self.len, &mut self.last, item);
@@ -293,8 +307,9 @@ impl<const W: usize> Ways<W> {
     /// Removes the items that meet the test; the others stay in order. Gives how many left.
     pub fn remove_where<P: Fn(&Item) -> bool>(&mut self, test: P) -> u64
         requires { P.IsAlwaysCallable test }
-        ensures kept { (q : _) → IsTest (FnReturnsAt P.Fn test) q → self.new ≡ purged q self.old }
+        ensures kept { (q : _) → IsTest (FnReturnsAt P.Fn test) q → Purges q self.old self.new result }
         ensures count { result + length self.new ≡ length self.old }
+        ensures most { result ≤ W }
     {
         let before = self.len;
         self.len = keep_used(&mut self.places, before, &test);

@@ -1,7 +1,8 @@
-//! The stamps' end, and one list of calls on both forms, at each width.
+//! The stamps' end, each width at its limit, and one list of calls on both forms.
 
-ghost use Rattle.std.specs.Prelude.{◌≡◌, ◌≤◌, ◌<◌, ◌==◌, find};
-ghost use Rattle.xl_model.specs.Recency.{touched};
+ghost use Rattle.std.specs.Prelude.{◌≡◌, ◌≤◌, ◌<◌, ◌==◌};
+ghost use Rattle.xl_recency.specs.Lists.{Touches};
+ghost use Rattle.xl_recency.specs.Widths.{IsWidth};
 
 use crate::associative::SetAssociative;
 use crate::cache::Cache;
@@ -10,6 +11,7 @@ use crate::sets::Sets;
 use crate::stamped;
 use crate::ways::Ways;
 use std::alloc::Global;
+use std::test::Fail;
 use xl_model::{NoMemory, mix};
 
 fn item(tag: u64) -> Item {
@@ -21,111 +23,114 @@ fn item(tag: u64) -> Item {
 }
 
 #[test]
-fn stamps_begin_anew_at_their_end(rt: HostRuntime) {
-    let Ok(mut ways) = stamped::Ways::<2>::open_at(rt.alloc(), 18_446_744_073_709_551_614) else {
-        assert!(rt; false);
-        return;
-    };
+fn stamps_begin_anew_at_their_end(rt: HostRuntime) -> Result<(), Fail> {
+    let mut ways = stamped::Ways::<2>::open_at(rt.alloc(), 18_446_744_073_709_551_614)?;
+    assert_eq!(rt; ways.last_stamp(), 18_446_744_073_709_551_613);
     assert_eq!(rt; ways.fill(item(1)), None);
     assert_eq!(rt; ways.fill(item(2)), None);
+    assert_eq!(rt; ways.last_stamp(), 18_446_744_073_709_551_615);
     assert_eq!(rt; ways.fill(item(3)), Some(item(1)));
+
+    // The two items got stamps 1 and 2, and the third one stamp 3.
+    assert_eq!(rt; ways.last_stamp(), 3);
     assert_eq!(rt; ways.touch(|item| item.tag == 2), Some(item(2)));
 
     // The list is 2, 3: so 3 leaves first.
     assert_eq!(rt; ways.fill(item(4)), Some(item(3)));
     assert_eq!(rt; ways.fill(item(5)), Some(item(2)));
+    Ok(())
 }
 
 #[test]
-fn a_full_list_is_touched_and_filled(rt: HostRuntime) {
-    let Ok(mut cache) = Cache::open(rt.alloc(), 4) else {
-        assert!(rt; false);
-        return;
-    };
+fn a_full_list_is_touched_and_filled(rt: HostRuntime) -> Result<(), Fail> {
+    let mut cache = Cache::open(rt.alloc(), 4)?;
     for tag in 1..=4 {
         assert_eq!(rt; cache.fill(item(tag)), None);
     }
+    assert_eq!(rt; cache.len(), 4);
     assert_eq!(rt; cache.touch(|item| item.tag == 1), Some(item(1)));
     assert_eq!(rt; cache.fill(item(5)), Some(item(2)));
     assert_eq!(rt; cache.remove_where(|item| item.tag % 2 == 1), 3);
     assert_eq!(rt; cache.touch(|item| item.tag == 1), None);
+    Ok(())
 }
 
 #[test]
-fn a_cache_of_width_0_holds_nothing(rt: HostRuntime) {
-    let Ok(mut cache) = Cache::open(rt.alloc(), 0) else {
-        assert!(rt; false);
-        return;
-    };
+fn a_cache_of_width_0_holds_nothing(rt: HostRuntime) -> Result<(), Fail> {
+    let mut cache = Cache::open(rt.alloc(), 0)?;
     assert_eq!(rt; cache.fill(item(1)), Some(item(1)));
     assert_eq!(rt; cache.touch(|item| item.tag == 1), None);
     assert_eq!(rt; cache.remove_where(|_| true), 0);
+    Ok(())
 }
 
 #[test]
-fn sets_stand_apart(rt: HostRuntime) {
-    let Ok(mut sets) = Sets::<2>::open(rt.alloc(), 3) else {
-        assert!(rt; false);
-        return;
-    };
+fn sets_stand_apart(rt: HostRuntime) -> Result<(), Fail> {
+    let mut sets = Sets::<2>::open(rt.alloc(), 3)?;
     assert_eq!(rt; sets.fill(0, item(1)), None);
     assert_eq!(rt; sets.fill(2, item(1)), None);
     assert_eq!(rt; sets.touch(1, |item| item.tag == 1), None);
     assert_eq!(rt; sets.touch(2, |item| item.tag == 1), Some(item(1)));
-    assert_eq!(rt; sets.remove_where(|item| item.tag == 1), 2);
+    assert_eq!(rt; sets.find(0, |item| item.tag == 1), Some(item(1)));
+    assert_eq!(rt; sets.remove_in(1, |item| item.tag == 1), 0);
+    assert_eq!(rt; sets.remove_in(2, |item| item.tag == 1), 1);
+    assert_eq!(rt; sets.remove_where(|item| item.tag == 1), 1);
+    Ok(())
 }
 
+/// Whether an array with this many sets takes an item into its last set.
+fn fills_last_set(alloc: Global, width: u8, count: u32) -> Result<bool, NoMemory>
+    requires some { 0 < width }
+    requires width { IsWidth width }
+    requires count { 0 < count }
+{
+    let mut array = SetAssociative::open(alloc, width, count)?;
+    let last = count as usize - 1;
+    Ok(array.fill(last, item(1)).is_none()
+        && array.touch(last, |item| item.tag == 1) == Some(item(1))
+        && array.remove_where(|_| true) == 1)
+}
+
+/// The greatest arrays of each width, which have 16,384 places.
 #[test]
-fn sets_of_a_width_stand_apart(rt: HostRuntime) {
-    let Ok(mut array) = SetAssociative::open(rt.alloc(), 1, 2) else {
-        assert!(rt; false);
-        return;
-    };
-    assert_eq!(rt; array.fill(0, item(1)), None);
-    assert_eq!(rt; array.fill(1, item(2)), None);
-    assert_eq!(rt; array.fill(1, item(3)), Some(item(2)));
-    assert_eq!(rt; array.touch(0, |item| item.tag == 1), Some(item(1)));
-    assert_eq!(rt; array.remove_where(|_| true), 2);
+fn arrays_of_each_width_have_ample_memory(rt: HostRuntime) -> Result<(), Fail> {
+    let alloc = rt.alloc();
+    assert!(rt; fills_last_set(alloc, 1, 16_384)?);
+    assert!(rt; fills_last_set(alloc, 2, 8_192)?);
+    assert!(rt; fills_last_set(alloc, 4, 4_096)?);
+    assert!(rt; fills_last_set(alloc, 6, 2_730)?);
+    assert!(rt; fills_last_set(alloc, 8, 2_048)?);
+    assert!(rt; fills_last_set(alloc, 12, 1_365)?);
+    assert!(rt; fills_last_set(alloc, 16, 1_024)?);
+    assert!(rt; fills_last_set(alloc, 32, 512)?);
+    assert!(rt; fills_last_set(alloc, 64, 256)?);
+    Ok(())
 }
 
 /// How a caller reads the contract of `touch`: the item with the tag comes to the front.
 fn touch_tag(ways: &mut Ways<8>, tag: u64) -> Option<Item>
-    ensures found { result ≡ find (λ item. item.tag == tag) ways.old }
-    ensures moved { ways.new ≡ touched (λ item. item.tag == tag) ways.old }
+    ensures { Touches (λ item. item.tag == tag) ways.old ways.new result }
 {
     ways.touch(|item| item.tag == tag)
 }
 
 #[test]
-fn the_newest_of_two_alike_is_touched(rt: HostRuntime) {
-    let Ok(mut ways) = Ways::<8>::open(rt.alloc()) else {
-        assert!(rt; false);
-        return;
+fn the_newest_of_two_alike_is_touched(rt: HostRuntime) -> Result<(), Fail> {
+    let mut ways = Ways::<8>::open(rt.alloc())?;
+    let older = Item {
+        tag: 1,
+        word: 1,
+        more: 0,
     };
-    assert_eq!(rt;
-        ways.fill(Item {
-            tag: 1,
-            word: 1,
-            more: 0
-        }),
-        None
-    );
-    assert_eq!(rt;
-        ways.fill(Item {
-            tag: 1,
-            word: 2,
-            more: 0
-        }),
-        None
-    );
-    assert_eq!(rt;
-        touch_tag(&mut ways, 1),
-        Some(Item {
-            tag: 1,
-            word: 2,
-            more: 0
-        })
-    );
+    let newer = Item {
+        tag: 1,
+        word: 2,
+        more: 0,
+    };
+    assert_eq!(rt; ways.fill(older), None);
+    assert_eq!(rt; ways.fill(newer), None);
+    assert_eq!(rt; touch_tag(&mut ways, 1), Some(newer));
+    Ok(())
 }
 
 /// 10,000 calls on a list of each form: whether they answer alike.
@@ -152,20 +157,16 @@ fn answer_alike<const W: usize>(alloc: Global) -> Result<bool, NoMemory>
 }
 
 #[test]
-fn both_forms_answer_alike(rt: HostRuntime) {
+fn both_forms_answer_alike(rt: HostRuntime) -> Result<(), Fail> {
     let alloc = rt.alloc();
-    let answers = [
-        answer_alike::<1>(alloc),
-        answer_alike::<2>(alloc),
-        answer_alike::<4>(alloc),
-        answer_alike::<6>(alloc),
-        answer_alike::<8>(alloc),
-        answer_alike::<12>(alloc),
-        answer_alike::<16>(alloc),
-        answer_alike::<32>(alloc),
-        answer_alike::<64>(alloc),
-    ];
-    for alike in answers {
-        assert_eq!(rt; alike, Ok(true));
-    }
+    assert!(rt; answer_alike::<1>(alloc)?);
+    assert!(rt; answer_alike::<2>(alloc)?);
+    assert!(rt; answer_alike::<4>(alloc)?);
+    assert!(rt; answer_alike::<6>(alloc)?);
+    assert!(rt; answer_alike::<8>(alloc)?);
+    assert!(rt; answer_alike::<12>(alloc)?);
+    assert!(rt; answer_alike::<16>(alloc)?);
+    assert!(rt; answer_alike::<32>(alloc)?);
+    assert!(rt; answer_alike::<64>(alloc)?);
+    Ok(())
 }

@@ -1,12 +1,11 @@
 //! The recency list as an array with the newest item first.
 
-ghost use Rattle.std.specs.Prelude.{◌≡◌, ℕ, ◌+◌, ◌*◌, ◌^◌, ◌<◌, ◌≤◌, List, [], ◌∷◌, length, find, drop, option_to_list, IsOk, IfOk};
+ghost use Rattle.std.specs.Prelude.{◌≡◌, ◌+◌, ◌<◌, ◌≤◌, [], length, find, IsOk, IfOk};
 ghost use Rattle.std.specs.Fn.{FnReturnsAt};
-ghost use Rattle.xl_model.specs.Recency.{touched, with_newest, purged};
-ghost use Rattle.xl_recency.specs.Lists.{IsTest};
+ghost use Rattle.xl_recency.specs.Lists.{IsTest, Touches, Fills, Purges};
 
 use crate::item::Item;
-use crate::kernel::{keep_failing, put_in_front, touch_first};
+use crate::kernel::{find_first, keep_failing, put_in_front, touch_first};
 use std::alloc::Global;
 use std::marker::Model;
 use xl_model::NoMemory;
@@ -45,21 +44,36 @@ impl<const W: usize> Ways<W> {
         })
     }
 
+    /// How many items the list holds.
+    pub fn len(&self) -> usize
+        ensures value { result ≡ length self.now }
+        ensures few { result ≤ W }
+    {
+        let items: &[Item] = &self.slots[..self.len];
+        items.len()
+    }
+
     /// Brings the newest item that meets the test to the front, and gives it. None where none
     /// meets it; then nothing changes.
     pub fn touch<P: Fn(&Item) -> bool>(&mut self, test: P) -> Option<Item>
         requires { P.IsAlwaysCallable test }
-        ensures found { (q : _) → IsTest (FnReturnsAt P.Fn test) q → result ≡ find q self.old }
-        ensures moved { (q : _) → IsTest (FnReturnsAt P.Fn test) q → self.new ≡ touched q self.old }
+        ensures { (q : _) → IsTest (FnReturnsAt P.Fn test) q → Touches q self.old self.new result }
     {
         touch_first(&mut self.slots[..self.len], &test)
+    }
+
+    /// The newest item that meets the test.
+    pub fn find<P: Fn(&Item) -> bool>(&self, test: P) -> Option<Item>
+        requires { P.IsAlwaysCallable test }
+        ensures { (q : _) → IsTest (FnReturnsAt P.Fn test) q → result ≡ find q self.now }
+    {
+        find_first(&self.slots[..self.len], &test)
     }
 
     /// Puts the item in front, and gives the one that left: Some where the list was full.
     pub fn fill(&mut self, item: Item) -> Option<Item>
         requires { 0 < W }
-        ensures list { self.new ≡ with_newest W item self.old }
-        ensures left { option_to_list result ≡ drop W (item ∷ self.old) }
+        ensures { Fills W item self.old self.new result }
     {
         if self.len < W {
             let at = self.len;
@@ -76,8 +90,9 @@ impl<const W: usize> Ways<W> {
     /// Removes the items that meet the test; the others stay in order. Gives how many left.
     pub fn remove_where<P: Fn(&Item) -> bool>(&mut self, test: P) -> u64
         requires { P.IsAlwaysCallable test }
-        ensures kept { (q : _) → IsTest (FnReturnsAt P.Fn test) q → self.new ≡ purged q self.old }
+        ensures kept { (q : _) → IsTest (FnReturnsAt P.Fn test) q → Purges q self.old self.new result }
         ensures count { result + length self.new ≡ length self.old }
+        ensures most { result ≤ W }
     {
         self.remove(&test)
     }
@@ -85,7 +100,7 @@ impl<const W: usize> Ways<W> {
     /// What `remove_where` does, by a test that is kept.
     pub(crate) fn remove<P: Fn(&Item) -> bool>(&mut self, test: &P) -> u64
         requires { P.IsAlwaysCallable test.now }
-        ensures kept { (q : _) → IsTest (FnReturnsAt P.Fn test.now) q → self.new ≡ purged q self.old }
+        ensures kept { (q : _) → IsTest (FnReturnsAt P.Fn test.now) q → Purges q self.old self.new result }
         ensures count { result + length self.new ≡ length self.old }
         ensures most { result ≤ W }
     {

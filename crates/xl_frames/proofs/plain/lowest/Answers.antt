@@ -1,5 +1,5 @@
 use Rattle.std.proofs.Common.{length}
-use Rattle.xl_frames.proofs.Blocks.{block_fits, lowest_found}
+use Rattle.xl_frames.proofs.BlockLemmas.{block_fits, lowest_found}
 use Rattle.xl_frames.proofs.plain.lowest.Goals as goal
 
 pub returns-then-all_free-clause-some : goal.returns-then-all_free-clause-some

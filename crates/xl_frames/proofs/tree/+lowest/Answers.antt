@@ -1,8 +1,8 @@
 use Rattle.std.proofs.Common.{◌-◌, ◌^◌, ◌<◌, ◌≤◌, arith, rules}
 use Rattle.xl_frames.specs.Pool.{IsLowest}
 use Rattle.xl_frames.specs.Tree.{root, lower, upper, flags_of}
-use Rattle.xl_frames.proofs.Nodes.{tree_root, not_empty, inside, lower_tree, upper_tree}
-use Rattle.xl_frames.proofs.Search.{if_some, lowest_whole, lowest_lower, lowest_upper, lowest_small, frames_small, some_half}
+use Rattle.xl_frames.proofs.NodeLemmas.{tree_root, not_empty, inside, lower_tree, upper_tree}
+use Rattle.xl_frames.proofs.SearchLemmas.{if_some, lowest_whole, lowest_lower, lowest_upper, lowest_small, frames_small, some_half}
 use Rattle.xl_frames.proofs.tree.+lowest.Goals as goal
 
 pub bounds-tree-0 : goal.bounds-tree-0

@@ -1,7 +1,7 @@
 use Rattle.std.proofs.Common.{◌≡◌, ℕ, ◌-◌, ◌^◌, ◌<◌, take, drop, sym, ◌∙◌, ap, arith}
 use Rattle.xl_frames.specs.Tree.{flags_of}
-use Rattle.xl_frames.proofs.Nodes.{not_empty}
-use Rattle.xl_frames.proofs.Halves.{above_zero, rest_is_upper, half_left, marked_same, marked_whole, marked_parts}
+use Rattle.xl_frames.proofs.NodeLemmas.{not_empty}
+use Rattle.xl_frames.proofs.HalfLemmas.{above_zero, rest_is_upper, half_left, marked_same, marked_whole, marked_parts}
 use Rattle.xl_frames.proofs.tree.+mark.Goals as goal
 
 pub write_root-requires : goal.write_root-requires

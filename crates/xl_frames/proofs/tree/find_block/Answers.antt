@@ -1,8 +1,8 @@
 use Rattle.std.proofs.Common.{◌^◌, ◌≤◌}
 use Rattle.xl_frames.specs.Pool.{IsLowest}
 use Rattle.xl_frames.specs.Tree.{root, flags_of}
-use Rattle.xl_frames.proofs.Search.{if_some, if_none}
-use Rattle.xl_frames.proofs.Pools.{lowest_of_pool, none_of_pool}
+use Rattle.xl_frames.proofs.SearchLemmas.{if_some, if_none}
+use Rattle.xl_frames.proofs.PoolLemmas.{lowest_of_pool, none_of_pool}
 use Rattle.xl_frames.proofs.tree.find_block.Goals as goal
 
 pub returns-clause-some : goal.returns-clause-some

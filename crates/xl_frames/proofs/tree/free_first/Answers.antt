@@ -1,4 +1,4 @@
-use Rattle.xl_frames.proofs.Pools.{zeros, freed_pool}
+use Rattle.xl_frames.proofs.PoolLemmas.{zeros, freed_pool}
 use Rattle.xl_frames.proofs.tree.free_first.Goals as goal
 
 pub mark-requires-clause-tree : goal.mark-requires-clause-tree

@@ -1,6 +1,6 @@
 use Rattle.std.proofs.Common.{◌≡◌, ℕ, ◌+◌, ◌-◌, ◌^◌, ◌≤◌, true, arith}
 use Rattle.xl_frames.specs.Tree.{IsPool}
-use Rattle.xl_frames.proofs.Pools.{marked_pool}
+use Rattle.xl_frames.proofs.PoolLemmas.{marked_pool}
 use Rattle.xl_frames.proofs.tree.give_block.Goals as goal
 
 pub returns : goal.returns

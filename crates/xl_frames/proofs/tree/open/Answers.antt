@@ -1,6 +1,6 @@
 use Rattle.std.proofs.Common.{◌≡◌, ◌+◌, refl, arith, inl, inr}
 use Rattle.xl_frames.specs.Tree.{root}
-use Rattle.xl_frames.proofs.Nodes.{tree_root, not_empty, inside, one_below, spread_written, open_already}
+use Rattle.xl_frames.proofs.NodeLemmas.{tree_root, not_empty, inside, one_below, spread_written, open_already}
 use Rattle.xl_frames.proofs.tree.open.Goals as goal
 
 pub bounds-tree-0 : goal.bounds-tree-0

@@ -1,8 +1,8 @@
 use Rattle.std.proofs.Common.{◌≡◌, ◌+◌, ◌-◌, ◌^◌, ◌<◌, ℕ, false, refl, arith, rules}
 use Rattle.xl_frames.specs.Tree.{IsPool}
-use Rattle.xl_frames.proofs.Nodes.{length-flags}
-use Rattle.xl_frames.proofs.Search.{lowest_small, frames_small}
-use Rattle.xl_frames.proofs.Pools.{length-pool, lowest_of_pool, none_of_pool, marked_pool}
+use Rattle.xl_frames.proofs.NodeLemmas.{length-flags}
+use Rattle.xl_frames.proofs.SearchLemmas.{lowest_small, frames_small}
+use Rattle.xl_frames.proofs.PoolLemmas.{length-pool, lowest_of_pool, none_of_pool, marked_pool}
 use Rattle.xl_frames.proofs.tree.take_block.Goals as goal
 
 pub mark-requires-clause-fits : goal.mark-requires-clause-fits

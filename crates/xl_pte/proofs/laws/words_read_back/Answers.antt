@@ -1,4 +1,4 @@
-use Rattle.xl_pte.proofs.Bits.{decode-made-leaf, decode-made-pointer}
+use Rattle.xl_pte.proofs.BitLemmas.{decode-made-leaf, decode-made-pointer}
 use Rattle.xl_pte.proofs.laws.words_read_back.Goals as goal
 
 pub returns : goal.returns

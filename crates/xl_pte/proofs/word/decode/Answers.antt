@@ -1,6 +1,6 @@
 use Rattle.std.proofs.Common.{◌≡◌, ◌/◌, ◌^◌, ◌==◌, true, sym, ◌∙◌, arith}
 use Rattle.xl_pte.specs.Decode.{bit}
-use Rattle.xl_pte.proofs.Bits.{decode-leaf, number-shifted}
+use Rattle.xl_pte.proofs.BitLemmas.{decode-leaf, number-shifted}
 use Rattle.xl_pte.proofs.word.decode.Goals as goal
 
 pub returns-in-true-default-default-clause-value : goal.returns-in-true-default-default-clause-value

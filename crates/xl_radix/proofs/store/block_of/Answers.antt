@@ -1,4 +1,4 @@
-use Rattle.xl_radix.proofs.Ups.{up-shift}
+use Rattle.xl_radix.proofs.UpLemmas.{up-shift}
 use Rattle.xl_radix.proofs.store.block_of.Goals as goal
 
 pub returns : goal.returns

@@ -1,6 +1,18 @@
-use Rattle.xl_radix_walk.proofs.Steps.{is_step}
+use Rattle.std.proofs.Common.{ℕ, ◌+◌, ◌*◌, sym, ap}
+use Rattle.std.specs.Prelude.{None, Some}
+use Rattle.xl_pte.specs.Decode.{decode_of}
+use Rattle.xl_radix_walk.proofs.StepLemmas.{is_step, word-there, word-gone}
 use Rattle.xl_radix_walk.proofs.step.take_step.Goals as goal
 
-pub returns-clause-is_step : goal.returns-clause-is_step
-returns-clause-is_step g c =
-    rw c.said.ensures (is_step (g.B.Bus.words c.args.bus.now) c.args.level c.args.node c.args.page c.word-word.result c.word-word.ensures.said)
+pub returns-in-None-clause-is_step : goal.returns-in-None-clause-is_step
+returns-in-None-clause-is_step g c =
+    let words = g.B.Bus.words c.args.bus.now in
+    let place = ap (λ (n : ℕ). c.args.node * 512 + n) c.index_of.ensures.value in
+    is_step words c.args.level c.args.node c.args.page None (sym (word-gone words c.args.level c.args.node c.args.page _ place c.in-None.ensures.none))
+
+pub returns-in-Some-clause-is_step : goal.returns-in-Some-clause-is_step
+returns-in-Some-clause-is_step g c =
+    let words = g.B.Bus.words c.args.bus.now in
+    let place = ap (λ (n : ℕ). c.args.node * 512 + n) c.index_of.ensures.value in
+    rw c.judged.ensures (is_step words c.args.level c.args.node c.args.page (Some (decode_of c.in-Some.word c.args.level))
+    (sym (word-there words c.args.level c.args.node c.args.page _ c.in-Some.word place c.in-Some.ensures.some)))

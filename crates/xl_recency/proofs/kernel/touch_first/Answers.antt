@@ -1,15 +1,15 @@
 use Rattle.std.proofs.Common.{◌∙◌}
-use Rattle.xl_recency.proofs.Scans.{found, moved, none_found, none_moved}
+use Rattle.xl_recency.proofs.ScanLemmas.{found, moved, none_found, none_moved}
 use Rattle.xl_recency.proofs.kernel.touch_first.Goals as goal
 
 pub returns-in-Some : goal.returns-in-Some
-returns-in-Some g c = record {
-  found = λ q test. found _ q test c.args.items.now c.in-Some.at c.index-items-at.result c.in-Some.ensures.within c.in-Some.ensures.some c.index-items-at.is;
-  moved = λ q test. c.put_in_front.ensures ∙ moved _ q test c.args.items.now c.in-Some.at c.index-items-at.result c.in-Some.ensures.within c.in-Some.ensures.some c.index-items-at.is;
+returns-in-Some g c = λ q test. record {
+  found = found _ q test c.args.items.now c.in-Some.at c.index-items-at.result c.in-Some.ensures.within c.in-Some.ensures.some c.index-items-at.is;
+  moved = c.put_in_front.ensures ∙ moved _ q test c.args.items.now c.in-Some.at c.index-items-at.result c.in-Some.ensures.within c.in-Some.ensures.some c.index-items-at.is;
 }
 
 pub returns-in-None : goal.returns-in-None
-returns-in-None g c = record {
-  found = λ q test. none_found _ q test c.args.items.now c.in-None.ensures.none;
-  moved = λ q test. none_moved _ q test c.args.items.now c.in-None.ensures.none;
+returns-in-None g c = λ q test. record {
+  found = none_found _ q test c.args.items.now c.in-None.ensures.none;
+  moved = none_moved _ q test c.args.items.now c.in-None.ensures.none;
 }

@@ -1,6 +1,6 @@
 use Rattle.std.proofs.Common.{◌<◌, length, arith}
 use Rattle.xl_model.specs.Recency.{purged}
-use Rattle.xl_recency.proofs.Totals.{items_in-set, mapped_more}
+use Rattle.xl_recency.proofs.TotalLemmas.{items_in-set, mapped_more}
 use Rattle.xl_recency.proofs.sets.remove_from_each.Goals as goal
 
 pub loop-ways-preserved : goal.loop-ways-preserved
@@ -11,5 +11,5 @@ loop-ways-preserved g c =
       count = omega (arith, items_in-set c.loop-ways.sets c.loop-ways.ways-index c.remove-count.result c.ways-item.result c.remove-count.new.self inside c.remove-count.ensures.count);
       kept = λ q test.
           mapped_more (purged q) c.args.sets.now c.loop-ways.sets c.loop-ways.ways-index c.ways-item.result c.remove-count.new.self
-          (omega arith) (c.loop-ways.invariant.kept q test) inside (c.remove-count.ensures.kept q test);
+          (omega arith) (c.loop-ways.invariant.kept q test) inside (c.remove-count.ensures.kept q test).kept;
     }

@@ -1,6 +1,6 @@
 use Rattle.std.proofs.Common.{◌≡◌, ◌<◌, length, drop, arith}
 use Rattle.std.proofs.lemmas.List.{length-take, length-drop}
-use Rattle.xl_recency.proofs.Touches.{free_step}
+use Rattle.xl_recency.proofs.TouchLemmas.{free_step}
 use Rattle.xl_recency.proofs.stamped.fill_place.Goals as goal
 
 pub returns : goal.returns
@@ -10,4 +10,4 @@ returns c =
     let rest : 0 < length (drop c.args.len c.args.places.now) = omega (arith, length-drop c.args.len c.args.places.now) in
     let f = free_step _ c.make_room.new.places (drop c.args.len c.args.places.now) c.args.len c.make_room.new.last (length c.args.places.now) c.args.item
     n rest c.requires.free room.stamps room.same in
-    record { list = f.0; left = f.1; stamps = f.2 }
+    record { filled = record { list = f.0; left = f.1 }; stamps = f.2 }

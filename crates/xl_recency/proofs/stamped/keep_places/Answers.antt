@@ -4,7 +4,7 @@ use Rattle.std.proofs.lemmas.List.Filters.{FiltersInPlace-all, FiltersInPlace-mo
 use Rattle.std.proofs.lemmas.List.{get_or_default}
 use Rattle.xl_recency.specs.declared.stamped.Place.{Place}
 use Rattle.xl_recency.specs.Stamps.{newest_first}
-use Rattle.xl_recency.proofs.Touches.{no_place, purged_step, stamps_skip, stamps_keep}
+use Rattle.xl_recency.proofs.TouchLemmas.{no_place, purged_step, stamps_skip, stamps_keep}
 use Rattle.xl_recency.proofs.stamped.keep_places.Goals as goal
 use Rattle.xl_recency.proofs.stamped.keep_places.Goals.{then-not-test, else-not-test}
 

@@ -1,6 +1,6 @@
 use Rattle.std.proofs.Common.{◌++◌, drop, arith}
 use Rattle.std.proofs.lemmas.List.{length-take, length-append}
-use Rattle.xl_recency.proofs.Touches.{kept_count}
+use Rattle.xl_recency.proofs.TouchLemmas.{kept_count}
 use Rattle.xl_recency.proofs.stamped.keep_used.Goals as goal
 
 pub returns-clause-count : goal.returns-clause-count

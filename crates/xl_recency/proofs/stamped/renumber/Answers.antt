@@ -2,7 +2,7 @@ use Rattle.std.proofs.Common.{◌≡◌, ◌<◌, length, set, ◌∙◌, ap, in
 use Rattle.std.proofs.lemmas.Bool.{cases_lt}
 use Rattle.std.proofs.lemmas.List.{length-set, get_or-set_same, get_or-set_other, get_or_default}
 use Rattle.xl_recency.specs.Stamps.{rank_of}
-use Rattle.xl_recency.proofs.Ranks.{renumbered_more}
+use Rattle.xl_recency.proofs.RankLemmas.{renumbered_more}
 use Rattle.xl_recency.proofs.stamped.renumber.Goals as goal
 
 pub loop-i-preserved : goal.loop-i-preserved

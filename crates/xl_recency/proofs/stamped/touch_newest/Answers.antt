@@ -1,6 +1,6 @@
 use Rattle.std.proofs.Common.{find, ◌∙◌, ap, arith}
 use Rattle.xl_model.specs.Recency.{touched}
-use Rattle.xl_recency.proofs.Touches.{touch_step, touch_none, stamps_set}
+use Rattle.xl_recency.proofs.TouchLemmas.{touch_step, touch_none, stamps_set}
 use Rattle.xl_recency.proofs.stamped.touch_newest.Goals as goal
 
 pub returns-in-Some : goal.returns-in-Some
@@ -8,8 +8,9 @@ returns-in-Some g c =
     let room = c.make_room.ensures in
     let at = c.newest_from-at.ensures in
     record {
-      found = λ q test. (touch_step _ q test c.args.places.now c.make_room.new.places c.newest_from-at.result c.make_room.new.last at.within room.stamps at.newest room.same).0;
-      moved = λ q test. (touch_step _ q test c.args.places.now c.make_room.new.places c.newest_from-at.result c.make_room.new.last at.within room.stamps at.newest room.same).1;
+      touched = λ q test.
+          let step = touch_step _ q test c.args.places.now c.make_room.new.places c.newest_from-at.result c.make_room.new.last at.within room.stamps at.newest room.same in
+          record { found = step.0; moved = step.1 };
       stamps = stamps_set c.make_room.new.places c.newest_from-at.result c.make_room.new.last _ room.stamps (omega arith);
     }
 
@@ -17,7 +18,8 @@ pub returns-in-None : goal.returns-in-None
 returns-in-None g c =
     let room = c.make_room.ensures in
     record {
-      found = λ q test. (touch_none _ q test c.make_room.new.places c.in-None.ensures.none).0 ∙ ap (find q) room.same;
-      moved = λ q test. (touch_none _ q test c.make_room.new.places c.in-None.ensures.none).1 ∙ ap (touched q) room.same;
+      touched = λ q test.
+          let step = touch_none _ q test c.make_room.new.places c.in-None.ensures.none in
+          record { found = step.0 ∙ ap (find q) room.same; moved = step.1 ∙ ap (touched q) room.same };
       stamps = room.stamps;
     }

@@ -8,5 +8,5 @@ returns c =
     let a = c.args in
     c.covering.ensures
     ∙ ap (find (covers a.space a.page)) c.deref.ensures.value
-    ∙ leaf-at-mapping a.space a.page c.self.inside.leaves.items c.self.invariant.0
+    ∙ leaf-at-mapping a.space a.page c.self.inside.leaves.items c.self.invariant.kept
     ∙ ap (λ t. leaf_at_page a.space a.page t.leaves) c.self.view_is

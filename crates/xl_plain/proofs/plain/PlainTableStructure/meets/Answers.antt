@@ -9,5 +9,5 @@ returns c =
     let a = c.args in
     c.any_meets.ensures
     ∙ ap (list_any (meets_block a.space a.first a.order)) c.deref.ensures.value
-    ∙ meets-mapping a.space a.first a.order c.self.inside.leaves.items c.self.invariant.0
+    ∙ meets-mapping a.space a.first a.order c.self.inside.leaves.items c.self.invariant.kept
     ∙ ap (λ t. meets_any a.space a.first a.order t.leaves) c.self.view_is

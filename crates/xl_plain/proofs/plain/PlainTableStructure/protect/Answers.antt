@@ -15,7 +15,13 @@ invariant_of-self c =
     c.give_perm.ensures ∙ ap (with_perm_named a.space a.first a.order a.perm) c.deref_mut.ensures.value in
     let long : length c.give_perm.new.items ≡ s.leaves.len = ap length new ∙ length-protected a.space a.first a.order a.perm xs ∙ sym s.leaves.ok.0 in
     let is : (with_items s.leaves c.give_perm.new.items).items ≡ with_perm_named a.space a.first a.order a.perm xs = with_items_is s.leaves c.give_perm.new.items long ∙ new in
-    (subst IsKept (sym is) (kept-protected a.space a.first a.order a.perm xs c.self.invariant.0), c.self.invariant.1, c.self.invariant.2, c.self.invariant.3, c.self.invariant.4)
+    record {
+      kept = subst IsKept (sym is) (kept-protected a.space a.first a.order a.perm xs c.self.invariant.kept);
+      some_buckets = c.self.invariant.some_buckets;
+      few = c.self.invariant.few;
+      within = c.self.invariant.within;
+      room = c.self.invariant.room;
+    }
 
 pub returns : goal.returns
 returns c =
@@ -26,4 +32,4 @@ returns c =
     c.give_perm.ensures ∙ ap (with_perm_named a.space a.first a.order a.perm) c.deref_mut.ensures.value in
     let long : length c.give_perm.new.items ≡ s.leaves.len = ap length new ∙ length-protected a.space a.first a.order a.perm xs ∙ sym s.leaves.ok.0 in
     let is : (with_items s.leaves c.give_perm.new.items).items ≡ with_perm_named a.space a.first a.order a.perm xs = with_items_is s.leaves c.give_perm.new.items long ∙ new in
-    record { changes = protect-made s.buckets s.entries s.loads a.space a.first a.order a.perm xs _ a.self.now c.self.view_is c.self.invariant.0 c.requires is }
+    record { changes = protect-made s.buckets s.entries s.loads a.space a.first a.order a.perm xs _ a.self.now c.self.view_is c.self.invariant.kept c.requires is }

@@ -1,8 +1,8 @@
 use Rattle.std.proofs.Common.{ℕ, ◌≡◌, ◌≤◌, ◌<◌, ◌-◌, nat_le, true, false, sym, refl, arith}
 use Rattle.std.proofs.lemmas.Bool.Decides.{nat_tests}
 use Rattle.xl_radix.specs.Table.{Table}
-use Rattle.xl_radix.proofs.Looks.{room-is}
-use Rattle.xl_radix.proofs.Shapes.{shape-added}
+use Rattle.xl_radix.proofs.LookLemmas.{room-is}
+use Rattle.xl_radix.proofs.ShapeLemmas.{shape-added}
 use Rattle.xl_radix.proofs.radix.Radix.add.Goals as goal
 
 too-many : (k free have lack : ℕ) → lack ≡ k → free ≡ have → free < lack → nat_le k have ≡ false
@@ -30,6 +30,6 @@ returns-clause-answer g c =
 pub returns-clause-shape : goal.returns-clause-shape
 returns-clause-shape g c =
     let i = c.self.inside in
-    let p = c.place.new.self in
-    let h = shape-added g.row.LEVELS i.store.spaces c.args.leaf i.store.leaves p.leaves i.store.nodes p.nodes c.place.ensures.exact c.place.ensures.leaves c.place.ensures.nodes in
-    rw (← c.self.view_is, c.place.ensures.spaces) h
+    let p = c.add_leaf.new.self in
+    let h = shape-added g.row.LEVELS i.store.spaces c.args.leaf i.store.leaves p.leaves i.store.nodes p.nodes c.add_leaf.ensures.exact c.add_leaf.ensures.leaves c.add_leaf.ensures.nodes in
+    rw (← c.self.view_is, c.add_leaf.ensures.spaces) h

@@ -1,4 +1,4 @@
-use Rattle.xl_radix.proofs.Looks.{is-new}
+use Rattle.xl_radix.proofs.LookLemmas.{is-new}
 use Rattle.xl_radix.proofs.store.Store.end_for.Goals as goal
 
 pub returns-clause-new : goal.returns-clause-new

@@ -1,4 +1,4 @@
-use Rattle.xl_radix.proofs.Looks.{look-is}
+use Rattle.xl_radix.proofs.LookLemmas.{look-is}
 use Rattle.xl_radix.proofs.store.Store.leaf_at.Goals as goal
 
 pub returns : goal.returns

@@ -1,4 +1,4 @@
-use Rattle.xl_radix.proofs.Walks.{words-back}
+use Rattle.xl_radix.proofs.WalkLemmas.{words-back}
 use Rattle.xl_radix.proofs.store.Store.words_read_back.Goals as goal
 
 pub returns : goal.returns

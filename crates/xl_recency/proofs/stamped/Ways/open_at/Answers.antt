@@ -1,9 +1,9 @@
 use Rattle.std.proofs.Common.{◌-◌, arith}
-use Rattle.xl_recency.proofs.Touches.{no_stamps, no_items}
+use Rattle.xl_recency.proofs.TouchLemmas.{no_stamps, no_items}
 use Rattle.xl_recency.proofs.stamped.Ways.open_at.Goals as goal
 
 pub invariant_of-result : goal.invariant_of-result
-invariant_of-result g c = (omega arith, omega (arith, c.in-Ok.places.ok.0, c.in-Ok.ensures.len), c.requires.width, no_stamps (c.args.next - 1))
+invariant_of-result g c = (omega arith, omega (arith, c.in_ok-places.places.ok.0, c.in_ok-places.ensures.len), c.requires.width, no_stamps (c.args.next - 1))
 
-pub returns-in-Ok : goal.returns-in-Ok
-returns-in-Ok g c = no_items
+pub returns : goal.returns
+returns g c = no_items

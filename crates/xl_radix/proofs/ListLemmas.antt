@@ -1,0 +1,37 @@
+-- What a test finds in a list, also with one leaf more.
+use Rattle.std.proofs.Common.{◌≡◌, Bool, true, false, cond, inl, inr, List, [], ◌∷◌, Some, None, refl, ap}
+use Rattle.std.specs.List.{find, list_any}
+use Rattle.xl_model.specs.declared.leaf.Leaf.{Leaf}
+use Rattle.xl_model.specs.Mapping.{with_leaf, leaf_key}
+use Rattle.xl_mapping.specs.Members.{In}
+use Rattle.xl_mapping.proofs.MemberLemmas.{find-In, find-passes, find-only, any-In}
+use Rattle.xl_mapping.proofs.InsertionLemmas.{with-In, In-with}
+use Rattle.xl_radix.proofs.CaseLemmas.{Same, Before, After, lies}
+
+pub find-nothing : (p : Leaf → Bool) (xs : List Leaf) → ((y : Leaf) → In y xs → p y ≡ true → ⊥) → find p xs ≡ None
+find-nothing p xs not =
+    elim (find p xs) as (λ o. find p xs ≡ o → o ≡ None) [
+      | Some y ↦ λ e. absurd (not y (find-In p y xs e) (find-passes p y xs e))
+      | None ↦ λ e. refl
+    ] refl
+
+pub any-nothing : (p : Leaf → Bool) (xs : List Leaf) → ((y : Leaf) → In y xs → p y ≡ true → ⊥) → list_any p xs ≡ false
+any-nothing p xs not =
+    elim (list_any p xs) as (λ b. list_any p xs ≡ b → b ≡ false) [
+      | true ↦ λ e. let r = any-In p xs e in absurd (not r.0 r.1 r.2)
+      | false ↦ λ e. refl
+    ] refl
+
+-- A test that the new leaf doesn't meet finds what it found, where no leaf has the new one's key.
+pub find-with-other : (p : Leaf → Bool) (x : Leaf) (xs : List Leaf) → p x ≡ false → ((y : Leaf) → In y xs → leaf_key x ≡ leaf_key y → ⊥) → find p (with_leaf x xs) ≡ find p xs
+find-with-other p x [] f not = rw f refl
+find-with-other p x (z ∷ zs) f not =
+    elim (lies (leaf_key x) (leaf_key z)) as (λ _. find p (with_leaf x (z ∷ zs)) ≡ find p (z ∷ zs)) [
+      | Same e t ↦ absurd (not z (inl refl) e)
+      | Before e t u ↦ rw (t, u, f) refl
+      | After e t u ↦ rw (t, u) (ap (cond (p z) (Some z)) (find-with-other p x zs f (λ y i. not y (inr i))))
+    ]
+
+pub find-with : (p : Leaf → Bool) (x : Leaf) (xs : List Leaf) → p x ≡ true → ((y : Leaf) → In y xs → p y ≡ true → ⊥) → find p (with_leaf x xs) ≡ Some x
+find-with p x xs t not =
+    find-only p x (with_leaf x xs) (In-with x xs) t (λ y i u. elim (with-In y x xs i) [ inl e ↦ e | inr r ↦ absurd (not y r u) ])

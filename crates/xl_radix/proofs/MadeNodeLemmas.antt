@@ -1,0 +1,282 @@
+-- A node is made below an empty slot.
+use Rattle.std.proofs.Common.{ℕ, suc, ◌≡◌, ◌≢◌, ◌+◌, ◌-◌, ◌*◌, ◌/◌, ◌%◌, ◌<◌, ◌≤◌, ◌==◌, true, false, ◌⊎◌, inl, inr, List, length, slice_index, slice_index_or, slice_set, Option, Some, None, refl, ap, sym, ◌∙◌, subst, arith}
+use Rattle.std.proofs.lemmas.Bool.Decides.{nat_tests}
+use Rattle.std.proofs.lemmas.List.{get_or-set_same, get_or-set_other, length-set}
+use Rattle.std.proofs.lemmas.Option.{same_Some}
+use Rattle.xl_model.specs.declared.leaf.Leaf.{Leaf}
+use Rattle.xl_model.specs.Addresses.{level_of}
+use Rattle.xl_model.specs.Words.{pointer_word}
+use Rattle.xl_model.specs.Nodes.{up, Node, is_below, in_nodes, number_of}
+use Rattle.xl_mapping.specs.Members.{In}
+use Rattle.xl_model.specs.Image.{leaf_in, entry, word_at, word_of}
+use Rattle.xl_radix.specs.Table.{IsImage, IsNearly, IsRooted}
+use Rattle.xl_radix.specs.Steps.{Stands}
+use Rattle.xl_radix.proofs.NumberLemmas.{number-some, number-none, number-there, number-set-other, number-only, below-some, is-below, below-is, Is}
+use Rattle.xl_radix.proofs.SlotLemmas.{At, leaf-in-some, in-nodes}
+
+-- The node below slot (s, l + 1, q).
+abbrev pub new_node : ℕ → ℕ → ℕ → Node
+new_node s l q = record { space = s; level = l; prefix = q }
+
+pub new-below : (s l q : ℕ) → is_below s (suc l) q (Some (new_node s l q)) ≡ true
+new-below s l q = is-below s (suc l) q (new_node s l q) (record { space_is = refl; level_is = omega arith; prefix_is = refl })
+
+-- Which slot a slot is, against one that is named.
+pub data Which (s l q a b c : ℕ) : Type 0 where
+  That : a ≡ s → b ≡ l → c ≡ q → Which s l q a b c
+  Another : is_below a b c (Some (new_node s (l - 1) q)) ≡ false → ((a ≡ s) × (b ≡ l) × (c ≡ q) → ⊥) → Which s l q a b c
+
+pub which : (s l q a b c : ℕ) → Which s (suc l) q a b c
+which s l q a b c =
+    elim (is_below a b c (Some (new_node s l q))) as (λ t. is_below a b c (Some (new_node s l q)) ≡ t → Which s (suc l) q a b c) [
+      | true ↦ λ e. let i = below-is a b c (new_node s l q) e in That (sym i.space_is) (omega (arith, i.level_is)) (sym i.prefix_is)
+      | false ↦ λ e. Another (let h : suc l - 1 ≡ l = omega arith in rw h e) (λ t. not e t)
+    ] refl
+  where
+    not : is_below a b c (Some (new_node s l q)) ≡ false → (a ≡ s) × (b ≡ suc l) × (c ≡ q) → ⊥
+    not e t =
+        let f = is-below a b c (new_node s l q) (record { space_is = sym t.0; level_is = omega (arith, t.1); prefix_is = sym t.2 }) in cc
+
+pub record IsSpot (s l q k : ℕ) (leaves : List Leaf) (nodes : List (Option Node)) : Type 0 where
+  pub within : k < length nodes
+  pub free : slice_index_or nodes k None ≡ None
+  pub empty : leaf_in s (suc l) q leaves ≡ None
+  pub absent : number_of s (suc l) q nodes ≡ None
+
+abbrev pub made_nodes : ℕ → ℕ → ℕ → ℕ → List (Option Node) → List (Option Node)
+made_nodes s l q k nodes = slice_set nodes k (Some (new_node s l q))
+
+pub made-at : (s l q k n : ℕ) (leaves : List Leaf) (nodes : List (Option Node)) → IsSpot s l q k leaves nodes → ((n ≡ k) × (slice_index_or (made_nodes s l q k nodes) n None ≡ Some (new_node s l q))) ⊎ ((n ≢ k) × (slice_index_or (made_nodes s l q k nodes) n None ≡ slice_index_or nodes n None))
+made-at s l q k n leaves nodes spot =
+    elim (n == k) as (λ t. (n == k) ≡ t → ((n ≡ k) × (slice_index_or (made_nodes s l q k nodes) n None ≡ Some (new_node s l q))) ⊎ ((n ≢ k) × (slice_index_or (made_nodes s l q k nodes) n None ≡ slice_index_or nodes n None))) [
+      | true ↦ λ e. let g : n ≡ k = grind (arith, nat_tests) in inl (g, rw g (get_or-set_same nodes k (Some (new_node s l q)) None spot.within))
+      | false ↦ λ e. let g : n ≢ k = grind (arith, nat_tests) in inr (g, get_or-set_other nodes k n (Some (new_node s l q)) None g)
+    ] refl
+
+pub made-number-other : (s l q k a b c : ℕ) (leaves : List Leaf) (nodes : List (Option Node)) → IsSpot s l q k leaves nodes → is_below a b c (Some (new_node s l q)) ≡ false → number_of a b c (made_nodes s l q k nodes) ≡ number_of a b c nodes
+made-number-other s l q k a b c leaves nodes spot f = number-set-other a b c k (Some (new_node s l q)) nodes spot.free f
+
+-- the new node is the only one of its name
+pub made-number-same : (s l q k : ℕ) (leaves : List Leaf) (nodes : List (Option Node)) → IsSpot s l q k leaves nodes → number_of s (suc l) q (made_nodes s l q k nodes) ≡ Some k
+made-number-same s l q k leaves nodes spot =
+    number-only s (suc l) q k (made_nodes s l q k nodes) there only
+  where
+    there : is_below s (suc l) q (slice_index_or (made_nodes s l q k nodes) k None) ≡ true
+    there = rw (get_or-set_same nodes k (Some (new_node s l q)) None spot.within) (new-below s l q)
+
+    only : (m : ℕ) → is_below s (suc l) q (slice_index_or (made_nodes s l q k nodes) m None) ≡ true → m ≡ k
+    only m h = elim (made-at s l q k m leaves nodes spot) [
+      | inl e ↦ e.0
+      | inr e ↦ let g = number-none s (suc l) q m nodes spot.absent in absurd (let h2 = rw e.1 at h in cc)
+    ]
+
+-- A node that was there stays there.
+pub made-keeps : (s l q k a b c : ℕ) (leaves : List Leaf) (nodes : List (Option Node)) → IsSpot s l q k leaves nodes → (number_of a b c nodes ≡ None → ⊥) → number_of a b c (made_nodes s l q k nodes) ≡ None → ⊥
+made-keeps s l q k a b c leaves nodes spot there h =
+    elim (which s l q a b c) [
+      | That e f g ↦ let t = made-number-same s l q k leaves nodes spot in let u : number_of a b c (made_nodes s l q k nodes) ≡ number_of s (suc l) q (made_nodes s l q k nodes) = rw (e, f, g) refl in absurd (cc)
+      | Another e f ↦ there (sym (made-number-other s l q k a b c leaves nodes spot (plain e)) ∙ h)
+    ]
+  where
+    plain : is_below a b c (Some (new_node s (suc l - 1) q)) ≡ false → is_below a b c (Some (new_node s l q)) ≡ false
+    plain e = let h : suc l - 1 ≡ l = omega arith in rw h at e
+
+-- the words of the new node are 0
+pub made-empty : (top s l q k i : ℕ) (leaves : List Leaf) (nodes : List (Option Node)) (words : List ℕ) → IsImage top leaves nodes words → suc l ≤ top → IsSpot s l q k leaves nodes → i < 512 → word_at leaves (made_nodes s l q k nodes) s l (q * 512 + i) ≡ 0
+unfolding word_at
+made-empty top s l q k i leaves nodes words image low spot h =
+    rw (no-leaf, no-node) refl
+  where
+    leaf : (x : Leaf) → In x leaves × At s l (q * 512 + i) x → ⊥
+    leaf x r =
+        let b : up l x.first ≡ q * 512 + i = r.1.block_is in
+        let block : up l x.first / 512 ≡ q = omega arith in
+        let lower : level_of x.order < suc l = omega (arith, r.1.level_is) in
+        image.full s (suc l) q (in-nodes s (suc l) q leaves x r.0 (record { space_is = r.1.space_is; level_in = lower; block_is = block })) low spot.absent
+
+    no-leaf : leaf_in s l (q * 512 + i) leaves ≡ None
+    no-leaf = elim (leaf_in s l (q * 512 + i) leaves) as (λ o. leaf_in s l (q * 512 + i) leaves ≡ o → o ≡ None) [
+      | Some x ↦ λ e. absurd (leaf x (leaf-in-some s l (q * 512 + i) leaves x e))
+      | None ↦ λ e. refl
+    ] refl
+
+    node : (n : ℕ) → is_below s l (q * 512 + i) (slice_index_or nodes n None) ≡ true → ⊥
+    node n e =
+        let g : (q * 512 + i) / 512 ≡ q = omega arith in
+        elim (image.closed s l (q * 512 + i) n e) [
+          | inl t ↦ omega (arith, t)
+          | inr t ↦ t.0 (rw g spot.absent)
+        ]
+
+    another : (l : ℕ) → is_below s l (q * 512 + i) (Some (new_node s l q)) ≡ false
+    another l = grind (arith, nat_tests)
+
+    no-node : number_of s l (q * 512 + i) (made_nodes s l q k nodes) ≡ None
+    no-node = elim (number_of s l (q * 512 + i) nodes) as (λ o. number_of s l (q * 512 + i) nodes ≡ o → number_of s l (q * 512 + i) (made_nodes s l q k nodes) ≡ None) [
+      | Some n ↦ λ e. absurd (node n (number-some s l (q * 512 + i) n nodes e).1)
+      | None ↦ λ e. made-number-other s l q k s l (q * 512 + i) leaves nodes spot (another l) ∙ e
+    ] refl
+
+-- The word of a slot other than that of the new node stays.
+pub made-word : (s l q k a b c : ℕ) (leaves : List Leaf) (nodes : List (Option Node)) → IsSpot s l q k leaves nodes → is_below a b c (Some (new_node s l q)) ≡ false → word_at leaves (made_nodes s l q k nodes) a b c ≡ word_at leaves nodes a b c
+unfolding word_at
+made-word s l q k a b c leaves nodes spot f = ap (entry (leaf_in a b c leaves)) (made-number-other s l q k a b c leaves nodes spot f)
+
+pub made-pointer : (s l q k : ℕ) (leaves : List Leaf) (nodes : List (Option Node)) → IsSpot s l q k leaves nodes → word_at leaves (made_nodes s l q k nodes) s (suc l) q ≡ pointer_word k
+unfolding word_at
+made-pointer s l q k leaves nodes spot = rw (spot.empty, made-number-same s l q k leaves nodes spot) refl
+
+abbrev pub made_words : ℕ → ℕ → ℕ → List ℕ → List ℕ
+made_words n index k words = slice_set words (n * 512 + index) (pointer_word k)
+
+-- what a node that stands at a page is
+pub stands-is : (s page l n : ℕ) (nodes : List (Option Node)) → Stands s page l n nodes → (node : Node) × (slice_index_or nodes n None ≡ Some node) × Is s (suc l) (up (suc l) page) node
+stands-is s page l n nodes at = below-some s (suc l) (up (suc l) page) _ at.stands
+
+-- a slot's place is its own
+pub places : (n m i j : ℕ) → i < 512 → j < 512 → n * 512 + i ≡ m * 512 + j → (n ≡ m) × (i ≡ j)
+places n m i j h g e = (omega arith, omega arith)
+
+-- The place of a page's word in the node that stands there is no other slot's, and no place of a free number.
+pub other-slot : (s page l n m i : ℕ) (nodes : List (Option Node)) (node : Node) → Stands s page l n nodes → i < 512 → slice_index_or nodes m None ≡ Some node → ((node.space ≡ s) × (node.level ≡ l) × (node.prefix * 512 + i ≡ up l page) → ⊥) → m * 512 + i ≢ n * 512 + up l page % 512
+other-slot s page l n m i nodes node at g f not d =
+    let stand = stands-is s page l n nodes at in
+    let p = places m n i (up l page % 512) g (omega arith) d in
+    let a : slice_index_or nodes n None ≡ Some node = subst (λ (v : ℕ). slice_index_or nodes v None ≡ Some node) p.0 f in
+    let c : stand.0 ≡ node = same_Some _ _ (sym stand.1 ∙ a) in
+    let i1 : node.space ≡ s = sym (ap (λ (v : Node). v.space) c) ∙ stand.2.space_is in
+    let i2 : node.level + 1 ≡ suc l = sym (ap (λ (v : Node). v.level + 1) c) ∙ stand.2.level_is in
+    let i3 : node.prefix ≡ up l page / 512 = sym (ap (λ (v : Node). v.prefix) c) ∙ stand.2.prefix_is in
+    not (i1, omega (arith, i2), omega (arith, i3, p.1))
+
+pub no-slot : (s page l n m i : ℕ) (nodes : List (Option Node)) → Stands s page l n nodes → i < 512 → slice_index_or nodes m None ≡ None → m * 512 + i ≢ n * 512 + up l page % 512
+no-slot s page l n m i nodes at g f d =
+    let stand = stands-is s page l n nodes at in
+    let p = places m n i (up l page % 512) g (omega arith) d in
+    let a : slice_index_or nodes n None ≡ None = subst (λ (v : ℕ). slice_index_or nodes v None ≡ None) p.0 f in
+    let b = stand.1 in cc
+
+pub made-same : (top s page l k n m i : ℕ) (leaves : List Leaf) (nodes : List (Option Node)) (words : List ℕ) → IsImage top leaves nodes words → suc l < top → Stands s page (suc l) n nodes → IsSpot s l (up (suc l) page) k leaves nodes → m < length nodes → i < 512 →
+    slice_index (made_words n (up (suc l) page % 512) k words) (m * 512 + i) ≡ word_of leaves (made_nodes s l (up (suc l) page) k nodes) (slice_index_or (made_nodes s l (up (suc l) page) k nodes) m None) i
+made-same top s page l k n m i leaves nodes words image low at spot h g =
+    elim (made-at s l q k m leaves nodes spot) [
+      | inl e ↦ rw e.1 (kept (new-place e.0) ∙ image.same m i h g ∙ ap (λ (o : Option Node). word_of leaves nodes o i) (subst (λ (v : ℕ). slice_index_or nodes v None ≡ None) (sym e.0) spot.free) ∙ sym (made-empty top s l q k i leaves nodes words image (omega arith) spot g))
+      | inr e ↦ rw e.1 (elim (slice_index_or nodes m None) as (λ o. slice_index_or nodes m None ≡ o → slice_index (made_words n (q % 512) k words) (m * 512 + i) ≡ word_of leaves (made_nodes s l q k nodes) o i) [
+        | None ↦ λ f. kept (no-slot s page (suc l) n m i nodes at g f) ∙ image.same m i h g ∙ ap (λ (o : Option Node). word_of leaves nodes o i) f
+        | Some node ↦ λ f. some node f (which s l q node.space node.level (node.prefix * 512 + i))
+      ] refl)
+    ]
+  where
+    q : ℕ
+    q = up (suc l) page
+
+    kept : (m * 512 + i ≢ n * 512 + up (suc l) page % 512) → slice_index (made_words n (up (suc l) page % 512) k words) (m * 512 + i) ≡ slice_index words (m * 512 + i)
+    kept d = get_or-set_other words (n * 512 + up (suc l) page % 512) (m * 512 + i) (pointer_word k) 0 d
+
+    new-place : m ≡ k → m * 512 + i ≢ n * 512 + up (suc l) page % 512
+    new-place e = no-slot s page (suc l) n m i nodes at g (subst (λ (v : ℕ). slice_index_or nodes v None ≡ None) (sym e) spot.free)
+
+    that : (node : Node) → slice_index_or nodes m None ≡ Some node → node.space ≡ s → node.level ≡ suc l → node.prefix * 512 + i ≡ up (suc l) page → slice_index (made_words n (up (suc l) page % 512) k words) (m * 512 + i) ≡ pointer_word k
+    that node f a b c =
+        let pre : node.prefix ≡ up (suc (suc l)) page = omega (arith, c) in
+        let idx : i ≡ up (suc l) page % 512 = omega (arith, c) in
+        let here : is_below s (suc (suc l)) (up (suc (suc l)) page) (slice_index_or nodes m None) ≡ true = rw f (is-below s (suc (suc l)) (up (suc (suc l)) page) node (record { space_is = a; level_is = omega (arith, b); prefix_is = pre })) in
+        let e : m ≡ n = image.apart s (suc (suc l)) (up (suc (suc l)) page) m n here at.stands in
+        let inside : n * 512 + up (suc l) page % 512 < length words = omega (arith, image.size, e) in
+        rw (e, idx) (get_or-set_same words (n * 512 + up (suc l) page % 512) (pointer_word k) 0 inside)
+
+    plain : (a b c : ℕ) → is_below a b c (Some (new_node s (suc l - 1) (up (suc l) page))) ≡ false → is_below a b c (Some (new_node s l (up (suc l) page))) ≡ false
+    plain a b c e = let h : suc l - 1 ≡ l = omega arith in rw h at e
+
+    some : (node : Node) → slice_index_or nodes m None ≡ Some node → Which s (suc l) (up (suc l) page) node.space node.level (node.prefix * 512 + i) → slice_index (made_words n (up (suc l) page % 512) k words) (m * 512 + i) ≡ word_at leaves (made_nodes s l (up (suc l) page) k nodes) node.space node.level (node.prefix * 512 + i)
+    some node f (That a b c) = that node f a b c ∙ sym (rw (a, b, c) (made-pointer s l (up (suc l) page) k leaves nodes spot))
+    some node f (Another a b) =
+        kept (other-slot s page (suc l) n m i nodes node at g f b) ∙ image.same m i h g ∙ ap (λ (o : Option Node). word_of leaves nodes o i) f ∙ sym (made-word s l (up (suc l) page) k node.space node.level (node.prefix * 512 + i) leaves nodes spot (plain node.space node.level (node.prefix * 512 + i) a))
+
+pub made : (top s page l k n : ℕ) (leaves : List Leaf) (nodes : List (Option Node)) (words : List ℕ) → IsImage top leaves nodes words → suc l < top → Stands s page (suc l) n nodes → IsSpot s l (up (suc l) page) k leaves nodes → IsImage top leaves (made_nodes s l (up (suc l) page) k nodes) (made_words n (up (suc l) page % 512) k words)
+made top s page l k n leaves nodes words image low at spot = record {
+  size = length-set words (n * 512 + up (suc l) page % 512) (pointer_word k) ∙ image.size ∙ ap (λ (v : ℕ). v * 512) (sym (length-set nodes k (Some (new_node s l q))));
+  same = λ m i h g. made-same top s page l k n m i leaves nodes words image low at spot (let e = length-set nodes k (Some (new_node s l q)) in omega (arith, e, h)) g;
+  apart = apart;
+  closed = closed;
+  full = λ a b c h g. made-keeps s l q k a b c leaves nodes spot (image.full a b c h g);
+}
+  where
+    q : ℕ
+    q = up (suc l) page
+
+    taken : (a b c m : ℕ) → is_below a b c (Some (new_node s l (up (suc l) page))) ≡ true → is_below a b c (slice_index_or nodes m None) ≡ true → ⊥
+    taken a b c m e f =
+        let i = below-is a b c (new_node s l (up (suc l) page)) e in
+        let b1 : suc l ≡ b = omega (arith, i.level_is) in
+        let f2 : is_below s (suc l) (up (suc l) page) (slice_index_or nodes m None) ≡ true = rw (i.space_is, b1, i.prefix_is) f in
+        number-there s (suc l) (up (suc l) page) m nodes f2 spot.absent
+
+    apart : (a b c n m : ℕ) → is_below a b c (slice_index_or (made_nodes s l (up (suc l) page) k nodes) n None) ≡ true → is_below a b c (slice_index_or (made_nodes s l (up (suc l) page) k nodes) m None) ≡ true → n ≡ m
+    apart a b c n m h g =
+        elim (made-at s l (up (suc l) page) k n leaves nodes spot) [
+          | inl e ↦ elim (made-at s l (up (suc l) page) k m leaves nodes spot) [
+            | inl f ↦ e.0 ∙ sym f.0
+            | inr f ↦ absurd (taken a b c m (rw e.1 at h) (rw f.1 at g))
+          ]
+          | inr e ↦ elim (made-at s l (up (suc l) page) k m leaves nodes spot) [
+            | inl f ↦ absurd (taken a b c n (rw f.1 at g) (rw e.1 at h))
+            | inr f ↦ image.apart a b c n m (rw e.1 at h) (rw f.1 at g)
+          ]
+        ]
+
+    old : (a b c : ℕ) → (b ≡ top) ⊎ ((number_of a (suc b) (c / 512) nodes ≡ None → ⊥) × (b < top)) → (b ≡ top) ⊎ ((number_of a (suc b) (c / 512) (made_nodes s l (up (suc l) page) k nodes) ≡ None → ⊥) × (b < top))
+    old a b c (inl e) = inl e
+    old a b c (inr e) = inr (made-keeps s l (up (suc l) page) k a (suc b) (c / 512) leaves nodes spot e.0, e.1)
+
+    newly : (a b c : ℕ) → is_below a b c (Some (new_node s l (up (suc l) page))) ≡ true → (b ≡ top) ⊎ ((number_of a (suc b) (c / 512) (made_nodes s l (up (suc l) page) k nodes) ≡ None → ⊥) × (b < top))
+    newly a b c e =
+        let i = below-is a b c (new_node s l (up (suc l) page)) e in
+        let b1 : suc l ≡ b = omega (arith, i.level_is) in
+        let parent : number_of s (suc (suc l)) (up (suc l) page / 512) nodes ≡ None → ⊥ = number-there s (suc (suc l)) (up (suc (suc l)) page) n nodes at.stands in
+        let keeps = made-keeps s l (up (suc l) page) k s (suc (suc l)) (up (suc l) page / 512) leaves nodes spot parent in
+        inr (rw (← i.space_is, ← b1, ← i.prefix_is) keeps, omega (arith, b1))
+
+    closed : (a b c m : ℕ) → is_below a b c (slice_index_or (made_nodes s l (up (suc l) page) k nodes) m None) ≡ true → (b ≡ top) ⊎ ((number_of a (suc b) (c / 512) (made_nodes s l (up (suc l) page) k nodes) ≡ None → ⊥) × (b < top))
+    closed a b c m h =
+        elim (made-at s l (up (suc l) page) k m leaves nodes spot) [
+          | inl e ↦ newly a b c (rw e.1 at h)
+          | inr e ↦ old a b c (image.closed a b c m (rw e.1 at h))
+        ]
+
+-- The new node stands at its page.
+pub made-stands : (s page l k : ℕ) (leaves : List Leaf) (nodes : List (Option Node)) → IsSpot s l (up (suc l) page) k leaves nodes → Stands s page l k (made_nodes s l (up (suc l) page) k nodes)
+made-stands s page l k leaves nodes spot = record {
+  stands = rw (get_or-set_same nodes k (Some (new_node s l (up (suc l) page))) None spot.within) (new-below s l (up (suc l) page));
+}
+
+-- The roots stay, and all but the path's nodes are needed as before.
+pub made-rooted : (top spaces s l q k : ℕ) (leaves : List Leaf) (nodes : List (Option Node)) → IsRooted top spaces nodes → IsSpot s l q k leaves nodes → IsRooted top spaces (made_nodes s l q k nodes)
+made-rooted top spaces s l q k leaves nodes rooted spot =
+    let e = length-set nodes k (Some (new_node s l q)) in
+    record {
+      root = λ a h. elim (made-at s l q k a leaves nodes spot) [
+        | inl f ↦ absurd (free a f.0 (rooted.root a h))
+        | inr f ↦ rw f.1 (rooted.root a h)
+      ];
+      spaces_in = omega (arith, e, rooted.spaces_in);
+      small = omega (arith, e, rooted.small);
+    }
+  where
+    free : (a : ℕ) → a ≡ k → is_below a top 0 (slice_index_or nodes a None) ≡ true → ⊥
+    free a e h =
+        let f : slice_index_or nodes a None ≡ None = subst (λ (v : ℕ). slice_index_or nodes v None ≡ None) (sym e) spot.free in
+        let g : is_below a top 0 (slice_index_or nodes a None) ≡ false = ap (is_below a top 0) f in cc
+
+pub made-nearly : (top s page l j k : ℕ) (leaves : List Leaf) (nodes : List (Option Node)) → IsNearly top s page l leaves nodes → l ≤ j → IsSpot s j (up (suc j) page) k leaves nodes → IsNearly top s page l leaves (made_nodes s j (up (suc j) page) k nodes)
+made-nearly top s page l j k leaves nodes nearly h spot = record {
+  nearly = λ a b c n g. elim (made-at s j (up (suc j) page) k n leaves nodes spot) [
+    | inl e ↦ on-path a b c (below-is a b c (new_node s j (up (suc j) page)) (rw e.1 at g))
+    | inr e ↦ nearly.nearly a b c n (rw e.1 at g)
+  ];
+}
+  where
+    on-path : (a b c : ℕ) → Is a b c (new_node s j (up (suc j) page)) → (b ≡ top) ⊎ ((in_nodes a b c leaves ≡ true) ⊎ ((a ≡ s) × (l < b) × (c ≡ up b page)))
+    on-path a b c i =
+        let b1 : suc j ≡ b = omega (arith, i.level_is) in
+        inr (inr (sym i.space_is, omega (arith, b1), subst (λ (v : ℕ). c ≡ up v page) b1 (sym i.prefix_is)))

@@ -1,0 +1,161 @@
+-- A leaf comes to its slot.
+use Rattle.std.proofs.Common.{ℕ, zero, suc, ◌≡◌, ◌≢◌, ◌+◌, ◌*◌, ◌%◌, ◌^◌, ◌<◌, ◌≤◌, true, false, ◌⊎◌, inl, inr, List, length, slice_index, slice_index_or, slice_set, Option, Some, None, refl, ap, sym, ◌∙◌, subst, arith}
+use Rattle.std.proofs.lemmas.Bool.{cases_lt}
+use Rattle.std.proofs.lemmas.List.{get_or-set_same, get_or-set_other, length-set}
+use Rattle.xl_model.specs.declared.leaf.Leaf.{Leaf}
+use Rattle.xl_model.specs.Addresses.{level_of}
+use Rattle.xl_model.specs.Mapping.{with_leaf, leaf_key}
+use Rattle.xl_model.specs.Words.{leaf_word}
+use Rattle.xl_model.specs.Nodes.{up, Node, is_below, in_nodes, number_of}
+use Rattle.xl_mapping.specs.Members.{In}
+use Rattle.xl_mapping.proofs.InsertionLemmas.{with-In, In-with, stays-with, sorted-with}
+use Rattle.xl_model.specs.Image.{is_slot, leaf_in, word_at, word_of}
+use Rattle.xl_radix.specs.Table.{IsNew, IsRadixLeaf, IsRadixMapping, IsImage, IsNearly, IsExact}
+use Rattle.xl_radix.specs.Steps.{Stands, IsReady}
+use Rattle.xl_radix.proofs.CaseLemmas.{split-less}
+use Rattle.xl_radix.proofs.ListLemmas.{find-with, find-with-other}
+use Rattle.xl_radix.proofs.NumberLemmas.{number-some, number-there, is-below}
+use Rattle.xl_radix.proofs.SlotLemmas.{At, Under, slot-at, at-slot, leaf-in-none, in-nodes, in-nodes-leaf}
+use Rattle.xl_radix.proofs.MadeNodeLemmas.{other-slot, no-slot}
+
+pub no-key : (top spaces : ℕ) (x : Leaf) (leaves : List Leaf) → IsRadixMapping top spaces leaves → IsNew top spaces x leaves → (y : Leaf) → In y leaves → leaf_key x ≡ leaf_key y → ⊥
+no-key top spaces x leaves m new y i e =
+    let a : x.first < 2 ^ 52 = new.proper.key_in in
+    let b : y.first < 2 ^ 52 = (m.proper y i).key_in in
+    let s : y.space ≡ x.space = omega (arith, a, b, e) in
+    let f : y.first ≡ x.first = omega (arith, a, b, e) in
+    elim (cases_lt (level_of x.order) (level_of y.order)) [
+      | inl lt ↦ new.under y i s (omega arith) (ap (up (level_of y.order)) f)
+      | inr ge ↦ new.over y i s ge (ap (up (level_of x.order)) f)
+    ]
+
+pub placed-leaf-same : (top spaces s l q : ℕ) (x : Leaf) (n : ℕ) (leaves : List Leaf) (nodes : List (Option Node)) → IsReady x.space x.first (level_of x.order) n leaves nodes → At s l q x → leaf_in s l q (with_leaf x leaves) ≡ Some x
+unfolding leaf_in
+placed-leaf-same top spaces s l q x n leaves nodes hole at =
+    find-with (is_slot s l q) x leaves (at-slot s l q x at) (λ y i t. leaf-in-none x.space (level_of x.order) (up (level_of x.order) x.first) leaves y hole.empty i (there y (slot-at s l q y t)))
+  where
+    there : (y : Leaf) → At s l q y → At x.space (level_of x.order) (up (level_of x.order) x.first) y
+    there y a = record {
+      space_is = a.space_is ∙ sym at.space_is;
+      level_is = a.level_is ∙ sym at.level_is;
+      block_is = let e = at.level_is in rw e (a.block_is ∙ sym at.block_is);
+    }
+
+pub placed-leaf-other : (top spaces s l q : ℕ) (x : Leaf) (leaves : List Leaf) → IsRadixMapping top spaces leaves → IsNew top spaces x leaves → is_slot s l q x ≡ false → leaf_in s l q (with_leaf x leaves) ≡ leaf_in s l q leaves
+unfolding leaf_in
+placed-leaf-other top spaces s l q x leaves m new f = find-with-other (is_slot s l q) x leaves f (no-key top spaces x leaves m new)
+
+placed-word : (s l q : ℕ) (x : Leaf) (leaves : List Leaf) (nodes : List (Option Node)) → leaf_in s l q leaves ≡ Some x → word_at leaves nodes s l q ≡ leaf_word x.frame x.perm
+unfolding word_at
+placed-word s l q x leaves nodes e = rw e refl
+
+pub same-word : (s l q : ℕ) (new leaves : List Leaf) (nodes : List (Option Node)) → leaf_in s l q new ≡ leaf_in s l q leaves → word_at new nodes s l q ≡ word_at leaves nodes s l q
+unfolding word_at
+same-word s l q new leaves nodes e = rw e refl
+
+-- Above a node that stands at a page, the page's nodes are there.
+pub above : (top s page l n b : ℕ) (leaves : List Leaf) (nodes : List (Option Node)) (words : List ℕ) → IsImage top leaves nodes words → Stands s page l n nodes → l < b → b ≤ top → number_of s b (up b page) nodes ≡ None → ⊥
+above top s page l n zero leaves nodes words image at h g e = omega arith
+above top s page l n (suc b) leaves nodes words image at h g e =
+    next (split-less l b h) (λ k. above top s page l n b leaves nodes words image at k (omega arith))
+  where
+    up-from : (number_of s b (up b page) nodes ≡ None → ⊥) → ⊥
+    up-from there = elim (number_of s b (up b page) nodes) as (λ o. number_of s b (up b page) nodes ≡ o → ⊥) [
+      | None ↦ λ f. there f
+      | Some m ↦ λ f. elim (image.closed s b (up b page) m (number-some s b (up b page) m nodes f).1) [
+        | inl t ↦ omega (arith, t)
+        | inr t ↦ t.0 e
+      ]
+    ] refl
+
+    next : (l ≡ b) ⊎ (l < b) → (l < b → number_of s b (up b page) nodes ≡ None → ⊥) → ⊥
+    next (inl f) there = number-there s (suc b) (up (suc b) page) n nodes (subst (λ (v : ℕ). is_below s (suc v) (up (suc v) page) (slice_index_or nodes n None) ≡ true) f at.stands) e
+    next (inr f) there = up-from (there f)
+
+abbrev pub placed_words : Leaf → ℕ → List ℕ → List ℕ
+placed_words x n words = slice_set words (n * 512 + up (level_of x.order) x.first % 512) (leaf_word x.frame x.perm)
+
+-- The place of a leaf's word is that of no slot at which the leaf doesn't stand.
+pub other-leaf-slot : (x : Leaf) (n m i : ℕ) (nodes : List (Option Node)) (node : Node) → Stands x.space x.first (level_of x.order) n nodes → i < 512 → slice_index_or nodes m None ≡ Some node → is_slot node.space node.level (node.prefix * 512 + i) x ≡ false → m * 512 + i ≢ n * 512 + up (level_of x.order) x.first % 512
+other-leaf-slot x n m i nodes node at g f not =
+    other-slot x.space x.first (level_of x.order) n m i nodes node at g f (λ e.
+    let t = at-slot node.space node.level (node.prefix * 512 + i) x (record { space_is = sym e.0; level_is = sym e.1; block_is = subst (λ (v : ℕ). up v x.first ≡ node.prefix * 512 + i) (sym e.1) (sym e.2) }) in cc)
+
+pub placed-same : (top spaces : ℕ) (x : Leaf) (n m i : ℕ) (leaves : List Leaf) (nodes : List (Option Node)) (words : List ℕ) → IsRadixMapping top spaces leaves → IsImage top leaves nodes words → IsNew top spaces x leaves → IsReady x.space x.first (level_of x.order) n leaves nodes → m < length nodes → i < 512 →
+    slice_index (placed_words x n words) (m * 512 + i) ≡ word_of (with_leaf x leaves) nodes (slice_index_or nodes m None) i
+placed-same top spaces x n m i leaves nodes words mapping image new hole h g =
+    elim (slice_index_or nodes m None) as (λ o. slice_index_or nodes m None ≡ o → slice_index (placed_words x n words) (m * 512 + i) ≡ word_of (with_leaf x leaves) nodes o i) [
+      | None ↦ λ f. kept (no-slot x.space x.first (level_of x.order) n m i nodes hole.at g f) ∙ image.same m i h g ∙ ap (λ (o : Option Node). word_of leaves nodes o i) f
+      | Some node ↦ λ f. elim (is_slot node.space node.level (node.prefix * 512 + i) x) as (λ t. is_slot node.space node.level (node.prefix * 512 + i) x ≡ t → slice_index (placed_words x n words) (m * 512 + i) ≡ word_at (with_leaf x leaves) nodes node.space node.level (node.prefix * 512 + i)) [
+        | true ↦ λ e. let a = slot-at node.space node.level (node.prefix * 512 + i) x e in that node f a ∙ sym (placed-word node.space node.level (node.prefix * 512 + i) x (with_leaf x leaves) nodes (placed-leaf-same top spaces node.space node.level (node.prefix * 512 + i) x n leaves nodes hole a))
+        | false ↦ λ e. kept (other-leaf-slot x n m i nodes node hole.at g f e) ∙ image.same m i h g ∙ ap (λ (o : Option Node). word_of leaves nodes o i) f ∙ sym (same-word node.space node.level (node.prefix * 512 + i) (with_leaf x leaves) leaves nodes (placed-leaf-other top spaces node.space node.level (node.prefix * 512 + i) x leaves mapping new e))
+      ] refl
+    ] refl
+  where
+    kept : (m * 512 + i ≢ n * 512 + up (level_of x.order) x.first % 512) → slice_index (placed_words x n words) (m * 512 + i) ≡ slice_index words (m * 512 + i)
+    kept d = get_or-set_other words (n * 512 + up (level_of x.order) x.first % 512) (m * 512 + i) (leaf_word x.frame x.perm) 0 d
+
+    that : (node : Node) → slice_index_or nodes m None ≡ Some node → At node.space node.level (node.prefix * 512 + i) x → slice_index (placed_words x n words) (m * 512 + i) ≡ leaf_word x.frame x.perm
+    that node f a =
+        let c : up (level_of x.order) x.first ≡ node.prefix * 512 + i = let e = a.level_is in rw e a.block_is in
+        let pre : node.prefix ≡ up (suc (level_of x.order)) x.first = omega (arith, c) in
+        let idx : i ≡ up (level_of x.order) x.first % 512 = omega (arith, c) in
+        let here : is_below x.space (suc (level_of x.order)) (up (suc (level_of x.order)) x.first) (slice_index_or nodes m None) ≡ true = rw f (is-below x.space (suc (level_of x.order)) (up (suc (level_of x.order)) x.first) node (record { space_is = sym a.space_is; level_is = omega (arith, a.level_is); prefix_is = pre })) in
+        let e : m ≡ n = image.apart x.space (suc (level_of x.order)) (up (suc (level_of x.order)) x.first) m n here hole.at.stands in
+        let inside : n * 512 + up (level_of x.order) x.first % 512 < length words = omega (arith, image.size, e) in
+        rw (e, idx) (get_or-set_same words (n * 512 + up (level_of x.order) x.first % 512) (leaf_word x.frame x.perm) 0 inside)
+
+pub placed : (top spaces : ℕ) (x : Leaf) (n : ℕ) (leaves : List Leaf) (nodes : List (Option Node)) (words : List ℕ) → 3 ≤ top → IsRadixMapping top spaces leaves → IsImage top leaves nodes words → IsNew top spaces x leaves → IsReady x.space x.first (level_of x.order) n leaves nodes → IsImage top (with_leaf x leaves) nodes (placed_words x n words)
+placed top spaces x n leaves nodes words high mapping image new hole = record {
+  size = length-set words (n * 512 + up (level_of x.order) x.first % 512) (leaf_word x.frame x.perm) ∙ image.size;
+  same = λ m i h g. placed-same top spaces x n m i leaves nodes words mapping image new hole h g;
+  apart = image.apart;
+  closed = image.closed;
+  full = λ a b c h g. full a b c (in-nodes-leaf a b c (with_leaf x leaves) h) g;
+}
+  where
+    own : (a b c : ℕ) → Under a b c x → b ≤ top → number_of a b c nodes ≡ None → ⊥
+    own a b c u g e = above top x.space x.first (level_of x.order) n b leaves nodes words image hole.at u.level_in g (rw (u.space_is, u.block_is) e)
+
+    full : (a b c : ℕ) → (z : Leaf) × In z (with_leaf x leaves) × Under a b c z → b ≤ top → number_of a b c nodes ≡ None → ⊥
+    full a b c r g = elim (with-In r.0 x leaves r.1) [
+      | inl e ↦ own a b c (subst (λ (v : Leaf). Under a b c v) e r.2) g
+      | inr i ↦ image.full a b c (in-nodes a b c leaves r.0 i r.2) g
+    ]
+
+pub placed-mapping : (top spaces : ℕ) (x : Leaf) (leaves : List Leaf) → IsRadixMapping top spaces leaves → IsNew top spaces x leaves → IsRadixMapping top spaces (with_leaf x leaves)
+placed-mapping top spaces x leaves m new = record {
+  proper = λ y i. elim (with-In y x leaves i) [ inl e ↦ subst (λ (v : Leaf). IsRadixLeaf top spaces v) (sym e) new.proper | inr j ↦ m.proper y j ];
+  sorted = sorted-with x leaves m.sorted;
+  apart = λ y z i j s h e. apart y z (with-In y x leaves i) (with-In z x leaves j) s h e;
+}
+  where
+    first : (z : Leaf) → In z leaves → x.space ≡ z.space → level_of x.order ≤ level_of z.order → up (level_of z.order) x.first ≡ up (level_of z.order) z.first → ⊥
+    first z j s h e = new.under z j (sym s) h (sym e)
+
+    last : (y : Leaf) → In y leaves → y.space ≡ x.space → level_of y.order ≤ level_of x.order → up (level_of x.order) y.first ≡ up (level_of x.order) x.first → ⊥
+    last y i s h e = new.over y i s h e
+
+    apart : (y z : Leaf) → (y ≡ x) ⊎ In y leaves → (z ≡ x) ⊎ In z leaves → y.space ≡ z.space → level_of y.order ≤ level_of z.order → up (level_of z.order) y.first ≡ up (level_of z.order) z.first → y ≡ z
+    apart y z (inl a) (inl b) s h e = a ∙ sym b
+    apart y z (inl a) (inr j) s h e = absurd (subst (λ (v : Leaf). v.space ≡ z.space → level_of v.order ≤ level_of z.order → up (level_of z.order) v.first ≡ up (level_of z.order) z.first → ⊥) (sym a) (first z j) s h e)
+    apart y z (inr i) (inl b) s h e = absurd (subst (λ (v : Leaf). y.space ≡ v.space → level_of y.order ≤ level_of v.order → up (level_of v.order) y.first ≡ up (level_of v.order) v.first → ⊥) (sym b) (last y i) s h e)
+    apart y z (inr i) (inr j) s h e = m.apart y z i j s h e
+
+pub placed-exact : (top spaces : ℕ) (x : Leaf) (leaves : List Leaf) (nodes : List (Option Node)) → IsRadixMapping top spaces leaves → IsNew top spaces x leaves → IsNearly top x.space x.first (level_of x.order) leaves nodes → IsExact top (with_leaf x leaves) nodes
+placed-exact top spaces x leaves nodes m new nearly = record {
+  needed = λ a b c n h. needed a b c (nearly.nearly a b c n h);
+}
+  where
+    kept : (a b c : ℕ) → (z : Leaf) × In z leaves × Under a b c z → in_nodes a b c (with_leaf x leaves) ≡ true
+    kept a b c r = in-nodes a b c (with_leaf x leaves) r.0 (stays-with r.0 x leaves r.1 (λ e. no-key top spaces x leaves m new r.0 r.1 (sym e))) r.2
+
+    needed : (a b c : ℕ) → (b ≡ top) ⊎ ((in_nodes a b c leaves ≡ true) ⊎ ((a ≡ x.space) × (level_of x.order < b) × (c ≡ up b x.first))) → (b ≡ top) ⊎ (in_nodes a b c (with_leaf x leaves) ≡ true)
+    needed a b c (inl e) = inl e
+    needed a b c (inr (inl e)) = inr (kept a b c (in-nodes-leaf a b c leaves e))
+    needed a b c (inr (inr e)) = inr (in-nodes a b c (with_leaf x leaves) x (In-with x leaves) (record { space_is = sym e.0; level_in = e.1; block_is = sym e.2 }))
+
+pub nearly-start : (top s page l : ℕ) (leaves : List Leaf) (nodes : List (Option Node)) → IsExact top leaves nodes → IsNearly top s page l leaves nodes
+nearly-start top s page l leaves nodes exact = record {
+  nearly = λ a b c n h. elim (exact.needed a b c n h) [ inl e ↦ inl e | inr e ↦ inr (inl e) ];
+}

@@ -1,0 +1,167 @@
+-- A leaf moves: its new place is free, its old name stays beside the new leaf, and the order in which the two
+-- come and go doesn't matter.
+use Rattle.std.proofs.Common.{ℕ, zero, suc, ◌≡◌, ◌+◌, ◌*◌, ◌/◌, ◌%◌, ◌^◌, ◌<◌, ◌≤◌, ◌⊎◌, inl, inr, Bool, true, false, List, [], ◌∷◌, find, Option, Some, None, refl, ap, sym, ◌∙◌, subst, arith}
+use Rattle.std.specs.Prelude.{is_some}
+use Rattle.std.proofs.lemmas.Bool.{false≢true}
+use Rattle.std.proofs.lemmas.Bool.Decides.{nat_tests}
+use Rattle.std.proofs.lemmas.Option.{same_Some}
+use Rattle.xl_model.specs.declared.address.Order.{Order}
+use Rattle.xl_model.specs.declared.address.Order.TheVariants as order
+use Rattle.xl_model.specs.declared.leaf.Leaf.{Leaf}
+use Rattle.xl_model.specs.declared.perm.Perm.{Perm}
+use Rattle.xl_model.specs.Addresses.{level_of, pages_of}
+use Rattle.xl_model.specs.Changes.{Insert, Remove, Relocate, IsNamed, changed}
+use Rattle.xl_model.specs.Mapping.{with_leaf, without_leaf, leaf_key, leaf_at_page, leaf_named, is_leaf, meets_any, meets_block}
+use Rattle.xl_model.specs.Nodes.{Node, up, with_leaf_nodes, only_needed, free_count}
+use Rattle.xl_model.specs.Room.{has_room}
+use Rattle.xl_model.specs.Shapes.{Radix, brought, shape_after}
+use Rattle.xl_model.specs.Structures.{IsBlock, IsLeafFor}
+use Rattle.xl_mapping.specs.Members.{In, IsSorted}
+use Rattle.xl_mapping.proofs.InsertionLemmas.{with-In, In-with, stays-with, sorted-with, sorted-without, without-In, without-other, In-without}
+use Rattle.xl_mapping.proofs.MappingLemmas.{named-In, named-is}
+use Rattle.xl_mapping.proofs.MemberLemmas.{find-None, any-false}
+use Rattle.xl_mapping.proofs.OrderLemmas.{pages-some}
+use Rattle.xl_mapping.proofs.PlaceLemmas.{named-space, named-first, named-order}
+use Rattle.xl_mapping.proofs.SortedLemmas.{same-sorted}
+use Rattle.xl_radix.specs.Table.{Table, IsRadixMapping, IsStore}
+use Rattle.xl_radix.specs.Steps.{shape_of, IsLess, IsMove, IsMade}
+use Rattle.xl_radix.proofs.EndLemmas.{found-at}
+use Rattle.xl_radix.proofs.ReadBackLemmas.{own-slot}
+
+-- A leaf comes and another goes, in either order.
+pub with-without : (s f : ℕ) (x : Leaf) (xs : List Leaf) → IsSorted xs → ((y : Leaf) → In y xs → leaf_key x ≡ leaf_key y → ⊥) → (leaf_key x ≡ s * 2 ^ 52 + f → ⊥) → with_leaf x (without_leaf s f xs) ≡ without_leaf s f (with_leaf x xs)
+with-without s f x xs sorted none other =
+    same-sorted (with_leaf x (without_leaf s f xs)) (without_leaf s f (with_leaf x xs)) (sorted-with x (without_leaf s f xs) (sorted-without s f xs sorted)) (sorted-without s f (with_leaf x xs) (sorted-with x xs sorted)) there back
+  where
+    there : (z : Leaf) → In z (with_leaf x (without_leaf s f xs)) → In z (without_leaf s f (with_leaf x xs))
+    there z i = elim (with-In z x (without_leaf s f xs) i) [
+      | inl e ↦ subst (λ (v : Leaf). In v (without_leaf s f (with_leaf x xs))) (sym e) (In-without x s f (with_leaf x xs) (In-with x xs) other)
+      | inr j ↦ let k = without-In z s f xs j in In-without z s f (with_leaf x xs) (stays-with z x xs k (λ e. none z k (sym e))) (without-other z s f xs j)
+    ]
+
+    back : (z : Leaf) → In z (without_leaf s f (with_leaf x xs)) → In z (with_leaf x (without_leaf s f xs))
+    back z i = elim (with-In z x xs (without-In z s f (with_leaf x xs) i)) [
+      | inl e ↦ subst (λ (v : Leaf). In v (with_leaf x (without_leaf s f xs))) (sym e) (In-with x (without_leaf s f xs))
+      | inr j ↦ stays-with z x (without_leaf s f xs) (In-without z s f xs j (without-other z s f (with_leaf x xs) i)) (λ e. none z j (sym e))
+    ]
+
+-- A leaf that is named covers the page that names it.
+pub named-page-is : (top spaces s f : ℕ) (o : Order) (x : Leaf) (leaves : List Leaf) → IsRadixMapping top spaces leaves → leaf_named s f o leaves ≡ Some x → leaf_at_page s f leaves ≡ Some x
+named-page-is top spaces s f o x leaves m e =
+    let is = named-is s f o x leaves e in
+    let a = named-space s f o x is in
+    let b = named-first s f o x is in
+    let slot = own-slot top spaces leaves x m (named-In s f o x leaves e) in
+    rw (← a, ← b) (found-at top spaces x.space x.first (level_of x.order) leaves x m slot)
+
+-- What names a leaf is what covers its first page.
+pub named-at-page : (top spaces s f : ℕ) (o : Order) (leaves : List Leaf) → IsRadixMapping top spaces leaves → IsNamed s f o leaves → (x : Leaf) × (leaf_named s f o leaves ≡ Some x) × (leaf_at_page s f leaves ≡ Some x)
+named-at-page top spaces s f o leaves m name =
+    elim (leaf_named s f o leaves) as (λ r. leaf_named s f o leaves ≡ r → is_some r ≡ true → (x : Leaf) × (r ≡ Some x) × (leaf_at_page s f leaves ≡ Some x)) [
+      | None ↦ λ e g. absurd (false≢true g)
+      | Some x ↦ λ e g. (x, refl, named-page-is top spaces s f o x leaves m e)
+    ] refl name
+
+-- Frames of a leaf lie below 2^44, and its first one is a multiple of their number.
+frames-in : (o : Order) (frame : ℕ) → frame < 2 ^ 44 → frame % 2 ^ (9 * level_of o) ≡ 0 → frame + pages_of o ≤ 2 ^ 44
+frames-in order.K4 frame low e = omega arith
+frames-in order.M2 frame low e = omega arith
+frames-in order.G1 frame low e = omega arith
+
+frames-aligned : (o : Order) (frame : ℕ) → frame % 2 ^ (9 * level_of o) ≡ 0 → (e : ℕ) × (frame ≡ e * pages_of o)
+frames-aligned order.K4 frame e = (frame, omega arith)
+frames-aligned order.M2 frame e = (frame / 512, omega arith)
+frames-aligned order.G1 frame e = (frame / 262144, omega arith)
+
+limit-low : (top : ℕ) → 3 ≤ top → top ≤ 5 → 2 ^ (9 * top) ≤ 2 ^ 45
+limit-low zero h g = absurd (omega arith)
+limit-low (suc zero) h g = absurd (omega arith)
+limit-low (suc (suc zero)) h g = absurd (omega arith)
+limit-low (suc (suc (suc zero))) h g = omega arith
+limit-low (suc (suc (suc (suc zero)))) h g = omega arith
+limit-low (suc (suc (suc (suc (suc zero))))) h g = omega arith
+limit-low (suc (suc (suc (suc (suc (suc l)))))) h g = absurd (omega arith)
+
+-- A leaf that begins where a block begins meets it.
+begins-meets : (s to : ℕ) (o : Order) (y : Leaf) → y.space ≡ s → y.first ≡ to → meets_block s to o y ≡ true
+begins-meets s to o y e f =
+    let a = pages-some o in
+    let b = pages-some y.order in
+    grind (arith, nat_tests)
+
+-- No leaf of the mapping has the key of a place that none meets.
+no-key : (top spaces s to : ℕ) (o : Order) (leaves : List Leaf) → IsRadixMapping top spaces leaves → to < 2 ^ 52 → meets_any s to o leaves ≡ false → (y : Leaf) → In y leaves → s * 2 ^ 52 + to ≡ leaf_key y → ⊥
+unfolding meets_any
+no-key top spaces s to o leaves m low free y i e =
+    let key = (m.proper y i).key_in in
+    let space : y.space ≡ s = omega arith in
+    let first : y.first ≡ to = omega arith in
+    false≢true (sym (any-false (meets_block s to o) y leaves free i) ∙ begins-meets s to o y space first)
+
+found-some : {A : Type 0} (p : A → Bool) (x : A) (xs : List A) → In x xs → p x ≡ true → is_some (find p xs) ≡ true
+found-some p x xs i t =
+    elim (find p xs) as (λ o. find p xs ≡ o → is_some o ≡ true) [
+      | Some y ↦ λ e. refl
+      | None ↦ λ e. absurd (false≢true (sym (find-None p x xs e i) ∙ t))
+    ] refl
+
+-- The moved leaf.
+abbrev pub at_block : ℕ → ℕ → Order → Leaf → Leaf
+at_block s to o x = record { space = s; first = to; order = o; frame = x.frame; perm = x.perm }
+
+brings-is : (s f to : ℕ) (o : Order) (x : Leaf) (leaves : List Leaf) → leaf_named s f o leaves ≡ Some x → x.space ≡ s → x.order ≡ o → brought (Relocate s f to o) leaves ≡ Some (at_block s to o x)
+brings-is s f to o x leaves e a b = rw e (rw (a, b) refl)
+
+changed-is : (s f to : ℕ) (o : Order) (x : Leaf) (leaves : List Leaf) → leaf_named s f o leaves ≡ Some x → x.space ≡ s → x.first ≡ f → x.order ≡ o → changed (Relocate s f to o) leaves ≡ with_leaf (at_block s to o x) (without_leaf s f leaves)
+unfolding changed
+changed-is s f to o x leaves e a b d = rw e (rw (a, b, d) refl)
+
+pub moves : (top spaces s f to : ℕ) (o : Order) (x : Leaf) (leaves : List Leaf) (nodes : List (Option Node)) (words used : List ℕ) → IsStore top spaces leaves nodes words used → leaf_named s f o leaves ≡ Some x → IsBlock (Radix top spaces nodes) s to o → meets_any s to o leaves ≡ false → IsMove top spaces s f to o (at_block s to o x) leaves nodes
+unfolding leaf_named
+moves top spaces s f to o x leaves nodes words used store e block free =
+    let is = named-is s f o x leaves e in
+    let a = named-space s f o x is in
+    let b = named-first s f o x is in
+    let d = named-order s f o x is in
+    let i = named-In s f o x leaves e in
+    let p = store.mapping.proper x i in
+    let aligned : x.frame % 2 ^ (9 * level_of o) ≡ 0 = ap (λ (v : Order). x.frame % 2 ^ (9 * level_of v)) (sym d) ∙ p.frame_aligned in
+    let some = pages-some o in
+    let limit = limit-low top store.high store.low in
+    let low : to < 2 ^ 52 = let h = block.pages_in in omega arith in
+    let new = at_block s to o x in
+    let none : (y : Leaf) → In y leaves → leaf_key new ≡ leaf_key y → ⊥ = no-key top spaces s to o leaves store.mapping low free in
+    let other : leaf_key new ≡ s * 2 ^ 52 + f → ⊥ = λ k. none x i (k ∙ sym (ap (λ (v : ℕ). v * 2 ^ 52 + x.first) a ∙ ap (λ (v : ℕ). s * 2 ^ 52 + v) b)) in
+    record {
+      brings = brings-is s f to o x leaves e a d;
+      valid = record {
+        block = block;
+        frames_in = frames-in o x.frame p.frame_in aligned;
+        frames_aligned = frames-aligned o x.frame aligned;
+      };
+      free = free;
+      named = found-some (is_leaf s f o) x (with_leaf new leaves) (stays-with x new leaves i (λ k. none x i (sym k))) is;
+      after = sym (changed-is s f to o x leaves e a b d ∙ with-without s f new leaves store.mapping.sorted none other);
+    }
+
+-- There is room for a move where there is room for the leaf as it stands afterwards.
+pub room-moved : (top s f to : ℕ) (o : Order) (x : Leaf) (t : Table) → IsMove top t.spaces s f to o x t.leaves t.nodes → has_room (Insert x) t.leaves (shape_of top t) ≡ has_room (Relocate s f to o) t.leaves (shape_of top t)
+unfolding has_room
+room-moved top s f to o x t move = rw move.brings refl
+
+-- The leaf as it stands afterwards comes, then the old one goes.
+pub shifted : (top s f to given : ℕ) (o : Order) (x : Leaf) (old mid new : Table) → IsMove top old.spaces s f to o x old.leaves old.nodes
+    → mid.leaves ≡ with_leaf x old.leaves → mid.nodes ≡ with_leaf_nodes top x old.nodes → mid.spaces ≡ old.spaces → mid.loads ≡ old.loads
+    → IsMade top (Remove s f o) given mid new → new.leaves ≡ without_leaf s f mid.leaves → IsMade top (Relocate s f to o) given old new
+unfolding shape_after
+shifted top s f to given o x old mid new move el en es ed made gone =
+    let after : new.leaves ≡ changed (Relocate s f to o) old.leaves = gone ∙ ap (without_leaf s f) el ∙ move.after in
+    let needed : only_needed top (changed (Remove s f o) mid.leaves) mid.nodes ≡ only_needed top (changed (Relocate s f to o) old.leaves) (with_leaf_nodes top x old.nodes) =
+    ap (λ (l : List Leaf). only_needed top l mid.nodes) (sym made.leaves ∙ after) ∙ ap (only_needed top (changed (Relocate s f to o) old.leaves)) en in
+    record {
+      leaves = after;
+      shape = made.shape ∙ rw move.brings (ap (λ (v : ℕ). Radix top v (only_needed top (changed (Remove s f o) mid.leaves) mid.nodes)) es ∙ ap (Radix top old.spaces) needed);
+      less = rw move.brings (subst (λ (l : List (Option Node)). IsLess l new.nodes) en made.less);
+      count = rw move.brings (made.count ∙ ap (λ (l : List (Option Node)). free_count l + given) en);
+      loads = made.loads ∙ ed;
+    }

@@ -1,0 +1,71 @@
+use Rattle.std.proofs.Common.{ℕ, ◌≡◌, ◌-◌, Some, slice_set, refl, ap, sym, ◌∙◌, arith}
+use Rattle.std.specs.List.{position}
+use Rattle.std.specs.Prelude.{is_none}
+use Rattle.xl_model.specs.Nodes.{Node, up}
+use Rattle.xl_radix.proofs.NumberLemmas.{lowest-is, put-lowest, put-first-count}
+use Rattle.xl_radix.proofs.StepLemmas.{made-step-at, count-fits, stands-in, some-free}
+use Rattle.xl_radix.proofs.PoolLemmas.{not-none}
+use Rattle.xl_radix.proofs.store.Store.make_node.Goals as goal
+
+abbrev named : ℕ → ℕ → ℕ → Node
+named s l q = record { space = s; level = l; prefix = q }
+
+pub unreachable-requires : goal.unreachable-requires
+unreachable-requires g c =
+    let free = rw (← c.self.view_is) at c.requires.free in
+    not-none c.self.inside.numbers c.take.result c.take.ensures.none c.in_default.not-Some free
+
+pub overflow_add-index_mut : goal.overflow_add-index_mut
+overflow_add-index_mut g c =
+    let ready = rw (← c.self.view_is) at c.requires.ready in
+    let h = count-fits g.row.LEVELS _ c.args.above.node c.index_mut-2.result.now _ _ _ _ c.self.invariant (stands-in c.args.space c.args.page c.args.above.level c.args.above.node _ ready.at) c.index_mut-2.ensures.value in
+    omega (arith, h)
+
+pub invariant_of-self : goal.invariant_of-self
+invariant_of-self g c =
+    let ready = rw (← c.self.view_is) at c.requires.ready in
+    let name : c.new-name.result ≡ record { space = c.args.space; level = c.args.above.level - 1; prefix = up c.args.above.level c.args.page } = c.new-name.ensures ∙ ap (named c.args.space (c.args.above.level - 1)) c.block_of.ensures in
+    let free = lowest-is c.self.inside.numbers c.in-Some.number c.in-Some.ensures.lowest in
+    let step = made-step-at g.row.LEVELS _ c.args.space c.args.page c.args.above.level c.in-Some.number c.args.above.node c.index_of.result c.pointer.result c.index_mut-2.result.now c.new-name.result _ _ _ _ c.self.invariant c.requires.low c.requires.high ready free.0 free.1 c.index_of.ensures.value c.pointer.ensures name c.index_mut-2.ensures.value in
+    let taken : c.take.new.self ≡ slice_set c.self.inside.numbers c.in-Some.number (Some c.new-name.result) = c.in-Some.ensures.taken ∙ sym (put-lowest c.self.inside.numbers c.in-Some.number c.new-name.result c.in-Some.ensures.lowest) in
+    rw taken (rw step.back step.store)
+
+pub returns-clause-leaves : goal.returns-clause-leaves
+returns-clause-leaves g c =
+    let ready = rw (← c.self.view_is) at c.requires.ready in
+    let name : c.new-name.result ≡ record { space = c.args.space; level = c.args.above.level - 1; prefix = up c.args.above.level c.args.page } = c.new-name.ensures ∙ ap (named c.args.space (c.args.above.level - 1)) c.block_of.ensures in
+    let free = lowest-is c.self.inside.numbers c.in-Some.number c.in-Some.ensures.lowest in
+    let step = made-step-at g.row.LEVELS _ c.args.space c.args.page c.args.above.level c.in-Some.number c.args.above.node c.index_of.result c.pointer.result c.index_mut-2.result.now c.new-name.result _ _ _ _ c.self.invariant c.requires.low c.requires.high ready free.0 free.1 c.index_of.ensures.value c.pointer.ensures name c.index_mut-2.ensures.value in
+    let taken : c.take.new.self ≡ slice_set c.self.inside.numbers c.in-Some.number (Some c.new-name.result) = c.in-Some.ensures.taken ∙ sym (put-lowest c.self.inside.numbers c.in-Some.number c.new-name.result c.in-Some.ensures.lowest) in
+    rw (taken, ← c.self.view_is) step.back
+
+pub returns-clause-nodes : goal.returns-clause-nodes
+returns-clause-nodes g c =
+    let ready = rw (← c.self.view_is) at c.requires.ready in
+    let name : c.new-name.result ≡ record { space = c.args.space; level = c.args.above.level - 1; prefix = up c.args.above.level c.args.page } = c.new-name.ensures ∙ ap (named c.args.space (c.args.above.level - 1)) c.block_of.ensures in
+    let free = lowest-is c.self.inside.numbers c.in-Some.number c.in-Some.ensures.lowest in
+    let step = made-step-at g.row.LEVELS _ c.args.space c.args.page c.args.above.level c.in-Some.number c.args.above.node c.index_of.result c.pointer.result c.index_mut-2.result.now c.new-name.result _ _ _ _ c.self.invariant c.requires.low c.requires.high ready free.0 free.1 c.index_of.ensures.value c.pointer.ensures name c.index_mut-2.ensures.value in
+    rw (← c.self.view_is) (c.in-Some.ensures.taken ∙ rw name refl)
+
+pub returns-clause-ready : goal.returns-clause-ready
+returns-clause-ready g c =
+    let ready = rw (← c.self.view_is) at c.requires.ready in
+    let name : c.new-name.result ≡ record { space = c.args.space; level = c.args.above.level - 1; prefix = up c.args.above.level c.args.page } = c.new-name.ensures ∙ ap (named c.args.space (c.args.above.level - 1)) c.block_of.ensures in
+    let free = lowest-is c.self.inside.numbers c.in-Some.number c.in-Some.ensures.lowest in
+    let step = made-step-at g.row.LEVELS _ c.args.space c.args.page c.args.above.level c.in-Some.number c.args.above.node c.index_of.result c.pointer.result c.index_mut-2.result.now c.new-name.result _ _ _ _ c.self.invariant c.requires.low c.requires.high ready free.0 free.1 c.index_of.ensures.value c.pointer.ensures name c.index_mut-2.ensures.value in
+    let taken : c.take.new.self ≡ slice_set c.self.inside.numbers c.in-Some.number (Some c.new-name.result) = c.in-Some.ensures.taken ∙ sym (put-lowest c.self.inside.numbers c.in-Some.number c.new-name.result c.in-Some.ensures.lowest) in
+    rw taken (rw step.back step.ready)
+
+pub returns-clause-nearly : goal.returns-clause-nearly
+returns-clause-nearly g c =
+    let ready = rw (← c.self.view_is) at c.requires.ready in
+    let name : c.new-name.result ≡ record { space = c.args.space; level = c.args.above.level - 1; prefix = up c.args.above.level c.args.page } = c.new-name.ensures ∙ ap (named c.args.space (c.args.above.level - 1)) c.block_of.ensures in
+    let free = lowest-is c.self.inside.numbers c.in-Some.number c.in-Some.ensures.lowest in
+    let step = made-step-at g.row.LEVELS _ c.args.space c.args.page c.args.above.level c.in-Some.number c.args.above.node c.index_of.result c.pointer.result c.index_mut-2.result.now c.new-name.result _ _ _ _ c.self.invariant c.requires.low c.requires.high ready free.0 free.1 c.index_of.ensures.value c.pointer.ensures name c.index_mut-2.ensures.value in
+    let taken : c.take.new.self ≡ slice_set c.self.inside.numbers c.in-Some.number (Some c.new-name.result) = c.in-Some.ensures.taken ∙ sym (put-lowest c.self.inside.numbers c.in-Some.number c.new-name.result c.in-Some.ensures.lowest) in
+    λ l h near. rw taken (rw step.back (step.nearly l h (rw (← c.self.view_is) at near)))
+
+pub returns-clause-free : goal.returns-clause-free
+returns-clause-free g c =
+    let free = rw (← c.self.view_is) at c.requires.free in
+    rw (← c.self.view_is) (rw c.in-Some.ensures.taken (put-first-count c.self.inside.numbers c.new-name.result free))

@@ -1,0 +1,37 @@
+use Rattle.std.proofs.Common.{◌≡◌, sym, subst, arith}
+use Rattle.xl_model.specs.Nodes.{up}
+use Rattle.xl_pte.specs.declared.word.Pte.{Pte}
+use Rattle.xl_radix.specs.ReadBack.{read_back}
+use Rattle.xl_radix.proofs.SlotLemmas.{Says, pointer-low}
+use Rattle.xl_radix.proofs.StepLemmas.{read-says, next-stands, stops}
+use Rattle.xl_radix.proofs.store.Store.node_below.Goals as goal
+
+pub unreachable-requires : goal.unreachable-requires
+unreachable-requires g c =
+    let at = rw (← c.self.view_is) at c.requires.at in
+    let exact = rw (← c.self.view_is) at c.requires.exact in
+    let needed = rw (← c.self.view_is) at c.requires.needed in
+    let says = read-says g.row.LEVELS _ c.args.space c.args.page c.args.above.level c.args.above.node c.index_of.result c.index-word.result.now _ _ _ _ c.self.invariant at c.requires.high c.index_of.ensures.value c.index-word.ensures in
+    let h = subst (λ (w : Pte). Says w c.args.space c.args.above.level (up c.args.above.level c.args.page) (read_back c.self.inside.numbers c.self.inside.words.items) c.self.inside.numbers) (sym c.decode.ensures.value) says in
+    c.self.invariant.image.full c.args.space c.args.above.level (up c.args.above.level c.args.page) needed (let h = c.requires.high in omega arith) (stops g.row.LEVELS _ c.args.space c.args.above.level (up c.args.above.level c.args.page) c.decode.result _ _ c.requires.high c.self.invariant.mapping exact h c.in_default.not-Pointer)
+
+pub returns-clause-low : goal.returns-clause-low
+returns-clause-low g c =
+    let at = rw (← c.self.view_is) at c.requires.at in
+    let says = read-says g.row.LEVELS _ c.args.space c.args.page c.args.above.level c.args.above.node c.index_of.result c.index-word.result.now _ _ _ _ c.self.invariant at c.requires.high c.index_of.ensures.value c.index-word.ensures in
+    let h = subst (λ (w : Pte). Says w c.args.space c.args.above.level (up c.args.above.level c.args.page) (read_back c.self.inside.numbers c.self.inside.words.items) c.self.inside.numbers) (sym c.in-Pointer.ensures.value) says in
+    pointer-low c.args.space c.args.above.level (up c.args.above.level c.args.page) c.in-Pointer.node _ h.1
+
+pub returns-clause-at : goal.returns-clause-at
+returns-clause-at g c =
+    let at = rw (← c.self.view_is) at c.requires.at in
+    let says = read-says g.row.LEVELS _ c.args.space c.args.page c.args.above.level c.args.above.node c.index_of.result c.index-word.result.now _ _ _ _ c.self.invariant at c.requires.high c.index_of.ensures.value c.index-word.ensures in
+    let h = subst (λ (w : Pte). Says w c.args.space c.args.above.level (up c.args.above.level c.args.page) (read_back c.self.inside.numbers c.self.inside.words.items) c.self.inside.numbers) (sym c.in-Pointer.ensures.value) says in
+    rw (← c.self.view_is) (next-stands c.args.space c.args.page c.args.above.level c.in-Pointer.node _ _ h)
+
+pub returns-clause-empty : goal.returns-clause-empty
+returns-clause-empty g c =
+    let at = rw (← c.self.view_is) at c.requires.at in
+    let says = read-says g.row.LEVELS _ c.args.space c.args.page c.args.above.level c.args.above.node c.index_of.result c.index-word.result.now _ _ _ _ c.self.invariant at c.requires.high c.index_of.ensures.value c.index-word.ensures in
+    let h = subst (λ (w : Pte). Says w c.args.space c.args.above.level (up c.args.above.level c.args.page) (read_back c.self.inside.numbers c.self.inside.words.items) c.self.inside.numbers) (sym c.in-Pointer.ensures.value) says in
+    rw (← c.self.view_is) h.0

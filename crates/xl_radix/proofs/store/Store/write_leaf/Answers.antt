@@ -1,0 +1,35 @@
+use Rattle.std.proofs.Common.{ℕ, ◌≡◌, ◌%◌, ap, ◌∙◌, arith}
+use Rattle.xl_model.specs.Addresses.{level_of}
+use Rattle.xl_model.specs.Nodes.{up}
+use Rattle.xl_radix.proofs.StepLemmas.{put-step, count-fits, stands-in}
+use Rattle.xl_radix.proofs.store.Store.write_leaf.Goals as goal
+
+pub overflow_add-index_mut : goal.overflow_add-index_mut
+overflow_add-index_mut g c =
+    let ready = rw (← c.self.view_is) at c.requires.ready in
+    let h = count-fits g.row.LEVELS _ c.args.node c.index_mut.result.now _ _ _ _ c.self.invariant (stands-in c.args.leaf.space c.args.leaf.first (level_of c.args.leaf.order) c.args.node _ ready.at) c.index_mut.ensures.value in
+    omega (arith, h)
+
+pub invariant_of-self : goal.invariant_of-self
+invariant_of-self g c =
+    let ready = rw (← c.self.view_is) at c.requires.ready in
+    let new = rw (← c.self.view_is) at c.requires.new in
+    let index : c.index_of.result ≡ up (level_of c.args.leaf.order) c.args.leaf.first % 512 = c.index_of.ensures.value ∙ ap (λ (v : ℕ). up v c.args.leaf.first % 512) c.level.ensures in
+    let step = put-step g.row.LEVELS _ c.args.node c.index_of.result c.leaf_word.result c.index_mut.result.now c.args.leaf _ _ _ _ c.self.invariant new ready index c.leaf_word.ensures c.index_mut.ensures.value in
+    rw step.back step.store
+
+pub returns-clause-leaves : goal.returns-clause-leaves
+returns-clause-leaves g c =
+    let ready = rw (← c.self.view_is) at c.requires.ready in
+    let new = rw (← c.self.view_is) at c.requires.new in
+    let index : c.index_of.result ≡ up (level_of c.args.leaf.order) c.args.leaf.first % 512 = c.index_of.ensures.value ∙ ap (λ (v : ℕ). up v c.args.leaf.first % 512) c.level.ensures in
+    let step = put-step g.row.LEVELS _ c.args.node c.index_of.result c.leaf_word.result c.index_mut.result.now c.args.leaf _ _ _ _ c.self.invariant new ready index c.leaf_word.ensures c.index_mut.ensures.value in
+    rw (← c.self.view_is) step.back
+
+pub returns-clause-exact : goal.returns-clause-exact
+returns-clause-exact g c =
+    let ready = rw (← c.self.view_is) at c.requires.ready in
+    let new = rw (← c.self.view_is) at c.requires.new in
+    let index : c.index_of.result ≡ up (level_of c.args.leaf.order) c.args.leaf.first % 512 = c.index_of.ensures.value ∙ ap (λ (v : ℕ). up v c.args.leaf.first % 512) c.level.ensures in
+    let step = put-step g.row.LEVELS _ c.args.node c.index_of.result c.leaf_word.result c.index_mut.result.now c.args.leaf _ _ _ _ c.self.invariant new ready index c.leaf_word.ensures c.index_mut.ensures.value in
+    λ near. rw step.back (step.exact (rw (← c.self.view_is) at near))

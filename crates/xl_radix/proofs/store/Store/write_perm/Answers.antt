@@ -1,0 +1,42 @@
+use Rattle.std.proofs.Common.{ℕ, ◌≡◌, ◌%◌, ap, ◌∙◌, arith}
+use Rattle.xl_model.specs.Addresses.{level_of}
+use Rattle.xl_model.specs.Nodes.{up}
+use Rattle.xl_radix.proofs.PermLemmas.{perm-step, node-low, frame-low}
+use Rattle.xl_radix.proofs.store.Store.write_perm.Goals as goal
+
+pub invariant_of-self : goal.invariant_of-self
+invariant_of-self g c =
+    let exact = rw (← c.self.view_is) at c.requires.exact in
+    let name = rw (← c.self.view_is) at c.requires.there in
+    let at = rw (← c.self.view_is) at c.requires.at in
+    let index : c.index_of.result ≡ up (level_of c.args.old.order) c.args.old.first % 512 = c.index_of.ensures.value ∙ ap (λ (v : ℕ). up v c.args.old.first % 512) c.level.ensures in
+    let step = perm-step g.row.LEVELS _ c.args.node c.index_of.result c.leaf_word.result c.args.old c.args.perm _ _ _ _ c.self.invariant exact name at index c.leaf_word.ensures in
+    rw step.back step.store
+
+pub returns-clause-leaves : goal.returns-clause-leaves
+returns-clause-leaves g c =
+    let exact = rw (← c.self.view_is) at c.requires.exact in
+    let name = rw (← c.self.view_is) at c.requires.there in
+    let at = rw (← c.self.view_is) at c.requires.at in
+    let index : c.index_of.result ≡ up (level_of c.args.old.order) c.args.old.first % 512 = c.index_of.ensures.value ∙ ap (λ (v : ℕ). up v c.args.old.first % 512) c.level.ensures in
+    let step = perm-step g.row.LEVELS _ c.args.node c.index_of.result c.leaf_word.result c.args.old c.args.perm _ _ _ _ c.self.invariant exact name at index c.leaf_word.ensures in
+    rw (← c.self.view_is) step.back
+
+pub returns-clause-exact : goal.returns-clause-exact
+returns-clause-exact g c =
+    let exact = rw (← c.self.view_is) at c.requires.exact in
+    let name = rw (← c.self.view_is) at c.requires.there in
+    let at = rw (← c.self.view_is) at c.requires.at in
+    let index : c.index_of.result ≡ up (level_of c.args.old.order) c.args.old.first % 512 = c.index_of.ensures.value ∙ ap (λ (v : ℕ). up v c.args.old.first % 512) c.level.ensures in
+    let step = perm-step g.row.LEVELS _ c.args.node c.index_of.result c.leaf_word.result c.args.old c.args.perm _ _ _ _ c.self.invariant exact name at index c.leaf_word.ensures in
+    rw step.back step.exact
+
+pub overflow_mul-at : goal.overflow_mul-at
+overflow_mul-at g c = let k = node-low g.row.LEVELS _ c.args.old.space c.args.old.first (level_of c.args.old.order) c.args.node _ _ _ _ c.self.invariant (rw (← c.self.view_is) at c.requires.at) in omega arith
+
+pub overflow_add-at : goal.overflow_add-at
+overflow_add-at g c = let k = node-low g.row.LEVELS _ c.args.old.space c.args.old.first (level_of c.args.old.order) c.args.node _ _ _ _ c.self.invariant (rw (← c.self.view_is) at c.requires.at) in let h = c.index_of.ensures.low in omega arith
+
+pub leaf_word-requires : goal.leaf_word-requires
+leaf_word-requires g c = frame-low g.row.LEVELS _ c.args.old _ _ _ _ c.self.invariant (rw (← c.self.view_is) at c.requires.there)
+

@@ -1,0 +1,53 @@
+-- Fences on walk caches.
+use Rattle.std.proofs.Common.{ℕ, suc, ◌≡◌, ◌+◌, ◌-◌, ◌/◌, ◌≤◌, Bool, true, false, not, if◌then◌else◌, List, [], ◌∷◌, map, length, Option, Some, refl, ap, sym, ◌∙◌, subst, arith}
+use Rattle.xl_model.specs.declared.event.Reach.{Reach}
+use Rattle.xl_model.specs.Nodes.{Node}
+use Rattle.xl_model.specs.Caches.{Cached, Numbered, all_without, reaches_space, caches_fenced}
+use Rattle.xl_model.specs.Recency.{purged}
+use Rattle.xl_model.specs.Structures.{fence_answer, table_fenced}
+use Rattle.xl_mapping.specs.Members.{In}
+use Rattle.xl_mapping.proofs.MemberLemmas.{filter-In}
+use Rattle.xl_recency.specs.declared.item.Item.{Item}
+use Rattle.xl_radix.specs.Table.{Table}
+use Rattle.xl_radix_walk.specs.Row.{numbered_in, caches_in, AreNumbered, is_fenced, fenced_caches, entries_of, IsRow, row_of, row_table}
+use Rattle.xl_radix_walk.proofs.PurgeLemmas.{entries-in}
+
+fenced-map : (level : ℕ) (to : Reach) (xs : List Item) → map (numbered_in level) (purged (is_fenced to) xs) ≡ purged (λ e. reaches_space to e.node.space) (map (numbered_in level) xs)
+fenced-map level to [] = refl
+fenced-map level to (x ∷ xs) = by (reaches_space to (x.tag / 281474976710656)) (fenced-map level to xs)
+  where
+    by : (b : Bool) → map (numbered_in level) (purged (is_fenced to) xs) ≡ purged (λ e. reaches_space to e.node.space) (map (numbered_in level) xs) → map (numbered_in level) (if not b then x ∷ purged (is_fenced to) xs else purged (is_fenced to) xs) ≡ (if not b then numbered_in level x ∷ purged (λ e. reaches_space to e.node.space) (map (numbered_in level) xs) else purged (λ e. reaches_space to e.node.space) (map (numbered_in level) xs))
+    by true r = r
+    by false r = ap (λ (l : List Numbered). numbered_in level x ∷ l) r
+
+fenced-in : (level : ℕ) (to : Reach) (cs : List (Cached Item)) → caches_in level (fenced_caches to cs) ≡ all_without (λ e. reaches_space to e.node.space) (caches_in level cs)
+fenced-in level to [] = refl
+fenced-in level to (c ∷ cs) = rw (fenced-map level to c.items, fenced-in (level + 1) to cs) refl
+
+fenced-numbered : (level : ℕ) (to : Reach) (nodes : List (Option Node)) (cs : List (Cached Item)) → AreNumbered level nodes cs → AreNumbered level nodes (fenced_caches to cs)
+fenced-numbered level to nodes [] all = all
+fenced-numbered level to nodes (c ∷ cs) all = (λ i j. all.0 i (filter-In (λ x. not (is_fenced to x)) i c.items j), fenced-numbered (level + 1) to nodes cs all.1)
+
+fenced-length : (to : Reach) (cs : List (Cached Item)) → length (fenced_caches to cs) ≡ length cs
+fenced-length to [] = refl
+fenced-length to (c ∷ cs) = ap suc (fenced-length to cs)
+
+pub record FencedRow (levels : ℕ) (to : Reach) (t : Table) (cs after : List (Cached Item)) (n : ℕ) : Type 0 where
+  pub answer : n ≡ fence_answer to (row_table levels (row_of t cs))
+  pub table : row_table levels (row_of t after) ≡ table_fenced to (row_table levels (row_of t cs))
+  pub row : IsRow levels (row_of t cs) → IsRow levels (row_of t after)
+
+minus-is : (n a b : ℕ) → n + b ≡ a → n ≡ a - b
+minus-is n a b e = omega arith
+
+pub row-fenced : (levels : ℕ) (to : Reach) (t : Table) (cs after : List (Cached Item)) (n : ℕ) → after ≡ fenced_caches to cs → n + entries_of after ≡ entries_of cs → FencedRow levels to t cs after n
+unfolding fence_answer table_fenced caches_fenced
+row-fenced levels to t cs after n ea count =
+    let inside = fenced-in 0 to cs in
+    let size = fenced-length to cs in
+    let number : n ≡ entries_of cs - entries_of (fenced_caches to cs) = minus-is n (entries_of cs) (entries_of (fenced_caches to cs)) (subst (λ (l : List (Cached Item)). n + entries_of l ≡ entries_of cs) ea count) in
+    record {
+      answer = rw (number, ← entries-in 0 cs, ← entries-in 0 (fenced_caches to cs), inside) refl;
+      table = rw (ea, inside) refl;
+      row = λ r. rw ea (record { high = r.high; low = r.low; caches = let z = r.caches in omega arith; numbered = fenced-numbered 0 to t.nodes cs r.numbered });
+    }

@@ -1,0 +1,5 @@
+use Rattle.std.proofs.Common.{length}
+use Rattle.xl_radix_walk.proofs.caches.+fill.Given as goal
+
+abbrev pub decreases-fill : goal.decreases-fill
+decreases-fill l = length l.caches.now

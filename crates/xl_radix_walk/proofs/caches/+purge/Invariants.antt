@@ -1,0 +1,5 @@
+use Rattle.std.proofs.Common.{length}
+use Rattle.xl_radix_walk.proofs.caches.+purge.Given as goal
+
+abbrev pub decreases-purge : goal.decreases-purge
+decreases-purge g l = length l.caches.now
