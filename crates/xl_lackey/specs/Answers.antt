@@ -16,7 +16,8 @@ with_record r later = (r ∷ later.0, later.1)
 
 -- The record was the first of what was left, and the rest of it is left; fewer bytes are held.
 pub record Gives (r : Record) (old new : State) : Type 0 where
-  pub reads : (last : Bool) (rest : List ℕ) → MayCome last old rest → left_by last old rest ≡ with_record r (left_by last new rest)
+  pub reads : (last : Bool) (rest : List ℕ) → MayCome last old rest
+      → left_by last old rest ≡ with_record r (left_by last new rest)
   pub fewer : length new.held < length old.held
   pub finished : new.finished ≡ old.finished
   pub good : new.bad ≡ None

@@ -79,7 +79,8 @@ is_size digits = nat_le 1 (length digits) && nat_le (length digits) 6 && nat_le 
 -- A size at the front, up to what is no digit, and how many digits it has.
 abbrev pub size_in : List ℕ → Option (ℕ × ℕ)
 size_in text =
-    if is_size (front is_digit text) then Some (decimal_value 0 (front is_digit text), length (front is_digit text)) else None
+    if is_size (front is_digit text)
+    then Some (decimal_value 0 (front is_digit text), length (front is_digit text)) else None
 
 -- A record ends at the line's end, or at a `#` and anything.
 abbrev pub is_end : List ℕ → Bool

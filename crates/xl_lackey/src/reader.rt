@@ -39,7 +39,12 @@ impl Model for Reader {
 
     ghost Value = { State };
 
-    ghost view = { λ r. record { lines = r.lines; held = drop r.start (take r.end r.buf.items); finished = r.finished; bad = r.bad } };
+    ghost view = { λ r. record {
+      lines = r.lines;
+      held = drop r.start (take r.end r.buf.items);
+      finished = r.finished;
+      bad = r.bad;
+    } };
 
     ghost invariant = { λ r. (vec_len r.buf ≡ 65536) × (r.start ≤ r.end) × (r.end ≤ 65536) };
 }
@@ -75,7 +80,8 @@ impl Reader {
         requires room { length piece.now + length self.old.held ≤ 65536 }
         requires unfinished { self.old.finished ≡ false }
         ensures held { self.new ≡ record self.old { held = self.old.held ++ piece.now } }
-        ensures reads { (last : Bool) (rest : List ℕ) → left_by last self.new rest ≡ left_by last self.old (piece.now ++ rest) }
+        ensures reads { (last : Bool) (rest : List ℕ)
+            → left_by last self.new rest ≡ left_by last self.old (piece.now ++ rest) }
     {
         let held = self.end - self.start;
         shift(self.buf.as_mut_slice(), self.start, self.end);
@@ -202,7 +208,8 @@ impl Reader {
 
     fn refuse(&mut self, line: u64, reason: u8) -> Next
         ensures answer { result ≡ Next.BadLine line reason }
-        ensures kept { self.new ≡ record self.old { bad = Some (record { line = line; reason = reason }) } }
+        ensures kept { self.new
+            ≡ record self.old { bad = Some (record { line = line; reason = reason }) } }
     {
         self.bad = Some(Fault { line, reason });
         Next::BadLine { line, reason }

@@ -16,7 +16,7 @@ struct Told {
 fn drain(reader: &mut Reader, told: &mut Told) -> Result<bool, AllocError>
     ensures { IfOk result (λ waits. waits ≡ true → reader.new.finished ≡ false) }
 {
-    for _ in 0..100u32 {
+    for _ in 0..200_000u32 {
         match reader.next() {
             Next::Found(r) => told.records.push((r.letter, r.addr, r.size, r.line))?,
             Next::More => return Ok(true),
@@ -126,6 +126,22 @@ fn a_long_remark_is_skipped_and_a_line_of_257_bytes_is_bad(rt: HostRuntime) -> R
     let want = [(Letter::L, 1, 1, 1), (Letter::S, 2, 2, 3)];
     assert_eq!(rt; told.records.as_slice(), want.as_slice());
     assert_eq!(rt; told.bad, (4, 6));
+    Ok(())
+}
+
+#[test]
+fn a_hundred_thousand_records_are_read(rt: HostRuntime) -> Result<(), Fail> {
+    let mut text = Vec::new(rt.alloc());
+    for _ in 0..50_000u32 {
+        text.extend_from_slice(b"I  04001000,4\n M 1ffeffe08,8\n")?;
+    }
+    let told = read(rt.alloc(), text.as_slice(), 4096)?;
+    assert_eq!(rt; told.records.len(), 100_000);
+    assert_eq!(rt;
+        told.records.get(99_999).copied(),
+        Some((Letter::M, 0x1_ffef_fe08, 8, 100_000))
+    );
+    assert_eq!(rt; told.bad, (0, 0));
     Ok(())
 }
 

@@ -1,14 +1,14 @@
 -- How many leaves of a mapping pass a test: with a leaf more, and with one less.
-use Rattle.std.proofs.Common.{◌≡◌, refl, sym, ap, ◌∙◌, subst, ℕ, ◌+◌, ◌*◌, ◌^◌, ◌<◌, Bool, true, false, not, cond, ◌&&◌, List, [], ◌∷◌, inl, inr, ◌==◌, nat_lt, arith}
+use Rattle.std.proofs.Common.{◌≡◌, refl, ap, ◌∙◌, ◌+◌, ◌<◌, Bool, true, false, not, cond, ◌&&◌, List, [], ◌∷◌, inl, inr, ◌==◌, nat_lt, arith}
 use Rattle.std.proofs.lemmas.Bool.Decides.{nat_tests}
 use Rattle.std.proofs.lemmas.Bool.{eq-eqb}
 use Rattle.xl_model.specs.declared.leaf.Leaf.{Leaf}
 use Rattle.xl_model.specs.Base.{one_if}
 use Rattle.xl_model.specs.Mapping.{leaf_key, with_leaf, without_leaf}
-use Rattle.xl_mapping.specs.Members.{In, Once, AllAbove, IsSorted}
+use Rattle.xl_mapping.specs.Members.{In, Once, IsSorted}
 use Rattle.xl_mapping.specs.Sections.{tally}
 use Rattle.xl_mapping.proofs.InsertionLemmas.{above-In, same-place}
-use Rattle.xl_mapping.proofs.TallyLemmas.{tally-each, tally-filter, tally-only}
+use Rattle.xl_mapping.proofs.TallyLemmas.{tally-filter, tally-only}
 
 -- in a sorted list no leaf stands twice
 pub sorted-once : (xs : List Leaf) → IsSorted xs → Once xs

@@ -42,3 +42,15 @@ pub mod FreshSectionLemmas
 pub mod FreshRangeLemmas
 pub mod FreshNodeLemmas
 pub mod SceneLemmas
+pub mod HolderLemmas
+pub mod RunLemmas
+pub mod TouchLemmas
+pub mod JoinLemmas
+pub mod SpreadLemmas
+pub mod LeafInLemmas
+pub mod PieceLemmas
+pub mod LeftLemmas
+pub mod CutLemmas
+pub mod PageRangeLemmas
+pub mod MeetRangeLemmas
+pub mod CutCountLemmas

@@ -8,7 +8,7 @@ use Rattle.xl_model.specs.declared.way.Entry.{Entry}
 use Rattle.xl_model.specs.declared.way.Moves.{Moves}
 use Rattle.xl_model.specs.Base.{one_if}
 use Rattle.xl_model.specs.Ways.{WayShape, slot, occupant, with_entry, without_key, without_occupant, swapped, advanced, begun, opening_way, slots_left}
-use Rattle.xl_model.specs.Placing.{way_at, put_in, next_way, start_way, Attempt, Stands, Fails, Displaced, by_occupant, attempt, to_grow, Candidate, growing_now, forced, forced_moves, Placing, Placed, AtCap, after_attempt, with_growth, growths_left, placing, place, no_moves, settled_way, begins, begun_if_full, settled, after_placing, insertion}
+use Rattle.xl_model.specs.Placing.{way_at, put_in, next_way, start_way, Attempt, Stands, Fails, Displaced, by_occupant, attempt, to_grow, Candidate, forced, forced_moves, Placing, Placed, AtCap, after_attempt, with_growth, growths_left, placing, place, no_moves, settled_way, begins, begun_if_full, settled, after_placing, insertion}
 use Rattle.xl_mapping.specs.Sections.{tally, entries_of, entries_in}
 use Rattle.xl_mapping.proofs.MemberLemmas.{find-passes}
 use Rattle.xl_mapping.proofs.TallyLemmas.{tally-append}

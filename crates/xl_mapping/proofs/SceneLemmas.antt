@@ -1,11 +1,11 @@
 -- Items served in parts: what is served and what is told are those of the parts one after another, for one row
 -- after another too. For the loops that serve, and their laws.
-use Rattle.std.proofs.Common.{◌≡◌, refl, sym, ap, ◌∙◌, ℕ, Bool, true, false, List, [], ◌∷◌, ◌++◌, append_assoc}
+use Rattle.std.proofs.Common.{◌≡◌, refl, sym, ap, ◌∙◌, ℕ, Bool, false, List, [], ◌∷◌, ◌++◌, append_assoc}
 use Rattle.std.proofs.lemmas.List.{append-nil}
 use Rattle.xl_model.specs.declared.script.Area.{Area}
 use Rattle.xl_model.specs.declared.script.Item.{Item}
 use Rattle.xl_model.specs.Rows.{Row}
-use Rattle.xl_model.specs.RowRun.{RowState, opening}
+use Rattle.xl_model.specs.RowRun.{opening}
 use Rattle.xl_model.specs.Items.{areas_after, state_after, states_after, run}
 use Rattle.xl_model.specs.Scenes.{Served, Scene, Live, rows_after, scene_after, rows_lines, item_lines, lines_where, live_after, lives_after, opened, opening_scene, untold, told_by, scenes_after}
 use Rattle.xl_model.specs.Courses.{Course, before}

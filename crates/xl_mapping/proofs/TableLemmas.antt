@@ -18,7 +18,7 @@ use Rattle.xl_model.specs.Shapes.{Chained, brought, shape_after}
 use Rattle.xl_model.specs.Room.{has_room}
 use Rattle.xl_model.specs.Caches.{NoCaches, caches_purged, caches_fenced}
 use Rattle.xl_model.specs.Walks.{chains_reads, orders_tried, walked}
-use Rattle.xl_model.specs.Structures.{TableState, IsBlock, IsChange, IsWalk, IsFence, fence_answer, table_fenced, walk_answer, table_walked, Made, moves_made, finds_place, answer_by, after_by, verdict_by, verdict, table_made, table_answer, table_after}
+use Rattle.xl_model.specs.Structures.{work_of, TableState, IsBlock, IsChange, IsWalk, IsFence, fence_answer, table_fenced, walk_answer, table_walked, Made, moves_made, finds_place, answer_by, after_by, verdict_by, verdict, table_made, table_answer, table_after}
 use Rattle.xl_mapping.specs.Kept.{IsPlaced, IsKept, mapping_of, in_front, without_named, with_perm_named, table_of}
 use Rattle.xl_model.specs.declared.address.Order.TheVariants as order
 use Rattle.xl_model.specs.declared.work.NoRoom.TheVariants as why
@@ -182,29 +182,35 @@ coming b e l x xs now same k block free =
       new = is-new x xs k (subst F (sym same) free);
     }
 
-pub insert-made : (b e l : ℕ) (x : Leaf) (xs ys : List Leaf) (now : TableState) → table_of b e l xs ≡ now → IsKept xs → IsComing x xs → length xs < e
-    → ys ≡ in_front b x xs → IsChange (Insert x) now done (table_of b e l ys)
-insert-made b e l x xs ys now same k c room is =
-    subst (λ t. IsChange (Insert x) t done (table_of b e l ys)) same
-    (subst (λ zs. IsChange (Insert x) (table_of b e l xs) done (table_of b e l zs)) (sym is) (inserted b e l x xs k c.placed c.new room))
+with-work : (c : Change) (now new : TableState) (w : Work) → w ≡ work_of no_moves 0 → IsChange c now done new → IsChange c now (Ok w) new
+with-work c now new w none is = record { answer = ap Ok none ∙ is.answer; after = is.after }
 
-pub insert-refused : (b e l : ℕ) (x : Leaf) (xs : List Leaf) (now : TableState) → table_of b e l xs ≡ now → IsKept xs → IsComing x xs → e ≤ length xs
-    → IsChange (Insert x) now full now
-insert-refused b e l x xs now same k c full_up = subst (λ t. IsChange (Insert x) t full t) same (not-inserted b e l x xs k c.placed c.new full_up)
+pub insert-made : (b e l : ℕ) (x : Leaf) (xs ys : List Leaf) (now : TableState) (w : Work) → w ≡ work_of no_moves 0 → table_of b e l xs ≡ now → IsKept xs → IsComing x xs
+    → length xs < e → ys ≡ in_front b x xs → IsChange (Insert x) now (Ok w) (table_of b e l ys)
+insert-made b e l x xs ys now w none same k c room is =
+    with-work (Insert x) now (table_of b e l ys) w none (subst (λ t. IsChange (Insert x) t done (table_of b e l ys)) same
+    (subst (λ zs. IsChange (Insert x) (table_of b e l xs) done (table_of b e l zs)) (sym is) (inserted b e l x xs k c.placed c.new room)))
 
-pub remove-made : (b e l s f : ℕ) (o : Order) (xs ys : List Leaf) (now : TableState) → table_of b e l xs ≡ now → IsKept xs → IsNamed s f o now.leaves
-    → ys ≡ without_named s f o xs → IsChange (Remove s f o) now done (table_of b e l ys)
-remove-made b e l s f o xs ys now same k there is =
+pub insert-refused : (b e l : ℕ) (x : Leaf) (xs : List Leaf) (now : TableState) (w : Work) → w ≡ work_of no_moves 0 → table_of b e l xs ≡ now → IsKept xs → IsComing x xs
+    → e ≤ length xs → IsChange (Insert x) now (Err (record { why = why.NoTable; work = w })) now
+insert-refused b e l x xs now w none same k c full_up =
+    let r : Work → Result Work Refused = λ v. Err (record { why = why.NoTable; work = v }) in
+    let is : IsChange (Insert x) now full now = subst (λ t. IsChange (Insert x) t full t) same (not-inserted b e l x xs k c.placed c.new full_up) in
+    record { answer = ap r none ∙ is.answer; after = is.after }
+
+pub remove-made : (b e l s f : ℕ) (o : Order) (xs ys : List Leaf) (now : TableState) (w : Work) → w ≡ work_of no_moves 0 → table_of b e l xs ≡ now → IsKept xs
+    → IsNamed s f o now.leaves → ys ≡ without_named s f o xs → IsChange (Remove s f o) now (Ok w) (table_of b e l ys)
+remove-made b e l s f o xs ys now w none same k there is =
     let n : Named s f o xs = named-of s f o xs (subst (λ (t : TableState). IsNamed s f o t.leaves) (sym same) there) in
-    subst (λ t. IsChange (Remove s f o) t done (table_of b e l ys)) same
-    (subst (λ zs. IsChange (Remove s f o) (table_of b e l xs) done (table_of b e l zs)) (sym is) (removed b e l s f o xs k n))
+    with-work (Remove s f o) now (table_of b e l ys) w none (subst (λ t. IsChange (Remove s f o) t done (table_of b e l ys)) same
+    (subst (λ zs. IsChange (Remove s f o) (table_of b e l xs) done (table_of b e l zs)) (sym is) (removed b e l s f o xs k n)))
 
-pub protect-made : (b e l s f : ℕ) (o : Order) (perm : Perm) (xs ys : List Leaf) (now : TableState) → table_of b e l xs ≡ now → IsKept xs → IsNamed s f o now.leaves
-    → ys ≡ with_perm_named s f o perm xs → IsChange (Protect s f o perm) now done (table_of b e l ys)
-protect-made b e l s f o perm xs ys now same k there is =
+pub protect-made : (b e l s f : ℕ) (o : Order) (perm : Perm) (xs ys : List Leaf) (now : TableState) (w : Work) → w ≡ work_of no_moves 0 → table_of b e l xs ≡ now → IsKept xs
+    → IsNamed s f o now.leaves → ys ≡ with_perm_named s f o perm xs → IsChange (Protect s f o perm) now (Ok w) (table_of b e l ys)
+protect-made b e l s f o perm xs ys now w none same k there is =
     let n : Named s f o xs = named-of s f o xs (subst (λ (t : TableState). IsNamed s f o t.leaves) (sym same) there) in
-    subst (λ t. IsChange (Protect s f o perm) t done (table_of b e l ys)) same
-    (subst (λ zs. IsChange (Protect s f o perm) (table_of b e l xs) done (table_of b e l zs)) (sym is) (protected b e l s f o perm xs k n))
+    with-work (Protect s f o perm) now (table_of b e l ys) w none (subst (λ t. IsChange (Protect s f o perm) t done (table_of b e l ys)) same
+    (subst (λ zs. IsChange (Protect s f o perm) (table_of b e l xs) done (table_of b e l zs)) (sym is) (protected b e l s f o perm xs k n)))
 
 -- there are no caches to fence
 pub fence-made : (b e l : ℕ) (to : Reach) (xs : List Leaf) (now : TableState) → table_of b e l xs ≡ now → IsFence to now 0 now

@@ -1,5 +1,5 @@
 -- How many entries of a way pass a test: with an entry more, without one, and with other words. For cuckoo tables.
-use Rattle.std.proofs.Common.{◌≡◌, refl, ap, ℕ, ◌+◌, ◌≤◌, Bool, true, false, cond, List, [], ◌∷◌, ◌++◌, None, Some, ◌&&◌, ◌==◌, nat_lt, map, arith}
+use Rattle.std.proofs.Common.{◌≡◌, refl, ap, ℕ, ◌+◌, ◌≤◌, Bool, true, false, cond, List, [], ◌∷◌, None, Some, ◌&&◌, ◌==◌, nat_lt, map, arith}
 use Rattle.std.specs.Prelude.{find}
 use Rattle.std.proofs.lemmas.Bool.Decides.{nat_tests}
 use Rattle.xl_model.specs.declared.way.Entry.{Entry}

@@ -10,3 +10,4 @@ pub mod Codes
 pub mod Pools
 pub mod Fresh
 pub mod Scenes
+pub mod HeldRanges

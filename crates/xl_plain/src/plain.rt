@@ -32,19 +32,8 @@ impl Model for PlainTable {
 
     ghost view = { λ p. table_of p.buckets p.entries p.loads p.leaves.items };
 
-    ghost invariant = {
-        λ p. IsPlain p.leaves.items p.buckets p.entries (vec_len p.leaves) (vec_capacity p.leaves)
-    };
+    ghost invariant = { λ p. IsPlain p.leaves.items p.buckets p.entries (vec_len p.leaves) (vec_capacity p.leaves) };
 }
-
-/// The work of a change of a table that keeps no caches.
-const NO_WORK: Work = Work {
-    kicks: 0,
-    undone: 0,
-    migrated: 0,
-    growths: 0,
-    invalidated: 0,
-};
 
 impl PlainTable {
     /// An empty table with this many buckets, and with room for `entries` leaves.
@@ -53,15 +42,12 @@ impl PlainTable {
         requires entries_in { (1 ≤ entries) × (entries ≤ 2 ^ 20) }
         ensures { IfOk result (λ p. p ≡ table_of buckets entries 0 []) }
     {
-        match Vec::with_capacity(alloc, entries as usize) {
-            Ok(leaves) => Ok(PlainTable {
-                leaves,
-                buckets,
-                entries,
-                loads: 0,
-            }),
-            Err(_) => Err(NoMemory),
-        }
+        Ok(PlainTable {
+            leaves: Vec::with_capacity(alloc, entries as usize)?,
+            buckets,
+            entries,
+            loads: 0,
+        })
     }
 
     /// Adds a leaf that no leaf meets, where there is room.
@@ -73,12 +59,12 @@ impl PlainTable {
         if self.leaves.len() >= self.entries as usize {
             return Err(Refused {
                 why: NoRoom::NoTable,
-                work: NO_WORK,
+                work: Work::none(),
             });
         }
         let place = place_of(&self.leaves, self.buckets, &leaf);
         match self.leaves.insert(place, leaf) {
-            Ok(()) => Ok(NO_WORK),
+            Ok(()) => Ok(Work::none()),
             Err(_) => unreachable!(),
         }
     }
@@ -101,7 +87,7 @@ impl Structure for PlainTable {
 
     fn remove(&mut self, space: u16, first: u64, order: Order) -> Result<Work, Refused> {
         take_out(&mut self.leaves, space, first, order);
-        Ok(NO_WORK)
+        Ok(Work::none())
     }
 
     fn protect(
@@ -112,7 +98,7 @@ impl Structure for PlainTable {
         perm: Perm,
     ) -> Result<Work, Refused> {
         give_perm(&mut self.leaves, space, first, order, perm);
-        Ok(NO_WORK)
+        Ok(Work::none())
     }
 
     fn relocate(&mut self, space: u16, first: u64, to: u64, order: Order) -> Result<Work, Refused> {

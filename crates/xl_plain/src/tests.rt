@@ -5,15 +5,7 @@ ghost use Rattle.std.specs.Prelude.{◌≡◌, ◌<◌, ◌^◌};
 ghost use Rattle.xl_model.specs.Structures.{spaces_of, page_limit};
 
 use crate::plain::PlainTable;
-use xl_model::{Leaf, NoRoom, Order, Perm, Refused, Structure, Work};
-
-const NO_WORK: Work = Work {
-    kicks: 0,
-    undone: 0,
-    migrated: 0,
-    growths: 0,
-    invalidated: 0,
-};
+use xl_model::{Leaf, NoMemory, NoRoom, Order, Perm, Refused, Structure, Work};
 
 /// Adds a leaf of one page of space 1, None where a leaf meets it.
 fn added(table: &mut PlainTable, first: u64) -> Option<Result<Work, Refused>>
@@ -55,28 +47,24 @@ fn loads_of(table: &mut PlainTable, page: u64) -> u64
 }
 
 #[test]
-fn a_search_reads_up_to_its_leaf_and_a_full_table_refuses(rt: HostRuntime) {
-    match PlainTable::open(rt.alloc(), 1, 3) {
-        Err(_) => assert!(rt; false),
-        Ok(mut table) => {
-            assert_eq!(rt; added(&mut table, 30), Some(Ok(NO_WORK)));
-            assert_eq!(rt; added(&mut table, 10), Some(Ok(NO_WORK)));
-            assert_eq!(rt; added(&mut table, 20), Some(Ok(NO_WORK)));
-            assert_eq!(rt; added(&mut table, 20), None);
-            let refused = Refused {
-                why: NoRoom::NoTable,
-                work: NO_WORK,
-            };
-            assert_eq!(rt; added(&mut table, 40), Some(Err(refused)));
+fn a_search_reads_up_to_its_leaf_and_a_full_table_refuses(rt: HostRuntime) -> Result<(), NoMemory> {
+    let mut table = PlainTable::open(rt.alloc(), 1, 3)?;
+    assert_eq!(rt; added(&mut table, 30), Some(Ok(Work::none())));
+    assert_eq!(rt; added(&mut table, 10), Some(Ok(Work::none())));
+    assert_eq!(rt; added(&mut table, 20), Some(Ok(Work::none())));
+    assert_eq!(rt; added(&mut table, 20), None);
+    let refused = Refused {
+        why: NoRoom::NoTable,
+        work: Work::none(),
+    };
+    assert_eq!(rt; added(&mut table, 40), Some(Err(refused)));
 
-            // One load for the bucket, and one for each leaf up to the one that is sought, newest
-            // first.
-            assert_eq!(rt; loads_of(&mut table, 20), 2);
-            assert_eq!(rt; loads_of(&mut table, 10), 3);
-            assert_eq!(rt; loads_of(&mut table, 30), 4);
+    // One load for the bucket, and one for each leaf up to the one that is sought, newest first.
+    assert_eq!(rt; loads_of(&mut table, 20), 2);
+    assert_eq!(rt; loads_of(&mut table, 10), 3);
+    assert_eq!(rt; loads_of(&mut table, 30), 4);
 
-            // An absent page is sought in the chain of each order, which here are one: 3 * 4.
-            assert_eq!(rt; loads_of(&mut table, 40), 12);
-        }
-    }
+    // An absent page is sought in the chain of each order, which here are one: 3 * 4.
+    assert_eq!(rt; loads_of(&mut table, 40), 12);
+    Ok(())
 }

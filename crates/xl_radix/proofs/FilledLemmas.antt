@@ -58,13 +58,13 @@ module _ (leaves : List Leaf) (nodes : List (Option Node)) where
   numbered-words size n place (None ∷ rest) ws es ep long same =
       no-words size place ws (omega arith) (λ k l. ap (slice_index ws) (omega arith) ∙ same 0 k (omega arith) (omega arith))
       ∙ numbered-words size (suc n) (place + size) rest (drop size ws) es (omega arith) (omega (arith, length-drop size ws))
-          (λ m i l h. dropped size m i ws es ∙ same (suc m) i (omega arith) h)
+      (λ m i l h. dropped size m i ws es ∙ same (suc m) i (omega arith) h)
   numbered-words size n place (Some node ∷ rest) ws es ep long same =
       node-words size node n 0 size place ws es (omega arith) (omega arith) (omega arith)
-          (λ k l. ap (slice_index ws) (omega arith) ∙ same 0 k (omega arith) (omega arith) ∙ ap (word_of leaves nodes (Some node)) (omega arith))
+      (λ k l. ap (slice_index ws) (omega arith) ∙ same 0 k (omega arith) (omega arith) ∙ ap (word_of leaves nodes (Some node)) (omega arith))
       ∙ ap (λ (l : List Word). words_from leaves nodes n node 0 size ++ l)
-          (numbered-words size (suc n) (place + size) rest (drop size ws) es (omega arith) (omega (arith, length-drop size ws))
-          (λ m i l h. dropped size m i ws es ∙ same (suc m) i (omega arith) h))
+      (numbered-words size (suc n) (place + size) rest (drop size ws) es (omega arith) (omega (arith, length-drop size ws))
+      (λ m i l h. dropped size m i ws es ∙ same (suc m) i (omega arith) h))
       ∙ ap (λ (v : ℕ). words_from leaves nodes n node 0 v ++ image_from leaves nodes (suc n) rest) es
 
 -- The words are the image.

@@ -1,10 +1,14 @@
 -- What a leaf that covers a page says of the walk.
 use Rattle.std.proofs.Common.{ℕ, suc, ◌≡◌, ◌+◌, ◌-◌, ◌*◌, ◌/◌, ◌<◌, ◌≤◌, true, ◌⊎◌, inl, inr, List, Option, Some, None, refl, ap, sym, ◌∙◌, subst, arith}
 use Rattle.std.specs.List.{find}
-use Rattle.std.proofs.lemmas.Bool.{false_from_ne_true}
+use Rattle.std.specs.Prelude.{IfSome}
+use Rattle.std.proofs.lemmas.Bool.{eq-eqb, false_from_ne_true}
+use Rattle.xl_model.specs.declared.address.Order.{Order}
+use Rattle.xl_model.specs.declared.address.Order.TheVariants as order
 use Rattle.xl_model.specs.declared.leaf.Leaf.{Leaf}
-use Rattle.xl_model.specs.Addresses.{level_of, pages_of}
-use Rattle.xl_model.specs.Mapping.{covers, leaf_at_page}
+use Rattle.xl_model.specs.Addresses.{level_of, pages_of, same_order}
+use Rattle.xl_model.specs.Changes.{IsNamed}
+use Rattle.xl_model.specs.Mapping.{covers, is_leaf, leaf_at_page, leaf_named}
 use Rattle.xl_model.specs.Nodes.{up, in_nodes}
 use Rattle.xl_model.specs.Walks.{end_level}
 use Rattle.xl_mapping.specs.Members.{In}
@@ -14,6 +18,7 @@ use Rattle.xl_mapping.proofs.EndLemmas.{up-from, end-is}
 use Rattle.xl_pte.specs.declared.word.Pte.TheVariants as pte
 use Rattle.xl_radix.specs.ReadBack.{order_of, leaf_said}
 use Rattle.xl_radix.specs.Table.{IsRadixMapping}
+use Rattle.xl_radix.proofs.ListLemmas.{found-some}
 use Rattle.xl_radix.proofs.MeetLemmas.{covered}
 use Rattle.xl_radix.proofs.SlotLemmas.{Under, in-nodes, in-nodes-leaf}
 use Rattle.xl_radix.proofs.ReadBackLemmas.{said-leaf}
@@ -34,8 +39,8 @@ pub leaf-ends : (top spaces s page : ℕ) (x : Leaf) (leaves : List Leaf) → 3 
 leaf-ends top spaces s page x leaves high m e =
     let low = level-low x.order in
     end-is (top - 1) 0 (level_of x.order) s page leaves (omega arith) (omega arith)
-      (λ h g. false_from_ne_true _ (λ k. none h g (in-nodes-leaf s (suc h) (up (suc h) page) leaves k)))
-      (inr (in-nodes s (suc (level_of x.order)) (up (suc (level_of x.order)) page) leaves x c.there (record { space_is = c.space_is; level_in = omega arith; block_is = ap (λ (v : ℕ). v / 512) c.block_is })))
+    (λ h g. false_from_ne_true _ (λ k. none h g (in-nodes-leaf s (suc h) (up (suc h) page) leaves k)))
+    (inr (in-nodes s (suc (level_of x.order)) (up (suc (level_of x.order)) page) leaves x c.there (record { space_is = c.space_is; level_in = omega arith; block_is = ap (λ (v : ℕ). v / 512) c.block_is })))
   where
     c : Covering s page x leaves
     c = covering-is top spaces s page x leaves m e
@@ -52,3 +57,20 @@ pub leaf-said : (top spaces s page : ℕ) (x : Leaf) (leaves : List Leaf) → Is
 leaf-said top spaces s page x leaves m e =
     let c = covering-is top spaces s page x leaves m e in
     said-leaf s (level_of x.order) (up (level_of x.order) page) x (record { space_is = c.space_is; level_is = refl; block_is = c.block_is }) (m.proper x c.there).aligned
+
+same-as-itself : (o : Order) → same_order o o ≡ true
+same-as-itself order.K4 = refl
+same-as-itself order.M2 = refl
+same-as-itself order.G1 = refl
+
+own-name : (x : Leaf) → is_leaf x.space x.first x.order x ≡ true
+own-name x = rw (eq-eqb x.space x.space refl, eq-eqb x.first x.first refl, same-as-itself x.order) refl
+
+-- A leaf that covers a page is named by its own place.
+pub covering-named : (s page : ℕ) (x : Leaf) (leaves : List Leaf) → leaf_at_page s page leaves ≡ Some x → IsNamed x.space x.first x.order leaves
+unfolding leaf_at_page leaf_named
+covering-named s page x leaves e = found-some (is_leaf x.space x.first x.order) x leaves (find-In (covers s page) x leaves e) (own-name x)
+
+pub covering-has-name : (s page : ℕ) (r : Option Leaf) (leaves : List Leaf) → r ≡ leaf_at_page s page leaves → IfSome r (λ x. IsNamed x.space x.first x.order leaves)
+covering-has-name s page None leaves e = tt
+covering-has-name s page (Some x) leaves e = covering-named s page x leaves (sym e)

@@ -14,13 +14,13 @@ mod PathLemmas
 mod OpeningLemmas
 mod PoolLemmas
 mod LookLemmas
-mod FoundLemmas
+pub mod FoundLemmas
 mod FilledLemmas
 mod WalkLemmas
 mod TakenLeafLemmas
 pub mod FreedNodeLemmas
 mod RemovalLemmas
-mod ShapeLemmas
+pub mod ShapeLemmas
 pub mod TakingLemmas
 mod PermLemmas
 mod ShiftLemmas

@@ -1,10 +1,12 @@
 -- What a test finds in a list, also with one leaf more.
-use Rattle.std.proofs.Common.{◌≡◌, Bool, true, false, cond, inl, inr, List, [], ◌∷◌, Some, None, refl, ap}
+use Rattle.std.proofs.Common.{◌≡◌, Bool, true, false, cond, inl, inr, List, [], ◌∷◌, Some, None, refl, ap, sym, ◌∙◌}
+use Rattle.std.specs.Prelude.{is_some}
 use Rattle.std.specs.List.{find, list_any}
+use Rattle.std.proofs.lemmas.Bool.{false≢true}
 use Rattle.xl_model.specs.declared.leaf.Leaf.{Leaf}
 use Rattle.xl_model.specs.Mapping.{with_leaf, leaf_key}
 use Rattle.xl_mapping.specs.Members.{In}
-use Rattle.xl_mapping.proofs.MemberLemmas.{find-In, find-passes, find-only, any-In}
+use Rattle.xl_mapping.proofs.MemberLemmas.{find-In, find-passes, find-None, find-only, any-In}
 use Rattle.xl_mapping.proofs.InsertionLemmas.{with-In, In-with}
 use Rattle.xl_radix.proofs.CaseLemmas.{Same, Before, After, lies}
 
@@ -35,3 +37,11 @@ find-with-other p x (z ∷ zs) f not =
 pub find-with : (p : Leaf → Bool) (x : Leaf) (xs : List Leaf) → p x ≡ true → ((y : Leaf) → In y xs → p y ≡ true → ⊥) → find p (with_leaf x xs) ≡ Some x
 find-with p x xs t not =
     find-only p x (with_leaf x xs) (In-with x xs) t (λ y i u. elim (with-In y x xs i) [ inl e ↦ e | inr r ↦ absurd (not y r u) ])
+
+-- Where a member passes a test, some one is found.
+pub found-some : {A : Type 0} (p : A → Bool) (x : A) (xs : List A) → In x xs → p x ≡ true → is_some (find p xs) ≡ true
+found-some p x xs i t =
+    elim (find p xs) as (λ o. find p xs ≡ o → is_some o ≡ true) [
+      | Some y ↦ λ e. refl
+      | None ↦ λ e. absurd (false≢true (sym (find-None p x xs e i) ∙ t))
+    ] refl

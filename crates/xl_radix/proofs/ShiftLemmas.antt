@@ -19,12 +19,13 @@ use Rattle.xl_model.specs.Structures.{IsBlock, IsLeafFor}
 use Rattle.xl_mapping.specs.Members.{In, IsSorted}
 use Rattle.xl_mapping.proofs.InsertionLemmas.{with-In, In-with, stays-with, sorted-with, sorted-without, without-In, without-other, In-without}
 use Rattle.xl_mapping.proofs.MappingLemmas.{named-In, named-is}
-use Rattle.xl_mapping.proofs.MemberLemmas.{find-None, any-false}
+use Rattle.xl_mapping.proofs.MemberLemmas.{any-false}
 use Rattle.xl_mapping.proofs.OrderLemmas.{pages-some}
 use Rattle.xl_mapping.proofs.PlaceLemmas.{named-space, named-first, named-order}
 use Rattle.xl_mapping.proofs.SortedLemmas.{same-sorted}
 use Rattle.xl_radix.specs.Table.{Table, IsRadixMapping, IsStore}
 use Rattle.xl_radix.specs.Steps.{shape_of, IsLess, IsMove, IsMade}
+use Rattle.xl_radix.proofs.ListLemmas.{found-some}
 use Rattle.xl_radix.proofs.EndLemmas.{found-at}
 use Rattle.xl_radix.proofs.ReadBackLemmas.{own-slot}
 
@@ -98,13 +99,6 @@ no-key top spaces s to o leaves m low free y i e =
     let first : y.first ≡ to = omega arith in
     false≢true (sym (any-false (meets_block s to o) y leaves free i) ∙ begins-meets s to o y space first)
 
-found-some : {A : Type 0} (p : A → Bool) (x : A) (xs : List A) → In x xs → p x ≡ true → is_some (find p xs) ≡ true
-found-some p x xs i t =
-    elim (find p xs) as (λ o. find p xs ≡ o → is_some o ≡ true) [
-      | Some y ↦ λ e. refl
-      | None ↦ λ e. absurd (false≢true (sym (find-None p x xs e i) ∙ t))
-    ] refl
-
 -- The moved leaf.
 abbrev pub at_block : ℕ → ℕ → Order → Leaf → Leaf
 at_block s to o x = record { space = s; first = to; order = o; frame = x.frame; perm = x.perm }
@@ -163,5 +157,6 @@ shifted top s f to given o x old mid new move el en es ed made gone =
       shape = made.shape ∙ rw move.brings (ap (λ (v : ℕ). Radix top v (only_needed top (changed (Remove s f o) mid.leaves) mid.nodes)) es ∙ ap (Radix top old.spaces) needed);
       less = rw move.brings (subst (λ (l : List (Option Node)). IsLess l new.nodes) en made.less);
       count = rw move.brings (made.count ∙ ap (λ (l : List (Option Node)). free_count l + given) en);
+      spaces = made.spaces ∙ es;
       loads = made.loads ∙ ed;
     }

@@ -1,5 +1,5 @@
 -- A leaf is taken out, and the empty nodes above it.
-use Rattle.std.proofs.Common.{ℕ, zero, suc, ◌≡◌, ◌≢◌, ◌+◌, ◌-◌, ◌*◌, ◌<◌, ◌≤◌, Bool, true, false, ◌⊎◌, inl, inr, List, [], ◌∷◌, map, length, slice_index, slice_index_or, Option, Some, None, refl, ap, sym, ◌∙◌, subst, arith}
+use Rattle.std.proofs.Common.{ℕ, zero, suc, ◌≡◌, ◌≢◌, ◌+◌, ◌-◌, ◌*◌, ◌<◌, ◌≤◌, ◌==◌, Bool, true, false, ◌⊎◌, inl, inr, List, [], ◌∷◌, map, length, slice_index, slice_index_or, Option, Some, None, refl, ap, sym, ◌∙◌, subst, arith}
 use Rattle.std.proofs.lemmas.Bool.{false≢true, false_from_ne_true}
 use Rattle.std.proofs.lemmas.Bool.Decides.{nat_tests}
 use Rattle.std.proofs.lemmas.Grind.{get_or_default_zero}
@@ -40,29 +40,29 @@ unfolding leaf_in
 empty-without s l q a b leaves e =
     find-nothing (is_slot s l q) (without_leaf a b leaves) (λ y i t. leaf-in-none s l q leaves y e (without-In y a b leaves i) (slot-at s l q y t))
 
-used-at : (top spaces s page l k u : ℕ) (leaves : List Leaf) (nodes : List (Option Node)) (words used : List ℕ) → IsStore top spaces leaves nodes words used → Stands s page l k nodes → u ≡ slice_index_or used k u → (k < length nodes) × (u ≡ slice_index used k)
-used-at top spaces s page l k u leaves nodes words used store at e =
-    let b = below-some s (suc l) (up (suc l) page) _ at.stands in
-    let inside : k < length nodes = node-in k nodes b.0 b.1 in
-    (inside, e ∙ get_or_default_zero used k u (let z = store.counted.places in omega arith))
+pub is-zero : (b : Bool) (u : ℕ) → b ≡ (u == 0) → b ≡ true → u ≡ 0
+is-zero b u e h = grind (arith, nat_tests)
 
-pub unused : (top spaces s page l k u : ℕ) (leaves : List Leaf) (nodes : List (Option Node)) (words used : List ℕ) → IsStore top spaces leaves nodes words used → Stands s page l k nodes → u ≡ slice_index_or used k u → u ≡ 0 → slice_index used k ≡ 0
-unused top spaces s page l k u leaves nodes words used store at e z = sym (used-at top spaces s page l k u leaves nodes words used store at e).1 ∙ z
+pub not-zero : (b : Bool) (u : ℕ) → b ≡ (u == 0) → b ≡ false → u ≢ 0
+not-zero b u e h = λ z. false≢true (sym h ∙ e ∙ zero-is u z)
+  where
+    zero-is : (u : ℕ) → u ≡ 0 → (u == 0) ≡ true
+    zero-is u z = grind (arith, nat_tests)
 
-still-core : (top spaces s page l k u : ℕ) (leaves : List Leaf) (nodes : List (Option Node)) (words used : List ℕ) → IsStore top spaces leaves nodes words used → suc l < top → Stands s page l k nodes → u ≡ slice_index_or used k u → u ≢ 0 → IsNearly top s page l leaves nodes → IsNearly top s page (suc l) leaves nodes
-still-core top spaces s page l k u leaves nodes words used store low at e ne nearly =
+still-core : (top spaces s page l k : ℕ) (leaves : List Leaf) (nodes : List (Option Node)) (words used : List ℕ) → IsStore top spaces leaves nodes words used → suc l < top → Stands s page l k nodes → slice_index used k ≢ 0 → IsNearly top s page l leaves nodes → IsNearly top s page (suc l) leaves nodes
+still-core top spaces s page l k leaves nodes words used store low at ne nearly =
     let b = below-some s (suc l) (up (suc l) page) _ at.stands in
     let name : slice_index_or nodes k None ≡ Some (new_node s l (up (suc l) page)) = b.1 ∙ ap Some (node-is s l (up (suc l) page) b.0 b.2) in
-    let r = used-at top spaces s page l k u leaves nodes words used store at e in
-    let some = filled-some words (k * 512) 512 (λ z. ne (r.1 ∙ store.counted.each k r.0 ∙ z)) in
+    let inside : k < length nodes = node-in k nodes b.0 b.1 in
+    let some = filled-some words (k * 512) 512 (λ z. ne (store.counted.each k inside ∙ z)) in
     kept-nearly top s page l k leaves nodes nearly (filled-needed top s page l k some.0 leaves nodes words store.image (omega arith) nearly name some.1 some.2)
 
 -- A node of the path that isn't empty is needed.
-pub still-nearly : (top spaces s page j k u : ℕ) (leaves : List Leaf) (nodes : List (Option Node)) (words used : List ℕ) → IsStore top spaces leaves nodes words used → 0 < j → j < top → Stands s page (j - 1) k nodes → u ≡ slice_index_or used k u → u ≢ 0 → IsNearly top s page (j - 1) leaves nodes → IsNearly top s page j leaves nodes
-still-nearly top spaces s page zero k u leaves nodes words used store pos low at e ne nearly = absurd (omega arith)
-still-nearly top spaces s page (suc l) k u leaves nodes words used store pos low at e ne nearly =
+pub still-nearly : (top spaces s page j k : ℕ) (leaves : List Leaf) (nodes : List (Option Node)) (words used : List ℕ) → IsStore top spaces leaves nodes words used → 0 < j → j < top → Stands s page (j - 1) k nodes → slice_index used k ≢ 0 → IsNearly top s page (j - 1) leaves nodes → IsNearly top s page j leaves nodes
+still-nearly top spaces s page zero k leaves nodes words used store pos low at ne nearly = absurd (omega arith)
+still-nearly top spaces s page (suc l) k leaves nodes words used store pos low at ne nearly =
     let h : suc l - 1 ≡ l = omega arith in
-    still-core top spaces s page l k u leaves nodes words used store low (rw h at at) e ne (rw h at nearly)
+    still-core top spaces s page l k leaves nodes words used store low (rw h at at) ne (rw h at nearly)
 
 -- Giving back goes on.
 pub less-trans : (a b c : List (Option Node)) → IsLess a b → IsLess b c → IsLess a c

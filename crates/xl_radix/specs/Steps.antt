@@ -66,4 +66,5 @@ pub record IsMade (top : ℕ) (c : Change) (given : ℕ) (old new : Table) : Typ
   pub shape : shape_of top new ≡ shape_after c old.leaves (shape_of top old)
   pub less : IsLess (with_brought top (brought c old.leaves) old.nodes) new.nodes
   pub count : free_count new.nodes ≡ free_count (with_brought top (brought c old.leaves) old.nodes) + given
+  pub spaces : new.spaces ≡ old.spaces
   pub loads : new.loads ≡ old.loads

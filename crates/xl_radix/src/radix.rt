@@ -60,6 +60,13 @@ impl<const LEVELS: usize> Radix<LEVELS> {
         })
     }
 
+    /// How many spaces the table has.
+    pub fn spaces(&self) -> u16
+        ensures { result ≡ self.now.spaces }
+    {
+        self.store.spaces()
+    }
+
     /// Whether a leaf of the space has a page of the block of this order at page `first`.
     pub fn meets(&self, space: u16, first: u64, order: Order) -> bool
         requires { IsBlock (shape_of LEVELS self.now) space first order }
@@ -252,7 +259,7 @@ impl<const LEVELS: usize> Bus for Radix<LEVELS> {
     }
 
     fn word(&mut self, place: usize) -> Option<u64> {
-        self.loads = self.loads.wrapping_add(1);
+        self.count_loads(1);
         self.store.word_in(place)
     }
 

@@ -1,6 +1,6 @@
 //! The words of a radix table with its nodes, and the steps that change them.
 
-ghost use Rattle.std.specs.Prelude.{◌≡◌, ◌+◌, ◌-◌, ◌*◌, ◌/◌, ◌%◌, ◌^◌, ◌<◌, ◌≤◌, length, slice_index, slice_index_or, slice_set, true, false, None, Some, [], is_none, is_some, position, IfOk, IfSome, IfNone};
+ghost use Rattle.std.specs.Prelude.{◌≡◌, ◌==◌, ◌+◌, ◌-◌, ◌*◌, ◌/◌, ◌%◌, ◌^◌, ◌<◌, ◌≤◌, length, slice_index, slice_index_or, slice_set, true, false, None, Some, [], is_none, is_some, position, IfOk, IfSome, IfNone};
 ghost use Rattle.xl_model.specs.Addresses.{level_of};
 ghost use Rattle.xl_model.specs.Changes.{IsNamed, Protect, changed};
 ghost use Rattle.xl_model.specs.Mapping.{with_leaf, without_leaf, leaf_named, leaf_at_page, meets_any};
@@ -118,6 +118,13 @@ impl<const LEVELS: usize> Store<LEVELS> {
             used,
             spaces,
         })
+    }
+
+    /// How many spaces there are.
+    pub fn spaces(&self) -> u16
+        ensures { result ≡ self.now.spaces }
+    {
+        self.spaces
     }
 
     /// The walk of a page from its space's root, down to level `least` or to a word that is no pointer.
@@ -385,6 +392,14 @@ impl<const LEVELS: usize> Store<LEVELS> {
         }
     }
 
+    /// Whether all words of a node are 0.
+    fn is_unused(&self, node: usize) -> bool
+        requires { node < length self.now.nodes }
+        ensures { result ≡ (slice_index self.now.used node == 0) }
+    {
+        self.used[node] == 0
+    }
+
     /// Gives back an empty node of a page's path.
     fn free_node(&mut self, space: u16, page: u64, above: Place, child: usize)
         requires low { 0 < above.level }
@@ -446,7 +461,9 @@ impl<const LEVELS: usize> Store<LEVELS> {
             level: from.level - 1,
         };
         let given = self.take_leaf_below(space, first, order, below);
-        if self.used[node] != 0 {
+        // What the type keeps comes in by a look at a field.
+        let _words = &self.words;
+        if !self.is_unused(node) {
             return given;
         }
         self.free_node(space, first, from, node);

@@ -73,7 +73,7 @@ pub end-at-level : (top s page : ℕ) (leaves : List Leaf) (words : List ℕ) (s
 end-at-level top s page leaves words spaces nodes back =
     elim (leaf_at_page s page leaves) as (λ o. leaf_at_page s page leaves ≡ o → end_of (walk_end o (end_level (top - 1) 0 s page leaves)) ≡ end_level (top - 1) 0 s page leaves) [
       | None ↦ λ e. refl
-      | Some x ↦ λ e. sym (back.ends s page x e)
+      | Some x ↦ λ e. sym (back.kept.ends s page x e)
     ] refl
 
 -- the path of a walk of a table's own words

@@ -4,7 +4,7 @@ use Rattle.xl_model.specs.declared.event.Reach.{Reach}
 use Rattle.xl_model.specs.Nodes.{Node}
 use Rattle.xl_model.specs.Caches.{Cached, Numbered, all_without, reaches_space, caches_fenced}
 use Rattle.xl_model.specs.Recency.{purged}
-use Rattle.xl_model.specs.Structures.{fence_answer, table_fenced}
+use Rattle.xl_model.specs.Structures.{IsFence, fence_answer, table_fenced}
 use Rattle.xl_mapping.specs.Members.{In}
 use Rattle.xl_mapping.proofs.MemberLemmas.{filter-In}
 use Rattle.xl_recency.specs.declared.item.Item.{Item}
@@ -33,8 +33,7 @@ fenced-length to [] = refl
 fenced-length to (c ∷ cs) = ap suc (fenced-length to cs)
 
 pub record FencedRow (levels : ℕ) (to : Reach) (t : Table) (cs after : List (Cached Item)) (n : ℕ) : Type 0 where
-  pub answer : n ≡ fence_answer to (row_table levels (row_of t cs))
-  pub table : row_table levels (row_of t after) ≡ table_fenced to (row_table levels (row_of t cs))
+  pub fence : IsFence to (row_table levels (row_of t cs)) n (row_table levels (row_of t after))
   pub row : IsRow levels (row_of t cs) → IsRow levels (row_of t after)
 
 minus-is : (n a b : ℕ) → n + b ≡ a → n ≡ a - b
@@ -47,7 +46,9 @@ row-fenced levels to t cs after n ea count =
     let size = fenced-length to cs in
     let number : n ≡ entries_of cs - entries_of (fenced_caches to cs) = minus-is n (entries_of cs) (entries_of (fenced_caches to cs)) (subst (λ (l : List (Cached Item)). n + entries_of l ≡ entries_of cs) ea count) in
     record {
-      answer = rw (number, ← entries-in 0 cs, ← entries-in 0 (fenced_caches to cs), inside) refl;
-      table = rw (ea, inside) refl;
+      fence = record {
+        answer = rw (number, ← entries-in 0 cs, ← entries-in 0 (fenced_caches to cs), inside) refl;
+        after = rw (ea, inside) refl;
+      };
       row = λ r. rw ea (record { high = r.high; low = r.low; caches = let z = r.caches in omega arith; numbered = fenced-numbered 0 to t.nodes cs r.numbered });
     }

@@ -6,7 +6,8 @@ use Rattle.xl_model.specs.Addresses.{level_of}
 use Rattle.xl_model.specs.Nodes.{up, Node, number_of}
 use Rattle.xl_model.specs.Caches.{Cached, Numbered}
 use Rattle.xl_model.specs.Recency.{with_newest}
-use Rattle.xl_model.specs.Walks.{numbered, with_fill, number_or_0, node_cache_after, node_caches_after}
+use Rattle.xl_model.specs.Base.{number_or_0}
+use Rattle.xl_model.specs.Walks.{numbered, with_fill, node_cache_after, node_caches_after}
 use Rattle.xl_mapping.specs.Members.{In}
 use Rattle.xl_mapping.proofs.MemberLemmas.{take-In}
 use Rattle.xl_recency.specs.declared.item.Item.{Item}

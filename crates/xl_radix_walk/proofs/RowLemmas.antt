@@ -6,10 +6,10 @@ use Rattle.xl_model.specs.declared.leaf.Leaf.{Leaf}
 use Rattle.xl_model.specs.Mapping.{leaf_at_page}
 use Rattle.xl_model.specs.Nodes.{up, Node, number_of}
 use Rattle.xl_model.specs.Caches.{Cached, Numbered}
-use Rattle.xl_model.specs.Walks.{start_level, end_level, node_caches_after, one_where}
+use Rattle.xl_model.specs.Walks.{start_level, end_level, node_caches_after}
 use Rattle.xl_model.specs.Walks.{walked, radix_walk_from}
 use Rattle.xl_model.specs.Caches.{NodeCaches}
-use Rattle.xl_model.specs.Base.{plus}
+use Rattle.xl_model.specs.Base.{one_if, plus}
 use Rattle.xl_model.specs.Structures.{walk_answer, table_walked}
 use Rattle.xl_radix.specs.declared.walk_end.WalkEnd.{WalkEnd}
 use Rattle.xl_radix.specs.Table.{Table}
@@ -70,7 +70,7 @@ is-filled top spaces start space page path leaves nodes words cs old back h p e 
     elim (leaf_at_page space page leaves) as (λ o. leaf_at_page space page leaves ≡ o → IsFilled start space page path nodes cs old o (end_level (top - 1) 0 space page leaves)) [
       | None ↦ λ f. record { caches = e ∙ none-nodes 0 start space page nodes (caches_in 0 old); numbered = all; size = refl }
       | Some x ↦ λ f.
-          let d = back.ends space page x f in
+          let d = back.kept.ends space page x f in
           let q = subst (λ (v : ℕ). IsPath v start space page path nodes) d p in
           record {
             caches = filled 0 start x space page path nodes cs (caches_in 0 old) h q e;
@@ -83,7 +83,7 @@ pub leaf-told : (top spaces space page : ℕ) (leaves : List Leaf) (nodes : List
 leaf-told top spaces space page leaves nodes words back =
     elim (leaf_at_page space page leaves) as (λ o. leaf_at_page space page leaves ≡ o → leaf_told space page (walk_end o (end_level (top - 1) 0 space page leaves)) ≡ o) [
       | None ↦ λ f. refl
-      | Some x ↦ λ f. back.said space page x f
+      | Some x ↦ λ f. back.kept.said space page x f
     ] refl
 
 pub record WalkedRow (top space page : ℕ) (t new : Table) (cs after : List (Cached Item)) : Type 0 where
@@ -110,7 +110,7 @@ row-walked top space page t new cs looked after found from e path back h row s e
     })
 
 pub row-answer : (top space page : ℕ) (t : Table) (cs : List (Cached Item)) (found : Option Start) (r : Option Leaf) (e : WalkEnd) → WordsReadBack top t.spaces t.leaves t.nodes t.words → IsStart top space page t.nodes cs found →
-    e ≡ walk_end (leaf_at_page space page t.leaves) (end_level (top - 1) 0 space page t.leaves) → r ≡ leaf_told space page e → record { leaf = r; cache_hits = one_where (is_some found) } ≡ walk_answer space page (row_table top (row_of t cs))
+    e ≡ walk_end (leaf_at_page space page t.leaves) (end_level (top - 1) 0 space page t.leaves) → r ≡ leaf_told space page e → record { leaf = r; cache_hits = one_if (is_some found) } ≡ walk_answer space page (row_table top (row_of t cs))
 unfolding walk_answer walked
 row-answer top space page t cs found r e back s ee er =
     let f : r ≡ leaf_at_page space page t.leaves = er ∙ ap (leaf_told space page) ee ∙ leaf-told top t.spaces space page t.leaves t.nodes t.words back in

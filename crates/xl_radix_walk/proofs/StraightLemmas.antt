@@ -8,7 +8,7 @@ use Rattle.xl_model.specs.declared.perm.Perm.{Perm}
 use Rattle.xl_model.specs.Addresses.{is_legal, allows}
 use Rattle.xl_pte.specs.Decode.{decode_of, leaf_at, bit}
 use Rattle.xl_pte.specs.declared.word.Pte.TheVariants as pte
-use Rattle.xl_pte.proofs.Bits.{decode-leaf, number-shifted}
+use Rattle.xl_pte.proofs.BitLemmas.{decode-leaf, number-shifted}
 use Rattle.xl_radix.specs.declared.walk_end.WalkEnd.TheVariants as end
 use Rattle.xl_radix.specs.Walk.{place_of, is_there, end_at, reading, radix_back}
 use Rattle.xl_radix_walk.specs.Quick.{Points, Allows, HasWord, Finds}

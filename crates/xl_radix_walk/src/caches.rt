@@ -1,10 +1,10 @@
 //! The walk caches: one of each level of nodes below the root, level 0 first.
 
-ghost use Rattle.std.specs.Prelude.{◌≡◌, suc, ◌+◌, ◌-◌, ◌*◌, ◌^◌, ◌<◌, ◌≤◌, ◌&&◌, nat_lt, nat_le, slice_index, [], true, None, Some, find, length, IfSome, IfNone};
+ghost use Rattle.std.specs.Prelude.{◌≡◌, suc, ◌+◌, ◌-◌, ◌*◌, ◌^◌, ◌<◌, ◌≤◌, ◌&&◌, nat_lt, nat_le, slice_index, [], true, None, Some, length, IfSome, IfNone};
 ghost use Rattle.xl_model.specs.Nodes.{up, number_of};
 ghost use Rattle.xl_model.specs.Caches.{reaches_space};
-ghost use Rattle.xl_model.specs.Recency.{touched, purged};
 ghost use Rattle.xl_model.specs.Walks.{start_level, node_caches_after};
+ghost use Rattle.xl_recency.specs.Lists.{Touches, Purges};
 ghost use Rattle.xl_radix_walk.specs.Row.{tag_at, has_tag, caches_in, AreNumbered, filled_one, filled_caches, is_gone, purged_caches, entries_of, is_fenced, fenced_caches};
 
 use xl_model::Reach;
@@ -29,8 +29,7 @@ fn tag_of(space: u16, page: u64, level: usize) -> u64
 
 /// Touches the newest item of a tag.
 fn touch_tag(cache: &mut Cache, tag: u64) -> Option<Item>
-    ensures found { result ≡ find (has_tag tag) cache.old.items }
-    ensures moved { cache.new.items ≡ touched (has_tag tag) cache.old.items }
+    ensures touched { Touches (has_tag tag) cache.old.items cache.new.items result }
     ensures width { cache.new.width ≡ cache.old.width }
 {
     cache.touch(|item| item.tag == tag)
@@ -40,13 +39,19 @@ fn touch_tag(cache: &mut Cache, tag: u64) -> Option<Item>
 pub(crate) fn look(caches: &mut [Cache], level: usize, space: u16, page: u64) -> Option<Start>
     requires levels { level + length caches.old ≤ 4 }
     requires page { page < 2 ^ 45 }
-    ensures some { IfSome result (λ s. s.level ≡ start_level level space page (caches_in level caches.old)) }
+    ensures some { IfSome result (λ s.
+        s.level ≡ start_level level space page (caches_in level caches.old)) }
     ensures low { IfSome result (λ s. s.level < level + length caches.old) }
-    ensures none { IfNone result (start_level level space page (caches_in level caches.old) ≡ level + length caches.old) }
-    ensures caches { caches_in level caches.new ≡ node_caches_after level (start_level level space page (caches_in level caches.old)) None space page [] (caches_in level caches.old) }
+    ensures none { IfNone result
+        (start_level level space page (caches_in level caches.old) ≡ level + length caches.old) }
+    ensures caches { caches_in level caches.new ≡
+        node_caches_after level (start_level level space page (caches_in level caches.old))
+            None space page [] (caches_in level caches.old) }
     ensures length { length caches.new ≡ length caches.old }
-    ensures number { (nodes : _) → AreNumbered level nodes caches.old → IfSome result (λ s. number_of space (suc s.level) (up (suc s.level) page) nodes ≡ Some s.node) }
-    ensures kept { (nodes : _) → AreNumbered level nodes caches.old → AreNumbered level nodes caches.new }
+    ensures number { (nodes : _) → AreNumbered level nodes caches.old → IfSome result (λ s.
+        number_of space (suc s.level) (up (suc s.level) page) nodes ≡ Some s.node) }
+    ensures kept { (nodes : _) → AreNumbered level nodes caches.old →
+        AreNumbered level nodes caches.new }
 {
     let Some((first, rest)) = caches.split_first_mut() else {
         return None;
@@ -74,7 +79,8 @@ fn fill_tag(cache: &mut Cache, tag: u64, number: u64)
 /// Fills the cache of a level where it lies from `least` to below `start`.
 fn fill_at(cache: &mut Cache, level: usize, start: usize, least: usize, tag: u64, path: &[u64])
     requires path { start ≤ length path.now + least }
-    ensures { cache.new ≡ filled_one (nat_lt level start && nat_le least level) tag (slice_index path.now (start - 1 - level)) cache.old }
+    ensures { cache.new ≡ filled_one (nat_lt level start && nat_le least level) tag
+        (slice_index path.now (start - 1 - level)) cache.old }
 {
     if level < start && least <= level {
         fill_tag(cache, tag, path[start - 1 - level]);
@@ -105,9 +111,8 @@ pub(crate) fn fill(
 
 /// Removes the items whose numbers no node has. Gives how many left.
 fn purge_cache<const LEVELS: usize>(cache: &mut Cache, radix: &Radix<LEVELS>) -> u64
-    ensures items { cache.new.items ≡ purged (is_gone radix.now.nodes) cache.old.items }
+    ensures purged { Purges (is_gone radix.now.nodes) cache.old.items cache.new.items result }
     ensures width { cache.new.width ≡ cache.old.width }
-    ensures count { result + length cache.new.items ≡ length cache.old.items }
     ensures most { result ≤ 64 }
 {
     cache.remove_where(|item: &Item|
@@ -161,9 +166,8 @@ fn reaches(reach: Reach, space: u64) -> bool
 
 /// Removes what a fence reaches from a cache. Gives how many left.
 fn fence_cache(cache: &mut Cache, reach: Reach) -> u64
-    ensures items { cache.new.items ≡ purged (is_fenced reach) cache.old.items }
+    ensures purged { Purges (is_fenced reach) cache.old.items cache.new.items result }
     ensures width { cache.new.width ≡ cache.old.width }
-    ensures count { result + length cache.new.items ≡ length cache.old.items }
     ensures most { result ≤ 64 }
 {
     cache.remove_where(|item: &Item|

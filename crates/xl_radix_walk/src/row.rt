@@ -1,23 +1,29 @@
 //! A radix table with its walk caches.
 
-ghost use Rattle.std.specs.Prelude.{◌≡◌, suc, ◌+◌, ◌-◌, ◌*◌, ◌^◌, ◌<◌, ◌≤◌, [], None, Some, Ok, length, is_some};
-ghost use Rattle.xl_model.specs.Changes.{Remove, IsNamed};
-ghost use Rattle.xl_model.specs.Mapping.{leaf_at_page};
+ghost use Rattle.std.specs.Prelude.{◌≡◌, suc, ◌+◌, ◌-◌, ◌*◌, ◌^◌, ◌<◌, ◌≤◌, [], false, slice_index, map, None, Some, length, is_some, IsTrue, IfOk};
+ghost use Rattle.std.specs.List.{list_all};
+ghost use Rattle.xl_model.specs.declared.work.NoRoom.TheVariants as why;
+ghost use Rattle.xl_model.specs.Changes.{Insert, Remove, Protect, Relocate, IsNamed};
+ghost use Rattle.xl_model.specs.Mapping.{leaf_at_page, meets_any};
 ghost use Rattle.xl_model.specs.Nodes.{up, number_of};
 ghost use Rattle.xl_model.specs.Base.{plus};
+ghost use Rattle.xl_model.specs.Caches.{empty_cache};
+ghost use Rattle.xl_model.specs.Rows.{is_width};
 ghost use Rattle.xl_model.specs.Placing.{no_moves};
 ghost use Rattle.xl_model.specs.Walks.{end_level};
-ghost use Rattle.xl_model.specs.Structures.{IsPage, walk_answer, table_walked, table_answer, table_after, work_of, fence_answer, table_fenced};
+ghost use Rattle.xl_model.specs.Structures.{IsBlock, IsLeafFor, IsPage, IsChange, IsWalk, IsFence, work_of};
 ghost use Rattle.xl_radix.specs.Walk.{walk_end};
 ghost use Rattle.xl_radix.specs.Steps.{shape_of};
-ghost use Rattle.xl_radix_walk.specs.Row.{start_or, leaf_told, filled_by, IsPath, IsRow, row_of, row_table};
+ghost use Rattle.xl_radix_walk.specs.Row.{AreNumbered, entries_of, filled_by, leaf_told, opening_table, purged_caches, refused_for, start_or, IsPath, IsRow, row_of, row_table};
 ghost use Rattle.xl_radix.specs.Walk.{end_of};
 
 use crate::caches::{Start, fence_caches, fill, look, purge_given};
 use crate::walk;
 use arrayvec::ArrayVec;
+use std::alloc::Global;
 use std::marker::Model;
-use xl_model::{Leaf, Order, Reach, Refused, Walk, Work};
+use xl_model::{Leaf, NoMemory, NoRoom, NoTable, Order, Perm, Reach, Refused, Structure, Walk, Work};
+use xl_phys::Bus;
 use xl_pte::Pte;
 use xl_radix::{Radix, WalkEnd, block_of, leaf_of};
 use xl_recency::Cache;
@@ -114,8 +120,8 @@ fn walk_row<const LEVELS: usize>(
     requires row { IsRow LEVELS (row_of radix.old caches.old) }
     requires page { IsPage (shape_of LEVELS radix.old) space page }
     ensures row { IsRow LEVELS (row_of radix.new caches.new) }
-    ensures answer { result ≡ walk_answer space page (row_table LEVELS (row_of radix.old caches.old)) }
-    ensures after { row_table LEVELS (row_of radix.new caches.new) ≡ table_walked space page (row_table LEVELS (row_of radix.old caches.old)) }
+    ensures walks { IsWalk space page (row_table LEVELS (row_of radix.old caches.old))
+        result (row_table LEVELS (row_of radix.new caches.new)) }
 {
     radix.words_read_back();
     let looked = look(caches, 0, space, page);
@@ -130,77 +136,229 @@ fn walk_row<const LEVELS: usize>(
     }
 }
 
-/// What a command cost, of a table that moves nothing.
-fn plain_work(invalidated: u64) -> Work
-    ensures { result ≡ work_of no_moves invalidated }
+/// The work of a change that gave back so many nodes: their tags leave the caches.
+fn settle<const LEVELS: usize>(radix: &Radix<LEVELS>, caches: &mut [Cache], given: usize) -> Work
+    requires few { length caches.old ≤ 4 }
+    requires none { given ≡ 0 → AreNumbered 0 radix.now.nodes caches.old }
+    ensures caches { caches.new ≡ purged_caches radix.now.nodes caches.old }
+    ensures work { result ≡ work_of no_moves (entries_of caches.old - entries_of caches.new) }
 {
+    let invalidated = purge_given(caches, radix, given);
     Work {
-        kicks: 0,
-        undone: 0,
-        migrated: 0,
-        growths: 0,
         invalidated,
+        ..Work::none()
     }
 }
 
-/// Takes out a leaf, and purges the tags of the nodes that are given back.
+/// A change that is refused for want of a free node.
+fn no_table() -> Refused
+    ensures { result ≡ refused_for why.NoTable }
+{
+    Refused {
+        why: NoRoom::NoTable,
+        work: Work::none(),
+    }
+}
+
+/// Adds a leaf that no leaf meets.
+fn insert_leaf<const LEVELS: usize>(
+    radix: &mut Radix<LEVELS>,
+    caches: &mut [Cache],
+    leaf: Leaf,
+) -> Result<Work, Refused>
+    requires row { IsRow LEVELS (row_of radix.old caches.old) }
+    requires valid { IsLeafFor (shape_of LEVELS radix.old) leaf }
+    requires free { meets_any leaf.space leaf.first leaf.order radix.old.leaves ≡ false }
+    ensures row { IsRow LEVELS (row_of radix.new caches.new) }
+    ensures changes { IsChange (Insert leaf) (row_table LEVELS (row_of radix.old caches.old))
+        result (row_table LEVELS (row_of radix.new caches.new)) }
+{
+    match radix.add(leaf) {
+        Ok(()) => Ok(settle(radix, caches, 0)),
+        Err(NoTable) => Err(no_table()),
+    }
+}
+
+/// Takes out a leaf.
 fn remove_leaf<const LEVELS: usize>(
     radix: &mut Radix<LEVELS>,
     caches: &mut [Cache],
     space: u16,
     first: u64,
     order: Order,
-) -> Work
+) -> Result<Work, Refused>
     requires row { IsRow LEVELS (row_of radix.old caches.old) }
     requires named { IsNamed space first order radix.old.leaves }
     ensures row { IsRow LEVELS (row_of radix.new caches.new) }
-    ensures answer { Ok result ≡ table_answer (Remove space first order) (row_table LEVELS (row_of radix.old caches.old)) }
-    ensures after { row_table LEVELS (row_of radix.new caches.new) ≡ table_after (Remove space first order) (row_table LEVELS (row_of radix.old caches.old)) }
+    ensures changes { IsChange (Remove space first order)
+        (row_table LEVELS (row_of radix.old caches.old))
+        result (row_table LEVELS (row_of radix.new caches.new)) }
 {
-    let given = radix.take_out(space, first, order);
-    plain_work(purge_given(caches, radix, given))
+    let given = radix.take_out_counted(space, first, order);
+    Ok(settle(radix, caches, given))
+}
+
+/// Gives a leaf another permission.
+fn protect_leaf<const LEVELS: usize>(
+    radix: &mut Radix<LEVELS>,
+    caches: &mut [Cache],
+    space: u16,
+    first: u64,
+    order: Order,
+    perm: Perm,
+) -> Result<Work, Refused>
+    requires row { IsRow LEVELS (row_of radix.old caches.old) }
+    requires named { IsNamed space first order radix.old.leaves }
+    ensures row { IsRow LEVELS (row_of radix.new caches.new) }
+    ensures changes { IsChange (Protect space first order perm)
+        (row_table LEVELS (row_of radix.old caches.old))
+        result (row_table LEVELS (row_of radix.new caches.new)) }
+{
+    radix.set_perm(space, first, order, perm);
+    Ok(settle(radix, caches, 0))
+}
+
+/// Moves a leaf to a block that no leaf meets.
+fn relocate_leaf<const LEVELS: usize>(
+    radix: &mut Radix<LEVELS>,
+    caches: &mut [Cache],
+    space: u16,
+    first: u64,
+    to: u64,
+    order: Order,
+) -> Result<Work, Refused>
+    requires row { IsRow LEVELS (row_of radix.old caches.old) }
+    requires named { IsNamed space first order radix.old.leaves }
+    requires block { IsBlock (shape_of LEVELS radix.old) space to order }
+    requires free { meets_any space to order radix.old.leaves ≡ false }
+    ensures row { IsRow LEVELS (row_of radix.new caches.new) }
+    ensures changes { IsChange (Relocate space first to order)
+        (row_table LEVELS (row_of radix.old caches.old))
+        result (row_table LEVELS (row_of radix.new caches.new)) }
+{
+    match radix.shift_counted(space, first, to, order) {
+        Ok(given) => Ok(settle(radix, caches, given)),
+        Err(NoTable) => Err(no_table()),
+    }
 }
 
 /// Removes what a fence reaches.
 fn fence_row(caches: &mut [Cache], reach: Reach) -> u64
     requires few { length caches.old ≤ 4 }
-    ensures answer { (levels : _) (t : _) → result ≡ fence_answer reach (row_table levels (row_of t caches.old)) }
-    ensures after { (levels : _) (t : _) → row_table levels (row_of t caches.new) ≡ table_fenced reach (row_table levels (row_of t caches.old)) }
-    ensures row { (levels : _) (t : _) → IsRow levels (row_of t caches.old) → IsRow levels (row_of t caches.new) }
+    ensures fences { (levels : _) (t : _) → IsFence reach (row_table levels (row_of t caches.old))
+        result (row_table levels (row_of t caches.new)) }
+    ensures row { (levels : _) (t : _) → IsRow levels (row_of t caches.old) →
+        IsRow levels (row_of t caches.new) }
 {
     fence_caches(caches, reach)
 }
 
+/// Empty caches of these widths.
+fn open_caches(alloc: Global, widths: &[u8]) -> Result<Vec<Cache>, NoMemory>
+    requires { IsTrue (list_all is_width widths.now) }
+    ensures { IfOk result (λ caches. caches.items ≡ map empty_cache widths.now) }
+{
+    let mut caches = Vec::with_capacity(alloc, widths.len())?;
+    'opened: for width in widths {
+        if caches.push(Cache::open(alloc, *width)?).is_err() {
+            return Err(NoMemory);
+        }
+    }
+    Ok(caches)
+}
+
 impl<const LEVELS: usize> RadixRow<LEVELS> {
-    /// Removes from the caches what a fence reaches, and tells how many entries left.
-    pub fn fence(&mut self, reach: Reach) -> u64
-        ensures answer { result ≡ fence_answer reach (row_table LEVELS self.old) }
-        ensures after { row_table LEVELS self.new ≡ table_fenced reach (row_table LEVELS self.old) }
+    /// A row without leaves, as `Radix::open` opens its table, and with empty walk caches. `widths`
+    /// has their widths, level 0 first; those after the first `LEVELS - 1` aren't used.
+    ///
+    /// # Errors
+    ///
+    /// `NoMemory` where there is no memory.
+    pub fn open(
+        alloc: Global,
+        table_frames: u32,
+        spaces: u16,
+        widths: [u8; 4],
+    ) -> Result<RadixRow<LEVELS>, NoMemory>
+        requires levels { (3 ≤ LEVELS) × (LEVELS ≤ 5) }
+        requires spaces { (1 ≤ spaces) × (spaces ≤ 64) }
+        requires frames { (spaces ≤ table_frames) × (table_frames ≤ 16384) }
+        requires widths { IsTrue (list_all is_width widths) }
+        ensures { IfOk result (λ row.
+            row_table LEVELS row ≡ opening_table LEVELS table_frames spaces widths) }
     {
+        let radix = Radix::open(alloc, table_frames, spaces)?;
+        let caches = open_caches(alloc, &widths[..LEVELS - 1])?;
+        Ok(RadixRow { radix, caches })
+    }
+
+    /// Word `index` of node number `node`.
+    pub fn word(&self, node: u32, index: u32) -> u64
+        requires node { node < length self.now.radix.nodes }
+        requires index { index < 512 }
+        ensures { result ≡ slice_index self.now.radix.words (node * 512 + index) }
+    {
+        self.radix.word(node, index)
+    }
+
+    /// The table.
+    pub fn radix(&self) -> &Radix<LEVELS>
+        ensures { result.now ≡ self.entry.now.radix }
+    {
+        &self.radix
+    }
+}
+
+impl<const LEVELS: usize> Structure for RadixRow<LEVELS> {
+    ghost use Rattle.xl_radix_walk.specs.Row.{row_table};
+
+    ghost table = { row_table LEVELS };
+
+    fn meets(&self, space: u16, first: u64, order: Order) -> bool {
+        self.radix.meets(space, first, order)
+    }
+
+    fn leaf_at(&self, space: u16, page: u64) -> Option<Leaf> {
+        self.radix.leaf_at(space, page)
+    }
+
+    fn insert(&mut self, leaf: Leaf) -> Result<Work, Refused> {
+        insert_leaf(&mut self.radix, &mut self.caches, leaf)
+    }
+
+    fn remove(&mut self, space: u16, first: u64, order: Order) -> Result<Work, Refused> {
+        remove_leaf(&mut self.radix, &mut self.caches, space, first, order)
+    }
+
+    fn protect(
+        &mut self,
+        space: u16,
+        first: u64,
+        order: Order,
+        perm: Perm,
+    ) -> Result<Work, Refused> {
+        protect_leaf(&mut self.radix, &mut self.caches, space, first, order, perm)
+    }
+
+    fn relocate(
+        &mut self,
+        space: u16,
+        first: u64,
+        to: u64,
+        order: Order,
+    ) -> Result<Work, Refused> {
+        relocate_leaf(&mut self.radix, &mut self.caches, space, first, to, order)
+    }
+
+    fn walk(&mut self, space: u16, page: u64) -> Walk {
+        walk_row(&mut self.radix, &mut self.caches, space, page)
+    }
+
+    fn fence(&mut self, reach: Reach) -> u64 {
         fence_row(&mut self.caches, reach)
     }
 
-    /// Drops a leaf that is there.
-    pub fn remove(&mut self, space: u16, first: u64, order: Order) -> Result<Work, Refused>
-        requires { IsNamed space first order (row_table LEVELS self.old).leaves }
-        ensures answer { result ≡ table_answer (Remove space first order) (row_table LEVELS self.old) }
-        ensures after { row_table LEVELS self.new ≡ table_after (Remove space first order) (row_table LEVELS self.old) }
-    {
-        Ok(remove_leaf(
-            &mut self.radix,
-            &mut self.caches,
-            space,
-            first,
-            order,
-        ))
-    }
-
-    /// The leaf that covers the page, found by a walk, with the cache hits of the walk.
-    pub fn walk(&mut self, space: u16, page: u64) -> Walk
-        requires { IsPage (row_table LEVELS self.old).shape space page }
-        ensures answer { result ≡ walk_answer space page (row_table LEVELS self.old) }
-        ensures after { row_table LEVELS self.new ≡ table_walked space page (row_table LEVELS self.old) }
-    {
-        walk_row(&mut self.radix, &mut self.caches, space, page)
+    fn loads(&self) -> u64 {
+        Bus::loads(&self.radix)
     }
 }

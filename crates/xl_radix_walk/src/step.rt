@@ -15,16 +15,16 @@ pub(crate) enum Step {
     Ends(WalkEnd),
 }
 
-fn said(word: Option<Pte>, level: usize) -> Step
-    ensures { result ≡ step_of word level }
+/// The step that a word says.
+fn step_at(word: Pte, level: usize) -> Step
+    ensures { result ≡ step_of (Some word) level }
 {
     match word {
-        None => Step::Ends(WalkEnd::OutOfBus { level }),
-        Some(Pte::Pointer { node }) => Step::GoesOn(node),
-        Some(Pte::Invalid) => Step::Ends(WalkEnd::Invalid { level }),
-        Some(Pte::Leaf { frame, perm }) => Step::Ends(WalkEnd::Leaf { level, frame, perm }),
-        Some(Pte::Reserved) => Step::Ends(WalkEnd::Reserved { level }),
-        Some(Pte::Misaligned) => Step::Ends(WalkEnd::Misaligned { level }),
+        Pte::Pointer { node } => Step::GoesOn(node),
+        Pte::Invalid => Step::Ends(WalkEnd::Invalid { level }),
+        Pte::Leaf { frame, perm } => Step::Ends(WalkEnd::Leaf { level, frame, perm }),
+        Pte::Reserved => Step::Ends(WalkEnd::Reserved { level }),
+        Pte::Misaligned => Step::Ends(WalkEnd::Misaligned { level }),
     }
 }
 
@@ -38,7 +38,7 @@ fn judged(word: u64, level: usize) -> Step
             return Step::GoesOn(next);
         }
     }
-    said(Some(decode(word, level)), level)
+    step_at(decode(word, level), level)
 }
 
 /// Loads the word of the page in `node` of this level, and says what it says.

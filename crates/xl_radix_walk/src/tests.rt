@@ -1,54 +1,164 @@
-//! Walks over words by hand.
+//! Walks over words by hand, and a row with walk caches of four widths.
 
-use crate::walk;
+ghost use Rattle.std.specs.Prelude.{IsTrue, IfSome};
+ghost use Rattle.xl_model.specs.Changes.{IsNamed};
+ghost use Rattle.xl_model.specs.Structures.{IsBlock, IsLeafFor};
+ghost use Rattle.xl_radix_walk.specs.Row.{row_table};
+
+use crate::{RadixRow, WalkEnd, walk};
 use arrayvec::ArrayVec;
+use std::test::Fail;
+use xl_model::{Leaf, NoMemory, Order, Perm, Reach, Refused, Structure, Walk, Work};
 use xl_phys::{Bus, PhysMem};
-use xl_radix::WalkEnd;
 
 /// Index 1 at level 2, index 2 at level 1 and index 3 at level 0.
 const PAGE: u64 = (1 << 18) + (2 << 9) + 3;
 
 #[test]
-fn a_walk_enters_nodes_and_loads_once_for_each_level(rt: HostRuntime) {
-    match PhysMem::open(rt.alloc(), 1536) {
-        Ok(mut memory) => {
-            memory.poke(1, (1 << 10) + 1);
-            memory.poke(514, (2 << 10) + 1);
-            memory.poke(1027, (77 << 10) + 19);
-            let mut path = ArrayVec::new();
-            match walk::<PhysMem, 3>(&mut memory, 2, 0, PAGE, &mut path) {
-                WalkEnd::Leaf { level, frame, .. } => {
-                    assert_eq!(rt; level, 0);
-                    assert_eq!(rt; frame, 77);
-                }
-                _ => assert!(rt; false, "no leaf"),
-            }
-            assert_eq!(rt; path.as_slice(), [1, 2].as_slice());
-            assert_eq!(rt; memory.loads(), 3);
+fn a_walk_enters_nodes_and_loads_once_for_each_level(rt: HostRuntime) -> Result<(), Fail> {
+    let mut memory = PhysMem::open(rt.alloc(), 1536)?;
+    memory.poke(1, (1 << 10) + 1);
+    memory.poke(514, (2 << 10) + 1);
+    memory.poke(1027, (77 << 10) + 19);
+    let mut path = ArrayVec::new();
+    match walk::<PhysMem, 3>(&mut memory, 2, 0, PAGE, &mut path) {
+        WalkEnd::Leaf { level, frame, .. } => {
+            assert_eq!(rt; level, 0);
+            assert_eq!(rt; frame, 77);
         }
-        Err(error) => assert!(rt; false, "{error:?}"),
+        _ => assert!(rt; false, "no leaf"),
     }
+    assert_eq!(rt; path.as_slice(), [1, 2].as_slice());
+    assert_eq!(rt; memory.loads(), 3);
+    Ok(())
 }
 
 #[test]
-fn a_walk_ends_where_nothing_is_or_no_word_is(rt: HostRuntime) {
-    match PhysMem::open(rt.alloc(), 512) {
-        Ok(mut memory) => {
-            memory.poke(2, (5 << 10) + 1);
-            let mut path = ArrayVec::new();
-            match walk::<PhysMem, 3>(&mut memory, 2, 0, PAGE, &mut path) {
-                WalkEnd::Invalid { level } => assert_eq!(rt; level, 2),
-                _ => assert!(rt; false, "not invalid"),
-            }
-            assert_eq!(rt; memory.loads(), 1);
-            let mut path = ArrayVec::new();
-            match walk::<PhysMem, 3>(&mut memory, 2, 0, 2 << 18, &mut path) {
-                WalkEnd::OutOfBus { level } => assert_eq!(rt; level, 1),
-                _ => assert!(rt; false, "not out of the bus"),
-            }
-            assert_eq!(rt; path.as_slice(), [5].as_slice());
-            assert_eq!(rt; memory.loads(), 3);
-        }
-        Err(error) => assert!(rt; false, "{error:?}"),
+fn a_walk_ends_where_nothing_is_or_no_word_is(rt: HostRuntime) -> Result<(), Fail> {
+    let mut memory = PhysMem::open(rt.alloc(), 512)?;
+    memory.poke(2, (5 << 10) + 1);
+    let mut path = ArrayVec::new();
+    let end = walk::<PhysMem, 3>(&mut memory, 2, 0, PAGE, &mut path);
+    assert_eq!(rt; end, WalkEnd::Invalid { level: 2 });
+    assert_eq!(rt; memory.loads(), 1);
+    let mut path = ArrayVec::new();
+    let end = walk::<PhysMem, 3>(&mut memory, 2, 0, 2 << 18, &mut path);
+    assert_eq!(rt; end, WalkEnd::OutOfBus { level: 1 });
+    assert_eq!(rt; path.as_slice(), [5].as_slice());
+    assert_eq!(rt; memory.loads(), 3);
+    Ok(())
+}
+
+/// A row of five levels.
+type Row = RadixRow<5>;
+
+/// A leaf that may be read.
+fn leaf(first: u64, order: Order, frame: u64) -> Leaf {
+    Leaf {
+        space: 0,
+        first,
+        order,
+        frame,
+        perm: Perm {
+            r: true,
+            w: false,
+            x: false,
+            u: true,
+        },
     }
+}
+
+fn is_block(row: &Row, space: u16, first: u64, order: Order) -> bool
+    ensures { IsTrue result → IsBlock (row_table 5 row.now).shape space first order }
+{
+    let pages = order.pages();
+    if space >= row.radix().spaces() || first >= 1 << 45 || first % pages != 0 {
+        return false;
+    }
+    true
+}
+
+fn is_leaf(row: &Row, leaf: Leaf) -> bool
+    ensures { IsTrue result → IsLeafFor (row_table 5 row.now).shape leaf }
+{
+    let pages = leaf.order.pages();
+    if leaf.frame >= 1 << 44 || leaf.frame % pages != 0 {
+        return false;
+    }
+    is_block(row, leaf.space, leaf.first, leaf.order)
+}
+
+/// Adds a leaf, None where a leaf meets it.
+fn insert(row: &mut Row, leaf: Leaf) -> Option<Result<Work, Refused>> {
+    if !is_leaf(row, leaf) || row.meets(leaf.space, leaf.first, leaf.order) {
+        return None;
+    }
+    Some(row.insert(leaf))
+}
+
+/// The leaf that covers a page of space 0.
+fn leaf_at(row: &Row, page: u64) -> Option<Leaf>
+    ensures { IfSome result (λ leaf.
+        IsNamed leaf.space leaf.first leaf.order (row_table 5 row.now).leaves) }
+{
+    if !is_block(row, 0, page, Order::K4) {
+        return None;
+    }
+    row.leaf_at(0, page)
+}
+
+/// Drops the leaf that covers a page of space 0.
+fn remove(row: &mut Row, page: u64) -> Option<Result<Work, Refused>> {
+    let leaf = leaf_at(row, page)?;
+    Some(row.remove(leaf.space, leaf.first, leaf.order))
+}
+
+/// The frame that a walk of a page of space 0 finds, its cache hits, and the loads so far.
+fn walked(row: &mut Row, page: u64) -> Option<(Option<u64>, u64, u64)> {
+    if !is_block(row, 0, page, Order::K4) {
+        return None;
+    }
+    let Walk { leaf, cache_hits } = row.walk(0, page);
+    Some((leaf.map(|leaf| leaf.frame), cache_hits, row.loads()))
+}
+
+/// The work of a command that purged so many tags.
+fn purged(invalidated: u64) -> Option<Result<Work, Refused>> {
+    Some(Ok(Work {
+        invalidated,
+        ..Work::none()
+    }))
+}
+
+/// The first page of the second 512 GiB: it shares the node of level 3 with page 1.
+const FAR: u64 = 1 << 27;
+
+#[test]
+fn caches_hold_the_nodes_of_walks_that_find_leaves(rt: HostRuntime) -> Result<(), Fail> {
+    let mut row = Row::open(rt.alloc(), 8, 1, [4, 0, 0, 2])?;
+    assert_eq!(rt; insert(&mut row, leaf(1, Order::K4, 7)), purged(0));
+    assert_eq!(rt; walked(&mut row, 1), Some((Some(7), 0, 5)));
+
+    // The lowest node is cached: one word is read, and nothing is there.
+    assert_eq!(rt; walked(&mut row, 2), Some((None, 1, 6)));
+
+    // Only the node of level 3 is cached: four words are read.
+    assert_eq!(rt; insert(&mut row, leaf(FAR, Order::K4, 9)), purged(0));
+    assert_eq!(rt; walked(&mut row, FAR), Some((Some(9), 1, 10)));
+    assert_eq!(rt; walked(&mut row, FAR), Some((Some(9), 1, 11)));
+    assert_eq!(rt; walked(&mut row, 1), Some((Some(7), 1, 12)));
+
+    // Three nodes leave with the far leaf, one of them cached; then the other two tags.
+    assert_eq!(rt; remove(&mut row, FAR), purged(1));
+    assert_eq!(rt; remove(&mut row, 1), purged(2));
+    assert_eq!(rt; walked(&mut row, 1), Some((None, 0, 13)));
+
+    // A large leaf fills the cache of level 3 alone; a fence empties it.
+    assert_eq!(rt; insert(&mut row, leaf(512, Order::M2, 512)), purged(0));
+    assert_eq!(rt; walked(&mut row, 600), Some((Some(512), 0, 17)));
+    assert_eq!(rt; walked(&mut row, 513), Some((Some(512), 1, 20)));
+    assert_eq!(rt; row.fence(Reach::Space { space: 1 }), 0);
+    assert_eq!(rt; row.fence(Reach::Space { space: 0 }), 1);
+    assert_eq!(rt; walked(&mut row, 513), Some((Some(512), 0, 24)));
+    Ok(())
 }

@@ -1,14 +1,14 @@
 -- The widths of recency lists, and a list of any of them.
-use Rattle.std.specs.Prelude.{ℕ, ◌==◌, ◌||◌, IsTrue, List, []}
+use Rattle.std.specs.Prelude.{ℕ, IsTrue, List, []}
 use Rattle.xl_model.specs.Caches.{Cached}
+use Rattle.xl_model.specs.Rows.{is_width}
 use Rattle.xl_recency.specs.declared.item.Item.{Item}
 use Rattle.xl_recency.specs.declared.cache.Slots.{Slots}
 use Rattle.xl_recency.specs.declared.cache.Slots.TheVariants as slots
 
 -- A width that a recency list can have: 0, 1, 2, 4, 6, 8, 12, 16, 32 or 64.
 abbrev pub IsWidth : ℕ → Type 0
-IsWidth width =
-    IsTrue (width == 0 || (width == 1 || (width == 2 || (width == 4 || (width == 6 || (width == 8 || (width == 12 || (width == 16 || (width == 32 || width == 64)))))))))
+IsWidth width = IsTrue (is_width width)
 
 -- A list of items of this width.
 abbrev pub cached : ℕ → List Item → Cached Item

@@ -1,21 +1,20 @@
 -- A text is read to its end, and what a run's script keeps.
-use Rattle.std.proofs.Common.{◌≡◌, ℕ, ◌+◌, ◌^◌, ◌≤◌, ◌<◌, Bool, true, false, nat_le, nat_lt, List, [], ◌∷◌, ◌++◌, length, drop, Option, None, Some, Ok, Err, ap, sym, refl, arith, ◌∙◌, subst, cond, ◌&&◌}
+use Rattle.std.proofs.Common.{◌≡◌, ℕ, ◌+◌, ◌^◌, ◌≤◌, true, false, nat_le, nat_lt, List, [], ◌∷◌, length, drop, None, Some, Ok, Err, ap, sym, refl, arith, ◌∙◌, subst, cond, ◌&&◌}
 use Rattle.std.specs.Prelude.{All, Result, count_by, if◌then◌else◌}
 use Rattle.std.specs.List.{list_all}
-use Rattle.std.proofs.lemmas.Bool.{le-ltb, leb-true, ltb-true}
+use Rattle.std.proofs.lemmas.Bool.{leb-true, ltb-true}
 use Rattle.std.proofs.lemmas.List.{append-nil}
 use Rattle.std.proofs.lemmas.List.Elements.{All-nil, All-cons}
 use Rattle.std.proofs.lemmas.List.Sums.{sum_by-cons}
 use Rattle.xl_model.specs.declared.script.Command.{Command}
-use Rattle.xl_script.specs.declared.fault.ScriptFault.{ScriptFault}
 use Rattle.xl_script.specs.declared.fault.ScriptFault.TheVariants as fault
 use Rattle.xl_script.specs.declared.fault.Reason.{Reason}
 use Rattle.xl_script.specs.declared.fault.Reason.TheVariants.{PastTheEnd, TooManyAreas}
 use Rattle.xl_script.specs.Texts.{script_lines, words_of}
-use Rattle.xl_script.specs.Scripts.{Said, Reading, after, onto_command, and_then, lines_read, text_read}
+use Rattle.xl_script.specs.Scripts.{Said, Reading, after, and_then, lines_read, text_read}
 use Rattle.xl_script.specs.Commands.{◌>>=◌, named, placed, command_of}
 use Rattle.xl_script.specs.Placing.{ends_of, AreInMemory, IsPlaced, is_area}
-use Rattle.xl_script.specs.Plain.{counted, numbered, plain_said, commands_in, script_of}
+use Rattle.xl_script.specs.Plain.{counted, numbered, plain_said}
 use Rattle.xl_script.proofs.TextLemmas.{no_lines}
 
 -- commands before those of an end of the text

@@ -2,7 +2,8 @@
 use Rattle.std.proofs.Common.{◌≡◌, ℕ, suc, ◌+◌, ◌-◌, ◌≤◌, ◌<◌, ◌==◌, Bool, true, false, not, cond, if◌then◌else◌, List, [], ◌∷◌, length, take, drop, refl, ap, ap₂, sym, ◌∙◌, map, arith, one-add, add-one, add-zero, get_or, length-drop, length-take}
 use Rattle.std.specs.List.{position_or_len, slice_range}
 use Rattle.std.proofs.lemmas.Bool.{ne_eqb, eqb-true}
-use Rattle.std.proofs.lemmas.List.Sums.{prefix_len-le-length, prefix_len_stops}
+use Rattle.std.specs.Prelude.{count_by}
+use Rattle.std.proofs.lemmas.List.Sums.{prefix_len-le-length, prefix_len_stops, count_by-le-length}
 use Rattle.std.proofs.lemmas.List.{take-take, drop-drop, drop_all, get_or-drop}
 use Rattle.xl_text.specs.Texts.{is_blank, in_first, lines_of, without_return}
 use Rattle.xl_script.specs.Texts.{script_lines, to_newline, onto, pieces, up_to_comment, words_of}
@@ -155,3 +156,7 @@ module _ (text : List ℕ) (at n : ℕ) (front : List ℕ) where
       drop_all (n + 1) (drop at text) (omega arith) ∙ sym (drop_all (length text) text (omega arith)) in
       lines_first (drop at text) n (omega (arith, length-drop at text)) value
       ∙ ap₂ (λ a b. a ∷ script_lines b) (fronts h) tail
+
+-- a text has no more newlines than bytes
+pub few_newlines : (text : List ℕ) → count_by (λ byte. byte == 10) text ≤ length text
+few_newlines text = count_by-le-length (λ byte. byte == 10) text

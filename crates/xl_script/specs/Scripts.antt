@@ -31,11 +31,13 @@ and_then number (Err why) later = Err (fault.BadLine number why)
 -- What the lines of a form come to, from this number on.
 abbrev pub lines_read : {S C : Type 0} → (S → List (List ℕ) → Said S C) → S → ℕ → List (List ℕ) → Reading S C
 lines_read said s number [] = Ok (s, [])
-lines_read said s number (line ∷ lines) = and_then number (said s (words_of line)) (λ t. lines_read said t (number + 1) lines)
+lines_read said s number (line ∷ lines) =
+    and_then number (said s (words_of line)) (λ t. lines_read said t (number + 1) lines)
 
 -- What a text of a form comes to: it is too long, or the first bad line counts, or it has commands.
 unfoldable pub text_read : {S C : Type 0} → (S → List (List ℕ) → Said S C) → S → List ℕ → Reading S C
-text_read said s text = if nat_lt 1048576 (length text) then Err fault.TooLong else lines_read said s 1 (script_lines text)
+text_read said s text =
+    if nat_lt 1048576 (length text) then Err fault.TooLong else lines_read said s 1 (script_lines text)
 
 -- What the reading of one line answers is what the line says.
 abbrev pub Hears : {S C : Type 0} → Result (Option C) ℕ → S → Said S C → Type 0
@@ -51,7 +53,9 @@ Gives view (Err fault.TooLong) s said = said ≡ Err fault.TooLong
 
 -- A line was taken in: the commands and any later lines together come to what they came to before.
 abbrev pub Adds : {S C : Type 0} → Result (Unit {0}) ScriptFault → List C → List C → S → ℕ → Said S C → Type 0
-Adds {S} {C} (Ok done) old new s number said = (later : S → Reading S C) → after new (later s) ≡ after old (and_then number said later)
+Adds {S} {C} (Ok done) old new s number said =
+    (later : S → Reading S C) → after new (later s) ≡ after old (and_then number said later)
 Adds (Err fault.NoMemory) old new s number said = Unit {0}
-Adds {S} {C} (Err (fault.BadLine line why)) old new s number said = (later : S → Reading S C) → and_then number said later ≡ Err (fault.BadLine line why)
+Adds {S} {C} (Err (fault.BadLine line why)) old new s number said =
+    (later : S → Reading S C) → and_then number said later ≡ Err (fault.BadLine line why)
 Adds (Err fault.TooLong) old new s number said = ⊥

@@ -1,6 +1,6 @@
 //! A text of lines, read into commands.
 
-ghost use Rattle.std.specs.Prelude.{◌≡◌, ◌<◌, ◌↔◌, ◌++◌, ◌∷◌, [], length, ℕ, List, OnOk, IfErr};
+ghost use Rattle.std.specs.Prelude.{◌≡◌, ◌<◌, ◌↔◌, ◌+◌, ◌==◌, count_by, ◌++◌, ◌∷◌, [], length, ℕ, List, OnOk, IfErr};
 ghost use Rattle.xl_script.specs.Texts.{words_of};
 ghost use Rattle.xl_script.specs.Scripts.{Said, Hears, Gives, Adds, text_read};
 
@@ -25,9 +25,12 @@ pub trait Form {
         ensures { Hears result self.new (said self.old (words_of line.now)) };
 }
 
-/// The number of lines of a text, at least.
-fn count_lines(text: &[u8]) -> usize {
-    text.iter().filter(|byte| **byte == b'\n').count()
+/// The number of lines of a text, at least, so that it has no more commands.
+#[tactic(auto, using(crate::proofs::TextLemmas::few_newlines))]
+fn count_lines(text: &[u8]) -> usize
+    ensures { result ≡ count_by (λ byte. byte == 10) text.now + 1 }
+{
+    text.iter().filter(|byte| **byte == b'\n').count() + 1
 }
 
 /// Puts a command behind the others.
@@ -48,9 +51,8 @@ fn add_line<F: Form>(
     number: u64,
     line: &[u8],
 ) -> Result<(), ScriptFault>
-    ensures {
-        Adds result commands.old.items commands.new.items form.new number (F.said form.old (words_of line.now))
-    }
+    ensures { Adds result commands.old.items commands.new.items form.new number
+        (F.said form.old (words_of line.now)) }
 {
     match form.read_line(line) {
         Ok(Some(command)) => push(commands, command),

@@ -29,10 +29,8 @@ pub(crate) struct Leaves {
 
 /// The next word of a line that needs one more, and what follows it.
 fn needed(line: &[u8]) -> Result<(&[u8], &[u8]), Reason>
-    ensures {
-        MatchResult result (λ found. words_of line.now ≡ found.0.now ∷ words_of found.1.now)
-            (λ why. (words_of line.now ≡ []) × (why ≡ Reason.WordCount))
-    }
+    ensures { MatchResult result (λ found. words_of line.now ≡ found.0.now ∷ words_of found.1.now)
+        (λ why. (words_of line.now ≡ []) × (why ≡ Reason.WordCount)) }
 {
     next_word(line).ok_or(Reason::WordCount)
 }
@@ -120,7 +118,13 @@ fn leaves_line(rest: &[u8]) -> Result<Leaves, Reason>
 fn map_line(rest: &[u8]) -> Result<Command, Reason>
     ensures { result ≡ map_line (words_of rest.now) }
 {
-    let Leaves { space, va, order, perm, n } = leaves_line(rest)?;
+    let Leaves {
+        space,
+        va,
+        order,
+        perm,
+        n,
+    } = leaves_line(rest)?;
     Ok(Command::Map {
         space,
         va,
@@ -134,7 +138,13 @@ fn map_line(rest: &[u8]) -> Result<Command, Reason>
 fn protect_line(rest: &[u8]) -> Result<Command, Reason>
     ensures { result ≡ protect_line (words_of rest.now) }
 {
-    let Leaves { space, va, order, perm, n } = leaves_line(rest)?;
+    let Leaves {
+        space,
+        va,
+        order,
+        perm,
+        n,
+    } = leaves_line(rest)?;
     Ok(Command::Protect {
         space,
         va,
@@ -417,7 +427,13 @@ pub(crate) fn placed(command: Command) -> Result<Command, Reason>
         Command::Map { va, order, n, .. } => fits(va, order, n),
         Command::Unmap { va, order, n, .. } => fits(va, order, n),
         Command::Protect { va, order, n, .. } => fits(va, order, n),
-        Command::Move { from, to, order, n, .. } => fits(from, order, n) && fits(to, order, n),
+        Command::Move {
+            from,
+            to,
+            order,
+            n,
+            ..
+        } => fits(from, order, n) && fits(to, order, n),
         Command::Demand { area } => area_fits(area),
         _ => true,
     };

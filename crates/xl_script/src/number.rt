@@ -13,7 +13,9 @@ const DIGITS: usize = 16;
 fn with_digit(n: u64, digit: u8, base: u32) -> Option<u64>
     requires least { 2 ≤ base }
     requires most { base ≤ 36 }
-    ensures { SomeIff result ((digit_value digit < base) × (n * base + digit_value digit < 2 ^ 64)) (n * base + digit_value digit) }
+    ensures { SomeIff result
+        ((digit_value digit < base) × (n * base + digit_value digit < 2 ^ 64))
+        (n * base + digit_value digit) }
 {
     let Some(value) = char::from(digit).to_digit(base) else {
         return None;

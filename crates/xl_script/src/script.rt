@@ -9,7 +9,11 @@ use crate::form::read_text;
 use crate::plain::Plain;
 use std::alloc::Global;
 use std::marker::Model;
+use std::mem::size_of;
 use xl_model::Command;
+
+/// A line takes no more memory than this.
+const _: () = prove!(size_of::<Command>() <= 64);
 
 /// The commands of a script, in the order of its lines. All that they name lies in 64 bits, and at most
 /// 256 of them declare an area.
@@ -27,7 +31,8 @@ impl Model for Script {
 
     ghost view = { λ s. s.commands.items };
 
-    ghost invariant = { λ s. (All IsPlaced s.commands.items) × (count_by is_area s.commands.items ≤ 256) };
+    ghost invariant = { λ s. (All IsPlaced s.commands.items)
+        × (count_by is_area s.commands.items ≤ 256) };
 }
 
 impl Script {

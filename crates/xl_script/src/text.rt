@@ -28,10 +28,13 @@ fn line_length(text: &[u8]) -> usize
 /// before it, and the place after its newline, or the text's length where it has none.
 pub fn line(text: &[u8], at: usize) -> (usize, usize)
     requires { at < length text.now }
-    ensures bounds { (at ≤ result.0) × (result.0 ≤ result.1) × (at < result.1) × (result.1 ≤ length text.now) }
-    ensures end { result.0 ≡ at + length (without_return (take (to_newline (drop at text.now)) (drop at text.now))) }
+    ensures bounds { (at ≤ result.0) × (result.0 ≤ result.1) × (at < result.1)
+        × (result.1 ≤ length text.now) }
+    ensures end { result.0
+        ≡ at + length (without_return (take (to_newline (drop at text.now)) (drop at text.now))) }
     ensures next { result.1 ≡ min (at + to_newline (drop at text.now) + 1) (length text.now) }
-    ensures lines { script_lines (drop at text.now) ≡ slice_range text.now at result.0 ∷ script_lines (drop result.1 text.now) }
+    ensures lines { script_lines (drop at text.now)
+        ≡ slice_range text.now at result.0 ∷ script_lines (drop result.1 text.now) }
 {
     let rest = &text[at..];
     let length = line_length(rest);

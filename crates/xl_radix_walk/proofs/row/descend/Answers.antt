@@ -12,7 +12,7 @@ use Rattle.xl_radix_walk.proofs.row.descend.Goals as goal
 pub walk-requires-clause-node : goal.walk-requires-clause-node
 walk-requires-clause-node g c =
     let h = (number-some c.args.space (suc c.args.from.level) _ c.args.from.node _ c.requires.node).0 in
-    let s = c.words_read_back.ensures.small in
+    let s = c.words_read_back.ensures.kept.small in
     omega arith
 
 pub returns-clause-low : goal.returns-clause-low

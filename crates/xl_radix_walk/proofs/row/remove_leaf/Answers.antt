@@ -1,34 +1,23 @@
-use Rattle.std.proofs.Common.{ℕ, ◌≡◌, ◌+◌, ◌≤◌, lit<, refl, ap, sym, ◌∙◌, subst, arith}
-use Rattle.xl_model.specs.Nodes.{Node, free_count}
-use Rattle.std.proofs.Common.{List, Option, length}
-use Rattle.xl_radix.proofs.TakingLemmas.{less-none}
-use Rattle.xl_radix_walk.specs.Row.{AreNumbered}
-use Rattle.xl_radix_walk.proofs.RemovalLemmas.{RemovedRow, row-removed}
+use Rattle.std.proofs.Common.{◌≤◌, length, lit<, refl, sym, arith}
+use Rattle.xl_model.specs.Changes.{Remove}
+use Rattle.xl_model.specs.Room.{has_room}
+use Rattle.xl_radix.specs.Steps.{IsMade}
+use Rattle.xl_radix_walk.proofs.ChangeLemmas.{none-left, MadeRow, row-made}
 use Rattle.xl_radix_walk.proofs.row.remove_leaf.Goals as goal
 
-pub purge_given-requires : goal.purge_given-requires
-purge_given-requires g c =
+pub settle-requires : goal.settle-requires
+settle-requires g c =
     let a = c.requires.row.caches in
     let b = c.requires.row.low in
     let few : length c.args.caches.now ≤ 4 = omega arith in
-    (lit< tt, (few, λ e.
-      let count = c.take_out-given.ensures.given in
-      let free : free_count c.take_out-given.new.self.nodes ≡ free_count c.args.radix.now.nodes = omega (arith, count, e) in
-      let same = less-none c.args.radix.now.nodes c.take_out-given.new.self.nodes c.take_out-given.ensures.less free in
-      subst (λ (l : List (Option Node)). AreNumbered 0 l c.args.caches.now) (sym same) c.requires.row.numbered))
+    let made : IsMade g.row.LEVELS (Remove c.args.space c.args.first c.args.order) c.take_out_counted-given.result c.args.radix.now c.take_out_counted-given.new.self = c.take_out_counted-given.ensures.made in
+    (lit< tt, (few, λ e. none-left g.row.LEVELS c.take_out_counted-given.result (Remove c.args.space c.args.first c.args.order) c.args.radix.now c.take_out_counted-given.new.self c.args.caches.now made e c.requires.row.numbered))
 
-pub returns-clause-row : goal.returns-clause-row
-returns-clause-row g c =
-    let r : RemovedRow g.row.LEVELS c.args.space c.args.first c.args.order c.args.radix.now c.take_out-given.new.self c.args.caches.now c.purge_given.new.caches c.purge_given.result = row-removed g.row.LEVELS c.args.space c.args.first c.args.order c.args.radix.now c.take_out-given.new.self c.args.caches.now c.purge_given.new.caches c.purge_given.result c.requires.row c.take_out-given.ensures.leaves c.take_out-given.ensures.nodes c.take_out-given.ensures.spaces c.take_out-given.ensures.loads c.purge_given.ensures.caches c.purge_given.ensures.count in
-    r.row
-
-pub returns-clause-after : goal.returns-clause-after
-returns-clause-after g c =
-    let r : RemovedRow g.row.LEVELS c.args.space c.args.first c.args.order c.args.radix.now c.take_out-given.new.self c.args.caches.now c.purge_given.new.caches c.purge_given.result = row-removed g.row.LEVELS c.args.space c.args.first c.args.order c.args.radix.now c.take_out-given.new.self c.args.caches.now c.purge_given.new.caches c.purge_given.result c.requires.row c.take_out-given.ensures.leaves c.take_out-given.ensures.nodes c.take_out-given.ensures.spaces c.take_out-given.ensures.loads c.purge_given.ensures.caches c.purge_given.ensures.count in
-    r.table
-
-pub returns-clause-answer : goal.returns-clause-answer
-returns-clause-answer g c =
-    let r : RemovedRow g.row.LEVELS c.args.space c.args.first c.args.order c.args.radix.now c.take_out-given.new.self c.args.caches.now c.purge_given.new.caches c.purge_given.result = row-removed g.row.LEVELS c.args.space c.args.first c.args.order c.args.radix.now c.take_out-given.new.self c.args.caches.now c.purge_given.new.caches c.purge_given.result c.requires.row c.take_out-given.ensures.leaves c.take_out-given.ensures.nodes c.take_out-given.ensures.spaces c.take_out-given.ensures.loads c.purge_given.ensures.caches c.purge_given.ensures.count in
-    rw c.plain_work.ensures r.answer
-
+pub returns : goal.returns
+unfolding has_room
+returns g c =
+    let made : IsMade g.row.LEVELS (Remove c.args.space c.args.first c.args.order) c.take_out_counted-given.result c.args.radix.now c.take_out_counted-given.new.self = c.take_out_counted-given.ensures.made in
+    let r : MadeRow g.row.LEVELS (Remove c.args.space c.args.first c.args.order) c.args.radix.now c.take_out_counted-given.new.self c.args.caches.now c.settle.new.caches c.settle.result =
+    row-made g.row.LEVELS c.take_out_counted-given.result (Remove c.args.space c.args.first c.args.order) c.args.radix.now c.take_out_counted-given.new.self c.args.caches.now c.settle.new.caches c.settle.result
+    c.requires.row made refl c.settle.ensures.caches c.settle.ensures.work in
+    record { row = r.row; changes = r.change }

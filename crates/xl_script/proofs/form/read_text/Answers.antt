@@ -1,7 +1,5 @@
-use Rattle.std.proofs.Common.{◌≡◌, length, nat_lt, false, ap, sym, ◌∙◌, if◌then◌else◌}
+use Rattle.std.proofs.Common.{◌≡◌, length, nat_lt, false}
 use Rattle.std.proofs.lemmas.Bool.{le-ltb}
-use Rattle.std.specs.Prelude.{Err}
-use Rattle.xl_script.specs.declared.fault.ScriptFault.TheVariants.{TooLong}
 use Rattle.xl_script.specs.Texts.{script_lines}
 use Rattle.xl_script.specs.Scripts.{text_read, lines_read}
 use Rattle.xl_script.proofs.ScriptLemmas.{at_end}

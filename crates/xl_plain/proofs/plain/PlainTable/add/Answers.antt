@@ -18,7 +18,7 @@ returns-then-len-self c =
     let n : length s.leaves.items ≡ vec_len s.leaves = sym s.leaves.ok.0 in
     let full : s.entries ≤ length s.leaves.items = omega arith in
     let k : IsComing c.args.leaf s.leaves.items = coming s.buckets s.entries s.loads c.args.leaf s.leaves.items c.args.self.now c.self.view_is c.self.invariant.kept c.requires.valid c.requires.free in
-    record { changes = insert-refused s.buckets s.entries s.loads c.args.leaf s.leaves.items c.args.self.now c.self.view_is c.self.invariant.kept k full }
+    record { changes = insert-refused s.buckets s.entries s.loads c.args.leaf s.leaves.items c.args.self.now c.none.result c.none.ensures c.self.view_is c.self.invariant.kept k full }
 
 pub invariant_of-self : goal.invariant_of-self
 invariant_of-self c =
@@ -44,4 +44,4 @@ returns c =
     let room : length xs < s.entries = omega arith in
     let is : c.insert.new.self.items ≡ in_front s.buckets c.args.leaf xs =
     c.in-Ok.ensures.items ∙ ap (λ ys. insert ys c.place_of-place.result c.args.leaf) (sym c.deref.ensures.value) ∙ c.place_of-place.ensures.place ∙ ap (in_front s.buckets c.args.leaf) c.deref.ensures.value in
-    record { changes = insert-made s.buckets s.entries s.loads c.args.leaf xs c.insert.new.self.items c.args.self.now c.self.view_is c.self.invariant.kept k room is }
+    record { changes = insert-made s.buckets s.entries s.loads c.args.leaf xs c.insert.new.self.items c.args.self.now c.none-in-Ok.result c.none-in-Ok.ensures c.self.view_is c.self.invariant.kept k room is }

@@ -32,4 +32,4 @@ returns c =
     c.give_perm.ensures ∙ ap (with_perm_named a.space a.first a.order a.perm) c.deref_mut.ensures.value in
     let long : length c.give_perm.new.items ≡ s.leaves.len = ap length new ∙ length-protected a.space a.first a.order a.perm xs ∙ sym s.leaves.ok.0 in
     let is : (with_items s.leaves c.give_perm.new.items).items ≡ with_perm_named a.space a.first a.order a.perm xs = with_items_is s.leaves c.give_perm.new.items long ∙ new in
-    record { changes = protect-made s.buckets s.entries s.loads a.space a.first a.order a.perm xs _ a.self.now c.self.view_is c.self.invariant.kept c.requires is }
+    record { changes = protect-made s.buckets s.entries s.loads a.space a.first a.order a.perm xs _ a.self.now c.none.result c.none.ensures c.self.view_is c.self.invariant.kept c.requires is }

@@ -20,4 +20,4 @@ pub returns : goal.returns
 returns c =
     let s = c.self.inside in
     let a = c.args in
-    record { changes = remove-made s.buckets s.entries s.loads a.space a.first a.order s.leaves.items _ a.self.now c.self.view_is c.self.invariant.kept c.requires c.take_out.ensures.items }
+    record { changes = remove-made s.buckets s.entries s.loads a.space a.first a.order s.leaves.items _ a.self.now c.none.result c.none.ensures c.self.view_is c.self.invariant.kept c.requires c.take_out.ensures.items }

@@ -15,5 +15,6 @@ returns-clause-made g c =
       shape = rw set.spaces shape;
       less = less-same i.store.nodes p.nodes set.nodes;
       count = count-same i.store.nodes p.nodes set.nodes;
+      spaces = set.spaces;
       loads = refl;
     })

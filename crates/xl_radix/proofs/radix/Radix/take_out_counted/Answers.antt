@@ -9,4 +9,4 @@ returns-clause-made g c =
     let taken = c.take_leaf-given.ensures in
     let e = taken.leaves ∙ sym (removed-is c.args.space c.args.first c.args.order i.store.leaves (rw (← c.self.view_is) at c.requires)) in
     let shape = shape-removed g.row.LEVELS i.store.spaces c.args.space c.args.first c.args.order i.store.leaves p.leaves i.store.nodes p.nodes e taken.nodes in
-    rw (← c.self.view_is) (record { leaves = e; shape = rw taken.spaces shape; less = taken.less; count = taken.free; loads = refl })
+    rw (← c.self.view_is) (record { leaves = e; shape = rw taken.spaces shape; less = taken.less; count = taken.free; spaces = taken.spaces; loads = refl })

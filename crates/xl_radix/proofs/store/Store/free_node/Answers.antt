@@ -48,4 +48,3 @@ returns-clause-nearly g c =
     let step = release-step g.row.LEVELS _ c.args.space c.args.page c.args.above.level c.args.above.node c.args.child c.index_of.result c.index_mut.result.now _ _ _ _ c.self.invariant c.requires.low c.requires.high at below empty unused c.index_of.ensures.value c.index_mut.ensures.value in
     let near = rw (← c.self.view_is) at c.requires.nearly in
     rw c.give.ensures (rw step.back (step.nearly near))
-

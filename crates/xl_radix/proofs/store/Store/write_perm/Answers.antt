@@ -39,4 +39,3 @@ overflow_add-at g c = let k = node-low g.row.LEVELS _ c.args.old.space c.args.ol
 
 pub leaf_word-requires : goal.leaf_word-requires
 leaf_word-requires g c = frame-low g.row.LEVELS _ c.args.old _ _ _ _ c.self.invariant (rw (← c.self.view_is) at c.requires.there)
-

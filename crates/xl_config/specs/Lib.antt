@@ -1,0 +1,5 @@
+pub mod Arrays
+pub mod Config
+pub mod Keys
+pub mod Rows
+pub mod Tables

@@ -1,0 +1,44 @@
+-- A row at its opening.
+use Rattle.std.proofs.Common.{ℕ, zero, suc, ◌≡◌, ◌+◌, ◌-◌, ◌<◌, ◌≤◌, Bool, true, false, ◌&&◌, List, [], ◌∷◌, map, take, length, slice_index, Option, refl, ap, sym, ◌∙◌, arith}
+use Rattle.std.specs.List.{list_all}
+use Rattle.std.proofs.lemmas.List.{length-map}
+use Rattle.xl_model.specs.declared.row.Table.TheVariants as table
+use Rattle.xl_model.specs.Caches.{Cached, Numbered, NodeCaches, empty_cache, empty_caches, opening_caches}
+use Rattle.xl_model.specs.Nodes.{Node, opening_nodes}
+use Rattle.xl_model.specs.Shapes.{Radix, opening_shape}
+use Rattle.xl_recency.specs.declared.item.Item.{Item}
+use Rattle.xl_radix.specs.Table.{Table}
+use Rattle.xl_radix_walk.specs.Row.{caches_in, AreNumbered, IsRow, row_of, row_table, opening_table}
+
+both : (b c : Bool) → (b && c) ≡ true → (b ≡ true) × (c ≡ true)
+both true c h = (refl, h)
+both false c h = cc
+
+pub all-at : (p : ℕ → Bool) (xs : List ℕ) (k : ℕ) → list_all p xs ≡ true → k < length xs → p (slice_index xs k) ≡ true
+all-at p [] k h l = absurd (omega arith)
+all-at p (x ∷ xs) zero h l = (both (p x) (list_all p xs) h).0
+all-at p (x ∷ xs) (suc k) h l = all-at p xs k (both (p x) (list_all p xs) h).1 (omega arith)
+
+pub all-taken : (p : ℕ → Bool) (n : ℕ) (xs : List ℕ) → list_all p xs ≡ true → list_all p (take n xs) ≡ true
+all-taken p zero [] h = refl
+all-taken p zero (x ∷ xs) h = refl
+all-taken p (suc n) [] h = refl
+all-taken p (suc n) (x ∷ xs) h = let b = both (p x) (list_all p xs) h in rw (b.0, all-taken p n xs b.1) refl
+
+empty-in : (level n : ℕ) (ws : List ℕ) → caches_in level (map empty_cache (take n ws)) ≡ empty_caches n ws
+empty-in level zero [] = refl
+empty-in level zero (w ∷ ws) = refl
+empty-in level (suc n) [] = refl
+empty-in level (suc n) (w ∷ ws) = ap (λ (l : List (Cached Numbered)). empty_cache w ∷ l) (empty-in (level + 1) n ws)
+
+empty-numbered : (level : ℕ) (nodes : List (Option Node)) (ws : List ℕ) → AreNumbered level nodes (map empty_cache ws)
+empty-numbered level nodes [] = tt
+empty-numbered level nodes (w ∷ ws) = (λ i j. absurd j, empty-numbered (level + 1) nodes ws)
+
+pub opening-row : (top : ℕ) (t : Table) (ws : List ℕ) → 3 ≤ top → top ≤ 5 → length ws ≡ top - 1 → IsRow top (row_of t (map empty_cache ws))
+opening-row top t ws high low size = record { high = high; low = low; caches = omega (arith, length-map ws (empty_cache {A = Item}), size, high); numbered = empty-numbered 0 t.nodes ws }
+
+pub opening-is : (top frames spaces : ℕ) (t : Table) (ws : List ℕ) → t.leaves ≡ [] → t.nodes ≡ opening_nodes top spaces frames → t.spaces ≡ spaces → t.loads ≡ 0
+    → row_table top (row_of t (map empty_cache (take (top - 1) ws))) ≡ opening_table top frames spaces ws
+unfolding opening_shape opening_caches
+opening-is top frames spaces t ws l o s d = rw (l, o, s, d, empty-in 0 (top - 1) ws) refl

@@ -1,0 +1,20 @@
+use Rattle.std.proofs.Common.{◌≡◌, ◌-◌, length, take, ap, arith}
+use Rattle.std.proofs.lemmas.List.{length-take}
+use Rattle.xl_model.specs.Rows.{is_width}
+use Rattle.xl_radix_walk.proofs.OpeningLemmas.{all-taken, opening-row, opening-is}
+use Rattle.xl_radix_walk.proofs.row.RadixRow.open.Goals as goal
+
+pub open_caches-requires : goal.open_caches-requires
+open_caches-requires g c = all-taken is_width (g.row.LEVELS - 1) c.args.widths c.requires.widths
+
+pub invariant_of-result : goal.invariant_of-result
+invariant_of-result g c =
+    let high = c.requires.levels.0 in
+    let low = c.requires.levels.1 in
+    let size : length (take (g.row.LEVELS - 1) c.args.widths) ≡ g.row.LEVELS - 1 = omega (arith, length-take (g.row.LEVELS - 1) c.args.widths) in
+    rw c.in_ok-caches.ensures (opening-row g.row.LEVELS c.in_ok-radix.radix (take (g.row.LEVELS - 1) c.args.widths) high low size)
+
+pub returns : goal.returns
+returns g c =
+    let radix = c.in_ok-radix.ensures in
+    rw c.in_ok-caches.ensures (opening-is g.row.LEVELS c.args.table_frames c.args.spaces c.in_ok-radix.radix c.args.widths radix.leaves radix.nodes radix.spaces radix.loads)
