@@ -1,12 +1,12 @@
 //! Chains in words.
 
-ghost use Rattle.std.specs.Prelude.{◌≡◌, ◌<◌, ◌+◌, ◌*◌, ◌^◌, ◌≤◌, ◌%◌, true, false, length, map, ◌==◌, ◌⊎◌, [], IfOk, OnOk, OnErr, replicate};
+ghost use Rattle.std.specs.Prelude.{◌≡◌, ◌<◌, ◌+◌, ◌*◌, ◌^◌, ◌≤◌, ◌%◌, true, false, length, map, ◌==◌, ◌⊎◌, [], IfOk, IfSome, OnOk, OnErr, replicate};
 ghost use Rattle.std.specs.List.{list_any};
 ghost use Rattle.std.specs.Vec.{vec_capacity};
-ghost use Rattle.xl_model.specs.Chains.{bucket_of as tag_bucket, chain_of, examined, has_tag};
-ghost use Rattle.xl_model.specs.Base.{plus};
-ghost use Rattle.xl_chain.specs.Layout.{base_at};
-ghost use Rattle.xl_chain.specs.Held.{ChainState, tags_of, held_with, entry_of, entry_found, found_of, in_front_of, is_entry, with_value, without_tag};
+ghost use Rattle.xl_model.specs.Chains.{has_tag};
+ghost use Rattle.xl_chain.specs.Layout.{most_entries};
+ghost use Rattle.xl_chain.specs.Lines.{WordsReadBack, AreSingle, IsOwn};
+ghost use Rattle.xl_chain.specs.Held.{ChainState, tags_of, held_with, entry_of, entry_found, found_of, in_front_of, is_entry, with_value, without_tag, value_of, loads_after};
 ghost use Rattle.xl_chain.specs.Kept.{IsInserted, upto};
 
 use crate::along::seek;
@@ -31,14 +31,14 @@ pub struct Chains<const V: usize> {
 impl<const V: usize> Model for Chains<V> {
     ghost use Rattle.std.specs.Prelude.{◌≡◌, ◌+◌, ◌*◌, ◌≤◌};
     ghost use Rattle.std.specs.Vec.{vec_capacity};
-    ghost use Rattle.xl_chain.specs.Held.{ChainState, held_of};
-    ghost use Rattle.xl_chain.specs.Kept.{IsTable};
+    ghost use Rattle.xl_chain.specs.Held.{ChainState, seen_in};
+    ghost use Rattle.xl_chain.specs.Kept.{IsKept};
 
     ghost Value = { ChainState };
 
-    ghost view = { λ c. record { shape = c.shape; held = held_of c.shape c.words.items; words = c.words.items; loads = c.loads } };
+    ghost view = { λ c. seen_in c.shape c.words.items c.loads };
 
-    ghost invariant = { λ c. IsTable c.shape c.words.items c.free.items × (V + 3 ≡ 4 * c.shape.lines) × (c.shape.entries ≤ vec_capacity c.free) };
+    ghost invariant = { λ c. IsKept V c.shape c.words.items c.free.items (vec_capacity c.free) };
 }
 
 /// The numbers below `n`.
@@ -46,18 +46,13 @@ fn numbers(alloc: Global, n: u32) -> Result<Vec<u32>, NoMemory>
     ensures items { IfOk result (λ v. v.items ≡ upto n) }
     ensures room { IfOk result (λ v. n ≤ vec_capacity v) }
 {
-    match Vec::with_capacity(alloc, n as usize) {
-        Err(_) => Err(NoMemory),
-        Ok(mut all) => {
-            for i in 0..n {
-                match all.push(i) {
-                    Ok(()) => (),
-                    Err(_) => return Err(NoMemory),
-                }
-            }
-            Ok(all)
+    let mut all = Vec::with_capacity(alloc, n as usize)?;
+    for i in 0..n {
+        if all.push(i).is_err() {
+            return Err(NoMemory);
         }
     }
+    Ok(all)
 }
 
 /// The entry that a search found.
@@ -71,7 +66,8 @@ fn entry_in(seek: Seek) -> Option<u32>
 }
 
 impl<const V: usize> Chains<V> {
-    /// Chains that hold nothing, in this many buckets, with room for this many entries.
+    /// Chains that hold nothing, in this many buckets, with room for this many entries: at most 2^20 of
+    /// one value each, or 2^17 of seventeen.
     ///
     /// # Errors
     ///
@@ -79,7 +75,7 @@ impl<const V: usize> Chains<V> {
     pub fn open(alloc: Global, buckets: u32, entries: u32) -> Result<Chains<V>, NoMemory>
         requires values { (V ≡ 1) ⊎ (V ≡ 17) }
         requires buckets_in { (1 ≤ buckets) × (buckets ≤ 2 ^ 20) }
-        requires entries_in { (1 ≤ entries) × (entries ≤ 2 ^ 20) }
+        requires entries_in { (1 ≤ entries) × (entries ≤ most_entries V) }
         ensures held { IfOk result (λ c. c.held ≡ []) }
         ensures buckets { IfOk result (λ c. c.shape.buckets ≡ buckets) }
         ensures entries { IfOk result (λ c. c.shape.entries ≡ entries) }
@@ -90,18 +86,14 @@ impl<const V: usize> Chains<V> {
             entries,
             lines: (V as u32 + 3) / 4,
         };
-        match vec![in alloc; 0u64; words_of(shape)] {
-            Err(_) => Err(NoMemory),
-            Ok(words) => match numbers(alloc, entries) {
-                Err(_) => Err(NoMemory),
-                Ok(free) => Ok(Chains {
-                    words,
-                    free,
-                    shape,
-                    loads: 0,
-                }),
-            },
-        }
+        let words = vec![in alloc; 0u64; words_of(shape)]?;
+        let free = numbers(alloc, entries)?;
+        Ok(Chains {
+            words,
+            free,
+            shape,
+            loads: 0,
+        })
     }
 
     /// The layout of the words.
@@ -118,9 +110,10 @@ impl<const V: usize> Chains<V> {
         self.free.is_empty()
     }
 
-    /// The entry that holds the tag.
+    /// The entry that holds the tag, and no other; None exactly where the tag isn't held.
     pub fn find(&self, tag: u64) -> Option<u32>
-        ensures { result ≡ entry_of (held_with tag self.now.held) }
+        ensures found { result ≡ entry_of (held_with tag self.now.held) }
+        ensures own { IfSome result (λ e. IsOwn tag e self.now.held) }
     {
         let mut look = Look {
             words: &self.words,
@@ -133,7 +126,7 @@ impl<const V: usize> Chains<V> {
     /// examined.
     pub fn probe(&mut self, tag: u64) -> Seek
         ensures end { result ≡ found_of (held_with tag self.old.held) }
-        ensures after { self.new ≡ record self.old { loads = plus self.old.loads (1 + examined tag (chain_of self.old.shape.buckets (tag_bucket self.old.shape.buckets tag) (tags_of self.old.held))) } }
+        ensures after { self.new ≡ record self.old { loads = loads_after tag self.old } }
     {
         let shape = self.shape;
         seek(self, shape, tag)
@@ -148,6 +141,15 @@ impl<const V: usize> Chains<V> {
             loads: 0,
         };
         seek(&mut look, self.shape, tag)
+    }
+
+    /// Value `i` of an entry that is held.
+    pub fn value(&self, entry: u32, i: usize) -> u64
+        requires held { list_any (is_entry entry) self.now.held ≡ true }
+        requires within { i < V }
+        ensures { result ≡ value_of entry i self.now.held }
+    {
+        self.words[value_at(self.shape, entry, i)]
     }
 
     /// Puts `value` in place of value `i` of an entry that is held.
@@ -195,6 +197,15 @@ impl<const V: usize> Chains<V> {
                 Ok(())
             }
         }
+    }
+
+    /// What the type keeps: the words tell what is held, and each tag has one entry of its own.
+    pub fn words_read_back(&self)
+        ensures words { WordsReadBack self.now }
+        ensures single { AreSingle self.now.held }
+    {
+        // A look at a field brings in what the type keeps.
+        let _words = &self.words;
     }
 }
 

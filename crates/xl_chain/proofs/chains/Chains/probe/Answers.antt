@@ -1,10 +1,10 @@
-use Rattle.std.proofs.Common.{◌≡◌, refl, sym, ap, ◌∙◌, subst, ℕ, zero, suc, ◌+◌, ◌%◌, ◌^◌, arith}
+use Rattle.std.proofs.Common.{◌≡◌, refl, sym, ap, ◌∙◌, ℕ, zero, suc, ◌+◌, ◌%◌, ◌^◌, arith}
 use Rattle.xl_model.specs.Chains.{bucket_of, chain_of, examined}
 use Rattle.xl_model.specs.Base.{plus}
 use Rattle.xl_phys.specs.Lines.{counted}
-use Rattle.xl_chain.specs.Back.{Searched, search_back, chain_back, chain_loads, loaded_times}
-use Rattle.xl_chain.specs.Held.{Held, ChainState, held_of, held_with, found_of, tags_of}
-use Rattle.xl_chain.proofs.Found.{search-held}
+use Rattle.xl_chain.specs.Back.{Searched, chain_back, chain_loads, loaded_times}
+use Rattle.xl_chain.specs.Held.{ChainState, held_with, found_of, tags_of}
+use Rattle.xl_chain.proofs.FindLemmas.{search-held}
 use Rattle.xl_chain.proofs.chains.Chains.probe.Goals as goal
 
 abbrev loaded_once : ChainState → ChainState
