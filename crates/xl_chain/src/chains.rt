@@ -1,0 +1,234 @@
+//! Chains in words.
+
+ghost use Rattle.std.specs.Prelude.{◌≡◌, ◌<◌, ◌+◌, ◌*◌, ◌^◌, ◌≤◌, ◌%◌, true, false, length, map, ◌==◌, ◌⊎◌, [], IfOk, IfSome, OnOk, OnErr, replicate};
+ghost use Rattle.std.specs.List.{list_any};
+ghost use Rattle.std.specs.Vec.{vec_capacity};
+ghost use Rattle.xl_model.specs.Chains.{has_tag};
+ghost use Rattle.xl_chain.specs.Layout.{most_entries};
+ghost use Rattle.xl_chain.specs.Lines.{WordsReadBack, AreSingle, IsOwn};
+ghost use Rattle.xl_chain.specs.Held.{ChainState, tags_of, held_with, entry_of, entry_found, found_of, in_front_of, is_entry, with_value, without_tag, value_of, loads_after};
+ghost use Rattle.xl_chain.specs.Kept.{IsInserted, upto};
+
+use crate::along::seek;
+use crate::look::Look;
+use crate::put::{put, put_front, unlink};
+use crate::shape::{ChainShape, Seek, bucket_of, value_at, words_of};
+use std::alloc::Global;
+use std::marker::Model;
+use xl_model::{Full, NoMemory};
+use xl_phys::{Bus, line_of};
+
+/// Entries of a tag and `V` values, in chains. Contracts see them as a list, bucket by bucket, newest
+/// first in each. Nothing is allocated after `open`.
+#[derive(Drop)]
+pub struct Chains<const V: usize> {
+    words: Vec<u64>,
+    free: Vec<u32>,
+    shape: ChainShape,
+    loads: u64,
+}
+
+impl<const V: usize> Model for Chains<V> {
+    ghost use Rattle.std.specs.Prelude.{◌≡◌, ◌+◌, ◌*◌, ◌≤◌};
+    ghost use Rattle.std.specs.Vec.{vec_capacity};
+    ghost use Rattle.xl_chain.specs.Held.{ChainState, seen_in};
+    ghost use Rattle.xl_chain.specs.Kept.{IsKept};
+
+    ghost Value = { ChainState };
+
+    ghost view = { λ c. seen_in c.shape c.words.items c.loads };
+
+    ghost invariant = { λ c. IsKept V c.shape c.words.items c.free.items (vec_capacity c.free) };
+}
+
+/// The numbers below `n`.
+fn numbers(alloc: Global, n: u32) -> Result<Vec<u32>, NoMemory>
+    ensures items { IfOk result (λ v. v.items ≡ upto n) }
+    ensures room { IfOk result (λ v. n ≤ vec_capacity v) }
+{
+    let mut all = Vec::with_capacity(alloc, n as usize)?;
+    for i in 0..n {
+        if all.push(i).is_err() {
+            return Err(NoMemory);
+        }
+    }
+    Ok(all)
+}
+
+/// The entry that a search found.
+fn entry_in(seek: Seek) -> Option<u32>
+    ensures { result ≡ entry_found seek }
+{
+    match seek {
+        Seek::Found { entry, .. } => Some(entry),
+        _ => None,
+    }
+}
+
+impl<const V: usize> Chains<V> {
+    /// Chains that hold nothing, in this many buckets, with room for this many entries: at most 2^20 of
+    /// one value each, or 2^17 of seventeen.
+    ///
+    /// # Errors
+    ///
+    /// `NoMemory` where there is no memory.
+    pub fn open(alloc: Global, buckets: u32, entries: u32) -> Result<Chains<V>, NoMemory>
+        requires values { (V ≡ 1) ⊎ (V ≡ 17) }
+        requires buckets_in { (1 ≤ buckets) × (buckets ≤ 2 ^ 20) }
+        requires entries_in { (1 ≤ entries) × (entries ≤ most_entries V) }
+        ensures held { IfOk result (λ c. c.held ≡ []) }
+        ensures buckets { IfOk result (λ c. c.shape.buckets ≡ buckets) }
+        ensures entries { IfOk result (λ c. c.shape.entries ≡ entries) }
+        ensures loads { IfOk result (λ c. c.loads ≡ 0) }
+    {
+        let shape = ChainShape {
+            buckets,
+            entries,
+            lines: (V as u32 + 3) / 4,
+        };
+        let words = vec![in alloc; 0u64; words_of(shape)]?;
+        let free = numbers(alloc, entries)?;
+        Ok(Chains {
+            words,
+            free,
+            shape,
+            loads: 0,
+        })
+    }
+
+    /// The layout of the words.
+    pub fn shape(&self) -> ChainShape
+        ensures { result ≡ self.now.shape }
+    {
+        self.shape
+    }
+
+    /// Whether every entry is held.
+    pub fn is_full(&self) -> bool
+        ensures { result ≡ (length self.now.held == self.now.shape.entries) }
+    {
+        self.free.is_empty()
+    }
+
+    /// The entry that holds the tag, and no other; None exactly where the tag isn't held.
+    pub fn find(&self, tag: u64) -> Option<u32>
+        ensures found { result ≡ entry_of (held_with tag self.now.held) }
+        ensures own { IfSome result (λ e. IsOwn tag e self.now.held) }
+    {
+        let mut look = Look {
+            words: &self.words,
+            loads: 0,
+        };
+        entry_in(seek(&mut look, self.shape, tag))
+    }
+
+    /// What a search for the tag comes to, with its loads: one for the head, and one for each entry
+    /// examined.
+    pub fn probe(&mut self, tag: u64) -> Seek
+        ensures end { result ≡ found_of (held_with tag self.old.held) }
+        ensures after { self.new ≡ record self.old { loads = loads_after tag self.old } }
+    {
+        let shape = self.shape;
+        seek(self, shape, tag)
+    }
+
+    /// What a search for the tag comes to, without loads.
+    pub fn look(&self, tag: u64) -> Seek
+        ensures { result ≡ found_of (held_with tag self.now.held) }
+    {
+        let mut look = Look {
+            words: &self.words,
+            loads: 0,
+        };
+        seek(&mut look, self.shape, tag)
+    }
+
+    /// Value `i` of an entry that is held.
+    pub fn value(&self, entry: u32, i: usize) -> u64
+        requires held { list_any (is_entry entry) self.now.held ≡ true }
+        requires within { i < V }
+        ensures { result ≡ value_of entry i self.now.held }
+    {
+        self.words[value_at(self.shape, entry, i)]
+    }
+
+    /// Puts `value` in place of value `i` of an entry that is held.
+    pub fn set_value(&mut self, entry: u32, i: usize, value: u64)
+        requires held { list_any (is_entry entry) self.old.held ≡ true }
+        requires within { i < V }
+        ensures held { self.new.held ≡ map (with_value entry i value) self.old.held }
+        ensures shape { self.new.shape ≡ self.old.shape }
+        ensures loads { self.new.loads ≡ self.old.loads }
+    {
+        let at = value_at(self.shape, entry, i);
+        put(&mut self.words, at, value);
+    }
+
+    /// Takes out the entry of a tag that is held. Its chain closes up, and the others keep their numbers.
+    pub fn remove(&mut self, tag: u64)
+        requires { has_tag (tags_of self.old.held) tag ≡ true }
+        ensures held { self.new.held ≡ without_tag tag self.old.held }
+        ensures shape { self.new.shape ≡ self.old.shape }
+        ensures loads { self.new.loads ≡ self.old.loads }
+    {
+        let bucket = bucket_of(self.shape, tag);
+        match unlink(&mut self.words, self.shape, bucket, tag) {
+            None => unreachable!(),
+            Some(entry) => match self.free.push(entry) {
+                Ok(()) => (),
+                Err(_) => unreachable!(),
+            },
+        }
+    }
+
+    /// Holds the tag with these values, in front of its bucket, under any entry that isn't held. Full
+    /// exactly where all entries are held; then nothing changes.
+    pub fn insert(&mut self, tag: u64, values: [u64; V]) -> Result<(), Full>
+        requires { has_tag (tags_of self.old.held) tag ≡ false }
+        ensures ok { OnOk result (IsInserted tag values.entry self.old self.new) }
+        ensures full { OnErr result (length self.old.held ≡ self.old.shape.entries) }
+        ensures same { OnErr result (self.new ≡ self.old) }
+    {
+        match self.free.pop() {
+            None => Err(Full),
+            Some(entry) => {
+                let bucket = bucket_of(self.shape, tag);
+                put_front(&mut self.words, self.shape, bucket, entry, tag, &values);
+                Ok(())
+            }
+        }
+    }
+
+    /// What the type keeps: the words tell what is held, and each tag has one entry of its own.
+    pub fn words_read_back(&self)
+        ensures words { WordsReadBack self.now }
+        ensures single { AreSingle self.now.held }
+    {
+        // A look at a field brings in what the type keeps.
+        let _words = &self.words;
+    }
+}
+
+impl<const V: usize> Bus for Chains<V> {
+    ghost use Rattle.std.specs.Prelude.{refl};
+    ghost use Rattle.xl_phys.specs.Lines.{counted};
+
+    ghost words = { λ c. c.words };
+
+    ghost count = { λ c. c.loads };
+
+    ghost loaded = { λ c. record c { loads = counted c.loads } };
+
+    fn load(&mut self, line: usize) -> Option<[u64; 4]> {
+        self.loads = self.loads.wrapping_add(1);
+        line_of(&self.words, line)
+    }
+
+    fn loads(&self) -> u64 {
+        self.loads
+    }
+
+    ghost words_stay = { λ c. refl };
+
+    ghost counts_one = { λ c. refl };
+}
