@@ -74,8 +74,10 @@ fn serve_again<S: Structure, K: Sink>(
     answers: bool,
     out: &mut K,
 ) -> Result<(), Failed>
-    ensures after { machine.new ≡ record machine.old { state =
-        again_where outcome machine.old.row (event.Access va kind) machine.old.state } }
+    ensures after { machine.new ≡ record machine.old {
+      state =
+          again_where outcome machine.old.row (event.Access va kind) machine.old.state;
+    } }
     ensures writes { SinkAfter K.written K.put_faults K.roomy
         (line_where answers (second_line outcome machine.old.row number va kind machine.old.state))
         out.old out.new (is_ok result) }
@@ -141,8 +143,10 @@ fn serve_demand<S: Structure, K: Sink>(
     answers: bool,
     out: &mut K,
 ) -> Result<(), Failed>
-    ensures after { OnOk result (machine.new ≡ record machine.old { state =
-        demanded area machine.old.row va (event.Access va kind) machine.old.state }) }
+    ensures after { OnOk result (machine.new ≡ record machine.old {
+      state =
+          demanded area machine.old.row va (event.Access va kind) machine.old.state;
+    }) }
     ensures writes { SinkAfter K.written K.put_faults K.roomy
         (line_where answers (demand_lines area machine.old.row number va kind machine.old.state))
         out.old out.new (is_ok result) }
@@ -166,8 +170,10 @@ pub(crate) fn serve_access<S: Structure, K: Sink>(
     answers: bool,
     out: &mut K,
 ) -> Result<(), Failed>
-    ensures after { OnOk result (machine.new ≡ record machine.old { state =
-        referenced machine.old.row va kind areas.now machine.old.state }) }
+    ensures after { OnOk result (machine.new ≡ record machine.old {
+      state =
+          referenced machine.old.row va kind areas.now machine.old.state;
+    }) }
     ensures writes { SinkAfter K.written K.put_faults K.roomy
         (line_where answers (item_lines (Referenced number va kind) areas.now machine.old.row
         machine.old.state)) out.old out.new (is_ok result) }

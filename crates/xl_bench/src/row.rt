@@ -53,15 +53,7 @@ impl Rows for BuiltInRow {
         answers: bool,
         out: &mut K,
     ) -> Result<(), Failed> {
-        serve_access(
-            &mut self.machine,
-            number,
-            va,
-            kind,
-            areas,
-            answers,
-            out,
-        )
+        serve_access(&mut self.machine, number, va, kind, areas, answers, out)
     }
 
     fn write_rows<K: Sink>(&self, out: &mut K) -> Result<(), Failed> {

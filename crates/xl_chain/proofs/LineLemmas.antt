@@ -6,10 +6,10 @@ use Rattle.std.proofs.lemmas.List.{append-nil}
 use Rattle.std.proofs.lemmas.List.Elements.{filter-append}
 use Rattle.std.proofs.lemmas.Bool.Decides.{nat_tests}
 use Rattle.xl_model.specs.Chains.{bucket_of}
-use Rattle.xl_mapping.specs.Members.{In}
-use Rattle.xl_mapping.specs.Buckets.{gather}
-use Rattle.xl_mapping.proofs.MemberLemmas.{map-In, any-In, In-any, find-In, find-passes, find-only}
-use Rattle.xl_mapping.proofs.GatherLemmas.{gather-In, ArePlaced}
+use Rattle.xl_model_lemmas.specs.Members.{In}
+use Rattle.xl_model_lemmas.specs.Buckets.{gather}
+use Rattle.xl_model_lemmas.proofs.MemberLemmas.{map-In, any-In, In-any, find-In, find-passes, find-only}
+use Rattle.xl_model_lemmas.proofs.GatherLemmas.{gather-In, ArePlaced}
 use Rattle.xl_chain.specs.declared.shape.ChainShape.{ChainShape}
 use Rattle.xl_chain.specs.Layout.{base_at, place_of_value}
 use Rattle.xl_chain.specs.Back.{Searched}

@@ -23,13 +23,13 @@ use Rattle.xl_model.specs.Structures.{TableState, Verdict, Made, NoSpace, NoPlac
 use Rattle.xl_model.specs.Tlb.{TlbArray, leaves_in}
 use Rattle.xl_model.specs.Tally.{count_accepted, count_invalidated, count_work, count_refusal}
 use Rattle.xl_model.specs.RowRun.{RowState, arrays_after, changed_by, changed_where, changed_outcome, outcome_by, refusal_of, counts_refused, served as done, served_outcome, after_event, outcome_of}
-use Rattle.xl_mapping.specs.Fresh.{ArraysFresh}
-use Rattle.xl_mapping.specs.Mappings.{IsMapping, IsSound}
-use Rattle.xl_mapping.proofs.RuleLemmas.{kept-sound, sound-of}
-use Rattle.xl_mapping.proofs.FreshArrayLemmas.{changed-fresh}
-use Rattle.xl_mapping.proofs.LimitLemmas.{limits-changed, loads-changed}
+use Rattle.xl_model_lemmas.specs.Fresh.{ArraysFresh}
+use Rattle.xl_model_lemmas.specs.Mappings.{IsMapping, IsSound}
+use Rattle.xl_model_lemmas.proofs.RuleLemmas.{kept-sound, sound-of}
+use Rattle.xl_model_lemmas.proofs.FreshArrayLemmas.{changed-fresh}
+use Rattle.xl_model_lemmas.proofs.LimitLemmas.{limits-changed, loads-changed}
 use Rattle.xl_tlb.specs.Tlbs.{TlbState}
-use Rattle.xl_mapping.specs.Pools.{IsPoolOf}
+use Rattle.xl_model_lemmas.specs.Pools.{IsPoolOf}
 use Rattle.xl_model.specs.Scenes.{Served}
 use Rattle.xl_machine.specs.Served.{counts_of, state_of, served, after_of, done_counts, IsRowFor, IsServed}
 

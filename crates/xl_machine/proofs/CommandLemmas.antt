@@ -11,18 +11,18 @@ use Rattle.xl_model.specs.Rows.{Row}
 use Rattle.xl_model.specs.Changes.{Change, Insert, Remove, Protect, Relocate, IsNamed}
 use Rattle.xl_model.specs.Rules.{rule, change_of, there_rule, named_rule, frames_rule}
 use Rattle.xl_model.specs.Structures.{TableState, IsPage, IsBlock, IsLeafFor}
-use Rattle.xl_mapping.specs.Members.{In}
-use Rattle.xl_mapping.specs.Mappings.{IsMapping, IsLeafOf, IsNewLeaf, IsNewPlace}
-use Rattle.xl_mapping.proofs.MemberLemmas.{find-In}
-use Rattle.xl_mapping.proofs.RuleLemmas.{or-first, or-second, unless-true, has-place, sound-of}
-use Rattle.xl_mapping.proofs.CoverLemmas.{named-by}
+use Rattle.xl_model_lemmas.specs.Members.{In}
+use Rattle.xl_model_lemmas.specs.Mappings.{IsMapping, IsLeafOf, IsNewLeaf, IsNewPlace}
+use Rattle.xl_model_lemmas.proofs.MemberLemmas.{find-In}
+use Rattle.xl_model_lemmas.proofs.RuleLemmas.{or-first, or-second, unless-true, has-place, sound-of}
+use Rattle.xl_model_lemmas.proofs.CoverLemmas.{named-by}
 use Rattle.xl_model.specs.declared.row.Purge.{Purge}
 use Rattle.xl_model.specs.Changes.{changed, old_leaf}
 use Rattle.xl_model.specs.RowRun.{arrays_after}
 use Rattle.xl_frames.specs.Pool.{marked}
-use Rattle.xl_mapping.specs.Pools.{IsPoolOf}
-use Rattle.xl_mapping.proofs.ChangeLemmas.{stays-changed}
-use Rattle.xl_mapping.proofs.PoolChangeLemmas.{pool-taken}
+use Rattle.xl_model_lemmas.specs.Pools.{IsPoolOf}
+use Rattle.xl_model_lemmas.proofs.ChangeLemmas.{stays-changed}
+use Rattle.xl_model_lemmas.proofs.PoolChangeLemmas.{pool-taken}
 use Rattle.xl_tlb.specs.Tlbs.{TlbState, tlb_purged}
 use Rattle.xl_tlb.specs.Arrays.{IsFit}
 use Rattle.xl_machine.specs.Served.{IsRowFor}

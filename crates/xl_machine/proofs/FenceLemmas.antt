@@ -13,9 +13,9 @@ use Rattle.xl_model.specs.RowRun.{RowState, reach_of, fenced, served as done, af
 use Rattle.xl_model.specs.Structures.{TableState, IsFence, fence_answer, table_fenced}
 use Rattle.xl_model.specs.Tally.{count_accepted, count_fence, count_invalidated}
 use Rattle.xl_model.specs.Tlb.{leaves_in, arrays_without, reaches_leaf}
-use Rattle.xl_mapping.proofs.FreshArrayLemmas.{without-fresh}
-use Rattle.xl_mapping.proofs.LimitLemmas.{limits-fenced, loads-fenced}
-use Rattle.xl_mapping.proofs.RuleLemmas.{or-first, unless-true}
+use Rattle.xl_model_lemmas.proofs.FreshArrayLemmas.{without-fresh}
+use Rattle.xl_model_lemmas.proofs.LimitLemmas.{limits-fenced, loads-fenced}
+use Rattle.xl_model_lemmas.proofs.RuleLemmas.{or-first, unless-true}
 use Rattle.xl_tlb.specs.Arrays.{InLimits}
 use Rattle.xl_tlb.specs.Tlbs.{TlbState, tlb_fenced}
 use Rattle.xl_machine.specs.Rules.{rule_of}

@@ -17,8 +17,8 @@ use Rattle.xl_model.specs.RowRun.{opening}
 use Rattle.xl_model.specs.Shapes.{opening_shape}
 use Rattle.xl_model.specs.Structures.{TableState, spaces_of, page_limit}
 use Rattle.xl_model.specs.Tally.{no_counts}
-use Rattle.xl_mapping.specs.Mappings.{IsMapping}
-use Rattle.xl_mapping.proofs.FreshArrayLemmas.{opening-fresh}
+use Rattle.xl_model_lemmas.specs.Mappings.{IsMapping}
+use Rattle.xl_model_lemmas.proofs.FreshArrayLemmas.{opening-fresh}
 use Rattle.xl_tlb.specs.Tlbs.{NoneBelow, IsRising, IsSpec, AreSpecs, TlbState, tlb_opening}
 use Rattle.xl_machine.specs.Served.{served, opened, IsRowFor, IsServed}
 

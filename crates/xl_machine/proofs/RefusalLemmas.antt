@@ -11,17 +11,17 @@ use Rattle.xl_model.specs.Frames.{lowest}
 use Rattle.xl_model.specs.Rows.{Row}
 use Rattle.xl_model.specs.Rules.{rule, place_rule, overlap_rule, there_rule, frames_rule}
 use Rattle.xl_model.specs.Structures.{TableState, IsBlock}
-use Rattle.xl_mapping.specs.Lowest.{HasNoFree, IsAnswer}
-use Rattle.xl_mapping.specs.Pools.{IsPoolOf as IsPool}
-use Rattle.xl_mapping.proofs.LowestLemmas.{lowest-is-lowest}
-use Rattle.xl_mapping.proofs.OrderLemmas.{pages-some}
-use Rattle.xl_mapping.proofs.PlaceLemmas.{page-block}
-use Rattle.xl_mapping.proofs.PoolLemmas.{free-of, lowest-none}
+use Rattle.xl_model_lemmas.specs.Lowest.{HasNoFree, IsAnswer}
+use Rattle.xl_model_lemmas.specs.Pools.{IsPoolOf as IsPool}
+use Rattle.xl_model_lemmas.proofs.LowestLemmas.{lowest-is-lowest}
+use Rattle.xl_model_lemmas.proofs.OrderLemmas.{pages-some}
+use Rattle.xl_model_lemmas.proofs.PlaceLemmas.{page-block}
+use Rattle.xl_model_lemmas.proofs.PoolLemmas.{free-of, lowest-none}
 use Rattle.xl_frames.specs.Pool.{IsFree, HasNone}
 use Rattle.xl_machine.specs.Rules.{rule_of}
 use Rattle.xl_model.specs.Scenes.{Served}
 use Rattle.xl_machine.specs.Served.{IsRowFor}
-use Rattle.xl_mapping.specs.Pools.{IsPoolOf}
+use Rattle.xl_model_lemmas.specs.Pools.{IsPoolOf}
 
 -- a block that is free in the pool is free of leaves, so that there is a lowest one
 pub has-frames : (frames : ℕ) (o : Order) (leaves : List Leaf) (pool : List Bool) → IsPoolOf frames leaves pool

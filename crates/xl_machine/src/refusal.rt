@@ -170,10 +170,25 @@ impl<S: Structure> Machine<S> {
     {
         match event {
             Event::Access { .. } => None,
-            Event::Map { space, va, order, .. } => self.map_refusal(space, va, order),
+            Event::Map {
+                space,
+                va,
+                order,
+                ..
+            } => self.map_refusal(space, va, order),
             Event::Unmap { space, va, order } => self.unmap_refusal(space, va, order),
-            Event::Protect { space, va, order, .. } => self.unmap_refusal(space, va, order),
-            Event::Move { space, from, to, order } => self.move_refusal(space, from, to, order),
+            Event::Protect {
+                space,
+                va,
+                order,
+                ..
+            } => self.unmap_refusal(space, va, order),
+            Event::Move {
+                space,
+                from,
+                to,
+                order,
+            } => self.move_refusal(space, from, to, order),
             Event::Space { space } => space_refusal(&self.row, space),
             Event::Fence { scope } => fence_refusal(&self.row, scope),
         }

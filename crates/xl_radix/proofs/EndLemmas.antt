@@ -8,16 +8,16 @@ use Rattle.xl_model.specs.Addresses.{level_of, pages_of}
 use Rattle.xl_model.specs.Mapping.{leaf_at_page, covers, meets_any, meets_block}
 use Rattle.xl_model.specs.Words.{leaf_word, pointer_word}
 use Rattle.xl_model.specs.Nodes.{up, Node, number_of}
-use Rattle.xl_mapping.specs.Members.{In}
-use Rattle.xl_mapping.proofs.MemberLemmas.{find-only, In-any}
-use Rattle.xl_mapping.proofs.EndLemmas.{up-from}
+use Rattle.xl_model_lemmas.specs.Members.{In}
+use Rattle.xl_model_lemmas.proofs.MemberLemmas.{find-only, In-any}
+use Rattle.xl_model_lemmas.proofs.EndLemmas.{up-from}
 use Rattle.xl_model.specs.Image.{leaf_in, entry, word_at}
 use Rattle.xl_radix.specs.Table.{IsRadixMapping, IsImage, IsExact, IsStore}
 use Rattle.xl_radix.specs.Steps.{Stands, IsEnd}
 use Rattle.xl_radix.proofs.CaseLemmas.{split-le}
 use Rattle.xl_radix.proofs.ListLemmas.{find-nothing, any-nothing}
 use Rattle.xl_radix.proofs.NumberLemmas.{number-some}
-use Rattle.xl_mapping.proofs.OrderLemmas.{level-low}
+use Rattle.xl_model_lemmas.proofs.OrderLemmas.{level-low}
 use Rattle.xl_radix.proofs.MeetLemmas.{Overlap, Met, met, meets, covered, covering}
 use Rattle.xl_radix.proofs.SlotLemmas.{At, Under, leaf-in-some, leaf-in-none, in-nodes, in-nodes-leaf}
 

@@ -10,10 +10,10 @@ use Rattle.xl_model.specs.Changes.{IsNamed}
 use Rattle.xl_model.specs.Mapping.{covers, is_leaf, leaf_at_page, leaf_named}
 use Rattle.xl_model.specs.Nodes.{up}
 use Rattle.xl_model.specs.Walks.{end_level}
-use Rattle.xl_mapping.specs.Members.{In}
-use Rattle.xl_mapping.proofs.MemberLemmas.{find-In, find-passes}
-use Rattle.xl_mapping.proofs.OrderLemmas.{level-low}
-use Rattle.xl_mapping.proofs.EndLemmas.{up-from, end-is}
+use Rattle.xl_model_lemmas.specs.Members.{In}
+use Rattle.xl_model_lemmas.proofs.MemberLemmas.{find-In, find-passes}
+use Rattle.xl_model_lemmas.proofs.OrderLemmas.{level-low}
+use Rattle.xl_model_lemmas.proofs.EndLemmas.{up-from, end-is}
 use Rattle.xl_pte.specs.declared.word.Pte.TheVariants as pte
 use Rattle.xl_radix.specs.ReadBack.{order_of, leaf_said}
 use Rattle.xl_radix.specs.Table.{IsRadixMapping}

@@ -5,9 +5,9 @@ use Rattle.std.specs.List.{find, list_any}
 use Rattle.std.proofs.lemmas.Bool.{false≢true}
 use Rattle.xl_model.specs.declared.leaf.Leaf.{Leaf}
 use Rattle.xl_model.specs.Mapping.{with_leaf, leaf_key}
-use Rattle.xl_mapping.specs.Members.{In}
-use Rattle.xl_mapping.proofs.MemberLemmas.{find-In, find-passes, find-None, find-only, any-In}
-use Rattle.xl_mapping.proofs.InsertionLemmas.{with-In, In-with}
+use Rattle.xl_model_lemmas.specs.Members.{In}
+use Rattle.xl_model_lemmas.proofs.MemberLemmas.{find-In, find-passes, find-None, find-only, any-In}
+use Rattle.xl_model_lemmas.proofs.InsertionLemmas.{with-In, In-with}
 use Rattle.xl_radix.proofs.CaseLemmas.{Same, Before, After, lies}
 
 pub find-nothing : (p : Leaf → Bool) (xs : List Leaf) → ((y : Leaf) → In y xs → p y ≡ true → ⊥) → find p xs ≡ None

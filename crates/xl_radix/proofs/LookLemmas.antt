@@ -11,11 +11,11 @@ use Rattle.xl_model.specs.Nodes.{up, Node, number_of, free_count, missing, leaf_
 use Rattle.xl_model.specs.Room.{has_room}
 use Rattle.xl_model.specs.Shapes.{Radix}
 use Rattle.xl_model.specs.Structures.{IsBlock, IsLeafFor}
-use Rattle.xl_mapping.specs.Members.{In}
+use Rattle.xl_model_lemmas.specs.Members.{In}
 use Rattle.xl_pte.specs.Decode.{decode_of}
 use Rattle.xl_pte.specs.declared.word.Pte.{Pte}
-use Rattle.xl_mapping.proofs.MemberLemmas.{any-false}
-use Rattle.xl_mapping.proofs.OrderLemmas.{pages-some}
+use Rattle.xl_model_lemmas.proofs.MemberLemmas.{any-false}
+use Rattle.xl_model_lemmas.proofs.OrderLemmas.{pages-some}
 use Rattle.xl_model.specs.Image.{leaf_in}
 use Rattle.xl_radix.specs.ReadBack.{order_of, leaf_said}
 use Rattle.xl_radix.specs.Table.{Table, IsNew, IsStore}

@@ -7,7 +7,7 @@ use Rattle.xl_model.specs.declared.leaf.Leaf.{Leaf}
 use Rattle.xl_model.specs.Addresses.{level_of}
 use Rattle.xl_model.specs.Words.{pointer_word}
 use Rattle.xl_model.specs.Nodes.{up, Node, is_below, in_nodes, number_of}
-use Rattle.xl_mapping.specs.Members.{In}
+use Rattle.xl_model_lemmas.specs.Members.{In}
 use Rattle.xl_model.specs.Image.{leaf_in, entry, word_at, word_of}
 use Rattle.xl_radix.specs.Table.{IsImage, IsNearly, IsRooted}
 use Rattle.xl_radix.specs.Steps.{Stands}

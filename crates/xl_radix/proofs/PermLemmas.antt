@@ -7,15 +7,15 @@ use Rattle.xl_model.specs.Addresses.{level_of}
 use Rattle.xl_model.specs.Mapping.{with_leaf, without_leaf, leaf_named, leaf_at_page}
 use Rattle.xl_model.specs.Words.{leaf_word}
 use Rattle.xl_model.specs.Nodes.{up, Node, number_of, only_needed}
-use Rattle.xl_mapping.specs.Members.{In}
-use Rattle.xl_mapping.proofs.MappingLemmas.{named-In}
+use Rattle.xl_model_lemmas.specs.Members.{In}
+use Rattle.xl_model_lemmas.proofs.MappingLemmas.{named-In}
 use Rattle.std.proofs.lemmas.Bool.{false≢true}
 use Rattle.xl_model.specs.declared.address.Order.{Order}
 use Rattle.xl_model.specs.Changes.{Protect, IsNamed, changed}
 use Rattle.xl_model.specs.Shapes.{Radix, shape_after}
-use Rattle.xl_mapping.proofs.MappingLemmas.{named-is}
-use Rattle.xl_mapping.proofs.PlaceLemmas.{named-space, named-first, named-order}
-use Rattle.xl_mapping.proofs.OrderLemmas.{level-low}
+use Rattle.xl_model_lemmas.proofs.MappingLemmas.{named-is}
+use Rattle.xl_model_lemmas.proofs.PlaceLemmas.{named-space, named-first, named-order}
+use Rattle.xl_model_lemmas.proofs.OrderLemmas.{level-low}
 use Rattle.xl_radix.proofs.CaseLemmas.{split-le}
 use Rattle.xl_radix.proofs.ShapeLemmas.{all-needed}
 use Rattle.xl_radix.proofs.TakingLemmas.{named-needs}

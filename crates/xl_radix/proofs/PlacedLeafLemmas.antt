@@ -7,8 +7,8 @@ use Rattle.xl_model.specs.Addresses.{level_of}
 use Rattle.xl_model.specs.Mapping.{with_leaf, leaf_key}
 use Rattle.xl_model.specs.Words.{leaf_word}
 use Rattle.xl_model.specs.Nodes.{up, Node, is_below, in_nodes, number_of}
-use Rattle.xl_mapping.specs.Members.{In}
-use Rattle.xl_mapping.proofs.InsertionLemmas.{with-In, In-with, stays-with, sorted-with}
+use Rattle.xl_model_lemmas.specs.Members.{In}
+use Rattle.xl_model_lemmas.proofs.InsertionLemmas.{with-In, In-with, stays-with, sorted-with}
 use Rattle.xl_model.specs.Image.{is_slot, leaf_in, word_at, word_of}
 use Rattle.xl_radix.specs.Table.{IsNew, IsRadixLeaf, IsRadixMapping, IsImage, IsNearly, IsExact}
 use Rattle.xl_radix.specs.Steps.{Stands, IsReady}

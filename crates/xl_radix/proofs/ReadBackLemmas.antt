@@ -8,17 +8,17 @@ use Rattle.xl_model.specs.Addresses.{level_of, pages_of}
 use Rattle.xl_model.specs.Changes.{with_new}
 use Rattle.xl_model.specs.Mapping.{with_leaf, leaf_key}
 use Rattle.xl_model.specs.Nodes.{up, Node, is_below, in_nodes, number_of}
-use Rattle.xl_mapping.specs.Members.{In, IsSorted}
+use Rattle.xl_model_lemmas.specs.Members.{In, IsSorted}
 use Rattle.xl_pte.specs.declared.word.Pte.{Pte}
 use Rattle.xl_pte.specs.declared.word.Pte.TheVariants as pte
-use Rattle.xl_mapping.proofs.InsertionLemmas.{with-In, In-with, stays-with, sorted-with, same-place}
+use Rattle.xl_model_lemmas.proofs.InsertionLemmas.{with-In, In-with, stays-with, sorted-with, same-place}
 use Rattle.xl_model.specs.Image.{leaf_in, word_of}
 use Rattle.xl_radix.specs.ReadBack.{order_of, leaf_said, leaf_by, leaf_here, read_to, read_back}
 use Rattle.xl_radix.specs.Table.{IsRadixMapping, IsImage}
 use Rattle.xl_radix.proofs.CaseLemmas.{split-less}
-use Rattle.xl_mapping.proofs.SortedLemmas.{same-sorted}
+use Rattle.xl_model_lemmas.proofs.SortedLemmas.{same-sorted}
 use Rattle.xl_radix.proofs.NumberLemmas.{number-some, below-some, Is}
-use Rattle.xl_mapping.proofs.OrderLemmas.{level-low}
+use Rattle.xl_model_lemmas.proofs.OrderLemmas.{level-low}
 use Rattle.xl_radix.proofs.SlotLemmas.{At, Says, says, leaf-in-some, leaf-in-none, in-nodes}
 
 order-of-level : (o : Order) → order_of (level_of o) ≡ Some o

@@ -11,9 +11,9 @@ use Rattle.xl_model.specs.Changes.{IsNamed}
 use Rattle.xl_model.specs.Mapping.{without_leaf, leaf_named}
 use Rattle.xl_model.specs.Words.{leaf_word, pointer_word}
 use Rattle.xl_model.specs.Nodes.{up, Node, is_below, number_of, free_count}
-use Rattle.xl_mapping.specs.Members.{In}
-use Rattle.xl_mapping.proofs.MappingLemmas.{named-In, named-is}
-use Rattle.xl_mapping.proofs.PlaceLemmas.{named-space, named-first, named-order}
+use Rattle.xl_model_lemmas.specs.Members.{In}
+use Rattle.xl_model_lemmas.proofs.MappingLemmas.{named-In, named-is}
+use Rattle.xl_model_lemmas.proofs.PlaceLemmas.{named-space, named-first, named-order}
 use Rattle.xl_model.specs.Image.{leaf_in, word_at}
 use Rattle.xl_radix.specs.ReadBack.{read_back}
 use Rattle.xl_radix.specs.Table.{filled, IsNearly, IsExact, IsCounted, IsStore}

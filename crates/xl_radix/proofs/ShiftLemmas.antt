@@ -14,13 +14,13 @@ use Rattle.xl_model.specs.Nodes.{Node, with_leaf_nodes, only_needed, free_count}
 use Rattle.xl_model.specs.Room.{has_room}
 use Rattle.xl_model.specs.Shapes.{Radix, brought, shape_after}
 use Rattle.xl_model.specs.Structures.{IsBlock}
-use Rattle.xl_mapping.specs.Members.{In, IsSorted}
-use Rattle.xl_mapping.proofs.InsertionLemmas.{with-In, In-with, stays-with, sorted-with, sorted-without, without-In, without-other, In-without}
-use Rattle.xl_mapping.proofs.MappingLemmas.{named-In, named-is}
-use Rattle.xl_mapping.proofs.MemberLemmas.{any-false}
-use Rattle.xl_mapping.proofs.OrderLemmas.{pages-some}
-use Rattle.xl_mapping.proofs.PlaceLemmas.{named-space, named-first, named-order}
-use Rattle.xl_mapping.proofs.SortedLemmas.{same-sorted}
+use Rattle.xl_model_lemmas.specs.Members.{In, IsSorted}
+use Rattle.xl_model_lemmas.proofs.InsertionLemmas.{with-In, In-with, stays-with, sorted-with, sorted-without, without-In, without-other, In-without}
+use Rattle.xl_model_lemmas.proofs.MappingLemmas.{named-In, named-is}
+use Rattle.xl_model_lemmas.proofs.MemberLemmas.{any-false}
+use Rattle.xl_model_lemmas.proofs.OrderLemmas.{pages-some}
+use Rattle.xl_model_lemmas.proofs.PlaceLemmas.{named-space, named-first, named-order}
+use Rattle.xl_model_lemmas.proofs.SortedLemmas.{same-sorted}
 use Rattle.xl_radix.specs.Table.{Table, IsRadixMapping, IsStore}
 use Rattle.xl_radix.specs.Steps.{shape_of, IsLess, IsMove, IsMade}
 use Rattle.xl_radix.proofs.ListLemmas.{found-some}

@@ -5,12 +5,12 @@ use Rattle.xl_model.specs.declared.leaf.Leaf.{Leaf}
 use Rattle.xl_model.specs.Addresses.{level_of}
 use Rattle.xl_model.specs.Words.{leaf_word, pointer_word}
 use Rattle.xl_model.specs.Nodes.{up, Node, is_under, in_nodes, number_of}
-use Rattle.xl_mapping.specs.Members.{In}
+use Rattle.xl_model_lemmas.specs.Members.{In}
 use Rattle.xl_pte.specs.Decode.{decode_of}
 use Rattle.xl_pte.specs.declared.word.Pte.{Pte}
 use Rattle.xl_pte.specs.declared.word.Pte.TheVariants as pte
 use Rattle.xl_pte.proofs.BitLemmas.{decode-made-leaf, decode-made-pointer}
-use Rattle.xl_mapping.proofs.MemberLemmas.{find-In, find-passes, find-None, any-In, In-any}
+use Rattle.xl_model_lemmas.proofs.MemberLemmas.{find-In, find-passes, find-None, any-In, In-any}
 use Rattle.xl_model.specs.Image.{is_slot, leaf_in, entry, word_at, word_of}
 use Rattle.xl_radix.specs.Table.{IsRadixMapping, IsImage}
 use Rattle.xl_radix.specs.Steps.{Stands}

@@ -7,7 +7,7 @@ use Rattle.xl_model.specs.Addresses.{level_of}
 use Rattle.xl_model.specs.Mapping.{with_leaf}
 use Rattle.xl_model.specs.Words.{pointer_word, leaf_word}
 use Rattle.xl_model.specs.Nodes.{up, Node, number_of, free_count}
-use Rattle.xl_mapping.specs.Members.{In}
+use Rattle.xl_model_lemmas.specs.Members.{In}
 use Rattle.xl_pte.specs.Decode.{decode_of}
 use Rattle.xl_pte.specs.declared.word.Pte.{Pte}
 use Rattle.xl_pte.specs.declared.word.Pte.TheVariants as pte

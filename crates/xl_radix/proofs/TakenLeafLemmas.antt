@@ -8,8 +8,8 @@ use Rattle.xl_model.specs.declared.leaf.Leaf.{Leaf}
 use Rattle.xl_model.specs.Addresses.{level_of}
 use Rattle.xl_model.specs.Mapping.{without_leaf, leaf_key}
 use Rattle.xl_model.specs.Nodes.{up, Node, is_below, in_nodes, number_of}
-use Rattle.xl_mapping.specs.Members.{In}
-use Rattle.xl_mapping.proofs.InsertionLemmas.{without-In, without-other, In-without, sorted-without, same-place}
+use Rattle.xl_model_lemmas.specs.Members.{In}
+use Rattle.xl_model_lemmas.proofs.InsertionLemmas.{without-In, without-other, In-without, sorted-without, same-place}
 use Rattle.xl_model.specs.Image.{is_slot, leaf_in, word_at, word_of}
 use Rattle.xl_radix.specs.Table.{IsRadixMapping, IsImage, IsNearly, IsExact}
 use Rattle.xl_radix.specs.Steps.{Stands}

@@ -10,9 +10,9 @@ use Rattle.xl_model.specs.Mapping.{without_leaf, leaf_named}
 use Rattle.xl_model.specs.Nodes.{up, Node, is_below, in_nodes, number_of, free_count, is_needed, kept_node, only_needed}
 use Rattle.std.specs.Prelude.{is_some}
 use Rattle.xl_model.specs.Shapes.{Radix, shape_after}
-use Rattle.xl_mapping.proofs.MappingLemmas.{named-is}
-use Rattle.xl_mapping.proofs.PlaceLemmas.{named-space, named-first}
-use Rattle.xl_mapping.proofs.InsertionLemmas.{without-In}
+use Rattle.xl_model_lemmas.proofs.MappingLemmas.{named-is}
+use Rattle.xl_model_lemmas.proofs.PlaceLemmas.{named-space, named-first}
+use Rattle.xl_model_lemmas.proofs.InsertionLemmas.{without-In}
 use Rattle.xl_model.specs.Image.{is_slot, leaf_in}
 use Rattle.xl_radix.specs.Table.{IsNearly, IsExact, IsStore}
 use Rattle.xl_radix.specs.Steps.{Stands, IsLess, IsTaken}

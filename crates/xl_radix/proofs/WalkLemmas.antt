@@ -7,11 +7,11 @@ use Rattle.xl_model.specs.Addresses.{level_of}
 use Rattle.xl_model.specs.Mapping.{leaf_at_page}
 use Rattle.xl_model.specs.Nodes.{up, Node, in_nodes, number_of}
 use Rattle.xl_model.specs.Walks.{end_level}
-use Rattle.xl_mapping.specs.Members.{In}
+use Rattle.xl_model_lemmas.specs.Members.{In}
 use Rattle.xl_pte.specs.Decode.{decode_of}
 use Rattle.xl_pte.specs.declared.word.Pte.{Pte}
 use Rattle.xl_pte.specs.declared.word.Pte.TheVariants as pte
-use Rattle.xl_mapping.proofs.EndLemmas.{up-from, end-is}
+use Rattle.xl_model_lemmas.proofs.EndLemmas.{up-from, end-is}
 use Rattle.xl_radix.specs.declared.walk_end.WalkEnd.{WalkEnd}
 use Rattle.xl_model.specs.Image.{leaf_in}
 use Rattle.xl_radix.specs.Steps.{Stands}

@@ -32,8 +32,13 @@ impl<const LEVELS: usize> Model for Radix<LEVELS> {
 
     ghost Value = { Table };
 
-    ghost view = { λ r. record { leaves = r.store.leaves; nodes = r.store.nodes;
-        words = r.store.words; spaces = r.store.spaces; loads = r.loads } };
+    ghost view = { λ r. record {
+      leaves = r.store.leaves;
+      nodes = r.store.nodes;
+      words = r.store.words;
+      spaces = r.store.spaces;
+      loads = r.loads;
+    } };
 
     ghost invariant = { λ r. IsExact LEVELS r.store.leaves r.store.nodes
         × (r.free ≡ free_count r.store.nodes) };

@@ -45,8 +45,13 @@ impl<const LEVELS: usize> Model for Store<LEVELS> {
 
     ghost Value = { Stored };
 
-    ghost view = { λ s. record { leaves = read_back s.numbers s.words.items; nodes = s.numbers;
-        words = s.words.items; used = s.used.items; spaces = s.spaces } };
+    ghost view = { λ s. record {
+      leaves = read_back s.numbers s.words.items;
+      nodes = s.numbers;
+      words = s.words.items;
+      used = s.used.items;
+      spaces = s.spaces;
+    } };
 
     ghost invariant = { λ s. IsStore LEVELS s.spaces (read_back s.numbers s.words.items)
         s.numbers s.words.items s.used.items };

@@ -5,7 +5,7 @@ use Rattle.xl_model.specs.Nodes.{Node}
 use Rattle.xl_model.specs.Caches.{Cached, Numbered, all_without, reaches_space, caches_fenced}
 use Rattle.xl_model.specs.Recency.{purged}
 use Rattle.xl_model.specs.Structures.{IsFence, fence_answer, table_fenced}
-use Rattle.xl_mapping.proofs.MemberLemmas.{filter-In}
+use Rattle.xl_model_lemmas.proofs.MemberLemmas.{filter-In}
 use Rattle.xl_recency.specs.declared.item.Item.{Item}
 use Rattle.xl_radix.specs.Table.{Table}
 use Rattle.xl_radix_walk.specs.Row.{numbered_in, caches_in, AreNumbered, is_fenced, fenced_caches, entries_of, IsRow, row_of, row_table}

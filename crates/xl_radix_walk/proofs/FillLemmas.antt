@@ -6,8 +6,8 @@ use Rattle.xl_model.specs.Addresses.{level_of}
 use Rattle.xl_model.specs.Nodes.{up, Node, number_of}
 use Rattle.xl_model.specs.Caches.{Cached, Numbered}
 use Rattle.xl_model.specs.Walks.{numbered, with_fill, node_cache_after, node_caches_after}
-use Rattle.xl_mapping.specs.Members.{In}
-use Rattle.xl_mapping.proofs.MemberLemmas.{take-In}
+use Rattle.xl_model_lemmas.specs.Members.{In}
+use Rattle.xl_model_lemmas.proofs.MemberLemmas.{take-In}
 use Rattle.xl_recency.specs.declared.item.Item.{Item}
 use Rattle.xl_radix_walk.specs.Row.{tag_at, item_at, numbered_in, cache_in, caches_in, AreNumbered, filled_one, filled_caches, IsPath}
 use Rattle.xl_radix_walk.proofs.LookLemmas.{up-le}

@@ -7,8 +7,8 @@ use Rattle.xl_model.specs.Nodes.{up, Node, number_of}
 use Rattle.xl_model.specs.Caches.{Cached, Numbered}
 use Rattle.xl_model.specs.Recency.{touched, without_first, in_front}
 use Rattle.xl_model.specs.Walks.{is_tag, start_level, node_caches_after}
-use Rattle.xl_mapping.specs.Members.{In}
-use Rattle.xl_mapping.proofs.MemberLemmas.{find-In, find-passes}
+use Rattle.xl_model_lemmas.specs.Members.{In}
+use Rattle.xl_model_lemmas.proofs.MemberLemmas.{find-In, find-passes}
 use Rattle.xl_recency.specs.declared.item.Item.{Item}
 use Rattle.xl_radix_walk.specs.Row.{tag_at, has_tag, numbered_in, caches_in, AreNumbered}
 

@@ -5,7 +5,7 @@ use Rattle.xl_model.specs.declared.leaf.Leaf.{Leaf}
 use Rattle.xl_model.specs.Nodes.{Node, is_below, number_of, is_needed, kept_node, only_needed}
 use Rattle.xl_model.specs.Caches.{Cached, Numbered, all_without, items_in}
 use Rattle.xl_model.specs.Recency.{purged}
-use Rattle.xl_mapping.specs.Members.{In}
+use Rattle.xl_model_lemmas.specs.Members.{In}
 use Rattle.xl_recency.specs.declared.item.Item.{Item}
 use Rattle.xl_radix.proofs.NumberLemmas.{number-some, below-some, below-is}
 use Rattle.xl_radix.proofs.FreedNodeLemmas.{node-is}

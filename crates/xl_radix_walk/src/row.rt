@@ -81,8 +81,9 @@ fn descend<const LEVELS: usize>(
         from.level space page path.new.items radix.old.nodes }
     ensures length { length path.new.items + end_of result ≡ from.level }
     ensures loads { radix.new ≡ record radix.old {
-        loads = plus radix.old.loads
-            (from.level - end_level (LEVELS - 1) 0 space page radix.old.leaves + 1) } }
+      loads = plus radix.old.loads
+          (from.level - end_level (LEVELS - 1) 0 space page radix.old.leaves + 1);
+    } }
 {
     radix.words_read_back();
     walk::<Radix<LEVELS>, LEVELS>(radix, from.level, from.node, page, path)

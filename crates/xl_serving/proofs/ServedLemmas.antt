@@ -4,7 +4,7 @@ use Rattle.std.specs.Prelude.{Option, Some, slice_get}
 use Rattle.std.proofs.lemmas.List.{take-append-drop, take_all}
 use Rattle.xl_model.specs.declared.script.Item.{Item}
 use Rattle.xl_model.specs.Scenes.{Scene, scenes_after, told_by}
-use Rattle.xl_mapping.proofs.SceneLemmas.{scene-append, told-append}
+use Rattle.xl_model_lemmas.proofs.SceneLemmas.{scene-append, told-append}
 use Rattle.xl_outside.specs.Sinks.{SinkAfter}
 use Rattle.xl_outside.proofs.SinkLemmas.{sink_same, sink_then, sink_cut}
 use Rattle.xl_serving.specs.Serving.{HasServed, SceneAfter}

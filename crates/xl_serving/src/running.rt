@@ -133,7 +133,9 @@ fn report<R: Rows + Drop, T: Trace + Drop, F: Folder, K: Sink>(
     let mut rows = R::open(alloc)?;
     let mut areas = Areas::open(alloc)?;
     let mut read = T::open(alloc)?;
-    let end = replay(&mut rows, &mut areas, &mut read, folder, out, trace, &commands);
+    let end = replay(
+        &mut rows, &mut areas, &mut read, folder, out, trace, &commands,
+    );
     Ok(end?)
 }
 

@@ -142,11 +142,7 @@ fn each_run_has_its_ending_and_its_message(rt: HostRuntime) -> Result<(), Fail> 
         let mut err = MemSink::open(alloc, 200, Vec::new(alloc), 7)?;
         let given = words(alloc, names)?;
         let status = run::<NoRows, Tape, MemFolder, MemSink, MemSink>(
-            alloc,
-            &given,
-            &mut files,
-            &mut out,
-            &mut err,
+            alloc, &given, &mut files, &mut out, &mut err,
         );
         assert_eq!(rt; status, want, "{message}");
         assert_eq!(rt; err.bytes(), message.as_bytes());

@@ -16,7 +16,8 @@ fn words_of_another_form_are_refused(rt: HostRuntime) -> Result<(), Fail> {
         &["xlate", "--script", "script", "-trace", "trace"],
         &["xlate", "--script", "script", "--trace", "trace", "x"],
     ];
-    let usage = "xlate: usage: --script FILE --trace FILE\n";
+    let usage =
+        "xlate: usage: --config FILE [--script FILE] [--trace FILE] [--make N] [--answers] [--image] [--json]\n";
     for words in forms {
         let given = Given {
             words,

@@ -11,9 +11,9 @@ use Rattle.xl_model.specs.Rows.{row_of}
 use Rattle.xl_model.specs.RowRun.{arrays_after}
 use Rattle.xl_model.specs.Rules.{rule}
 use Rattle.xl_model.specs.Tlb.{TlbArray}
-use Rattle.xl_mapping.specs.Mappings.{IsNewLeaf, IsNewPlace}
-use Rattle.xl_mapping.proofs.PoolLemmas.{lowest-some, lowest-none}
-use Rattle.xl_mapping.proofs.PoolChangeLemmas.{pool-given, pool-removed, pool-protected, pool-relocated}
+use Rattle.xl_model_lemmas.specs.Mappings.{IsNewLeaf, IsNewPlace}
+use Rattle.xl_model_lemmas.proofs.PoolLemmas.{lowest-some, lowest-none}
+use Rattle.xl_model_lemmas.proofs.PoolChangeLemmas.{pool-given, pool-removed, pool-protected, pool-relocated}
 use Rattle.xl_tlb.specs.Tlbs.{TlbState}
 use Rattle.xl_machine.proofs.Accesses.{page_small}
 use Rattle.xl_machine.proofs.CommandLemmas.{unmap-is, protect-is, move-is, map-is, has-frames, there-unmap, there-protect, there-move, place-move, leaf-map, page-for, block-for, leaf-for, is-covered, named, is-named, valid, old-fit, purged-is, pool-mapped}

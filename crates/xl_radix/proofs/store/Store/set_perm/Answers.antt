@@ -3,7 +3,7 @@ use Rattle.std.proofs.lemmas.Option.{same_Some}
 use Rattle.xl_model.specs.declared.leaf.Leaf.{Leaf}
 use Rattle.xl_model.specs.Addresses.{level_of}
 use Rattle.xl_model.specs.Mapping.{leaf_named}
-use Rattle.xl_mapping.proofs.OrderLemmas.{level-low}
+use Rattle.xl_model_lemmas.proofs.OrderLemmas.{level-low}
 use Rattle.xl_radix.specs.Steps.{Stands}
 use Rattle.xl_radix.specs.ReadBack.{read_back}
 use Rattle.xl_radix.proofs.PermLemmas.{found-named, named-page, protected-is}

@@ -1,5 +1,5 @@
 use Rattle.std.proofs.Common.{◌-◌, lit<, arith}
-use Rattle.xl_mapping.proofs.OrderLemmas.{level-low}
+use Rattle.xl_model_lemmas.proofs.OrderLemmas.{level-low}
 use Rattle.xl_radix.proofs.TakingLemmas.{named-stands, taken-only, nearly-exact, small-of}
 use Rattle.xl_radix.proofs.store.Store.take_leaf.Goals as goal
 

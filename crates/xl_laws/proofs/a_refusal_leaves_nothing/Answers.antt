@@ -1,5 +1,0 @@
-use Rattle.xl_laws.proofs.RefusalLemmas.{a_refusal_leaves_nothing}
-use Rattle.xl_laws.proofs.a_refusal_leaves_nothing.Goals as goal
-
-pub returns : goal.returns
-returns c = a_refusal_leaves_nothing

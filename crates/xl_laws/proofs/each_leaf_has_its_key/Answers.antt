@@ -1,5 +1,0 @@
-use Rattle.xl_laws.proofs.KeyLawLemmas.{each_leaf_has_its_key}
-use Rattle.xl_laws.proofs.each_leaf_has_its_key.Goals as goal
-
-pub returns : goal.returns
-returns c = each_leaf_has_its_key

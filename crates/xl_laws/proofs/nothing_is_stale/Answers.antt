@@ -1,5 +1,0 @@
-use Rattle.xl_laws.proofs.FreshLemmas.{nothing_is_stale}
-use Rattle.xl_laws.proofs.nothing_is_stale.Goals as goal
-
-pub returns : goal.returns
-returns c = nothing_is_stale

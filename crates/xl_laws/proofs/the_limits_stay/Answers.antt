@@ -1,5 +1,0 @@
-use Rattle.xl_laws.proofs.LimitLawLemmas.{the_limits_stay}
-use Rattle.xl_laws.proofs.the_limits_stay.Goals as goal
-
-pub returns : goal.returns
-returns c = the_limits_stay

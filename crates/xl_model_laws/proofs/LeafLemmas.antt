@@ -1,0 +1,91 @@
+-- The leaves after an event.
+use Rattle.std.proofs.Common.{◌≡◌, refl, sym, ap, subst, ℕ, Bool, true, false, List, Option, None, Some, Result, Ok, Err}
+use Rattle.xl_model.specs.declared.address.Kind.{Kind}
+use Rattle.xl_model.specs.declared.leaf.Leaf.{Leaf}
+use Rattle.xl_model.specs.declared.event.Event.{Event}
+use Rattle.xl_model.specs.declared.event.Event.TheVariants as event
+use Rattle.xl_model.specs.declared.event.Refusal.{Refusal}
+use Rattle.xl_model.specs.declared.work.Refused.{Refused}
+use Rattle.xl_model.specs.declared.work.Work.{Work}
+use Rattle.xl_model.specs.Addresses.{is_canonical, page_of}
+use Rattle.xl_model.specs.Mapping.{leaf_at_page}
+use Rattle.xl_model.specs.Rows.{Row}
+use Rattle.xl_model.specs.Changes.{Change, changed}
+use Rattle.xl_model.specs.Rules.{rule}
+use Rattle.xl_model.specs.Structures.{TableState, Verdict, Made, NoSpace, NoPlace, verdict, table_made, table_answer, table_after, after_by, table_walked, table_fenced}
+use Rattle.xl_model.specs.Tlb.{Answer, answer_of}
+use Rattle.xl_model.specs.RowRun.{RowState, opening, walk_filled, looked_by, looked, looked_where, reply_to, accessed, changed_by, changed_where, fenced, served, after_rule, after_event, outcome_of}
+use Rattle.xl_model_lemmas.specs.Mappings.{IsMapping}
+use Rattle.xl_model_lemmas.proofs.RuleLemmas.{kept-changed}
+use Rattle.xl_model_lemmas.proofs.LowestLemmas.{lowest-is-lowest}
+use Rattle.xl_model_laws.specs.Runs.{TheLeavesAreAMapping, AReplyIsByTheMapping, TheLowestIsTheLeast}
+use Rattle.xl_model_laws.proofs.RunLemmas.{Keeps, run-keeps}
+
+pub filled-leaves : (found : Option Leaf) (s : RowState) → (walk_filled found s).table ≡ s.table
+filled-leaves None s = refl
+filled-leaves (Some leaf) s = refl
+
+looked-leaves : (answer : Option Answer) (page : ℕ) (s : RowState) → (looked_by answer page s).table.leaves ≡ s.table.leaves
+unfolding table_walked
+looked-leaves (Some answer) page s = refl
+looked-leaves None page s = ap (λ (t : TableState). t.leaves) (filled-leaves (leaf_at_page s.space page s.table.leaves) _)
+
+pub accessed-leaves : (row : Row) (va : ℕ) (k : Kind) (s : RowState) → (accessed row va k s).table.leaves ≡ s.table.leaves
+unfolding accessed looked
+accessed-leaves row va k s = go (is_canonical row.mode va)
+  where
+    go : (b : Bool) → (looked_where b (page_of row.mode va) s).table.leaves ≡ s.table.leaves
+    go true = looked-leaves (answer_of s.arrays s.space (page_of row.mode va)) (page_of row.mode va) s
+    go false = refl
+
+-- a table after a change has the changed leaves, or those that it had
+table-leaves : (P : List Leaf → Type 0) (c : Change) (t : TableState) (v : Verdict) → P t.leaves → P (changed c t.leaves) → P (after_by v c t).leaves
+unfolding table_made
+table-leaves P c t Made same new = new
+table-leaves P c t NoSpace same new = same
+table-leaves P c t NoPlace same new = same
+
+pub changed-table : (answer : Result Work Refused) (row : Row) (c : Change) (s : RowState) → (changed_by answer row c s).table ≡ table_after c s.table
+changed-table (Ok work) row c s = refl
+changed-table (Err r) row c s = refl
+
+changed-keeps : (row : Row) (c : Option Change) (s : RowState) → IsMapping row s.table.leaves
+    → ((d : Change) → c ≡ Some d → IsMapping row (changed d s.table.leaves)) → IsMapping row (changed_where c row s).table.leaves
+unfolding table_after
+changed-keeps row None s m new = m
+changed-keeps row (Some c) s m new =
+    let P : TableState → Type 0 = λ t. IsMapping row t.leaves in
+    subst P (sym (changed-table (table_answer c s.table) row c s))
+    (table-leaves (IsMapping row) c s.table (verdict c s.table) m (new c refl))
+
+served-keeps : (row : Row) (e : Event) (s : RowState) → IsMapping row s.table.leaves → rule row s.table.leaves e ≡ None → IsMapping row (served row e s).table.leaves
+unfolding served fenced table_fenced
+served-keeps row (event.Access va k) s m ruled = subst (IsMapping row) (sym (accessed-leaves row va k s)) m
+served-keeps row (event.Map space va o perm) s m ruled = changed-keeps row _ s m (λ c told. kept-changed row s.table.leaves (event.Map space va o perm) c m ruled told)
+served-keeps row (event.Unmap space va o) s m ruled = changed-keeps row _ s m (λ c told. kept-changed row s.table.leaves (event.Unmap space va o) c m ruled told)
+served-keeps row (event.Protect space va o perm) s m ruled = changed-keeps row _ s m (λ c told. kept-changed row s.table.leaves (event.Protect space va o perm) c m ruled told)
+served-keeps row (event.Move space from to o) s m ruled = changed-keeps row _ s m (λ c told. kept-changed row s.table.leaves (event.Move space from to o) c m ruled told)
+served-keeps row (event.Space space) s m ruled = m
+served-keeps row (event.Fence to) s m ruled = m
+
+ruled-keeps : (row : Row) (e : Event) (s : RowState) (q : Option Refusal) → rule row s.table.leaves e ≡ q → IsMapping row s.table.leaves → IsMapping row (after_rule q row e s).table.leaves
+ruled-keeps row e s (Some r) ruled m = m
+ruled-keeps row e s None ruled m = served-keeps row e s m ruled
+
+pub mapping-kept : (row : Row) → Keeps row (λ s. IsMapping row s.table.leaves)
+unfolding after_event
+mapping-kept row e s m = ruled-keeps row e s (rule row s.table.leaves e) refl m
+
+pub opening-mapping : (row : Row) → IsMapping row (opening row).table.leaves
+unfolding opening
+opening-mapping row = record { sorted = tt; valid = λ x i. absurd i; pages = λ x y page i. absurd i; frames = λ x y frame i. absurd i }
+
+pub the_leaves_are_a_mapping : TheLeavesAreAMapping
+the_leaves_are_a_mapping row items = run-keeps row (λ s. IsMapping row s.table.leaves) (mapping-kept row) (opening-mapping row) items
+
+pub a_reply_is_by_the_mapping : AReplyIsByTheMapping
+unfolding outcome_of rule reply_to
+a_reply_is_by_the_mapping row s va k = refl
+
+pub the_lowest_is_the_least : TheLowestIsTheLeast
+the_lowest_is_the_least = lowest-is-lowest

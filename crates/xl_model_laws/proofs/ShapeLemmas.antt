@@ -1,0 +1,73 @@
+-- What a shape keeps at every change, it keeps in every run.
+use Rattle.std.proofs.Common.{◌≡◌, refl, sym, ap, subst, ℕ, Bool, true, false, List, Option, None, Some}
+use Rattle.xl_model.specs.declared.address.Kind.{Kind}
+use Rattle.xl_model.specs.declared.leaf.Leaf.{Leaf}
+use Rattle.xl_model.specs.declared.event.Event.{Event}
+use Rattle.xl_model.specs.declared.event.Refusal.{Refusal}
+use Rattle.xl_model.specs.Addresses.{levels_of, is_canonical, page_of}
+use Rattle.xl_model.specs.Mapping.{leaf_at_page}
+use Rattle.xl_model.specs.Rows.{Row}
+use Rattle.xl_model.specs.Changes.{Change}
+use Rattle.xl_model.specs.Rules.{rule, change_of}
+use Rattle.xl_model.specs.Shapes.{Shape, brought, widened, shape_after, opening_shape}
+use Rattle.xl_model.specs.Structures.{TableState, Verdict, Made, NoSpace, NoPlace, verdict, table_made, table_answer, table_after, after_by, table_walked, table_fenced}
+use Rattle.xl_model.specs.Tlb.{Answer, answer_of}
+use Rattle.xl_model.specs.RowRun.{RowState, opening, looked_by, looked, looked_where, accessed, changed_where, fenced, served, after_rule, after_event}
+use Rattle.xl_model.specs.declared.script.Item.{Item}
+use Rattle.xl_model.specs.Items.{run}
+use Rattle.xl_model_laws.proofs.LeafLemmas.{filled-leaves, changed-table}
+use Rattle.xl_model_laws.proofs.RunLemmas.{Keeps, run-keeps}
+use Rattle.xl_model.specs.declared.event.Event.TheVariants as event
+
+-- a fact of shapes that each change keeps, and each refused attempt
+pub record ShapeKeeps (P : Shape → Type 0) : Type 0 where
+  pub made : (c : Change) (leaves : List Leaf) (shape : Shape) → P shape → P (shape_after c leaves shape)
+  pub refused : (leaf : Option Leaf) (shape : Shape) → P shape → P (widened leaf shape)
+
+looked-shape : (answer : Option Answer) (page : ℕ) (s : RowState) → (looked_by answer page s).table.shape ≡ s.table.shape
+unfolding table_walked
+looked-shape (Some answer) page s = refl
+looked-shape None page s = ap (λ (t : TableState). t.shape) (filled-leaves (leaf_at_page s.space page s.table.leaves) _)
+
+pub accessed-shape : (row : Row) (va : ℕ) (k : Kind) (s : RowState) → (accessed row va k s).table.shape ≡ s.table.shape
+unfolding accessed looked
+accessed-shape row va k s = go (is_canonical row.mode va)
+  where
+    go : (b : Bool) → (looked_where b (page_of row.mode va) s).table.shape ≡ s.table.shape
+    go true = looked-shape (answer_of s.arrays s.space (page_of row.mode va)) (page_of row.mode va) s
+    go false = refl
+
+table-shape : (P : Shape → Type 0) → ShapeKeeps P → (c : Change) (t : TableState) (v : Verdict) → P t.shape → P (after_by v c t).shape
+unfolding table_made
+table-shape P keeps c t Made h = keeps.made c t.leaves t.shape h
+table-shape P keeps c t NoSpace h = h
+table-shape P keeps c t NoPlace h = keeps.refused (brought c t.leaves) t.shape h
+
+changed-shape : (P : Shape → Type 0) → ShapeKeeps P → (row : Row) (c : Option Change) (s : RowState) → P s.table.shape → P (changed_where c row s).table.shape
+unfolding table_after
+changed-shape P keeps row None s h = h
+changed-shape P keeps row (Some c) s h =
+    let Q : TableState → Type 0 = λ t. P t.shape in
+    subst Q (sym (changed-table (table_answer c s.table) row c s)) (table-shape P keeps c s.table (verdict c s.table) h)
+
+served-shape : (P : Shape → Type 0) → ShapeKeeps P → (row : Row) (e : Event) (s : RowState) → P s.table.shape → P (served row e s).table.shape
+unfolding served fenced table_fenced
+served-shape P keeps row (event.Access va k) s h = subst P (sym (accessed-shape row va k s)) h
+served-shape P keeps row (event.Map space va o perm) s h = changed-shape P keeps row (change_of row s.table.leaves (event.Map space va o perm)) s h
+served-shape P keeps row (event.Unmap space va o) s h = changed-shape P keeps row (change_of row s.table.leaves (event.Unmap space va o)) s h
+served-shape P keeps row (event.Protect space va o perm) s h = changed-shape P keeps row (change_of row s.table.leaves (event.Protect space va o perm)) s h
+served-shape P keeps row (event.Move space from to o) s h = changed-shape P keeps row (change_of row s.table.leaves (event.Move space from to o)) s h
+served-shape P keeps row (event.Space space) s h = h
+served-shape P keeps row (event.Fence to) s h = h
+
+ruled-shape : (P : Shape → Type 0) → ShapeKeeps P → (row : Row) (e : Event) (s : RowState) (q : Option Refusal) → P s.table.shape → P (after_rule q row e s).table.shape
+ruled-shape P keeps row e s (Some r) h = h
+ruled-shape P keeps row e s None h = served-shape P keeps row e s h
+
+pub shape-kept : (P : Shape → Type 0) → ShapeKeeps P → (row : Row) → Keeps row (λ s. P s.table.shape)
+unfolding after_event
+shape-kept P keeps row e s h = ruled-shape P keeps row e s (rule row s.table.leaves e) h
+
+pub run-shape : (P : Shape → Type 0) → ShapeKeeps P → (row : Row) → P (opening_shape (levels_of row.mode) row.spaces row.table) → (items : List Item) → P (run row items).table.shape
+unfolding opening
+run-shape P keeps row first items = run-keeps row (λ s. P s.table.shape) (shape-kept P keeps row) first items

@@ -1,0 +1,229 @@
+-- What each step of a way keeps, every insertion and every change of a cuckoo table keeps in each way, and so every run.
+use Rattle.std.proofs.Common.{◌≡◌, refl, sym, subst, ℕ, zero, suc, Bool, true, false, cond, List, [], ◌∷◌, ◌++◌, Option, None, Some, inl, inr, ◌&&◌, not, ◌≤◌, ◌+◌, min, arith, map, length, slice_set}
+use Rattle.xl_model.specs.declared.address.Order.{Order}
+use Rattle.xl_model.specs.declared.address.Order.TheVariants as order
+use Rattle.xl_model.specs.declared.leaf.Leaf.{Leaf}
+use Rattle.xl_model.specs.declared.row.Table.{Table}
+use Rattle.xl_model.specs.declared.row.Table.TheVariants as table
+use Rattle.xl_model.specs.declared.script.Item.{Item}
+use Rattle.xl_model.specs.declared.way.Entry.{Entry}
+use Rattle.xl_model.specs.declared.way.Moves.{Moves}
+use Rattle.xl_model.specs.Addresses.{levels_of}
+use Rattle.xl_model.specs.Words.{leaf_word}
+use Rattle.xl_model.specs.Changes.{Change, Insert, Remove, Protect, Relocate, old_leaf}
+use Rattle.xl_model.specs.Ways.{WayShape, occupant, swapped, with_word, without_entry, slots_left, advanced, begun, opening_way}
+use Rattle.xl_model.specs.Placing.{way_at, put_in, next_way, start_way, Attempt, Stands, Fails, Displaced, by_occupant, attempt, to_grow, Candidate, growing_now, forced, forced_moves, Placing, Placed, AtCap, after_attempt, with_growth, growths_left, placing, place, no_moves, settled_way, begins, begun_if_full, settled, after_placing, insertion}
+use Rattle.xl_model.specs.Shapes.{CuckooRules, CuckooWays, Shape, Radix, Chained, Cuckoo, Runs, ways_of, with_ways, leaf_entry, brought, placed_leaf, ways_placed, ways_brought, ways_taken, widened, narrowed, shape_after, opening_ways, opening_shape}
+use Rattle.xl_model.specs.Rows.{Row}
+use Rattle.xl_model.specs.Items.{run}
+use Rattle.xl_model_lemmas.proofs.MemberLemmas.{map-In}
+use Rattle.xl_model_laws.specs.Cuckoo.{EachWay, ShapeEach}
+use Rattle.xl_model_laws.proofs.ShapeLemmas.{run-shape}
+
+pub record WayKeeps (P : WayShape → Type 0) : Type 0 where
+  pub opened : (start cap number : ℕ) → P (opening_way start cap number)
+  pub swapped_in : (w : WayShape) (x : Entry) → P w → P (swapped w x)
+  pub advances : (n : ℕ) (w : WayShape) → w.regs.growing ≡ true → n ≤ slots_left w.regs → P w → P (advanced n w)
+  pub begins : (w : WayShape) → w.regs.growing ≡ false → P w → P (begun w)
+  pub reworded : (key word : ℕ) (w : WayShape) → P w → P (with_word key word w)
+  pub drops : (key : ℕ) (w : WayShape) → P w → P (without_entry key w)
+
+is-growing : (w : WayShape) → (growing_now w).regs.growing ≡ true
+unfolding begun
+is-growing w = go w.regs.growing refl
+  where
+    go : (b : Bool) → w.regs.growing ≡ b → (cond b w (begun w)).regs.growing ≡ true
+    go true t = t
+    go false t = refl
+
+module _ (P : WayShape → Type 0) (keeps : WayKeeps P) where
+  get-kept : (ways : List WayShape) (at : ℕ) → EachWay P ways → P (way_at ways at)
+  get-kept [] at h = keeps.opened 0 0 0
+  get-kept (w ∷ ways) zero h = h w (inl refl)
+  get-kept (w ∷ ways) (suc at) h = get-kept ways at (λ v i. h v (inr i))
+
+  set-kept : (ways : List WayShape) (at : ℕ) (v : WayShape) → EachWay P ways → P v → EachWay P (slice_set ways at v)
+  set-kept [] at v h a = h
+  set-kept (w ∷ ways) zero v h a = λ u i. elim i [
+    | inl e ↦ subst P (sym e) a
+    | inr j ↦ h u (inr j)
+  ]
+  set-kept (w ∷ ways) (suc at) v h a = λ u i. elim i [
+    | inl e ↦ h u (inl e)
+    | inr j ↦ set-kept ways at v (λ z k. h z (inr k)) a u j
+  ]
+
+  pub mapped-kept : (f : WayShape → WayShape) (ways : List WayShape) → ((w : WayShape) → P w → P (f w)) → EachWay P ways → EachWay P (map f ways)
+  mapped-kept f ways keeps h v i =
+      let found = map-In f v ways i in
+      subst P (sym found.2) (keeps found.0 (h found.0 found.1))
+
+  abbrev pub AttemptKeeps : Attempt → Type 0
+  AttemptKeeps (Stands ways moved) = EachWay P ways
+  AttemptKeeps Fails = Unit {0}
+
+  attempt-kept : (left : ℕ) (ways : List WayShape) (at : ℕ) (hand : Entry) (moved : List Displaced) → EachWay P ways → AttemptKeeps (attempt left ways at hand moved)
+  unfolding attempt
+  attempt-kept zero ways at hand moved h = go (occupant (way_at ways at) hand.key)
+    where
+      go : (o : Option Entry) → AttemptKeeps (by_occupant o (Stands (put_in ways at hand) moved) (λ e. Fails))
+      go None = set-kept ways at (swapped (way_at ways at) hand) h (keeps.swapped_in (way_at ways at) hand (get-kept ways at h))
+      go (Some e) = tt
+  attempt-kept (suc left) ways at hand moved h =
+      go (occupant (way_at ways at) hand.key)
+      (λ e. attempt-kept left (put_in ways at hand) (next_way (length ways) at) e (moved ++ record { key = e.key; way = next_way (length ways) at } ∷ [])
+      (set-kept ways at (swapped (way_at ways at) hand) h (keeps.swapped_in (way_at ways at) hand (get-kept ways at h))))
+    where
+      go : (o : Option Entry)
+          → ((e : Entry) → AttemptKeeps (attempt left (put_in ways at hand) (next_way (length ways) at) e (moved ++ record { key = e.key; way = next_way (length ways) at } ∷ [])))
+          → AttemptKeeps (by_occupant o (Stands (put_in ways at hand) moved)
+          (λ e. attempt left (put_in ways at hand) (next_way (length ways) at) e (moved ++ record { key = e.key; way = next_way (length ways) at } ∷ [])))
+      go None next = set-kept ways at (swapped (way_at ways at) hand) h (keeps.swapped_in (way_at ways at) hand (get-kept ways at h))
+      go (Some e) next = next e
+
+  growing-now-kept : (w : WayShape) → P w → P (growing_now w)
+  growing-now-kept w h = go w.regs.growing refl
+    where
+      go : (b : Bool) → w.regs.growing ≡ b → P (cond b w (begun w))
+      go true t = h
+      go false t = keeps.begins w t h
+
+  forced-kept : (w : WayShape) → P w → P (forced w)
+  unfolding forced
+  forced-kept w h = keeps.advances (slots_left (growing_now w).regs) (growing_now w) (is-growing w) (omega arith) (growing-now-kept w h)
+
+  abbrev pub PlacingKeeps : Placing → Type 0
+  PlacingKeeps (Placed ways moved m) = EachWay P ways
+  PlacingKeeps (AtCap ways m) = EachWay P ways
+
+  after-kept : (a : Attempt) (limit : ℕ) (m : Moves) (failed : Moves → Placing) → AttemptKeeps a → ((n : Moves) → PlacingKeeps (failed n)) → PlacingKeeps (after_attempt a limit m failed)
+  after-kept (Stands ways moved) limit m failed h next = h
+  after-kept Fails limit m failed h next = next _
+
+  placing-kept : (room limit : ℕ) (ways : List WayShape) (x : Entry) (m : Moves) → EachWay P ways → PlacingKeeps (placing room limit ways x m)
+  unfolding placing
+  placing-kept zero limit ways x m h =
+      after-kept (attempt limit ways (start_way (length ways) x.key) x []) limit m (λ n. AtCap ways n)
+      (attempt-kept limit ways (start_way (length ways) x.key) x [] h) (λ n. h)
+  placing-kept (suc room) limit ways x m h =
+      after-kept (attempt limit ways (start_way (length ways) x.key) x []) limit m
+      (λ n. with_growth (to_grow 0 ways) (AtCap ways n) (λ i. placing room limit (slice_set ways i (forced (way_at ways i))) x (forced_moves (way_at ways i) n)))
+      (attempt-kept limit ways (start_way (length ways) x.key) x [] h)
+      (λ n. grown (to_grow 0 ways) n
+      (λ i. placing-kept room limit (slice_set ways i (forced (way_at ways i))) x (forced_moves (way_at ways i) n)
+      (set-kept ways i (forced (way_at ways i)) h (forced-kept (way_at ways i) (get-kept ways i h)))))
+    where
+      grown : (c : Option Candidate) (n : Moves) → ((i : ℕ) → PlacingKeeps (placing room limit (slice_set ways i (forced (way_at ways i))) x (forced_moves (way_at ways i) n)))
+          → PlacingKeeps (with_growth c (AtCap ways n) (λ i. placing room limit (slice_set ways i (forced (way_at ways i))) x (forced_moves (way_at ways i) n)))
+      grown None n next = h
+      grown (Some c) n next = next c.way
+
+  settled-way-kept : (most : ℕ) (w : WayShape) → P w → P (settled_way most w)
+  settled-way-kept most w h = go w.regs.growing refl
+    where
+      go : (b : Bool) → w.regs.growing ≡ b → P (cond b (advanced (min most (slots_left w.regs)) w) w)
+      go true t = keeps.advances (min most (slots_left w.regs)) w t (omega arith) h
+      go false t = h
+
+  begun-if-kept : (threshold : ℕ) (w : WayShape) → P w → P (begun_if_full threshold w)
+  begun-if-kept threshold w h = go (begins threshold w) refl
+    where
+      still : (a b : Bool) → (not a && b) ≡ true → a ≡ false
+      still true b t = absurd (cc)
+      still false b t = refl
+
+      go : (b : Bool) → begins threshold w ≡ b → P (cond b (begun w) w)
+      go true t = keeps.begins w (still w.regs.growing _ t) h
+      go false t = h
+
+  after-placing-kept : (most threshold : ℕ) (p : Placing) → PlacingKeeps p → PlacingKeeps (after_placing most threshold p)
+  unfolding settled
+  after-placing-kept most threshold (Placed ways moved m) h =
+      mapped-kept (begun_if_full threshold) (map (settled_way most) ways) (begun-if-kept threshold)
+      (mapped-kept (settled_way most) ways (settled-way-kept most) h)
+  after-placing-kept most threshold (AtCap ways m) h = h
+
+  pub insertion-kept : (limit most threshold : ℕ) (ways : List WayShape) (x : Entry) → EachWay P ways → PlacingKeeps (insertion limit most threshold ways x)
+  unfolding insertion place
+  insertion-kept limit most threshold ways x h =
+      after-placing-kept most threshold (placing (growths_left ways) limit ways x no_moves) (placing-kept (growths_left ways) limit ways x no_moves h)
+
+  abbrev EachOrder : CuckooWays → Type 0
+  EachOrder ws = EachWay P ws.k4 × (EachWay P ws.m2 × EachWay P ws.g1)
+
+  of-order : (o : Order) (ws : CuckooWays) → EachOrder ws → EachWay P (ways_of o ws)
+  of-order order.K4 ws (a, (b, c)) = a
+  of-order order.M2 ws (a, (b, c)) = b
+  of-order order.G1 ws (a, (b, c)) = c
+
+  with-order : (o : Order) (ways : List WayShape) (ws : CuckooWays) → EachOrder ws → EachWay P ways → EachOrder (with_ways o ways ws)
+  with-order order.K4 ways ws (a, (b, c)) h = (h, (b, c))
+  with-order order.M2 ways ws (a, (b, c)) h = (a, (h, c))
+  with-order order.G1 ways ws (a, (b, c)) h = (a, (b, h))
+
+  placed-kept : (p : Placing) → PlacingKeeps p → EachWay P (ways_placed p)
+  placed-kept (Placed ways moved m) h = h
+  placed-kept (AtCap ways m) h = h
+
+  brought-kept : (rules : CuckooRules) (leaf : Option Leaf) (ws : CuckooWays) → EachOrder ws → EachOrder (ways_brought rules leaf ws)
+  brought-kept rules None ws h = h
+  brought-kept rules (Some leaf) ws h =
+      with-order leaf.order (ways_placed (placed_leaf rules ws leaf)) ws h
+      (placed-kept (placed_leaf rules ws leaf)
+      (insertion-kept rules.kick_limit rules.migrate rules.threshold (ways_of leaf.order ws) (leaf_entry leaf) (of-order leaf.order ws h)))
+
+  all-without : (key : ℕ) (ways : List WayShape) → EachWay P ways → EachWay P (map (without_entry key) ways)
+  all-without key ways h = mapped-kept (without_entry key) ways (keeps.drops key) h
+
+  all-reworded : (key word : ℕ) (ways : List WayShape) → EachWay P ways → EachWay P (map (with_word key word) ways)
+  all-reworded key word ways h = mapped-kept (with_word key word) ways (keeps.reworded key word) h
+
+  taken-kept : (c : Change) (old : Option Leaf) (ws : CuckooWays) → EachOrder ws → EachOrder (ways_taken c old ws)
+  taken-kept (Insert leaf) old ws h = h
+  taken-kept (Remove space first o) None ws h = h
+  taken-kept (Protect space first o perm) None ws h = h
+  taken-kept (Relocate space first to o) None ws h = h
+  taken-kept (Remove space first o) (Some leaf) ws h =
+      with-order leaf.order (map (without_entry (leaf_entry leaf).key) (ways_of leaf.order ws)) ws h (all-without (leaf_entry leaf).key (ways_of leaf.order ws) (of-order leaf.order ws h))
+  taken-kept (Protect space first o perm) (Some leaf) ws h =
+      with-order leaf.order (map (with_word (leaf_entry leaf).key (leaf_word leaf.frame perm)) (ways_of leaf.order ws)) ws h
+      (all-reworded (leaf_entry leaf).key (leaf_word leaf.frame perm) (ways_of leaf.order ws) (of-order leaf.order ws h))
+  taken-kept (Relocate space first to o) (Some leaf) ws h =
+      with-order leaf.order (map (without_entry (leaf_entry leaf).key) (ways_of leaf.order ws)) ws h (all-without (leaf_entry leaf).key (ways_of leaf.order ws) (of-order leaf.order ws h))
+
+  widened-kept : (leaf : Option Leaf) (shape : Shape) → ShapeEach P shape → ShapeEach P (widened leaf shape)
+  widened-kept None shape h = h
+  widened-kept (Some leaf) (Radix levels spaces nodes) h = tt
+  widened-kept (Some leaf) (Chained group buckets entries tags) h = tt
+  widened-kept (Some leaf) (Cuckoo rules ways) h = brought-kept rules (Some leaf) ways h
+  widened-kept (Some leaf) (Runs ranges) h = tt
+
+  narrowed-kept : (c : Change) (leaves : List Leaf) (shape : Shape) → ShapeEach P shape → ShapeEach P (narrowed c leaves shape)
+  narrowed-kept c leaves (Radix levels spaces nodes) h = tt
+  narrowed-kept c leaves (Chained group buckets entries tags) h = tt
+  narrowed-kept c leaves (Cuckoo rules ways) h = taken-kept c (old_leaf c leaves) ways h
+  narrowed-kept c leaves (Runs ranges) h = tt
+
+  made-kept : (c : Change) (leaves : List Leaf) (shape : Shape) → ShapeEach P shape → ShapeEach P (shape_after c leaves shape)
+  unfolding shape_after
+  made-kept c leaves shape h = narrowed-kept c leaves (widened (brought c leaves) shape) (widened-kept (brought c leaves) shape h)
+
+  opening-all : (start cap number count : ℕ) → EachWay P (opening_ways start cap number count)
+  opening-all start cap number zero = λ w i. absurd i
+  opening-all start cap number (suc n) = λ w i. elim i [
+    | inl e ↦ subst P (sym e) (keeps.opened start cap number)
+    | inr j ↦ opening-all start cap (number + 1) n w j
+  ]
+
+  opening-shape-kept : (levels spaces : ℕ) (t : Table) → ShapeEach P (opening_shape levels spaces t)
+  unfolding opening_shape
+  opening-shape-kept levels spaces (table.Radix frames caches) = tt
+  opening-shape-kept levels spaces (table.Hashed buckets entries) = tt
+  opening-shape-kept levels spaces (table.Clustered buckets blocks) = tt
+  opening-shape-kept levels spaces (table.Cuckoo ways start cap threshold kick_limit migrate sections_2m sections_1g caches) =
+      (opening-all start cap 0 ways, (opening-all start cap 0 ways, opening-all start cap 0 ways))
+  opening-shape-kept levels spaces (table.Range ranges tlb) = tt
+
+  pub run-each : (row : Row) (items : List Item) → ShapeEach P (run row items).table.shape
+  run-each row items =
+      run-shape (ShapeEach P) (record { made = made-kept; refused = widened-kept }) row (opening-shape-kept (levels_of row.mode) row.spaces row.table) items

@@ -1,0 +1,193 @@
+-- Two keys of one way never have one slot, and a refused insertion keeps every key and word.
+use Rattle.std.proofs.Common.{◌≡◌, refl, sym, ap, ◌∙◌, subst, ℕ, zero, suc, Bool, true, false, cond, List, [], Option, None, Some, ◌≤◌, ◌+◌, ◌==◌, arith, map, length, slice_set, ◌<◌, ◌-◌, ◌^◌}
+use Rattle.std.specs.Prelude.{find}
+use Rattle.std.proofs.lemmas.Bool.Decides.{nat_tests}
+use Rattle.std.proofs.lemmas.Nat.{pow_pos}
+use Rattle.std.proofs.Math.Seq.{map-set_same}
+use Rattle.std.proofs.lemmas.Bool.{eq-eqb}
+use Rattle.xl_model.specs.declared.way.Entry.{Entry}
+use Rattle.xl_model.specs.declared.way.Moves.{Moves}
+use Rattle.xl_model.specs.declared.way.WayRegs.{WayRegs}
+use Rattle.xl_model.specs.Hashes.{way_hash}
+use Rattle.xl_model.specs.Ways.{WayShape, slot_at, slot, occupant, with_entry, without_occupant, swapped, with_word, reworded, without_entry, slots_left, begun_regs, regs_after, advanced, begun, opening_way}
+use Rattle.xl_model.specs.Base.{one_if}
+use Rattle.xl_model.specs.Placing.{way_at, start_way, Attempt, Stands, Fails, attempt, to_grow, Candidate, forced, forced_moves, Placing, Placed, AtCap, after_attempt, with_growth, growths_left, placing, place, no_moves, after_placing, insertion}
+use Rattle.xl_model_lemmas.proofs.MemberLemmas.{find-passes}
+use Rattle.xl_model_laws.specs.Cuckoo.{stands_at, SlotsApart, KeysHaveTheirSlots, IsPointer, HasPointer, ThePointerIsBelowTheSlots, ARefusalKeepsEveryWord, MigratingMovesNoEntry}
+use Rattle.xl_model_lemmas.specs.Sections.{entries_of, tally}
+use Rattle.xl_model_lemmas.proofs.PlacingLemmas.{forced-entries}
+use Rattle.xl_model_laws.proofs.SlotLemmas.{before_slot, slot-back, begun-slot}
+use Rattle.xl_model_lemmas.proofs.WayTallyLemmas.{tally-le, tally-same, tally-with_entry, tally-without_key, tally-out, tally-none, tally-reworded}
+use Rattle.xl_model_laws.proofs.WayKeepLemmas.{WayKeeps, run-each}
+
+-- keys of one slot
+same-slot : (r : WayRegs) (number : ℕ) (x y : Entry) → x.key ≡ y.key → slot r number x.key ≡ slot r number y.key
+same-slot r number x y e = ap (slot r number) e
+
+same-test : (r : WayRegs) (number at : ℕ) (x y : Entry) → x.key ≡ y.key → stands_at r number at x ≡ stands_at r number at y
+same-test r number at x y e = let k : slot r number x.key ≡ slot r number y.key = same-slot r number x y e in rw k refl
+
+-- what is left of a list whose occupant of the new key's slot is out
+left-at : (r : WayRegs) (number : ℕ) (x : Entry) (xs : List Entry) (o : Option Entry)
+    → find (λ (e : Entry). slot r number e.key == slot r number x.key) xs ≡ o
+    → tally (λ (e : Entry). slot r number e.key == slot r number x.key) xs ≤ 1
+    → tally (λ (e : Entry). slot r number e.key == slot r number x.key) (without_occupant o xs) ≡ 0
+left-at r number x xs None found few = tally-none (λ (e : Entry). slot r number e.key == slot r number x.key) xs found
+left-at r number x xs (Some e) found few =
+    let out = tally-out (λ (e : Entry). slot r number e.key == slot r number x.key) e xs found
+    (λ y k. let a : slot r number y.key ≡ slot r number e.key = same-slot r number y e k in
+    let b : (slot r number e.key == slot r number x.key) ≡ true = find-passes (λ (e : Entry). slot r number e.key == slot r number x.key) e xs found in
+    rw a b) in
+    omega arith
+
+out-le : (p : Entry → Bool) (o : Option Entry) (xs : List Entry) → tally p (without_occupant o xs) ≤ tally p xs
+out-le p None xs = omega arith
+out-le p (Some e) xs = tally-without_key p e.key xs
+
+pub swapped-apart : (w : WayShape) (x : Entry) → SlotsApart w → SlotsApart (swapped w x)
+unfolding swapped occupant
+swapped-apart w x h at =
+    let out : List Entry = without_occupant (find (λ (e : Entry). slot w.regs w.number e.key == slot w.regs w.number x.key) w.entries) w.entries in
+    let sum : tally (stands_at w.regs w.number at) (with_entry x out) ≡ one_if (stands_at w.regs w.number at x) + tally (stands_at w.regs w.number at) out =
+    tally-with_entry (stands_at w.regs w.number at) x out in
+    rw sum (elim (slot w.regs w.number x.key == at) as (λ b. (slot w.regs w.number x.key == at) ≡ b → one_if b + tally (stands_at w.regs w.number at) out ≤ 1) [
+      | true ↦ λ t.
+          let e : slot w.regs w.number x.key ≡ at = grind (arith, nat_tests) in
+          let P : ℕ → Type 0 = λ i. tally (stands_at w.regs w.number i) out ≡ 0 in
+          let none : tally (stands_at w.regs w.number at) out ≡ 0 =
+          subst P e (left-at w.regs w.number x w.entries (find (λ (e : Entry). slot w.regs w.number e.key == slot w.regs w.number x.key) w.entries) refl (h (slot w.regs w.number x.key))) in
+          omega arith
+      | false ↦ λ t.
+          let a : tally (stands_at w.regs w.number at) out ≤ tally (stands_at w.regs w.number at) w.entries = out-le (stands_at w.regs w.number at) _ w.entries in
+          let b : tally (stands_at w.regs w.number at) w.entries ≤ 1 = h at in
+          omega arith
+    ] refl)
+
+pub advanced-apart : (n : ℕ) (w : WayShape) → w.regs.growing ≡ true → SlotsApart w → SlotsApart (advanced n w)
+unfolding advanced slot
+advanced-apart n w growing h at =
+    let a : tally (stands_at (regs_after n w.regs) w.number at) w.entries ≤ tally (stands_at w.regs w.number (before_slot w.regs at)) w.entries =
+    tally-le (stands_at (regs_after n w.regs) w.number at) (stands_at w.regs w.number (before_slot w.regs at)) w.entries
+    (λ x t.
+    let e : slot_at (regs_after n w.regs) (way_hash w.number x.key) ≡ at = grind (arith, nat_tests) in
+    let f : slot_at w.regs (way_hash w.number x.key) ≡ before_slot w.regs at = slot-back w.regs n (way_hash w.number x.key) at growing e in
+    rw f (eq-eqb (before_slot w.regs at) (before_slot w.regs at) refl)) in
+    let b : tally (stands_at w.regs w.number (before_slot w.regs at)) w.entries ≤ 1 = h (before_slot w.regs at) in
+    omega arith
+
+pub begun-apart : (w : WayShape) → w.regs.growing ≡ false → SlotsApart w → SlotsApart (begun w)
+unfolding begun slot
+begun-apart w still h at =
+    let a : tally (stands_at (begun_regs w.regs) w.number at) w.entries ≡ tally (stands_at w.regs w.number at) w.entries =
+    tally-same (stands_at (begun_regs w.regs) w.number at) (stands_at w.regs w.number at) w.entries
+    (λ x. let e : slot_at (begun_regs w.regs) (way_hash w.number x.key) ≡ slot_at w.regs (way_hash w.number x.key) = begun-slot w.regs (way_hash w.number x.key) still in rw e refl) in
+    let b : tally (stands_at w.regs w.number at) w.entries ≤ 1 = h at in
+    omega arith
+
+pub opening-apart : (s cap number : ℕ) → SlotsApart (opening_way s cap number)
+unfolding opening_way
+opening-apart s cap number at = omega arith
+
+pub reworded-apart : (key word : ℕ) (w : WayShape) → SlotsApart w → SlotsApart (with_word key word w)
+unfolding with_word
+reworded-apart key word w h at =
+    let a : tally (stands_at w.regs w.number at) (map (reworded key word) w.entries) ≡ tally (stands_at w.regs w.number at) w.entries =
+    tally-reworded (stands_at w.regs w.number at) key word w.entries (λ x y e. same-test w.regs w.number at x y e) in
+    let b : tally (stands_at w.regs w.number at) w.entries ≤ 1 = h at in
+    omega arith
+
+pub without-apart : (key : ℕ) (w : WayShape) → SlotsApart w → SlotsApart (without_entry key w)
+unfolding without_entry
+without-apart key w h at =
+    let a = tally-without_key (stands_at w.regs w.number at) key w.entries in
+    let b : tally (stands_at w.regs w.number at) w.entries ≤ 1 = h at in
+    omega arith
+
+-- the steps of a way keep its slots apart
+slots-keep : WayKeeps SlotsApart
+slots-keep = record {
+  opened = opening-apart;
+  swapped_in = swapped-apart;
+  advances = λ n w growing few h. advanced-apart n w growing h;
+  begins = begun-apart;
+  reworded = reworded-apart;
+  drops = without-apart;
+}
+
+pub keys_have_their_slots : KeysHaveTheirSlots
+keys_have_their_slots row items = run-each SlotsApart slots-keep row items
+
+-- and its pointer below its slots
+pointer-after : (n : ℕ) (r : WayRegs) → r.growing ≡ true → n ≤ slots_left r → IsPointer r → IsPointer (regs_after n r)
+pointer-after n r growing few h =
+    let below : r.p < 2 ^ r.s = h.below in
+    elim (n == slots_left r) as (λ b. (n == slots_left r) ≡ b → IsPointer (cond b (record { s = r.s + 1; p = 0; growing = false }) (record r { p = r.p + n }))) [
+      | true ↦ λ t. record { below = pow_pos (r.s + 1); still = λ e. refl }
+      | false ↦ λ t. record { below = room n r.p (2 ^ r.s) below few t; still = λ e. let k : true ≡ false = sym growing ∙ e in absurd (cc) }
+    ] refl
+  where
+    room : (n p m : ℕ) → p < m → n ≤ m - p → (n == m - p) ≡ false → p + n < m
+    room n p m a b c = grind (arith, nat_tests)
+
+pointer-keeps : WayKeeps HasPointer
+unfolding opening_way swapped advanced begun with_word without_entry
+pointer-keeps = record {
+  opened = λ start cap number. record { below = pow_pos start; still = λ e. refl };
+  swapped_in = λ w x h. h;
+  advances = λ n w growing few h. pointer-after n w.regs growing few h;
+  begins = λ w still h. record { below = pow_pos w.regs.s; still = λ e. refl };
+  reworded = λ key word w h. h;
+  drops = λ key w h. h;
+}
+
+pub the_pointer_is_below_the_slots : ThePointerIsBelowTheSlots
+the_pointer_is_below_the_slots row items = run-each HasPointer pointer-keeps row items
+
+-- a refusal keeps every key and word
+AsBefore : List WayShape → Placing → Type 0
+AsBefore ways (Placed after moved m) = Unit {0}
+AsBefore ways (AtCap after m) = map entries_of after ≡ map entries_of ways
+
+after-before : (ways : List WayShape) (a : Attempt) (limit : ℕ) (m : Moves) (failed : Moves → Placing) → ((n : Moves) → AsBefore ways (failed n)) → AsBefore ways (after_attempt a limit m failed)
+unfolding AsBefore
+after-before ways (Stands after moved) limit m failed next = tt
+after-before ways Fails limit m failed next = next _
+
+set-entries : (ways : List WayShape) (i : ℕ) → map entries_of (slice_set ways i (forced (way_at ways i))) ≡ map entries_of ways
+set-entries ways i = map-set_same entries_of ways i (forced (way_at ways i)) (opening_way 0 0 0) (forced-entries (way_at ways i))
+
+before-through : (ways grown : List WayShape) (p : Placing) → map entries_of grown ≡ map entries_of ways → AsBefore grown p → AsBefore ways p
+unfolding AsBefore
+before-through ways grown (Placed after moved m) e h = tt
+before-through ways grown (AtCap after m) e h = h ∙ e
+
+placing-before : (room limit : ℕ) (ways : List WayShape) (x : Entry) (m : Moves) → AsBefore ways (placing room limit ways x m)
+unfolding placing AsBefore
+placing-before zero limit ways x m =
+    after-before ways (attempt limit ways (start_way (length ways) x.key) x []) limit m (λ n. AtCap ways n) (λ n. refl)
+placing-before (suc room) limit ways x m =
+    after-before ways (attempt limit ways (start_way (length ways) x.key) x []) limit m
+    (λ n. with_growth (to_grow 0 ways) (AtCap ways n) (λ i. placing room limit (slice_set ways i (forced (way_at ways i))) x (forced_moves (way_at ways i) n)))
+    (λ n. grown (to_grow 0 ways) n
+    (λ i. before-through ways (slice_set ways i (forced (way_at ways i))) (placing room limit (slice_set ways i (forced (way_at ways i))) x (forced_moves (way_at ways i) n))
+    (set-entries ways i)
+    (placing-before room limit (slice_set ways i (forced (way_at ways i))) x (forced_moves (way_at ways i) n))))
+  where
+    grown : (c : Option Candidate) (n : Moves) → ((i : ℕ) → AsBefore ways (placing room limit (slice_set ways i (forced (way_at ways i))) x (forced_moves (way_at ways i) n)))
+        → AsBefore ways (with_growth c (AtCap ways n) (λ i. placing room limit (slice_set ways i (forced (way_at ways i))) x (forced_moves (way_at ways i) n)))
+    grown None n next = refl
+    grown (Some c) n next = next c.way
+
+refused-before : (most threshold : ℕ) (ways after : List WayShape) (p : Placing) (m : Moves) → AsBefore ways p → after_placing most threshold p ≡ AtCap after m → map entries_of after ≡ map entries_of ways
+unfolding AsBefore
+refused-before most threshold ways after (Placed w moved n) m h e = absurd (cc)
+refused-before most threshold ways after (AtCap w n) m h e = let same : w ≡ after = cc in let P : List WayShape → Type 0 = λ z. map entries_of z ≡ map entries_of ways in subst P same h
+
+pub a_refusal_keeps_every_word : ARefusalKeepsEveryWord
+unfolding insertion place
+a_refusal_keeps_every_word limit most threshold ways after x m e =
+    refused-before most threshold ways after (placing (growths_left ways) limit ways x no_moves) m (placing-before (growths_left ways) limit ways x no_moves) e
+
+pub migrating_moves_no_entry : MigratingMovesNoEntry
+unfolding advanced
+migrating_moves_no_entry n w = refl

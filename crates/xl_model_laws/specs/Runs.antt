@@ -1,0 +1,35 @@
+-- What holds after every list of items, from the opening state: demand is in it.
+use Rattle.std.specs.Prelude.{ℕ, ◌≡◌, List}
+use Rattle.xl_model.specs.declared.address.Kind.{Kind}
+use Rattle.xl_model.specs.declared.address.Order.{Order}
+use Rattle.xl_model.specs.declared.leaf.Leaf.{Leaf}
+use Rattle.xl_model.specs.Addresses.{pages_of}
+use Rattle.xl_model.specs.Mapping.{flat}
+use Rattle.xl_model.specs.Frames.{lowest}
+use Rattle.xl_model.specs.Rows.{Row}
+use Rattle.xl_model.specs.RowRun.{RowState, outcome_of}
+use Rattle.xl_model.specs.declared.script.Item.{Item}
+use Rattle.xl_model.specs.Items.{run}
+use Rattle.xl_model_lemmas.specs.Mappings.{IsMapping}
+use Rattle.xl_model_lemmas.specs.Lowest.{IsAnswer}
+use Rattle.xl_model.specs.declared.event.Event.TheVariants as event
+use Rattle.xl_model.specs.declared.event.Outcome.TheVariants as outcome
+
+-- The leaves are a mapping: valid for the row and sorted, no two of a space on one page, no two in
+-- one frame.
+abbrev pub TheLeavesAreAMapping : Type 0
+TheLeavesAreAMapping = (row : Row) (items : List Item) → IsMapping row (run row items).table.leaves
+
+-- An access's reply is that of the flat mapping, whatever the shape, the caches and the arrays
+-- hold.
+abbrev pub AReplyIsByTheMapping : Type 0
+AReplyIsByTheMapping =
+    (row : Row) (s : RowState) (va : ℕ) (k : Kind)
+    → outcome_of row (event.Access va k) s ≡ outcome.Replied (flat s.table.leaves row.mode s.space va k)
+
+-- The lowest free block is the least multiple of the size whose block lies among the frames and is
+-- free; there is none exactly where no such block is free.
+abbrev pub TheLowestIsTheLeast : Type 0
+TheLowestIsTheLeast =
+    (frames : ℕ) (o : Order) (leaves : List Leaf)
+    → IsAnswer frames (pages_of o) leaves (lowest frames o leaves)

@@ -1,0 +1,147 @@
+//! Laws of the definitions: what holds of every run of a row, and that the definitions are the
+//! sentences that they stand for. No function here does anything: each is there for its clause.
+#![tactic(auto)]
+
+ghost use Rattle.xl_model_laws.specs.Fresh.{NothingIsStale};
+ghost use Rattle.xl_model_laws.specs.Refusals.{ARefusalLeavesNothing};
+ghost use Rattle.xl_model_laws.specs.Cuckoo.{KeysHaveTheirSlots, ThePointerIsBelowTheSlots, ARefusalKeepsEveryWord, MigratingMovesNoEntry};
+ghost use Rattle.xl_model_laws.specs.Sentences.{TheRangesAreMaximalRuns, ANodeTakesTheLowestNumber};
+ghost use Rattle.xl_model_laws.specs.Scenes.{ItemsMayBeServedInParts, TheToldTextOnlyGrows, WhatIsToldFirstStandsFirst, TellingChangesNoRow, EachRowRunsByItself, TheTextIsTheReport, AFaultEndsTheText, ItemsMayStandBeforeInParts};
+ghost use Rattle.xl_model_laws.specs.Tags.{TheTagsAreTheLeaves};
+ghost use Rattle.xl_model_laws.specs.Nodes.{TheNodesAreTheMappings, RoomIsForAllNodes};
+ghost use Rattle.xl_model_laws.specs.Keys.{EachLeafHasItsKey};
+ghost use Rattle.xl_model_laws.specs.Limits.{EachCallKeepsTheLimits, TheLimitsStay};
+ghost use Rattle.xl_model_laws.specs.Runs.{TheLeavesAreAMapping, AReplyIsByTheMapping, TheLowestIsTheLeast};
+
+/// A command refused for another cause than the cap of the ways leaves nothing but its count,
+/// whatever events follow.
+pub fn a_refusal_leaves_nothing()
+    ensures { ARefusalLeavesNothing }
+{}
+
+/// After every list of items the leaves are a mapping.
+pub fn the_leaves_are_a_mapping()
+    ensures { TheLeavesAreAMapping }
+{}
+
+/// An access is replied to by the mapping alone.
+pub fn a_reply_is_by_the_mapping()
+    ensures { AReplyIsByTheMapping }
+{}
+
+/// The lowest free block is the least one.
+pub fn the_lowest_is_the_least()
+    ensures { TheLowestIsTheLeast }
+{}
+
+/// Two keys of one way never have one slot, after every list of items.
+pub fn keys_have_their_slots()
+    ensures { KeysHaveTheirSlots }
+{}
+
+/// The rehash pointer of each way is below the way's slots, after every list of items.
+pub fn the_pointer_is_below_the_slots()
+    ensures { ThePointerIsBelowTheSlots }
+{}
+
+/// A cuckoo insertion that finds every way at its cap leaves every key and word as before.
+pub fn a_refusal_keeps_every_word()
+    ensures { ARefusalKeepsEveryWord }
+{}
+
+/// Migrating slots moves no entry.
+pub fn migrating_moves_no_entry()
+    ensures { MigratingMovesNoEntry }
+{}
+
+/// After every list of items each leaf of a TLB array is a leaf of the mapping, each cached node
+/// has its number, each cached section the mapping's bits and its leaf's way, and each page of a
+/// cached range is covered as the range says.
+pub fn nothing_is_stale()
+    ensures { NothingIsStale }
+{}
+
+/// The ranges of a list of leaves are its maximal runs.
+pub fn the_ranges_are_maximal_runs()
+    ensures { TheRangesAreMaximalRuns }
+{}
+
+/// A new node takes the lowest number that no node has.
+pub fn a_node_takes_the_lowest_number()
+    ensures { ANodeTakesTheLowestNumber }
+{}
+
+/// Items may be served in two parts, one after the other.
+pub fn items_may_be_served_in_parts()
+    ensures { ItemsMayBeServedInParts }
+{}
+
+/// What was told stays told, and items put their text behind it.
+pub fn the_told_text_only_grows()
+    ensures { TheToldTextOnlyGrows }
+{}
+
+/// What some items tell is the beginning of what they tell with others behind them.
+pub fn what_is_told_first_stands_first()
+    ensures { WhatIsToldFirstStandsFirst }
+{}
+
+/// What is served does not depend on what is told.
+pub fn telling_changes_no_row()
+    ensures { TellingChangesNoRow }
+{}
+
+/// Rows that are served together come to what each comes to alone.
+pub fn each_row_runs_by_itself()
+    ensures { EachRowRunsByItself }
+{}
+
+/// Where no fault ends the input, the text of a run is the report.
+pub fn the_text_is_the_report()
+    ensures { TheTextIsTheReport }
+{}
+
+/// Where a fault ends the input, the text of a run is what was told before it.
+pub fn a_fault_ends_the_text()
+    ensures { AFaultEndsTheText }
+{}
+
+/// Items that stand before a course may be put there in two parts.
+pub fn items_may_stand_before_in_parts()
+    ensures { ItemsMayStandBeforeInParts }
+{}
+
+/// A table takes the same spaces and pages after each change, walk and fence.
+pub fn each_call_keeps_the_limits()
+    ensures { EachCallKeepsTheLimits }
+{}
+
+/// After every list of items a row's table takes the spaces and pages that it took when it was
+/// opened.
+pub fn the_limits_stay()
+    ensures { TheLimitsStay }
+{}
+
+/// After every list of items the tags of a hashed or clustered table are exactly those of its
+/// leaves.
+pub fn the_tags_are_the_leaves()
+    ensures { TheTagsAreTheLeaves }
+{}
+
+/// After every list of items the nodes with numbers are exactly those that the mapping needs, each
+/// with one number.
+pub fn the_nodes_are_the_mappings()
+    ensures { TheNodesAreTheMappings }
+{}
+
+/// A radix table has room for a leaf where the nodes of the mapping with it are at most the table's
+/// frames.
+pub fn room_is_for_all_nodes()
+    ensures { RoomIsForAllNodes }
+{}
+
+/// After every list of items each leaf of a cuckoo row has its key in one way of its order, and no
+/// other key stands there.
+pub fn each_leaf_has_its_key()
+    ensures { EachLeafHasItsKey }
+{}

@@ -1,0 +1,66 @@
+-- Orders and permissions come back from their numbers. For the TLB and the cache of ranges, which keep them in words.
+use Rattle.std.proofs.Common.{◌≡◌, ℕ, zero, suc, ◌+◌, ◌*◌, ◌/◌, ◌%◌, ◌<◌, ◌==◌, Bool, true, false, not, ◌&&◌, ◌||◌, refl, sym, ap, arith}
+use Rattle.std.proofs.lemmas.Bool.Decides.{nat_tests}
+use Rattle.xl_model.specs.declared.address.Order.{Order}
+use Rattle.xl_model.specs.declared.address.Order.TheVariants as order
+use Rattle.xl_model.specs.declared.perm.Perm.{Perm}
+use Rattle.xl_model.specs.Addresses.{level_of}
+use Rattle.xl_model.specs.Words.{bit_if}
+use Rattle.xl_model_lemmas.specs.Codes.{order_at, perm_code, perm_by, perm_at}
+use Rattle.xl_model_lemmas.proofs.PermLemmas.{same-bits}
+
+-- an order and its level
+pub level-at : (n : ℕ) → n < 3 → level_of (order_at n) ≡ n
+level-at zero h = refl
+level-at (suc zero) h = refl
+level-at (suc (suc zero)) h = refl
+level-at (suc (suc (suc n))) h = absurd (omega arith)
+
+pub at-level : (o : Order) → order_at (level_of o) ≡ o
+at-level order.K4 = refl
+at-level order.M2 = refl
+at-level order.G1 = refl
+
+-- the bits of a number with a permission below its frame
+bits : (frame : ℕ) (r w x u : Bool) → let n : ℕ = frame * 16 + (bit_if r 1 + bit_if w 2 + bit_if x 4 + bit_if u 8) in
+    ((n % 2 == 1) ≡ r) × ((n / 2 % 2 == 1) ≡ w) × ((n / 4 % 2 == 1) ≡ x) × ((n / 8 % 2 == 1) ≡ u) × (n / 16 ≡ frame)
+bits frame true true true true = (grind (arith, nat_tests), grind (arith, nat_tests), grind (arith, nat_tests), grind (arith, nat_tests), omega arith)
+bits frame true true true false = (grind (arith, nat_tests), grind (arith, nat_tests), grind (arith, nat_tests), grind (arith, nat_tests), omega arith)
+bits frame true true false true = (grind (arith, nat_tests), grind (arith, nat_tests), grind (arith, nat_tests), grind (arith, nat_tests), omega arith)
+bits frame true true false false = (grind (arith, nat_tests), grind (arith, nat_tests), grind (arith, nat_tests), grind (arith, nat_tests), omega arith)
+bits frame true false true true = (grind (arith, nat_tests), grind (arith, nat_tests), grind (arith, nat_tests), grind (arith, nat_tests), omega arith)
+bits frame true false true false = (grind (arith, nat_tests), grind (arith, nat_tests), grind (arith, nat_tests), grind (arith, nat_tests), omega arith)
+bits frame true false false true = (grind (arith, nat_tests), grind (arith, nat_tests), grind (arith, nat_tests), grind (arith, nat_tests), omega arith)
+bits frame true false false false = (grind (arith, nat_tests), grind (arith, nat_tests), grind (arith, nat_tests), grind (arith, nat_tests), omega arith)
+bits frame false true true true = (grind (arith, nat_tests), grind (arith, nat_tests), grind (arith, nat_tests), grind (arith, nat_tests), omega arith)
+bits frame false true true false = (grind (arith, nat_tests), grind (arith, nat_tests), grind (arith, nat_tests), grind (arith, nat_tests), omega arith)
+bits frame false true false true = (grind (arith, nat_tests), grind (arith, nat_tests), grind (arith, nat_tests), grind (arith, nat_tests), omega arith)
+bits frame false true false false = (grind (arith, nat_tests), grind (arith, nat_tests), grind (arith, nat_tests), grind (arith, nat_tests), omega arith)
+bits frame false false true true = (grind (arith, nat_tests), grind (arith, nat_tests), grind (arith, nat_tests), grind (arith, nat_tests), omega arith)
+bits frame false false true false = (grind (arith, nat_tests), grind (arith, nat_tests), grind (arith, nat_tests), grind (arith, nat_tests), omega arith)
+bits frame false false false true = (grind (arith, nat_tests), grind (arith, nat_tests), grind (arith, nat_tests), grind (arith, nat_tests), omega arith)
+bits frame false false false false = (grind (arith, nat_tests), grind (arith, nat_tests), grind (arith, nat_tests), grind (arith, nat_tests), omega arith)
+
+-- legal bits are those of one permission
+by-bits : (q : Perm) (r w x u : Bool) → ((r || x) && (r || not w)) ≡ true → q.r ≡ r → q.w ≡ w → q.x ≡ x → q.u ≡ u → perm_by r w x u ≡ q
+by-bits q true w x u legal a b c d = sym (same-bits q true w x u refl a b c d)
+by-bits q false true true u legal a b c d = cc
+by-bits q false true false u legal a b c d = cc
+by-bits q false false true u legal a b c d = sym (same-bits q false false true u refl a b c d)
+by-bits q false false false u legal a b c d = cc
+
+-- a frame, a permission and an order come back from the numbers that hold them
+pub perm-back : (frame : ℕ) (q : Perm) → perm_at (frame * 16 + perm_code q) ≡ q
+unfolding perm_at perm_code
+perm-back frame q =
+    let b = bits frame q.r q.w q.x q.u in
+    rw (b.0, b.1, b.2, b.3) (by-bits q q.r q.w q.x q.u q.legal refl refl refl refl)
+
+pub frame-back : (frame : ℕ) (q : Perm) → (frame * 16 + perm_code q) / 16 ≡ frame
+unfolding perm_code
+frame-back frame q = (bits frame q.r q.w q.x q.u).4
+
+pub level-back : (pages : ℕ) (o : Order) → (order_at ((pages * 3 + level_of o) % 3) ≡ o) × ((pages * 3 + level_of o) / 3 ≡ pages)
+level-back pages order.K4 = (ap order_at {x = (pages * 3 + 0) % 3} {y = 0} (omega arith), omega arith)
+level-back pages order.M2 = (ap order_at {x = (pages * 3 + 1) % 3} {y = 1} (omega arith), omega arith)
+level-back pages order.G1 = (ap order_at {x = (pages * 3 + 2) % 3} {y = 2} (omega arith), omega arith)

@@ -1,0 +1,49 @@
+-- For the table of ranges: how many ranges are left where a leaf is cut out of one, and where a range is put among them.
+use Rattle.std.proofs.Common.{◌≡◌, refl, ap, ℕ, zero, suc, ◌+◌, ◌≤◌, true, false, cond, List, [], ◌∷◌, length, inl, inr, ◌==◌, nat_lt, arith}
+use Rattle.std.proofs.lemmas.Bool.Decides.{nat_tests}
+use Rattle.xl_model.specs.declared.address.Order.{Order}
+use Rattle.xl_model.specs.declared.leaf.Range.{Range}
+use Rattle.xl_model.specs.Ranges.{range_key}
+use Rattle.xl_model_lemmas.specs.Members.{In}
+use Rattle.xl_model_lemmas.specs.HeldRanges.{touches, grown, glue, join, pages_before, pages_behind, part_behind, before_on, behind_on, pieces, some_if, cut}
+
+pieces-count : (n m : ℕ) (r x : Range) (rs : List Range) → length (before_on n r (behind_on m x rs)) ≡ length rs + (some_if n + some_if m)
+pieces-count zero zero r x rs = omega arith
+pieces-count zero (suc m) r x rs = omega arith
+pieces-count (suc n) zero r x rs = omega arith
+pieces-count (suc n) (suc m) r x rs = omega arith
+
+-- A leaf cut out leaves one range more, the same number, or one less.
+pub cut-count : (first : ℕ) (o : Order) (r : Range) (rs : List Range) → In r rs
+    → suc (length (cut first o r rs)) ≡ length rs + (some_if (pages_before first r) + some_if (pages_behind first o r))
+unfolding cut
+cut-count first o r [] i = absurd i
+cut-count first o r (y ∷ rs) i =
+    elim (range_key y == range_key r) as (λ b. (range_key y == range_key r) ≡ b
+    → suc (length (cond b (pieces first o r rs) (y ∷ cut first o r rs))) ≡ suc (length rs) + (some_if (pages_before first r) + some_if (pages_behind first o r))) [
+      | true ↦ λ t.
+          let a : length (pieces first o r rs) ≡ length rs + (some_if (pages_before first r) + some_if (pages_behind first o r)) =
+          pieces-count (pages_before first r) (pages_behind first o r) r (part_behind first o r) rs in
+          omega arith
+      | false ↦ λ t. elim i [
+        | inl e ↦ (let k : range_key r ≡ range_key y = ap range_key e in absurd (grind (arith, nat_tests)))
+        | inr m ↦ (let a = cut-count first o r rs m in omega arith)
+      ]
+    ] refl
+
+glue-count : (x : Range) (rs : List Range) → length (glue x rs) ≤ suc (length rs)
+glue-count x [] = omega arith
+glue-count x (q ∷ qs) = elim (touches x q) as (λ b. length (cond b (grown x q ∷ qs) (x ∷ q ∷ qs)) ≤ suc (suc (length qs))) [ true ↦ omega arith | false ↦ omega arith ]
+
+-- A range put among them makes one more at most.
+pub join-count : (x : Range) (rs : List Range) → length (join x rs) ≤ suc (length rs)
+unfolding join
+join-count x [] = omega arith
+join-count x (r ∷ rs) =
+    elim (nat_lt (range_key r) (range_key x)) as (λ b. length (cond b (cond (touches r x) (glue (grown r x) rs) (r ∷ join x rs)) (glue x (r ∷ rs))) ≤ suc (suc (length rs))) [
+      | true ↦ elim (touches r x) as (λ b. length (cond b (glue (grown r x) rs) (r ∷ join x rs)) ≤ suc (suc (length rs))) [
+        | true ↦ (let a = glue-count (grown r x) rs in omega arith)
+        | false ↦ (let a = join-count x rs in omega arith)
+      ]
+      | false ↦ glue-count x (r ∷ rs)
+    ]

@@ -1,0 +1,86 @@
+-- For the table of ranges: what is left of a range without a leaf of it are maximal ranges.
+use Rattle.std.proofs.Common.{◌≡◌, refl, sym, ◌∙◌, subst, ℕ, zero, suc, ◌+◌, ◌*◌, ◌<◌, ◌≤◌, List, [], ◌∷◌, arith}
+use Rattle.xl_model.specs.declared.address.Order.{Order}
+use Rattle.xl_model.specs.declared.leaf.Range.{Range}
+use Rattle.xl_model.specs.Addresses.{pages_of}
+use Rattle.xl_model.specs.Ranges.{range_key, end_key}
+use Rattle.xl_model_lemmas.specs.HeldRanges.{touches, Stops, IsRange, IsHeld, pages_before, pages_behind, part_behind, before_on, behind_on, IsLeafIn}
+use Rattle.xl_model_lemmas.proofs.TouchLemmas.{touch, touch-key, not-touching}
+use Rattle.xl_model_lemmas.proofs.JoinLemmas.{lower}
+use Rattle.xl_model_lemmas.proofs.LeafInLemmas.{Sizes, sizes}
+
+pub stops-far : (low : ℕ) (y : Range) (rs : List Range) → end_key y < low → IsHeld low rs → Stops y rs
+stops-far low y [] less h = tt
+stops-far low y (s ∷ ss) less (above, is, stops, rest) = not-touching y s (λ u. let e : end_key y ≡ range_key s = touch-key y s (touch y s u) in omega arith)
+
+behind-touches : (r x s : Range) (end frame : ℕ) → x.space ≡ r.space → x.order ≡ r.order → x.perm ≡ r.perm → x.start + x.pages ≡ r.start + r.pages → x.frame + x.pages ≡ r.frame + r.pages → touches x s ≡ touches r s
+behind-touches r x s end frame a b c d e = rw (a, b, c, d, e) refl
+
+stops-same : (x r : Range) (rs : List Range) → ((s : Range) → touches x s ≡ touches r s) → Stops r rs → Stops x rs
+stops-same x r [] same h = tt
+stops-same x r (s ∷ ss) same h = same s ∙ h
+
+behind-held : (m b low : ℕ) (r x : Range) (rs : List Range) → m ≡ b * pages_of x.order → x.pages ≡ m → (0 < m → IsRange x) → (0 < m → Stops x rs) → low ≤ range_key x → range_key x + m ≡ end_key r → IsHeld (end_key r) rs
+    → IsHeld low (behind_on m x rs)
+behind-held zero b low r x rs h p is stops le ends rest = lower low (end_key r) rs (omega arith) rest
+behind-held (suc m) b low r x rs h p is stops le ends rest =
+    let e : end_key r ≡ end_key x = omega arith in
+    let P : ℕ → Type 0 = λ k. IsHeld k rs in
+    (le, is (omega arith), stops (omega arith), subst P e rest)
+
+before-held : (n a low top : ℕ) (r : Range) (ys : List Range) → n ≡ a * pages_of r.order → IsRange r → n ≤ r.pages → low ≤ range_key r → range_key r + n < top → IsHeld top ys → IsHeld low (before_on n r ys)
+before-held zero a low top r ys h is le above less held = lower low top ys (omega arith) held
+before-held (suc n) zero low top r ys h is le above less held = absurd (omega arith)
+before-held (suc n) (suc a) low top r ys h is le above less held =
+    let y : Range = record r { pages = suc n } in
+    let range : IsRange y = record {
+      leaves = (a, h);
+      space_in = is.space_in;
+      pages_in = (let e = is.pages_in in omega arith);
+      frames_in = (let e = is.frames_in in omega arith);
+      aligned = is.aligned;
+    } in
+    (above, range, stops-far top y ys (omega arith) held, lower (end_key y) top ys (omega arith) held)
+
+behind-range : (space first : ℕ) (o : Order) (r : Range) (i : IsLeafIn space first o r) → IsRange r → 0 < pages_behind first o r → IsRange (part_behind first o r)
+behind-range space first o r i is some = by-count i.behind s.behind_is
+  where
+    s : Sizes first o r i.before i.behind
+    s = sizes space first o r i
+
+    by-count : (b : ℕ) → pages_behind first o r ≡ b * pages_of o → IsRange (part_behind first o r)
+    by-count zero e = absurd (omega arith)
+    by-count (suc b) e =
+        let P : Order → Type 0 = λ q. pages_behind first o r ≡ suc b * pages_of q in
+        let Q : Order → Type 0 = λ q. (e : ℕ) × (first + pages_of o ≡ e * pages_of q) in
+        let R : Order → Type 0 = λ q. r.start ≡ is.aligned.0 * pages_of q in
+        let start : r.start ≡ is.aligned.0 * pages_of o = subst R i.order_same is.aligned.1 in
+        let at : first ≡ r.start + i.before * pages_of o = i.at in
+        let next : first + pages_of o ≡ (is.aligned.0 + i.before + 1) * pages_of o = mult is.aligned.0 i.before (pages_of o) r.start first start at in
+        record {
+          leaves = (b, subst P (sym i.order_same) e);
+          space_in = is.space_in;
+          pages_in = (let u = s.to in let v = is.pages_in in omega arith);
+          frames_in = (let u = s.to in let v = is.frames_in in let w = s.from in omega arith);
+          aligned = subst Q (sym i.order_same) (is.aligned.0 + i.before + 1, next);
+        }
+      where
+        mult : (e a p start first : ℕ) → start ≡ e * p → first ≡ start + a * p → first + p ≡ (e + a + 1) * p
+        mult e a p start first h k = omega arith
+
+pub head-held : (space first : ℕ) (o : Order) (low : ℕ) (r : Range) (rs : List Range) (i : IsLeafIn space first o r) → low ≤ range_key r → IsRange r → Stops r rs → IsHeld (end_key r) rs
+    → IsHeld low (before_on (pages_before first r) r (behind_on (pages_behind first o r) (part_behind first o r) rs))
+head-held space first o low r rs i above is stops rest =
+    let s : Sizes first o r i.before i.behind = sizes space first o r i in
+    let from = s.from in
+    let to = s.to in
+    let some = s.some in
+    let x : Range = part_behind first o r in
+    let P : Order → Type 0 = λ q. pages_before first r ≡ i.before * pages_of q in
+    let Q : Order → Type 0 = λ q. pages_behind first o r ≡ i.behind * pages_of q in
+    let ends : x.start + x.pages ≡ r.start + r.pages = omega arith in
+    let frames : x.frame + x.pages ≡ r.frame + r.pages = omega arith in
+    let behind : IsHeld (range_key x) (behind_on (pages_behind first o r) x rs) =
+    behind-held (pages_behind first o r) i.behind (range_key x) r x rs (subst Q (sym i.order_same) s.behind_is) refl (behind-range space first o r i is)
+    (λ m. stops-same x r rs (λ z. behind-touches r x z 0 0 refl refl refl ends frames) stops) (omega arith) (omega arith) rest in
+    before-held (pages_before first r) i.before low (range_key x) r (behind_on (pages_behind first o r) x rs) (subst P (sym i.order_same) s.before_is) is (omega arith) above (omega arith) behind

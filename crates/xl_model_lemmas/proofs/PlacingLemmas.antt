@@ -1,0 +1,256 @@
+-- An insertion that is placed adds one entry and keeps every other, and no insertion changes how many ways there are.
+-- For the cuckoo table and its row.
+use Rattle.std.proofs.Common.{◌≡◌, refl, sym, ap, ◌∙◌, subst, ℕ, zero, suc, ◌+◌, ◌%◌, ◌<◌, Bool, true, false, cond, List, [], ◌∷◌, ◌++◌, length, map, ◌==◌, min, slice_set, Option, None, Some, arith}
+use Rattle.std.specs.Prelude.{find}
+use Rattle.std.proofs.lemmas.Bool.Decides.{nat_tests}
+use Rattle.std.proofs.Math.Seq.{map-set_same}
+use Rattle.xl_model.specs.declared.way.Entry.{Entry}
+use Rattle.xl_model.specs.declared.way.Moves.{Moves}
+use Rattle.xl_model.specs.Base.{one_if}
+use Rattle.xl_model.specs.Ways.{WayShape, slot, occupant, with_entry, without_key, without_occupant, swapped, advanced, begun, opening_way, slots_left}
+use Rattle.xl_model.specs.Placing.{way_at, put_in, next_way, start_way, Attempt, Stands, Fails, Displaced, by_occupant, attempt, to_grow, Candidate, forced, forced_moves, Placing, Placed, AtCap, after_attempt, with_growth, growths_left, placing, place, no_moves, settled_way, begins, begun_if_full, settled, after_placing, insertion}
+use Rattle.xl_model_lemmas.specs.Sections.{tally, entries_of, entries_in}
+use Rattle.xl_model_lemmas.proofs.MemberLemmas.{find-passes}
+use Rattle.xl_model_lemmas.proofs.TallyLemmas.{tally-append}
+use Rattle.xl_model_lemmas.proofs.WayTallyLemmas.{tally-with_entry}
+
+-- how many entries of all ways pass a test
+abbrev pub tally_all : (Entry → Bool) → List WayShape → ℕ
+tally_all p ways = tally p (entries_in ways)
+
+-- what is taken out is what was found
+find-out : (p q : Entry → Bool) (e : Entry) (xs : List Entry) → find q xs ≡ Some e → ((y : Entry) → y.key ≡ e.key → q y ≡ true) → one_if (p e) + tally p (without_key e.key xs) ≡ tally p xs
+find-out p q e [] found h = absurd (cc)
+find-out p q e (y ∷ ys) found h =
+    elim (y.key == e.key) as (λ b. (y.key == e.key) ≡ b → one_if (p e) + tally p (cond b ys (y ∷ without_key e.key ys)) ≡ one_if (p y) + tally p ys) [
+      | true ↦ λ t.
+          let k : q y ≡ true = h y (grind (arith, nat_tests)) in
+          let f : Some y ≡ Some e = sym (ap (λ b. cond b (Some y) (find q ys)) k) ∙ found in
+          let same : y ≡ e = cc in
+          ap (λ z. one_if (p z) + tally p ys) (sym same)
+      | false ↦ λ t.
+          elim (q y) as (λ b. q y ≡ b → cond b (Some y) (find q ys) ≡ Some e → one_if (p e) + (one_if (p y) + tally p (without_key e.key ys)) ≡ one_if (p y) + tally p ys) [
+            | true ↦ λ u k. let same : y ≡ e = cc in let key : y.key ≡ e.key = ap (λ (x : Entry). x.key) same in absurd (grind (arith, nat_tests))
+            | false ↦ λ u k. let rest : one_if (p e) + tally p (without_key e.key ys) ≡ tally p ys = find-out p q e ys k h in omega arith
+          ] refl found
+    ] refl
+
+abbrev pub one_of : (Entry → Bool) → Option Entry → ℕ
+one_of p None = 0
+one_of p (Some e) = one_if (p e)
+
+pub swapped-adds : (p : Entry → Bool) (w : WayShape) (x : Entry) (o : Option Entry) → occupant w x.key ≡ o → tally p (swapped w x).entries + one_of p o ≡ one_if (p x) + tally p w.entries
+unfolding swapped occupant
+swapped-adds p w x None e =
+    ap (λ o. tally p (with_entry x (without_occupant o w.entries)) + 0) e
+    ∙ (let h : tally p (with_entry x w.entries) ≡ one_if (p x) + tally p w.entries = tally-with_entry p x w.entries in omega arith)
+swapped-adds p w x (Some y) e =
+    let q : Entry → Bool = λ (z : Entry). slot w.regs w.number z.key == slot w.regs w.number x.key in
+    let out : one_if (p y) + tally p (without_key y.key w.entries) ≡ tally p w.entries = find-out p q y w.entries e
+    (λ z k. let b : q y ≡ true = find-passes q y w.entries e in ap (λ n. slot w.regs w.number n == slot w.regs w.number x.key) k ∙ b) in
+    let h : tally p (with_entry x (without_key y.key w.entries)) ≡ one_if (p x) + tally p (without_key y.key w.entries) = tally-with_entry p x (without_key y.key w.entries) in
+    ap (λ o. tally p (with_entry x (without_occupant o w.entries)) + one_if (p y)) e ∙ (omega arith)
+
+set-adds : (p : Entry → Bool) (ways : List WayShape) (at : ℕ) (v : WayShape) → at < length ways
+    → tally_all p (slice_set ways at v) + tally p (way_at ways at).entries ≡ tally_all p ways + tally p v.entries
+set-adds p [] at v h = absurd (omega arith)
+set-adds p (w ∷ ways) zero v h =
+    let a = tally-append p v.entries (entries_in ways) in let b = tally-append p w.entries (entries_in ways) in
+    omega arith
+set-adds p (w ∷ ways) (suc at) v h =
+    let l : at < length ways = omega arith in
+    let r : tally_all p (slice_set ways at v) + tally p (way_at ways at).entries ≡ tally_all p ways + tally p v.entries = set-adds p ways at v l in
+    let a = tally-append p w.entries (entries_in (slice_set ways at v)) in let b = tally-append p w.entries (entries_in ways) in
+    omega arith
+
+put-adds : (p : Entry → Bool) (ways : List WayShape) (at : ℕ) (hand : Entry) (o : Option Entry) → at < length ways → occupant (way_at ways at) hand.key ≡ o
+    → tally_all p (put_in ways at hand) + one_of p o ≡ one_if (p hand) + tally_all p ways
+put-adds p ways at hand o l e =
+    let a = set-adds p ways at (swapped (way_at ways at) hand) l in
+    let b = swapped-adds p (way_at ways at) hand o e in
+    omega arith
+
+pub set-length : {A : Type 0} (xs : List A) (at : ℕ) (x : A) → length (slice_set xs at x) ≡ length xs
+set-length [] at x = refl
+set-length (y ∷ ys) zero x = refl
+set-length (y ∷ ys) (suc at) x = ap suc (set-length ys at x)
+
+next-in : (count at : ℕ) → at < count → next_way count at < count
+next-in zero at h = elim h [ ]
+next-in (suc n) at h = mod-less (at + 1) n
+  where
+    mod-less : (a n : ℕ) → a % suc n < suc n
+    mod-less a n = omega arith
+
+Adds : (Entry → Bool) → ℕ → Attempt → Type 0
+Adds p n (Stands ways moved) = tally_all p ways ≡ n
+Adds p n Fails = Unit {0}
+
+attempt-adds : (p : Entry → Bool) (left : ℕ) (ways : List WayShape) (at : ℕ) (hand : Entry) (moved : List Displaced) → at < length ways → Adds p (one_if (p hand) + tally_all p ways) (attempt left ways at hand moved)
+unfolding attempt Adds
+attempt-adds p zero ways at hand moved l = go (occupant (way_at ways at) hand.key) refl
+  where
+    go : (o : Option Entry) → occupant (way_at ways at) hand.key ≡ o → Adds p (one_if (p hand) + tally_all p ways) (by_occupant o (Stands (put_in ways at hand) moved) (λ e. Fails))
+    go None e = let a = put-adds p ways at hand None l e in omega arith
+    go (Some y) e = tt
+attempt-adds p (suc left) ways at hand moved l =
+    go (occupant (way_at ways at) hand.key) refl
+    (λ e. attempt-adds p left (put_in ways at hand) (next_way (length ways) at) e (moved ++ record { key = e.key; way = next_way (length ways) at } ∷ [])
+    (subst (λ n. next_way (length ways) at < n) (sym (set-length ways at (swapped (way_at ways at) hand))) (next-in (length ways) at l)))
+  where
+    go : (o : Option Entry) → occupant (way_at ways at) hand.key ≡ o
+        → ((e : Entry) → Adds p (one_if (p e) + tally_all p (put_in ways at hand)) (attempt left (put_in ways at hand) (next_way (length ways) at) e (moved ++ record { key = e.key; way = next_way (length ways) at } ∷ [])))
+        → Adds p (one_if (p hand) + tally_all p ways) (by_occupant o (Stands (put_in ways at hand) moved)
+        (λ e. attempt left (put_in ways at hand) (next_way (length ways) at) e (moved ++ record { key = e.key; way = next_way (length ways) at } ∷ [])))
+    go None e next = let a = put-adds p ways at hand None l e in omega arith
+    go (Some y) e next =
+        let a : one_if (p y) + tally_all p (put_in ways at hand) ≡ one_if (p hand) + tally_all p ways = (let b = put-adds p ways at hand (Some y) l e in omega arith) in
+        subst (λ n. Adds p n (attempt left (put_in ways at hand) (next_way (length ways) at) y (moved ++ record { key = y.key; way = next_way (length ways) at } ∷ []))) a (next y)
+
+-- ways with the same lists have the same entries
+pub entries-same : (xs ys : List WayShape) → map entries_of xs ≡ map entries_of ys → entries_in xs ≡ entries_in ys
+entries-same [] [] e = refl
+entries-same [] (y ∷ ys) e = absurd (cc)
+entries-same (x ∷ xs) [] e = absurd (cc)
+entries-same (x ∷ xs) (y ∷ ys) e =
+    let a : x.entries ≡ y.entries = cc in
+    let b : map entries_of xs ≡ map entries_of ys = cc in
+    ap (λ es. es ++ entries_in xs) a ∙ ap (λ es. y.entries ++ es) (entries-same xs ys b)
+
+pub forced-entries : (w : WayShape) → (forced w).entries ≡ w.entries
+unfolding forced advanced begun
+forced-entries w = go w.regs.growing
+  where
+    go : (b : Bool) → (cond b w (begun w)).entries ≡ w.entries
+    go true = refl
+    go false = refl
+
+grown-same : (ways : List WayShape) (i : ℕ) → entries_in (slice_set ways i (forced (way_at ways i))) ≡ entries_in ways
+grown-same ways i = entries-same (slice_set ways i (forced (way_at ways i))) ways (map-set_same entries_of ways i (forced (way_at ways i)) (opening_way 0 0 0) (forced-entries (way_at ways i)))
+
+PlacingAdds : (Entry → Bool) → ℕ → Placing → Type 0
+PlacingAdds p n (Placed ways moved m) = (tally_all p ways ≡ n)
+PlacingAdds p n (AtCap ways m) = Unit {0}
+
+after-adds : (p : Entry → Bool) (n : ℕ) (a : Attempt) (limit : ℕ) (m : Moves) (failed : Moves → Placing) → Adds p n a → ((k : Moves) → PlacingAdds p n (failed k)) → PlacingAdds p n (after_attempt a limit m failed)
+unfolding Adds PlacingAdds
+after-adds p n (Stands ways moved) limit m failed h next = h
+after-adds p n Fails limit m failed h next = next _
+
+start-in : (count key : ℕ) → 0 < count → start_way count key < count
+start-in zero key h = elim h [ ]
+start-in (suc n) key h = omega arith
+
+placing-adds : (p : Entry → Bool) (room limit : ℕ) (ways : List WayShape) (x : Entry) (m : Moves) → 0 < length ways → PlacingAdds p (one_if (p x) + tally_all p ways) (placing room limit ways x m)
+unfolding placing PlacingAdds
+placing-adds p zero limit ways x m l =
+    after-adds p (one_if (p x) + tally_all p ways) (attempt limit ways (start_way (length ways) x.key) x []) limit m (λ n. AtCap ways n)
+    (attempt-adds p limit ways (start_way (length ways) x.key) x [] (start-in (length ways) x.key l)) (λ n. tt)
+placing-adds p (suc room) limit ways x m l =
+    after-adds p (one_if (p x) + tally_all p ways) (attempt limit ways (start_way (length ways) x.key) x []) limit m
+    (λ n. with_growth (to_grow 0 ways) (AtCap ways n) (λ i. placing room limit (slice_set ways i (forced (way_at ways i))) x (forced_moves (way_at ways i) n)))
+    (attempt-adds p limit ways (start_way (length ways) x.key) x [] (start-in (length ways) x.key l))
+    (λ n. grown (to_grow 0 ways) n
+    (λ i. subst (λ es. PlacingAdds p (one_if (p x) + tally p es) (placing room limit (slice_set ways i (forced (way_at ways i))) x (forced_moves (way_at ways i) n))) (grown-same ways i)
+    (placing-adds p room limit (slice_set ways i (forced (way_at ways i))) x (forced_moves (way_at ways i) n) (subst (λ c. 0 < c) (sym (set-length ways i (forced (way_at ways i)))) l))))
+  where
+    grown : (c : Option Candidate) (n : Moves) → ((i : ℕ) → PlacingAdds p (one_if (p x) + tally_all p ways) (placing room limit (slice_set ways i (forced (way_at ways i))) x (forced_moves (way_at ways i) n)))
+        → PlacingAdds p (one_if (p x) + tally_all p ways) (with_growth c (AtCap ways n) (λ i. placing room limit (slice_set ways i (forced (way_at ways i))) x (forced_moves (way_at ways i) n)))
+    grown None n next = tt
+    grown (Some c) n next = next c.way
+
+pub settled-entries : (most threshold : ℕ) (ways : List WayShape) → map entries_of (settled most threshold ways) ≡ map entries_of ways
+unfolding settled advanced begun
+settled-entries most threshold [] = refl
+settled-entries most threshold (w ∷ ways) =
+    ap (λ es. es ∷ map entries_of (map (begun_if_full threshold) (map (settled_way most) ways))) (one (settled_way most w) ∙ two w) ∙ ap (λ es. w.entries ∷ es) (settled-entries most threshold ways)
+  where
+    one : (v : WayShape) → (begun_if_full threshold v).entries ≡ v.entries
+    one v = elim (begins threshold v) as (λ b. (cond b (begun v) v).entries ≡ v.entries) [ true ↦ refl | false ↦ refl ]
+
+    two : (v : WayShape) → (settled_way most v).entries ≡ v.entries
+    two v = elim v.regs.growing as (λ b. (cond b (advanced (min most (slots_left v.regs)) v) v).entries ≡ v.entries) [ true ↦ refl | false ↦ refl ]
+
+-- after an insertion each test passes as many entries as before, and the new one
+pub insertion-adds : (p : Entry → Bool) (limit most threshold : ℕ) (ways after : List WayShape) (x : Entry) (moved : List Displaced) (m : Moves) → 0 < length ways
+    → insertion limit most threshold ways x ≡ Placed after moved m → tally_all p after ≡ one_if (p x) + tally_all p ways
+unfolding insertion place PlacingAdds
+insertion-adds p limit most threshold ways after x moved m l e = go (placing (growths_left ways) limit ways x no_moves) (placing-adds p (growths_left ways) limit ways x no_moves l) e
+  where
+    go : (q : Placing) → PlacingAdds p (one_if (p x) + tally_all p ways) q → after_placing most threshold q ≡ Placed after moved m → tally_all p after ≡ one_if (p x) + tally_all p ways
+    go (Placed vs mv n) h k =
+        let same : settled most threshold vs ≡ after = cc in
+        ap (λ (us : List WayShape). tally_all p us) (sym same) ∙ ap (tally p) (entries-same (settled most threshold vs) vs (settled-entries most threshold vs)) ∙ h
+    go (AtCap vs n) h k = absurd (cc)
+
+-- the number of ways
+abbrev ways_in : Placing → List WayShape
+ways_in (Placed ways moved m) = ways
+ways_in (AtCap ways m) = ways
+
+AttemptCounts : ℕ → Attempt → Type 0
+AttemptCounts n (Stands ways moved) = length ways ≡ n
+AttemptCounts n Fails = Unit {0}
+
+put-count : (ways : List WayShape) (at : ℕ) (hand : Entry) → length (put_in ways at hand) ≡ length ways
+put-count ways at hand = set-length ways at (swapped (way_at ways at) hand)
+
+attempt-count : (left : ℕ) (ways : List WayShape) (at : ℕ) (hand : Entry) (moved : List Displaced) → AttemptCounts (length ways) (attempt left ways at hand moved)
+unfolding attempt AttemptCounts
+attempt-count zero ways at hand moved = go (occupant (way_at ways at) hand.key)
+  where
+    go : (o : Option Entry) → AttemptCounts (length ways) (by_occupant o (Stands (put_in ways at hand) moved) (λ e. Fails))
+    go None = put-count ways at hand
+    go (Some e) = tt
+attempt-count (suc left) ways at hand moved =
+    go (occupant (way_at ways at) hand.key)
+    (λ e. subst (λ n. AttemptCounts n (attempt left (put_in ways at hand) (next_way (length ways) at) e (moved ++ record { key = e.key; way = next_way (length ways) at } ∷ []))) (put-count ways at hand)
+    (attempt-count left (put_in ways at hand) (next_way (length ways) at) e (moved ++ record { key = e.key; way = next_way (length ways) at } ∷ [])))
+  where
+    go : (o : Option Entry)
+        → ((e : Entry) → AttemptCounts (length ways) (attempt left (put_in ways at hand) (next_way (length ways) at) e (moved ++ record { key = e.key; way = next_way (length ways) at } ∷ [])))
+        → AttemptCounts (length ways) (by_occupant o (Stands (put_in ways at hand) moved)
+        (λ e. attempt left (put_in ways at hand) (next_way (length ways) at) e (moved ++ record { key = e.key; way = next_way (length ways) at } ∷ [])))
+    go None next = put-count ways at hand
+    go (Some e) next = next e
+
+after-count : (n : ℕ) (a : Attempt) (limit : ℕ) (m : Moves) (failed : Moves → Placing) → AttemptCounts n a → ((k : Moves) → length (ways_in (failed k)) ≡ n)
+    → length (ways_in (after_attempt a limit m failed)) ≡ n
+unfolding AttemptCounts
+after-count n (Stands ways moved) limit m failed h next = h
+after-count n Fails limit m failed h next = next _
+
+placing-count : (room limit : ℕ) (ways : List WayShape) (x : Entry) (m : Moves) → length (ways_in (placing room limit ways x m)) ≡ length ways
+unfolding placing
+placing-count zero limit ways x m =
+    after-count (length ways) (attempt limit ways (start_way (length ways) x.key) x []) limit m (λ n. AtCap ways n)
+    (attempt-count limit ways (start_way (length ways) x.key) x []) (λ n. refl)
+placing-count (suc room) limit ways x m =
+    after-count (length ways) (attempt limit ways (start_way (length ways) x.key) x []) limit m
+    (λ n. with_growth (to_grow 0 ways) (AtCap ways n) (λ i. placing room limit (slice_set ways i (forced (way_at ways i))) x (forced_moves (way_at ways i) n)))
+    (attempt-count limit ways (start_way (length ways) x.key) x [])
+    (λ n. grown (to_grow 0 ways) n
+    (λ i. placing-count room limit (slice_set ways i (forced (way_at ways i))) x (forced_moves (way_at ways i) n) ∙ set-length ways i (forced (way_at ways i))))
+  where
+    grown : (c : Option Candidate) (n : Moves)
+        → ((i : ℕ) → length (ways_in (placing room limit (slice_set ways i (forced (way_at ways i))) x (forced_moves (way_at ways i) n))) ≡ length ways)
+        → length (ways_in (with_growth c (AtCap ways n) (λ i. placing room limit (slice_set ways i (forced (way_at ways i))) x (forced_moves (way_at ways i) n)))) ≡ length ways
+    grown None n next = refl
+    grown (Some c) n next = next c.way
+
+pub lists-length : (xs ys : List WayShape) → map entries_of xs ≡ map entries_of ys → length xs ≡ length ys
+lists-length [] [] e = refl
+lists-length [] (y ∷ ys) e = absurd (cc)
+lists-length (x ∷ xs) [] e = absurd (cc)
+lists-length (x ∷ xs) (y ∷ ys) e = let b : map entries_of xs ≡ map entries_of ys = cc in ap suc (lists-length xs ys b)
+
+pub insertion-count : (limit most threshold : ℕ) (ways after : List WayShape) (x : Entry) (moved : List Displaced) (m : Moves)
+    → insertion limit most threshold ways x ≡ Placed after moved m → length after ≡ length ways
+unfolding insertion place
+insertion-count limit most threshold ways after x moved m e = go (placing (growths_left ways) limit ways x no_moves) (placing-count (growths_left ways) limit ways x no_moves) e
+  where
+    go : (q : Placing) → length (ways_in q) ≡ length ways → after_placing most threshold q ≡ Placed after moved m → length after ≡ length ways
+    go (Placed vs mv n) h k =
+        let same : settled most threshold vs ≡ after = cc in
+        ap (λ (us : List WayShape). length us) (sym same) ∙ lists-length (settled most threshold vs) vs (settled-entries most threshold vs) ∙ h
+    go (AtCap vs n) h k = absurd (cc)

@@ -1,0 +1,83 @@
+-- For the table of ranges: maximal ranges are the ranges of their leaves.
+use Rattle.std.proofs.Common.{◌≡◌, refl, sym, ap, ◌∙◌, subst, ℕ, zero, suc, ◌+◌, ◌*◌, ◌/◌, Bool, true, false, List, [], ◌∷◌, arith}
+use Rattle.std.proofs.lemmas.Bool.Decides.{nat_tests}
+use Rattle.xl_model.specs.declared.address.Order.{Order}
+use Rattle.xl_model.specs.declared.address.Order.TheVariants as order
+use Rattle.xl_model.specs.declared.perm.Perm.{Perm}
+use Rattle.xl_model.specs.declared.leaf.Leaf.{Leaf}
+use Rattle.xl_model.specs.declared.leaf.Range.{Range}
+use Rattle.xl_model.specs.Addresses.{pages_of, same_order}
+use Rattle.xl_model.specs.Base.{same_bit}
+use Rattle.xl_model.specs.Ranges.{same_perm, range_of_leaf, goes_into, joined, ranges_of, end_key}
+use Rattle.xl_model_lemmas.specs.HeldRanges.{next_leaf, run_on, first_leaf, leaves_in, spread, range_from, begins, Stops, IsRange, IsHeld}
+use Rattle.xl_model_lemmas.proofs.OrderLemmas.{order-same}
+
+bit-same : (b : Bool) → same_bit b b ≡ true
+bit-same true = refl
+bit-same false = refl
+
+perm-same : (p : Perm) → same_perm p p ≡ true
+perm-same p = rw (bit-same p.r, bit-same p.w, bit-same p.x, bit-same p.u) refl
+
+-- a leaf goes into a range of its kind that begins behind it
+pub goes-next : (n : ℕ) (l : Leaf) → goes_into l (range_from n (next_leaf l)) ≡ true
+goes-next n l =
+    let o : same_order l.order l.order ≡ true = order-same l.order in
+    let p : same_perm l.perm l.perm ≡ true = perm-same l.perm in
+    grind (arith, nat_tests)
+
+pub next-pages : (n p : ℕ) → p + suc n * p ≡ suc (suc n) * p
+next-pages n p = omega arith
+
+pub stops-next : (n : ℕ) (l : Leaf) (rs : List Range) → Stops (range_from (suc (suc n)) l) rs → Stops (range_from (suc n) (next_leaf l)) rs
+stops-next n l [] h = tt
+stops-next n l (q ∷ qs) h =
+    let p : ℕ = pages_of l.order in
+    let a : l.first + suc (suc n) * p ≡ l.first + p + suc n * p = omega arith in
+    let b : l.frame + suc (suc n) * p ≡ l.frame + p + suc n * p = omega arith in
+    let P : ℕ → Type 0 = λ x. begins l x (l.frame + suc (suc n) * p) q ≡ false in
+    let Q : ℕ → Type 0 = λ x. begins l (l.first + p + suc n * p) x q ≡ false in
+    subst Q b (subst P a h)
+
+joined-stops : (l : Leaf) (rs : List Range) → Stops (range_from 1 l) rs → joined l rs ≡ range_from 1 l ∷ rs
+joined-stops l [] h = ap (λ (k : ℕ). record (range_of_leaf l) { pages = k } ∷ []) (omega arith)
+joined-stops l (q ∷ qs) h =
+    let p : ℕ = pages_of l.order in
+    let one : 1 * p ≡ p = omega arith in
+    let P : ℕ → Type 0 = λ k. begins l (l.first + k) (l.frame + k) q ≡ false in
+    let no : goes_into l q ≡ false = subst P one h in
+    rw no (ap (λ (k : ℕ). record (range_of_leaf l) { pages = k } ∷ q ∷ qs) (sym one))
+
+pub ranges-run : (n : ℕ) (l : Leaf) (rest : List Leaf) (rs : List Range) → ranges_of rest ≡ rs → Stops (range_from (suc n) l) rs
+    → ranges_of (run_on (suc n) l rest) ≡ range_from (suc n) l ∷ rs
+unfolding ranges_of
+ranges-run zero l rest rs is h = rw is (joined-stops l rs h)
+ranges-run (suc n) l rest rs is h =
+    let tail : ranges_of (run_on (suc n) (next_leaf l) rest) ≡ range_from (suc n) (next_leaf l) ∷ rs =
+    ranges-run n (next_leaf l) rest rs is (stops-next n l rs h) in
+    let into : goes_into l (range_from (suc n) (next_leaf l)) ≡ true = goes-next (suc n) l in
+    rw (tail, into) (ap (λ (k : ℕ). record (range_of_leaf l) { pages = k } ∷ rs) (next-pages n (pages_of l.order)))
+
+pub count-is : (o : Order) (n pages : ℕ) → pages ≡ n * pages_of o → pages / pages_of o ≡ n
+count-is order.K4 n pages h = omega arith
+count-is order.M2 n pages h = omega arith
+count-is order.G1 n pages h = omega arith
+
+pub leaves-is : (r : Range) (h : IsRange r) → leaves_in r ≡ suc h.leaves.0
+leaves-is r h = count-is r.order (suc h.leaves.0) r.pages h.leaves.1
+
+pub range-is : (r : Range) (n : ℕ) → r.pages ≡ n * pages_of r.order → range_from n (first_leaf r) ≡ r
+range-is r n h = ap (λ (k : ℕ). record r { pages = k }) (sym h)
+
+-- the ranges of the leaves of maximal ranges are these
+pub ranges-spread : (low : ℕ) (rs : List Range) → IsHeld low rs → ranges_of (spread rs) ≡ rs
+unfolding ranges_of spread
+ranges-spread low [] h = refl
+ranges-spread low (r ∷ rs) (above, is, stops, rest) =
+    let tail : ranges_of (spread rs) ≡ rs = ranges-spread (end_key r) rs rest in
+    let n : ℕ = is.leaves.0 in
+    let same : range_from (suc n) (first_leaf r) ≡ r = range-is r (suc n) is.leaves.1 in
+    let P : Range → Type 0 = λ x. Stops x rs in
+    let all : ranges_of (run_on (suc n) (first_leaf r) (spread rs)) ≡ range_from (suc n) (first_leaf r) ∷ rs =
+    ranges-run n (first_leaf r) (spread rs) rs tail (subst P (sym same) stops) in
+    rw (leaves-is r is) (all ∙ ap (λ (x : Range). x ∷ rs) same)

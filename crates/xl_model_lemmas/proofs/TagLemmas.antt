@@ -1,0 +1,171 @@
+-- Tags of kept leaves: each has its own, and how each call changes their list. For the tables of chains.
+use Rattle.std.proofs.Common.{◌≡◌, refl, sym, ap, ◌∙◌, subst, ℕ, suc, Bool, true, false, not, cond, List, [], ◌∷◌, map, length, inl, inr, ◌<◌, ◌+◌, ◌^◌, ◌==◌, arith, ◌⊎◌, ◌||◌}
+use Rattle.std.specs.Prelude.{filter}
+use Rattle.std.specs.List.{list_any}
+use Rattle.std.proofs.lemmas.Bool.Decides.{nat_tests}
+use Rattle.std.proofs.lemmas.Bool.{eqb-true, eq-eqb, false_from_ne_true}
+use Rattle.xl_model.specs.declared.address.Order.{Order}
+use Rattle.xl_model.specs.declared.perm.Perm.{Perm}
+use Rattle.xl_model.specs.declared.leaf.Leaf.{Leaf}
+use Rattle.xl_model.specs.Addresses.{pages_of}
+use Rattle.xl_model.specs.Mapping.{meets_block, is_leaf}
+use Rattle.xl_model.specs.Chains.{tag_of, leaf_tag, in_front_of_bucket, has_tag, with_tag, only_used_tags}
+use Rattle.xl_model_lemmas.specs.Members.{In}
+use Rattle.xl_model_lemmas.proofs.MemberLemmas.{In-any, map-In, filter-In, filter-passes, In-filter, all-In, any-In}
+use Rattle.xl_model_lemmas.specs.Kept.{IsPlaced, IsKept, mapping_of, in_front, without_named, protected_where, with_perm_named}
+use Rattle.xl_model_lemmas.proofs.SameLemmas.{both, none-any}
+use Rattle.xl_model_lemmas.proofs.KeptLemmas.{kept-same, mapping-In, In-mapping, kept-filter}
+use Rattle.xl_model_lemmas.proofs.BucketLemmas.{tags-by}
+use Rattle.xl_model_lemmas.proofs.FrontLemmas.{IsNew}
+use Rattle.xl_model_lemmas.proofs.GivenLemmas.{given, perm-named-is, kept-protected}
+use Rattle.xl_model.specs.declared.address.Order.TheVariants as order
+use Rattle.xl_model_lemmas.proofs.PlaceLemmas.{named-space, named-order, named-first}
+
+-- leaves of one tag share a page
+pub record Shares (s t f g : ℕ) (o p : Order) : Type 0 where
+  pub space : t ≡ s
+  pub first : g < f + pages_of o
+  pub second : f < g + pages_of p
+
+tag-shares : (o p : Order) (s t f g : ℕ) → s < 64 → t < 64 → f < 2 ^ 45 → g < 2 ^ 45 → tag_of 1 s o f ≡ tag_of 1 t p g → Shares s t f g o p
+tag-shares order.K4 order.K4 s t f g a b c d e = record { space = omega arith; first = omega arith; second = omega arith }
+tag-shares order.K4 order.M2 s t f g a b c d e = absurd (omega arith)
+tag-shares order.K4 order.G1 s t f g a b c d e = absurd (omega arith)
+tag-shares order.M2 order.K4 s t f g a b c d e = absurd (omega arith)
+tag-shares order.M2 order.M2 s t f g a b c d e = record { space = omega arith; first = omega arith; second = omega arith }
+tag-shares order.M2 order.G1 s t f g a b c d e = absurd (omega arith)
+tag-shares order.G1 order.K4 s t f g a b c d e = absurd (omega arith)
+tag-shares order.G1 order.M2 s t f g a b c d e = absurd (omega arith)
+tag-shares order.G1 order.G1 s t f g a b c d e = record { space = omega arith; first = omega arith; second = omega arith }
+
+pub tag-meets : (x y : Leaf) → IsPlaced x → IsPlaced y → leaf_tag 1 x ≡ leaf_tag 1 y → meets_block x.space x.first x.order y ≡ true
+tag-meets x y a b e =
+    let shares : Shares x.space y.space x.first y.first x.order y.order =
+    tag-shares x.order y.order x.space y.space x.first y.first a.space_in b.space_in a.page_in b.page_in e in
+    let s : y.space ≡ x.space = shares.space in
+    let f : y.first < x.first + pages_of x.order = shares.first in
+    let g : x.first < y.first + pages_of y.order = shares.second in
+    grind (arith, nat_tests)
+
+-- a new leaf's tag is new
+pub tag-absent : (x : Leaf) (xs : List Leaf) → IsKept xs → IsPlaced x → IsNew x xs → has_tag (map (leaf_tag 1) xs) (leaf_tag 1 x) ≡ false
+tag-absent x xs k at new =
+    none-any (λ t. t == leaf_tag 1 x) (map (leaf_tag 1) xs) (λ t i. false_from_ne_true (t == leaf_tag 1 x) (λ h.
+    let found = map-In (leaf_tag 1) t xs i in
+    let e : leaf_tag 1 x ≡ leaf_tag 1 found.0 = sym (eqb-true t (leaf_tag 1 x) h) ∙ found.2 in
+    both _ (tag-meets x found.0 at (all-In IsPlaced found.0 xs k.placed found.1) e) (new found.0 found.1)))
+
+tags-front : (b : ℕ) (x : Leaf) (xs : List Leaf) → in_front_of_bucket b (leaf_tag 1 x) (map (leaf_tag 1) xs) ≡ map (leaf_tag 1) (in_front b x xs)
+unfolding in_front
+tags-front b x xs = tags-by (leaf_tag 1) b x xs
+
+pub with-tag : (b : ℕ) (x : Leaf) (xs : List Leaf) → IsKept xs → IsPlaced x → IsNew x xs → with_tag b (leaf_tag 1 x) (map (leaf_tag 1) xs) ≡ map (leaf_tag 1) (in_front b x xs)
+unfolding with_tag
+with-tag b x xs k at new = rw (tag-absent x xs k at new) (tags-front b x xs)
+
+pub length-tags : (xs : List Leaf) → length (map (leaf_tag 1) xs) ≡ length xs
+length-tags [] = refl
+length-tags (x ∷ xs) = ap suc (length-tags xs)
+
+-- tags that pass a test are those of the leaves that pass another
+tags-filter : (q : ℕ → Bool) (p : Leaf → Bool) (xs : List Leaf) → ((x : Leaf) → In x xs → q (leaf_tag 1 x) ≡ p x)
+    → filter q (map (leaf_tag 1) xs) ≡ map (leaf_tag 1) (filter p xs)
+tags-filter q p [] same = refl
+tags-filter q p (x ∷ xs) same =
+    rw (same x (inl refl)) (elim (p x) as (λ b.
+    cond b (leaf_tag 1 x ∷ filter q (map (leaf_tag 1) xs)) (filter q (map (leaf_tag 1) xs)) ≡ map (leaf_tag 1) (cond b (x ∷ filter p xs) (filter p xs))) [
+      | true ↦ ap (λ ts. leaf_tag 1 x ∷ ts) (tags-filter q p xs (λ z i. same z (inr i)))
+      | false ↦ tags-filter q p xs (λ z i. same z (inr i))
+    ])
+
+filter-all : {A : Type 0} (q : A → Bool) (ts : List A) → ((t : A) → In t ts → q t ≡ true) → filter q ts ≡ ts
+filter-all q [] all = refl
+filter-all q (t ∷ ts) all = rw (all t (inl refl)) (ap (λ us. t ∷ us) (filter-all q ts (λ u i. all u (inr i))))
+
+is-used : (x : Leaf) (leaves : List Leaf) → In x leaves → list_any (λ (leaf : Leaf). leaf_tag 1 leaf == leaf_tag 1 x) leaves ≡ true
+is-used x leaves i = In-any (λ (leaf : Leaf). leaf_tag 1 leaf == leaf_tag 1 x) x leaves i (eq-eqb _ _ refl)
+
+-- every kept leaf's tag is used
+pub all-used : (xs : List Leaf) → IsKept xs → only_used_tags 1 (mapping_of xs) (map (leaf_tag 1) xs) ≡ map (leaf_tag 1) xs
+unfolding only_used_tags
+all-used xs k =
+    filter-all (λ t. list_any (λ leaf. leaf_tag 1 leaf == t) (mapping_of xs)) (map (leaf_tag 1) xs) (λ t i.
+    let found = map-In (leaf_tag 1) t xs i in
+    let P : ℕ → Type 0 = λ u. list_any (λ leaf. leaf_tag 1 leaf == u) (mapping_of xs) ≡ true in
+    subst P (sym found.2) (is-used found.0 (mapping_of xs) (In-mapping found.0 xs k found.1)))
+
+not-true : (b : Bool) → b ≡ false → not b ≡ true
+not-true b e = rw e refl
+
+not-passes : (b : Bool) → b ≡ true → not b ≡ true → ⊥
+not-passes true t h = absurd (cc)
+not-passes false t h = absurd (cc)
+
+-- the tag of the leaf taken out is used by no other
+pub used-without : (s f : ℕ) (o : Order) (xs : List Leaf) → IsKept xs
+    → only_used_tags 1 (mapping_of (without_named s f o xs)) (map (leaf_tag 1) xs) ≡ map (leaf_tag 1) (without_named s f o xs)
+unfolding only_used_tags without_named
+used-without s f o xs k =
+    let p : Leaf → Bool = λ leaf. not (is_leaf s f o leaf) in
+    tags-filter (λ t. list_any (λ leaf. leaf_tag 1 leaf == t) (mapping_of (filter p xs))) p xs (λ x i.
+    elim (is_leaf s f o x) as (λ b. is_leaf s f o x ≡ b → list_any (λ (leaf : Leaf). leaf_tag 1 leaf == leaf_tag 1 x) (mapping_of (filter p xs)) ≡ not b) [
+      | true ↦ λ h. none-any (λ (leaf : Leaf). leaf_tag 1 leaf == leaf_tag 1 x) (mapping_of (filter p xs)) (λ z j. false_from_ne_true (leaf_tag 1 z == leaf_tag 1 x) (λ t.
+          let m : In z (filter p xs) = mapping-In z (filter p xs) j in
+          let n : In z xs = filter-In p z xs m in
+          let same : z ≡ x = kept-same z x xs k n i (tag-meets z x (all-In IsPlaced z xs k.placed n) (all-In IsPlaced x xs k.placed i) (eqb-true _ _ t)) in
+          let P : Leaf → Type 0 = λ w. p w ≡ true in
+          not-passes (is_leaf s f o x) h (subst P same (filter-passes p z xs m))))
+      | false ↦ λ h. is-used x (mapping_of (filter p xs)) (In-mapping x (filter p xs) (kept-filter p xs k) (In-filter p x xs i (not-true (is_leaf s f o x) h)))
+    ] refl)
+
+same-tag-given : (b : Bool) (perm : Perm) (x : Leaf) → leaf_tag 1 (protected_where b perm x) ≡ leaf_tag 1 x
+same-tag-given true perm x = refl
+same-tag-given false perm x = refl
+
+tags-given : (s f : ℕ) (o : Order) (perm : Perm) (xs : List Leaf) → map (leaf_tag 1) (map (given s f o perm) xs) ≡ map (leaf_tag 1) xs
+unfolding given
+tags-given s f o perm [] = refl
+tags-given s f o perm (x ∷ xs) = rw (same-tag-given (is_leaf s f o x) perm x) (ap (λ ts. leaf_tag 1 x ∷ ts) (tags-given s f o perm xs))
+
+pub tags-protected : (s f : ℕ) (o : Order) (perm : Perm) (xs : List Leaf) → map (leaf_tag 1) (with_perm_named s f o perm xs) ≡ map (leaf_tag 1) xs
+tags-protected s f o perm xs = ap (map (leaf_tag 1)) (perm-named-is s f o perm xs) ∙ tags-given s f o perm xs
+
+pub used-protected : (s f : ℕ) (o : Order) (perm : Perm) (xs : List Leaf) → IsKept xs
+    → only_used_tags 1 (mapping_of (with_perm_named s f o perm xs)) (map (leaf_tag 1) xs) ≡ map (leaf_tag 1) (with_perm_named s f o perm xs)
+used-protected s f o perm xs k =
+    ap (only_used_tags 1 (mapping_of (with_perm_named s f o perm xs))) (sym (tags-protected s f o perm xs))
+    ∙ all-used (with_perm_named s f o perm xs) (kept-protected s f o perm xs k)
+
+-- leaves of one tag are one, and a named leaf's tag is the name's
+pub tag-one : (x y : Leaf) (xs : List Leaf) → IsKept xs → In x xs → In y xs → leaf_tag 1 x ≡ leaf_tag 1 y → x ≡ y
+tag-one x y xs k i j e = kept-same x y xs k i j (tag-meets x y (all-In IsPlaced x xs k.placed i) (all-In IsPlaced y xs k.placed j) e)
+
+pub named-tag : (group s f : ℕ) (o : Order) (x : Leaf) → is_leaf s f o x ≡ true → leaf_tag group x ≡ tag_of group s o f
+named-tag group s f o x h =
+    ap (λ a. tag_of group a x.order x.first) (named-space s f o x h) ∙ ap (λ p. tag_of group s p x.first) (named-order s f o x h) ∙ ap (tag_of group s o) (named-first s f o x h)
+
+-- one leaf less takes its tag, where no other leaf has it, and no other tag
+pub used-less : (group : ℕ) (x : Leaf) (xs rest : List Leaf) (tags : List ℕ) → ((t : ℕ) → In t tags → list_any (λ leaf. leaf_tag group leaf == t) xs ≡ true)
+    → ((z : Leaf) → In z xs → (z ≡ x) ⊎ In z rest) → only_used_tags group rest tags
+    ≡ filter (λ t. not (t == leaf_tag group x) || list_any (λ leaf. leaf_tag group leaf == leaf_tag group x) rest) tags
+unfolding only_used_tags
+used-less group x xs rest tags used split =
+    filter-same (λ t. list_any (λ leaf. leaf_tag group leaf == t) rest) (λ t. not (t == leaf_tag group x) || list_any (λ leaf. leaf_tag group leaf == leaf_tag group x) rest) tags (λ t i.
+    elim (t == leaf_tag group x) as (λ b. (t == leaf_tag group x) ≡ b → list_any (λ leaf. leaf_tag group leaf == t) rest ≡ (not b || list_any (λ leaf. leaf_tag group leaf == leaf_tag group x) rest)) [
+      | true ↦ λ e. let same : t ≡ leaf_tag group x = eqb-true t (leaf_tag group x) e in ap (λ n. list_any (λ leaf. leaf_tag group leaf == n) rest) same
+      | false ↦ λ e. other t e (any-In (λ leaf. leaf_tag group leaf == t) xs (used t i))
+    ] refl)
+  where
+    filter-same : (p q : ℕ → Bool) (ts : List ℕ) → ((t : ℕ) → In t ts → p t ≡ q t) → filter p ts ≡ filter q ts
+    filter-same p q [] h = refl
+    filter-same p q (t ∷ ts) h = ap (λ b. cond b (t ∷ filter p ts) (filter p ts)) (h t (inl refl)) ∙ ap (λ us. cond (q t) (t ∷ us) us) (filter-same p q ts (λ u i. h u (inr i)))
+
+    other : (t : ℕ) → (t == leaf_tag group x) ≡ false → ((z : Leaf) × In z xs × ((leaf_tag group z == t) ≡ true)) → list_any (λ leaf. leaf_tag group leaf == t) rest ≡ true
+    other t e found = elim (split found.0 found.1) [
+      | inl same ↦
+          let a : leaf_tag group found.0 ≡ t = eqb-true _ _ found.2 in
+          let b : leaf_tag group found.0 ≡ leaf_tag group x = ap (leaf_tag group) same in
+          let c : (t == leaf_tag group x) ≡ true = eq-eqb t (leaf_tag group x) (sym a ∙ b) in
+          absurd (both _ c e)
+      | inr j ↦ In-any (λ leaf. leaf_tag group leaf == t) found.0 rest j found.2
+    ]

@@ -1,0 +1,118 @@
+-- How many entries of a way pass a test: with an entry more, without one, and with other words. For cuckoo tables.
+use Rattle.std.proofs.Common.{◌≡◌, refl, ap, ℕ, ◌+◌, ◌≤◌, Bool, true, false, cond, List, [], ◌∷◌, None, Some, ◌&&◌, ◌==◌, nat_lt, map, arith}
+use Rattle.std.specs.Prelude.{find}
+use Rattle.std.proofs.lemmas.Bool.Decides.{nat_tests}
+use Rattle.xl_model.specs.declared.way.Entry.{Entry}
+use Rattle.xl_model.specs.Base.{one_if}
+use Rattle.xl_model.specs.Ways.{WayShape, has_key, with_entry, without_key, without_entry, with_word, reworded}
+use Rattle.xl_model_lemmas.specs.Sections.{tally, entries_in}
+use Rattle.xl_model_lemmas.proofs.TallyLemmas.{tally-append, tally-map}
+
+pub tally-le : (p q : Entry → Bool) (xs : List Entry) → ((x : Entry) → p x ≡ true → q x ≡ true) → tally p xs ≤ tally q xs
+tally-le p q [] h = omega arith
+tally-le p q (x ∷ xs) h =
+    let rest : tally p xs ≤ tally q xs = tally-le p q xs h in
+    let first : one_if (p x) ≤ one_if (q x) = go (p x) refl in
+    omega arith
+  where
+    go : (b : Bool) → p x ≡ b → one_if (p x) ≤ one_if (q x)
+    go true t = let u : q x ≡ true = h x t in rw (t, u) (omega arith)
+    go false t = rw t (omega arith)
+
+pub tally-same : (p q : Entry → Bool) (xs : List Entry) → ((x : Entry) → p x ≡ q x) → tally p xs ≡ tally q xs
+tally-same p q [] h = refl
+tally-same p q (x ∷ xs) h = let a : p x ≡ q x = h x in let b : tally p xs ≡ tally q xs = tally-same p q xs h in rw (a, b) refl
+
+pub tally-with_entry : (p : Entry → Bool) (x : Entry) (xs : List Entry) → tally p (with_entry x xs) ≡ one_if (p x) + tally p xs
+tally-with_entry p x [] = refl
+tally-with_entry p x (y ∷ ys) =
+    elim (nat_lt y.key x.key) as (λ b. tally p (cond b (y ∷ with_entry x ys) (x ∷ y ∷ ys)) ≡ one_if (p x) + (one_if (p y) + tally p ys)) [
+      | true ↦ let e : tally p (with_entry x ys) ≡ one_if (p x) + tally p ys = tally-with_entry p x ys in omega arith
+      | false ↦ refl
+    ]
+
+pub tally-without_key : (p : Entry → Bool) (key : ℕ) (xs : List Entry) → tally p (without_key key xs) ≤ tally p xs
+tally-without_key p key [] = omega arith
+tally-without_key p key (y ∷ ys) =
+    elim (y.key == key) as (λ b. tally p (cond b ys (y ∷ without_key key ys)) ≤ one_if (p y) + tally p ys) [
+      | true ↦ omega arith
+      | false ↦ let e : tally p (without_key key ys) ≤ tally p ys = tally-without_key p key ys in omega arith
+    ]
+
+-- where a key's entries pass, and one of them is there, taking it out leaves one fewer
+pub tally-out : (p : Entry → Bool) (e : Entry) (xs : List Entry) → find p xs ≡ Some e → ((x : Entry) → x.key ≡ e.key → p x ≡ true)
+    → tally p (without_key e.key xs) + 1 ≡ tally p xs
+tally-out p e [] found h = absurd (cc)
+tally-out p e (y ∷ ys) found h =
+    elim (y.key == e.key) as (λ b. (y.key == e.key) ≡ b → tally p (cond b ys (y ∷ without_key e.key ys)) + 1 ≡ one_if (p y) + tally p ys) [
+      | true ↦ λ t. let k : p y ≡ true = h y (grind (arith, nat_tests)) in rw k (omega arith)
+      | false ↦ λ t.
+          elim (p y) as (λ b. p y ≡ b → cond b (Some y) (find p ys) ≡ Some e → one_if b + tally p (without_key e.key ys) + 1 ≡ one_if b + tally p ys) [
+            | true ↦ λ u k. let same : y ≡ e = cc in let key : y.key ≡ e.key = ap (λ (x : Entry). x.key) same in absurd (grind (arith, nat_tests))
+            | false ↦ λ u k. let rest : tally p (without_key e.key ys) + 1 ≡ tally p ys = tally-out p e ys k h in omega arith
+          ] refl found
+    ] refl
+
+pub tally-none : (p : Entry → Bool) (xs : List Entry) → find p xs ≡ None → tally p xs ≡ 0
+tally-none p [] h = refl
+tally-none p (y ∷ ys) h =
+    elim (p y) as (λ b. cond b (Some y) (find p ys) ≡ None → one_if b + tally p ys ≡ 0) [
+      | true ↦ λ k. absurd (cc)
+      | false ↦ λ k. let e : tally p ys ≡ 0 = tally-none p ys k in omega arith
+    ] h
+
+pub tally-reworded : (p : Entry → Bool) (key word : ℕ) (xs : List Entry) → ((x y : Entry) → x.key ≡ y.key → p x ≡ p y)
+    → tally p (map (reworded key word) xs) ≡ tally p xs
+tally-reworded p key word [] h = refl
+tally-reworded p key word (x ∷ xs) h =
+    let rest : tally p (map (reworded key word) xs) ≡ tally p xs = tally-reworded p key word xs h in
+    let first : p (reworded key word x) ≡ p x = h (reworded key word x) x (go (x.key == key)) in
+    rw (first, rest) refl
+  where
+    go : (b : Bool) → (cond b (record x { word = word }) x).key ≡ x.key
+    go true = refl
+    go false = refl
+
+-- where a key stands at most once, taking it out takes what passes of it
+pub tally-key : (p : Entry → Bool) (key : ℕ) (xs : List Entry) → tally (has_key key) xs ≤ 1
+    → tally p (without_key key xs) + tally (λ e. has_key key e && p e) xs ≡ tally p xs
+tally-key p key [] few = refl
+tally-key p key (y ∷ ys) few =
+    elim (y.key == key) as (λ b. (y.key == key) ≡ b → one_if b + tally (has_key key) ys ≤ 1
+    → tally p (cond b ys (y ∷ without_key key ys)) + (one_if (b && p y) + tally (λ e. has_key key e && p e) ys) ≡ one_if (p y) + tally p ys) [
+      | true ↦ λ t f. let rest : tally (λ e. has_key key e && p e) ys ≡ 0 = none-key p key ys (omega arith) in omega arith
+      | false ↦ λ t f. let rest : tally p (without_key key ys) + tally (λ e. has_key key e && p e) ys ≡ tally p ys = tally-key p key ys (omega arith) in omega arith
+    ] refl few
+  where
+    none-key : (p : Entry → Bool) (key : ℕ) (xs : List Entry) → tally (has_key key) xs ≡ 0 → tally (λ e. has_key key e && p e) xs ≡ 0
+    none-key p key [] h = refl
+    none-key p key (x ∷ xs) h =
+        elim (x.key == key) as (λ b. one_if b + tally (has_key key) xs ≡ 0 → one_if (b && p x) + tally (λ e. has_key key e && p e) xs ≡ 0) [
+          | true ↦ λ k. absurd (omega arith)
+          | false ↦ λ k. let on : tally (λ e. has_key key e && p e) xs ≡ 0 = none-key p key xs (omega arith) in omega arith
+        ] h
+
+-- all ways without a key, and with another word for it
+pub ways-without : (p : Entry → Bool) (key : ℕ) (ways : List WayShape) → tally (has_key key) (entries_in ways) ≤ 1
+    → tally p (entries_in (map (without_entry key) ways)) + tally (λ e. has_key key e && p e) (entries_in ways) ≡ tally p (entries_in ways)
+unfolding without_entry
+ways-without p key [] few = refl
+ways-without p key (w ∷ ways) few =
+    let all = tally-append (has_key key) w.entries (entries_in ways) in
+    let one = tally-key p key w.entries (omega arith) in
+    let on = ways-without p key ways (omega arith) in
+    let a = tally-append p (without_key key w.entries) (entries_in (map (without_entry key) ways)) in
+    let b = tally-append (λ e. has_key key e && p e) w.entries (entries_in ways) in
+    let c = tally-append p w.entries (entries_in ways) in
+    omega arith
+
+pub ways-reworded : (p : Entry → Bool) (key word : ℕ) (ways : List WayShape)
+    → tally p (entries_in (map (with_word key word) ways)) ≡ tally (λ e. p (reworded key word e)) (entries_in ways)
+unfolding with_word
+ways-reworded p key word [] = refl
+ways-reworded p key word (w ∷ ways) =
+    let a = tally-append p (map (reworded key word) w.entries) (entries_in (map (with_word key word) ways)) in
+    let b = tally-append (λ e. p (reworded key word e)) w.entries (entries_in ways) in
+    let c = tally-map (reworded key word) p w.entries in
+    let on = ways-reworded p key word ways in
+    omega arith

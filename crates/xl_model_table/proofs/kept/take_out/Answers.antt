@@ -1,0 +1,10 @@
+use Rattle.std.proofs.Common.{rules, not}
+use Rattle.std.proofs.lemmas.Fn.{filter_same}
+use Rattle.xl_model.specs.Mapping.{is_leaf}
+use Rattle.xl_model_lemmas.specs.Kept.{without_named}
+use Rattle.xl_model_table.proofs.kept.take_out.Goals as goal
+
+pub returns-clause-items : goal.returns-clause-items
+unfolding without_named
+returns-clause-items c =
+    filter_same _ (λ leaf. not (is_leaf c.args.space c.args.first c.args.order leaf)) _ (λ x b f' k. search rules) _ _ c.retain.ensures.filtered

@@ -1,0 +1,13 @@
+use Rattle.std.proofs.Common.{◌≡◌, ◌∙◌, refl, ap, map}
+use Rattle.xl_model.specs.Chains.{leaf_tag}
+use Rattle.xl_model.specs.Walks.{chains_reads, orders_tried}
+use Rattle.xl_model_lemmas.proofs.TableLemmas.{walk-made}
+use Rattle.xl_model_table.proofs.plain.PlainTableStructure.walk.Goals as goal
+
+pub returns : goal.returns
+returns c =
+    let s = c.self.inside in
+    let a = c.args in
+    let reads : c.walk_loads-loads.result ≡ chains_reads 1 s.buckets (map (leaf_tag 1) s.leaves.items) a.space a.page (orders_tried c.leaf_at-leaf.result) =
+    c.walk_loads-loads.ensures ∙ ap (λ xs. chains_reads 1 s.buckets (map (leaf_tag 1) xs) a.space a.page (orders_tried c.leaf_at-leaf.result)) c.deref.ensures.value in
+    record { walks = walk-made s.buckets s.entries s.loads a.space a.page s.leaves.items c.leaf_at-leaf.result c.walk_loads-loads.result _ a.self.now c.self.view_is c.leaf_at-leaf.ensures reads refl }

@@ -1,7 +1,0 @@
-use Rattle.std.proofs.Common.{◌≡◌, ◌++◌, map, take, drop}
-use Rattle.xl_mapping.proofs.GivenLemmas.{given}
-use Rattle.xl_plain.proofs.kept.give_perm.Given as goal
-
-abbrev pub invariant-loop-leaf : goal.invariant-loop-leaf
-invariant-loop-leaf l =
-    l.items ≡ map (given l.space l.first l.order l.perm) (take l.leaf-index l.initial.items) ++ drop l.leaf-index l.initial.items

@@ -1,6 +1,0 @@
-use Rattle.std.proofs.Common.{◌≡◌, find, drop}
-use Rattle.xl_model.specs.Mapping.{is_leaf}
-use Rattle.xl_plain.proofs.kept.named.Given as goal
-
-abbrev pub invariant-loop-leaf : goal.invariant-loop-leaf
-invariant-loop-leaf l = find (is_leaf l.space l.first l.order) (drop l.leaf-index l.items) ≡ find (is_leaf l.space l.first l.order) l.items

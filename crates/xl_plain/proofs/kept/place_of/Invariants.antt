@@ -1,6 +1,0 @@
-use Rattle.std.proofs.Common.{◌≡◌, ◌++◌, take, drop}
-use Rattle.xl_mapping.specs.Kept.{in_front}
-use Rattle.xl_plain.proofs.kept.place_of.Given as goal
-
-abbrev pub invariant-loop-i : goal.invariant-loop-i
-invariant-loop-i l = take l.i l.items ++ in_front l.buckets l.leaf (drop l.i l.items) ≡ in_front l.buckets l.leaf l.items
