@@ -2,7 +2,6 @@
 
 ghost use Rattle.std.specs.Prelude.{◌≡◌, ◌↔◌, [], Option, None, Some, Err, IfErr, IfSome, IfNone, length, map, option_map, string_bytes};
 ghost use Rattle.xl_model.specs.Courses.{course};
-ghost use Rattle.xl_model.specs.Scenes.{opening_scene};
 ghost use Rattle.xl_model.specs.Endings.{followed, text_of};
 ghost use Rattle.xl_outside.specs.Folders.{file_of, FolderAfter, fate_by};
 ghost use Rattle.xl_outside.specs.Sinks.{WriteCounts};
@@ -27,30 +26,31 @@ const LIMIT: usize = 1_048_576;
 
 /// Opens the rows, runs the script over the trace, and writes the report to `out`. Where that does not come about, a
 /// line on `err` says why. The words are the program's name, `--script`, a name, `--trace` and a name.
-pub fn run<R: Rows + Drop, T: Trace + Drop, F: Folder, K: Sink, E: Sink>(
+pub fn run<R: Rows, T: Trace + Drop, F: Folder, K: Sink, E: Sink>(
     alloc: Global,
     words: &Vec<String>,
     folder: &mut F,
     out: &mut K,
     err: &mut E,
+    rows: &mut R,
 ) -> Status
     ensures told { IfSome (F.files folder.old) (λ fs. Answers result
-        (ending T.trail (map string_bytes words.now.items) fs (opening_scene R.designs))
+        (ending T.trail (map string_bytes words.now.items) fs (scene_of (R.rows rows.old) []))
         (K.written out.old) (K.written out.new)) }
     ensures usage { (result ≡ Status.Usage) ↔ (names_of (map string_bytes words.now.items) ≡ None) }
     ensures leaves { FolderAfter F.files F.faults F.absences F.steady folder.old folder.new
         (status_fate result) }
     ensures counts { WriteCounts (is_status_put result) (K.put_faults out.old) (K.put_faults out.new) }
     ensures said { IfSome (message_of result (option_map (λ fs.
-        ending T.trail (map string_bytes words.now.items) fs (opening_scene R.designs))
+        ending T.trail (map string_bytes words.now.items) fs (scene_of (R.rows rows.old) []))
         (F.files folder.old)))
         (λ text. Says E.written E.put_faults E.roomy text err.old err.new) }
     ensures complete { F.steady folder.old → IfSome (F.files folder.old) (λ fs. K.roomy out.old
-        (length (text_of (ending T.trail (map string_bytes words.now.items) fs (opening_scene R.designs))))
+        (length (text_of (ending T.trail (map string_bytes words.now.items) fs (scene_of (R.rows rows.old) []))))
         → Completes result
-        (ending T.trail (map string_bytes words.now.items) fs (opening_scene R.designs))) }
+        (ending T.trail (map string_bytes words.now.items) fs (scene_of (R.rows rows.old) []))) }
 {
-    let end = report_of::<R, T, F, K>(alloc, words, folder, out);
+    let end = report_of::<R, T, F, K>(alloc, words, folder, out, rows);
     tell(err, end);
     status(end)
 }
@@ -76,14 +76,15 @@ fn tell<E: Sink>(err: &mut E, end: Result<(), Stop>)
 
 /// Writes the report of the files that the words name.
 #[tactic(auto, unfolding(crate::specs::Endings::ending))]
-fn report_of<R: Rows + Drop, T: Trace + Drop, F: Folder, K: Sink>(
+fn report_of<R: Rows, T: Trace + Drop, F: Folder, K: Sink>(
     alloc: Global,
     words: &Vec<String>,
     folder: &mut F,
     out: &mut K,
+    rows: &mut R,
 ) -> Result<(), Stop>
     ensures told { IfSome (F.files folder.old) (λ fs. Ends result
-        (ending T.trail (map string_bytes words.now.items) fs (opening_scene R.designs))
+        (ending T.trail (map string_bytes words.now.items) fs (scene_of (R.rows rows.old) []))
         K.roomy (K.written out.old) (K.written out.new) out.old) }
     ensures usage { (result ≡ Err (Stop.Input InputFault.Words))
         ↔ (names_of (map string_bytes words.now.items) ≡ None) }
@@ -94,7 +95,7 @@ fn report_of<R: Rows + Drop, T: Trace + Drop, F: Folder, K: Sink>(
     let Some((script, trace)) = names(words) else {
         return Err(Stop::Input(InputFault::Words));
     };
-    report::<R, T, F, K>(alloc, folder, out, script, trace)
+    report::<R, T, F, K>(alloc, folder, out, rows, script, trace)
 }
 
 /// The names of the script and of the trace; None where the words have another form.
@@ -114,27 +115,27 @@ fn names(words: &Vec<String>) -> Option<(&str, &str)>
 }
 
 /// Serves the script of this name over the trace of that name, and writes the report.
-fn report<R: Rows + Drop, T: Trace + Drop, F: Folder, K: Sink>(
+fn report<R: Rows, T: Trace + Drop, F: Folder, K: Sink>(
     alloc: Global,
     folder: &mut F,
     out: &mut K,
+    rows: &mut R,
     script: &str,
     trace: &str,
 ) -> Result<(), Stop>
     ensures told { IfSome (F.files folder.old) (λ fs.
         Ends result (script_ending (file_of fs script.now) (T.trail (file_of fs trace.now))
-        (opening_scene R.designs)) K.roomy (K.written out.old) (K.written out.new) out.old) }
+        (scene_of (R.rows rows.old) [])) K.roomy (K.written out.old) (K.written out.new) out.old) }
     ensures leaves { FolderAfter F.files F.faults F.absences F.steady folder.old folder.new
         (fate_by stop_fate result) }
     ensures counts { WriteCounts (is_all_put result) (K.put_faults out.old) (K.put_faults out.new) }
     ensures met { IfErr result StopIsMet }
 {
     let commands = read_script(alloc, folder, script)?;
-    let mut rows = R::open(alloc)?;
     let mut areas = Areas::open(alloc)?;
     let mut read = T::open(alloc)?;
     let end = replay(
-        &mut rows, &mut areas, &mut read, folder, out, trace, &commands,
+        rows, &mut areas, &mut read, folder, out, trace, &commands,
     );
     Ok(end?)
 }
