@@ -5,7 +5,7 @@ ghost use Rattle.std.specs.Prelude.{[]};
 use crate::{Rows, Status, Tape, run};
 use std::alloc::{AllocError, Global};
 use std::test::Fail;
-use xl_model::{Area, Event, Kind, NoMemory};
+use xl_model::{Area, Event, Kind, NoMemory, Row};
 use xl_outside::{Failed, MemFolder, MemSink, Sink};
 
 /// No rows.
@@ -13,12 +13,10 @@ use xl_outside::{Failed, MemFolder, MemSink, Sink};
 struct NoRows;
 
 impl Rows for NoRows {
-    ghost designs = { [] };
-
     ghost rows = { λ _. [] };
 
-    fn open(_alloc: Global) -> Result<NoRows, NoMemory> {
-        Ok(NoRows)
+    fn add(&mut self, _alloc: Global, _row: Row) -> Result<(), NoMemory> {
+        Err(NoMemory)
     }
 
     fn command<K: Sink>(
@@ -142,7 +140,7 @@ fn each_run_has_its_ending_and_its_message(rt: HostRuntime) -> Result<(), Fail> 
         let mut err = MemSink::open(alloc, 200, Vec::new(alloc), 7)?;
         let given = words(alloc, names)?;
         let status = run::<NoRows, Tape, MemFolder, MemSink, MemSink>(
-            alloc, &given, &mut files, &mut out, &mut err,
+            alloc, &given, &mut files, &mut out, &mut err, &mut NoRows,
         );
         assert_eq!(rt; status, want, "{message}");
         assert_eq!(rt; err.bytes(), message.as_bytes());

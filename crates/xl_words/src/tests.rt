@@ -1,0 +1,1 @@
+//! Words that the command takes, and words that it refuses.
