@@ -12,7 +12,7 @@ use thiserror::Error;
 
 /// What the words ask for: the names of the configuration, the script and the trace, and whether a line
 /// is wanted for each access and command.
-#[derive(Clone, Copy, Debug)]
+#[derive(Clone, Copy, Debug, PartialEq, Eq)]
 pub struct Words<'a> {
     pub config: &'a str,
     pub script: Option<&'a str>,
@@ -128,9 +128,7 @@ fn flag<'a>(alloc: Global, name: &'a str) -> Arg<'a>
     ensures rule { rule_of result ≡ flag_rule name.entry.now }
     ensures local { result.global ≡ false }
 {
-    Arg::new(alloc, name)
-        .long(name)
-        .action(ArgAction::SetTrue)
+    Arg::new(alloc, name).long(name).action(ArgAction::SetTrue)
 }
 
 /// The command with one argument more.
