@@ -61,16 +61,6 @@ finds_text view says limit None text bytes r cut h b f = absurd h
 finds_text view says limit (Some file) text bytes r cut h b f =
     subst (Finds view r) (ap says (b ∙ h) ∙ cut file) f
 
--- the file could not be read
-pub finds_unread : {A B : Type 0} (view : A → B) (says : List ℕ → Result B InputFault) (limit : ℕ) (file : Option (List ℕ)) (stop : ReadStop)
-    → TellsWhole file limit (Err stop) → Finds {A = A} view (Err (of_read stop)) (said_in says file)
-finds_unread view says limit None read.Missing h = refl
-finds_unread view says limit None read.Failed h = tt
-finds_unread view says limit None read.NoMemory h = tt
-finds_unread view says limit (Some file) read.Missing h = absurd h
-finds_unread view says limit (Some file) read.Failed h = tt
-finds_unread view says limit (Some file) read.NoMemory h = tt
-
 -- a script that isn't named has no commands
 pub none_said : commands_said [] ≡ Ok []
 unfolding script_of text_read script_lines
