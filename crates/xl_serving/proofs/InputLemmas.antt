@@ -13,8 +13,6 @@ use Rattle.xl_model.specs.Report.{Flags}
 use Rattle.xl_model.specs.Endings.{Ending, followed}
 use Rattle.xl_config.specs.Config.{config, config_by, document_of}
 use Rattle.xl_outside.specs.Whole.{TellsWhole}
-use Rattle.xl_outside.specs.declared.whole.ReadStop.{ReadStop}
-use Rattle.xl_outside.specs.declared.whole.ReadStop.TheVariants as read
 use Rattle.xl_script.specs.declared.fault.ScriptFault.{ScriptFault}
 use Rattle.xl_script.specs.declared.fault.ScriptFault.TheVariants as script
 use Rattle.xl_script.specs.Texts.{script_lines}
@@ -23,7 +21,6 @@ use Rattle.xl_script.specs.Plain.{plain_said, commands_in, script_of}
 use Rattle.xl_serving.specs.declared.stop.Stop.{Stop}
 use Rattle.xl_serving.specs.Inputs.{config_fault, script_fault, said_by, said_in, rows_said, commands_said, Finds}
 use Rattle.xl_serving.specs.Serving.{scene_of}
-use Rattle.xl_serving.specs.Stops.{of_read}
 use Rattle.xl_serving.specs.Endings.{Ends, Opens}
 
 longer : (limit : ℕ) (text : List ℕ) → limit < length text → limit < length (take (limit + 1) text)
