@@ -1,6 +1,6 @@
 use Rattle.std.proofs.Common.{◌≡◌, ◌≤◌, ◌<◌, ◌^◌}
 use Rattle.xl_radix.specs.Walk.{radix_back}
-use Rattle.xl_radix_walk.proofs.quick.quick_frame.Given as goal
+use Rattle.xl_radix_walk.proofs.quick.quick_leaf.Given as goal
 
 abbrev pub invariant-down : goal.invariant-down
 invariant-down l = record {
