@@ -13,8 +13,6 @@ use Rattle.xl_model.specs.Report.{Flags}
 use Rattle.xl_model.specs.Endings.{Ending, followed}
 use Rattle.xl_config.specs.Config.{config, config_by, document_of}
 use Rattle.xl_outside.specs.Whole.{TellsWhole}
-use Rattle.xl_outside.specs.declared.whole.ReadStop.{ReadStop}
-use Rattle.xl_outside.specs.declared.whole.ReadStop.TheVariants as read
 use Rattle.xl_script.specs.declared.fault.ScriptFault.{ScriptFault}
 use Rattle.xl_script.specs.declared.fault.ScriptFault.TheVariants as script
 use Rattle.xl_script.specs.Texts.{script_lines}
@@ -23,7 +21,6 @@ use Rattle.xl_script.specs.Plain.{plain_said, commands_in, script_of}
 use Rattle.xl_serving.specs.declared.stop.Stop.{Stop}
 use Rattle.xl_serving.specs.Inputs.{config_fault, script_fault, said_by, said_in, rows_said, commands_said, Finds}
 use Rattle.xl_serving.specs.Serving.{scene_of}
-use Rattle.xl_serving.specs.Stops.{of_read}
 use Rattle.xl_serving.specs.Endings.{Ends, Opens}
 
 longer : (limit : ℕ) (text : List ℕ) → limit < length text → limit < length (take (limit + 1) text)
@@ -60,16 +57,6 @@ pub finds_text : {A B : Type 0} (view : A → B) (says : List ℕ → Result B I
 finds_text view says limit None text bytes r cut h b f = absurd h
 finds_text view says limit (Some file) text bytes r cut h b f =
     subst (Finds view r) (ap says (b ∙ h) ∙ cut file) f
-
--- the file could not be read
-pub finds_unread : {A B : Type 0} (view : A → B) (says : List ℕ → Result B InputFault) (limit : ℕ) (file : Option (List ℕ)) (stop : ReadStop)
-    → TellsWhole file limit (Err stop) → Finds {A = A} view (Err (of_read stop)) (said_in says file)
-finds_unread view says limit None read.Missing h = refl
-finds_unread view says limit None read.Failed h = tt
-finds_unread view says limit None read.NoMemory h = tt
-finds_unread view says limit (Some file) read.Missing h = absurd h
-finds_unread view says limit (Some file) read.Failed h = tt
-finds_unread view says limit (Some file) read.NoMemory h = tt
 
 -- a script that isn't named has no commands
 pub none_said : commands_said [] ≡ Ok []

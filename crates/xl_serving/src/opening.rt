@@ -33,8 +33,8 @@ pub(crate) fn open<R: Rows, F: Folder>(
 ) -> Result<Script, Stop>
     requires { R.rows rows.old ≡ [] }
     ensures told { IfSome (F.files folder.old) (λ fs. Opens result
-        (ending_by (rows_in (asked_of words.now).config fs) (commands_in (asked_of words.now).script fs))
-        (R.rows rows.new)) }
+        (ending_by (rows_in (asked_of words.now).config fs)
+        (commands_in (asked_of words.now).script fs)) (R.rows rows.new)) }
     ensures leaves { FolderAfter F.files F.faults F.absences F.steady folder.old folder.new
         (fate_by stop_fate result) }
     ensures before { IfErr result IsBefore }

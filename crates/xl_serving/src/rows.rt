@@ -19,8 +19,8 @@ pub trait Rows: Sized {
     /// The rows with their states, in the order in which they were added.
     ghost rows: { Self → List Served };
 
-    /// Opens a row and puts it last, in its opening state. All memory that it wants is taken here; where
-    /// there is none, the rows are as before.
+    /// Opens a row and puts it last, in its opening state. All memory that it wants is taken here;
+    /// where there is none, the rows are as before.
     fn add(&mut self, alloc: Global, row: Row) -> Result<(), NoMemory>
         requires row { IsRow (row_of row) }
         requires built { IsBuilt (row_of row) }

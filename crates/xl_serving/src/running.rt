@@ -23,9 +23,10 @@ use xl_outside::{Folder, Sink, put_all};
 use xl_script::Script;
 use xl_words::Words;
 
-/// Reads the words, the configuration and the script, opens the rows, serves the script over the trace, and writes the
-/// report to `out`. Where that does not come about, a line on `err` says why. The words are the program's name and those
-/// after it: `--config F [--script F] [--trace F] [--answers]`. All memory is taken before the first event.
+/// Reads the words, the configuration and the script, opens the rows, serves the script over the
+/// trace, and writes the report to `out`. Where that does not come about, a line on `err` says why. The
+/// words are the program's name and those after it: `--config F [--script F] [--trace F] [--answers]`.
+/// All memory is taken before the first event.
 pub fn run<R: Rows, T: Trace + Drop, F: Folder, K: Sink, E: Sink>(
     alloc: Global,
     words: &Vec<String>,
@@ -36,9 +37,10 @@ pub fn run<R: Rows, T: Trace + Drop, F: Folder, K: Sink, E: Sink>(
 ) -> Status
     requires { R.rows rows.old ≡ [] }
     ensures told { IfSome (F.files folder.old) (λ fs. Answers result
-        (ending T.trail (map string_bytes words.now.items) fs) (K.written out.old) (K.written out.new)) }
-    ensures served { IfSome (F.files folder.old) (λ fs. result ≡ Status.Ok
-        → R.rows rows.new ≡ (live_of (ending T.trail (map string_bytes words.now.items) fs)).scene.rows) }
+        (ending T.trail (map string_bytes words.now.items) fs)
+        (K.written out.old) (K.written out.new)) }
+    ensures served { IfSome (F.files folder.old) (λ fs. result ≡ Status.Ok → R.rows rows.new
+        ≡ (live_of (ending T.trail (map string_bytes words.now.items) fs)).scene.rows) }
     ensures usage { SaysOfWords result (asked (map string_bytes words.now.items)) }
     ensures leaves { FolderAfter F.files F.faults F.absences F.steady folder.old folder.new
         (status_fate result) }
@@ -120,8 +122,8 @@ fn report<R: Rows, T: Trace + Drop, F: Folder, K: Sink>(
     Ok(end?)
 }
 
-/// Serves the commands over the trace of the words, and writes the rows. Where the words name no trace, it has no
-/// records.
+/// Serves the commands over the trace of the words, and writes the rows. Where the words name no trace,
+/// it has no records.
 fn replay<R: Rows, T: Trace, F: Folder, K: Sink>(
     rows: &mut R,
     areas: &mut Areas,
@@ -132,7 +134,8 @@ fn replay<R: Rows, T: Trace, F: Folder, K: Sink>(
     commands: &Script,
 ) -> Result<(), ServeStop>
     requires none { areas.old ≡ [] }
-    requires unread { (file : Option (List ℕ)) → T.stands trace.old file × (T.left trace.old file ≡ T.trail file) }
+    requires unread { (file : Option (List ℕ)) → T.stands trace.old file
+        × (T.left trace.old file ≡ T.trail file) }
     ensures told { IfSome (F.files folder.old) (λ fs. Ends (as_stop result)
         (followed (course commands.now (trail_in T.trail (asked_of words.now).trace fs))
         (scene_of (R.rows rows.old) []) (flags_of (asked_of words.now).answers))

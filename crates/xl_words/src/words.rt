@@ -10,8 +10,8 @@ use clap::{Arg, ArgAction, ArgMatches, Command};
 use std::alloc::{AllocError, Global};
 use thiserror::Error;
 
-/// What the words ask for: the names of the configuration, the script and the trace, and whether a line
-/// is wanted for each access and command.
+/// What the words ask for: the names of the configuration, the script and the trace, and whether a
+/// line is wanted for each access and command.
 #[derive(Clone, Copy, Debug, PartialEq, Eq)]
 pub struct Words<'a> {
     pub config: &'a str,
@@ -39,8 +39,8 @@ impl From<AllocError> for WordsFault {
     }
 }
 
-/// What the words ask for, of which the first is the program's name. Usage exactly where the command has
-/// no matches for them; where there is no memory, the answer may be that.
+/// What the words ask for, of which the first is the program's name. Usage exactly where the command
+/// has no matches for them; where there is no memory, the answer may be that.
 pub fn read<'a>(alloc: Global, words: &'a [String]) -> Result<Words<'a>, WordsFault>
     ensures { Asks result (asked (map string_bytes words.entry.now)) }
 {
@@ -83,8 +83,10 @@ fn is_on(value: Option<&str>) -> bool
 #[tactic(auto, unfolding(crate::specs::Words::faults_of, crate::specs::Words::values_of))]
 fn matches<'a>(alloc: Global, words: &'a [String]) -> Result<ArgMatches<'a>, WordsFault>
     ensures some { OnOk result (faults_of (map string_bytes words.entry.now) ≡ []) }
-    ensures values { IfOk result (λ m. rows_of (found_of m) ≡ values_of (map string_bytes words.entry.now)) }
-    ensures none { IfErr result (λ f. f ≡ why.Usage → ¬ (faults_of (map string_bytes words.entry.now) ≡ [])) }
+    ensures values { IfOk result (λ m. rows_of (found_of m)
+        ≡ values_of (map string_bytes words.entry.now)) }
+    ensures none { IfErr result (λ f. f ≡ why.Usage
+        → ¬ (faults_of (map string_bytes words.entry.now) ≡ [])) }
 {
     match command(alloc)?.try_get_matches_from(words) {
         Ok(matches) => Ok(matches),
