@@ -3,6 +3,7 @@
 #![tactic(auto)]
 
 mod blocks;
+mod hits;
 mod lists;
 
 use std::io;
@@ -22,8 +23,10 @@ fn main(rt: HostRuntime) -> io::Result<()> {
         let answers = match part {
             "lists" => lists::answers(rt.alloc(), calls),
             "blocks" => blocks::answers(rt.alloc(), 1 << 22, calls),
+            "front" => hits::answers(rt.alloc(), 1, calls),
+            "second" => hits::answers(rt.alloc(), 5, calls),
             _ => {
-                println!(rt; "the parts are lists and blocks")?;
+                println!(rt; "the parts are lists, blocks, front and second")?;
                 continue;
             }
         };
