@@ -4,6 +4,7 @@
 
 mod blocks;
 mod lists;
+mod nodes;
 
 use std::io;
 use std::str::FromStr;
@@ -22,8 +23,10 @@ fn main(rt: HostRuntime) -> io::Result<()> {
         let answers = match part {
             "lists" => lists::answers(rt.alloc(), calls),
             "blocks" => blocks::answers(rt.alloc(), 1 << 22, calls),
+            "nodes" => nodes::answers(rt.alloc(), 1 << 14, calls),
+            "few_nodes" => nodes::answers(rt.alloc(), 1 << 4, calls),
             _ => {
-                println!(rt; "the parts are lists and blocks")?;
+                println!(rt; "the parts are lists, blocks, nodes and few_nodes")?;
                 continue;
             }
         };
