@@ -8,7 +8,7 @@ returns c =
     let t = c.self.inside in
     let front : IsFront c.args.space c.args.page c.in-Some.word t.arrays.items = rw c.deref.ensures.value at c.in-Some.ensures in
     record {
-      found = ap Some c.leaf_of.ensures ∙ rw (← c.self.view_is) (front_told c.args.space c.args.page c.in-Some.word t.arrays.items front);
+      found = rw (← c.self.view_is) (front_told c.args.space c.args.page c.in-Some.word t.arrays.items front);
       after = rw (← c.self.view_is) (front_after c.args.space c.args.page c.in-Some.word t.arrays.items t.hits t.misses t.fills c.self.ranges.1.1.1.0.1 front);
       none = tt;
     }
