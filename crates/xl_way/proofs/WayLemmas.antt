@@ -1,5 +1,5 @@
 -- What a way keeps, through each of its changes, over its number, cap, registers and slots.
-use Rattle.std.proofs.Common.{◌≡◌, refl, sym, ap, ◌∙◌, subst, ℕ, ◌+◌, ◌^◌, ◌<◌, ◌≤◌, Bool, true, false, cond, ◌&&◌, not, List, length, set, replicate, Option, None, Some, ◌==◌, eq-eqb, arith}
+use Rattle.std.proofs.Common.{◌≡◌, refl, sym, ap, ◌∙◌, subst, ℕ, ◌+◌, ◌^◌, ◌<◌, ◌≤◌, Bool, true, false, cond, ◌&&◌, not, List, [], ◌∷◌, length, set, replicate, Option, None, Some, ◌==◌, eq-eqb, map, nat_lt, arith}
 use Rattle.std.specs.Prelude.{find, is_some}
 use Rattle.std.proofs.Math.Pow.{pow_mono}
 use Rattle.std.proofs.lemmas.Nat.{pow_pos}
@@ -8,7 +8,7 @@ use Rattle.std.proofs.lemmas.Bool.Decides.{nat_tests}
 use Rattle.xl_model.specs.declared.way.Entry.{Entry}
 use Rattle.xl_model.specs.declared.way.WayRegs.{WayRegs}
 use Rattle.xl_model.specs.Hashes.{way_hash}
-use Rattle.xl_model.specs.Ways.{WayShape, slot, has_key, occupant, with_entry, without_key, without_occupant, swapped, without_entry, begun_regs, regs_after}
+use Rattle.xl_model.specs.Ways.{WayShape, slot, has_key, occupant, with_entry, without_key, without_occupant, swapped, with_word, reworded, without_entry, begun_regs, regs_after}
 use Rattle.xl_model.specs.Placing.{is_held}
 use Rattle.xl_model_lemmas.proofs.SameLemmas.{any-find}
 use Rattle.xl_way.specs.Slots.{no_entry, cell, entries_of, word_in, word_of}
@@ -16,7 +16,7 @@ use Rattle.xl_way.specs.Words.{slots_of}
 use Rattle.xl_way.specs.Cells.{passing, kept_of, moved}
 use Rattle.xl_way.specs.Kept.{ArePlaced, IsKept, reach}
 use Rattle.xl_way.proofs.GrowthLemmas.{slot-reach, slot-stays, slot-empty, slot-within, slot-begun, after-regs, begun-are, reach-there}
-use Rattle.xl_way.proofs.SlotLemmas.{others, entries-set, find-at, split-at, alone-at, without-with, length-with, few-entries, entries-empty}
+use Rattle.xl_way.proofs.SlotLemmas.{others, entries-set, find-at, split-at, others-none, alone-at, without-with, length-with, few-entries, entries-empty}
 
 -- a way of these parts
 abbrev pub way_of : ℕ → ℕ → WayRegs → List Entry → WayShape
@@ -192,39 +192,87 @@ kept-set number cap r xs used at x now k less full empty count = record {
   count = count;
 }
 
--- a key that is held stands in its slot, and is taken out there
-pub record Cleared (number cap : ℕ) (r : WayRegs) (xs : List Entry) (used key at : ℕ) : Type 0 where
-  pub some : 0 < used
+-- a key that is held stands in its slot, and in no other
+pub record Held (number : ℕ) (r : WayRegs) (xs : List Entry) (used key at : ℕ) : Type 0 where
+  pub same : (cell xs at).key ≡ key
+  pub was : entries_of xs ≡ with_entry (cell xs at) (others xs at)
+  pub none : find (has_key key) (others xs at) ≡ None
   pub count : used ≡ length (others xs at) + 1
-  pub shape : way_of number cap r (others xs at) ≡ without_entry key (way_of number cap r (entries_of xs))
 
-pub clear-is : (number cap : ℕ) (r : WayRegs) (xs : List Entry) (used key at : ℕ) → IsKept number cap r xs used → at ≡ slot r number key
-    → is_held (way_of number cap r (entries_of xs)) key ≡ true → Cleared number cap r xs used key at
-unfolding without_entry
-clear-is number cap r xs used key at k is held =
+pub held-is : (number cap : ℕ) (r : WayRegs) (xs : List Entry) (used key at : ℕ) → IsKept number cap r xs used → at ≡ slot r number key
+    → is_held (way_of number cap r (entries_of xs)) key ≡ true → Held number r xs used key at
+held-is number cap r xs used key at k is held =
     let less : at < length xs = rw is (slot-inside number cap r xs used key k) in
     let found : find (has_key key) (entries_of xs) ≡ passing (has_key key) (cell xs at) = find-at number r xs k.placed at (has_key key) less of in
     let some : is_some (passing (has_key key) (cell xs at)) ≡ true = ap is_some (sym found) ∙ sym (any-find (has_key key) (entries_of xs)) ∙ held in
     go ((cell xs at).key == key) ((cell xs at).word == 0) refl refl some (split-at number r xs k.placed at less)
+    (others-none number r xs k.placed at (has_key key) less of)
   where
     of : (e : Entry) → has_key key e ≡ true → slot r number e.key ≡ at
     of e t = let q : e.key ≡ key = grind (arith, nat_tests) in ap (λ (n : ℕ). slot r number n) q ∙ sym is
 
     go : (a b : Bool) → ((cell xs at).key == key) ≡ a → ((cell xs at).word == 0) ≡ b → is_some (cond (a && not b) (Some (cell xs at)) None) ≡ true
-        → entries_of xs ≡ cond b (others xs at) (with_entry (cell xs at) (others xs at)) → Cleared number cap r xs used key at
-    go true true t u h e = absurd (cc)
-    go false b t u h e = absurd (cc)
-    go true false t u h e =
-        let same : (cell xs at).key ≡ key = grind (arith, nat_tests) in
-        let n = ap (λ (es : List Entry). length es) e in
+        → entries_of xs ≡ cond b (others xs at) (with_entry (cell xs at) (others xs at)) → find (has_key key) (others xs at) ≡ None → Held number r xs used key at
+    go true true t u h e n = absurd (cc)
+    go false b t u h e n = absurd (cc)
+    go true false t u h e n =
+        let m = ap (λ (es : List Entry). length es) e in
         let l = length-with (cell xs at) (others xs at) in
         let c = k.count in
-        record {
-          some = omega arith;
-          count = omega arith;
-          shape = ap (λ (es : List Entry). way_of number cap r es)
-              (sym (ap (λ (n : ℕ). without_key n (entries_of xs)) (sym same) ∙ ap (without_key (cell xs at).key) e ∙ without-with (cell xs at) (others xs at)));
-        }
+        record { same = grind (arith, nat_tests); was = e; none = n; count = omega arith }
+
+-- it is taken out there
+pub clear-is : (number cap : ℕ) (r : WayRegs) (xs : List Entry) (used key at : ℕ) → Held number r xs used key at
+    → way_of number cap r (others xs at) ≡ without_entry key (way_of number cap r (entries_of xs))
+unfolding without_entry
+clear-is number cap r xs used key at h =
+    ap (λ (es : List Entry). way_of number cap r es)
+    (sym (ap (λ (n : ℕ). without_key n (entries_of xs)) (sym h.same) ∙ ap (without_key (cell xs at).key) h.was ∙ without-with (cell xs at) (others xs at)))
+
+-- and given another word there
+reword-key : (key word : ℕ) (x : Entry) → (reworded key word x).key ≡ x.key
+reword-key key word x = elim (x.key == key) as (λ b. (cond b (record x { word = word }) x).key ≡ x.key) [ true ↦ refl | false ↦ refl ]
+
+reword-with : (key word : ℕ) (x : Entry) (es : List Entry) → map (reworded key word) (with_entry x es) ≡ with_entry (reworded key word x) (map (reworded key word) es)
+reword-with key word x [] = refl
+reword-with key word x (y ∷ es) =
+    let a : nat_lt (reworded key word y).key (reworded key word x).key ≡ nat_lt y.key x.key =
+    ap (λ (n : ℕ). nat_lt n (reworded key word x).key) (reword-key key word y) ∙ ap (λ (n : ℕ). nat_lt y.key n) (reword-key key word x) in
+    elim (nat_lt y.key x.key) as (λ b. nat_lt (reworded key word y).key (reworded key word x).key ≡ b
+    → map (reworded key word) (cond b (y ∷ with_entry x es) (x ∷ y ∷ es)) ≡ with_entry (reworded key word x) (reworded key word y ∷ map (reworded key word) es)) [
+      | true ↦ λ t. rw t (ap (λ (zs : List Entry). reworded key word y ∷ zs) (reword-with key word x es))
+      | false ↦ λ t. rw t refl
+    ] a
+
+reword-none : (key word : ℕ) (es : List Entry) → find (has_key key) es ≡ None → map (reworded key word) es ≡ es
+reword-none key word [] h = refl
+reword-none key word (y ∷ es) h =
+    elim (y.key == key) as (λ b. cond b (Some y) (find (has_key key) es) ≡ None → cond b (record y { word = word }) y ∷ map (reworded key word) es ≡ y ∷ es) [
+      | true ↦ λ k. absurd (cc)
+      | false ↦ λ k. ap (λ (zs : List Entry). y ∷ zs) (reword-none key word es k)
+    ] h
+
+pub record Reworded (number cap : ℕ) (r : WayRegs) (xs ys : List Entry) (key word : ℕ) : Type 0 where
+  pub shape : way_of number cap r (entries_of ys) ≡ with_word key word (way_of number cap r (entries_of xs))
+  pub same : length (entries_of ys) ≡ length (entries_of xs)
+
+pub reword-is : (number cap : ℕ) (r : WayRegs) (xs : List Entry) (used key word at : ℕ) → IsKept number cap r xs used → at ≡ slot r number key → 0 < word
+    → Held number r xs used key at → Reworded number cap r xs (set xs at (record { key = key; word = word })) key word
+unfolding with_word
+reword-is number cap r xs used key word at k is some h =
+    let x : Entry = record { key = key; word = word } in
+    let less : at < length xs = rw is (slot-inside number cap r xs used key k) in
+    let now : entries_of (set xs at x) ≡ with_entry x (others xs at) = entries-now number r xs at x k.placed less (sym is) some in
+    let t : ((cell xs at).key == key) ≡ true = eq-eqb _ _ h.same in
+    let new : reworded key word (cell xs at) ≡ x = rw t (ap (λ (n : ℕ). record { key = n; word = word }) h.same) in
+    record {
+      shape = ap (λ (es : List Entry). way_of number cap r es)
+          (now ∙ ap (λ (e : Entry). with_entry e (others xs at)) (sym new)
+          ∙ ap (with_entry (reworded key word (cell xs at))) (sym (reword-none key word (others xs at) h.none))
+          ∙ sym (reword-with key word (cell xs at) (others xs at)) ∙ ap (map (reworded key word)) (sym h.was));
+      same = (let a = ap (λ (es : List Entry). length es) now in let b = ap (λ (es : List Entry). length es) h.was in
+          let c = length-with x (others xs at) in let d = length-with (cell xs at) (others xs at) in omega arith);
+    }
 
 -- a way that begins to grow
 pub kept-begun : (number cap : ℕ) (r : WayRegs) (xs : List Entry) (used : ℕ) → IsKept number cap r xs used → r.growing ≡ false → r.s < cap → IsKept number cap (begun_regs r) xs used

@@ -66,6 +66,15 @@ fn renew(way: &mut Way, key: u64, word: u64)
     way.swap(key, word);
 }
 
+/// Keeps another word for a key that is held.
+fn reword(way: &mut Way, key: u64, word: u64)
+    requires { 0 < word }
+{
+    if holds(way, key) {
+        way.set_word(key, word);
+    }
+}
+
 #[test]
 fn hashes_of_two_keys(rt: HostRuntime) -> Result<(), Fail> {
     assert_eq!(rt; way_hash(0, 0), 0xe220_a839_7b1d_cdaf);
@@ -162,7 +171,8 @@ fn the_smallest_and_the_largest_way_are_to_be_had(rt: HostRuntime) -> Result<(),
     let mut one = Way::open(rt.alloc(), 0, 0, 0)?;
     assert_eq!(rt; one.swap(0, 7), None);
     assert_eq!(rt; one.swap(B, 9), Some(Entry { key: 0, word: 7 }));
-    assert_eq!(rt; (one.load(0), one.load(1)), (Some([B, 9, 0, 0]), None));
+    reword(&mut one, B, 3);
+    assert_eq!(rt; (one.load(0), one.load(1)), (Some([B, 3, 0, 0]), None));
     let mut most = Way::open(rt.alloc(), 3, 17, 18)?;
     assert_eq!(rt; most.swap(B, 9), None);
     begin(&mut most);

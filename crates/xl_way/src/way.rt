@@ -2,7 +2,7 @@
 
 ghost use Rattle.std.specs.Prelude.{◌≡◌, ◌↔◌, ◌<◌, ◌≤◌, min, IsTrue, true, false, length, IfOk, IfSome, Option, Some, None};
 ghost use Rattle.xl_model.specs.declared.way.Entry.{Entry};
-ghost use Rattle.xl_model.specs.Ways.{occupant, swapped, without_entry, slots_left as slots_to_go, advanced, begun, opening_way};
+ghost use Rattle.xl_model.specs.Ways.{occupant, swapped, with_word, without_entry, slots_left as slots_to_go, advanced, begun, opening_way};
 ghost use Rattle.xl_model.specs.Placing.{is_held};
 ghost use Rattle.xl_phys.specs.Lines.{counted};
 ghost use Rattle.xl_way.specs.Slots.{word_of};
@@ -139,6 +139,16 @@ impl Way {
         } else {
             Some(left)
         }
+    }
+
+    /// Keeps another word for a key that is held.
+    pub fn set_word(&mut self, key: u64, word: u64)
+        requires held { is_held self.old.shape key ≡ true }
+        requires some { 0 < word }
+        ensures { self.new ≡ record self.old { shape = with_word key word self.old.shape } }
+    {
+        let at = slot(self.regs, self.number, key);
+        exchange(&mut self.slots, at as usize, Entry { key, word });
     }
 
     /// Takes out a key that is held.
