@@ -377,15 +377,32 @@ row_fits row earlier ms =
     })))))))))
 
 -- the table of a row can be opened
-named_radix : (s : List ℕ) (k : TableKind) → kind_named s ≡ Some k → k ≡ kind.Radix
-named_radix s k h =
-    elim (bytes_eq s (codes "radix")) as (λ v. (if v then Some kind.Radix else None) ≡ Some k → k ≡ kind.Radix)
-    [ true ↦ λ e. sym (same_Some kind.Radix k e) | false ↦ λ e. cc ] h
+-- the kinds that have words
+abbrev has_word : TableKind → Bool
+has_word kind.Radix = true
+has_word kind.Hashed = true
+has_word kind.Clustered = true
+has_word kind.Cuckoo = false
+has_word kind.Range = false
 
-kind_fits : (row : ℕ) (ms : Members) → Fits (λ k. k ≡ kind.Radix) (kind_in row ms)
+some_has : (k m : TableKind) → has_word k ≡ true → Some k ≡ Some m → has_word m ≡ true
+some_has k m h e = subst (λ (z : TableKind). has_word z ≡ true) (same_Some k m e) h
+
+named_has : (s : List ℕ) (k : TableKind) → kind_named s ≡ Some k → has_word k ≡ true
+named_has s k h =
+    elim (bytes_eq s (codes "radix")) as (λ v. (if v then Some kind.Radix else (if bytes_eq s (codes "hashed") then Some kind.Hashed else (if bytes_eq s (codes "clustered") then Some kind.Clustered else None))) ≡ Some k → has_word k ≡ true) [
+      | true ↦ λ e. some_has kind.Radix k refl e
+      | false ↦ λ e. elim (bytes_eq s (codes "hashed")) as (λ v. (if v then Some kind.Hashed else (if bytes_eq s (codes "clustered") then Some kind.Clustered else None)) ≡ Some k → has_word k ≡ true) [
+        | true ↦ λ f. some_has kind.Hashed k refl f
+        | false ↦ λ f. elim (bytes_eq s (codes "clustered")) as (λ v. (if v then Some kind.Clustered else None) ≡ Some k → has_word k ≡ true)
+            [ true ↦ λ g. some_has kind.Clustered k refl g | false ↦ λ g. cc ] f
+      ] e
+    ] h
+
+kind_fits : (row : ℕ) (ms : Members) → Fits (λ k. has_word k ≡ true) (kind_in row ms)
 kind_fits row ms =
     then_any _ (found row 5 (codes "table") ms >>= text_of row 5) (λ s. needed (bad row 5 rule.Outside) (kind_named s)) (λ s.
-    needed_fits _ (bad row 5 rule.Outside) (kind_named s) (named_radix s))
+    needed_fits _ (bad row 5 rule.Outside) (kind_named s) (named_has s))
 
 radix_built : (row : ℕ) (mode : Mode) (spaces : ℕ) (ms : Members) → Fits (λ t. is_built t ≡ true) (radix_in row mode spaces ms)
 unfolding radix_in
@@ -393,9 +410,24 @@ radix_built row mode spaces ms =
     then_any _ (number_in row 7 (codes "table_frames") spaces 16384 ms) _ (λ frames.
     then_any _ (caches_in row (levels_of mode - 1) (0 ∷ 0 ∷ 0 ∷ 0 ∷ []) ms) _ (λ caches. refl))
 
-table_built : (k : TableKind) (row : ℕ) (mode : Mode) (spaces : ℕ) (ms : Members) → k ≡ kind.Radix → Fits (λ t. is_built t ≡ true) (table_in k row mode spaces ms)
-table_built k row mode spaces ms h =
-    subst (λ (z : TableKind). Fits (λ t. is_built t ≡ true) (table_in z row mode spaces ms)) (sym h) (radix_built row mode spaces ms)
+hashed_built : (row : ℕ) (ms : Members) → Fits (λ t. is_built t ≡ true) (hashed_in row ms)
+unfolding hashed_in
+hashed_built row ms =
+    then_any _ (number_in row 9 (codes "buckets") 1 1048576 ms) _ (λ buckets.
+    then_any _ (number_in row 10 (codes "entries") 1 1048576 ms) _ (λ entries. refl))
+
+clustered_built : (row : ℕ) (ms : Members) → Fits (λ t. is_built t ≡ true) (clustered_in row ms)
+unfolding clustered_in
+clustered_built row ms =
+    then_any _ (number_in row 9 (codes "buckets") 1 1048576 ms) _ (λ buckets.
+    then_any _ (number_in row 11 (codes "blocks") 1 131072 ms) _ (λ blocks. refl))
+
+table_built : (k : TableKind) (row : ℕ) (mode : Mode) (spaces : ℕ) (ms : Members) → has_word k ≡ true → Fits (λ t. is_built t ≡ true) (table_in k row mode spaces ms)
+table_built kind.Radix row mode spaces ms h = radix_built row mode spaces ms
+table_built kind.Hashed row mode spaces ms h = hashed_built row ms
+table_built kind.Clustered row mode spaces ms h = clustered_built row ms
+table_built kind.Cuckoo row mode spaces ms h = cc
+table_built kind.Range row mode spaces ms h = cc
 
 row_built : (row : ℕ) (earlier : List (List ℕ)) (ms : Members) → Fits IsBuilt (row_in row earlier ms)
 unfolding row_in

@@ -121,11 +121,15 @@ mode_in row ms =
 abbrev pub kind_named : List ℕ → Option TableKind
 kind_named s =
     if bytes_eq s (codes "radix") then Some kind.Radix
-    else None
+    else (if bytes_eq s (codes "hashed") then Some kind.Hashed
+    else (if bytes_eq s (codes "clustered") then Some kind.Clustered
+    else None))
 
 -- A table of a kind that can be opened.
 abbrev pub is_built : Table → Bool
 is_built (table.Radix frames caches) = true
+is_built (table.Hashed buckets entries) = true
+is_built (table.Clustered buckets blocks) = true
 is_built _ = false
 
 -- A row whose table can be opened.

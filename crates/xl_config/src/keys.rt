@@ -208,10 +208,11 @@ pub(crate) fn mode(row: u32, table: &Table) -> Result<Mode, KeyFault>
 fn kind_named(text: &str) -> Option<TableKind>
     ensures { result ≡ kind_named text.now }
 {
-    if text == "radix" {
-        Some(TableKind::Radix)
-    } else {
-        None
+    match text {
+        "radix" => Some(TableKind::Radix),
+        "hashed" => Some(TableKind::Hashed),
+        "clustered" => Some(TableKind::Clustered),
+        _ => None,
     }
 }
 

@@ -68,7 +68,7 @@ fn a_key_of_a_row_breaks_its_first_rule(rt: HostRuntime) -> Result<(), Fail> {
         (
             "table",
             "-",
-            "table = \"hashed\"\nbuckets = 1\nentries = 1",
+            "table = \"cuckoo\"\nways = 1\nstart_bits = 19",
             5,
             3,
         ),
@@ -369,6 +369,32 @@ fn rows_have_what_their_keys_say_and_defaults(rt: HostRuntime) -> Result<(), Fai
         g1: true,
     };
     assert_eq!(rt; b.tlb.as_slice(), [spec].as_slice());
+    Ok(())
+}
+
+#[test]
+fn a_row_has_the_table_that_its_word_says(rt: HostRuntime) -> Result<(), Fail> {
+    let text = b"[[row]]\nname = \"h\"\nmode = \"sv39\"\nframes = 1\nspaces = 1\n\
+        table = \"hashed\"\nbuckets = 3\nentries = 5\n\
+        [[row]]\nname = \"c\"\nmode = \"sv39\"\nframes = 1\nspaces = 1\n\
+        table = \"clustered\"\nbuckets = 7\nblocks = 9\n";
+    let rows = read(rt.alloc(), text).map_err(|_| AllocError)?;
+    let [h, c] = rows.as_slice() else {
+        return Err(AllocError.into());
+    };
+    assert_eq!(rt;
+        (h.table, c.table),
+        (
+            Table::Hashed {
+                buckets: 3,
+                entries: 5
+            },
+            Table::Clustered {
+                buckets: 7,
+                blocks: 9
+            }
+        )
+    );
     Ok(())
 }
 
