@@ -9,11 +9,12 @@ use Rattle.xl_model.specs.Scenes.{Served}
 use Rattle.xl_rack.specs.declared.held.Held.{Held}
 use Rattle.xl_rack.specs.declared.held.Held.TheVariants as held
 
--- What a machine is over: a radix table of three, four or five levels.
+-- What a machine is over: a radix table of three, four or five levels, or a hashed table.
 pub data Form : Type 0 where
   Radix3 : Form
   Radix4 : Form
   Radix5 : Form
+  HashedForm : Form
 
 -- The form of a radix table, by the mode.
 abbrev pub radix_form : Mode → Form
@@ -24,6 +25,7 @@ radix_form mode.Sv57 = Radix5
 -- The form that a table names in a mode; a kind that isn't built names none.
 abbrev pub form_by : Mode → Table → Option Form
 form_by m (table.Radix frames caches) = Some (radix_form m)
+form_by m (table.Hashed buckets entries) = Some HashedForm
 form_by m _ = None
 
 -- The form that a row names.
@@ -35,9 +37,11 @@ abbrev pub form_of : Held → Form
 form_of (held.Sv39 m) = Radix3
 form_of (held.Sv48 m) = Radix4
 form_of (held.Sv57 m) = Radix5
+form_of (held.Hashed m) = HashedForm
 
 -- The row and the state of a machine that is handed out.
 abbrev pub served_behind : Held → Served
 served_behind (held.Sv39 m) = m.now
 served_behind (held.Sv48 m) = m.now
 served_behind (held.Sv57 m) = m.now
+served_behind (held.Hashed m) = m.now

@@ -13,6 +13,7 @@ ghost use Rattle.xl_rack.specs.Slots.{served_of, slot_form, IsNamed};
 
 use crate::held::Held;
 use std::alloc::Global;
+use xl_hashed::Hashed;
 use xl_machine::Machine;
 use xl_model::{Counts, Event, Kind, Mode, NoMemory, Outcome, Reply, Row, Table};
 use xl_radix_walk::RadixRow;
@@ -23,6 +24,7 @@ pub(crate) enum Slot {
     Sv39(Machine<RadixRow<3>>),
     Sv48(Machine<RadixRow<4>>),
     Sv57(Machine<RadixRow<5>>),
+    Hashed(Machine<Hashed>),
 }
 
 /// The machine of a row with a radix table of LEVELS levels.
@@ -41,6 +43,21 @@ fn open_radix<const LEVELS: usize>(
     Machine::open(alloc, row, table)
 }
 
+/// The machine of a row with a hashed table.
+fn open_hashed(
+    alloc: Global,
+    row: Row,
+    buckets: u32,
+    entries: u32,
+) -> Result<Machine<Hashed>, NoMemory>
+    requires row { IsRow (row_of row) }
+    requires table { row.table ≡ table.Hashed buckets entries }
+    ensures { IfOk result (λ m. m ≡ opened (row_of row)) }
+{
+    let table = Hashed::open(alloc, buckets, entries)?;
+    Machine::open(alloc, row, table)
+}
+
 impl Slot {
     /// The machine of a row in its opening state, over the table that the row names.
     ///
@@ -53,17 +70,34 @@ impl Slot {
         ensures served { IfOk result (λ slot. served_of slot ≡ opened (row_of row)) }
         ensures named { IfOk result IsNamed }
     {
-        let Table::Radix {
-            table_frames,
-            caches,
-        } = row.table
-        else {
-            unreachable!()
-        };
+        match row.table {
+            Table::Radix {
+                table_frames,
+                caches,
+            } => Slot::open_levels(alloc, row, table_frames, caches),
+            Table::Hashed { buckets, entries } => {
+                Ok(Slot::Hashed(open_hashed(alloc, row, buckets, entries)?))
+            }
+            _ => unreachable!(),
+        }
+    }
+
+    /// The machine of a row with a radix table, of as many levels as the mode has.
+    fn open_levels(
+        alloc: Global,
+        row: Row,
+        table_frames: u32,
+        widths: [u8; 4],
+    ) -> Result<Slot, NoMemory>
+        requires row { IsRow (row_of row) }
+        requires table { row.table ≡ table.Radix table_frames widths }
+        ensures served { IfOk result (λ slot. served_of slot ≡ opened (row_of row)) }
+        ensures named { IfOk result IsNamed }
+    {
         Ok(match row.mode {
-            Mode::Sv39 => Slot::Sv39(open_radix::<3>(alloc, row, table_frames, caches)?),
-            Mode::Sv48 => Slot::Sv48(open_radix::<4>(alloc, row, table_frames, caches)?),
-            Mode::Sv57 => Slot::Sv57(open_radix::<5>(alloc, row, table_frames, caches)?),
+            Mode::Sv39 => Slot::Sv39(open_radix::<3>(alloc, row, table_frames, widths)?),
+            Mode::Sv48 => Slot::Sv48(open_radix::<4>(alloc, row, table_frames, widths)?),
+            Mode::Sv57 => Slot::Sv57(open_radix::<5>(alloc, row, table_frames, widths)?),
         })
     }
 
@@ -78,6 +112,7 @@ impl Slot {
             Slot::Sv39(machine) => machine.step(event),
             Slot::Sv48(machine) => machine.step(event),
             Slot::Sv57(machine) => machine.step(event),
+            Slot::Hashed(machine) => machine.step(event),
         }
     }
 
@@ -93,6 +128,7 @@ impl Slot {
             Slot::Sv39(machine) => machine.access(va, kind),
             Slot::Sv48(machine) => machine.access(va, kind),
             Slot::Sv57(machine) => machine.access(va, kind),
+            Slot::Hashed(machine) => machine.access(va, kind),
         }
     }
 
@@ -104,6 +140,7 @@ impl Slot {
             Slot::Sv39(machine) => machine.row(),
             Slot::Sv48(machine) => machine.row(),
             Slot::Sv57(machine) => machine.row(),
+            Slot::Hashed(machine) => machine.row(),
         }
     }
 
@@ -115,6 +152,7 @@ impl Slot {
             Slot::Sv39(machine) => machine.space(),
             Slot::Sv48(machine) => machine.space(),
             Slot::Sv57(machine) => machine.space(),
+            Slot::Hashed(machine) => machine.space(),
         }
     }
 
@@ -127,6 +165,7 @@ impl Slot {
             Slot::Sv39(machine) => machine.counts(),
             Slot::Sv48(machine) => machine.counts(),
             Slot::Sv57(machine) => machine.counts(),
+            Slot::Hashed(machine) => machine.counts(),
         }
     }
 
@@ -139,6 +178,7 @@ impl Slot {
             Slot::Sv39(machine) => Held::Sv39(machine),
             Slot::Sv48(machine) => Held::Sv48(machine),
             Slot::Sv57(machine) => Held::Sv57(machine),
+            Slot::Hashed(machine) => Held::Hashed(machine),
         }
     }
 }
