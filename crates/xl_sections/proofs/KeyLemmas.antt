@@ -13,7 +13,7 @@ use Rattle.xl_model_lemmas.proofs.SectionLemmas.{count-keys, count-short}
 use Rattle.xl_sections.proofs.WordLemmas.{any-is}
 
 -- a key that is counted is that of a section
-counted : (key : ℕ) (cs : List Count) → AreCounts cs → In key (keys_of cs) → (count_of key cs ≡ 0 → ⊥)
+pub counted : (key : ℕ) (cs : List Count) → AreCounts cs → In key (keys_of cs) → (count_of key cs ≡ 0 → ⊥)
 unfolding count_of
 counted key cs a i z = go (find (λ c. c.key == key) cs) refl
   where
