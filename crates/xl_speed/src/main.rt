@@ -3,7 +3,9 @@
 #![tactic(auto)]
 
 mod blocks;
+mod hits;
 mod lists;
+mod nodes;
 
 use std::io;
 use std::str::FromStr;
@@ -22,8 +24,12 @@ fn main(rt: HostRuntime) -> io::Result<()> {
         let answers = match part {
             "lists" => lists::answers(rt.alloc(), calls),
             "blocks" => blocks::answers(rt.alloc(), 1 << 22, calls),
+            "front" => hits::answers(rt.alloc(), 1, calls),
+            "second" => hits::answers(rt.alloc(), 5, calls),
+            "nodes" => nodes::answers(rt.alloc(), 1 << 14, calls),
+            "few_nodes" => nodes::answers(rt.alloc(), 1 << 4, calls),
             _ => {
-                println!(rt; "the parts are lists and blocks")?;
+                println!(rt; "the parts are lists, blocks, front, second, nodes and few_nodes")?;
                 continue;
             }
         };

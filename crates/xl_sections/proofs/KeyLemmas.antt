@@ -1,0 +1,60 @@
+-- The number of keys is the number of sections.
+use Rattle.std.proofs.Common.{◌≡◌, refl, sym, ap, ◌∙◌, subst, ℕ, zero, suc, ◌≤◌, true, false, not, List, length, ◌==◌, Option, None, Some, arith}
+use Rattle.std.specs.Prelude.{find}
+use Rattle.std.proofs.lemmas.List.{length-map}
+use Rattle.std.proofs.lemmas.Bool.Decides.{nat_tests}
+use Rattle.xl_model.specs.declared.address.Order.{Order}
+use Rattle.xl_model.specs.declared.leaf.Leaf.{Leaf}
+use Rattle.xl_model.specs.Sections.{section_count}
+use Rattle.xl_model_lemmas.specs.Members.{In}
+use Rattle.xl_model_lemmas.proofs.MemberLemmas.{find-In, find-passes, find-None, map-In, In-map}
+use Rattle.xl_sections.specs.Counted.{word_of, Count, count_of, number_of, keys_of, AreCounts, IsTied}
+use Rattle.xl_model_lemmas.proofs.SectionLemmas.{count-keys, count-short}
+use Rattle.xl_sections.proofs.WordLemmas.{any-is}
+
+-- a key that is counted is that of a section
+pub counted : (key : ℕ) (cs : List Count) → AreCounts cs → In key (keys_of cs) → (count_of key cs ≡ 0 → ⊥)
+unfolding count_of
+counted key cs a i z = go (find (λ c. c.key == key) cs) refl
+  where
+    go : (o : Option Count) → find (λ c. c.key == key) cs ≡ o → ⊥
+    go None f =
+        let r = map-In (λ (c : Count). c.key) key cs i in
+        let t : (r.0.key == key) ≡ false = find-None (λ c. c.key == key) r.0 cs f r.1 in
+        let e : key ≡ r.0.key = r.2 in
+        grind (arith, nat_tests)
+    go (Some c) f =
+        let l = a.some c (find-In (λ c. c.key == key) c cs f) in
+        let k : c.number ≡ 0 = sym (ap number_of f) ∙ z in
+        omega arith
+
+In-counted : (key : ℕ) (cs : List Count) → (count_of key cs ≡ 0 → ⊥) → In key (keys_of cs)
+unfolding count_of
+In-counted key cs h = go (find (λ c. c.key == key) cs) refl
+  where
+    go : (o : Option Count) → find (λ c. c.key == key) cs ≡ o → In key (keys_of cs)
+    go None f = absurd (h (ap number_of f))
+    go (Some c) f =
+        let i = In-map (λ (c : Count). c.key) c cs (find-In (λ c. c.key == key) c cs f) in
+        let t = find-passes (λ c. c.key == key) c cs f in
+        let e : c.key ≡ key = grind (arith, nat_tests) in
+        let P : ℕ → Type 0 = λ k. In k (keys_of cs) in subst P e i
+
+zero-or : (n : ℕ) → not (n == 0) ≡ true → n ≡ 0 → ⊥
+zero-or n h e = grind (arith, nat_tests)
+
+or-zero : (n : ℕ) → (n ≡ 0 → ⊥) → not (n == 0) ≡ true
+or-zero zero h = absurd (h refl)
+or-zero (suc n) h = grind (arith, nat_tests)
+
+-- as many keys as sections
+pub keys-count : (size : Order) (leaves : List Leaf) (cs : List Count) → AreCounts cs → IsTied size leaves cs → length cs ≡ section_count size leaves
+keys-count size leaves cs a tie =
+    sym (length-map cs (λ (c : Count). c.key))
+    ∙ count-keys size leaves (keys_of cs) a.once
+    (λ k i. any-is size k leaves ∙ or-zero (word_of size k leaves) (λ z. counted k cs a i (tie k ∙ z)))
+    (λ k t. In-counted k cs (λ z. zero-or (word_of size k leaves) (sym (any-is size k leaves) ∙ t) (sym (tie k) ∙ z)))
+
+-- no more keys than leaves: a table with room for the leaves has room for the keys
+pub keys-short : (size : Order) (leaves : List Leaf) (cs : List Count) → AreCounts cs → IsTied size leaves cs → length cs ≤ length leaves
+keys-short size leaves cs a tie = omega (arith, keys-count size leaves cs a tie, count-short size leaves)

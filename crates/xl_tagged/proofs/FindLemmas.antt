@@ -1,0 +1,223 @@
+-- What walks and looks find: the leaf of a page, the loads of its search, and whether a block is met.
+use Rattle.std.proofs.Common.{◌≡◌, refl, sym, ap, ◌∙◌, subst, ℕ, ◌+◌, ◌*◌, ◌/◌, ◌^◌, ◌<◌, ◌≤◌, Bool, true, false, cond, not, ◌&&◌, ◌||◌, List, ◌==◌, Option, None, Some, inl, inr, arith}
+use Rattle.std.specs.Prelude.{find, is_some}
+use Rattle.std.specs.List.{list_any}
+use Rattle.std.proofs.lemmas.Bool.Decides.{nat_tests}
+use Rattle.xl_model.specs.declared.address.Order.{Order}
+use Rattle.xl_model.specs.declared.address.Order.TheVariants as order
+use Rattle.xl_model.specs.declared.leaf.Leaf.{Leaf}
+use Rattle.xl_model.specs.Addresses.{level_of, pages_of, same_order}
+use Rattle.xl_model.specs.Chains.{tag_of, leaf_tag}
+use Rattle.xl_model.specs.Changes.{IsNamed}
+use Rattle.xl_model.specs.Mapping.{covers, meets_block, is_leaf, leaf_at_page, leaf_named, meets_any}
+use Rattle.xl_model.specs.Walks.{chain_reads, chains_reads, orders_tried}
+use Rattle.xl_model.specs.Words.{leaf_word}
+use Rattle.xl_model_lemmas.specs.Members.{In}
+use Rattle.xl_model_lemmas.specs.Sections.{counts_at, of_order, tally, IsAligned}
+use Rattle.xl_model_lemmas.specs.Entries.{or_leaf}
+use Rattle.xl_model_lemmas.proofs.MemberLemmas.{find-In, find-passes, find-only, In-any}
+use Rattle.xl_model_lemmas.proofs.SameLemmas.{same-tests, any-each, any-or, any-find, none-any}
+use Rattle.xl_model_lemmas.proofs.OrderLemmas.{orders-same, order-same, pages-some}
+use Rattle.xl_model_lemmas.proofs.PlaceLemmas.{covers-meets}
+use Rattle.xl_model_lemmas.proofs.SearchLemmas.{only, only-first}
+use Rattle.xl_model_lemmas.proofs.TallyLemmas.{tally-any}
+use Rattle.xl_model_lemmas.proofs.BlockLemmas.{meets-g1, meets-m2}
+use Rattle.xl_pte.specs.ReadBack.{MadeWordsReadBack}
+use Rattle.xl_tagged.specs.Forms.{Form, group_of, slot_of, word_at}
+use Rattle.xl_tagged.specs.Slots.{leaf_read, found_in, first_found, loads_by}
+use Rattle.xl_tagged.specs.Counted.{is_smaller, smaller_word}
+use Rattle.xl_tagged.specs.Tagged.{IsAt, AreHeld}
+use Rattle.xl_tagged.proofs.PlaceLemmas.{slot-low, covers-at, at-covers, covered-number}
+use Rattle.xl_tagged.proofs.SlotLemmas.{none-read, read-leaf, leaf-some}
+
+module _ (back : MadeWordsReadBack) (f : Form) (s page : ℕ) (values : ℕ → List ℕ) (tags : List ℕ) (leaves : List Leaf) (space_in : s < 64) (page_in : page < 2 ^ 45)
+    (h : AreHeld f values tags leaves) where
+  word-of : (o : Order) (x : Leaf) → In x leaves → IsAt f (tag_of (group_of f) s o page) (slot_of f o page) x
+      → word_at f values (tag_of (group_of f) s o page) (slot_of f o page) ≡ leaf_word x.frame x.perm
+  word-of o x i at = ap (λ t. word_at f values t (slot_of f o page)) (sym at.tag_is) ∙ ap (word_at f values (leaf_tag (group_of f) x)) (sym at.slot_is) ∙ h.word x i
+
+  found-leaf : (o : Order) (x : Leaf) → In x leaves → IsAt f (tag_of (group_of f) s o page) (slot_of f o page) x → found_in f s page values o ≡ only o (find (covers s page) leaves)
+  found-leaf o x i at =
+      let c = at-covers f s page o x space_in page_in (h.fit x i).aligned at in
+      let covering : covers s page x ≡ true = c.0 in
+      let same : x.space ≡ s = grind (arith, nat_tests) in
+      let n : x.first / pages_of x.order ≡ page / pages_of x.order = covered-number s page x (h.fit x i).aligned covering in
+      let here : find (covers s page) leaves ≡ Some x = find-only (covers s page) x leaves i covering (λ z j t. h.apart z x j i (covers-meets s page z x t covering)) in
+      let w : ℕ = leaf_word x.frame x.perm in
+      let read : leaf_read s o (page / pages_of o) w ≡ Some x =
+      ap (λ q. leaf_read s q (page / pages_of q) w) (sym c.1) ∙ ap (λ m. leaf_read m x.order (page / pages_of x.order) w) (sym same) ∙ ap (λ m. leaf_read x.space x.order m w) (sym n) ∙ read-leaf back x (h.fit x i) in
+      ap (leaf_read s o (page / pages_of o)) (word-of o x i at) ∙ read
+      ∙ sym (ap (only o) here ∙ ap (λ q. cond (same_order q o) (Some x) None) c.1 ∙ ap (λ t. cond t (Some x) None) (order-same o))
+
+  none-found : (o : Order) → word_at f values (tag_of (group_of f) s o page) (slot_of f o page) ≡ 0 → (q : Option Leaf) → find (covers s page) leaves ≡ q → None ≡ only o q
+  none-found o zero None w = refl
+  none-found o zero (Some x) w =
+      elim (same_order x.order o) as (λ t. same_order x.order o ≡ t → None ≡ cond t (Some x) None) [
+        | true ↦ λ t.
+            let i : In x leaves = find-In (covers s page) x leaves w in
+            let a : IsAt f (tag_of (group_of f) s x.order page) (slot_of f x.order page) x = covers-at f s page x (h.fit x i).aligned (find-passes (covers s page) x leaves w) in
+            let P : Order → Type 0 = λ q. IsAt f (tag_of (group_of f) s q page) (slot_of f q page) x in
+            absurd (leaf-some back x (h.fit x i) (sym (word-of o x i (subst P (orders-same x.order o t) a)) ∙ zero))
+        | false ↦ λ t. refl
+      ] refl
+
+  -- under the tag of an order, in its slot, stands the page's leaf, where it is of that order
+  pub found-is : (o : Order) → found_in f s page values o ≡ only o (find (covers s page) leaves)
+  found-is o = elim (h.slot (tag_of (group_of f) s o page) (slot_of f o page) (slot-low f (page / pages_of o))) [
+    | inl e ↦ ap (leaf_read s o (page / pages_of o)) e ∙ none-read s o (page / pages_of o) ∙ none-found o e (find (covers s page) leaves) refl
+    | inr r ↦ found-leaf o r.0 r.1 r.2
+  ]
+
+  pub at-page : first_found f s page values ≡ leaf_at_page s page leaves
+  unfolding leaf_at_page
+  at-page =
+      let F : Option Leaf = find (covers s page) leaves in
+      ap (λ q. or_leaf q (or_leaf (found_in f s page values order.M2) (found_in f s page values order.G1))) (found-is order.K4)
+      ∙ ap (λ q. or_leaf (only order.K4 F) (or_leaf q (found_in f s page values order.G1))) (found-is order.M2)
+      ∙ ap (λ q. or_leaf (only order.K4 F) (or_leaf (only order.M2 F) q)) (found-is order.G1)
+      ∙ only-first F
+
+  -- the loads of a walk are those of the orders that it tries
+  pub loads-are : (b : ℕ) →
+      let r : Order → ℕ = λ o. chain_reads (group_of f) b tags (tag_of (group_of f) s o page) in
+      loads_by (found_in f s page values order.K4) (found_in f s page values order.M2) (r order.K4) (r order.M2) (r order.G1)
+      ≡ chains_reads (group_of f) b tags s page (orders_tried (leaf_at_page s page leaves))
+  unfolding leaf_at_page
+  loads-are b =
+      let r : Order → ℕ = λ o. chain_reads (group_of f) b tags (tag_of (group_of f) s o page) in
+      let F : Option Leaf = find (covers s page) leaves in
+      ap (λ q. loads_by q (found_in f s page values order.M2) (r order.K4) (r order.M2) (r order.G1)) (found-is order.K4)
+      ∙ ap (λ q. loads_by (only order.K4 F) q (r order.K4) (r order.M2) (r order.G1)) (found-is order.M2)
+      ∙ tried F
+    where
+      tried : (q : Option Leaf) →
+          let r : Order → ℕ = λ o. chain_reads (group_of f) b tags (tag_of (group_of f) s o page) in
+          loads_by (only order.K4 q) (only order.M2 q) (r order.K4) (r order.M2) (r order.G1) ≡ chains_reads (group_of f) b tags s page (orders_tried q)
+      tried None = omega arith
+      tried (Some x) = go x.order
+        where
+          go : (o : Order) →
+              let r : Order → ℕ = λ p. chain_reads (group_of f) b tags (tag_of (group_of f) s p page) in
+              loads_by (cond (same_order o order.K4) (Some x) None) (cond (same_order o order.M2) (Some x) None) (r order.K4) (r order.M2) (r order.G1)
+              ≡ chains_reads (group_of f) b tags s page (orders_tried (Some (record x { order = o })))
+          go order.K4 = omega arith
+          go order.M2 = omega arith
+          go order.G1 = omega arith
+
+-- a smaller leaf that lies in a section
+abbrev pub lies_in : Order → ℕ → Leaf → Bool
+lies_in size key x = is_smaller size x.order && counts_at size key x
+
+either : (a b : ℕ) → (not (a == 0) || not (b == 0)) ≡ not (a + b * 2 ^ 22 == 0)
+either a b = same-tests (not (a == 0) || not (b == 0)) (not (a + b * 2 ^ 22 == 0)) (λ t. grind (arith, nat_tests)) (λ t. grind (arith, nat_tests))
+
+-- a section's word tells whether a smaller leaf lies in it
+pub lies-any : (size : Order) (key : ℕ) (leaves : List Leaf) → list_any (lies_in size key) leaves ≡ not (smaller_word size key leaves == 0)
+lies-any order.K4 key leaves = none-any (lies_in order.K4 key) leaves (λ x i. go x x.order)
+  where
+    go : (x : Leaf) (o : Order) → (is_smaller order.K4 o && counts_at order.K4 key x) ≡ false
+    go x order.K4 = refl
+    go x order.M2 = refl
+    go x order.G1 = refl
+lies-any order.M2 key leaves =
+    any-each (lies_in order.M2 key) (of_order order.M2 key order.K4) leaves (λ x i. go (counts_at order.M2 key x) x.order) ∙ tally-any (of_order order.M2 key order.K4) leaves
+  where
+    go : (t : Bool) (o : Order) → (is_smaller order.M2 o && t) ≡ (t && same_order o order.K4)
+    go true order.K4 = refl
+    go true order.M2 = refl
+    go true order.G1 = refl
+    go false order.K4 = refl
+    go false order.M2 = refl
+    go false order.G1 = refl
+lies-any order.G1 key leaves =
+    any-each (lies_in order.G1 key) (λ x. of_order order.G1 key order.K4 x || of_order order.G1 key order.M2 x) leaves (λ x i. go (counts_at order.G1 key x) x.order)
+    ∙ any-or (of_order order.G1 key order.K4) (of_order order.G1 key order.M2) leaves
+    ∙ ap (λ b. b || list_any (of_order order.G1 key order.M2) leaves) (tally-any (of_order order.G1 key order.K4) leaves)
+    ∙ ap (λ b. not (tally (of_order order.G1 key order.K4) leaves == 0) || b) (tally-any (of_order order.G1 key order.M2) leaves)
+    ∙ either (tally (of_order order.G1 key order.K4) leaves) (tally (of_order order.G1 key order.M2) leaves)
+  where
+    go : (t : Bool) (o : Order) → (is_smaller order.G1 o && t) ≡ ((t && same_order o order.K4) || (t && same_order o order.M2))
+    go true order.K4 = refl
+    go true order.M2 = refl
+    go true order.G1 = refl
+    go false order.K4 = refl
+    go false order.M2 = refl
+    go false order.G1 = refl
+
+-- a leaf that isn't smaller meets a block where it covers the block's first page
+large-covers : (o p : Order) (a b first e k : ℕ) → first ≡ e * pages_of o → a ≡ k * pages_of p → level_of o ≤ level_of p → a < first + pages_of o → a ≤ first
+large-covers order.K4 p a b first e k h i l m = omega arith
+large-covers order.M2 order.K4 a b first e k h i l m = absurd (omega arith)
+large-covers order.M2 order.M2 a b first e k h i l m = omega arith
+large-covers order.M2 order.G1 a b first e k h i l m = omega arith
+large-covers order.G1 order.K4 a b first e k h i l m = absurd (omega arith)
+large-covers order.G1 order.M2 a b first e k h i l m = absurd (omega arith)
+large-covers order.G1 order.G1 a b first e k h i l m = omega arith
+
+-- a smaller leaf meets a block where it lies in the block's section
+small-lies : (o : Order) (s first e : ℕ) (x : Leaf) → s < 64 → first < 2 ^ 45 → first ≡ e * pages_of o → IsAligned x → is_smaller o x.order ≡ true
+    → meets_block s first o x ≡ counts_at o (s * 2 ^ 45 + first / pages_of o) x
+small-lies order.K4 s first e x a b c d l = absurd (grind (arith, nat_tests))
+small-lies order.M2 s first e x a b c d l =
+    let other : same_order x.order order.G1 ≡ false = grind (arith, nat_tests) in
+    meets-m2 s first e x a b c d ∙ ap (λ t. counts_at order.M2 (s * 2 ^ 45 + first / 512) x || (counts_at order.G1 (s * 2 ^ 45 + first / 262144) x && t)) other
+    ∙ gone (counts_at order.M2 (s * 2 ^ 45 + first / 512) x) (counts_at order.G1 (s * 2 ^ 45 + first / 262144) x)
+  where
+    gone : (p q : Bool) → (p || (q && false)) ≡ p
+    gone true q = refl
+    gone false true = refl
+    gone false false = refl
+small-lies order.G1 s first e x a b c d l = meets-g1 s first e x a b c d
+
+meets-each : (o : Order) (s first e : ℕ) (x : Leaf) → s < 64 → first < 2 ^ 45 → first ≡ e * pages_of o → IsAligned x
+    → meets_block s first o x ≡ (covers s first x || lies_in o (s * 2 ^ 45 + first / pages_of o) x)
+meets-each o s first e x a b c d =
+    let size : 0 < pages_of o = pages-some o in
+    elim (is_smaller o x.order) as (λ t. is_smaller o x.order ≡ t → meets_block s first o x ≡ (covers s first x || (t && counts_at o (s * 2 ^ 45 + first / pages_of o) x))) [
+      | true ↦ λ t. same-tests (meets_block s first o x) (covers s first x || counts_at o (s * 2 ^ 45 + first / pages_of o) x)
+          (λ m. right (covers s first x) (counts_at o (s * 2 ^ 45 + first / pages_of o) x) (sym (small-lies o s first e x a b c d t) ∙ m))
+          (λ m. by (covers s first x) (counts_at o (s * 2 ^ 45 + first / pages_of o) x) m (λ k. grind (arith, nat_tests)) (λ k. small-lies o s first e x a b c d t ∙ k))
+      | false ↦ λ t. same-tests (meets_block s first o x) (covers s first x || false)
+          (λ m.
+          let low : x.first < first + pages_of o = grind (arith, nat_tests) in
+          let level : level_of o ≤ level_of x.order = grind (arith, nat_tests) in
+          let under : x.first ≤ first = large-covers o x.order x.first 0 first e d.aligned.0 c d.aligned.1 level low in
+          let covering : covers s first x ≡ true = grind (arith, nat_tests) in
+          left (covers s first x) covering)
+          (λ m. let covering : covers s first x ≡ true = plain (covers s first x) m in grind (arith, nat_tests))
+    ] refl
+  where
+    right : (p q : Bool) → q ≡ true → (p || q) ≡ true
+    right true q h = refl
+    right false q h = h
+
+    left : (p : Bool) → p ≡ true → (p || false) ≡ true
+    left p h = ap (λ b. b || false) h
+
+    plain : (p : Bool) → (p || false) ≡ true → p ≡ true
+    plain true h = refl
+    plain false h = h
+
+    by : (p q : Bool) → (p || q) ≡ true → (p ≡ true → meets_block s first o x ≡ true) → (q ≡ true → meets_block s first o x ≡ true) → meets_block s first o x ≡ true
+    by true q h j k = j refl
+    by false q h j k = k h
+
+-- A block is met where its first page has a leaf, or a smaller leaf lies in its section.
+pub meets-is : (o : Order) (s first e : ℕ) (leaves : List Leaf) → s < 64 → first < 2 ^ 45 → first ≡ e * pages_of o → ((x : Leaf) → In x leaves → IsAligned x)
+    → (is_some (leaf_at_page s first leaves) || not (smaller_word o (s * 2 ^ 45 + first / pages_of o) leaves == 0)) ≡ meets_any s first o leaves
+unfolding leaf_at_page meets_any
+meets-is o s first e leaves a b c d =
+    let key : ℕ = s * 2 ^ 45 + first / pages_of o in
+    sym (any-each (meets_block s first o) (λ x. covers s first x || lies_in o key x) leaves (λ x i. meets-each o s first e x a b c (d x i))
+    ∙ any-or (covers s first) (lies_in o key) leaves
+    ∙ ap (λ t. t || list_any (lies_in o key) leaves) (any-find (covers s first) leaves)
+    ∙ ap (λ t. is_some (find (covers s first) leaves) || t) (lies-any o key leaves))
+
+-- a leaf that is found has its own name
+pub found-named : (s page : ℕ) (x : Leaf) (leaves : List Leaf) → leaf_at_page s page leaves ≡ Some x → IsNamed x.space x.first x.order leaves
+unfolding leaf_at_page leaf_named
+found-named s page x leaves h =
+    sym (any-find (is_leaf x.space x.first x.order) leaves) ∙ In-any (is_leaf x.space x.first x.order) x leaves (find-In (covers s page) x leaves h) named
+  where
+    named : is_leaf x.space x.first x.order x ≡ true
+    named = grind (arith, nat_tests)

@@ -1,0 +1,5 @@
+pub mod Forms
+pub mod Slots
+pub mod Counted
+pub mod Tagged
+pub mod Steps

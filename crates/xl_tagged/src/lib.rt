@@ -1,0 +1,12 @@
+//! Leaves under tags in chains: what hashed and clustered tables have in common. A tag stands for so
+//! many consecutive pages of one order (one, or sixteen after Talluri, Hill and Khalidi, 1995), each of
+//! which has a slot of its own for its leaf word.
+#![tactic(auto)]
+
+mod place;
+mod smaller;
+#[cfg(test)]
+mod tests;
+
+pub use place::{full_table, give_perm, leaf_read, slot_of, tag_of};
+pub use smaller::Smaller;
