@@ -1,14 +1,13 @@
 -- What a block that is written makes of the slots.
-use Rattle.std.proofs.Common.{◌≡◌, refl, sym, ap, ◌∙◌, subst, ℕ, suc, ◌+◌, ◌-◌, ◌*◌, ◌/◌, ◌%◌, ◌^◌, ◌<◌, ◌≤◌, Bool, true, false, cond, not, ◌||◌, List, [], ◌∷◌, map, length, slice_set, slice_index, ◌==◌, Option, None, Some, Result, Ok, Err, OnOk, OnErr, inl, inr, ◌⊎◌, arith}
+use Rattle.std.proofs.Common.{◌≡◌, refl, sym, ap, ◌∙◌, subst, ℕ, ◌+◌, ◌-◌, ◌*◌, ◌/◌, ◌%◌, ◌^◌, ◌<◌, ◌≤◌, Bool, true, false, cond, not, ◌||◌, List, [], ◌∷◌, map, length, slice_set, slice_index, ◌==◌, Some, Result, Ok, Err, OnOk, OnErr, inl, inr, arith}
 use Rattle.std.specs.Prelude.{find}
 use Rattle.std.specs.List.{list_any}
 use Rattle.std.proofs.lemmas.List.{length-map}
-use Rattle.std.proofs.lemmas.Bool.Decides.{nat_tests}
 use Rattle.std.proofs.lemmas.Bool.{eq-eqb, eqb-true, ne_eqb}
 use Rattle.xl_model.specs.declared.work.Full.{Full}
 use Rattle.xl_model.specs.declared.perm.Perm.{Perm}
 use Rattle.xl_model.specs.Base.{one_if, plus}
-use Rattle.xl_model.specs.Chains.{has_tag, with_tag, chain_of, bucket_of, examined}
+use Rattle.xl_model.specs.Chains.{has_tag, chain_of, bucket_of, examined}
 use Rattle.xl_model.specs.Walks.{chain_reads}
 use Rattle.xl_model.specs.Words.{leaf_word}
 use Rattle.xl_model_lemmas.specs.Members.{In}
@@ -19,7 +18,6 @@ use Rattle.xl_chain.specs.Lines.{AreSingle, AreLines, WordsReadBack}
 use Rattle.xl_chain.specs.Kept.{IsInserted}
 use Rattle.xl_chain.specs.declared.shape.Seek.TheVariants as seek
 use Rattle.xl_chain.specs.Held.{Held, ChainState, found_of, loads_after, tags_of, has, held_with, is_entry, with_value, without_tag, value_of, value_in}
-use Rattle.xl_phys.specs.Lines.{IsLine}
 use Rattle.xl_tagged.specs.Forms.{Sixteen, values_by, values_under, word_at}
 use Rattle.xl_tagged.specs.Tagged.{AreSized}
 use Rattle.xl_tagged.specs.Steps.{IsWritten, IsSameTable, IsPut, IsSet, IsTaken, given_word, word_found}
@@ -27,7 +25,7 @@ use Rattle.xl_tagged.proofs.ChainLemmas.{IsUnderTag, found-under, same-entry, se
 use Rattle.xl_tagged.proofs.StateLemmas.{held-in, with-there, tag-with}
 use Rattle.xl_tagged.proofs.StepLemmas.{word-first, value-under, absent-values, tag-held, set-here, set-other, len-set, inserted-put, removed-taken}
 use Rattle.xl_clustered.specs.Blocks.{used_in, IsCountedBlock, AreBlocks, IsNewBlock, rewritten, IsFull}
-use Rattle.xl_clustered.proofs.UsedLemmas.{used-low, used-same, used-more, used-stays, used-less, used-some, used-only, used-single}
+use Rattle.xl_clustered.proofs.UsedLemmas.{used-more, used-stays, used-less, used-some, used-only, used-single}
 
 -- a value that is set changes no entry's number
 with-entry : (e i w : ℕ) (g : Held) → (with_value e i w g).entry ≡ g.entry

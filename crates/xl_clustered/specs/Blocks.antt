@@ -1,10 +1,10 @@
 -- Blocks: the entry of a tag has the number of its slots in use, and then sixteen slots.
-use Rattle.std.specs.Prelude.{ℕ, zero, suc, ◌≡◌, ◌+◌, ◌*◌, ◌<◌, ◌==◌, not, false, List, length, slice_index, map}
+use Rattle.std.specs.Prelude.{ℕ, zero, suc, ◌≡◌, ◌+◌, ◌<◌, ◌==◌, not, false, List, length, slice_index, map}
 use Rattle.xl_model.specs.Base.{one_if}
 use Rattle.xl_model.specs.Chains.{has_tag}
 use Rattle.xl_model_lemmas.specs.Members.{In}
 use Rattle.xl_chain.specs.Held.{Held, ChainState, tags_of, with_value}
-use Rattle.xl_tagged.specs.Forms.{Sixteen, values_under, word_at}
+use Rattle.xl_tagged.specs.Forms.{values_under}
 
 -- how many of the first n slots are in use
 unfoldable pub used_in : (ℕ → ℕ) → ℕ → ℕ

@@ -113,12 +113,7 @@ pub(crate) fn move_to(
 }
 
 /// The walk of a page.
-pub(crate) fn walk_page(
-    chains: &mut Chains<17>,
-    smaller: &Smaller,
-    space: u16,
-    page: u64,
-) -> Walk
+pub(crate) fn walk_page(chains: &mut Chains<17>, smaller: &Smaller, space: u16, page: u64) -> Walk
     requires whole { IsWhole chains.old smaller.now }
     requires page { IsPage (table_in Sixteen chains.old).shape space page }
     ensures whole { IsWhole chains.new smaller.now }

@@ -107,7 +107,10 @@ fn a_move_within_a_block_wants_no_room(rt: HostRuntime) -> Result<(), Fail> {
     assert_eq!(rt; added(&mut table, 16, Order::K4), no_room());
     assert_eq!(rt; moved(&mut table, 0, 16), no_room());
     assert_eq!(rt; moved(&mut table, 0, 15), done);
-    assert_eq!(rt; (loads_of(&mut table, 15), loads_of(&mut table, 0)), (3, 3 + 2 + 2));
+    assert_eq!(rt;
+        (loads_of(&mut table, 15), loads_of(&mut table, 0)),
+        (3, 3 + 2 + 2)
+    );
     Ok(())
 }
 
@@ -116,7 +119,10 @@ fn a_move_to_another_block_takes_the_old_one_away(rt: HostRuntime) -> Result<(),
     let mut table = Clustered::open(rt.alloc(), 1, 2)?;
     assert_eq!(rt; added(&mut table, 1, Order::K4), Some(Ok(Work::none())));
     assert_eq!(rt; moved(&mut table, 1, 16), Some(Ok(Work::none())));
-    assert_eq!(rt; (loads_of(&mut table, 16), loads_of(&mut table, 1)), (3, 2 + 2 + 2));
+    assert_eq!(rt;
+        (loads_of(&mut table, 16), loads_of(&mut table, 1)),
+        (3, 2 + 2 + 2)
+    );
     assert!(rt; table.table().find(1 << 45).is_none());
     Ok(())
 }

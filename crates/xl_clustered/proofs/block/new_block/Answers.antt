@@ -1,4 +1,4 @@
-use Rattle.std.proofs.Common.{◌≡◌, refl, sym, ap, ◌∙◌, ℕ, zero, suc, true, ◌+◌, ◌<◌, List, [], ◌∷◌, length, slice_index, slice_set, replicate, arith}
+use Rattle.std.proofs.Common.{◌≡◌, ap, ◌∙◌, ℕ, suc, true, ◌+◌, ◌<◌, List, [], ◌∷◌, slice_index, slice_set, arith}
 use Rattle.std.proofs.lemmas.List.{get_or-replicate}
 use Rattle.xl_clustered.specs.Blocks.{IsNewBlock}
 use Rattle.xl_tagged.proofs.StepLemmas.{set-here, set-other, len-set}

@@ -1,15 +1,13 @@
-use Rattle.std.proofs.Common.{◌≡◌, sym, ap, ◌∙◌, subst, ◌+◌, ◌-◌, ◌<◌, ◌≤◌, true, false, lit<, arith}
+use Rattle.std.proofs.Common.{◌≡◌, sym, ◌∙◌, ◌+◌, false, lit<, arith}
 use Rattle.xl_chain.specs.Held.{ChainState, held_with, found_of, tags_of}
 use Rattle.xl_chain.specs.declared.shape.Seek.TheVariants as seek
 use Rattle.xl_model.specs.Chains.{has_tag}
-use Rattle.xl_model_lemmas.proofs.SameLemmas.{both}
-use Rattle.xl_tagged.specs.Forms.{Sixteen, values_under, word_at}
-use Rattle.xl_tagged.specs.Steps.{IsSet, IsTaken, given_word}
+use Rattle.xl_tagged.specs.Forms.{values_under}
 use Rattle.xl_tagged.proofs.ChainLemmas.{IsUnderTag, found-under}
 use Rattle.xl_tagged.proofs.StepLemmas.{entry-held, tag-held, not-held}
 use Rattle.xl_clustered.specs.Blocks.{used_in}
 use Rattle.xl_clustered.proofs.UsedLemmas.{used-low}
-use Rattle.xl_clustered.proofs.BlockLemmas.{IsWrote, wrote, slots_of, found-count, wrote-put, wrote-set, wrote-blocks, wrote-taken, put-count, take-count, give-count, new-put, new-blocks, full-of, gone-taken, gone-blocks, absent-word, slot-value, given-some, loads-found, loads-absent}
+use Rattle.xl_clustered.proofs.BlockLemmas.{IsWrote, wrote, slots_of, found-count, wrote-put, wrote-blocks, put-count, new-put, new-blocks, full-of}
 use Rattle.xl_clustered.proofs.slots.put.Goals as goal
 
 pub overflow_add-value : goal.overflow_add-value

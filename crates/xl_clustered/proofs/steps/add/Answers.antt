@@ -1,4 +1,4 @@
-use Rattle.std.proofs.Common.{◌≡◌, ◌<◌, refl, sym, ap, ◌∙◌, subst, ℕ, [], ◌^◌, ◌≤◌, Result, Err, arith}
+use Rattle.std.proofs.Common.{◌<◌, sym, ap, ◌∙◌, subst, Err}
 use Rattle.xl_model.specs.Changes.{Insert}
 use Rattle.xl_model.specs.Chains.{leaf_tag, has_tag}
 use Rattle.xl_model.specs.Structures.{IsChange}

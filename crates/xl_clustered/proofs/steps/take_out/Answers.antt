@@ -1,12 +1,12 @@
-use Rattle.std.proofs.Common.{◌≡◌, ◌<◌, refl, sym, ap, ◌∙◌, subst, ℕ, [], ◌^◌, ◌≤◌, Result, Err, arith}
+use Rattle.std.proofs.Common.{◌≡◌, sym, ap, ◌∙◌, arith}
 use Rattle.xl_model.specs.Changes.{Remove}
-use Rattle.xl_model.specs.Chains.{tag_of, has_tag}
-use Rattle.xl_chain.specs.Held.{ChainState, tags_of}
+use Rattle.xl_model.specs.Chains.{tag_of}
+use Rattle.xl_chain.specs.Held.{ChainState}
 use Rattle.xl_tagged.specs.Forms.{Sixteen, slot_of}
 use Rattle.xl_tagged.specs.Steps.{IsTaken}
 use Rattle.xl_tagged.proofs.StateLemmas.{done}
 use Rattle.xl_tagged.proofs.StepLemmas.{as-taken}
-use Rattle.xl_tagged.proofs.WholeLemmas.{IsStep, answered, IsNamedLeaf, named-leaf, named-low, named-has, remove-in, remove-step}
+use Rattle.xl_tagged.proofs.WholeLemmas.{IsStep, answered, IsNamedLeaf, named-leaf, named-low, remove-in, remove-step}
 use Rattle.xl_tagged.proofs.WholeLemmas.{named-word}
 use Rattle.xl_tagged.specs.Forms.{values_under, word_at}
 use Rattle.xl_model.specs.Words.{leaf_word}

@@ -1,4 +1,4 @@
-use Rattle.std.proofs.Common.{◌≡◌, ◌<◌, refl, sym, ap, ◌∙◌, subst, ℕ, [], ◌^◌, ◌≤◌, Result, Err, arith}
+use Rattle.std.proofs.Common.{sym, ap, ◌∙◌, subst, [], ◌^◌, ◌≤◌, arith}
 use Rattle.xl_chain.specs.Held.{ChainState}
 use Rattle.xl_tagged.specs.Forms.{Sixteen}
 use Rattle.xl_clustered.specs.Blocks.{AreBlocks}
