@@ -82,6 +82,7 @@ pub(crate) fn give(chains: &mut Chains<17>, tag: u64, slot: usize, perm: Perm)
 }
 
 /// The word in a slot under a tag, without loads; 0 where there is no block.
+#[inline(always)]
 fn word_in(chains: &Chains<17>, tag: u64, slot: usize) -> u64
     requires { slot < 16 }
     ensures { result ≡ word_at Sixteen (values_under chains.now.held) tag slot }
@@ -94,6 +95,7 @@ fn word_in(chains: &Chains<17>, tag: u64, slot: usize) -> u64
 }
 
 /// The word in a slot under a tag, with the loads of the search, and one more where there is a block.
+#[inline(always)]
 fn probe_in(chains: &mut Chains<17>, tag: u64, slot: usize) -> u64
     requires slot { slot < 16 }
     requires sized { AreSized Sixteen chains.old.held }
@@ -109,6 +111,7 @@ fn probe_in(chains: &mut Chains<17>, tag: u64, slot: usize) -> u64
 }
 
 /// Searches for the leaf of this order in which a page lies, without loads.
+#[inline(always)]
 pub(crate) fn look(chains: &Chains<17>, space: u16, order: Order, page: u64) -> Option<Leaf>
     requires space_in { space < 64 }
     requires page_in { page < 2 ^ 45 }
@@ -120,6 +123,7 @@ pub(crate) fn look(chains: &Chains<17>, space: u16, order: Order, page: u64) -> 
 }
 
 /// Searches for the leaf of this order in which a page lies, with loads.
+#[inline(always)]
 pub(crate) fn probe(chains: &mut Chains<17>, space: u16, order: Order, page: u64) -> Option<Leaf>
     requires space_in { space < 64 }
     requires page_in { page < 2 ^ 45 }

@@ -4,6 +4,7 @@
 
 mod blocks;
 mod lists;
+mod tables;
 
 use std::io;
 use std::str::FromStr;
@@ -22,8 +23,11 @@ fn main(rt: HostRuntime) -> io::Result<()> {
         let answers = match part {
             "lists" => lists::answers(rt.alloc(), calls),
             "blocks" => blocks::answers(rt.alloc(), 1 << 22, calls),
+            "hashed" => tables::hashed(rt.alloc(), calls),
+            "clustered" => tables::clustered(rt.alloc(), calls),
+            "meets" => tables::meets(rt.alloc(), calls),
             _ => {
-                println!(rt; "the parts are lists and blocks")?;
+                println!(rt; "the parts are lists, blocks, hashed, clustered and meets")?;
                 continue;
             }
         };
