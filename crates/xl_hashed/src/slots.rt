@@ -13,6 +13,7 @@ use xl_model::{Full, Leaf, Order, Perm};
 use xl_tagged::{give_perm, leaf_read, tag_of};
 
 /// The word that a search found, 0 where it found none.
+#[inline(always)]
 fn word_of(seek: Seek) -> u64
     ensures { result ≡ word_found seek }
 {
@@ -59,6 +60,7 @@ pub(crate) fn give(chains: &mut Chains<1>, tag: u64, perm: Perm)
 }
 
 /// Searches for the leaf of this order in which a page lies, without loads.
+#[inline(always)]
 pub(crate) fn look(chains: &Chains<1>, space: u16, order: Order, page: u64) -> Option<Leaf>
     requires space_in { space < 64 }
     requires page_in { page < 2 ^ 45 }
@@ -69,6 +71,7 @@ pub(crate) fn look(chains: &Chains<1>, space: u16, order: Order, page: u64) -> O
 }
 
 /// Searches for the leaf of this order in which a page lies, with loads.
+#[inline(always)]
 pub(crate) fn probe(chains: &mut Chains<1>, space: u16, order: Order, page: u64) -> Option<Leaf>
     requires space_in { space < 64 }
     requires page_in { page < 2 ^ 45 }

@@ -13,7 +13,13 @@ use Rattle.xl_model.specs.declared.script.Item.TheVariants.{Command, Declared, R
 use Rattle.xl_model.specs.declared.row.Row.{Row as RowFields}
 use Rattle.xl_model.specs.Lines.{answer_line, command_line}
 use Rattle.xl_model.specs.Rows.{Row, row_of}
-use Rattle.xl_model.specs.RowRun.{RowState, after_event, outcome_of, reply_to}
+use Rattle.xl_model.specs.RowRun.{RowState, walk_filled, walk_made, looked_by, looked_where, looked, accessed, served as done, after_event, outcome_of, reply_to}
+use Rattle.xl_model.specs.Addresses.{is_canonical, page_of}
+use Rattle.xl_model.specs.Mapping.{leaf_at_page}
+use Rattle.xl_model.specs.Rules.{rule}
+use Rattle.xl_model.specs.Tally.{count_look}
+use Rattle.xl_model.specs.Tlb.{Answer, answer_of}
+use Rattle.xl_model.specs.declared.leaf.Leaf.{Leaf}
 use Rattle.xl_model.specs.Items.{area_for, wanted, area_wanted, map_of, again_where, demanded, referenced, state_after}
 use Rattle.xl_model.specs.Scenes.{Served, served_after, access_line, event_line, second_line, demand_lines, item_lines}
 use Rattle.xl_machine.specs.Served.{after_of}
@@ -77,6 +83,25 @@ declared-after : (area : Area) (areas : List Area) (v : Served) → served_after
 unfolding state_after
 declared-after area areas v = refl
 
+-- an access leaves the current space
+filled-space : (found : Option Leaf) (s : RowState) → (walk_filled found s).space ≡ s.space
+filled-space None s = refl
+filled-space (Some leaf) s = refl
+
+looked-space : (answer : Option Answer) (page : ℕ) (s : RowState) → (looked_by answer page s).space ≡ s.space
+looked-space None page s =
+    filled-space (leaf_at_page s.space page s.table.leaves) (walk_made s.space page (record s { counts = count_look None s.space page s.arrays s.counts }))
+looked-space (Some answer) page s = refl
+
+where-space : (there : Bool) (page : ℕ) (s : RowState) → (looked_where there page s).space ≡ s.space
+unfolding looked
+where-space true page s = looked-space (answer_of s.arrays s.space page) page s
+where-space false page s = refl
+
+access-space : (row : Row) (va : ℕ) (k : Kind) (s : RowState) → (after_event row (event.Access va k) s).space ≡ s.space
+unfolding after_event rule done accessed
+access-space row va k s = where-space (is_canonical row.mode va) (page_of row.mode va) s
+
 pub none-of : (area : Option Area) → ((a : Area) → area ≡ Some a → ⊥) → area ≡ None
 none-of None not = refl
 none-of (Some a) not = absurd (not a refl)
@@ -124,17 +149,17 @@ module _ {K : Type 0} (written : K → Option (List ℕ)) (faults : K → ℕ) (
 module _ {K : Type 0} (written : K → Option (List ℕ)) (faults : K → ℕ) (roomy : K → ℕ → Type 0) (answers : Bool) (i number va : ℕ) (kind : Kind) where
   -- the row was served an access, and its line was written
   pub access-line-told : (space : ℕ) (answer : Reply) (row : RowFields) (p q : List Served) (k l : K) (whole : Bool) → answers ≡ true
-      → IfSome (slice_get p i) (λ v. space ≡ v.state.space) → IfSome (slice_get p i) (λ v. answer ≡ reply_to v.row v.state va kind)
+      → IfSome (slice_get q i) (λ v. space ≡ v.state.space) → IfSome (slice_get p i) (λ v. answer ≡ reply_to v.row v.state va kind)
       → q ≡ at_place (after_of (event.Access va kind)) i p → IfSome (slice_get q i) (λ v. row_of row ≡ v.row)
       → SinkAfter written faults roomy (answer_line row.name.bytes number kind space va answer) k l whole
       → ServedAt written faults roomy answers i (after_of (event.Access va kind)) (access_told number va kind) p q k l whole
   access-line-told space answer row p q k l whole asked at is after named told =
       told-at written faults roomy answers i (after_of (event.Access va kind)) (access_told number va kind) p q k l whole (answer_line row.name.bytes number kind space va answer) after
       (λ v h.
-      let s : space ≡ v.state.space = some-of _ _ v at h in
       let t : answer ≡ reply_to v.row v.state va kind = some-of _ _ v is h in
       let got : slice_get q i ≡ Some (after_of (event.Access va kind) v) = ap (λ (rows : List Served). slice_get rows i) after ∙ get-at_place (after_of (event.Access va kind)) i p v h in
       let same : row_of row ≡ v.row = some-of _ _ (after_of (event.Access va kind) v) named got in
+      let s : space ≡ v.state.space = some-of _ _ (after_of (event.Access va kind) v) at got ∙ access-space v.row va kind v.state in
       rw (asked, s, t) (ap (λ (r : Row). answer_line r.name number kind v.state.space va (reply_to v.row v.state va kind)) same))
       told
 
@@ -174,12 +199,12 @@ module _ {K : Type 0} (written : K → Option (List ℕ)) (faults : K → ℕ) (
       (cut-at written faults roomy answers i (after_of map) (demand_after found va kind) (event_told map) (λ v. again_told (outcome_of v.row map v.state) number va kind (after_of map v)) p q k l first)
 
   -- an access, and its demand
-  pub access-served : (areas : List Area) (space : ℕ) (answer : Reply) (area : Option Area) (p q r : List Served) (k l m : K) (whole : Bool)
-      → IfSome (slice_get p i) (λ v. space ≡ v.state.space) → IfSome (slice_get p i) (λ v. answer ≡ reply_to v.row v.state va kind) → area ≡ wanted answer (area_for space va areas)
+  pub access-served : (areas : List Area) (answer : Reply) (area : Option Area) (p q r : List Served) (k l m : K) (whole : Bool)
+      → IfSome (slice_get p i) (λ v. answer ≡ reply_to v.row v.state va kind) → IfSome (slice_get q i) (λ v. area ≡ wanted answer (area_for v.state.space va areas))
       → ServedAt written faults roomy answers i (after_of (event.Access va kind)) (access_told number va kind) p q k l true
       → ServedAt written faults roomy answers i (demand_after area va kind) (demand_told area number va kind) q r l m whole
       → ServedAt written faults roomy answers i (served_after (Referenced number va kind) areas) (λ v. item_lines (Referenced number va kind) areas v.row v.state) p r k m whole
-  access-served areas space answer area p q r k l m whole at told found first next =
+  access-served areas answer area p q r k l m whole told found first next =
       as-at written faults roomy answers i (served_after (Referenced number va kind) areas) (λ v. demand_after area va kind (after_of (event.Access va kind) v))
       (λ v. item_lines (Referenced number va kind) areas v.row v.state)
       (λ v. access_told number va kind v ++ demand_told area number va kind (after_of (event.Access va kind) v)) p r k m whole
@@ -191,9 +216,11 @@ module _ {K : Type 0} (written : K → Option (List ℕ)) (faults : K → ℕ) (
     where
       area-is : (v : Served) → slice_get p i ≡ Some v → area ≡ area_wanted v.row va kind areas v.state
       area-is v h =
-          let s : space ≡ v.state.space = some-of _ _ v at h in
           let t : answer ≡ reply_to v.row v.state va kind = some-of _ _ v told h in
-          found ∙ ap (λ (z : ℕ). wanted answer (area_for z va areas)) s ∙ ap (λ (z : Reply). wanted z (area_for v.state.space va areas)) t
+          let mid : Served = after_of (event.Access va kind) v in
+          let got : slice_get q i ≡ Some mid = ap (λ (rows : List Served). slice_get rows i) first.rows_are ∙ get-at_place (after_of (event.Access va kind)) i p v h in
+          let e : area ≡ wanted answer (area_for mid.state.space va areas) = some-of _ _ mid found got in
+          e ∙ ap (λ (z : ℕ). wanted answer (area_for z va areas)) (access-space v.row va kind v.state) ∙ ap (λ (z : Reply). wanted z (area_for v.state.space va areas)) t
 
   pub access-cut : (areas : List Area) (p q : List Served) (k l : K)
       → ServedAt written faults roomy answers i (after_of (event.Access va kind)) (access_told number va kind) p q k l false

@@ -39,6 +39,7 @@ pub(crate) fn serve_command<K: Sink>(
 }
 
 /// Serves an access to a row, and writes its line where it is asked for.
+#[inline(always)]
 fn serve_once<K: Sink>(
     rack: &mut Rack,
     i: usize,
@@ -55,11 +56,11 @@ fn serve_once<K: Sink>(
         (λ v. access_line v.row number va kind v.state)
         rack.old rack.new out.old out.new (is_ok result) }
 {
-    let space = rack.space(i);
     let reply = rack.access(i, va, kind);
     if !answers {
         return Ok(reply);
     }
+    let space = rack.space(i);
     match write_answer(out, rack.row(i), number, kind, space, va, reply) {
         Ok(()) => Ok(reply),
         Err(failed) => Err(failed),
@@ -124,12 +125,15 @@ fn area_of(areas: &[Area], space: u16, va: u64) -> Option<Area>
     None
 }
 
-/// The area that a reply to an access demands: its page's, where it is unmapped.
-fn area_wanted(areas: &[Area], space: u16, va: u64, reply: Reply) -> Option<Area>
-    ensures { result ≡ wanted reply (area_for space va areas.now) }
+/// The area that a reply to an access of a row demands: its page's, where it is unmapped.
+#[inline(always)]
+fn area_wanted(rack: &Rack, i: usize, areas: &[Area], va: u64, reply: Reply) -> Option<Area>
+    requires { i < length rack.now }
+    ensures { IfSome (slice_get rack.now i)
+        (λ v. result ≡ wanted reply (area_for v.state.space va areas.now)) }
 {
     match reply {
-        Reply::Unmapped => area_of(areas, space, va),
+        Reply::Unmapped => area_of(areas, rack.space(i), va),
         _ => None,
     }
 }
@@ -161,6 +165,7 @@ fn serve_demand<K: Sink>(
 }
 
 /// Serves an access to a row, with the events of its demand, where these areas were declared.
+#[inline(always)]
 pub(crate) fn serve_access<K: Sink>(
     rack: &mut Rack,
     i: usize,
@@ -177,10 +182,9 @@ pub(crate) fn serve_access<K: Sink>(
         (λ v. item_lines (Referenced number va kind) areas.now v.row v.state)
         rack.old rack.new out.old out.new (is_ok result) }
 {
-    let space = rack.space(i);
     match serve_once(rack, i, number, va, kind, answers, out) {
         Ok(reply) => {
-            let area = area_wanted(areas, space, va, reply);
+            let area = area_wanted(rack, i, areas, va, reply);
             serve_demand(rack, i, area, number, va, kind, answers, out)
         }
         Err(failed) => Err(failed),

@@ -56,6 +56,7 @@ fn step_at(slots: &mut [Slot], i: usize, event: Event) -> Outcome
 }
 
 /// Serves an access by the slot at a place.
+#[inline(always)]
 fn access_at(slots: &mut [Slot], i: usize, va: u64, kind: Kind) -> Reply
     requires { i < length slots.old }
     ensures reply { IfSome (slice_get (map served_of slots.old) i)

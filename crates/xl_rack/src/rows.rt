@@ -17,6 +17,7 @@ use xl_report::write_row;
 use xl_serving::Rows;
 
 /// Serves an item to a row, where these areas were declared.
+#[inline(always)]
 fn serve_item<K: Sink>(
     rack: &mut Rack,
     i: usize,
@@ -42,7 +43,9 @@ fn serve_item<K: Sink>(
     }
 }
 
-/// Serves an item that declares no area: whole by the first row, then by the next.
+/// Serves an item that declares no area: whole by the first row, then by the next. In line, so that
+/// the item's kind is known in the loop.
+#[inline(always)]
 pub(crate) fn serve_rows<K: Sink>(
     rack: &mut Rack,
     item: Item,

@@ -6,9 +6,14 @@ mod blocks;
 mod hits;
 mod lists;
 mod nodes;
+mod tables;
 
 use std::io;
 use std::str::FromStr;
+
+/// The answer to a part that there isn't.
+const PARTS: &str =
+    "the parts are lists, blocks, front, second, nodes, few_nodes, hashed, clustered and meets";
 
 fn main(rt: HostRuntime) -> io::Result<()> {
     for line in rt.lines(rt.alloc()) {
@@ -28,8 +33,11 @@ fn main(rt: HostRuntime) -> io::Result<()> {
             "second" => hits::answers(rt.alloc(), 5, calls),
             "nodes" => nodes::answers(rt.alloc(), 1 << 14, calls),
             "few_nodes" => nodes::answers(rt.alloc(), 1 << 4, calls),
+            "hashed" => tables::hashed(rt.alloc(), calls),
+            "clustered" => tables::clustered(rt.alloc(), calls),
+            "meets" => tables::meets(rt.alloc(), calls),
             _ => {
-                println!(rt; "the parts are lists, blocks, front, second, nodes and few_nodes")?;
+                println!(rt; "{PARTS}")?;
                 continue;
             }
         };

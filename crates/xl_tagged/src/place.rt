@@ -13,6 +13,7 @@ use xl_model::{Leaf, NoRoom, Order, Perm, Refused, Work};
 use xl_pte::{Pte, decode, leaf_word};
 
 /// The tag under which a page of this order stands, where each tag has `group` pages: one or sixteen.
+#[inline(always)]
 pub fn tag_of(group: u64, space: u16, order: Order, page: u64) -> u64
     requires group { (group ≡ 1) ⊎ (group ≡ 16) }
     requires space_in { space < 64 }
@@ -24,6 +25,7 @@ pub fn tag_of(group: u64, space: u16, order: Order, page: u64) -> u64
 }
 
 /// The slot of a page of this order under its tag.
+#[inline(always)]
 pub fn slot_of(group: u64, order: Order, page: u64) -> usize
     requires { (group ≡ 1) ⊎ (group ≡ 16) }
     ensures is { result ≡ page / pages_of order % group }
@@ -33,6 +35,7 @@ pub fn slot_of(group: u64, order: Order, page: u64) -> usize
 }
 
 /// The leaf that a PTE says, which is number `number` of its order.
+#[inline(always)]
 fn leaf_said(space: u16, order: Order, number: u64, pte: Pte) -> Option<Leaf>
     requires { number < 2 ^ 45 }
     ensures { result ≡ said space order number pte }
@@ -51,6 +54,7 @@ fn leaf_said(space: u16, order: Order, number: u64, pte: Pte) -> Option<Leaf>
 
 /// The leaf of this order in which a page lies, as its word says it; None where the word says none, as
 /// 0 does.
+#[inline(always)]
 pub fn leaf_read(space: u16, order: Order, page: u64, word: u64) -> Option<Leaf>
     requires { page < 2 ^ 45 }
     ensures { result ≡ read space order (page / pages_of order) word }

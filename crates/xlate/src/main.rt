@@ -37,7 +37,14 @@ fn answer(rt: HostRuntime) -> u8 {
     let mut folder = HostFolder::open(&rt);
     let mut out = HostOut::open(&rt);
     let mut err = HostErr::open(&rt);
-    code(run(rt.alloc(), &words, &mut folder, &mut out, &mut err, &mut rack))
+    code(run(
+        rt.alloc(),
+        &words,
+        &mut folder,
+        &mut out,
+        &mut err,
+        &mut rack,
+    ))
 }
 
 /// The exit code of a status.

@@ -1,0 +1,2 @@
+mod UsedLemmas
+mod BlockLemmas
