@@ -1,5 +1,6 @@
 //! A machine that is handed out.
 
+use xl_clustered::Clustered;
 use xl_hashed::Hashed;
 use xl_machine::Machine;
 use xl_radix_walk::RadixRow;
@@ -10,4 +11,5 @@ pub enum Held<'a> {
     Sv48(&'a Machine<RadixRow<4>>),
     Sv57(&'a Machine<RadixRow<5>>),
     Hashed(&'a Machine<Hashed>),
+    Clustered(&'a Machine<Clustered>),
 }

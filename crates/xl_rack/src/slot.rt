@@ -13,6 +13,7 @@ ghost use Rattle.xl_rack.specs.Slots.{served_of, slot_form, IsNamed};
 
 use crate::held::Held;
 use std::alloc::Global;
+use xl_clustered::Clustered;
 use xl_hashed::Hashed;
 use xl_machine::Machine;
 use xl_model::{Counts, Event, Kind, Mode, NoMemory, Outcome, Reply, Row, Table};
@@ -25,6 +26,7 @@ pub(crate) enum Slot {
     Sv48(Machine<RadixRow<4>>),
     Sv57(Machine<RadixRow<5>>),
     Hashed(Machine<Hashed>),
+    Clustered(Machine<Clustered>),
 }
 
 /// The machine of a row with a radix table of LEVELS levels.
@@ -58,6 +60,21 @@ fn open_hashed(
     Machine::open(alloc, row, table)
 }
 
+/// The machine of a row with a clustered table.
+fn open_clustered(
+    alloc: Global,
+    row: Row,
+    buckets: u32,
+    blocks: u32,
+) -> Result<Machine<Clustered>, NoMemory>
+    requires row { IsRow (row_of row) }
+    requires table { row.table ≡ table.Clustered buckets blocks }
+    ensures { IfOk result (λ m. m ≡ opened (row_of row)) }
+{
+    let table = Clustered::open(alloc, buckets, blocks)?;
+    Machine::open(alloc, row, table)
+}
+
 impl Slot {
     /// The machine of a row in its opening state, over the table that the row names.
     ///
@@ -77,6 +94,9 @@ impl Slot {
             } => Slot::open_levels(alloc, row, table_frames, caches),
             Table::Hashed { buckets, entries } => {
                 Ok(Slot::Hashed(open_hashed(alloc, row, buckets, entries)?))
+            }
+            Table::Clustered { buckets, blocks } => {
+                Ok(Slot::Clustered(open_clustered(alloc, row, buckets, blocks)?))
             }
             _ => unreachable!(),
         }
@@ -113,6 +133,7 @@ impl Slot {
             Slot::Sv48(machine) => machine.step(event),
             Slot::Sv57(machine) => machine.step(event),
             Slot::Hashed(machine) => machine.step(event),
+            Slot::Clustered(machine) => machine.step(event),
         }
     }
 
@@ -129,6 +150,7 @@ impl Slot {
             Slot::Sv48(machine) => machine.access(va, kind),
             Slot::Sv57(machine) => machine.access(va, kind),
             Slot::Hashed(machine) => machine.access(va, kind),
+            Slot::Clustered(machine) => machine.access(va, kind),
         }
     }
 
@@ -141,6 +163,7 @@ impl Slot {
             Slot::Sv48(machine) => machine.row(),
             Slot::Sv57(machine) => machine.row(),
             Slot::Hashed(machine) => machine.row(),
+            Slot::Clustered(machine) => machine.row(),
         }
     }
 
@@ -153,6 +176,7 @@ impl Slot {
             Slot::Sv48(machine) => machine.space(),
             Slot::Sv57(machine) => machine.space(),
             Slot::Hashed(machine) => machine.space(),
+            Slot::Clustered(machine) => machine.space(),
         }
     }
 
@@ -166,6 +190,7 @@ impl Slot {
             Slot::Sv48(machine) => machine.counts(),
             Slot::Sv57(machine) => machine.counts(),
             Slot::Hashed(machine) => machine.counts(),
+            Slot::Clustered(machine) => machine.counts(),
         }
     }
 
@@ -179,6 +204,7 @@ impl Slot {
             Slot::Sv48(machine) => Held::Sv48(machine),
             Slot::Sv57(machine) => Held::Sv57(machine),
             Slot::Hashed(machine) => Held::Hashed(machine),
+            Slot::Clustered(machine) => Held::Clustered(machine),
         }
     }
 }
