@@ -1,5 +1,5 @@
-//! The replay of the built-in row in plain Rust, for a measure of speed: the same work in the same form,
-//! with nothing proved. Its script has lines `map 0 ADDRESS 4k rwxu` alone.
+//! The replay of the row of examples/primes.toml in plain Rust, for a measure of speed: the same work in the
+//! same form, with nothing proved. Its script has lines `map 0 ADDRESS 4k rwxu` alone.
 //!
 //!     rustc -O -C target-cpu=x86-64-v2 speed/plain.rs && ./plain SCRIPT TRACE
 

@@ -3,4 +3,5 @@
 mod faults;
 mod given;
 mod rows;
+mod several;
 mod stops;

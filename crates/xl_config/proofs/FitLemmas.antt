@@ -23,7 +23,7 @@ use Rattle.xl_config.specs.declared.fault.Rule.TheVariants as rule
 use Rattle.xl_config.specs.declared.kind.TableKind.{TableKind}
 use Rattle.xl_config.specs.declared.kind.TableKind.TheVariants as kind
 use Rattle.xl_config.specs.Config.{keyed}
-use Rattle.xl_config.specs.Keys.{◌>>=◌, Gives, bad, needed, checked, found, text_of, array_of, table_of, between, number_of, number_in, width_by, width_of, is_name, name_in, mode_in, kind_in, purge_in, range_tlb_by, count_items, widths_from, caches_by, caches_in}
+use Rattle.xl_config.specs.Keys.{◌>>=◌, Gives, bad, needed, checked, found, text_of, array_of, table_of, between, number_of, number_in, width_by, width_of, is_name, name_in, mode_in, is_built, IsBuilt, kind_named, kind_in, purge_in, range_tlb_by, count_items, widths_from, caches_by, caches_in}
 use Rattle.xl_config.specs.Arrays.{with_order, order_named, order_of, orders_from, orders_in, width_in, without_orders, is_array_key, only_known, array_in, arrays_from, agree, arrays_by, arrays_in}
 use Rattle.xl_config.specs.Tables.{radix_in, hashed_in, clustered_in, cuckoo_in, range_in, table_in, is_known}
 use Rattle.xl_config.specs.Rows.{names_of, row_in, element_in, rows_from}
@@ -376,19 +376,64 @@ row_fits row earlier ms =
       apart = e.apart;
     })))))))))
 
-from_fits : (number : ℕ) (ds : Items) (rows : List Row) → All IsRow rows → Fits (All IsRow) (rows_from number ds rows)
-from_fits number no_items rows h = h
-from_fits number (item d ds) rows h =
-    then_fits IsRow (All IsRow) (element_in number (names_of rows) d) (λ r. rows_from (number + 1) ds (rows ++ r ∷ []))
-    (then_any IsRow (table_of 0 0 d) (row_in number (names_of rows)) (row_fits number (names_of rows))) (λ r k.
-    from_fits (number + 1) ds (rows ++ r ∷ []) (All-push IsRow rows r h k))
+-- the table of a row can be opened
+named_radix : (s : List ℕ) (k : TableKind) → kind_named s ≡ Some k → k ≡ kind.Radix
+named_radix s k h =
+    elim (bytes_eq s (codes "radix")) as (λ v. (if v then Some kind.Radix else None) ≡ Some k → k ≡ kind.Radix)
+    [ true ↦ λ e. sym (same_Some kind.Radix k e) | false ↦ λ e. cc ] h
 
--- the rows that an answer has keep the rules of a row
+kind_fits : (row : ℕ) (ms : Members) → Fits (λ k. k ≡ kind.Radix) (kind_in row ms)
+kind_fits row ms =
+    then_any _ (found row 5 (codes "table") ms >>= text_of row 5) (λ s. needed (bad row 5 rule.Outside) (kind_named s)) (λ s.
+    needed_fits _ (bad row 5 rule.Outside) (kind_named s) (named_radix s))
+
+radix_built : (row : ℕ) (mode : Mode) (spaces : ℕ) (ms : Members) → Fits (λ t. is_built t ≡ true) (radix_in row mode spaces ms)
+unfolding radix_in
+radix_built row mode spaces ms =
+    then_any _ (number_in row 7 (codes "table_frames") spaces 16384 ms) _ (λ frames.
+    then_any _ (caches_in row (levels_of mode - 1) (0 ∷ 0 ∷ 0 ∷ 0 ∷ []) ms) _ (λ caches. refl))
+
+table_built : (k : TableKind) (row : ℕ) (mode : Mode) (spaces : ℕ) (ms : Members) → k ≡ kind.Radix → Fits (λ t. is_built t ≡ true) (table_in k row mode spaces ms)
+table_built k row mode spaces ms h =
+    subst (λ (z : TableKind). Fits (λ t. is_built t ≡ true) (table_in z row mode spaces ms)) (sym h) (radix_built row mode spaces ms)
+
+row_built : (row : ℕ) (earlier : List (List ℕ)) (ms : Members) → Fits IsBuilt (row_in row earlier ms)
+unfolding row_in
+row_built row earlier ms =
+    then_any IsBuilt (name_in row earlier ms) _ (λ name.
+    then_any IsBuilt (mode_in row ms) _ (λ mode.
+    then_any IsBuilt (number_in row 3 (codes "frames") 1 4194304 ms) _ (λ frames.
+    then_any IsBuilt (number_in row 4 (codes "spaces") 1 64 ms) _ (λ spaces.
+    then_fits _ IsBuilt (kind_in row ms) _ (kind_fits row ms) (λ k a.
+    then_any IsBuilt (purge_in row ms) _ (λ purge.
+    then_fits _ IsBuilt (table_in k row mode spaces ms) _ (table_built k row mode spaces ms a) (λ table b.
+    then_any IsBuilt (arrays_in row ms) _ (λ tlb.
+    checked_fits IsBuilt (bad row 23 rule.NotAllowed) (only_known (is_known k) ms)
+    (record { name = name; mode = mode; frames = frames; spaces = spaces; purge = purge; table = table; tlb = tlb }) (λ only. b)))))))))
+
+-- each row keeps a rule that each row keeps by itself
+module _ (P : Row → Type 0) (each : (row : ℕ) (earlier : List (List ℕ)) (ms : Members) → Fits P (row_in row earlier ms)) where
+  from_fits : (number : ℕ) (ds : Items) (rows : List Row) → All P rows → Fits (All P) (rows_from number ds rows)
+  from_fits number no_items rows h = h
+  from_fits number (item d ds) rows h =
+      then_fits P (All P) (element_in number (names_of rows) d) (λ r. rows_from (number + 1) ds (rows ++ r ∷ []))
+      (then_any P (table_of 0 0 d) (row_in number (names_of rows)) (each number (names_of rows))) (λ r k.
+      from_fits (number + 1) ds (rows ++ r ∷ []) (All-push P rows r h k))
+
+  all_fit : {V : Type 0} (view : V → List Row) (ds : Items) (r : Result V ConfigFault) → Gives view r (keyed (rows_from 1 ds []))
+      → IfOk r (λ v. All P (view v))
+  all_fit view ds (Ok v) h = fits_of (rows_from 1 ds []) (from_fits 1 ds [] (All-nil P)) h
+    where
+      fits_of : (read : Result (List Row) KeyFault) → Fits (All P) read → keyed read ≡ Ok (view v) → All P (view v)
+      fits_of (Ok rows) k e = let same : rows ≡ view v = cc in subst (All P) same k
+      fits_of (Err f) k e = cc
+  all_fit view ds (Err e) h = tt
+
+-- the rows that an answer has keep the rules of a row, and can be opened
 pub rows_fit : {V : Type 0} (view : V → List Row) (ds : Items) (r : Result V ConfigFault) → Gives view r (keyed (rows_from 1 ds []))
     → IfOk r (λ v. All IsRow (view v))
-rows_fit view ds (Ok v) h = fits_of (rows_from 1 ds []) (from_fits 1 ds [] (All-nil IsRow)) h
-  where
-    fits_of : (read : Result (List Row) KeyFault) → Fits (All IsRow) read → keyed read ≡ Ok (view v) → All IsRow (view v)
-    fits_of (Ok rows) k e = let same : rows ≡ view v = cc in subst (All IsRow) same k
-    fits_of (Err f) k e = cc
-rows_fit view ds (Err e) h = tt
+rows_fit view ds r h = all_fit IsRow row_fits view ds r h
+
+pub rows_built : {V : Type 0} (view : V → List Row) (ds : Items) (r : Result V ConfigFault) → Gives view r (keyed (rows_from 1 ds []))
+    → IfOk r (λ v. All IsBuilt (view v))
+rows_built view ds r h = all_fit IsBuilt row_built view ds r h

@@ -7,7 +7,9 @@ use Rattle.xl_model.specs.declared.address.Mode.{Mode}
 use Rattle.xl_model.specs.declared.address.Mode.TheVariants as mode
 use Rattle.xl_model.specs.declared.row.Purge.{Purge}
 use Rattle.xl_model.specs.declared.row.Purge.TheVariants as purge
-use Rattle.xl_model.specs.Rows.{is_name_byte, is_width, is_within}
+use Rattle.xl_model.specs.declared.row.Table.{Table}
+use Rattle.xl_model.specs.declared.row.Table.TheVariants as table
+use Rattle.xl_model.specs.Rows.{Row, is_name_byte, is_width, is_within}
 use Rattle.xl_config.specs.declared.fault.ConfigFault.{ConfigFault}
 use Rattle.xl_config.specs.declared.fault.ConfigFault.TheVariants as fault
 use Rattle.xl_config.specs.declared.fault.KeyFault.{KeyFault}
@@ -120,6 +122,15 @@ abbrev pub kind_named : List ℕ → Option TableKind
 kind_named s =
     if bytes_eq s (codes "radix") then Some kind.Radix
     else None
+
+-- A table of a kind that can be opened.
+abbrev pub is_built : Table → Bool
+is_built (table.Radix frames caches) = true
+is_built _ = false
+
+-- A row whose table can be opened.
+abbrev pub IsBuilt : Row → Type 0
+IsBuilt row = is_built row.table ≡ true
 
 -- The kind of a row's table.
 abbrev pub kind_in : ℕ → Members → Result TableKind KeyFault

@@ -16,6 +16,18 @@ impl<S: Structure> Machine<S> {
         ensures outcome { result ≡ outcome_of self.old.row event self.old.state }
         ensures after { self.new ≡ after_of event self.old }
     {
+        match event {
+            Event::Access { va, kind } => Outcome::Replied(self.access(va, kind)),
+            _ => self.rule_and_serve(event),
+        }
+    }
+
+    /// Serves an event for which refusals are looked for.
+    #[inline(never)]
+    fn rule_and_serve(&mut self, event: Event) -> Outcome
+        ensures outcome { result ≡ outcome_of self.old.row event self.old.state }
+        ensures after { self.new ≡ after_of event self.old }
+    {
         match self.refusal(event) {
             Some(refusal) => {
                 self.count_refusal(event, refusal);

@@ -1,5 +1,5 @@
 -- A row at its opening.
-use Rattle.std.proofs.Common.{ℕ, zero, suc, ◌≡◌, ◌+◌, ◌-◌, ◌<◌, ◌≤◌, Bool, true, false, ◌&&◌, List, [], ◌∷◌, map, take, length, slice_index, Option, refl, ap, arith}
+use Rattle.std.proofs.Common.{ℕ, zero, suc, ◌≡◌, ◌+◌, ◌-◌, ◌<◌, ◌≤◌, Bool, true, false, ◌&&◌, List, [], ◌∷◌, map, take, drop, length, slice_index, Option, refl, ap, arith}
 use Rattle.std.specs.List.{list_all}
 use Rattle.std.proofs.lemmas.List.{length-map}
 use Rattle.xl_model.specs.Caches.{Cached, Numbered, empty_cache, empty_caches, opening_caches}
@@ -23,6 +23,11 @@ all-taken p zero [] h = refl
 all-taken p zero (x ∷ xs) h = refl
 all-taken p (suc n) [] h = refl
 all-taken p (suc n) (x ∷ xs) h = let b = both (p x) (list_all p xs) h in rw (b.0, all-taken p n xs b.1) refl
+
+pub all-dropped : (p : ℕ → Bool) (n : ℕ) (xs : List ℕ) → list_all p xs ≡ true → list_all p (drop n xs) ≡ true
+all-dropped p zero xs h = h
+all-dropped p (suc n) [] h = refl
+all-dropped p (suc n) (x ∷ xs) h = all-dropped p n xs (both (p x) (list_all p xs) h).1
 
 empty-in : (level n : ℕ) (ws : List ℕ) → caches_in level (map empty_cache (take n ws)) ≡ empty_caches n ws
 empty-in level zero [] = refl

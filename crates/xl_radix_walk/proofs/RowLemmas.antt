@@ -30,7 +30,7 @@ pub record IsStart (top space page : ℕ) (nodes : List (Option Node)) (cs : Lis
   pub hits : is_some looked ≡ nat_lt (start_level 0 space page (caches_in 0 cs)) (length (caches_in 0 cs))
 
 pub is-start : (top space page : ℕ) (nodes : List (Option Node)) (cs : List (Cached Item)) (looked : Option Start) → length cs + 1 ≡ top →
-    IfSome looked (λ s. s.level ≡ start_level 0 space page (caches_in 0 cs)) → IfSome looked (λ s. s.level < 0 + length cs) → IfNone looked (start_level 0 space page (caches_in 0 cs) ≡ 0 + length cs) →
+    IfSome looked (λ s. s.level ≡ start_level 0 space page (caches_in 0 cs)) → IfSome looked (λ s. s.level < length cs) → IfNone looked (start_level 0 space page (caches_in 0 cs) ≡ length cs) →
     IfSome looked (λ s. number_of space (suc s.level) (up (suc s.level) page) nodes ≡ Some s.node) → number_of space top (up top page) nodes ≡ Some space →
     IsStart top space page nodes cs looked
 is-start top space page nodes cs None size a b c d root =
@@ -107,12 +107,10 @@ row-walked top space page t new cs looked after found from e path back h row s e
       table = rw (f.caches, a) refl;
     })
 
-pub row-answer : (top space page : ℕ) (t : Table) (cs : List (Cached Item)) (found : Option Start) (r : Option Leaf) (e : WalkEnd) → WordsReadBack top t.spaces t.leaves t.nodes t.words → IsStart top space page t.nodes cs found →
-    e ≡ walk_end (leaf_at_page space page t.leaves) (end_level (top - 1) 0 space page t.leaves) → r ≡ leaf_told space page e → record { leaf = r; cache_hits = one_if (is_some found) } ≡ walk_answer space page (row_table top (row_of t cs))
+pub row-answer : (top space page : ℕ) (t : Table) (cs : List (Cached Item)) (found : Option Start) (r : Option Leaf) → IsStart top space page t.nodes cs found → r ≡ leaf_at_page space page t.leaves
+    → record { leaf = r; cache_hits = one_if (is_some found) } ≡ walk_answer space page (row_table top (row_of t cs))
 unfolding walk_answer walked
-row-answer top space page t cs found r e back s ee er =
-    let f : r ≡ leaf_at_page space page t.leaves = er ∙ ap (leaf_told space page) ee ∙ leaf-told top t.spaces space page t.leaves t.nodes t.words back in
-    rw (f, s.hits) refl
+row-answer top space page t cs found r s f = rw (f, s.hits) refl
 
 pub page-low : (n page : ℕ) → n ≤ 5 → page < 2 ^ (9 * n) → page < 2 ^ 45
 page-low zero page h low = omega arith
@@ -131,3 +129,8 @@ up-top (suc (suc (suc zero))) page h low = omega arith
 up-top (suc (suc (suc (suc zero)))) page h low = omega arith
 up-top (suc (suc (suc (suc (suc zero))))) page h low = omega arith
 up-top (suc (suc (suc (suc (suc (suc n)))))) page h low = absurd (omega arith)
+
+pub root-at : (top spaces space page : ℕ) (leaves : List Leaf) (nodes : List (Option Node)) (words : List ℕ) → WordsReadBack top spaces leaves nodes words → top ≤ 5 → page < 2 ^ (9 * top) → space < spaces
+    → number_of space top (up top page) nodes ≡ Some space
+root-at top spaces space page leaves nodes words back low in-page in-spaces =
+    subst (λ (v : ℕ). number_of space top v nodes ≡ Some space) (sym (up-top top page low in-page)) (back.roots space in-spaces)

@@ -1,13 +1,16 @@
 -- A radix table with its walk caches.
-use Rattle.std.specs.Prelude.{ℕ, suc, ◌≡◌, ◌+◌, ◌-◌, ◌*◌, ◌/◌, ◌%◌, ◌<◌, ◌≤◌, ◌==◌, Bool, ◌&&◌, nat_le, nat_lt, if◌then◌else◌, List, [], ◌∷◌, map, length, slice_index, slice_index_or, is_some, not, Option, None, Some}
+use Rattle.std.specs.Prelude.{ℕ, zero, suc, ◌≡◌, ◌+◌, ◌-◌, ◌*◌, ◌/◌, ◌%◌, ◌<◌, ◌≤◌, ◌==◌, Bool, ◌&&◌, nat_le, nat_lt, if◌then◌else◌, List, [], ◌∷◌, map, length, slice_index, slice_index_or, is_some, not, Option, None, Some}
 use Rattle.xl_model.specs.Nodes.{up, Node, number_of}
 use Rattle.xl_model.specs.declared.row.Table.TheVariants as table
-use Rattle.xl_model.specs.Caches.{Cached, Numbered, NodeCaches, reaches_space, opening_caches}
+use Rattle.xl_model.specs.Caches.{Cached, Numbered, NodeCaches, reaches_space, empty_cache, opening_caches}
 use Rattle.xl_model.specs.declared.event.Reach.{Reach}
 use Rattle.xl_model.specs.declared.work.NoRoom.{NoRoom}
 use Rattle.xl_model.specs.declared.work.Refused.{Refused}
 use Rattle.xl_model.specs.Placing.{no_moves}
+use Rattle.xl_model.specs.Base.{plus}
+use Rattle.xl_model.specs.Mapping.{leaf_at_page}
 use Rattle.xl_model.specs.Recency.{with_newest, purged}
+use Rattle.xl_model.specs.Walks.{end_level}
 use Rattle.xl_model.specs.Shapes.{Radix, opening_shape}
 use Rattle.xl_model.specs.Structures.{TableState, work_of}
 use Rattle.xl_model_lemmas.specs.Members.{In}
@@ -18,6 +21,7 @@ use Rattle.xl_radix.specs.declared.walk_end.WalkEnd.TheVariants as end
 use Rattle.xl_radix.specs.ReadBack.{order_of, leaf_said}
 use Rattle.xl_radix_walk.specs.declared.caches.Start.{Start}
 use Rattle.xl_radix.specs.Table.{Table}
+use Rattle.xl_radix.specs.Walk.{walk_end}
 use Rattle.xl_recency.specs.declared.item.Item.{Item}
 
 -- The tag of a page's node; prefixes are below 2^48. The item's word is the node's number.
@@ -67,6 +71,15 @@ abbrev pub filled_caches : ℕ → ℕ → ℕ → ℕ → ℕ → List ℕ → 
 filled_caches level start least space page path [] = []
 filled_caches level start least space page path (c ∷ cs) =
     filled_one (nat_lt level start && nat_le least level) (tag_at space level page) (slice_index path (start - 1 - level)) c ∷ filled_caches (level + 1) start least space page path cs
+
+-- These caches above so many of width 0.
+abbrev pub above_off : ℕ → List (Cached Item) → List (Cached Item)
+above_off zero cs = cs
+above_off (suc n) cs = empty_cache 0 ∷ above_off n cs
+
+-- A walk that starts at this level fills none of these caches.
+pub record FillsNone (start : ℕ) (cs : List (Cached Item)) : Type 0 where
+  pub stay : (least space page : ℕ) (path : List ℕ) → filled_caches 0 start least space page path cs ≡ cs
 
 -- A row: its table and its caches, level 0 first.
 pub record RowState : Type 0 where
@@ -118,6 +131,20 @@ filled_by (end.Invalid level) start space page path cs = cs
 filled_by (end.Reserved level) start space page path cs = cs
 filled_by (end.Misaligned level) start space page path cs = cs
 filled_by (end.OutOfBus level) start space page path cs = cs
+
+-- A straight walk from a node of this level found the page's leaf at level 0, and made a load for each level.
+pub record IsStraight (levels start space page : ℕ) (leaf : Leaf) (old new : Table) : Type 0 where
+  pub found : leaf_at_page space page old.leaves ≡ Some leaf
+  pub level : end_level (levels - 1) 0 space page old.leaves ≡ 0
+  pub loads : new ≡ record old { loads = plus old.loads (start + 1) }
+
+-- A walk from a node of this level: it finds the page's leaf, makes a load for each level down to the end of the
+-- page's nodes, and fills the caches by its path.
+pub record IsWalked (levels start space page : ℕ) (found : Option Leaf) (old : Table) (caches : List (Cached Item)) (new : Table) (after : List (Cached Item)) : Type 0 where
+  pub leaf : found ≡ leaf_at_page space page old.leaves
+  pub loads : new ≡ record old { loads = plus old.loads (start - end_level (levels - 1) 0 space page old.leaves + 1) }
+  pub filled : (path : List ℕ) × IsPath (end_level (levels - 1) 0 space page old.leaves) start space page path old.nodes
+      × (after ≡ filled_by (walk_end found (end_level (levels - 1) 0 space page old.leaves)) start space page path caches)
 
 -- No node has the item's number any more.
 abbrev pub is_gone : List (Option Node) → Item → Bool

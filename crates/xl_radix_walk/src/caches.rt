@@ -123,7 +123,7 @@ fn purge_cache<const LEVELS: usize>(cache: &mut Cache, radix: &Radix<LEVELS>) ->
 }
 
 /// Removes from all caches the items whose numbers no node has. Gives how many left.
-fn purge<const LEVELS: usize>(caches: &mut [Cache], radix: &Radix<LEVELS>) -> u64
+pub(crate) fn purge<const LEVELS: usize>(caches: &mut [Cache], radix: &Radix<LEVELS>) -> u64
     requires { length caches.old ≤ 4 }
     ensures caches { caches.new ≡ purged_caches radix.now.nodes caches.old }
     ensures count { result + entries_of caches.new ≡ entries_of caches.old }
@@ -134,23 +134,6 @@ fn purge<const LEVELS: usize>(caches: &mut [Cache], radix: &Radix<LEVELS>) -> u6
     };
     let left = purge_cache(first, radix);
     left + purge(rest, radix)
-}
-
-/// The same, with no look at a cache where no node was given back.
-pub(crate) fn purge_given<const LEVELS: usize>(
-    caches: &mut [Cache],
-    radix: &Radix<LEVELS>,
-    given: usize,
-) -> u64
-    requires few { length caches.old ≤ 4 }
-    requires none { given ≡ 0 → AreNumbered 0 radix.now.nodes caches.old }
-    ensures caches { caches.new ≡ purged_caches radix.now.nodes caches.old }
-    ensures count { result + entries_of caches.new ≡ entries_of caches.old }
-{
-    if given == 0 {
-        return 0;
-    }
-    purge(caches, radix)
 }
 
 /// Whether a fence takes the nodes of a space.

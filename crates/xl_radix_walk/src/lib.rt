@@ -7,9 +7,10 @@ mod row;
 mod step;
 #[cfg(test)]
 mod tests;
+mod walk_caches;
 mod walker;
 
-pub use quick::quick_frame;
+pub use quick::quick_leaf;
 pub use row::RadixRow;
 pub use walker::walk;
 pub use xl_radix::WalkEnd;

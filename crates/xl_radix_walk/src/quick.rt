@@ -1,13 +1,12 @@
 //! A walk over all words at once, that answers in the usual case alone.
 
-ghost use Rattle.std.specs.Prelude.{◌≡◌, ℕ, ◌%◌, ◌<◌, ◌≤◌, ◌^◌, true, length, slice_index, IfSome};
-ghost use Rattle.xl_model.specs.Addresses.{allows};
+ghost use Rattle.std.specs.Prelude.{◌≡◌, ℕ, ◌%◌, ◌<◌, ◌≤◌, ◌^◌, length, IfSome};
 ghost use Rattle.xl_pte.specs.Decode.{decode_of};
-ghost use Rattle.xl_pte.specs.declared.word.Pte.TheVariants as pte;
 ghost use Rattle.xl_radix.specs.Walk.{radix_back};
-ghost use Rattle.xl_radix_walk.specs.Quick.{Points, Allows, Finds, HasWord};
+ghost use Rattle.xl_radix_walk.specs.Quick.{Points, SaysSmall, Finds, HasWord};
 
-use xl_model::Kind;
+use xl_model::{Leaf, Order};
+use xl_pte::{Pte, decode};
 use xl_radix::index_of;
 
 /// The node that a word points to at a level above 0: V is set, and neither R, W nor X is.
@@ -24,35 +23,31 @@ pub(crate) fn pointed(word: u64) -> Option<u64>
     }
 }
 
-/// The frame of a word of level 0 that says a leaf which allows the kind of access.
+/// The leaf that a word of level 0 says, at this page.
 #[inline(always)]
-#[tactic(auto, unfolding(xl_pte::specs::Decode::decode_of))]
-fn allowed_frame(word: u64, kind: Kind) -> Option<u64>
-    ensures said { IfSome result (Allows word kind) }
-    ensures small { IfSome result (λ frame. frame < 2 ^ 44) }
+fn small_leaf(word: u64, space: u16, page: u64) -> Option<Leaf>
+    ensures { IfSome result (SaysSmall word space page) }
 {
-    if word % 2 == 1 && word >> 54 == 0 && (word >> 1) % 4 != 2 && (word >> 4) % 2 == 1 {
-        let bit: u32 = match kind {
-            Kind::Fetch => 3,
-            Kind::Load => 1,
-            Kind::Store => 2,
-        };
-        if (word >> bit) % 2 == 1 {
-            return Some(word >> 10);
-        }
+    match decode(word, 0) {
+        Pte::Leaf { frame, perm } => Some(Leaf {
+            space,
+            first: page,
+            order: Order::K4,
+            frame,
+            perm,
+        }),
+        _ => None,
     }
-    None
 }
 
-/// The frame that the walk of a page from `node` of level `start` finds at level 0, where the leaf
-/// there allows the kind of access. None says nothing.
+/// The leaf that the walk of a page from `node` of level `start` finds at level 0. None says
+/// nothing.
 #[inline(always)]
-pub fn quick_frame(words: &[u64], start: usize, node: u64, page: u64, kind: Kind) -> Option<u64>
+pub fn quick_leaf(words: &[u64], start: usize, node: u64, space: u16, page: u64) -> Option<Leaf>
     requires lines { length words.now % 4 ≡ 0 }
     requires start { start < 5 }
     requires node { node < 2 ^ 44 }
-    ensures end { IfSome result (Finds words.now start node page kind) }
-    ensures small { IfSome result (λ frame. frame < 2 ^ 44) }
+    ensures { IfSome result (Finds words.now start node space page) }
 {
     let mut level = start;
     let mut at = node;
@@ -60,7 +55,7 @@ pub fn quick_frame(words: &[u64], start: usize, node: u64, page: u64, kind: Kind
         at = pointed(word_at(words, level, at, page)?)?;
         level -= 1;
     }
-    allowed_frame(word_at(words, 0, at, page)?, kind)
+    small_leaf(word_at(words, 0, at, page)?, space, page)
 }
 
 /// The word of a page in a node of this level.

@@ -1,24 +1,24 @@
 //! A radix table with its walk caches.
 
-ghost use Rattle.std.specs.Prelude.{◌≡◌, suc, ◌+◌, ◌-◌, ◌*◌, ◌^◌, ◌<◌, ◌≤◌, [], false, slice_index, map, None, Some, length, is_some, IsTrue, IfOk};
+ghost use Rattle.std.specs.Prelude.{◌≡◌, suc, ◌+◌, ◌-◌, ◌*◌, ◌^◌, ◌<◌, ◌≤◌, [], false, slice_index, None, Some, length, IsTrue, IfOk, IfSome, IfNone};
 ghost use Rattle.std.specs.List.{list_all};
 ghost use Rattle.xl_model.specs.declared.work.NoRoom.TheVariants as why;
 ghost use Rattle.xl_model.specs.Changes.{Insert, Remove, Protect, Relocate, IsNamed};
 ghost use Rattle.xl_model.specs.Mapping.{leaf_at_page, meets_any};
 ghost use Rattle.xl_model.specs.Nodes.{up, number_of};
 ghost use Rattle.xl_model.specs.Base.{plus};
-ghost use Rattle.xl_model.specs.Caches.{empty_cache};
 ghost use Rattle.xl_model.specs.Rows.{is_width};
 ghost use Rattle.xl_model.specs.Placing.{no_moves};
 ghost use Rattle.xl_model.specs.Walks.{end_level};
 ghost use Rattle.xl_model.specs.Structures.{IsBlock, IsLeafFor, IsPage, IsChange, IsWalk, IsFence, work_of};
 ghost use Rattle.xl_radix.specs.Walk.{walk_end};
 ghost use Rattle.xl_radix.specs.Steps.{shape_of};
-ghost use Rattle.xl_radix_walk.specs.Row.{AreNumbered, entries_of, filled_by, leaf_told, opening_table, purged_caches, refused_for, start_or, IsPath, IsRow, row_of, row_table};
+ghost use Rattle.xl_radix_walk.specs.Row.{AreNumbered, entries_of, leaf_told, opening_table, purged_caches, refused_for, start_or, IsPath, IsRow, IsStraight, IsWalked, row_of, row_table};
 ghost use Rattle.xl_radix.specs.Walk.{end_of};
 
-use crate::caches::{Start, fence_caches, fill, look, purge_given};
-use crate::walk;
+use crate::caches::Start;
+use crate::walk_caches::WalkCaches;
+use crate::{quick_leaf, walk};
 use arrayvec::ArrayVec;
 use std::alloc::Global;
 use std::marker::Model;
@@ -28,14 +28,13 @@ use xl_model::{
 use xl_phys::Bus;
 use xl_pte::Pte;
 use xl_radix::{Radix, WalkEnd, block_of, leaf_of};
-use xl_recency::Cache;
 
 /// A radix table of LEVELS levels with a cache of each level of nodes below the root. Contracts see
 /// the table, and the caches, level 0 first.
 #[derive(Drop)]
 pub struct RadixRow<const LEVELS: usize> {
     radix: Radix<LEVELS>,
-    caches: Vec<Cache>,
+    caches: WalkCaches,
 }
 
 impl<const LEVELS: usize> Model for RadixRow<LEVELS> {
@@ -43,22 +42,20 @@ impl<const LEVELS: usize> Model for RadixRow<LEVELS> {
 
     ghost Value = { RowState };
 
-    ghost view = { λ r. record { radix = r.radix; caches = r.caches.items } };
+    ghost view = { λ r. record { radix = r.radix; caches = r.caches } };
 
-    ghost invariant = { λ r. IsRow LEVELS (record { radix = r.radix; caches = r.caches.items }) };
+    ghost invariant = { λ r. IsRow LEVELS (record { radix = r.radix; caches = r.caches }) };
 }
 
-/// Where the caches say that a walk starts, else the root.
-fn start_from(looked: Option<Start>, levels: usize, space: u16) -> Start
+/// The root of a space.
+#[inline(always)]
+fn root(levels: usize, space: u16) -> Start
     requires { 0 < levels }
-    ensures { result ≡ start_or levels space looked }
+    ensures { result ≡ start_or levels space None }
 {
-    match looked {
-        Some(start) => start,
-        None => Start {
-            level: levels - 1,
-            node: space as u64,
-        },
+    Start {
+        level: levels - 1,
+        node: space as u64,
     }
 }
 
@@ -106,29 +103,84 @@ fn found_leaf(space: u16, page: u64, end: WalkEnd) -> Option<Leaf>
     }
 }
 
-/// Fills the caches with the nodes of a walk that ended at a leaf.
-fn fill_found(
-    caches: &mut [Cache],
-    end: &WalkEnd,
-    start: usize,
+/// Walks a table's words straight from a node of the page, and counts the loads. None where that
+/// doesn't end at a leaf of 4 KiB; then nothing is counted.
+#[inline(always)]
+fn straight<const LEVELS: usize>(
+    radix: &mut Radix<LEVELS>,
+    from: Start,
     space: u16,
     page: u64,
-    path: &[u64],
-)
-    requires levels { length caches.old ≤ 4 }
-    requires page { page < 2 ^ 45 }
-    requires path { start ≤ length path.now + end_of end.now }
-    ensures { caches.new ≡ filled_by end.now start space page path.now caches.old }
+) -> Option<Leaf>
+    requires node { number_of space (suc from.level) (up (suc from.level) page) radix.old.nodes ≡
+        Some from.node }
+    requires level { from.level < LEVELS }
+    ensures some { IfSome result (λ leaf.
+        IsStraight LEVELS from.level space page leaf radix.old radix.new) }
+    ensures none { IfNone result (radix.new ≡ radix.old) }
 {
-    if let WalkEnd::Leaf { level, .. } = end {
-        fill(caches, 0, start, *level, space, page, path);
-    }
+    radix.words_read_back();
+    let leaf = quick_leaf(radix.words(), from.level, from.node, space, page)?;
+    radix.count_loads(from.level as u64 + 1);
+    Some(leaf)
 }
 
-/// The walk of a page from the lowest node that the caches hold.
+/// Walks a page from one of its nodes, whatever the walk ends with, and fills the caches.
+#[inline(never)]
+fn walk_filling<const LEVELS: usize>(
+    radix: &mut Radix<LEVELS>,
+    caches: &mut WalkCaches,
+    from: Start,
+    space: u16,
+    page: u64,
+) -> Option<Leaf>
+    requires few { length caches.old ≤ 4 }
+    requires page { page < 2 ^ 45 }
+    requires node { number_of space (suc from.level) (up (suc from.level) page) radix.old.nodes ≡
+        Some from.node }
+    requires level { from.level < LEVELS }
+    ensures { IsWalked LEVELS from.level space page result radix.old caches.old radix.new
+        caches.new }
+{
+    radix.words_read_back();
+    let mut path = ArrayVec::new();
+    let end = descend(radix, from, space, page, &mut path);
+    caches.fill_found(&end, from.level, space, page, &path);
+    found_leaf(space, page, end)
+}
+
+/// Walks a page from one of its nodes: straight, where that fills no cache and finds a leaf of
+/// 4 KiB.
+#[inline(always)]
+fn walk_from<const LEVELS: usize>(
+    radix: &mut Radix<LEVELS>,
+    caches: &mut WalkCaches,
+    from: Start,
+    space: u16,
+    page: u64,
+) -> Option<Leaf>
+    requires few { length caches.old ≤ 4 }
+    requires page { page < 2 ^ 45 }
+    requires node { number_of space (suc from.level) (up (suc from.level) page) radix.old.nodes ≡
+        Some from.node }
+    requires level { from.level < LEVELS }
+    ensures { IsWalked LEVELS from.level space page result radix.old caches.old radix.new
+        caches.new }
+{
+    radix.words_read_back();
+    if caches.fills_none(from.level) {
+        if let Some(leaf) = straight(radix, from, space, page) {
+            return Some(leaf);
+        }
+    }
+    walk_filling(radix, caches, from, space, page)
+}
+
+/// The walk of a page from the lowest node that the caches hold, else from the root.
+#[inline(always)]
 fn walk_row<const LEVELS: usize>(
     radix: &mut Radix<LEVELS>,
-    caches: &mut [Cache],
+    caches: &mut WalkCaches,
     space: u16,
     page: u64,
 ) -> Walk
@@ -139,26 +191,26 @@ fn walk_row<const LEVELS: usize>(
         result (row_table LEVELS (row_of radix.new caches.new)) }
 {
     radix.words_read_back();
-    let looked = look(caches, 0, space, page);
-    let cache_hits = looked.is_some() as u64;
-    let from = start_from(looked, LEVELS, space);
-    let mut path = ArrayVec::new();
-    let end = descend(radix, from, space, page, &mut path);
-    fill_found(caches, &end, from.level, space, page, &path);
-    Walk {
-        leaf: found_leaf(space, page, end),
-        cache_hits,
+    match caches.look(space, page) {
+        Some(start) => Walk {
+            leaf: walk_from(radix, caches, start, space, page),
+            cache_hits: 1,
+        },
+        None => Walk {
+            leaf: walk_from(radix, caches, root(LEVELS, space), space, page),
+            cache_hits: 0,
+        },
     }
 }
 
 /// The work of a change that gave back so many nodes: their tags leave the caches.
-fn settle<const LEVELS: usize>(radix: &Radix<LEVELS>, caches: &mut [Cache], given: usize) -> Work
+fn settle<const LEVELS: usize>(radix: &Radix<LEVELS>, caches: &mut WalkCaches, given: usize) -> Work
     requires few { length caches.old ≤ 4 }
     requires none { given ≡ 0 → AreNumbered 0 radix.now.nodes caches.old }
     ensures caches { caches.new ≡ purged_caches radix.now.nodes caches.old }
     ensures work { result ≡ work_of no_moves (entries_of caches.old - entries_of caches.new) }
 {
-    let invalidated = purge_given(caches, radix, given);
+    let invalidated = caches.purge_given(radix, given);
     Work {
         invalidated,
         ..Work::none()
@@ -178,7 +230,7 @@ fn no_table() -> Refused
 /// Adds a leaf that no leaf meets.
 fn insert_leaf<const LEVELS: usize>(
     radix: &mut Radix<LEVELS>,
-    caches: &mut [Cache],
+    caches: &mut WalkCaches,
     leaf: Leaf,
 ) -> Result<Work, Refused>
     requires row { IsRow LEVELS (row_of radix.old caches.old) }
@@ -197,7 +249,7 @@ fn insert_leaf<const LEVELS: usize>(
 /// Takes out a leaf.
 fn remove_leaf<const LEVELS: usize>(
     radix: &mut Radix<LEVELS>,
-    caches: &mut [Cache],
+    caches: &mut WalkCaches,
     space: u16,
     first: u64,
     order: Order,
@@ -216,7 +268,7 @@ fn remove_leaf<const LEVELS: usize>(
 /// Gives a leaf another permission.
 fn protect_leaf<const LEVELS: usize>(
     radix: &mut Radix<LEVELS>,
-    caches: &mut [Cache],
+    caches: &mut WalkCaches,
     space: u16,
     first: u64,
     order: Order,
@@ -236,7 +288,7 @@ fn protect_leaf<const LEVELS: usize>(
 /// Moves a leaf to a block that no leaf meets.
 fn relocate_leaf<const LEVELS: usize>(
     radix: &mut Radix<LEVELS>,
-    caches: &mut [Cache],
+    caches: &mut WalkCaches,
     space: u16,
     first: u64,
     to: u64,
@@ -258,28 +310,14 @@ fn relocate_leaf<const LEVELS: usize>(
 }
 
 /// Removes what a fence reaches.
-fn fence_row(caches: &mut [Cache], reach: Reach) -> u64
+fn fence_row(caches: &mut WalkCaches, reach: Reach) -> u64
     requires few { length caches.old ≤ 4 }
     ensures fences { (levels : _) (t : _) → IsFence reach (row_table levels (row_of t caches.old))
         result (row_table levels (row_of t caches.new)) }
     ensures row { (levels : _) (t : _) → IsRow levels (row_of t caches.old) →
         IsRow levels (row_of t caches.new) }
 {
-    fence_caches(caches, reach)
-}
-
-/// Empty caches of these widths.
-fn open_caches(alloc: Global, widths: &[u8]) -> Result<Vec<Cache>, NoMemory>
-    requires { IsTrue (list_all is_width widths.now) }
-    ensures { IfOk result (λ caches. caches.items ≡ map empty_cache widths.now) }
-{
-    let mut caches = Vec::with_capacity(alloc, widths.len())?;
-    'opened: for width in widths {
-        if caches.push(Cache::open(alloc, *width)?).is_err() {
-            return Err(NoMemory);
-        }
-    }
-    Ok(caches)
+    caches.fence(reach)
 }
 
 impl<const LEVELS: usize> RadixRow<LEVELS> {
@@ -303,7 +341,7 @@ impl<const LEVELS: usize> RadixRow<LEVELS> {
             row_table LEVELS row ≡ opening_table LEVELS table_frames spaces widths) }
     {
         let radix = Radix::open(alloc, table_frames, spaces)?;
-        let caches = open_caches(alloc, &widths[..LEVELS - 1])?;
+        let caches = WalkCaches::open(alloc, &widths[..LEVELS - 1])?;
         Ok(RadixRow { radix, caches })
     }
 

@@ -8,7 +8,7 @@ ghost use Rattle.xl_radix_walk.specs.Row.{row_table};
 use crate::{RadixRow, WalkEnd, walk};
 use arrayvec::ArrayVec;
 use std::test::Fail;
-use xl_model::{Leaf, NoMemory, Order, Perm, Reach, Refused, Structure, Walk, Work};
+use xl_model::{Leaf, Order, Perm, Reach, Refused, Structure, Walk, Work};
 use xl_phys::{Bus, PhysMem};
 
 /// Index 1 at level 2, index 2 at level 1 and index 3 at level 0.
@@ -49,9 +49,6 @@ fn a_walk_ends_where_nothing_is_or_no_word_is(rt: HostRuntime) -> Result<(), Fai
     Ok(())
 }
 
-/// A row of five levels.
-type Row = RadixRow<5>;
-
 /// A leaf that may be read.
 fn leaf(first: u64, order: Order, frame: u64) -> Leaf {
     Leaf {
@@ -68,18 +65,27 @@ fn leaf(first: u64, order: Order, frame: u64) -> Leaf {
     }
 }
 
-fn is_block(row: &Row, space: u16, first: u64, order: Order) -> bool
-    ensures { IsTrue result → IsBlock (row_table 5 row.now).shape space first order }
+fn is_block<const LEVELS: usize>(
+    row: &RadixRow<LEVELS>,
+    space: u16,
+    first: u64,
+    order: Order,
+) -> bool
+    ensures { IsTrue result → IsBlock (row_table LEVELS row.now).shape space first order }
 {
+    row.radix().words_read_back();
     let pages = order.pages();
     if space >= row.radix().spaces() || first >= 1 << 45 || first % pages != 0 {
+        return false;
+    }
+    if first + pages > 1 << (9 * LEVELS) {
         return false;
     }
     true
 }
 
-fn is_leaf(row: &Row, leaf: Leaf) -> bool
-    ensures { IsTrue result → IsLeafFor (row_table 5 row.now).shape leaf }
+fn is_leaf<const LEVELS: usize>(row: &RadixRow<LEVELS>, leaf: Leaf) -> bool
+    ensures { IsTrue result → IsLeafFor (row_table LEVELS row.now).shape leaf }
 {
     let pages = leaf.order.pages();
     if leaf.frame >= 1 << 44 || leaf.frame % pages != 0 {
@@ -89,7 +95,10 @@ fn is_leaf(row: &Row, leaf: Leaf) -> bool
 }
 
 /// Adds a leaf, None where a leaf meets it.
-fn insert(row: &mut Row, leaf: Leaf) -> Option<Result<Work, Refused>> {
+fn insert<const LEVELS: usize>(
+    row: &mut RadixRow<LEVELS>,
+    leaf: Leaf,
+) -> Option<Result<Work, Refused>> {
     if !is_leaf(row, leaf) || row.meets(leaf.space, leaf.first, leaf.order) {
         return None;
     }
@@ -97,9 +106,9 @@ fn insert(row: &mut Row, leaf: Leaf) -> Option<Result<Work, Refused>> {
 }
 
 /// The leaf that covers a page of space 0.
-fn leaf_at(row: &Row, page: u64) -> Option<Leaf>
+fn leaf_at<const LEVELS: usize>(row: &RadixRow<LEVELS>, page: u64) -> Option<Leaf>
     ensures { IfSome result (λ leaf.
-        IsNamed leaf.space leaf.first leaf.order (row_table 5 row.now).leaves) }
+        IsNamed leaf.space leaf.first leaf.order (row_table LEVELS row.now).leaves) }
 {
     if !is_block(row, 0, page, Order::K4) {
         return None;
@@ -108,13 +117,19 @@ fn leaf_at(row: &Row, page: u64) -> Option<Leaf>
 }
 
 /// Drops the leaf that covers a page of space 0.
-fn remove(row: &mut Row, page: u64) -> Option<Result<Work, Refused>> {
+fn remove<const LEVELS: usize>(
+    row: &mut RadixRow<LEVELS>,
+    page: u64,
+) -> Option<Result<Work, Refused>> {
     let leaf = leaf_at(row, page)?;
     Some(row.remove(leaf.space, leaf.first, leaf.order))
 }
 
 /// The frame that a walk of a page of space 0 finds, its cache hits, and the loads so far.
-fn walked(row: &mut Row, page: u64) -> Option<(Option<u64>, u64, u64)> {
+fn walked<const LEVELS: usize>(
+    row: &mut RadixRow<LEVELS>,
+    page: u64,
+) -> Option<(Option<u64>, u64, u64)> {
     if !is_block(row, 0, page, Order::K4) {
         return None;
     }
@@ -135,7 +150,7 @@ const FAR: u64 = 1 << 27;
 
 #[test]
 fn caches_hold_the_nodes_of_walks_that_find_leaves(rt: HostRuntime) -> Result<(), Fail> {
-    let mut row = Row::open(rt.alloc(), 8, 1, [4, 0, 0, 2])?;
+    let mut row = RadixRow::<5>::open(rt.alloc(), 8, 1, [4, 0, 0, 2])?;
     assert_eq!(rt; insert(&mut row, leaf(1, Order::K4, 7)), purged(0));
     assert_eq!(rt; walked(&mut row, 1), Some((Some(7), 0, 5)));
 
@@ -160,5 +175,44 @@ fn caches_hold_the_nodes_of_walks_that_find_leaves(rt: HostRuntime) -> Result<()
     assert_eq!(rt; row.fence(Reach::Space { space: 1 }), 0);
     assert_eq!(rt; row.fence(Reach::Space { space: 0 }), 1);
     assert_eq!(rt; walked(&mut row, 513), Some((Some(512), 0, 24)));
+    Ok(())
+}
+
+#[test]
+fn a_walk_reads_a_word_of_each_level_down_to_the_leaf(rt: HostRuntime) -> Result<(), Fail> {
+    let mut row = RadixRow::<5>::open(rt.alloc(), 16, 1, [0; 4])?;
+    assert_eq!(rt; insert(&mut row, leaf(0, Order::K4, 0)), purged(0));
+    assert_eq!(rt; insert(&mut row, leaf(512, Order::M2, 512)), purged(0));
+    assert_eq!(rt;
+        insert(&mut row, leaf(262_144, Order::G1, 262_144)),
+        purged(0)
+    );
+    assert_eq!(rt; walked(&mut row, 0), Some((Some(0), 0, 5)));
+    assert_eq!(rt; walked(&mut row, 600), Some((Some(512), 0, 9)));
+    assert_eq!(rt; walked(&mut row, 300_000), Some((Some(262_144), 0, 12)));
+    Ok(())
+}
+
+#[test]
+fn node_tags_leave_with_their_nodes(rt: HostRuntime) -> Result<(), Fail> {
+    let mut row = RadixRow::<3>::open(rt.alloc(), 64, 1, [4, 4, 0, 0])?;
+    assert_eq!(rt; insert(&mut row, leaf(1, Order::K4, 0)), purged(0));
+    assert_eq!(rt; insert(&mut row, leaf(2, Order::K4, 1)), purged(0));
+    assert_eq!(rt; walked(&mut row, 1), Some((Some(0), 0, 3)));
+    assert_eq!(rt; walked(&mut row, 2), Some((Some(1), 1, 4)));
+    assert_eq!(rt; remove(&mut row, 1), purged(0));
+    assert_eq!(rt; remove(&mut row, 2), purged(2));
+    assert_eq!(rt; walked(&mut row, 1), Some((None, 0, 5)));
+    Ok(())
+}
+
+#[test]
+fn a_walk_begins_at_the_lowest_cached_node(rt: HostRuntime) -> Result<(), Fail> {
+    let mut row = RadixRow::<4>::open(rt.alloc(), 64, 1, [4, 4, 4, 0])?;
+    assert_eq!(rt; insert(&mut row, leaf(1, Order::K4, 0)), purged(0));
+    assert_eq!(rt; insert(&mut row, leaf(512, Order::K4, 1)), purged(0));
+    assert_eq!(rt; walked(&mut row, 1), Some((Some(0), 0, 4)));
+    assert_eq!(rt; walked(&mut row, 512), Some((Some(1), 1, 6)));
+    assert_eq!(rt; walked(&mut row, 512), Some((Some(1), 1, 7)));
     Ok(())
 }

@@ -33,6 +33,11 @@ module _ {A : Type 0} (q : A → Bool) where
       let e : q x ≡ false = b 0 x (omega arith) in
       rw e (ap (λ (ys : List A). x ∷ ys) (without_none xs (λ k d s. b (suc k) d (omega arith))))
 
+-- the first item in front of the others
+first_back : {A : Type 0} (xs : List A) (x : A) → 0 < length xs → x ≡ get_or xs 0 x → xs ≡ x ∷ remove xs 0
+first_back [] x l e = absurd (omega arith)
+first_back (y ∷ xs) x l e = ap (λ (z : _). z ∷ xs) (sym e)
+
 module _ {A : Type 0} (answers : A → Bool → Type 0) (q : A → Bool) (test : IsTest answers q) where
   pub found : (xs : List A) (at : ℕ) (x : A) → at < length xs → IsFirst answers xs at → x ≡ get_or xs at x → Some x ≡ find q xs
   found xs at x l f is =
@@ -42,6 +47,11 @@ module _ {A : Type 0} (answers : A → Bool → Type 0) (q : A → Bool) (test :
   pub moved : (xs : List A) (at : ℕ) (x : A) → at < length xs → IsFirst answers xs at → x ≡ get_or xs at x → x ∷ remove xs at ≡ touched q xs
   moved xs at x l f is =
       rw (sym (found xs at x l f is), without_at q xs at x l (λ k s. sym (test.same _ _ (f.before k x s))) (sym (test.same _ _ (f.meets x)))) refl
+
+  pub stays : (xs : List A) (at : ℕ) (x : A) → at < length xs → IsFirst answers xs at → x ≡ get_or xs at x → at ≡ 0 → xs ≡ touched q xs
+  stays xs at x l f is zero-at =
+      let e : x ≡ get_or xs 0 x = rw zero-at at is in
+      first_back xs x (omega (arith, l, zero-at)) e ∙ ap (λ (k : ℕ). x ∷ remove xs k) (sym zero-at) ∙ moved xs at x l f is
 
   pub none_found : (xs : List A) → AllFail answers xs → None ≡ find q xs
   none_found xs f = sym (find_none q xs (λ k d s. sym (test.same _ _ (f.fails k d s))))

@@ -48,7 +48,7 @@ pub(crate) fn keep_failing<T: Copy, P: Fn(&T) -> bool>(items: &mut [T], test: &P
     kept
 }
 
-/// Brings the first item that meets the test to the front.
+/// Brings the first item that meets the test to the front. Where it stands there nothing moves.
 pub(crate) fn touch_first<T: Copy, P: Fn(&T) -> bool>(items: &mut [T], test: &P) -> Option<T>
     requires { P.IsAlwaysCallable test.now }
     ensures { (q : _) → IsTest (FnReturnsAt P.Fn test.now) q →
@@ -57,6 +57,9 @@ pub(crate) fn touch_first<T: Copy, P: Fn(&T) -> bool>(items: &mut [T], test: &P)
     match first_place(items, test) {
         Some(at) => {
             let item = items[at];
+            if at == 0 {
+                return Some(item);
+            }
             put_in_front(items, at, item);
             Some(item)
         }

@@ -5,5 +5,7 @@ mod ServedLemmas
 mod CourseLemmas
 mod ItemLemmas
 mod AreaLemmas
+mod InputLemmas
+mod OpenedLemmas
 mod EndLemmas
 mod NoRowLemmas

@@ -1,65 +1,46 @@
 -- What a run of a script over a trace comes to, and what its end says of that.
-use Rattle.std.specs.Prelude.{◌≡◌, ℕ, ◌≤◌, ◌⊎◌, Bool, true, false, List, [], ◌∷◌, ◌++◌, length, codes, Option, None, Some, option_map, Result, Ok, Err, if◌then◌else◌, ◌&&◌}
-use Rattle.std.specs.Str.{bytes_eq}
+use Rattle.std.specs.Prelude.{◌≡◌, ℕ, ◌≤◌, ◌⊎◌, Bool, true, false, List, [], ◌++◌, length, Option, None, Some, IsSome, option_map, Result, Ok, Err, OnOk}
 use Rattle.xl_model.specs.declared.fault.InputFault.{InputFault}
 use Rattle.xl_model.specs.declared.fault.InputFault.TheVariants as fault
 use Rattle.xl_model.specs.declared.script.Command.{Command}
 use Rattle.xl_model.specs.declared.script.Item.{Item}
-use Rattle.xl_model.specs.Scenes.{Scene, told_by}
+use Rattle.xl_model.specs.Rows.{Row}
+use Rattle.xl_model.specs.Scenes.{Served, opening_scene, told_by}
 use Rattle.xl_model.specs.Courses.{Trail, course}
 use Rattle.xl_model.specs.Report.{Flags}
-use Rattle.xl_model.specs.Endings.{Ending, faulted, followed, text_of}
-use Rattle.xl_outside.specs.Folders.{Files, file_of}
+use Rattle.xl_model.specs.Endings.{Ending, faulted, followed, live_of, text_of}
+use Rattle.xl_outside.specs.Folders.{Files}
 use Rattle.xl_outside.specs.Sinks.{with_more, WroteFront, SinkAfter}
-use Rattle.xl_script.specs.declared.fault.ScriptFault.{ScriptFault}
-use Rattle.xl_script.specs.declared.fault.ScriptFault.TheVariants as script
-use Rattle.xl_script.specs.Plain.{script_of}
+use Rattle.xl_words.specs.Words.{Asked, asked}
 use Rattle.xl_serving.specs.declared.stop.Stop.{Stop}
 use Rattle.xl_serving.specs.declared.stop.Stop.TheVariants as why
 use Rattle.xl_serving.specs.declared.status.Status.{Status}
 use Rattle.xl_serving.specs.declared.status.Status.TheVariants as status
+use Rattle.xl_serving.specs.Inputs.{rows_in, commands_in, trail_in}
+use Rattle.xl_serving.specs.Serving.{scene_of}
 use Rattle.xl_serving.specs.Stops.{is_all_put, status_with}
 use Rattle.xl_serving.specs.Messages.{message_at}
 
--- The rows alone are asked for.
-abbrev pub rows_alone : Flags
-rows_alone = record { answers = false; images = false }
+-- What a report has beside the rows: maybe the lines of accesses and commands, and no images.
+abbrev pub flags_of : Bool → Flags
+flags_of answers = record { answers = answers; images = false }
 
--- What is wrong with a script that is refused. A script says nothing of memory, so its last case never comes.
-abbrev pub script_fault : ScriptFault → InputFault
-script_fault (script.BadLine line reason) = fault.ScriptLine line reason
-script_fault script.TooLong = fault.ScriptTooLong
-script_fault script.NoMemory = fault.ScriptTooLong
+-- The ending of a run of these rows and commands over a trace; or of a run whose configuration, or else whose script,
+-- has a fault.
+abbrev pub ending_by : Result (List Row) InputFault → Result (List Command) InputFault → Trail → Flags → Ending
+ending_by (Err f) commands t flags = faulted f (opening_scene []) flags
+ending_by (Ok rows) (Err f) t flags = faulted f (opening_scene rows) flags
+ending_by (Ok rows) (Ok commands) t flags = followed (course commands t) (opening_scene rows) flags
 
--- The ending of a run of these commands, or of a refused script, over a trace.
-abbrev pub ending_of : Result (List Command) ScriptFault → Trail → Scene → Ending
-ending_of (Ok commands) t s = followed (course commands t) s rows_alone
-ending_of (Err f) t s = faulted (script_fault f) s rows_alone
-
--- The ending of a run whose script has these bytes, or isn't there.
-abbrev pub script_ending : Option (List ℕ) → Trail → Scene → Ending
-script_ending None t s = faulted fault.NoFile s rows_alone
-script_ending (Some file) t s = ending_of (script_of file) t s
-
--- The names of the script and of the trace.
-pub record Names : Type 0 where
-  pub script : List ℕ
-  pub trace : List ℕ
-
--- The names that the words give: the program's name, `--script`, a name, `--trace`, a name.
-abbrev pub names_of : List (List ℕ) → Option Names
-names_of (program ∷ a ∷ b ∷ c ∷ d ∷ []) =
-    if bytes_eq a (codes "--script") && bytes_eq c (codes "--trace") then Some (record { script = b; trace = d }) else None
-names_of words = None
-
--- The ending of a run with these names over these files; `trail` gives the records of a trace's file.
-abbrev pub names_ending : (Option (List ℕ) → Trail) → Option Names → Files → Scene → Ending
-names_ending trail None files s = faulted fault.Words s rows_alone
-names_ending trail (Some names) files s = script_ending (file_of files names.script) (trail (file_of files names.trace)) s
+-- The ending of a run that is asked for this over these files; `trail` gives the records of a trace's file.
+abbrev pub asked_ending : (Option (List ℕ) → Trail) → Option Asked → Files → Ending
+asked_ending trail None files = faulted fault.Words (opening_scene []) (flags_of false)
+asked_ending trail (Some a) files =
+    ending_by (rows_in a.config files) (commands_in a.script files) (trail_in trail a.trace files) (flags_of a.answers)
 
 -- What a run of these words over these files comes to.
-unfoldable pub ending : (Option (List ℕ) → Trail) → List (List ℕ) → Files → Scene → Ending
-ending trail words files s = names_ending trail (names_of words) files s
+unfoldable pub ending : (Option (List ℕ) → Trail) → List (List ℕ) → Files → Ending
+ending trail words files = asked_ending trail (asked words) files
 
 -- The lines of some first items, each item whole, were written.
 pub record WroteItems (e : Ending) (before after : Option (List ℕ)) : Type 0 where
@@ -81,23 +62,18 @@ EndsAs (Err why.ReadFault) e before after = WroteItems e before after
 EndsAs (Err why.WriteFault) e before after = WroteFront before (text_of e) after
 EndsAs (Err why.NoMemory) e before after = after ≡ before
 
--- The same; and in a sink that has room for the text, no put fails.
-pub record Ends {K : Type 0} (r : Result (Unit {0}) Stop) (e : Ending) (roomy : K → ℕ → Type 0) (before after : Option (List ℕ)) (old : K) : Type 0 where
+-- The same; in a sink that has room for the text, no put fails; and where all was served, the rows are those that the
+-- ending leaves.
+pub record Ends {K : Type 0} (r : Result (Unit {0}) Stop) (e : Ending) (roomy : K → ℕ → Type 0) (before after : Option (List ℕ)) (old : K) (rows : List Served) : Type 0 where
   pub as_said : EndsAs r e before after
   pub room : (room : ℕ) → roomy old room → length (text_of e) ≤ room → is_all_put r ≡ true
+  pub served : OnOk r (rows ≡ (live_of e).scene.rows)
 
--- What the reading of a script says of the ending of a run, whatever its trace and its rows; nothing is written.
-abbrev pub Leads : Option (List ℕ) → Result (List Command) Stop → Type 0
-Leads file (Ok commands) = (t : Trail) (s : Scene) → script_ending file t s ≡ followed (course commands t) s rows_alone
-Leads file (Err stop) = (t : Trail) (s : Scene) (before : Option (List ℕ)) → EndsAs (Err stop) (script_ending file t s) before before
-
--- What the reading of a script's text answers, by what the text says.
-abbrev pub Parses : Result (List Command) Stop → Result (List Command) ScriptFault → Type 0
-Parses (Ok commands) said = said ≡ Ok commands
-Parses (Err (why.Input fault.ScriptTooLong)) said = said ≡ Err script.TooLong
-Parses (Err (why.Input (fault.ScriptLine line reason))) said = said ≡ Err (script.BadLine line reason)
-Parses (Err why.NoMemory) said = Unit {0}
-Parses _ said = ⊥
+-- What the reading of the configuration and the script, and the opening of the rows, say of the ending by its trace and
+-- flags; nothing is written.
+abbrev pub Opens : Result (List Command) Stop → (Trail → Flags → Ending) → List Served → Type 0
+Opens (Ok commands) by rows = (t : Trail) (flags : Flags) → by t flags ≡ followed (course commands t) (scene_of rows []) flags
+Opens (Err stop) by rows = (t : Trail) (flags : Flags) (before : Option (List ℕ)) → EndsAs (Err stop) (by t flags) before before
 
 -- The status of an ending.
 abbrev pub status_of : Ending → Status
@@ -111,6 +87,13 @@ Answers status.ReadFault e before after = WroteItems e before after
 Answers status.WriteFault e before after = WroteFront before (text_of e) after
 Answers status.NoMemory e before after = after ≡ before
 Answers s e before after = (s ≡ status_of e) × (after ≡ with_more before (text_of e))
+
+-- What a status says of what the words ask for: they ask for nothing exactly at the status of usage. Want of memory may
+-- come first.
+abbrev pub SaysOfWords : Status → Option Asked → Type 0
+SaysOfWords status.Usage a = a ≡ None
+SaysOfWords status.NoMemory a = Unit {0}
+SaysOfWords _ a = IsSome a
 
 -- Where nothing fails, the status is that of the ending, or there was no memory.
 abbrev pub Completes : Status → Ending → Type 0

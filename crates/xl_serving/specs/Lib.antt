@@ -3,4 +3,5 @@ pub mod Tapes
 pub mod Serving
 pub mod Stops
 pub mod Messages
+pub mod Inputs
 pub mod Endings

@@ -2,6 +2,10 @@
 use Rattle.std.specs.Prelude.{Bool, true, false, Option, None, Some, Result, Ok, Err}
 use Rattle.xl_model.specs.declared.fault.InputFault.{InputFault}
 use Rattle.xl_model.specs.declared.fault.InputFault.TheVariants as fault
+use Rattle.xl_config.specs.declared.fault.ConfigFault.{ConfigFault}
+use Rattle.xl_config.specs.declared.fault.ConfigFault.TheVariants as config
+use Rattle.xl_words.specs.declared.words.WordsFault.{WordsFault}
+use Rattle.xl_words.specs.declared.words.WordsFault.TheVariants as words
 use Rattle.xl_outside.specs.declared.whole.ReadStop.{ReadStop}
 use Rattle.xl_outside.specs.declared.whole.ReadStop.TheVariants as read
 use Rattle.xl_outside.specs.Folders.{ReadFate, Fine, ReadFailed, FileMissing}
@@ -44,7 +48,19 @@ abbrev pub status_by : {A : Type 0} → Result A Stop → Status
 status_by (Ok a) = status.Ok
 status_by (Err stop) = status_at stop
 
--- Why a run stops whose script wasn't read.
+-- Why a run stops whose words are refused.
+abbrev pub of_words_fault : WordsFault → Stop
+of_words_fault words.Usage = why.Input fault.Words
+of_words_fault words.NoMemory = why.NoMemory
+
+-- Why a run stops whose configuration is refused.
+abbrev pub of_config_fault : ConfigFault → Stop
+of_config_fault config.TooLong = why.Input fault.ConfigTooLong
+of_config_fault config.BadToml = why.Input fault.ConfigNotToml
+of_config_fault (config.BadKey row key rule) = why.Input (fault.ConfigKey row key rule)
+of_config_fault config.NoMemory = why.NoMemory
+
+-- Why a run stops of which a file wasn't read.
 abbrev pub of_read : ReadStop → Stop
 of_read read.Missing = why.Input fault.NoFile
 of_read read.Failed = why.ReadFault

@@ -3,6 +3,7 @@
 #![tactic(auto)]
 
 mod areas;
+mod opening;
 mod rows;
 mod running;
 mod serving;

@@ -1,29 +1,32 @@
 //! What a script is served to.
 
-ghost use Rattle.std.specs.Prelude.{◌≡◌, List, [], ◌∷◌, is_ok, IfOk};
+ghost use Rattle.std.specs.Prelude.{◌≡◌, ◌<◌, ◌++◌, List, [], ◌∷◌, length, is_ok, OnOk, OnErr};
 ghost use Rattle.xl_model.specs.declared.script.Item.TheVariants.{Command, Referenced};
-ghost use Rattle.xl_model.specs.Rows.{Row};
+ghost use Rattle.xl_model.specs.Rows.{row_of, IsRow};
 ghost use Rattle.xl_model.specs.Scenes.{Served, opened};
 ghost use Rattle.xl_model.specs.Report.{row_lines};
+ghost use Rattle.xl_config.specs.Keys.{IsBuilt};
 ghost use Rattle.xl_outside.specs.Sinks.{SinkAfter};
 ghost use Rattle.xl_serving.specs.Serving.{HasServed, scene_of};
 
 use std::alloc::Global;
-use xl_model::{Area, Event, Kind, NoMemory};
+use xl_model::{Area, Event, Kind, NoMemory, Row};
 use xl_outside::{Failed, Sink};
 
 /// Rows that are served: each item, with the events of its demand, by one row after another. Where
 /// answers are asked for, the lines of an item are written as it is served.
 pub trait Rows: Sized {
-    /// The designs of the rows, in their order.
-    ghost designs: { List Row };
-
-    /// The rows with their states.
+    /// The rows with their states, in the order in which they were added.
     ghost rows: { Self → List Served };
 
-    /// The rows in their opening states. All memory that they want is taken here.
-    fn open(alloc: Global) -> Result<Self, NoMemory>
-        ensures { IfOk result (λ r. rows r ≡ opened designs) };
+    /// Opens a row and puts it last, in its opening state. All memory that it wants is taken here;
+    /// where there is none, the rows are as before.
+    fn add(&mut self, alloc: Global, row: Row) -> Result<(), NoMemory>
+        requires row { IsRow (row_of row) }
+        requires built { IsBuilt (row_of row) }
+        requires few { length (rows self.old) < 16 }
+        ensures added { OnOk result (rows self.new ≡ rows self.old ++ opened (row_of row ∷ [])) }
+        ensures none { OnErr result (rows self.new ≡ rows self.old) };
 
     /// Serves an event of a command, where these areas were declared.
     fn command<K: Sink>(

@@ -1,56 +1,58 @@
-//! A run: the report of some rows over a script and a trace.
+//! A run: the report of the rows of a configuration over a script and a trace.
 
-ghost use Rattle.std.specs.Prelude.{◌≡◌, ◌↔◌, [], Option, None, Some, Err, IfErr, IfSome, IfNone, length, map, option_map, string_bytes};
+ghost use Rattle.std.specs.Prelude.{◌≡◌, ℕ, List, [], Option, Some, IfErr, IfSome, length, map, option_map, string_bytes};
 ghost use Rattle.xl_model.specs.Courses.{course};
-ghost use Rattle.xl_model.specs.Scenes.{opening_scene};
-ghost use Rattle.xl_model.specs.Endings.{followed, text_of};
+ghost use Rattle.xl_model.specs.Endings.{followed, live_of, text_of};
 ghost use Rattle.xl_outside.specs.Folders.{file_of, FolderAfter, fate_by};
 ghost use Rattle.xl_outside.specs.Sinks.{WriteCounts};
-ghost use Rattle.xl_script.specs.Plain.{script_of};
+ghost use Rattle.xl_words.specs.Words.{asked, asked_of};
 ghost use Rattle.xl_serving.specs.Serving.{scene_of, serve_stop_fate, is_written, ServingIsMet};
-ghost use Rattle.xl_serving.specs.Stops.{as_stop, status_by, status_fate, is_status_put, stop_fate, is_all_put, StopIsMet, IsBefore};
-ghost use Rattle.xl_serving.specs.Endings.{names_of, ending, Answers, Completes, message_of, message_by, Says, script_ending, rows_alone, Ends, Leads, Parses};
+ghost use Rattle.xl_serving.specs.Stops.{as_stop, status_by, status_fate, is_status_put, stop_fate, is_all_put, StopIsMet};
+ghost use Rattle.xl_serving.specs.Inputs.{trail_in};
+ghost use Rattle.xl_serving.specs.Endings.{asked_ending, ending, flags_of, Answers, SaysOfWords, Completes, message_of, message_by, Says, Ends};
 
 use crate::areas::Areas;
+use crate::opening::open;
 use crate::rows::Rows;
 use crate::serving::{ServeStop, serve};
 use crate::status::Status;
 use crate::stop::Stop;
-use crate::trace::Trace;
+use crate::trace::{NoTrace, Trace};
 use std::alloc::Global;
-use xl_model::InputFault;
-use xl_outside::{Folder, Sink, put_all, read_whole};
-use xl_script::{Script, parse};
+use xl_outside::{Folder, Sink, put_all};
+use xl_script::Script;
+use xl_words::Words;
 
-/// The most bytes of a script.
-const LIMIT: usize = 1_048_576;
-
-/// Opens the rows, runs the script over the trace, and writes the report to `out`. Where that does not come about, a
-/// line on `err` says why. The words are the program's name, `--script`, a name, `--trace` and a name.
-pub fn run<R: Rows + Drop, T: Trace + Drop, F: Folder, K: Sink, E: Sink>(
+/// Reads the words, the configuration and the script, opens the rows, serves the script over the
+/// trace, and writes the report to `out`. Where that does not come about, a line on `err` says why. The
+/// words are the program's name and those after it: `--config F [--script F] [--trace F] [--answers]`.
+/// All memory is taken before the first event.
+pub fn run<R: Rows, T: Trace + Drop, F: Folder, K: Sink, E: Sink>(
     alloc: Global,
     words: &Vec<String>,
     folder: &mut F,
     out: &mut K,
     err: &mut E,
+    rows: &mut R,
 ) -> Status
+    requires { R.rows rows.old ≡ [] }
     ensures told { IfSome (F.files folder.old) (λ fs. Answers result
-        (ending T.trail (map string_bytes words.now.items) fs (opening_scene R.designs))
+        (ending T.trail (map string_bytes words.now.items) fs)
         (K.written out.old) (K.written out.new)) }
-    ensures usage { (result ≡ Status.Usage) ↔ (names_of (map string_bytes words.now.items) ≡ None) }
+    ensures served { IfSome (F.files folder.old) (λ fs. result ≡ Status.Ok → R.rows rows.new
+        ≡ (live_of (ending T.trail (map string_bytes words.now.items) fs)).scene.rows) }
+    ensures usage { SaysOfWords result (asked (map string_bytes words.now.items)) }
     ensures leaves { FolderAfter F.files F.faults F.absences F.steady folder.old folder.new
         (status_fate result) }
     ensures counts { WriteCounts (is_status_put result) (K.put_faults out.old) (K.put_faults out.new) }
-    ensures said { IfSome (message_of result (option_map (λ fs.
-        ending T.trail (map string_bytes words.now.items) fs (opening_scene R.designs))
-        (F.files folder.old)))
+    ensures said { IfSome (message_of result
+        (option_map (ending T.trail (map string_bytes words.now.items)) (F.files folder.old)))
         (λ text. Says E.written E.put_faults E.roomy text err.old err.new) }
     ensures complete { F.steady folder.old → IfSome (F.files folder.old) (λ fs. K.roomy out.old
-        (length (text_of (ending T.trail (map string_bytes words.now.items) fs (opening_scene R.designs))))
-        → Completes result
-        (ending T.trail (map string_bytes words.now.items) fs (opening_scene R.designs))) }
+        (length (text_of (ending T.trail (map string_bytes words.now.items) fs)))
+        → Completes result (ending T.trail (map string_bytes words.now.items) fs)) }
 {
-    let end = report_of::<R, T, F, K>(alloc, words, folder, out);
+    let end = report_of::<R, T, F, K>(alloc, words, folder, out, rows);
     tell(err, end);
     status(end)
 }
@@ -74,76 +76,105 @@ fn tell<E: Sink>(err: &mut E, end: Result<(), Stop>)
     }
 }
 
-/// Writes the report of the files that the words name.
+/// Writes the report that the words ask for.
 #[tactic(auto, unfolding(crate::specs::Endings::ending))]
-fn report_of<R: Rows + Drop, T: Trace + Drop, F: Folder, K: Sink>(
+fn report_of<R: Rows, T: Trace + Drop, F: Folder, K: Sink>(
     alloc: Global,
     words: &Vec<String>,
     folder: &mut F,
     out: &mut K,
+    rows: &mut R,
 ) -> Result<(), Stop>
+    requires { R.rows rows.old ≡ [] }
     ensures told { IfSome (F.files folder.old) (λ fs. Ends result
-        (ending T.trail (map string_bytes words.now.items) fs (opening_scene R.designs))
-        K.roomy (K.written out.old) (K.written out.new) out.old) }
-    ensures usage { (result ≡ Err (Stop.Input InputFault.Words))
-        ↔ (names_of (map string_bytes words.now.items) ≡ None) }
+        (ending T.trail (map string_bytes words.now.items) fs)
+        K.roomy (K.written out.old) (K.written out.new) out.old (R.rows rows.new)) }
+    ensures usage { SaysOfWords (status_by result) (asked (map string_bytes words.now.items)) }
     ensures leaves { FolderAfter F.files F.faults F.absences F.steady folder.old folder.new
         (fate_by stop_fate result) }
     ensures counts { WriteCounts (is_all_put result) (K.put_faults out.old) (K.put_faults out.new) }
 {
-    let Some((script, trace)) = names(words) else {
-        return Err(Stop::Input(InputFault::Words));
-    };
-    report::<R, T, F, K>(alloc, folder, out, script, trace)
+    let words = xl_words::read(alloc, words.as_slice())?;
+    report::<R, T, F, K>(alloc, &words, folder, out, rows)
 }
 
-/// The names of the script and of the trace; None where the words have another form.
-fn names(words: &Vec<String>) -> Option<(&str, &str)>
-    ensures some { IfSome result (λ found. names_of (map string_bytes words.entry.now.items)
-        ≡ Some (record { script = found.0.now; trace = found.1.now })) }
-    ensures none { IfNone result (names_of (map string_bytes words.entry.now.items) ≡ None) }
-{
-    let [_, first, script, second, trace] = words.as_slice() else {
-        return None;
-    };
-    if first.as_str() == "--script" && second.as_str() == "--trace" {
-        Some((script.as_str(), trace.as_str()))
-    } else {
-        None
-    }
-}
-
-/// Serves the script of this name over the trace of that name, and writes the report.
-fn report<R: Rows + Drop, T: Trace + Drop, F: Folder, K: Sink>(
+/// Opens the rows, serves the script over the trace, and writes the report.
+fn report<R: Rows, T: Trace + Drop, F: Folder, K: Sink>(
     alloc: Global,
+    words: &Words<'_>,
     folder: &mut F,
     out: &mut K,
-    script: &str,
-    trace: &str,
+    rows: &mut R,
 ) -> Result<(), Stop>
+    requires { R.rows rows.old ≡ [] }
     ensures told { IfSome (F.files folder.old) (λ fs.
-        Ends result (script_ending (file_of fs script.now) (T.trail (file_of fs trace.now))
-        (opening_scene R.designs)) K.roomy (K.written out.old) (K.written out.new) out.old) }
+        Ends result (asked_ending T.trail (Some (asked_of words.now)) fs)
+        K.roomy (K.written out.old) (K.written out.new) out.old (R.rows rows.new)) }
     ensures leaves { FolderAfter F.files F.faults F.absences F.steady folder.old folder.new
         (fate_by stop_fate result) }
     ensures counts { WriteCounts (is_all_put result) (K.put_faults out.old) (K.put_faults out.new) }
     ensures met { IfErr result StopIsMet }
 {
-    let commands = read_script(alloc, folder, script)?;
-    let mut rows = R::open(alloc)?;
+    let commands = open(alloc, words, folder, rows)?;
     let mut areas = Areas::open(alloc)?;
-    let mut read = T::open(alloc)?;
-    let end = replay(
-        &mut rows, &mut areas, &mut read, folder, out, trace, &commands,
-    );
+    let mut trace = T::open(alloc)?;
+    let end = replay(rows, &mut areas, &mut trace, words, folder, out, &commands);
     Ok(end?)
 }
 
-/// Serves the commands over the trace of this name, and writes the rows.
+/// Serves the commands over the trace of the words, and writes the rows. Where the words name no trace,
+/// it has no records.
 fn replay<R: Rows, T: Trace, F: Folder, K: Sink>(
     rows: &mut R,
     areas: &mut Areas,
     trace: &mut T,
+    words: &Words<'_>,
+    folder: &mut F,
+    out: &mut K,
+    commands: &Script,
+) -> Result<(), ServeStop>
+    requires none { areas.old ≡ [] }
+    requires unread { (file : Option (List ℕ)) → T.stands trace.old file
+        × (T.left trace.old file ≡ T.trail file) }
+    ensures told { IfSome (F.files folder.old) (λ fs. Ends (as_stop result)
+        (followed (course commands.now (trail_in T.trail (asked_of words.now).trace fs))
+        (scene_of (R.rows rows.old) []) (flags_of (asked_of words.now).answers))
+        K.roomy (K.written out.old) (K.written out.new) out.old (R.rows rows.new)) }
+    ensures leaves { FolderAfter F.files F.faults F.absences F.steady folder.old folder.new
+        (fate_by serve_stop_fate result) }
+    ensures counts { WriteCounts (is_written result) (K.put_faults out.old) (K.put_faults out.new) }
+    ensures met { IfErr result ServingIsMet }
+{
+    match words.trace {
+        Some(name) => replay_over(
+            rows,
+            areas,
+            trace,
+            words.answers,
+            folder,
+            out,
+            name,
+            commands,
+        ),
+        None => replay_over(
+            rows,
+            areas,
+            &mut NoTrace,
+            words.answers,
+            folder,
+            out,
+            "",
+            commands,
+        ),
+    }
+}
+
+/// Serves the commands over the trace of this name, and writes the rows.
+fn replay_over<R: Rows, T: Trace, F: Folder, K: Sink>(
+    rows: &mut R,
+    areas: &mut Areas,
+    trace: &mut T,
+    answers: bool,
     folder: &mut F,
     out: &mut K,
     name: &str,
@@ -152,32 +183,14 @@ fn replay<R: Rows, T: Trace, F: Folder, K: Sink>(
     requires { areas.old ≡ [] }
     ensures told { IfSome (F.files folder.old) (λ fs. T.stands trace.old (file_of fs name.now)
         → Ends (as_stop result) (followed (course commands.now (T.left trace.old (file_of fs name.now)))
-        (scene_of (R.rows rows.old) []) rows_alone) K.roomy (K.written out.old) (K.written out.new) out.old) }
+        (scene_of (R.rows rows.old) []) (flags_of answers))
+        K.roomy (K.written out.old) (K.written out.new) out.old (R.rows rows.new)) }
     ensures leaves { FolderAfter F.files F.faults F.absences F.steady folder.old folder.new
         (fate_by serve_stop_fate result) }
     ensures counts { WriteCounts (is_written result) (K.put_faults out.old) (K.put_faults out.new) }
     ensures met { IfErr result ServingIsMet }
 {
-    serve(rows, areas, false, out, trace, folder, name, commands)?;
+    serve(rows, areas, answers, out, trace, folder, name, commands)?;
     rows.write_rows(out)?;
     Ok(())
-}
-
-/// Reads the script of this name.
-fn read_script<F: Folder>(alloc: Global, folder: &mut F, name: &str) -> Result<Script, Stop>
-    ensures told { IfSome (F.files folder.old) (λ fs. Leads (file_of fs name.now) result) }
-    ensures leaves { FolderAfter F.files F.faults F.absences F.steady folder.old folder.new
-        (fate_by stop_fate result) }
-    ensures before { IfErr result IsBefore }
-{
-    let text = read_whole(alloc, folder, name, LIMIT)?;
-    commands_of(alloc, text.as_slice())
-}
-
-/// The commands of a script.
-fn commands_of(alloc: Global, text: &[u8]) -> Result<Script, Stop>
-    ensures { Parses result (script_of text.now) }
-{
-    let commands = parse(alloc, text)?;
-    Ok(commands)
 }

@@ -2,16 +2,18 @@
 
 ghost use Rattle.std.specs.Prelude.{◌≡◌, ◌+◌, ◌≤◌, ◌++◌, length, codes, decimal};
 ghost use Rattle.xl_serving.specs.declared.stop.Stop.TheVariants as why;
-ghost use Rattle.xl_serving.specs.Stops.{status_at, of_read, of_script_fault, of_serve_stop, status_of_fault};
+ghost use Rattle.xl_serving.specs.Stops.{status_at, of_words_fault, of_config_fault, of_read, of_script_fault, of_serve_stop, status_of_fault};
 ghost use Rattle.xl_serving.specs.Messages.{message_at, with_place, with_fault};
 
 use crate::serving::ServeStop;
 use crate::status::Status;
 use thiserror::Error;
+use xl_config::ConfigFault;
 use xl_model::{InputFault, NoMemory};
 use xl_outside::ReadStop;
 use xl_report::Line;
 use xl_script::ScriptFault;
+use xl_words::WordsFault;
 
 /// Why a run stops.
 #[derive(Clone, Copy, Debug, PartialEq, Eq, Error)]
@@ -35,6 +37,32 @@ impl From<NoMemory> for Stop {
 
     fn from(_none: NoMemory) -> Stop {
         Stop::NoMemory
+    }
+}
+
+impl From<WordsFault> for Stop {
+    ghost from_gives = { λ fault stop. stop ≡ of_words_fault fault };
+
+    fn from(fault: WordsFault) -> Stop {
+        match fault {
+            WordsFault::Usage => Stop::Input(InputFault::Words),
+            WordsFault::NoMemory => Stop::NoMemory,
+        }
+    }
+}
+
+impl From<ConfigFault> for Stop {
+    ghost from_gives = { λ fault stop. stop ≡ of_config_fault fault };
+
+    fn from(fault: ConfigFault) -> Stop {
+        match fault {
+            ConfigFault::TooLong => Stop::Input(InputFault::ConfigTooLong),
+            ConfigFault::BadToml => Stop::Input(InputFault::ConfigNotToml),
+            ConfigFault::BadKey { row, key, rule } => {
+                Stop::Input(InputFault::ConfigKey { row, key, rule })
+            }
+            ConfigFault::NoMemory => Stop::NoMemory,
+        }
     }
 }
 

@@ -1,24 +1,23 @@
-//! Runs over no rows at all: their endings, their messages and their faults.
+//! Runs over rows for which there is no memory, and serving over no rows: endings, messages and faults.
 
 ghost use Rattle.std.specs.Prelude.{[]};
 
-use crate::{Rows, Status, Tape, run};
+use crate::{Areas, Rows, ServeStop, Status, Tape, Trace, run, serve};
 use std::alloc::{AllocError, Global};
 use std::test::Fail;
-use xl_model::{Area, Event, Kind, NoMemory};
+use xl_model::{Area, Event, InputFault, Kind, NoMemory, Row};
 use xl_outside::{Failed, MemFolder, MemSink, Sink};
+use xl_script::parse;
 
-/// No rows.
+/// No rows, and no memory for one.
 #[derive(Drop)]
 struct NoRows;
 
 impl Rows for NoRows {
-    ghost designs = { [] };
-
     ghost rows = { λ _. [] };
 
-    fn open(_alloc: Global) -> Result<NoRows, NoMemory> {
-        Ok(NoRows)
+    fn add(&mut self, _alloc: Global, _row: Row) -> Result<(), NoMemory> {
+        Err(NoMemory)
     }
 
     fn command<K: Sink>(
@@ -56,96 +55,141 @@ fn words(alloc: Global, names: &[&str]) -> Result<Vec<String>, AllocError> {
     Ok(words)
 }
 
-fn folder(
-    alloc: Global,
-    script: &[u8],
-    trace: &[u8],
-    failing: u64,
-) -> Result<MemFolder, AllocError> {
+/// Files of these names, read five bytes at a time; the read of the number given fails.
+fn folder(alloc: Global, texts: &[(&str, &[u8])], failing: u64) -> Result<MemFolder, AllocError> {
     let mut files = Vec::new(alloc);
-    files.push((
-        String::from_str(alloc, "s")?,
-        Vec::from_slice(alloc, script)?,
-    ))?;
-    files.push((
-        String::from_str(alloc, "t")?,
-        Vec::from_slice(alloc, trace)?,
-    ))?;
+    for (name, text) in texts {
+        files.push((
+            String::from_str(alloc, name)?,
+            Vec::from_slice(alloc, text)?,
+        ))?;
+    }
     let mut numbers = Vec::new(alloc);
     numbers.push(failing)?;
     Ok(MemFolder::open(files, numbers, 5))
 }
 
-const GOOD: &[u8] = b"unmap 0 1000 4k 2\nspace 1\nfence all\ndemand 0 0 16 4k rw--\nrun 1\n";
+const ROWS: &[u8] =
+    b"[[row]]\nname = \"a\"\nmode = \"sv39\"\nframes = 16\nspaces = 1\ntable = \"radix\"\ntable_frames = 4\n";
+
+const SCRIPT: &[u8] = b"unmap 0 1000 4k 2\nspace 1\nfence all\ndemand 0 0 16 4k rw--\nrun 1\n";
 
 const TRACE: &[u8] = b" L 1008,4\n M 2ffe,4\n";
 
 #[test]
 fn each_run_has_its_ending_and_its_message(rt: HostRuntime) -> Result<(), Fail> {
     let alloc = rt.alloc();
-    let all = ["x", "--script", "s", "--trace", "t"];
-    let cases: [(&[&str], &[u8], &[u8], u64, Status, &str); 8] = [
-        (&all, GOOD, TRACE, 0, Status::Ok, ""),
-        (&all, GOOD, b"", 0, Status::Ok, ""),
+    let texts: [(&str, &[u8]); 4] = [
+        ("rows", ROWS),
+        ("script", SCRIPT),
+        ("bare", b"[[row]]\n"),
+        ("zero", b"run 1\nrun 0\n"),
+    ];
+    let cases: [(&[&str], u64, Status, &str); 9] = [
         (
-            &["x"],
-            GOOD,
-            TRACE,
+            &["x", "--script", "script"],
             0,
             Status::Usage,
             "xlate: usage: --config FILE [--script FILE] [--trace FILE] [--make N] [--answers] [--image] [--json]\n",
         ),
         (
-            &all,
-            b"run 1\nrun 0\n",
-            TRACE,
+            &["x", "--config", "rows"],
+            0,
+            Status::NoMemory,
+            "xlate: no memory\n",
+        ),
+        (
+            &["x", "--config=rows", "--script", "script"],
+            0,
+            Status::NoMemory,
+            "xlate: no memory\n",
+        ),
+        (
+            &["x", "--config", "none", "--script", "zero"],
+            0,
+            Status::NoFile,
+            "xlate: no file\n",
+        ),
+        (
+            &["x", "--config", "rows", "--script", "none"],
+            0,
+            Status::NoFile,
+            "xlate: no file\n",
+        ),
+        (
+            &["x", "--config", "script", "--script", "zero"],
+            0,
+            Status::BadConfig,
+            "xlate: configuration: not TOML\n",
+        ),
+        (
+            &["x", "--config", "bare", "--script", "zero"],
+            0,
+            Status::BadConfig,
+            "xlate: configuration row 1 key 1 rule 1\n",
+        ),
+        (
+            &["x", "--config", "rows", "--script", "zero"],
             0,
             Status::BadScript,
             "xlate: script line 2: reason 3\n",
         ),
         (
-            &all,
-            GOOD,
-            b" L 1008,4\n L 2\n",
-            0,
-            Status::BadTrace,
-            "xlate: trace line 2: reason 2\n",
-        ),
-        (
-            &all,
-            GOOD,
-            TRACE,
+            &["x", "--config", "rows", "--script", "zero"],
             2,
             Status::ReadFault,
             "xlate: read fault\n",
         ),
-        (
-            &all,
-            GOOD,
-            TRACE,
-            18,
-            Status::ReadFault,
-            "xlate: read fault\n",
-        ),
-        (
-            &["x", "--script", "s", "--trace", "u"],
-            GOOD,
-            TRACE,
-            0,
-            Status::NoFile,
-            "xlate: no file\n",
-        ),
     ];
-    for (names, script, trace, failing, want, message) in cases {
-        let mut files = folder(alloc, script, trace, failing)?;
+    for (names, failing, want, message) in cases {
+        let mut files = folder(alloc, &texts, failing)?;
         let mut out = MemSink::open(alloc, 0, Vec::new(alloc), 1)?;
         let mut err = MemSink::open(alloc, 200, Vec::new(alloc), 7)?;
         let given = words(alloc, names)?;
         let status = run::<NoRows, Tape, MemFolder, MemSink, MemSink>(
-            alloc, &given, &mut files, &mut out, &mut err,
+            alloc,
+            &given,
+            &mut files,
+            &mut out,
+            &mut err,
+            &mut NoRows,
         );
         assert_eq!(rt; status, want, "{message}");
         assert_eq!(rt; err.bytes(), message.as_bytes());
+    }
+    Ok(())
+}
+
+#[test]
+fn the_trace_is_read_until_it_ends_or_is_at_fault(rt: HostRuntime) -> Result<(), Fail> {
+    let alloc = rt.alloc();
+    let cases: [(&[u8], u64, Result<(), ServeStop>); 4] = [
+        (TRACE, 0, Ok(())),
+        (b"", 0, Ok(())),
+        (
+            b" L 1008,4\n L 2\n",
+            0,
+            Err(ServeStop::Input(InputFault::TraceLine { line: 2, reason: 2 })),
+        ),
+        (TRACE, 2, Err(ServeStop::ReadFault)),
+    ];
+    for (trace, failing, want) in cases {
+        let mut files = folder(alloc, &[("trace", trace)], failing)?;
+        let mut out = MemSink::open(alloc, 0, Vec::new(alloc), 1)?;
+        let script = parse(alloc, SCRIPT)?;
+        let mut areas = Areas::open(alloc)?;
+        let mut tape = Tape::open(alloc)?;
+        let end = serve(
+            &mut NoRows,
+            &mut areas,
+            true,
+            &mut out,
+            &mut tape,
+            &mut files,
+            "trace",
+            &script,
+        );
+        assert!(rt; end == want);
     }
     Ok(())
 }

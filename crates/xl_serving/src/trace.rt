@@ -1,7 +1,7 @@
 //! Where the records of a run come from.
 
-ghost use Rattle.std.specs.Prelude.{◌≡◌, ℕ, ◌<◌, List, Option, IfOk, IfErr, IfSome, IsSome};
-ghost use Rattle.xl_model.specs.Courses.{Trail};
+ghost use Rattle.std.specs.Prelude.{◌≡◌, ℕ, ◌<◌, List, Option, None, IfOk, IfErr, IfSome, IsSome};
+ghost use Rattle.xl_model.specs.Courses.{Trail, at_end};
 ghost use Rattle.xl_outside.specs.Folders.{file_of, FolderAfter, fate_by};
 ghost use Rattle.xl_serving.specs.Tapes.{TraceAnswers, TraceIsMet, trace_stop_fate};
 
@@ -56,4 +56,30 @@ pub trait Trace: Sized {
             (fate_by trace_stop_fate result) }
         ensures met { IfErr result TraceIsMet }
         ensures shrinks { IfOk result (λ r. IsSome r → size self.new < size self.old) };
+}
+
+/// The trace of a run that names none: it has no records.
+#[derive(Drop)]
+pub(crate) struct NoTrace;
+
+impl Trace for NoTrace {
+    ghost trail = { λ _. at_end None };
+
+    ghost left = { λ _ _. at_end None };
+
+    ghost stands = { λ _ _. Unit {0} };
+
+    ghost size = { λ _. 0 };
+
+    fn open(_alloc: Global) -> Result<NoTrace, NoMemory> {
+        Ok(NoTrace)
+    }
+
+    fn next<F: Folder>(
+        &mut self,
+        _folder: &mut F,
+        _name: &str,
+    ) -> Result<Option<Numbered>, TraceStop> {
+        Ok(None)
+    }
 }

@@ -3,11 +3,17 @@
 #![tactic(auto)]
 
 mod blocks;
+mod hits;
 mod lists;
+mod nodes;
 mod tables;
 
 use std::io;
 use std::str::FromStr;
+
+/// The answer to a part that there isn't.
+const PARTS: &str =
+    "the parts are lists, blocks, front, second, nodes, few_nodes, hashed, clustered and meets";
 
 fn main(rt: HostRuntime) -> io::Result<()> {
     for line in rt.lines(rt.alloc()) {
@@ -23,11 +29,15 @@ fn main(rt: HostRuntime) -> io::Result<()> {
         let answers = match part {
             "lists" => lists::answers(rt.alloc(), calls),
             "blocks" => blocks::answers(rt.alloc(), 1 << 22, calls),
+            "front" => hits::answers(rt.alloc(), 1, calls),
+            "second" => hits::answers(rt.alloc(), 5, calls),
+            "nodes" => nodes::answers(rt.alloc(), 1 << 14, calls),
+            "few_nodes" => nodes::answers(rt.alloc(), 1 << 4, calls),
             "hashed" => tables::hashed(rt.alloc(), calls),
             "clustered" => tables::clustered(rt.alloc(), calls),
             "meets" => tables::meets(rt.alloc(), calls),
             _ => {
-                println!(rt; "the parts are lists, blocks, hashed, clustered and meets")?;
+                println!(rt; "{PARTS}")?;
                 continue;
             }
         };

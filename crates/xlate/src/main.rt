@@ -9,8 +9,9 @@ use std::io::ErrorKind;
 use std::process::ExitCode;
 use xl_bench::{Status, run};
 use xl_outside::{HostErr, HostFolder, HostOut};
+use xl_rack::Rack;
 
-/// The exit code where there is no memory for the words.
+/// The exit code where there is no memory for the words or the rack.
 const NO_MEMORY: u8 = 7;
 
 /// The exit code where the system doesn't give the words as texts.
@@ -30,10 +31,20 @@ fn answer(rt: HostRuntime) -> u8 {
     let Ok(words) = args.collect(rt.alloc()) else {
         return NO_MEMORY;
     };
+    let Ok(mut rack) = Rack::open(rt.alloc()) else {
+        return NO_MEMORY;
+    };
     let mut folder = HostFolder::open(&rt);
     let mut out = HostOut::open(&rt);
     let mut err = HostErr::open(&rt);
-    code(run(rt.alloc(), &words, &mut folder, &mut out, &mut err))
+    code(run(
+        rt.alloc(),
+        &words,
+        &mut folder,
+        &mut out,
+        &mut err,
+        &mut rack,
+    ))
 }
 
 /// The exit code of a status.

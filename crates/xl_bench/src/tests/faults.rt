@@ -31,16 +31,17 @@ fn the_line_is_the_same_in_pieces_of_any_size(rt: HostRuntime) -> Result<(), Fai
     Ok(())
 }
 
-/// In pieces of 8 bytes the script takes five reads, and so does the trace: the last finds its end.
+/// In pieces of 8 bytes the configuration takes thirteen reads, the script five, and so does the
+/// trace: the last finds its end.
 #[test]
 fn a_read_that_fails_is_told(rt: HostRuntime) -> Result<(), Fail> {
-    for call in 1..=11u64 {
+    for call in 1..=24u64 {
         let given = Given {
             piece: 8,
             failing_read: call,
             ..Given::files(SCRIPT, TRACE)
         };
-        if call <= 10 {
+        if call <= 23 {
             given.must_end(&rt, Status::ReadFault, "", "xlate: read fault\n")?;
         } else {
             given.must_end(&rt, Status::Ok, LINE, "")?;

@@ -7,12 +7,14 @@ use std::alloc::{AllocError, Global};
 use std::process::Abort;
 use std::test::Fail;
 use xl_outside::{MemFolder, MemSink};
+use xl_rack::Rack;
 
 /// The words and the files of a run, the size of the pieces in which all bytes go in and out, and
 /// the calls that fail, by their numbers from 1; 0 is none.
 #[derive(Clone, Copy, Debug)]
 pub(crate) struct Given<'a> {
     pub(crate) words: &'a [&'a str],
+    pub(crate) config: Option<&'a str>,
     pub(crate) script: Option<&'a str>,
     pub(crate) trace: Option<&'a str>,
     pub(crate) piece: usize,
@@ -21,16 +23,23 @@ pub(crate) struct Given<'a> {
     pub(crate) failing_message: u64,
 }
 
-/// The words that name both files.
-const WORDS: [&str; 5] = ["xlate", "--script", "script", "--trace", "trace"];
+/// The words that name all files.
+const WORDS: [&str; 7] = [
+    "xlate", "--config", "config", "--script", "script", "--trace", "trace",
+];
+
+/// A row, in 92 bytes.
+const ROW: &str =
+    "[[row]]\nname = \"a\"\nmode = \"sv39\"\nframes = 4096\nspaces = 1\ntable = \"radix\"\ntable_frames = 64\n";
 
 impl<'a> Given<'a> {
-    /// Both files, in large pieces, and no call that fails.
+    /// One row, and both files, in large pieces, and no call that fails.
     pub(crate) fn files(script: &'a str, trace: &'a str) -> Given<'a>
         ensures { 0 < result.piece }
     {
         Given {
             words: &WORDS,
+            config: Some(ROW),
             script: Some(script),
             trace: Some(trace),
             piece: 8192,
@@ -55,7 +64,15 @@ impl<'a> Given<'a> {
         let mut folder = self.folder(alloc)?;
         let mut written = sink(alloc, self.failing_put, self.piece)?;
         let mut told = sink(alloc, self.failing_message, self.piece)?;
-        let found = run(alloc, &words, &mut folder, &mut written, &mut told);
+        let mut rack = Rack::open(alloc)?;
+        let found = run(
+            alloc,
+            &words,
+            &mut folder,
+            &mut written,
+            &mut told,
+            &mut rack,
+        );
         assert_eq!(rt;
             (found, written.bytes(), told.bytes()),
             (status, out.as_bytes(), err.as_bytes()),
@@ -68,7 +85,12 @@ impl<'a> Given<'a> {
         requires { 0 < self.now.piece }
     {
         let mut files = Vec::new(alloc);
-        for (name, text) in [("script", self.script), ("trace", self.trace)] {
+        let texts = [
+            ("config", self.config),
+            ("script", self.script),
+            ("trace", self.trace),
+        ];
+        for (name, text) in texts {
             if let Some(text) = text {
                 let bytes = Vec::from_slice(alloc, text.as_bytes())?;
                 files.push((String::from_str(alloc, name)?, bytes))?;
@@ -90,15 +112,27 @@ fn strings(alloc: Global, texts: &[&str]) -> Result<Vec<String>, AllocError> {
 fn sink(alloc: Global, failing: u64, piece: usize) -> Result<MemSink, AllocError>
     requires { 0 < piece }
 {
-    match MemSink::open(alloc, 1000, vec![in alloc; failing]?, piece) {
+    match MemSink::open(alloc, 4000, vec![in alloc; failing]?, piece) {
         Ok(sink) => Ok(sink),
         Err(_) => Err(AllocError),
     }
 }
 
-/// The line of the built-in row, from its first counts and from the sum of its addresses.
-pub(crate) fn line(alloc: Global, counts: &str, pasum: &str) -> Result<String, AllocError> {
+/// The configuration of a row of this name.
+pub(crate) fn config_of(alloc: Global, name: &str) -> Result<String, AllocError> {
     format!(in alloc;
-        "a {counts} wchits=0 fills=0 kicks=0 undone=0 migrated=0 growths=0 fences=0 invalidated=0 pasum={pasum} tlb=-\n"
+        "[[row]]\nname = \"{name}\"\nmode = \"sv39\"\nframes = 4096\nspaces = 1\ntable = \"radix\"\ntable_frames = 64\n"
+    )
+}
+
+/// The line of a row without caches and arrays, from its first counts and the sum of its addresses.
+pub(crate) fn line_of(
+    alloc: Global,
+    name: &str,
+    counts: &str,
+    pasum: &str,
+) -> Result<String, AllocError> {
+    format!(in alloc;
+        "{name} {counts} wchits=0 fills=0 kicks=0 undone=0 migrated=0 growths=0 fences=0 invalidated=0 pasum={pasum} tlb=-\n"
     )
 }

@@ -1,9 +1,9 @@
-//! Lines of the built-in row.
+//! Lines of one row.
 
 ghost use Rattle.std.specs.Prelude.{◌≡◌, ◌<◌};
 
 use crate::Status;
-use crate::tests::given::{Given, line};
+use crate::tests::given::{Given, line_of};
 use std::alloc::{AllocError, Global};
 use std::test::Fail;
 
@@ -79,7 +79,7 @@ const CASES: [Case; 10] = [
 #[test]
 fn each_script_and_trace_has_its_line(rt: HostRuntime) -> Result<(), Fail> {
     for (script, trace, counts, pasum) in CASES {
-        let want = line(rt.alloc(), counts, pasum)?;
+        let want = line_of(rt.alloc(), "a", counts, pasum)?;
         Given::files(script, trace).must_end(&rt, Status::Ok, want.as_str(), "")?;
     }
     Ok(())
@@ -103,6 +103,6 @@ fn a_map_is_refused_where_the_table_has_no_room(rt: HostRuntime) -> Result<(), F
     let trace = " L 310000000,1\n L 320000000,1\n L 1000,1\n";
     let counts =
         "accesses=3 ok=2 unmapped=1 denied=0 notcanonical=0 accepted=51 refused=0,0,0,0,0,0,0,1,0 walks=3 reads=8";
-    let want = line(rt.alloc(), counts, "0000000000063000")?;
+    let want = line_of(rt.alloc(), "a", counts, "0000000000063000")?;
     Given::files(script.as_str(), trace).must_end(&rt, Status::Ok, want.as_str(), "")
 }

@@ -3,7 +3,7 @@
 ghost use Rattle.std.specs.Prelude.{◌≡◌, ◌<◌};
 
 use crate::Status;
-use crate::tests::given::{Given, line};
+use crate::tests::given::{Given, line_of};
 use std::test::Fail;
 
 #[test]
@@ -11,10 +11,10 @@ fn words_of_another_form_are_refused(rt: HostRuntime) -> Result<(), Fail> {
     let forms: [&[&str]; 6] = [
         &[],
         &["xlate"],
-        &["xlate", "--script", "script", "--trace"],
-        &["xlate", "--trace", "trace", "--script", "script"],
-        &["xlate", "--script", "script", "-trace", "trace"],
-        &["xlate", "--script", "script", "--trace", "trace", "x"],
+        &["xlate", "--script", "script", "--trace", "trace"],
+        &["xlate", "--config"],
+        &["xlate", "--config", "config", "-trace", "trace"],
+        &["xlate", "--config", "config", "--trace", "trace", "x"],
     ];
     let usage =
         "xlate: usage: --config FILE [--script FILE] [--trace FILE] [--make N] [--answers] [--image] [--json]\n";
@@ -142,6 +142,60 @@ fn the_first_thing_wrong_is_told(rt: HostRuntime) -> Result<(), Fail> {
     Ok(())
 }
 
+/// The configuration is read before the script. A key that isn't there breaks rule 1.
+#[test]
+fn a_configuration_that_is_bad_is_told(rt: HostRuntime) -> Result<(), Fail> {
+    let cases = [
+        (None, Status::NoFile, "xlate: no file\n"),
+        (
+            Some("row = "),
+            Status::BadConfig,
+            "xlate: configuration: not TOML\n",
+        ),
+        (
+            Some("[[row]]\n"),
+            Status::BadConfig,
+            "xlate: configuration row 1 key 1 rule 1\n",
+        ),
+    ];
+    for (config, status, err) in cases {
+        let given = Given {
+            config,
+            ..Given::files("jump 0\n", "")
+        };
+        given.must_end(&rt, status, "", err)?;
+    }
+    Ok(())
+}
+
+/// Without a script all of the trace is run, and without a trace there is none.
+#[test]
+fn script_and_trace_may_be_left_out(rt: HostRuntime) -> Result<(), Fail> {
+    let unmapped =
+        "accesses=1 ok=0 unmapped=1 denied=0 notcanonical=0 accepted=0 refused=0,0,0,0,0,0,0,0,0 walks=1 reads=1";
+    let nothing =
+        "accesses=0 ok=0 unmapped=0 denied=0 notcanonical=0 accepted=1 refused=0,0,0,0,0,0,0,0,0 walks=0 reads=0";
+    let cases: [(&[&str], &str); 2] = [
+        (
+            &["xlate", "--config", "config", "--trace", "trace"],
+            unmapped,
+        ),
+        (
+            &["xlate", "--config", "config", "--script", "script"],
+            nothing,
+        ),
+    ];
+    for (words, counts) in cases {
+        let want = line_of(rt.alloc(), "a", counts, "0000000000000000")?;
+        let given = Given {
+            words,
+            ..Given::files("map 0 1000 4k r--u\n", " L 1008,1\n")
+        };
+        given.must_end(&rt, Status::Ok, want.as_str(), "")?;
+    }
+    Ok(())
+}
+
 #[test]
 fn a_script_of_1048577_bytes_is_too_long(rt: HostRuntime) -> Result<(), Fail> {
     let mut script = String::new(rt.alloc());
@@ -150,7 +204,7 @@ fn a_script_of_1048577_bytes_is_too_long(rt: HostRuntime) -> Result<(), Fail> {
     }
     let counts =
         "accesses=0 ok=0 unmapped=0 denied=0 notcanonical=0 accepted=0 refused=0,0,0,0,0,0,0,0,0 walks=0 reads=0";
-    let want = line(rt.alloc(), counts, "0000000000000000")?;
+    let want = line_of(rt.alloc(), "a", counts, "0000000000000000")?;
     Given::files(script.as_str(), "").must_end(&rt, Status::Ok, want.as_str(), "")?;
     script.push('#')?;
     let told = "xlate: script: too long\n";

@@ -1,36 +1,42 @@
-use Rattle.std.proofs.Common.{◌≡◌, lit<, ap, sym, ◌∙◌, subst}
-use Rattle.xl_model.specs.Nodes.{up, number_of}
-use Rattle.std.proofs.Common.{ℕ, Some, List}
-use Rattle.xl_radix_walk.specs.Row.{filled_by}
-use Rattle.xl_radix_walk.proofs.RowLemmas.{IsStart, is-start, WalkedRow, row-walked, row-answer, page-low, up-top}
+use Rattle.std.proofs.Common.{◌≤◌, None, Some, length, lit<, refl, subst, arith}
+use Rattle.xl_radix_walk.specs.declared.caches.Start.{Start}
+use Rattle.xl_radix_walk.specs.Row.{IsWalked}
+use Rattle.xl_radix_walk.proofs.RowLemmas.{IsStart, is-start, page-low, root-at}
+use Rattle.xl_radix_walk.proofs.WalkedLemmas.{WalkedFrom, row-from}
 use Rattle.xl_radix_walk.proofs.row.walk_row.Goals as goal
 
-pub look-looked-requires-clause-page : goal.look-looked-requires-clause-page
-look-looked-requires-clause-page g c = page-low g.row.LEVELS c.args.page c.requires.row.low c.requires.page.page_in
+pub look-requires-clause-page : goal.look-requires-clause-page
+look-requires-clause-page g c = page-low g.row.LEVELS c.args.page c.requires.row.low c.requires.page.page_in
 
-pub fill_found-requires-clause-page : goal.fill_found-requires-clause-page
-fill_found-requires-clause-page g c = page-low g.row.LEVELS c.args.page c.requires.row.low c.requires.page.page_in
+pub walk_from-requires : goal.walk_from-requires
+walk_from-requires g c =
+    let root = root-at g.row.LEVELS c.args.radix.now.spaces c.args.space c.args.page c.args.radix.now.leaves c.args.radix.now.nodes c.args.radix.now.words c.words_read_back.ensures c.requires.row.low c.requires.page.page_in c.requires.page.space_in in
+    let s : IsStart g.row.LEVELS c.args.space c.args.page c.args.radix.now.nodes c.args.caches.now (Some c.in-Some.start) = is-start g.row.LEVELS c.args.space c.args.page c.args.radix.now.nodes c.args.caches.now (Some c.in-Some.start) c.requires.row.caches c.in-Some.ensures.some c.in-Some.ensures.low tt (c.in-Some.ensures.number c.args.radix.now.nodes c.requires.row.numbered) root in
+    let few : length c.look.new.self ≤ 4 = (let a = c.look.ensures.length in let b = c.requires.row.caches in let d = c.requires.row.low in omega arith) in
+    (lit< tt, (few, (page-low g.row.LEVELS c.args.page c.requires.row.low c.requires.page.page_in, (s.number, s.low))))
 
-pub found_leaf-requires-clause-page : goal.found_leaf-requires-clause-page
-found_leaf-requires-clause-page g c = page-low g.row.LEVELS c.args.page c.requires.row.low c.requires.page.page_in
+pub walk_from-requires-in-None : goal.walk_from-requires-in-None
+walk_from-requires-in-None g c =
+    let root = root-at g.row.LEVELS c.args.radix.now.spaces c.args.space c.args.page c.args.radix.now.leaves c.args.radix.now.nodes c.args.radix.now.words c.words_read_back.ensures c.requires.row.low c.requires.page.page_in c.requires.page.space_in in
+    let s : IsStart g.row.LEVELS c.args.space c.args.page c.args.radix.now.nodes c.args.caches.now None = is-start g.row.LEVELS c.args.space c.args.page c.args.radix.now.nodes c.args.caches.now None c.requires.row.caches tt tt c.in-None.ensures.none tt root in
+    let few : length c.look.new.self ≤ 4 = (let a = c.look.ensures.length in let b = c.requires.row.caches in let d = c.requires.row.low in omega arith) in
+    (lit< tt, (few, (page-low g.row.LEVELS c.args.page c.requires.row.low c.requires.page.page_in, (rw c.root.ensures s.number, rw c.root.ensures s.low))))
 
-pub descend-end-requires : goal.descend-end-requires
-descend-end-requires g c =
-    let back = c.words_read_back.ensures in
-    let top : up g.row.LEVELS c.args.page ≡ 0 = up-top g.row.LEVELS c.args.page c.requires.row.low c.requires.page.page_in in
-    let root : number_of c.args.space g.row.LEVELS (up g.row.LEVELS c.args.page) c.args.radix.now.nodes ≡ Some c.args.space = subst (λ (v : ℕ). number_of c.args.space g.row.LEVELS v c.args.radix.now.nodes ≡ Some c.args.space) (sym top) (back.roots c.args.space c.requires.page.space_in) in
-    let s : IsStart g.row.LEVELS c.args.space c.args.page c.args.radix.now.nodes c.args.caches.now c.look-looked.result = is-start g.row.LEVELS c.args.space c.args.page c.args.radix.now.nodes c.args.caches.now c.look-looked.result c.requires.row.caches c.look-looked.ensures.some c.look-looked.ensures.low c.look-looked.ensures.none (c.look-looked.ensures.number c.args.radix.now.nodes c.requires.row.numbered) root in
-    (lit< tt, (rw c.start_from-from.ensures s.number, (rw c.start_from-from.ensures s.low, c.new-path.ensures)))
+pub returns-in-Some : goal.returns-in-Some
+returns-in-Some g c =
+    let root = root-at g.row.LEVELS c.args.radix.now.spaces c.args.space c.args.page c.args.radix.now.leaves c.args.radix.now.nodes c.args.radix.now.words c.words_read_back.ensures c.requires.row.low c.requires.page.page_in c.requires.page.space_in in
+    let s : IsStart g.row.LEVELS c.args.space c.args.page c.args.radix.now.nodes c.args.caches.now (Some c.in-Some.start) = is-start g.row.LEVELS c.args.space c.args.page c.args.radix.now.nodes c.args.caches.now (Some c.in-Some.start) c.requires.row.caches c.in-Some.ensures.some c.in-Some.ensures.low tt (c.in-Some.ensures.number c.args.radix.now.nodes c.requires.row.numbered) root in
+    let w : WalkedFrom g.row.LEVELS c.args.space c.args.page c.args.radix.now c.walk_from.new.radix c.args.caches.now c.walk_from.new.caches c.walk_from.result 1 =
+    row-from g.row.LEVELS c.args.space c.args.page c.args.radix.now c.walk_from.new.radix c.args.caches.now c.look.new.self c.walk_from.new.caches (Some c.in-Some.start) c.walk_from.result 1 c.words_read_back.ensures
+    (page-low g.row.LEVELS c.args.page c.requires.row.low c.requires.page.page_in) c.requires.row s c.look.ensures.caches c.look.ensures.length (c.look.ensures.kept c.args.radix.now.nodes c.requires.row.numbered) refl c.walk_from.ensures in
+    record { row = w.row; walks = w.walks }
 
-pub returns : goal.returns
-returns g c =
-    let back = c.words_read_back.ensures in
-    let top : up g.row.LEVELS c.args.page ≡ 0 = up-top g.row.LEVELS c.args.page c.requires.row.low c.requires.page.page_in in
-    let root : number_of c.args.space g.row.LEVELS (up g.row.LEVELS c.args.page) c.args.radix.now.nodes ≡ Some c.args.space = subst (λ (v : ℕ). number_of c.args.space g.row.LEVELS v c.args.radix.now.nodes ≡ Some c.args.space) (sym top) (back.roots c.args.space c.requires.page.space_in) in
-    let s : IsStart g.row.LEVELS c.args.space c.args.page c.args.radix.now.nodes c.args.caches.now c.look-looked.result = is-start g.row.LEVELS c.args.space c.args.page c.args.radix.now.nodes c.args.caches.now c.look-looked.result c.requires.row.caches c.look-looked.ensures.some c.look-looked.ensures.low c.look-looked.ensures.none (c.look-looked.ensures.number c.args.radix.now.nodes c.requires.row.numbered) root in
-    let filled : c.fill_found.new.caches ≡ filled_by c.descend-end.result c.start_from-from.result.level c.args.space c.args.page c.descend-end.new.path.items c.look-looked.new.caches = c.fill_found.ensures ∙ ap (λ (v : List ℕ). filled_by c.descend-end.result c.start_from-from.result.level c.args.space c.args.page v c.look-looked.new.caches) c.deref.ensures.0 in
-    let w : WalkedRow g.row.LEVELS c.args.space c.args.page c.args.radix.now c.descend-end.new.radix c.args.caches.now c.fill_found.new.caches = row-walked g.row.LEVELS c.args.space c.args.page c.args.radix.now c.descend-end.new.radix c.args.caches.now c.look-looked.new.caches c.fill_found.new.caches c.look-looked.result c.start_from-from.result c.descend-end.result c.descend-end.new.path.items back (page-low g.row.LEVELS c.args.page c.requires.row.low c.requires.page.page_in) c.requires.row s c.start_from-from.ensures c.look-looked.ensures.caches c.look-looked.ensures.length (c.look-looked.ensures.kept c.args.radix.now.nodes c.requires.row.numbered) c.descend-end.ensures.end c.descend-end.ensures.path c.descend-end.ensures.loads filled in
-    record {
-      row = w.row;
-      walks = record { answer = rw c.is_some-cache_hits.ensures (row-answer g.row.LEVELS c.args.space c.args.page c.args.radix.now c.args.caches.now c.look-looked.result c.found_leaf.result c.descend-end.result back s c.descend-end.ensures.end c.found_leaf.ensures); after = w.table };
-    }
+pub returns-in-None : goal.returns-in-None
+returns-in-None g c =
+    let root = root-at g.row.LEVELS c.args.radix.now.spaces c.args.space c.args.page c.args.radix.now.leaves c.args.radix.now.nodes c.args.radix.now.words c.words_read_back.ensures c.requires.row.low c.requires.page.page_in c.requires.page.space_in in
+    let s : IsStart g.row.LEVELS c.args.space c.args.page c.args.radix.now.nodes c.args.caches.now None = is-start g.row.LEVELS c.args.space c.args.page c.args.radix.now.nodes c.args.caches.now None c.requires.row.caches tt tt c.in-None.ensures.none tt root in
+    let walked = subst (λ (v : Start). IsWalked g.row.LEVELS v.level c.args.space c.args.page c.walk_from-in-None.result c.args.radix.now c.look.new.self c.walk_from-in-None.new.radix c.walk_from-in-None.new.caches) c.root.ensures c.walk_from-in-None.ensures in
+    let w : WalkedFrom g.row.LEVELS c.args.space c.args.page c.args.radix.now c.walk_from-in-None.new.radix c.args.caches.now c.walk_from-in-None.new.caches c.walk_from-in-None.result 0 =
+    row-from g.row.LEVELS c.args.space c.args.page c.args.radix.now c.walk_from-in-None.new.radix c.args.caches.now c.look.new.self c.walk_from-in-None.new.caches None c.walk_from-in-None.result 0 c.words_read_back.ensures
+    (page-low g.row.LEVELS c.args.page c.requires.row.low c.requires.page.page_in) c.requires.row s c.look.ensures.caches c.look.ensures.length (c.look.ensures.kept c.args.radix.now.nodes c.requires.row.numbered) refl walked in
+    record { row = w.row; walks = w.walks }

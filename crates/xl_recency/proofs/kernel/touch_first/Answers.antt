@@ -1,9 +1,15 @@
 use Rattle.std.proofs.Common.{◌∙◌}
-use Rattle.xl_recency.proofs.ScanLemmas.{found, moved, none_found, none_moved}
+use Rattle.xl_recency.proofs.ScanLemmas.{found, moved, stays, none_found, none_moved}
 use Rattle.xl_recency.proofs.kernel.touch_first.Goals as goal
 
-pub returns-in-Some : goal.returns-in-Some
-returns-in-Some g c = λ q test. record {
+pub returns-then-at-eq0 : goal.returns-then-at-eq0
+returns-then-at-eq0 g c = λ q test. record {
+  found = found _ q test c.args.items.now c.in-Some.at c.index-items-at.result c.in-Some.ensures.within c.in-Some.ensures.some c.index-items-at.is;
+  moved = stays _ q test c.args.items.now c.in-Some.at c.index-items-at.result c.in-Some.ensures.within c.in-Some.ensures.some c.index-items-at.is c.if-at-eq0.true;
+}
+
+pub returns-else-at-eq0 : goal.returns-else-at-eq0
+returns-else-at-eq0 g c = λ q test. record {
   found = found _ q test c.args.items.now c.in-Some.at c.index-items-at.result c.in-Some.ensures.within c.in-Some.ensures.some c.index-items-at.is;
   moved = c.put_in_front.ensures ∙ moved _ q test c.args.items.now c.in-Some.at c.index-items-at.result c.in-Some.ensures.within c.in-Some.ensures.some c.index-items-at.is;
 }

@@ -4,8 +4,8 @@ use Rattle.xl_model.specs.Rows.{is_width}
 use Rattle.xl_radix_walk.proofs.OpeningLemmas.{all-taken, opening-row, opening-is}
 use Rattle.xl_radix_walk.proofs.row.RadixRow.open.Goals as goal
 
-pub open_caches-requires : goal.open_caches-requires
-open_caches-requires g c = all-taken is_width (g.row.LEVELS - 1) c.args.widths c.requires.widths
+pub open-requires-2 : goal.open-requires-2
+open-requires-2 g c = all-taken is_width (g.row.LEVELS - 1) c.args.widths c.requires.widths
 
 pub invariant_of-result : goal.invariant_of-result
 invariant_of-result g c =

@@ -1,2 +1,0 @@
-pub mod BuiltIn
-pub mod Lines

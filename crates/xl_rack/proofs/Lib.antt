@@ -1,0 +1,6 @@
+mod DemandLemmas
+mod LineLemmas
+mod PlaceLemmas
+mod RowsLemmas
+mod ServedAtLemmas
+mod SlotLemmas

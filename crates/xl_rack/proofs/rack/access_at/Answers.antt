@@ -1,0 +1,7 @@
+use Rattle.xl_machine.specs.Served.{accessed_by}
+use Rattle.xl_rack.proofs.SlotLemmas.{map-set}
+use Rattle.xl_rack.proofs.rack.access_at.Goals as goal
+
+pub returns-clause-after : goal.returns-clause-after
+returns-clause-after c =
+    map-set (accessed_by c.args.va c.args.kind) c.args.slots.now c.args.i c.index-slots-i.result c.access.new.self c.requires c.access.ensures.after

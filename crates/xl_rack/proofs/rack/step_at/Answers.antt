@@ -1,0 +1,6 @@
+use Rattle.xl_machine.specs.Served.{after_of}
+use Rattle.xl_rack.proofs.SlotLemmas.{map-set}
+use Rattle.xl_rack.proofs.rack.step_at.Goals as goal
+
+pub returns-clause-after : goal.returns-clause-after
+returns-clause-after c = map-set (after_of c.args.event) c.args.slots.now c.args.i c.index-slots-i.result c.step.new.self c.requires c.step.ensures.after

@@ -1,0 +1,43 @@
+-- The forms of a machine, one for each variant that is handed out.
+use Rattle.std.specs.Prelude.{Option, None, Some}
+use Rattle.xl_model.specs.declared.address.Mode.{Mode}
+use Rattle.xl_model.specs.declared.address.Mode.TheVariants as mode
+use Rattle.xl_model.specs.declared.row.Table.{Table}
+use Rattle.xl_model.specs.declared.row.Table.TheVariants as table
+use Rattle.xl_model.specs.Rows.{Row}
+use Rattle.xl_model.specs.Scenes.{Served}
+use Rattle.xl_rack.specs.declared.held.Held.{Held}
+use Rattle.xl_rack.specs.declared.held.Held.TheVariants as held
+
+-- What a machine is over: a radix table of three, four or five levels.
+pub data Form : Type 0 where
+  Radix3 : Form
+  Radix4 : Form
+  Radix5 : Form
+
+-- The form of a radix table, by the mode.
+abbrev pub radix_form : Mode → Form
+radix_form mode.Sv39 = Radix3
+radix_form mode.Sv48 = Radix4
+radix_form mode.Sv57 = Radix5
+
+-- The form that a table names in a mode; a kind that isn't built names none.
+abbrev pub form_by : Mode → Table → Option Form
+form_by m (table.Radix frames caches) = Some (radix_form m)
+form_by m _ = None
+
+-- The form that a row names.
+abbrev pub form_named : Row → Option Form
+form_named row = form_by row.mode row.table
+
+-- The form of a machine that is handed out.
+abbrev pub form_of : Held → Form
+form_of (held.Sv39 m) = Radix3
+form_of (held.Sv48 m) = Radix4
+form_of (held.Sv57 m) = Radix5
+
+-- The row and the state of a machine that is handed out.
+abbrev pub served_behind : Held → Served
+served_behind (held.Sv39 m) = m.now
+served_behind (held.Sv48 m) = m.now
+served_behind (held.Sv57 m) = m.now

@@ -1,0 +1,5 @@
+pub mod Forms
+pub mod Lines
+pub mod Places
+pub mod Served
+pub mod Slots

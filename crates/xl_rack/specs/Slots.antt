@@ -1,0 +1,22 @@
+-- What the slots of a rack hold.
+use Rattle.std.specs.Prelude.{◌≡◌, Some}
+use Rattle.xl_model.specs.Scenes.{Served}
+use Rattle.xl_rack.specs.declared.slot.Slot.{Slot}
+use Rattle.xl_rack.specs.declared.slot.Slot.TheVariants as slot
+use Rattle.xl_rack.specs.Forms.{Form, Radix3, Radix4, Radix5, form_named}
+
+-- The row and the state of a slot's machine.
+abbrev pub served_of : Slot → Served
+served_of (slot.Sv39 m) = m
+served_of (slot.Sv48 m) = m
+served_of (slot.Sv57 m) = m
+
+-- The form of a slot's machine.
+abbrev pub slot_form : Slot → Form
+slot_form (slot.Sv39 m) = Radix3
+slot_form (slot.Sv48 m) = Radix4
+slot_form (slot.Sv57 m) = Radix5
+
+-- A slot's machine is of the form that its row names.
+abbrev pub IsNamed : Slot → Type 0
+IsNamed s = form_named (served_of s).row ≡ Some (slot_form s)

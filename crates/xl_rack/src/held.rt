@@ -1,0 +1,11 @@
+//! A machine that is handed out.
+
+use xl_machine::Machine;
+use xl_radix_walk::RadixRow;
+
+/// A machine of a rack, to be read. The variant is the one that its row's table and mode name.
+pub enum Held<'a> {
+    Sv39(&'a Machine<RadixRow<3>>),
+    Sv48(&'a Machine<RadixRow<4>>),
+    Sv57(&'a Machine<RadixRow<5>>),
+}

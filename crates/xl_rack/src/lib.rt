@@ -1,0 +1,14 @@
+//! The machines of all rows: up to sixteen, each over the table that its row names. An item is served
+//! by one after another.
+#![tactic(auto)]
+
+mod demand;
+mod held;
+mod rack;
+mod rows;
+mod slot;
+#[cfg(test)]
+mod tests;
+
+pub use held::Held;
+pub use rack::Rack;

@@ -1,0 +1,169 @@
+//! The rack.
+
+ghost use Rattle.std.specs.Prelude.{◌≡◌, ◌<◌, ◌≤◌, ◌++◌, [], ◌∷◌, length, map, slice_get, Some, IfOk, IfSome, OnOk, OnErr};
+ghost use Rattle.std.specs.List.{All};
+ghost use Rattle.xl_config.specs.Keys.{IsBuilt};
+ghost use Rattle.xl_machine.specs.Served.{accessed_by, after_of};
+ghost use Rattle.xl_model.specs.RowRun.{outcome_of, reply_to};
+ghost use Rattle.xl_model.specs.Rows.{row_of, IsRow};
+ghost use Rattle.xl_model.specs.Scenes.{opened};
+ghost use Rattle.xl_model.specs.Tally.{IsSmall};
+ghost use Rattle.xl_rack.specs.Forms.{form_named, form_of, served_behind};
+ghost use Rattle.xl_rack.specs.Places.{at_place};
+ghost use Rattle.xl_rack.specs.Slots.{served_of, IsNamed};
+
+use crate::held::Held;
+use crate::slot::Slot;
+use std::alloc::Global;
+use std::marker::Model;
+use xl_model::{Counts, Event, Kind, NoMemory, Outcome, Reply, Row};
+
+/// The most rows of a rack.
+const MOST: usize = 16;
+
+/// The machines of up to sixteen rows, in the order in which they were added. Contracts see each row
+/// with its state. A state changes by the events that are served, and in no other way.
+#[derive(Drop)]
+pub struct Rack {
+    slots: Vec<Slot>,
+}
+
+impl Model for Rack {
+    ghost use Rattle.std.specs.Prelude.{◌≤◌, List, map};
+    ghost use Rattle.std.specs.List.{All};
+    ghost use Rattle.std.specs.Vec.{vec_capacity};
+    ghost use Rattle.xl_model.specs.Scenes.{Served};
+    ghost use Rattle.xl_rack.specs.Slots.{served_of, IsNamed};
+
+    ghost Value = { List Served };
+
+    ghost view = { λ r. map served_of r.slots.items };
+
+    ghost invariant = { λ r. (16 ≤ vec_capacity r.slots) × All IsNamed r.slots.items };
+}
+
+/// Serves an event by the slot at a place.
+fn step_at(slots: &mut [Slot], i: usize, event: Event) -> Outcome
+    requires { i < length slots.old }
+    ensures outcome { IfSome (slice_get (map served_of slots.old) i)
+        (λ v. result ≡ outcome_of v.row event v.state) }
+    ensures after { map served_of slots.new ≡
+        at_place (after_of event) i (map served_of slots.old) }
+    ensures named { All IsNamed slots.old → All IsNamed slots.new }
+{
+    let slot = &mut slots[i];
+    slot.step(event)
+}
+
+/// Serves an access by the slot at a place.
+#[inline(always)]
+fn access_at(slots: &mut [Slot], i: usize, va: u64, kind: Kind) -> Reply
+    requires { i < length slots.old }
+    ensures reply { IfSome (slice_get (map served_of slots.old) i)
+        (λ v. result ≡ reply_to v.row v.state va kind) }
+    ensures after { map served_of slots.new ≡
+        at_place (accessed_by va kind) i (map served_of slots.old) }
+    ensures named { All IsNamed slots.old → All IsNamed slots.new }
+    ensures small { IsSmall result }
+{
+    let slot = &mut slots[i];
+    slot.access(va, kind)
+}
+
+impl Rack {
+    /// An empty rack, with room for sixteen machines.
+    ///
+    /// # Errors
+    ///
+    /// `NoMemory` where there is no memory.
+    pub fn open(alloc: Global) -> Result<Rack, NoMemory>
+        ensures { IfOk result (λ rack. rack ≡ []) }
+    {
+        Ok(Rack {
+            slots: Vec::with_capacity(alloc, MOST)?,
+        })
+    }
+
+    /// Opens the table that a row names and a machine over it, and puts the row last, in its opening
+    /// state.
+    ///
+    /// # Errors
+    ///
+    /// `NoMemory` where there is no memory; then the rack is as before.
+    pub fn add(&mut self, alloc: Global, row: Row) -> Result<(), NoMemory>
+        requires row { IsRow (row_of row) }
+        requires built { IsBuilt (row_of row) }
+        requires few { length self.old < 16 }
+        ensures added { OnOk result (self.new ≡ self.old ++ opened (row_of row ∷ [])) }
+        ensures none { OnErr result (self.new ≡ self.old) }
+    {
+        let slot = Slot::open(alloc, row)?;
+        match self.slots.push(slot) {
+            Ok(()) => Ok(()),
+            Err(_) => unreachable!(),
+        }
+    }
+
+    /// How many rows there are.
+    pub fn len(&self) -> usize
+        ensures { result ≡ length self.now }
+    {
+        self.slots.len()
+    }
+
+    /// Serves an event by the machine at a place, from 0. No other row changes.
+    pub fn step(&mut self, i: usize, event: Event) -> Outcome
+        requires { i < length self.old }
+        ensures outcome { IfSome (slice_get self.old i)
+            (λ v. result ≡ outcome_of v.row event v.state) }
+        ensures after { self.new ≡ at_place (after_of event) i self.old }
+    {
+        step_at(&mut self.slots, i, event)
+    }
+
+    /// Serves an access by the machine at a place, from 0. No other row changes.
+    pub fn access(&mut self, i: usize, va: u64, kind: Kind) -> Reply
+        requires { i < length self.old }
+        ensures reply { IfSome (slice_get self.old i)
+            (λ v. result ≡ reply_to v.row v.state va kind) }
+        ensures after { self.new ≡ at_place (accessed_by va kind) i self.old }
+        ensures small { IsSmall result }
+    {
+        access_at(&mut self.slots, i, va, kind)
+    }
+
+    /// The row at a place, from 0.
+    pub fn row(&self, i: usize) -> &Row
+        requires { i < length self.now }
+        ensures { IfSome (slice_get self.entry.now i) (λ v. row_of result.now ≡ v.row) }
+    {
+        self.slots[i].row()
+    }
+
+    /// The current space of the row at a place, from 0.
+    pub fn space(&self, i: usize) -> u16
+        requires { i < length self.now }
+        ensures { IfSome (slice_get self.now i) (λ v. result ≡ v.state.space) }
+    {
+        self.slots[i].space()
+    }
+
+    /// The counts so far of the row at a place, from 0.
+    pub fn counts(&self, i: usize) -> Counts
+        requires { i < length self.now }
+        ensures counts { IfSome (slice_get self.now i) (λ v. result ≡ v.state.counts) }
+        ensures few { result.arrays ≤ 6 }
+    {
+        self.slots[i].counts()
+    }
+
+    /// The machine at a place, from 0.
+    pub fn machine(&self, i: usize) -> Held<'_>
+        requires { i < length self.now }
+        ensures served { slice_get self.entry.now i ≡ Some (served_behind result) }
+        ensures form { IfSome (slice_get self.entry.now i)
+            (λ v. form_named v.row ≡ Some (form_of result)) }
+    {
+        self.slots[i].machine()
+    }
+}

@@ -1,0 +1,144 @@
+//! A place of the rack: a machine over one of the tables.
+
+ghost use Rattle.std.specs.Prelude.{◌≡◌, ◌≤◌, IfOk};
+ghost use Rattle.xl_config.specs.Keys.{IsBuilt};
+ghost use Rattle.xl_machine.specs.Served.{accessed_by, after_of, opened};
+ghost use Rattle.xl_model.specs.declared.row.Table.TheVariants as table;
+ghost use Rattle.xl_model.specs.Addresses.{levels_of};
+ghost use Rattle.xl_model.specs.RowRun.{outcome_of, reply_to};
+ghost use Rattle.xl_model.specs.Rows.{row_of, IsRow};
+ghost use Rattle.xl_model.specs.Tally.{IsSmall};
+ghost use Rattle.xl_rack.specs.Forms.{form_of, served_behind};
+ghost use Rattle.xl_rack.specs.Slots.{served_of, slot_form, IsNamed};
+
+use crate::held::Held;
+use std::alloc::Global;
+use xl_machine::Machine;
+use xl_model::{Counts, Event, Kind, Mode, NoMemory, Outcome, Reply, Row, Table};
+use xl_radix_walk::RadixRow;
+
+/// A machine over one of the tables.
+#[derive(Drop)]
+pub(crate) enum Slot {
+    Sv39(Machine<RadixRow<3>>),
+    Sv48(Machine<RadixRow<4>>),
+    Sv57(Machine<RadixRow<5>>),
+}
+
+/// The machine of a row with a radix table of LEVELS levels.
+fn open_radix<const LEVELS: usize>(
+    alloc: Global,
+    row: Row,
+    table_frames: u32,
+    widths: [u8; 4],
+) -> Result<Machine<RadixRow<LEVELS>>, NoMemory>
+    requires row { IsRow (row_of row) }
+    requires levels { levels_of row.mode ≡ LEVELS }
+    requires table { row.table ≡ table.Radix table_frames widths }
+    ensures { IfOk result (λ m. m ≡ opened (row_of row)) }
+{
+    let table = RadixRow::open(alloc, table_frames, row.spaces, widths)?;
+    Machine::open(alloc, row, table)
+}
+
+impl Slot {
+    /// The machine of a row in its opening state, over the table that the row names.
+    ///
+    /// # Errors
+    ///
+    /// `NoMemory` where there is no memory.
+    pub(crate) fn open(alloc: Global, row: Row) -> Result<Slot, NoMemory>
+        requires row { IsRow (row_of row) }
+        requires built { IsBuilt (row_of row) }
+        ensures served { IfOk result (λ slot. served_of slot ≡ opened (row_of row)) }
+        ensures named { IfOk result IsNamed }
+    {
+        let Table::Radix {
+            table_frames,
+            caches,
+        } = row.table
+        else {
+            unreachable!()
+        };
+        Ok(match row.mode {
+            Mode::Sv39 => Slot::Sv39(open_radix::<3>(alloc, row, table_frames, caches)?),
+            Mode::Sv48 => Slot::Sv48(open_radix::<4>(alloc, row, table_frames, caches)?),
+            Mode::Sv57 => Slot::Sv57(open_radix::<5>(alloc, row, table_frames, caches)?),
+        })
+    }
+
+    /// Serves an event.
+    pub(crate) fn step(&mut self, event: Event) -> Outcome
+        ensures outcome { result ≡
+            outcome_of (served_of self.old).row event (served_of self.old).state }
+        ensures after { served_of self.new ≡ after_of event (served_of self.old) }
+        ensures form { slot_form self.new ≡ slot_form self.old }
+    {
+        match self {
+            Slot::Sv39(machine) => machine.step(event),
+            Slot::Sv48(machine) => machine.step(event),
+            Slot::Sv57(machine) => machine.step(event),
+        }
+    }
+
+    /// Serves an access.
+    pub(crate) fn access(&mut self, va: u64, kind: Kind) -> Reply
+        ensures reply { result ≡
+            reply_to (served_of self.old).row (served_of self.old).state va kind }
+        ensures after { served_of self.new ≡ accessed_by va kind (served_of self.old) }
+        ensures form { slot_form self.new ≡ slot_form self.old }
+        ensures small { IsSmall result }
+    {
+        match self {
+            Slot::Sv39(machine) => machine.access(va, kind),
+            Slot::Sv48(machine) => machine.access(va, kind),
+            Slot::Sv57(machine) => machine.access(va, kind),
+        }
+    }
+
+    /// The row.
+    pub(crate) fn row(&self) -> &Row
+        ensures { row_of result.now ≡ (served_of self.entry.now).row }
+    {
+        match self {
+            Slot::Sv39(machine) => machine.row(),
+            Slot::Sv48(machine) => machine.row(),
+            Slot::Sv57(machine) => machine.row(),
+        }
+    }
+
+    /// The current space.
+    pub(crate) fn space(&self) -> u16
+        ensures { result ≡ (served_of self.now).state.space }
+    {
+        match self {
+            Slot::Sv39(machine) => machine.space(),
+            Slot::Sv48(machine) => machine.space(),
+            Slot::Sv57(machine) => machine.space(),
+        }
+    }
+
+    /// The counts so far.
+    pub(crate) fn counts(&self) -> Counts
+        ensures counts { result ≡ (served_of self.now).state.counts }
+        ensures few { result.arrays ≤ 6 }
+    {
+        match self {
+            Slot::Sv39(machine) => machine.counts(),
+            Slot::Sv48(machine) => machine.counts(),
+            Slot::Sv57(machine) => machine.counts(),
+        }
+    }
+
+    /// The machine.
+    pub(crate) fn machine(&self) -> Held<'_>
+        ensures served { served_behind result ≡ served_of self.entry.now }
+        ensures form { form_of result ≡ slot_form self.entry.now }
+    {
+        match self {
+            Slot::Sv39(machine) => Held::Sv39(machine),
+            Slot::Sv48(machine) => Held::Sv48(machine),
+            Slot::Sv57(machine) => Held::Sv57(machine),
+        }
+    }
+}

@@ -1,0 +1,62 @@
+-- A walk of a row from one of a page's nodes.
+use Rattle.std.proofs.Common.{ℕ, suc, ◌≡◌, ◌+◌, ◌-◌, ◌*◌, ◌%◌, ◌^◌, ◌<◌, is_some, List, [], length, Option, Some, None, refl, ap, sym, ◌∙◌, arith}
+use Rattle.xl_model.specs.Addresses.{level_of}
+use Rattle.xl_model.specs.Base.{one_if, plus}
+use Rattle.xl_model.specs.declared.leaf.Leaf.{Leaf}
+use Rattle.xl_model.specs.Mapping.{leaf_at_page}
+use Rattle.xl_model.specs.Nodes.{up, number_of}
+use Rattle.xl_model.specs.Structures.{IsWalk}
+use Rattle.xl_model.specs.Walks.{start_level, end_level, node_caches_after}
+use Rattle.xl_model.specs.Caches.{Cached}
+use Rattle.xl_radix.specs.declared.walk_end.WalkEnd.TheVariants as end
+use Rattle.xl_radix.specs.Table.{Table}
+use Rattle.xl_radix.specs.Walk.{walk_end, WordsReadBack}
+use Rattle.xl_recency.specs.declared.item.Item.{Item}
+use Rattle.xl_radix_walk.specs.Path.{radix_path}
+use Rattle.xl_radix_walk.specs.Quick.{Finds, small_leaf}
+use Rattle.xl_radix_walk.specs.declared.caches.Start.{Start}
+use Rattle.xl_radix_walk.specs.Row.{caches_in, AreNumbered, leaf_told, filled_by, start_or, FillsNone, IsRow, IsStraight, IsWalked, row_of, row_table}
+use Rattle.xl_radix_walk.proofs.DescentLemmas.{walk-path}
+use Rattle.xl_radix_walk.proofs.RowLemmas.{IsStart, WalkedRow, leaf-told, row-walked, row-answer}
+
+pub straight-found : (top start node space page : ℕ) (leaf : Leaf) (t new : Table) → WordsReadBack top t.spaces t.leaves t.nodes t.words → number_of space (suc start) (up (suc start) page) t.nodes ≡ Some node
+    → Finds t.words start node space page leaf → new ≡ record t { loads = (t.loads + (start + 1)) % 2 ^ 64 } → IsStraight top start space page leaf t new
+straight-found top start node space page leaf t new back at finds loads =
+    let told : leaf_told space page (walk_end (leaf_at_page space page t.leaves) (end_level (top - 1) 0 space page t.leaves)) ≡ Some (small_leaf space page leaf.frame leaf.perm) =
+    ap (leaf_told space page) (sym (back.back space page start node at) ∙ finds.0) ∙ small page leaf in
+    let found : leaf_at_page space page t.leaves ≡ Some leaf = sym (leaf-told top t.spaces space page t.leaves t.nodes t.words back) ∙ told ∙ ap Some (sym finds.1) in
+    let level : end_level (top - 1) 0 space page t.leaves ≡ 0 = back.kept.ends space page leaf found ∙ ap (λ (x : Leaf). level_of x.order) finds.1 in
+    record { found = found; level = level; loads = loads }
+  where
+    once : (n : ℕ) → n * 1 ≡ n
+    once n = omega arith
+
+    small : (n : ℕ) (x : Leaf) → leaf_told space n (end.Leaf 0 x.frame x.perm) ≡ Some (small_leaf space n x.frame x.perm)
+    small n x = ap (λ (first : ℕ). Some (small_leaf space first x.frame x.perm)) (once n)
+
+pub straight-walked : (top start node space page : ℕ) (leaf : Leaf) (t new : Table) (cs : List (Cached Item)) → WordsReadBack top t.spaces t.leaves t.nodes t.words → number_of space (suc start) (up (suc start) page) t.nodes ≡ Some node
+    → IsStraight top start space page leaf t new → FillsNone start cs → IsWalked top start space page (Some leaf) t cs new cs
+straight-walked top start node space page leaf t new cs back at s none =
+    record {
+      leaf = sym s.found;
+      loads = s.loads ∙ ap (λ (n : ℕ). record t { loads = plus t.loads (n + 1) }) count;
+      filled = (radix_path t.words start node page, walk-path t.words top t.spaces space page start node t.leaves t.nodes back at, sym (none.stay _ space page (radix_path t.words start node page)));
+    }
+  where
+    count : start ≡ start - end_level (top - 1) 0 space page t.leaves
+    count = let e = s.level in omega arith
+
+-- the row after a walk, and what it answers
+pub record WalkedFrom (top space page : ℕ) (t new : Table) (cs after : List (Cached Item)) (r : Option Leaf) (hits : ℕ) : Type 0 where
+  pub row : IsRow top (row_of new after)
+  pub walks : IsWalk space page (row_table top (row_of t cs)) (record { leaf = r; cache_hits = hits }) (row_table top (row_of new after))
+
+pub row-from : (top space page : ℕ) (t new : Table) (cs looked after : List (Cached Item)) (found : Option Start) (r : Option Leaf) (hits : ℕ) → WordsReadBack top t.spaces t.leaves t.nodes t.words → page < 2 ^ 45 → IsRow top (row_of t cs) →
+    IsStart top space page t.nodes cs found → caches_in 0 looked ≡ node_caches_after 0 (start_level 0 space page (caches_in 0 cs)) None space page [] (caches_in 0 cs) → length looked ≡ length cs → AreNumbered 0 t.nodes looked →
+    hits ≡ one_if (is_some found) → IsWalked top (start_or top space found).level space page r t looked new after → WalkedFrom top space page t new cs after r hits
+row-from top space page t new cs looked after found r hits back h row s el size all eh w =
+    let least = end_level (top - 1) 0 space page t.leaves in
+    let from = start_or top space found in
+    let ea : after ≡ filled_by (walk_end (leaf_at_page space page t.leaves) least) from.level space page w.filled.0 looked = w.filled.2 ∙ ap (λ (o : Option Leaf). filled_by (walk_end o least) from.level space page w.filled.0 looked) w.leaf in
+    let walked : WalkedRow top space page t new cs after = row-walked top space page t new cs looked after found from (walk_end (leaf_at_page space page t.leaves) least) w.filled.0 back h row s refl el size all refl w.filled.1 w.loads ea in
+    record { row = walked.row; walks = record { answer = rw eh (row-answer top space page t cs found r s w.leaf); after = walked.table } }

@@ -1,0 +1,15 @@
+use Rattle.std.proofs.Common.{◌∙◌, arith}
+use Rattle.xl_radix_walk.proofs.StraightLemmas.{steps-on, finds-if}
+use Rattle.xl_radix_walk.proofs.quick.quick_leaf.Goals as goal
+
+pub down-preserved : goal.down-preserved
+down-preserved c = record {
+  low = omega arith;
+  small = c.in_ok-at.ensures.small;
+  end = c.down.invariant.end ∙ steps-on c.args.words.now c.down.level c.down.at c.args.page c.in_ok-word_at.field-0 c.in_ok-at.at (omega arith) c.in_ok-word_at.ensures c.in_ok-at.ensures.said;
+}
+
+pub returns : goal.returns
+returns c =
+    finds-if c.args.words.now c.args.start c.args.node c.down.level c.down.at c.args.space c.args.page c.in_ok-word_at-2.field-0 c.small_leaf.result (omega arith)
+    c.down.invariant.end c.in_ok-word_at-2.ensures c.small_leaf.ensures

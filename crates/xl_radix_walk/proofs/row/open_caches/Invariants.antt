@@ -1,6 +1,0 @@
-use Rattle.std.proofs.Common.{◌≡◌, map, take}
-use Rattle.xl_model.specs.Caches.{empty_cache}
-use Rattle.xl_radix_walk.proofs.row.open_caches.Given as goal
-
-abbrev pub invariant-opened : goal.invariant-opened
-invariant-opened l = l.caches.items ≡ map empty_cache (take l.width-index l.widths)

@@ -1,0 +1,15 @@
+use Rattle.std.proofs.Common.{suc, arith}
+use Rattle.xl_radix.proofs.NumberLemmas.{number-some}
+use Rattle.xl_radix_walk.proofs.WalkedLemmas.{straight-found}
+use Rattle.xl_radix_walk.proofs.row.straight.Goals as goal
+
+pub quick_leaf-requires-clause-node : goal.quick_leaf-requires-clause-node
+quick_leaf-requires-clause-node g c =
+    let h = (number-some c.args.space (suc c.args.from.level) _ c.args.from.node _ c.requires.node).0 in
+    let s = c.words_read_back.ensures.kept.small in
+    omega arith
+
+pub returns-clause-some : goal.returns-clause-some
+returns-clause-some g c =
+    straight-found g.row.LEVELS c.args.from.level c.args.from.node c.args.space c.args.page c.in_ok-leaf.leaf c.args.radix.now c.count_loads.new.self c.words_read_back.ensures c.requires.node
+    (rw (← c.words.ensures.value) c.in_ok-leaf.ensures) c.count_loads.ensures

@@ -1,0 +1,77 @@
+use Rattle.std.proofs.Common.{ℕ, ◌≡◌, ◌+◌, [], length, sym, ap, ◌∙◌, arith}
+use Rattle.std.specs.Vec.{with_items}
+use Rattle.std.proofs.lemmas.List.{with_items_is}
+use Rattle.xl_radix_walk.specs.Row.{above_off}
+use Rattle.xl_radix_walk.proofs.AboveLemmas.{none-kept, off-looked, length-above, start-above, after-above, numbered-inside, numbered-above}
+use Rattle.xl_radix_walk.proofs.walk_caches.WalkCaches.look.Goals as goal
+
+pub returns-then-is_empty-clause-none : goal.returns-then-is_empty-clause-none
+returns-then-is_empty-clause-none c =
+    let none = none-kept c.self.inside.kept.len c.self.inside.kept.items c.self.inside.kept.ok.0 (sym c.is_empty.ensures ∙ c.if-is_empty.true) in
+    let v : above_off c.self.inside.lowest [] ≡ c.args.self.now = rw (← none) c.self.view_is in
+    rw (← v) (off-looked c.self.inside.lowest c.args.space c.args.page).start
+
+pub returns-then-is_empty-clause-caches : goal.returns-then-is_empty-clause-caches
+returns-then-is_empty-clause-caches c =
+    let none = none-kept c.self.inside.kept.len c.self.inside.kept.items c.self.inside.kept.ok.0 (sym c.is_empty.ensures ∙ c.if-is_empty.true) in
+    let v : above_off c.self.inside.lowest [] ≡ c.args.self.now = rw (← none) c.self.view_is in
+    rw (← v) (off-looked c.self.inside.lowest c.args.space c.args.page).caches
+
+pub look-requires-clause-levels : goal.look-requires-clause-levels
+look-requires-clause-levels c =
+    let v : above_off c.self.inside.lowest c.deref_mut.result.now ≡ c.args.self.now = rw c.deref_mut.ensures.value c.self.view_is in
+    let s : length c.args.self.now ≡ c.self.inside.lowest + length c.deref_mut.result.now = sym (ap length v) ∙ length-above c.self.inside.lowest c.deref_mut.result.now in
+    let h = c.requires.levels in
+    omega arith
+
+pub returns-clause-some : goal.returns-clause-some
+returns-clause-some c =
+    let n = c.self.inside.lowest in
+    let ds = c.deref_mut.result.now in
+    let v : above_off n ds ≡ c.args.self.now = rw c.deref_mut.ensures.value c.self.view_is in
+    rw (← v, start-above n n 0 c.args.space c.args.page ds (omega arith)) c.look.ensures.some
+
+pub returns-clause-low : goal.returns-clause-low
+returns-clause-low c =
+    let n = c.self.inside.lowest in
+    let ds = c.deref_mut.result.now in
+    let v : above_off n ds ≡ c.args.self.now = rw c.deref_mut.ensures.value c.self.view_is in
+    rw (← v, length-above n ds) c.look.ensures.low
+
+pub returns-clause-none : goal.returns-clause-none
+returns-clause-none c =
+    let n = c.self.inside.lowest in
+    let ds = c.deref_mut.result.now in
+    let v : above_off n ds ≡ c.args.self.now = rw c.deref_mut.ensures.value c.self.view_is in
+    rw (← v, start-above n n 0 c.args.space c.args.page ds (omega arith), length-above n ds) c.look.ensures.none
+
+pub returns-clause-caches : goal.returns-clause-caches
+returns-clause-caches c =
+    let n = c.self.inside.lowest in
+    let ds = c.deref_mut.result.now in
+    let v : above_off n ds ≡ c.args.self.now = rw c.deref_mut.ensures.value c.self.view_is in
+    let w : (with_items c.self.inside.kept c.look.new.caches).items ≡ c.look.new.caches = with_items_is c.self.inside.kept c.look.new.caches (c.look.auto.caches ∙ ap length c.deref_mut.ensures.value ∙ sym c.self.inside.kept.ok.0) in
+    rw (← v, w, start-above n n 0 c.args.space c.args.page ds (omega arith)) (after-above n n 0 _ c.args.space c.args.page ds c.look.new.caches (omega arith) c.look.ensures.caches)
+
+pub returns-clause-length : goal.returns-clause-length
+returns-clause-length c =
+    let n = c.self.inside.lowest in
+    let ds = c.deref_mut.result.now in
+    let v : above_off n ds ≡ c.args.self.now = rw c.deref_mut.ensures.value c.self.view_is in
+    let w : (with_items c.self.inside.kept c.look.new.caches).items ≡ c.look.new.caches = with_items_is c.self.inside.kept c.look.new.caches (c.look.auto.caches ∙ ap length c.deref_mut.ensures.value ∙ sym c.self.inside.kept.ok.0) in
+    rw (← v, w) (length-above n c.look.new.caches ∙ ap (λ (k : ℕ). n + k) c.look.ensures.length ∙ sym (length-above n ds))
+
+pub returns-clause-number : goal.returns-clause-number
+returns-clause-number c =
+    let n = c.self.inside.lowest in
+    let ds = c.deref_mut.result.now in
+    let v : above_off n ds ≡ c.args.self.now = rw c.deref_mut.ensures.value c.self.view_is in
+    λ nodes all. c.look.ensures.number nodes (numbered-inside n n 0 nodes ds (omega arith) (rw v all))
+
+pub returns-clause-kept : goal.returns-clause-kept
+returns-clause-kept c =
+    let n = c.self.inside.lowest in
+    let ds = c.deref_mut.result.now in
+    let v : above_off n ds ≡ c.args.self.now = rw c.deref_mut.ensures.value c.self.view_is in
+    let w : (with_items c.self.inside.kept c.look.new.caches).items ≡ c.look.new.caches = with_items_is c.self.inside.kept c.look.new.caches (c.look.auto.caches ∙ ap length c.deref_mut.ensures.value ∙ sym c.self.inside.kept.ok.0) in
+    rw w (λ nodes all. numbered-above n n 0 nodes c.look.new.caches (omega arith) (c.look.ensures.kept nodes (numbered-inside n n 0 nodes ds (omega arith) (rw v all))))

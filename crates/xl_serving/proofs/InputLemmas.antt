@@ -1,0 +1,71 @@
+-- What the reading of a file says of its text, and the opening of rows of the ending.
+use Rattle.std.proofs.Common.{◌≡◌, ℕ, ◌+◌, ◌<◌, Bool, List, [], length, take, refl, ap, sym, ◌∙◌, subst, arith, length-take, inl, inr}
+use Rattle.std.specs.Prelude.{Option, None, Some, Result, Ok, Err, nat_lt, if◌then◌else◌}
+use Rattle.std.specs.declared.alloc.Global.{Global}
+use Rattle.std.specs.declared.vec.Vec.{Vec}
+use Rattle.std.proofs.lemmas.Bool.{cases_lt, lt-ltb}
+use Rattle.std.proofs.lemmas.List.{take_all}
+use Rattle.xl_model.specs.declared.fault.InputFault.{InputFault}
+use Rattle.xl_model.specs.declared.script.Command.{Command}
+use Rattle.xl_model.specs.Scenes.{Served}
+use Rattle.xl_model.specs.Courses.{Trail, course}
+use Rattle.xl_model.specs.Report.{Flags}
+use Rattle.xl_model.specs.Endings.{Ending, followed}
+use Rattle.xl_config.specs.Config.{config, config_by, document_of}
+use Rattle.xl_outside.specs.Whole.{TellsWhole}
+use Rattle.xl_script.specs.declared.fault.ScriptFault.{ScriptFault}
+use Rattle.xl_script.specs.declared.fault.ScriptFault.TheVariants as script
+use Rattle.xl_script.specs.Texts.{script_lines}
+use Rattle.xl_script.specs.Scripts.{text_read, lines_read}
+use Rattle.xl_script.specs.Plain.{plain_said, commands_in, script_of}
+use Rattle.xl_serving.specs.declared.stop.Stop.{Stop}
+use Rattle.xl_serving.specs.Inputs.{config_fault, script_fault, said_by, said_in, rows_said, commands_said, Finds}
+use Rattle.xl_serving.specs.Serving.{scene_of}
+use Rattle.xl_serving.specs.Endings.{Ends, Opens}
+
+longer : (limit : ℕ) (text : List ℕ) → limit < length text → limit < length (take (limit + 1) text)
+longer limit text h = let e = length-take (limit + 1) text in grind arith
+
+-- a text of which one byte more than the limit was read is too long as it was
+abbrev judged : Bool → List ℕ → Result (List Command) ScriptFault
+judged long text = commands_in (if long then Err script.TooLong else lines_read plain_said 0 1 (script_lines text))
+
+script_cut : (text : List ℕ) → script_of (take 1048577 text) ≡ script_of text
+unfolding script_of text_read
+script_cut text = elim (cases_lt 1048576 (length text)) [
+  | inl h ↦ ap (λ b. judged b (take 1048577 text)) (lt-ltb 1048576 (length (take 1048577 text)) (longer 1048576 text h)) ∙ sym (ap (λ b. judged b text) (lt-ltb 1048576 (length text) h))
+  | inr h ↦ ap (λ bytes. judged (nat_lt 1048576 (length bytes)) bytes) (take_all 1048577 text (omega arith))
+]
+
+config_cut : (text : List ℕ) → config (take 65537 text) ≡ config text
+unfolding config
+config_cut text = elim (cases_lt 65536 (length text)) [
+  | inl h ↦ ap (λ b. config_by b (document_of (take 65537 text))) (lt-ltb 65536 (length (take 65537 text)) (longer 65536 text h)) ∙ sym (ap (λ b. config_by b (document_of text)) (lt-ltb 65536 (length text) h))
+  | inr h ↦ ap (λ bytes. config_by (nat_lt 65536 (length bytes)) (document_of bytes)) (take_all 65537 text (omega arith))
+]
+
+pub commands_cut : (text : List ℕ) → commands_said (take 1048577 text) ≡ commands_said text
+commands_cut text = ap (said_by script_fault) (script_cut text)
+
+pub rows_cut : (text : List ℕ) → rows_said (take 65537 text) ≡ rows_said text
+rows_cut text = ap (said_by config_fault) (config_cut text)
+
+-- the file was read, and its text
+pub finds_text : {A B : Type 0} (view : A → B) (says : List ℕ → Result B InputFault) (limit : ℕ) (file : Option (List ℕ)) (text : Vec ℕ Global) (bytes : List ℕ) (r : Result A Stop)
+    → ((xs : List ℕ) → says (take (limit + 1) xs) ≡ says xs)
+    → TellsWhole file limit (Ok text) → bytes ≡ text.items → Finds view r (says bytes) → Finds view r (said_in says file)
+finds_text view says limit None text bytes r cut h b f = absurd h
+finds_text view says limit (Some file) text bytes r cut h b f =
+    subst (Finds view r) (ap says (b ∙ h) ∙ cut file) f
+
+-- a script that isn't named has no commands
+pub none_said : commands_said [] ≡ Ok []
+unfolding script_of text_read script_lines
+none_said = refl
+
+-- the rows were opened, and the script served over them
+pub opened_ends : {K : Type 0} (roomy : K → ℕ → Type 0) (commands : List Command) (by : Trail → Flags → Ending) (served : List Served) (t : Trail) (flags : Flags)
+    (r : Result (Unit {0}) Stop) (before after : Option (List ℕ)) (old : K) (rows : List Served) → Opens (Ok commands) by served
+    → Ends r (followed (course commands t) (scene_of served []) flags) roomy before after old rows → Ends r (by t flags) roomy before after old rows
+opened_ends roomy commands by served t flags r before after old rows h e =
+    subst (λ (z : Ending). Ends r z roomy before after old rows) (sym (h t flags)) e

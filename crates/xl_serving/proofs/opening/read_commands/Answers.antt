@@ -1,0 +1,17 @@
+use Rattle.std.specs.Prelude.{Ok}
+use Rattle.xl_outside.specs.Folders.{file_of}
+use Rattle.xl_outside.specs.Whole.{TellsWhole}
+use Rattle.xl_serving.specs.Inputs.{Finds, said_in, commands_said}
+use Rattle.xl_serving.proofs.ToldLemmas.{told_one}
+use Rattle.xl_serving.proofs.InputLemmas.{finds_text, commands_cut}
+use Rattle.xl_serving.proofs.opening.read_commands.Goals as goal
+
+pub returns-clause-told : goal.returns-clause-told
+returns-clause-told g c =
+    let name = c.args.name.now in
+    let text = c.in_ok-text.text in
+    let bytes = c.as_slice.result.now in
+    let answer = c.commands_of.result in
+    told_one (g.F.Folder.files c.args.folder.now) (λ fs. TellsWhole (file_of fs name) 1048576 (Ok text)) (λ fs. Finds (λ script. script) answer (said_in commands_said (file_of fs name)))
+    c.in_ok-text.ensures.told
+    (λ fs h. finds_text (λ script. script) commands_said 1048576 (file_of fs name) text bytes answer commands_cut h c.as_slice.ensures.value c.commands_of.ensures.said)

@@ -1,0 +1,18 @@
+use Rattle.std.specs.Prelude.{Ok, map}
+use Rattle.xl_model.specs.Rows.{row_of}
+use Rattle.xl_outside.specs.Folders.{file_of}
+use Rattle.xl_outside.specs.Whole.{TellsWhole}
+use Rattle.xl_serving.specs.Inputs.{Finds, rows_said, rows_in}
+use Rattle.xl_serving.proofs.ToldLemmas.{told_one}
+use Rattle.xl_serving.proofs.InputLemmas.{finds_text, rows_cut}
+use Rattle.xl_serving.proofs.opening.read_config.Goals as goal
+
+pub returns-clause-told : goal.returns-clause-told
+returns-clause-told g c =
+    let name = c.args.name.now in
+    let text = c.in_ok-text.text in
+    let bytes = c.as_slice.result.now in
+    let answer = c.rows_of.result in
+    told_one (g.F.Folder.files c.args.folder.now) (λ fs. TellsWhole (file_of fs name) 65536 (Ok text)) (λ fs. Finds (λ rows. map row_of rows.items) answer (rows_in name fs))
+    c.in_ok-text.ensures.told
+    (λ fs h. finds_text (λ rows. map row_of rows.items) rows_said 65536 (file_of fs name) text bytes answer rows_cut h c.as_slice.ensures.value c.rows_of.ensures.said)

@@ -1,0 +1,9 @@
+use Rattle.std.proofs.Common.{subst}
+use Rattle.xl_serving.specs.Inputs.{Finds}
+use Rattle.xl_serving.proofs.ToldLemmas.{told_all}
+use Rattle.xl_serving.proofs.InputLemmas.{none_said}
+use Rattle.xl_serving.proofs.opening.read_script.Goals as goal
+
+pub returns-in-None-clause-told : goal.returns-in-None-clause-told
+returns-in-None-clause-told g c =
+    rw c.in-None.is (told_all (g.F.Folder.files c.args.folder.now) _ (λ fs. subst (Finds (λ script. script) c.commands_of.result) none_said c.commands_of.ensures.said))

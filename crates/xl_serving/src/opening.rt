@@ -1,0 +1,124 @@
+//! What a run takes before its first event: the files of its words, and its rows.
+
+ghost use Rattle.std.specs.Prelude.{◌≡◌, ◌≤◌, [], None, All, IfOk, IfErr, OnOk, IfSome, length, map, option_map};
+ghost use Rattle.xl_model.specs.Rows.{row_of, IsRow};
+ghost use Rattle.xl_model.specs.Scenes.{opened};
+ghost use Rattle.xl_config.specs.Keys.{IsBuilt};
+ghost use Rattle.xl_outside.specs.Folders.{file_of, FolderAfter, fate_by, Fine};
+ghost use Rattle.xl_words.specs.Words.{asked_of};
+ghost use Rattle.xl_serving.specs.Stops.{stop_fate, IsBefore};
+ghost use Rattle.xl_serving.specs.Inputs.{Finds, said_in, rows_said, commands_said, rows_in, commands_in};
+ghost use Rattle.xl_serving.specs.Endings.{ending_by, Opens};
+
+use crate::rows::Rows;
+use crate::stop::Stop;
+use std::alloc::Global;
+use xl_model::{NoMemory, Row};
+use xl_outside::{Folder, read_whole};
+use xl_script::{Script, parse};
+use xl_words::Words;
+
+/// The most bytes of a configuration.
+const MOST_ROWS: usize = 65_536;
+
+/// The most bytes of a script.
+const MOST_COMMANDS: usize = 1_048_576;
+
+/// Reads the configuration and then the script, and opens the rows.
+pub(crate) fn open<R: Rows, F: Folder>(
+    alloc: Global,
+    words: &Words<'_>,
+    folder: &mut F,
+    rows: &mut R,
+) -> Result<Script, Stop>
+    requires { R.rows rows.old ≡ [] }
+    ensures told { IfSome (F.files folder.old) (λ fs. Opens result
+        (ending_by (rows_in (asked_of words.now).config fs)
+        (commands_in (asked_of words.now).script fs)) (R.rows rows.new)) }
+    ensures leaves { FolderAfter F.files F.faults F.absences F.steady folder.old folder.new
+        (fate_by stop_fate result) }
+    ensures before { IfErr result IsBefore }
+{
+    let designs = read_config(alloc, folder, words.config)?;
+    let script = read_script(alloc, folder, words.script)?;
+    add_all(alloc, rows, designs)?;
+    Ok(script)
+}
+
+/// Opens rows, one after another.
+fn add_all<R: Rows>(alloc: Global, rows: &mut R, designs: Vec<Row>) -> Result<(), NoMemory>
+    requires none { R.rows rows.old ≡ [] }
+    requires fit { All IsRow (map row_of designs.items) }
+    requires built { All IsBuilt (map row_of designs.items) }
+    requires few { length designs.items ≤ 16 }
+    ensures { OnOk result (R.rows rows.new ≡ opened (map row_of designs.items)) }
+{
+    for design in designs {
+        rows.add(alloc, design)?;
+    }
+    Ok(())
+}
+
+/// Reads the configuration of this name.
+fn read_config<F: Folder>(alloc: Global, folder: &mut F, name: &str) -> Result<Vec<Row>, Stop>
+    ensures told { IfSome (F.files folder.old) (λ fs.
+        Finds (λ rows. map row_of rows.items) result (rows_in name.now fs)) }
+    ensures leaves { FolderAfter F.files F.faults F.absences F.steady folder.old folder.new
+        (fate_by stop_fate result) }
+    ensures before { IfErr result IsBefore }
+    ensures fit { IfOk result (λ rows. All IsRow (map row_of rows.items)) }
+    ensures built { IfOk result (λ rows. All IsBuilt (map row_of rows.items)) }
+    ensures few { IfOk result (λ rows. length rows.items ≤ 16) }
+{
+    let text = read_whole(alloc, folder, name, MOST_ROWS)?;
+    rows_of(alloc, text.as_slice())
+}
+
+/// The rows of a configuration.
+fn rows_of(alloc: Global, text: &[u8]) -> Result<Vec<Row>, Stop>
+    ensures said { Finds (λ rows. map row_of rows.items) result (rows_said text.now) }
+    ensures before { IfErr result IsBefore }
+    ensures fine { fate_by stop_fate result ≡ Fine }
+    ensures fit { IfOk result (λ rows. All IsRow (map row_of rows.items)) }
+    ensures built { IfOk result (λ rows. All IsBuilt (map row_of rows.items)) }
+    ensures few { IfOk result (λ rows. length rows.items ≤ 16) }
+{
+    let rows = xl_config::read(alloc, text)?;
+    Ok(rows)
+}
+
+/// Reads the script of this name; where there is none, the script has no commands.
+fn read_script<F: Folder>(alloc: Global, folder: &mut F, name: Option<&str>) -> Result<Script, Stop>
+    ensures told { IfSome (F.files folder.old) (λ fs.
+        Finds (λ script. script) result (commands_in (option_map (λ s. s.now) name.entry) fs)) }
+    ensures leaves { FolderAfter F.files F.faults F.absences F.steady folder.old folder.new
+        (fate_by stop_fate result) }
+    ensures before { IfErr result IsBefore }
+{
+    match name {
+        Some(name) => read_commands(alloc, folder, name),
+        None => commands_of(alloc, b""),
+    }
+}
+
+/// Reads the script of this name.
+fn read_commands<F: Folder>(alloc: Global, folder: &mut F, name: &str) -> Result<Script, Stop>
+    ensures told { IfSome (F.files folder.old) (λ fs.
+        Finds (λ script. script) result (said_in commands_said (file_of fs name.now))) }
+    ensures leaves { FolderAfter F.files F.faults F.absences F.steady folder.old folder.new
+        (fate_by stop_fate result) }
+    ensures before { IfErr result IsBefore }
+{
+    let text = read_whole(alloc, folder, name, MOST_COMMANDS)?;
+    commands_of(alloc, text.as_slice())
+}
+
+/// The commands of a script.
+fn commands_of(alloc: Global, text: &[u8]) -> Result<Script, Stop>
+    ensures said { Finds (λ script. script) result (commands_said text.now) }
+    ensures before { IfErr result IsBefore }
+    ensures fine { fate_by stop_fate result ≡ Fine }
+{
+    let commands = parse(alloc, text)?;
+    Ok(commands)
+}

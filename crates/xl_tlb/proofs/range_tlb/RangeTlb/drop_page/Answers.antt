@@ -1,0 +1,10 @@
+use Rattle.std.proofs.Common.{◌∙◌, ap}
+use Rattle.xl_model.specs.Ranges.{holds_page}
+use Rattle.xl_model.specs.Caches.{without_items}
+use Rattle.xl_tlb.proofs.RangeLemmas.{ranges_dropped}
+use Rattle.xl_tlb.proofs.range_tlb.RangeTlb.drop_page.Goals as goal
+
+pub returns-clause-after : goal.returns-clause-after
+returns-clause-after c =
+    let p = holds_page c.args.space c.args.page in
+    ranges_dropped p c.self.inside.cache c.drop_holding.new.cache c.drop_holding.ensures.kept c.drop_holding.ensures.width ∙ ap (without_items p) c.self.view_is

@@ -1,0 +1,11 @@
+use Rattle.std.proofs.Common.{◌∙◌, ap}
+use Rattle.xl_model.specs.Recency.{with_newest}
+use Rattle.xl_model.specs.Walks.{with_fill}
+use Rattle.xl_tlb.proofs.RangeLemmas.{range_filled}
+use Rattle.xl_tlb.proofs.range_tlb.RangeTlb.fill.Goals as goal
+
+pub returns : goal.returns
+returns c =
+    range_filled c.self.inside.cache c.fill-left.new.self c.args.range c.requires
+    (c.fill-left.ensures.filled.list ∙ ap (λ x. with_newest c.self.inside.cache.width x c.self.inside.cache.items) c.item_of_range.ensures) c.fill-left.ensures.width
+    ∙ ap (with_fill c.args.range) c.self.view_is

@@ -1,0 +1,5 @@
+mod SlotLemmas
+mod GrowthLemmas
+mod WayLemmas
+mod WordLemmas
+mod FieldLemmas

@@ -1,0 +1,6 @@
+use Rattle.std.proofs.Common.{◌≡◌}
+use Rattle.xl_model.specs.Ways.{advanced}
+use Rattle.xl_way.proofs.way.Way.migrate.Given as goal
+
+abbrev pub invariant-slots : goal.invariant-slots
+invariant-slots l = l.self ≡ record l.initial.self { shape = advanced l._i l.initial.self.shape }

@@ -1,0 +1,35 @@
+use Rattle.std.proofs.Common.{◌≡◌, refl, sym, ap, ◌∙◌, ℕ, Option, None, Some}
+use Rattle.xl_way.specs.declared.found.Look.{Look}
+use Rattle.xl_way.specs.declared.found.Look.TheVariants.{Found}
+use Rattle.xl_way.specs.Slots.{WayState, word_of}
+use Rattle.xl_way.specs.Words.{words_of}
+use Rattle.xl_way.specs.Back.{slot_back, look_of}
+use Rattle.xl_way.proofs.WordLemmas.{look-is}
+use Rattle.xl_way.proofs.way.Way.probe.Goals as goal
+
+found-some : (l : Look) (word : ℕ) (o : Option ℕ) → l ≡ Found word → l ≡ look_of o → Some word ≡ o
+found-some l word None is e = absurd (cc)
+found-some l word (Some w) is e = cc
+
+found-none : (l : Look) (o : Option ℕ) → ((word : ℕ) → l ≡ Found word → ⊥) → l ≡ look_of o → None ≡ o
+found-none l None not e = refl
+found-none l (Some w) not e = absurd (not w e)
+
+pub returns-in-Found-clause-word : goal.returns-in-Found-clause-word
+returns-in-Found-clause-word c =
+    let s = c.self.inside in
+    found-some c.look.result c.in-Found.word (word_of c.args.key c.args.self.now.shape.entries) c.in-Found.is
+    (c.look.ensures.is ∙ ap (λ (v : WayState). slot_back (words_of v.shape) s.regs s.number c.args.key) (sym c.self.view_is)
+    ∙ look-is s.number s.cap s.regs s.slots.items s.used c.self.invariant c.args.key
+    ∙ ap (λ (v : WayState). look_of (word_of c.args.key v.shape.entries)) c.self.view_is)
+
+pub returns-in_default : goal.returns-in_default
+returns-in_default c =
+    let s = c.self.inside in
+    record {
+      word = found-none c.look.result (word_of c.args.key c.args.self.now.shape.entries) c.in_default.not-Found
+          (c.look.ensures.is ∙ ap (λ (v : WayState). slot_back (words_of v.shape) s.regs s.number c.args.key) (sym c.self.view_is)
+          ∙ look-is s.number s.cap s.regs s.slots.items s.used c.self.invariant c.args.key
+          ∙ ap (λ (v : WayState). look_of (word_of c.args.key v.shape.entries)) c.self.view_is);
+      load = c.look.ensures.bus;
+    }

@@ -1,0 +1,40 @@
+use Rattle.std.proofs.Common.{◌≡◌, refl, sym, ap, ◌∙◌, subst, ◌<◌, true, List, arith}
+use Rattle.xl_model.specs.declared.way.Entry.{Entry}
+use Rattle.xl_model.specs.Ways.{WayShape, with_word}
+use Rattle.xl_model.specs.Placing.{is_held}
+use Rattle.xl_way.specs.Slots.{WayState, entries_of}
+use Rattle.xl_way.specs.Kept.{IsKept}
+use Rattle.xl_way.proofs.WayLemmas.{held-is, reword-is, kept-set, way_of}
+use Rattle.xl_way.proofs.FieldLemmas.{inside-now, items-set}
+use Rattle.xl_way.proofs.way.Way.set_word.Goals as goal
+
+pub exchange-requires : goal.exchange-requires
+exchange-requires c =
+    inside-now c.self.inside c.deref_mut.result.now c.args.key c.slot-at.result c.self.invariant c.deref_mut.ensures.value c.slot-at.ensures.is
+
+pub invariant_of-self : goal.invariant_of-self
+invariant_of-self c =
+    let s = c.self.inside in
+    let at = c.slot-at.result in
+    let x : Entry = record { key = c.args.key; word = c.args.word } in
+    let H : WayState → Type 0 = λ v. is_held v.shape c.args.key ≡ true in
+    let less = inside-now s s.slots.items c.args.key at c.self.invariant refl c.slot-at.ensures.is in
+    let here = held-is s.number s.cap s.regs s.slots.items s.used c.args.key at c.self.invariant c.slot-at.ensures.is (subst H (sym c.self.view_is) c.requires.held) in
+    let done = reword-is s.number s.cap s.regs s.slots.items s.used c.args.key c.args.word at c.self.invariant c.slot-at.ensures.is c.requires.some here in
+    let items = items-set s c.deref_mut.result.now c.exchange.new.slots at x c.deref_mut.ensures.value c.exchange.ensures.slots in
+    let K : List Entry → Type 0 = λ xs. IsKept s.number s.cap s.regs xs s.used in
+    subst K (sym items) (kept-set s.number s.cap s.regs s.slots.items s.used at x s.used c.self.invariant less
+    (λ f. sym c.slot-at.ensures.is) (λ z. absurd (let r = c.requires.some in omega arith)) (c.self.invariant.count ∙ sym done.same))
+
+pub returns : goal.returns
+returns c =
+    let s = c.self.inside in
+    let at = c.slot-at.result in
+    let x : Entry = record { key = c.args.key; word = c.args.word } in
+    let H : WayState → Type 0 = λ v. is_held v.shape c.args.key ≡ true in
+    let here = held-is s.number s.cap s.regs s.slots.items s.used c.args.key at c.self.invariant c.slot-at.ensures.is (subst H (sym c.self.view_is) c.requires.held) in
+    let done = reword-is s.number s.cap s.regs s.slots.items s.used c.args.key c.args.word at c.self.invariant c.slot-at.ensures.is c.requires.some here in
+    let items = items-set s c.deref_mut.result.now c.exchange.new.slots at x c.deref_mut.ensures.value c.exchange.ensures.slots in
+    ap (λ (xs : List Entry). record { shape = way_of s.number s.cap s.regs (entries_of xs); loads = s.loads }) items
+    ∙ ap (λ (w : WayShape). record { shape = w; loads = s.loads }) done.shape
+    ∙ ap (λ (v : WayState). record v { shape = with_word c.args.key c.args.word v.shape }) c.self.view_is

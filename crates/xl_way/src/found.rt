@@ -1,0 +1,12 @@
+//! What a look at a way comes to.
+
+/// What a look for a key comes to.
+#[derive(Clone, Copy, Debug, PartialEq, Eq)]
+pub enum Look {
+    /// The word that is kept for the key.
+    Found(u64),
+    /// The key isn't held.
+    Absent,
+    /// The line of the key's slot isn't there.
+    OutOfBus,
+}

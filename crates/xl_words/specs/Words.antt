@@ -1,0 +1,79 @@
+-- The words of the command line, by the matches of a simple command.
+use Rattle.std.specs.Prelude.{◌≡◌, ℕ, Bool, true, false, List, [], ◌∷◌, codes, Option, None, Some, option_map, unwrap_or, Result, Ok, Err}
+use Rattle.std.specs.Str.{bytes_eq}
+use Rattle.clap.specs.declared.builder.action.ArgAction.TheVariants.{Set, SetTrue}
+use Rattle.clap.specs.Words.{App, Kinds, Row, Rule, new_app, new_rule, with_rule, fault_of, matches_of, first_of}
+use Rattle.xl_words.specs.declared.words.Words.{Words}
+use Rattle.xl_words.specs.declared.words.WordsFault.{WordsFault}
+use Rattle.xl_words.specs.declared.words.WordsFault.TheVariants as fault
+
+-- An option that has a value.
+abbrev pub option_rule : List ℕ → Rule
+option_rule name = record (new_rule name) { long = Some name; action = Some Set }
+
+-- An option that has a value, and that may not be left out.
+abbrev pub needed_rule : List ℕ → Rule
+needed_rule name = record (option_rule name) { required = true }
+
+-- A flag.
+abbrev pub flag_rule : List ℕ → Rule
+flag_rule name = record (new_rule name) { long = Some name; action = Some SetTrue }
+
+-- The command: `--config`, which is needed, `--script` and `--trace`, each with a file, and `--answers`.
+unfoldable pub app : App
+app =
+    with_rule (with_rule (with_rule (with_rule (new_app (codes "xlate"))
+    (needed_rule (codes "config"))) (option_rule (codes "script"))) (option_rule (codes "trace"))) (flag_rule (codes "answers"))
+
+-- Why the command has no matches for the words; empty where it has.
+unfoldable pub faults_of : List (List ℕ) → Kinds
+faults_of words = fault_of app words
+
+-- The command's matches for the words.
+unfoldable pub values_of : List (List ℕ) → List Row
+values_of words = matches_of app words
+
+-- What a run is asked for: the names of its files, and whether a line is wanted for each access and command.
+pub record Asked : Type 0 where
+  pub config : List ℕ
+  pub script : Option (List ℕ)
+  pub trace : Option (List ℕ)
+  pub answers : Bool
+
+-- Whether a flag stands among the words.
+abbrev pub is_on : Option (List ℕ) → Bool
+is_on None = false
+is_on (Some text) = bytes_eq text (codes "true")
+
+-- What is asked for by some matches.
+abbrev pub asked_in : List Row → Asked
+asked_in rows = record {
+  config = unwrap_or (first_of (codes "config") rows) [];
+  script = first_of (codes "script") rows;
+  trace = first_of (codes "trace") rows;
+  answers = is_on (first_of (codes "answers") rows);
+}
+
+-- What is asked for where the command has matches.
+abbrev pub asked_by : Kinds → List Row → Option Asked
+asked_by [] rows = Some (asked_in rows)
+asked_by (kind ∷ kinds) rows = None
+
+-- What the words ask for; nothing exactly where the command has no matches for them.
+abbrev pub asked : List (List ℕ) → Option Asked
+asked words = asked_by (faults_of words) (values_of words)
+
+-- What words of the code ask for.
+abbrev pub asked_of : Words → Asked
+asked_of w = record {
+  config = w.config.now;
+  script = option_map (λ s. s.now) w.script;
+  trace = option_map (λ s. s.now) w.trace;
+  answers = w.answers;
+}
+
+-- What a reading of the words answers: what they ask for, or that they ask for nothing, or that there is no memory.
+abbrev pub Asks : Result Words WordsFault → Option Asked → Type 0
+Asks (Ok w) read = read ≡ Some (asked_of w)
+Asks (Err fault.Usage) read = read ≡ None
+Asks (Err fault.NoMemory) read = Unit {0}

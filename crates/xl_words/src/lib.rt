@@ -1,0 +1,9 @@
+//! The words of the command line: `--config F [--script F] [--trace F] [--answers]`.
+#![tactic(auto)]
+
+mod words;
+
+pub use words::{Words, WordsFault, read};
+
+#[cfg(test)]
+mod tests;

@@ -1,0 +1,73 @@
+//! Words that the command takes, and words that it refuses.
+
+use crate::{Words, WordsFault, read};
+use std::alloc::{AllocError, Global};
+use std::test::Fail;
+
+fn words(alloc: Global, texts: &[&str]) -> Result<Vec<String>, AllocError> {
+    let mut words = Vec::new(alloc);
+    for text in texts {
+        words.push(String::from_str(alloc, text)?)?;
+    }
+    Ok(words)
+}
+
+#[test]
+fn options_stand_in_any_order_and_a_flag_needs_no_value(rt: HostRuntime) -> Result<(), Fail> {
+    let alloc = rt.alloc();
+    let cases: [(&[&str], Words<'static>); 3] = [
+        (
+            &["x", "--config", "a"],
+            Words {
+                config: "a",
+                script: None,
+                trace: None,
+                answers: false,
+            },
+        ),
+        (
+            &["x", "--trace", "t", "--answers", "--config=a"],
+            Words {
+                config: "a",
+                script: None,
+                trace: Some("t"),
+                answers: true,
+            },
+        ),
+        (
+            &["x", "--config", "", "--script", "-"],
+            Words {
+                config: "",
+                script: Some("-"),
+                trace: None,
+                answers: false,
+            },
+        ),
+    ];
+    for (texts, want) in cases {
+        let given = words(alloc, texts)?;
+        assert!(rt; read(alloc, given.as_slice()) == Ok(want));
+    }
+    Ok(())
+}
+
+#[test]
+fn other_words_and_repeats_are_refused(rt: HostRuntime) -> Result<(), Fail> {
+    let alloc = rt.alloc();
+    let cases: [&[&str]; 9] = [
+        &[],
+        &["x"],
+        &["x", "--script", "s"],
+        &["x", "--config"],
+        &["x", "--config", "a", "--config", "b"],
+        &["x", "--config", "a", "--answers=true"],
+        &["x", "--config", "a", "--json"],
+        &["x", "--config", "a", "b"],
+        &["x", "--help"],
+    ];
+    for texts in cases {
+        let given = words(alloc, texts)?;
+        assert!(rt; read(alloc, given.as_slice()) == Err(WordsFault::Usage));
+    }
+    Ok(())
+}

@@ -1,0 +1,142 @@
+//! The words, by a command of `clap`.
+
+ghost use Rattle.std.specs.Prelude.{◌≡◌, [], IfOk, IfErr, OnOk, map, option_map, string_bytes, codes, false, unwrap_or};
+ghost use Rattle.clap.specs.Words.{app_of, rule_of, with_rule, rows_of, found_of, first_of};
+ghost use Rattle.xl_words.specs.Words.{option_rule, needed_rule, flag_rule, app, faults_of, values_of, is_on, asked, asked_in, asked_of, Asks};
+ghost use Rattle.xl_words.specs.declared.words.WordsFault.TheVariants as why;
+
+use clap::error::ErrorKind;
+use clap::{Arg, ArgAction, ArgMatches, Command};
+use std::alloc::{AllocError, Global};
+use thiserror::Error;
+
+/// What the words ask for: the names of the configuration, the script and the trace, and whether a
+/// line is wanted for each access and command.
+#[derive(Clone, Copy, Debug, PartialEq, Eq)]
+pub struct Words<'a> {
+    pub config: &'a str,
+    pub script: Option<&'a str>,
+    pub trace: Option<&'a str>,
+    pub answers: bool,
+}
+
+/// Why the words ask for nothing.
+#[derive(Clone, Copy, Debug, PartialEq, Eq, Error)]
+pub enum WordsFault {
+    /// They are not the command's.
+    #[error("the words are not the command's")]
+    Usage,
+    /// There is no memory for the command or its matches.
+    #[error("no memory")]
+    NoMemory,
+}
+
+impl From<AllocError> for WordsFault {
+    ghost from_gives = { λ _ fault. fault ≡ why.NoMemory };
+
+    fn from(_error: AllocError) -> WordsFault {
+        WordsFault::NoMemory
+    }
+}
+
+/// What the words ask for, of which the first is the program's name. Usage exactly where the command
+/// has no matches for them; where there is no memory, the answer may be that.
+pub fn read<'a>(alloc: Global, words: &'a [String]) -> Result<Words<'a>, WordsFault>
+    ensures { Asks result (asked (map string_bytes words.entry.now)) }
+{
+    match matches(alloc, words) {
+        Ok(matches) => Ok(words_in(&matches)),
+        Err(fault) => Err(fault),
+    }
+}
+
+/// What is asked for by some matches. The command has none without a configuration.
+fn words_in<'a>(matches: &ArgMatches<'a>) -> Words<'a>
+    ensures { asked_of result ≡ asked_in (rows_of (found_of matches.now)) }
+{
+    Words {
+        config: value(matches, "config").unwrap_or(""),
+        script: value(matches, "script"),
+        trace: value(matches, "trace"),
+        answers: is_on(value(matches, "answers")),
+    }
+}
+
+/// The value of an option or a flag, where it has one.
+fn value<'a>(matches: &ArgMatches<'a>, name: &str) -> Option<&'a str>
+    ensures { option_map (λ s. s.now) result ≡ first_of name.now (rows_of (found_of matches.now)) }
+{
+    matches.get_str(name)
+}
+
+/// Whether a flag of this value stands among the words.
+fn is_on(value: Option<&str>) -> bool
+    ensures { result ≡ is_on (option_map (λ s. s.now) value.entry) }
+{
+    match value {
+        Some(text) => text == "true",
+        None => false,
+    }
+}
+
+/// The matches of the words.
+#[tactic(auto, unfolding(crate::specs::Words::faults_of, crate::specs::Words::values_of))]
+fn matches<'a>(alloc: Global, words: &'a [String]) -> Result<ArgMatches<'a>, WordsFault>
+    ensures some { OnOk result (faults_of (map string_bytes words.entry.now) ≡ []) }
+    ensures values { IfOk result (λ m. rows_of (found_of m)
+        ≡ values_of (map string_bytes words.entry.now)) }
+    ensures none { IfErr result (λ f. f ≡ why.Usage
+        → ¬ (faults_of (map string_bytes words.entry.now) ≡ [])) }
+{
+    match command(alloc)?.try_get_matches_from(words) {
+        Ok(matches) => Ok(matches),
+        Err(error) => match error.kind() {
+            ErrorKind::OutOfMemory => Err(WordsFault::NoMemory),
+            _ => Err(WordsFault::Usage),
+        },
+    }
+}
+
+/// The command of the program.
+#[tactic(auto, unfolding(crate::specs::Words::app))]
+fn command<'a>(alloc: Global) -> Result<Command<'a>, AllocError>
+    ensures { IfOk result (λ c. app_of c ≡ app) }
+{
+    let command = Command::new(alloc, "xlate");
+    let command = add(command, needed(alloc, "config"))?;
+    let command = add(command, option(alloc, "script"))?;
+    let command = add(command, option(alloc, "trace"))?;
+    add(command, flag(alloc, "answers"))
+}
+
+/// An option that has a value.
+fn option<'a>(alloc: Global, name: &'a str) -> Arg<'a>
+    ensures rule { rule_of result ≡ option_rule name.entry.now }
+    ensures local { result.global ≡ false }
+{
+    Arg::new(alloc, name).long(name).action(ArgAction::Set)
+}
+
+/// An option that has a value, and that may not be left out.
+fn needed<'a>(alloc: Global, name: &'a str) -> Arg<'a>
+    ensures rule { rule_of result ≡ needed_rule name.entry.now }
+    ensures local { result.global ≡ false }
+{
+    option(alloc, name).required(true)
+}
+
+/// A flag.
+fn flag<'a>(alloc: Global, name: &'a str) -> Arg<'a>
+    ensures rule { rule_of result ≡ flag_rule name.entry.now }
+    ensures local { result.global ≡ false }
+{
+    Arg::new(alloc, name).long(name).action(ArgAction::SetTrue)
+}
+
+/// The command with one argument more.
+fn add<'a>(command: Command<'a>, arg: Arg<'a>) -> Result<Command<'a>, AllocError>
+    requires { arg.global ≡ false }
+    ensures { IfOk result (λ c. app_of c ≡ with_rule (app_of command.entry) (rule_of arg.entry)) }
+{
+    command.arg(arg)
+}
