@@ -4,7 +4,7 @@ ghost use Rattle.std.specs.Prelude.{◌≡◌, ◌<◌, ◌≤◌, ◌+◌, ◌*
 ghost use Rattle.xl_model.specs.Walks.{chain_reads};
 ghost use Rattle.xl_chain.specs.Held.{tags_of};
 ghost use Rattle.xl_tagged.specs.Forms.{Sixteen, values_under, word_at};
-ghost use Rattle.xl_tagged.specs.Slots.{found_in, first_found, order_loads, walk_loads, loaded_more};
+ghost use Rattle.xl_tagged.specs.Slots.{found_in, first_found, found_from, order_loads, walk_loads, loaded_more};
 ghost use Rattle.xl_tagged.specs.Steps.{IsPut, IsSet, IsTaken, given_word};
 ghost use Rattle.xl_tagged.specs.Tagged.{AreSized};
 ghost use Rattle.xl_clustered.specs.Blocks.{AreBlocks, IsFull};
@@ -149,6 +149,22 @@ pub(crate) fn look_all(chains: &Chains<17>, space: u16, page: u64) -> Option<Lea
             Some(leaf) => Some(leaf),
             None => look(chains, space, Order::G1, page),
         },
+    }
+}
+
+/// The leaf of a page among those of this order and of larger ones, without loads.
+pub(crate) fn look_from(chains: &Chains<17>, space: u16, order: Order, page: u64) -> Option<Leaf>
+    requires space_in { space < 64 }
+    requires page_in { page < 2 ^ 45 }
+    ensures { result ≡ found_from Sixteen space page (values_under chains.now.held) order }
+{
+    match order {
+        Order::K4 => look_all(chains, space, page),
+        Order::M2 => match look(chains, space, Order::M2, page) {
+            Some(leaf) => Some(leaf),
+            None => look(chains, space, Order::G1, page),
+        },
+        Order::G1 => look(chains, space, Order::G1, page),
     }
 }
 

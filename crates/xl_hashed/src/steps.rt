@@ -8,7 +8,7 @@ ghost use Rattle.xl_tagged.specs.Forms.{One};
 ghost use Rattle.xl_tagged.specs.Slots.{table_in};
 ghost use Rattle.xl_tagged.specs.Tagged.{IsTagged};
 
-use crate::slots::{give, look, look_all, put, take, walk_all};
+use crate::slots::{give, look, look_all, look_from, put, take, walk_all};
 use xl_chain::Chains;
 use xl_model::{Leaf, Order, Perm, Refused, Walk, Work};
 use xl_pte::{leaf_word, words_read_back};
@@ -139,7 +139,8 @@ pub(crate) fn leaf_of_page(
     look_all(chains, space, page)
 }
 
-/// Whether a leaf has a page of a block: a smaller leaf lies in it, or its first page has a leaf.
+/// Whether a leaf has a page of a block: a smaller leaf lies in it, or one that isn't smaller has its
+/// first page.
 pub(crate) fn is_met(
     chains: &Chains<1>,
     smaller: &Smaller,
@@ -152,5 +153,5 @@ pub(crate) fn is_met(
     ensures { result ≡ meets_any space first order (table_in One chains.now).leaves }
 {
     words_read_back();
-    smaller.any(order, space, first) || look_all(chains, space, first).is_some()
+    smaller.any(order, space, first) || look_from(chains, space, order, first).is_some()
 }

@@ -24,7 +24,7 @@ use Rattle.xl_model_lemmas.proofs.TallyLemmas.{tally-any}
 use Rattle.xl_model_lemmas.proofs.BlockLemmas.{meets-g1, meets-m2}
 use Rattle.xl_pte.specs.ReadBack.{MadeWordsReadBack}
 use Rattle.xl_tagged.specs.Forms.{Form, group_of, slot_of, word_at}
-use Rattle.xl_tagged.specs.Slots.{leaf_read, found_in, first_found, loads_by}
+use Rattle.xl_tagged.specs.Slots.{leaf_read, found_in, first_found, found_from, loads_by}
 use Rattle.xl_tagged.specs.Counted.{is_smaller, smaller_word}
 use Rattle.xl_tagged.specs.Tagged.{IsAt, AreHeld}
 use Rattle.xl_tagged.proofs.PlaceLemmas.{slot-low, covers-at, at-covers, covered-number}
@@ -221,3 +221,82 @@ found-named s page x leaves h =
   where
     named : is_leaf x.space x.first x.order x ≡ true
     named = grind (arith, nat_tests)
+
+-- among leaves that aren't smaller than a block, the one that covers a page is found
+abbrev pub from-only : Order → Option Leaf → Option Leaf
+from-only order.K4 q = q
+from-only order.M2 q = or_leaf (only order.M2 q) (only order.G1 q)
+from-only order.G1 q = only order.G1 q
+
+-- a smaller leaf that covers the block's first page lies in the block's section
+small-covers : (o : Order) (s first e : ℕ) (x : Leaf) (leaves : List Leaf) → s < 64 → first < 2 ^ 45 → first ≡ e * pages_of o → IsAligned x → In x leaves → covers s first x ≡ true → is_smaller o x.order ≡ true
+    → not (smaller_word o (s * 2 ^ 45 + first / pages_of o) leaves == 0) ≡ true
+small-covers o s first e x leaves a b c d i t small =
+    let size : 0 < pages_of o = pages-some o in
+    let met : meets_block s first o x ≡ true = grind (arith, nat_tests) in
+    let counts : counts_at o (s * 2 ^ 45 + first / pages_of o) x ≡ true = sym (small-lies o s first e x a b c d small) ∙ met in
+    sym (lies-any o (s * 2 ^ 45 + first / pages_of o) leaves)
+    ∙ In-any (lies_in o (s * 2 ^ 45 + first / pages_of o)) x leaves i (ap (λ k. k && counts_at o (s * 2 ^ 45 + first / pages_of o) x) small ∙ counts)
+
+large-from : (o : Order) (x : Leaf) → is_smaller o x.order ≡ false → is_some (from-only o (Some x)) ≡ true
+large-from order.K4 x h = refl
+large-from order.M2 x h = go x.order h
+  where
+    go : (p : Order) → is_smaller order.M2 p ≡ false → is_some (or_leaf (cond (same_order p order.M2) (Some x) None) (cond (same_order p order.G1) (Some x) None)) ≡ true
+    go order.K4 k = absurd (cc)
+    go order.M2 k = refl
+    go order.G1 k = refl
+large-from order.G1 x h = go x.order h
+  where
+    go : (p : Order) → is_smaller order.G1 p ≡ false → is_some (cond (same_order p order.G1) (Some x) None) ≡ true
+    go order.K4 k = absurd (cc)
+    go order.M2 k = absurd (cc)
+    go order.G1 k = refl
+
+none-from : (o : Order) → is_some (from-only o None) ≡ false
+none-from order.K4 = refl
+none-from order.M2 = refl
+none-from order.G1 = refl
+
+-- where no smaller leaf lies in its section, a block is met by a leaf of its order or a larger one alone
+pub from-is : (o : Order) (s first e : ℕ) (leaves : List Leaf) → s < 64 → first < 2 ^ 45 → first ≡ e * pages_of o → ((x : Leaf) → In x leaves → IsAligned x)
+    → (not (smaller_word o (s * 2 ^ 45 + first / pages_of o) leaves == 0) || is_some (from-only o (find (covers s first) leaves)))
+    ≡ (is_some (find (covers s first) leaves) || not (smaller_word o (s * 2 ^ 45 + first / pages_of o) leaves == 0))
+from-is o s first e leaves a b c d = go (find (covers s first) leaves) refl
+  where
+    any : Bool
+    any = not (smaller_word o (s * 2 ^ 45 + first / pages_of o) leaves == 0)
+
+    plain : (p : Bool) → (p || false) ≡ p
+    plain true = refl
+    plain false = refl
+
+    right : (p : Bool) → (p || true) ≡ true
+    right true = refl
+    right false = refl
+
+    go : (q : Option Leaf) → find (covers s first) leaves ≡ q → (any || is_some (from-only o q)) ≡ (is_some q || any)
+    go None w = ap (λ t. any || t) (none-from o) ∙ plain any
+    go (Some x) w =
+        elim (is_smaller o x.order) as (λ t. is_smaller o x.order ≡ t → (any || is_some (from-only o (Some x))) ≡ true) [
+          | true ↦ λ t.
+              let i : In x leaves = find-In (covers s first) x leaves w in
+              ap (λ k. k || is_some (from-only o (Some x))) (small-covers o s first e x leaves a b c (d x i) i (find-passes (covers s first) x leaves w) t)
+          | false ↦ λ t. ap (λ k. any || k) (large-from o x t) ∙ right any
+        ] refl
+
+pub page-found : (s page : ℕ) (leaves : List Leaf) → leaf_at_page s page leaves ≡ find (covers s page) leaves
+unfolding leaf_at_page
+page-found s page leaves = refl
+
+-- what is found is that
+pub found-from : MadeWordsReadBack → (f : Form) (s page : ℕ) (values : ℕ → List ℕ) (tags : List ℕ) (leaves : List Leaf) → s < 64 → page < 2 ^ 45 → AreHeld f values tags leaves
+    → (o : Order) → found_from f s page values o ≡ from-only o (find (covers s page) leaves)
+found-from back f s page values tags leaves a b h order.K4 = plain (at-page back f s page values tags leaves a b h)
+  where
+    plain : first_found f s page values ≡ leaf_at_page s page leaves → first_found f s page values ≡ find (covers s page) leaves
+    plain e = e ∙ page-found s page leaves
+found-from back f s page values tags leaves a b h order.M2 =
+    ap (λ q. or_leaf q (found_in f s page values order.G1)) (found-is back f s page values tags leaves a b h order.M2)
+    ∙ ap (or_leaf (only order.M2 (find (covers s page) leaves))) (found-is back f s page values tags leaves a b h order.G1)
+found-from back f s page values tags leaves a b h order.G1 = found-is back f s page values tags leaves a b h order.G1

@@ -1,6 +1,6 @@
 -- A table of chains as a whole, through each of its calls.
 use Rattle.std.proofs.Common.{◌≡◌, refl, sym, ap, ◌∙◌, subst, ℕ, ◌+◌, ◌*◌, ◌/◌, ◌%◌, ◌^◌, ◌<◌, ◌≤◌, Bool, true, false, not, ◌||◌, List, [], length, slice_index, ◌==◌, Option, None, Some, Result, Ok, inl, inr, arith}
-use Rattle.std.specs.Prelude.{is_some}
+use Rattle.std.specs.Prelude.{find, is_some}
 use Rattle.std.proofs.lemmas.List.{length-map}
 use Rattle.std.proofs.lemmas.Bool.Decides.{nat_tests}
 use Rattle.std.proofs.lemmas.Bool.{eq-eqb, eqb-true}
@@ -17,12 +17,13 @@ use Rattle.xl_model.specs.Base.{plus}
 use Rattle.xl_model.specs.Caches.{caches_fenced}
 use Rattle.xl_model.specs.Chains.{tag_of, leaf_tag, has_tag, with_tag, only_used_tags}
 use Rattle.xl_model.specs.Changes.{Change, Insert, Remove, Protect, IsNamed}
-use Rattle.xl_model.specs.Mapping.{meets_block, is_leaf, leaf_key, leaf_named, leaf_at_page, meets_any, with_leaf, without_leaf}
+use Rattle.xl_model.specs.Mapping.{covers, meets_block, is_leaf, leaf_key, leaf_named, leaf_at_page, meets_any, with_leaf, without_leaf}
 use Rattle.xl_model.specs.Placing.{no_moves}
 use Rattle.xl_model.specs.Structures.{work_of, TableState, IsBlock, IsPage, IsLeafFor, IsChange, IsWalk, IsFence, fence_answer, table_fenced, walk_answer, table_walked}
 use Rattle.xl_model.specs.Walks.{walked, chains_reads, orders_tried}
 use Rattle.xl_model.specs.Words.{bit_if, leaf_word}
 use Rattle.xl_model_lemmas.specs.Members.{In}
+use Rattle.xl_model_lemmas.specs.Sections.{IsAligned}
 use Rattle.xl_model_lemmas.proofs.MappingLemmas.{named-In, named-is}
 use Rattle.xl_model_lemmas.proofs.MemberLemmas.{In-any, any-false, filter-In, filter-passes, In-filter}
 use Rattle.xl_model_lemmas.proofs.PlaceLemmas.{named-space, named-first, named-order}
@@ -32,7 +33,7 @@ use Rattle.xl_pte.specs.ReadBack.{MadeWordsReadBack}
 use Rattle.xl_chain.specs.declared.shape.ChainShape.{ChainShape}
 use Rattle.xl_chain.specs.Held.{ChainState, Held, tags_of}
 use Rattle.xl_tagged.specs.Forms.{Form, group_of, before, slot_of, values_under, word_at}
-use Rattle.xl_tagged.specs.Slots.{leaf_read, held_leaves, chained, table_in, found_in, first_found, walk_loads, loaded_more}
+use Rattle.xl_tagged.specs.Slots.{leaf_read, held_leaves, chained, table_in, found_in, first_found, walk_loads, loaded_more, found_from}
 use Rattle.xl_tagged.specs.Counted.{smaller_word, SmallerState, AreCounted, HaveRoom, AreIn, IsIn, AreMore, IsLess, AreLess, any_smaller}
 use Rattle.xl_tagged.specs.Tagged.{IsFit, IsAt, AreHeld, IsTagged}
 use Rattle.xl_tagged.specs.Steps.{IsSameTable, IsWritten, IsPut, IsSet, IsTaken, given_word}
@@ -40,7 +41,7 @@ use Rattle.xl_tagged.proofs.PlaceLemmas.{slot-low, at-one, place-key}
 use Rattle.xl_tagged.proofs.SlotLemmas.{read-leaf, leaf-some, known-leaves}
 use Rattle.xl_tagged.proofs.ChainLemmas.{values-none}
 use Rattle.xl_tagged.proofs.HeldLemmas.{IsTagWith, IsTagWithout, IsWithout, put-held, take-held, with-new, new-keys, without-old, with-given}
-use Rattle.xl_tagged.proofs.FindLemmas.{at-page, loads-are, meets-is}
+use Rattle.xl_tagged.proofs.FindLemmas.{at-page, loads-are, meets-is, from-only, from-is, page-found, found-from}
 use Rattle.xl_tagged.proofs.CountLemmas.{counted-with, counted-less, counted-given, has-room, is-in, counted-none}
 use Rattle.xl_tagged.proofs.StateLemmas.{done, no_table, tag-with, used-all, used-but, inserted, full-up, removed, protected, IsMove, IsMoving, at_to, used-with, is-move}
 
@@ -404,21 +405,17 @@ leaf-step back f space page c s w a b = at-page back f space page (values_under 
 
 -- whether a block is met
 pub meets-step : MadeWordsReadBack → (f : Form) (space first : ℕ) (o : Order) (c : ChainState) (s : SmallerState) → IsTagged f c s → IsBlock (table_in f c).shape space first o
-    → (any_smaller o space first s || is_some (first_found f space first (values_under c.held))) ≡ meets_any space first o (table_in f c).leaves
+    → (any_smaller o space first s || is_some (found_from f space first (values_under c.held) o)) ≡ meets_any space first o (table_in f c).leaves
 meets-step back f space first o c s w b =
     let xs : List Leaf = held_leaves f c in
     let page : first < 2 ^ 45 = block-low f c space first o b in
-    other (any_smaller o space first s) (is_some (first_found f space first (values_under c.held)))
-    ∙ ap (λ q. is_some q || any_smaller o space first s) (leaf-step back f space first c s w b.space_in page)
-    ∙ ap (λ t. is_some (leaf_at_page space first xs) || t) (counts o)
-    ∙ meets-is o space first b.aligned.0 xs b.space_in page b.aligned.1 (λ x i. (w.held.fit x i).aligned)
+    let aligned : (x : Leaf) → In x xs → IsAligned x = (λ x i. (w.held.fit x i).aligned) in
+    ap (λ q. any_smaller o space first s || is_some q) (found-from back f space first (values_under c.held) (tags_of c.held) xs b.space_in page w.held o)
+    ∙ ap (λ t. t || is_some (from-only o (find (covers space first) xs))) (counts o)
+    ∙ from-is o space first b.aligned.0 xs b.space_in page b.aligned.1 aligned
+    ∙ ap (λ q. is_some q || not (smaller_word o (space * 2 ^ 45 + first / pages_of o) xs == 0)) (sym (page-found space first xs))
+    ∙ meets-is o space first b.aligned.0 xs b.space_in page b.aligned.1 aligned
   where
-    other : (p q : Bool) → (p || q) ≡ (q || p)
-    other true true = refl
-    other true false = refl
-    other false true = refl
-    other false false = refl
-
     counts : (p : Order) → any_smaller p space first s ≡ not (smaller_word p (space * 2 ^ 45 + first / pages_of p) (held_leaves f c) == 0)
     counts order.K4 = refl
     counts order.M2 = ap (λ n. not (n == 0)) (w.counted.middle_is.tied (space * 2 ^ 45 + first / 512))

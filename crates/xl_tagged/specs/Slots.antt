@@ -75,6 +75,12 @@ first_found f space page values =
     or_leaf (found_in f space page values order.K4)
     (or_leaf (found_in f space page values order.M2) (found_in f space page values order.G1))
 
+-- the leaf that is found for a page among those of this order and of larger ones
+abbrev pub found_from : Form → ℕ → ℕ → (ℕ → List ℕ) → Order → Option Leaf
+found_from f space page values order.K4 = first_found f space page values
+found_from f space page values order.M2 = or_leaf (found_in f space page values order.M2) (found_in f space page values order.G1)
+found_from f space page values order.G1 = found_in f space page values order.G1
+
 -- the loads of a search for a page's tag of this order
 abbrev pub order_loads : Form → ℕ → ℕ → ChainState → Order → ℕ
 order_loads f space page c o = chain_reads (group_of f) c.shape.buckets (tags_of c.held) (tag_of (group_of f) space o page)

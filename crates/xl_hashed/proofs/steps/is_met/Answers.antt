@@ -1,19 +1,19 @@
 use Rattle.std.proofs.Common.{sym, ap, ◌∙◌, ◌||◌}
 use Rattle.std.specs.Prelude.{is_some}
 use Rattle.xl_tagged.specs.Forms.{One, values_under}
-use Rattle.xl_tagged.specs.Slots.{first_found}
+use Rattle.xl_tagged.specs.Slots.{found_from}
 use Rattle.xl_tagged.proofs.WholeLemmas.{meets-step}
 use Rattle.xl_hashed.proofs.steps.is_met.Goals as goal
 
 pub returns-then-any : goal.returns-then-any
 returns-then-any c =
     let a = c.args in
-    c.if-any.true ∙ ap (λ b. b || is_some (first_found One a.space a.first (values_under a.chains.now.held))) (sym c.if-any.true ∙ c.any.ensures)
+    c.if-any.true ∙ ap (λ b. b || is_some (found_from One a.space a.first (values_under a.chains.now.held) a.order)) (sym c.if-any.true ∙ c.any.ensures)
     ∙ meets-step c.words_read_back.ensures One a.space a.first a.order a.chains.now a.smaller.now c.requires.whole c.requires.block
 
 pub returns-else-any : goal.returns-else-any
 returns-else-any c =
     let a = c.args in
-    c.is_some.ensures ∙ ap is_some c.look_all.ensures
-    ∙ ap (λ b. b || is_some (first_found One a.space a.first (values_under a.chains.now.held))) (sym c.if-any.false ∙ c.any.ensures)
+    c.is_some.ensures ∙ ap is_some c.look_from.ensures
+    ∙ ap (λ b. b || is_some (found_from One a.space a.first (values_under a.chains.now.held) a.order)) (sym c.if-any.false ∙ c.any.ensures)
     ∙ meets-step c.words_read_back.ensures One a.space a.first a.order a.chains.now a.smaller.now c.requires.whole c.requires.block

@@ -1,4 +1,4 @@
-use Rattle.std.proofs.Common.{◌≡◌, refl, sym, ap, ◌∙◌, subst, ◌*◌, ◌^◌, ◌<◌, arith}
+use Rattle.std.proofs.Common.{◌≡◌, refl, subst, ◌*◌, ◌^◌, ◌<◌, arith}
 use Rattle.xl_model.specs.Structures.{IsBlock}
 use Rattle.xl_model.specs.declared.address.Order.TheVariants as order
 use Rattle.xl_tagged.specs.Forms.{One}
