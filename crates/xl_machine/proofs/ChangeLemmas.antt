@@ -1,15 +1,10 @@
 -- A change of a mapping that no rule refuses: what a machine keeps and comes to, by the table's answer.
-use Rattle.std.proofs.Common.{◌≡◌, ℕ, ◌+◌, ◌-◌, ◌*◌, ◌^◌, ◌<◌, ◌≤◌, Bool, true, false, not, List, [], ◌∷◌, length, find, is_some, Option, None, Some, Ok, Err, refl, sym, ◌∙◌, ap, subst, arith}
-use Rattle.std.specs.Prelude.{Result}
-use Rattle.std.proofs.lemmas.Bool.Decides.{nat_tests}
-use Rattle.xl_model.specs.declared.address.Order.{Order}
-use Rattle.xl_model.specs.declared.perm.Perm.{Perm}
+use Rattle.std.proofs.Common.{◌≡◌, ℕ, ◌+◌, ◌-◌, Bool, List, length, None, Some, Ok, Err, refl, sym, ◌∙◌, ap, arith}
 use Rattle.xl_model.specs.declared.address.Kind.{Kind}
 use Rattle.xl_model.specs.declared.leaf.Leaf.{Leaf}
 use Rattle.xl_model.specs.declared.event.Event.{Event}
 use Rattle.xl_model.specs.declared.event.Event.TheVariants as event
 use Rattle.xl_model.specs.declared.event.Scope.{Scope}
-use Rattle.xl_model.specs.declared.event.Outcome.{Outcome}
 use Rattle.xl_model.specs.declared.event.Outcome.TheVariants as outcome
 use Rattle.xl_model.specs.declared.row.Counts.{Counts}
 use Rattle.xl_model.specs.declared.work.Work.{Work}
@@ -22,9 +17,9 @@ use Rattle.xl_model.specs.Rules.{rule, change_of}
 use Rattle.xl_model.specs.Structures.{TableState, Verdict, Made, NoSpace, NoPlace, verdict, answer_by, after_by, table_made, table_answer, table_after}
 use Rattle.xl_model.specs.Tlb.{TlbArray, leaves_in}
 use Rattle.xl_model.specs.Tally.{count_accepted, count_invalidated, count_work, count_refusal}
-use Rattle.xl_model.specs.RowRun.{RowState, arrays_after, changed_by, changed_where, changed_outcome, outcome_by, refusal_of, counts_refused, served as done, served_outcome, after_event, outcome_of}
+use Rattle.xl_model.specs.RowRun.{RowState, arrays_after, changed_by, outcome_by, refusal_of, counts_refused, served as done, after_event, outcome_of}
 use Rattle.xl_model_lemmas.specs.Fresh.{ArraysFresh}
-use Rattle.xl_model_lemmas.specs.Mappings.{IsMapping, IsSound}
+use Rattle.xl_model_lemmas.specs.Mappings.{IsSound}
 use Rattle.xl_model_lemmas.proofs.RuleLemmas.{kept-sound, sound-of}
 use Rattle.xl_model_lemmas.proofs.FreshArrayLemmas.{changed-fresh}
 use Rattle.xl_model_lemmas.proofs.LimitLemmas.{limits-changed, loads-changed}

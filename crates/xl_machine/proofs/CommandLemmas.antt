@@ -1,11 +1,11 @@
 -- What a command that no rule refuses has shown: its change, the leaf that it names, the place that it takes.
-use Rattle.std.proofs.Common.{◌≡◌, ℕ, ◌+◌, ◌*◌, ◌^◌, ◌<◌, ◌≤◌, Bool, true, false, List, [], ◌∷◌, is_some, Option, None, Some, refl, sym, ◌∙◌, ap, subst, arith}
+use Rattle.std.proofs.Common.{◌≡◌, ℕ, ◌*◌, ◌^◌, ◌<◌, Bool, true, false, List, [], ◌∷◌, is_some, Option, None, Some, refl, sym, ap, arith}
 use Rattle.xl_model.specs.declared.address.Order.{Order}
 use Rattle.xl_model.specs.declared.perm.Perm.{Perm}
 use Rattle.xl_model.specs.declared.leaf.Leaf.{Leaf}
 use Rattle.xl_model.specs.declared.event.Event.TheVariants as event
 use Rattle.xl_model.specs.Addresses.{page_of, levels_of, pages_of}
-use Rattle.xl_model.specs.Mapping.{covers, is_leaf, leaf_at_page, leaf_named, meets_any}
+use Rattle.xl_model.specs.Mapping.{covers, is_leaf, leaf_at_page, leaf_named}
 use Rattle.xl_model.specs.Frames.{lowest}
 use Rattle.xl_model.specs.Rows.{Row}
 use Rattle.xl_model.specs.Changes.{Change, Insert, Remove, Protect, Relocate, IsNamed}

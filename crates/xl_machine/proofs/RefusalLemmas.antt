@@ -1,5 +1,5 @@
 -- The refusals of a machine, by its questions in turn.
-use Rattle.std.proofs.Common.{◌≡◌, refl, sym, subst, ℕ, zero, suc, ◌+◌, ◌-◌, ◌*◌, ◌^◌, ◌<◌, ◌≤◌, Bool, true, false, List, [], ◌∷◌, length, Option, None, Some, nat_lt, arith, slice_index_or}
+use Rattle.std.proofs.Common.{◌≡◌, refl, subst, ℕ, zero, suc, ◌+◌, ◌-◌, ◌*◌, ◌^◌, ◌<◌, ◌≤◌, Bool, true, false, List, [], ◌∷◌, length, Option, None, Some, arith, slice_index_or}
 use Rattle.xl_model.specs.declared.address.Order.{Order}
 use Rattle.xl_model.specs.declared.perm.Perm.{Perm}
 use Rattle.xl_model.specs.declared.leaf.Leaf.{Leaf}
@@ -11,7 +11,7 @@ use Rattle.xl_model.specs.Frames.{lowest}
 use Rattle.xl_model.specs.Rows.{Row}
 use Rattle.xl_model.specs.Rules.{rule, place_rule, overlap_rule, there_rule, frames_rule}
 use Rattle.xl_model.specs.Structures.{TableState, IsBlock}
-use Rattle.xl_model_lemmas.specs.Lowest.{HasNoFree, IsAnswer}
+use Rattle.xl_model_lemmas.specs.Lowest.{IsAnswer}
 use Rattle.xl_model_lemmas.specs.Pools.{IsPoolOf as IsPool}
 use Rattle.xl_model_lemmas.proofs.LowestLemmas.{lowest-is-lowest}
 use Rattle.xl_model_lemmas.proofs.OrderLemmas.{pages-some}

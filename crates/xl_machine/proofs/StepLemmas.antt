@@ -1,10 +1,9 @@
 -- One event of a machine.
-use Rattle.std.proofs.Common.{◌≡◌, refl, sym, ◌∙◌, ap, subst, ℕ, Option, None, Some}
+use Rattle.std.proofs.Common.{◌≡◌, refl, ℕ, None, Some}
 use Rattle.xl_model.specs.declared.address.Kind.{Kind}
 use Rattle.xl_model.specs.declared.event.Event.{Event}
 use Rattle.xl_model.specs.declared.event.Event.TheVariants as event
 use Rattle.xl_model.specs.declared.event.Scope.{Scope}
-use Rattle.xl_model.specs.declared.event.Outcome.{Outcome}
 use Rattle.xl_model.specs.declared.event.Outcome.TheVariants as outcome
 use Rattle.xl_model.specs.declared.event.Refusal.{Refusal}
 use Rattle.xl_model.specs.declared.row.Counts.{Counts}

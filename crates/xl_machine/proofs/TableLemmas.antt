@@ -1,5 +1,5 @@
 -- The table that a row of chains opens.
-use Rattle.std.proofs.Common.{◌≡◌, ℕ, [], refl, sym}
+use Rattle.std.proofs.Common.{◌≡◌, ℕ, [], refl}
 use Rattle.xl_model.specs.declared.row.Table.TheVariants as table
 use Rattle.xl_model.specs.RowRun.{opening}
 use Rattle.xl_model.specs.Rows.{Row}

@@ -225,7 +225,10 @@ fn a_purge_takes_what_its_policy_says(rt: HostRuntime) -> Result<(), Fail> {
             misses: [walks, 0, 0, 0, 0, 0],
             ..Counts::none(1)
         };
-        assert_eq!(rt; counted(rt.alloc(), one_level(purge), &three_leaves(), &events)?, want);
+        assert_eq!(rt;
+            counted(rt.alloc(), one_level(purge), &three_leaves(), &events)?,
+            want
+        );
     }
     Ok(())
 }
@@ -237,7 +240,15 @@ fn a_fence_takes_what_it_reaches(rt: HostRuntime) -> Result<(), Fail> {
         (Scope::All, 3, 0, 18),
         (Scope::Space { space: 1 }, 1, 2, 11),
         (Scope::Addr { va: 0x1000 }, 2, 1, 15),
-        (Scope::Page { space: 0, va: 0x1000 }, 1, 2, 13),
+        (
+            Scope::Page {
+                space: 0,
+                va: 0x1000,
+            },
+            1,
+            2,
+            13,
+        ),
     ];
     for (scope, invalidated, hits, reads) in cases {
         let fence = Event::Fence { scope };
@@ -257,7 +268,10 @@ fn a_fence_takes_what_it_reaches(rt: HostRuntime) -> Result<(), Fail> {
             misses: [walks, 0, 0, 0, 0, 0],
             ..Counts::none(1)
         };
-        assert_eq!(rt; counted(rt.alloc(), one_level(Purge::Page), &three_leaves(), &events)?, want);
+        assert_eq!(rt;
+            counted(rt.alloc(), one_level(Purge::Page), &three_leaves(), &events)?,
+            want
+        );
     }
     Ok(())
 }
@@ -331,6 +345,9 @@ fn a_full_table_or_pool_refuses_and_keeps_no_frame(rt: HostRuntime) -> Result<()
         misses: [3, 0, 0, 0, 0, 0],
         ..Counts::none(1)
     };
-    assert_eq!(rt; counted(rt.alloc(), one_level(Purge::Page), &[], &events)?, want);
+    assert_eq!(rt;
+        counted(rt.alloc(), one_level(Purge::Page), &[], &events)?,
+        want
+    );
     Ok(())
 }

@@ -1,5 +1,5 @@
 -- Ranges that come back from their items, and lists of items as lists of ranges.
-use Rattle.std.proofs.Common.{◌≡◌, ℕ, ◌+◌, ◌*◌, ◌/◌, ◌%◌, ◌^◌, ◌<◌, Bool, List, length, map, find, Option, Some, None, refl, sym, ◌∙◌, ap, arith}
+use Rattle.std.proofs.Common.{◌≡◌, ℕ, ◌+◌, ◌*◌, ◌/◌, ◌%◌, ◌^◌, ◌<◌, Bool, List, map, find, Option, Some, None, refl, sym, ◌∙◌, ap, arith}
 use Rattle.xl_model.specs.declared.address.Order.{Order}
 use Rattle.xl_model.specs.declared.address.Order.TheVariants as order
 use Rattle.xl_model.specs.declared.leaf.Range.{Range}
@@ -8,7 +8,7 @@ use Rattle.xl_model.specs.Recency.{touched, with_newest, purged}
 use Rattle.xl_model.specs.Caches.{Cached, without_items}
 use Rattle.xl_model.specs.Walks.{with_touch, with_fill}
 use Rattle.xl_recency.specs.declared.item.Item.{Item}
-use Rattle.xl_tlb.specs.Coding.{order_at, perm_code, perm_at}
+use Rattle.xl_tlb.specs.Coding.{order_at}
 use Rattle.xl_tlb.specs.RangeCoding.{IsKeepable, item_of_range, range_of, range_kept, ranges_of}
 use Rattle.xl_tlb.proofs.FillLemmas.{perm_back, frame_back}
 use Rattle.xl_tlb.proofs.MapLemmas.{newest_map, touched_map, purged_map, find_some, find_none}

@@ -1,13 +1,15 @@
-//! Which levels a hit fills, and which leaf a full set loses.
+//! Which levels a hit fills, which leaf a full set loses, and which range a full TLB of ranges.
 
 ghost use Rattle.std.specs.Prelude.{◌≡◌, ◌<◌, ◌%◌, ◌^◌};
 ghost use Rattle.xl_model.specs.Addresses.{pages_of};
 ghost use Rattle.xl_tlb.specs.Arrays.{IsFit};
+ghost use Rattle.xl_tlb.specs.RangeCoding.{IsKeepable};
 
+use crate::range_tlb::RangeTlb;
 use crate::tlb::Tlb;
 use arrayvec::ArrayVec;
 use std::test::Fail;
-use xl_model::{Leaf, Order, Perm, TlbSpec};
+use xl_model::{Leaf, Order, Perm, Range, Reach, TlbSpec};
 
 /// A leaf of space 0 whose frames have the numbers of its pages.
 fn leaf(first: u64, order: Order) -> Leaf
@@ -113,5 +115,42 @@ fn a_full_set_is_touched_in_its_middle_and_filled(rt: HostRuntime) -> Result<(),
     assert_eq!(rt; tlb.look(0, 6), Some(leaf(6, Order::K4)));
     assert_eq!(rt; tlb.look(0, 1), Some(leaf(1, Order::K4)));
     assert_eq!(rt; counts(&tlb, 0), Some((4, 2)));
+    Ok(())
+}
+
+/// Eight pages of space 0 from this one on, whose frames have the numbers of its pages.
+fn range(start: u64) -> Range
+    requires small { start < 2 ^ 40 }
+    ensures { IsKeepable result }
+{
+    Range {
+        space: 0,
+        start,
+        pages: 8,
+        frame: start,
+        order: Order::K4,
+        perm: Perm {
+            r: true,
+            w: true,
+            x: false,
+            u: true,
+        },
+    }
+}
+
+#[test]
+fn the_oldest_range_leaves_a_full_tlb(rt: HostRuntime) -> Result<(), Fail> {
+    let mut tlb = RangeTlb::open(rt.alloc(), 2)?;
+    tlb.fill(range(0));
+    tlb.fill(range(8));
+    assert_eq!(rt; tlb.look(0, 7), Some(range(0)));
+    tlb.fill(range(16));
+    assert_eq!(rt; tlb.look(0, 8), None);
+    assert_eq!(rt; tlb.look(1, 16), None);
+    assert_eq!(rt; tlb.look(0, 16), Some(range(16)));
+    assert_eq!(rt; tlb.drop_page(0, 24), 0);
+    assert_eq!(rt; tlb.drop_reach(Reach::Addr { page: 23 }), 1);
+    assert_eq!(rt; tlb.drop_reach(Reach::Space { space: 1 }), 0);
+    assert_eq!(rt; tlb.look(0, 7), Some(range(0)));
     Ok(())
 }

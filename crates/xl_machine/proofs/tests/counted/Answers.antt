@@ -1,4 +1,4 @@
-use Rattle.std.proofs.Common.{◌≡◌, ◌∙◌}
+use Rattle.std.proofs.Common.{◌∙◌}
 use Rattle.xl_model.specs.Rows.{row_of}
 use Rattle.xl_machine.proofs.TableLemmas.{opens_chains}
 use Rattle.xl_machine.proofs.tests.counted.Goals as goal

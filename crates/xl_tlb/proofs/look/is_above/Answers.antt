@@ -1,4 +1,4 @@
-use Rattle.std.proofs.Common.{◌≡◌, ◌∷◌, map, arith}
+use Rattle.std.proofs.Common.{◌∷◌, map, arith}
 use Rattle.std.proofs.lemmas.Bool.Decides.{nat_tests}
 use Rattle.xl_tlb.specs.Tlbs.{spec_of, IsRising}
 use Rattle.xl_tlb.proofs.FrontLemmas.{first_above}

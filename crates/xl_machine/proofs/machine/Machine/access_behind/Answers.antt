@@ -1,10 +1,8 @@
-use Rattle.std.proofs.Common.{length, ◌≡◌, None, Some, sym, ◌∙◌, arith}
+use Rattle.std.proofs.Common.{◌≡◌, None, Some, sym, ◌∙◌, arith}
 use Rattle.xl_model.specs.Mapping.{leaf_at_page}
 use Rattle.xl_model.specs.Rows.{row_of}
 use Rattle.xl_model.specs.declared.leaf.Reply.TheVariants as reply
-use Rattle.xl_model.specs.Structures.{walk_answer}
-use Rattle.xl_machine.specs.Served.{state_of}
-use Rattle.xl_machine.proofs.Accesses.{refused_after, refused_reply, page_small, walk_leaf, hit_reached, hit_kept, missed_kept, walked_kept, walked_reached, walked_fit, hit_reply, hit_after, walked_reply, walked_after}
+use Rattle.xl_machine.proofs.Accesses.{page_small, walk_leaf, hit_reached, hit_kept, missed_kept, walked_kept, walked_reached, walked_fit, hit_reply, hit_after, walked_reply, walked_after}
 use Rattle.xl_machine.proofs.machine.Machine.access_behind.Goals as goal
 
 pub look-requires-clause-page : goal.look-requires-clause-page
@@ -73,4 +71,3 @@ returns-in-None-leaf-clause-after g c =
     let found : None ≡ leaf_at_page c.self.inside.space c.args.page (g.S.Structure.table c.self.inside.table).leaves = sym c.in-None-leaf.is ∙ walk_leaf c.walk-walk.result c.self.inside.space c.args.page (g.S.Structure.table c.self.inside.table) c.walk-walk.ensures.walks.answer in
     rw (c.reply-in-None-leaf.ensures, c.walk.ensures, c.in-None.ensures.after, c.walk-walk.ensures.walks.after, c.walk-walk.ensures.walks.answer, ← c.self.view_is)
     (walked_after (row_of c.self.inside.row) (g.S.Structure.table c.self.inside.table) c.self.inside.space c.args.page c.self.inside.tlb c.self.inside.frames c.self.invariant c.args.va c.args.kind c.self.inside.counts (rw (← c.self.view_is) at c.requires.canonical) (rw (← c.self.view_is) at c.requires.page) None reply.Unmapped c.in-None.ensures.found found (walked_reply (row_of c.self.inside.row) (g.S.Structure.table c.self.inside.table) c.self.inside.space c.args.page c.self.inside.tlb c.self.inside.frames c.self.invariant c.args.va c.args.kind c.self.inside.counts (rw (← c.self.view_is) at c.requires.canonical) (rw (← c.self.view_is) at c.requires.page) None found))
-

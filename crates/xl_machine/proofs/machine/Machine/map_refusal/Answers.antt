@@ -1,7 +1,5 @@
-use Rattle.std.proofs.Common.{◌≡◌, [], ◌∷◌, Option, None, Some, sym, ◌∙◌, ap}
-use Rattle.xl_model.specs.declared.event.Refusal.{Refusal}
-use Rattle.xl_model.specs.Rows.{Row, row_of}
-use Rattle.xl_model.specs.Rules.{place_rule}
+use Rattle.std.proofs.Common.{◌≡◌, [], ◌∷◌, None, Some, sym, ◌∙◌, ap}
+use Rattle.xl_model.specs.Rows.{row_of}
 use Rattle.xl_model.specs.Scenes.{Served}
 use Rattle.xl_machine.proofs.RefusalLemmas.{place-of, map-place, map-overlap, map-frames}
 use Rattle.xl_machine.proofs.machine.Machine.map_refusal.Goals as goal

@@ -1,4 +1,4 @@
-use Rattle.std.proofs.Common.{◌≡◌, [], ◌∷◌, Option, None, Some, sym, ◌∙◌, ap}
+use Rattle.std.proofs.Common.{◌≡◌, [], ◌∷◌, None, Some, sym, ◌∙◌, ap}
 use Rattle.xl_model.specs.Rows.{row_of}
 use Rattle.xl_model.specs.Scenes.{Served}
 use Rattle.xl_machine.proofs.RefusalLemmas.{place-of, move-place, move-there, move-overlap}

@@ -1,4 +1,3 @@
-use Rattle.std.proofs.Common.{◌≡◌}
 use Rattle.xl_machine.proofs.machine.Machine.refusal.Goals as goal
 
 pub returns-in-Map : goal.returns-in-Map

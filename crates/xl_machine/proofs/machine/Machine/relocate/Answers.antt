@@ -1,22 +1,17 @@
-use Rattle.std.proofs.Common.{◌≡◌, ℕ, None, Some, refl, sym, ◌∙◌, ap, arith, List}
+use Rattle.std.proofs.Common.{◌≡◌, None, Some, sym, ◌∙◌, ap}
 use Rattle.xl_model.specs.declared.event.Event.TheVariants as event
 use Rattle.xl_model.specs.declared.event.Outcome.TheVariants as outcome
 use Rattle.xl_model.specs.declared.event.Refusal.{Refusal}
-use Rattle.xl_model.specs.declared.leaf.Leaf.{Leaf}
-use Rattle.xl_model.specs.Addresses.{page_of, pages_of}
-use Rattle.xl_model.specs.Frames.{lowest}
+use Rattle.xl_model.specs.Addresses.{page_of}
 use Rattle.xl_model.specs.Mapping.{leaf_at_page, leaf_named}
-use Rattle.xl_model.specs.Changes.{Insert, Remove, Protect, Relocate, old_leaf}
+use Rattle.xl_model.specs.Changes.{Relocate, old_leaf}
 use Rattle.xl_model.specs.Rows.{row_of}
 use Rattle.xl_model.specs.RowRun.{arrays_after}
 use Rattle.xl_model.specs.Rules.{rule}
-use Rattle.xl_model.specs.Tlb.{TlbArray}
-use Rattle.xl_model_lemmas.specs.Mappings.{IsNewLeaf, IsNewPlace}
-use Rattle.xl_model_lemmas.proofs.PoolLemmas.{lowest-some, lowest-none}
-use Rattle.xl_model_lemmas.proofs.PoolChangeLemmas.{pool-given, pool-removed, pool-protected, pool-relocated}
+use Rattle.xl_model_lemmas.proofs.PoolChangeLemmas.{pool-relocated}
 use Rattle.xl_tlb.specs.Tlbs.{TlbState}
 use Rattle.xl_machine.proofs.Accesses.{page_small}
-use Rattle.xl_machine.proofs.CommandLemmas.{unmap-is, protect-is, move-is, map-is, has-frames, there-unmap, there-protect, there-move, place-move, leaf-map, page-for, block-for, leaf-for, is-covered, named, is-named, valid, old-fit, purged-is, pool-mapped}
+use Rattle.xl_machine.proofs.CommandLemmas.{move-is, there-move, place-move, page-for, block-for, is-covered, named, is-named, old-fit, purged-is}
 use Rattle.xl_machine.proofs.ChangeLemmas.{done-kept, refused-kept, done-state, done-answer, refused-answer, refused-state}
 use Rattle.xl_machine.proofs.machine.Machine.relocate.Goals as goal
 

@@ -1,4 +1,4 @@
-use Rattle.std.proofs.Common.{◌≡◌, sym, ◌∙◌}
+use Rattle.std.proofs.Common.{sym, ◌∙◌}
 use Rattle.xl_machine.proofs.StepLemmas.{refused-outcome}
 use Rattle.xl_machine.proofs.machine.Machine.rule_and_serve.Goals as goal
 

@@ -1,4 +1,4 @@
-use Rattle.std.proofs.Common.{◌≡◌, ◌<◌, arith}
+use Rattle.std.proofs.Common.{◌<◌, arith}
 use Rattle.xl_model.specs.Rows.{row_of}
 use Rattle.xl_machine.proofs.Accesses.{page_small}
 use Rattle.xl_machine.proofs.machine.Machine.there_refusal.Goals as goal

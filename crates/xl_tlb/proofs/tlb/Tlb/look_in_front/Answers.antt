@@ -1,4 +1,3 @@
-use Rattle.std.proofs.Common.{◌≡◌, Some, sym, ◌∙◌, ap}
 use Rattle.xl_tlb.specs.Fronts.{IsFront}
 use Rattle.xl_tlb.proofs.FrontLemmas.{front_told, front_after}
 use Rattle.xl_tlb.proofs.tlb.Tlb.look_in_front.Goals as goal
