@@ -117,7 +117,8 @@ pub(crate) fn walk_page(chains: &mut Chains<17>, smaller: &Smaller, space: u16, 
     requires whole { IsWhole chains.old smaller.now }
     requires page { IsPage (table_in Sixteen chains.old).shape space page }
     ensures whole { IsWhole chains.new smaller.now }
-    ensures walks { IsWalk space page (table_in Sixteen chains.old) result (table_in Sixteen chains.new) }
+    ensures walks { IsWalk space page (table_in Sixteen chains.old) result
+        (table_in Sixteen chains.new) }
 {
     words_read_back();
     let leaf = walk_all(chains, space, page);
