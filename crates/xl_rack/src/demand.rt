@@ -1,6 +1,6 @@
 //! Events that a row is served, with their lines; an access with the events of its demand.
 
-ghost use Rattle.std.specs.Prelude.{◌≡◌, ◌<◌, Option, IfOk, IfSome, is_ok, find, drop, length, slice_get};
+ghost use Rattle.std.specs.Prelude.{◌≡◌, ◌<◌, Option, Some, IfOk, IfSome, is_ok, find, drop, length, slice_get};
 ghost use Rattle.xl_model.specs.declared.event.Event.TheVariants as event;
 ghost use Rattle.xl_model.specs.declared.script.Item.TheVariants.{Referenced};
 ghost use Rattle.xl_model.specs.Items.{in_area, area_for, wanted, map_of, again_where, demanded};
@@ -138,7 +138,32 @@ fn area_wanted(rack: &Rack, i: usize, areas: &[Area], va: u64, reply: Reply) -> 
     }
 }
 
-/// Serves to a row the map that an area demands, and where it is done, the access once more.
+/// Serves to a row the map that this area demands, and where it is done, the access once more.
+#[inline(never)]
+fn serve_area<K: Sink>(
+    rack: &mut Rack,
+    i: usize,
+    area: Area,
+    number: u64,
+    va: u64,
+    kind: Kind,
+    answers: bool,
+    out: &mut K,
+) -> Result<(), Failed>
+    requires { i < length rack.old }
+    ensures { ServedAt K.written K.put_faults K.roomy answers i
+        (λ v. record v { state = demanded (Some area) v.row va (event.Access va kind) v.state })
+        (λ v. demand_lines (Some area) v.row number va kind v.state)
+        rack.old rack.new out.old out.new (is_ok result) }
+{
+    match serve_command(rack, i, map_for(area, va), answers, out) {
+        Ok(outcome) => serve_again(rack, i, outcome, number, va, kind, answers, out),
+        Err(failed) => Err(failed),
+    }
+}
+
+/// Serves to a row what an area demands, where one does.
+#[inline(always)]
 fn serve_demand<K: Sink>(
     rack: &mut Rack,
     i: usize,
@@ -155,12 +180,9 @@ fn serve_demand<K: Sink>(
         (λ v. demand_lines area v.row number va kind v.state)
         rack.old rack.new out.old out.new (is_ok result) }
 {
-    let Some(area) = area else {
-        return Ok(());
-    };
-    match serve_command(rack, i, map_for(area, va), answers, out) {
-        Ok(outcome) => serve_again(rack, i, outcome, number, va, kind, answers, out),
-        Err(failed) => Err(failed),
+    match area {
+        Some(area) => serve_area(rack, i, area, number, va, kind, answers, out),
+        None => Ok(()),
     }
 }
 

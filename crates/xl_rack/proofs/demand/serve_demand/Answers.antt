@@ -1,23 +1,5 @@
-use Rattle.std.proofs.Common.{is_ok}
-use Rattle.xl_machine.specs.Served.{after_of}
-use Rattle.xl_rack.proofs.ServedAtLemmas.{still-there}
-use Rattle.xl_rack.proofs.DemandLemmas.{demand-served, demand-cut, not-demanded, none-of}
+use Rattle.xl_rack.proofs.DemandLemmas.{not-demanded}
 use Rattle.xl_rack.proofs.demand.serve_demand.Goals as goal
 
-pub serve_again-requires : goal.serve_again-requires
-serve_again-requires g c =
-    still-there (after_of c.map_for.result) c.args.i c.args.rack.now c.serve_command.new.rack c.in-Ok.ensures.served.rows_are c.requires
-
-pub returns-in-Ok : goal.returns-in-Ok
-returns-in-Ok g c =
-    demand-served g.K.Sink.written g.K.Sink.put_faults g.K.Sink.roomy c.args.answers c.args.i c.args.number c.args.va c.args.kind c.args.area c.in-Some.area c.map_for.result c.in-Ok.outcome
-    c.args.rack.now c.serve_command.new.rack c.serve_again.new.rack c.args.out.now c.serve_command.new.out c.serve_again.new.out (is_ok c.serve_again.result)
-    c.in-Some.is c.map_for.ensures c.in-Ok.ensures.outcome c.in-Ok.ensures.served c.serve_again.ensures
-
-pub returns-in-Err : goal.returns-in-Err
-returns-in-Err g c =
-    demand-cut g.K.Sink.written g.K.Sink.put_faults g.K.Sink.roomy c.args.answers c.args.i c.args.number c.args.va c.args.kind c.args.area c.in-Some.area c.map_for.result
-    c.args.rack.now c.serve_command.new.rack c.args.out.now c.serve_command.new.out c.in-Some.is c.map_for.ensures c.in-Err.ensures.served
-
-pub returns-in_default : goal.returns-in_default
-returns-in_default g c = not-demanded g.K.Sink.written g.K.Sink.put_faults g.K.Sink.roomy c.args.answers c.args.i c.args.number c.args.va c.args.kind c.args.area c.args.rack.now c.args.out.now (none-of c.args.area c.in_default.not-Some)
+pub returns-in-None : goal.returns-in-None
+returns-in-None g c = not-demanded g.K.Sink.written g.K.Sink.put_faults g.K.Sink.roomy c.args.answers c.args.i c.args.number c.args.va c.args.kind c.args.area c.args.rack.now c.args.out.now c.in-None.is
