@@ -57,7 +57,7 @@ access-lines : (number va : ℕ) (k : Kind) (areas : List Area) (row : Row) (s :
 unfolding item_lines
 access-lines number va k areas row s = refl
 
-referenced-is : (va : ℕ) (k : Kind) (areas : List Area) (row : Row) (s : RowState)
+pub referenced-is : (va : ℕ) (k : Kind) (areas : List Area) (row : Row) (s : RowState)
     → referenced row va k areas s ≡ demanded (area_wanted row va k areas s) row va (event.Access va k) (after_event row (event.Access va k) s)
 unfolding referenced
 referenced-is va k areas row s = refl
@@ -98,7 +98,7 @@ unfolding looked
 where-space true page s = looked-space (answer_of s.arrays s.space page) page s
 where-space false page s = refl
 
-access-space : (row : Row) (va : ℕ) (k : Kind) (s : RowState) → (after_event row (event.Access va k) s).space ≡ s.space
+pub access-space : (row : Row) (va : ℕ) (k : Kind) (s : RowState) → (after_event row (event.Access va k) s).space ≡ s.space
 unfolding after_event rule done accessed
 access-space row va k s = where-space (is_canonical row.mode va) (page_of row.mode va) s
 

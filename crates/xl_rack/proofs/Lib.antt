@@ -1,3 +1,4 @@
+mod BatchLemmas
 mod DemandLemmas
 mod LineLemmas
 mod PlaceLemmas

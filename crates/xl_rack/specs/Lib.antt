@@ -3,3 +3,4 @@ pub mod Lines
 pub mod Places
 pub mod Served
 pub mod Slots
+pub mod Batches

@@ -9,6 +9,7 @@ ghost use Rattle.xl_model.specs.Scenes.{served_after, access_line, event_line, s
 ghost use Rattle.xl_machine.specs.Served.{accessed_by, after_of};
 ghost use Rattle.xl_rack.specs.Served.{ServedAt};
 
+use crate::area::{area_of, map_for};
 use crate::rack::Rack;
 use xl_model::{Area, Event, Kind, Outcome, Reply};
 use xl_outside::{Failed, Sink};
@@ -91,38 +92,6 @@ fn serve_again<K: Sink>(
         },
         _ => Ok(()),
     }
-}
-
-/// The map that an area demands for an address.
-fn map_for(area: Area, va: u64) -> Event
-    ensures { result ≡ map_of area va }
-{
-    let bytes = area.order.bytes();
-    Event::Map {
-        space: area.space,
-        va: va / bytes * bytes,
-        order: area.order,
-        perm: area.perm,
-    }
-}
-
-/// Whether a page of a space lies in an area.
-fn is_in_area(space: u16, page: u64, area: &Area) -> bool
-    ensures { result ≡ in_area space page area.now }
-{
-    area.space == space && area.page <= page && page - area.page < area.pages
-}
-
-/// The first area of the space that has the address's page.
-fn area_of(areas: &[Area], space: u16, va: u64) -> Option<Area>
-    ensures { result ≡ area_for space va areas.now }
-{
-    for area in areas {
-        if is_in_area(space, va / 4096, area) {
-            return Some(*area);
-        }
-    }
-    None
 }
 
 /// The area that a reply to an access of a row demands: its page's, where it is unmapped.

@@ -2,6 +2,8 @@
 //! by one after another.
 #![tactic(auto)]
 
+mod area;
+mod batch;
 mod demand;
 mod held;
 mod rack;

@@ -9,14 +9,17 @@ ghost use Rattle.xl_model.specs.Rows.{row_of, IsRow};
 ghost use Rattle.xl_model.specs.Scenes.{opened};
 ghost use Rattle.xl_model.specs.Tally.{IsSmall};
 ghost use Rattle.xl_rack.specs.Forms.{form_named, form_of, served_behind};
+ghost use Rattle.xl_rack.specs.Batches.{row_served};
 ghost use Rattle.xl_rack.specs.Places.{at_place};
 ghost use Rattle.xl_rack.specs.Slots.{served_of, IsNamed};
 
+use crate::batch::serve_slots;
 use crate::held::Held;
 use crate::slot::Slot;
 use std::alloc::Global;
 use std::marker::Model;
-use xl_model::{Counts, Event, Kind, NoMemory, Outcome, Reply, Row};
+use xl_model::{Area, Counts, Event, Kind, NoMemory, Outcome, Reply, Row};
+use xl_serving::Access;
 
 /// The most rows of a rack.
 const MOST: usize = 16;
@@ -130,6 +133,13 @@ impl Rack {
         ensures small { IsSmall result }
     {
         access_at(&mut self.slots, i, va, kind)
+    }
+
+    /// Serves accesses, with the events of their demands, by each machine in turn.
+    pub fn accesses(&mut self, accesses: &[Access], areas: &[Area])
+        ensures { self.new ≡ map (row_served accesses.now areas.now) self.old }
+    {
+        serve_slots(&mut self.slots, accesses, areas)
     }
 
     /// The row at a place, from 0.

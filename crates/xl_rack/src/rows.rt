@@ -14,7 +14,7 @@ use std::alloc::Global;
 use xl_model::{Area, Event, Item, Kind, NoMemory, Row};
 use xl_outside::{Failed, Sink};
 use xl_report::write_row;
-use xl_serving::Rows;
+use xl_serving::{Access, Rows};
 
 /// Serves an item to a row, where these areas were declared.
 #[inline(always)]
@@ -113,6 +113,10 @@ impl Rows for Rack {
             answers,
             out,
         )
+    }
+
+    fn accesses(&mut self, accesses: &[Access], areas: &[Area]) {
+        Rack::accesses(self, accesses, areas)
     }
 
     fn write_rows<K: Sink>(&self, out: &mut K) -> Result<(), Failed> {

@@ -2,6 +2,7 @@ mod ToldLemmas
 mod PieceLemmas
 mod RecordLemmas
 mod ServedLemmas
+mod BatchLemmas
 mod CourseLemmas
 mod ItemLemmas
 mod AreaLemmas

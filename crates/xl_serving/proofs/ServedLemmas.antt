@@ -38,7 +38,7 @@ served_cut {K} {written} {faults} {roomy} answers xs ys p q k l x = record {
 }
 
 -- the next of some items
-take_one : (xs : List Item) (i : ℕ) (x : Item) → slice_get xs i ≡ Some x → take (suc i) xs ≡ take i xs ++ x ∷ []
+pub take_one : (xs : List Item) (i : ℕ) (x : Item) → slice_get xs i ≡ Some x → take (suc i) xs ≡ take i xs ++ x ∷ []
 take_one [] zero x h = absurd (grind arith)
 take_one [] (suc i) x h = absurd (grind arith)
 take_one (y ∷ xs) zero x h = let e : y ≡ x = cc in ap (λ (z : Item). z ∷ []) e

@@ -5,3 +5,4 @@ pub mod Stops
 pub mod Messages
 pub mod Inputs
 pub mod Endings
+pub mod Batches

@@ -3,6 +3,7 @@
 #![tactic(auto)]
 
 mod areas;
+mod batch;
 mod opening;
 mod rows;
 mod running;
@@ -13,6 +14,7 @@ mod tape;
 mod trace;
 
 pub use areas::Areas;
+pub use batch::Access;
 pub use rows::Rows;
 pub use running::run;
 pub use serving::{ServeStop, serve};

@@ -8,7 +8,9 @@ ghost use Rattle.xl_model.specs.Report.{row_lines};
 ghost use Rattle.xl_config.specs.Keys.{IsBuilt};
 ghost use Rattle.xl_outside.specs.Sinks.{SinkAfter};
 ghost use Rattle.xl_serving.specs.Serving.{HasServed, scene_of};
+ghost use Rattle.xl_serving.specs.Batches.{waited};
 
+use crate::batch::Access;
 use std::alloc::Global;
 use xl_model::{Area, Event, Kind, NoMemory, Row};
 use xl_outside::{Failed, Sink};
@@ -53,6 +55,11 @@ pub trait Rows: Sized {
         ensures { HasServed K.written K.put_faults K.roomy answers (Referenced number va kind ∷ [])
             (scene_of (rows self.old) areas.now) (scene_of (rows self.new) areas.now)
             out.old out.new (is_ok result) };
+
+    /// Serves accesses one after another, where these areas were declared, and writes no line.
+    fn accesses(&mut self, accesses: &[Access], areas: &[Area])
+        ensures { scene_of (rows self.new) areas.now
+            ≡ waited accesses.now (scene_of (rows self.old) areas.now) };
 
     /// Writes a line for each row.
     fn write_rows<K: Sink>(&self, out: &mut K) -> Result<(), Failed>

@@ -8,9 +8,11 @@ ghost use Rattle.xl_outside.specs.Sinks.{WriteCounts};
 ghost use Rattle.xl_script.specs.Placing.{IsPlaced, is_area};
 ghost use Rattle.xl_lackey.specs.Accesses.{accesses};
 ghost use Rattle.xl_serving.specs.declared.serving.ServeStop.TheVariants as why;
+ghost use Rattle.xl_serving.specs.Batches.{waited, IsIdle};
 ghost use Rattle.xl_serving.specs.Serving.{HasServed, Serves, ServesPart, scene_of, count_of, event_at, of_trace_stop, serve_stop_fate, is_written, ServingIsMet};
 
 use crate::areas::Areas;
+use crate::batch::{Batch, put_off_record, settle};
 use crate::rows::Rows;
 use crate::trace::{Numbered, Trace, TraceStop};
 use thiserror::Error;
@@ -141,11 +143,19 @@ fn serve_rest<R: Rows, T: Trace, F: Folder, K: Sink>(
     ensures counts { WriteCounts (is_written result) (K.put_faults out.old) (K.put_faults out.new) }
     ensures met { IfErr result ServingIsMet }
 {
+    let mut batch = Batch::new();
     'records: loop {
-        let Some(found) = trace.next(folder, name)? else {
-            return Ok(());
-        };
-        serve_record(rows, areas, answers, out, &found)?;
+        match trace.next(folder, name) {
+            Ok(Some(found)) => serve_record(rows, areas, answers, out, &mut batch, &found)?,
+            Ok(None) => {
+                settle(rows, areas, &mut batch);
+                return Ok(());
+            }
+            Err(stop) => {
+                settle(rows, areas, &mut batch);
+                return Err(ServeStop::from(stop));
+            }
+        }
     }
 }
 
@@ -172,17 +182,50 @@ fn serve_run<R: Rows, T: Trace, F: Folder, K: Sink>(
     ensures counts { WriteCounts (is_written result) (K.put_faults out.old) (K.put_faults out.new) }
     ensures met { IfErr result ServingIsMet }
 {
+    let mut batch = Batch::new();
     for i in 0..n {
-        let Some(found) = trace.next(folder, name)? else {
-            return Ok(());
-        };
-        serve_record(rows, areas, answers, out, &found)?;
+        match trace.next(folder, name) {
+            Ok(Some(found)) => serve_record(rows, areas, answers, out, &mut batch, &found)?,
+            Ok(None) => {
+                settle(rows, areas, &mut batch);
+                return Ok(());
+            }
+            Err(stop) => {
+                settle(rows, areas, &mut batch);
+                return Err(ServeStop::from(stop));
+            }
+        }
     }
+    settle(rows, areas, &mut batch);
     Ok(())
 }
 
-/// Serves the accesses of a record.
+/// Serves the accesses of a record. They may wait where no line is written.
 fn serve_record<R: Rows, K: Sink>(
+    rows: &mut R,
+    areas: &[Area],
+    answers: bool,
+    out: &mut K,
+    batch: &mut Batch,
+    found: &Numbered,
+) -> Result<(), Failed>
+    requires idle { IsIdle answers batch.old.items }
+    ensures idle { IsIdle answers batch.new.items }
+    ensures served { HasServed K.written K.put_faults K.roomy answers
+        (accesses_items found.now.number (accesses found.now.reference))
+        (waited batch.old.items (scene_of (R.rows rows.old) areas.now))
+        (waited batch.new.items (scene_of (R.rows rows.new) areas.now))
+        out.old out.new (is_ok result) }
+{
+    if answers {
+        return tell_record(rows, areas, answers, out, found);
+    }
+    put_off_record(rows, areas, batch, found);
+    Ok(())
+}
+
+/// Serves the accesses of a record at once.
+fn tell_record<R: Rows, K: Sink>(
     rows: &mut R,
     areas: &[Area],
     answers: bool,

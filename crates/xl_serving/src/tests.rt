@@ -2,7 +2,7 @@
 
 ghost use Rattle.std.specs.Prelude.{[]};
 
-use crate::{Areas, Rows, ServeStop, Status, Tape, Trace, run, serve};
+use crate::{Access, Areas, Rows, ServeStop, Status, Tape, Trace, run, serve};
 use std::alloc::{AllocError, Global};
 use std::test::Fail;
 use xl_model::{Area, Event, InputFault, Kind, NoMemory, Row};
@@ -41,6 +41,8 @@ impl Rows for NoRows {
     ) -> Result<(), Failed> {
         Ok(())
     }
+
+    fn accesses(&mut self, _accesses: &[Access], _areas: &[Area]) {}
 
     fn write_rows<K: Sink>(&self, _out: &mut K) -> Result<(), Failed> {
         Ok(())

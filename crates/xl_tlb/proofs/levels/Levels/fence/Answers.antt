@@ -1,7 +1,7 @@
 use Rattle.std.proofs.Common.{◌≡◌, ◌++◌, length, take, drop, sym, ◌∙◌, ap}
 use Rattle.xl_model.specs.Tlb.{reaches_leaf}
 use Rattle.xl_tlb.proofs.TlbLemmas.{written, purge_kept, fence_after}
-use Rattle.xl_tlb.proofs.tlb.Tlb.fence.Goals as goal
+use Rattle.xl_tlb.proofs.levels.Levels.fence.Goals as goal
 
 pub invariant_of-self : goal.invariant_of-self
 invariant_of-self c =

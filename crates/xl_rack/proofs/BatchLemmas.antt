@@ -1,0 +1,77 @@
+-- Accesses that are served by one row after another.
+use Rattle.std.proofs.Common.{◌≡◌, refl, sym, ap, ◌∙◌, ℕ, List, [], ◌∷◌, Option, None, Some}
+use Rattle.std.specs.Prelude.{map}
+use Rattle.xl_model.specs.declared.address.Kind.{Kind}
+use Rattle.xl_model.specs.declared.event.Event.TheVariants as event
+use Rattle.xl_model.specs.declared.event.Outcome.{Outcome}
+use Rattle.xl_model.specs.declared.event.Outcome.TheVariants as outcome
+use Rattle.xl_model.specs.declared.leaf.Reply.{Reply}
+use Rattle.xl_model.specs.declared.leaf.Reply.TheVariants as reply
+use Rattle.xl_model.specs.declared.script.Area.{Area}
+use Rattle.xl_model.specs.declared.script.Item.TheVariants.{Referenced}
+use Rattle.xl_model.specs.RowRun.{after_event, reply_to, outcome_of}
+use Rattle.xl_model.specs.Items.{area_for, wanted, map_of, again_where, demanded, state_after}
+use Rattle.xl_model.specs.Scenes.{Served, Scene, rows_after, scene_after, scenes_after}
+use Rattle.xl_machine.specs.Served.{accessed_by, after_of}
+use Rattle.xl_serving.specs.declared.batch.Access.{Access}
+use Rattle.xl_serving.specs.Batches.{item_of, waited}
+use Rattle.xl_serving.specs.Serving.{scene_of}
+use Rattle.xl_rack.specs.Batches.{demand_served, access_served, row_served}
+use Rattle.xl_rack.proofs.DemandLemmas.{access-space, referenced-is}
+
+-- what an access wants, by its reply
+wanted-alone : (answer : Reply) (area : Option Area) → (answer ≡ reply.Unmapped → ⊥) → wanted answer area ≡ None
+wanted-alone reply.NotCanonical area not = refl
+wanted-alone reply.Unmapped area not = absurd (not refl)
+wanted-alone reply.Denied area not = refl
+wanted-alone (reply.Frame frame) area not = refl
+
+-- the access is served, and demands what is wanted
+access-is : (va : ℕ) (k : Kind) (areas : List Area) (v : Served) (answer : Reply) → answer ≡ reply_to v.row v.state va k
+    → access_served va k areas v ≡ record v { state = demanded (wanted answer (area_for v.state.space va areas)) v.row va (event.Access va k) (accessed_by va k v).state }
+access-is va k areas v answer e =
+    ap (λ s. record v { state = s }) (referenced-is va k areas v.row v.state
+    ∙ ap (λ (a : Reply). demanded (wanted a (area_for v.state.space va areas)) v.row va (event.Access va k) (accessed_by va k v).state) (sym e))
+
+pub access-demands : (va : ℕ) (k : Kind) (areas : List Area) (v m n : Served) (answer : Reply) → answer ≡ reply_to v.row v.state va k → answer ≡ reply.Unmapped
+    → m ≡ accessed_by va k v → n ≡ demand_served va k areas m → n ≡ access_served va k areas v
+access-demands va k areas v m n answer e u after d =
+    d ∙ ap (demand_served va k areas) after
+    ∙ ap (λ (space : ℕ). record v { state = demanded (area_for space va areas) v.row va (event.Access va k) (accessed_by va k v).state }) (access-space v.row va k v.state)
+    ∙ ap (λ (a : Reply). record v { state = demanded (wanted a (area_for v.state.space va areas)) v.row va (event.Access va k) (accessed_by va k v).state }) (sym u)
+    ∙ sym (access-is va k areas v answer e)
+
+pub access-alone : (va : ℕ) (k : Kind) (areas : List Area) (v m : Served) (answer : Reply) → answer ≡ reply_to v.row v.state va k → (answer ≡ reply.Unmapped → ⊥)
+    → m ≡ accessed_by va k v → m ≡ access_served va k areas v
+access-alone va k areas v m answer e not after =
+    after
+    ∙ ap (λ (z : Option Area). record v { state = demanded z v.row va (event.Access va k) (accessed_by va k v).state }) (sym (wanted-alone answer (area_for v.state.space va areas) not))
+    ∙ sym (access-is va k areas v answer e)
+
+-- each row by itself
+rows-map : (a : Access) (areas : List Area) (rows : List Served) → rows_after (item_of a) areas rows ≡ map (access_served a.va a.kind areas) rows
+unfolding state_after
+rows-map a areas [] = refl
+rows-map a areas (r ∷ rows) = ap (λ (rest : List Served). access_served a.va a.kind areas r ∷ rest) (rows-map a areas rows)
+
+scene-map : (a : Access) (areas : List Area) (rows : List Served) → scene_after (item_of a) (scene_of rows areas) ≡ scene_of (map (access_served a.va a.kind areas) rows) areas
+unfolding scene_after
+scene-map a areas rows = ap (λ (z : List Served). scene_of z areas) (rows-map a areas rows)
+
+none-served : (areas : List Area) (rows : List Served) → rows ≡ map (row_served [] areas) rows
+none-served areas [] = refl
+none-served areas (r ∷ rows) = ap (λ (rest : List Served). r ∷ rest) (none-served areas rows)
+
+one-then : (a : Access) (accesses : List Access) (areas : List Area) (rows : List Served)
+    → map (row_served accesses areas) (map (access_served a.va a.kind areas) rows) ≡ map (row_served (a ∷ accesses) areas) rows
+one-then a accesses areas [] = refl
+one-then a accesses areas (r ∷ rows) = ap (λ (rest : List Served). row_served (a ∷ accesses) areas r ∷ rest) (one-then a accesses areas rows)
+
+-- All accesses by the first row, then by the next, leave the rows that each access by all rows leaves.
+pub row-by-row : (accesses : List Access) (areas : List Area) (rows : List Served)
+    → scene_of (map (row_served accesses areas) rows) areas ≡ waited accesses (scene_of rows areas)
+row-by-row [] areas rows = ap (λ (z : List Served). scene_of z areas) (sym (none-served areas rows))
+row-by-row (a ∷ accesses) areas rows =
+    ap (λ (z : List Served). scene_of z areas) (sym (one-then a accesses areas rows))
+    ∙ row-by-row accesses areas (map (access_served a.va a.kind areas) rows)
+    ∙ ap (scenes_after (map item_of accesses)) (sym (scene-map a areas rows))

@@ -1,0 +1,72 @@
+//! Accesses that a row is served one after another without lines: the kind of the row's table is
+//! chosen once for all of them.
+
+ghost use Rattle.std.specs.Prelude.{◌≡◌, map};
+ghost use Rattle.std.specs.List.{All};
+ghost use Rattle.xl_rack.specs.Batches.{demand_served, access_served, row_served};
+ghost use Rattle.xl_rack.specs.Slots.{served_of, slot_form, IsNamed};
+
+use crate::area::{area_of, map_for};
+use crate::slot::Slot;
+use xl_machine::Machine;
+use xl_model::{Area, Kind, Outcome, Reply, Structure};
+use xl_serving::Access;
+
+/// Serves the map that an area demands for an address, and where it is done, the access once more.
+#[inline(never)]
+fn serve_demand<S: Structure>(machine: &mut Machine<S>, va: u64, kind: Kind, areas: &[Area])
+    ensures { machine.new ≡ demand_served va kind areas.now machine.old }
+{
+    let Some(area) = area_of(areas, machine.space(), va) else {
+        return;
+    };
+    if let Outcome::Done = machine.step(map_for(area, va)) {
+        let _reply = machine.access(va, kind);
+    }
+}
+
+/// Serves an access, with the events of its demand.
+#[inline(always)]
+fn serve_one<S: Structure>(machine: &mut Machine<S>, va: u64, kind: Kind, areas: &[Area])
+    ensures { machine.new ≡ access_served va kind areas.now machine.old }
+{
+    if let Reply::Unmapped = machine.access(va, kind) {
+        serve_demand(machine, va, kind, areas);
+    }
+}
+
+/// Serves accesses to a machine one after another.
+fn serve_all<S: Structure>(machine: &mut Machine<S>, accesses: &[Access], areas: &[Area])
+    ensures { machine.new ≡ row_served accesses.now areas.now machine.old }
+{
+    for access in accesses {
+        serve_one(machine, access.va, access.kind, areas);
+    }
+}
+
+/// Serves accesses to the machine of a slot one after another.
+fn serve_slot(slot: &mut Slot, accesses: &[Access], areas: &[Area])
+    ensures served { served_of slot.new ≡ row_served accesses.now areas.now (served_of slot.old) }
+    ensures form { slot_form slot.new ≡ slot_form slot.old }
+{
+    match slot {
+        Slot::Sv39(machine) => serve_all(machine, accesses, areas),
+        Slot::Sv48(machine) => serve_all(machine, accesses, areas),
+        Slot::Sv57(machine) => serve_all(machine, accesses, areas),
+        Slot::Hashed(machine) => serve_all(machine, accesses, areas),
+        Slot::Clustered(machine) => serve_all(machine, accesses, areas),
+    }
+}
+
+/// Serves accesses one after another to each slot in turn.
+pub(crate) fn serve_slots(slots: &mut [Slot], accesses: &[Access], areas: &[Area])
+    ensures served { map served_of slots.new
+        ≡ map (row_served accesses.now areas.now) (map served_of slots.old) }
+    ensures named { All IsNamed slots.old → All IsNamed slots.new }
+{
+    let Some((first, rest)) = slots.split_first_mut() else {
+        return;
+    };
+    serve_slot(first, accesses, areas);
+    serve_slots(rest, accesses, areas);
+}

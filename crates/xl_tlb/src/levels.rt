@@ -1,0 +1,238 @@
+//! The arrays of a row in levels.
+
+ghost use Rattle.std.specs.Prelude.{◌≡◌, ◌<◌, ◌≤◌, ◌^◌, ◌+◌, ◌*◌, length, map, count_by, slice_index_or, Some, IfOk, IfSome, IfNone};
+ghost use Rattle.xl_model.specs.Tlb.{answer_of, leaves_in, takes_leaf, array_filled, array_without, is_purged, reaches_leaf};
+ghost use Rattle.xl_tlb.specs.Arrays.{IsFit, InLimits};
+ghost use Rattle.xl_tlb.specs.Fronts.{IsFront};
+ghost use Rattle.xl_tlb.specs.Tlbs.{leaf_told, tlb_opening, AreSpecs, IsRising, tlb_looked, tlb_filled, tlb_purged, tlb_fenced};
+
+use crate::any::AnyArray;
+use crate::coding::{Hit, leaf_of};
+use crate::look::{front_in, look_in};
+use arrayvec::ArrayVec;
+use std::alloc::Global;
+use std::marker::Model;
+use xl_model::{Leaf, NoMemory, Purge, Reach, TlbSpec};
+
+/// The arrays of a row in levels, with their counts.
+#[derive(Drop)]
+pub(crate) struct Levels {
+    arrays: Vec<AnyArray>,
+    hits: [u64; 6],
+    misses: [u64; 6],
+    fills: u64,
+}
+
+impl Model for Levels {
+    ghost use Rattle.xl_tlb.specs.Tlbs.{TlbState, IsTlb, tlb_of};
+
+    ghost Value = { TlbState };
+
+    ghost view = { λ t. tlb_of t.arrays.items t.hits t.misses t.fills };
+
+    ghost invariant = { λ t. IsTlb (tlb_of t.arrays.items t.hits t.misses t.fills) };
+}
+
+/// Fills each array that takes the leaf's order: how many do.
+#[tactic(auto, using(crate::proofs::TlbLemmas::count_first))]
+fn fill_each(arrays: &mut [AnyArray], leaf: Leaf) -> u64
+    requires { IsFit leaf }
+    ensures fills { result ≡ count_by (takes_leaf leaf) arrays.old }
+    ensures arrays { arrays.new ≡ map (array_filled leaf) arrays.old }
+{
+    let Some((first, rest)) = arrays.split_first_mut() else {
+        return 0;
+    };
+    let others = fill_each(rest, leaf);
+    if first.fill(leaf) {
+        return others + 1;
+    }
+    others
+}
+
+/// Purges each array: how many items left.
+#[tactic(auto, unfolding(xl_model::specs::Tlb::leaves_in))]
+fn purge_each(arrays: &mut [AnyArray], purge: Purge, leaf: Leaf) -> u64
+    requires fit { IsFit leaf }
+    requires few { length arrays.old ≤ 6 }
+    ensures left { result + leaves_in arrays.new ≡ leaves_in arrays.old }
+    ensures arrays { arrays.new ≡ map (array_without (is_purged purge leaf)) arrays.old }
+    ensures most { result ≤ 274877906944 * length arrays.old }
+{
+    let Some((first, rest)) = arrays.split_first_mut() else {
+        return 0;
+    };
+    first.purge(purge, leaf) + purge_each(rest, purge, leaf)
+}
+
+/// Fences each array: how many items left.
+#[tactic(auto, unfolding(xl_model::specs::Tlb::leaves_in))]
+fn fence_each(arrays: &mut [AnyArray], reach: Reach) -> u64
+    requires limits { InLimits reach }
+    requires few { length arrays.old ≤ 6 }
+    ensures left { result + leaves_in arrays.new ≡ leaves_in arrays.old }
+    ensures arrays { arrays.new ≡ map (array_without (reaches_leaf reach)) arrays.old }
+    ensures most { result ≤ 274877906944 * length arrays.old }
+{
+    let Some((first, rest)) = arrays.split_first_mut() else {
+        return 0;
+    };
+    first.fence(reach) + fence_each(rest, reach)
+}
+
+impl Levels {
+    /// The arrays of these specs, all empty, and counts of 0. `NoMemory` where the allocator has none
+    /// for the sets; then all is given back.
+    #[tactic(auto, unfolding(xl_model::specs::Tlb::opening_arrays, crate::specs::Tlbs::tlb_opening))]
+    pub fn open(alloc: Global, specs: &ArrayVec<TlbSpec, 6>) -> Result<Levels, NoMemory>
+        requires specs { AreSpecs specs.now.items }
+        requires few { length specs.now.items ≤ 6 }
+        requires rising { IsRising specs.now.items }
+        ensures { IfOk result (λ tlb. tlb ≡ tlb_opening specs.now.items) }
+    {
+        let mut arrays = Vec::new(alloc);
+        for spec in specs.iter() {
+            if arrays.push(AnyArray::open(alloc, *spec)?).is_err() {
+                return Err(NoMemory);
+            }
+        }
+        Ok(Levels {
+            arrays,
+            hits: [0; 6],
+            misses: [0; 6],
+            fills: 0,
+        })
+    }
+
+    /// The word of a leaf of 4 KiB that the newest leaf of a set of the first array is, where that
+    /// array is alone in its level. None elsewhere.
+    #[inline]
+    pub fn front(&self, space: u16, page: u64) -> Option<u64>
+        requires space { space < 64 }
+        requires page { page < 2 ^ 52 }
+        ensures { IfSome result (λ word. IsFront space page word self.now.arrays) }
+    {
+        front_in(&self.arrays, space, page)
+    }
+
+    /// Looks for a page that the newest leaf of a set of the first array answers, with this word: that
+    /// counts a hit there, and moves nothing.
+    #[inline]
+    pub fn hit_in_front(&mut self, _space: u16, _page: u64, _word: u64)
+        requires { IsFront _space _page _word self.old.arrays }
+        ensures after { self.new ≡ tlb_looked _space _page self.old }
+        ensures stays { self.new.arrays ≡ self.old.arrays }
+    {
+        self.hits[0] = self.hits[0].wrapping_add(1);
+    }
+
+    /// Looks for the page in the levels in turn, and gives the leaf that covers it. Touches the array
+    /// that hits, and fills those of lower levels that hold the leaf's order. None where no array hits.
+    #[inline]
+    pub fn look(&mut self, space: u16, page: u64) -> Option<Leaf>
+        requires space { space < 64 }
+        requires page { page < 2 ^ 52 }
+        ensures found { result ≡ leaf_told (answer_of self.old.arrays space page) }
+        ensures after { self.new ≡ tlb_looked space page self.old }
+    {
+        if self.arrays.is_empty() {
+            return None;
+        }
+        match look_in(
+            &mut self.arrays,
+            &mut self.hits,
+            &mut self.misses,
+            space,
+            page,
+        ) {
+            Some(found) => {
+                self.fills = self.fills.wrapping_add(found.fills);
+                Some(leaf_of(
+                    space,
+                    page,
+                    Hit {
+                        word: found.word,
+                        order: found.order,
+                    },
+                ))
+            }
+            None => None,
+        }
+    }
+
+    /// Puts a leaf that a walk found into the arrays of every level that hold its order.
+    pub fn fill(&mut self, leaf: Leaf)
+        requires { IsFit leaf }
+        ensures { self.new ≡ tlb_filled leaf self.old }
+    {
+        if self.arrays.is_empty() {
+            return;
+        }
+        let fills = fill_each(&mut self.arrays, leaf);
+        self.fills = self.fills.wrapping_add(fills);
+    }
+
+    /// Removes what a purge takes in all levels at a change of this leaf, and gives how many leaves left.
+    pub fn purge(&mut self, purge: Purge, leaf: Leaf) -> u64
+        requires { IsFit leaf }
+        ensures left { result + leaves_in self.new.arrays ≡ leaves_in self.old.arrays }
+        ensures after { self.new ≡ tlb_purged purge leaf self.old }
+    {
+        purge_each(&mut self.arrays, purge, leaf)
+    }
+
+    /// Removes the leaves that a fence reaches in all levels, and gives how many left.
+    pub fn fence(&mut self, reach: Reach) -> u64
+        requires { InLimits reach }
+        ensures left { result + leaves_in self.new.arrays ≡ leaves_in self.old.arrays }
+        ensures after { self.new ≡ tlb_fenced reach self.old }
+    {
+        fence_each(&mut self.arrays, reach)
+    }
+
+    /// The hits of each array, and 0 where there is none.
+    pub fn all_hits(&self) -> [u64; 6]
+        ensures { result ≡ self.now.hits }
+    {
+        self.hits
+    }
+
+    /// The misses of each array, and 0 where there is none.
+    pub fn all_misses(&self) -> [u64; 6]
+        ensures { result ≡ self.now.misses }
+    {
+        self.misses
+    }
+
+    /// How many arrays there are, at most six.
+    pub fn arrays(&self) -> usize
+        ensures { result ≡ length self.now.arrays }
+    {
+        self.arrays.len()
+    }
+
+    /// How many looks hit in array `i`, counted from 0 in the order of the specs, modulo 2^64.
+    pub fn hits(&self, i: usize) -> u64
+        requires { i < length self.now.arrays }
+        ensures { result ≡ slice_index_or self.now.hits i 0 }
+    {
+        let hits = &self.hits;
+        hits[i]
+    }
+
+    /// How many looks missed in array `i`, counted from 0 in the order of the specs, modulo 2^64.
+    pub fn misses(&self, i: usize) -> u64
+        requires { i < length self.now.arrays }
+        ensures { result ≡ slice_index_or self.now.misses i 0 }
+    {
+        let misses = &self.misses;
+        misses[i]
+    }
+
+    /// How many leaves were put into arrays, modulo 2^64.
+    pub fn fills(&self) -> u64
+        ensures { result ≡ self.now.fills }
+    {
+        self.fills
+    }
+}

@@ -1,0 +1,64 @@
+//! Pages that the newest leaves of the first array answered of late.
+
+ghost use Rattle.std.specs.Prelude.{◌≡◌, ◌<◌, ◌^◌, ◌+◌, ◌*◌, List, IfSome};
+ghost use Rattle.xl_model.specs.Tlb.{TlbArray};
+ghost use Rattle.xl_tlb.specs.Fronts.{IsFront};
+ghost use Rattle.xl_tlb.specs.Known.{Knows, key_of as key_is};
+
+/// For eight pages at most, the words of the leaves that answer them: each is the newest of its set
+/// of the first array. A page's place is its number's last three bits, and 0 is no page's key.
+#[derive(Clone, Copy, Debug)]
+pub(crate) struct Newest {
+    keys: [u64; 8],
+    words: [u64; 8],
+}
+
+/// The key of a page.
+#[inline]
+fn key_of(space: u16, page: u64) -> u64
+    requires space { space < 64 }
+    requires page { page < 2 ^ 52 }
+    ensures { result ≡ key_is space page }
+{
+    page * 64 + space as u64 + 1
+}
+
+impl Newest {
+    /// No page is known.
+    pub fn none() -> Newest
+        ensures { (arrays : List TlbArray) → Knows result arrays }
+    {
+        Newest {
+            keys: [0; 8],
+            words: [0; 8],
+        }
+    }
+
+    /// The word of the leaf that answers the page, where that is known.
+    #[inline]
+    pub fn word(&self, space: u16, page: u64) -> Option<u64>
+        requires space { space < 64 }
+        requires page { page < 2 ^ 52 }
+        ensures { (arrays : List TlbArray) → Knows self.now arrays
+            → IfSome result (λ word. IsFront space page word arrays) }
+    {
+        let place = (page % 8) as usize;
+        if self.keys[place] == key_of(space, page) {
+            return Some(self.words[place]);
+        }
+        None
+    }
+
+    /// Keeps the word of the leaf that answers the page.
+    #[inline]
+    pub fn keep(&mut self, space: u16, page: u64, word: u64)
+        requires space { space < 64 }
+        requires page { page < 2 ^ 52 }
+        ensures { (arrays : List TlbArray) → Knows self.old arrays
+            → IsFront space page word arrays → Knows self.new arrays }
+    {
+        let place = (page % 8) as usize;
+        self.keys[place] = key_of(space, page);
+        self.words[place] = word;
+    }
+}
