@@ -1,3 +1,4 @@
+mod FrontLemmas
 mod ScanLemmas
 mod TotalLemmas
 mod OrderLemmas
