@@ -4,7 +4,7 @@ ghost use Rattle.std.specs.Prelude.{◌≡◌, ◌<◌, ◌+◌, ◌*◌, ◌^�
 ghost use Rattle.std.specs.List.{list_any};
 ghost use Rattle.std.specs.Vec.{vec_capacity};
 ghost use Rattle.xl_model.specs.Chains.{has_tag};
-ghost use Rattle.xl_chain.specs.Layout.{most_entries};
+ghost use Rattle.xl_chain.specs.Layout.{IsShape, most_entries};
 ghost use Rattle.xl_chain.specs.Lines.{WordsReadBack, AreSingle, IsOwn};
 ghost use Rattle.xl_chain.specs.Held.{ChainState, tags_of, held_with, entry_of, entry_found, found_of, in_front_of, is_entry, with_value, without_tag, value_of, loads_after};
 ghost use Rattle.xl_chain.specs.Kept.{IsInserted, upto};
@@ -98,7 +98,8 @@ impl<const V: usize> Chains<V> {
 
     /// The layout of the words.
     pub fn shape(&self) -> ChainShape
-        ensures { result ≡ self.now.shape }
+        ensures is { result ≡ self.now.shape }
+        ensures layout { IsShape result }
     {
         self.shape
     }
