@@ -4,13 +4,13 @@ ghost use Rattle.std.specs.Prelude.{◌≡◌, ◌<◌, ◌+◌, ◌*◌, ◌^�
 ghost use Rattle.std.specs.List.{list_any};
 ghost use Rattle.std.specs.Vec.{vec_capacity};
 ghost use Rattle.xl_model.specs.Chains.{has_tag};
-ghost use Rattle.xl_chain.specs.Layout.{most_entries};
+ghost use Rattle.xl_chain.specs.Layout.{IsShape, most_entries};
 ghost use Rattle.xl_chain.specs.Lines.{WordsReadBack, AreSingle, IsOwn};
 ghost use Rattle.xl_chain.specs.Held.{ChainState, tags_of, held_with, entry_of, entry_found, found_of, in_front_of, is_entry, with_value, without_tag, value_of, loads_after};
 ghost use Rattle.xl_chain.specs.Kept.{IsInserted, upto};
+ghost use Rattle.xl_phys.specs.Lines.{counted};
 
-use crate::along::seek;
-use crate::look::Look;
+use crate::own::search;
 use crate::put::{put, put_front, unlink};
 use crate::shape::{ChainShape, Seek, bucket_of, value_at, words_of};
 use std::alloc::Global;
@@ -98,7 +98,8 @@ impl<const V: usize> Chains<V> {
 
     /// The layout of the words.
     pub fn shape(&self) -> ChainShape
-        ensures { result ≡ self.now.shape }
+        ensures is { result ≡ self.now.shape }
+        ensures layout { IsShape result }
     {
         self.shape
     }
@@ -115,11 +116,7 @@ impl<const V: usize> Chains<V> {
         ensures found { result ≡ entry_of (held_with tag self.now.held) }
         ensures own { IfSome result (λ e. IsOwn tag e self.now.held) }
     {
-        let mut look = Look {
-            words: &self.words,
-            loads: 0,
-        };
-        entry_in(seek(&mut look, self.shape, tag))
+        entry_in(search::<V>(&self.words, self.shape, tag).end)
     }
 
     /// What a search for the tag comes to, with its loads: one for the head, and one for each entry
@@ -128,19 +125,16 @@ impl<const V: usize> Chains<V> {
         ensures end { result ≡ found_of (held_with tag self.old.held) }
         ensures after { self.new ≡ record self.old { loads = loads_after tag self.old } }
     {
-        let shape = self.shape;
-        seek(self, shape, tag)
+        let sought = search::<V>(&self.words, self.shape, tag);
+        self.loads = self.loads.wrapping_add(sought.loads);
+        sought.end
     }
 
     /// What a search for the tag comes to, without loads.
     pub fn look(&self, tag: u64) -> Seek
         ensures { result ≡ found_of (held_with tag self.now.held) }
     {
-        let mut look = Look {
-            words: &self.words,
-            loads: 0,
-        };
-        seek(&mut look, self.shape, tag)
+        search::<V>(&self.words, self.shape, tag).end
     }
 
     /// Value `i` of an entry that is held.
@@ -150,6 +144,18 @@ impl<const V: usize> Chains<V> {
         ensures { result ≡ value_of entry i self.now.held }
     {
         self.words[value_at(self.shape, entry, i)]
+    }
+
+    /// Value `i` of an entry that is held, with a load of the line in which it stands.
+    pub fn load_value(&mut self, entry: u32, i: usize) -> u64
+        requires held { list_any (is_entry entry) self.old.held ≡ true }
+        requires within { i < V }
+        ensures value { result ≡ value_of entry i self.old.held }
+        ensures after { self.new ≡ record self.old { loads = counted self.old.loads } }
+    {
+        let value = self.value(entry, i);
+        self.loads = self.loads.wrapping_add(1);
+        value
     }
 
     /// Puts `value` in place of value `i` of an entry that is held.

@@ -1,6 +1,5 @@
 -- What a block that is written makes of the slots.
-use Rattle.std.proofs.Common.{◌≡◌, refl, sym, ap, ◌∙◌, subst, ℕ, ◌+◌, ◌-◌, ◌*◌, ◌/◌, ◌%◌, ◌^◌, ◌<◌, ◌≤◌, Bool, true, false, cond, not, ◌||◌, List, [], ◌∷◌, map, length, slice_set, slice_index, ◌==◌, Some, Result, Ok, Err, OnOk, OnErr, inl, inr, arith}
-use Rattle.std.specs.Prelude.{find}
+use Rattle.std.proofs.Common.{◌≡◌, refl, sym, ap, ◌∙◌, subst, ℕ, ◌+◌, ◌-◌, ◌%◌, ◌^◌, ◌<◌, ◌≤◌, Bool, true, false, cond, not, ◌||◌, List, [], ◌∷◌, map, length, slice_set, slice_index, ◌==◌, Result, Ok, Err, OnOk, OnErr, inl, inr, arith}
 use Rattle.std.specs.List.{list_any}
 use Rattle.std.proofs.lemmas.List.{length-map}
 use Rattle.std.proofs.lemmas.Bool.{eq-eqb, eqb-true, ne_eqb}
@@ -11,14 +10,13 @@ use Rattle.xl_model.specs.Chains.{has_tag, chain_of, bucket_of, examined}
 use Rattle.xl_model.specs.Walks.{chain_reads}
 use Rattle.xl_model.specs.Words.{leaf_word}
 use Rattle.xl_model_lemmas.specs.Members.{In}
-use Rattle.xl_model_lemmas.proofs.MemberLemmas.{any-In, find-only, map-In, In-map, filter-In}
+use Rattle.xl_model_lemmas.proofs.MemberLemmas.{map-In, filter-In}
 use Rattle.xl_model_lemmas.proofs.SameLemmas.{both}
-use Rattle.xl_chain.specs.Layout.{base_at, line_at}
-use Rattle.xl_chain.specs.Lines.{AreSingle, AreLines, WordsReadBack}
+use Rattle.xl_chain.specs.Lines.{AreSingle}
 use Rattle.xl_chain.specs.Kept.{IsInserted}
 use Rattle.xl_chain.specs.declared.shape.Seek.TheVariants as seek
-use Rattle.xl_chain.specs.Held.{Held, ChainState, found_of, loads_after, tags_of, has, held_with, is_entry, with_value, without_tag, value_of, value_in}
-use Rattle.xl_tagged.specs.Forms.{Sixteen, values_by, values_under, word_at}
+use Rattle.xl_chain.specs.Held.{Held, ChainState, found_of, loads_after, tags_of, held_with, is_entry, with_value, without_tag, value_of}
+use Rattle.xl_tagged.specs.Forms.{Sixteen, values_under, word_at}
 use Rattle.xl_tagged.specs.Tagged.{AreSized}
 use Rattle.xl_tagged.specs.Steps.{IsWritten, IsSameTable, IsPut, IsSet, IsTaken, given_word, word_found}
 use Rattle.xl_tagged.proofs.ChainLemmas.{IsUnderTag, found-under, same-entry, set-by, tags-set, values-without, values-front}
@@ -231,41 +229,6 @@ gone-blocks tag slot old new held taken blocks = λ t i.
       | inl a ↦ subst (λ ts. In t ts) a.tags i
       | inr a ↦ filter-In (λ u. not (u == tag)) t (tags_of old.held) (subst (λ ts. In t ts) a.tags i)
     ]
-
--- the values of an entry are those under its tag
-single-values : (h : Held) (hs : List Held) → AreSingle hs → In h hs → values_under hs h.tag ≡ h.values
-unfolding values_under held_with
-single-values h hs s i =
-    ap values_by (find-only (has h.tag) h hs i (eq-eqb h.tag h.tag refl) (λ g j t. s.by_tag g h j i (eqb-true g.tag h.tag t)))
-
--- the line of a slot
-pub record IsSlotLine (c : ChainState) (e slot line : ℕ) : Type 0 where
-  pub inside : 4 * line + 4 ≤ length c.words
-  pub word : slice_index c.words (4 * line + slot % 4) ≡ value_of e (1 + slot) c.held
-
-pub slot-line : (c : ChainState) (e slot line : ℕ) → WordsReadBack c → AreSingle c.held → AreSized Sixteen c.held → list_any (is_entry e) c.held ≡ true → slot < 16 → line ≡ line_at c.shape e + 1 + slot / 4 → IsSlotLine c e slot line
-unfolding value_of
-slot-line c e slot line back single sized held low is =
-    let r = any-In (is_entry e) c.held held in
-    let h : Held = r.0 in
-    let same : h.entry ≡ e = eqb-true h.entry e r.2 in
-    let l : AreLines c.shape c.words h = back.lines h r.1 in
-    let len : length h.values ≡ 17 = ap (λ (vs : List ℕ). length vs) (sym (single-values h c.held single r.1)) ∙ sized h.tag (In-map (λ (g : Held). g.tag) h c.held r.1) in
-    let n = l.count in
-    let five : c.shape.lines ≡ 5 = omega arith in
-    let here : find (is_entry e) c.held ≡ Some h = find-only (is_entry e) h c.held r.1 r.2 (λ g j t. single.by_entry g h j r.1 (eqb-true g.entry e t ∙ sym same)) in
-    let at : e * c.shape.lines ≡ e * 5 = ap (λ m. e * m) five in
-    let all : c.shape.entries * c.shape.lines ≡ c.shape.entries * 5 = ap (λ m. c.shape.entries * m) five in
-    let below : e < c.shape.entries = (let i = l.inside in omega arith) in
-    let size = back.size in
-    let place : 4 * line + slot % 4 ≡ base_at c.shape e + 3 + (1 + slot) = omega arith in
-    let other : (1 + slot == 0) ≡ false = ne_eqb (1 + slot) 0 (λ z. absurd (omega arith)) in
-    record {
-      inside = omega arith;
-      word = ap (slice_index c.words) place ∙ ap (λ n. slice_index c.words (base_at c.shape n + 3 + (1 + slot))) (sym same)
-          ∙ ap (λ b. slice_index c.words (cond b (base_at c.shape h.entry + 2) (base_at c.shape h.entry + 3 + (1 + slot)))) (sym other)
-          ∙ l.values (1 + slot) (omega arith) ∙ sym (ap (value_in (1 + slot)) here);
-    }
 
 -- value 0 under a tag that is found
 pub found-first : (tag e v : ℕ) (hs : List Held) → found_of (held_with tag hs) ≡ seek.Found e v → slice_index (values_under hs tag) 0 ≡ v

@@ -19,7 +19,7 @@ use xl_tagged::Smaller;
 /// `open`.
 #[derive(Drop)]
 pub struct Clustered {
-    chains: Chains<17>,
+    pub(crate) chains: Chains<17>,
     smaller: Smaller,
 }
 

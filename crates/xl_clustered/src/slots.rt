@@ -9,7 +9,7 @@ ghost use Rattle.xl_tagged.specs.Steps.{IsPut, IsSet, IsTaken, given_word};
 ghost use Rattle.xl_tagged.specs.Tagged.{AreSized};
 ghost use Rattle.xl_clustered.specs.Blocks.{AreBlocks, IsFull};
 
-use crate::block::{load_slot, new_block, rewrite};
+use crate::block::{new_block, rewrite};
 use xl_chain::{Chains, Seek};
 use xl_model::{Full, Leaf, Order, Perm};
 use xl_tagged::{give_perm, leaf_read, slot_of, tag_of};
@@ -105,7 +105,7 @@ fn probe_in(chains: &mut Chains<17>, tag: u64, slot: usize) -> u64
 {
     chains.words_read_back();
     match chains.probe(tag) {
-        Seek::Found { entry, .. } => load_slot(chains, entry, slot),
+        Seek::Found { entry, .. } => chains.load_value(entry, slot + 1),
         _ => 0,
     }
 }

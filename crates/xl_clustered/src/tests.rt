@@ -1,15 +1,24 @@
-//! Loads and refusals worked out by hand, in tables of one bucket; and a thousand leaves that come
-//! and go.
+//! Loads and refusals worked out by hand, in tables of one bucket; and what the words say after a
+//! thousand calls.
 
 ghost use Rattle.std.specs.Prelude.{◌≡◌, ◌<◌, ◌*◌, ◌^◌};
 
 use crate::Clustered;
 use std::test::Fail;
+use xl_chain::{Chains, Seek, seek};
 use xl_model::{Leaf, NoRoom, Order, Perm, Refused, Structure, Work, mix};
+use xl_phys::Bus;
 
 const READ: Perm = Perm {
     r: true,
     w: false,
+    x: false,
+    u: true,
+};
+
+const WRITE: Perm = Perm {
+    r: true,
+    w: true,
     x: false,
     u: true,
 };
@@ -38,6 +47,14 @@ fn removed(table: &mut Clustered, page: u64) -> Option<Result<Work, Refused>>
 {
     let leaf = table.leaf_at(1, page)?;
     Some(table.remove(leaf.space, leaf.first, leaf.order))
+}
+
+/// Lets the leaf of a page be written. None where there is none.
+fn opened(table: &mut Clustered, page: u64) -> Option<Result<Work, Refused>>
+    requires { page < 2 ^ 45 }
+{
+    let leaf = table.leaf_at(1, page)?;
+    Some(table.protect(leaf.space, leaf.first, leaf.order, WRITE))
 }
 
 /// Moves the leaf of a page to where leaf number `number` of its order is. None where that can't be
@@ -127,22 +144,81 @@ fn a_move_to_another_block_takes_the_old_one_away(rt: HostRuntime) -> Result<(),
     Ok(())
 }
 
+/// Whether call number `i` is answered as the leaves of `kept` ask for, each with whether it may be
+/// written: a leaf comes, may be written from now on, goes to another page, or goes. Pages are below 64.
+fn called(table: &mut Clustered, kept: &mut [Option<bool>; 64], i: u64) -> bool {
+    let done = Some(Ok(Work::none()));
+    let (page, to) = ((mix(i) % 64) as usize, (mix(i) / 64 % 64) as usize);
+    let Some(written) = kept[page] else {
+        kept[page] = Some(false);
+        return added(table, page as u64, Order::K4) == done;
+    };
+    match mix(i) / 4096 % 4 {
+        0 => {
+            kept[page] = Some(true);
+            opened(table, page as u64) == done
+        }
+        1 => {
+            kept[page] = None;
+            removed(table, page as u64) == done
+        }
+        _ => {
+            if kept[to].is_some() {
+                return moved(table, page as u64, to as u64) == None;
+            }
+            kept[page] = None;
+            kept[to] = Some(written);
+            moved(table, page as u64, to as u64) == done
+        }
+    }
+}
+
+/// The leaf of a page of 4 KiB.
+fn leaf_of(page: u64, written: bool) -> Leaf {
+    Leaf {
+        space: 1,
+        first: page,
+        order: Order::K4,
+        frame: 0,
+        perm: if written { WRITE } else { READ },
+    }
+}
+
+/// The entry of the block of a page of 4 KiB, in two buckets, and the word in the page's slot, as the
+/// words tell it: the heads are one line, an entry is five, and its slots begin in the second one.
+fn read(chains: &mut Chains<17>, page: u64) -> Option<(u32, u64)>
+    requires { page < 64 }
+{
+    let shape = chains.shape();
+    match seek(chains, shape, (1 << 45) + page / 16) {
+        Seek::Found { entry, .. } => {
+            let word = chains.word(4 + 20 * entry as usize + 4 + (page % 16) as usize)?;
+            Some((entry, word))
+        }
+        _ => None,
+    }
+}
+
 #[test]
-fn leaves_come_and_go(rt: HostRuntime) -> Result<(), Fail> {
+fn the_words_tell_what_a_thousand_calls_left(rt: HostRuntime) -> Result<(), Fail> {
     let mut table = Clustered::open(rt.alloc(), 2, 4)?;
-    let mut there = [false; 64];
+    let mut kept = [None; 64];
     for i in 0..1000 {
-        let page = mix(i) % 64;
-        let change = if there[page as usize] {
-            removed(&mut table, page)
-        } else {
-            added(&mut table, page, Order::K4)
-        };
-        assert_eq!(rt; change, Some(Ok(Work::none())));
-        there[page as usize] = !there[page as usize];
+        assert!(rt; called(&mut table, &mut kept, i), "call {i}");
     }
     for page in 0..64 {
-        assert_eq!(rt; table.leaf_at(1, page).is_some(), there[page as usize]);
+        let leaf = kept[page as usize].map(|written| leaf_of(page, written));
+        assert_eq!(rt; table.leaf_at(1, page), leaf);
+    }
+    let Clustered { mut chains, .. } = table;
+    for page in 0..64 {
+        let said = read(&mut chains, page);
+        assert_eq!(rt;
+            said.map(|(entry, _)| entry),
+            chains.find((1 << 45) + page / 16)
+        );
+        let word = kept[page as usize].map_or(0, |written| if written { 0xd7 } else { 0xd3 });
+        assert_eq!(rt; said.map_or(0, |(_, word)| word), word);
     }
     Ok(())
 }

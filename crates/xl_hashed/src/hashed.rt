@@ -18,7 +18,7 @@ use xl_tagged::Smaller;
 /// of the tag's bucket. Contracts see its chains. Nothing is allocated after `open`.
 #[derive(Drop)]
 pub struct Hashed {
-    chains: Chains<1>,
+    pub(crate) chains: Chains<1>,
     smaller: Smaller,
 }
 

@@ -1,4 +1,4 @@
-use Rattle.std.proofs.Common.{◌≡◌, sym, ap, ◌∙◌, ◌+◌, false, arith}
+use Rattle.std.proofs.Common.{◌≡◌, sym, ap, ◌∙◌, ◌+◌, false, lit<, arith}
 use Rattle.xl_chain.specs.Held.{ChainState, held_with, found_of, tags_of}
 use Rattle.xl_chain.specs.declared.shape.Seek.TheVariants as seek
 use Rattle.xl_model.specs.Chains.{has_tag}
@@ -10,21 +10,26 @@ use Rattle.std.specs.List.{list_any}
 use Rattle.xl_chain.specs.Held.{is_entry, value_of}
 use Rattle.xl_clustered.proofs.slots.probe_in.Goals as goal
 
-pub load_slot-requires-clause-held : goal.load_slot-requires-clause-held
-load_slot-requires-clause-held c =
+pub load_value-requires : goal.load_value-requires
+load_value-requires c =
     let d : ChainState = c.args.chains.now in
-    let f : found_of (held_with c.args.tag d.held) ≡ seek.Found c.in-Found.entry c.in-Found.value = sym c.probe.ensures.end ∙ c.in-Found.is in
-    ap (λ (q : ChainState). list_any (is_entry c.in-Found.entry) q.held) c.probe.ensures.after
-    ∙ entry-held c.args.tag c.in-Found.entry c.in-Found.value d.held (found-under c.args.tag d.held c.in-Found.entry c.in-Found.value f)
+    let f : found_of (held_with c.args.tag d.held) ≡ seek.Found c.in-Found.entry c.in-Found.value = sym c.probe.ensures.end ∙ c.in-Found.is in (
+      lit< tt,
+      (
+        ap (λ (q : ChainState). list_any (is_entry c.in-Found.entry) q.held) c.probe.ensures.after
+            ∙ entry-held c.args.tag c.in-Found.entry c.in-Found.value d.held (found-under c.args.tag d.held c.in-Found.entry c.in-Found.value f),
+        omega (arith, c.requires.slot),
+      ),
+    )
 
 pub returns-in-Found : goal.returns-in-Found
 returns-in-Found c =
     let d : ChainState = c.args.chains.now in
     let f : found_of (held_with c.args.tag d.held) ≡ seek.Found c.in-Found.entry c.in-Found.value = sym c.probe.ensures.end ∙ c.in-Found.is in
     record {
-      word = c.load_slot.ensures.word ∙ ap (λ (q : ChainState). value_of c.in-Found.entry (1 + c.args.slot) q.held) c.probe.ensures.after
-          ∙ ap (λ n. value_of c.in-Found.entry n d.held) (omega arith) ∙ slot-value c.args.tag c.in-Found.entry c.in-Found.value c.args.slot d.held c.words_read_back.ensures.single f;
-      after = c.load_slot.ensures.after ∙ ap (loaded_more 1) c.probe.ensures.after
+      word = c.load_value.ensures.value ∙ ap (λ (q : ChainState). value_of c.in-Found.entry (c.args.slot + 1) q.held) c.probe.ensures.after
+          ∙ slot-value c.args.tag c.in-Found.entry c.in-Found.value c.args.slot d.held c.words_read_back.ensures.single f;
+      after = c.load_value.ensures.after ∙ ap (loaded_more 1) c.probe.ensures.after
           ∙ ap (λ n. let r : ChainState = record d { loads = n } in r) (loads-found c.args.tag d (tag-held c.args.tag c.in-Found.entry c.in-Found.value d.held (found-under c.args.tag d.held c.in-Found.entry c.in-Found.value f)));
     }
 
