@@ -1,6 +1,8 @@
 -- Accesses that are served by one row after another.
-use Rattle.std.proofs.Common.{◌≡◌, refl, sym, ap, ◌∙◌, ℕ, List, [], ◌∷◌, Option, None, Some}
+use Rattle.std.proofs.Common.{◌≡◌, refl, sym, ap, ◌∙◌, subst, ℕ, suc, arith, List, [], ◌∷◌, Option, None, Some}
 use Rattle.std.specs.Prelude.{map}
+use Rattle.std.specs.List.{All}
+use Rattle.std.proofs.lemmas.List.Elements.{All-cons}
 use Rattle.xl_model.specs.declared.address.Kind.{Kind}
 use Rattle.xl_model.specs.declared.event.Event.TheVariants as event
 use Rattle.xl_model.specs.declared.event.Outcome.{Outcome}
@@ -16,6 +18,9 @@ use Rattle.xl_machine.specs.Served.{accessed_by, after_of}
 use Rattle.xl_serving.specs.declared.batch.Access.{Access}
 use Rattle.xl_serving.specs.Batches.{item_of, waited}
 use Rattle.xl_serving.specs.Serving.{scene_of}
+use Rattle.xl_rack.specs.declared.slot.Slot.{Slot}
+use Rattle.xl_rack.specs.Forms.{form_named}
+use Rattle.xl_rack.specs.Slots.{served_of, slot_form, IsNamed}
 use Rattle.xl_rack.specs.Batches.{demand_served, access_served, row_served}
 use Rattle.xl_rack.proofs.DemandLemmas.{access-space, referenced-is}
 
@@ -75,3 +80,18 @@ row-by-row (a ∷ accesses) areas rows =
     ap (λ (z : List Served). scene_of z areas) (sym (one-then a accesses areas rows))
     ∙ row-by-row accesses areas (map (access_served a.va a.kind areas) rows)
     ∙ ap (scenes_after (map item_of accesses)) (sym (scene-map a areas rows))
+
+row-stays : (accesses : List Access) (areas : List Area) (v : Served) → (row_served accesses areas v).row ≡ v.row
+row-stays [] areas v = refl
+row-stays (a ∷ accesses) areas v = row-stays accesses areas (access_served a.va a.kind areas v)
+
+-- a slot stays what its row names
+pub named-stays : (accesses : List Access) (areas : List Area) (s t : Slot) → served_of t ≡ row_served accesses areas (served_of s) → slot_form t ≡ slot_form s → IsNamed s → IsNamed t
+named-stays accesses areas s t after form named =
+    ap (λ (v : Served). form_named v.row) after ∙ ap form_named (row-stays accesses areas (served_of s)) ∙ named ∙ ap Some (sym form)
+
+-- each slot does, where the first and the others do
+pub named-each : (s t : Slot) (slots ss ts : List Slot) → slots ≡ s ∷ ss → (IsNamed s → IsNamed t) → (All IsNamed ss → All IsNamed ts) → All IsNamed slots → All IsNamed (t ∷ ts)
+named-each s t slots ss ts e f g h =
+    let all : All IsNamed (s ∷ ss) = subst (All IsNamed) e h in
+    All-cons IsNamed t ts (f (all 0 s (omega arith))) (g (λ k d less. all (suc k) d (omega arith)))

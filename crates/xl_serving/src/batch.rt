@@ -35,6 +35,7 @@ impl Default for Access {
 pub(crate) type Batch = ArrayVec<Access, 64>;
 
 /// Serves the accesses that wait.
+#[inline(never)]
 pub(crate) fn settle<R: Rows>(rows: &mut R, areas: &[Area], batch: &mut Batch)
     ensures served { scene_of (R.rows rows.new) areas.now
         ≡ waited batch.old.items (scene_of (R.rows rows.old) areas.now) }
@@ -45,7 +46,7 @@ pub(crate) fn settle<R: Rows>(rows: &mut R, areas: &[Area], batch: &mut Batch)
 }
 
 /// Serves the accesses that wait where there is no room for one more.
-#[inline]
+#[inline(always)]
 fn make_room<R: Rows>(rows: &mut R, areas: &[Area], batch: &mut Batch)
     ensures same { waited batch.new.items (scene_of (R.rows rows.new) areas.now)
         ≡ waited batch.old.items (scene_of (R.rows rows.old) areas.now) }
@@ -57,7 +58,7 @@ fn make_room<R: Rows>(rows: &mut R, areas: &[Area], batch: &mut Batch)
 }
 
 /// Lets an access wait.
-#[inline]
+#[inline(always)]
 fn put_off<R: Rows>(rows: &mut R, areas: &[Area], batch: &mut Batch, va: u64, kind: Kind)
     ensures { (number : ℕ) → waited batch.new.items (scene_of (R.rows rows.new) areas.now)
         ≡ scene_after (Referenced number va kind)
@@ -68,7 +69,7 @@ fn put_off<R: Rows>(rows: &mut R, areas: &[Area], batch: &mut Batch, va: u64, ki
 }
 
 /// Lets the accesses of a record wait.
-#[inline]
+#[inline(always)]
 pub(crate) fn put_off_record<R: Rows>(
     rows: &mut R,
     areas: &[Area],

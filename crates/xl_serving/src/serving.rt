@@ -200,7 +200,9 @@ fn serve_run<R: Rows, T: Trace, F: Folder, K: Sink>(
     Ok(())
 }
 
-/// Serves the accesses of a record. They may wait where no line is written.
+/// Serves the accesses of a record. They may wait where no line is written. In line, so that a record
+/// stays in registers.
+#[inline(always)]
 fn serve_record<R: Rows, K: Sink>(
     rows: &mut R,
     areas: &[Area],
@@ -225,6 +227,7 @@ fn serve_record<R: Rows, K: Sink>(
 }
 
 /// Serves the accesses of a record at once.
+#[inline(never)]
 fn tell_record<R: Rows, K: Sink>(
     rows: &mut R,
     areas: &[Area],

@@ -74,6 +74,7 @@ impl Trace for Tape {
         })
     }
 
+    #[inline(always)]
     fn next<F: Folder>(
         &mut self,
         folder: &mut F,
@@ -114,6 +115,7 @@ impl Tape {
     }
 
     /// Feeds the next piece of the file, or says that it has ended.
+    #[inline(never)]
     fn fill<F: Folder>(&mut self, folder: &mut F, name: &str) -> Result<(), TraceStop>
         requires unfinished { self.old.reader.finished ≡ false }
         requires room { length self.old.reader.held ≤ 258 }
