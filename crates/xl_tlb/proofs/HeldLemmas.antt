@@ -1,5 +1,5 @@
 -- How many leaves an array holds after a touch and after a fill, and a purge of none.
-use Rattle.std.proofs.Common.{◌≡◌, refl, sym, ap, ◌∙◌, ℕ, zero, suc, ◌+◌, ◌<◌, Bool, true, false, List, [], ◌∷◌, ◌++◌, length, map, take, drop, find, get_or, set, replicate, Option, None, Some, arith}
+use Rattle.std.proofs.Common.{◌≡◌, refl, sym, ap, ◌∙◌, ℕ, zero, suc, ◌+◌, ◌<◌, Bool, true, false, List, [], ◌∷◌, length, map, take, drop, find, get_or, set, replicate, Option, None, Some, arith}
 use Rattle.std.specs.Prelude.{option_to_list, is_none}
 use Rattle.std.proofs.lemmas.List.{length-map}
 use Rattle.std.specs.Option.{IfSome, IfNone}

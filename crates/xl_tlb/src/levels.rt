@@ -1,6 +1,7 @@
 //! The arrays of a row in levels.
 
-ghost use Rattle.std.specs.Prelude.{◌≡◌, ◌<◌, ◌≤◌, ◌^◌, ◌+◌, ◌*◌, length, map, count_by, slice_index_or, Some, IfOk, IfSome, IfNone};
+ghost use Rattle.std.specs.Prelude.{ℕ, true, ◌==◌, ◌≡◌, ◌<◌, ◌≤◌, ◌^◌, ◌+◌, ◌*◌, length, map, count_by, slice_index_or, Some, IfOk, IfSome, IfNone};
+ghost use Rattle.xl_model.specs.declared.leaf.Leaf.{Leaf};
 ghost use Rattle.xl_model.specs.Tlb.{answer_of, leaves_in, takes_leaf, array_filled, array_without, is_purged, reaches_leaf};
 ghost use Rattle.xl_tlb.specs.Arrays.{IsFit, InLimits};
 ghost use Rattle.xl_tlb.specs.Fronts.{IsFront};
@@ -188,6 +189,18 @@ impl Levels {
         ensures after { self.new ≡ tlb_fenced reach self.old }
     {
         fence_each(&mut self.arrays, reach)
+    }
+
+    /// Whether there are no arrays. Then a look and a fill change nothing.
+    #[inline]
+    pub fn is_bare(&self) -> bool
+        ensures is { result ≡ (length self.now.arrays == 0) }
+        ensures looked { result ≡ true → (space page : ℕ)
+            → self.now ≡ tlb_looked space page self.now }
+        ensures filled { result ≡ true → (leaf : Leaf) → self.now ≡ tlb_filled leaf self.now }
+    {
+        let _fills = self.fills;
+        self.arrays.is_empty()
     }
 
     /// The hits of each array, and 0 where there is none.
