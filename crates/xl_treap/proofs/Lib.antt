@@ -1,1 +1,6 @@
 pub mod WordLemmas
+pub mod SeekLemmas
+pub mod OrderLemmas
+pub mod AboveLemmas
+pub mod ReadLemmas
+pub mod FoundLemmas
