@@ -4,3 +4,5 @@ pub mod OrderLemmas
 pub mod AboveLemmas
 pub mod ReadLemmas
 pub mod FoundLemmas
+pub mod WayLemmas
+pub mod FrameLemmas

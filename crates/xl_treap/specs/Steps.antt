@@ -46,10 +46,14 @@ hung_right words n k at = if nat_lt (slice_index words (4 * n)) k then at else r
 abbrev pub SameLine : List ℕ → List ℕ → ℕ → Type 0
 SameLine old new m = (j : ℕ) → j < 4 → slice_index new (4 * m + j) ≡ slice_index old (4 * m + j)
 
+-- each number of a tree's nodes is so
+abbrev pub Each : (ℕ → Type 0) → Tree → Type 0
+Each P Tip = Unit {0}
+Each P (Bin m x l r) = P m × Each P l × Each P r
+
 -- a number is no node of a tree
 abbrev pub Off : ℕ → Tree → Type 0
-Off n Tip = Unit {0}
-Off n (Bin m x l r) = (m ≡ n → ⊥) × Off n l × Off n r
+Off n t = Each (λ m. m ≡ n → ⊥) t
 
 -- no words changed but those of the nodes of a tree
 pub record SameOff (t : Tree) (old new : List ℕ) : Type 0 where
