@@ -6,3 +6,4 @@ pub mod ReadLemmas
 pub mod FoundLemmas
 pub mod WayLemmas
 pub mod FrameLemmas
+pub mod CutLemmas

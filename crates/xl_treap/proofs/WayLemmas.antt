@@ -55,6 +55,7 @@ pub record IsUpTo (words path : List ℕ) (t : Tree) (k depth at : ℕ) : Type 0
   pub here : IsAt words at (down t k depth)
   pub few : depth + length (ranges (down t k depth)) ≤ length path
   pub nodes : (i : ℕ) → i < depth → IsAt words (slice_index path i) (down t k i)
+  pub some : (i : ℕ) → i < depth → 0 < slice_index path i
 
 pub up-to-more : (words path : List ℕ) (t : Tree) (k depth at : ℕ) → IsUpTo words path t k depth at → 0 < at → depth < length path
     → IsUpTo words (slice_set path depth at) t k (depth + 1) (step_at words (at - 1) k)
@@ -79,4 +80,33 @@ up-to-more words path t k depth at u some less =
           let I : ℕ → Type 0 = λ j. IsAt words (slice_index (slice_set path depth at) j) (down t k j) in
           subst I q (subst A (sym (get_or-set_same path depth at 0 less)) u.here)
       ];
+      some = λ i h. elim (side i depth) [
+        | inl lt ↦ let ne : i ≡ depth → ⊥ = (λ q. omega arith) in
+          let A : ℕ → Type 0 = λ a. 0 < a in
+          subst A (sym (get_or-set_other path depth i at 0 ne)) (u.some i lt)
+        | inr ge ↦ let q : depth ≡ i = omega arith in
+          let A : ℕ → Type 0 = λ a. 0 < a in
+          let I : ℕ → Type 0 = λ j. 0 < slice_index (slice_set path depth at) j in
+          subst I q (subst A (sym (get_or-set_same path depth at 0 less)) some)
+      ];
     }
+
+-- a tree on the way down lies between two keys, and is a heap
+pub order-down : (t : Tree) (k d low high : ℕ) → InOrder low high t → (a : ℕ) × (b : ℕ) × InOrder a b (down t k d)
+order-down t k zero low high o = (low, high, o)
+order-down Tip k (suc d) low high o = (low, high, o)
+order-down (Bin n x l r) k (suc d) low high (f, p, q) = by (nat_lt (range_key x) k) (order-down r k d (end_key x) high q) (order-down l k d low (range_key x) p)
+  where
+    by : (c : Bool) → (a : ℕ) × (b : ℕ) × InOrder a b (down r k d) → (a : ℕ) × (b : ℕ) × InOrder a b (down l k d)
+        → (a : ℕ) × (b : ℕ) × InOrder a b (cond c (down r k d) (down l k d))
+    by true u v = u
+    by false u v = v
+
+pub heap-down : (t : Tree) (k d : ℕ) → IsHeap t → IsHeap (down t k d)
+heap-down t k zero h = h
+heap-down Tip k (suc d) h = h
+heap-down (Bin n x l r) k (suc d) (o, p, a, b) = by (nat_lt (range_key x) k) (heap-down r k d b) (heap-down l k d a)
+  where
+    by : (c : Bool) → IsHeap (down r k d) → IsHeap (down l k d) → IsHeap (cond c (down r k d) (down l k d))
+    by true u v = u
+    by false u v = v

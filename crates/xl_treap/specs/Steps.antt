@@ -74,6 +74,7 @@ Keeps words (Bin n x l r) = IsNode words n x × Keeps words l × Keeps words r
 pub record IsWay (words path : List ℕ) (t : Tree) (k depth at : ℕ) : Type 0 where
   pub short : depth ≤ length path
   pub nodes : (i : ℕ) → i < depth → IsAt words (slice_index path i) (down t k i)
+  pub some : (i : ℕ) → i < depth → 0 < slice_index path i
   pub here : IsAt words at (down t k depth)
   pub ends : (at ≡ 0) ⊎ ((0 < at) × (slice_index words (4 * (at - 1)) ≡ k))
 

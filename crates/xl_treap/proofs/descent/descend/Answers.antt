@@ -25,4 +25,4 @@ returns g c =
     let v = subst D (sym n) u in
     let f = v.few in
     let none : c.down.at ≡ 0 = none-left c.args.words.now c.down.at (down g.tree c.args.key (length p)) v.here (omega arith) in
-    record { short = omega arith; nodes = v.nodes; here = v.here; ends = inl none }
+    record { short = omega arith; nodes = v.nodes; some = v.some; here = v.here; ends = inl none }
