@@ -80,7 +80,7 @@ linked-three old new n left right h m j l = h.others (4 * m + j) (λ q. omega ar
 
 -- the top of a tree with another tree on the side of a key
 abbrev pub with_child : ℕ → Tree → Tree → Tree
-with_child k Tip s = Tip
+with_child k Tip s = s
 with_child k (Bin n x l r) s = cond (nat_lt (range_key x) k) (Bin n x l s) (Bin n x s r)
 
 -- What stands after a tree was hung under a node: the node's tree so far, `base` its words before what is under it

@@ -7,3 +7,4 @@ pub mod FoundLemmas
 pub mod WayLemmas
 pub mod FrameLemmas
 pub mod CutLemmas
+pub mod GraftLemmas

@@ -58,7 +58,7 @@ down (Bin n x l r) k (suc d) = if nat_lt (range_key x) k then down r k d else do
 -- a tree with another one so many steps down
 abbrev pub graft : Tree → ℕ → ℕ → Tree → Tree
 graft t k zero s = s
-graft Tip k (suc d) s = Tip
+graft Tip k (suc d) s = s
 graft (Bin n x l r) k (suc d) s =
     if nat_lt (range_key x) k then Bin n x l (graft r k d s) else Bin n x (graft l k d s) r
 
