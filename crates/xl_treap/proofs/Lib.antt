@@ -8,3 +8,5 @@ pub mod WayLemmas
 pub mod FrameLemmas
 pub mod CutLemmas
 pub mod GraftLemmas
+pub mod AttachLemmas
+pub mod PutLemmas
