@@ -156,6 +156,7 @@ pub record CanPut (words : List ℕ) (root nodes : ℕ) (t : Tree) (n : ℕ) (x 
   pub stands : IsTree words root t
   pub few : length (ranges t) ≤ nodes
   pub empty : IsEmpty words n
+  pub small : n < 2 ^ 31
   pub apart : IsApart 0 (with_range x (ranges t))
 
 -- two trees stand in the words, the key between them
