@@ -10,3 +10,4 @@ pub mod CutLemmas
 pub mod GraftLemmas
 pub mod AttachLemmas
 pub mod PutLemmas
+pub mod KeptLemmas
