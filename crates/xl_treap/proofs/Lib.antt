@@ -11,3 +11,4 @@ pub mod GraftLemmas
 pub mod AttachLemmas
 pub mod PutLemmas
 pub mod KeptLemmas
+pub mod MergeLemmas

@@ -56,10 +56,11 @@ pub record IsUpTo (words path : List ℕ) (t : Tree) (k depth at : ℕ) : Type 0
   pub few : depth + length (ranges (down t k depth)) ≤ length path
   pub nodes : (i : ℕ) → i < depth → IsAt words (slice_index path i) (down t k i)
   pub some : (i : ℕ) → i < depth → 0 < slice_index path i
+  pub other : (i : ℕ) → i < depth → slice_index words (4 * (slice_index path i - 1)) ≡ k → ⊥
 
-pub up-to-more : (words path : List ℕ) (t : Tree) (k depth at : ℕ) → IsUpTo words path t k depth at → 0 < at → depth < length path
+pub up-to-more : (words path : List ℕ) (t : Tree) (k depth at : ℕ) → IsUpTo words path t k depth at → 0 < at → (slice_index words (4 * (at - 1)) ≡ k → ⊥) → depth < length path
     → IsUpTo words (slice_set path depth at) t k (depth + 1) (step_at words (at - 1) k)
-up-to-more words path t k depth at u some less =
+up-to-more words path t k depth at u some unlike less =
     let e : down t k (suc depth) ≡ child k (down t k depth) = down-next t k depth in
     let m : suc depth ≡ depth + 1 = omega arith in
     let D : ℕ → Type 0 = λ d. IsAt words (step_at words (at - 1) k) (down t k d) in
@@ -88,6 +89,15 @@ up-to-more words path t k depth at u some less =
           let A : ℕ → Type 0 = λ a. 0 < a in
           let I : ℕ → Type 0 = λ j. 0 < slice_index (slice_set path depth at) j in
           subst I q (subst A (sym (get_or-set_same path depth at 0 less)) some)
+      ];
+      other = λ i h. elim (side i depth) [
+        | inl lt ↦ let ne : i ≡ depth → ⊥ = (λ q. omega arith) in
+          let A : ℕ → Type 0 = λ a. slice_index words (4 * (a - 1)) ≡ k → ⊥ in
+          subst A (sym (get_or-set_other path depth i at 0 ne)) (u.other i lt)
+        | inr ge ↦ let q : depth ≡ i = omega arith in
+          let A : ℕ → Type 0 = λ a. slice_index words (4 * (a - 1)) ≡ k → ⊥ in
+          let I : ℕ → Type 0 = λ j. slice_index words (4 * (slice_index (slice_set path depth at) j - 1)) ≡ k → ⊥ in
+          subst I q (subst A (sym (get_or-set_same path depth at 0 less)) unlike)
       ];
     }
 

@@ -70,11 +70,13 @@ abbrev pub Keeps : List ℕ → Tree → Type 0
 Keeps words Tip = Unit {0}
 Keeps words (Bin n x l r) = IsNode words n x × Keeps words l × Keeps words r
 
--- The way down to a key: the links on it, and the one at its end, which is none or that of the key's node.
+-- The way down to a key: the links on it, to nodes of other keys, and the one at its end, which is none or that of the
+-- key's node.
 pub record IsWay (words path : List ℕ) (t : Tree) (k depth at : ℕ) : Type 0 where
   pub short : depth ≤ length path
   pub nodes : (i : ℕ) → i < depth → IsAt words (slice_index path i) (down t k i)
   pub some : (i : ℕ) → i < depth → 0 < slice_index path i
+  pub other : (i : ℕ) → i < depth → slice_index words (4 * (slice_index path i - 1)) ≡ k → ⊥
   pub here : IsAt words at (down t k depth)
   pub ends : (at ≡ 0) ⊎ ((0 < at) × (slice_index words (4 * (at - 1)) ≡ k))
 
@@ -164,14 +166,14 @@ pub record CanMerge (words : List ℕ) (low high nodes : ℕ) (pair : Pair) : Ty
   pub low_at : IsAt words low pair.low
   pub high_at : IsAt words high pair.high
   pub low_order : InOrder 0 pair.key pair.low
-  pub high_order : InOrder (suc pair.key) (2 ^ 58) pair.high
+  pub high_order : (top : ℕ) × InOrder (suc pair.key) top pair.high
   pub few : length (ranges pair.low) + length (ranges pair.high) ≤ nodes
 
 -- a spine of a tree to come
 pub record CanRise (words path : List ℕ) (t : Tree) (k depth at : ℕ) : Type 0 where
   pub spine : IsSpine words path t k depth at
   pub keeps : Keeps words t
-  pub order : InOrder 0 (2 ^ 58) t
+  pub order : (top : ℕ) × InOrder 0 top t
 
 -- a tree came to stand in the words
 pub record IsRisen (old new : List ℕ) (t : Tree) (at : ℕ) : Type 0 where
@@ -188,12 +190,18 @@ pub record CanTake (words : List ℕ) (root nodes : ℕ) (t : Tree) (k : ℕ) : 
 pub record IsTaken (old new : List ℕ) (t : Tree) (k root n : ℕ) : Type 0 where
   pub made : IsMade old new root n (without_range k (ranges t))
   pub free : IsEmpty new n
-  pub was : (IsEmpty old n → ⊥)
+  pub was : IsEmpty old n → ⊥
 
 -- a key's range can have so many pages
 pub record CanResize (words : List ℕ) (root nodes : ℕ) (t : Tree) (k pages : ℕ) : Type 0 where
   pub take : CanTake words root nodes t k
   pub apart : IsApart 0 (resized k pages (ranges t))
+
+-- a key's range has so many pages
+pub record IsResized (old new : List ℕ) (t : Tree) (root k pages : ℕ) : Type 0 where
+  pub node : ℕ
+  pub made : IsMade old new root node (resized k pages (ranges t))
+  pub was : IsEmpty old node → ⊥
 
 -- a tree of at most so many nodes stands in the words
 pub record CanLook (words : List ℕ) (root nodes : ℕ) (t : Tree) : Type 0 where

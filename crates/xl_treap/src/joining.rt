@@ -1,9 +1,8 @@
 //! A range taken out of a tree: the trees under its node are joined.
 
-ghost use Rattle.std.specs.Prelude.{ℕ, ◌≡◌, ◌<◌, ◌+◌, ◌*◌, ◌^◌, ◌≤◌, length};
-ghost use Rattle.xl_treap.specs.Treaps.{without_range, resized};
-ghost use Rattle.xl_treap.specs.Trees.{Tree, Pair, ranges, merge};
-ghost use Rattle.xl_treap.specs.Steps.{CanMerge, IsSpine, CanRise, IsRisen, CanTake, IsTaken, CanResize, IsMade};
+ghost use Rattle.std.specs.Prelude.{◌≡◌, ◌<◌, ◌+◌, ◌*◌, ◌^◌, ◌≤◌, length};
+ghost use Rattle.xl_treap.specs.Trees.{Tree, Pair, merge};
+ghost use Rattle.xl_treap.specs.Steps.{CanMerge, IsSpine, CanRise, IsRisen, CanTake, IsTaken, CanResize, IsResized};
 
 use crate::descent::{Way, attach, descend, parent_of};
 use crate::node::{hang, is_above, left_of, right_of, set_pages};
@@ -57,6 +56,18 @@ pub(crate) fn rise(words: &mut [u64], path: &[u32], way: Way, key: u64) -> u32
     at
 }
 
+/// Makes one tree of two, of which the second lies behind the first and the key between them. Answers
+/// the link to its top.
+pub(crate) fn join(words: &mut [u64], path: &mut [u32], low: u32, high: u32, key: u64) -> u32
+    ghost pair: { Pair }
+    requires merge { CanMerge words.old low high (length path.old) pair }
+    requires key { pair.key ≡ key }
+    ensures { IsRisen words.old words.new (merge pair.low pair.high) result }
+{
+    let spine = merge_down(words, path, low, high);
+    rise(words, path, spine, key)
+}
+
 /// The root of a tree from which a node was taken, and that node.
 #[derive(Clone, Copy)]
 pub(crate) struct Taken {
@@ -74,8 +85,7 @@ pub(crate) fn take_out(words: &mut [u64], path: &mut [u32], root: u32, key: u64)
     let node = way.at - 1;
     let parent = parent_of(path, way.depth);
     let (low, high) = (left_of(words, node), right_of(words, node));
-    let spine = merge_down(words, path, low, high);
-    let at = rise(words, path, spine, key);
+    let at = join(words, path, low, high, key);
     let root = attach(words, root, parent, key, at);
     set_pages(words, node, 0);
     Taken { root, node }
@@ -85,7 +95,7 @@ pub(crate) fn take_out(words: &mut [u64], path: &mut [u32], root: u32, key: u64)
 pub(crate) fn give_pages(words: &mut [u64], path: &mut [u32], root: u32, key: u64, pages: u64)
     ghost tree: { Tree }
     requires { CanResize words.old root (length path.old) tree key pages }
-    ensures { (n : ℕ) × IsMade words.old words.new root n (resized key pages (ranges tree)) }
+    ensures { IsResized words.old words.new tree root key pages }
 {
     let way = descend(words, path, root, key);
     set_pages(words, way.at - 1, pages);

@@ -14,7 +14,7 @@ step_of-at-requires g c = at-there c.args.words.now c.down.at (down g.tree c.arg
 pub down-preserved : goal.down-preserved
 down-preserved g c =
     let A : ℕ → Type 0 = λ a. IsUpTo c.args.words.now (slice_set c.down.path c.down.depth c.down.at) g.tree c.args.key (c.down.depth + 1) a in
-    subst A (sym c.step_of-at.ensures) (up-to-more c.args.words.now c.down.path g.tree c.args.key c.down.depth c.down.at c.down.invariant (omega arith) (omega arith))
+    subst A (sym c.step_of-at.ensures) (up-to-more c.args.words.now c.down.path g.tree c.args.key c.down.depth c.down.at c.down.invariant (omega arith) c.if-words-node.false (omega arith))
 
 pub returns : goal.returns
 returns g c =
@@ -25,4 +25,4 @@ returns g c =
     let v = subst D (sym n) u in
     let f = v.few in
     let none : c.down.at ≡ 0 = none-left c.args.words.now c.down.at (down g.tree c.args.key (length p)) v.here (omega arith) in
-    record { short = omega arith; nodes = v.nodes; some = v.some; here = v.here; ends = inl none }
+    record { short = omega arith; nodes = v.nodes; some = v.some; other = v.other; here = v.here; ends = inl none }
