@@ -12,3 +12,4 @@ pub mod AttachLemmas
 pub mod PutLemmas
 pub mod KeptLemmas
 pub mod MergeLemmas
+pub mod RiseLemmas

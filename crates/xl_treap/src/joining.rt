@@ -34,7 +34,7 @@ pub(crate) fn merge_down(words: &[u64], path: &mut [u32], low: u32, high: u32) -
     }
     Way {
         depth: path.len(),
-        at: if low == 0 { high } else { low },
+        at: high,
     }
 }
 
