@@ -13,3 +13,4 @@ pub mod PutLemmas
 pub mod KeptLemmas
 pub mod MergeLemmas
 pub mod RiseLemmas
+pub mod TakeLemmas
