@@ -142,6 +142,13 @@ at-key words at k (Bin n x l r) i h e = record {
   ];
 }
 
+attached-three : (old new : List ℕ) (root result p k at : ℕ) → IsAttached old new root result p k at → (m j : ℕ) → j < 3 → slice_index new (4 * m + j) ≡ slice_index old (4 * m + j)
+attached-three old new root result zero k at a m j h = ap (λ (w : List ℕ). slice_index w (4 * m + j)) a.0
+attached-three old new root result (suc p) k at a m j h = linked-three old new p _ _ a.0 m j h
+
+sized-line : (old new : List ℕ) (n pages m : ℕ) → IsSized old new n pages → (m ≡ n → ⊥) → SameLine old new m
+sized-line old new n pages m h ne = λ j l. h.others (4 * m + j) (λ q. ne (omega arith))
+
 module _ (w0 path : List ℕ) (root nodes : ℕ) (t : Tree) (k depth at : ℕ) (can : CanTake w0 root nodes t k) (way : IsWay w0 path t k depth at) where
   order : InOrder 0 (2 ^ 58) t
   order = order-apart t can.stands.apart
@@ -270,9 +277,6 @@ module _ (w0 path : List ℕ) (root nodes : ℕ) (t : Tree) (k depth at : ℕ) (
     abbrev whole : Tree
     whole = graft t k depth (merge low high)
 
-    front : Has k (ranges (down t k depth))
-    front = has
-
     merged-is : ranges (merge low high) ≡ without_range k (ranges (down t k depth))
     merged-is =
         let o = top-order in
@@ -296,3 +300,138 @@ module _ (w0 path : List ℕ) (root nodes : ℕ) (t : Tree) (k depth at : ℕ) (
     whole-heap =
         (heap-graft t (merge low high) k depth can.stands.heap (merge-heap low high top-heap.2 top-heap.3)
         (λ y o. let T : Tree → Type 0 = λ z. Over y z in let p = subst T take-key.is o in merge-over y low high p.1 p.2)).0
+
+    module _ (w2 w3 : List ℕ) (result : ℕ) (put : IsAttached w1 w2 root result (parent_at path depth) k top) (sized : IsSized w2 w3 (at - 1) 0) where
+      now : Attached w0 w2 t k depth (merge low high) result
+      now = attached w0 w1 w2 path 0 (2 ^ 58) root result k depth top t (merge low high) can.stands.at order take-parent under-off both.here put
+
+      gone : node ≡ at - 1
+      gone = let z = take-key.link in omega arith
+
+      key-stays : slice_index w2 (4 * (at - 1)) ≡ k
+      key-stays =
+          let z : 4 * (at - 1) + 0 ≡ 4 * (at - 1) = omega arith in
+          let N : ℕ → Type 0 = λ n. slice_index w0 (4 * n) ≡ range_key range in
+          ap (slice_index w2) (sym z) ∙ attached-three w1 w2 root result (parent_at path depth) k top put (at - 1) 0 (omega arith) ∙ both.but.kept (at - 1) 0 (omega arith)
+          ∙ ap (slice_index w0) z ∙ subst N gone top-at.1.key_is ∙ take-key.key
+
+      gone-off : Off (at - 1) whole
+      gone-off = off-miss w2 (at - 1) k whole key-stays (at-keeps w2 result whole now.here)
+          (λ y i e. let I : List Range → Type 0 = λ zs. In y zs in without-misses 0 k y (ranges t) (omega arith) can.stands.apart (subst I whole-ranges i) e)
+
+      pub take-made : IsTaken w0 w3 t k result (at - 1)
+      take-made =
+          let A : List Range → Type 0 = λ zs. IsApart 0 zs in
+          let len : length w3 ≡ length w0 = sized.len ∙ now.off.len in
+          let N : ℕ → Type 0 = λ n. slice_index w0 (4 * n + 1) ≡ range.pages in
+          let pages : slice_index w0 (4 * (at - 1) + 1) ≡ range.pages = subst N gone top-at.1.pages_is in
+          let o = top-order in
+          let some = o.2.0.some in
+          record {
+            made = record {
+              tree = whole;
+              stands = record {
+                at = frame w2 w3 result whole sized.len (each-map (λ m. m ≡ at - 1 → ⊥) (SameLine w2 w3) whole (λ m ne. sized-line w2 w3 (at - 1) 0 m sized ne) gone-off) now.here;
+                heap = whole-heap;
+                apart = subst A (sym whole-ranges) (without-apart 0 k (ranges t) can.stands.apart);
+              };
+              holds = whole-ranges;
+              len = len;
+              others = λ e ne empty.
+                  let off : Off e t = off-empty w0 e 0 (2 ^ 58) t empty (at-keeps w0 root t can.stands.at) order in
+                  let there = empty.there in
+                  record { there = omega arith; none = sized-line w2 w3 (at - 1) 0 e sized ne 1 (omega arith) ∙ now.off.same e off 1 (omega arith) ∙ empty.none };
+            };
+            free = record { there = (let a = take-there in omega arith); none = sized.is };
+            was = λ empty. let e = empty.none in omega arith;
+          }
+
+  -- other pages for the range
+  module _ (w1 : List ℕ) (pages : ℕ) (apart : IsApart 0 (resized k pages (ranges t))) (sized : IsSized w0 w1 (at - 1) pages) where
+    abbrev other : Range
+    other = record range { pages = pages }
+
+    abbrev changed : Tree
+    changed = Bin node other low high
+
+    own-node : node ≡ at - 1
+    own-node = let z = take-key.link in omega arith
+
+    sized-node : IsSized w0 w1 node pages
+    sized-node = let S : ℕ → Type 0 = λ z. IsSized w0 w1 z pages in subst S (sym own-node) sized
+
+    same-word : node_word other ≡ node_word range
+    unfolding node_word
+    same-word = refl
+
+    stays : (s : Tree) → Off node s → Each (SameLine w0 w1) s
+    stays s o = each-map (λ m. m ≡ node → ⊥) (SameLine w0 w1) s (λ m ne. sized-line w0 w1 node pages m sized-node ne) o
+
+    changed-at : IsAt w1 at changed
+    changed-at =
+        let o = top-order in
+        let keep = at-keeps w0 at (Bin node range low high) top-at in
+        let some = o.2.0.some in
+        let there = top-at.1.there in
+        let len = sized-node.len in
+        let off-low : Off node low = off-key w0 node (range_key range) o.0 (range_key range) low top-at.1.key_is keep.1 o.2.1 (inr (omega arith)) in
+        let off-high : Off node high = off-key w0 node (range_key range) (end_key range) o.1 high top-at.1.key_is keep.2 o.2.2 (inl (omega arith)) in
+        let link : slice_index w1 (4 * node + 3) ≡ slice_index w0 (4 * node + 3) = sized-node.others (4 * node + 3) (λ q. omega arith) in
+        let L : ℕ → Type 0 = λ z. IsAt w1 (z % 2 ^ 32) low in
+        let R : ℕ → Type 0 = λ z. IsAt w1 (z / 2 ^ 32) high in (
+          top-at.0,
+          record {
+            there = omega arith;
+            key_is = sized-node.others (4 * node) (λ q. omega arith) ∙ top-at.1.key_is;
+            pages_is = sized-node.is;
+            word_is = sized-node.others (4 * node + 2) (λ q. omega arith) ∙ top-at.1.word_is ∙ sym same-word;
+          },
+          subst L (sym link) (frame w0 w1 (left_at w0 node) low len (stays low off-low) top-at.2),
+          subst R (sym link) (frame w0 w1 (right_at w0 node) high len (stays high off-high) top-at.3),
+        )
+
+    changed-off : SameOff (down t k depth) w0 w1
+    changed-off =
+        let T : Tree → Type 0 = λ z. SameOff z w0 w1 in
+        subst T (sym take-key.is) (record { len = sized-node.len; same = λ m o. sized-line w0 w1 node pages m sized-node (λ e. o.0 (sym e)) })
+
+    changed-is : ranges changed ≡ resized k pages (ranges (down t k depth))
+    changed-is =
+        let o = top-order in
+        let e : (range_key range == k) ≡ true = alike (range_key range) k take-key.key in
+        let q = take-key.key in
+        ap (λ c. ranges low ++ cond c (other ∷ ranges high) (range ∷ resized k pages (ranges high))) (sym e)
+        ∙ sym (front-low (ranges low) (λ z i. let a = order-In o.0 (range_key range) z low o.2.1 i in let b = a.to_high in let c = a.fit.some in omega arith))
+        ∙ ap (λ z. resized k pages (ranges z)) (sym take-key.is)
+      where
+        front-low : (ls : List Range) → ((z : Range) → In z ls → range_key z < k) → resized k pages (ls ++ range ∷ ranges high) ≡ ls ++ resized k pages (range ∷ ranges high)
+        front-low [] f = refl
+        front-low (y ∷ ls) f =
+            let u : (range_key y == k) ≡ false = unlike (range_key y) k (λ q. let z = f y (inl refl) in omega arith) in
+            ap (λ c. cond c (record y { pages = pages } ∷ (ls ++ range ∷ ranges high)) (y ∷ resized k pages (ls ++ range ∷ ranges high))) u ∙ ap (λ zs. y ∷ zs) (front-low ls (λ z i. f z (inr i)))
+
+    resized-is : ranges (graft t k depth changed) ≡ resized k pages (ranges t)
+    resized-is = graft-resized k pages 0 (2 ^ 58) t changed depth order has changed-is
+
+    pub resize-made : IsResized w0 w1 t root k pages
+    resize-made =
+        let A : List Range → Type 0 = λ zs. IsApart 0 zs in
+        let o = top-order in
+        let some = o.2.0.some in
+        let pages-are = top-at.1.pages_is in
+        let len = sized-node.len in
+        record {
+          node = node;
+          made = record {
+            tree = graft t k depth changed;
+            stands = record {
+              at = lift w0 w1 0 (2 ^ 58) root at k depth t changed can.stands.at order way.here changed-off changed-at;
+              heap = (heap-graft t changed k depth can.stands.heap top-heap (λ y p. let T : Tree → Type 0 = λ z. Over y z in subst T take-key.is p)).0;
+              apart = subst A (sym resized-is) apart;
+            };
+            holds = resized-is;
+            len = len;
+            others = λ e ne empty. let there = empty.there in record { there = omega arith; none = sized-line w0 w1 node pages e sized-node ne 1 (omega arith) ∙ empty.none };
+          };
+          was = λ empty. let e = empty.none in omega arith;
+        }
