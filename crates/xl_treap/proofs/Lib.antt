@@ -14,3 +14,4 @@ pub mod KeptLemmas
 pub mod MergeLemmas
 pub mod RiseLemmas
 pub mod TakeLemmas
+pub mod BesideLemmas
