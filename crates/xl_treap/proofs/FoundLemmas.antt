@@ -16,7 +16,7 @@ use Rattle.xl_treap.proofs.SeekLemmas.{from-none, from-visit}
 use Rattle.xl_treap.proofs.OrderLemmas.{pick-yes, pick-no, side, sizes, order-In}
 use Rattle.xl_treap.proofs.ReadLemmas.{examined}
 
-none-at : (d : ℕ) (words : List ℕ) → tree_at d words 0 ≡ Tip
+pub none-at : (d : ℕ) (words : List ℕ) → tree_at d words 0 ≡ Tip
 none-at zero words = refl
 none-at (suc d) words = refl
 

@@ -15,3 +15,4 @@ pub mod MergeLemmas
 pub mod RiseLemmas
 pub mod TakeLemmas
 pub mod BesideLemmas
+pub mod BackLemmas
