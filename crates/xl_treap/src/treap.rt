@@ -139,8 +139,9 @@ impl Treap {
         requires { list_any (has_key (key_at space start)) self.old.seen.kept ≡ true }
         ensures { self.new.seen ≡ keeping self.old.seen (without_range (key_at space start) self.old.seen.kept) }
     {
+        let root = self.root;
         let key = key_of(space, start);
-        let taken = take_out(&mut self.words, &mut self.path, self.root, key);
+        let taken = take_out(&mut self.words, &mut self.path, root, key);
         self.root = taken.root;
         match self.free.push(taken.node) {
             Ok(()) => (),
@@ -155,8 +156,9 @@ impl Treap {
         requires apart { IsApart 0 (resized (key_at space start) pages self.old.seen.kept) }
         ensures { self.new.seen ≡ keeping self.old.seen (resized (key_at space start) pages self.old.seen.kept) }
     {
+        let root = self.root;
         let key = key_of(space, start);
-        give_pages(&mut self.words, &mut self.path, self.root, key, pages);
+        give_pages(&mut self.words, &mut self.path, root, key, pages);
     }
 
     /// The range that holds the page, None exactly where there is none.
