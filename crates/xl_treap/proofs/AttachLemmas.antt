@@ -94,10 +94,11 @@ parent-there base w path t s k (suc d) p len =
 pub off-empty : (words : List ℕ) (n low high : ℕ) (t : Tree) → IsEmpty words n → Keeps words t → InOrder low high t → Off n t
 off-empty words n low high Tip e k o = tt
 off-empty words n low high (Bin m x l r) e (i, a, b) (f, p, q) =
-    let some = f.some in
-    (λ z. let w : x.pages ≡ 0 = sym i.pages_is ∙ ap (λ m. slice_index words (4 * m + 1)) z ∙ e.none in omega arith,
+    let some = f.some in (
+      λ z. let w : x.pages ≡ 0 = sym i.pages_is ∙ ap (λ m. slice_index words (4 * m + 1)) z ∙ e.none in omega arith,
       off-empty words n low (range_key x) l e a p,
-      off-empty words n (end_key x) high r e b q)
+      off-empty words n (end_key x) high r e b q,
+    )
 
 pub lined-line : (old new : List ℕ) (n : ℕ) (x : Range) (m : ℕ) → IsLined old new n x → (m ≡ n → ⊥) → SameLine old new m
 lined-line old new n x m h ne = λ j l. h.others m j l ne

@@ -77,8 +77,8 @@ opened words free nodes count room w f n few room-in =
     let O : List ℕ → Type 0 = λ fs. Once fs in
     let C : ℕ → Type 0 = λ m. IsKept words 0 m free room in
     let each : (e : ℕ) → In e free → IsEmpty words e = (λ e i.
-        let F : List ℕ → Type 0 = λ fs. In e fs in
-        let less : e < nodes = upto-In e nodes (subst F f i) in
-        record { there = omega arith; none = ap (λ (ws : List ℕ). slice_index ws (4 * e + 1)) w ∙ get_or-replicate (4 * nodes) (4 * e + 1) 0 0 (omega arith) }) in
+    let F : List ℕ → Type 0 = λ fs. In e fs in
+    let less : e < nodes = upto-In e nodes (subst F f i) in
+    record { there = omega arith; none = ap (λ (ws : List ℕ). slice_index ws (4 * e + 1)) w ∙ get_or-replicate (4 * nodes) (4 * e + 1) 0 0 (omega arith) }) in
     let h = stands-treap words 0 nodes free Tip (record { at = refl; heap = tt; apart = tt }) size (omega arith) (subst O (sym f) (upto-once nodes)) each in
     subst C (sym n) (h.treap, few, room-in)

@@ -94,12 +94,13 @@ below-node words k at low high (Bin n x l r) o p i some ord lt =
     let said : range_of_link words at ≡ Some x = ap (range_of_link words) i.0 ∙ node-said words n x i.1 ord.0 in
     let R : ℕ → Type 0 = λ z. IsAt words (right_at words z) r in
     let T : Tree → Type 0 = λ z. IsAt words (right_at words (at - 1)) z in
-    let L : Tree → Type 0 = λ z. length (ranges z) < length (ranges (Bin n x l r)) in
-    (subst T (sym c) (subst R (sym m) i.3),
+    let L : Tree → Type 0 = λ z. length (ranges z) < length (ranges (Bin n x l r)) in (
+      subst T (sym c) (subst R (sym m) i.3),
       subst L (sym c) (omega (arith, sizes n x l r)),
       ap (λ q. or_else q o) (last-here k (ranges l) x (ranges r) before less) ∙ or-last x (last_below k (ranges r)) o
-      ∙ ap (λ q. or_else (last_below k (ranges r)) q) (sym said) ∙ ap (λ z. or_else (last_below k (ranges z)) (range_of_link words at)) (sym c),
-      ap (λ q. or_else q p) (first-behind k (ranges l) x (ranges r) before less) ∙ ap (λ z. or_else (first_from k (ranges z)) p) (sym c))
+          ∙ ap (λ q. or_else (last_below k (ranges r)) q) (sym said) ∙ ap (λ z. or_else (last_below k (ranges z)) (range_of_link words at)) (sym c),
+      ap (λ q. or_else q p) (first-behind k (ranges l) x (ranges r) before less) ∙ ap (λ z. or_else (first_from k (ranges z)) p) (sym c),
+    )
 
 -- and one whose key is not
 above-node : (words : List ℕ) (k at low high : ℕ) (s : Tree) (o p : Option Range) → IsAt words at s → 0 < at → InOrder low high s → k ≤ slice_index words (4 * (at - 1))
@@ -116,12 +117,13 @@ above-node words k at low high (Bin n x l r) o p i some ord ge =
     let said : range_of_link words at ≡ Some x = ap (range_of_link words) i.0 ∙ node-said words n x i.1 ord.0 in
     let R : ℕ → Type 0 = λ z. IsAt words (left_at words z) l in
     let T : Tree → Type 0 = λ z. IsAt words (left_at words (at - 1)) z in
-    let L : Tree → Type 0 = λ z. length (ranges z) < length (ranges (Bin n x l r)) in
-    (subst T (sym c) (subst R (sym m) i.2),
+    let L : Tree → Type 0 = λ z. length (ranges z) < length (ranges (Bin n x l r)) in (
+      subst T (sym c) (subst R (sym m) i.2),
       subst L (sym c) (omega (arith, sizes n x l r)),
       ap (λ q. or_else q o) (last-before k (ranges l) x (ranges r) more) ∙ ap (λ z. or_else (last_below k (ranges z)) o) (sym c),
       ap (λ q. or_else q p) (first-here k (ranges l) x (ranges r) more) ∙ or-twice x (first_from k (ranges l)) p
-      ∙ ap (λ q. or_else (first_from k (ranges l)) q) (sym said) ∙ ap (λ z. or_else (first_from k (ranges z)) (range_of_link words at)) (sym c))
+          ∙ ap (λ q. or_else (first_from k (ranges l)) q) (sym said) ∙ ap (λ z. or_else (first_from k (ranges z)) (range_of_link words at)) (sym c),
+    )
 
 module _ (words : List ℕ) (t : Tree) (k depth nodes at root : ℕ) (found : Beside) (can : CanLook words root nodes t) (b : IsBetween words t k depth nodes at found) (some : 0 < at) where
   pub between-there : 4 * (at - 1) + 4 ≤ length words

@@ -49,7 +49,7 @@ cut-below old w new at k bound top low high (Bin n x l r) i some o c lt link =
     let fit = o.0.some in
     let off-r : Off n r = off-key old n (range_key x) (end_key x) top r i.1.key_is keep.2 o.2 (inl (omega arith)) in
     let h : Hung old new k n (Bin n x l r) (cut_low k r) =
-        hung-low old w new bound top k n low x l r (cut_low k r) keep o lk d.lows (each-low (λ m. m ≡ n → ⊥) k r off-r) less d.but.off i.2 in
+    hung-low old w new bound top k n low x l r (cut_low k r) keep o lk d.lows (each-low (λ m. m ≡ n → ⊥) k r off-r) less d.but.off i.2 in
     let A : ℕ → Type 0 = λ a. IsAt new a (cut_low k (Bin n x l r)) in
     let T : Tree → Type 0 = λ s. IsAt new (suc n) s in
     let H : Tree → Type 0 = λ s. IsAt new high s in
@@ -79,7 +79,7 @@ cut-above old w new at k bound top low high (Bin n x l r) i some o c ge link =
     let keep = at-keeps old at (Bin n x l r) i in
     let off-l : Off n l = off-key old n (range_key x) bound (range_key x) l i.1.key_is keep.1 o.1 (inr (omega arith)) in
     let h : Hung old new k n (Bin n x l r) (cut_high k l) =
-        hung-high old w new bound top k n high x l r (cut_high k l) keep o lk d.highs (each-high (λ m. m ≡ n → ⊥) k l off-l) more d.but.off i.3 in
+    hung-high old w new bound top k n high x l r (cut_high k l) keep o lk d.highs (each-high (λ m. m ≡ n → ⊥) k l off-l) more d.but.off i.3 in
     let A : ℕ → Type 0 = λ a. IsAt new a (cut_high k (Bin n x l r)) in
     let T : Tree → Type 0 = λ s. IsAt new (suc n) s in
     let H : Tree → Type 0 = λ s. IsAt new low s in
@@ -122,11 +122,14 @@ tip-of words (Bin n x l r) i = absurd (let e = i.0 in omega arith)
 pub cut-none : (words : List ℕ) (k : ℕ) (t : Tree) → IsAt words 0 t → IsCut words words 0 0 k t × Over k t
 cut-none words k t i =
     let C : Tree → Type 0 = λ s. IsCut words words 0 0 k s × Over k s in
-    subst C (sym (tip-of words t i)) (record {
-      lows = refl;
-      highs = refl;
-      but = record { off = record { len = refl; same = λ m o j l. refl }; kept = λ m j l. refl };
-    }, tt)
+    subst C (sym (tip-of words t i)) (
+      record {
+        lows = refl;
+        highs = refl;
+        but = record { off = record { len = refl; same = λ m o j l. refl }; kept = λ m j l. refl };
+      },
+      tt,
+    )
 
 -- One node of a way on which a tree is parted.
 module _ (old w path : List ℕ) (t : Tree) (k depth d low high : ℕ) (can : CanPart old path t k depth) (up : 0 < d) (le : d ≤ depth)

@@ -113,18 +113,18 @@ found-is low high (Bin n x l r) space page (f, p, q) h =
     let k : ℕ = key_at space page in
     let some : 0 < x.pages = f.some in
     let behind : range_key x ≤ k → find (holds_page space page) (ranges l ++ x ∷ ranges r) ≡ find (holds_page space page) (x ∷ ranges r) =
-        (λ ge. find-behind (holds_page space page) (ranges l) (x ∷ ranges r) (λ z i. let a = order-In low (range_key x) z l p i in let b = a.to_high in holds-behind space page z (omega arith))) in
+    (λ ge. find-behind (holds_page space page) (ranges l) (x ∷ ranges r) (λ z i. let a = order-In low (range_key x) z l p i in let b = a.to_high in holds-behind space page z (omega arith))) in
     elim (side k (range_key x)) [
       | inl lt ↦ pick-yes k (range_key x) _ _ lt ∙ found-is low (range_key x) l space page p h
-        ∙ sym (find-before (holds_page space page) (ranges l) (x ∷ ranges r)
-            (λ z i. elim i [
-              | inl e ↦ let P : Range → Type 0 = λ w. holds_page space page w ≡ false in subst P (sym e) (holds-below space page x lt)
-              | inr j ↦ let a = order-In (end_key x) high z r q j in let b = a.from_low in holds-below space page z (omega arith)
-            ]))
+          ∙ sym (find-before (holds_page space page) (ranges l) (x ∷ ranges r)
+          (λ z i. elim i [
+            | inl e ↦ let P : Range → Type 0 = λ w. holds_page space page w ≡ false in subst P (sym e) (holds-below space page x lt)
+            | inr j ↦ let a = order-In (end_key x) high z r q j in let b = a.from_low in holds-below space page z (omega arith)
+          ]))
       | inr ge ↦ pick-no k (range_key x) _ _ ge ∙ elim (side (k - range_key x) x.pages) [
         | inl lt ↦ pick-yes (k - range_key x) x.pages _ _ lt
-          ∙ sym (behind ge ∙ (let e : holds_page space page x ≡ true = holds-yes space page x f h ge (omega arith) in rw e refl))
+            ∙ sym (behind ge ∙ (let e : holds_page space page x ≡ true = holds-yes space page x f h ge (omega arith) in rw e refl))
         | inr le ↦ pick-no (k - range_key x) x.pages _ _ le ∙ found-is (end_key x) high r space page q h
-          ∙ sym (behind ge ∙ (let e : holds_page space page x ≡ false = holds-behind space page x (omega arith) in rw e refl))
+            ∙ sym (behind ge ∙ (let e : holds_page space page x ≡ false = holds-behind space page x (omega arith) in rw e refl))
       ]
     ]

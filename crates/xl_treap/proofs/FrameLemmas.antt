@@ -110,13 +110,13 @@ module _ (base old new : List ℕ) (low high k p b : ℕ) (x : Range) (l r s : T
       let line : SameLine base old p = so.same p off-high in
       let key : IsNode old p x = node-old line so.len in
       let left : left_at new p ≡ left_at base p =
-          link.left_is ∙ ap (λ z. cond (nat_lt z k) (left_at old p) b) key.key_is ∙ pick-yes (range_key x) k _ _ lt ∙ ap (λ z. z % 2 ^ 32) (line 3 (omega arith)) in
+      link.left_is ∙ ap (λ z. cond (nat_lt z k) (left_at old p) b) key.key_is ∙ pick-yes (range_key x) k _ _ lt ∙ ap (λ z. z % 2 ^ 32) (line 3 (omega arith)) in
       let right : right_at new p ≡ b = link.right_is ∙ ap (λ z. cond (nat_lt z k) b (right_at old p)) key.key_is ∙ pick-yes (range_key x) k _ _ lt in
       let apart : Each (λ m. Off m r) l = each-off base low (range_key x) (end_key x) high l r keeps.1 order.1 keeps.2 order.2 (inl (omega arith)) in
       let stay : Each (SameLine base new) l =
-          each-map (λ m. Off m r × (m ≡ p → ⊥)) (SameLine base new) l
-          (λ m h. line-chain base old new m (so.same m h.0) (linked-line old new p _ _ m link h.1))
-          (each-both (λ m. Off m r) (λ m. m ≡ p → ⊥) l apart off-low) in
+      each-map (λ m. Off m r × (m ≡ p → ⊥)) (SameLine base new) l
+      (λ m h. line-chain base old new m (so.same m h.0) (linked-line old new p _ _ m link h.1))
+      (each-both (λ m. Off m r) (λ m. m ≡ p → ⊥) l apart off-low) in
       let L : ℕ → Type 0 = λ z. IsAt new z l in
       let R : ℕ → Type 0 = λ z. IsAt new z s in
       let T : Tree → Type 0 = λ t. IsAt new (suc p) t in
@@ -135,13 +135,13 @@ module _ (base old new : List ℕ) (low high k p b : ℕ) (x : Range) (l r s : T
       let line : SameLine base old p = so.same p off-low in
       let key : IsNode old p x = node-old line so.len in
       let right : right_at new p ≡ right_at base p =
-          link.right_is ∙ ap (λ z. cond (nat_lt z k) b (right_at old p)) key.key_is ∙ pick-no (range_key x) k _ _ ge ∙ ap (λ z. z / 2 ^ 32) (line 3 (omega arith)) in
+      link.right_is ∙ ap (λ z. cond (nat_lt z k) b (right_at old p)) key.key_is ∙ pick-no (range_key x) k _ _ ge ∙ ap (λ z. z / 2 ^ 32) (line 3 (omega arith)) in
       let left : left_at new p ≡ b = link.left_is ∙ ap (λ z. cond (nat_lt z k) (left_at old p) b) key.key_is ∙ pick-no (range_key x) k _ _ ge in
       let apart : Each (λ m. Off m l) r = each-off base (end_key x) high low (range_key x) r l keeps.2 order.2 keeps.1 order.1 (inr (omega arith)) in
       let stay : Each (SameLine base new) r =
-          each-map (λ m. Off m l × (m ≡ p → ⊥)) (SameLine base new) r
-          (λ m h. line-chain base old new m (so.same m h.0) (linked-line old new p _ _ m link h.1))
-          (each-both (λ m. Off m l) (λ m. m ≡ p → ⊥) r apart off-high) in
+      each-map (λ m. Off m l × (m ≡ p → ⊥)) (SameLine base new) r
+      (λ m h. line-chain base old new m (so.same m h.0) (linked-line old new p _ _ m link h.1))
+      (each-both (λ m. Off m l) (λ m. m ≡ p → ⊥) r apart off-high) in
       let L : ℕ → Type 0 = λ z. IsAt new z s in
       let R : ℕ → Type 0 = λ z. IsAt new z r in
       let T : Tree → Type 0 = λ t. IsAt new (suc p) t in

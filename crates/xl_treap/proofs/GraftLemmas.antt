@@ -101,10 +101,14 @@ without-behind k [] x rs h = absurd h.1
 without-behind k (y ∷ ls) x rs (z, i, e) =
     elim (range_key y == k) as (λ b. (range_key y == k) ≡ b → cond b (ls ++ x ∷ rs) (y ∷ without_range k (ls ++ x ∷ rs)) ≡ cond b ls (y ∷ without_range k ls) ++ x ∷ rs) [
       | true ↦ λ t. refl
-      | false ↦ λ t. ap (λ zs. y ∷ zs) (without-behind k ls x rs (z, elim i [
+      | false ↦ λ t. ap (λ zs. y ∷ zs) (without-behind k ls x rs (
+        z,
+        elim i [
           | inl q ↦ let P : Range → Type 0 = λ w. range_key w ≡ k in let u : (range_key y == k) ≡ true = alike (range_key y) k (subst P q e) in absurd (cc)
           | inr j ↦ j
-        ], e))
+        ],
+        e,
+      ))
     ] refl
 
 resized-front : (k pages : ℕ) (y : Range) (ys : List Range) → range_key y < k → resized k pages (y ∷ ys) ≡ y ∷ resized k pages ys
@@ -115,10 +119,14 @@ resized-behind k pages [] x rs h = absurd h.1
 resized-behind k pages (y ∷ ls) x rs (z, i, e) =
     elim (range_key y == k) as (λ b. (range_key y == k) ≡ b → cond b (record y { pages = pages } ∷ (ls ++ x ∷ rs)) (y ∷ resized k pages (ls ++ x ∷ rs)) ≡ cond b (record y { pages = pages } ∷ ls) (y ∷ resized k pages ls) ++ x ∷ rs) [
       | true ↦ λ t. refl
-      | false ↦ λ t. ap (λ zs. y ∷ zs) (resized-behind k pages ls x rs (z, elim i [
+      | false ↦ λ t. ap (λ zs. y ∷ zs) (resized-behind k pages ls x rs (
+        z,
+        elim i [
           | inl q ↦ let P : Range → Type 0 = λ w. range_key w ≡ k in let u : (range_key y == k) ≡ true = alike (range_key y) k (subst P q e) in absurd (cc)
           | inr j ↦ j
-        ], e))
+        ],
+        e,
+      ))
     ] refl
 
 pub graft-with : (new : Range) (low high : ℕ) (t s : Tree) (d : ℕ) → InOrder low high t → ranges s ≡ with_range new (ranges (down t (range_key new) d))
@@ -163,7 +171,7 @@ heap-graft t s k zero h g f = (g, f)
 heap-graft Tip s k (suc d) h g f = (g, f)
 heap-graft (Bin n x l r) s k (suc d) (o, p, a, b) g f =
     elim (nat_lt (range_key x) k) as (λ c. ((y : ℕ) → Over y (cond c (down r k d) (down l k d)) → Over y s)
-        → IsHeap (cond c (Bin n x l (graft r k d s)) (Bin n x (graft l k d s) r)) × ((y : ℕ) → Over y (Bin n x l r) → Over y (cond c (Bin n x l (graft r k d s)) (Bin n x (graft l k d s) r)))) [
+    → IsHeap (cond c (Bin n x l (graft r k d s)) (Bin n x (graft l k d s) r)) × ((y : ℕ) → Over y (Bin n x l r) → Over y (cond c (Bin n x l (graft r k d s)) (Bin n x (graft l k d s) r)))) [
       | true ↦ λ f. let i = heap-graft r s k d b g f in ((o, i.1 (range_key x) p, a, i.0), λ y q. (q.0, q.1, i.1 y q.2))
       | false ↦ λ f. let i = heap-graft l s k d a g f in ((i.1 (range_key x) o, p, i.0, b), λ y q. (q.0, i.1 y q.1, q.2))
     ] f
@@ -203,7 +211,7 @@ graft-next Tip s k (suc d) = refl
 graft-next (Bin n x l r) s k zero = refl
 graft-next (Bin n x l r) s k (suc d) =
     elim (nat_lt (range_key x) k) as (λ c. cond c (Bin n x l (graft r k d (with_child k (cond c (down r k d) (down l k d)) s))) (Bin n x (graft l k d (with_child k (cond c (down r k d) (down l k d)) s)) r)
-        ≡ cond c (Bin n x l (graft r k (suc d) s)) (Bin n x (graft l k (suc d) s) r)) [
+    ≡ cond c (Bin n x l (graft r k (suc d) s)) (Bin n x (graft l k (suc d) s) r)) [
       | true ↦ ap (λ z. Bin n x l z) (graft-next r s k d)
       | false ↦ ap (λ z. Bin n x z r) (graft-next l s k d)
     ]
@@ -227,7 +235,7 @@ lift base new low high at a k (suc d) (Bin n x l r) s (e, i, p, q) o j so u =
     let off-l : Off n l = off-key base n (range_key x) low (range_key x) l i.key_is keep.1 o.1 (inr (omega arith)) in
     let off-r : Off n r = off-key base n (range_key x) (end_key x) high r i.key_is keep.2 o.2 (inl (omega arith)) in
     elim (nat_lt (range_key x) k) as (λ c. IsAt base a (cond c (down r k d) (down l k d)) → SameOff (cond c (down r k d) (down l k d)) base new
-        → IsAt new at (cond c (Bin n x l (graft r k d s)) (Bin n x (graft l k d s) r))) [
+    → IsAt new at (cond c (Bin n x l (graft r k d s)) (Bin n x (graft l k d s) r))) [
       | true ↦ λ j so.
           let line : SameLine base new n = so.same n (each-down (λ m. m ≡ n → ⊥) r k d off-r) in
           let apart = each-off base low (range_key x) (end_key x) high l r keep.1 o.1 keep.2 o.2 (inl (omega arith)) in

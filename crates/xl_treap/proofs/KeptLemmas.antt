@@ -59,7 +59,7 @@ held-more old new root result nodes n front t x k m =
     let l : length (ranges m.tree) ≡ suc (length (ranges t)) = ap length m.holds ∙ with-length x (ranges t) in
     let P : List Range → Type 0 = λ zs. Holds new result nodes front zs in
     subst P m.holds (stands-treap new result nodes front m.tree m.stands (m.len ∙ k.size) (omega (arith, length-append front (n ∷ []))) once.0
-        (λ e i. m.others e (λ q. let N : ℕ → Type 0 = λ z. In z front in once.1 (subst N q i)) (k.empty e (In-left e front (n ∷ []) i))))
+    (λ e i. m.others e (λ q. let N : ℕ → Type 0 = λ z. In z front in once.1 (subst N q i)) (k.empty e (In-left e front (n ∷ []) i))))
 
 -- one range less, whose node is free
 pub held-less : (old new : List ℕ) (root result nodes n : ℕ) (free : List ℕ) (t : Tree) (held : List Range) → IsTreap old root nodes free t → IsMade old new result n held
@@ -70,11 +70,11 @@ held-less old new root result nodes n free t held k m l here was =
     let other : (e : ℕ) → In e free → e ≡ n → ⊥ = (λ e i q. was (let N : ℕ → Type 0 = λ z. IsEmpty old z in subst N q (k.empty e i))) in
     let P : List Range → Type 0 = λ zs. Holds new result nodes (free ++ n ∷ []) zs in
     subst P m.holds (stands-treap new result nodes (free ++ n ∷ []) m.tree m.stands (m.len ∙ k.size) (omega (arith, length-append free (n ∷ [])))
-        (once-more free n k.free_once (λ i. other n i refl))
-        (λ e i. elim (In-append e free (n ∷ []) i) [
-          | inl j ↦ m.others e (other e j) (k.empty e j)
-          | inr j ↦ elim j [ inl q ↦ (let N : ℕ → Type 0 = λ z. IsEmpty new z in subst N (sym q) here) | inr z ↦ absurd z ]
-        ]))
+    (once-more free n k.free_once (λ i. other n i refl))
+    (λ e i. elim (In-append e free (n ∷ []) i) [
+      | inl j ↦ m.others e (other e j) (k.empty e j)
+      | inr j ↦ elim j [ inl q ↦ (let N : ℕ → Type 0 = λ z. IsEmpty new z in subst N (sym q) here) | inr z ↦ absurd z ]
+    ]))
 
 -- as many ranges as before, in the nodes that they had
 pub held-same : (old new : List ℕ) (root result nodes n : ℕ) (free : List ℕ) (t : Tree) (held : List Range) → IsTreap old root nodes free t → IsMade old new result n held
@@ -84,7 +84,7 @@ held-same old new root result nodes n free t held k m l was =
     let e : length (ranges m.tree) ≡ length held = ap length m.holds in
     let P : List Range → Type 0 = λ zs. Holds new result nodes free zs in
     subst P m.holds (stands-treap new result nodes free m.tree m.stands (m.len ∙ k.size) (omega arith) k.free_once
-        (λ e i. m.others e (λ q. was (let N : ℕ → Type 0 = λ z. IsEmpty old z in subst N q (k.empty e i))) (k.empty e i)))
+    (λ e i. m.others e (λ q. was (let N : ℕ → Type 0 = λ z. IsEmpty old z in subst N q (k.empty e i))) (k.empty e i)))
 
 -- a treap of words that are these
 pub kept-after : (words there : List ℕ) (root nodes count room : ℕ) (free : List ℕ) (held : List Range) → there ≡ words → count ≡ nodes → Holds words root nodes free held → nodes ≤ 2 ^ 16 + 1 → nodes ≤ room

@@ -146,12 +146,12 @@ more-nodes : (words path : List ℕ) (t : Tree) (k depth at : ℕ) → ((i : ℕ
     → (i : ℕ) → i < depth + 1 → Half words (slice_index (slice_set path depth at) i) k (down t k i)
 more-nodes words path t k depth at u less here i h = elim (side i depth) [
   | inl lt ↦ let ne : i ≡ depth → ⊥ = (λ q. omega arith) in
-    let A : ℕ → Type 0 = λ a. Half words a k (down t k i) in
-    subst A (sym (get_or-set_other path depth i at 0 ne)) (u i lt)
+      let A : ℕ → Type 0 = λ a. Half words a k (down t k i) in
+      subst A (sym (get_or-set_other path depth i at 0 ne)) (u i lt)
   | inr ge ↦ let q : depth ≡ i = omega arith in
-    let A : ℕ → Type 0 = λ a. Half words a k (down t k depth) in
-    let I : ℕ → Type 0 = λ j. Half words (slice_index (slice_set path depth at) j) k (down t k j) in
-    subst I q (subst A (sym (get_or-set_same path depth at 0 less)) here)
+      let A : ℕ → Type 0 = λ a. Half words a k (down t k depth) in
+      let I : ℕ → Type 0 = λ j. Half words (slice_index (slice_set path depth at) j) k (down t k j) in
+      subst I q (subst A (sym (get_or-set_same path depth at 0 less)) here)
 ]
 
 -- what a step down comes to, where the first tree's top is above, or the second's
@@ -179,7 +179,7 @@ merging-step words path t k depth low high (Bin n x l r) (Bin m y c d) top i j e
     go true s ln hm x-low y-high nx =
         let here : down t k depth ≡ Bin n x l (merge r (Bin m y c d)) = e ∙ ap (λ z. cond z (Bin n x l (merge r (Bin m y c d))) (Bin m y (merge_into n x l r (λ z. merge r z) c) d)) s in
         let next : down t k (depth + 1) ≡ merge r (Bin m y c d) =
-            ap (down t k) (sym nx) ∙ down-next t k depth ∙ ap (child k) here ∙ pick-yes (range_key x) k (merge r (Bin m y c d)) l x-low in
+        ap (down t k) (sym nx) ∙ down-next t k depth ∙ ap (child k) here ∙ pick-yes (range_key x) k (merge r (Bin m y c d)) l x-low in
         let R : ℕ → Type 0 = λ z. IsAt words (right_at words z) r in
         let H : Tree → Type 0 = λ z. Half words low k z in
         record {
@@ -196,7 +196,7 @@ merging-step words path t k depth low high (Bin n x l r) (Bin m y c d) top i j e
     go false s ln hm x-low y-high nx =
         let here : down t k depth ≡ Bin m y (merge (Bin n x l r) c) d = e ∙ ap (λ z. cond z (Bin n x l (merge r (Bin m y c d))) (Bin m y (merge_into n x l r (λ z. merge r z) c) d)) s in
         let next : down t k (depth + 1) ≡ merge (Bin n x l r) c =
-            ap (down t k) (sym nx) ∙ down-next t k depth ∙ ap (child k) here ∙ pick-no (range_key y) k d (merge (Bin n x l r) c) y-high in
+        ap (down t k) (sym nx) ∙ down-next t k depth ∙ ap (child k) here ∙ pick-no (range_key y) k d (merge (Bin n x l r) c) y-high in
         let R : ℕ → Type 0 = λ z. IsAt words (left_at words z) c in
         let H : Tree → Type 0 = λ z. Half words high k z in
         record {

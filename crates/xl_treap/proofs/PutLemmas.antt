@@ -167,9 +167,11 @@ module _ (w0 w1 : List ℕ) (root nodes : ℕ) (t : Tree) (n : ℕ) (x : Range) 
               let P : ℕ → Type 0 = λ z. Off (slice_index path d - 1) (down t (range_key x) z) in
               let T : Tree → Type 0 = λ z. Off (slice_index path d - 1) z in
               let f : Off (slice_index path d - 1) under = subst P (sym e) (subst T (sym (down-next t (range_key x) d)) c) in
-              let ne : slice_index path d - 1 ≡ n → ⊥ = top-each (λ m. m ≡ n → ⊥) w1 (slice_index path d) (down t (range_key x) d) a b off-d in
-              (base-at (slice_index path d) (down t (range_key x) d) off-d a, b,
-                (λ q. ne (sym q), each-low (λ m. m ≡ slice_index path d - 1 → ⊥) (range_key x) under f, each-high (λ m. m ≡ slice_index path d - 1 → ⊥) (range_key x) under f))
+              let ne : slice_index path d - 1 ≡ n → ⊥ = top-each (λ m. m ≡ n → ⊥) w1 (slice_index path d) (down t (range_key x) d) a b off-d in (
+                base-at (slice_index path d) (down t (range_key x) d) off-d a,
+                b,
+                (λ q. ne (sym q), each-low (λ m. m ≡ slice_index path d - 1 → ⊥) (range_key x) under f, each-high (λ m. m ≡ slice_index path d - 1 → ⊥) (range_key x) under f),
+              )
 
           pub put-room : 4 * parent_at path parts.depth ≤ length w3
           put-room = parent-there base w3 path t made (range_key x) parts.depth put-parent three-len
@@ -200,7 +202,7 @@ heap-child : (k : ℕ) (q s : Tree) → IsHeap q → IsHeap s → TopOver k q �
 heap-child k Tip s h g p f = absurd p
 heap-child k (Bin n x l r) s (o, p, a, b) g above f =
     elim (nat_lt (range_key x) k) as (λ c. ((y : ℕ) → is_above y k ≡ true → Over y (cond c r l) → Over y s)
-        → IsHeap (cond c (Bin n x l s) (Bin n x s r)) × ((y : ℕ) → Over y (Bin n x l r) → Over y (cond c (Bin n x l s) (Bin n x s r)))) [
+    → IsHeap (cond c (Bin n x l s) (Bin n x s r)) × ((y : ℕ) → Over y (Bin n x l r) → Over y (cond c (Bin n x l s) (Bin n x s r)))) [
       | true ↦ λ f. ((o, f (range_key x) above p, a, g), λ y q. (q.0, q.1, f y (above-chain y (range_key x) k q.0 above) q.2))
       | false ↦ λ f. ((f (range_key x) above o, p, g, b), λ y q. (q.0, f y (above-chain y (range_key x) k q.0 above) q.1, q.2))
     ] f
@@ -226,13 +228,13 @@ put-made w0 w1 w2 w3 w4 path root nodes n depth at result t x parts can lined wa
     let bas : List ℕ = slice_set w1 (4 * n + 3) (slice_index w3 (4 * n + 3)) in
     let ord : InOrder 0 (2 ^ 58) t = order-apart t can.stands.apart in
     let done : Attached bas w4 t k parts.depth mad result =
-        attached bas w3 w4 path 0 (2 ^ 58) root result k parts.depth (n + 1) t mad
-        (base-at w0 w1 root nodes t n x can lined path depth at way w2 parts parted w3 linked root t (off w0 w1 root nodes t n x can) (put-at w0 w1 root nodes t n x can lined))
-        ord
-        (put-parent w0 w1 root nodes t n x can lined path depth at way w2 parts parted w3 linked)
-        (base-off w0 w1 root nodes t n x can lined path depth at way w2 parts parted w3 linked)
-        (made-at w0 w1 root nodes t n x can lined path depth at way w2 parts parted w3 linked)
-        a in
+    attached bas w3 w4 path 0 (2 ^ 58) root result k parts.depth (n + 1) t mad
+    (base-at w0 w1 root nodes t n x can lined path depth at way w2 parts parted w3 linked root t (off w0 w1 root nodes t n x can) (put-at w0 w1 root nodes t n x can lined))
+    ord
+    (put-parent w0 w1 root nodes t n x can lined path depth at way w2 parts parted w3 linked)
+    (base-off w0 w1 root nodes t n x can lined path depth at way w2 parts parted w3 linked)
+    (made-at w0 w1 root nodes t n x can lined path depth at way w2 parts parted w3 linked)
+    a in
     let ranges-are : ranges (graft t k parts.depth mad) ≡ with_range x (ranges t) = whole-ranges w0 w1 root nodes t n x can lined path depth at way w2 parts parted w3 linked in
     let A : List Range → Type 0 = λ zs. IsApart 0 zs in
     record {

@@ -127,10 +127,10 @@ module _ (k low high : ℕ) (n : ℕ) (x : Range) (l r : Tree) (o : InOrder low 
       let p : Range → Bool = λ z. lets k (range_key y) (range_key z) (end_key z) in
       all-append p (ranges l) (x ∷ ranges r)
       ∙ ap (λ t. list_all p (ranges l) && t) (all-true p (x ∷ ranges r)
-          (λ z j. elim j [
-            | inl e ↦ let P : Range → Type 0 = λ w. p w ≡ true in subst P (sym e) (pass-high k (range_key y) (range_key x) (end_key x) less (omega arith))
-            | inr m ↦ let d = lies-high z m in let f = d.from_low in let g = o.0.some in pass-high k (range_key y) (range_key z) (end_key z) (omega arith) (omega arith)
-          ]))
+      (λ z j. elim j [
+        | inl e ↦ let P : Range → Type 0 = λ w. p w ≡ true in subst P (sym e) (pass-high k (range_key y) (range_key x) (end_key x) less (omega arith))
+        | inr m ↦ let d = lies-high z m in let f = d.from_low in let g = o.0.some in pass-high k (range_key y) (range_key z) (end_key z) (omega arith) (omega arith)
+      ]))
       ∙ and-true (list_all p (ranges l))
 
   high-same : (y : Range) → end_key x ≤ k → In y (ranges r) → is_read (ranges l ++ x ∷ ranges r) k y ≡ is_read (ranges r) k y
@@ -139,7 +139,7 @@ module _ (k low high : ℕ) (n : ℕ) (x : Range) (l r : Tree) (o : InOrder low 
       let p : Range → Bool = λ z. lets k (range_key y) (range_key z) (end_key z) in
       all-append p (ranges l) (x ∷ ranges r)
       ∙ ap (λ t. t && (p x && list_all p (ranges r))) (all-true p (ranges l)
-          (λ z j. let d = lies-low z j in let f = d.to_high in let g = d.fit.some in pass-low k (range_key y) (range_key z) (end_key z) (omega arith) (omega arith)))
+      (λ z j. let d = lies-low z j in let f = d.to_high in let g = d.fit.some in pass-low k (range_key y) (range_key z) (end_key z) (omega arith) (omega arith)))
       ∙ ap (λ t. t && list_all p (ranges r)) (pass-low k (range_key y) (range_key x) (end_key x) (omega arith) le)
 
   parts : reads_among (ranges l ++ x ∷ ranges r) k (ranges l ++ x ∷ ranges r)

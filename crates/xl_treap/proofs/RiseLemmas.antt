@@ -53,9 +53,10 @@ rise-node old w new low high p k at (Bin n x l r) h keep o i but link =
           subst H (sym e) (hung-high old w new low high k n at x l r l keep o lk (subst I e i) off-l ge (subst O e but.off) (h.3 ge))
     ]) in
     let A : ℕ → Type 0 = λ z. IsAt new z (Bin n x l r) in
-    let T : Tree → Type 0 = λ z. IsAt new (suc n) z in
-    (subst A (sym h.0) (subst T (with-own k n x l r) hung.here),
-      record { off = hung.off; kept = λ m j q. linked-three w new n _ _ lk m j q ∙ but.kept m j q })
+    let T : Tree → Type 0 = λ z. IsAt new (suc n) z in (
+      subst A (sym h.0) (subst T (with-own k n x l r) hung.here),
+      record { off = hung.off; kept = λ m j q. linked-three w new n _ _ lk m j q ∙ but.kept m j q },
+    )
 
 module _ (old w path : List ℕ) (t : Tree) (k depth d at last : ℕ) (can : CanRise old path t k depth last) (up : 0 < d) (le : d ≤ depth)
     (here : IsAt w at (down t k d)) (but : SameBut (down t k d) old w) where

@@ -58,10 +58,14 @@ without-length k [] h = absurd h.1
 without-length k (r ∷ rs) (y, i, e) =
     elim (range_key r == k) as (λ c. (range_key r == k) ≡ c → suc (length (cond c rs (r ∷ without_range k rs))) ≡ suc (length rs)) [
       | true ↦ λ t. refl
-      | false ↦ λ t. ap suc (without-length k rs (y, elim i [
+      | false ↦ λ t. ap suc (without-length k rs (
+        y,
+        elim i [
           | inl q ↦ let P : Range → Type 0 = λ w. range_key w ≡ k in let u : (range_key r == k) ≡ true = alike (range_key r) k (subst P q e) in absurd (cc)
           | inr j ↦ j
-        ], e))
+        ],
+        e,
+      ))
     ] refl
 
 pub has-held : (k : ℕ) (xs : List Range) → list_any (has_key k) xs ≡ true → Has k xs
@@ -197,7 +201,7 @@ module _ (w0 path : List ℕ) (root nodes : ℕ) (t : Tree) (k depth at : ℕ) (
       let P : ℕ → Type 0 = λ z. Off (slice_index path d - 1) (down t k z) in
       let T : Tree → Type 0 = λ z. Off (slice_index path d - 1) z in
       subst T take-key.is (subst P (sym e) (subst T (sym (down-next t k d))
-          (off-child w0 (slice_index path d) k o.0 o.1 (down t k d) (way.nodes d less) (way.some d less) o.2)))
+      (off-child w0 (slice_index path d) k o.0 o.1 (down t k d) (way.nodes d less) (way.some d less) o.2)))
 
   top-few : length (ranges (Bin node range low high)) ≤ nodes
   top-few =

@@ -74,30 +74,30 @@ up-to-more words path t k depth at u some unlike less =
       few = (let z : length (slice_set path depth at) ≡ length path = length-set path depth at in omega arith);
       nodes = λ i h. elim (side i depth) [
         | inl lt ↦ let ne : i ≡ depth → ⊥ = (λ q. omega arith) in
-          let A : ℕ → Type 0 = λ a. IsAt words a (down t k i) in
-          subst A (sym (get_or-set_other path depth i at 0 ne)) (u.nodes i lt)
+            let A : ℕ → Type 0 = λ a. IsAt words a (down t k i) in
+            subst A (sym (get_or-set_other path depth i at 0 ne)) (u.nodes i lt)
         | inr ge ↦ let q : depth ≡ i = omega arith in
-          let A : ℕ → Type 0 = λ a. IsAt words a (down t k depth) in
-          let I : ℕ → Type 0 = λ j. IsAt words (slice_index (slice_set path depth at) j) (down t k j) in
-          subst I q (subst A (sym (get_or-set_same path depth at 0 less)) u.here)
+            let A : ℕ → Type 0 = λ a. IsAt words a (down t k depth) in
+            let I : ℕ → Type 0 = λ j. IsAt words (slice_index (slice_set path depth at) j) (down t k j) in
+            subst I q (subst A (sym (get_or-set_same path depth at 0 less)) u.here)
       ];
       some = λ i h. elim (side i depth) [
         | inl lt ↦ let ne : i ≡ depth → ⊥ = (λ q. omega arith) in
-          let A : ℕ → Type 0 = λ a. 0 < a in
-          subst A (sym (get_or-set_other path depth i at 0 ne)) (u.some i lt)
+            let A : ℕ → Type 0 = λ a. 0 < a in
+            subst A (sym (get_or-set_other path depth i at 0 ne)) (u.some i lt)
         | inr ge ↦ let q : depth ≡ i = omega arith in
-          let A : ℕ → Type 0 = λ a. 0 < a in
-          let I : ℕ → Type 0 = λ j. 0 < slice_index (slice_set path depth at) j in
-          subst I q (subst A (sym (get_or-set_same path depth at 0 less)) some)
+            let A : ℕ → Type 0 = λ a. 0 < a in
+            let I : ℕ → Type 0 = λ j. 0 < slice_index (slice_set path depth at) j in
+            subst I q (subst A (sym (get_or-set_same path depth at 0 less)) some)
       ];
       other = λ i h. elim (side i depth) [
         | inl lt ↦ let ne : i ≡ depth → ⊥ = (λ q. omega arith) in
-          let A : ℕ → Type 0 = λ a. slice_index words (4 * (a - 1)) ≡ k → ⊥ in
-          subst A (sym (get_or-set_other path depth i at 0 ne)) (u.other i lt)
+            let A : ℕ → Type 0 = λ a. slice_index words (4 * (a - 1)) ≡ k → ⊥ in
+            subst A (sym (get_or-set_other path depth i at 0 ne)) (u.other i lt)
         | inr ge ↦ let q : depth ≡ i = omega arith in
-          let A : ℕ → Type 0 = λ a. slice_index words (4 * (a - 1)) ≡ k → ⊥ in
-          let I : ℕ → Type 0 = λ j. slice_index words (4 * (slice_index (slice_set path depth at) j - 1)) ≡ k → ⊥ in
-          subst I q (subst A (sym (get_or-set_same path depth at 0 less)) unlike)
+            let A : ℕ → Type 0 = λ a. slice_index words (4 * (a - 1)) ≡ k → ⊥ in
+            let I : ℕ → Type 0 = λ j. slice_index words (4 * (slice_index (slice_set path depth at) j - 1)) ≡ k → ⊥ in
+            subst I q (subst A (sym (get_or-set_same path depth at 0 less)) unlike)
       ];
     }
 

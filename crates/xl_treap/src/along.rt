@@ -64,5 +64,9 @@ pub(crate) fn seek<B: Bus>(bus: &mut B, root: u32, nodes: u32, key: u64) -> Sear
             Visit::Goes(next) => at = next,
         }
     }
-    if at == 0 { Search::Absent } else { Search::TooLong }
+    if at == 0 {
+        Search::Absent
+    } else {
+        Search::TooLong
+    }
 }

@@ -8,6 +8,8 @@ mod joining;
 mod look;
 mod node;
 mod parting;
+#[cfg(test)]
+mod tests;
 mod treap;
 
 pub use along::Search;

@@ -171,13 +171,7 @@ impl Treap {
             words: &self.words,
             loads: 0,
         };
-        range_of(Treap::search(
-            &mut look,
-            self.root,
-            self.path.len() as u32,
-            space,
-            page,
-        ))
+        range_of(Treap::search(&mut look, self.root, self.path.len() as u32, space, page))
     }
 
     /// The last range of the space that starts below the page, None exactly where there is none.

@@ -16,6 +16,6 @@ returns c =
     let end = ap (λ (x : Searched). x.end) (search-kept s.words.items s.root n a.space a.page s.free.items t c.self.invariant.0 c.requires.page_in) in
     c.range_of.ensures
     ∙ ap range_found (c.search.ensures.end ∙ ap (λ ws. tree_back ws s.root c.len.result a.space a.page) c.deref.ensures.value
-      ∙ ap (λ m. tree_back s.words.items s.root m a.space a.page) len ∙ end)
+    ∙ ap (λ m. tree_back s.words.items s.root m a.space a.page) len ∙ end)
     ∙ same-range (find (holds_page a.space a.page) (ranges t))
     ∙ ap (λ (v : TreapState). find (holds_page a.space a.page) v.seen.kept) c.self.view_is
