@@ -16,3 +16,4 @@ pub mod RiseLemmas
 pub mod TakeLemmas
 pub mod BesideLemmas
 pub mod BackLemmas
+pub mod GuardLemmas
