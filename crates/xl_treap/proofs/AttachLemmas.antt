@@ -7,7 +7,7 @@ use Rattle.xl_model_lemmas.specs.Members.{In}
 use Rattle.xl_treap.specs.Treaps.{IsFit}
 use Rattle.xl_treap.specs.Lines.{IsNode}
 use Rattle.xl_treap.specs.Trees.{Tree, Tip, Bin, ranges, IsAt, InOrder, down, graft}
-use Rattle.xl_treap.specs.Steps.{IsAttached, IsLinked, IsLined, SameLine, Each, Off, SameOff, Keeps, IsEmpty, parent_at, hung_left, hung_right}
+use Rattle.xl_treap.specs.Steps.{IsAttached, IsLinked, IsLined, SameLine, Each, Off, SameOff, Keeps, IsEmpty, parent_at, IsHung}
 use Rattle.xl_treap.proofs.OrderLemmas.{pick-yes, pick-no, side, order-le}
 use Rattle.xl_treap.proofs.WayLemmas.{child, down-next, order-down, at-there}
 use Rattle.xl_treap.proofs.FrameLemmas.{at-keeps, off-key, with_child, Hung, hung-low, hung-high}
@@ -38,11 +38,11 @@ off-child words at k low high (Bin n x l r) i h o =
     ])
 
 hung-under : (base w new : List ℕ) (low high k p b : ℕ) (q s : Tree) → IsAt base (suc p) q → InOrder low high q → SameOff (child k q) base w
-    → IsLinked w new p (hung_left w p k b) (hung_right w p k b) → IsAt w b s → Off p s → Hung base new k p q s
+    → IsHung w new p k b → IsAt w b s → Off p s → Hung base new k p q s
 hung-under base w new low high k p b Tip s i o so link u off = absurd (omega arith)
 hung-under base w new low high k p b (Bin n x l r) s i o so link u off =
     let m : n ≡ p = let e = i.0 in omega arith in
-    let G : ℕ → Type 0 = λ p. IsLinked w new p (hung_left w p k b) (hung_right w p k b) → Off p s → Hung base new k p (Bin n x l r) s in
+    let G : ℕ → Type 0 = λ p. IsHung w new p k b → Off p s → Hung base new k p (Bin n x l r) s in
     let keep = at-keeps base (suc p) (Bin n x l r) i in
     let O : Tree → Type 0 = λ t. SameOff t base w in
     subst G m (λ link off. elim (side (range_key x) k) [

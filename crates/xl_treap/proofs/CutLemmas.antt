@@ -4,7 +4,7 @@ use Rattle.xl_model.specs.declared.leaf.Range.{Range}
 use Rattle.xl_model.specs.Ranges.{range_key, end_key, is_above}
 use Rattle.xl_treap.specs.Lines.{left_at, right_at, IsNode}
 use Rattle.xl_treap.specs.Trees.{Tree, Tip, Bin, IsAt, InOrder, Over, IsHeap, down, cut_low, cut_high}
-use Rattle.xl_treap.specs.Steps.{IsLinked, SameLine, Each, Off, SameOff, SameBut, IsCut, IsWay, CanPart, IsPlace, TopOver, hung_left, hung_right}
+use Rattle.xl_treap.specs.Steps.{IsLinked, SameLine, Each, Off, SameOff, SameBut, IsCut, IsWay, CanPart, IsPlace, TopOver, IsHung}
 use Rattle.xl_treap.proofs.OrderLemmas.{pick-yes, pick-no, side}
 use Rattle.xl_treap.proofs.AboveLemmas.{above-total, over-chain}
 use Rattle.xl_treap.proofs.WayLemmas.{child, down-next, order-down, heap-down, at-there}
@@ -31,7 +31,7 @@ same-child old w k t s e b = subst (λ z. SameBut z old w) e b
 
 -- one node on the way up goes to the lower part
 pub cut-below : (old w new : List ℕ) (at k bound top low high : ℕ) (t : Tree) → IsAt old at t → 0 < at → InOrder bound top t → IsCut old w low high k (child k t)
-    → slice_index w (4 * (at - 1)) < k → IsLinked w new (at - 1) (hung_left w (at - 1) k low) (hung_right w (at - 1) k low) → IsCut old new at high k t
+    → slice_index w (4 * (at - 1)) < k → IsHung w new (at - 1) k low → IsCut old new at high k t
 cut-below old w new at k bound top low high Tip i some o c lt link = absurd (omega arith)
 cut-below old w new at k bound top low high (Bin n x l r) i some o c lt link =
     let m : at - 1 ≡ n = let e = i.0 in omega arith in
@@ -40,8 +40,8 @@ cut-below old w new at k bound top low high (Bin n x l r) i some o c lt link =
     let N : ℕ → Type 0 = λ a. slice_index w (4 * a) < k in
     let K : ℕ → Type 0 = λ a. a < k in
     let less : range_key x < k = subst K own (subst N m lt) in
-    let L : ℕ → Type 0 = λ a. IsLinked w new a (hung_left w a k low) (hung_right w a k low) in
-    let lk : IsLinked w new n (hung_left w n k low) (hung_right w n k low) = subst L m link in
+    let L : ℕ → Type 0 = λ a. IsHung w new a k low in
+    let lk : IsHung w new n k low = subst L m link in
     let e : child k (Bin n x l r) ≡ r = pick-yes (range_key x) k r l less in
     let C : Tree → Type 0 = λ s. IsCut old w low high k s in
     let d : IsCut old w low high k r = subst C e c in
@@ -62,7 +62,7 @@ cut-below old w new at k bound top low high (Bin n x l r) i some o c lt link =
 
 -- one node on the way up goes to the upper part
 pub cut-above : (old w new : List ℕ) (at k bound top low high : ℕ) (t : Tree) → IsAt old at t → 0 < at → InOrder bound top t → IsCut old w low high k (child k t)
-    → k ≤ slice_index w (4 * (at - 1)) → IsLinked w new (at - 1) (hung_left w (at - 1) k high) (hung_right w (at - 1) k high) → IsCut old new low at k t
+    → k ≤ slice_index w (4 * (at - 1)) → IsHung w new (at - 1) k high → IsCut old new low at k t
 cut-above old w new at k bound top low high Tip i some o c ge link = absurd (omega arith)
 cut-above old w new at k bound top low high (Bin n x l r) i some o c ge link =
     let m : at - 1 ≡ n = let e = i.0 in omega arith in
@@ -71,8 +71,8 @@ cut-above old w new at k bound top low high (Bin n x l r) i some o c ge link =
     let N : ℕ → Type 0 = λ a. k ≤ slice_index w (4 * a) in
     let K : ℕ → Type 0 = λ a. k ≤ a in
     let more : k ≤ range_key x = subst K own (subst N m ge) in
-    let L : ℕ → Type 0 = λ a. IsLinked w new a (hung_left w a k high) (hung_right w a k high) in
-    let lk : IsLinked w new n (hung_left w n k high) (hung_right w n k high) = subst L m link in
+    let L : ℕ → Type 0 = λ a. IsHung w new a k high in
+    let lk : IsHung w new n k high = subst L m link in
     let e : child k (Bin n x l r) ≡ l = pick-no (range_key x) k r l more in
     let C : Tree → Type 0 = λ s. IsCut old w low high k s in
     let d : IsCut old w low high k l = subst C e c in
@@ -168,14 +168,14 @@ module _ (old w path : List ℕ) (t : Tree) (k depth d low high : ℕ) (can : Ca
       subst T (down-next t k (d - 1)) (subst D m cut)
 
   pub part-below : (new : List ℕ) → slice_index w (4 * (slice_index path (d - 1) - 1)) < k
-      → IsLinked w new (slice_index path (d - 1) - 1) (hung_left w (slice_index path (d - 1) - 1) k low) (hung_right w (slice_index path (d - 1) - 1) k low)
+      → IsHung w new (slice_index path (d - 1) - 1) k low
       → IsCut old new (slice_index path (d - 1)) high k (down t k (d - 1))
   part-below new lt link =
       let o = order-down t k (d - 1) 0 (2 ^ 58) can.order in
       cut-below old w new (slice_index path (d - 1)) k o.0 o.1 low high (down t k (d - 1)) top top-some o.2 under lt link
 
   pub part-above : (new : List ℕ) → k ≤ slice_index w (4 * (slice_index path (d - 1) - 1))
-      → IsLinked w new (slice_index path (d - 1) - 1) (hung_left w (slice_index path (d - 1) - 1) k high) (hung_right w (slice_index path (d - 1) - 1) k high)
+      → IsHung w new (slice_index path (d - 1) - 1) k high
       → IsCut old new low (slice_index path (d - 1)) k (down t k (d - 1))
   part-above new ge link =
       let o = order-down t k (d - 1) 0 (2 ^ 58) can.order in

@@ -5,7 +5,7 @@ use Rattle.xl_model.specs.Ranges.{range_key, end_key}
 use Rattle.xl_treap.specs.Treaps.{IsFit}
 use Rattle.xl_treap.specs.Lines.{left_at, right_at, IsNode}
 use Rattle.xl_treap.specs.Trees.{Tree, Tip, Bin, ranges, IsAt, InOrder}
-use Rattle.xl_treap.specs.Steps.{IsLinked, SameLine, Each, Off, SameOff, SameBut, Keeps, hung_left, hung_right}
+use Rattle.xl_treap.specs.Steps.{IsLinked, SameLine, Each, Off, SameOff, SameBut, Keeps, IsHung}
 use Rattle.xl_treap.proofs.OrderLemmas.{pick-yes, pick-no, order-le}
 use Rattle.xl_treap.proofs.WayLemmas.{child}
 
@@ -91,7 +91,7 @@ pub record Hung (base new : List ℕ) (k : ℕ) (p : ℕ) (t s : Tree) : Type 0 
 
 module _ (base old new : List ℕ) (low high k p b : ℕ) (x : Range) (l r s : Tree)
     (keeps : Keeps base (Bin p x l r)) (order : InOrder low high (Bin p x l r))
-    (link : IsLinked old new p (hung_left old p k b) (hung_right old p k b)) (under : IsAt old b s) (off-p : Off p s) where
+    (link : IsHung old new p k b) (under : IsAt old b s) (off-p : Off p s) where
   off-low : Off p l
   off-low = off-key base p (range_key x) low (range_key x) l keeps.0.key_is keeps.1 order.1 (inr (omega arith))
 

@@ -8,7 +8,7 @@ use Rattle.xl_model_lemmas.proofs.MemberLemmas.{In-left, In-right}
 use Rattle.xl_treap.specs.Treaps.{with_range, without_range, resized}
 use Rattle.xl_treap.specs.Lines.{left_at, right_at, IsNode}
 use Rattle.xl_treap.specs.Trees.{Tree, Tip, Bin, ranges, IsAt, InOrder, Over, IsHeap, down, graft, cut_low, cut_high}
-use Rattle.xl_treap.specs.Steps.{IsAttached, IsLinked, SameLine, Each, Off, SameOff, TopOver, parent_at, hung_left, hung_right}
+use Rattle.xl_treap.specs.Steps.{IsAttached, IsLinked, SameLine, Each, Off, SameOff, TopOver, parent_at, IsHung}
 use Rattle.xl_treap.proofs.OrderLemmas.{pick-yes, pick-no, side, order-In, Lies}
 use Rattle.xl_treap.proofs.AboveLemmas.{above-chain, over-chain}
 use Rattle.xl_treap.proofs.WayLemmas.{child, down-next, order-down}
@@ -90,7 +90,7 @@ has-up k t d (y, i, e) = (y, down-In y t k d i, e)
 unlike : (a b : ℕ) → a < b → (a == b) ≡ false
 unlike a b h = grind (arith, nat_tests)
 
-alike : (a b : ℕ) → a ≡ b → (a == b) ≡ true
+pub alike : (a b : ℕ) → a ≡ b → (a == b) ≡ true
 alike a b h = grind (arith, nat_tests)
 
 without-front : (k : ℕ) (y : Range) (ys : List Range) → range_key y < k → without_range k (y ∷ ys) ≡ y ∷ without_range k ys
@@ -128,6 +128,12 @@ resized-behind k pages (y ∷ ls) x rs (z, i, e) =
         e,
       ))
     ] refl
+
+pub without-before : (k : ℕ) (ls ys : List Range) → ((z : Range) → In z ls → range_key z < k) → without_range k (ls ++ ys) ≡ ls ++ without_range k ys
+without-before k = front-all (without_range k) k (Has k) (without-front k) (λ ls x rs h le. without-behind k ls x rs h) (has-up k)
+
+pub resized-before : (k pages : ℕ) (ls ys : List Range) → ((z : Range) → In z ls → range_key z < k) → resized k pages (ls ++ ys) ≡ ls ++ resized k pages ys
+resized-before k pages = front-all (resized k pages) k (Has k) (resized-front k pages) (λ ls x rs h le. resized-behind k pages ls x rs h) (has-up k)
 
 pub graft-with : (new : Range) (low high : ℕ) (t s : Tree) (d : ℕ) → InOrder low high t → ranges s ≡ with_range new (ranges (down t (range_key new) d))
     → ranges (graft t (range_key new) d s) ≡ with_range new (ranges t)

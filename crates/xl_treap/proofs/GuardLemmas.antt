@@ -92,10 +92,13 @@ with-apart low x (r ∷ rs) h b (l, g, a) f last first =
                 let w = within-In (end_key r) (2 ^ 58) y rs (apart-within (end_key r) rs (fit-end r g) a) (last-is k y rs q).0 in
                 let p = w.from_low in let some = w.fit.some in omega arith
           ] refl) in
-          subst A (sym (pick-yes (range_key r) k (r ∷ with_range x rs) (x ∷ r ∷ rs) lt))
-          (l, g, with-apart (end_key r) x rs ends (fit-end r g) a f
-              (λ y q. last y (e ∙ ap (λ z. Some (last_or r z)) q))
-              (λ y q. first y (pick-yes (range_key r) k (first_from k rs) (Some r) lt ∙ q)))
+          subst A (sym (pick-yes (range_key r) k (r ∷ with_range x rs) (x ∷ r ∷ rs) lt)) (
+            l,
+            g,
+            with-apart (end_key r) x rs ends (fit-end r g) a f
+                (λ y q. last y (e ∙ ap (λ z. Some (last_or r z)) q))
+                (λ y q. first y (pick-yes (range_key r) k (first_from k rs) (Some r) lt ∙ q)),
+          )
       | inr ge ↦
           let A : List Range → Type 0 = λ zs. IsApart low zs in
           subst A (sym (pick-no (range_key r) k (r ∷ with_range x rs) (x ∷ r ∷ rs) ge))
@@ -125,8 +128,8 @@ same-key : (low : ℕ) (x y : Range) (xs : List Range) → low ≤ 2 ^ 58 → Is
 same-key low x y [] h a i j e = absurd i
 same-key low x y (r ∷ rs) h (l, f, a) i j e =
     let behind : (z : Range) → In z rs → range_key r < range_key z = (λ z m.
-        let w = within-In (end_key r) (2 ^ 58) z rs (apart-within (end_key r) rs (fit-end r f) a) m in
-        let p = w.from_low in let some = f.some in omega arith) in
+    let w = within-In (end_key r) (2 ^ 58) z rs (apart-within (end_key r) rs (fit-end r f) a) m in
+    let p = w.from_low in let some = f.some in omega arith) in
     elim i [
       | inl p ↦ elim j [
         | inl q ↦ p ∙ sym q
@@ -174,14 +177,14 @@ room-apart space start pages r xs next a i e some low few frame space-in n start
     let one : key_at space (start + 1) ≡ k + 1 = omega arith in
     resized-apart 0 k pages xs (omega arith) a
     (λ z j q.
-      let s : r ≡ z = same-key 0 r z xs (omega arith) a i j (e ∙ sym q) in
-      let P : Range → Type 0 = λ w. IsFit (record w { pages = pages }) in
-      let z-some = f.some in
-      let at : r.start ≡ start = omega arith in
-      subst P s (record { some = some; space_in = f.space_in; pages_in = omega arith; frames_in = omega arith }))
+    let s : r ≡ z = same-key 0 r z xs (omega arith) a i j (e ∙ sym q) in
+    let P : Range → Type 0 = λ w. IsFit (record w { pages = pages }) in
+    let z-some = f.some in
+    let at : r.start ≡ start = omega arith in
+    subst P s (record { some = some; space_in = f.space_in; pages_in = omega arith; frames_in = omega arith }))
     (λ y s.
-      let P : ℕ → Type 0 = λ q. first_from q xs ≡ Some y in
-      let b = first-starts space (start + 1) (start + pages) next xs a n starts y (subst P (sym one) s) (omega arith) in omega arith)
+    let P : ℕ → Type 0 = λ q. first_from q xs ≡ Some y in
+    let b = first-starts space (start + 1) (start + pages) next xs a n starts y (subst P (sym one) s) (omega arith) in omega arith)
     (r, i, e)
 
 pub some-start : (k : ℕ) (o : Option Range) (xs : List Range) → IfSome o (λ r. (In r xs) × (range_key r ≡ k)) → is_some o ≡ true → list_any (has_key k) xs ≡ true

@@ -4,7 +4,7 @@ use Rattle.xl_model.specs.declared.leaf.Range.{Range}
 use Rattle.xl_model.specs.Ranges.{range_key, end_key, is_above}
 use Rattle.xl_treap.specs.Lines.{left_at, right_at, IsNode}
 use Rattle.xl_treap.specs.Trees.{Tree, Tip, Bin, Pair, ranges, IsAt, InOrder, IsHeap, Over, down, merge, merge_into}
-use Rattle.xl_treap.specs.Steps.{Each, Keeps, Half, CanMerge, CanRise, IsSpine, Off, SameBut, IsLinked, hung_left, hung_right}
+use Rattle.xl_treap.specs.Steps.{Each, Keeps, Half, CanMerge, CanRise, IsSpine, Off, SameBut, IsLinked, IsHung}
 use Rattle.xl_treap.proofs.OrderLemmas.{pick-yes, pick-no, side, sizes, Within, within-le, order-of, of-order, order-le, order-wider}
 use Rattle.xl_treap.proofs.AboveLemmas.{above-total, over-chain}
 use Rattle.xl_treap.proofs.WayLemmas.{child, down-next, order-down, at-there, none-left}

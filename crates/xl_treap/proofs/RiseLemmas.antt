@@ -4,7 +4,7 @@ use Rattle.xl_model.specs.declared.leaf.Range.{Range}
 use Rattle.xl_model.specs.Ranges.{range_key, end_key}
 use Rattle.xl_treap.specs.Lines.{left_at, right_at, IsNode}
 use Rattle.xl_treap.specs.Trees.{Tree, Tip, Bin, Pair, IsAt, InOrder, down, merge}
-use Rattle.xl_treap.specs.Steps.{Off, Keeps, Half, CanMerge, CanRise, IsSpine, SameOff, SameBut, IsLinked, hung_left, hung_right}
+use Rattle.xl_treap.specs.Steps.{Off, Keeps, Half, CanMerge, CanRise, IsSpine, SameOff, SameBut, IsLinked, IsHung}
 use Rattle.xl_treap.proofs.OrderLemmas.{pick-yes, pick-no, side}
 use Rattle.xl_treap.proofs.WayLemmas.{child, down-next, order-down}
 use Rattle.xl_treap.proofs.MergeLemmas.{merge-keeps, merge-order}
@@ -31,13 +31,13 @@ half-there words p k (Bin n x l r) h = let a = h.1.there in let e = h.0 in (omeg
 
 -- one node more stands
 rise-node : (old w new : List ℕ) (low high p k at : ℕ) (q : Tree) → Half old p k q → Keeps old q → InOrder low high q → IsAt w at (child k q) → SameBut (child k q) old w
-    → IsLinked w new (p - 1) (hung_left w (p - 1) k at) (hung_right w (p - 1) k at) → IsAt new p q × SameBut q old new
+    → IsHung w new (p - 1) k at → IsAt new p q × SameBut q old new
 rise-node old w new low high p k at Tip h keep o i but link = absurd h
 rise-node old w new low high p k at (Bin n x l r) h keep o i but link =
     let m : p - 1 ≡ n = let e = h.0 in omega arith in
     let some = o.0.some in
-    let L : ℕ → Type 0 = λ z. IsLinked w new z (hung_left w z k at) (hung_right w z k at) in
-    let lk : IsLinked w new n (hung_left w n k at) (hung_right w n k at) = subst L m link in
+    let L : ℕ → Type 0 = λ z. IsHung w new z k at in
+    let lk : IsHung w new n k at = subst L m link in
     let off-l : Off n l = off-key old n (range_key x) low (range_key x) l h.1.key_is keep.1 o.1 (inr (omega arith)) in
     let off-r : Off n r = off-key old n (range_key x) (end_key x) high r h.1.key_is keep.2 o.2 (inl (omega arith)) in
     let O : Tree → Type 0 = λ z. SameOff z old w in
@@ -69,7 +69,7 @@ module _ (old w path : List ℕ) (t : Tree) (k depth d at last : ℕ) (can : Can
   pub rise-some : 0 < slice_index path (d - 1)
   rise-some = (half-there old (slice_index path (d - 1)) k (down t k (d - 1)) half).1
 
-  pub rise-one : (new : List ℕ) → IsLinked w new (slice_index path (d - 1) - 1) (hung_left w (slice_index path (d - 1) - 1) k at) (hung_right w (slice_index path (d - 1) - 1) k at)
+  pub rise-one : (new : List ℕ) → IsHung w new (slice_index path (d - 1) - 1) k at
       → IsAt new (slice_index path (d - 1)) (down t k (d - 1)) × SameBut (down t k (d - 1)) old new
   rise-one new link =
       let m : d ≡ suc (d - 1) = omega arith in

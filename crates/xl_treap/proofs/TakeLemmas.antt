@@ -15,17 +15,8 @@ use Rattle.xl_treap.proofs.FoundLemmas.{tree-is}
 use Rattle.xl_treap.proofs.WayLemmas.{child, down-next, order-down, heap-down, at-there}
 use Rattle.xl_treap.proofs.FrameLemmas.{each-map, at-keeps, frame, node-same, off-key, linked-three}
 use Rattle.xl_treap.proofs.MergeLemmas.{merge-ranges, merge-over, merge-heap, merge-each}
-use Rattle.xl_treap.proofs.GraftLemmas.{Has, down-In, each-down, front-all, graft-without, graft-resized, heap-graft, lift, off-down}
+use Rattle.xl_treap.proofs.GraftLemmas.{Has, alike, down-In, each-down, without-before, resized-before, graft-without, graft-resized, heap-graft, lift, off-down}
 use Rattle.xl_treap.proofs.AttachLemmas.{off-child, Attached, IsParent, attached, parent-there, off-empty}
-
-unlike : (a b : ℕ) → (a ≡ b → ⊥) → (a == b) ≡ false
-unlike a b h = elim (a == b) as (λ c. (a == b) ≡ c → c ≡ false) [
-  | true ↦ λ e. absurd (h (grind (arith, nat_tests)))
-  | false ↦ λ e. refl
-] refl
-
-alike : (a b : ℕ) → a ≡ b → (a == b) ≡ true
-alike a b h = grind (arith, nat_tests)
 
 -- lists without a range
 pub without-apart : (low k : ℕ) (xs : List Range) → IsApart low xs → IsApart low (without_range k xs)
@@ -288,14 +279,8 @@ module _ (w0 path : List ℕ) (root nodes : ℕ) (t : Tree) (k depth at : ℕ) (
         let q = take-key.key in
         merge-ranges low high
         ∙ ap (λ c. ranges low ++ cond c (ranges high) (range ∷ without_range k (ranges high))) (sym e)
-        ∙ sym (front-low (ranges low) (λ z i. let a = order-In o.0 (range_key range) z low o.2.1 i in let b = a.to_high in let c = a.fit.some in omega arith))
+        ∙ sym (without-before k (ranges low) (range ∷ ranges high) (λ z i. let a = order-In o.0 (range_key range) z low o.2.1 i in let b = a.to_high in let c = a.fit.some in omega arith))
         ∙ ap (λ z. without_range k (ranges z)) (sym take-key.is)
-      where
-        front-low : (ls : List Range) → ((z : Range) → In z ls → range_key z < k) → without_range k (ls ++ range ∷ ranges high) ≡ ls ++ without_range k (range ∷ ranges high)
-        front-low [] f = refl
-        front-low (y ∷ ls) f =
-            let u : (range_key y == k) ≡ false = unlike (range_key y) k (λ q. let z = f y (inl refl) in omega arith) in
-            ap (λ c. cond c (ls ++ range ∷ ranges high) (y ∷ without_range k (ls ++ range ∷ ranges high))) u ∙ ap (λ zs. y ∷ zs) (front-low ls (λ z i. f z (inr i)))
 
     whole-ranges : ranges whole ≡ without_range k (ranges t)
     whole-ranges = graft-without k 0 (2 ^ 58) t (merge low high) depth order has merged-is
@@ -405,14 +390,8 @@ module _ (w0 path : List ℕ) (root nodes : ℕ) (t : Tree) (k depth at : ℕ) (
         let e : (range_key range == k) ≡ true = alike (range_key range) k take-key.key in
         let q = take-key.key in
         ap (λ c. ranges low ++ cond c (other ∷ ranges high) (range ∷ resized k pages (ranges high))) (sym e)
-        ∙ sym (front-low (ranges low) (λ z i. let a = order-In o.0 (range_key range) z low o.2.1 i in let b = a.to_high in let c = a.fit.some in omega arith))
+        ∙ sym (resized-before k pages (ranges low) (range ∷ ranges high) (λ z i. let a = order-In o.0 (range_key range) z low o.2.1 i in let b = a.to_high in let c = a.fit.some in omega arith))
         ∙ ap (λ z. resized k pages (ranges z)) (sym take-key.is)
-      where
-        front-low : (ls : List Range) → ((z : Range) → In z ls → range_key z < k) → resized k pages (ls ++ range ∷ ranges high) ≡ ls ++ resized k pages (range ∷ ranges high)
-        front-low [] f = refl
-        front-low (y ∷ ls) f =
-            let u : (range_key y == k) ≡ false = unlike (range_key y) k (λ q. let z = f y (inl refl) in omega arith) in
-            ap (λ c. cond c (record y { pages = pages } ∷ (ls ++ range ∷ ranges high)) (y ∷ resized k pages (ls ++ range ∷ ranges high))) u ∙ ap (λ zs. y ∷ zs) (front-low ls (λ z i. f z (inr i)))
 
     resized-is : ranges (graft t k depth changed) ≡ resized k pages (ranges t)
     resized-is = graft-resized k pages 0 (2 ^ 58) t changed depth order has changed-is

@@ -42,6 +42,10 @@ hung_left words n k at = if nat_lt (slice_index words (4 * n)) k then left_at wo
 abbrev pub hung_right : List ℕ → ℕ → ℕ → ℕ → ℕ
 hung_right words n k at = if nat_lt (slice_index words (4 * n)) k then at else right_at words n
 
+-- a node's link towards the place of a key is another one now, and no other word changed
+abbrev pub IsHung : List ℕ → List ℕ → ℕ → ℕ → ℕ → Type 0
+IsHung old new n k at = IsLinked old new n (hung_left old n k at) (hung_right old n k at)
+
 -- the words of a node all stay
 abbrev pub SameLine : List ℕ → List ℕ → ℕ → Type 0
 SameLine old new m = (j : ℕ) → j < 4 → slice_index new (4 * m + j) ≡ slice_index old (4 * m + j)
@@ -139,7 +143,7 @@ parent_at path (suc d) = slice_index path d
 -- a link below a parent, on the side of a key, or the root where there is no parent
 abbrev pub IsAttached : List ℕ → List ℕ → ℕ → ℕ → ℕ → ℕ → ℕ → Type 0
 IsAttached old new root result zero k at = (new ≡ old) × (result ≡ at)
-IsAttached old new root result (suc p) k at = IsLinked old new p (hung_left old p k at) (hung_right old p k at) × (result ≡ root)
+IsAttached old new root result (suc p) k at = IsHung old new p k at × (result ≡ root)
 
 -- a way that ends at none of the tree's keys
 pub record CanPart (words path : List ℕ) (t : Tree) (k depth : ℕ) : Type 0 where

@@ -20,8 +20,8 @@ pub enum Search {
     TooLong,
 }
 
-/// What an examined node says of a key: its line is not there; its pages hold the key, with its range if
-/// its words say one; or the link to the next node.
+/// What an examined node says of a key: its line is not there; its pages hold the key, with its
+/// range if its words say one; or the link to the next node.
 pub(crate) enum Visit {
     Gone,
     Here(Option<Range>),

@@ -13,8 +13,8 @@ pub(crate) struct Way {
     pub(crate) at: u32,
 }
 
-/// Goes down to the node of a key, or to the end of a path where it would stand. The nodes on the way
-/// are put into `path`, by their links.
+/// Goes down to the node of a key, or to the end of a path where it would stand. The nodes on the
+/// way are put into `path`, by their links.
 pub(crate) fn descend(words: &[u64], path: &mut [u32], root: u32, key: u64) -> Way
     ghost tree: { Tree }
     requires at { IsAt words.now root tree }
@@ -47,8 +47,8 @@ pub(crate) fn parent_of(path: &[u32], depth: usize) -> u32
     if depth == 0 { 0 } else { path[depth - 1] }
 }
 
-/// Makes `at` the link below a parent, on the side of a key, or the root where there is no parent.
-/// Answers the root.
+/// Makes `at` the link below a parent, on the side of a key, or the root where there is no
+/// parent. Answers the root.
 pub(crate) fn attach(words: &mut [u64], root: u32, parent: u32, key: u64, at: u32) -> u32
     requires { 4 * parent ≤ length words.old }
     ensures { IsAttached words.old words.new root result parent key at }

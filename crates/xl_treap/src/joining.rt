@@ -7,8 +7,8 @@ ghost use Rattle.xl_treap.specs.Steps.{CanMerge, IsSpine, CanRise, IsRisen, CanT
 use crate::descent::{Way, attach, descend, parent_of};
 use crate::node::{hang, is_above, left_of, right_of, set_pages};
 
-/// Goes down two trees, of which the second lies behind the first and the key between them, along the
-/// nodes of one tree of both.
+/// Goes down two trees, of which the second lies behind the first and the key between them, along
+/// the nodes of one tree of both.
 pub(crate) fn merge_down(words: &[u64], path: &mut [u32], low: u32, high: u32) -> Way
     ghost pair: { Pair }
     requires { CanMerge words.now low high (length path.old) pair }
@@ -38,8 +38,8 @@ pub(crate) fn merge_down(words: &[u64], path: &mut [u32], low: u32, high: u32) -
     }
 }
 
-/// Goes up a way of so many nodes, and links each to what comes from below. Answers the link to the
-/// first.
+/// Goes up a way of so many nodes, and links each to what comes from below. Answers the link to
+/// the first.
 pub(crate) fn rise(words: &mut [u64], path: &[u32], way: Way, key: u64) -> u32
     ghost tree: { Tree }
     requires { CanRise words.old path.now tree key way.depth way.at }
@@ -56,8 +56,8 @@ pub(crate) fn rise(words: &mut [u64], path: &[u32], way: Way, key: u64) -> u32
     at
 }
 
-/// Makes one tree of two, of which the second lies behind the first and the key between them. Answers
-/// the link to its top.
+/// Makes one tree of two, of which the second lies behind the first and the key between them.
+/// Answers the link to its top.
 pub(crate) fn join(words: &mut [u64], path: &mut [u32], low: u32, high: u32, key: u64) -> u32
     ghost pair: { Pair }
     requires merge { CanMerge words.old low high (length path.old) pair }

@@ -5,7 +5,7 @@ ghost use Rattle.xl_model.specs.Addresses.{level_of};
 ghost use Rattle.xl_model.specs.Ranges.{is_above as above};
 ghost use Rattle.xl_treap.specs.Treaps.{key_at};
 ghost use Rattle.xl_treap.specs.Lines.{order_said, range_said, node_word, left_at, right_at};
-ghost use Rattle.xl_treap.specs.Steps.{IsLinked, IsLined, IsSized, step_at, hung_left, hung_right};
+ghost use Rattle.xl_treap.specs.Steps.{IsLinked, IsLined, IsSized, IsHung, step_at};
 
 use xl_model::{Order, Range, mix};
 use xl_pte::{Pte, decode, leaf_word};
@@ -18,7 +18,8 @@ pub(crate) fn key_of(space: u16, page: u64) -> u64
     space as u64 * (1 << 52) + page
 }
 
-/// Whether key `a` is above key `b`: it has the lesser hash, or of two equal ones it is the lesser.
+/// Whether key `a` is above key `b`: it has the lesser hash, or of two equal ones it is the
+/// lesser.
 pub(crate) fn is_above(a: u64, b: u64) -> bool
     ensures { result ≡ above a b }
 {
@@ -39,7 +40,8 @@ fn order_of(number: u64) -> Option<Order>
     }
 }
 
-/// The range that the first three words of a node say. None where the third isn't that of a range.
+/// The range that the first three words of a node say. None where the third isn't that of a
+/// range.
 #[tactic(auto, unfolding(crate::specs::Lines::range_said))]
 pub(crate) fn range_in(key: u64, pages: u64, word: u64) -> Option<Range>
     ensures { result ≡ range_said key pages word }
@@ -120,7 +122,7 @@ pub(crate) fn set_links(words: &mut [u64], node: u32, left: u32, right: u32)
 /// Puts the link `at` in place of a node's link towards the place of a key.
 pub(crate) fn hang(words: &mut [u64], node: u32, key: u64, at: u32)
     requires { 4 * node + 4 ≤ length words.old }
-    ensures { IsLinked words.old words.new node (hung_left words.old node key at) (hung_right words.old node key at) }
+    ensures { IsHung words.old words.new node key at }
 {
     if words[4 * node as usize] < key {
         let left = left_of(words, node);

@@ -1,5 +1,6 @@
-//! Treaps of a few ranges, whose words and loads are worked out by hand from the definition of the hash;
-//! words that are no treap's; a thousand calls beside a list of pages; and the largest treap.
+//! Treaps of a few ranges, whose words and loads are worked out by hand from the definition of
+//! the hash; words that are no treap's; a thousand calls beside a list of pages; and the largest
+//! treap.
 
 ghost use Rattle.std.specs.Prelude.{◌≡◌, ◌+◌, ◌≤◌, true, IfSome};
 ghost use Rattle.std.specs.List.{list_any};
@@ -162,8 +163,8 @@ fn number_of(found: Option<Range>, page: u64) -> u64 {
     }
 }
 
-/// One of a thousand calls: a range comes, a range goes, or a range gets other pages. Answers which call
-/// was made, if one was.
+/// One of a thousand calls: a range comes, a range goes, or a range gets other pages. Answers
+/// which call was made, if one was.
 fn call(treap: &mut Treap, held: &mut [u64], random: u64, first: u64) -> Option<usize> {
     let page = (random >> 33) % 240;
     let pages = 1 + (random >> 45) % 12;
@@ -191,7 +192,8 @@ fn call(treap: &mut Treap, held: &mut [u64], random: u64, first: u64) -> Option<
     Some(kind - 1)
 }
 
-/// A range's permission and order stand in its third word, and the range of the least hash is the root.
+/// A range's permission and order stand in its third word, and the range of the least hash is the
+/// root.
 #[test]
 fn three_ranges_stand_where_their_hashes_say(rt: HostRuntime) -> Result<(), Fail> {
     let mut treap = Treap::open(rt.alloc(), 3)?;
@@ -242,8 +244,8 @@ fn three_ranges_stand_where_their_hashes_say(rt: HostRuntime) -> Result<(), Fail
     Ok(())
 }
 
-/// Node 0 has nodes 1 and 2 under it; node 1 has no leaf's word and leads back to node 0; node 2 leads to
-/// a node that isn't there.
+/// Node 0 has nodes 1 and 2 under it; node 1 has no leaf's word and leads back to node 0; node 2
+/// leads to a node that isn't there.
 #[test]
 fn words_that_are_no_treap_end_a_search(rt: HostRuntime) -> Result<(), Fail> {
     let mut memory = PhysMem::open(rt.alloc(), 12)?;

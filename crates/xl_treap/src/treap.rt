@@ -21,10 +21,10 @@ use std::marker::Model;
 use xl_model::{Full, NoMemory, Range};
 use xl_phys::{Bus, line_of};
 
-/// Ranges, none over another, as a treap in words: a node is a line of its range's key, which is 2^52
-/// for each space before it and its first page, its pages, the word of its frame, permission and order,
-/// and two links. Keys rise from left to right, and the hashes of keys rise downwards. Contracts see
-/// the ranges as a list, sorted by their keys. Nothing is allocated after `open`.
+/// Ranges, none over another, as a treap in words: a node is a line of its range's key, which is
+/// 2^52 for each space before it and its first page, its pages, the word of its frame, permission
+/// and order, and two links. Keys rise from left to right, and the hashes of keys rise downwards.
+/// Contracts see the ranges as a list, sorted by their keys. Nothing is allocated after `open`.
 #[derive(Drop)]
 pub struct Treap {
     words: Vec<u64>,
@@ -116,8 +116,8 @@ impl Treap {
         })
     }
 
-    /// Holds one range more, which lies over none that is held. Full exactly where as many ranges are
-    /// held as there are nodes; then nothing changes.
+    /// Holds one range more, which lies over none that is held. Full exactly where as many ranges
+    /// are held as there are nodes; then nothing changes.
     pub fn insert(&mut self, range: Range) -> Result<(), Full>
         requires { IsApart 0 (with_range range self.old.seen.kept) }
         ensures ok { OnOk result (self.new.seen ≡ keeping self.old.seen (with_range range self.old.seen.kept)) }
@@ -149,8 +149,8 @@ impl Treap {
         }
     }
 
-    /// Gives the range of the space that starts at page `start`, which is held, so many pages. It then
-    /// lies over no other.
+    /// Gives the range of the space that starts at page `start`, which is held, so many pages. It
+    /// then lies over no other.
     pub fn resize(&mut self, space: u16, start: u64, pages: u64)
         requires held { list_any (has_key (key_at space start)) self.old.seen.kept ≡ true }
         requires apart { IsApart 0 (resized (key_at space start) pages self.old.seen.kept) }
@@ -184,8 +184,8 @@ impl Treap {
         range_at(&self.words, found.before, space)
     }
 
-    /// The first range of the space that starts at the page or above it, None exactly where there is
-    /// none.
+    /// The first range of the space that starts at the page or above it, None exactly where there
+    /// is none.
     pub fn from(&self, space: u16, page: u64) -> Option<Range>
         requires space_in { space < 64 }
         requires page_in { page ≤ 2 ^ 52 }
@@ -202,13 +202,15 @@ impl Treap {
         (self.path.len() - self.free.len()) as u32
     }
 
-    /// The range that holds the page, found by a search of the treap's own words, which counts a load
-    /// for each range that it reads.
+    /// The range that holds the page, found by a search of the treap's own words, which counts a
+    /// load for each range that it reads.
     pub fn walk(&mut self, space: u16, page: u64) -> Option<Range>
         requires space_in { space < 64 }
         requires page_in { page < 2 ^ 52 }
         ensures found { result ≡ find (holds_page space page) self.old.seen.kept }
-        ensures loads { self.new.seen ≡ record self.old.seen { loads = plus self.old.seen.loads (range_reads self.old.seen.kept space page) } }
+        ensures loads { self.new.seen ≡ record self.old.seen {
+          loads = plus self.old.seen.loads (range_reads self.old.seen.kept space page);
+        } }
         ensures words { self.new.words ≡ self.old.words }
         ensures root { self.new.root ≡ self.old.root }
     {
@@ -216,8 +218,8 @@ impl Treap {
         range_of(Treap::search(self, root, nodes, space, page))
     }
 
-    /// Searches the words of any bus for the range that holds the page: from the root down, one load for
-    /// each node examined. `root` is a node's number plus one, or 0.
+    /// Searches the words of any bus for the range that holds the page: from the root down, one
+    /// load for each node examined. `root` is a node's number plus one, or 0.
     pub fn search<B: Bus>(bus: &mut B, root: u32, nodes: u32, space: u16, page: u64) -> Search
         requires space_in { space < 64 }
         requires page_in { page < 2 ^ 52 }
@@ -234,8 +236,8 @@ impl Treap {
         self.root
     }
 
-    /// What the type keeps: the words are those of a treap of the ranges that are held, and a search of
-    /// them finds what is held.
+    /// What the type keeps: the words are those of a treap of the ranges that are held, and a
+    /// search of them finds what is held.
     pub fn words_read_back(&self)
         ensures { WordsReadBack self.now }
     {
