@@ -1,14 +1,11 @@
 -- A tree is hung under the end of a way.
-use Rattle.std.proofs.Common.{◌≡◌, refl, sym, ap, ◌∙◌, subst, ℕ, zero, suc, ◌+◌, ◌-◌, ◌*◌, ◌^◌, ◌<◌, ◌≤◌, Bool, true, false, cond, nat_lt, ◌==◌, List, [], ◌∷◌, ◌++◌, length, slice_index, ◌⊎◌, inl, inr, arith}
+use Rattle.std.proofs.Common.{◌≡◌, refl, sym, ap, ◌∙◌, subst, ℕ, zero, suc, ◌+◌, ◌-◌, ◌*◌, ◌<◌, ◌≤◌, true, false, cond, nat_lt, ◌==◌, List, length, slice_index, ◌⊎◌, inl, inr, arith}
 use Rattle.std.proofs.lemmas.Bool.Decides.{nat_tests}
 use Rattle.xl_model.specs.declared.leaf.Range.{Range}
-use Rattle.xl_model.specs.Ranges.{range_key, end_key, is_above}
-use Rattle.xl_model_lemmas.specs.Members.{In}
-use Rattle.xl_treap.specs.Treaps.{IsFit}
-use Rattle.xl_treap.specs.Lines.{IsNode}
-use Rattle.xl_treap.specs.Trees.{Tree, Tip, Bin, ranges, IsAt, InOrder, down, graft}
-use Rattle.xl_treap.specs.Steps.{IsAttached, IsLinked, IsLined, SameLine, Each, Off, SameOff, Keeps, IsEmpty, parent_at, IsHung}
-use Rattle.xl_treap.proofs.OrderLemmas.{pick-yes, pick-no, side, order-le}
+use Rattle.xl_model.specs.Ranges.{range_key, end_key}
+use Rattle.xl_treap.specs.Trees.{Tree, Tip, Bin, IsAt, InOrder, down, graft}
+use Rattle.xl_treap.specs.Steps.{IsAttached, IsLined, SameLine, Each, Off, SameOff, Keeps, IsEmpty, parent_at, IsHung}
+use Rattle.xl_treap.proofs.OrderLemmas.{pick-yes, pick-no, side}
 use Rattle.xl_treap.proofs.WayLemmas.{child, down-next, order-down, at-there}
 use Rattle.xl_treap.proofs.FrameLemmas.{at-keeps, off-key, with_child, Hung, hung-low, hung-high}
 use Rattle.xl_treap.proofs.GraftLemmas.{lift, off-down, graft-next}

@@ -1,5 +1,5 @@
 -- The words of a treap tell what it holds.
-use Rattle.std.proofs.Common.{◌≡◌, refl, sym, ap, ◌∙◌, subst, ℕ, zero, suc, ◌+◌, ◌*◌, ◌%◌, ◌^◌, ◌<◌, ◌≤◌, true, false, List, [], ◌∷◌, ◌++◌, length, slice_index, replicate, length-append, find, Option, None, Some, inl, inr, arith}
+use Rattle.std.proofs.Common.{◌≡◌, refl, sym, ap, ◌∙◌, subst, ℕ, zero, suc, ◌+◌, ◌*◌, ◌%◌, ◌^◌, ◌<◌, ◌≤◌, List, [], ◌∷◌, length, slice_index, replicate, length-append, find, Option, None, Some, inl, inr, arith}
 use Rattle.std.proofs.lemmas.List.{get_or-replicate, length-replicate}
 use Rattle.xl_model.specs.declared.leaf.Range.{Range}
 use Rattle.xl_model.specs.Base.{plus}
@@ -8,14 +8,14 @@ use Rattle.xl_model_lemmas.specs.Members.{In, Once}
 use Rattle.xl_model_lemmas.proofs.MemberLemmas.{In-append}
 use Rattle.xl_model_lemmas.proofs.OnceLemmas.{once-more}
 use Rattle.xl_treap.specs.Treaps.{TreapState, key_at}
-use Rattle.xl_treap.specs.Back.{Searched, ended, end_of, range_found, search_from, tree_back, loaded_times}
+use Rattle.xl_treap.specs.Back.{Searched, ended, end_of, range_found, search_from, loaded_times}
 use Rattle.xl_treap.specs.Trees.{Tree, Tip, ranges, tree_at}
 use Rattle.xl_treap.specs.Steps.{IsEmpty}
 use Rattle.xl_treap.specs.Kept.{IsTreap, IsKept, WordsReadBack, seen_in, after_load, upto}
 use Rattle.xl_treap.proofs.OrderLemmas.{order-apart}
 use Rattle.xl_treap.proofs.ReadLemmas.{examined-reads}
-use Rattle.xl_treap.proofs.FoundLemmas.{seek-tree, found, found-is, none-at}
-use Rattle.xl_treap.proofs.KeptLemmas.{Holds, stands-treap}
+use Rattle.xl_treap.proofs.FoundLemmas.{seek-tree, found, found-is}
+use Rattle.xl_treap.proofs.KeptLemmas.{stands-treap}
 
 -- a search of the words finds what is held, by as many loads as there are ranges to read
 pub search-kept : (words : List ℕ) (root nodes space page : ℕ) (free : List ℕ) (t : Tree) → IsTreap words root nodes free t → page < 2 ^ 52

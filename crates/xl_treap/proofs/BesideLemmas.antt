@@ -1,14 +1,14 @@
 -- The ranges beside a key's place, on the key's way down.
-use Rattle.std.proofs.Common.{◌≡◌, refl, sym, ap, ◌∙◌, subst, ℕ, zero, suc, ◌+◌, ◌-◌, ◌*◌, ◌^◌, ◌<◌, ◌≤◌, Bool, true, false, cond, nat_lt, List, [], ◌∷◌, ◌++◌, length, slice_index, Option, None, Some, inl, inr, arith}
+use Rattle.std.proofs.Common.{◌≡◌, refl, sym, ap, ◌∙◌, subst, ℕ, suc, ◌+◌, ◌-◌, ◌*◌, ◌^◌, ◌<◌, ◌≤◌, true, false, cond, nat_lt, List, [], ◌∷◌, ◌++◌, length, slice_index, Option, None, Some, inl, inr, arith}
 use Rattle.xl_model.specs.declared.leaf.Range.{Range}
-use Rattle.xl_model.specs.Ranges.{range_key, end_key}
+use Rattle.xl_model.specs.Ranges.{range_key}
 use Rattle.xl_model_lemmas.specs.Members.{In}
 use Rattle.xl_treap.specs.declared.beside.Beside.{Beside}
 use Rattle.xl_treap.specs.Treaps.{last_or, last_below, first_from}
-use Rattle.xl_treap.specs.Lines.{left_at, right_at, range_of_link, IsNode}
+use Rattle.xl_treap.specs.Lines.{left_at, right_at, range_of_link}
 use Rattle.xl_treap.specs.Trees.{Tree, Tip, Bin, ranges, IsAt, InOrder, down}
 use Rattle.xl_treap.specs.Steps.{CanLook, AreBeside}
-use Rattle.xl_treap.proofs.OrderLemmas.{pick-yes, pick-no, side, sizes, order-apart, order-In}
+use Rattle.xl_treap.proofs.OrderLemmas.{pick-yes, pick-no, sizes, order-apart, order-In}
 use Rattle.xl_treap.proofs.WordLemmas.{node-said}
 use Rattle.xl_treap.proofs.WayLemmas.{child, down-next, order-down, at-there, none-left}
 

@@ -1,14 +1,12 @@
 -- A tree is parted at a key, from the end of the key's way up.
-use Rattle.std.proofs.Common.{◌≡◌, refl, sym, ap, ◌∙◌, subst, ℕ, zero, suc, ◌+◌, ◌-◌, ◌*◌, ◌^◌, ◌<◌, ◌≤◌, Bool, true, false, cond, nat_lt, List, [], ◌∷◌, length, slice_index, inl, inr, arith}
-use Rattle.xl_model.specs.declared.leaf.Range.{Range}
+use Rattle.std.proofs.Common.{◌≡◌, refl, sym, ap, ◌∙◌, subst, ℕ, suc, ◌+◌, ◌-◌, ◌*◌, ◌^◌, ◌<◌, ◌≤◌, Bool, true, false, cond, nat_lt, List, length, slice_index, inl, inr, arith}
 use Rattle.xl_model.specs.Ranges.{range_key, end_key, is_above}
-use Rattle.xl_treap.specs.Lines.{left_at, right_at, IsNode}
 use Rattle.xl_treap.specs.Trees.{Tree, Tip, Bin, IsAt, InOrder, Over, IsHeap, down, cut_low, cut_high}
-use Rattle.xl_treap.specs.Steps.{IsLinked, SameLine, Each, Off, SameOff, SameBut, IsCut, IsWay, CanPart, IsPlace, TopOver, IsHung}
-use Rattle.xl_treap.proofs.OrderLemmas.{pick-yes, pick-no, side}
+use Rattle.xl_treap.specs.Steps.{SameLine, Each, Off, SameBut, IsCut, CanPart, TopOver, IsHung}
+use Rattle.xl_treap.proofs.OrderLemmas.{pick-yes, pick-no}
 use Rattle.xl_treap.proofs.AboveLemmas.{above-total, over-chain}
 use Rattle.xl_treap.proofs.WayLemmas.{child, down-next, order-down, heap-down, at-there}
-use Rattle.xl_treap.proofs.FrameLemmas.{each-map, at-keeps, frame, off-key, linked-line, linked-three, with_child, Hung, hung-low, hung-high}
+use Rattle.xl_treap.proofs.FrameLemmas.{each-map, at-keeps, frame, off-key, linked-line, linked-three, Hung, hung-low, hung-high}
 
 pub each-low : (P : ℕ → Type 0) (k : ℕ) (t : Tree) → Each P t → Each P (cut_low k t)
 each-low P k Tip e = tt

@@ -8,7 +8,7 @@ use Rattle.xl_treap.specs.declared.along.Search.TheVariants as search_end
 use Rattle.xl_treap.specs.declared.along.Visit.{Visit}
 use Rattle.xl_treap.specs.declared.along.Visit.TheVariants as visit
 use Rattle.xl_treap.specs.Treaps.{IsFit, key_at}
-use Rattle.xl_treap.specs.Lines.{left_at, right_at, range_of_node, IsNode}
+use Rattle.xl_treap.specs.Lines.{left_at, right_at, IsNode}
 use Rattle.xl_treap.specs.Back.{Searched, ended, end_of, loaded_before, visit_of, visited, search_from}
 use Rattle.xl_treap.specs.Trees.{Tree, Tip, Bin, ranges, tree_at, tree_by, IsAt, InOrder}
 use Rattle.xl_treap.proofs.WordLemmas.{said-back, node-said}

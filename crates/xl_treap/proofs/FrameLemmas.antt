@@ -1,13 +1,11 @@
 -- Trees whose words stay where others change.
-use Rattle.std.proofs.Common.{◌≡◌, refl, sym, ap, ◌∙◌, subst, ℕ, zero, suc, ◌+◌, ◌-◌, ◌*◌, ◌/◌, ◌%◌, ◌^◌, ◌<◌, ◌≤◌, Bool, true, false, cond, nat_lt, List, [], ◌∷◌, ◌++◌, length, slice_index, ◌⊎◌, inl, inr, arith}
+use Rattle.std.proofs.Common.{◌≡◌, refl, sym, ap, ◌∙◌, subst, ℕ, suc, ◌+◌, ◌*◌, ◌/◌, ◌%◌, ◌^◌, ◌<◌, ◌≤◌, cond, nat_lt, List, length, slice_index, ◌⊎◌, inl, inr, arith}
 use Rattle.xl_model.specs.declared.leaf.Range.{Range}
 use Rattle.xl_model.specs.Ranges.{range_key, end_key}
-use Rattle.xl_treap.specs.Treaps.{IsFit}
 use Rattle.xl_treap.specs.Lines.{left_at, right_at, IsNode}
-use Rattle.xl_treap.specs.Trees.{Tree, Tip, Bin, ranges, IsAt, InOrder}
-use Rattle.xl_treap.specs.Steps.{IsLinked, SameLine, Each, Off, SameOff, SameBut, Keeps, IsHung}
+use Rattle.xl_treap.specs.Trees.{Tree, Tip, Bin, IsAt, InOrder}
+use Rattle.xl_treap.specs.Steps.{IsLinked, SameLine, Each, Off, SameOff, Keeps, IsHung}
 use Rattle.xl_treap.proofs.OrderLemmas.{pick-yes, pick-no, order-le}
-use Rattle.xl_treap.proofs.WayLemmas.{child}
 
 pub each-map : (P Q : ℕ → Type 0) (t : Tree) → ((m : ℕ) → P m → Q m) → Each P t → Each Q t
 each-map P Q Tip f e = tt

@@ -1,18 +1,16 @@
 -- Another tree so many steps down a way: the ranges, the priorities and the words of the whole.
-use Rattle.std.proofs.Common.{◌≡◌, refl, sym, ap, ◌∙◌, subst, ℕ, zero, suc, ◌+◌, ◌-◌, ◌*◌, ◌/◌, ◌%◌, ◌^◌, ◌<◌, ◌≤◌, Bool, true, false, cond, nat_lt, ◌==◌, List, [], ◌∷◌, ◌++◌, length, slice_index, append_assoc, inl, inr, arith}
+use Rattle.std.proofs.Common.{◌≡◌, refl, sym, ap, ◌∙◌, subst, ℕ, zero, suc, ◌/◌, ◌%◌, ◌^◌, ◌<◌, ◌≤◌, Bool, true, false, cond, nat_lt, ◌==◌, List, [], ◌∷◌, ◌++◌, append_assoc, inl, inr, arith}
 use Rattle.std.proofs.lemmas.Bool.Decides.{nat_tests}
 use Rattle.xl_model.specs.declared.leaf.Range.{Range}
-use Rattle.xl_model.specs.Ranges.{range_key, end_key, is_above}
+use Rattle.xl_model.specs.Ranges.{range_key, end_key}
 use Rattle.xl_model_lemmas.specs.Members.{In}
 use Rattle.xl_model_lemmas.proofs.MemberLemmas.{In-left, In-right}
 use Rattle.xl_treap.specs.Treaps.{with_range, without_range, resized}
-use Rattle.xl_treap.specs.Lines.{left_at, right_at, IsNode}
+use Rattle.xl_treap.specs.Lines.{left_at, right_at}
 use Rattle.xl_treap.specs.Trees.{Tree, Tip, Bin, ranges, IsAt, InOrder, Over, IsHeap, down, graft, cut_low, cut_high}
-use Rattle.xl_treap.specs.Steps.{IsAttached, IsLinked, SameLine, Each, Off, SameOff, TopOver, parent_at, IsHung}
-use Rattle.xl_treap.proofs.OrderLemmas.{pick-yes, pick-no, side, order-In, Lies}
-use Rattle.xl_treap.proofs.AboveLemmas.{above-chain, over-chain}
-use Rattle.xl_treap.proofs.WayLemmas.{child, down-next, order-down}
-use Rattle.xl_treap.proofs.FrameLemmas.{each-map, each-off, at-keeps, frame, off-key, node-same, with_child, Hung, hung-low, hung-high}
+use Rattle.xl_treap.specs.Steps.{SameLine, Each, Off, SameOff}
+use Rattle.xl_treap.proofs.OrderLemmas.{pick-yes, pick-no, side, order-In}
+use Rattle.xl_treap.proofs.FrameLemmas.{each-map, each-off, at-keeps, frame, off-key, node-same, with_child}
 
 pub down-In : (y : Range) (t : Tree) (k d : ℕ) → In y (ranges (down t k d)) → In y (ranges t)
 down-In y t k zero i = i

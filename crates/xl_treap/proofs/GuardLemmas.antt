@@ -1,5 +1,5 @@
 -- What tests of the ranges beside a place tell of the ranges that are held. For the crate's tests.
-use Rattle.std.proofs.Common.{◌≡◌, refl, sym, ap, ◌∙◌, subst, ℕ, ◌+◌, ◌*◌, ◌^◌, ◌<◌, ◌≤◌, Bool, true, false, cond, nat_lt, ◌==◌, List, [], ◌∷◌, find, Option, None, Some, ◌⊎◌, inl, inr, arith}
+use Rattle.std.proofs.Common.{◌≡◌, refl, sym, ap, ◌∙◌, subst, ℕ, ◌+◌, ◌^◌, ◌<◌, ◌≤◌, true, false, cond, nat_lt, ◌==◌, List, [], ◌∷◌, find, Option, None, Some, inl, inr, arith}
 use Rattle.std.specs.List.{list_any}
 use Rattle.std.specs.Prelude.{IfSome, is_some}
 use Rattle.std.proofs.lemmas.Bool.Decides.{nat_tests}
@@ -8,7 +8,7 @@ use Rattle.xl_model.specs.Ranges.{range_key, end_key, holds_page}
 use Rattle.xl_model_lemmas.specs.Members.{In}
 use Rattle.xl_model_lemmas.proofs.MemberLemmas.{find-In, find-passes, In-any}
 use Rattle.xl_treap.specs.Treaps.{IsFit, IsApart, key_at, with_range, resized, last_or, last_below, first_from, of_space, has_key}
-use Rattle.xl_treap.proofs.OrderLemmas.{pick-yes, pick-no, side, apart-within, within-In, Lies, fit-end}
+use Rattle.xl_treap.proofs.OrderLemmas.{pick-yes, pick-no, side, apart-within, within-In, fit-end}
 use Rattle.xl_treap.proofs.AttachLemmas.{same-or-not}
 
 -- what is last below a key is one of the ranges, and below it

@@ -1,14 +1,13 @@
 -- What a treap keeps after a change of its words.
-use Rattle.std.proofs.Common.{◌≡◌, refl, sym, ap, ◌∙◌, subst, ℕ, zero, suc, ◌+◌, ◌-◌, ◌*◌, ◌^◌, ◌<◌, ◌≤◌, Bool, true, false, cond, nat_lt, ◌==◌, List, [], ◌∷◌, ◌++◌, length, length-append, inl, inr, arith}
-use Rattle.std.proofs.lemmas.Bool.Decides.{nat_tests}
+use Rattle.std.proofs.Common.{◌≡◌, refl, sym, ap, ◌∙◌, subst, ℕ, suc, ◌+◌, ◌*◌, ◌^◌, ◌≤◌, true, false, cond, nat_lt, ◌==◌, List, [], ◌∷◌, ◌++◌, length, length-append, inl, inr, arith}
 use Rattle.xl_model.specs.declared.leaf.Range.{Range}
-use Rattle.xl_model.specs.Ranges.{range_key, end_key}
+use Rattle.xl_model.specs.Ranges.{range_key}
 use Rattle.xl_model_lemmas.specs.Members.{In, Once}
 use Rattle.xl_model_lemmas.proofs.MemberLemmas.{In-left, In-right, In-append}
 use Rattle.xl_model_lemmas.proofs.OnceLemmas.{once-last, once-more}
-use Rattle.xl_treap.specs.Treaps.{TreapView, IsApart, with_range, without_range, resized}
-use Rattle.xl_treap.specs.Trees.{Tree, ranges, tree_at, IsAt}
-use Rattle.xl_treap.specs.Steps.{IsTree, IsEmpty, IsMade, CanPut, CanLook}
+use Rattle.xl_treap.specs.Treaps.{TreapView, IsApart, with_range, resized}
+use Rattle.xl_treap.specs.Trees.{Tree, ranges, tree_at}
+use Rattle.xl_treap.specs.Steps.{IsTree, IsEmpty, IsMade, CanPut}
 use Rattle.xl_treap.specs.Kept.{IsTreap, IsKept, seen_in}
 use Rattle.xl_treap.proofs.OrderLemmas.{order-apart}
 use Rattle.xl_treap.proofs.FoundLemmas.{tree-is}

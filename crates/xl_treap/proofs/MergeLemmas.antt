@@ -1,14 +1,13 @@
 -- Two trees are made one.
-use Rattle.std.proofs.Common.{◌≡◌, refl, sym, ap, ◌∙◌, subst, ℕ, zero, suc, ◌+◌, ◌-◌, ◌*◌, ◌^◌, ◌<◌, ◌≤◌, Bool, true, false, cond, nat_lt, List, [], ◌∷◌, ◌++◌, length, slice_index, slice_set, get_or-set_other, get_or-set_same, length-set, append_assoc, ◌⊎◌, inl, inr, arith}
+use Rattle.std.proofs.Common.{◌≡◌, refl, sym, ap, ◌∙◌, subst, ℕ, suc, ◌+◌, ◌-◌, ◌*◌, ◌<◌, ◌≤◌, Bool, true, false, cond, List, [], ◌∷◌, ◌++◌, length, slice_index, slice_set, get_or-set_other, get_or-set_same, length-set, append_assoc, inl, inr, arith}
 use Rattle.xl_model.specs.declared.leaf.Range.{Range}
 use Rattle.xl_model.specs.Ranges.{range_key, end_key, is_above}
-use Rattle.xl_treap.specs.Lines.{left_at, right_at, IsNode}
+use Rattle.xl_treap.specs.Lines.{left_at, right_at}
 use Rattle.xl_treap.specs.Trees.{Tree, Tip, Bin, Pair, ranges, IsAt, InOrder, IsHeap, Over, down, merge, merge_into}
-use Rattle.xl_treap.specs.Steps.{Each, Keeps, Half, CanMerge, CanRise, IsSpine, Off, SameBut, IsLinked, IsHung}
-use Rattle.xl_treap.proofs.OrderLemmas.{pick-yes, pick-no, side, sizes, Within, within-le, order-of, of-order, order-le, order-wider}
+use Rattle.xl_treap.specs.Steps.{Each, Keeps, Half, CanMerge}
+use Rattle.xl_treap.proofs.OrderLemmas.{pick-yes, pick-no, side, sizes, Within, order-of, of-order, order-le, order-wider}
 use Rattle.xl_treap.proofs.AboveLemmas.{above-total, over-chain}
-use Rattle.xl_treap.proofs.WayLemmas.{child, down-next, order-down, at-there, none-left}
-use Rattle.xl_treap.proofs.FrameLemmas.{at-keeps, off-key, linked-three, with_child, Hung, hung-low, hung-high}
+use Rattle.xl_treap.proofs.WayLemmas.{child, down-next, at-there, none-left}
 
 pub merge-none : (a : Tree) → merge a Tip ≡ a
 merge-none Tip = refl

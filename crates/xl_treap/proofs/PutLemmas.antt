@@ -1,19 +1,18 @@
 -- A range is put into a tree.
-use Rattle.std.proofs.Common.{◌≡◌, refl, sym, ap, ◌∙◌, subst, ℕ, zero, suc, ◌+◌, ◌-◌, ◌*◌, ◌/◌, ◌%◌, ◌^◌, ◌<◌, ◌≤◌, Bool, true, false, cond, nat_lt, List, [], ◌∷◌, ◌++◌, length, slice_index, slice_set, get_or-set_other, get_or-set_same, length-set, ◌⊎◌, inl, inr, arith}
-use Rattle.std.proofs.lemmas.Bool.Decides.{nat_tests}
+use Rattle.std.proofs.Common.{◌≡◌, refl, sym, ap, ◌∙◌, subst, ℕ, zero, suc, ◌+◌, ◌-◌, ◌*◌, ◌^◌, ◌<◌, ◌≤◌, true, false, cond, nat_lt, List, [], ◌∷◌, length, slice_index, slice_set, get_or-set_other, get_or-set_same, length-set, inl, inr, arith}
 use Rattle.xl_model.specs.declared.leaf.Range.{Range}
 use Rattle.xl_model.specs.Ranges.{range_key, end_key, is_above}
 use Rattle.xl_model_lemmas.specs.Members.{In}
-use Rattle.xl_model_lemmas.proofs.MemberLemmas.{In-left, In-right}
+use Rattle.xl_model_lemmas.proofs.MemberLemmas.{In-right}
 use Rattle.xl_treap.specs.declared.parting.Parts.{Parts}
 use Rattle.xl_treap.specs.Treaps.{IsFit, IsApart, with_range}
-use Rattle.xl_treap.specs.Lines.{IsNode, left_at, right_at}
+use Rattle.xl_treap.specs.Lines.{IsNode}
 use Rattle.xl_treap.specs.Trees.{Tree, Tip, Bin, ranges, IsAt, InOrder, IsHeap, Over, down, graft, cut_low, cut_high}
-use Rattle.xl_treap.specs.Steps.{IsAttached, IsLinked, IsLined, SameLine, Each, Off, SameOff, TopOver, IsWay, IsCut, IsPlace, IsTree, IsEmpty, IsMade, CanPart, CanPut, IsParted, parent_at}
-use Rattle.xl_treap.proofs.OrderLemmas.{pick-yes, pick-no, side, Within, apart-within, within-In, Lies, order-apart, fit-end}
-use Rattle.xl_treap.proofs.AboveLemmas.{above-chain, over-chain}
-use Rattle.xl_treap.proofs.WayLemmas.{child, down-next, order-down, heap-down, at-there}
-use Rattle.xl_treap.proofs.FrameLemmas.{each-map, at-keeps, frame, node-same, line-chain, linked-line, linked-three, with_child}
+use Rattle.xl_treap.specs.Steps.{IsAttached, IsLinked, IsLined, SameLine, Each, Off, SameOff, TopOver, IsWay, IsMade, CanPart, CanPut, IsParted, parent_at}
+use Rattle.xl_treap.proofs.OrderLemmas.{pick-yes, pick-no, side, apart-within, within-In, order-apart, fit-end}
+use Rattle.xl_treap.proofs.AboveLemmas.{above-chain}
+use Rattle.xl_treap.proofs.WayLemmas.{child, down-next, order-down, heap-down}
+use Rattle.xl_treap.proofs.FrameLemmas.{each-map, at-keeps, frame, node-same, linked-line, linked-three, with_child}
 use Rattle.xl_treap.proofs.CutLemmas.{each-low, each-high}
 use Rattle.xl_treap.proofs.GraftLemmas.{down-In, each-down, graft-with, cut-with, heap-graft, over-low, over-high, heap-low, heap-high, graft-next}
 use Rattle.xl_treap.proofs.AttachLemmas.{same-or-not, top-each, off-child, Attached, IsParent, attached, parent-there, off-empty, lined-line}

@@ -1,6 +1,6 @@
 -- The nodes that a search of a tree examines are the ranges that it reads: it needs only the order of the keys and that
 -- of the priorities.
-use Rattle.std.proofs.Common.{◌≡◌, refl, sym, ap, ◌∙◌, subst, ℕ, zero, suc, ◌+◌, ◌-◌, ◌*◌, ◌<◌, ◌≤◌, Bool, true, false, not, ◌&&◌, ◌||◌, cond, nat_lt, List, [], ◌∷◌, ◌++◌, inl, inr, arith}
+use Rattle.std.proofs.Common.{◌≡◌, refl, sym, ap, ◌∙◌, subst, ℕ, suc, ◌+◌, ◌-◌, ◌<◌, ◌≤◌, Bool, true, false, not, ◌&&◌, ◌||◌, cond, nat_lt, List, [], ◌∷◌, ◌++◌, inl, inr, arith}
 use Rattle.std.specs.List.{list_all}
 use Rattle.std.proofs.lemmas.Bool.Decides.{nat_tests}
 use Rattle.xl_model.specs.declared.leaf.Range.{Range}
@@ -8,8 +8,8 @@ use Rattle.xl_model.specs.Base.{one_if}
 use Rattle.xl_model.specs.Ranges.{range_key, end_key, is_above, is_between, is_read, reads_among, range_reads}
 use Rattle.xl_model_lemmas.specs.Members.{In}
 use Rattle.xl_model_lemmas.proofs.MemberLemmas.{In-right, In-append}
-use Rattle.xl_treap.specs.Treaps.{IsFit, key_at}
-use Rattle.xl_treap.specs.Trees.{Tree, Tip, Bin, ranges, InOrder, Over, IsHeap}
+use Rattle.xl_treap.specs.Treaps.{key_at}
+use Rattle.xl_treap.specs.Trees.{Tree, Tip, Bin, ranges, InOrder, IsHeap}
 use Rattle.xl_treap.proofs.OrderLemmas.{pick-yes, pick-no, side, Lies, order-In}
 use Rattle.xl_treap.proofs.AboveLemmas.{above-not, over-In}
 

@@ -1,10 +1,9 @@
 -- A tree to come is linked from the end of its way up.
-use Rattle.std.proofs.Common.{◌≡◌, refl, sym, ap, ◌∙◌, subst, ℕ, zero, suc, ◌+◌, ◌-◌, ◌*◌, ◌<◌, ◌≤◌, Bool, true, false, cond, nat_lt, List, length, slice_index, inl, inr, arith}
+use Rattle.std.proofs.Common.{◌≡◌, refl, sym, ◌∙◌, subst, ℕ, zero, suc, ◌+◌, ◌-◌, ◌*◌, ◌<◌, ◌≤◌, Bool, true, false, cond, nat_lt, List, length, slice_index, inl, inr, arith}
 use Rattle.xl_model.specs.declared.leaf.Range.{Range}
 use Rattle.xl_model.specs.Ranges.{range_key, end_key}
-use Rattle.xl_treap.specs.Lines.{left_at, right_at, IsNode}
 use Rattle.xl_treap.specs.Trees.{Tree, Tip, Bin, Pair, IsAt, InOrder, down, merge}
-use Rattle.xl_treap.specs.Steps.{Off, Keeps, Half, CanMerge, CanRise, IsSpine, SameOff, SameBut, IsLinked, IsHung}
+use Rattle.xl_treap.specs.Steps.{Off, Keeps, Half, CanMerge, CanRise, IsSpine, SameOff, SameBut, IsHung}
 use Rattle.xl_treap.proofs.OrderLemmas.{pick-yes, pick-no, side}
 use Rattle.xl_treap.proofs.WayLemmas.{child, down-next, order-down}
 use Rattle.xl_treap.proofs.MergeLemmas.{merge-keeps, merge-order}

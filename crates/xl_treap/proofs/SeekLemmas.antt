@@ -1,6 +1,5 @@
 -- The steps of a search.
-use Rattle.std.proofs.Common.{◌≡◌, refl, sym, ap, ◌∙◌, subst, ℕ, zero, suc, ◌+◌, ◌-◌, ◌*◌, ◌<◌, ◌≤◌, true, false, cond, List, length, slice_index, nat_lt, add-zero, arith}
-use Rattle.std.proofs.lemmas.Bool.Decides.{nat_tests}
+use Rattle.std.proofs.Common.{◌≡◌, refl, sym, ap, ◌∙◌, subst, ℕ, zero, suc, ◌+◌, ◌-◌, ◌<◌, List, add-zero, arith}
 use Rattle.xl_treap.specs.declared.along.Search.{Search}
 use Rattle.xl_treap.specs.declared.along.Search.TheVariants as search_end
 use Rattle.xl_treap.specs.declared.along.Visit.{Visit}

@@ -1,21 +1,21 @@
 -- A range is taken out of a tree, or gets other pages.
-use Rattle.std.proofs.Common.{◌≡◌, refl, sym, ap, ◌∙◌, subst, ℕ, zero, suc, ◌+◌, ◌-◌, ◌*◌, ◌/◌, ◌%◌, ◌^◌, ◌<◌, ◌≤◌, Bool, true, false, cond, nat_lt, ◌==◌, List, [], ◌∷◌, ◌++◌, length, slice_index, length-append, ◌⊎◌, inl, inr, arith}
+use Rattle.std.proofs.Common.{◌≡◌, refl, sym, ap, ◌∙◌, subst, ℕ, zero, suc, ◌+◌, ◌-◌, ◌*◌, ◌/◌, ◌%◌, ◌^◌, ◌<◌, ◌≤◌, Bool, true, false, cond, nat_lt, ◌==◌, List, [], ◌∷◌, ◌++◌, length, slice_index, ◌⊎◌, inl, inr, arith}
 use Rattle.std.specs.List.{list_any}
 use Rattle.std.proofs.lemmas.Bool.Decides.{nat_tests}
 use Rattle.xl_model.specs.declared.leaf.Range.{Range}
-use Rattle.xl_model.specs.Ranges.{range_key, end_key, is_above}
+use Rattle.xl_model.specs.Ranges.{range_key, end_key}
 use Rattle.xl_model_lemmas.specs.Members.{In}
 use Rattle.xl_model_lemmas.proofs.MemberLemmas.{In-left, In-right, In-append, any-In}
-use Rattle.xl_treap.specs.Treaps.{IsFit, IsApart, has_key, key_at, without_range, resized}
-use Rattle.xl_treap.specs.Lines.{IsNode, node_word, left_at, right_at}
-use Rattle.xl_treap.specs.Trees.{Tree, Tip, Bin, Pair, ranges, tree_at, IsAt, InOrder, IsHeap, Over, down, graft, merge}
-use Rattle.xl_treap.specs.Steps.{IsAttached, IsLinked, IsSized, SameLine, Each, Off, SameOff, SameBut, Keeps, IsWay, IsTree, IsEmpty, IsMade, IsRisen, CanTake, IsTaken, CanMerge, CanResize, IsResized, parent_at}
-use Rattle.xl_treap.proofs.OrderLemmas.{side, Within, apart-within, within-In, within-apart, Lies, order-apart, order-In, order-wider, fit-end, sizes}
+use Rattle.xl_treap.specs.Treaps.{IsApart, has_key, without_range, resized}
+use Rattle.xl_treap.specs.Lines.{node_word, left_at, right_at}
+use Rattle.xl_treap.specs.Trees.{Tree, Tip, Bin, ranges, tree_at, IsAt, InOrder, IsHeap, Over, down, graft, merge}
+use Rattle.xl_treap.specs.Steps.{IsAttached, IsSized, SameLine, Each, Off, SameOff, Keeps, IsWay, IsRisen, CanTake, IsTaken, CanMerge, IsResized, parent_at}
+use Rattle.xl_treap.proofs.OrderLemmas.{apart-within, within-In, order-apart, order-In, order-wider, fit-end, sizes}
 use Rattle.xl_treap.proofs.FoundLemmas.{tree-is}
 use Rattle.xl_treap.proofs.WayLemmas.{child, down-next, order-down, heap-down, at-there}
-use Rattle.xl_treap.proofs.FrameLemmas.{each-map, at-keeps, frame, node-same, off-key, linked-three}
+use Rattle.xl_treap.proofs.FrameLemmas.{each-map, at-keeps, frame, off-key, linked-three}
 use Rattle.xl_treap.proofs.MergeLemmas.{merge-ranges, merge-over, merge-heap, merge-each}
-use Rattle.xl_treap.proofs.GraftLemmas.{Has, alike, down-In, each-down, without-before, resized-before, graft-without, graft-resized, heap-graft, lift, off-down}
+use Rattle.xl_treap.proofs.GraftLemmas.{Has, alike, without-before, resized-before, graft-without, graft-resized, heap-graft, lift}
 use Rattle.xl_treap.proofs.AttachLemmas.{off-child, Attached, IsParent, attached, parent-there, off-empty}
 
 -- lists without a range

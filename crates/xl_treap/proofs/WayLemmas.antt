@@ -1,11 +1,10 @@
 -- Ways down a tree in words.
-use Rattle.std.proofs.Common.{◌≡◌, refl, sym, ap, ◌∙◌, subst, ℕ, zero, suc, ◌+◌, ◌-◌, ◌*◌, ◌^◌, ◌<◌, ◌≤◌, Bool, true, false, cond, nat_lt, List, [], ◌∷◌, ◌++◌, length, slice_index, slice_set, ◌⊎◌, inl, inr, get_or-set_other, get_or-set_same, length-set, arith}
-use Rattle.xl_model.specs.declared.leaf.Range.{Range}
+use Rattle.std.proofs.Common.{◌≡◌, refl, sym, ap, ◌∙◌, subst, ℕ, zero, suc, ◌+◌, ◌-◌, ◌*◌, ◌<◌, ◌≤◌, Bool, true, false, cond, nat_lt, List, length, slice_index, slice_set, inl, inr, get_or-set_other, get_or-set_same, length-set, arith}
 use Rattle.xl_model.specs.Ranges.{range_key, end_key}
-use Rattle.xl_treap.specs.Lines.{left_at, right_at, IsNode}
+use Rattle.xl_treap.specs.Lines.{left_at, right_at}
 use Rattle.xl_treap.specs.Trees.{Tree, Tip, Bin, ranges, IsAt, InOrder, IsHeap, down}
-use Rattle.xl_treap.specs.Steps.{step_at, IsWay}
-use Rattle.xl_treap.proofs.OrderLemmas.{sizes, pick-yes, pick-no, side, order-wider, order-le}
+use Rattle.xl_treap.specs.Steps.{step_at}
+use Rattle.xl_treap.proofs.OrderLemmas.{sizes, pick-yes, pick-no, side}
 
 pub at-there : (words : List ℕ) (at : ℕ) (t : Tree) → IsAt words at t → 0 < at → 4 * (at - 1) + 4 ≤ length words
 at-there words at Tip i h = absurd (omega arith)

@@ -1,5 +1,5 @@
 -- The steps of a change of the words of a tree.
-use Rattle.std.specs.Prelude.{ℕ, zero, suc, ◌≡◌, ◌+◌, ◌-◌, ◌*◌, ◌^◌, ◌<◌, ◌≤◌, ◌⊎◌, true, nat_lt, if◌then◌else◌, List, ◌++◌, length, slice_index}
+use Rattle.std.specs.Prelude.{ℕ, zero, suc, ◌≡◌, ◌+◌, ◌-◌, ◌*◌, ◌^◌, ◌<◌, ◌≤◌, ◌⊎◌, true, nat_lt, if◌then◌else◌, List, length, slice_index}
 use Rattle.std.specs.List.{list_any}
 use Rattle.xl_model.specs.declared.leaf.Range.{Range}
 use Rattle.xl_model.specs.Ranges.{range_key, is_above}
@@ -7,7 +7,7 @@ use Rattle.xl_treap.specs.Treaps.{IsApart, with_range, without_range, resized, l
 use Rattle.xl_treap.specs.Lines.{node_word, left_at, right_at, range_of_link, IsNode}
 use Rattle.xl_treap.specs.declared.parting.Parts.{Parts}
 use Rattle.xl_treap.specs.declared.beside.Beside.{Beside}
-use Rattle.xl_treap.specs.Trees.{Tree, Tip, Bin, Pair, ranges, IsAt, IsHeap, InOrder, Over, down, cut_low, cut_high, merge}
+use Rattle.xl_treap.specs.Trees.{Tree, Tip, Bin, Pair, ranges, IsAt, IsHeap, InOrder, Over, down, cut_low, cut_high}
 
 -- a node has these links, and no other word changed
 pub record IsLinked (old new : List ℕ) (n left right : ℕ) : Type 0 where

@@ -1,4 +1,4 @@
-use Rattle.std.proofs.Common.{◌≡◌, sym, subst, ℕ, ◌+◌, ◌-◌, ◌*◌, ◌<◌, ◌≤◌, length, arith}
+use Rattle.std.proofs.Common.{sym, subst, ℕ, ◌+◌, arith}
 use Rattle.xl_treap.specs.declared.beside.Beside.{Beside}
 use Rattle.xl_treap.proofs.BesideLemmas.{IsBetween, between-end, between-none, between-there, between-below, between-above}
 use Rattle.xl_treap.proofs.beside.nodes_beside.Goals as goal

@@ -1,5 +1,5 @@
-use Rattle.std.proofs.Common.{◌≡◌, ◌∙◌, sym, subst, ℕ, ◌+◌, ◌-◌, ◌*◌, ◌<◌, ◌≤◌, List, length, slice_set, arith}
-use Rattle.xl_treap.specs.Trees.{IsAt, down, merge}
+use Rattle.std.proofs.Common.{◌≡◌, ◌∙◌, sym, subst, ℕ, ◌+◌, List, length, slice_set, arith}
+use Rattle.xl_treap.specs.Trees.{merge}
 use Rattle.xl_treap.proofs.MergeLemmas.{IsMerging, merged-low, merged-high, merged-end, merging-there, merging-low, merging-high}
 use Rattle.xl_treap.proofs.joining.merge_down.Goals as goal
 use Rattle.xl_treap.proofs.joining.merge_down.Goals.{then-is_above, else-is_above}

@@ -1,7 +1,7 @@
-use Rattle.std.proofs.Common.{◌≡◌, refl, sym, subst, ℕ, ◌+◌, ◌-◌, ◌*◌, ◌≤◌, List, length, arith}
+use Rattle.std.proofs.Common.{refl, sym, subst, ℕ, ◌-◌, ◌*◌, ◌≤◌, length, arith}
 use Rattle.xl_treap.specs.Lines.{left_at, right_at}
 use Rattle.xl_treap.specs.Trees.{tree_at, merge}
-use Rattle.xl_treap.specs.Steps.{CanTake, CanMerge, IsRisen, IsAttached, parent_at}
+use Rattle.xl_treap.specs.Steps.{CanTake, CanMerge, IsRisen, IsAttached}
 use Rattle.xl_treap.proofs.TakeLemmas.{take-some, take-there, take-pair, take-room, take-made}
 use Rattle.xl_treap.proofs.joining.take_out.Goals as goal
 

@@ -1,4 +1,4 @@
-use Rattle.std.proofs.Common.{◌≡◌, ◌∙◌, sym, subst, ℕ, ◌+◌, ◌-◌, ◌*◌, ◌<◌, ◌≤◌, List, slice_index, arith}
+use Rattle.std.proofs.Common.{◌∙◌, sym, subst, ℕ, ◌-◌, ◌≤◌, List, slice_index, arith}
 use Rattle.xl_treap.specs.declared.parting.Parts.{Parts}
 use Rattle.xl_treap.specs.Trees.{Over, down}
 use Rattle.xl_treap.specs.Steps.{IsCut}

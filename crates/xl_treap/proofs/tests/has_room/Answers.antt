@@ -1,4 +1,4 @@
-use Rattle.std.proofs.Common.{subst, arith}
+use Rattle.std.proofs.Common.{arith}
 use Rattle.xl_treap.specs.Treaps.{key_at}
 use Rattle.xl_treap.proofs.GuardLemmas.{has-start, room-apart}
 use Rattle.xl_treap.proofs.tests.has_room.Goals as goal

@@ -1,4 +1,3 @@
-use Rattle.std.proofs.Common.{sym, ◌∙◌}
 use Rattle.xl_treap.proofs.GuardLemmas.{clear-apart}
 use Rattle.xl_treap.proofs.tests.is_clear.Goals as goal
 

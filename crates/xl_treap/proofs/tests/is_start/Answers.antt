@@ -1,8 +1,4 @@
-use Rattle.std.proofs.Common.{◌≡◌, refl, sym, ◌∙◌, subst, true, Option, None, Some}
-use Rattle.std.specs.Prelude.{IfSome, is_some}
-use Rattle.xl_model.specs.declared.leaf.Range.{Range}
-use Rattle.xl_model.specs.Ranges.{range_key}
-use Rattle.xl_model_lemmas.specs.Members.{In}
+use Rattle.std.proofs.Common.{sym, ◌∙◌}
 use Rattle.xl_treap.specs.Treaps.{key_at}
 use Rattle.xl_treap.proofs.GuardLemmas.{some-start}
 use Rattle.xl_treap.proofs.tests.is_start.Goals as goal

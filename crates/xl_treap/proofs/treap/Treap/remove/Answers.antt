@@ -5,7 +5,6 @@ use Rattle.std.proofs.lemmas.List.{with_items_is}
 use Rattle.xl_treap.specs.Treaps.{TreapState, keeping, key_at, without_range, has_key}
 use Rattle.xl_treap.specs.Trees.{ranges, tree_at}
 use Rattle.xl_treap.specs.Steps.{IsTaken}
-use Rattle.xl_treap.specs.Kept.{IsKept}
 use Rattle.xl_treap.proofs.TakeLemmas.{has-held, held-small, without-length}
 use Rattle.xl_treap.proofs.KeptLemmas.{Holds, held-less, kept-after, seen-after}
 use Rattle.xl_treap.proofs.treap.Treap.remove.Goals as goal

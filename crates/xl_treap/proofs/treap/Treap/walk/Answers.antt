@@ -1,7 +1,6 @@
-use Rattle.std.proofs.Common.{◌≡◌, sym, ap, ◌∙◌, subst, ℕ, ◌<◌, ◌^◌, length, find, arith}
-use Rattle.xl_model.specs.Base.{plus}
+use Rattle.std.proofs.Common.{◌≡◌, sym, ap, ◌∙◌, subst, ◌<◌, ◌^◌, length, find, arith}
 use Rattle.xl_model.specs.Ranges.{holds_page, range_reads}
-use Rattle.xl_treap.specs.Treaps.{TreapView, TreapState, key_at}
+use Rattle.xl_treap.specs.Treaps.{TreapState, key_at}
 use Rattle.xl_treap.specs.Back.{Searched, range_found, search_from, tree_back, loaded_times}
 use Rattle.xl_treap.specs.Kept.{after_load}
 use Rattle.xl_treap.specs.Trees.{ranges, tree_at}
