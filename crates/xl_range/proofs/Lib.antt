@@ -1,0 +1,5 @@
+pub mod HoldLemmas
+pub mod NeighbourLemmas
+pub mod PutLemmas
+pub mod CutCallLemmas
+pub mod FindLemmas

@@ -1,0 +1,4 @@
+pub mod Treaps
+pub mod Puts
+pub mod Cuts
+pub mod Rows

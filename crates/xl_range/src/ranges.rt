@@ -1,0 +1,153 @@
+//! The table of ranges.
+
+ghost use Rattle.std.specs.Prelude.{◌≡◌, ◌<◌, ◌≤◌, ◌^◌, ◌+◌, length};
+ghost use Rattle.xl_model.specs.declared.work.NoRoom.TheVariants as why;
+ghost use Rattle.xl_model.specs.Ranges.{holds_page};
+ghost use Rattle.xl_model.specs.Caches.{without_items};
+ghost use Rattle.xl_model.specs.Placing.{no_moves};
+ghost use Rattle.xl_model.specs.Structures.{work_of};
+ghost use Rattle.xl_range.specs.Rows.{meets_where};
+
+use crate::changes::{add, move_to, set_perm, take_out};
+use crate::pieces::leaf_in;
+use crate::treap::Treap;
+use std::marker::Model;
+use xl_model::{Leaf, NoRoom, Order, Perm, Range, Reach, Refused, Structure, Walk, Work};
+use xl_tlb::RangeTlb;
+
+/// A table of ranges (redundant memory mappings, Karakostas and others, 2015): the maximal runs of
+/// its leaves stand in a treap, one for all spaces, and a TLB of ranges is its walk cache. Contracts
+/// see it as its table. Nothing is allocated after `open`.
+#[derive(Drop)]
+pub struct Ranges<T: Treap> {
+    treap: T,
+    tlb: RangeTlb,
+    ranges: u32,
+}
+
+impl<T: Treap> Model for Ranges<T> {
+    ghost use Rattle.xl_model.specs.Structures.{TableState};
+    ghost use Rattle.xl_range.specs.Rows.{row_of, IsRow};
+
+    ghost Value = { TableState };
+
+    ghost view = { λ m. row_of m.ranges (T.seen m.treap) m.tlb };
+
+    ghost invariant = { λ m. IsRow m.ranges (T.seen m.treap) m.tlb };
+}
+
+/// Whether the last range that begins below a block's end reaches into the block.
+fn reaches_in(last: Option<Range>, first: u64) -> bool
+    ensures { result ≡ meets_where first last }
+{
+    match last {
+        None => false,
+        Some(range) => first < range.start || first - range.start < range.pages,
+    }
+}
+
+/// The answer to a change for which there is no room.
+fn no_room() -> Refused
+    ensures { result ≡ record { why = why.NoTable; work = work_of no_moves 0 } }
+{
+    Refused {
+        why: NoRoom::NoTable,
+        work: Work::none(),
+    }
+}
+
+/// Removes the cached ranges that hold a page, and gives the work of that.
+fn purge(tlb: &mut RangeTlb, space: u16, page: u64) -> Work
+    ensures work { result ≡ work_of no_moves (length tlb.old.items - length tlb.new.items) }
+    ensures after { tlb.new ≡ without_items (holds_page space page) tlb.old }
+{
+    let invalidated = tlb.drop_page(space, page);
+    Work {
+        invalidated,
+        ..Work::none()
+    }
+}
+
+impl<T: Treap> Structure for Ranges<T> {
+    ghost table = { λ t. t };
+
+    fn meets(&self, space: u16, first: u64, order: Order) -> bool {
+        reaches_in(self.treap.before(space, first + order.pages()), first)
+    }
+
+    fn leaf_at(&self, space: u16, page: u64) -> Option<Leaf> {
+        let range = self.treap.find(space, page)?;
+        Some(leaf_in(&range, page))
+    }
+
+    fn insert(&mut self, leaf: Leaf) -> Result<Work, Refused> {
+        if add(&mut self.treap, self.ranges, leaf) {
+            Ok(Work::none())
+        } else {
+            Err(no_room())
+        }
+    }
+
+    fn remove(&mut self, space: u16, first: u64, order: Order) -> Result<Work, Refused> {
+        if take_out(&mut self.treap, self.ranges, space, first, order) {
+            Ok(purge(&mut self.tlb, space, first))
+        } else {
+            Err(no_room())
+        }
+    }
+
+    fn protect(
+        &mut self,
+        space: u16,
+        first: u64,
+        order: Order,
+        perm: Perm,
+    ) -> Result<Work, Refused> {
+        if set_perm(&mut self.treap, self.ranges, space, first, order, perm) {
+            Ok(purge(&mut self.tlb, space, first))
+        } else {
+            Err(no_room())
+        }
+    }
+
+    fn relocate(&mut self, space: u16, first: u64, to: u64, order: Order) -> Result<Work, Refused> {
+        if move_to(&mut self.treap, self.ranges, space, first, to, order) {
+            Ok(purge(&mut self.tlb, space, first))
+        } else {
+            Err(no_room())
+        }
+    }
+
+    fn walk(&mut self, space: u16, page: u64) -> Walk {
+        match self.tlb.look(space, page) {
+            Some(range) => {
+                return Walk {
+                    leaf: Some(leaf_in(&range, page)),
+                    cache_hits: 1,
+                };
+            }
+            None => (),
+        }
+        match self.treap.walk(space, page) {
+            Some(range) => {
+                self.tlb.fill(range);
+                Walk {
+                    leaf: Some(leaf_in(&range, page)),
+                    cache_hits: 0,
+                }
+            }
+            None => Walk {
+                leaf: None,
+                cache_hits: 0,
+            },
+        }
+    }
+
+    fn fence(&mut self, reach: Reach) -> u64 {
+        self.tlb.drop_reach(reach)
+    }
+
+    fn loads(&self) -> u64 {
+        self.treap.loads()
+    }
+}
