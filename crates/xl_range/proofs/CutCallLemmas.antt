@@ -15,8 +15,9 @@ use Rattle.xl_model_lemmas.proofs.JoinLemmas.{In-key, In-range}
 use Rattle.xl_model_lemmas.proofs.LeafInLemmas.{Sizes, sizes}
 use Rattle.xl_model_lemmas.proofs.CutLemmas.{head-cut, next-cut, held-cut}
 use Rattle.xl_model_lemmas.proofs.CutCountLemmas.{cut-count}
-use Rattle.xl_range.specs.Treaps.{with_range, without_range, resized, has_key, IsFit, IsApart}
+use Rattle.xl_range.specs.Treaps.{TreapView, keeping, with_range, without_range, resized, has_key, IsFit, IsApart}
 use Rattle.xl_range.specs.Cuts.{kept_cut, kept_behind, IsInside}
+use Rattle.xl_range.proofs.PutLemmas.{few-test}
 use Rattle.xl_range.proofs.HoldLemmas.{fit-range, apart-held, with-front, own-key, length-with, key-there, apart-resized}
 
 behind-cons : (n : ℕ) (x r : Range) (rs : List Range) → range_key r < range_key x → kept_behind n x (r ∷ rs) ≡ r ∷ kept_behind n x rs
@@ -112,6 +113,13 @@ can-cut space first o r rs h m i =
       calls = cut-calls space first o 0 r rs i h m;
     }
 
+-- The treap's calls, with the pages of the order as a number of its own.
+pub put-calls : (first p : ℕ) (o : Order) (r : Range) (old new : TreapView) → p ≡ pages_of o → new ≡ keeping old (kept_cut (first - r.start) (range_key r) old.kept) → CanCut first o r old.kept
+    → kept_behind (r.start + r.pages - (first + p)) (record r { start = first + p; pages = r.start + r.pages - (first + p); frame = r.frame + (first + p - r.start) }) new.kept ≡ cut first o r old.kept
+put-calls first p o r old new e is k =
+    ap (λ (q : ℕ). kept_behind (r.start + r.pages - (first + q)) (record r { start = first + q; pages = r.start + r.pages - (first + q); frame = r.frame + (first + q - r.start) }) new.kept) e
+    ∙ ap (λ (t : TreapView). kept_behind (pages_behind first o r) (part_behind first o r) t.kept) is ∙ k.calls
+
 -- The test of room tells whether the cut list is short enough.
 pub test-cut : (n len before behind : ℕ) (first : ℕ) (o : Order) (r : Range) (rs : List Range) (result : Bool) → In r rs → result ≡ nat_le (len + (some_if before + some_if behind)) (n + 1)
     → len ≡ length rs → before ≡ pages_before first r → behind ≡ pages_behind first o r → result ≡ nat_le (length (cut first o r rs)) n
@@ -123,6 +131,3 @@ test-cut n len before behind first o r rs result m e l b d =
   where
     same : (a b n : ℕ) → a ≡ suc b → nat_le a (n + 1) ≡ nat_le b n
     same a b n e = grind (arith, nat_tests)
-
-pub few-test : (count n : ℕ) → nat_le count n ≡ true → count ≤ n
-few-test count n t = grind (arith, nat_tests)

@@ -69,6 +69,7 @@ pub record IsNamedIn (space first : ℕ) (o : Order) (rs : List Range) : Type 0 
   pub range : Range
   pub has : HasLeaf space first o rs range
   pub found : find (holds_page space first) rs ≡ Some range
+  pub space_in : space < 64
   pub first_in : first < 2 ^ 52
 
 pub named-range : (space first : ℕ) (o : Order) (rs : List Range) → IsHeld 0 rs → IsNamed space first o (spread rs) → IsNamedIn space first o rs
@@ -80,10 +81,13 @@ named-range space first o rs h named =
     let to = s.to in
     let some = s.some in
     let limit = (In-range 0 i.0 rs h i.1).pages_in in
+    let low = (In-range 0 i.0 rs h i.1).space_in in
+    let same = i.2.0.space_same in
     record {
       range = i.0;
       has = record { member = i.1; place = i.2.0; named = x.1 ∙ ap Some (i.2.1 ∙ sym (leaf-in-is space first o i.0 i.2.0)) };
       found = find-held space first 0 i.0 rs h i.1 (holds-first space first o i.0 i.2.0);
+      space_in = omega arith;
       first_in = omega arith;
     }
 

@@ -3,3 +3,5 @@ pub mod NeighbourLemmas
 pub mod PutLemmas
 pub mod CutCallLemmas
 pub mod FindLemmas
+pub mod SpreadLeafLemmas
+pub mod LeafChangeLemmas

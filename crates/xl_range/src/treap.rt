@@ -29,22 +29,26 @@ pub trait Treap: Drop {
         ensures { seen self.new ≡ keeping (seen self.old) (resized (key_at space start) pages (seen self.old).kept) };
 
     fn find(&self, space: u16, page: u64) -> Option<Range>
-        requires { page < 2 ^ 52 }
+        requires space_in { space < 64 }
+        requires page_in { page < 2 ^ 52 }
         ensures { result ≡ find (holds_page space page) (seen self.now).kept };
 
     fn before(&self, space: u16, page: u64) -> Option<Range>
-        requires { page ≤ 2 ^ 52 }
+        requires space_in { space < 64 }
+        requires page_in { page ≤ 2 ^ 52 }
         ensures { result ≡ of_space space (last_below (key_at space page) (seen self.now).kept) };
 
     fn from(&self, space: u16, page: u64) -> Option<Range>
-        requires { page ≤ 2 ^ 52 }
+        requires space_in { space < 64 }
+        requires page_in { page ≤ 2 ^ 52 }
         ensures { result ≡ of_space space (first_from (key_at space page) (seen self.now).kept) };
 
     fn len(&self) -> u32
         ensures { result ≡ length (seen self.now).kept };
 
     fn walk(&mut self, space: u16, page: u64) -> Option<Range>
-        requires { page < 2 ^ 52 }
+        requires space_in { space < 64 }
+        requires page_in { page < 2 ^ 52 }
         ensures found { result ≡ find (holds_page space page) (seen self.old).kept }
         ensures loads { seen self.new ≡ record (seen self.old) { loads = plus (seen self.old).loads (range_reads (seen self.old).kept space page) } };
 
