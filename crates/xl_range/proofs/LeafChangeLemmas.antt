@@ -14,7 +14,6 @@ use Rattle.xl_model.specs.Shapes.{Runs, brought}
 use Rattle.xl_model_lemmas.specs.Members.{In, IsSorted}
 use Rattle.xl_model_lemmas.proofs.MemberLemmas.{In-any}
 use Rattle.xl_model_lemmas.proofs.SameLemmas.{any-find}
-use Rattle.xl_model_lemmas.proofs.OrderLemmas.{order-self}
 use Rattle.xl_model_lemmas.proofs.PlaceLemmas.{named-space, named-first}
 use Rattle.xl_model_lemmas.proofs.MappingLemmas.{named-is}
 use Rattle.xl_model_lemmas.proofs.InsertionLemmas.{with-In, In-with, stays-with, sorted-with, sorted-without, without-In, without-other, In-without, same-place}
@@ -36,7 +35,7 @@ finds-with p x (y ∷ ys) fails other =
 pub new-named : (x : Leaf) (xs : List Leaf) → IsNamed x.space x.first x.order (with_leaf x xs)
 unfolding leaf_named
 new-named x xs =
-    let same : is_leaf x.space x.first x.order x ≡ true = (let o = order-self x.order in grind (arith, nat_tests)) in
+    let same : is_leaf x.space x.first x.order x ≡ true = grind (arith, nat_tests) in
     sym (any-find (is_leaf x.space x.first x.order) (with_leaf x xs)) ∙ In-any (is_leaf x.space x.first x.order) x (with_leaf x xs) (In-with x xs) same
 
 -- Another leaf that is named stays so.

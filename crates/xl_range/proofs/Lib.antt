@@ -5,3 +5,4 @@ pub mod CutCallLemmas
 pub mod FindLemmas
 pub mod SpreadLeafLemmas
 pub mod LeafChangeLemmas
+pub mod StepLemmas
