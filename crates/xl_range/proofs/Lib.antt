@@ -6,3 +6,4 @@ pub mod FindLemmas
 pub mod SpreadLeafLemmas
 pub mod LeafChangeLemmas
 pub mod StepLemmas
+pub mod MoveStepLemmas

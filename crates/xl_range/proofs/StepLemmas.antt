@@ -169,16 +169,16 @@ cut-room space first o n t r whole k =
     omega arith
 
 -- What a range kept in a treap after a call is.
-kept-is : (t new : TreapView) (rs : List Range) → new ≡ keeping t rs → new.kept ≡ rs
+pub kept-is : (t new : TreapView) (rs : List Range) → new ≡ keeping t rs → new.kept ≡ rs
 kept-is t new rs e = ap (λ (v : TreapView). v.kept) e
 
-has-ranges : (t new : TreapView) (rs : List Range) (leaves : List Leaf) → new ≡ keeping t rs → AreRanges rs leaves → HasRanges leaves t new
+pub has-ranges : (t new : TreapView) (rs : List Range) (leaves : List Leaf) → new ≡ keeping t rs → AreRanges rs leaves → HasRanges leaves t new
 has-ranges t new rs leaves e a =
     let k : new.kept ≡ rs = kept-is t new rs e in
     let H : List Range → Type 0 = λ ys. IsHeld 0 ys in
     record { held = subst H (sym k) a.held; leaves = ap spread k ∙ a.leaves_are; rest = e ∙ ap (keeping t) (sym k) }
 
-same-bools : (b : Bool) → b ≡ true → b ≡ false → ⊥
+pub same-bools : (b : Bool) → b ≡ true → b ≡ false → ⊥
 same-bools b t f = let e : true ≡ false = sym t ∙ f in absurd (cc)
 
 -- An insertion.
