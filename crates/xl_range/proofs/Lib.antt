@@ -7,3 +7,7 @@ pub mod SpreadLeafLemmas
 pub mod LeafChangeLemmas
 pub mod StepLemmas
 pub mod MoveStepLemmas
+pub mod FreshLemmas
+pub mod RowLemmas
+pub mod WalkLemmas
+pub mod MeetLemmas

@@ -47,7 +47,7 @@ is-that space first o x leaves e =
     record { space_same = named-space space first o x t; first_same = named-first space first o x t; order_same = named-order space first o x t }
 
 -- The leaves after a permission is given, as those without the leaf and with the new one.
-given-leaves : (space first : ℕ) (o : Order) (perm : Perm) (t : TreapView) (r : Range) (l : Leaf) → IsHeld 0 t.kept → HasLeaf space first o t.kept r → l ≡ leaf_in first r
+pub given-leaves : (space first : ℕ) (o : Order) (perm : Perm) (t : TreapView) (r : Range) (l : Leaf) → IsHeld 0 t.kept → HasLeaf space first o t.kept r → l ≡ leaf_in first r
     → changed (Protect space first o perm) (spread t.kept) ≡ with_leaf (record l { perm = perm }) (spread (cut first o r t.kept))
 given-leaves space first o perm t r l h k is =
     protect-changed space first o perm (leaf_in first r) (spread t.kept) k.named
@@ -182,7 +182,7 @@ first-low : (space first : ℕ) (o : Order) (x : Leaf) (rs : List Range) → IsH
 first-low space first o x rs h e = (named-range space first o rs h (ap is_some e)).first_in
 
 -- The leaves after the move, as the old one taken out of both.
-moved-leaves : (space first to : ℕ) (o : Order) (n : ℕ) (t : TreapView) (new : Leaf) → IsMoving space first to o n t new
+pub moved-leaves : (space first to : ℕ) (o : Order) (n : ℕ) (t : TreapView) (new : Leaf) → IsMoving space first to o n t new
     → changed (Relocate space first to o) (spread t.kept) ≡ without_leaf space first (with_leaf new (spread t.kept))
 moved-leaves space first to o n t new m =
     let that : IsThat space first o m.old = is-that space first o m.old (spread t.kept) m.named in

@@ -1,6 +1,6 @@
 //! The table of ranges.
 
-ghost use Rattle.std.specs.Prelude.{◌≡◌, ◌<◌, ◌≤◌, ◌^◌, ◌+◌, length};
+ghost use Rattle.std.specs.Prelude.{◌≡◌, ◌<◌, ◌≤◌, ◌^◌, ◌+◌, ◌-◌, length};
 ghost use Rattle.xl_model.specs.declared.work.NoRoom.TheVariants as why;
 ghost use Rattle.xl_model.specs.Ranges.{holds_page};
 ghost use Rattle.xl_model.specs.Caches.{without_items};
@@ -76,24 +76,24 @@ impl<T: Treap> Structure for Ranges<T> {
     }
 
     fn leaf_at(&self, space: u16, page: u64) -> Option<Leaf> {
-        let range = self.treap.find(space, page)?;
-        Some(leaf_in(&range, page))
+        match self.treap.find(space, page) {
+            Some(range) => Some(leaf_in(&range, page)),
+            None => None,
+        }
     }
 
     fn insert(&mut self, leaf: Leaf) -> Result<Work, Refused> {
-        if add(&mut self.treap, self.ranges, leaf) {
-            Ok(Work::none())
-        } else {
-            Err(no_room())
+        if !add(&mut self.treap, self.ranges, leaf) {
+            return Err(no_room());
         }
+        Ok(Work::none())
     }
 
     fn remove(&mut self, space: u16, first: u64, order: Order) -> Result<Work, Refused> {
-        if take_out(&mut self.treap, self.ranges, space, first, order) {
-            Ok(purge(&mut self.tlb, space, first))
-        } else {
-            Err(no_room())
+        if !take_out(&mut self.treap, self.ranges, space, first, order) {
+            return Err(no_room());
         }
+        Ok(purge(&mut self.tlb, space, first))
     }
 
     fn protect(
@@ -103,30 +103,25 @@ impl<T: Treap> Structure for Ranges<T> {
         order: Order,
         perm: Perm,
     ) -> Result<Work, Refused> {
-        if set_perm(&mut self.treap, self.ranges, space, first, order, perm) {
-            Ok(purge(&mut self.tlb, space, first))
-        } else {
-            Err(no_room())
+        if !set_perm(&mut self.treap, self.ranges, space, first, order, perm) {
+            return Err(no_room());
         }
+        Ok(purge(&mut self.tlb, space, first))
     }
 
     fn relocate(&mut self, space: u16, first: u64, to: u64, order: Order) -> Result<Work, Refused> {
-        if move_to(&mut self.treap, self.ranges, space, first, to, order) {
-            Ok(purge(&mut self.tlb, space, first))
-        } else {
-            Err(no_room())
+        if !move_to(&mut self.treap, self.ranges, space, first, to, order) {
+            return Err(no_room());
         }
+        Ok(purge(&mut self.tlb, space, first))
     }
 
     fn walk(&mut self, space: u16, page: u64) -> Walk {
-        match self.tlb.look(space, page) {
-            Some(range) => {
-                return Walk {
-                    leaf: Some(leaf_in(&range, page)),
-                    cache_hits: 1,
-                };
-            }
-            None => (),
+        if let Some(range) = self.tlb.look(space, page) {
+            return Walk {
+                leaf: Some(leaf_in(&range, page)),
+                cache_hits: 1,
+            };
         }
         match self.treap.walk(space, page) {
             Some(range) => {

@@ -1,0 +1,10 @@
+use Rattle.xl_range.proofs.WalkLemmas.{fence-made, seen-fence}
+use Rattle.xl_range.proofs.ranges.RangesStructure.fence.Goals as goal
+
+pub invariant_of-self : goal.invariant_of-self
+invariant_of-self g c =
+    (fence-made c.args.reach c.self.inside.ranges c.drop_reach.result (g.T.Treap.seen c.self.inside.treap) c.self.inside.tlb c.drop_reach.new.self c.self.invariant c.drop_reach.ensures.left c.drop_reach.ensures.after).row
+
+pub returns : goal.returns
+returns g c =
+    record { fences = seen-fence c.args.reach c.self.inside.ranges c.drop_reach.result (g.T.Treap.seen c.self.inside.treap) c.self.inside.tlb c.drop_reach.new.self c.args.self.now c.self.view_is (fence-made c.args.reach c.self.inside.ranges c.drop_reach.result (g.T.Treap.seen c.self.inside.treap) c.self.inside.tlb c.drop_reach.new.self c.self.invariant c.drop_reach.ensures.left c.drop_reach.ensures.after) }
