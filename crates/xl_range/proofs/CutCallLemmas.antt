@@ -1,23 +1,20 @@
 -- The calls that cut a leaf out of a held range make the cut list, and what they ask for.
-use Rattle.std.proofs.Common.{◌≡◌, refl, sym, ap, ◌∙◌, subst, ℕ, zero, suc, ◌+◌, ◌-◌, ◌*◌, ◌/◌, ◌%◌, ◌^◌, ◌<◌, ◌≤◌, Bool, true, false, not, cond, is_some, List, [], ◌∷◌, length, filter, Option, None, Some, Result, Ok, Err, ◌⊎◌, inl, inr, ◌==◌, ◌&&◌, ◌||◌, find, nat_le, nat_lt, arith}
+use Rattle.std.proofs.Common.{◌≡◌, refl, sym, ap, ◌∙◌, subst, ℕ, zero, suc, ◌+◌, ◌-◌, ◌<◌, ◌≤◌, Bool, true, false, List, [], ◌∷◌, length, inl, inr, ◌==◌, nat_le, nat_lt, arith}
 use Rattle.std.proofs.lemmas.Bool.Decides.{nat_tests}
 use Rattle.std.specs.List.{list_any}
 use Rattle.xl_model.specs.declared.address.Order.{Order}
-use Rattle.xl_model.specs.declared.address.Order.TheVariants as order
-use Rattle.xl_model.specs.declared.leaf.Leaf.{Leaf}
 use Rattle.xl_model.specs.declared.leaf.Range.{Range}
 use Rattle.xl_model.specs.Addresses.{pages_of}
-use Rattle.xl_model.specs.Ranges.{range_key, end_key, range_of_leaf, holds_page, ranges_of}
+use Rattle.xl_model.specs.Ranges.{range_key, end_key}
 use Rattle.xl_model_lemmas.specs.Members.{In}
-use Rattle.xl_model_lemmas.specs.HeldRanges.{next_leaf, run_on, first_leaf, leaves_in, spread, touches, Stops, IsRange, IsHeld, IsClear, grown, glue, join, pages_before, pages_behind, part_behind, before_on, behind_on, pieces, some_if, IsLeafIn, cut, leaf_in, leaf_by, meets_range}
+use Rattle.xl_model_lemmas.specs.HeldRanges.{IsHeld, pages_before, pages_behind, part_behind, before_on, behind_on, some_if, IsLeafIn, cut}
 use Rattle.xl_model_lemmas.proofs.TouchLemmas.{some-pages}
 use Rattle.xl_model_lemmas.proofs.JoinLemmas.{In-key, In-range}
 use Rattle.xl_model_lemmas.proofs.LeafInLemmas.{Sizes, sizes}
 use Rattle.xl_model_lemmas.proofs.CutLemmas.{head-cut, next-cut, held-cut}
 use Rattle.xl_model_lemmas.proofs.CutCountLemmas.{cut-count}
-use Rattle.xl_range.specs.Treaps.{TreapView, keeping, with_range, without_range, resized, has_key, IsFit, IsApart}
+use Rattle.xl_range.specs.Treaps.{TreapView, keeping, with_range, without_range, resized, has_key, IsApart}
 use Rattle.xl_range.specs.Cuts.{kept_cut, kept_behind, IsInside}
-use Rattle.xl_range.proofs.PutLemmas.{few-test}
 use Rattle.xl_range.proofs.HoldLemmas.{fit-range, apart-held, with-front, own-key, length-with, key-there, apart-resized}
 
 behind-cons : (n : ℕ) (x r : Range) (rs : List Range) → range_key r < range_key x → kept_behind n x (r ∷ rs) ≡ r ∷ kept_behind n x rs

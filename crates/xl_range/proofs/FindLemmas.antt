@@ -1,20 +1,18 @@
 -- What is found in held ranges: the range of a page and its leaf, and the range of a leaf that is there.
-use Rattle.std.proofs.Common.{◌≡◌, refl, sym, ap, ◌∙◌, subst, ℕ, zero, suc, ◌+◌, ◌-◌, ◌*◌, ◌/◌, ◌%◌, ◌^◌, ◌<◌, ◌≤◌, Bool, true, false, not, cond, is_some, List, [], ◌∷◌, length, filter, Option, None, Some, Result, Ok, Err, ◌⊎◌, inl, inr, ◌==◌, ◌&&◌, ◌||◌, find, nat_le, nat_lt, arith}
+use Rattle.std.proofs.Common.{◌≡◌, refl, sym, ap, ◌∙◌, subst, ℕ, ◌+◌, ◌-◌, ◌*◌, ◌/◌, ◌^◌, ◌<◌, ◌≤◌, true, false, is_some, List, [], ◌∷◌, Option, None, Some, inl, inr, find, arith}
 use Rattle.std.proofs.lemmas.Bool.Decides.{nat_tests}
-use Rattle.std.specs.List.{list_any}
 use Rattle.xl_model.specs.declared.address.Order.{Order}
 use Rattle.xl_model.specs.declared.address.Order.TheVariants as order
-use Rattle.xl_model.specs.declared.leaf.Leaf.{Leaf}
 use Rattle.xl_model.specs.declared.leaf.Range.{Range}
 use Rattle.xl_model.specs.Addresses.{pages_of}
-use Rattle.xl_model.specs.Ranges.{range_key, end_key, range_of_leaf, holds_page, ranges_of}
+use Rattle.xl_model.specs.Ranges.{range_key, end_key, holds_page}
 use Rattle.xl_model_lemmas.specs.Members.{In}
-use Rattle.xl_model_lemmas.specs.HeldRanges.{next_leaf, run_on, first_leaf, leaves_in, spread, touches, Stops, IsRange, IsHeld, IsClear, grown, glue, join, pages_before, pages_behind, part_behind, before_on, behind_on, pieces, some_if, IsLeafIn, cut, leaf_in, leaf_by, meets_range}
-use Rattle.xl_model.specs.Mapping.{leaf_at_page, leaf_named, is_leaf}
+use Rattle.xl_model_lemmas.specs.HeldRanges.{first_leaf, spread, IsHeld, IsLeafIn, leaf_in, leaf_by}
+use Rattle.xl_model.specs.Mapping.{leaf_at_page, leaf_named}
 use Rattle.xl_model.specs.Changes.{IsNamed}
 use Rattle.xl_model_lemmas.proofs.MemberLemmas.{find-In, find-passes}
 use Rattle.xl_model_lemmas.proofs.JoinLemmas.{In-key, In-range}
-use Rattle.xl_model_lemmas.proofs.TouchLemmas.{some-pages, leap}
+use Rattle.xl_model_lemmas.proofs.TouchLemmas.{leap}
 use Rattle.xl_model_lemmas.proofs.LeafInLemmas.{sizes, named-in, holds-first}
 use Rattle.xl_model_lemmas.proofs.PageRangeLemmas.{find-spread}
 use Rattle.xl_range.specs.Treaps.{IsFit}

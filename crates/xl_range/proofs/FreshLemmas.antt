@@ -1,5 +1,5 @@
 -- Nothing stale: what is cached is fresh after each change, less what the change purges.
-use Rattle.std.proofs.Common.{◌≡◌, refl, sym, ap, ◌∙◌, subst, ℕ, ◌+◌, ◌-◌, ◌*◌, ◌/◌, ◌^◌, ◌<◌, ◌≤◌, Bool, true, false, cond, List, [], ◌∷◌, filter, find, Option, None, Some, inl, inr, ◌==◌, ◌&&◌, nat_le, nat_lt, arith}
+use Rattle.std.proofs.Common.{◌≡◌, refl, sym, ap, ◌∙◌, subst, ℕ, ◌+◌, ◌-◌, ◌*◌, ◌/◌, ◌^◌, ◌<◌, ◌≤◌, Bool, true, false, cond, List, [], ◌∷◌, filter, find, Option, None, Some, ◌==◌, ◌&&◌, nat_le, nat_lt, arith}
 use Rattle.std.proofs.lemmas.Bool.Decides.{nat_tests}
 use Rattle.xl_model.specs.declared.address.Order.{Order}
 use Rattle.xl_model.specs.declared.address.Order.TheVariants as order
@@ -8,11 +8,10 @@ use Rattle.xl_model.specs.declared.leaf.Leaf.{Leaf}
 use Rattle.xl_model.specs.declared.leaf.Range.{Range}
 use Rattle.xl_model.specs.Addresses.{pages_of}
 use Rattle.xl_model.specs.Mapping.{covers, leaf_at_page, leaf_key, leaf_named, with_leaf, without_leaf}
-use Rattle.xl_model.specs.Changes.{Insert, Remove, Protect, Relocate, changed, old_leaf}
+use Rattle.xl_model.specs.Changes.{Insert, Remove, Protect, Relocate, changed}
 use Rattle.xl_model.specs.Ranges.{holds_page, range_of_leaf}
 use Rattle.xl_model.specs.Recency.{purged}
 use Rattle.xl_model.specs.Caches.{Cached, holds_first, without_items}
-use Rattle.xl_model_lemmas.specs.Members.{In}
 use Rattle.xl_model_lemmas.specs.HeldRanges.{spread, IsHeld, IsClear, cut, leaf_in}
 use Rattle.xl_model_lemmas.proofs.MemberLemmas.{find-In, find-passes}
 use Rattle.xl_model_lemmas.proofs.RecencyLemmas.{purged-In}
@@ -20,19 +19,20 @@ use Rattle.xl_range.specs.Treaps.{TreapView, keeping, IsFit}
 use Rattle.xl_range.specs.Rows.{AllFresh, IsTable, HasLeaf}
 use Rattle.xl_range.proofs.SpreadLeafLemmas.{clear-key, clear-covers}
 use Rattle.xl_range.proofs.LeafChangeLemmas.{finds-with, remove-changed}
-use Rattle.xl_range.proofs.FindLemmas.{IsNamedIn, named-range}
 use Rattle.xl_range.proofs.StepLemmas.{CanPutLeaf, cut-can, cut-ranges}
 use Rattle.xl_range.proofs.MoveStepLemmas.{IsMoving, IsThat, is-that, moved-leaves, given-leaves}
 
 -- A leaf put in where no leaf is.
 put-fresh : (leaf : Leaf) (rs items : List Range) → IsHeld 0 rs → IsClear (range_of_leaf leaf) rs → AllFresh (spread rs) items → AllFresh (with_leaf leaf (spread rs)) items
 unfolding leaf_at_page
-put-fresh leaf rs items h clear fresh r i =
-    ((fresh r i).0, λ page t.
-    let old : find (covers r.space page) (spread rs) ≡ Some (leaf_in page r) = (fresh r i).1 page t in
-    let p : Leaf → Bool = covers r.space page in
-    let out : covers r.space page leaf ≡ false = clear-covers r.space page leaf (leaf_in page r) rs h clear (find-In p (leaf_in page r) (spread rs) old) (find-passes p (leaf_in page r) (spread rs) old) in
-    finds-with p leaf (spread rs) out (λ z j. clear-key leaf z rs h clear j) ∙ old)
+put-fresh leaf rs items h clear fresh r i = (
+  (fresh r i).0,
+  λ page t.
+      let old : find (covers r.space page) (spread rs) ≡ Some (leaf_in page r) = (fresh r i).1 page t in
+      let p : Leaf → Bool = covers r.space page in
+      let out : covers r.space page leaf ≡ false = clear-covers r.space page leaf (leaf_in page r) rs h clear (find-In p (leaf_in page r) (spread rs) old) (find-passes p (leaf_in page r) (spread rs) old) in
+      finds-with p leaf (spread rs) out (λ z j. clear-key leaf z rs h clear j) ∙ old,
+)
 
 -- a leaf that stays is found as before
 find-filter : (p q : Leaf → Bool) (x : Leaf) (xs : List Leaf) → find p xs ≡ Some x → q x ≡ true → find p (filter q xs) ≡ Some x
@@ -85,12 +85,14 @@ pub taken-fresh : (space first : ℕ) (leaves : List Leaf) (items : List Range) 
 unfolding leaf_at_page without_leaf
 taken-fresh space first leaves items small fresh r i =
     let here = purged-In (holds_page space first) r items i in
-    let known = fresh r here.0 in
-    (known.0, λ page t.
-    let key : (leaf_key (leaf_in page r) == space * 2 ^ 52 + first) ≡ false = other-leaf space first page r known.0 small t here.1 in
-    let q : Leaf → Bool = λ leaf. cond (leaf_key leaf == space * 2 ^ 52 + first) false true in
-    let stays : q (leaf_in page r) ≡ true = rw key refl in
-    find-filter (covers r.space page) q (leaf_in page r) leaves (known.1 page t) stays)
+    let known = fresh r here.0 in (
+      known.0,
+      λ page t.
+          let key : (leaf_key (leaf_in page r) == space * 2 ^ 52 + first) ≡ false = other-leaf space first page r known.0 small t here.1 in
+          let q : Leaf → Bool = λ leaf. cond (leaf_key leaf == space * 2 ^ 52 + first) false true in
+          let stays : q (leaf_in page r) ≡ true = rw key refl in
+          find-filter (covers r.space page) q (leaf_in page r) leaves (known.1 page t) stays,
+    )
 
 pub remove-fresh : (space first : ℕ) (o : Order) (n : ℕ) (t : TreapView) (r : Range) (items : List Range) → IsTable n t → HasLeaf space first o t.kept r → first < 2 ^ 52
     → AllFresh (spread t.kept) items → AllFresh (changed (Remove space first o) (spread t.kept)) (purged (holds_page space first) items)

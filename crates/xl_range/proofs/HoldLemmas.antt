@@ -1,16 +1,12 @@
 -- What a treap can hold: maximal ranges lie apart; how many ranges its calls leave; the held keys.
-use Rattle.std.proofs.Common.{◌≡◌, refl, sym, ap, ◌∙◌, subst, ℕ, zero, suc, ◌+◌, ◌-◌, ◌*◌, ◌/◌, ◌%◌, ◌^◌, ◌<◌, ◌≤◌, Bool, true, false, not, cond, is_some, List, [], ◌∷◌, length, filter, Option, None, Some, Result, Ok, Err, ◌⊎◌, inl, inr, ◌==◌, ◌&&◌, ◌||◌, find, nat_le, nat_lt, arith}
+use Rattle.std.proofs.Common.{◌≡◌, refl, ap, subst, ℕ, suc, ◌+◌, ◌<◌, ◌≤◌, Bool, true, false, cond, List, [], ◌∷◌, length, inl, inr, ◌==◌, ◌||◌, nat_lt, arith}
 use Rattle.std.proofs.lemmas.Bool.Decides.{nat_tests}
 use Rattle.std.specs.List.{list_any}
-use Rattle.xl_model.specs.declared.address.Order.{Order}
-use Rattle.xl_model.specs.declared.address.Order.TheVariants as order
-use Rattle.xl_model.specs.declared.leaf.Leaf.{Leaf}
 use Rattle.xl_model.specs.declared.leaf.Range.{Range}
-use Rattle.xl_model.specs.Addresses.{pages_of}
-use Rattle.xl_model.specs.Ranges.{range_key, end_key, range_of_leaf, holds_page, ranges_of}
+use Rattle.xl_model.specs.Ranges.{range_key, end_key}
 use Rattle.xl_model_lemmas.specs.Members.{In}
-use Rattle.xl_model_lemmas.specs.HeldRanges.{next_leaf, run_on, first_leaf, leaves_in, spread, touches, Stops, IsRange, IsHeld, IsClear, grown, glue, join, pages_before, pages_behind, part_behind, before_on, behind_on, pieces, some_if, IsLeafIn, cut, leaf_in, leaf_by, meets_range}
-use Rattle.xl_model_lemmas.proofs.JoinLemmas.{lower, In-key, In-range}
+use Rattle.xl_model_lemmas.specs.HeldRanges.{IsRange, IsHeld}
+use Rattle.xl_model_lemmas.proofs.JoinLemmas.{lower, In-key}
 use Rattle.xl_model_lemmas.proofs.TouchLemmas.{some-pages}
 use Rattle.xl_range.specs.Treaps.{with_range, without_range, resized, has_key, IsFit, IsApart}
 
@@ -82,4 +78,3 @@ apart-resized n low r (y ∷ rs) (above, is, stops, rest) i some le =
           ] in
           (above, fit-range y is, apart-resized n (end_key y) r rs rest m some le)
     ] refl
-

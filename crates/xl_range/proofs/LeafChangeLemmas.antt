@@ -1,13 +1,11 @@
 -- What the four changes leave of a sorted list of leaves, and whether a table of ranges has room for that.
-use Rattle.std.proofs.Common.{◌≡◌, refl, sym, ap, ◌∙◌, subst, ℕ, zero, suc, ◌+◌, ◌*◌, ◌^◌, ◌<◌, ◌≤◌, Bool, true, false, cond, is_some, List, [], ◌∷◌, length, find, Option, None, Some, inl, inr, ◌==◌, ◌&&◌, nat_le, nat_lt, arith}
+use Rattle.std.proofs.Common.{◌≡◌, refl, sym, ap, ◌∙◌, subst, ℕ, ◌≤◌, Bool, true, false, cond, List, [], ◌∷◌, length, find, Option, None, Some, inl, inr, ◌==◌, ◌&&◌, nat_le, nat_lt, arith}
 use Rattle.std.proofs.lemmas.Bool.Decides.{nat_tests}
-use Rattle.std.specs.List.{list_any}
 use Rattle.xl_model.specs.declared.address.Order.{Order}
 use Rattle.xl_model.specs.declared.perm.Perm.{Perm}
 use Rattle.xl_model.specs.declared.leaf.Leaf.{Leaf}
-use Rattle.xl_model.specs.declared.leaf.Range.{Range}
 use Rattle.xl_model.specs.Mapping.{leaf_key, leaf_named, is_leaf, with_leaf, without_leaf}
-use Rattle.xl_model.specs.Changes.{Change, Insert, Remove, Protect, Relocate, IsNamed, changed, with_both, with_new, without_old, with_perm, at_page, old_leaf}
+use Rattle.xl_model.specs.Changes.{Change, Insert, Remove, Protect, Relocate, IsNamed, changed, with_both, with_new, without_old, with_perm, at_page}
 use Rattle.xl_model.specs.Ranges.{ranges_of}
 use Rattle.xl_model.specs.Room.{has_room, room_for}
 use Rattle.xl_model.specs.Shapes.{Runs, brought}

@@ -1,5 +1,5 @@
 -- Whether a leaf meets a block, by the last range that begins below the block's end.
-use Rattle.std.proofs.Common.{◌≡◌, refl, sym, ap, ◌∙◌, subst, ℕ, ◌+◌, ◌*◌, ◌^◌, ◌<◌, ◌≤◌, Bool, true, false, cond, List, [], ◌∷◌, Option, None, Some, ◌==◌, ◌&&◌, ◌||◌, nat_le, nat_lt, arith}
+use Rattle.std.proofs.Common.{◌≡◌, refl, sym, ap, ◌∙◌, ℕ, ◌+◌, ◌^◌, ◌<◌, ◌≤◌, Bool, true, false, cond, List, [], ◌∷◌, Option, None, Some, ◌==◌, ◌&&◌, ◌||◌, nat_lt, arith}
 use Rattle.std.proofs.lemmas.Bool.Decides.{nat_tests}
 use Rattle.std.specs.List.{list_any}
 use Rattle.xl_model.specs.declared.address.Order.{Order}
@@ -79,4 +79,3 @@ pub meets-is : (space f : ℕ) (o : Order) (rs : List Range) → IsHeld 0 rs →
     → meets_any space f o (spread rs) ≡ meets_where f (of_space space (last_below (key_at space (f + pages_of o)) rs))
 unfolding meets_any
 meets-is space f o rs h limit = any-spread 0 space f o rs h ∙ any-last 0 space f (f + pages_of o) rs h limit
-

@@ -1,5 +1,5 @@
 -- Protect and Relocate as two steps, and what stands where the second step has no room.
-use Rattle.std.proofs.Common.{◌≡◌, refl, sym, ap, ◌∙◌, subst, ℕ, zero, suc, ◌+◌, ◌-◌, ◌*◌, ◌/◌, ◌^◌, ◌<◌, ◌≤◌, Bool, true, false, is_some, List, [], ◌∷◌, length, Option, None, Some, inl, inr, ◌==◌, ◌&&◌, nat_le, nat_lt, arith}
+use Rattle.std.proofs.Common.{◌≡◌, refl, sym, ap, ◌∙◌, subst, ℕ, ◌+◌, ◌*◌, ◌^◌, ◌<◌, ◌≤◌, Bool, true, false, is_some, List, length, Some, ◌&&◌, nat_le, arith}
 use Rattle.std.proofs.lemmas.Bool.Decides.{nat_tests}
 use Rattle.xl_model.specs.declared.address.Order.{Order}
 use Rattle.xl_model.specs.declared.perm.Perm.{Perm}
@@ -7,33 +7,25 @@ use Rattle.xl_model.specs.declared.leaf.Leaf.{Leaf}
 use Rattle.xl_model.specs.declared.leaf.Range.{Range}
 use Rattle.xl_model.specs.Addresses.{pages_of}
 use Rattle.xl_model.specs.Mapping.{leaf_key, leaf_named, meets_any, meets_block, is_leaf, with_leaf, without_leaf}
-use Rattle.xl_model.specs.Changes.{Insert, Remove, Protect, Relocate, IsNamed, changed}
-use Rattle.xl_model.specs.Ranges.{range_key, end_key, range_of_leaf, ranges_of}
+use Rattle.xl_model.specs.Changes.{Protect, Relocate, IsNamed, changed}
+use Rattle.xl_model.specs.Ranges.{range_of_leaf, ranges_of}
 use Rattle.xl_model.specs.Room.{has_room}
 use Rattle.xl_model.specs.Shapes.{Runs}
-use Rattle.xl_model.specs.Structures.{IsBlock, IsLeafFor}
+use Rattle.xl_model.specs.Structures.{IsBlock}
 use Rattle.xl_model_lemmas.specs.Members.{In}
-use Rattle.xl_model_lemmas.specs.HeldRanges.{first_leaf, spread, IsRange, IsHeld, IsClear, join, pages_before, pages_behind, part_behind, before_on, behind_on, some_if, IsLeafIn, cut, leaf_in}
+use Rattle.xl_model_lemmas.specs.HeldRanges.{spread, IsRange, IsHeld, IsClear, join, cut, leaf_in}
 use Rattle.xl_model_lemmas.proofs.MemberLemmas.{In-any}
 use Rattle.xl_model_lemmas.proofs.PlaceLemmas.{named-space, named-first, named-order}
 use Rattle.xl_model_lemmas.proofs.MappingLemmas.{named-In, named-is}
 use Rattle.xl_model_lemmas.proofs.OrderLemmas.{pages-some}
-use Rattle.xl_model_lemmas.proofs.RunLemmas.{ranges-spread}
-use Rattle.xl_model_lemmas.proofs.TouchLemmas.{leap, some-pages}
-use Rattle.xl_model_lemmas.proofs.JoinLemmas.{In-key, In-range, held-join}
-use Rattle.xl_model_lemmas.proofs.SpreadLemmas.{spread-join}
-use Rattle.xl_model_lemmas.proofs.LeafInLemmas.{Sizes, sizes}
-use Rattle.xl_model_lemmas.proofs.CutLemmas.{AtHead, head-cut, next-cut, cut-spread, held-cut}
-use Rattle.xl_model_lemmas.proofs.CutCountLemmas.{cut-count}
 use Rattle.xl_model_lemmas.proofs.MeetRangeLemmas.{clear-any}
 use Rattle.xl_model_lemmas.proofs.SortedLemmas.{with-without}
 use Rattle.xl_range.specs.Treaps.{TreapView, keeping}
-use Rattle.xl_range.specs.Rows.{IsAt, IsTable, IsDone, HasRanges, HasLeaf}
-use Rattle.xl_range.proofs.HoldLemmas.{fit-range}
-use Rattle.xl_range.proofs.FindLemmas.{leaf-in-is, named-range}
+use Rattle.xl_range.specs.Rows.{IsTable, IsDone, HasRanges, HasLeaf}
+use Rattle.xl_range.proofs.FindLemmas.{named-range}
 use Rattle.xl_range.proofs.SpreadLeafLemmas.{sorted-spread, clear-key}
-use Rattle.xl_range.proofs.LeafChangeLemmas.{new-named, still-named, put-back, took-back, insert-changed, remove-changed, protect-changed, relocate-changed, insert-room, remove-room, protect-room, relocate-room}
-use Rattle.xl_range.proofs.StepLemmas.{AreRanges, join-ranges, cut-ranges, same-ranges, has-ranges, same-bools, kept-is, leaf-at, CanPutLeaf, cut-can}
+use Rattle.xl_range.proofs.LeafChangeLemmas.{new-named, still-named, put-back, took-back, protect-changed, relocate-changed, protect-room, relocate-room}
+use Rattle.xl_range.proofs.StepLemmas.{AreRanges, join-ranges, cut-ranges, same-ranges, has-ranges, same-bools, kept-is, CanPutLeaf, cut-can}
 
 -- The leaf of a range that is named is of its space and order, and its first page is the name's.
 pub record IsThat (space first : ℕ) (o : Order) (x : Leaf) : Type 0 where

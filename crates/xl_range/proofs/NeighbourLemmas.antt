@@ -1,17 +1,12 @@
 -- The neighbours of a range among held ranges: where they stand, and what putting a range among them asks for.
-use Rattle.std.proofs.Common.{◌≡◌, refl, sym, ap, ◌∙◌, subst, ℕ, zero, suc, ◌+◌, ◌-◌, ◌*◌, ◌/◌, ◌%◌, ◌^◌, ◌<◌, ◌≤◌, Bool, true, false, not, cond, is_some, List, [], ◌∷◌, length, filter, Option, None, Some, Result, Ok, Err, ◌⊎◌, inl, inr, ◌==◌, ◌&&◌, ◌||◌, find, nat_le, nat_lt, arith}
+use Rattle.std.proofs.Common.{◌≡◌, refl, sym, ◌∙◌, subst, ℕ, ◌^◌, ◌<◌, ◌≤◌, Bool, true, false, cond, List, [], ◌∷◌, Option, None, Some, ◌==◌, ◌||◌, nat_lt, arith}
 use Rattle.std.proofs.lemmas.Bool.Decides.{nat_tests}
 use Rattle.std.specs.List.{list_any}
-use Rattle.xl_model.specs.declared.address.Order.{Order}
-use Rattle.xl_model.specs.declared.address.Order.TheVariants as order
-use Rattle.xl_model.specs.declared.leaf.Leaf.{Leaf}
 use Rattle.xl_model.specs.declared.leaf.Range.{Range}
-use Rattle.xl_model.specs.Addresses.{pages_of}
-use Rattle.xl_model.specs.Ranges.{range_key, end_key, range_of_leaf, holds_page, ranges_of}
-use Rattle.xl_model_lemmas.specs.Members.{In}
-use Rattle.xl_model_lemmas.specs.HeldRanges.{next_leaf, run_on, first_leaf, leaves_in, spread, touches, Stops, IsRange, IsHeld, IsClear, grown, glue, join, pages_before, pages_behind, part_behind, before_on, behind_on, pieces, some_if, IsLeafIn, cut, leaf_in, leaf_by, meets_range}
-use Rattle.xl_range.specs.Treaps.{with_range, without_range, resized, last_below, first_from, of_space, last_or, has_key, IsFit, IsApart}
-use Rattle.xl_range.specs.Puts.{next_of, prev_of, next_where, prev_where, range_taken, kept_taken, kept_put, put_by, IsThere, pages_with, one_if}
+use Rattle.xl_model.specs.Ranges.{range_key, end_key}
+use Rattle.xl_model_lemmas.specs.HeldRanges.{touches, IsRange, IsHeld}
+use Rattle.xl_range.specs.Treaps.{without_range, last_below, first_from, of_space, last_or, has_key}
+use Rattle.xl_range.specs.Puts.{next_of, prev_of, next_where, prev_where, range_taken, kept_taken, IsThere, pages_with}
 
 -- a neighbour that touches is of the range's space
 pub next-space : (x r : Range) → next_where (of_space x.space (Some r)) x ≡ next_where (Some r) x
@@ -180,4 +175,3 @@ can-by x rs (Some q) (Some r) is n p =
 
 pub can-put : (x : Range) (rs : List Range) (next prev : Option Range) → IsHeld 0 rs → IsRange x → next ≡ next_of x rs → prev ≡ prev_of x rs → CanPut next prev x rs
 can-put x rs next prev h is en ep = can-by x rs next prev is (λ q e. next-is x q rs h (sym en ∙ e)) (λ q e. prev-is x q rs h (sym ep ∙ e))
-

@@ -1,19 +1,13 @@
 -- The calls that put a range among its neighbours make the joined list.
-use Rattle.std.proofs.Common.{◌≡◌, refl, sym, ap, ◌∙◌, subst, ℕ, zero, suc, ◌+◌, ◌-◌, ◌*◌, ◌/◌, ◌%◌, ◌^◌, ◌<◌, ◌≤◌, Bool, true, false, not, cond, is_some, List, [], ◌∷◌, length, filter, Option, None, Some, Result, Ok, Err, ◌⊎◌, inl, inr, ◌==◌, ◌&&◌, ◌||◌, find, nat_le, nat_lt, arith}
+use Rattle.std.proofs.Common.{◌≡◌, refl, sym, ap, ◌∙◌, subst, ℕ, suc, ◌+◌, ◌<◌, ◌≤◌, Bool, true, false, cond, List, [], ◌∷◌, length, Option, None, Some, inl, inr, ◌==◌, nat_le, nat_lt, arith}
 use Rattle.std.proofs.lemmas.Bool.Decides.{nat_tests}
-use Rattle.std.specs.List.{list_any}
-use Rattle.xl_model.specs.declared.address.Order.{Order}
-use Rattle.xl_model.specs.declared.address.Order.TheVariants as order
-use Rattle.xl_model.specs.declared.leaf.Leaf.{Leaf}
 use Rattle.xl_model.specs.declared.leaf.Range.{Range}
-use Rattle.xl_model.specs.Addresses.{pages_of}
-use Rattle.xl_model.specs.Ranges.{range_key, end_key, range_of_leaf, holds_page, ranges_of}
-use Rattle.xl_model_lemmas.specs.Members.{In}
-use Rattle.xl_model_lemmas.specs.HeldRanges.{next_leaf, run_on, first_leaf, leaves_in, spread, touches, Stops, IsRange, IsHeld, IsClear, grown, glue, join, pages_before, pages_behind, part_behind, before_on, behind_on, pieces, some_if, IsLeafIn, cut, leaf_in, leaf_by, meets_range}
+use Rattle.xl_model.specs.Ranges.{range_key, end_key}
+use Rattle.xl_model_lemmas.specs.HeldRanges.{touches, IsRange, IsHeld, IsClear, grown, glue, join}
 use Rattle.xl_model_lemmas.proofs.TouchLemmas.{Touch, touch, touch-key, grown-touches, some-pages, not-touching}
 use Rattle.xl_model_lemmas.proofs.JoinLemmas.{held-behind, held-join}
-use Rattle.xl_range.specs.Treaps.{with_range, without_range, resized, last_below, first_from, of_space, last_or, has_key, IsFit, IsApart}
-use Rattle.xl_range.specs.Puts.{next_of, prev_of, next_where, prev_where, range_taken, kept_taken, kept_put, put_by, IsThere, pages_with, one_if}
+use Rattle.xl_range.specs.Treaps.{with_range, without_range, resized, last_below, first_from, of_space, last_or, IsApart}
+use Rattle.xl_range.specs.Puts.{next_of, prev_of, next_where, prev_where, range_taken, kept_taken, kept_put, put_by, IsThere, one_if}
 use Rattle.xl_range.proofs.HoldLemmas.{with-front, own-key, length-with, length-without, length-resized, apart-held}
 use Rattle.xl_range.proofs.NeighbourLemmas.{next-space, prev-space, IsNext, first-next, IsPrev, last-prev, by-option, next-there, CanPut, can-put}
 
@@ -93,33 +87,33 @@ put-join low x (r ∷ rs) (above, also, stops, rest) is (apart, clear) =
     let next_past : Past r next = past-next r x (first_from k rs) (λ q e. let n : IsNext (end_key r) k q rs = first-next (end_key r) k rs q rest e in let l = n.low_in in omega arith) in
     let prev_past : Past r (prev_of x rs) = past-prev r x (last_below k rs) (λ q e. let n : IsPrev (end_key r) k q rs = last-prev (end_key r) k rs q rest e in let l = n.low_in in omega arith) in
     elim (nat_lt (range_key r) k) as (λ b. nat_lt (range_key r) k ≡ b
-        → put_by (next_where (of_space x.space (cond b (first_from k rs) (Some r))) x) (prev_where (of_space x.space (cond b (Some (last_or r (last_below k rs))) None)) x) x (r ∷ rs)
-        ≡ cond b (cond (touches r x) (glue (grown r x) rs) (r ∷ join x rs)) (glue x (r ∷ rs))) [
+    → put_by (next_where (of_space x.space (cond b (first_from k rs) (Some r))) x) (prev_where (of_space x.space (cond b (Some (last_or r (last_below k rs))) None)) x) x (r ∷ rs)
+    ≡ cond b (cond (touches r x) (glue (grown r x) rs) (r ∷ join x rs)) (glue x (r ∷ rs))) [
       | true ↦ λ t.
           let less : range_key r < k = grind (arith, nat_tests) in
           let ends : end_key r ≤ k = elim apart [ inl a ↦ a | inr b ↦ omega arith ] in
           let G : Option Range → Type 0 = λ o. put_by next (prev_where (of_space x.space (Some (last_or r o))) x) x (r ∷ rs) ≡ cond (touches r x) (glue (grown r x) rs) (r ∷ join x rs) in
           let cons : put_by next (prev_of x rs) x (r ∷ rs) ≡ r ∷ join x rs = put-cons next (prev_of x rs) x r rs next_past prev_past less ∙ ap (λ (ys : List Range). r ∷ ys) tail in
           let none : last_below k rs ≡ None → G None = λ e.
-              let H : Option Range → Type 0 = λ o. put_by next o x (r ∷ rs) ≡ cond (touches r x) (glue (grown r x) rs) (r ∷ join x rs) in
-              let no_prev : prev_of x rs ≡ None = ap (λ (o : Option Range). prev_where (of_space x.space o) x) e in
-              let body : H (prev_where (Some r) x) =
-              elim (touches r x) as (λ b. touches r x ≡ b → put_by next (cond b (Some r) None) x (r ∷ rs) ≡ cond b (glue (grown r x) rs) (r ∷ join x rs)) [
-                | true ↦ λ u.
-                    let h : Touch r x = touch r x u in
-                    let f : end_key r ≡ k = touch-key r x h in
-                    put-touch x r rs h r_some some (held-behind (end_key r) x rs rest clear (omega arith))
-                | false ↦ λ u. ap (λ (o : Option Range). put_by next o x (r ∷ rs)) (sym no_prev) ∙ cons
-              ] refl in
-              subst H (sym (prev-space x r)) body
+          let H : Option Range → Type 0 = λ o. put_by next o x (r ∷ rs) ≡ cond (touches r x) (glue (grown r x) rs) (r ∷ join x rs) in
+          let no_prev : prev_of x rs ≡ None = ap (λ (o : Option Range). prev_where (of_space x.space o) x) e in
+          let body : H (prev_where (Some r) x) =
+          elim (touches r x) as (λ b. touches r x ≡ b → put_by next (cond b (Some r) None) x (r ∷ rs) ≡ cond b (glue (grown r x) rs) (r ∷ join x rs)) [
+            | true ↦ λ u.
+                let h : Touch r x = touch r x u in
+                let f : end_key r ≡ k = touch-key r x h in
+                put-touch x r rs h r_some some (held-behind (end_key r) x rs rest clear (omega arith))
+            | false ↦ λ u. ap (λ (o : Option Range). put_by next o x (r ∷ rs)) (sym no_prev) ∙ cons
+          ] refl in
+          subst H (sym (prev-space x r)) body
           in
           let found : (z : Range) → last_below k rs ≡ Some z → G (Some z) = λ z e.
-              let n : IsPrev (end_key r) k z rs = last-prev (end_key r) k rs z rest e in
-              let l = n.low_in in
-              let m = n.below in
-              let apart_ends : touches r x ≡ false = not-touching r x (λ u. let f : end_key r ≡ k = touch-key r x (touch r x u) in omega arith) in
-              let same : prev_where (of_space x.space (Some z)) x ≡ prev_of x rs = ap (λ (o : Option Range). prev_where (of_space x.space o) x) (sym e) in
-              rw apart_ends (ap (λ (o : Option Range). put_by next o x (r ∷ rs)) same ∙ cons)
+          let n : IsPrev (end_key r) k z rs = last-prev (end_key r) k rs z rest e in
+          let l = n.low_in in
+          let m = n.below in
+          let apart_ends : touches r x ≡ false = not-touching r x (λ u. let f : end_key r ≡ k = touch-key r x (touch r x u) in omega arith) in
+          let same : prev_where (of_space x.space (Some z)) x ≡ prev_of x rs = ap (λ (o : Option Range). prev_where (of_space x.space o) x) (sym e) in
+          rw apart_ends (ap (λ (o : Option Range). put_by next o x (r ∷ rs)) same ∙ cons)
           in
           by-option G (last_below k rs) none found
       | false ↦ λ t.
@@ -149,7 +143,6 @@ test-is n held len count joined result e l s = e ∙ (grind (arith, nat_tests))
 
 pub few-test : (count n : ℕ) → nat_le count n ≡ true → count ≤ n
 few-test count n t = grind (arith, nat_tests)
-
 
 -- What the calls that put a leaf's range in ask for, and what comes of them.
 pub record IsReady (x : Range) (rs : List Range) (y : Range) (next prev : Option Range) : Type 0 where

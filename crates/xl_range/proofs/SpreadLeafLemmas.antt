@@ -1,5 +1,5 @@
 -- The leaves of held ranges: where they stand, that they are sorted, and that they lie apart from what is clear of the ranges.
-use Rattle.std.proofs.Common.{◌≡◌, refl, sym, ap, ◌∙◌, subst, ℕ, zero, suc, ◌+◌, ◌*◌, ◌^◌, ◌<◌, ◌≤◌, true, false, List, [], ◌∷◌, ◌⊎◌, inl, inr, ◌==◌, ◌&&◌, nat_le, nat_lt, arith}
+use Rattle.std.proofs.Common.{◌≡◌, refl, sym, subst, ℕ, zero, suc, ◌+◌, ◌*◌, ◌<◌, ◌≤◌, true, false, List, [], ◌∷◌, ◌⊎◌, inl, inr, arith}
 use Rattle.std.proofs.lemmas.Bool.Decides.{nat_tests}
 use Rattle.xl_model.specs.declared.leaf.Leaf.{Leaf}
 use Rattle.xl_model.specs.declared.leaf.Range.{Range}
@@ -7,10 +7,10 @@ use Rattle.xl_model.specs.Addresses.{pages_of}
 use Rattle.xl_model.specs.Mapping.{leaf_key, covers}
 use Rattle.xl_model.specs.Ranges.{range_key, end_key, range_of_leaf}
 use Rattle.xl_model_lemmas.specs.Members.{In, AllAbove, IsSorted}
-use Rattle.xl_model_lemmas.specs.HeldRanges.{next_leaf, run_on, first_leaf, leaves_in, spread, IsRange, IsHeld, IsClear}
+use Rattle.xl_model_lemmas.specs.HeldRanges.{next_leaf, run_on, first_leaf, leaves_in, spread, IsHeld, IsClear}
 use Rattle.xl_model_lemmas.proofs.OrderLemmas.{pages-some}
 use Rattle.xl_model_lemmas.proofs.RunLemmas.{leaves-is}
-use Rattle.xl_model_lemmas.proofs.JoinLemmas.{In-key, In-range}
+use Rattle.xl_model_lemmas.proofs.JoinLemmas.{In-key}
 
 -- A leaf stands within these keys, in this space.
 pub record StandsIn (space low high : ℕ) (z : Leaf) : Type 0 where
@@ -73,11 +73,13 @@ sorted-run : (n low : ℕ) (l : Leaf) (rest : List Leaf) → leaf_key l + n * pa
 sorted-run zero low l rest le above sorted = sorted
 sorted-run (suc n) low l rest le above sorted =
     let p : ℕ = pages_of l.order in
-    let some : 0 < p = pages-some l.order in
-    (above-all (leaf_key l) (run_on n (next_leaf l) rest) (λ z i. elim (run-In n (next_leaf l) z rest i) [
-      | inl s ↦ let from = s.from in omega arith
-      | inr j ↦ let a : low ≤ leaf_key z = above z j in omega arith
-    ]), sorted-run n low (next_leaf l) rest (omega arith) above sorted)
+    let some : 0 < p = pages-some l.order in (
+      above-all (leaf_key l) (run_on n (next_leaf l) rest) (λ z i. elim (run-In n (next_leaf l) z rest i) [
+        | inl s ↦ let from = s.from in omega arith
+        | inr j ↦ let a : low ≤ leaf_key z = above z j in omega arith
+      ]),
+      sorted-run n low (next_leaf l) rest (omega arith) above sorted,
+    )
 
 pub sorted-spread : (low : ℕ) (rs : List Range) → IsHeld low rs → IsSorted (spread rs)
 unfolding spread

@@ -1,41 +1,28 @@
 -- A walk and a fence of the table: what they keep, answer and leave.
-use Rattle.std.proofs.Common.{◌≡◌, ◌⊎◌, refl, sym, ap, ◌∙◌, subst, ℕ, ◌+◌, ◌-◌, ◌*◌, ◌%◌, ◌^◌, ◌<◌, ◌≤◌, Bool, true, false, is_some, List, [], ◌∷◌, length, find, Option, None, Some, Result, Ok, Err, inl, inr, ◌==◌, ◌&&◌, nat_le, nat_lt, arith}
+use Rattle.std.proofs.Common.{◌≡◌, ◌⊎◌, refl, sym, ap, ◌∙◌, subst, ℕ, ◌+◌, ◌%◌, ◌^◌, ◌<◌, Bool, true, List, length, find, Option, None, Some, inl, inr, arith}
 use Rattle.std.proofs.lemmas.Bool.Decides.{nat_tests}
-use Rattle.xl_model.specs.declared.address.Order.{Order}
-use Rattle.xl_model.specs.declared.perm.Perm.{Perm}
 use Rattle.xl_model.specs.declared.leaf.Leaf.{Leaf}
 use Rattle.xl_model.specs.declared.leaf.Range.{Range}
 use Rattle.xl_model.specs.declared.event.Reach.{Reach}
-use Rattle.xl_model.specs.declared.work.NoRoom.TheVariants as why
-use Rattle.xl_model.specs.declared.work.Refused.{Refused}
 use Rattle.xl_model.specs.declared.work.Walk.{Walk}
-use Rattle.xl_model.specs.declared.work.Work.{Work}
-use Rattle.xl_model.specs.Mapping.{leaf_at_page, leaf_named, meets_any}
-use Rattle.xl_model.specs.Changes.{Change, Insert, Remove, Protect, Relocate, IsNamed, changed, old_leaf}
+use Rattle.xl_model.specs.Mapping.{leaf_at_page}
 use Rattle.xl_model.specs.Base.{plus}
-use Rattle.xl_model.specs.Placing.{no_moves}
 use Rattle.xl_model.specs.Ranges.{holds_page, range_reads, ranges_of}
-use Rattle.xl_model.specs.Recency.{purged, touched}
-use Rattle.xl_model.specs.Room.{has_room}
-use Rattle.xl_model.specs.Shapes.{Shape, Runs, brought, widened, narrowed, shape_after}
-use Rattle.xl_model.specs.Caches.{Cached, RangeCache, without_items, holds_first, caches_purged, caches_fenced, entries_in, reaches_range}
+use Rattle.xl_model.specs.Recency.{purged}
+use Rattle.xl_model.specs.Caches.{Cached, RangeCache, without_items, caches_fenced, reaches_range}
 use Rattle.xl_model.specs.Walks.{with_touch, with_fill, with_range, walked, range_walk_by}
-use Rattle.xl_model.specs.Structures.{TableState, IsBlock, IsLeafFor, IsChange, IsWalk, IsFence, Verdict, verdict, Made, NoSpace, moves_made, finds_place, work_of, table_made, answer_by, after_by, table_answer, table_after, walk_answer, table_walked, fence_answer, table_fenced}
+use Rattle.xl_model.specs.Structures.{TableState, IsWalk, IsFence, walk_answer, table_walked, fence_answer, table_fenced}
 use Rattle.xl_model_lemmas.specs.Members.{In}
-use Rattle.xl_model_lemmas.specs.HeldRanges.{spread, IsHeld, leaf_in, leaf_by}
+use Rattle.xl_model_lemmas.specs.HeldRanges.{spread, leaf_in, leaf_by}
 use Rattle.xl_model_lemmas.proofs.MemberLemmas.{find-In, find-passes}
 use Rattle.xl_model_lemmas.proofs.RecencyLemmas.{touched-In, newest-In, purged-In, touched-none}
 use Rattle.xl_model_lemmas.proofs.RunLemmas.{ranges-spread}
 use Rattle.xl_model_lemmas.proofs.JoinLemmas.{In-range}
 use Rattle.xl_tlb.specs.RangeCoding.{IsKeepable}
-use Rattle.xl_range.specs.Treaps.{TreapView, keeping, IsFit}
-use Rattle.xl_range.specs.Rows.{IsAt, IsFresh, AllFresh, IsTable, IsRow, IsDone, HasRanges, HasLeaf, row_of}
+use Rattle.xl_range.specs.Treaps.{TreapView, IsFit}
+use Rattle.xl_range.specs.Rows.{IsAt, IsFresh, IsTable, IsRow, row_of}
 use Rattle.xl_range.proofs.HoldLemmas.{fit-range}
-use Rattle.xl_range.proofs.FindLemmas.{at-page, found-at, leaf-found, held-fresh, IsNamedIn, named-range}
-use Rattle.xl_range.proofs.LeafChangeLemmas.{room-few}
-use Rattle.xl_range.proofs.StepLemmas.{insert-clear}
-use Rattle.xl_range.proofs.MoveStepLemmas.{IsMoving, moving}
-use Rattle.xl_range.proofs.FreshLemmas.{insert-fresh, remove-fresh, protect-fresh, relocate-fresh, first-purged, none-purged}
+use Rattle.xl_range.proofs.FindLemmas.{at-page, leaf-found, held-fresh}
 
 -- A walk of the row: what it keeps, answers and leaves.
 pub record IsRowWalk (space page n : ℕ) (t new : TreapView) (k left : Cached Range) (result : Walk) : Type 0 where

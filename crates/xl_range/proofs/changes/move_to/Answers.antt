@@ -1,6 +1,5 @@
-use Rattle.std.proofs.Common.{◌≡◌, ◌∙◌, sym, subst, Bool}
+use Rattle.std.proofs.Common.{◌∙◌, sym, subst, Bool}
 use Rattle.xl_model.specs.Changes.{Relocate}
-use Rattle.xl_range.specs.Treaps.{TreapView, keeping}
 use Rattle.xl_range.specs.Rows.{IsDone}
 use Rattle.xl_range.proofs.StepLemmas.{leaf-at}
 use Rattle.xl_range.proofs.MoveStepLemmas.{IsMoving, moving, HasBoth, has-both, no-both, move-done, move-undone, back-room}

@@ -1,7 +1,7 @@
-use Rattle.std.proofs.Common.{◌≡◌, ◌∙◌, sym, subst, Bool}
+use Rattle.std.proofs.Common.{◌∙◌, sym, subst, Bool}
 use Rattle.xl_model.specs.Changes.{Protect}
 use Rattle.xl_range.specs.Rows.{IsDone}
-use Rattle.xl_range.proofs.StepLemmas.{CanPutLeaf, cut-can, cut-room, leaf-at}
+use Rattle.xl_range.proofs.StepLemmas.{cut-can, cut-room, leaf-at}
 use Rattle.xl_range.proofs.MoveStepLemmas.{protect-done, protect-undone}
 use Rattle.xl_range.proofs.changes.set_perm.Goals as goal
 

@@ -1,8 +1,8 @@
-use Rattle.std.proofs.Common.{◌≡◌, ◌∙◌, ◌+◌, ◌≤◌, ap, sym, length, nat_le, List, true, false, arith}
+use Rattle.std.proofs.Common.{◌≡◌, ◌∙◌, ◌+◌, ◌≤◌, ap, sym, length, List, arith}
 use Rattle.xl_model.specs.declared.leaf.Range.{Range}
 use Rattle.xl_model.specs.Ranges.{range_of_leaf}
 use Rattle.xl_model_lemmas.specs.HeldRanges.{join}
-use Rattle.xl_range.specs.Treaps.{TreapView, keeping}
+use Rattle.xl_range.specs.Treaps.{keeping}
 use Rattle.xl_range.specs.Puts.{put_by, one_if}
 use Rattle.xl_range.proofs.PutLemmas.{IsReady, ready, test-is, few-test}
 use Rattle.xl_range.proofs.neighbours.put_within.Goals as goal

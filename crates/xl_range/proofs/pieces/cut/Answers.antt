@@ -1,10 +1,8 @@
-use Rattle.std.proofs.Common.{◌≡◌, ◌∙◌, ◌+◌, ◌-◌, ◌<◌, ◌≤◌, ℕ, ap, sym, subst, length, List, arith}
+use Rattle.std.proofs.Common.{◌≡◌, ◌∙◌, ◌+◌, ◌-◌, ◌≤◌, ap, sym, subst, length, List, arith}
 use Rattle.xl_model.specs.declared.leaf.Range.{Range}
-use Rattle.xl_model.specs.Addresses.{pages_of}
-use Rattle.xl_model.specs.Ranges.{range_key}
-use Rattle.xl_model_lemmas.specs.HeldRanges.{cut, pages_before, pages_behind, part_behind}
+use Rattle.xl_model_lemmas.specs.HeldRanges.{cut}
 use Rattle.xl_range.specs.Treaps.{TreapView, keeping, IsApart}
-use Rattle.xl_range.specs.Cuts.{kept_cut, kept_behind}
+use Rattle.xl_range.specs.Cuts.{kept_behind}
 use Rattle.xl_range.proofs.CutCallLemmas.{CanCut, can-cut, put-calls}
 use Rattle.xl_range.proofs.pieces.cut.Goals as goal
 

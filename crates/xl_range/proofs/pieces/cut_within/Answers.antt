@@ -1,8 +1,5 @@
-use Rattle.std.proofs.Common.{◌≡◌, ◌∙◌, ◌+◌, ◌-◌, ◌<◌, ◌≤◌, ℕ, ap, sym, refl, subst, length, nat_le, List, true, false, arith}
-use Rattle.xl_model.specs.declared.leaf.Range.{Range}
-use Rattle.xl_model.specs.Addresses.{pages_of}
-use Rattle.xl_model_lemmas.specs.HeldRanges.{cut, pages_before, pages_behind}
-use Rattle.xl_range.specs.Treaps.{TreapView}
+use Rattle.std.proofs.Common.{◌∙◌, ◌+◌, ◌-◌, ◌≤◌, ℕ, ap, sym, refl, length, arith}
+use Rattle.xl_model_lemmas.specs.HeldRanges.{cut}
 use Rattle.xl_range.proofs.PutLemmas.{few-test}
 use Rattle.xl_range.proofs.CutCallLemmas.{CanCut, can-cut, test-cut}
 use Rattle.xl_range.proofs.pieces.cut_within.Goals as goal

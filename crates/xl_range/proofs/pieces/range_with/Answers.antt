@@ -1,4 +1,4 @@
-use Rattle.std.proofs.Common.{◌≡◌, ◌∙◌, sym, Some, None}
+use Rattle.std.proofs.Common.{◌∙◌, sym}
 use Rattle.xl_range.proofs.FindLemmas.{named-range, found-range, no-range}
 use Rattle.xl_range.proofs.pieces.range_with.Goals as goal
 

@@ -1,4 +1,4 @@
-use Rattle.std.proofs.Common.{◌≡◌, ◌∙◌, ap, sym, Some, None}
+use Rattle.std.proofs.Common.{◌∙◌, ap, sym, Some}
 use Rattle.xl_model.specs.Mapping.{leaf_at_page}
 use Rattle.xl_model.specs.Structures.{TableState}
 use Rattle.xl_model_lemmas.specs.HeldRanges.{leaf_by}

@@ -1,10 +1,7 @@
-use Rattle.std.proofs.Common.{◌≡◌, ◌∙◌, ap, sym, refl, Some, None}
-use Rattle.xl_model.specs.declared.leaf.Leaf.{Leaf}
-use Rattle.xl_model.specs.declared.work.Walk.{Walk}
+use Rattle.std.proofs.Common.{◌∙◌, sym, refl, Some, None}
 use Rattle.xl_model_lemmas.specs.HeldRanges.{leaf_in}
-use Rattle.xl_range.specs.Treaps.{TreapView}
 use Rattle.xl_range.proofs.FindLemmas.{found-at}
-use Rattle.xl_range.proofs.WalkLemmas.{hit-at, hit-walk, miss-walk, IsSought, none-of, keepable, seen-walk, leaf-walk}
+use Rattle.xl_range.proofs.WalkLemmas.{hit-at, hit-walk, miss-walk, none-of, keepable, seen-walk, leaf-walk}
 use Rattle.xl_range.proofs.ranges.RangesStructure.walk.Goals as goal
 
 pub leaf_in-requires : goal.leaf_in-requires
