@@ -34,6 +34,16 @@ row_of ranges t c = record {
   loads = t.loads;
 }
 
+-- A table of ranges as contracts see it.
+pub record RowState : Type 0 where
+  pub treap : TreapView
+  pub tlb : Cached Range
+  pub ranges : ℕ
+
+-- The table as the layers above see it.
+abbrev pub row_table : RowState → TableState
+row_table s = row_of s.ranges s.treap s.tlb
+
 -- Each page of a range is covered by the leaf that the range has there: with its frame, order and
 -- permission.
 abbrev pub IsFresh : List Leaf → Range → Type 0

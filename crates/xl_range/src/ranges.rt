@@ -17,7 +17,7 @@ use xl_tlb::RangeTlb;
 
 /// A table of ranges (redundant memory mappings, Karakostas and others, 2015): the maximal runs of
 /// its leaves stand in a treap, one for all spaces, and a TLB of ranges is its walk cache. Contracts
-/// see it as its table. Nothing is allocated after `open`.
+/// see the treap, the range TLB and how many ranges it may hold. Nothing is allocated after `open`.
 #[derive(Drop)]
 pub struct Ranges<T: Treap> {
     treap: T,
@@ -26,12 +26,11 @@ pub struct Ranges<T: Treap> {
 }
 
 impl<T: Treap> Model for Ranges<T> {
-    ghost use Rattle.xl_model.specs.Structures.{TableState};
-    ghost use Rattle.xl_range.specs.Rows.{row_of, IsRow};
+    ghost use Rattle.xl_range.specs.Rows.{RowState, IsRow};
 
-    ghost Value = { TableState };
+    ghost Value = { RowState };
 
-    ghost view = { λ m. row_of m.ranges (T.seen m.treap) m.tlb };
+    ghost view = { λ m. record { treap = T.seen m.treap; tlb = m.tlb; ranges = m.ranges } };
 
     ghost invariant = { λ m. IsRow m.ranges (T.seen m.treap) m.tlb };
 }
@@ -69,7 +68,9 @@ fn purge(tlb: &mut RangeTlb, space: u16, page: u64) -> Work
 }
 
 impl<T: Treap> Structure for Ranges<T> {
-    ghost table = { λ t. t };
+    ghost use Rattle.xl_range.specs.Rows.{row_table};
+
+    ghost table = { row_table };
 
     fn meets(&self, space: u16, first: u64, order: Order) -> bool {
         reaches_in(self.treap.before(space, first + order.pages()), first)

@@ -1,3 +1,5 @@
+use Rattle.std.proofs.Common.{ap}
+use Rattle.xl_range.specs.Rows.{row_table}
 use Rattle.xl_range.proofs.WalkLemmas.{fence-made, seen-fence}
 use Rattle.xl_range.proofs.ranges.RangesStructure.fence.Goals as goal
 
@@ -7,4 +9,4 @@ invariant_of-self g c =
 
 pub returns : goal.returns
 returns g c =
-    record { fences = seen-fence c.args.reach c.self.inside.ranges c.drop_reach.result (g.T.Treap.seen c.self.inside.treap) c.self.inside.tlb c.drop_reach.new.self c.args.self.now c.self.view_is (fence-made c.args.reach c.self.inside.ranges c.drop_reach.result (g.T.Treap.seen c.self.inside.treap) c.self.inside.tlb c.drop_reach.new.self c.self.invariant c.drop_reach.ensures.left c.drop_reach.ensures.after) }
+    record { fences = seen-fence c.args.reach c.self.inside.ranges c.drop_reach.result (g.T.Treap.seen c.self.inside.treap) c.self.inside.tlb c.drop_reach.new.self (row_table c.args.self.now) (ap row_table c.self.view_is) (fence-made c.args.reach c.self.inside.ranges c.drop_reach.result (g.T.Treap.seen c.self.inside.treap) c.self.inside.tlb c.drop_reach.new.self c.self.invariant c.drop_reach.ensures.left c.drop_reach.ensures.after) }

@@ -2,6 +2,7 @@ use Rattle.std.proofs.Common.{◌∙◌, ap, sym, Some}
 use Rattle.xl_model.specs.Mapping.{leaf_at_page}
 use Rattle.xl_model.specs.Structures.{TableState}
 use Rattle.xl_model_lemmas.specs.HeldRanges.{leaf_by}
+use Rattle.xl_range.specs.Rows.{row_table}
 use Rattle.xl_range.proofs.FindLemmas.{found-at, leaf-found}
 use Rattle.xl_range.proofs.ranges.RangesStructure.leaf_at.Goals as goal
 
@@ -13,10 +14,10 @@ pub returns-in-Some : goal.returns-in-Some
 returns-in-Some g c =
     ap Some c.leaf_in.ensures ∙ ap (leaf_by c.args.page) (sym c.in-Some.is ∙ c.find.ensures)
     ∙ leaf-found c.args.space c.args.page (g.T.Treap.seen c.self.inside.treap).kept c.self.invariant.whole.held
-    ∙ ap (λ (t : TableState). leaf_at_page c.args.space c.args.page t.leaves) c.self.view_is
+    ∙ ap (λ (t : TableState). leaf_at_page c.args.space c.args.page t.leaves) (ap row_table c.self.view_is)
 
 pub returns-in-None : goal.returns-in-None
 returns-in-None g c =
     ap (leaf_by c.args.page) (sym c.in-None.is ∙ c.find.ensures)
     ∙ leaf-found c.args.space c.args.page (g.T.Treap.seen c.self.inside.treap).kept c.self.invariant.whole.held
-    ∙ ap (λ (t : TableState). leaf_at_page c.args.space c.args.page t.leaves) c.self.view_is
+    ∙ ap (λ (t : TableState). leaf_at_page c.args.space c.args.page t.leaves) (ap row_table c.self.view_is)

@@ -1,5 +1,6 @@
-use Rattle.std.proofs.Common.{◌∙◌, sym, refl, Some, None}
+use Rattle.std.proofs.Common.{ap, ◌∙◌, sym, refl, Some, None}
 use Rattle.xl_model_lemmas.specs.HeldRanges.{leaf_in}
+use Rattle.xl_range.specs.Rows.{row_table}
 use Rattle.xl_range.proofs.FindLemmas.{found-at}
 use Rattle.xl_range.proofs.WalkLemmas.{hit-at, hit-walk, miss-walk, none-of, keepable, seen-walk, leaf-walk}
 use Rattle.xl_range.proofs.ranges.RangesStructure.walk.Goals as goal
@@ -14,7 +15,7 @@ invariant_of-self g c =
 
 pub returns-in-Some : goal.returns-in-Some
 returns-in-Some g c =
-    record { walks = seen-walk c.args.space c.args.page c.self.inside.ranges (g.T.Treap.seen c.self.inside.treap) (g.T.Treap.seen c.self.inside.treap) c.self.inside.tlb c.look.new.self _ c.args.self.now c.self.view_is (hit-walk c.self.inside.ranges c.args.space c.args.page (g.T.Treap.seen c.self.inside.treap) c.self.inside.tlb c.look.new.self c.in-Some.range c.leaf_in.result c.self.invariant c.in-Some.ensures.found c.in-Some.ensures.after c.leaf_in.ensures) }
+    record { walks = seen-walk c.args.space c.args.page c.self.inside.ranges (g.T.Treap.seen c.self.inside.treap) (g.T.Treap.seen c.self.inside.treap) c.self.inside.tlb c.look.new.self _ (row_table c.args.self.now) (ap row_table c.self.view_is) (hit-walk c.self.inside.ranges c.args.space c.args.page (g.T.Treap.seen c.self.inside.treap) c.self.inside.tlb c.look.new.self c.in-Some.range c.leaf_in.result c.self.invariant c.in-Some.ensures.found c.in-Some.ensures.after c.leaf_in.ensures) }
 
 pub fill-requires : goal.fill-requires
 fill-requires g c =
@@ -34,8 +35,8 @@ invariant_of-self-in-None g c =
 
 pub returns-in-Some-walk : goal.returns-in-Some-walk
 returns-in-Some-walk g c =
-    record { walks = leaf-walk c.args.space c.args.page c.self.inside.ranges (g.T.Treap.seen c.self.inside.treap) (g.T.Treap.seen c.walk.new.self) c.self.inside.tlb c.fill.new.self c.in-Some-walk.range c.leaf_in-in-Some-walk.result c.args.self.now c.leaf_in-in-Some-walk.ensures (seen-walk c.args.space c.args.page c.self.inside.ranges (g.T.Treap.seen c.self.inside.treap) (g.T.Treap.seen c.walk.new.self) c.self.inside.tlb c.fill.new.self _ c.args.self.now c.self.view_is (miss-walk c.self.inside.ranges c.args.space c.args.page (g.T.Treap.seen c.self.inside.treap) (g.T.Treap.seen c.walk.new.self) c.self.inside.tlb c.look.new.self c.fill.new.self (Some c.in-Some-walk.range) c.self.invariant (sym (none-of c.look.result c.in_default.not-Some) ∙ c.look.ensures.found) c.look.ensures.after (record { found = (sym c.in-Some-walk.is ∙ c.walk.ensures.found); loads = c.walk.ensures.loads }) c.fill.ensures)) }
+    record { walks = leaf-walk c.args.space c.args.page c.self.inside.ranges (g.T.Treap.seen c.self.inside.treap) (g.T.Treap.seen c.walk.new.self) c.self.inside.tlb c.fill.new.self c.in-Some-walk.range c.leaf_in-in-Some-walk.result (row_table c.args.self.now) c.leaf_in-in-Some-walk.ensures (seen-walk c.args.space c.args.page c.self.inside.ranges (g.T.Treap.seen c.self.inside.treap) (g.T.Treap.seen c.walk.new.self) c.self.inside.tlb c.fill.new.self _ (row_table c.args.self.now) (ap row_table c.self.view_is) (miss-walk c.self.inside.ranges c.args.space c.args.page (g.T.Treap.seen c.self.inside.treap) (g.T.Treap.seen c.walk.new.self) c.self.inside.tlb c.look.new.self c.fill.new.self (Some c.in-Some-walk.range) c.self.invariant (sym (none-of c.look.result c.in_default.not-Some) ∙ c.look.ensures.found) c.look.ensures.after (record { found = (sym c.in-Some-walk.is ∙ c.walk.ensures.found); loads = c.walk.ensures.loads }) c.fill.ensures)) }
 
 pub returns-in-None : goal.returns-in-None
 returns-in-None g c =
-    record { walks = seen-walk c.args.space c.args.page c.self.inside.ranges (g.T.Treap.seen c.self.inside.treap) (g.T.Treap.seen c.walk.new.self) c.self.inside.tlb c.look.new.self _ c.args.self.now c.self.view_is (miss-walk c.self.inside.ranges c.args.space c.args.page (g.T.Treap.seen c.self.inside.treap) (g.T.Treap.seen c.walk.new.self) c.self.inside.tlb c.look.new.self c.look.new.self None c.self.invariant (sym (none-of c.look.result c.in_default.not-Some) ∙ c.look.ensures.found) c.look.ensures.after (record { found = (sym c.in-None.is ∙ c.walk.ensures.found); loads = c.walk.ensures.loads }) refl) }
+    record { walks = seen-walk c.args.space c.args.page c.self.inside.ranges (g.T.Treap.seen c.self.inside.treap) (g.T.Treap.seen c.walk.new.self) c.self.inside.tlb c.look.new.self _ (row_table c.args.self.now) (ap row_table c.self.view_is) (miss-walk c.self.inside.ranges c.args.space c.args.page (g.T.Treap.seen c.self.inside.treap) (g.T.Treap.seen c.walk.new.self) c.self.inside.tlb c.look.new.self c.look.new.self None c.self.invariant (sym (none-of c.look.result c.in_default.not-Some) ∙ c.look.ensures.found) c.look.ensures.after (record { found = (sym c.in-None.is ∙ c.walk.ensures.found); loads = c.walk.ensures.loads }) refl) }
