@@ -1,0 +1,84 @@
+-- The words of a treap tell what it holds.
+use Rattle.std.proofs.Common.{◌≡◌, refl, sym, ap, ◌∙◌, subst, ℕ, zero, suc, ◌+◌, ◌*◌, ◌%◌, ◌^◌, ◌<◌, ◌≤◌, true, false, List, [], ◌∷◌, ◌++◌, length, slice_index, replicate, length-append, find, Option, None, Some, inl, inr, arith}
+use Rattle.std.proofs.lemmas.List.{get_or-replicate, length-replicate}
+use Rattle.xl_model.specs.declared.leaf.Range.{Range}
+use Rattle.xl_model.specs.Base.{plus}
+use Rattle.xl_model.specs.Ranges.{holds_page, range_reads}
+use Rattle.xl_model_lemmas.specs.Members.{In, Once}
+use Rattle.xl_model_lemmas.proofs.MemberLemmas.{In-append}
+use Rattle.xl_model_lemmas.proofs.OnceLemmas.{once-more}
+use Rattle.xl_treap.specs.Treaps.{TreapState, key_at}
+use Rattle.xl_treap.specs.Back.{Searched, ended, end_of, range_found, search_from, tree_back, loaded_times}
+use Rattle.xl_treap.specs.Trees.{Tree, Tip, ranges, tree_at}
+use Rattle.xl_treap.specs.Steps.{IsEmpty}
+use Rattle.xl_treap.specs.Kept.{IsTreap, IsKept, WordsReadBack, seen_in, after_load, upto}
+use Rattle.xl_treap.proofs.OrderLemmas.{order-apart}
+use Rattle.xl_treap.proofs.ReadLemmas.{examined-reads}
+use Rattle.xl_treap.proofs.FoundLemmas.{seek-tree, found, found-is, none-at}
+use Rattle.xl_treap.proofs.KeptLemmas.{Holds, stands-treap}
+
+-- a search of the words finds what is held, by as many loads as there are ranges to read
+pub search-kept : (words : List ℕ) (root nodes space page : ℕ) (free : List ℕ) (t : Tree) → IsTreap words root nodes free t → page < 2 ^ 52
+    → search_from nodes words root (key_at space page) ≡ ended (range_reads (ranges t) space page) (end_of (find (holds_page space page) (ranges t)))
+search-kept words root nodes space page free t k h =
+    let o = order-apart t k.stands.apart in
+    let c = k.count in
+    seek-tree 0 (2 ^ 58) nodes words root t (key_at space page) k.stands.at o (omega arith)
+    ∙ ap (λ (n : ℕ). ended n (end_of (found t (key_at space page)))) (examined-reads 0 (2 ^ 58) t space page o k.stands.heap)
+    ∙ ap (λ (q : Option Range). ended (range_reads (ranges t) space page) (end_of q)) (found-is 0 (2 ^ 58) t space page o h)
+
+pub same-range : (q : Option Range) → range_found (end_of q) ≡ q
+same-range None = refl
+same-range (Some r) = refl
+
+pub read-back : (words : List ℕ) (root nodes loads : ℕ) (free : List ℕ) → IsTreap words root nodes free (tree_at nodes words root) → WordsReadBack (seen_in words root nodes loads)
+read-back words root nodes loads free k =
+    let t : Tree = tree_at nodes words root in
+    record {
+      size = k.size;
+      tree = (t, k.stands.at, k.stands.heap, refl);
+      apart = k.stands.apart;
+      found = λ space page a b. ap (λ (x : Searched). x.end) (search-kept words root nodes space page free t k b);
+      loads = λ space page a b. ap (λ (x : Searched). x.loads) (search-kept words root nodes space page free t k b);
+    }
+
+-- a treap after so many loads
+abbrev pub with_loads : ℕ → TreapState → TreapState
+with_loads n t = record t { seen = record t.seen { loads = plus t.seen.loads n } }
+
+pub times-is : (n : ℕ) (t : TreapState) → t.seen.loads < 2 ^ 64 → loaded_times after_load n t ≡ with_loads n t
+times-is zero t h =
+    let e : t.seen.loads ≡ plus t.seen.loads 0 = omega arith in
+    ap (λ (k : ℕ). let v : TreapState = record t { seen = record t.seen { loads = k } } in v) e
+times-is (suc n) t h =
+    let e : (plus t.seen.loads n + 1) % 2 ^ 64 ≡ plus t.seen.loads (suc n) = omega arith in
+    ap after_load (times-is n t h) ∙ ap (λ (k : ℕ). let v : TreapState = record t { seen = record t.seen { loads = k } } in v) e
+
+-- a treap that holds nothing
+upto-In : (e n : ℕ) → In e (upto n) → e < n
+upto-In e zero i = absurd i
+upto-In e (suc n) i = elim (In-append e (upto n) (n ∷ []) i) [
+  | inl j ↦ omega (arith, upto-In e n j)
+  | inr j ↦ elim j [ inl q ↦ omega (arith, q) | inr k ↦ absurd k ]
+]
+
+upto-once : (n : ℕ) → Once (upto n)
+upto-once zero = tt
+upto-once (suc n) = once-more (upto n) n (upto-once n) (λ i. let l = upto-In n n i in omega (arith, l))
+
+upto-length : (n : ℕ) → length (upto n) ≡ n
+upto-length zero = refl
+upto-length (suc n) = omega (arith, upto-length n, length-append (upto n) (n ∷ []))
+
+pub opened : (words free : List ℕ) (nodes count room : ℕ) → words ≡ replicate (4 * nodes) 0 → free ≡ upto nodes → count ≡ nodes → nodes ≤ 2 ^ 16 + 1 → nodes ≤ room → IsKept words 0 count free room
+opened words free nodes count room w f n few room-in =
+    let size : length words ≡ 4 * nodes = ap length w ∙ length-replicate (4 * nodes) 0 in
+    let len : length free ≡ nodes = ap length f ∙ upto-length nodes in
+    let O : List ℕ → Type 0 = λ fs. Once fs in
+    let C : ℕ → Type 0 = λ m. IsKept words 0 m free room in
+    let each : (e : ℕ) → In e free → IsEmpty words e = (λ e i.
+        let F : List ℕ → Type 0 = λ fs. In e fs in
+        let less : e < nodes = upto-In e nodes (subst F f i) in
+        record { there = omega arith; none = ap (λ (ws : List ℕ). slice_index ws (4 * e + 1)) w ∙ get_or-replicate (4 * nodes) (4 * e + 1) 0 0 (omega arith) }) in
+    let h = stands-treap words 0 nodes free Tip (record { at = refl; heap = tt; apart = tt }) size (omega arith) (subst O (sym f) (upto-once nodes)) each in
+    subst C (sym n) (h.treap, few, room-in)

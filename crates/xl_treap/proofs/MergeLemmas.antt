@@ -1,0 +1,222 @@
+-- Two trees are made one.
+use Rattle.std.proofs.Common.{◌≡◌, refl, sym, ap, ◌∙◌, subst, ℕ, zero, suc, ◌+◌, ◌-◌, ◌*◌, ◌^◌, ◌<◌, ◌≤◌, Bool, true, false, cond, nat_lt, List, [], ◌∷◌, ◌++◌, length, slice_index, slice_set, get_or-set_other, get_or-set_same, length-set, append_assoc, ◌⊎◌, inl, inr, arith}
+use Rattle.xl_model.specs.declared.leaf.Range.{Range}
+use Rattle.xl_model.specs.Ranges.{range_key, end_key, is_above}
+use Rattle.xl_treap.specs.Lines.{left_at, right_at, IsNode}
+use Rattle.xl_treap.specs.Trees.{Tree, Tip, Bin, Pair, ranges, IsAt, InOrder, IsHeap, Over, down, merge, merge_into}
+use Rattle.xl_treap.specs.Steps.{Each, Keeps, Half, CanMerge, CanRise, IsSpine, Off, SameBut, IsLinked, hung_left, hung_right}
+use Rattle.xl_treap.proofs.OrderLemmas.{pick-yes, pick-no, side, sizes, Within, within-le, order-of, of-order, order-le, order-wider}
+use Rattle.xl_treap.proofs.AboveLemmas.{above-total, over-chain}
+use Rattle.xl_treap.proofs.WayLemmas.{child, down-next, order-down, at-there, none-left}
+use Rattle.xl_treap.proofs.FrameLemmas.{at-keeps, off-key, linked-three, with_child, Hung, hung-low, hung-high}
+
+pub merge-none : (a : Tree) → merge a Tip ≡ a
+merge-none Tip = refl
+merge-none (Bin n x l r) = refl
+
+into-ranges : (n : ℕ) (x : Range) (l r b : Tree) → ((z : Tree) → ranges (merge r z) ≡ ranges r ++ ranges z) → ranges (merge_into n x l r (λ z. merge r z) b) ≡ ranges (Bin n x l r) ++ ranges b
+into-ranges n x l r Tip f = sym (append-none (ranges l ++ x ∷ ranges r))
+  where
+    append-none : (xs : List Range) → xs ++ [] ≡ xs
+    append-none [] = refl
+    append-none (x ∷ xs) = ap (λ zs. x ∷ zs) (append-none xs)
+into-ranges n x l r (Bin m y c d) f =
+    elim (is_above (range_key x) (range_key y)) as (λ t. ranges (cond t (Bin n x l (merge r (Bin m y c d))) (Bin m y (merge_into n x l r (λ z. merge r z) c) d)) ≡ ranges (Bin n x l r) ++ ranges (Bin m y c d)) [
+      | true ↦ ap (λ zs. ranges l ++ x ∷ zs) (f (Bin m y c d)) ∙ sym (append_assoc (ranges l) (x ∷ ranges r) (ranges c ++ y ∷ ranges d))
+      | false ↦ ap (λ zs. zs ++ y ∷ ranges d) (into-ranges n x l r c f) ∙ append_assoc (ranges l ++ x ∷ ranges r) (ranges c) (y ∷ ranges d)
+    ]
+
+pub merge-ranges : (a b : Tree) → ranges (merge a b) ≡ ranges a ++ ranges b
+merge-ranges Tip b = refl
+merge-ranges (Bin n x l r) b = into-ranges n x l r b (λ z. merge-ranges r z)
+
+into-over : (k n : ℕ) (x : Range) (l r b : Tree) → ((z : Tree) → Over k r → Over k z → Over k (merge r z)) → Over k (Bin n x l r) → Over k b → Over k (merge_into n x l r (λ z. merge r z) b)
+into-over k n x l r Tip f o p = o
+into-over k n x l r (Bin m y c d) f o p =
+    elim (is_above (range_key x) (range_key y)) as (λ t. Over k (cond t (Bin n x l (merge r (Bin m y c d))) (Bin m y (merge_into n x l r (λ z. merge r z) c) d))) [
+      | true ↦ (o.0, o.1, f (Bin m y c d) o.2 p)
+      | false ↦ (p.0, into-over k n x l r c f o p.1, p.2)
+    ]
+
+pub merge-over : (k : ℕ) (a b : Tree) → Over k a → Over k b → Over k (merge a b)
+merge-over k Tip b o p = p
+merge-over k (Bin n x l r) b o p = into-over k n x l r b (λ z q s. merge-over k r z q s) o p
+
+into-heap : (n : ℕ) (x : Range) (l r b : Tree) → ((z : Tree) → IsHeap r → IsHeap z → IsHeap (merge r z)) → IsHeap (Bin n x l r) → IsHeap b → IsHeap (merge_into n x l r (λ z. merge r z) b)
+into-heap n x l r Tip f h g = h
+into-heap n x l r (Bin m y c d) f h g =
+    elim (is_above (range_key x) (range_key y)) as (λ t. is_above (range_key x) (range_key y) ≡ t → IsHeap (cond t (Bin n x l (merge r (Bin m y c d))) (Bin m y (merge_into n x l r (λ z. merge r z) c) d))) [
+      | true ↦ λ e. (h.0, merge-over (range_key x) r (Bin m y c d) h.1 (e, over-chain (range_key x) (range_key y) c e g.0, over-chain (range_key x) (range_key y) d e g.1), h.2, f (Bin m y c d) h.3 g)
+      | false ↦ λ e.
+          let a : is_above (range_key y) (range_key x) ≡ true = above-total (range_key x) (range_key y) e in
+          (into-over (range_key y) n x l r c (λ z q s. merge-over (range_key y) r z q s) (a, over-chain (range_key y) (range_key x) l a h.0, over-chain (range_key y) (range_key x) r a h.1) g.0, g.1, into-heap n x l r c f h g.2, g.3)
+    ] refl
+
+pub merge-heap : (a b : Tree) → IsHeap a → IsHeap b → IsHeap (merge a b)
+merge-heap Tip b h g = g
+merge-heap (Bin n x l r) b h g = into-heap n x l r b (λ z q s. merge-heap r z q s) h g
+
+into-each : (P : ℕ → Type 0) (n : ℕ) (x : Range) (l r b : Tree) → ((z : Tree) → Each P r → Each P z → Each P (merge r z)) → Each P (Bin n x l r) → Each P b → Each P (merge_into n x l r (λ z. merge r z) b)
+into-each P n x l r Tip f h g = h
+into-each P n x l r (Bin m y c d) f h g =
+    elim (is_above (range_key x) (range_key y)) as (λ t. Each P (cond t (Bin n x l (merge r (Bin m y c d))) (Bin m y (merge_into n x l r (λ z. merge r z) c) d))) [
+      | true ↦ (h.0, h.1, f (Bin m y c d) h.2 g)
+      | false ↦ (g.0, into-each P n x l r c f h g.1, g.2)
+    ]
+
+pub merge-each : (P : ℕ → Type 0) (a b : Tree) → Each P a → Each P b → Each P (merge a b)
+merge-each P Tip b h g = g
+merge-each P (Bin n x l r) b h g = into-each P n x l r b (λ z q s. merge-each P r z q s) h g
+
+into-keeps : (words : List ℕ) (n : ℕ) (x : Range) (l r b : Tree) → ((z : Tree) → Keeps words r → Keeps words z → Keeps words (merge r z)) → Keeps words (Bin n x l r) → Keeps words b
+    → Keeps words (merge_into n x l r (λ z. merge r z) b)
+into-keeps words n x l r Tip f h g = h
+into-keeps words n x l r (Bin m y c d) f h g =
+    elim (is_above (range_key x) (range_key y)) as (λ t. Keeps words (cond t (Bin n x l (merge r (Bin m y c d))) (Bin m y (merge_into n x l r (λ z. merge r z) c) d))) [
+      | true ↦ (h.0, h.1, f (Bin m y c d) h.2 g)
+      | false ↦ (g.0, into-keeps words n x l r c f h g.1, g.2)
+    ]
+
+pub merge-keeps : (words : List ℕ) (a b : Tree) → Keeps words a → Keeps words b → Keeps words (merge a b)
+merge-keeps words Tip b h g = g
+merge-keeps words (Bin n x l r) b h g = into-keeps words n x l r b (λ z q s. merge-keeps words r z q s) h g
+
+within-append : (low mid next high : ℕ) (xs ys : List Range) → Within low mid xs → Within next high ys → mid ≤ next → Within low high (xs ++ ys)
+within-append low mid next high [] [] a b h = omega arith
+within-append low mid next high [] (y ∷ ys) a b h = (omega arith, b.1, b.2)
+within-append low mid next high (x ∷ xs) ys a b h = (a.0, a.1, within-append (end_key x) mid next high xs ys a.2 b h)
+
+pub merge-order : (low mid next high : ℕ) (a b : Tree) → InOrder low mid a → InOrder next high b → mid ≤ next → InOrder low high (merge a b)
+merge-order low mid next high a b o p h =
+    let W : List Range → Type 0 = λ zs. Within low high zs in
+    order-of low high (merge a b) (subst W (sym (merge-ranges a b)) (within-append low mid next high (ranges a) (ranges b) (of-order low mid a o) (of-order next high b p) h))
+
+-- how far two trees were gone down, along the nodes of the tree of both
+pub record IsMerging (words path : List ℕ) (t : Tree) (k depth low high : ℕ) : Type 0 where
+  pub first : Tree
+  pub second : Tree
+  pub low_at : IsAt words low first
+  pub high_at : IsAt words high second
+  pub rest : down t k depth ≡ merge first second
+  pub low_order : InOrder 0 k first
+  pub high_order : (top : ℕ) × InOrder (suc k) top second
+  pub few : depth + (length (ranges first) + length (ranges second)) ≤ length path
+  pub nodes : (i : ℕ) → i < depth → Half words (slice_index path i) k (down t k i)
+
+pub merging-init : (words path : List ℕ) (low high : ℕ) (pair : Pair) → CanMerge words low high (length path) pair → IsMerging words path (merge pair.low pair.high) pair.key 0 low high
+merging-init words path low high pair c = record {
+  first = pair.low;
+  second = pair.high;
+  low_at = c.low_at;
+  high_at = c.high_at;
+  rest = refl;
+  low_order = c.low_order;
+  high_order = c.high_order;
+  few = (let f = c.few in omega arith);
+  nodes = λ i h. absurd (omega arith);
+}
+
+-- the way ends where one of the trees does
+pub merged-low : (words path : List ℕ) (t : Tree) (k depth low high : ℕ) → IsMerging words path t k depth low high → low ≡ 0 → IsAt words high (down t k depth)
+merged-low words path t k depth low high m z =
+    let T : Tree → Type 0 = λ s. IsAt words high s in
+    subst T (sym m.rest) (go m.first m.low_at)
+  where
+    go : (a : Tree) → IsAt words low a → IsAt words high (merge a m.second)
+    go Tip i = m.high_at
+    go (Bin n x l r) i = absurd (let e = i.0 in omega arith)
+
+pub merged-high : (words path : List ℕ) (t : Tree) (k depth low high : ℕ) → IsMerging words path t k depth low high → high ≡ 0 → IsAt words low (down t k depth)
+merged-high words path t k depth low high m z =
+    let T : Tree → Type 0 = λ s. IsAt words low s in
+    subst T (sym m.rest) (go m.second m.high_at)
+  where
+    go : (b : Tree) → IsAt words high b → IsAt words low (merge m.first b)
+    go Tip i = let T : Tree → Type 0 = λ s. IsAt words low s in subst T (sym (merge-none m.first)) m.low_at
+    go (Bin n x l r) i = absurd (let e = i.0 in omega arith)
+
+pub merged-end : (words path : List ℕ) (t : Tree) (k depth low high : ℕ) → IsMerging words path t k depth low high → length path ≤ depth → low ≡ 0
+merged-end words path t k depth low high m h = let f = m.few in none-left words low m.first m.low_at (omega arith)
+
+pub merging-there : (words path : List ℕ) (t : Tree) (k depth low high : ℕ) → IsMerging words path t k depth low high → 0 < low → 0 < high → (4 * (low - 1) + 4 ≤ length words) × (4 * (high - 1) + 4 ≤ length words)
+merging-there words path t k depth low high m a b = (at-there words low m.first m.low_at a, at-there words high m.second m.high_at b)
+
+-- one node more on the way
+more-nodes : (words path : List ℕ) (t : Tree) (k depth at : ℕ) → ((i : ℕ) → i < depth → Half words (slice_index path i) k (down t k i)) → depth < length path → Half words at k (down t k depth)
+    → (i : ℕ) → i < depth + 1 → Half words (slice_index (slice_set path depth at) i) k (down t k i)
+more-nodes words path t k depth at u less here i h = elim (side i depth) [
+  | inl lt ↦ let ne : i ≡ depth → ⊥ = (λ q. omega arith) in
+    let A : ℕ → Type 0 = λ a. Half words a k (down t k i) in
+    subst A (sym (get_or-set_other path depth i at 0 ne)) (u i lt)
+  | inr ge ↦ let q : depth ≡ i = omega arith in
+    let A : ℕ → Type 0 = λ a. Half words a k (down t k depth) in
+    let I : ℕ → Type 0 = λ j. Half words (slice_index (slice_set path depth at) j) k (down t k j) in
+    subst I q (subst A (sym (get_or-set_same path depth at 0 less)) here)
+]
+
+-- what a step down comes to, where the first tree's top is above, or the second's
+merging-step : (words path : List ℕ) (t : Tree) (k depth low high : ℕ) (a b : Tree) (top : ℕ) → IsAt words low a → IsAt words high b → down t k depth ≡ merge a b → InOrder 0 k a → InOrder (suc k) top b
+    → depth + (length (ranges a) + length (ranges b)) ≤ length path → ((i : ℕ) → i < depth → Half words (slice_index path i) k (down t k i)) → 0 < low → 0 < high → depth < length path → (above : Bool)
+    → is_above (slice_index words (4 * (low - 1))) (slice_index words (4 * (high - 1))) ≡ above
+    → cond above (IsMerging words (slice_set path depth low) t k (depth + 1) (right_at words (low - 1)) high) (IsMerging words (slice_set path depth high) t k (depth + 1) low (left_at words (high - 1)))
+merging-step words path t k depth low high Tip b top i j e o p few nodes sl sh less above q = absurd (omega arith)
+merging-step words path t k depth low high (Bin n x l r) Tip top i j e o p few nodes sl sh less above q = absurd (omega arith)
+merging-step words path t k depth low high (Bin n x l r) (Bin m y c d) top i j e o p few nodes sl sh less above q =
+    let ln : low - 1 ≡ n = let z = i.0 in omega arith in
+    let hm : high - 1 ≡ m = let z = j.0 in omega arith in
+    let N : ℕ → Type 0 = λ z. is_above (slice_index words (4 * z)) (slice_index words (4 * (high - 1))) ≡ above in
+    let M : ℕ → Type 0 = λ z. is_above (slice_index words (4 * n)) (slice_index words (4 * z)) ≡ above in
+    let K : ℕ → Type 0 = λ z. is_above z (slice_index words (4 * m)) ≡ above in
+    let L : ℕ → Type 0 = λ z. is_above (range_key x) z ≡ above in
+    let s : is_above (range_key x) (range_key y) ≡ above = subst L j.1.key_is (subst K i.1.key_is (subst M hm (subst N ln q))) in
+    let x-low : range_key x < k = let w = order-le (end_key x) k r o.2 in let some = o.0.some in omega arith in
+    let y-high : k ≤ range_key y = let w = order-le (suc k) (range_key y) c p.1 in omega arith in
+    let nx : suc depth ≡ depth + 1 = omega arith in
+    go above s ln hm x-low y-high nx
+  where
+    go : (above : Bool) → is_above (range_key x) (range_key y) ≡ above → low - 1 ≡ n → high - 1 ≡ m → range_key x < k → k ≤ range_key y → suc depth ≡ depth + 1
+        → cond above (IsMerging words (slice_set path depth low) t k (depth + 1) (right_at words (low - 1)) high) (IsMerging words (slice_set path depth high) t k (depth + 1) low (left_at words (high - 1)))
+    go true s ln hm x-low y-high nx =
+        let here : down t k depth ≡ Bin n x l (merge r (Bin m y c d)) = e ∙ ap (λ z. cond z (Bin n x l (merge r (Bin m y c d))) (Bin m y (merge_into n x l r (λ z. merge r z) c) d)) s in
+        let next : down t k (depth + 1) ≡ merge r (Bin m y c d) =
+            ap (down t k) (sym nx) ∙ down-next t k depth ∙ ap (child k) here ∙ pick-yes (range_key x) k (merge r (Bin m y c d)) l x-low in
+        let R : ℕ → Type 0 = λ z. IsAt words (right_at words z) r in
+        let H : Tree → Type 0 = λ z. Half words low k z in
+        record {
+          first = r;
+          second = Bin m y c d;
+          low_at = subst R (sym ln) i.3;
+          high_at = j;
+          rest = next;
+          low_order = order-wider (end_key x) k 0 k r o.2 (omega arith) (omega arith);
+          high_order = (top, p);
+          few = (let z = length-set path depth low in omega (arith, sizes n x l r));
+          nodes = more-nodes words path t k depth low nodes less (subst H (sym here) (i.0, i.1, (λ h. i.2), (λ h. absurd (omega arith))));
+        }
+    go false s ln hm x-low y-high nx =
+        let here : down t k depth ≡ Bin m y (merge (Bin n x l r) c) d = e ∙ ap (λ z. cond z (Bin n x l (merge r (Bin m y c d))) (Bin m y (merge_into n x l r (λ z. merge r z) c) d)) s in
+        let next : down t k (depth + 1) ≡ merge (Bin n x l r) c =
+            ap (down t k) (sym nx) ∙ down-next t k depth ∙ ap (child k) here ∙ pick-no (range_key y) k d (merge (Bin n x l r) c) y-high in
+        let R : ℕ → Type 0 = λ z. IsAt words (left_at words z) c in
+        let H : Tree → Type 0 = λ z. Half words high k z in
+        record {
+          first = Bin n x l r;
+          second = c;
+          low_at = i;
+          high_at = subst R (sym hm) j.2;
+          rest = next;
+          low_order = o;
+          high_order = (range_key y, p.1);
+          few = (let z = length-set path depth high in omega (arith, sizes m y c d));
+          nodes = more-nodes words path t k depth high nodes less (subst H (sym here) (j.0, j.1, (λ h. absurd (omega arith)), (λ h. j.3)));
+        }
+
+pub merging-low : (words path : List ℕ) (t : Tree) (k depth low high : ℕ) → IsMerging words path t k depth low high → 0 < low → 0 < high → depth < length path
+    → is_above (slice_index words (4 * (low - 1))) (slice_index words (4 * (high - 1))) ≡ true → IsMerging words (slice_set path depth low) t k (depth + 1) (right_at words (low - 1)) high
+merging-low words path t k depth low high m a b less above =
+    merging-step words path t k depth low high m.first m.second m.high_order.0 m.low_at m.high_at m.rest m.low_order m.high_order.1 m.few m.nodes a b less true above
+
+pub merging-high : (words path : List ℕ) (t : Tree) (k depth low high : ℕ) → IsMerging words path t k depth low high → 0 < low → 0 < high → depth < length path
+    → is_above (slice_index words (4 * (low - 1))) (slice_index words (4 * (high - 1))) ≡ false → IsMerging words (slice_set path depth high) t k (depth + 1) low (left_at words (high - 1))
+merging-high words path t k depth low high m a b less above =
+    merging-step words path t k depth low high m.first m.second m.high_order.0 m.low_at m.high_at m.rest m.low_order m.high_order.1 m.few m.nodes a b less false above

@@ -1,0 +1,257 @@
+-- A range is put into a tree.
+use Rattle.std.proofs.Common.{◌≡◌, refl, sym, ap, ◌∙◌, subst, ℕ, zero, suc, ◌+◌, ◌-◌, ◌*◌, ◌/◌, ◌%◌, ◌^◌, ◌<◌, ◌≤◌, Bool, true, false, cond, nat_lt, List, [], ◌∷◌, ◌++◌, length, slice_index, slice_set, get_or-set_other, get_or-set_same, length-set, ◌⊎◌, inl, inr, arith}
+use Rattle.std.proofs.lemmas.Bool.Decides.{nat_tests}
+use Rattle.xl_model.specs.declared.leaf.Range.{Range}
+use Rattle.xl_model.specs.Ranges.{range_key, end_key, is_above}
+use Rattle.xl_model_lemmas.specs.Members.{In}
+use Rattle.xl_model_lemmas.proofs.MemberLemmas.{In-left, In-right}
+use Rattle.xl_treap.specs.declared.parting.Parts.{Parts}
+use Rattle.xl_treap.specs.Treaps.{IsFit, IsApart, with_range}
+use Rattle.xl_treap.specs.Lines.{IsNode, left_at, right_at}
+use Rattle.xl_treap.specs.Trees.{Tree, Tip, Bin, ranges, IsAt, InOrder, IsHeap, Over, down, graft, cut_low, cut_high}
+use Rattle.xl_treap.specs.Steps.{IsAttached, IsLinked, IsLined, SameLine, Each, Off, SameOff, TopOver, IsWay, IsCut, IsPlace, IsTree, IsEmpty, IsMade, CanPart, CanPut, IsParted, parent_at}
+use Rattle.xl_treap.proofs.OrderLemmas.{pick-yes, pick-no, side, Within, apart-within, within-In, Lies, order-apart, fit-end}
+use Rattle.xl_treap.proofs.AboveLemmas.{above-chain, over-chain}
+use Rattle.xl_treap.proofs.WayLemmas.{child, down-next, order-down, heap-down, at-there}
+use Rattle.xl_treap.proofs.FrameLemmas.{each-map, at-keeps, frame, node-same, line-chain, linked-line, linked-three, with_child}
+use Rattle.xl_treap.proofs.CutLemmas.{each-low, each-high}
+use Rattle.xl_treap.proofs.GraftLemmas.{down-In, each-down, graft-with, cut-with, heap-graft, over-low, over-high, heap-low, heap-high, graft-next}
+use Rattle.xl_treap.proofs.AttachLemmas.{same-or-not, top-each, off-child, Attached, IsParent, attached, parent-there, off-empty, lined-line}
+
+with-In : (x : Range) (xs : List Range) → In x (with_range x xs)
+with-In x [] = inl refl
+with-In x (r ∷ rs) = elim (nat_lt (range_key r) (range_key x)) as (λ b. In x (cond b (r ∷ with_range x rs) (x ∷ r ∷ rs))) [
+  | true ↦ inr (with-In x rs)
+  | false ↦ inl refl
+]
+
+with-fit : (x : Range) (xs : List Range) → IsApart 0 (with_range x xs) → IsFit x
+with-fit x xs a = (within-In 0 (2 ^ 58) x (with_range x xs) (apart-within 0 (with_range x xs) (omega arith) a) (with-In x xs)).fit
+
+-- no range has the key of one that lies apart from it
+with-misses : (low : ℕ) (x y : Range) (xs : List Range) → low ≤ 2 ^ 58 → IsApart low (with_range x xs) → In y xs → range_key y ≡ range_key x → ⊥
+with-misses low x y [] h a i e = i
+with-misses low x y (r ∷ rs) h a i e =
+    elim (side (range_key r) (range_key x)) [
+      | inl lt ↦
+          let A : List Range → Type 0 = λ zs. IsApart low zs in
+          let b : IsApart low (r ∷ with_range x rs) = subst A (pick-yes (range_key r) (range_key x) (r ∷ with_range x rs) (x ∷ r ∷ rs) lt) a in
+          elim i [
+            | inl q ↦ let z : range_key y ≡ range_key r = ap (λ (w : Range). range_key w) q in omega arith
+            | inr j ↦ with-misses (end_key r) x y rs (fit-end r b.1) b.2 j e
+          ]
+      | inr ge ↦
+          let A : List Range → Type 0 = λ zs. IsApart low zs in
+          let b : IsApart low (x ∷ r ∷ rs) = subst A (pick-no (range_key r) (range_key x) (r ∷ with_range x rs) (x ∷ r ∷ rs) ge) a in
+          let w = within-In (end_key x) (2 ^ 58) y (r ∷ rs) (apart-within (end_key x) (r ∷ rs) (fit-end x b.1) b.2) i in
+          let p = w.from_low in let s = b.1.some in omega arith
+    ]
+
+top-In : (words : List ℕ) (at k : ℕ) (t : Tree) → IsAt words at t → 0 < at → slice_index words (4 * (at - 1)) ≡ k → (y : Range) × In y (ranges t) × (range_key y ≡ k)
+top-In words at k Tip i h e = absurd (omega arith)
+top-In words at k (Bin n x l r) i h e =
+    let m : at - 1 ≡ n = let q = i.0 in omega arith in
+    (x, In-right x (ranges l) (x ∷ ranges r) (inl refl), sym i.1.key_is ∙ ap (λ a. slice_index words (4 * a)) (sym m) ∙ e)
+
+module _ (w0 w1 : List ℕ) (root nodes : ℕ) (t : Tree) (n : ℕ) (x : Range) (can : CanPut w0 root nodes t n x) where
+  order : InOrder 0 (2 ^ 58) t
+  order = order-apart t can.stands.apart
+
+  pub put-fit : IsFit x
+  put-fit = with-fit x (ranges t) can.apart
+
+  off : Off n t
+  off = off-empty w0 n 0 (2 ^ 58) t can.empty (at-keeps w0 root t can.stands.at) order
+
+  module _ (lined : IsLined w0 w1 n x) where
+    pub put-at : IsAt w1 root t
+    put-at = frame w0 w1 root t lined.len (each-map (λ m. m ≡ n → ⊥) (SameLine w0 w1) t (λ m ne. lined-line w0 w1 n x m lined ne) off) can.stands.at
+
+    node-one : IsNode w1 n x
+    node-one = record { there = (let a = can.empty.there in let b = lined.len in omega arith); key_is = lined.key_is; pages_is = lined.pages_is; word_is = lined.word_is }
+
+    module _ (path : List ℕ) (depth at : ℕ) (way : IsWay w1 path t (range_key x) depth at) where
+      put-none : at ≡ 0
+      put-none = elim way.ends [
+        | inl e ↦ e
+        | inr h ↦ let y = top-In w1 at (range_key x) (down t (range_key x) depth) way.here h.0 h.1 in
+            absurd (with-misses 0 x y.0 (ranges t) (omega arith) can.apart (down-In y.0 t (range_key x) depth y.1) y.2)
+      ]
+
+      pub put-part : CanPart w1 path t (range_key x) depth
+      put-part =
+          let A : ℕ → Type 0 = λ a. IsWay w1 path t (range_key x) depth a in
+          record { way = subst A put-none way; order = order; heap = can.stands.heap }
+
+      module _ (w2 : List ℕ) (parts : Parts) (parted : IsParted w1 w2 t (range_key x) depth parts) where
+        pub put-line : 4 * n + 4 ≤ length w2
+        put-line = let a = node-one.there in let b = parted.cut.but.off.len in omega arith
+
+        pub put-short : parts.depth ≤ length path
+        put-short = let a = parted.short in let b = way.short in omega arith
+
+        abbrev under : Tree
+        under = down t (range_key x) parts.depth
+
+        off-under : Off n under
+        off-under = each-down (λ m. m ≡ n → ⊥) t (range_key x) parts.depth off
+
+        module _ (w3 : List ℕ) (linked : IsLinked w2 w3 n parts.low parts.high) where
+          abbrev made : Tree
+          made = Bin n x (cut_low (range_key x) under) (cut_high (range_key x) under)
+
+          node-three : IsNode w3 n x
+          node-three =
+              node-same w2 w3 n x linked.len (λ j l. linked-three w2 w3 n parts.low parts.high linked n j l)
+              (node-same w1 w2 n x parted.cut.but.off.len (λ j l. parted.cut.but.kept n j l) node-one)
+
+          stays : (s : Tree) → Off n s → Each (SameLine w2 w3) s
+          stays s o = each-map (λ m. m ≡ n → ⊥) (SameLine w2 w3) s (λ m ne. linked-line w2 w3 n parts.low parts.high m linked ne) o
+
+          made-at : IsAt w3 (n + 1) made
+          made-at =
+              let L : ℕ → Type 0 = λ z. IsAt w3 z (cut_low (range_key x) under) in
+              let H : ℕ → Type 0 = λ z. IsAt w3 z (cut_high (range_key x) under) in (
+                omega arith,
+                node-three,
+                subst L (sym linked.left_is) (frame w2 w3 parts.low (cut_low (range_key x) under) linked.len (stays (cut_low (range_key x) under) (each-low (λ m. m ≡ n → ⊥) (range_key x) under off-under)) parted.cut.lows),
+                subst H (sym linked.right_is) (frame w2 w3 parts.high (cut_high (range_key x) under) linked.len (stays (cut_high (range_key x) under) (each-high (λ m. m ≡ n → ⊥) (range_key x) under off-under)) parted.cut.highs),
+              )
+
+          -- the words before the parting, but with the new node's links
+          abbrev base : List ℕ
+          base = slice_set w1 (4 * n + 3) (slice_index w3 (4 * n + 3))
+
+          base-len : length base ≡ length w1
+          base-len = length-set w1 (4 * n + 3) (slice_index w3 (4 * n + 3))
+
+          base-other : (i : ℕ) → (i ≡ 4 * n + 3 → ⊥) → slice_index base i ≡ slice_index w1 i
+          base-other i ne = get_or-set_other w1 (4 * n + 3) i (slice_index w3 (4 * n + 3)) 0 ne
+
+          base-line : (m : ℕ) → (m ≡ n → ⊥) → SameLine w1 base m
+          base-line m ne = λ j l. base-other (4 * m + j) (λ q. ne (omega arith))
+
+          base-at : (a : ℕ) (s : Tree) → Off n s → IsAt w1 a s → IsAt base a s
+          base-at a s o i = frame w1 base a s base-len (each-map (λ m. m ≡ n → ⊥) (SameLine w1 base) s base-line o) i
+
+          three-len : length w3 ≡ length base
+          three-len = linked.len ∙ parted.cut.but.off.len ∙ sym base-len
+
+          base-off : SameOff under base w3
+          base-off = record {
+            len = three-len;
+            same = λ m o. elim (same-or-not m n) [
+              | inl e ↦ let P : ℕ → Type 0 = λ z. SameLine base w3 z in
+                  subst P (sym e) (λ j l. elim (side j 3) [
+                    | inl lt ↦
+                        linked-three w2 w3 n parts.low parts.high linked n j lt ∙ parted.cut.but.kept n j lt
+                        ∙ sym (base-other (4 * n + j) (λ q. omega arith))
+                    | inr ge ↦
+                        let q : 3 ≡ j = omega arith in
+                        let J : ℕ → Type 0 = λ i. slice_index w3 (4 * n + i) ≡ slice_index base (4 * n + i) in
+                        subst J q (sym (get_or-set_same w1 (4 * n + 3) (slice_index w3 (4 * n + 3)) 0 (let z = node-one.there in omega arith)))
+                  ])
+              | inr ne ↦ λ j l.
+                  linked-line w2 w3 n parts.low parts.high m linked ne j l ∙ parted.cut.but.off.same m o j l ∙ sym (base-line m ne j l)
+            ];
+          }
+
+          pub put-parent : IsParent base path t (range_key x) parts.depth made
+          put-parent = λ d e.
+              let less : d < depth = let a = parted.short in omega arith in
+              let a = way.nodes d less in
+              let b = way.some d less in
+              let off-d : Off n (down t (range_key x) d) = each-down (λ m. m ≡ n → ⊥) t (range_key x) d off in
+              let o = order-down t (range_key x) d 0 (2 ^ 58) order in
+              let c : Off (slice_index path d - 1) (child (range_key x) (down t (range_key x) d)) = off-child w1 (slice_index path d) (range_key x) o.0 o.1 (down t (range_key x) d) a b o.2 in
+              let P : ℕ → Type 0 = λ z. Off (slice_index path d - 1) (down t (range_key x) z) in
+              let T : Tree → Type 0 = λ z. Off (slice_index path d - 1) z in
+              let f : Off (slice_index path d - 1) under = subst P (sym e) (subst T (sym (down-next t (range_key x) d)) c) in
+              let ne : slice_index path d - 1 ≡ n → ⊥ = top-each (λ m. m ≡ n → ⊥) w1 (slice_index path d) (down t (range_key x) d) a b off-d in
+              (base-at (slice_index path d) (down t (range_key x) d) off-d a, b,
+                (λ q. ne (sym q), each-low (λ m. m ≡ slice_index path d - 1 → ⊥) (range_key x) under f, each-high (λ m. m ≡ slice_index path d - 1 → ⊥) (range_key x) under f))
+
+          pub put-room : 4 * parent_at path parts.depth ≤ length w3
+          put-room = parent-there base w3 path t made (range_key x) parts.depth put-parent three-len
+
+          abbrev whole : Tree
+          whole = graft t (range_key x) parts.depth made
+
+          whole-ranges : ranges whole ≡ with_range x (ranges t)
+          whole-ranges =
+              let o = order-down t (range_key x) parts.depth 0 (2 ^ 58) order in
+              graft-with x 0 (2 ^ 58) t made parts.depth order (cut-with x o.0 o.1 under o.2)
+
+          made-heap : IsHeap made
+          made-heap =
+              let h : IsHeap under = heap-down t (range_key x) parts.depth can.stands.heap in (
+                over-low (range_key x) (range_key x) under parted.place.over,
+                over-high (range_key x) (range_key x) under parted.place.over,
+                heap-low (range_key x) under h,
+                heap-high (range_key x) under h,
+              )
+
+          made-over : (y : ℕ) → is_above y (range_key x) ≡ true → Over y under → Over y made
+          made-over y a o = (a, over-low y (range_key x) under o, over-high y (range_key x) under o)
+
+-- under a node that is above a key, a tree with that key at its top
+heap-child : (k : ℕ) (q s : Tree) → IsHeap q → IsHeap s → TopOver k q → ((y : ℕ) → is_above y k ≡ true → Over y (child k q) → Over y s)
+    → IsHeap (with_child k q s) × ((y : ℕ) → Over y q → Over y (with_child k q s))
+heap-child k Tip s h g p f = absurd p
+heap-child k (Bin n x l r) s (o, p, a, b) g above f =
+    elim (nat_lt (range_key x) k) as (λ c. ((y : ℕ) → is_above y k ≡ true → Over y (cond c r l) → Over y s)
+        → IsHeap (cond c (Bin n x l s) (Bin n x s r)) × ((y : ℕ) → Over y (Bin n x l r) → Over y (cond c (Bin n x l s) (Bin n x s r)))) [
+      | true ↦ λ f. ((o, f (range_key x) above p, a, g), λ y q. (q.0, q.1, f y (above-chain y (range_key x) k q.0 above) q.2))
+      | false ↦ λ f. ((f (range_key x) above o, p, g, b), λ y q. (q.0, f y (above-chain y (range_key x) k q.0 above) q.1, q.2))
+    ] f
+
+heap-place : (t s : Tree) (k depth : ℕ) → IsHeap t → IsHeap s → ((d : ℕ) → depth ≡ suc d → TopOver k (down t k d))
+    → ((y : ℕ) → is_above y k ≡ true → Over y (down t k depth) → Over y s) → IsHeap (graft t k depth s)
+heap-place t s k zero h g stop f = g
+heap-place t s k (suc d) h g stop f =
+    let F : Tree → Type 0 = λ z. (y : ℕ) → is_above y k ≡ true → Over y z → Over y s in
+    let c = heap-child k (down t k d) s (heap-down t k d h) g (stop d refl) (subst F (down-next t k d) f) in
+    let G : Tree → Type 0 = λ z. IsHeap z in
+    subst G (graft-next t s k d) (heap-graft t (with_child k (down t k d) s) k d h c.0 c.1).0
+
+-- what a range was put into
+pub put-made : (w0 w1 w2 w3 w4 path : List ℕ) (root nodes n depth at result : ℕ) (t : Tree) (x : Range) (parts : Parts) → (can : CanPut w0 root nodes t n x)
+    → (lined : IsLined w0 w1 n x) → (way : IsWay w1 path t (range_key x) depth at) → (parted : IsParted w1 w2 t (range_key x) depth parts)
+    → (linked : IsLinked w2 w3 n parts.low parts.high) → IsAttached w3 w4 root result (parent_at path parts.depth) (range_key x) (n + 1)
+    → IsMade w0 w4 result n (with_range x (ranges t))
+put-made w0 w1 w2 w3 w4 path root nodes n depth at result t x parts can lined way parted linked a =
+    let k : ℕ = range_key x in
+    let und : Tree = down t k parts.depth in
+    let mad : Tree = Bin n x (cut_low k und) (cut_high k und) in
+    let bas : List ℕ = slice_set w1 (4 * n + 3) (slice_index w3 (4 * n + 3)) in
+    let ord : InOrder 0 (2 ^ 58) t = order-apart t can.stands.apart in
+    let done : Attached bas w4 t k parts.depth mad result =
+        attached bas w3 w4 path 0 (2 ^ 58) root result k parts.depth (n + 1) t mad
+        (base-at w0 w1 root nodes t n x can lined path depth at way w2 parts parted w3 linked root t (off w0 w1 root nodes t n x can) (put-at w0 w1 root nodes t n x can lined))
+        ord
+        (put-parent w0 w1 root nodes t n x can lined path depth at way w2 parts parted w3 linked)
+        (base-off w0 w1 root nodes t n x can lined path depth at way w2 parts parted w3 linked)
+        (made-at w0 w1 root nodes t n x can lined path depth at way w2 parts parted w3 linked)
+        a in
+    let ranges-are : ranges (graft t k parts.depth mad) ≡ with_range x (ranges t) = whole-ranges w0 w1 root nodes t n x can lined path depth at way w2 parts parted w3 linked in
+    let A : List Range → Type 0 = λ zs. IsApart 0 zs in
+    record {
+      tree = graft t k parts.depth mad;
+      stands = record {
+        at = done.here;
+        heap = heap-place t mad k parts.depth can.stands.heap (made-heap w0 w1 root nodes t n x can lined path depth at way w2 parts parted w3 linked) parted.place.stop
+            (made-over w0 w1 root nodes t n x can lined path depth at way w2 parts parted w3 linked);
+        apart = subst A (sym ranges-are) can.apart;
+      };
+      holds = ranges-are;
+      len = done.off.len ∙ base-len w0 w1 root nodes t n x can lined path depth at way w2 parts parted w3 linked ∙ lined.len;
+      others = λ e ne empty.
+          let o : Off e t = off-empty w0 e 0 (2 ^ 58) t empty (at-keeps w0 root t can.stands.at) ord in
+          let there = empty.there in
+          let len : length w4 ≡ length w0 = done.off.len ∙ base-len w0 w1 root nodes t n x can lined path depth at way w2 parts parted w3 linked ∙ lined.len in
+          record {
+            there = omega arith;
+            none = done.off.same e o 1 (omega arith) ∙ base-line w0 w1 root nodes t n x can lined path depth at way w2 parts parted w3 linked e ne 1 (omega arith)
+                ∙ lined.others e 1 (omega arith) ne ∙ empty.none;
+          };
+    }

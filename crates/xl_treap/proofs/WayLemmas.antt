@@ -1,0 +1,122 @@
+-- Ways down a tree in words.
+use Rattle.std.proofs.Common.{◌≡◌, refl, sym, ap, ◌∙◌, subst, ℕ, zero, suc, ◌+◌, ◌-◌, ◌*◌, ◌^◌, ◌<◌, ◌≤◌, Bool, true, false, cond, nat_lt, List, [], ◌∷◌, ◌++◌, length, slice_index, slice_set, ◌⊎◌, inl, inr, get_or-set_other, get_or-set_same, length-set, arith}
+use Rattle.xl_model.specs.declared.leaf.Range.{Range}
+use Rattle.xl_model.specs.Ranges.{range_key, end_key}
+use Rattle.xl_treap.specs.Lines.{left_at, right_at, IsNode}
+use Rattle.xl_treap.specs.Trees.{Tree, Tip, Bin, ranges, IsAt, InOrder, IsHeap, down}
+use Rattle.xl_treap.specs.Steps.{step_at, IsWay}
+use Rattle.xl_treap.proofs.OrderLemmas.{sizes, pick-yes, pick-no, side, order-wider, order-le}
+
+pub at-there : (words : List ℕ) (at : ℕ) (t : Tree) → IsAt words at t → 0 < at → 4 * (at - 1) + 4 ≤ length words
+at-there words at Tip i h = absurd (omega arith)
+at-there words at (Bin n x l r) (e, i, a, b) h = let c = i.there in omega arith
+
+-- the tree under a tree's top, on the side of a key
+abbrev pub child : ℕ → Tree → Tree
+child k Tip = Tip
+child k (Bin n x l r) = cond (nat_lt (range_key x) k) r l
+
+pub down-next : (t : Tree) (k d : ℕ) → down t k (suc d) ≡ child k (down t k d)
+down-next Tip k zero = refl
+down-next Tip k (suc d) = refl
+down-next (Bin n x l r) k zero = refl
+down-next (Bin n x l r) k (suc d) = elim (side (range_key x) k) [
+  | inl lt ↦ pick-yes (range_key x) k _ _ lt ∙ down-next r k d ∙ ap (child k) (sym (pick-yes (range_key x) k (down r k d) (down l k d) lt))
+  | inr ge ↦ pick-no (range_key x) k _ _ ge ∙ down-next l k d ∙ ap (child k) (sym (pick-no (range_key x) k (down r k d) (down l k d) ge))
+]
+
+pub step-child : (words : List ℕ) (at : ℕ) (t : Tree) (k : ℕ) → IsAt words at t → 0 < at → IsAt words (step_at words (at - 1) k) (child k t)
+step-child words at Tip k i h = absurd (omega arith)
+step-child words at (Bin n x l r) k (e, i, a, b) h =
+    let m : n ≡ at - 1 = omega arith in
+    let P : ℕ → Type 0 = λ z. IsAt words (step_at words z k) (child k (Bin n x l r)) in
+    let Q : ℕ → Type 0 = λ z. IsAt words (cond (nat_lt z k) (right_at words n) (left_at words n)) (child k (Bin n x l r)) in
+    subst P m (subst Q (sym i.key_is) (by (nat_lt (range_key x) k)))
+  where
+    by : (c : Bool) → IsAt words (cond c (right_at words n) (left_at words n)) (cond c r l)
+    by true = b
+    by false = a
+
+pub child-less : (words : List ℕ) (at : ℕ) (t : Tree) (k : ℕ) → IsAt words at t → 0 < at → length (ranges (child k t)) < length (ranges t)
+child-less words at Tip k i h = absurd (omega arith)
+child-less words at (Bin n x l r) k i h = by (nat_lt (range_key x) k)
+  where
+    by : (c : Bool) → length (ranges (cond c r l)) < length (ranges (Bin n x l r))
+    by true = omega (arith, sizes n x l r)
+    by false = omega (arith, sizes n x l r)
+
+-- a tree without ranges has no node
+pub none-left : (words : List ℕ) (at : ℕ) (t : Tree) → IsAt words at t → length (ranges t) ≡ 0 → at ≡ 0
+none-left words at Tip i h = i
+none-left words at (Bin n x l r) i h = absurd (omega (arith, sizes n x l r))
+
+-- a way so far, and what is left of the path
+pub record IsUpTo (words path : List ℕ) (t : Tree) (k depth at : ℕ) : Type 0 where
+  pub here : IsAt words at (down t k depth)
+  pub few : depth + length (ranges (down t k depth)) ≤ length path
+  pub nodes : (i : ℕ) → i < depth → IsAt words (slice_index path i) (down t k i)
+  pub some : (i : ℕ) → i < depth → 0 < slice_index path i
+  pub other : (i : ℕ) → i < depth → slice_index words (4 * (slice_index path i - 1)) ≡ k → ⊥
+
+pub up-to-more : (words path : List ℕ) (t : Tree) (k depth at : ℕ) → IsUpTo words path t k depth at → 0 < at → (slice_index words (4 * (at - 1)) ≡ k → ⊥) → depth < length path
+    → IsUpTo words (slice_set path depth at) t k (depth + 1) (step_at words (at - 1) k)
+up-to-more words path t k depth at u some unlike less =
+    let e : down t k (suc depth) ≡ child k (down t k depth) = down-next t k depth in
+    let m : suc depth ≡ depth + 1 = omega arith in
+    let D : ℕ → Type 0 = λ d. IsAt words (step_at words (at - 1) k) (down t k d) in
+    let T : Tree → Type 0 = λ s. IsAt words (step_at words (at - 1) k) s in
+    let L : ℕ → Type 0 = λ d. length (ranges (down t k d)) < length (ranges (down t k depth)) in
+    let S : Tree → Type 0 = λ s. length (ranges s) < length (ranges (down t k depth)) in
+    let less-left : length (ranges (down t k (depth + 1))) < length (ranges (down t k depth)) = subst L m (subst S (sym e) (child-less words at (down t k depth) k u.here some)) in
+    let f = u.few in
+    record {
+      here = subst D m (subst T (sym e) (step-child words at (down t k depth) k u.here some));
+      few = (let z : length (slice_set path depth at) ≡ length path = length-set path depth at in omega arith);
+      nodes = λ i h. elim (side i depth) [
+        | inl lt ↦ let ne : i ≡ depth → ⊥ = (λ q. omega arith) in
+          let A : ℕ → Type 0 = λ a. IsAt words a (down t k i) in
+          subst A (sym (get_or-set_other path depth i at 0 ne)) (u.nodes i lt)
+        | inr ge ↦ let q : depth ≡ i = omega arith in
+          let A : ℕ → Type 0 = λ a. IsAt words a (down t k depth) in
+          let I : ℕ → Type 0 = λ j. IsAt words (slice_index (slice_set path depth at) j) (down t k j) in
+          subst I q (subst A (sym (get_or-set_same path depth at 0 less)) u.here)
+      ];
+      some = λ i h. elim (side i depth) [
+        | inl lt ↦ let ne : i ≡ depth → ⊥ = (λ q. omega arith) in
+          let A : ℕ → Type 0 = λ a. 0 < a in
+          subst A (sym (get_or-set_other path depth i at 0 ne)) (u.some i lt)
+        | inr ge ↦ let q : depth ≡ i = omega arith in
+          let A : ℕ → Type 0 = λ a. 0 < a in
+          let I : ℕ → Type 0 = λ j. 0 < slice_index (slice_set path depth at) j in
+          subst I q (subst A (sym (get_or-set_same path depth at 0 less)) some)
+      ];
+      other = λ i h. elim (side i depth) [
+        | inl lt ↦ let ne : i ≡ depth → ⊥ = (λ q. omega arith) in
+          let A : ℕ → Type 0 = λ a. slice_index words (4 * (a - 1)) ≡ k → ⊥ in
+          subst A (sym (get_or-set_other path depth i at 0 ne)) (u.other i lt)
+        | inr ge ↦ let q : depth ≡ i = omega arith in
+          let A : ℕ → Type 0 = λ a. slice_index words (4 * (a - 1)) ≡ k → ⊥ in
+          let I : ℕ → Type 0 = λ j. slice_index words (4 * (slice_index (slice_set path depth at) j - 1)) ≡ k → ⊥ in
+          subst I q (subst A (sym (get_or-set_same path depth at 0 less)) unlike)
+      ];
+    }
+
+-- a tree on the way down lies between two keys, and is a heap
+pub order-down : (t : Tree) (k d low high : ℕ) → InOrder low high t → (a : ℕ) × (b : ℕ) × InOrder a b (down t k d)
+order-down t k zero low high o = (low, high, o)
+order-down Tip k (suc d) low high o = (low, high, o)
+order-down (Bin n x l r) k (suc d) low high (f, p, q) = by (nat_lt (range_key x) k) (order-down r k d (end_key x) high q) (order-down l k d low (range_key x) p)
+  where
+    by : (c : Bool) → (a : ℕ) × (b : ℕ) × InOrder a b (down r k d) → (a : ℕ) × (b : ℕ) × InOrder a b (down l k d)
+        → (a : ℕ) × (b : ℕ) × InOrder a b (cond c (down r k d) (down l k d))
+    by true u v = u
+    by false u v = v
+
+pub heap-down : (t : Tree) (k d : ℕ) → IsHeap t → IsHeap (down t k d)
+heap-down t k zero h = h
+heap-down Tip k (suc d) h = h
+heap-down (Bin n x l r) k (suc d) (o, p, a, b) = by (nat_lt (range_key x) k) (heap-down r k d b) (heap-down l k d a)
+  where
+    by : (c : Bool) → IsHeap (down r k d) → IsHeap (down l k d) → IsHeap (cond c (down r k d) (down l k d))
+    by true u v = u
+    by false u v = v

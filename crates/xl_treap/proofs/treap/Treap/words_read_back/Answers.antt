@@ -1,0 +1,11 @@
+use Rattle.std.proofs.Common.{subst, length}
+use Rattle.xl_treap.specs.Treaps.{TreapState}
+use Rattle.xl_treap.specs.Kept.{WordsReadBack}
+use Rattle.xl_treap.proofs.BackLemmas.{read-back}
+use Rattle.xl_treap.proofs.treap.Treap.words_read_back.Goals as goal
+
+pub returns : goal.returns
+returns c =
+    let s = c.self.inside in
+    let W : TreapState → Type 0 = λ v. WordsReadBack v in
+    subst W c.self.view_is (read-back s.words.items s.root (length s.path.items) s.loads s.free.items c.self.invariant.0)

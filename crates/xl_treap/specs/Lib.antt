@@ -1,0 +1,6 @@
+pub mod Treaps
+pub mod Lines
+pub mod Back
+pub mod Trees
+pub mod Steps
+pub mod Kept

@@ -1,0 +1,38 @@
+//! The nodes beside a place.
+
+ghost use Rattle.std.specs.Prelude.{◌≡◌, ◌<◌, ◌+◌, ◌*◌, ◌≤◌, length};
+ghost use Rattle.xl_treap.specs.Trees.{Tree, ranges};
+ghost use Rattle.xl_treap.specs.Steps.{CanLook, AreBeside};
+
+use crate::node::{left_of, right_of};
+
+/// Links to the last node below a key and to the first one from it on, 0 where there is none.
+#[derive(Clone, Copy)]
+pub(crate) struct Beside {
+    pub(crate) before: u32,
+    pub(crate) from: u32,
+}
+
+/// The nodes beside the place of a key.
+pub(crate) fn nodes_beside(words: &[u64], root: u32, nodes: usize, key: u64) -> Beside
+    ghost tree: { Tree }
+    requires { CanLook words.now root nodes tree }
+    ensures { AreBeside words.now tree key result }
+{
+    let mut at = root;
+    let mut found = Beside { before: 0, from: 0 };
+    'down: for depth in 0..nodes {
+        if at == 0 {
+            return found;
+        }
+        let node = at - 1;
+        if words[4 * node as usize] < key {
+            found.before = at;
+            at = right_of(words, node);
+        } else {
+            found.from = at;
+            at = left_of(words, node);
+        }
+    }
+    found
+}

@@ -1,0 +1,14 @@
+//! A treap of ranges in words (Seidel and Aragon, 1996), with hashes of keys as priorities.
+#![tactic(auto)]
+
+mod along;
+mod beside;
+mod descent;
+mod joining;
+mod look;
+mod node;
+mod parting;
+mod treap;
+
+pub use along::Search;
+pub use treap::Treap;

@@ -1,0 +1,153 @@
+//! The words of a node.
+
+ghost use Rattle.std.specs.Prelude.{◌≡◌, ◌<◌, ◌+◌, ◌*◌, ◌^◌, ◌≤◌, length, slice_index};
+ghost use Rattle.xl_model.specs.Addresses.{level_of};
+ghost use Rattle.xl_model.specs.Ranges.{is_above as above};
+ghost use Rattle.xl_treap.specs.Treaps.{key_at};
+ghost use Rattle.xl_treap.specs.Lines.{order_said, range_said, node_word, left_at, right_at};
+ghost use Rattle.xl_treap.specs.Steps.{IsLinked, IsLined, IsSized, step_at, hung_left, hung_right};
+
+use xl_model::{Order, Range, mix};
+use xl_pte::{Pte, decode, leaf_word};
+
+/// The key of a page of a space.
+pub(crate) fn key_of(space: u16, page: u64) -> u64
+    requires { key_at space page < 2 ^ 64 }
+    ensures { result ≡ key_at space page }
+{
+    space as u64 * (1 << 52) + page
+}
+
+/// Whether key `a` is above key `b`: it has the lesser hash, or of two equal ones it is the lesser.
+pub(crate) fn is_above(a: u64, b: u64) -> bool
+    ensures { result ≡ above a b }
+{
+    let (first, second) = (mix(a), mix(b));
+    first < second || (first == second && a <= b)
+}
+
+/// The order of this number. There is none of number 3.
+fn order_of(number: u64) -> Option<Order>
+    requires { number < 4 }
+    ensures { result ≡ order_said number }
+{
+    match number {
+        0 => Some(Order::K4),
+        1 => Some(Order::M2),
+        2 => Some(Order::G1),
+        _ => None,
+    }
+}
+
+/// The range that the first three words of a node say. None where the third isn't that of a range.
+#[tactic(auto, unfolding(crate::specs::Lines::range_said))]
+pub(crate) fn range_in(key: u64, pages: u64, word: u64) -> Option<Range>
+    ensures { result ≡ range_said key pages word }
+{
+    match order_of(word >> 62) {
+        None => None,
+        Some(order) => match decode(word % (1 << 62), 0) {
+            Pte::Leaf { frame, perm } => Some(Range {
+                space: (key >> 52) as u16,
+                start: key % (1 << 52),
+                pages,
+                frame,
+                order,
+                perm,
+            }),
+            _ => None,
+        },
+    }
+}
+
+/// The number of an order, at bits 62 and 63.
+fn order_bits(order: Order) -> u64
+    ensures is { result ≡ level_of order * 2 ^ 62 }
+    ensures high { result ≤ 2 ^ 63 }
+{
+    match order {
+        Order::K4 => 0,
+        Order::M2 => 1 << 62,
+        Order::G1 => 1 << 63,
+    }
+}
+
+/// The word of a range's frame, permission and order.
+#[tactic(auto, unfolding(crate::specs::Lines::node_word), using(crate::proofs::WordLemmas::leaf_small))]
+pub(crate) fn word_of(range: Range) -> u64
+    requires { range.frame < 2 ^ 44 }
+    ensures { result ≡ node_word range }
+{
+    leaf_word(range.frame, range.perm) + order_bits(range.order)
+}
+
+/// A node's link to the keys below its own.
+pub(crate) fn left_of(words: &[u64], node: u32) -> u32
+    requires { 4 * node + 4 ≤ length words.now }
+    ensures { result ≡ left_at words.now node }
+{
+    (words[4 * node as usize + 3] % (1 << 32)) as u32
+}
+
+/// A node's link to the keys above its own.
+pub(crate) fn right_of(words: &[u64], node: u32) -> u32
+    requires { 4 * node + 4 ≤ length words.now }
+    ensures { result ≡ right_at words.now node }
+{
+    (words[4 * node as usize + 3] >> 32) as u32
+}
+
+/// One step down from a node towards the place of a key.
+pub(crate) fn step_of(words: &[u64], node: u32, key: u64) -> u32
+    requires { 4 * node + 4 ≤ length words.now }
+    ensures { result ≡ step_at words.now node key }
+{
+    if words[4 * node as usize] < key {
+        right_of(words, node)
+    } else {
+        left_of(words, node)
+    }
+}
+
+/// Gives a node its two links.
+pub(crate) fn set_links(words: &mut [u64], node: u32, left: u32, right: u32)
+    requires { 4 * node + 4 ≤ length words.old }
+    ensures { IsLinked words.old words.new node left right }
+{
+    words[4 * node as usize + 3] = right as u64 * (1 << 32) + left as u64;
+}
+
+/// Puts the link `at` in place of a node's link towards the place of a key.
+pub(crate) fn hang(words: &mut [u64], node: u32, key: u64, at: u32)
+    requires { 4 * node + 4 ≤ length words.old }
+    ensures { IsLinked words.old words.new node (hung_left words.old node key at) (hung_right words.old node key at) }
+{
+    if words[4 * node as usize] < key {
+        let left = left_of(words, node);
+        set_links(words, node, left, at);
+    } else {
+        let right = right_of(words, node);
+        set_links(words, node, at, right);
+    }
+}
+
+/// Gives a node the words of a range.
+pub(crate) fn set_line(words: &mut [u64], node: u32, range: Range)
+    requires line { 4 * node + 4 ≤ length words.old }
+    requires key_in { key_at range.space range.start < 2 ^ 64 }
+    requires frame_in { range.frame < 2 ^ 44 }
+    ensures { IsLined words.old words.new node range }
+{
+    let at = 4 * node as usize;
+    words[at] = key_of(range.space, range.start);
+    words[at + 1] = range.pages;
+    words[at + 2] = word_of(range);
+}
+
+/// Gives a node so many pages.
+pub(crate) fn set_pages(words: &mut [u64], node: u32, pages: u64)
+    requires { 4 * node + 4 ≤ length words.old }
+    ensures { IsSized words.old words.new node pages }
+{
+    words[4 * node as usize + 1] = pages;
+}
