@@ -13,7 +13,7 @@ use Rattle.xl_model_lemmas.proofs.JoinLemmas.{In-key, In-range}
 use Rattle.xl_model_lemmas.proofs.LeafInLemmas.{Sizes, sizes}
 use Rattle.xl_model_lemmas.proofs.CutLemmas.{head-cut, next-cut, held-cut}
 use Rattle.xl_model_lemmas.proofs.CutCountLemmas.{cut-count}
-use Rattle.xl_range.specs.Treaps.{TreapView, keeping, with_range, without_range, resized, has_key, IsApart}
+use Rattle.xl_treap.specs.Treaps.{TreapView, keeping, with_range, without_range, resized, has_key, IsApart}
 use Rattle.xl_range.specs.Cuts.{kept_cut, kept_behind, IsInside}
 use Rattle.xl_range.proofs.HoldLemmas.{fit-range, apart-held, with-front, own-key, length-with, key-there, apart-resized}
 

@@ -15,7 +15,7 @@ use Rattle.xl_model_lemmas.proofs.JoinLemmas.{In-key, In-range}
 use Rattle.xl_model_lemmas.proofs.TouchLemmas.{leap}
 use Rattle.xl_model_lemmas.proofs.LeafInLemmas.{sizes, named-in, holds-first}
 use Rattle.xl_model_lemmas.proofs.PageRangeLemmas.{find-spread}
-use Rattle.xl_range.specs.Treaps.{IsFit}
+use Rattle.xl_treap.specs.Treaps.{IsFit}
 use Rattle.xl_range.specs.Rows.{IsAt, IsFresh, HasLeaf}
 use Rattle.xl_range.proofs.HoldLemmas.{fit-range}
 

@@ -15,7 +15,7 @@ use Rattle.xl_model.specs.Caches.{Cached, holds_first, without_items}
 use Rattle.xl_model_lemmas.specs.HeldRanges.{spread, IsHeld, IsClear, cut, leaf_in}
 use Rattle.xl_model_lemmas.proofs.MemberLemmas.{find-In, find-passes}
 use Rattle.xl_model_lemmas.proofs.RecencyLemmas.{purged-In}
-use Rattle.xl_range.specs.Treaps.{TreapView, keeping, IsFit}
+use Rattle.xl_treap.specs.Treaps.{TreapView, keeping, IsFit}
 use Rattle.xl_range.specs.Rows.{AllFresh, IsTable, HasLeaf}
 use Rattle.xl_range.proofs.SpreadLeafLemmas.{clear-key, clear-covers}
 use Rattle.xl_range.proofs.LeafChangeLemmas.{finds-with, remove-changed}

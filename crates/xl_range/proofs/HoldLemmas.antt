@@ -8,7 +8,7 @@ use Rattle.xl_model_lemmas.specs.Members.{In}
 use Rattle.xl_model_lemmas.specs.HeldRanges.{IsRange, IsHeld}
 use Rattle.xl_model_lemmas.proofs.JoinLemmas.{lower, In-key}
 use Rattle.xl_model_lemmas.proofs.TouchLemmas.{some-pages}
-use Rattle.xl_range.specs.Treaps.{with_range, without_range, resized, has_key, IsFit, IsApart}
+use Rattle.xl_treap.specs.Treaps.{with_range, without_range, resized, has_key, IsFit, IsApart}
 
 pub fit-range : (r : Range) → IsRange r → IsFit r
 fit-range r is = record { some = some-pages r is; space_in = is.space_in; pages_in = is.pages_in; frames_in = is.frames_in }

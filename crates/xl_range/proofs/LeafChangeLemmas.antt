@@ -4,13 +4,13 @@ use Rattle.std.proofs.lemmas.Bool.Decides.{nat_tests}
 use Rattle.xl_model.specs.declared.address.Order.{Order}
 use Rattle.xl_model.specs.declared.perm.Perm.{Perm}
 use Rattle.xl_model.specs.declared.leaf.Leaf.{Leaf}
-use Rattle.xl_model.specs.Mapping.{leaf_key, leaf_named, is_leaf, with_leaf, without_leaf}
+use Rattle.xl_model.specs.Mapping.{covers, leaf_at_page, leaf_key, leaf_named, is_leaf, with_leaf, without_leaf}
 use Rattle.xl_model.specs.Changes.{Change, Insert, Remove, Protect, Relocate, IsNamed, changed, with_both, with_new, without_old, with_perm, at_page}
 use Rattle.xl_model.specs.Ranges.{ranges_of}
 use Rattle.xl_model.specs.Room.{has_room, room_for}
 use Rattle.xl_model.specs.Shapes.{Runs, brought}
 use Rattle.xl_model_lemmas.specs.Members.{In, IsSorted}
-use Rattle.xl_model_lemmas.proofs.MemberLemmas.{In-any}
+use Rattle.xl_model_lemmas.proofs.MemberLemmas.{find-In, In-any}
 use Rattle.xl_model_lemmas.proofs.SameLemmas.{any-find}
 use Rattle.xl_model_lemmas.proofs.PlaceLemmas.{named-space, named-first}
 use Rattle.xl_model_lemmas.proofs.MappingLemmas.{named-is}
@@ -29,12 +29,20 @@ finds-with p x (y ∷ ys) fails other =
       ]
     ] refl
 
--- A leaf is named where it was put in.
-pub new-named : (x : Leaf) (xs : List Leaf) → IsNamed x.space x.first x.order (with_leaf x xs)
+-- A leaf that is there is named by its place.
+named-own : (x : Leaf) (xs : List Leaf) → In x xs → IsNamed x.space x.first x.order xs
 unfolding leaf_named
-new-named x xs =
+named-own x xs i =
     let same : is_leaf x.space x.first x.order x ≡ true = grind (arith, nat_tests) in
-    sym (any-find (is_leaf x.space x.first x.order) (with_leaf x xs)) ∙ In-any (is_leaf x.space x.first x.order) x (with_leaf x xs) (In-with x xs) same
+    sym (any-find (is_leaf x.space x.first x.order) xs) ∙ In-any (is_leaf x.space x.first x.order) x xs i same
+
+-- So is one where it was put in, and one that covers a page.
+pub new-named : (x : Leaf) (xs : List Leaf) → IsNamed x.space x.first x.order (with_leaf x xs)
+new-named x xs = named-own x (with_leaf x xs) (In-with x xs)
+
+pub found-named : (space page : ℕ) (x : Leaf) (xs : List Leaf) → leaf_at_page space page xs ≡ Some x → IsNamed x.space x.first x.order xs
+unfolding leaf_at_page
+found-named space page x xs e = named-own x xs (find-In (covers space page) x xs e)
 
 -- Another leaf that is named stays so.
 pub still-named : (space first : ℕ) (o : Order) (x : Leaf) (xs : List Leaf) → (x.first ≡ first → ⊥) → ((z : Leaf) → In z xs → leaf_key z ≡ leaf_key x → ⊥)

@@ -11,3 +11,4 @@ pub mod FreshLemmas
 pub mod RowLemmas
 pub mod WalkLemmas
 pub mod MeetLemmas
+pub mod TestLemmas

@@ -20,7 +20,7 @@ use Rattle.xl_model_lemmas.proofs.MappingLemmas.{named-In, named-is}
 use Rattle.xl_model_lemmas.proofs.OrderLemmas.{pages-some}
 use Rattle.xl_model_lemmas.proofs.MeetRangeLemmas.{clear-any}
 use Rattle.xl_model_lemmas.proofs.SortedLemmas.{with-without}
-use Rattle.xl_range.specs.Treaps.{TreapView, keeping}
+use Rattle.xl_treap.specs.Treaps.{TreapView, keeping}
 use Rattle.xl_range.specs.Rows.{IsTable, IsDone, HasRanges, HasLeaf}
 use Rattle.xl_range.proofs.FindLemmas.{named-range}
 use Rattle.xl_range.proofs.SpreadLeafLemmas.{sorted-spread, clear-key}

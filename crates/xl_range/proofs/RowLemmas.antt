@@ -18,7 +18,7 @@ use Rattle.xl_model.specs.Caches.{Cached, RangeCache, without_items, holds_first
 use Rattle.xl_model.specs.Structures.{TableState, IsBlock, IsLeafFor, IsChange, Verdict, verdict, Made, NoSpace, moves_made, finds_place, work_of, table_made, answer_by, after_by, table_answer, table_after}
 use Rattle.xl_model_lemmas.specs.HeldRanges.{spread, IsHeld, leaf_in}
 use Rattle.xl_model_lemmas.proofs.RunLemmas.{ranges-spread}
-use Rattle.xl_range.specs.Treaps.{TreapView, keeping}
+use Rattle.xl_treap.specs.Treaps.{TreapView, keeping}
 use Rattle.xl_range.specs.Rows.{AllFresh, IsTable, IsRow, IsDone, HasRanges, row_of}
 use Rattle.xl_range.proofs.FindLemmas.{IsNamedIn, named-range}
 use Rattle.xl_range.proofs.LeafChangeLemmas.{room-few}

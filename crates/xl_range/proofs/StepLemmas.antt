@@ -20,7 +20,7 @@ use Rattle.xl_model_lemmas.proofs.LeafInLemmas.{Sizes, sizes}
 use Rattle.xl_model_lemmas.proofs.CutLemmas.{AtHead, head-cut, next-cut, cut-spread, held-cut}
 use Rattle.xl_model_lemmas.proofs.CutCountLemmas.{cut-count}
 use Rattle.xl_model_lemmas.proofs.MeetRangeLemmas.{clear-any}
-use Rattle.xl_range.specs.Treaps.{TreapView, keeping}
+use Rattle.xl_treap.specs.Treaps.{TreapView, keeping}
 use Rattle.xl_range.specs.Rows.{IsAt, IsTable, IsDone, HasRanges, HasLeaf}
 use Rattle.xl_range.proofs.HoldLemmas.{fit-range}
 use Rattle.xl_range.proofs.FindLemmas.{leaf-in-is}

@@ -19,7 +19,7 @@ use Rattle.xl_model_lemmas.proofs.RecencyLemmas.{touched-In, newest-In, purged-I
 use Rattle.xl_model_lemmas.proofs.RunLemmas.{ranges-spread}
 use Rattle.xl_model_lemmas.proofs.JoinLemmas.{In-range}
 use Rattle.xl_tlb.specs.RangeCoding.{IsKeepable}
-use Rattle.xl_range.specs.Treaps.{TreapView, IsFit}
+use Rattle.xl_treap.specs.Treaps.{TreapView, IsFit}
 use Rattle.xl_range.specs.Rows.{IsAt, IsFresh, IsTable, IsRow, row_of}
 use Rattle.xl_range.proofs.HoldLemmas.{fit-range}
 use Rattle.xl_range.proofs.FindLemmas.{at-page, leaf-found, held-fresh}

@@ -3,7 +3,7 @@ use Rattle.std.specs.Prelude.{ℕ, zero, suc, ◌+◌, ◌≤◌, List}
 use Rattle.xl_model.specs.declared.address.Order.{Order}
 use Rattle.xl_model.specs.declared.leaf.Range.{Range}
 use Rattle.xl_model.specs.Addresses.{pages_of}
-use Rattle.xl_range.specs.Treaps.{with_range, without_range, resized, IsFit}
+use Rattle.xl_treap.specs.Treaps.{with_range, without_range, resized, IsFit}
 
 -- The held ranges, that of this key with so many pages, or without it where it keeps none.
 abbrev pub kept_cut : ℕ → ℕ → List Range → List Range

@@ -1,4 +1,3 @@
-pub mod Treaps
 pub mod Puts
 pub mod Cuts
 pub mod Rows

@@ -4,7 +4,7 @@ use Rattle.std.specs.List.{list_any}
 use Rattle.xl_model.specs.declared.leaf.Range.{Range}
 use Rattle.xl_model.specs.Ranges.{range_key}
 use Rattle.xl_model_lemmas.specs.HeldRanges.{touches, grown}
-use Rattle.xl_range.specs.Treaps.{with_range, without_range, resized, last_below, first_from, of_space, has_key}
+use Rattle.xl_treap.specs.Treaps.{with_range, without_range, resized, last_below, first_from, of_space, has_key}
 
 -- The range, if the other one touches it.
 abbrev pub next_where : Option Range → Range → Option Range

@@ -1,5 +1,5 @@
 -- A table of ranges as the layers above see it, what its type keeps, and what its changes come to.
-use Rattle.std.specs.Prelude.{ℕ, ◌+◌, ◌^◌, ◌<◌, ◌≤◌, ◌≡◌, Bool, true, false, nat_lt, List, length, Option, None, Some}
+use Rattle.std.specs.Prelude.{ℕ, ◌+◌, ◌^◌, ◌<◌, ◌≤◌, ◌≡◌, Bool, true, false, nat_lt, List, [], length, Option, None, Some}
 use Rattle.xl_model.specs.declared.address.Order.{Order}
 use Rattle.xl_model.specs.declared.leaf.Leaf.{Leaf}
 use Rattle.xl_model.specs.declared.leaf.Range.{Range}
@@ -8,11 +8,11 @@ use Rattle.xl_model.specs.Changes.{Change, changed}
 use Rattle.xl_model.specs.Ranges.{holds_page}
 use Rattle.xl_model.specs.Room.{has_room}
 use Rattle.xl_model.specs.Shapes.{Runs}
-use Rattle.xl_model.specs.Caches.{Cached, RangeCache}
+use Rattle.xl_model.specs.Caches.{Cached, RangeCache, empty_cache}
 use Rattle.xl_model.specs.Structures.{TableState}
 use Rattle.xl_model_lemmas.specs.Members.{In}
 use Rattle.xl_model_lemmas.specs.HeldRanges.{IsHeld, IsLeafIn, spread, leaf_in}
-use Rattle.xl_range.specs.Treaps.{TreapView, keeping, IsFit}
+use Rattle.xl_treap.specs.Treaps.{TreapView, TreapState, keeping, IsFit}
 
 -- A page of a range.
 pub record IsAt (page : ℕ) (r : Range) : Type 0 where
@@ -36,13 +36,17 @@ row_of ranges t c = record {
 
 -- A table of ranges as contracts see it.
 pub record RowState : Type 0 where
-  pub treap : TreapView
+  pub treap : TreapState
   pub tlb : Cached Range
   pub ranges : ℕ
 
 -- The table as the layers above see it.
 abbrev pub row_table : RowState → TableState
-row_table s = row_of s.ranges s.treap s.tlb
+row_table s = row_of s.ranges s.treap.seen s.tlb
+
+-- An empty table that may hold so many ranges, with an empty range TLB of a width.
+abbrev pub opening_table : ℕ → ℕ → TableState
+opening_table ranges width = record { leaves = []; shape = Runs ranges; caches = RangeCache (empty_cache width); loads = 0 }
 
 -- Each page of a range is covered by the leaf that the range has there: with its frame, order and
 -- permission.

@@ -10,50 +10,44 @@ ghost use Rattle.xl_range.specs.Rows.{IsTable, IsDone};
 
 use crate::neighbours::put_within;
 use crate::pieces::{cut, cut_within, leaf_in, range_with};
-use crate::treap::Treap;
 use xl_model::{Leaf, Order, Perm};
+use xl_treap::Treap;
 
 /// Adds a leaf that no leaf meets.
-pub(crate) fn add<T: Treap>(treap: &mut T, ranges: u32, leaf: Leaf) -> bool
-    requires whole { IsTable ranges (T.seen treap.old) }
+pub(crate) fn add(treap: &mut Treap, ranges: u32, leaf: Leaf) -> bool
+    requires whole { IsTable ranges treap.old.seen }
     requires valid { IsLeafFor (Runs ranges) leaf }
-    requires free { meets_any leaf.space leaf.first leaf.order (spread (T.seen treap.old).kept) ≡
+    requires free { meets_any leaf.space leaf.first leaf.order (spread treap.old.seen.kept) ≡
         false }
-    ensures { IsDone (Insert leaf) ranges (T.seen treap.old) result (T.seen treap.new) }
+    ensures { IsDone (Insert leaf) ranges treap.old.seen result treap.new.seen }
 {
     put_within(treap, leaf, ranges)
 }
 
 /// Takes out a leaf that is there.
-pub(crate) fn take_out<T: Treap>(
-    treap: &mut T,
-    ranges: u32,
-    space: u16,
-    first: u64,
-    order: Order,
-) -> bool
-    requires whole { IsTable ranges (T.seen treap.old) }
-    requires named { IsNamed space first order (spread (T.seen treap.old).kept) }
-    ensures { IsDone (Remove space first order) ranges (T.seen treap.old) result
-        (T.seen treap.new) }
+pub(crate) fn take_out(treap: &mut Treap, ranges: u32, space: u16, first: u64, order: Order) -> bool
+    requires whole { IsTable ranges treap.old.seen }
+    requires named { IsNamed space first order (spread treap.old.seen.kept) }
+    ensures { IsDone (Remove space first order) ranges treap.old.seen result
+        treap.new.seen }
 {
     let range = range_with(treap, space, first, order);
     cut_within(treap, &range, first, order, ranges)
 }
 
 /// Gives a leaf that is there another permission: it is cut out and put in again, or put back.
-pub(crate) fn set_perm<T: Treap>(
-    treap: &mut T,
+pub(crate) fn set_perm(
+    treap: &mut Treap,
     ranges: u32,
     space: u16,
     first: u64,
     order: Order,
     perm: Perm,
 ) -> bool
-    requires whole { IsTable ranges (T.seen treap.old) }
-    requires named { IsNamed space first order (spread (T.seen treap.old).kept) }
-    ensures { IsDone (Protect space first order perm) ranges (T.seen treap.old) result
-        (T.seen treap.new) }
+    requires whole { IsTable ranges treap.old.seen }
+    requires named { IsNamed space first order (spread treap.old.seen.kept) }
+    ensures { IsDone (Protect space first order perm) ranges treap.old.seen result
+        treap.new.seen }
 {
     let range = range_with(treap, space, first, order);
     let old = leaf_in(&range, first);
@@ -67,20 +61,20 @@ pub(crate) fn set_perm<T: Treap>(
 
 /// Moves a leaf that is there to the page `to`, where no leaf meets it: the new leaf is put in before
 /// the old one is cut out. Where there is no room without the old one, the new one is cut out again.
-pub(crate) fn move_to<T: Treap>(
-    treap: &mut T,
+pub(crate) fn move_to(
+    treap: &mut Treap,
     ranges: u32,
     space: u16,
     first: u64,
     to: u64,
     order: Order,
 ) -> bool
-    requires whole { IsTable ranges (T.seen treap.old) }
-    requires named { IsNamed space first order (spread (T.seen treap.old).kept) }
+    requires whole { IsTable ranges treap.old.seen }
+    requires named { IsNamed space first order (spread treap.old.seen.kept) }
     requires block { IsBlock (Runs ranges) space to order }
-    requires free { meets_any space to order (spread (T.seen treap.old).kept) ≡ false }
-    ensures { IsDone (Relocate space first to order) ranges (T.seen treap.old) result
-        (T.seen treap.new) }
+    requires free { meets_any space to order (spread treap.old.seen.kept) ≡ false }
+    ensures { IsDone (Relocate space first to order) ranges treap.old.seen result
+        treap.new.seen }
 {
     let old = leaf_in(&range_with(treap, space, first, order), first);
     if !put_within(treap, Leaf { first: to, ..old }, ranges) {

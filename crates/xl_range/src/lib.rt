@@ -5,7 +5,7 @@ mod changes;
 mod neighbours;
 mod pieces;
 mod ranges;
-mod treap;
+#[cfg(test)]
+mod tests;
 
 pub use ranges::Ranges;
-pub use treap::Treap;

@@ -4,10 +4,10 @@ ghost use Rattle.std.specs.Prelude.{◌≡◌, ◌<◌, ◌≤◌, ◌^◌, ◌+
 ghost use Rattle.xl_model.specs.Ranges.{range_of_leaf, same_perm};
 ghost use Rattle.xl_model_lemmas.specs.HeldRanges.{touches as are_touching, IsRange, IsHeld, IsClear, join};
 ghost use Rattle.xl_range.specs.Puts.{next_of as next_in, prev_of as prev_in, range_taken, kept_taken, kept_put, put_by, one_if, IsThere, pages_with};
-ghost use Rattle.xl_range.specs.Treaps.{keeping, IsFit, IsApart};
+ghost use Rattle.xl_treap.specs.Treaps.{keeping, IsFit, IsApart};
 
-use crate::treap::Treap;
 use xl_model::{Leaf, Perm, Range};
+use xl_treap::Treap;
 
 /// The range of one leaf.
 fn range_of(leaf: Leaf) -> Range
@@ -48,9 +48,9 @@ fn touches(range: &Range, next: &Range) -> bool
 }
 
 /// The range that begins where this one ends.
-fn next_of<T: Treap>(treap: &T, range: &Range) -> Option<Range>
+fn next_of(treap: &Treap, range: &Range) -> Option<Range>
     requires { IsFit range.now }
-    ensures { result ≡ next_in range.now (T.seen treap.now).kept }
+    ensures { result ≡ next_in range.now treap.now.seen.kept }
 {
     match treap.from(range.space, range.start) {
         Some(next) => {
@@ -65,9 +65,9 @@ fn next_of<T: Treap>(treap: &T, range: &Range) -> Option<Range>
 }
 
 /// The range that ends where this one begins.
-fn prev_of<T: Treap>(treap: &T, range: &Range) -> Option<Range>
+fn prev_of(treap: &Treap, range: &Range) -> Option<Range>
     requires { IsFit range.now }
-    ensures { result ≡ prev_in range.now (T.seen treap.now).kept }
+    ensures { result ≡ prev_in range.now treap.now.seen.kept }
 {
     match treap.before(range.space, range.start) {
         Some(prev) => {
@@ -82,12 +82,12 @@ fn prev_of<T: Treap>(treap: &T, range: &Range) -> Option<Range>
 }
 
 /// Takes the next range out, and gives the range with its pages.
-fn take_next<T: Treap>(treap: &mut T, range: Range, next: Option<Range>) -> Range
-    requires there { IsThere next (T.seen treap.old).kept }
+fn take_next(treap: &mut Treap, range: Range, next: Option<Range>) -> Range
+    requires there { IsThere next treap.old.seen.kept }
     requires small { pages_with next range < 2 ^ 64 }
     ensures range { result ≡ range_taken next range }
-    ensures kept { T.seen treap.new ≡
-        keeping (T.seen treap.old) (kept_taken next (T.seen treap.old).kept) }
+    ensures kept { treap.new.seen ≡
+        keeping treap.old.seen (kept_taken next treap.old.seen.kept) }
 {
     match next {
         Some(next) => {
@@ -102,13 +102,13 @@ fn take_next<T: Treap>(treap: &mut T, range: Range, next: Option<Range>) -> Rang
 }
 
 /// Adds the range's pages to the range before it, or puts the range in.
-fn put_behind<T: Treap>(treap: &mut T, range: Range, prev: Option<Range>)
-    requires there { IsThere prev (T.seen treap.old).kept }
+fn put_behind(treap: &mut Treap, range: Range, prev: Option<Range>)
+    requires there { IsThere prev treap.old.seen.kept }
     requires small { pages_with prev range < 2 ^ 64 }
-    requires apart { IsApart 0 (kept_put prev range (T.seen treap.old).kept) }
-    requires room { length (kept_put prev range (T.seen treap.old).kept) ≤ (T.seen treap.old).nodes }
-    ensures { T.seen treap.new ≡
-        keeping (T.seen treap.old) (kept_put prev range (T.seen treap.old).kept) }
+    requires apart { IsApart 0 (kept_put prev range treap.old.seen.kept) }
+    requires room { length (kept_put prev range treap.old.seen.kept) ≤ treap.old.seen.nodes }
+    ensures { treap.new.seen ≡
+        keeping treap.old.seen (kept_put prev range treap.old.seen.kept) }
 {
     match prev {
         Some(prev) => treap.resize(prev.space, prev.start, prev.pages + range.pages),
@@ -120,16 +120,16 @@ fn put_behind<T: Treap>(treap: &mut T, range: Range, prev: Option<Range>)
 }
 
 /// Puts a range among its neighbours.
-fn put<T: Treap>(treap: &mut T, range: Range, next: Option<Range>, prev: Option<Range>)
-    requires next_there { IsThere next (T.seen treap.old).kept }
-    requires prev_there { IsThere prev (kept_taken next (T.seen treap.old).kept) }
+fn put(treap: &mut Treap, range: Range, next: Option<Range>, prev: Option<Range>)
+    requires next_there { IsThere next treap.old.seen.kept }
+    requires prev_there { IsThere prev (kept_taken next treap.old.seen.kept) }
     requires next_small { pages_with next range < 2 ^ 64 }
     requires prev_small { pages_with prev (range_taken next range) < 2 ^ 64 }
-    requires apart { IsApart 0 (put_by next prev range (T.seen treap.old).kept) }
-    requires room { length (put_by next prev range (T.seen treap.old).kept) ≤
-        (T.seen treap.old).nodes }
-    ensures { T.seen treap.new ≡
-        keeping (T.seen treap.old) (put_by next prev range (T.seen treap.old).kept) }
+    requires apart { IsApart 0 (put_by next prev range treap.old.seen.kept) }
+    requires room { length (put_by next prev range treap.old.seen.kept) ≤
+        treap.old.seen.nodes }
+    ensures { treap.new.seen ≡
+        keeping treap.old.seen (put_by next prev range treap.old.seen.kept) }
 {
     let range = take_next(treap, range, next);
     put_behind(treap, range, prev);
@@ -145,16 +145,16 @@ fn has_room(ranges: u32, held: u32, next: &Option<Range>, prev: &Option<Range>) 
 
 /// Puts a leaf's range in, joined with those that it touches, where then at most so many ranges are
 /// held, and tells whether it did.
-pub(crate) fn put_within<T: Treap>(treap: &mut T, leaf: Leaf, ranges: u32) -> bool
+pub(crate) fn put_within(treap: &mut Treap, leaf: Leaf, ranges: u32) -> bool
     requires range { IsRange (range_of_leaf leaf) }
-    requires held { IsHeld 0 (T.seen treap.old).kept }
-    requires clear { IsClear (range_of_leaf leaf) (T.seen treap.old).kept }
-    requires room { ranges ≤ (T.seen treap.old).nodes }
+    requires held { IsHeld 0 treap.old.seen.kept }
+    requires clear { IsClear (range_of_leaf leaf) treap.old.seen.kept }
+    requires room { ranges ≤ treap.old.seen.nodes }
     ensures test { result ≡
-        nat_le (length (join (range_of_leaf leaf) (T.seen treap.old).kept)) ranges }
-    ensures made { result ≡ true → T.seen treap.new ≡
-        keeping (T.seen treap.old) (join (range_of_leaf leaf) (T.seen treap.old).kept) }
-    ensures same { result ≡ false → T.seen treap.new ≡ T.seen treap.old }
+        nat_le (length (join (range_of_leaf leaf) treap.old.seen.kept)) ranges }
+    ensures made { result ≡ true → treap.new.seen ≡
+        keeping treap.old.seen (join (range_of_leaf leaf) treap.old.seen.kept) }
+    ensures same { result ≡ false → treap.new.seen ≡ treap.old.seen }
 {
     let range = range_of(leaf);
     let next = next_of(treap, &range);

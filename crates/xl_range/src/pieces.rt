@@ -8,10 +8,10 @@ ghost use Rattle.xl_model_lemmas.specs.Members.{In};
 ghost use Rattle.xl_model_lemmas.specs.HeldRanges.{IsHeld, IsLeafIn, some_if, spread, leaf_in as leaf_of, cut as cut_from};
 ghost use Rattle.xl_range.specs.Cuts.{kept_cut, kept_behind};
 ghost use Rattle.xl_range.specs.Rows.{IsAt, HasLeaf};
-ghost use Rattle.xl_range.specs.Treaps.{keeping, IsApart, has_key, resized};
+ghost use Rattle.xl_treap.specs.Treaps.{keeping, IsApart, has_key, resized};
 
-use crate::treap::Treap;
 use xl_model::{Leaf, Order, Range};
+use xl_treap::Treap;
 
 /// The leaf of a range that covers a page of it.
 pub(crate) fn leaf_in(range: &Range, page: u64) -> Leaf
@@ -30,10 +30,10 @@ pub(crate) fn leaf_in(range: &Range, page: u64) -> Leaf
 }
 
 /// The range of a leaf that is there.
-pub(crate) fn range_with<T: Treap>(treap: &T, space: u16, first: u64, order: Order) -> Range
-    requires held { IsHeld 0 (T.seen treap.now).kept }
-    requires named { IsNamed space first order (spread (T.seen treap.now).kept) }
-    ensures { HasLeaf space first order (T.seen treap.now).kept result }
+pub(crate) fn range_with(treap: &Treap, space: u16, first: u64, order: Order) -> Range
+    requires held { IsHeld 0 treap.now.seen.kept }
+    requires named { IsNamed space first order (spread treap.now.seen.kept) }
+    ensures { HasLeaf space first order treap.now.seen.kept result }
 {
     match treap.find(space, first) {
         Some(range) => range,
@@ -42,12 +42,12 @@ pub(crate) fn range_with<T: Treap>(treap: &T, space: u16, first: u64, order: Ord
 }
 
 /// Keeps so many pages of a held range, or none.
-fn cut_before<T: Treap>(treap: &mut T, range: &Range, before: u64)
-    requires there { list_any (has_key (range_key range.now)) (T.seen treap.old).kept ≡ true }
+fn cut_before(treap: &mut Treap, range: &Range, before: u64)
+    requires there { list_any (has_key (range_key range.now)) treap.old.seen.kept ≡ true }
     requires apart { 0 < before →
-        IsApart 0 (resized (range_key range.now) before (T.seen treap.old).kept) }
-    ensures { T.seen treap.new ≡
-        keeping (T.seen treap.old) (kept_cut before (range_key range.now) (T.seen treap.old).kept) }
+        IsApart 0 (resized (range_key range.now) before treap.old.seen.kept) }
+    ensures { treap.new.seen ≡
+        keeping treap.old.seen (kept_cut before (range_key range.now) treap.old.seen.kept) }
 {
     if before == 0 {
         treap.remove(range.space, range.start);
@@ -57,12 +57,12 @@ fn cut_before<T: Treap>(treap: &mut T, range: &Range, before: u64)
 }
 
 /// Puts in what is left behind a leaf, if that has pages.
-fn put_rest<T: Treap>(treap: &mut T, rest: Range, pages: u64)
-    requires apart { IsApart 0 (kept_behind pages rest (T.seen treap.old).kept) }
-    requires room { length (kept_behind pages rest (T.seen treap.old).kept) ≤
-        (T.seen treap.old).nodes }
-    ensures { T.seen treap.new ≡
-        keeping (T.seen treap.old) (kept_behind pages rest (T.seen treap.old).kept) }
+fn put_rest(treap: &mut Treap, rest: Range, pages: u64)
+    requires apart { IsApart 0 (kept_behind pages rest treap.old.seen.kept) }
+    requires room { length (kept_behind pages rest treap.old.seen.kept) ≤
+        treap.old.seen.nodes }
+    ensures { treap.new.seen ≡
+        keeping treap.old.seen (kept_behind pages rest treap.old.seen.kept) }
 {
     if pages == 0 {
         return;
@@ -74,14 +74,14 @@ fn put_rest<T: Treap>(treap: &mut T, rest: Range, pages: u64)
 }
 
 /// Cuts a leaf out of the range that has it.
-pub(crate) fn cut<T: Treap>(treap: &mut T, range: &Range, first: u64, order: Order)
-    requires held { IsHeld 0 (T.seen treap.old).kept }
-    requires there { In range.now (T.seen treap.old).kept }
+pub(crate) fn cut(treap: &mut Treap, range: &Range, first: u64, order: Order)
+    requires held { IsHeld 0 treap.old.seen.kept }
+    requires there { In range.now treap.old.seen.kept }
     requires place { IsLeafIn range.now.space first order range.now }
-    requires room { length (cut_from first order range.now (T.seen treap.old).kept) ≤
-        (T.seen treap.old).nodes }
-    ensures { T.seen treap.new ≡
-        keeping (T.seen treap.old) (cut_from first order range.now (T.seen treap.old).kept) }
+    requires room { length (cut_from first order range.now treap.old.seen.kept) ≤
+        treap.old.seen.nodes }
+    ensures { treap.new.seen ≡
+        keeping treap.old.seen (cut_from first order range.now treap.old.seen.kept) }
 {
     let end = first + order.pages();
     let rest = Range {
@@ -112,22 +112,22 @@ fn has_room_without(ranges: u32, held: u32, before: u64, behind: u64) -> bool
 
 /// Cuts a leaf out of the range that has it where then at most so many ranges are held, and tells
 /// whether it did.
-pub(crate) fn cut_within<T: Treap>(
-    treap: &mut T,
+pub(crate) fn cut_within(
+    treap: &mut Treap,
     range: &Range,
     first: u64,
     order: Order,
     ranges: u32,
 ) -> bool
-    requires held { IsHeld 0 (T.seen treap.old).kept }
-    requires there { In range.now (T.seen treap.old).kept }
+    requires held { IsHeld 0 treap.old.seen.kept }
+    requires there { In range.now treap.old.seen.kept }
     requires place { IsLeafIn range.now.space first order range.now }
-    requires room { ranges ≤ (T.seen treap.old).nodes }
+    requires room { ranges ≤ treap.old.seen.nodes }
     ensures test { result ≡
-        nat_le (length (cut_from first order range.now (T.seen treap.old).kept)) ranges }
-    ensures made { result ≡ true → T.seen treap.new ≡
-        keeping (T.seen treap.old) (cut_from first order range.now (T.seen treap.old).kept) }
-    ensures same { result ≡ false → T.seen treap.new ≡ T.seen treap.old }
+        nat_le (length (cut_from first order range.now treap.old.seen.kept)) ranges }
+    ensures made { result ≡ true → treap.new.seen ≡
+        keeping treap.old.seen (cut_from first order range.now treap.old.seen.kept) }
+    ensures same { result ≡ false → treap.new.seen ≡ treap.old.seen }
 {
     let before = first - range.start;
     let behind = range.start + range.pages - (first + order.pages());

@@ -1,38 +1,41 @@
 //! The table of ranges.
 
-ghost use Rattle.std.specs.Prelude.{◌≡◌, ◌<◌, ◌≤◌, ◌^◌, ◌+◌, ◌-◌, length};
+ghost use Rattle.std.specs.Prelude.{◌≡◌, ◌<◌, ◌≤◌, ◌^◌, ◌+◌, ◌-◌, length, IfOk};
 ghost use Rattle.xl_model.specs.declared.work.NoRoom.TheVariants as why;
-ghost use Rattle.xl_model.specs.Ranges.{holds_page};
+ghost use Rattle.xl_model.specs.Ranges.{holds_page, ranges_of};
+ghost use Rattle.xl_recency.specs.Widths.{IsWidth};
 ghost use Rattle.xl_model.specs.Caches.{without_items};
 ghost use Rattle.xl_model.specs.Placing.{no_moves};
 ghost use Rattle.xl_model.specs.Structures.{work_of};
-ghost use Rattle.xl_range.specs.Rows.{meets_where};
+ghost use Rattle.xl_range.specs.Rows.{meets_where, opening_table, row_table};
 
 use crate::changes::{add, move_to, set_perm, take_out};
 use crate::pieces::leaf_in;
-use crate::treap::Treap;
+use std::alloc::Global;
 use std::marker::Model;
-use xl_model::{Leaf, NoRoom, Order, Perm, Range, Reach, Refused, Structure, Walk, Work};
+use xl_model::{Leaf, NoMemory, NoRoom, Order, Perm, Range, Reach, Refused, Structure, Walk, Work};
+use xl_phys::Bus;
 use xl_tlb::RangeTlb;
+use xl_treap::Treap;
 
 /// A table of ranges (redundant memory mappings, Karakostas and others, 2015): the maximal runs of
 /// its leaves stand in a treap, one for all spaces, and a TLB of ranges is its walk cache. Contracts
 /// see the treap, the range TLB and how many ranges it may hold. Nothing is allocated after `open`.
 #[derive(Drop)]
-pub struct Ranges<T: Treap> {
-    treap: T,
+pub struct Ranges {
+    treap: Treap,
     tlb: RangeTlb,
     ranges: u32,
 }
 
-impl<T: Treap> Model for Ranges<T> {
+impl Model for Ranges {
     ghost use Rattle.xl_range.specs.Rows.{RowState, IsRow};
 
     ghost Value = { RowState };
 
-    ghost view = { λ m. record { treap = T.seen m.treap; tlb = m.tlb; ranges = m.ranges } };
+    ghost view = { λ m. record { treap = m.treap; tlb = m.tlb; ranges = m.ranges } };
 
-    ghost invariant = { λ m. IsRow m.ranges (T.seen m.treap) m.tlb };
+    ghost invariant = { λ m. IsRow m.ranges m.treap.seen m.tlb };
 }
 
 /// Whether the last range that begins below a block's end reaches into the block.
@@ -67,7 +70,32 @@ fn purge(tlb: &mut RangeTlb, space: u16, page: u64) -> Work
     }
 }
 
-impl<T: Treap> Structure for Ranges<T> {
+impl Ranges {
+    /// An empty table that may hold this many ranges, with a range TLB of this width.
+    ///
+    /// # Errors
+    ///
+    /// `NoMemory` where there is no memory.
+    pub fn open(alloc: Global, ranges: u32, range_tlb: u8) -> Result<Ranges, NoMemory>
+        requires ranges_in { (1 ≤ ranges) × (ranges ≤ 2 ^ 16) }
+        requires width { IsWidth range_tlb }
+        ensures { IfOk result (λ row. row_table row ≡ opening_table ranges range_tlb) }
+    {
+        let treap = Treap::open(alloc, ranges + 1)?;
+        let tlb = RangeTlb::open(alloc, range_tlb)?;
+        Ok(Ranges { treap, tlb, ranges })
+    }
+
+    /// The treap: it holds the maximal runs of the leaves.
+    pub fn treap(&self) -> &Treap
+        ensures treap { result.now ≡ self.entry.now.treap }
+        ensures kept { result.now.seen.kept ≡ ranges_of (row_table self.entry.now).leaves }
+    {
+        &self.treap
+    }
+}
+
+impl Structure for Ranges {
     ghost use Rattle.xl_range.specs.Rows.{row_table};
 
     ghost table = { row_table };
@@ -144,6 +172,6 @@ impl<T: Treap> Structure for Ranges<T> {
     }
 
     fn loads(&self) -> u64 {
-        self.treap.loads()
+        Bus::loads(&self.treap)
     }
 }
