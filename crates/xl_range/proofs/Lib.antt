@@ -11,4 +11,3 @@ pub mod FreshLemmas
 pub mod RowLemmas
 pub mod WalkLemmas
 pub mod MeetLemmas
-pub mod TestLemmas

@@ -22,24 +22,31 @@ const WRITE: Perm = Perm {
     u: true,
 };
 
-/// Adds leaf number `number` of an order to a space, in block number `frame` of the data frames. None
-/// where a leaf meets it.
-fn added(
-    table: &mut Ranges,
-    space: u16,
-    number: u64,
-    frame: u64,
-    order: Order,
-) -> Option<Result<Work, Refused>>
+/// How many ranges a change took from the range TLB. None where there was no room in the table.
+fn purged(change: Result<Work, Refused>) -> Option<u64> {
+    match change {
+        Ok(work) => Some(work.invalidated),
+        Err(
+            Refused {
+                why: NoRoom::NoTable,
+                work: _,
+            },
+        ) => None,
+        Err(_) => Some(u64::MAX),
+    }
+}
+
+/// Adds leaf number `number` of an order to a space, in block number `frame` of the data frames.
+fn added(table: &mut Ranges, space: u16, number: u64, frame: u64, order: Order) -> Option<u64>
     requires space { space < 64 }
     requires number { number < 2000 }
     requires frame { frame < 2000 }
 {
     let first = number * order.pages();
     if table.meets(space, first, order) {
-        return None;
+        return Some(u64::MAX);
     }
-    Some(table.insert(Leaf {
+    purged(table.insert(Leaf {
         space,
         first,
         order,
@@ -48,34 +55,33 @@ fn added(
     }))
 }
 
-/// Takes the leaf of a page of space 0 out. None where there is none.
-fn removed(table: &mut Ranges, page: u64) -> Option<Result<Work, Refused>>
+/// Takes the leaf of a page of space 0 out.
+fn removed(table: &mut Ranges, page: u64) -> Option<u64>
     requires { page < 2 ^ 45 }
 {
     let leaf = table.leaf_at(0, page)?;
-    Some(table.remove(leaf.space, leaf.first, leaf.order))
+    purged(table.remove(leaf.space, leaf.first, leaf.order))
 }
 
-/// Gives the leaf of a page of space 0 a permission. None where there is none.
-fn protected(table: &mut Ranges, page: u64, perm: Perm) -> Option<Result<Work, Refused>>
+/// Gives the leaf of a page of space 0 a permission.
+fn protected(table: &mut Ranges, page: u64, perm: Perm) -> Option<u64>
     requires { page < 2 ^ 45 }
 {
     let leaf = table.leaf_at(0, page)?;
-    Some(table.protect(leaf.space, leaf.first, leaf.order, perm))
+    purged(table.protect(leaf.space, leaf.first, leaf.order, perm))
 }
 
-/// Moves the leaf of a page of space 0 to where leaf number `number` of its order is. None where that
-/// can't be asked for.
-fn moved(table: &mut Ranges, page: u64, number: u64) -> Option<Result<Work, Refused>>
+/// Moves the leaf of a page of space 0 to where leaf number `number` of its order is.
+fn moved(table: &mut Ranges, page: u64, number: u64) -> Option<u64>
     requires page { page < 2 ^ 45 }
     requires number { number < 2000 }
 {
     let leaf = table.leaf_at(0, page)?;
     let to = number * leaf.order.pages();
     if leaf.space >= 64 || table.meets(leaf.space, to, leaf.order) {
-        return None;
+        return Some(u64::MAX);
     }
-    Some(table.relocate(leaf.space, leaf.first, to, leaf.order))
+    purged(table.relocate(leaf.space, leaf.first, to, leaf.order))
 }
 
 /// A walk of a page of space 0: the first frame of its leaf, the loads, and the cache hits.
@@ -108,27 +114,11 @@ fn add_three(table: &mut Ranges) {
     }
 }
 
-/// A change that was made, and took so many ranges from the range TLB.
-fn purged(invalidated: u64) -> Option<Result<Work, Refused>> {
-    Some(Ok(Work {
-        invalidated,
-        ..Work::none()
-    }))
-}
-
-/// A change for which there was no room.
-fn no_room() -> Option<Result<Work, Refused>> {
-    Some(Err(Refused {
-        why: NoRoom::NoTable,
-        work: Work::none(),
-    }))
-}
-
 #[test]
 fn a_walk_fills_and_then_hits(rt: HostRuntime) -> Result<(), Fail> {
     let mut table = Ranges::open(rt.alloc(), 4, 4)?;
-    assert_eq!(rt; added(&mut table, 0, 5, 0, Order::K4), purged(0));
-    assert_eq!(rt; added(&mut table, 0, 0, 1, Order::K4), purged(0));
+    assert_eq!(rt; added(&mut table, 0, 5, 0, Order::K4), Some(0));
+    assert_eq!(rt; added(&mut table, 0, 0, 1, Order::K4), Some(0));
     assert_eq!(rt; walked(&mut table, 0), (Some(1), 1, 0));
     assert_eq!(rt; walked(&mut table, 5), (Some(0), 2, 0));
     assert_eq!(rt; walked(&mut table, 5), (Some(0), 0, 1));
@@ -136,49 +126,43 @@ fn a_walk_fills_and_then_hits(rt: HostRuntime) -> Result<(), Fail> {
     Ok(())
 }
 
+/// At each range, and in the gaps on both sides of it.
 #[test]
 fn reads_follow_the_priorities(rt: HostRuntime) -> Result<(), Fail> {
     let mut table = Ranges::open(rt.alloc(), 4, 0)?;
-    assert_eq!(rt; added(&mut table, 0, 0, 0, Order::K4), purged(0));
-    assert_eq!(rt; added(&mut table, 0, 5, 1, Order::K4), purged(0));
-    assert_eq!(rt; added(&mut table, 0, 9, 2, Order::K4), purged(0));
-    assert_eq!(rt; added(&mut table, 1, 2, 3, Order::K4), purged(0));
-    // At each range, and in the gaps on both sides of it.
-    assert_eq!(rt;
-        (loads_of(&mut table, 0, 0), loads_of(&mut table, 0, 3)),
-        (1, 3)
-    );
-    assert_eq!(rt;
-        (loads_of(&mut table, 0, 5), loads_of(&mut table, 0, 7)),
-        (3, 3)
-    );
-    assert_eq!(rt;
-        (loads_of(&mut table, 0, 9), loads_of(&mut table, 0, 12)),
-        (2, 3)
-    );
-    assert_eq!(rt;
-        (loads_of(&mut table, 1, 0), loads_of(&mut table, 1, 2)),
-        (3, 3)
-    );
-    assert_eq!(rt;
-        (loads_of(&mut table, 1, 7), loads_of(&mut table, 2, 4)),
-        (3, 3)
-    );
+    for i in 0..2 {
+        assert_eq!(rt; added(&mut table, 0, 5 * i, 10 * i, Order::K4), Some(0));
+    }
+    assert_eq!(rt; added(&mut table, 0, 9, 18, Order::K4), Some(0));
+    assert_eq!(rt; added(&mut table, 1, 2, 3, Order::K4), Some(0));
+    let reads = [1, 3, 3, 3, 3, 3, 3, 3, 3, 2, 3];
+    for page in 0..11 {
+        assert_eq!(rt;
+            loads_of(&mut table, 0, page),
+            reads[page as usize],
+            "page {page}"
+        );
+    }
+    for page in 0..4 {
+        assert_eq!(rt; loads_of(&mut table, 1, page), 3, "page {page}");
+    }
+    assert_eq!(rt; loads_of(&mut table, 2, 0), 3);
     Ok(())
 }
 
 #[test]
 fn orders_do_not_mix(rt: HostRuntime) -> Result<(), Fail> {
     let mut table = Ranges::open(rt.alloc(), 2, 0)?;
-    assert_eq!(rt; added(&mut table, 0, 1, 1, Order::M2), purged(0));
-    assert_eq!(rt; added(&mut table, 0, 2, 2, Order::M2), purged(0));
-    assert_eq!(rt; added(&mut table, 0, 1536, 1536, Order::K4), purged(0));
-    assert_eq!(rt; added(&mut table, 0, 1537, 1537, Order::K4), purged(0));
-    assert_eq!(rt; table.treap().len(), 2);
-    assert_eq!(rt; added(&mut table, 0, 1539, 1539, Order::K4), no_room());
-    assert_eq!(rt; added(&mut table, 0, 0, 0, Order::G1), None);
+    for number in 1..3 {
+        assert_eq!(rt; added(&mut table, 0, number, number, Order::M2), Some(0));
+        assert_eq!(rt; table.treap().len(), 1);
+    }
+    for number in 1536..1538 {
+        assert_eq!(rt; added(&mut table, 0, number, number, Order::K4), Some(0));
+        assert_eq!(rt; table.treap().len(), 2);
+    }
+    assert_eq!(rt; added(&mut table, 0, 1539, 1539, Order::K4), None);
     assert_eq!(rt; walked(&mut table, 1535).0, Some(1024));
-    assert_eq!(rt; walked(&mut table, 1537).0, Some(1537));
     Ok(())
 }
 
@@ -187,47 +171,44 @@ fn a_protect_wants_room_for_its_pieces(rt: HostRuntime) -> Result<(), Fail> {
     for room in 1..4 {
         let mut table = Ranges::open(rt.alloc(), room, 4)?;
         add_three(&mut table);
-        let change = protected(&mut table, 2, WRITE);
-        assert_eq!(rt; change, if room == 3 { purged(0) } else { no_room() });
-        assert_eq!(rt; table.treap().len(), if room == 3 { 3 } else { 1 });
-        assert_eq!(rt;
-            walked(&mut table, 2),
-            (Some(2), if room == 3 { 3 } else { 1 }, 0)
-        );
-        // The permission that it had: nothing parts, and the range that holds it leaves the TLB.
-        assert_eq!(rt; protected(&mut table, 2, READ), purged(1));
+        let parts = room == 3;
+        assert_eq!(rt; protected(&mut table, 2, WRITE).is_some(), parts);
+        assert_eq!(rt; table.treap().len(), if parts { 3 } else { 1 });
+        assert_eq!(rt; loads_of(&mut table, 0, 2), if parts { 3 } else { 1 });
+        // The permission that it had parts nothing, and the range that holds it leaves the TLB.
+        assert_eq!(rt; protected(&mut table, 2, READ), Some(1));
         assert_eq!(rt; table.treap().len(), 1);
     }
     Ok(())
 }
 
+/// The end of a run to its own other side: two ranges with both leaves, and two after.
 #[test]
-fn a_move_wants_room_for_both_leaves_and_for_what_is_left(rt: HostRuntime) -> Result<(), Fail> {
-    // The end of the run to its own other side: two ranges with both leaves, and after.
-    let mut one = Ranges::open(rt.alloc(), 1, 0)?;
-    add_three(&mut one);
-    assert_eq!(rt; moved(&mut one, 3, 0), no_room());
-    assert_eq!(rt; one.treap().len(), 1);
-    assert_eq!(rt;
-        (walked(&mut one, 3), walked(&mut one, 0)),
-        ((Some(3), 1, 0), (None, 1, 0))
-    );
+fn a_move_wants_room_for_both_leaves(rt: HostRuntime) -> Result<(), Fail> {
+    for room in 1..3 {
+        let mut table = Ranges::open(rt.alloc(), room, 0)?;
+        add_three(&mut table);
+        let moves = room == 2;
+        assert_eq!(rt; moved(&mut table, 3, 0).is_some(), moves);
+        assert_eq!(rt; table.treap().len(), room);
+        assert_eq!(rt;
+            walked(&mut table, 0),
+            (if moves { Some(3) } else { None }, 1, 0)
+        );
+        assert_eq!(rt; walked(&mut table, 3).0.is_some(), !moves);
+    }
+    Ok(())
+}
 
-    // The middle: two ranges with both leaves, and three after.
-    let mut two = Ranges::open(rt.alloc(), 2, 0)?;
-    add_three(&mut two);
-    assert_eq!(rt; moved(&mut two, 2, 4), no_room());
-    assert_eq!(rt; two.treap().len(), 1);
-    assert_eq!(rt;
-        (walked(&mut two, 2), walked(&mut two, 4)),
-        ((Some(2), 1, 0), (None, 1, 0))
-    );
-    assert_eq!(rt; moved(&mut two, 3, 0), purged(0));
-    assert_eq!(rt; two.treap().len(), 2);
-    assert_eq!(rt;
-        (walked(&mut two, 0), walked(&mut two, 3)),
-        ((Some(3), 1, 0), (None, 2, 0))
-    );
+/// The middle of a run to another place: two ranges with both leaves, and three after.
+#[test]
+fn a_move_wants_room_for_what_is_left(rt: HostRuntime) -> Result<(), Fail> {
+    let mut table = Ranges::open(rt.alloc(), 2, 0)?;
+    add_three(&mut table);
+    assert_eq!(rt; moved(&mut table, 2, 5), None);
+    assert_eq!(rt; table.treap().len(), 1);
+    assert_eq!(rt; walked(&mut table, 2), (Some(2), 1, 0));
+    assert_eq!(rt; walked(&mut table, 5), (None, 1, 0));
     Ok(())
 }
 
@@ -235,38 +216,41 @@ fn a_move_wants_room_for_both_leaves_and_for_what_is_left(rt: HostRuntime) -> Re
 fn a_full_table_takes_what_parts_nothing(rt: HostRuntime) -> Result<(), Fail> {
     let mut table = Ranges::open(rt.alloc(), 1, 0)?;
     add_three(&mut table);
-    assert_eq!(rt; removed(&mut table, 2), no_room());
-    assert_eq!(rt; removed(&mut table, 3), purged(0));
-    assert_eq!(rt;
-        (walked(&mut table, 2), walked(&mut table, 3)),
-        ((Some(2), 1, 0), (None, 1, 0))
-    );
-    assert_eq!(rt; removed(&mut table, 2), purged(0));
-
-    assert_eq!(rt; moved(&mut table, 1, 2), no_room());
-    assert_eq!(rt; added(&mut table, 0, 3, 2, Order::K4), no_room());
-    assert_eq!(rt; protected(&mut table, 1, WRITE), purged(0));
-    assert_eq!(rt; walked(&mut table, 1), (Some(1), 1, 0));
+    assert_eq!(rt; removed(&mut table, 2), None);
+    assert_eq!(rt; removed(&mut table, 3), Some(0));
+    assert_eq!(rt; walked(&mut table, 2), (Some(2), 1, 0));
+    assert_eq!(rt; walked(&mut table, 3), (None, 1, 0));
+    assert_eq!(rt; removed(&mut table, 2), Some(0));
+    assert_eq!(rt; moved(&mut table, 1, 2), None);
+    assert_eq!(rt; added(&mut table, 0, 3, 2, Order::K4), None);
+    assert_eq!(rt; protected(&mut table, 1, WRITE), Some(0));
     Ok(())
 }
 
 #[test]
 fn a_short_range_stays_beside_the_longer_one(rt: HostRuntime) -> Result<(), Fail> {
     let mut table = Ranges::open(rt.alloc(), 4, 4)?;
-    assert_eq!(rt; added(&mut table, 0, 1, 0, Order::K4), purged(0));
+    assert_eq!(rt; added(&mut table, 0, 1, 0, Order::K4), Some(0));
     assert_eq!(rt; walked(&mut table, 1), (Some(0), 1, 0));
-    assert_eq!(rt; added(&mut table, 0, 2, 1, Order::K4), purged(0));
-    assert_eq!(rt; added(&mut table, 0, 5, 9, Order::K4), purged(0));
+    assert_eq!(rt; added(&mut table, 0, 2, 1, Order::K4), Some(0));
     assert_eq!(rt; walked(&mut table, 1), (Some(0), 0, 1));
     assert_eq!(rt; walked(&mut table, 2), (Some(1), 1, 0));
     assert_eq!(rt; walked(&mut table, 2), (Some(1), 0, 1));
-    assert_eq!(rt; walked(&mut table, 5), (Some(9), 2, 0));
+    assert_eq!(rt; removed(&mut table, 1), Some(2));
+    assert_eq!(rt; walked(&mut table, 2), (Some(1), 1, 0));
+    Ok(())
+}
 
-    // Both ranges that hold page 1 leave, and the third stays.
-    assert_eq!(rt; removed(&mut table, 1), purged(2));
-    assert_eq!(rt; walked(&mut table, 5), (Some(9), 0, 1));
-    assert_eq!(rt; walked(&mut table, 2), (Some(1), 2, 0));
-    assert_eq!(rt; table.fence(Reach::Page { space: 0, page: 5 }), 1);
-    assert_eq!(rt; table.fence(Reach::All), 1);
+#[test]
+fn a_removal_leaves_the_other_ranges_cached(rt: HostRuntime) -> Result<(), Fail> {
+    let mut table = Ranges::open(rt.alloc(), 4, 4)?;
+    for i in 0..2 {
+        assert_eq!(rt; added(&mut table, 0, 1 + 4 * i, 0, Order::K4), Some(0));
+        assert!(rt; walked(&mut table, 1 + 4 * i).0.is_some());
+    }
+    assert_eq!(rt; removed(&mut table, 1), Some(1));
+    assert_eq!(rt; walked(&mut table, 5), (Some(0), 0, 1));
+    assert_eq!(rt; table.fence(Reach::Page { space: 0, page: 1 }), 0);
+    assert_eq!(rt; table.fence(Reach::Addr { page: 5 }), 1);
     Ok(())
 }
