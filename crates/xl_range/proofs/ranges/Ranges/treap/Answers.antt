@@ -1,4 +1,4 @@
-use Rattle.std.proofs.Common.{◌≡◌, ◌∙◌, ap, sym}
+use Rattle.std.proofs.Common.{◌∙◌, ap, sym}
 use Rattle.xl_model.specs.Ranges.{ranges_of}
 use Rattle.xl_model_lemmas.specs.HeldRanges.{spread}
 use Rattle.xl_model_lemmas.proofs.RunLemmas.{ranges-spread}
