@@ -1,0 +1,148 @@
+-- What the four changes leave of a sorted list of leaves, and whether a table of ranges has room for that.
+use Rattle.std.proofs.Common.{◌≡◌, refl, sym, ap, ◌∙◌, subst, ℕ, ◌≤◌, Bool, true, false, cond, List, [], ◌∷◌, length, find, Option, None, Some, inl, inr, ◌==◌, ◌&&◌, nat_le, nat_lt, arith}
+use Rattle.std.proofs.lemmas.Bool.Decides.{nat_tests}
+use Rattle.xl_model.specs.declared.address.Order.{Order}
+use Rattle.xl_model.specs.declared.perm.Perm.{Perm}
+use Rattle.xl_model.specs.declared.leaf.Leaf.{Leaf}
+use Rattle.xl_model.specs.Mapping.{covers, leaf_at_page, leaf_key, leaf_named, is_leaf, with_leaf, without_leaf}
+use Rattle.xl_model.specs.Changes.{Change, Insert, Remove, Protect, Relocate, IsNamed, changed, with_both, with_new, without_old, with_perm, at_page}
+use Rattle.xl_model.specs.Ranges.{ranges_of}
+use Rattle.xl_model.specs.Room.{has_room, room_for}
+use Rattle.xl_model.specs.Shapes.{Runs, brought}
+use Rattle.xl_model_lemmas.specs.Members.{In, IsSorted}
+use Rattle.xl_model_lemmas.proofs.MemberLemmas.{find-In, In-any}
+use Rattle.xl_model_lemmas.proofs.SameLemmas.{any-find}
+use Rattle.xl_model_lemmas.proofs.PlaceLemmas.{named-space, named-first}
+use Rattle.xl_model_lemmas.proofs.MappingLemmas.{named-is}
+use Rattle.xl_model_lemmas.proofs.InsertionLemmas.{with-In, In-with, stays-with, sorted-with, sorted-without, without-In, without-other, In-without, same-place}
+use Rattle.xl_model_lemmas.proofs.SortedLemmas.{same-sorted}
+
+-- A test that a new leaf doesn't pass finds what it found.
+pub finds-with : (p : Leaf → Bool) (x : Leaf) (xs : List Leaf) → p x ≡ false → ((z : Leaf) → In z xs → leaf_key z ≡ leaf_key x → ⊥) → find p (with_leaf x xs) ≡ find p xs
+finds-with p x [] fails other = rw fails refl
+finds-with p x (y ∷ ys) fails other =
+    elim (leaf_key x == leaf_key y) as (λ b. (leaf_key x == leaf_key y) ≡ b → find p (cond b (x ∷ ys) (cond (nat_lt (leaf_key x) (leaf_key y)) (x ∷ y ∷ ys) (y ∷ with_leaf x ys))) ≡ find p (y ∷ ys)) [
+      | true ↦ λ t. let e : leaf_key y ≡ leaf_key x = grind (arith, nat_tests) in absurd (other y (inl refl) e)
+      | false ↦ λ t. elim (nat_lt (leaf_key x) (leaf_key y)) as (λ b. find p (cond b (x ∷ y ∷ ys) (y ∷ with_leaf x ys)) ≡ find p (y ∷ ys)) [
+        | true ↦ rw fails refl
+        | false ↦ ap (λ (o : Option Leaf). cond (p y) (Some y) o) (finds-with p x ys fails (λ z i. other z (inr i)))
+      ]
+    ] refl
+
+-- A leaf that is there is named by its place.
+named-own : (x : Leaf) (xs : List Leaf) → In x xs → IsNamed x.space x.first x.order xs
+unfolding leaf_named
+named-own x xs i =
+    let same : is_leaf x.space x.first x.order x ≡ true = grind (arith, nat_tests) in
+    sym (any-find (is_leaf x.space x.first x.order) xs) ∙ In-any (is_leaf x.space x.first x.order) x xs i same
+
+-- So is one where it was put in, and one that covers a page.
+pub new-named : (x : Leaf) (xs : List Leaf) → IsNamed x.space x.first x.order (with_leaf x xs)
+new-named x xs = named-own x (with_leaf x xs) (In-with x xs)
+
+pub found-named : (space page : ℕ) (x : Leaf) (xs : List Leaf) → leaf_at_page space page xs ≡ Some x → IsNamed x.space x.first x.order xs
+unfolding leaf_at_page
+found-named space page x xs e = named-own x xs (find-In (covers space page) x xs e)
+
+-- Another leaf that is named stays so.
+pub still-named : (space first : ℕ) (o : Order) (x : Leaf) (xs : List Leaf) → (x.first ≡ first → ⊥) → ((z : Leaf) → In z xs → leaf_key z ≡ leaf_key x → ⊥)
+    → leaf_named space first o (with_leaf x xs) ≡ leaf_named space first o xs
+unfolding leaf_named
+still-named space first o x xs other keys = finds-with (is_leaf space first o) x xs (out (is_leaf space first o x) refl) keys
+  where
+    out : (b : Bool) → is_leaf space first o x ≡ b → is_leaf space first o x ≡ false
+    out true t = absurd (other (named-first space first o x t))
+    out false t = t
+
+-- A leaf taken out and put back.
+pub put-back : (x : Leaf) (xs : List Leaf) → IsSorted xs → In x xs → with_leaf x (without_leaf x.space x.first xs) ≡ xs
+put-back x xs sorted i =
+    same-sorted (with_leaf x (without_leaf x.space x.first xs)) xs (sorted-with x (without_leaf x.space x.first xs) (sorted-without x.space x.first xs sorted)) sorted
+    (λ z j. elim (with-In z x (without_leaf x.space x.first xs) j) [
+      | inl e ↦ let P : Leaf → Type 0 = λ w. In w xs in subst P (sym e) i
+      | inr k ↦ without-In z x.space x.first xs k
+    ])
+    (λ z j. elim (leaf_key z == leaf_key x) as (λ b. (leaf_key z == leaf_key x) ≡ b → In z (with_leaf x (without_leaf x.space x.first xs))) [
+      | true ↦ λ t.
+          let e : leaf_key z ≡ leaf_key x = grind (arith, nat_tests) in
+          let same : z ≡ x = same-place z x xs sorted j i e in
+          let P : Leaf → Type 0 = λ w. In w (with_leaf x (without_leaf x.space x.first xs)) in
+          subst P (sym same) (In-with x (without_leaf x.space x.first xs))
+      | false ↦ λ t.
+          let other : leaf_key z ≡ leaf_key x → ⊥ = λ e. grind (arith, nat_tests) in
+          stays-with z x (without_leaf x.space x.first xs) (In-without z x.space x.first xs j other) other
+    ] refl)
+
+-- A leaf put in and taken out again.
+pub took-back : (x : Leaf) (xs : List Leaf) → IsSorted xs → ((z : Leaf) → In z xs → leaf_key z ≡ leaf_key x → ⊥) → without_leaf x.space x.first (with_leaf x xs) ≡ xs
+took-back x xs sorted new =
+    same-sorted (without_leaf x.space x.first (with_leaf x xs)) xs (sorted-without x.space x.first (with_leaf x xs) (sorted-with x xs sorted)) sorted
+    (λ z j. elim (with-In z x xs (without-In z x.space x.first (with_leaf x xs) j)) [
+      | inl e ↦ absurd (without-other z x.space x.first (with_leaf x xs) j (ap leaf_key e))
+      | inr k ↦ k
+    ])
+    (λ z j. In-without z x.space x.first (with_leaf x xs) (stays-with z x xs j (new z j)) (new z j))
+
+-- What the changes leave, by the leaf that is named.
+old-is : (space first : ℕ) (o : Order) (x : Leaf) (leaves : List Leaf) → leaf_named space first o leaves ≡ Some x → without_old (leaf_named space first o leaves) leaves ≡ without_leaf space first leaves
+old-is space first o x leaves e =
+    let t : is_leaf space first o x ≡ true = named-is space first o x leaves e in
+    ap (λ (q : Option Leaf). without_old q leaves) e
+    ∙ ap (λ (s : ℕ). without_leaf s x.first leaves) (named-space space first o x t)
+    ∙ ap (λ (f : ℕ). without_leaf space f leaves) (named-first space first o x t)
+
+pub insert-changed : (leaf : Leaf) (leaves : List Leaf) → changed (Insert leaf) leaves ≡ with_leaf leaf leaves
+unfolding changed
+insert-changed leaf leaves = refl
+
+pub remove-changed : (space first : ℕ) (o : Order) (x : Leaf) (leaves : List Leaf) → leaf_named space first o leaves ≡ Some x → changed (Remove space first o) leaves ≡ without_leaf space first leaves
+unfolding changed
+remove-changed space first o x leaves e = old-is space first o x leaves e
+
+pub protect-changed : (space first : ℕ) (o : Order) (perm : Perm) (x : Leaf) (leaves : List Leaf) → leaf_named space first o leaves ≡ Some x
+    → changed (Protect space first o perm) leaves ≡ with_leaf (record x { perm = perm }) (without_leaf space first leaves)
+unfolding changed
+protect-changed space first o perm x leaves e =
+    ap (λ (q : Option Leaf). with_new (with_perm perm q) (without_old (leaf_named space first o leaves) leaves)) e
+    ∙ ap (with_leaf (record x { perm = perm })) (old-is space first o x leaves e)
+
+pub relocate-changed : (space first to : ℕ) (o : Order) (x : Leaf) (leaves : List Leaf) → leaf_named space first o leaves ≡ Some x
+    → changed (Relocate space first to o) leaves ≡ with_leaf (record x { first = to }) (without_leaf space first leaves)
+unfolding changed
+relocate-changed space first to o x leaves e =
+    ap (λ (q : Option Leaf). with_new (at_page to q) (without_old (leaf_named space first o leaves) leaves)) e
+    ∙ ap (with_leaf (record x { first = to })) (old-is space first o x leaves e)
+
+-- Room, on the ranges of what a change leaves.
+and-same : (b : Bool) → (b && b) ≡ b
+and-same true = refl
+and-same false = refl
+
+pub insert-room : (leaf : Leaf) (leaves : List Leaf) (n : ℕ) → has_room (Insert leaf) leaves (Runs n) ≡ nat_le (length (ranges_of (with_leaf leaf leaves))) n
+unfolding has_room changed with_both
+insert-room leaf leaves n = and-same _
+
+pub remove-room : (space first : ℕ) (o : Order) (leaves : List Leaf) (n : ℕ) → has_room (Remove space first o) leaves (Runs n) ≡ nat_le (length (ranges_of (changed (Remove space first o) leaves))) n
+unfolding has_room
+remove-room space first o leaves n = refl
+
+pub protect-room : (space first : ℕ) (o : Order) (perm : Perm) (leaves : List Leaf) (n : ℕ) → has_room (Protect space first o perm) leaves (Runs n) ≡ nat_le (length (ranges_of (changed (Protect space first o perm) leaves))) n
+unfolding has_room
+protect-room space first o perm leaves n = refl
+
+pub relocate-room : (space first to : ℕ) (o : Order) (x : Leaf) (leaves : List Leaf) (n : ℕ) → leaf_named space first o leaves ≡ Some x
+    → has_room (Relocate space first to o) leaves (Runs n)
+    ≡ (nat_le (length (ranges_of (with_leaf (record x { first = to }) leaves))) n && nat_le (length (ranges_of (changed (Relocate space first to o) leaves))) n)
+unfolding has_room with_both
+relocate-room space first to o x leaves n e =
+    ap (λ (q : Option Leaf). room_for (at_page to q) (Relocate space first to o) leaves (Runs n)) e
+    ∙ ap (λ (q : Option Leaf). nat_le (length (ranges_of (with_new (at_page to q) leaves))) n && nat_le (length (ranges_of (changed (Relocate space first to o) leaves))) n) e
+
+-- Where there is room, what a change leaves has few enough ranges.
+pub room-few : (c : Change) (leaves : List Leaf) (n : ℕ) → has_room c leaves (Runs n) ≡ true → length (ranges_of (changed c leaves)) ≤ n
+unfolding has_room
+room-few c leaves n t = few (brought c leaves) t
+  where
+    few : (o : Option Leaf) → room_for o c leaves (Runs n) ≡ true → length (ranges_of (changed c leaves)) ≤ n
+    few None t = grind (arith, nat_tests)
+    few (Some x) t = grind (arith, nat_tests)

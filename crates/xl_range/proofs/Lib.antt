@@ -1,0 +1,13 @@
+pub mod HoldLemmas
+pub mod NeighbourLemmas
+pub mod PutLemmas
+pub mod CutCallLemmas
+pub mod FindLemmas
+pub mod SpreadLeafLemmas
+pub mod LeafChangeLemmas
+pub mod StepLemmas
+pub mod MoveStepLemmas
+pub mod FreshLemmas
+pub mod RowLemmas
+pub mod WalkLemmas
+pub mod MeetLemmas

@@ -1,0 +1,214 @@
+-- What the calls of a change ask for, and what they come to: the leaves of the ranges that are held then.
+use Rattle.std.proofs.Common.{◌≡◌, sym, ap, ◌∙◌, subst, ℕ, zero, suc, ◌+◌, ◌*◌, ◌^◌, ◌<◌, ◌≤◌, Bool, true, false, List, [], ◌∷◌, length, inl, inr, nat_le, arith}
+use Rattle.xl_model.specs.declared.address.Order.{Order}
+use Rattle.xl_model.specs.declared.perm.Perm.{Perm}
+use Rattle.xl_model.specs.declared.leaf.Leaf.{Leaf}
+use Rattle.xl_model.specs.declared.leaf.Range.{Range}
+use Rattle.xl_model.specs.Addresses.{pages_of}
+use Rattle.xl_model.specs.Mapping.{meets_any, with_leaf, without_leaf}
+use Rattle.xl_model.specs.Changes.{Insert, Remove, changed}
+use Rattle.xl_model.specs.Ranges.{range_key, end_key, range_of_leaf, ranges_of}
+use Rattle.xl_model.specs.Shapes.{Runs}
+use Rattle.xl_model.specs.Structures.{IsLeafFor}
+use Rattle.xl_model_lemmas.specs.Members.{In}
+use Rattle.xl_model_lemmas.specs.HeldRanges.{first_leaf, spread, IsRange, IsHeld, IsClear, join, pages_before, pages_behind, part_behind, before_on, behind_on, some_if, IsLeafIn, cut, leaf_in}
+use Rattle.xl_model_lemmas.proofs.RunLemmas.{ranges-spread}
+use Rattle.xl_model_lemmas.proofs.TouchLemmas.{leap, some-pages}
+use Rattle.xl_model_lemmas.proofs.JoinLemmas.{In-key, In-range, held-join}
+use Rattle.xl_model_lemmas.proofs.SpreadLemmas.{spread-join}
+use Rattle.xl_model_lemmas.proofs.LeafInLemmas.{Sizes, sizes}
+use Rattle.xl_model_lemmas.proofs.CutLemmas.{AtHead, head-cut, next-cut, cut-spread, held-cut}
+use Rattle.xl_model_lemmas.proofs.CutCountLemmas.{cut-count}
+use Rattle.xl_model_lemmas.proofs.MeetRangeLemmas.{clear-any}
+use Rattle.xl_treap.specs.Treaps.{TreapView, keeping}
+use Rattle.xl_range.specs.Rows.{IsAt, IsTable, IsDone, HasRanges, HasLeaf}
+use Rattle.xl_range.proofs.HoldLemmas.{fit-range}
+use Rattle.xl_range.proofs.FindLemmas.{leaf-in-is}
+use Rattle.xl_range.proofs.LeafChangeLemmas.{insert-changed, remove-changed, insert-room, remove-room}
+
+-- the pages of the leaf are free after the cut
+clear-high : (low : ℕ) (x : Range) (rs : List Range) → end_key x ≤ low → IsHeld low rs → IsClear x rs
+clear-high low x [] le h = tt
+clear-high low x (r ∷ rs) le (above, is, stops, rest) = (inr (omega arith), clear-high (end_key r) x rs (omega arith) rest)
+
+clear-behind : (m : ℕ) (x y : Range) (rs : List Range) → end_key x ≤ range_key y → IsClear x rs → IsClear x (behind_on m y rs)
+clear-behind zero x y rs le clear = clear
+clear-behind (suc m) x y rs le clear = (inr le, clear)
+
+clear-before : (n : ℕ) (x r : Range) (rs : List Range) → range_key r + n ≤ range_key x → IsClear x rs → IsClear x (before_on n r rs)
+clear-before zero x r rs le clear = clear
+clear-before (suc n) x r rs le clear = (inl (omega arith), clear)
+
+pub clear-cut : (space first : ℕ) (o : Order) (low : ℕ) (x r : Range) (rs : List Range) (i : IsLeafIn space first o r) → IsHeld low rs → In r rs
+    → range_key x ≡ space * 2 ^ 52 + first → x.pages ≡ pages_of o → IsClear x (cut first o r rs)
+clear-cut space first o low x r [] i h m key pages = absurd m
+clear-cut space first o low x r (y ∷ rs) i (above, is, stops, rest) (inl e) key pages =
+    let A : Range → Type 0 = λ z. AtHead low z rs in
+    let at : AtHead low r rs = subst A (sym e) (record { above = above; is = is; stops = stops; rest = rest }) in
+    let F : Range → Type 0 = λ z. IsClear x (cut first o r (z ∷ rs)) in
+    let S : List Range → Type 0 = λ ys. IsClear x ys in
+    let s : Sizes first o r i.before i.behind = sizes space first o r i in
+    let from = s.from in
+    let to = s.to in
+    let same : r.space ≡ space = i.space_same in
+    subst F e (subst S (sym (head-cut first o r rs))
+    (clear-before (pages_before first r) x r (behind_on (pages_behind first o r) (part_behind first o r) rs) (omega arith)
+    (clear-behind (pages_behind first o r) x (part_behind first o r) rs (omega arith) (clear-high (end_key r) x rs (omega arith) at.rest))))
+clear-cut space first o low x r (y ∷ rs) i (above, is, stops, rest) (inr m) key pages =
+    let some : 0 < y.pages = some-pages y is in
+    let at : end_key y ≤ range_key r = In-key (end_key y) r rs rest m in
+    let s : Sizes first o r i.before i.behind = sizes space first o r i in
+    let from = s.from in
+    let same : r.space ≡ space = i.space_same in
+    let S : List Range → Type 0 = λ ys. IsClear x ys in
+    subst S (sym (next-cut first o y r rs (omega arith)))
+    (inl (omega arith), clear-cut space first o (end_key y) x r rs i rest m key pages)
+
+most-if : (a b : ℕ) → some_if a + some_if b ≤ 2
+most-if zero zero = omega arith
+most-if zero (suc b) = omega arith
+most-if (suc a) zero = omega arith
+most-if (suc a) (suc b) = omega arith
+
+-- The maximal ranges of these leaves, and no others.
+pub record AreRanges (rs : List Range) (leaves : List Leaf) : Type 0 where
+  pub held : IsHeld 0 rs
+  pub leaves_are : spread rs ≡ leaves
+  pub ranges : ranges_of leaves ≡ rs
+
+are-ranges : (rs : List Range) (leaves : List Leaf) → IsHeld 0 rs → spread rs ≡ leaves → AreRanges rs leaves
+are-ranges rs leaves h e = record { held = h; leaves_are = e; ranges = ap ranges_of (sym e) ∙ ranges-spread 0 rs h }
+
+pub join-ranges : (leaf : Leaf) (rs : List Range) → IsHeld 0 rs → IsRange (range_of_leaf leaf) → IsClear (range_of_leaf leaf) rs → AreRanges (join (range_of_leaf leaf) rs) (with_leaf leaf (spread rs))
+join-ranges leaf rs h is clear = are-ranges (join (range_of_leaf leaf) rs) (with_leaf leaf (spread rs)) (held-join 0 (range_of_leaf leaf) rs h (omega arith) is clear) (spread-join 0 leaf rs h is clear)
+
+pub cut-ranges : (space first : ℕ) (o : Order) (r : Range) (rs : List Range) → IsHeld 0 rs → HasLeaf space first o rs r → AreRanges (cut first o r rs) (without_leaf space first (spread rs))
+cut-ranges space first o r rs h k = are-ranges (cut first o r rs) (without_leaf space first (spread rs)) (held-cut space first o 0 r rs k.place h k.member) (cut-spread space first o 0 r rs k.place h k.member)
+
+-- Two lists of maximal ranges of the same leaves are one.
+pub same-ranges : (rs ys : List Range) (leaves : List Leaf) → AreRanges ys leaves → IsHeld 0 rs → spread rs ≡ leaves → ys ≡ rs
+same-ranges rs ys leaves a h e = sym a.ranges ∙ ap ranges_of (sym e) ∙ ranges-spread 0 rs h
+
+-- The first page of a leaf is one of its range.
+pub leaf-at : (space first : ℕ) (o : Order) (r : Range) (rs : List Range) → IsHeld 0 rs → HasLeaf space first o rs r → IsAt first r
+leaf-at space first o r rs h k =
+    let s : Sizes first o r k.place.before k.place.behind = sizes space first o r k.place in
+    let to = s.to in
+    let some = s.some in
+    record { fit = fit-range r (In-range 0 r rs h k.member); from = s.from; below = omega arith }
+
+-- A leaf of a range, with any permission, has a range of its own.
+part-range : (space first : ℕ) (o : Order) (r : Range) (perm : Perm) (i : IsLeafIn space first o r) → IsRange r → IsRange (range_of_leaf (record (leap i.before (first_leaf r)) { perm = perm }))
+unfolding leap
+part-range space first o r perm i is =
+    let C : Order → Type 0 = λ q. r.pages ≡ (i.before + suc i.behind) * pages_of q in
+    let count : r.pages ≡ (i.before + suc i.behind) * pages_of r.order = subst C (sym i.order_same) i.count in
+    let a : ℕ = i.before in
+    let b : ℕ = i.behind in
+    let p : ℕ = pages_of r.order in
+    let all : r.pages ≡ a * p + (p + b * p) = count ∙ (omega arith) in
+    let limit = is.pages_in in
+    let frames = is.frames_in in
+    let start : r.start ≡ is.aligned.0 * p = is.aligned.1 in
+    record {
+      leaves = (0, omega arith);
+      space_in = is.space_in;
+      pages_in = omega arith;
+      frames_in = omega arith;
+      aligned = (is.aligned.0 + a, mult is.aligned.0 a p r.start start);
+    }
+  where
+    mult : (e a p start : ℕ) → start ≡ e * p → start + a * p ≡ (e + a) * p
+    mult e a p start h = omega arith
+
+part-clear : (space first : ℕ) (o : Order) (r : Range) (rs : List Range) (perm : Perm) (i : IsLeafIn space first o r) → IsHeld 0 rs → In r rs
+    → IsClear (range_of_leaf (record (leap i.before (first_leaf r)) { perm = perm })) (cut first o r rs)
+unfolding leap
+part-clear space first o r rs perm i h m =
+    let P : Order → Type 0 = λ q. r.space * 2 ^ 52 + (r.start + i.before * pages_of q) ≡ space * 2 ^ 52 + first in
+    let a : first ≡ r.start + i.before * pages_of o = i.at in
+    let b : r.space ≡ space = i.space_same in
+    clear-cut space first o 0 (range_of_leaf (record (leap i.before (first_leaf r)) { perm = perm })) r rs i h m (subst P (sym i.order_same) (omega arith)) (ap pages_of i.order_same)
+
+-- What putting a leaf in asks for.
+pub record CanPutLeaf (n : ℕ) (t : TreapView) (l : Leaf) : Type 0 where
+  pub range : IsRange (range_of_leaf l)
+  pub held : IsHeld 0 t.kept
+  pub clear : IsClear (range_of_leaf l) t.kept
+  pub room : n ≤ t.nodes
+
+-- A leaf that was cut out can be put in again, with any permission.
+pub cut-can : (space first : ℕ) (o : Order) (n : ℕ) (t cutt : TreapView) (r : Range) (perm : Perm) (l : Leaf) → IsTable n t → HasLeaf space first o t.kept r → cutt ≡ keeping t (cut first o r t.kept)
+    → l ≡ leaf_in first r → CanPutLeaf n cutt (record l { perm = perm })
+cut-can space first o n t cutt r perm l whole k e is =
+    let i : IsLeafIn space first o r = k.place in
+    let P : TreapView → Type 0 = λ v. CanPutLeaf n v (record l { perm = perm }) in
+    let Q : Leaf → Type 0 = λ x. CanPutLeaf n (keeping t (cut first o r t.kept)) (record x { perm = perm }) in
+    let room = whole.nodes in
+    subst P (sym e) (subst Q (sym (is ∙ leaf-in-is space first o r i)) (record {
+      range = part-range space first o r perm i (In-range 0 r t.kept whole.held k.member);
+      held = held-cut space first o 0 r t.kept i whole.held k.member;
+      clear = part-clear space first o r t.kept perm i whole.held k.member;
+      room = omega arith;
+    }))
+
+-- A cut leaves one range more at most.
+pub cut-room : (space first : ℕ) (o : Order) (n : ℕ) (t : TreapView) (r : Range) → IsTable n t → HasLeaf space first o t.kept r → length (cut first o r t.kept) ≤ t.nodes
+cut-room space first o n t r whole k =
+    let a = cut-count first o r t.kept k.member in
+    let b = most-if (pages_before first r) (pages_behind first o r) in
+    let d = whole.few in
+    let e = whole.nodes in
+    omega arith
+
+-- What a range kept in a treap after a call is.
+pub kept-is : (t new : TreapView) (rs : List Range) → new ≡ keeping t rs → new.kept ≡ rs
+kept-is t new rs e = ap (λ (v : TreapView). v.kept) e
+
+pub has-ranges : (t new : TreapView) (rs : List Range) (leaves : List Leaf) → new ≡ keeping t rs → AreRanges rs leaves → HasRanges leaves t new
+has-ranges t new rs leaves e a =
+    let k : new.kept ≡ rs = kept-is t new rs e in
+    let H : List Range → Type 0 = λ ys. IsHeld 0 ys in
+    record { held = subst H (sym k) a.held; leaves = ap spread k ∙ a.leaves_are; rest = e ∙ ap (keeping t) (sym k) }
+
+pub same-bools : (b : Bool) → b ≡ true → b ≡ false → ⊥
+same-bools b t f = let e : true ≡ false = sym t ∙ f in absurd (cc)
+
+-- An insertion.
+pub insert-clear : (n : ℕ) (t : TreapView) (leaf : Leaf) → IsTable n t → IsLeafFor (Runs n) leaf → meets_any leaf.space leaf.first leaf.order (spread t.kept) ≡ false → IsClear (range_of_leaf leaf) t.kept
+insert-clear n t leaf whole valid free = clear-any leaf t.kept whole.held (let l = valid.block.pages_in in omega arith) free
+
+pub leaf-range : (n : ℕ) (leaf : Leaf) → IsLeafFor (Runs n) leaf → IsRange (range_of_leaf leaf)
+leaf-range n leaf valid = record {
+  leaves = (0, omega arith);
+  space_in = valid.block.space_in;
+  pages_in = (let l = valid.block.pages_in in omega arith);
+  frames_in = valid.frames_in;
+  aligned = valid.block.aligned;
+}
+
+pub insert-done : (n : ℕ) (t new : TreapView) (leaf : Leaf) (result : Bool) → IsTable n t → IsLeafFor (Runs n) leaf → meets_any leaf.space leaf.first leaf.order (spread t.kept) ≡ false
+    → result ≡ nat_le (length (join (range_of_leaf leaf) t.kept)) n → (result ≡ true → new ≡ keeping t (join (range_of_leaf leaf) t.kept)) → (result ≡ false → new ≡ t)
+    → IsDone (Insert leaf) n t result new
+insert-done n t new leaf result whole valid free test made same =
+    let a : AreRanges (join (range_of_leaf leaf) t.kept) (with_leaf leaf (spread t.kept)) = join-ranges leaf t.kept whole.held (leaf-range n leaf valid) (insert-clear n t leaf whole valid free) in
+    let L : List Leaf → Type 0 = λ xs. HasRanges xs t new in
+    record {
+      room = test ∙ ap (λ (xs : List Range). nat_le (length xs) n) (sym a.ranges) ∙ sym (insert-room leaf (spread t.kept) n);
+      made = λ e. subst L (sym (insert-changed leaf (spread t.kept))) (has-ranges t new (join (range_of_leaf leaf) t.kept) (with_leaf leaf (spread t.kept)) (made e) a);
+      same = same;
+    }
+
+-- A removal.
+pub remove-done : (space first : ℕ) (o : Order) (n : ℕ) (t new : TreapView) (r : Range) (result : Bool) → IsTable n t → HasLeaf space first o t.kept r
+    → result ≡ nat_le (length (cut first o r t.kept)) n → (result ≡ true → new ≡ keeping t (cut first o r t.kept)) → (result ≡ false → new ≡ t)
+    → IsDone (Remove space first o) n t result new
+remove-done space first o n t new r result whole k test made same =
+    let a : AreRanges (cut first o r t.kept) (without_leaf space first (spread t.kept)) = cut-ranges space first o r t.kept whole.held k in
+    let is : changed (Remove space first o) (spread t.kept) ≡ without_leaf space first (spread t.kept) = remove-changed space first o (leaf_in first r) (spread t.kept) k.named in
+    let L : List Leaf → Type 0 = λ xs. HasRanges xs t new in
+    record {
+      room = test ∙ ap (λ (xs : List Range). nat_le (length xs) n) (sym a.ranges) ∙ ap (λ (xs : List Leaf). nat_le (length (ranges_of xs)) n) (sym is) ∙ sym (remove-room space first o (spread t.kept) n);
+      made = λ e. subst L (sym is) (has-ranges t new (cut first o r t.kept) (without_leaf space first (spread t.kept)) (made e) a);
+      same = same;
+    }

@@ -1,0 +1,68 @@
+use Rattle.std.proofs.Common.{◌≡◌, ◌∙◌, ◌+◌, ◌-◌, ◌≤◌, ap, sym, subst, length, List, arith}
+use Rattle.xl_model.specs.declared.leaf.Range.{Range}
+use Rattle.xl_model_lemmas.specs.HeldRanges.{cut}
+use Rattle.xl_treap.specs.Treaps.{TreapView, keeping, IsApart}
+use Rattle.xl_range.specs.Cuts.{kept_behind}
+use Rattle.xl_range.proofs.CutCallLemmas.{CanCut, can-cut, put-calls}
+use Rattle.xl_range.proofs.pieces.cut.Goals as goal
+
+pub overflow_add-end : goal.overflow_add-end
+overflow_add-end c =
+    let k : CanCut c.args.first c.args.order c.args.range.now c.args.treap.now.seen.kept = can-cut c.args.range.now.space c.args.first c.args.order c.args.range.now c.args.treap.now.seen.kept c.requires.held c.requires.there c.requires.place in
+    let b = k.inside.to in
+    let d = k.inside.fit.pages_in in
+    let f = k.inside.fit.frames_in in
+    let e = c.pages.ensures in
+    omega arith
+
+pub overflow_add-rest : goal.overflow_add-rest
+overflow_add-rest c =
+    let k : CanCut c.args.first c.args.order c.args.range.now c.args.treap.now.seen.kept = can-cut c.args.range.now.space c.args.first c.args.order c.args.range.now c.args.treap.now.seen.kept c.requires.held c.requires.there c.requires.place in
+    let b = k.inside.to in
+    let d = k.inside.fit.pages_in in
+    let f = k.inside.fit.frames_in in
+    let e = c.pages.ensures in
+    omega arith
+
+pub overflow_add-rest-2 : goal.overflow_add-rest-2
+overflow_add-rest-2 c =
+    let k : CanCut c.args.first c.args.order c.args.range.now c.args.treap.now.seen.kept = can-cut c.args.range.now.space c.args.first c.args.order c.args.range.now c.args.treap.now.seen.kept c.requires.held c.requires.there c.requires.place in
+    let b = k.inside.to in
+    let d = k.inside.fit.pages_in in
+    let f = k.inside.fit.frames_in in
+    let e = c.pages.ensures in
+    omega arith
+
+pub cut_before-requires-clause-there : goal.cut_before-requires-clause-there
+cut_before-requires-clause-there c =
+    let k : CanCut c.args.first c.args.order c.args.range.now c.args.treap.now.seen.kept = can-cut c.args.range.now.space c.args.first c.args.order c.args.range.now c.args.treap.now.seen.kept c.requires.held c.requires.there c.requires.place in
+    k.there
+
+pub cut_before-requires-clause-apart : goal.cut_before-requires-clause-apart
+cut_before-requires-clause-apart c =
+    let k : CanCut c.args.first c.args.order c.args.range.now c.args.treap.now.seen.kept = can-cut c.args.range.now.space c.args.first c.args.order c.args.range.now c.args.treap.now.seen.kept c.requires.held c.requires.there c.requires.place in
+    k.shorter
+
+pub put_rest-requires-clause-apart : goal.put_rest-requires-clause-apart
+put_rest-requires-clause-apart c =
+    let k : CanCut c.args.first c.args.order c.args.range.now c.args.treap.now.seen.kept = can-cut c.args.range.now.space c.args.first c.args.order c.args.range.now c.args.treap.now.seen.kept c.requires.held c.requires.there c.requires.place in
+    let e : kept_behind (c.args.range.now.start + c.args.range.now.pages - (c.args.first + c.pages.result)) (record c.args.range.now { start = c.args.first + c.pages.result; pages = c.args.range.now.start + c.args.range.now.pages - (c.args.first + c.pages.result); frame = c.args.range.now.frame + (c.args.first + c.pages.result - c.args.range.now.start) }) c.cut_before.new.treap.seen.kept ≡ cut c.args.first c.args.order c.args.range.now c.args.treap.now.seen.kept =
+    put-calls c.args.first c.pages.result c.args.order c.args.range.now c.args.treap.now.seen c.cut_before.new.treap.seen c.pages.ensures c.cut_before.ensures k in
+    let P : List Range → Type 0 = λ xs. IsApart 0 xs in
+    subst P (sym e) k.apart
+
+pub put_rest-requires-clause-room : goal.put_rest-requires-clause-room
+put_rest-requires-clause-room c =
+    let k : CanCut c.args.first c.args.order c.args.range.now c.args.treap.now.seen.kept = can-cut c.args.range.now.space c.args.first c.args.order c.args.range.now c.args.treap.now.seen.kept c.requires.held c.requires.there c.requires.place in
+    let e : kept_behind (c.args.range.now.start + c.args.range.now.pages - (c.args.first + c.pages.result)) (record c.args.range.now { start = c.args.first + c.pages.result; pages = c.args.range.now.start + c.args.range.now.pages - (c.args.first + c.pages.result); frame = c.args.range.now.frame + (c.args.first + c.pages.result - c.args.range.now.start) }) c.cut_before.new.treap.seen.kept ≡ cut c.args.first c.args.order c.args.range.now c.args.treap.now.seen.kept =
+    put-calls c.args.first c.pages.result c.args.order c.args.range.now c.args.treap.now.seen c.cut_before.new.treap.seen c.pages.ensures c.cut_before.ensures k in
+    let P : List Range → Type 0 = λ xs. length xs ≤ c.cut_before.new.treap.seen.nodes in
+    let Q : TreapView → Type 0 = λ t. length (cut c.args.first c.args.order c.args.range.now c.args.treap.now.seen.kept) ≤ t.nodes in
+    subst P (sym e) (subst Q (sym c.cut_before.ensures) c.requires.room)
+
+pub returns : goal.returns
+returns c =
+    let k : CanCut c.args.first c.args.order c.args.range.now c.args.treap.now.seen.kept = can-cut c.args.range.now.space c.args.first c.args.order c.args.range.now c.args.treap.now.seen.kept c.requires.held c.requires.there c.requires.place in
+    let e : kept_behind (c.args.range.now.start + c.args.range.now.pages - (c.args.first + c.pages.result)) (record c.args.range.now { start = c.args.first + c.pages.result; pages = c.args.range.now.start + c.args.range.now.pages - (c.args.first + c.pages.result); frame = c.args.range.now.frame + (c.args.first + c.pages.result - c.args.range.now.start) }) c.cut_before.new.treap.seen.kept ≡ cut c.args.first c.args.order c.args.range.now c.args.treap.now.seen.kept =
+    put-calls c.args.first c.pages.result c.args.order c.args.range.now c.args.treap.now.seen c.cut_before.new.treap.seen c.pages.ensures c.cut_before.ensures k in
+    c.put_rest.ensures ∙ ap (keeping c.cut_before.new.treap.seen) e ∙ ap (λ (t : TreapView). keeping t (cut c.args.first c.args.order c.args.range.now c.args.treap.now.seen.kept)) c.cut_before.ensures

@@ -1,0 +1,167 @@
+//! A range put among the maximal ranges of a treap.
+
+ghost use Rattle.std.specs.Prelude.{◌≡◌, ◌<◌, ◌≤◌, ◌^◌, ◌+◌, length, true, false, nat_le, ◌==◌};
+ghost use Rattle.xl_model.specs.Ranges.{range_of_leaf, same_perm};
+ghost use Rattle.xl_model_lemmas.specs.HeldRanges.{touches as are_touching, IsRange, IsHeld, IsClear, join};
+ghost use Rattle.xl_range.specs.Puts.{next_of as next_in, prev_of as prev_in, range_taken, kept_taken, kept_put, put_by, one_if, IsThere, pages_with};
+ghost use Rattle.xl_treap.specs.Treaps.{keeping, IsFit, IsApart};
+
+use xl_model::{Leaf, Perm, Range};
+use xl_treap::Treap;
+
+/// The range of one leaf.
+fn range_of(leaf: Leaf) -> Range
+    ensures { result ≡ range_of_leaf leaf }
+{
+    Range {
+        space: leaf.space,
+        start: leaf.first,
+        pages: leaf.order.pages(),
+        frame: leaf.frame,
+        order: leaf.order,
+        perm: leaf.perm,
+    }
+}
+
+fn same(a: Perm, b: Perm) -> bool
+    ensures { result ≡ same_perm a b }
+{
+    a.r == b.r && a.w == b.w && a.x == b.x && a.u == b.u
+}
+
+/// Whether a number is another and so many more.
+fn is_sum(sum: u64, from: u64, more: u64) -> bool
+    ensures { result ≡ (from + more == sum) }
+{
+    from <= sum && sum - from == more
+}
+
+/// Whether the range ends, in pages and in frames, where another of its kind begins.
+fn touches(range: &Range, next: &Range) -> bool
+    ensures { result ≡ are_touching range.now next.now }
+{
+    range.space == next.space
+        && range.order.level() == next.order.level()
+        && same(range.perm, next.perm)
+        && is_sum(next.start, range.start, range.pages)
+        && is_sum(next.frame, range.frame, range.pages)
+}
+
+/// The range that begins where this one ends.
+fn next_of(treap: &Treap, range: &Range) -> Option<Range>
+    requires { IsFit range.now }
+    ensures { result ≡ next_in range.now treap.now.seen.kept }
+{
+    match treap.from(range.space, range.start) {
+        Some(next) => {
+            if touches(range, &next) {
+                Some(next)
+            } else {
+                None
+            }
+        }
+        None => None,
+    }
+}
+
+/// The range that ends where this one begins.
+fn prev_of(treap: &Treap, range: &Range) -> Option<Range>
+    requires { IsFit range.now }
+    ensures { result ≡ prev_in range.now treap.now.seen.kept }
+{
+    match treap.before(range.space, range.start) {
+        Some(prev) => {
+            if touches(&prev, range) {
+                Some(prev)
+            } else {
+                None
+            }
+        }
+        None => None,
+    }
+}
+
+/// Takes the next range out, and gives the range with its pages.
+fn take_next(treap: &mut Treap, range: Range, next: Option<Range>) -> Range
+    requires there { IsThere next treap.old.seen.kept }
+    requires small { pages_with next range < 2 ^ 64 }
+    ensures range { result ≡ range_taken next range }
+    ensures kept { treap.new.seen ≡
+        keeping treap.old.seen (kept_taken next treap.old.seen.kept) }
+{
+    match next {
+        Some(next) => {
+            treap.remove(next.space, next.start);
+            Range {
+                pages: range.pages + next.pages,
+                ..range
+            }
+        }
+        None => range,
+    }
+}
+
+/// Adds the range's pages to the range before it, or puts the range in.
+fn put_behind(treap: &mut Treap, range: Range, prev: Option<Range>)
+    requires there { IsThere prev treap.old.seen.kept }
+    requires small { pages_with prev range < 2 ^ 64 }
+    requires apart { IsApart 0 (kept_put prev range treap.old.seen.kept) }
+    requires room { length (kept_put prev range treap.old.seen.kept) ≤ treap.old.seen.nodes }
+    ensures { treap.new.seen ≡
+        keeping treap.old.seen (kept_put prev range treap.old.seen.kept) }
+{
+    match prev {
+        Some(prev) => treap.resize(prev.space, prev.start, prev.pages + range.pages),
+        None => match treap.insert(range) {
+            Ok(()) => (),
+            Err(_) => unreachable!(),
+        },
+    }
+}
+
+/// Puts a range among its neighbours.
+fn put(treap: &mut Treap, range: Range, next: Option<Range>, prev: Option<Range>)
+    requires next_there { IsThere next treap.old.seen.kept }
+    requires prev_there { IsThere prev (kept_taken next treap.old.seen.kept) }
+    requires next_small { pages_with next range < 2 ^ 64 }
+    requires prev_small { pages_with prev (range_taken next range) < 2 ^ 64 }
+    requires apart { IsApart 0 (put_by next prev range treap.old.seen.kept) }
+    requires room { length (put_by next prev range treap.old.seen.kept) ≤
+        treap.old.seen.nodes }
+    ensures { treap.new.seen ≡
+        keeping treap.old.seen (put_by next prev range treap.old.seen.kept) }
+{
+    let range = take_next(treap, range, next);
+    put_behind(treap, range, prev);
+}
+
+/// Whether with one range more, that joins its neighbours, there are at most so many.
+fn has_room(ranges: u32, held: u32, next: &Option<Range>, prev: &Option<Range>) -> bool
+    ensures { result ≡ nat_le (held + 1) (ranges + (one_if next.now + one_if prev.now)) }
+{
+    let joined = next.is_some() as u64 + prev.is_some() as u64;
+    held as u64 + 1 <= ranges as u64 + joined
+}
+
+/// Puts a leaf's range in, joined with those that it touches, where then at most so many ranges are
+/// held, and tells whether it did.
+pub(crate) fn put_within(treap: &mut Treap, leaf: Leaf, ranges: u32) -> bool
+    requires range { IsRange (range_of_leaf leaf) }
+    requires held { IsHeld 0 treap.old.seen.kept }
+    requires clear { IsClear (range_of_leaf leaf) treap.old.seen.kept }
+    requires room { ranges ≤ treap.old.seen.nodes }
+    ensures test { result ≡
+        nat_le (length (join (range_of_leaf leaf) treap.old.seen.kept)) ranges }
+    ensures made { result ≡ true → treap.new.seen ≡
+        keeping treap.old.seen (join (range_of_leaf leaf) treap.old.seen.kept) }
+    ensures same { result ≡ false → treap.new.seen ≡ treap.old.seen }
+{
+    let range = range_of(leaf);
+    let next = next_of(treap, &range);
+    let prev = prev_of(treap, &range);
+    if !has_room(ranges, treap.len(), &next, &prev) {
+        return false;
+    }
+    put(treap, range, next, prev);
+    true
+}

@@ -1,0 +1,177 @@
+//! The table of ranges.
+
+ghost use Rattle.std.specs.Prelude.{◌≡◌, ◌<◌, ◌≤◌, ◌^◌, ◌+◌, ◌-◌, length, IfOk};
+ghost use Rattle.xl_model.specs.declared.work.NoRoom.TheVariants as why;
+ghost use Rattle.xl_model.specs.Ranges.{holds_page, ranges_of};
+ghost use Rattle.xl_recency.specs.Widths.{IsWidth};
+ghost use Rattle.xl_model.specs.Caches.{without_items};
+ghost use Rattle.xl_model.specs.Placing.{no_moves};
+ghost use Rattle.xl_model.specs.Structures.{work_of};
+ghost use Rattle.xl_range.specs.Rows.{meets_where, opening_table, row_table};
+
+use crate::changes::{add, move_to, set_perm, take_out};
+use crate::pieces::leaf_in;
+use std::alloc::Global;
+use std::marker::Model;
+use xl_model::{Leaf, NoMemory, NoRoom, Order, Perm, Range, Reach, Refused, Structure, Walk, Work};
+use xl_phys::Bus;
+use xl_tlb::RangeTlb;
+use xl_treap::Treap;
+
+/// A table of ranges (redundant memory mappings, Karakostas and others, 2015): the maximal runs of
+/// its leaves stand in a treap, one for all spaces, and a TLB of ranges is its walk cache. Contracts
+/// see the treap, the range TLB and how many ranges it may hold. Nothing is allocated after `open`.
+#[derive(Drop)]
+pub struct Ranges {
+    treap: Treap,
+    tlb: RangeTlb,
+    ranges: u32,
+}
+
+impl Model for Ranges {
+    ghost use Rattle.xl_range.specs.Rows.{RowState, IsRow};
+
+    ghost Value = { RowState };
+
+    ghost view = { λ m. record { treap = m.treap; tlb = m.tlb; ranges = m.ranges } };
+
+    ghost invariant = { λ m. IsRow m.ranges m.treap.seen m.tlb };
+}
+
+/// Whether the last range that begins below a block's end reaches into the block.
+fn reaches_in(last: Option<Range>, first: u64) -> bool
+    ensures { result ≡ meets_where first last }
+{
+    match last {
+        None => false,
+        Some(range) => first < range.start || first - range.start < range.pages,
+    }
+}
+
+/// The answer to a change for which there is no room.
+fn no_room() -> Refused
+    ensures { result ≡ record { why = why.NoTable; work = work_of no_moves 0 } }
+{
+    Refused {
+        why: NoRoom::NoTable,
+        work: Work::none(),
+    }
+}
+
+/// Removes the cached ranges that hold a page, and gives the work of that.
+fn purge(tlb: &mut RangeTlb, space: u16, page: u64) -> Work
+    ensures work { result ≡ work_of no_moves (length tlb.old.items - length tlb.new.items) }
+    ensures after { tlb.new ≡ without_items (holds_page space page) tlb.old }
+{
+    let invalidated = tlb.drop_page(space, page);
+    Work {
+        invalidated,
+        ..Work::none()
+    }
+}
+
+impl Ranges {
+    /// An empty table that may hold this many ranges, with a range TLB of this width.
+    ///
+    /// # Errors
+    ///
+    /// `NoMemory` where there is no memory.
+    pub fn open(alloc: Global, ranges: u32, range_tlb: u8) -> Result<Ranges, NoMemory>
+        requires ranges_in { (1 ≤ ranges) × (ranges ≤ 2 ^ 16) }
+        requires width { IsWidth range_tlb }
+        ensures { IfOk result (λ row. row_table row ≡ opening_table ranges range_tlb) }
+    {
+        let treap = Treap::open(alloc, ranges + 1)?;
+        let tlb = RangeTlb::open(alloc, range_tlb)?;
+        Ok(Ranges { treap, tlb, ranges })
+    }
+
+    /// The treap: it holds the maximal runs of the leaves.
+    pub fn treap(&self) -> &Treap
+        ensures treap { result.now ≡ self.entry.now.treap }
+        ensures kept { result.now.seen.kept ≡ ranges_of (row_table self.entry.now).leaves }
+    {
+        &self.treap
+    }
+}
+
+impl Structure for Ranges {
+    ghost use Rattle.xl_range.specs.Rows.{row_table};
+
+    ghost table = { row_table };
+
+    fn meets(&self, space: u16, first: u64, order: Order) -> bool {
+        reaches_in(self.treap.before(space, first + order.pages()), first)
+    }
+
+    fn leaf_at(&self, space: u16, page: u64) -> Option<Leaf> {
+        match self.treap.find(space, page) {
+            Some(range) => Some(leaf_in(&range, page)),
+            None => None,
+        }
+    }
+
+    fn insert(&mut self, leaf: Leaf) -> Result<Work, Refused> {
+        if !add(&mut self.treap, self.ranges, leaf) {
+            return Err(no_room());
+        }
+        Ok(Work::none())
+    }
+
+    fn remove(&mut self, space: u16, first: u64, order: Order) -> Result<Work, Refused> {
+        if !take_out(&mut self.treap, self.ranges, space, first, order) {
+            return Err(no_room());
+        }
+        Ok(purge(&mut self.tlb, space, first))
+    }
+
+    fn protect(
+        &mut self,
+        space: u16,
+        first: u64,
+        order: Order,
+        perm: Perm,
+    ) -> Result<Work, Refused> {
+        if !set_perm(&mut self.treap, self.ranges, space, first, order, perm) {
+            return Err(no_room());
+        }
+        Ok(purge(&mut self.tlb, space, first))
+    }
+
+    fn relocate(&mut self, space: u16, first: u64, to: u64, order: Order) -> Result<Work, Refused> {
+        if !move_to(&mut self.treap, self.ranges, space, first, to, order) {
+            return Err(no_room());
+        }
+        Ok(purge(&mut self.tlb, space, first))
+    }
+
+    fn walk(&mut self, space: u16, page: u64) -> Walk {
+        if let Some(range) = self.tlb.look(space, page) {
+            return Walk {
+                leaf: Some(leaf_in(&range, page)),
+                cache_hits: 1,
+            };
+        }
+        match self.treap.walk(space, page) {
+            Some(range) => {
+                self.tlb.fill(range);
+                Walk {
+                    leaf: Some(leaf_in(&range, page)),
+                    cache_hits: 0,
+                }
+            }
+            None => Walk {
+                leaf: None,
+                cache_hits: 0,
+            },
+        }
+    }
+
+    fn fence(&mut self, reach: Reach) -> u64 {
+        self.tlb.drop_reach(reach)
+    }
+
+    fn loads(&self) -> u64 {
+        Bus::loads(&self.treap)
+    }
+}
