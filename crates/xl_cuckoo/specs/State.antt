@@ -1,0 +1,25 @@
+-- The ways of a cuckoo table, with the loads made of each.
+use Rattle.std.specs.Prelude.{ℕ, List, map, slice_index_or, slice_set}
+use Rattle.xl_model.specs.declared.way.Entry.{Entry}
+use Rattle.xl_model.specs.Ways.{WayShape, swapped, opening_way}
+use Rattle.xl_way.specs.Slots.{WayState}
+
+-- A way that isn't there.
+abbrev pub no_way : WayState
+no_way = record { shape = opening_way 0 0 0; loads = 0 }
+
+-- The way of this number.
+abbrev pub state_at : List WayState → ℕ → WayState
+state_at ways at = slice_index_or ways at no_way
+
+-- Ways by what they hold, without their loads.
+abbrev pub shapes : List WayState → List WayShape
+shapes ways = map (λ w. w.shape) ways
+
+-- A way with an entry in its slot.
+abbrev pub with_swapped : Entry → WayState → WayState
+with_swapped x w = record w { shape = swapped w.shape x }
+
+-- The ways with an entry in its slot of one of them.
+abbrev pub put_at : List WayState → ℕ → Entry → List WayState
+put_at ways at x = slice_set ways at (with_swapped x (state_at ways at))
