@@ -7,10 +7,11 @@ use Rattle.xl_model.specs.Ways.{WayShape, occupant, swapped, opening_way}
 use Rattle.xl_model.specs.Placing.{way_at, put_in, next_way, Attempt, Stands, Fails, Displaced, by_occupant, attempt}
 use Rattle.xl_way.specs.Slots.{WayState}
 use Rattle.xl_cuckoo.specs.declared.moved.Moved.{Moved}
-use Rattle.xl_cuckoo.specs.State.{no_way, state_at, shapes, with_swapped, put_at}
+use Rattle.xl_cuckoo.specs.State.{no_way, state_at, shapes, loads_in, with_swapped, put_at}
+use Rattle.xl_cuckoo.proofs.LoopLemmas.{loads-set}
 use Rattle.xl_cuckoo.specs.Undo.{displaced, previous_way, in_hand, undone}
 
-map-length : {A B : Type 0} (f : A → B) (xs : List A) → length (map f xs) ≡ length xs
+pub map-length : {A B : Type 0} (f : A → B) (xs : List A) → length (map f xs) ≡ length xs
 map-length f [] = refl
 map-length f (x ∷ xs) = ap suc (map-length f xs)
 
@@ -27,6 +28,9 @@ shapes-put ws at x =
 
 pub put-length : (ws : List WayState) (at : ℕ) (x : Entry) → length (put_at ws at x) ≡ length ws
 put-length ws at x = length-set ws at (with_swapped x (state_at ws at))
+
+pub loads-put : (ws vs : List WayState) (at : ℕ) (x : Entry) → vs ≡ put_at ws at x → loads_in vs ≡ loads_in ws
+loads-put ws vs at x is = ap loads_in is ∙ loads-set ws at (with_swapped x (state_at ws at)) refl
 
 -- what stood in a slot, put back
 pub back-is : (ws : List WayState) (at : ℕ) (old new : WayState) (o : Option Entry) → at < length ws → old ≡ state_at ws at → new.loads ≡ old.loads

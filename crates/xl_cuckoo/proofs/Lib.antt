@@ -1,1 +1,4 @@
 mod KickLemmas
+mod LoopLemmas
+mod GrowLemmas
+mod StepLemmas

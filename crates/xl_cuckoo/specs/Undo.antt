@@ -11,6 +11,11 @@ use Rattle.xl_cuckoo.specs.State.{state_at, put_at}
 abbrev pub displaced : Moved → Displaced
 displaced m = record { key = m.key; way = m.way }
 
+-- What is told of a displaced key, if there is one.
+abbrev pub told : Option Moved → Option Displaced
+told None = None
+told (Some m) = Some (displaced m)
+
 -- The way before this one, round all ways.
 abbrev pub previous_way : ℕ → ℕ → ℕ
 previous_way count at = (at + (count - 1)) % count

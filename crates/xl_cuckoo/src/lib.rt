@@ -2,8 +2,15 @@
 #![tactic(auto)]
 
 mod attempt;
+mod changing;
+mod cuckoo;
+mod growing;
 mod growth;
 mod moved;
+mod placing;
+mod reading;
+mod settling;
 mod ways;
 
-pub use moved::Moved;
+pub use cuckoo::Cuckoo;
+pub use moved::{Moved, WayAtCap};
