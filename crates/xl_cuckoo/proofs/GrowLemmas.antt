@@ -1,9 +1,8 @@
 -- The way that is to grow.
-use Rattle.std.proofs.Common.{◌≡◌, refl, sym, ap, ◌∙◌, subst, ℕ, zero, suc, ◌+◌, ◌-◌, ◌<◌, ◌≤◌, Bool, true, false, cond, nat_le, nat_lt, List, [], ◌∷◌, length, drop, Option, None, Some, arith}
+use Rattle.std.proofs.Common.{◌≡◌, refl, sym, ap, ◌∙◌, ℕ, ◌+◌, ◌<◌, ◌≤◌, Bool, true, false, cond, nat_le, List, length, drop, Option, None, Some, arith}
 use Rattle.std.proofs.lemmas.List.{drop_all}
 use Rattle.std.proofs.lemmas.Bool.Decides.{nat_tests}
-use Rattle.xl_model.specs.Ways.{WayShape}
-use Rattle.xl_model.specs.Placing.{way_at, Candidate, candidate, smaller, to_grow}
+use Rattle.xl_model.specs.Placing.{Candidate, candidate, smaller, to_grow}
 use Rattle.xl_way.specs.Slots.{WayState}
 use Rattle.xl_cuckoo.specs.State.{state_at, shapes}
 use Rattle.xl_cuckoo.proofs.LoopLemmas.{from-here}

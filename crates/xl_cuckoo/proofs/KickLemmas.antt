@@ -1,15 +1,14 @@
 -- An entry put into a way and what stood there put back; an attempt step by step; and displacements undone.
-use Rattle.std.proofs.Common.{◌≡◌, refl, sym, ap, ◌∙◌, subst, ℕ, zero, suc, ◌+◌, ◌-◌, ◌%◌, ◌<◌, ◌≤◌, List, [], ◌∷◌, ◌++◌, length, map, get_or, set, Option, None, Some, arith}
+use Rattle.std.proofs.Common.{◌≡◌, refl, sym, ap, ◌∙◌, ℕ, zero, suc, ◌+◌, ◌<◌, ◌≤◌, List, [], ◌∷◌, ◌++◌, length, map, set, Option, None, Some, arith}
 use Rattle.std.specs.Prelude.{IfSome}
 use Rattle.std.proofs.lemmas.List.{set-get_or, get_or-set_same, length-set, set-set, map-set}
 use Rattle.xl_model.specs.declared.way.Entry.{Entry}
-use Rattle.xl_model.specs.Ways.{WayShape, occupant, swapped, opening_way}
+use Rattle.xl_model.specs.Ways.{WayShape, occupant, swapped}
 use Rattle.xl_model.specs.Placing.{way_at, put_in, next_way, Attempt, Stands, Fails, Displaced, by_occupant, attempt}
 use Rattle.xl_way.specs.Slots.{WayState}
-use Rattle.xl_cuckoo.specs.declared.moved.Moved.{Moved}
 use Rattle.xl_cuckoo.specs.State.{no_way, state_at, shapes, loads_in, with_swapped, put_at}
 use Rattle.xl_cuckoo.proofs.LoopLemmas.{loads-set}
-use Rattle.xl_cuckoo.specs.Undo.{displaced, previous_way, in_hand, undone}
+use Rattle.xl_cuckoo.specs.Undo.{previous_way, in_hand, undone}
 
 pub map-length : {A B : Type 0} (f : A → B) (xs : List A) → length (map f xs) ≡ length xs
 map-length f [] = refl

@@ -2,3 +2,5 @@ mod KickLemmas
 mod LoopLemmas
 mod GrowLemmas
 mod StepLemmas
+mod KeyLemmas
+mod TableLemmas

@@ -1,12 +1,12 @@
 -- One attempt and the growth that follows it, in the definition of placing.
-use Rattle.std.proofs.Common.{◌≡◌, refl, sym, ap, ◌∙◌, subst, ℕ, zero, suc, ◌+◌, ◌-◌, ◌<◌, ◌≤◌, ◌==◌, ◌⊎◌, inl, inr, Bool, true, false, cond, nat_le, nat_lt, List, [], ◌∷◌, length, set, map, Option, None, Some, arith}
+use Rattle.std.proofs.Common.{◌≡◌, refl, sym, ap, ◌∙◌, subst, ℕ, zero, suc, ◌+◌, ◌<◌, ◌==◌, ◌⊎◌, inl, inr, Bool, true, false, cond, nat_le, nat_lt, List, [], ◌∷◌, length, set, map, Option, None, Some, arith}
 use Rattle.std.proofs.lemmas.Bool.Decides.{nat_tests}
 use Rattle.std.proofs.lemmas.List.{map-set}
 use Rattle.std.proofs.Math.Seq.{map-set_same}
 use Rattle.xl_model.specs.declared.way.Entry.{Entry}
 use Rattle.xl_model.specs.declared.way.Moves.{Moves}
 use Rattle.xl_model.specs.Ways.{WayShape, slots_left, advanced, begun, opening_way}
-use Rattle.xl_model.specs.Placing.{way_at, Displaced, Attempt, Stands, Fails, attempt, start_way, Candidate, candidate, smaller, to_grow, growing_now, forced, forced_moves, Placing, Placed, AtCap, after_attempt, with_growth, growths_left, placing}
+use Rattle.xl_model.specs.Placing.{way_at, Displaced, Attempt, Stands, Fails, attempt, start_way, Candidate, candidate, smaller, to_grow, forced, forced_moves, Placed, AtCap, after_attempt, with_growth, growths_left, placing}
 use Rattle.xl_model_lemmas.specs.Sections.{entries_of}
 use Rattle.xl_model_lemmas.proofs.PlacingLemmas.{forced-entries}
 use Rattle.xl_way.specs.Slots.{WayState}
@@ -70,9 +70,9 @@ found-at i (w ∷ ws) c e =
         | false ↦ λ t g. absurd (cc)
       ] refl h
       | inr h ↦
-        let found = found-at (i + 1) ws c h in
-        let way : c.way ≡ i + 1 + found.0 = found.1 in
-        (suc found.0, omega arith, record { there = (let t = found.2.there in omega arith); room = found.2.room })
+          let found = found-at (i + 1) ws c h in
+          let way : c.way ≡ i + 1 + found.0 = found.1 in
+          (suc found.0, omega arith, record { there = (let t = found.2.there in omega arith); room = found.2.room })
     ]
 
 pub grows-at : (ws : List WayShape) (c : Candidate) → to_grow 0 ws ≡ Some c → GrowsAt ws c.way

@@ -199,7 +199,12 @@ impl<const D: usize> Cuckoo<D> {
             ≡ record self.old { ways = self.new.ways; moved = self.new.moved } }
         ensures width { length self.new.ways ≡ length self.old.ways }
     {
-        insert(&mut self.ways, self.rules, Entry { key, word }, &mut self.moved)
+        insert(
+            &mut self.ways,
+            self.rules,
+            Entry { key, word },
+            &mut self.moved,
+        )
     }
 
     /// Keeps another word for a key that is held.

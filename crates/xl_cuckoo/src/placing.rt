@@ -1,10 +1,10 @@
 //! Insertion: attempts and growths in turn, and what settles after them.
 
-ghost use Rattle.std.specs.Prelude.{◌≡◌, ◌<◌, ◌≤◌, ◌+◌, [], length, map, IfOk, IfErr, OnErr};
+ghost use Rattle.std.specs.Prelude.{◌≡◌, ◌<◌, ◌≤◌, ◌+◌, [], length, map, IfOk, IfErr, OnOk, OnErr, None};
 ghost use Rattle.xl_model.specs.Placing.{start_way, no_moves, Placed, AtCap, place as place_of, insertion};
 ghost use Rattle.xl_cuckoo.specs.State.{shapes, loads_in};
 ghost use Rattle.xl_cuckoo.specs.Undo.{displaced};
-ghost use Rattle.xl_cuckoo.specs.Table.{SameEntries};
+ghost use Rattle.xl_cuckoo.specs.Table.{value_of, SameEntries, AddsEntry, AreOnce};
 ghost use Rattle.xl_cuckoo.specs.Steps.{StepIs, with_kicks, with_undone};
 
 use crate::attempt::attempt;
@@ -127,7 +127,7 @@ fn place(
     }
 }
 
-/// Inserts an entry: places it, and settles the ways.
+/// Inserts an entry whose key isn't held: places it, and settles the ways.
 pub(crate) fn insert(
     ways: &mut [Way],
     rules: Rules,
@@ -138,12 +138,16 @@ pub(crate) fn insert(
     requires few { length ways.old ≤ 4 }
     requires rules { (rules.threshold ≤ 100) × (rules.kick_limit ≤ 64) }
     requires full { 0 < entry.word }
+    requires free { value_of entry.key (shapes ways.old) ≡ None }
+    requires once { AreOnce (shapes ways.old) }
     ensures ok { IfOk result (λ m. insertion rules.kick_limit rules.migrate rules.threshold
         (shapes ways.old) entry ≡ Placed (shapes ways.new) (map displaced moved.new.items) m) }
     ensures err { IfErr result (λ e. insertion rules.kick_limit rules.migrate rules.threshold
         (shapes ways.old) entry ≡ AtCap (shapes ways.new) e.moves) }
+    ensures added { OnOk result (AddsEntry entry (shapes ways.old) (shapes ways.new)) }
     ensures kept { OnErr result (SameEntries (shapes ways.old) (shapes ways.new)) }
     ensures none { OnErr result (map displaced moved.new.items ≡ []) }
+    ensures once { AreOnce (shapes ways.new) }
     ensures loads { loads_in ways.new ≡ loads_in ways.old }
 {
     match place(ways, rules.kick_limit as usize, entry, moved) {

@@ -1,9 +1,9 @@
-use Rattle.std.proofs.Common.{◌≡◌, refl, sym, ap, ◌∙◌, subst, ℕ, ◌+◌, ◌-◌, ◌<◌, true, false, List, [], ◌∷◌, ◌++◌, length, map, Option, None, Some, length-append, arith}
+use Rattle.std.proofs.Common.{◌≡◌, refl, sym, ap, ◌∙◌, subst, ℕ, ◌+◌, ◌-◌, ◌<◌, List, [], ◌∷◌, ◌++◌, length, map, Option, None, Some, length-append, arith}
 use Rattle.std.specs.Prelude.{IfSome}
 use Rattle.std.proofs.lemmas.List.{map-append}
 use Rattle.xl_model.specs.declared.way.Entry.{Entry}
 use Rattle.xl_model.specs.Ways.{occupant}
-use Rattle.xl_model.specs.Placing.{Displaced, Attempt, Stands, Fails, attempt, next_way}
+use Rattle.xl_model.specs.Placing.{Displaced, Fails, attempt, next_way}
 use Rattle.xl_way.specs.Slots.{WayState}
 use Rattle.xl_cuckoo.specs.declared.moved.Moved.{Moved}
 use Rattle.xl_cuckoo.specs.State.{state_at, put_at, shapes}

@@ -1,7 +1,6 @@
-use Rattle.std.proofs.Common.{◌≡◌, refl, sym, ap, ◌∙◌, ℕ, [], length, map, Option, List}
+use Rattle.std.proofs.Common.{◌≡◌, refl, sym, ap, ◌∙◌, ℕ, length, map, List}
 use Rattle.xl_model.specs.declared.way.Moves.{Moves}
-use Rattle.xl_model.specs.Placing.{Displaced, Stands, Fails, Placed, placing}
-use Rattle.xl_cuckoo.specs.declared.growing.Growable.{Growable}
+use Rattle.xl_model.specs.Placing.{Displaced, Stands, Fails, Placed}
 use Rattle.xl_cuckoo.specs.State.{state_at, shapes, loads_in, with_forced}
 use Rattle.xl_cuckoo.specs.Undo.{displaced}
 use Rattle.xl_cuckoo.specs.Growth.{candidate_of, candidate_in}

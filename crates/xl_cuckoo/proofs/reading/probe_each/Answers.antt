@@ -1,4 +1,4 @@
-use Rattle.std.proofs.Common.{◌≡◌, refl, sym, ap, ◌∙◌, ℕ, ◌+◌, ◌<◌, length, drop, set, Option, None, Some, List, arith}
+use Rattle.std.proofs.Common.{◌≡◌, refl, sym, ap, ◌∙◌, ℕ, ◌+◌, ◌<◌, length, drop, Option, None, Some, List, arith}
 use Rattle.std.specs.Option.{option_or}
 use Rattle.xl_way.specs.Slots.{WayState, word_of}
 use Rattle.xl_cuckoo.specs.State.{state_at, shapes, counted_way}
