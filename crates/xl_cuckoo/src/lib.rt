@@ -10,6 +10,8 @@ mod moved;
 mod placing;
 mod reading;
 mod settling;
+#[cfg(test)]
+mod tests;
 mod ways;
 
 pub use cuckoo::Cuckoo;
