@@ -10,7 +10,7 @@ use xl_model::Moves;
 use xl_way::Way;
 
 /// A way that may grow: its number, and the logarithm of its slots.
-#[derive(Clone, Copy, Debug, PartialEq, Eq)]
+#[derive(Clone, Copy)]
 pub(crate) struct Growable {
     pub(crate) way: usize,
     size: u8,

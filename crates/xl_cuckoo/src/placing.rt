@@ -17,7 +17,7 @@ use xl_way::Way;
 
 /// By what a table inserts: at most `kick_limit` displacements an attempt, at most `migrate` slots of
 /// a way that settle, and the threshold at which a way grows, in hundredths of its slots.
-#[derive(Clone, Copy, Debug, PartialEq, Eq)]
+#[derive(Clone, Copy)]
 pub(crate) struct Rules {
     pub(crate) threshold: u8,
     pub(crate) kick_limit: u8,
@@ -51,12 +51,12 @@ fn count_kicks(moves: Moves, kicks: u64) -> Moves
 }
 
 /// The kicks of a failed attempt, all of which are undone, with what was done before.
-fn count_undone(moves: Moves, kicks: u64) -> Moves
-    ensures { result ≡ with_undone kicks moves }
+fn count_undone(moves: Moves, undone: u64) -> Moves
+    ensures { result ≡ with_undone undone moves }
 {
     Moves {
-        kicks: moves.kicks.wrapping_add(kicks),
-        undone: moves.undone.wrapping_add(kicks),
+        kicks: moves.kicks.wrapping_add(undone),
+        undone: moves.undone.wrapping_add(undone),
         ..moves
     }
 }
