@@ -1,6 +1,6 @@
-mod KickLemmas
-mod LoopLemmas
-mod GrowLemmas
-mod StepLemmas
-mod KeyLemmas
-mod TableLemmas
+pub mod KickLemmas
+pub mod LoopLemmas
+pub mod GrowLemmas
+pub mod StepLemmas
+pub mod KeyLemmas
+pub mod TableLemmas
