@@ -1,0 +1,116 @@
+-- An entry put into a way and what stood there put back; an attempt step by step; and displacements undone.
+use Rattle.std.proofs.Common.{◌≡◌, refl, sym, ap, ◌∙◌, ℕ, zero, suc, ◌+◌, ◌<◌, ◌≤◌, List, [], ◌∷◌, ◌++◌, length, map, set, Option, None, Some, arith}
+use Rattle.std.specs.Prelude.{IfSome}
+use Rattle.std.proofs.lemmas.List.{set-get_or, get_or-set_same, length-set, set-set, map-set}
+use Rattle.xl_model.specs.declared.way.Entry.{Entry}
+use Rattle.xl_model.specs.Ways.{WayShape, occupant, swapped}
+use Rattle.xl_model.specs.Placing.{way_at, put_in, next_way, Attempt, Stands, Fails, Displaced, by_occupant, attempt}
+use Rattle.xl_way.specs.Slots.{WayState}
+use Rattle.xl_cuckoo.specs.State.{no_way, state_at, shapes, loads_in, with_swapped, put_at}
+use Rattle.xl_cuckoo.proofs.LoopLemmas.{loads-set}
+use Rattle.xl_cuckoo.specs.Undo.{previous_way, in_hand, undone}
+
+pub map-length : {A B : Type 0} (f : A → B) (xs : List A) → length (map f xs) ≡ length xs
+map-length f [] = refl
+map-length f (x ∷ xs) = ap suc (map-length f xs)
+
+-- by shapes
+pub shape-at : (ws : List WayState) (at : ℕ) → way_at (shapes ws) at ≡ (state_at ws at).shape
+shape-at [] at = refl
+shape-at (w ∷ ws) zero = refl
+shape-at (w ∷ ws) (suc at) = shape-at ws at
+
+pub shapes-put : (ws : List WayState) (at : ℕ) (x : Entry) → shapes (put_at ws at x) ≡ put_in (shapes ws) at x
+shapes-put ws at x =
+    map-set (λ (w : WayState). w.shape) ws at (with_swapped x (state_at ws at))
+    ∙ ap (λ (w : WayShape). set (shapes ws) at (swapped w x)) (sym (shape-at ws at))
+
+pub put-length : (ws : List WayState) (at : ℕ) (x : Entry) → length (put_at ws at x) ≡ length ws
+put-length ws at x = length-set ws at (with_swapped x (state_at ws at))
+
+pub loads-put : (ws vs : List WayState) (at : ℕ) (x : Entry) → vs ≡ put_at ws at x → loads_in vs ≡ loads_in ws
+loads-put ws vs at x is = ap loads_in is ∙ loads-set ws at (with_swapped x (state_at ws at)) refl
+
+-- what stood in a slot, put back
+pub back-is : (ws : List WayState) (at : ℕ) (old new : WayState) (o : Option Entry) → at < length ws → old ≡ state_at ws at → new.loads ≡ old.loads
+    → IfSome o (λ e. old.shape ≡ swapped new.shape e) → IfSome o (λ e. put_at (set ws at new) at e ≡ ws)
+back-is ws at old new None less is loads h = tt
+back-is ws at old new (Some e) less is loads h =
+    let here : state_at (set ws at new) at ≡ new = get_or-set_same ws at new no_way less in
+    let same : with_swapped e new ≡ old =
+    ap (λ (s : WayShape). record { shape = s; loads = new.loads }) (sym h) ∙ ap (λ (n : ℕ). record { shape = old.shape; loads = n }) loads in
+    ap (λ (w : WayState). set (set ws at new) at (with_swapped e w)) here
+    ∙ set-set ws at new (with_swapped e new)
+    ∙ ap (λ (w : WayState). set ws at w) (same ∙ is)
+    ∙ set-get_or ws at no_way
+
+-- one displacement undone
+pub undone-step : (n : ℕ) (ws : List WayState) (at : ℕ) (hand : Entry) → undone (n + 1) ws at hand
+    ≡ undone n (put_at ws (previous_way (length ws) at) hand) (previous_way (length ws) at) (in_hand (occupant (state_at ws (previous_way (length ws) at)).shape hand.key) hand)
+unfolding undone
+undone-step n ws at hand = let e : n + 1 ≡ suc n = omega arith in ap (λ (m : ℕ). undone m ws at hand) e
+
+-- a displacement more, and one more to undo: the way before the next is this one
+round : (count at : ℕ) → count ≤ 4 → at < count → previous_way count (next_way count at) ≡ at
+round zero at few less = absurd (omega arith)
+round (suc zero) at few less = omega arith
+round (suc (suc zero)) at few less = omega arith
+round (suc (suc (suc zero))) at few less = omega arith
+round (suc (suc (suc (suc zero)))) at few less = omega arith
+round (suc (suc (suc (suc (suc n))))) at few less = absurd (omega arith)
+
+-- a displacement, and then as many undone and one more, is what was to be undone before
+pub taken-back : (n : ℕ) (ws vs : List WayState) (at : ℕ) (hand e : Entry) → length ws ≤ 4 → at < length ws → vs ≡ put_at ws at hand → put_at vs at e ≡ ws
+    → occupant (state_at vs at).shape e.key ≡ Some hand → undone (n + 1) vs (next_way (length ws) at) e ≡ undone n ws at hand
+taken-back n ws vs at hand e few less is back again =
+    let l : length vs ≡ length ws = ap (λ (us : List WayState). length us) is ∙ put-length ws at hand in
+    let r : previous_way (length vs) (next_way (length ws) at) ≡ at = ap (λ (m : ℕ). previous_way m (next_way (length ws) at)) l ∙ round (length ws) at few less in
+    undone-step n vs (next_way (length ws) at) e
+    ∙ ap (λ (a : ℕ). undone n (put_at vs a e) a (in_hand (occupant (state_at vs a).shape e.key) e)) r
+    ∙ ap (λ (us : List WayState). undone n us at (in_hand (occupant (state_at vs at).shape e.key) e)) back
+    ∙ ap (λ (o : Option Entry). undone n ws at (in_hand o e)) again
+
+-- an attempt, step by step
+pub attempt-step : (left : ℕ) (ws vs : List WayState) (at : ℕ) (hand e : Entry) (moved : List Displaced) → occupant (state_at ws at).shape hand.key ≡ Some e → vs ≡ put_at ws at hand
+    → attempt (left + 1) (shapes ws) at hand moved
+    ≡ attempt left (shapes vs) (next_way (length ws) at) e (moved ++ record { key = e.key; way = next_way (length ws) at } ∷ [])
+unfolding attempt
+attempt-step left ws vs at hand e moved taken is =
+    let l : left + 1 ≡ suc left = omega arith in
+    let o : occupant (way_at (shapes ws) at) hand.key ≡ Some e = ap (λ (w : WayShape). occupant w hand.key) (shape-at ws at) ∙ taken in
+    let n : length (shapes ws) ≡ length ws = map-length (λ (w : WayState). w.shape) ws in
+    let s : put_in (shapes ws) at hand ≡ shapes vs = sym (shapes-put ws at hand) ∙ ap shapes (sym is) in
+    let on : Entry → Attempt = λ d. attempt left (put_in (shapes ws) at hand) (next_way (length (shapes ws)) at) d (moved ++ record { key = d.key; way = next_way (length (shapes ws)) at } ∷ []) in
+    ap (λ (m : ℕ). attempt m (shapes ws) at hand moved) l
+    ∙ ap (λ (p : Option Entry). by_occupant p (Stands (put_in (shapes ws) at hand) moved) on) o
+    ∙ ap (λ (m : ℕ). attempt left (put_in (shapes ws) at hand) (next_way m at) e (moved ++ record { key = e.key; way = next_way m at } ∷ [])) n
+    ∙ ap (λ (us : List WayShape). attempt left us (next_way (length ws) at) e (moved ++ record { key = e.key; way = next_way (length ws) at } ∷ [])) s
+
+pub attempt-free : (left : ℕ) (ws vs : List WayState) (at : ℕ) (hand : Entry) (moved : List Displaced) → occupant (state_at ws at).shape hand.key ≡ None → vs ≡ put_at ws at hand
+    → attempt left (shapes ws) at hand moved ≡ Stands (shapes vs) moved
+unfolding attempt
+attempt-free left ws vs at hand moved free is = go left
+  where
+    o : occupant (way_at (shapes ws) at) hand.key ≡ None
+    o = ap (λ (w : WayShape). occupant w hand.key) (shape-at ws at) ∙ free
+
+    s : put_in (shapes ws) at hand ≡ shapes vs
+    s = sym (shapes-put ws at hand) ∙ ap shapes (sym is)
+
+    go : (n : ℕ) → attempt n (shapes ws) at hand moved ≡ Stands (shapes vs) moved
+    go zero = ap (λ (p : Option Entry). by_occupant p (Stands (put_in (shapes ws) at hand) moved) (λ e. Fails)) o ∙ ap (λ (us : List WayShape). Stands us moved) s
+    go (suc n) =
+        ap (λ (p : Option Entry). by_occupant p (Stands (put_in (shapes ws) at hand) moved)
+        (λ d. attempt n (put_in (shapes ws) at hand) (next_way (length (shapes ws)) at) d (moved ++ record { key = d.key; way = next_way (length (shapes ws)) at } ∷ []))) o
+        ∙ ap (λ (us : List WayShape). Stands us moved) s
+
+pub attempt-fails : (ws : List WayState) (at : ℕ) (hand e : Entry) (moved : List Displaced) → occupant (state_at ws at).shape hand.key ≡ Some e → attempt 0 (shapes ws) at hand moved ≡ Fails
+unfolding attempt
+attempt-fails ws at hand e moved taken =
+    ap (λ (p : Option Entry). by_occupant p (Stands (put_in (shapes ws) at hand) moved) (λ d. Fails))
+    (ap (λ (w : WayShape). occupant w hand.key) (shape-at ws at) ∙ taken)
+
+-- what is in hand is an entry
+pub hand-full : (o : Option Entry) (hand : Entry) → IfSome o (λ e. 0 < e.word) → 0 < hand.word → 0 < (in_hand o hand).word
+hand-full None hand h full = full
+hand-full (Some e) hand h full = h

@@ -1,0 +1,6 @@
+pub mod KickLemmas
+pub mod LoopLemmas
+pub mod GrowLemmas
+pub mod StepLemmas
+pub mod KeyLemmas
+pub mod TableLemmas

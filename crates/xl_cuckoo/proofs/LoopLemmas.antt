@@ -1,0 +1,149 @@
+-- Ways read and written one after another.
+use Rattle.std.proofs.Common.{◌≡◌, refl, sym, ap, ◌∙◌, ℕ, zero, suc, ◌+◌, ◌^◌, ◌<◌, ◌≤◌, cond, List, [], ◌∷◌, ◌++◌, length, map, get_or, set, take, drop, Option, None, Some, arith}
+use Rattle.std.specs.Prelude.{find, is_some}
+use Rattle.std.specs.Option.{option_or}
+use Rattle.std.proofs.Math.Seq.{drop-cons, map-set_same}
+use Rattle.std.proofs.lemmas.List.{drop_all, get_or_default}
+use Rattle.std.proofs.lemmas.List.Edits.{map_over_more}
+use Rattle.std.proofs.lemmas.List.Folds.{find-append}
+use Rattle.xl_model.specs.declared.way.Entry.{Entry}
+use Rattle.xl_model.specs.Base.{plus}
+use Rattle.xl_model.specs.Ways.{WayShape, has_key}
+use Rattle.xl_model.specs.Placing.{is_held, holder_from, total}
+use Rattle.xl_model_lemmas.specs.Sections.{entries_in}
+use Rattle.xl_model_lemmas.proofs.SameLemmas.{any-find}
+use Rattle.xl_way.specs.Slots.{WayState, word_in, word_of}
+use Rattle.xl_cuckoo.specs.State.{no_way, state_at, shapes, loads_in, counted_way, changed_by}
+use Rattle.xl_cuckoo.specs.Table.{value_of}
+
+-- the ways from one on
+pub from-here : (ws : List WayState) (i : ℕ) → i < length ws → drop i ws ≡ state_at ws i ∷ drop (i + 1) ws
+from-here ws i l = let e : suc i ≡ i + 1 = omega arith in drop-cons ws i no_way l ∙ ap (λ (n : ℕ). state_at ws i ∷ drop n ws) e
+
+pub read-here : (ws : List WayState) (i : ℕ) (w : WayState) → i < length ws → w ≡ get_or ws i w → state_at ws i ≡ w
+read-here ws i w l e = get_or_default ws i no_way w l ∙ sym e
+
+-- the word of a key
+word-or : (o p : Option Entry) → word_in (option_or o p) ≡ option_or (word_in o) (word_in p)
+word-or None p = refl
+word-or (Some e) p = refl
+
+pub value-first : (key : ℕ) (w : WayShape) (ws : List WayShape) → value_of key (w ∷ ws) ≡ option_or (word_of key w.entries) (value_of key ws)
+unfolding word_of
+value-first key w ws = ap word_in (find-append (has_key key) w.entries (entries_in ws)) ∙ word-or (find (has_key key) w.entries) (find (has_key key) (entries_in ws))
+
+pub value-next : (key : ℕ) (ws : List WayState) (i : ℕ) → i < length ws
+    → value_of key (shapes (drop i ws)) ≡ option_or (word_of key (state_at ws i).shape.entries) (value_of key (shapes (drop (i + 1) ws)))
+value-next key ws i l = ap (λ (us : List WayState). value_of key (shapes us)) (from-here ws i l) ∙ value-first key (state_at ws i).shape (shapes (drop (i + 1) ws))
+
+pub value-here : (key : ℕ) (ws : List WayState) (i : ℕ) (w : WayState) (o : Option ℕ) → i < length ws → w ≡ get_or ws i w → word_of key w.shape.entries ≡ o
+    → value_of key (shapes (drop i ws)) ≡ option_or o (value_of key (shapes (drop (i + 1) ws)))
+value-here key ws i w o l e h =
+    value-next key ws i l
+    ∙ ap (λ (p : Option ℕ). option_or p (value_of key (shapes (drop (i + 1) ws)))) (ap (λ (v : WayState). word_of key v.shape.entries) (read-here ws i w l e) ∙ h)
+
+pub value-end : (key : ℕ) (ws : List WayState) (i : ℕ) → length ws ≤ i → value_of key (shapes (drop i ws)) ≡ None
+unfolding word_of
+value-end key ws i l = ap (λ (us : List WayState). value_of key (shapes us)) (drop_all i ws l)
+
+-- the holder of a key
+pub held-by : (w : WayShape) (key : ℕ) → is_held w key ≡ is_some (word_of key w.entries)
+unfolding word_of
+held-by w key = any-find (has_key key) w.entries ∙ go (find (has_key key) w.entries)
+  where
+    go : (o : Option Entry) → is_some o ≡ is_some (word_in o)
+    go None = refl
+    go (Some e) = refl
+
+pub holder-here : (key : ℕ) (ws : List WayState) (i : ℕ) (w : WayState) → i < length ws → w ≡ get_or ws i w
+    → holder_from i (shapes (drop i ws)) key ≡ cond (is_some (word_of key w.shape.entries)) (Some i) (holder_from (i + 1) (shapes (drop (i + 1) ws)) key)
+holder-here key ws i w l e =
+    ap (λ (us : List WayState). holder_from i (shapes us) key) (from-here ws i l)
+    ∙ ap (λ b. cond b (Some i) (holder_from (i + 1) (shapes (drop (i + 1) ws)) key))
+    (held-by (state_at ws i).shape key ∙ ap (λ (v : WayState). is_some (word_of key v.shape.entries)) (read-here ws i w l e))
+
+pub holder-end : (key : ℕ) (ws : List WayState) (i : ℕ) → length ws ≤ i → holder_from i (shapes (drop i ws)) key ≡ None
+holder-end key ws i l = ap (λ (us : List WayState). holder_from i (shapes us) key) (drop_all i ws l)
+
+-- loads
+pub loads-small : (ws : List WayState) → loads_in ws < 2 ^ 64
+loads-small [] = omega arith
+loads-small (w ∷ ws) = omega arith
+
+pub loads-next : (sum : ℕ) (ws : List WayState) (i : ℕ) (w : WayState) → i < length ws → w ≡ get_or ws i w
+    → plus sum (loads_in (drop i ws)) ≡ plus (plus sum w.loads) (loads_in (drop (i + 1) ws))
+loads-next sum ws i w l e =
+    let a : loads_in (drop i ws) ≡ plus (state_at ws i).loads (loads_in (drop (i + 1) ws)) = ap loads_in (from-here ws i l) in
+    let b : (state_at ws i).loads ≡ w.loads = ap (λ (v : WayState). v.loads) (read-here ws i w l e) in
+    omega arith
+
+pub loads-end : (sum : ℕ) (ws : List WayState) (i : ℕ) → length ws ≤ i → sum < 2 ^ 64 → plus sum (loads_in (drop i ws)) ≡ sum
+loads-end sum ws i l small = let a : loads_in (drop i ws) ≡ 0 = ap loads_in (drop_all i ws l) in omega arith
+
+pub loads-counted : (ws : List WayState) → loads_in (map counted_way ws) ≡ plus (loads_in ws) (length ws)
+loads-counted [] = refl
+loads-counted (w ∷ ws) = let e : loads_in (map counted_way ws) ≡ plus (loads_in ws) (length ws) = loads-counted ws in omega arith
+
+-- one way after another is written
+pub written-more : (f : WayState → WayState) (ws vs : List WayState) (i : ℕ) → i < length ws → vs ≡ map f (take i ws) ++ drop i ws → i < length vs
+    → set vs i (f (state_at vs i)) ≡ map f (take (i + 1) ws) ++ drop (i + 1) ws
+written-more f ws vs i l e m = map_over_more f ws vs i (state_at vs i) l e (get_or_default vs i no_way (state_at vs i) m)
+
+pub written-end : (f : WayState → WayState) (ws vs : List WayState) (i : ℕ) → length ws ≤ i → vs ≡ map f (take i ws) ++ drop i ws → vs ≡ map f ws
+written-end f ws vs i l e = e ∙ ap (λ us. map f (take i ws) ++ us) (drop_all i ws l) ∙ append-nil (map f (take i ws)) ∙ ap (map f) (take-all i ws l)
+  where
+    append-nil : (us : List WayState) → us ++ [] ≡ us
+    append-nil [] = refl
+    append-nil (u ∷ us) = ap (λ vs. u ∷ vs) (append-nil us)
+
+    take-all : (n : ℕ) (us : List WayState) → length us ≤ n → take n us ≡ us
+    take-all zero [] h = refl
+    take-all zero (u ∷ us) h = absurd (omega arith)
+    take-all (suc n) [] h = refl
+    take-all (suc n) (u ∷ us) h = ap (λ vs. u ∷ vs) (take-all n us (omega arith))
+
+-- what stands at the next place is still as it was
+pub state-same : (f : WayState → WayState) (ws vs : List WayState) (i : ℕ) → i < length ws → vs ≡ map f (take i ws) ++ drop i ws → state_at vs i ≡ state_at ws i
+state-same f ws vs i l e = ap (λ us. state_at us i) e ∙ go ws i l
+  where
+    go : (us : List WayState) (n : ℕ) → n < length us → state_at (map f (take n us) ++ drop n us) n ≡ state_at us n
+    go [] n h = absurd (omega arith)
+    go (u ∷ us) zero h = refl
+    go (u ∷ us) (suc n) h = go us n (omega arith)
+
+-- a sum over the ways
+pub total-next : (f : WayShape → ℕ) (sum : ℕ) (ws : List WayState) (i : ℕ) → i < length ws
+    → plus sum (total f (shapes (drop i ws))) ≡ plus (plus sum (f (state_at ws i).shape)) (total f (shapes (drop (i + 1) ws)))
+total-next f sum ws i l =
+    let a : total f (shapes (drop i ws)) ≡ f (state_at ws i).shape + total f (shapes (drop (i + 1) ws)) = ap (λ (us : List WayState). total f (shapes us)) (from-here ws i l) in
+    omega arith
+
+pub total-end : (f : WayShape → ℕ) (sum : ℕ) (ws : List WayState) (i : ℕ) → length ws ≤ i → sum < 2 ^ 64 → plus sum (total f (shapes (drop i ws))) ≡ sum
+total-end f sum ws i l small = let a : total f (shapes (drop i ws)) ≡ 0 = ap (λ (us : List WayState). total f (shapes us)) (drop_all i ws l) in omega arith
+
+-- changes that leave the loads
+pub shapes-map : (f : WayShape → WayShape) (ws : List WayState) → shapes (map (changed_by f) ws) ≡ map f (shapes ws)
+shapes-map f [] = refl
+shapes-map f (w ∷ ws) = ap (λ us. f w.shape ∷ us) (shapes-map f ws)
+
+pub loads-map : (f : WayShape → WayShape) (ws : List WayState) → loads_in (map (changed_by f) ws) ≡ loads_in ws
+loads-map f [] = refl
+loads-map f (w ∷ ws) = ap (plus w.loads) (loads-map f ws)
+
+pub shapes-counted : (ws : List WayState) → shapes (map counted_way ws) ≡ shapes ws
+shapes-counted [] = refl
+shapes-counted (w ∷ ws) = ap (λ us. w.shape ∷ us) (shapes-counted ws)
+
+-- one way is written
+pub loads-set : (ws : List WayState) (i : ℕ) (v : WayState) → v.loads ≡ (state_at ws i).loads → loads_in (set ws i v) ≡ loads_in ws
+loads-set [] i v e = refl
+loads-set (w ∷ ws) zero v e = ap (λ n. plus n (loads_in ws)) e
+loads-set (w ∷ ws) (suc i) v e = ap (plus w.loads) (loads-set ws i v e)
+
+pub loads-one : (ws : List WayState) (i : ℕ) → i < length ws → loads_in (set ws i (counted_way (state_at ws i))) ≡ plus (loads_in ws) 1
+loads-one [] i l = absurd (omega arith)
+loads-one (w ∷ ws) zero l = omega arith
+loads-one (w ∷ ws) (suc i) l = let e : loads_in (set ws i (counted_way (state_at ws i))) ≡ plus (loads_in ws) 1 = loads-one ws i (omega arith) in omega arith
+
+pub shapes-one : (ws : List WayState) (i : ℕ) → shapes (set ws i (counted_way (state_at ws i))) ≡ shapes ws
+shapes-one ws i = map-set_same (λ (w : WayState). w.shape) ws i (counted_way (state_at ws i)) no_way refl

@@ -1,0 +1,84 @@
+-- The table by its fields, after its ways were lent out and changed.
+use Rattle.std.proofs.Common.{◌≡◌, refl, sym, ap, ◌∙◌, ℕ, zero, suc, ◌+◌, ◌<◌, ◌≤◌, List, [], ◌∷◌, ◌++◌, length, set, map, Vec, arith}
+use Rattle.std.specs.Vec.{with_items}
+use Rattle.std.proofs.lemmas.List.{with_items_is, length-map}
+use Rattle.xl_model.specs.Base.{plus}
+use Rattle.xl_model.specs.Ways.{WayShape, has_key, opening_way}
+use Rattle.xl_model.specs.Placing.{Displaced}
+use Rattle.xl_model.specs.Shapes.{opening_ways}
+use Rattle.xl_model_lemmas.specs.Sections.{tally, entries_in}
+use Rattle.xl_way.specs.Slots.{WayState}
+use Rattle.xl_cuckoo.specs.State.{state_at, shapes, loads_in, counted_way, changed_by}
+use Rattle.xl_cuckoo.specs.Table.{CuckooState, loaded, AreOnce, IsTable}
+use Rattle.xl_cuckoo.proofs.LoopLemmas.{shapes-map, loads-map, shapes-counted, loads-counted, shapes-one, loads-one}
+
+-- the ways that come back
+pub items-back : {X Z : Type 0} (v : Vec X Z) (back now : List X) → back ≡ now → length now ≡ length v.items → (with_items v back).items ≡ now
+items-back v back now e same = with_items_is v back (ap length e ∙ same ∙ sym v.ok.0) ∙ e
+
+-- what a table is, by its fields
+abbrev pub state_of : ℕ → ℕ → ℕ → List WayState → List Displaced → CuckooState
+state_of threshold kick_limit migrate ws moved =
+    record { threshold = threshold; kick_limit = kick_limit; migrate = migrate; ways = shapes ws; moved = moved; loads = loads_in ws }
+
+pub changed-state : (t k m : ℕ) (ws : List WayState) (moved : List Displaced) (f : WayShape → WayShape)
+    → state_of t k m (map (changed_by f) ws) moved ≡ record (state_of t k m ws moved) { ways = map f (shapes ws) }
+changed-state t k m ws moved f =
+    ap (λ (us : List WayShape). record (state_of t k m (map (changed_by f) ws) moved) { ways = us }) (shapes-map f ws)
+    ∙ ap (λ n. record (state_of t k m ws moved) { ways = map f (shapes ws); loads = n }) (loads-map f ws)
+
+pub counted-state : (t k m : ℕ) (ws : List WayState) (moved : List Displaced) → state_of t k m (map counted_way ws) moved ≡ loaded (length (shapes ws)) (state_of t k m ws moved)
+counted-state t k m ws moved =
+    ap (λ (us : List WayShape). record (state_of t k m (map counted_way ws) moved) { ways = us }) (shapes-counted ws)
+    ∙ ap (λ n. record (state_of t k m ws moved) { loads = n }) (loads-counted ws ∙ ap (plus (loads_in ws)) (sym (length-map ws (λ (w : WayState). w.shape))))
+
+pub one-state : (t k m : ℕ) (ws : List WayState) (moved : List Displaced) (at : ℕ) → at < length ws
+    → state_of t k m (set ws at (counted_way (state_at ws at))) moved ≡ loaded 1 (state_of t k m ws moved)
+one-state t k m ws moved at l =
+    ap (λ (us : List WayShape). record (state_of t k m (set ws at (counted_way (state_at ws at))) moved) { ways = us }) (shapes-one ws at)
+    ∙ ap (λ n. record (state_of t k m ws moved) { loads = n }) (loads-one ws at l)
+
+-- what a table keeps
+pub table-with : (d t k : ℕ) (ws vs : List WayShape) → IsTable d t k ws → length vs ≡ length ws → AreOnce vs → IsTable d t k vs
+table-with d t k ws vs is same once = record {
+  width = same ∙ is.width;
+  some = is.some;
+  few = is.few;
+  threshold_low = is.threshold_low;
+  limit_low = is.limit_low;
+  once = once;
+}
+
+-- a table that is opened
+pub opening-more : (start most number n : ℕ) → opening_ways start most number (n + 1) ≡ opening_ways start most number n ++ opening_way start most (number + n) ∷ []
+opening-more start most number n = let e : n + 1 ≡ suc n = omega arith in ap (opening_ways start most number) e ∙ go number n
+  where
+    go : (k n : ℕ) → opening_ways start most k (suc n) ≡ opening_ways start most k n ++ opening_way start most (k + n) ∷ []
+    go k zero = let e : k ≡ k + 0 = omega arith in ap (λ i. opening_way start most i ∷ []) e
+    go k (suc n) =
+        let e : k + 1 + n ≡ k + suc n = omega arith in
+        ap (λ us. opening_way start most k ∷ us) (go (k + 1) n)
+        ∙ ap (λ i. opening_way start most k ∷ (opening_ways start most (k + 1) n ++ opening_way start most i ∷ [])) e
+
+pub loads-append : (ws : List WayState) (w : WayState) → loads_in (ws ++ w ∷ []) ≡ plus (loads_in ws) w.loads
+loads-append [] w = omega arith
+loads-append (v ∷ ws) w = let on : loads_in (ws ++ w ∷ []) ≡ plus (loads_in ws) w.loads = loads-append ws w in omega arith
+
+opening-entries : (start most number n : ℕ) → entries_in (opening_ways start most number n) ≡ []
+unfolding opening_way
+opening-entries start most number zero = refl
+opening-entries start most number (suc n) = opening-entries start most (number + 1) n
+
+opening-length : (start most number n : ℕ) → length (opening_ways start most number n) ≡ n
+opening-length start most number zero = refl
+opening-length start most number (suc n) = ap suc (opening-length start most (number + 1) n)
+
+pub opening-table : (d t k start most : ℕ) (ws : List WayShape) → ws ≡ opening_ways start most 0 d → 2 ≤ d → d ≤ 4 → t ≤ 100 → k ≤ 64 → IsTable d t k ws
+opening-table d t k start most ws is some few low limit = record {
+  width = ap length is ∙ opening-length start most 0 d;
+  some = some;
+  few = few;
+  threshold_low = low;
+  limit_low = limit;
+  once = λ key. let e : tally (has_key key) (entries_in ws) ≡ 0 = ap (λ us. tally (has_key key) (entries_in us)) is ∙ ap (tally (has_key key)) (opening-entries start most 0 d) in omega arith;
+}

@@ -1,0 +1,15 @@
+use Rattle.std.proofs.Common.{◌≡◌, ◌-◌, ◌<◌, [], length, map}
+use Rattle.xl_model.specs.Placing.{attempt}
+use Rattle.xl_cuckoo.specs.State.{shapes, loads_in}
+use Rattle.xl_cuckoo.specs.Undo.{displaced, undone}
+use Rattle.xl_cuckoo.proofs.attempt.attempt.Given as goal
+
+abbrev pub invariant-kicks : goal.invariant-kicks
+invariant-kicks l = record {
+  rest : attempt (l.limit - l._i) (shapes l.ways) l.at l.hand (map displaced l.moved.items) ≡ attempt l.limit (shapes l.initial.ways) l.start l.fn.entry [];
+  back : undone l._i l.ways l.at l.hand ≡ l.initial.ways;
+  inside : l.at < length l.ways;
+  full : 0 < l.hand.word;
+  told : length l.moved.items ≡ l._i;
+  loads : loads_in l.ways ≡ loads_in l.initial.ways;
+}

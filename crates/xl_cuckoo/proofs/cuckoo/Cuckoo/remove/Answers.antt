@@ -1,0 +1,34 @@
+use Rattle.std.proofs.Common.{◌≡◌, sym, ap, ◌∙◌, subst, List, map}
+use Rattle.std.proofs.lemmas.List.{length-map}
+use Rattle.std.specs.Vec.{with_items}
+use Rattle.xl_model.specs.Ways.{WayShape, without_entry}
+use Rattle.xl_way.specs.Slots.{WayState}
+use Rattle.xl_cuckoo.specs.State.{shapes, changed_by}
+use Rattle.xl_cuckoo.specs.Undo.{displaced}
+use Rattle.xl_cuckoo.specs.Table.{CuckooState, IsTable}
+use Rattle.xl_cuckoo.proofs.LoopLemmas.{shapes-map}
+use Rattle.xl_cuckoo.proofs.KeyLemmas.{once-cleared}
+use Rattle.xl_cuckoo.proofs.TableLemmas.{items-back, state_of, changed-state, table-with}
+use Rattle.xl_cuckoo.proofs.cuckoo.Cuckoo.remove.Goals as goal
+
+pub invariant_of-self : goal.invariant_of-self
+invariant_of-self g c =
+    let s = c.self.inside in
+    let f : WayShape → WayShape = without_entry c.args.key in
+    let ws : List WayState = s.ways.items in
+    let items : (with_items s.ways c.remove.new.ways).items ≡ map (changed_by f) ws =
+    items-back s.ways c.remove.new.ways (map (changed_by f) ws) (c.remove.ensures ∙ ap (map (changed_by f)) c.deref_mut.ensures.value) (length-map ws (changed_by f)) in
+    let I : List WayShape → Type 0 = λ vs. IsTable g.row.D s.rules.threshold s.rules.kick_limit vs in
+    subst I (sym (ap shapes items ∙ shapes-map f ws))
+    (table-with g.row.D s.rules.threshold s.rules.kick_limit (shapes ws) (map f (shapes ws)) c.self.invariant (length-map (shapes ws) f) (once-cleared c.args.key (shapes ws) c.self.invariant.once))
+
+pub returns : goal.returns
+returns g c =
+    let s = c.self.inside in
+    let f : WayShape → WayShape = without_entry c.args.key in
+    let ws : List WayState = s.ways.items in
+    let items : (with_items s.ways c.remove.new.ways).items ≡ map (changed_by f) ws =
+    items-back s.ways c.remove.new.ways (map (changed_by f) ws) (c.remove.ensures ∙ ap (map (changed_by f)) c.deref_mut.ensures.value) (length-map ws (changed_by f)) in
+    ap (λ (vs : List WayState). state_of s.rules.threshold s.rules.kick_limit s.rules.migrate vs (map displaced s.moved.items)) items
+    ∙ changed-state s.rules.threshold s.rules.kick_limit s.rules.migrate ws (map displaced s.moved.items) f
+    ∙ ap (λ (t : CuckooState). record t { ways = map f t.ways }) c.self.view_is

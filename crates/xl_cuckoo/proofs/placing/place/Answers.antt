@@ -1,0 +1,7 @@
+use Rattle.std.proofs.Common.{refl}
+use Rattle.xl_model.specs.Placing.{place}
+use Rattle.xl_cuckoo.proofs.placing.place.Goals as goal
+
+pub attempts-init : goal.attempts-init
+unfolding place
+attempts-init c = record { rest = refl; kept = refl; loads = refl }

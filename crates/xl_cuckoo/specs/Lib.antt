@@ -1,0 +1,5 @@
+pub mod State
+pub mod Undo
+pub mod Table
+pub mod Growth
+pub mod Steps

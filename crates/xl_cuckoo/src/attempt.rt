@@ -1,0 +1,82 @@
+//! An attempt to place an entry, with its displacements, and their undoing.
+
+ghost use Rattle.std.specs.Prelude.{◌≡◌, ◌<◌, ◌≤◌, true, false, [], length, map, Option};
+ghost use Rattle.xl_model.specs.Placing.{attempt as attempt_by, Stands, Fails};
+ghost use Rattle.xl_cuckoo.specs.State.{shapes, loads_in};
+ghost use Rattle.xl_cuckoo.specs.Undo.{displaced, undone, in_hand};
+
+use crate::moved::Moved;
+use crate::ways::{is_free_at, next, previous, swap_at};
+use arrayvec::ArrayVec;
+use xl_model::Entry;
+use xl_way::Way;
+
+/// The entry in hand after a step back.
+fn hand_after(displaced: Option<Entry>, hand: Entry) -> Entry
+    ensures { result ≡ in_hand displaced hand }
+{
+    match displaced {
+        Some(entry) => entry,
+        None => hand,
+    }
+}
+
+/// Undoes the last `count` displacements, where the last displaced entry is in hand for way `at`.
+pub(crate) fn undo(ways: &mut [Way], count: usize, at: usize, hand: Entry)
+    requires within { at < length ways.old }
+    requires few { length ways.old ≤ 4 }
+    requires full { 0 < hand.word }
+    ensures { ways.new ≡ undone count ways.old at hand }
+{
+    let mut at = at;
+    let mut hand = hand;
+    'back: for _i in 0..count {
+        at = previous(ways.len(), at);
+        let displaced = swap_at(ways, at, hand);
+        hand = hand_after(displaced, hand);
+    }
+}
+
+/// Makes an attempt to place `entry`, from way `start` on, with at most `limit` displacements, which
+/// are told in their order. Answers whether it stands; if not, all ways are as before it.
+pub(crate) fn attempt(
+    ways: &mut [Way],
+    limit: usize,
+    start: usize,
+    entry: Entry,
+    moved: &mut ArrayVec<Moved, 64>,
+) -> bool
+    requires few { length ways.old ≤ 4 }
+    requires start { start < length ways.old }
+    requires limit { limit ≤ 64 }
+    requires full { 0 < entry.word }
+    requires none { moved.old.items ≡ [] }
+    ensures stands { result ≡ true → attempt_by limit (shapes ways.old) start entry []
+        ≡ Stands (shapes ways.new) (map displaced moved.new.items) }
+    ensures fails { result ≡ false → attempt_by limit (shapes ways.old) start entry [] ≡ Fails }
+    ensures back { result ≡ false → ways.new ≡ ways.old }
+    ensures loads { loads_in ways.new ≡ loads_in ways.old }
+{
+    let mut at = start;
+    let mut hand = entry;
+    'kicks: for _i in 0..limit {
+        match swap_at(ways, at, hand) {
+            None => return true,
+            Some(displaced) => {
+                at = next(ways.len(), at);
+                moved.push(Moved {
+                    key: displaced.key,
+                    way: at as u64,
+                });
+                hand = displaced;
+            }
+        }
+    }
+    if is_free_at(ways, at, hand.key) {
+        swap_at(ways, at, hand);
+        true
+    } else {
+        undo(ways, limit, at, hand);
+        false
+    }
+}

@@ -1,0 +1,16 @@
+//! What an insertion tells.
+
+use xl_model::Moves;
+
+/// A displaced key, and the number of the way to which it went.
+#[derive(Clone, Copy, Debug, Default, PartialEq, Eq)]
+pub struct Moved {
+    pub key: u64,
+    pub way: u64,
+}
+
+/// An insertion failed, and every way is as large as it may grow. What was done before stays done.
+#[derive(Clone, Copy, Debug, PartialEq, Eq)]
+pub struct WayAtCap {
+    pub moves: Moves,
+}
