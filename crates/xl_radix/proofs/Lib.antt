@@ -12,7 +12,7 @@ mod CountLemmas
 mod StepLemmas
 mod PathLemmas
 mod OpeningLemmas
-mod PoolLemmas
+mod FreeLemmas
 mod LookLemmas
 pub mod FoundLemmas
 mod FilledLemmas

@@ -7,14 +7,14 @@ ghost use Rattle.xl_model.specs.Nodes.{is_below, number_of, put_first, opening_n
 use crate::node::Node;
 use std::alloc::Global;
 use std::marker::Model;
-use xl_frames::Frames;
-use xl_model::{NoMemory, Order};
+use xl_model::NoMemory;
+use xl_numbers::FreeNumbers;
 
-/// Which node has which number, with a pool of the free numbers. Contracts see the nodes by number.
+/// Which node has which number, with the free numbers beside. Contracts see the nodes by number.
 #[derive(Drop)]
 pub struct Numbers {
     nodes: Vec<Option<Node>>,
-    pool: Frames,
+    free: FreeNumbers,
 }
 
 impl Model for Numbers {
@@ -25,7 +25,7 @@ impl Model for Numbers {
 
     ghost view = { λ n. n.nodes.items };
 
-    ghost invariant = { λ n. n.pool ≡ map is_none n.nodes.items };
+    ghost invariant = { λ n. n.free ≡ map is_none n.nodes.items };
 }
 
 /// Whether a number's node has this name.
@@ -55,10 +55,10 @@ impl Numbers {
         ensures none { IfNone result (position is_none self.old ≡ None) }
         ensures unchanged { IfNone result (self.new ≡ self.old) }
     {
-        match self.pool.take(Order::K4) {
+        match self.free.take() {
             Some(number) => {
-                self.nodes[number as usize] = Some(node);
-                Some(number as usize)
+                self.nodes[number] = Some(node);
+                Some(number)
             }
             None => None,
         }
@@ -69,7 +69,7 @@ impl Numbers {
         requires { number < length self.old }
         ensures { self.new ≡ slice_set self.old number None }
     {
-        self.pool.give(number as u64, Order::K4);
+        self.free.give(number);
         self.nodes[number] = None;
     }
 
@@ -102,8 +102,8 @@ impl Numbers {
                 return Err(NoMemory);
             }
         }
-        let pool = Frames::open(alloc, frames as u32)?;
-        Ok(Numbers { nodes, pool })
+        let free = FreeNumbers::open(alloc, frames as u32)?;
+        Ok(Numbers { nodes, free })
     }
 
     /// The roots of `spaces` spaces, and then free numbers.

@@ -1,6 +1,6 @@
 //! Walks over words by hand, and a row with walk caches of four widths.
 
-ghost use Rattle.std.specs.Prelude.{IsTrue, IfSome};
+ghost use Rattle.std.specs.Prelude.{◌<◌, IsTrue, IfSome};
 ghost use Rattle.xl_model.specs.Changes.{IsNamed};
 ghost use Rattle.xl_model.specs.Structures.{IsBlock, IsLeafFor};
 ghost use Rattle.xl_radix_walk.specs.Row.{row_table};
@@ -8,7 +8,7 @@ ghost use Rattle.xl_radix_walk.specs.Row.{row_table};
 use crate::{RadixRow, WalkEnd, walk};
 use arrayvec::ArrayVec;
 use std::test::Fail;
-use xl_model::{Leaf, Order, Perm, Reach, Refused, Structure, Walk, Work};
+use xl_model::{Leaf, NoRoom, Order, Perm, Reach, Refused, Structure, Walk, Work};
 use xl_phys::{Bus, PhysMem};
 
 /// Index 1 at level 2, index 2 at level 1 and index 3 at level 0.
@@ -125,6 +125,27 @@ fn remove<const LEVELS: usize>(
     Some(row.remove(leaf.space, leaf.first, leaf.order))
 }
 
+/// Moves the leaf that covers a page of space 0, None where a leaf meets the block at `to`.
+fn relocate<const LEVELS: usize>(
+    row: &mut RadixRow<LEVELS>,
+    page: u64,
+    to: u64,
+) -> Option<Result<Work, Refused>> {
+    let leaf = leaf_at(row, page)?;
+    if !is_block(row, leaf.space, to, leaf.order) || row.meets(leaf.space, to, leaf.order) {
+        return None;
+    }
+    Some(row.relocate(leaf.space, leaf.first, to, leaf.order))
+}
+
+/// Word `index` of node number `node`.
+fn word<const LEVELS: usize>(row: &RadixRow<LEVELS>, node: usize, index: usize) -> Option<u64>
+    requires node { node < 64 }
+    requires index { index < 512 }
+{
+    row.radix().words().get(node * 512 + index).copied()
+}
+
 /// The frame that a walk of a page of space 0 finds, its cache hits, and the loads so far.
 fn walked<const LEVELS: usize>(
     row: &mut RadixRow<LEVELS>,
@@ -214,5 +235,102 @@ fn a_walk_begins_at_the_lowest_cached_node(rt: HostRuntime) -> Result<(), Fail> 
     assert_eq!(rt; walked(&mut row, 1), Some((Some(0), 0, 4)));
     assert_eq!(rt; walked(&mut row, 512), Some((Some(1), 1, 6)));
     assert_eq!(rt; walked(&mut row, 512), Some((Some(1), 1, 7)));
+    Ok(())
+}
+
+#[test]
+fn a_move_makes_its_node_before_one_goes(rt: HostRuntime) -> Result<(), Fail> {
+    let mut row = RadixRow::<3>::open(rt.alloc(), 4, 1, [4, 4, 0, 0])?;
+    assert_eq!(rt; insert(&mut row, leaf(1, Order::K4, 7)), purged(0));
+    assert_eq!(rt; walked(&mut row, 1), Some((Some(7), 0, 3)));
+
+    // Within a node: no tag goes.
+    assert_eq!(rt; relocate(&mut row, 1, 2), purged(0));
+    assert_eq!(rt; walked(&mut row, 1), Some((None, 1, 4)));
+    assert_eq!(rt; walked(&mut row, 2), Some((Some(7), 1, 5)));
+
+    // Into a node that is made under the last number; the old node goes with its tag.
+    assert_eq!(rt; relocate(&mut row, 2, 512), purged(1));
+    assert_eq!(rt; word(&row, 1, 0), Some(0));
+    assert_eq!(rt; word(&row, 1, 1), Some((3 << 10) + 1));
+    assert_eq!(rt; word(&row, 3, 0), Some((7 << 10) + 0xd3));
+    assert_eq!(rt; walked(&mut row, 512), Some((Some(7), 1, 7)));
+
+    // Between two nodes: the number given back is the lowest free one.
+    assert_eq!(rt; insert(&mut row, leaf(1, Order::K4, 9)), purged(0));
+    assert_eq!(rt; word(&row, 1, 0), Some((2 << 10) + 1));
+    assert_eq!(rt; relocate(&mut row, 512, 2), purged(1));
+    assert_eq!(rt; word(&row, 1, 1), Some(0));
+    assert_eq!(rt; word(&row, 2, 2), Some((7 << 10) + 0xd3));
+    assert_eq!(rt; walked(&mut row, 2), Some((Some(7), 1, 9)));
+
+    // No number is left for the node that would be made, though the old one would go.
+    assert_eq!(rt; insert(&mut row, leaf(512, Order::K4, 8)), purged(0));
+    let refused = Refused {
+        why: NoRoom::NoTable,
+        work: Work::none(),
+    };
+    assert_eq!(rt; relocate(&mut row, 512, 1024), Some(Err(refused)));
+    assert_eq!(rt; walked(&mut row, 512), Some((Some(8), 1, 11)));
+    Ok(())
+}
+
+#[test]
+fn a_large_leaf_goes_and_comes_back(rt: HostRuntime) -> Result<(), Fail> {
+    let mut row = RadixRow::<3>::open(rt.alloc(), 2, 1, [4, 4, 0, 0])?;
+    assert_eq!(rt; insert(&mut row, leaf(512, Order::M2, 512)), purged(0));
+    assert_eq!(rt; walked(&mut row, 600), Some((Some(512), 0, 2)));
+    assert_eq!(rt; walked(&mut row, 512), Some((Some(512), 1, 3)));
+    assert_eq!(rt; remove(&mut row, 600), purged(1));
+    assert_eq!(rt; walked(&mut row, 600), Some((None, 0, 4)));
+    assert_eq!(rt; insert(&mut row, leaf(512, Order::M2, 1024)), purged(0));
+    assert_eq!(rt; walked(&mut row, 1023), Some((Some(1024), 0, 6)));
+    assert_eq!(rt; walked(&mut row, 1024), Some((None, 1, 7)));
+    Ok(())
+}
+
+#[test]
+fn the_last_page_is_reached_by_the_last_words(rt: HostRuntime) -> Result<(), Fail> {
+    let mut row = RadixRow::<3>::open(rt.alloc(), 3, 1, [0; 4])?;
+    let last = (1 << 27) - 1;
+    assert_eq!(rt; insert(&mut row, leaf(last, Order::K4, 5)), purged(0));
+    assert_eq!(rt; word(&row, 0, 511), Some((1 << 10) + 1));
+    assert_eq!(rt; word(&row, 1, 511), Some((2 << 10) + 1));
+    assert_eq!(rt; word(&row, 2, 511), Some((5 << 10) + 0xd3));
+    assert_eq!(rt; walked(&mut row, last), Some((Some(5), 0, 3)));
+    assert_eq!(rt; walked(&mut row, last + 1), None);
+    let mut row = RadixRow::<5>::open(rt.alloc(), 5, 1, [0; 4])?;
+    let last = (1 << 45) - 1;
+    assert_eq!(rt; insert(&mut row, leaf(last, Order::K4, 6)), purged(0));
+    assert_eq!(rt; walked(&mut row, last), Some((Some(6), 0, 5)));
+    assert_eq!(rt; walked(&mut row, last - 1), Some((None, 0, 10)));
+    Ok(())
+}
+
+#[test]
+fn four_caches_hold_the_nodes_of_four_levels(rt: HostRuntime) -> Result<(), Fail> {
+    let mut row = RadixRow::<5>::open(rt.alloc(), 15, 1, [6, 4, 4, 4])?;
+    assert_eq!(rt; insert(&mut row, leaf(1, Order::K4, 1)), purged(0));
+    assert_eq!(rt; walked(&mut row, 1), Some((Some(1), 0, 5)));
+    assert_eq!(rt; walked(&mut row, 1), Some((Some(1), 1, 6)));
+
+    // Pages that share the nodes down to level 1, 2, 3 and none but the root.
+    assert_eq!(rt; insert(&mut row, leaf(1 << 9, Order::K4, 2)), purged(0));
+    assert_eq!(rt; walked(&mut row, 1 << 9), Some((Some(2), 1, 8)));
+    assert_eq!(rt; insert(&mut row, leaf(1 << 18, Order::K4, 3)), purged(0));
+    assert_eq!(rt; walked(&mut row, 1 << 18), Some((Some(3), 1, 11)));
+    assert_eq!(rt; insert(&mut row, leaf(1 << 27, Order::K4, 4)), purged(0));
+    assert_eq!(rt; walked(&mut row, 1 << 27), Some((Some(4), 1, 15)));
+    assert_eq!(rt; insert(&mut row, leaf(1 << 36, Order::K4, 5)), purged(0));
+    assert_eq!(rt; walked(&mut row, 1 << 36), Some((Some(5), 0, 20)));
+
+    // Each goes with the nodes that it alone has, and their tags.
+    assert_eq!(rt; remove(&mut row, 1 << 36), purged(4));
+    assert_eq!(rt; remove(&mut row, 1 << 27), purged(3));
+    assert_eq!(rt; remove(&mut row, 1 << 18), purged(2));
+    assert_eq!(rt; remove(&mut row, 1 << 9), purged(1));
+    assert_eq!(rt; walked(&mut row, 1), Some((Some(1), 1, 21)));
+    assert_eq!(rt; remove(&mut row, 1), purged(4));
+    assert_eq!(rt; walked(&mut row, 1), Some((None, 0, 22)));
     Ok(())
 }

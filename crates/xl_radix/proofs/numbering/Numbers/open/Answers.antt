@@ -1,5 +1,5 @@
 use Rattle.std.proofs.Common.{arith}
-use Rattle.xl_radix.proofs.PoolLemmas.{opened, root-taken}
+use Rattle.xl_radix.proofs.FreeLemmas.{opened, root-taken}
 use Rattle.xl_radix.proofs.numbering.Numbers.open.Goals as goal
 
 pub roots-init : goal.roots-init

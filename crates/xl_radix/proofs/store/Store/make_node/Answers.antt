@@ -2,7 +2,7 @@ use Rattle.std.proofs.Common.{ℕ, ◌≡◌, ◌-◌, Some, slice_set, refl, ap
 use Rattle.xl_model.specs.Nodes.{Node, up}
 use Rattle.xl_radix.proofs.NumberLemmas.{lowest-is, put-lowest, put-first-count}
 use Rattle.xl_radix.proofs.StepLemmas.{made-step-at, count-fits, stands-in}
-use Rattle.xl_radix.proofs.PoolLemmas.{not-none}
+use Rattle.xl_radix.proofs.FreeLemmas.{not-none}
 use Rattle.xl_radix.proofs.store.Store.make_node.Goals as goal
 
 abbrev named : ℕ → ℕ → ℕ → Node

@@ -1,11 +1,10 @@
--- The pool of free numbers beside the nodes by number.
+-- The free numbers beside the nodes by number.
 use Rattle.std.proofs.Common.{ℕ, zero, suc, ◌≡◌, ◌+◌, ◌-◌, ◌<◌, ◌≤◌, Bool, true, false, List, [], ◌∷◌, ◌++◌, map, replicate, length, slice_index_or, slice_set, Option, Some, None, refl, ap, sym, ◌∙◌, subst, arith}
 use Rattle.std.specs.List.{position_from, position}
 use Rattle.std.specs.Prelude.{is_none}
 use Rattle.std.proofs.lemmas.Iterator.Adapters.{position_from-zero}
 use Rattle.xl_model.specs.Nodes.{Node, put_first, free_count, roots, opening_nodes}
-use Rattle.xl_frames.specs.Pool.{IsLowest, HasNone, marked}
-use Rattle.xl_frames.proofs.MarkLemmas.{lowest_number, no_number, marked_number}
+use Rattle.xl_numbers.specs.Free.{IsLowest, HasNone}
 use Rattle.xl_radix.proofs.NumberLemmas.{free-none}
 use Rattle.xl_radix.proofs.OpeningLemmas.{opening-count, none-node}
 use Rattle.std.specs.Prelude.{IfSome, IfNone}
@@ -31,24 +30,21 @@ not-free : (xs : List (Option Node)) (b : ℕ) → ((j : ℕ) → slice_index_or
 not-free [] b all = refl
 not-free (x ∷ xs) b all = let f : is_none x ≡ false = all 0 in rw f (not-free xs (b + 1) (λ j. all (suc j)))
 
--- The pool's lowest free number is the first one that no node has.
-pub lowest-position : (nodes : List (Option Node)) (pool : List Bool) (k : ℕ) → pool ≡ map is_none nodes → IsLowest pool 1 k → position is_none nodes ≡ Some k
-lowest-position nodes pool k e low =
-    let r = lowest_number (map is_none nodes) k (subst (λ (l : List Bool). IsLowest l 1 k) e low) in
+-- The lowest free number is the first one that no node has.
+pub lowest-position : (nodes : List (Option Node)) (free : List Bool) (k : ℕ) → free ≡ map is_none nodes → IsLowest free k → position is_none nodes ≡ Some k
+lowest-position nodes free k e low =
+    let r = subst (λ (l : List Bool). IsLowest l k) e low in
     position_from-zero is_none nodes ∙ first-free nodes 0 k r.is_free r.least ∙ ap Some (let z : 0 + k ≡ k = omega arith in z)
 
-pub none-position : (nodes : List (Option Node)) (pool : List Bool) → pool ≡ map is_none nodes → HasNone pool 1 → position is_none nodes ≡ None
-none-position nodes pool e none =
-    position_from-zero is_none nodes ∙ not-free nodes 0 (no_number (map is_none nodes) (subst (λ (l : List Bool). HasNone l 1) e none))
+pub none-position : (nodes : List (Option Node)) (free : List Bool) → free ≡ map is_none nodes → HasNone free → position is_none nodes ≡ None
+none-position nodes free e none = position_from-zero is_none nodes ∙ not-free nodes 0 (subst (λ (l : List Bool). HasNone l) e none)
 
-pub lowest-within : (nodes : List (Option Node)) (pool : List Bool) (k : ℕ) → pool ≡ map is_none nodes → IsLowest pool 1 k → k < length nodes
-lowest-within nodes pool k e low = let h = low.fits in let a = ap length e in let b = length-free nodes in omega arith
+pub lowest-within : (nodes : List (Option Node)) (free : List Bool) (k : ℕ) → free ≡ map is_none nodes → IsLowest free k → k < length nodes
+lowest-within nodes free k e low = let h = low.within in let a = ap length e in let b = length-free nodes in omega arith
 
 -- A number taken or given back in both.
-pub marked-free : (nodes : List (Option Node)) (pool : List Bool) (k : ℕ) (y : Option Node) (v : Bool) → pool ≡ map is_none nodes → k < length nodes → is_none y ≡ v → marked pool k 1 v ≡ map is_none (slice_set nodes k y)
-marked-free nodes pool k y v e h f =
-    let a = length-free nodes in
-    ap (λ (l : List Bool). marked l k 1 v) e ∙ marked_number (map is_none nodes) k v (omega arith) ∙ ap (slice_set (map is_none nodes) k) (sym f) ∙ set-free nodes k y
+pub put-free : (nodes : List (Option Node)) (free : List Bool) (k : ℕ) (y : Option Node) (v : Bool) → free ≡ map is_none nodes → is_none y ≡ v → slice_set free k v ≡ map is_none (slice_set nodes k y)
+put-free nodes free k y v e f = ap (λ (l : List Bool). slice_set l k v) e ∙ ap (slice_set (map is_none nodes) k) (sym f) ∙ set-free nodes k y
 
 pub not-none : (nodes : List (Option Node)) (r : Option ℕ) → IfNone r (position is_none nodes ≡ None) → ((n : ℕ) → r ≡ Some n → ⊥) → 0 < free_count nodes → ⊥
 not-none nodes None e not h = free-none nodes e h
@@ -62,8 +58,8 @@ map-none : (n : ℕ) → replicate n true ≡ map is_none (replicate n none-node
 map-none zero = refl
 map-none (suc n) = ap (λ (l : List Bool). true ∷ l) (map-none n)
 
-pub all-free : (nodes : List (Option Node)) (pool : List Bool) (n : ℕ) → nodes ≡ replicate n None → pool ≡ replicate n true → pool ≡ map is_none nodes
-all-free nodes pool n e f = f ∙ map-none n ∙ ap (map is_none) (sym e)
+pub all-free : (nodes : List (Option Node)) (free : List Bool) (n : ℕ) → nodes ≡ replicate n None → free ≡ replicate n true → free ≡ map is_none nodes
+all-free nodes free n e f = f ∙ map-none n ∙ ap (map is_none) (sym e)
 
 root-put : (levels s k m t : ℕ) → t ≡ s + k → put_first (record { space = t; level = levels - 1; prefix = 0 }) (roots levels s k ++ replicate (suc m) None) ≡ roots levels s (suc k) ++ replicate m None
 root-put levels s zero m t d = let e : t ≡ s = omega arith in rw e refl

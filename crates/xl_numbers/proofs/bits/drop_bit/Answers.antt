@@ -1,0 +1,10 @@
+use Rattle.std.proofs.Common.{◌/◌, ◌%◌, slice_index, w64, arith}
+use Rattle.std.proofs.lemmas.Nat.Bits.{bit_at_clear_same, bit_at_clear_other}
+use Rattle.xl_numbers.proofs.BitLemmas.{put-word}
+use Rattle.xl_numbers.proofs.bits.drop_bit.Goals as goal
+
+pub returns-clause-put : goal.returns-clause-put
+returns-clause-put c =
+    let k = c.args.k in
+    let word = slice_index c.args.words.now (k / 64) in
+    put-word c.args.words.now k _ 0 (omega arith) (bit_at_clear_same w64 word (k % 64) (omega arith)) (λ i small other. bit_at_clear_other w64 word (k % 64) (omega arith) i small other)

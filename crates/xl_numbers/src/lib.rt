@@ -1,0 +1,9 @@
+//! Numbers of which the lowest free one is handed out, in as many steps whatever their count.
+#![tactic(auto)]
+
+mod bits;
+mod free;
+#[cfg(test)]
+mod tests;
+
+pub use free::FreeNumbers;
