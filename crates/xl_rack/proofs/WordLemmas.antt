@@ -27,16 +27,21 @@ unless-line name n i (suc w) h = append-nil (image_line name (record { node = n;
 module _ (leaves : List Leaf) (nodes : List (Option Node)) where
   -- the words of a node, in two parts
   words-parts : (n : ℕ) (node : Node) (a x y : ℕ) → words_from leaves nodes n node a (x + y) ≡ words_from leaves nodes n node a x ++ words_from leaves nodes n node (a + x) y
-  words-parts n node a zero y = let e : a + 0 ≡ a = omega arith in rw e refl
+  words-parts n node a zero y =
+      let e : a + 0 ≡ a = omega arith in
+      let f : 0 + y ≡ y = omega arith in
+      rw (e, f) refl
   words-parts n node a (suc x) y =
       let e : suc a + x ≡ a + suc x = omega arith in
+      let s : suc x + y ≡ suc (x + y) = omega arith in
       let w = word_of leaves nodes (Some node) a in
-      ap (unless_zero n a w) (words-parts n node (suc a) x y)
+      ap (words_from leaves nodes n node a) s
+      ∙ ap (unless_zero n a w) (words-parts n node (suc a) x y)
       ∙ unless-append n a w (words_from leaves nodes n node (suc a) x) (words_from leaves nodes n node (suc a + x) y)
       ∙ ap (λ (v : ℕ). unless_zero n a w (words_from leaves nodes n node (suc a) x) ++ words_from leaves nodes n node v y) e
 
   -- those of a number; none where no node has it
-  words_at : ℕ → Option Node → List Word
+  abbrev words_at : ℕ → Option Node → List Word
   words_at n None = []
   words_at n (Some node) = words_from leaves nodes n node 0 512
 
@@ -93,7 +98,10 @@ module _ {K : Type 0} (written : K → Option (List ℕ)) (faults : K → ℕ) (
   no-words n (Some node) k = sink_same written faults roomy k
 
   next-words : (n : ℕ) (node : Node) (i w : ℕ) → w ≡ word_of leaves nodes (Some node) i → words_from leaves nodes n node 0 (i + 1) ≡ words_from leaves nodes n node 0 i ++ unless_zero n i w []
-  next-words n node i w e = words-parts leaves nodes n node 0 i 1 ∙ ap (λ (v : ℕ). words_from leaves nodes n node 0 i ++ unless_zero n i v []) (sym e)
+  next-words n node i w e =
+      let z : 0 + i ≡ i = omega arith in
+      words-parts leaves nodes n node 0 i 1 ∙ ap (λ (v : ℕ). words_from leaves nodes n node 0 i ++ words_from leaves nodes n node v 1) z
+      ∙ ap (λ (v : ℕ). words_from leaves nodes n node 0 i ++ unless_zero n i v []) (sym e)
 
   pub word-written : (n : ℕ) (o : Option Node) (i w : ℕ) (k l m : K) (whole : Bool) → w ≡ word_of leaves nodes o i → (w ≡ 0 → ⊥)
       → NodeLines n o i k l true → SinkAfter written faults roomy (image_line name (record { node = n; index = i; word = w })) l m whole → NodeLines n o (i + 1) k m whole
@@ -114,8 +122,9 @@ module _ {K : Type 0} (written : K → Option (List ℕ)) (faults : K → ℕ) (
   node-cut size n None i k l h first = tt
   node-cut size n (Some node) i k l h first =
       let e : i + (size - i) ≡ size = omega arith in
+      let z : 0 + i ≡ i = omega arith in
       let parts : words_from leaves nodes n node 0 size ≡ words_from leaves nodes n node 0 i ++ words_from leaves nodes n node i (size - i) =
-      ap (words_from leaves nodes n node 0) (sym e) ∙ words-parts leaves nodes n node 0 i (size - i) in
+      ap (words_from leaves nodes n node 0) (sym e) ∙ words-parts leaves nodes n node 0 i (size - i) ∙ ap (λ (v : ℕ). words_from leaves nodes n node 0 i ++ words_from leaves nodes n node v (size - i)) z in
       subst (λ (ws : List Word). Lines ws k l false) (sym parts)
       (lines-cut (words_from leaves nodes n node 0 i) (words_from leaves nodes n node i (size - i)) k l first)
 
@@ -124,13 +133,19 @@ module _ {K : Type 0} (written : K → Option (List ℕ)) (faults : K → ℕ) (
   TableLines n k l whole = Lines (image_from leaves nodes 0 (take n nodes)) k l whole
 
   next-image : (n : ℕ) → image_from leaves nodes 0 (take (n + 1) nodes) ≡ image_from leaves nodes 0 (take n nodes) ++ words_at leaves nodes n (slice_index_or nodes n None)
-  next-image n = (let e : n + 1 ≡ suc n = omega arith in ap (λ (v : ℕ). image_from leaves nodes 0 (take v nodes)) e) ∙ image-next leaves nodes 0 n nodes
+  next-image n =
+      let e : n + 1 ≡ suc n = omega arith in
+      let z : 0 + n ≡ n = omega arith in
+      ap (λ (v : ℕ). image_from leaves nodes 0 (take v nodes)) e ∙ image-next leaves nodes 0 n nodes
+      ∙ ap (λ (v : ℕ). image_from leaves nodes 0 (take n nodes) ++ words_at leaves nodes v (slice_index_or nodes n None)) z
 
   at-node : (o : Option Node) (n : ℕ) (l m : K) (whole : Bool) → is_some o ≡ true → NodeLines n o 512 l m whole → Lines (words_at leaves nodes n o) l m whole
+  at-node None n l m whole e h = cc
   at-node (Some node) n l m whole e h = h
 
   no-node : (o : Option Node) (n : ℕ) → is_some o ≡ false → words_at leaves nodes n o ≡ []
   no-node None n e = refl
+  no-node (Some node) n e = cc
 
   pub node-written : (n : ℕ) (k l m : K) (whole : Bool) → is_some (slice_index_or nodes n None) ≡ true → TableLines n k l true
       → NodeLines n (slice_index_or nodes n None) 512 l m whole → TableLines (n + 1) k m whole
@@ -147,7 +162,10 @@ module _ {K : Type 0} (written : K → Option (List ℕ)) (faults : K → ℕ) (
   pub table-cut : (n : ℕ) (k l : K) → TableLines n k l false → Lines (image leaves nodes) k l false
   unfolding image
   table-cut n k l first =
-      subst (λ (ws : List Word). Lines ws k l false) (sym (image-parts leaves nodes 0 n nodes))
+      let z : 0 + n ≡ n = omega arith in
+      let parts : image_from leaves nodes 0 nodes ≡ image_from leaves nodes 0 (take n nodes) ++ image_from leaves nodes n (drop n nodes) =
+      image-parts leaves nodes 0 n nodes ∙ ap (λ (v : ℕ). image_from leaves nodes 0 (take n nodes) ++ image_from leaves nodes v (drop n nodes)) z in
+      subst (λ (ws : List Word). Lines ws k l false) (sym parts)
       (lines-cut (image_from leaves nodes 0 (take n nodes)) (image_from leaves nodes n (drop n nodes)) k l first)
 
   -- the whole table

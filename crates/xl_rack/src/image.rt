@@ -85,8 +85,8 @@ fn write_radix<const LEVELS: usize, K: Sink>(
 /// Writes the image of a machine's table. Only a radix table has one.
 fn write_held<K: Sink>(out: &mut K, held: Held<'_>) -> Result<(), Failed>
     ensures { SinkAfter K.written K.put_faults K.roomy
-        (image_lines (served_behind held).row.name (served_behind held).state.table.leaves
-        (served_behind held).state.table.shape)
+        (image_lines (served_behind held.entry).row.name (served_behind held.entry).state.table.leaves
+        (served_behind held.entry).state.table.shape)
         out.old out.new (is_ok result) }
 {
     match held {
