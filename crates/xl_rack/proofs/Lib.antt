@@ -1,7 +1,9 @@
 mod BatchLemmas
 mod DemandLemmas
+mod ImageLemmas
 mod LineLemmas
 mod PlaceLemmas
 mod RowsLemmas
 mod ServedAtLemmas
 mod SlotLemmas
+mod WordLemmas

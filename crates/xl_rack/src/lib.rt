@@ -6,6 +6,7 @@ mod area;
 mod batch;
 mod demand;
 mod held;
+mod image;
 mod rack;
 mod rows;
 mod slot;

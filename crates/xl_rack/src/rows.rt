@@ -9,6 +9,7 @@ ghost use Rattle.xl_serving.specs.Serving.{HasServed, scene_of};
 ghost use Rattle.xl_rack.specs.Served.{ServedAt};
 
 use crate::demand::{serve_access, serve_command};
+use crate::image::write_images;
 use crate::rack::Rack;
 use std::alloc::Global;
 use xl_model::{Area, Event, Item, Kind, NoMemory, Row};
@@ -121,5 +122,9 @@ impl Rows for Rack {
 
     fn write_rows<K: Sink>(&self, out: &mut K) -> Result<(), Failed> {
         write_rows(self, out)
+    }
+
+    fn write_images<K: Sink>(&self, out: &mut K) -> Result<(), Failed> {
+        write_images(self, out)
     }
 }

@@ -5,7 +5,7 @@ use Rattle.xl_model.specs.declared.fault.InputFault.{InputFault}
 use Rattle.xl_model.specs.declared.script.Item.{Item}
 use Rattle.xl_model.specs.Scenes.{Served, Scene, Live, scenes_after, told_by, untold}
 use Rattle.xl_model.specs.Courses.{Course, ended, before}
-use Rattle.xl_model.specs.Report.{Flags, row_lines, tail}
+use Rattle.xl_model.specs.Report.{Flags, row_lines, images_where, tail}
 use Rattle.xl_model.specs.Endings.{followed, live_of, text_by}
 use Rattle.xl_model_lemmas.proofs.SceneLemmas.{scene-is}
 use Rattle.xl_outside.specs.Sinks.{WroteFront, SinkAfter}
@@ -18,15 +18,11 @@ use Rattle.xl_serving.specs.Stops.{of_words_fault, of_serve_stop, status_at}
 use Rattle.xl_words.specs.declared.words.WordsFault.{WordsFault}
 use Rattle.xl_words.specs.declared.words.WordsFault.TheVariants as words
 use Rattle.xl_words.specs.Words.{Asked, Asks}
-use Rattle.xl_serving.specs.Endings.{SaysOfWords, flags_of, Ends}
+use Rattle.xl_serving.specs.Endings.{SaysOfWords, Ends}
 
 items_none : (xs : List Item) → xs ++ [] ≡ xs
 items_none [] = refl
 items_none (x ∷ xs) = ap (λ (ys : List Item). x ∷ ys) (items_none xs)
-
-text_none : (xs : List ℕ) → xs ≡ xs ++ []
-text_none [] = refl
-text_none (x ∷ xs) = ap (λ (ys : List ℕ). x ∷ ys) (text_none xs)
 
 -- a course of which all items were served
 abbrev whole : List Item → Option InputFault → Course
@@ -44,22 +40,22 @@ fits_text : (f : Option InputFault) (flags : Flags) (l : Live) → length l.told
 fits_text None flags l = omega (arith, length-append l.told (tail flags l.scene))
 fits_text (Some f) flags l = omega arith
 
--- the end of the report is the rows
-tail-rows : (answers : Bool) (s : Scene) → row_lines s.rows ≡ tail (flags_of answers) s
+-- the end of the report is the rows and the images
+tail-is : (flags : Flags) (s : Scene) → row_lines s.rows ++ images_where flags.images s.rows ≡ tail flags s
 unfolding tail
-tail-rows answers s = text_none (row_lines s.rows)
+tail-is flags s = refl
 
--- serving, with or without the lines of what is served
-module _ {K : Type 0} (written : K → Option (List ℕ)) (faults : K → ℕ) (roomy : K → ℕ → Type 0) (answers : Bool) where
+-- serving, and the end of the report
+module _ {K : Type 0} (written : K → Option (List ℕ)) (faults : K → ℕ) (roomy : K → ℕ → Type 0) (flags : Flags) where
   -- serving stopped
   pub serve_ends : (c : Course) (p q : Scene) (k l : K) (stop : ServeStop) (rows : List Served)
-      → Serves {A = Unit {0}} written faults roomy answers c (ended None) p q k l (Err stop)
-      → Ends (Err (of_serve_stop stop)) (followed c p (flags_of answers)) roomy (written k) (written l) k rows
+      → Serves {A = Unit {0}} written faults roomy flags.answers c (ended None) p q k l (Err stop)
+      → Ends (Err (of_serve_stop stop)) (followed c p flags) roomy (written k) (written l) k rows
   serve_ends c p q k l serve.WriteFault rows x =
-      let live : Live = live_of (followed c p (flags_of answers)) in
+      let live : Live = live_of (followed c p flags) in
       record {
-        as_said = front_text c.fault (flags_of answers) live (written k) (written l) x.writes.wrote;
-        room = λ room h n. let f = fits_text c.fault (flags_of answers) live in (x.writes.calm room h (omega arith)).0;
+        as_said = front_text c.fault flags live (written k) (written l) x.writes.wrote;
+        room = λ room h n. let f = fits_text c.fault flags live in (x.writes.calm room h (omega arith)).0;
         served = tt;
       }
   serve_ends c p q k l serve.ReadFault rows x = record {
@@ -68,18 +64,18 @@ module _ {K : Type 0} (written : K → Option (List ℕ)) (faults : K → ℕ) (
     served = tt;
   }
   serve_ends c p q k l (serve.Input f) rows x =
-      subst (λ (z : Course). Ends (Err (why.Input f)) (followed z p (flags_of answers)) roomy (written k) (written l) k rows) (sym (whole-is c x.done (Some f) x.split))
+      subst (λ (z : Course). Ends (Err (why.Input f)) (followed z p flags) roomy (written k) (written l) k rows) (sym (whole-is c x.done (Some f) x.split))
       (record { as_said = (refl, x.served.writes.wrote); room = λ room h n. refl; served = tt })
 
   -- all was served, and the rows written behind it
   rows_written : (s : Scene) (done : List Item) (k m : K) (rows : List Served)
       → rows ≡ (scenes_after done s).rows
-      → SinkAfter written faults roomy (told_by answers done s ++ tail (flags_of answers) (scenes_after done s)) k m true
-      → Ends (Ok tt) (followed (whole done None) s (flags_of answers)) roomy (written k) (written m) k rows
+      → SinkAfter written faults roomy (told_by flags.answers done s ++ tail flags (scenes_after done s)) k m true
+      → Ends (Ok tt) (followed (whole done None) s flags) roomy (written k) (written m) k rows
   rows_written s done k m rows e z =
-      let same = scene-is answers done (untold s) in
-      let text : told_by answers done s ++ tail (flags_of answers) (scenes_after done s) ≡ text_by None (flags_of answers) (live_of (followed (whole done None) s (flags_of answers))) =
-      ap (λ (t : Scene). told_by answers done s ++ tail (flags_of answers) t) (sym same) in
+      let same = scene-is flags.answers done (untold s) in
+      let text : told_by flags.answers done s ++ tail flags (scenes_after done s) ≡ text_by None flags (live_of (followed (whole done None) s flags)) =
+      ap (λ (t : Scene). told_by flags.answers done s ++ tail flags t) (sym same) in
       record {
         as_said = (refl, (subst (λ (t : List ℕ). SinkAfter written faults roomy t k m true) text z).wrote);
         room = λ room h n. refl;
@@ -87,35 +83,35 @@ module _ {K : Type 0} (written : K → Option (List ℕ)) (faults : K → ℕ) (
       }
 
   rows_lost : (s : Scene) (done : List Item) (k m : K) (rows : List Served)
-      → SinkAfter written faults roomy (told_by answers done s ++ tail (flags_of answers) (scenes_after done s)) k m false
-      → Ends (Err why.WriteFault) (followed (whole done None) s (flags_of answers)) roomy (written k) (written m) k rows
+      → SinkAfter written faults roomy (told_by flags.answers done s ++ tail flags (scenes_after done s)) k m false
+      → Ends (Err why.WriteFault) (followed (whole done None) s flags) roomy (written k) (written m) k rows
   rows_lost s done k m rows z =
-      let same = scene-is answers done (untold s) in
-      let text : told_by answers done s ++ tail (flags_of answers) (scenes_after done s) ≡ text_by None (flags_of answers) (live_of (followed (whole done None) s (flags_of answers))) =
-      ap (λ (t : Scene). told_by answers done s ++ tail (flags_of answers) t) (sym same) in
+      let same = scene-is flags.answers done (untold s) in
+      let text : told_by flags.answers done s ++ tail flags (scenes_after done s) ≡ text_by None flags (live_of (followed (whole done None) s flags)) =
+      ap (λ (t : Scene). told_by flags.answers done s ++ tail flags t) (sym same) in
       let y = subst (λ (t : List ℕ). SinkAfter written faults roomy t k m false) text z in
       record { as_said = y.wrote; room = λ room h n. (y.calm room h n).0; served = tt }
 
   text_then : (c : Course) (p q : Scene) (k l m : K) (all : Bool)
-      (x : Reached written faults roomy answers c (ended None) p q k l) → SinkAfter written faults roomy (row_lines q.rows) l m all
-      → SinkAfter written faults roomy (told_by answers x.done p ++ tail (flags_of answers) (scenes_after x.done p)) k m all
+      (x : Reached written faults roomy flags.answers c (ended None) p q k l) → SinkAfter written faults roomy (row_lines q.rows ++ images_where flags.images q.rows) l m all
+      → SinkAfter written faults roomy (told_by flags.answers x.done p ++ tail flags (scenes_after x.done p)) k m all
   text_then c p q k l m all x y =
-      let e : row_lines q.rows ≡ tail (flags_of answers) (scenes_after x.done p) = tail-rows answers q ∙ ap (tail (flags_of answers)) x.served.scene_is in
-      sink_then written faults roomy (told_by answers x.done p) (tail (flags_of answers) (scenes_after x.done p)) k l m all x.served.writes
+      let e : row_lines q.rows ++ images_where flags.images q.rows ≡ tail flags (scenes_after x.done p) = tail-is flags q ∙ ap (tail flags) x.served.scene_is in
+      sink_then written faults roomy (told_by flags.answers x.done p) (tail flags (scenes_after x.done p)) k l m all x.served.writes
       (subst (λ (text : List ℕ). SinkAfter written faults roomy text l m all) e y)
 
-  pub report_written : (c : Course) (p q : Scene) (k l m : K) (x : Reached written faults roomy answers c (ended None) p q k l)
-      → SinkAfter written faults roomy (row_lines q.rows) l m true
-      → Ends (Ok tt) (followed c p (flags_of answers)) roomy (written k) (written m) k q.rows
+  pub report_written : (c : Course) (p q : Scene) (k l m : K) (x : Reached written faults roomy flags.answers c (ended None) p q k l)
+      → SinkAfter written faults roomy (row_lines q.rows ++ images_where flags.images q.rows) l m true
+      → Ends (Ok tt) (followed c p flags) roomy (written k) (written m) k q.rows
   report_written c p q k l m x y =
-      subst (λ (z : Course). Ends (Ok tt) (followed z p (flags_of answers)) roomy (written k) (written m) k q.rows) (sym (whole-is c x.done None x.split))
+      subst (λ (z : Course). Ends (Ok tt) (followed z p flags) roomy (written k) (written m) k q.rows) (sym (whole-is c x.done None x.split))
       (rows_written p x.done k m q.rows (ap (λ (t : Scene). t.rows) x.served.scene_is) (text_then c p q k l m true x y))
 
-  pub report_lost : (c : Course) (p q : Scene) (k l m : K) (x : Reached written faults roomy answers c (ended None) p q k l)
-      → SinkAfter written faults roomy (row_lines q.rows) l m false
-      → Ends (Err why.WriteFault) (followed c p (flags_of answers)) roomy (written k) (written m) k q.rows
+  pub report_lost : (c : Course) (p q : Scene) (k l m : K) (x : Reached written faults roomy flags.answers c (ended None) p q k l)
+      → SinkAfter written faults roomy (row_lines q.rows ++ images_where flags.images q.rows) l m false
+      → Ends (Err why.WriteFault) (followed c p flags) roomy (written k) (written m) k q.rows
   report_lost c p q k l m x y =
-      subst (λ (z : Course). Ends (Err why.WriteFault) (followed z p (flags_of answers)) roomy (written k) (written m) k q.rows) (sym (whole-is c x.done None x.split))
+      subst (λ (z : Course). Ends (Err why.WriteFault) (followed z p flags) roomy (written k) (written m) k q.rows) (sym (whole-is c x.done None x.split))
       (rows_lost p x.done k m q.rows (text_then c p q k l m false x y))
 
 -- the words were refused

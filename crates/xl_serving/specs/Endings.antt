@@ -21,9 +21,13 @@ use Rattle.xl_serving.specs.Serving.{scene_of}
 use Rattle.xl_serving.specs.Stops.{is_all_put, status_with}
 use Rattle.xl_serving.specs.Messages.{message_at}
 
--- What a report has beside the rows: maybe the lines of accesses and commands, and no images.
-abbrev pub flags_of : Bool → Flags
-flags_of answers = record { answers = answers; images = false }
+-- What a report has beside the rows, as it is asked for: the lines of accesses and commands, and the images.
+abbrev pub flags_of : Asked → Flags
+flags_of a = record { answers = a.answers; images = a.image }
+
+-- A report of which only the rows are asked for.
+abbrev pub rows_alone : Flags
+rows_alone = record { answers = false; images = false }
 
 -- The ending of a run of these rows and commands over a trace; or of a run whose configuration, or else whose script,
 -- has a fault.
@@ -34,9 +38,9 @@ ending_by (Ok rows) (Ok commands) t flags = followed (course commands t) (openin
 
 -- The ending of a run that is asked for this over these files; `trail` gives the records of a trace's file.
 abbrev pub asked_ending : (Option (List ℕ) → Trail) → Option Asked → Files → Ending
-asked_ending trail None files = faulted fault.Words (opening_scene []) (flags_of false)
+asked_ending trail None files = faulted fault.Words (opening_scene []) rows_alone
 asked_ending trail (Some a) files =
-    ending_by (rows_in a.config files) (commands_in a.script files) (trail_in trail a.trace files) (flags_of a.answers)
+    ending_by (rows_in a.config files) (commands_in a.script files) (trail_in trail a.trace files) (flags_of a)
 
 -- What a run of these words over these files comes to.
 unfoldable pub ending : (Option (List ℕ) → Trail) → List (List ℕ) → Files → Ending

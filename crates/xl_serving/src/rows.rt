@@ -4,7 +4,7 @@ ghost use Rattle.std.specs.Prelude.{◌≡◌, ◌<◌, ◌++◌, List, [], ◌�
 ghost use Rattle.xl_model.specs.declared.script.Item.TheVariants.{Command, Referenced};
 ghost use Rattle.xl_model.specs.Rows.{row_of, IsRow};
 ghost use Rattle.xl_model.specs.Scenes.{Served, opened};
-ghost use Rattle.xl_model.specs.Report.{row_lines};
+ghost use Rattle.xl_model.specs.Report.{row_lines, images_lines};
 ghost use Rattle.xl_config.specs.Keys.{IsBuilt};
 ghost use Rattle.xl_outside.specs.Sinks.{SinkAfter};
 ghost use Rattle.xl_serving.specs.Serving.{HasServed, scene_of};
@@ -64,5 +64,10 @@ pub trait Rows: Sized {
     /// Writes a line for each row.
     fn write_rows<K: Sink>(&self, out: &mut K) -> Result<(), Failed>
         ensures { SinkAfter K.written K.put_faults K.roomy (row_lines (rows self.now))
+            out.old out.new (is_ok result) };
+
+    /// Writes the words of each radix table that are not 0, row by row.
+    fn write_images<K: Sink>(&self, out: &mut K) -> Result<(), Failed>
+        ensures { SinkAfter K.written K.put_faults K.roomy (images_lines (rows self.now))
             out.old out.new (is_ok result) };
 }

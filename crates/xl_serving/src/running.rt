@@ -1,10 +1,11 @@
 //! A run: the report of the rows of a configuration over a script and a trace.
 
-ghost use Rattle.std.specs.Prelude.{◌≡◌, ℕ, List, [], Option, Some, IfErr, IfSome, length, map, option_map, string_bytes};
+ghost use Rattle.std.specs.Prelude.{◌≡◌, ◌++◌, ℕ, List, [], Option, Some, IfErr, IfSome, is_ok, length, map, option_map, string_bytes};
 ghost use Rattle.xl_model.specs.Courses.{course};
 ghost use Rattle.xl_model.specs.Endings.{followed, live_of, text_of};
+ghost use Rattle.xl_model.specs.Report.{row_lines, images_where};
 ghost use Rattle.xl_outside.specs.Folders.{file_of, FolderAfter, fate_by};
-ghost use Rattle.xl_outside.specs.Sinks.{WriteCounts};
+ghost use Rattle.xl_outside.specs.Sinks.{SinkAfter, WriteCounts};
 ghost use Rattle.xl_words.specs.Words.{asked, asked_of};
 ghost use Rattle.xl_serving.specs.Serving.{scene_of, serve_stop_fate, is_written, ServingIsMet};
 ghost use Rattle.xl_serving.specs.Stops.{as_stop, status_by, status_fate, is_status_put, stop_fate, is_all_put, StopIsMet};
@@ -19,14 +20,14 @@ use crate::status::Status;
 use crate::stop::Stop;
 use crate::trace::{NoTrace, Trace};
 use std::alloc::Global;
-use xl_outside::{Folder, Sink, put_all};
+use xl_outside::{Failed, Folder, Sink, put_all};
 use xl_script::Script;
 use xl_words::Words;
 
 /// Reads the words, the configuration and the script, opens the rows, serves the script over the
 /// trace, and writes the report to `out`. Where that does not come about, a line on `err` says why. The
-/// words are the program's name and those after it: `--config F [--script F] [--trace F] [--answers]`.
-/// All memory is taken before the first event.
+/// words are the program's name and those after it: `--config F [--script F] [--trace F] [--answers]
+/// [--image]`. All memory is taken before the first event.
 pub fn run<R: Rows, T: Trace + Drop, F: Folder, K: Sink, E: Sink>(
     alloc: Global,
     words: &Vec<String>,
@@ -138,7 +139,7 @@ fn replay<R: Rows, T: Trace, F: Folder, K: Sink>(
         × (T.left trace.old file ≡ T.trail file) }
     ensures told { IfSome (F.files folder.old) (λ fs. Ends (as_stop result)
         (followed (course commands.now (trail_in T.trail (asked_of words.now).trace fs))
-        (scene_of (R.rows rows.old) []) (flags_of (asked_of words.now).answers))
+        (scene_of (R.rows rows.old) []) (flags_of (asked_of words.now)))
         K.roomy (K.written out.old) (K.written out.new) out.old (R.rows rows.new)) }
     ensures leaves { FolderAfter F.files F.faults F.absences F.steady folder.old folder.new
         (fate_by serve_stop_fate result) }
@@ -150,7 +151,7 @@ fn replay<R: Rows, T: Trace, F: Folder, K: Sink>(
             rows,
             areas,
             trace,
-            words.answers,
+            words,
             folder,
             out,
             name,
@@ -160,7 +161,7 @@ fn replay<R: Rows, T: Trace, F: Folder, K: Sink>(
             rows,
             areas,
             &mut NoTrace,
-            words.answers,
+            words,
             folder,
             out,
             "",
@@ -174,7 +175,7 @@ fn replay_over<R: Rows, T: Trace, F: Folder, K: Sink>(
     rows: &mut R,
     areas: &mut Areas,
     trace: &mut T,
-    answers: bool,
+    words: &Words<'_>,
     folder: &mut F,
     out: &mut K,
     name: &str,
@@ -183,14 +184,38 @@ fn replay_over<R: Rows, T: Trace, F: Folder, K: Sink>(
     requires { areas.old ≡ [] }
     ensures told { IfSome (F.files folder.old) (λ fs. T.stands trace.old (file_of fs name.now)
         → Ends (as_stop result) (followed (course commands.now (T.left trace.old (file_of fs name.now)))
-        (scene_of (R.rows rows.old) []) (flags_of answers))
+        (scene_of (R.rows rows.old) []) (flags_of (asked_of words.now)))
         K.roomy (K.written out.old) (K.written out.new) out.old (R.rows rows.new)) }
     ensures leaves { FolderAfter F.files F.faults F.absences F.steady folder.old folder.new
         (fate_by serve_stop_fate result) }
     ensures counts { WriteCounts (is_written result) (K.put_faults out.old) (K.put_faults out.new) }
     ensures met { IfErr result ServingIsMet }
 {
-    serve(rows, areas, answers, out, trace, folder, name, commands)?;
-    rows.write_rows(out)?;
+    serve(rows, areas, words.answers, out, trace, folder, name, commands)?;
+    write_end(rows, words.image, out)?;
     Ok(())
+}
+
+/// Writes the end of the report: the rows, and where they are asked for the images.
+fn write_end<R: Rows, K: Sink>(rows: &R, image: bool, out: &mut K) -> Result<(), Failed>
+    ensures { SinkAfter K.written K.put_faults K.roomy
+        (row_lines (R.rows rows.now) ++ images_where image (R.rows rows.now))
+        out.old out.new (is_ok result) }
+{
+    match rows.write_rows(out) {
+        Ok(()) => write_images(rows, image, out),
+        Err(failed) => Err(failed),
+    }
+}
+
+/// Writes the images where they are asked for.
+fn write_images<R: Rows, K: Sink>(rows: &R, image: bool, out: &mut K) -> Result<(), Failed>
+    ensures { SinkAfter K.written K.put_faults K.roomy (images_where image (R.rows rows.now))
+        out.old out.new (is_ok result) }
+{
+    if image {
+        rows.write_images(out)
+    } else {
+        Ok(())
+    }
 }

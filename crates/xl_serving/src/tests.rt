@@ -47,6 +47,10 @@ impl Rows for NoRows {
     fn write_rows<K: Sink>(&self, _out: &mut K) -> Result<(), Failed> {
         Ok(())
     }
+
+    fn write_images<K: Sink>(&self, _out: &mut K) -> Result<(), Failed> {
+        Ok(())
+    }
 }
 
 fn words(alloc: Global, names: &[&str]) -> Result<Vec<String>, AllocError> {

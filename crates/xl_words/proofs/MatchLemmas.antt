@@ -7,14 +7,14 @@ use Rattle.clap.specs.Walk.{Row}
 use Rattle.clap.specs.Kinds.{Kinds, IsAmong}
 use Rattle.clap.specs.declared.error.kind.ErrorKind.{ErrorKind}
 use Rattle.clap.specs.declared.error.kind.ErrorKind.TheVariants as kind
-use Rattle.xl_words.specs.Words.{app, faults_of, values_of}
+use Rattle.xl_words.specs.Words.{app, file_app, faults_of, values_of}
 
 free : is_simple_and_free app ≡ true
-unfolding app
+unfolding app file_app
 free = refl
 
 simple : is_simple app ≡ true
-unfolding app
+unfolding app file_app
 simple = refl
 
 pub none_refused : (c : App) (words : List (List ℕ)) → c ≡ app → (is_simple_and_free c ≡ true → fault_of c words ≡ []) → faults_of words ≡ []

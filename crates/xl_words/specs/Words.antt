@@ -19,11 +19,15 @@ needed_rule name = record (option_rule name) { required = true }
 abbrev pub flag_rule : List ℕ → Rule
 flag_rule name = record (new_rule name) { long = Some name; action = Some SetTrue }
 
--- The command: `--config`, which is needed, `--script` and `--trace`, each with a file, and `--answers`.
+-- The command with the options that name a file: `--config`, which is needed, `--script` and `--trace`.
+unfoldable pub file_app : App
+file_app =
+    with_rule (with_rule (with_rule (new_app (codes "xlate"))
+    (needed_rule (codes "config"))) (option_rule (codes "script"))) (option_rule (codes "trace"))
+
+-- The command: the same, with the flags `--answers` and `--image`.
 unfoldable pub app : App
-app =
-    with_rule (with_rule (with_rule (with_rule (new_app (codes "xlate"))
-    (needed_rule (codes "config"))) (option_rule (codes "script"))) (option_rule (codes "trace"))) (flag_rule (codes "answers"))
+app = with_rule (with_rule file_app (flag_rule (codes "answers"))) (flag_rule (codes "image"))
 
 -- Why the command has no matches for the words; empty where it has.
 unfoldable pub faults_of : List (List ℕ) → Kinds
@@ -33,12 +37,14 @@ faults_of words = fault_of app words
 unfoldable pub values_of : List (List ℕ) → List Row
 values_of words = matches_of app words
 
--- What a run is asked for: the names of its files, and whether a line is wanted for each access and command.
+-- What a run is asked for: the names of its files; whether a line is wanted for each access and command; and whether
+-- the words of radix tables are.
 pub record Asked : Type 0 where
   pub config : List ℕ
   pub script : Option (List ℕ)
   pub trace : Option (List ℕ)
   pub answers : Bool
+  pub image : Bool
 
 -- Whether a flag stands among the words.
 abbrev pub is_on : Option (List ℕ) → Bool
@@ -52,6 +58,7 @@ asked_in rows = record {
   script = first_of (codes "script") rows;
   trace = first_of (codes "trace") rows;
   answers = is_on (first_of (codes "answers") rows);
+  image = is_on (first_of (codes "image") rows);
 }
 
 -- What is asked for where the command has matches.
@@ -70,6 +77,7 @@ asked_of w = record {
   script = option_map (λ s. s.now) w.script;
   trace = option_map (λ s. s.now) w.trace;
   answers = w.answers;
+  image = w.image;
 }
 
 -- What a reading of the words answers: what they ask for, or that they ask for nothing, or that there is no memory.

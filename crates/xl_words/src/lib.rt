@@ -1,4 +1,5 @@
-//! The words of the command line: `--config F [--script F] [--trace F] [--answers]`.
+//! The words of the command line: `--config F [--script F] [--trace F] [--answers]
+//! [--image]`.
 #![tactic(auto)]
 
 mod words;

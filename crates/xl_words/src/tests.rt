@@ -23,6 +23,7 @@ fn options_stand_in_any_order_and_a_flag_needs_no_value(rt: HostRuntime) -> Resu
                 script: None,
                 trace: None,
                 answers: false,
+                image: false,
             },
         ),
         (
@@ -32,15 +33,17 @@ fn options_stand_in_any_order_and_a_flag_needs_no_value(rt: HostRuntime) -> Resu
                 script: None,
                 trace: Some("t"),
                 answers: true,
+                image: false,
             },
         ),
         (
-            &["x", "--config", "", "--script", "-"],
+            &["x", "--image", "--config", "", "--script", "-"],
             Words {
                 config: "",
                 script: Some("-"),
                 trace: None,
                 answers: false,
+                image: true,
             },
         ),
     ];

@@ -2,7 +2,7 @@
 
 ghost use Rattle.std.specs.Prelude.{◌≡◌, [], IfOk, IfErr, OnOk, map, option_map, string_bytes, codes, false, unwrap_or};
 ghost use Rattle.clap.specs.Words.{app_of, rule_of, with_rule, rows_of, found_of, first_of};
-ghost use Rattle.xl_words.specs.Words.{option_rule, needed_rule, flag_rule, app, faults_of, values_of, is_on, asked, asked_in, asked_of, Asks};
+ghost use Rattle.xl_words.specs.Words.{option_rule, needed_rule, flag_rule, app, file_app, faults_of, values_of, is_on, asked, asked_in, asked_of, Asks};
 ghost use Rattle.xl_words.specs.declared.words.WordsFault.TheVariants as why;
 
 use clap::error::ErrorKind;
@@ -10,14 +10,15 @@ use clap::{Arg, ArgAction, ArgMatches, Command};
 use std::alloc::{AllocError, Global};
 use thiserror::Error;
 
-/// What the words ask for: the names of the configuration, the script and the trace, and whether a
-/// line is wanted for each access and command.
+/// What the words ask for: the names of the configuration, the script and the trace; whether a line
+/// is wanted for each access and command; and whether the words of radix tables are.
 #[derive(Clone, Copy, Debug, PartialEq, Eq)]
 pub struct Words<'a> {
     pub config: &'a str,
     pub script: Option<&'a str>,
     pub trace: Option<&'a str>,
     pub answers: bool,
+    pub image: bool,
 }
 
 /// Why the words ask for nothing.
@@ -59,6 +60,7 @@ fn words_in<'a>(matches: &ArgMatches<'a>) -> Words<'a>
         script: value(matches, "script"),
         trace: value(matches, "trace"),
         answers: is_on(value(matches, "answers")),
+        image: is_on(value(matches, "image")),
     }
 }
 
@@ -102,11 +104,20 @@ fn matches<'a>(alloc: Global, words: &'a [String]) -> Result<ArgMatches<'a>, Wor
 fn command<'a>(alloc: Global) -> Result<Command<'a>, AllocError>
     ensures { IfOk result (λ c. app_of c ≡ app) }
 {
+    let command = file_command(alloc)?;
+    let command = add(command, flag(alloc, "answers"))?;
+    add(command, flag(alloc, "image"))
+}
+
+/// The command with the options that name a file.
+#[tactic(auto, unfolding(crate::specs::Words::file_app))]
+fn file_command<'a>(alloc: Global) -> Result<Command<'a>, AllocError>
+    ensures { IfOk result (λ c. app_of c ≡ file_app) }
+{
     let command = Command::new(alloc, "xlate");
     let command = add(command, needed(alloc, "config"))?;
     let command = add(command, option(alloc, "script"))?;
-    let command = add(command, option(alloc, "trace"))?;
-    add(command, flag(alloc, "answers"))
+    add(command, option(alloc, "trace"))
 }
 
 /// An option that has a value.

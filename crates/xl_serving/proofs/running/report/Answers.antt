@@ -21,8 +21,8 @@ returns-in_err-end-clause-told g c =
     rw (is_err_by c.from_residual-in_err-end.result stop c.from_residual-in_err-end.ensures.1)
     (told_then (g.F.Folder.files c.args.folder.now) (g.F.Folder.files c.open.new.folder)
     (λ fs. Opens (Ok c.in_ok-commands.commands) (ending_by (rows_in a.config fs) (commands_in a.script fs)) opened)
-    (λ fs. Ends (Err stop) (followed (course c.in_ok-commands.commands (trail_in g.T.Trace.trail a.trace fs)) (scene_of opened []) (flags_of a.answers)) g.K.Sink.roomy (written out) (written c.replay-end.new.out) out served)
+    (λ fs. Ends (Err stop) (followed (course c.in_ok-commands.commands (trail_in g.T.Trace.trail a.trace fs)) (scene_of opened []) (flags_of a)) g.K.Sink.roomy (written out) (written c.replay-end.new.out) out served)
     (λ fs. Ends (Err stop) (asked_ending g.T.Trace.trail (Some a) fs) g.K.Sink.roomy (written out) (written c.replay-end.new.out) out served)
     c.in_ok-commands.ensures.leaves.keeps c.in_ok-commands.ensures.told c.in_err-end.ensures.told
-    (λ fs h k. opened_ends g.K.Sink.roomy c.in_ok-commands.commands (ending_by (rows_in a.config fs) (commands_in a.script fs)) opened (trail_in g.T.Trace.trail a.trace fs) (flags_of a.answers)
+    (λ fs h k. opened_ends g.K.Sink.roomy c.in_ok-commands.commands (ending_by (rows_in a.config fs) (commands_in a.script fs)) opened (trail_in g.T.Trace.trail a.trace fs) (flags_of a)
     (Err stop) (written out) (written c.replay-end.new.out) out served h k))
