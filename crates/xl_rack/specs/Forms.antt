@@ -10,13 +10,14 @@ use Rattle.xl_rack.specs.declared.held.Held.{Held}
 use Rattle.xl_rack.specs.declared.held.Held.TheVariants as held
 
 -- What a machine is over: a radix table of three, four or five levels, a hashed
--- table, or a clustered table.
+-- table, a clustered table, or a table of ranges.
 pub data Form : Type 0 where
   Radix3 : Form
   Radix4 : Form
   Radix5 : Form
   HashedForm : Form
   ClusteredForm : Form
+  RangeForm : Form
 
 -- The form of a radix table, by the mode.
 abbrev pub radix_form : Mode → Form
@@ -29,6 +30,7 @@ abbrev pub form_by : Mode → Table → Option Form
 form_by m (table.Radix frames caches) = Some (radix_form m)
 form_by m (table.Hashed buckets entries) = Some HashedForm
 form_by m (table.Clustered buckets blocks) = Some ClusteredForm
+form_by m (table.Range ranges range_tlb) = Some RangeForm
 form_by m _ = None
 
 -- The form that a row names.
@@ -42,6 +44,7 @@ form_of (held.Sv48 m) = Radix4
 form_of (held.Sv57 m) = Radix5
 form_of (held.Hashed m) = HashedForm
 form_of (held.Clustered m) = ClusteredForm
+form_of (held.Range m) = RangeForm
 
 -- The row and the state of a machine that is handed out.
 abbrev pub served_behind : Held → Served
@@ -50,3 +53,4 @@ served_behind (held.Sv48 m) = m.now
 served_behind (held.Sv57 m) = m.now
 served_behind (held.Hashed m) = m.now
 served_behind (held.Clustered m) = m.now
+served_behind (held.Range m) = m.now

@@ -99,6 +99,7 @@ fn serve_slot(slot: &mut Slot, accesses: &[Access], areas: &[Area])
         Slot::Sv57(machine) => serve_all(machine, accesses, areas),
         Slot::Hashed(machine) => serve_all(machine, accesses, areas),
         Slot::Clustered(machine) => serve_all(machine, accesses, areas),
+        Slot::Range(machine) => serve_all(machine, accesses, areas),
     }
 }
 

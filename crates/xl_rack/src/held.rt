@@ -4,6 +4,7 @@ use xl_clustered::Clustered;
 use xl_hashed::Hashed;
 use xl_machine::Machine;
 use xl_radix_walk::RadixRow;
+use xl_range::Ranges;
 
 /// A machine of a rack, to be read. The variant is the one that its row's table and mode name.
 pub enum Held<'a> {
@@ -12,4 +13,5 @@ pub enum Held<'a> {
     Sv57(&'a Machine<RadixRow<5>>),
     Hashed(&'a Machine<Hashed>),
     Clustered(&'a Machine<Clustered>),
+    Range(&'a Machine<Ranges>),
 }

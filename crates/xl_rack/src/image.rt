@@ -102,6 +102,10 @@ fn write_held<K: Sink>(out: &mut K, held: Held<'_>) -> Result<(), Failed>
             let _table = machine.table();
             Ok(())
         }
+        Held::Range(machine) => {
+            let _table = machine.table();
+            Ok(())
+        }
     }
 }
 

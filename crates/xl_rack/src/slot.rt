@@ -18,6 +18,7 @@ use xl_hashed::Hashed;
 use xl_machine::Machine;
 use xl_model::{Counts, Event, Kind, Mode, NoMemory, Outcome, Reply, Row, Table};
 use xl_radix_walk::RadixRow;
+use xl_range::Ranges;
 
 /// A machine over one of the tables.
 #[derive(Drop)]
@@ -27,6 +28,7 @@ pub(crate) enum Slot {
     Sv57(Machine<RadixRow<5>>),
     Hashed(Machine<Hashed>),
     Clustered(Machine<Clustered>),
+    Range(Machine<Ranges>),
 }
 
 /// The machine of a row with a radix table of LEVELS levels.
@@ -75,6 +77,21 @@ fn open_clustered(
     Machine::open(alloc, row, table)
 }
 
+/// The machine of a row with a table of ranges.
+fn open_ranges(
+    alloc: Global,
+    row: Row,
+    ranges: u32,
+    range_tlb: u8,
+) -> Result<Machine<Ranges>, NoMemory>
+    requires row { IsRow (row_of row) }
+    requires table { row.table ≡ table.Range ranges range_tlb }
+    ensures { IfOk result (λ m. m ≡ opened (row_of row)) }
+{
+    let table = Ranges::open(alloc, ranges, range_tlb)?;
+    Machine::open(alloc, row, table)
+}
+
 impl Slot {
     /// The machine of a row in its opening state, over the table that the row names.
     ///
@@ -97,6 +114,9 @@ impl Slot {
             }
             Table::Clustered { buckets, blocks } => {
                 Ok(Slot::Clustered(open_clustered(alloc, row, buckets, blocks)?))
+            }
+            Table::Range { ranges, range_tlb } => {
+                Ok(Slot::Range(open_ranges(alloc, row, ranges, range_tlb)?))
             }
             _ => unreachable!(),
         }
@@ -134,6 +154,7 @@ impl Slot {
             Slot::Sv57(machine) => machine.step(event),
             Slot::Hashed(machine) => machine.step(event),
             Slot::Clustered(machine) => machine.step(event),
+            Slot::Range(machine) => machine.step(event),
         }
     }
 
@@ -151,6 +172,7 @@ impl Slot {
             Slot::Sv57(machine) => machine.access(va, kind),
             Slot::Hashed(machine) => machine.access(va, kind),
             Slot::Clustered(machine) => machine.access(va, kind),
+            Slot::Range(machine) => machine.access(va, kind),
         }
     }
 
@@ -164,6 +186,7 @@ impl Slot {
             Slot::Sv57(machine) => machine.row(),
             Slot::Hashed(machine) => machine.row(),
             Slot::Clustered(machine) => machine.row(),
+            Slot::Range(machine) => machine.row(),
         }
     }
 
@@ -177,6 +200,7 @@ impl Slot {
             Slot::Sv57(machine) => machine.space(),
             Slot::Hashed(machine) => machine.space(),
             Slot::Clustered(machine) => machine.space(),
+            Slot::Range(machine) => machine.space(),
         }
     }
 
@@ -191,6 +215,7 @@ impl Slot {
             Slot::Sv57(machine) => machine.counts(),
             Slot::Hashed(machine) => machine.counts(),
             Slot::Clustered(machine) => machine.counts(),
+            Slot::Range(machine) => machine.counts(),
         }
     }
 
@@ -205,6 +230,7 @@ impl Slot {
             Slot::Sv57(machine) => Held::Sv57(machine),
             Slot::Hashed(machine) => Held::Hashed(machine),
             Slot::Clustered(machine) => Held::Clustered(machine),
+            Slot::Range(machine) => Held::Range(machine),
         }
     }
 }
