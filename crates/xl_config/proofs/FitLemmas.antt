@@ -383,21 +383,25 @@ has_word kind.Radix = true
 has_word kind.Hashed = true
 has_word kind.Clustered = true
 has_word kind.Cuckoo = false
-has_word kind.Range = false
+has_word kind.Range = true
 
 some_has : (k m : TableKind) → has_word k ≡ true → Some k ≡ Some m → has_word m ≡ true
 some_has k m h e = subst (λ (z : TableKind). has_word z ≡ true) (same_Some k m e) h
 
+-- one word more
+abbrev or_word : Bool → TableKind → Option TableKind → Option TableKind
+or_word word k other = if word then Some k else other
+
+word_has : (word : Bool) (k m : TableKind) (other : Option TableKind) → has_word k ≡ true → (other ≡ Some m → has_word m ≡ true) → or_word word k other ≡ Some m → has_word m ≡ true
+word_has true k m other h rest e = some_has k m h e
+word_has false k m other h rest e = rest e
+
 named_has : (s : List ℕ) (k : TableKind) → kind_named s ≡ Some k → has_word k ≡ true
 named_has s k h =
-    elim (bytes_eq s (codes "radix")) as (λ v. (if v then Some kind.Radix else (if bytes_eq s (codes "hashed") then Some kind.Hashed else (if bytes_eq s (codes "clustered") then Some kind.Clustered else None))) ≡ Some k → has_word k ≡ true) [
-      | true ↦ λ e. some_has kind.Radix k refl e
-      | false ↦ λ e. elim (bytes_eq s (codes "hashed")) as (λ v. (if v then Some kind.Hashed else (if bytes_eq s (codes "clustered") then Some kind.Clustered else None)) ≡ Some k → has_word k ≡ true) [
-        | true ↦ λ f. some_has kind.Hashed k refl f
-        | false ↦ λ f. elim (bytes_eq s (codes "clustered")) as (λ v. (if v then Some kind.Clustered else None) ≡ Some k → has_word k ≡ true)
-            [ true ↦ λ g. some_has kind.Clustered k refl g | false ↦ λ g. cc ] f
-      ] e
-    ] h
+    word_has (bytes_eq s (codes "radix")) kind.Radix k _ refl
+    (word_has (bytes_eq s (codes "hashed")) kind.Hashed k _ refl
+    (word_has (bytes_eq s (codes "clustered")) kind.Clustered k _ refl
+    (word_has (bytes_eq s (codes "range")) kind.Range k None refl (λ e. cc)))) h
 
 kind_fits : (row : ℕ) (ms : Members) → Fits (λ k. has_word k ≡ true) (kind_in row ms)
 kind_fits row ms =
@@ -422,12 +426,18 @@ clustered_built row ms =
     then_any _ (number_in row 9 (codes "buckets") 1 1048576 ms) _ (λ buckets.
     then_any _ (number_in row 11 (codes "blocks") 1 131072 ms) _ (λ blocks. refl))
 
+range_built : (row : ℕ) (ms : Members) → Fits (λ t. is_built t ≡ true) (range_in row ms)
+unfolding range_in
+range_built row ms =
+    then_any _ (number_in row 20 (codes "ranges") 1 65536 ms) _ (λ ranges.
+    then_any _ (range_tlb_by row (get_member (codes "range_tlb") ms)) _ (λ width. refl))
+
 table_built : (k : TableKind) (row : ℕ) (mode : Mode) (spaces : ℕ) (ms : Members) → has_word k ≡ true → Fits (λ t. is_built t ≡ true) (table_in k row mode spaces ms)
 table_built kind.Radix row mode spaces ms h = radix_built row mode spaces ms
 table_built kind.Hashed row mode spaces ms h = hashed_built row ms
 table_built kind.Clustered row mode spaces ms h = clustered_built row ms
 table_built kind.Cuckoo row mode spaces ms h = cc
-table_built kind.Range row mode spaces ms h = cc
+table_built kind.Range row mode spaces ms h = range_built row ms
 
 row_built : (row : ℕ) (earlier : List (List ℕ)) (ms : Members) → Fits IsBuilt (row_in row earlier ms)
 unfolding row_in

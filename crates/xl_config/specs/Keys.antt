@@ -123,13 +123,15 @@ kind_named s =
     if bytes_eq s (codes "radix") then Some kind.Radix
     else (if bytes_eq s (codes "hashed") then Some kind.Hashed
     else (if bytes_eq s (codes "clustered") then Some kind.Clustered
-    else None))
+    else (if bytes_eq s (codes "range") then Some kind.Range
+    else None)))
 
 -- A table of a kind that can be opened.
 abbrev pub is_built : Table → Bool
 is_built (table.Radix frames caches) = true
 is_built (table.Hashed buckets entries) = true
 is_built (table.Clustered buckets blocks) = true
+is_built (table.Range ranges range_tlb) = true
 is_built _ = false
 
 -- A row whose table can be opened.

@@ -212,6 +212,7 @@ fn kind_named(text: &str) -> Option<TableKind>
         "radix" => Some(TableKind::Radix),
         "hashed" => Some(TableKind::Hashed),
         "clustered" => Some(TableKind::Clustered),
+        "range" => Some(TableKind::Range),
         _ => None,
     }
 }

@@ -72,7 +72,7 @@ fn a_key_of_a_row_breaks_its_first_rule(rt: HostRuntime) -> Result<(), Fail> {
             5,
             3,
         ),
-        ("table", "-", "table = \"range\"\npurge = 1", 5, 3),
+        ("table", "-", "table = \"ranges\"\npurge = 1", 5, 3),
         ("-", "-", "purge = 1", 6, 2),
         ("-", "-", "purge = \"none\"", 6, 3),
         ("table_frames", "-", "purge = \"Page\"", 6, 3),
@@ -373,17 +373,41 @@ fn rows_have_what_their_keys_say_and_defaults(rt: HostRuntime) -> Result<(), Fai
 }
 
 #[test]
+fn a_key_of_a_table_of_ranges_breaks_its_first_rule(rt: HostRuntime) -> Result<(), Fail> {
+    let rows: [(&str, u8, u8); 5] = [
+        ("purge = 1", 6, 2),
+        ("range_tlb = 3", 20, 1),
+        ("ranges = 0", 20, 3),
+        ("ranges = 65536\nrange_tlb = 3", 21, 3),
+        ("ranges = 65536\nrange_tlb = 64\nbuckets = 1", 23, 4),
+    ];
+    for (more, key, rule) in rows {
+        let mut text = Vec::new(rt.alloc());
+        put_row(&mut text, "table", "-", "table = \"range\"")?;
+        text.extend_from_slice(more.as_bytes())?;
+        assert_eq!(rt;
+            bad_key(rt.alloc(), text.as_slice()),
+            Some((1, key, rule)),
+            "{more}"
+        );
+    }
+    Ok(())
+}
+
+#[test]
 fn a_row_has_the_table_that_its_word_says(rt: HostRuntime) -> Result<(), Fail> {
     let text = b"[[row]]\nname = \"h\"\nmode = \"sv39\"\nframes = 1\nspaces = 1\n\
         table = \"hashed\"\nbuckets = 3\nentries = 5\n\
         [[row]]\nname = \"c\"\nmode = \"sv39\"\nframes = 1\nspaces = 1\n\
-        table = \"clustered\"\nbuckets = 7\nblocks = 9\n";
+        table = \"clustered\"\nbuckets = 7\nblocks = 9\n\
+        [[row]]\nname = \"r\"\nmode = \"sv39\"\nframes = 1\nspaces = 1\n\
+        table = \"range\"\nranges = 11\nrange_tlb = 12\n";
     let rows = read(rt.alloc(), text).map_err(|_| AllocError)?;
-    let [h, c] = rows.as_slice() else {
+    let [h, c, r] = rows.as_slice() else {
         return Err(AllocError.into());
     };
     assert_eq!(rt;
-        (h.table, c.table),
+        (h.table, c.table, r.table),
         (
             Table::Hashed {
                 buckets: 3,
@@ -392,6 +416,10 @@ fn a_row_has_the_table_that_its_word_says(rt: HostRuntime) -> Result<(), Fail> {
             Table::Clustered {
                 buckets: 7,
                 blocks: 9
+            },
+            Table::Range {
+                ranges: 11,
+                range_tlb: 12
             }
         )
     );
