@@ -3,8 +3,6 @@
 
 ghost use Rattle.std.specs.Prelude.{◌≡◌, map};
 ghost use Rattle.std.specs.List.{All};
-ghost use Rattle.xl_machine.specs.Served.{accessed_by};
-ghost use Rattle.xl_model.specs.RowRun.{reply_to};
 ghost use Rattle.xl_rack.specs.Batches.{demand_served, access_served, row_served};
 ghost use Rattle.xl_rack.specs.Slots.{served_of, slot_form, IsNamed};
 
@@ -27,64 +25,22 @@ fn serve_demand<S: Structure>(machine: &mut Machine<S>, va: u64, kind: Kind, are
     }
 }
 
-/// Serves an access, straight where that is said.
-#[inline(always)]
-fn access_by<S: Structure>(
-    machine: &mut Machine<S>,
-    va: u64,
-    kind: Kind,
-    is_straight: bool,
-) -> Reply
-    ensures reply { result ≡ reply_to machine.old.row machine.old.state va kind }
-    ensures after { machine.new ≡ accessed_by va kind machine.old }
-{
-    if is_straight {
-        machine.access_straight(va, kind)
-    } else {
-        machine.access(va, kind)
-    }
-}
-
 /// Serves an access, with the events of its demand.
 #[inline(always)]
-fn serve_one<S: Structure>(
-    machine: &mut Machine<S>,
-    va: u64,
-    kind: Kind,
-    areas: &[Area],
-    is_straight: bool,
-)
+fn serve_one<S: Structure>(machine: &mut Machine<S>, va: u64, kind: Kind, areas: &[Area])
     ensures { machine.new ≡ access_served va kind areas.now machine.old }
 {
-    let reply = access_by(machine, va, kind, is_straight);
-    if let Reply::Unmapped = reply {
+    if let Reply::Unmapped = machine.access(va, kind) {
         serve_demand(machine, va, kind, areas);
     }
 }
 
 /// Serves accesses to a machine one after another.
-#[inline(always)]
-fn serve_each<S: Structure>(
-    machine: &mut Machine<S>,
-    accesses: &[Access],
-    areas: &[Area],
-    is_straight: bool,
-)
-    ensures { machine.new ≡ row_served accesses.now areas.now machine.old }
-{
-    for access in accesses {
-        serve_one(machine, access.va, access.kind, areas, is_straight);
-    }
-}
-
-/// Serves accesses to a machine one after another, by a loop of its own where the row has no array.
 fn serve_all<S: Structure>(machine: &mut Machine<S>, accesses: &[Access], areas: &[Area])
     ensures { machine.new ≡ row_served accesses.now areas.now machine.old }
 {
-    if machine.has_arrays() {
-        serve_each(machine, accesses, areas, false)
-    } else {
-        serve_each(machine, accesses, areas, true)
+    for access in accesses {
+        serve_one(machine, access.va, access.kind, areas);
     }
 }
 

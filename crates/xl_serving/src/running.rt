@@ -147,26 +147,8 @@ fn replay<R: Rows, T: Trace, F: Folder, K: Sink>(
     ensures met { IfErr result ServingIsMet }
 {
     match words.trace {
-        Some(name) => replay_over(
-            rows,
-            areas,
-            trace,
-            words,
-            folder,
-            out,
-            name,
-            commands,
-        ),
-        None => replay_over(
-            rows,
-            areas,
-            &mut NoTrace,
-            words,
-            folder,
-            out,
-            "",
-            commands,
-        ),
+        Some(name) => replay_over(rows, areas, trace, words, folder, out, name, commands),
+        None => replay_over(rows, areas, &mut NoTrace, words, folder, out, "", commands),
     }
 }
 
@@ -191,7 +173,16 @@ fn replay_over<R: Rows, T: Trace, F: Folder, K: Sink>(
     ensures counts { WriteCounts (is_written result) (K.put_faults out.old) (K.put_faults out.new) }
     ensures met { IfErr result ServingIsMet }
 {
-    serve(rows, areas, words.answers, out, trace, folder, name, commands)?;
+    serve(
+        rows,
+        areas,
+        words.answers,
+        out,
+        trace,
+        folder,
+        name,
+        commands,
+    )?;
     write_end(rows, words.image, out)?;
     Ok(())
 }

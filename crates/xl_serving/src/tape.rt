@@ -74,7 +74,6 @@ impl Trace for Tape {
         })
     }
 
-    #[inline(always)]
     fn next<F: Folder>(
         &mut self,
         folder: &mut F,

@@ -3,7 +3,7 @@ use Rattle.xl_model.specs.Mapping.{leaf_at_page}
 use Rattle.xl_model.specs.Rows.{row_of}
 use Rattle.xl_model.specs.declared.leaf.Reply.TheVariants as reply
 use Rattle.xl_machine.proofs.Accesses.{page_small, walk_leaf, hit_reached, hit_kept, missed_kept, walked_kept, walked_reached, walked_fit, hit_reply, hit_after, walked_reply, walked_after}
-use Rattle.xl_machine.proofs.machine.Machine.serve_page.Goals as goal
+use Rattle.xl_machine.proofs.machine.Machine.access_behind.Goals as goal
 
 pub look-requires-clause-page : goal.look-requires-clause-page
 look-requires-clause-page g c = (page_small c.self.inside.row.mode c.args.va c.args.page (rw (← c.self.view_is) at c.requires.page)).0
