@@ -6,6 +6,7 @@ mod blocks;
 mod hits;
 mod lists;
 mod nodes;
+mod ranges;
 mod tables;
 
 use std::io;
@@ -13,7 +14,8 @@ use std::str::FromStr;
 
 /// The answer to a part that there isn't.
 const PARTS: &str =
-    "the parts are lists, blocks, front, second, nodes, few_nodes, hashed, clustered and meets";
+    "the parts are lists, blocks, front, second, nodes, few_nodes, hashed, clustered, meets, ranges, \
+    range_loads and range_hits";
 
 fn main(rt: HostRuntime) -> io::Result<()> {
     for line in rt.lines(rt.alloc()) {
@@ -36,6 +38,9 @@ fn main(rt: HostRuntime) -> io::Result<()> {
             "hashed" => tables::hashed(rt.alloc(), calls),
             "clustered" => tables::clustered(rt.alloc(), calls),
             "meets" => tables::meets(rt.alloc(), calls),
+            "ranges" => ranges::walks(rt.alloc(), calls),
+            "range_loads" => ranges::loads(rt.alloc(), calls),
+            "range_hits" => ranges::hits(rt.alloc(), calls),
             _ => {
                 println!(rt; "{PARTS}")?;
                 continue;

@@ -8,7 +8,7 @@ use xl_clustered::Clustered;
 use xl_hashed::Hashed;
 use xl_model::{Leaf, NoMemory, Order, Perm, Structure, Walk};
 
-const READ: Perm = Perm {
+pub const READ: Perm = Perm {
     r: true,
     w: false,
     x: false,
@@ -46,7 +46,7 @@ fn add_clustered(table: &mut Clustered, page: u64)
 }
 
 /// The first page of the leaf that a walk found, 0 where it found none.
-fn first_of(walk: Walk) -> u64 {
+pub fn first_of(walk: Walk) -> u64 {
     match walk.leaf {
         Some(leaf) => leaf.first,
         None => 0,
