@@ -1,12 +1,14 @@
 -- No rows at all: nothing is told, and nothing changes.
-use Rattle.std.proofs.Common.{◌≡◌, refl, sym, ap, subst, ℕ, Bool, true, false, List, [], ◌∷◌}
-use Rattle.std.specs.Prelude.{Option}
+use Rattle.std.proofs.Common.{◌≡◌, refl, sym, ap, ◌∙◌, subst, ℕ, Bool, true, false, List, [], ◌∷◌}
+use Rattle.std.specs.Prelude.{Option, map}
 use Rattle.xl_model.specs.declared.script.Area.{Area}
 use Rattle.xl_model.specs.declared.script.Item.{Item}
 use Rattle.xl_model.specs.Items.{areas_after}
 use Rattle.xl_model.specs.Scenes.{scene_after, scenes_after, told_by}
 use Rattle.xl_outside.specs.Sinks.{SinkAfter}
 use Rattle.xl_outside.proofs.SinkLemmas.{sink_same}
+use Rattle.xl_serving.specs.declared.batch.Access.{Access}
+use Rattle.xl_serving.specs.Batches.{item_of, waited}
 use Rattle.xl_serving.specs.Serving.{HasServed, scene_of}
 
 none_told : (answers : Bool) (item : Item) (areas : List Area) → told_by answers (item ∷ []) (scene_of [] areas) ≡ []
@@ -23,3 +25,7 @@ none_served written faults roomy answers item areas k e = record {
   scene_is = none_changed item areas e;
   writes = subst (λ (text : List ℕ). SinkAfter written faults roomy text k k true) (sym (none_told answers item areas)) (sink_same written faults roomy k);
 }
+
+pub none_waited : (accesses : List Access) (areas : List Area) → scene_of [] areas ≡ waited accesses (scene_of [] areas)
+none_waited [] areas = refl
+none_waited (a ∷ accesses) areas = none_waited accesses areas ∙ ap (scenes_after (map item_of accesses)) (none_changed (item_of a) areas refl)
