@@ -57,16 +57,6 @@ or-none : (q : Option Range) → q ≡ or_else q None
 or-none None = refl
 or-none (Some x) = refl
 
-pub between-init : (words : List ℕ) (t : Tree) (k root nodes : ℕ) → CanLook words root nodes t → IsBetween words t k 0 nodes root (record { before = 0; from = 0 })
-between-init words t k root nodes c = record {
-  here = c.stands.at;
-  few = (let f = c.few in omega arith);
-  before_in = omega arith;
-  from_in = omega arith;
-  before_is = or-none (last_below k (ranges t));
-  from_is = or-none (first_from k (ranges t));
-}
-
 pub between-end : (words : List ℕ) (t : Tree) (k depth nodes at : ℕ) (found : Beside) → IsBetween words t k depth nodes at found → at ≡ 0 → AreBeside words t k found
 between-end words t k depth nodes at found b z = go (down t k depth) b.here b.before_is b.from_is
   where

@@ -2,7 +2,7 @@
 use Rattle.std.proofs.Common.{◌≡◌, refl, sym, ap, ◌∙◌, subst, ℕ, suc, ◌+◌, ◌-◌, ◌*◌, ◌^◌, ◌<◌, ◌≤◌, Bool, true, false, cond, nat_lt, List, length, slice_index, inl, inr, arith}
 use Rattle.xl_model.specs.Ranges.{range_key, end_key, is_above}
 use Rattle.xl_treap.specs.Trees.{Tree, Tip, Bin, IsAt, InOrder, Over, IsHeap, down, cut_low, cut_high}
-use Rattle.xl_treap.specs.Steps.{SameLine, Each, Off, SameBut, IsCut, CanPart, TopOver, IsHung}
+use Rattle.xl_treap.specs.Steps.{SameLine, Each, Off, IsCut, CanPart, TopOver, IsHung}
 use Rattle.xl_treap.proofs.OrderLemmas.{pick-yes, pick-no}
 use Rattle.xl_treap.proofs.AboveLemmas.{above-total, over-chain}
 use Rattle.xl_treap.proofs.WayLemmas.{child, down-next, order-down, heap-down, at-there}
@@ -23,9 +23,6 @@ each-high P k (Bin m x l r) (e, a, b) = by (nat_lt (range_key x) k) (each-high P
     by : (c : Bool) → Each P (cut_high k l) → Each P (cut_high k r) → Each P (cond c (cut_high k r) (Bin m x (cut_high k l) r))
     by true u v = v
     by false u v = (e, u, b)
-
-same-child : (old w : List ℕ) (k : ℕ) (t s : Tree) → child k t ≡ s → SameBut (child k t) old w → SameBut s old w
-same-child old w k t s e b = subst (λ z. SameBut z old w) e b
 
 -- one node on the way up goes to the lower part
 pub cut-below : (old w new : List ℕ) (at k bound top low high : ℕ) (t : Tree) → IsAt old at t → 0 < at → InOrder bound top t → IsCut old w low high k (child k t)

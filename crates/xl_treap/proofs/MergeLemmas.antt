@@ -3,8 +3,8 @@ use Rattle.std.proofs.Common.{◌≡◌, refl, sym, ap, ◌∙◌, subst, ℕ, s
 use Rattle.xl_model.specs.declared.leaf.Range.{Range}
 use Rattle.xl_model.specs.Ranges.{range_key, end_key, is_above}
 use Rattle.xl_treap.specs.Lines.{left_at, right_at}
-use Rattle.xl_treap.specs.Trees.{Tree, Tip, Bin, Pair, ranges, IsAt, InOrder, IsHeap, Over, down, merge, merge_into}
-use Rattle.xl_treap.specs.Steps.{Each, Keeps, Half, CanMerge}
+use Rattle.xl_treap.specs.Trees.{Tree, Tip, Bin, ranges, IsAt, InOrder, IsHeap, Over, down, merge, merge_into}
+use Rattle.xl_treap.specs.Steps.{Each, Keeps, Half}
 use Rattle.xl_treap.proofs.OrderLemmas.{pick-yes, pick-no, side, sizes, Within, order-of, of-order, order-le, order-wider}
 use Rattle.xl_treap.proofs.AboveLemmas.{above-total, over-chain}
 use Rattle.xl_treap.proofs.WayLemmas.{child, down-next, at-there, none-left}
@@ -101,19 +101,6 @@ pub record IsMerging (words path : List ℕ) (t : Tree) (k depth low high : ℕ)
   pub high_order : (top : ℕ) × InOrder (suc k) top second
   pub few : depth + (length (ranges first) + length (ranges second)) ≤ length path
   pub nodes : (i : ℕ) → i < depth → Half words (slice_index path i) k (down t k i)
-
-pub merging-init : (words path : List ℕ) (low high : ℕ) (pair : Pair) → CanMerge words low high (length path) pair → IsMerging words path (merge pair.low pair.high) pair.key 0 low high
-merging-init words path low high pair c = record {
-  first = pair.low;
-  second = pair.high;
-  low_at = c.low_at;
-  high_at = c.high_at;
-  rest = refl;
-  low_order = c.low_order;
-  high_order = c.high_order;
-  few = (let f = c.few in omega arith);
-  nodes = λ i h. absurd (omega arith);
-}
 
 -- the way ends where one of the trees does
 pub merged-low : (words path : List ℕ) (t : Tree) (k depth low high : ℕ) → IsMerging words path t k depth low high → low ≡ 0 → IsAt words high (down t k depth)

@@ -83,12 +83,6 @@ module _ (w0 w1 : List ℕ) (root nodes : ℕ) (t : Tree) (n : ℕ) (x : Range) 
           record { way = subst A put-none way; order = order; heap = can.stands.heap }
 
       module _ (w2 : List ℕ) (parts : Parts) (parted : IsParted w1 w2 t (range_key x) depth parts) where
-        pub put-line : 4 * n + 4 ≤ length w2
-        put-line = let a = node-one.there in let b = parted.cut.but.off.len in omega arith
-
-        pub put-short : parts.depth ≤ length path
-        put-short = let a = parted.short in let b = way.short in omega arith
-
         abbrev under : Tree
         under = down t (range_key x) parts.depth
 

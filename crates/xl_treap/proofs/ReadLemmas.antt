@@ -92,9 +92,6 @@ module _ (k low high : ℕ) (n : ℕ) (x : Range) (l r : Tree) (o : InOrder low 
   high-under y i = let a = lies-high y i in let b = a.from_low in let c = o.0.some in
       above-not (range_key x) (range_key y) (over-In (range_key x) y r h.1 i) (λ e. omega arith)
 
-  test : Range → Range → Bool
-  test y z = lets k (range_key y) (range_key z) (end_key z)
-
   x-read : is_read (ranges l ++ x ∷ ranges r) k x ≡ true
   x-read = all-true (λ z. lets k (range_key x) (range_key z) (end_key z)) (ranges l ++ x ∷ ranges r)
       (λ z i. lets-above k (range_key x) (range_key z) (end_key z)
