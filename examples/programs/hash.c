@@ -1,5 +1,5 @@
-/* Puts keys into a hash table and looks each up: pages in no order. No C library, so the trace has nothing else. KEYS is
-   how many keys, SLOTS how many slots of 16 bytes, a power of two. */
+/* Puts keys into a hash table and looks each up: pages in no order. No C library, so the trace has
+   nothing else. KEYS is how many keys, SLOTS how many slots of 16 bytes, a power of two. */
 #ifndef KEYS
 #define KEYS 6000
 #endif

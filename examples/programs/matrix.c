@@ -1,5 +1,6 @@
-/* Multiplies two square matrices whose rows stand a page apart: one is read along its rows, the other down its columns,
-   a page at each step. No C library, so the trace has nothing else. SIZE is how many rows. */
+/* Multiplies two square matrices whose rows stand a page apart: one is read along its rows, the
+   other down its columns, a page at each step. No C library, so the trace has nothing else. SIZE is
+   how many rows. */
 #ifndef SIZE
 #define SIZE 32
 #endif

@@ -1,5 +1,6 @@
-/* Sorts records of 64 bytes by merging runs of 1, 2, 4, ..: two arrays, each read and written from its beginning to its
-   end. No C library, so the trace has nothing else. RECORDS is how many records, a power of two. */
+/* Sorts records of 64 bytes by merging runs of 1, 2, 4, ..: two arrays, each read and written from
+   its beginning to its end. No C library, so the trace has nothing else. RECORDS is how many
+   records, a power of two. */
 #ifndef RECORDS
 #define RECORDS 1024
 #endif
