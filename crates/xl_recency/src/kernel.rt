@@ -20,9 +20,7 @@ pub(crate) fn put_in_front<T: Copy>(items: &mut [T], at: usize, item: T)
     items[0] = item;
 }
 
-/// The place of the first item that meets the test. Not in line: by itself the loop is unrolled, and then
-/// an item costs less than half.
-#[inline(never)]
+/// The place of the first item that meets the test.
 pub(crate) fn first_place<T, P: Fn(&T) -> bool>(items: &[T], test: &P) -> Option<usize>
     requires { P.IsAlwaysCallable test.now }
     ensures within { IfSome result (λ at. at < length items.now) }
