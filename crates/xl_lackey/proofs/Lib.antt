@@ -5,6 +5,7 @@ mod LaneLemmas
 mod LongLineLemmas
 mod NearLineLemmas
 mod OwnFormLemmas
+mod SkimLemmas
 mod SplitLemmas
 mod StepLemmas
 mod TableLemmas

@@ -34,16 +34,16 @@ take_part n start end buf =
 left_good : (last : Bool) (s : State) (rest : List ℕ) → s.bad ≡ None → left_by last s rest ≡ records s.lines (lines_by last (s.held ++ rest))
 left_good last s rest h = ap (λ (b : Option Fault). unless_bad b s.lines (lines_by last (s.held ++ rest))) h
 
--- lines that are passed
-pub left_passed : (last : Bool) (s t : State) (text : List ℕ) (before used n : ℕ) (v : Verdict) → s.bad ≡ None → text ≡ s.held → before ≡ s.lines
-    → ((rest : List ℕ) → records before (lines_by last (text ++ rest)) ≡ with_verdict n v (records n (lines_by last (drop used text ++ rest))))
-    → t ≡ record s { lines = n; held = drop used s.held } → (rest : List ℕ) → left_by last s rest ≡ with_verdict n v (left_by last t rest)
-left_passed last s t text before used n v h a b reads e rest =
+-- lines that are passed, whatever they give before what comes after them
+pub left_passed : (last : Bool) (s t : State) (text : List ℕ) (before used n : ℕ) (gives : Left → Left) → s.bad ≡ None → text ≡ s.held → before ≡ s.lines
+    → ((rest : List ℕ) → records before (lines_by last (text ++ rest)) ≡ gives (records n (lines_by last (drop used text ++ rest))))
+    → t ≡ record s { lines = n; held = drop used s.held } → (rest : List ℕ) → left_by last s rest ≡ gives (left_by last t rest)
+left_passed last s t text before used n gives h a b reads e rest =
     left_good last s rest h
     ∙ sym (ap₂ (λ (m : ℕ) (bs : List ℕ). records m (lines_by last (bs ++ rest))) b a)
     ∙ reads rest
-    ∙ ap (λ (bs : List ℕ). with_verdict n v (records n (lines_by last (drop used bs ++ rest)))) a
-    ∙ sym (ap (with_verdict n v) (ap (λ (u : State). left_by last u rest) e
+    ∙ ap (λ (bs : List ℕ). gives (records n (lines_by last (drop used bs ++ rest)))) a
+    ∙ sym (ap gives (ap (λ (u : State). left_by last u rest) e
     ∙ ap (λ (c : Option Fault). unless_bad c n (lines_by last (drop used s.held ++ rest))) h))
 
 -- bytes of a long line that are let go

@@ -4,5 +4,6 @@ pub mod Digits
 pub mod Lanes
 pub mod Lines
 pub mod Scans
+pub mod Skims
 pub mod Stream
 pub mod Usual

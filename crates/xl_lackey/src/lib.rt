@@ -9,12 +9,14 @@ mod next;
 mod reader;
 mod reference;
 mod scan;
+mod skim;
 mod usual;
 
 pub use access::{nth_access, sole_access};
 pub use next::Next;
 pub use reader::Reader;
 pub use reference::{Letter, Reference};
+pub use skim::{Access, Batch};
 
 #[cfg(test)]
 mod tests;

@@ -4,12 +4,14 @@ ghost use Rattle.std.specs.Prelude.{◌≡◌, ◌≢◌, ◌↔◌, ℕ, ◌+�
 ghost use Rattle.xl_lackey.specs.Lines.{parted};
 ghost use Rattle.xl_lackey.specs.Stream.{fresh, left, left_by, records_of, IsWaiting};
 ghost use Rattle.xl_lackey.specs.Answers.{Answers};
+ghost use Rattle.xl_lackey.specs.Skims.{Skimmed};
 
 use crate::fault::Fault;
 use crate::line::{Verdict, judge};
 use crate::next::Next;
 use crate::reference::Reference;
 use crate::scan::read_lines;
+use crate::skim::{Batch, skim_lines};
 use std::alloc::Global;
 use std::marker::Model;
 use xl_model::NoMemory;
@@ -121,6 +123,19 @@ impl Reader {
             }),
             Verdict::Bad { reason } => self.refuse(scan.lines, reason),
         }
+    }
+
+    /// Takes the next records while each is one access alone in Lackey's own form, and puts their
+    /// accesses behind those that are there, while there is room. It may take none.
+    #[inline(always)]
+    pub fn skim(&mut self, into: &mut Batch)
+        ensures { Skimmed self.old self.new into.old.items into.new.items }
+    {
+        let None = self.bad_line() else {
+            return;
+        };
+        let skim = skim_lines(self.held(), self.lines(), into);
+        self.pass(skim.used, skim.lines);
     }
 
     /// Where no newline is held: waits for more bytes, or judges the last line.

@@ -15,7 +15,7 @@ use Rattle.xl_model.specs.RowRun.{after_event, reply_to, outcome_of}
 use Rattle.xl_model.specs.Items.{area_for, wanted, map_of, again_where, demanded, state_after}
 use Rattle.xl_model.specs.Scenes.{Served, Scene, rows_after, scene_after, scenes_after}
 use Rattle.xl_machine.specs.Served.{accessed_by, after_of}
-use Rattle.xl_serving.specs.declared.batch.Access.{Access}
+use Rattle.xl_lackey.specs.declared.skim.Access.{Access}
 use Rattle.xl_serving.specs.Batches.{item_of, waited}
 use Rattle.xl_serving.specs.Serving.{scene_of}
 use Rattle.xl_rack.specs.declared.slot.Slot.{Slot}

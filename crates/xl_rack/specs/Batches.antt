@@ -5,7 +5,7 @@ use Rattle.xl_model.specs.declared.event.Event.TheVariants as event
 use Rattle.xl_model.specs.declared.script.Area.{Area}
 use Rattle.xl_model.specs.Items.{area_for, demanded, referenced}
 use Rattle.xl_model.specs.Scenes.{Served}
-use Rattle.xl_serving.specs.declared.batch.Access.{Access}
+use Rattle.xl_lackey.specs.declared.skim.Access.{Access}
 
 -- A row after the demand of an access that was unmapped.
 abbrev pub demand_served : ℕ → Kind → List Area → Served → Served

@@ -10,7 +10,7 @@ use crate::area::{area_of, map_for};
 use crate::slot::Slot;
 use xl_machine::Machine;
 use xl_model::{Area, Kind, Outcome, Reply, Structure};
-use xl_serving::Access;
+use xl_lackey::Access;
 
 /// Serves the map that an area demands for an address, and where it is done, the access once more.
 #[inline(never)]

@@ -19,7 +19,7 @@ use crate::slot::Slot;
 use std::alloc::Global;
 use std::marker::Model;
 use xl_model::{Area, Counts, Event, Kind, NoMemory, Outcome, Reply, Row};
-use xl_serving::Access;
+use xl_lackey::Access;
 
 /// The most rows of a rack.
 const MOST: usize = 16;

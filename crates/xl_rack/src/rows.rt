@@ -12,10 +12,11 @@ use crate::demand::{serve_access, serve_command};
 use crate::image::write_images;
 use crate::rack::Rack;
 use std::alloc::Global;
+use xl_lackey::Access;
 use xl_model::{Area, Event, Item, Kind, NoMemory, Row};
 use xl_outside::{Failed, Sink};
 use xl_report::write_row;
-use xl_serving::{Access, Rows};
+use xl_serving::{Rows};
 
 /// Serves an item to a row, where these areas were declared.
 #[inline(always)]

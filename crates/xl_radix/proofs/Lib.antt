@@ -16,6 +16,7 @@ mod FreeLemmas
 mod LookLemmas
 pub mod FoundLemmas
 mod FilledLemmas
+pub mod LazyLemmas
 mod WalkLemmas
 mod TakenLeafLemmas
 pub mod FreedNodeLemmas

@@ -1,5 +1,5 @@
 -- What the table's questions answer.
-use Rattle.std.proofs.Common.{ℕ, zero, suc, ◌≡◌, ◌≢◌, ◌+◌, ◌-◌, ◌*◌, ◌%◌, ◌^◌, ◌<◌, ◌≤◌, ◌==◌, Bool, true, false, not, nat_le, ◌⊎◌, inl, inr, List, slice_index_or, Option, Some, None, refl, sym, ◌∙◌, arith}
+use Rattle.std.proofs.Common.{slice_index, ℕ, zero, suc, ◌≡◌, ◌≢◌, ◌+◌, ◌-◌, ◌*◌, ◌%◌, ◌^◌, ◌<◌, ◌≤◌, ◌==◌, Bool, true, false, not, nat_le, ◌⊎◌, inl, inr, List, slice_index_or, Option, Some, None, refl, sym, ◌∙◌, arith}
 use Rattle.std.proofs.lemmas.Bool.Decides.{nat_tests}
 use Rattle.xl_model.specs.declared.address.Order.{Order}
 use Rattle.xl_model.specs.declared.address.Order.TheVariants as order
@@ -42,7 +42,7 @@ at-page top spaces s page l n leaves nodes words used t end =
       | None ↦ λ f. refl
     ] refl
 
-pub look-is : (top spaces s page l n i w b : ℕ) (r : Option Leaf) (pte : Pte) (leaves : List Leaf) (nodes : List (Option Node)) (words used : List ℕ) → IsTable top spaces leaves nodes words used → IsEnd top s page 0 l n nodes → i ≡ up l page % 512 → w ≡ slice_index_or words (n * 512 + i) w → b ≡ up l page → pte ≡ decode_of w l → r ≡ leaf_said s b (order_of l) pte → r ≡ leaf_at_page s page leaves
+pub look-is : (top spaces s page l n i w b : ℕ) (r : Option Leaf) (pte : Pte) (leaves : List Leaf) (nodes : List (Option Node)) (words used : List ℕ) → IsTable top spaces leaves nodes words used → IsEnd top s page 0 l n nodes → i ≡ up l page % 512 → w ≡ slice_index words (n * 512 + i) → b ≡ up l page → pte ≡ decode_of w l → r ≡ leaf_said s b (order_of l) pte → r ≡ leaf_at_page s page leaves
 look-is top spaces s page l n i w b r pte leaves nodes words used t end ei ew eb ep er =
     let says = read-says top spaces s page l n i w leaves nodes words used t.store end.at end.level_in ei ew in
     let said = said-is top spaces s l (up l page) leaves nodes (decode_of w l) t.store.mapping says in
@@ -79,7 +79,7 @@ block-first top spaces s first o nodes b =
     less : (a b c : ℕ) → a + b ≤ c → 0 < b → a < c
     less a b c h g = omega arith
 
-pub met-word : (top spaces s first l n i w : ℕ) (o : Order) (leaves : List Leaf) (nodes : List (Option Node)) (words used : List ℕ) → IsTable top spaces leaves nodes words used → IsBlock (Radix top spaces nodes) s first o → IsEnd top s first (level_of o) l n nodes → i ≡ up l first % 512 → w ≡ slice_index_or words (n * 512 + i) w → not (w == 0) ≡ meets_any s first o leaves
+pub met-word : (top spaces s first l n i w : ℕ) (o : Order) (leaves : List Leaf) (nodes : List (Option Node)) (words used : List ℕ) → IsTable top spaces leaves nodes words used → IsBlock (Radix top spaces nodes) s first o → IsEnd top s first (level_of o) l n nodes → i ≡ up l first % 512 → w ≡ slice_index words (n * 512 + i) → not (w == 0) ≡ meets_any s first o leaves
 met-word top spaces s first l n i w o leaves nodes words used t block end ei ew =
     let aligned = block-aligned top spaces s first o nodes block in
     let word = read-word top spaces s first l n i w leaves nodes words used t.store end.at ei ew in

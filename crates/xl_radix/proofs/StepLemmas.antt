@@ -26,13 +26,12 @@ use Rattle.xl_radix.proofs.ReadBackLemmas.{reads-back}
 use Rattle.xl_radix.proofs.CountLemmas.{counted-more, filled-le}
 
 -- The word that was read, in the node that stands at a page, is that of the slot.
-pub read-word : (top spaces s page l n i w : ℕ) (leaves : List Leaf) (nodes : List (Option Node)) (words used : List ℕ) → IsStore top spaces leaves nodes words used → Stands s page l n nodes → i ≡ up l page % 512 → w ≡ slice_index_or words (n * 512 + i) w → w ≡ word_at leaves nodes s l (up l page)
+pub read-word : (top spaces s page l n i w : ℕ) (leaves : List Leaf) (nodes : List (Option Node)) (words used : List ℕ) → IsStore top spaces leaves nodes words used → Stands s page l n nodes → i ≡ up l page % 512 → w ≡ slice_index words (n * 512 + i) → w ≡ word_at leaves nodes s l (up l page)
 read-word top spaces s page l n i w leaves nodes words used store at e f =
     let r = stands-word top s page l n leaves nodes words store.image at in
-    let inside : n * 512 + i < length words = let z = store.image.size in let y = r.0 in omega arith in
-    f ∙ get_or_default_zero words (n * 512 + i) w inside ∙ ap (λ (v : ℕ). slice_index words (n * 512 + v)) e ∙ r.1
+    f ∙ ap (λ (v : ℕ). slice_index words (n * 512 + v)) e ∙ r.1
 
-pub read-says : (top spaces s page l n i w : ℕ) (leaves : List Leaf) (nodes : List (Option Node)) (words used : List ℕ) → IsStore top spaces leaves nodes words used → Stands s page l n nodes → l < top → i ≡ up l page % 512 → w ≡ slice_index_or words (n * 512 + i) w →
+pub read-says : (top spaces s page l n i w : ℕ) (leaves : List Leaf) (nodes : List (Option Node)) (words used : List ℕ) → IsStore top spaces leaves nodes words used → Stands s page l n nodes → l < top → i ≡ up l page % 512 → w ≡ slice_index words (n * 512 + i) →
     Says (decode_of w l) s l (up l page) leaves nodes
 read-says top spaces s page l n i w leaves nodes words used store at low e f =
     let g = read-word top spaces s page l n i w leaves nodes words used store at e f in

@@ -1,5 +1,6 @@
 pub mod ReadBack
 pub mod Filled
+pub mod Lazy
 pub mod Walk
 pub mod Table
 pub mod Steps

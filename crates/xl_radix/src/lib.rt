@@ -2,6 +2,7 @@
 //! Sv57). The table is its own memory: what a walk over its words finds are its leaves.
 #![tactic(auto)]
 
+mod lazy;
 mod node;
 pub mod numbering;
 mod radix;

@@ -7,6 +7,7 @@ ghost use Rattle.xl_model.specs.Nodes.{number_of, opening_nodes, with_leaf_nodes
 ghost use Rattle.xl_model.specs.Room.{has_room};
 ghost use Rattle.xl_model.specs.Shapes.{shape_after};
 ghost use Rattle.xl_model.specs.Structures.{IsBlock, IsPage, IsLeafFor};
+ghost use Rattle.xl_radix.specs.Lazy.{IsFront};
 ghost use Rattle.xl_radix.specs.Steps.{shape_of, IsMove, IsMade};
 ghost use Rattle.xl_radix.specs.Walk.{WordsReadBack};
 
@@ -222,12 +223,13 @@ impl<const LEVELS: usize> Radix<LEVELS> {
         self.store.word(node as usize, index as usize)
     }
 
-    /// All words: 512 of each node number.
-    pub fn words(&self) -> &[u64]
-        ensures value { result.now ≡ self.entry.now.words }
-        ensures lines { length result.now % 4 ≡ 0 }
+    /// The first of the words, of which each node number has 512: behind them all are 0.
+    #[inline]
+    pub fn front(&self) -> &[u64]
+        ensures front { IsFront result.now self.entry.now.words }
+        ensures lines { length self.entry.now.words % 4 ≡ 0 }
     {
-        self.store.words()
+        self.store.front()
     }
 
     /// Counts so many loads, which were made by reading the words at once.

@@ -8,18 +8,19 @@ ghost use Rattle.xl_model.specs.Nodes.{up, is_below, in_nodes, free_count, put_f
 ghost use Rattle.xl_model.specs.Shapes.{Radix};
 ghost use Rattle.xl_model.specs.Structures.{IsBlock, IsLeafFor};
 ghost use Rattle.xl_phys.specs.Lines.{IsLine, IsWord};
+ghost use Rattle.xl_radix.specs.Lazy.{IsFront};
 ghost use Rattle.xl_radix.specs.ReadBack.{order_of as level_order, leaf_said};
 ghost use Rattle.xl_radix.specs.Walk.{WordsReadBack};
 ghost use Rattle.xl_radix.specs.Table.{IsExact, IsNearly, IsNew};
 ghost use Rattle.xl_model.specs.Image.{leaf_in};
 ghost use Rattle.xl_radix.specs.Steps.{IsEnd, Stands, IsReady, IsTaken, IsLess, IsMove};
 
+use crate::lazy::LazyWords;
 use crate::node::Node;
 use crate::numbering::Numbers;
 use std::alloc::Global;
 use std::marker::Model;
 use xl_model::{Leaf, NoMemory, Order, Perm};
-use xl_phys::{line_of, word_of};
 use xl_pte::{Pte, decode, leaf_word, pointer};
 
 /// Where a walk stands: a node and its level, and so the page's word in it.
@@ -33,7 +34,7 @@ pub struct Place {
 /// aren't 0. Contracts see the leaves that the words say, too.
 #[derive(Drop)]
 pub struct Store<const LEVELS: usize> {
-    words: Vec<u64>,
+    words: LazyWords,
     numbers: Numbers,
     used: Vec<u16>,
     spaces: u16,
@@ -46,15 +47,15 @@ impl<const LEVELS: usize> Model for Store<LEVELS> {
     ghost Value = { Stored };
 
     ghost view = { λ s. record {
-      leaves = read_back s.numbers s.words.items;
+      leaves = read_back s.numbers s.words;
       nodes = s.numbers;
-      words = s.words.items;
+      words = s.words;
       used = s.used.items;
       spaces = s.spaces;
     } };
 
-    ghost invariant = { λ s. IsStore LEVELS s.spaces (read_back s.numbers s.words.items)
-        s.numbers s.words.items s.used.items };
+    ghost invariant = { λ s. IsStore LEVELS s.spaces (read_back s.numbers s.words)
+        s.numbers s.words s.used.items };
 }
 
 /// The order of the leaves of a level; levels above 2 have none.
@@ -117,7 +118,7 @@ impl<const LEVELS: usize> Store<LEVELS> {
         ensures free { IfOk result (λ s. free_count s.nodes + spaces ≡ frames) }
     {
         let numbers = Numbers::open(alloc, LEVELS, frames, spaces)?;
-        let words = vec![in alloc; 0u64; frames * 512]?;
+        let words = LazyWords::open(alloc, frames * 512)?;
         let used = vec![in alloc; 0u16; frames]?;
         Ok(Store {
             words,
@@ -147,7 +148,7 @@ impl<const LEVELS: usize> Store<LEVELS> {
         let mut node = space as usize;
         let mut level = LEVELS - 1;
         'down: while level > least {
-            match decode(words[node * 512 + index_of(page, level)], level) {
+            match decode(words.get(node * 512 + index_of(page, level)), level) {
                 Pte::Pointer { node: next } => {
                     node = next as usize;
                     level -= 1;
@@ -166,7 +167,7 @@ impl<const LEVELS: usize> Store<LEVELS> {
         ensures { result ≡ leaf_at_page space page self.now.leaves }
     {
         let Place { node, level } = self.end_of(space, page, 0);
-        let word = self.words[node * 512 + index_of(page, level)];
+        let word = self.words.get(node * 512 + index_of(page, level));
         leaf_of(space, block_of(page, level), level, decode(word, level))
     }
 
@@ -177,7 +178,7 @@ impl<const LEVELS: usize> Store<LEVELS> {
         ensures { result ≡ meets_any space first order self.now.leaves }
     {
         let Place { node, level } = self.end_of(space, first, order.level());
-        self.words[node * 512 + index_of(first, level)] != 0
+        self.words.get(node * 512 + index_of(first, level)) != 0
     }
 
     /// The walk for a leaf that no leaf meets.
@@ -201,7 +202,7 @@ impl<const LEVELS: usize> Store<LEVELS> {
         requires index { index < 512 }
         ensures { result ≡ slice_index self.now.words (node * 512 + index) }
     {
-        self.words[node * 512 + index]
+        self.words.get(node * 512 + index)
     }
 
     /// Whether a node of this name is there.
@@ -228,12 +229,13 @@ impl<const LEVELS: usize> Store<LEVELS> {
         let _words = &self.words;
     }
 
-    /// All words.
-    pub fn words(&self) -> &[u64]
-        ensures value { result.now ≡ self.entry.now.words }
-        ensures size { length result.now ≡ length self.entry.now.nodes * 512 }
+    /// The first words: behind them all are 0.
+    #[inline]
+    pub fn front(&self) -> &[u64]
+        ensures front { IsFront result.now self.entry.now.words }
+        ensures size { length self.entry.now.words ≡ length self.entry.now.nodes * 512 }
     {
-        &self.words
+        self.words.front()
     }
 
     /// The word at a place, None where its line isn't all there.
@@ -241,7 +243,10 @@ impl<const LEVELS: usize> Store<LEVELS> {
         ensures some { IfSome result (IsWord self.now.words place) }
         ensures none { IfNone result (length self.now.words < 4 * (place / 4) + 4) }
     {
-        word_of(&self.words, place)
+        if place / 4 >= self.words.len() / 4 {
+            return None;
+        }
+        Some(self.words.get(place))
     }
 
     /// The four words of a line, None where they aren't all there.
@@ -249,7 +254,17 @@ impl<const LEVELS: usize> Store<LEVELS> {
         ensures some { IfSome result (IsLine self.now.words line) }
         ensures none { IfNone result (length self.now.words < 4 * line + 4) }
     {
-        line_of(&self.words, line)
+        if line >= self.words.len() / 4 {
+            return None;
+        }
+        let at = 4 * line;
+        let words = &self.words;
+        Some([
+            words.get(at),
+            words.get(at + 1),
+            words.get(at + 2),
+            words.get(at + 3),
+        ])
     }
 
     /// Makes the node below a slot that is empty, under the lowest free number.
@@ -276,7 +291,7 @@ impl<const LEVELS: usize> Store<LEVELS> {
             unreachable!()
         };
         let at = above.node * 512 + index_of(page, above.level);
-        self.words[at] = pointer(number as u64);
+        self.words.set(at, pointer(number as u64));
         self.used[above.node] += 1;
         number
     }
@@ -322,7 +337,7 @@ impl<const LEVELS: usize> Store<LEVELS> {
     {
         self.used[node] += 1;
         let at = node * 512 + index_of(leaf.first, leaf.order.level());
-        self.words[at] = leaf_word(leaf.frame, leaf.perm);
+        self.words.set(at, leaf_word(leaf.frame, leaf.perm));
     }
 
     /// Adds a leaf that no leaf meets, where the walk for it stops. The free numbers are enough.
@@ -356,7 +371,7 @@ impl<const LEVELS: usize> Store<LEVELS> {
     {
         self.used[node] -= 1;
         let at = node * 512 + index_of(first, order.level());
-        self.words[at] = 0;
+        self.words.set(at, 0);
     }
 
     /// Gives a leaf another permission, in the node that stands at it.
@@ -373,7 +388,7 @@ impl<const LEVELS: usize> Store<LEVELS> {
         // What the type keeps comes in by a look at a field.
         let _words = &self.words;
         let at = node * 512 + index_of(old.first, old.order.level());
-        self.words[at] = leaf_word(old.frame, perm);
+        self.words.set(at, leaf_word(old.frame, perm));
     }
 
     /// Gives a leaf that is there another permission.
@@ -442,7 +457,7 @@ impl<const LEVELS: usize> Store<LEVELS> {
     {
         self.used[above.node] -= 1;
         let at = above.node * 512 + index_of(page, above.level);
-        self.words[at] = 0;
+        self.words.set(at, 0);
         self.numbers.give(child);
     }
 
@@ -456,7 +471,7 @@ impl<const LEVELS: usize> Store<LEVELS> {
         ensures at { Stands space page (above.level - 1) result self.now.nodes }
         ensures empty { leaf_in space above.level (up above.level page) self.now.leaves ≡ None }
     {
-        let word = self.words[above.node * 512 + index_of(page, above.level)];
+        let word = self.words.get(above.node * 512 + index_of(page, above.level));
         match decode(word, above.level) {
             Pte::Pointer { node } => node as usize,
             _ => unreachable!(),

@@ -117,14 +117,14 @@ impl<const LEVELS: usize> Asked<LEVELS> {
 
     /// How many words aren't 0.
     fn filled(&self) -> usize {
-        self.table.words().iter().filter(|word| **word != 0).count()
+        self.table.front().iter().filter(|word| **word != 0).count()
     }
 }
 
 #[test]
 fn a_leaf_has_its_path_of_lowest_numbers(rt: HostRuntime) -> Result<(), Fail> {
     let mut asked = Asked::<3>::open(rt.alloc(), 5, 2)?;
-    assert_eq!(rt; asked.table.words().len(), 2560);
+    assert!(rt; asked.table.front().is_empty());
     let page = leaf(0, 1, Order::K4, 0);
     assert_eq!(rt; asked.add(page), Some(Ok(())));
     assert_eq!(rt; asked.add(page), None);
@@ -246,6 +246,6 @@ fn the_greatest_table_has_ample_memory(rt: HostRuntime) -> Result<(), Fail> {
     let asked = Asked::<3>::open(rt.alloc(), 16_384, 64)?;
     assert!(rt; asked.table.has_node(63, 2, 0));
     assert!(rt; !asked.table.has_node(64, 2, 0));
-    assert_eq!(rt; asked.table.words().len(), 8_388_608);
+    assert!(rt; asked.table.front().is_empty());
     Ok(())
 }

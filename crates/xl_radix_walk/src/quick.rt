@@ -1,9 +1,9 @@
 //! A walk over all words at once, that answers in the usual case alone.
 
-ghost use Rattle.std.specs.Prelude.{◌≡◌, ℕ, ◌%◌, ◌<◌, ◌≤◌, ◌^◌, length, IfSome};
+ghost use Rattle.std.specs.Prelude.{◌≡◌, ℕ, ◌<◌, ◌≤◌, ◌^◌, List, IfSome};
 ghost use Rattle.xl_pte.specs.Decode.{decode_of};
 ghost use Rattle.xl_radix.specs.Walk.{radix_back};
-ghost use Rattle.xl_radix_walk.specs.Quick.{Points, SaysSmall, Finds, HasWord};
+ghost use Rattle.xl_radix_walk.specs.Quick.{Points, SaysSmall, Finds, HasWord, AreFirst};
 
 use xl_model::{Leaf, Order};
 use xl_pte::{Pte, decode};
@@ -40,14 +40,14 @@ fn small_leaf(word: u64, space: u16, page: u64) -> Option<Leaf>
     }
 }
 
-/// The leaf that the walk of a page from `node` of level `start` finds at level 0. None says
-/// nothing.
+/// The leaf that the walk of a page from `node` of level `start` finds at level 0, over all words of
+/// which these are the first. None says nothing.
 #[inline(always)]
 pub fn quick_leaf(words: &[u64], start: usize, node: u64, space: u16, page: u64) -> Option<Leaf>
-    requires lines { length words.now % 4 ≡ 0 }
     requires start { start < 5 }
     requires node { node < 2 ^ 44 }
-    ensures { IfSome result (Finds words.now start node space page) }
+    ensures { (all : List ℕ) → AreFirst words.now all
+        → IfSome result (Finds all start node space page) }
 {
     let mut level = start;
     let mut at = node;
@@ -58,13 +58,13 @@ pub fn quick_leaf(words: &[u64], start: usize, node: u64, space: u16, page: u64)
     small_leaf(word_at(words, 0, at, page)?, space, page)
 }
 
-/// The word of a page in a node of this level.
+/// The word of a page in a node of this level, where it is one of the first.
 #[inline(always)]
 fn word_at(words: &[u64], level: usize, node: u64, page: u64) -> Option<u64>
-    requires lines { length words.now % 4 ≡ 0 }
     requires level { level < 5 }
     requires node { node < 2 ^ 44 }
-    ensures { IfSome result (HasWord words.now level node page) }
+    ensures { (all : List ℕ) → AreFirst words.now all
+        → IfSome result (HasWord all level node page) }
 {
     let place = node * 512 + index_of(page, level) as u64;
     if (place as usize) < words.len() {

@@ -120,7 +120,7 @@ fn straight<const LEVELS: usize>(
     ensures none { IfNone result (radix.new ≡ radix.old) }
 {
     radix.words_read_back();
-    let leaf = quick_leaf(radix.words(), from.level, from.node, space, page)?;
+    let leaf = quick_leaf(radix.front(), from.level, from.node, space, page)?;
     radix.count_loads(from.level as u64 + 1);
     Some(leaf)
 }

@@ -143,7 +143,7 @@ fn word<const LEVELS: usize>(row: &RadixRow<LEVELS>, node: usize, index: usize) 
     requires node { node < 64 }
     requires index { index < 512 }
 {
-    row.radix().words().get(node * 512 + index).copied()
+    row.radix().front().get(node * 512 + index).copied()
 }
 
 /// The frame that a walk of a page of space 0 finds, its cache hits, and the loads so far.

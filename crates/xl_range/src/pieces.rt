@@ -11,15 +11,16 @@ ghost use Rattle.xl_range.specs.Rows.{IsAt, HasLeaf};
 ghost use Rattle.xl_treap.specs.Treaps.{keeping, IsApart, has_key, resized};
 
 use xl_model::{Leaf, Order, Range};
+use xl_tlb::block_start;
 use xl_treap::Treap;
 
 /// The leaf of a range that covers a page of it.
+#[inline]
 pub(crate) fn leaf_in(range: &Range, page: u64) -> Leaf
     requires { IsAt page range.now }
     ensures { result ≡ leaf_of page range.now }
 {
-    let pages = range.order.pages();
-    let skipped = (page - range.start) / pages * pages;
+    let skipped = block_start(range.order, page - range.start);
     Leaf {
         space: range.space,
         first: range.start + skipped,

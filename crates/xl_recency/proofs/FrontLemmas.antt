@@ -1,37 +1,48 @@
 -- Items that go back by one place, one after another.
-use Rattle.std.proofs.Common.{◌≡◌, refl, sym, ap, ◌∙◌, ℕ, zero, suc, ◌+◌, ◌<◌, List, [], ◌∷◌, length, get_or, set, arith}
+use Rattle.std.proofs.Common.{◌≡◌, refl, sym, ap, ◌∙◌, ℕ, zero, suc, ◌+◌, ◌-◌, ◌<◌, ◌≤◌, List, [], ◌∷◌, length, get_or, set, arith}
 use Rattle.std.specs.List.{remove}
 
 module _ {A : Type 0} where
-  -- the items after so many of them went back by one place, behind an item in front
-  abbrev pub shifted : ℕ → A → List A → List A
-  shifted zero x ys = ys
-  shifted (suc i) x [] = []
-  shifted (suc i) x (y ∷ ys) = x ∷ shifted i y ys
+  -- the items without the one at `at`, where the items from `place` on up to it went back by one place: the one at
+  -- `place` stands there still
+  abbrev pub spread : ℕ → ℕ → List A → List A
+  spread place at [] = []
+  spread zero at (x ∷ xs) = x ∷ remove (x ∷ xs) at
+  spread (suc place) zero (x ∷ xs) = x ∷ xs
+  spread (suc place) (suc at) (x ∷ xs) = x ∷ spread place at xs
 
-  -- the item that has no place meanwhile
-  abbrev pub carried : ℕ → A → List A → A
-  carried zero x ys = x
-  carried (suc i) x [] = x
-  carried (suc i) x (y ∷ ys) = carried i y ys
+  pub spread-none : (at : ℕ) (xs : List A) → spread at at xs ≡ xs
+  spread-none at [] = refl
+  spread-none zero (x ∷ xs) = refl
+  spread-none (suc at) (x ∷ xs) = ap (λ (ys : List A). x ∷ ys) (spread-none at xs)
 
-  pub shifted-length : (i : ℕ) (x : A) (ys : List A) → length (shifted i x ys) ≡ length ys
-  shifted-length zero x ys = refl
-  shifted-length (suc i) x [] = refl
-  shifted-length (suc i) x (y ∷ ys) = ap suc (shifted-length i y ys)
+  -- one item more went back
+  spread-more : (place at : ℕ) (d : A) (xs : List A) → place < at → at < length xs
+      → set (spread (suc place) at xs) (suc place) (get_or (spread (suc place) at xs) place d) ≡ spread place at xs
+  spread-more place at d [] h k = absurd (omega arith)
+  spread-more place zero d (x ∷ xs) h k = absurd (omega arith)
+  spread-more zero (suc at) d (x ∷ []) h k = absurd (omega arith)
+  spread-more zero (suc at) d (x ∷ y ∷ ys) h k = refl
+  spread-more (suc place) (suc at) d (x ∷ xs) h k = ap (λ (ys : List A). x ∷ ys) (spread-more place at d xs (omega arith) (omega arith))
 
-  -- the next place is as it was
-  pub shifted-next : (i : ℕ) (x d : A) (ys : List A) → i < length ys → get_or (shifted i x ys) i d ≡ carried (suc i) x ys
-  shifted-next i x d [] h = absurd (omega arith)
-  shifted-next zero x d (y ∷ ys) h = refl
-  shifted-next (suc i) x d (y ∷ ys) h = shifted-next i y d ys (omega arith)
+  pub spread-back : (place at : ℕ) (d : A) (xs : List A) → 0 < place → place ≤ at → at < length xs
+      → set (spread place at xs) place (get_or (spread place at xs) (place - 1) d) ≡ spread (place - 1) at xs
+  spread-back zero at d xs some h k = absurd (omega arith)
+  spread-back (suc place) at d xs some h k =
+      let e : suc place - 1 ≡ place = omega arith in rw e (spread-more place at d xs (omega arith) k)
 
-  pub shifted-more : (i : ℕ) (x : A) (ys : List A) → i < length ys → set (shifted i x ys) i (carried i x ys) ≡ shifted (suc i) x ys
-  shifted-more i x [] h = absurd (omega arith)
-  shifted-more zero x (y ∷ ys) h = refl
-  shifted-more (suc i) x (y ∷ ys) h = ap (λ (zs : List A). x ∷ zs) (shifted-more i y ys (omega arith))
+  pub spread-all : (at : ℕ) (item : A) (xs : List A) → at < length xs → set (spread 0 at xs) 0 item ≡ item ∷ remove xs at
+  spread-all at item [] h = absurd (omega arith)
+  spread-all at item (x ∷ xs) h = refl
 
-  pub shifted-all : (at : ℕ) (x : A) (ys : List A) → at < length ys → shifted (suc at) x ys ≡ x ∷ remove ys at
-  shifted-all at x [] h = absurd (omega arith)
-  shifted-all zero x (y ∷ ys) h = refl
-  shifted-all (suc at) x (y ∷ ys) h = ap (λ (zs : List A). x ∷ zs) (shifted-all at y ys (omega arith))
+  pub spread-length : (place at : ℕ) (xs : List A) → place ≤ at → at < length xs → length (spread place at xs) ≡ length xs
+  spread-length place at [] h k = absurd (omega arith)
+  spread-length zero zero (x ∷ xs) h k = refl
+  spread-length zero (suc at) (x ∷ xs) h k = ap suc (one-less at xs (omega arith))
+    where
+      one-less : (at : ℕ) (xs : List A) → at < length xs → suc (length (remove xs at)) ≡ length xs
+      one-less at [] h = absurd (omega arith)
+      one-less zero (x ∷ xs) h = refl
+      one-less (suc at) (x ∷ xs) h = ap suc (one-less at xs (omega arith))
+  spread-length (suc place) zero (x ∷ xs) h k = absurd (omega arith)
+  spread-length (suc place) (suc at) (x ∷ xs) h k = ap suc (spread-length place at xs (omega arith) (omega arith))

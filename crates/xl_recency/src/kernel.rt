@@ -7,17 +7,17 @@ ghost use Rattle.xl_model.specs.Recency.{purged};
 ghost use Rattle.xl_recency.specs.Lists.{IsTest, IsFirst, AllFail, Touches};
 
 /// Puts the item in front, in place of the one at `at`. The lists are short, so that a loop costs less
-/// than a call that moves memory.
+/// than a call that moves memory; and from the last place on, since no item is carried then.
 pub(crate) fn put_in_front<T: Copy>(items: &mut [T], at: usize, item: T)
     requires { at < length items.old }
     ensures { items.new ≡ item ∷ remove items.old at }
 {
-    let mut carried = item;
-    for i in 0..at + 1 {
-        let next = items[i];
-        items[i] = carried;
-        carried = next;
+    let mut place = at;
+    while place > 0 {
+        items[place] = items[place - 1];
+        place -= 1;
     }
+    items[0] = item;
 }
 
 /// The place of the first item that meets the test.

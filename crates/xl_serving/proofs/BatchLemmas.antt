@@ -11,7 +11,7 @@ use Rattle.xl_model.specs.Scenes.{Served, Scene, rows_after, scene_after, scenes
 use Rattle.xl_model_lemmas.proofs.SceneLemmas.{scene-append, untold-stays}
 use Rattle.xl_outside.specs.Sinks.{SinkAfter}
 use Rattle.xl_outside.proofs.SinkLemmas.{sink_same}
-use Rattle.xl_serving.specs.declared.batch.Access.{Access}
+use Rattle.xl_lackey.specs.declared.skim.Access.{Access}
 use Rattle.xl_serving.specs.Batches.{item_of, waited}
 use Rattle.xl_serving.specs.Serving.{HasServed}
 use Rattle.xl_serving.proofs.ServedLemmas.{take_one}
@@ -22,7 +22,7 @@ unfolding state_after
 any-rows n m va k areas [] = refl
 any-rows n m va k areas (r ∷ rows) = ap (λ (rest : List Served). record r { state = state_after r.row (Referenced m va k) areas r.state } ∷ rest) (any-rows n m va k areas rows)
 
-any-number : (n m va : ℕ) (k : Kind) (s : Scene) → scene_after (Referenced n va k) s ≡ scene_after (Referenced m va k) s
+pub any-number : (n m va : ℕ) (k : Kind) (s : Scene) → scene_after (Referenced n va k) s ≡ scene_after (Referenced m va k) s
 unfolding scene_after
 any-number n m va k s = ap (λ (rows : List Served). record { rows = rows; areas = s.areas }) (any-rows n m va k s.areas s.rows)
 

@@ -24,7 +24,7 @@ use Rattle.xl_serving.specs.Serving.{event_at, count_of, scene_of, HasServed, Re
 use Rattle.xl_serving.proofs.ServedLemmas.{served_none, served_on, served_cut}
 use Rattle.xl_serving.proofs.AreaLemmas.{served_area}
 
-before-before : (xs ys : List Item) (c : Course) → before xs (before ys c) ≡ before (xs ++ ys) c
+pub before-before : (xs ys : List Item) (c : Course) → before xs (before ys c) ≡ before (xs ++ ys) c
 before-before xs ys c = ap (λ (zs : List Item). record { items = zs; fault = c.fault }) (sym (append_assoc xs ys c.items))
 
 pub reached_none : {K : Type 0} {written : K → Option (List ℕ)} {faults : K → ℕ} {roomy : K → ℕ → Type 0} (answers : Bool) (c : Course) (p : Scene) (k : K)

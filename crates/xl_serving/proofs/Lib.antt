@@ -4,6 +4,7 @@ mod RecordLemmas
 mod ServedLemmas
 mod BatchLemmas
 mod CourseLemmas
+mod SkimLemmas
 mod ItemLemmas
 mod AreaLemmas
 mod InputLemmas

@@ -7,7 +7,7 @@ use Rattle.xl_model.specs.Items.{areas_after}
 use Rattle.xl_model.specs.Scenes.{scene_after, scenes_after, told_by}
 use Rattle.xl_outside.specs.Sinks.{SinkAfter}
 use Rattle.xl_outside.proofs.SinkLemmas.{sink_same}
-use Rattle.xl_serving.specs.declared.batch.Access.{Access}
+use Rattle.xl_lackey.specs.declared.skim.Access.{Access}
 use Rattle.xl_serving.specs.Batches.{item_of, waited}
 use Rattle.xl_serving.specs.Serving.{HasServed, scene_of}
 

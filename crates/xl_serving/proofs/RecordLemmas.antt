@@ -1,16 +1,18 @@
 -- What the reader's answer says of the records that are left.
-use Rattle.std.proofs.Common.{◌≡◌, ℕ, ◌≤◌, ◌<◌, true, false, List, [], ◌∷◌, length, take, drop, refl, ap, arith, ◌∙◌, sym, inl, inr}
+use Rattle.std.proofs.Common.{◌≡◌, ℕ, ◌+◌, ◌%◌, ◌^◌, ◌≤◌, ◌<◌, Bool, true, false, List, [], ◌∷◌, ◌++◌, length, take, drop, refl, ap, arith, ◌∙◌, sym, inl, inr}
 use Rattle.std.specs.Prelude.{Option, None, Some, Ok}
 use Rattle.std.proofs.lemmas.Bool.{cases_lt, false_from_ne_true, false≢true}
 use Rattle.std.proofs.lemmas.List.{drop_all}
+use Rattle.xl_model.specs.declared.fault.InputFault.{InputFault}
 use Rattle.xl_model.specs.declared.fault.InputFault.TheVariants.{TraceTooLong, TraceLine}
-use Rattle.xl_model.specs.Courses.{at_end}
+use Rattle.xl_model.specs.Courses.{Accesses, Trail, at_end}
 use Rattle.xl_lackey.specs.declared.fault.Fault.{Fault}
 use Rattle.xl_lackey.specs.declared.reference.Reference.{Reference}
-use Rattle.xl_lackey.specs.Stream.{Record, Left, left, due, MayCome}
+use Rattle.xl_lackey.specs.Skims.{with_records}
+use Rattle.xl_lackey.specs.Stream.{Record, Left, State, left, left_by, due, MayCome}
 use Rattle.xl_lackey.specs.Answers.{Gives, Ends, Refuses, record_of}
 use Rattle.xl_serving.specs.declared.trace.TraceStop.TheVariants as why
-use Rattle.xl_serving.specs.Traces.{trail, Progress, limit, ahead, left_of, next_number, accesses_of, with_record}
+use Rattle.xl_serving.specs.Traces.{trail, Progress, limit, ahead, left_of, next_number, numbered, fault_of, accesses_of, with_record}
 use Rattle.xl_serving.specs.Tapes.{IsUnfed, IsWithin, IsFedFrom, KeepsLeft, TraceAnswers, EndsBy}
 use Rattle.xl_serving.proofs.PieceLemmas.{long, short}
 
@@ -21,33 +23,59 @@ unfinished file p w h = false_from_ne_true p.reader.finished (λ t. let a = w.al
 may_come : (file : List ℕ) (p : Progress) → IsWithin file p → MayCome true p.reader (drop p.at file)
 may_come file p w t = let a = w.all t in drop_all p.at file (omega arith)
 
-same_within : (file : List ℕ) (old new : Progress) → IsWithin file old → new.at ≡ old.at → new.reader.finished ≡ old.reader.finished → IsWithin file new
+pub same_within : (file : List ℕ) (old new : Progress) → IsWithin file old → new.at ≡ old.at → new.reader.finished ≡ old.reader.finished → IsWithin file new
 same_within file old new w a f =
     let part = w.part in
     let most = w.most in record { part = omega arith; most = omega arith; all = λ h. a ∙ w.all (sym f ∙ h) }
 
-gives_long : (file : List ℕ) (r : Record) (old new : Progress) → IsWithin file old → Gives r old.reader new.reader → new.at ≡ old.at → new.number ≡ next_number old.number → limit < length file
-    → ahead file old ≡ with_record (accesses_of old.number r) (ahead file new)
-gives_long file r old new w g a m h =
-    long file old h
-    ∙ ap (λ (l : Left). trail old.number l (Some TraceTooLong)) (g.reads false (drop old.at (take limit file)) (unfinished file old w h))
-    ∙ ap (λ (k : ℕ). with_record (accesses_of old.number r) (trail (next_number old.number) (due new.reader (drop k (take limit file))) (Some TraceTooLong))) (sym a)
-    ∙ ap (λ (k : ℕ). with_record (accesses_of old.number r) (trail k (due new.reader (drop new.at (take limit file))) (Some TraceTooLong))) (sym m)
-    ∙ ap (with_record (accesses_of old.number r)) (sym (long file new h))
+-- records in front of others are numbered first
+pub numbered_on : (n : ℕ) (rs later : List Record) → n < 2 ^ 64
+    → numbered n (rs ++ later) ≡ numbered n rs ++ numbered ((n + length rs) % 2 ^ 64) later
+numbered_on n [] later h = let e : n ≡ (n + 0) % 2 ^ 64 = omega arith in ap (λ (k : ℕ). numbered k later) e
+numbered_on n (r ∷ rs) later h =
+    let e : (next_number n + length rs) % 2 ^ 64 ≡ (n + length (r ∷ rs)) % 2 ^ 64 = omega arith in
+    ap (λ (xs : List Accesses). accesses_of n r ∷ xs)
+    (numbered_on (next_number n) rs later (omega arith) ∙ ap (λ (k : ℕ). numbered (next_number n) rs ++ numbered k later) e)
 
-gives_short : (file : List ℕ) (r : Record) (old new : Progress) → IsWithin file old → Gives r old.reader new.reader → new.at ≡ old.at → new.number ≡ next_number old.number → length file ≤ limit
-    → ahead file old ≡ with_record (accesses_of old.number r) (ahead file new)
-gives_short file r old new w g a m h =
-    short file old h
-    ∙ ap (λ (l : Left). trail old.number l None) (g.reads true (drop old.at file) (may_come file old w))
-    ∙ ap (λ (k : ℕ). with_record (accesses_of old.number r) (trail (next_number old.number) (left new.reader (drop k file)) None)) (sym a)
-    ∙ ap (λ (k : ℕ). with_record (accesses_of old.number r) (trail k (left new.reader (drop new.at file)) None)) (sym m)
-    ∙ ap (with_record (accesses_of old.number r)) (sym (short file new h))
+-- numbered records in front of those that are left
+abbrev pub with_numbered : ℕ → List Record → Trail → Trail
+with_numbered n rs t = record t { records = numbered n rs ++ t.records }
 
-gives : (file : List ℕ) (r : Record) (old new : Progress) → IsWithin file old → Gives r old.reader new.reader → new.at ≡ old.at → new.number ≡ next_number old.number
+trail_on : (n : ℕ) (rs : List Record) (later : Left) (end : Option InputFault) → n < 2 ^ 64
+    → trail n (with_records rs later) end ≡ with_numbered n rs (trail ((n + length rs) % 2 ^ 64) later end)
+trail_on n rs later end h =
+    ap (λ (xs : List Accesses). record { records = xs; fault = fault_of later.1 end }) (numbered_on n rs later.0 h)
+
+-- what a reader gives, the trace gives
+abbrev GivesAll : List Record → State → State → Type 0
+GivesAll rs old new = (last : Bool) (rest : List ℕ) → MayCome last old rest → left_by last old rest ≡ with_records rs (left_by last new rest)
+
+module _ (file : List ℕ) (rs : List Record) (old new : Progress) (w : IsWithin file old) (below : old.number < 2 ^ 64) (g : GivesAll rs old.reader new.reader) (a : new.at ≡ old.at)
+    (m : new.number ≡ (old.number + length rs) % 2 ^ 64) where
+  gives_long : limit < length file → ahead file old ≡ with_numbered old.number rs (ahead file new)
+  gives_long h =
+      long file old h
+      ∙ ap (λ (l : Left). trail old.number l (Some TraceTooLong)) (g false (drop old.at (take limit file)) (unfinished file old w h))
+      ∙ trail_on old.number rs (due new.reader (drop old.at (take limit file))) (Some TraceTooLong) below
+      ∙ ap (λ (k : ℕ). with_numbered old.number rs (trail ((old.number + length rs) % 2 ^ 64) (due new.reader (drop k (take limit file))) (Some TraceTooLong))) (sym a)
+      ∙ ap (λ (k : ℕ). with_numbered old.number rs (trail k (due new.reader (drop new.at (take limit file))) (Some TraceTooLong))) (sym m)
+      ∙ ap (with_numbered old.number rs) (sym (long file new h))
+
+  gives_short : length file ≤ limit → ahead file old ≡ with_numbered old.number rs (ahead file new)
+  gives_short h =
+      short file old h
+      ∙ ap (λ (l : Left). trail old.number l None) (g true (drop old.at file) (may_come file old w))
+      ∙ trail_on old.number rs (left new.reader (drop old.at file)) None below
+      ∙ ap (λ (k : ℕ). with_numbered old.number rs (trail ((old.number + length rs) % 2 ^ 64) (left new.reader (drop k file)) None)) (sym a)
+      ∙ ap (λ (k : ℕ). with_numbered old.number rs (trail k (left new.reader (drop new.at file)) None)) (sym m)
+      ∙ ap (with_numbered old.number rs) (sym (short file new h))
+
+  pub gives_all : ahead file old ≡ with_numbered old.number rs (ahead file new)
+  gives_all = elim (cases_lt limit (length file)) [ inl h ↦ gives_long h | inr h ↦ gives_short h ]
+
+gives : (file : List ℕ) (r : Record) (old new : Progress) → IsWithin file old → old.number < 2 ^ 64 → Gives r old.reader new.reader → new.at ≡ old.at → new.number ≡ next_number old.number
     → ahead file old ≡ with_record (accesses_of old.number r) (ahead file new)
-gives file r old new w g a m = elim (cases_lt limit (length file))
-    [ inl h ↦ gives_long file r old new w g a m h | inr h ↦ gives_short file r old new w g a m h ]
+gives file r old new w below g a m = gives_all file (r ∷ []) old new w below g.reads a m
 
 ended_is : (file : List ℕ) (p : Progress) → IsWithin file p → p.reader.finished ≡ true → left p.reader [] ≡ ([], None) → ahead file p ≡ at_end None
 ended_is file p w f none =
@@ -89,17 +117,17 @@ still_first None p h = h
 still_first (Some file) p h = record { same = refl; within = h }
 
 -- a record was found, and numbered
-pub gave_found : (file : Option (List ℕ)) (r : Reference) (old mid found new : Progress) → Still file old mid → Gives (record_of r) mid.reader found.reader → found.at ≡ mid.at
+pub gave_found : (file : Option (List ℕ)) (r : Reference) (old mid found new : Progress) → mid.number < 2 ^ 64 → Still file old mid → Gives (record_of r) mid.reader found.reader → found.at ≡ mid.at
     → found.number ≡ mid.number → new ≡ record found { number = next_number found.number }
     → TraceAnswers (IsFedFrom file new) (left_of file old) (left_of file new) (Ok (Some (record { number = found.number; reference = r })))
-gave_found None r old mid found new s g a m e = absurd (none_given (record_of r) mid found s g)
-gave_found (Some file) r old mid found new s g a m e =
+gave_found None r old mid found new b s g a m e = absurd (none_given (record_of r) mid found s g)
+gave_found (Some file) r old mid found new b s g a m e =
     let reader = ap (λ (p : Progress). p.reader) e in
     let at = ap (λ (p : Progress). p.at) e in
     let number = ap (λ (p : Progress). p.number) e in
     let step : Gives (record_of r) mid.reader new.reader = rw reader g in (
       same_within file mid new s.within (at ∙ a) (ap (λ (p : Progress). p.reader.finished) e ∙ g.finished),
-      sym s.same ∙ gives file (record_of r) mid new s.within step (at ∙ a) (number ∙ ap next_number m)
+      sym s.same ∙ gives file (record_of r) mid new s.within b step (at ∙ a) (number ∙ ap next_number m)
           ∙ ap (λ (k : ℕ). with_record (accesses_of k (record_of r)) (ahead file new)) (sym m),
     )
 

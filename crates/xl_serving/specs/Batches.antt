@@ -3,7 +3,7 @@ use Rattle.std.specs.Prelude.{◌≡◌, Bool, true, List, [], map}
 use Rattle.xl_model.specs.declared.script.Item.{Item}
 use Rattle.xl_model.specs.declared.script.Item.TheVariants.{Referenced}
 use Rattle.xl_model.specs.Scenes.{Scene, scenes_after}
-use Rattle.xl_serving.specs.declared.batch.Access.{Access}
+use Rattle.xl_lackey.specs.declared.skim.Access.{Access}
 
 -- An access that waits, as an item. No line of it is written, so the number of its record tells nothing.
 abbrev pub item_of : Access → Item

@@ -1,6 +1,7 @@
 pub mod Traces
 pub mod Tapes
 pub mod Serving
+pub mod Skims
 pub mod Stops
 pub mod Messages
 pub mod Inputs

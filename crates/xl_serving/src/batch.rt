@@ -1,4 +1,5 @@
-//! Accesses that wait to be served together, where no line is written.
+//! Accesses that wait to be served together, where no line is written: a row serves many at a time, since
+//! no row sees another.
 
 ghost use Rattle.std.specs.Prelude.{◌≡◌, ◌<◌, ℕ, []};
 ghost use Rattle.arrayvec.specs.ArrayVec.{array_vec_len};
@@ -11,28 +12,8 @@ ghost use Rattle.xl_serving.specs.Batches.{waited};
 
 use crate::rows::Rows;
 use crate::trace::Numbered;
-use arrayvec::ArrayVec;
-use xl_lackey::{nth_access, sole_access};
+use xl_lackey::{Access, Batch, nth_access, sole_access};
 use xl_model::{Area, Kind};
-
-/// An access of the trace.
-#[derive(Clone, Copy, Debug, PartialEq, Eq)]
-pub struct Access {
-    pub va: u64,
-    pub kind: Kind,
-}
-
-impl Default for Access {
-    fn default() -> Access {
-        Access {
-            va: 0,
-            kind: Kind::Fetch,
-        }
-    }
-}
-
-/// Accesses that wait, in their order. A row serves many at a time, since no row sees another.
-pub(crate) type Batch = ArrayVec<Access, 64>;
 
 /// Serves the accesses that wait.
 #[inline(never)]

@@ -14,7 +14,6 @@ mod tape;
 mod trace;
 
 pub use areas::Areas;
-pub use batch::Access;
 pub use rows::Rows;
 pub use running::run;
 pub use serving::{ServeStop, serve};

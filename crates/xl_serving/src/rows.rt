@@ -10,8 +10,8 @@ ghost use Rattle.xl_outside.specs.Sinks.{SinkAfter};
 ghost use Rattle.xl_serving.specs.Serving.{HasServed, scene_of};
 ghost use Rattle.xl_serving.specs.Batches.{waited};
 
-use crate::batch::Access;
 use std::alloc::Global;
+use xl_lackey::Access;
 use xl_model::{Area, Event, Kind, NoMemory, Row};
 use xl_outside::{Failed, Sink};
 

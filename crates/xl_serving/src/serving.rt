@@ -1,6 +1,6 @@
 //! The commands of a script, served over a trace.
 
-ghost use Rattle.std.specs.Prelude.{◌≡◌, ◌+◌, ◌*◌, ◌^◌, ◌≤◌, ◌<◌, IfErr, IfSome, length, is_ok, false, None, List, []};
+ghost use Rattle.std.specs.Prelude.{◌≡◌, ◌+◌, ◌*◌, ◌^◌, ◌≤◌, ◌<◌, IfErr, IfSome, length, is_ok, false, ℕ, Option, None, List, []};
 ghost use Rattle.xl_model.specs.declared.script.Area.{Area};
 ghost use Rattle.xl_model.specs.Courses.{accesses_items, events_from, ran, ran_all, course_by, course, ended};
 ghost use Rattle.xl_outside.specs.Folders.{file_of, FolderAfter, fate_by};
@@ -9,14 +9,15 @@ ghost use Rattle.xl_script.specs.Placing.{IsPlaced, is_area};
 ghost use Rattle.xl_lackey.specs.Accesses.{accesses};
 ghost use Rattle.xl_serving.specs.declared.serving.ServeStop.TheVariants as why;
 ghost use Rattle.xl_serving.specs.Batches.{waited, IsIdle};
+ghost use Rattle.xl_serving.specs.Skims.{Skims};
 ghost use Rattle.xl_serving.specs.Serving.{HasServed, Serves, ServesPart, scene_of, count_of, event_at, of_trace_stop, serve_stop_fate, is_written, ServingIsMet};
 
 use crate::areas::Areas;
-use crate::batch::{Batch, put_off_record, settle};
+use crate::batch::{put_off_record, settle};
 use crate::rows::Rows;
 use crate::trace::{Numbered, Trace, TraceStop};
 use thiserror::Error;
-use xl_lackey::{nth_access, sole_access};
+use xl_lackey::{Batch, nth_access, sole_access};
 use xl_model::{Area, Command, Event, InputFault};
 use xl_outside::{Failed, Folder, Sink};
 use xl_script::Script;
@@ -121,6 +122,21 @@ fn serve_command<R: Rows, T: Trace, F: Folder, K: Sink>(
     }
 }
 
+/// Lets the accesses wait of the next records of one access alone, where no line is written.
+#[inline(always)]
+fn skim<T: Trace>(trace: &mut T, answers: bool, batch: &mut Batch)
+    requires idle { IsIdle answers batch.old.items }
+    ensures idle { IsIdle answers batch.new.items }
+    ensures skims { (file : Option (List ℕ)) → T.stands trace.old file
+        → Skims (T.stands trace.new file) (T.left trace.old file) (T.left trace.new file)
+        batch.old.items batch.new.items }
+    ensures no_more { T.size trace.new ≤ T.size trace.old }
+{
+    if !answers {
+        trace.skim(batch);
+    }
+}
+
 /// Serves all records that are left.
 fn serve_rest<R: Rows, T: Trace, F: Folder, K: Sink>(
     rows: &mut R,
@@ -145,6 +161,7 @@ fn serve_rest<R: Rows, T: Trace, F: Folder, K: Sink>(
 {
     let mut batch = Batch::new();
     'records: loop {
+        skim(trace, answers, &mut batch);
         match trace.next(folder, name) {
             Ok(Some(found)) => serve_record(rows, areas, answers, out, &mut batch, &found)?,
             Ok(None) => {

@@ -10,7 +10,7 @@ ghost use Rattle.xl_serving.specs.Tapes.{IsFedFrom, TraceIsMet, FillAnswers, Tra
 use crate::trace::{Numbered, Trace, TraceStop};
 use std::alloc::Global;
 use std::marker::Model;
-use xl_lackey::{Next, Reader, Reference};
+use xl_lackey::{Batch, Next, Reader, Reference};
 use xl_model::{InputFault, NoMemory};
 use xl_outside::{Folder, Unread};
 
@@ -89,6 +89,12 @@ impl Trace for Tape {
                 Next::More => self.fill(folder, name)?,
             }
         }
+    }
+
+    fn skim(&mut self, into: &mut Batch) {
+        let before = into.len();
+        self.reader.skim(into);
+        self.number = self.number.wrapping_add((into.len() - before) as u64);
     }
 }
 

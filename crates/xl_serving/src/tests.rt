@@ -2,9 +2,10 @@
 
 ghost use Rattle.std.specs.Prelude.{[]};
 
-use crate::{Access, Areas, Rows, ServeStop, Status, Tape, Trace, run, serve};
+use crate::{Areas, Rows, ServeStop, Status, Tape, Trace, run, serve};
 use std::alloc::{AllocError, Global};
 use std::test::Fail;
+use xl_lackey::Access;
 use xl_model::{Area, Event, InputFault, Kind, NoMemory, Row};
 use xl_outside::{Failed, MemFolder, MemSink, Sink};
 use xl_script::parse;

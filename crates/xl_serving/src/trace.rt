@@ -1,13 +1,14 @@
 //! Where the records of a run come from.
 
-ghost use Rattle.std.specs.Prelude.{◌≡◌, ℕ, ◌<◌, List, Option, None, IfOk, IfErr, IfSome, IsSome};
+ghost use Rattle.std.specs.Prelude.{◌≡◌, ℕ, ◌<◌, ◌≤◌, List, Option, None, IfOk, IfErr, IfSome, IsSome};
 ghost use Rattle.xl_model.specs.Courses.{Trail, at_end};
 ghost use Rattle.xl_outside.specs.Folders.{file_of, FolderAfter, fate_by};
+ghost use Rattle.xl_serving.specs.Skims.{Skims};
 ghost use Rattle.xl_serving.specs.Tapes.{TraceAnswers, TraceIsMet, trace_stop_fate};
 
 use std::alloc::Global;
 use thiserror::Error;
-use xl_lackey::Reference;
+use xl_lackey::{Batch, Reference};
 use xl_model::{InputFault, NoMemory};
 use xl_outside::Folder;
 
@@ -56,6 +57,14 @@ pub trait Trace: Sized {
             (fate_by trace_stop_fate result) }
         ensures met { IfErr result TraceIsMet }
         ensures shrinks { IfOk result (λ r. IsSome r → size self.new < size self.old) };
+
+    /// Takes the next records that are at hand while each is one access alone, and puts their accesses
+    /// behind those that are there, while there is room. It may take none.
+    fn skim(&mut self, into: &mut Batch)
+        ensures skims { (file : Option (List ℕ)) → stands self.old file
+            → Skims (stands self.new file) (left self.old file) (left self.new file)
+            into.old.items into.new.items }
+        ensures no_more { size self.new ≤ size self.old };
 }
 
 /// The trace of a run that names none: it has no records.
@@ -82,4 +91,6 @@ impl Trace for NoTrace {
     ) -> Result<Option<Numbered>, TraceStop> {
         Ok(None)
     }
+
+    fn skim(&mut self, _into: &mut Batch) {}
 }

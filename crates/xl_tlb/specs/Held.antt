@@ -1,6 +1,23 @@
--- How many leaves an array holds, as it is counted.
-use Rattle.std.specs.Prelude.{ℕ, ◌≡◌, ◌<◌, ◌^◌, ◌-◌}
+-- What is known of the leaves that an array holds.
+use Rattle.std.specs.Prelude.{ℕ, ◌≡◌, ◌<◌, ◌^◌, ◌-◌, Bool, false, List}
+use Rattle.std.specs.List.{All}
+use Rattle.xl_model.specs.declared.address.Order.TheVariants as order
+use Rattle.xl_model.specs.declared.leaf.Leaf.{Leaf}
+use Rattle.xl_model.specs.Tlb.{TlbArray, leaves_in_sets}
 
 -- The count is this number; the greatest count there is tells nothing.
 abbrev pub Counts : ℕ → ℕ → Type 0
 Counts held n = held < 2 ^ 64 - 1 → n ≡ held
+
+-- A leaf of 4 KiB.
+abbrev pub IsSmall : Leaf → Type 0
+IsSmall leaf = leaf.order ≡ order.K4
+
+-- Where larger leaves are ruled out, all leaves are of 4 KiB.
+abbrev pub Smalls : Bool → List (List Leaf) → Type 0
+Smalls large sets = large ≡ false → All (All IsSmall) sets
+
+-- How many leaves an array holds, and whether larger ones than of 4 KiB may be among them.
+pub record IsKnown (held : ℕ) (large : Bool) (a : TlbArray) : Type 0 where
+  pub counts : Counts held (leaves_in_sets a.sets)
+  pub smalls : Smalls large a.sets

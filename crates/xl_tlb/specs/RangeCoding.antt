@@ -1,6 +1,6 @@
 -- How a range is kept in an item of a recency list: its key in the tag, its frame and permission in one
 -- word, and its pages and order in the other.
-use Rattle.std.specs.Prelude.{ℕ, ◌+◌, ◌*◌, ◌/◌, ◌%◌, ◌^◌, ◌<◌, ◌≤◌, Bool, map, Option, None, Some}
+use Rattle.std.specs.Prelude.{ℕ, ◌≡◌, ◌+◌, ◌*◌, ◌/◌, ◌%◌, ◌^◌, ◌<◌, ◌≤◌, Bool, List, [], ◌∷◌, map, take, Option, None, Some}
 use Rattle.xl_model.specs.declared.event.Reach.{Reach}
 use Rattle.xl_model.specs.declared.leaf.Range.{Range}
 use Rattle.xl_model.specs.Addresses.{level_of}
@@ -52,3 +52,7 @@ item_holds space page i = holds_page space page (range_of i)
 -- A fence reaches the item's range.
 abbrev pub item_reached : Reach → Item → Bool
 item_reached to i = reaches_range to (range_of i)
+
+-- A range with pages is the first of these.
+abbrev pub IsNewest : Range → List Range → Type 0
+IsNewest r rs = 0 < r.pages → take 1 rs ≡ r ∷ []

@@ -36,16 +36,16 @@ impl Model for Levels {
 
 /// Fills each array that takes the leaf's order: how many do.
 #[tactic(auto, using(crate::proofs::TlbLemmas::count_first))]
-fn fill_each(arrays: &mut [AnyArray], leaf: Leaf) -> u64
-    requires { IsFit leaf }
-    ensures fills { result ≡ count_by (takes_leaf leaf) arrays.old }
-    ensures arrays { arrays.new ≡ map (array_filled leaf) arrays.old }
+fn fill_each(arrays: &mut [AnyArray], leaf: &Leaf) -> u64
+    requires { IsFit leaf.now }
+    ensures fills { result ≡ count_by (takes_leaf leaf.now) arrays.old }
+    ensures arrays { arrays.new ≡ map (array_filled leaf.now) arrays.old }
 {
     let Some((first, rest)) = arrays.split_first_mut() else {
         return 0;
     };
-    let others = fill_each(rest, leaf);
-    if first.fill(leaf) {
+    let others = if rest.is_empty() { 0 } else { fill_each(rest, leaf) };
+    if first.fill(*leaf) {
         return others + 1;
     }
     others
@@ -169,7 +169,7 @@ impl Levels {
         if self.arrays.is_empty() {
             return;
         }
-        let fills = fill_each(&mut self.arrays, leaf);
+        let fills = fill_each(&mut self.arrays, &leaf);
         self.fills = self.fills.wrapping_add(fills);
     }
 

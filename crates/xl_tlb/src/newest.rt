@@ -34,6 +34,14 @@ impl Newest {
         }
     }
 
+    /// No page is known from now on.
+    #[inline]
+    pub fn forget(&mut self)
+        ensures { (arrays : List TlbArray) → Knows self.new arrays }
+    {
+        self.keys = [0; 8];
+    }
+
     /// The word of the leaf that answers the page, where that is known.
     #[inline]
     pub fn word(&self, space: u16, page: u64) -> Option<u64>

@@ -1,61 +1,59 @@
 //! A TLB of ranges.
 
-ghost use Rattle.std.specs.Prelude.{◌≡◌, ◌+◌, ◌≤◌, find, length, IsOk, IfOk};
+ghost use Rattle.std.specs.Prelude.{◌≡◌, ◌+◌, find, length, true, IsOk, IfOk, IsTrue};
 ghost use Rattle.xl_model.specs.Ranges.{holds_page};
-ghost use Rattle.xl_model.specs.Recency.{touched, purged};
 ghost use Rattle.xl_model.specs.Caches.{empty_cache, without_items, reaches_range};
 ghost use Rattle.xl_model.specs.Walks.{with_touch, with_fill};
 ghost use Rattle.xl_recency.specs.Widths.{IsWidth};
-ghost use Rattle.xl_tlb.specs.RangeCoding.{IsKeepable, item_holds, item_reached};
+ghost use Rattle.xl_tlb.specs.RangeCoding.{IsKeepable};
 
-use crate::range_coding::{holds, item_of_range, range_of, reaches};
+use crate::range_list::RangeList;
 use std::alloc::Global;
 use std::marker::Model;
-use xl_model::{NoMemory, Range, Reach};
-use xl_recency::{Cache, Item};
+use xl_model::{NoMemory, Order, Perm, Range, Reach};
 
 /// A fully associative TLB of ranges (redundant memory mappings, Karakostas and others, 2015), of a
 /// width from 0 to 64. Contracts see its width and its ranges, newest first.
 #[derive(Drop)]
 pub struct RangeTlb {
-    cache: Cache,
+    list: RangeList,
+    /// The newest range, where the last look found it; else a range of no pages.
+    newest: Range,
 }
 
 impl Model for RangeTlb {
     ghost use Rattle.xl_model.specs.declared.leaf.Range.{Range};
     ghost use Rattle.xl_model.specs.Caches.{Cached};
-    ghost use Rattle.xl_tlb.specs.RangeCoding.{ranges_of};
+    ghost use Rattle.xl_tlb.specs.RangeCoding.{IsNewest};
 
     ghost Value = { Cached Range };
 
-    ghost view = { λ t. ranges_of t.cache };
+    ghost view = { λ t. t.list };
+
+    ghost invariant = { λ t. IsNewest t.newest t.list.items };
 }
 
-/// Brings the newest item whose range holds the page to the front.
-fn touch_holding(cache: &mut Cache, space: u16, page: u64) -> Option<Item>
-    ensures found { result ≡ find (item_holds space page) cache.old.items }
-    ensures moved { cache.new.items ≡ touched (item_holds space page) cache.old.items }
-    ensures width { cache.new.width ≡ cache.old.width }
-{
-    cache.touch(|item| holds(item, space, page))
-}
+/// A range of no pages.
+const NO_RANGE: Range = Range {
+    space: 0,
+    start: 0,
+    pages: 0,
+    frame: 0,
+    order: Order::K4,
+    perm: Perm {
+        r: true,
+        w: false,
+        x: false,
+        u: false,
+    },
+};
 
-/// Removes the items whose ranges hold the page.
-fn drop_holding(cache: &mut Cache, space: u16, page: u64) -> u64
-    ensures kept { cache.new.items ≡ purged (item_holds space page) cache.old.items }
-    ensures count { result + length cache.new.items ≡ length cache.old.items }
-    ensures width { cache.new.width ≡ cache.old.width }
+/// Whether the range holds the page of the space.
+#[inline]
+fn is_in(range: &Range, space: u16, page: u64) -> bool
+    ensures { result ≡ holds_page space page range.now }
 {
-    cache.remove_where(|item| holds(item, space, page))
-}
-
-/// Removes the items whose ranges a fence reaches.
-fn drop_reached(cache: &mut Cache, reach: Reach) -> u64
-    ensures kept { cache.new.items ≡ purged (item_reached reach) cache.old.items }
-    ensures count { result + length cache.new.items ≡ length cache.old.items }
-    ensures width { cache.new.width ≡ cache.old.width }
-{
-    cache.remove_where(|item| reaches(item, reach))
+    range.space == space && range.start <= page && page - range.start < range.pages
 }
 
 impl RangeTlb {
@@ -65,20 +63,38 @@ impl RangeTlb {
         ensures ok { IsOk result }
         ensures empty { IfOk result (λ tlb. tlb ≡ empty_cache width) }
     {
-        let cache = Cache::open(alloc, width)?;
-        Ok(RangeTlb { cache })
+        let list = RangeList::open(alloc, width)?;
+        Ok(RangeTlb {
+            list,
+            newest: NO_RANGE,
+        })
     }
 
     /// Brings the newest range that holds the page to the front, and gives it. None where none
     /// holds it; then nothing changes.
+    #[inline]
     pub fn look(&mut self, space: u16, page: u64) -> Option<Range>
         ensures found { result ≡ find (holds_page space page) self.old.items }
         ensures after { self.new ≡ with_touch (holds_page space page) self.old }
     {
-        let Some(item) = touch_holding(&mut self.cache, space, page) else {
+        if is_in(&self.newest, space, page) {
+            return Some(self.newest);
+        }
+        self.look_behind(space, page)
+    }
+
+    /// Looks through all ranges.
+    #[inline(never)]
+    fn look_behind(&mut self, space: u16, page: u64) -> Option<Range>
+        ensures found { result ≡ find (holds_page space page) self.old.items }
+        ensures after { self.new ≡ with_touch (holds_page space page) self.old }
+    {
+        self.newest = NO_RANGE;
+        let Some(range) = self.list.look(space, page) else {
             return None;
         };
-        Some(range_of(&item))
+        self.newest = range;
+        Some(range)
     }
 
     /// Puts the range in front. Where the TLB is full, its oldest range leaves.
@@ -86,7 +102,8 @@ impl RangeTlb {
         requires { IsKeepable range }
         ensures { self.new ≡ with_fill range self.old }
     {
-        let _left = self.cache.fill(item_of_range(range));
+        self.newest = NO_RANGE;
+        self.list.fill(range);
     }
 
     /// Removes the ranges that hold the page, and gives how many left.
@@ -94,7 +111,8 @@ impl RangeTlb {
         ensures left { result + length self.new.items ≡ length self.old.items }
         ensures after { self.new ≡ without_items (holds_page space page) self.old }
     {
-        drop_holding(&mut self.cache, space, page)
+        self.newest = NO_RANGE;
+        self.list.drop_page(space, page)
     }
 
     /// Removes the ranges that a fence reaches, and gives how many left.
@@ -102,6 +120,7 @@ impl RangeTlb {
         ensures left { result + length self.new.items ≡ length self.old.items }
         ensures after { self.new ≡ without_items (reaches_range reach) self.old }
     {
-        drop_reached(&mut self.cache, reach)
+        self.newest = NO_RANGE;
+        self.list.drop_reach(reach)
     }
 }

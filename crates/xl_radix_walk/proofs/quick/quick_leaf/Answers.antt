@@ -6,10 +6,10 @@ pub down-preserved : goal.down-preserved
 down-preserved c = record {
   low = omega arith;
   small = c.in_ok-at.ensures.small;
-  end = c.down.invariant.end ∙ steps-on c.args.words.now c.down.level c.down.at c.args.page c.in_ok-word_at.field-0 c.in_ok-at.at (omega arith) c.in_ok-word_at.ensures c.in_ok-at.ensures.said;
+  end = λ all first. c.down.invariant.end all first ∙ steps-on all c.down.level c.down.at c.args.page c.in_ok-word_at.field-0 c.in_ok-at.at (omega arith) (c.in_ok-word_at.ensures all first) c.in_ok-at.ensures.said;
 }
 
 pub returns : goal.returns
-returns c =
-    finds-if c.args.words.now c.args.start c.args.node c.down.level c.down.at c.args.space c.args.page c.in_ok-word_at-2.field-0 c.small_leaf.result (omega arith)
-    c.down.invariant.end c.in_ok-word_at-2.ensures c.small_leaf.ensures
+returns c all first =
+    finds-if all c.args.start c.args.node c.down.level c.down.at c.args.space c.args.page c.in_ok-word_at-2.field-0 c.small_leaf.result (omega arith)
+    (c.down.invariant.end all first) (c.in_ok-word_at-2.ensures all first) c.small_leaf.ensures

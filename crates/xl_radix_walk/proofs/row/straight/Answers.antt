@@ -12,4 +12,4 @@ quick_leaf-requires-clause-node g c =
 pub returns-clause-some : goal.returns-clause-some
 returns-clause-some g c =
     straight-found g.row.LEVELS c.args.from.level c.args.from.node c.args.space c.args.page c.in_ok-leaf.leaf c.args.radix.now c.count_loads.new.self c.words_read_back.ensures c.requires.node
-    (rw (← c.words.ensures.value) c.in_ok-leaf.ensures) c.count_loads.ensures
+    (c.in_ok-leaf.ensures _ (c.front.ensures.front, c.front.ensures.lines)) c.count_loads.ensures

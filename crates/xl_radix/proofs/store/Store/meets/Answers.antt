@@ -14,4 +14,4 @@ returns g c =
     let end = rw (← c.self.view_is) at c.end_of-node.ensures in
     let e = c.level.ensures in
     let there = rw e at end in
-    rw (← c.self.view_is) (met-word g.row.LEVELS _ c.args.space c.args.first c.end_of-node.result.level c.end_of-node.result.node c.index_of.result c.index.result.now c.args.order _ _ _ _ (record { store = c.self.invariant; exact = exact }) block there c.index_of.ensures.value c.index.ensures)
+    rw (← c.self.view_is) (met-word g.row.LEVELS _ c.args.space c.args.first c.end_of-node.result.level c.end_of-node.result.node c.index_of.result c.get.result c.args.order _ _ _ _ (record { store = c.self.invariant; exact = exact }) block there c.index_of.ensures.value c.get.ensures)

@@ -26,5 +26,5 @@ returns g c =
     let page = rw (← c.self.view_is) at c.leaf_at.ensures in
     let found = named-at-page g.row.LEVELS _ c.args.space c.args.first c.args.order _ c.self.invariant.mapping name in
     let same : found.0 ≡ c.in-Some.old = same_Some _ _ (sym (page ∙ found.2) ∙ c.in-Some.is) in
-    rw (← c.self.view_is) (subst (λ (v : Leaf). IsMove g.row.LEVELS c.self.inside.spaces c.args.space c.args.first c.args.to c.args.order (at_block c.args.space c.args.to c.args.order v) (read_back c.self.inside.numbers c.self.inside.words.items) c.self.inside.numbers) same
+    rw (← c.self.view_is) (subst (λ (v : Leaf). IsMove g.row.LEVELS c.self.inside.spaces c.args.space c.args.first c.args.to c.args.order (at_block c.args.space c.args.to c.args.order v) (read_back c.self.inside.numbers c.self.inside.words) c.self.inside.numbers) same
     (moves g.row.LEVELS _ c.args.space c.args.first c.args.to c.args.order found.0 _ _ _ _ c.self.invariant found.1 (rw (← c.self.view_is) at c.requires.block) (rw (← c.self.view_is) at c.requires.free)))

@@ -5,7 +5,7 @@ use Rattle.xl_radix.proofs.store.Store.open.Goals as goal
 pub invariant_of-result : goal.invariant_of-result
 invariant_of-result g c =
     let nodes = c.in_ok-numbers.ensures in
-    let words = c.in_ok-words.ensures.items_if_clones_equal (λ y h. h) in
+    let words = c.in_ok-words.ensures in
     let used = c.in_ok-used.ensures.items_if_clones_equal (λ y h. h) in
     let store = opening-store g.row.LEVELS c.args.spaces c.args.frames c.requires.levels.0 c.requires.levels.1 c.requires.spaces c.requires.frames in
     let back = opening-back g.row.LEVELS c.args.spaces c.args.frames c.requires.levels.0 c.requires.levels.1 c.requires.spaces c.requires.frames in
@@ -14,13 +14,13 @@ invariant_of-result g c =
 pub returns-clause-leaves : goal.returns-clause-leaves
 returns-clause-leaves g c =
     let nodes = c.in_ok-numbers.ensures in
-    let words = c.in_ok-words.ensures.items_if_clones_equal (λ y h. h) in
+    let words = c.in_ok-words.ensures in
     rw (nodes, words) (opening-back g.row.LEVELS c.args.spaces c.args.frames c.requires.levels.0 c.requires.levels.1 c.requires.spaces c.requires.frames)
 
 pub returns-clause-exact : goal.returns-clause-exact
 returns-clause-exact g c =
     let nodes = c.in_ok-numbers.ensures in
-    let words = c.in_ok-words.ensures.items_if_clones_equal (λ y h. h) in
+    let words = c.in_ok-words.ensures in
     let back = opening-back g.row.LEVELS c.args.spaces c.args.frames c.requires.levels.0 c.requires.levels.1 c.requires.spaces c.requires.frames in
     rw (nodes, words, back) (opening-exact g.row.LEVELS c.args.spaces c.args.frames c.requires.levels.0)
 

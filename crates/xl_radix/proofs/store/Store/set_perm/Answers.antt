@@ -38,7 +38,7 @@ write_perm-requires g c =
     let page = rw (← c.self.view_is) at c.leaf_at.ensures in
     let f = found-named g.row.LEVELS _ c.args.space c.args.first c.end_of-node.result.level c.end_of-node.result.node c.args.order c.leaf_at.result _ _ _ _ c.self.invariant name (rw c.level.ensures at end) page in
     let same : f.leaf ≡ c.in-Some.old = same_Some _ _ (sym f.at_page ∙ c.in-Some.is) in
-    let own = subst (λ (v : Leaf). leaf_named v.space v.first v.order (read_back c.self.inside.numbers c.self.inside.words.items) ≡ Some v) same f.own in
+    let own = subst (λ (v : Leaf). leaf_named v.space v.first v.order (read_back c.self.inside.numbers c.self.inside.words) ≡ Some v) same f.own in
     let at = subst (λ (v : Leaf). Stands v.space v.first (level_of v.order) c.end_of-node.result.node c.self.inside.numbers) same f.at in
     (lit< tt, (c.requires.exact, (rw (← c.self.view_is) own, rw (← c.self.view_is) at)))
 

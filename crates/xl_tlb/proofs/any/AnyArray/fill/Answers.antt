@@ -1,6 +1,14 @@
 use Rattle.xl_model.specs.Tlb.{leaves_in_sets}
 use Rattle.xl_tlb.specs.Any.{array_in}
+use Rattle.xl_tlb.specs.Hits.{leaf_hit}
+use Rattle.xl_tlb.proofs.SmallLemmas.{filled-small}
 use Rattle.xl_tlb.proofs.any.AnyArray.fill.Goals as goal
 
 pub invariant_of-self : goal.invariant_of-self
-invariant_of-self c = rw c.fill_in_array-filled.ensures.grown (c.raised-self-inside.ensures (leaves_in_sets (array_in c.self.inside.array).sets) c.self.invariant)
+invariant_of-self c =
+    let old = array_in c.self.inside.array in
+    record {
+      counts = rw c.fill_in_array-filled.ensures.grown (c.raised-self-inside.ensures (leaves_in_sets old.sets) c.self.invariant.counts);
+      smalls = λ none. rw c.fill_in_array-filled.ensures.array
+          (filled-small c.args.leaf old (c.with_order-self-inside.ensures.new none) (c.self.invariant.smalls (c.with_order-self-inside.ensures.old none)));
+    }

@@ -2,14 +2,20 @@ use Rattle.std.proofs.Common.{◌≡◌, ◌∙◌, arith}
 use Rattle.std.proofs.lemmas.Bool.Decides.{nat_tests}
 use Rattle.xl_model.specs.Tlb.{is_purged, leaves_in_sets}
 use Rattle.xl_tlb.specs.Any.{array_in}
+use Rattle.xl_tlb.proofs.SmallLemmas.{purged-small}
 use Rattle.xl_tlb.proofs.HeldLemmas.{none-leaves}
 use Rattle.xl_tlb.proofs.any.AnyArray.purge.Goals as goal
 
 pub invariant_of-self : goal.invariant_of-self
 invariant_of-self c =
-    c.lowered-self-inside.ensures (leaves_in_sets (array_in c.self.inside.array).sets) (leaves_in_sets (array_in c.purge_in-left.new.arrays).sets) c.self.invariant c.purge_in-left.ensures.left
+    let old = array_in c.self.inside.array in
+    let new = array_in c.purge_in-left.new.arrays in
+    record {
+      counts = c.lowered-self-inside.ensures (leaves_in_sets old.sets) (leaves_in_sets new.sets) c.self.invariant.counts c.purge_in-left.ensures.left;
+      smalls = λ none. rw c.purge_in-left.ensures.array (purged-small (is_purged c.args.purge c.args.leaf) old (c.self.invariant.smalls none));
+    }
 
 pub returns-then-self-eq0-clause-array : goal.returns-then-self-eq0-clause-array
 returns-then-self-eq0-clause-array c =
     let zero : c.self.inside.held ≡ 0 = let t = c.if-self-eq0.true in grind (arith, nat_tests) in
-    rw (← c.self.view_is) (none-leaves (is_purged c.args.purge c.args.leaf) (array_in c.self.inside.array) (c.self.invariant (omega arith) ∙ zero))
+    rw (← c.self.view_is) (none-leaves (is_purged c.args.purge c.args.leaf) (array_in c.self.inside.array) (c.self.invariant.counts (omega arith) ∙ zero))

@@ -4,7 +4,7 @@ use Rattle.xl_model.specs.Ranges.{holds_page}
 use Rattle.xl_model.specs.Caches.{Cached}
 use Rattle.xl_model.specs.Walks.{with_touch}
 use Rattle.xl_tlb.proofs.RangeLemmas.{range_touched, range_found}
-use Rattle.xl_tlb.proofs.range_tlb.RangeTlb.look.Goals as goal
+use Rattle.xl_tlb.proofs.range_list.RangeList.look.Goals as goal
 
 pub returns-in_default-clause-found : goal.returns-in_default-clause-found
 returns-in_default-clause-found c =

@@ -1,7 +1,7 @@
 use Rattle.std.proofs.Common.{◌∙◌, ap}
 use Rattle.xl_model.specs.Caches.{without_items, reaches_range}
 use Rattle.xl_tlb.proofs.RangeLemmas.{ranges_dropped}
-use Rattle.xl_tlb.proofs.range_tlb.RangeTlb.drop_reach.Goals as goal
+use Rattle.xl_tlb.proofs.range_list.RangeList.drop_reach.Goals as goal
 
 pub returns-clause-after : goal.returns-clause-after
 returns-clause-after c =

@@ -2,7 +2,7 @@ use Rattle.std.proofs.Common.{◌∙◌, ap}
 use Rattle.xl_model.specs.Ranges.{holds_page}
 use Rattle.xl_model.specs.Caches.{without_items}
 use Rattle.xl_tlb.proofs.RangeLemmas.{ranges_dropped}
-use Rattle.xl_tlb.proofs.range_tlb.RangeTlb.drop_page.Goals as goal
+use Rattle.xl_tlb.proofs.range_list.RangeList.drop_page.Goals as goal
 
 pub returns-clause-after : goal.returns-clause-after
 returns-clause-after c =

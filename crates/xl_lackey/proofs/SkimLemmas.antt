@@ -1,0 +1,76 @@
+-- Records of one access alone, taken one after another.
+use Rattle.std.proofs.Common.{◌≡◌, refl, sym, ap, ap₂, ◌∙◌, ℕ, ◌+◌, ◌≤◌, Bool, List, [], ◌∷◌, ◌++◌, length, map, drop, append_assoc, append-nil, arith, length-drop}
+use Rattle.std.specs.Prelude.{None, Some}
+use Rattle.std.proofs.lemmas.List.{map-append}
+use Rattle.xl_model.specs.declared.address.Kind.{Kind}
+use Rattle.xl_lackey.specs.declared.skim.Access.{Access}
+use Rattle.xl_lackey.specs.declared.skim.Skim.{Skim}
+use Rattle.xl_lackey.specs.declared.line.Verdict.{Verdict}
+use Rattle.xl_lackey.specs.declared.line.Verdict.TheVariants.{Skipped, Found, Bad}
+use Rattle.xl_text.specs.Texts.{lines_by}
+use Rattle.xl_lackey.specs.Scans.{IsFirstLine}
+use Rattle.xl_lackey.specs.Skims.{alone, accesses_in, IsAlone, IsAloneLine, Taken, Skims, Skimmed, with_records}
+use Rattle.xl_lackey.specs.Stream.{Record, Left, State, next_line, records}
+use Rattle.xl_lackey.proofs.SplitLemmas.{IsFirst, first_is, on_from, records_step}
+use Rattle.xl_lackey.proofs.StepLemmas.{left_passed}
+
+-- no record was taken
+pub taken_none : (xs : List Access) → Taken xs xs
+taken_none xs = record { taken = []; got = []; follow = sym (append-nil xs); each = refl }
+
+pub skim_none : (n : ℕ) (text : List ℕ) (xs : List Access) → Skims n text xs xs (record { used = 0; lines = n })
+unfolding taken_none
+skim_none n text xs = record { within = omega arith; of = taken_none xs; reads = λ last rest. refl }
+
+-- one record more was taken
+taken_more : (xs ys : List Access) (r : Record) (a : Access) → Taken xs ys → accesses_in r ≡ alone a → Taken xs (ys ++ a ∷ [])
+taken_more xs ys r a k e = record {
+  taken = k.taken ++ r ∷ [];
+  got = k.got ++ a ∷ [];
+  follow = ap (λ (zs : List Access). zs ++ a ∷ []) k.follow ∙ append_assoc xs k.got (a ∷ []);
+  each = map-append accesses_in k.taken (r ∷ [])
+      ∙ ap₂ (λ (x : List (List (ℕ × Kind))) (y : List (ℕ × Kind)). x ++ y ∷ []) k.each e
+      ∙ sym (map-append alone k.got (a ∷ []));
+}
+
+with_more : (rs : List Record) (r : Record) (later : Left) → with_records rs (r ∷ later.0, later.1) ≡ with_records (rs ++ r ∷ []) later
+with_more rs r later = ap (λ (all : List Record). (all, later.1)) (sym (append_assoc rs (r ∷ []) later.0))
+
+skim_by : (n : ℕ) (text : List ℕ) (xs ys : List Access) (s : Skim) (count : ℕ) (a : Access) (v : Verdict) → Skims n text xs ys s
+    → IsFirstLine (drop s.used text) count v → IsAlone v a → Skims n text xs (ys ++ a ∷ []) (record { used = s.used + count; lines = next_line s.lines })
+unfolding taken_more
+skim_by n text xs ys s count a Skipped k line e = absurd e
+skim_by n text xs ys s count a (Bad reason) k line e = absurd e
+skim_by n text xs ys s count a (Found l addr size) k line e =
+    let m = next_line s.lines in
+    let r : Record = record { letter = l; addr = addr; size = size; line = m } in
+    let from = drop s.used text in
+    let after = drop (s.used + count) text in
+    let first : IsFirst from after (Found l addr size) = first_is from after (Found l addr size) (on_from s.used count text line.line) in
+    record {
+      within = omega (arith, line.within, k.within, length-drop s.used text);
+      of = taken_more xs ys r a k.of e;
+      reads = λ last rest.
+          k.reads last rest
+          ∙ ap (with_records k.of.taken) (sym (records_step last s.lines m from rest first.line after (Found l addr size) _ first.parts refl refl first.verdict))
+          ∙ with_more k.of.taken r (records m (lines_by last (after ++ rest)));
+    }
+
+pub skim_more : (n : ℕ) (text : List ℕ) (xs ys : List Access) (s : Skim) (count : ℕ) (a : Access) → Skims n text xs ys s
+    → IsAloneLine (drop s.used text) count a → Skims n text xs (ys ++ a ∷ []) (record { used = s.used + count; lines = next_line s.lines })
+skim_more n text xs ys s count a k h = skim_by n text xs ys s count a h.verdict k h.line h.alone_is
+
+-- a reader that skims what it holds
+pub skimmed : (old new : State) (text : List ℕ) (n : ℕ) (xs ys : List Access) (s : Skim) → old.bad ≡ None → text ≡ old.held → n ≡ old.lines → Skims n text xs ys s
+    → new ≡ record old { lines = s.lines; held = drop s.used old.held } → Skimmed old new xs ys
+skimmed old new text n xs ys s h a b k e =
+    let size = ap (λ (u : State). length u.held) e in record {
+      of = k.of;
+      reads = λ last rest m. left_passed last old new text n s.used s.lines (with_records k.of.taken) h a b (k.reads last) e rest;
+      no_more = omega (arith, size, length-drop s.used old.held);
+      finished = ap (λ (u : State). u.finished) e;
+    }
+
+pub skimmed_none : (s : State) (xs : List Access) → Skimmed s s xs xs
+unfolding taken_none
+skimmed_none s xs = record { of = taken_none xs; reads = λ last rest m. refl; no_more = omega arith; finished = refl }
