@@ -1,0 +1,14 @@
+pub mod CodeLemmas
+pub mod BitLemmas
+pub mod HolderLemmas
+pub mod PlanLemmas
+pub mod WalkLemmas
+pub mod LookLemmas
+pub mod ValueLemmas
+pub mod HeldLemmas
+pub mod RowLemmas
+pub mod CountLemmas
+pub mod PurgeLemmas
+pub mod FenceLemmas
+pub mod ChangeLemmas
+pub mod GiveLemmas

@@ -1,0 +1,13 @@
+//! The row of elastic cuckoo tables (Skarlatos and others, 2020): a table for each order, and cuckoo
+//! walk caches of sections.
+#![tactic(auto)]
+
+mod coding;
+mod fence;
+mod fill;
+mod look;
+mod parts;
+mod plan;
+mod probe;
+mod purge;
+mod walk;
