@@ -12,3 +12,4 @@ pub mod PurgeLemmas
 pub mod FenceLemmas
 pub mod ChangeLemmas
 pub mod GiveLemmas
+pub mod OpenLemmas

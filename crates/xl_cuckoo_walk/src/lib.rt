@@ -10,4 +10,7 @@ mod parts;
 mod plan;
 mod probe;
 mod purge;
+mod row;
 mod walk;
+
+pub use row::CuckooRow;
