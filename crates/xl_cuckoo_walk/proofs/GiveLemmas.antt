@@ -38,6 +38,7 @@ use Rattle.xl_cuckoo.proofs.KeyLemmas.{once-reworded}
 use Rattle.xl_cuckoo_walk.specs.Coding.{sections_in, word_by}
 use Rattle.xl_cuckoo_walk.specs.Parts.{RowParts, ways_in, word_list, values_in, tags_in, leaves_in, row_state, SameRules, AreKeys, IsRow, table_of, with_table}
 use Rattle.xl_cuckoo_walk.specs.Plans.{is_counted, new_word}
+use Rattle.xl_cuckoo_walk.specs.Changes.{with_word_in}
 use Rattle.xl_cuckoo_walk.proofs.ChangeLemmas.{parts_with, IsTableFor, AreSections, ways-table, row-changed, state_with, state-changed, each-way}
 use Rattle.xl_cuckoo_walk.proofs.CountLemmas.{tied-given}
 use Rattle.xl_cuckoo_walk.proofs.PurgeLemmas.{purge-is, fresh-now}
@@ -282,15 +283,11 @@ pub word-some : (frame : ℕ) (q : Perm) → 0 < leaf_word frame q
 unfolding leaf_word
 word-some frame q = omega arith
 
--- the parts with another word for a key of an order
-abbrev pub with_word_in : Order → ℕ → ℕ → RowParts → RowParts
-with_word_in o key word p = with_table o (record (table_of o p) { ways = map (with_word key word) (table_of o p).ways }) p
-
 word-parts : (o : Order) (key word : ℕ) (p : RowParts)
     → parts_with o (record (table_of o p) { ways = map (with_word key word) (ways_of o (ways_in p)) }) p.middle p.large p.middle_cache p.large_cache p ≡ with_word_in o key word p
-word-parts order.K4 key word p = refl
-word-parts order.M2 key word p = refl
-word-parts order.G1 key word p = refl
+word-parts order.K4 k w p = refl
+word-parts order.M2 k w p = refl
+word-parts order.G1 k w p = refl
 
 -- what the code makes of a leaf that gets another permission
 pub row-given : MadeWordsReadBack → (p : RowParts) → IsRow p → (space first : ℕ) (o : Order) (perm : Perm) (n : NamedLeaf p space first o) (key old word : ℕ)

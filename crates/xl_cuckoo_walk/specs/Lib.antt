@@ -2,3 +2,4 @@ pub mod Coding
 pub mod Parts
 pub mod Plans
 pub mod Looks
+pub mod Changes

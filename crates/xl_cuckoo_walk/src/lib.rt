@@ -9,5 +9,7 @@ mod look;
 mod parts;
 mod plan;
 mod probe;
+mod protect;
 mod purge;
+mod tables;
 mod walk;
