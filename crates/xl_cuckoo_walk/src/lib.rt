@@ -5,11 +5,14 @@
 mod coding;
 mod fence;
 mod fill;
+mod insert;
 mod look;
 mod parts;
 mod plan;
 mod probe;
 mod protect;
 mod purge;
+mod remove;
 mod tables;
 mod walk;
+mod work;
