@@ -19,3 +19,4 @@ pub mod VerdictLemmas
 pub mod EnterLemmas
 pub mod LeaveLemmas
 pub mod StepLemmas
+pub mod RelocateLemmas

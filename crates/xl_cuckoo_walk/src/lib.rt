@@ -12,6 +12,7 @@ mod plan;
 mod probe;
 mod protect;
 mod purge;
+mod relocate;
 mod remove;
 mod tables;
 mod walk;
