@@ -48,7 +48,7 @@ tally-within q low top (x ∷ xs) sorted within =
     ] refl
 
 in-stretch : (size : Order) (key space first : ℕ) → first < 2 ^ 45 → section_key space (first / pages_of size) ≡ key
-    → (key / 2 ^ 45 * 2 ^ 52 + key % 2 ^ 45 * pages_of size ≤ space * 2 ^ 52 + first) × (space * 2 ^ 52 + first < key / 2 ^ 45 * 2 ^ 52 + key % 2 ^ 45 * pages_of size + 2 ^ 18 )
+    → (key / 2 ^ 45 * 2 ^ 52 + key % 2 ^ 45 * pages_of size ≤ space * 2 ^ 52 + first) × (space * 2 ^ 52 + first < key / 2 ^ 45 * 2 ^ 52 + key % 2 ^ 45 * pages_of size + 2 ^ 18)
 in-stretch order.K4 key space first h e = let a : key / 2 ^ 45 ≡ space = omega arith in let b : key % 2 ^ 45 ≡ first = omega arith in (omega arith, omega arith)
 in-stretch order.M2 key space first h e = let a : key / 2 ^ 45 ≡ space = omega arith in let b : key % 2 ^ 45 ≡ first / 512 = omega arith in (omega arith, omega arith)
 in-stretch order.G1 key space first h e = let a : key / 2 ^ 45 ≡ space = omega arith in let b : key % 2 ^ 45 ≡ first / 262144 = omega arith in (omega arith, omega arith)

@@ -70,17 +70,17 @@ then-rules a b c x y = record {
   width = y.width ∙ x.width;
 }
 
-rules-m2 : (o : Order) (t : CuckooState) (p : RowParts) → SameRules p.k4 p.m2 → SameRules (table_of o p) t → SameRules (with_table o t p).k4 (with_table o t p).m2
+pub rules-m2 : (o : Order) (t : CuckooState) (p : RowParts) → SameRules p.k4 p.m2 → SameRules (table_of o p) t → SameRules (with_table o t p).k4 (with_table o t p).m2
 rules-m2 order.K4 t p r s = both-rules p.k4 t p.m2 s r
 rules-m2 order.M2 t p r s = then-rules p.k4 p.m2 t r s
 rules-m2 order.G1 t p r s = r
 
-rules-g1 : (o : Order) (t : CuckooState) (p : RowParts) → SameRules p.k4 p.g1 → SameRules (table_of o p) t → SameRules (with_table o t p).k4 (with_table o t p).g1
+pub rules-g1 : (o : Order) (t : CuckooState) (p : RowParts) → SameRules p.k4 p.g1 → SameRules (table_of o p) t → SameRules (with_table o t p).k4 (with_table o t p).g1
 rules-g1 order.K4 t p r s = both-rules p.k4 t p.g1 s r
 rules-g1 order.M2 t p r s = r
 rules-g1 order.G1 t p r s = then-rules p.k4 p.g1 t r s
 
-few-with : (o : Order) (t : CuckooState) (p : RowParts) → length p.k4.ways ≤ 4 → SameRules (table_of o p) t → length (with_table o t p).k4.ways ≤ 4
+pub few-with : (o : Order) (t : CuckooState) (p : RowParts) → length p.k4.ways ≤ 4 → SameRules (table_of o p) t → length (with_table o t p).k4.ways ≤ 4
 few-with order.K4 t p h s = let w = s.width in omega arith
 few-with order.M2 t p h s = h
 few-with order.G1 t p h s = h

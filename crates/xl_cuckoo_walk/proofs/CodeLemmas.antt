@@ -13,9 +13,9 @@ use Rattle.xl_cuckoo_walk.specs.Coding.{way_by, bit_in, section_by, section_in, 
 
 pub tag-same : (space block : ℕ) → block < 2 ^ 45 → (i : Item) → has_tag (space * 2 ^ 45 + block) i ≡ is_section space block (section_in i)
 tag-same space block h i = same-tests (has_tag (space * 2 ^ 45 + block) i) (is_section space block (section_in i))
-  (λ t. let e : i.tag ≡ space * 2 ^ 45 + block = grind (arith, nat_tests) in
+    (λ t. let e : i.tag ≡ space * 2 ^ 45 + block = grind (arith, nat_tests) in
     let a : i.tag / 2 ^ 45 ≡ space = omega arith in let b : i.tag % 2 ^ 45 ≡ block = omega arith in grind (arith, nat_tests))
-  (λ t. let a : i.tag / 2 ^ 45 ≡ space = grind (arith, nat_tests) in let b : i.tag % 2 ^ 45 ≡ block = grind (arith, nat_tests) in
+    (λ t. let a : i.tag / 2 ^ 45 ≡ space = grind (arith, nat_tests) in let b : i.tag % 2 ^ 45 ≡ block = grind (arith, nat_tests) in
     let e : i.tag ≡ space * 2 ^ 45 + block = omega arith in grind (arith, nat_tests))
 
 -- what a cache finds under a tag is its section

@@ -22,13 +22,14 @@ use Rattle.xl_sections.specs.Counted.{Count, CountState, AreCounts, unit, word_o
 use Rattle.xl_sections.specs.Noted.{HasPlace, IsRoomy, IsNoted, share, IsShared, IsDropped}
 use Rattle.xl_sections.proofs.KeyLemmas.{keys-count}
 use Rattle.xl_sections.proofs.WordLemmas.{word-cons, any-is}
+use Rattle.xl_cuckoo_walk.specs.Changes.{fits_by}
 use Rattle.xl_cuckoo_walk.proofs.BitLemmas.{few-in}
 
 -- no leaf has this leaf's place
 abbrev pub Apart : Leaf → List Leaf → Type 0
 Apart x xs = (z : Leaf) → In z xs → leaf_key z ≡ leaf_key x → ⊥
 
-word-with : (size : Order) (k : ℕ) (x : Leaf) (xs : List Leaf) → Apart x xs → word_of size k (with_leaf x xs) ≡ word_of size k (x ∷ xs)
+pub word-with : (size : Order) (k : ℕ) (x : Leaf) (xs : List Leaf) → Apart x xs → word_of size k (with_leaf x xs) ≡ word_of size k (x ∷ xs)
 unfolding word_of
 word-with size k x xs apart =
     let q : Order → ℕ = λ o. tally (of_order size k o) (x ∷ xs) in
@@ -37,7 +38,7 @@ word-with size k x xs apart =
     ∙ ap (λ n. q order.K4 + (n * 2 ^ 22 + tally (of_order size k order.G1) (with_leaf x xs) * 2 ^ 44)) (h order.M2)
     ∙ ap (λ n. q order.K4 + (q order.M2 * 2 ^ 22 + n * 2 ^ 44)) (h order.G1)
 
-word-less : (size : Order) (k : ℕ) (x : Leaf) (xs : List Leaf) → IsSorted xs → In x xs → word_of size k xs ≡ word_of size k (x ∷ without_leaf x.space x.first xs)
+pub word-less : (size : Order) (k : ℕ) (x : Leaf) (xs : List Leaf) → IsSorted xs → In x xs → word_of size k xs ≡ word_of size k (x ∷ without_leaf x.space x.first xs)
 unfolding word_of
 word-less size k x xs sorted i =
     let rest : List Leaf = without_leaf x.space x.first xs in
@@ -94,10 +95,6 @@ key-any size key xs counts tied =
     keys-In size key xs (subst (λ n. In n (section_keys size xs)) e found.1))
     (λ t. In-any (λ k. k == key) key (section_keys size xs) (In-keys size key xs t) (let own : (key == key) ≡ true = grind (arith, nat_tests) in own))
     ∙ any-is size key xs ∙ ap (λ n. not (n == 0)) (sym (tied key))
-
--- there is room for the section of a leaf more: it is larger than the section, or its section has leaves, or not all have
-abbrev pub fits_by : Bool → Bool → Bool → Bool
-fits_by lies counted full = not lies || (counted || not full)
 
 pub fits-is : (size : Order) (x : Leaf) (xs : List Leaf) (c : CountState) → Apart x xs → AreCounts c.counts → IsTied size xs c.counts → length c.counts ≤ c.room
     → fits_by (nat_le (level_of x.order) (level_of size)) (not (count_of (key_in size x) c.counts == 0)) (length c.counts == c.room) ≡ nat_le (section_count size (with_leaf x xs)) c.room

@@ -25,7 +25,7 @@ record IsFenced (to : Reach) (c after : Cached Item) (left : ℕ) : Type 0 where
 fenced : (to : Reach) (c after : Cached Item) (left : ℕ) → after ≡ record c { items = purged (is_reached to) c.items } → left + length after.items ≡ length c.items → IsFenced to c after left
 fenced to c after left e n =
     let is : sections_in after ≡ without_items (λ s. reaches_space to s.space) (sections_in c) =
-      ap sections_in e ∙ ap (λ xs. record { width = c.width; items = xs }) (sym (purged-map section_in (λ s. reaches_space to s.space) (is_reached to) (λ i. refl) c.items)) in
+    ap sections_in e ∙ ap (λ xs. record { width = c.width; items = xs }) (sym (purged-map section_in (λ s. reaches_space to s.space) (is_reached to) (λ i. refl) c.items)) in
     record {
       sections = is;
       count = ap (λ (z : Cached Section). left + length z.items) (sym is) ∙ ap (λ k. left + k) (length-map after.items section_in) ∙ n ∙ sym (length-map c.items section_in);
@@ -70,7 +70,7 @@ row-fenced to p m2 g1 a b r e n f m =
       };
       fence = record {
         answer = both-left a b (length (without_items (λ s. reaches_space to s.space) (sections_in p.middle_cache)).items) (length (without_items (λ s. reaches_space to s.space) (sections_in p.large_cache)).items)
-          (length (sections_in p.middle_cache).items) (length (sections_in p.large_cache).items) x.count y.count;
+            (length (sections_in p.middle_cache).items) (length (sections_in p.large_cache).items) x.count y.count;
         after = rw (x.sections, y.sections) refl;
       };
     }

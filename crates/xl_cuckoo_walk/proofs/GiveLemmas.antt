@@ -38,8 +38,10 @@ use Rattle.xl_cuckoo.proofs.KeyLemmas.{once-reworded}
 use Rattle.xl_cuckoo_walk.specs.Coding.{sections_in, word_by}
 use Rattle.xl_cuckoo_walk.specs.Parts.{RowParts, ways_in, word_list, values_in, tags_in, leaves_in, row_state, SameRules, AreKeys, IsRow, table_of, with_table}
 use Rattle.xl_cuckoo_walk.specs.Plans.{is_counted, new_word}
+use Rattle.xl_cuckoo_walk.specs.Changes.{with_word_in, HoldsLeaves}
 use Rattle.xl_cuckoo_walk.proofs.ChangeLemmas.{parts_with, IsTableFor, AreSections, ways-table, row-changed, state_with, state-changed, each-way}
 use Rattle.xl_cuckoo_walk.proofs.CountLemmas.{tied-given}
+use Rattle.xl_cuckoo_walk.proofs.HoldLemmas.{row-holds}
 use Rattle.xl_cuckoo_walk.proofs.PurgeLemmas.{purge-is, fresh-now}
 use Rattle.xl_cuckoo_walk.proofs.RowLemmas.{give-leaf, leaf-value, some-value}
 
@@ -63,9 +65,9 @@ key-reworded : (key word : ℕ) (e : Entry) (ways : List WayShape) → In e (way
 unfolding with_word
 key-reworded key word e [] i = absurd i
 key-reworded key word e (w ∷ ways) i = elim (In-append e (map (reworded key word) w.entries) (ways_entries (map (with_word key word) ways)) i) [
-    | inl j ↦ let m = map-In (reworded key word) e w.entries j in (m.0, In-left m.0 w.entries (ways_entries ways) m.1, ap (λ (z : Entry). z.key) m.2 ∙ go m.0 (m.0.key == key))
-    | inr j ↦ let m = key-reworded key word e ways j in (m.0, In-right m.0 w.entries (ways_entries ways) m.1, m.2)
-  ]
+  | inl j ↦ let m = map-In (reworded key word) e w.entries j in (m.0, In-left m.0 w.entries (ways_entries ways) m.1, ap (λ (z : Entry). z.key) m.2 ∙ go m.0 (m.0.key == key))
+  | inr j ↦ let m = key-reworded key word e ways j in (m.0, In-right m.0 w.entries (ways_entries ways) m.1, m.2)
+]
   where
     go : (d : Entry) (b : Bool) → (cond b (record d { word = word }) d).key ≡ d.key
     go d true = refl
@@ -79,7 +81,7 @@ given_state rules space first o perm leaves ws m2 g1 loads q =
       leaves = with_new (with_perm perm q) (without_old q leaves);
       shape = Cuckoo rules (ways_taken c q ws);
       caches = SectionCaches (without_items (has_changed order.M2 leaves ws (with_new (with_perm perm q) (without_old q leaves)) (ways_taken c q ws)) m2)
-        (without_items (has_changed order.G1 leaves ws (with_new (with_perm perm q) (without_old q leaves)) (ways_taken c q ws)) g1);
+          (without_items (has_changed order.G1 leaves ws (with_new (with_perm perm q) (without_old q leaves)) (ways_taken c q ws)) g1);
       loads = loads;
     }
 
@@ -231,9 +233,8 @@ one-word : (v : Option ℕ) (w : ℕ) → IsSome v → slice_index (word_list v)
 one-word None w h e = absurd (cc)
 one-word (Some n) w h e = ap Some e
 
-pub named-leaf : MadeWordsReadBack → (p : RowParts) → IsRow p → (space first : ℕ) (o : Order) → IsNamed space first o (row_state p).leaves → NamedLeaf p space first o
-unfolding row_state
-named-leaf back p r space first o h = go (leaf_named space first o (leaves_in (ways_in p))) refl h
+pub named-held : MadeWordsReadBack → (p : RowParts) → HoldsLeaves p (leaves_in (ways_in p)) → (space first : ℕ) (o : Order) → IsNamed space first o (leaves_in (ways_in p)) → NamedLeaf p space first o
+named-held back p r space first o h = go (leaf_named space first o (leaves_in (ways_in p))) refl h
   where
     go : (q : Option Leaf) → leaf_named space first o (leaves_in (ways_in p)) ≡ q → is_some (leaf_named space first o (leaves_in (ways_in p))) ≡ true → NamedLeaf p space first o
     go None e k = let z : false ≡ true = sym (ap (λ (q : Option Leaf). is_some q) e) ∙ k in absurd (cc)
@@ -245,11 +246,11 @@ named-leaf back p r space first o h = go (leaf_named space first o (leaves_in (w
         let fi : x.first ≡ first = named-first space first o x is in
         let od : x.order ≡ o = named-order space first o x is in
         let key : (leaf_entry x).key ≡ space * 2 ^ 45 + first / pages_of o =
-          (let d : (leaf_entry x).key ≡ x.space * 2 ^ 45 + x.first / pages_of x.order = omega arith in d)
-          ∙ ap (λ s. s * 2 ^ 45 + x.first / pages_of x.order) sp ∙ ap (λ f. space * 2 ^ 45 + f / pages_of x.order) fi ∙ ap (λ m. space * 2 ^ 45 + first / pages_of m) od in
+        (let d : (leaf_entry x).key ≡ x.space * 2 ^ 45 + x.first / pages_of x.order = omega arith in d)
+        ∙ ap (λ s. s * 2 ^ 45 + x.first / pages_of x.order) sp ∙ ap (λ f. space * 2 ^ 45 + f / pages_of x.order) fi ∙ ap (λ m. space * 2 ^ 45 + first / pages_of m) od in
         let own : value_of (leaf_entry x).key (ways_of x.order (ways_in p)) ≡ Some (leaf_word x.frame x.perm) =
-          one-word (value_of (leaf_entry x).key (ways_of x.order (ways_in p))) (leaf_word x.frame x.perm)
-          (some-value back (ways_in p) (leaves_in (ways_in p)) r.held r.once x i) (leaf-value back (ways_in p) (leaves_in (ways_in p)) r.held r.once x i) in
+        one-word (value_of (leaf_entry x).key (ways_of x.order (ways_in p))) (leaf_word x.frame x.perm)
+        (some-value back (ways_in p) (leaves_in (ways_in p)) r.held r.once x i) (leaf-value back (ways_in p) (leaves_in (ways_in p)) r.held r.once x i) in
         record {
           leaf = x;
           named = e;
@@ -263,6 +264,18 @@ named-leaf back p r space first o h = go (leaf_named space first o (leaves_in (w
           key_is = key;
           value = ap (λ n. value_of n (ways_of o (ways_in p))) (sym key) ∙ ap (λ m. value_of (leaf_entry x).key (ways_of m (ways_in p))) (sym od) ∙ own;
         }
+
+pub named-leaf : MadeWordsReadBack → (p : RowParts) → IsRow p → (space first : ℕ) (o : Order) → IsNamed space first o (row_state p).leaves → NamedLeaf p space first o
+unfolding row_state
+named-leaf back p r space first o h = named-held back p (row-holds p r) space first o h
+
+-- what holds of the leaf's place holds of the name, and back
+pub by-name : (P : ℕ → ℕ → Order → Type 0) (p : RowParts) (space first : ℕ) (o : Order) (n : NamedLeaf p space first o) → P n.leaf.space n.leaf.first n.leaf.order → P space first o
+by-name P p space first o n h = subst (λ q. P space first q) n.order_is (subst (λ f. P space f n.leaf.order) n.first_is (subst (λ s. P s n.leaf.first n.leaf.order) n.space_is h))
+
+pub to-name : (P : ℕ → ℕ → Order → Type 0) (p : RowParts) (space first : ℕ) (o : Order) (n : NamedLeaf p space first o) → P space first o → P n.leaf.space n.leaf.first n.leaf.order
+to-name P p space first o n h =
+    subst (λ q. P n.leaf.space n.leaf.first q) (sym n.order_is) (subst (λ f. P n.leaf.space f o) (sym n.first_is) (subst (λ s. P s first o) (sym n.space_is) h))
 
 -- the word of a frame tells the frame
 bit-low : (b : Bool) (m : ℕ) → bit_if b m ≤ m
@@ -282,15 +295,11 @@ pub word-some : (frame : ℕ) (q : Perm) → 0 < leaf_word frame q
 unfolding leaf_word
 word-some frame q = omega arith
 
--- the parts with another word for a key of an order
-abbrev pub with_word_in : Order → ℕ → ℕ → RowParts → RowParts
-with_word_in o key word p = with_table o (record (table_of o p) { ways = map (with_word key word) (table_of o p).ways }) p
-
 word-parts : (o : Order) (key word : ℕ) (p : RowParts)
     → parts_with o (record (table_of o p) { ways = map (with_word key word) (ways_of o (ways_in p)) }) p.middle p.large p.middle_cache p.large_cache p ≡ with_word_in o key word p
-word-parts order.K4 key word p = refl
-word-parts order.M2 key word p = refl
-word-parts order.G1 key word p = refl
+word-parts order.K4 k w p = refl
+word-parts order.M2 k w p = refl
+word-parts order.G1 k w p = refl
 
 -- what the code makes of a leaf that gets another permission
 pub row-given : MadeWordsReadBack → (p : RowParts) → IsRow p → (space first : ℕ) (o : Order) (perm : Perm) (n : NamedLeaf p space first o) (key old word : ℕ)
@@ -301,7 +310,7 @@ row-given back p r space first o perm n key old word k v w =
     let said : old ≡ leaf_word x.frame x.perm = (let e : Some old ≡ Some (leaf_word x.frame x.perm) = sym v ∙ ap (λ m. value_of m (ways_of o (ways_in p))) k ∙ n.value in cc) in
     let word_is : leaf_word x.frame perm ≡ word = sym (w ∙ ap (given_word perm) said ∙ ap (λ f. leaf_word f perm) (frame-back x.frame x.perm n.frame_in)) in
     let whole = word-parts x.order (leaf_entry x).key (leaf_word x.frame perm) p
-      ∙ ap (λ m. with_word_in m (leaf_entry x).key (leaf_word x.frame perm) p) n.order_is
-      ∙ ap (λ m. with_word_in o m (leaf_word x.frame perm) p) (n.key_is ∙ sym k)
-      ∙ ap (λ m. with_word_in o key m p) word_is in
+    ∙ ap (λ m. with_word_in m (leaf_entry x).key (leaf_word x.frame perm) p) n.order_is
+    ∙ ap (λ m. with_word_in o m (leaf_word x.frame perm) p) (n.key_is ∙ sym k)
+    ∙ ap (λ m. with_word_in o key m p) word_is in
     subst (λ q. ChangedRow (Protect space first o perm) p q (Ok (work_of no_moves 0))) whole (given-row back p r space first o perm x n.named)

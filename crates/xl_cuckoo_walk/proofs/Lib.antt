@@ -12,4 +12,12 @@ pub mod PurgeLemmas
 pub mod FenceLemmas
 pub mod ChangeLemmas
 pub mod GiveLemmas
+pub mod HoldLemmas
+pub mod WordsLemmas
+pub mod ComparedLemmas
+pub mod VerdictLemmas
+pub mod EnterLemmas
+pub mod LeaveLemmas
+pub mod StepLemmas
+pub mod RelocateLemmas
 pub mod OpenLemmas

@@ -175,11 +175,10 @@ changed-is i word old new o n = go (i.word == word) refl
             let z : true ≡ false = sym c ∙ e in absurd (cc)
 
 module _ (size : Order) (before after : List Leaf) (ws now : CuckooWays) (old new : List Count) (c : Cached Item) (keys : List ℕ)
-  (sorted : IsSorted before) (placed : (x : Leaf) → In x before → IsPlaced x) (tied : IsTied size before old)
-  (sorted_now : IsSorted after) (placed_now : (x : Leaf) → In x after → IsPlaced x) (tied_now : IsTied size after new)
-  (fresh : SectionsFresh size before (ways_of size ws) (sections_in c))
-  (same : (key : ℕ) → (In key keys → ⊥) → new_word size key new (ways_of size now) ≡ new_word size key old (ways_of size ws)) where
-
+    (sorted : IsSorted before) (placed : (x : Leaf) → In x before → IsPlaced x) (tied : IsTied size before old)
+    (sorted_now : IsSorted after) (placed_now : (x : Leaf) → In x after → IsPlaced x) (tied_now : IsTied size after new)
+    (fresh : SectionsFresh size before (ways_of size ws) (sections_in c))
+    (same : (key : ℕ) → (In key keys → ⊥) → new_word size key new (ways_of size now) ≡ new_word size key old (ways_of size ws)) where
   abbrev word : ℕ → ℕ
   word k = new_word size k new (ways_of size now)
 

@@ -125,9 +125,9 @@ pub record Steps (p : RowParts) (s page : ℕ) (found : Option Leaf) (hits : ℕ
     m2 = probed (plans order.M2) p.m2;
     g1 = probed (plans order.G1) p.g1;
     middle_cache = filled (fills_m2 found) middle (middle_key s page)
-      (new_word order.M2 (middle_key s page) p.middle.counts (probed (plans order.M2) p.m2).ways) (touched_in (middle_key s page) p.middle_cache);
+        (new_word order.M2 (middle_key s page) p.middle.counts (probed (plans order.M2) p.m2).ways) (touched_in (middle_key s page) p.middle_cache);
     large_cache = filled (is_some found) large (large_key s page)
-      (new_word order.G1 (large_key s page) p.large.counts (probed (plans order.G1) p.g1).ways) (touched_in (large_key s page) p.large_cache);
+        (new_word order.G1 (large_key s page) p.large.counts (probed (plans order.G1) p.g1).ways) (touched_in (large_key s page) p.large_cache);
   }
 
 abbrev steps_after : RowParts → ℕ → ℕ → Plan → Plan → Plan → Option Leaf → Option ℕ → Option ℕ → RowParts
@@ -342,18 +342,18 @@ module _ (back : MadeWordsReadBack) (p : RowParts) (r : IsRow p) (s page : ℕ) 
       let said : (o : Order) → st.leaves o ≡ leaf_said_by o s page (value_by (P o) (s * 2 ^ 45 + page / pages_of o) (ways_of o ws)) =
       λ o. st.leaves_are o ∙ ap (λ q. leaf_said_by o s page (value_by q (s * 2 ^ 45 + page / pages_of o) (ways_of o ws))) (plan o) in
       let f : found ≡ L = st.found_is ∙ ap (λ q. or_leaf q (or_leaf (st.leaves order.M2) (st.leaves order.G1))) (said order.K4)
-          ∙ ap (λ q. or_leaf (leaf_said_by order.K4 s page (value_by (P order.K4) (s * 2 ^ 45 + page / pages_of order.K4) p.k4.ways)) (or_leaf q (st.leaves order.G1))) (said order.M2)
-          ∙ ap (λ q. or_leaf (leaf_said_by order.K4 s page (value_by (P order.K4) (s * 2 ^ 45 + page / pages_of order.K4) p.k4.ways)) (or_leaf (leaf_said_by order.M2 s page (value_by (P order.M2) (s * 2 ^ 45 + page / pages_of order.M2) p.m2.ways)) q)) (said order.G1)
-          ∙ found-at in
+      ∙ ap (λ q. or_leaf (leaf_said_by order.K4 s page (value_by (P order.K4) (s * 2 ^ 45 + page / pages_of order.K4) p.k4.ways)) (or_leaf q (st.leaves order.G1))) (said order.M2)
+      ∙ ap (λ q. or_leaf (leaf_said_by order.K4 s page (value_by (P order.K4) (s * 2 ^ 45 + page / pages_of order.K4) p.k4.ways)) (or_leaf (leaf_said_by order.M2 s page (value_by (P order.M2) (s * 2 ^ 45 + page / pages_of order.M2) p.m2.ways)) q)) (said order.G1)
+      ∙ found-at in
       let eh : hits ≡ one_if (is_some h2) + one_if (is_some h1) = st.hits_are ∙ ap (λ w. one_if (is_some (hit_of k2 w)) + one_if (is_some (hit_of k1 st.large))) e2 ∙ ap (λ w. one_if (is_some h2) + one_if (is_some (hit_of k1 w))) e1 in
       let a : after ≡ read_now = st.after_is
-          ∙ ap (λ q. steps_after p s page q (st.plans order.M2) (st.plans order.G1) found st.middle st.large) (plan order.K4)
-          ∙ ap (λ q. steps_after p s page (P order.K4) q (st.plans order.G1) found st.middle st.large) (plan order.M2)
-          ∙ ap (λ q. steps_after p s page (P order.K4) (P order.M2) q found st.middle st.large) (plan order.G1)
-          ∙ ap (λ q. steps_after p s page (P order.K4) (P order.M2) (P order.G1) q st.middle st.large) f
-          ∙ ap (λ w. steps_after p s page (P order.K4) (P order.M2) (P order.G1) L w st.large) e2
-          ∙ ap (λ w. steps_after p s page (P order.K4) (P order.M2) (P order.G1) L w2 w) e1
-          ∙ after-now in
+      ∙ ap (λ q. steps_after p s page q (st.plans order.M2) (st.plans order.G1) found st.middle st.large) (plan order.K4)
+      ∙ ap (λ q. steps_after p s page (P order.K4) q (st.plans order.G1) found st.middle st.large) (plan order.M2)
+      ∙ ap (λ q. steps_after p s page (P order.K4) (P order.M2) q found st.middle st.large) (plan order.G1)
+      ∙ ap (λ q. steps_after p s page (P order.K4) (P order.M2) (P order.G1) q st.middle st.large) f
+      ∙ ap (λ w. steps_after p s page (P order.K4) (P order.M2) (P order.G1) L w st.large) e2
+      ∙ ap (λ w. steps_after p s page (P order.K4) (P order.M2) (P order.G1) L w2 w) e1
+      ∙ after-now in
       subst (λ t. IsWalked p s page found hits t) (sym a) (subst (λ t. IsWalked p s page t hits read_now) (sym f) (subst (λ t. IsWalked p s page L t read_now) (sym eh) walked-at))
 
   -- a way that a plan names is there

@@ -2,4 +2,5 @@ pub mod Coding
 pub mod Parts
 pub mod Plans
 pub mod Looks
+pub mod Changes
 pub mod Openings

@@ -24,8 +24,7 @@ fn reaches(reach: Reach, space: u64) -> bool
 
 /// Removes what a fence reaches from a cache. Gives how many sections left.
 fn fence_cache(cache: &mut Cache, reach: Reach) -> u64
-    ensures left {
-        cache.new ≡ record cache.old { items = purged (is_reached reach) cache.old.items } }
+    ensures left { cache.new ≡ record cache.old { items = purged (is_reached reach) cache.old.items } }
     ensures count { result + length cache.new.items ≡ length cache.old.items }
     ensures most { result ≤ 64 }
 {

@@ -5,12 +5,18 @@
 mod coding;
 mod fence;
 mod fill;
+mod insert;
 mod look;
 mod parts;
 mod plan;
 mod probe;
+mod protect;
 mod purge;
+mod relocate;
+mod remove;
 mod row;
+mod tables;
 mod walk;
+mod work;
 
 pub use row::CuckooRow;

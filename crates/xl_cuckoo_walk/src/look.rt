@@ -23,21 +23,11 @@ fn look<const D: usize>(table: &Cuckoo<D>, order: Order, space: u16, page: u64) 
     ensures { result ≡ leaf_said_by order space page
         (value_of (space * 2 ^ 45 + page / pages_of order) table.now.ways) }
 {
-    read(
-        order,
-        space,
-        page,
-        table.get(section(space, page, order)),
-    )
+    read(order, space, page, table.get(section(space, page, order)))
 }
 
 /// The leaf of this order or of a larger one that covers the page.
-fn look_from<const D: usize>(
-    parts: &Parts<D>,
-    order: Order,
-    space: u16,
-    page: u64,
-) -> Option<Leaf>
+fn look_from<const D: usize>(parts: &Parts<D>, order: Order, space: u16, page: u64) -> Option<Leaf>
     requires space_in { space < 64 }
     requires page_in { page < 2 ^ 45 }
     ensures { result ≡ looked_from order space page (ways_in parts.now) }
@@ -79,11 +69,7 @@ fn has_smaller<const D: usize>(parts: &Parts<D>, order: Order, space: u16, page:
 }
 
 /// The leaf that covers the page.
-pub(crate) fn leaf_of_page<const D: usize>(
-    parts: &Parts<D>,
-    space: u16,
-    page: u64,
-) -> Option<Leaf>
+pub(crate) fn leaf_of_page<const D: usize>(parts: &Parts<D>, space: u16, page: u64) -> Option<Leaf>
     requires whole { IsRow parts.now }
     requires page { IsPage (row_state parts.now).shape space page }
     ensures { result ≡ leaf_at_page space page (row_state parts.now).leaves }
@@ -94,12 +80,7 @@ pub(crate) fn leaf_of_page<const D: usize>(
 
 /// Whether a leaf has a page of a block: a smaller leaf lies in it, or one that isn't smaller has its
 /// first page.
-pub(crate) fn is_met<const D: usize>(
-    parts: &Parts<D>,
-    space: u16,
-    first: u64,
-    order: Order,
-) -> bool
+pub(crate) fn is_met<const D: usize>(parts: &Parts<D>, space: u16, first: u64, order: Order) -> bool
     requires whole { IsRow parts.now }
     requires block { IsBlock (row_state parts.now).shape space first order }
     ensures { result ≡ meets_any space first order (row_state parts.now).leaves }

@@ -37,11 +37,14 @@ probe_order-k4-requires g c =
     let middle : c.touch-middle.result ≡ word_of_item (find (has_tag (middle_key c.args.space c.args.page)) s.middle_cache.items) =
     c.touch-middle.ensures.found ∙ ap (λ n. word_of_item (find (has_tag n) s.middle_cache.items)) c.section-middle_key.ensures in
     let large : c.touch-large.result ≡ word_of_item (find (has_tag (large_key c.args.space c.args.page)) s.large_cache.items) =
-    c.touch-large.ensures.found ∙ ap (λ n. word_of_item (find (has_tag n) s.large_cache.items)) c.section-large_key.ensures in
-    (lit< tt,
-      (plan-inside c.words_read_back.ensures q (subst IsRow (sym c.parts.view_is) c.requires.whole) c.args.space c.args.page in_page.0 in_page.1 order.K4 c.planned-k4_plan.result c.touch-middle.result c.touch-large.result middle large
-      (c.planned-k4_plan.ensures (middle_key c.args.space c.args.page) (large_key c.args.space c.args.page)),
-      in_page))
+    c.touch-large.ensures.found ∙ ap (λ n. word_of_item (find (has_tag n) s.large_cache.items)) c.section-large_key.ensures in (
+      lit< tt,
+      (
+        plan-inside c.words_read_back.ensures q (subst IsRow (sym c.parts.view_is) c.requires.whole) c.args.space c.args.page in_page.0 in_page.1 order.K4 c.planned-k4_plan.result c.touch-middle.result c.touch-large.result middle large
+            (c.planned-k4_plan.ensures (middle_key c.args.space c.args.page) (large_key c.args.space c.args.page)),
+        in_page,
+      ),
+    )
 
 pub probe_order-m2-requires : goal.probe_order-m2-requires
 probe_order-m2-requires g c =
@@ -51,11 +54,14 @@ probe_order-m2-requires g c =
     let middle : c.touch-middle.result ≡ word_of_item (find (has_tag (middle_key c.args.space c.args.page)) s.middle_cache.items) =
     c.touch-middle.ensures.found ∙ ap (λ n. word_of_item (find (has_tag n) s.middle_cache.items)) c.section-middle_key.ensures in
     let large : c.touch-large.result ≡ word_of_item (find (has_tag (large_key c.args.space c.args.page)) s.large_cache.items) =
-    c.touch-large.ensures.found ∙ ap (λ n. word_of_item (find (has_tag n) s.large_cache.items)) c.section-large_key.ensures in
-    (lit< tt,
-      (plan-inside c.words_read_back.ensures q (subst IsRow (sym c.parts.view_is) c.requires.whole) c.args.space c.args.page in_page.0 in_page.1 order.M2 c.planned-m2_plan.result c.touch-middle.result c.touch-large.result middle large
-      (c.planned-m2_plan.ensures (middle_key c.args.space c.args.page) (large_key c.args.space c.args.page)),
-      in_page))
+    c.touch-large.ensures.found ∙ ap (λ n. word_of_item (find (has_tag n) s.large_cache.items)) c.section-large_key.ensures in (
+      lit< tt,
+      (
+        plan-inside c.words_read_back.ensures q (subst IsRow (sym c.parts.view_is) c.requires.whole) c.args.space c.args.page in_page.0 in_page.1 order.M2 c.planned-m2_plan.result c.touch-middle.result c.touch-large.result middle large
+            (c.planned-m2_plan.ensures (middle_key c.args.space c.args.page) (large_key c.args.space c.args.page)),
+        in_page,
+      ),
+    )
 
 pub probe_order-g1-requires : goal.probe_order-g1-requires
 probe_order-g1-requires g c =
@@ -65,11 +71,14 @@ probe_order-g1-requires g c =
     let middle : c.touch-middle.result ≡ word_of_item (find (has_tag (middle_key c.args.space c.args.page)) s.middle_cache.items) =
     c.touch-middle.ensures.found ∙ ap (λ n. word_of_item (find (has_tag n) s.middle_cache.items)) c.section-middle_key.ensures in
     let large : c.touch-large.result ≡ word_of_item (find (has_tag (large_key c.args.space c.args.page)) s.large_cache.items) =
-    c.touch-large.ensures.found ∙ ap (λ n. word_of_item (find (has_tag n) s.large_cache.items)) c.section-large_key.ensures in
-    (lit< tt,
-      (plan-inside c.words_read_back.ensures q (subst IsRow (sym c.parts.view_is) c.requires.whole) c.args.space c.args.page in_page.0 in_page.1 order.G1 c.planned-g1_plan.result c.touch-middle.result c.touch-large.result middle large
-      (c.planned-g1_plan.ensures (middle_key c.args.space c.args.page) (large_key c.args.space c.args.page)),
-      in_page))
+    c.touch-large.ensures.found ∙ ap (λ n. word_of_item (find (has_tag n) s.large_cache.items)) c.section-large_key.ensures in (
+      lit< tt,
+      (
+        plan-inside c.words_read_back.ensures q (subst IsRow (sym c.parts.view_is) c.requires.whole) c.args.space c.args.page in_page.0 in_page.1 order.G1 c.planned-g1_plan.result c.touch-middle.result c.touch-large.result middle large
+            (c.planned-g1_plan.ensures (middle_key c.args.space c.args.page) (large_key c.args.space c.args.page)),
+        in_page,
+      ),
+    )
 
 abbrev plans : Plan → Plan → Plan → Order → Plan
 plans a b c order.K4 = a
@@ -106,9 +115,9 @@ walked g c =
     let p2 : Plan = c.planned-m2_plan.result in
     let p1 : Plan = c.planned-g1_plan.result in
     let cache2 = filled-same order.M2 c.fills_middle.result (fills_m2 leaf) w2 c.section-middle_key.result k2 s.middle.counts c.probe_order-m2.new.table (probed p2 s.m2) s.middle_cache c.touch-middle.new.cache c.fill_if.new.cache
-      c.fill_if.ensures c.fills_middle.ensures c.section-middle_key.ensures c.probe_order-m2.ensures.after c.touch-middle.ensures.moved in
+    c.fill_if.ensures c.fills_middle.ensures c.section-middle_key.ensures c.probe_order-m2.ensures.after c.touch-middle.ensures.moved in
     let cache1 = filled-same order.G1 c.is_some.result (is_some leaf) w1 c.section-large_key.result k1 s.large.counts c.probe_order-g1.new.table (probed p1 s.g1) s.large_cache c.touch-large.new.cache c.fill_if-2.new.cache
-      c.fill_if-2.ensures c.is_some.ensures c.section-large_key.ensures c.probe_order-g1.ensures.after c.touch-large.ensures.moved in
+    c.fill_if-2.ensures c.is_some.ensures c.section-large_key.ensures c.probe_order-g1.ensures.after c.touch-large.ensures.moved in
     steps-walked c.words_read_back.ensures q (subst IsRow (sym c.parts.view_is) c.requires.whole) space page in_page.0 in_page.1 leaf (c.one_hit.result + c.one_hit-2.result)
     (record { k4 = c.probe_order-k4.new.table; m2 = c.probe_order-m2.new.table; g1 = c.probe_order-g1.new.table; middle = s.middle; large = s.large; middle_cache = c.fill_if.new.cache; large_cache = c.fill_if-2.new.cache })
     (record {
