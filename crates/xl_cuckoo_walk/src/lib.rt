@@ -16,6 +16,8 @@ mod relocate;
 mod remove;
 mod row;
 mod tables;
+#[cfg(test)]
+mod tests;
 mod walk;
 mod work;
 

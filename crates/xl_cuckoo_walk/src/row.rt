@@ -6,11 +6,18 @@ ghost use Rattle.xl_model.specs.Rows.{is_width};
 ghost use Rattle.xl_cuckoo_walk.specs.Parts.{row_state, table_of};
 ghost use Rattle.xl_cuckoo_walk.specs.Openings.{opening_table};
 
+use crate::fence::fence_parts;
+use crate::insert::insert_leaf;
+use crate::look::{is_met, leaf_of_page};
 use crate::parts::Parts;
+use crate::protect::protect_leaf;
+use crate::relocate::relocate_leaf;
+use crate::remove::remove_leaf;
+use crate::walk::walk_page;
 use std::alloc::Global;
 use std::marker::Model;
 use xl_cuckoo::Cuckoo;
-use xl_model::{NoMemory, Order};
+use xl_model::{Leaf, NoMemory, Order, Perm, Reach, Refused, Structure, Walk, Work};
 use xl_recency::Cache;
 use xl_sections::Counts;
 
@@ -105,5 +112,53 @@ impl<const D: usize> CuckooRow<D> {
             Order::M2 => &self.parts.m2,
             Order::G1 => &self.parts.g1,
         }
+    }
+}
+
+impl<const D: usize> Structure for CuckooRow<D> {
+    ghost use Rattle.xl_cuckoo_walk.specs.Parts.{row_state};
+
+    ghost table = { row_state };
+
+    fn meets(&self, space: u16, first: u64, order: Order) -> bool {
+        is_met(&self.parts, space, first, order)
+    }
+
+    fn leaf_at(&self, space: u16, page: u64) -> Option<Leaf> {
+        leaf_of_page(&self.parts, space, page)
+    }
+
+    fn insert(&mut self, leaf: Leaf) -> Result<Work, Refused> {
+        insert_leaf(&mut self.parts, leaf)
+    }
+
+    fn remove(&mut self, space: u16, first: u64, order: Order) -> Result<Work, Refused> {
+        remove_leaf(&mut self.parts, space, first, order)
+    }
+
+    fn protect(
+        &mut self,
+        space: u16,
+        first: u64,
+        order: Order,
+        perm: Perm,
+    ) -> Result<Work, Refused> {
+        protect_leaf(&mut self.parts, space, first, order, perm)
+    }
+
+    fn relocate(&mut self, space: u16, first: u64, to: u64, order: Order) -> Result<Work, Refused> {
+        relocate_leaf(&mut self.parts, space, first, to, order)
+    }
+
+    fn walk(&mut self, space: u16, page: u64) -> Walk {
+        walk_page(&mut self.parts, space, page)
+    }
+
+    fn fence(&mut self, reach: Reach) -> u64 {
+        fence_parts(&mut self.parts, reach)
+    }
+
+    fn loads(&self) -> u64 {
+        loads_of(&self.parts)
     }
 }
