@@ -4,7 +4,7 @@ use Rattle.std.specs.Prelude.{find}
 use Rattle.std.proofs.lemmas.Bool.Decides.{nat_tests}
 use Rattle.xl_model.specs.declared.address.Order.TheVariants as order
 use Rattle.xl_model.specs.Base.{one_if}
-use Rattle.xl_model.specs.Sections.{Section, is_section}
+use Rattle.xl_model.specs.Sections.{is_section}
 use Rattle.xl_model_lemmas.proofs.MemberLemmas.{find-passes}
 use Rattle.xl_model_lemmas.proofs.RecencyLemmas.{find-some, find-none}
 use Rattle.xl_model_lemmas.proofs.SameLemmas.{same-tests}

@@ -1,14 +1,13 @@
 -- The row after a change whose sections were compared.
-use Rattle.std.proofs.Common.{◌≡◌, refl, sym, ap, ◌∙◌, subst, ℕ, suc, ◌+◌, ◌-◌, ◌*◌, ◌/◌, ◌^◌, ◌≤◌, Bool, true, false, not, List, [], ◌∷◌, ◌++◌, length, map, Option, None, Some, arith}
+use Rattle.std.proofs.Common.{◌≡◌, refl, sym, ap, ◌∙◌, subst, ℕ, suc, ◌+◌, ◌≤◌, Bool, true, false, List, [], ◌∷◌, ◌++◌, length, arith}
 use Rattle.std.proofs.lemmas.List.{length-map}
-use Rattle.xl_model.specs.declared.address.Order.{Order}
 use Rattle.xl_model.specs.declared.address.Order.TheVariants as order
 use Rattle.xl_model.specs.declared.leaf.Leaf.{Leaf}
 use Rattle.xl_model.specs.Base.{plus}
 use Rattle.xl_model.specs.Caches.{Cached, SectionCaches, without_items, has_changed}
 use Rattle.xl_model.specs.Recency.{purged}
 use Rattle.xl_model.specs.Sections.{Section}
-use Rattle.xl_model.specs.Shapes.{CuckooRules, CuckooWays, Cuckoo, ways_of}
+use Rattle.xl_model.specs.Shapes.{CuckooRules, CuckooWays, Cuckoo}
 use Rattle.xl_model.specs.Structures.{TableState}
 use Rattle.xl_model_lemmas.specs.Fresh.{SectionsFresh}
 use Rattle.xl_model_lemmas.specs.Kept.{IsPlaced}

@@ -1,15 +1,14 @@
 -- The counts of leaves by section when a leaf comes, goes, or gets another permission; and room for one more.
-use Rattle.std.proofs.Common.{◌≡◌, refl, sym, ap, ◌∙◌, subst, ℕ, zero, suc, ◌+◌, ◌*◌, ◌/◌, ◌^◌, ◌<◌, ◌≤◌, Bool, true, false, cond, not, ◌&&◌, ◌||◌, nat_le, nat_lt, ◌==◌, List, [], ◌∷◌, length, inl, inr, arith}
+use Rattle.std.proofs.Common.{◌≡◌, refl, sym, ap, ◌∙◌, subst, ℕ, suc, ◌+◌, ◌*◌, ◌^◌, ◌≤◌, Bool, true, false, cond, not, nat_le, ◌==◌, List, ◌∷◌, length, arith}
 use Rattle.std.specs.List.{list_any}
 use Rattle.std.proofs.lemmas.Bool.Decides.{nat_tests}
 use Rattle.xl_model.specs.declared.address.Order.{Order}
 use Rattle.xl_model.specs.declared.address.Order.TheVariants as order
 use Rattle.xl_model.specs.declared.leaf.Leaf.{Leaf}
 use Rattle.xl_model.specs.declared.perm.Perm.{Perm}
-use Rattle.xl_model.specs.Addresses.{level_of, pages_of}
-use Rattle.xl_model.specs.Base.{one_if}
+use Rattle.xl_model.specs.Addresses.{level_of}
 use Rattle.xl_model.specs.Mapping.{leaf_key, with_leaf, without_leaf}
-use Rattle.xl_model.specs.Sections.{section_key, section_keys, section_count, with_key}
+use Rattle.xl_model.specs.Sections.{section_keys, section_count}
 use Rattle.xl_model_lemmas.specs.Kept.{IsPlaced}
 use Rattle.xl_model_lemmas.specs.Members.{In, IsSorted}
 use Rattle.xl_model_lemmas.specs.Sections.{tally, counts_at, key_in, of_order}
@@ -19,7 +18,7 @@ use Rattle.xl_model_lemmas.proofs.MemberLemmas.{In-any, any-In}
 use Rattle.xl_model_lemmas.proofs.SameLemmas.{same-tests}
 use Rattle.xl_model_lemmas.proofs.SectionLemmas.{keys-In, In-keys, count-with}
 use Rattle.xl_sections.specs.Counted.{Count, CountState, AreCounts, unit, word_of, count_of, IsTied}
-use Rattle.xl_sections.specs.Noted.{HasPlace, IsRoomy, IsNoted, share, IsShared, IsDropped}
+use Rattle.xl_sections.specs.Noted.{HasPlace, IsRoomy, IsNoted, IsShared, IsDropped}
 use Rattle.xl_sections.proofs.KeyLemmas.{keys-count}
 use Rattle.xl_sections.proofs.WordLemmas.{word-cons, any-is}
 use Rattle.xl_cuckoo_walk.specs.Changes.{fits_by}

@@ -1,21 +1,20 @@
 -- A leaf that comes: it is counted where it found a place; and where it is refused, what was forced to grow stays.
-use Rattle.std.proofs.Common.{◌≡◌, refl, sym, ap, ◌∙◌, subst, ℕ, zero, suc, ◌+◌, ◌*◌, ◌/◌, ◌%◌, ◌^◌, ◌<◌, ◌≤◌, nat_le, Bool, true, false, ◌&&◌, List, [], ◌∷◌, ◌++◌, map, length, Option, None, Some, Err}
+use Rattle.std.proofs.Common.{◌≡◌, refl, sym, ap, ◌∙◌, subst, ℕ, zero, suc, ◌+◌, ◌*◌, ◌/◌, ◌%◌, ◌^◌, ◌≤◌, nat_le, Bool, true, false, ◌&&◌, List, ◌++◌, map, length, None, Err}
 use Rattle.xl_model.specs.declared.address.Order.{Order}
 use Rattle.xl_model.specs.declared.address.Order.TheVariants as order
 use Rattle.xl_model.specs.declared.leaf.Leaf.{Leaf}
 use Rattle.xl_model.specs.declared.way.Entry.{Entry}
 use Rattle.xl_model.specs.declared.way.Moves.{Moves}
 use Rattle.xl_model.specs.declared.work.NoRoom.TheVariants as why
-use Rattle.xl_model.specs.declared.work.Refused.{Refused}
-use Rattle.xl_model.specs.Addresses.{level_of, pages_of}
+use Rattle.xl_model.specs.Addresses.{level_of}
 use Rattle.xl_model.specs.Base.{plus}
-use Rattle.xl_model.specs.Caches.{Cached, SectionCaches}
+use Rattle.xl_model.specs.Caches.{Cached}
 use Rattle.xl_model.specs.Changes.{Insert}
 use Rattle.xl_model.specs.Mapping.{meets_any, with_leaf}
-use Rattle.xl_model.specs.Placing.{Displaced, Placed, AtCap, no_moves}
+use Rattle.xl_model.specs.Placing.{Displaced, AtCap, no_moves}
 use Rattle.xl_model.specs.Room.{has_room}
-use Rattle.xl_model.specs.Sections.{Section, section_count}
-use Rattle.xl_model.specs.Shapes.{CuckooRules, CuckooWays, Cuckoo, ways_of, with_ways, leaf_entry, placed_leaf}
+use Rattle.xl_model.specs.Sections.{section_count}
+use Rattle.xl_model.specs.Shapes.{CuckooRules, CuckooWays, Cuckoo, ways_of, with_ways, leaf_entry}
 use Rattle.xl_model.specs.Structures.{TableState, IsChange, work_of}
 use Rattle.xl_model.specs.Ways.{WayShape}
 use Rattle.xl_model.specs.Words.{leaf_word}
@@ -31,7 +30,7 @@ use Rattle.xl_sections.specs.Noted.{IsRoomy, IsNoted}
 use Rattle.xl_tagged.specs.Forms.{One}
 use Rattle.xl_tagged.specs.Tagged.{IsFit, AreHeld}
 use Rattle.xl_way.specs.Slots.{word_of}
-use Rattle.xl_cuckoo.specs.Table.{CuckooState, value_of, inserted, SameEntries, AreOnce}
+use Rattle.xl_cuckoo.specs.Table.{CuckooState, value_of, inserted, SameEntries}
 use Rattle.xl_cuckoo.proofs.KeyLemmas.{once-same}
 use Rattle.xl_cuckoo_walk.specs.Coding.{sections_in}
 use Rattle.xl_cuckoo_walk.specs.Parts.{RowParts, ways_at, word_list, ways_in, values_in, order_tags, tags_in, leaves_in, rules_in, row_state, SameRules, IsRow, table_of, with_table}

@@ -1,6 +1,5 @@
 -- Tables and counts that hold leaves: when a leaf comes and when one goes.
-use Rattle.std.proofs.Common.{◌≡◌, refl, sym, ap, ◌∙◌, subst, ℕ, ◌+◌, ◌*◌, ◌/◌, ◌%◌, ◌^◌, ◌<◌, ◌≤◌, nat_le, not, ◌==◌, Bool, true, false, ◌&&◌, List, length, map, Option, None, Some, arith}
-use Rattle.std.specs.Prelude.{IsSome}
+use Rattle.std.proofs.Common.{◌≡◌, refl, sym, ap, ◌∙◌, subst, ℕ, ◌+◌, ◌*◌, ◌%◌, ◌^◌, ◌<◌, ◌≤◌, nat_le, Bool, true, false, ◌&&◌, List, length, map, None, arith}
 use Rattle.std.proofs.lemmas.Bool.Decides.{nat_tests}
 use Rattle.std.proofs.lemmas.List.{length-map}
 use Rattle.xl_model.specs.declared.address.Order.{Order}
@@ -9,12 +8,11 @@ use Rattle.xl_model.specs.declared.leaf.Leaf.{Leaf}
 use Rattle.xl_model.specs.declared.way.Entry.{Entry}
 use Rattle.xl_model.specs.declared.way.Moves.{Moves}
 use Rattle.xl_model.specs.Addresses.{level_of, pages_of}
-use Rattle.xl_model.specs.Base.{plus, one_if}
-use Rattle.xl_model.specs.Caches.{Cached}
-use Rattle.xl_model.specs.Mapping.{leaf_key, with_leaf, without_leaf, meets_block, meets_any}
-use Rattle.xl_model.specs.Placing.{Displaced, Placing, Placed, insertion}
+use Rattle.xl_model.specs.Base.{one_if}
+use Rattle.xl_model.specs.Mapping.{with_leaf, without_leaf, meets_block, meets_any}
+use Rattle.xl_model.specs.Placing.{Displaced, Placed, insertion}
 use Rattle.xl_model.specs.Sections.{section_count, section_keys}
-use Rattle.xl_model.specs.Shapes.{CuckooWays, CuckooRules, ways_of, with_ways, leaf_entry, placed_leaf}
+use Rattle.xl_model.specs.Shapes.{CuckooWays, ways_of, with_ways, leaf_entry}
 use Rattle.xl_model.specs.Structures.{IsLeafFor}
 use Rattle.xl_model.specs.Ways.{WayShape, has_key, without_entry}
 use Rattle.xl_model_lemmas.specs.Fresh.{SectionsFresh}
@@ -27,9 +25,9 @@ use Rattle.xl_model_lemmas.proofs.OnceLemmas.{once-short}
 use Rattle.xl_model_lemmas.proofs.SectionLemmas.{keys-In, In-keys, keys-once}
 use Rattle.xl_model_lemmas.proofs.WayTallyLemmas.{ways-without}
 use Rattle.xl_pte.specs.ReadBack.{MadeWordsReadBack}
-use Rattle.xl_sections.specs.Counted.{CountState, AreCounts, IsTied}
-use Rattle.xl_sections.specs.Noted.{IsRoomy, IsNoted, IsShared, IsDropped}
-use Rattle.xl_sections.proofs.KeyLemmas.{keys-count, keys-short}
+use Rattle.xl_sections.specs.Counted.{CountState, IsTied}
+use Rattle.xl_sections.specs.Noted.{IsRoomy, IsNoted, IsDropped}
+use Rattle.xl_sections.proofs.KeyLemmas.{keys-count}
 use Rattle.xl_tagged.specs.Forms.{One}
 use Rattle.xl_tagged.specs.Tagged.{IsFit, AreHeld}
 use Rattle.xl_tagged.proofs.HeldLemmas.{new-keys}
@@ -40,7 +38,7 @@ use Rattle.xl_cuckoo_walk.specs.Parts.{RowParts, ways_in, values_in, tags_in, le
 use Rattle.xl_cuckoo_walk.specs.Changes.{page_key, has_fit, AreTied, HoldsLeaves, StaysBeside, IsEntered, IsLeft}
 use Rattle.xl_cuckoo_walk.proofs.BitLemmas.{and-first, and-second}
 use Rattle.xl_cuckoo_walk.proofs.ChangeLemmas.{IsTableFor, with-ways-in, ways-table, rules-m2, rules-g1, few-with, each-way}
-use Rattle.xl_cuckoo_walk.proofs.CountLemmas.{Apart, tied-with, tied-less, fits-is, place-is, roomy-is, shared-is}
+use Rattle.xl_cuckoo_walk.proofs.CountLemmas.{Apart, tied-with, tied-less, fits-is, place-is, roomy-is}
 use Rattle.xl_cuckoo_walk.proofs.RowLemmas.{key-low, free-value, put-leaf, take-leaf, leaves-known, held-known}
 use Rattle.xl_cuckoo_walk.proofs.ValueLemmas.{tally-In, In-tally}
 

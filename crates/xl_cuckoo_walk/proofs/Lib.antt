@@ -11,7 +11,6 @@ pub mod CountLemmas
 pub mod PurgeLemmas
 pub mod FenceLemmas
 pub mod ChangeLemmas
-pub mod GiveLemmas
 pub mod HoldLemmas
 pub mod WordsLemmas
 pub mod ComparedLemmas
@@ -20,4 +19,6 @@ pub mod EnterLemmas
 pub mod LeaveLemmas
 pub mod StepLemmas
 pub mod RelocateLemmas
+pub mod NamedLemmas
+pub mod GiveLemmas
 pub mod OpenLemmas

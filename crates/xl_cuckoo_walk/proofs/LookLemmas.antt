@@ -1,13 +1,13 @@
 -- Leaves that are looked for without loads.
-use Rattle.std.proofs.Common.{◌≡◌, refl, sym, ap, ◌∙◌, subst, ℕ, ◌+◌, ◌*◌, ◌/◌, ◌^◌, ◌<◌, ◌≤◌, Bool, true, false, not, ◌||◌, ◌==◌, List, Option, None, Some, arith}
-use Rattle.std.specs.Prelude.{find, is_some}
+use Rattle.std.proofs.Common.{◌≡◌, refl, sym, ap, ◌∙◌, ℕ, ◌+◌, ◌*◌, ◌/◌, ◌^◌, ◌<◌, ◌≤◌, Bool, not, ◌||◌, ◌==◌, List, arith}
+use Rattle.std.specs.Prelude.{is_some}
 use Rattle.std.proofs.lemmas.Bool.Decides.{nat_tests}
 use Rattle.xl_model.specs.declared.address.Order.{Order}
 use Rattle.xl_model.specs.declared.address.Order.TheVariants as order
 use Rattle.xl_model.specs.declared.leaf.Leaf.{Leaf}
 use Rattle.xl_model.specs.Addresses.{pages_of}
-use Rattle.xl_model.specs.Mapping.{covers, leaf_at_page, meets_any}
-use Rattle.xl_model.specs.Shapes.{CuckooWays, ways_of}
+use Rattle.xl_model.specs.Mapping.{leaf_at_page, meets_any}
+use Rattle.xl_model.specs.Shapes.{CuckooWays}
 use Rattle.xl_model.specs.Structures.{IsBlock, IsPage}
 use Rattle.xl_model_lemmas.specs.Entries.{or_leaf}
 use Rattle.xl_model_lemmas.specs.Kept.{IsPlaced}
@@ -16,15 +16,12 @@ use Rattle.xl_model_lemmas.specs.Sections.{tally, of_order}
 use Rattle.xl_model_lemmas.proofs.OrderLemmas.{pages-some}
 use Rattle.xl_model_lemmas.proofs.SameLemmas.{same-tests}
 use Rattle.xl_pte.specs.ReadBack.{MadeWordsReadBack}
-use Rattle.xl_sections.specs.Counted.{Count, part, count_of, IsTied}
 use Rattle.xl_tagged.specs.Counted.{smaller_word}
 use Rattle.xl_tagged.specs.Forms.{One}
-use Rattle.xl_tagged.specs.Slots.{first_found, found_in, found_from}
-use Rattle.xl_tagged.specs.Tagged.{AreHeld}
-use Rattle.xl_tagged.proofs.FindLemmas.{at-page, found-from, from-is, from-only, meets-is, page-found}
-use Rattle.xl_cuckoo.specs.Table.{value_of}
+use Rattle.xl_tagged.specs.Slots.{found_in, found_from}
+use Rattle.xl_tagged.proofs.FindLemmas.{at-page, found-from, from-is, meets-is, page-found}
 use Rattle.xl_cuckoo_walk.specs.Parts.{RowParts, ways_in, values_in, tags_in, leaves_in, row_state, IsRow}
-use Rattle.xl_cuckoo_walk.specs.Plans.{leaf_said_by, is_counted}
+use Rattle.xl_cuckoo_walk.specs.Plans.{is_counted}
 use Rattle.xl_cuckoo_walk.specs.Looks.{looked, looked_from, counts_smaller}
 use Rattle.xl_cuckoo_walk.proofs.BitLemmas.{part-tied}
 use Rattle.xl_cuckoo_walk.proofs.HolderLemmas.{found-said}

@@ -1,5 +1,5 @@
 -- The purge of a few keys is the definition's purge of all sections that a change makes untrue.
-use Rattle.std.proofs.Common.{◌≡◌, refl, sym, ap, ◌∙◌, subst, ℕ, zero, suc, ◌+◌, ◌*◌, ◌/◌, ◌%◌, ◌^◌, ◌<◌, ◌≤◌, Bool, true, false, cond, not, ◌&&◌, ◌||◌, List, [], ◌∷◌, ◌++◌, length, map, drop, ◌==◌, Option, None, Some, inl, inr, ◌⊎◌, arith}
+use Rattle.std.proofs.Common.{◌≡◌, refl, sym, ap, ◌∙◌, subst, ℕ, zero, suc, ◌+◌, ◌/◌, ◌%◌, ◌^◌, ◌<◌, Bool, true, false, not, ◌&&◌, ◌||◌, List, [], ◌∷◌, ◌++◌, map, drop, ◌==◌, Option, None, Some, inl, inr, ◌⊎◌, arith}
 use Rattle.std.specs.Prelude.{slice_get}
 use Rattle.std.proofs.lemmas.Bool.Decides.{nat_tests}
 use Rattle.xl_model.specs.declared.address.Order.{Order}
@@ -10,7 +10,7 @@ use Rattle.xl_model.specs.Recency.{purged}
 use Rattle.xl_model.specs.Caches.{Cached, without_items, has_changed}
 use Rattle.xl_model.specs.Sections.{Section, section_of, section_key, same_way, same_section}
 use Rattle.xl_model.specs.Shapes.{CuckooWays, ways_of}
-use Rattle.xl_model_lemmas.specs.Fresh.{SectionFresh, SectionsFresh}
+use Rattle.xl_model_lemmas.specs.Fresh.{SectionsFresh}
 use Rattle.xl_model_lemmas.specs.Kept.{IsPlaced}
 use Rattle.xl_model_lemmas.specs.Members.{In, IsSorted}
 use Rattle.xl_model_lemmas.proofs.FreshSectionLemmas.{sections-same, section-after}

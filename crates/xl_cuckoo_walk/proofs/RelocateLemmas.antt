@@ -1,5 +1,5 @@
 -- A leaf that moves: it comes to its new place, and then goes from its old one.
-use Rattle.std.proofs.Common.{◌≡◌, refl, sym, ap, ◌∙◌, subst, ℕ, ◌+◌, ◌*◌, ◌/◌, ◌%◌, ◌^◌, ◌<◌, ◌≤◌, nat_le, Bool, true, false, ◌&&◌, List, [], ◌∷◌, ◌++◌, map, length, Option, None, Some, Err, inl, inr, ◌⊎◌, arith}
+use Rattle.std.proofs.Common.{◌≡◌, refl, sym, ap, ◌∙◌, subst, ℕ, ◌+◌, ◌*◌, ◌/◌, ◌%◌, ◌^◌, ◌<◌, ◌≤◌, nat_le, Bool, true, false, ◌&&◌, List, [], ◌∷◌, ◌++◌, map, Option, None, Some, Err, arith}
 use Rattle.std.specs.Prelude.{find, is_some}
 use Rattle.xl_model.specs.declared.address.Order.{Order}
 use Rattle.xl_model.specs.declared.address.Order.TheVariants as order
@@ -11,19 +11,17 @@ use Rattle.xl_model.specs.Base.{plus}
 use Rattle.xl_model.specs.Caches.{Cached}
 use Rattle.xl_model.specs.Changes.{Change, Insert, Relocate, at_page, changed, with_new, without_old, with_both}
 use Rattle.xl_model.specs.Mapping.{covers, is_leaf, leaf_key, leaf_at_page, leaf_named, meets_any, with_leaf, without_leaf}
-use Rattle.xl_model.specs.Placing.{Placed}
 use Rattle.xl_model.specs.Room.{room_for, has_room}
 use Rattle.xl_model.specs.Sections.{Section, section_count}
 use Rattle.xl_model.specs.Shapes.{CuckooRules, CuckooWays, Cuckoo, ways_of, with_ways, ways_taken, leaf_entry}
 use Rattle.xl_model.specs.Structures.{TableState, IsBlock, IsPage, IsLeafFor, IsChange}
-use Rattle.xl_model.specs.Ways.{WayShape, without_entry}
+use Rattle.xl_model.specs.Ways.{without_entry}
 use Rattle.xl_model.specs.Words.{leaf_word}
 use Rattle.xl_model_lemmas.specs.Members.{In}
 use Rattle.xl_model_lemmas.proofs.InsertionLemmas.{stays-with}
 use Rattle.xl_model_lemmas.proofs.MappingLemmas.{named-is}
 use Rattle.xl_model_lemmas.proofs.MemberLemmas.{In-left, In-right, find-only, find-None}
-use Rattle.xl_model_lemmas.proofs.PlaceLemmas.{first-covered, covers-meets, named-key}
-use Rattle.xl_model_lemmas.proofs.SameLemmas.{both}
+use Rattle.xl_model_lemmas.proofs.PlaceLemmas.{first-covered, covers-meets}
 use Rattle.xl_model_lemmas.proofs.SortedLemmas.{with-without}
 use Rattle.xl_pte.specs.ReadBack.{MadeWordsReadBack}
 use Rattle.xl_tagged.specs.Tagged.{IsFit}
@@ -32,11 +30,11 @@ use Rattle.xl_cuckoo_walk.specs.Parts.{RowParts, ways_in, leaves_in, rules_in, r
 use Rattle.xl_cuckoo_walk.specs.Plans.{keys_from}
 use Rattle.xl_cuckoo_walk.specs.Changes.{page_key, keys_if, keys_moved, compared, HoldsLeaves, StaysBeside, IsEntered, IsRefused, IsLeft}
 use Rattle.xl_cuckoo_walk.proofs.ComparedLemmas.{WordsStay, ComparedRow, compared-row, compared-twice}
-use Rattle.xl_cuckoo_walk.proofs.GiveLemmas.{NamedLeaf, named-held, by-name, to-name}
+use Rattle.xl_cuckoo_walk.proofs.NamedLemmas.{NamedLeaf, named-held, by-name, to-name}
 use Rattle.xl_cuckoo_walk.proofs.HoldLemmas.{row-holds, apart-leaf, fit-leaf, free-now}
 use Rattle.xl_cuckoo_walk.proofs.RowLemmas.{leaves-known}
 use Rattle.xl_cuckoo_walk.proofs.StepLemmas.{SteppedRow, answered, words-left, keys_entered, words-entered, entered-room}
-use Rattle.xl_cuckoo_walk.proofs.VerdictLemmas.{state_by, state_made, made_answer, made, refused-same, room-both}
+use Rattle.xl_cuckoo_walk.proofs.VerdictLemmas.{state_made, made_answer, made, refused-same, room-both}
 
 -- the leaf of a name is the one that its first page finds
 pub named-found : (p : RowParts) → IsRow p → (space first : ℕ) (o : Order) (n : NamedLeaf p space first o) → leaf_at_page space first (row_state p).leaves ≡ Some n.leaf

@@ -1,5 +1,5 @@
 -- The leaves of the row when a leaf comes, goes, or gets another permission.
-use Rattle.std.proofs.Common.{◌≡◌, refl, sym, ap, ◌∙◌, subst, ℕ, zero, suc, ◌+◌, ◌*◌, ◌/◌, ◌%◌, ◌^◌, ◌<◌, ◌≤◌, Bool, true, false, List, [], ◌∷◌, map, Option, None, Some, arith}
+use Rattle.std.proofs.Common.{◌≡◌, refl, sym, ap, ◌∙◌, subst, ℕ, ◌+◌, ◌*◌, ◌/◌, ◌%◌, ◌^◌, ◌<◌, false, List, map, Option, None, Some, arith}
 use Rattle.std.specs.Prelude.{find, slice_index, IsSome}
 use Rattle.std.proofs.lemmas.Bool.Decides.{nat_tests}
 use Rattle.xl_model.specs.declared.address.Order.{Order}
@@ -20,7 +20,7 @@ use Rattle.xl_model_lemmas.proofs.MemberLemmas.{find-In, find-passes, In-map}
 use Rattle.xl_model_lemmas.proofs.SameLemmas.{both}
 use Rattle.xl_model_lemmas.proofs.TagLemmas.{tag-meets}
 use Rattle.xl_pte.specs.ReadBack.{MadeWordsReadBack}
-use Rattle.xl_tagged.specs.Forms.{One, slot_of, word_at}
+use Rattle.xl_tagged.specs.Forms.{One, slot_of}
 use Rattle.xl_tagged.specs.Tagged.{IsFit, AreHeld}
 use Rattle.xl_tagged.proofs.HeldLemmas.{put-held, take-held, with-new, without-old, with-given}
 use Rattle.xl_tagged.proofs.SlotLemmas.{leaf-some, known-leaves}

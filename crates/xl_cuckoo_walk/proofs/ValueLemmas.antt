@@ -1,7 +1,6 @@
 -- Words under keys in ways, by how often entries pass tests: with an entry more, without one, and with another word.
-use Rattle.std.proofs.Common.{◌≡◌, refl, sym, ap, ◌∙◌, subst, ℕ, zero, suc, ◌+◌, ◌*◌, ◌^◌, ◌<◌, ◌≤◌, Bool, true, false, cond, not, ◌&&◌, ◌==◌, List, [], ◌∷◌, ◌++◌, map, ◌⊎◌, inl, inr, Option, None, Some, arith}
-use Rattle.std.specs.Prelude.{find, is_some, IsSome}
-use Rattle.std.specs.List.{list_any}
+use Rattle.std.proofs.Common.{◌≡◌, refl, sym, ap, ◌∙◌, subst, ℕ, ◌+◌, ◌*◌, ◌^◌, ◌≤◌, Bool, true, false, cond, not, ◌&&◌, ◌==◌, List, [], ◌∷◌, map, inl, inr, Option, None, Some, arith}
+use Rattle.std.specs.Prelude.{find, IsSome}
 use Rattle.std.proofs.lemmas.Bool.Decides.{nat_tests}
 use Rattle.xl_model.specs.declared.address.Order.{Order}
 use Rattle.xl_model.specs.declared.way.Entry.{Entry}
@@ -11,7 +10,7 @@ use Rattle.xl_model.specs.Ways.{WayShape, has_key, without_entry, with_word, rew
 use Rattle.xl_model_lemmas.specs.Members.{In}
 use Rattle.xl_model_lemmas.specs.Sections.{tally, entries_in}
 use Rattle.xl_model_lemmas.proofs.MemberLemmas.{find-In, find-passes, find-None, any-In, map-In, In-map}
-use Rattle.xl_model_lemmas.proofs.TallyLemmas.{tally-any, tally-each}
+use Rattle.xl_model_lemmas.proofs.TallyLemmas.{tally-any}
 use Rattle.xl_model_lemmas.proofs.WayTallyLemmas.{tally-same, ways-without, ways-reworded}
 use Rattle.xl_way.specs.Slots.{word_in, word_of}
 use Rattle.xl_cuckoo.specs.Table.{value_of, AddsEntry, AreOnce}

@@ -1,21 +1,23 @@
 -- What a change of a row comes to by the definitions, by each verdict.
-use Rattle.std.proofs.Common.{◌≡◌, refl, sym, ap, ◌∙◌, ℕ, ◌-◌, ◌*◌, ◌/◌, ◌^◌, nat_le, Bool, true, false, ◌&&◌, List, map, Option, None, Some, Result, Ok, Err}
+use Rattle.std.proofs.Common.{◌≡◌, refl, sym, ap, ◌∙◌, subst, ℕ, ◌-◌, nat_le, true, false, ◌&&◌, List, map, Option, None, Some, Result, Ok, Err}
 use Rattle.xl_model.specs.declared.address.Order.{Order}
 use Rattle.xl_model.specs.declared.address.Order.TheVariants as order
 use Rattle.xl_model.specs.declared.leaf.Leaf.{Leaf}
+use Rattle.xl_model.specs.declared.perm.Perm.{Perm}
 use Rattle.xl_model.specs.declared.way.Moves.{Moves}
 use Rattle.xl_model.specs.declared.work.NoRoom.TheVariants as why
 use Rattle.xl_model.specs.declared.work.Refused.{Refused}
 use Rattle.xl_model.specs.declared.work.Work.{Work}
-use Rattle.xl_model.specs.Caches.{Cached, Caches, SectionCaches, entries_in, without_items, has_changed, caches_purged}
-use Rattle.xl_model.specs.Changes.{Change, Insert, Remove, Relocate, changed, old_leaf, without_old, with_both}
+use Rattle.xl_model.specs.Caches.{Cached, SectionCaches, entries_in, without_items, has_changed, caches_purged}
+use Rattle.xl_model.specs.Changes.{Change, Insert, Remove, Protect, changed, old_leaf, without_old, with_new, with_perm, with_both}
 use Rattle.xl_model.specs.Mapping.{leaf_named, with_leaf, without_leaf}
-use Rattle.xl_model.specs.Placing.{Placing, Placed, AtCap, Displaced, no_moves}
-use Rattle.xl_model.specs.Room.{has_room}
+use Rattle.xl_model.specs.Placing.{Placed, AtCap, Displaced, no_moves}
+use Rattle.xl_model.specs.Room.{room_for, has_room}
 use Rattle.xl_model.specs.Sections.{Section, section_count}
 use Rattle.xl_model.specs.Shapes.{CuckooRules, CuckooWays, Shape, Cuckoo, ways_of, with_ways, leaf_entry, brought, placed_leaf, ways_placed, moves_of, is_placed, ways_taken, widened, narrowed, shape_after}
 use Rattle.xl_model.specs.Structures.{TableState, IsChange, moves_made, finds_place, work_of, Verdict, Made, NoSpace, NoPlace, verdict, verdict_by, table_made, answer_by, after_by, table_answer, table_after}
-use Rattle.xl_model.specs.Ways.{WayShape, without_entry}
+use Rattle.xl_model.specs.Ways.{WayShape, with_word, without_entry}
+use Rattle.xl_model.specs.Words.{leaf_word}
 
 -- the table of a cuckoo row
 abbrev pub state_by : CuckooRules → List Leaf → CuckooWays → Cached Section → Cached Section → ℕ → TableState
@@ -78,6 +80,25 @@ module _ (c : Change) (rules : CuckooRules) (leaves : List Leaf) (ws : CuckooWay
         after = sym (ap (λ u. after_by u c before) v ∙ ap (λ o. F (widened o shape)) b ∙ ap (λ q. F (Cuckoo rules (with_ways x.order (ways_placed q) ws))) p);
       }
 
+  -- no leaf comes, so nothing refuses it
+  pub taken : brought c leaves ≡ None →
+      let t = state_made rules leaves ws m2 g1 loads (changed c leaves) (ways_taken c (old_leaf c leaves) ws) in
+      IsChange c before (made_answer m2 g1 no_moves t) t
+  unfolding table_after table_answer verdict has_room table_made shape_after caches_purged
+  taken b =
+      let v : verdict_by (has_room c leaves shape) (finds_place (brought c leaves) shape) ≡ Made = ap (λ o. verdict_by (room_for o c leaves shape) (finds_place o shape)) b in
+      let F : Shape → TableState = λ s. record {
+        leaves = changed c leaves;
+        shape = narrowed c leaves s;
+        caches = caches_purged c leaves shape (narrowed c leaves s) (SectionCaches m2 g1);
+        loads = loads;
+      } in
+      let W : Moves → Shape → Result Work Refused = λ n s. Ok (work_of n (entries_in (SectionCaches m2 g1) - entries_in (F s).caches)) in
+      record {
+        answer = sym (ap (λ u. answer_by u c before) v ∙ ap (λ o. W (moves_made o shape) (widened o shape)) b);
+        after = sym (ap (λ u. after_by u c before) v ∙ ap (λ o. F (widened o shape)) b);
+      }
+
 -- a leaf that comes, alone or from another place, is refused for the same reasons
 pub refused-same : (c : Change) (x : Leaf) (t n : TableState) (r : Refused) → brought c t.leaves ≡ Some x → has_room c t.leaves t.shape ≡ has_room (Insert x) t.leaves t.shape → IsChange (Insert x) t (Err r) n → IsChange c t (Err r) n
 unfolding table_after table_answer verdict
@@ -106,23 +127,22 @@ unfolding has_room with_both
 room-both rules leaves ws x = refl
 
 -- a leaf goes
-abbrev left_state : CuckooRules → ℕ → ℕ → Order → List Leaf → CuckooWays → Cached Section → Cached Section → ℕ → Option Leaf → TableState
-left_state rules space first o leaves ws m2 g1 loads q = state_made rules leaves ws m2 g1 loads (without_old q leaves) (ways_taken (Remove space first o) q ws)
-
-removed-after : (rules : CuckooRules) (space first : ℕ) (o : Order) (leaves : List Leaf) (ws : CuckooWays) (m2 g1 : Cached Section) (loads : ℕ)
-    → table_after (Remove space first o) (state_by rules leaves ws m2 g1 loads) ≡ left_state rules space first o leaves ws m2 g1 loads (leaf_named space first o leaves)
-unfolding table_after verdict has_room table_made shape_after changed caches_purged
-removed-after rules space first o leaves ws m2 g1 loads = refl
-
-removed-answer : (rules : CuckooRules) (space first : ℕ) (o : Order) (leaves : List Leaf) (ws : CuckooWays) (m2 g1 : Cached Section) (loads : ℕ)
-    → table_answer (Remove space first o) (state_by rules leaves ws m2 g1 loads) ≡ made_answer m2 g1 no_moves (left_state rules space first o leaves ws m2 g1 loads (leaf_named space first o leaves))
-unfolding table_answer verdict has_room table_made shape_after changed caches_purged
-removed-answer rules space first o leaves ws m2 g1 loads = refl
-
 pub removed : (rules : CuckooRules) (space first : ℕ) (o : Order) (leaves : List Leaf) (ws : CuckooWays) (m2 g1 : Cached Section) (loads : ℕ) (x : Leaf) → leaf_named space first o leaves ≡ Some x →
     let t = state_made rules leaves ws m2 g1 loads (without_leaf x.space x.first leaves) (with_ways x.order (map (without_entry (leaf_entry x).key) (ways_of x.order ws)) ws) in
     IsChange (Remove space first o) (state_by rules leaves ws m2 g1 loads) (made_answer m2 g1 no_moves t) t
-removed rules space first o leaves ws m2 g1 loads x named = record {
-  answer = sym (removed-answer rules space first o leaves ws m2 g1 loads ∙ ap (λ q. made_answer m2 g1 no_moves (left_state rules space first o leaves ws m2 g1 loads q)) named);
-  after = sym (removed-after rules space first o leaves ws m2 g1 loads ∙ ap (left_state rules space first o leaves ws m2 g1 loads) named);
-}
+unfolding changed
+removed rules space first o leaves ws m2 g1 loads x named =
+    let c : Change = Remove space first o in
+    let F : Option Leaf → TableState = λ q. state_made rules leaves ws m2 g1 loads (without_old q leaves) (ways_taken c q ws) in
+    subst (λ t. IsChange c (state_by rules leaves ws m2 g1 loads) (made_answer m2 g1 no_moves t) t) (ap F named) (taken c rules leaves ws m2 g1 loads refl)
+
+-- a leaf gets another permission
+pub given : (rules : CuckooRules) (space first : ℕ) (o : Order) (perm : Perm) (leaves : List Leaf) (ws : CuckooWays) (m2 g1 : Cached Section) (loads : ℕ) (x : Leaf) → leaf_named space first o leaves ≡ Some x →
+    let t = state_made rules leaves ws m2 g1 loads (with_leaf (record x { perm = perm }) (without_leaf x.space x.first leaves))
+    (with_ways x.order (map (with_word (leaf_entry x).key (leaf_word x.frame perm)) (ways_of x.order ws)) ws) in
+    IsChange (Protect space first o perm) (state_by rules leaves ws m2 g1 loads) (made_answer m2 g1 no_moves t) t
+unfolding changed
+given rules space first o perm leaves ws m2 g1 loads x named =
+    let c : Change = Protect space first o perm in
+    let F : Option Leaf → TableState = λ q. state_made rules leaves ws m2 g1 loads (with_new (with_perm perm q) (without_old q leaves)) (ways_taken c q ws) in
+    subst (λ t. IsChange c (state_by rules leaves ws m2 g1 loads) (made_answer m2 g1 no_moves t) t) (ap F named) (taken c rules leaves ws m2 g1 loads refl)

@@ -1,7 +1,6 @@
 -- A walk, step by step, is the definition's.
-use Rattle.std.proofs.Common.{◌≡◌, refl, sym, ap, ◌∙◌, subst, ℕ, zero, suc, ◌+◌, ◌*◌, ◌/◌, ◌%◌, ◌^◌, ◌<◌, ◌≤◌, Bool, true, false, cond, not, ◌&&◌, ◌||◌, List, [], ◌∷◌, length, map, ◌==◌, Option, None, Some, inl, inr, ◌⊎◌, arith}
+use Rattle.std.proofs.Common.{◌≡◌, refl, sym, ap, ◌∙◌, subst, ℕ, ◌+◌, ◌*◌, ◌/◌, ◌%◌, ◌^◌, ◌<◌, ◌≤◌, Bool, true, false, not, List, length, map, Option, None, Some, arith}
 use Rattle.std.specs.Prelude.{find, is_some}
-use Rattle.std.proofs.lemmas.Bool.Decides.{nat_tests}
 use Rattle.xl_model.specs.declared.address.Order.{Order}
 use Rattle.xl_model.specs.declared.address.Order.TheVariants as order
 use Rattle.xl_model.specs.declared.leaf.Leaf.{Leaf}
@@ -9,18 +8,17 @@ use Rattle.xl_model.specs.declared.work.Walk.{Walk}
 use Rattle.xl_model.specs.Addresses.{level_of, pages_of, same_order}
 use Rattle.xl_model.specs.Base.{plus, one_if}
 use Rattle.xl_model.specs.Mapping.{covers, leaf_at_page}
-use Rattle.xl_model.specs.Sections.{Section, section_of, is_section}
-use Rattle.xl_model.specs.Ways.{WayShape}
+use Rattle.xl_model.specs.Sections.{Section, is_section}
 use Rattle.xl_model.specs.Walks.{probes, section_of_page, is_page_section, section_after, fills_m2, walked}
 use Rattle.xl_model.specs.Shapes.{CuckooWays, ways_of}
 use Rattle.xl_model.specs.Structures.{TableState, IsPage, IsWalk, walk_answer, table_walked}
-use Rattle.xl_model.specs.Recency.{touched, with_newest}
-use Rattle.xl_model.specs.Caches.{Cached, Caches, SectionCaches}
+use Rattle.xl_model.specs.Recency.{with_newest}
+use Rattle.xl_model.specs.Caches.{Cached, SectionCaches}
 use Rattle.xl_model_lemmas.specs.Entries.{or_leaf}
 use Rattle.xl_model_lemmas.specs.Fresh.{has_leaves, SectionsFresh}
 use Rattle.xl_model_lemmas.specs.Kept.{IsPlaced}
 use Rattle.xl_model_lemmas.specs.Mappings.{IsFound}
-use Rattle.xl_model_lemmas.specs.Members.{In, IsSorted}
+use Rattle.xl_model_lemmas.specs.Members.{In}
 use Rattle.xl_model_lemmas.proofs.FreshSectionLemmas.{section-some, section-walked}
 use Rattle.xl_model_lemmas.proofs.MemberLemmas.{find-In, find-passes}
 use Rattle.xl_model_lemmas.proofs.OrderLemmas.{level-low}
@@ -30,12 +28,12 @@ use Rattle.xl_pte.specs.ReadBack.{MadeWordsReadBack}
 use Rattle.xl_recency.specs.declared.item.Item.{Item}
 use Rattle.xl_sections.specs.Counted.{Count}
 use Rattle.xl_tagged.proofs.FindLemmas.{page-found}
-use Rattle.xl_cuckoo.specs.Table.{CuckooState, loaded}
+use Rattle.xl_cuckoo.specs.Table.{CuckooState}
 use Rattle.xl_cuckoo_walk.specs.declared.plan.Plan.{Plan}
 use Rattle.xl_cuckoo_walk.specs.declared.plan.Plan.TheVariants as plan
 use Rattle.xl_cuckoo_walk.specs.Coding.{section_by, section_in, sections_in, has_tag, word_of_item, hit_of}
-use Rattle.xl_cuckoo_walk.specs.Parts.{RowParts, ways_in, leaves_in, row_state, SameRules, IsRow}
-use Rattle.xl_cuckoo_walk.specs.Plans.{plan_of, value_by, probed, IsIn, loads_by, leaf_said_by, new_word, touched_in, newest_in, filled}
+use Rattle.xl_cuckoo_walk.specs.Parts.{RowParts, ways_in, leaves_in, row_state, IsRow}
+use Rattle.xl_cuckoo_walk.specs.Plans.{plan_of, value_by, probed, IsIn, loads_by, leaf_said_by, new_word, touched_in, filled}
 use Rattle.xl_cuckoo_walk.proofs.CodeLemmas.{tag-same, hit-is}
 use Rattle.xl_cuckoo_walk.proofs.BitLemmas.{written-is}
 use Rattle.xl_cuckoo_walk.proofs.PlanLemmas.{AreHits, hit-fresh, IsPlanned, planned}

@@ -1,5 +1,5 @@
 -- The words of sections that a leaf's coming or going leaves as they are.
-use Rattle.std.proofs.Common.{◌≡◌, refl, sym, ap, ◌∙◌, subst, ℕ, ◌+◌, ◌*◌, ◌/◌, ◌^◌, Bool, true, false, cond, not, ◌&&◌, ◌||◌, nat_le, ◌==◌, List, [], ◌∷◌, ◌++◌, map, length, Option, None, Some, inl, inr, arith}
+use Rattle.std.proofs.Common.{◌≡◌, refl, sym, ap, ◌∙◌, subst, ℕ, ◌+◌, Bool, true, false, cond, not, ◌&&◌, ◌||◌, nat_le, ◌==◌, List, [], ◌∷◌, ◌++◌, map, Option, Some, inl, arith}
 use Rattle.std.specs.List.{list_any}
 use Rattle.std.proofs.lemmas.Bool.Decides.{nat_tests}
 use Rattle.xl_model.specs.declared.address.Order.{Order}
@@ -7,7 +7,7 @@ use Rattle.xl_model.specs.declared.address.Order.TheVariants as order
 use Rattle.xl_model.specs.declared.leaf.Leaf.{Leaf}
 use Rattle.xl_model.specs.declared.way.Entry.{Entry}
 use Rattle.xl_model.specs.declared.way.Moves.{Moves}
-use Rattle.xl_model.specs.Addresses.{level_of, pages_of, same_order}
+use Rattle.xl_model.specs.Addresses.{level_of, same_order}
 use Rattle.xl_model.specs.Mapping.{with_leaf, without_leaf}
 use Rattle.xl_model.specs.Placing.{Displaced, Placed, is_held, holder_from}
 use Rattle.xl_model.specs.Sections.{way_where}
@@ -32,7 +32,7 @@ abbrev word_for : Order → ℕ → Option ℕ → ℕ
 word_for size n h =
     word_by (not (part order.K4 n == 0)) (not (part order.M2 n == 0)) (not (part order.G1 n == 0)) (way_where (not (part size n == 0)) h)
 
-word-same : (size : Order) (key : ℕ) (old new : List Count) (ways after : List WayShape) → count_of key new ≡ count_of key old → holder_from 0 after key ≡ holder_from 0 ways key
+pub word-same : (size : Order) (key : ℕ) (old new : List Count) (ways after : List WayShape) → count_of key new ≡ count_of key old → holder_from 0 after key ≡ holder_from 0 ways key
     → new_word size key new after ≡ new_word size key old ways
 unfolding new_word
 word-same size key old new ways after n h =

@@ -1,5 +1,5 @@
 -- What a change does to the parts of a row before cached sections are compared, and what the comparison does.
-use Rattle.std.specs.Prelude.{ℕ, ◌≡◌, ◌+◌, ◌*◌, ◌/◌, ◌^◌, ◌≤◌, ◌==◌, not, nat_le, Bool, true, false, ◌&&◌, ◌||◌, List, [], ◌∷◌, ◌++◌, map, length, Result, Err}
+use Rattle.std.specs.Prelude.{ℕ, ◌≡◌, ◌+◌, ◌*◌, ◌/◌, ◌^◌, ◌≤◌, ◌==◌, not, nat_le, Bool, true, false, ◌||◌, List, [], map, length, Err}
 use Rattle.xl_model.specs.declared.address.Order.{Order}
 use Rattle.xl_model.specs.declared.address.Order.TheVariants as order
 use Rattle.xl_model.specs.declared.leaf.Leaf.{Leaf}
@@ -8,7 +8,6 @@ use Rattle.xl_model.specs.declared.way.Moves.{Moves}
 use Rattle.xl_model.specs.declared.work.Refused.{Refused}
 use Rattle.xl_model.specs.Addresses.{level_of, pages_of, same_order}
 use Rattle.xl_model.specs.Base.{plus}
-use Rattle.xl_model.specs.Caches.{Cached}
 use Rattle.xl_model.specs.Changes.{Insert}
 use Rattle.xl_model.specs.Mapping.{with_leaf, without_leaf}
 use Rattle.xl_model.specs.Placing.{Placed, AtCap}
@@ -17,7 +16,6 @@ use Rattle.xl_model.specs.Shapes.{ways_of, with_ways, placed_leaf}
 use Rattle.xl_model.specs.Structures.{IsChange}
 use Rattle.xl_model.specs.Ways.{with_word, without_entry}
 use Rattle.xl_model_lemmas.specs.Sections.{key_in}
-use Rattle.xl_recency.specs.declared.item.Item.{Item}
 use Rattle.xl_sections.specs.Counted.{CountState, count_of, AreCounts, IsTied}
 use Rattle.xl_tagged.specs.Forms.{One}
 use Rattle.xl_tagged.specs.Tagged.{AreHeld}

@@ -1,4 +1,4 @@
-use Rattle.std.proofs.Common.{◌≡◌, sym, subst, ◌+◌}
+use Rattle.std.proofs.Common.{sym, subst, ◌+◌}
 use Rattle.xl_model.specs.Structures.{IsFence}
 use Rattle.xl_cuckoo_walk.specs.Parts.{RowParts, IsRow, row_state}
 use Rattle.xl_cuckoo_walk.proofs.FenceLemmas.{FencedRow, row-fenced}

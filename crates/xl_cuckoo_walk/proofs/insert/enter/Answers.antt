@@ -1,8 +1,8 @@
-use Rattle.std.proofs.Common.{◌≡◌, refl, sym, ap, ◌∙◌, subst, ℕ, ◌<◌, ◌/◌, ◌%◌, ◌^◌, length, lit<, false}
+use Rattle.std.proofs.Common.{◌≡◌, sym, ◌∙◌, subst, ◌<◌, length, lit<}
 use Rattle.xl_cuckoo_walk.specs.Parts.{RowParts, table_of}
 use Rattle.xl_cuckoo_walk.specs.Changes.{with_put_in, IsPut, IsRefused}
 use Rattle.xl_cuckoo_walk.proofs.EnterLemmas.{refused-full, key-free, roomy-middle, roomy-large, put-entered, put-refused}
-use Rattle.xl_cuckoo_walk.proofs.GiveLemmas.{word-some}
+use Rattle.xl_cuckoo_walk.proofs.NamedLemmas.{word-some}
 use Rattle.xl_cuckoo_walk.proofs.HoldLemmas.{fit-leaf, free-now}
 use Rattle.xl_cuckoo_walk.proofs.insert.enter.Goals as goal
 

@@ -1,15 +1,8 @@
-use Rattle.std.proofs.Common.{◌≡◌, sym, ap, ◌∙◌, subst, ℕ, ◌-◌, ◌≤◌, length, lit<, Result, Ok, arith}
-use Rattle.xl_model.specs.declared.way.Moves.{Moves}
-use Rattle.xl_model.specs.declared.work.Refused.{Refused}
-use Rattle.xl_model.specs.declared.work.Work.{Work}
+use Rattle.std.proofs.Common.{sym, subst, ◌≤◌, length, lit<}
 use Rattle.xl_model.specs.Changes.{Insert}
-use Rattle.xl_model.specs.Structures.{IsChange, work_of}
-use Rattle.xl_model.specs.declared.address.Order.TheVariants as order
-use Rattle.xl_cuckoo_walk.specs.Parts.{RowParts, ways_in, leaves_in, row_state}
-use Rattle.xl_cuckoo_walk.specs.Changes.{page_key, keys_moved, compared}
-use Rattle.xl_cuckoo_walk.proofs.HoldLemmas.{fit-leaf, free-now, few-m2, few-g1}
+use Rattle.xl_cuckoo_walk.specs.Parts.{RowParts}
+use Rattle.xl_cuckoo_walk.proofs.HoldLemmas.{fit-leaf, few-m2, few-g1}
 use Rattle.xl_cuckoo_walk.proofs.StepLemmas.{less-cached, counted-row, inserted-by}
-use Rattle.xl_cuckoo_walk.proofs.insert.insert_leaf.Given.{Over}
 use Rattle.xl_cuckoo_walk.proofs.insert.insert_leaf.Goals as goal
 
 pub refresh_leaf-requires : goal.refresh_leaf-requires

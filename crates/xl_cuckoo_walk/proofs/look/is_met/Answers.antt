@@ -1,8 +1,7 @@
-use Rattle.std.proofs.Common.{lit<, sym, ap, ◌∙◌, ◌||◌, ◌+◌, ◌*◌, ◌/◌, ◌^◌}
+use Rattle.std.proofs.Common.{lit<, sym, ap, ◌∙◌, ◌||◌}
 use Rattle.std.specs.Prelude.{is_some}
-use Rattle.xl_model.specs.Addresses.{pages_of}
 use Rattle.xl_cuckoo_walk.specs.Parts.{ways_in}
-use Rattle.xl_cuckoo_walk.specs.Looks.{looked_from, counts_smaller}
+use Rattle.xl_cuckoo_walk.specs.Looks.{looked_from}
 use Rattle.xl_cuckoo_walk.proofs.LookLemmas.{block-parts, block-met}
 use Rattle.xl_cuckoo_walk.proofs.look.is_met.Goals as goal
 

@@ -1,16 +1,14 @@
-use Rattle.std.proofs.Common.{◌≡◌, refl, sym, ap, ◌∙◌, subst, ℕ, ◌<◌, ◌/◌, ◌%◌, ◌^◌, lit<, Option, None, Some, Ok}
+use Rattle.std.proofs.Common.{◌≡◌, refl, sym, ap, ◌∙◌, subst, ◌<◌, ◌/◌, ◌%◌, ◌^◌, lit<, None, Some, Ok}
 use Rattle.std.specs.Prelude.{IsSome}
 use Rattle.xl_model.specs.Changes.{Protect}
-use Rattle.xl_model.specs.Placing.{no_moves}
 use Rattle.xl_model.specs.Shapes.{ways_of}
-use Rattle.xl_model.specs.Structures.{IsChange, work_of}
+use Rattle.xl_model.specs.Structures.{IsChange}
 use Rattle.xl_model.specs.Words.{leaf_word}
-use Rattle.xl_tagged.specs.Steps.{given_word}
 use Rattle.xl_cuckoo.specs.Table.{value_of}
-use Rattle.xl_cuckoo_walk.specs.Parts.{RowParts, ways_in, IsRow, row_state, table_of}
-use Rattle.xl_cuckoo_walk.specs.Changes.{with_word_in}
+use Rattle.xl_cuckoo_walk.specs.Parts.{ways_in, row_state, table_of}
 use Rattle.xl_cuckoo_walk.proofs.ChangeLemmas.{ways-table}
-use Rattle.xl_cuckoo_walk.proofs.GiveLemmas.{NamedLeaf, named-leaf, ChangedRow, row-given, word-some}
+use Rattle.xl_cuckoo_walk.proofs.GiveLemmas.{GivenRow, row-given}
+use Rattle.xl_cuckoo_walk.proofs.NamedLemmas.{NamedLeaf, named-leaf, word-some}
 use Rattle.xl_cuckoo_walk.proofs.protect.protect_leaf.Given.{Over}
 use Rattle.xl_cuckoo_walk.proofs.protect.protect_leaf.Goals as goal
 
@@ -41,11 +39,11 @@ reword-requires g c =
     let positive : 0 < c.give_perm.result = subst (λ n. 0 < n) (sym c.give_perm.ensures) (word-some (c.in-Some.word / 1024 % 2 ^ 44) a.perm) in
     (lit< tt, (some, positive))
 
-given : (g : Over) (c : goal.After-none g) → ChangedRow (Protect c.args.space c.args.first c.args.order c.args.perm) c.args.parts.now c.reword.new.parts (Ok (work_of no_moves 0))
+given : (g : Over) (c : goal.After-none g) → GivenRow (Protect c.args.space c.args.first c.args.order c.args.perm) c.args.parts.now c.reword.new.parts
 given g c =
     let a = c.args in
     let n : NamedLeaf a.parts.now a.space a.first a.order = named-leaf c.words_read_back.ensures a.parts.now c.requires.whole a.space a.first a.order c.requires.named in
-    subst (λ q. ChangedRow (Protect a.space a.first a.order a.perm) a.parts.now q (Ok (work_of no_moves 0))) (sym c.reword.ensures)
+    subst (λ q. GivenRow (Protect a.space a.first a.order a.perm) a.parts.now q) (sym c.reword.ensures)
     (row-given c.words_read_back.ensures a.parts.now c.requires.whole a.space a.first a.order a.perm n c.section-key.result c.in-Some.word c.give_perm.result
     c.section-key.ensures (sym c.word_in.ensures ∙ c.in-Some.is) c.give_perm.ensures)
 

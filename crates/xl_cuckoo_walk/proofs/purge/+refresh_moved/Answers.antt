@@ -1,7 +1,5 @@
-use Rattle.std.proofs.Common.{◌≡◌, refl, sym, ap, ◌∙◌, ℕ, ◌+◌, List, [], ◌∷◌}
+use Rattle.std.proofs.Common.{sym, ap, ◌∙◌, ◌+◌}
 use Rattle.xl_model.specs.Recency.{purged}
-use Rattle.xl_model.specs.Caches.{Cached}
-use Rattle.xl_recency.specs.declared.item.Item.{Item}
 use Rattle.xl_cuckoo.specs.Undo.{told}
 use Rattle.xl_cuckoo_walk.specs.Coding.{is_old}
 use Rattle.xl_cuckoo_walk.specs.Plans.{new_word, refreshed, keys_from, key_told}

@@ -1,7 +1,7 @@
-use Rattle.std.proofs.Common.{◌≡◌, sym, ap, ◌∙◌, subst, ℕ, ◌≤◌, length, lit<, None, Some}
+use Rattle.std.proofs.Common.{◌≡◌, sym, ◌∙◌, subst, ◌≤◌, length, lit<, None, Some}
 use Rattle.xl_model.specs.Changes.{Relocate}
 use Rattle.xl_cuckoo_walk.specs.Parts.{RowParts}
-use Rattle.xl_cuckoo_walk.proofs.GiveLemmas.{NamedLeaf, named-leaf}
+use Rattle.xl_cuckoo_walk.proofs.NamedLemmas.{NamedLeaf, named-leaf}
 use Rattle.xl_cuckoo_walk.proofs.HoldLemmas.{few-m2, few-g1}
 use Rattle.xl_cuckoo_walk.proofs.LookLemmas.{block-parts}
 use Rattle.xl_cuckoo_walk.proofs.RelocateLemmas.{named-found, named-page, found-leaf, valid-new, free-new, moved-refused, holds-between, named-between, moved-by}

@@ -1,14 +1,11 @@
-use Rattle.std.proofs.Common.{◌≡◌, sym, ap, ◌∙◌, subst, ℕ, ◌-◌, ◌≤◌, lit<, Result, Ok, arith}
-use Rattle.xl_model.specs.declared.work.Refused.{Refused}
+use Rattle.std.proofs.Common.{ap, ◌-◌, lit<}
 use Rattle.xl_model.specs.declared.work.Work.{Work}
 use Rattle.xl_model.specs.Changes.{Remove}
 use Rattle.xl_model.specs.Placing.{no_moves}
-use Rattle.xl_model.specs.Structures.{IsChange, work_of}
-use Rattle.xl_cuckoo_walk.specs.Parts.{ways_in, leaves_in, row_state}
-use Rattle.xl_cuckoo_walk.proofs.GiveLemmas.{NamedLeaf, named-leaf}
+use Rattle.xl_cuckoo_walk.specs.Parts.{row_state}
+use Rattle.xl_cuckoo_walk.proofs.NamedLemmas.{NamedLeaf, named-leaf}
 use Rattle.xl_cuckoo_walk.proofs.HoldLemmas.{row-holds, few-m2, few-g1}
 use Rattle.xl_cuckoo_walk.proofs.StepLemmas.{less-cached, counted-row, removed-by}
-use Rattle.xl_cuckoo_walk.proofs.remove.remove_leaf.Given.{Over}
 use Rattle.xl_cuckoo_walk.proofs.remove.remove_leaf.Goals as goal
 
 pub leave-requires : goal.leave-requires

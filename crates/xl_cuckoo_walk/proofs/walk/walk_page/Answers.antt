@@ -1,4 +1,4 @@
-use Rattle.std.proofs.Common.{◌≡◌, refl, sym, ap, ◌∙◌, subst, ℕ, ◌+◌, ◌*◌, ◌<◌, ◌/◌, ◌^◌, Option, lit<}
+use Rattle.std.proofs.Common.{◌≡◌, sym, ap, ◌∙◌, subst, ℕ, ◌+◌, ◌*◌, ◌/◌, ◌^◌, Option, lit<}
 use Rattle.std.specs.Prelude.{find, is_some}
 use Rattle.xl_model.specs.declared.address.Order.{Order}
 use Rattle.xl_model.specs.declared.address.Order.TheVariants as order
@@ -7,13 +7,13 @@ use Rattle.xl_model.specs.Base.{one_if}
 use Rattle.xl_model.specs.Addresses.{pages_of}
 use Rattle.xl_model.specs.Shapes.{ways_of}
 use Rattle.xl_model.specs.Walks.{fills_m2}
-use Rattle.xl_model.specs.Structures.{TableState, IsPage, IsWalk}
+use Rattle.xl_model.specs.Structures.{IsWalk}
 use Rattle.xl_model_lemmas.specs.Entries.{or_leaf}
 use Rattle.xl_cuckoo_walk.specs.declared.plan.Plan.{Plan}
 use Rattle.xl_cuckoo_walk.specs.Coding.{has_tag, word_of_item, hit_of}
 use Rattle.xl_cuckoo_walk.specs.Parts.{RowParts, ways_in, IsRow, row_state}
 use Rattle.xl_cuckoo_walk.specs.Plans.{plan_of, value_by, probed, leaf_said_by, touched_in, new_word, filled}
-use Rattle.xl_cuckoo_walk.proofs.WalkLemmas.{page-of, middle_key, large_key, filled-same, Steps, IsWalked, steps-walked, plan-inside}
+use Rattle.xl_cuckoo_walk.proofs.WalkLemmas.{page-of, middle_key, large_key, filled-same, IsWalked, steps-walked, plan-inside}
 use Rattle.xl_cuckoo_walk.proofs.walk.walk_page.Given.{Over}
 use Rattle.xl_cuckoo_walk.proofs.walk.walk_page.Goals as goal
 
