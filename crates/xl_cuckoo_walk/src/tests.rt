@@ -120,6 +120,14 @@ fn walked<const D: usize>(row: &mut CuckooRow<D>, page: u64) -> (bool, u64, u64)
     )
 }
 
+/// Whether a leaf covers a page.
+#[tactic(auto, unfolding(crate::specs::Parts::row_state))]
+fn holds<const D: usize>(row: &CuckooRow<D>, page: u64) -> bool
+    requires { page < 2 ^ 45 }
+{
+    row.leaf_at(0, page).is_some()
+}
+
 /// The registers of a way of the table of 4 KiB.
 fn regs<const D: usize>(row: &CuckooRow<D>, i: usize) -> Option<(u8, u32, bool)> {
     let table = row.table(Order::K4);
@@ -202,10 +210,7 @@ fn a_refused_change_leaves_the_leaves(rt: HostRuntime) -> Result<(), Fail> {
     assert_eq!(rt; moved(&mut row, 0, 512), no_table);
     assert_eq!(rt; opened(&mut row, 0), Some(Ok(Work::none())));
     assert_eq!(rt; moved(&mut row, 0, 511), Some(Ok(Work::none())));
-    assert_eq!(rt;
-        (row.leaf_at(0, 0), row.leaf_at(0, 511).is_some()),
-        (None, true)
-    );
+    assert_eq!(rt; (holds(&row, 0), holds(&row, 511)), (false, true));
     let mut row = CuckooRow::<2>::open(rt.alloc(), 0, 0, 50, 2, 1, 4, 4, [0, 0])?;
     let at_cap = Some(Err(Refused {
         why: NoRoom::WayAtCap,
