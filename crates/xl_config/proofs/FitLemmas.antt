@@ -23,7 +23,7 @@ use Rattle.xl_config.specs.declared.fault.Rule.TheVariants as rule
 use Rattle.xl_config.specs.declared.kind.TableKind.{TableKind}
 use Rattle.xl_config.specs.declared.kind.TableKind.TheVariants as kind
 use Rattle.xl_config.specs.Config.{keyed}
-use Rattle.xl_config.specs.Keys.{◌>>=◌, Gives, bad, needed, checked, found, text_of, array_of, table_of, between, number_of, number_in, width_by, width_of, is_name, name_in, mode_in, is_built, IsBuilt, kind_named, kind_in, purge_in, range_tlb_by, count_items, widths_from, caches_by, caches_in}
+use Rattle.xl_config.specs.Keys.{◌>>=◌, Gives, bad, needed, checked, found, text_of, array_of, table_of, between, number_of, number_in, width_by, width_of, is_name, name_in, mode_in, kind_named, kind_in, purge_in, range_tlb_by, count_items, widths_from, caches_by, caches_in}
 use Rattle.xl_config.specs.Arrays.{with_order, order_named, order_of, orders_from, orders_in, width_in, without_orders, is_array_key, only_known, array_in, arrays_from, agree, arrays_by, arrays_in}
 use Rattle.xl_config.specs.Tables.{radix_in, hashed_in, clustered_in, cuckoo_in, range_in, table_in, is_known}
 use Rattle.xl_config.specs.Rows.{names_of, row_in, element_in, rows_from}
@@ -376,106 +376,19 @@ row_fits row earlier ms =
       apart = e.apart;
     })))))))))
 
--- the table of a row can be opened
--- the kinds that have words
-abbrev has_word : TableKind → Bool
-has_word kind.Radix = true
-has_word kind.Hashed = true
-has_word kind.Clustered = true
-has_word kind.Cuckoo = false
-has_word kind.Range = true
+-- each row keeps the rules of a row
+from_fits : (number : ℕ) (ds : Items) (rows : List Row) → All IsRow rows → Fits (All IsRow) (rows_from number ds rows)
+from_fits number no_items rows h = h
+from_fits number (item d ds) rows h =
+    then_fits IsRow (All IsRow) (element_in number (names_of rows) d) (λ r. rows_from (number + 1) ds (rows ++ r ∷ []))
+    (then_any IsRow (table_of 0 0 d) (row_in number (names_of rows)) (row_fits number (names_of rows))) (λ r k.
+    from_fits (number + 1) ds (rows ++ r ∷ []) (All-push IsRow rows r h k))
 
-some_has : (k m : TableKind) → has_word k ≡ true → Some k ≡ Some m → has_word m ≡ true
-some_has k m h e = subst (λ (z : TableKind). has_word z ≡ true) (same_Some k m e) h
-
--- one word more
-abbrev or_word : Bool → TableKind → Option TableKind → Option TableKind
-or_word word k other = if word then Some k else other
-
-word_has : (word : Bool) (k m : TableKind) (other : Option TableKind) → has_word k ≡ true → (other ≡ Some m → has_word m ≡ true) → or_word word k other ≡ Some m → has_word m ≡ true
-word_has true k m other h rest e = some_has k m h e
-word_has false k m other h rest e = rest e
-
-named_has : (s : List ℕ) (k : TableKind) → kind_named s ≡ Some k → has_word k ≡ true
-named_has s k h =
-    word_has (bytes_eq s (codes "radix")) kind.Radix k _ refl
-    (word_has (bytes_eq s (codes "hashed")) kind.Hashed k _ refl
-    (word_has (bytes_eq s (codes "clustered")) kind.Clustered k _ refl
-    (word_has (bytes_eq s (codes "range")) kind.Range k None refl (λ e. cc)))) h
-
-kind_fits : (row : ℕ) (ms : Members) → Fits (λ k. has_word k ≡ true) (kind_in row ms)
-kind_fits row ms =
-    then_any _ (found row 5 (codes "table") ms >>= text_of row 5) (λ s. needed (bad row 5 rule.Outside) (kind_named s)) (λ s.
-    needed_fits _ (bad row 5 rule.Outside) (kind_named s) (named_has s))
-
-radix_built : (row : ℕ) (mode : Mode) (spaces : ℕ) (ms : Members) → Fits (λ t. is_built t ≡ true) (radix_in row mode spaces ms)
-unfolding radix_in
-radix_built row mode spaces ms =
-    then_any _ (number_in row 7 (codes "table_frames") spaces 16384 ms) _ (λ frames.
-    then_any _ (caches_in row (levels_of mode - 1) (0 ∷ 0 ∷ 0 ∷ 0 ∷ []) ms) _ (λ caches. refl))
-
-hashed_built : (row : ℕ) (ms : Members) → Fits (λ t. is_built t ≡ true) (hashed_in row ms)
-unfolding hashed_in
-hashed_built row ms =
-    then_any _ (number_in row 9 (codes "buckets") 1 1048576 ms) _ (λ buckets.
-    then_any _ (number_in row 10 (codes "entries") 1 1048576 ms) _ (λ entries. refl))
-
-clustered_built : (row : ℕ) (ms : Members) → Fits (λ t. is_built t ≡ true) (clustered_in row ms)
-unfolding clustered_in
-clustered_built row ms =
-    then_any _ (number_in row 9 (codes "buckets") 1 1048576 ms) _ (λ buckets.
-    then_any _ (number_in row 11 (codes "blocks") 1 131072 ms) _ (λ blocks. refl))
-
-range_built : (row : ℕ) (ms : Members) → Fits (λ t. is_built t ≡ true) (range_in row ms)
-unfolding range_in
-range_built row ms =
-    then_any _ (number_in row 20 (codes "ranges") 1 65536 ms) _ (λ ranges.
-    then_any _ (range_tlb_by row (get_member (codes "range_tlb") ms)) _ (λ width. refl))
-
-table_built : (k : TableKind) (row : ℕ) (mode : Mode) (spaces : ℕ) (ms : Members) → has_word k ≡ true → Fits (λ t. is_built t ≡ true) (table_in k row mode spaces ms)
-table_built kind.Radix row mode spaces ms h = radix_built row mode spaces ms
-table_built kind.Hashed row mode spaces ms h = hashed_built row ms
-table_built kind.Clustered row mode spaces ms h = clustered_built row ms
-table_built kind.Cuckoo row mode spaces ms h = cc
-table_built kind.Range row mode spaces ms h = range_built row ms
-
-row_built : (row : ℕ) (earlier : List (List ℕ)) (ms : Members) → Fits IsBuilt (row_in row earlier ms)
-unfolding row_in
-row_built row earlier ms =
-    then_any IsBuilt (name_in row earlier ms) _ (λ name.
-    then_any IsBuilt (mode_in row ms) _ (λ mode.
-    then_any IsBuilt (number_in row 3 (codes "frames") 1 4194304 ms) _ (λ frames.
-    then_any IsBuilt (number_in row 4 (codes "spaces") 1 64 ms) _ (λ spaces.
-    then_fits _ IsBuilt (kind_in row ms) _ (kind_fits row ms) (λ k a.
-    then_any IsBuilt (purge_in row ms) _ (λ purge.
-    then_fits _ IsBuilt (table_in k row mode spaces ms) _ (table_built k row mode spaces ms a) (λ table b.
-    then_any IsBuilt (arrays_in row ms) _ (λ tlb.
-    checked_fits IsBuilt (bad row 23 rule.NotAllowed) (only_known (is_known k) ms)
-    (record { name = name; mode = mode; frames = frames; spaces = spaces; purge = purge; table = table; tlb = tlb }) (λ only. b)))))))))
-
--- each row keeps a rule that each row keeps by itself
-module _ (P : Row → Type 0) (each : (row : ℕ) (earlier : List (List ℕ)) (ms : Members) → Fits P (row_in row earlier ms)) where
-  from_fits : (number : ℕ) (ds : Items) (rows : List Row) → All P rows → Fits (All P) (rows_from number ds rows)
-  from_fits number no_items rows h = h
-  from_fits number (item d ds) rows h =
-      then_fits P (All P) (element_in number (names_of rows) d) (λ r. rows_from (number + 1) ds (rows ++ r ∷ []))
-      (then_any P (table_of 0 0 d) (row_in number (names_of rows)) (each number (names_of rows))) (λ r k.
-      from_fits (number + 1) ds (rows ++ r ∷ []) (All-push P rows r h k))
-
-  all_fit : {V : Type 0} (view : V → List Row) (ds : Items) (r : Result V ConfigFault) → Gives view r (keyed (rows_from 1 ds []))
-      → IfOk r (λ v. All P (view v))
-  all_fit view ds (Ok v) h = fits_of (rows_from 1 ds []) (from_fits 1 ds [] (All-nil P)) h
-    where
-      fits_of : (read : Result (List Row) KeyFault) → Fits (All P) read → keyed read ≡ Ok (view v) → All P (view v)
-      fits_of (Ok rows) k e = let same : rows ≡ view v = cc in subst (All P) same k
-      fits_of (Err f) k e = cc
-  all_fit view ds (Err e) h = tt
-
--- the rows that an answer has keep the rules of a row, and can be opened
 pub rows_fit : {V : Type 0} (view : V → List Row) (ds : Items) (r : Result V ConfigFault) → Gives view r (keyed (rows_from 1 ds []))
     → IfOk r (λ v. All IsRow (view v))
-rows_fit view ds r h = all_fit IsRow row_fits view ds r h
-
-pub rows_built : {V : Type 0} (view : V → List Row) (ds : Items) (r : Result V ConfigFault) → Gives view r (keyed (rows_from 1 ds []))
-    → IfOk r (λ v. All IsBuilt (view v))
-rows_built view ds r h = all_fit IsBuilt row_built view ds r h
+rows_fit view ds (Ok v) h = fits_of (rows_from 1 ds []) (from_fits 1 ds [] (All-nil IsRow)) h
+  where
+    fits_of : (read : Result (List Row) KeyFault) → Fits (All IsRow) read → keyed read ≡ Ok (view v) → All IsRow (view v)
+    fits_of (Ok rows) k e = let same : rows ≡ view v = cc in subst (All IsRow) same k
+    fits_of (Err f) k e = cc
+rows_fit view ds (Err e) h = tt

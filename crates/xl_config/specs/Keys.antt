@@ -7,9 +7,7 @@ use Rattle.xl_model.specs.declared.address.Mode.{Mode}
 use Rattle.xl_model.specs.declared.address.Mode.TheVariants as mode
 use Rattle.xl_model.specs.declared.row.Purge.{Purge}
 use Rattle.xl_model.specs.declared.row.Purge.TheVariants as purge
-use Rattle.xl_model.specs.declared.row.Table.{Table}
-use Rattle.xl_model.specs.declared.row.Table.TheVariants as table
-use Rattle.xl_model.specs.Rows.{Row, is_name_byte, is_width, is_within}
+use Rattle.xl_model.specs.Rows.{is_name_byte, is_width, is_within}
 use Rattle.xl_config.specs.declared.fault.ConfigFault.{ConfigFault}
 use Rattle.xl_config.specs.declared.fault.ConfigFault.TheVariants as fault
 use Rattle.xl_config.specs.declared.fault.KeyFault.{KeyFault}
@@ -117,26 +115,15 @@ abbrev pub mode_in : ℕ → Members → Result Mode KeyFault
 mode_in row ms =
     found row 2 (codes "mode") ms >>= text_of row 2 >>= (λ s. needed (bad row 2 rule.Outside) (mode_named s))
 
--- The words for the kinds of table that can be opened.
+-- The words for the kinds of table.
 abbrev pub kind_named : List ℕ → Option TableKind
 kind_named s =
     if bytes_eq s (codes "radix") then Some kind.Radix
     else (if bytes_eq s (codes "hashed") then Some kind.Hashed
     else (if bytes_eq s (codes "clustered") then Some kind.Clustered
+    else (if bytes_eq s (codes "cuckoo") then Some kind.Cuckoo
     else (if bytes_eq s (codes "range") then Some kind.Range
-    else None)))
-
--- A table of a kind that can be opened.
-abbrev pub is_built : Table → Bool
-is_built (table.Radix frames caches) = true
-is_built (table.Hashed buckets entries) = true
-is_built (table.Clustered buckets blocks) = true
-is_built (table.Range ranges range_tlb) = true
-is_built _ = false
-
--- A row whose table can be opened.
-abbrev pub IsBuilt : Row → Type 0
-IsBuilt row = is_built row.table ≡ true
+    else None))))
 
 -- The kind of a row's table.
 abbrev pub kind_in : ℕ → Members → Result TableKind KeyFault

@@ -204,7 +204,6 @@ pub(crate) fn mode(row: u32, table: &Table) -> Result<Mode, KeyFault>
     })
 }
 
-/// The kinds of table that can be opened: a kind that comes has its word here.
 fn kind_named(text: &str) -> Option<TableKind>
     ensures { result ≡ kind_named text.now }
 {
@@ -212,6 +211,7 @@ fn kind_named(text: &str) -> Option<TableKind>
         "radix" => Some(TableKind::Radix),
         "hashed" => Some(TableKind::Hashed),
         "clustered" => Some(TableKind::Clustered),
+        "cuckoo" => Some(TableKind::Cuckoo),
         "range" => Some(TableKind::Range),
         _ => None,
     }

@@ -7,7 +7,7 @@ ghost use Rattle.toml.specs.Data.{as_table};
 ghost use Rattle.std.specs.Str.{bytes_eq};
 ghost use Rattle.toml.specs.View.{view, array_view, table_view, items_view};
 ghost use Rattle.xl_model.specs.Rows.{row_of, IsRow};
-ghost use Rattle.xl_config.specs.Keys.{Reads, Gives, IsBuilt, name_in};
+ghost use Rattle.xl_config.specs.Keys.{Reads, Gives, name_in};
 ghost use Rattle.xl_config.specs.Arrays.{only_known};
 ghost use Rattle.xl_config.specs.Tables.{is_known};
 ghost use Rattle.xl_config.specs.Rows.{names_of, element_in, row_in, rows_from, all_tables, is_top_key, elements_in, rows_in};
@@ -205,7 +205,6 @@ fn rows_from(alloc: Global, values: &Array) -> Result<Vec<Row>, ConfigFault>
 fn rows(alloc: Global, table: &Table) -> Result<Vec<Row>, ConfigFault>
     ensures reading { Gives (λ rows. map row_of rows.items) result (keyed (rows_in (table_view table.now))) }
     ensures fit { IfOk result (λ rows. All IsRow (map row_of rows.items)) }
-    ensures built { IfOk result (λ rows. All IsBuilt (map row_of rows.items)) }
     ensures few { IfOk result (λ rows. length rows.items ≤ 16) }
     ensures keys { IfErr result (λ e. ¬ (e ≡ ConfigFault.TooLong) × ¬ (e ≡ ConfigFault.BadToml)) }
 {
@@ -243,7 +242,6 @@ fn document(alloc: Global, text: &[u8]) -> Result<Table, ConfigFault>
 pub fn read(alloc: Global, text: &[u8]) -> Result<Vec<Row>, ConfigFault>
     ensures reading { Gives (λ rows. map row_of rows.items) result (config text.now) }
     ensures fit { IfOk result (λ rows. All IsRow (map row_of rows.items)) }
-    ensures built { IfOk result (λ rows. All IsBuilt (map row_of rows.items)) }
     ensures few { IfOk result (λ rows. length rows.items ≤ 16) }
     ensures too_long { (result ≡ Err ConfigFault.TooLong) ↔ (65536 < length text.now) }
     ensures bad_toml { result ≡ Err ConfigFault.BadToml → (length text.now ≤ 65536) × (document_of text.now ≡ None) }

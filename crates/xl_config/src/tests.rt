@@ -69,7 +69,7 @@ fn a_key_of_a_row_breaks_its_first_rule(rt: HostRuntime) -> Result<(), Fail> {
             "table",
             "-",
             "table = \"cuckoo\"\nways = 1\nstart_bits = 19",
-            5,
+            12,
             3,
         ),
         ("table", "-", "table = \"ranges\"\npurge = 1", 5, 3),
@@ -400,14 +400,17 @@ fn a_row_has_the_table_that_its_word_says(rt: HostRuntime) -> Result<(), Fail> {
         table = \"hashed\"\nbuckets = 3\nentries = 5\n\
         [[row]]\nname = \"c\"\nmode = \"sv39\"\nframes = 1\nspaces = 1\n\
         table = \"clustered\"\nbuckets = 7\nblocks = 9\n\
+        [[row]]\nname = \"e\"\nmode = \"sv39\"\nframes = 1\nspaces = 1\n\
+        table = \"cuckoo\"\nways = 3\nstart_bits = 2\ncap_bits = 4\nthreshold = 50\n\
+        kick_limit = 5\nmigrate = 1\nsections_2m = 6\nsections_1g = 7\nwalk_caches = [8, 12]\n\
         [[row]]\nname = \"r\"\nmode = \"sv39\"\nframes = 1\nspaces = 1\n\
         table = \"range\"\nranges = 11\nrange_tlb = 12\n";
     let rows = read(rt.alloc(), text).map_err(|_| AllocError)?;
-    let [h, c, r] = rows.as_slice() else {
+    let [h, c, e, r] = rows.as_slice() else {
         return Err(AllocError.into());
     };
     assert_eq!(rt;
-        (h.table, c.table, r.table),
+        (h.table, c.table, e.table, r.table),
         (
             Table::Hashed {
                 buckets: 3,
@@ -416,6 +419,17 @@ fn a_row_has_the_table_that_its_word_says(rt: HostRuntime) -> Result<(), Fail> {
             Table::Clustered {
                 buckets: 7,
                 blocks: 9
+            },
+            Table::Cuckoo {
+                ways: 3,
+                start_bits: 2,
+                cap_bits: 4,
+                threshold: 50,
+                kick_limit: 5,
+                migrate: 1,
+                sections_2m: 6,
+                sections_1g: 7,
+                caches: [8, 12],
             },
             Table::Range {
                 ranges: 11,

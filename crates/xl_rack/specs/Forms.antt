@@ -1,5 +1,5 @@
 -- The forms of a machine, one for each variant that is handed out.
-use Rattle.std.specs.Prelude.{Option, None, Some}
+use Rattle.std.specs.Prelude.{ℕ, zero, suc, ◌≡◌, Option, None, Some}
 use Rattle.xl_model.specs.declared.address.Mode.{Mode}
 use Rattle.xl_model.specs.declared.address.Mode.TheVariants as mode
 use Rattle.xl_model.specs.declared.row.Table.{Table}
@@ -10,13 +10,17 @@ use Rattle.xl_rack.specs.declared.held.Held.{Held}
 use Rattle.xl_rack.specs.declared.held.Held.TheVariants as held
 
 -- What a machine is over: a radix table of three, four or five levels, a hashed
--- table, a clustered table, or a table of ranges.
+-- table, a clustered table, a cuckoo table of two, three or four ways, or a table
+-- of ranges.
 pub data Form : Type 0 where
   Radix3 : Form
   Radix4 : Form
   Radix5 : Form
   HashedForm : Form
   ClusteredForm : Form
+  CuckooForm2 : Form
+  CuckooForm3 : Form
+  CuckooForm4 : Form
   RangeForm : Form
 
 -- The form of a radix table, by the mode.
@@ -25,13 +29,25 @@ radix_form mode.Sv39 = Radix3
 radix_form mode.Sv48 = Radix4
 radix_form mode.Sv57 = Radix5
 
--- The form that a table names in a mode; a kind that isn't built names none.
+-- The form of a cuckoo table, by its ways; none has another number of ways.
+abbrev pub cuckoo_form : ℕ → Option Form
+cuckoo_form (suc (suc zero)) = Some CuckooForm2
+cuckoo_form (suc (suc (suc zero))) = Some CuckooForm3
+cuckoo_form (suc (suc (suc (suc zero)))) = Some CuckooForm4
+cuckoo_form _ = None
+
+-- The form that a table names in a mode.
 abbrev pub form_by : Mode → Table → Option Form
 form_by m (table.Radix frames caches) = Some (radix_form m)
 form_by m (table.Hashed buckets entries) = Some HashedForm
 form_by m (table.Clustered buckets blocks) = Some ClusteredForm
+form_by m (table.Cuckoo ways start cap threshold kick_limit migrate sections_2m sections_1g caches) = cuckoo_form ways
 form_by m (table.Range ranges range_tlb) = Some RangeForm
-form_by m _ = None
+
+-- A cuckoo table of so many ways.
+abbrev pub IsCuckoo : ℕ → Table → Type 0
+IsCuckoo count (table.Cuckoo ways start cap threshold kick_limit migrate sections_2m sections_1g caches) = ways ≡ count
+IsCuckoo count _ = ⊥
 
 -- The form that a row names.
 abbrev pub form_named : Row → Option Form
@@ -44,6 +60,9 @@ form_of (held.Sv48 m) = Radix4
 form_of (held.Sv57 m) = Radix5
 form_of (held.Hashed m) = HashedForm
 form_of (held.Clustered m) = ClusteredForm
+form_of (held.Cuckoo2 m) = CuckooForm2
+form_of (held.Cuckoo3 m) = CuckooForm3
+form_of (held.Cuckoo4 m) = CuckooForm4
 form_of (held.Range m) = RangeForm
 
 -- The row and the state of a machine that is handed out.
@@ -53,4 +72,7 @@ served_behind (held.Sv48 m) = m.now
 served_behind (held.Sv57 m) = m.now
 served_behind (held.Hashed m) = m.now
 served_behind (held.Clustered m) = m.now
+served_behind (held.Cuckoo2 m) = m.now
+served_behind (held.Cuckoo3 m) = m.now
+served_behind (held.Cuckoo4 m) = m.now
 served_behind (held.Range m) = m.now

@@ -3,7 +3,7 @@ use Rattle.std.specs.Prelude.{◌≡◌, Some}
 use Rattle.xl_model.specs.Scenes.{Served}
 use Rattle.xl_rack.specs.declared.slot.Slot.{Slot}
 use Rattle.xl_rack.specs.declared.slot.Slot.TheVariants as slot
-use Rattle.xl_rack.specs.Forms.{Form, Radix3, Radix4, Radix5, HashedForm, ClusteredForm, RangeForm, form_named}
+use Rattle.xl_rack.specs.Forms.{Form, Radix3, Radix4, Radix5, HashedForm, ClusteredForm, CuckooForm2, CuckooForm3, CuckooForm4, RangeForm, form_named}
 
 -- The row and the state of a slot's machine.
 abbrev pub served_of : Slot → Served
@@ -12,6 +12,9 @@ served_of (slot.Sv48 m) = m
 served_of (slot.Sv57 m) = m
 served_of (slot.Hashed m) = m
 served_of (slot.Clustered m) = m
+served_of (slot.Cuckoo2 m) = m
+served_of (slot.Cuckoo3 m) = m
+served_of (slot.Cuckoo4 m) = m
 served_of (slot.Range m) = m
 
 -- The form of a slot's machine.
@@ -21,6 +24,9 @@ slot_form (slot.Sv48 m) = Radix4
 slot_form (slot.Sv57 m) = Radix5
 slot_form (slot.Hashed m) = HashedForm
 slot_form (slot.Clustered m) = ClusteredForm
+slot_form (slot.Cuckoo2 m) = CuckooForm2
+slot_form (slot.Cuckoo3 m) = CuckooForm3
+slot_form (slot.Cuckoo4 m) = CuckooForm4
 slot_form (slot.Range m) = RangeForm
 
 -- A slot's machine is of the form that its row names.

@@ -55,6 +55,9 @@ fn serve_slot(slot: &mut Slot, accesses: &[Access], areas: &[Area])
         Slot::Sv57(machine) => serve_all(machine, accesses, areas),
         Slot::Hashed(machine) => serve_all(machine, accesses, areas),
         Slot::Clustered(machine) => serve_all(machine, accesses, areas),
+        Slot::Cuckoo2(machine) => serve_all(machine, accesses, areas),
+        Slot::Cuckoo3(machine) => serve_all(machine, accesses, areas),
+        Slot::Cuckoo4(machine) => serve_all(machine, accesses, areas),
         Slot::Range(machine) => serve_all(machine, accesses, areas),
     }
 }

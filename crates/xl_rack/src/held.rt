@@ -1,6 +1,7 @@
 //! A machine that is handed out.
 
 use xl_clustered::Clustered;
+use xl_cuckoo_walk::CuckooRow;
 use xl_hashed::Hashed;
 use xl_machine::Machine;
 use xl_radix_walk::RadixRow;
@@ -13,5 +14,8 @@ pub enum Held<'a> {
     Sv57(&'a Machine<RadixRow<5>>),
     Hashed(&'a Machine<Hashed>),
     Clustered(&'a Machine<Clustered>),
+    Cuckoo2(&'a Machine<CuckooRow<2>>),
+    Cuckoo3(&'a Machine<CuckooRow<3>>),
+    Cuckoo4(&'a Machine<CuckooRow<4>>),
     Range(&'a Machine<Ranges>),
 }

@@ -83,6 +83,7 @@ fn write_radix<const LEVELS: usize, K: Sink>(
 }
 
 /// Writes the image of a machine's table. Only a radix table has one.
+#[tactic(auto, unfolding(xl_cuckoo_walk::specs::Parts::row_state))]
 fn write_held<K: Sink>(out: &mut K, held: Held<'_>) -> Result<(), Failed>
     ensures { SinkAfter K.written K.put_faults K.roomy
         (image_lines (served_behind held.entry).row.name (served_behind held.entry).state.table.leaves
@@ -99,6 +100,18 @@ fn write_held<K: Sink>(out: &mut K, held: Held<'_>) -> Result<(), Failed>
             Ok(())
         }
         Held::Clustered(machine) => {
+            let _table = machine.table();
+            Ok(())
+        }
+        Held::Cuckoo2(machine) => {
+            let _table = machine.table();
+            Ok(())
+        }
+        Held::Cuckoo3(machine) => {
+            let _table = machine.table();
+            Ok(())
+        }
+        Held::Cuckoo4(machine) => {
             let _table = machine.table();
             Ok(())
         }

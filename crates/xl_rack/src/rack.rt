@@ -2,7 +2,6 @@
 
 ghost use Rattle.std.specs.Prelude.{◌≡◌, ◌<◌, ◌≤◌, ◌++◌, [], ◌∷◌, length, map, slice_get, Some, IfOk, IfSome, OnOk, OnErr};
 ghost use Rattle.std.specs.List.{All};
-ghost use Rattle.xl_config.specs.Keys.{IsBuilt};
 ghost use Rattle.xl_machine.specs.Served.{accessed_by, after_of};
 ghost use Rattle.xl_model.specs.RowRun.{outcome_of, reply_to};
 ghost use Rattle.xl_model.specs.Rows.{row_of, IsRow};
@@ -95,7 +94,6 @@ impl Rack {
     /// `NoMemory` where there is no memory; then the rack is as before.
     pub fn add(&mut self, alloc: Global, row: Row) -> Result<(), NoMemory>
         requires row { IsRow (row_of row) }
-        requires built { IsBuilt (row_of row) }
         requires few { length self.old < 16 }
         ensures added { OnOk result (self.new ≡ self.old ++ opened (row_of row ∷ [])) }
         ensures none { OnErr result (self.new ≡ self.old) }

@@ -1,19 +1,19 @@
 //! A place of the rack: a machine over one of the tables.
 
 ghost use Rattle.std.specs.Prelude.{◌≡◌, ◌≤◌, IfOk};
-ghost use Rattle.xl_config.specs.Keys.{IsBuilt};
 ghost use Rattle.xl_machine.specs.Served.{accessed_by, after_of, opened};
 ghost use Rattle.xl_model.specs.declared.row.Table.TheVariants as table;
 ghost use Rattle.xl_model.specs.Addresses.{levels_of};
 ghost use Rattle.xl_model.specs.RowRun.{outcome_of, reply_to};
 ghost use Rattle.xl_model.specs.Rows.{row_of, IsRow};
 ghost use Rattle.xl_model.specs.Tally.{IsSmall};
-ghost use Rattle.xl_rack.specs.Forms.{form_of, served_behind};
+ghost use Rattle.xl_rack.specs.Forms.{form_of, served_behind, IsCuckoo};
 ghost use Rattle.xl_rack.specs.Slots.{served_of, slot_form, IsNamed};
 
 use crate::held::Held;
 use std::alloc::Global;
 use xl_clustered::Clustered;
+use xl_cuckoo_walk::CuckooRow;
 use xl_hashed::Hashed;
 use xl_machine::Machine;
 use xl_model::{Counts, Event, Kind, Mode, NoMemory, Outcome, Reply, Row, Table};
@@ -28,6 +28,9 @@ pub(crate) enum Slot {
     Sv57(Machine<RadixRow<5>>),
     Hashed(Machine<Hashed>),
     Clustered(Machine<Clustered>),
+    Cuckoo2(Machine<CuckooRow<2>>),
+    Cuckoo3(Machine<CuckooRow<3>>),
+    Cuckoo4(Machine<CuckooRow<4>>),
     Range(Machine<Ranges>),
 }
 
@@ -77,6 +80,40 @@ fn open_clustered(
     Machine::open(alloc, row, table)
 }
 
+/// The machine of a row with a cuckoo table of `D` ways.
+fn open_cuckoo<const D: usize>(alloc: Global, row: Row) -> Result<Machine<CuckooRow<D>>, NoMemory>
+    requires row { IsRow (row_of row) }
+    requires table { IsCuckoo D row.table }
+    ensures { IfOk result (λ m. m ≡ opened (row_of row)) }
+{
+    let Table::Cuckoo {
+        start_bits,
+        cap_bits,
+        threshold,
+        kick_limit,
+        migrate,
+        sections_2m,
+        sections_1g,
+        caches,
+        ..
+    } = row.table
+    else {
+        unreachable!()
+    };
+    let table = CuckooRow::open(
+        alloc,
+        start_bits,
+        cap_bits,
+        threshold,
+        kick_limit,
+        migrate,
+        sections_2m,
+        sections_1g,
+        caches,
+    )?;
+    Machine::open(alloc, row, table)
+}
+
 /// The machine of a row with a table of ranges.
 fn open_ranges(
     alloc: Global,
@@ -100,7 +137,6 @@ impl Slot {
     /// `NoMemory` where there is no memory.
     pub(crate) fn open(alloc: Global, row: Row) -> Result<Slot, NoMemory>
         requires row { IsRow (row_of row) }
-        requires built { IsBuilt (row_of row) }
         ensures served { IfOk result (λ slot. served_of slot ≡ opened (row_of row)) }
         ensures named { IfOk result IsNamed }
     {
@@ -115,10 +151,10 @@ impl Slot {
             Table::Clustered { buckets, blocks } => {
                 Ok(Slot::Clustered(open_clustered(alloc, row, buckets, blocks)?))
             }
+            Table::Cuckoo { ways, .. } => Slot::open_ways(alloc, row, ways),
             Table::Range { ranges, range_tlb } => {
                 Ok(Slot::Range(open_ranges(alloc, row, ranges, range_tlb)?))
             }
-            _ => unreachable!(),
         }
     }
 
@@ -141,6 +177,21 @@ impl Slot {
         })
     }
 
+    /// The machine of a row with a cuckoo table, of two to four ways.
+    fn open_ways(alloc: Global, row: Row, ways: u8) -> Result<Slot, NoMemory>
+        requires row { IsRow (row_of row) }
+        requires table { IsCuckoo ways row.table }
+        ensures served { IfOk result (λ slot. served_of slot ≡ opened (row_of row)) }
+        ensures named { IfOk result IsNamed }
+    {
+        match ways {
+            2 => Ok(Slot::Cuckoo2(open_cuckoo(alloc, row)?)),
+            3 => Ok(Slot::Cuckoo3(open_cuckoo(alloc, row)?)),
+            4 => Ok(Slot::Cuckoo4(open_cuckoo(alloc, row)?)),
+            _ => unreachable!(),
+        }
+    }
+
     /// Serves an event.
     pub(crate) fn step(&mut self, event: Event) -> Outcome
         ensures outcome { result ≡
@@ -154,6 +205,9 @@ impl Slot {
             Slot::Sv57(machine) => machine.step(event),
             Slot::Hashed(machine) => machine.step(event),
             Slot::Clustered(machine) => machine.step(event),
+            Slot::Cuckoo2(machine) => machine.step(event),
+            Slot::Cuckoo3(machine) => machine.step(event),
+            Slot::Cuckoo4(machine) => machine.step(event),
             Slot::Range(machine) => machine.step(event),
         }
     }
@@ -172,6 +226,9 @@ impl Slot {
             Slot::Sv57(machine) => machine.access(va, kind),
             Slot::Hashed(machine) => machine.access(va, kind),
             Slot::Clustered(machine) => machine.access(va, kind),
+            Slot::Cuckoo2(machine) => machine.access(va, kind),
+            Slot::Cuckoo3(machine) => machine.access(va, kind),
+            Slot::Cuckoo4(machine) => machine.access(va, kind),
             Slot::Range(machine) => machine.access(va, kind),
         }
     }
@@ -186,6 +243,9 @@ impl Slot {
             Slot::Sv57(machine) => machine.row(),
             Slot::Hashed(machine) => machine.row(),
             Slot::Clustered(machine) => machine.row(),
+            Slot::Cuckoo2(machine) => machine.row(),
+            Slot::Cuckoo3(machine) => machine.row(),
+            Slot::Cuckoo4(machine) => machine.row(),
             Slot::Range(machine) => machine.row(),
         }
     }
@@ -200,6 +260,9 @@ impl Slot {
             Slot::Sv57(machine) => machine.space(),
             Slot::Hashed(machine) => machine.space(),
             Slot::Clustered(machine) => machine.space(),
+            Slot::Cuckoo2(machine) => machine.space(),
+            Slot::Cuckoo3(machine) => machine.space(),
+            Slot::Cuckoo4(machine) => machine.space(),
             Slot::Range(machine) => machine.space(),
         }
     }
@@ -215,6 +278,9 @@ impl Slot {
             Slot::Sv57(machine) => machine.counts(),
             Slot::Hashed(machine) => machine.counts(),
             Slot::Clustered(machine) => machine.counts(),
+            Slot::Cuckoo2(machine) => machine.counts(),
+            Slot::Cuckoo3(machine) => machine.counts(),
+            Slot::Cuckoo4(machine) => machine.counts(),
             Slot::Range(machine) => machine.counts(),
         }
     }
@@ -230,6 +296,9 @@ impl Slot {
             Slot::Sv57(machine) => Held::Sv57(machine),
             Slot::Hashed(machine) => Held::Hashed(machine),
             Slot::Clustered(machine) => Held::Clustered(machine),
+            Slot::Cuckoo2(machine) => Held::Cuckoo2(machine),
+            Slot::Cuckoo3(machine) => Held::Cuckoo3(machine),
+            Slot::Cuckoo4(machine) => Held::Cuckoo4(machine),
             Slot::Range(machine) => Held::Range(machine),
         }
     }

@@ -1,7 +1,6 @@
 //! Three rows of one rack.
 
 ghost use Rattle.std.specs.Prelude.{◌≡◌, ◌<◌, length};
-ghost use Rattle.xl_config.specs.Keys.{IsBuilt};
 ghost use Rattle.xl_model.specs.Rows.{row_of, IsRow};
 
 use crate::{Held, Rack};
@@ -12,8 +11,7 @@ use xl_model::{Event, Kind, Mode, Order, Outcome, Perm, Purge, Reply, Row, Table
 
 /// A row with 8 frames, one space and 16 table frames.
 fn row(mode: Mode) -> Row
-    ensures rules { IsRow (row_of result) }
-    ensures built { IsBuilt (row_of result) }
+    ensures { IsRow (row_of result) }
 {
     let mut name = ArrayString::new();
     name.push_str("a");

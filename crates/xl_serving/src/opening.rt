@@ -3,7 +3,6 @@
 ghost use Rattle.std.specs.Prelude.{◌≡◌, ◌≤◌, [], None, All, IfOk, IfErr, OnOk, IfSome, length, map, option_map};
 ghost use Rattle.xl_model.specs.Rows.{row_of, IsRow};
 ghost use Rattle.xl_model.specs.Scenes.{opened};
-ghost use Rattle.xl_config.specs.Keys.{IsBuilt};
 ghost use Rattle.xl_outside.specs.Folders.{file_of, FolderAfter, fate_by, Fine};
 ghost use Rattle.xl_words.specs.Words.{asked_of};
 ghost use Rattle.xl_serving.specs.Stops.{stop_fate, IsBefore};
@@ -49,7 +48,6 @@ pub(crate) fn open<R: Rows, F: Folder>(
 fn add_all<R: Rows>(alloc: Global, rows: &mut R, designs: Vec<Row>) -> Result<(), NoMemory>
     requires none { R.rows rows.old ≡ [] }
     requires fit { All IsRow (map row_of designs.items) }
-    requires built { All IsBuilt (map row_of designs.items) }
     requires few { length designs.items ≤ 16 }
     ensures { OnOk result (R.rows rows.new ≡ opened (map row_of designs.items)) }
 {
@@ -67,7 +65,6 @@ fn read_config<F: Folder>(alloc: Global, folder: &mut F, name: &str) -> Result<V
         (fate_by stop_fate result) }
     ensures before { IfErr result IsBefore }
     ensures fit { IfOk result (λ rows. All IsRow (map row_of rows.items)) }
-    ensures built { IfOk result (λ rows. All IsBuilt (map row_of rows.items)) }
     ensures few { IfOk result (λ rows. length rows.items ≤ 16) }
 {
     let text = read_whole(alloc, folder, name, MOST_ROWS)?;
@@ -80,7 +77,6 @@ fn rows_of(alloc: Global, text: &[u8]) -> Result<Vec<Row>, Stop>
     ensures before { IfErr result IsBefore }
     ensures fine { fate_by stop_fate result ≡ Fine }
     ensures fit { IfOk result (λ rows. All IsRow (map row_of rows.items)) }
-    ensures built { IfOk result (λ rows. All IsBuilt (map row_of rows.items)) }
     ensures few { IfOk result (λ rows. length rows.items ≤ 16) }
 {
     let rows = xl_config::read(alloc, text)?;

@@ -5,7 +5,6 @@ ghost use Rattle.xl_model.specs.declared.script.Item.TheVariants.{Command, Refer
 ghost use Rattle.xl_model.specs.Rows.{row_of, IsRow};
 ghost use Rattle.xl_model.specs.Scenes.{Served, opened};
 ghost use Rattle.xl_model.specs.Report.{row_lines, images_lines};
-ghost use Rattle.xl_config.specs.Keys.{IsBuilt};
 ghost use Rattle.xl_outside.specs.Sinks.{SinkAfter};
 ghost use Rattle.xl_serving.specs.Serving.{HasServed, scene_of};
 ghost use Rattle.xl_serving.specs.Batches.{waited};
@@ -25,7 +24,6 @@ pub trait Rows: Sized {
     /// where there is none, the rows are as before.
     fn add(&mut self, alloc: Global, row: Row) -> Result<(), NoMemory>
         requires row { IsRow (row_of row) }
-        requires built { IsBuilt (row_of row) }
         requires few { length (rows self.old) < 16 }
         ensures added { OnOk result (rows self.new ≡ rows self.old ++ opened (row_of row ∷ [])) }
         ensures none { OnErr result (rows self.new ≡ rows self.old) };

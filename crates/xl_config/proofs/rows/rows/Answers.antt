@@ -1,13 +1,9 @@
 use Rattle.std.proofs.Common.{map}
 use Rattle.toml.specs.View.{array_view}
 use Rattle.xl_model.specs.Rows.{row_of}
-use Rattle.xl_config.proofs.FitLemmas.{rows_fit, rows_built}
+use Rattle.xl_config.proofs.FitLemmas.{rows_fit}
 use Rattle.xl_config.proofs.rows.rows.Goals as goal
 
 pub returns-in-Ok-clause-fit : goal.returns-in-Ok-clause-fit
 returns-in-Ok-clause-fit c =
     rows_fit (λ rows. map row_of rows.items) (array_view c.in-Ok.values.now) c.rows_from.result c.rows_from.ensures.reading
-
-pub returns-in-Ok-clause-built : goal.returns-in-Ok-clause-built
-returns-in-Ok-clause-built c =
-    rows_built (λ rows. map row_of rows.items) (array_view c.in-Ok.values.now) c.rows_from.result c.rows_from.ensures.reading

@@ -2,7 +2,6 @@ use Rattle.std.proofs.Common.{◌≡◌, ◌∷◌, [], ◌++◌, List, length, 
 use Rattle.std.specs.Vec.Iter.{into_iter_items}
 use Rattle.xl_model.specs.declared.row.Row.{Row as RowFields}
 use Rattle.xl_model.specs.Rows.{IsRow}
-use Rattle.xl_config.specs.Keys.{IsBuilt}
 use Rattle.xl_serving.proofs.OpenedLemmas.{next_keeps, next_few, next_opened}
 use Rattle.xl_serving.proofs.opening.add_all.Goals as goal
 
@@ -10,11 +9,6 @@ pub add-requires-clause-row : goal.add-requires-clause-row
 add-requires-clause-row g c =
     let at = c.loop-design in
     next_keeps IsRow at.yielded _ c.in-Some.design c.args.designs.items (ap (λ (rest : List RowFields). at.yielded ++ rest) (sym c.in-Some.ensures.steps.0) ∙ at.invariant.0 ∙ c.into_iter-design-iterator.ensures.into_iter_gives.0) c.requires.fit
-
-pub add-requires-clause-built : goal.add-requires-clause-built
-add-requires-clause-built g c =
-    let at = c.loop-design in
-    next_keeps IsBuilt at.yielded _ c.in-Some.design c.args.designs.items (ap (λ (rest : List RowFields). at.yielded ++ rest) (sym c.in-Some.ensures.steps.0) ∙ at.invariant.0 ∙ c.into_iter-design-iterator.ensures.into_iter_gives.0) c.requires.built
 
 pub add-requires-clause-few : goal.add-requires-clause-few
 add-requires-clause-few g c =

@@ -1,0 +1,76 @@
+-- Fences on cached sections.
+use Rattle.std.proofs.Common.{◌≡◌, refl, sym, ap, ◌∙◌, subst, ℕ, ◌+◌, ◌-◌, List, length, arith}
+use Rattle.std.proofs.lemmas.List.{length-map}
+use Rattle.xl_model.specs.declared.address.Order.{Order}
+use Rattle.xl_model.specs.declared.address.Order.TheVariants as order
+use Rattle.xl_model.specs.declared.event.Reach.{Reach}
+use Rattle.xl_model.specs.declared.leaf.Leaf.{Leaf}
+use Rattle.xl_model.specs.Caches.{Cached, without_items, reaches_space, caches_fenced}
+use Rattle.xl_model.specs.Recency.{purged}
+use Rattle.xl_model.specs.Sections.{Section}
+use Rattle.xl_model.specs.Structures.{IsFence, fence_answer, table_fenced}
+use Rattle.xl_model.specs.Ways.{WayShape}
+use Rattle.xl_model_lemmas.specs.Fresh.{SectionsFresh}
+use Rattle.xl_model_lemmas.proofs.FreshSectionLemmas.{section-fenced}
+use Rattle.xl_model_lemmas.proofs.RecencyLemmas.{purged-map}
+use Rattle.xl_recency.specs.declared.item.Item.{Item}
+use Rattle.xl_cuckoo_walk.specs.Coding.{section_in, sections_in, is_reached}
+use Rattle.xl_cuckoo_walk.specs.Parts.{RowParts, ways_in, leaves_in, row_state, IsRow}
+
+-- the sections that a fence leaves, and how many it takes
+record IsFenced (to : Reach) (c after : Cached Item) (left : ℕ) : Type 0 where
+  sections : sections_in after ≡ without_items (λ s. reaches_space to s.space) (sections_in c)
+  count : left + length (without_items (λ s. reaches_space to s.space) (sections_in c)).items ≡ length (sections_in c).items
+
+fenced : (to : Reach) (c after : Cached Item) (left : ℕ) → after ≡ record c { items = purged (is_reached to) c.items } → left + length after.items ≡ length c.items → IsFenced to c after left
+fenced to c after left e n =
+    let is : sections_in after ≡ without_items (λ s. reaches_space to s.space) (sections_in c) =
+    ap sections_in e ∙ ap (λ xs. record { width = c.width; items = xs }) (sym (purged-map section_in (λ s. reaches_space to s.space) (is_reached to) (λ i. refl) c.items)) in
+    record {
+      sections = is;
+      count = ap (λ (z : Cached Section). left + length z.items) (sym is) ∙ ap (λ k. left + k) (length-map after.items section_in) ∙ n ∙ sym (length-map c.items section_in);
+    }
+
+fresh : (to : Reach) (size : Order) (leaves : List Leaf) (ways : List WayShape) (c after : Cached Item) (left : ℕ) → IsFenced to c after left → SectionsFresh size leaves ways (sections_in c) → SectionsFresh size leaves ways (sections_in after)
+fresh to size leaves ways c after left f old =
+    subst (λ z. SectionsFresh size leaves ways z) (sym f.sections) (section-fenced (λ s. reaches_space to s.space) size leaves ways (sections_in c) old)
+
+both-left : (a b x y p q : ℕ) → a + x ≡ p → b + y ≡ q → a + b ≡ (p + q) - (x + y)
+both-left a b x y p q e f = omega arith
+
+-- the row after a fence, and what it answers
+pub record FencedRow (to : Reach) (p after : RowParts) (left : ℕ) : Type 0 where
+  pub row : IsRow after
+  pub fence : IsFence to (row_state p) left (row_state after)
+
+pub row-fenced : (to : Reach) (p : RowParts) (m2 g1 : Cached Item) (a b : ℕ) → IsRow p
+    → m2 ≡ record p.middle_cache { items = purged (is_reached to) p.middle_cache.items } → a + length m2.items ≡ length p.middle_cache.items
+    → g1 ≡ record p.large_cache { items = purged (is_reached to) p.large_cache.items } → b + length g1.items ≡ length p.large_cache.items
+    → FencedRow to p (record p { middle_cache = m2; large_cache = g1 }) (a + b)
+unfolding row_state fence_answer table_fenced caches_fenced
+row-fenced to p m2 g1 a b r e n f m =
+    let x : IsFenced to p.middle_cache m2 a = fenced to p.middle_cache m2 a e n in
+    let y : IsFenced to p.large_cache g1 b = fenced to p.large_cache g1 b f m in
+    record {
+      row = record {
+        held = r.held;
+        keys = r.keys;
+        once = r.once;
+        same_m2 = r.same_m2;
+        same_g1 = r.same_g1;
+        few = r.few;
+        middle_are = r.middle_are;
+        large_are = r.large_are;
+        middle_within = r.middle_within;
+        large_within = r.large_within;
+        middle_tied = r.middle_tied;
+        large_tied = r.large_tied;
+        middle_fresh = fresh to order.M2 (leaves_in (ways_in p)) p.m2.ways p.middle_cache m2 a x r.middle_fresh;
+        large_fresh = fresh to order.G1 (leaves_in (ways_in p)) p.g1.ways p.large_cache g1 b y r.large_fresh;
+      };
+      fence = record {
+        answer = both-left a b (length (without_items (λ s. reaches_space to s.space) (sections_in p.middle_cache)).items) (length (without_items (λ s. reaches_space to s.space) (sections_in p.large_cache)).items)
+            (length (sections_in p.middle_cache).items) (length (sections_in p.large_cache).items) x.count y.count;
+        after = rw (x.sections, y.sections) refl;
+      };
+    }

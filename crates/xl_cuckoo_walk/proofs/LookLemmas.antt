@@ -1,0 +1,86 @@
+-- Leaves that are looked for without loads.
+use Rattle.std.proofs.Common.{◌≡◌, refl, sym, ap, ◌∙◌, ℕ, ◌+◌, ◌*◌, ◌/◌, ◌^◌, ◌<◌, ◌≤◌, Bool, not, ◌||◌, ◌==◌, List, arith}
+use Rattle.std.specs.Prelude.{is_some}
+use Rattle.std.proofs.lemmas.Bool.Decides.{nat_tests}
+use Rattle.xl_model.specs.declared.address.Order.{Order}
+use Rattle.xl_model.specs.declared.address.Order.TheVariants as order
+use Rattle.xl_model.specs.declared.leaf.Leaf.{Leaf}
+use Rattle.xl_model.specs.Addresses.{pages_of}
+use Rattle.xl_model.specs.Mapping.{leaf_at_page, meets_any}
+use Rattle.xl_model.specs.Shapes.{CuckooWays}
+use Rattle.xl_model.specs.Structures.{IsBlock, IsPage}
+use Rattle.xl_model_lemmas.specs.Entries.{or_leaf}
+use Rattle.xl_model_lemmas.specs.Kept.{IsPlaced}
+use Rattle.xl_model_lemmas.specs.Members.{In}
+use Rattle.xl_model_lemmas.specs.Sections.{tally, of_order}
+use Rattle.xl_model_lemmas.proofs.OrderLemmas.{pages-some}
+use Rattle.xl_model_lemmas.proofs.SameLemmas.{same-tests}
+use Rattle.xl_pte.specs.ReadBack.{MadeWordsReadBack}
+use Rattle.xl_tagged.specs.Counted.{smaller_word}
+use Rattle.xl_tagged.specs.Forms.{One}
+use Rattle.xl_tagged.specs.Slots.{found_in, found_from}
+use Rattle.xl_tagged.proofs.FindLemmas.{at-page, found-from, from-is, meets-is, page-found}
+use Rattle.xl_cuckoo_walk.specs.Parts.{RowParts, ways_in, values_in, tags_in, leaves_in, row_state, IsRow}
+use Rattle.xl_cuckoo_walk.specs.Plans.{is_counted}
+use Rattle.xl_cuckoo_walk.specs.Looks.{looked, looked_from, counts_smaller}
+use Rattle.xl_cuckoo_walk.proofs.BitLemmas.{part-tied}
+use Rattle.xl_cuckoo_walk.proofs.HolderLemmas.{found-said}
+
+either : (a b : ℕ) → (not (a == 0) || not (b == 0)) ≡ not (a + b * 2 ^ 22 == 0)
+either a b = same-tests (not (a == 0) || not (b == 0)) (not (a + b * 2 ^ 22 == 0)) (λ t. grind (arith, nat_tests)) (λ t. grind (arith, nat_tests))
+
+module _ (p : RowParts) (r : IsRow p) where
+  placed : (x : Leaf) → In x (leaves_in (ways_in p)) → IsPlaced x
+  placed x i = (r.held.fit x i).aligned.placed
+
+  -- smaller leaves by the counts
+  pub smaller-is : (o : Order) (key : ℕ) → counts_smaller o key p ≡ not (smaller_word o key (leaves_in (ways_in p)) == 0)
+  smaller-is order.K4 key = refl
+  smaller-is order.M2 key = ap (λ n. not (n == 0)) (part-tied order.M2 key order.K4 (leaves_in (ways_in p)) p.middle.counts r.held.sorted placed r.middle_tied)
+  smaller-is order.G1 key =
+      let a = part-tied order.G1 key order.K4 (leaves_in (ways_in p)) p.large.counts r.held.sorted placed r.large_tied in
+      let b = part-tied order.G1 key order.M2 (leaves_in (ways_in p)) p.large.counts r.held.sorted placed r.large_tied in
+      ap (λ n. not (n == 0) || is_counted order.M2 key p.large.counts) a
+      ∙ ap (λ n. not (tally (of_order order.G1 key order.K4) (leaves_in (ways_in p)) == 0) || not (n == 0)) b
+      ∙ either (tally (of_order order.G1 key order.K4) (leaves_in (ways_in p))) (tally (of_order order.G1 key order.M2) (leaves_in (ways_in p)))
+
+from-said : (o : Order) (s page : ℕ) (ws : CuckooWays) → s < 64 → page < 2 ^ 45 → looked_from o s page ws ≡ found_from One s page (values_in ws) o
+from-said order.K4 s page ws a b =
+    ap (λ q. or_leaf q (or_leaf (looked order.M2 s page ws) (looked order.G1 s page ws))) (found-said order.K4 s page ws a b)
+    ∙ ap (λ q. or_leaf (found_in One s page (values_in ws) order.K4) (or_leaf q (looked order.G1 s page ws))) (found-said order.M2 s page ws a b)
+    ∙ ap (λ q. or_leaf (found_in One s page (values_in ws) order.K4) (or_leaf (found_in One s page (values_in ws) order.M2) q)) (found-said order.G1 s page ws a b)
+from-said order.M2 s page ws a b =
+    ap (λ q. or_leaf q (looked order.G1 s page ws)) (found-said order.M2 s page ws a b)
+    ∙ ap (or_leaf (found_in One s page (values_in ws) order.M2)) (found-said order.G1 s page ws a b)
+from-said order.G1 s page ws a b = found-said order.G1 s page ws a b
+
+pub page-parts : (p : RowParts) (s page : ℕ) → IsPage (row_state p).shape s page → (s < 64) × (page < 2 ^ 45)
+unfolding row_state
+page-parts p s page h = (h.space_in, h.page_in)
+
+pub block-parts : (p : RowParts) (s first : ℕ) (o : Order) → IsBlock (row_state p).shape s first o → (s < 64) × (first < 2 ^ 45)
+unfolding row_state
+block-parts p s first o h = let n = pages-some o in let l = h.pages_in in (h.space_in, omega arith)
+
+-- what is found for a page
+pub leaf-found : MadeWordsReadBack → (p : RowParts) → IsRow p → (s page : ℕ) → IsPage (row_state p).shape s page
+    → looked_from order.K4 s page (ways_in p) ≡ leaf_at_page s page (row_state p).leaves
+unfolding row_state
+leaf-found back p r s page h = from-said order.K4 s page (ways_in p) h.space_in h.page_in ∙ at-page back One s page (values_in (ways_in p)) (tags_in (ways_in p)) (leaves_in (ways_in p)) h.space_in h.page_in r.held
+
+-- whether a block is met
+pub block-met : MadeWordsReadBack → (p : RowParts) → IsRow p → (s first : ℕ) (o : Order) → IsBlock (row_state p).shape s first o
+    → (counts_smaller o (s * 2 ^ 45 + first / pages_of o) p || is_some (looked_from o s first (ways_in p))) ≡ meets_any s first o (row_state p).leaves
+unfolding row_state
+block-met back p r s first o h =
+    let leaves : List Leaf = leaves_in (ways_in p) in
+    let n : 0 < pages_of o = pages-some o in
+    let l : first + pages_of o ≤ 2 ^ 45 = h.pages_in in
+    let low : first < 2 ^ 45 = omega arith in
+    let any : Bool = not (smaller_word o (s * 2 ^ 45 + first / pages_of o) leaves == 0) in
+    ap (λ t. t || is_some (looked_from o s first (ways_in p))) (smaller-is p r o (s * 2 ^ 45 + first / pages_of o))
+    ∙ ap (λ q. any || is_some q) (from-said o s first (ways_in p) h.space_in low)
+    ∙ ap (λ q. any || is_some q) (found-from back One s first (values_in (ways_in p)) (tags_in (ways_in p)) leaves h.space_in low r.held o)
+    ∙ from-is o s first h.aligned.0 leaves h.space_in low h.aligned.1 (λ x i. (r.held.fit x i).aligned)
+    ∙ ap (λ q. is_some q || any) (sym (page-found s first leaves))
+    ∙ meets-is o s first h.aligned.0 leaves h.space_in low h.aligned.1 (λ x i. (r.held.fit x i).aligned)

@@ -1,0 +1,125 @@
+-- A row that is opened: nothing stands in its ways, no section is counted, and none is cached.
+use Rattle.std.proofs.Common.{◌≡◌, refl, sym, ap, ◌∙◌, subst, ℕ, zero, suc, ◌+◌, ◌*◌, ◌/◌, ◌%◌, ◌^◌, ◌≤◌, List, [], ◌∷◌, ◌++◌, map, length, get_or, inl, None, arith}
+use Rattle.std.specs.Prelude.{find, slice_index}
+use Rattle.xl_model.specs.declared.address.Order.{Order}
+use Rattle.xl_model.specs.declared.address.Order.TheVariants as order
+use Rattle.xl_model.specs.declared.leaf.Leaf.{Leaf}
+use Rattle.xl_model.specs.declared.way.Entry.{Entry}
+use Rattle.xl_model.specs.Addresses.{level_of}
+use Rattle.xl_model.specs.Caches.{empty_cache}
+use Rattle.xl_model.specs.Shapes.{CuckooRules, CuckooWays, opening_ways, ways_of}
+use Rattle.xl_model.specs.Ways.{WayShape, opening_way, has_key}
+use Rattle.xl_model_lemmas.specs.Kept.{mapping_of}
+use Rattle.xl_model_lemmas.specs.Members.{In}
+use Rattle.xl_model_lemmas.specs.Sections.{tally, entries_in}
+use Rattle.xl_sections.specs.Counted.{Count, CountState, AreCounts, IsTied, count_of, word_of}
+use Rattle.xl_tagged.specs.Forms.{One, word_at}
+use Rattle.xl_tagged.specs.Slots.{leaves_under}
+use Rattle.xl_tagged.specs.Tagged.{AreHeld}
+use Rattle.xl_way.specs.Slots.{word_in, word_of as word_kept}
+use Rattle.xl_cuckoo.specs.Table.{CuckooState, value_of, opening, AreOnce}
+use Rattle.xl_cuckoo_walk.specs.Parts.{RowParts, IsRow, values_in, order_tags, tags_in, leaves_in, ways_in, word_list, ways_at, row_state, AreKeys}
+use Rattle.xl_cuckoo_walk.specs.Openings.{opening_orders, opening_table}
+
+entries-none : (start cap number n : ℕ) → entries_in (opening_ways start cap number n) ≡ []
+unfolding opening_way
+entries-none start cap number zero = refl
+entries-none start cap number (suc n) = entries-none start cap (number + 1) n
+
+ways-length : (start cap number n : ℕ) → length (opening_ways start cap number n) ≡ n
+ways-length start cap number zero = refl
+ways-length start cap number (suc n) = ap suc (ways-length start cap (number + 1) n)
+
+-- no order holds an entry
+abbrev AreEmpty : CuckooWays → Type 0
+AreEmpty ws = (o : Order) → entries_in (ways_of o ws) ≡ []
+
+tags-none : (ws : CuckooWays) → AreEmpty ws → tags_in ws ≡ []
+unfolding tags_in
+tags-none ws none = rw (none order.K4, none order.M2, none order.G1) refl
+
+leaves-none : (ws : CuckooWays) → AreEmpty ws → leaves_in ws ≡ []
+unfolding leaves_in leaves_under mapping_of
+leaves-none ws none = ap (λ ts. mapping_of (leaves_under One (values_in ws) ts)) (tags-none ws none)
+
+value-none : (key : ℕ) (ways : List WayShape) → entries_in ways ≡ [] → value_of key ways ≡ None
+unfolding word_kept
+value-none key ways none = ap (λ es. word_in (find (has_key key) es)) none
+
+values-none : (ws : CuckooWays) → AreEmpty ws → (tag : ℕ) → values_in ws tag ≡ []
+unfolding values_in
+values-none ws none tag = ap word_list (at_level (tag / 2 ^ 60))
+  where
+    at_level : (n : ℕ) → value_of (tag % 2 ^ 60) (ways_at n ws) ≡ None
+    at_level zero = value-none (tag % 2 ^ 60) ws.k4 (none order.K4)
+    at_level (suc zero) = value-none (tag % 2 ^ 60) ws.m2 (none order.M2)
+    at_level (suc (suc zero)) = value-none (tag % 2 ^ 60) ws.g1 (none order.G1)
+    at_level (suc (suc (suc n))) = value-none (tag % 2 ^ 60) [] refl
+
+nothing-held : (values : ℕ → List ℕ) → ((tag : ℕ) → values tag ≡ []) → AreHeld One values [] []
+nothing-held values none = record {
+  sorted = tt;
+  fit = λ x i. absurd i;
+  word = λ x i. absurd i;
+  tagged = λ x i. absurd i;
+  slot = λ tag i h. inl (ap (λ (vs : List ℕ). slice_index vs (0 + i)) (none tag));
+  used = λ tag i. absurd i;
+  apart = λ x y i. absurd i;
+}
+
+held-none : (ws : CuckooWays) → AreEmpty ws → AreHeld One (values_in ws) (tags_in ws) (leaves_in ws)
+held-none ws none =
+    let h : AreHeld One (values_in ws) [] [] = nothing-held (values_in ws) (values-none ws none) in
+    let k : AreHeld One (values_in ws) (tags_in ws) [] = subst (λ ts. AreHeld One (values_in ws) ts []) (sym (tags-none ws none)) h in
+    subst (λ xs. AreHeld One (values_in ws) (tags_in ws) xs) (sym (leaves-none ws none)) k
+
+tied-none : (size : Order) (counts : List Count) → counts ≡ [] → IsTied size [] counts
+unfolding count_of word_of
+tied-none size counts none key = ap (λ cs. count_of key cs) none
+
+-- the parts of a row that is opened
+abbrev pub opened : CuckooState → CountState → CountState → ℕ → ℕ → RowParts
+opened table middle large a b =
+    record { k4 = table; m2 = table; g1 = table; middle = middle; large = large; middle_cache = empty_cache a; large_cache = empty_cache b }
+
+module _ (threshold limit migrate start cap count : ℕ) (middle large : CountState) (a b : ℕ) (no_middle : middle.counts ≡ []) (no_large : large.counts ≡ []) where
+  abbrev pub parts : RowParts
+  parts = opened (opening threshold limit migrate (opening_ways start cap 0 count)) middle large a b
+
+  empty : AreEmpty (ways_in parts)
+  empty order.K4 = entries-none start cap 0 count
+  empty order.M2 = entries-none start cap 0 count
+  empty order.G1 = entries-none start cap 0 count
+
+  pub row-opened : count ≤ 4 → IsRow parts
+  row-opened few = record {
+    held = held-none (ways_in parts) empty;
+    keys = λ o e i. absurd (subst (λ es. In e es) (empty o) i);
+    once = λ o key. let n : tally (has_key key) (entries_in (ways_of o (ways_in parts))) ≡ 0 = ap (λ es. tally (has_key key) es) (empty o) in omega arith;
+    same_m2 = record { threshold = refl; kick_limit = refl; migrate = refl; width = refl };
+    same_g1 = record { threshold = refl; kick_limit = refl; migrate = refl; width = refl };
+    few = (let n = ways-length start cap 0 count in omega arith);
+    middle_are = counts-none middle.counts no_middle;
+    large_are = counts-none large.counts no_large;
+    middle_within = (let n : length middle.counts ≡ 0 = ap (λ (cs : List Count). length cs) no_middle in omega arith);
+    large_within = (let n : length large.counts ≡ 0 = ap (λ (cs : List Count). length cs) no_large in omega arith);
+    middle_tied = subst (λ xs. IsTied order.M2 xs middle.counts) (sym (leaves-none (ways_in parts) empty)) (tied-none order.M2 middle.counts no_middle);
+    large_tied = subst (λ xs. IsTied order.G1 xs large.counts) (sym (leaves-none (ways_in parts) empty)) (tied-none order.G1 large.counts no_large);
+    middle_fresh = λ s i. absurd i;
+    large_fresh = λ s i. absurd i;
+  }
+    where
+      counts-none : (counts : List Count) → counts ≡ [] → AreCounts counts
+      counts-none counts none = subst AreCounts (sym none) (record { once = tt; some = λ c i. absurd i })
+
+  pub state-opened : (few many : ℕ) (widths : List ℕ) → middle.room ≡ few → large.room ≡ many → widths ≡ a ∷ b ∷ []
+      → row_state parts ≡ opening_table count start cap (record { threshold = threshold; kick_limit = limit; migrate = migrate; sections_2m = few; sections_1g = many }) widths
+  unfolding row_state
+  state-opened few many widths f g w = rw (leaves-none (ways_in parts) empty, f, g, w) refl
+
+-- two widths
+pub two-widths : (widths : List ℕ) → length widths ≡ 2 → widths ≡ get_or widths 0 0 ∷ get_or widths 1 0 ∷ []
+two-widths [] h = absurd (cc)
+two-widths (a ∷ []) h = absurd (cc)
+two-widths (a ∷ b ∷ []) h = refl
+two-widths (a ∷ b ∷ c ∷ widths) h = absurd (omega arith)

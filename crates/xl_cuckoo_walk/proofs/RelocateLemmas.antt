@@ -1,0 +1,243 @@
+-- A leaf that moves: it comes to its new place, and then goes from its old one.
+use Rattle.std.proofs.Common.{◌≡◌, refl, sym, ap, ◌∙◌, subst, ℕ, ◌+◌, ◌*◌, ◌/◌, ◌%◌, ◌^◌, ◌<◌, ◌≤◌, nat_le, Bool, true, false, ◌&&◌, List, [], ◌∷◌, ◌++◌, map, Option, None, Some, Err, arith}
+use Rattle.std.specs.Prelude.{find, is_some}
+use Rattle.xl_model.specs.declared.address.Order.{Order}
+use Rattle.xl_model.specs.declared.address.Order.TheVariants as order
+use Rattle.xl_model.specs.declared.leaf.Leaf.{Leaf}
+use Rattle.xl_model.specs.declared.way.Moves.{Moves}
+use Rattle.xl_model.specs.declared.work.Refused.{Refused}
+use Rattle.xl_model.specs.Addresses.{level_of, pages_of, same_order}
+use Rattle.xl_model.specs.Base.{plus}
+use Rattle.xl_model.specs.Caches.{Cached}
+use Rattle.xl_model.specs.Changes.{Change, Insert, Relocate, at_page, changed, with_new, without_old, with_both}
+use Rattle.xl_model.specs.Mapping.{covers, is_leaf, leaf_key, leaf_at_page, leaf_named, meets_any, with_leaf, without_leaf}
+use Rattle.xl_model.specs.Room.{room_for, has_room}
+use Rattle.xl_model.specs.Sections.{Section, section_count}
+use Rattle.xl_model.specs.Shapes.{CuckooRules, CuckooWays, Cuckoo, ways_of, with_ways, ways_taken, leaf_entry}
+use Rattle.xl_model.specs.Structures.{TableState, IsBlock, IsPage, IsLeafFor, IsChange}
+use Rattle.xl_model.specs.Ways.{without_entry}
+use Rattle.xl_model.specs.Words.{leaf_word}
+use Rattle.xl_model_lemmas.specs.Members.{In}
+use Rattle.xl_model_lemmas.proofs.InsertionLemmas.{stays-with}
+use Rattle.xl_model_lemmas.proofs.MappingLemmas.{named-is}
+use Rattle.xl_model_lemmas.proofs.MemberLemmas.{In-left, In-right, find-only, find-None}
+use Rattle.xl_model_lemmas.proofs.PlaceLemmas.{first-covered, covers-meets}
+use Rattle.xl_model_lemmas.proofs.SortedLemmas.{with-without}
+use Rattle.xl_pte.specs.ReadBack.{MadeWordsReadBack}
+use Rattle.xl_tagged.specs.Tagged.{IsFit}
+use Rattle.xl_cuckoo_walk.specs.Coding.{sections_in}
+use Rattle.xl_cuckoo_walk.specs.Parts.{RowParts, ways_in, leaves_in, rules_in, row_state, IsRow, table_of}
+use Rattle.xl_cuckoo_walk.specs.Plans.{keys_from}
+use Rattle.xl_cuckoo_walk.specs.Changes.{page_key, keys_if, keys_moved, compared, HoldsLeaves, StaysBeside, IsEntered, IsRefused, IsLeft}
+use Rattle.xl_cuckoo_walk.proofs.ComparedLemmas.{WordsStay, ComparedRow, compared-row, compared-twice}
+use Rattle.xl_cuckoo_walk.proofs.NamedLemmas.{NamedLeaf, named-held, by-name, to-name}
+use Rattle.xl_cuckoo_walk.proofs.HoldLemmas.{row-holds, apart-leaf, fit-leaf, free-now}
+use Rattle.xl_cuckoo_walk.proofs.RowLemmas.{leaves-known}
+use Rattle.xl_cuckoo_walk.proofs.StepLemmas.{SteppedRow, answered, words-left, keys_entered, words-entered, entered-room}
+use Rattle.xl_cuckoo_walk.proofs.VerdictLemmas.{state_made, made_answer, made, refused-same, room-both}
+
+-- the leaf of a name is the one that its first page finds
+pub named-found : (p : RowParts) → IsRow p → (space first : ℕ) (o : Order) (n : NamedLeaf p space first o) → leaf_at_page space first (row_state p).leaves ≡ Some n.leaf
+unfolding leaf_at_page row_state
+named-found p r space first o n =
+    let x : Leaf = n.leaf in
+    let own : covers space first x ≡ true = by-name (λ s f w. covers s f x ≡ true) p space first o n (first-covered x) in
+    find-only (covers space first) x (leaves_in (ways_in p)) n.there own (λ y i c. sym (r.held.apart x y n.there i (covers-meets space first x y own c)))
+
+pub named-page : (p : RowParts) (space first : ℕ) (o : Order) → NamedLeaf p space first o → IsPage (row_state p).shape space first
+unfolding row_state
+named-page p space first o n = record { space_in = n.space_in; page_in = n.page_in }
+
+-- what its first page finds is the leaf of the name
+pub same-leaf : (p : RowParts) (r : IsRow p) (space first : ℕ) (o : Order) (n : NamedLeaf p space first o) (found : Option Leaf) (old : Leaf) → found ≡ leaf_at_page space first (row_state p).leaves → found ≡ Some old → n.leaf ≡ old
+same-leaf p r space first o n found old e f = let s : Some n.leaf ≡ Some old = sym (named-found p r space first o n) ∙ sym e ∙ f in cc
+
+abbrev pub found-leaf : (p : RowParts) (r : IsRow p) (space first : ℕ) (o : Order) (n : NamedLeaf p space first o) (found : Option Leaf) (old : Leaf) → found ≡ leaf_at_page space first (row_state p).leaves → found ≡ Some old → NamedLeaf p space first o
+found-leaf p r space first o n found old e f =
+    let s : n.leaf ≡ old = same-leaf p r space first o n found old e f in
+    record {
+      leaf = old;
+      named = subst (λ x. leaf_named space first o (leaves_in (ways_in p)) ≡ Some x) s n.named;
+      there = subst (λ x. In x (leaves_in (ways_in p))) s n.there;
+      space_is = ap (λ (x : Leaf). x.space) (sym s) ∙ n.space_is;
+      first_is = ap (λ (x : Leaf). x.first) (sym s) ∙ n.first_is;
+      order_is = ap (λ (x : Leaf). x.order) (sym s) ∙ n.order_is;
+      space_in = n.space_in;
+      page_in = n.page_in;
+      frame_in = subst (λ (x : Leaf). x.frame < 2 ^ 44) s n.frame_in;
+      key_is = ap (λ x. (leaf_entry x).key) (sym s) ∙ n.key_is;
+      value = n.value ∙ ap (λ (x : Leaf). Some (leaf_word x.frame x.perm)) s;
+    }
+
+frame-fits : (o : Order) (frame : ℕ) → frame < 2 ^ 44 → frame % 2 ^ (9 * level_of o) ≡ 0 → (frame + pages_of o ≤ 2 ^ 44) × ((e : ℕ) × (frame ≡ e * pages_of o))
+frame-fits order.K4 frame h m = (omega arith, (frame, omega arith))
+frame-fits order.M2 frame h m = (omega arith, (frame / 512, omega arith))
+frame-fits order.G1 frame h m = (omega arith, (frame / 262144, omega arith))
+
+-- room for a leaf that moves is room for one that comes
+room_by : CuckooRules → Option Leaf → List Leaf → Bool
+room_by rules None leaves = true
+room_by rules (Some x) leaves = nat_le (section_count order.M2 leaves) rules.sections_2m && nat_le (section_count order.G1 leaves) rules.sections_1g
+
+room-is : (rules : CuckooRules) (ws : CuckooWays) (c : Change) (leaves : List Leaf) (q : Option Leaf) → room_for q c leaves (Cuckoo rules ws) ≡ room_by rules q (with_both c leaves)
+unfolding room_by
+room-is rules ws c leaves None = refl
+room-is rules ws c leaves (Some x) = refl
+
+room-moved : (rules : CuckooRules) (ws : CuckooWays) (leaves : List Leaf) (space first to : ℕ) (o : Order) (x : Leaf) → leaf_named space first o leaves ≡ Some x
+    → has_room (Relocate space first to o) leaves (Cuckoo rules ws) ≡ has_room (Insert (record x { first = to })) leaves (Cuckoo rules ws)
+unfolding has_room with_both room_by
+room-moved rules ws leaves space first to o x named =
+    room-is rules ws (Relocate space first to o) leaves (at_page to (leaf_named space first o leaves))
+    ∙ ap (λ q. room_by rules (at_page to q) (with_new (at_page to q) leaves)) named ∙ sym (room-both rules leaves ws (record x { first = to }))
+
+module _ (back : MadeWordsReadBack) (p : RowParts) (r : IsRow p) (space first to : ℕ) (o : Order) (n : NamedLeaf p space first o)
+    (block : IsBlock (row_state p).shape space to o) (free : meets_any space to o (row_state p).leaves ≡ false) where
+  abbrev leaves : List Leaf
+  leaves = leaves_in (ways_in p)
+
+  abbrev pub new : Leaf
+  new = record n.leaf { first = to }
+
+  abbrev command : Change
+  command = Relocate space first to o
+
+  held : HoldsLeaves p leaves
+  held = row-holds p r
+
+  fit-old : IsFit n.leaf
+  fit-old = r.held.fit n.leaf n.there
+
+  pub valid-new : IsLeafFor (row_state p).shape new
+  valid-new =
+      let frame = frame-fits n.leaf.order n.leaf.frame fit-old.frame_in fit-old.frame_aligned in
+      record {
+        block = to-name (λ s f w. IsBlock (row_state p).shape s to w) p space first o n block;
+        frames_in = frame.0;
+        frames_aligned = frame.1;
+      }
+
+  pub free-new : meets_any new.space new.first new.order (row_state p).leaves ≡ false
+  free-new = to-name (λ s f w. meets_any s to w (row_state p).leaves ≡ false) p space first o n free
+
+  fit : IsFit new
+  fit = fit-leaf p new valid-new
+
+  apart : (z : Leaf) → In z leaves → leaf_key z ≡ leaf_key new → ⊥
+  apart = apart-leaf back p leaves held new fit (free-now p new free-new)
+
+  -- it is refused
+  pub moved-refused : (q : RowParts) (w : Refused) → IsRefused new p q w → IsChange command (row_state p) (Err w) (row_state q)
+  unfolding row_state
+  moved-refused q w is = refused-same command new (row_state p) (row_state q) w (ap (at_page to) n.named) (room-moved (rules_in p) (ways_in p) leaves space first to o n.leaf n.named) is.changes
+
+  module _ (q : RowParts) (m : Moves) (is : IsEntered new p q m) where
+    between : leaves_in (ways_in q) ≡ with_leaf new leaves
+    between = leaves-known back (ways_in q) (with_leaf new leaves) is.holds.held
+
+    pub holds-between : HoldsLeaves q (leaves_in (ways_in q))
+    holds-between = subst (HoldsLeaves q) (sym between) is.holds
+
+    still : In n.leaf (with_leaf new leaves)
+    still = stays-with n.leaf new leaves n.there (apart n.leaf n.there)
+
+    -- the old leaf has its name still
+    pub named-between : is_some (leaf_named space first o (leaves_in (ways_in q))) ≡ true
+    unfolding leaf_named
+    named-between = ap (λ xs. is_some (find (is_leaf space first o) xs)) between ∙ go (find (is_leaf space first o) (with_leaf new leaves)) refl
+      where
+        name : is_leaf space first o n.leaf ≡ true
+        name = named-is space first o n.leaf leaves n.named
+
+        go : (d : Option Leaf) → find (is_leaf space first o) (with_leaf new leaves) ≡ d → is_some (find (is_leaf space first o) (with_leaf new leaves)) ≡ true
+        go (Some y) e = ap (λ (d : Option Leaf). is_some d) e
+        go None e = let bad : true ≡ false = sym name ∙ find-None (is_leaf space first o) n.leaf (with_leaf new leaves) e still in absurd (cc)
+
+    module _ (last : RowParts) (left : IsLeft space first o q last) where
+      abbrev after : List Leaf
+      after = with_leaf new (without_leaf n.leaf.space n.leaf.first leaves)
+
+      abbrev came : CuckooWays
+      came = with_ways new.order (table_of new.order q).ways (ways_in p)
+
+      abbrev now : CuckooWays
+      now = with_ways n.leaf.order (map (without_entry (leaf_entry n.leaf).key) (ways_of n.leaf.order came)) came
+
+      old-place : leaf_key new ≡ n.leaf.space * 2 ^ 52 + n.leaf.first → ⊥
+      old-place e = apart n.leaf n.there (sym e)
+
+      swapped : without_leaf n.leaf.space n.leaf.first (with_leaf new leaves) ≡ after
+      swapped = sym (with-without n.leaf.space n.leaf.first new leaves held.held.sorted old-place apart)
+
+      left-leaves : without_leaf space first (leaves_in (ways_in q)) ≡ after
+      left-leaves = ap (without_leaf space first) between ∙ by-name (λ s f w. without_leaf s f (with_leaf new leaves) ≡ after) p space first o n swapped
+
+      holds : HoldsLeaves last after
+      holds = subst (HoldsLeaves last) left-leaves left.holds
+
+      beside : StaysBeside p last
+      beside = record {
+        rules = left.beside.rules ∙ is.beside.rules;
+        loads = left.beside.loads ∙ is.beside.loads;
+        middle_cache = left.beside.middle_cache ∙ is.beside.middle_cache;
+        large_cache = left.beside.large_cache ∙ is.beside.large_cache;
+      }
+
+      ways : ways_in last ≡ now
+      ways =
+          let N : ℕ → Order → CuckooWays → CuckooWays = λ k w us. with_ways w (map (without_entry k) (ways_of w us)) us in
+          left.ways ∙ ap (N (page_key o space first) o) is.ways ∙ ap (λ k. N k o came) (sym n.key_is) ∙ ap (λ w. N (leaf_entry n.leaf).key w came) (sym n.order_is)
+
+      -- the keys of the sections that the move may change
+      abbrev keys : Order → List ℕ
+      keys size = (keys_moved size o last ++ page_key size space to ∷ []) ++ page_key size space first ∷ []
+
+      keys-same : (size : Order) → keys_entered size new q ≡ keys_moved size o last ++ page_key size space to ∷ []
+      keys-same size =
+          by-name (λ s f w. keys_entered size new q ≡ keys_moved size w q ++ page_key size s to ∷ []) p space first o n refl
+          ∙ ap (λ ds. keys_if (same_order size o) (keys_from 0 ds) ++ page_key size space to ∷ []) (sym (left.moved size))
+
+      n2 : NamedLeaf q space first o
+      n2 = named-held back q holds-between space first o named-between
+
+      words : WordsStay (keys order.M2) (keys order.G1) p last
+      words =
+          let a = words-entered back p q r new fit (free-now p new free-new) m is in
+          let b = words-left q last (leaves_in (ways_in q)) holds-between space first o n2 n2.there left left.holds in
+          record {
+            m2 = λ key out.
+                b.m2 key (λ i. out (In-right key (keys_moved order.M2 o last ++ page_key order.M2 space to ∷ []) (page_key order.M2 space first ∷ []) i))
+                ∙ a.m2 key (λ i. out (In-left key (keys_moved order.M2 o last ++ page_key order.M2 space to ∷ []) (page_key order.M2 space first ∷ []) (subst (In key) (keys-same order.M2) i)));
+            g1 = λ key out.
+                b.g1 key (λ i. out (In-right key (keys_moved order.G1 o last ++ page_key order.G1 space to ∷ []) (page_key order.G1 space first ∷ []) i))
+                ∙ a.g1 key (λ i. out (In-left key (keys_moved order.G1 o last ++ page_key order.G1 space to ∷ []) (page_key order.G1 space first ∷ []) (subst (In key) (keys-same order.G1) i)));
+          }
+
+      moved-row : SteppedRow command p (compared (keys order.M2) (keys order.G1) last) m
+      unfolding row_state changed
+      moved-row =
+          let c : ComparedRow p (compared (keys order.M2) (keys order.G1) last) after now = compared-row back p last r after holds beside (keys order.M2) (keys order.G1) words now ways in
+          let m2 : Cached Section = sections_in p.middle_cache in
+          let g1 : Cached Section = sections_in p.large_cache in
+          let loads : ℕ = plus (plus p.k4.loads p.m2.loads) p.g1.loads in
+          let F : Option Leaf → TableState = λ d. state_made (rules_in p) leaves (ways_in p) m2 g1 loads (with_new (at_page to d) (without_old d leaves)) (ways_taken command d came) in
+          let C : TableState → Type 0 = λ t. IsChange command (row_state p) (made_answer m2 g1 m t) t in
+          let whole : C (F (leaf_named space first o leaves)) =
+          made command (rules_in p) leaves (ways_in p) m2 g1 loads new (table_of new.order q).ways (table_of new.order q).moved m (ap (at_page to) n.named)
+          (room-moved (rules_in p) (ways_in p) leaves space first to o n.leaf n.named ∙ entered-room p q new m is) is.placed in
+          record {
+            row = c.row;
+            fewer = c.items;
+            changes = answered command p (compared (keys order.M2) (keys order.G1) last) m (state_made (rules_in p) leaves (ways_in p) m2 g1 loads after now) c.state (subst C (ap F n.named) whole);
+          }
+
+      -- what the code makes of it
+      pub moved-by : (one two end : RowParts) → one ≡ compared (keys_moved order.M2 o last) (keys_moved order.G1 o last) last → two ≡ compared (page_key order.M2 space to ∷ []) (page_key order.G1 space to ∷ []) one
+          → end ≡ compared (page_key order.M2 space first ∷ []) (page_key order.G1 space first ∷ []) two → SteppedRow command p end m
+      moved-by one two end e f h =
+          let a : List ℕ = page_key order.M2 space to ∷ [] in
+          let b : List ℕ = page_key order.G1 space to ∷ [] in
+          let u : List ℕ = page_key order.M2 space first ∷ [] in
+          let v : List ℕ = page_key order.G1 space first ∷ [] in
+          let mid : two ≡ compared (keys_moved order.M2 o last ++ a) (keys_moved order.G1 o last ++ b) last = f ∙ ap (compared a b) e ∙ compared-twice (keys_moved order.M2 o last) (keys_moved order.G1 o last) a b last in
+          subst (λ z. SteppedRow command p z m) (sym (h ∙ ap (compared u v) mid ∙ compared-twice (keys_moved order.M2 o last ++ a) (keys_moved order.G1 o last ++ b) u v last)) moved-row

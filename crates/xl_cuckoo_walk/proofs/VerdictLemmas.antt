@@ -1,0 +1,148 @@
+-- What a change of a row comes to by the definitions, by each verdict.
+use Rattle.std.proofs.Common.{◌≡◌, refl, sym, ap, ◌∙◌, subst, ℕ, ◌-◌, nat_le, true, false, ◌&&◌, List, map, Option, None, Some, Result, Ok, Err}
+use Rattle.xl_model.specs.declared.address.Order.{Order}
+use Rattle.xl_model.specs.declared.address.Order.TheVariants as order
+use Rattle.xl_model.specs.declared.leaf.Leaf.{Leaf}
+use Rattle.xl_model.specs.declared.perm.Perm.{Perm}
+use Rattle.xl_model.specs.declared.way.Moves.{Moves}
+use Rattle.xl_model.specs.declared.work.NoRoom.TheVariants as why
+use Rattle.xl_model.specs.declared.work.Refused.{Refused}
+use Rattle.xl_model.specs.declared.work.Work.{Work}
+use Rattle.xl_model.specs.Caches.{Cached, SectionCaches, entries_in, without_items, has_changed, caches_purged}
+use Rattle.xl_model.specs.Changes.{Change, Insert, Remove, Protect, changed, old_leaf, without_old, with_new, with_perm, with_both}
+use Rattle.xl_model.specs.Mapping.{leaf_named, with_leaf, without_leaf}
+use Rattle.xl_model.specs.Placing.{Placed, AtCap, Displaced, no_moves}
+use Rattle.xl_model.specs.Room.{room_for, has_room}
+use Rattle.xl_model.specs.Sections.{Section, section_count}
+use Rattle.xl_model.specs.Shapes.{CuckooRules, CuckooWays, Shape, Cuckoo, ways_of, with_ways, leaf_entry, brought, placed_leaf, ways_placed, moves_of, is_placed, ways_taken, widened, narrowed, shape_after}
+use Rattle.xl_model.specs.Structures.{TableState, IsChange, moves_made, finds_place, work_of, Verdict, Made, NoSpace, NoPlace, verdict, verdict_by, table_made, answer_by, after_by, table_answer, table_after}
+use Rattle.xl_model.specs.Ways.{WayShape, with_word, without_entry}
+use Rattle.xl_model.specs.Words.{leaf_word}
+
+-- the table of a cuckoo row
+abbrev pub state_by : CuckooRules → List Leaf → CuckooWays → Cached Section → Cached Section → ℕ → TableState
+state_by rules leaves ws m2 g1 loads = record { leaves = leaves; shape = Cuckoo rules ws; caches = SectionCaches m2 g1; loads = loads }
+
+-- that table with other leaves and ways, and without the sections that aren't as they were
+abbrev pub state_made : CuckooRules → List Leaf → CuckooWays → Cached Section → Cached Section → ℕ → List Leaf → CuckooWays → TableState
+state_made rules leaves ws m2 g1 loads after now =
+    state_by rules after now (without_items (has_changed order.M2 leaves ws after now) m2) (without_items (has_changed order.G1 leaves ws after now) g1) loads
+
+-- the answer to a change that was made, where these sections are left
+abbrev pub made_answer : Cached Section → Cached Section → Moves → TableState → Result Work Refused
+made_answer m2 g1 m t = Ok (work_of m (entries_in (SectionCaches m2 g1) - entries_in t.caches))
+
+module _ (c : Change) (rules : CuckooRules) (leaves : List Leaf) (ws : CuckooWays) (m2 g1 : Cached Section) (loads : ℕ) where
+  abbrev pub before : TableState
+  before = state_by rules leaves ws m2 g1 loads
+
+  abbrev shape : Shape
+  shape = Cuckoo rules ws
+
+  -- there is no room
+  pub no-space : has_room c leaves shape ≡ false → IsChange c before (Err (record { why = why.NoTable; work = work_of no_moves 0 })) before
+  unfolding table_after table_answer verdict
+  no-space h =
+      let v : verdict_by (has_room c leaves shape) (finds_place (brought c leaves) shape) ≡ NoSpace = ap (λ b. verdict_by b (finds_place (brought c leaves) shape)) h in
+      record { answer = sym (ap (λ u. answer_by u c before) v); after = sym (ap (λ u. after_by u c before) v) }
+
+  -- there is no place: the forced growths stay
+  pub no-place : (x : Leaf) (after : List WayShape) (m : Moves) → brought c leaves ≡ Some x → has_room c leaves shape ≡ true → placed_leaf rules ws x ≡ AtCap after m
+      → IsChange c before (Err (record { why = why.WayAtCap; work = work_of m 0 })) (state_by rules leaves (with_ways x.order after ws) m2 g1 loads)
+  unfolding table_after table_answer verdict
+  no-place x after m b h p =
+      let v : verdict_by (has_room c leaves shape) (finds_place (brought c leaves) shape) ≡ NoPlace =
+      ap (λ k. verdict_by k (finds_place (brought c leaves) shape)) h ∙ ap (λ o. verdict_by true (finds_place o shape)) b ∙ ap (λ q. verdict_by true (is_placed q)) p in
+      let T : Shape → TableState = λ s. record { leaves = leaves; shape = s; caches = SectionCaches m2 g1; loads = loads } in
+      let W : Moves → Result Work Refused = λ n. Err (record { why = why.WayAtCap; work = work_of n 0 }) in
+      record {
+        answer = sym (ap (λ u. answer_by u c before) v ∙ ap (λ o. W (moves_made o shape)) b ∙ ap (λ q. W (moves_of q)) p);
+        after = sym (ap (λ u. after_by u c before) v ∙ ap (λ o. T (widened o shape)) b ∙ ap (λ q. T (Cuckoo rules (with_ways x.order (ways_placed q) ws))) p);
+      }
+
+  -- it is made, with the precise purge
+  pub made : (x : Leaf) (after : List WayShape) (moved : List Displaced) (m : Moves) → brought c leaves ≡ Some x → has_room c leaves shape ≡ true → placed_leaf rules ws x ≡ Placed after moved m →
+      let t = state_made rules leaves ws m2 g1 loads (changed c leaves) (ways_taken c (old_leaf c leaves) (with_ways x.order after ws)) in
+      IsChange c before (made_answer m2 g1 m t) t
+  unfolding table_after table_answer verdict table_made shape_after caches_purged
+  made x after moved m b h p =
+      let v : verdict_by (has_room c leaves shape) (finds_place (brought c leaves) shape) ≡ Made =
+      ap (λ k. verdict_by k (finds_place (brought c leaves) shape)) h ∙ ap (λ o. verdict_by true (finds_place o shape)) b ∙ ap (λ q. verdict_by true (is_placed q)) p in
+      let F : Shape → TableState = λ s. record {
+        leaves = changed c leaves;
+        shape = narrowed c leaves s;
+        caches = caches_purged c leaves shape (narrowed c leaves s) (SectionCaches m2 g1);
+        loads = loads;
+      } in
+      let W : Moves → Shape → Result Work Refused = λ n s. Ok (work_of n (entries_in (SectionCaches m2 g1) - entries_in (F s).caches)) in
+      record {
+        answer = sym (ap (λ u. answer_by u c before) v ∙ ap (λ o. W (moves_made o shape) (widened o shape)) b ∙ ap (λ q. W (moves_of q) (Cuckoo rules (with_ways x.order (ways_placed q) ws))) p);
+        after = sym (ap (λ u. after_by u c before) v ∙ ap (λ o. F (widened o shape)) b ∙ ap (λ q. F (Cuckoo rules (with_ways x.order (ways_placed q) ws))) p);
+      }
+
+  -- no leaf comes, so nothing refuses it
+  pub taken : brought c leaves ≡ None →
+      let t = state_made rules leaves ws m2 g1 loads (changed c leaves) (ways_taken c (old_leaf c leaves) ws) in
+      IsChange c before (made_answer m2 g1 no_moves t) t
+  unfolding table_after table_answer verdict has_room table_made shape_after caches_purged
+  taken b =
+      let v : verdict_by (has_room c leaves shape) (finds_place (brought c leaves) shape) ≡ Made = ap (λ o. verdict_by (room_for o c leaves shape) (finds_place o shape)) b in
+      let F : Shape → TableState = λ s. record {
+        leaves = changed c leaves;
+        shape = narrowed c leaves s;
+        caches = caches_purged c leaves shape (narrowed c leaves s) (SectionCaches m2 g1);
+        loads = loads;
+      } in
+      let W : Moves → Shape → Result Work Refused = λ n s. Ok (work_of n (entries_in (SectionCaches m2 g1) - entries_in (F s).caches)) in
+      record {
+        answer = sym (ap (λ u. answer_by u c before) v ∙ ap (λ o. W (moves_made o shape) (widened o shape)) b);
+        after = sym (ap (λ u. after_by u c before) v ∙ ap (λ o. F (widened o shape)) b);
+      }
+
+-- a leaf that comes, alone or from another place, is refused for the same reasons
+pub refused-same : (c : Change) (x : Leaf) (t n : TableState) (r : Refused) → brought c t.leaves ≡ Some x → has_room c t.leaves t.shape ≡ has_room (Insert x) t.leaves t.shape → IsChange (Insert x) t (Err r) n → IsChange c t (Err r) n
+unfolding table_after table_answer verdict
+refused-same c x t n r b h is = go (verdict (Insert x) t) refl
+  where
+    same : verdict c t ≡ verdict (Insert x) t
+    same = ap (λ k. verdict_by k (finds_place (brought c t.leaves) t.shape)) h ∙ ap (λ o. verdict_by (has_room (Insert x) t.leaves t.shape) (finds_place o t.shape)) b
+
+    go : (v : Verdict) → verdict (Insert x) t ≡ v → IsChange c t (Err r) n
+    go NoSpace e = record {
+      answer = is.answer ∙ ap (λ u. answer_by u (Insert x) t) e ∙ sym (ap (λ u. answer_by u c t) (same ∙ e));
+      after = is.after ∙ ap (λ u. after_by u (Insert x) t) e ∙ sym (ap (λ u. after_by u c t) (same ∙ e));
+    }
+    go NoPlace e = record {
+      answer = is.answer ∙ ap (λ u. answer_by u (Insert x) t) e ∙ ap (λ o. Err (record { why = why.WayAtCap; work = work_of (moves_made o t.shape) 0 })) (sym b) ∙ sym (ap (λ u. answer_by u c t) (same ∙ e));
+      after = is.after ∙ ap (λ u. after_by u (Insert x) t) e ∙ ap (λ o. record t { shape = widened o t.shape }) (sym b) ∙ sym (ap (λ u. after_by u c t) (same ∙ e));
+    }
+    go Made e =
+        let bad : Err r ≡ Ok (work_of (moves_made (Some x) t.shape) (entries_in t.caches - entries_in (table_made (Insert x) t).caches)) = is.answer ∙ ap (λ u. answer_by u (Insert x) t) e in
+        absurd (cc)
+
+-- room for a leaf that comes
+pub room-both : (rules : CuckooRules) (leaves : List Leaf) (ws : CuckooWays) (x : Leaf) → has_room (Insert x) leaves (Cuckoo rules ws)
+    ≡ (nat_le (section_count order.M2 (with_leaf x leaves)) rules.sections_2m && nat_le (section_count order.G1 (with_leaf x leaves)) rules.sections_1g)
+unfolding has_room with_both
+room-both rules leaves ws x = refl
+
+-- a leaf goes
+pub removed : (rules : CuckooRules) (space first : ℕ) (o : Order) (leaves : List Leaf) (ws : CuckooWays) (m2 g1 : Cached Section) (loads : ℕ) (x : Leaf) → leaf_named space first o leaves ≡ Some x →
+    let t = state_made rules leaves ws m2 g1 loads (without_leaf x.space x.first leaves) (with_ways x.order (map (without_entry (leaf_entry x).key) (ways_of x.order ws)) ws) in
+    IsChange (Remove space first o) (state_by rules leaves ws m2 g1 loads) (made_answer m2 g1 no_moves t) t
+unfolding changed
+removed rules space first o leaves ws m2 g1 loads x named =
+    let c : Change = Remove space first o in
+    let F : Option Leaf → TableState = λ q. state_made rules leaves ws m2 g1 loads (without_old q leaves) (ways_taken c q ws) in
+    subst (λ t. IsChange c (state_by rules leaves ws m2 g1 loads) (made_answer m2 g1 no_moves t) t) (ap F named) (taken c rules leaves ws m2 g1 loads refl)
+
+-- a leaf gets another permission
+pub given : (rules : CuckooRules) (space first : ℕ) (o : Order) (perm : Perm) (leaves : List Leaf) (ws : CuckooWays) (m2 g1 : Cached Section) (loads : ℕ) (x : Leaf) → leaf_named space first o leaves ≡ Some x →
+    let t = state_made rules leaves ws m2 g1 loads (with_leaf (record x { perm = perm }) (without_leaf x.space x.first leaves))
+    (with_ways x.order (map (with_word (leaf_entry x).key (leaf_word x.frame perm)) (ways_of x.order ws)) ws) in
+    IsChange (Protect space first o perm) (state_by rules leaves ws m2 g1 loads) (made_answer m2 g1 no_moves t) t
+unfolding changed
+given rules space first o perm leaves ws m2 g1 loads x named =
+    let c : Change = Protect space first o perm in
+    let F : Option Leaf → TableState = λ q. state_made rules leaves ws m2 g1 loads (with_new (with_perm perm q) (without_old q leaves)) (ways_taken c q ws) in
+    subst (λ t. IsChange c (state_by rules leaves ws m2 g1 loads) (made_answer m2 g1 no_moves t) t) (ap F named) (taken c rules leaves ws m2 g1 loads refl)

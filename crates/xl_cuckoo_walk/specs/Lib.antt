@@ -1,0 +1,6 @@
+pub mod Coding
+pub mod Parts
+pub mod Plans
+pub mod Looks
+pub mod Changes
+pub mod Openings

@@ -1,0 +1,28 @@
+-- What is looked for in the parts of a row without loads.
+use Rattle.std.specs.Prelude.{ℕ, ◌+◌, ◌*◌, ◌/◌, ◌^◌, Bool, false, ◌||◌, Option}
+use Rattle.xl_model.specs.declared.address.Order.{Order}
+use Rattle.xl_model.specs.declared.address.Order.TheVariants as order
+use Rattle.xl_model.specs.declared.leaf.Leaf.{Leaf}
+use Rattle.xl_model.specs.Addresses.{pages_of}
+use Rattle.xl_model.specs.Shapes.{CuckooWays, ways_of}
+use Rattle.xl_model_lemmas.specs.Entries.{or_leaf}
+use Rattle.xl_cuckoo.specs.Table.{value_of}
+use Rattle.xl_cuckoo_walk.specs.Parts.{RowParts}
+use Rattle.xl_cuckoo_walk.specs.Plans.{leaf_said_by, is_counted}
+
+-- The leaf of this order that covers a page.
+abbrev pub looked : Order → ℕ → ℕ → CuckooWays → Option Leaf
+looked o space page ws = leaf_said_by o space page (value_of (space * 2 ^ 45 + page / pages_of o) (ways_of o ws))
+
+-- The leaf of this order or of a larger one that covers a page.
+abbrev pub looked_from : Order → ℕ → ℕ → CuckooWays → Option Leaf
+looked_from order.K4 space page ws =
+    or_leaf (looked order.K4 space page ws) (or_leaf (looked order.M2 space page ws) (looked order.G1 space page ws))
+looked_from order.M2 space page ws = or_leaf (looked order.M2 space page ws) (looked order.G1 space page ws)
+looked_from order.G1 space page ws = looked order.G1 space page ws
+
+-- A leaf smaller than a block of this order lies in the section of a key, by the counts.
+abbrev pub counts_smaller : Order → ℕ → RowParts → Bool
+counts_smaller order.K4 key p = false
+counts_smaller order.M2 key p = is_counted order.K4 key p.middle.counts
+counts_smaller order.G1 key p = is_counted order.K4 key p.large.counts || is_counted order.M2 key p.large.counts

@@ -1,0 +1,61 @@
+//! Sections as items.
+
+ghost use Rattle.std.specs.Prelude.{◌≡◌, ◌+◌, ◌*◌, ◌/◌, ◌^◌, ◌<◌, ◌≤◌, find, length, IfSome};
+ghost use Rattle.xl_model.specs.Addresses.{pages_of};
+ghost use Rattle.xl_model.specs.Base.{one_if};
+ghost use Rattle.xl_model.specs.Recency.{purged};
+ghost use Rattle.xl_cuckoo_walk.specs.Coding.{has_tag, word_of_item, is_old, word_by, code_of};
+ghost use Rattle.xl_cuckoo_walk.specs.Plans.{touched_in, newest_in};
+
+use xl_recency::{Cache, Item};
+
+/// Brings the section of this tag to the front, and gives its word.
+pub(crate) fn touch(cache: &mut Cache, tag: u64) -> Option<u64>
+    ensures found { result ≡ word_of_item (find (has_tag tag) cache.old.items) }
+    ensures moved { cache.new ≡ touched_in tag cache.old }
+{
+    match cache.touch(|item| item.tag == tag) {
+        None => None,
+        Some(item) => Some(item.word),
+    }
+}
+
+/// A bit as a number.
+fn one(bit: bool) -> u64
+    ensures { result ≡ one_if bit }
+{
+    if bit { 1 } else { 0 }
+}
+
+/// The code of a way.
+fn code(way: Option<u64>) -> u64
+    requires { IfSome way (λ w. w < 4) }
+    ensures { result ≡ code_of way }
+{
+    match way {
+        None => 0,
+        Some(way) => way + 1,
+    }
+}
+
+/// The word of a section: whether it holds leaves of each order, and the way of its own leaf.
+pub(crate) fn section_word(k4: bool, m2: bool, g1: bool, way: Option<u64>) -> u64
+    requires { IfSome way (λ w. w < 4) }
+    ensures { result ≡ word_by k4 m2 g1 way }
+{
+    one(k4) + (2 * one(m2) + (4 * one(g1) + 8 * code(way)))
+}
+
+/// Puts a section in front.
+pub(crate) fn put_newest(cache: &mut Cache, tag: u64, word: u64)
+    ensures { cache.new ≡ newest_in tag word cache.old }
+{
+    cache.fill(Item { tag, word, more: 0 });
+}
+
+/// Removes the section of this tag where it isn't as this word says.
+pub(crate) fn refresh(cache: &mut Cache, tag: u64, word: u64)
+    ensures { cache.new ≡ record cache.old { items = purged (is_old tag word) cache.old.items } }
+{
+    cache.remove_where(|item| item.tag == tag && item.word != word);
+}

@@ -1,0 +1,24 @@
+//! The row of elastic cuckoo tables (Skarlatos and others, 2020): a table for each order, and cuckoo
+//! walk caches of sections.
+#![tactic(auto)]
+
+mod coding;
+mod fence;
+mod fill;
+mod insert;
+mod look;
+mod parts;
+mod plan;
+mod probe;
+mod protect;
+mod purge;
+mod relocate;
+mod remove;
+mod row;
+mod tables;
+#[cfg(test)]
+mod tests;
+mod walk;
+mod work;
+
+pub use row::CuckooRow;

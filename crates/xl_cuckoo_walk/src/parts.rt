@@ -1,0 +1,35 @@
+//! The parts of a row.
+
+use std::marker::Model;
+use xl_cuckoo::Cuckoo;
+use xl_recency::Cache;
+use xl_sections::Counts;
+
+/// A table for each order, and for the sections of 2 MiB and of 1 GiB how many leaves of each order
+/// they hold, and a cache of sections.
+#[derive(Drop)]
+pub(crate) struct Parts<const D: usize> {
+    pub(crate) k4: Cuckoo<D>,
+    pub(crate) m2: Cuckoo<D>,
+    pub(crate) g1: Cuckoo<D>,
+    pub(crate) middle: Counts,
+    pub(crate) large: Counts,
+    pub(crate) middle_cache: Cache,
+    pub(crate) large_cache: Cache,
+}
+
+impl<const D: usize> Model for Parts<D> {
+    ghost use Rattle.xl_cuckoo_walk.specs.Parts.{RowParts};
+
+    ghost Value = { RowParts };
+
+    ghost view = { λ p. record {
+      k4 = p.k4;
+      m2 = p.m2;
+      g1 = p.g1;
+      middle = p.middle;
+      large = p.large;
+      middle_cache = p.middle_cache;
+      large_cache = p.large_cache;
+    } };
+}

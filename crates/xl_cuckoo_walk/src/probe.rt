@@ -1,0 +1,66 @@
+//! Probes of a table.
+
+ghost use Rattle.std.specs.Prelude.{◌≡◌, ◌+◌, ◌*◌, ◌/◌, ◌^◌, ◌<◌};
+ghost use Rattle.xl_model.specs.Addresses.{pages_of};
+ghost use Rattle.xl_model_lemmas.specs.Entries.{or_leaf};
+ghost use Rattle.xl_cuckoo_walk.specs.Plans.{IsIn, value_by, probed, leaf_said_by};
+
+use crate::plan::Plan;
+use xl_cuckoo::Cuckoo;
+use xl_model::{Leaf, Order};
+use xl_sections::section;
+use xl_tagged::leaf_read;
+
+/// Probes as planned.
+fn probe_by<const D: usize>(table: &mut Cuckoo<D>, plan: Plan, key: u64) -> Option<u64>
+    requires { IsIn plan table.old.ways }
+    ensures found { result ≡ value_by plan key table.old.ways }
+    ensures after { table.new ≡ probed plan table.old }
+{
+    match plan {
+        Plan::Skip => None,
+        Plan::At(way) => table.probe_way(way, key),
+        Plan::Every => table.probe(key),
+    }
+}
+
+/// The leaf of a page that a word says, if there is one.
+#[tactic(auto, unfolding(crate::specs::Plans::leaf_said_by))]
+pub(crate) fn read(order: Order, space: u16, page: u64, word: Option<u64>) -> Option<Leaf>
+    requires { page < 2 ^ 45 }
+    ensures { result ≡ leaf_said_by order space page word }
+{
+    match word {
+        None => None,
+        Some(word) => leaf_read(space, order, page, word),
+    }
+}
+
+/// The leaf of this order that covers the page, probed as planned.
+pub(crate) fn probe_order<const D: usize>(
+    table: &mut Cuckoo<D>,
+    plan: Plan,
+    order: Order,
+    space: u16,
+    page: u64,
+) -> Option<Leaf>
+    requires plan { IsIn plan table.old.ways }
+    requires space_in { space < 64 }
+    requires page_in { page < 2 ^ 45 }
+    ensures found { result ≡ leaf_said_by order space page
+        (value_by plan (space * 2 ^ 45 + page / pages_of order) table.old.ways) }
+    ensures after { table.new ≡ probed plan table.old }
+{
+    let word = probe_by(table, plan, section(space, page, order));
+    read(order, space, page, word)
+}
+
+/// The first of two leaves, if there is one.
+pub(crate) fn first_of(first: Option<Leaf>, second: Option<Leaf>) -> Option<Leaf>
+    ensures { result ≡ or_leaf first second }
+{
+    match first {
+        Some(_) => first,
+        None => second,
+    }
+}

@@ -1,0 +1,60 @@
+//! The walk.
+
+ghost use Rattle.std.specs.Prelude.{◌≡◌};
+ghost use Rattle.xl_model.specs.Structures.{IsPage, IsWalk};
+ghost use Rattle.xl_cuckoo_walk.specs.Parts.{IsRow, row_state};
+
+use crate::coding::touch;
+use crate::fill::{fill_if, fills_middle, one_hit};
+use crate::parts::Parts;
+use crate::plan::{Hits, planned};
+use crate::probe::{first_of, probe_order};
+use xl_model::{Order, Walk};
+use xl_pte::words_read_back;
+use xl_sections::section;
+
+/// The walk of a page: the cached sections of the page tell which orders are possible, and in which way
+/// a large leaf stands; the possible orders are probed, and sections are cached that weren't.
+pub(crate) fn walk_page<const D: usize>(parts: &mut Parts<D>, space: u16, page: u64) -> Walk
+    requires whole { IsRow parts.old }
+    requires page { IsPage (row_state parts.old).shape space page }
+    ensures whole { IsRow parts.new }
+    ensures walks { IsWalk space page (row_state parts.old) result (row_state parts.new) }
+{
+    words_read_back();
+    let middle_key = section(space, page, Order::M2);
+    let large_key = section(space, page, Order::G1);
+    let middle = touch(&mut parts.middle_cache, middle_key);
+    let large = touch(&mut parts.large_cache, large_key);
+    let hits = Hits { middle, large };
+    let k4_plan = planned(Order::K4, hits);
+    let m2_plan = planned(Order::M2, hits);
+    let g1_plan = planned(Order::G1, hits);
+    let k4 = probe_order(&mut parts.k4, k4_plan, Order::K4, space, page);
+    let m2 = probe_order(&mut parts.m2, m2_plan, Order::M2, space, page);
+    let g1 = probe_order(&mut parts.g1, g1_plan, Order::G1, space, page);
+    let larger = first_of(m2, g1);
+    let leaf = first_of(k4, larger);
+    fill_if(
+        &mut parts.middle_cache,
+        fills_middle(leaf),
+        middle,
+        Order::M2,
+        middle_key,
+        &parts.middle,
+        &parts.m2,
+    );
+    fill_if(
+        &mut parts.large_cache,
+        leaf.is_some(),
+        large,
+        Order::G1,
+        large_key,
+        &parts.large,
+        &parts.g1,
+    );
+    Walk {
+        leaf,
+        cache_hits: one_hit(middle) + one_hit(large),
+    }
+}
