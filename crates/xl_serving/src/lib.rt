@@ -4,6 +4,7 @@
 
 mod areas;
 mod batch;
+mod ending;
 mod opening;
 mod rows;
 mod running;

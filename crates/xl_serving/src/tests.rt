@@ -48,6 +48,10 @@ impl Rows for NoRows {
         Ok(())
     }
 
+    fn json(&self, _alloc: Global) -> Result<String, NoMemory> {
+        Err(NoMemory)
+    }
+
     fn write_images<K: Sink>(&self, _out: &mut K) -> Result<(), Failed> {
         Ok(())
     }

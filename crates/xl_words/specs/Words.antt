@@ -25,9 +25,9 @@ file_app =
     with_rule (with_rule (with_rule (new_app (codes "xlate"))
     (needed_rule (codes "config"))) (option_rule (codes "script"))) (option_rule (codes "trace"))
 
--- The command: the same, with the flags `--answers` and `--image`.
+-- The command: the same, with the flags `--answers`, `--image` and `--json`.
 unfoldable pub app : App
-app = with_rule (with_rule file_app (flag_rule (codes "answers"))) (flag_rule (codes "image"))
+app = with_rule (with_rule (with_rule file_app (flag_rule (codes "answers"))) (flag_rule (codes "image"))) (flag_rule (codes "json"))
 
 -- Why the command has no matches for the words; empty where it has.
 unfoldable pub faults_of : List (List ℕ) → Kinds
@@ -37,14 +37,15 @@ faults_of words = fault_of app words
 unfoldable pub values_of : List (List ℕ) → List Row
 values_of words = matches_of app words
 
--- What a run is asked for: the names of its files; whether a line is wanted for each access and command; and whether
--- the words of radix tables are.
+-- What a run is asked for: the names of its files; whether a line is wanted for each access and command; whether the
+-- words of radix tables are; and whether the rows are wanted as JSON.
 pub record Asked : Type 0 where
   pub config : List ℕ
   pub script : Option (List ℕ)
   pub trace : Option (List ℕ)
   pub answers : Bool
   pub image : Bool
+  pub json : Bool
 
 -- Whether a flag stands among the words.
 abbrev pub is_on : Option (List ℕ) → Bool
@@ -59,6 +60,7 @@ asked_in rows = record {
   trace = first_of (codes "trace") rows;
   answers = is_on (first_of (codes "answers") rows);
   image = is_on (first_of (codes "image") rows);
+  json = is_on (first_of (codes "json") rows);
 }
 
 -- What is asked for where the command has matches.
@@ -78,6 +80,7 @@ asked_of w = record {
   trace = option_map (λ s. s.now) w.trace;
   answers = w.answers;
   image = w.image;
+  json = w.json;
 }
 
 -- What a reading of the words answers: what they ask for, or that they ask for nothing, or that there is no memory.

@@ -24,6 +24,7 @@ fn options_stand_in_any_order_and_a_flag_needs_no_value(rt: HostRuntime) -> Resu
                 trace: None,
                 answers: false,
                 image: false,
+                json: false,
             },
         ),
         (
@@ -34,16 +35,18 @@ fn options_stand_in_any_order_and_a_flag_needs_no_value(rt: HostRuntime) -> Resu
                 trace: Some("t"),
                 answers: true,
                 image: false,
+                json: false,
             },
         ),
         (
-            &["x", "--image", "--config", "", "--script", "-"],
+            &["x", "--image", "--config", "", "--json", "--script", "-"],
             Words {
                 config: "",
                 script: Some("-"),
                 trace: None,
                 answers: false,
                 image: true,
+                json: true,
             },
         ),
     ];
@@ -64,7 +67,7 @@ fn other_words_and_repeats_are_refused(rt: HostRuntime) -> Result<(), Fail> {
         &["x", "--config"],
         &["x", "--config", "a", "--config", "b"],
         &["x", "--config", "a", "--answers=true"],
-        &["x", "--config", "a", "--json"],
+        &["x", "--config", "a", "--harts"],
         &["x", "--config", "a", "b"],
         &["x", "--help"],
     ];

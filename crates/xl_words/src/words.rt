@@ -11,7 +11,8 @@ use std::alloc::{AllocError, Global};
 use thiserror::Error;
 
 /// What the words ask for: the names of the configuration, the script and the trace; whether a line
-/// is wanted for each access and command; and whether the words of radix tables are.
+/// is wanted for each access and command; whether the words of radix tables are; and whether the
+/// rows are wanted as JSON.
 #[derive(Clone, Copy, Debug, PartialEq, Eq)]
 pub struct Words<'a> {
     pub config: &'a str,
@@ -19,6 +20,7 @@ pub struct Words<'a> {
     pub trace: Option<&'a str>,
     pub answers: bool,
     pub image: bool,
+    pub json: bool,
 }
 
 /// Why the words ask for nothing.
@@ -61,6 +63,7 @@ fn words_in<'a>(matches: &ArgMatches<'a>) -> Words<'a>
         trace: value(matches, "trace"),
         answers: is_on(value(matches, "answers")),
         image: is_on(value(matches, "image")),
+        json: is_on(value(matches, "json")),
     }
 }
 
@@ -106,7 +109,8 @@ fn command<'a>(alloc: Global) -> Result<Command<'a>, AllocError>
 {
     let command = file_command(alloc)?;
     let command = add(command, flag(alloc, "answers"))?;
-    add(command, flag(alloc, "image"))
+    let command = add(command, flag(alloc, "image"))?;
+    add(command, flag(alloc, "json"))
 }
 
 /// The command with the options that name a file.
