@@ -1,4 +1,5 @@
-//! A line that is put together in a fixed buffer, and put once; the lines of a report, and its rows as JSON.
+//! A line that is put together in a fixed buffer, and put once; the lines of a report, and its rows
+//! as JSON.
 #![tactic(auto)]
 
 mod answer;

@@ -100,11 +100,7 @@ fn put_verdicts(
 }
 
 #[tactic(auto, unfolding(crate::specs::Json::walk_members))]
-fn put_walks(
-    map: &mut Map<String, Value>,
-    alloc: Global,
-    counts: &Counts,
-) -> Result<(), AllocError>
+fn put_walks(map: &mut Map<String, Value>, alloc: Global, counts: &Counts) -> Result<(), AllocError>
     ensures { OnOk result (members_view map.new.entries
         ≡ walk_members counts.now (members_view map.old.entries)) }
 {

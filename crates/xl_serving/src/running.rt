@@ -24,10 +24,10 @@ use xl_script::Script;
 use xl_words::Words;
 
 /// Reads the words, the configuration and the script, opens the rows, serves the script over the
-/// trace, and writes the report to `out`. Where that does not come about, a line on `err` says why. The
-/// words are the program's name and those after it: `--config F [--script F] [--trace F] [--answers]
-/// [--image] [--json]`. All memory is taken before the first event, but for the text of the rows as
-/// JSON.
+/// trace, and writes the report to `out`. Where that does not come about, a line on `err` says why.
+/// The words are the program's name and those after it: `--config F [--script F] [--trace F]
+/// [--answers] [--image] [--json]`. All memory is taken before the first event, but for the text of
+/// the rows as JSON.
 pub fn run<R: Rows, T: Trace + Drop, F: Folder, K: Sink, E: Sink>(
     alloc: Global,
     words: &Vec<String>,
@@ -119,11 +119,13 @@ fn report<R: Rows, T: Trace + Drop, F: Folder, K: Sink>(
     let commands = open(alloc, words, folder, rows)?;
     let mut areas = Areas::open(alloc)?;
     let mut trace = T::open(alloc)?;
-    replay(alloc, rows, &mut areas, &mut trace, words, folder, out, &commands)
+    replay(
+        alloc, rows, &mut areas, &mut trace, words, folder, out, &commands,
+    )
 }
 
-/// Serves the commands over the trace of the words, and writes the end of the report. Where the words name no trace,
-/// it has no records.
+/// Serves the commands over the trace of the words, and writes the end of the report. Where the
+/// words name no trace, it has no records.
 fn replay<R: Rows, T: Trace, F: Folder, K: Sink>(
     alloc: Global,
     rows: &mut R,
@@ -148,15 +150,7 @@ fn replay<R: Rows, T: Trace, F: Folder, K: Sink>(
 {
     match words.trace {
         Some(name) => replay_over(
-            alloc,
-            rows,
-            areas,
-            trace,
-            words,
-            folder,
-            out,
-            name,
-            commands,
+            alloc, rows, areas, trace, words, folder, out, name, commands,
         ),
         None => replay_over(
             alloc,
@@ -172,7 +166,7 @@ fn replay<R: Rows, T: Trace, F: Folder, K: Sink>(
     }
 }
 
-/// Serves the commands over the trace of this name, and writes the rows.
+/// Serves the commands over the trace of this name, and writes the end of the report.
 fn replay_over<R: Rows, T: Trace, F: Folder, K: Sink>(
     alloc: Global,
     rows: &mut R,
@@ -194,7 +188,16 @@ fn replay_over<R: Rows, T: Trace, F: Folder, K: Sink>(
     ensures counts { WriteCounts (is_all_put result) (K.put_faults out.old) (K.put_faults out.new) }
     ensures met { IfErr result StopIsMet }
 {
-    serve(rows, areas, words.answers, out, trace, folder, name, commands)?;
+    serve(
+        rows,
+        areas,
+        words.answers,
+        out,
+        trace,
+        folder,
+        name,
+        commands,
+    )?;
     write_end(alloc, rows, words.json, words.image, out)?;
     Ok(())
 }

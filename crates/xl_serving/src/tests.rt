@@ -2,11 +2,12 @@
 
 ghost use Rattle.std.specs.Prelude.{[]};
 
+use crate::ending::{EndStop, write_end};
 use crate::{Access, Areas, Rows, ServeStop, Status, Tape, Trace, run, serve};
 use std::alloc::{AllocError, Global};
 use std::test::Fail;
 use xl_model::{Area, Event, InputFault, Kind, NoMemory, Row};
-use xl_outside::{Failed, MemFolder, MemSink, Sink};
+use xl_outside::{Failed, MemFolder, MemSink, Sink, put_all};
 use xl_script::parse;
 
 /// No rows, and no memory for one.
@@ -201,5 +202,19 @@ fn the_trace_is_read_until_it_ends_or_is_at_fault(rt: HostRuntime) -> Result<(),
         );
         assert!(rt; end == want);
     }
+    Ok(())
+}
+
+/// Without memory for the JSON what was told stays, and nothing follows it; without JSON none is
+/// wanted.
+#[test]
+fn no_memory_for_json_leaves_what_was_told(rt: HostRuntime) -> Result<(), Fail> {
+    let alloc = rt.alloc();
+    let mut out = MemSink::open(alloc, 100, Vec::new(alloc), 3)?;
+    put_all(&mut out, b"a cmd map ok\n")?;
+    let end = write_end(alloc, &NoRows, true, true, &mut out);
+    assert!(rt; end == Err(EndStop::NoMemory));
+    assert!(rt; write_end(alloc, &NoRows, false, true, &mut out) == Ok(()));
+    assert_eq!(rt; out.bytes(), b"a cmd map ok\n".as_slice());
     Ok(())
 }
