@@ -19,7 +19,10 @@ pub(crate) fn rows_json(rack: &Rack, alloc: Global) -> Result<String, NoMemory>
 {
     let mut objects = Vec::new(alloc);
     for i in 0..rack.len() {
-        push(&mut objects, row_value(alloc, rack.row(i), &rack.counts(i))?)?;
+        push(
+            &mut objects,
+            row_value(alloc, rack.row(i), &rack.counts(i))?,
+        )?;
     }
     text(alloc, objects)
 }

@@ -83,8 +83,13 @@ fn rows_are_written_as_json(rt: HostRuntime) -> Result<(), Fail> {
     counts.hits[0] = 8;
     counts.misses[1] = 12;
     let rows = Vec::from_array(alloc, [row(), row()])?;
-    let text = json(alloc, &rows, &Vec::from_array(alloc, [counts, Counts::none(0)])?)?;
-    let want = "[{\"accepted\":0,\"accesses\":18446744073709551615,\"denied\":0,\"fences\":0,\"fills\":0,\"growths\":0,\"invalidated\":0,\"kicks\":0,\"migrated\":0,\"name\":\"row-1\",\"notcanonical\":0,\"ok\":0,\"pasum\":\"000000000002a064\",\"reads\":0,\"refused\":[0,0,0,0,0,0,0,0,0],\"tlb\":[[8,0],[0,12]],\"undone\":0,\"unmapped\":0,\"walks\":0,\"wchits\":0},{\"accepted\":0,\"accesses\":0,\"denied\":0,\"fences\":0,\"fills\":0,\"growths\":0,\"invalidated\":0,\"kicks\":0,\"migrated\":0,\"name\":\"row-1\",\"notcanonical\":0,\"ok\":0,\"pasum\":\"0000000000000000\",\"reads\":0,\"refused\":[0,0,0,0,0,0,0,0,0],\"tlb\":[],\"undone\":0,\"unmapped\":0,\"walks\":0,\"wchits\":0}]";
+    let text = json(
+        alloc,
+        &rows,
+        &Vec::from_array(alloc, [counts, Counts::none(0)])?,
+    )?;
+    let want =
+        "[{\"accepted\":0,\"accesses\":18446744073709551615,\"denied\":0,\"fences\":0,\"fills\":0,\"growths\":0,\"invalidated\":0,\"kicks\":0,\"migrated\":0,\"name\":\"row-1\",\"notcanonical\":0,\"ok\":0,\"pasum\":\"000000000002a064\",\"reads\":0,\"refused\":[0,0,0,0,0,0,0,0,0],\"tlb\":[[8,0],[0,12]],\"undone\":0,\"unmapped\":0,\"walks\":0,\"wchits\":0},{\"accepted\":0,\"accesses\":0,\"denied\":0,\"fences\":0,\"fills\":0,\"growths\":0,\"invalidated\":0,\"kicks\":0,\"migrated\":0,\"name\":\"row-1\",\"notcanonical\":0,\"ok\":0,\"pasum\":\"0000000000000000\",\"reads\":0,\"refused\":[0,0,0,0,0,0,0,0,0],\"tlb\":[],\"undone\":0,\"unmapped\":0,\"walks\":0,\"wchits\":0}]";
     assert_eq!(rt; text.as_str(), want);
     Ok(())
 }
