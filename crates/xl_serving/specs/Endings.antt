@@ -19,7 +19,7 @@ use Rattle.xl_serving.specs.declared.stop.Stop.{Stop}
 use Rattle.xl_serving.specs.declared.stop.Stop.TheVariants as why
 use Rattle.xl_serving.specs.declared.status.Status.{Status}
 use Rattle.xl_serving.specs.declared.status.Status.TheVariants as status
-use Rattle.xl_serving.specs.Inputs.{rows_in, commands_in, trail_in}
+use Rattle.xl_serving.specs.Inputs.{rows_in, commands_for, trail_for}
 use Rattle.xl_serving.specs.Serving.{scene_of}
 use Rattle.xl_serving.specs.Stops.{is_all_put, status_with}
 use Rattle.xl_serving.specs.Messages.{message_at}
@@ -79,7 +79,7 @@ course_ending a c s = record { ending = followed c s (flags_of a); json = a.json
 abbrev pub asked_ending : (Option (List ℕ) → Trail) → Option Asked → Files → Wanted
 asked_ending trail None files = record { ending = faulted fault.Words (opening_scene []) rows_alone; json = false }
 asked_ending trail (Some a) files = record {
-  ending = ending_by (rows_in a.config files) (commands_in a.script files) (trail_in trail a.trace files) (flags_of a);
+  ending = ending_by (rows_in a.config files) (commands_for a files) (trail_for trail a files) (flags_of a);
   json = a.json;
 }
 

@@ -5,6 +5,7 @@
 mod areas;
 mod batch;
 mod ending;
+mod made;
 mod opening;
 mod rows;
 mod running;

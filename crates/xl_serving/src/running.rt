@@ -6,12 +6,14 @@ ghost use Rattle.xl_outside.specs.Folders.{file_of, FolderAfter, fate_by};
 ghost use Rattle.xl_outside.specs.Sinks.{WriteCounts};
 ghost use Rattle.xl_words.specs.Words.{asked, asked_of};
 ghost use Rattle.xl_serving.specs.Serving.{scene_of};
+ghost use Rattle.xl_serving.specs.Traces.{made_trail};
 ghost use Rattle.xl_serving.specs.Stops.{status_by, status_fate, is_status_put, stop_fate, is_all_put, StopIsMet};
-ghost use Rattle.xl_serving.specs.Inputs.{trail_in};
+ghost use Rattle.xl_serving.specs.Inputs.{trail_in, trail_for};
 ghost use Rattle.xl_serving.specs.Endings.{asked_ending, course_ending, ending, rows_left, text_of, Answers, SaysOfWords, Completes, message_of, message_by, Says, Ends};
 
 use crate::areas::Areas;
 use crate::ending::write_end;
+use crate::made::MadeTape;
 use crate::opening::open;
 use crate::rows::Rows;
 use crate::serving::serve;
@@ -26,8 +28,8 @@ use xl_words::Words;
 /// Reads the words, the configuration and the script, opens the rows, serves the script over the
 /// trace, and writes the report to `out`. Where that does not come about, a line on `err` says why.
 /// The words are the program's name and those after it: `--config F [--script F] [--trace F]
-/// [--answers] [--image] [--json]`. All memory is taken before the first event, but for the text of
-/// the rows as JSON.
+/// [--make N] [--answers] [--image] [--json]`. All memory is taken before the first event, but for
+/// the text of the rows as JSON.
 pub fn run<R: Rows, T: Trace + Drop, F: Folder, K: Sink, E: Sink>(
     alloc: Global,
     words: &Vec<String>,
@@ -124,9 +126,64 @@ fn report<R: Rows, T: Trace + Drop, F: Folder, K: Sink>(
     )
 }
 
-/// Serves the commands over the trace of the words, and writes the end of the report. Where the
-/// words name no trace, it has no records.
+/// Serves the commands over the trace of the words, and writes the end of the report.
 fn replay<R: Rows, T: Trace, F: Folder, K: Sink>(
+    alloc: Global,
+    rows: &mut R,
+    areas: &mut Areas,
+    trace: &mut T,
+    words: &Words<'_>,
+    folder: &mut F,
+    out: &mut K,
+    commands: &Script,
+) -> Result<(), Stop>
+    requires none { areas.old ≡ [] }
+    requires unread { (file : Option (List ℕ)) → T.stands trace.old file
+        × (T.left trace.old file ≡ T.trail file) }
+    ensures told { IfSome (F.files folder.old) (λ fs. Ends result (course_ending (asked_of words.now)
+        (course commands.now (trail_for T.trail (asked_of words.now) fs))
+        (scene_of (R.rows rows.old) []))
+        K.roomy (K.written out.old) (K.written out.new) out.old (R.rows rows.new)) }
+    ensures leaves { FolderAfter F.files F.faults F.absences F.steady folder.old folder.new
+        (fate_by stop_fate result) }
+    ensures counts { WriteCounts (is_all_put result) (K.put_faults out.old) (K.put_faults out.new) }
+    ensures met { IfErr result StopIsMet }
+{
+    match words.made {
+        Some(records) => replay_made(alloc, rows, areas, words, folder, out, records, commands),
+        None => replay_file(alloc, rows, areas, trace, words, folder, out, commands),
+    }
+}
+
+/// Serves the commands over a made trace of so many records, and writes the end of the report.
+fn replay_made<R: Rows, F: Folder, K: Sink>(
+    alloc: Global,
+    rows: &mut R,
+    areas: &mut Areas,
+    words: &Words<'_>,
+    folder: &mut F,
+    out: &mut K,
+    records: u32,
+    commands: &Script,
+) -> Result<(), Stop>
+    requires { areas.old ≡ [] }
+    ensures told { IfSome (F.files folder.old) (λ fs. Ends result (course_ending (asked_of words.now)
+        (course commands.now (made_trail records)) (scene_of (R.rows rows.old) []))
+        K.roomy (K.written out.old) (K.written out.new) out.old (R.rows rows.new)) }
+    ensures leaves { FolderAfter F.files F.faults F.absences F.steady folder.old folder.new
+        (fate_by stop_fate result) }
+    ensures counts { WriteCounts (is_all_put result) (K.put_faults out.old) (K.put_faults out.new) }
+    ensures met { IfErr result StopIsMet }
+{
+    let mut trace = MadeTape::of(alloc, records)?;
+    replay_over(
+        alloc, rows, areas, &mut trace, words, folder, out, "", commands,
+    )
+}
+
+/// Serves the commands over the trace that the words name, and writes the end of the report. Where
+/// they name none, it has no records.
+fn replay_file<R: Rows, T: Trace, F: Folder, K: Sink>(
     alloc: Global,
     rows: &mut R,
     areas: &mut Areas,
