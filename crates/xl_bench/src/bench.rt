@@ -16,9 +16,9 @@ use xl_serving::{Status, Tape};
 /// Reads the words, the configuration and the script, opens the rows in the rack, serves the script
 /// over the trace, and writes the report to `out`. Where that does not come about, a line on `err`
 /// says why. The words are the program's name and those after it: `--config F [--script F]
-/// [--trace F] [--answers] [--image] [--json]`. All memory is taken before the first event, but for
-/// the text of the rows as JSON. At status Ok the rack holds the configuration's rows, each as the
-/// run leaves it.
+/// [--trace F] [--make N] [--answers] [--image] [--json]`. All memory is taken before the first
+/// event, but for the text of the rows as JSON. At status Ok the rack holds the configuration's rows,
+/// each as the run leaves it.
 pub fn run<F: Folder, K: Sink, E: Sink>(
     alloc: Global,
     words: &Vec<String>,

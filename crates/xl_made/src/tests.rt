@@ -16,14 +16,20 @@ fn the_first_records_are_made_in_pieces(rt: HostRuntime) -> Result<(), Fail> {
         }
         text.extend_from_slice(&piece[..count])?;
     }
-    assert_eq!(rt; text.as_slice(), b" M 100165c0,8\nI  10001478,4\n".as_slice());
+    assert_eq!(rt;
+        text.as_slice(),
+        b" M 100165c0,8\nI  10001478,4\n".as_slice()
+    );
     Ok(())
 }
 
 #[test]
 fn a_script_has_two_lines_for_64_records(rt: HostRuntime) -> Result<(), Fail> {
     let script = made_script(rt.alloc(), 63)?;
-    assert_eq!(rt; script.as_slice(), b"demand 0 10000000 4096 4k rwxu\n".as_slice());
+    assert_eq!(rt;
+        script.as_slice(),
+        b"demand 0 10000000 4096 4k rwxu\n".as_slice()
+    );
     let script = made_script(rt.alloc(), 128)?;
     assert_eq!(rt; script.len(), 31 + 2 * 27);
     Ok(())

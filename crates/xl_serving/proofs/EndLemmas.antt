@@ -1,13 +1,15 @@
 -- What the steps of a run say of its ending.
 use Rattle.std.proofs.Common.{◌≡◌, ℕ, ◌+◌, ◌≤◌, Bool, true, false, List, [], ◌∷◌, ◌++◌, length, refl, ap, sym, ◌∙◌, subst, inr, arith, length-append}
-use Rattle.std.specs.Prelude.{Option, None, Some, Result, Ok, Err}
+use Rattle.std.specs.Prelude.{Option, None, Some, option_map, IfSome, Result, Ok, Err}
 use Rattle.xl_model.specs.declared.fault.InputFault.{InputFault}
+use Rattle.xl_model.specs.declared.fault.InputFault.TheVariants as fault
 use Rattle.xl_model.specs.declared.script.Item.{Item}
 use Rattle.xl_model.specs.Scenes.{Served, Scene, Live, scenes_after, told_by, untold}
 use Rattle.xl_model.specs.Courses.{Course, ended, before}
 use Rattle.xl_model.specs.Report.{Flags, images_where, tail}
 use Rattle.xl_model.specs.Endings.{followed, live_of}
 use Rattle.xl_model_lemmas.proofs.SceneLemmas.{scene-is}
+use Rattle.xl_outside.specs.Folders.{Files}
 use Rattle.xl_outside.specs.Sinks.{with_more, WroteFront, SinkAfter}
 use Rattle.xl_outside.proofs.SinkLemmas.{front_of_more, sink_then, sink_cut}
 use Rattle.xl_serving.specs.declared.ending.EndStop.{EndStop}
@@ -17,11 +19,12 @@ use Rattle.xl_serving.specs.declared.serving.ServeStop.TheVariants as serve
 use Rattle.xl_serving.specs.declared.stop.Stop.{Stop}
 use Rattle.xl_serving.specs.declared.stop.Stop.TheVariants as why
 use Rattle.xl_serving.specs.Serving.{Reached, Serves}
-use Rattle.xl_serving.specs.Stops.{of_words_fault, of_serve_stop, of_end_stop, status_at}
+use Rattle.xl_serving.specs.Stops.{of_words_fault, of_serve_stop, of_end_stop, status_at, status_by}
+use Rattle.xl_serving.specs.Messages.{message_at}
 use Rattle.xl_words.specs.declared.words.WordsFault.{WordsFault}
 use Rattle.xl_words.specs.declared.words.WordsFault.TheVariants as words
 use Rattle.xl_words.specs.Words.{Asked, Asks}
-use Rattle.xl_serving.specs.Endings.{SaysOfWords, course_ending, flags_of, end_text, text_of, text_with, EndAfter, Ends}
+use Rattle.xl_serving.specs.Endings.{SaysOfWords, course_ending, flags_of, end_text, text_of, text_with, EndAfter, Ends, EndsAs, EndsWith, Wanted, ending_message, message_by, message_of}
 
 items_none : (xs : List Item) → xs ++ [] ≡ xs
 items_none [] = refl
@@ -130,3 +133,28 @@ pub end_cut : {K : Type 0} (written : K → Option (List ℕ)) (faults : K → �
     → EndAfter written faults roomy json xs a b (Err stop) → EndAfter written faults roomy json (xs ++ ys) a b (Err stop)
 end_cut written faults roomy json xs ys a b end.WriteFault x = sink_cut written faults roomy xs ys a b x
 end_cut written faults roomy json xs ys a b end.NoMemory x = x
+
+-- the line for the end of a run is that of its status, where the files tell what the fault is
+module _ (P : List ℕ → Type 0) (fs : Option Files) (e : Files → Wanted) where
+  ending_says : (f : InputFault) (b a : Option (List ℕ)) → IfSome fs (λ file. EndsWith (Some f) (e file) b a) → P (message_at (why.Input f))
+      → IfSome (option_map (λ (w : Wanted). ending_message w.ending.fault) (option_map e fs)) P
+  ending_says f b a told says = if_some fs told
+    where
+      if_some : (gs : Option Files) → IfSome gs (λ file. EndsWith (Some f) (e file) b a) → IfSome (option_map (λ (w : Wanted). ending_message w.ending.fault) (option_map e gs)) P
+      if_some None told = tt
+      if_some (Some file) told = subst (λ (x : Option InputFault). P (ending_message x)) (sym told.0) says
+
+  pub run_says : (end : Result (Unit {0}) Stop) (b a : Option (List ℕ)) → IfSome fs (λ file. EndsAs end (e file) b a) → P (message_by end) → IfSome (message_of (status_by end) (option_map e fs)) P
+  run_says (Ok u) b a told says = says
+  run_says (Err why.ReadFault) b a told says = says
+  run_says (Err why.WriteFault) b a told says = says
+  run_says (Err why.NoMemory) b a told says = says
+  run_says (Err (why.Input fault.Words)) b a told says = says
+  run_says (Err (why.Input fault.NoFile)) b a told says = says
+  run_says (Err (why.Input fault.ConfigTooLong)) b a told says = ending_says fault.ConfigTooLong b a told says
+  run_says (Err (why.Input fault.ConfigNotToml)) b a told says = ending_says fault.ConfigNotToml b a told says
+  run_says (Err (why.Input (fault.ConfigKey row key rule))) b a told says = ending_says (fault.ConfigKey row key rule) b a told says
+  run_says (Err (why.Input fault.ScriptTooLong)) b a told says = ending_says fault.ScriptTooLong b a told says
+  run_says (Err (why.Input (fault.ScriptLine line reason))) b a told says = ending_says (fault.ScriptLine line reason) b a told says
+  run_says (Err (why.Input fault.TraceTooLong)) b a told says = ending_says fault.TraceTooLong b a told says
+  run_says (Err (why.Input (fault.TraceLine line reason))) b a told says = ending_says (fault.TraceLine line reason) b a told says

@@ -3,6 +3,7 @@
 ghost use Rattle.std.specs.Prelude.{[]};
 
 use crate::ending::{EndStop, write_end};
+use crate::made::MadeTape;
 use crate::{Access, Areas, Rows, ServeStop, Status, Tape, Trace, run, serve};
 use std::alloc::{AllocError, Global};
 use std::test::Fail;
@@ -216,5 +217,18 @@ fn no_memory_for_json_leaves_what_was_told(rt: HostRuntime) -> Result<(), Fail> 
     assert!(rt; end == Err(EndStop::NoMemory));
     assert!(rt; write_end(alloc, &NoRows, false, true, &mut out) == Ok(()));
     assert_eq!(rt; out.bytes(), b"a cmd map ok\n".as_slice());
+    Ok(())
+}
+
+#[test]
+fn a_made_trace_has_its_records(rt: HostRuntime) -> Result<(), Fail> {
+    let alloc = rt.alloc();
+    let mut files = folder(alloc, &[], 0)?;
+    let mut tape = MadeTape::of(alloc, 300)?;
+    for number in 1..=300u64 {
+        let next = tape.next(&mut files, "");
+        assert!(rt; matches!(next, Ok(Some(record)) if record.number == number));
+    }
+    assert!(rt; matches!(tape.next(&mut files, ""), Ok(None)));
     Ok(())
 }

@@ -1,4 +1,4 @@
-//! The words of the command line: `--config F [--script F] [--trace F] [--answers]
+//! The words of the command line: `--config F [--script F] [--trace F] [--make N] [--answers]
 //! [--image] [--json]`.
 #![tactic(auto)]
 
