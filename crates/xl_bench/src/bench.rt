@@ -1,11 +1,10 @@
 //! A run of the rows of a rack.
 
 ghost use Rattle.std.specs.Prelude.{◌≡◌, [], IfSome, length, map, option_map, string_bytes};
-ghost use Rattle.xl_model.specs.Endings.{live_of, text_of};
 ghost use Rattle.xl_outside.specs.Folders.{FolderAfter};
 ghost use Rattle.xl_outside.specs.Sinks.{WriteCounts};
 ghost use Rattle.xl_words.specs.Words.{asked};
-ghost use Rattle.xl_serving.specs.Endings.{ending, Answers, SaysOfWords, Completes, message_of, Says};
+ghost use Rattle.xl_serving.specs.Endings.{ending, rows_left, text_of, Answers, SaysOfWords, Completes, message_of, Says};
 ghost use Rattle.xl_serving.specs.Stops.{status_fate, is_status_put};
 ghost use Rattle.xl_serving.specs.Traces.{trail_of};
 
@@ -17,8 +16,9 @@ use xl_serving::{Status, Tape};
 /// Reads the words, the configuration and the script, opens the rows in the rack, serves the script
 /// over the trace, and writes the report to `out`. Where that does not come about, a line on `err`
 /// says why. The words are the program's name and those after it: `--config F [--script F]
-/// [--trace F] [--answers] [--image]`. All memory is taken before the first event. At status Ok the rack holds
-/// the configuration's rows, each as the run leaves it.
+/// [--trace F] [--make N] [--answers] [--image] [--json]`. All memory is taken before the first
+/// event, but for the text of the rows as JSON. At status Ok the rack holds the configuration's rows,
+/// each as the run leaves it.
 pub fn run<F: Folder, K: Sink, E: Sink>(
     alloc: Global,
     words: &Vec<String>,
@@ -33,7 +33,7 @@ pub fn run<F: Folder, K: Sink, E: Sink>(
         (K.written out.old) (K.written out.new)) }
     ensures served { IfSome (F.files folder.old) (λ fs. result ≡ Status.Ok
         → rack.new ≡
-        (live_of (ending trail_of (map string_bytes words.now.items) fs)).scene.rows) }
+        rows_left (ending trail_of (map string_bytes words.now.items) fs)) }
     ensures usage { SaysOfWords result (asked (map string_bytes words.now.items)) }
     ensures leaves { FolderAfter F.files F.faults F.absences F.steady folder.old folder.new
         (status_fate result) }

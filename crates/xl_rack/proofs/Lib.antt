@@ -2,6 +2,7 @@ mod BatchLemmas
 mod DemandLemmas
 mod ImageLemmas
 mod LineLemmas
+mod ObjectLemmas
 mod PlaceLemmas
 mod RowsLemmas
 mod ServedAtLemmas

@@ -53,7 +53,7 @@ the-row [] i h = absurd (omega arith)
 the-row (r ∷ rows) zero h = (r, refl)
 the-row (r ∷ rows) (suc i) h = the-row rows i (omega arith)
 
-take_next : (rows : List Served) (i : ℕ) (v : Served) → slice_get rows i ≡ Some v → take (i + 1) rows ≡ take i rows ++ v ∷ []
+pub take_next : (rows : List Served) (i : ℕ) (v : Served) → slice_get rows i ≡ Some v → take (i + 1) rows ≡ take i rows ++ v ∷ []
 take_next rows i v h = (let e : i + 1 ≡ suc i = omega arith in ap (λ (j : ℕ). take j rows) e) ∙ one rows i h
   where
     one : (rows : List Served) (i : ℕ) → slice_get rows i ≡ Some v → take (suc i) rows ≡ take i rows ++ v ∷ []

@@ -7,6 +7,7 @@ mod batch;
 mod demand;
 mod held;
 mod image;
+mod object;
 mod rack;
 mod rows;
 mod slot;

@@ -10,6 +10,7 @@ ghost use Rattle.xl_rack.specs.Served.{ServedAt};
 
 use crate::demand::{serve_access, serve_command};
 use crate::image::write_images;
+use crate::object::rows_json;
 use crate::rack::Rack;
 use std::alloc::Global;
 use xl_lackey::Access;
@@ -123,6 +124,10 @@ impl Rows for Rack {
 
     fn write_rows<K: Sink>(&self, out: &mut K) -> Result<(), Failed> {
         write_rows(self, out)
+    }
+
+    fn json(&self, alloc: Global) -> Result<String, NoMemory> {
+        rows_json(self, alloc)
     }
 
     fn write_images<K: Sink>(&self, out: &mut K) -> Result<(), Failed> {

@@ -83,7 +83,7 @@ fn put(buffer: &mut [u8], at: usize, bytes: &[u8])
 }
 
 /// The 16 hexadecimal digits of a number, in lower case.
-fn hex_text(n: u64) -> [u8; 16]
+pub(crate) fn hex_text(n: u64) -> [u8; 16]
     ensures { result ≡ hex_digits 16 n }
 {
     let mut text = [0; 16];

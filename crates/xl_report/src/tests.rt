@@ -1,6 +1,6 @@
 //! Lines whose texts were worked out by hand.
 
-use crate::{write_answer, write_command, write_image, write_row};
+use crate::{json, write_answer, write_command, write_image, write_row};
 use arrayvec::{ArrayString, ArrayVec};
 use std::test::Fail;
 use xl_model::{Counts, Event, Kind, Mode, Outcome, Purge, Refusal, Reply, Row, Scope, Table};
@@ -70,5 +70,26 @@ row-1 cmd space refused 7
 image row-1 1 511 0000000000002c41
 ";
     assert_eq!(rt; out.bytes(), want.as_slice());
+    Ok(())
+}
+
+#[tactic(auto, unfolding(xl_model::specs::Tally::no_counts))]
+#[test]
+fn rows_are_written_as_json(rt: HostRuntime) -> Result<(), Fail> {
+    let alloc = rt.alloc();
+    let mut counts = Counts::none(2);
+    counts.accesses = u64::MAX;
+    counts.pasum = 0x2a064;
+    counts.hits[0] = 8;
+    counts.misses[1] = 12;
+    let rows = Vec::from_array(alloc, [row(), row()])?;
+    let text = json(
+        alloc,
+        &rows,
+        &Vec::from_array(alloc, [counts, Counts::none(0)])?,
+    )?;
+    let want =
+        "[{\"accepted\":0,\"accesses\":18446744073709551615,\"denied\":0,\"fences\":0,\"fills\":0,\"growths\":0,\"invalidated\":0,\"kicks\":0,\"migrated\":0,\"name\":\"row-1\",\"notcanonical\":0,\"ok\":0,\"pasum\":\"000000000002a064\",\"reads\":0,\"refused\":[0,0,0,0,0,0,0,0,0],\"tlb\":[[8,0],[0,12]],\"undone\":0,\"unmapped\":0,\"walks\":0,\"wchits\":0},{\"accepted\":0,\"accesses\":0,\"denied\":0,\"fences\":0,\"fills\":0,\"growths\":0,\"invalidated\":0,\"kicks\":0,\"migrated\":0,\"name\":\"row-1\",\"notcanonical\":0,\"ok\":0,\"pasum\":\"0000000000000000\",\"reads\":0,\"refused\":[0,0,0,0,0,0,0,0,0],\"tlb\":[],\"undone\":0,\"unmapped\":0,\"walks\":0,\"wchits\":0}]";
+    assert_eq!(rt; text.as_str(), want);
     Ok(())
 }

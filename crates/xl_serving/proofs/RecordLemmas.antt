@@ -41,7 +41,7 @@ numbered_on n (r ∷ rs) later h =
 abbrev pub with_numbered : ℕ → List Record → Trail → Trail
 with_numbered n rs t = record t { records = numbered n rs ++ t.records }
 
-trail_on : (n : ℕ) (rs : List Record) (later : Left) (end : Option InputFault) → n < 2 ^ 64
+pub trail_on : (n : ℕ) (rs : List Record) (later : Left) (end : Option InputFault) → n < 2 ^ 64
     → trail n (with_records rs later) end ≡ with_numbered n rs (trail ((n + length rs) % 2 ^ 64) later end)
 trail_on n rs later end h =
     ap (λ (xs : List Accesses). record { records = xs; fault = fault_of later.1 end }) (numbered_on n rs later.0 h)

@@ -12,14 +12,14 @@ use Rattle.xl_lackey.specs.declared.skim.Access.{Access}
 use Rattle.xl_lackey.specs.Skims.{alone, accesses_in as record_accesses, Taken, Skimmed, with_records}
 use Rattle.xl_lackey.specs.Stream.{Record, Left, left}
 use Rattle.xl_serving.specs.Skims.{accesses_in, Skims}
-use Rattle.xl_serving.specs.Tapes.{IsUnfed, IsWithin, IsFedFrom}
-use Rattle.xl_serving.specs.Traces.{Progress, left_of, numbered, next_number}
+use Rattle.xl_serving.specs.Tapes.{IsUnfed, IsWithin, IsFedFrom, IsMadeWhole}
+use Rattle.xl_serving.specs.Traces.{Progress, MadeProgress, left_of, made_left, trail, numbered, next_number}
 use Rattle.xl_serving.specs.Batches.{item_of, waited, IsIdle}
 use Rattle.xl_serving.specs.Serving.{HasServed}
 use Rattle.xl_serving.proofs.BatchLemmas.{any-number, served-untold}
 use Rattle.xl_serving.proofs.ServedLemmas.{served_none}
 use Rattle.xl_serving.proofs.CourseLemmas.{Underway, items_of, left_by, before-before, reached_on}
-use Rattle.xl_serving.proofs.RecordLemmas.{gives_all, same_within}
+use Rattle.xl_serving.proofs.RecordLemmas.{gives_all, same_within, trail_on, with_numbered}
 
 -- numbers change no access
 each-numbered : (n : ℕ) (rs : List Record) → map accesses_in (numbered n rs) ≡ map record_accesses rs
@@ -76,6 +76,25 @@ pub skims-file : (file : Option (List ℕ)) (old new : Progress) (before after :
     → Skims (IsFedFrom file new) (left_of file old) (left_of file new) before after
 skims-file None old new before after below k a m h = skims-unfed old new before after k a h
 skims-file (Some file) old new before after below k a m h = skims-fed file old new before after below k a m h
+
+-- what the reader of a made trace skims
+pub skims-made : (old new : MadeProgress) (before after : List Access) → old.number < 2 ^ 64 → Skimmed old.reader new.reader before after → new.rest ≡ old.rest
+    → new.number ≡ (old.number + (length after - length before)) % 2 ^ 64 → IsMadeWhole old → Skims (IsMadeWhole new) (made_left old) (made_left new) before after
+skims-made old new before after below k r m whole =
+    let rs : List Record = k.of.taken in
+    let number : new.number ≡ (old.number + length rs) % 2 ^ 64 = m ∙ ap (λ (n : ℕ). (old.number + n) % 2 ^ 64) (as-many before after k.of) in
+    record {
+      stands_still = λ h. r ∙ whole (sym k.finished ∙ h);
+      taken = numbered old.number rs;
+      got = k.of.got;
+      split =
+          ap (λ (l : Left). trail old.number l None) (k.reads true old.rest whole)
+          ∙ trail_on old.number rs (left new.reader old.rest) None below
+          ∙ ap (λ (xs : List ℕ). with_numbered old.number rs (trail ((old.number + length rs) % 2 ^ 64) (left new.reader xs) None)) (sym r)
+          ∙ ap (λ (n : ℕ). with_numbered old.number rs (trail n (left new.reader new.rest) None)) (sym number);
+      follow = k.of.follow;
+      each = each-numbered old.number rs ∙ k.of.each;
+    }
 
 pub skims-none : (stands : Type 0) (t : Trail) (xs : List Access) → stands → Skims stands t t xs xs
 skims-none stands t xs h = record { stands_still = h; taken = []; got = []; split = refl; follow = sym (append-nil xs); each = refl }

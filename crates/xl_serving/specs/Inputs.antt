@@ -8,10 +8,13 @@ use Rattle.xl_model.specs.Courses.{Trail, at_end}
 use Rattle.xl_config.specs.declared.fault.ConfigFault.{ConfigFault}
 use Rattle.xl_config.specs.declared.fault.ConfigFault.TheVariants as config
 use Rattle.xl_config.specs.Config.{config}
+use Rattle.xl_made.specs.Made.{made_script}
 use Rattle.xl_outside.specs.Folders.{Files, file_of}
 use Rattle.xl_script.specs.declared.fault.ScriptFault.{ScriptFault}
 use Rattle.xl_script.specs.declared.fault.ScriptFault.TheVariants as script
 use Rattle.xl_script.specs.Plain.{script_of}
+use Rattle.xl_words.specs.Words.{Asked}
+use Rattle.xl_serving.specs.Traces.{made_trail}
 use Rattle.xl_serving.specs.declared.stop.Stop.{Stop}
 use Rattle.xl_serving.specs.declared.stop.Stop.TheVariants as why
 
@@ -60,6 +63,24 @@ commands_in (Some name) files = said_in commands_said (file_of files name)
 abbrev pub trail_in : (Option (List ℕ) → Trail) → Option (List ℕ) → Files → Trail
 trail_in trail None files = at_end None
 trail_in trail (Some name) files = trail (file_of files name)
+
+-- The commands of a made script of so many records, or of the script of this name.
+abbrev pub commands_by : Option ℕ → Option (List ℕ) → Files → Result (List Command) InputFault
+commands_by None name files = commands_in name files
+commands_by (Some n) name files = commands_said (made_script n)
+
+-- The records of a made trace of so many, or of the trace of this name.
+abbrev pub trail_by : (Option (List ℕ) → Trail) → Option ℕ → Option (List ℕ) → Files → Trail
+trail_by trail None name files = trail_in trail name files
+trail_by trail (Some n) name files = made_trail n
+
+-- The commands that are asked for.
+abbrev pub commands_for : Asked → Files → Result (List Command) InputFault
+commands_for a files = commands_by a.made a.script files
+
+-- The records that are asked for.
+abbrev pub trail_for : (Option (List ℕ) → Trail) → Asked → Files → Trail
+trail_for trail a files = trail_by trail a.made a.trace files
 
 -- What a reading answers, by what is said: that, or its fault. It says nothing of it where a read failed or there was
 -- no memory.

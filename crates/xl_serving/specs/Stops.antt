@@ -11,6 +11,8 @@ use Rattle.xl_outside.specs.declared.whole.ReadStop.TheVariants as read
 use Rattle.xl_outside.specs.Folders.{ReadFate, Fine, ReadFailed, FileMissing}
 use Rattle.xl_script.specs.declared.fault.ScriptFault.{ScriptFault}
 use Rattle.xl_script.specs.declared.fault.ScriptFault.TheVariants as script
+use Rattle.xl_serving.specs.declared.ending.EndStop.{EndStop}
+use Rattle.xl_serving.specs.declared.ending.EndStop.TheVariants as end
 use Rattle.xl_serving.specs.declared.serving.ServeStop.{ServeStop}
 use Rattle.xl_serving.specs.declared.serving.ServeStop.TheVariants as serve
 use Rattle.xl_serving.specs.declared.status.Status.{Status}
@@ -78,10 +80,10 @@ of_serve_stop (serve.Input fault) = why.Input fault
 of_serve_stop serve.ReadFault = why.ReadFault
 of_serve_stop serve.WriteFault = why.WriteFault
 
--- How a run ends whose serving ends so.
-abbrev pub as_stop : {A : Type 0} → Result A ServeStop → Result A Stop
-as_stop (Ok a) = Ok a
-as_stop (Err stop) = Err (of_serve_stop stop)
+-- Why a run stops whose report isn't written to its end.
+abbrev pub of_end_stop : EndStop → Stop
+of_end_stop end.WriteFault = why.WriteFault
+of_end_stop end.NoMemory = why.NoMemory
 
 -- What a status tells of the folder.
 abbrev pub status_fate : Status → ReadFate

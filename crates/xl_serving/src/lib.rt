@@ -4,6 +4,8 @@
 
 mod areas;
 mod batch;
+mod ending;
+mod made;
 mod opening;
 mod rows;
 mod running;

@@ -3,15 +3,17 @@
 ghost use Rattle.std.specs.Prelude.{◌≡◌, ◌≤◌, [], None, All, IfOk, IfErr, OnOk, IfSome, length, map, option_map};
 ghost use Rattle.xl_model.specs.Rows.{row_of, IsRow};
 ghost use Rattle.xl_model.specs.Scenes.{opened};
+ghost use Rattle.xl_made.specs.Made.{made_script};
 ghost use Rattle.xl_outside.specs.Folders.{file_of, FolderAfter, fate_by, Fine};
 ghost use Rattle.xl_words.specs.Words.{asked_of};
 ghost use Rattle.xl_serving.specs.Stops.{stop_fate, IsBefore};
-ghost use Rattle.xl_serving.specs.Inputs.{Finds, said_in, rows_said, commands_said, rows_in, commands_in};
+ghost use Rattle.xl_serving.specs.Inputs.{Finds, said_in, rows_said, commands_said, rows_in, commands_in, commands_for};
 ghost use Rattle.xl_serving.specs.Endings.{ending_by, Opens};
 
 use crate::rows::Rows;
 use crate::stop::Stop;
 use std::alloc::Global;
+use xl_made::made_script;
 use xl_model::{NoMemory, Row};
 use xl_outside::{Folder, read_whole};
 use xl_script::{Script, parse};
@@ -33,13 +35,13 @@ pub(crate) fn open<R: Rows, F: Folder>(
     requires { R.rows rows.old ≡ [] }
     ensures told { IfSome (F.files folder.old) (λ fs. Opens result
         (ending_by (rows_in (asked_of words.now).config fs)
-        (commands_in (asked_of words.now).script fs)) (R.rows rows.new)) }
+        (commands_for (asked_of words.now) fs)) (R.rows rows.new)) }
     ensures leaves { FolderAfter F.files F.faults F.absences F.steady folder.old folder.new
         (fate_by stop_fate result) }
     ensures before { IfErr result IsBefore }
 {
     let designs = read_config(alloc, folder, words.config)?;
-    let script = read_script(alloc, folder, words.script)?;
+    let script = script_for(alloc, folder, words)?;
     add_all(alloc, rows, designs)?;
     Ok(script)
 }
@@ -81,6 +83,30 @@ fn rows_of(alloc: Global, text: &[u8]) -> Result<Vec<Row>, Stop>
 {
     let rows = xl_config::read(alloc, text)?;
     Ok(rows)
+}
+
+/// Makes the script or reads it, as the words ask for.
+fn script_for<F: Folder>(alloc: Global, folder: &mut F, words: &Words<'_>) -> Result<Script, Stop>
+    ensures told { IfSome (F.files folder.old) (λ fs.
+        Finds (λ script. script) result (commands_for (asked_of words.now) fs)) }
+    ensures leaves { FolderAfter F.files F.faults F.absences F.steady folder.old folder.new
+        (fate_by stop_fate result) }
+    ensures before { IfErr result IsBefore }
+{
+    match words.made {
+        Some(records) => made_commands(alloc, records),
+        None => read_script(alloc, folder, words.script),
+    }
+}
+
+/// The commands of a made script.
+fn made_commands(alloc: Global, records: u32) -> Result<Script, Stop>
+    ensures said { Finds (λ script. script) result (commands_said (made_script records)) }
+    ensures before { IfErr result IsBefore }
+    ensures fine { fate_by stop_fate result ≡ Fine }
+{
+    let text = made_script(alloc, records)?;
+    commands_of(alloc, text.as_slice())
 }
 
 /// Reads the script of this name; where there is none, the script has no commands.

@@ -1,11 +1,12 @@
 //! What a script is served to.
 
-ghost use Rattle.std.specs.Prelude.{◌≡◌, ◌<◌, ◌++◌, List, [], ◌∷◌, length, is_ok, OnOk, OnErr};
+ghost use Rattle.std.specs.Prelude.{◌≡◌, ◌<◌, ◌++◌, List, [], ◌∷◌, length, string_bytes, is_ok, IfOk, OnOk, OnErr};
 ghost use Rattle.xl_model.specs.declared.script.Item.TheVariants.{Command, Referenced};
 ghost use Rattle.xl_model.specs.Rows.{row_of, IsRow};
 ghost use Rattle.xl_model.specs.Scenes.{Served, opened};
 ghost use Rattle.xl_model.specs.Report.{row_lines, images_lines};
 ghost use Rattle.xl_outside.specs.Sinks.{SinkAfter};
+ghost use Rattle.xl_report.specs.Json.{row_objects, text_of};
 ghost use Rattle.xl_serving.specs.Serving.{HasServed, scene_of};
 ghost use Rattle.xl_serving.specs.Batches.{waited};
 
@@ -63,6 +64,12 @@ pub trait Rows: Sized {
     fn write_rows<K: Sink>(&self, out: &mut K) -> Result<(), Failed>
         ensures { SinkAfter K.written K.put_faults K.roomy (row_lines (rows self.now))
             out.old out.new (is_ok result) };
+
+    /// The rows as the text of a JSON array, with an object for each row. Where there is no memory,
+    /// the answer may be that.
+    fn json(&self, alloc: Global) -> Result<String, NoMemory>
+        ensures { IfOk result (λ text.
+            string_bytes text ≡ text_of (row_objects (rows self.now))) };
 
     /// Writes the words of each radix table that are not 0, row by row.
     fn write_images<K: Sink>(&self, out: &mut K) -> Result<(), Failed>

@@ -1,33 +1,35 @@
 //! A run: the report of the rows of a configuration over a script and a trace.
 
-ghost use Rattle.std.specs.Prelude.{◌≡◌, ◌++◌, ℕ, List, [], Option, Some, IfErr, IfSome, is_ok, length, map, option_map, string_bytes};
+ghost use Rattle.std.specs.Prelude.{◌≡◌, ℕ, List, [], Option, Some, IfErr, IfSome, length, map, option_map, string_bytes};
 ghost use Rattle.xl_model.specs.Courses.{course};
-ghost use Rattle.xl_model.specs.Endings.{followed, live_of, text_of};
-ghost use Rattle.xl_model.specs.Report.{row_lines, images_where};
 ghost use Rattle.xl_outside.specs.Folders.{file_of, FolderAfter, fate_by};
-ghost use Rattle.xl_outside.specs.Sinks.{SinkAfter, WriteCounts};
+ghost use Rattle.xl_outside.specs.Sinks.{WriteCounts};
 ghost use Rattle.xl_words.specs.Words.{asked, asked_of};
-ghost use Rattle.xl_serving.specs.Serving.{scene_of, serve_stop_fate, is_written, ServingIsMet};
-ghost use Rattle.xl_serving.specs.Stops.{as_stop, status_by, status_fate, is_status_put, stop_fate, is_all_put, StopIsMet};
-ghost use Rattle.xl_serving.specs.Inputs.{trail_in};
-ghost use Rattle.xl_serving.specs.Endings.{asked_ending, ending, flags_of, Answers, SaysOfWords, Completes, message_of, message_by, Says, Ends};
+ghost use Rattle.xl_serving.specs.Serving.{scene_of};
+ghost use Rattle.xl_serving.specs.Traces.{made_trail};
+ghost use Rattle.xl_serving.specs.Stops.{status_by, status_fate, is_status_put, stop_fate, is_all_put, StopIsMet};
+ghost use Rattle.xl_serving.specs.Inputs.{trail_in, trail_for};
+ghost use Rattle.xl_serving.specs.Endings.{asked_ending, course_ending, ending, rows_left, text_of, Answers, SaysOfWords, Completes, message_of, message_by, Says, Ends};
 
 use crate::areas::Areas;
+use crate::ending::write_end;
+use crate::made::MadeTape;
 use crate::opening::open;
 use crate::rows::Rows;
-use crate::serving::{ServeStop, serve};
+use crate::serving::serve;
 use crate::status::Status;
 use crate::stop::Stop;
 use crate::trace::{NoTrace, Trace};
 use std::alloc::Global;
-use xl_outside::{Failed, Folder, Sink, put_all};
+use xl_outside::{Folder, Sink, put_all};
 use xl_script::Script;
 use xl_words::Words;
 
 /// Reads the words, the configuration and the script, opens the rows, serves the script over the
-/// trace, and writes the report to `out`. Where that does not come about, a line on `err` says why. The
-/// words are the program's name and those after it: `--config F [--script F] [--trace F] [--answers]
-/// [--image]`. All memory is taken before the first event.
+/// trace, and writes the report to `out`. Where that does not come about, a line on `err` says why.
+/// The words are the program's name and those after it: `--config F [--script F] [--trace F]
+/// [--make N] [--answers] [--image] [--json]`. All memory is taken before the first event, but for
+/// the text of the rows as JSON.
 pub fn run<R: Rows, T: Trace + Drop, F: Folder, K: Sink, E: Sink>(
     alloc: Global,
     words: &Vec<String>,
@@ -41,7 +43,7 @@ pub fn run<R: Rows, T: Trace + Drop, F: Folder, K: Sink, E: Sink>(
         (ending T.trail (map string_bytes words.now.items) fs)
         (K.written out.old) (K.written out.new)) }
     ensures served { IfSome (F.files folder.old) (λ fs. result ≡ Status.Ok → R.rows rows.new
-        ≡ (live_of (ending T.trail (map string_bytes words.now.items) fs)).scene.rows) }
+        ≡ rows_left (ending T.trail (map string_bytes words.now.items) fs)) }
     ensures usage { SaysOfWords result (asked (map string_bytes words.now.items)) }
     ensures leaves { FolderAfter F.files F.faults F.absences F.steady folder.old folder.new
         (status_fate result) }
@@ -119,13 +121,14 @@ fn report<R: Rows, T: Trace + Drop, F: Folder, K: Sink>(
     let commands = open(alloc, words, folder, rows)?;
     let mut areas = Areas::open(alloc)?;
     let mut trace = T::open(alloc)?;
-    let end = replay(rows, &mut areas, &mut trace, words, folder, out, &commands);
-    Ok(end?)
+    replay(
+        alloc, rows, &mut areas, &mut trace, words, folder, out, &commands,
+    )
 }
 
-/// Serves the commands over the trace of the words, and writes the rows. Where the words name no trace,
-/// it has no records.
+/// Serves the commands over the trace of the words, and writes the end of the report.
 fn replay<R: Rows, T: Trace, F: Folder, K: Sink>(
+    alloc: Global,
     rows: &mut R,
     areas: &mut Areas,
     trace: &mut T,
@@ -133,27 +136,96 @@ fn replay<R: Rows, T: Trace, F: Folder, K: Sink>(
     folder: &mut F,
     out: &mut K,
     commands: &Script,
-) -> Result<(), ServeStop>
+) -> Result<(), Stop>
     requires none { areas.old ≡ [] }
     requires unread { (file : Option (List ℕ)) → T.stands trace.old file
         × (T.left trace.old file ≡ T.trail file) }
-    ensures told { IfSome (F.files folder.old) (λ fs. Ends (as_stop result)
-        (followed (course commands.now (trail_in T.trail (asked_of words.now).trace fs))
-        (scene_of (R.rows rows.old) []) (flags_of (asked_of words.now)))
+    ensures told { IfSome (F.files folder.old) (λ fs. Ends result (course_ending (asked_of words.now)
+        (course commands.now (trail_for T.trail (asked_of words.now) fs))
+        (scene_of (R.rows rows.old) []))
         K.roomy (K.written out.old) (K.written out.new) out.old (R.rows rows.new)) }
     ensures leaves { FolderAfter F.files F.faults F.absences F.steady folder.old folder.new
-        (fate_by serve_stop_fate result) }
-    ensures counts { WriteCounts (is_written result) (K.put_faults out.old) (K.put_faults out.new) }
-    ensures met { IfErr result ServingIsMet }
+        (fate_by stop_fate result) }
+    ensures counts { WriteCounts (is_all_put result) (K.put_faults out.old) (K.put_faults out.new) }
+    ensures met { IfErr result StopIsMet }
 {
-    match words.trace {
-        Some(name) => replay_over(rows, areas, trace, words, folder, out, name, commands),
-        None => replay_over(rows, areas, &mut NoTrace, words, folder, out, "", commands),
+    match words.made {
+        Some(records) => replay_made(alloc, rows, areas, words, folder, out, records, commands),
+        None => replay_file(alloc, rows, areas, trace, words, folder, out, commands),
     }
 }
 
-/// Serves the commands over the trace of this name, and writes the rows.
+/// Serves the commands over a made trace of so many records, and writes the end of the report.
+fn replay_made<R: Rows, F: Folder, K: Sink>(
+    alloc: Global,
+    rows: &mut R,
+    areas: &mut Areas,
+    words: &Words<'_>,
+    folder: &mut F,
+    out: &mut K,
+    records: u32,
+    commands: &Script,
+) -> Result<(), Stop>
+    requires { areas.old ≡ [] }
+    ensures told { IfSome (F.files folder.old) (λ fs. Ends result (course_ending (asked_of words.now)
+        (course commands.now (made_trail records)) (scene_of (R.rows rows.old) []))
+        K.roomy (K.written out.old) (K.written out.new) out.old (R.rows rows.new)) }
+    ensures leaves { FolderAfter F.files F.faults F.absences F.steady folder.old folder.new
+        (fate_by stop_fate result) }
+    ensures counts { WriteCounts (is_all_put result) (K.put_faults out.old) (K.put_faults out.new) }
+    ensures met { IfErr result StopIsMet }
+{
+    let mut trace = MadeTape::of(alloc, records)?;
+    replay_over(
+        alloc, rows, areas, &mut trace, words, folder, out, "", commands,
+    )
+}
+
+/// Serves the commands over the trace that the words name, and writes the end of the report. Where
+/// they name none, it has no records.
+fn replay_file<R: Rows, T: Trace, F: Folder, K: Sink>(
+    alloc: Global,
+    rows: &mut R,
+    areas: &mut Areas,
+    trace: &mut T,
+    words: &Words<'_>,
+    folder: &mut F,
+    out: &mut K,
+    commands: &Script,
+) -> Result<(), Stop>
+    requires none { areas.old ≡ [] }
+    requires unread { (file : Option (List ℕ)) → T.stands trace.old file
+        × (T.left trace.old file ≡ T.trail file) }
+    ensures told { IfSome (F.files folder.old) (λ fs. Ends result (course_ending (asked_of words.now)
+        (course commands.now (trail_in T.trail (asked_of words.now).trace fs))
+        (scene_of (R.rows rows.old) []))
+        K.roomy (K.written out.old) (K.written out.new) out.old (R.rows rows.new)) }
+    ensures leaves { FolderAfter F.files F.faults F.absences F.steady folder.old folder.new
+        (fate_by stop_fate result) }
+    ensures counts { WriteCounts (is_all_put result) (K.put_faults out.old) (K.put_faults out.new) }
+    ensures met { IfErr result StopIsMet }
+{
+    match words.trace {
+        Some(name) => replay_over(
+            alloc, rows, areas, trace, words, folder, out, name, commands,
+        ),
+        None => replay_over(
+            alloc,
+            rows,
+            areas,
+            &mut NoTrace,
+            words,
+            folder,
+            out,
+            "",
+            commands,
+        ),
+    }
+}
+
+/// Serves the commands over the trace of this name, and writes the end of the report.
 fn replay_over<R: Rows, T: Trace, F: Folder, K: Sink>(
+    alloc: Global,
     rows: &mut R,
     areas: &mut Areas,
     trace: &mut T,
@@ -162,16 +234,16 @@ fn replay_over<R: Rows, T: Trace, F: Folder, K: Sink>(
     out: &mut K,
     name: &str,
     commands: &Script,
-) -> Result<(), ServeStop>
+) -> Result<(), Stop>
     requires { areas.old ≡ [] }
     ensures told { IfSome (F.files folder.old) (λ fs. T.stands trace.old (file_of fs name.now)
-        → Ends (as_stop result) (followed (course commands.now (T.left trace.old (file_of fs name.now)))
-        (scene_of (R.rows rows.old) []) (flags_of (asked_of words.now)))
+        → Ends result (course_ending (asked_of words.now)
+        (course commands.now (T.left trace.old (file_of fs name.now))) (scene_of (R.rows rows.old) []))
         K.roomy (K.written out.old) (K.written out.new) out.old (R.rows rows.new)) }
     ensures leaves { FolderAfter F.files F.faults F.absences F.steady folder.old folder.new
-        (fate_by serve_stop_fate result) }
-    ensures counts { WriteCounts (is_written result) (K.put_faults out.old) (K.put_faults out.new) }
-    ensures met { IfErr result ServingIsMet }
+        (fate_by stop_fate result) }
+    ensures counts { WriteCounts (is_all_put result) (K.put_faults out.old) (K.put_faults out.new) }
+    ensures met { IfErr result StopIsMet }
 {
     serve(
         rows,
@@ -183,30 +255,6 @@ fn replay_over<R: Rows, T: Trace, F: Folder, K: Sink>(
         name,
         commands,
     )?;
-    write_end(rows, words.image, out)?;
+    write_end(alloc, rows, words.json, words.image, out)?;
     Ok(())
-}
-
-/// Writes the end of the report: the rows, and where they are asked for the images.
-fn write_end<R: Rows, K: Sink>(rows: &R, image: bool, out: &mut K) -> Result<(), Failed>
-    ensures { SinkAfter K.written K.put_faults K.roomy
-        (row_lines (R.rows rows.now) ++ images_where image (R.rows rows.now))
-        out.old out.new (is_ok result) }
-{
-    match rows.write_rows(out) {
-        Ok(()) => write_images(rows, image, out),
-        Err(failed) => Err(failed),
-    }
-}
-
-/// Writes the images where they are asked for.
-fn write_images<R: Rows, K: Sink>(rows: &R, image: bool, out: &mut K) -> Result<(), Failed>
-    ensures { SinkAfter K.written K.put_faults K.roomy (images_where image (R.rows rows.now))
-        out.old out.new (is_ok result) }
-{
-    if image {
-        rows.write_images(out)
-    } else {
-        Ok(())
-    }
 }

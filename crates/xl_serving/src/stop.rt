@@ -2,9 +2,10 @@
 
 ghost use Rattle.std.specs.Prelude.{◌≡◌, ◌+◌, ◌≤◌, ◌++◌, length, codes, decimal};
 ghost use Rattle.xl_serving.specs.declared.stop.Stop.TheVariants as why;
-ghost use Rattle.xl_serving.specs.Stops.{status_at, of_words_fault, of_config_fault, of_read, of_script_fault, of_serve_stop, status_of_fault};
+ghost use Rattle.xl_serving.specs.Stops.{status_at, of_words_fault, of_config_fault, of_read, of_script_fault, of_serve_stop, of_end_stop, status_of_fault};
 ghost use Rattle.xl_serving.specs.Messages.{message_at, with_place, with_fault};
 
+use crate::ending::EndStop;
 use crate::serving::ServeStop;
 use crate::status::Status;
 use thiserror::Error;
@@ -100,6 +101,17 @@ impl From<ServeStop> for Stop {
             ServeStop::Input(fault) => Stop::Input(fault),
             ServeStop::ReadFault => Stop::ReadFault,
             ServeStop::WriteFault => Stop::WriteFault,
+        }
+    }
+}
+
+impl From<EndStop> for Stop {
+    ghost from_gives = { λ end stop. stop ≡ of_end_stop end };
+
+    fn from(stop: EndStop) -> Stop {
+        match stop {
+            EndStop::WriteFault => Stop::WriteFault,
+            EndStop::NoMemory => Stop::NoMemory,
         }
     }
 }

@@ -2,12 +2,14 @@
 
 ghost use Rattle.std.specs.Prelude.{[]};
 
+use crate::ending::{EndStop, write_end};
+use crate::made::MadeTape;
 use crate::{Areas, Rows, ServeStop, Status, Tape, Trace, run, serve};
 use std::alloc::{AllocError, Global};
 use std::test::Fail;
 use xl_lackey::Access;
 use xl_model::{Area, Event, InputFault, Kind, NoMemory, Row};
-use xl_outside::{Failed, MemFolder, MemSink, Sink};
+use xl_outside::{Failed, MemFolder, MemSink, Sink, put_all};
 use xl_script::parse;
 
 /// No rows, and no memory for one.
@@ -47,6 +49,10 @@ impl Rows for NoRows {
 
     fn write_rows<K: Sink>(&self, _out: &mut K) -> Result<(), Failed> {
         Ok(())
+    }
+
+    fn json(&self, _alloc: Global) -> Result<String, NoMemory> {
+        Err(NoMemory)
     }
 
     fn write_images<K: Sink>(&self, _out: &mut K) -> Result<(), Failed> {
@@ -198,5 +204,32 @@ fn the_trace_is_read_until_it_ends_or_is_at_fault(rt: HostRuntime) -> Result<(),
         );
         assert!(rt; end == want);
     }
+    Ok(())
+}
+
+/// Without memory for the JSON what was told stays, and nothing follows it; without JSON none is
+/// wanted.
+#[test]
+fn no_memory_for_json_leaves_what_was_told(rt: HostRuntime) -> Result<(), Fail> {
+    let alloc = rt.alloc();
+    let mut out = MemSink::open(alloc, 100, Vec::new(alloc), 3)?;
+    put_all(&mut out, b"a cmd map ok\n")?;
+    let end = write_end(alloc, &NoRows, true, true, &mut out);
+    assert!(rt; end == Err(EndStop::NoMemory));
+    assert!(rt; write_end(alloc, &NoRows, false, true, &mut out) == Ok(()));
+    assert_eq!(rt; out.bytes(), b"a cmd map ok\n".as_slice());
+    Ok(())
+}
+
+#[test]
+fn a_made_trace_has_its_records(rt: HostRuntime) -> Result<(), Fail> {
+    let alloc = rt.alloc();
+    let mut files = folder(alloc, &[], 0)?;
+    let mut tape = MadeTape::of(alloc, 300)?;
+    for number in 1..=300u64 {
+        let next = tape.next(&mut files, "");
+        assert!(rt; matches!(next, Ok(Some(record)) if record.number == number));
+    }
+    assert!(rt; matches!(tape.next(&mut files, ""), Ok(None)));
     Ok(())
 }

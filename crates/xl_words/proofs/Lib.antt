@@ -1,1 +1,2 @@
 mod MatchLemmas
+mod NumberLemmas

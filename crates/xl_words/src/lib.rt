@@ -1,5 +1,5 @@
-//! The words of the command line: `--config F [--script F] [--trace F] [--answers]
-//! [--image]`.
+//! The words of the command line: `--config F [--script F] [--trace F] [--make N] [--answers]
+//! [--image] [--json]`.
 #![tactic(auto)]
 
 mod words;

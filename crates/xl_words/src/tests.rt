@@ -15,15 +15,17 @@ fn words(alloc: Global, texts: &[&str]) -> Result<Vec<String>, AllocError> {
 #[test]
 fn options_stand_in_any_order_and_a_flag_needs_no_value(rt: HostRuntime) -> Result<(), Fail> {
     let alloc = rt.alloc();
-    let cases: [(&[&str], Words<'static>); 3] = [
+    let cases: [(&[&str], Words<'static>); 4] = [
         (
             &["x", "--config", "a"],
             Words {
                 config: "a",
                 script: None,
                 trace: None,
+                made: None,
                 answers: false,
                 image: false,
+                json: false,
             },
         ),
         (
@@ -32,18 +34,34 @@ fn options_stand_in_any_order_and_a_flag_needs_no_value(rt: HostRuntime) -> Resu
                 config: "a",
                 script: None,
                 trace: Some("t"),
+                made: None,
                 answers: true,
                 image: false,
+                json: false,
             },
         ),
         (
-            &["x", "--image", "--config", "", "--script", "-"],
+            &["x", "--image", "--config", "", "--json", "--script", "-"],
             Words {
                 config: "",
                 script: Some("-"),
                 trace: None,
+                made: None,
                 answers: false,
                 image: true,
+                json: true,
+            },
+        ),
+        (
+            &["x", "--make", "+1048576", "--config", "a"],
+            Words {
+                config: "a",
+                script: None,
+                trace: None,
+                made: Some(1_048_576),
+                answers: false,
+                image: false,
+                json: false,
             },
         ),
     ];
@@ -64,7 +82,11 @@ fn other_words_and_repeats_are_refused(rt: HostRuntime) -> Result<(), Fail> {
         &["x", "--config"],
         &["x", "--config", "a", "--config", "b"],
         &["x", "--config", "a", "--answers=true"],
-        &["x", "--config", "a", "--json"],
+        &["x", "--config", "a", "--harts"],
+        &["x", "--config", "a", "--make", "0"],
+        &["x", "--config", "a", "--make", "1048577"],
+        &["x", "--config", "a", "--make", "3", "--trace", "t"],
+        &["x", "--config", "a", "--make", "3", "--script", "s"],
         &["x", "--config", "a", "b"],
         &["x", "--help"],
     ];

@@ -2,7 +2,7 @@
 
 ghost use Rattle.std.specs.Prelude.{◌≡◌, [], IfOk, IfErr, OnOk, map, option_map, string_bytes, codes, false, unwrap_or};
 ghost use Rattle.clap.specs.Words.{app_of, rule_of, with_rule, rows_of, found_of, first_of};
-ghost use Rattle.xl_words.specs.Words.{option_rule, needed_rule, flag_rule, app, file_app, faults_of, values_of, is_on, asked, asked_in, asked_of, Asks};
+ghost use Rattle.xl_words.specs.Words.{option_rule, needed_rule, number_rule, number_of, made_by, asked_with, flag_rule, app, file_app, faults_of, values_of, is_on, asked, asked_in, asked_of, Asks};
 ghost use Rattle.xl_words.specs.declared.words.WordsFault.TheVariants as why;
 
 use clap::error::ErrorKind;
@@ -10,21 +10,24 @@ use clap::{Arg, ArgAction, ArgMatches, Command};
 use std::alloc::{AllocError, Global};
 use thiserror::Error;
 
-/// What the words ask for: the names of the configuration, the script and the trace; whether a line
-/// is wanted for each access and command; and whether the words of radix tables are.
+/// What the words ask for: the names of the configuration, the script and the trace; for how many
+/// records script and trace are made, where they are; whether a line is wanted for each access and
+/// command; whether the words of radix tables are; and whether the rows are wanted as JSON.
 #[derive(Clone, Copy, Debug, PartialEq, Eq)]
 pub struct Words<'a> {
     pub config: &'a str,
     pub script: Option<&'a str>,
     pub trace: Option<&'a str>,
+    pub made: Option<u32>,
     pub answers: bool,
     pub image: bool,
+    pub json: bool,
 }
 
 /// Why the words ask for nothing.
 #[derive(Clone, Copy, Debug, PartialEq, Eq, Error)]
 pub enum WordsFault {
-    /// They are not the command's.
+    /// They are not the command's, or records are to be made beside a script or a trace.
     #[error("the words are not the command's")]
     Usage,
     /// There is no memory for the command or its matches.
@@ -40,28 +43,84 @@ impl From<AllocError> for WordsFault {
     }
 }
 
+/// The most records that are made.
+const MOST: u32 = 1 << 20;
+
 /// What the words ask for, of which the first is the program's name. Usage exactly where the command
-/// has no matches for them; where there is no memory, the answer may be that.
+/// has no matches for them, or records are to be made beside a script or a trace; where there is no
+/// memory, the answer may be that.
 pub fn read<'a>(alloc: Global, words: &'a [String]) -> Result<Words<'a>, WordsFault>
     ensures { Asks result (asked (map string_bytes words.entry.now)) }
 {
     match matches(alloc, words) {
-        Ok(matches) => Ok(words_in(&matches)),
+        Ok(matches) => words_in(&matches),
         Err(fault) => Err(fault),
     }
 }
 
 /// What is asked for by some matches. The command has none without a configuration.
-fn words_in<'a>(matches: &ArgMatches<'a>) -> Words<'a>
-    ensures { asked_of result ≡ asked_in (rows_of (found_of matches.now)) }
+fn words_in<'a>(matches: &ArgMatches<'a>) -> Result<Words<'a>, WordsFault>
+    ensures { Asks result (asked_in (rows_of (found_of matches.now))) }
+{
+    let script = value(matches, "script");
+    let trace = value(matches, "trace");
+    match made(value(matches, "make"), script, trace) {
+        Some(made) => Ok(words_with(matches, script, trace, made)),
+        None => Err(WordsFault::Usage),
+    }
+}
+
+/// The words of some matches, with these names, and so many records to be made.
+fn words_with<'a>(
+    matches: &ArgMatches<'a>,
+    script: Option<&'a str>,
+    trace: Option<&'a str>,
+    made: Option<u32>,
+) -> Words<'a>
+    requires script { option_map (λ s. s.now) script
+        ≡ first_of (codes "script") (rows_of (found_of matches.now)) }
+    requires trace { option_map (λ s. s.now) trace
+        ≡ first_of (codes "trace") (rows_of (found_of matches.now)) }
+    ensures { asked_of result ≡ asked_with (rows_of (found_of matches.now)) made }
 {
     Words {
         config: value(matches, "config").unwrap_or(""),
-        script: value(matches, "script"),
-        trace: value(matches, "trace"),
+        script,
+        trace,
+        made,
         answers: is_on(value(matches, "answers")),
         image: is_on(value(matches, "image")),
+        json: is_on(value(matches, "json")),
     }
+}
+
+/// For how many records script and trace are made, where they are; None where that can't be asked
+/// for.
+fn made(text: Option<&str>, script: Option<&str>, trace: Option<&str>) -> Option<Option<u32>>
+    ensures { result ≡ made_by (option_map (λ s. s.now) text.entry)
+        (option_map (λ s. s.now) script.entry) (option_map (λ s. s.now) trace.entry) }
+{
+    match (text, script, trace) {
+        (None, _, _) => Some(None),
+        (Some(text), None, None) => match number(text) {
+            Some(number) => Some(Some(number)),
+            None => None,
+        },
+        _ => None,
+    }
+}
+
+/// The number that a text is.
+fn number(text: &str) -> Option<u32>
+    ensures { result ≡ number_of text.now }
+{
+    let Ok(number) = text.parse::<u32>() else {
+        return None;
+    };
+    if number < 1 || number > MOST {
+        return None;
+    }
+    Some(number)
 }
 
 /// The value of an option or a flag, where it has one.
@@ -105,8 +164,10 @@ fn command<'a>(alloc: Global) -> Result<Command<'a>, AllocError>
     ensures { IfOk result (λ c. app_of c ≡ app) }
 {
     let command = file_command(alloc)?;
+    let command = add(command, numbered(alloc, "make"))?;
     let command = add(command, flag(alloc, "answers"))?;
-    add(command, flag(alloc, "image"))
+    let command = add(command, flag(alloc, "image"))?;
+    add(command, flag(alloc, "json"))
 }
 
 /// The command with the options that name a file.
@@ -134,6 +195,14 @@ fn needed<'a>(alloc: Global, name: &'a str) -> Arg<'a>
     ensures local { result.global ≡ false }
 {
     option(alloc, name).required(true)
+}
+
+/// An option that has a number in the range of made records.
+fn numbered<'a>(alloc: Global, name: &'a str) -> Arg<'a>
+    ensures rule { rule_of result ≡ number_rule name.entry.now }
+    ensures local { result.global ≡ false }
+{
+    option(alloc, name).value_parser(clap::value_parser!(u32).range(1..=1_048_576))
 }
 
 /// A flag.

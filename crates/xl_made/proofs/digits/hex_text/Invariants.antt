@@ -1,0 +1,9 @@
+use Rattle.std.proofs.Common.{◌≡◌, ◌++◌, length, drop}
+use Rattle.xl_model.specs.Lines.{hex_digits}
+use Rattle.xl_made.proofs.digits.hex_text.Given as goal
+
+abbrev pub invariant-loop-i : goal.invariant-loop-i
+invariant-loop-i l = record {
+  digits : hex_digits l.i l.left ++ drop l.i l.text ≡ hex_digits 8 l.fn.n;
+  whole : length l.text ≡ 8;
+}

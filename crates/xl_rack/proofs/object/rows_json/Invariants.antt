@@ -1,0 +1,7 @@
+use Rattle.std.proofs.Common.{◌≡◌, map, take}
+use Rattle.serde_json.specs.View.{view}
+use Rattle.xl_report.specs.Json.{row_objects}
+use Rattle.xl_rack.proofs.object.rows_json.Given as goal
+
+abbrev pub invariant-loop-i : goal.invariant-loop-i
+invariant-loop-i l = map view l.objects.items ≡ row_objects (take l.i l.rack)

@@ -1,0 +1,24 @@
+use Rattle.std.specs.Prelude.{true, false}
+use Rattle.xl_model.specs.Report.{images_where}
+use Rattle.xl_outside.proofs.SinkLemmas.{sink_then}
+use Rattle.xl_serving.specs.Endings.{rows_text}
+use Rattle.xl_serving.proofs.EndLemmas.{end_cut}
+use Rattle.xl_serving.proofs.ending.write_end.Goals as goal
+
+pub returns-in-Ok-write_images : goal.returns-in-Ok-write_images
+returns-in-Ok-write_images g c =
+    let rows = g.R.Rows.rows c.args.rows.now in
+    sink_then g.K.Sink.written g.K.Sink.put_faults g.K.Sink.roomy (rows_text c.args.json rows) (images_where c.args.image rows) c.args.out.now c.write_rows.new.out c.write_images.new.out true
+    c.in-Ok.ensures c.in-Ok-write_images.ensures
+
+pub returns-in-Err-write_images : goal.returns-in-Err-write_images
+returns-in-Err-write_images g c =
+    let rows = g.R.Rows.rows c.args.rows.now in
+    sink_then g.K.Sink.written g.K.Sink.put_faults g.K.Sink.roomy (rows_text c.args.json rows) (images_where c.args.image rows) c.args.out.now c.write_rows.new.out c.write_images.new.out false
+    c.in-Ok.ensures c.in-Err-write_images.ensures
+
+pub returns-in-Err : goal.returns-in-Err
+returns-in-Err g c =
+    let rows = g.R.Rows.rows c.args.rows.now in
+    end_cut g.K.Sink.written g.K.Sink.put_faults g.K.Sink.roomy c.args.json (rows_text c.args.json rows) (images_where c.args.image rows) c.args.out.now c.write_rows.new.out c.in-Err.stop
+    c.in-Err.ensures

@@ -1,0 +1,27 @@
+-- What a text that is read as a number says of the number that it is.
+use Rattle.std.proofs.Common.{◌≡◌, ℕ, ◌<◌, ◌≤◌, ◌^◌, Bool, true, false, List, refl, sym, ap, ◌∙◌, arith}
+use Rattle.std.specs.Prelude.{Option, None, Some, if◌then◌else◌}
+use Rattle.std.specs.Str.Parse.{IsNumeral, digits_value, without_leading_plus}
+use Rattle.std.proofs.lemmas.Bool.{false_from_ne_true}
+use Rattle.clap.specs.ValueTests.{is_unsigned_in}
+use Rattle.clap.specs.declared.builder.value_parser.ValueParser.TheVariants as parser
+use Rattle.clap.proofs.ValueTestLemmas.{accepts-Accepts, Accepts-accepts}
+use Rattle.xl_words.specs.Words.{number_of}
+
+numbered-as : (text : List ℕ) (b : Bool) → is_unsigned_in 1 1048576 text ≡ b → number_of text ≡ (if b then Some (digits_value 10 (without_leading_plus text)) else None)
+numbered-as text b e = ap (λ (t : Bool). if t then Some (digits_value 10 (without_leading_plus text)) else None) e
+
+-- a numeral in range is its number
+pub in-range : (text : List ℕ) (n : ℕ) → IsNumeral 10 (without_leading_plus text) → n ≡ digits_value 10 (without_leading_plus text) → 1 ≤ n → n ≤ 1048576 → Some n ≡ number_of text
+in-range text n is e least most =
+    let v = digits_value 10 (without_leading_plus text) in
+    let low : 1 ≤ v = rw (← e) least in
+    let high : v ≤ 1048576 = rw (← e) most in
+    let fits : v < 2 ^ 64 = omega arith in
+    ap (λ (k : ℕ). Some k) e ∙ sym (numbered-as text true (Accepts-accepts false (parser.Unsigned 1 1048576) text (is, fits, low, high)))
+
+-- any other text is none
+pub out-of-range : (text : List ℕ) → (IsNumeral 10 (without_leading_plus text) → 1 ≤ digits_value 10 (without_leading_plus text) → digits_value 10 (without_leading_plus text) ≤ 1048576 → ⊥) → None ≡ number_of text
+out-of-range text not =
+    sym (numbered-as text false (false_from_ne_true (is_unsigned_in 1 1048576 text)
+    (λ yes. let a = accepts-Accepts false (parser.Unsigned 1 1048576) text yes in not a.0 a.2 a.3)))
