@@ -1,5 +1,6 @@
-/* Stands before the C library's malloc and realloc, counts the requests for memory, and refuses the one whose number
-   is in REFUSE (from 1; 0 refuses none). The count is written to the file REFUSE_COUNT at the end, where one is named. */
+/* Stands before the C library's malloc and realloc, counts the requests for memory, and refuses the one
+   whose number is in REFUSE (from 1; 0 refuses none). The count is written to the file REFUSE_COUNT at the
+   end, where one is named. */
 #include <stdio.h>
 #include <stdlib.h>
 

@@ -7,6 +7,7 @@ import tempfile
 from pathlib import Path
 from typing import NamedTuple
 
+ALL = ("4k", "2m", "1g")
 TABLES = {
     "radix": {"table_frames": 64},
     "hashed": {"buckets": 64, "entries": 4096},
@@ -47,6 +48,9 @@ def row(name="a", table="radix", **keys):
     row = {"name": name, "mode": "sv39", "frames": 4096, "spaces": 1, "table": table}
     row |= TABLES[table] | keys
     return "[[row]]\n" + "".join(f"{key} = {toml_of(value)}\n" for key, value in row.items())
+
+
+A = row()
 
 
 def array(level, sets, width, *orders):

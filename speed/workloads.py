@@ -1,4 +1,4 @@
-"""The workloads that are timed, and how: configurations, scripts and traces, the processor time and the instructions."""
+"""The workloads that are timed, and how: files, processor time and instructions."""
 
 import random
 import re
@@ -8,9 +8,8 @@ from pathlib import Path
 
 TOP = Path(__file__).resolve().parent.parent
 sys.path.append(str(TOP / "checks"))
-from runs import array, row, run  # noqa: E402
+from runs import ALL, array, row, run  # noqa: E402
 
-ALL = ("4k", "2m", "1g")
 TWO_LEVELS = [array(1, 16, 4, *ALL), array(2, 64, 8, *ALL)]
 TIMED_TABLES = {
     "radix": {"table_frames": 64, "walk_caches": [16, 4]},
