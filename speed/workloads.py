@@ -1,6 +1,5 @@
 """The workloads that are timed, and how: files, processor time and instructions."""
 
-import random
 import re
 import subprocess
 import sys
