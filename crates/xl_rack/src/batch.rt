@@ -8,9 +8,9 @@ ghost use Rattle.xl_rack.specs.Slots.{served_of, slot_form, IsNamed};
 
 use crate::area::{area_of, map_for};
 use crate::slot::Slot;
+use xl_lackey::Access;
 use xl_machine::Machine;
 use xl_model::{Area, Kind, Outcome, Reply, Structure};
-use xl_lackey::Access;
 
 /// Serves the map that an area demands for an address, and where it is done, the access once more.
 #[inline(never)]

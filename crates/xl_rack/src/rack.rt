@@ -17,8 +17,8 @@ use crate::held::Held;
 use crate::slot::Slot;
 use std::alloc::Global;
 use std::marker::Model;
-use xl_model::{Area, Counts, Event, Kind, NoMemory, Outcome, Reply, Row};
 use xl_lackey::Access;
+use xl_model::{Area, Counts, Event, Kind, NoMemory, Outcome, Reply, Row};
 
 /// The most rows of a rack.
 const MOST: usize = 16;

@@ -17,7 +17,7 @@ use xl_lackey::Access;
 use xl_model::{Area, Event, Item, Kind, NoMemory, Row};
 use xl_outside::{Failed, Sink};
 use xl_report::write_row;
-use xl_serving::{Rows};
+use xl_serving::Rows;
 
 /// Serves an item to a row, where these areas were declared.
 #[inline(always)]

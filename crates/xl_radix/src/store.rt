@@ -471,7 +471,9 @@ impl<const LEVELS: usize> Store<LEVELS> {
         ensures at { Stands space page (above.level - 1) result self.now.nodes }
         ensures empty { leaf_in space above.level (up above.level page) self.now.leaves ≡ None }
     {
-        let word = self.words.get(above.node * 512 + index_of(page, above.level));
+        let word = self
+            .words
+            .get(above.node * 512 + index_of(page, above.level));
         match decode(word, above.level) {
             Pte::Pointer { node } => node as usize,
             _ => unreachable!(),

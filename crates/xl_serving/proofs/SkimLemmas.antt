@@ -141,6 +141,7 @@ module _ {K : Type 0} (written : K → Option (List ℕ)) (faults : K → ℕ) (
       no-got : (before got : List Access) → before ++ got ≡ [] → got ≡ []
       no-got [] got e = e
       no-got (a ∷ before) got e = cc
+
       ends-none : (rs : List Accesses) (got : List Access) → map accesses_in rs ≡ map alone got → got ≡ [] → rs ≡ []
       ends-none [] got e f = refl
       ends-none (r ∷ rs) [] e f = cc

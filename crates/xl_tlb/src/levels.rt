@@ -44,7 +44,11 @@ fn fill_each(arrays: &mut [AnyArray], leaf: &Leaf) -> u64
     let Some((first, rest)) = arrays.split_first_mut() else {
         return 0;
     };
-    let others = if rest.is_empty() { 0 } else { fill_each(rest, leaf) };
+    let others = if rest.is_empty() {
+        0
+    } else {
+        fill_each(rest, leaf)
+    };
     if first.fill(*leaf) {
         return others + 1;
     }

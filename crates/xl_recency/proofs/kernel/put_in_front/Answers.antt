@@ -11,8 +11,7 @@ loop-place-preserved g c =
     let old = c.args.items.now in
     let at = c.args.at in
     let inv = c.loop-place.invariant in
-    let some : 0 < c.loop-place.place = let t = c.loop-place-test.true in grind (arith, nat_tests) in
-    (
+    let some : 0 < c.loop-place.place = let t = c.loop-place-test.true in grind (arith, nat_tests) in (
       rw (c.index-items-place.is, inv.0) (spread-back c.loop-place.place at c.index-items-place.result old some inv.1 c.requires),
       omega (arith, inv.1),
     )

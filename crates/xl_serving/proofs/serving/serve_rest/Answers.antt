@@ -23,10 +23,10 @@ records-preserved g c =
       told = told_then (g.F.Folder.files c.args.folder.now) (g.F.Folder.files c.records.folder) _ (λ fs. stands c.skim.new.trace (file_of fs name) → TraceAnswers (stands c.next.new.self (file_of fs name)) (left c.skim.new.trace (file_of fs name)) (left c.next.new.self (file_of fs name)) c.next.result) _
           inv.folder.keeps inv.told c.next.ensures.told
           (λ fs h k s.
-              let mid = going_skims _ _ _ _ _ _ _ _ (c.skim.ensures.skims (file_of fs name) (h s).stands_still) (scene_of (g.R.Rows.rows c.records.rows) c.args.areas.now) c.records.out c.args.answers _ _ _ _ c.skim.ensures.idle (h s) in
-              going_on c.args.answers _ _ _ ran_all ran_all _ _ c.in-Ok-Some.found _ _ _ _ _ _ all_steps mid
-              (subst (λ (z : Result (Option Numbered) TraceStop). TraceAnswers (stands c.next.new.self (file_of fs name)) (left c.skim.new.trace (file_of fs name)) (left c.next.new.self (file_of fs name)) z) (c.in-Ok-Some.is ∙ ap (λ (o : Option Numbered). Ok o) c.in-Ok-Some.field-0-is) (k mid.stands_still))
-              c.in_ok-serve_record-in-Ok-Some.ensures.served);
+          let mid = going_skims _ _ _ _ _ _ _ _ (c.skim.ensures.skims (file_of fs name) (h s).stands_still) (scene_of (g.R.Rows.rows c.records.rows) c.args.areas.now) c.records.out c.args.answers _ _ _ _ c.skim.ensures.idle (h s) in
+          going_on c.args.answers _ _ _ ran_all ran_all _ _ c.in-Ok-Some.found _ _ _ _ _ _ all_steps mid
+          (subst (λ (z : Result (Option Numbered) TraceStop). TraceAnswers (stands c.next.new.self (file_of fs name)) (left c.skim.new.trace (file_of fs name)) (left c.next.new.self (file_of fs name)) z) (c.in-Ok-Some.is ∙ ap (λ (o : Option Numbered). Ok o) c.in-Ok-Some.field-0-is) (k mid.stands_still))
+          c.in_ok-serve_record-in-Ok-Some.ensures.served);
       folder = folder_then _ _ _ _ _ _ _ _ inv.folder c.in-Ok-Some.ensures.leaves;
       counts = c.in_ok-serve_record-in-Ok-Some.ensures.served.writes.counts ∙ inv.counts;
       idle = c.in_ok-serve_record-in-Ok-Some.ensures.idle;
@@ -43,10 +43,10 @@ returns-in_err-serve_record-in-Ok-Some-clause-told g c =
     (told_then (g.F.Folder.files c.args.folder.now) (g.F.Folder.files c.records.folder) _ (λ fs. stands c.skim.new.trace (file_of fs name) → TraceAnswers (stands c.next.new.self (file_of fs name)) (left c.skim.new.trace (file_of fs name)) (left c.next.new.self (file_of fs name)) c.next.result) _
     inv.folder.keeps inv.told c.next.ensures.told
     (λ fs h k s.
-        let mid = going_skims _ _ _ _ _ _ _ _ (c.skim.ensures.skims (file_of fs name) (h s).stands_still) (scene_of (g.R.Rows.rows c.records.rows) c.args.areas.now) c.records.out c.args.answers _ _ _ _ c.skim.ensures.idle (h s) in
-        going_lost _ c.args.answers _ _ _ ran_all ran_all _ _ c.in-Ok-Some.found _ _ _ _ _ _ all_steps mid
-        (subst (λ (z : Result (Option Numbered) TraceStop). TraceAnswers (stands c.next.new.self (file_of fs name)) (left c.skim.new.trace (file_of fs name)) (left c.next.new.self (file_of fs name)) z) (c.in-Ok-Some.is ∙ ap (λ (o : Option Numbered). Ok o) c.in-Ok-Some.field-0-is) (k mid.stands_still))
-        (lost-any c.args.answers _ _ _ _ _ _ c.in_err-serve_record-in-Ok-Some.ensures.served)))
+    let mid = going_skims _ _ _ _ _ _ _ _ (c.skim.ensures.skims (file_of fs name) (h s).stands_still) (scene_of (g.R.Rows.rows c.records.rows) c.args.areas.now) c.records.out c.args.answers _ _ _ _ c.skim.ensures.idle (h s) in
+    going_lost _ c.args.answers _ _ _ ran_all ran_all _ _ c.in-Ok-Some.found _ _ _ _ _ _ all_steps mid
+    (subst (λ (z : Result (Option Numbered) TraceStop). TraceAnswers (stands c.next.new.self (file_of fs name)) (left c.skim.new.trace (file_of fs name)) (left c.next.new.self (file_of fs name)) z) (c.in-Ok-Some.is ∙ ap (λ (o : Option Numbered). Ok o) c.in-Ok-Some.field-0-is) (k mid.stands_still))
+    (lost-any c.args.answers _ _ _ _ _ _ c.in_err-serve_record-in-Ok-Some.ensures.served)))
 
 pub returns-in-Ok-None-clause-told : goal.returns-in-Ok-None-clause-told
 returns-in-Ok-None-clause-told g c =
@@ -58,9 +58,9 @@ returns-in-Ok-None-clause-told g c =
     (told_then (g.F.Folder.files c.args.folder.now) (g.F.Folder.files c.records.folder) _ (λ fs. stands c.skim.new.trace (file_of fs name) → TraceAnswers (stands c.next.new.self (file_of fs name)) (left c.skim.new.trace (file_of fs name)) (left c.next.new.self (file_of fs name)) c.next.result) _
     inv.folder.keeps inv.told c.next.ensures.told
     (λ fs h k s.
-        let mid = going_skims _ _ _ _ _ _ _ _ (c.skim.ensures.skims (file_of fs name) (h s).stands_still) (scene_of (g.R.Rows.rows c.records.rows) c.args.areas.now) c.records.out c.args.answers _ _ _ _ c.skim.ensures.idle (h s) in
-        going_ends c.args.answers _ _ _ ran_all ran_all _ _ _ _ _ _ _ all_steps mid
-        (subst (λ (z : Result (Option Numbered) TraceStop). TraceAnswers (stands c.next.new.self (file_of fs name)) (left c.skim.new.trace (file_of fs name)) (left c.next.new.self (file_of fs name)) z) (c.in-Ok-None.is ∙ ap (λ (o : Option Numbered). Ok o) c.in-Ok-None.field-0-is) (k mid.stands_still))))
+    let mid = going_skims _ _ _ _ _ _ _ _ (c.skim.ensures.skims (file_of fs name) (h s).stands_still) (scene_of (g.R.Rows.rows c.records.rows) c.args.areas.now) c.records.out c.args.answers _ _ _ _ c.skim.ensures.idle (h s) in
+    going_ends c.args.answers _ _ _ ran_all ran_all _ _ _ _ _ _ _ all_steps mid
+    (subst (λ (z : Result (Option Numbered) TraceStop). TraceAnswers (stands c.next.new.self (file_of fs name)) (left c.skim.new.trace (file_of fs name)) (left c.next.new.self (file_of fs name)) z) (c.in-Ok-None.is ∙ ap (λ (o : Option Numbered). Ok o) c.in-Ok-None.field-0-is) (k mid.stands_still))))
 
 pub returns-in-Err-clause-told : goal.returns-in-Err-clause-told
 returns-in-Err-clause-told g c =
@@ -72,6 +72,6 @@ returns-in-Err-clause-told g c =
     (told_then (g.F.Folder.files c.args.folder.now) (g.F.Folder.files c.records.folder) _ (λ fs. stands c.skim.new.trace (file_of fs name) → TraceAnswers (stands c.next.new.self (file_of fs name)) (left c.skim.new.trace (file_of fs name)) (left c.next.new.self (file_of fs name)) c.next.result) _
     inv.folder.keeps inv.told c.next.ensures.told
     (λ fs h k s.
-        let mid = going_skims _ _ _ _ _ _ _ _ (c.skim.ensures.skims (file_of fs name) (h s).stands_still) (scene_of (g.R.Rows.rows c.records.rows) c.args.areas.now) c.records.out c.args.answers _ _ _ _ c.skim.ensures.idle (h s) in
-        going_stops _ c.args.answers _ _ _ ran_all ran_all _ _ _ _ _ _ c.in-Err.stop all_steps mid
-        (subst (λ (z : Result (Option Numbered) TraceStop). TraceAnswers (stands c.next.new.self (file_of fs name)) (left c.skim.new.trace (file_of fs name)) (left c.next.new.self (file_of fs name)) z) c.in-Err.is (k mid.stands_still))))
+    let mid = going_skims _ _ _ _ _ _ _ _ (c.skim.ensures.skims (file_of fs name) (h s).stands_still) (scene_of (g.R.Rows.rows c.records.rows) c.args.areas.now) c.records.out c.args.answers _ _ _ _ c.skim.ensures.idle (h s) in
+    going_stops _ c.args.answers _ _ _ ran_all ran_all _ _ _ _ _ _ c.in-Err.stop all_steps mid
+    (subst (λ (z : Result (Option Numbered) TraceStop). TraceAnswers (stands c.next.new.self (file_of fs name)) (left c.skim.new.trace (file_of fs name)) (left c.next.new.self (file_of fs name)) z) c.in-Err.is (k mid.stands_still))))
