@@ -1,7 +1,7 @@
-use Rattle.std.proofs.Common.{◌≡◌, refl, ap, subst, sym, ◌∙◌, ℕ, length, get_or, rules}
+use Rattle.std.proofs.Common.{◌≡◌, refl, ap, subst, sym, ◌∙◌, length, get_or, rules}
 use Rattle.xl_model.specs.Shapes.{opening_ways}
-use Rattle.xl_cuckoo.specs.Table.{CuckooState, opening}
-use Rattle.xl_cuckoo_walk.specs.Parts.{RowParts, IsRow, row_state}
+use Rattle.xl_cuckoo.specs.Table.{opening}
+use Rattle.xl_cuckoo_walk.specs.Parts.{IsRow, row_state}
 use Rattle.xl_cuckoo_walk.proofs.OpenLemmas.{row-opened, state-opened, two-widths, opened}
 use Rattle.xl_cuckoo_walk.proofs.row.CuckooRow.open.Given.{Over}
 use Rattle.xl_cuckoo_walk.proofs.row.CuckooRow.open.Goals as goal
