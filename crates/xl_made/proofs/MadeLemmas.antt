@@ -1,5 +1,5 @@
 -- Lines that are made one after another, and given byte by byte.
-use Rattle.std.proofs.Common.{◌≡◌, refl, sym, ap, ◌∙◌, ℕ, zero, suc, ◌+◌, ◌-◌, ◌<◌, List, [], ◌∷◌, ◌++◌, length, take, drop, slice_index_or, add-one, arith, drop-cons}
+use Rattle.std.proofs.Common.{◌≡◌, sym, ap, ◌∙◌, ℕ, zero, suc, ◌+◌, ◌-◌, ◌<◌, List, [], ◌∷◌, ◌++◌, length, drop, slice_index_or, add-one, arith, drop-cons}
 use Rattle.std.proofs.lemmas.List.{drop_all}
 use Rattle.rand_pcg.specs.Lcg.{Lcg}
 use Rattle.xl_made.specs.Made.{word, after, record_line, record_lines, with_unmap, with_unmaps}

@@ -32,7 +32,7 @@ page_of r = if nat_lt (r / 2 ^ 28) 12 then r / 8 % 64 else r / 8 % 4096
 
 -- The address of a record: in its page, a multiple of 8.
 unfoldable pub address_of : ℕ → ℕ
-address_of r = 268435456 + page_of r * 4096 + r / 2 ^ 15 % 512 * 8
+address_of r = 0x10000000 + page_of r * 4096 + r / 2 ^ 15 % 512 * 8
 
 -- The line of a record.
 unfoldable pub record_line : ℕ → List ℕ
@@ -49,7 +49,7 @@ made_trace n = record_lines n (generator 54)
 
 -- The script with the lines that run 64 records, and then unmap the page of a word.
 unfoldable pub with_unmap : ℕ → List ℕ → List ℕ
-with_unmap w script = script ++ codes "run 64\nunmap 0 " ++ hex_digits 8 (268435456 + w % 4096 * 4096) ++ codes " 4k\n"
+with_unmap w script = script ++ codes "run 64\nunmap 0 " ++ hex_digits 8 (0x10000000 + w % 4096 * 4096) ++ codes " 4k\n"
 
 -- The script with so many of those.
 abbrev pub with_unmaps : ℕ → Lcg → List ℕ → List ℕ

@@ -8,12 +8,9 @@ use std::test::Fail;
 fn the_first_records_are_made_in_pieces(rt: HostRuntime) -> Result<(), Fail> {
     let mut trace = MadeTrace::new(2);
     let mut text = Vec::new(rt.alloc());
-    loop {
+    for _ in 0..8 {
         let mut piece = [0; 5];
         let count = trace.piece(&mut piece);
-        if count == 0 {
-            break;
-        }
         text.extend_from_slice(&piece[..count])?;
     }
     assert_eq!(rt;

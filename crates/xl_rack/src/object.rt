@@ -1,7 +1,7 @@
 //! The rows of a rack as JSON.
 
 ghost use Rattle.std.specs.Prelude.{◌≡◌, IfOk, string_bytes};
-ghost use Rattle.xl_report.specs.Json.{row_objects, text_of};
+ghost use Rattle.xl_report.specs.Json.{row_objects, objects_text};
 
 use crate::rack::Rack;
 use serde_json::push;
@@ -15,7 +15,7 @@ use xl_report::{row_value, text};
 ///
 /// `NoMemory` where there is no memory.
 pub(crate) fn rows_json(rack: &Rack, alloc: Global) -> Result<String, NoMemory>
-    ensures { IfOk result (λ s. string_bytes s ≡ text_of (row_objects rack.now)) }
+    ensures { IfOk result (λ s. string_bytes s ≡ objects_text (row_objects rack.now)) }
 {
     let mut objects = Vec::new(alloc);
     for i in 0..rack.len() {

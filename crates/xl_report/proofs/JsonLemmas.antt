@@ -1,10 +1,9 @@
 -- Rows as JSON.
-use Rattle.std.proofs.Common.{◌≡◌, refl, sym, ap, ◌∙◌, ℕ, zero, suc, ◌+◌, ◌-◌, ◌*◌, ◌/◌, ◌%◌, ◌<◌, Bool, true, false, ◌||◌, List, [], ◌∷◌, ◌++◌, length, map, take, drop, slice_index, get_or, inl, inr, add-one, arith, drop-cons}
+use Rattle.std.proofs.Common.{◌≡◌, refl, ap, ◌∙◌, ℕ, zero, suc, ◌+◌, ◌-◌, ◌/◌, ◌%◌, ◌<◌, Bool, true, false, ◌||◌, List, [], ◌∷◌, ◌++◌, length, map, drop, slice_index, get_or, inl, inr, add-one, arith, drop-cons}
 use Rattle.std.specs.Str.{IsAscii, IsUtf8}
 use Rattle.std.proofs.lemmas.Str.{IsUtf8-from_ascii, IsUtf8-append, IsUtf8-nil}
 use Rattle.std.proofs.lemmas.Bool.{cases_lt, lt-ltb, le-ltb}
-use Rattle.std.specs.Prelude.{codes}
-use Rattle.serde_json.specs.Data.{Data, object, array, Items, no_members}
+use Rattle.serde_json.specs.Data.{Data, object, no_members}
 use Rattle.serde_json.specs.View.{view, items_of}
 use Rattle.serde_json.specs.declared.value.Value.{Value}
 use Rattle.serde_json.specs.Written.{has_float, items_have_float}
@@ -12,7 +11,7 @@ use Rattle.xl_model.specs.declared.row.Counts.{Counts}
 use Rattle.xl_model.specs.declared.row.Row.{Row}
 use Rattle.xl_model.specs.Lines.{hex_digits, hex_glyph}
 use Rattle.xl_model.specs.Scenes.{Served}
-use Rattle.xl_report.specs.Json.{amount, amounts, pair, pairs, row_object, row_objects, objects_of, verdict_members, walk_members, change_members, named_members}
+use Rattle.xl_report.specs.Json.{amount, pair, pairs, row_object, row_objects, objects_of, verdict_members, walk_members, change_members, named_members}
 
 -- the members, put one after another, stand in order
 pub members_in_order : (name : List ℕ) (c : Counts) → object (named_members name c (change_members c (walk_members c (verdict_members c no_members)))) ≡ row_object name c

@@ -1,6 +1,6 @@
 -- The rows of a report as JSON: an array with an object for each row, with its keys in rising order.
 use Rattle.std.specs.Prelude.{ℕ, zero, suc, List, [], ◌∷◌, ◌++◌, map, codes}
-use Rattle.serde_json.specs.Data.{Data, number, unsigned, string, array, object, Items, no_items, item, Members, no_members, member, put as with_member}
+use Rattle.serde_json.specs.Data.{Data, number, unsigned, string, array, object, no_items, item, Members, no_members, member, put as with_member}
 use Rattle.serde_json.specs.View.{items_of}
 use Rattle.serde_json.specs.Written.{compact_text}
 use Rattle.xl_model.specs.declared.row.Counts.{Counts}
@@ -92,9 +92,9 @@ row_objects [] = []
 row_objects (r ∷ rows) = row_object r.row.name r.state.counts ∷ row_objects rows
 
 -- The text of some objects, in an array.
-abbrev pub text_of : List Data → List ℕ
-text_of objects = compact_text (array (items_of objects))
+abbrev pub objects_text : List Data → List ℕ
+objects_text objects = compact_text (array (items_of objects))
 
 -- The line of all rows.
 unfoldable pub json_line : List Served → List ℕ
-json_line rows = text_of (row_objects rows) ++ codes "\n"
+json_line rows = objects_text (row_objects rows) ++ codes "\n"

@@ -5,7 +5,7 @@ ghost use Rattle.serde_json.specs.Data.{array, object, no_members, string, put a
 ghost use Rattle.serde_json.specs.View.{items_of, items_view, members_view, view};
 ghost use Rattle.serde_json.specs.Written.{compact_text, has_float};
 ghost use Rattle.xl_model.specs.Lines.{hex16};
-ghost use Rattle.xl_report.specs.Json.{amount, amounts, arrays_of, named_members, objects_of, pair, pairs, row_object, text_of, verdict_members, walk_members, change_members};
+ghost use Rattle.xl_report.specs.Json.{amount, amounts, arrays_of, named_members, objects_of, pair, pairs, row_object, objects_text, verdict_members, walk_members, change_members};
 
 use crate::line::hex_text;
 use serde_json::{Map, Value, push, put};
@@ -23,7 +23,7 @@ pub fn json(alloc: Global, rows: &Vec<Row>, counts: &Vec<Counts>) -> Result<Stri
     requires lengths { length counts.now.items ≡ length rows.now.items }
     requires arrays { All (λ c. c.arrays ≤ 6) counts.now.items }
     ensures { IfOk result (λ s.
-        string_bytes s ≡ text_of (objects_of rows.now.items counts.now.items)) }
+        string_bytes s ≡ objects_text (objects_of rows.now.items counts.now.items)) }
 {
     let mut objects = Vec::new(alloc);
     for i in 0..rows.len() {
@@ -51,7 +51,7 @@ pub fn row_value(alloc: Global, row: &Row, counts: &Counts) -> Result<Value, NoM
 /// `NoMemory` where there is no memory.
 pub fn text(alloc: Global, objects: Vec<Value>) -> Result<String, NoMemory>
     requires { has_float (array (items_view objects.items)) ≡ false }
-    ensures { IfOk result (λ s. string_bytes s ≡ text_of (map view objects.items)) }
+    ensures { IfOk result (λ s. string_bytes s ≡ objects_text (map view objects.items)) }
 {
     Ok(Value::Array(objects).to_string(alloc)?)
 }

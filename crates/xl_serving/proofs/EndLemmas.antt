@@ -6,7 +6,7 @@ use Rattle.xl_model.specs.declared.fault.InputFault.TheVariants as fault
 use Rattle.xl_model.specs.declared.script.Item.{Item}
 use Rattle.xl_model.specs.Scenes.{Served, Scene, Live, scenes_after, told_by, untold}
 use Rattle.xl_model.specs.Courses.{Course, ended, before}
-use Rattle.xl_model.specs.Report.{Flags, images_where, tail}
+use Rattle.xl_model.specs.Report.{Flags, tail}
 use Rattle.xl_model.specs.Endings.{followed, live_of}
 use Rattle.xl_model_lemmas.proofs.SceneLemmas.{scene-is}
 use Rattle.xl_outside.specs.Folders.{Files}

@@ -4,7 +4,7 @@ use Rattle.std.specs.Prelude.{None, Some, Ok}
 use Rattle.xl_model.specs.declared.fault.InputFault.TheVariants.{TraceLine}
 use Rattle.xl_model.specs.Courses.{at_end}
 use Rattle.xl_lackey.specs.declared.reference.Reference.{Reference}
-use Rattle.xl_lackey.specs.Stream.{Record, State, Left, left, MayCome}
+use Rattle.xl_lackey.specs.Stream.{State, Left, left}
 use Rattle.xl_lackey.specs.Answers.{Gives, Ends, Refuses, record_of}
 use Rattle.xl_serving.specs.declared.trace.TraceStop.TheVariants as why
 use Rattle.xl_serving.specs.Traces.{trail, MadeProgress, made_left, next_number, accesses_of, with_record}

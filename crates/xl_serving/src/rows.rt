@@ -6,7 +6,7 @@ ghost use Rattle.xl_model.specs.Rows.{row_of, IsRow};
 ghost use Rattle.xl_model.specs.Scenes.{Served, opened};
 ghost use Rattle.xl_model.specs.Report.{row_lines, images_lines};
 ghost use Rattle.xl_outside.specs.Sinks.{SinkAfter};
-ghost use Rattle.xl_report.specs.Json.{row_objects, text_of};
+ghost use Rattle.xl_report.specs.Json.{row_objects, objects_text};
 ghost use Rattle.xl_serving.specs.Serving.{HasServed, scene_of};
 ghost use Rattle.xl_serving.specs.Batches.{waited};
 
@@ -69,7 +69,7 @@ pub trait Rows: Sized {
     /// the answer may be that.
     fn json(&self, alloc: Global) -> Result<String, NoMemory>
         ensures { IfOk result (λ text.
-            string_bytes text ≡ text_of (row_objects (rows self.now))) };
+            string_bytes text ≡ objects_text (row_objects (rows self.now))) };
 
     /// Writes the words of each radix table that are not 0, row by row.
     fn write_images<K: Sink>(&self, out: &mut K) -> Result<(), Failed>

@@ -75,7 +75,7 @@ fn options_stand_in_any_order_and_a_flag_needs_no_value(rt: HostRuntime) -> Resu
 #[test]
 fn other_words_and_repeats_are_refused(rt: HostRuntime) -> Result<(), Fail> {
     let alloc = rt.alloc();
-    let cases: [&[&str]; 9] = [
+    let cases: [&[&str]; 13] = [
         &[],
         &["x"],
         &["x", "--script", "s"],

@@ -1,5 +1,5 @@
-use Rattle.std.proofs.Common.{◌≡◌, ap, ◌∙◌}
-use Rattle.serde_json.specs.Data.{no_members, Members, object}
+use Rattle.std.proofs.Common.{ap, ◌∙◌}
+use Rattle.serde_json.specs.Data.{Members, object}
 use Rattle.serde_json.specs.View.{members_view}
 use Rattle.xl_report.specs.Json.{verdict_members, walk_members, change_members, named_members}
 use Rattle.xl_report.proofs.JsonLemmas.{members_in_order}

@@ -1,4 +1,4 @@
-use Rattle.std.proofs.Common.{List, ℕ, map}
+use Rattle.std.proofs.Common.{map}
 use Rattle.std.specs.Prelude.{string_bytes}
 use Rattle.xl_serving.specs.Endings.{ending, EndsAs, Ends, Says}
 use Rattle.xl_serving.proofs.ToldLemmas.{told_one}

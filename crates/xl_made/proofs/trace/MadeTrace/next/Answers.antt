@@ -1,4 +1,4 @@
-use Rattle.std.proofs.Common.{◌≡◌, ◌<◌, ◌∙◌, ◌+◌, ◌-◌, ◌++◌, ℕ, List, length, ap, sym, arith, rules}
+use Rattle.std.proofs.Common.{◌≡◌, ◌<◌, ◌∙◌, ◌-◌, ◌++◌, length, ap, sym, arith, rules}
 use Rattle.rand_pcg.specs.Lcg.{Lcg}
 use Rattle.xl_made.specs.Made.{word, after, record_line, record_lines}
 use Rattle.xl_made.proofs.MadeLemmas.{byte_given, line_made}
