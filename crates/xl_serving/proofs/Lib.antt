@@ -10,5 +10,4 @@ mod AreaLemmas
 mod InputLemmas
 mod OpenedLemmas
 mod EndLemmas
-mod MadeTapeLemmas
 mod NoRowLemmas
