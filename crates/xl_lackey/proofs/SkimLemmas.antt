@@ -1,68 +1,70 @@
--- Records of one access alone, taken one after another.
-use Rattle.std.proofs.Common.{◌≡◌, refl, sym, ap, ap₂, ◌∙◌, ℕ, ◌+◌, ◌≤◌, Bool, List, [], ◌∷◌, ◌++◌, length, map, drop, append_assoc, append-nil, arith, length-drop}
+-- Records taken one after another.
+use Rattle.std.proofs.Common.{◌≡◌, refl, sym, ap, ap₂, ◌∙◌, ℕ, ◌+◌, ◌≤◌, Bool, List, [], ◌∷◌, ◌++◌, length, map, drop, append_assoc, append-nil, arith, length-append, length-drop}
 use Rattle.std.specs.Prelude.{None, Some}
 use Rattle.std.proofs.lemmas.List.{map-append}
 use Rattle.xl_model.specs.declared.address.Kind.{Kind}
+use Rattle.xl_text.specs.Texts.{lines_by}
 use Rattle.xl_lackey.specs.declared.skim.Access.{Access}
 use Rattle.xl_lackey.specs.declared.skim.Skim.{Skim}
 use Rattle.xl_lackey.specs.declared.line.Verdict.{Verdict}
 use Rattle.xl_lackey.specs.declared.line.Verdict.TheVariants.{Skipped, Found, Bad}
-use Rattle.xl_text.specs.Texts.{lines_by}
 use Rattle.xl_lackey.specs.Scans.{IsFirstLine}
-use Rattle.xl_lackey.specs.Skims.{alone, accesses_in, IsAlone, IsAloneLine, Taken, Skims, Skimmed, with_records}
+use Rattle.xl_lackey.specs.Skims.{pair, accesses_in, all_accesses, HasAccesses, IsRecordLine, Taken, Skims, Skimmed, with_records}
 use Rattle.xl_lackey.specs.Stream.{Record, Left, State, next_line, records}
 use Rattle.xl_lackey.proofs.SplitLemmas.{IsFirst, first_is, on_from, records_step}
 use Rattle.xl_lackey.proofs.StepLemmas.{left_passed}
 
 -- no record was taken
-pub taken_none : (xs : List Access) → Taken xs xs
-taken_none xs = record { taken = []; got = []; follow = sym (append-nil xs); each = refl }
+pub taken_none : (xs : List Access) → Taken xs xs 0
+taken_none xs = record { taken = []; got = []; follow = sym (append-nil xs); each = refl; many = refl }
 
-pub skim_none : (n : ℕ) (text : List ℕ) (xs : List Access) → Skims n text xs xs (record { used = 0; lines = n })
+pub skim_none : (n : ℕ) (text : List ℕ) (xs : List Access) → Skims n text xs xs (record { used = 0; lines = n; taken = 0 })
 unfolding taken_none
 skim_none n text xs = record { within = omega arith; of = taken_none xs; reads = λ last rest. refl }
 
 -- one record more was taken
-taken_more : (xs ys : List Access) (r : Record) (a : Access) → Taken xs ys → accesses_in r ≡ alone a → Taken xs (ys ++ a ∷ [])
-taken_more xs ys r a k e = record {
+all-more : (rs : List Record) (r : Record) → all_accesses (rs ++ r ∷ []) ≡ all_accesses rs ++ accesses_in r
+all-more [] r = append-nil (accesses_in r)
+all-more (q ∷ rs) r = ap (λ (xs : List (ℕ × Kind)). accesses_in q ++ xs) (all-more rs r) ∙ sym (append_assoc (accesses_in q) (all_accesses rs) (accesses_in r))
+
+taken_more : (xs ys more : List Access) (r : Record) (count : ℕ) → Taken xs ys count → accesses_in r ≡ map pair more → Taken xs (ys ++ more) (count + 1)
+taken_more xs ys more r count k e = record {
   taken = k.taken ++ r ∷ [];
-  got = k.got ++ a ∷ [];
-  follow = ap (λ (zs : List Access). zs ++ a ∷ []) k.follow ∙ append_assoc xs k.got (a ∷ []);
-  each = map-append accesses_in k.taken (r ∷ [])
-      ∙ ap₂ (λ (x : List (List (ℕ × Kind))) (y : List (ℕ × Kind)). x ++ y ∷ []) k.each e
-      ∙ sym (map-append alone k.got (a ∷ []));
+  got = k.got ++ more;
+  follow = ap (λ (zs : List Access). zs ++ more) k.follow ∙ append_assoc xs k.got more;
+  each = all-more k.taken r ∙ ap₂ (λ (x y : List (ℕ × Kind)). x ++ y) k.each e ∙ sym (map-append pair k.got more);
+  many = omega (arith, k.many, length-append k.taken (r ∷ []));
 }
 
 with_more : (rs : List Record) (r : Record) (later : Left) → with_records rs (r ∷ later.0, later.1) ≡ with_records (rs ++ r ∷ []) later
 with_more rs r later = ap (λ (all : List Record). (all, later.1)) (sym (append_assoc rs (r ∷ []) later.0))
 
-skim_by : (n : ℕ) (text : List ℕ) (xs ys : List Access) (s : Skim) (count : ℕ) (a : Access) (v : Verdict) → Skims n text xs ys s
-    → IsFirstLine (drop s.used text) count v → IsAlone v a → Skims n text xs (ys ++ a ∷ []) (record { used = s.used + count; lines = next_line s.lines })
+skim_by : (n : ℕ) (text : List ℕ) (xs ys more : List Access) (s : Skim) (count : ℕ) (v : Verdict) → Skims n text xs ys s → IsFirstLine (drop s.used text) count v
+    → HasAccesses v more → Skims n text xs (ys ++ more) (record { used = s.used + count; lines = next_line s.lines; taken = s.taken + 1 })
 unfolding taken_more
-skim_by n text xs ys s count a Skipped k line e = absurd e
-skim_by n text xs ys s count a (Bad reason) k line e = absurd e
-skim_by n text xs ys s count a (Found l addr size) k line e =
+skim_by n text xs ys more s count Skipped k line e = absurd e
+skim_by n text xs ys more s count (Bad reason) k line e = absurd e
+skim_by n text xs ys more s count (Found l addr size) k line e =
     let m = next_line s.lines in
     let r : Record = record { letter = l; addr = addr; size = size; line = m } in
     let from = drop s.used text in
     let after = drop (s.used + count) text in
-    let first : IsFirst from after (Found l addr size) = first_is from after (Found l addr size) (on_from s.used count text line.line) in
-    record {
+    let first : IsFirst from after (Found l addr size) = first_is from after (Found l addr size) (on_from s.used count text line.line) in record {
       within = omega (arith, line.within, k.within, length-drop s.used text);
-      of = taken_more xs ys r a k.of e;
+      of = taken_more xs ys more r s.taken k.of e;
       reads = λ last rest.
           k.reads last rest
           ∙ ap (with_records k.of.taken) (sym (records_step last s.lines m from rest first.line after (Found l addr size) _ first.parts refl refl first.verdict))
           ∙ with_more k.of.taken r (records m (lines_by last (after ++ rest)));
     }
 
-pub skim_more : (n : ℕ) (text : List ℕ) (xs ys : List Access) (s : Skim) (count : ℕ) (a : Access) → Skims n text xs ys s
-    → IsAloneLine (drop s.used text) count a → Skims n text xs (ys ++ a ∷ []) (record { used = s.used + count; lines = next_line s.lines })
-skim_more n text xs ys s count a k h = skim_by n text xs ys s count a h.verdict k h.line h.alone_is
+pub skim_more : (n : ℕ) (text : List ℕ) (xs ys more : List Access) (s : Skim) (count : ℕ) → Skims n text xs ys s → IsRecordLine (drop s.used text) count more
+    → Skims n text xs (ys ++ more) (record { used = s.used + count; lines = next_line s.lines; taken = s.taken + 1 })
+skim_more n text xs ys more s count k h = skim_by n text xs ys more s count h.verdict k h.line h.accesses_are
 
 -- a reader that skims what it holds
 pub skimmed : (old new : State) (text : List ℕ) (n : ℕ) (xs ys : List Access) (s : Skim) → old.bad ≡ None → text ≡ old.held → n ≡ old.lines → Skims n text xs ys s
-    → new ≡ record old { lines = s.lines; held = drop s.used old.held } → Skimmed old new xs ys
+    → new ≡ record old { lines = s.lines; held = drop s.used old.held } → Skimmed old new xs ys s.taken
 skimmed old new text n xs ys s h a b k e =
     let size = ap (λ (u : State). length u.held) e in record {
       of = k.of;
@@ -71,6 +73,6 @@ skimmed old new text n xs ys s h a b k e =
       finished = ap (λ (u : State). u.finished) e;
     }
 
-pub skimmed_none : (s : State) (xs : List Access) → Skimmed s s xs xs
+pub skimmed_none : (s : State) (xs : List Access) → Skimmed s s xs xs 0
 unfolding taken_none
 skimmed_none s xs = record { of = taken_none xs; reads = λ last rest m. refl; no_more = omega arith; finished = refl }

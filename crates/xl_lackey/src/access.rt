@@ -51,7 +51,7 @@ pub fn sole_access(reference: &Reference) -> Option<(u64, Kind)>
 
 /// Whether all bytes touched lie in one page.
 #[inline(always)]
-fn is_within_page(reference: &Reference) -> bool
+pub(crate) fn is_within_page(reference: &Reference) -> bool
     ensures { IsTrue result ↔ (borders_of reference.now.addr reference.now.size ≡ 0) }
 {
     reference.addr % PAGE + reference.size.max(1) as u64 <= PAGE

@@ -125,17 +125,20 @@ impl Reader {
         }
     }
 
-    /// Takes the next records while each is one access alone in Lackey's own form, and puts their
-    /// accesses behind those that are there, while there is room. It may take none.
+    /// Takes the next records, at most so many, while each is in Lackey's own form and its bytes lie in
+    /// one page, and puts their accesses behind those that are there, while there is room. Gives how
+    /// many were taken, perhaps none.
     #[inline(always)]
-    pub fn skim(&mut self, into: &mut Batch)
-        ensures { Skimmed self.old self.new into.old.items into.new.items }
+    pub fn skim(&mut self, into: &mut Batch, most: u64) -> u64
+        ensures skims { Skimmed self.old self.new into.old.items into.new.items result }
+        ensures few { result ≤ most }
     {
         let None = self.bad_line() else {
-            return;
+            return 0;
         };
-        let skim = skim_lines(self.held(), self.lines(), into);
+        let skim = skim_lines(self.held(), self.lines(), into, most);
         self.pass(skim.used, skim.lines);
+        skim.taken
     }
 
     /// Where no newline is held: waits for more bytes, or judges the last line.

@@ -1,12 +1,14 @@
-//! Records of one access alone, taken together: what nearly all of a trace is.
+//! Records whose bytes lie in one page each, taken together: what nearly all of a trace is.
 
-ghost use Rattle.std.specs.Prelude.{◌≤◌, length, drop, IfSome};
+ghost use Rattle.std.specs.Prelude.{◌≡◌, ◌<◌, ◌≤◌, ◌++◌, length, drop, map, IfSome};
+ghost use Rattle.arrayvec.specs.ArrayVec.{array_vec_len};
+ghost use Rattle.xl_lackey.specs.Accesses.{accesses};
 ghost use Rattle.xl_lackey.specs.Lines.{IsProper};
-ghost use Rattle.xl_lackey.specs.Skims.{IsAlone, IsAloneLine, Skims};
+ghost use Rattle.xl_lackey.specs.Skims.{pair, read_of, accesses_near, HasAccesses, IsRecordLine, Skims};
 
-use crate::access::sole_access;
+use crate::access::is_within_page;
 use crate::line::Verdict;
-use crate::reference::Reference;
+use crate::reference::{Letter, Reference};
 use crate::usual::near_line;
 use arrayvec::ArrayVec;
 use xl_model::Kind;
@@ -37,55 +39,113 @@ pub(crate) struct Skim {
     pub(crate) used: usize,
     /// The lines that ended so far, modulo 2^64.
     pub(crate) lines: u64,
+    /// The records that were taken.
+    pub(crate) taken: u64,
 }
 
-/// The access of a line that is a record of one access alone.
+/// What was read of a line: how many bytes it has with its newline, and its access; of a modify the
+/// load, which a store follows at the same place.
+#[derive(Clone, Copy)]
+pub(crate) struct Near {
+    pub(crate) used: usize,
+    pub(crate) va: u64,
+    pub(crate) kind: Kind,
+    pub(crate) is_modify: bool,
+}
+
+/// What is read of a line of so many bytes that is a record whose bytes lie in one page.
 #[inline(always)]
-fn access_alone(verdict: Verdict) -> Option<Access>
+fn record_in_page(verdict: Verdict, used: usize) -> Option<Near>
     requires { IsProper verdict }
-    ensures { IfSome result (IsAlone verdict) }
+    ensures accesses { IfSome result (λ near. HasAccesses verdict (read_of near)) }
+    ensures used { IfSome result (λ near. near.used ≡ used) }
 {
     match verdict {
         Verdict::Found { letter, addr, size } => {
-            let (va, kind) = sole_access(&Reference {
+            let reference = Reference {
                 letter,
                 addr,
                 size,
                 line: 0,
-            })?;
-            Some(Access { va, kind })
+            };
+            near_of(&reference, used)
         }
         _ => None,
     }
 }
 
-/// The first line from a place on, in Lackey's own form, where it is a record of one access alone: how
-/// many bytes it has with its newline, and the access. None says nothing of the text.
+/// What is read of a reference whose bytes lie in one page.
 #[inline(always)]
-fn near_access(text: &[u8], from: usize) -> Option<(usize, Access)>
-    requires { from ≤ length text.now }
-    ensures { IfSome result (λ r. IsAloneLine (drop from text.now) r.0 r.1) }
+fn near_of(reference: &Reference, used: usize) -> Option<Near>
+    ensures accesses { IfSome result (λ near. accesses reference.now ≡ map pair (read_of near)) }
+    ensures used { IfSome result (λ near. near.used ≡ used) }
 {
-    let (used, verdict) = near_line(&text[from..])?;
-    let access = access_alone(verdict)?;
-    Some((used, access))
+    if !is_within_page(reference) {
+        return None;
+    }
+    let va = reference.addr;
+    let (kind, is_modify) = match reference.letter {
+        Letter::I => (Kind::Fetch, false),
+        Letter::L => (Kind::Load, false),
+        Letter::S => (Kind::Store, false),
+        Letter::M => (Kind::Load, true),
+    };
+    Some(Near {
+        used,
+        va,
+        kind,
+        is_modify,
+    })
 }
 
-/// Reads the first lines of a text, of which so many came before it, while each is a record of one
-/// access alone in Lackey's own form and there is room for its access.
+/// The first line from a place on, in Lackey's own form, where it is a record whose bytes lie in one
+/// page. None says nothing of the text.
 #[inline(always)]
-pub(crate) fn skim_lines(text: &[u8], before: u64, into: &mut Batch) -> Skim
-    ensures { Skims before text.now into.old.items into.new.items result }
+fn near_record(text: &[u8], from: usize) -> Option<Near>
+    requires { from ≤ length text.now }
+    ensures { IfSome result (λ near. IsRecordLine (drop from text.now) near.used (read_of near)) }
+{
+    let (used, verdict) = near_line(&text[from..])?;
+    record_in_page(verdict, used)
+}
+
+/// Puts the accesses of a record behind those that are there.
+#[inline(always)]
+fn put_accesses(into: &mut Batch, near: Near)
+    requires { array_vec_len into.old < 63 }
+    ensures { into.new.items ≡ into.old.items ++ read_of near }
+{
+    let va = near.va;
+    into.push(Access {
+        va,
+        kind: near.kind,
+    });
+    if near.is_modify {
+        into.push(Access {
+            va,
+            kind: Kind::Store,
+        });
+    }
+}
+
+/// Reads the first lines of a text, of which so many came before it, while each is a record in Lackey's
+/// own form whose bytes lie in one page, at most so many, and while there is room for two accesses.
+#[inline(always)]
+pub(crate) fn skim_lines(text: &[u8], before: u64, into: &mut Batch, most: u64) -> Skim
+    ensures skims { Skims before text.now into.old.items into.new.items result }
+    ensures few { result.taken ≤ most }
 {
     let mut used = 0;
     let mut lines = before;
-    while !into.is_full() {
-        let Some((count, access)) = near_access(text, used) else {
-            return Skim { used, lines };
+    let mut taken = 0;
+    while taken < most && into.len() < 63 {
+        let Some(near) = near_record(text, used) else {
+            return Skim { used, lines, taken };
         };
-        used += count;
+        used += near.used;
         lines = lines.wrapping_add(1);
-        into.push(access);
+        taken += 1;
+        put_accesses(into, near);
     }
-    Skim { used, lines }
+    Skim { used, lines, taken }
 }

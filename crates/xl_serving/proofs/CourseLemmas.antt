@@ -1,5 +1,5 @@
 -- Courses that are served part by part.
-use Rattle.std.proofs.Common.{◌≡◌, refl, sym, ap, ◌∙◌, subst, ℕ, suc, ◌+◌, ◌-◌, ◌<◌, ◌≤◌, Bool, true, false, List, [], ◌∷◌, ◌++◌, append_assoc, arith}
+use Rattle.std.proofs.Common.{◌≡◌, refl, sym, ap, ◌∙◌, subst, ℕ, zero, suc, ◌+◌, ◌-◌, ◌<◌, ◌≤◌, Bool, true, false, List, [], ◌∷◌, ◌++◌, append_assoc, arith}
 use Rattle.std.specs.Prelude.{Option, None, Some, Result, Ok, Err, drop, length, slice_get}
 use Rattle.std.proofs.lemmas.List.{drop_all, drop_more}
 use Rattle.std.proofs.lemmas.Option.{slice_get_within, get_or_from_slice_get}
@@ -126,14 +126,8 @@ going_lost A {written} {faults} {roomy} answers mid after by now later t u r p q
 
 -- nothing of a run was served yet
 pub underway_run : {K : Type 0} {written : K → Option (List ℕ)} {faults : K → ℕ} {roomy : K → ℕ → Type 0} (answers : Bool) (after : Type 0) (n : ℕ) (t : Trail) (p : Scene) (k : K)
-    → after → Underway written faults roomy answers after (left_by (ran n) t) (left_by (ran (n - 0)) t) p p k k
-underway_run {K} {written} {faults} {roomy} answers after n t p k s =
-    let z : n ≡ n - 0 = omega arith in
-    record {
-      serves = λ next. subst (λ (m : ℕ). Reached written faults roomy answers (left_by (ran n) t next) (left_by (ran m) t next) p p k k) z
-          (reached_none answers (left_by (ran n) t next) p k);
-      stands_still = s;
-    }
+    → after → Underway written faults roomy answers after (left_by (ran n) t) (left_by (ran n) t) p p k k
+underway_run answers after n t p k s = record { serves = λ next. reached_none answers (left_by (ran n) t next) p k; stands_still = s }
 
 -- the trace has ended
 pub going_ends : {K A : Type 0} {written : K → Option (List ℕ)} {faults : K → ℕ} {roomy : K → ℕ → Type 0} (answers : Bool) (mid after : Type 0)
@@ -171,10 +165,9 @@ going_stops A answers mid after by now later t u p q k l trace.ReadFault steps g
 going_stops A answers mid after by now later t u p q k l (trace.Input fault) steps g f =
     record { serves = λ next. ends_at answers mid by now later t p q k l (Some fault) next steps g f refl; stands_still = tt }
 
-pub run_step : (n i : ℕ) → i < n → Steps (ran (n - i)) (ran (n - (i + 1)))
-run_step n i h =
-    let e : n - i ≡ suc (n - (i + 1)) = omega arith in
-    subst (λ (z : ℕ). Steps (ran z) (ran (n - (i + 1)))) (sym e) (run_steps (n - (i + 1)))
+pub run_step : (n : ℕ) → 0 < n → Steps (ran n) (ran (n - 1))
+run_step zero h = absurd (omega arith)
+run_step (suc n) h = let e : suc n - 1 ≡ n = omega arith in rw e (run_steps n)
 
 -- a command, and then what goes on
 pub part_then : {K A : Type 0} {written : K → Option (List ℕ)} {faults : K → ℕ} {roomy : K → ℕ → Type 0} (answers : Bool) (after : Type 0)

@@ -67,10 +67,10 @@ impl Trace for MadeTape {
         }
     }
 
-    fn skim(&mut self, into: &mut Batch) {
-        let before = into.len();
-        self.reader.skim(into);
-        self.number = self.number.wrapping_add((into.len() - before) as u64);
+    fn skim(&mut self, into: &mut Batch, most: u64) -> u64 {
+        let taken = self.reader.skim(into, most);
+        self.number = self.number.wrapping_add(taken);
+        taken
     }
 }
 

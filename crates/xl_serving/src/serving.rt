@@ -1,6 +1,6 @@
 //! The commands of a script, served over a trace.
 
-ghost use Rattle.std.specs.Prelude.{◌≡◌, ◌+◌, ◌*◌, ◌^◌, ◌≤◌, ◌<◌, IfErr, IfSome, length, is_ok, false, ℕ, Option, None, List, []};
+ghost use Rattle.std.specs.Prelude.{◌≡◌, ◌+◌, ◌*◌, ◌^◌, ◌≤◌, ◌<◌, IfErr, IfSome, length, is_ok, true, false, ℕ, Option, None, List, []};
 ghost use Rattle.xl_model.specs.declared.script.Area.{Area};
 ghost use Rattle.xl_model.specs.Courses.{accesses_items, events_from, ran, ran_all, course_by, course, ended};
 ghost use Rattle.xl_outside.specs.Folders.{file_of, FolderAfter, fate_by};
@@ -122,19 +122,23 @@ fn serve_command<R: Rows, T: Trace, F: Folder, K: Sink>(
     }
 }
 
-/// Lets the accesses wait of the next records of one access alone, where no line is written.
+/// Lets the accesses of the next records wait, at most so many, where no line is written. Gives of how
+/// many records.
 #[inline(always)]
-fn skim<T: Trace>(trace: &mut T, answers: bool, batch: &mut Batch)
+fn skim<T: Trace>(trace: &mut T, answers: bool, batch: &mut Batch, most: u64) -> u64
     requires idle { IsIdle answers batch.old.items }
     ensures idle { IsIdle answers batch.new.items }
     ensures skims { (file : Option (List ℕ)) → T.stands trace.old file
         → Skims (T.stands trace.new file) (T.left trace.old file) (T.left trace.new file)
-        batch.old.items batch.new.items }
+        batch.old.items batch.new.items result }
+    ensures none { answers ≡ true → result ≡ 0 }
+    ensures few { result ≤ most }
     ensures no_more { T.size trace.new ≤ T.size trace.old }
 {
-    if !answers {
-        trace.skim(batch);
+    if answers {
+        return 0;
     }
+    trace.skim(batch, most)
 }
 
 /// Serves all records that are left.
@@ -161,7 +165,7 @@ fn serve_rest<R: Rows, T: Trace, F: Folder, K: Sink>(
 {
     let mut batch = Batch::new();
     'records: loop {
-        skim(trace, answers, &mut batch);
+        skim(trace, answers, &mut batch, u64::MAX);
         match trace.next(folder, name) {
             Ok(Some(found)) => serve_record(rows, areas, answers, out, &mut batch, &found)?,
             Ok(None) => {
@@ -200,7 +204,9 @@ fn serve_run<R: Rows, T: Trace, F: Folder, K: Sink>(
     ensures met { IfErr result ServingIsMet }
 {
     let mut batch = Batch::new();
-    for i in 0..n {
+    let mut left = n;
+    'records: while left > 0 {
+        let taken = skim(trace, answers, &mut batch, left - 1);
         match trace.next(folder, name) {
             Ok(Some(found)) => serve_record(rows, areas, answers, out, &mut batch, &found)?,
             Ok(None) => {
@@ -212,6 +218,7 @@ fn serve_run<R: Rows, T: Trace, F: Folder, K: Sink>(
                 return Err(ServeStop::from(stop));
             }
         }
+        left -= taken + 1;
     }
     settle(rows, areas, &mut batch);
     Ok(())

@@ -58,12 +58,14 @@ pub trait Trace: Sized {
         ensures met { IfErr result TraceIsMet }
         ensures shrinks { IfOk result (λ r. IsSome r → size self.new < size self.old) };
 
-    /// Takes the next records that are at hand while each is one access alone, and puts their accesses
-    /// behind those that are there, while there is room. It may take none.
-    fn skim(&mut self, into: &mut Batch)
+    /// Takes the next records that are at hand, at most so many, while each is in Lackey's own form and
+    /// its bytes lie in one page, and puts their accesses behind those that are there, while there is
+    /// room. Gives how many were taken, perhaps none.
+    fn skim(&mut self, into: &mut Batch, most: u64) -> u64
         ensures skims { (file : Option (List ℕ)) → stands self.old file
             → Skims (stands self.new file) (left self.old file) (left self.new file)
-            into.old.items into.new.items }
+            into.old.items into.new.items result }
+        ensures few { result ≤ most }
         ensures no_more { size self.new ≤ size self.old };
 }
 
@@ -92,5 +94,7 @@ impl Trace for NoTrace {
         Ok(None)
     }
 
-    fn skim(&mut self, _into: &mut Batch) {}
+    fn skim(&mut self, _into: &mut Batch, _most: u64) -> u64 {
+        0
+    }
 }

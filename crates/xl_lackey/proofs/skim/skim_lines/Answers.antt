@@ -1,14 +1,16 @@
-use Rattle.std.proofs.Common.{◌≡◌, ◌++◌, ◌∷◌, [], List, subst, sym}
-use Rattle.xl_lackey.specs.declared.skim.Access.{Access}
-use Rattle.xl_lackey.specs.Skims.{Skims}
+use Rattle.std.proofs.Common.{arith}
+use Rattle.std.proofs.lemmas.Bool.Decides.{nat_tests}
+use Rattle.xl_lackey.specs.Skims.{read_of}
 use Rattle.xl_lackey.proofs.SkimLemmas.{skim_none, skim_more}
 use Rattle.xl_lackey.proofs.skim.skim_lines.Goals as goal
 
-pub loop-count-init : goal.loop-count-init
-loop-count-init c = skim_none c.args.before c.args.text.now c.args.into.now.items
+pub loop-taken-init : goal.loop-taken-init
+loop-taken-init c = record { skims = skim_none c.args.before c.args.text.now c.args.into.now.items; few = omega arith }
 
-pub loop-count-preserved : goal.loop-count-preserved
-loop-count-preserved c =
-    rw c.push.ensures.items
-    (skim_more c.args.before c.args.text.now c.args.into.now.items c.loop-count.into.items (record { used = c.loop-count.used; lines = c.loop-count.lines })
-    c.in-Some.count c.in-Some.access c.loop-count.invariant c.in-Some.ensures)
+pub loop-taken-preserved : goal.loop-taken-preserved
+loop-taken-preserved c = record {
+  skims = rw c.put_accesses.ensures
+      (skim_more c.args.before c.args.text.now c.args.into.now.items c.loop-taken.into.items (read_of c.in-Some.near)
+      (record { used = c.loop-taken.used; lines = c.loop-taken.lines; taken = c.loop-taken.taken }) c.in-Some.near.used c.loop-taken.invariant.skims c.in-Some.ensures);
+  few = let t = c.loop-taken-test.true in grind (arith, nat_tests);
+}

@@ -8,7 +8,7 @@ use Rattle.xl_serving.specs.declared.serving.ServeStop.TheVariants as why
 use Rattle.xl_serving.specs.Tapes.{TraceAnswers}
 use Rattle.xl_serving.specs.Serving.{scene_of, of_trace_stop}
 use Rattle.xl_serving.proofs.BatchLemmas.{lost-any}
-use Rattle.xl_serving.proofs.SkimLemmas.{going_skims}
+use Rattle.xl_serving.proofs.SkimLemmas.{going_skims_all}
 use Rattle.xl_serving.proofs.ToldLemmas.{told_then, is_err_by}
 use Rattle.xl_serving.proofs.CourseLemmas.{all_steps, going_on, going_lost, going_ends, going_stops}
 use Rattle.xl_serving.proofs.serving.serve_rest.Goals as goal
@@ -23,7 +23,7 @@ records-preserved g c =
       told = told_then (g.F.Folder.files c.args.folder.now) (g.F.Folder.files c.records.folder) _ (λ fs. stands c.skim.new.trace (file_of fs name) → TraceAnswers (stands c.next.new.self (file_of fs name)) (left c.skim.new.trace (file_of fs name)) (left c.next.new.self (file_of fs name)) c.next.result) _
           inv.folder.keeps inv.told c.next.ensures.told
           (λ fs h k s.
-          let mid = going_skims _ _ _ _ _ _ _ _ (c.skim.ensures.skims (file_of fs name) (h s).stands_still) (scene_of (g.R.Rows.rows c.records.rows) c.args.areas.now) c.records.out c.args.answers _ _ _ _ c.skim.ensures.idle (h s) in
+          let mid = going_skims_all _ _ _ _ _ _ _ _ _ (c.skim.ensures.skims (file_of fs name) (h s).stands_still) (scene_of (g.R.Rows.rows c.records.rows) c.args.areas.now) c.records.out c.args.answers _ _ _ _ c.skim.ensures.none (h s) in
           going_on c.args.answers _ _ _ ran_all ran_all _ _ c.in-Ok-Some.found _ _ _ _ _ _ all_steps mid
           (subst (λ (z : Result (Option Numbered) TraceStop). TraceAnswers (stands c.next.new.self (file_of fs name)) (left c.skim.new.trace (file_of fs name)) (left c.next.new.self (file_of fs name)) z) (c.in-Ok-Some.is ∙ ap (λ (o : Option Numbered). Ok o) c.in-Ok-Some.field-0-is) (k mid.stands_still))
           c.in_ok-serve_record-in-Ok-Some.ensures.served);
@@ -43,7 +43,7 @@ returns-in_err-serve_record-in-Ok-Some-clause-told g c =
     (told_then (g.F.Folder.files c.args.folder.now) (g.F.Folder.files c.records.folder) _ (λ fs. stands c.skim.new.trace (file_of fs name) → TraceAnswers (stands c.next.new.self (file_of fs name)) (left c.skim.new.trace (file_of fs name)) (left c.next.new.self (file_of fs name)) c.next.result) _
     inv.folder.keeps inv.told c.next.ensures.told
     (λ fs h k s.
-    let mid = going_skims _ _ _ _ _ _ _ _ (c.skim.ensures.skims (file_of fs name) (h s).stands_still) (scene_of (g.R.Rows.rows c.records.rows) c.args.areas.now) c.records.out c.args.answers _ _ _ _ c.skim.ensures.idle (h s) in
+    let mid = going_skims_all _ _ _ _ _ _ _ _ _ (c.skim.ensures.skims (file_of fs name) (h s).stands_still) (scene_of (g.R.Rows.rows c.records.rows) c.args.areas.now) c.records.out c.args.answers _ _ _ _ c.skim.ensures.none (h s) in
     going_lost _ c.args.answers _ _ _ ran_all ran_all _ _ c.in-Ok-Some.found _ _ _ _ _ _ all_steps mid
     (subst (λ (z : Result (Option Numbered) TraceStop). TraceAnswers (stands c.next.new.self (file_of fs name)) (left c.skim.new.trace (file_of fs name)) (left c.next.new.self (file_of fs name)) z) (c.in-Ok-Some.is ∙ ap (λ (o : Option Numbered). Ok o) c.in-Ok-Some.field-0-is) (k mid.stands_still))
     (lost-any c.args.answers _ _ _ _ _ _ c.in_err-serve_record-in-Ok-Some.ensures.served)))
@@ -58,7 +58,7 @@ returns-in-Ok-None-clause-told g c =
     (told_then (g.F.Folder.files c.args.folder.now) (g.F.Folder.files c.records.folder) _ (λ fs. stands c.skim.new.trace (file_of fs name) → TraceAnswers (stands c.next.new.self (file_of fs name)) (left c.skim.new.trace (file_of fs name)) (left c.next.new.self (file_of fs name)) c.next.result) _
     inv.folder.keeps inv.told c.next.ensures.told
     (λ fs h k s.
-    let mid = going_skims _ _ _ _ _ _ _ _ (c.skim.ensures.skims (file_of fs name) (h s).stands_still) (scene_of (g.R.Rows.rows c.records.rows) c.args.areas.now) c.records.out c.args.answers _ _ _ _ c.skim.ensures.idle (h s) in
+    let mid = going_skims_all _ _ _ _ _ _ _ _ _ (c.skim.ensures.skims (file_of fs name) (h s).stands_still) (scene_of (g.R.Rows.rows c.records.rows) c.args.areas.now) c.records.out c.args.answers _ _ _ _ c.skim.ensures.none (h s) in
     going_ends c.args.answers _ _ _ ran_all ran_all _ _ _ _ _ _ _ all_steps mid
     (subst (λ (z : Result (Option Numbered) TraceStop). TraceAnswers (stands c.next.new.self (file_of fs name)) (left c.skim.new.trace (file_of fs name)) (left c.next.new.self (file_of fs name)) z) (c.in-Ok-None.is ∙ ap (λ (o : Option Numbered). Ok o) c.in-Ok-None.field-0-is) (k mid.stands_still))))
 
@@ -72,6 +72,6 @@ returns-in-Err-clause-told g c =
     (told_then (g.F.Folder.files c.args.folder.now) (g.F.Folder.files c.records.folder) _ (λ fs. stands c.skim.new.trace (file_of fs name) → TraceAnswers (stands c.next.new.self (file_of fs name)) (left c.skim.new.trace (file_of fs name)) (left c.next.new.self (file_of fs name)) c.next.result) _
     inv.folder.keeps inv.told c.next.ensures.told
     (λ fs h k s.
-    let mid = going_skims _ _ _ _ _ _ _ _ (c.skim.ensures.skims (file_of fs name) (h s).stands_still) (scene_of (g.R.Rows.rows c.records.rows) c.args.areas.now) c.records.out c.args.answers _ _ _ _ c.skim.ensures.idle (h s) in
+    let mid = going_skims_all _ _ _ _ _ _ _ _ _ (c.skim.ensures.skims (file_of fs name) (h s).stands_still) (scene_of (g.R.Rows.rows c.records.rows) c.args.areas.now) c.records.out c.args.answers _ _ _ _ c.skim.ensures.none (h s) in
     going_stops _ c.args.answers _ _ _ ran_all ran_all _ _ _ _ _ _ c.in-Err.stop all_steps mid
     (subst (λ (z : Result (Option Numbered) TraceStop). TraceAnswers (stands c.next.new.self (file_of fs name)) (left c.skim.new.trace (file_of fs name)) (left c.next.new.self (file_of fs name)) z) c.in-Err.is (k mid.stands_still))))

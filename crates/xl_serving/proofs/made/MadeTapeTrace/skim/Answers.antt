@@ -5,6 +5,6 @@ use Rattle.xl_serving.proofs.made.MadeTapeTrace.skim.Goals as goal
 
 pub returns-clause-skims : goal.returns-clause-skims
 returns-clause-skims c file h = rw (← c.self.view_is) (
-    skims-made _ _ c.args.into.now.items c.skim.new.into.items (search rules) c.skim.ensures refl
-    (ap₂ (λ (m n : ℕ). (c.self.inside.number + (m - n)) % 2 ^ 64) c.len.ensures.value c.len-before.ensures.value)
+    skims-made _ _ c.args.into.now.items c.skim-taken.new.into.items c.skim-taken.result (search rules) c.skim-taken.ensures.skims refl
+    refl
     (subst (λ p. IsMadeWhole p) (sym c.self.view_is) h))
