@@ -24,7 +24,7 @@ pub(crate) fn line(word: u32) -> [u8; LINE]
 }
 
 /// Puts bytes at a place.
-fn put(line: &mut [u8], at: usize, bytes: &[u8])
+pub(crate) fn put(line: &mut [u8], at: usize, bytes: &[u8])
     requires room { at + length bytes.now ≤ length line.old }
     ensures { take (at + length bytes.now) line.new ≡ take at line.old ++ bytes.now }
 {

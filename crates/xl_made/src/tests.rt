@@ -9,7 +9,7 @@ fn the_first_records_are_made_in_pieces(rt: HostRuntime) -> Result<(), Fail> {
     let mut trace = MadeTrace::new(2);
     let mut text = Vec::new(rt.alloc());
     for _ in 0..8 {
-        let mut piece = [0; 5];
+        let mut piece = [0; 15];
         let count = trace.piece(&mut piece);
         text.extend_from_slice(&piece[..count])?;
     }

@@ -1,35 +1,29 @@
 //! The made trace.
 
-ghost use Rattle.std.specs.Prelude.{◌≡◌, ◌<◌, ◌≤◌, ◌++◌, [], ◌∷◌, length, take, IfSome};
+ghost use Rattle.std.specs.Prelude.{◌≡◌, ◌<◌, ◌≤◌, ◌+◌, ◌*◌, ◌++◌, [], length, take};
 ghost use Rattle.xl_made.specs.Made.{made_trace};
 
-use crate::record::{LINE, line};
+use crate::record::{LINE, line, put};
 use rand_core::utils::NextWord;
 use rand_pcg::Lcg64Xsh32;
 use std::marker::Model;
 
-/// A trace that is made while it is read, line by line. Contracts see the bytes that are still to
+/// A trace that is made while it is read, in whole lines. Contracts see the bytes that are still to
 /// come.
 #[derive(Drop)]
 pub struct MadeTrace {
     generator: Lcg64Xsh32,
     /// How many records are still to be made.
     left: u32,
-    /// The line of the record that was made last.
-    line: [u8; LINE],
-    /// How many bytes of it were given.
-    given: usize,
 }
 
 impl Model for MadeTrace {
-    ghost use Rattle.std.specs.Prelude.{◌≡◌, ◌≤◌, ◌++◌, ℕ, List, drop};
+    ghost use Rattle.std.specs.Prelude.{ℕ, List};
     ghost use Rattle.xl_made.specs.Made.{record_lines};
 
     ghost Value = { List ℕ };
 
-    ghost view = { λ t. drop t.given t.line ++ record_lines t.left t.generator };
-
-    ghost invariant = { λ t. t.given ≤ 14 };
+    ghost view = { λ t. record_lines t.left t.generator };
 }
 
 impl MadeTrace {
@@ -40,43 +34,33 @@ impl MadeTrace {
         MadeTrace {
             generator: Lcg64Xsh32::new(42, 54),
             left: n,
-            line: [0; LINE],
-            given: LINE,
         }
     }
 
-    /// Gives the next bytes into the buffer, and answers how many; none into a buffer that isn't
-    /// empty only at the end.
+    /// Gives the next lines into the buffer, as many whole ones as it has room for, and answers how
+    /// many bytes they are; none into a buffer with room for a line only at the end.
     pub fn piece(&mut self, buf: &mut [u8]) -> usize
         ensures count { result ≤ length buf.old }
         ensures given { self.old ≡ take result buf.new ++ self.new }
-        ensures end { result ≡ 0 → 0 < length buf.old → self.old ≡ [] }
+        ensures end { result ≡ 0 → 14 ≤ length buf.old → self.old ≡ [] }
     {
-        for i in 0..buf.len() {
-            match self.next() {
-                Some(byte) => buf[i] = byte,
-                None => return i,
-            }
+        let lines = (buf.len() / LINE).min(self.left as usize);
+        for i in 0..lines {
+            self.give_line(buf, i * LINE);
         }
-        buf.len()
+        lines * LINE
     }
 
-    /// The next byte.
-    fn next(&mut self) -> Option<u8>
-        ensures some { IfSome result (λ byte. self.old ≡ byte ∷ self.new) }
-        ensures none { result ≡ None → (self.old ≡ []) × (self.new ≡ []) }
+    /// Gives the next line into the buffer at a place.
+    fn give_line(&mut self, buf: &mut [u8], at: usize)
+        requires some { 14 ≤ length self.old }
+        requires room { at + 14 ≤ length buf.old }
+        ensures given { take at buf.old ++ self.old ≡ take (at + 14) buf.new ++ self.new }
+        ensures less { length self.old ≡ 14 + length self.new }
+        ensures size { length buf.new ≡ length buf.old }
     {
-        if self.given < LINE {
-            let byte = self.line[self.given];
-            self.given += 1;
-            return Some(byte);
-        }
-        if self.left == 0 {
-            return None;
-        }
-        self.line = line(self.generator.next_word());
+        let line = line(self.generator.next_word());
         self.left -= 1;
-        self.given = 1;
-        Some(self.line[0])
+        put(buf, at, &line);
     }
 }

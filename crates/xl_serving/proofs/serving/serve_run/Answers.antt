@@ -31,10 +31,10 @@ records-preserved g c =
       told = told_then (g.F.Folder.files c.args.folder.now) (g.F.Folder.files c.records.folder) _ (λ fs. stands c.skim-taken.new.trace (file_of fs name) → TraceAnswers (stands c.next.new.self (file_of fs name)) (left c.skim-taken.new.trace (file_of fs name)) (left c.next.new.self (file_of fs name)) c.next.result) _
           inv.folder.keeps inv.told c.next.ensures.told
           (λ fs h k s.
-              let mid = going_skims_run _ _ _ _ _ _ _ _ _ (c.skim-taken.ensures.skims (file_of fs name) (h s).stands_still) (scene_of (g.R.Rows.rows c.records.rows) c.args.areas.now) c.records.out n c.args.answers _ _ _ _ c.skim-taken.ensures.none fits (h s) in
-              going_on c.args.answers _ _ _ (ran (n - taken)) (ran (n - (taken + 1))) _ _ c.in-Ok-Some.found _ _ _ _ _ _ step mid
-              (subst (λ (z : Result (Option Numbered) TraceStop). TraceAnswers (stands c.next.new.self (file_of fs name)) (left c.skim-taken.new.trace (file_of fs name)) (left c.next.new.self (file_of fs name)) z) (c.in-Ok-Some.is ∙ ap (λ (o : Option Numbered). Ok o) c.in-Ok-Some.field-0-is) (k mid.stands_still))
-              c.in_ok-serve_record-in-Ok-Some.ensures.served);
+          let mid = going_skims_run _ _ _ _ _ _ _ _ _ (c.skim-taken.ensures.skims (file_of fs name) (h s).stands_still) (scene_of (g.R.Rows.rows c.records.rows) c.args.areas.now) c.records.out n c.args.answers _ _ _ _ c.skim-taken.ensures.none fits (h s) in
+          going_on c.args.answers _ _ _ (ran (n - taken)) (ran (n - (taken + 1))) _ _ c.in-Ok-Some.found _ _ _ _ _ _ step mid
+          (subst (λ (z : Result (Option Numbered) TraceStop). TraceAnswers (stands c.next.new.self (file_of fs name)) (left c.skim-taken.new.trace (file_of fs name)) (left c.next.new.self (file_of fs name)) z) (c.in-Ok-Some.is ∙ ap (λ (o : Option Numbered). Ok o) c.in-Ok-Some.field-0-is) (k mid.stands_still))
+          c.in_ok-serve_record-in-Ok-Some.ensures.served);
       folder = folder_then _ _ _ _ _ _ _ _ inv.folder c.in-Ok-Some.ensures.leaves;
       counts = c.in_ok-serve_record-in-Ok-Some.ensures.served.writes.counts ∙ inv.counts;
       idle = c.in_ok-serve_record-in-Ok-Some.ensures.idle;
@@ -58,10 +58,10 @@ returns-in_err-serve_record-in-Ok-Some-clause-told g c =
     (told_then (g.F.Folder.files c.args.folder.now) (g.F.Folder.files c.records.folder) _ (λ fs. stands c.skim-taken.new.trace (file_of fs name) → TraceAnswers (stands c.next.new.self (file_of fs name)) (left c.skim-taken.new.trace (file_of fs name)) (left c.next.new.self (file_of fs name)) c.next.result) _
     inv.folder.keeps inv.told c.next.ensures.told
     (λ fs h k s.
-        let mid = going_skims_run _ _ _ _ _ _ _ _ _ (c.skim-taken.ensures.skims (file_of fs name) (h s).stands_still) (scene_of (g.R.Rows.rows c.records.rows) c.args.areas.now) c.records.out n c.args.answers _ _ _ _ c.skim-taken.ensures.none fits (h s) in
-        going_lost _ c.args.answers _ _ _ (ran (n - taken)) (ran (n - (taken + 1))) _ _ c.in-Ok-Some.found _ _ _ _ _ _ step mid
-        (subst (λ (z : Result (Option Numbered) TraceStop). TraceAnswers (stands c.next.new.self (file_of fs name)) (left c.skim-taken.new.trace (file_of fs name)) (left c.next.new.self (file_of fs name)) z) (c.in-Ok-Some.is ∙ ap (λ (o : Option Numbered). Ok o) c.in-Ok-Some.field-0-is) (k mid.stands_still))
-        (lost-any c.args.answers _ _ _ _ _ _ c.in_err-serve_record-in-Ok-Some.ensures.served)))
+    let mid = going_skims_run _ _ _ _ _ _ _ _ _ (c.skim-taken.ensures.skims (file_of fs name) (h s).stands_still) (scene_of (g.R.Rows.rows c.records.rows) c.args.areas.now) c.records.out n c.args.answers _ _ _ _ c.skim-taken.ensures.none fits (h s) in
+    going_lost _ c.args.answers _ _ _ (ran (n - taken)) (ran (n - (taken + 1))) _ _ c.in-Ok-Some.found _ _ _ _ _ _ step mid
+    (subst (λ (z : Result (Option Numbered) TraceStop). TraceAnswers (stands c.next.new.self (file_of fs name)) (left c.skim-taken.new.trace (file_of fs name)) (left c.next.new.self (file_of fs name)) z) (c.in-Ok-Some.is ∙ ap (λ (o : Option Numbered). Ok o) c.in-Ok-Some.field-0-is) (k mid.stands_still))
+    (lost-any c.args.answers _ _ _ _ _ _ c.in_err-serve_record-in-Ok-Some.ensures.served)))
 
 pub returns-in-Ok-None-clause-told : goal.returns-in-Ok-None-clause-told
 returns-in-Ok-None-clause-told g c =
@@ -80,9 +80,9 @@ returns-in-Ok-None-clause-told g c =
     (told_then (g.F.Folder.files c.args.folder.now) (g.F.Folder.files c.records.folder) _ (λ fs. stands c.skim-taken.new.trace (file_of fs name) → TraceAnswers (stands c.next.new.self (file_of fs name)) (left c.skim-taken.new.trace (file_of fs name)) (left c.next.new.self (file_of fs name)) c.next.result) _
     inv.folder.keeps inv.told c.next.ensures.told
     (λ fs h k s.
-        let mid = going_skims_run _ _ _ _ _ _ _ _ _ (c.skim-taken.ensures.skims (file_of fs name) (h s).stands_still) (scene_of (g.R.Rows.rows c.records.rows) c.args.areas.now) c.records.out n c.args.answers _ _ _ _ c.skim-taken.ensures.none fits (h s) in
-        going_ends c.args.answers _ _ _ (ran (n - taken)) (ran (n - (taken + 1))) _ _ _ _ _ _ tt step mid
-        (subst (λ (z : Result (Option Numbered) TraceStop). TraceAnswers (stands c.next.new.self (file_of fs name)) (left c.skim-taken.new.trace (file_of fs name)) (left c.next.new.self (file_of fs name)) z) (c.in-Ok-None.is ∙ ap (λ (o : Option Numbered). Ok o) c.in-Ok-None.field-0-is) (k mid.stands_still))))
+    let mid = going_skims_run _ _ _ _ _ _ _ _ _ (c.skim-taken.ensures.skims (file_of fs name) (h s).stands_still) (scene_of (g.R.Rows.rows c.records.rows) c.args.areas.now) c.records.out n c.args.answers _ _ _ _ c.skim-taken.ensures.none fits (h s) in
+    going_ends c.args.answers _ _ _ (ran (n - taken)) (ran (n - (taken + 1))) _ _ _ _ _ _ tt step mid
+    (subst (λ (z : Result (Option Numbered) TraceStop). TraceAnswers (stands c.next.new.self (file_of fs name)) (left c.skim-taken.new.trace (file_of fs name)) (left c.next.new.self (file_of fs name)) z) (c.in-Ok-None.is ∙ ap (λ (o : Option Numbered). Ok o) c.in-Ok-None.field-0-is) (k mid.stands_still))))
 
 pub returns-in-Err-clause-told : goal.returns-in-Err-clause-told
 returns-in-Err-clause-told g c =
@@ -101,9 +101,9 @@ returns-in-Err-clause-told g c =
     (told_then (g.F.Folder.files c.args.folder.now) (g.F.Folder.files c.records.folder) _ (λ fs. stands c.skim-taken.new.trace (file_of fs name) → TraceAnswers (stands c.next.new.self (file_of fs name)) (left c.skim-taken.new.trace (file_of fs name)) (left c.next.new.self (file_of fs name)) c.next.result) _
     inv.folder.keeps inv.told c.next.ensures.told
     (λ fs h k s.
-        let mid = going_skims_run _ _ _ _ _ _ _ _ _ (c.skim-taken.ensures.skims (file_of fs name) (h s).stands_still) (scene_of (g.R.Rows.rows c.records.rows) c.args.areas.now) c.records.out n c.args.answers _ _ _ _ c.skim-taken.ensures.none fits (h s) in
-        going_stops _ c.args.answers _ _ _ (ran (n - taken)) (ran (n - (taken + 1))) _ _ _ _ _ _ c.in-Err.stop step mid
-        (subst (λ (z : Result (Option Numbered) TraceStop). TraceAnswers (stands c.next.new.self (file_of fs name)) (left c.skim-taken.new.trace (file_of fs name)) (left c.next.new.self (file_of fs name)) z) c.in-Err.is (k mid.stands_still))))
+    let mid = going_skims_run _ _ _ _ _ _ _ _ _ (c.skim-taken.ensures.skims (file_of fs name) (h s).stands_still) (scene_of (g.R.Rows.rows c.records.rows) c.args.areas.now) c.records.out n c.args.answers _ _ _ _ c.skim-taken.ensures.none fits (h s) in
+    going_stops _ c.args.answers _ _ _ (ran (n - taken)) (ran (n - (taken + 1))) _ _ _ _ _ _ c.in-Err.stop step mid
+    (subst (λ (z : Result (Option Numbered) TraceStop). TraceAnswers (stands c.next.new.self (file_of fs name)) (left c.skim-taken.new.trace (file_of fs name)) (left c.next.new.self (file_of fs name)) z) c.in-Err.is (k mid.stands_still))))
 
 pub records-init : goal.records-init
 records-init g c = record {
