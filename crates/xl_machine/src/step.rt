@@ -12,6 +12,7 @@ use xl_model::{Event, Outcome, Refusal, Structure};
 impl<S: Structure> Machine<S> {
     /// Serves an event: an access is replied to, a command is done, or refused for the first reason
     /// that holds.
+    #[inline(always)]
     pub fn step(&mut self, event: Event) -> Outcome
         ensures outcome { result ≡ outcome_of self.old.row event self.old.state }
         ensures after { self.new ≡ after_of event self.old }
