@@ -1,11 +1,10 @@
 //! A run of the rows of a rack.
 
 ghost use Rattle.std.specs.Prelude.{◌≡◌, [], IfSome, length, map, option_map, string_bytes};
-ghost use Rattle.xl_outside.specs.Folders.{FolderAfter};
-ghost use Rattle.xl_outside.specs.Sinks.{WriteCounts};
+ghost use Rattle.xl_outside.specs.Sinks.{GoesOn, IsFlushed};
 ghost use Rattle.xl_words.specs.Words.{asked};
 ghost use Rattle.xl_serving.specs.Endings.{ending, rows_left, text_of, Answers, SaysOfWords, Completes, message_of, Says};
-ghost use Rattle.xl_serving.specs.Stops.{status_fate, is_status_put};
+ghost use Rattle.xl_serving.specs.Stops.{FolderLeft, is_status_put};
 ghost use Rattle.xl_serving.specs.Traces.{trail_of};
 
 use std::alloc::Global;
@@ -27,20 +26,21 @@ pub fn run<F: Folder, K: Sink, E: Sink>(
     err: &mut E,
     rack: &mut Rack,
 ) -> Status
-    requires { rack.old ≡ [] }
+    requires none { rack.old ≡ [] }
+    requires out_flushed { IsFlushed K.taken K.outside out.old }
+    requires err_flushed { IsFlushed E.taken E.outside err.old }
     ensures told { IfSome (F.files folder.old) (λ fs. Answers result
         (ending trail_of (map string_bytes words.now.items) fs)
-        (K.written out.old) (K.written out.new)) }
+        (K.outside out.old).written (K.outside out.new).written) }
     ensures served { IfSome (F.files folder.old) (λ fs. result ≡ Status.Ok
         → rack.new ≡
         rows_left (ending trail_of (map string_bytes words.now.items) fs)) }
     ensures usage { SaysOfWords result (asked (map string_bytes words.now.items)) }
-    ensures leaves { FolderAfter F.files F.faults F.absences F.steady folder.old folder.new
-        (status_fate result) }
-    ensures counts { WriteCounts (is_status_put result) (K.put_faults out.old) (K.put_faults out.new) }
+    ensures leaves { FolderLeft F.files F.faults F.absences F.steady folder.old folder.new result }
+    ensures goes_on { GoesOn (is_status_put result) (K.outside out.old) (K.outside out.new) }
     ensures said { IfSome (message_of result
         (option_map (ending trail_of (map string_bytes words.now.items)) (F.files folder.old)))
-        (λ text. Says E.written E.put_faults E.roomy text err.old err.new) }
+        (λ text. Says E.outside E.roomy text err.old err.new) }
     ensures complete { F.steady folder.old → IfSome (F.files folder.old) (λ fs. K.roomy out.old
         (length (text_of (ending trail_of (map string_bytes words.now.items) fs)))
         → Completes result (ending trail_of (map string_bytes words.now.items) fs)) }

@@ -1,3 +1,4 @@
+mod BufferLemmas
 pub mod FolderLemmas
 mod FrontLemmas
 pub mod SinkLemmas

@@ -1,17 +1,15 @@
 -- Texts that are written to a sink, in parts and one after another.
 use Rattle.std.proofs.Common.{◌≡◌, ℕ, ◌+◌, ◌-◌, ◌≤◌, Bool, true, false, List, [], ◌∷◌, ◌++◌, length, take, drop, refl, sym, ap, subst, ◌∙◌, inl, inr, arith, append_assoc, length-append, length-drop}
 use Rattle.std.specs.Prelude.{Option, None, Some}
-use Rattle.std.proofs.lemmas.List.{take-append-le, take_rest}
-use Rattle.std.proofs.Math.Seq.{take-add, take-append-add}
-use Rattle.xl_outside.specs.Sinks.{SinkAfter, Wrote, WroteFront, WriteCounts, with_more}
+use Rattle.std.proofs.lemmas.List.{take-append-le, take-append-drop, take_all, take_rest, append_cancel_left}
+use Rattle.std.proofs.Math.Seq.{take-add, take-append-add, take-append_seam}
+use Rattle.xl_outside.specs.Outside.{Counted}
+use Rattle.xl_outside.specs.Sinks.{Outside, SinkAfter, FlushAfter, SentAfter, IsFlushed, FlushedWhere, GoesOn, IsMore, Wrote, WroteFront, WriteCounts, with_more}
+use Rattle.xl_outside.specs.Fronts.{with_none, with_more-twice, more_none, more_then}
 
 -- the first `a`, and `n` of the rest as a slice of it is written
 take-on : (bs : List ℕ) (a n : ℕ) → take a bs ++ take n (take (length bs - a) (drop a bs)) ≡ take (a + n) bs
 take-on bs a n = rw take_rest (sym (take-add a n bs))
-
-with_more-twice : (before : Option (List ℕ)) (xs ys : List ℕ) → with_more (with_more before xs) ys ≡ with_more before (xs ++ ys)
-with_more-twice None xs ys = refl
-with_more-twice (Some text) xs ys = ap Some (append_assoc text xs ys)
 
 pub length-rest : (bs : List ℕ) (a : ℕ) → a ≤ length bs → length (take (length bs - a) (drop a bs)) + a ≡ length bs
 length-rest bs a h = rw take_rest (omega (arith, length-drop a bs))
@@ -25,19 +23,15 @@ written_on before now after bs a n h k =
     ∙ with_more-twice before (take a bs) (take n (take (length bs - a) (drop a bs)))
     ∙ ap (with_more before) (take-on bs a n)
 
-append_none : (xs : List ℕ) → xs ≡ xs ++ []
-append_none [] = refl
-append_none (x ∷ xs) = ap (λ (ys : List ℕ). x ∷ ys) (append_none xs)
+-- a sink as it was
+pub goes_same : (o : Outside) → GoesOn true o o
+goes_same o = record { stays = more_none o.written; counts = refl }
 
-pub with_none : (w : Option (List ℕ)) → w ≡ with_more w []
-with_none None = refl
-with_none (Some text) = ap Some (append_none text)
-
--- nothing is written
-pub sink_same : {D : Type 0} (written : D → Option (List ℕ)) (faults : D → ℕ) (roomy : D → ℕ → Type 0) (a : D) → SinkAfter written faults roomy [] a a true
-sink_same written faults roomy a = record {
-  wrote = with_none (written a);
-  counts = refl;
+-- nothing is put
+pub sink_same : {D : Type 0} (taken : D → Option (List ℕ)) (outside : D → Outside) (roomy : D → ℕ → Type 0) (a : D) → SinkAfter taken outside roomy [] a a true
+sink_same taken outside roomy a = record {
+  took = with_none (taken a);
+  goes_on = goes_same (outside a);
   calm = λ room h k. (refl, subst (roomy a) (let e : room ≡ room - 0 = omega arith in e) h);
 }
 
@@ -56,12 +50,19 @@ counts_then true a b c h k = k ∙ h
 counts_then false a b c h (k, inl l) = (omega arith, inl (omega arith))
 counts_then false a b c h (k, inr l) = (omega arith, inr l)
 
+-- one call after another that went well
+pub goes_then : (whole : Bool) (a b c : Outside) → GoesOn true a b → GoesOn whole b c → GoesOn whole a c
+goes_then whole a b c h k = record {
+  stays = more_then a.written b.written c.written h.stays k.stays;
+  counts = counts_then whole a.faults b.faults c.faults h.counts k.counts;
+}
+
 -- a whole text, and another after it
-pub sink_then : {D : Type 0} (written : D → Option (List ℕ)) (faults : D → ℕ) (roomy : D → ℕ → Type 0) (xs ys : List ℕ) (a b c : D) (whole : Bool)
-    → SinkAfter written faults roomy xs a b true → SinkAfter written faults roomy ys b c whole → SinkAfter written faults roomy (xs ++ ys) a c whole
-sink_then written faults roomy xs ys a b c whole x y = record {
-  wrote = wrote_then whole (written a) (written b) (written c) xs ys x.wrote y.wrote;
-  counts = counts_then whole (faults a) (faults b) (faults c) x.counts y.counts;
+pub sink_then : {D : Type 0} (taken : D → Option (List ℕ)) (outside : D → Outside) (roomy : D → ℕ → Type 0) (xs ys : List ℕ) (a b c : D) (whole : Bool)
+    → SinkAfter taken outside roomy xs a b true → SinkAfter taken outside roomy ys b c whole → SinkAfter taken outside roomy (xs ++ ys) a c whole
+sink_then taken outside roomy xs ys a b c whole x y = record {
+  took = wrote_then whole (taken a) (taken b) (taken c) xs ys x.took y.took;
+  goes_on = goes_then whole (outside a) (outside b) (outside c) x.goes_on y.goes_on;
   calm = λ room h k.
       let size : length (xs ++ ys) ≡ length xs + length ys = length-append xs ys in
       let s = x.calm room h (omega arith) in
@@ -77,12 +78,66 @@ front_of_more a c xs ys k =
     (k.0, omega arith, k.2 ∙ ap (with_more a) (sym (take-append-le k.0 xs ys fits)))
 
 -- where a put of the first text failed, the second never came
-pub sink_cut : {D : Type 0} (written : D → Option (List ℕ)) (faults : D → ℕ) (roomy : D → ℕ → Type 0) (xs ys : List ℕ) (a b : D)
-    → SinkAfter written faults roomy xs a b false → SinkAfter written faults roomy (xs ++ ys) a b false
-sink_cut written faults roomy xs ys a b x = record {
-  wrote = front_of_more (written a) (written b) xs ys x.wrote;
-  counts = x.counts;
+pub sink_cut : {D : Type 0} (taken : D → Option (List ℕ)) (outside : D → Outside) (roomy : D → ℕ → Type 0) (xs ys : List ℕ) (a b : D)
+    → SinkAfter taken outside roomy xs a b false → SinkAfter taken outside roomy (xs ++ ys) a b false
+sink_cut taken outside roomy xs ys a b x = record {
+  took = front_of_more (taken a) (taken b) xs ys x.took;
+  goes_on = x.goes_on;
   calm = λ room h k.
       let size : length (xs ++ ys) ≡ length xs + length ys = length-append xs ys in
       let s = x.calm room h (omega arith) in absurd (let e : false ≡ true = s.0 in grind arith);
+}
+
+-- a put that took some, or had nothing to take
+pub put_goes : (a b : Outside) → IsMore a.written b.written → b.faults ≡ a.faults → GoesOn true a b
+put_goes a b h k = record { stays = h; counts = k }
+
+-- a put that failed, or took nothing
+pub put_stops : (a b c : Outside) → GoesOn true a b → IsMore b.written c.written → Counted b.faults c.faults → GoesOn false a c
+put_stops a b c h k l = goes_then false a b c h (record { stays = k; counts = l })
+
+abbrev text_or : Option (List ℕ) → List ℕ
+text_or None = []
+text_or (Some text) = text
+
+-- the front of a text that was taken, as far as it was written
+pub front_written : (before taken written : Option (List ℕ)) (text : List ℕ) → WroteFront before text taken
+    → IsMore before written → IsMore written taken → WroteFront before text written
+front_written None taken written text k h l = (0, omega arith, h.1)
+front_written (Some x) taken written text (n, few, k) (more, h) (rest, l) =
+    let m = length more in
+    let same : Some (x ++ take n text) ≡ Some (x ++ (more ++ rest)) =
+    sym k ∙ l ∙ ap (λ (w : Option (List ℕ)). with_more w rest) h ∙ ap Some (append_assoc x more rest) in
+    let cut : take n text ≡ more ++ rest = append_cancel_left x (take n text) (more ++ rest) (ap text_or same) in
+    let all : text ≡ more ++ (rest ++ drop n text) =
+    sym (take-append-drop n text) ∙ ap (λ (t : List ℕ). t ++ drop n text) cut ∙ append_assoc more rest (drop n text) in
+    let size : length text ≡ m + length (rest ++ drop n text) = ap (λ (t : List ℕ). length t) all ∙ length-append more (rest ++ drop n text) in
+    let front : take m text ≡ more = ap (take m) all ∙ take-append_seam more (rest ++ drop n text) in
+    (m, omega arith, h ∙ ap (λ (t : List ℕ). Some (x ++ t)) (sym front))
+
+-- a text that was put, and then flushed, by a sink that held nothing
+pub sent_flushed : {D : Type 0} (taken : D → Option (List ℕ)) (outside : D → Outside) (roomy : D → ℕ → Type 0) (text : List ℕ) (a b c : D) (whole : Bool)
+    → IsFlushed taken outside a → SinkAfter taken outside roomy text a b true → FlushAfter taken outside roomy b c whole
+    → IsMore (outside c).written (taken c) → SentAfter outside roomy text a c whole
+sent_flushed taken outside roomy text a b c true e x y l = record {
+  wrote = y.flushed ∙ y.keeps ∙ x.took ∙ ap (λ (w : Option (List ℕ)). with_more w text) (sym e);
+  counts = (goes_then true (outside a) (outside b) (outside c) x.goes_on y.goes_on).counts;
+  calm = λ room h k. refl;
+}
+sent_flushed taken outside roomy text a b c false e x y l =
+    let front : WroteFront (taken a) text (taken c) = (length text, omega arith, y.keeps ∙ x.took ∙ ap (with_more (taken a)) (sym (take_all (length text) text (omega arith)))) in
+    let goes = goes_then false (outside a) (outside b) (outside c) x.goes_on y.goes_on in record {
+      wrote = front_written (outside a).written (taken c) (outside c).written text (subst (λ (w : Option (List ℕ)). WroteFront w text (taken c)) (sym e) front) goes.stays l;
+      counts = goes.counts;
+      calm = λ room h k. (y.calm (room - length text) (x.calm room h k).1).0;
+    }
+
+-- a text of which a put failed
+pub sent_cut : {D : Type 0} (taken : D → Option (List ℕ)) (outside : D → Outside) (roomy : D → ℕ → Type 0) (text : List ℕ) (a b : D)
+    → IsFlushed taken outside a → SinkAfter taken outside roomy text a b false → IsMore (outside b).written (taken b)
+    → SentAfter outside roomy text a b false
+sent_cut taken outside roomy text a b e x l = record {
+  wrote = front_written (outside a).written (taken b) (outside b).written text (subst (λ (w : Option (List ℕ)). WroteFront w text (taken b)) (sym e) x.took) x.goes_on.stays l;
+  counts = x.goes_on.counts;
+  calm = λ room h k. (x.calm room h k).0;
 }

@@ -7,6 +7,7 @@ use Rattle.std.specs.String.{string_bytes}
 use Rattle.std.specs.List.{list_any}
 use Rattle.xl_outside.specs.Outside.{raised}
 use Rattle.xl_outside.specs.Folders.{Files, file_of}
+use Rattle.xl_outside.specs.Sinks.{Outside}
 use Rattle.xl_outside.specs.declared.folder.Unread.{Unread}
 use Rattle.xl_outside.specs.declared.folder.Unread.TheVariants.{Missing, Failed}
 use Rattle.xl_outside.specs.declared.sink.Failed.{Failed as PutFailed}
@@ -67,6 +68,10 @@ pub record SinkState : Type 0 where
 -- a sink in memory that nothing was put to
 abbrev pub opened_sink : ℕ → List ℕ → ℕ → SinkState
 opened_sink room numbers most = record { text = []; capacity = room; failing = numbers; piece = most; puts = 0; failed = 0 }
+
+-- it writes what it takes
+abbrev pub done_outside : SinkState → Outside
+done_outside s = record { written = Some s.text; faults = s.failed }
 
 -- no put of it is to fail while so many more bytes come, and its faults don't stand at the counter's last value
 abbrev pub HasRoom : SinkState → ℕ → Type 0

@@ -3,19 +3,29 @@ use Rattle.std.specs.Prelude.{◌≡◌, ℕ, ◌-◌, ◌<◌, ◌≤◌, ◌�
 use Rattle.xl_outside.specs.Outside.{Counted}
 use Rattle.xl_outside.specs.declared.sink.Failed.{Failed}
 
--- what a sink was written, and these bytes after it; a sink that doesn't tell still doesn't
+-- What a sink has done outside: the bytes that it wrote, where it tells them, and how many puts failed, a number that
+-- never falls.
+pub record Outside : Type 0 where
+  pub written : Option (List ℕ)
+  pub faults : ℕ
+
+-- what a sink was given, and these bytes after it; a sink that doesn't tell still doesn't
 abbrev pub with_more : Option (List ℕ) → List ℕ → Option (List ℕ)
 with_more None bytes = None
 with_more (Some text) bytes = Some (text ++ bytes)
 
--- the first bytes of these, and no more, came after what was written before
+-- the one, and perhaps more after it
+abbrev pub IsMore : Option (List ℕ) → Option (List ℕ) → Type 0
+IsMore before after = (more : List ℕ) × (after ≡ with_more before more)
+
+-- the first bytes of these, and no more, came after what there was before
 abbrev pub WroteFront : Option (List ℕ) → List ℕ → Option (List ℕ) → Type 0
 WroteFront before bytes after = (n : ℕ) × (n ≤ length bytes) × (after ≡ with_more before (take n bytes))
 
--- a put writes the bytes that it says it took, and none where it fails
-abbrev pub PutWrote : Result ℕ Failed → Option (List ℕ) → List ℕ → Option (List ℕ) → Type 0
-PutWrote (Ok n) before bytes after = after ≡ with_more before (take n bytes)
-PutWrote (Err e) before bytes after = after ≡ before
+-- a put takes the bytes that it says it took, and none where it fails
+abbrev pub PutTook : Result ℕ Failed → Option (List ℕ) → List ℕ → Option (List ℕ) → Type 0
+PutTook (Ok n) before bytes after = after ≡ with_more before (take n bytes)
+PutTook (Err e) before bytes after = after ≡ before
 
 -- a put that fails, or takes nothing of a piece that isn't empty, counts as a fault; no other does
 abbrev pub PutCounts : Result ℕ Failed → (size faults faults_after : ℕ) → Type 0
@@ -23,30 +33,59 @@ PutCounts (Ok n) size f g = (n ≡ 0 → 0 < size → Counted f g) × ((0 < n) �
 PutCounts (Err e) size f g = Counted f g
 
 -- a put of so many bytes takes some of them, if there are any, and leaves this of the sink
-abbrev pub PutTakes : Result ℕ Failed → ℕ → (ℕ → Type 0) → Type 0
-PutTakes (Ok n) size leaves = (n ≡ 0 → size ≡ 0) × leaves n
-PutTakes (Err e) size leaves = ⊥
+abbrev pub PutLeaves : Result ℕ Failed → ℕ → (ℕ → Type 0) → Type 0
+PutLeaves (Ok n) size leaves = (n ≡ 0 → size ≡ 0) × leaves n
+PutLeaves (Err e) size leaves = ⊥
 
--- What one put of a piece leaves of a sink. Where the sink has room for the piece, the put takes
--- some of it, and the rest of the room is left.
-pub record PutAfter {D : Type 0} (written : D → Option (List ℕ)) (faults : D → ℕ) (roomy : D → ℕ → Type 0) (piece : List ℕ) (old new : D) (result : Result ℕ Failed) : Type 0 where
-  pub wrote : PutWrote result (written old) piece (written new)
-  pub counts : PutCounts result (length piece) (faults old) (faults new)
-  pub calm : (room : ℕ) → roomy old room → length piece ≤ room → PutTakes result (length piece) (λ n. roomy new (room - n))
+-- What one put of a piece leaves of a sink. What was written outside stays. Where the sink has room for the piece, the
+-- put takes some of it, and the rest of the room is left.
+pub record PutAfter {D : Type 0} (taken : D → Option (List ℕ)) (outside : D → Outside) (roomy : D → ℕ → Type 0) (piece : List ℕ) (old new : D) (result : Result ℕ Failed) : Type 0 where
+  pub took : PutTook result (taken old) piece (taken new)
+  pub stays : IsMore (outside old).written (outside new).written
+  pub counts : PutCounts result (length piece) (outside old).faults (outside new).faults
+  pub calm : (room : ℕ) → roomy old room → length piece ≤ room → PutLeaves result (length piece) (λ n. roomy new (room - n))
 
--- all of the text was written, or its front where a put failed
+-- all of the text came, or its front where a put failed
 abbrev pub Wrote : Bool → Option (List ℕ) → List ℕ → Option (List ℕ) → Type 0
 Wrote true before text after = after ≡ with_more before text
 Wrote false before text after = WroteFront before text after
 
--- a fault was counted exactly where not all was written
+-- a fault was counted exactly where not all came
 abbrev pub WriteCounts : Bool → (faults faults_after : ℕ) → Type 0
 WriteCounts true f g = g ≡ f
 WriteCounts false f g = Counted f g
 
--- What writing a text leaves of a sink: the text whole, or its front up to a put that failed. Where
--- the sink has room for the text, no put fails, and the rest of the room is left.
-pub record SinkAfter {D : Type 0} (written : D → Option (List ℕ)) (faults : D → ℕ) (roomy : D → ℕ → Type 0) (text : List ℕ) (old new : D) (whole : Bool) : Type 0 where
-  pub wrote : Wrote whole (written old) text (written new)
-  pub counts : WriteCounts whole (faults old) (faults new)
+-- A sink goes on outside: what was written stays, and a fault was counted exactly where a put failed.
+pub record GoesOn (whole : Bool) (before after : Outside) : Type 0 where
+  pub stays : IsMore before.written after.written
+  pub counts : WriteCounts whole before.faults after.faults
+
+-- What putting a text leaves of a sink: it took the text whole, or its front up to a put that failed. Where the sink
+-- has room for the text, no put fails, and the rest of the room is left.
+pub record SinkAfter {D : Type 0} (taken : D → Option (List ℕ)) (outside : D → Outside) (roomy : D → ℕ → Type 0) (text : List ℕ) (old new : D) (whole : Bool) : Type 0 where
+  pub took : Wrote whole (taken old) text (taken new)
+  pub goes_on : GoesOn whole (outside old) (outside new)
   pub calm : (room : ℕ) → roomy old room → length text ≤ room → (whole ≡ true) × roomy new (room - length text)
+
+-- all that the sink took is written
+abbrev pub IsFlushed : {D : Type 0} (taken : D → Option (List ℕ)) (outside : D → Outside) → D → Type 0
+IsFlushed taken outside s = (outside s).written ≡ taken s
+
+-- where all went well, all that the sink took is written
+abbrev pub FlushedWhere : Bool → (written taken : Option (List ℕ)) → Type 0
+FlushedWhere true written taken = written ≡ taken
+FlushedWhere false written taken = Unit {0}
+
+-- What a flush leaves of a sink. Where the sink has room, it does not fail, and the room is left.
+pub record FlushAfter {D : Type 0} (taken : D → Option (List ℕ)) (outside : D → Outside) (roomy : D → ℕ → Type 0) (old new : D) (whole : Bool) : Type 0 where
+  pub keeps : taken new ≡ taken old
+  pub flushed : FlushedWhere whole (outside new).written (taken new)
+  pub goes_on : GoesOn whole (outside old) (outside new)
+  pub calm : (room : ℕ) → roomy old room → (whole ≡ true) × roomy new room
+
+-- What sending a text leaves of a sink that was flushed: the text is written whole, or its front up to a put that
+-- failed. Where the sink has room for the text, no put fails.
+pub record SentAfter {D : Type 0} (outside : D → Outside) (roomy : D → ℕ → Type 0) (text : List ℕ) (old new : D) (whole : Bool) : Type 0 where
+  pub wrote : Wrote whole (outside old).written text (outside new).written
+  pub counts : WriteCounts whole (outside old).faults (outside new).faults
+  pub calm : (room : ℕ) → roomy old room → length text ≤ room → whole ≡ true

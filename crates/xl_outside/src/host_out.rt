@@ -1,23 +1,25 @@
 //! Standard output and standard error as sinks: the trusted edge.
 
-ghost use Rattle.std.specs.Prelude.{◌≡◌, None};
+ghost use Rattle.std.specs.Prelude.{◌≡◌, [], None};
 
+use crate::buffered::Buffered;
 use crate::open_sink::{OpenSink, Writer};
 use std::io;
 use std::io::Write;
 use std::rt::{Stderr, Stdout};
 
-/// Standard output. It tells nothing of what it shows.
-pub type HostOut = OpenSink<Stdout>;
+/// Standard output, which is written in large pieces. It tells nothing of what it shows.
+pub type HostOut = Buffered<OpenSink<Stdout>>;
 
 /// Standard error. It tells nothing of what it shows.
 pub type HostErr = OpenSink<Stderr>;
 
 impl HostOut {
     pub fn open(rt: &HostRuntime) -> HostOut
-        ensures { result.faults ≡ 0 }
+        ensures faults { result.to.faults ≡ 0 }
+        ensures nothing { result.held.items ≡ [] }
     {
-        OpenSink::over(rt.stdout())
+        Buffered::over(OpenSink::over(rt.stdout()))
     }
 }
 

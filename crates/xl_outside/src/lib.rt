@@ -4,6 +4,7 @@
 //! all that it does, and one over the system, which is the trusted edge.
 #![tactic(auto)]
 
+mod buffered;
 mod folder;
 mod host_folder;
 mod host_out;
@@ -15,6 +16,7 @@ mod sink;
 mod stream;
 mod whole;
 
+pub use buffered::Buffered;
 pub use folder::{Folder, Unread};
 pub use host_folder::{HostFile, HostFiles, HostFolder};
 pub use host_out::{HostErr, HostOut};
@@ -22,7 +24,7 @@ pub use mem_folder::MemFolder;
 pub use mem_sink::MemSink;
 pub use open_folder::OpenFolder;
 pub use open_sink::{OpenSink, Writer};
-pub use sink::{Failed, Sink, put_all};
+pub use sink::{Failed, Sink, put_all, send_all};
 pub use stream::{Opener, Placed, Stream};
 pub use whole::{ReadStop, read_whole};
 

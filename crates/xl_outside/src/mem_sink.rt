@@ -1,8 +1,9 @@
 //! A sink in memory, which fails where it is told to.
 
-ghost use Rattle.std.specs.Prelude.{◌≡◌, ℕ, ◌+◌, ◌-◌, ◌^◌, ◌<◌, ◌≤◌, ◌++◌, [], min, length, take, drop, Option, Some, Ok, Err, if◌then◌else◌, IfOk, OnErr};
-ghost use Rattle.xl_outside.specs.Sinks.{with_more, PutAfter};
-ghost use Rattle.xl_outside.specs.Memory.{SinkState, is_listed, opened_sink, HasRoom, put_answer, after_put};
+ghost use Rattle.std.specs.Prelude.{◌≡◌, ℕ, ◌+◌, ◌-◌, ◌^◌, ◌<◌, ◌≤◌, ◌++◌, [], min, length, take, drop, Option, Some, Ok, Err, if◌then◌else◌, IfOk, OnErr, is_ok};
+ghost use Rattle.xl_outside.specs.Sinks.{with_more, Outside, IsMore, PutAfter, FlushAfter};
+ghost use Rattle.xl_outside.specs.Fronts.{more_none};
+ghost use Rattle.xl_outside.specs.Memory.{SinkState, is_listed, opened_sink, HasRoom, done_outside, put_answer, after_put};
 
 use crate::sink::{Failed, Sink};
 use std::alloc::Global;
@@ -65,9 +66,9 @@ impl MemSink {
 }
 
 impl Sink for MemSink {
-    ghost written = { λ s. Some s.text };
+    ghost taken = { λ s. Some s.text };
 
-    ghost put_faults = { λ s. s.failed };
+    ghost outside = { done_outside };
 
     ghost roomy = { HasRoom };
 
@@ -76,8 +77,8 @@ impl Sink for MemSink {
         ensures after { self.new ≡ after_put self.old bytes.now result }
         ensures count { IfOk result (λ n. n ≤ length bytes.now) }
         ensures empty { length bytes.now ≡ 0 → result ≡ Ok 0 }
-        ensures leaves { PutAfter (λ (s : SinkState). Some s.text) (λ (s : SinkState). s.failed)
-            HasRoom bytes.now self.old self.new result }
+        ensures leaves { PutAfter (λ (s : SinkState). Some s.text) done_outside HasRoom
+            bytes.now self.old self.new result }
     {
         if bytes.is_empty() {
             return Ok(0);
@@ -92,4 +93,15 @@ impl Sink for MemSink {
         self.bytes.extend_from_slice(&bytes[..count]).unwrap();
         Ok(count)
     }
+
+    /// Each put writes at once, so there is nothing to write.
+    fn flush(&mut self) -> Result<(), Failed>
+        ensures same { self.new ≡ self.old }
+        ensures leaves { FlushAfter (λ (s : SinkState). Some s.text) done_outside HasRoom
+            self.old self.new (is_ok result) }
+    {
+        Ok(())
+    }
+
+    ghost fronts = { λ s. more_none (Some s.text) };
 }

@@ -1,7 +1,8 @@
 //! A sink over what is written to.
 
 ghost use Rattle.std.specs.Prelude.{◌≡◌, ℕ, ◌≤◌, List, Option, length, take, IfOk, OnErr};
-ghost use Rattle.xl_outside.specs.Sinks.{with_more};
+ghost use Rattle.xl_outside.specs.Sinks.{with_more, IsFlushed};
+ghost use Rattle.xl_outside.specs.Fronts.{more_none};
 
 use crate::sink::{Failed, Sink};
 use std::io;
@@ -36,9 +37,9 @@ impl<W: Writer + Drop> OpenSink<W> {
 }
 
 impl<W: Writer + Drop> Sink for OpenSink<W> {
-    ghost written = { λ s. W.text s.to };
+    ghost taken = { λ s. W.text s.to };
 
-    ghost put_faults = { λ s. s.faults };
+    ghost outside = { λ s. record { written = W.text s.to; faults = s.faults } };
 
     fn put(&mut self, bytes: &[u8]) -> Result<usize, Failed> {
         if bytes.is_empty() {
@@ -52,4 +53,10 @@ impl<W: Writer + Drop> Sink for OpenSink<W> {
             }
         }
     }
+
+    fn flush(&mut self) -> Result<(), Failed> {
+        Ok(())
+    }
+
+    ghost fronts = { λ s. more_none (W.text s.to) };
 }

@@ -47,6 +47,25 @@ fn a_sink_in_memory_takes_the_least_and_fails_at_the_named_puts(
 }
 
 #[test]
+fn a_buffer_holds_what_it_takes_until_it_is_flushed_or_full(rt: HostRuntime) -> Result<(), Fail> {
+    let alloc = rt.alloc();
+    let failing = vec![in alloc; 2]?;
+    let sink = MemSink::open(alloc, 40000, failing, 10000).expect(&rt, "memory");
+    let mut out = Buffered::over(sink);
+    assert_eq!(rt; put_all(&mut out, b"abcd"), Ok(()));
+    assert_eq!(rt; out.sink().bytes(), b"".as_slice());
+    assert_eq!(rt; out.flush(), Ok(()));
+    assert_eq!(rt; out.sink().bytes(), b"abcd".as_slice());
+    assert_eq!(rt; put_all(&mut out, &[b'e'; 16384]), Ok(()));
+    assert_eq!(rt; out.put(b"f"), Err(Failed));
+    assert_eq!(rt; out.sink().bytes().len(), 4);
+    assert_eq!(rt; send_all(&mut out, b"f"), Ok(()));
+    assert_eq!(rt; out.sink().bytes().len(), 16389);
+    assert_eq!(rt; out.sink().bytes().last(), Some(&b'f'));
+    Ok(())
+}
+
+#[test]
 fn a_whole_file_is_read_up_to_its_limit(rt: HostRuntime) -> Result<(), Fail> {
     let files = one_file(rt.alloc(), "config", b"abcde")?;
     let mut folder = MemFolder::open(files, Vec::new(rt.alloc()), 2);

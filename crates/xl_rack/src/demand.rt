@@ -26,7 +26,7 @@ pub(crate) fn serve_command<K: Sink>(
     requires { i < length rack.old }
     ensures outcome { IfOk result (λ o. IfSome (slice_get rack.old i)
         (λ v. o ≡ outcome_of v.row event v.state)) }
-    ensures served { ServedAt K.written K.put_faults K.roomy answers i (after_of event)
+    ensures served { ServedAt K.taken K.outside K.roomy answers i (after_of event)
         (λ v. event_line v.row event v.state) rack.old rack.new out.old out.new (is_ok result) }
 {
     let outcome = rack.step(i, event);
@@ -53,7 +53,7 @@ fn serve_once<K: Sink>(
     requires { i < length rack.old }
     ensures reply { IfOk result (λ r. IfSome (slice_get rack.old i)
         (λ v. r ≡ reply_to v.row v.state va kind)) }
-    ensures served { ServedAt K.written K.put_faults K.roomy answers i (accessed_by va kind)
+    ensures served { ServedAt K.taken K.outside K.roomy answers i (accessed_by va kind)
         (λ v. access_line v.row number va kind v.state)
         rack.old rack.new out.old out.new (is_ok result) }
 {
@@ -80,7 +80,7 @@ fn serve_again<K: Sink>(
     out: &mut K,
 ) -> Result<(), Failed>
     requires { i < length rack.old }
-    ensures { ServedAt K.written K.put_faults K.roomy answers i
+    ensures { ServedAt K.taken K.outside K.roomy answers i
         (λ v. record v { state = again_where outcome v.row (event.Access va kind) v.state })
         (λ v. second_line outcome v.row number va kind v.state)
         rack.old rack.new out.old out.new (is_ok result) }
@@ -120,7 +120,7 @@ fn serve_area<K: Sink>(
     out: &mut K,
 ) -> Result<(), Failed>
     requires { i < length rack.old }
-    ensures { ServedAt K.written K.put_faults K.roomy answers i
+    ensures { ServedAt K.taken K.outside K.roomy answers i
         (λ v. record v { state = demanded (Some area) v.row va (event.Access va kind) v.state })
         (λ v. demand_lines (Some area) v.row number va kind v.state)
         rack.old rack.new out.old out.new (is_ok result) }
@@ -144,7 +144,7 @@ fn serve_demand<K: Sink>(
     out: &mut K,
 ) -> Result<(), Failed>
     requires { i < length rack.old }
-    ensures { ServedAt K.written K.put_faults K.roomy answers i
+    ensures { ServedAt K.taken K.outside K.roomy answers i
         (λ v. record v { state = demanded area v.row va (event.Access va kind) v.state })
         (λ v. demand_lines area v.row number va kind v.state)
         rack.old rack.new out.old out.new (is_ok result) }
@@ -168,7 +168,7 @@ pub(crate) fn serve_access<K: Sink>(
     out: &mut K,
 ) -> Result<(), Failed>
     requires { i < length rack.old }
-    ensures { ServedAt K.written K.put_faults K.roomy answers i
+    ensures { ServedAt K.taken K.outside K.roomy answers i
         (served_after (Referenced number va kind) areas.now)
         (λ v. item_lines (Referenced number va kind) areas.now v.row v.state)
         rack.old rack.new out.old out.new (is_ok result) }

@@ -30,7 +30,7 @@ fn serve_item<K: Sink>(
     out: &mut K,
 ) -> Result<(), Failed>
     requires { i < length rack.old }
-    ensures { ServedAt K.written K.put_faults K.roomy answers i (served_after item areas.now)
+    ensures { ServedAt K.taken K.outside K.roomy answers i (served_after item areas.now)
         (λ v. item_lines item areas.now v.row v.state)
         rack.old rack.new out.old out.new (is_ok result) }
 {
@@ -57,7 +57,7 @@ pub(crate) fn serve_rows<K: Sink>(
     out: &mut K,
 ) -> Result<(), Failed>
     requires { areas_after item areas.now ≡ areas.now }
-    ensures { HasServed K.written K.put_faults K.roomy answers (item ∷ [])
+    ensures { HasServed K.taken K.outside K.roomy answers (item ∷ [])
         (scene_of rack.old areas.now) (scene_of rack.new areas.now) out.old out.new (is_ok result) }
 {
     for i in 0..rack.len() {
@@ -71,7 +71,7 @@ pub(crate) fn serve_rows<K: Sink>(
 
 /// Writes the line of each row.
 pub(crate) fn write_rows<K: Sink>(rack: &Rack, out: &mut K) -> Result<(), Failed>
-    ensures { SinkAfter K.written K.put_faults K.roomy (row_lines rack.now) out.old out.new
+    ensures { SinkAfter K.taken K.outside K.roomy (row_lines rack.now) out.old out.new
         (is_ok result) }
 {
     for i in 0..rack.len() {

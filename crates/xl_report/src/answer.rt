@@ -26,7 +26,7 @@ pub fn write_answer<K: Sink>(
     reply: Reply,
 ) -> Result<(), Failed>
     requires { IsSmall reply }
-    ensures { SinkAfter K.written K.put_faults K.roomy
+    ensures { SinkAfter K.taken K.outside K.roomy
         (answer_line row.now.name.bytes number kind space va reply) out.old out.new (is_ok result) }
 {
     let mut line = Line::new();
@@ -88,7 +88,7 @@ pub fn write_command<K: Sink>(
     event: Event,
     outcome: Outcome,
 ) -> Result<(), Failed>
-    ensures { SinkAfter K.written K.put_faults K.roomy
+    ensures { SinkAfter K.taken K.outside K.roomy
         (command_line row.now.name.bytes event outcome) out.old out.new (is_ok result) }
 {
     let mut line = Line::new();
@@ -145,7 +145,7 @@ pub fn write_image<K: Sink>(
     index: u32,
     word: u64,
 ) -> Result<(), Failed>
-    ensures { SinkAfter K.written K.put_faults K.roomy
+    ensures { SinkAfter K.taken K.outside K.roomy
         (image_line row.now.name.bytes (record { node = node; index = index; word = word }))
         out.old out.new (is_ok result) }
 {

@@ -9,7 +9,7 @@ use Rattle.xl_model.specs.declared.script.Item.TheVariants.{Referenced}
 use Rattle.xl_model.specs.Items.{state_after}
 use Rattle.xl_model.specs.Scenes.{Served, Scene, rows_after, scene_after, scenes_after, untold, told_by}
 use Rattle.xl_model_lemmas.proofs.SceneLemmas.{scene-append, untold-stays}
-use Rattle.xl_outside.specs.Sinks.{SinkAfter}
+use Rattle.xl_outside.specs.Sinks.{Outside, SinkAfter}
 use Rattle.xl_outside.proofs.SinkLemmas.{sink_same}
 use Rattle.xl_lackey.specs.declared.skim.Access.{Access}
 use Rattle.xl_serving.specs.Batches.{item_of, waited}
@@ -47,14 +47,14 @@ pub scenes-all : (xs : List Item) (i : ℕ) (s t : Scene) → length xs ≤ i �
 scenes-all xs i s t h e = e ∙ ap (λ (zs : List Item). scenes_after zs s) (take_all i xs h)
 
 -- items of which nothing is told
-pub served-untold : {K : Type 0} (written : K → Option (List ℕ)) (faults : K → ℕ) (roomy : K → ℕ → Type 0) (xs : List Item) (p q : Scene) (k : K)
-    → q ≡ scenes_after xs p → HasServed written faults roomy false xs p q k k true
-served-untold written faults roomy xs p q k e = record {
+pub served-untold : {K : Type 0} (taken : K → Option (List ℕ)) (outside : K → Outside) (roomy : K → ℕ → Type 0) (xs : List Item) (p q : Scene) (k : K)
+    → q ≡ scenes_after xs p → HasServed taken outside roomy false xs p q k k true
+served-untold taken outside roomy xs p q k e = record {
   scene_is = e;
-  writes = subst (λ (text : List ℕ). SinkAfter written faults roomy text k k true) (sym (untold-stays xs (untold p))) (sink_same written faults roomy k);
+  writes = subst (λ (text : List ℕ). SinkAfter taken outside roomy text k k true) (sym (untold-stays xs (untold p))) (sink_same taken outside roomy k);
 }
 
 -- where a put failed, nothing is said of the scene after
-pub lost-any : {K : Type 0} {written : K → Option (List ℕ)} {faults : K → ℕ} {roomy : K → ℕ → Type 0} (answers : Bool) (xs : List Item) (p q r : Scene) (k l : K)
-    → HasServed written faults roomy answers xs p q k l false → HasServed written faults roomy answers xs p r k l false
+pub lost-any : {K : Type 0} {taken : K → Option (List ℕ)} {outside : K → Outside} {roomy : K → ℕ → Type 0} (answers : Bool) (xs : List Item) (p q r : Scene) (k l : K)
+    → HasServed taken outside roomy answers xs p q k l false → HasServed taken outside roomy answers xs p r k l false
 lost-any answers xs p q r k l x = record { scene_is = tt; writes = x.writes }

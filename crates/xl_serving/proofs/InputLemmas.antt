@@ -68,11 +68,11 @@ none_said = refl
 
 -- the rows were opened, and the script served over them
 pub opened_ends : {K : Type 0} (roomy : K → ℕ → Type 0) (asked : Asked) (commands : List Command) (by : Trail → Flags → Ending) (served : List Served) (t : Trail)
-    (r : Result (Unit {0}) Stop) (before after : Option (List ℕ)) (old : K) (rows : List Served) → Opens (Ok commands) by served
-    → Ends r (course_ending asked (course commands t) (scene_of served [])) roomy before after old rows
-    → Ends r (record { ending = by t (flags_of asked); json = asked.json }) roomy before after old rows
-opened_ends roomy asked commands by served t r before after old rows h e =
-    subst (λ (z : Ending). Ends r (record { ending = z; json = asked.json }) roomy before after old rows) (sym (h t (flags_of asked))) e
+    (r : Result (Unit {0}) Stop) (before after : Option (List ℕ)) (old new : K) (rows : List Served) → Opens (Ok commands) by served
+    → Ends r (course_ending asked (course commands t) (scene_of served [])) roomy before after old new rows
+    → Ends r (record { ending = by t (flags_of asked); json = asked.json }) roomy before after old new rows
+opened_ends roomy asked commands by served t r before after old new rows h e =
+    subst (λ (z : Ending). Ends r (record { ending = z; json = asked.json }) roomy before after old new rows) (sym (h t (flags_of asked))) e
 
 -- what comes before anything is written, no put has failed
 none_failed : (stop : Stop) → IsBefore stop → is_all_put {A = Unit {0}} (Err stop) ≡ true
@@ -83,9 +83,9 @@ none_failed why.NoMemory h = refl
 
 -- the rows were not opened
 pub opened_not : {K : Type 0} (roomy : K → ℕ → Type 0) (asked : Asked) (stop : Stop) (by : Trail → Flags → Ending) (served : List Served) (t : Trail) (out : Option (List ℕ)) (old : K) (rows : List Served)
-    → IsBefore stop → Opens (Err stop) by served → Ends (Err stop) (record { ending = by t (flags_of asked); json = asked.json }) roomy out out old rows
+    → IsBefore stop → Opens (Err stop) by served → Ends (Err stop) (record { ending = by t (flags_of asked); json = asked.json }) roomy out out old old rows
 opened_not roomy asked stop by served t out old rows b h = record {
   as_said = h t (flags_of asked) asked.json out;
-  room = λ room m n. none_failed stop b;
+  room = λ room m n. (none_failed stop b, (room, m));
   served = tt;
 }

@@ -10,4 +10,5 @@ mod AreaLemmas
 mod InputLemmas
 mod OpenedLemmas
 mod EndLemmas
+mod FlushLemmas
 mod NoRowLemmas

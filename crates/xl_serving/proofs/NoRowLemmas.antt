@@ -5,7 +5,7 @@ use Rattle.xl_model.specs.declared.script.Area.{Area}
 use Rattle.xl_model.specs.declared.script.Item.{Item}
 use Rattle.xl_model.specs.Items.{areas_after}
 use Rattle.xl_model.specs.Scenes.{scene_after, scenes_after, told_by}
-use Rattle.xl_outside.specs.Sinks.{SinkAfter}
+use Rattle.xl_outside.specs.Sinks.{Outside, SinkAfter}
 use Rattle.xl_outside.proofs.SinkLemmas.{sink_same}
 use Rattle.xl_lackey.specs.declared.skim.Access.{Access}
 use Rattle.xl_serving.specs.Batches.{item_of, waited}
@@ -19,11 +19,11 @@ none_changed : (item : Item) (areas : List Area) → areas_after item areas ≡ 
 unfolding scene_after
 none_changed item areas e = ap (λ (z : List Area). scene_of [] z) (sym e)
 
-pub none_served : {K : Type 0} (written : K → Option (List ℕ)) (faults : K → ℕ) (roomy : K → ℕ → Type 0) (answers : Bool) (item : Item) (areas : List Area) (k : K) → areas_after item areas ≡ areas
-    → HasServed written faults roomy answers (item ∷ []) (scene_of [] areas) (scene_of [] areas) k k true
-none_served written faults roomy answers item areas k e = record {
+pub none_served : {K : Type 0} (taken : K → Option (List ℕ)) (outside : K → Outside) (roomy : K → ℕ → Type 0) (answers : Bool) (item : Item) (areas : List Area) (k : K) → areas_after item areas ≡ areas
+    → HasServed taken outside roomy answers (item ∷ []) (scene_of [] areas) (scene_of [] areas) k k true
+none_served taken outside roomy answers item areas k e = record {
   scene_is = none_changed item areas e;
-  writes = subst (λ (text : List ℕ). SinkAfter written faults roomy text k k true) (sym (none_told answers item areas)) (sink_same written faults roomy k);
+  writes = subst (λ (text : List ℕ). SinkAfter taken outside roomy text k k true) (sym (none_told answers item areas)) (sink_same taken outside roomy k);
 }
 
 pub none_waited : (accesses : List Access) (areas : List Area) → scene_of [] areas ≡ waited accesses (scene_of [] areas)

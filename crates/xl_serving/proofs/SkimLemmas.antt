@@ -21,6 +21,7 @@ use Rattle.xl_serving.proofs.BatchLemmas.{any-number, served-untold}
 use Rattle.xl_serving.proofs.ServedLemmas.{served_none}
 use Rattle.xl_serving.proofs.CourseLemmas.{Rules, Underway, items_of, left_by, before-before, reached_on}
 use Rattle.xl_serving.proofs.RecordLemmas.{gives_all, same_within, trail_on, with_numbered}
+use Rattle.xl_outside.specs.Sinks.{Outside}
 
 -- numbers change no access
 each-numbered : (n : ℕ) (rs : List Record) → accesses_of_all (numbered n rs) ≡ all_accesses rs
@@ -158,15 +159,15 @@ scene-each : (rs : List Accesses) (got : List Access) (s : Scene) → accesses_o
 scene-each rs got s e =
     sym (scene-all rs s ∙ ap (λ (xs : List (ℕ × Kind)). scenes_after (accesses_items 0 xs) s) e ∙ ap (λ (items : List Item). scenes_after items s) (items-waited got))
 
-module _ {K : Type 0} (written : K → Option (List ℕ)) (faults : K → ℕ) (roomy : K → ℕ → Type 0) (stands : Type 0) (t u : Trail) (xs ys : List Access) (count : ℕ)
+module _ {K : Type 0} (taken : K → Option (List ℕ)) (outside : K → Outside) (roomy : K → ℕ → Type 0) (stands : Type 0) (t u : Trail) (xs ys : List Access) (count : ℕ)
     (k : Skims stands t u xs ys count) (s : Scene) (out : K) where
   scene-skimmed : waited ys s ≡ scenes_after (all_items k.taken) (waited xs s)
   scene-skimmed =
       ap (λ (zs : List Access). waited zs s) k.follow ∙ waited-on xs k.got s ∙ scene-each k.taken k.got (waited xs s) k.each
 
   -- where lines are written, nothing is skimmed
-  served-skimmed : (answers : Bool) → (answers ≡ true → count ≡ 0) → HasServed written faults roomy answers (all_items k.taken) (waited xs s) (waited ys s) out out true
-  served-skimmed false idle = served-untold written faults roomy (all_items k.taken) (waited xs s) (waited ys s) out scene-skimmed
+  served-skimmed : (answers : Bool) → (answers ≡ true → count ≡ 0) → HasServed taken outside roomy answers (all_items k.taken) (waited xs s) (waited ys s) out out true
+  served-skimmed false idle = served-untold taken outside roomy (all_items k.taken) (waited xs s) (waited ys s) out scene-skimmed
   served-skimmed true idle =
       let none : k.taken ≡ [] = nothing k.taken (k.many ∙ idle refl) in
       let same : waited ys s ≡ waited xs s = scene-skimmed ∙ ap (λ (rs : List Accesses). scenes_after (all_items rs) (waited xs s)) none in
@@ -178,8 +179,8 @@ module _ {K : Type 0} (written : K → Option (List ℕ)) (faults : K → ℕ) (
 
   -- the records that were skimmed are served when their accesses are
   going_skims : (answers : Bool) (mid : Type 0) (by : (Trail → Course) → Course) (now later : Rules) (p : Scene) (first : K) → Takes now later k.taken → (answers ≡ true → count ≡ 0)
-      → Underway written faults roomy answers mid by (left_by now t) p (waited xs s) first out
-      → Underway written faults roomy answers stands by (left_by later u) p (waited ys s) first out
+      → Underway taken outside roomy answers mid by (left_by now t) p (waited xs s) first out
+      → Underway taken outside roomy answers stands by (left_by later u) p (waited ys s) first out
   going_skims answers mid by now later p first takes idle g = record {
     serves = λ next.
         reached_on answers (by next) (left_by now t next) (left_by later u next) p (waited xs s) (waited ys s) first out out (g.serves next)
@@ -192,11 +193,11 @@ module _ {K : Type 0} (written : K → Option (List ℕ)) (faults : K → ℕ) (
   }
 
   pub going_skims_all : (answers : Bool) (mid : Type 0) (by : (Trail → Course) → Course) (p : Scene) (first : K) → (answers ≡ true → count ≡ 0)
-      → Underway written faults roomy answers mid by (left_by ran_all t) p (waited xs s) first out
-      → Underway written faults roomy answers stands by (left_by ran_all u) p (waited ys s) first out
+      → Underway taken outside roomy answers mid by (left_by ran_all t) p (waited xs s) first out
+      → Underway taken outside roomy answers stands by (left_by ran_all u) p (waited ys s) first out
   going_skims_all answers mid by p first idle g = going_skims answers mid by ran_all ran_all p first (all-taken k.taken) idle g
 
   pub going_skims_run : (n : ℕ) (answers : Bool) (mid : Type 0) (by : (Trail → Course) → Course) (p : Scene) (first : K) → (answers ≡ true → count ≡ 0) → count ≤ n
-      → Underway written faults roomy answers mid by (left_by (ran n) t) p (waited xs s) first out
-      → Underway written faults roomy answers stands by (left_by (ran (n - count)) u) p (waited ys s) first out
+      → Underway taken outside roomy answers mid by (left_by (ran n) t) p (waited xs s) first out
+      → Underway taken outside roomy answers stands by (left_by (ran (n - count)) u) p (waited ys s) first out
   going_skims_run n answers mid by p first idle h g = going_skims answers mid by (ran n) (ran (n - count)) p first (run-taken n count k.taken k.many h) idle g

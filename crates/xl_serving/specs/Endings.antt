@@ -10,7 +10,7 @@ use Rattle.xl_model.specs.Courses.{Course, Trail, course}
 use Rattle.xl_model.specs.Report.{Flags, images_where, row_lines}
 use Rattle.xl_model.specs.Endings.{Ending, faulted, followed, live_of, text_by}
 use Rattle.xl_outside.specs.Folders.{Files}
-use Rattle.xl_outside.specs.Sinks.{with_more, WroteFront, SinkAfter}
+use Rattle.xl_outside.specs.Sinks.{Outside, with_more, WroteFront, SinkAfter, FlushAfter, SentAfter}
 use Rattle.xl_words.specs.Words.{Asked, asked}
 use Rattle.xl_report.specs.Json.{json_line}
 use Rattle.xl_serving.specs.declared.ending.EndStop.{EndStop}
@@ -112,12 +112,27 @@ EndsAs (Err why.ReadFault) w before after = WroteItems w before after
 EndsAs (Err why.WriteFault) w before after = WroteFront before (text_of w) after
 EndsAs (Err why.NoMemory) w before after = WroteNoRow w before after
 
+-- A sink has room, even if for no byte.
+abbrev pub IsRoomy : {K : Type 0} (roomy : K → ℕ → Type 0) → K → Type 0
+IsRoomy roomy k = (n : ℕ) × roomy k n
+
 -- The same; in a sink that has room for the text, no put fails; and where all was served, the rows are those that the
 -- ending leaves.
-pub record Ends {K : Type 0} (r : Result (Unit {0}) Stop) (w : Wanted) (roomy : K → ℕ → Type 0) (before after : Option (List ℕ)) (old : K) (rows : List Served) : Type 0 where
+pub record Ends {K : Type 0} (r : Result (Unit {0}) Stop) (w : Wanted) (roomy : K → ℕ → Type 0) (before after : Option (List ℕ)) (old new : K) (rows : List Served) : Type 0 where
   pub as_said : EndsAs r w before after
-  pub room : (room : ℕ) → roomy old room → length (text_of w) ≤ room → is_all_put r ≡ true
+  pub room : (room : ℕ) → roomy old room → length (text_of w) ≤ room → (is_all_put r ≡ true) × IsRoomy roomy new
   pub served : OnOk r (rows ≡ rows_left w)
+
+-- The end of a run after a flush, which came to all or failed.
+abbrev pub end_flushed : Bool → Result (Unit {0}) Stop → Result (Unit {0}) Stop
+end_flushed true end = end
+end_flushed false end = Err why.WriteFault
+
+-- What a flush at the end of a run comes to; there is none where a put failed before.
+abbrev pub FlushesEnd : {K : Type 0} (taken : K → Option (List ℕ)) (outside : K → Outside) (roomy : K → ℕ → Type 0) (old new : K) → Result (Unit {0}) Stop → Result (Unit {0}) Stop → Type 0
+FlushesEnd taken outside roomy old new (Err why.WriteFault) after = (new ≡ old) × (after ≡ Err why.WriteFault)
+FlushesEnd taken outside roomy old new end after =
+    (whole : Bool) × FlushAfter taken outside roomy old new whole × (after ≡ end_flushed whole end)
 
 -- What the reading of the configuration and the script, and the opening of the rows, say of the ending by its trace and
 -- flags; nothing is written.
@@ -175,13 +190,13 @@ message_by (Ok u) = []
 message_by (Err stop) = message_at stop
 
 -- A text was written to a sink: whole, or up to a put that failed.
-pub record Says {E : Type 0} (written : E → Option (List ℕ)) (faults : E → ℕ) (roomy : E → ℕ → Type 0) (text : List ℕ) (old new : E) : Type 0 where
+pub record Says {E : Type 0} (outside : E → Outside) (roomy : E → ℕ → Type 0) (text : List ℕ) (old new : E) : Type 0 where
   pub all : Bool
-  pub says : SinkAfter written faults roomy text old new all
+  pub says : SentAfter outside roomy text old new all
 
 -- What writing the end of a report leaves of a sink: the text whole, or its front up to a put that failed. Where there
 -- is no memory, which only JSON wants, nothing is put.
-abbrev pub EndAfter : {K : Type 0} (written : K → Option (List ℕ)) (faults : K → ℕ) (roomy : K → ℕ → Type 0) (json : Bool) (text : List ℕ) (old new : K) → Result (Unit {0}) EndStop → Type 0
-EndAfter written faults roomy json text old new (Ok u) = SinkAfter written faults roomy text old new true
-EndAfter written faults roomy json text old new (Err end.WriteFault) = SinkAfter written faults roomy text old new false
-EndAfter written faults roomy json text old new (Err end.NoMemory) = (json ≡ true) × (new ≡ old)
+abbrev pub EndAfter : {K : Type 0} (taken : K → Option (List ℕ)) (outside : K → Outside) (roomy : K → ℕ → Type 0) (json : Bool) (text : List ℕ) (old new : K) → Result (Unit {0}) EndStop → Type 0
+EndAfter taken outside roomy json text old new (Ok u) = SinkAfter taken outside roomy text old new true
+EndAfter taken outside roomy json text old new (Err end.WriteFault) = SinkAfter taken outside roomy text old new false
+EndAfter taken outside roomy json text old new (Err end.NoMemory) = (json ≡ true) × (new ≡ old)

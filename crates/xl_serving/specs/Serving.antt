@@ -9,7 +9,7 @@ use Rattle.xl_model.specs.declared.script.Area.{Area}
 use Rattle.xl_model.specs.Scenes.{Served, Scene, scenes_after, told_by}
 use Rattle.xl_model.specs.Courses.{Course, Trail, before, ended, block_address}
 use Rattle.xl_outside.specs.Folders.{ReadFate, Fine, ReadFailed}
-use Rattle.xl_outside.specs.Sinks.{SinkAfter}
+use Rattle.xl_outside.specs.Sinks.{Outside, SinkAfter}
 use Rattle.xl_serving.specs.declared.serving.ServeStop.{ServeStop}
 use Rattle.xl_serving.specs.declared.serving.ServeStop.TheVariants as why
 use Rattle.xl_serving.specs.declared.trace.TraceStop.{TraceStop}
@@ -26,33 +26,33 @@ SceneAfter true items s t = t ≡ scenes_after items s
 SceneAfter false items s t = Unit {0}
 
 -- These items were served, and what they tell was written: whole, or up to a put that failed.
-pub record HasServed {K : Type 0} (written : K → Option (List ℕ)) (faults : K → ℕ) (roomy : K → ℕ → Type 0) (answers : Bool) (items : List Item) (p q : Scene) (k l : K) (whole : Bool) : Type 0 where
+pub record HasServed {K : Type 0} (taken : K → Option (List ℕ)) (outside : K → Outside) (roomy : K → ℕ → Type 0) (answers : Bool) (items : List Item) (p q : Scene) (k l : K) (whole : Bool) : Type 0 where
   pub scene_is : SceneAfter whole items p q
-  pub writes : SinkAfter written faults roomy (told_by answers items p) k l whole
+  pub writes : SinkAfter taken outside roomy (told_by answers items p) k l whole
 
 -- Of this course some items were served and told, and that course is left.
-pub record Reached {K : Type 0} (written : K → Option (List ℕ)) (faults : K → ℕ) (roomy : K → ℕ → Type 0) (answers : Bool) (all left : Course) (p q : Scene) (k l : K) : Type 0 where
+pub record Reached {K : Type 0} (taken : K → Option (List ℕ)) (outside : K → Outside) (roomy : K → ℕ → Type 0) (answers : Bool) (all left : Course) (p q : Scene) (k l : K) : Type 0 where
   pub done : List Item
   pub split : all ≡ before done left
-  pub served : HasServed written faults roomy answers done p q k l true
+  pub served : HasServed taken outside roomy answers done p q k l true
 
 -- Of this course some items were served and told, and some course is left.
-pub record ReachedSome {K : Type 0} (written : K → Option (List ℕ)) (faults : K → ℕ) (roomy : K → ℕ → Type 0) (answers : Bool) (all : Course) (p q : Scene) (k l : K) : Type 0 where
+pub record ReachedSome {K : Type 0} (taken : K → Option (List ℕ)) (outside : K → Outside) (roomy : K → ℕ → Type 0) (answers : Bool) (all : Course) (p q : Scene) (k l : K) : Type 0 where
   pub left : Course
-  pub reached : Reached written faults roomy answers all left p q k l
+  pub reached : Reached taken outside roomy answers all left p q k l
 
 -- How far serving came of a course: to what is to be left; to the fault that ends it; to a put that failed; or anywhere,
 -- where a read failed.
-abbrev pub Serves : {K A : Type 0} (written : K → Option (List ℕ)) (faults : K → ℕ) (roomy : K → ℕ → Type 0) → Bool → Course → Course → Scene → Scene → K → K → Result A ServeStop → Type 0
-Serves written faults roomy answers all left p q k l (Ok a) = Reached written faults roomy answers all left p q k l
-Serves written faults roomy answers all left p q k l (Err (why.Input fault)) = Reached written faults roomy answers all (ended (Some fault)) p q k l
-Serves written faults roomy answers all left p q k l (Err why.WriteFault) = HasServed written faults roomy answers all.items p q k l false
-Serves written faults roomy answers all left p q k l (Err why.ReadFault) = ReachedSome written faults roomy answers all p q k l
+abbrev pub Serves : {K A : Type 0} (taken : K → Option (List ℕ)) (outside : K → Outside) (roomy : K → ℕ → Type 0) → Bool → Course → Course → Scene → Scene → K → K → Result A ServeStop → Type 0
+Serves taken outside roomy answers all left p q k l (Ok a) = Reached taken outside roomy answers all left p q k l
+Serves taken outside roomy answers all left p q k l (Err (why.Input fault)) = Reached taken outside roomy answers all (ended (Some fault)) p q k l
+Serves taken outside roomy answers all left p q k l (Err why.WriteFault) = HasServed taken outside roomy answers all.items p q k l false
+Serves taken outside roomy answers all left p q k l (Err why.ReadFault) = ReachedSome taken outside roomy answers all p q k l
 
 -- What a call answers that serves a part of a script: `by` gives the course of that part, and of what goes on after it;
 -- `stands` says that the trace was fed from its file alone.
-pub record ServesPart {K A : Type 0} (written : K → Option (List ℕ)) (faults : K → ℕ) (roomy : K → ℕ → Type 0) (answers : Bool) (stands : Type 0) (by : (Trail → Course) → Course) (u : Trail) (p q : Scene) (k l : K) (r : Result A ServeStop) : Type 0 where
-  pub serves : (next : Trail → Course) → Serves written faults roomy answers (by next) (next u) p q k l r
+pub record ServesPart {K A : Type 0} (taken : K → Option (List ℕ)) (outside : K → Outside) (roomy : K → ℕ → Type 0) (answers : Bool) (stands : Type 0) (by : (Trail → Course) → Course) (u : Trail) (p q : Scene) (k l : K) (r : Result A ServeStop) : Type 0 where
+  pub serves : (next : Trail → Course) → Serves taken outside roomy answers (by next) (next u) p q k l r
   pub stands_still : OnOk r stands
 
 -- Why serving stops where the trace gives no record.

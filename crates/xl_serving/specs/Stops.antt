@@ -1,5 +1,5 @@
 -- Why a run stops, and the status that it has then.
-use Rattle.std.specs.Prelude.{Bool, true, false, Option, None, Some, Result, Ok, Err}
+use Rattle.std.specs.Prelude.{ℕ, Bool, true, false, Option, None, Some, Result, Ok, Err}
 use Rattle.xl_model.specs.declared.fault.InputFault.{InputFault}
 use Rattle.xl_model.specs.declared.fault.InputFault.TheVariants as fault
 use Rattle.xl_config.specs.declared.fault.ConfigFault.{ConfigFault}
@@ -8,7 +8,7 @@ use Rattle.xl_words.specs.declared.words.WordsFault.{WordsFault}
 use Rattle.xl_words.specs.declared.words.WordsFault.TheVariants as words
 use Rattle.xl_outside.specs.declared.whole.ReadStop.{ReadStop}
 use Rattle.xl_outside.specs.declared.whole.ReadStop.TheVariants as read
-use Rattle.xl_outside.specs.Folders.{ReadFate, Fine, ReadFailed, FileMissing}
+use Rattle.xl_outside.specs.Folders.{Files, ReadFate, Fine, ReadFailed, FileMissing, FolderAfter}
 use Rattle.xl_script.specs.declared.fault.ScriptFault.{ScriptFault}
 use Rattle.xl_script.specs.declared.fault.ScriptFault.TheVariants as script
 use Rattle.xl_serving.specs.declared.ending.EndStop.{EndStop}
@@ -90,6 +90,12 @@ abbrev pub status_fate : Status → ReadFate
 status_fate status.NoFile = FileMissing
 status_fate status.ReadFault = ReadFailed
 status_fate _ = Fine
+
+-- What a run of this status leaves of the folder. At a failed put a read may have failed too: what was put before that
+-- read can be written after it.
+abbrev pub FolderLeft : {D : Type 0} (files : D → Option Files) (faults absences : D → ℕ) (steady : D → Type 0) (old new : D) → Status → Type 0
+FolderLeft files faults absences steady old new status.WriteFault = (fate : ReadFate) × FolderAfter files faults absences steady old new fate
+FolderLeft files faults absences steady old new s = FolderAfter files faults absences steady old new (status_fate s)
 
 -- Whether a status tells of no failed put.
 abbrev pub is_status_put : Status → Bool

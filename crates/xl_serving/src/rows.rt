@@ -37,7 +37,7 @@ pub trait Rows: Sized {
         answers: bool,
         out: &mut K,
     ) -> Result<(), Failed>
-        ensures { HasServed K.written K.put_faults K.roomy answers (Command event ∷ [])
+        ensures { HasServed K.taken K.outside K.roomy answers (Command event ∷ [])
             (scene_of (rows self.old) areas.now) (scene_of (rows self.new) areas.now)
             out.old out.new (is_ok result) };
 
@@ -51,7 +51,7 @@ pub trait Rows: Sized {
         answers: bool,
         out: &mut K,
     ) -> Result<(), Failed>
-        ensures { HasServed K.written K.put_faults K.roomy answers (Referenced number va kind ∷ [])
+        ensures { HasServed K.taken K.outside K.roomy answers (Referenced number va kind ∷ [])
             (scene_of (rows self.old) areas.now) (scene_of (rows self.new) areas.now)
             out.old out.new (is_ok result) };
 
@@ -62,7 +62,7 @@ pub trait Rows: Sized {
 
     /// Writes a line for each row.
     fn write_rows<K: Sink>(&self, out: &mut K) -> Result<(), Failed>
-        ensures { SinkAfter K.written K.put_faults K.roomy (row_lines (rows self.now))
+        ensures { SinkAfter K.taken K.outside K.roomy (row_lines (rows self.now))
             out.old out.new (is_ok result) };
 
     /// The rows as the text of a JSON array, with an object for each row. Where there is no memory,
@@ -73,6 +73,6 @@ pub trait Rows: Sized {
 
     /// Writes the words of each radix table that are not 0, row by row.
     fn write_images<K: Sink>(&self, out: &mut K) -> Result<(), Failed>
-        ensures { SinkAfter K.written K.put_faults K.roomy (images_lines (rows self.now))
+        ensures { SinkAfter K.taken K.outside K.roomy (images_lines (rows self.now))
             out.old out.new (is_ok result) };
 }

@@ -4,7 +4,7 @@ ghost use Rattle.std.specs.Prelude.{◌≡◌, ◌+◌, ◌*◌, ◌^◌, ◌≤
 ghost use Rattle.xl_model.specs.declared.script.Area.{Area};
 ghost use Rattle.xl_model.specs.Courses.{accesses_items, events_from, ran, ran_all, course_by, course, ended};
 ghost use Rattle.xl_outside.specs.Folders.{file_of, FolderAfter, fate_by};
-ghost use Rattle.xl_outside.specs.Sinks.{WriteCounts};
+ghost use Rattle.xl_outside.specs.Sinks.{GoesOn};
 ghost use Rattle.xl_script.specs.Placing.{IsPlaced, is_area};
 ghost use Rattle.xl_lackey.specs.Accesses.{accesses};
 ghost use Rattle.xl_serving.specs.declared.serving.ServeStop.TheVariants as why;
@@ -68,12 +68,12 @@ pub fn serve<R: Rows, T: Trace, F: Folder, K: Sink>(
 ) -> Result<(), ServeStop>
     requires { areas.old ≡ [] }
     ensures told { IfSome (F.files folder.old) (λ fs. T.stands trace.old (file_of fs name.now)
-        → Serves K.written K.put_faults K.roomy answers
+        → Serves K.taken K.outside K.roomy answers
         (course script.now (T.left trace.old (file_of fs name.now))) (ended None)
         (scene_of (R.rows rows.old) []) (scene_of (R.rows rows.new) areas.new) out.old out.new result) }
     ensures leaves { FolderAfter F.files F.faults F.absences F.steady folder.old folder.new
         (fate_by serve_stop_fate result) }
-    ensures counts { WriteCounts (is_written result) (K.put_faults out.old) (K.put_faults out.new) }
+    ensures goes_on { GoesOn (is_written result) (K.outside out.old) (K.outside out.new) }
     ensures met { IfErr result ServingIsMet }
 {
     for i in 0..script.len() {
@@ -102,14 +102,14 @@ fn serve_command<R: Rows, T: Trace, F: Folder, K: Sink>(
     requires placed { IsPlaced command }
     requires no_area { is_area command ≡ false }
     ensures told { IfSome (F.files folder.old) (λ fs. T.stands trace.old (file_of fs name.now)
-        → ServesPart K.written K.put_faults K.roomy answers (T.stands trace.new (file_of fs name.now))
+        → ServesPart K.taken K.outside K.roomy answers (T.stands trace.new (file_of fs name.now))
         (course_by command (T.left trace.old (file_of fs name.now)))
         (T.left trace.new (file_of fs name.now))
         (scene_of (R.rows rows.old) areas.now) (scene_of (R.rows rows.new) areas.now)
         out.old out.new result) }
     ensures leaves { FolderAfter F.files F.faults F.absences F.steady folder.old folder.new
         (fate_by serve_stop_fate result) }
-    ensures counts { WriteCounts (is_written result) (K.put_faults out.old) (K.put_faults out.new) }
+    ensures goes_on { GoesOn (is_written result) (K.outside out.old) (K.outside out.new) }
     ensures met { IfErr result ServingIsMet }
 {
     match command {
@@ -152,7 +152,7 @@ fn serve_rest<R: Rows, T: Trace, F: Folder, K: Sink>(
     name: &str,
 ) -> Result<(), ServeStop>
     ensures told { IfSome (F.files folder.old) (λ fs. T.stands trace.old (file_of fs name.now)
-        → ServesPart K.written K.put_faults K.roomy answers (T.stands trace.new (file_of fs name.now))
+        → ServesPart K.taken K.outside K.roomy answers (T.stands trace.new (file_of fs name.now))
         (ran_all (T.left trace.old (file_of fs name.now)).records
         (T.left trace.old (file_of fs name.now)).fault)
         (T.left trace.new (file_of fs name.now))
@@ -160,7 +160,7 @@ fn serve_rest<R: Rows, T: Trace, F: Folder, K: Sink>(
         out.old out.new result) }
     ensures leaves { FolderAfter F.files F.faults F.absences F.steady folder.old folder.new
         (fate_by serve_stop_fate result) }
-    ensures counts { WriteCounts (is_written result) (K.put_faults out.old) (K.put_faults out.new) }
+    ensures goes_on { GoesOn (is_written result) (K.outside out.old) (K.outside out.new) }
     ensures met { IfErr result ServingIsMet }
 {
     let mut batch = Batch::new();
@@ -192,7 +192,7 @@ fn serve_run<R: Rows, T: Trace, F: Folder, K: Sink>(
     n: u64,
 ) -> Result<(), ServeStop>
     ensures told { IfSome (F.files folder.old) (λ fs. T.stands trace.old (file_of fs name.now)
-        → ServesPart K.written K.put_faults K.roomy answers (T.stands trace.new (file_of fs name.now))
+        → ServesPart K.taken K.outside K.roomy answers (T.stands trace.new (file_of fs name.now))
         (ran n (T.left trace.old (file_of fs name.now)).records
         (T.left trace.old (file_of fs name.now)).fault)
         (T.left trace.new (file_of fs name.now))
@@ -200,7 +200,7 @@ fn serve_run<R: Rows, T: Trace, F: Folder, K: Sink>(
         out.old out.new result) }
     ensures leaves { FolderAfter F.files F.faults F.absences F.steady folder.old folder.new
         (fate_by serve_stop_fate result) }
-    ensures counts { WriteCounts (is_written result) (K.put_faults out.old) (K.put_faults out.new) }
+    ensures goes_on { GoesOn (is_written result) (K.outside out.old) (K.outside out.new) }
     ensures met { IfErr result ServingIsMet }
 {
     let mut batch = Batch::new();
@@ -237,7 +237,7 @@ fn serve_record<R: Rows, K: Sink>(
 ) -> Result<(), Failed>
     requires idle { IsIdle answers batch.old.items }
     ensures idle { IsIdle answers batch.new.items }
-    ensures served { HasServed K.written K.put_faults K.roomy answers
+    ensures served { HasServed K.taken K.outside K.roomy answers
         (accesses_items found.now.number (accesses found.now.reference))
         (waited batch.old.items (scene_of (R.rows rows.old) areas.now))
         (waited batch.new.items (scene_of (R.rows rows.new) areas.now))
@@ -259,7 +259,7 @@ fn tell_record<R: Rows, K: Sink>(
     out: &mut K,
     found: &Numbered,
 ) -> Result<(), Failed>
-    ensures { HasServed K.written K.put_faults K.roomy answers
+    ensures { HasServed K.taken K.outside K.roomy answers
         (accesses_items found.now.number (accesses found.now.reference))
         (scene_of (R.rows rows.old) areas.now) (scene_of (R.rows rows.new) areas.now)
         out.old out.new (is_ok result) }
@@ -278,7 +278,7 @@ fn serve_accesses<R: Rows, K: Sink>(
     out: &mut K,
     found: &Numbered,
 ) -> Result<(), Failed>
-    ensures { HasServed K.written K.put_faults K.roomy answers
+    ensures { HasServed K.taken K.outside K.roomy answers
         (accesses_items found.now.number (accesses found.now.reference))
         (scene_of (R.rows rows.old) areas.now) (scene_of (R.rows rows.new) areas.now)
         out.old out.new (is_ok result) }
@@ -304,7 +304,7 @@ fn serve_events<R: Rows, K: Sink>(
     command: Command,
 ) -> Result<(), Failed>
     requires { IsPlaced command }
-    ensures { HasServed K.written K.put_faults K.roomy answers
+    ensures { HasServed K.taken K.outside K.roomy answers
         (events_from (event_at command) 0 (count_of command))
         (scene_of (R.rows rows.old) areas.now) (scene_of (R.rows rows.new) areas.now)
         out.old out.new (is_ok result) }

@@ -10,13 +10,13 @@ serve_demand-requires g c =
 
 pub returns-in-Ok : goal.returns-in-Ok
 returns-in-Ok g c =
-    access-served g.K.Sink.written g.K.Sink.put_faults g.K.Sink.roomy c.args.answers c.args.i c.args.number c.args.va c.args.kind c.args.areas.now c.in-Ok.reply c.area_wanted-area.result
+    access-served g.K.Sink.taken g.K.Sink.outside g.K.Sink.roomy c.args.answers c.args.i c.args.number c.args.va c.args.kind c.args.areas.now c.in-Ok.reply c.area_wanted-area.result
     c.args.rack.now c.serve_once.new.rack c.serve_demand.new.rack c.args.out.now c.serve_once.new.out c.serve_demand.new.out (is_ok c.serve_demand.result)
     c.in-Ok.ensures.reply c.area_wanted-area.ensures c.in-Ok.ensures.served c.serve_demand.ensures
 
 pub returns-in-Err : goal.returns-in-Err
 returns-in-Err g c =
-    access-cut g.K.Sink.written g.K.Sink.put_faults g.K.Sink.roomy c.args.answers c.args.i c.args.number c.args.va c.args.kind c.args.areas.now c.args.rack.now c.serve_once.new.rack c.args.out.now c.serve_once.new.out
+    access-cut g.K.Sink.taken g.K.Sink.outside g.K.Sink.roomy c.args.answers c.args.i c.args.number c.args.va c.args.kind c.args.areas.now c.args.rack.now c.serve_once.new.rack c.args.out.now c.serve_once.new.out
     c.in-Err.ensures.served
 
 pub area_wanted-area-requires : goal.area_wanted-area-requires

@@ -9,13 +9,13 @@ row-requires g c = still-there (accessed_by c.args.va c.args.kind) c.args.i c.ar
 
 pub returns-in-Ok-clause-served : goal.returns-in-Ok-clause-served
 returns-in-Ok-clause-served g c =
-    access-line-told g.K.Sink.written g.K.Sink.put_faults g.K.Sink.roomy c.args.answers c.args.i c.args.number c.args.va c.args.kind c.space-space.result c.access-reply.result c.row.result.now
+    access-line-told g.K.Sink.taken g.K.Sink.outside g.K.Sink.roomy c.args.answers c.args.i c.args.number c.args.va c.args.kind c.space-space.result c.access-reply.result c.row.result.now
     c.args.rack.now c.access-reply.new.self c.args.out.now c.write_answer.new.out true
     c.if-not-answers.false c.space-space.ensures c.access-reply.ensures.reply c.access-reply.ensures.after c.row.ensures c.in-Ok.ensures
 
 pub returns-in-Err-clause-served : goal.returns-in-Err-clause-served
 returns-in-Err-clause-served g c =
-    access-line-told g.K.Sink.written g.K.Sink.put_faults g.K.Sink.roomy c.args.answers c.args.i c.args.number c.args.va c.args.kind c.space-space.result c.access-reply.result c.row.result.now
+    access-line-told g.K.Sink.taken g.K.Sink.outside g.K.Sink.roomy c.args.answers c.args.i c.args.number c.args.va c.args.kind c.space-space.result c.access-reply.result c.row.result.now
     c.args.rack.now c.access-reply.new.self c.args.out.now c.write_answer.new.out false
     c.if-not-answers.false c.space-space.ensures c.access-reply.ensures.reply c.access-reply.ensures.after c.row.ensures c.in-Err.ensures
 

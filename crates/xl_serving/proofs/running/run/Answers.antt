@@ -10,10 +10,10 @@ returns-clause-said g c =
     let files = g.F.Folder.files c.args.folder.now in
     let words = map string_bytes c.args.words.now.items in
     let end = c.report_of-end.result in
-    let before = g.K.Sink.written c.args.out.now in
-    let after = g.K.Sink.written c.report_of-end.new.out in
+    let before = (g.K.Sink.outside c.args.out.now).written in
+    let after = (g.K.Sink.outside c.report_of-end.new.out).written in
     rw c.status.ensures
-    (run_says (λ text. Says g.E.Sink.written g.E.Sink.put_faults g.E.Sink.roomy text c.args.err.now c.tell.new.err) files (ending g.T.Trace.trail words) end before after
-    (told_one files (λ fs. Ends end (ending g.T.Trace.trail words fs) g.K.Sink.roomy before after c.args.out.now (g.R.Rows.rows c.report_of-end.new.rows))
+    (run_says (λ text. Says g.E.Sink.outside g.E.Sink.roomy text c.args.err.now c.tell.new.err) files (ending g.T.Trace.trail words) end before after
+    (told_one files (λ fs. Ends end (ending g.T.Trace.trail words fs) g.K.Sink.roomy before after c.args.out.now c.report_of-end.new.out (g.R.Rows.rows c.report_of-end.new.rows))
     (λ fs. EndsAs end (ending g.T.Trace.trail words fs) before after) c.report_of-end.ensures.told (λ fs h. h.as_said))
     c.tell.ensures)

@@ -1,9 +1,10 @@
-use Rattle.std.proofs.Common.{◌+◌, ◌≤◌, ◌∙◌, sym, ap, List, length, arith, refl, Ok, Err}
+use Rattle.std.proofs.Common.{true, ◌+◌, ◌≤◌, ◌∙◌, sym, ap, List, length, arith, refl, Ok, Err}
 use Rattle.std.specs.Prelude.{drop, Some, None}
 use Rattle.std.proofs.lemmas.Bool.Decides.{nat_tests}
 use Rattle.xl_model.specs.declared.script.Area.{Area}
 use Rattle.xl_model.specs.declared.script.Command.{Command}
 use Rattle.xl_model.specs.Courses.{course, course_by, ran_all, ended}
+use Rattle.xl_outside.proofs.SinkLemmas.{goes_same, goes_then}
 use Rattle.xl_outside.specs.Folders.{file_of}
 use Rattle.xl_outside.proofs.FolderLemmas.{folder_then, folder_same}
 use Rattle.xl_serving.specs.Serving.{ServesPart, scene_of}
@@ -16,7 +17,7 @@ pub loop-i-init : goal.loop-i-init
 loop-i-init g c = record {
   told = rw c.requires (told_all (g.F.Folder.files c.args.folder.now) _ (λ fs s. through_none _ _ _ _ _ _ _ _ s));
   folder = folder_same _ _ _ _ _;
-  counts = refl;
+  goes_on = goes_same _;
   room = ap (λ (z : List Area). length z) c.requires;
 }
 
@@ -34,7 +35,7 @@ loop-i-preserved-in-Demand g c =
       told = told_one (g.F.Folder.files a.folder.now) _ _ inv.told (λ fs h s. through_area a.answers _ _ a.script.now c.loop-i.i area _ _ _ c.loop-i.areas c.declare.new.self _ _
           (c.command-command.ensures.value ∙ ap (λ (z : Command). Some z) c.in-Demand.is) c.declare.ensures (h s));
       folder = inv.folder;
-      counts = inv.counts;
+      goes_on = inv.goes_on;
       room = ap (λ (z : List Area). length z) c.declare.ensures ∙ length_more c.loop-i.areas area ∙ ap (λ n. n + 1) inv.room
           ∙ sym (areas_more a.script.now c.loop-i.i area c.command-command.result c.command-command.ensures.value c.in-Demand.is);
     }
@@ -47,7 +48,7 @@ returns-in_err-serve_command-clause-told g c =
     let left = g.T.Trace.left in
     let stop = c.in_err-serve_command.field-0.0 in
     rw (is_err_by c.from_residual.result stop c.from_residual.ensures.1)
-    (told_then (g.F.Folder.files a.folder.now) (g.F.Folder.files c.loop-i.folder) _ (λ fs. g.T.Trace.stands c.loop-i.trace (file_of fs name) → ServesPart g.K.Sink.written g.K.Sink.put_faults g.K.Sink.roomy a.answers (g.T.Trace.stands c.serve_command.new.trace (file_of fs name)) (course_by c.command-command.result (left c.loop-i.trace (file_of fs name))) (left c.serve_command.new.trace (file_of fs name)) (scene_of (g.R.Rows.rows c.loop-i.rows) c.loop-i.areas) (scene_of (g.R.Rows.rows c.serve_command.new.rows) c.loop-i.areas) c.loop-i.out c.serve_command.new.out (Err stop)) _
+    (told_then (g.F.Folder.files a.folder.now) (g.F.Folder.files c.loop-i.folder) _ (λ fs. g.T.Trace.stands c.loop-i.trace (file_of fs name) → ServesPart g.K.Sink.taken g.K.Sink.outside g.K.Sink.roomy a.answers (g.T.Trace.stands c.serve_command.new.trace (file_of fs name)) (course_by c.command-command.result (left c.loop-i.trace (file_of fs name))) (left c.serve_command.new.trace (file_of fs name)) (scene_of (g.R.Rows.rows c.loop-i.rows) c.loop-i.areas) (scene_of (g.R.Rows.rows c.serve_command.new.rows) c.loop-i.areas) c.loop-i.out c.serve_command.new.out (Err stop)) _
     inv.folder.keeps inv.told (rw c.as_slice-declared.ensures at c.in_err-serve_command.ensures.told)
     (λ fs h k s. stop_any (Unit {0}) (Unit {0}) _ _ _ a.answers (course a.script.now (left a.trace.now (file_of fs name))) (course (drop (c.loop-i.i + 1) a.script.now) (left c.serve_command.new.trace (file_of fs name))) (ended None) _ _ _ _ stop
     (through_by a.answers _ _ _ a.script.now c.loop-i.i c.command-command.result _ _ _ _ _ _ _ _ _ c.command-command.ensures.value (h s) (k (h s).stands_still))))
@@ -62,14 +63,14 @@ loop-i-preserved g c =
     let inv = c.loop-i.invariant in
     let left = g.T.Trace.left in
     record {
-      told = told_then (g.F.Folder.files a.folder.now) (g.F.Folder.files c.loop-i.folder) _ (λ fs. g.T.Trace.stands c.loop-i.trace (file_of fs name) → ServesPart g.K.Sink.written g.K.Sink.put_faults g.K.Sink.roomy a.answers (g.T.Trace.stands c.serve_command.new.trace (file_of fs name)) (course_by c.command-command.result (left c.loop-i.trace (file_of fs name))) (left c.serve_command.new.trace (file_of fs name)) (scene_of (g.R.Rows.rows c.loop-i.rows) c.loop-i.areas) (scene_of (g.R.Rows.rows c.serve_command.new.rows) c.loop-i.areas) c.loop-i.out c.serve_command.new.out (Ok tt)) _
+      told = told_then (g.F.Folder.files a.folder.now) (g.F.Folder.files c.loop-i.folder) _ (λ fs. g.T.Trace.stands c.loop-i.trace (file_of fs name) → ServesPart g.K.Sink.taken g.K.Sink.outside g.K.Sink.roomy a.answers (g.T.Trace.stands c.serve_command.new.trace (file_of fs name)) (course_by c.command-command.result (left c.loop-i.trace (file_of fs name))) (left c.serve_command.new.trace (file_of fs name)) (scene_of (g.R.Rows.rows c.loop-i.rows) c.loop-i.areas) (scene_of (g.R.Rows.rows c.serve_command.new.rows) c.loop-i.areas) c.loop-i.out c.serve_command.new.out (Ok tt)) _
           inv.folder.keeps inv.told (rw c.as_slice-declared.ensures at c.in_ok-serve_command.ensures.told)
           (λ fs h k s. record {
             reached = through_by a.answers _ _ _ a.script.now c.loop-i.i c.command-command.result _ _ _ _ _ _ _ _ (Ok tt) c.command-command.ensures.value (h s) (k (h s).stands_still);
             stands_still = (k (h s).stands_still).stands_still;
           });
       folder = folder_then _ _ _ _ _ _ _ _ inv.folder c.in_ok-serve_command.ensures.leaves;
-      counts = c.in_ok-serve_command.ensures.counts ∙ inv.counts;
+      goes_on = goes_then true _ _ _ inv.goes_on c.in_ok-serve_command.ensures.goes_on;
       room = inv.room ∙ sym (areas_same a.script.now c.loop-i.i c.command-command.result c.command-command.ensures.value (no_area c.command-command.result c.in_default.not-Demand));
     }
 
@@ -80,6 +81,14 @@ returns-clause-told g c =
     let inv = c.loop-i.invariant in
     let left = g.T.Trace.left in
     let all : length a.script.now ≤ c.loop-i.i = let n = c.len-i-end.ensures.value in grind (arith, nat_tests) in
-    told_then (g.F.Folder.files a.folder.now) (g.F.Folder.files c.loop-i.folder) _ (λ fs. g.T.Trace.stands c.loop-i.trace (file_of fs name) → ServesPart g.K.Sink.written g.K.Sink.put_faults g.K.Sink.roomy a.answers (g.T.Trace.stands c.serve_rest.new.trace (file_of fs name)) (ran_all (left c.loop-i.trace (file_of fs name)).records (left c.loop-i.trace (file_of fs name)).fault) (left c.serve_rest.new.trace (file_of fs name)) (scene_of (g.R.Rows.rows c.loop-i.rows) c.loop-i.areas) (scene_of (g.R.Rows.rows c.serve_rest.new.rows) c.loop-i.areas) c.loop-i.out c.serve_rest.new.out c.serve_rest.result) _
+    told_then (g.F.Folder.files a.folder.now) (g.F.Folder.files c.loop-i.folder) _ (λ fs. g.T.Trace.stands c.loop-i.trace (file_of fs name) → ServesPart g.K.Sink.taken g.K.Sink.outside g.K.Sink.roomy a.answers (g.T.Trace.stands c.serve_rest.new.trace (file_of fs name)) (ran_all (left c.loop-i.trace (file_of fs name)).records (left c.loop-i.trace (file_of fs name)).fault) (left c.serve_rest.new.trace (file_of fs name)) (scene_of (g.R.Rows.rows c.loop-i.rows) c.loop-i.areas) (scene_of (g.R.Rows.rows c.serve_rest.new.rows) c.loop-i.areas) c.loop-i.out c.serve_rest.new.out c.serve_rest.result) _
     inv.folder.keeps inv.told (rw c.as_slice.ensures at c.serve_rest.ensures.told)
     (λ fs h k s. through_rest a.answers _ _ _ a.script.now c.loop-i.i _ _ _ _ _ _ _ _ c.serve_rest.result all (h s) (k (h s).stands_still))
+
+pub returns-in_err-serve_command-clause-goes_on : goal.returns-in_err-serve_command-clause-goes_on
+returns-in_err-serve_command-clause-goes_on g c =
+    rw (is_err_by c.from_residual.result c.in_err-serve_command.field-0.0 c.from_residual.ensures.1)
+    (goes_then _ _ _ _ c.loop-i.invariant.goes_on c.in_err-serve_command.ensures.goes_on)
+
+pub returns-clause-goes_on : goal.returns-clause-goes_on
+returns-clause-goes_on g c = goes_then _ _ _ _ c.loop-i.invariant.goes_on c.serve_rest.ensures.goes_on

@@ -6,5 +6,5 @@ use Rattle.xl_serving.proofs.serving.serve_accesses.Given as goal
 
 abbrev pub invariant-loop-i : goal.invariant-loop-i
 invariant-loop-i g l =
-    HasServed g.K.Sink.written g.K.Sink.put_faults g.K.Sink.roomy l.answers (take l.i (accesses_items l.found.number (accesses l.found.reference)))
+    HasServed g.K.Sink.taken g.K.Sink.outside g.K.Sink.roomy l.answers (take l.i (accesses_items l.found.number (accesses l.found.reference)))
     (scene_of (g.R.Rows.rows l.fn.rows) l.areas) (scene_of (g.R.Rows.rows l.rows) l.areas) l.fn.out l.out true

@@ -5,5 +5,5 @@ use Rattle.xl_serving.proofs.serving.serve_events.Given as goal
 
 abbrev pub invariant-loop-i : goal.invariant-loop-i
 invariant-loop-i g l =
-    HasServed g.K.Sink.written g.K.Sink.put_faults g.K.Sink.roomy l.answers (take l.i (events_from (event_at l.command) 0 (count_of l.command)))
+    HasServed g.K.Sink.taken g.K.Sink.outside g.K.Sink.roomy l.answers (take l.i (events_from (event_at l.command) 0 (count_of l.command)))
     (scene_of (g.R.Rows.rows l.fn.rows) l.areas) (scene_of (g.R.Rows.rows l.rows) l.areas) l.fn.out l.out true

@@ -8,4 +8,4 @@ use Rattle.xl_serving.proofs.serving.serve_record.Goals as goal
 pub returns-clause-served : goal.returns-clause-served
 returns-clause-served g c =
     rw c.if-answers.false
-    (served-untold g.K.Sink.written g.K.Sink.put_faults g.K.Sink.roomy (accesses_items c.args.found.now.number (accesses c.args.found.now.reference)) _ _ c.args.out.now c.put_off_record.ensures)
+    (served-untold g.K.Sink.taken g.K.Sink.outside g.K.Sink.roomy (accesses_items c.args.found.now.number (accesses c.args.found.now.reference)) _ _ c.args.out.now c.put_off_record.ensures)

@@ -1,5 +1,6 @@
-use Rattle.std.proofs.Common.{subst, ap, ◌∙◌, Option, Result, Ok, Err, Some}
+use Rattle.std.proofs.Common.{false, true, subst, ap, ◌∙◌, Option, Result, Ok, Err, Some}
 use Rattle.xl_model.specs.Courses.{ran_all}
+use Rattle.xl_outside.proofs.SinkLemmas.{goes_same, goes_then}
 use Rattle.xl_outside.specs.Folders.{file_of}
 use Rattle.xl_outside.proofs.FolderLemmas.{folder_then}
 use Rattle.xl_serving.specs.declared.trace.Numbered.{Numbered}
@@ -28,7 +29,7 @@ records-preserved g c =
           (subst (λ (z : Result (Option Numbered) TraceStop). TraceAnswers (stands c.next.new.self (file_of fs name)) (left c.skim.new.trace (file_of fs name)) (left c.next.new.self (file_of fs name)) z) (c.in-Ok-Some.is ∙ ap (λ (o : Option Numbered). Ok o) c.in-Ok-Some.field-0-is) (k mid.stands_still))
           c.in_ok-serve_record-in-Ok-Some.ensures.served);
       folder = folder_then _ _ _ _ _ _ _ _ inv.folder c.in-Ok-Some.ensures.leaves;
-      counts = c.in_ok-serve_record-in-Ok-Some.ensures.served.writes.counts ∙ inv.counts;
+      goes_on = goes_then true _ _ _ inv.goes_on c.in_ok-serve_record-in-Ok-Some.ensures.served.writes.goes_on;
       idle = c.in_ok-serve_record-in-Ok-Some.ensures.idle;
     }
 
@@ -75,3 +76,8 @@ returns-in-Err-clause-told g c =
     let mid = going_skims_all _ _ _ _ _ _ _ _ _ (c.skim.ensures.skims (file_of fs name) (h s).stands_still) (scene_of (g.R.Rows.rows c.records.rows) c.args.areas.now) c.records.out c.args.answers _ _ _ _ c.skim.ensures.none (h s) in
     going_stops _ c.args.answers _ _ _ ran_all ran_all _ _ _ _ _ _ c.in-Err.stop all_steps mid
     (subst (λ (z : Result (Option Numbered) TraceStop). TraceAnswers (stands c.next.new.self (file_of fs name)) (left c.skim.new.trace (file_of fs name)) (left c.next.new.self (file_of fs name)) z) c.in-Err.is (k mid.stands_still))))
+
+pub returns-in_err-serve_record-in-Ok-Some-clause-goes_on : goal.returns-in_err-serve_record-in-Ok-Some-clause-goes_on
+returns-in_err-serve_record-in-Ok-Some-clause-goes_on g c =
+    rw (is_err_by c.from_residual.result why.WriteFault c.from_residual.ensures.1)
+    (goes_then false _ _ _ c.records.invariant.goes_on c.in_err-serve_record-in-Ok-Some.ensures.served.writes.goes_on)

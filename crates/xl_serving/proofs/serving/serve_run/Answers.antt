@@ -1,6 +1,7 @@
-use Rattle.std.proofs.Common.{◌≡◌, arith, refl, subst, ap, ◌∙◌, ◌+◌, ◌-◌, ◌<◌, ◌≤◌, Option, Result, Ok, Err, Some}
+use Rattle.std.proofs.Common.{false, true, ◌≡◌, arith, refl, subst, ap, ◌∙◌, ◌+◌, ◌-◌, ◌<◌, ◌≤◌, Option, Result, Ok, Err, Some}
 use Rattle.std.proofs.lemmas.Bool.Decides.{nat_tests}
 use Rattle.xl_model.specs.Courses.{ran}
+use Rattle.xl_outside.proofs.SinkLemmas.{goes_same, goes_then}
 use Rattle.xl_outside.specs.Folders.{file_of}
 use Rattle.xl_outside.proofs.FolderLemmas.{folder_then, folder_same}
 use Rattle.xl_serving.specs.declared.trace.Numbered.{Numbered}
@@ -36,7 +37,7 @@ records-preserved g c =
           (subst (λ (z : Result (Option Numbered) TraceStop). TraceAnswers (stands c.next.new.self (file_of fs name)) (left c.skim-taken.new.trace (file_of fs name)) (left c.next.new.self (file_of fs name)) z) (c.in-Ok-Some.is ∙ ap (λ (o : Option Numbered). Ok o) c.in-Ok-Some.field-0-is) (k mid.stands_still))
           c.in_ok-serve_record-in-Ok-Some.ensures.served);
       folder = folder_then _ _ _ _ _ _ _ _ inv.folder c.in-Ok-Some.ensures.leaves;
-      counts = c.in_ok-serve_record-in-Ok-Some.ensures.served.writes.counts ∙ inv.counts;
+      goes_on = goes_then true _ _ _ inv.goes_on c.in_ok-serve_record-in-Ok-Some.ensures.served.writes.goes_on;
       idle = c.in_ok-serve_record-in-Ok-Some.ensures.idle;
     }
 
@@ -109,6 +110,11 @@ pub records-init : goal.records-init
 records-init g c = record {
   told = rw c.new-batch.ensures (told_all (g.F.Folder.files c.args.folder.now) _ (λ fs s. underway_run c.args.answers _ c.args.n _ _ _ s));
   folder = folder_same _ _ _ _ _;
-  counts = refl;
+  goes_on = goes_same _;
   idle = λ _. c.new-batch.ensures;
 }
+
+pub returns-in_err-serve_record-in-Ok-Some-clause-goes_on : goal.returns-in_err-serve_record-in-Ok-Some-clause-goes_on
+returns-in_err-serve_record-in-Ok-Some-clause-goes_on g c =
+    rw (is_err_by c.from_residual.result why.WriteFault c.from_residual.ensures.1)
+    (goes_then false _ _ _ c.records.invariant.goes_on c.in_err-serve_record-in-Ok-Some.ensures.served.writes.goes_on)
