@@ -93,7 +93,8 @@ impl MadeTape {
         ensures answers { Answers result self.old.reader self.new.reader }
         ensures rest { self.new.rest ≡ self.old.rest }
         ensures number { self.new.number ≡ self.old.number }
-        ensures waits { result ≡ Next.More → (self.old.reader.finished ≡ false) × (self.new.reader.finished ≡ false) }
+        ensures waits { result ≡ Next.More →
+            (self.old.reader.finished ≡ false) × (self.new.reader.finished ≡ false) }
     {
         self.reader.next()
     }

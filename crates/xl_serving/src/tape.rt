@@ -104,7 +104,8 @@ impl Tape {
         ensures answers { Answers result self.old.reader self.new.reader }
         ensures at { self.new.at ≡ self.old.at }
         ensures number { self.new.number ≡ self.old.number }
-        ensures waits { result ≡ Next.More → (self.old.reader.finished ≡ false) × (self.new.reader.finished ≡ false) }
+        ensures waits { result ≡ Next.More →
+            (self.old.reader.finished ≡ false) × (self.new.reader.finished ≡ false) }
     {
         self.reader.next()
     }
