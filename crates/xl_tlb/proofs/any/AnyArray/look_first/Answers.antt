@@ -1,0 +1,14 @@
+use Rattle.xl_tlb.specs.Any.{array_in}
+use Rattle.xl_tlb.proofs.HeldLemmas.{looked-held}
+use Rattle.xl_tlb.proofs.SmallLemmas.{looked-small}
+use Rattle.xl_tlb.proofs.any.AnyArray.look_first.Goals as goal
+
+pub invariant_of-self : goal.invariant_of-self
+invariant_of-self c =
+    let old = array_in c.self.inside.array in
+    let new = array_in c.look_first_in.new.arrays in
+    let is = c.look_first_in.ensures in
+    record {
+      counts = rw (looked-held c.args.space c.args.page c.look_first_in.result.hit old new is.some is.none) c.self.invariant.counts;
+      smalls = λ none. looked-small c.args.space c.args.page c.look_first_in.result.hit old new is.some is.none (c.self.invariant.smalls none);
+    }
