@@ -1,10 +1,10 @@
 -- Texts that are written to a sink, in parts and one after another.
-use Rattle.std.proofs.Common.{◌≡◌, ℕ, ◌+◌, ◌-◌, ◌≤◌, Bool, true, false, List, [], ◌∷◌, ◌++◌, length, take, drop, refl, sym, ap, subst, ◌∙◌, inl, inr, arith, append_assoc, length-append, length-drop}
+use Rattle.std.proofs.Common.{◌≡◌, ℕ, ◌+◌, ◌-◌, ◌≤◌, Bool, true, false, List, [], ◌++◌, length, take, drop, refl, sym, ap, subst, ◌∙◌, inl, inr, arith, append_assoc, length-append, length-drop}
 use Rattle.std.specs.Prelude.{Option, None, Some}
 use Rattle.std.proofs.lemmas.List.{take-append-le, take-append-drop, take_all, take_rest, append_cancel_left}
 use Rattle.std.proofs.Math.Seq.{take-add, take-append-add, take-append_seam}
 use Rattle.xl_outside.specs.Outside.{Counted}
-use Rattle.xl_outside.specs.Sinks.{Outside, SinkAfter, FlushAfter, SentAfter, IsFlushed, FlushedWhere, GoesOn, IsMore, Wrote, WroteFront, WriteCounts, with_more}
+use Rattle.xl_outside.specs.Sinks.{Outside, SinkAfter, FlushAfter, SentAfter, IsFlushed, GoesOn, IsMore, Wrote, WroteFront, WriteCounts, with_more}
 use Rattle.xl_outside.specs.Fronts.{with_none, with_more-twice, more_none, more_then}
 
 -- the first `a`, and `n` of the rest as a slice of it is written

@@ -1,5 +1,5 @@
 -- Texts that go on: what is written of a sink's bytes is their front.
-use Rattle.std.proofs.Common.{◌≡◌, ℕ, List, [], ◌∷◌, ◌++◌, refl, sym, ap, ◌∙◌, append_assoc}
+use Rattle.std.proofs.Common.{◌≡◌, ℕ, List, [], ◌∷◌, ◌++◌, refl, ap, ◌∙◌, append_assoc}
 use Rattle.std.specs.Prelude.{Option, None, Some}
 use Rattle.xl_outside.specs.Sinks.{with_more, IsMore}
 
@@ -7,10 +7,12 @@ append_none : (xs : List ℕ) → xs ≡ xs ++ []
 append_none [] = refl
 append_none (x ∷ xs) = ap (λ (ys : List ℕ). x ∷ ys) (append_none xs)
 
+-- no bytes more
 pub with_none : (w : Option (List ℕ)) → w ≡ with_more w []
 with_none None = refl
 with_none (Some text) = ap Some (append_none text)
 
+-- bytes, and others after them
 pub with_more-twice : (before : Option (List ℕ)) (xs ys : List ℕ) → with_more (with_more before xs) ys ≡ with_more before (xs ++ ys)
 with_more-twice None xs ys = refl
 with_more-twice (Some text) xs ys = ap Some (append_assoc text xs ys)

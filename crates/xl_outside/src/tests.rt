@@ -59,7 +59,8 @@ fn a_buffer_holds_what_it_takes_until_it_is_flushed_or_full(rt: HostRuntime) -> 
     assert_eq!(rt; put_all(&mut out, &[b'e'; 16384]), Ok(()));
     assert_eq!(rt; out.put(b"f"), Err(Failed));
     assert_eq!(rt; out.sink().bytes().len(), 4);
-    assert_eq!(rt; send_all(&mut out, b"f"), Ok(()));
+    assert_eq!(rt; put_all(&mut out, b"f"), Ok(()));
+    assert_eq!(rt; out.flush(), Ok(()));
     assert_eq!(rt; out.sink().bytes().len(), 16389);
     assert_eq!(rt; out.sink().bytes().last(), Some(&b'f'));
     Ok(())

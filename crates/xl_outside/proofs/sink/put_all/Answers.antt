@@ -1,4 +1,4 @@
-use Rattle.std.proofs.Common.{◌≡◌, ◌+◌, ◌-◌, ◌≤◌, ◌∙◌, true, false, inl, arith, ℕ, length, take, drop, subst}
+use Rattle.std.proofs.Common.{◌≡◌, ◌+◌, ◌-◌, ◌≤◌, ◌∙◌, true, inl, arith, length, take, drop, subst}
 use Rattle.xl_outside.proofs.SinkLemmas.{written_on, length-rest, goes_then, put_goes, put_stops}
 use Rattle.xl_outside.proofs.sink.put_all.Goals as goal
 

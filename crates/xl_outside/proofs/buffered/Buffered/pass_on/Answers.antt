@@ -1,4 +1,4 @@
-use Rattle.std.proofs.Common.{rules, ◌≡◌, ◌+◌, ◌-◌, ◌≤◌, ◌<◌, ◌∙◌, ℕ, true, inl, arith, length, take, drop, subst, sym, ap, length-drop}
+use Rattle.std.proofs.Common.{rules, ◌≡◌, ◌+◌, ◌-◌, ◌≤◌, ◌<◌, ◌∙◌, true, inl, arith, length, take, subst, ap, length-drop}
 use Rattle.xl_outside.specs.Sinks.{with_more}
 use Rattle.xl_outside.proofs.SinkLemmas.{goes_then, put_goes, put_stops}
 use Rattle.xl_outside.proofs.BufferLemmas.{moved_on}

@@ -1,4 +1,4 @@
-use Rattle.std.proofs.Common.{◌≡◌, ◌+◌, ◌∙◌, ℕ, length, subst, sym, ap, arith}
+use Rattle.std.proofs.Common.{◌≡◌, ◌+◌, ◌∙◌, length, subst, ap, arith}
 use Rattle.std.specs.Prelude.{is_ok}
 use Rattle.xl_outside.specs.Sinks.{with_more}
 use Rattle.xl_outside.proofs.SinkLemmas.{goes_then}
