@@ -7,7 +7,7 @@ use Rattle.xl_model.specs.declared.script.Area.{Area}
 use Rattle.xl_model.specs.declared.script.Item.{Item}
 use Rattle.xl_model.specs.declared.script.Item.TheVariants.{Referenced}
 use Rattle.xl_model.specs.Items.{state_after}
-use Rattle.xl_model.specs.Scenes.{Served, Scene, rows_after, scene_after, scenes_after, untold, told_by}
+use Rattle.xl_model.specs.Scenes.{Served, Scene, rows_after, scene_after, scenes_after, untold}
 use Rattle.xl_model_lemmas.proofs.SceneLemmas.{scene-append, untold-stays}
 use Rattle.xl_outside.specs.Sinks.{Outside, SinkAfter}
 use Rattle.xl_outside.proofs.SinkLemmas.{sink_same}

@@ -1,6 +1,5 @@
-use Rattle.std.proofs.Common.{subst, [], ap}
+use Rattle.std.proofs.Common.{subst, []}
 use Rattle.xl_model.specs.Courses.{Trail, course}
-use Rattle.xl_outside.specs.Folders.{file_of}
 use Rattle.xl_words.specs.Words.{asked_of}
 use Rattle.xl_serving.specs.Serving.{scene_of}
 use Rattle.xl_serving.specs.Endings.{course_ending, Ends}

@@ -1,4 +1,4 @@
-use Rattle.std.proofs.Common.{true, ◌+◌, ◌≤◌, ◌∙◌, sym, ap, List, length, arith, refl, Ok, Err}
+use Rattle.std.proofs.Common.{true, ◌+◌, ◌≤◌, ◌∙◌, sym, ap, List, length, arith, Ok, Err}
 use Rattle.std.specs.Prelude.{drop, Some, None}
 use Rattle.std.proofs.lemmas.Bool.Decides.{nat_tests}
 use Rattle.xl_model.specs.declared.script.Area.{Area}

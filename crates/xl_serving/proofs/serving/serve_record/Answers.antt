@@ -1,5 +1,3 @@
-use Rattle.std.proofs.Common.{true, false, subst, sym, Bool}
-use Rattle.std.proofs.lemmas.Bool.{false_from_ne_true}
 use Rattle.xl_model.specs.Courses.{accesses_items}
 use Rattle.xl_lackey.specs.Accesses.{accesses}
 use Rattle.xl_serving.proofs.BatchLemmas.{served-untold}

@@ -1,13 +1,13 @@
-use Rattle.std.proofs.Common.{false, true, subst, ap, ◌∙◌, Option, Result, Ok, Err, Some}
+use Rattle.std.proofs.Common.{false, true, subst, ap, ◌∙◌, Option, Result, Ok}
 use Rattle.xl_model.specs.Courses.{ran_all}
-use Rattle.xl_outside.proofs.SinkLemmas.{goes_same, goes_then}
+use Rattle.xl_outside.proofs.SinkLemmas.{goes_then}
 use Rattle.xl_outside.specs.Folders.{file_of}
 use Rattle.xl_outside.proofs.FolderLemmas.{folder_then}
 use Rattle.xl_serving.specs.declared.trace.Numbered.{Numbered}
 use Rattle.xl_serving.specs.declared.trace.TraceStop.{TraceStop}
 use Rattle.xl_serving.specs.declared.serving.ServeStop.TheVariants as why
 use Rattle.xl_serving.specs.Tapes.{TraceAnswers}
-use Rattle.xl_serving.specs.Serving.{scene_of, of_trace_stop}
+use Rattle.xl_serving.specs.Serving.{scene_of}
 use Rattle.xl_serving.proofs.BatchLemmas.{lost-any}
 use Rattle.xl_serving.proofs.SkimLemmas.{going_skims_all}
 use Rattle.xl_serving.proofs.ToldLemmas.{told_then, is_err_by}

@@ -1,4 +1,4 @@
-use Rattle.std.proofs.Common.{false, true, ◌≡◌, arith, refl, subst, ap, ◌∙◌, ◌+◌, ◌-◌, ◌<◌, ◌≤◌, Option, Result, Ok, Err, Some}
+use Rattle.std.proofs.Common.{false, true, ◌≡◌, arith, subst, ap, ◌∙◌, ◌+◌, ◌-◌, ◌<◌, ◌≤◌, Option, Result, Ok}
 use Rattle.std.proofs.lemmas.Bool.Decides.{nat_tests}
 use Rattle.xl_model.specs.Courses.{ran}
 use Rattle.xl_outside.proofs.SinkLemmas.{goes_same, goes_then}
@@ -8,7 +8,7 @@ use Rattle.xl_serving.specs.declared.trace.Numbered.{Numbered}
 use Rattle.xl_serving.specs.declared.trace.TraceStop.{TraceStop}
 use Rattle.xl_serving.specs.declared.serving.ServeStop.TheVariants as why
 use Rattle.xl_serving.specs.Tapes.{TraceAnswers}
-use Rattle.xl_serving.specs.Serving.{scene_of, of_trace_stop}
+use Rattle.xl_serving.specs.Serving.{scene_of}
 use Rattle.xl_serving.proofs.BatchLemmas.{lost-any}
 use Rattle.xl_serving.proofs.SkimLemmas.{going_skims_run}
 use Rattle.xl_serving.proofs.ToldLemmas.{told_all, told_then, is_err_by}

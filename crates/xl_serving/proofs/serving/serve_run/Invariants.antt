@@ -1,4 +1,4 @@
-use Rattle.std.proofs.Common.{true, ◌≡◌}
+use Rattle.std.proofs.Common.{true}
 use Rattle.std.specs.Option.{IfSome}
 use Rattle.xl_model.specs.Courses.{ran}
 use Rattle.xl_outside.specs.Folders.{file_of, FolderAfter, Fine}

@@ -1,4 +1,4 @@
-use Rattle.std.proofs.Common.{rules, subst, sym, refl, ap₂, ◌-◌, ◌+◌, ◌%◌, ◌^◌, ℕ}
+use Rattle.std.proofs.Common.{rules, subst, sym, refl}
 use Rattle.xl_serving.specs.Tapes.{IsMadeWhole}
 use Rattle.xl_serving.proofs.SkimLemmas.{skims-made}
 use Rattle.xl_serving.proofs.made.MadeTapeTrace.skim.Goals as goal

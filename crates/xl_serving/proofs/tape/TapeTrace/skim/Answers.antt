@@ -1,4 +1,4 @@
-use Rattle.std.proofs.Common.{rules, subst, sym, refl, ap, ap₂, ◌∙◌, ◌-◌, ◌+◌, ◌%◌, ◌^◌, ℕ}
+use Rattle.std.proofs.Common.{rules, subst, sym, refl}
 use Rattle.xl_serving.specs.Tapes.{IsFedFrom}
 use Rattle.xl_serving.proofs.SkimLemmas.{skims-file}
 use Rattle.xl_serving.proofs.tape.TapeTrace.skim.Goals as goal
