@@ -3,6 +3,7 @@
 #![tactic(auto)]
 
 mod blocks;
+mod cuckoo;
 mod hits;
 mod lists;
 mod nodes;
@@ -15,7 +16,7 @@ use std::str::FromStr;
 /// The answer to a part that there isn't.
 const PARTS: &str =
     "the parts are lists, blocks, front, second, nodes, few_nodes, hashed, clustered, meets, ranges, \
-    range_loads and range_hits";
+    range_loads, range_hits, cuckoo, cuckoo_middle, cuckoo_apart and cuckoo_bare";
 
 fn main(rt: HostRuntime) -> io::Result<()> {
     for line in rt.lines(rt.alloc()) {
@@ -41,6 +42,10 @@ fn main(rt: HostRuntime) -> io::Result<()> {
             "ranges" => ranges::walks(rt.alloc(), calls),
             "range_loads" => ranges::loads(rt.alloc(), calls),
             "range_hits" => ranges::hits(rt.alloc(), calls),
+            "cuckoo" => cuckoo::small(rt.alloc(), calls),
+            "cuckoo_middle" => cuckoo::middle(rt.alloc(), calls),
+            "cuckoo_apart" => cuckoo::apart(rt.alloc(), calls),
+            "cuckoo_bare" => cuckoo::bare(rt.alloc(), calls),
             _ => {
                 println!(rt; "{PARTS}")?;
                 continue;
