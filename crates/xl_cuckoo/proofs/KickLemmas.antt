@@ -6,8 +6,7 @@ use Rattle.xl_model.specs.declared.way.Entry.{Entry}
 use Rattle.xl_model.specs.Ways.{WayShape, occupant, swapped}
 use Rattle.xl_model.specs.Placing.{way_at, put_in, next_way, Attempt, Stands, Fails, Displaced, by_occupant, attempt}
 use Rattle.xl_way.specs.Slots.{WayState}
-use Rattle.xl_cuckoo.specs.State.{no_way, state_at, shapes, loads_in, with_swapped, put_at}
-use Rattle.xl_cuckoo.proofs.LoopLemmas.{loads-set}
+use Rattle.xl_cuckoo.specs.State.{no_way, state_at, shapes, with_swapped, put_at}
 use Rattle.xl_cuckoo.specs.Undo.{previous_way, in_hand, undone}
 
 pub map-length : {A B : Type 0} (f : A → B) (xs : List A) → length (map f xs) ≡ length xs
@@ -27,9 +26,6 @@ shapes-put ws at x =
 
 pub put-length : (ws : List WayState) (at : ℕ) (x : Entry) → length (put_at ws at x) ≡ length ws
 put-length ws at x = length-set ws at (with_swapped x (state_at ws at))
-
-pub loads-put : (ws vs : List WayState) (at : ℕ) (x : Entry) → vs ≡ put_at ws at x → loads_in vs ≡ loads_in ws
-loads-put ws vs at x is = ap loads_in is ∙ loads-set ws at (with_swapped x (state_at ws at)) refl
 
 -- what stood in a slot, put back
 pub back-is : (ws : List WayState) (at : ℕ) (old new : WayState) (o : Option Entry) → at < length ws → old ≡ state_at ws at → new.loads ≡ old.loads

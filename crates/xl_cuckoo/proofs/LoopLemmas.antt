@@ -2,7 +2,7 @@
 use Rattle.std.proofs.Common.{◌≡◌, refl, sym, ap, ◌∙◌, ℕ, zero, suc, ◌+◌, ◌^◌, ◌<◌, ◌≤◌, cond, List, [], ◌∷◌, ◌++◌, length, map, get_or, set, take, drop, Option, None, Some, arith}
 use Rattle.std.specs.Prelude.{find, is_some}
 use Rattle.std.specs.Option.{option_or}
-use Rattle.std.proofs.Math.Seq.{drop-cons, map-set_same}
+use Rattle.std.proofs.Math.Seq.{drop-cons}
 use Rattle.std.proofs.lemmas.List.{drop_all, get_or_default}
 use Rattle.std.proofs.lemmas.List.Edits.{map_over_more}
 use Rattle.std.proofs.lemmas.List.Folds.{find-append}
@@ -13,7 +13,7 @@ use Rattle.xl_model.specs.Placing.{is_held, holder_from, total}
 use Rattle.xl_model_lemmas.specs.Sections.{entries_in}
 use Rattle.xl_model_lemmas.proofs.SameLemmas.{any-find}
 use Rattle.xl_way.specs.Slots.{WayState, word_in, word_of}
-use Rattle.xl_cuckoo.specs.State.{no_way, state_at, shapes, loads_in, counted_way, changed_by}
+use Rattle.xl_cuckoo.specs.State.{no_way, state_at, shapes, changed_by}
 use Rattle.xl_cuckoo.specs.Table.{value_of}
 
 -- the ways from one on
@@ -65,25 +65,6 @@ holder-here key ws i w l e =
 pub holder-end : (key : ℕ) (ws : List WayState) (i : ℕ) → length ws ≤ i → holder_from i (shapes (drop i ws)) key ≡ None
 holder-end key ws i l = ap (λ (us : List WayState). holder_from i (shapes us) key) (drop_all i ws l)
 
--- loads
-pub loads-small : (ws : List WayState) → loads_in ws < 2 ^ 64
-loads-small [] = omega arith
-loads-small (w ∷ ws) = omega arith
-
-pub loads-next : (sum : ℕ) (ws : List WayState) (i : ℕ) (w : WayState) → i < length ws → w ≡ get_or ws i w
-    → plus sum (loads_in (drop i ws)) ≡ plus (plus sum w.loads) (loads_in (drop (i + 1) ws))
-loads-next sum ws i w l e =
-    let a : loads_in (drop i ws) ≡ plus (state_at ws i).loads (loads_in (drop (i + 1) ws)) = ap loads_in (from-here ws i l) in
-    let b : (state_at ws i).loads ≡ w.loads = ap (λ (v : WayState). v.loads) (read-here ws i w l e) in
-    omega arith
-
-pub loads-end : (sum : ℕ) (ws : List WayState) (i : ℕ) → length ws ≤ i → sum < 2 ^ 64 → plus sum (loads_in (drop i ws)) ≡ sum
-loads-end sum ws i l small = let a : loads_in (drop i ws) ≡ 0 = ap loads_in (drop_all i ws l) in omega arith
-
-pub loads-counted : (ws : List WayState) → loads_in (map counted_way ws) ≡ plus (loads_in ws) (length ws)
-loads-counted [] = refl
-loads-counted (w ∷ ws) = let e : loads_in (map counted_way ws) ≡ plus (loads_in ws) (length ws) = loads-counted ws in omega arith
-
 -- one way after another is written
 pub written-more : (f : WayState → WayState) (ws vs : List WayState) (i : ℕ) → i < length ws → vs ≡ map f (take i ws) ++ drop i ws → i < length vs
     → set vs i (f (state_at vs i)) ≡ map f (take (i + 1) ws) ++ drop (i + 1) ws
@@ -121,29 +102,7 @@ total-next f sum ws i l =
 pub total-end : (f : WayShape → ℕ) (sum : ℕ) (ws : List WayState) (i : ℕ) → length ws ≤ i → sum < 2 ^ 64 → plus sum (total f (shapes (drop i ws))) ≡ sum
 total-end f sum ws i l small = let a : total f (shapes (drop i ws)) ≡ 0 = ap (λ (us : List WayState). total f (shapes us)) (drop_all i ws l) in omega arith
 
--- changes that leave the loads
+-- the ways are changed
 pub shapes-map : (f : WayShape → WayShape) (ws : List WayState) → shapes (map (changed_by f) ws) ≡ map f (shapes ws)
 shapes-map f [] = refl
 shapes-map f (w ∷ ws) = ap (λ us. f w.shape ∷ us) (shapes-map f ws)
-
-pub loads-map : (f : WayShape → WayShape) (ws : List WayState) → loads_in (map (changed_by f) ws) ≡ loads_in ws
-loads-map f [] = refl
-loads-map f (w ∷ ws) = ap (plus w.loads) (loads-map f ws)
-
-pub shapes-counted : (ws : List WayState) → shapes (map counted_way ws) ≡ shapes ws
-shapes-counted [] = refl
-shapes-counted (w ∷ ws) = ap (λ us. w.shape ∷ us) (shapes-counted ws)
-
--- one way is written
-pub loads-set : (ws : List WayState) (i : ℕ) (v : WayState) → v.loads ≡ (state_at ws i).loads → loads_in (set ws i v) ≡ loads_in ws
-loads-set [] i v e = refl
-loads-set (w ∷ ws) zero v e = ap (λ n. plus n (loads_in ws)) e
-loads-set (w ∷ ws) (suc i) v e = ap (plus w.loads) (loads-set ws i v e)
-
-pub loads-one : (ws : List WayState) (i : ℕ) → i < length ws → loads_in (set ws i (counted_way (state_at ws i))) ≡ plus (loads_in ws) 1
-loads-one [] i l = absurd (omega arith)
-loads-one (w ∷ ws) zero l = omega arith
-loads-one (w ∷ ws) (suc i) l = let e : loads_in (set ws i (counted_way (state_at ws i))) ≡ plus (loads_in ws) 1 = loads-one ws i (omega arith) in omega arith
-
-pub shapes-one : (ws : List WayState) (i : ℕ) → shapes (set ws i (counted_way (state_at ws i))) ≡ shapes ws
-shapes-one ws i = map-set_same (λ (w : WayState). w.shape) ws i (counted_way (state_at ws i)) no_way refl

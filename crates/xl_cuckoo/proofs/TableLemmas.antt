@@ -1,42 +1,28 @@
 -- The table by its fields, after its ways were lent out and changed.
 use Rattle.std.proofs.Common.{◌≡◌, refl, sym, ap, ◌∙◌, ℕ, zero, suc, ◌+◌, ◌<◌, ◌≤◌, List, [], ◌∷◌, ◌++◌, length, set, map, Vec, arith}
 use Rattle.std.specs.Vec.{with_items}
-use Rattle.std.proofs.lemmas.List.{with_items_is, length-map}
-use Rattle.xl_model.specs.Base.{plus}
+use Rattle.std.proofs.lemmas.List.{with_items_is}
 use Rattle.xl_model.specs.Ways.{WayShape, has_key, opening_way}
 use Rattle.xl_model.specs.Placing.{Displaced}
 use Rattle.xl_model.specs.Shapes.{opening_ways}
 use Rattle.xl_model_lemmas.specs.Sections.{tally, entries_in}
 use Rattle.xl_way.specs.Slots.{WayState}
-use Rattle.xl_cuckoo.specs.State.{state_at, shapes, loads_in, counted_way, changed_by}
-use Rattle.xl_cuckoo.specs.Table.{CuckooState, loaded, AreOnce, IsTable}
-use Rattle.xl_cuckoo.proofs.LoopLemmas.{shapes-map, loads-map, shapes-counted, loads-counted, shapes-one, loads-one}
+use Rattle.xl_cuckoo.specs.State.{shapes, changed_by}
+use Rattle.xl_cuckoo.specs.Table.{CuckooState, AreOnce, IsTable}
+use Rattle.xl_cuckoo.proofs.LoopLemmas.{shapes-map}
 
 -- the ways that come back
 pub items-back : {X Z : Type 0} (v : Vec X Z) (back now : List X) → back ≡ now → length now ≡ length v.items → (with_items v back).items ≡ now
 items-back v back now e same = with_items_is v back (ap length e ∙ same ∙ sym v.ok.0) ∙ e
 
 -- what a table is, by its fields
-abbrev pub state_of : ℕ → ℕ → ℕ → List WayState → List Displaced → CuckooState
-state_of threshold kick_limit migrate ws moved =
-    record { threshold = threshold; kick_limit = kick_limit; migrate = migrate; ways = shapes ws; moved = moved; loads = loads_in ws }
+abbrev pub state_of : ℕ → ℕ → ℕ → List WayState → List Displaced → ℕ → CuckooState
+state_of threshold kick_limit migrate ws moved loads =
+    record { threshold = threshold; kick_limit = kick_limit; migrate = migrate; ways = shapes ws; moved = moved; loads = loads }
 
-pub changed-state : (t k m : ℕ) (ws : List WayState) (moved : List Displaced) (f : WayShape → WayShape)
-    → state_of t k m (map (changed_by f) ws) moved ≡ record (state_of t k m ws moved) { ways = map f (shapes ws) }
-changed-state t k m ws moved f =
-    ap (λ (us : List WayShape). record (state_of t k m (map (changed_by f) ws) moved) { ways = us }) (shapes-map f ws)
-    ∙ ap (λ n. record (state_of t k m ws moved) { ways = map f (shapes ws); loads = n }) (loads-map f ws)
-
-pub counted-state : (t k m : ℕ) (ws : List WayState) (moved : List Displaced) → state_of t k m (map counted_way ws) moved ≡ loaded (length (shapes ws)) (state_of t k m ws moved)
-counted-state t k m ws moved =
-    ap (λ (us : List WayShape). record (state_of t k m (map counted_way ws) moved) { ways = us }) (shapes-counted ws)
-    ∙ ap (λ n. record (state_of t k m ws moved) { loads = n }) (loads-counted ws ∙ ap (plus (loads_in ws)) (sym (length-map ws (λ (w : WayState). w.shape))))
-
-pub one-state : (t k m : ℕ) (ws : List WayState) (moved : List Displaced) (at : ℕ) → at < length ws
-    → state_of t k m (set ws at (counted_way (state_at ws at))) moved ≡ loaded 1 (state_of t k m ws moved)
-one-state t k m ws moved at l =
-    ap (λ (us : List WayShape). record (state_of t k m (set ws at (counted_way (state_at ws at))) moved) { ways = us }) (shapes-one ws at)
-    ∙ ap (λ n. record (state_of t k m ws moved) { loads = n }) (loads-one ws at l)
+pub changed-state : (t k m : ℕ) (ws : List WayState) (moved : List Displaced) (loads : ℕ) (f : WayShape → WayShape)
+    → state_of t k m (map (changed_by f) ws) moved loads ≡ record (state_of t k m ws moved loads) { ways = map f (shapes ws) }
+changed-state t k m ws moved loads f = ap (λ (us : List WayShape). record (state_of t k m ws moved loads) { ways = us }) (shapes-map f ws)
 
 -- what a table keeps
 pub table-with : (d t k : ℕ) (ws vs : List WayShape) → IsTable d t k ws → length vs ≡ length ws → AreOnce vs → IsTable d t k vs
@@ -59,10 +45,6 @@ opening-more start most number n = let e : n + 1 ≡ suc n = omega arith in ap (
         let e : k + 1 + n ≡ k + suc n = omega arith in
         ap (λ us. opening_way start most k ∷ us) (go (k + 1) n)
         ∙ ap (λ i. opening_way start most k ∷ (opening_ways start most (k + 1) n ++ opening_way start most i ∷ [])) e
-
-pub loads-append : (ws : List WayState) (w : WayState) → loads_in (ws ++ w ∷ []) ≡ plus (loads_in ws) w.loads
-loads-append [] w = omega arith
-loads-append (v ∷ ws) w = let on : loads_in (ws ++ w ∷ []) ≡ plus (loads_in ws) w.loads = loads-append ws w in omega arith
 
 opening-entries : (start most number n : ℕ) → entries_in (opening_ways start most number n) ≡ []
 unfolding opening_way

@@ -1,8 +1,6 @@
--- The ways of a cuckoo table, with the loads made of each.
-use Rattle.std.specs.Prelude.{ℕ, List, [], ◌∷◌, map, slice_index_or, slice_set}
+-- The ways of a cuckoo table.
+use Rattle.std.specs.Prelude.{ℕ, List, map, slice_index_or, slice_set}
 use Rattle.xl_model.specs.declared.way.Entry.{Entry}
-use Rattle.xl_phys.specs.Lines.{counted}
-use Rattle.xl_model.specs.Base.{plus}
 use Rattle.xl_model.specs.Ways.{WayShape, swapped, opening_way}
 use Rattle.xl_model.specs.Placing.{forced, settled_way, begun_if_full}
 use Rattle.xl_way.specs.Slots.{WayState}
@@ -15,7 +13,7 @@ no_way = record { shape = opening_way 0 0 0; loads = 0 }
 abbrev pub state_at : List WayState → ℕ → WayState
 state_at ways at = slice_index_or ways at no_way
 
--- Ways by what they hold, without their loads.
+-- Ways by what they hold, without the loads made of them.
 abbrev pub shapes : List WayState → List WayShape
 shapes ways = map (λ w. w.shape) ways
 
@@ -26,15 +24,6 @@ with_swapped x w = record w { shape = swapped w.shape x }
 -- The ways with an entry in its slot of one of them.
 abbrev pub put_at : List WayState → ℕ → Entry → List WayState
 put_at ways at x = slice_set ways at (with_swapped x (state_at ways at))
-
--- The sum of the loads made of ways.
-abbrev pub loads_in : List WayState → ℕ
-loads_in [] = 0
-loads_in (w ∷ ways) = plus w.loads (loads_in ways)
-
--- A way of which one load more was made.
-abbrev pub counted_way : WayState → WayState
-counted_way w = record w { loads = counted w.loads }
 
 -- A way whose keys and words are changed.
 abbrev pub changed_by : (WayShape → WayShape) → WayState → WayState

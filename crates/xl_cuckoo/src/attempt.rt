@@ -2,7 +2,7 @@
 
 ghost use Rattle.std.specs.Prelude.{◌≡◌, ◌<◌, ◌≤◌, true, false, [], length, map, Option};
 ghost use Rattle.xl_model.specs.Placing.{attempt as attempt_by, Stands, Fails};
-ghost use Rattle.xl_cuckoo.specs.State.{shapes, loads_in};
+ghost use Rattle.xl_cuckoo.specs.State.{shapes};
 ghost use Rattle.xl_cuckoo.specs.Undo.{displaced, undone, in_hand};
 
 use crate::moved::Moved;
@@ -55,7 +55,6 @@ pub(crate) fn attempt(
         ≡ Stands (shapes ways.new) (map displaced moved.new.items) }
     ensures fails { result ≡ false → attempt_by limit (shapes ways.old) start entry [] ≡ Fails }
     ensures back { result ≡ false → ways.new ≡ ways.old }
-    ensures loads { loads_in ways.new ≡ loads_in ways.old }
 {
     let mut at = start;
     let mut hand = entry;

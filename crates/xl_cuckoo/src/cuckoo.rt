@@ -5,14 +5,14 @@ ghost use Rattle.xl_model.specs.Ways.{with_word, without_entry};
 ghost use Rattle.xl_model.specs.Placing.{Placed, AtCap, way_at, holder_from};
 ghost use Rattle.xl_model.specs.Shapes.{opening_ways};
 ghost use Rattle.xl_way.specs.Slots.{word_of};
-ghost use Rattle.xl_cuckoo.specs.State.{shapes, loads_in};
+ghost use Rattle.xl_cuckoo.specs.State.{shapes};
 ghost use Rattle.xl_cuckoo.specs.Undo.{told};
 ghost use Rattle.xl_cuckoo.specs.Table.{value_of, loaded, inserted, opening, SameEntries, AddsEntry, AreOnce};
 
 use crate::changing::{remove, set_word};
 use crate::moved::{Moved, WayAtCap};
 use crate::placing::{Rules, insert};
-use crate::reading::{holder, loads, probe_at, probe_each, value};
+use crate::reading::{holder, value, value_at};
 use arrayvec::ArrayVec;
 use std::alloc::Global;
 use std::marker::Model;
@@ -27,11 +27,12 @@ pub struct Cuckoo<const D: usize> {
     ways: Vec<Way>,
     rules: Rules,
     moved: ArrayVec<Moved, 64>,
+    loads: u64,
 }
 
 impl<const D: usize> Model for Cuckoo<D> {
     ghost use Rattle.std.specs.Prelude.{map};
-    ghost use Rattle.xl_cuckoo.specs.State.{shapes, loads_in};
+    ghost use Rattle.xl_cuckoo.specs.State.{shapes};
     ghost use Rattle.xl_cuckoo.specs.Undo.{displaced};
     ghost use Rattle.xl_cuckoo.specs.Table.{CuckooState, IsTable};
 
@@ -43,7 +44,7 @@ impl<const D: usize> Model for Cuckoo<D> {
       migrate = c.rules.migrate;
       ways = shapes c.ways.items;
       moved = map displaced c.moved.items;
-      loads = loads_in c.ways.items;
+      loads = c.loads;
     } };
 
     ghost invariant = { λ c. IsTable D c.rules.threshold c.rules.kick_limit (shapes c.ways.items) };
@@ -60,8 +61,7 @@ fn open_ways(
     requires few { count ≤ 4 }
     requires start { start_bits ≤ cap_bits }
     requires cap { cap_bits ≤ 18 }
-    ensures ways { IfOk result (λ ways. shapes ways.items ≡ opening_ways start_bits cap_bits 0 count) }
-    ensures loads { IfOk result (λ ways. loads_in ways.items ≡ 0) }
+    ensures { IfOk result (λ ways. shapes ways.items ≡ opening_ways start_bits cap_bits 0 count) }
 {
     let mut ways = Vec::with_capacity(alloc, count)?;
     'ways: for number in 0..count {
@@ -107,6 +107,7 @@ impl<const D: usize> Cuckoo<D> {
                 migrate,
             },
             moved: ArrayVec::new(),
+            loads: 0,
         })
     }
 
@@ -140,7 +141,7 @@ impl<const D: usize> Cuckoo<D> {
     pub fn loads(&self) -> u64
         ensures { result ≡ self.now.loads }
     {
-        loads(&self.ways)
+        self.loads
     }
 
     /// The `i`-th key, from 0 on, that the last insertion displaced in the attempt that stood, and the
@@ -157,22 +158,45 @@ impl<const D: usize> Cuckoo<D> {
         }
     }
 
+    /// Counts a load of each way. All ways of a key are read at once, whichever holds it, so that a
+    /// probe counts as many loads wherever its search ends, and also where its answer isn't wanted.
+    #[inline(always)]
+    pub fn count_probe(&mut self)
+        ensures { self.new ≡ loaded (length self.old.ways) self.old }
+    {
+        self.loads = self.loads.wrapping_add(D as u64);
+    }
+
+    /// Counts a load of one way.
+    #[inline(always)]
+    pub fn count_probe_way(&mut self)
+        ensures { self.new ≡ loaded 1 self.old }
+    {
+        self.loads = self.loads.wrapping_add(1);
+    }
+
     /// The word that is kept for the key, as `get` answers it, by one load of each way.
+    #[inline(always)]
     pub fn probe(&mut self, key: u64) -> Option<u64>
         ensures found { result ≡ value_of key self.old.ways }
         ensures after { self.new ≡ loaded (length self.old.ways) self.old }
     {
-        probe_each(&mut self.ways, key)
+        let found = value(&self.ways, key);
+        self.count_probe();
+        found
     }
 
     /// The word that one way keeps for the key, by one load; None exactly where that way doesn't hold
     /// it.
+    #[inline(always)]
     pub fn probe_way(&mut self, way: u64, key: u64) -> Option<u64>
         requires { way < length self.old.ways }
         ensures found { result ≡ word_of key (way_at self.old.ways way).entries }
         ensures after { self.new ≡ loaded 1 self.old }
     {
-        probe_at(&mut self.ways, way as usize, key)
+        let found = value_at(&self.ways, way as usize, key);
+        self.count_probe_way();
+        found
     }
 
     /// Inserts a key that isn't held, with its word. An attempt puts it into its slot of a way; the key

@@ -2,7 +2,7 @@
 
 ghost use Rattle.std.specs.Prelude.{◌≡◌, ◌<◌, ◌≤◌, length, IfSome, slice_set};
 ghost use Rattle.xl_model.specs.Placing.{candidate as candidate_by, smaller as smaller_of, to_grow as growing_of, forced, forced_moves};
-ghost use Rattle.xl_cuckoo.specs.State.{state_at, shapes, loads_in, with_forced};
+ghost use Rattle.xl_cuckoo.specs.State.{state_at, shapes, with_forced};
 ghost use Rattle.xl_cuckoo.specs.Growth.{candidate_in};
 
 use crate::growth::force;

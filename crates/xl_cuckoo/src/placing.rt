@@ -2,7 +2,7 @@
 
 ghost use Rattle.std.specs.Prelude.{◌≡◌, ◌<◌, ◌≤◌, ◌+◌, [], length, map, IfOk, IfErr, OnOk, OnErr, None};
 ghost use Rattle.xl_model.specs.Placing.{start_way, no_moves, Placed, AtCap, place as place_of, insertion};
-ghost use Rattle.xl_cuckoo.specs.State.{shapes, loads_in};
+ghost use Rattle.xl_cuckoo.specs.State.{shapes};
 ghost use Rattle.xl_cuckoo.specs.Undo.{displaced};
 ghost use Rattle.xl_cuckoo.specs.Table.{value_of, SameEntries, AddsEntry, AreOnce};
 ghost use Rattle.xl_cuckoo.specs.Steps.{StepIs, with_kicks, with_undone};
@@ -73,9 +73,8 @@ fn try_once(
     requires few { length ways.old ≤ 4 }
     requires limit { limit ≤ 64 }
     requires full { 0 < entry.word }
-    ensures is { StepIs limit entry moves (shapes ways.old) (shapes ways.new)
+    ensures { StepIs limit entry moves (shapes ways.old) (shapes ways.new)
         (map displaced moved.new.items) result }
-    ensures loads { loads_in ways.new ≡ loads_in ways.old }
 {
     moved.clear();
     let start = start(ways.len(), entry.key);
@@ -110,7 +109,6 @@ fn place(
         ≡ AtCap (shapes ways.new) e.moves) }
     ensures kept { OnErr result (SameEntries (shapes ways.old) (shapes ways.new)) }
     ensures none { OnErr result (map displaced moved.new.items ≡ []) }
-    ensures loads { loads_in ways.new ≡ loads_in ways.old }
 {
     let mut moves = Moves {
         kicks: 0,
@@ -148,7 +146,6 @@ pub(crate) fn insert(
     ensures kept { OnErr result (SameEntries (shapes ways.old) (shapes ways.new)) }
     ensures none { OnErr result (map displaced moved.new.items ≡ []) }
     ensures once { AreOnce (shapes ways.new) }
-    ensures loads { loads_in ways.new ≡ loads_in ways.old }
 {
     match place(ways, rules.kick_limit as usize, entry, moved) {
         Ok(moves) => Ok(settle(ways, rules.migrate as u64, rules.threshold as u64, moves)),

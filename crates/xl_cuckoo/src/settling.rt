@@ -3,7 +3,7 @@
 ghost use Rattle.std.specs.Prelude.{◌≡◌, ◌<◌, ◌≤◌, length, map, slice_set};
 ghost use Rattle.xl_model.specs.Base.{plus, one_if};
 ghost use Rattle.xl_model.specs.Placing.{slots_settled, settled_way, begins, begun_if_full as begun_by, total, settled, settled_moves};
-ghost use Rattle.xl_cuckoo.specs.State.{state_at, shapes, loads_in, with_settled, with_begun};
+ghost use Rattle.xl_cuckoo.specs.State.{state_at, shapes, with_settled, with_begun};
 
 use crate::growth::{begin_if_full, settle_way};
 use xl_model::Moves;
@@ -63,7 +63,6 @@ pub(crate) fn settle(ways: &mut [Way], most: u64, threshold: u64, moves: Moves) 
     requires { threshold ≤ 100 }
     ensures ways { shapes ways.new ≡ settled most threshold (shapes ways.old) }
     ensures moves { result ≡ settled_moves most threshold (shapes ways.old) moves }
-    ensures loads { loads_in ways.new ≡ loads_in ways.old }
 {
     let migrated = settle_each(ways, most, moves.migrated);
     let growths = begin_each(ways, threshold, moves.growths);

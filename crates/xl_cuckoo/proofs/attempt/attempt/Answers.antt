@@ -8,7 +8,7 @@ use Rattle.xl_way.specs.Slots.{WayState}
 use Rattle.xl_cuckoo.specs.declared.moved.Moved.{Moved}
 use Rattle.xl_cuckoo.specs.State.{state_at, put_at, shapes}
 use Rattle.xl_cuckoo.specs.Undo.{displaced, undone}
-use Rattle.xl_cuckoo.proofs.KickLemmas.{attempt-step, attempt-free, attempt-fails, taken-back, put-length, loads-put}
+use Rattle.xl_cuckoo.proofs.KickLemmas.{attempt-step, attempt-free, attempt-fails, taken-back, put-length}
 use Rattle.xl_cuckoo.proofs.attempt.attempt.Goals as goal
 
 pub kicks-init : goal.kicks-init
@@ -23,7 +23,6 @@ kicks-init c =
       inside = c.requires.start;
       full = c.requires.full;
       told = ap (λ (ms : List Moved). length ms) c.requires.none;
-      loads = refl;
     }
 
 pub returns-in-None-clause-stands : goal.returns-in-None-clause-stands
@@ -63,7 +62,6 @@ kicks-preserved c =
       inside = (let i = c.next-at.ensures.inside in omega arith);
       full = subst F c.in-Some.is c.swap_at.ensures.full;
       told = (let l = ap (λ (l : List Moved). length l) c.push.ensures.items in let k = c.kicks.invariant.told in omega (arith, length-append c.kicks.moved.items last));
-      loads = loads-put ws vs at c.kicks.hand c.swap_at.ensures.ways ∙ c.kicks.invariant.loads;
     }
 
 pub returns-then-is_free_at-clause-stands : goal.returns-then-is_free_at-clause-stands
@@ -83,10 +81,3 @@ returns-else-is_free_at-clause-fails c t =
         → attempt 0 (shapes c.kicks.ways) c.kicks.at c.kicks.hand (map displaced c.kicks.moved.items) ≡ Fails
     go None is = absurd (let f = c.is_free_at.ensures.1 is in let n = c.if-is_free_at.false in absurd (cc))
     go (Some e) is = attempt-fails c.kicks.ways c.kicks.at c.kicks.hand e (map displaced c.kicks.moved.items) is
-
-pub returns-in-None-clause-loads : goal.returns-in-None-clause-loads
-returns-in-None-clause-loads c = loads-put c.kicks.ways c.swap_at.new.ways c.kicks.at c.kicks.hand c.swap_at.ensures.ways ∙ c.kicks.invariant.loads
-
-pub returns-then-is_free_at-clause-loads : goal.returns-then-is_free_at-clause-loads
-returns-then-is_free_at-clause-loads c =
-    loads-put c.kicks.ways c.swap_at-then-is_free_at.new.ways c.kicks.at c.kicks.hand c.swap_at-then-is_free_at.ensures.ways ∙ c.kicks.invariant.loads

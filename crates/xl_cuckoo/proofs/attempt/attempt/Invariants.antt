@@ -1,6 +1,6 @@
 use Rattle.std.proofs.Common.{◌≡◌, ◌-◌, ◌<◌, [], length, map}
 use Rattle.xl_model.specs.Placing.{attempt}
-use Rattle.xl_cuckoo.specs.State.{shapes, loads_in}
+use Rattle.xl_cuckoo.specs.State.{shapes}
 use Rattle.xl_cuckoo.specs.Undo.{displaced, undone}
 use Rattle.xl_cuckoo.proofs.attempt.attempt.Given as goal
 
@@ -11,5 +11,4 @@ invariant-kicks l = record {
   inside : l.at < length l.ways;
   full : 0 < l.hand.word;
   told : length l.moved.items ≡ l._i;
-  loads : loads_in l.ways ≡ loads_in l.initial.ways;
 }

@@ -1,10 +1,7 @@
 use Rattle.std.proofs.Common.{◌≡◌}
 use Rattle.xl_model.specs.Shapes.{opening_ways}
-use Rattle.xl_cuckoo.specs.State.{shapes, loads_in}
+use Rattle.xl_cuckoo.specs.State.{shapes}
 use Rattle.xl_cuckoo.proofs.cuckoo.open_ways.Given as goal
 
 abbrev pub invariant-ways : goal.invariant-ways
-invariant-ways l = record {
-  ways : shapes l.ways.items ≡ opening_ways l.start_bits l.cap_bits 0 l.number;
-  loads : loads_in l.ways.items ≡ 0;
-}
+invariant-ways l = shapes l.ways.items ≡ opening_ways l.start_bits l.cap_bits 0 l.number

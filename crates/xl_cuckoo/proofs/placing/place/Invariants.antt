@@ -1,6 +1,6 @@
 use Rattle.std.proofs.Common.{◌≡◌}
 use Rattle.xl_model.specs.Placing.{growths_left, placing, place}
-use Rattle.xl_cuckoo.specs.State.{shapes, loads_in}
+use Rattle.xl_cuckoo.specs.State.{shapes}
 use Rattle.xl_cuckoo.specs.Table.{SameEntries}
 use Rattle.xl_cuckoo.proofs.placing.place.Given as goal
 
@@ -8,7 +8,6 @@ abbrev pub invariant-attempts : goal.invariant-attempts
 invariant-attempts l = record {
   rest : placing (growths_left (shapes l.ways)) l.limit (shapes l.ways) l.entry l.moves ≡ place l.limit (shapes l.initial.ways) l.entry;
   kept : SameEntries (shapes l.initial.ways) (shapes l.ways);
-  loads : loads_in l.ways ≡ loads_in l.initial.ways;
 }
 
 abbrev pub decreases-attempts : goal.decreases-attempts

@@ -1,17 +1,16 @@
 use Rattle.std.proofs.Common.{◌≡◌, refl, sym, ap, ◌∙◌, ℕ, length, map, List}
 use Rattle.xl_model.specs.declared.way.Moves.{Moves}
 use Rattle.xl_model.specs.Placing.{Displaced, Stands, Fails, Placed}
-use Rattle.xl_cuckoo.specs.State.{state_at, shapes, loads_in, with_forced}
+use Rattle.xl_cuckoo.specs.State.{shapes}
 use Rattle.xl_cuckoo.specs.Undo.{displaced}
 use Rattle.xl_cuckoo.specs.Growth.{candidate_of, candidate_in}
 use Rattle.xl_cuckoo.specs.Steps.{with_kicks}
 use Rattle.xl_cuckoo.proofs.KickLemmas.{map-length}
-use Rattle.xl_cuckoo.proofs.LoopLemmas.{loads-set}
 use Rattle.xl_cuckoo.proofs.StepLemmas.{stands-now, attempt-is, capped-is, grown-is, grows-here}
 use Rattle.xl_cuckoo.proofs.placing.try_once.Goals as goal
 
-pub returns-then-attempt-clause-is : goal.returns-then-attempt-clause-is
-returns-then-attempt-clause-is c =
+pub returns-then-attempt : goal.returns-then-attempt
+returns-then-attempt c =
     let ways = shapes c.attempt.new.ways in
     let moved : List Displaced = map displaced c.attempt.new.moved.items in
     let kicks : length moved ≡ c.len.result = map-length displaced c.attempt.new.moved.items ∙ sym c.len.ensures.value in
@@ -27,20 +26,14 @@ force_at-requires-clause-within c = (grows-here c.attempt.new.ways (candidate_of
 pub force_at-requires-clause-room : goal.force_at-requires-clause-room
 force_at-requires-clause-room c = (grows-here c.attempt.new.ways (candidate_of c.in-Some.growable) (sym c.to_grow.ensures ∙ ap candidate_in c.in-Some.is)).1
 
-pub returns-in-Some-clause-is : goal.returns-in-Some-clause-is
-returns-in-Some-clause-is c =
+pub returns-in-Some : goal.returns-in-Some
+returns-in-Some c =
     grown-is c.args.limit c.args.ways.now c.attempt.new.ways c.force_at.new.ways c.args.entry c.args.moves c.count_undone-failed.result c.force_at.result (candidate_of c.in-Some.growable)
     (attempt-is c.args.limit c.start-start.result c.args.ways.now c.args.entry Fails c.start-start.ensures.is (c.attempt.ensures.fails c.if-attempt.false))
     (c.attempt.ensures.back c.if-attempt.false) (sym c.to_grow.ensures ∙ ap candidate_in c.in-Some.is) c.count_undone-failed.ensures c.force_at.ensures.ways c.force_at.ensures.moves
 
-pub returns-in-Some-clause-loads : goal.returns-in-Some-clause-loads
-returns-in-Some-clause-loads c =
-    let ws = c.attempt.new.ways in
-    let at : ℕ = c.in-Some.growable.way in
-    ap loads_in c.force_at.ensures.ways ∙ loads-set ws at (with_forced (state_at ws at)) refl ∙ c.attempt.ensures.loads
-
-pub returns-in-None-clause-is : goal.returns-in-None-clause-is
-returns-in-None-clause-is c =
+pub returns-in-None : goal.returns-in-None
+returns-in-None c =
     capped-is c.args.limit c.args.ways.now c.attempt.new.ways c.args.entry c.args.moves c.count_undone-failed.result (map displaced c.clear-in-None.new.self.items)
     (attempt-is c.args.limit c.start-start.result c.args.ways.now c.args.entry Fails c.start-start.ensures.is (c.attempt.ensures.fails c.if-attempt.false))
     (c.attempt.ensures.back c.if-attempt.false) (sym c.to_grow.ensures ∙ ap candidate_in c.in-None.is) c.count_undone-failed.ensures (ap (map displaced) c.clear-in-None.ensures)

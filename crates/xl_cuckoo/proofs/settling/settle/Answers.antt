@@ -4,8 +4,8 @@ use Rattle.xl_model.specs.Base.{plus, one_if}
 use Rattle.xl_model.specs.Ways.{WayShape}
 use Rattle.xl_model.specs.Placing.{begins, begun_if_full, settled_way, settled, settled_moves, total}
 use Rattle.xl_way.specs.Slots.{WayState}
-use Rattle.xl_cuckoo.specs.State.{shapes, loads_in}
-use Rattle.xl_cuckoo.proofs.LoopLemmas.{shapes-map, loads-map}
+use Rattle.xl_cuckoo.specs.State.{shapes}
+use Rattle.xl_cuckoo.proofs.LoopLemmas.{shapes-map}
 use Rattle.xl_cuckoo.proofs.settling.settle.Goals as goal
 
 pub returns-clause-ways : goal.returns-clause-ways
@@ -28,10 +28,3 @@ returns-clause-moves c =
     (c.begin_each-growths.ensures.count
     ∙ ap (λ (us : List WayState). plus m.growths (f (shapes us))) c.settle_each-migrated.ensures.ways
     ∙ ap (λ (us : List WayShape). plus m.growths (f us)) (shapes-map (settled_way c.args.most) ws))
-
-pub returns-clause-loads : goal.returns-clause-loads
-returns-clause-loads c =
-    ap loads_in c.begin_each-growths.ensures.ways
-    ∙ loads-map (begun_if_full c.args.threshold) c.settle_each-migrated.new.ways
-    ∙ ap loads_in c.settle_each-migrated.ensures.ways
-    ∙ loads-map (settled_way c.args.most) c.args.ways.now

@@ -29,6 +29,6 @@ returns g c =
     let ws : List WayState = s.ways.items in
     let items : (with_items s.ways c.remove.new.ways).items ≡ map (changed_by f) ws =
     items-back s.ways c.remove.new.ways (map (changed_by f) ws) (c.remove.ensures ∙ ap (map (changed_by f)) c.deref_mut.ensures.value) (length-map ws (changed_by f)) in
-    ap (λ (vs : List WayState). state_of s.rules.threshold s.rules.kick_limit s.rules.migrate vs (map displaced s.moved.items)) items
-    ∙ changed-state s.rules.threshold s.rules.kick_limit s.rules.migrate ws (map displaced s.moved.items) f
+    ap (λ (vs : List WayState). state_of s.rules.threshold s.rules.kick_limit s.rules.migrate vs (map displaced s.moved.items) s.loads) items
+    ∙ changed-state s.rules.threshold s.rules.kick_limit s.rules.migrate ws (map displaced s.moved.items) s.loads f
     ∙ ap (λ (t : CuckooState). record t { ways = map f t.ways }) c.self.view_is
