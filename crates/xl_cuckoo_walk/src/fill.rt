@@ -64,6 +64,7 @@ pub(crate) fn fill_if<const D: usize>(
 }
 
 /// Whether a walk fills the cache of 2 MiB sections: it found a leaf that isn't of 1 GiB.
+#[inline(always)]
 pub(crate) fn fills_middle(found: Option<Leaf>) -> bool
     ensures { result ≡ fills_m2 found }
 {
@@ -74,6 +75,7 @@ pub(crate) fn fills_middle(found: Option<Leaf>) -> bool
 }
 
 /// One where the cache hit.
+#[inline(always)]
 pub(crate) fn one_hit(hit: Option<u64>) -> u64
     ensures is { (tag : _) → result ≡ one_if (is_some (hit_of tag hit)) }
     ensures small { result ≤ 1 }

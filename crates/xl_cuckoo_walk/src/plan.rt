@@ -23,6 +23,7 @@ pub(crate) struct Hits {
 }
 
 /// The bit of an order in a section's word.
+#[inline(always)]
 fn bit(word: u64, order: Order) -> bool
     ensures { result ≡ bit_in word order }
 {
@@ -34,6 +35,7 @@ fn bit(word: u64, order: Order) -> bool
 }
 
 /// The way in a section's word.
+#[inline(always)]
 fn way(word: u64) -> Option<u64>
     ensures { result ≡ way_by (word / 8) }
 {
@@ -45,6 +47,7 @@ fn way(word: u64) -> Option<u64>
 }
 
 /// Whether a cached section leaves it possible that the page has a leaf of an order.
+#[inline(always)]
 fn is_possible(hit: Option<u64>, order: Order) -> bool
     ensures { (tag : _) → result ≡ leaves_possible (hit_of tag hit) order }
 {
@@ -55,6 +58,7 @@ fn is_possible(hit: Option<u64>, order: Order) -> bool
 }
 
 /// How an order is probed whose own section is cached or not.
+#[inline(always)]
 fn plan_by_own(hit: Option<u64>, order: Order) -> Plan
     ensures { (tag : _) →
         result ≡ plan_by true (is_leaf_section order (hit_of tag hit)) (way_told (hit_of tag hit)) }
@@ -74,6 +78,7 @@ fn plan_by_own(hit: Option<u64>, order: Order) -> Plan
 }
 
 /// How an order is probed, by what the cached sections of the page say.
+#[inline(always)]
 #[tactic(auto, unfolding(crate::specs::Plans::plan_of))]
 pub(crate) fn planned(order: Order, hits: Hits) -> Plan
     ensures { (middle large : _) →

@@ -12,6 +12,7 @@ use xl_sections::section;
 use xl_tagged::leaf_read;
 
 /// Probes as planned.
+#[inline(always)]
 fn probe_by<const D: usize>(table: &mut Cuckoo<D>, plan: Plan, key: u64) -> Option<u64>
     requires { IsIn plan table.old.ways }
     ensures found { result ≡ value_by plan key table.old.ways }
@@ -25,6 +26,7 @@ fn probe_by<const D: usize>(table: &mut Cuckoo<D>, plan: Plan, key: u64) -> Opti
 }
 
 /// The leaf of a page that a word says, if there is one.
+#[inline(always)]
 #[tactic(auto, unfolding(crate::specs::Plans::leaf_said_by))]
 pub(crate) fn read(order: Order, space: u16, page: u64, word: Option<u64>) -> Option<Leaf>
     requires { page < 2 ^ 45 }
@@ -37,6 +39,7 @@ pub(crate) fn read(order: Order, space: u16, page: u64, word: Option<u64>) -> Op
 }
 
 /// The leaf of this order that covers the page, probed as planned.
+#[inline(always)]
 pub(crate) fn probe_order<const D: usize>(
     table: &mut Cuckoo<D>,
     plan: Plan,
@@ -53,6 +56,45 @@ pub(crate) fn probe_order<const D: usize>(
 {
     let word = probe_by(table, plan, section(space, page, order));
     read(order, space, page, word)
+}
+
+/// Counts the loads of a probe as planned, whose answer isn't wanted.
+#[inline(always)]
+fn count_by<const D: usize>(table: &mut Cuckoo<D>, plan: Plan)
+    ensures { table.new ≡ probed plan table.old }
+{
+    match plan {
+        Plan::Skip => (),
+        Plan::At(_) => table.count_probe_way(),
+        Plan::Every => table.count_probe(),
+    }
+}
+
+/// The leaf that was found before, or else the leaf of this order that covers the page. Probed as
+/// planned in either case: behind a leaf that was found the loads alone are made.
+#[inline(always)]
+pub(crate) fn probe_next<const D: usize>(
+    found: Option<Leaf>,
+    table: &mut Cuckoo<D>,
+    plan: Plan,
+    order: Order,
+    space: u16,
+    page: u64,
+) -> Option<Leaf>
+    requires plan { IsIn plan table.old.ways }
+    requires space_in { space < 64 }
+    requires page_in { page < 2 ^ 45 }
+    ensures found { result ≡ or_leaf found (leaf_said_by order space page
+        (value_by plan (space * 2 ^ 45 + page / pages_of order) table.old.ways)) }
+    ensures after { table.new ≡ probed plan table.old }
+{
+    match found {
+        Some(_) => {
+            count_by(table, plan);
+            found
+        }
+        None => probe_order(table, plan, order, space, page),
+    }
 }
 
 /// The first of two leaves, if there is one.

@@ -8,7 +8,7 @@ use crate::coding::touch;
 use crate::fill::{fill_if, fills_middle, one_hit};
 use crate::parts::Parts;
 use crate::plan::{Hits, planned};
-use crate::probe::{first_of, probe_order};
+use crate::probe::{probe_next, probe_order};
 use xl_model::{Order, Walk};
 use xl_pte::words_read_back;
 use xl_sections::section;
@@ -31,10 +31,8 @@ pub(crate) fn walk_page<const D: usize>(parts: &mut Parts<D>, space: u16, page: 
     let m2_plan = planned(Order::M2, hits);
     let g1_plan = planned(Order::G1, hits);
     let k4 = probe_order(&mut parts.k4, k4_plan, Order::K4, space, page);
-    let m2 = probe_order(&mut parts.m2, m2_plan, Order::M2, space, page);
-    let g1 = probe_order(&mut parts.g1, g1_plan, Order::G1, space, page);
-    let larger = first_of(m2, g1);
-    let leaf = first_of(k4, larger);
+    let m2 = probe_next(k4, &mut parts.m2, m2_plan, Order::M2, space, page);
+    let leaf = probe_next(m2, &mut parts.g1, g1_plan, Order::G1, space, page);
     fill_if(
         &mut parts.middle_cache,
         fills_middle(leaf),
