@@ -22,3 +22,4 @@ pub mod RelocateLemmas
 pub mod NamedLemmas
 pub mod GiveLemmas
 pub mod OpenLemmas
+pub mod CacheLemmas

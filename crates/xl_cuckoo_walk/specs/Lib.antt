@@ -1,4 +1,5 @@
 pub mod Coding
+pub mod Known
 pub mod Parts
 pub mod Plans
 pub mod Looks

@@ -1,18 +1,18 @@
 -- What is looked for in the parts of a row without loads.
-use Rattle.std.specs.Prelude.{ℕ, ◌+◌, ◌*◌, ◌/◌, ◌^◌, Bool, false, ◌||◌, Option}
+use Rattle.std.specs.Prelude.{ℕ, Bool, false, ◌||◌, Option}
 use Rattle.xl_model.specs.declared.address.Order.{Order}
 use Rattle.xl_model.specs.declared.address.Order.TheVariants as order
 use Rattle.xl_model.specs.declared.leaf.Leaf.{Leaf}
-use Rattle.xl_model.specs.Addresses.{pages_of}
 use Rattle.xl_model.specs.Shapes.{CuckooWays, ways_of}
 use Rattle.xl_model_lemmas.specs.Entries.{or_leaf}
 use Rattle.xl_cuckoo.specs.Table.{value_of}
+use Rattle.xl_cuckoo_walk.specs.Changes.{page_key}
 use Rattle.xl_cuckoo_walk.specs.Parts.{RowParts}
 use Rattle.xl_cuckoo_walk.specs.Plans.{leaf_said_by, is_counted}
 
 -- The leaf of this order that covers a page.
 abbrev pub looked : Order → ℕ → ℕ → CuckooWays → Option Leaf
-looked o space page ws = leaf_said_by o space page (value_of (space * 2 ^ 45 + page / pages_of o) (ways_of o ws))
+looked o space page ws = leaf_said_by o space page (value_of (page_key o space page) (ways_of o ws))
 
 -- The leaf of this order or of a larger one that covers a page.
 abbrev pub looked_from : Order → ℕ → ℕ → CuckooWays → Option Leaf

@@ -3,6 +3,7 @@ use Rattle.std.specs.Prelude.{ℕ, ◌/◌, ◌<◌, ◌==◌, not, Bool, true, 
 use Rattle.xl_model.specs.declared.address.Order.{Order}
 use Rattle.xl_model.specs.declared.address.Order.TheVariants as order
 use Rattle.xl_model.specs.declared.leaf.Leaf.{Leaf}
+use Rattle.xl_model.specs.declared.event.Reach.{Reach}
 use Rattle.xl_model.specs.Addresses.{pages_of}
 use Rattle.xl_model.specs.Sections.{Section, way_where}
 use Rattle.xl_model.specs.Placing.{way_at, holder_from, Displaced}
@@ -17,7 +18,7 @@ use Rattle.xl_way.specs.Slots.{word_of}
 use Rattle.xl_cuckoo.specs.Table.{CuckooState, value_of, loaded}
 use Rattle.xl_cuckoo_walk.specs.declared.plan.Plan.{Plan}
 use Rattle.xl_cuckoo_walk.specs.declared.plan.Plan.TheVariants as plan
-use Rattle.xl_cuckoo_walk.specs.Coding.{word_by, has_tag, is_old}
+use Rattle.xl_cuckoo_walk.specs.Coding.{word_by, has_tag, is_old, is_reached}
 
 -- One way is probed where it is known, else every way.
 abbrev pub plan_at : Option ℕ → Plan
@@ -102,6 +103,10 @@ filled true None tag word c = newest_in tag word c
 abbrev pub refreshed : (ℕ → ℕ) → List ℕ → Cached Item → Cached Item
 refreshed word [] c = c
 refreshed word (key ∷ keys) c = refreshed word keys (record c { items = purged (is_old key (word key)) c.items })
+
+-- A cache after a fence: what it reaches leaves.
+abbrev pub fenced : Reach → Cached Item → Cached Item
+fenced reach c = record c { items = purged (is_reached reach) c.items }
 
 -- The keys that an insertion displaced, from one on.
 unfoldable pub keys_from : ℕ → List Displaced → List ℕ

@@ -3,10 +3,12 @@
 ghost use Rattle.std.specs.Prelude.{◌≡◌, ◌+◌, ◌*◌, ◌/◌, ◌^◌, ◌<◌, ◌≤◌, find, length, IfSome};
 ghost use Rattle.xl_model.specs.Addresses.{pages_of};
 ghost use Rattle.xl_model.specs.Base.{one_if};
+ghost use Rattle.xl_model.specs.Caches.{reaches_space};
 ghost use Rattle.xl_model.specs.Recency.{purged};
-ghost use Rattle.xl_cuckoo_walk.specs.Coding.{has_tag, word_of_item, is_old, word_by, code_of};
-ghost use Rattle.xl_cuckoo_walk.specs.Plans.{touched_in, newest_in};
+ghost use Rattle.xl_cuckoo_walk.specs.Coding.{has_tag, word_of_item, is_old, is_reached, word_by, code_of};
+ghost use Rattle.xl_cuckoo_walk.specs.Plans.{touched_in, newest_in, fenced};
 
+use xl_model::Reach;
 use xl_recency::{Cache, Item};
 
 /// Brings the section of this tag to the front, and gives its word.
@@ -58,4 +60,28 @@ pub(crate) fn refresh(cache: &mut Cache, tag: u64, word: u64)
     ensures { cache.new ≡ record cache.old { items = purged (is_old tag word) cache.old.items } }
 {
     cache.remove_where(|item| item.tag == tag && item.word != word);
+}
+
+/// Whether a fence takes the sections of a space.
+fn reaches(reach: Reach, space: u64) -> bool
+    ensures { result ≡ reaches_space reach space }
+{
+    match reach {
+        Reach::All => true,
+        Reach::Space { space: fenced } => space == fenced as u64,
+        Reach::Addr { .. } | Reach::Page { .. } => false,
+    }
+}
+
+/// Removes what a fence reaches from a cache. Gives how many sections left.
+pub(crate) fn fence_cache(cache: &mut Cache, reach: Reach) -> u64
+    ensures left { cache.new ≡ fenced reach cache.old }
+    ensures count { result + length cache.new.items ≡ length cache.old.items }
+    ensures most { result ≤ 64 }
+{
+    cache.remove_where(
+        |item: &Item|
+            ensures { result ≡ is_reached reach item.now }
+        { reaches(reach, item.tag / 0x2000_0000_0000) },
+    )
 }

@@ -6,12 +6,12 @@ ghost use Rattle.xl_model.specs.Placing.{holder_from};
 ghost use Rattle.xl_model.specs.Sections.{way_where};
 ghost use Rattle.xl_model.specs.Walks.{fills_m2};
 ghost use Rattle.xl_cuckoo_walk.specs.Coding.{hit_of};
-ghost use Rattle.xl_cuckoo_walk.specs.Plans.{is_counted, new_word, filled};
+ghost use Rattle.xl_cuckoo_walk.specs.Plans.{is_counted, new_word, newest_in, filled};
 
-use crate::coding::{put_newest, section_word};
+use crate::cache::Sections;
+use crate::coding::section_word;
 use xl_cuckoo::Cuckoo;
 use xl_model::{Leaf, Order};
-use xl_recency::Cache;
 use xl_sections::{Counts, parts};
 
 /// The way that holds a key, where it is to be told.
@@ -44,9 +44,26 @@ pub(crate) fn word_for<const D: usize>(
     )
 }
 
+/// Puts the section of a key in front.
+#[inline(never)]
+fn fill<const D: usize>(
+    cache: &mut Sections,
+    size: Order,
+    key: u64,
+    counts: &Counts,
+    table: &Cuckoo<D>,
+)
+    requires { length table.now.ways ≤ 4 }
+    ensures { cache.new ≡ newest_in key (new_word size key counts.now.counts table.now.ways)
+        cache.old }
+{
+    cache.put_newest(key, word_for(size, key, counts, table));
+}
+
 /// Puts the section of a key in front, where the walk fills and the cache didn't have it.
+#[inline(always)]
 pub(crate) fn fill_if<const D: usize>(
-    cache: &mut Cache,
+    cache: &mut Sections,
     fills: bool,
     hit: Option<u64>,
     size: Order,
@@ -58,8 +75,8 @@ pub(crate) fn fill_if<const D: usize>(
     ensures { cache.new
         ≡ filled fills hit key (new_word size key counts.now.counts table.now.ways) cache.old }
 {
-    if fills && hit.is_none() {
-        put_newest(cache, key, word_for(size, key, counts, table));
+    if fills && hit.is_none() && cache.is_kept() {
+        fill(cache, size, key, counts, table);
     }
 }
 

@@ -2,6 +2,7 @@
 //! walk caches of sections.
 #![tactic(auto)]
 
+mod cache;
 mod coding;
 mod fence;
 mod fill;

@@ -1,8 +1,8 @@
 //! The parts of a row.
 
+use crate::cache::Sections;
 use std::marker::Model;
 use xl_cuckoo::Cuckoo;
-use xl_recency::Cache;
 use xl_sections::Counts;
 
 /// A table for each order, and for the sections of 2 MiB and of 1 GiB how many leaves of each order
@@ -14,8 +14,8 @@ pub(crate) struct Parts<const D: usize> {
     pub(crate) g1: Cuckoo<D>,
     pub(crate) middle: Counts,
     pub(crate) large: Counts,
-    pub(crate) middle_cache: Cache,
-    pub(crate) large_cache: Cache,
+    pub(crate) middle_cache: Sections,
+    pub(crate) large_cache: Sections,
 }
 
 impl<const D: usize> Model for Parts<D> {

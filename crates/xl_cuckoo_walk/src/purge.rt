@@ -6,17 +6,16 @@ ghost use Rattle.xl_model.specs.declared.address.Order.TheVariants as order_is;
 ghost use Rattle.xl_cuckoo_walk.specs.Plans.{new_word, refreshed, keys_from};
 ghost use Rattle.xl_cuckoo_walk.specs.Changes.{page_key, keys_moved, compared};
 
-use crate::coding::refresh;
+use crate::cache::Sections;
 use crate::fill::word_for;
 use crate::parts::Parts;
 use xl_cuckoo::Cuckoo;
 use xl_model::Order;
-use xl_recency::Cache;
 use xl_sections::{Counts, section};
 
 /// Compares the sections of the keys that the last insertion displaced, from this one on.
 pub(crate) fn refresh_moved<const D: usize>(
-    cache: &mut Cache,
+    cache: &mut Sections,
     at: usize,
     size: Order,
     counts: &Counts,
@@ -30,7 +29,7 @@ pub(crate) fn refresh_moved<const D: usize>(
     match table.moved(at) {
         None => (),
         Some(moved) => {
-            refresh(cache, moved.key, word_for(size, moved.key, counts, table));
+            cache.refresh(moved.key, word_for(size, moved.key, counts, table));
             refresh_moved(cache, at + 1, size, counts, table);
         }
     }
@@ -38,7 +37,7 @@ pub(crate) fn refresh_moved<const D: usize>(
 
 /// Compares the section of a page.
 pub(crate) fn refresh_own<const D: usize>(
-    cache: &mut Cache,
+    cache: &mut Sections,
     space: u16,
     page: u64,
     size: Order,
@@ -51,8 +50,10 @@ pub(crate) fn refresh_own<const D: usize>(
     ensures { cache.new ≡ refreshed (λ key. new_word size key counts.now.counts table.now.ways)
         ((space * 2 ^ 45 + page / pages_of size) ∷ []) cache.old }
 {
-    let key = section(space, page, size);
-    refresh(cache, key, word_for(size, key, counts, table));
+    if cache.is_kept() {
+        let key = section(space, page, size);
+        cache.refresh(key, word_for(size, key, counts, table));
+    }
 }
 
 /// Compares the sections of a leaf's pages, of both sizes.

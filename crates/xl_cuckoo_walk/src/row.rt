@@ -6,6 +6,7 @@ ghost use Rattle.xl_model.specs.Rows.{is_width};
 ghost use Rattle.xl_cuckoo_walk.specs.Parts.{row_state, table_of};
 ghost use Rattle.xl_cuckoo_walk.specs.Openings.{opening_table};
 
+use crate::cache::Sections;
 use crate::fence::fence_parts;
 use crate::insert::insert_leaf;
 use crate::look::{is_met, leaf_of_page};
@@ -18,7 +19,6 @@ use std::alloc::Global;
 use std::marker::Model;
 use xl_cuckoo::Cuckoo;
 use xl_model::{Leaf, NoMemory, Order, Perm, Reach, Refused, Structure, Walk, Work};
-use xl_recency::Cache;
 use xl_sections::Counts;
 
 /// A row of elastic cuckoo tables of `D` ways, two to four: a table for each order, and two caches of
@@ -88,8 +88,8 @@ impl<const D: usize> CuckooRow<D> {
         let middle = Counts::open(alloc, sections_2m)?;
         let large = Counts::open(alloc, sections_1g)?;
         let [middle_width, large_width] = caches;
-        let middle_cache = Cache::open(alloc, middle_width)?;
-        let large_cache = Cache::open(alloc, large_width)?;
+        let middle_cache = Sections::open(alloc, middle_width)?;
+        let large_cache = Sections::open(alloc, large_width)?;
         Ok(CuckooRow {
             parts: Parts {
                 k4,

@@ -4,7 +4,6 @@ ghost use Rattle.std.specs.Prelude.{◌≡◌};
 ghost use Rattle.xl_model.specs.Structures.{IsPage, IsWalk};
 ghost use Rattle.xl_cuckoo_walk.specs.Parts.{IsRow, row_state};
 
-use crate::coding::touch;
 use crate::fill::{fill_if, fills_middle, one_hit};
 use crate::parts::Parts;
 use crate::plan::{Hits, planned};
@@ -24,8 +23,8 @@ pub(crate) fn walk_page<const D: usize>(parts: &mut Parts<D>, space: u16, page: 
     words_read_back();
     let middle_key = section(space, page, Order::M2);
     let large_key = section(space, page, Order::G1);
-    let middle = touch(&mut parts.middle_cache, middle_key);
-    let large = touch(&mut parts.large_cache, large_key);
+    let middle = parts.middle_cache.touch(middle_key);
+    let large = parts.large_cache.touch(large_key);
     let hits = Hits { middle, large };
     let k4_plan = planned(Order::K4, hits);
     let m2_plan = planned(Order::M2, hits);

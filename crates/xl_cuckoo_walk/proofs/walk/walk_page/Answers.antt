@@ -120,9 +120,9 @@ walked g c =
     let p1 : Plan = c.planned-g1_plan.result in
     let said2 : Option Leaf = leaf_said_by order.M2 space page (value_by p2 (space * 2 ^ 45 + page / pages_of order.M2) s.m2.ways) in
     let said1 : Option Leaf = leaf_said_by order.G1 space page (value_by p1 (space * 2 ^ 45 + page / pages_of order.G1) s.g1.ways) in
-    let cache2 = filled-same order.M2 c.fills_middle.result (fills_m2 leaf) w2 c.section-middle_key.result k2 s.middle.counts c.probe_next-m2.new.table (probed p2 s.m2) s.middle_cache c.touch-middle.new.cache c.fill_if.new.cache
+    let cache2 = filled-same order.M2 c.fills_middle.result (fills_m2 leaf) w2 c.section-middle_key.result k2 s.middle.counts c.probe_next-m2.new.table (probed p2 s.m2) s.middle_cache c.touch-middle.new.self c.fill_if.new.cache
     c.fill_if.ensures c.fills_middle.ensures c.section-middle_key.ensures c.probe_next-m2.ensures.after c.touch-middle.ensures.moved in
-    let cache1 = filled-same order.G1 c.is_some.result (is_some leaf) w1 c.section-large_key.result k1 s.large.counts c.probe_next-leaf.new.table (probed p1 s.g1) s.large_cache c.touch-large.new.cache c.fill_if-2.new.cache
+    let cache1 = filled-same order.G1 c.is_some.result (is_some leaf) w1 c.section-large_key.result k1 s.large.counts c.probe_next-leaf.new.table (probed p1 s.g1) s.large_cache c.touch-large.new.self c.fill_if-2.new.cache
     c.fill_if-2.ensures c.is_some.ensures c.section-large_key.ensures c.probe_next-leaf.ensures.after c.touch-large.ensures.moved in
     steps-walked c.words_read_back.ensures q (subst IsRow (sym c.parts.view_is) c.requires.whole) space page in_page.0 in_page.1 leaf (c.one_hit.result + c.one_hit-2.result)
     (record { k4 = c.probe_order-k4.new.table; m2 = c.probe_next-m2.new.table; g1 = c.probe_next-leaf.new.table; middle = s.middle; large = s.large; middle_cache = c.fill_if.new.cache; large_cache = c.fill_if-2.new.cache })

@@ -1,0 +1,122 @@
+//! A cache of sections.
+
+ghost use Rattle.std.specs.Prelude.{◌≡◌, ◌+◌, ◌≤◌, length, find, IfOk, false};
+ghost use Rattle.xl_model.specs.Caches.{empty_cache};
+ghost use Rattle.xl_model.specs.Recency.{purged};
+ghost use Rattle.xl_recency.specs.Widths.{IsWidth};
+ghost use Rattle.xl_cuckoo_walk.specs.Coding.{has_tag, word_of_item, is_old};
+ghost use Rattle.xl_cuckoo_walk.specs.Plans.{touched_in, newest_in, fenced};
+
+use crate::coding::{fence_cache, put_newest, refresh, touch};
+use std::alloc::Global;
+use std::marker::Model;
+use xl_model::{NoMemory, Reach};
+use xl_recency::Cache;
+
+/// A recency list of sections. Contracts see its width and its sections as items, newest first.
+#[derive(Drop)]
+pub(crate) struct Sections {
+    list: Cache,
+    /// False only where the width is 0: then nothing is looked for.
+    is_kept: bool,
+    /// The tag of the last touch, and the word that it found: that section is in front.
+    tag: u64,
+    word: Option<u64>,
+}
+
+impl Model for Sections {
+    ghost use Rattle.xl_model.specs.Caches.{Cached};
+    ghost use Rattle.xl_recency.specs.declared.item.Item.{Item};
+    ghost use Rattle.xl_cuckoo_walk.specs.Known.{IsKnown};
+
+    ghost Value = { Cached Item };
+
+    ghost view = { λ s. s.list };
+
+    ghost invariant = { λ s. IsKnown s.is_kept s.tag s.word s.list };
+}
+
+impl Sections {
+    /// An empty cache of this width.
+    pub fn open(alloc: Global, width: u8) -> Result<Sections, NoMemory>
+        requires { IsWidth width }
+        ensures empty { IfOk result (λ cache. cache ≡ empty_cache width) }
+    {
+        let list = Cache::open(alloc, width)?;
+        Ok(Sections {
+            list,
+            is_kept: width != 0,
+            tag: 0,
+            word: None,
+        })
+    }
+
+    /// Whether sections are kept. If not, there is none, and none comes.
+    #[inline(always)]
+    pub fn is_kept(&self) -> bool
+        ensures { result ≡ false → self.now ≡ empty_cache 0 }
+    {
+        self.is_kept
+    }
+
+    /// How many sections are cached.
+    pub fn len(&self) -> usize
+        ensures value { result ≡ length self.now.items }
+        ensures few { result ≤ 64 }
+    {
+        self.list.len()
+    }
+
+    /// Brings the section of this tag to the front, and gives its word.
+    #[inline(always)]
+    pub fn touch(&mut self, tag: u64) -> Option<u64>
+        ensures found { result ≡ word_of_item (find (has_tag tag) self.old.items) }
+        ensures moved { self.new ≡ touched_in tag self.old }
+    {
+        if !self.is_kept {
+            return None;
+        }
+        if self.tag == tag && self.word.is_some() {
+            return self.word;
+        }
+        self.touch_behind(tag)
+    }
+
+    /// Looks through the list.
+    #[inline(never)]
+    fn touch_behind(&mut self, tag: u64) -> Option<u64>
+        ensures found { result ≡ word_of_item (find (has_tag tag) self.old.items) }
+        ensures moved { self.new ≡ touched_in tag self.old }
+    {
+        let word = touch(&mut self.list, tag);
+        self.tag = tag;
+        self.word = word;
+        word
+    }
+
+    /// Puts a section in front.
+    pub fn put_newest(&mut self, tag: u64, word: u64)
+        ensures { self.new ≡ newest_in tag word self.old }
+    {
+        self.word = None;
+        put_newest(&mut self.list, tag, word);
+    }
+
+    /// Removes the section of this tag where it isn't as this word says.
+    pub fn refresh(&mut self, tag: u64, word: u64)
+        ensures { self.new ≡ record self.old { items = purged (is_old tag word) self.old.items } }
+    {
+        self.word = None;
+        refresh(&mut self.list, tag, word);
+    }
+
+    /// Removes what a fence reaches. Gives how many sections left.
+    pub fn fence(&mut self, reach: Reach) -> u64
+        ensures left { self.new ≡ fenced reach self.old }
+        ensures count { result + length self.new.items ≡ length self.old.items }
+        ensures most { result ≤ 64 }
+    {
+        self.word = None;
+        fence_cache(&mut self.list, reach)
+    }
+}
