@@ -1,5 +1,5 @@
 -- Arrays that hold leaves of 4 KiB alone.
-use Rattle.std.proofs.Common.{◌≡◌, refl, sym, ap, ◌∙◌, ℕ, zero, suc, Bool, true, false, List, [], ◌∷◌, map, find, get_or, Option, None, Some, subst}
+use Rattle.std.proofs.Common.{◌≡◌, refl, sym, ap, ◌∙◌, ℕ, zero, suc, ◌+◌, ◌<◌, Bool, true, false, List, [], ◌∷◌, length, map, take, find, get_or, set, Option, None, Some, subst, arith}
 use Rattle.std.specs.List.{All}
 use Rattle.std.specs.Prelude.{replicate}
 use Rattle.std.specs.Option.{IfSome, IfNone}
@@ -7,11 +7,12 @@ use Rattle.std.proofs.lemmas.List.Elements.{All-nil, All-cons, All-head, All-tai
 use Rattle.xl_model.specs.declared.address.Order.{Order}
 use Rattle.xl_model.specs.declared.address.Order.TheVariants as order
 use Rattle.xl_model.specs.declared.leaf.Leaf.{Leaf}
+use Rattle.xl_model.specs.Mapping.{covers}
 use Rattle.xl_model.specs.Addresses.{same_order}
 use Rattle.xl_model.specs.Recency.{without_first, in_front, touched, with_newest, purged}
 use Rattle.xl_model.specs.Tlb.{TlbArray, covers_as, found_as, where_taken, takes_order, set_at, set_number, first_found, array_hit, array_touched, array_filled, filled_where, array_without}
 use Rattle.xl_tlb.specs.declared.coding.Hit.{Hit}
-use Rattle.xl_tlb.specs.Held.{IsSmall}
+use Rattle.xl_tlb.specs.Held.{IsSmall, Smalls}
 use Rattle.xl_tlb.specs.Hits.{hit_touched, leaf_hit}
 
 -- the leaves of one set

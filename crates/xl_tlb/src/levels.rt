@@ -1,17 +1,15 @@
 //! The arrays of a row in levels.
 
-ghost use Rattle.std.specs.Prelude.{ℕ, true, ◌==◌, ◌≡◌, ◌<◌, ◌≤◌, ◌^◌, ◌+◌, ◌*◌, length, map, count_by, cond, slice_index_or, Some, IfOk, IfSome, IfNone};
+ghost use Rattle.std.specs.Prelude.{ℕ, true, ◌==◌, ◌≡◌, ◌<◌, ◌≤◌, ◌^◌, ◌+◌, ◌*◌, length, map, count_by, slice_index_or, Some, IfOk, IfSome, IfNone};
 ghost use Rattle.xl_model.specs.declared.leaf.Leaf.{Leaf};
 ghost use Rattle.xl_model.specs.Tlb.{answer_of, leaves_in, takes_leaf, array_filled, array_without, is_purged, reaches_leaf};
 ghost use Rattle.xl_tlb.specs.Arrays.{IsFit, InLimits};
-ghost use Rattle.xl_tlb.specs.Founds.{leaf_found};
-ghost use Rattle.xl_tlb.specs.Fronts.{IsFront, AreMet};
-ghost use Rattle.xl_tlb.specs.Hits.{leaf_hit};
+ghost use Rattle.xl_tlb.specs.Fronts.{IsFront};
 ghost use Rattle.xl_tlb.specs.Tlbs.{leaf_told, tlb_opening, AreSpecs, IsRising, tlb_looked, tlb_filled, tlb_purged, tlb_fenced};
 
 use crate::any::AnyArray;
-use crate::coding::{Hit, hit_of};
-use crate::look::{Looked, NOT_FOUND, look_in};
+use crate::coding::{Hit, leaf_of};
+use crate::look::{front_in, look_in};
 use arrayvec::ArrayVec;
 use std::alloc::Global;
 use std::marker::Model;
@@ -36,30 +34,25 @@ impl Model for Levels {
     ghost invariant = { λ t. IsTlb (tlb_of t.arrays.items t.hits t.misses t.fills) };
 }
 
-/// One where an array was filled, and else none.
-#[inline(always)]
-fn one_where(filled: bool) -> u64
-    ensures { result ≡ cond filled 1 0 }
-{
-    if filled { 1 } else { 0 }
-}
-
-/// Fills each array that takes the order of a leaf that was hit elsewhere: how many do.
+/// Fills each array that takes the leaf's order: how many do.
 #[tactic(auto, using(crate::proofs::TlbLemmas::count_first))]
-fn fill_each(arrays: &mut [AnyArray], space: u16, page: u64, hit: Hit) -> u64
-    requires space { space < 64 }
-    requires page { page < 2 ^ 52 }
-    ensures fills { result ≡ count_by (takes_leaf (leaf_hit space page hit)) arrays.old }
-    ensures arrays { arrays.new ≡ map (array_filled (leaf_hit space page hit)) arrays.old }
+fn fill_each(arrays: &mut [AnyArray], leaf: &Leaf) -> u64
+    requires { IsFit leaf.now }
+    ensures fills { result ≡ count_by (takes_leaf leaf.now) arrays.old }
+    ensures arrays { arrays.new ≡ map (array_filled leaf.now) arrays.old }
 {
     let Some((first, rest)) = arrays.split_first_mut() else {
         return 0;
     };
-    let filled = one_where(first.fill_hit(space, page, hit));
-    if rest.is_empty() {
-        return filled;
+    let others = if rest.is_empty() {
+        0
+    } else {
+        fill_each(rest, leaf)
+    };
+    if first.fill(*leaf) {
+        return others + 1;
     }
-    fill_each(rest, space, page, hit) + filled
+    others
 }
 
 /// Purges each array: how many items left.
@@ -116,6 +109,17 @@ impl Levels {
         })
     }
 
+    /// The word of a leaf of 4 KiB that the newest leaf of a set of the first array is, where that
+    /// array is alone in its level. None elsewhere.
+    #[inline]
+    pub fn front(&self, space: u16, page: u64) -> Option<u64>
+        requires space { space < 64 }
+        requires page { page < 2 ^ 52 }
+        ensures { IfSome result (λ word. IsFront space page word self.now.arrays) }
+    {
+        front_in(&self.arrays, space, page)
+    }
+
     /// Looks for a page that the newest leaf of a set of the first array answers, with this word: that
     /// counts a hit there, and moves nothing.
     #[inline]
@@ -127,30 +131,38 @@ impl Levels {
         self.hits[0] = self.hits[0].wrapping_add(1);
     }
 
-    /// Looks for the page in the levels in turn, and gives what covers it. Touches the array that hits,
-    /// and fills those of lower levels that hold the leaf's order. Nothing is found where no array hits.
-    #[inline(always)]
-    pub fn look(&mut self, space: u16, page: u64) -> Looked
+    /// Looks for the page in the levels in turn, and gives the leaf that covers it. Touches the array
+    /// that hits, and fills those of lower levels that hold the leaf's order. None where no array hits.
+    #[inline]
+    pub fn look(&mut self, space: u16, page: u64) -> Option<Leaf>
         requires space { space < 64 }
         requires page { page < 2 ^ 52 }
-        ensures found { leaf_found space page result.found
-            ≡ leaf_told (answer_of self.old.arrays space page) }
-        ensures front { result.front ≡ true
-            → AreMet space page result.found self.old.arrays self.new.arrays }
+        ensures found { result ≡ leaf_told (answer_of self.old.arrays space page) }
         ensures after { self.new ≡ tlb_looked space page self.old }
     {
-        let looked = look_in(
+        if self.arrays.is_empty() {
+            return None;
+        }
+        match look_in(
             &mut self.arrays,
             &mut self.hits,
             &mut self.misses,
             space,
             page,
-        );
-        let Some(found) = looked.found else {
-            return NOT_FOUND;
-        };
-        self.fills = self.fills.wrapping_add(found.fills);
-        looked
+        ) {
+            Some(found) => {
+                self.fills = self.fills.wrapping_add(found.fills);
+                Some(leaf_of(
+                    space,
+                    page,
+                    Hit {
+                        word: found.word,
+                        order: found.order,
+                    },
+                ))
+            }
+            None => None,
+        }
     }
 
     /// Puts a leaf that a walk found into the arrays of every level that hold its order.
@@ -161,7 +173,7 @@ impl Levels {
         if self.arrays.is_empty() {
             return;
         }
-        let fills = fill_each(&mut self.arrays, leaf.space, leaf.first, hit_of(leaf));
+        let fills = fill_each(&mut self.arrays, &leaf);
         self.fills = self.fills.wrapping_add(fills);
     }
 

@@ -1,6 +1,6 @@
 //! Pages that the newest leaves of the first array answered of late.
 
-ghost use Rattle.std.specs.Prelude.{true, ◌≡◌, ◌<◌, ◌^◌, ◌+◌, ◌*◌, List, IfSome};
+ghost use Rattle.std.specs.Prelude.{◌≡◌, ◌<◌, ◌^◌, ◌+◌, ◌*◌, List, IfSome};
 ghost use Rattle.xl_model.specs.Tlb.{TlbArray};
 ghost use Rattle.xl_tlb.specs.Fronts.{IsFront};
 ghost use Rattle.xl_tlb.specs.Known.{Knows, key_of as key_is};
@@ -55,22 +55,6 @@ impl Newest {
             return Some(self.words[place]);
         }
         None
-    }
-
-    /// Keeps the word of the leaf that answers the page where it is known to, and that nothing moved. No
-    /// page is known from now on else.
-    #[inline(always)]
-    pub fn renew(&mut self, known: bool, space: u16, page: u64, word: u64)
-        requires space { space < 64 }
-        requires page { page < 2 ^ 52 }
-        ensures { (old new : List TlbArray) → Knows self.old old
-            → (known ≡ true → (new ≡ old) × IsFront space page word old) → Knows self.new new }
-    {
-        if known {
-            self.keep(space, page, word);
-        } else {
-            self.forget();
-        }
     }
 
     /// Keeps the word of the leaf that answers the page.

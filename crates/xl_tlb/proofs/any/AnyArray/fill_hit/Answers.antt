@@ -2,7 +2,7 @@ use Rattle.xl_model.specs.Tlb.{leaves_in_sets}
 use Rattle.xl_tlb.specs.Any.{array_in}
 use Rattle.xl_tlb.specs.Hits.{leaf_hit}
 use Rattle.xl_tlb.proofs.SmallLemmas.{filled-small}
-use Rattle.xl_tlb.proofs.any.AnyArray.put_hit.Goals as goal
+use Rattle.xl_tlb.proofs.any.AnyArray.fill_hit.Goals as goal
 
 pub invariant_of-self : goal.invariant_of-self
 invariant_of-self c =
