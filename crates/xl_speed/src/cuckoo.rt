@@ -46,42 +46,43 @@ fn found(row: &mut CuckooRow<3>, page: u64) -> u64
     first_of(row.walk(0, page))
 }
 
-/// A sum over the pages of 4 KiB that walks find. Their sections stand in front of the caches.
+/// A sum over the first pages of the leaves that walks find in a row with so many leaves of an order and
+/// caches of this width. The pages lie so far apart, and are among the first 8,192.
+fn walks(
+    alloc: Global,
+    calls: u64,
+    leaves: u64,
+    order: Order,
+    width: u8,
+    apart: u64,
+) -> Result<u64, NoMemory>
+    requires few { leaves < 2 ^ 20 }
+    requires width { IsTrue (is_width width) }
+{
+    let mut row = row_of(alloc, leaves, order, width)?;
+    let mut sum: u64 = 0;
+    for call in 0..calls {
+        sum = sum.wrapping_add(found(&mut row, call.wrapping_mul(apart) % 8192));
+    }
+    Ok(sum)
+}
+
+/// Walks to pages of 4 KiB whose sections stand in front of the caches.
 pub fn small(alloc: Global, calls: u64) -> Result<u64, NoMemory> {
-    let mut row = row_of(alloc, 8192, Order::K4, 16)?;
-    let mut sum: u64 = 0;
-    for call in 0..calls {
-        sum = sum.wrapping_add(found(&mut row, call % 8192));
-    }
-    Ok(sum)
+    walks(alloc, calls, 8192, Order::K4, 16, 1)
 }
 
-/// A sum over the leaves of 2 MiB that walks find. Their sections stand in front of the caches.
+/// Walks to leaves of 2 MiB whose sections stand in front of the caches.
 pub fn middle(alloc: Global, calls: u64) -> Result<u64, NoMemory> {
-    let mut row = row_of(alloc, 16, Order::M2, 16)?;
-    let mut sum: u64 = 0;
-    for call in 0..calls {
-        sum = sum.wrapping_add(found(&mut row, call % 8192));
-    }
-    Ok(sum)
+    walks(alloc, calls, 16, Order::M2, 16, 1)
 }
 
-/// A sum over the pages of 4 KiB that walks find, whose sections of 2 MiB are found behind fifteen others.
+/// Walks to pages of 4 KiB whose sections of 2 MiB are found behind fifteen others.
 pub fn apart(alloc: Global, calls: u64) -> Result<u64, NoMemory> {
-    let mut row = row_of(alloc, 8192, Order::K4, 16)?;
-    let mut sum: u64 = 0;
-    for call in 0..calls {
-        sum = sum.wrapping_add(found(&mut row, call.wrapping_mul(513) % 8192));
-    }
-    Ok(sum)
+    walks(alloc, calls, 8192, Order::K4, 16, 513)
 }
 
-/// A sum over the pages of 4 KiB that walks find without caches.
+/// Walks to pages of 4 KiB without caches.
 pub fn bare(alloc: Global, calls: u64) -> Result<u64, NoMemory> {
-    let mut row = row_of(alloc, 8192, Order::K4, 0)?;
-    let mut sum: u64 = 0;
-    for call in 0..calls {
-        sum = sum.wrapping_add(found(&mut row, call.wrapping_mul(4099) % 8192));
-    }
-    Ok(sum)
+    walks(alloc, calls, 8192, Order::K4, 0, 4099)
 }
