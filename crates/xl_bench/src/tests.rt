@@ -2,6 +2,7 @@
 
 mod faults;
 mod given;
+mod rack;
 mod rows;
 mod several;
 mod stops;

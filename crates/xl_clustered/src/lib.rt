@@ -6,7 +6,5 @@ mod block;
 mod clustered;
 mod slots;
 mod steps;
-#[cfg(test)]
-mod tests;
 
 pub use clustered::Clustered;

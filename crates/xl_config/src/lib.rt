@@ -10,6 +10,3 @@ mod tables;
 
 pub use fault::ConfigFault;
 pub use rows::read;
-
-#[cfg(test)]
-mod tests;

@@ -10,8 +10,6 @@ mod moved;
 mod placing;
 mod reading;
 mod settling;
-#[cfg(test)]
-mod tests;
 mod ways;
 
 pub use cuckoo::Cuckoo;

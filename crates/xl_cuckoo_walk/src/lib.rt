@@ -17,8 +17,6 @@ mod relocate;
 mod remove;
 mod row;
 mod tables;
-#[cfg(test)]
-mod tests;
 mod walk;
 mod work;
 

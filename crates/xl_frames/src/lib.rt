@@ -11,6 +11,3 @@ mod pool;
 mod tree;
 
 pub use pool::Frames;
-
-#[cfg(test)]
-mod tests;

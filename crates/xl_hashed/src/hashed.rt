@@ -57,6 +57,13 @@ impl Hashed {
     {
         &self.chains
     }
+
+    /// The chains, where the table itself has no more use.
+    pub fn into_table(self) -> Chains<1>
+        ensures { result ≡ self }
+    {
+        self.chains
+    }
 }
 
 impl Structure for Hashed {

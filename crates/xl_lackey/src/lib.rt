@@ -17,6 +17,3 @@ pub use next::Next;
 pub use reader::Reader;
 pub use reference::{Letter, Reference};
 pub use skim::{Access, Batch};
-
-#[cfg(test)]
-mod tests;

@@ -9,6 +9,3 @@ mod trace;
 
 pub use script::made_script;
 pub use trace::MadeTrace;
-
-#[cfg(test)]
-mod tests;

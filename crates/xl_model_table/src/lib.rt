@@ -4,7 +4,5 @@
 
 mod kept;
 mod plain;
-#[cfg(test)]
-mod tests;
 
 pub use plain::PlainTable;

@@ -3,7 +3,5 @@
 
 mod bits;
 mod free;
-#[cfg(test)]
-mod tests;
 
 pub use free::FreeNumbers;

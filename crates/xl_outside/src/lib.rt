@@ -27,6 +27,3 @@ pub use open_sink::{OpenSink, Writer};
 pub use sink::{Failed, Sink, put_all, send_all};
 pub use stream::{Opener, Placed, Stream};
 pub use whole::{ReadStop, read_whole};
-
-#[cfg(test)]
-mod tests;

@@ -3,8 +3,6 @@
 
 mod bus;
 mod memory;
-#[cfg(test)]
-mod tests;
 
 pub use bus::{Bus, line_of, word_of};
 pub use memory::PhysMem;

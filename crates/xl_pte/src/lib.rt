@@ -2,8 +2,6 @@
 #![tactic(auto)]
 
 mod laws;
-#[cfg(test)]
-mod tests;
 mod word;
 
 pub use laws::words_read_back;

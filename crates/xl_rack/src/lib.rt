@@ -11,8 +11,6 @@ mod object;
 mod rack;
 mod rows;
 mod slot;
-#[cfg(test)]
-mod tests;
 
 pub use held::Held;
 pub use rack::Rack;

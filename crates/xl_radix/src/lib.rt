@@ -7,8 +7,6 @@ mod node;
 pub mod numbering;
 mod radix;
 mod store;
-#[cfg(test)]
-mod tests;
 mod walk_end;
 
 pub use node::Node;

@@ -5,8 +5,6 @@ mod caches;
 mod quick;
 mod row;
 mod step;
-#[cfg(test)]
-mod tests;
 mod walk_caches;
 mod walker;
 

@@ -5,7 +5,5 @@ mod changes;
 mod neighbours;
 mod pieces;
 mod ranges;
-#[cfg(test)]
-mod tests;
 
 pub use ranges::Ranges;

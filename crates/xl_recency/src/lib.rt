@@ -18,6 +18,3 @@ pub use cache::Cache;
 pub use item::Item;
 pub use sets::Sets;
 pub use ways::Ways;
-
-#[cfg(test)]
-mod tests;

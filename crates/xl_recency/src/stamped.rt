@@ -278,12 +278,6 @@ impl<const W: usize> Ways<W> {
         })
     }
 
-    /// The last stamp that was given.
-    #[cfg(test)]
-    pub(crate) fn last_stamp(&self) -> u64 {
-        self.last
-    }
-
     /// Brings the newest item that meets the test to the front, and gives it. None where none
     /// meets it; then nothing changes.
     pub fn touch<P: Fn(&Item) -> bool>(&mut self, test: P) -> Option<Item>

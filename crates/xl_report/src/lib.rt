@@ -11,6 +11,3 @@ pub use answer::{write_answer, write_command, write_image};
 pub use line::Line;
 pub use object::{json, row_value, text};
 pub use row::write_row;
-
-#[cfg(test)]
-mod tests;

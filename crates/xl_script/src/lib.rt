@@ -11,8 +11,6 @@ mod lines;
 mod number;
 mod plain;
 mod script;
-#[cfg(test)]
-mod tests;
 mod text;
 mod words;
 

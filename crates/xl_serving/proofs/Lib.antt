@@ -11,4 +11,3 @@ mod InputLemmas
 mod OpenedLemmas
 mod EndLemmas
 mod FlushLemmas
-mod NoRowLemmas

@@ -13,7 +13,7 @@ use xl_outside::{Failed, Sink, put_all};
 
 /// Why the end of a report isn't written.
 #[derive(Clone, Copy, Debug, PartialEq, Eq, Error)]
-pub(crate) enum EndStop {
+pub enum EndStop {
     /// A put failed.
     #[error("a write failed")]
     WriteFault,
@@ -23,7 +23,7 @@ pub(crate) enum EndStop {
 }
 
 /// Writes the rows, as JSON or a line for each, and then the images where they are asked for.
-pub(crate) fn write_end<R: Rows, K: Sink>(
+pub fn write_end<R: Rows, K: Sink>(
     alloc: Global,
     rows: &R,
     json: bool,

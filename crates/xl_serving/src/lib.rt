@@ -16,6 +16,8 @@ mod tape;
 mod trace;
 
 pub use areas::Areas;
+pub use ending::{EndStop, write_end};
+pub use made::MadeTape;
 pub use rows::Rows;
 pub use running::run;
 pub use serving::{ServeStop, serve};
@@ -23,6 +25,3 @@ pub use status::Status;
 pub use stop::Stop;
 pub use tape::Tape;
 pub use trace::{Numbered, Trace, TraceStop};
-
-#[cfg(test)]
-mod tests;

@@ -21,7 +21,7 @@ const PIECE: usize = 4096;
 /// A made trace that is read while it is made: the next bytes are made only where the reader holds
 /// no line that must be answered.
 #[derive(Drop)]
-pub(crate) struct MadeTape {
+pub struct MadeTape {
     reader: Reader,
     trace: MadeTrace,
     /// The number of the next record.
@@ -77,7 +77,7 @@ impl Trace for MadeTape {
 impl MadeTape {
     /// The trace of so many records, of which nothing was read yet. All memory that it wants is
     /// taken here.
-    pub(crate) fn of(alloc: Global, n: u32) -> Result<MadeTape, NoMemory>
+    pub fn of(alloc: Global, n: u32) -> Result<MadeTape, NoMemory>
         ensures stands { IfOk result IsMadeWhole }
         ensures left { IfOk result (λ t. made_left t ≡ made_trail n) }
     {

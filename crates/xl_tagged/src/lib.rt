@@ -5,8 +5,6 @@
 
 mod place;
 mod smaller;
-#[cfg(test)]
-mod tests;
 
 pub use place::{full_table, give_perm, leaf_read, slot_of, tag_of};
 pub use smaller::Smaller;

@@ -16,4 +16,3 @@ pub mod RiseLemmas
 pub mod TakeLemmas
 pub mod BesideLemmas
 pub mod BackLemmas
-pub mod GuardLemmas

@@ -8,8 +8,6 @@ mod joining;
 mod look;
 mod node;
 mod parting;
-#[cfg(test)]
-mod tests;
 mod treap;
 
 pub use along::Search;

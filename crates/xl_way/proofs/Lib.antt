@@ -1,5 +1,5 @@
 mod SlotLemmas
 mod GrowthLemmas
-mod WayLemmas
+pub mod WayLemmas
 mod WordLemmas
 mod FieldLemmas

@@ -6,8 +6,6 @@ mod cells;
 mod found;
 mod place;
 mod reading;
-#[cfg(test)]
-mod tests;
 mod way;
 
 pub use found::Look;

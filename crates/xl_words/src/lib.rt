@@ -5,6 +5,3 @@
 mod words;
 
 pub use words::{Words, WordsFault, read};
-
-#[cfg(test)]
-mod tests;

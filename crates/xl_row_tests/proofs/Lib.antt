@@ -1,0 +1,2 @@
+mod NoRowLemmas
+mod TableLemmas

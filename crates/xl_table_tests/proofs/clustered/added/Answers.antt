@@ -1,0 +1,18 @@
+use Rattle.std.proofs.Common.{refl, sym, ap, subst, ◌*◌, ◌^◌, ◌<◌, arith}
+use Rattle.xl_model.specs.Structures.{IsBlock}
+use Rattle.xl_tagged.specs.Forms.{Sixteen}
+use Rattle.xl_tagged.specs.Slots.{table_in}
+use Rattle.xl_tagged.proofs.WholeLemmas.{numbered-block, numbered-leaf}
+use Rattle.xl_table_tests.proofs.clustered.added.Goals as goal
+
+pub meets-requires : goal.meets-requires
+meets-requires c =
+    let a = c.args in
+    let few : a.number < 2 ^ 27 = omega (arith, c.requires) in
+    subst (λ n. IsBlock (table_in Sixteen a.table.now).shape 1 (a.number * n) a.order) (sym c.pages.ensures) (numbered-block Sixteen a.table.now 1 a.number a.order (omega arith) few)
+
+pub insert-requires-clause-valid : goal.insert-requires-clause-valid
+insert-requires-clause-valid c =
+    let a = c.args in
+    let few : a.number < 2 ^ 27 = omega (arith, c.requires) in
+    numbered-leaf Sixteen a.table.now _ a.number (omega arith) few (ap (λ n. a.number * n) c.pages.ensures) refl

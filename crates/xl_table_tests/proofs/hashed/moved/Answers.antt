@@ -1,0 +1,24 @@
+use Rattle.std.proofs.Common.{sym, ◌∙◌, subst, ◌*◌, ◌^◌, ◌<◌, arith}
+use Rattle.xl_model.specs.Structures.{IsBlock}
+use Rattle.xl_tagged.specs.Forms.{One}
+use Rattle.xl_tagged.specs.Slots.{table_in, held_leaves}
+use Rattle.xl_tagged.proofs.FindLemmas.{found-named}
+use Rattle.xl_tagged.proofs.WholeLemmas.{numbered-block}
+use Rattle.xl_table_tests.proofs.hashed.moved.Goals as goal
+
+pub meets-requires : goal.meets-requires
+meets-requires c =
+    let a = c.args in
+    let x = c.in_ok-leaf.leaf in
+    let few : a.number < 2 ^ 27 = omega (arith, c.requires.number) in
+    subst (λ n. IsBlock (table_in One a.table.now).shape x.space (a.number * n) x.order) (sym c.pages.ensures) (numbered-block One a.table.now x.space a.number x.order (omega arith) few)
+
+pub relocate-requires-clause-there : goal.relocate-requires-clause-there
+relocate-requires-clause-there c = found-named 1 c.args.page c.in_ok-leaf.leaf (held_leaves One c.args.table.now) (sym c.leaf_at.ensures ∙ c.in_ok-leaf.was)
+
+pub relocate-requires-clause-valid : goal.relocate-requires-clause-valid
+relocate-requires-clause-valid c =
+    let a = c.args in
+    let x = c.in_ok-leaf.leaf in
+    let few : a.number < 2 ^ 27 = omega (arith, c.requires.number) in
+    subst (λ n. IsBlock (table_in One a.table.now).shape x.space (a.number * n) x.order) (sym c.pages.ensures) (numbered-block One a.table.now x.space a.number x.order (omega arith) few)

@@ -1,7 +1,0 @@
-use Rattle.xl_treap.proofs.GuardLemmas.{clear-apart}
-use Rattle.xl_treap.proofs.tests.is_clear.Goals as goal
-
-pub returns-then-ends_by : goal.returns-then-ends_by
-returns-then-ends_by c = λ t.
-    clear-apart c.args.range c.args.treap.now.seen.kept c.before-last.result c.from-next.result c.words_read_back.ensures.apart c.requires
-    c.before-last.ensures c.from-next.ensures (c.ends_by.ensures c.if-ends_by.true) (c.starts_from.ensures t)
