@@ -1,5 +1,6 @@
 //! Runs whose answers were worked out by hand.
 
+mod each_fault;
 mod faults;
 mod given;
 mod rack;

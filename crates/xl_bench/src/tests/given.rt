@@ -23,6 +23,14 @@ pub(crate) struct Given<'a> {
     pub(crate) failing_message: u64,
 }
 
+/// How a run ended: its status, the bytes that were written and the bytes that were told.
+#[derive(Debug, Drop)]
+pub(crate) struct Ended {
+    pub(crate) status: Status,
+    pub(crate) out: Vec<u8>,
+    pub(crate) err: Vec<u8>,
+}
+
 /// The words that name all files.
 const WORDS: [&str; 7] = [
     "xlate", "--config", "config", "--script", "script", "--trace", "trace",
@@ -59,13 +67,25 @@ impl<'a> Given<'a> {
     ) -> Result<(), Fail>
         requires { 0 < self.now.piece }
     {
-        let alloc = rt.alloc();
+        let ended = self.run(rt.alloc())?;
+        assert_eq!(rt;
+            (ended.status, ended.out.as_slice(), ended.err.as_slice()),
+            (status, out.as_bytes(), err.as_bytes()),
+            "{self:?}"
+        );
+        Ok(())
+    }
+
+    /// Runs, and tells the status, the bytes that were written and the bytes that were told.
+    pub(crate) fn run(&self, alloc: Global) -> Result<Ended, Fail>
+        requires { 0 < self.now.piece }
+    {
         let words = strings(alloc, self.words)?;
         let mut folder = self.folder(alloc)?;
         let mut written = sink(alloc, self.failing_put, self.piece)?;
         let mut told = sink(alloc, self.failing_message, self.piece)?;
         let mut rack = Rack::open(alloc)?;
-        let found = run(
+        let status = run(
             alloc,
             &words,
             &mut folder,
@@ -73,12 +93,11 @@ impl<'a> Given<'a> {
             &mut told,
             &mut rack,
         );
-        assert_eq!(rt;
-            (found, written.bytes(), told.bytes()),
-            (status, out.as_bytes(), err.as_bytes()),
-            "{self:?}"
-        );
-        Ok(())
+        Ok(Ended {
+            status,
+            out: Vec::from_slice(alloc, written.bytes())?,
+            err: Vec::from_slice(alloc, told.bytes())?,
+        })
     }
 
     fn folder(&self, alloc: Global) -> Result<MemFolder, AllocError>
