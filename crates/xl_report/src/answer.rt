@@ -29,7 +29,7 @@ pub fn write_answer<K: Sink>(
     ensures { SinkAfter K.taken K.outside K.roomy
         (answer_line row.now.name.bytes number kind space va reply) out.old out.new (is_ok result) }
 {
-    let mut line = Line::new();
+    let mut line = Line::<128>::new();
     line.add(row.name.as_bytes());
     line.add(b" ");
     line.number(number);
@@ -55,9 +55,9 @@ fn letter(kind: Kind) -> &'static [u8]
 }
 
 /// Puts a reply at the line's end: the physical address, or the code of the fault.
-fn add_reply(line: &mut Line, kind: Kind, va: u64, reply: Reply)
+fn add_reply(line: &mut Line<128>, kind: Kind, va: u64, reply: Reply)
     requires small { IsSmall reply }
-    requires room { length line.old + 40 ≤ 1024 }
+    requires room { length line.old + 40 ≤ 128 }
     ensures text { line.new ≡ with_reply line.old kind va reply }
     ensures grows { length line.new ≤ length line.old + 40 }
 {
@@ -91,7 +91,7 @@ pub fn write_command<K: Sink>(
     ensures { SinkAfter K.taken K.outside K.roomy
         (command_line row.now.name.bytes event outcome) out.old out.new (is_ok result) }
 {
-    let mut line = Line::new();
+    let mut line = Line::<128>::new();
     line.add(row.name.as_bytes());
     line.add(verb(event));
     add_outcome(&mut line, outcome);
@@ -116,8 +116,8 @@ fn verb(event: Event) -> &'static [u8]
 }
 
 /// Puts what a command came to at the line's end.
-fn add_outcome(line: &mut Line, outcome: Outcome)
-    requires { length line.old + 40 ≤ 1024 }
+fn add_outcome(line: &mut Line<128>, outcome: Outcome)
+    requires { length line.old + 40 ≤ 128 }
     ensures text { line.new ≡ with_outcome line.old outcome }
     ensures grows { length line.new ≤ length line.old + 40 }
 {
@@ -149,7 +149,7 @@ pub fn write_image<K: Sink>(
         (image_line row.now.name.bytes (record { node = node; index = index; word = word }))
         out.old out.new (is_ok result) }
 {
-    let mut line = Line::new();
+    let mut line = Line::<128>::new();
     line.add(b"image ");
     line.add(row.name.as_bytes());
     line.add(b" ");

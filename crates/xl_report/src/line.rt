@@ -6,40 +6,38 @@ ghost use Rattle.xl_model.specs.Lines.{hex16, hex_digits};
 use itoa::Buffer;
 use std::marker::Model;
 
-/// The most bytes of a line.
-const LONGEST: usize = 1024;
-
-/// A line of at most 1024 bytes that is being put together. Contracts see its bytes so far.
+/// A line of at most `MOST` bytes that is being put together. Contracts see its bytes so far. Its room
+/// is cleared for each line, so a line that is written often has little.
 #[derive(Drop)]
-pub struct Line {
-    bytes: [u8; LONGEST],
+pub struct Line<const MOST: usize> {
+    bytes: [u8; MOST],
     len: usize,
 }
 
-impl Model for Line {
+impl<const MOST: usize> Model for Line<MOST> {
     ghost use Rattle.std.specs.Prelude.{ℕ, List, take, ◌≤◌};
 
     ghost Value = { List ℕ };
 
     ghost view = { λ l. take l.len l.bytes };
 
-    ghost invariant = { λ l. l.len ≤ 1024 };
+    ghost invariant = { λ l. l.len ≤ MOST };
 }
 
-impl Line {
+impl<const MOST: usize> Line<MOST> {
     /// An empty line.
-    pub fn new() -> Line
+    pub fn new() -> Line<MOST>
         ensures { result ≡ [] }
     {
         Line {
-            bytes: [0; LONGEST],
+            bytes: [0; MOST],
             len: 0,
         }
     }
 
     /// Puts bytes at the line's end.
     pub fn add(&mut self, bytes: &[u8])
-        requires { length self.old + length bytes.now ≤ 1024 }
+        requires { length self.old + length bytes.now ≤ MOST }
         ensures { self.new ≡ self.old ++ bytes.now }
     {
         put(&mut self.bytes, self.len, bytes);
@@ -48,7 +46,7 @@ impl Line {
 
     /// Puts a decimal number at the line's end.
     pub fn number(&mut self, n: u64)
-        requires { length self.old + 20 ≤ 1024 }
+        requires { length self.old + 20 ≤ MOST }
         ensures text { self.new ≡ self.old ++ decimal n }
         ensures grows { length self.new ≤ length self.old + 20 }
     {
@@ -59,7 +57,7 @@ impl Line {
     /// Puts the 16 hexadecimal digits of a number at the line's end.
     #[tactic(auto, unfolding(xl_model::specs::Lines::hex16))]
     pub fn hex(&mut self, n: u64)
-        requires { length self.old + 16 ≤ 1024 }
+        requires { length self.old + 16 ≤ MOST }
         ensures text { self.new ≡ self.old ++ hex16 n }
         ensures grows { length self.new ≡ length self.old + 16 }
     {

@@ -18,14 +18,14 @@ pub fn write_row<K: Sink>(out: &mut K, row: &Row, counts: &Counts) -> Result<(),
     ensures { SinkAfter K.taken K.outside K.roomy (row_line row.now.name.bytes counts.now)
         out.old out.new (is_ok result) }
 {
-    let mut line = Line::new();
+    let mut line = Line::<1024>::new();
     fill(&mut line, row.name.as_bytes(), counts);
     put_all(out, line.bytes())
 }
 
 /// Puts the whole line of a row together.
 #[tactic(auto, unfolding(xl_model::specs::Lines::row_line))]
-fn fill(line: &mut Line, name: &[u8], counts: &Counts)
+fn fill(line: &mut Line<1024>, name: &[u8], counts: &Counts)
     requires empty { length line.old ≡ 0 }
     requires name { length name.now ≤ 16 }
     requires arrays { counts.now.arrays ≤ 6 }
@@ -42,7 +42,7 @@ fn fill(line: &mut Line, name: &[u8], counts: &Counts)
 }
 
 #[tactic(auto, unfolding(xl_model::specs::Lines::with_verdicts))]
-fn verdicts(line: &mut Line, counts: &Counts)
+fn verdicts(line: &mut Line<1024>, counts: &Counts)
     requires { length line.old + 176 ≤ 1024 }
     ensures text { line.new ≡ with_verdicts line.old counts.now }
     ensures grows { length line.new ≤ length line.old + 176 }
@@ -62,7 +62,7 @@ fn verdicts(line: &mut Line, counts: &Counts)
 }
 
 #[tactic(auto, unfolding(xl_model::specs::Lines::with_refusals))]
-fn refusals(line: &mut Line, counts: &Counts)
+fn refusals(line: &mut Line<1024>, counts: &Counts)
     requires { length line.old + 200 ≤ 1024 }
     ensures text { line.new ≡ with_refusals line.old counts.now }
     ensures grows { length line.new ≤ length line.old + 200 }
@@ -72,7 +72,7 @@ fn refusals(line: &mut Line, counts: &Counts)
 }
 
 /// Puts numbers at the line's end, parted by commas.
-fn numbers(line: &mut Line, numbers: &[u64])
+fn numbers(line: &mut Line<1024>, numbers: &[u64])
     requires few { length numbers.now ≤ 9 }
     requires room { length line.old + 190 ≤ 1024 }
     ensures text { line.new ≡ with_numbers line.old numbers.now }
@@ -85,7 +85,7 @@ fn numbers(line: &mut Line, numbers: &[u64])
 }
 
 /// Puts numbers at the line's end, each behind a comma.
-fn rest(line: &mut Line, numbers: &[u64])
+fn rest(line: &mut Line<1024>, numbers: &[u64])
     requires few { length numbers.now ≤ 8 }
     requires room { length line.old + 168 ≤ 1024 }
     ensures text { line.new ≡ with_rest line.old numbers.now }
@@ -98,7 +98,7 @@ fn rest(line: &mut Line, numbers: &[u64])
 }
 
 #[tactic(auto, unfolding(xl_model::specs::Lines::with_walks))]
-fn walks(line: &mut Line, counts: &Counts)
+fn walks(line: &mut Line<1024>, counts: &Counts)
     requires { length line.old + 110 ≤ 1024 }
     ensures text { line.new ≡ with_walks line.old counts.now }
     ensures grows { length line.new ≤ length line.old + 110 }
@@ -114,7 +114,7 @@ fn walks(line: &mut Line, counts: &Counts)
 }
 
 #[tactic(auto, unfolding(xl_model::specs::Lines::with_moves))]
-fn moves(line: &mut Line, counts: &Counts)
+fn moves(line: &mut Line<1024>, counts: &Counts)
     requires { length line.old + 114 ≤ 1024 }
     ensures text { line.new ≡ with_moves line.old counts.now }
     ensures grows { length line.new ≤ length line.old + 114 }
@@ -130,7 +130,7 @@ fn moves(line: &mut Line, counts: &Counts)
 }
 
 #[tactic(auto, unfolding(xl_model::specs::Lines::with_fences))]
-fn fences(line: &mut Line, counts: &Counts)
+fn fences(line: &mut Line<1024>, counts: &Counts)
     requires { length line.old + 84 ≤ 1024 }
     ensures text { line.new ≡ with_fences line.old counts.now }
     ensures grows { length line.new ≤ length line.old + 84 }
@@ -144,7 +144,7 @@ fn fences(line: &mut Line, counts: &Counts)
 }
 
 #[tactic(auto, unfolding(xl_model::specs::Lines::with_tlb))]
-fn tlb(line: &mut Line, counts: &Counts)
+fn tlb(line: &mut Line<1024>, counts: &Counts)
     requires arrays { counts.now.arrays ≤ 6 }
     requires room { length line.old + 260 ≤ 1024 }
     ensures text { line.new ≡ with_tlb line.old counts.now }
@@ -155,7 +155,7 @@ fn tlb(line: &mut Line, counts: &Counts)
 }
 
 /// Puts the hits and misses of so many arrays at the line's end; a dash for none.
-fn arrays(line: &mut Line, count: usize, hits: &[u64], misses: &[u64])
+fn arrays(line: &mut Line<1024>, count: usize, hits: &[u64], misses: &[u64])
     requires count { count ≤ 6 }
     requires hits { length hits.now ≡ 6 }
     requires misses { length misses.now ≡ 6 }
@@ -174,7 +174,7 @@ fn arrays(line: &mut Line, count: usize, hits: &[u64], misses: &[u64])
     }
 }
 
-fn pair(line: &mut Line, hits: u64, misses: u64)
+fn pair(line: &mut Line<1024>, hits: u64, misses: u64)
     requires { length line.old + 41 ≤ 1024 }
     ensures text { line.new ≡ line.old ++ decimal hits ++ codes "/" ++ decimal misses }
     ensures grows { length line.new ≤ length line.old + 41 }

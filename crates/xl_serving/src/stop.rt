@@ -130,10 +130,10 @@ impl Stop {
     }
 
     /// The message of a run that stops so.
-    pub fn message(self) -> Line
+    pub fn message(self) -> Line<1024>
         ensures { result ≡ message_at self }
     {
-        let mut message = Line::new();
+        let mut message = Line::<1024>::new();
         message.add(b"xlate: ");
         match self {
             Stop::Input(fault) => add_fault(&mut message, fault),
@@ -164,7 +164,7 @@ fn fault_status(fault: InputFault) -> Status
 }
 
 /// Adds what is wrong with the input.
-fn add_fault(message: &mut Line, fault: InputFault)
+fn add_fault(message: &mut Line<1024>, fault: InputFault)
     requires { length message.old ≤ 10 }
     ensures text { message.new ≡ with_fault message.old fault }
     ensures grows { length message.new ≤ length message.old + 200 }
@@ -192,7 +192,7 @@ const USAGE: &[u8] =
     b"usage: --config FILE [--script FILE] [--trace FILE] [--make N] [--answers] [--image] [--json]";
 
 /// Adds the number of a bad line, and the reason for which it is bad.
-fn add_place(message: &mut Line, text: &[u8], line: u64, reason: u8)
+fn add_place(message: &mut Line<1024>, text: &[u8], line: u64, reason: u8)
     requires { length message.old + length text.now ≤ 100 }
     ensures place { message.new ≡ with_place message.old text.now line reason }
     ensures grows { length message.new ≤ length message.old + length text.now + 60 }
@@ -204,7 +204,7 @@ fn add_place(message: &mut Line, text: &[u8], line: u64, reason: u8)
 }
 
 /// Adds the key of a configuration that breaks a rule.
-fn add_key(message: &mut Line, row: u32, key: u8, rule: u8)
+fn add_key(message: &mut Line<1024>, row: u32, key: u8, rule: u8)
     requires { length message.old ≤ 100 }
     ensures key { message.new ≡ message.old ++ codes "configuration row " ++ decimal row
         ++ codes " key " ++ decimal key ++ codes " rule " ++ decimal rule }
