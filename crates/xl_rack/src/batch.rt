@@ -6,18 +6,19 @@ ghost use Rattle.std.specs.List.{All};
 ghost use Rattle.xl_rack.specs.Batches.{demand_served, access_served, row_served};
 ghost use Rattle.xl_rack.specs.Slots.{served_of, slot_form, IsNamed};
 
-use crate::area::{area_of, map_for};
+use crate::area::map_for;
 use crate::slot::Slot;
+use xl_areas::Areas;
 use xl_lackey::Access;
 use xl_machine::Machine;
-use xl_model::{Area, Kind, Outcome, Reply, Structure};
+use xl_model::{Kind, Outcome, Reply, Structure};
 
 /// Serves the map that an area demands for an address, and where it is done, the access once more.
 #[inline(never)]
-fn serve_demand<S: Structure>(machine: &mut Machine<S>, va: u64, kind: Kind, areas: &[Area])
+fn serve_demand<S: Structure>(machine: &mut Machine<S>, va: u64, kind: Kind, areas: &Areas)
     ensures { machine.new ≡ demand_served va kind areas.now machine.old }
 {
-    let Some(area) = area_of(areas, machine.space(), va) else {
+    let Some(area) = areas.find(machine.space(), va) else {
         return;
     };
     if let Outcome::Done = machine.step(map_for(area, va)) {
@@ -27,7 +28,7 @@ fn serve_demand<S: Structure>(machine: &mut Machine<S>, va: u64, kind: Kind, are
 
 /// Serves an access, with the events of its demand.
 #[inline(always)]
-fn serve_one<S: Structure>(machine: &mut Machine<S>, va: u64, kind: Kind, areas: &[Area])
+fn serve_one<S: Structure>(machine: &mut Machine<S>, va: u64, kind: Kind, areas: &Areas)
     ensures { machine.new ≡ access_served va kind areas.now machine.old }
 {
     if let Reply::Unmapped = machine.access(va, kind) {
@@ -36,7 +37,7 @@ fn serve_one<S: Structure>(machine: &mut Machine<S>, va: u64, kind: Kind, areas:
 }
 
 /// Serves accesses to a machine one after another.
-fn serve_all<S: Structure>(machine: &mut Machine<S>, accesses: &[Access], areas: &[Area])
+fn serve_all<S: Structure>(machine: &mut Machine<S>, accesses: &[Access], areas: &Areas)
     ensures { machine.new ≡ row_served accesses.now areas.now machine.old }
 {
     for access in accesses {
@@ -45,7 +46,7 @@ fn serve_all<S: Structure>(machine: &mut Machine<S>, accesses: &[Access], areas:
 }
 
 /// Serves accesses to the machine of a slot one after another.
-fn serve_slot(slot: &mut Slot, accesses: &[Access], areas: &[Area])
+fn serve_slot(slot: &mut Slot, accesses: &[Access], areas: &Areas)
     ensures served { served_of slot.new ≡ row_served accesses.now areas.now (served_of slot.old) }
     ensures form { slot_form slot.new ≡ slot_form slot.old }
 {
@@ -63,7 +64,7 @@ fn serve_slot(slot: &mut Slot, accesses: &[Access], areas: &[Area])
 }
 
 /// Serves accesses one after another to each slot in turn.
-pub(crate) fn serve_slots(slots: &mut [Slot], accesses: &[Access], areas: &[Area])
+pub(crate) fn serve_slots(slots: &mut [Slot], accesses: &[Access], areas: &Areas)
     ensures served { map served_of slots.new
         ≡ map (row_served accesses.now areas.now) (map served_of slots.old) }
     ensures named { All IsNamed slots.old → All IsNamed slots.new }

@@ -9,8 +9,9 @@ ghost use Rattle.xl_model.specs.Scenes.{served_after, access_line, event_line, s
 ghost use Rattle.xl_machine.specs.Served.{accessed_by, after_of};
 ghost use Rattle.xl_rack.specs.Served.{ServedAt};
 
-use crate::area::{area_of, map_for};
+use crate::area::map_for;
 use crate::rack::Rack;
+use xl_areas::Areas;
 use xl_model::{Area, Event, Kind, Outcome, Reply};
 use xl_outside::{Failed, Sink};
 use xl_report::{write_answer, write_command};
@@ -96,13 +97,13 @@ fn serve_again<K: Sink>(
 
 /// The area that a reply to an access of a row demands: its page's, where it is unmapped.
 #[inline(always)]
-fn area_wanted(rack: &Rack, i: usize, areas: &[Area], va: u64, reply: Reply) -> Option<Area>
+fn area_wanted(rack: &Rack, i: usize, areas: &Areas, va: u64, reply: Reply) -> Option<Area>
     requires { i < length rack.now }
     ensures { IfSome (slice_get rack.now i)
         (λ v. result ≡ wanted reply (area_for v.state.space va areas.now)) }
 {
     match reply {
-        Reply::Unmapped => area_of(areas, rack.space(i), va),
+        Reply::Unmapped => areas.find(rack.space(i), va),
         _ => None,
     }
 }
@@ -163,7 +164,7 @@ pub(crate) fn serve_access<K: Sink>(
     number: u64,
     va: u64,
     kind: Kind,
-    areas: &[Area],
+    areas: &Areas,
     answers: bool,
     out: &mut K,
 ) -> Result<(), Failed>

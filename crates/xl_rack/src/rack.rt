@@ -17,8 +17,9 @@ use crate::held::Held;
 use crate::slot::Slot;
 use std::alloc::Global;
 use std::marker::Model;
+use xl_areas::Areas;
 use xl_lackey::Access;
-use xl_model::{Area, Counts, Event, Kind, NoMemory, Outcome, Reply, Row};
+use xl_model::{Counts, Event, Kind, NoMemory, Outcome, Reply, Row};
 
 /// The most rows of a rack.
 const MOST: usize = 16;
@@ -134,7 +135,7 @@ impl Rack {
     }
 
     /// Serves accesses, with the events of their demands, by each machine in turn.
-    pub fn accesses(&mut self, accesses: &[Access], areas: &[Area])
+    pub fn accesses(&mut self, accesses: &[Access], areas: &Areas)
         ensures { self.new ≡ map (row_served accesses.now areas.now) self.old }
     {
         serve_slots(&mut self.slots, accesses, areas)

@@ -13,8 +13,9 @@ use crate::image::write_images;
 use crate::object::rows_json;
 use crate::rack::Rack;
 use std::alloc::Global;
+use xl_areas::Areas;
 use xl_lackey::Access;
-use xl_model::{Area, Event, Item, Kind, NoMemory, Row};
+use xl_model::{Event, Item, Kind, NoMemory, Row};
 use xl_outside::{Failed, Sink};
 use xl_report::write_row;
 use xl_serving::Rows;
@@ -25,7 +26,7 @@ fn serve_item<K: Sink>(
     rack: &mut Rack,
     i: usize,
     item: Item,
-    areas: &[Area],
+    areas: &Areas,
     answers: bool,
     out: &mut K,
 ) -> Result<(), Failed>
@@ -52,7 +53,7 @@ fn serve_item<K: Sink>(
 pub(crate) fn serve_rows<K: Sink>(
     rack: &mut Rack,
     item: Item,
-    areas: &[Area],
+    areas: &Areas,
     answers: bool,
     out: &mut K,
 ) -> Result<(), Failed>
@@ -93,7 +94,7 @@ impl Rows for Rack {
     fn command<K: Sink>(
         &mut self,
         event: Event,
-        areas: &[Area],
+        areas: &Areas,
         answers: bool,
         out: &mut K,
     ) -> Result<(), Failed> {
@@ -105,7 +106,7 @@ impl Rows for Rack {
         number: u64,
         va: u64,
         kind: Kind,
-        areas: &[Area],
+        areas: &Areas,
         answers: bool,
         out: &mut K,
     ) -> Result<(), Failed> {
@@ -118,7 +119,7 @@ impl Rows for Rack {
         )
     }
 
-    fn accesses(&mut self, accesses: &[Access], areas: &[Area]) {
+    fn accesses(&mut self, accesses: &[Access], areas: &Areas) {
         Rack::accesses(self, accesses, areas)
     }
 

@@ -4,13 +4,12 @@ ghost use Rattle.std.specs.Prelude.{[]};
 
 use std::alloc::{AllocError, Global};
 use std::test::Fail;
+use xl_areas::Areas;
 use xl_lackey::Access;
-use xl_model::{Area, Event, InputFault, Kind, NoMemory, Row};
+use xl_model::{Event, InputFault, Kind, NoMemory, Row};
 use xl_outside::{Failed, MemFolder, MemSink, Sink, put_all};
 use xl_script::parse;
-use xl_serving::{
-    Areas, EndStop, MadeTape, Rows, ServeStop, Status, Tape, Trace, run, serve, write_end,
-};
+use xl_serving::{EndStop, MadeTape, Rows, ServeStop, Status, Tape, Trace, run, serve, write_end};
 
 /// No rows, and no memory for one.
 #[derive(Drop)]
@@ -26,7 +25,7 @@ impl Rows for NoRows {
     fn command<K: Sink>(
         &mut self,
         _event: Event,
-        _areas: &[Area],
+        _areas: &Areas,
         _answers: bool,
         _out: &mut K,
     ) -> Result<(), Failed> {
@@ -38,14 +37,14 @@ impl Rows for NoRows {
         _number: u64,
         _va: u64,
         _kind: Kind,
-        _areas: &[Area],
+        _areas: &Areas,
         _answers: bool,
         _out: &mut K,
     ) -> Result<(), Failed> {
         Ok(())
     }
 
-    fn accesses(&mut self, _accesses: &[Access], _areas: &[Area]) {}
+    fn accesses(&mut self, _accesses: &[Access], _areas: &Areas) {}
 
     fn write_rows<K: Sink>(&self, _out: &mut K) -> Result<(), Failed> {
         Ok(())

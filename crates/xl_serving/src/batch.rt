@@ -12,12 +12,13 @@ ghost use Rattle.xl_serving.specs.Batches.{waited};
 
 use crate::rows::Rows;
 use crate::trace::Numbered;
+use xl_areas::Areas;
 use xl_lackey::{Access, Batch, nth_access, sole_access};
-use xl_model::{Area, Kind};
+use xl_model::Kind;
 
 /// Serves the accesses that wait.
 #[inline(never)]
-pub(crate) fn settle<R: Rows>(rows: &mut R, areas: &[Area], batch: &mut Batch)
+pub(crate) fn settle<R: Rows>(rows: &mut R, areas: &Areas, batch: &mut Batch)
     ensures served { scene_of (R.rows rows.new) areas.now
         ≡ waited batch.old.items (scene_of (R.rows rows.old) areas.now) }
     ensures none { batch.new.items ≡ [] }
@@ -28,7 +29,7 @@ pub(crate) fn settle<R: Rows>(rows: &mut R, areas: &[Area], batch: &mut Batch)
 
 /// Serves the accesses that wait where there is no room for one more.
 #[inline(always)]
-fn make_room<R: Rows>(rows: &mut R, areas: &[Area], batch: &mut Batch)
+fn make_room<R: Rows>(rows: &mut R, areas: &Areas, batch: &mut Batch)
     ensures same { waited batch.new.items (scene_of (R.rows rows.new) areas.now)
         ≡ waited batch.old.items (scene_of (R.rows rows.old) areas.now) }
     ensures room { array_vec_len batch.new < 64 }
@@ -40,7 +41,7 @@ fn make_room<R: Rows>(rows: &mut R, areas: &[Area], batch: &mut Batch)
 
 /// Lets an access wait.
 #[inline(always)]
-fn put_off<R: Rows>(rows: &mut R, areas: &[Area], batch: &mut Batch, va: u64, kind: Kind)
+fn put_off<R: Rows>(rows: &mut R, areas: &Areas, batch: &mut Batch, va: u64, kind: Kind)
     ensures { (number : ℕ) → waited batch.new.items (scene_of (R.rows rows.new) areas.now)
         ≡ scene_after (Referenced number va kind)
         (waited batch.old.items (scene_of (R.rows rows.old) areas.now)) }
@@ -53,7 +54,7 @@ fn put_off<R: Rows>(rows: &mut R, areas: &[Area], batch: &mut Batch, va: u64, ki
 #[inline(always)]
 pub(crate) fn put_off_record<R: Rows>(
     rows: &mut R,
-    areas: &[Area],
+    areas: &Areas,
     batch: &mut Batch,
     found: &Numbered,
 )
@@ -69,7 +70,7 @@ pub(crate) fn put_off_record<R: Rows>(
 
 /// Lets the accesses of a record wait, one by one.
 #[inline(never)]
-fn put_off_each<R: Rows>(rows: &mut R, areas: &[Area], batch: &mut Batch, found: &Numbered)
+fn put_off_each<R: Rows>(rows: &mut R, areas: &Areas, batch: &mut Batch, found: &Numbered)
     ensures { waited batch.new.items (scene_of (R.rows rows.new) areas.now)
         ≡ scenes_after (accesses_items found.now.number (accesses found.now.reference))
         (waited batch.old.items (scene_of (R.rows rows.old) areas.now)) }

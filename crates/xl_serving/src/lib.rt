@@ -2,7 +2,6 @@
 //! which commands and accesses are served, and how a run ends. The rows are whatever is served.
 #![tactic(auto)]
 
-mod areas;
 mod batch;
 mod ending;
 mod made;
@@ -15,7 +14,6 @@ mod stop;
 mod tape;
 mod trace;
 
-pub use areas::Areas;
 pub use ending::{EndStop, write_end};
 pub use made::MadeTape;
 pub use rows::Rows;

@@ -11,8 +11,9 @@ ghost use Rattle.xl_serving.specs.Serving.{HasServed, scene_of};
 ghost use Rattle.xl_serving.specs.Batches.{waited};
 
 use std::alloc::Global;
+use xl_areas::Areas;
 use xl_lackey::Access;
-use xl_model::{Area, Event, Kind, NoMemory, Row};
+use xl_model::{Event, Kind, NoMemory, Row};
 use xl_outside::{Failed, Sink};
 
 /// Rows that are served: each item, with the events of its demand, by one row after another. Where
@@ -33,7 +34,7 @@ pub trait Rows: Sized {
     fn command<K: Sink>(
         &mut self,
         event: Event,
-        areas: &[Area],
+        areas: &Areas,
         answers: bool,
         out: &mut K,
     ) -> Result<(), Failed>
@@ -47,7 +48,7 @@ pub trait Rows: Sized {
         number: u64,
         va: u64,
         kind: Kind,
-        areas: &[Area],
+        areas: &Areas,
         answers: bool,
         out: &mut K,
     ) -> Result<(), Failed>
@@ -56,7 +57,7 @@ pub trait Rows: Sized {
             out.old out.new (is_ok result) };
 
     /// Serves accesses one after another, where these areas were declared, and writes no line.
-    fn accesses(&mut self, accesses: &[Access], areas: &[Area])
+    fn accesses(&mut self, accesses: &[Access], areas: &Areas)
         ensures { scene_of (rows self.new) areas.now
             ≡ waited accesses.now (scene_of (rows self.old) areas.now) };
 

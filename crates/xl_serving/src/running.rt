@@ -11,7 +11,6 @@ ghost use Rattle.xl_serving.specs.Stops.{status_by, FolderLeft, is_status_put, s
 ghost use Rattle.xl_serving.specs.Inputs.{trail_in, trail_for};
 ghost use Rattle.xl_serving.specs.Endings.{asked_ending, course_ending, ending, rows_left, text_of, Answers, SaysOfWords, Completes, message_of, message_by, Says, Ends, FlushesEnd};
 
-use crate::areas::Areas;
 use crate::ending::write_end;
 use crate::made::MadeTape;
 use crate::opening::open;
@@ -21,6 +20,7 @@ use crate::status::Status;
 use crate::stop::Stop;
 use crate::trace::{NoTrace, Trace};
 use std::alloc::Global;
+use xl_areas::Areas;
 use xl_outside::{Folder, Sink, send_all};
 use xl_script::Script;
 use xl_words::Words;

@@ -12,13 +12,13 @@ ghost use Rattle.xl_serving.specs.Batches.{waited, IsIdle};
 ghost use Rattle.xl_serving.specs.Skims.{Skims};
 ghost use Rattle.xl_serving.specs.Serving.{HasServed, Serves, ServesPart, scene_of, count_of, event_at, of_trace_stop, serve_stop_fate, is_written, ServingIsMet};
 
-use crate::areas::Areas;
 use crate::batch::{put_off_record, settle};
 use crate::rows::Rows;
 use crate::trace::{Numbered, Trace, TraceStop};
 use thiserror::Error;
+use xl_areas::Areas;
 use xl_lackey::{Batch, nth_access, sole_access};
-use xl_model::{Area, Command, Event, InputFault};
+use xl_model::{Command, Event, InputFault};
 use xl_outside::{Failed, Folder, Sink};
 use xl_script::Script;
 
@@ -82,16 +82,15 @@ pub fn serve<R: Rows, T: Trace, F: Folder, K: Sink>(
             areas.declare(area);
             continue;
         }
-        let declared = areas.as_slice();
-        serve_command(rows, declared, answers, out, trace, folder, name, command)?;
+        serve_command(rows, areas, answers, out, trace, folder, name, command)?;
     }
-    serve_rest(rows, areas.as_slice(), answers, out, trace, folder, name)
+    serve_rest(rows, areas, answers, out, trace, folder, name)
 }
 
 /// Serves a command that declares no area.
 fn serve_command<R: Rows, T: Trace, F: Folder, K: Sink>(
     rows: &mut R,
-    areas: &[Area],
+    areas: &Areas,
     answers: bool,
     out: &mut K,
     trace: &mut T,
@@ -144,7 +143,7 @@ fn skim<T: Trace>(trace: &mut T, answers: bool, batch: &mut Batch, most: u64) ->
 /// Serves all records that are left.
 fn serve_rest<R: Rows, T: Trace, F: Folder, K: Sink>(
     rows: &mut R,
-    areas: &[Area],
+    areas: &Areas,
     answers: bool,
     out: &mut K,
     trace: &mut T,
@@ -183,7 +182,7 @@ fn serve_rest<R: Rows, T: Trace, F: Folder, K: Sink>(
 /// Serves the next `n` records, or as many as are left.
 fn serve_run<R: Rows, T: Trace, F: Folder, K: Sink>(
     rows: &mut R,
-    areas: &[Area],
+    areas: &Areas,
     answers: bool,
     out: &mut K,
     trace: &mut T,
@@ -229,7 +228,7 @@ fn serve_run<R: Rows, T: Trace, F: Folder, K: Sink>(
 #[inline(always)]
 fn serve_record<R: Rows, K: Sink>(
     rows: &mut R,
-    areas: &[Area],
+    areas: &Areas,
     answers: bool,
     out: &mut K,
     batch: &mut Batch,
@@ -254,7 +253,7 @@ fn serve_record<R: Rows, K: Sink>(
 #[inline(never)]
 fn tell_record<R: Rows, K: Sink>(
     rows: &mut R,
-    areas: &[Area],
+    areas: &Areas,
     answers: bool,
     out: &mut K,
     found: &Numbered,
@@ -273,7 +272,7 @@ fn tell_record<R: Rows, K: Sink>(
 /// Serves the accesses of a record, one by one.
 fn serve_accesses<R: Rows, K: Sink>(
     rows: &mut R,
-    areas: &[Area],
+    areas: &Areas,
     answers: bool,
     out: &mut K,
     found: &Numbered,
@@ -298,7 +297,7 @@ fn serve_accesses<R: Rows, K: Sink>(
 /// Serves the events of a command, in rising number.
 fn serve_events<R: Rows, K: Sink>(
     rows: &mut R,
-    areas: &[Area],
+    areas: &Areas,
     answers: bool,
     out: &mut K,
     command: Command,

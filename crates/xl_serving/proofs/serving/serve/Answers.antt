@@ -49,7 +49,7 @@ returns-in_err-serve_command-clause-told g c =
     let stop = c.in_err-serve_command.field-0.0 in
     rw (is_err_by c.from_residual.result stop c.from_residual.ensures.1)
     (told_then (g.F.Folder.files a.folder.now) (g.F.Folder.files c.loop-i.folder) _ (λ fs. g.T.Trace.stands c.loop-i.trace (file_of fs name) → ServesPart g.K.Sink.taken g.K.Sink.outside g.K.Sink.roomy a.answers (g.T.Trace.stands c.serve_command.new.trace (file_of fs name)) (course_by c.command-command.result (left c.loop-i.trace (file_of fs name))) (left c.serve_command.new.trace (file_of fs name)) (scene_of (g.R.Rows.rows c.loop-i.rows) c.loop-i.areas) (scene_of (g.R.Rows.rows c.serve_command.new.rows) c.loop-i.areas) c.loop-i.out c.serve_command.new.out (Err stop)) _
-    inv.folder.keeps inv.told (rw c.as_slice-declared.ensures at c.in_err-serve_command.ensures.told)
+    inv.folder.keeps inv.told c.in_err-serve_command.ensures.told
     (λ fs h k s. stop_any (Unit {0}) (Unit {0}) _ _ _ a.answers (course a.script.now (left a.trace.now (file_of fs name))) (course (drop (c.loop-i.i + 1) a.script.now) (left c.serve_command.new.trace (file_of fs name))) (ended None) _ _ _ _ stop
     (through_by a.answers _ _ _ a.script.now c.loop-i.i c.command-command.result _ _ _ _ _ _ _ _ _ c.command-command.ensures.value (h s) (k (h s).stands_still))))
 
@@ -64,7 +64,7 @@ loop-i-preserved g c =
     let left = g.T.Trace.left in
     record {
       told = told_then (g.F.Folder.files a.folder.now) (g.F.Folder.files c.loop-i.folder) _ (λ fs. g.T.Trace.stands c.loop-i.trace (file_of fs name) → ServesPart g.K.Sink.taken g.K.Sink.outside g.K.Sink.roomy a.answers (g.T.Trace.stands c.serve_command.new.trace (file_of fs name)) (course_by c.command-command.result (left c.loop-i.trace (file_of fs name))) (left c.serve_command.new.trace (file_of fs name)) (scene_of (g.R.Rows.rows c.loop-i.rows) c.loop-i.areas) (scene_of (g.R.Rows.rows c.serve_command.new.rows) c.loop-i.areas) c.loop-i.out c.serve_command.new.out (Ok tt)) _
-          inv.folder.keeps inv.told (rw c.as_slice-declared.ensures at c.in_ok-serve_command.ensures.told)
+          inv.folder.keeps inv.told c.in_ok-serve_command.ensures.told
           (λ fs h k s. record {
             reached = through_by a.answers _ _ _ a.script.now c.loop-i.i c.command-command.result _ _ _ _ _ _ _ _ (Ok tt) c.command-command.ensures.value (h s) (k (h s).stands_still);
             stands_still = (k (h s).stands_still).stands_still;
@@ -82,7 +82,7 @@ returns-clause-told g c =
     let left = g.T.Trace.left in
     let all : length a.script.now ≤ c.loop-i.i = let n = c.len-i-end.ensures.value in grind (arith, nat_tests) in
     told_then (g.F.Folder.files a.folder.now) (g.F.Folder.files c.loop-i.folder) _ (λ fs. g.T.Trace.stands c.loop-i.trace (file_of fs name) → ServesPart g.K.Sink.taken g.K.Sink.outside g.K.Sink.roomy a.answers (g.T.Trace.stands c.serve_rest.new.trace (file_of fs name)) (ran_all (left c.loop-i.trace (file_of fs name)).records (left c.loop-i.trace (file_of fs name)).fault) (left c.serve_rest.new.trace (file_of fs name)) (scene_of (g.R.Rows.rows c.loop-i.rows) c.loop-i.areas) (scene_of (g.R.Rows.rows c.serve_rest.new.rows) c.loop-i.areas) c.loop-i.out c.serve_rest.new.out c.serve_rest.result) _
-    inv.folder.keeps inv.told (rw c.as_slice.ensures at c.serve_rest.ensures.told)
+    inv.folder.keeps inv.told c.serve_rest.ensures.told
     (λ fs h k s. through_rest a.answers _ _ _ a.script.now c.loop-i.i _ _ _ _ _ _ _ _ c.serve_rest.result all (h s) (k (h s).stands_still))
 
 pub returns-in_err-serve_command-clause-goes_on : goal.returns-in_err-serve_command-clause-goes_on

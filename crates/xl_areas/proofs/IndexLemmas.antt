@@ -1,0 +1,91 @@
+-- The index of no areas, and of one area more; and what it answers.
+use Rattle.std.proofs.Common.{◌≡◌, refl, sym, ap, ◌∙◌, ℕ, zero, suc, ◌+◌, ◌*◌, ◌^◌, ◌<◌, ◌≤◌, Bool, true, false, cond, nat_le, nat_lt, ◌==◌, ◌&&◌, List, [], ◌∷◌, ◌++◌, length, map, find, None, Some, arith}
+use Rattle.std.specs.List.{All}
+use Rattle.std.proofs.lemmas.Bool.Decides.{nat_tests}
+use Rattle.std.proofs.lemmas.List.{length-map, length-append}
+use Rattle.xl_model.specs.declared.script.Area.{Area}
+use Rattle.xl_model.specs.Items.{in_area}
+use Rattle.xl_areas.specs.declared.bounds.Bound.{Bound}
+use Rattle.xl_areas.specs.Bounds.{key_at, has_key, answer_at, cut_at, or_later, with_later, IsPlaced, IsIndex}
+use Rattle.xl_areas.proofs.CutLemmas.{cut-answers, cut-rises, cut-bound, cut-keeps, cut-length}
+use Rattle.xl_areas.proofs.LaterLemmas.{later-rises, later-answers}
+
+pub no-index : IsIndex [] []
+unfolding answer_at
+no-index = record { placed = λ k d h. absurd (omega arith); rising = tt; first = λ key. refl; two = refl }
+
+find-later : (key : ℕ) (area : Area) (areas : List Area) → find (has_key key) (areas ++ area ∷ []) ≡ or_later key area (find (has_key key) areas)
+find-later key area [] = refl
+find-later key area (a ∷ areas) =
+    elim (has_key key a) as (λ c. cond c (Some a) (find (has_key key) (areas ++ area ∷ [])) ≡ or_later key area (cond c (Some a) (find (has_key key) areas))) [
+      | true ↦ refl
+      | false ↦ find-later key area areas
+    ]
+
+placed-more : (area : Area) (areas : List Area) → IsPlaced area → All IsPlaced areas → All IsPlaced (areas ++ area ∷ [])
+placed-more area [] p all zero d h = p
+placed-more area [] p all (suc k) d h = absurd (omega arith)
+placed-more area (a ∷ areas) p all zero d h = all 0 d (omega arith)
+placed-more area (a ∷ areas) p all (suc k) d h = placed-more area areas p (λ j e less. all (suc j) e (omega arith)) k d (omega arith)
+
+pub more-index : (area : Area) (areas : List Area) (bounds : List Bound) → IsPlaced area → IsIndex areas bounds
+    → IsIndex (areas ++ area ∷ []) (map (with_later area) (cut_at (key_at area.space area.page + area.pages) None (cut_at (key_at area.space area.page) None bounds)))
+more-index area areas bounds p x =
+    let first = key_at area.space area.page in
+    let end = first + area.pages in
+    let one = cut_at first None bounds in
+    let both = cut_at end None one in
+    let r1 = cut-rises 0 first None bounds x.rising (omega arith) in
+    let r2 = cut-rises 0 end None one r1 (omega arith) in
+    let f = cut-keeps first end None one (cut-bound first None bounds) in
+    let e = cut-bound end None one in
+    let l1 = cut-length first None bounds in
+    let l2 = cut-length end None one in
+    let l3 : length (map (with_later area) both) ≡ length both = length-map both (with_later area) in
+    let l4 = length-append areas (area ∷ []) in
+    let two : length bounds ≡ 2 * length areas = x.two in
+    record {
+      placed = placed-more area areas p x.placed;
+      rising = later-rises 0 area both r2;
+      first = λ key.
+          later-answers key area both r2 f e ∙ ap (or_later key area) (cut-answers key end None one ∙ cut-answers key first None bounds ∙ x.first key) ∙ sym (find-later key area areas);
+      two = omega arith;
+    }
+
+same-test : (space page : ℕ) (area : Area) → page < 2 ^ 64 → IsPlaced area → has_key (key_at space page) area ≡ in_area space page area
+same-test space page area h p =
+    elim (area.space == space)
+    as (λ c. (area.space == space) ≡ c → has_key (key_at space page) area ≡ (c && (nat_le area.page page && nat_lt page (area.page + area.pages)))) [
+      | true ↦ λ t.
+          let e : area.space ≡ space = grind (arith, nat_tests) in
+          let low : nat_le (key_at area.space area.page) (key_at space page) ≡ nat_le area.page page = same-le (key_at area.space area.page) (key_at space page) area.page page (omega arith) (omega arith) in
+          let high : nat_lt (key_at space page) (key_at area.space area.page + area.pages) ≡ nat_lt page (area.page + area.pages) = same-lt (key_at space page) (key_at area.space area.page + area.pages) page (area.page + area.pages) (omega arith) (omega arith) in
+          rw low (rw high refl)
+      | false ↦ λ f. apart (nat_le (key_at area.space area.page) (key_at space page)) (nat_lt (key_at space page) (key_at area.space area.page + area.pages)) (λ t u. absurd (other f t u))
+    ] refl
+  where
+    same-le : (a b x y : ℕ) → (a ≤ b → x ≤ y) → (x ≤ y → a ≤ b) → nat_le a b ≡ nat_le x y
+    same-le a b x y f g = grind (arith, nat_tests)
+
+    same-lt : (a b x y : ℕ) → (a < b → x < y) → (x < y → a < b) → nat_lt a b ≡ nat_lt x y
+    same-lt a b x y f g = grind (arith, nat_tests)
+
+    apart : (a b : Bool) → (a ≡ true → b ≡ true → (a && b) ≡ false) → (a && b) ≡ false
+    apart true true f = f refl refl
+    apart true false f = refl
+    apart false b f = refl
+
+    other : (area.space == space) ≡ false → nat_le (key_at area.space area.page) (key_at space page) ≡ true → nat_lt (key_at space page) (key_at area.space area.page + area.pages) ≡ true → ⊥
+    other f t u =
+        let low : area.space * 2 ^ 65 + area.page ≤ space * 2 ^ 65 + page = grind (arith, nat_tests) in
+        let high : space * 2 ^ 65 + page < area.space * 2 ^ 65 + area.page + area.pages = grind (arith, nat_tests) in
+        let e : area.space ≡ space = omega arith in
+        grind (arith, nat_tests)
+
+same-found : (space page : ℕ) (areas : List Area) → page < 2 ^ 64 → All IsPlaced areas → find (has_key (key_at space page)) areas ≡ find (in_area space page) areas
+same-found space page [] h all = refl
+same-found space page (a ∷ areas) h all =
+    rw (same-test space page a h (all 0 a (omega arith))) (ap (λ x. cond (in_area space page a) (Some a) x) (same-found space page areas h (λ k d less. all (suc k) d (omega arith))))
+
+pub index-finds : (space page : ℕ) (areas : List Area) (bounds : List Bound) → page < 2 ^ 64 → IsIndex areas bounds → answer_at (key_at space page) None bounds ≡ find (in_area space page) areas
+index-finds space page areas bounds h x = x.first (key_at space page) ∙ same-found space page areas h x.placed

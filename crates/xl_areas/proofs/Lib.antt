@@ -1,0 +1,4 @@
+mod CountLemmas
+mod CutLemmas
+mod LaterLemmas
+mod IndexLemmas

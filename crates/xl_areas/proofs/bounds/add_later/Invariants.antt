@@ -1,0 +1,6 @@
+use Rattle.std.proofs.Common.{◌≡◌, ◌++◌, map, take, drop}
+use Rattle.xl_areas.specs.Bounds.{with_later}
+use Rattle.xl_areas.proofs.bounds.add_later.Given as goal
+
+abbrev pub invariant-loop-bound : goal.invariant-loop-bound
+invariant-loop-bound l = l.bounds ≡ map (with_later l.area) (take l.bound-index l.initial.bounds) ++ drop l.bound-index l.initial.bounds
