@@ -1,50 +1,86 @@
--- A look that the newest leaf of a set of the first array answers.
-use Rattle.std.proofs.Common.{◌≡◌, ℕ, suc, ◌^◌, ◌<◌, ◌≤◌, ◌==◌, true, false, List, [], ◌∷◌, map, find, get_or, set, count_by, nat_le, nat_lt, Option, Some, refl, sym, ◌∙◌, ap, subst, arith}
+-- A look that a leaf of 4 KiB of the first array answers.
+use Rattle.std.proofs.Common.{◌≡◌, ℕ, zero, suc, ◌^◌, ◌<◌, ◌≤◌, Bool, true, false, List, [], ◌∷◌, map, find, get_or, set, count_by, nat_le, nat_lt, Option, Some, refl, sym, ◌∙◌, ap, subst, arith}
 use Rattle.std.proofs.lemmas.Bool.Decides.{nat_tests}
 use Rattle.std.proofs.lemmas.List.{set-get_or}
 use Rattle.xl_model.specs.declared.address.Order.TheVariants as order
+use Rattle.xl_model.specs.declared.leaf.Leaf.{Leaf}
 use Rattle.xl_model.specs.declared.row.TlbSpec.{TlbSpec}
 use Rattle.xl_model.specs.Base.{plus}
-use Rattle.xl_model.specs.Recency.{touched}
+use Rattle.xl_model.specs.Recency.{touched, without_first}
 use Rattle.xl_model.specs.Tally.{counted}
-use Rattle.xl_model.specs.Tlb.{TlbArray, Answer, answer_of, array_hit, found_as, set_number, takes_order, hits_at, misses_at, fills_array}
-use Rattle.xl_recency.specs.declared.item.Item.{Item}
-use Rattle.xl_tlb.specs.Coding.{tag_of, has_tag, is_item}
-use Rattle.xl_tlb.specs.Fronts.{small_leaf, IsFrontHit, IsFront, Front}
+use Rattle.xl_model.specs.Tlb.{TlbArray, Answer, answer_of, array_hit, array_touched, covers_as, found_as, set_at, where_taken, set_number, takes_order, hits_at, misses_at, fills_array}
+use Rattle.xl_tlb.specs.Fronts.{small_leaf, IsTouch, IsFirstHit, FirstHit, IsFrontHit, IsFront, Front}
+use Rattle.xl_tlb.specs.Hits.{word_touched}
 use Rattle.xl_tlb.specs.Tlbs.{spec_of, NoneBelow, IsRising, tlb_of, tlb_looked, leaf_told, looked_arrays, looked_by}
-use Rattle.xl_tlb.proofs.LookLemmas.{array_of, look_found, look_moved}
-use Rattle.xl_tlb.proofs.LevelLemmas.{first_arrays}
+use Rattle.xl_tlb.proofs.LevelLemmas.{first_arrays, spec_touched}
 
--- the newest item of a list, where it has a tag
-newest_found : (tag : ℕ) (xs : List Item) (x : Item) → Some x ≡ find is_item xs → (x.tag == tag) ≡ true → Some x ≡ find (has_tag tag) xs
-newest_found tag [] x e t = cc
-newest_found tag (y ∷ xs) x e t =
-    let w : x ≡ y = cc in
-    let u : has_tag tag y ≡ true = ap (has_tag tag) (sym w) ∙ t in
-    rw u (ap Some w)
+-- what was touched stands in front, and a touch of it moves nothing
+meets : (p : Leaf → Bool) (xs : List Leaf) (x : Leaf) → find p xs ≡ Some x → p x ≡ true
+meets p [] x e = cc
+meets p (y ∷ xs) x e = go (p y) refl (λ h. meets p xs x h)
+  where
+    go : (b : Bool) → p y ≡ b → (find p xs ≡ Some x → p x ≡ true) → p x ≡ true
+    go true t more = let v : Some y ≡ Some x = rw t at e in let w : y ≡ x = cc in ap p (sym w) ∙ t
+    go false t more = more (rw t at e)
 
-newest_stays : (tag : ℕ) (xs : List Item) (x : Item) → Some x ≡ find is_item xs → (x.tag == tag) ≡ true → touched (has_tag tag) xs ≡ xs
-newest_stays tag [] x e t = cc
-newest_stays tag (y ∷ xs) x e t =
-    let w : x ≡ y = cc in
-    let u : has_tag tag y ≡ true = ap (has_tag tag) (sym w) ∙ t in
-    rw u refl
+front_of : (p : Leaf → Bool) (xs : List Leaf) (x : Leaf) → Some x ≡ find p xs → touched p xs ≡ x ∷ without_first p xs
+front_of p xs x e = rw (← e) refl
 
-module _ (spec : TlbSpec) (sets : List (List Item)) (space page : ℕ) (small : space < 64) where
-  pub front_hit : (x : Item) → takes_order spec order.K4 ≡ true → Some x ≡ find is_item (get_or sets (set_number spec order.K4 page) []) → (x.tag == tag_of space page order.K4) ≡ true
-      → IsFrontHit space page x.word (array_of spec sets)
-  unfolding array_hit
-  front_hit x takes e t =
-      let k = set_number spec order.K4 page in
-      let tag = tag_of space page order.K4 in
-      let f : Some (small_leaf space page x.word) ≡ found_as (array_of spec sets) space page order.K4 =
-      look_found spec sets space page order.K4 small x takes (newest_found tag (get_or sets k []) x e t) in
-      let same : sets ≡ set sets k (touched (has_tag tag) (get_or sets k [])) =
-      sym (set-get_or sets k []) ∙ ap (λ (z : List Item). set sets k z) (sym (newest_stays tag (get_or sets k []) x e t)) in
+front_found : (p : Leaf → Bool) (x : Leaf) (xs : List Leaf) → p x ≡ true → Some x ≡ find p (x ∷ xs)
+front_found p x xs t = rw t refl
+
+front_stays : (p : Leaf → Bool) (x : Leaf) (xs : List Leaf) → p x ≡ true → touched p (x ∷ xs) ≡ x ∷ xs
+front_stays p x xs t = rw t refl
+
+-- a set in which a leaf was found is there
+set_there : (p : Leaf → Bool) (x : Leaf) (sets : List (List Leaf)) (k : ℕ) (ys : List Leaf) → Some x ≡ find p (get_or sets k []) → get_or (set sets k ys) k [] ≡ ys
+set_there p x [] zero ys e = cc
+set_there p x [] (suc k) ys e = cc
+set_there p x (s ∷ sets) zero ys e = refl
+set_there p x (s ∷ sets) (suc k) ys e = set_there p x sets k ys e
+
+where_found : (b : Bool) (o : Option Leaf) (x : Leaf) → Some x ≡ where_taken b o → (b ≡ true) × (Some x ≡ o)
+where_found true o x e = (refl, e)
+where_found false o x e = cc
+
+module _ (space page word : ℕ) where
+  -- the array after a touch
+  touch_front : (a : TlbArray) → Some (small_leaf space page word) ≡ found_as a space page order.K4 → IsFrontHit space page word (word_touched space page order.K4 word a)
+  unfolding array_touched
+  touch_front a e =
+      let p : Leaf → Bool = covers_as space page order.K4 in
+      let x : Leaf = small_leaf space page word in
+      let k : ℕ = set_number a.spec order.K4 page in
+      let old : List Leaf = set_at a order.K4 page in
+      let f = where_found (takes_order a.spec order.K4) (find p old) x e in
+      let found : Some x ≡ find p old = f.1 in
+      let met : p x ≡ true = meets p old x (sym found) in
+      let now : get_or (set a.sets k (touched p old)) k [] ≡ x ∷ without_first p old = set_there p x a.sets k (touched p old) found ∙ front_of p old x found in
       record {
-        found = rw (← f) refl;
-        stays = look_moved spec sets space page order.K4 small sets x.word same;
+        found = rw (f.0, now) (front_found p x (without_first p old) met);
+        stays = rw now (front_stays p x (without_first p old) met);
       }
+
+  pub hit_front : (a new : TlbArray) → IsTouch space page word a new → IsFrontHit space page word new
+  hit_front a new hit = subst (IsFrontHit space page word) (sym hit.moved) (touch_front a hit.found)
+
+  pub first_front : (arrays new : List TlbArray) → IsFirstHit space page word arrays new → IsFront space page word new
+  first_front _ _ (FirstHit a new rest hit alone) = Front new rest (hit_front a new hit) (rw hit.moved (alone_after a rest alone))
+    where
+      alone_after : (a : TlbArray) (rest : List TlbArray) → NoneBelow (suc a.spec.level) (map spec_of rest) → NoneBelow (suc (word_touched space page order.K4 word a).spec.level) (map spec_of rest)
+      alone_after a rest alone = rw (spec_touched space page (small_leaf space page word) a) alone
+
+  -- a leaf in front is touched, and nothing moves
+  pub front_first : (arrays : List TlbArray) → IsFront space page word arrays → IsFirstHit space page word arrays arrays
+  unfolding array_touched
+  front_first _ (Front a rest hit alone) =
+      let same : a ≡ word_touched space page order.K4 word a =
+      ap (λ (z : List (List Leaf)). record a { sets = z }) (sym (set-get_or a.sets (set_number a.spec order.K4 page) []) ∙ ap (λ (z : List Leaf). set a.sets (set_number a.spec order.K4 page) z) (sym hit.stays)) in
+      FirstHit a a rest (record { found = hit.found; moved = same }) alone
+
+pub array_found : (a : TlbArray) (space page : ℕ) (leaf : Leaf) → Some leaf ≡ found_as a space page order.K4 → Some leaf ≡ array_hit a space page
+unfolding array_hit
+array_found a space page leaf e = rw (← e) refl
 
 above : (level other : ℕ) (specs : List TlbSpec) → level < other → NoneBelow other specs → NoneBelow (suc level) specs
 above level other [] l h = tt
@@ -79,37 +115,42 @@ module _ (x : Answer) (space page : ℕ) where
   no_fills (a ∷ rest) h = rw (not_down x.level a.spec.level h.0) (no_fills rest h.1)
 
 module _ (space page word : ℕ) where
-  pub front_told : (arrays : List TlbArray) → IsFront space page word arrays → Some (small_leaf space page word) ≡ leaf_told (answer_of arrays space page)
-  front_told _ (Front a rest hit alone) = rw (← hit.found) refl
+  pub first_told : (arrays new : List TlbArray) → IsFirstHit space page word arrays new → Some (small_leaf space page word) ≡ leaf_told (answer_of arrays space page)
+  first_told _ _ (FirstHit a new rest hit alone) = rw (← array_found a space page (small_leaf space page word) hit.found) refl
 
   -- what the first array answers
-  abbrev front_answer : TlbArray → Answer
-  front_answer a = record { leaf = small_leaf space page word; level = a.spec.level }
+  abbrev first_answer : TlbArray → Answer
+  first_answer a = record { leaf = small_leaf space page word; level = a.spec.level }
 
-  first_hits : (a : TlbArray) (rest : List TlbArray) (ns : List ℕ) → IsFrontHit space page word a → NoneBelow (suc a.spec.level) (map spec_of rest)
-      → set ns 0 (plus (get_or ns 0 0) 1) ≡ counted (hits_at (Some (front_answer a)) space page) (a ∷ rest) ns
+  first_hits : (a : TlbArray) (rest : List TlbArray) (ns : List ℕ) → Some (small_leaf space page word) ≡ array_hit a space page → NoneBelow (suc a.spec.level) (map spec_of rest)
+      → set ns 0 (plus (get_or ns 0 0) 1) ≡ counted (hits_at (Some (first_answer a)) space page) (a ∷ rest) ns
   first_hits a rest [] hit alone = refl
   first_hits a rest (n ∷ ns) hit alone =
-      rw (← hit.found, (is_self a.spec.level).0) (ap (λ (z : List ℕ). plus n 1 ∷ z) (sym (no_hits (front_answer a) space page rest ns alone)))
+      rw (← hit, (is_self a.spec.level).0) (ap (λ (z : List ℕ). plus n 1 ∷ z) (sym (no_hits (first_answer a) space page rest ns alone)))
 
-  first_misses : (a : TlbArray) (rest : List TlbArray) (ns : List ℕ) → IsFrontHit space page word a → NoneBelow (suc a.spec.level) (map spec_of rest)
-      → ns ≡ counted (misses_at (Some (front_answer a)) space page) (a ∷ rest) ns
+  first_misses : (a : TlbArray) (rest : List TlbArray) (ns : List ℕ) → Some (small_leaf space page word) ≡ array_hit a space page → NoneBelow (suc a.spec.level) (map spec_of rest)
+      → ns ≡ counted (misses_at (Some (first_answer a)) space page) (a ∷ rest) ns
   first_misses a rest [] hit alone = refl
   first_misses a rest (n ∷ ns) hit alone =
-      rw (← hit.found, (is_self a.spec.level).0) (ap (λ (z : List ℕ). n ∷ z) (sym (no_misses (front_answer a) space page rest ns alone)))
+      rw (← hit, (is_self a.spec.level).0) (ap (λ (z : List ℕ). n ∷ z) (sym (no_misses (first_answer a) space page rest ns alone)))
 
-  pub front_after : (arrays : List TlbArray) (hits misses : List ℕ) (fills : ℕ) → fills < 2 ^ 64 → IsFront space page word arrays
-      → tlb_of arrays (set hits 0 (plus (get_or hits 0 0) 1)) misses fills ≡ tlb_looked space page (tlb_of arrays hits misses fills)
+  pub first_looked : (arrays new : List TlbArray) → IsFirstHit space page word arrays new → new ≡ looked_arrays (answer_of arrays space page) space page arrays
+  first_looked _ _ (FirstHit a new rest hit alone) =
+      first_arrays a rest space page (small_leaf space page word) new (array_found a space page (small_leaf space page word) hit.found) hit.moved
+
+  pub first_after : (arrays new : List TlbArray) (hits misses : List ℕ) (fills : ℕ) → fills < 2 ^ 64 → IsFirstHit space page word arrays new
+      → tlb_of new (set hits 0 (plus (get_or hits 0 0) 1)) misses fills ≡ tlb_looked space page (tlb_of arrays hits misses fills)
   unfolding tlb_looked
-  front_after _ hits misses fills small (Front a rest hit alone) =
-      let x = front_answer a in
-      let told : answer_of (a ∷ rest) space page ≡ Some x = rw (← hit.found) refl in
-      let arrays_are : a ∷ rest ≡ looked_arrays (Some x) space page (a ∷ rest) = rw told at (first_arrays a rest space page (small_leaf space page word) a hit.found hit.stays) in
+  first_after _ _ hits misses fills small (FirstHit a new rest hit alone) =
+      let x = first_answer a in
+      let found = array_found a space page (small_leaf space page word) hit.found in
+      let told : answer_of (a ∷ rest) space page ≡ Some x = rw (← found) refl in
+      let arrays_are : new ∷ rest ≡ looked_arrays (Some x) space page (a ∷ rest) = rw told at (first_arrays a rest space page (small_leaf space page word) new found hit.moved) in
       let none : count_by (fills_array x.level x.leaf) (a ∷ rest) ≡ 0 = rw (is_self a.spec.level).1 (no_fills x space page rest alone) in
       let same : fills ≡ plus fills (count_by (fills_array x.level x.leaf) (a ∷ rest)) = rw none (omega arith) in
-      let h = first_hits a rest hits hit alone in
-      let m = first_misses a rest misses hit alone in
-      let P : Option Answer → Type 0 = λ o. tlb_of (a ∷ rest) (set hits 0 (plus (get_or hits 0 0) 1)) misses fills ≡ looked_by o space page (tlb_of (a ∷ rest) hits misses fills) in
+      let h = first_hits a rest hits found alone in
+      let m = first_misses a rest misses found alone in
+      let P : Option Answer → Type 0 = λ o. tlb_of (new ∷ rest) (set hits 0 (plus (get_or hits 0 0) 1)) misses fills ≡ looked_by o space page (tlb_of (a ∷ rest) hits misses fills) in
       subst P (sym told)
       (ap (λ (z : List TlbArray). tlb_of z (set hits 0 (plus (get_or hits 0 0) 1)) misses fills) arrays_are
       ∙ ap (λ (z : List ℕ). tlb_of (looked_arrays (Some x) space page (a ∷ rest)) z misses fills) h

@@ -1,8 +1,9 @@
--- A look that the newest leaf of a set of the first array answers; it moves nothing.
+-- A look that a leaf of 4 KiB of the first array answers: it comes to the front of its set, or stands there.
 use Rattle.std.specs.Prelude.{ℕ, suc, ◌≡◌, List, ◌∷◌, map, Some}
 use Rattle.xl_model.specs.declared.address.Order.TheVariants as order
 use Rattle.xl_model.specs.declared.leaf.Leaf.{Leaf}
-use Rattle.xl_model.specs.Tlb.{TlbArray, array_hit}
+use Rattle.xl_model.specs.Recency.{touched}
+use Rattle.xl_model.specs.Tlb.{TlbArray, covers_as, found_as, set_at}
 use Rattle.xl_tlb.specs.Coding.{leaf_with}
 use Rattle.xl_tlb.specs.Hits.{word_touched}
 use Rattle.xl_tlb.specs.Tlbs.{spec_of, NoneBelow}
@@ -11,11 +12,20 @@ use Rattle.xl_tlb.specs.Tlbs.{spec_of, NoneBelow}
 abbrev pub small_leaf : ℕ → ℕ → ℕ → Leaf
 small_leaf space page word = leaf_with space page order.K4 word
 
--- The array hits in a 4 KiB leaf with this word, which is the newest of its set: a touch moves nothing.
-pub record IsFrontHit (space page word : ℕ) (a : TlbArray) : Type 0 where
-  pub found : Some (small_leaf space page word) ≡ array_hit a space page
-  pub stays : a ≡ word_touched space page order.K4 word a
+-- The array finds a 4 KiB leaf with this word, which comes to the front of its set.
+pub record IsTouch (space page word : ℕ) (a new : TlbArray) : Type 0 where
+  pub found : Some (small_leaf space page word) ≡ found_as a space page order.K4
+  pub moved : new ≡ word_touched space page order.K4 word a
 
--- The first of the arrays hits so, and is alone in its level.
+-- The first of the arrays finds such a leaf, and is alone in its level.
+pub data IsFirstHit (space page word : ℕ) : List TlbArray → List TlbArray → Type 0 where
+  FirstHit : (a new : TlbArray) (rest : List TlbArray) (hit : IsTouch space page word a new) (alone : NoneBelow (suc a.spec.level) (map spec_of rest)) → IsFirstHit space page word (a ∷ rest) (new ∷ rest)
+
+-- The array finds a 4 KiB leaf with this word, and a touch of it moves nothing in its set.
+pub record IsFrontHit (space page word : ℕ) (a : TlbArray) : Type 0 where
+  pub found : Some (small_leaf space page word) ≡ found_as a space page order.K4
+  pub stays : touched (covers_as space page order.K4) (set_at a order.K4 page) ≡ set_at a order.K4 page
+
+-- The first of the arrays finds a leaf so, and is alone in its level.
 pub data IsFront (space page word : ℕ) : List TlbArray → Type 0 where
   Front : (a : TlbArray) (rest : List TlbArray) (hit : IsFrontHit space page word a) (alone : NoneBelow (suc a.spec.level) (map spec_of rest)) → IsFront space page word (a ∷ rest)

@@ -1,5 +1,5 @@
 -- Pages that the newest leaves of the first array answer.
-use Rattle.std.specs.Prelude.{ℕ, ◌≡◌, ◌<◌, ◌+◌, ◌*◌, ◌^◌, List, slice_index_or}
+use Rattle.std.specs.Prelude.{ℕ, ◌≡◌, ◌<◌, ◌+◌, ◌*◌, List, slice_index_or}
 use Rattle.xl_model.specs.Tlb.{TlbArray}
 use Rattle.xl_tlb.specs.Fronts.{IsFront}
 use Rattle.xl_tlb.specs.declared.newest.Newest.{Newest}

@@ -4,12 +4,12 @@ ghost use Rattle.std.specs.Prelude.{ℕ, true, ◌==◌, ◌≡◌, ◌<◌, ◌
 ghost use Rattle.xl_model.specs.declared.leaf.Leaf.{Leaf};
 ghost use Rattle.xl_model.specs.Tlb.{answer_of, leaves_in, takes_leaf, array_filled, array_without, is_purged, reaches_leaf};
 ghost use Rattle.xl_tlb.specs.Arrays.{IsFit, InLimits};
-ghost use Rattle.xl_tlb.specs.Fronts.{IsFront};
+ghost use Rattle.xl_tlb.specs.Fronts.{small_leaf, IsFront};
 ghost use Rattle.xl_tlb.specs.Tlbs.{leaf_told, tlb_opening, AreSpecs, IsRising, tlb_looked, tlb_filled, tlb_purged, tlb_fenced};
 
 use crate::any::AnyArray;
 use crate::coding::{Hit, leaf_of};
-use crate::look::{front_in, look_in};
+use crate::look::{look_in, touch_first};
 use arrayvec::ArrayVec;
 use std::alloc::Global;
 use std::marker::Model;
@@ -109,15 +109,23 @@ impl Levels {
         })
     }
 
-    /// The word of a leaf of 4 KiB that the newest leaf of a set of the first array is, where that
-    /// array is alone in its level. None elsewhere.
+    /// Does what `look` does, where a leaf of 4 KiB of the first array answers and that array is alone
+    /// in its level, and gives the leaf's word. None elsewhere; then nothing changes.
     #[inline]
-    pub fn front(&self, space: u16, page: u64) -> Option<u64>
+    pub fn hit_in_first(&mut self, space: u16, page: u64) -> Option<u64>
         requires space { space < 64 }
         requires page { page < 2 ^ 52 }
-        ensures { IfSome result (λ word. IsFront space page word self.now.arrays) }
+        ensures found { IfSome result (λ word.
+            Some (small_leaf space page word) ≡ leaf_told (answer_of self.old.arrays space page)) }
+        ensures after { IfSome result (λ _. self.new ≡ tlb_looked space page self.old) }
+        ensures front { IfSome result (λ word. IsFront space page word self.new.arrays) }
+        ensures none { IfNone result (self.new ≡ self.old) }
     {
-        front_in(&self.arrays, space, page)
+        let Some(word) = touch_first(&mut self.arrays, space, page) else {
+            return None;
+        };
+        self.hits[0] = self.hits[0].wrapping_add(1);
+        Some(word)
     }
 
     /// Looks for a page that the newest leaf of a set of the first array answers, with this word: that

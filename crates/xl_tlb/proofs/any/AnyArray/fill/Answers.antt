@@ -1,6 +1,5 @@
 use Rattle.xl_model.specs.Tlb.{leaves_in_sets}
 use Rattle.xl_tlb.specs.Any.{array_in}
-use Rattle.xl_tlb.specs.Hits.{leaf_hit}
 use Rattle.xl_tlb.proofs.SmallLemmas.{filled-small}
 use Rattle.xl_tlb.proofs.any.AnyArray.fill.Goals as goal
 
