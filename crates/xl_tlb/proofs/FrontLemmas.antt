@@ -11,7 +11,7 @@ use Rattle.xl_model.specs.Tally.{counted}
 use Rattle.xl_model.specs.Tlb.{TlbArray, Answer, answer_of, array_hit, array_touched, covers_as, found_as, set_at, where_taken, set_number, takes_order, hits_at, misses_at, fills_array}
 use Rattle.xl_tlb.specs.Fronts.{small_leaf, IsTouch, IsFirstHit, FirstHit, IsFrontHit, IsFront, Front}
 use Rattle.xl_tlb.specs.Hits.{word_touched}
-use Rattle.xl_tlb.specs.Tlbs.{spec_of, NoneBelow, IsRising, tlb_of, tlb_looked, leaf_told, looked_arrays, looked_by}
+use Rattle.xl_tlb.specs.Tlbs.{spec_of, NoneBelow, hits_up_to, misses_up_to, IsRising, tlb_of, tlb_looked, leaf_told, looked_arrays, looked_by}
 use Rattle.xl_tlb.proofs.LevelLemmas.{first_arrays, spec_touched}
 
 -- what was touched stands in front, and a touch of it moves nothing
@@ -99,16 +99,23 @@ not_down level other l = grind (arith, nat_tests)
 is_self : (level : ℕ) → (nat_le level level ≡ true) × (nat_lt level level ≡ false)
 is_self level = (grind (arith, nat_tests), grind (arith, nat_tests))
 
+module _ (level space page : ℕ) where
+  pub level_hits : (rest : List TlbArray) (ns : List ℕ) → NoneBelow (suc level) (map spec_of rest) → counted (hits_up_to level space page) rest ns ≡ ns
+  level_hits [] ns h = refl
+  level_hits (a ∷ rest) [] h = refl
+  level_hits (a ∷ rest) (n ∷ ns) h = rw (not_up level a.spec.level h.0) (ap (λ (z : List ℕ). n ∷ z) (level_hits rest ns h.1))
+
+  pub level_misses : (rest : List TlbArray) (ns : List ℕ) → NoneBelow (suc level) (map spec_of rest) → counted (misses_up_to level space page) rest ns ≡ ns
+  level_misses [] ns h = refl
+  level_misses (a ∷ rest) [] h = refl
+  level_misses (a ∷ rest) (n ∷ ns) h = rw (not_up level a.spec.level h.0) (ap (λ (z : List ℕ). n ∷ z) (level_misses rest ns h.1))
+
 module _ (x : Answer) (space page : ℕ) where
   no_hits : (rest : List TlbArray) (ns : List ℕ) → NoneBelow (suc x.level) (map spec_of rest) → counted (hits_at (Some x) space page) rest ns ≡ ns
-  no_hits [] ns h = refl
-  no_hits (a ∷ rest) [] h = refl
-  no_hits (a ∷ rest) (n ∷ ns) h = rw (not_up x.level a.spec.level h.0) (ap (λ (z : List ℕ). n ∷ z) (no_hits rest ns h.1))
+  no_hits rest ns h = level_hits x.level space page rest ns h
 
   no_misses : (rest : List TlbArray) (ns : List ℕ) → NoneBelow (suc x.level) (map spec_of rest) → counted (misses_at (Some x) space page) rest ns ≡ ns
-  no_misses [] ns h = refl
-  no_misses (a ∷ rest) [] h = refl
-  no_misses (a ∷ rest) (n ∷ ns) h = rw (not_up x.level a.spec.level h.0) (ap (λ (z : List ℕ). n ∷ z) (no_misses rest ns h.1))
+  no_misses rest ns h = level_misses x.level space page rest ns h
 
   no_fills : (rest : List TlbArray) → NoneBelow (suc x.level) (map spec_of rest) → count_by (fills_array x.level x.leaf) rest ≡ 0
   no_fills [] h = refl
