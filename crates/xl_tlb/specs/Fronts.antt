@@ -1,5 +1,5 @@
 -- A look that a leaf of 4 KiB of the first array answers: it comes to the front of its set, or stands there.
-use Rattle.std.specs.Prelude.{ℕ, suc, ◌≡◌, List, ◌∷◌, map, Some}
+use Rattle.std.specs.Prelude.{ℕ, suc, ◌≡◌, ◌%◌, List, [], ◌∷◌, map, Some}
 use Rattle.xl_model.specs.declared.address.Order.TheVariants as order
 use Rattle.xl_model.specs.declared.leaf.Leaf.{Leaf}
 use Rattle.xl_model.specs.Recency.{touched}
@@ -29,3 +29,12 @@ pub record IsFrontHit (space page word : ℕ) (a : TlbArray) : Type 0 where
 -- The first of the arrays finds a leaf so, and is alone in its level.
 pub data IsFront (space page word : ℕ) : List TlbArray → Type 0 where
   Front : (a : TlbArray) (rest : List TlbArray) (hit : IsFrontHit space page word a) (alone : NoneBelow (suc a.spec.level) (map spec_of rest)) → IsFront space page word (a ∷ rest)
+
+-- The sets of the first array are a multiple of eight, if there is one.
+abbrev pub HasEights : List TlbArray → Type 0
+HasEights [] = Unit {0}
+HasEights (a ∷ rest) = a.spec.sets % 8 ≡ 0
+
+-- Leaves that stand in front still do, but those of pages whose last three bits are these.
+abbrev pub FrontsStay : ℕ → List TlbArray → List TlbArray → Type 0
+FrontsStay place old new = (space page word : ℕ) → (page % 8 ≡ place → ⊥) → IsFront space page word old → IsFront space page word new

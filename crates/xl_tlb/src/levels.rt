@@ -4,12 +4,13 @@ ghost use Rattle.std.specs.Prelude.{ℕ, true, ◌==◌, ◌≡◌, ◌<◌, ◌
 ghost use Rattle.xl_model.specs.declared.leaf.Leaf.{Leaf};
 ghost use Rattle.xl_model.specs.Tlb.{answer_of, leaves_in, takes_leaf, array_filled, array_without, is_purged, reaches_leaf};
 ghost use Rattle.xl_tlb.specs.Arrays.{IsFit, InLimits};
-ghost use Rattle.xl_tlb.specs.Fronts.{small_leaf, IsFront};
+ghost use Rattle.xl_tlb.specs.Fronts.{small_leaf, IsFront, HasEights};
+ghost use Rattle.xl_tlb.specs.Hits.{hit_leaf};
 ghost use Rattle.xl_tlb.specs.Tlbs.{leaf_told, tlb_opening, AreSpecs, IsRising, tlb_looked, tlb_filled, tlb_purged, tlb_fenced};
 
 use crate::any::AnyArray;
-use crate::coding::{Hit, leaf_of};
-use crate::look::{look_in, touch_first};
+use crate::coding::Hit;
+use crate::look::{has_eights, look_in, touch_first};
 use arrayvec::ArrayVec;
 use std::alloc::Global;
 use std::marker::Model;
@@ -139,13 +140,14 @@ impl Levels {
         self.hits[0] = self.hits[0].wrapping_add(1);
     }
 
-    /// Looks for the page in the levels in turn, and gives the leaf that covers it. Touches the array
-    /// that hits, and fills those of lower levels that hold the leaf's order. None where no array hits.
+    /// Looks for the page in the levels in turn, and gives what was hit. Touches the array that hits,
+    /// and fills those of lower levels that hold the leaf's order. None where no array hits.
     #[inline]
-    pub fn look(&mut self, space: u16, page: u64) -> Option<Leaf>
+    pub fn look(&mut self, space: u16, page: u64) -> Option<Hit>
         requires space { space < 64 }
         requires page { page < 2 ^ 52 }
-        ensures found { result ≡ leaf_told (answer_of self.old.arrays space page) }
+        ensures found { hit_leaf space page result
+            ≡ leaf_told (answer_of self.old.arrays space page) }
         ensures after { self.new ≡ tlb_looked space page self.old }
     {
         if self.arrays.is_empty() {
@@ -160,14 +162,10 @@ impl Levels {
         ) {
             Some(found) => {
                 self.fills = self.fills.wrapping_add(found.fills);
-                Some(leaf_of(
-                    space,
-                    page,
-                    Hit {
-                        word: found.word,
-                        order: found.order,
-                    },
-                ))
+                Some(Hit {
+                    word: found.word,
+                    order: found.order,
+                })
             }
             None => None,
         }
@@ -201,6 +199,14 @@ impl Levels {
         ensures after { self.new ≡ tlb_fenced reach self.old }
     {
         fence_each(&mut self.arrays, reach)
+    }
+
+    /// Whether the sets of the first array are a multiple of eight.
+    #[inline]
+    pub fn has_eights(&self) -> bool
+        ensures { result ≡ true → HasEights self.now.arrays }
+    {
+        has_eights(&self.arrays)
     }
 
     /// Whether there are no arrays. Then a look and a fill change nothing.

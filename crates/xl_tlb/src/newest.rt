@@ -1,8 +1,8 @@
 //! Pages that the newest leaves of the first array answered of late.
 
-ghost use Rattle.std.specs.Prelude.{◌≡◌, ◌<◌, ◌^◌, ◌+◌, ◌*◌, List, IfSome};
+ghost use Rattle.std.specs.Prelude.{true, ◌≡◌, ◌<◌, ◌^◌, ◌+◌, ◌*◌, ◌%◌, List, IfSome};
 ghost use Rattle.xl_model.specs.Tlb.{TlbArray};
-ghost use Rattle.xl_tlb.specs.Fronts.{IsFront};
+ghost use Rattle.xl_tlb.specs.Fronts.{IsFront, FrontsStay};
 ghost use Rattle.xl_tlb.specs.Known.{Knows, key_of as key_is};
 
 /// For eight pages at most, the words of the leaves that answer them: each is the newest of its set
@@ -40,6 +40,22 @@ impl Newest {
         ensures { (arrays : List TlbArray) → Knows self.new arrays }
     {
         self.keys = [0; 8];
+    }
+
+    /// What may have lost its front is not known from now on, where leaves of one set came or moved: that
+    /// of the block with this number. Where the sets are a multiple of eight, the pages of the set have
+    /// the block's last three bits, and so one place.
+    #[inline]
+    pub fn forget_block(&mut self, eights: bool, block: u64)
+        ensures { (old new : List TlbArray) → Knows self.old old
+            → (eights ≡ true → FrontsStay (block % 8) old new) → Knows self.new new }
+    {
+        if !eights {
+            self.forget();
+            return;
+        }
+        let place = (block % 8) as usize;
+        self.keys[place] = 0;
     }
 
     /// The word of the leaf that answers the page, where that is known.
