@@ -1,18 +1,19 @@
 -- A look that a leaf of 4 KiB of the first array answers.
-use Rattle.std.proofs.Common.{◌≡◌, ℕ, zero, suc, ◌^◌, ◌<◌, ◌≤◌, Bool, true, false, List, [], ◌∷◌, map, find, get_or, set, count_by, nat_le, nat_lt, Option, Some, refl, sym, ◌∙◌, ap, subst, arith}
+use Rattle.std.proofs.Common.{◌≡◌, ℕ, zero, suc, ◌^◌, ◌<◌, ◌≤◌, ◌+◌, ◌*◌, ◌/◌, ◌%◌, ◌&&◌, Bool, true, false, List, [], ◌∷◌, map, find, take, length, get_or, set, count_by, nat_le, nat_lt, Option, None, Some, refl, sym, ◌∙◌, ap, subst, arith}
 use Rattle.std.proofs.lemmas.Bool.Decides.{nat_tests}
-use Rattle.std.proofs.lemmas.List.{set-get_or}
+use Rattle.std.proofs.lemmas.List.{set-get_or, get_or-set_same}
 use Rattle.xl_model.specs.declared.address.Order.TheVariants as order
 use Rattle.xl_model.specs.declared.leaf.Leaf.{Leaf}
 use Rattle.xl_model.specs.declared.row.TlbSpec.{TlbSpec}
 use Rattle.xl_model.specs.Base.{plus}
-use Rattle.xl_model.specs.Recency.{touched, without_first}
+use Rattle.xl_model.specs.Recency.{touched, with_newest, without_first}
 use Rattle.xl_model.specs.Tally.{counted}
-use Rattle.xl_model.specs.Tlb.{TlbArray, Answer, answer_of, array_hit, array_touched, covers_as, found_as, set_at, where_taken, set_number, takes_order, hits_at, misses_at, fills_array}
-use Rattle.xl_tlb.specs.Fronts.{small_leaf, IsTouch, IsFirstHit, FirstHit, IsFrontHit, IsFront, Front}
+use Rattle.xl_model.specs.Tlb.{TlbArray, Answer, answer_of, array_hit, array_touched, array_filled, filled_where, filled_below, covers_as, found_as, set_at, where_taken, set_number, takes_order, hits_at, misses_at, fills_array}
+use Rattle.xl_tlb.specs.Fronts.{small_leaf, IsTouch, IsFirstHit, FirstHit, IsSecondHit, SecondHit, IsFrontHit, IsFront, Front}
 use Rattle.xl_tlb.specs.Hits.{word_touched}
-use Rattle.xl_tlb.specs.Tlbs.{spec_of, NoneBelow, hits_up_to, misses_up_to, IsRising, tlb_of, tlb_looked, leaf_told, looked_arrays, looked_by}
-use Rattle.xl_tlb.proofs.LevelLemmas.{first_arrays, spec_touched}
+use Rattle.xl_tlb.specs.Tlbs.{spec_of, NoneBelow, hits_up_to, misses_up_to, IsRising, tlb_of, tlb_looked, Told, told, leaf_told, looked_arrays, looked_by}
+use Rattle.xl_tlb.proofs.LevelLemmas.{first_told as first_one, first_arrays, spec_touched, spec_filled, with_one, more_told, more_arrays}
+use Rattle.xl_tlb.proofs.TlbLemmas.{look_after}
 
 -- what was touched stands in front, and a touch of it moves nothing
 meets : (p : Leaf → Bool) (xs : List Leaf) (x : Leaf) → find p xs ≡ Some x → p x ≡ true
@@ -163,3 +164,107 @@ module _ (space page word : ℕ) where
       ∙ ap (λ (z : List ℕ). tlb_of (looked_arrays (Some x) space page (a ∷ rest)) z misses fills) h
       ∙ ap (λ (z : List ℕ). tlb_of (looked_arrays (Some x) space page (a ∷ rest)) (counted (hits_at (Some x) space page) (a ∷ rest) hits) z fills) m
       ∙ ap (λ (n : ℕ). tlb_of (looked_arrays (Some x) space page (a ∷ rest)) (counted (hits_at (Some x) space page) (a ∷ rest) hits) (counted (misses_at (Some x) space page) (a ∷ rest) misses) n) same)
+
+-- a leaf of 4 KiB that is filled stands in front
+small_covers : (space page word : ℕ) → covers_as space page order.K4 (small_leaf space page word) ≡ true
+small_covers space page word = grind (arith, nat_tests)
+
+small_set : (spec : TlbSpec) (page : ℕ) → set_number spec order.K4 (page / 1 * 1) ≡ set_number spec order.K4 page
+small_set spec page = ap (λ (n : ℕ). n / 1 % spec.sets) (omega arith)
+
+front_kept : (width : ℕ) (x : Leaf) (xs : List Leaf) → 0 < width → (ys : List Leaf) × (with_newest width x xs ≡ x ∷ ys)
+front_kept zero x xs some = absurd (omega arith)
+front_kept (suc n) x xs some = (take n xs, refl)
+
+fill_taken : (space page word : ℕ) (a : TlbArray) → set_number a.spec order.K4 page < length a.sets → 0 < a.spec.width → takes_order a.spec order.K4 ≡ true
+    → IsFrontHit space page word (filled_where true (small_leaf space page word) a)
+fill_taken space page word a within some takes =
+    let p : Leaf → Bool = covers_as space page order.K4 in
+    let x : Leaf = small_leaf space page word in
+    let k : ℕ = set_number a.spec order.K4 page in
+    let j : ℕ = set_number a.spec order.K4 (page / 1 * 1) in
+    let same : j ≡ k = small_set a.spec page in
+    let list : List Leaf = with_newest a.spec.width x (get_or a.sets j []) in
+    let f = front_kept a.spec.width x (get_or a.sets j []) some in
+    let now : get_or (set a.sets j list) k [] ≡ x ∷ f.0 =
+    ap (λ (n : ℕ). get_or (set a.sets n list) k []) same ∙ get_or-set_same a.sets k list [] within ∙ f.1 in
+    record {
+      found = rw (takes, now) (front_found p x f.0 (small_covers space page word));
+      stays = rw now (front_stays p x f.0 (small_covers space page word));
+    }
+
+pub fill_front : (space page word : ℕ) (a : TlbArray) → set_number a.spec order.K4 page < length a.sets → 0 < a.spec.width → takes_order a.spec order.K4 ≡ true
+    → IsFrontHit space page word (array_filled (small_leaf space page word) a)
+unfolding array_filled
+fill_front space page word a within some takes =
+    subst (λ (b : Bool). IsFrontHit space page word (filled_where b (small_leaf space page word) a)) (sym takes) (fill_taken space page word a within some takes)
+
+-- a leaf of the second array answers
+less : (x y : ℕ) → suc x ≤ y → (nat_lt x y ≡ true) × (nat_le x y ≡ true)
+less x y l = (grind (arith, nat_tests), grind (arith, nat_tests))
+
+and_false : (b : Bool) → (b && false) ≡ false
+and_false true = refl
+and_false false = refl
+
+none_lower : (level : ℕ) (specs : List TlbSpec) → NoneBelow (suc level) specs → NoneBelow level specs
+none_lower level [] h = tt
+none_lower level (s ∷ specs) h = (let k = h.0 in omega arith, none_lower level specs h.1)
+
+module _ (space page word : ℕ) where
+  second_hits : (a b : TlbArray) (rest : List TlbArray) (ns : List ℕ) → None ≡ array_hit a space page → Some (small_leaf space page word) ≡ array_hit b space page → NoneBelow (suc b.spec.level) (map spec_of rest)
+      → set ns 1 (plus (get_or ns 1 0) 1) ≡ counted (hits_at (Some (first_answer space page word b)) space page) (a ∷ b ∷ rest) ns
+  second_hits a b rest [] missed found alone = refl
+  second_hits a b rest (n ∷ ns) missed found alone =
+      let miss : hits_at (Some (first_answer space page word b)) space page a ≡ false = rw (← missed) (and_false (nat_le a.spec.level b.spec.level)) in
+      rw miss (ap (λ (z : List ℕ). n ∷ z) (first_hits space page word b rest ns found alone))
+
+  second_misses : (a b : TlbArray) (rest : List TlbArray) (ns : List ℕ) → None ≡ array_hit a space page → Some (small_leaf space page word) ≡ array_hit b space page → NoneBelow (suc b.spec.level) (map spec_of rest)
+      → suc a.spec.level ≤ b.spec.level → set ns 0 (plus (get_or ns 0 0) 1) ≡ counted (misses_at (Some (first_answer space page word b)) space page) (a ∷ b ∷ rest) ns
+  second_misses a b rest [] missed found alone below = refl
+  second_misses a b rest (n ∷ ns) missed found alone below =
+      let miss : misses_at (Some (first_answer space page word b)) space page a ≡ true = rw ((less a.spec.level b.spec.level below).1, ← missed) refl in
+      rw miss (ap (λ (z : List ℕ). plus n 1 ∷ z) (first_misses space page word b rest ns found alone))
+
+  -- what such a look tells
+  second_is : (a b new bnew : TlbArray) (rest : List TlbArray) → None ≡ array_hit a space page → takes_order a.spec order.K4 ≡ true → suc a.spec.level ≤ b.spec.level
+      → Some (small_leaf space page word) ≡ array_hit b space page → NoneBelow (suc b.spec.level) (map spec_of rest)
+      → Some (record { leaf = small_leaf space page word; level = b.spec.level; fills = 1 }) ≡ told (answer_of (a ∷ b ∷ rest) space page) (a ∷ b ∷ rest)
+  second_is a b new bnew rest missed takes below found alone =
+      let f : Told = record { leaf = small_leaf space page word; level = b.spec.level; fills = 0 } in
+      let one = first_one b rest space page (small_leaf space page word) found (none_lower b.spec.level (map spec_of rest) alone) in
+      let fills : fills_array b.spec.level (small_leaf space page word) a ≡ true = rw ((less a.spec.level b.spec.level below).0, takes) refl in
+      ap (λ (t : Bool). Some (with_one t f)) (sym fills) ∙ more_told a (b ∷ rest) space page f missed one
+
+  pub second_told : (arrays new : List TlbArray) → IsSecondHit space page word arrays new → Some (small_leaf space page word) ≡ leaf_told (answer_of arrays space page)
+  second_told _ _ (SecondHit a new rest others missed takes alone hit filled front) = rw (← missed) (first_told space page word rest others hit)
+
+  pub second_looked : (arrays new : List TlbArray) → IsSecondHit space page word arrays new → new ≡ looked_arrays (answer_of arrays space page) space page arrays
+  second_looked _ _ (SecondHit a new _ _ missed takes alone (FirstHit b bnew rest touch apart) filled front) =
+      let found = array_found b space page (small_leaf space page word) touch.found in
+      let f : Told = record { leaf = small_leaf space page word; level = b.spec.level; fills = 0 } in
+      let one = first_one b rest space page (small_leaf space page word) found (none_lower b.spec.level (map spec_of rest) apart) in
+      let n : new ≡ filled_below b.spec.level (small_leaf space page word) a = rw (less a.spec.level b.spec.level alone.0).0 filled in
+      more_arrays a (b ∷ rest) space page f new (bnew ∷ rest) missed one n (first_looked space page word (b ∷ rest) (bnew ∷ rest) (FirstHit b bnew rest touch apart))
+
+  pub second_front : (arrays new : List TlbArray) → IsSecondHit space page word arrays new → IsFront space page word new
+  second_front _ _ (SecondHit a new _ _ missed takes alone (FirstHit b bnew rest touch apart) filled front) =
+      let new_is : new.spec ≡ a.spec = ap spec_of filled ∙ spec_filled (small_leaf space page word) a in
+      let b_is : bnew.spec ≡ b.spec = ap spec_of touch.moved ∙ spec_touched space page (small_leaf space page word) b in
+      Front new (bnew ∷ rest) front
+      (subst (λ (s : TlbSpec). NoneBelow (suc s.level) (bnew.spec ∷ map spec_of rest)) (sym new_is)
+      (subst (λ (s : TlbSpec). NoneBelow (suc a.spec.level) (s ∷ map spec_of rest)) (sym b_is) alone))
+
+  pub second_after : (arrays new : List TlbArray) (hits misses : List ℕ) (fills : ℕ) → IsSecondHit space page word arrays new
+      → tlb_of new (set hits 1 (plus (get_or hits 1 0) 1)) (set misses 0 (plus (get_or misses 0 0) 1)) (plus fills 1) ≡ tlb_looked space page (tlb_of arrays hits misses fills)
+  second_after _ _ hits misses fills (SecondHit a new _ _ missed takes alone (FirstHit b bnew rest touch apart) filled front) =
+      let found = array_found b space page (small_leaf space page word) touch.found in
+      let x = first_answer space page word b in
+      let arrays : List TlbArray = a ∷ b ∷ rest in
+      let told : answer_of arrays space page ≡ Some x = rw (← missed, ← found) refl in
+      let h = second_hits a b rest hits missed found apart ∙ ap (λ (o : Option Answer). counted (hits_at o space page) arrays hits) (sym told) in
+      let m = second_misses a b rest misses missed found apart alone.0 ∙ ap (λ (o : Option Answer). counted (misses_at o space page) arrays misses) (sym told) in
+      look_after arrays (new ∷ bnew ∷ rest) hits misses (set hits 1 (plus (get_or hits 1 0) 1)) (set misses 0 (plus (get_or misses 0 0) 1)) fills space page
+      (second_looked (a ∷ b ∷ rest) (new ∷ bnew ∷ rest) (SecondHit a new (b ∷ rest) (bnew ∷ rest) missed takes alone (FirstHit b bnew rest touch apart) filled front)) h m
+      (record { leaf = small_leaf space page word; level = b.spec.level; fills = 1 })
+      (second_is a b new bnew rest missed takes alone.0 found apart)

@@ -1,9 +1,11 @@
 -- A look that a leaf of 4 KiB of the first array answers: it comes to the front of its set, or stands there.
-use Rattle.std.specs.Prelude.{ℕ, suc, ◌≡◌, ◌%◌, List, [], ◌∷◌, map, Some}
+use Rattle.std.specs.Prelude.{ℕ, suc, ◌≡◌, ◌%◌, List, [], ◌∷◌, map, true, None, Some}
 use Rattle.xl_model.specs.declared.address.Order.TheVariants as order
 use Rattle.xl_model.specs.declared.leaf.Leaf.{Leaf}
 use Rattle.xl_model.specs.Recency.{touched}
-use Rattle.xl_model.specs.Tlb.{TlbArray, covers_as, found_as, set_at}
+use Rattle.xl_model.specs.Tlb.{TlbArray, array_filled, array_hit, covers_as, found_as, set_at, takes_order}
+use Rattle.xl_tlb.specs.declared.look.Small.{Small}
+use Rattle.xl_tlb.specs.declared.look.Small.TheVariants as small
 use Rattle.xl_tlb.specs.Coding.{leaf_with}
 use Rattle.xl_tlb.specs.Hits.{word_touched}
 use Rattle.xl_tlb.specs.Tlbs.{spec_of, NoneBelow}
@@ -25,6 +27,16 @@ pub data IsFirstHit (space page word : ℕ) : List TlbArray → List TlbArray �
 pub record IsFrontHit (space page word : ℕ) (a : TlbArray) : Type 0 where
   pub found : Some (small_leaf space page word) ≡ found_as a space page order.K4
   pub stays : touched (covers_as space page order.K4) (set_at a order.K4 page) ≡ set_at a order.K4 page
+
+-- The first of the arrays misses, and is alone in its level; the first of the others finds such a leaf, with which the first is filled.
+pub data IsSecondHit (space page word : ℕ) : List TlbArray → List TlbArray → Type 0 where
+  SecondHit : (a new : TlbArray) (rest others : List TlbArray) (missed : None ≡ array_hit a space page) (takes : takes_order a.spec order.K4 ≡ true) (alone : NoneBelow (suc a.spec.level) (map spec_of rest)) (hit : IsFirstHit space page word rest others) (filled : new ≡ array_filled (small_leaf space page word) a) (front : IsFrontHit space page word new) → IsSecondHit space page word (a ∷ rest) (new ∷ others)
+
+-- What a look for a leaf of 4 KiB tells, and what it leaves.
+abbrev pub IsSmallLook : ℕ → ℕ → Small → List TlbArray → List TlbArray → Type 0
+IsSmallLook space page (small.First word) old new = IsFirstHit space page word old new
+IsSmallLook space page (small.Second word) old new = IsSecondHit space page word old new
+IsSmallLook space page small.Unknown old new = new ≡ old
 
 -- The first of the arrays finds a leaf so, and is alone in its level.
 pub data IsFront (space page word : ℕ) : List TlbArray → Type 0 where

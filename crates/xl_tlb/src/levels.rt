@@ -10,7 +10,7 @@ ghost use Rattle.xl_tlb.specs.Tlbs.{leaf_told, tlb_opening, AreSpecs, IsRising, 
 
 use crate::any::AnyArray;
 use crate::coding::Hit;
-use crate::look::{has_eights, look_in, touch_first};
+use crate::look::{Small, has_eights, look_in, look_small};
 use arrayvec::ArrayVec;
 use std::alloc::Global;
 use std::marker::Model;
@@ -110,10 +110,11 @@ impl Levels {
         })
     }
 
-    /// Does what `look` does, where a leaf of 4 KiB of the first array answers and that array is alone
-    /// in its level, and gives the leaf's word. None elsewhere; then nothing changes.
+    /// Does what `look` does, where a leaf of 4 KiB of the first array or of the second one answers and
+    /// each is alone in its level, and gives the leaf's word: it is the newest of its set of the first
+    /// array then. None elsewhere, and where the first array may hold larger leaves; then nothing changes.
     #[inline]
-    pub fn hit_in_first(&mut self, space: u16, page: u64) -> Option<u64>
+    pub fn hit_small(&mut self, space: u16, page: u64) -> Option<u64>
         requires space { space < 64 }
         requires page { page < 2 ^ 52 }
         ensures found { IfSome result (λ word.
@@ -122,11 +123,19 @@ impl Levels {
         ensures front { IfSome result (λ word. IsFront space page word self.new.arrays) }
         ensures none { IfNone result (self.new ≡ self.old) }
     {
-        let Some(word) = touch_first(&mut self.arrays, space, page) else {
-            return None;
-        };
-        self.hits[0] = self.hits[0].wrapping_add(1);
-        Some(word)
+        match look_small(&mut self.arrays, space, page) {
+            Small::First { word } => {
+                self.hits[0] = self.hits[0].wrapping_add(1);
+                Some(word)
+            }
+            Small::Second { word } => {
+                self.misses[0] = self.misses[0].wrapping_add(1);
+                self.hits[1] = self.hits[1].wrapping_add(1);
+                self.fills = self.fills.wrapping_add(1);
+                Some(word)
+            }
+            Small::Unknown => None,
+        }
     }
 
     /// Looks for a page that the newest leaf of a set of the first array answers, with this word: that

@@ -9,5 +9,5 @@ pub invariant_of-result : goal.invariant_of-result
 invariant_of-result c = record {
   counts = λ less. ap (λ (a : TlbArray). leaves_in_sets a.sets) c.in_ok-array.ensures ∙ none_held c.args.spec.sets;
   smalls = λ none. rw c.in_ok-array.ensures (opened-small c.args.spec.sets);
-  kind = rw c.in_ok-array.ensures (record { levels = refl; by_eight = λ t. grind (arith, nat_tests) });
+  kind = rw c.in_ok-array.ensures (record { levels = refl; takes = refl; by_eight = λ t. grind (arith, nat_tests) });
 }
