@@ -32,10 +32,22 @@ pub record IsFrontHit (space page word : ℕ) (a : TlbArray) : Type 0 where
 pub data IsSecondHit (space page word : ℕ) : List TlbArray → List TlbArray → Type 0 where
   SecondHit : (a new : TlbArray) (rest others : List TlbArray) (missed : None ≡ array_hit a space page) (takes : takes_order a.spec order.K4 ≡ true) (alone : NoneBelow (suc a.spec.level) (map spec_of rest)) (hit : IsFirstHit space page word rest others) (filled : new ≡ array_filled (small_leaf space page word) a) (front : IsFrontHit space page word new) → IsSecondHit space page word (a ∷ rest) (new ∷ others)
 
+-- Each of the arrays misses.
+abbrev pub AllMiss : ℕ → ℕ → List TlbArray → Type 0
+AllMiss space page [] = Unit {0}
+AllMiss space page (a ∷ rest) = (None ≡ array_hit a space page) × AllMiss space page rest
+
+-- If there is one array alone, it has no leaf of 4 KiB that covers the page.
+abbrev pub OneMisses : ℕ → ℕ → List TlbArray → Type 0
+OneMisses space page [] = Unit {0}
+OneMisses space page (a ∷ []) = None ≡ found_as a space page order.K4
+OneMisses space page (a ∷ b ∷ rest) = Unit {0}
+
 -- What a look for a leaf of 4 KiB tells, and what it leaves.
 abbrev pub IsSmallLook : ℕ → ℕ → Small → List TlbArray → List TlbArray → Type 0
 IsSmallLook space page (small.First word) old new = IsFirstHit space page word old new
 IsSmallLook space page (small.Second word) old new = IsSecondHit space page word old new
+IsSmallLook space page small.Nowhere old new = AllMiss space page old × (new ≡ old)
 IsSmallLook space page small.Unknown old new = new ≡ old
 
 -- The first of the arrays finds a leaf so, and is alone in its level.

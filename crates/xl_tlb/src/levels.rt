@@ -1,20 +1,29 @@
 //! The arrays of a row in levels.
 
-ghost use Rattle.std.specs.Prelude.{ℕ, true, ◌==◌, ◌≡◌, ◌<◌, ◌≤◌, ◌^◌, ◌+◌, ◌*◌, length, map, count_by, slice_index_or, Some, IfOk, IfSome, IfNone};
+ghost use Rattle.std.specs.Prelude.{ℕ, true, ◌==◌, ◌≡◌, ◌<◌, ◌≤◌, ◌^◌, ◌+◌, ◌*◌, length, map, count_by, slice_index_or, None, IfOk};
 ghost use Rattle.xl_model.specs.declared.leaf.Leaf.{Leaf};
 ghost use Rattle.xl_model.specs.Tlb.{answer_of, leaves_in, takes_leaf, array_filled, array_without, is_purged, reaches_leaf};
 ghost use Rattle.xl_tlb.specs.Arrays.{IsFit, InLimits};
-ghost use Rattle.xl_tlb.specs.Fronts.{small_leaf, IsFront, HasEights};
+ghost use Rattle.xl_tlb.specs.Answers.{IsAnswered};
+ghost use Rattle.xl_tlb.specs.Fronts.{IsFront, AllMiss, HasEights};
 ghost use Rattle.xl_tlb.specs.Hits.{hit_leaf};
 ghost use Rattle.xl_tlb.specs.Tlbs.{leaf_told, tlb_opening, AreSpecs, IsRising, tlb_looked, tlb_filled, tlb_purged, tlb_fenced};
 
 use crate::any::AnyArray;
 use crate::coding::Hit;
-use crate::look::{Small, has_eights, look_in, look_small};
+use crate::look::{Small, count_misses, has_eights, look_in, look_small};
 use arrayvec::ArrayVec;
 use std::alloc::Global;
 use std::marker::Model;
 use xl_model::{Leaf, NoMemory, Purge, Reach, TlbSpec};
+
+/// What a look for a leaf of 4 KiB told: the leaf's word; or that no array answers; or nothing.
+#[derive(Clone, Copy)]
+pub(crate) enum Answered {
+    Word { word: u64 },
+    Nowhere,
+    Unknown,
+}
 
 /// The arrays of a row in levels, with their counts.
 #[derive(Drop)]
@@ -112,30 +121,38 @@ impl Levels {
 
     /// Does what `look` does, where a leaf of 4 KiB of the first array or of the second one answers and
     /// each is alone in its level, and gives the leaf's word: it is the newest of its set of the first
-    /// array then. None elsewhere, and where the first array may hold larger leaves; then nothing changes.
+    /// array then. Elsewhere nothing changes; what is told then depends on whether larger leaves were held.
     #[inline]
-    pub fn hit_small(&mut self, space: u16, page: u64) -> Option<u64>
+    pub fn hit_small(&mut self, space: u16, page: u64) -> Answered
         requires space { space < 64 }
         requires page { page < 2 ^ 52 }
-        ensures found { IfSome result (λ word.
-            Some (small_leaf space page word) ≡ leaf_told (answer_of self.old.arrays space page)) }
-        ensures after { IfSome result (λ _. self.new ≡ tlb_looked space page self.old) }
-        ensures front { IfSome result (λ word. IsFront space page word self.new.arrays) }
-        ensures none { IfNone result (self.new ≡ self.old) }
+        ensures { IsAnswered space page result self.old self.new }
     {
         match look_small(&mut self.arrays, space, page) {
             Small::First { word } => {
                 self.hits[0] = self.hits[0].wrapping_add(1);
-                Some(word)
+                Answered::Word { word }
             }
             Small::Second { word } => {
                 self.misses[0] = self.misses[0].wrapping_add(1);
                 self.hits[1] = self.hits[1].wrapping_add(1);
                 self.fills = self.fills.wrapping_add(1);
-                Some(word)
+                Answered::Word { word }
             }
-            Small::Unknown => None,
+            Small::Nowhere => Answered::Nowhere,
+            Small::Unknown => Answered::Unknown,
         }
+    }
+
+    /// Looks for a page that no array answers: that counts a miss of each, and changes nothing else.
+    #[inline]
+    pub fn miss(&mut self, space: u16, page: u64)
+        requires { AllMiss space page self.old.arrays }
+        ensures found { None ≡ leaf_told (answer_of self.old.arrays space page) }
+        ensures after { self.new ≡ tlb_looked space page self.old }
+        ensures stays { self.new.arrays ≡ self.old.arrays }
+    {
+        count_misses(&self.arrays, &mut self.misses, space, page);
     }
 
     /// Looks for a page that the newest leaf of a set of the first array answers, with this word: that

@@ -6,4 +6,4 @@ pub returns : goal.returns
 returns c =
     rw c.in-Some.ensures.cases.0 (FirstHit c.in-Some.first.now c.touch_small.new.self c.in-Some.rest.now
     (record { found = c.in-Some-touch_small.ensures.found; moved = c.in-Some-touch_small.ensures.some })
-    (rw c.level.ensures at c.if-not-is_above.ensures refl))
+    (rw c.level.ensures at c.if-not-is_above.ensures.above refl))

@@ -14,30 +14,18 @@ invariant_of-self c =
     rw back (look_kept t.arrays.items new t.hits _ t.misses t.misses t.fills t.fills c.self.invariant c.args.space c.args.page
     (first_looked c.args.space c.args.page c.in-First.word t.arrays.items new hit))
 
-pub returns-in-First-clause-found : goal.returns-in-First-clause-found
-returns-in-First-clause-found c =
-    let t = c.self.inside in
-    let new = c.look_small.new.arrays in
-    let hit : IsFirstHit c.args.space c.args.page c.in-First.word t.arrays.items new = rw c.deref_mut.ensures.value at c.in-First.ensures in
-    rw (← c.self.view_is) (first_told c.args.space c.args.page c.in-First.word t.arrays.items new hit)
-
-pub returns-in-First-clause-after : goal.returns-in-First-clause-after
-returns-in-First-clause-after c =
+pub returns-in-First : goal.returns-in-First
+returns-in-First c =
     let t = c.self.inside in
     let new = c.look_small.new.arrays in
     let hit : IsFirstHit c.args.space c.args.page c.in-First.word t.arrays.items new = rw c.deref_mut.ensures.value at c.in-First.ensures in
     let back : take t.arrays.len (new ++ drop (length new) t.arrays.items) ≡ new =
     written t.arrays.len new t.arrays.items (c.look_small.auto.arrays ∙ ap length c.deref_mut.ensures.value) (sym c.deref_mut.ensures.len ∙ ap length c.deref_mut.ensures.value) in
-    rw (back, ← c.self.view_is) (first_after c.args.space c.args.page c.in-First.word t.arrays.items new t.hits t.misses t.fills c.self.ranges.1.1.1.0.1 hit)
-
-pub returns-in-First-clause-front : goal.returns-in-First-clause-front
-returns-in-First-clause-front c =
-    let t = c.self.inside in
-    let new = c.look_small.new.arrays in
-    let hit : IsFirstHit c.args.space c.args.page c.in-First.word t.arrays.items new = rw c.deref_mut.ensures.value at c.in-First.ensures in
-    let back : take t.arrays.len (new ++ drop (length new) t.arrays.items) ≡ new =
-    written t.arrays.len new t.arrays.items (c.look_small.auto.arrays ∙ ap length c.deref_mut.ensures.value) (sym c.deref_mut.ensures.len ∙ ap length c.deref_mut.ensures.value) in
-    rw back (first_front c.args.space c.args.page c.in-First.word t.arrays.items new hit)
+    rw (back, ← c.self.view_is) (record {
+      found = first_told c.args.space c.args.page c.in-First.word t.arrays.items new hit;
+      after = first_after c.args.space c.args.page c.in-First.word t.arrays.items new t.hits t.misses t.fills c.self.ranges.1.1.1.0.1 hit;
+      front = first_front c.args.space c.args.page c.in-First.word t.arrays.items new hit;
+    })
 
 pub invariant_of-self-in-Second : goal.invariant_of-self-in-Second
 invariant_of-self-in-Second c =
@@ -49,27 +37,15 @@ invariant_of-self-in-Second c =
     rw back (look_kept t.arrays.items new t.hits _ t.misses _ t.fills _ c.self.invariant c.args.space c.args.page
     (second_looked c.args.space c.args.page c.in-Second.word t.arrays.items new hit))
 
-pub returns-in-Second-clause-found : goal.returns-in-Second-clause-found
-returns-in-Second-clause-found c =
-    let t = c.self.inside in
-    let new = c.look_small.new.arrays in
-    let hit : IsSecondHit c.args.space c.args.page c.in-Second.word t.arrays.items new = rw c.deref_mut.ensures.value at c.in-Second.ensures in
-    rw (← c.self.view_is) (second_told c.args.space c.args.page c.in-Second.word t.arrays.items new hit)
-
-pub returns-in-Second-clause-after : goal.returns-in-Second-clause-after
-returns-in-Second-clause-after c =
+pub returns-in-Second : goal.returns-in-Second
+returns-in-Second c =
     let t = c.self.inside in
     let new = c.look_small.new.arrays in
     let hit : IsSecondHit c.args.space c.args.page c.in-Second.word t.arrays.items new = rw c.deref_mut.ensures.value at c.in-Second.ensures in
     let back : take t.arrays.len (new ++ drop (length new) t.arrays.items) ≡ new =
     written t.arrays.len new t.arrays.items (c.look_small.auto.arrays ∙ ap length c.deref_mut.ensures.value) (sym c.deref_mut.ensures.len ∙ ap length c.deref_mut.ensures.value) in
-    rw (back, ← c.self.view_is) (second_after c.args.space c.args.page c.in-Second.word t.arrays.items new t.hits t.misses t.fills hit)
-
-pub returns-in-Second-clause-front : goal.returns-in-Second-clause-front
-returns-in-Second-clause-front c =
-    let t = c.self.inside in
-    let new = c.look_small.new.arrays in
-    let hit : IsSecondHit c.args.space c.args.page c.in-Second.word t.arrays.items new = rw c.deref_mut.ensures.value at c.in-Second.ensures in
-    let back : take t.arrays.len (new ++ drop (length new) t.arrays.items) ≡ new =
-    written t.arrays.len new t.arrays.items (c.look_small.auto.arrays ∙ ap length c.deref_mut.ensures.value) (sym c.deref_mut.ensures.len ∙ ap length c.deref_mut.ensures.value) in
-    rw back (second_front c.args.space c.args.page c.in-Second.word t.arrays.items new hit)
+    rw (back, ← c.self.view_is) (record {
+      found = second_told c.args.space c.args.page c.in-Second.word t.arrays.items new hit;
+      after = second_after c.args.space c.args.page c.in-Second.word t.arrays.items new t.hits t.misses t.fills hit;
+      front = second_front c.args.space c.args.page c.in-Second.word t.arrays.items new hit;
+    })
