@@ -13,7 +13,7 @@ use Rattle.xl_tlb.specs.Fronts.{small_leaf, IsTouch, IsFirstHit, FirstHit, IsSec
 use Rattle.xl_tlb.specs.Hits.{word_touched}
 use Rattle.xl_tlb.specs.Tlbs.{spec_of, NoneBelow, hits_up_to, misses_up_to, IsRising, tlb_of, tlb_looked, Told, told, leaf_told, looked_arrays, looked_by}
 use Rattle.xl_tlb.proofs.LevelLemmas.{first_told as first_one, first_arrays, spec_touched, spec_filled, with_one, more_told, more_arrays}
-use Rattle.xl_tlb.proofs.TlbLemmas.{look_after}
+use Rattle.xl_tlb.proofs.TlbLemmas.{look_after, specs_filled}
 
 -- what was touched stands in front, and a touch of it moves nothing
 meets : (p : Leaf → Bool) (xs : List Leaf) (x : Leaf) → find p xs ≡ Some x → p x ≡ true
@@ -268,3 +268,12 @@ module _ (space page word : ℕ) where
       (second_looked (a ∷ b ∷ rest) (new ∷ bnew ∷ rest) (SecondHit a new (b ∷ rest) (bnew ∷ rest) missed takes alone (FirstHit b bnew rest touch apart) filled front)) h m
       (record { leaf = small_leaf space page word; level = b.spec.level; fills = 1 })
       (second_is a b new bnew rest missed takes alone.0 found apart)
+
+-- a fill puts the leaf in front of the first array
+pub filled_front : (space page word : ℕ) (a new : TlbArray) (rest others : List TlbArray) → new ≡ array_filled (small_leaf space page word) a → others ≡ map (array_filled (small_leaf space page word)) rest
+    → IsFrontHit space page word new → NoneBelow (suc a.spec.level) (map spec_of rest) → IsFront space page word (new ∷ others)
+filled_front space page word a new rest others first more hit alone =
+    let new_is : new.spec ≡ a.spec = ap spec_of first ∙ spec_filled (small_leaf space page word) a in
+    let rest_is : map spec_of others ≡ map spec_of rest = ap (λ (z : List TlbArray). map spec_of z) more ∙ specs_filled (small_leaf space page word) rest in
+    Front new others hit
+    (subst (λ (s : TlbSpec). NoneBelow (suc s.level) (map spec_of others)) (sym new_is) (subst (λ (z : List TlbSpec). NoneBelow (suc a.spec.level) z) (sym rest_is) alone))

@@ -1,5 +1,5 @@
 -- Leaves in front that stay there where one set of the first array changes.
-use Rattle.std.proofs.Common.{◌≡◌, ◌≢◌, ℕ, suc, ◌/◌, ◌%◌, Bool, true, false, nat_lt, cond, List, [], ◌∷◌, map, find, get_or, Option, None, Some, refl, sym, ◌∙◌, ap, subst, arith}
+use Rattle.std.proofs.Common.{◌≡◌, ◌≢◌, ℕ, suc, ◌*◌, ◌/◌, ◌%◌, Bool, true, false, nat_lt, cond, List, [], ◌∷◌, map, find, get_or, Option, None, Some, refl, sym, ◌∙◌, ap, subst, arith}
 use Rattle.std.proofs.lemmas.List.{get_or-set_other}
 use Rattle.std.proofs.lemmas.Nat.Gcd.{dvd_of_mod-eq-zero}
 use Rattle.std.proofs.Math.Nat.{mod-mod_of_dvd}
@@ -135,3 +135,8 @@ filled_stays leaf (a ∷ rest) eights =
 pub fill_stays : (leaf : Leaf) (t : TlbState) → HasEights t.arrays → FrontsStay (leaf.first / pages_of leaf.order % 8) t.arrays (tlb_filled leaf t).arrays
 unfolding tlb_filled arrays_filled
 fill_stays leaf t eights = filled_stays leaf t.arrays eights
+
+pub small_fill_stays : (space page word : ℕ) (t : TlbState) → HasEights t.arrays → FrontsStay (page % 8) t.arrays (tlb_filled (small_leaf space page word) t).arrays
+small_fill_stays space page word t eights =
+    let one : page / 1 * 1 / 1 ≡ page = omega arith in
+    subst (λ (n : ℕ). FrontsStay (n % 8) t.arrays (tlb_filled (small_leaf space page word) t).arrays) one (fill_stays (small_leaf space page word) t eights)

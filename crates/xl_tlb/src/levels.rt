@@ -5,13 +5,13 @@ ghost use Rattle.xl_model.specs.declared.leaf.Leaf.{Leaf};
 ghost use Rattle.xl_model.specs.Tlb.{answer_of, leaves_in, takes_leaf, array_filled, array_without, is_purged, reaches_leaf};
 ghost use Rattle.xl_tlb.specs.Arrays.{IsFit, InLimits};
 ghost use Rattle.xl_tlb.specs.Answers.{IsAnswered};
-ghost use Rattle.xl_tlb.specs.Fronts.{IsFront, AllMiss, HasEights};
+ghost use Rattle.xl_tlb.specs.Fronts.{small_leaf, IsFront, AllMiss, HasEights};
 ghost use Rattle.xl_tlb.specs.Hits.{hit_leaf};
-ghost use Rattle.xl_tlb.specs.Tlbs.{leaf_told, tlb_opening, AreSpecs, IsRising, tlb_looked, tlb_filled, tlb_purged, tlb_fenced};
+ghost use Rattle.xl_tlb.specs.Tlbs.{spec_of, leaf_told, tlb_opening, AreSpecs, IsRising, tlb_looked, tlb_filled, tlb_purged, tlb_fenced};
 
 use crate::any::AnyArray;
 use crate::coding::Hit;
-use crate::look::{Small, count_misses, has_eights, look_in, look_small};
+use crate::look::{Small, count_misses, has_eights, is_above, look_in, look_small};
 use arrayvec::ArrayVec;
 use std::alloc::Global;
 use std::marker::Model;
@@ -63,6 +63,66 @@ fn fill_each(arrays: &mut [AnyArray], leaf: &Leaf) -> u64
         return others + 1;
     }
     others
+}
+
+/// What a fill of a leaf of 4 KiB did: how many arrays take it, and whether it is known to be the newest
+/// of its set of the first array, and that alone in its level.
+#[derive(Clone, Copy)]
+struct SmallFill {
+    fills: u64,
+    front: bool,
+}
+
+/// Fills each array that takes leaves of 4 KiB with this one: how many do.
+#[tactic(auto, using(crate::proofs::TlbLemmas::count_first))]
+fn fill_small_each(arrays: &mut [AnyArray], space: u16, page: u64, word: u64) -> u64
+    requires space { space < 64 }
+    requires page { page < 2 ^ 52 }
+    ensures fills { result ≡ count_by (takes_leaf (small_leaf space page word)) arrays.old }
+    ensures arrays { arrays.new ≡ map (array_filled (small_leaf space page word)) arrays.old }
+{
+    let Some((first, rest)) = arrays.split_first_mut() else {
+        return 0;
+    };
+    let others = fill_small_each(rest, space, page, word);
+    let taken = first.takes_small();
+    first.fill_small(space, page, word);
+    if taken {
+        return others + 1;
+    }
+    others
+}
+
+/// Does what `fill_small_each` does, and tells whether the leaf is in front.
+#[tactic(auto, using(crate::proofs::TlbLemmas::count_first))]
+fn fill_small_in(arrays: &mut [AnyArray], space: u16, page: u64, word: u64) -> SmallFill
+    requires space { space < 64 }
+    requires page { page < 2 ^ 52 }
+    requires rising { IsRising (map spec_of arrays.old) }
+    ensures fills { result.fills ≡ count_by (takes_leaf (small_leaf space page word)) arrays.old }
+    ensures arrays { arrays.new ≡ map (array_filled (small_leaf space page word)) arrays.old }
+    ensures front { result.front ≡ true → IsFront space page word arrays.new }
+{
+    let Some((first, rest)) = arrays.split_first_mut() else {
+        return SmallFill {
+            fills: 0,
+            front: false,
+        };
+    };
+    let alone = is_above(rest, first.level());
+    let taken = first.takes_small();
+    first.fill_small(space, page, word);
+    let others = fill_small_each(rest, space, page, word);
+    if !taken {
+        return SmallFill {
+            fills: others,
+            front: false,
+        };
+    }
+    SmallFill {
+        fills: others + 1,
+        front: alone,
+    }
 }
 
 /// Purges each array: how many items left.
@@ -207,6 +267,20 @@ impl Levels {
         }
         let fills = fill_each(&mut self.arrays, &leaf);
         self.fills = self.fills.wrapping_add(fills);
+    }
+
+    /// Puts a leaf of 4 KiB into the arrays of every level that hold such leaves. Whether it is known to be
+    /// the newest of its set of the first array, and that alone in its level.
+    #[inline]
+    pub fn fill_small(&mut self, space: u16, page: u64, word: u64) -> bool
+        requires space { space < 64 }
+        requires page { page < 2 ^ 52 }
+        ensures after { self.new ≡ tlb_filled (small_leaf space page word) self.old }
+        ensures front { result ≡ true → IsFront space page word self.new.arrays }
+    {
+        let filled = fill_small_in(&mut self.arrays, space, page, word);
+        self.fills = self.fills.wrapping_add(filled.fills);
+        filled.front
     }
 
     /// Removes what a purge takes in all levels at a change of this leaf, and gives how many leaves left.
