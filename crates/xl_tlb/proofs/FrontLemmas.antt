@@ -1,50 +1,87 @@
--- A look that the newest leaf of a set of the first array answers.
-use Rattle.std.proofs.Common.{◌≡◌, ℕ, suc, ◌^◌, ◌<◌, ◌≤◌, ◌==◌, true, false, List, [], ◌∷◌, map, find, get_or, set, count_by, nat_le, nat_lt, Option, Some, refl, sym, ◌∙◌, ap, subst, arith}
+-- A look that a leaf of 4 KiB of the first array answers.
+use Rattle.std.proofs.Common.{◌≡◌, ℕ, zero, suc, ◌^◌, ◌<◌, ◌≤◌, ◌*◌, ◌/◌, ◌%◌, ◌&&◌, Bool, true, false, List, [], ◌∷◌, map, find, take, length, get_or, set, count_by, nat_le, nat_lt, Option, None, Some, refl, sym, ◌∙◌, ap, subst, arith}
 use Rattle.std.proofs.lemmas.Bool.Decides.{nat_tests}
-use Rattle.std.proofs.lemmas.List.{set-get_or}
+use Rattle.std.proofs.lemmas.List.{set-get_or, get_or-set_same}
 use Rattle.xl_model.specs.declared.address.Order.TheVariants as order
+use Rattle.xl_model.specs.declared.leaf.Leaf.{Leaf}
 use Rattle.xl_model.specs.declared.row.TlbSpec.{TlbSpec}
 use Rattle.xl_model.specs.Base.{plus}
-use Rattle.xl_model.specs.Recency.{touched}
+use Rattle.xl_model.specs.Recency.{touched, with_newest, without_first}
 use Rattle.xl_model.specs.Tally.{counted}
-use Rattle.xl_model.specs.Tlb.{TlbArray, Answer, answer_of, array_hit, found_as, set_number, takes_order, hits_at, misses_at, fills_array}
-use Rattle.xl_recency.specs.declared.item.Item.{Item}
-use Rattle.xl_tlb.specs.Coding.{tag_of, has_tag, is_item}
-use Rattle.xl_tlb.specs.Fronts.{small_leaf, IsFrontHit, IsFront, Front}
-use Rattle.xl_tlb.specs.Tlbs.{spec_of, NoneBelow, IsRising, tlb_of, tlb_looked, leaf_told, looked_arrays, looked_by}
-use Rattle.xl_tlb.proofs.LookLemmas.{array_of, look_found, look_moved}
-use Rattle.xl_tlb.proofs.LevelLemmas.{first_arrays}
+use Rattle.xl_model.specs.Tlb.{TlbArray, Answer, answer_of, array_hit, array_touched, array_filled, filled_where, filled_below, covers_as, found_as, set_at, where_taken, set_number, takes_order, hits_at, misses_at, fills_array}
+use Rattle.xl_tlb.specs.Fronts.{small_leaf, IsTouch, IsFirstHit, FirstHit, IsSecondHit, SecondHit, IsFrontHit, IsFront, Front}
+use Rattle.xl_tlb.specs.Hits.{word_touched}
+use Rattle.xl_tlb.specs.Tlbs.{spec_of, NoneBelow, hits_up_to, misses_up_to, IsRising, tlb_of, tlb_looked, Told, told, leaf_told, looked_arrays, looked_by}
+use Rattle.xl_tlb.proofs.LevelLemmas.{first_told as first_one, first_arrays, spec_touched, spec_filled, with_one, more_told, more_arrays}
+use Rattle.xl_tlb.proofs.TlbLemmas.{look_after, specs_filled}
 
--- the newest item of a list, where it has a tag
-newest_found : (tag : ℕ) (xs : List Item) (x : Item) → Some x ≡ find is_item xs → (x.tag == tag) ≡ true → Some x ≡ find (has_tag tag) xs
-newest_found tag [] x e t = cc
-newest_found tag (y ∷ xs) x e t =
-    let w : x ≡ y = cc in
-    let u : has_tag tag y ≡ true = ap (has_tag tag) (sym w) ∙ t in
-    rw u (ap Some w)
+-- what was touched stands in front, and a touch of it moves nothing
+meets : (p : Leaf → Bool) (xs : List Leaf) (x : Leaf) → find p xs ≡ Some x → p x ≡ true
+meets p [] x e = cc
+meets p (y ∷ xs) x e = go (p y) refl (λ h. meets p xs x h)
+  where
+    go : (b : Bool) → p y ≡ b → (find p xs ≡ Some x → p x ≡ true) → p x ≡ true
+    go true t more = let v : Some y ≡ Some x = rw t at e in let w : y ≡ x = cc in ap p (sym w) ∙ t
+    go false t more = more (rw t at e)
 
-newest_stays : (tag : ℕ) (xs : List Item) (x : Item) → Some x ≡ find is_item xs → (x.tag == tag) ≡ true → touched (has_tag tag) xs ≡ xs
-newest_stays tag [] x e t = cc
-newest_stays tag (y ∷ xs) x e t =
-    let w : x ≡ y = cc in
-    let u : has_tag tag y ≡ true = ap (has_tag tag) (sym w) ∙ t in
-    rw u refl
+front_of : (p : Leaf → Bool) (xs : List Leaf) (x : Leaf) → Some x ≡ find p xs → touched p xs ≡ x ∷ without_first p xs
+front_of p xs x e = rw (← e) refl
 
-module _ (spec : TlbSpec) (sets : List (List Item)) (space page : ℕ) (small : space < 64) where
-  pub front_hit : (x : Item) → takes_order spec order.K4 ≡ true → Some x ≡ find is_item (get_or sets (set_number spec order.K4 page) []) → (x.tag == tag_of space page order.K4) ≡ true
-      → IsFrontHit space page x.word (array_of spec sets)
-  unfolding array_hit
-  front_hit x takes e t =
-      let k = set_number spec order.K4 page in
-      let tag = tag_of space page order.K4 in
-      let f : Some (small_leaf space page x.word) ≡ found_as (array_of spec sets) space page order.K4 =
-      look_found spec sets space page order.K4 small x takes (newest_found tag (get_or sets k []) x e t) in
-      let same : sets ≡ set sets k (touched (has_tag tag) (get_or sets k [])) =
-      sym (set-get_or sets k []) ∙ ap (λ (z : List Item). set sets k z) (sym (newest_stays tag (get_or sets k []) x e t)) in
+front_found : (p : Leaf → Bool) (x : Leaf) (xs : List Leaf) → p x ≡ true → Some x ≡ find p (x ∷ xs)
+front_found p x xs t = rw t refl
+
+front_stays : (p : Leaf → Bool) (x : Leaf) (xs : List Leaf) → p x ≡ true → touched p (x ∷ xs) ≡ x ∷ xs
+front_stays p x xs t = rw t refl
+
+-- a set in which a leaf was found is there
+set_there : (p : Leaf → Bool) (x : Leaf) (sets : List (List Leaf)) (k : ℕ) (ys : List Leaf) → Some x ≡ find p (get_or sets k []) → get_or (set sets k ys) k [] ≡ ys
+set_there p x [] zero ys e = cc
+set_there p x [] (suc k) ys e = cc
+set_there p x (s ∷ sets) zero ys e = refl
+set_there p x (s ∷ sets) (suc k) ys e = set_there p x sets k ys e
+
+where_found : (b : Bool) (o : Option Leaf) (x : Leaf) → Some x ≡ where_taken b o → (b ≡ true) × (Some x ≡ o)
+where_found true o x e = (refl, e)
+where_found false o x e = cc
+
+module _ (space page word : ℕ) where
+  -- the array after a touch
+  touch_front : (a : TlbArray) → Some (small_leaf space page word) ≡ found_as a space page order.K4 → IsFrontHit space page word (word_touched space page order.K4 word a)
+  unfolding array_touched
+  touch_front a e =
+      let p : Leaf → Bool = covers_as space page order.K4 in
+      let x : Leaf = small_leaf space page word in
+      let k : ℕ = set_number a.spec order.K4 page in
+      let old : List Leaf = set_at a order.K4 page in
+      let f = where_found (takes_order a.spec order.K4) (find p old) x e in
+      let found : Some x ≡ find p old = f.1 in
+      let met : p x ≡ true = meets p old x (sym found) in
+      let now : get_or (set a.sets k (touched p old)) k [] ≡ x ∷ without_first p old = set_there p x a.sets k (touched p old) found ∙ front_of p old x found in
       record {
-        found = rw (← f) refl;
-        stays = look_moved spec sets space page order.K4 small sets x.word same;
+        found = rw (f.0, now) (front_found p x (without_first p old) met);
+        stays = rw now (front_stays p x (without_first p old) met);
       }
+
+  pub hit_front : (a new : TlbArray) → IsTouch space page word a new → IsFrontHit space page word new
+  hit_front a new hit = subst (IsFrontHit space page word) (sym hit.moved) (touch_front a hit.found)
+
+  pub first_front : (arrays new : List TlbArray) → IsFirstHit space page word arrays new → IsFront space page word new
+  first_front _ _ (FirstHit a new rest hit alone) = Front new rest (hit_front a new hit) (rw hit.moved (alone_after a rest alone))
+    where
+      alone_after : (a : TlbArray) (rest : List TlbArray) → NoneBelow (suc a.spec.level) (map spec_of rest) → NoneBelow (suc (word_touched space page order.K4 word a).spec.level) (map spec_of rest)
+      alone_after a rest alone = rw (spec_touched space page (small_leaf space page word) a) alone
+
+  -- a leaf in front is touched, and nothing moves
+  pub front_first : (arrays : List TlbArray) → IsFront space page word arrays → IsFirstHit space page word arrays arrays
+  unfolding array_touched
+  front_first _ (Front a rest hit alone) =
+      let same : a ≡ word_touched space page order.K4 word a =
+      ap (λ (z : List (List Leaf)). record a { sets = z }) (sym (set-get_or a.sets (set_number a.spec order.K4 page) []) ∙ ap (λ (z : List Leaf). set a.sets (set_number a.spec order.K4 page) z) (sym hit.stays)) in
+      FirstHit a a rest (record { found = hit.found; moved = same }) alone
+
+pub array_found : (a : TlbArray) (space page : ℕ) (leaf : Leaf) → Some leaf ≡ found_as a space page order.K4 → Some leaf ≡ array_hit a space page
+unfolding array_hit
+array_found a space page leaf e = rw (← e) refl
 
 above : (level other : ℕ) (specs : List TlbSpec) → level < other → NoneBelow other specs → NoneBelow (suc level) specs
 above level other [] l h = tt
@@ -63,55 +100,180 @@ not_down level other l = grind (arith, nat_tests)
 is_self : (level : ℕ) → (nat_le level level ≡ true) × (nat_lt level level ≡ false)
 is_self level = (grind (arith, nat_tests), grind (arith, nat_tests))
 
+module _ (level space page : ℕ) where
+  pub level_hits : (rest : List TlbArray) (ns : List ℕ) → NoneBelow (suc level) (map spec_of rest) → counted (hits_up_to level space page) rest ns ≡ ns
+  level_hits [] ns h = refl
+  level_hits (a ∷ rest) [] h = refl
+  level_hits (a ∷ rest) (n ∷ ns) h = rw (not_up level a.spec.level h.0) (ap (λ (z : List ℕ). n ∷ z) (level_hits rest ns h.1))
+
+  pub level_misses : (rest : List TlbArray) (ns : List ℕ) → NoneBelow (suc level) (map spec_of rest) → counted (misses_up_to level space page) rest ns ≡ ns
+  level_misses [] ns h = refl
+  level_misses (a ∷ rest) [] h = refl
+  level_misses (a ∷ rest) (n ∷ ns) h = rw (not_up level a.spec.level h.0) (ap (λ (z : List ℕ). n ∷ z) (level_misses rest ns h.1))
+
 module _ (x : Answer) (space page : ℕ) where
   no_hits : (rest : List TlbArray) (ns : List ℕ) → NoneBelow (suc x.level) (map spec_of rest) → counted (hits_at (Some x) space page) rest ns ≡ ns
-  no_hits [] ns h = refl
-  no_hits (a ∷ rest) [] h = refl
-  no_hits (a ∷ rest) (n ∷ ns) h = rw (not_up x.level a.spec.level h.0) (ap (λ (z : List ℕ). n ∷ z) (no_hits rest ns h.1))
+  no_hits rest ns h = level_hits x.level space page rest ns h
 
   no_misses : (rest : List TlbArray) (ns : List ℕ) → NoneBelow (suc x.level) (map spec_of rest) → counted (misses_at (Some x) space page) rest ns ≡ ns
-  no_misses [] ns h = refl
-  no_misses (a ∷ rest) [] h = refl
-  no_misses (a ∷ rest) (n ∷ ns) h = rw (not_up x.level a.spec.level h.0) (ap (λ (z : List ℕ). n ∷ z) (no_misses rest ns h.1))
+  no_misses rest ns h = level_misses x.level space page rest ns h
 
   no_fills : (rest : List TlbArray) → NoneBelow (suc x.level) (map spec_of rest) → count_by (fills_array x.level x.leaf) rest ≡ 0
   no_fills [] h = refl
   no_fills (a ∷ rest) h = rw (not_down x.level a.spec.level h.0) (no_fills rest h.1)
 
 module _ (space page word : ℕ) where
-  pub front_told : (arrays : List TlbArray) → IsFront space page word arrays → Some (small_leaf space page word) ≡ leaf_told (answer_of arrays space page)
-  front_told _ (Front a rest hit alone) = rw (← hit.found) refl
+  pub first_told : (arrays new : List TlbArray) → IsFirstHit space page word arrays new → Some (small_leaf space page word) ≡ leaf_told (answer_of arrays space page)
+  first_told _ _ (FirstHit a new rest hit alone) = rw (← array_found a space page (small_leaf space page word) hit.found) refl
 
   -- what the first array answers
-  abbrev front_answer : TlbArray → Answer
-  front_answer a = record { leaf = small_leaf space page word; level = a.spec.level }
+  abbrev first_answer : TlbArray → Answer
+  first_answer a = record { leaf = small_leaf space page word; level = a.spec.level }
 
-  first_hits : (a : TlbArray) (rest : List TlbArray) (ns : List ℕ) → IsFrontHit space page word a → NoneBelow (suc a.spec.level) (map spec_of rest)
-      → set ns 0 (plus (get_or ns 0 0) 1) ≡ counted (hits_at (Some (front_answer a)) space page) (a ∷ rest) ns
+  first_hits : (a : TlbArray) (rest : List TlbArray) (ns : List ℕ) → Some (small_leaf space page word) ≡ array_hit a space page → NoneBelow (suc a.spec.level) (map spec_of rest)
+      → set ns 0 (plus (get_or ns 0 0) 1) ≡ counted (hits_at (Some (first_answer a)) space page) (a ∷ rest) ns
   first_hits a rest [] hit alone = refl
   first_hits a rest (n ∷ ns) hit alone =
-      rw (← hit.found, (is_self a.spec.level).0) (ap (λ (z : List ℕ). plus n 1 ∷ z) (sym (no_hits (front_answer a) space page rest ns alone)))
+      rw (← hit, (is_self a.spec.level).0) (ap (λ (z : List ℕ). plus n 1 ∷ z) (sym (no_hits (first_answer a) space page rest ns alone)))
 
-  first_misses : (a : TlbArray) (rest : List TlbArray) (ns : List ℕ) → IsFrontHit space page word a → NoneBelow (suc a.spec.level) (map spec_of rest)
-      → ns ≡ counted (misses_at (Some (front_answer a)) space page) (a ∷ rest) ns
+  first_misses : (a : TlbArray) (rest : List TlbArray) (ns : List ℕ) → Some (small_leaf space page word) ≡ array_hit a space page → NoneBelow (suc a.spec.level) (map spec_of rest)
+      → ns ≡ counted (misses_at (Some (first_answer a)) space page) (a ∷ rest) ns
   first_misses a rest [] hit alone = refl
   first_misses a rest (n ∷ ns) hit alone =
-      rw (← hit.found, (is_self a.spec.level).0) (ap (λ (z : List ℕ). n ∷ z) (sym (no_misses (front_answer a) space page rest ns alone)))
+      rw (← hit, (is_self a.spec.level).0) (ap (λ (z : List ℕ). n ∷ z) (sym (no_misses (first_answer a) space page rest ns alone)))
 
-  pub front_after : (arrays : List TlbArray) (hits misses : List ℕ) (fills : ℕ) → fills < 2 ^ 64 → IsFront space page word arrays
-      → tlb_of arrays (set hits 0 (plus (get_or hits 0 0) 1)) misses fills ≡ tlb_looked space page (tlb_of arrays hits misses fills)
+  pub first_looked : (arrays new : List TlbArray) → IsFirstHit space page word arrays new → new ≡ looked_arrays (answer_of arrays space page) space page arrays
+  first_looked _ _ (FirstHit a new rest hit alone) =
+      first_arrays a rest space page (small_leaf space page word) new (array_found a space page (small_leaf space page word) hit.found) hit.moved
+
+  pub first_after : (arrays new : List TlbArray) (hits misses : List ℕ) (fills : ℕ) → fills < 2 ^ 64 → IsFirstHit space page word arrays new
+      → tlb_of new (set hits 0 (plus (get_or hits 0 0) 1)) misses fills ≡ tlb_looked space page (tlb_of arrays hits misses fills)
   unfolding tlb_looked
-  front_after _ hits misses fills small (Front a rest hit alone) =
-      let x = front_answer a in
-      let told : answer_of (a ∷ rest) space page ≡ Some x = rw (← hit.found) refl in
-      let arrays_are : a ∷ rest ≡ looked_arrays (Some x) space page (a ∷ rest) = rw told at (first_arrays a rest space page (small_leaf space page word) a hit.found hit.stays) in
+  first_after _ _ hits misses fills small (FirstHit a new rest hit alone) =
+      let x = first_answer a in
+      let found = array_found a space page (small_leaf space page word) hit.found in
+      let told : answer_of (a ∷ rest) space page ≡ Some x = rw (← found) refl in
+      let arrays_are : new ∷ rest ≡ looked_arrays (Some x) space page (a ∷ rest) = rw told at (first_arrays a rest space page (small_leaf space page word) new found hit.moved) in
       let none : count_by (fills_array x.level x.leaf) (a ∷ rest) ≡ 0 = rw (is_self a.spec.level).1 (no_fills x space page rest alone) in
       let same : fills ≡ plus fills (count_by (fills_array x.level x.leaf) (a ∷ rest)) = rw none (omega arith) in
-      let h = first_hits a rest hits hit alone in
-      let m = first_misses a rest misses hit alone in
-      let P : Option Answer → Type 0 = λ o. tlb_of (a ∷ rest) (set hits 0 (plus (get_or hits 0 0) 1)) misses fills ≡ looked_by o space page (tlb_of (a ∷ rest) hits misses fills) in
+      let h = first_hits a rest hits found alone in
+      let m = first_misses a rest misses found alone in
+      let P : Option Answer → Type 0 = λ o. tlb_of (new ∷ rest) (set hits 0 (plus (get_or hits 0 0) 1)) misses fills ≡ looked_by o space page (tlb_of (a ∷ rest) hits misses fills) in
       subst P (sym told)
       (ap (λ (z : List TlbArray). tlb_of z (set hits 0 (plus (get_or hits 0 0) 1)) misses fills) arrays_are
       ∙ ap (λ (z : List ℕ). tlb_of (looked_arrays (Some x) space page (a ∷ rest)) z misses fills) h
       ∙ ap (λ (z : List ℕ). tlb_of (looked_arrays (Some x) space page (a ∷ rest)) (counted (hits_at (Some x) space page) (a ∷ rest) hits) z fills) m
       ∙ ap (λ (n : ℕ). tlb_of (looked_arrays (Some x) space page (a ∷ rest)) (counted (hits_at (Some x) space page) (a ∷ rest) hits) (counted (misses_at (Some x) space page) (a ∷ rest) misses) n) same)
+
+-- a leaf of 4 KiB that is filled stands in front
+small_covers : (space page word : ℕ) → covers_as space page order.K4 (small_leaf space page word) ≡ true
+small_covers space page word = grind (arith, nat_tests)
+
+small_set : (spec : TlbSpec) (page : ℕ) → set_number spec order.K4 (page / 1 * 1) ≡ set_number spec order.K4 page
+small_set spec page = ap (λ (n : ℕ). n / 1 % spec.sets) (omega arith)
+
+front_kept : (width : ℕ) (x : Leaf) (xs : List Leaf) → 0 < width → (ys : List Leaf) × (with_newest width x xs ≡ x ∷ ys)
+front_kept zero x xs some = absurd (omega arith)
+front_kept (suc n) x xs some = (take n xs, refl)
+
+fill_taken : (space page word : ℕ) (a : TlbArray) → set_number a.spec order.K4 page < length a.sets → 0 < a.spec.width → takes_order a.spec order.K4 ≡ true
+    → IsFrontHit space page word (filled_where true (small_leaf space page word) a)
+fill_taken space page word a within some takes =
+    let p : Leaf → Bool = covers_as space page order.K4 in
+    let x : Leaf = small_leaf space page word in
+    let k : ℕ = set_number a.spec order.K4 page in
+    let j : ℕ = set_number a.spec order.K4 (page / 1 * 1) in
+    let same : j ≡ k = small_set a.spec page in
+    let list : List Leaf = with_newest a.spec.width x (get_or a.sets j []) in
+    let f = front_kept a.spec.width x (get_or a.sets j []) some in
+    let now : get_or (set a.sets j list) k [] ≡ x ∷ f.0 =
+    ap (λ (n : ℕ). get_or (set a.sets n list) k []) same ∙ get_or-set_same a.sets k list [] within ∙ f.1 in
+    record {
+      found = rw (takes, now) (front_found p x f.0 (small_covers space page word));
+      stays = rw now (front_stays p x f.0 (small_covers space page word));
+    }
+
+pub fill_front : (space page word : ℕ) (a : TlbArray) → set_number a.spec order.K4 page < length a.sets → 0 < a.spec.width → takes_order a.spec order.K4 ≡ true
+    → IsFrontHit space page word (array_filled (small_leaf space page word) a)
+unfolding array_filled
+fill_front space page word a within some takes =
+    subst (λ (b : Bool). IsFrontHit space page word (filled_where b (small_leaf space page word) a)) (sym takes) (fill_taken space page word a within some takes)
+
+-- a leaf of the second array answers
+less : (x y : ℕ) → suc x ≤ y → (nat_lt x y ≡ true) × (nat_le x y ≡ true)
+less x y l = (grind (arith, nat_tests), grind (arith, nat_tests))
+
+and_false : (b : Bool) → (b && false) ≡ false
+and_false true = refl
+and_false false = refl
+
+none_lower : (level : ℕ) (specs : List TlbSpec) → NoneBelow (suc level) specs → NoneBelow level specs
+none_lower level [] h = tt
+none_lower level (s ∷ specs) h = (let k = h.0 in omega arith, none_lower level specs h.1)
+
+module _ (space page word : ℕ) where
+  second_hits : (a b : TlbArray) (rest : List TlbArray) (ns : List ℕ) → None ≡ array_hit a space page → Some (small_leaf space page word) ≡ array_hit b space page → NoneBelow (suc b.spec.level) (map spec_of rest)
+      → set ns 1 (plus (get_or ns 1 0) 1) ≡ counted (hits_at (Some (first_answer space page word b)) space page) (a ∷ b ∷ rest) ns
+  second_hits a b rest [] missed found alone = refl
+  second_hits a b rest (n ∷ ns) missed found alone =
+      let miss : hits_at (Some (first_answer space page word b)) space page a ≡ false = rw (← missed) (and_false (nat_le a.spec.level b.spec.level)) in
+      rw miss (ap (λ (z : List ℕ). n ∷ z) (first_hits space page word b rest ns found alone))
+
+  second_misses : (a b : TlbArray) (rest : List TlbArray) (ns : List ℕ) → None ≡ array_hit a space page → Some (small_leaf space page word) ≡ array_hit b space page → NoneBelow (suc b.spec.level) (map spec_of rest)
+      → suc a.spec.level ≤ b.spec.level → set ns 0 (plus (get_or ns 0 0) 1) ≡ counted (misses_at (Some (first_answer space page word b)) space page) (a ∷ b ∷ rest) ns
+  second_misses a b rest [] missed found alone below = refl
+  second_misses a b rest (n ∷ ns) missed found alone below =
+      let miss : misses_at (Some (first_answer space page word b)) space page a ≡ true = rw ((less a.spec.level b.spec.level below).1, ← missed) refl in
+      rw miss (ap (λ (z : List ℕ). plus n 1 ∷ z) (first_misses space page word b rest ns found alone))
+
+  -- what such a look tells
+  second_is : (a b new bnew : TlbArray) (rest : List TlbArray) → None ≡ array_hit a space page → takes_order a.spec order.K4 ≡ true → suc a.spec.level ≤ b.spec.level
+      → Some (small_leaf space page word) ≡ array_hit b space page → NoneBelow (suc b.spec.level) (map spec_of rest)
+      → Some (record { leaf = small_leaf space page word; level = b.spec.level; fills = 1 }) ≡ told (answer_of (a ∷ b ∷ rest) space page) (a ∷ b ∷ rest)
+  second_is a b new bnew rest missed takes below found alone =
+      let f : Told = record { leaf = small_leaf space page word; level = b.spec.level; fills = 0 } in
+      let one = first_one b rest space page (small_leaf space page word) found (none_lower b.spec.level (map spec_of rest) alone) in
+      let fills : fills_array b.spec.level (small_leaf space page word) a ≡ true = rw ((less a.spec.level b.spec.level below).0, takes) refl in
+      ap (λ (t : Bool). Some (with_one t f)) (sym fills) ∙ more_told a (b ∷ rest) space page f missed one
+
+  pub second_told : (arrays new : List TlbArray) → IsSecondHit space page word arrays new → Some (small_leaf space page word) ≡ leaf_told (answer_of arrays space page)
+  second_told _ _ (SecondHit a new rest others missed takes alone hit filled front) = rw (← missed) (first_told space page word rest others hit)
+
+  pub second_looked : (arrays new : List TlbArray) → IsSecondHit space page word arrays new → new ≡ looked_arrays (answer_of arrays space page) space page arrays
+  second_looked _ _ (SecondHit a new _ _ missed takes alone (FirstHit b bnew rest touch apart) filled front) =
+      let found = array_found b space page (small_leaf space page word) touch.found in
+      let f : Told = record { leaf = small_leaf space page word; level = b.spec.level; fills = 0 } in
+      let one = first_one b rest space page (small_leaf space page word) found (none_lower b.spec.level (map spec_of rest) apart) in
+      let n : new ≡ filled_below b.spec.level (small_leaf space page word) a = rw (less a.spec.level b.spec.level alone.0).0 filled in
+      more_arrays a (b ∷ rest) space page f new (bnew ∷ rest) missed one n (first_looked space page word (b ∷ rest) (bnew ∷ rest) (FirstHit b bnew rest touch apart))
+
+  pub second_front : (arrays new : List TlbArray) → IsSecondHit space page word arrays new → IsFront space page word new
+  second_front _ _ (SecondHit a new _ _ missed takes alone (FirstHit b bnew rest touch apart) filled front) =
+      let new_is : new.spec ≡ a.spec = ap spec_of filled ∙ spec_filled (small_leaf space page word) a in
+      let b_is : bnew.spec ≡ b.spec = ap spec_of touch.moved ∙ spec_touched space page (small_leaf space page word) b in
+      Front new (bnew ∷ rest) front
+      (subst (λ (s : TlbSpec). NoneBelow (suc s.level) (bnew.spec ∷ map spec_of rest)) (sym new_is)
+      (subst (λ (s : TlbSpec). NoneBelow (suc a.spec.level) (s ∷ map spec_of rest)) (sym b_is) alone))
+
+  pub second_after : (arrays new : List TlbArray) (hits misses : List ℕ) (fills : ℕ) → IsSecondHit space page word arrays new
+      → tlb_of new (set hits 1 (plus (get_or hits 1 0) 1)) (set misses 0 (plus (get_or misses 0 0) 1)) (plus fills 1) ≡ tlb_looked space page (tlb_of arrays hits misses fills)
+  second_after _ _ hits misses fills (SecondHit a new _ _ missed takes alone (FirstHit b bnew rest touch apart) filled front) =
+      let found = array_found b space page (small_leaf space page word) touch.found in
+      let x = first_answer space page word b in
+      let arrays : List TlbArray = a ∷ b ∷ rest in
+      let told : answer_of arrays space page ≡ Some x = rw (← missed, ← found) refl in
+      let h = second_hits a b rest hits missed found apart ∙ ap (λ (o : Option Answer). counted (hits_at o space page) arrays hits) (sym told) in
+      let m = second_misses a b rest misses missed found apart alone.0 ∙ ap (λ (o : Option Answer). counted (misses_at o space page) arrays misses) (sym told) in
+      look_after arrays (new ∷ bnew ∷ rest) hits misses (set hits 1 (plus (get_or hits 1 0) 1)) (set misses 0 (plus (get_or misses 0 0) 1)) fills space page
+      (second_looked (a ∷ b ∷ rest) (new ∷ bnew ∷ rest) (SecondHit a new (b ∷ rest) (bnew ∷ rest) missed takes alone (FirstHit b bnew rest touch apart) filled front)) h m
+      (record { leaf = small_leaf space page word; level = b.spec.level; fills = 1 })
+      (second_is a b new bnew rest missed takes alone.0 found apart)
+
+-- a fill puts the leaf in front of the first array
+pub filled_front : (space page word : ℕ) (a new : TlbArray) (rest others : List TlbArray) → new ≡ array_filled (small_leaf space page word) a → others ≡ map (array_filled (small_leaf space page word)) rest
+    → IsFrontHit space page word new → NoneBelow (suc a.spec.level) (map spec_of rest) → IsFront space page word (new ∷ others)
+filled_front space page word a new rest others first more hit alone =
+    let new_is : new.spec ≡ a.spec = ap spec_of first ∙ spec_filled (small_leaf space page word) a in
+    let rest_is : map spec_of others ≡ map spec_of rest = ap (λ (z : List TlbArray). map spec_of z) more ∙ specs_filled (small_leaf space page word) rest in
+    Front new others hit
+    (subst (λ (s : TlbSpec). NoneBelow (suc s.level) (map spec_of others)) (sym new_is) (subst (λ (z : List TlbSpec). NoneBelow (suc a.spec.level) z) (sym rest_is) alone))

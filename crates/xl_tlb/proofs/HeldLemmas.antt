@@ -3,6 +3,7 @@ use Rattle.std.proofs.Common.{◌≡◌, refl, sym, ap, ◌∙◌, ℕ, zero, su
 use Rattle.std.specs.Prelude.{option_to_list, is_none}
 use Rattle.std.proofs.lemmas.List.{length-map}
 use Rattle.std.specs.Option.{IfSome, IfNone}
+use Rattle.xl_model.specs.declared.address.Order.{Order}
 use Rattle.xl_model.specs.declared.leaf.Leaf.{Leaf}
 use Rattle.xl_model.specs.Base.{one_if}
 use Rattle.xl_model.specs.Recency.{without_first, in_front, touched, with_newest, purged}
@@ -10,8 +11,8 @@ use Rattle.xl_model.specs.Tlb.{TlbArray, array_touched, array_without, leaves_in
 use Rattle.xl_recency.specs.declared.item.Item.{Item}
 use Rattle.xl_recency.specs.Lists.{items_in}
 use Rattle.xl_tlb.specs.declared.coding.Hit.{Hit}
-use Rattle.xl_tlb.specs.Hits.{hit_touched, leaf_hit}
-use Rattle.xl_tlb.specs.Coding.{leaves_of}
+use Rattle.xl_tlb.specs.Hits.{hit_touched, leaf_hit, word_touched}
+use Rattle.xl_tlb.specs.Coding.{leaf_with, leaves_of}
 use Rattle.xl_tlb.proofs.DropLemmas.{counted_items}
 
 pub none_held : (n : ℕ) → leaves_in_sets (replicate n []) ≡ 0
@@ -82,3 +83,8 @@ none-leaves p a e = ap (λ (zs : List (List Leaf)). record a { sets = zs }) (sym
 pub looked-held : (space page : ℕ) (o : Option Hit) (a b : TlbArray) → IfSome o (λ hit. b ≡ hit_touched space page hit a) → IfNone o (b ≡ a) → leaves_in_sets b.sets ≡ leaves_in_sets a.sets
 looked-held space page None a b h n = ap (λ (z : TlbArray). leaves_in_sets z.sets) n
 looked-held space page (Some hit) a b h n = ap (λ (z : TlbArray). leaves_in_sets z.sets) h ∙ touched-held space page (leaf_hit space page hit) a
+
+-- a look for a leaf of one order too
+pub word-held : (space page : ℕ) (order : Order) (o : Option ℕ) (a b : TlbArray) → IfSome o (λ w. b ≡ word_touched space page order w a) → IfNone o (b ≡ a) → leaves_in_sets b.sets ≡ leaves_in_sets a.sets
+word-held space page order None a b h n = ap (λ (z : TlbArray). leaves_in_sets z.sets) n
+word-held space page order (Some w) a b h n = ap (λ (z : TlbArray). leaves_in_sets z.sets) h ∙ touched-held space page (leaf_with space page order w) a

@@ -1,8 +1,9 @@
--- What is known of the leaves that an array holds.
-use Rattle.std.specs.Prelude.{ℕ, ◌≡◌, ◌<◌, ◌^◌, ◌-◌, Bool, false, List}
+-- What is known of an array beside it.
+use Rattle.std.specs.Prelude.{ℕ, ◌≡◌, ◌<◌, ◌^◌, ◌-◌, ◌%◌, Bool, true, false, List}
 use Rattle.std.specs.List.{All}
 use Rattle.xl_model.specs.declared.address.Order.TheVariants as order
 use Rattle.xl_model.specs.declared.leaf.Leaf.{Leaf}
+use Rattle.xl_model.specs.declared.row.TlbSpec.{TlbSpec}
 use Rattle.xl_model.specs.Tlb.{TlbArray, leaves_in_sets}
 
 -- The count is this number; the greatest count there is tells nothing.
@@ -17,7 +18,14 @@ IsSmall leaf = leaf.order ≡ order.K4
 abbrev pub Smalls : Bool → List (List Leaf) → Type 0
 Smalls large sets = large ≡ false → All (All IsSmall) sets
 
--- How many leaves an array holds, and whether larger ones than of 4 KiB may be among them.
-pub record IsKnown (held : ℕ) (large : Bool) (a : TlbArray) : Type 0 where
+-- An array's level, whether it takes leaves of 4 KiB, and whether its sets are a multiple of eight.
+pub record IsKind (level : ℕ) (small eights : Bool) (spec : TlbSpec) : Type 0 where
+  pub levels : level ≡ spec.level
+  pub takes : small ≡ spec.k4
+  pub by_eight : eights ≡ true → spec.sets % 8 ≡ 0
+
+-- How many leaves an array holds, whether larger ones than of 4 KiB may be among them, and what it is.
+pub record IsKnown (held : ℕ) (large : Bool) (level : ℕ) (small eights : Bool) (a : TlbArray) : Type 0 where
   pub counts : Counts held (leaves_in_sets a.sets)
   pub smalls : Smalls large a.sets
+  pub kind : IsKind level small eights a.spec

@@ -1,19 +1,29 @@
 //! The arrays of a row in levels.
 
-ghost use Rattle.std.specs.Prelude.{ℕ, true, ◌==◌, ◌≡◌, ◌<◌, ◌≤◌, ◌^◌, ◌+◌, ◌*◌, length, map, count_by, slice_index_or, Some, IfOk, IfSome, IfNone};
+ghost use Rattle.std.specs.Prelude.{ℕ, true, ◌==◌, ◌≡◌, ◌<◌, ◌≤◌, ◌^◌, ◌+◌, ◌*◌, length, map, count_by, slice_index_or, None, IfOk};
 ghost use Rattle.xl_model.specs.declared.leaf.Leaf.{Leaf};
 ghost use Rattle.xl_model.specs.Tlb.{answer_of, leaves_in, takes_leaf, array_filled, array_without, is_purged, reaches_leaf};
 ghost use Rattle.xl_tlb.specs.Arrays.{IsFit, InLimits};
-ghost use Rattle.xl_tlb.specs.Fronts.{IsFront};
-ghost use Rattle.xl_tlb.specs.Tlbs.{leaf_told, tlb_opening, AreSpecs, IsRising, tlb_looked, tlb_filled, tlb_purged, tlb_fenced};
+ghost use Rattle.xl_tlb.specs.Answers.{IsAnswered};
+ghost use Rattle.xl_tlb.specs.Fronts.{small_leaf, IsFront, AllMiss, HasEights};
+ghost use Rattle.xl_tlb.specs.Hits.{hit_leaf};
+ghost use Rattle.xl_tlb.specs.Tlbs.{spec_of, leaf_told, tlb_opening, AreSpecs, IsRising, tlb_looked, tlb_filled, tlb_purged, tlb_fenced};
 
 use crate::any::AnyArray;
-use crate::coding::{Hit, leaf_of};
-use crate::look::{front_in, look_in};
+use crate::coding::Hit;
+use crate::look::{Small, count_misses, has_eights, is_above, look_in, look_small};
 use arrayvec::ArrayVec;
 use std::alloc::Global;
 use std::marker::Model;
 use xl_model::{Leaf, NoMemory, Purge, Reach, TlbSpec};
+
+/// What a look for a leaf of 4 KiB told: the leaf's word; or that no array answers; or nothing.
+#[derive(Clone, Copy)]
+pub(crate) enum Answered {
+    Word { word: u64 },
+    Nowhere,
+    Unknown,
+}
 
 /// The arrays of a row in levels, with their counts.
 #[derive(Drop)]
@@ -53,6 +63,66 @@ fn fill_each(arrays: &mut [AnyArray], leaf: &Leaf) -> u64
         return others + 1;
     }
     others
+}
+
+/// What a fill of a leaf of 4 KiB did: how many arrays take it, and whether it is known to be the newest
+/// of its set of the first array, and that alone in its level.
+#[derive(Clone, Copy)]
+struct SmallFill {
+    fills: u64,
+    front: bool,
+}
+
+/// Fills each array that takes leaves of 4 KiB with this one: how many do.
+#[tactic(auto, using(crate::proofs::TlbLemmas::count_first))]
+fn fill_small_each(arrays: &mut [AnyArray], space: u16, page: u64, word: u64) -> u64
+    requires space { space < 64 }
+    requires page { page < 2 ^ 52 }
+    ensures fills { result ≡ count_by (takes_leaf (small_leaf space page word)) arrays.old }
+    ensures arrays { arrays.new ≡ map (array_filled (small_leaf space page word)) arrays.old }
+{
+    let Some((first, rest)) = arrays.split_first_mut() else {
+        return 0;
+    };
+    let others = fill_small_each(rest, space, page, word);
+    let taken = first.takes_small();
+    first.fill_small(space, page, word);
+    if taken {
+        return others + 1;
+    }
+    others
+}
+
+/// Does what `fill_small_each` does, and tells whether the leaf is in front.
+#[tactic(auto, using(crate::proofs::TlbLemmas::count_first))]
+fn fill_small_in(arrays: &mut [AnyArray], space: u16, page: u64, word: u64) -> SmallFill
+    requires space { space < 64 }
+    requires page { page < 2 ^ 52 }
+    requires rising { IsRising (map spec_of arrays.old) }
+    ensures fills { result.fills ≡ count_by (takes_leaf (small_leaf space page word)) arrays.old }
+    ensures arrays { arrays.new ≡ map (array_filled (small_leaf space page word)) arrays.old }
+    ensures front { result.front ≡ true → IsFront space page word arrays.new }
+{
+    let Some((first, rest)) = arrays.split_first_mut() else {
+        return SmallFill {
+            fills: 0,
+            front: false,
+        };
+    };
+    let alone = is_above(rest, first.level());
+    let taken = first.takes_small();
+    first.fill_small(space, page, word);
+    let others = fill_small_each(rest, space, page, word);
+    if !taken {
+        return SmallFill {
+            fills: others,
+            front: false,
+        };
+    }
+    SmallFill {
+        fills: others + 1,
+        front: alone,
+    }
 }
 
 /// Purges each array: how many items left.
@@ -109,15 +179,40 @@ impl Levels {
         })
     }
 
-    /// The word of a leaf of 4 KiB that the newest leaf of a set of the first array is, where that
-    /// array is alone in its level. None elsewhere.
+    /// Does what `look` does, where a leaf of 4 KiB of the first array or of the second one answers and
+    /// each is alone in its level, and gives the leaf's word: it is the newest of its set of the first
+    /// array then. Elsewhere nothing changes; what is told then depends on whether larger leaves were held.
     #[inline]
-    pub fn front(&self, space: u16, page: u64) -> Option<u64>
+    pub fn hit_small(&mut self, space: u16, page: u64) -> Answered
         requires space { space < 64 }
         requires page { page < 2 ^ 52 }
-        ensures { IfSome result (λ word. IsFront space page word self.now.arrays) }
+        ensures { IsAnswered space page result self.old self.new }
     {
-        front_in(&self.arrays, space, page)
+        match look_small(&mut self.arrays, space, page) {
+            Small::First { word } => {
+                self.hits[0] = self.hits[0].wrapping_add(1);
+                Answered::Word { word }
+            }
+            Small::Second { word } => {
+                self.misses[0] = self.misses[0].wrapping_add(1);
+                self.hits[1] = self.hits[1].wrapping_add(1);
+                self.fills = self.fills.wrapping_add(1);
+                Answered::Word { word }
+            }
+            Small::Nowhere => Answered::Nowhere,
+            Small::Unknown => Answered::Unknown,
+        }
+    }
+
+    /// Looks for a page that no array answers: that counts a miss of each, and changes nothing else.
+    #[inline]
+    pub fn miss(&mut self, space: u16, page: u64)
+        requires { AllMiss space page self.old.arrays }
+        ensures found { None ≡ leaf_told (answer_of self.old.arrays space page) }
+        ensures after { self.new ≡ tlb_looked space page self.old }
+        ensures stays { self.new.arrays ≡ self.old.arrays }
+    {
+        count_misses(&self.arrays, &mut self.misses, space, page);
     }
 
     /// Looks for a page that the newest leaf of a set of the first array answers, with this word: that
@@ -131,13 +226,14 @@ impl Levels {
         self.hits[0] = self.hits[0].wrapping_add(1);
     }
 
-    /// Looks for the page in the levels in turn, and gives the leaf that covers it. Touches the array
-    /// that hits, and fills those of lower levels that hold the leaf's order. None where no array hits.
+    /// Looks for the page in the levels in turn, and gives what was hit. Touches the array that hits,
+    /// and fills those of lower levels that hold the leaf's order. None where no array hits.
     #[inline]
-    pub fn look(&mut self, space: u16, page: u64) -> Option<Leaf>
+    pub fn look(&mut self, space: u16, page: u64) -> Option<Hit>
         requires space { space < 64 }
         requires page { page < 2 ^ 52 }
-        ensures found { result ≡ leaf_told (answer_of self.old.arrays space page) }
+        ensures found { hit_leaf space page result
+            ≡ leaf_told (answer_of self.old.arrays space page) }
         ensures after { self.new ≡ tlb_looked space page self.old }
     {
         if self.arrays.is_empty() {
@@ -152,14 +248,10 @@ impl Levels {
         ) {
             Some(found) => {
                 self.fills = self.fills.wrapping_add(found.fills);
-                Some(leaf_of(
-                    space,
-                    page,
-                    Hit {
-                        word: found.word,
-                        order: found.order,
-                    },
-                ))
+                Some(Hit {
+                    word: found.word,
+                    order: found.order,
+                })
             }
             None => None,
         }
@@ -175,6 +267,20 @@ impl Levels {
         }
         let fills = fill_each(&mut self.arrays, &leaf);
         self.fills = self.fills.wrapping_add(fills);
+    }
+
+    /// Puts a leaf of 4 KiB into the arrays of every level that hold such leaves. Whether it is known to be
+    /// the newest of its set of the first array, and that alone in its level.
+    #[inline]
+    pub fn fill_small(&mut self, space: u16, page: u64, word: u64) -> bool
+        requires space { space < 64 }
+        requires page { page < 2 ^ 52 }
+        ensures after { self.new ≡ tlb_filled (small_leaf space page word) self.old }
+        ensures front { result ≡ true → IsFront space page word self.new.arrays }
+    {
+        let filled = fill_small_in(&mut self.arrays, space, page, word);
+        self.fills = self.fills.wrapping_add(filled.fills);
+        filled.front
     }
 
     /// Removes what a purge takes in all levels at a change of this leaf, and gives how many leaves left.
@@ -193,6 +299,14 @@ impl Levels {
         ensures after { self.new ≡ tlb_fenced reach self.old }
     {
         fence_each(&mut self.arrays, reach)
+    }
+
+    /// Whether the sets of the first array are a multiple of eight.
+    #[inline]
+    pub fn has_eights(&self) -> bool
+        ensures { result ≡ true → HasEights self.now.arrays }
+    {
+        has_eights(&self.arrays)
     }
 
     /// Whether there are no arrays. Then a look and a fill change nothing.

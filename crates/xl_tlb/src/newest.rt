@@ -1,9 +1,9 @@
 //! Pages that the newest leaves of the first array answered of late.
 
-ghost use Rattle.std.specs.Prelude.{◌≡◌, ◌<◌, ◌^◌, ◌+◌, ◌*◌, List, IfSome};
+ghost use Rattle.std.specs.Prelude.{true, ◌≡◌, ◌<◌, ◌^◌, ◌+◌, ◌*◌, ◌%◌, List, IfSome};
 ghost use Rattle.xl_model.specs.Tlb.{TlbArray};
-ghost use Rattle.xl_tlb.specs.Fronts.{IsFront};
-ghost use Rattle.xl_tlb.specs.Known.{Knows, key_of as key_is};
+ghost use Rattle.xl_tlb.specs.Fronts.{IsFront, FrontsStay, AllMiss};
+ghost use Rattle.xl_tlb.specs.Known.{Knows, Misses, key_of as key_is};
 
 /// For eight pages at most, the words of the leaves that answer them: each is the newest of its set
 /// of the first array. A page's place is its number's last three bits, and 0 is no page's key.
@@ -42,6 +42,22 @@ impl Newest {
         self.keys = [0; 8];
     }
 
+    /// What may have lost its front is not known from now on, where leaves of one set came or moved: that
+    /// of the block with this number. Where the sets are a multiple of eight, the pages of the set have
+    /// the block's last three bits, and so one place.
+    #[inline]
+    pub fn forget_block(&mut self, eights: bool, block: u64)
+        ensures { (old new : List TlbArray) → Knows self.old old
+            → (eights ≡ true → FrontsStay (block % 8) old new) → Knows self.new new }
+    {
+        if !eights {
+            self.forget();
+            return;
+        }
+        let place = (block % 8) as usize;
+        self.keys[place] = 0;
+    }
+
     /// The word of the leaf that answers the page, where that is known.
     #[inline]
     pub fn word(&self, space: u16, page: u64) -> Option<u64>
@@ -68,5 +84,49 @@ impl Newest {
         let place = (page % 8) as usize;
         self.keys[place] = key_of(space, page);
         self.words[place] = word;
+    }
+}
+
+/// The page that no array answered at the last look for a leaf of 4 KiB, by its key; 0 is no page's key.
+#[derive(Clone, Copy, Debug)]
+pub(crate) struct Missed {
+    key: u64,
+}
+
+impl Missed {
+    /// No page is known.
+    pub fn none() -> Missed
+        ensures { (arrays : List TlbArray) → Misses result arrays }
+    {
+        Missed { key: 0 }
+    }
+
+    /// No page is known from now on.
+    #[inline]
+    pub fn forget(&mut self)
+        ensures { (arrays : List TlbArray) → Misses self.new arrays }
+    {
+        self.key = 0;
+    }
+
+    /// Keeps a page that no array answers.
+    #[inline]
+    pub fn keep(&mut self, space: u16, page: u64)
+        requires space { space < 64 }
+        requires page { page < 2 ^ 52 }
+        ensures { (arrays : List TlbArray) → AllMiss space page arrays → Misses self.new arrays }
+    {
+        self.key = key_of(space, page);
+    }
+
+    /// Whether no array is known to answer the page.
+    #[inline]
+    pub fn knows(&self, space: u16, page: u64) -> bool
+        requires space { space < 64 }
+        requires page { page < 2 ^ 52 }
+        ensures { (arrays : List TlbArray) → Misses self.now arrays
+            → result ≡ true → AllMiss space page arrays }
+    {
+        self.key == key_of(space, page)
     }
 }

@@ -1,7 +1,9 @@
 use Rattle.xl_model.specs.Tlb.{leaves_in_sets}
 use Rattle.xl_tlb.specs.Any.{array_in}
-use Rattle.xl_tlb.specs.Hits.{leaf_hit}
 use Rattle.xl_tlb.proofs.SmallLemmas.{filled-small}
+use Rattle.std.proofs.Common.{ap, ◌∙◌}
+use Rattle.xl_tlb.specs.Tlbs.{spec_of}
+use Rattle.xl_tlb.proofs.LevelLemmas.{spec_filled}
 use Rattle.xl_tlb.proofs.any.AnyArray.fill.Goals as goal
 
 pub invariant_of-self : goal.invariant_of-self
@@ -11,4 +13,5 @@ invariant_of-self c =
       counts = rw c.fill_in_array-filled.ensures.grown (c.raised-self-inside.ensures (leaves_in_sets old.sets) c.self.invariant.counts);
       smalls = λ none. rw c.fill_in_array-filled.ensures.array
           (filled-small c.args.leaf old (c.with_order-self-inside.ensures.new none) (c.self.invariant.smalls (c.with_order-self-inside.ensures.old none)));
+      kind = rw (ap spec_of c.fill_in_array-filled.ensures.array ∙ spec_filled c.args.leaf old) c.self.invariant.kind;
     }

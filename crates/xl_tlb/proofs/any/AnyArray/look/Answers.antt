@@ -1,6 +1,7 @@
 use Rattle.xl_tlb.specs.Any.{array_in}
 use Rattle.xl_tlb.proofs.HeldLemmas.{looked-held}
 use Rattle.xl_tlb.proofs.SmallLemmas.{looked-small}
+use Rattle.xl_tlb.proofs.LevelLemmas.{spec_looked}
 use Rattle.xl_tlb.proofs.any.AnyArray.look.Goals as goal
 
 pub invariant_of-self : goal.invariant_of-self
@@ -11,4 +12,5 @@ invariant_of-self c =
     record {
       counts = rw (looked-held c.args.space c.args.page c.look_in_array.result old new is.some is.none) c.self.invariant.counts;
       smalls = λ none. looked-small c.args.space c.args.page c.look_in_array.result old new is.some is.none (c.self.invariant.smalls none);
+      kind = rw (spec_looked c.args.space c.args.page c.look_in_array.result old new is.some is.none) c.self.invariant.kind;
     }

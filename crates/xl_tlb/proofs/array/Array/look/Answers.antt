@@ -1,5 +1,4 @@
 use Rattle.std.proofs.Common.{sym, ◌∙◌}
-use Rattle.xl_tlb.specs.Hits.{word_leaf}
 use Rattle.xl_tlb.proofs.SmallLemmas.{hit-small}
 use Rattle.xl_tlb.proofs.array.Array.look.Goals as goal
 

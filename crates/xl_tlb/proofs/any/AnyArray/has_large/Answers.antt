@@ -1,0 +1,6 @@
+use Rattle.xl_tlb.specs.Any.{array_in}
+use Rattle.xl_tlb.proofs.SmallLemmas.{hit-small}
+use Rattle.xl_tlb.proofs.any.AnyArray.has_large.Goals as goal
+
+pub returns : goal.returns
+returns c = λ none space page. rw (← c.self.view_is) (hit-small (array_in c.self.inside.array) space page (c.self.invariant.smalls none))
