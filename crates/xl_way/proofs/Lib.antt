@@ -3,3 +3,4 @@ mod GrowthLemmas
 mod WayLemmas
 mod WordLemmas
 mod FieldLemmas
+mod PlaceLemmas
