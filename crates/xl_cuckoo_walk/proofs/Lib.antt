@@ -23,3 +23,4 @@ pub mod NamedLemmas
 pub mod GiveLemmas
 pub mod OpenLemmas
 pub mod CacheLemmas
+pub mod SoleLemmas

@@ -5,3 +5,4 @@ pub mod Plans
 pub mod Looks
 pub mod Changes
 pub mod Openings
+pub mod Soles

@@ -5,6 +5,7 @@ ghost use Rattle.xl_model.specs.Caches.{empty_cache};
 ghost use Rattle.xl_model.specs.Recency.{purged};
 ghost use Rattle.xl_recency.specs.Widths.{IsWidth};
 ghost use Rattle.xl_cuckoo_walk.specs.Coding.{has_tag, word_of_item, is_old};
+ghost use Rattle.xl_cuckoo_walk.specs.Known.{IsFrontIf};
 ghost use Rattle.xl_cuckoo_walk.specs.Plans.{touched_in, newest_in, fenced};
 
 use crate::coding::{fence_cache, put_newest, refresh, touch};
@@ -65,6 +66,15 @@ impl Sections {
         ensures few { result ≤ 64 }
     {
         self.list.len()
+    }
+
+    /// The word of the section of this tag where that is known to be in front: then a touch finds it and
+    /// moves nothing.
+    #[inline(always)]
+    pub fn front(&self, tag: u64) -> Option<u64>
+        ensures { IsFrontIf tag result self.now.items }
+    {
+        if self.tag == tag { self.word } else { None }
     }
 
     /// Brings the section of this tag to the front, and gives its word.

@@ -16,6 +16,7 @@ mod purge;
 mod relocate;
 mod remove;
 mod row;
+mod sole;
 mod tables;
 mod walk;
 mod work;

@@ -150,6 +150,7 @@ impl<const D: usize> Structure for CuckooRow<D> {
         relocate_leaf(&mut self.parts, space, first, to, order)
     }
 
+    #[inline]
     fn walk(&mut self, space: u16, page: u64) -> Walk {
         walk_page(&mut self.parts, space, page)
     }

@@ -6,15 +6,50 @@ ghost use Rattle.xl_cuckoo_walk.specs.Parts.{IsRow, row_state};
 
 use crate::fill::{fill_if, fills_middle, one_hit};
 use crate::parts::Parts;
-use crate::plan::{Hits, planned};
+use crate::plan::{Hits, Plan, planned};
 use crate::probe::{probe_next, probe_order};
+use crate::sole::{Sole, sole_left};
 use xl_model::{Order, Walk};
 use xl_pte::words_read_back;
 use xl_sections::section;
 
-/// The walk of a page: the cached sections of the page tell which orders are possible, and in which way
-/// a large leaf stands; the possible orders are probed, and sections are cached that weren't.
+/// The walk of a page. Where its sections are in front of both caches and leave one order alone, no more
+/// than that order is looked at.
+#[inline(always)]
 pub(crate) fn walk_page<const D: usize>(parts: &mut Parts<D>, space: u16, page: u64) -> Walk
+    requires whole { IsRow parts.old }
+    requires page { IsPage (row_state parts.old).shape space page }
+    ensures whole { IsRow parts.new }
+    ensures walks { IsWalk space page (row_state parts.old) result (row_state parts.new) }
+{
+    words_read_back();
+    let middle_key = section(space, page, Order::M2);
+    let large_key = section(space, page, Order::G1);
+    let middle = parts.middle_cache.front(middle_key);
+    let large = parts.large_cache.front(large_key);
+    match sole_left(Hits { middle, large }) {
+        Sole::Small => {
+            let leaf = probe_order(&mut parts.k4, Plan::Every, Order::K4, space, page);
+            Walk {
+                leaf,
+                cache_hits: 2,
+            }
+        }
+        Sole::Middle(way) => {
+            let leaf = probe_order(&mut parts.m2, Plan::At(way), Order::M2, space, page);
+            Walk {
+                leaf,
+                cache_hits: 2,
+            }
+        }
+        Sole::Unknown => walk_behind(parts, space, page),
+    }
+}
+
+/// The walk of any page: the cached sections of the page tell which orders are possible, and in which way
+/// a large leaf stands; the possible orders are probed, and sections are cached that weren't.
+#[inline(never)]
+fn walk_behind<const D: usize>(parts: &mut Parts<D>, space: u16, page: u64) -> Walk
     requires whole { IsRow parts.old }
     requires page { IsPage (row_state parts.old).shape space page }
     ensures whole { IsRow parts.new }

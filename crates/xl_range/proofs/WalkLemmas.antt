@@ -158,6 +158,11 @@ pub seen-walk : (space page n : ℕ) (t new : TreapView) (k left : Cached Range)
     → IsWalk space page self result (row_of n new left)
 seen-walk space page n t new k left result self view r = let P : TableState → Type 0 = λ s. IsWalk space page s result (row_of n new left) in subst P view r.walks
 
+-- A walk that leaves the table as it was.
+pub still-walk : (space page n : ℕ) (t : TreapView) (k : Cached Range) (result : Walk) (self : TableState) → row_of n t k ≡ self → IsRowWalk space page n t t k k result
+    → IsWalk space page self result self
+still-walk space page n t k result self view r = let P : TableState → Type 0 = λ s. IsWalk space page s result s in subst P view r.walks
+
 pub seen-fence : (to : Reach) (n count : ℕ) (t : TreapView) (k left : Cached Range) (self : TableState) → row_of n t k ≡ self → IsRowFence to n count t k left → IsFence to self count (row_of n t left)
 seen-fence to n count t k left self view r = let P : TableState → Type 0 = λ s. IsFence to s count (row_of n t left) in subst P view r.fences
 

@@ -6,7 +6,7 @@ ghost use Rattle.xl_model.specs.Ranges.{holds_page, ranges_of};
 ghost use Rattle.xl_recency.specs.Widths.{IsWidth};
 ghost use Rattle.xl_model.specs.Caches.{without_items};
 ghost use Rattle.xl_model.specs.Placing.{no_moves};
-ghost use Rattle.xl_model.specs.Structures.{work_of};
+ghost use Rattle.xl_model.specs.Structures.{work_of, IsPage, IsWalk};
 ghost use Rattle.xl_range.specs.Rows.{meets_where, opening_table, row_table};
 
 use crate::changes::{add, move_to, set_perm, take_out};
@@ -93,6 +93,33 @@ impl Ranges {
     {
         &self.treap
     }
+
+    /// A walk that looks through the whole range TLB, and then goes down the treap.
+    #[inline(never)]
+    fn walk_behind(&mut self, space: u16, page: u64) -> Walk
+        requires { IsPage (row_table self.old).shape space page }
+        ensures { IsWalk space page (row_table self.old) result (row_table self.new) }
+    {
+        if let Some(range) = self.tlb.look(space, page) {
+            return Walk {
+                leaf: Some(leaf_in(&range, page)),
+                cache_hits: 1,
+            };
+        }
+        match self.treap.walk(space, page) {
+            Some(range) => {
+                self.tlb.fill(range);
+                Walk {
+                    leaf: Some(leaf_in(&range, page)),
+                    cache_hits: 0,
+                }
+            }
+            None => Walk {
+                leaf: None,
+                cache_hits: 0,
+            },
+        }
+    }
 }
 
 impl Structure for Ranges {
@@ -145,26 +172,15 @@ impl Structure for Ranges {
         Ok(purge(&mut self.tlb, space, first))
     }
 
+    #[inline]
     fn walk(&mut self, space: u16, page: u64) -> Walk {
-        if let Some(range) = self.tlb.look(space, page) {
+        if let Some(range) = self.tlb.front(space, page) {
             return Walk {
-                leaf: Some(leaf_in(&range, page)),
+                leaf: Some(leaf_in(range, page)),
                 cache_hits: 1,
             };
         }
-        match self.treap.walk(space, page) {
-            Some(range) => {
-                self.tlb.fill(range);
-                Walk {
-                    leaf: Some(leaf_in(&range, page)),
-                    cache_hits: 0,
-                }
-            }
-            None => Walk {
-                leaf: None,
-                cache_hits: 0,
-            },
-        }
+        self.walk_behind(space, page)
     }
 
     fn fence(&mut self, reach: Reach) -> u64 {

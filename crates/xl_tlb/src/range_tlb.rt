@@ -1,6 +1,6 @@
 //! A TLB of ranges.
 
-ghost use Rattle.std.specs.Prelude.{◌≡◌, ◌+◌, find, length, true, IsOk, IfOk, IsTrue};
+ghost use Rattle.std.specs.Prelude.{◌≡◌, ◌+◌, find, length, IsOk, IfOk, IfSome, Some};
 ghost use Rattle.xl_model.specs.Ranges.{holds_page};
 ghost use Rattle.xl_model.specs.Caches.{empty_cache, without_items, reaches_range};
 ghost use Rattle.xl_model.specs.Walks.{with_touch, with_fill};
@@ -70,26 +70,28 @@ impl RangeTlb {
         })
     }
 
+    /// The newest range, where the last look found it and it holds the page: a look would answer it
+    /// and change nothing.
+    #[inline]
+    pub fn front(&self, space: u16, page: u64) -> Option<&Range>
+        ensures found { IfSome result
+            (λ range. find (holds_page space page) self.now.items ≡ Some range.now) }
+        ensures same { IfSome result
+            (λ range. with_touch (holds_page space page) self.now ≡ self.now) }
+    {
+        if is_in(&self.newest, space, page) {
+            return Some(&self.newest);
+        }
+        None
+    }
+
     /// Brings the newest range that holds the page to the front, and gives it. None where none
     /// holds it; then nothing changes.
-    #[inline]
     pub fn look(&mut self, space: u16, page: u64) -> Option<Range>
         ensures found { result ≡ find (holds_page space page) self.old.items }
         ensures after { self.new ≡ with_touch (holds_page space page) self.old }
     {
-        if is_in(&self.newest, space, page) {
-            return Some(self.newest);
-        }
-        self.look_behind(space, page)
-    }
-
-    /// Looks through all ranges.
-    #[inline(never)]
-    fn look_behind(&mut self, space: u16, page: u64) -> Option<Range>
-        ensures found { result ≡ find (holds_page space page) self.old.items }
-        ensures after { self.new ≡ with_touch (holds_page space page) self.old }
-    {
-        self.newest = NO_RANGE;
+        self.newest.pages = 0;
         let Some(range) = self.list.look(space, page) else {
             return None;
         };
@@ -102,7 +104,7 @@ impl RangeTlb {
         requires { IsKeepable range }
         ensures { self.new ≡ with_fill range self.old }
     {
-        self.newest = NO_RANGE;
+        self.newest.pages = 0;
         self.list.fill(range);
     }
 
@@ -111,7 +113,7 @@ impl RangeTlb {
         ensures left { result + length self.new.items ≡ length self.old.items }
         ensures after { self.new ≡ without_items (holds_page space page) self.old }
     {
-        self.newest = NO_RANGE;
+        self.newest.pages = 0;
         self.list.drop_page(space, page)
     }
 
@@ -120,7 +122,7 @@ impl RangeTlb {
         ensures left { result + length self.new.items ≡ length self.old.items }
         ensures after { self.new ≡ without_items (reaches_range reach) self.old }
     {
-        self.newest = NO_RANGE;
+        self.newest.pages = 0;
         self.list.drop_reach(reach)
     }
 }

@@ -3,3 +3,4 @@ mod GrowthLemmas
 pub mod WayLemmas
 mod WordLemmas
 mod FieldLemmas
+mod PlaceLemmas

@@ -1,5 +1,5 @@
 -- What a way keeps, at each value of its registers.
-use Rattle.std.specs.Prelude.{ℕ, ◌≡◌, ◌+◌, ◌*◌, ◌^◌, ◌<◌, ◌≤◌, true, false, if◌then◌else◌, List, length, slice_index}
+use Rattle.std.specs.Prelude.{ℕ, ◌≡◌, ◌+◌, ◌-◌, ◌*◌, ◌%◌, ◌^◌, ◌<◌, ◌≤◌, true, false, if◌then◌else◌, List, length, slice_index}
 use Rattle.xl_model.specs.declared.way.Entry.{Entry}
 use Rattle.xl_model.specs.declared.way.WayRegs.{WayRegs}
 use Rattle.xl_model.specs.Ways.{WayShape, slot}
@@ -19,6 +19,14 @@ pub record AreRegs (cap : ℕ) (r : WayRegs) : Type 0 where
   pub still : r.growing ≡ false → r.p ≡ 0
   pub within : r.s ≤ cap
   pub room : r.growing ≡ true → r.s < cap
+
+-- What is kept beside a number and registers, so that a key's slot takes no more than a sum, a mix and two masks.
+pub record IsReady (number : ℕ) (r : WayRegs) (salt mask wide : ℕ) : Type 0 where
+  pub salted : salt ≡ (number + 1) * 0x9e3779b97f4a7c15 % 2 ^ 64
+  pub few : r.s ≤ 18
+  pub slots : mask ≡ 2 ^ r.s - 1
+  pub twice : wide ≡ 2 ^ (r.s + 1) - 1
+  pub still : r.growing ≡ false → r.p ≡ 0
 
 -- Each entry stands in its key's slot, and an empty slot has key 0.
 pub record ArePlaced (number : ℕ) (r : WayRegs) (slots : List Entry) : Type 0 where

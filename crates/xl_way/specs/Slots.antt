@@ -1,12 +1,18 @@
 -- A way as an array of slots: the entries that the slots hold, and the word that is kept for a key.
 use Rattle.std.specs.Prelude.{ℕ, ◌==◌, if◌then◌else◌, List, [], ◌∷◌, find, Option, None, Some, slice_index_or}
 use Rattle.xl_model.specs.declared.way.Entry.{Entry}
+use Rattle.xl_model.specs.declared.way.WayRegs.{WayRegs}
 use Rattle.xl_model.specs.Ways.{WayShape, has_key, with_entry}
 
 -- A way, and the loads made of it.
 pub record WayState : Type 0 where
   pub shape : WayShape
   pub loads : ℕ
+
+-- Where the keys of a way stand: its number and its registers.
+pub record PlacesState : Type 0 where
+  pub number : ℕ
+  pub regs : WayRegs
 
 -- An empty slot.
 abbrev pub no_entry : Entry

@@ -22,12 +22,13 @@ pub(crate) fn exchange(slots: &mut [Entry], at: usize, entry: Entry) -> Entry
     left
 }
 
-/// The word that a slot keeps for a key.
+/// The word that a slot keeps for a key. The slot's word is read where its key is the one.
+#[inline(always)]
 pub(crate) fn word_at(slots: &[Entry], at: usize, key: u64) -> Option<u64>
     requires { at < length slots.now }
     ensures { result ≡ word_in (kept_of key (cell slots.now at)) }
 {
-    let entry = slots[at];
+    let entry = &slots[at];
     if entry.key == key && entry.word != 0 {
         Some(entry.word)
     } else {

@@ -5,6 +5,7 @@
 mod cells;
 mod found;
 mod place;
+mod places;
 mod reading;
 mod way;
 

@@ -11,7 +11,8 @@ ghost use Rattle.xl_way.specs.Kept.{AreRegs, AreApart, WordsReadBack};
 
 use crate::cells::{EMPTY, exchange, is_empty, migrate_slot, word_at, words_of_line};
 use crate::found::Look;
-use crate::place::{slot, slots_left, stepped};
+use crate::place::{slots_left, stepped};
+use crate::places::Places;
 use crate::reading::look;
 use std::alloc::Global;
 use std::marker::Model;
@@ -23,9 +24,8 @@ use xl_phys::Bus;
 /// allocated after `open`.
 #[derive(Drop)]
 pub struct Way {
-    number: u64,
+    places: Places,
     cap: u8,
-    regs: WayRegs,
     slots: Vec<Entry>,
     used: u32,
     loads: u64,
@@ -38,11 +38,11 @@ impl Model for Way {
     ghost Value = { WayState };
 
     ghost view = { λ w. record {
-      shape = record { number = w.number; cap = w.cap; regs = w.regs; entries = entries_of w.slots.items };
+      shape = record { number = w.places.number; cap = w.cap; regs = w.places.regs; entries = entries_of w.slots.items };
       loads = w.loads;
     } };
 
-    ghost invariant = { λ w. IsKept w.number w.cap w.regs w.slots.items w.used };
+    ghost invariant = { λ w. IsKept w.places.number w.cap w.places.regs w.slots.items w.used };
 }
 
 /// How many slots the memory of a way has that may grow to 2^cap of them: at least a line of them.
@@ -67,14 +67,14 @@ impl Way {
         ensures loads { IfOk result (λ w. w.loads ≡ 0) }
     {
         let slots = vec![in alloc; EMPTY; room(cap_bits)]?;
+        let regs = WayRegs {
+            s: start_bits,
+            p: 0,
+            growing: false,
+        };
         Ok(Way {
-            number,
+            places: Places::open(number, regs),
             cap: cap_bits,
-            regs: WayRegs {
-                s: start_bits,
-                p: 0,
-                growing: false,
-            },
             slots,
             used: 0,
             loads: 0,
@@ -86,7 +86,7 @@ impl Way {
         ensures is { result ≡ self.now.shape.regs }
         ensures good { AreRegs self.now.shape.cap result }
     {
-        self.regs
+        self.places.regs()
     }
 
     /// The most that `s` may come to.
@@ -104,10 +104,11 @@ impl Way {
     }
 
     /// The word that is kept for the key; None exactly where the key isn't held.
+    #[inline(always)]
     pub fn get(&self, key: u64) -> Option<u64>
         ensures { result ≡ word_of key self.now.shape.entries }
     {
-        let at = slot(self.regs, self.number, key);
+        let at = self.places.slot(key);
         word_at(&self.slots, at as usize, key)
     }
 
@@ -115,7 +116,7 @@ impl Way {
     pub fn is_free(&self, key: u64) -> bool
         ensures { IsTrue result ↔ (occupant self.now.shape key ≡ None) }
     {
-        let at = slot(self.regs, self.number, key);
+        let at = self.places.slot(key);
         is_empty(&self.slots, at as usize)
     }
 
@@ -131,7 +132,7 @@ impl Way {
             ≡ Some (record { key = key; word = word })) }
         ensures full { IfSome result (λ e. 0 < e.word) }
     {
-        let at = slot(self.regs, self.number, key);
+        let at = self.places.slot(key);
         let left = exchange(&mut self.slots, at as usize, Entry { key, word });
         if left.word == 0 {
             self.used += 1;
@@ -147,7 +148,7 @@ impl Way {
         requires some { 0 < word }
         ensures { self.new ≡ record self.old { shape = with_word key word self.old.shape } }
     {
-        let at = slot(self.regs, self.number, key);
+        let at = self.places.slot(key);
         exchange(&mut self.slots, at as usize, Entry { key, word });
     }
 
@@ -156,7 +157,7 @@ impl Way {
         requires { is_held self.old.shape key ≡ true }
         ensures { self.new ≡ record self.old { shape = without_entry key self.old.shape } }
     {
-        let at = slot(self.regs, self.number, key);
+        let at = self.places.slot(key);
         exchange(&mut self.slots, at as usize, EMPTY);
         self.used -= 1;
     }
@@ -167,11 +168,11 @@ impl Way {
         requires room { self.old.shape.regs.s < self.old.shape.cap }
         ensures { self.new ≡ record self.old { shape = begun self.old.shape } }
     {
-        self.regs = WayRegs {
+        self.places.set(WayRegs {
             p: 0,
             growing: true,
-            ..self.regs
-        };
+            ..self.places.regs()
+        });
     }
 
     /// Migrates the slot at the rehash pointer. Every key keeps its word.
@@ -179,8 +180,9 @@ impl Way {
         requires { self.old.shape.regs.growing ≡ true }
         ensures { self.new ≡ record self.old { shape = advanced 1 self.old.shape } }
     {
-        migrate_slot(&mut self.slots, self.regs, self.number);
-        self.regs = stepped(self.regs);
+        let regs = self.places.regs();
+        migrate_slot(&mut self.slots, regs, self.places.number());
+        self.places.set(stepped(regs));
     }
 
     /// Migrates `most` slots, or those that are left where they are fewer, and answers how many.
@@ -203,7 +205,7 @@ impl Way {
         ensures word { result ≡ word_of key self.old.shape.entries }
         ensures load { self.new ≡ record self.old { loads = counted self.old.loads } }
     {
-        let (regs, number) = (self.regs, self.number);
+        let (regs, number) = (self.places.regs(), self.places.number());
         match look(self, regs, number, key) {
             Look::Found(word) => Some(word),
             _ => None,

@@ -1,7 +1,9 @@
-use Rattle.std.proofs.Common.{◌≡◌, sym, ap, subst, ◌<◌, false}
-use Rattle.xl_model.specs.Ways.{begun}
-use Rattle.xl_way.specs.Slots.{WayState}
-use Rattle.xl_way.proofs.WayLemmas.{kept-begun}
+use Rattle.std.proofs.Common.{◌≡◌, sym, ap, ◌∙◌, subst, ◌<◌, false}
+use Rattle.xl_model.specs.declared.way.WayRegs.{WayRegs}
+use Rattle.xl_model.specs.Ways.{begun, begun_regs}
+use Rattle.xl_way.specs.Slots.{WayState, PlacesState, entries_of}
+use Rattle.xl_way.specs.Kept.{IsKept}
+use Rattle.xl_way.proofs.WayLemmas.{kept-begun, way_of}
 use Rattle.xl_way.proofs.way.Way.begin_growth.Goals as goal
 
 pub invariant_of-self : goal.invariant_of-self
@@ -9,9 +11,15 @@ invariant_of-self c =
     let s = c.self.inside in
     let S : WayState → Type 0 = λ v. v.shape.regs.growing ≡ false in
     let R : WayState → Type 0 = λ v. v.shape.regs.s < v.shape.cap in
-    kept-begun s.number s.cap s.regs s.slots.items s.used c.self.invariant
-    (subst S (sym c.self.view_is) c.requires.still) (subst R (sym c.self.view_is) c.requires.room)
+    let K : PlacesState → Type 0 = λ p. IsKept p.number s.cap p.regs s.slots.items s.used in
+    let set : c.set.new.self ≡ record { number = s.places.number; regs = begun_regs s.places.regs } = c.set.ensures ∙ ap (λ (r : WayRegs). record { number = s.places.number; regs = begun_regs r }) c.regs.ensures in
+    subst K (sym set) (kept-begun s.places.number s.cap s.places.regs s.slots.items s.used c.self.invariant
+    (subst S (sym c.self.view_is) c.requires.still) (subst R (sym c.self.view_is) c.requires.room))
 
 pub returns : goal.returns
 unfolding begun
-returns c = ap (λ (v : WayState). record v { shape = begun v.shape }) c.self.view_is
+returns c =
+    let s = c.self.inside in
+    let set : c.set.new.self ≡ record { number = s.places.number; regs = begun_regs s.places.regs } = c.set.ensures ∙ ap (λ (r : WayRegs). record { number = s.places.number; regs = begun_regs r }) c.regs.ensures in
+    ap (λ (p : PlacesState). record { shape = way_of p.number s.cap p.regs (entries_of s.slots.items); loads = s.loads }) set
+    ∙ ap (λ (v : WayState). record v { shape = begun v.shape }) c.self.view_is

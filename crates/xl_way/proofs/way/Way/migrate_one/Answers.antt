@@ -1,10 +1,10 @@
-use Rattle.std.proofs.Common.{◌≡◌, sym, ap, ◌∙◌, subst, true, List, length, arith}
+use Rattle.std.proofs.Common.{◌≡◌, sym, ap, ◌∙◌, subst, ℕ, true, List, length, arith}
 use Rattle.xl_model.specs.declared.way.Entry.{Entry}
 use Rattle.xl_model.specs.declared.way.WayRegs.{WayRegs}
-use Rattle.xl_model.specs.Ways.{advanced}
-use Rattle.xl_way.specs.Slots.{WayState, entries_of}
+use Rattle.xl_model.specs.Ways.{advanced, regs_after}
+use Rattle.xl_way.specs.Slots.{WayState, PlacesState, entries_of}
 use Rattle.xl_way.specs.Cells.{moved}
-use Rattle.xl_way.specs.Kept.{IsKept}
+use Rattle.xl_way.specs.Kept.{IsKept, reach}
 use Rattle.xl_way.proofs.WayLemmas.{migrate-is, reach-in, way_of}
 use Rattle.xl_way.proofs.FieldLemmas.{items-now}
 use Rattle.xl_way.proofs.way.Way.migrate_one.Goals as goal
@@ -13,30 +13,43 @@ pub migrate_slot-requires-clause-room : goal.migrate_slot-requires-clause-room
 migrate_slot-requires-clause-room c =
     let s = c.self.inside in
     let G : WayState → Type 0 = λ v. v.shape.regs.growing ≡ true in
-    let l = reach-in s.number s.cap s.regs s.slots.items s.used c.self.invariant (subst G (sym c.self.view_is) c.requires) in
+    let l = reach-in s.places.number s.cap s.places.regs s.slots.items s.used c.self.invariant (subst G (sym c.self.view_is) c.requires) in
     let n = ap (λ (xs : List Entry). length xs) c.deref_mut.ensures.value in
+    let q = ap reach c.regs-regs.ensures in
     omega arith
 
 pub invariant_of-self : goal.invariant_of-self
 invariant_of-self c =
     let s = c.self.inside in
     let G : WayState → Type 0 = λ v. v.shape.regs.growing ≡ true in
-    let done = migrate-is s.number s.cap s.regs s.slots.items s.used c.self.invariant (subst G (sym c.self.view_is) c.requires) in
-    let is : c.migrate_slot.new.slots ≡ moved s.regs s.number s.slots.items = rw c.deref_mut.ensures.value at c.migrate_slot.ensures in
-    let items = items-now s c.migrate_slot.new.slots (moved s.regs s.number s.slots.items) is (done.kept.size ∙ sym c.self.invariant.size) in
-    let K : List Entry → Type 0 = λ xs. IsKept s.number s.cap c.stepped-self-inside.result xs s.used in
-    let R : WayRegs → Type 0 = λ r. IsKept s.number s.cap r (moved s.regs s.number s.slots.items) s.used in
-    subst K (sym items) (subst R (sym c.stepped-self-inside.ensures) done.kept)
+    let done = migrate-is s.places.number s.cap s.places.regs s.slots.items s.used c.self.invariant (subst G (sym c.self.view_is) c.requires) in
+    let is : c.migrate_slot.new.slots ≡ moved s.places.regs s.places.number s.slots.items =
+    c.migrate_slot.ensures
+    ∙ ap (λ (r : WayRegs). moved r c.number.result c.deref_mut.result.now) c.regs-regs.ensures
+    ∙ ap (λ (n : ℕ). moved s.places.regs n c.deref_mut.result.now) c.number.ensures
+    ∙ ap (moved s.places.regs s.places.number) c.deref_mut.ensures.value in
+    let now : c.set.new.self ≡ record { number = s.places.number; regs = regs_after 1 s.places.regs } =
+    c.set.ensures ∙ ap (λ (r : WayRegs). record { number = s.places.number; regs = r }) (c.stepped.ensures ∙ ap (regs_after 1) c.regs-regs.ensures) in
+    let items = items-now s c.migrate_slot.new.slots (moved s.places.regs s.places.number s.slots.items) is (done.kept.size ∙ sym c.self.invariant.size) in
+    let K : List Entry → Type 0 = λ xs. IsKept c.set.new.self.number s.cap c.set.new.self.regs xs s.used in
+    let R : PlacesState → Type 0 = λ p. IsKept p.number s.cap p.regs (moved s.places.regs s.places.number s.slots.items) s.used in
+    subst K (sym items) (subst R (sym now) done.kept)
 
 pub returns : goal.returns
 unfolding advanced
 returns c =
     let s = c.self.inside in
     let G : WayState → Type 0 = λ v. v.shape.regs.growing ≡ true in
-    let done = migrate-is s.number s.cap s.regs s.slots.items s.used c.self.invariant (subst G (sym c.self.view_is) c.requires) in
-    let is : c.migrate_slot.new.slots ≡ moved s.regs s.number s.slots.items = rw c.deref_mut.ensures.value at c.migrate_slot.ensures in
-    let items = items-now s c.migrate_slot.new.slots (moved s.regs s.number s.slots.items) is (done.kept.size ∙ sym c.self.invariant.size) in
-    ap (λ (xs : List Entry). record { shape = way_of s.number s.cap c.stepped-self-inside.result (entries_of xs); loads = s.loads }) items
-    ∙ ap (λ (es : List Entry). record { shape = way_of s.number s.cap c.stepped-self-inside.result es; loads = s.loads }) done.entries
-    ∙ ap (λ (r : WayRegs). record { shape = way_of s.number s.cap r (entries_of s.slots.items); loads = s.loads }) c.stepped-self-inside.ensures
+    let done = migrate-is s.places.number s.cap s.places.regs s.slots.items s.used c.self.invariant (subst G (sym c.self.view_is) c.requires) in
+    let is : c.migrate_slot.new.slots ≡ moved s.places.regs s.places.number s.slots.items =
+    c.migrate_slot.ensures
+    ∙ ap (λ (r : WayRegs). moved r c.number.result c.deref_mut.result.now) c.regs-regs.ensures
+    ∙ ap (λ (n : ℕ). moved s.places.regs n c.deref_mut.result.now) c.number.ensures
+    ∙ ap (moved s.places.regs s.places.number) c.deref_mut.ensures.value in
+    let now : c.set.new.self ≡ record { number = s.places.number; regs = regs_after 1 s.places.regs } =
+    c.set.ensures ∙ ap (λ (r : WayRegs). record { number = s.places.number; regs = r }) (c.stepped.ensures ∙ ap (regs_after 1) c.regs-regs.ensures) in
+    let items = items-now s c.migrate_slot.new.slots (moved s.places.regs s.places.number s.slots.items) is (done.kept.size ∙ sym c.self.invariant.size) in
+    ap (λ (xs : List Entry). record { shape = way_of c.set.new.self.number s.cap c.set.new.self.regs (entries_of xs); loads = s.loads }) items
+    ∙ ap (λ (es : List Entry). record { shape = way_of c.set.new.self.number s.cap c.set.new.self.regs es; loads = s.loads }) done.entries
+    ∙ ap (λ (p : PlacesState). record { shape = way_of p.number s.cap p.regs (entries_of s.slots.items); loads = s.loads }) now
     ∙ ap (λ (v : WayState). record v { shape = advanced 1 v.shape }) c.self.view_is

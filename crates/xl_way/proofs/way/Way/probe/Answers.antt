@@ -1,4 +1,5 @@
 use Rattle.std.proofs.Common.{◌≡◌, refl, sym, ap, ◌∙◌, ℕ, Option, None, Some}
+use Rattle.xl_model.specs.declared.way.WayRegs.{WayRegs}
 use Rattle.xl_way.specs.declared.found.Look.{Look}
 use Rattle.xl_way.specs.declared.found.Look.TheVariants.{Found}
 use Rattle.xl_way.specs.Slots.{WayState, word_of}
@@ -19,8 +20,10 @@ pub returns-in-Found-clause-word : goal.returns-in-Found-clause-word
 returns-in-Found-clause-word c =
     let s = c.self.inside in
     found-some c.look.result c.in-Found.word (word_of c.args.key c.args.self.now.shape.entries) c.in-Found.is
-    (c.look.ensures.is ∙ ap (λ (v : WayState). slot_back (words_of v.shape) s.regs s.number c.args.key) (sym c.self.view_is)
-    ∙ look-is s.number s.cap s.regs s.slots.items s.used c.self.invariant c.args.key
+    (c.look.ensures.is ∙ ap (λ (r : WayRegs). slot_back (words_of c.args.self.now.shape) r c.number-number.result c.args.key) c.regs-regs.ensures
+    ∙ ap (λ (n : ℕ). slot_back (words_of c.args.self.now.shape) s.places.regs n c.args.key) c.number-number.ensures
+    ∙ ap (λ (v : WayState). slot_back (words_of v.shape) s.places.regs s.places.number c.args.key) (sym c.self.view_is)
+    ∙ look-is s.places.number s.cap s.places.regs s.slots.items s.used c.self.invariant c.args.key
     ∙ ap (λ (v : WayState). look_of (word_of c.args.key v.shape.entries)) c.self.view_is)
 
 pub returns-in_default : goal.returns-in_default
@@ -28,8 +31,10 @@ returns-in_default c =
     let s = c.self.inside in
     record {
       word = found-none c.look.result (word_of c.args.key c.args.self.now.shape.entries) c.in_default.not-Found
-          (c.look.ensures.is ∙ ap (λ (v : WayState). slot_back (words_of v.shape) s.regs s.number c.args.key) (sym c.self.view_is)
-          ∙ look-is s.number s.cap s.regs s.slots.items s.used c.self.invariant c.args.key
+          (c.look.ensures.is ∙ ap (λ (r : WayRegs). slot_back (words_of c.args.self.now.shape) r c.number-number.result c.args.key) c.regs-regs.ensures
+    ∙ ap (λ (n : ℕ). slot_back (words_of c.args.self.now.shape) s.places.regs n c.args.key) c.number-number.ensures
+    ∙ ap (λ (v : WayState). slot_back (words_of v.shape) s.places.regs s.places.number c.args.key) (sym c.self.view_is)
+          ∙ look-is s.places.number s.cap s.places.regs s.slots.items s.used c.self.invariant c.args.key
           ∙ ap (λ (v : WayState). look_of (word_of c.args.key v.shape.entries)) c.self.view_is);
       load = c.look.ensures.bus;
     }

@@ -19,11 +19,11 @@ invariant_of-self c =
     let x : Entry = record { key = c.args.key; word = c.args.word } in
     let H : WayState → Type 0 = λ v. is_held v.shape c.args.key ≡ true in
     let less = inside-now s s.slots.items c.args.key at c.self.invariant refl c.slot-at.ensures.is in
-    let here = held-is s.number s.cap s.regs s.slots.items s.used c.args.key at c.self.invariant c.slot-at.ensures.is (subst H (sym c.self.view_is) c.requires.held) in
-    let done = reword-is s.number s.cap s.regs s.slots.items s.used c.args.key c.args.word at c.self.invariant c.slot-at.ensures.is c.requires.some here in
+    let here = held-is s.places.number s.cap s.places.regs s.slots.items s.used c.args.key at c.self.invariant c.slot-at.ensures.is (subst H (sym c.self.view_is) c.requires.held) in
+    let done = reword-is s.places.number s.cap s.places.regs s.slots.items s.used c.args.key c.args.word at c.self.invariant c.slot-at.ensures.is c.requires.some here in
     let items = items-set s c.deref_mut.result.now c.exchange.new.slots at x c.deref_mut.ensures.value c.exchange.ensures.slots in
-    let K : List Entry → Type 0 = λ xs. IsKept s.number s.cap s.regs xs s.used in
-    subst K (sym items) (kept-set s.number s.cap s.regs s.slots.items s.used at x s.used c.self.invariant less
+    let K : List Entry → Type 0 = λ xs. IsKept s.places.number s.cap s.places.regs xs s.used in
+    subst K (sym items) (kept-set s.places.number s.cap s.places.regs s.slots.items s.used at x s.used c.self.invariant less
     (λ f. sym c.slot-at.ensures.is) (λ z. absurd (let r = c.requires.some in omega arith)) (c.self.invariant.count ∙ sym done.same))
 
 pub returns : goal.returns
@@ -32,9 +32,9 @@ returns c =
     let at = c.slot-at.result in
     let x : Entry = record { key = c.args.key; word = c.args.word } in
     let H : WayState → Type 0 = λ v. is_held v.shape c.args.key ≡ true in
-    let here = held-is s.number s.cap s.regs s.slots.items s.used c.args.key at c.self.invariant c.slot-at.ensures.is (subst H (sym c.self.view_is) c.requires.held) in
-    let done = reword-is s.number s.cap s.regs s.slots.items s.used c.args.key c.args.word at c.self.invariant c.slot-at.ensures.is c.requires.some here in
+    let here = held-is s.places.number s.cap s.places.regs s.slots.items s.used c.args.key at c.self.invariant c.slot-at.ensures.is (subst H (sym c.self.view_is) c.requires.held) in
+    let done = reword-is s.places.number s.cap s.places.regs s.slots.items s.used c.args.key c.args.word at c.self.invariant c.slot-at.ensures.is c.requires.some here in
     let items = items-set s c.deref_mut.result.now c.exchange.new.slots at x c.deref_mut.ensures.value c.exchange.ensures.slots in
-    ap (λ (xs : List Entry). record { shape = way_of s.number s.cap s.regs (entries_of xs); loads = s.loads }) items
+    ap (λ (xs : List Entry). record { shape = way_of s.places.number s.cap s.places.regs (entries_of xs); loads = s.loads }) items
     ∙ ap (λ (w : WayShape). record { shape = w; loads = s.loads }) done.shape
     ∙ ap (λ (v : WayState). record v { shape = with_word c.args.key c.args.word v.shape }) c.self.view_is

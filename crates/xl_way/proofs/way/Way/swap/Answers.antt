@@ -15,7 +15,7 @@ exchange-left-requires c =
 pub overflow_add-self : goal.overflow_add-self
 overflow_add-self c =
     let s = c.self.inside in
-    let l = few-used s.number s.cap s.regs s.slots.items s.used c.self.invariant in
+    let l = few-used s.places.number s.cap s.places.regs s.slots.items s.used c.self.invariant in
     omega arith
 
 -- where no entry stood in the slot
@@ -27,9 +27,9 @@ invariant_of-self c =
     let less = inside-now s s.slots.items c.args.key at c.self.invariant refl c.slot-at.ensures.is in
     let items = items-set s c.deref_mut.result.now c.exchange-left.new.slots at x c.deref_mut.ensures.value c.exchange-left.ensures.slots in
     let left : c.exchange-left.result ≡ cell s.slots.items at = rw c.deref_mut.ensures.value at c.exchange-left.ensures.left in
-    let more = swap-more s.number s.regs s.slots.items at x c.self.invariant.placed less c.slot-at.ensures.is c.requires (sym (ap (λ (e : Entry). e.word) left) ∙ c.if-left-eq0.true) in
-    let K : List Entry → Type 0 = λ xs. IsKept s.number s.cap s.regs xs (s.used + 1) in
-    subst K (sym items) (kept-set s.number s.cap s.regs s.slots.items s.used at x (s.used + 1) c.self.invariant less
+    let more = swap-more s.places.number s.places.regs s.slots.items at x c.self.invariant.placed less c.slot-at.ensures.is c.requires (sym (ap (λ (e : Entry). e.word) left) ∙ c.if-left-eq0.true) in
+    let K : List Entry → Type 0 = λ xs. IsKept s.places.number s.cap s.places.regs xs (s.used + 1) in
+    subst K (sym items) (kept-set s.places.number s.cap s.places.regs s.slots.items s.used at x (s.used + 1) c.self.invariant less
     (λ f. sym c.slot-at.ensures.is) (λ z. absurd (let r = c.requires in omega arith)) (let n = c.self.invariant.count in omega arith))
 
 pub returns-then-left-eq0-clause-left : goal.returns-then-left-eq0-clause-left
@@ -40,7 +40,7 @@ returns-then-left-eq0-clause-left c =
     let left : c.exchange-left.result ≡ cell s.slots.items at = rw c.deref_mut.ensures.value at c.exchange-left.ensures.left in
     let none : standing_in c.exchange-left.result ≡ None = rw c.if-left-eq0.true refl in
     sym (ap (λ (v : WayState). occupant v.shape c.args.key) (sym c.self.view_is)
-    ∙ occupant-is s.number s.cap s.regs s.slots.items c.args.key at c.self.invariant.placed less c.slot-at.ensures.is
+    ∙ occupant-is s.places.number s.cap s.places.regs s.slots.items c.args.key at c.self.invariant.placed less c.slot-at.ensures.is
     ∙ ap standing_in (sym left) ∙ none)
 
 pub returns-then-left-eq0-clause-shape : goal.returns-then-left-eq0-clause-shape
@@ -58,9 +58,9 @@ invariant_of-self-else-left-eq0 c =
     let items = items-set s c.deref_mut.result.now c.exchange-left.new.slots at x c.deref_mut.ensures.value c.exchange-left.ensures.slots in
     let left : c.exchange-left.result ≡ cell s.slots.items at = rw c.deref_mut.ensures.value at c.exchange-left.ensures.left in
     let full : 0 < (cell s.slots.items at).word = (let w = ap (λ (e : Entry). e.word) left in let f = c.if-left-eq0.false in omega arith) in
-    let done = swap-back s.number s.cap s.regs s.slots.items at x c.self.invariant.placed less c.slot-at.ensures.is c.requires full in
-    let K : List Entry → Type 0 = λ xs. IsKept s.number s.cap s.regs xs s.used in
-    subst K (sym items) (kept-set s.number s.cap s.regs s.slots.items s.used at x s.used c.self.invariant less
+    let done = swap-back s.places.number s.cap s.places.regs s.slots.items at x c.self.invariant.placed less c.slot-at.ensures.is c.requires full in
+    let K : List Entry → Type 0 = λ xs. IsKept s.places.number s.cap s.places.regs xs s.used in
+    subst K (sym items) (kept-set s.places.number s.cap s.places.regs s.slots.items s.used at x s.used c.self.invariant less
     (λ f. sym c.slot-at.ensures.is) (λ z. absurd (let r = c.requires in omega arith)) (c.self.invariant.count ∙ sym done.same))
 
 pub returns-else-left-eq0-clause-left : goal.returns-else-left-eq0-clause-left
@@ -71,7 +71,7 @@ returns-else-left-eq0-clause-left c =
     let left : c.exchange-left.result ≡ cell s.slots.items at = rw c.deref_mut.ensures.value at c.exchange-left.ensures.left in
     let full : 0 < c.exchange-left.result.word = (let f = c.if-left-eq0.false in omega arith) in
     sym (ap (λ (v : WayState). occupant v.shape c.args.key) (sym c.self.view_is)
-    ∙ occupant-is s.number s.cap s.regs s.slots.items c.args.key at c.self.invariant.placed less c.slot-at.ensures.is
+    ∙ occupant-is s.places.number s.cap s.places.regs s.slots.items c.args.key at c.self.invariant.placed less c.slot-at.ensures.is
     ∙ ap standing_in (sym left) ∙ some-word c.exchange-left.result full)
 
 pub returns-else-left-eq0-clause-shape : goal.returns-else-left-eq0-clause-shape
@@ -88,10 +88,10 @@ returns-else-left-eq0-clause-back c =
     let items = items-set s c.deref_mut.result.now c.exchange-left.new.slots at x c.deref_mut.ensures.value c.exchange-left.ensures.slots in
     let left : c.exchange-left.result ≡ cell s.slots.items at = rw c.deref_mut.ensures.value at c.exchange-left.ensures.left in
     let full : 0 < (cell s.slots.items at).word = (let w = ap (λ (e : Entry). e.word) left in let f = c.if-left-eq0.false in omega arith) in
-    let done = swap-back s.number s.cap s.regs s.slots.items at x c.self.invariant.placed less c.slot-at.ensures.is c.requires full in
+    let done = swap-back s.places.number s.cap s.places.regs s.slots.items at x c.self.invariant.placed less c.slot-at.ensures.is c.requires full in
     ap (λ (v : WayState). v.shape) (sym c.self.view_is) ∙ done.back
-    ∙ ap (λ (xs : List Entry). swapped (way_of s.number s.cap s.regs (entries_of xs)) (cell s.slots.items at)) (sym items)
-    ∙ ap (λ (e : Entry). swapped (way_of s.number s.cap s.regs (entries_of (with_items s.slots c.exchange-left.new.slots).items)) e) (sym left)
+    ∙ ap (λ (xs : List Entry). swapped (way_of s.places.number s.cap s.places.regs (entries_of xs)) (cell s.slots.items at)) (sym items)
+    ∙ ap (λ (e : Entry). swapped (way_of s.places.number s.cap s.places.regs (entries_of (with_items s.slots c.exchange-left.new.slots).items)) e) (sym left)
 
 pub returns-else-left-eq0-clause-again : goal.returns-else-left-eq0-clause-again
 returns-else-left-eq0-clause-again c =
@@ -102,7 +102,7 @@ returns-else-left-eq0-clause-again c =
     let items = items-set s c.deref_mut.result.now c.exchange-left.new.slots at x c.deref_mut.ensures.value c.exchange-left.ensures.slots in
     let left : c.exchange-left.result ≡ cell s.slots.items at = rw c.deref_mut.ensures.value at c.exchange-left.ensures.left in
     let full : 0 < (cell s.slots.items at).word = (let w = ap (λ (e : Entry). e.word) left in let f = c.if-left-eq0.false in omega arith) in
-    let done = swap-back s.number s.cap s.regs s.slots.items at x c.self.invariant.placed less c.slot-at.ensures.is c.requires full in
-    ap (λ (xs : List Entry). occupant (way_of s.number s.cap s.regs (entries_of xs)) c.exchange-left.result.key) items
-    ∙ ap (λ (e : Entry). occupant (way_of s.number s.cap s.regs (entries_of (set s.slots.items at x))) e.key) left
+    let done = swap-back s.places.number s.cap s.places.regs s.slots.items at x c.self.invariant.placed less c.slot-at.ensures.is c.requires full in
+    ap (λ (xs : List Entry). occupant (way_of s.places.number s.cap s.places.regs (entries_of xs)) c.exchange-left.result.key) items
+    ∙ ap (λ (e : Entry). occupant (way_of s.places.number s.cap s.places.regs (entries_of (set s.slots.items at x))) e.key) left
     ∙ done.again

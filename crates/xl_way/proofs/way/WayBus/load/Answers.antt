@@ -16,11 +16,11 @@ returns-clause-some c =
     λ xs. (cell xs (2 * c.args.line)).key ∷ (cell xs (2 * c.args.line)).word ∷ (cell xs (2 * c.args.line + 1)).key ∷ (cell xs (2 * c.args.line + 1)).word ∷ [] in
     let F : List Entry → Type 0 = λ xs. IfSome c.words_of_line.result (λ ws. ws ≡ four xs) in
     let T : List Entry → Type 0 = λ xs. IfSome c.words_of_line.result (λ ws. 2 * c.args.line + 2 ≤ length xs) in
-    let W : List ℕ = words_of (way_of s.number s.cap s.regs (entries_of s.slots.items)) in
+    let W : List ℕ = words_of (way_of s.places.number s.cap s.places.regs (entries_of s.slots.items)) in
     let go : (o : Option (List ℕ)) → IfSome o (λ ws. ws ≡ four s.slots.items) → IfSome o (λ ws. 2 * c.args.line + 2 ≤ length s.slots.items) → IfSome o (IsLine W c.args.line) =
     λ o. elim o as (λ p. IfSome p (λ ws. ws ≡ four s.slots.items) → IfSome p (λ ws. 2 * c.args.line + 2 ≤ length s.slots.items) → IfSome p (IsLine W c.args.line)) [
       | None ↦ λ e l. tt
-      | Some ws ↦ λ e l. let L : List ℕ → Type 0 = λ vs. IsLine W c.args.line vs in subst L (sym e) (line-is s.number s.cap s.regs s.slots.items s.used c.self.invariant c.args.line l)
+      | Some ws ↦ λ e l. let L : List ℕ → Type 0 = λ vs. IsLine W c.args.line vs in subst L (sym e) (line-is s.places.number s.cap s.places.regs s.slots.items s.used c.self.invariant c.args.line l)
     ] in
     subst S c.self.view_is (go c.words_of_line.result (subst F c.deref.ensures.value c.words_of_line.ensures.some) (subst T c.deref.ensures.value c.words_of_line.ensures.there))
 
@@ -29,10 +29,10 @@ returns-clause-none c =
     let s = c.self.inside in
     let S : WayState → Type 0 = λ v. IfNone c.words_of_line.result (length (words_of v.shape) < 4 * c.args.line + 4) in
     let N : List Entry → Type 0 = λ xs. IfNone c.words_of_line.result (length xs < 2 * c.args.line + 2) in
-    let W : List ℕ = words_of (way_of s.number s.cap s.regs (entries_of s.slots.items)) in
+    let W : List ℕ = words_of (way_of s.places.number s.cap s.places.regs (entries_of s.slots.items)) in
     let go : (o : Option (List ℕ)) → IfNone o (length s.slots.items < 2 * c.args.line + 2) → IfNone o (length W < 4 * c.args.line + 4) =
     λ o. elim o as (λ p. IfNone p (length s.slots.items < 2 * c.args.line + 2) → IfNone p (length W < 4 * c.args.line + 4)) [
-      | None ↦ λ l. line-none s.number s.cap s.regs s.slots.items s.used c.self.invariant c.args.line l
+      | None ↦ λ l. line-none s.places.number s.cap s.places.regs s.slots.items s.used c.self.invariant c.args.line l
       | Some ws ↦ λ l. tt
     ] in
     subst S c.self.view_is (go c.words_of_line.result (subst N c.deref.ensures.value c.words_of_line.ensures.none))
