@@ -3,6 +3,7 @@
 ghost use Rattle.std.specs.Prelude.{◌≡◌, ◌+◌, ◌-◌, ◌*◌, ◌%◌, ◌^◌, ◌≤◌, ◌<◌, false, ℕ};
 ghost use Rattle.xl_model.specs.declared.way.WayRegs.{WayRegs};
 ghost use Rattle.xl_model.specs.Ways.{slot as slot_of};
+
 use std::marker::Model;
 use xl_model::{WayRegs, mix};
 

@@ -32,8 +32,8 @@ returns-in_default c =
     record {
       word = found-none c.look.result (word_of c.args.key c.args.self.now.shape.entries) c.in_default.not-Found
           (c.look.ensures.is ∙ ap (λ (r : WayRegs). slot_back (words_of c.args.self.now.shape) r c.number-number.result c.args.key) c.regs-regs.ensures
-    ∙ ap (λ (n : ℕ). slot_back (words_of c.args.self.now.shape) s.places.regs n c.args.key) c.number-number.ensures
-    ∙ ap (λ (v : WayState). slot_back (words_of v.shape) s.places.regs s.places.number c.args.key) (sym c.self.view_is)
+          ∙ ap (λ (n : ℕ). slot_back (words_of c.args.self.now.shape) s.places.regs n c.args.key) c.number-number.ensures
+          ∙ ap (λ (v : WayState). slot_back (words_of v.shape) s.places.regs s.places.number c.args.key) (sym c.self.view_is)
           ∙ look-is s.places.number s.cap s.places.regs s.slots.items s.used c.self.invariant c.args.key
           ∙ ap (λ (v : WayState). look_of (word_of c.args.key v.shape.entries)) c.self.view_is);
       load = c.look.ensures.bus;
