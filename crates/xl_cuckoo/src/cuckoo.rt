@@ -111,11 +111,19 @@ impl<const D: usize> Cuckoo<D> {
         })
     }
 
+    /// All ways, where it is seen that there are `D` of them.
+    #[inline(always)]
+    fn all_ways(&self) -> &[Way]
+        ensures { shapes result.now ≡ self.now.ways }
+    {
+        &self.ways[..D]
+    }
+
     /// The word that is kept for the key; None exactly where no way holds it.
     pub fn get(&self, key: u64) -> Option<u64>
         ensures { result ≡ value_of key self.now.ways }
     {
-        value(&self.ways, key)
+        value(self.all_ways(), key)
     }
 
     /// The number of the way that holds the key; None exactly where none does.
@@ -181,7 +189,7 @@ impl<const D: usize> Cuckoo<D> {
         ensures found { result ≡ value_of key self.old.ways }
         ensures after { self.new ≡ loaded (length self.old.ways) self.old }
     {
-        let found = value(&self.ways, key);
+        let found = value(self.all_ways(), key);
         self.count_probe();
         found
     }

@@ -7,13 +7,13 @@ use Rattle.xl_model.specs.Recency.{touched, without_first, purged}
 use Rattle.xl_model_lemmas.proofs.MemberLemmas.{find-passes}
 use Rattle.xl_recency.specs.declared.item.Item.{Item}
 use Rattle.xl_cuckoo_walk.specs.Coding.{has_tag, word_of_item}
-use Rattle.xl_cuckoo_walk.specs.Known.{IsFrontIf, IsKnown}
+use Rattle.xl_cuckoo_walk.specs.Known.{IsFrontIf, word_known, IsKnown}
 use Rattle.xl_cuckoo_walk.specs.Plans.{touched_in, newest_in, filled}
 
 -- what a touch found is in front
-front_touched : (tag : ℕ) (xs : List Item) (o : Option Item) → find (has_tag tag) xs ≡ o → IsFrontIf tag (word_of_item o) (touched (has_tag tag) xs)
-front_touched tag xs None e = tt
-front_touched tag xs (Some i) e =
+front_touched : (tag : ℕ) (xs : List Item) (o : Option Item) → find (has_tag tag) xs ≡ o → IsFrontIf tag (word_known (word_of_item o)) (touched (has_tag tag) xs)
+front_touched tag xs None e = λ pos. absurd (omega arith)
+front_touched tag xs (Some i) e = λ pos.
     let t : has_tag tag i ≡ true = find-passes (has_tag tag) i xs e in
     let ys : List Item = without_first (has_tag tag) xs in
     let now : touched (has_tag tag) xs ≡ i ∷ ys = rw e refl in
@@ -43,25 +43,25 @@ off_kept true None key word c e = sym (off_filled key word c e)
 off_kept true (Some old) key word c e = refl
 
 -- what is known after each call
-pub known_opened : (width : ℕ) (c : Cached Item) → c ≡ empty_cache width → IsKnown (not (width == 0)) 0 None c
+pub known_opened : (width : ℕ) (c : Cached Item) → c ≡ empty_cache width → IsKnown (not (width == 0)) 0 0 c
 known_opened width c e = record {
   off = λ f. e ∙ ap empty_cache (none width f);
-  front = tt;
+  front = λ pos. absurd (omega arith);
 }
   where
     none : (n : ℕ) → not (n == 0) ≡ false → n ≡ 0
     none n f = grind (arith, nat_tests)
 
 pub known_touched : (kept : Bool) (tag : ℕ) (word : Option ℕ) (old new : Cached Item) → (kept ≡ false → old ≡ empty_cache 0)
-    → word ≡ word_of_item (find (has_tag tag) old.items) → new ≡ touched_in tag old → IsKnown kept tag word new
+    → word ≡ word_of_item (find (has_tag tag) old.items) → new ≡ touched_in tag old → IsKnown kept tag (word_known word) new
 known_touched kept tag word old new off found moved = record {
   off = λ f. moved ∙ off_touched tag old (off f) ∙ off f;
-  front = subst (λ w. IsFrontIf tag w new.items) (sym found)
-      (subst (λ (z : Cached Item). IsFrontIf tag (word_of_item (find (has_tag tag) old.items)) z.items) (sym moved) (front_touched tag old.items (find (has_tag tag) old.items) refl));
+  front = subst (λ w. IsFrontIf tag (word_known w) new.items) (sym found)
+      (subst (λ (z : Cached Item). IsFrontIf tag (word_known (word_of_item (find (has_tag tag) old.items))) z.items) (sym moved) (front_touched tag old.items (find (has_tag tag) old.items) refl));
 }
 
-pub known_filled : (kept : Bool) (tag : ℕ) (key word : ℕ) (old new : Cached Item) → (kept ≡ false → old ≡ empty_cache 0) → new ≡ newest_in key word old → IsKnown kept tag None new
-known_filled kept tag key word old new off is = record { off = λ f. is ∙ off_filled key word old (off f) ∙ off f; front = tt }
+pub known_filled : (kept : Bool) (tag : ℕ) (key word : ℕ) (old new : Cached Item) → (kept ≡ false → old ≡ empty_cache 0) → new ≡ newest_in key word old → IsKnown kept tag 0 new
+known_filled kept tag key word old new off is = record { off = λ f. is ∙ off_filled key word old (off f) ∙ off f; front = λ pos. absurd (omega arith) }
 
-pub known_purged : (kept : Bool) (tag : ℕ) (p : Item → Bool) (old new : Cached Item) → (kept ≡ false → old ≡ empty_cache 0) → new ≡ record old { items = purged p old.items } → IsKnown kept tag None new
-known_purged kept tag p old new off is = record { off = λ f. is ∙ off_purged p old (off f) ∙ off f; front = tt }
+pub known_purged : (kept : Bool) (tag : ℕ) (p : Item → Bool) (old new : Cached Item) → (kept ≡ false → old ≡ empty_cache 0) → new ≡ record old { items = purged p old.items } → IsKnown kept tag 0 new
+known_purged kept tag p old new off is = record { off = λ f. is ∙ off_purged p old (off f) ∙ off f; front = λ pos. absurd (omega arith) }

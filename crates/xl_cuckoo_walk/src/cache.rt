@@ -5,7 +5,7 @@ ghost use Rattle.xl_model.specs.Caches.{empty_cache};
 ghost use Rattle.xl_model.specs.Recency.{purged};
 ghost use Rattle.xl_recency.specs.Widths.{IsWidth};
 ghost use Rattle.xl_cuckoo_walk.specs.Coding.{has_tag, word_of_item, is_old};
-ghost use Rattle.xl_cuckoo_walk.specs.Known.{IsFrontIf};
+ghost use Rattle.xl_cuckoo_walk.specs.Known.{IsFrontIf, word_known};
 ghost use Rattle.xl_cuckoo_walk.specs.Plans.{touched_in, newest_in, fenced};
 
 use crate::coding::{fence_cache, put_newest, refresh, touch};
@@ -20,9 +20,10 @@ pub(crate) struct Sections {
     list: Cache,
     /// False only where the width is 0: then nothing is looked for.
     is_kept: bool,
-    /// The tag of the last touch, and the word that it found: that section is in front.
+    /// The tag of the last touch, and the word that it found: that section is in front. 0 where this
+    /// isn't known, since no section's word is 0.
     tag: u64,
-    word: Option<u64>,
+    word: u64,
 }
 
 impl Model for Sections {
@@ -37,6 +38,16 @@ impl Model for Sections {
     ghost invariant = { λ s. IsKnown s.is_kept s.tag s.word s.list };
 }
 
+/// The word of a section that a touch found, 0 where it found none.
+fn known(word: Option<u64>) -> u64
+    ensures { result ≡ word_known word }
+{
+    match word {
+        None => 0,
+        Some(word) => word,
+    }
+}
+
 impl Sections {
     /// An empty cache of this width.
     pub fn open(alloc: Global, width: u8) -> Result<Sections, NoMemory>
@@ -48,7 +59,7 @@ impl Sections {
             list,
             is_kept: width != 0,
             tag: 0,
-            word: None,
+            word: 0,
         })
     }
 
@@ -69,12 +80,12 @@ impl Sections {
     }
 
     /// The word of the section of this tag where that is known to be in front: then a touch finds it and
-    /// moves nothing.
+    /// moves nothing. Else 0.
     #[inline(always)]
-    pub fn front(&self, tag: u64) -> Option<u64>
+    pub fn front(&self, tag: u64) -> u64
         ensures { IsFrontIf tag result self.now.items }
     {
-        if self.tag == tag { self.word } else { None }
+        if self.tag == tag { self.word } else { 0 }
     }
 
     /// Brings the section of this tag to the front, and gives its word.
@@ -86,8 +97,8 @@ impl Sections {
         if !self.is_kept {
             return None;
         }
-        if self.tag == tag && self.word.is_some() {
-            return self.word;
+        if self.tag == tag && self.word != 0 {
+            return Some(self.word);
         }
         self.touch_behind(tag)
     }
@@ -100,7 +111,7 @@ impl Sections {
     {
         let word = touch(&mut self.list, tag);
         self.tag = tag;
-        self.word = word;
+        self.word = known(word);
         word
     }
 
@@ -108,7 +119,7 @@ impl Sections {
     pub fn put_newest(&mut self, tag: u64, word: u64)
         ensures { self.new ≡ newest_in tag word self.old }
     {
-        self.word = None;
+        self.word = 0;
         put_newest(&mut self.list, tag, word);
     }
 
@@ -116,7 +127,7 @@ impl Sections {
     pub fn refresh(&mut self, tag: u64, word: u64)
         ensures { self.new ≡ record self.old { items = purged (is_old tag word) self.old.items } }
     {
-        self.word = None;
+        self.word = 0;
         refresh(&mut self.list, tag, word);
     }
 
@@ -126,7 +137,7 @@ impl Sections {
         ensures count { result + length self.new.items ≡ length self.old.items }
         ensures most { result ≤ 64 }
     {
-        self.word = None;
+        self.word = 0;
         fence_cache(&mut self.list, reach)
     }
 }

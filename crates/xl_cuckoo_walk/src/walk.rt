@@ -8,7 +8,7 @@ use crate::fill::{fill_if, fills_middle, one_hit};
 use crate::parts::Parts;
 use crate::plan::{Hits, Plan, planned};
 use crate::probe::{probe_next, probe_order};
-use crate::sole::{Sole, sole_left};
+use crate::sole::{Sole, sole_of};
 use xl_model::{Order, Walk};
 use xl_pte::words_read_back;
 use xl_sections::section;
@@ -27,7 +27,7 @@ pub(crate) fn walk_page<const D: usize>(parts: &mut Parts<D>, space: u16, page: 
     let large_key = section(space, page, Order::G1);
     let middle = parts.middle_cache.front(middle_key);
     let large = parts.large_cache.front(large_key);
-    match sole_left(Hits { middle, large }) {
+    match sole_of(middle, large) {
         Sole::Small => {
             let leaf = probe_order(&mut parts.k4, Plan::Every, Order::K4, space, page);
             Walk {
@@ -48,7 +48,6 @@ pub(crate) fn walk_page<const D: usize>(parts: &mut Parts<D>, space: u16, page: 
 
 /// The walk of any page: the cached sections of the page tell which orders are possible, and in which way
 /// a large leaf stands; the possible orders are probed, and sections are cached that weren't.
-#[inline(never)]
 fn walk_behind<const D: usize>(parts: &mut Parts<D>, space: u16, page: u64) -> Walk
     requires whole { IsRow parts.old }
     requires page { IsPage (row_state parts.old).shape space page }

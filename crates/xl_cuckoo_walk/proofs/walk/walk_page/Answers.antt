@@ -1,7 +1,5 @@
-use Rattle.std.proofs.Common.{◌≡◌, sym, subst, ℕ, Option, lit<}
-use Rattle.xl_model.specs.declared.leaf.Leaf.{Leaf}
+use Rattle.std.proofs.Common.{sym, subst, lit<}
 use Rattle.xl_model.specs.Structures.{IsWalk}
-use Rattle.xl_cuckoo_walk.specs.declared.plan.Hits.{Hits}
 use Rattle.xl_cuckoo_walk.specs.Known.{IsFrontIf}
 use Rattle.xl_cuckoo_walk.specs.Parts.{RowParts, IsRow, row_state}
 use Rattle.xl_cuckoo_walk.proofs.WalkLemmas.{page-of, middle_key, large_key, IsWalked}
@@ -30,10 +28,9 @@ probe_order-leaf-requires-in-Middle g c =
     let q : RowParts = record { k4 = s.k4; m2 = s.m2; g1 = s.g1; middle = s.middle; large = s.large; middle_cache = s.middle_cache; large_cache = s.large_cache } in
     let row : IsRow q = subst IsRow (sym c.parts.view_is) c.requires.whole in
     let in_page = page-of c.args.parts.now c.args.space c.args.page c.requires.page in
-    let hits : Hits = record { middle = c.front-middle.result; large = c.front-large.result } in
-    let middle : IsFrontIf (middle_key c.args.space c.args.page) hits.middle s.middle_cache.items = subst (λ n. IsFrontIf n hits.middle s.middle_cache.items) c.section-middle_key.ensures c.front-middle.ensures in
-    let large : IsFrontIf (large_key c.args.space c.args.page) hits.large s.large_cache.items = subst (λ n. IsFrontIf n hits.large s.large_cache.items) c.section-large_key.ensures c.front-large.ensures in
-    (lit< tt, (middle-inside c.words_read_back.ensures q row c.args.space c.args.page in_page.0 in_page.1 hits middle large c.in-Middle.way c.in-Middle.ensures, in_page))
+    let middle : IsFrontIf (middle_key c.args.space c.args.page) c.front-middle.result s.middle_cache.items = subst (λ n. IsFrontIf n c.front-middle.result s.middle_cache.items) c.section-middle_key.ensures c.front-middle.ensures in
+    let large : IsFrontIf (large_key c.args.space c.args.page) c.front-large.result s.large_cache.items = subst (λ n. IsFrontIf n c.front-large.result s.large_cache.items) c.section-large_key.ensures c.front-large.ensures in
+    (lit< tt, (middle-inside c.words_read_back.ensures q row c.args.space c.args.page in_page.0 in_page.1 c.front-middle.result c.front-large.result middle large c.in-Middle.way c.in-Middle.ensures, in_page))
 
 small : (g : Over) (c : goal.After-probe_order-leaf g) →
     let s = c.parts.inside in
@@ -45,10 +42,9 @@ small g c =
     let q : RowParts = record { k4 = s.k4; m2 = s.m2; g1 = s.g1; middle = s.middle; large = s.large; middle_cache = s.middle_cache; large_cache = s.large_cache } in
     let row : IsRow q = subst IsRow (sym c.parts.view_is) c.requires.whole in
     let in_page = page-of c.args.parts.now c.args.space c.args.page c.requires.page in
-    let hits : Hits = record { middle = c.front-middle.result; large = c.front-large.result } in
-    let middle : IsFrontIf (middle_key c.args.space c.args.page) hits.middle s.middle_cache.items = subst (λ n. IsFrontIf n hits.middle s.middle_cache.items) c.section-middle_key.ensures c.front-middle.ensures in
-    let large : IsFrontIf (large_key c.args.space c.args.page) hits.large s.large_cache.items = subst (λ n. IsFrontIf n hits.large s.large_cache.items) c.section-large_key.ensures c.front-large.ensures in
-    small-walked c.words_read_back.ensures q row c.args.space c.args.page in_page.0 in_page.1 hits middle large c.in-Small.ensures c.probe_order-leaf.result c.probe_order-leaf.new.table c.probe_order-leaf.ensures.found c.probe_order-leaf.ensures.after
+    let middle : IsFrontIf (middle_key c.args.space c.args.page) c.front-middle.result s.middle_cache.items = subst (λ n. IsFrontIf n c.front-middle.result s.middle_cache.items) c.section-middle_key.ensures c.front-middle.ensures in
+    let large : IsFrontIf (large_key c.args.space c.args.page) c.front-large.result s.large_cache.items = subst (λ n. IsFrontIf n c.front-large.result s.large_cache.items) c.section-large_key.ensures c.front-large.ensures in
+    small-walked c.words_read_back.ensures q row c.args.space c.args.page in_page.0 in_page.1 c.front-middle.result c.front-large.result middle large c.in-Small.ensures c.probe_order-leaf.result c.probe_order-leaf.new.table c.probe_order-leaf.ensures.found c.probe_order-leaf.ensures.after
 
 middle_leaf : (g : Over) (c : goal.After-probe_order-leaf-in-Middle g) →
     let s = c.parts.inside in
@@ -60,10 +56,9 @@ middle_leaf g c =
     let q : RowParts = record { k4 = s.k4; m2 = s.m2; g1 = s.g1; middle = s.middle; large = s.large; middle_cache = s.middle_cache; large_cache = s.large_cache } in
     let row : IsRow q = subst IsRow (sym c.parts.view_is) c.requires.whole in
     let in_page = page-of c.args.parts.now c.args.space c.args.page c.requires.page in
-    let hits : Hits = record { middle = c.front-middle.result; large = c.front-large.result } in
-    let middle : IsFrontIf (middle_key c.args.space c.args.page) hits.middle s.middle_cache.items = subst (λ n. IsFrontIf n hits.middle s.middle_cache.items) c.section-middle_key.ensures c.front-middle.ensures in
-    let large : IsFrontIf (large_key c.args.space c.args.page) hits.large s.large_cache.items = subst (λ n. IsFrontIf n hits.large s.large_cache.items) c.section-large_key.ensures c.front-large.ensures in
-    middle-walked c.words_read_back.ensures q row c.args.space c.args.page in_page.0 in_page.1 hits middle large c.in-Middle.way c.in-Middle.ensures c.probe_order-leaf-in-Middle.result c.probe_order-leaf-in-Middle.new.table c.probe_order-leaf-in-Middle.ensures.found c.probe_order-leaf-in-Middle.ensures.after
+    let middle : IsFrontIf (middle_key c.args.space c.args.page) c.front-middle.result s.middle_cache.items = subst (λ n. IsFrontIf n c.front-middle.result s.middle_cache.items) c.section-middle_key.ensures c.front-middle.ensures in
+    let large : IsFrontIf (large_key c.args.space c.args.page) c.front-large.result s.large_cache.items = subst (λ n. IsFrontIf n c.front-large.result s.large_cache.items) c.section-large_key.ensures c.front-large.ensures in
+    middle-walked c.words_read_back.ensures q row c.args.space c.args.page in_page.0 in_page.1 c.front-middle.result c.front-large.result middle large c.in-Middle.way c.in-Middle.ensures c.probe_order-leaf-in-Middle.result c.probe_order-leaf-in-Middle.new.table c.probe_order-leaf-in-Middle.ensures.found c.probe_order-leaf-in-Middle.ensures.after
 
 pub returns-in-Small-clause-whole : goal.returns-in-Small-clause-whole
 returns-in-Small-clause-whole g c = (small g c).row

@@ -1,4 +1,4 @@
-use Rattle.std.proofs.Common.{◌≡◌, ◌∙◌, ap, ◌+◌}
+use Rattle.std.proofs.Common.{◌∙◌, ap, ◌+◌}
 use Rattle.xl_model.specs.Ways.{slot}
 use Rattle.xl_way.specs.Slots.{PlacesState}
 use Rattle.xl_way.proofs.PlaceLemmas.{slot-twice, slot-once}
