@@ -65,8 +65,8 @@ fn fill_each(arrays: &mut [AnyArray], leaf: &Leaf) -> u64
     others
 }
 
-/// What a fill of a leaf of 4 KiB did: how many arrays take it, and whether it is known to be the newest
-/// of its set of the first array, and that alone in its level.
+/// What a fill of a leaf of 4 KiB did: how many arrays take it, and whether it is known to be the
+/// newest of its set of the first array, and that alone in its level.
 #[derive(Clone, Copy)]
 struct SmallFill {
     fills: u64,
@@ -181,7 +181,8 @@ impl Levels {
 
     /// Does what `look` does, where a leaf of 4 KiB of the first array or of the second one answers and
     /// each is alone in its level, and gives the leaf's word: it is the newest of its set of the first
-    /// array then. Elsewhere nothing changes; what is told then depends on whether larger leaves were held.
+    /// array then. Elsewhere nothing changes, and that no array answers is told where no larger leaf was
+    /// held.
     #[inline]
     pub fn hit_small(&mut self, space: u16, page: u64) -> Answered
         requires space { space < 64 }
@@ -269,8 +270,8 @@ impl Levels {
         self.fills = self.fills.wrapping_add(fills);
     }
 
-    /// Puts a leaf of 4 KiB into the arrays of every level that hold such leaves. Whether it is known to be
-    /// the newest of its set of the first array, and that alone in its level.
+    /// Puts a leaf of 4 KiB into the arrays of every level that hold such leaves. Whether it is known to
+    /// be the newest of its set of the first array, and that alone in its level.
     #[inline]
     pub fn fill_small(&mut self, space: u16, page: u64, word: u64) -> bool
         requires space { space < 64 }
