@@ -71,7 +71,7 @@ fn count_by<const D: usize>(table: &mut Cuckoo<D>, plan: Plan)
 }
 
 /// The leaf that was found before, or else the leaf of this order that covers the page. Probed as
-/// planned in either case: behind a leaf that was found the loads alone are made.
+/// planned in either case: behind a leaf that was found the loads are counted and not made.
 #[inline(always)]
 pub(crate) fn probe_next<const D: usize>(
     found: Option<Leaf>,

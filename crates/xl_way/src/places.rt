@@ -1,7 +1,6 @@
 //! Where the keys of a way stand.
 
-ghost use Rattle.std.specs.Prelude.{◌≡◌, ◌+◌, ◌-◌, ◌*◌, ◌%◌, ◌^◌, ◌≤◌, ◌<◌, false, ℕ};
-ghost use Rattle.xl_model.specs.declared.way.WayRegs.{WayRegs};
+ghost use Rattle.std.specs.Prelude.{◌≡◌, ◌+◌, ◌-◌, ◌*◌, ◌%◌, ◌^◌, ◌≤◌, false, ℕ};
 ghost use Rattle.xl_model.specs.Ways.{slot as slot_of};
 
 use std::marker::Model;
