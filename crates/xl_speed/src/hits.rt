@@ -56,8 +56,8 @@ fn address(page: u64, byte: u64) -> u64
     page * 0x10000 + byte % 4096
 }
 
-/// A checksum of the replies to accesses of some pages in turn. One page hits in the first array;
-/// five pages, which that set doesn't hold, hit in the second one.
+/// A checksum of the replies to accesses of some pages in turn. One page hits in front of the first
+/// array, three hit behind the front; five, which that set doesn't hold, hit in the second array.
 pub fn answers(alloc: Global, pages: u64, calls: u64) -> Result<u64, NoMemory>
     requires some { 0 < pages }
     requires few { pages < 64 }

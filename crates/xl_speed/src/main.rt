@@ -15,8 +15,8 @@ use std::str::FromStr;
 
 /// The answer to a part that there isn't.
 const PARTS: &str =
-    "the parts are lists, blocks, front, second, nodes, few_nodes, hashed, clustered, meets, ranges, \
-    range_loads, range_hits, cuckoo, cuckoo_middle, cuckoo_apart and cuckoo_bare";
+    "the parts are lists, blocks, front, behind, second, nodes, few_nodes, hashed, clustered, meets, \
+    ranges, range_loads, range_hits, cuckoo, cuckoo_middle, cuckoo_apart and cuckoo_bare";
 
 fn main(rt: HostRuntime) -> io::Result<()> {
     for line in rt.lines(rt.alloc()) {
@@ -33,6 +33,7 @@ fn main(rt: HostRuntime) -> io::Result<()> {
             "lists" => lists::answers(rt.alloc(), calls),
             "blocks" => blocks::answers(rt.alloc(), 1 << 22, calls),
             "front" => hits::answers(rt.alloc(), 1, calls),
+            "behind" => hits::answers(rt.alloc(), 3, calls),
             "second" => hits::answers(rt.alloc(), 5, calls),
             "nodes" => nodes::answers(rt.alloc(), 1 << 14, calls),
             "few_nodes" => nodes::answers(rt.alloc(), 1 << 4, calls),
