@@ -4,13 +4,14 @@ ghost use Rattle.std.specs.Prelude.{◌≡◌, ◌+◌, ◌*◌, ◌/◌, ◌^�
 ghost use Rattle.xl_model.specs.Addresses.{pages_of};
 ghost use Rattle.xl_model.specs.Mapping.{leaf_at_page, meets_any};
 ghost use Rattle.xl_model.specs.Structures.{IsBlock, IsPage};
+ghost use Rattle.xl_model.specs.declared.address.Order.TheVariants as order_is;
 ghost use Rattle.xl_cuckoo.specs.Table.{value_of};
 ghost use Rattle.xl_cuckoo_walk.specs.Parts.{IsRow, row_state, ways_in};
 ghost use Rattle.xl_cuckoo_walk.specs.Plans.{leaf_said_by};
 ghost use Rattle.xl_cuckoo_walk.specs.Looks.{looked_from, counts_smaller};
 
 use crate::parts::Parts;
-use crate::probe::{first_of, read};
+use crate::probe::read;
 use xl_cuckoo::Cuckoo;
 use xl_model::{Leaf, Order};
 use xl_pte::words_read_back;
@@ -26,7 +27,20 @@ fn look<const D: usize>(table: &Cuckoo<D>, order: Order, space: u16, page: u64) 
     read(order, space, page, table.get(section(space, page, order)))
 }
 
-/// The leaf of this order or of a larger one that covers the page.
+/// The leaf above 4 KiB that covers the page.
+fn look_large<const D: usize>(parts: &Parts<D>, space: u16, page: u64) -> Option<Leaf>
+    requires space_in { space < 64 }
+    requires page_in { page < 2 ^ 45 }
+    ensures { result ≡ looked_from order_is.M2 space page (ways_in parts.now) }
+{
+    match look(&parts.m2, Order::M2, space, page) {
+        Some(leaf) => Some(leaf),
+        None => look(&parts.g1, Order::G1, space, page),
+    }
+}
+
+/// The leaf of this order or of a larger one that covers the page. Behind one that was found no other
+/// is looked for.
 fn look_from<const D: usize>(parts: &Parts<D>, order: Order, space: u16, page: u64) -> Option<Leaf>
     requires space_in { space < 64 }
     requires page_in { page < 2 ^ 45 }
@@ -34,17 +48,11 @@ fn look_from<const D: usize>(parts: &Parts<D>, order: Order, space: u16, page: u
 {
     match order {
         Order::G1 => look(&parts.g1, Order::G1, space, page),
-        Order::M2 => first_of(
-            look(&parts.m2, Order::M2, space, page),
-            look(&parts.g1, Order::G1, space, page),
-        ),
-        Order::K4 => first_of(
-            look(&parts.k4, Order::K4, space, page),
-            first_of(
-                look(&parts.m2, Order::M2, space, page),
-                look(&parts.g1, Order::G1, space, page),
-            ),
-        ),
+        Order::M2 => look_large(parts, space, page),
+        Order::K4 => match look(&parts.k4, Order::K4, space, page) {
+            Some(leaf) => Some(leaf),
+            None => look_large(parts, space, page),
+        },
     }
 }
 

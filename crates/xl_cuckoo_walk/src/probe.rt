@@ -96,13 +96,3 @@ pub(crate) fn probe_next<const D: usize>(
         None => probe_order(table, plan, order, space, page),
     }
 }
-
-/// The first of two leaves, if there is one.
-pub(crate) fn first_of(first: Option<Leaf>, second: Option<Leaf>) -> Option<Leaf>
-    ensures { result ≡ or_leaf first second }
-{
-    match first {
-        Some(_) => first,
-        None => second,
-    }
-}

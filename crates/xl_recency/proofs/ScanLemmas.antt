@@ -1,6 +1,7 @@
 -- A scan that stops at the first item that meets a test, against `find`, `touched` and `purged`.
-use Rattle.std.proofs.Common.{◌≡◌, ℕ, zero, suc, ◌<◌, Bool, true, false, List, [], ◌∷◌, length, get_or, find, Some, None, refl, sym, ◌∙◌, ap, arith}
+use Rattle.std.proofs.Common.{◌≡◌, ℕ, zero, suc, ◌<◌, Bool, true, false, List, [], ◌∷◌, length, get_or, find, take, Some, None, refl, sym, subst, ◌∙◌, ◌≤◌, ap, arith}
 use Rattle.std.specs.List.{remove}
+use Rattle.std.proofs.lemmas.List.{get_or-take, length-take-le}
 use Rattle.xl_model.specs.Recency.{without_first, touched}
 use Rattle.xl_recency.specs.Lists.{IsTest, IsFirst, AllFail}
 
@@ -59,3 +60,28 @@ module _ {A : Type 0} (answers : A → Bool → Type 0) (q : A → Bool) (test :
   pub none_moved : (xs : List A) → AllFail answers xs → xs ≡ touched q xs
   none_moved xs f =
       rw (sym (none_found xs f)) (sym (without_none q xs (λ k d s. sym (test.same _ _ (f.fails k d s)))))
+
+-- a scan of more items than a list has, against one of the list
+module _ {A : Type 0} (answers : A → Bool → Type 0) (xs : List A) (len end : ℕ) (fits : len ≤ length xs) (more : len ≤ end) where
+  pub same_item : (k : ℕ) (d : A) → k < len → get_or (take end xs) k d ≡ get_or (take len xs) k d
+  same_item k d l = get_or-take end xs k d (omega arith) ∙ sym (get_or-take len xs k d l)
+
+  pub first_within : (at : ℕ) → at < len → IsFirst answers (take end xs) at → IsFirst answers (take len xs) at
+  first_within at l f = record {
+    meets = λ d. subst (λ (x : A). answers x true) (same_item at d l) (f.meets d);
+    before = λ k d b. subst (λ (x : A). answers x false) (same_item k d (omega arith)) (f.before k d b);
+  }
+
+  pub first_behind : (at : ℕ) → len ≤ at → IsFirst answers (take end xs) at → AllFail answers (take len xs)
+  first_behind at l f = record {
+    fails = λ k d b.
+        let below : k < len = rw (length-take-le len xs fits) at b in
+        subst (λ (x : A). answers x false) (same_item k d below) (f.before k d (omega arith));
+  }
+
+  pub none_within : end ≤ length xs → AllFail answers (take end xs) → AllFail answers (take len xs)
+  none_within whole f = record {
+    fails = λ k d b.
+        let below : k < len = rw (length-take-le len xs fits) at b in
+        subst (λ (x : A). answers x false) (same_item k d below) (f.fails k d (rw (length-take-le end xs whole) (omega arith)));
+  }

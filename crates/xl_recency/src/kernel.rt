@@ -35,6 +35,27 @@ pub(crate) fn first_place<T, P: Fn(&T) -> bool>(items: &[T], test: &P) -> Option
     None
 }
 
+/// The place of the first of the first `len` items that meets the test. Where there are few slots, all of
+/// them are looked at, those behind the items too: a loop of a fixed count costs less.
+#[inline(always)]
+pub(crate) fn place_of<const W: usize, T, P: Fn(&T) -> bool>(
+    slots: &[T; W],
+    len: usize,
+    test: &P,
+) -> Option<usize>
+    requires fits { len ≤ W }
+    requires test { P.IsAlwaysCallable test.now }
+    ensures within { IfSome result (λ at. at < len) }
+    ensures some { IfSome result (IsFirst (FnReturnsAt P.Fn test.now) (take len slots.now)) }
+    ensures none { IfNone result (AllFail (FnReturnsAt P.Fn test.now) (take len slots.now)) }
+{
+    let end = if W <= 8 { W } else { len };
+    match first_place(&slots[..end], test) {
+        Some(at) if at < len => Some(at),
+        _ => None,
+    }
+}
+
 /// Moves the items that fail the test to the front, in order: how many there are.
 pub(crate) fn keep_failing<T: Copy, P: Fn(&T) -> bool>(items: &mut [T], test: &P) -> usize
     requires { P.IsAlwaysCallable test.now }
@@ -53,13 +74,20 @@ pub(crate) fn keep_failing<T: Copy, P: Fn(&T) -> bool>(items: &mut [T], test: &P
     kept
 }
 
-/// Brings the first item that meets the test to the front. Where it stands there nothing moves.
-pub(crate) fn touch_first<T: Copy, P: Fn(&T) -> bool>(items: &mut [T], test: &P) -> Option<T>
-    requires { P.IsAlwaysCallable test.now }
-    ensures { (q : _) → IsTest (FnReturnsAt P.Fn test.now) q →
+/// Brings the first item that meets the test to the front, where its place is known. Where it stands
+/// there already nothing moves.
+pub(crate) fn touch_at<T: Copy, P: Fn(&T) -> bool>(
+    items: &mut [T],
+    place: Option<usize>,
+    _test: &P,
+) -> Option<T>
+    requires within { IfSome place (λ at. at < length items.old) }
+    requires some { IfSome place (IsFirst (FnReturnsAt P.Fn _test.now) items.old) }
+    requires none { IfNone place (AllFail (FnReturnsAt P.Fn _test.now) items.old) }
+    ensures { (q : _) → IsTest (FnReturnsAt P.Fn _test.now) q →
         Touches q items.old items.new result }
 {
-    match first_place(items, test) {
+    match place {
         Some(at) => {
             let item = items[at];
             if at == 0 {
@@ -72,12 +100,18 @@ pub(crate) fn touch_first<T: Copy, P: Fn(&T) -> bool>(items: &mut [T], test: &P)
     }
 }
 
-/// The first item that meets the test.
-pub(crate) fn find_first<T: Copy, P: Fn(&T) -> bool>(items: &[T], test: &P) -> Option<T>
-    requires { P.IsAlwaysCallable test.now }
-    ensures { (q : _) → IsTest (FnReturnsAt P.Fn test.now) q → result ≡ find q items.now }
+/// The first item that meets the test, where its place is known.
+pub(crate) fn item_at<T: Copy, P: Fn(&T) -> bool>(
+    items: &[T],
+    place: Option<usize>,
+    _test: &P,
+) -> Option<T>
+    requires within { IfSome place (λ at. at < length items.now) }
+    requires some { IfSome place (IsFirst (FnReturnsAt P.Fn _test.now) items.now) }
+    requires none { IfNone place (AllFail (FnReturnsAt P.Fn _test.now) items.now) }
+    ensures { (q : _) → IsTest (FnReturnsAt P.Fn _test.now) q → result ≡ find q items.now }
 {
-    match first_place(items, test) {
+    match place {
         Some(at) => Some(items[at]),
         None => None,
     }

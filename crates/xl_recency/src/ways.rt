@@ -5,7 +5,7 @@ ghost use Rattle.std.specs.Fn.{FnReturnsAt};
 ghost use Rattle.xl_recency.specs.Lists.{IsTest, Touches, Fills, Purges};
 
 use crate::item::Item;
-use crate::kernel::{find_first, keep_failing, put_in_front, touch_first};
+use crate::kernel::{item_at, keep_failing, place_of, put_in_front, touch_at};
 use std::alloc::Global;
 use std::marker::Model;
 use xl_model::NoMemory;
@@ -59,7 +59,8 @@ impl<const W: usize> Ways<W> {
         requires { P.IsAlwaysCallable test }
         ensures { (q : _) → IsTest (FnReturnsAt P.Fn test) q → Touches q self.old self.new result }
     {
-        touch_first(&mut self.slots[..self.len], &test)
+        let place = place_of(&self.slots, self.len, &test);
+        touch_at(&mut self.slots[..self.len], place, &test)
     }
 
     /// The newest item that meets the test.
@@ -67,7 +68,8 @@ impl<const W: usize> Ways<W> {
         requires { P.IsAlwaysCallable test }
         ensures { (q : _) → IsTest (FnReturnsAt P.Fn test) q → result ≡ find q self.now }
     {
-        find_first(&self.slots[..self.len], &test)
+        let place = place_of(&self.slots, self.len, &test);
+        item_at(&self.slots[..self.len], place, &test)
     }
 
     /// Puts the item in front, and gives the one that left: Some where the list was full.

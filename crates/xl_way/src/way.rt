@@ -108,6 +108,9 @@ impl Way {
     pub fn get(&self, key: u64) -> Option<u64>
         ensures { result ≡ word_of key self.now.shape.entries }
     {
+        if self.used == 0 {
+            return None;
+        }
         let at = self.places.slot(key);
         word_at(&self.slots, at as usize, key)
     }
