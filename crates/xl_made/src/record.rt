@@ -31,17 +31,22 @@ pub(crate) fn put(line: &mut [u8], at: usize, bytes: &[u8])
     line[at..at + bytes.len()].copy_from_slice(bytes);
 }
 
+/// How a line begins and ends, by the last three bits of its word. Which comes next can't be foretold, so
+/// a choice among them would cost more than a look-up.
+const LETTERS: [[u8; 3]; 8] = [
+    *b"I  ", *b"I  ", *b"I  ", *b" L ", *b" L ", *b" L ", *b" S ", *b" M ",
+];
+
+const SIZES: [[u8; 3]; 8] = [
+    *b",4\n", *b",4\n", *b",4\n", *b",8\n", *b",8\n", *b",8\n", *b",8\n", *b",8\n",
+];
+
 /// The letter in its place.
 #[tactic(auto, unfolding(crate::specs::Made::letter_of))]
 fn letter(word: u32) -> [u8; 3]
     ensures { result ≡ letter_of word }
 {
-    match word % 8 {
-        0..=2 => *b"I  ",
-        3..=5 => *b" L ",
-        6 => *b" S ",
-        _ => *b" M ",
-    }
+    LETTERS[(word % 8) as usize]
 }
 
 /// The size, and what stands round it.
@@ -49,7 +54,7 @@ fn letter(word: u32) -> [u8; 3]
 fn size(word: u32) -> [u8; 3]
     ensures { result ≡ size_of word }
 {
-    if word % 8 < 3 { *b",4\n" } else { *b",8\n" }
+    SIZES[(word % 8) as usize]
 }
 
 /// The page, counted from the first.
