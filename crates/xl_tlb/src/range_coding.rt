@@ -50,13 +50,15 @@ pub(crate) fn range_of(item: &Item) -> Range
     }
 }
 
-/// Whether the item's range holds the page of the space.
+/// Whether the item's range holds the page of the space. All is compared, for where a range lies can't be
+/// foretold.
 #[tactic(auto, unfolding(crate::specs::RangeCoding::range_of))]
 pub(crate) fn holds(item: &Item, space: u16, page: u64) -> bool
     ensures { result ≡ holds_page space page (range_in item.now) }
 {
     let start = item.tag % (1 << 52);
-    item.tag >> 52 == space as u64 && start <= page && page - start < item.more / 3
+    let inside = page.wrapping_sub(start) < item.more / 3;
+    (item.tag >> 52 == space as u64) & (start <= page) & inside
 }
 
 /// Whether a fence reaches the item's range.

@@ -28,7 +28,8 @@ pub(crate) enum Visit {
     Goes(u32),
 }
 
-/// Loads a node.
+/// Loads a node. Which way a search goes can't be foretold, so a link is chosen by a shift and not by a
+/// branch.
 pub(crate) fn examine<B: Bus>(bus: &mut B, node: u32, key: u64) -> Visit
     ensures visit { result ≡ visit_of (B.words bus.old) node key }
     ensures bus { bus.new ≡ B.loaded bus.old }
@@ -36,13 +37,12 @@ pub(crate) fn examine<B: Bus>(bus: &mut B, node: u32, key: u64) -> Visit
     match bus.load(node as usize) {
         None => Visit::Gone,
         Some(words) => {
-            if key < words[0] {
-                Visit::Goes((words[3] % (1 << 32)) as u32)
-            } else if key - words[0] < words[1] {
-                Visit::Here(range_in(words[0], words[1], words[2]))
-            } else {
-                Visit::Goes((words[3] >> 32) as u32)
+            let below = key < words[0];
+            if !below & (key.wrapping_sub(words[0]) < words[1]) {
+                return Visit::Here(range_in(words[0], words[1], words[2]));
             }
+            let shift = if below { 0 } else { 32 };
+            Visit::Goes(((words[3] >> shift) % (1 << 32)) as u32)
         }
     }
 }
