@@ -1,7 +1,7 @@
 -- Blocks of free frames, and what marking does, in a pool that is two pools end to end.
-use Rattle.std.proofs.Common.{◌≡◌, ℕ, zero, suc, ◌+◌, ◌-◌, ◌*◌, ◌/◌, ◌<◌, ◌≤◌, min, Bool, true, false, List, [], ◌∷◌, ◌++◌, length, get_or, take, drop, replicate, refl, sym, ◌∙◌, ap, arith, inl, inr, ◌⊎◌}
+use Rattle.std.proofs.Common.{◌≡◌, ℕ, zero, suc, ◌+◌, ◌-◌, ◌*◌, ◌/◌, ◌<◌, ◌≤◌, Bool, true, false, List, [], ◌++◌, length, get_or, take, drop, replicate, refl, sym, ◌∙◌, ap, arith, inl, inr, ◌⊎◌}
 use Rattle.std.proofs.lemmas.Bool.{cases_lt, false≢true}
-use Rattle.std.proofs.lemmas.List.{append_assoc, append-nil, length-append, length-replicate, take-append-drop, replicate-append-replicate, get_or_append_left, get_or-append-add, get_or-append_right, get_or-replicate, get_or_past, take-append-le, drop-append-le, drop_all}
+use Rattle.std.proofs.lemmas.List.{append_assoc, append-nil, length-append, length-replicate, replicate-append-replicate, get_or_append_left, get_or-append-add, get_or-append_right, get_or-replicate, get_or_past, take-append-le, drop-append-le, drop_all}
 use Rattle.std.proofs.Math.Seq.{take-append-add, drop-append-add}
 use Rattle.std.proofs.Math.Nat.{mul-le-mul_right, suc-mul, add-mul, mul_comm, div-add-mod}
 use Rattle.xl_frames.specs.Pool.{IsFree, IsLowest, HasNone, marked}
@@ -125,87 +125,45 @@ none_inside pool n size h = record { none = λ block b. h.none block (free_left_
 
 -- ---- marking
 
-pub marked_nothing : (pool : List Bool) (from to : ℕ) (v : Bool) → to ≤ from → marked pool from (to - from) v ≡ pool
-marked_nothing pool from to v l =
-    let z : to - from ≡ 0 = omega arith in
-    let e : from + 0 ≡ from = omega arith in
-    rw (z, e) (take-append-drop from pool)
+pub marked_all : (pool : List Bool) (first count : ℕ) (v : Bool) → 0 < count → length pool ≡ count → first + count ≤ count
+    → marked pool first count v ≡ replicate count v
+marked_all pool first count v pos s l =
+    let d : drop (first + count) pool ≡ [] = drop_all (first + count) pool (omega arith) in
+    let z : first ≡ 0 = omega arith in
+    rw (d, append-nil, z) refl
 
-pub marked_all : (pool : List Bool) (from to n : ℕ) (v : Bool) → length pool ≡ n → to - from ≡ n → to ≤ n → marked pool from (to - from) v ≡ replicate n v
-marked_all pool from to n v s e l =
-    let d : drop (from + n) pool ≡ [] = drop_all (from + n) pool (omega arith) in
-    elim (cases_lt 0 n) [
-      | inl pos ↦ (let z : from ≡ 0 = omega arith in rw (e, d, append-nil, z) refl)
-      | inr none ↦ (let z : n ≡ 0 = omega arith in rw (e, d, append-nil, z) (take_nothing pool from (omega arith)))
-    ]
-  where
-    take_nothing : (pool : List Bool) (from : ℕ) → length pool ≡ 0 → take from pool ++ [] ≡ []
-    take_nothing [] zero e = refl
-    take_nothing [] (suc n) e = refl
-    take_nothing (x ∷ xs) n e = absurd (omega arith)
+pub marked_left : (a b : List Bool) (first count : ℕ) (v : Bool) → first + count ≤ length a
+    → marked (a ++ b) first count v ≡ marked a first count v ++ b
+marked_left a b first count v l =
+    let t : take first (a ++ b) ≡ take first a = take-append-le first a b (omega arith) in
+    let d : drop (first + count) (a ++ b) ≡ drop (first + count) a ++ b = drop-append-le (first + count) a b l in
+    rw (t, d) (simp append_assoc)
 
-pub marked_left : (a b : List Bool) (from to : ℕ) (v : Bool) → from ≤ to → to ≤ length a
-    → marked (a ++ b) from (to - from) v ≡ marked a from (to - from) v ++ b
-marked_left a b from to v o l =
-    let s : from + (to - from) ≡ to = omega arith in
-    let t : take from (a ++ b) ≡ take from a = take-append-le from a b (omega arith) in
-    let d : drop to (a ++ b) ≡ drop to a ++ b = drop-append-le to a b l in
-    rw (s, t, d) (simp append_assoc)
+pub marked_right : (a b : List Bool) (n first count : ℕ) (v : Bool) → length a ≡ n
+    → marked (a ++ b) (n + first) count v ≡ a ++ marked b first count v
+marked_right a b n first count v s =
+    let e : n + first + count ≡ length a + (first + count) = omega arith in
+    let t : take (n + first) (a ++ b) ≡ a ++ take first b =
+    ap (λ (k : ℕ). take (k + first) (a ++ b)) (sym s) ∙ take-append-add a b first in
+    let d : drop (n + first + count) (a ++ b) ≡ drop (first + count) b =
+    ap (λ (k : ℕ). drop k (a ++ b)) e ∙ drop-append-add a b (first + count) in
+    rw (t, d) (simp append_assoc)
 
-marked_right : (a b : List Bool) (from to : ℕ) (v : Bool) → from ≤ to → length a ≤ from
-    → a ++ marked b (from - length a) ((to - length a) - (from - length a)) v ≡ marked (a ++ b) from (to - from) v
-marked_right a b from to v o l =
-    let e1 : from ≡ length a + (from - length a) = omega arith in
-    let e2 : from + (to - from) ≡ length a + (to - length a) = omega arith in
-    let e3 : (to - length a) - (from - length a) ≡ to - from = omega arith in
-    let e4 : (from - length a) + (to - from) ≡ to - length a = omega arith in
-    let t : take from (a ++ b) ≡ a ++ take (from - length a) b =
-    ap (λ (k : ℕ). take k (a ++ b)) e1 ∙ take-append-add a b (from - length a) in
-    let d : drop (from + (to - from)) (a ++ b) ≡ drop (to - length a) b =
-    ap (λ (k : ℕ). drop k (a ++ b)) e2 ∙ drop-append-add a b (to - length a) in
-    rw (t, d, e3, e4) (simp append_assoc)
-
-marked_across : (a b : List Bool) (from to : ℕ) (v : Bool) → from ≤ length a → length a ≤ to
-    → marked a from (length a - from) v ++ marked b 0 (to - length a) v ≡ marked (a ++ b) from (to - from) v
-marked_across a b from to v l u =
-    let e1 : from + (length a - from) ≡ length a = omega arith in
-    let e2 : from + (to - from) ≡ length a + (to - length a) = omega arith in
-    let e3 : 0 + (to - length a) ≡ to - length a = omega arith in
-    let e4 : to - from ≡ (length a - from) + (to - length a) = omega arith in
-    let t : take from (a ++ b) ≡ take from a = take-append-le from a b l in
-    let d : drop (from + (to - from)) (a ++ b) ≡ drop (to - length a) b =
-    ap (λ (k : ℕ). drop k (a ++ b)) e2 ∙ drop-append-add a b (to - length a) in
-    let z : drop (length a) a ≡ [] = drop_all (length a) a (omega arith) in
-    let r : replicate (to - from) v ≡ replicate (length a - from) v ++ replicate (to - length a) v =
+-- frames of which some lie in the first pool, and some in the second
+pub marked_across : (a b : List Bool) (n first count : ℕ) (v : Bool) → length a ≡ n → first ≤ n → n ≤ first + count
+    → marked (a ++ b) first count v ≡ marked a first (n - first) v ++ marked b 0 (count - (n - first)) v
+marked_across a b n first count v s l u =
+    let e1 : first + (n - first) ≡ n = omega arith in
+    let e2 : first + count ≡ length a + (count - (n - first)) = omega arith in
+    let e3 : 0 + (count - (n - first)) ≡ count - (n - first) = omega arith in
+    let e4 : count ≡ (n - first) + (count - (n - first)) = omega arith in
+    let t : take first (a ++ b) ≡ take first a = take-append-le first a b (omega arith) in
+    let d : drop (first + count) (a ++ b) ≡ drop (count - (n - first)) b =
+    ap (λ (k : ℕ). drop k (a ++ b)) e2 ∙ drop-append-add a b (count - (n - first)) in
+    let z : drop n a ≡ [] = drop_all n a (omega arith) in
+    let r : replicate count v ≡ replicate (n - first) v ++ replicate (count - (n - first)) v =
     ap (λ (k : ℕ). replicate k v) e4 ∙ sym (replicate-append-replicate _ _ _) in
     rw (t, d, e1, e3, z, r) (simp (append-nil, append_assoc))
-
--- marking a part of each half marks the whole
-pub marked_halves : (a b : List Bool) (from to n : ℕ) (v : Bool) → length a ≡ n → from ≤ to
-    → marked a (min from n) (min to n - min from n) v ++ marked b (from - n) ((to - n) - (from - n)) v ≡ marked (a ++ b) from (to - from) v
-marked_halves a b from to n v s o =
-    elim (cases_lt n to) [
-      | inr below ↦
-          (let m1 : min from n ≡ from = omega arith in
-          let m2 : min to n ≡ to = omega arith in
-          let z1 : from - n ≡ 0 = omega arith in
-          let z2 : to - n ≡ 0 = omega arith in
-          rw (m1, m2, z1, z2) (sym (marked_left a b from to v o (omega arith))))
-      | inl past ↦
-          elim (cases_lt from n) [
-            | inl across ↦
-                (let m1 : min from n ≡ from = omega arith in
-                let m2 : min to n ≡ length a = omega arith in
-                let z1 : from - n ≡ 0 = omega arith in
-                let z2 : (to - n) - 0 ≡ to - length a = omega arith in
-                rw (m1, m2, z1, z2) (marked_across a b from to v (omega arith) (omega arith)))
-            | inr above ↦
-                (let m1 : min from n ≡ n = omega arith in
-                let m2 : min to n ≡ n = omega arith in
-                let e : marked a n (n - n) v ≡ a = marked_nothing a n n v (omega arith) in
-                rw (m1, m2, e) (rw (sym s) (marked_right a b from to v o (omega arith))))
-          ]
-    ]
 
 -- ---- a scan over all blocks
 

@@ -1,95 +1,102 @@
--- What is left of a tree when both halves and then the root are written.
-use Rattle.std.proofs.Common.{◌≡◌, ℕ, zero, suc, ◌+◌, ◌-◌, ◌^◌, ◌<◌, ◌≤◌, min, Bool, true, false, List, ◌++◌, length, get_or, set, take, drop, replicate, refl, sym, ◌∙◌, ap, inl, inr, ◌⊎◌, arith}
+-- A tree one of whose halves is written anew.
+use Rattle.std.proofs.Common.{◌≡◌, ℕ, zero, suc, ◌+◌, ◌-◌, ◌^◌, ◌<◌, ◌≤◌, Bool, true, false, List, ◌++◌, length, get_or, set, take, drop, replicate, refl, sym, ◌∙◌, ap, inl, inr, ◌⊎◌, arith}
 use Rattle.std.proofs.lemmas.List.{length-take, length-drop, length-append, length-set, take_all, drop-set-lt, get_or-set_same}
+use Rattle.std.proofs.lemmas.Nat.{pow_pos}
 use Rattle.std.proofs.lemmas.Slice.{between_is, between_to_end, take-put_mid_below, drop-put_mid, between-put_mid}
 use borrow.Rule.Slice.PartMut.{put_mid}
 use Rattle.xl_frames.specs.Pool.{marked}
 use Rattle.xl_frames.specs.Tree.{root, lower, upper, joined, whole_number, flags_of, IsTree, IsOpen}
-use Rattle.xl_frames.proofs.BlockLemmas.{marked_all, marked_halves}
+use Rattle.xl_frames.proofs.BlockLemmas.{marked_all, marked_left, marked_right, marked_across}
 use Rattle.xl_frames.proofs.NodeLemmas.{double, one_below, tree_size, not_empty, whole, length-flags, root-lower, root-upper, closed, flags-open, flags-free, flags-taken}
 
 length-put_mid : (a k : ℕ) (xs ys : List ℕ) → a + k ≤ length xs → length ys ≡ k → length (put_mid a k xs ys) ≡ length xs
 length-put_mid a k xs ys l e =
     omega (arith, length-append (take a xs) (ys ++ drop k (drop a xs)), length-append ys (drop k (drop a xs)), length-take a xs, length-drop k (drop a xs), length-drop a xs)
 
-module _ (m : ℕ) (t low : List ℕ) (pos : 1 < m) (size : length t + 1 ≡ m + m) (length_low : length low + 1 ≡ m) where
-  pub length-with_lower : length (put_mid 1 (m - 1) t low) ≡ length t
-  length-with_lower = length-put_mid 1 (m - 1) t low (omega arith) (omega arith)
+-- what stands from a place on, as a part of the slice
+rest : (m : ℕ) (t : List ℕ) → take (length t - m) (drop m t) ≡ drop m t
+rest m t = take_all (length t - m) (drop m t) (omega (arith, length-drop m t))
 
-  pub drop-with_lower : drop m (put_mid 1 (m - 1) t low) ≡ drop m t
-  drop-with_lower = drop-put_mid 1 (m - 1) t low m (omega arith) (omega arith) (omega arith)
+pub upper_part : (height m : ℕ) (t : List ℕ) → m ≡ 2 ^ height → take (length t - m) (drop m t) ≡ upper height t
+upper_part height m t me = rest m t ∙ ap (λ (x : ℕ). drop x t) me
 
-  pub rest-with_lower : take (length (put_mid 1 (m - 1) t low) - m) (drop m (put_mid 1 (m - 1) t low)) ≡ drop m t
-  rest-with_lower = rw drop-with_lower (take_all _ (drop m t) (omega (arith, length-drop m t, length-with_lower)))
+-- ---- sizes
 
-module _ (m : ℕ) (t low up : List ℕ) (pos : 1 < m) (size : length t + 1 ≡ m + m) (length_low : length low + 1 ≡ m) (length_up : length up + 1 ≡ m) where
-  length-first : length (put_mid 1 (m - 1) t low) ≡ length t
-  length-first = length-with_lower m t low pos size length_low
+twice : (height : ℕ) → 2 ^ (height + 1) ≡ 2 ^ height + 2 ^ height
+twice height = ap (λ (x : ℕ). 2 ^ x) (omega arith) ∙ double height
 
-  pub length-both : length (put_mid m (length (put_mid 1 (m - 1) t low) - m) (put_mid 1 (m - 1) t low) up) ≡ length t
-  length-both =
-      length-put_mid m (length (put_mid 1 (m - 1) t low) - m) (put_mid 1 (m - 1) t low) up
-      (omega (arith, length-first)) (omega (arith, length-first))
-      ∙ length-first
+pub two_halves : (height : ℕ) → 0 < height → 2 ^ height ≡ 2 ^ (height - 1) + 2 ^ (height - 1)
+two_halves height pos = ap (λ (x : ℕ). 2 ^ x) (omega arith) ∙ twice (height - 1)
 
-  pub lower-both : take (m - 1) (drop 1 (put_mid m (length (put_mid 1 (m - 1) t low) - m) (put_mid 1 (m - 1) t low) up)) ≡ low
-  lower-both =
-      between_is (put_mid m (length (put_mid 1 (m - 1) t low) - m) (put_mid 1 (m - 1) t low) up) 1 m
-      ∙ ap (λ (x : List ℕ). drop 1 x) (take-put_mid_below m (length (put_mid 1 (m - 1) t low) - m) (put_mid 1 (m - 1) t low) up m (omega arith) (omega (arith, length-first)))
-      ∙ sym (between_is (put_mid 1 (m - 1) t low) 1 m)
-      ∙ between-put_mid 1 (m - 1) t low m (omega arith) (omega arith)
+pub half_size : (height : ℕ) (t : List ℕ) → 0 < height → IsTree (height - 1) t → length t + 1 ≡ 2 ^ height
+half_size height t pos i = tree_size (height - 1) t i ∙ ap (λ (x : ℕ). 2 ^ x) (omega arith)
 
-  pub upper-both : drop m (put_mid m (length (put_mid 1 (m - 1) t low) - m) (put_mid 1 (m - 1) t low) up) ≡ up
-  upper-both =
-      sym (between_to_end (put_mid m (length (put_mid 1 (m - 1) t low) - m) (put_mid 1 (m - 1) t low) up) m (length t) (omega (arith, length-both)))
-      ∙ between-put_mid m (length (put_mid 1 (m - 1) t low) - m) (put_mid 1 (m - 1) t low) up (length t)
-      (omega (arith, length-first)) (omega arith)
+-- ---- a half written anew
 
--- A tree with new halves and the root that they give.
-pub rebuilt : (height number : ℕ) (u : List ℕ) (low up : List ℕ) → 0 < height → length u + 1 ≡ 2 ^ (height + 1)
-    → lower height u ≡ low → upper height u ≡ up → IsTree (height - 1) low → IsTree (height - 1) up
-    → root u ≡ number → number ≡ joined height (root low) (root up)
-    → IsTree height u × (flags_of height u ≡ flags_of (height - 1) low ++ flags_of (height - 1) up)
-rebuilt zero number u low up pos s l r lt ut n j = absurd (omega arith)
-rebuilt (suc h) number u low up pos s l r lt ut n j =
-    let e : suc h - 1 ≡ h = omega arith in
-    let o : IsOpen (suc h) u = record { size = s; number = rw (l, r) (n ∙ j); lower_tree = rw l lt; upper_tree = rw r ut } in
-    (closed h u o, flags-open h u o ∙ rw (l, r, e) refl)
+-- What is so of a tree whose lower half is written anew.
+pub record HasLower (height : ℕ) (t low u : List ℕ) : Type 0 where
+  pub size : length u + 1 ≡ 2 ^ (height + 1)
+  pub lower_is : lower height u ≡ low
+  pub upper_is : upper height u ≡ upper height t
 
-pub above_zero : (height from to : ℕ) → from < to → to ≤ 2 ^ height → (to - from ≡ 2 ^ height → ⊥) → 0 < height
-above_zero zero from to l u n = absurd (n (omega arith))
-above_zero (suc h) from to l u n = omega arith
+-- What is so of a tree whose upper half is written anew.
+pub record HasUpper (height : ℕ) (t up u : List ℕ) : Type 0 where
+  pub size : length u + 1 ≡ 2 ^ (height + 1)
+  pub lower_is : lower height u ≡ lower height t
+  pub upper_is : upper height u ≡ up
 
-pub rest_is_upper : (height m : ℕ) (t low : List ℕ) → 0 < height → m ≡ 2 ^ height → IsOpen height t → IsTree (height - 1) low
-    → take (length (put_mid 1 (m - 1) t low) - m) (drop m (put_mid 1 (m - 1) t low)) ≡ upper height t
-rest_is_upper zero m t low pos me o lt = absurd (omega arith)
-rest_is_upper (suc h) m t low pos me o lt =
-    let e1 : suc h - 1 ≡ h = omega arith in
-    let e2 : h + 1 ≡ suc h = omega arith in
-    let e3 : suc h + 1 ≡ suc (suc h) = omega arith in
-    let p : 1 < 2 ^ suc h = one_below (suc h) pos in
-    let lt1 : IsTree h low = rw e1 at lt in
-    let sl : length low + 1 ≡ m = (rw e2 at (tree_size h low lt1)) ∙ sym me in
-    let st : length t + 1 ≡ 2 ^ suc (suc h) = rw e3 at o.size in
-    rest-with_lower m t low (omega arith) (omega (arith, double (suc h))) sl ∙ ap (λ (x : ℕ). drop x t) me
+pub has_lower : (height m : ℕ) (t low : List ℕ) → 0 < height → m ≡ 2 ^ height → length t + 1 ≡ 2 ^ (height + 1)
+    → IsTree (height - 1) low → HasLower height t low (put_mid 1 (m - 1) t low)
+has_lower height m t low pos me size i =
+    let p : 1 < 2 ^ height = one_below height pos in
+    let d : 2 ^ (height + 1) ≡ 2 ^ height + 2 ^ height = twice height in
+    let s : length low + 1 ≡ 2 ^ height = half_size height low pos i in
+    let n : length (put_mid 1 (m - 1) t low) ≡ length t = length-put_mid 1 (m - 1) t low (omega arith) (omega arith) in
+    let l : take (m - 1) (drop 1 (put_mid 1 (m - 1) t low)) ≡ low = between-put_mid 1 (m - 1) t low m (omega arith) (omega arith) in
+    let r : drop m (put_mid 1 (m - 1) t low) ≡ drop m t = drop-put_mid 1 (m - 1) t low m (omega arith) (omega arith) (omega arith) in
+    record {
+      size = omega arith;
+      lower_is = ap (λ (x : ℕ). take (x - 1) (drop 1 (put_mid 1 (m - 1) t low))) (sym me) ∙ l;
+      upper_is = ap (λ (x : ℕ). drop x (put_mid 1 (m - 1) t low)) (sym me) ∙ r ∙ ap (λ (x : ℕ). drop x t) me;
+    }
 
-pub half_left : (height to : ℕ) → 0 < height → to ≤ 2 ^ height → to - 2 ^ (height - 1) ≤ 2 ^ (height - 1)
-half_left zero to pos l = absurd (omega arith)
-half_left (suc h) to pos l = let e : suc h - 1 ≡ h = omega arith in rw e (omega (arith, double h))
+pub has_upper : (height m : ℕ) (t up : List ℕ) → 0 < height → m ≡ 2 ^ height → length t + 1 ≡ 2 ^ (height + 1)
+    → IsTree (height - 1) up → HasUpper height t up (put_mid m (length t - m) t up)
+has_upper height m t up pos me size i =
+    let p : 1 < 2 ^ height = one_below height pos in
+    let d : 2 ^ (height + 1) ≡ 2 ^ height + 2 ^ height = twice height in
+    let s : length up + 1 ≡ 2 ^ height = half_size height up pos i in
+    let n : length (put_mid m (length t - m) t up) ≡ length t = length-put_mid m (length t - m) t up (omega arith) (omega arith) in
+    let l : take (m - 1) (drop 1 (put_mid m (length t - m) t up)) ≡ take (m - 1) (drop 1 t) =
+    between_is (put_mid m (length t - m) t up) 1 m
+    ∙ ap (λ (x : List ℕ). drop 1 x) (take-put_mid_below m (length t - m) t up m (omega arith) (omega arith))
+    ∙ sym (between_is t 1 m) in
+    let r : drop m (put_mid m (length t - m) t up) ≡ up =
+    sym (between_to_end (put_mid m (length t - m) t up) m (length t) (omega arith))
+    ∙ between-put_mid m (length t - m) t up (length t) (omega arith) (omega arith) in
+    record {
+      size = omega arith;
+      lower_is = ap (λ (x : ℕ). take (x - 1) (drop 1 (put_mid m (length t - m) t up))) (sym me) ∙ l ∙ ap (λ (x : ℕ). take (x - 1) (drop 1 t)) me;
+      upper_is = ap (λ (x : ℕ). drop x (put_mid m (length t - m) t up)) (sym me) ∙ r;
+    }
 
-pub marked_same : (p q : List Bool) (a b c d : ℕ) (v : Bool) → p ≡ q → a ≡ b → c ≡ d → marked p a (c - a) v ≡ marked q b (d - b) v
-marked_same p q a b c d v e f g = rw (e, f, g) refl
+-- The part from a place on is still the upper half's tree.
+pub still_upper : (height m : ℕ) (t low u : List ℕ) → m ≡ 2 ^ height → IsTree (height - 1) (upper height t) → HasLower height t low u
+    → IsTree (height - 1) (take (length u - m) (drop m u))
+still_upper height m t low u me i h = rw (upper_part height m u me, h.upper_is) i
+
+-- ---- marks
 
 -- A node that is marked as a whole.
-pub marked_whole : (height number from to : ℕ) (free : Bool) (t u : List ℕ) → IsTree height t
-    → u ≡ set t 0 number → number ≡ whole_number height free → to - from ≡ 2 ^ height → to ≤ 2 ^ height
-    → IsTree height u × (flags_of height u ≡ marked (flags_of height t) from (to - from) free)
-marked_whole height number from to free t u i e n w f =
+pub marked_whole : (height number first count : ℕ) (free : Bool) (t u : List ℕ) → IsTree height t
+    → u ≡ set t 0 number → number ≡ whole_number height free → count ≡ 2 ^ height → first + count ≤ 2 ^ height
+    → IsTree height u × (flags_of height u ≡ marked (flags_of height t) first count free)
+marked_whole height number first count free t u i e n w f =
     let r : root u ≡ number = ap root e ∙ get_or-set_same t 0 number 0 (not_empty height t i) in
     let s : length u + 1 ≡ 2 ^ (height + 1) = omega (arith, ap length e ∙ length-set t 0 number, tree_size height t i) in
-    let m : marked (flags_of height t) from (to - from) free ≡ replicate (2 ^ height) free =
-    marked_all (flags_of height t) from to (2 ^ height) free (length-flags height t) w f in
-    (whole height u s (either free (r ∙ n)), flags free (r ∙ n) ∙ sym m)
+    let m : marked (flags_of height t) first count free ≡ replicate count free =
+    marked_all (flags_of height t) first count free (omega (arith, pow_pos height)) (length-flags height t ∙ sym w) (omega arith) in
+    (whole height u s (either free (r ∙ n)), flags free (r ∙ n) ∙ ap (λ (k : ℕ). replicate k free) (sym w) ∙ sym m)
   where
     either : (b : Bool) → root u ≡ whole_number height b → (root u ≡ 0) ⊎ (root u ≡ height + 1)
     either true e = inr e
@@ -99,47 +106,73 @@ marked_whole height number from to free t u i e n w f =
     flags true e = flags-free height u e
     flags false e = flags-taken height u e
 
--- A node whose halves are marked.
-pub marked_parts : (height m n from to number : ℕ) (free : Bool) (old t low up u : List ℕ) → 0 < height
-    → m ≡ 2 ^ height → n ≡ 2 ^ (height - 1) → from ≤ to
-    → IsOpen height t → flags_of (height - 1) (lower height t) ++ flags_of (height - 1) (upper height t) ≡ flags_of height old
-    → IsTree (height - 1) low → IsTree (height - 1) up
-    → flags_of (height - 1) low ≡ marked (flags_of (height - 1) (lower height t)) (min from n) (min to n - min from n) free
-    → flags_of (height - 1) up ≡ marked (flags_of (height - 1) (upper height t)) (from - n) ((to - n) - (from - n)) free
-    → u ≡ set (put_mid m (length (put_mid 1 (m - 1) t low) - m) (put_mid 1 (m - 1) t low) up) 0 number
-    → number ≡ joined height (get_or (put_mid m (length (put_mid 1 (m - 1) t low) - m) (put_mid 1 (m - 1) t low) up) 1 0) (get_or (put_mid m (length (put_mid 1 (m - 1) t low) - m) (put_mid 1 (m - 1) t low) up) m 0)
-    → IsTree height u × (flags_of height u ≡ marked (flags_of height old) from (to - from) free)
-marked_parts zero m n from to number free old t low up u pos me ne ft o f lt ut lf uf e j = absurd (omega arith)
-marked_parts (suc h) m n from to number free old t low up u pos me ne ft o f lt ut lf uf e j =
+-- A node whose lower half is marked.
+pub marked_lower : (height m first count : ℕ) (v : Bool) (old t low b u : List ℕ) → m ≡ 2 ^ height → first + count ≤ 2 ^ (height - 1)
+    → flags_of (height - 1) (lower height t) ++ flags_of (height - 1) (upper height t) ≡ flags_of height old
+    → HasLower height t low b
+    → flags_of (height - 1) low ≡ marked (flags_of (height - 1) (take (m - 1) (drop 1 t))) first count v
+    → flags_of height u ≡ flags_of (height - 1) (lower height b) ++ flags_of (height - 1) (upper height b)
+    → flags_of height u ≡ marked (flags_of height old) first count v
+marked_lower height m first count v old t low b u me fits f h lf uf =
+    let k : flags_of (height - 1) low ≡ marked (flags_of (height - 1) (lower height t)) first count v =
+    lf ∙ ap (λ (x : ℕ). marked (flags_of (height - 1) (take (x - 1) (drop 1 t))) first count v) me in
+    uf ∙ rw (h.lower_is, h.upper_is, k) (sym (marked_left _ _ first count v (omega (arith, length-flags (height - 1) (lower height t)))))
+    ∙ ap (λ (x : List Bool). marked x first count v) f
+
+-- A node whose upper half is marked.
+pub marked_upper : (height m first count : ℕ) (v : Bool) (old t up b u : List ℕ) → m ≡ 2 ^ height
+    → flags_of (height - 1) (lower height t) ++ flags_of (height - 1) (upper height t) ≡ flags_of height old
+    → HasUpper height t up b
+    → flags_of (height - 1) up ≡ marked (flags_of (height - 1) (take (length t - m) (drop m t))) first count v
+    → flags_of height u ≡ flags_of (height - 1) (lower height b) ++ flags_of (height - 1) (upper height b)
+    → flags_of height u ≡ marked (flags_of height old) (2 ^ (height - 1) + first) count v
+marked_upper height m first count v old t up b u me f h upf uf =
+    let k : flags_of (height - 1) up ≡ marked (flags_of (height - 1) (upper height t)) first count v =
+    upf ∙ ap (λ (x : List ℕ). marked (flags_of (height - 1) x) first count v) (upper_part height m t me) in
+    uf ∙ rw (h.lower_is, h.upper_is, k) (sym (marked_right _ _ (2 ^ (height - 1)) first count v (length-flags (height - 1) (lower height t))))
+    ∙ ap (λ (x : List Bool). marked x (2 ^ (height - 1) + first) count v) f
+
+-- A node of both of whose halves a part is marked.
+pub marked_both : (height m n first count : ℕ) (v : Bool) (old t low a up b u : List ℕ) → m ≡ 2 ^ height → n ≡ 2 ^ (height - 1)
+    → first ≤ n → n ≤ first + count
+    → flags_of (height - 1) (lower height t) ++ flags_of (height - 1) (upper height t) ≡ flags_of height old
+    → HasLower height t low a → HasUpper height a up b
+    → flags_of (height - 1) low ≡ marked (flags_of (height - 1) (take (m - 1) (drop 1 t))) first (n - first) v
+    → flags_of (height - 1) up ≡ marked (flags_of (height - 1) (take (length a - m) (drop m a))) 0 (count - (n - first)) v
+    → flags_of height u ≡ flags_of (height - 1) (lower height b) ++ flags_of (height - 1) (upper height b)
+    → flags_of height u ≡ marked (flags_of height old) first count v
+marked_both height m n first count v old t low a up b u me ne l g f hl hu lf upf uf =
+    let k : flags_of (height - 1) low ≡ marked (flags_of (height - 1) (lower height t)) first (n - first) v =
+    lf ∙ ap (λ (x : ℕ). marked (flags_of (height - 1) (take (x - 1) (drop 1 t))) first (n - first) v) me in
+    let j : flags_of (height - 1) up ≡ marked (flags_of (height - 1) (upper height t)) 0 (count - (n - first)) v =
+    upf ∙ ap (λ (x : List ℕ). marked (flags_of (height - 1) x) 0 (count - (n - first)) v) (upper_part height m a me ∙ hl.upper_is) in
+    uf ∙ rw (hu.lower_is, hu.upper_is, hl.lower_is, k, j) (sym (marked_across _ _ n first count v (length-flags (height - 1) (lower height t) ∙ sym ne) l g))
+    ∙ ap (λ (x : List Bool). marked x first count v) f
+
+-- ---- a node whose halves are right
+
+pub rejoined : (height number m : ℕ) (t u : List ℕ) → 0 < height → length t + 1 ≡ 2 ^ (height + 1)
+    → IsTree (height - 1) (lower height t) → IsTree (height - 1) (upper height t)
+    → u ≡ set t 0 number → m ≡ 2 ^ height → number ≡ joined height (get_or t 1 0) (get_or t m 0)
+    → IsTree height u × (flags_of height u ≡ flags_of (height - 1) (lower height t) ++ flags_of (height - 1) (upper height t))
+rejoined zero number m t u pos s lt ut e me j = absurd (omega arith)
+rejoined (suc h) number m t u pos s lt ut e me j =
     let e1 : suc h - 1 ≡ h = omega arith in
-    let e2 : h + 1 ≡ suc h = omega arith in
-    let e3 : suc h + 1 ≡ suc (suc h) = omega arith in
     let p : 1 < 2 ^ suc h = one_below (suc h) pos in
-    let both : List ℕ = put_mid m (length (put_mid 1 (m - 1) t low) - m) (put_mid 1 (m - 1) t low) up in
-    let lt1 : IsTree h low = rw e1 at lt in
-    let ut1 : IsTree h up = rw e1 at ut in
-    let sl : length low + 1 ≡ m = (rw e2 at (tree_size h low lt1)) ∙ sym me in
-    let su : length up + 1 ≡ m = (rw e2 at (tree_size h up ut1)) ∙ sym me in
-    let st : length t + 1 ≡ 2 ^ suc (suc h) = rw e3 at o.size in
-    let st2 : length t + 1 ≡ m + m = omega (arith, double (suc h)) in
-    let sb : length both ≡ length t = length-both m t low up (omega arith) st2 sl su in
-    let s : length u + 1 ≡ 2 ^ (suc h + 1) = omega (arith, ap length e ∙ length-set both 0 number, o.size) in
-    let d1 : drop 1 u ≡ drop 1 both = ap (λ (x : List ℕ). drop 1 x) e ∙ drop-set-lt 1 both 0 number (omega arith) in
-    let dm : drop m u ≡ drop m both = ap (λ (x : List ℕ). drop m x) e ∙ drop-set-lt m both 0 number (omega arith) in
-    let l0 : take (m - 1) (drop 1 both) ≡ low = lower-both m t low up (omega arith) st2 sl su in
-    let u0 : drop m both ≡ up = upper-both m t low up (omega arith) st2 sl su in
-    let l : lower (suc h) u ≡ low = rw (sym me, d1) l0 in
-    let r : upper (suc h) u ≡ up = rw (sym me, dm) u0 in
-    let lb : lower (suc h) both ≡ low = rw (sym me) l0 in
-    let ub : upper (suc h) both ≡ up = rw (sym me) u0 in
-    let r1 : root low ≡ get_or both 1 0 = ap root (sym lb) ∙ root-lower h both in
-    let rm : root up ≡ get_or both m 0 = ap root (sym ub) ∙ root-upper h both ∙ ap (λ (x : ℕ). get_or both x 0) (sym me) in
-    let jn : number ≡ joined (suc h) (root low) (root up) = rw (r1, rm) j in
-    let n0 : root u ≡ number = ap root e ∙ get_or-set_same both 0 number 0 (omega arith) in
-    let b : IsTree (suc h) u × (flags_of (suc h) u ≡ flags_of (suc h - 1) low ++ flags_of (suc h - 1) up) =
-    rebuilt (suc h) number u low up pos s l r lt ut n0 jn in
-    let len : length (flags_of (suc h - 1) (lower (suc h) t)) ≡ n = length-flags (suc h - 1) (lower (suc h) t) ∙ sym ne in (
-      b.0,
-      b.1 ∙ rw (lf, uf) (marked_halves _ _ from to n free len ft)
-          ∙ ap (λ (x : List Bool). marked x from (to - from) free) f,
-    )
+    let l : lower (suc h) u ≡ lower (suc h) t = ap (λ (x : List ℕ). take (2 ^ suc h - 1) x) (ap (λ (x : List ℕ). drop 1 x) e ∙ drop-set-lt 1 t 0 number (omega arith)) in
+    let r : upper (suc h) u ≡ upper (suc h) t = ap (λ (x : List ℕ). drop (2 ^ suc h) x) e ∙ drop-set-lt (2 ^ suc h) t 0 number (omega arith) in
+    let n : root u ≡ number = ap root e ∙ get_or-set_same t 0 number 0 (omega (arith, twice (suc h))) in
+    let k : number ≡ joined (suc h) (get_or t 1 0) (get_or t (2 ^ suc h) 0) = j ∙ ap (λ (x : ℕ). joined (suc h) (get_or t 1 0) (get_or t x 0)) me in
+    let o : IsOpen (suc h) u = record {
+      size = omega (arith, ap length e ∙ length-set t 0 number);
+      number = rw (l, r) (n ∙ rw (root-lower h t, root-upper h t) k);
+      lower_tree = rw l lt;
+      upper_tree = rw r ut;
+    } in
+    (closed h u o, flags-open h u o ∙ rw (l, r, e1) refl)
+
+-- ---- heights and places
+
+pub above_zero : (height first count : ℕ) → 0 < count → first + count ≤ 2 ^ height → (count ≡ 2 ^ height → ⊥) → 0 < height
+above_zero zero first count pos l n = absurd (n (omega arith))
+above_zero (suc h) first count pos l n = omega arith

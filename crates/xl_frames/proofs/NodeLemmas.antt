@@ -214,7 +214,7 @@ not_empty height t i =
 pub spread_written : (height number middle : ℕ) (t u : List ℕ) → 0 < height → IsTree height t
     → middle ≡ 2 ^ height → u ≡ set (set t 1 number) middle number
     → ((root t ≡ 0) × (number ≡ 0)) ⊎ ((root t ≡ height + 1) × (number ≡ height))
-    → IsOpen height u × (flags_of (height - 1) (lower height u) ++ flags_of (height - 1) (upper height u) ≡ flags_of height t)
+    → IsOpen height u × (flags_of (height - 1) (lower height u) ++ flags_of (height - 1) (upper height u) ≡ flags_of height t) × (root u ≡ root t)
 spread_written height number middle t u pos i m e k =
     let b : 1 < 2 ^ height = one_below height pos in
     let s : 2 ^ height < length t = inside height t i pos in
@@ -228,7 +228,8 @@ spread_written height number middle t u pos i m e k =
     ap (λ (x : List ℕ). get_or x (2 ^ height) 0) e
     ∙ ap (λ (x : ℕ). get_or (set (set t 1 number) middle number) x 0) (sym m)
     ∙ get_or-set_same (set t 1 number) middle number 0 (omega (arith, length-set t 1 number)) in
-    spread height number t u pos i l r one two k
+    let o = spread height number t u pos i l r one two k in
+    (o.0, o.1, r)
 
 pub lower_tree : (height : ℕ) (t : List ℕ) → 0 < height → IsTree height t → 0 < root t → root t ≤ height → IsTree (height - 1) (lower height t)
 lower_tree zero t pos i l u = absurd (omega arith)

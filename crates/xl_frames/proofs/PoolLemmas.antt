@@ -1,11 +1,12 @@
 -- A pool is the front of a tree's flags, and what is past its end is taken.
 use Rattle.std.proofs.Common.{◌≡◌, ℕ, zero, suc, ◌+◌, ◌-◌, ◌*◌, ◌^◌, ◌<◌, ◌≤◌, Bool, true, false, List, ◌++◌, length, take, drop, replicate, refl, sym, ◌∙◌, ap, inl, arith}
-use Rattle.std.proofs.lemmas.List.{length-take, length-drop, length-append, length-replicate, take-append-drop, take_at, drop_at}
+use Rattle.std.proofs.lemmas.List.{length-take, length-replicate, take-append-drop, take_at, drop_at}
 use Rattle.std.proofs.lemmas.Nat.{pow_pos}
 use Rattle.xl_frames.specs.Pool.{IsLowest, HasNone, marked}
 use Rattle.xl_frames.specs.Tree.{root, flags_of, IsTree, IsPool, pool_of}
 use Rattle.xl_frames.proofs.NodeLemmas.{double, whole, length-flags, flags-taken}
 use Rattle.xl_frames.proofs.BlockLemmas.{lowest_inside, none_inside, marked_left}
+use Rattle.xl_frames.proofs.MarkLemmas.{length-marked}
 use Rattle.xl_frames.proofs.SearchLemmas.{none_under}
 
 flags_split : (height frames : ℕ) (t : List ℕ) → IsPool height frames t
@@ -26,15 +27,15 @@ none_of_pool height frames k t i l =
     none_inside (pool_of height frames t) (2 ^ height - frames) (2 ^ k) (rw (flags_split height frames t i) at (none_under height k t i.is_tree l))
 
 -- what marking inside the pool leaves
-pub marked_pool : (height frames from to : ℕ) (v : Bool) (t u : List ℕ) → IsPool height frames t → IsTree height u
-    → flags_of height u ≡ marked (flags_of height t) from (to - from) v → from ≤ to → to ≤ frames
-    → IsPool height frames u × (pool_of height frames u ≡ marked (pool_of height frames t) from (to - from) v)
-marked_pool height frames from to v t u i tu f o l =
+pub marked_pool : (height frames first count : ℕ) (v : Bool) (t u : List ℕ) → IsPool height frames t → IsTree height u
+    → flags_of height u ≡ marked (flags_of height t) first count v → first + count ≤ frames
+    → IsPool height frames u × (pool_of height frames u ≡ marked (pool_of height frames t) first count v)
+marked_pool height frames first count v t u i tu f l =
     let n : length (pool_of height frames t) ≡ frames = length-pool height frames t i in
-    let e : flags_of height u ≡ marked (pool_of height frames t) from (to - from) v ++ replicate (2 ^ height - frames) false =
-    f ∙ ap (λ (x : List Bool). marked x from (to - from) v) (flags_split height frames t i)
-    ∙ marked_left (pool_of height frames t) (replicate (2 ^ height - frames) false) from to v o (omega arith) in
-    let s : length (marked (pool_of height frames t) from (to - from) v) ≡ frames = length_marked (pool_of height frames t) from to v o (omega arith) ∙ n in (
+    let e : flags_of height u ≡ marked (pool_of height frames t) first count v ++ replicate (2 ^ height - frames) false =
+    f ∙ ap (λ (x : List Bool). marked x first count v) (flags_split height frames t i)
+    ∙ marked_left (pool_of height frames t) (replicate (2 ^ height - frames) false) first count v (omega arith) in
+    let s : length (marked (pool_of height frames t) first count v) ≡ frames = length-marked (pool_of height frames t) first count v (omega arith) ∙ n in (
       record {
         small = i.small;
         fits = i.fits;
@@ -43,17 +44,6 @@ marked_pool height frames from to v t u i tu f o l =
       },
       ap (λ (x : List Bool). take frames x) e ∙ take_at _ _ frames s,
     )
-  where
-    length_marked : (p : List Bool) (from to : ℕ) (v : Bool) → from ≤ to → to ≤ length p → length (marked p from (to - from) v) ≡ length p
-    length_marked p from to v o l =
-        omega (
-          arith,
-          length-append (take from p) (replicate (to - from) v ++ drop (from + (to - from)) p),
-          length-append (replicate (to - from) v) (drop (from + (to - from)) p),
-          length-replicate (to - from) v,
-          length-take from p,
-          length-drop (from + (to - from)) p,
-        )
 
 -- a tree of zeros, in which all frames are taken
 pub zeros : (height : ℕ) (t : List ℕ) → t ≡ replicate (2 * 2 ^ height - 1) 0 → IsTree height t × (flags_of height t ≡ replicate (2 ^ height) false)
@@ -71,14 +61,13 @@ zeros height t e =
 
 -- the first frames of an empty tree are made free
 pub freed_pool : (height count : ℕ) (t u : List ℕ) → height < 32 → count ≤ 2 ^ height → flags_of height t ≡ replicate (2 ^ height) false
-    → IsTree height u → flags_of height u ≡ marked (flags_of height t) 0 (count - 0) true
+    → IsTree height u → flags_of height u ≡ marked (flags_of height t) 0 count true
     → IsPool height count u × (pool_of height count u ≡ replicate count true)
 freed_pool height count t u small fits z i f =
-    let e0 : count - 0 ≡ count = omega arith in
     let e1 : 0 + count ≡ count = omega arith in
     let d : drop count (replicate (2 ^ height) false) ≡ replicate (2 ^ height - count) false = drop_replicate count (2 ^ height) in
     let e : flags_of height u ≡ replicate count true ++ replicate (2 ^ height - count) false =
-    f ∙ rw (z, e0, e1, d) refl in (
+    f ∙ rw (z, e1, d) refl in (
       record {
         small = small;
         fits = fits;

@@ -10,6 +10,7 @@ ghost use Rattle.xl_frames.specs.Pool.{IsLowest, HasNone, marked};
 ghost use Rattle.xl_frames.specs.Tree.{root, lower, upper, joined as joined_of, whole_number as number_of_whole, flags_of, IsTree, IsOpen, IsPool, pool_of};
 
 /// The number of frames under a node of this height, which is also the place of its upper half.
+#[inline(always)]
 pub(crate) fn frames_under(height: u8) -> usize
     requires { height < 32 }
     ensures { result ≡ 2 ^ height }
@@ -18,6 +19,7 @@ pub(crate) fn frames_under(height: u8) -> usize
 }
 
 /// The number of a node of this height whose halves have these numbers.
+#[inline(always)]
 fn joined(height: u8, lower: u8, upper: u8) -> u8
     requires { height < 32 }
     ensures { result ≡ joined_of height lower upper }
@@ -30,6 +32,7 @@ fn joined(height: u8, lower: u8, upper: u8) -> u8
 }
 
 /// The number of a node that is free as a whole, or taken as a whole.
+#[inline(always)]
 fn whole_number(height: u8, free: bool) -> u8
     requires { height < 32 }
     ensures { result ≡ number_of_whole height free }
@@ -81,6 +84,7 @@ fn lowest(tree: &[u8], height: u8, order: u8) -> Option<usize>
 }
 
 /// Writes a node's number.
+#[inline(always)]
 fn write_root(tree: &mut [u8], number: u8)
     requires { 0 < length tree.old }
     ensures { tree.new ≡ slice_set tree.old 0 number }
@@ -89,6 +93,7 @@ fn write_root(tree: &mut [u8], number: u8)
 }
 
 /// Writes the same number to the roots of both halves.
+#[inline(always)]
 fn write_halves(tree: &mut [u8], middle: usize, number: u8)
     requires lower { 1 < length tree.old }
     requires upper { middle < length tree.old }
@@ -99,6 +104,7 @@ fn write_halves(tree: &mut [u8], middle: usize, number: u8)
 }
 
 /// Puts the halves of a node right where the node is free as a whole, or taken as a whole.
+#[inline(always)]
 fn open(tree: &mut [u8], height: u8)
     requires above { 0 < height }
     requires small { height < 32 }
@@ -106,6 +112,7 @@ fn open(tree: &mut [u8], height: u8)
     ensures opened { IsOpen height tree.new }
     ensures flags { flags_of (height - 1) (lower height tree.new) ++
         flags_of (height - 1) (upper height tree.new) ≡ flags_of height tree.old }
+    ensures same { root tree.new ≡ root tree.old }
 {
     let middle = frames_under(height);
     if tree[0] == 0 {
@@ -115,41 +122,50 @@ fn open(tree: &mut [u8], height: u8)
     }
 }
 
-/// Makes the frames from `from` up to `to` free or taken, all of them.
-fn mark(tree: &mut [u8], height: u8, from: usize, to: usize, free: bool)
+/// Writes the number of a node whose halves are right.
+#[inline(always)]
+fn close(tree: &mut [u8], height: u8)
+    requires above { 0 < height }
+    requires small { height < 32 }
+    requires size { length tree.old + 1 ≡ 2 ^ (height + 1) }
+    requires lower_tree { IsTree (height - 1) (lower height tree.old) }
+    requires upper_tree { IsTree (height - 1) (upper height tree.old) }
+    ensures tree { IsTree height tree.new }
+    ensures flags { flags_of height tree.new ≡ flags_of (height - 1) (lower height tree.old) ++
+        flags_of (height - 1) (upper height tree.old) }
+{
+    let number = joined(height, tree[1], tree[frames_under(height)]);
+    write_root(tree, number);
+}
+
+/// Makes the frames from `first` on free or taken, as many as `count` says.
+fn mark(tree: &mut [u8], height: u8, first: usize, count: usize, free: bool)
     requires small { height < 32 }
     requires tree { IsTree height tree.old }
-    requires fits { to ≤ 2 ^ height }
+    requires some { 0 < count }
+    requires fits { first + count ≤ 2 ^ height }
     ensures tree { IsTree height tree.new }
-    ensures flags { flags_of height tree.new ≡
-        marked (flags_of height tree.old) from (to - from) free }
+    ensures flags { flags_of height tree.new ≡ marked (flags_of height tree.old) first count free }
 {
-    if from >= to {
-        return;
-    }
-    if to - from == frames_under(height) {
+    if count == frames_under(height) {
         write_root(tree, whole_number(height, free));
         return;
     }
     open(tree, height);
     let half = frames_under(height - 1);
     let middle = frames_under(height);
-    mark(
-        &mut tree[1..middle],
-        height - 1,
-        from.min(half),
-        to.min(half),
-        free,
-    );
-    mark(
-        &mut tree[middle..],
-        height - 1,
-        from.saturating_sub(half),
-        to.saturating_sub(half),
-        free,
-    );
-    let number = joined(height, tree[1], tree[middle]);
-    write_root(tree, number);
+    if first + count <= half {
+        mark(&mut tree[1..middle], height - 1, first, count, free);
+        close(tree, height);
+    } else if first >= half {
+        mark(&mut tree[middle..], height - 1, first - half, count, free);
+        close(tree, height);
+    } else {
+        let below = half - first;
+        mark(&mut tree[1..middle], height - 1, first, below, free);
+        mark(&mut tree[middle..], height - 1, 0, count - below, free);
+        close(tree, height);
+    }
 }
 
 /// The least height of a tree over this many frames.
@@ -175,7 +191,9 @@ pub(crate) fn free_first(tree: &mut [u8], height: u8, count: usize)
     ensures tree { IsPool height count tree.new }
     ensures flags { pool_of height count tree.new ≡ replicate count true }
 {
-    mark(tree, height, 0, count, true);
+    if count > 0 {
+        mark(tree, height, 0, count, true);
+    }
 }
 
 /// The first frame of the lowest free block of 2 to the `order` frames.
@@ -207,7 +225,7 @@ pub(crate) fn take_block(tree: &mut [u8], height: u8, order: u8) -> Option<usize
 {
     match lowest(tree, height, order) {
         Some(at) => {
-            mark(tree, height, at, at + frames_under(order), false);
+            mark(tree, height, at, frames_under(order), false);
             Some(at)
         }
         None => None,
@@ -225,5 +243,5 @@ pub(crate) fn give_block(tree: &mut [u8], height: u8, at: usize, order: u8)
     ensures flags { (count : ℕ) → IsPool height count tree.old → at + 2 ^ order ≤ count →
         pool_of height count tree.new ≡ marked (pool_of height count tree.old) at (2 ^ order) true }
 {
-    mark(tree, height, at, at + frames_under(order), true);
+    mark(tree, height, at, frames_under(order), true);
 }

@@ -1,23 +1,25 @@
-use Rattle.std.proofs.Common.{◌≡◌, ◌+◌, ◌-◌, ◌^◌, ◌<◌, ℕ, false, refl, arith, rules}
+use Rattle.std.proofs.Common.{ℕ, false, refl, arith}
+use Rattle.std.proofs.lemmas.Nat.{pow_pos}
 use Rattle.xl_frames.specs.Tree.{IsPool}
 use Rattle.xl_frames.proofs.NodeLemmas.{length-flags}
-use Rattle.xl_frames.proofs.SearchLemmas.{lowest_small, frames_small}
 use Rattle.xl_frames.proofs.PoolLemmas.{length-pool, lowest_of_pool, none_of_pool, marked_pool}
 use Rattle.xl_frames.proofs.tree.take_block.Goals as goal
+
+pub mark-requires-clause-some : goal.mark-requires-clause-some
+mark-requires-clause-some c = omega (arith, pow_pos c.args.order)
 
 pub mark-requires-clause-fits : goal.mark-requires-clause-fits
 mark-requires-clause-fits c = omega (arith, c.in-Some.ensures.some.fits, length-flags c.args.height c.args.tree.now)
 
 pub returns-in-Some : goal.returns-in-Some
 returns-in-Some c =
-    let e : (c.in-Some.at + c.frames_under.result) - c.in-Some.at ≡ 2 ^ c.args.order = omega arith in
     let low = λ (count : ℕ) (pool : IsPool c.args.height count c.args.tree.now). lowest_of_pool c.args.height count c.args.order c.in-Some.at c.args.tree.now pool c.in-Some.ensures.some in
-    let m = λ (count : ℕ) (pool : IsPool c.args.height count c.args.tree.now). marked_pool c.args.height count c.in-Some.at (c.in-Some.at + c.frames_under.result) false c.args.tree.now c.mark.new.tree
-    pool c.mark.ensures.tree c.mark.ensures.flags (omega arith) (omega (arith, (low count pool).fits, length-pool c.args.height count c.args.tree.now pool)) in
+    let m = λ (count : ℕ) (pool : IsPool c.args.height count c.args.tree.now). marked_pool c.args.height count c.in-Some.at c.frames_under.result false c.args.tree.now c.mark.new.tree
+    pool c.mark.ensures.tree c.mark.ensures.flags (omega (arith, (low count pool).fits, length-pool c.args.height count c.args.tree.now pool)) in
     record {
       tree = λ count pool. (m count pool).0;
       lowest = low;
-      taken = λ count pool. rw e at ((m count pool).1);
+      taken = λ count pool. rw c.frames_under.ensures at ((m count pool).1);
       none = λ count pool. tt;
       unchanged = tt;
     }
@@ -30,9 +32,3 @@ returns-in-None c = record {
   none = λ count pool. none_of_pool c.args.height count c.args.order c.args.tree.now pool c.in-None.ensures.none;
   unchanged = refl;
 }
-
-pub overflow_add-at : goal.overflow_add-at
-overflow_add-at c =
-    let a : c.in-Some.at < 2 ^ 32 = lowest_small c.args.height c.args.order c.in-Some.at c.args.tree.now c.requires.height c.in-Some.ensures.some in
-    let b : 2 ^ c.args.order < 2 ^ 32 = frames_small c.args.order c.requires.order in
-    search rules
