@@ -53,7 +53,7 @@ free_right_back a b first count at e f =
           get_or-append_right a b (length a) frame false refl (omega arith) ∙ f.each (frame - length a) (omega arith) (omega arith);
     }
 
-free_all : (n first count : ℕ) → first + count ≤ n → IsFree (replicate n true) first count
+pub free_all : (n first count : ℕ) → first + count ≤ n → IsFree (replicate n true) first count
 free_all n first count fits = record { each = λ frame l u. get_or-replicate n frame true false (omega arith) }
 
 -- ---- the lowest block

@@ -17,6 +17,9 @@ length-put_mid a k xs ys l e =
 rest : (m : ℕ) (t : List ℕ) → take (length t - m) (drop m t) ≡ drop m t
 rest m t = take_all (length t - m) (drop m t) (omega (arith, length-drop m t))
 
+pub lower_part : (height m : ℕ) (t : List ℕ) → m ≡ 2 ^ height → take (m - 1) (drop 1 t) ≡ lower height t
+lower_part height m t me = ap (λ (x : ℕ). take (x - 1) (drop 1 t)) me
+
 pub upper_part : (height m : ℕ) (t : List ℕ) → m ≡ 2 ^ height → take (length t - m) (drop m t) ≡ upper height t
 upper_part height m t me = rest m t ∙ ap (λ (x : ℕ). drop x t) me
 

@@ -1,5 +1,5 @@
 -- The tree's nodes: what a root says of the frames under it, and how a tree is opened and closed.
-use Rattle.std.proofs.Common.{◌≡◌, ℕ, zero, suc, ◌+◌, ◌-◌, ◌^◌, ◌<◌, ◌≤◌, max, Bool, true, false, List, ◌++◌, length, get_or, set, replicate, refl, sym, ◌∙◌, ap, arith, inl, inr, ◌⊎◌, eqb}
+use Rattle.std.proofs.Common.{◌≡◌, ℕ, zero, suc, ◌+◌, ◌-◌, ◌^◌, ◌<◌, ◌≤◌, Bool, true, false, List, ◌++◌, length, get_or, set, replicate, refl, sym, ◌∙◌, ap, arith, inl, inr, ◌⊎◌, eqb}
 use Rattle.std.proofs.lemmas.Bool.{cases_eq, cond_both, cond-true, cond-false, eq-eqb, ne_eqb}
 use Rattle.std.proofs.lemmas.Bool.Decides.{nat_tests}
 use Rattle.std.proofs.lemmas.List.{length-take, length-drop, length-append, length-replicate, replicate-append-replicate, get_or-take, get_or-drop, length-set, get_or-set_same, get_or-set_other}
@@ -22,8 +22,8 @@ joined_bound height a b la lb = grind (arith, nat_tests)
 pub joined_most : (height a b k : ℕ) → joined height a b ≤ k → (a ≤ k) × (b ≤ k)
 joined_most height a b k e = grind (arith, nat_tests)
 
-pub joined-max : (height a b : ℕ) → joined height a b ≤ height → joined height a b ≡ max a b
-joined-max height a b e = grind (arith, nat_tests)
+pub joined_least : (height a b k : ℕ) → k < height → a ≤ k → b ≤ k → joined height a b ≤ k
+joined_least height a b k l la lb = grind (arith, nat_tests)
 
 joined-taken : (height n : ℕ) → 0 < height → n ≡ 0 → joined height n n ≡ 0
 joined-taken height n pos e = grind (arith, nat_tests)
@@ -154,6 +154,10 @@ root-lower h t =
 pub root-upper : (h : ℕ) (t : List ℕ) → root (upper (suc h) t) ≡ get_or t (2 ^ suc h) 0
 root-upper h t = get_or-drop (2 ^ suc h) t 0 0 ∙ ap (λ (i : ℕ). get_or t i 0) (omega arith)
 
+pub root-first : (height : ℕ) (t : List ℕ) → 0 < height → root (lower height t) ≡ get_or t 1 0
+root-first zero t pos = absurd (omega arith)
+root-first (suc h) t pos = root-lower h t
+
 -- the halves of a node that is taken or free as a whole, once their roots say the same
 pub spread : (height number : ℕ) (t u : List ℕ) → 0 < height → IsTree height t
     → length u ≡ length t → root u ≡ root t → get_or u 1 0 ≡ number → get_or u (2 ^ height) 0 ≡ number
@@ -230,11 +234,3 @@ spread_written height number middle t u pos i m e k =
     ∙ get_or-set_same (set t 1 number) middle number 0 (omega (arith, length-set t 1 number)) in
     let o = spread height number t u pos i l r one two k in
     (o.0, o.1, r)
-
-pub lower_tree : (height : ℕ) (t : List ℕ) → 0 < height → IsTree height t → 0 < root t → root t ≤ height → IsTree (height - 1) (lower height t)
-lower_tree zero t pos i l u = absurd (omega arith)
-lower_tree (suc h) t pos i l u = (opened h t i l u).lower_tree
-
-pub upper_tree : (height : ℕ) (t : List ℕ) → 0 < height → IsTree height t → 0 < root t → root t ≤ height → IsTree (height - 1) (upper height t)
-upper_tree zero t pos i l u = absurd (omega arith)
-upper_tree (suc h) t pos i l u = (opened h t i l u).upper_tree

@@ -2,12 +2,12 @@
 use Rattle.std.proofs.Common.{◌≡◌, ℕ, zero, suc, ◌+◌, ◌-◌, ◌*◌, ◌^◌, ◌<◌, ◌≤◌, Bool, true, false, List, ◌++◌, length, take, drop, replicate, refl, sym, ◌∙◌, ap, inl, arith}
 use Rattle.std.proofs.lemmas.List.{length-take, length-replicate, take-append-drop, take_at, drop_at}
 use Rattle.std.proofs.lemmas.Nat.{pow_pos}
-use Rattle.xl_frames.specs.Pool.{IsLowest, HasNone, marked}
+use Rattle.xl_frames.specs.Pool.{IsFree, IsLowest, HasNone, marked}
 use Rattle.xl_frames.specs.Tree.{root, flags_of, IsTree, IsPool, pool_of}
 use Rattle.xl_frames.proofs.NodeLemmas.{double, whole, length-flags, flags-taken}
-use Rattle.xl_frames.proofs.BlockLemmas.{lowest_inside, none_inside, marked_left}
+use Rattle.xl_frames.proofs.BlockLemmas.{free_inside, lowest_inside, none_inside, marked_left}
 use Rattle.xl_frames.proofs.MarkLemmas.{length-marked}
-use Rattle.xl_frames.proofs.SearchLemmas.{none_under}
+use Rattle.xl_frames.proofs.SearchLemmas.{none_under, some_under}
 
 flags_split : (height frames : ℕ) (t : List ℕ) → IsPool height frames t
     → flags_of height t ≡ pool_of height frames t ++ replicate (2 ^ height - frames) false
@@ -25,6 +25,12 @@ lowest_of_pool height frames k at t i low =
 pub none_of_pool : (height frames k : ℕ) (t : List ℕ) → IsPool height frames t → root t ≤ k → HasNone (pool_of height frames t) (2 ^ k)
 none_of_pool height frames k t i l =
     none_inside (pool_of height frames t) (2 ^ height - frames) (2 ^ k) (rw (flags_split height frames t i) at (none_under height k t i.is_tree l))
+
+pub some_of_pool : (height frames k : ℕ) (t : List ℕ) → IsPool height frames t → k < root t
+    → (block : ℕ) × IsFree (pool_of height frames t) (block * 2 ^ k) (2 ^ k)
+some_of_pool height frames k t i l =
+    let b = some_under height k t i.is_tree l in
+    (b.0, free_inside (pool_of height frames t) (2 ^ height - frames) (b.0 * 2 ^ k) (2 ^ k) (rw (flags_split height frames t i) at b.1))
 
 -- what marking inside the pool leaves
 pub marked_pool : (height frames first count : ℕ) (v : Bool) (t u : List ℕ) → IsPool height frames t → IsTree height u

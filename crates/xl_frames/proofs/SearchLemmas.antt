@@ -1,12 +1,13 @@
 -- What the root says of the free blocks under it.
-use Rattle.std.proofs.Common.{◌≡◌, ℕ, zero, suc, ◌+◌, ◌-◌, ◌*◌, ◌^◌, ◌<◌, ◌≤◌, max, Bool, true, false, List, [], ◌∷◌, ◌++◌, length, get_or, replicate, Option, Some, None, IfSome, IfNone, refl, sym, ◌∙◌, ap, arith, inl, inr, eqb}
+use Rattle.std.proofs.Common.{◌≡◌, ℕ, zero, suc, ◌+◌, ◌-◌, ◌*◌, ◌^◌, ◌<◌, ◌≤◌, Bool, true, false, List, [], ◌∷◌, ◌++◌, length, get_or, replicate, refl, sym, ◌∙◌, ap, arith, inl, inr, eqb}
 use Rattle.std.proofs.lemmas.Bool.{cases_eq, cases_lt, eqb-true, false≢true}
 use Rattle.std.proofs.lemmas.List.{get_or-replicate}
 use Rattle.std.proofs.lemmas.Nat.{pow_pos, pow_below, pow-add}
+use Rattle.std.proofs.Math.Nat.{add-mul}
 use Rattle.xl_frames.specs.Pool.{IsFree, IsLowest, HasNone}
 use Rattle.xl_frames.specs.Tree.{root, lower, upper, joined, flags_of, IsTree, IsOpen}
-use Rattle.xl_frames.proofs.NodeLemmas.{double, one_below, joined_most, joined-max, joined-free, tree_root, opened, flags-taken, flags-free, flags-open, length-flags}
-use Rattle.xl_frames.proofs.BlockLemmas.{side, past_seam, free_fits, free_left, free_right, lowest_left, lowest_right, lowest_all}
+use Rattle.xl_frames.proofs.NodeLemmas.{double, one_below, joined_most, joined_least, joined-free, tree_root, opened, flags-taken, flags-free, flags-open, length-flags}
+use Rattle.xl_frames.proofs.BlockLemmas.{side, past_seam, free_fits, free_left, free_left_back, free_right, free_right_back, free_all, lowest_left, lowest_right, lowest_all}
 
 pub seam : (h k : ℕ) → k ≤ h → 2 ^ h ≡ 2 ^ (h - k) * 2 ^ k
 seam h k l = let e : h ≡ (h - k) + k = omega arith in ap (λ (x : ℕ). 2 ^ x) e ∙ pow-add 2 (h - k) k
@@ -112,39 +113,50 @@ none_under h k t i l = record { none = λ block f. absurd (omega (arith, bound h
 pub lowest_whole : (h k : ℕ) (t : List ℕ) → root t ≡ h + 1 → k ≤ h → IsLowest (flags_of h t) (2 ^ k) 0
 lowest_whole h k t e l = rw (flags-free h t e) (lowest_all (2 ^ h) (2 ^ k) (pow_le k h l))
 
-pub lowest_lower : (height k at : ℕ) (t : List ℕ) → 0 < height → IsTree height t → k < root t → root t ≤ height → k < root (lower height t)
-    → IsLowest (flags_of (height - 1) (lower height t)) (2 ^ k) at → IsLowest (flags_of height t) (2 ^ k) at
-lowest_lower zero k at t pos i r u l low = absurd (omega arith)
-lowest_lower (suc h) k at t pos i r u l low =
-    let e : suc h - 1 ≡ h = omega arith in
-    let o : IsOpen (suc h) t = opened h t i (omega arith) u in
-    let below : IsLowest (flags_of h (lower (suc h) t)) (2 ^ k) at = rw e at low in
-    rw (flags-open h t o) (lowest_left _ (flags_of h (upper (suc h) t)) (2 ^ k) at (2 ^ (h - k))
-    (length-flags h (lower (suc h) t) ∙ seam h k (omega arith)) below)
+pub lowest_lower : (height k at : ℕ) (t : List ℕ) → 0 < height → IsOpen height t → k < root (lower height t)
+    → IsLowest (flags_of (height - 1) (lower height t)) (2 ^ k) at
+    → IsLowest (flags_of (height - 1) (lower height t) ++ flags_of (height - 1) (upper height t)) (2 ^ k) at
+lowest_lower height k at t pos o l low =
+    lowest_left _ (flags_of (height - 1) (upper height t)) (2 ^ k) at (2 ^ (height - 1 - k))
+    (length-flags (height - 1) (lower height t) ∙ seam (height - 1) k (omega (arith, tree_root (height - 1) _ o.lower_tree))) low
 
-pub lowest_upper : (height k at : ℕ) (t : List ℕ) → 0 < height → IsTree height t → k < root t → root t ≤ height → root (lower height t) ≤ k
-    → IsLowest (flags_of (height - 1) (upper height t)) (2 ^ k) at → IsLowest (flags_of height t) (2 ^ k) (2 ^ (height - 1) + at)
-lowest_upper zero k at t pos i r u l low = absurd (omega arith)
-lowest_upper (suc h) k at t pos i r u l low =
-    let e : suc h - 1 ≡ h = omega arith in
-    let o : IsOpen (suc h) t = opened h t i (omega arith) u in
-    let lt : IsTree h (lower (suc h) t) = rw e at o.lower_tree in
-    let above : IsLowest (flags_of h (upper (suc h) t)) (2 ^ k) at = rw e at low in
-    let both : IsLowest (flags_of h (lower (suc h) t) ++ flags_of h (upper (suc h) t)) (2 ^ k) (length (flags_of h (lower (suc h) t)) + at) =
-    lowest_right _ _ (2 ^ k) at (2 ^ (h - k)) (length-flags h (lower (suc h) t) ∙ seam h k (omega arith)) (none_under h k _ lt l) above in
-    rw (e, flags-open h t o) (rw (length-flags h (lower (suc h) t)) at both)
+pub lowest_upper : (height k at : ℕ) (t : List ℕ) → IsOpen height t → k < height → root (lower height t) ≤ k
+    → IsLowest (flags_of (height - 1) (upper height t)) (2 ^ k) at
+    → IsLowest (flags_of (height - 1) (lower height t) ++ flags_of (height - 1) (upper height t)) (2 ^ k) (2 ^ (height - 1) + at)
+lowest_upper height k at t o u l low =
+    let both : IsLowest (flags_of (height - 1) (lower height t) ++ flags_of (height - 1) (upper height t)) (2 ^ k) (length (flags_of (height - 1) (lower height t)) + at) =
+    lowest_right _ _ (2 ^ k) at (2 ^ (height - 1 - k)) (length-flags (height - 1) (lower height t) ∙ seam (height - 1) k (omega arith)) (none_under (height - 1) k _ o.lower_tree l) low in
+    rw (length-flags (height - 1) (lower height t)) at both
 
-pub some_half : (height k : ℕ) (t : List ℕ) → 0 < height → IsTree height t → k < root t → root t ≤ height
-    → root (lower height t) ≤ k → k < root (upper height t)
-some_half zero k t pos i r u l = absurd (omega arith)
-some_half (suc h) k t pos i r u l =
-    let o : IsOpen (suc h) t = opened h t i (omega arith) u in
-    let m : root t ≡ max (root (lower (suc h) t)) (root (upper (suc h) t)) = o.number ∙ joined-max (suc h) _ _ (omega (arith, o.number)) in
-    omega arith
+pub some_half : (height k : ℕ) (t : List ℕ) → IsOpen height t → k < root t → k < height → root (lower height t) ≤ k → k < root (upper height t)
+some_half height k t o r u l =
+    elim (cases_lt k (root (upper height t))) [
+      | inl above ↦ above
+      | inr none ↦ absurd (omega (arith, o.number, joined_least height (root (lower height t)) (root (upper height t)) k u l none))
+    ]
 
-pub if_some : (P Q : ℕ → Type 0) (o : Option ℕ) → ((n : ℕ) → P n → Q n) → IfSome o P → IfSome o Q
-if_some P Q None f h = h
-if_some P Q (Some n) f h = f n h
+-- what a node says of a free block is so
+pub some_under : (h k : ℕ) (t : List ℕ) → IsTree h t → k < root t → (block : ℕ) × IsFree (flags_of h t) (block * 2 ^ k) (2 ^ k)
+some_under zero k t i r = (0, rw (flags-free zero t (omega (arith, tree_root zero t i))) (free_all 1 (0 * 2 ^ k) (2 ^ k) (omega (arith, pow_le k 0 (omega (arith, tree_root zero t i))))))
+some_under (suc h) k t i r =
+    elim (cases_lt (suc h) (root t)) [
+      | inl full ↦ (0, rw (flags-free (suc h) t (omega (arith, tree_root (suc h) t i))) (free_all (2 ^ suc h) (0 * 2 ^ k) (2 ^ k) (omega (arith, pow_le k (suc h) (omega (arith, tree_root (suc h) t i))))))
+      | inr mixed ↦
+          let e : suc h - 1 ≡ h = omega arith in
+          let o : IsOpen (suc h) t = opened h t i (omega arith) mixed in
+          let lt : IsTree h (lower (suc h) t) = rw e at o.lower_tree in
+          let ut : IsTree h (upper (suc h) t) = rw e at o.upper_tree in
+          elim (cases_lt k (root (lower (suc h) t))) [
+            | inl low ↦
+                let b = some_under h k (lower (suc h) t) lt low in
+                (b.0, same_flags _ _ _ _ (sym (flags-open h t o)) (free_left_back _ (flags_of h (upper (suc h) t)) _ _ b.1))
+            | inr high ↦
+                let b = some_under h k (upper (suc h) t) ut (some_half (suc h) k t o r (omega arith) high) in
+                let s : (2 ^ (h - k) + b.0) * 2 ^ k ≡ length (flags_of h (lower (suc h) t)) + b.0 * 2 ^ k =
+                omega (arith, add-mul (2 ^ (h - k)) b.0 (2 ^ k), seam h k (omega arith), length-flags h (lower (suc h) t)) in
+                (2 ^ (h - k) + b.0, same_flags _ _ _ _ (sym (flags-open h t o)) (free_right_back (flags_of h (lower (suc h) t)) _ _ _ _ s b.1))
+          ]
+    ]
 
 -- the place of a lowest block is small
 pub lowest_small : (h k at : ℕ) (t : List ℕ) → h < 32 → IsLowest (flags_of h t) (2 ^ k) at → at < 2 ^ 32
@@ -155,7 +167,3 @@ lowest_small h k at t small low =
 
 pub frames_small : (h : ℕ) → h < 32 → 2 ^ h < 2 ^ 32
 frames_small h small = pow_below h 32 small
-
-pub if_none : (P Q : Type 0) (o : Option ℕ) → (P → Q) → IfNone o P → IfNone o Q
-if_none P Q None f h = f h
-if_none P Q (Some n) f h = h

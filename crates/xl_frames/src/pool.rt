@@ -6,7 +6,7 @@ ghost use Rattle.xl_model.specs.Addresses.{pages_of};
 ghost use Rattle.xl_frames.specs.Pool.{IsFree, IsLowest, HasNone, marked};
 
 use crate::order::exponent;
-use crate::tree::{find_block, frames_under, free_first, give_block, height_of, take_block};
+use crate::tree::{frames_under, free_first, give_block, has_block, height_of, take_block};
 use std::alloc::Global;
 use std::marker::Model;
 use xl_model::{NoMemory, Order};
@@ -70,7 +70,7 @@ impl Frames {
             IsFree self.now (block * pages_of order) (pages_of order)) }
         ensures no { OnFalse result (HasNone self.now (pages_of order)) }
     {
-        find_block(&self.tree, self.height, exponent(order)).is_some()
+        has_block(&self.tree, exponent(order))
     }
 
     /// Gives back the block of the order that begins at `frame`. Its frames are free again, and no

@@ -6,7 +6,8 @@
 //! is put right when a part of it is marked. So a large block costs no more than a small one.
 
 ghost use Rattle.std.specs.Prelude.{◌≡◌, ℕ, ◌+◌, ◌-◌, ◌*◌, ◌^◌, ◌<◌, ◌≤◌, ◌++◌, true, false, length, slice_set, replicate, IfSome, IfNone};
-ghost use Rattle.xl_frames.specs.Pool.{IsLowest, HasNone, marked};
+ghost use Rattle.std.specs.Bool.{OnTrue, OnFalse};
+ghost use Rattle.xl_frames.specs.Pool.{IsFree, IsLowest, HasNone, marked};
 ghost use Rattle.xl_frames.specs.Tree.{root, lower, upper, joined as joined_of, whole_number as number_of_whole, flags_of, IsTree, IsOpen, IsPool, pool_of};
 
 /// The number of frames under a node of this height, which is also the place of its upper half.
@@ -38,49 +39,6 @@ fn whole_number(height: u8, free: bool) -> u8
     ensures { result ≡ number_of_whole height free }
 {
     if free { height + 1 } else { 0 }
-}
-
-/// The tree of the lower half of the frames.
-fn lower_half(tree: &[u8], height: u8) -> &[u8]
-    requires small { height < 32 }
-    requires above { 2 ^ height < length tree.now }
-    ensures { result.now ≡ lower height tree.now }
-{
-    let middle = frames_under(height);
-    &tree[1..middle]
-}
-
-/// The tree of the upper half of the frames.
-fn upper_half(tree: &[u8], height: u8) -> &[u8]
-    requires small { height < 32 }
-    requires above { 2 ^ height < length tree.now }
-    ensures { result.now ≡ upper height tree.now }
-{
-    let middle = frames_under(height);
-    &tree[middle..]
-}
-
-/// The first frame of the lowest free block of 2 to the `order` frames. None where there is none.
-fn lowest(tree: &[u8], height: u8, order: u8) -> Option<usize>
-    requires small { height < 32 }
-    requires tree { IsTree height tree.now }
-    ensures some { IfSome result (IsLowest (flags_of height tree.now) (2 ^ order)) }
-    ensures none { IfNone result (root tree.now ≤ order) }
-{
-    if tree[0] <= order {
-        return None;
-    }
-    if tree[0] > height {
-        return Some(0);
-    }
-    let lower = lower_half(tree, height);
-    if lower[0] > order {
-        return lowest(lower, height - 1, order);
-    }
-    match lowest(upper_half(tree, height), height - 1, order) {
-        Some(at) => Some(frames_under(height - 1) + at),
-        None => None,
-    }
 }
 
 /// Writes a node's number.
@@ -168,6 +126,34 @@ fn mark(tree: &mut [u8], height: u8, first: usize, count: usize, free: bool)
     }
 }
 
+/// Takes the lowest free block of 2 to the `order` frames where there is one, and gives its first
+/// frame.
+fn take_in(tree: &mut [u8], height: u8, order: u8) -> usize
+    requires small { height < 32 }
+    requires tree { IsTree height tree.old }
+    requires some { order < root tree.old }
+    ensures tree { IsTree height tree.new }
+    ensures lowest { IsLowest (flags_of height tree.old) (2 ^ order) result }
+    ensures flags { flags_of height tree.new ≡
+        marked (flags_of height tree.old) result (2 ^ order) false }
+{
+    if height == order {
+        write_root(tree, 0);
+        return 0;
+    }
+    open(tree, height);
+    let middle = frames_under(height);
+    if tree[1] > order {
+        let at = take_in(&mut tree[1..middle], height - 1, order);
+        close(tree, height);
+        at
+    } else {
+        let at = take_in(&mut tree[middle..], height - 1, order);
+        close(tree, height);
+        frames_under(height - 1) + at
+    }
+}
+
 /// The least height of a tree over this many frames.
 pub(crate) fn height_of(count: usize) -> u8
     requires { count ≤ 2 ^ 22 }
@@ -196,22 +182,20 @@ pub(crate) fn free_first(tree: &mut [u8], height: u8, count: usize)
     }
 }
 
-/// The first frame of the lowest free block of 2 to the `order` frames.
-pub(crate) fn find_block(tree: &[u8], height: u8, order: u8) -> Option<usize>
-    requires small { height < 32 }
-    requires tree { IsTree height tree.now }
-    ensures some { (count : ℕ) → IsPool height count tree.now →
-        IfSome result (IsLowest (pool_of height count tree.now) (2 ^ order)) }
-    ensures none { (count : ℕ) → IsPool height count tree.now →
-        IfNone result (HasNone (pool_of height count tree.now) (2 ^ order)) }
+/// Whether a block of 2 to the `order` frames is free.
+pub(crate) fn has_block(tree: &[u8], order: u8) -> bool
+    requires { 0 < length tree.now }
+    ensures yes { (height count : ℕ) → IsPool height count tree.now → OnTrue result ((block : ℕ) ×
+        IsFree (pool_of height count tree.now) (block * 2 ^ order) (2 ^ order)) }
+    ensures no { (height count : ℕ) → IsPool height count tree.now →
+        OnFalse result (HasNone (pool_of height count tree.now) (2 ^ order)) }
 {
-    lowest(tree, height, order)
+    tree[0] > order
 }
 
 /// Takes the lowest free block of 2 to the `order` frames.
 pub(crate) fn take_block(tree: &mut [u8], height: u8, order: u8) -> Option<usize>
     requires height { height < 32 }
-    requires order { order < 32 }
     requires tree { IsTree height tree.old }
     ensures tree { (count : ℕ) → IsPool height count tree.old → IsPool height count tree.new }
     ensures lowest { (count : ℕ) → IsPool height count tree.old →
@@ -223,13 +207,10 @@ pub(crate) fn take_block(tree: &mut [u8], height: u8, order: u8) -> Option<usize
         IfNone result (HasNone (pool_of height count tree.old) (2 ^ order)) }
     ensures unchanged { IfNone result (tree.new ≡ tree.old) }
 {
-    match lowest(tree, height, order) {
-        Some(at) => {
-            mark(tree, height, at, frames_under(order), false);
-            Some(at)
-        }
-        None => None,
+    if tree[0] <= order {
+        return None;
     }
+    Some(take_in(tree, height, order))
 }
 
 /// Makes a block of 2 to the `order` frames free.
