@@ -31,22 +31,19 @@ pub(crate) fn put(line: &mut [u8], at: usize, bytes: &[u8])
     line[at..at + bytes.len()].copy_from_slice(bytes);
 }
 
-/// How a line begins and ends, by the last three bits of its word. Which comes next can't be foretold, so
-/// a choice among them would cost more than a look-up.
-const LETTERS: [[u8; 3]; 8] = [
-    *b"I  ", *b"I  ", *b"I  ", *b" L ", *b" L ", *b" L ", *b" S ", *b" M ",
-];
+/// How a line begins and ends, by the last three bits of its word: three bytes for each. Which comes next
+/// can't be foretold, so a choice among them would cost more than a look-up.
+const LETTERS: [u8; 24] = *b"I  I  I   L  L  L  S  M ";
 
-const SIZES: [[u8; 3]; 8] = [
-    *b",4\n", *b",4\n", *b",4\n", *b",8\n", *b",8\n", *b",8\n", *b",8\n", *b",8\n",
-];
+const SIZES: [u8; 24] = *b",4\n,4\n,4\n,8\n,8\n,8\n,8\n,8\n";
 
 /// The letter in its place.
 #[tactic(auto, unfolding(crate::specs::Made::letter_of))]
 fn letter(word: u32) -> [u8; 3]
     ensures { result ≡ letter_of word }
 {
-    LETTERS[(word % 8) as usize]
+    let at = (word % 8) as usize * 3;
+    [LETTERS[at], LETTERS[at + 1], LETTERS[at + 2]]
 }
 
 /// The size, and what stands round it.
@@ -54,7 +51,8 @@ fn letter(word: u32) -> [u8; 3]
 fn size(word: u32) -> [u8; 3]
     ensures { result ≡ size_of word }
 {
-    SIZES[(word % 8) as usize]
+    let at = (word % 8) as usize * 3;
+    [SIZES[at], SIZES[at + 1], SIZES[at + 2]]
 }
 
 /// The page, counted from the first.
