@@ -2,9 +2,10 @@
 
 ghost use Rattle.std.specs.Prelude.{◌≡◌, ◌<◌, ◌≤◌, ◌+◌, ◌*◌, ◌/◌, ◌^◌, false, true, length, OnOk, OnErr};
 ghost use Rattle.xl_model.specs.Chains.{has_tag, tag_of as tag_number};
+ghost use Rattle.xl_model.specs.declared.address.Order.TheVariants as orders;
 ghost use Rattle.xl_chain.specs.Held.{tags_of};
 ghost use Rattle.xl_tagged.specs.Forms.{One, values_under, word_at};
-ghost use Rattle.xl_tagged.specs.Slots.{found_in, first_found, found_from, order_loads, walk_loads, loaded_more};
+ghost use Rattle.xl_tagged.specs.Slots.{found_in, first_found, found_from, order_loads, NoneLarge, walk_loads, loaded_more};
 ghost use Rattle.xl_tagged.specs.Steps.{IsPut, IsSet, IsTaken, word_found, given_word};
 ghost use Rattle.xl_tagged.specs.Tagged.{AreSized};
 
@@ -83,33 +84,54 @@ pub(crate) fn probe(chains: &mut Chains<1>, space: u16, order: Order, page: u64)
     leaf_read(space, order, page, word)
 }
 
-/// The leaf of a page, without loads: the orders are tried from the smallest on.
-pub(crate) fn look_all(chains: &Chains<1>, space: u16, page: u64) -> Option<Leaf>
+/// The leaf of a page among those above 4 KiB, without loads. There is none where only leaves of
+/// 4 KiB were ever held, so no chain is gone along then.
+fn look_large(chains: &Chains<1>, only_small: bool, space: u16, page: u64) -> Option<Leaf>
     requires space_in { space < 64 }
     requires page_in { page < 2 ^ 45 }
+    requires large { NoneLarge One space page (values_under chains.now.held) only_small }
+    ensures { result ≡ found_from One space page (values_under chains.now.held) orders.M2 }
+{
+    if only_small {
+        return None;
+    }
+    match look(chains, space, Order::M2, page) {
+        Some(leaf) => Some(leaf),
+        None => look(chains, space, Order::G1, page),
+    }
+}
+
+/// The leaf of a page, without loads: the orders are tried from the smallest on, and 4 KiB alone
+/// where only leaves of 4 KiB were ever held.
+pub(crate) fn look_all(chains: &Chains<1>, only_small: bool, space: u16, page: u64) -> Option<Leaf>
+    requires space_in { space < 64 }
+    requires page_in { page < 2 ^ 45 }
+    requires large { NoneLarge One space page (values_under chains.now.held) only_small }
     ensures { result ≡ first_found One space page (values_under chains.now.held) }
 {
     match look(chains, space, Order::K4, page) {
         Some(leaf) => Some(leaf),
-        None => match look(chains, space, Order::M2, page) {
-            Some(leaf) => Some(leaf),
-            None => look(chains, space, Order::G1, page),
-        },
+        None => look_large(chains, only_small, space, page),
     }
 }
 
-/// The leaf of a page among those of this order and of larger ones, without loads.
-pub(crate) fn look_from(chains: &Chains<1>, space: u16, order: Order, page: u64) -> Option<Leaf>
+/// The leaf of a page among those of this order and of larger ones, without loads. Where only
+/// leaves of 4 KiB were ever held, none of a larger order is sought after 4 KiB or from 2 MiB on.
+pub(crate) fn look_from(
+    chains: &Chains<1>,
+    only_small: bool,
+    space: u16,
+    order: Order,
+    page: u64,
+) -> Option<Leaf>
     requires space_in { space < 64 }
     requires page_in { page < 2 ^ 45 }
+    requires large { NoneLarge One space page (values_under chains.now.held) only_small }
     ensures { result ≡ found_from One space page (values_under chains.now.held) order }
 {
     match order {
-        Order::K4 => look_all(chains, space, page),
-        Order::M2 => match look(chains, space, Order::M2, page) {
-            Some(leaf) => Some(leaf),
-            None => look(chains, space, Order::G1, page),
-        },
+        Order::K4 => look_all(chains, only_small, space, page),
+        Order::M2 => look_large(chains, only_small, space, page),
         Order::G1 => look(chains, space, Order::G1, page),
     }
 }

@@ -136,7 +136,7 @@ pub(crate) fn leaf_of_page(
     ensures { result ≡ leaf_at_page space page (table_in One chains.now).leaves }
 {
     words_read_back();
-    look_all(chains, space, page)
+    look_all(chains, smaller.only_small(), space, page)
 }
 
 /// Whether a leaf has a page of a block: a smaller leaf lies in it, or one that isn't smaller has its
@@ -153,5 +153,6 @@ pub(crate) fn is_met(
     ensures { result ≡ meets_any space first order (table_in One chains.now).leaves }
 {
     words_read_back();
-    smaller.any(order, space, first) || look_from(chains, space, order, first).is_some()
+    let only_small = smaller.only_small();
+    smaller.any(order, space, first) || look_from(chains, only_small, space, order, first).is_some()
 }

@@ -68,6 +68,15 @@ module _ (back : MadeWordsReadBack) (f : Form) (s page : ℕ) (values : ℕ → 
     | inr r ↦ found-leaf o r.0 r.1 r.2
   ]
 
+  -- where all leaves are of 4 KiB, none is found under the tag of another order
+  pub none-other : ((x : Leaf) → In x leaves → x.order ≡ order.K4) → (o : Order) → same_order order.K4 o ≡ false → found_in f s page values o ≡ None
+  none-other small o other = found-is o ∙ go (find (covers s page) leaves) refl
+    where
+      go : (q : Option Leaf) → find (covers s page) leaves ≡ q → only o q ≡ None
+      go None w = refl
+      go (Some x) w =
+          ap (λ p. cond (same_order p o) (Some x) None) (small x (find-In (covers s page) x leaves w)) ∙ ap (λ t. cond t (Some x) None) other
+
   pub at-page : first_found f s page values ≡ leaf_at_page s page leaves
   unfolding leaf_at_page
   at-page =

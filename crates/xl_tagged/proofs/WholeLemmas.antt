@@ -22,8 +22,10 @@ use Rattle.xl_model.specs.Placing.{no_moves}
 use Rattle.xl_model.specs.Structures.{work_of, TableState, IsBlock, IsPage, IsLeafFor, IsChange, IsWalk, IsFence, fence_answer, table_fenced, walk_answer, table_walked}
 use Rattle.xl_model.specs.Walks.{walked, chains_reads, orders_tried}
 use Rattle.xl_model.specs.Words.{bit_if, leaf_word}
+use Rattle.xl_model_lemmas.specs.Entries.{or_leaf}
 use Rattle.xl_model_lemmas.specs.Members.{In}
 use Rattle.xl_model_lemmas.specs.Sections.{IsAligned}
+use Rattle.xl_model_lemmas.proofs.InsertionLemmas.{with-In, without-In}
 use Rattle.xl_model_lemmas.proofs.MappingLemmas.{named-In, named-is}
 use Rattle.xl_model_lemmas.proofs.MemberLemmas.{In-any, any-false, filter-In, filter-passes, In-filter}
 use Rattle.xl_model_lemmas.proofs.PlaceLemmas.{named-space, named-first, named-order}
@@ -33,7 +35,7 @@ use Rattle.xl_pte.specs.ReadBack.{MadeWordsReadBack}
 use Rattle.xl_chain.specs.declared.shape.ChainShape.{ChainShape}
 use Rattle.xl_chain.specs.Held.{ChainState, Held, tags_of}
 use Rattle.xl_tagged.specs.Forms.{Form, group_of, before, slot_of, values_under, word_at}
-use Rattle.xl_tagged.specs.Slots.{leaf_read, held_leaves, chained, table_in, found_in, first_found, walk_loads, loaded_more, found_from}
+use Rattle.xl_tagged.specs.Slots.{leaf_read, held_leaves, chained, table_in, found_in, first_found, walk_loads, loaded_more, found_from, NoneLarge}
 use Rattle.xl_tagged.specs.Counted.{smaller_word, SmallerState, AreCounted, HaveRoom, AreIn, IsIn, AreMore, IsLess, AreLess, any_smaller}
 use Rattle.xl_tagged.specs.Tagged.{IsFit, IsAt, AreHeld, IsTagged}
 use Rattle.xl_tagged.specs.Steps.{IsSameTable, IsWritten, IsPut, IsSet, IsTaken, given_word}
@@ -41,7 +43,7 @@ use Rattle.xl_tagged.proofs.PlaceLemmas.{slot-low, at-one, place-key}
 use Rattle.xl_tagged.proofs.SlotLemmas.{read-leaf, leaf-some, known-leaves}
 use Rattle.xl_tagged.proofs.ChainLemmas.{values-none}
 use Rattle.xl_tagged.proofs.HeldLemmas.{IsTagWith, IsTagWithout, IsWithout, put-held, take-held, with-new, new-keys, without-old, with-given}
-use Rattle.xl_tagged.proofs.FindLemmas.{at-page, loads-are, meets-is, from-only, from-is, page-found, found-from}
+use Rattle.xl_tagged.proofs.FindLemmas.{at-page, loads-are, none-other, meets-is, from-only, from-is, page-found, found-from}
 use Rattle.xl_tagged.proofs.CountLemmas.{counted-with, counted-less, counted-given, has-room, is-in, counted-none}
 use Rattle.xl_tagged.proofs.StateLemmas.{done, no_table, tag-with, used-all, used-but, inserted, full-up, removed, protected, IsMove, IsMoving, at_to, used-with, is-move}
 
@@ -139,6 +141,10 @@ module _ (back : MadeWordsReadBack) (f : Form) (old new : ChainState) (s : Small
         whole = whole-of back f old new s t ys w h put.rest (record {
           middle_is = counted-with order.M2 x xs e s.middle t.middle keys w.counted.middle_is more.middle;
           large_is = counted-with order.G1 x xs e s.large t.large keys w.counted.large_is more.large;
+          small = λ h z i. elim (with-In z x xs i) [
+            | inl same ↦ ap (λ (q : Leaf). q.order) same ∙ (more.small h).1
+            | inr j ↦ w.counted.small (more.small h).0 z j
+          ];
         });
         change = subst (λ q. IsChange (Insert x) (table_in f old) done q) (ap (chained f b e old.loads ys) (sym put.tags) ∙ table-is f old new ys leaves put.rest.shape put.rest.loads) is;
       }
@@ -301,6 +307,7 @@ module _ (back : MadeWordsReadBack) (f : Form) (old : ChainState) (s : SmallerSt
         whole = whole-of back f old new s t ys w h k.rest (record {
           middle_is = counted-less order.M2 x xs e s.middle t.middle w.held.sorted n.there w.counted.middle_is (name-same (λ sp fi q. IsLess order.M2 sp fi q s.middle t.middle) less.middle);
           large_is = counted-less order.G1 x xs e s.large t.large w.held.sorted n.there w.counted.large_is (name-same (λ sp fi q. IsLess order.G1 sp fi q s.large t.large) less.large);
+          small = λ h z i. w.counted.small (sym less.small ∙ h) z (without-In z x.space x.first xs i);
         });
         change = subst (λ q. IsChange (Remove space first o) (table_in f old) done q) (table-is f old new ys leaves k.rest.shape k.rest.loads) is;
       }
@@ -338,6 +345,10 @@ module _ (back : MadeWordsReadBack) (f : Form) (old : ChainState) (s : SmallerSt
         whole = whole-of back f old new s s ys w h k.rest (record {
           middle_is = counted-given order.M2 perm x xs e s.middle w.held.sorted n.there w.counted.middle_is;
           large_is = counted-given order.G1 perm x xs e s.large w.held.sorted n.there w.counted.large_is;
+          small = λ h z i. elim (with-In z y (without_leaf x.space x.first xs) i) [
+            | inl same ↦ ap (λ (q : Leaf). q.order) same ∙ w.counted.small h x n.there
+            | inr j ↦ w.counted.small h z (without-In z x.space x.first xs j)
+          ];
         });
         change = subst (λ q. IsChange (Protect space first o perm) (table_in f old) done q) (table-is f old new ys leaves k.rest.shape k.rest.loads) is;
       }
@@ -403,6 +414,26 @@ pub leaf-step : MadeWordsReadBack → (f : Form) (space page : ℕ) (c : ChainSt
     → first_found f space page (values_under c.held) ≡ leaf_at_page space page (table_in f c).leaves
 leaf-step back f space page c s w a b = at-page back f space page (values_under c.held) (tags_of c.held) (held_leaves f c) a b w.held
 
+-- where only leaves of 4 KiB were ever counted, no larger leaf is found
+pub none-large : MadeWordsReadBack → (f : Form) (space page : ℕ) (c : ChainState) (s : SmallerState) → IsTagged f c s → space < 64 → page < 2 ^ 45
+    → NoneLarge f space page (values_under c.held) s.only_small
+none-large back f space page c s w a b = λ h. (
+  none-other back f space page (values_under c.held) (tags_of c.held) (held_leaves f c) a b w.held (w.counted.small h) order.M2 refl,
+  none-other back f space page (values_under c.held) (tags_of c.held) (held_leaves f c) a b w.held (w.counted.small h) order.G1 refl,
+)
+
+-- so the leaf of a page is the one that is found for 4 KiB
+pub small-found : (f : Form) (space page : ℕ) (values : ℕ → List ℕ) (only_small : Bool) → NoneLarge f space page values only_small → only_small ≡ true
+    → first_found f space page values ≡ found_in f space page values order.K4
+small-found f space page values only_small none h =
+    let n = none h in
+    ap (λ q. or_leaf (found_in f space page values order.K4) (or_leaf q (found_in f space page values order.G1))) n.0
+    ∙ ap (λ q. or_leaf (found_in f space page values order.K4) (or_leaf None q)) n.1 ∙ alone (found_in f space page values order.K4)
+  where
+    alone : (q : Option Leaf) → or_leaf q None ≡ q
+    alone None = refl
+    alone (Some x) = refl
+
 -- whether a block is met
 pub meets-step : MadeWordsReadBack → (f : Form) (space first : ℕ) (o : Order) (c : ChainState) (s : SmallerState) → IsTagged f c s → IsBlock (table_in f c).shape space first o
     → (any_smaller o space first s || is_some (found_from f space first (values_under c.held) o)) ≡ meets_any space first o (table_in f c).leaves
@@ -449,6 +480,7 @@ open-step back f c s held loads few m g rm rg =
         counted = subst (λ zs. AreCounted zs c.shape.entries s) (sym leaves) (record {
           middle_is = counted-none order.M2 c.shape.entries s.middle m rm;
           large_is = counted-none order.G1 c.shape.entries s.large g rg;
+          small = λ h z i. absurd i;
         });
       },
       ap (λ l. chained f c.shape.buckets c.shape.entries l (held_leaves f c) (tags_of c.held)) loads

@@ -1,11 +1,12 @@
--- How many smaller leaves lie in each 2 MiB and each 1 GiB section. A leaf isn't counted for a section of its own size:
--- such a leaf is found by its tag. So a section counts only where some tag has leaves in it, and each tag's leaves lie
--- in one section.
+-- How many smaller leaves lie in each 2 MiB and each 1 GiB section, and whether only leaves of 4 KiB came. A leaf isn't
+-- counted for a section of its own size: such a leaf is found by its tag. So a section counts only where some tag has
+-- leaves in it, and each tag's leaves lie in one section.
 use Rattle.std.specs.Prelude.{ℕ, ◌≡◌, ◌+◌, ◌*◌, ◌/◌, ◌^◌, ◌==◌, Bool, true, false, not, nat_lt, if◌then◌else◌, List}
 use Rattle.xl_model.specs.declared.address.Order.{Order}
 use Rattle.xl_model.specs.declared.address.Order.TheVariants as order
 use Rattle.xl_model.specs.declared.leaf.Leaf.{Leaf}
 use Rattle.xl_model.specs.Addresses.{level_of, pages_of}
+use Rattle.xl_model_lemmas.specs.Members.{In}
 use Rattle.xl_model_lemmas.specs.Sections.{counts_at, of_order, tally}
 use Rattle.xl_sections.specs.Counted.{unit, count_of, CountState, AreCounts}
 use Rattle.xl_sections.specs.Noted.{share, IsRoomy, IsShared}
@@ -27,15 +28,17 @@ pub record IsCounted (size : Order) (leaves : List Leaf) (room : ℕ) (c : Count
   pub tied : (key : ℕ) → count_of key c.counts ≡ smaller_word size key leaves
   pub room_is : c.room ≡ room
 
--- the counts of both sizes of sections
+-- the counts of both sizes of sections, and whether only leaves of 4 KiB were ever counted
 pub record SmallerState : Type 0 where
   pub middle : CountState
   pub large : CountState
+  pub only_small : Bool
 
--- both sizes count these leaves
+-- both sizes count these leaves, which are all of 4 KiB where only such leaves were counted
 pub record AreCounted (leaves : List Leaf) (room : ℕ) (s : SmallerState) : Type 0 where
   pub middle_is : IsCounted order.M2 leaves room s.middle
   pub large_is : IsCounted order.G1 leaves room s.large
+  pub small : s.only_small ≡ true → (x : Leaf) → In x leaves → x.order ≡ order.K4
 
 -- a leaf is counted more, where it is smaller
 pub record IsMore (size : Order) (leaf : Leaf) (old new : CountState) : Type 0 where
@@ -70,15 +73,17 @@ pub record AreIn (space first : ℕ) (o : Order) (s : SmallerState) : Type 0 whe
   pub middle : IsIn order.M2 space first o s.middle
   pub large : IsIn order.G1 space first o s.large
 
--- the leaf is counted more for both sizes
+-- the leaf is counted more for both sizes, and only leaves of 4 KiB were counted where it is one and it was so before
 pub record AreMore (leaf : Leaf) (old new : SmallerState) : Type 0 where
   pub middle : IsMore order.M2 leaf old.middle new.middle
   pub large : IsMore order.G1 leaf old.large new.large
+  pub small : new.only_small ≡ true → (old.only_small ≡ true) × (leaf.order ≡ order.K4)
 
--- the leaf at this place is counted less for both sizes
+-- the leaf at this place is counted less for both sizes, and what was ever counted stays
 pub record AreLess (space first : ℕ) (o : Order) (old new : SmallerState) : Type 0 where
   pub middle : IsLess order.M2 space first o old.middle new.middle
   pub large : IsLess order.G1 space first o old.large new.large
+  pub small : new.only_small ≡ old.only_small
 
 -- a smaller leaf lies in the block's section
 abbrev pub any_smaller : Order → ℕ → ℕ → SmallerState → Bool

@@ -1,5 +1,5 @@
 -- The leaves that stand in the slots under tags, and the table that chains of them are.
-use Rattle.std.specs.Prelude.{ℕ, zero, suc, ◌+◌, ◌*◌, ◌/◌, ◌%◌, ◌^◌, List, [], ◌∷◌, ◌++◌, Option, None, Some}
+use Rattle.std.specs.Prelude.{ℕ, zero, suc, ◌≡◌, ◌+◌, ◌*◌, ◌/◌, ◌%◌, ◌^◌, Bool, true, List, [], ◌∷◌, ◌++◌, Option, None, Some}
 use Rattle.xl_model.specs.declared.address.Order.{Order}
 use Rattle.xl_model.specs.declared.address.Order.TheVariants as order
 use Rattle.xl_model.specs.declared.leaf.Leaf.{Leaf}
@@ -80,6 +80,11 @@ abbrev pub found_from : Form → ℕ → ℕ → (ℕ → List ℕ) → Order �
 found_from f space page values order.K4 = first_found f space page values
 found_from f space page values order.M2 = or_leaf (found_in f space page values order.M2) (found_in f space page values order.G1)
 found_from f space page values order.G1 = found_in f space page values order.G1
+
+-- where this is so, no leaf above 4 KiB is found for a page
+abbrev pub NoneLarge : Form → ℕ → ℕ → (ℕ → List ℕ) → Bool → Type 0
+NoneLarge f space page values only_small =
+    only_small ≡ true → (found_in f space page values order.M2 ≡ None) × (found_in f space page values order.G1 ≡ None)
 
 -- the loads of a search for a page's tag of this order
 abbrev pub order_loads : Form → ℕ → ℕ → ChainState → Order → ℕ

@@ -1,6 +1,7 @@
 //! Counts of smaller leaves by section.
 
-ghost use Rattle.std.specs.Prelude.{◌≡◌, ◌*◌, ◌+◌, ◌/◌, ◌^◌, ◌<◌, ◌≤◌, [], IfOk};
+ghost use Rattle.std.specs.Prelude.{◌≡◌, ◌*◌, ◌+◌, ◌/◌, ◌^◌, ◌<◌, ◌≤◌, [], true, IfOk};
+ghost use Rattle.xl_model.specs.declared.address.Order.TheVariants as orders;
 ghost use Rattle.xl_tagged.specs.Counted.{HasRoom, HaveRoom, IsMore, AreMore, IsIn, AreIn, IsLess, AreLess, any_smaller};
 
 use std::alloc::Global;
@@ -8,12 +9,14 @@ use std::marker::Model;
 use xl_model::{Leaf, NoMemory, Order};
 use xl_sections::{Counts, drop_leaf, note_leaf, section};
 
-/// How many leaves smaller than the section lie in each section of 2 MiB and of 1 GiB. Nothing is
-/// allocated after `open`. As many sections as tags are enough: each tag's leaves lie in one section.
+/// How many leaves smaller than the section lie in each section of 2 MiB and of 1 GiB, and whether
+/// only leaves of 4 KiB were ever counted. Nothing is allocated after `open`. As many sections as
+/// tags are enough: each tag's leaves lie in one section.
 #[derive(Drop)]
 pub struct Smaller {
     middle: Counts,
     large: Counts,
+    only_small: bool,
 }
 
 impl Model for Smaller {
@@ -21,7 +24,11 @@ impl Model for Smaller {
 
     ghost Value = { SmallerState };
 
-    ghost view = { λ s. record { middle = s.middle; large = s.large } };
+    ghost view = { λ s. record {
+      middle = s.middle;
+      large = s.large;
+      only_small = s.only_small;
+    } };
 }
 
 /// Counts a leaf for its section, where it is smaller.
@@ -44,6 +51,16 @@ fn drop_from(counts: &mut Counts, size: Order, space: u16, first: u64, order: Or
     }
 }
 
+/// Whether only leaves of 4 KiB were counted, once a leaf of this order is counted too.
+fn stays_small(before: bool, order: Order) -> bool
+    ensures { result ≡ true → (before ≡ true) × (order ≡ orders.K4) }
+{
+    match order {
+        Order::K4 => before,
+        _ => false,
+    }
+}
+
 impl Smaller {
     /// No counts, with room for this many sections of each size.
     ///
@@ -56,10 +73,15 @@ impl Smaller {
         ensures middle_room { IfOk result (λ s. s.middle.room ≡ room) }
         ensures large { IfOk result (λ s. s.large.counts ≡ []) }
         ensures large_room { IfOk result (λ s. s.large.room ≡ room) }
+        ensures small { IfOk result (λ s. s.only_small ≡ true) }
     {
         let middle = Counts::open(alloc, room)?;
         let large = Counts::open(alloc, room)?;
-        Ok(Smaller { middle, large })
+        Ok(Smaller {
+            middle,
+            large,
+            only_small: true,
+        })
     }
 
     /// Counts a leaf.
@@ -69,6 +91,7 @@ impl Smaller {
     {
         note(&mut self.middle, Order::M2, leaf);
         note(&mut self.large, Order::G1, leaf);
+        self.only_small = stays_small(self.only_small, leaf.order);
     }
 
     /// Counts the leaf at a place no longer.
@@ -78,6 +101,14 @@ impl Smaller {
     {
         drop_from(&mut self.middle, Order::M2, space, first, order);
         drop_from(&mut self.large, Order::G1, space, first, order);
+    }
+
+    /// Whether only leaves of 4 KiB were ever counted.
+    #[inline(always)]
+    pub fn only_small(&self) -> bool
+        ensures { result ≡ self.now.only_small }
+    {
+        self.only_small
     }
 
     /// Whether a leaf smaller than a block of this order lies in the block of a page; in a block of

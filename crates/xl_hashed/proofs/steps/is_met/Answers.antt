@@ -1,9 +1,15 @@
-use Rattle.std.proofs.Common.{sym, ap, ◌∙◌, ◌||◌}
+use Rattle.std.proofs.Common.{sym, ap, ◌∙◌, subst, ◌||◌}
 use Rattle.std.specs.Prelude.{is_some}
 use Rattle.xl_tagged.specs.Forms.{One, values_under}
-use Rattle.xl_tagged.specs.Slots.{found_from}
-use Rattle.xl_tagged.proofs.WholeLemmas.{meets-step}
+use Rattle.xl_tagged.specs.Slots.{found_from, NoneLarge}
+use Rattle.xl_tagged.proofs.WholeLemmas.{block-low, meets-step, none-large}
 use Rattle.xl_hashed.proofs.steps.is_met.Goals as goal
+
+pub look_from-requires-clause-large : goal.look_from-requires-clause-large
+look_from-requires-clause-large c =
+    let a = c.args in
+    subst (λ b. NoneLarge One a.space a.first (values_under a.chains.now.held) b) (sym c.only_small-only_small.ensures)
+    (none-large c.words_read_back.ensures One a.space a.first a.chains.now a.smaller.now c.requires.whole c.requires.block.space_in (block-low One a.chains.now a.space a.first a.order c.requires.block))
 
 pub returns-then-any : goal.returns-then-any
 returns-then-any c =
