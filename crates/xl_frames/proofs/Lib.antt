@@ -1,6 +1,3 @@
 mod BlockLemmas
-mod HalfLemmas
 pub mod MarkLemmas
-mod NodeLemmas
-mod PoolLemmas
-mod SearchLemmas
+mod SetLemmas

@@ -1,34 +1,34 @@
-//! The pool that serves: a binary tree of free orders.
+//! The pool that serves: the free frames, and the free blocks of 2 MiB and of 1 GiB, as bits.
 
 ghost use Rattle.std.specs.Prelude.{◌≡◌, ℕ, ◌+◌, ◌*◌, ◌^◌, ◌<◌, ◌≤◌, true, false, length, replicate, IfOk, IfSome, IfNone};
 ghost use Rattle.std.specs.Bool.{OnTrue, OnFalse};
 ghost use Rattle.xl_model.specs.Addresses.{pages_of};
 ghost use Rattle.xl_frames.specs.Pool.{IsFree, IsLowest, HasNone, marked};
 
-use crate::order::exponent;
-use crate::tree::{frames_under, free_first, give_block, has_block, height_of, take_block};
+use crate::blocks::{give_of, has_of, take_of};
 use std::alloc::Global;
 use std::marker::Model;
 use xl_model::{NoMemory, Order};
+use xl_numbers::FreeNumbers;
 
 /// A pool of frames of 4 KiB. Contracts see the list of its flags: for each frame, by its number,
 /// whether it is free.
 #[derive(Drop)]
 pub struct Frames {
-    tree: Vec<u8>,
-    height: u8,
-    count: usize,
+    frames: FreeNumbers,
+    blocks: FreeNumbers,
+    parts: FreeNumbers,
 }
 
 impl Model for Frames {
     ghost use Rattle.std.specs.Prelude.{Bool, List};
-    ghost use Rattle.xl_frames.specs.Tree.{IsPool, pool_of};
+    ghost use Rattle.xl_frames.specs.Blocks.{IsKept};
 
     ghost Value = { List Bool };
 
-    ghost view = { λ s. pool_of s.height s.count s.tree.items };
+    ghost view = { λ s. s.frames };
 
-    ghost invariant = { λ s. IsPool s.height s.count s.tree.items };
+    ghost invariant = { λ s. IsKept s.frames s.blocks s.parts };
 }
 
 impl Frames {
@@ -38,14 +38,13 @@ impl Frames {
         requires limit { n ≤ 2 ^ 22 }
         ensures { IfOk result (λ pool. pool ≡ replicate n true) }
     {
-        let count = n as usize;
-        let height = height_of(count);
-        let mut tree = vec![in alloc; 0; 2 * frames_under(height) - 1]?;
-        free_first(&mut tree, height, count);
+        let frames = FreeNumbers::open(alloc, n)?;
+        let blocks = FreeNumbers::open(alloc, n / 512)?;
+        let parts = FreeNumbers::open(alloc, n / 262_144)?;
         Ok(Frames {
-            tree,
-            height,
-            count,
+            frames,
+            blocks,
+            parts,
         })
     }
 
@@ -58,10 +57,7 @@ impl Frames {
         ensures none { IfNone result (HasNone self.old (pages_of order)) }
         ensures unchanged { IfNone result (self.new ≡ self.old) }
     {
-        match take_block(&mut self.tree, self.height, exponent(order)) {
-            Some(frame) => Some(frame as u64),
-            None => None,
-        }
+        take_of(&mut self.frames, &mut self.blocks, &mut self.parts, order)
     }
 
     /// Whether `take` would find a block of the order.
@@ -70,7 +66,7 @@ impl Frames {
             IsFree self.now (block * pages_of order) (pages_of order)) }
         ensures no { OnFalse result (HasNone self.now (pages_of order)) }
     {
-        has_block(&self.tree, exponent(order))
+        has_of(&self.frames, &self.blocks, &self.parts, order)
     }
 
     /// Gives back the block of the order that begins at `frame`. Its frames are free again, and no
@@ -79,6 +75,12 @@ impl Frames {
         requires { frame + pages_of order ≤ length self.old }
         ensures { self.new ≡ marked self.old frame (pages_of order) true }
     {
-        give_block(&mut self.tree, self.height, frame as usize, exponent(order));
+        give_of(
+            &mut self.frames,
+            &mut self.blocks,
+            &mut self.parts,
+            frame as usize,
+            order,
+        );
     }
 }

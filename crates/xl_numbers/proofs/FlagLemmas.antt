@@ -1,8 +1,13 @@
 -- Bits as flags.
-use Rattle.std.proofs.Common.{◌≡◌, refl, ap, ◌∙◌, ℕ, zero, suc, ◌+◌, ◌-◌, ◌<◌, ◌≤◌, Bool, true, false, List, ◌∷◌, ◌++◌, length, replicate, slice_index, slice_index_or, slice_set, ◌/◌, ◌==◌, nat_lt, arith}
+use Rattle.std.proofs.Common.{◌≡◌, refl, sym, ap, ◌∙◌, inl, inr, ◌*◌, ◌%◌, ◌^◌, ℕ, zero, suc, ◌+◌, ◌-◌, ◌<◌, ◌≤◌, Bool, true, false, List, ◌∷◌, ◌++◌, length, replicate, slice_index, slice_index_or, slice_set, ◌/◌, ◌==◌, nat_lt, arith}
 use Rattle.std.proofs.lemmas.Bool.Decides.{nat_tests}
-use Rattle.xl_numbers.specs.Bits.{bit_of, flags, IsStack, IsSet, IsFirstBit, IsPut}
-use Rattle.xl_numbers.specs.Free.{IsLowest, HasNone}
+use Rattle.std.specs.Prelude.{IsTrue, ◌↔◌}
+use Rattle.std.specs.Int.{bit_at}
+use Rattle.std.proofs.lemmas.Bool.{cases_lt, eqb-true, false≢true}
+use Rattle.std.proofs.lemmas.List.{set-get_or, ext_get_or, length-append, length-replicate, get_or_append_left, get_or-append_right, get_or-replicate}
+use Rattle.std.proofs.lemmas.Nat.Bits.{bit_at_ones, bit_at-zero}
+use Rattle.xl_numbers.specs.Bits.{bit_of, flags, IsStack, IsSet, IsFirstBit, IsPut, AreWords, AreOnes, IsAlike}
+use Rattle.xl_numbers.specs.Free.{IsLowest, HasNone, AreFree, AreMarked}
 use Rattle.xl_numbers.proofs.BitLemmas.{bit-none}
 
 pub length-flags : (bit : ℕ → ℕ) (n : ℕ) → length (flags bit n) ≡ n
@@ -10,7 +15,7 @@ unfolding flags
 length-flags bit zero = refl
 length-flags bit (suc n) = ap suc (length-flags (λ k. bit (suc k)) n)
 
-flag-at : (bit : ℕ → ℕ) (n k : ℕ) → k < n → slice_index_or (flags bit n) k false ≡ (bit k == 1)
+pub flag-at : (bit : ℕ → ℕ) (n k : ℕ) → k < n → slice_index_or (flags bit n) k false ≡ (bit k == 1)
 unfolding flags
 flag-at bit zero k h = absurd (omega arith)
 flag-at bit (suc n) zero h = refl
@@ -91,3 +96,96 @@ zero-bit n k = bit-none (replicate n 0) k (zero-word n (k / 64))
 
 pub none-free : (words : List ℕ) (m n : ℕ) → words ≡ replicate m 0 → flags (bit_of words) n ≡ replicate n false
 none-free words m n e = ap (λ ws. flags (bit_of ws) n) e ∙ flags-none (bit_of (replicate m 0)) n (zero-bit m)
+
+-- a number that is no number is not free
+pub flag-past : (bit : ℕ → ℕ) (n k : ℕ) → n ≤ k → slice_index_or (flags bit n) k false ≡ false
+unfolding flags
+flag-past bit zero k h = refl
+flag-past bit (suc n) zero h = absurd (omega arith)
+flag-past bit (suc n) (suc k) h = flag-past (λ j. bit (suc j)) n k (omega arith)
+
+pub flag-within : (bit : ℕ → ℕ) (n k : ℕ) → slice_index_or (flags bit n) k false ≡ true → k < n
+flag-within bit n k e =
+    elim (cases_lt k n) [
+      | inl less ↦ less
+      | inr past ↦ absurd (false≢true (sym (flag-past bit n k past) ∙ e))
+    ]
+
+pub flag-set : (bit : ℕ → ℕ) (n k : ℕ) → slice_index_or (flags bit n) k false ≡ true → bit k ≡ 1
+flag-set bit n k e = eqb-true (bit k) 1 (sym (flag-at bit n k (flag-within bit n k e)) ∙ e)
+
+-- writing what stands there changes nothing
+pub set-kept : (xs : List Bool) (k : ℕ) → slice_index_or xs k false ≡ false → slice_set xs k false ≡ xs
+set-kept xs k e = ap (λ b. slice_set xs k b) (sym e) ∙ set-get_or xs k false
+
+-- numbers of which words have been written
+pub bits-written : (old new : List ℕ) (first count word k : ℕ) → AreWords old new first count word → 64 * first ≤ k → k < 64 * (first + count) → bit_of new k ≡ bit_at word (k % 64)
+bits-written old new first count word k a l u = ap (λ w. bit_at w (k % 64)) (a.inside (k / 64) (omega arith) (omega arith))
+
+pub bits-below : (old new : List ℕ) (first count word k : ℕ) → AreWords old new first count word → k < 64 * first → bit_of new k ≡ bit_of old k
+bits-below old new first count word k a l = ap (λ w. bit_at w (k % 64)) (a.below (k / 64) (omega arith))
+
+pub bits-above : (old new : List ℕ) (first count word k : ℕ) → AreWords old new first count word → 64 * (first + count) ≤ k → bit_of new k ≡ bit_of old k
+bits-above old new first count word k a l = ap (λ w. bit_at w (k % 64)) (a.above (k / 64) (omega arith))
+
+flags-same : (f g : ℕ → ℕ) (n k : ℕ) → f k ≡ g k → slice_index_or (flags f n) k false ≡ slice_index_or (flags g n) k false
+flags-same f g n k e =
+    elim (cases_lt k n) [
+      | inl less ↦ flag-at f n k less ∙ ap (λ b. b == 1) e ∙ sym (flag-at g n k less)
+      | inr past ↦ flag-past f n k past ∙ sym (flag-past g n k past)
+    ]
+
+pub alike-ones : IsAlike (2 ^ 64 - 1) true
+alike-ones = record { each = λ i less. ap (λ b. b == 1) (bit_at_ones 64 i less) }
+
+pub alike-zero : IsAlike 0 false
+alike-zero = record { each = λ i less. ap (λ b. b == 1) (bit_at-zero i) }
+
+pub marked-words : (old new : List ℕ) (n first count word : ℕ) (v : Bool) → 64 * (first + count) ≤ n → IsAlike word v → AreWords old new first count word
+    → AreMarked (flags (bit_of old) n) (flags (bit_of new) n) (64 * first) (64 * count) v
+marked-words old new n first count word v fits alike a = record {
+  len = length-flags (bit_of new) n ∙ sym (length-flags (bit_of old) n);
+  inside = λ k l u. flag-at (bit_of new) n k (omega arith) ∙ ap (λ b. b == 1) (bits-written old new first count word k a l (omega arith)) ∙ alike.each (k % 64) (omega arith);
+  below = λ k l. flags-same (bit_of new) (bit_of old) n k (bits-below old new first count word k a l);
+  above = λ k l. flags-same (bit_of new) (bit_of old) n k (bits-above old new first count word k a (omega arith));
+}
+
+-- a set of which words have been written
+pub set-words : (n : ℕ) (low middle top low' middle' top' : List ℕ) (first count word : ℕ) → IsSet n low middle top → IsStack low' middle' top' → AreWords low low' first count word → 64 * (first + count) ≤ n → IsSet n low' middle' top'
+set-words n low middle top low' middle' top' first count word s stack a fits = record {
+  stack = stack;
+  room = (let r = s.room in let l = a.len in omega arith);
+  past = λ k le. bits-above low low' first count word k a (omega arith) ∙ s.past k le;
+}
+
+-- flags of words that are all ones
+pub free-ones : (words : List ℕ) (n first count : ℕ) → 64 * (first + count) ≤ n → AreOnes words first count → AreFree (flags (bit_of words) n) (64 * first) (64 * count)
+free-ones words n first count fits ones = record {
+  each = λ k l u. flag-at (bit_of words) n k (omega arith) ∙ ap (λ b. b == 1) (ones.each k l (omega arith));
+}
+
+pub ones-free : (words : List ℕ) (n first count : ℕ) → AreFree (flags (bit_of words) n) (64 * first) (64 * count) → AreOnes words first count
+ones-free words n first count free = record {
+  each = λ k l u. flag-set (bit_of words) n k (free.each k l (omega arith));
+}
+
+pub low-ones : (words : List ℕ) (n first count : ℕ) (r : Bool) → 64 * (first + count) ≤ n → IsTrue r ↔ AreOnes words first count
+    → IsTrue r ↔ AreFree (flags (bit_of words) n) (64 * first) (64 * count)
+low-ones words n first count r fits e = (λ q. free-ones words n first count fits (e.0 q), λ f. e.1 (ones-free words n first count f))
+
+pub room-words : (n first count : ℕ) (low middle top : List ℕ) → IsSet n low middle top → 64 * (first + count) ≤ length (flags (bit_of low) n) → (first + count ≤ length low) × (64 * (first + count) ≤ n)
+room-words n first count low middle top s fits = (let r = s.room in let l = length-flags (bit_of low) n in (omega arith, omega arith))
+
+-- the first numbers made free, where none was
+pub first-free : (n k : ℕ) (new : List Bool) → k ≤ n → AreMarked (replicate n false) new 0 k true → new ≡ replicate k true ++ replicate (n - k) false
+first-free n k new fits m =
+    let l = length-replicate n false in
+    let x = length-append (replicate k true) (replicate (n - k) false) in
+    let y = length-replicate k true in
+    let z = length-replicate (n - k) false in
+    let e = m.len in
+    ext_get_or false new (replicate k true ++ replicate (n - k) false) (omega arith) (λ i less.
+    elim (cases_lt i k) [
+      | inl low ↦ m.inside i (omega arith) (omega arith) ∙ sym (get_or_append_left (replicate k true) (replicate (n - k) false) false i (omega arith) ∙ get_or-replicate k i true false low)
+      | inr high ↦ m.above i (omega arith) ∙ get_or-replicate n i false false (omega arith) ∙ sym (get_or-append_right (replicate k true) (replicate (n - k) false) k i false y high ∙ get_or-replicate (n - k) (i - k) false false (omega arith))
+    ])

@@ -1,13 +1,27 @@
 //! Bits in words, on three levels: a word of the second has a bit for each of 64 words of the first,
-//! and the one word of the third a bit for each word of the second.
+//! and a word of the third a bit for each of 64 words of the second. The third has few words.
 
-ghost use Rattle.std.specs.Prelude.{ℕ, ◌≡◌, ◌<◌, ◌≤◌, ◌*◌, ◌/◌, ◌^◌, ◌==◌, length, slice_index, IfSome, IfNone};
-ghost use Rattle.xl_numbers.specs.Bits.{bit_of, IsStack, IsFirstWord, IsFirstBit, IsPut};
+ghost use Rattle.std.specs.Prelude.{ℕ, ◌≡◌, ◌<◌, ◌≤◌, ◌+◌, ◌*◌, ◌/◌, ◌^◌, ◌==◌, length, slice_index, IfSome, IfNone, IsTrue, ◌↔◌};
+ghost use Rattle.xl_numbers.specs.Bits.{bit_of, IsStack, IsFirstWord, IsFirstBit, IsPut, IsWord, AreWords, AreOnes, NoWord, IsAlike};
+
+/// The first word that isn't 0.
+#[inline(always)]
+fn first_word(words: &[u64]) -> Option<usize>
+    ensures some { IfSome result (IsFirstWord words.now) }
+    ensures none { IfNone result (NoWord words.now) }
+{
+    for at in 0..words.len() {
+        if words[at] != 0 {
+            return Some(at);
+        }
+    }
+    None
+}
 
 /// The first bit that is set, where this word is the first that isn't 0.
 fn first_bit(words: &[u64], at: usize) -> usize
     requires first { IsFirstWord words.now at }
-    requires few { at < 2 ^ 12 }
+    requires few { at < 2 ^ 16 }
     ensures { IsFirstBit words.now result }
 {
     at * 64 + words[at].trailing_zeros() as usize
@@ -37,12 +51,14 @@ pub(crate) fn lowest(low: &[u64], middle: &[u64], top: &[u64]) -> Option<usize>
     ensures some { IfSome result (IsFirstBit low.now) }
     ensures none { IfNone result ((k : ℕ) → bit_of low.now k ≡ 0) }
 {
-    if top[0] == 0 {
-        return None;
+    match first_word(top) {
+        Some(at) => {
+            let part = first_bit(top, at);
+            let word = first_bit(middle, part);
+            Some(first_bit(low, word))
+        }
+        None => None,
     }
-    let part = first_bit(top, 0);
-    let word = first_bit(middle, part);
-    Some(first_bit(low, word))
 }
 
 /// Puts a number into a set.
@@ -72,4 +88,150 @@ pub(crate) fn drop_number(low: &mut [u64], middle: &mut [u64], top: &mut [u64], 
         return;
     }
     drop_bit(top, number / 4096);
+}
+
+/// Writes a word.
+#[inline(always)]
+fn write_word(words: &mut [u64], at: usize, word: u64)
+    requires { at < length words.old }
+    ensures { IsWord words.old words.new at word }
+{
+    words[at] = word;
+}
+
+/// Writes 64 numbers of a set at once: the word of their bits.
+#[inline(always)]
+fn put_word(low: &mut [u64], middle: &mut [u64], top: &mut [u64], at: usize, word: u64)
+    requires stack { IsStack low.old middle.old top.old }
+    requires within { at < length low.old }
+    ensures stack { IsStack low.new middle.new top.new }
+    ensures word { IsWord low.old low.new at word }
+{
+    write_word(low, at, word);
+    if word != 0 {
+        raise_bit(middle, at);
+        raise_bit(top, at / 64);
+    } else if drop_bit(middle, at) {
+        drop_bit(top, at / 64);
+    } else {
+        raise_bit(top, at / 64);
+    }
+}
+
+/// Writes the same word to as many words as `count` says, from `first` on.
+#[inline(always)]
+fn write_words(words: &mut [u64], first: usize, count: usize, word: u64)
+    requires { first + count ≤ length words.old }
+    ensures { AreWords words.old words.new first count word }
+{
+    for i in 0..count {
+        write_word(words, first + i, word);
+    }
+}
+
+/// Writes the same word to the 64 words of a set that one word stands above.
+fn put_group(low: &mut [u64], middle: &mut [u64], top: &mut [u64], group: usize, word: u64)
+    requires stack { IsStack low.old middle.old top.old }
+    requires within { 64 * group + 64 ≤ length low.old }
+    ensures stack { IsStack low.new middle.new top.new }
+    ensures words { AreWords low.old low.new (64 * group) 64 word }
+{
+    write_words(low, 64 * group, 64, word);
+    if word != 0 {
+        write_word(middle, group, u64::MAX);
+        raise_bit(top, group);
+    } else {
+        write_word(middle, group, 0);
+        drop_bit(top, group);
+    }
+}
+
+/// Writes the same word to as many groups of 64 words of a set as `count` says.
+fn put_groups(
+    low: &mut [u64],
+    middle: &mut [u64],
+    top: &mut [u64],
+    first: usize,
+    count: usize,
+    word: u64,
+)
+    requires stack { IsStack low.old middle.old top.old }
+    requires within { 64 * (first + count) ≤ length low.old }
+    ensures stack { IsStack low.new middle.new top.new }
+    ensures words { AreWords low.old low.new (64 * first) (64 * count) word }
+{
+    for i in 0..count {
+        put_group(low, middle, top, first + i, word);
+    }
+}
+
+/// Writes the same word to as many words of a set as `count` says, one by one.
+fn put_each(
+    low: &mut [u64],
+    middle: &mut [u64],
+    top: &mut [u64],
+    first: usize,
+    count: usize,
+    word: u64,
+)
+    requires stack { IsStack low.old middle.old top.old }
+    requires within { first + count ≤ length low.old }
+    ensures stack { IsStack low.new middle.new top.new }
+    ensures words { AreWords low.old low.new first count word }
+{
+    for i in 0..count {
+        put_word(low, middle, top, first + i, word);
+    }
+}
+
+/// Writes the same word to as many words of a set as `count` says, from `first` on.
+pub(crate) fn put_words(
+    low: &mut [u64],
+    middle: &mut [u64],
+    top: &mut [u64],
+    first: usize,
+    count: usize,
+    word: u64,
+)
+    requires stack { IsStack low.old middle.old top.old }
+    requires within { first + count ≤ length low.old }
+    ensures stack { IsStack low.new middle.new top.new }
+    ensures words { AreWords low.old low.new first count word }
+{
+    if first % 64 == 0 && count % 64 == 0 {
+        put_groups(low, middle, top, first / 64, count / 64, word);
+    } else {
+        put_each(low, middle, top, first, count, word);
+    }
+}
+
+/// Whether as many words as `count` says, from `first` on, have all their bits set.
+#[inline(always)]
+pub(crate) fn all_ones(words: &[u64], first: usize, count: usize) -> bool
+    requires { first + count ≤ length words.now }
+    ensures { IsTrue result ↔ AreOnes words.now first count }
+{
+    for i in 0..count {
+        if words[first + i] != u64::MAX {
+            return false;
+        }
+    }
+    true
+}
+
+/// Whether a bit is set.
+#[inline(always)]
+pub(crate) fn has_bit(words: &[u64], k: usize) -> bool
+    requires { k < 64 * length words.now }
+    ensures { result ≡ (bit_of words.now k == 1) }
+{
+    words[k / 64] >> (k % 64) & 1 == 1
+}
+
+/// The word of 64 bits that are all set, or all clear.
+#[inline(always)]
+pub(crate) fn word_of(set: bool) -> u64
+    ensures { IsAlike result set }
+{
+    if set { u64::MAX } else { 0 }
 }

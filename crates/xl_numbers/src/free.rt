@@ -1,20 +1,21 @@
 //! Free numbers.
 
-ghost use Rattle.std.specs.Prelude.{◌≡◌, ◌<◌, ◌≤◌, ◌^◌, true, false, length, replicate, slice_set, IfOk, IfSome, IfNone};
-ghost use Rattle.xl_numbers.specs.Free.{IsLowest, HasNone};
+ghost use Rattle.std.specs.Prelude.{ℕ, ◌≡◌, ◌+◌, ◌*◌, ◌<◌, ◌≤◌, ◌^◌, true, false, IsTrue, ◌↔◌, length, replicate, slice_index_or, slice_set, IfOk, IfSome, IfNone};
+ghost use Rattle.std.specs.Bool.{OnTrue, OnFalse};
+ghost use Rattle.xl_numbers.specs.Free.{IsLowest, HasNone, AreFree, AreMarked};
 
-use crate::bits::{drop_number, lowest, put_number};
+use crate::bits::{all_ones, drop_number, has_bit, lowest, put_number, put_words, word_of};
 use std::alloc::Global;
 use std::marker::Model;
 use xl_model::NoMemory;
 
-/// The numbers below a count, each free or taken, as bits on three levels. Contracts see a flag for each
-/// number: whether it is free. Nothing is allocated after `open`.
+/// The numbers below a count, each free or taken, as bits on three levels. Contracts see a flag for
+/// each number: whether it is free. Nothing is allocated after `open`.
 #[derive(Drop)]
 pub struct FreeNumbers {
     low: Vec<u64>,
     middle: Vec<u64>,
-    top: [u64; 1],
+    top: [u64; 16],
     count: u32,
 }
 
@@ -32,7 +33,7 @@ impl Model for FreeNumbers {
 impl FreeNumbers {
     /// As many numbers, all taken.
     fn none(alloc: Global, count: u32) -> Result<FreeNumbers, NoMemory>
-        requires { count ≤ 2 ^ 18 }
+        requires { count ≤ 2 ^ 22 }
         ensures { IfOk result (λ s. s ≡ replicate count false) }
     {
         let low = vec![in alloc; 0u64; (count as usize + 63) / 64]?;
@@ -40,7 +41,7 @@ impl FreeNumbers {
         Ok(FreeNumbers {
             low,
             middle,
-            top: [0],
+            top: [0; 16],
             count,
         })
     }
@@ -51,11 +52,13 @@ impl FreeNumbers {
     ///
     /// `NoMemory` where there is no memory.
     pub fn open(alloc: Global, count: u32) -> Result<FreeNumbers, NoMemory>
-        requires { count ≤ 2 ^ 18 }
+        requires { count ≤ 2 ^ 22 }
         ensures { IfOk result (λ s. s ≡ replicate count true) }
     {
         let mut numbers = FreeNumbers::none(alloc, count)?;
-        'given: for number in 0..count {
+        let whole = count / 64;
+        numbers.mark_words(0, whole as usize, true);
+        'given: for number in whole * 64..count {
             numbers.give(number as usize);
         }
         Ok(numbers)
@@ -90,5 +93,72 @@ impl FreeNumbers {
         ensures { self.new ≡ slice_set self.old number true }
     {
         put_number(&mut self.low, &mut self.middle, &mut self.top, number);
+    }
+
+    /// Whether a number is free. One that isn't below the count is not.
+    #[inline(always)]
+    pub fn has(&self, number: usize) -> bool
+        ensures { result ≡ slice_index_or self.now number false }
+    {
+        if number >= self.count as usize {
+            return false;
+        }
+        has_bit(&self.low, number)
+    }
+
+    /// Makes a number taken that may be free or taken, or none of the numbers.
+    #[inline(always)]
+    pub fn withdraw(&mut self, number: usize)
+        ensures { self.new ≡ slice_set self.old number false }
+    {
+        if self.has(number) {
+            self.take_out(number);
+        }
+    }
+
+    /// Makes a free number taken.
+    fn take_out(&mut self, number: usize)
+        requires { slice_index_or self.old number false ≡ true }
+        ensures { self.new ≡ slice_set self.old number false }
+    {
+        drop_number(&mut self.low, &mut self.middle, &mut self.top, number);
+    }
+
+    /// Makes numbers free or taken by words of 64: as many words as `count` says, from the word
+    /// `first` on.
+    pub fn mark_words(&mut self, first: usize, count: usize, free: bool)
+        requires { 64 * (first + count) ≤ length self.old }
+        ensures { AreMarked self.old self.new (64 * first) (64 * count) free }
+    {
+        let word = word_of(free);
+        put_words(
+            &mut self.low,
+            &mut self.middle,
+            &mut self.top,
+            first,
+            count,
+            word,
+        );
+    }
+
+    /// Whether all numbers are free of as many words of 64 as `count` says, from the word `first`
+    /// on.
+    #[inline(always)]
+    pub fn are_free(&self, first: usize, count: usize) -> bool
+        requires { 64 * (first + count) ≤ length self.now }
+        ensures { IsTrue result ↔ AreFree self.now (64 * first) (64 * count) }
+    {
+        all_ones(&self.low, first, count)
+    }
+
+    /// Whether `take` would find a number.
+    pub fn can_take(&self) -> bool
+        ensures some { OnTrue result ((number : ℕ) × IsLowest self.now number) }
+        ensures none { OnFalse result (HasNone self.now) }
+    {
+        match lowest(&self.low, &self.middle, &self.top) {
+            Some(_) => true,
+            None => false,
+        }
     }
 }

@@ -1,6 +1,9 @@
 use Rattle.xl_model.specs.Rows.{row_of}
-use Rattle.xl_machine.proofs.OpenLemmas.{rising, opening-kept, opening-is}
+use Rattle.xl_machine.proofs.OpenLemmas.{rising, specs-of, opening-kept, opening-is}
 use Rattle.xl_machine.proofs.machine.Machine.open.Goals as goal
+
+pub open-requires-2-clause-specs : goal.open-requires-2-clause-specs
+open-requires-2-clause-specs g c = specs-of c.args.row.tlb.items c.requires.row.arrays_are
 
 pub open-requires-2-clause-rising : goal.open-requires-2-clause-rising
 open-requires-2-clause-rising g c = rising c.args.row.tlb.items c.requires.row.levels_are

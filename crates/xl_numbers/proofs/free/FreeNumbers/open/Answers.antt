@@ -1,6 +1,13 @@
-use Rattle.std.proofs.Common.{ap, ◌∙◌, Bool, true, List, slice_set}
-use Rattle.xl_numbers.proofs.FlagLemmas.{more-free}
+use Rattle.std.proofs.Common.{◌*◌, ◌/◌, ap, ◌∙◌, subst, Bool, true, false, List, replicate, slice_set, arith}
+use Rattle.xl_numbers.specs.Free.{AreMarked}
+use Rattle.xl_numbers.proofs.FlagLemmas.{first-free, more-free}
 use Rattle.xl_numbers.proofs.free.FreeNumbers.open.Goals as goal
+
+pub given-init : goal.given-init
+given-init c =
+    let n = c.args.count in
+    let m : AreMarked (replicate n false) c.mark_words.new.self 0 (64 * (n / 64)) true = subst (λ (bs : List Bool). AreMarked bs c.mark_words.new.self 0 (64 * (n / 64)) true) c.in_ok-numbers.ensures c.mark_words.ensures in
+    first-free n (n / 64 * 64) c.mark_words.new.self (omega arith) (subst (λ k. AreMarked (replicate n false) c.mark_words.new.self 0 k true) (omega arith) m)
 
 pub given-preserved : goal.given-preserved
 given-preserved c =

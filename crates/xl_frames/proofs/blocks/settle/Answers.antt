@@ -1,0 +1,13 @@
+use Rattle.std.proofs.Common.{rules, sym, ◌∙◌}
+use Rattle.std.proofs.lemmas.Bool.{false≢true}
+use Rattle.xl_frames.proofs.SetLemmas.{settled_left, past_none, as_free}
+use Rattle.xl_frames.proofs.blocks.settle.Goals.{else-block-count-via-then-block-count+else-are_free, else-block-count-via-else-block-count}
+use Rattle.xl_frames.proofs.blocks.settle.Goals as goal
+
+pub returns-else-block-count : goal.returns-else-block-count
+returns-else-block-count c =
+    let a = c.args in
+    elim c.else-block-count.branch [
+      | else-block-count-via-then-block-count+else-are_free w ↦ settled_left a.numbers.now a.blocks.now a.block (λ f. false≢true (sym w.if-are_free.false ∙ w.are_free.ensures.1 (as_free a.numbers.now a.block f)))
+      | else-block-count-via-else-block-count w ↦ settled_left a.numbers.now a.blocks.now a.block (past_none a.numbers.now a.blocks.now a.block c.requires.count (search rules))
+    ]

@@ -1,0 +1,12 @@
+use Rattle.std.proofs.Common.{◌+◌, ◌≤◌, ◌∙◌, ap, sym, subst, true, Bool, List, length}
+use Rattle.xl_model.specs.Addresses.{pages_of}
+use Rattle.xl_frames.specs.Pool.{marked}
+use Rattle.xl_frames.proofs.SetLemmas.{marked_is}
+use Rattle.xl_frames.proofs.pool.Frames.give.Goals as goal
+
+pub returns : goal.returns
+returns c =
+    let s = c.self.inside in
+    let n = pages_of c.args.order in
+    let fits : c.args.frame + n ≤ length s.frames = subst (λ (pool : List Bool). c.args.frame + n ≤ length pool) (sym c.self.view_is) c.requires in
+    marked_is s.frames c.give_of.new.frames c.args.frame n true fits c.give_of.ensures.marked ∙ ap (λ (pool : List Bool). marked pool c.args.frame n true) c.self.view_is

@@ -1,0 +1,10 @@
+use Rattle.std.proofs.Common.{◌*◌, ◌/◌, ◌%◌, ◌≡◌, rules, arith}
+use Rattle.xl_numbers.proofs.LevelLemmas.{words-as}
+use Rattle.xl_numbers.proofs.bits.put_words.Goals as goal
+
+pub returns-then-count-eq0-clause-words : goal.returns-then-count-eq0-clause-words
+returns-then-count-eq0-clause-words c =
+    let a = c.args in
+    let p : a.first % 64 ≡ 0 = search rules in
+    let q : a.count % 64 ≡ 0 = search rules in
+    words-as a.low.now _ (64 * (a.first / 64)) (64 * (a.count / 64)) a.first a.count a.word (omega arith) (omega arith) c.put_groups.ensures.words
