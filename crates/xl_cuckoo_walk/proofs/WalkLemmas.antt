@@ -69,8 +69,8 @@ cache-after size s page leaves ws fills word c h e = go (find (has_tag tag) c.it
         → sections_in (filled f (word_of_item o) tag word (touched_in tag c)) ≡ section_after size s page leaves ws f (find test (map section_in c.items)) (sections_in c)
     go None w false = ap with (touched-none (has_tag tag) c.items w) ∙ sym (ap (λ q. section_after size s page leaves ws false q (sections_in c)) (find-none section_in test (has_tag tag) same c.items w))
     go None w true =
-        ap (λ items. with (with_newest c.width (record { tag = tag; word = word; more = 0 }) items)) (touched-none (has_tag tag) c.items w)
-        ∙ ap mine (sym (newest-map section_in c.width (record { tag = tag; word = word; more = 0 }) c.items))
+        ap (λ items. with (with_newest c.width (record { tag = tag; word = word }) items)) (touched-none (has_tag tag) c.items w)
+        ∙ ap mine (sym (newest-map section_in c.width (record { tag = tag; word = word }) c.items))
         ∙ ap (λ z. mine (with_newest c.width z (map section_in c.items))) e
         ∙ sym (ap (λ q. section_after size s page leaves ws true q (sections_in c)) (find-none section_in test (has_tag tag) same c.items w))
     go (Some i) w false =

@@ -91,7 +91,7 @@ touched_in tag c = record c { items = touched (has_tag tag) c.items }
 
 -- A cache with a section in front.
 abbrev pub newest_in : ℕ → ℕ → Cached Item → Cached Item
-newest_in tag word c = record c { items = with_newest c.width (record { tag = tag; word = word; more = 0 }) c.items }
+newest_in tag word c = record c { items = with_newest c.width (record { tag = tag; word = word }) c.items }
 
 -- A cache after a walk that fills or doesn't: a section that was there isn't put again.
 abbrev pub filled : Bool → Option ℕ → ℕ → ℕ → Cached Item → Cached Item

@@ -12,12 +12,12 @@ use crate::coding::{fence_cache, put_newest, refresh, touch};
 use std::alloc::Global;
 use std::marker::Model;
 use xl_model::{NoMemory, Reach};
-use xl_recency::Cache;
+use xl_recency::{BLANK, Cache, Item};
 
 /// A recency list of sections. Contracts see its width and its sections as items, newest first.
 #[derive(Drop)]
 pub(crate) struct Sections {
-    list: Cache,
+    list: Cache<Item>,
     /// False only where the width is 0: then nothing is looked for.
     is_kept: bool,
     /// The tag of the last touch, and the word that it found: that section is in front. 0 where this
@@ -54,7 +54,7 @@ impl Sections {
         requires { IsWidth width }
         ensures empty { IfOk result (λ cache. cache ≡ empty_cache width) }
     {
-        let list = Cache::open(alloc, width)?;
+        let list = Cache::open(alloc, width, BLANK)?;
         Ok(Sections {
             list,
             is_kept: width != 0,

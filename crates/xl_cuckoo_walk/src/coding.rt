@@ -12,7 +12,7 @@ use xl_model::Reach;
 use xl_recency::{Cache, Item};
 
 /// Brings the section of this tag to the front, and gives its word.
-pub(crate) fn touch(cache: &mut Cache, tag: u64) -> Option<u64>
+pub(crate) fn touch(cache: &mut Cache<Item>, tag: u64) -> Option<u64>
     ensures found { result ≡ word_of_item (find (has_tag tag) cache.old.items) }
     ensures moved { cache.new ≡ touched_in tag cache.old }
 {
@@ -49,14 +49,14 @@ pub(crate) fn section_word(k4: bool, m2: bool, g1: bool, way: Option<u64>) -> u6
 }
 
 /// Puts a section in front.
-pub(crate) fn put_newest(cache: &mut Cache, tag: u64, word: u64)
+pub(crate) fn put_newest(cache: &mut Cache<Item>, tag: u64, word: u64)
     ensures { cache.new ≡ newest_in tag word cache.old }
 {
-    cache.fill(Item { tag, word, more: 0 });
+    cache.fill(Item { tag, word });
 }
 
 /// Removes the section of this tag where it isn't as this word says.
-pub(crate) fn refresh(cache: &mut Cache, tag: u64, word: u64)
+pub(crate) fn refresh(cache: &mut Cache<Item>, tag: u64, word: u64)
     ensures { cache.new ≡ record cache.old { items = purged (is_old tag word) cache.old.items } }
 {
     cache.remove_where(|item| item.tag == tag && item.word != word);
@@ -74,7 +74,7 @@ fn reaches(reach: Reach, space: u64) -> bool
 }
 
 /// Removes what a fence reaches from a cache. Gives how many sections left.
-pub(crate) fn fence_cache(cache: &mut Cache, reach: Reach) -> u64
+pub(crate) fn fence_cache(cache: &mut Cache<Item>, reach: Reach) -> u64
     ensures left { cache.new ≡ fenced reach cache.old }
     ensures count { result + length cache.new.items ≡ length cache.old.items }
     ensures most { result ≤ 64 }

@@ -10,11 +10,7 @@ use xl_model::{NoMemory, mix};
 use xl_recency::{Cache, Item, SetAssociative, Sets, Ways, stamped};
 
 fn item(tag: u64) -> Item {
-    Item {
-        tag,
-        word: 0,
-        more: 0,
-    }
+    Item { tag, word: 0 }
 }
 
 #[test]
@@ -35,7 +31,7 @@ fn stamps_begin_anew_at_their_end(rt: HostRuntime) -> Result<(), Fail> {
 
 #[test]
 fn a_full_list_is_touched_and_filled(rt: HostRuntime) -> Result<(), Fail> {
-    let mut cache = Cache::open(rt.alloc(), 4)?;
+    let mut cache = Cache::open(rt.alloc(), 4, item(0))?;
     for tag in 1..=4 {
         assert_eq!(rt; cache.fill(item(tag)), None);
     }
@@ -49,7 +45,7 @@ fn a_full_list_is_touched_and_filled(rt: HostRuntime) -> Result<(), Fail> {
 
 #[test]
 fn a_cache_of_width_0_holds_nothing(rt: HostRuntime) -> Result<(), Fail> {
-    let mut cache = Cache::open(rt.alloc(), 0)?;
+    let mut cache = Cache::open(rt.alloc(), 0, item(0))?;
     assert_eq!(rt; cache.fill(item(1)), Some(item(1)));
     assert_eq!(rt; cache.touch(|item| item.tag == 1), None);
     assert_eq!(rt; cache.remove_where(|_| true), 0);
@@ -102,7 +98,7 @@ fn arrays_of_each_width_have_ample_memory(rt: HostRuntime) -> Result<(), Fail> {
 }
 
 /// How a caller reads the contract of `touch`: the item with the tag comes to the front.
-fn touch_tag(ways: &mut Ways<8>, tag: u64) -> Option<Item>
+fn touch_tag(ways: &mut Ways<Item, 8>, tag: u64) -> Option<Item>
     ensures { Touches (λ item. item.tag == tag) ways.old ways.new result }
 {
     ways.touch(|item| item.tag == tag)
@@ -110,17 +106,9 @@ fn touch_tag(ways: &mut Ways<8>, tag: u64) -> Option<Item>
 
 #[test]
 fn the_newest_of_two_alike_is_touched(rt: HostRuntime) -> Result<(), Fail> {
-    let mut ways = Ways::<8>::open(rt.alloc())?;
-    let older = Item {
-        tag: 1,
-        word: 1,
-        more: 0,
-    };
-    let newer = Item {
-        tag: 1,
-        word: 2,
-        more: 0,
-    };
+    let mut ways = Ways::<Item, 8>::open(rt.alloc(), item(0))?;
+    let older = Item { tag: 1, word: 1 };
+    let newer = Item { tag: 1, word: 2 };
     assert_eq!(rt; ways.fill(older), None);
     assert_eq!(rt; ways.fill(newer), None);
     assert_eq!(rt; touch_tag(&mut ways, 1), Some(newer));
@@ -132,7 +120,7 @@ fn answer_alike<const W: usize>(alloc: Global) -> Result<bool, NoMemory>
     requires some { 0 < W }
     requires width { W ≤ 64 }
 {
-    let mut array = Ways::<W>::open(alloc)?;
+    let mut array = Ways::<Item, W>::open(alloc, item(0))?;
     let mut stamps = stamped::Ways::<W>::open(alloc)?;
     for call in 0..10_000 {
         let random = mix(call);

@@ -34,7 +34,7 @@ has_tag tag item = item.tag == tag
 
 -- The item of a tag and a number.
 abbrev pub item_at : ℕ → ℕ → Item
-item_at tag number = record { tag = tag; word = number; more = 0 }
+item_at tag number = record { tag = tag; word = number }
 
 -- What an item of the cache of this level says: a node with its number.
 abbrev pub numbered_in : ℕ → Item → Numbered

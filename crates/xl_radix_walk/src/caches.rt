@@ -28,7 +28,7 @@ fn tag_of(space: u16, page: u64, level: usize) -> u64
 }
 
 /// Touches the newest item of a tag.
-fn touch_tag(cache: &mut Cache, tag: u64) -> Option<Item>
+fn touch_tag(cache: &mut Cache<Item>, tag: u64) -> Option<Item>
     ensures touched { Touches (has_tag tag) cache.old.items cache.new.items result }
     ensures width { cache.new.width ≡ cache.old.width }
 {
@@ -36,7 +36,7 @@ fn touch_tag(cache: &mut Cache, tag: u64) -> Option<Item>
 }
 
 /// The lowest level from this one on whose cache holds the page's node, which is touched.
-pub(crate) fn look(caches: &mut [Cache], level: usize, space: u16, page: u64) -> Option<Start>
+pub(crate) fn look(caches: &mut [Cache<Item>], level: usize, space: u16, page: u64) -> Option<Start>
     requires levels { level + length caches.old ≤ 4 }
     requires page { page < 2 ^ 45 }
     ensures some { IfSome result (λ s.
@@ -66,18 +66,21 @@ pub(crate) fn look(caches: &mut [Cache], level: usize, space: u16, page: u64) ->
 }
 
 /// Puts an item into a cache.
-fn fill_tag(cache: &mut Cache, tag: u64, number: u64)
+fn fill_tag(cache: &mut Cache<Item>, tag: u64, number: u64)
     ensures { cache.new ≡ filled_one true tag number cache.old }
 {
-    cache.fill(Item {
-        tag,
-        word: number,
-        more: 0,
-    });
+    cache.fill(Item { tag, word: number });
 }
 
 /// Fills the cache of a level where it lies from `least` to below `start`.
-fn fill_at(cache: &mut Cache, level: usize, start: usize, least: usize, tag: u64, path: &[u64])
+fn fill_at(
+    cache: &mut Cache<Item>,
+    level: usize,
+    start: usize,
+    least: usize,
+    tag: u64,
+    path: &[u64],
+)
     requires path { start ≤ length path.now + least }
     ensures { cache.new ≡ filled_one (nat_lt level start && nat_le least level) tag
         (slice_index path.now (start - 1 - level)) cache.old }
@@ -89,7 +92,7 @@ fn fill_at(cache: &mut Cache, level: usize, start: usize, least: usize, tag: u64
 
 /// Fills the caches of the levels from `least` to below `start` with the nodes of a walk's path.
 pub(crate) fn fill(
-    caches: &mut [Cache],
+    caches: &mut [Cache<Item>],
     level: usize,
     start: usize,
     least: usize,
@@ -110,7 +113,7 @@ pub(crate) fn fill(
 }
 
 /// Removes the items whose numbers no node has. Gives how many left.
-fn purge_cache<const LEVELS: usize>(cache: &mut Cache, radix: &Radix<LEVELS>) -> u64
+fn purge_cache<const LEVELS: usize>(cache: &mut Cache<Item>, radix: &Radix<LEVELS>) -> u64
     ensures purged { Purges (is_gone radix.now.nodes) cache.old.items cache.new.items result }
     ensures width { cache.new.width ≡ cache.old.width }
     ensures most { result ≤ 64 }
@@ -123,7 +126,7 @@ fn purge_cache<const LEVELS: usize>(cache: &mut Cache, radix: &Radix<LEVELS>) ->
 }
 
 /// Removes from all caches the items whose numbers no node has. Gives how many left.
-pub(crate) fn purge<const LEVELS: usize>(caches: &mut [Cache], radix: &Radix<LEVELS>) -> u64
+pub(crate) fn purge<const LEVELS: usize>(caches: &mut [Cache<Item>], radix: &Radix<LEVELS>) -> u64
     requires { length caches.old ≤ 4 }
     ensures caches { caches.new ≡ purged_caches radix.now.nodes caches.old }
     ensures count { result + entries_of caches.new ≡ entries_of caches.old }
@@ -148,7 +151,7 @@ fn reaches(reach: Reach, space: u64) -> bool
 }
 
 /// Removes what a fence reaches from a cache. Gives how many left.
-fn fence_cache(cache: &mut Cache, reach: Reach) -> u64
+fn fence_cache(cache: &mut Cache<Item>, reach: Reach) -> u64
     ensures purged { Purges (is_fenced reach) cache.old.items cache.new.items result }
     ensures width { cache.new.width ≡ cache.old.width }
     ensures most { result ≤ 64 }
@@ -161,7 +164,7 @@ fn fence_cache(cache: &mut Cache, reach: Reach) -> u64
 }
 
 /// Removes what a fence reaches from all caches. Gives how many left.
-pub(crate) fn fence_caches(caches: &mut [Cache], reach: Reach) -> u64
+pub(crate) fn fence_caches(caches: &mut [Cache<Item>], reach: Reach) -> u64
     requires { length caches.old ≤ 4 }
     ensures caches { caches.new ≡ fenced_caches reach caches.old }
     ensures count { result + entries_of caches.new ≡ entries_of caches.old }

@@ -14,14 +14,14 @@ use std::alloc::Global;
 use std::marker::Model;
 use xl_model::{NoMemory, Reach};
 use xl_radix::{Radix, WalkEnd};
-use xl_recency::Cache;
+use xl_recency::{BLANK, Cache, Item};
 
 /// The walk caches, level 0 first. Those below the lowest level with a width hold nothing, and
 /// aren't kept.
 #[derive(Drop)]
 pub(crate) struct WalkCaches {
     lowest: usize,
-    kept: Vec<Cache>,
+    kept: Vec<Cache<Item>>,
 }
 
 impl Model for WalkCaches {
@@ -48,13 +48,13 @@ fn widths_off(widths: &[u8]) -> usize
 }
 
 /// Empty caches of these widths.
-fn open_caches(alloc: Global, widths: &[u8]) -> Result<Vec<Cache>, NoMemory>
+fn open_caches(alloc: Global, widths: &[u8]) -> Result<Vec<Cache<Item>>, NoMemory>
     requires { IsTrue (list_all is_width widths.now) }
     ensures { IfOk result (λ caches. caches.items ≡ map empty_cache widths.now) }
 {
     let mut caches = Vec::with_capacity(alloc, widths.len())?;
     'opened: for width in widths {
-        if caches.push(Cache::open(alloc, *width)?).is_err() {
+        if caches.push(Cache::open(alloc, *width, BLANK)?).is_err() {
             return Err(NoMemory);
         }
     }

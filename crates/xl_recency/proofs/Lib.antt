@@ -4,3 +4,4 @@ mod TotalLemmas
 mod OrderLemmas
 mod TouchLemmas
 mod RankLemmas
+mod WidthLemmas

@@ -194,7 +194,7 @@ stamps_push xs last new a l = record {
 -- ---- the steps of the list
 
 abbrev pub no_place : Place
-no_place = record { stamp = 0; item = record { tag = 0; word = 0; more = 0 } }
+no_place = record { stamp = 0; item = record { tag = 0; word = 0 } }
 
 abbrev pub stamped_at : ℕ → Item → Place
 stamped_at last item = record { stamp = last + 1; item = item }

@@ -2,7 +2,6 @@
 use Rattle.std.specs.Prelude.{ℕ, IsTrue, List, []}
 use Rattle.xl_model.specs.Caches.{Cached}
 use Rattle.xl_model.specs.Rows.{is_width}
-use Rattle.xl_recency.specs.declared.item.Item.{Item}
 use Rattle.xl_recency.specs.declared.cache.Slots.{Slots}
 use Rattle.xl_recency.specs.declared.cache.Slots.TheVariants as slots
 
@@ -11,11 +10,11 @@ abbrev pub IsWidth : ℕ → Type 0
 IsWidth width = IsTrue (is_width width)
 
 -- A list of items of this width.
-abbrev pub cached : ℕ → List Item → Cached Item
+abbrev pub cached : {T : Type 0} → ℕ → List T → Cached T
 cached width items = record { width = width; items = items }
 
 -- The list that stands in the variant of its width, with that width; at width 0 it is empty.
-abbrev pub cached_in : Slots → Cached Item
+abbrev pub cached_in : {T : Type 0} → Slots T → Cached T
 cached_in slots.W0 = cached 0 []
 cached_in (slots.W1 items) = cached 1 items
 cached_in (slots.W2 items) = cached 2 items

@@ -6,7 +6,6 @@ ghost use Rattle.xl_model.specs.Caches.{empty_cache};
 ghost use Rattle.xl_recency.specs.Lists.{IsTest, Touches, Fills, Purges};
 ghost use Rattle.xl_recency.specs.Widths.{IsWidth};
 
-use crate::item::Item;
 use crate::ways::Ways;
 use std::alloc::Global;
 use std::marker::Model;
@@ -14,30 +13,29 @@ use xl_model::NoMemory;
 
 /// The list of each width.
 #[derive(Drop)]
-enum Slots {
+enum Slots<T> {
     W0,
-    W1(Ways<1>),
-    W2(Ways<2>),
-    W4(Ways<4>),
-    W6(Ways<6>),
-    W8(Ways<8>),
-    W12(Ways<12>),
-    W16(Ways<16>),
-    W32(Ways<32>),
-    W64(Ways<64>),
+    W1(Ways<T, 1>),
+    W2(Ways<T, 2>),
+    W4(Ways<T, 4>),
+    W6(Ways<T, 6>),
+    W8(Ways<T, 8>),
+    W12(Ways<T, 12>),
+    W16(Ways<T, 16>),
+    W32(Ways<T, 32>),
+    W64(Ways<T, 64>),
 }
 
 /// A recency list of a width from 0 to 64. Contracts see the width and the list, newest first.
 #[derive(Drop)]
-pub struct Cache {
-    slots: Slots,
+pub struct Cache<T> {
+    slots: Slots<T>,
 }
 
-impl Model for Cache {
+impl<T> Model for Cache<T> {
     ghost use Rattle.xl_model.specs.Caches.{Cached};
-    ghost use Rattle.xl_recency.specs.declared.item.Item.{Item};
 
-    ghost Value = { Cached Item };
+    ghost Value = { Cached T };
 
     ghost use Rattle.xl_recency.specs.Widths.{cached_in};
 
@@ -62,24 +60,25 @@ macro_rules! at_width {
     };
 }
 
-impl Cache {
+impl<T: Copy> Cache<T> {
     /// An empty list of the width. It stands in the value itself, so memory is never wanting.
-    pub fn open(alloc: Global, width: u8) -> Result<Cache, NoMemory>
+    /// `blank` is what stands in places that hold nothing; contracts never see it.
+    pub fn open(alloc: Global, width: u8, blank: T) -> Result<Cache<T>, NoMemory>
         requires { IsWidth width }
         ensures ok { IsOk result }
         ensures empty { IfOk result (λ cache. cache ≡ empty_cache width) }
     {
         let slots = match width {
             0 => Slots::W0,
-            1 => Slots::W1(Ways::open(alloc)?),
-            2 => Slots::W2(Ways::open(alloc)?),
-            4 => Slots::W4(Ways::open(alloc)?),
-            6 => Slots::W6(Ways::open(alloc)?),
-            8 => Slots::W8(Ways::open(alloc)?),
-            12 => Slots::W12(Ways::open(alloc)?),
-            16 => Slots::W16(Ways::open(alloc)?),
-            32 => Slots::W32(Ways::open(alloc)?),
-            _ => Slots::W64(Ways::open(alloc)?),
+            1 => Slots::W1(Ways::open(alloc, blank)?),
+            2 => Slots::W2(Ways::open(alloc, blank)?),
+            4 => Slots::W4(Ways::open(alloc, blank)?),
+            6 => Slots::W6(Ways::open(alloc, blank)?),
+            8 => Slots::W8(Ways::open(alloc, blank)?),
+            12 => Slots::W12(Ways::open(alloc, blank)?),
+            16 => Slots::W16(Ways::open(alloc, blank)?),
+            32 => Slots::W32(Ways::open(alloc, blank)?),
+            _ => Slots::W64(Ways::open(alloc, blank)?),
         };
         Ok(Cache { slots })
     }
@@ -95,7 +94,7 @@ impl Cache {
 
     /// Brings the newest item that meets the test to the front, and gives it. None where none
     /// meets it; then nothing changes.
-    pub fn touch<P: Fn(&Item) -> bool>(&mut self, test: P) -> Option<Item>
+    pub fn touch<P: Fn(&T) -> bool>(&mut self, test: P) -> Option<T>
         requires { P.IsAlwaysCallable test }
         ensures touched { (q : _) → IsTest (FnReturnsAt P.Fn test) q →
             Touches q self.old.items self.new.items result }
@@ -106,7 +105,7 @@ impl Cache {
 
     /// Puts the item in front, and gives the one that left: Some where the list was full. At width
     /// 0 that is the item itself.
-    pub fn fill(&mut self, item: Item) -> Option<Item>
+    pub fn fill(&mut self, item: T) -> Option<T>
         ensures filled { Fills self.old.width item self.old.items self.new.items result }
         ensures width { self.new.width ≡ self.old.width }
     {
@@ -114,7 +113,7 @@ impl Cache {
     }
 
     /// Removes the items that meet the test; the others stay in order. Gives how many left.
-    pub fn remove_where<P: Fn(&Item) -> bool>(&mut self, test: P) -> u64
+    pub fn remove_where<P: Fn(&T) -> bool>(&mut self, test: P) -> u64
         requires { P.IsAlwaysCallable test }
         ensures kept { (q : _) → IsTest (FnReturnsAt P.Fn test) q →
             Purges q self.old.items self.new.items result }

@@ -1,9 +1,11 @@
 //! What a recency list holds.
 
-/// An entry of a recency list: a tag, and two words for whoever keeps the list.
+/// An item of a recency list: a tag, and a word for whoever keeps the list.
 #[derive(Clone, Copy, Debug, Default, PartialEq, Eq)]
 pub struct Item {
     pub tag: u64,
     pub word: u64,
-    pub more: u64,
 }
+
+/// What stands in places that hold no item.
+pub const BLANK: Item = Item { tag: 0, word: 0 };

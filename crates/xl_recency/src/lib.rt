@@ -15,6 +15,6 @@ mod ways;
 
 pub use associative::SetAssociative;
 pub use cache::Cache;
-pub use item::Item;
+pub use item::{BLANK, Item};
 pub use sets::Sets;
 pub use ways::Ways;

@@ -4,7 +4,7 @@ ghost use Rattle.std.specs.Prelude.{◌≡◌, ◌+◌, ◌*◌, ◌^◌, ◌<�
 ghost use Rattle.std.specs.Fn.{FnReturnsAt};
 ghost use Rattle.xl_recency.specs.Lists.{IsTest, items_in, TouchesIn, FillsIn, PurgesIn, PurgesAll};
 
-use crate::item::Item;
+use crate::item::{BLANK, Item};
 use crate::ways::Ways;
 use std::alloc::Global;
 use std::marker::Model;
@@ -13,7 +13,7 @@ use xl_model::NoMemory;
 /// Sets of at most `W` items each. Contracts see the list of the sets' lists, newest first each.
 #[derive(Drop)]
 pub struct Sets<const W: usize> {
-    sets: Vec<Ways<W>>,
+    sets: Vec<Ways<Item, W>>,
 }
 
 impl<const W: usize> Model for Sets<W> {
@@ -28,7 +28,10 @@ impl<const W: usize> Model for Sets<W> {
 }
 
 /// Removes the items of every set that meet the test: how many left.
-fn remove_from_each<const W: usize, P: Fn(&Item) -> bool>(sets: &mut [Ways<W>], test: &P) -> u64
+fn remove_from_each<const W: usize, P: Fn(&Item) -> bool>(
+    sets: &mut [Ways<Item, W>],
+    test: &P,
+) -> u64
     requires width { W ≤ 64 }
     requires fits { length sets.old ≤ 2 ^ 32 }
     requires test { P.IsAlwaysCallable test.now }
@@ -52,7 +55,7 @@ impl<const W: usize> Sets<W> {
     {
         let mut sets = Vec::with_capacity(alloc, count as usize)?;
         'opened: for _ in 0..count {
-            if sets.push(Ways::open(alloc)?).is_err() {
+            if sets.push(Ways::open(alloc, BLANK)?).is_err() {
                 return Err(NoMemory);
             }
         }

@@ -264,11 +264,7 @@ impl<const W: usize> Ways<W> {
     {
         let free = Place {
             stamp: 0,
-            item: Item {
-                tag: 0,
-                word: 0,
-                more: 0,
-            },
+            item: Item { tag: 0, word: 0 },
         };
         let places = vec![in alloc; free; W]?;
         Ok(Ways {

@@ -4,7 +4,6 @@ ghost use Rattle.std.specs.Prelude.{◌≡◌, ◌+◌, ◌<◌, ◌≤◌, [], 
 ghost use Rattle.std.specs.Fn.{FnReturnsAt};
 ghost use Rattle.xl_recency.specs.Lists.{IsTest, Touches, Fills, Purges};
 
-use crate::item::Item;
 use crate::kernel::{item_at, keep_failing, place_of, put_in_front, touch_at};
 use std::alloc::Global;
 use std::marker::Model;
@@ -12,35 +11,32 @@ use xl_model::NoMemory;
 
 /// A recency list of at most `W` items. Contracts see the list, newest first.
 #[derive(Drop)]
-pub struct Ways<const W: usize> {
-    slots: [Item; W],
+pub struct Ways<T, const W: usize> {
+    /// Stands in front, so that it shares a line with the newest items.
     len: usize,
+    slots: [T; W],
 }
 
-impl<const W: usize> Model for Ways<W> {
+impl<T, const W: usize> Model for Ways<T, W> {
     ghost use Rattle.std.specs.Prelude.{List, take, ◌≤◌};
-    ghost use Rattle.xl_recency.specs.declared.item.Item.{Item};
 
-    ghost Value = { List Item };
+    ghost Value = { List T };
 
     ghost view = { λ s. take s.len s.slots };
 
     ghost invariant = { λ s. s.len ≤ W };
 }
 
-impl<const W: usize> Ways<W> {
-    /// An empty list. It stands in the value itself, so memory is never wanting.
-    pub fn open(_alloc: Global) -> Result<Ways<W>, NoMemory>
+impl<T: Copy, const W: usize> Ways<T, W> {
+    /// An empty list. It stands in the value itself, so memory is never wanting. `blank` is what
+    /// stands in places that hold nothing; contracts never see it.
+    pub fn open(_alloc: Global, blank: T) -> Result<Ways<T, W>, NoMemory>
         ensures ok { IsOk result }
         ensures empty { IfOk result (λ ways. ways ≡ []) }
     {
         Ok(Ways {
-            slots: [Item {
-                tag: 0,
-                word: 0,
-                more: 0,
-            }; W],
             len: 0,
+            slots: [blank; W],
         })
     }
 
@@ -49,13 +45,13 @@ impl<const W: usize> Ways<W> {
         ensures value { result ≡ length self.now }
         ensures few { result ≤ W }
     {
-        let items: &[Item] = &self.slots[..self.len];
+        let items: &[T] = &self.slots[..self.len];
         items.len()
     }
 
     /// Brings the newest item that meets the test to the front, and gives it. None where none
     /// meets it; then nothing changes.
-    pub fn touch<P: Fn(&Item) -> bool>(&mut self, test: P) -> Option<Item>
+    pub fn touch<P: Fn(&T) -> bool>(&mut self, test: P) -> Option<T>
         requires { P.IsAlwaysCallable test }
         ensures { (q : _) → IsTest (FnReturnsAt P.Fn test) q → Touches q self.old self.new result }
     {
@@ -64,7 +60,7 @@ impl<const W: usize> Ways<W> {
     }
 
     /// The newest item that meets the test.
-    pub fn find<P: Fn(&Item) -> bool>(&self, test: P) -> Option<Item>
+    pub fn find<P: Fn(&T) -> bool>(&self, test: P) -> Option<T>
         requires { P.IsAlwaysCallable test }
         ensures { (q : _) → IsTest (FnReturnsAt P.Fn test) q → result ≡ find q self.now }
     {
@@ -73,7 +69,7 @@ impl<const W: usize> Ways<W> {
     }
 
     /// Puts the item in front, and gives the one that left: Some where the list was full.
-    pub fn fill(&mut self, item: Item) -> Option<Item>
+    pub fn fill(&mut self, item: T) -> Option<T>
         requires { 0 < W }
         ensures { Fills W item self.old self.new result }
     {
@@ -90,7 +86,7 @@ impl<const W: usize> Ways<W> {
     }
 
     /// Removes the items that meet the test; the others stay in order. Gives how many left.
-    pub fn remove_where<P: Fn(&Item) -> bool>(&mut self, test: P) -> u64
+    pub fn remove_where<P: Fn(&T) -> bool>(&mut self, test: P) -> u64
         requires { P.IsAlwaysCallable test }
         ensures kept { (q : _) → IsTest (FnReturnsAt P.Fn test) q →
             Purges q self.old self.new result }
@@ -101,7 +97,7 @@ impl<const W: usize> Ways<W> {
     }
 
     /// What `remove_where` does, by a test that is kept.
-    pub(crate) fn remove<P: Fn(&Item) -> bool>(&mut self, test: &P) -> u64
+    pub(crate) fn remove<P: Fn(&T) -> bool>(&mut self, test: &P) -> u64
         requires { P.IsAlwaysCallable test.now }
         ensures kept { (q : _) → IsTest (FnReturnsAt P.Fn test.now) q →
             Purges q self.old self.new result }

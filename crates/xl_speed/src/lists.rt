@@ -14,14 +14,7 @@ pub fn answers(alloc: Global, calls: u64) -> Result<u64, NoMemory> {
         let tag = random / 1024 % 12;
         let answer = match sets.touch(set, |item| item.tag == tag) {
             Some(item) => item.word,
-            None => match sets.fill(
-                set,
-                Item {
-                    tag,
-                    word: call,
-                    more: 0,
-                },
-            ) {
+            None => match sets.fill(set, Item { tag, word: call }) {
                 Some(left) => left.tag,
                 None => 0,
             },

@@ -7,16 +7,16 @@ use Rattle.xl_model.specs.Addresses.{level_of}
 use Rattle.xl_model.specs.Recency.{touched, with_newest, purged}
 use Rattle.xl_model.specs.Caches.{Cached, without_items}
 use Rattle.xl_model.specs.Walks.{with_touch, with_fill}
-use Rattle.xl_recency.specs.declared.item.Item.{Item}
+use Rattle.xl_tlb.specs.declared.range_coding.RangeItem.{RangeItem}
 use Rattle.xl_tlb.specs.Coding.{order_at}
 use Rattle.xl_tlb.specs.RangeCoding.{IsKeepable, item_of_range, range_of, range_kept, ranges_of}
 use Rattle.xl_tlb.proofs.FillLemmas.{perm_back, frame_back}
 use Rattle.xl_tlb.proofs.MapLemmas.{newest_map, touched_map, purged_map, find_some, find_none}
 
-level_back : (pages : ℕ) (o : Order) → (order_at ((pages * 3 + level_of o) % 3) ≡ o) × ((pages * 3 + level_of o) / 3 ≡ pages)
-level_back pages order.K4 = (ap order_at {x = (pages * 3 + 0) % 3} {y = 0} (omega arith), omega arith)
-level_back pages order.M2 = (ap order_at {x = (pages * 3 + 1) % 3} {y = 1} (omega arith), omega arith)
-level_back pages order.G1 = (ap order_at {x = (pages * 3 + 2) % 3} {y = 2} (omega arith), omega arith)
+level_back : (pages : ℕ) (o : Order) → (order_at ((pages * 4 + level_of o) % 4) ≡ o) × ((pages * 4 + level_of o) / 4 ≡ pages)
+level_back pages order.K4 = (ap order_at {x = (pages * 4 + 0) % 4} {y = 0} (omega arith), omega arith)
+level_back pages order.M2 = (ap order_at {x = (pages * 4 + 1) % 4} {y = 1} (omega arith), omega arith)
+level_back pages order.G1 = (ap order_at {x = (pages * 4 + 2) % 4} {y = 2} (omega arith), omega arith)
 
 -- a range comes back from its item
 range_back : (r : Range) → IsKeepable r → range_of (item_of_range r) ≡ r
@@ -32,23 +32,23 @@ range_back r fit =
 abbrev of_width : ℕ → List Range → Cached Range
 of_width width xs = record { width = width; items = xs }
 
-pub range_filled : (old new : Cached Item) (r : Range) → IsKeepable r → new.items ≡ with_newest old.width (item_of_range r) old.items → new.width ≡ old.width
+pub range_filled : (old new : Cached RangeItem) (r : Range) → IsKeepable r → new.items ≡ with_newest old.width (item_of_range r) old.items → new.width ≡ old.width
     → ranges_of new ≡ with_fill r (ranges_of old)
 range_filled old new r fit is width =
     let e : map range_of (with_newest old.width (item_of_range r) old.items) ≡ with_newest old.width r (map range_of old.items) =
     sym (newest_map range_of old.width (item_of_range r) old.items) ∙ ap (λ (x : Range). with_newest old.width x (map range_of old.items)) (range_back r fit) in
     rw (is, width) (ap (of_width old.width) e)
 
-module _ (p : Range → Bool) (old : Cached Item) where
-  abbrev q : Item → Bool
+module _ (p : Range → Bool) (old : Cached RangeItem) where
+  abbrev q : RangeItem → Bool
   q i = p (range_of i)
 
-  pub ranges_dropped : (new : Cached Item) → new.items ≡ purged (λ (i : Item). p (range_of i)) old.items → new.width ≡ old.width → ranges_of new ≡ without_items p (ranges_of old)
+  pub ranges_dropped : (new : Cached RangeItem) → new.items ≡ purged (λ (i : RangeItem). p (range_of i)) old.items → new.width ≡ old.width → ranges_of new ≡ without_items p (ranges_of old)
   ranges_dropped new is width = rw (is, width) (ap (of_width old.width) (sym (purged_map range_of p q (λ i. refl) old.items)))
 
-  pub range_touched : (new : Cached Item) → new.items ≡ touched (λ (i : Item). p (range_of i)) old.items → new.width ≡ old.width → ranges_of new ≡ with_touch p (ranges_of old)
+  pub range_touched : (new : Cached RangeItem) → new.items ≡ touched (λ (i : RangeItem). p (range_of i)) old.items → new.width ≡ old.width → ranges_of new ≡ with_touch p (ranges_of old)
   range_touched new is width = rw (is, width) (ap (of_width old.width) (sym (touched_map range_of p q (λ i. refl) old.items)))
 
-  pub range_found : (o : Option Item) → o ≡ find (λ (i : Item). p (range_of i)) old.items → range_kept o ≡ find p (ranges_of old).items
+  pub range_found : (o : Option RangeItem) → o ≡ find (λ (i : RangeItem). p (range_of i)) old.items → range_kept o ≡ find p (ranges_of old).items
   range_found None e = sym (find_none range_of p q (λ i. refl) old.items (sym e))
   range_found (Some i) e = sym (find_some range_of p q (λ i. refl) old.items i (sym e))

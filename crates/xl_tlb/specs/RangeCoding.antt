@@ -6,7 +6,7 @@ use Rattle.xl_model.specs.declared.leaf.Range.{Range}
 use Rattle.xl_model.specs.Addresses.{level_of}
 use Rattle.xl_model.specs.Ranges.{range_key, holds_page}
 use Rattle.xl_model.specs.Caches.{Cached, reaches_range}
-use Rattle.xl_recency.specs.declared.item.Item.{Item}
+use Rattle.xl_tlb.specs.declared.range_coding.RangeItem.{RangeItem}
 use Rattle.xl_tlb.specs.Coding.{order_at, perm_code, perm_at}
 
 -- A range that a range TLB can keep: some pages, a space below 64, all pages below 2^52 and all frames
@@ -18,39 +18,39 @@ pub record IsKeepable (r : Range) : Type 0 where
   pub frames_in : r.frame + r.pages ≤ 2 ^ 44
 
 -- The item that keeps a range.
-unfoldable pub item_of_range : Range → Item
+unfoldable pub item_of_range : Range → RangeItem
 item_of_range r = record {
   tag = range_key r;
   word = r.frame * 16 + perm_code r.perm;
-  more = r.pages * 3 + level_of r.order;
+  more = r.pages * 4 + level_of r.order;
 }
 
 -- The range that an item keeps: every item keeps one.
-unfoldable pub range_of : Item → Range
+unfoldable pub range_of : RangeItem → Range
 range_of i = record {
   space = i.tag / 2 ^ 52;
   start = i.tag % 2 ^ 52;
-  pages = i.more / 3;
+  pages = i.more / 4;
   frame = i.word / 16;
-  order = order_at (i.more % 3);
+  order = order_at (i.more % 4);
   perm = perm_at i.word;
 }
 
 -- The range that an item keeps, if there is one.
-abbrev pub range_kept : Option Item → Option Range
+abbrev pub range_kept : Option RangeItem → Option Range
 range_kept None = None
 range_kept (Some i) = Some (range_of i)
 
 -- The ranges that a list of items keeps, with its width.
-abbrev pub ranges_of : Cached Item → Cached Range
+abbrev pub ranges_of : Cached RangeItem → Cached Range
 ranges_of c = record { width = c.width; items = map range_of c.items }
 
 -- The item's range holds the page of the space.
-abbrev pub item_holds : ℕ → ℕ → Item → Bool
+abbrev pub item_holds : ℕ → ℕ → RangeItem → Bool
 item_holds space page i = holds_page space page (range_of i)
 
 -- A fence reaches the item's range.
-abbrev pub item_reached : Reach → Item → Bool
+abbrev pub item_reached : Reach → RangeItem → Bool
 item_reached to i = reaches_range to (range_of i)
 
 -- A range with pages is the first of these.

@@ -84,7 +84,11 @@ fn fill_small_each(arrays: &mut [AnyArray], space: u16, page: u64, word: u64) ->
     let Some((first, rest)) = arrays.split_first_mut() else {
         return 0;
     };
-    let others = fill_small_each(rest, space, page, word);
+    let others = if rest.is_empty() {
+        0
+    } else {
+        fill_small_each(rest, space, page, word)
+    };
     let taken = first.takes_small();
     first.fill_small(space, page, word);
     if taken {

@@ -9,7 +9,22 @@ ghost use Rattle.xl_tlb.specs.RangeCoding.{IsKeepable, item_of_range as kept_as,
 
 use crate::coding::{perm_code, perm_of};
 use xl_model::{Order, Range, Reach};
-use xl_recency::Item;
+
+/// An item of a range TLB: the tag has the range's space and its first page, the word its frame and
+/// its permission, and `more` its pages (times 4) and its order.
+#[derive(Clone, Copy, Debug, PartialEq, Eq)]
+pub(crate) struct RangeItem {
+    pub(crate) tag: u64,
+    pub(crate) word: u64,
+    pub(crate) more: u64,
+}
+
+/// What stands in places of a list that hold nothing.
+pub(crate) const BLANK: RangeItem = RangeItem {
+    tag: 0,
+    word: 0,
+    more: 0,
+};
 
 /// The order of a number.
 fn order_of(number: u64) -> Order
@@ -24,28 +39,28 @@ fn order_of(number: u64) -> Order
 
 /// The item that keeps a range.
 #[tactic(auto, unfolding(crate::specs::RangeCoding::item_of_range))]
-pub(crate) fn item_of_range(range: Range) -> Item
+pub(crate) fn item_of_range(range: Range) -> RangeItem
     requires { IsKeepable range }
     ensures { result ≡ kept_as range }
 {
-    Item {
+    RangeItem {
         tag: range.space as u64 * (1 << 52) + range.start,
         word: range.frame * 16 + perm_code(range.perm),
-        more: range.pages * 3 + range.order.level() as u64,
+        more: range.pages * 4 + range.order.level() as u64,
     }
 }
 
 /// The range that an item keeps.
 #[tactic(auto, unfolding(crate::specs::RangeCoding::range_of))]
-pub(crate) fn range_of(item: &Item) -> Range
+pub(crate) fn range_of(item: &RangeItem) -> Range
     ensures { result ≡ range_in item.now }
 {
     Range {
         space: (item.tag >> 52) as u16,
         start: item.tag % (1 << 52),
-        pages: item.more / 3,
+        pages: item.more / 4,
         frame: item.word / 16,
-        order: order_of(item.more % 3),
+        order: order_of(item.more % 4),
         perm: perm_of(item.word),
     }
 }
@@ -53,16 +68,16 @@ pub(crate) fn range_of(item: &Item) -> Range
 /// Whether the item's range holds the page of the space. All is compared, for where a range lies can't be
 /// foretold.
 #[tactic(auto, unfolding(crate::specs::RangeCoding::range_of))]
-pub(crate) fn holds(item: &Item, space: u16, page: u64) -> bool
+pub(crate) fn holds(item: &RangeItem, space: u16, page: u64) -> bool
     ensures { result ≡ holds_page space page (range_in item.now) }
 {
     let start = item.tag % (1 << 52);
-    let inside = page.wrapping_sub(start) < item.more / 3;
+    let inside = page.wrapping_sub(start) < item.more / 4;
     (item.tag >> 52 == space as u64) & (start <= page) & inside
 }
 
 /// Whether a fence reaches the item's range.
-pub(crate) fn reaches(item: &Item, reach: Reach) -> bool
+pub(crate) fn reaches(item: &RangeItem, reach: Reach) -> bool
     ensures { result ≡ reaches_range reach (range_in item.now) }
 {
     match reach {

@@ -8,16 +8,16 @@ ghost use Rattle.xl_model.specs.Walks.{with_touch, with_fill};
 ghost use Rattle.xl_recency.specs.Widths.{IsWidth};
 ghost use Rattle.xl_tlb.specs.RangeCoding.{IsKeepable, item_holds, item_reached};
 
-use crate::range_coding::{holds, item_of_range, range_of, reaches};
+use crate::range_coding::{BLANK, RangeItem, holds, item_of_range, range_of, reaches};
 use std::alloc::Global;
 use std::marker::Model;
 use xl_model::{NoMemory, Range, Reach};
-use xl_recency::{Cache, Item};
+use xl_recency::Cache;
 
 /// Ranges, newest first, of a width from 0 to 64.
 #[derive(Drop)]
 pub(crate) struct RangeList {
-    cache: Cache,
+    cache: Cache<RangeItem>,
 }
 
 impl Model for RangeList {
@@ -31,7 +31,7 @@ impl Model for RangeList {
 }
 
 /// Brings the newest item whose range holds the page to the front.
-fn touch_holding(cache: &mut Cache, space: u16, page: u64) -> Option<Item>
+fn touch_holding(cache: &mut Cache<RangeItem>, space: u16, page: u64) -> Option<RangeItem>
     ensures found { result ≡ find (item_holds space page) cache.old.items }
     ensures moved { cache.new.items ≡ touched (item_holds space page) cache.old.items }
     ensures width { cache.new.width ≡ cache.old.width }
@@ -40,7 +40,7 @@ fn touch_holding(cache: &mut Cache, space: u16, page: u64) -> Option<Item>
 }
 
 /// Removes the items whose ranges hold the page.
-fn drop_holding(cache: &mut Cache, space: u16, page: u64) -> u64
+fn drop_holding(cache: &mut Cache<RangeItem>, space: u16, page: u64) -> u64
     ensures kept { cache.new.items ≡ purged (item_holds space page) cache.old.items }
     ensures count { result + length cache.new.items ≡ length cache.old.items }
     ensures width { cache.new.width ≡ cache.old.width }
@@ -49,7 +49,7 @@ fn drop_holding(cache: &mut Cache, space: u16, page: u64) -> u64
 }
 
 /// Removes the items whose ranges a fence reaches.
-fn drop_reached(cache: &mut Cache, reach: Reach) -> u64
+fn drop_reached(cache: &mut Cache<RangeItem>, reach: Reach) -> u64
     ensures kept { cache.new.items ≡ purged (item_reached reach) cache.old.items }
     ensures count { result + length cache.new.items ≡ length cache.old.items }
     ensures width { cache.new.width ≡ cache.old.width }
@@ -64,7 +64,7 @@ impl RangeList {
         ensures ok { IsOk result }
         ensures empty { IfOk result (λ tlb. tlb ≡ empty_cache width) }
     {
-        let cache = Cache::open(alloc, width)?;
+        let cache = Cache::open(alloc, width, BLANK)?;
         Ok(RangeList { cache })
     }
 

@@ -12,7 +12,7 @@ use Rattle.xl_tlb.proofs.array.Array.fill_small.Goals as goal
 
 pub invariant_of-self : goal.invariant_of-self
 invariant_of-self g c =
-    let item : Item = record { tag = c.tag_of-tag.result; word = c.args.word; more = 0 } in
+    let item : Item = record { tag = c.tag_of-tag.result; word = c.args.word } in
     fill_kept c.self.inside.spec c.self.inside.sets c.fill-left.new.self g.row.W (small_leaf c.args.space c.args.page c.args.word) item
     (hit_back c.args.space c.args.page c.args.word order.K4 c.requires.space item c.tag_of-tag.ensures refl) c.self.invariant
     (rw (c.set_of-set.ensures.value ∙ hit_set c.self.inside.spec c.args.page order.K4, ← c.self.invariant.same_width) at c.fill-left.ensures.list)
@@ -23,7 +23,7 @@ returns g c =
     let sets = c.self.inside.sets in
     let new = c.fill-left.new.self in
     let takes : takes_order spec order.K4 ≡ true = rw (← c.self.view_is) at (sym c.takes.ensures ∙ c.if-not-takes.false) in
-    let item : Item = record { tag = c.tag_of-tag.result; word = c.args.word; more = 0 } in
+    let item : Item = record { tag = c.tag_of-tag.result; word = c.args.word } in
     let leaf = small_leaf c.args.space c.args.page c.args.word in
     let is : array_of spec new ≡ array_filled leaf (array_of spec sets) = filled spec sets new leaf item
     (hit_back c.args.space c.args.page c.args.word order.K4 c.requires.space item c.tag_of-tag.ensures refl) takes
