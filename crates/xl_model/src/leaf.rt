@@ -1,5 +1,7 @@
 //! Leaves of a mapping, ranges of leaves, and the reply to an access.
 
+ghost use Rattle.std.specs.Prelude.{◌≡◌};
+
 use crate::address::Order;
 use crate::perm::Perm;
 
@@ -12,6 +14,23 @@ pub struct Leaf {
     pub order: Order,
     pub frame: u64,
     pub perm: Perm,
+}
+
+impl Leaf {
+    /// The same leaf, put together field by field. A leaf that comes back from a call is read so where
+    /// it also comes from elsewhere: the other one needn't stand in memory then.
+    #[inline(always)]
+    pub fn by_fields(self) -> Leaf
+        ensures { result ≡ self }
+    {
+        Leaf {
+            space: self.space,
+            first: self.first,
+            order: self.order,
+            frame: self.frame,
+            perm: self.perm,
+        }
+    }
 }
 
 /// A run of leaves of one space, order and permission, consecutive in pages and in frames

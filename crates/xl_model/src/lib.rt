@@ -18,7 +18,7 @@ mod work;
 pub use address::{Kind, Mode, Order, allows, canonical, code, page_of};
 pub use event::{Event, Outcome, Reach, Refusal, Scope};
 pub use fault::InputFault;
-pub use hash::{mix, way_hash};
+pub use hash::{mix, remainder, way_hash};
 pub use leaf::{Leaf, Range, Reply};
 pub use perm::Perm;
 pub use row::{Counts, Purge, Row, Table, TlbSpec};

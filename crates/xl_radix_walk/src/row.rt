@@ -173,15 +173,8 @@ fn walk_from<const LEVELS: usize>(
             return Some(leaf);
         }
     }
-    // Field by field: so the leaf of a straight walk needn't stand in memory.
     let leaf = walk_filling(radix, caches, from, space, page)?;
-    Some(Leaf {
-        space: leaf.space,
-        first: leaf.first,
-        order: leaf.order,
-        frame: leaf.frame,
-        perm: leaf.perm,
-    })
+    Some(leaf.by_fields())
 }
 
 /// The walk of a page from the lowest node that the caches hold, else from the root.

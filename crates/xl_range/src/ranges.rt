@@ -180,7 +180,14 @@ impl Structure for Ranges {
                 cache_hits: 1,
             };
         }
-        self.walk_behind(space, page)
+        let walk = self.walk_behind(space, page);
+        let Some(leaf) = walk.leaf else {
+            return walk;
+        };
+        Walk {
+            leaf: Some(leaf.by_fields()),
+            cache_hits: walk.cache_hits,
+        }
     }
 
     fn fence(&mut self, reach: Reach) -> u64 {
