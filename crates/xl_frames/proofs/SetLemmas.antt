@@ -236,63 +236,54 @@ kept_open frames blocks parts n limit e f g = rw (e, f, g) (record {
   parts_are = all_blocks 262144 n (omega arith);
 })
 
--- a frame taken
-pub frame_taken : (frames blocks parts frames' blocks' parts' : List Bool) (k : ℕ) → IsKept frames blocks parts → k < length frames
-    → frames' ≡ set frames k false → blocks' ≡ set blocks (k / 512) false → parts' ≡ set parts (k / 262144) false → IsKept frames' blocks' parts'
-frame_taken frames blocks parts frames' blocks' parts' k i l e f g =
-    let m = marked_one frames frames' k false l e in
-    record {
-      limit = (let n = m.len in let o = i.limit in omega arith);
-      blocks_are = part_taken 512 frames frames' blocks blocks' (k / 512) k 1 i.blocks_are (omega arith) (omega arith) (omega arith) m f;
-      parts_are = part_taken 262144 frames frames' parts parts' (k / 262144) k 1 i.parts_are (omega arith) (omega arith) (omega arith) m g;
-    }
+-- what a call leaves of what is kept
+module _ {frames blocks parts frames' blocks' parts' : List Bool} (i : IsKept frames blocks parts) where
+  kept : (first count : ℕ) (v : Bool) → AreMarked frames frames' first count v → AreBlocks 512 frames' blocks' → AreBlocks 262144 frames' parts' → IsKept frames' blocks' parts'
+  kept first count v m b p = record {
+    limit = (let n = m.len in let o = i.limit in omega arith);
+    blocks_are = b;
+    parts_are = p;
+  }
 
--- a block taken
-pub block_taken : (frames blocks parts frames' blocks' parts' : List Bool) (b : ℕ) → IsKept frames blocks parts → b < length blocks
-    → AreMarked frames frames' (64 * (b * 8)) (64 * 8) false → blocks' ≡ set blocks b false → parts' ≡ set parts (b / 512) false → IsKept frames' blocks' parts'
-block_taken frames blocks parts frames' blocks' parts' b i l n f g =
-    let m : AreMarked frames frames' (b * 512) 512 false = marked_at frames frames' _ _ (b * 512) 512 false (omega arith) refl n in
-    record {
-      limit = (let n = m.len in let o = i.limit in omega arith);
-      blocks_are = run_marked 512 frames frames' blocks blocks' b 1 false (omega arith) i.blocks_are m (marked_one blocks blocks' b false l f);
-      parts_are = part_taken 262144 frames frames' parts parts' (b / 512) (b * 512) 512 i.parts_are (omega arith) (omega arith) (omega arith) m g;
-    }
+  pub frame_taken : (k : ℕ) → k < length frames → frames' ≡ set frames k false → blocks' ≡ set blocks (k / 512) false → parts' ≡ set parts (k / 262144) false → IsKept frames' blocks' parts'
+  frame_taken k l e f g =
+      let m = marked_one frames frames' k false l e in
+      kept k 1 false m
+      (part_taken 512 frames frames' blocks blocks' (k / 512) k 1 i.blocks_are (omega arith) (omega arith) (omega arith) m f)
+      (part_taken 262144 frames frames' parts parts' (k / 262144) k 1 i.parts_are (omega arith) (omega arith) (omega arith) m g)
 
--- a frame given back
-pub frame_given : (frames blocks parts frames' blocks' parts' : List Bool) (k : ℕ) → IsKept frames blocks parts → k < length frames
-    → frames' ≡ set frames k true → IsSettled 512 frames' blocks blocks' (k / 512) → IsSettled 512 blocks' parts parts' (k / 262144) → IsKept frames' blocks' parts'
-frame_given frames blocks parts frames' blocks' parts' k i l e f g =
-    let m = marked_one frames frames' k true l e in
-    let b = part_freed 512 frames frames' blocks blocks' (k / 512) k 1 i.blocks_are (omega arith) (omega arith) m f in
-    record {
-      limit = (let n = m.len in let o = i.limit in omega arith);
-      blocks_are = b;
-      parts_are = part_freed 262144 frames frames' parts parts' (k / 262144) k 1 i.parts_are (omega arith) (omega arith) m (part_settled frames' blocks' parts parts' (k / 262144) b g);
-    }
+  pub block_taken : (b : ℕ) → b < length blocks → AreMarked frames frames' (64 * (b * 8)) (64 * 8) false → blocks' ≡ set blocks b false → parts' ≡ set parts (b / 512) false
+      → IsKept frames' blocks' parts'
+  block_taken b l n f g =
+      let m : AreMarked frames frames' (b * 512) 512 false = marked_at frames frames' _ _ (b * 512) 512 false (omega arith) refl n in
+      kept (b * 512) 512 false m
+      (run_marked 512 frames frames' blocks blocks' b 1 false (omega arith) i.blocks_are m (marked_one blocks blocks' b false l f))
+      (part_taken 262144 frames frames' parts parts' (b / 512) (b * 512) 512 i.parts_are (omega arith) (omega arith) (omega arith) m g)
 
--- a block given back
-pub block_given : (frames blocks parts frames' blocks' parts' : List Bool) (b : ℕ) → IsKept frames blocks parts → b < length blocks
-    → AreMarked frames frames' (64 * (b * 8)) (64 * 8) true → blocks' ≡ set blocks b true → IsSettled 512 blocks' parts parts' (b / 512) → IsKept frames' blocks' parts'
-block_given frames blocks parts frames' blocks' parts' b i l n f g =
-    let m : AreMarked frames frames' (b * 512) 512 true = marked_at frames frames' _ _ (b * 512) 512 true (omega arith) refl n in
-    let a = run_marked 512 frames frames' blocks blocks' b 1 true (omega arith) i.blocks_are m (marked_one blocks blocks' b true l f) in
-    record {
-      limit = (let n = m.len in let o = i.limit in omega arith);
-      blocks_are = a;
-      parts_are = part_freed 262144 frames frames' parts parts' (b / 512) (b * 512) 512 i.parts_are (omega arith) (omega arith) m (part_settled frames' blocks' parts parts' (b / 512) a g);
-    }
+  pub frame_given : (k : ℕ) → k < length frames → frames' ≡ set frames k true → IsSettled 512 frames' blocks blocks' (k / 512) → IsSettled 512 blocks' parts parts' (k / 262144)
+      → IsKept frames' blocks' parts'
+  frame_given k l e f g =
+      let m = marked_one frames frames' k true l e in
+      let b = part_freed 512 frames frames' blocks blocks' (k / 512) k 1 i.blocks_are (omega arith) (omega arith) m f in
+      kept k 1 true m b
+      (part_freed 262144 frames frames' parts parts' (k / 262144) k 1 i.parts_are (omega arith) (omega arith) m (part_settled frames' blocks' parts parts' (k / 262144) b g))
 
--- a part marked
-pub part_marked : (frames blocks parts frames' blocks' parts' : List Bool) (g : ℕ) (v : Bool) → IsKept frames blocks parts → g < length parts
-    → AreMarked frames frames' (64 * (g * 4096)) (64 * 4096) v → AreMarked blocks blocks' (64 * (g * 8)) (64 * 8) v → parts' ≡ set parts g v → IsKept frames' blocks' parts'
-part_marked frames blocks parts frames' blocks' parts' g v i l n o e =
-    let m : AreMarked frames frames' (g * 262144) 262144 v = marked_at frames frames' _ _ (g * 262144) 262144 v (omega arith) refl n in
-    let w : AreMarked frames frames' (g * 512 * 512) (512 * 512) v = marked_at frames frames' _ _ (g * 512 * 512) (512 * 512) v (omega arith) refl n in
-    record {
-      limit = (let n = m.len in let o = i.limit in omega arith);
-      blocks_are = run_marked 512 frames frames' blocks blocks' (g * 512) 512 v (omega arith) i.blocks_are w (marked_at blocks blocks' _ _ (g * 512) 512 v (omega arith) refl o);
-      parts_are = run_marked 262144 frames frames' parts parts' g 1 v (omega arith) i.parts_are m (marked_one parts parts' g v l e);
-    }
+  pub block_given : (b : ℕ) → b < length blocks → AreMarked frames frames' (64 * (b * 8)) (64 * 8) true → blocks' ≡ set blocks b true → IsSettled 512 blocks' parts parts' (b / 512)
+      → IsKept frames' blocks' parts'
+  block_given b l n f g =
+      let m : AreMarked frames frames' (b * 512) 512 true = marked_at frames frames' _ _ (b * 512) 512 true (omega arith) refl n in
+      let a = run_marked 512 frames frames' blocks blocks' b 1 true (omega arith) i.blocks_are m (marked_one blocks blocks' b true l f) in
+      kept (b * 512) 512 true m a
+      (part_freed 262144 frames frames' parts parts' (b / 512) (b * 512) 512 i.parts_are (omega arith) (omega arith) m (part_settled frames' blocks' parts parts' (b / 512) a g))
+
+  pub part_marked : (g : ℕ) (v : Bool) → g < length parts → AreMarked frames frames' (64 * (g * 4096)) (64 * 4096) v → AreMarked blocks blocks' (64 * (g * 8)) (64 * 8) v → parts' ≡ set parts g v
+      → IsKept frames' blocks' parts'
+  part_marked g v l n o e =
+      let m : AreMarked frames frames' (g * 262144) 262144 v = marked_at frames frames' _ _ (g * 262144) 262144 v (omega arith) refl n in
+      let w : AreMarked frames frames' (g * 512 * 512) (512 * 512) v = marked_at frames frames' _ _ (g * 512 * 512) (512 * 512) v (omega arith) refl n in
+      kept (g * 262144) 262144 v m
+      (run_marked 512 frames frames' blocks blocks' (g * 512) 512 v (omega arith) i.blocks_are w (marked_at blocks blocks' _ _ (g * 512) 512 v (omega arith) refl o))
+      (run_marked 262144 frames frames' parts parts' g 1 v (omega arith) i.parts_are m (marked_one parts parts' g v l e))
 
 -- frames marked one after another
 pub marked_none : (pool : List Bool) (first : ℕ) (v : Bool) → AreMarked pool pool first 0 v

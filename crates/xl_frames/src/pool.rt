@@ -5,7 +5,7 @@ ghost use Rattle.std.specs.Bool.{OnTrue, OnFalse};
 ghost use Rattle.xl_model.specs.Addresses.{pages_of};
 ghost use Rattle.xl_frames.specs.Pool.{IsFree, IsLowest, HasNone, marked};
 
-use crate::blocks::{give_of, has_of, take_of};
+use crate::blocks::Sets;
 use std::alloc::Global;
 use std::marker::Model;
 use xl_model::{NoMemory, Order};
@@ -15,20 +15,15 @@ use xl_numbers::FreeNumbers;
 /// whether it is free.
 #[derive(Drop)]
 pub struct Frames {
-    frames: FreeNumbers,
-    blocks: FreeNumbers,
-    parts: FreeNumbers,
+    sets: Sets,
 }
 
 impl Model for Frames {
     ghost use Rattle.std.specs.Prelude.{Bool, List};
-    ghost use Rattle.xl_frames.specs.Blocks.{IsKept};
 
     ghost Value = { List Bool };
 
-    ghost view = { λ s. s.frames };
-
-    ghost invariant = { λ s. IsKept s.frames s.blocks s.parts };
+    ghost view = { λ s. s.sets.frames };
 }
 
 impl Frames {
@@ -42,9 +37,11 @@ impl Frames {
         let blocks = FreeNumbers::open(alloc, n / 512)?;
         let parts = FreeNumbers::open(alloc, n / 262_144)?;
         Ok(Frames {
-            frames,
-            blocks,
-            parts,
+            sets: Sets {
+                frames,
+                blocks,
+                parts,
+            },
         })
     }
 
@@ -57,7 +54,7 @@ impl Frames {
         ensures none { IfNone result (HasNone self.old (pages_of order)) }
         ensures unchanged { IfNone result (self.new ≡ self.old) }
     {
-        take_of(&mut self.frames, &mut self.blocks, &mut self.parts, order)
+        self.sets.take(order)
     }
 
     /// Whether `take` would find a block of the order.
@@ -66,7 +63,7 @@ impl Frames {
             IsFree self.now (block * pages_of order) (pages_of order)) }
         ensures no { OnFalse result (HasNone self.now (pages_of order)) }
     {
-        has_of(&self.frames, &self.blocks, &self.parts, order)
+        self.sets.can_take(order)
     }
 
     /// Gives back the block of the order that begins at `frame`. Its frames are free again, and no
@@ -75,12 +72,6 @@ impl Frames {
         requires { frame + pages_of order ≤ length self.old }
         ensures { self.new ≡ marked self.old frame (pages_of order) true }
     {
-        give_of(
-            &mut self.frames,
-            &mut self.blocks,
-            &mut self.parts,
-            frame as usize,
-            order,
-        );
+        self.sets.give(frame as usize, order);
     }
 }

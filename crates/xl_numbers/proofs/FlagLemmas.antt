@@ -173,9 +173,6 @@ pub low-ones : (words : List ℕ) (n first count : ℕ) (r : Bool) → 64 * (fir
     → IsTrue r ↔ AreFree (flags (bit_of words) n) (64 * first) (64 * count)
 low-ones words n first count r fits e = (λ q. free-ones words n first count fits (e.0 q), λ f. e.1 (ones-free words n first count f))
 
-pub room-words : (n first count : ℕ) (low middle top : List ℕ) → IsSet n low middle top → 64 * (first + count) ≤ length (flags (bit_of low) n) → (first + count ≤ length low) × (64 * (first + count) ≤ n)
-room-words n first count low middle top s fits = (let r = s.room in let l = length-flags (bit_of low) n in (omega arith, omega arith))
-
 -- the first numbers made free, where none was
 pub first-free : (n k : ℕ) (new : List Bool) → k ≤ n → AreMarked (replicate n false) new 0 k true → new ≡ replicate k true ++ replicate (n - k) false
 first-free n k new fits m =

@@ -2,6 +2,7 @@
 use Rattle.std.proofs.Common.{◌≡◌, refl, sym, ap, subst, ◌∙◌, ℕ, ◌+◌, ◌-◌, ◌*◌, ◌/◌, ◌%◌, ◌^◌, ◌<◌, w64, Bool, true, false, ◌==◌, List, length, slice_index, inl, inr, arith}
 use Rattle.std.proofs.lemmas.Bool.Decides.{nat_tests}
 use Rattle.std.proofs.lemmas.Bool.{cases_eq, cases_lt}
+use Rattle.std.proofs.Math.Nat.{mul-add}
 use Rattle.std.specs.Int.{bit_at, trailing_ones}
 use Rattle.std.proofs.lemmas.Nat.Bits.{bit_at-lt, bit_at-zero, bit_at_ones, bit_at-trailing_ones}
 use Rattle.xl_numbers.specs.Bits.{bit_of, IsAbove, IsStack, IsFirstWord, IsFirstBit, IsPut, IsWord, AreWords, AreOnes}
@@ -184,16 +185,27 @@ words-none words first word = record {
   above = λ i l. refl;
 }
 
-pub words-more : (old mid new : List ℕ) (first count word : ℕ) → AreWords old mid first count word → IsWord mid new (first + count) word → AreWords old new first (count + 1) word
-words-more old mid new first count word a w = record {
+pub words-join : (old mid new : List ℕ) (first n m word : ℕ) → AreWords old mid first n word → AreWords mid new (first + n) m word → AreWords old new first (n + m) word
+words-join old mid new first n m word a w = record {
   len = w.len ∙ a.len;
-  inside = λ i l u. elim (cases_eq i (first + count)) [
-    | inl same ↦ ap (slice_index new) same ∙ w.here
-    | inr other ↦ w.words i other ∙ a.inside i l (omega arith)
+  inside = λ i l u. elim (cases_lt i (first + n)) [
+    | inl less ↦ w.below i less ∙ a.inside i l less
+    | inr more ↦ w.inside i more (omega arith)
   ];
-  below = λ i l. w.words i (λ e. absurd (omega arith)) ∙ a.below i l;
-  above = λ i l. w.words i (λ e. absurd (omega arith)) ∙ a.above i (omega arith);
+  below = λ i l. w.below i (omega arith) ∙ a.below i l;
+  above = λ i l. w.above i (omega arith) ∙ a.above i (omega arith);
 }
+
+pub word-one : (old new : List ℕ) (at word : ℕ) → IsWord old new at word → AreWords old new at 1 word
+word-one old new at word w = record {
+  len = w.len;
+  inside = λ i l u. (let same : i ≡ at = omega arith in ap (slice_index new) same ∙ w.here);
+  below = λ i l. w.words i (λ e. absurd (omega arith));
+  above = λ i l. w.words i (λ e. absurd (omega arith));
+}
+
+pub words-more : (old mid new : List ℕ) (first count word : ℕ) → AreWords old mid first count word → IsWord mid new (first + count) word → AreWords old new first (count + 1) word
+words-more old mid new first count word a w = words-join old mid new first count 1 word a (word-one mid new (first + count) word w)
 
 -- words that are all ones
 pub ones-all : (words : List ℕ) (first count : ℕ) → ((i : ℕ) → i < count → slice_index words (first + i) ≡ 2 ^ 64 - 1) → AreOnes words first count
@@ -276,17 +288,14 @@ module _ (low middle top low' middle' top' : List ℕ) (g word m : ℕ) (s : IsS
     last = (let l = s.last in let x = c.len in omega arith);
   }
 
--- groups written one after another
-pub groups-more : (old mid new : List ℕ) (first count word : ℕ) → AreWords old mid (64 * first) (64 * count) word → AreWords mid new (64 * (first + count)) 64 word → AreWords old new (64 * first) (64 * (count + 1)) word
-groups-more old mid new first count word a w = record {
-  len = w.len ∙ a.len;
-  inside = λ i l u. elim (cases_lt i (64 * (first + count))) [
-    | inl less ↦ w.below i less ∙ a.inside i l (omega arith)
-    | inr more ↦ w.inside i more (omega arith)
-  ];
-  below = λ i l. w.below i (omega arith) ∙ a.below i l;
-  above = λ i l. w.above i (omega arith) ∙ a.above i (omega arith);
-}
-
 pub words-as : (old new : List ℕ) (first count first' count' word : ℕ) → first ≡ first' → count ≡ count' → AreWords old new first count word → AreWords old new first' count' word
 words-as old new first count first' count' word e f a = subst (λ n. AreWords old new n count' word) e (subst (λ n. AreWords old new first n word) f a)
+
+-- parts of as many words as `size` says
+pub parts-more : (old mid new : List ℕ) (size first count word : ℕ) → AreWords old mid (size * first) (size * count) word → AreWords mid new (size * (first + count)) size word → AreWords old new (size * first) (size * (count + 1)) word
+parts-more old mid new size first count word a w =
+    let more = words-as mid new (size * (first + count)) size (size * first + size * count) size word (mul-add size first count) refl w in
+    words-as old new (size * first) (size * count + size) (size * first) (size * (count + 1)) word refl (omega (arith, mul-add size count 1)) (words-join old mid new (size * first) (size * count) size word a more)
+
+pub part-one : (old new : List ℕ) (size at word : ℕ) → size ≡ 1 → IsWord old new at word → AreWords old new (size * at) size word
+part-one old new size at word e w = words-as old new at 1 (size * at) size word (rw e (omega arith)) (sym e) (word-one old new at word w)

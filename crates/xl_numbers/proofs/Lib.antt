@@ -1,3 +1,4 @@
 mod BitLemmas
 mod LevelLemmas
 mod FlagLemmas
+mod ViewLemmas

@@ -1,7 +1,7 @@
 //! Bits in words, on three levels: a word of the second has a bit for each of 64 words of the first,
 //! and a word of the third a bit for each of 64 words of the second. The third has few words.
 
-ghost use Rattle.std.specs.Prelude.{ℕ, ◌≡◌, ◌<◌, ◌≤◌, ◌+◌, ◌*◌, ◌/◌, ◌^◌, ◌==◌, length, slice_index, IfSome, IfNone, IsTrue, ◌↔◌};
+ghost use Rattle.std.specs.Prelude.{ℕ, ◌≡◌, ◌<◌, ◌≤◌, ◌+◌, ◌*◌, ◌/◌, ◌^◌, ◌==◌, length, slice_index, IfSome, IfNone, IsTrue, ◌↔◌, ◌⊎◌};
 ghost use Rattle.xl_numbers.specs.Bits.{bit_of, IsStack, IsFirstWord, IsFirstBit, IsPut, IsWord, AreWords, AreOnes, NoWord, IsAlike};
 
 /// The first word that isn't 0.
@@ -146,8 +146,9 @@ fn put_group(low: &mut [u64], middle: &mut [u64], top: &mut [u64], group: usize,
     }
 }
 
-/// Writes the same word to as many groups of 64 words of a set as `count` says.
-fn put_groups(
+/// Writes the same word to as many parts of a set as `count` says. A part has `SIZE` words: the 64
+/// that one word stands above, or one word.
+fn put_parts<const SIZE: usize>(
     low: &mut [u64],
     middle: &mut [u64],
     top: &mut [u64],
@@ -156,31 +157,17 @@ fn put_groups(
     word: u64,
 )
     requires stack { IsStack low.old middle.old top.old }
-    requires within { 64 * (first + count) ≤ length low.old }
+    requires size { (SIZE ≡ 64) ⊎ (SIZE ≡ 1) }
+    requires within { SIZE * (first + count) ≤ length low.old }
     ensures stack { IsStack low.new middle.new top.new }
-    ensures words { AreWords low.old low.new (64 * first) (64 * count) word }
+    ensures words { AreWords low.old low.new (SIZE * first) (SIZE * count) word }
 {
     for i in 0..count {
-        put_group(low, middle, top, first + i, word);
-    }
-}
-
-/// Writes the same word to as many words of a set as `count` says, one by one.
-fn put_each(
-    low: &mut [u64],
-    middle: &mut [u64],
-    top: &mut [u64],
-    first: usize,
-    count: usize,
-    word: u64,
-)
-    requires stack { IsStack low.old middle.old top.old }
-    requires within { first + count ≤ length low.old }
-    ensures stack { IsStack low.new middle.new top.new }
-    ensures words { AreWords low.old low.new first count word }
-{
-    for i in 0..count {
-        put_word(low, middle, top, first + i, word);
+        if SIZE == 64 {
+            put_group(low, middle, top, first + i, word);
+        } else {
+            put_word(low, middle, top, first + i, word);
+        }
     }
 }
 
@@ -199,9 +186,9 @@ pub(crate) fn put_words(
     ensures words { AreWords low.old low.new first count word }
 {
     if first % 64 == 0 && count % 64 == 0 {
-        put_groups(low, middle, top, first / 64, count / 64, word);
+        put_parts::<64>(low, middle, top, first / 64, count / 64, word);
     } else {
-        put_each(low, middle, top, first, count, word);
+        put_parts::<1>(low, middle, top, first, count, word);
     }
 }
 

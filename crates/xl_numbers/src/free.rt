@@ -71,6 +71,15 @@ impl FreeNumbers {
         self.count as usize
     }
 
+    /// The lowest free number.
+    #[inline(always)]
+    fn lowest(&self) -> Option<usize>
+        ensures some { IfSome result (IsLowest self.now) }
+        ensures none { IfNone result (HasNone self.now) }
+    {
+        lowest(&self.low, &self.middle, &self.top)
+    }
+
     /// Takes the lowest free number. None exactly where no number is free; then nothing changes.
     pub fn take(&mut self) -> Option<usize>
         ensures lowest { IfSome result (IsLowest self.old) }
@@ -78,10 +87,10 @@ impl FreeNumbers {
         ensures none { IfNone result (HasNone self.old) }
         ensures unchanged { IfNone result (self.new ≡ self.old) }
     {
-        match lowest(&self.low, &self.middle, &self.top) {
-            Some(number) => {
-                drop_number(&mut self.low, &mut self.middle, &mut self.top, number);
-                Some(number)
+        match self.lowest() {
+            Some(least) => {
+                self.take_out(least);
+                Some(least)
             }
             None => None,
         }
@@ -117,6 +126,7 @@ impl FreeNumbers {
     }
 
     /// Makes a free number taken.
+    #[inline(always)]
     fn take_out(&mut self, number: usize)
         requires { slice_index_or self.old number false ≡ true }
         ensures { self.new ≡ slice_set self.old number false }
@@ -156,9 +166,6 @@ impl FreeNumbers {
         ensures some { OnTrue result ((number : ℕ) × IsLowest self.now number) }
         ensures none { OnFalse result (HasNone self.now) }
     {
-        match lowest(&self.low, &self.middle, &self.top) {
-            Some(_) => true,
-            None => false,
-        }
+        self.lowest().is_some()
     }
 }

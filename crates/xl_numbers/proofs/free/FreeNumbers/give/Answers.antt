@@ -1,37 +1,22 @@
-use Rattle.std.proofs.Common.{◌≡◌, sym, ap, ◌∙◌, subst, ℕ, ◌<◌, Bool, true, List, length, slice_set, arith}
-use Rattle.std.specs.Vec.{with_items}
-use Rattle.std.proofs.lemmas.List.{with_items_is}
-use Rattle.xl_numbers.specs.Bits.{bit_of, flags, IsSet, IsPut}
-use Rattle.xl_numbers.proofs.FlagLemmas.{length-flags, free-put, set-put}
+use Rattle.std.proofs.Common.{ap, length, ◌∙◌, arith}
+use Rattle.xl_numbers.proofs.ViewLemmas.{below-count, put-seen, put-kept}
 use Rattle.xl_numbers.proofs.free.FreeNumbers.give.Goals as goal
 
 pub put_number-requires-clause-within : goal.put_number-requires-clause-within
 put_number-requires-clause-within c =
-    let s = c.self.inside in
-    let few : length c.args.self.now ≡ s.count = sym (ap (λ (bs : List Bool). length bs) c.self.view_is) ∙ length-flags (bit_of s.low.items) s.count in
-    let same : length c.deref_mut.result.now ≡ length s.low.items = ap (λ (ws : List ℕ). length ws) c.deref_mut.ensures.value in
+    let less = below-count _ _ _ c.args.number c.self.view_is c.requires in
     let room = c.self.invariant.room in
-    omega (arith, c.requires)
+    rw c.deref_mut.ensures.value (omega arith)
 
 pub returns : goal.returns
 returns c =
     let s = c.self.inside in
-    let few : length c.args.self.now ≡ s.count = sym (ap (λ (bs : List Bool). length bs) c.self.view_is) ∙ length-flags (bit_of s.low.items) s.count in
-    let within : c.args.number < s.count = omega (arith, c.requires) in
-    let N : List ℕ = c.put_number.new.low in
-    let put : IsPut s.low.items N c.args.number 1 = subst (λ ws. IsPut ws N c.args.number 1) c.deref_mut.ensures.value c.put_number.ensures.put in
-    let items : (with_items s.low N).items ≡ N = with_items_is s.low N (put.len ∙ sym s.low.ok.0) in
-    ap (λ ws. flags (bit_of ws) s.count) items ∙ free-put s.low.items N s.count c.args.number 1 within put ∙ ap (λ (bs : List Bool). slice_set bs c.args.number true) c.self.view_is
+    let less = below-count _ _ _ c.args.number c.self.view_is c.requires in
+    put-seen s.low s.count _ c.self.view_is c.args.number 1 less (rw c.deref_mut.ensures.value at c.put_number.ensures.put)
 
 pub invariant_of-self : goal.invariant_of-self
 invariant_of-self c =
     let s = c.self.inside in
-    let few : length c.args.self.now ≡ s.count = sym (ap (λ (bs : List Bool). length bs) c.self.view_is) ∙ length-flags (bit_of s.low.items) s.count in
-    let within : c.args.number < s.count = omega (arith, c.requires) in
-    let N : List ℕ = c.put_number.new.low in
-    let M : List ℕ = c.put_number.new.middle in
-    let put : IsPut s.low.items N c.args.number 1 = subst (λ ws. IsPut ws N c.args.number 1) c.deref_mut.ensures.value c.put_number.ensures.put in
-    let low : (with_items s.low N).items ≡ N = with_items_is s.low N (put.len ∙ sym s.low.ok.0) in
-    let middle : (with_items s.middle M).items ≡ M = with_items_is s.middle M (let l = ap (λ (ws : List ℕ). length ws) c.deref_mut-2.ensures.value in let o = s.middle.ok.0 in omega arith) in
-    let made = set-put s.count s.low.items s.middle.items s.top N M c.put_number.new.top c.args.number 1 c.self.invariant c.put_number.ensures.stack put within in
-    subst (λ ws. IsSet s.count ws (with_items s.middle M).items c.put_number.new.top) (sym low) (subst (λ ws. IsSet s.count N ws c.put_number.new.top) (sym middle) made)
+    let less = below-count _ _ _ c.args.number c.self.view_is c.requires in
+    let same = c.put_number.auto.middle ∙ ap length c.deref_mut-2.ensures.value in
+    put-kept s.low s.middle c.args.number 1 c.self.invariant less same c.put_number.ensures.stack (rw c.deref_mut.ensures.value at c.put_number.ensures.put)

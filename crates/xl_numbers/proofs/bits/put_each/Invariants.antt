@@ -1,5 +1,0 @@
-use Rattle.xl_numbers.specs.Bits.{IsStack, AreWords}
-use Rattle.xl_numbers.proofs.bits.put_each.Given as goal
-
-abbrev pub invariant-loop-i : goal.invariant-loop-i
-invariant-loop-i l = IsStack l.low l.middle l.top × AreWords l.fn.low l.low l.first l.i l.word

@@ -1,0 +1,6 @@
+use Rattle.std.proofs.Common.{◌*◌}
+use Rattle.xl_numbers.specs.Bits.{IsStack, AreWords}
+use Rattle.xl_numbers.proofs.bits.put_parts.Given as goal
+
+abbrev pub invariant-loop-i : goal.invariant-loop-i
+invariant-loop-i g l = IsStack l.low l.middle l.top × AreWords l.fn.low l.low (g.row.SIZE * l.first) (g.row.SIZE * l.i) l.word
