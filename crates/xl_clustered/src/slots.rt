@@ -5,15 +5,16 @@ ghost use Rattle.xl_model.specs.Walks.{chain_reads};
 ghost use Rattle.xl_model.specs.declared.address.Order.TheVariants as orders;
 ghost use Rattle.xl_chain.specs.Held.{tags_of};
 ghost use Rattle.xl_tagged.specs.Forms.{Sixteen, values_under, word_at};
-ghost use Rattle.xl_tagged.specs.Slots.{found_in, first_found, found_from, order_loads, NoneLarge, walk_loads, loaded_more};
+ghost use Rattle.xl_tagged.specs.Slots.{found_in, first_found, found_from, order_loads, large_loads, bare_walk, NoneLarge, walk_loads, loaded_more, small_told};
+ghost use Rattle.xl_model.specs.Structures.{walk_told};
 ghost use Rattle.xl_tagged.specs.Steps.{IsPut, IsSet, IsTaken, given_word};
 ghost use Rattle.xl_tagged.specs.Tagged.{AreSized};
 ghost use Rattle.xl_clustered.specs.Blocks.{AreBlocks, IsFull};
 
 use crate::block::{new_block, rewrite};
 use xl_chain::{Chains, Seek};
-use xl_model::{Full, Leaf, Order, Perm};
-use xl_tagged::{give_perm, leaf_read, slot_of, tag_of};
+use xl_model::{Full, Leaf, Order, Perm, QuickWalk, Walk};
+use xl_tagged::{give_perm, leaf_read, slot_of, small_read, tag_of};
 
 /// Puts a word into an empty slot: into the block of its tag, or into a new block where there is none.
 pub(crate) fn put(chains: &mut Chains<17>, tag: u64, slot: usize, word: u64) -> Result<(), Full>
@@ -190,20 +191,58 @@ pub(crate) fn look_from(
     }
 }
 
-/// The leaf of a page, with loads: the orders are tried from the smallest on, the next one also where
-/// the page's slot is empty.
-pub(crate) fn walk_all(chains: &mut Chains<17>, space: u16, page: u64) -> Option<Leaf>
+/// Searches for the leaf of 4 KiB of a page, with loads: its frame (times 16) and its permission.
+#[inline(always)]
+fn probe_small(chains: &mut Chains<17>, space: u16, page: u64) -> Option<u64>
     requires space_in { space < 64 }
     requires page_in { page < 2 ^ 45 }
     requires sized { AreSized Sixteen chains.old.held }
-    ensures leaf { result ≡ first_found Sixteen space page (values_under chains.old.held) }
+    ensures leaf { small_told space page result ≡
+        found_in Sixteen space page (values_under chains.old.held) orders.K4 }
+    ensures after { chains.new ≡
+        loaded_more (order_loads Sixteen space page chains.old orders.K4) chains.old }
+{
+    let slot = slot_of(16, Order::K4, page);
+    let word = probe_in(chains, tag_of(16, space, Order::K4, page), slot);
+    small_read(space, page, word)
+}
+
+/// The leaf of a page among those above 4 KiB, with loads.
+#[inline(never)]
+fn probe_large(chains: &mut Chains<17>, space: u16, page: u64) -> Option<Leaf>
+    requires space_in { space < 64 }
+    requires page_in { page < 2 ^ 45 }
+    requires sized { AreSized Sixteen chains.old.held }
+    ensures leaf { result ≡ found_from Sixteen space page (values_under chains.old.held) orders.M2 }
+    ensures after { chains.new ≡ loaded_more (large_loads Sixteen space page chains.old) chains.old }
+{
+    match probe(chains, space, Order::M2, page) {
+        Some(leaf) => Some(leaf),
+        None => probe(chains, space, Order::G1, page),
+    }
+}
+
+/// The walk of a page, with loads: the orders are tried from the smallest on, the next one also where
+/// the page's slot is empty. A leaf of 4 KiB comes as its word.
+#[inline(always)]
+pub(crate) fn walk_all(chains: &mut Chains<17>, space: u16, page: u64) -> QuickWalk
+    requires space_in { space < 64 }
+    requires page_in { page < 2 ^ 45 }
+    requires sized { AreSized Sixteen chains.old.held }
+    ensures walk { walk_told space page result ≡
+        bare_walk (first_found Sixteen space page (values_under chains.old.held)) }
     ensures after { chains.new ≡ loaded_more (walk_loads Sixteen space page chains.old) chains.old }
 {
-    match probe(chains, space, Order::K4, page) {
-        Some(leaf) => Some(leaf),
-        None => match probe(chains, space, Order::M2, page) {
-            Some(leaf) => Some(leaf),
-            None => probe(chains, space, Order::G1, page),
+    match probe_small(chains, space, page) {
+        Some(word) => QuickWalk::Small {
+            word,
+            cache_hits: 0,
+        },
+        None => QuickWalk::Any {
+            walk: Walk {
+                leaf: probe_large(chains, space, page),
+                cache_hits: 0,
+            },
         },
     }
 }

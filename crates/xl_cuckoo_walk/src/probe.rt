@@ -2,14 +2,17 @@
 
 ghost use Rattle.std.specs.Prelude.{◌≡◌, ◌+◌, ◌*◌, ◌/◌, ◌^◌, ◌<◌};
 ghost use Rattle.xl_model.specs.Addresses.{pages_of};
+ghost use Rattle.xl_model.specs.declared.address.Order.TheVariants as order_is;
 ghost use Rattle.xl_model_lemmas.specs.Entries.{or_leaf};
+ghost use Rattle.xl_tagged.specs.Slots.{small_told};
+ghost use Rattle.xl_cuckoo_walk.specs.declared.plan.Plan.TheVariants as plan_is;
 ghost use Rattle.xl_cuckoo_walk.specs.Plans.{IsIn, value_by, probed, leaf_said_by};
 
 use crate::plan::Plan;
 use xl_cuckoo::Cuckoo;
 use xl_model::{Leaf, Order};
 use xl_sections::section;
-use xl_tagged::leaf_read;
+use xl_tagged::{leaf_read, small_read};
 
 /// Probes as planned.
 #[inline(always)]
@@ -56,6 +59,24 @@ pub(crate) fn probe_order<const D: usize>(
 {
     let word = probe_by(table, plan, section(space, page, order));
     read(order, space, page, word)
+}
+
+/// The leaf of 4 KiB of a page, probed in every way: its frame (times 16) and its permission.
+#[inline(always)]
+#[tactic(auto, unfolding(crate::specs::Plans::leaf_said_by))]
+pub(crate) fn probe_small<const D: usize>(
+    table: &mut Cuckoo<D>,
+    space: u16,
+    page: u64,
+) -> Option<u64>
+    requires space_in { space < 64 }
+    requires page_in { page < 2 ^ 45 }
+    ensures found { small_told space page result ≡ leaf_said_by order_is.K4 space page
+        (value_by plan_is.Every (space * 2 ^ 45 + page / pages_of order_is.K4) table.old.ways) }
+    ensures after { table.new ≡ probed plan_is.Every table.old }
+{
+    let word = probe_by(table, Plan::Every, section(space, page, Order::K4))?;
+    small_read(space, page, word)
 }
 
 /// Counts the loads of a probe as planned, whose answer isn't wanted.

@@ -1,26 +1,48 @@
 //! The walk.
 
 ghost use Rattle.std.specs.Prelude.{◌≡◌};
-ghost use Rattle.xl_model.specs.Structures.{IsPage, IsWalk};
+ghost use Rattle.xl_model.specs.Structures.{IsPage, IsWalk, walk_told};
+ghost use Rattle.xl_tagged.specs.Slots.{small_told};
 ghost use Rattle.xl_cuckoo_walk.specs.Parts.{IsRow, row_state};
 
 use crate::fill::{fill_if, fills_middle, one_hit};
 use crate::parts::Parts;
 use crate::plan::{Hits, Plan, planned};
-use crate::probe::{probe_next, probe_order};
+use crate::probe::{probe_next, probe_order, probe_small};
 use crate::sole::{Sole, sole_of};
-use xl_model::{Order, Walk};
+use xl_model::{Order, QuickWalk, Walk};
 use xl_pte::words_read_back;
 use xl_sections::section;
 
-/// The walk of a page. Where its sections are in front of both caches and leave one order alone, no more
-/// than that order is looked at.
+/// The walk of a page whose sections are both cached, that found this leaf of 4 KiB or none.
 #[inline(always)]
-pub(crate) fn walk_page<const D: usize>(parts: &mut Parts<D>, space: u16, page: u64) -> Walk
+fn small_walk(_space: u16, _page: u64, found: Option<u64>) -> QuickWalk
+    ensures { walk_told _space _page result
+        ≡ record { leaf = small_told _space _page found; cache_hits = 2 } }
+{
+    match found {
+        Some(word) => QuickWalk::Small {
+            word,
+            cache_hits: 2,
+        },
+        None => QuickWalk::Any {
+            walk: Walk {
+                leaf: None,
+                cache_hits: 2,
+            },
+        },
+    }
+}
+
+/// The walk of a page. Where its sections are in front of both caches and leave one order alone, no more
+/// than that order is looked at. A leaf of 4 KiB comes as its word then.
+#[inline(always)]
+pub(crate) fn walk_page<const D: usize>(parts: &mut Parts<D>, space: u16, page: u64) -> QuickWalk
     requires whole { IsRow parts.old }
     requires page { IsPage (row_state parts.old).shape space page }
     ensures whole { IsRow parts.new }
-    ensures walks { IsWalk space page (row_state parts.old) result (row_state parts.new) }
+    ensures walks { IsWalk space page (row_state parts.old) (walk_told space page result)
+        (row_state parts.new) }
 {
     words_read_back();
     let middle_key = section(space, page, Order::M2);
@@ -29,20 +51,21 @@ pub(crate) fn walk_page<const D: usize>(parts: &mut Parts<D>, space: u16, page: 
     let large = parts.large_cache.front(large_key);
     match sole_of(middle, large) {
         Sole::Small => {
-            let leaf = probe_order(&mut parts.k4, Plan::Every, Order::K4, space, page);
-            Walk {
-                leaf,
-                cache_hits: 2,
-            }
+            let found = probe_small(&mut parts.k4, space, page);
+            small_walk(space, page, found)
         }
         Sole::Middle(way) => {
             let leaf = probe_order(&mut parts.m2, Plan::At(way), Order::M2, space, page);
-            Walk {
-                leaf,
-                cache_hits: 2,
+            QuickWalk::Any {
+                walk: Walk {
+                    leaf,
+                    cache_hits: 2,
+                },
             }
         }
-        Sole::Unknown => walk_behind(parts, space, page),
+        Sole::Unknown => QuickWalk::Any {
+            walk: walk_behind(parts, space, page),
+        },
     }
 }
 

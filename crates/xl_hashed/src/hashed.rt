@@ -9,7 +9,7 @@ use crate::steps::{add, is_met, leaf_of_page, move_to, set_perm, take_out, walk_
 use std::alloc::Global;
 use std::marker::Model;
 use xl_chain::Chains;
-use xl_model::{Leaf, NoMemory, Order, Perm, Reach, Refused, Structure, Walk, Work};
+use xl_model::{Leaf, NoMemory, Order, Perm, QuickWalk, Reach, Refused, Structure, Walk, Work};
 use xl_phys::Bus;
 use xl_pte::words_read_back;
 use xl_tagged::Smaller;
@@ -102,6 +102,10 @@ impl Structure for Hashed {
     }
 
     fn walk(&mut self, space: u16, page: u64) -> Walk {
+        self.quick_walk(space, page).whole(space, page)
+    }
+
+    fn quick_walk(&mut self, space: u16, page: u64) -> QuickWalk {
         walk_page(&mut self.chains, &self.smaller, space, page)
     }
 

@@ -5,13 +5,14 @@ ghost use Rattle.xl_model.specs.Chains.{has_tag, tag_of as tag_number};
 ghost use Rattle.xl_model.specs.declared.address.Order.TheVariants as orders;
 ghost use Rattle.xl_chain.specs.Held.{tags_of};
 ghost use Rattle.xl_tagged.specs.Forms.{One, values_under, word_at};
-ghost use Rattle.xl_tagged.specs.Slots.{found_in, first_found, found_from, order_loads, NoneLarge, walk_loads, loaded_more};
+ghost use Rattle.xl_tagged.specs.Slots.{found_in, first_found, found_from, order_loads, large_loads, bare_walk, NoneLarge, walk_loads, loaded_more, small_told};
+ghost use Rattle.xl_model.specs.Structures.{walk_told};
 ghost use Rattle.xl_tagged.specs.Steps.{IsPut, IsSet, IsTaken, word_found, given_word};
 ghost use Rattle.xl_tagged.specs.Tagged.{AreSized};
 
 use xl_chain::{Chains, Seek};
-use xl_model::{Full, Leaf, Order, Perm};
-use xl_tagged::{give_perm, leaf_read, tag_of};
+use xl_model::{Full, Leaf, Order, Perm, QuickWalk, Walk};
+use xl_tagged::{give_perm, leaf_read, small_read, tag_of};
 
 /// The word that a search found, 0 where it found none.
 #[inline(always)]
@@ -136,18 +137,54 @@ pub(crate) fn look_from(
     }
 }
 
-/// The leaf of a page, with loads: the orders are tried from the smallest on.
-pub(crate) fn walk_all(chains: &mut Chains<1>, space: u16, page: u64) -> Option<Leaf>
+/// Searches for the leaf of 4 KiB of a page, with loads: its frame (times 16) and its permission.
+#[inline(always)]
+fn probe_small(chains: &mut Chains<1>, space: u16, page: u64) -> Option<u64>
     requires space_in { space < 64 }
     requires page_in { page < 2 ^ 45 }
-    ensures leaf { result ≡ first_found One space page (values_under chains.old.held) }
+    ensures leaf { small_told space page result ≡
+        found_in One space page (values_under chains.old.held) orders.K4 }
+    ensures after { chains.new ≡
+        loaded_more (order_loads One space page chains.old orders.K4) chains.old }
+{
+    let word = word_of(chains.probe(tag_of(1, space, Order::K4, page)));
+    small_read(space, page, word)
+}
+
+/// The leaf of a page among those above 4 KiB, with loads.
+#[inline(never)]
+fn probe_large(chains: &mut Chains<1>, space: u16, page: u64) -> Option<Leaf>
+    requires space_in { space < 64 }
+    requires page_in { page < 2 ^ 45 }
+    ensures leaf { result ≡ found_from One space page (values_under chains.old.held) orders.M2 }
+    ensures after { chains.new ≡ loaded_more (large_loads One space page chains.old) chains.old }
+{
+    match probe(chains, space, Order::M2, page) {
+        Some(leaf) => Some(leaf),
+        None => probe(chains, space, Order::G1, page),
+    }
+}
+
+/// The walk of a page, with loads: the orders are tried from the smallest on. A leaf of
+/// 4 KiB comes as its word.
+#[inline(always)]
+pub(crate) fn walk_all(chains: &mut Chains<1>, space: u16, page: u64) -> QuickWalk
+    requires space_in { space < 64 }
+    requires page_in { page < 2 ^ 45 }
+    ensures walk { walk_told space page result ≡
+        bare_walk (first_found One space page (values_under chains.old.held)) }
     ensures after { chains.new ≡ loaded_more (walk_loads One space page chains.old) chains.old }
 {
-    match probe(chains, space, Order::K4, page) {
-        Some(leaf) => Some(leaf),
-        None => match probe(chains, space, Order::M2, page) {
-            Some(leaf) => Some(leaf),
-            None => probe(chains, space, Order::G1, page),
+    match probe_small(chains, space, page) {
+        Some(word) => QuickWalk::Small {
+            word,
+            cache_hits: 0,
+        },
+        None => QuickWalk::Any {
+            walk: Walk {
+                leaf: probe_large(chains, space, page),
+                cache_hits: 0,
+            },
         },
     }
 }

@@ -3,14 +3,14 @@
 ghost use Rattle.std.specs.Prelude.{◌≡◌, ◌<◌, ◌^◌, false};
 ghost use Rattle.xl_model.specs.Changes.{Insert, Remove, Protect, Relocate, IsNamed};
 ghost use Rattle.xl_model.specs.Mapping.{meets_any, leaf_at_page};
-ghost use Rattle.xl_model.specs.Structures.{IsBlock, IsPage, IsLeafFor, IsChange, IsWalk};
+ghost use Rattle.xl_model.specs.Structures.{IsBlock, IsPage, IsLeafFor, IsChange, IsWalk, walk_told};
 ghost use Rattle.xl_tagged.specs.Forms.{One};
 ghost use Rattle.xl_tagged.specs.Slots.{table_in};
 ghost use Rattle.xl_tagged.specs.Tagged.{IsTagged};
 
 use crate::slots::{give, look, look_all, look_from, put, take, walk_all};
 use xl_chain::Chains;
-use xl_model::{Leaf, Order, Perm, Refused, Walk, Work};
+use xl_model::{Leaf, Order, Perm, QuickWalk, Refused, Work};
 use xl_pte::{leaf_word, words_read_back};
 use xl_tagged::{Smaller, full_table, tag_of};
 
@@ -110,18 +110,21 @@ pub(crate) fn move_to(
 }
 
 /// The walk of a page.
-pub(crate) fn walk_page(chains: &mut Chains<1>, smaller: &Smaller, space: u16, page: u64) -> Walk
+#[inline(always)]
+pub(crate) fn walk_page(
+    chains: &mut Chains<1>,
+    smaller: &Smaller,
+    space: u16,
+    page: u64,
+) -> QuickWalk
     requires whole { IsTagged One chains.old smaller.now }
     requires page { IsPage (table_in One chains.old).shape space page }
     ensures whole { IsTagged One chains.new smaller.now }
-    ensures walks { IsWalk space page (table_in One chains.old) result (table_in One chains.new) }
+    ensures walks { IsWalk space page (table_in One chains.old) (walk_told space page result)
+        (table_in One chains.new) }
 {
     words_read_back();
-    let leaf = walk_all(chains, space, page);
-    Walk {
-        leaf,
-        cache_hits: 0,
-    }
+    walk_all(chains, space, page)
 }
 
 /// The leaf of a page.

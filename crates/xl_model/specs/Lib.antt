@@ -18,6 +18,7 @@ pub mod Shapes
 pub mod Room
 pub mod Caches
 pub mod Walks
+pub mod LeafWords
 pub mod Structures
 pub mod Tlb
 pub mod Tally

@@ -1,5 +1,5 @@
 -- A row of the configuration, as contracts see it, and the rules that it keeps.
-use Rattle.std.specs.Prelude.{ℕ, ◌≡◌, ◌+◌, ◌-◌, ◌*◌, ◌^◌, ◌<◌, ◌≤◌, ◌==◌, Bool, true, false, ◌&&◌, ◌||◌, nat_le, if◌then◌else◌, List, [], ◌∷◌, length, drop, codes}
+use Rattle.std.specs.Prelude.{ℕ, ◌≡◌, ◌+◌, ◌-◌, ◌*◌, ◌≤◌, ◌==◌, Bool, true, false, ◌&&◌, ◌||◌, nat_le, if◌then◌else◌, List, [], ◌∷◌, length, drop}
 use Rattle.std.specs.List.{list_all, list_any}
 use Rattle.xl_model.specs.Addresses.{levels_of}
 use Rattle.xl_model.specs.declared.row.Table.TheVariants as table

@@ -5,6 +5,8 @@ use Rattle.xl_model.specs.declared.leaf.Leaf.{Leaf}
 use Rattle.xl_model.specs.declared.event.Reach.{Reach}
 use Rattle.xl_model.specs.declared.way.Moves.{Moves}
 use Rattle.xl_model.specs.declared.work.NoRoom.TheVariants as why
+use Rattle.xl_model.specs.declared.work.QuickWalk.{QuickWalk}
+use Rattle.xl_model.specs.declared.work.QuickWalk.TheVariants as quick
 use Rattle.xl_model.specs.declared.work.Refused.{Refused}
 use Rattle.xl_model.specs.declared.work.Walk.{Walk}
 use Rattle.xl_model.specs.declared.work.Work.{Work}
@@ -12,6 +14,7 @@ use Rattle.xl_model.specs.Addresses.{pages_of}
 use Rattle.xl_model.specs.Mapping.{leaf_at_page}
 use Rattle.xl_model.specs.Changes.{Change, changed}
 use Rattle.xl_model.specs.Base.{plus}
+use Rattle.xl_model.specs.LeafWords.{small_leaf}
 use Rattle.xl_model.specs.Placing.{no_moves}
 use Rattle.xl_model.specs.Shapes.{Shape, Radix, Chained, Cuckoo, Runs, brought, widened, shape_after, placed_leaf, moves_of, is_placed}
 use Rattle.xl_model.specs.Room.{has_room}
@@ -128,6 +131,11 @@ pub record IsChange (c : Change) (old : TableState) (result : Result Work Refuse
 pub record IsWalk (space page : ℕ) (old : TableState) (result : Walk) (new : TableState) : Type 0 where
   pub answer : result ≡ walk_answer space page old
   pub after : new ≡ table_walked space page old
+
+-- The walk of a page that a quick walk tells.
+abbrev pub walk_told : ℕ → ℕ → QuickWalk → Walk
+walk_told space page (quick.Small word cache_hits) = record { leaf = Some (small_leaf space page word); cache_hits = cache_hits }
+walk_told space page (quick.Any walk) = walk
 
 -- A call answers a fence as the definitions do, and leaves the table that they leave.
 pub record IsFence (to : Reach) (old : TableState) (result : ℕ) (new : TableState) : Type 0 where

@@ -3,13 +3,13 @@
 ghost use Rattle.std.specs.Prelude.{◌≡◌, false};
 ghost use Rattle.xl_model.specs.Mapping.{leaf_at_page, meets_any};
 ghost use Rattle.xl_model.specs.Changes.{Insert, Remove, Protect, Relocate, IsNamed};
-ghost use Rattle.xl_model.specs.Structures.{TableState, IsBlock, IsPage, IsLeafFor, IsChange, IsWalk, IsFence};
+ghost use Rattle.xl_model.specs.Structures.{TableState, IsBlock, IsPage, IsLeafFor, IsChange, IsWalk, walk_told, IsFence};
 
 use crate::address::Order;
 use crate::event::Reach;
 use crate::leaf::Leaf;
 use crate::perm::Perm;
-use crate::work::{Refused, Walk, Work};
+use crate::work::{QuickWalk, Refused, Walk, Work};
 
 /// A table of a row: what holds the leaves of its mapping and answers walks. Contracts see it as its
 /// `table`: the leaves, sorted by space and first page, the shape, the walk caches and the loads.
@@ -60,6 +60,17 @@ pub trait Structure: Drop {
     fn walk(&mut self, space: u16, page: u64) -> Walk
         requires { IsPage (table self.old).shape space page }
         ensures walks { IsWalk space page (table self.old) result (table self.new) };
+
+    /// Does what `walk` does. A leaf of 4 KiB may come as its word, which costs less to put together and
+    /// to go on with.
+    fn quick_walk(&mut self, space: u16, page: u64) -> QuickWalk
+        requires { IsPage (table self.old).shape space page }
+        ensures walks { IsWalk space page (table self.old) (walk_told space page result) (table self.new) }
+    {
+        QuickWalk::Any {
+            walk: self.walk(space, page),
+        }
+    }
 
     /// Removes from the caches what a fence reaches, and tells how many entries left.
     fn fence(&mut self, reach: Reach) -> u64

@@ -1,1 +1,2 @@
 pub mod BitLemmas
+mod SmallLemmas

@@ -1,7 +1,8 @@
 -- What a PTE word says at a level (RISC-V Privileged manual). Bit 0 is V, 1 R, 2 W, 3 X, 4 U; bits 10 to 53
 -- are the PPN. Any of bits 54 to 63 makes a word reserved; bits 5 to 9 are not looked at.
-use Rattle.std.specs.Prelude.{ℕ, ◌*◌, ◌/◌, ◌%◌, ◌^◌, ◌<◌, ◌==◌, Bool, true, false, if◌then◌else◌, IsTrue, refl}
+use Rattle.std.specs.Prelude.{ℕ, ◌*◌, ◌/◌, ◌%◌, ◌^◌, ◌<◌, ◌==◌, ◌≡◌, Bool, true, false, if◌then◌else◌, IsTrue, refl}
 use Rattle.xl_model.specs.Addresses.{is_legal}
+use Rattle.xl_model.specs.LeafWords.{perm_at}
 use Rattle.xl_model.specs.declared.perm.Perm.{Perm}
 use Rattle.xl_pte.specs.declared.word.Pte.{Pte}
 use Rattle.xl_pte.specs.declared.word.Pte.TheVariants.{Invalid, Pointer, Leaf, Reserved, Misaligned}
@@ -47,3 +48,11 @@ IsProper (Leaf frame p) = (frame < 2 ^ 44) × IsTrue (is_legal p.r p.w p.x)
 IsProper Invalid = Unit {0}
 IsProper Reserved = Unit {0}
 IsProper Misaligned = Unit {0}
+
+-- At level 0 a word says a leaf, whose frame and permission are in this word.
+abbrev pub SaysSmall : ℕ → ℕ → Type 0
+SaysSmall word small = decode_of word 0 ≡ Leaf (small / 16) (perm_at small)
+
+-- At level 0 a word says no leaf.
+abbrev pub SaysNone : ℕ → Type 0
+SaysNone word = (frame : ℕ) (p : Perm) → decode_of word 0 ≡ Leaf frame p → ⊥

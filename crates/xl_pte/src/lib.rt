@@ -5,4 +5,4 @@ mod laws;
 mod word;
 
 pub use laws::words_read_back;
-pub use word::{Pte, decode, leaf_word, pointer};
+pub use word::{Pte, decode, leaf_word, pointer, small_word};

@@ -1,8 +1,8 @@
 //! Words and what they say.
 
-ghost use Rattle.std.specs.Prelude.{◌≡◌, ◌≤◌, ◌<◌, ◌^◌};
+ghost use Rattle.std.specs.Prelude.{◌≡◌, ◌≤◌, ◌<◌, ◌^◌, IfSome, IfNone};
 ghost use Rattle.xl_model.specs.Words.{pointer_word, leaf_word as word_of_leaf};
-ghost use Rattle.xl_pte.specs.Decode.{bit as bit_of, pointer_at as pointer_said, leaf_at as leaf_said, decode_of, IsProper};
+ghost use Rattle.xl_pte.specs.Decode.{bit as bit_of, pointer_at as pointer_said, leaf_at as leaf_said, decode_of, IsProper, SaysSmall, SaysNone};
 
 use xl_model::Perm;
 
@@ -96,5 +96,20 @@ pub fn decode(word: u64, level: usize) -> Pte
         (false, false, false) => pointer_at(level, number),
         (false, false, true) => leaf_at(level, number, Perm { r, w, x, u }),
         (true, _, _) => leaf_at(level, number, Perm { r, w, x, u }),
+    }
+}
+
+/// The frame (times 16) and the permission of the leaf that a word of level 0 says: the permission's bits
+/// stand in both words in the same order. None where it says no leaf.
+#[inline(always)]
+pub fn small_word(word: u64) -> Option<u64>
+    ensures some { IfSome result (SaysSmall word) }
+    ensures none { IfNone result (SaysNone word) }
+{
+    let code = word / 2 % 16;
+    if word % 2 == 1 && word >> 54 == 0 && (code % 2 == 1 || code % 8 == 4) {
+        Some(word / 1024 * 16 + code)
+    } else {
+        None
     }
 }

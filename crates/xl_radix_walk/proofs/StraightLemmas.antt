@@ -1,12 +1,12 @@
 -- Steps of the quick walk.
-use Rattle.std.proofs.Common.{◌≡◌, refl, sym, ap, ◌∙◌, subst, ℕ, zero, suc, ◌-◌, ◌<◌, List, slice_index, arith}
+use Rattle.std.proofs.Common.{◌≡◌, refl, sym, ap, ◌∙◌, subst, ℕ, zero, suc, ◌-◌, ◌/◌, ◌<◌, List, slice_index, arith}
 use Rattle.std.specs.Prelude.{Option, None, Some, IfSome}
-use Rattle.xl_model.specs.declared.leaf.Leaf.{Leaf}
-use Rattle.xl_pte.specs.Decode.{decode_of}
+use Rattle.xl_model.specs.LeafWords.{perm_at}
+use Rattle.xl_pte.specs.Decode.{decode_of, SaysSmall}
 use Rattle.xl_pte.specs.declared.word.Pte.TheVariants as pte
 use Rattle.xl_radix.specs.declared.walk_end.WalkEnd.TheVariants as end
 use Rattle.xl_radix.specs.Walk.{place_of, radix_back}
-use Rattle.xl_radix_walk.specs.Quick.{Points, SaysSmall, HasWord, Finds}
+use Rattle.xl_radix_walk.specs.Quick.{Points, HasWord, Finds}
 
 pub steps-on : (words : List ℕ) (level node page word next : ℕ) → 0 < level → HasWord words level node page word → Points word next
     → radix_back words level node page ≡ radix_back words (level - 1) next page
@@ -19,17 +19,17 @@ steps-on words (suc level) node page word next low h points =
     let P : ℕ → Type 0 = λ l. radix_back words (suc level) node page ≡ radix_back words l next page in
     subst P (sym same) (rw (h.0, e) refl)
 
-ends-at : (words : List ℕ) (node space page word : ℕ) (leaf : Leaf) → HasWord words 0 node page word → SaysSmall word space page leaf
-    → radix_back words 0 node page ≡ end.Leaf 0 leaf.frame leaf.perm
+ends-at : (words : List ℕ) (node page word small : ℕ) → HasWord words 0 node page word → SaysSmall word small
+    → radix_back words 0 node page ≡ end.Leaf 0 (small / 16) (perm_at small)
 unfolding radix_back
-ends-at words node space page word leaf h said =
-    let e : decode_of (slice_index words (place_of 0 node page)) 0 ≡ pte.Leaf leaf.frame leaf.perm = ap (λ (w : ℕ). decode_of w 0) (sym h.1) ∙ said.0 in
+ends-at words node page word small h said =
+    let e : decode_of (slice_index words (place_of 0 node page)) 0 ≡ pte.Leaf (small / 16) (perm_at small) = ap (λ (w : ℕ). decode_of w 0) (sym h.1) ∙ said in
     rw (h.0, e) refl
 
 -- at the end of the way down
-pub finds-if : (words : List ℕ) (start from level at space page word : ℕ) (o : Option Leaf) → level ≡ 0 → radix_back words start from page ≡ radix_back words level at page
-    → HasWord words 0 at page word → IfSome o (SaysSmall word space page) → IfSome o (Finds words start from space page)
-finds-if words start from level at space page word None z e h said = tt
-finds-if words start from level at space page word (Some leaf) z e h said =
+pub finds-if : (words : List ℕ) (start from level at page word : ℕ) (o : Option ℕ) → level ≡ 0 → radix_back words start from page ≡ radix_back words level at page
+    → HasWord words 0 at page word → IfSome o (SaysSmall word) → IfSome o (Finds words start from page)
+finds-if words start from level at page word None z e h said = tt
+finds-if words start from level at page word (Some small) z e h said =
     let P : ℕ → Type 0 = λ l. radix_back words start from page ≡ radix_back words l at page in
-    (subst P z e ∙ ends-at words at space page word leaf h said, said.1)
+    subst P z e ∙ ends-at words at page word small h said

@@ -1,6 +1,7 @@
 -- A walk of a row from one of a page's nodes.
-use Rattle.std.proofs.Common.{ℕ, suc, ◌≡◌, ◌+◌, ◌-◌, ◌*◌, ◌%◌, ◌^◌, ◌<◌, is_some, List, [], length, Option, Some, None, refl, ap, sym, ◌∙◌, arith}
-use Rattle.xl_model.specs.Addresses.{level_of}
+use Rattle.std.proofs.Common.{ℕ, suc, ◌≡◌, ◌+◌, ◌-◌, ◌*◌, ◌/◌, ◌%◌, ◌^◌, ◌<◌, is_some, List, [], length, Option, Some, None, refl, ap, sym, ◌∙◌, arith}
+use Rattle.xl_model.specs.declared.address.Order.TheVariants as order
+use Rattle.xl_model.specs.LeafWords.{perm_at, small_leaf}
 use Rattle.xl_model.specs.Base.{one_if, plus}
 use Rattle.xl_model.specs.declared.leaf.Leaf.{Leaf}
 use Rattle.xl_model.specs.Mapping.{leaf_at_page}
@@ -8,31 +9,29 @@ use Rattle.xl_model.specs.Nodes.{up, number_of}
 use Rattle.xl_model.specs.Structures.{IsWalk}
 use Rattle.xl_model.specs.Walks.{start_level, end_level, node_caches_after}
 use Rattle.xl_model.specs.Caches.{Cached}
-use Rattle.xl_radix.specs.declared.walk_end.WalkEnd.TheVariants as end
 use Rattle.xl_radix.specs.Table.{Table}
 use Rattle.xl_radix.specs.Walk.{walk_end, WordsReadBack}
 use Rattle.xl_recency.specs.declared.item.Item.{Item}
 use Rattle.xl_radix_walk.specs.Path.{radix_path}
-use Rattle.xl_radix_walk.specs.Quick.{Finds, small_leaf}
+use Rattle.xl_radix_walk.specs.Quick.{Finds}
 use Rattle.xl_radix_walk.specs.declared.caches.Start.{Start}
 use Rattle.xl_radix_walk.specs.Row.{caches_in, AreNumbered, leaf_told, filled_by, start_or, FillsNone, IsRow, IsStraight, IsWalked, row_of, row_table}
 use Rattle.xl_radix_walk.proofs.DescentLemmas.{walk-path}
 use Rattle.xl_radix_walk.proofs.RowLemmas.{IsStart, WalkedRow, leaf-told, row-walked, row-answer}
 
-pub straight-found : (top start node space page : ℕ) (leaf : Leaf) (t new : Table) → WordsReadBack top t.spaces t.leaves t.nodes t.words → number_of space (suc start) (up (suc start) page) t.nodes ≡ Some node
-    → Finds t.words start node space page leaf → new ≡ record t { loads = (t.loads + (start + 1)) % 2 ^ 64 } → IsStraight top start space page leaf t new
-straight-found top start node space page leaf t new back at finds loads =
-    let told : leaf_told space page (walk_end (leaf_at_page space page t.leaves) (end_level (top - 1) 0 space page t.leaves)) ≡ Some (small_leaf space page leaf.frame leaf.perm) =
-    ap (leaf_told space page) (sym (back.back space page start node at) ∙ finds.0) ∙ small page leaf in
-    let found : leaf_at_page space page t.leaves ≡ Some leaf = sym (leaf-told top t.spaces space page t.leaves t.nodes t.words back) ∙ told ∙ ap Some (sym finds.1) in
-    let level : end_level (top - 1) 0 space page t.leaves ≡ 0 = back.kept.ends space page leaf found ∙ ap (λ (x : Leaf). level_of x.order) finds.1 in
-    record { found = found; level = level; loads = loads }
+pub straight-found : (top start node space page word : ℕ) (t new : Table) → WordsReadBack top t.spaces t.leaves t.nodes t.words → number_of space (suc start) (up (suc start) page) t.nodes ≡ Some node
+    → Finds t.words start node page word → new ≡ record t { loads = (t.loads + (start + 1)) % 2 ^ 64 } → IsStraight top start space page (small_leaf space page word) t new
+straight-found top start node space page word t new back at finds loads =
+    let told : leaf_told space page (walk_end (leaf_at_page space page t.leaves) (end_level (top - 1) 0 space page t.leaves)) ≡ Some (small_leaf space page word) =
+    ap (leaf_told space page) (sym (back.back space page start node at) ∙ finds) ∙ ap small (once page) in
+    let found : leaf_at_page space page t.leaves ≡ Some (small_leaf space page word) = sym (leaf-told top t.spaces space page t.leaves t.nodes t.words back) ∙ told in
+    record { found = found; level = back.kept.ends space page (small_leaf space page word) found; loads = loads }
   where
-    once : (n : ℕ) → n * 1 ≡ n
+    once : (n : ℕ) → n * 1 ≡ n / 1 * 1
     once n = omega arith
 
-    small : (n : ℕ) (x : Leaf) → leaf_told space n (end.Leaf 0 x.frame x.perm) ≡ Some (small_leaf space n x.frame x.perm)
-    small n x = ap (λ (first : ℕ). Some (small_leaf space first x.frame x.perm)) (once n)
+    small : ℕ → Option Leaf
+    small first = Some (record { space = space; first = first; order = order.K4; frame = word / 16; perm = perm_at word })
 
 pub straight-walked : (top start node space page : ℕ) (leaf : Leaf) (t new : Table) (cs : List (Cached Item)) → WordsReadBack top t.spaces t.leaves t.nodes t.words → number_of space (suc start) (up (suc start) page) t.nodes ≡ Some node
     → IsStraight top start space page leaf t new → FillsNone start cs → IsWalked top start space page (Some leaf) t cs new cs

@@ -3,10 +3,9 @@
 ghost use Rattle.std.specs.Prelude.{◌≡◌, ℕ, ◌<◌, ◌≤◌, ◌^◌, List, IfSome};
 ghost use Rattle.xl_pte.specs.Decode.{decode_of};
 ghost use Rattle.xl_radix.specs.Walk.{radix_back};
-ghost use Rattle.xl_radix_walk.specs.Quick.{Points, SaysSmall, Finds, HasWord, AreFirst};
+ghost use Rattle.xl_radix_walk.specs.Quick.{Points, Finds, HasWord, AreFirst};
 
-use xl_model::{Leaf, Order};
-use xl_pte::{Pte, decode};
+use xl_pte::small_word;
 use xl_radix::index_of;
 
 /// The node that a word points to at a level above 0: V is set, and neither R, W nor X is.
@@ -23,31 +22,14 @@ pub(crate) fn pointed(word: u64) -> Option<u64>
     }
 }
 
-/// The leaf that a word of level 0 says, at this page.
+/// The word of the leaf that the walk of a page from `node` of level `start` finds at level 0, over all
+/// words of which these are the first: its frame (times 16) and its permission. None says nothing.
 #[inline(always)]
-fn small_leaf(word: u64, space: u16, page: u64) -> Option<Leaf>
-    ensures { IfSome result (SaysSmall word space page) }
-{
-    match decode(word, 0) {
-        Pte::Leaf { frame, perm } => Some(Leaf {
-            space,
-            first: page,
-            order: Order::K4,
-            frame,
-            perm,
-        }),
-        _ => None,
-    }
-}
-
-/// The leaf that the walk of a page from `node` of level `start` finds at level 0, over all words of
-/// which these are the first. None says nothing.
-#[inline(always)]
-pub fn quick_leaf(words: &[u64], start: usize, node: u64, space: u16, page: u64) -> Option<Leaf>
+pub fn quick_word(words: &[u64], start: usize, node: u64, page: u64) -> Option<u64>
     requires start { start < 5 }
     requires node { node < 2 ^ 44 }
     ensures { (all : List ℕ) → AreFirst words.now all
-        → IfSome result (Finds all start node space page) }
+        → IfSome result (Finds all start node page) }
 {
     let mut level = start;
     let mut at = node;
@@ -55,7 +37,7 @@ pub fn quick_leaf(words: &[u64], start: usize, node: u64, space: u16, page: u64)
         at = pointed(word_at(words, level, at, page)?)?;
         level -= 1;
     }
-    small_leaf(word_at(words, 0, at, page)?, space, page)
+    small_word(word_at(words, 0, at, page)?)
 }
 
 /// The word of a page in a node of this level, where it is one of the first.

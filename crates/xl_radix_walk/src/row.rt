@@ -7,10 +7,11 @@ ghost use Rattle.xl_model.specs.Changes.{Insert, Remove, Protect, Relocate, IsNa
 ghost use Rattle.xl_model.specs.Mapping.{leaf_at_page, meets_any};
 ghost use Rattle.xl_model.specs.Nodes.{up, number_of};
 ghost use Rattle.xl_model.specs.Base.{plus};
+ghost use Rattle.xl_model.specs.LeafWords.{small_leaf};
 ghost use Rattle.xl_model.specs.Rows.{is_width};
 ghost use Rattle.xl_model.specs.Placing.{no_moves};
 ghost use Rattle.xl_model.specs.Walks.{end_level};
-ghost use Rattle.xl_model.specs.Structures.{IsBlock, IsLeafFor, IsPage, IsChange, IsWalk, IsFence, work_of};
+ghost use Rattle.xl_model.specs.Structures.{IsBlock, IsLeafFor, IsPage, IsChange, IsWalk, IsFence, walk_told, work_of};
 ghost use Rattle.xl_radix.specs.Walk.{walk_end};
 ghost use Rattle.xl_radix.specs.Steps.{shape_of};
 ghost use Rattle.xl_radix_walk.specs.Row.{AreNumbered, entries_of, leaf_told, opening_table, purged_caches, refused_for, start_or, IsPath, IsRow, IsStraight, IsWalked, row_of, row_table};
@@ -18,12 +19,12 @@ ghost use Rattle.xl_radix.specs.Walk.{end_of};
 
 use crate::caches::Start;
 use crate::walk_caches::WalkCaches;
-use crate::{quick_leaf, walk};
+use crate::{quick_word, walk};
 use arrayvec::ArrayVec;
 use std::alloc::Global;
 use std::marker::Model;
 use xl_model::{
-    Leaf, NoMemory, NoRoom, NoTable, Order, Perm, Reach, Refused, Structure, Walk, Work,
+    Leaf, NoMemory, NoRoom, NoTable, Order, Perm, QuickWalk, Reach, Refused, Structure, Walk, Work,
 };
 use xl_phys::Bus;
 use xl_pte::Pte;
@@ -103,26 +104,26 @@ fn found_leaf(space: u16, page: u64, end: WalkEnd) -> Option<Leaf>
     }
 }
 
-/// Walks a table's words straight from a node of the page, and counts the loads. None where that
-/// doesn't end at a leaf of 4 KiB; then nothing is counted.
+/// Walks a table's words straight from a node of the page, and counts the loads: the word of the leaf. None
+/// where that doesn't end at a leaf of 4 KiB; then nothing is counted.
 #[inline(always)]
 fn straight<const LEVELS: usize>(
     radix: &mut Radix<LEVELS>,
     from: Start,
-    space: u16,
+    _space: u16,
     page: u64,
-) -> Option<Leaf>
-    requires node { number_of space (suc from.level) (up (suc from.level) page) radix.old.nodes ≡
+) -> Option<u64>
+    requires node { number_of _space (suc from.level) (up (suc from.level) page) radix.old.nodes ≡
         Some from.node }
     requires level { from.level < LEVELS }
-    ensures some { IfSome result (λ leaf.
-        IsStraight LEVELS from.level space page leaf radix.old radix.new) }
+    ensures some { IfSome result (λ word.
+        IsStraight LEVELS from.level _space page (small_leaf _space page word) radix.old radix.new) }
     ensures none { IfNone result (radix.new ≡ radix.old) }
 {
     radix.words_read_back();
-    let leaf = quick_leaf(radix.front(), from.level, from.node, space, page)?;
+    let word = quick_word(radix.front(), from.level, from.node, page)?;
     radix.count_loads(from.level as u64 + 1);
-    Some(leaf)
+    Some(word)
 }
 
 /// Walks a page from one of its nodes, whatever the walk ends with, and fills the caches.
@@ -156,25 +157,29 @@ fn walk_from<const LEVELS: usize>(
     radix: &mut Radix<LEVELS>,
     caches: &mut WalkCaches,
     from: Start,
+    cache_hits: u64,
     space: u16,
     page: u64,
-) -> Option<Leaf>
+) -> QuickWalk
     requires few { length caches.old ≤ 4 }
     requires page { page < 2 ^ 45 }
     requires node { number_of space (suc from.level) (up (suc from.level) page) radix.old.nodes ≡
         Some from.node }
     requires level { from.level < LEVELS }
-    ensures { IsWalked LEVELS from.level space page result radix.old caches.old radix.new
-        caches.new }
+    ensures hits { (walk_told space page result).cache_hits ≡ cache_hits }
+    ensures walked { IsWalked LEVELS from.level space page (walk_told space page result).leaf
+        radix.old caches.old radix.new caches.new }
 {
     radix.words_read_back();
     if caches.fills_none(from.level) {
-        if let Some(leaf) = straight(radix, from, space, page) {
-            return Some(leaf);
+        if let Some(word) = straight(radix, from, space, page) {
+            return QuickWalk::Small { word, cache_hits };
         }
     }
-    let leaf = walk_filling(radix, caches, from, space, page)?;
-    Some(leaf.by_fields())
+    let leaf = walk_filling(radix, caches, from, space, page);
+    QuickWalk::Any {
+        walk: Walk { leaf, cache_hits },
+    }
 }
 
 /// The walk of a page from the lowest node that the caches hold, else from the root.
@@ -184,23 +189,17 @@ fn walk_row<const LEVELS: usize>(
     caches: &mut WalkCaches,
     space: u16,
     page: u64,
-) -> Walk
+) -> QuickWalk
     requires row { IsRow LEVELS (row_of radix.old caches.old) }
     requires page { IsPage (shape_of LEVELS radix.old) space page }
     ensures row { IsRow LEVELS (row_of radix.new caches.new) }
     ensures walks { IsWalk space page (row_table LEVELS (row_of radix.old caches.old))
-        result (row_table LEVELS (row_of radix.new caches.new)) }
+        (walk_told space page result) (row_table LEVELS (row_of radix.new caches.new)) }
 {
     radix.words_read_back();
     match caches.look(space, page) {
-        Some(start) => Walk {
-            leaf: walk_from(radix, caches, start, space, page),
-            cache_hits: 1,
-        },
-        None => Walk {
-            leaf: walk_from(radix, caches, root(LEVELS, space), space, page),
-            cache_hits: 0,
-        },
+        Some(start) => walk_from(radix, caches, start, 1, space, page),
+        None => walk_from(radix, caches, root(LEVELS, space), 0, space, page),
     }
 }
 
@@ -399,6 +398,10 @@ impl<const LEVELS: usize> Structure for RadixRow<LEVELS> {
     }
 
     fn walk(&mut self, space: u16, page: u64) -> Walk {
+        self.quick_walk(space, page).whole(space, page)
+    }
+
+    fn quick_walk(&mut self, space: u16, page: u64) -> QuickWalk {
         walk_row(&mut self.radix, &mut self.caches, space, page)
     }
 

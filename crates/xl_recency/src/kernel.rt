@@ -6,8 +6,8 @@ ghost use Rattle.std.specs.Fn.{FnReturnsAt};
 ghost use Rattle.xl_model.specs.Recency.{purged};
 ghost use Rattle.xl_recency.specs.Lists.{IsTest, IsFirst, AllFail, Touches};
 
-/// Puts the item in front, in place of the one at `at`. The lists are short, so that a loop costs less
-/// than a call that moves memory; and from the last place on, since no item is carried then.
+/// Puts the item in front, in place of the one at `at`. From the last place on: so no item is carried, and
+/// LLVM makes one move of the loop.
 pub(crate) fn put_in_front<T: Copy>(items: &mut [T], at: usize, item: T)
     requires { at < length items.old }
     ensures { items.new ≡ item ∷ remove items.old at }

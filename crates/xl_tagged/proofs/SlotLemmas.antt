@@ -1,8 +1,11 @@
 -- Leaves are read back from their slots, and what is held under tags is known by its leaves.
 use Rattle.std.proofs.Common.{◌≡◌, refl, sym, ap, ◌∙◌, subst, ℕ, zero, suc, ◌+◌, ◌*◌, ◌/◌, ◌%◌, ◌^◌, ◌<◌, true, false, List, [], ◌∷◌, length, ◌==◌, Option, None, Some, inl, inr, ◌⊎◌, ◌≤◌, arith}
+use Rattle.std.specs.Prelude.{IfSome, IfNone}
 use Rattle.std.proofs.lemmas.Bool.Decides.{nat_tests}
 use Rattle.xl_model.specs.declared.address.Order.{Order}
+use Rattle.xl_model.specs.declared.address.Order.TheVariants as order
 use Rattle.xl_model.specs.declared.leaf.Leaf.{Leaf}
+use Rattle.xl_model.specs.declared.perm.Perm.{Perm}
 use Rattle.xl_model.specs.Addresses.{level_of, pages_of}
 use Rattle.xl_model.specs.Chains.{leaf_tag}
 use Rattle.xl_model.specs.Mapping.{leaf_key, with_leaf}
@@ -17,11 +20,12 @@ use Rattle.xl_model_lemmas.proofs.MemberLemmas.{In-left, In-right, In-append}
 use Rattle.xl_model_lemmas.proofs.InsertionLemmas.{In-with, stays-with, same-place}
 use Rattle.xl_model_lemmas.proofs.KeptLemmas.{mapping-sorted, mapping-In}
 use Rattle.xl_model_lemmas.proofs.SortedLemmas.{same-sorted}
-use Rattle.xl_pte.specs.Decode.{decode_of}
+use Rattle.xl_pte.specs.Decode.{decode_of, SaysSmall, SaysNone}
+use Rattle.xl_pte.specs.declared.word.Pte.{Pte}
 use Rattle.xl_pte.specs.declared.word.Pte.TheVariants as pte
 use Rattle.xl_pte.specs.ReadBack.{MadeWordsReadBack}
 use Rattle.xl_tagged.specs.Forms.{Form, group_of, slot_of, word_at}
-use Rattle.xl_tagged.specs.Slots.{leaf_said, leaf_read, leaf_in, leaves_in, leaves_under}
+use Rattle.xl_tagged.specs.Slots.{leaf_said, leaf_read, small_told, leaf_in, leaves_in, leaves_under}
 use Rattle.xl_tagged.specs.Tagged.{IsFit, IsAt, AreHeld}
 use Rattle.xl_tagged.proofs.PlaceLemmas.{slot-low, group-back, number-back, HasParts, tag-parts, IsSamePlace, at-one}
 
@@ -29,6 +33,18 @@ use Rattle.xl_tagged.proofs.PlaceLemmas.{slot-low, group-back, number-back, HasP
 pub none-read : (space : ℕ) (o : Order) (n : ℕ) → leaf_read space o n 0 ≡ None
 unfolding decode_of
 none-read space o n = refl
+
+-- the word of a page's leaf of 4 KiB, read
+pub small-read : (space page word : ℕ) (o : Option ℕ) → IfSome o (SaysSmall word) → IfNone o (SaysNone word) → small_told space page o ≡ leaf_read space order.K4 (page / pages_of order.K4) word
+small-read space page word (Some small) said none = sym (ap (leaf_said space order.K4 (page / pages_of order.K4)) said)
+small-read space page word None said none = go (decode_of word 0) none
+  where
+    go : (d : Pte) → ((frame : ℕ) (p : Perm) → d ≡ pte.Leaf frame p → ⊥) → None ≡ leaf_said space order.K4 (page / pages_of order.K4) d
+    go (pte.Leaf frame p) never = absurd (never frame p refl)
+    go pte.Invalid never = refl
+    go (pte.Pointer node) never = refl
+    go pte.Reserved never = refl
+    go pte.Misaligned never = refl
 
 pub read-leaf : MadeWordsReadBack → (x : Leaf) → IsFit x → leaf_read x.space x.order (x.first / pages_of x.order) (leaf_word x.frame x.perm) ≡ Some x
 read-leaf back x fit =

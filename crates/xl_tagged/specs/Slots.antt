@@ -3,10 +3,12 @@ use Rattle.std.specs.Prelude.{ℕ, zero, suc, ◌≡◌, ◌+◌, ◌*◌, ◌/�
 use Rattle.xl_model.specs.declared.address.Order.{Order}
 use Rattle.xl_model.specs.declared.address.Order.TheVariants as order
 use Rattle.xl_model.specs.declared.leaf.Leaf.{Leaf}
+use Rattle.xl_model.specs.declared.work.Walk.{Walk}
 use Rattle.xl_model.specs.Addresses.{level_of, pages_of}
 use Rattle.xl_model.specs.Base.{plus}
 use Rattle.xl_model.specs.Caches.{NoCaches}
 use Rattle.xl_model.specs.Chains.{tag_of}
+use Rattle.xl_model.specs.LeafWords.{small_leaf}
 use Rattle.xl_model.specs.Shapes.{Chained}
 use Rattle.xl_model.specs.Structures.{TableState}
 use Rattle.xl_model.specs.Walks.{chain_reads}
@@ -31,6 +33,11 @@ leaf_said space o n pte.Misaligned = None
 -- the leaf that a word reads as
 abbrev pub leaf_read : ℕ → Order → ℕ → ℕ → Option Leaf
 leaf_read space o n word = leaf_said space o n (decode_of word (level_of o))
+
+-- the leaf of 4 KiB of a page that has this word, if there is one
+abbrev pub small_told : ℕ → ℕ → Option ℕ → Option Leaf
+small_told space page None = None
+small_told space page (Some word) = Some (small_leaf space page word)
 
 -- the leaf of a slot: the tag tells the order, the space and, with the slot, the number
 unfoldable pub leaf_in : Form → ℕ → ℕ → ℕ → Option Leaf
@@ -101,6 +108,20 @@ abbrev pub walk_loads : Form → ℕ → ℕ → ChainState → ℕ
 walk_loads f space page c =
     loads_by (found_in f space page (values_under c.held) order.K4) (found_in f space page (values_under c.held) order.M2)
     (order_loads f space page c order.K4) (order_loads f space page c order.M2) (order_loads f space page c order.G1)
+
+-- the loads of a search for 2 MiB that finds this, and for 1 GiB where it finds none
+abbrev pub large_by : Option Leaf → ℕ → ℕ → ℕ
+large_by (Some leaf) b c = b
+large_by None b c = b + c
+
+-- the loads of a walk of a page behind the search for 4 KiB
+abbrev pub large_loads : Form → ℕ → ℕ → ChainState → ℕ
+large_loads f space page c =
+    large_by (found_in f space page (values_under c.held) order.M2) (order_loads f space page c order.M2) (order_loads f space page c order.G1)
+
+-- what a walk without caches tells, where it finds this
+abbrev pub bare_walk : Option Leaf → Walk
+bare_walk leaf = record { leaf = leaf; cache_hits = 0 }
 
 -- chains with so many loads more
 abbrev pub loaded_more : ℕ → ChainState → ChainState

@@ -6,5 +6,5 @@
 mod place;
 mod smaller;
 
-pub use place::{full_table, give_perm, leaf_read, slot_of, tag_of};
+pub use place::{full_table, give_perm, leaf_read, slot_of, small_read, tag_of};
 pub use smaller::Smaller;

@@ -6,11 +6,12 @@ ghost use Rattle.xl_model.specs.Chains.{tag_of as tag_number};
 ghost use Rattle.xl_model.specs.Placing.{no_moves};
 ghost use Rattle.xl_model.specs.Structures.{work_of};
 ghost use Rattle.xl_model.specs.declared.work.NoRoom.TheVariants as why;
-ghost use Rattle.xl_tagged.specs.Slots.{leaf_said as said, leaf_read as read};
+ghost use Rattle.xl_tagged.specs.Slots.{leaf_said as said, leaf_read as read, small_told};
+ghost use Rattle.xl_model.specs.declared.address.Order.TheVariants as orders;
 ghost use Rattle.xl_tagged.specs.Steps.{given_word};
 
 use xl_model::{Leaf, NoRoom, Order, Perm, Refused, Work};
-use xl_pte::{Pte, decode, leaf_word};
+use xl_pte::{Pte, decode, leaf_word, small_word};
 
 /// The tag under which a page of this order stands, where each tag has `group` pages: one or sixteen.
 #[inline(always)]
@@ -65,6 +66,15 @@ pub fn leaf_read(space: u16, order: Order, page: u64, word: u64) -> Option<Leaf>
         page / order.pages(),
         decode(word, order.level()),
     )
+}
+
+/// The frame (times 16) and the permission of the leaf of 4 KiB of a page, as the page's word says it; None
+/// where the word says none.
+#[inline(always)]
+pub fn small_read(_space: u16, _page: u64, word: u64) -> Option<u64>
+    ensures { small_told _space _page result ≡ read _space orders.K4 (_page / pages_of orders.K4) word }
+{
+    small_word(word)
 }
 
 /// The word of the frame that a leaf's word names, with this permission.

@@ -9,7 +9,8 @@ use Rattle.xl_model.specs.Base.{plus}
 use Rattle.xl_model.specs.Recency.{touched, with_newest, without_first}
 use Rattle.xl_model.specs.Tally.{counted}
 use Rattle.xl_model.specs.Tlb.{TlbArray, Answer, answer_of, array_hit, array_touched, array_filled, filled_where, filled_below, covers_as, found_as, set_at, where_taken, set_number, takes_order, hits_at, misses_at, fills_array}
-use Rattle.xl_tlb.specs.Fronts.{small_leaf, IsTouch, IsFirstHit, FirstHit, IsSecondHit, SecondHit, IsFrontHit, IsFront, Front}
+use Rattle.xl_tlb.specs.Fronts.{IsTouch, IsFirstHit, FirstHit, IsSecondHit, SecondHit, IsFrontHit, IsFront, Front}
+use Rattle.xl_model.specs.LeafWords.{small_leaf}
 use Rattle.xl_tlb.specs.Hits.{word_touched}
 use Rattle.xl_tlb.specs.Tlbs.{spec_of, NoneBelow, hits_up_to, misses_up_to, IsRising, tlb_of, tlb_looked, Told, told, leaf_told, looked_arrays, looked_by}
 use Rattle.xl_tlb.proofs.LevelLemmas.{first_told as first_one, first_arrays, spec_touched, spec_filled, with_one, more_told, more_arrays}

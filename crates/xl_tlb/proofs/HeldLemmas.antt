@@ -12,7 +12,8 @@ use Rattle.xl_recency.specs.declared.item.Item.{Item}
 use Rattle.xl_recency.specs.Lists.{items_in}
 use Rattle.xl_tlb.specs.declared.coding.Hit.{Hit}
 use Rattle.xl_tlb.specs.Hits.{hit_touched, leaf_hit, word_touched}
-use Rattle.xl_tlb.specs.Coding.{leaf_with, leaves_of}
+use Rattle.xl_tlb.specs.Coding.{leaves_of}
+use Rattle.xl_model.specs.LeafWords.{leaf_with}
 use Rattle.xl_tlb.proofs.DropLemmas.{counted_items}
 
 pub none_held : (n : ℕ) → leaves_in_sets (replicate n []) ≡ 0

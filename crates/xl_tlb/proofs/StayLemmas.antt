@@ -10,8 +10,8 @@ use Rattle.xl_model.specs.declared.row.TlbSpec.{TlbSpec}
 use Rattle.xl_model.specs.Addresses.{pages_of}
 use Rattle.xl_model.specs.Recency.{touched}
 use Rattle.xl_model.specs.Tlb.{TlbArray, Answer, answer_of, array_hit, array_touched, array_filled, arrays_hit, arrays_filled, filled_where, filled_below, with_set, covers_as, set_at, where_taken, set_number, takes_order}
-use Rattle.xl_tlb.specs.Coding.{leaf_with}
-use Rattle.xl_tlb.specs.Fronts.{small_leaf, IsFrontHit, IsFront, Front, HasEights, FrontsStay}
+use Rattle.xl_model.specs.LeafWords.{leaf_with, small_leaf}
+use Rattle.xl_tlb.specs.Fronts.{IsFrontHit, IsFront, Front, HasEights, FrontsStay}
 use Rattle.xl_tlb.specs.Tlbs.{TlbState, spec_of, NoneBelow, leaf_told, looked_arrays, tlb_looked, tlb_filled}
 use Rattle.xl_tlb.proofs.FillLemmas.{hit_set}
 use Rattle.xl_tlb.proofs.TlbLemmas.{specs_hit, specs_filled}

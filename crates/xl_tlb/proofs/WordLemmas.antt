@@ -3,7 +3,7 @@ use Rattle.std.proofs.Common.{◌≡◌, Bool, true, false, not, ◌&&◌, ◌||
 use Rattle.xl_model.specs.declared.address.Kind.{Kind}
 use Rattle.xl_model.specs.declared.address.Kind.TheVariants as kind
 use Rattle.xl_model.specs.Addresses.{allows}
-use Rattle.xl_tlb.specs.Coding.{perm_by}
+use Rattle.xl_model.specs.LeafWords.{perm_by}
 
 -- Without read there is execute, and no write.
 abbrev pub by_bits : Bool → Bool → Bool → Kind → Bool

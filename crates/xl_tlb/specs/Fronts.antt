@@ -1,18 +1,13 @@
 -- A look that a leaf of 4 KiB of the first array answers: it comes to the front of its set, or stands there.
 use Rattle.std.specs.Prelude.{ℕ, suc, ◌≡◌, ◌%◌, List, [], ◌∷◌, map, true, None, Some}
 use Rattle.xl_model.specs.declared.address.Order.TheVariants as order
-use Rattle.xl_model.specs.declared.leaf.Leaf.{Leaf}
 use Rattle.xl_model.specs.Recency.{touched}
 use Rattle.xl_model.specs.Tlb.{TlbArray, array_filled, array_hit, covers_as, found_as, set_at, takes_order}
 use Rattle.xl_tlb.specs.declared.look.Small.{Small}
 use Rattle.xl_tlb.specs.declared.look.Small.TheVariants as small
-use Rattle.xl_tlb.specs.Coding.{leaf_with}
+use Rattle.xl_model.specs.LeafWords.{small_leaf}
 use Rattle.xl_tlb.specs.Hits.{word_touched}
 use Rattle.xl_tlb.specs.Tlbs.{spec_of, NoneBelow}
-
--- The 4 KiB leaf of the space that covers the page, with the frame and permission of the word.
-abbrev pub small_leaf : ℕ → ℕ → ℕ → Leaf
-small_leaf space page word = leaf_with space page order.K4 word
 
 -- The array finds a 4 KiB leaf with this word, which comes to the front of its set.
 pub record IsTouch (space page word : ℕ) (a new : TlbArray) : Type 0 where

@@ -7,7 +7,8 @@ use Rattle.xl_model.specs.Addresses.{level_of}
 use Rattle.xl_model.specs.Ranges.{range_key, holds_page}
 use Rattle.xl_model.specs.Caches.{Cached, reaches_range}
 use Rattle.xl_tlb.specs.declared.range_coding.RangeItem.{RangeItem}
-use Rattle.xl_tlb.specs.Coding.{order_at, perm_code, perm_at}
+use Rattle.xl_tlb.specs.Coding.{order_at}
+use Rattle.xl_model.specs.LeafWords.{perm_code, perm_at}
 
 -- A range that a range TLB can keep: some pages, a space below 64, all pages below 2^52 and all frames
 -- below 2^44.

@@ -1,4 +1,6 @@
-use Rattle.std.proofs.Common.{◌≤◌, None, Some, length, lit<, refl, subst, arith}
+use Rattle.std.proofs.Common.{◌≤◌, None, Some, length, lit<, subst, arith}
+use Rattle.xl_model.specs.declared.work.Walk.{Walk}
+use Rattle.xl_model.specs.Structures.{walk_told}
 use Rattle.xl_radix_walk.specs.declared.caches.Start.{Start}
 use Rattle.xl_radix_walk.specs.Row.{IsWalked}
 use Rattle.xl_radix_walk.proofs.RowLemmas.{IsStart, is-start, page-low, root-at}
@@ -26,17 +28,19 @@ pub returns-in-Some : goal.returns-in-Some
 returns-in-Some g c =
     let root = root-at g.row.LEVELS c.args.radix.now.spaces c.args.space c.args.page c.args.radix.now.leaves c.args.radix.now.nodes c.args.radix.now.words c.words_read_back.ensures c.requires.row.low c.requires.page.page_in c.requires.page.space_in in
     let s : IsStart g.row.LEVELS c.args.space c.args.page c.args.radix.now.nodes c.args.caches.now (Some c.in-Some.start) = is-start g.row.LEVELS c.args.space c.args.page c.args.radix.now.nodes c.args.caches.now (Some c.in-Some.start) c.requires.row.caches c.in-Some.ensures.some c.in-Some.ensures.low tt (c.in-Some.ensures.number c.args.radix.now.nodes c.requires.row.numbered) root in
-    let w : WalkedFrom g.row.LEVELS c.args.space c.args.page c.args.radix.now c.walk_from.new.radix c.args.caches.now c.walk_from.new.caches c.walk_from.result 1 =
-    row-from g.row.LEVELS c.args.space c.args.page c.args.radix.now c.walk_from.new.radix c.args.caches.now c.look.new.self c.walk_from.new.caches (Some c.in-Some.start) c.walk_from.result 1 c.words_read_back.ensures
-    (page-low g.row.LEVELS c.args.page c.requires.row.low c.requires.page.page_in) c.requires.row s c.look.ensures.caches c.look.ensures.length (c.look.ensures.kept c.args.radix.now.nodes c.requires.row.numbered) refl c.walk_from.ensures in
+    let told : Walk = walk_told c.args.space c.args.page c.walk_from.result in
+    let w : WalkedFrom g.row.LEVELS c.args.space c.args.page c.args.radix.now c.walk_from.new.radix c.args.caches.now c.walk_from.new.caches told.leaf told.cache_hits =
+    row-from g.row.LEVELS c.args.space c.args.page c.args.radix.now c.walk_from.new.radix c.args.caches.now c.look.new.self c.walk_from.new.caches (Some c.in-Some.start) told.leaf told.cache_hits c.words_read_back.ensures
+    (page-low g.row.LEVELS c.args.page c.requires.row.low c.requires.page.page_in) c.requires.row s c.look.ensures.caches c.look.ensures.length (c.look.ensures.kept c.args.radix.now.nodes c.requires.row.numbered) c.walk_from.ensures.hits c.walk_from.ensures.walked in
     record { row = w.row; walks = w.walks }
 
 pub returns-in-None : goal.returns-in-None
 returns-in-None g c =
     let root = root-at g.row.LEVELS c.args.radix.now.spaces c.args.space c.args.page c.args.radix.now.leaves c.args.radix.now.nodes c.args.radix.now.words c.words_read_back.ensures c.requires.row.low c.requires.page.page_in c.requires.page.space_in in
     let s : IsStart g.row.LEVELS c.args.space c.args.page c.args.radix.now.nodes c.args.caches.now None = is-start g.row.LEVELS c.args.space c.args.page c.args.radix.now.nodes c.args.caches.now None c.requires.row.caches tt tt c.in-None.ensures.none tt root in
-    let walked = subst (λ (v : Start). IsWalked g.row.LEVELS v.level c.args.space c.args.page c.walk_from-in-None.result c.args.radix.now c.look.new.self c.walk_from-in-None.new.radix c.walk_from-in-None.new.caches) c.root.ensures c.walk_from-in-None.ensures in
-    let w : WalkedFrom g.row.LEVELS c.args.space c.args.page c.args.radix.now c.walk_from-in-None.new.radix c.args.caches.now c.walk_from-in-None.new.caches c.walk_from-in-None.result 0 =
-    row-from g.row.LEVELS c.args.space c.args.page c.args.radix.now c.walk_from-in-None.new.radix c.args.caches.now c.look.new.self c.walk_from-in-None.new.caches None c.walk_from-in-None.result 0 c.words_read_back.ensures
-    (page-low g.row.LEVELS c.args.page c.requires.row.low c.requires.page.page_in) c.requires.row s c.look.ensures.caches c.look.ensures.length (c.look.ensures.kept c.args.radix.now.nodes c.requires.row.numbered) refl walked in
+    let told : Walk = walk_told c.args.space c.args.page c.walk_from-in-None.result in
+    let walked = subst (λ (v : Start). IsWalked g.row.LEVELS v.level c.args.space c.args.page told.leaf c.args.radix.now c.look.new.self c.walk_from-in-None.new.radix c.walk_from-in-None.new.caches) c.root.ensures c.walk_from-in-None.ensures.walked in
+    let w : WalkedFrom g.row.LEVELS c.args.space c.args.page c.args.radix.now c.walk_from-in-None.new.radix c.args.caches.now c.walk_from-in-None.new.caches told.leaf told.cache_hits =
+    row-from g.row.LEVELS c.args.space c.args.page c.args.radix.now c.walk_from-in-None.new.radix c.args.caches.now c.look.new.self c.walk_from-in-None.new.caches None told.leaf told.cache_hits c.words_read_back.ensures
+    (page-low g.row.LEVELS c.args.page c.requires.row.low c.requires.page.page_in) c.requires.row s c.look.ensures.caches c.look.ensures.length (c.look.ensures.kept c.args.radix.now.nodes c.requires.row.numbered) c.walk_from-in-None.ensures.hits walked in
     record { row = w.row; walks = w.walks }

@@ -1,7 +1,7 @@
 use Rattle.std.proofs.Common.{ap, refl, ◌∙◌}
 use Rattle.xl_model.specs.Tlb.{leaves_in_sets}
 use Rattle.xl_tlb.specs.Any.{array_in}
-use Rattle.xl_tlb.specs.Fronts.{small_leaf}
+use Rattle.xl_model.specs.LeafWords.{small_leaf}
 use Rattle.xl_tlb.specs.Tlbs.{spec_of}
 use Rattle.xl_tlb.proofs.LevelLemmas.{spec_filled}
 use Rattle.xl_tlb.proofs.SmallLemmas.{filled-small}

@@ -3,7 +3,8 @@ use Rattle.xl_model.specs.declared.address.Order.TheVariants as order
 use Rattle.xl_model.specs.Tlb.{takes_order, array_filled, set_number}
 use Rattle.xl_recency.specs.declared.item.Item.{Item}
 use Rattle.xl_tlb.specs.Coding.{leaves_of}
-use Rattle.xl_tlb.specs.Fronts.{small_leaf, IsFrontHit}
+use Rattle.xl_tlb.specs.Fronts.{IsFrontHit}
+use Rattle.xl_model.specs.LeafWords.{small_leaf}
 use Rattle.xl_tlb.proofs.FrontLemmas.{fill_front}
 use Rattle.xl_tlb.proofs.HeldLemmas.{filled-held}
 use Rattle.xl_tlb.proofs.FillLemmas.{hit_back, hit_set, filled, not_filled, fill_kept}

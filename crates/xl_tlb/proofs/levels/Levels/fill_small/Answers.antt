@@ -1,5 +1,5 @@
 use Rattle.std.proofs.Common.{◌≡◌, ◌++◌, length, take, drop, sym, ◌∙◌, ap}
-use Rattle.xl_tlb.specs.Fronts.{small_leaf}
+use Rattle.xl_model.specs.LeafWords.{small_leaf}
 use Rattle.xl_tlb.proofs.TlbLemmas.{written, fill_kept, fill_after}
 use Rattle.xl_tlb.proofs.levels.Levels.fill_small.Goals as goal
 

@@ -1,7 +1,7 @@
 use Rattle.std.proofs.Common.{true, ◌≡◌, ◌%◌}
 use Rattle.xl_tlb.specs.Fronts.{FrontsStay}
 use Rattle.xl_tlb.proofs.StayLemmas.{small_fill_stays}
-use Rattle.xl_tlb.proofs.tlb.Tlb.fill_small.Goals as goal
+use Rattle.xl_tlb.proofs.tlb.Tlb.fill_in_front.Goals as goal
 
 pub invariant_of-self : goal.invariant_of-self
 invariant_of-self c =

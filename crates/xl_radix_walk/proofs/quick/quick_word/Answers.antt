@@ -1,6 +1,6 @@
 use Rattle.std.proofs.Common.{◌∙◌, arith}
 use Rattle.xl_radix_walk.proofs.StraightLemmas.{steps-on, finds-if}
-use Rattle.xl_radix_walk.proofs.quick.quick_leaf.Goals as goal
+use Rattle.xl_radix_walk.proofs.quick.quick_word.Goals as goal
 
 pub down-preserved : goal.down-preserved
 down-preserved c = record {
@@ -11,5 +11,5 @@ down-preserved c = record {
 
 pub returns : goal.returns
 returns c all first =
-    finds-if all c.args.start c.args.node c.down.level c.down.at c.args.space c.args.page c.in_ok-word_at-2.field-0 c.small_leaf.result (omega arith)
-    (c.down.invariant.end all first) (c.in_ok-word_at-2.ensures all first) c.small_leaf.ensures
+    finds-if all c.args.start c.args.node c.down.level c.down.at c.args.page c.in_ok-word_at-2.field-0 c.small_word.result (omega arith)
+    (c.down.invariant.end all first) (c.in_ok-word_at-2.ensures all first) c.small_word.ensures.some

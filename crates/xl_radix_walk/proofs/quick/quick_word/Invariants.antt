@@ -1,7 +1,7 @@
 use Rattle.std.proofs.Common.{◌≡◌, ◌≤◌, ◌<◌, ◌^◌, List, ℕ}
 use Rattle.xl_radix.specs.Walk.{radix_back}
 use Rattle.xl_radix_walk.specs.Quick.{AreFirst}
-use Rattle.xl_radix_walk.proofs.quick.quick_leaf.Given as goal
+use Rattle.xl_radix_walk.proofs.quick.quick_word.Given as goal
 
 abbrev pub invariant-down : goal.invariant-down
 invariant-down l = record {
