@@ -1,13 +1,11 @@
 -- What a block that is written makes of the slots.
-use Rattle.std.proofs.Common.{◌≡◌, refl, sym, ap, ◌∙◌, subst, ℕ, ◌+◌, ◌-◌, ◌%◌, ◌^◌, ◌<◌, ◌≤◌, Bool, true, false, cond, not, ◌||◌, List, [], ◌∷◌, map, length, slice_set, slice_index, ◌==◌, Result, Ok, Err, OnOk, OnErr, inl, inr, arith}
+use Rattle.std.proofs.Common.{◌≡◌, refl, sym, ap, ◌∙◌, subst, ℕ, ◌+◌, ◌-◌, ◌<◌, ◌≤◌, Bool, true, false, cond, not, ◌||◌, List, [], ◌∷◌, map, length, slice_set, slice_index, ◌==◌, Result, Ok, Err, OnOk, OnErr, inl, inr, arith}
 use Rattle.std.specs.List.{list_any}
 use Rattle.std.proofs.lemmas.List.{length-map}
 use Rattle.std.proofs.lemmas.Bool.{eq-eqb, eqb-true, ne_eqb}
 use Rattle.xl_model.specs.declared.work.Full.{Full}
 use Rattle.xl_model.specs.declared.perm.Perm.{Perm}
-use Rattle.xl_model.specs.Base.{one_if, plus}
-use Rattle.xl_model.specs.Chains.{has_tag, chain_of, bucket_of, examined}
-use Rattle.xl_model.specs.Walks.{chain_reads}
+use Rattle.xl_model.specs.Chains.{has_tag}
 use Rattle.xl_model.specs.Words.{leaf_word}
 use Rattle.xl_model_lemmas.specs.Members.{In}
 use Rattle.xl_model_lemmas.proofs.MemberLemmas.{map-In, filter-In}
@@ -15,13 +13,13 @@ use Rattle.xl_model_lemmas.proofs.SameLemmas.{both}
 use Rattle.xl_chain.specs.Lines.{AreSingle}
 use Rattle.xl_chain.specs.Kept.{IsInserted}
 use Rattle.xl_chain.specs.declared.shape.Seek.TheVariants as seek
-use Rattle.xl_chain.specs.Held.{Held, ChainState, found_of, loads_after, tags_of, held_with, is_entry, with_value, without_tag, value_of}
+use Rattle.xl_chain.specs.Held.{Held, ChainState, found_of, tags_of, held_with, is_entry, with_value, without_tag}
 use Rattle.xl_tagged.specs.Forms.{Sixteen, values_under, word_at}
 use Rattle.xl_tagged.specs.Tagged.{AreSized}
 use Rattle.xl_tagged.specs.Steps.{IsWritten, IsSameTable, IsPut, IsSet, IsTaken, given_word, word_found}
 use Rattle.xl_tagged.proofs.ChainLemmas.{IsUnderTag, found-under, same-entry, set-by, tags-set, values-without, values-front}
 use Rattle.xl_tagged.proofs.StateLemmas.{held-in, with-there, tag-with}
-use Rattle.xl_tagged.proofs.StepLemmas.{word-first, value-under, absent-values, tag-held, set-here, set-other, len-set, inserted-put, removed-taken}
+use Rattle.xl_tagged.proofs.StepLemmas.{word-first, tag-held, set-here, set-other, len-set, inserted-put, removed-taken}
 use Rattle.xl_clustered.specs.Blocks.{used_in, IsCountedBlock, AreBlocks, IsNewBlock, rewritten, IsFull}
 use Rattle.xl_clustered.proofs.UsedLemmas.{used-more, used-stays, used-less, used-some, used-only, used-single}
 
@@ -241,17 +239,6 @@ pub full-of : (tag : ℕ) (r : Result (Unit {0}) Full) (c : ChainState) → OnEr
 full-of tag (Ok u) c full absent = tt
 full-of tag (Err e) c full absent = record { absent = absent; full = full }
 
--- no word under a tag that isn't held
-pub absent-word : (tag slot : ℕ) (hs : List Held) → has_tag (tags_of hs) tag ≡ false → word_at Sixteen (values_under hs) tag slot ≡ 0
-absent-word tag slot hs absent = ap (λ (vs : List ℕ). slice_index vs (1 + slot)) (absent-values hs tag absent)
-
--- the word of a slot
-pub slot-value : (tag e v slot : ℕ) (hs : List Held) → AreSingle hs → found_of (held_with tag hs) ≡ seek.Found e v → value_of e (slot + 1) hs ≡ word_at Sixteen (values_under hs) tag slot
-slot-value tag e v slot hs s f = value-under tag e v (slot + 1) hs s (found-under tag hs e v f) ∙ ap (slice_index (values_under hs tag)) (turn slot)
-  where
-    turn : (n : ℕ) → n + 1 ≡ 1 + n
-    turn n = omega arith
-
 -- a word with another permission is a leaf's
 pub given-some : (perm : Perm) (word : ℕ) → 0 < given_word perm word
 unfolding leaf_word
@@ -260,20 +247,3 @@ given-some perm word = omega arith
 pub word-some : (frame : ℕ) (perm : Perm) → 0 < leaf_word frame perm
 unfolding leaf_word
 word-some frame perm = omega arith
-
--- the loads of a search that finds the block, and of one that doesn't
-pub loads-found : (tag : ℕ) (c : ChainState) → has_tag (tags_of c.held) tag ≡ true → plus (loads_after tag c) 1 ≡ plus c.loads (chain_reads 16 c.shape.buckets (tags_of c.held) tag)
-loads-found tag c held =
-    sum c.loads (examined tag (chain_of c.shape.buckets (bucket_of c.shape.buckets tag) (tags_of c.held)))
-    ∙ ap (λ b. plus c.loads (1 + (examined tag (chain_of c.shape.buckets (bucket_of c.shape.buckets tag) (tags_of c.held)) + one_if b))) (sym held)
-  where
-    sum : (l n : ℕ) → ((l + (1 + n)) % 2 ^ 64 + 1) % 2 ^ 64 ≡ (l + (1 + (n + 1))) % 2 ^ 64
-    sum l n = omega arith
-
-pub loads-absent : (tag : ℕ) (c : ChainState) → has_tag (tags_of c.held) tag ≡ false → loads_after tag c ≡ plus c.loads (chain_reads 16 c.shape.buckets (tags_of c.held) tag)
-loads-absent tag c held =
-    ap (plus c.loads) (none (examined tag (chain_of c.shape.buckets (bucket_of c.shape.buckets tag) (tags_of c.held))))
-    ∙ ap (λ b. plus c.loads (1 + (examined tag (chain_of c.shape.buckets (bucket_of c.shape.buckets tag) (tags_of c.held)) + one_if b))) (sym held)
-  where
-    none : (n : ℕ) → 1 + n ≡ 1 + (n + 0)
-    none n = omega arith

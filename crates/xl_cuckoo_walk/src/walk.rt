@@ -1,7 +1,7 @@
 //! The walk.
 
 ghost use Rattle.std.specs.Prelude.{◌≡◌};
-ghost use Rattle.xl_model.specs.Structures.{IsPage, IsWalk, walk_told};
+ghost use Rattle.xl_model.specs.Structures.{IsPage, IsWalk, IsQuickWalk, walk_told};
 ghost use Rattle.xl_tagged.specs.Slots.{small_told};
 ghost use Rattle.xl_cuckoo_walk.specs.Parts.{IsRow, row_state};
 
@@ -41,8 +41,7 @@ pub(crate) fn walk_page<const D: usize>(parts: &mut Parts<D>, space: u16, page: 
     requires whole { IsRow parts.old }
     requires page { IsPage (row_state parts.old).shape space page }
     ensures whole { IsRow parts.new }
-    ensures walks { IsWalk space page (row_state parts.old) (walk_told space page result)
-        (row_state parts.new) }
+    ensures walks { IsQuickWalk space page (row_state parts.old) result (row_state parts.new) }
 {
     words_read_back();
     let middle_key = section(space, page, Order::M2);

@@ -3,16 +3,16 @@
 ghost use Rattle.std.specs.Prelude.{◌≡◌, ◌<◌, ◌^◌, false};
 ghost use Rattle.xl_model.specs.Changes.{Insert, Remove, Protect, Relocate, IsNamed};
 ghost use Rattle.xl_model.specs.Mapping.{meets_any, leaf_at_page};
-ghost use Rattle.xl_model.specs.Structures.{IsBlock, IsPage, IsLeafFor, IsChange, IsWalk, walk_told};
+ghost use Rattle.xl_model.specs.Structures.{IsBlock, IsPage, IsLeafFor, IsChange, IsQuickWalk};
 ghost use Rattle.xl_tagged.specs.Forms.{One};
 ghost use Rattle.xl_tagged.specs.Slots.{table_in};
 ghost use Rattle.xl_tagged.specs.Tagged.{IsTagged};
 
-use crate::slots::{give, look, look_all, look_from, put, take, walk_all};
+use crate::slots::{give, put, take};
 use xl_chain::Chains;
 use xl_model::{Leaf, Order, Perm, QuickWalk, Refused, Work};
 use xl_pte::{leaf_word, words_read_back};
-use xl_tagged::{Smaller, full_table, tag_of};
+use xl_tagged::{Smaller, full_table, look, look_all, look_from, tag_of, walk_all};
 
 /// Adds a leaf that no leaf meets.
 pub(crate) fn add(
@@ -120,7 +120,7 @@ pub(crate) fn walk_page(
     requires whole { IsTagged One chains.old smaller.now }
     requires page { IsPage (table_in One chains.old).shape space page }
     ensures whole { IsTagged One chains.new smaller.now }
-    ensures walks { IsWalk space page (table_in One chains.old) (walk_told space page result)
+    ensures walks { IsQuickWalk space page (table_in One chains.old) result
         (table_in One chains.new) }
 {
     words_read_back();

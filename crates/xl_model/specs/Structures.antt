@@ -137,6 +137,10 @@ abbrev pub walk_told : ℕ → ℕ → QuickWalk → Walk
 walk_told space page (quick.Small word cache_hits) = record { leaf = Some (small_leaf space page word); cache_hits = cache_hits }
 walk_told space page (quick.Any walk) = walk
 
+-- A call answers a walk as the definitions do, where a leaf of 4 KiB may come as its word.
+abbrev pub IsQuickWalk : ℕ → ℕ → TableState → QuickWalk → TableState → Type 0
+IsQuickWalk space page old result new = IsWalk space page old (walk_told space page result) new
+
 -- A call answers a fence as the definitions do, and leaves the table that they leave.
 pub record IsFence (to : Reach) (old : TableState) (result : ℕ) (new : TableState) : Type 0 where
   pub answer : result ≡ fence_answer to old

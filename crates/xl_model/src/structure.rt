@@ -3,7 +3,7 @@
 ghost use Rattle.std.specs.Prelude.{◌≡◌, false};
 ghost use Rattle.xl_model.specs.Mapping.{leaf_at_page, meets_any};
 ghost use Rattle.xl_model.specs.Changes.{Insert, Remove, Protect, Relocate, IsNamed};
-ghost use Rattle.xl_model.specs.Structures.{TableState, IsBlock, IsPage, IsLeafFor, IsChange, IsWalk, walk_told, IsFence};
+ghost use Rattle.xl_model.specs.Structures.{TableState, IsBlock, IsPage, IsLeafFor, IsChange, IsWalk, IsQuickWalk, IsFence};
 
 use crate::address::Order;
 use crate::event::Reach;
@@ -65,7 +65,7 @@ pub trait Structure: Drop {
     /// to go on with.
     fn quick_walk(&mut self, space: u16, page: u64) -> QuickWalk
         requires { IsPage (table self.old).shape space page }
-        ensures walks { IsWalk space page (table self.old) (walk_told space page result) (table self.new) }
+        ensures walks { IsQuickWalk space page (table self.old) result (table self.new) }
     {
         QuickWalk::Any {
             walk: self.walk(space, page),

@@ -11,7 +11,7 @@ ghost use Rattle.xl_model.specs.LeafWords.{small_leaf};
 ghost use Rattle.xl_model.specs.Rows.{is_width};
 ghost use Rattle.xl_model.specs.Placing.{no_moves};
 ghost use Rattle.xl_model.specs.Walks.{end_level};
-ghost use Rattle.xl_model.specs.Structures.{IsBlock, IsLeafFor, IsPage, IsChange, IsWalk, IsFence, walk_told, work_of};
+ghost use Rattle.xl_model.specs.Structures.{IsBlock, IsLeafFor, IsPage, IsChange, IsQuickWalk, IsFence, walk_told, work_of};
 ghost use Rattle.xl_radix.specs.Walk.{walk_end};
 ghost use Rattle.xl_radix.specs.Steps.{shape_of};
 ghost use Rattle.xl_radix_walk.specs.Row.{AreNumbered, entries_of, leaf_told, opening_table, purged_caches, refused_for, start_or, IsPath, IsRow, IsStraight, IsWalked, row_of, row_table};
@@ -193,8 +193,8 @@ fn walk_row<const LEVELS: usize>(
     requires row { IsRow LEVELS (row_of radix.old caches.old) }
     requires page { IsPage (shape_of LEVELS radix.old) space page }
     ensures row { IsRow LEVELS (row_of radix.new caches.new) }
-    ensures walks { IsWalk space page (row_table LEVELS (row_of radix.old caches.old))
-        (walk_told space page result) (row_table LEVELS (row_of radix.new caches.new)) }
+    ensures walks { IsQuickWalk space page (row_table LEVELS (row_of radix.old caches.old))
+        result (row_table LEVELS (row_of radix.new caches.new)) }
 {
     radix.words_read_back();
     match caches.look(space, page) {

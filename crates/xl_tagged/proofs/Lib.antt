@@ -7,3 +7,4 @@ pub mod CountLemmas
 pub mod StateLemmas
 pub mod WholeLemmas
 pub mod StepLemmas
+pub mod SearchLemmas

@@ -5,7 +5,8 @@ use Rattle.xl_tagged.specs.Forms.{Sixteen, values_under, word_at}
 use Rattle.xl_tagged.specs.Steps.{IsSet, given_word}
 use Rattle.xl_tagged.proofs.ChainLemmas.{found-under}
 use Rattle.xl_tagged.proofs.StepLemmas.{entry-held, not-held}
-use Rattle.xl_clustered.proofs.BlockLemmas.{IsWrote, wrote, found-count, wrote-set, wrote-blocks, give-count, absent-word, slot-value, given-some}
+use Rattle.xl_tagged.proofs.SearchLemmas.{absent-word, slot-value}
+use Rattle.xl_clustered.proofs.BlockLemmas.{IsWrote, wrote, found-count, wrote-set, wrote-blocks, give-count, given-some}
 use Rattle.xl_clustered.proofs.slots.give.Goals as goal
 
 pub value-word-requires : goal.value-word-requires

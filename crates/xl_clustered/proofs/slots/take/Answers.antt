@@ -6,7 +6,8 @@ use Rattle.xl_tagged.specs.Steps.{IsTaken}
 use Rattle.xl_tagged.proofs.ChainLemmas.{found-under}
 use Rattle.xl_tagged.proofs.StepLemmas.{entry-held, tag-held, not-held}
 use Rattle.xl_clustered.specs.Blocks.{used_in}
-use Rattle.xl_clustered.proofs.BlockLemmas.{IsWrote, wrote, slots_of, found-count, wrote-blocks, wrote-taken, take-count, gone-taken, gone-blocks, absent-word}
+use Rattle.xl_tagged.proofs.SearchLemmas.{absent-word}
+use Rattle.xl_clustered.proofs.BlockLemmas.{IsWrote, wrote, slots_of, found-count, wrote-blocks, wrote-taken, take-count, gone-taken, gone-blocks}
 use Rattle.xl_clustered.proofs.slots.take.Goals as goal
 
 pub rewrite-requires-clause-held : goal.rewrite-requires-clause-held

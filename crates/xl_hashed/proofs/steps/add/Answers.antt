@@ -10,7 +10,8 @@ use Rattle.xl_tagged.specs.Steps.{IsPut}
 use Rattle.xl_tagged.proofs.StateLemmas.{done, no_table}
 use Rattle.xl_tagged.proofs.StepLemmas.{as-put}
 use Rattle.xl_tagged.proofs.WholeLemmas.{IsStep, answered, insert-room, insert-step, insert-refused}
-use Rattle.xl_hashed.proofs.OneLemmas.{slot-one, new-tag}
+use Rattle.xl_tagged.proofs.SearchLemmas.{slot-one}
+use Rattle.xl_hashed.proofs.OneLemmas.{new-tag}
 use Rattle.xl_hashed.proofs.steps.add.Goals as goal
 
 pub put-requires-clause-absent : goal.put-requires-clause-absent

@@ -7,7 +7,7 @@ use Rattle.xl_tagged.specs.Steps.{IsSet, given_word}
 use Rattle.xl_tagged.proofs.StateLemmas.{done}
 use Rattle.xl_tagged.proofs.StepLemmas.{as-given}
 use Rattle.xl_tagged.proofs.WholeLemmas.{IsStep, answered, IsNamedLeaf, named-leaf, named-low, named-has, protect-step}
-use Rattle.xl_hashed.proofs.OneLemmas.{slot-one}
+use Rattle.xl_tagged.proofs.SearchLemmas.{slot-one}
 use Rattle.xl_hashed.proofs.steps.set_perm.Goals as goal
 
 pub tag_of-requires-clause-space_in : goal.tag_of-requires-clause-space_in

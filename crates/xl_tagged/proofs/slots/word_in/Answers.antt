@@ -3,8 +3,8 @@ use Rattle.xl_chain.specs.Held.{ChainState, held_with, found_of}
 use Rattle.xl_chain.specs.declared.shape.Seek.TheVariants as seek
 use Rattle.xl_tagged.proofs.ChainLemmas.{found-under}
 use Rattle.xl_tagged.proofs.StepLemmas.{entry-held, not-held}
-use Rattle.xl_clustered.proofs.BlockLemmas.{absent-word, slot-value}
-use Rattle.xl_clustered.proofs.slots.word_in.Goals as goal
+use Rattle.xl_tagged.proofs.SearchLemmas.{absent-word, slot-value}
+use Rattle.xl_tagged.proofs.slots.word_in.Goals as goal
 
 pub value-requires : goal.value-requires
 value-requires c =

@@ -4,11 +4,11 @@ use Rattle.xl_chain.specs.declared.shape.Seek.TheVariants as seek
 use Rattle.xl_model.specs.Chains.{has_tag}
 use Rattle.xl_tagged.proofs.ChainLemmas.{found-under}
 use Rattle.xl_tagged.proofs.StepLemmas.{entry-held, tag-held, not-held}
-use Rattle.xl_clustered.proofs.BlockLemmas.{absent-word, slot-value, loads-found, loads-absent}
+use Rattle.xl_tagged.proofs.SearchLemmas.{absent-word, slot-value, loads-found, loads-absent}
 use Rattle.xl_tagged.specs.Slots.{loaded_more}
 use Rattle.std.specs.List.{list_any}
 use Rattle.xl_chain.specs.Held.{is_entry, value_of}
-use Rattle.xl_clustered.proofs.slots.probe_in.Goals as goal
+use Rattle.xl_tagged.proofs.slots.probe_in.Goals as goal
 
 pub load_value-requires : goal.load_value-requires
 load_value-requires c =
@@ -18,7 +18,7 @@ load_value-requires c =
       (
         ap (λ (q : ChainState). list_any (is_entry c.in-Found.entry) q.held) c.probe.ensures.after
             ∙ entry-held c.args.tag c.in-Found.entry c.in-Found.value d.held (found-under c.args.tag d.held c.in-Found.entry c.in-Found.value f),
-        omega (arith, c.requires.slot),
+        omega (arith, c.requires),
       ),
     )
 
