@@ -1,7 +1,7 @@
 -- A scan that stops at the first item that meets a test, against `find`, `touched` and `purged`.
 use Rattle.std.proofs.Common.{◌≡◌, ℕ, zero, suc, ◌<◌, Bool, true, false, List, [], ◌∷◌, length, get_or, find, take, Some, None, refl, sym, subst, ◌∙◌, ◌≤◌, ap, arith}
 use Rattle.std.specs.List.{remove}
-use Rattle.std.proofs.lemmas.List.{get_or-take, length-take-le}
+use Rattle.std.proofs.lemmas.List.{get_or-take, get_or_read, length-take-le}
 use Rattle.xl_model.specs.Recency.{without_first, touched}
 use Rattle.xl_recency.specs.Lists.{IsTest, IsFirst, AllFail}
 
@@ -84,4 +84,19 @@ module _ {A : Type 0} (answers : A → Bool → Type 0) (xs : List A) (len end :
     fails = λ k d b.
         let below : k < len = rw (length-take-le len xs fits) at b in
         subst (λ (x : A). answers x false) (same_item k d below) (f.fails k d (rw (length-take-le end xs whole) (omega arith)));
+  }
+
+-- a scan of the items of a list and of what stands behind them
+module _ {A : Type 0} (answers : A → Bool → Type 0) (xs : List A) (len : ℕ) (fits : len ≤ length xs) where
+  pub scanned_first : (at : ℕ) (x : A) → at < len → x ≡ get_or xs at x → answers (get_or xs at x) true → ((k : ℕ) (d : A) → k < at → answers (get_or xs k d) false) → IsFirst answers (take len xs) at
+  scanned_first at x l is meets before = record {
+    meets = λ d. subst (λ (y : A). answers y true) (sym is ∙ get_or_read xs at x (omega arith) is d ∙ sym (get_or-take len xs at d l)) meets;
+    before = λ k d b. subst (λ (y : A). answers y false) (sym (get_or-take len xs k d (omega arith))) (before k d b);
+  }
+
+  pub scanned_none : (at : ℕ) → len ≤ at → ((k : ℕ) (d : A) → k < at → answers (get_or xs k d) false) → AllFail answers (take len xs)
+  scanned_none at l before = record {
+    fails = λ k d b.
+        let below : k < len = rw (length-take-le len xs fits) at b in
+        subst (λ (y : A). answers y false) (sym (get_or-take len xs k d below)) (before k d (omega arith));
   }

@@ -20,6 +20,21 @@ pub(crate) fn put_in_front<T: Copy>(items: &mut [T], at: usize, item: T)
     items[0] = item;
 }
 
+/// Puts the item in front, in place of the one at `at`, by loads and stores: the items on the way are carried
+/// one place on. Where the place is known when the program is built, that costs less than a call.
+#[inline(always)]
+pub(crate) fn carry_in_front<T: Copy>(items: &mut [T], at: usize, item: T)
+    requires { at < length items.old }
+    ensures { items.new ≡ item ∷ remove items.old at }
+{
+    let mut carried = item;
+    for place in 0..at + 1 {
+        let next = items[place];
+        items[place] = carried;
+        carried = next;
+    }
+}
+
 /// The place of the first item that meets the test.
 pub(crate) fn first_place<T, P: Fn(&T) -> bool>(items: &[T], test: &P) -> Option<usize>
     requires { P.IsAlwaysCallable test.now }
@@ -98,6 +113,33 @@ pub(crate) fn touch_at<T: Copy, P: Fn(&T) -> bool>(
         }
         None => None,
     }
+}
+
+/// Brings the first of the first `len` items that meets the test to the front. All slots are looked at, those
+/// behind the items too: a loop of a fixed count is written out, and at each of its ways out the place is known,
+/// so that the items in front of it are carried on without a call.
+#[inline(always)]
+pub(crate) fn touch_first<const W: usize, T: Copy, P: Fn(&T) -> bool>(
+    slots: &mut [T; W],
+    len: usize,
+    test: &P,
+) -> Option<T>
+    requires fits { len ≤ W }
+    requires test { P.IsAlwaysCallable test.now }
+    ensures { (q : _) → IsTest (FnReturnsAt P.Fn test.now) q →
+        Touches q (take len slots.old) (take len slots.new) result }
+{
+    for at in 0..W {
+        if test(&slots[at]) {
+            if at >= len {
+                return None;
+            }
+            let item = slots[at];
+            carry_in_front(&mut slots[..len], at, item);
+            return Some(item);
+        }
+    }
+    None
 }
 
 /// The first item that meets the test, where its place is known.

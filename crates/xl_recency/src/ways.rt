@@ -4,7 +4,7 @@ ghost use Rattle.std.specs.Prelude.{◌≡◌, ◌+◌, ◌<◌, ◌≤◌, [], 
 ghost use Rattle.std.specs.Fn.{FnReturnsAt};
 ghost use Rattle.xl_recency.specs.Lists.{IsTest, Touches, Fills, Purges};
 
-use crate::kernel::{item_at, keep_failing, place_of, put_in_front, touch_at};
+use crate::kernel::{item_at, keep_failing, place_of, put_in_front, touch_at, touch_first};
 use std::alloc::Global;
 use std::marker::Model;
 use xl_model::NoMemory;
@@ -55,6 +55,9 @@ impl<T: Copy, const W: usize> Ways<T, W> {
         requires { P.IsAlwaysCallable test }
         ensures { (q : _) → IsTest (FnReturnsAt P.Fn test) q → Touches q self.old self.new result }
     {
+        if W <= 8 {
+            return touch_first(&mut self.slots, self.len, &test);
+        }
         let place = place_of(&self.slots, self.len, &test);
         touch_at(&mut self.slots[..self.len], place, &test)
     }
