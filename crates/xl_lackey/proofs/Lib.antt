@@ -1,11 +1,12 @@
 mod AccessLemmas
-mod AddressLemmas
+pub mod AddressLemmas
 mod ByteLemmas
 mod LaneLemmas
 mod LongLineLemmas
-mod NearLineLemmas
+pub mod NearLineLemmas
 mod OwnFormLemmas
-mod SkimLemmas
+pub mod SkimLemmas
 mod SplitLemmas
 mod StepLemmas
 mod TableLemmas
+pub mod FirstLineLemmas

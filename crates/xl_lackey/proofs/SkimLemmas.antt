@@ -1,15 +1,16 @@
 -- Records taken one after another.
-use Rattle.std.proofs.Common.{◌≡◌, refl, sym, ap, ap₂, ◌∙◌, ℕ, ◌+◌, ◌≤◌, Bool, List, [], ◌∷◌, ◌++◌, length, map, drop, append_assoc, append-nil, arith, length-append, length-drop}
-use Rattle.std.specs.Prelude.{None, Some}
+use Rattle.std.proofs.Common.{◌≡◌, refl, sym, ap, ap₂, ◌∙◌, ℕ, ◌+◌, ◌%◌, ◌^◌, ◌<◌, List, [], ◌∷◌, ◌++◌, length, map, drop, append_assoc, append-nil, arith, length-append, length-drop}
+use Rattle.std.specs.Prelude.{None}
 use Rattle.std.proofs.lemmas.List.{map-append}
 use Rattle.xl_model.specs.declared.address.Kind.{Kind}
-use Rattle.xl_text.specs.Texts.{lines_by}
+use Rattle.xl_text.specs.Texts.{lines_by, lines_of}
 use Rattle.xl_lackey.specs.declared.skim.Access.{Access}
 use Rattle.xl_lackey.specs.declared.skim.Skim.{Skim}
 use Rattle.xl_lackey.specs.declared.line.Verdict.{Verdict}
 use Rattle.xl_lackey.specs.declared.line.Verdict.TheVariants.{Skipped, Found, Bad}
 use Rattle.xl_lackey.specs.Scans.{IsFirstLine}
-use Rattle.xl_lackey.specs.Skims.{pair, accesses_in, all_accesses, HasAccesses, IsRecordLine, Taken, Skims, Skimmed, with_records}
+use Rattle.xl_lackey.specs.Skims.{pair, accesses_in, all_accesses, HasAccesses, IsRecordLine, Taken, Takes, Skims, Skimmed, with_records}
+use Rattle.xl_lackey.specs.Answers.{with_record}
 use Rattle.xl_lackey.specs.Stream.{Record, Left, State, next_line, records}
 use Rattle.xl_lackey.proofs.SplitLemmas.{IsFirst, first_is, on_from, records_step}
 use Rattle.xl_lackey.proofs.StepLemmas.{left_passed}
@@ -76,3 +77,25 @@ skimmed old new text n xs ys s h a b k e =
 pub skimmed_none : (s : State) (xs : List Access) → Skimmed s s xs xs 0
 unfolding taken_none
 skimmed_none s xs = record { of = taken_none xs; reads = λ last rest m. refl; no_more = omega arith; finished = refl }
+
+-- records taken of a text's lines
+pub takes_none : (n : ℕ) (text : List ℕ) (xs : List Access) → n < 2 ^ 64 → Takes n text text xs xs 0
+unfolding taken_none
+takes_none n text xs h = record {
+  of = taken_none xs;
+  reads = let same : n ≡ (n + 0) % 2 ^ 64 = omega arith in ap (λ (k : ℕ). records k (lines_of text)) same;
+}
+
+pub takes_more : (n : ℕ) (old mid new : List ℕ) (xs ys more : List Access) (count : ℕ) (r : Record) → Takes n old mid xs ys count
+    → records ((n + count) % 2 ^ 64) (lines_of mid) ≡ with_record r (records (next_line ((n + count) % 2 ^ 64)) (lines_of new)) → accesses_in r ≡ map pair more
+    → Takes n old new xs (ys ++ more) (count + 1)
+unfolding taken_more
+takes_more n old mid new xs ys more count r k h e =
+    let m : ℕ = next_line ((n + count) % 2 ^ 64) in
+    let line : m ≡ (n + (count + 1)) % 2 ^ 64 = omega arith in
+    record {
+      of = taken_more xs ys more r count k.of e;
+      reads =
+          k.reads ∙ ap (with_records k.of.taken) h ∙ with_more k.of.taken r (records m (lines_of new))
+          ∙ ap (λ (j : ℕ). with_records (k.of.taken ++ r ∷ []) (records j (lines_of new))) line;
+    }

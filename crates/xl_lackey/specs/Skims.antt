@@ -1,8 +1,8 @@
 -- Records whose bytes lie in one page each, taken together.
-use Rattle.std.specs.Prelude.{◌≡◌, ℕ, ◌<◌, ◌≤◌, Bool, true, false, List, [], ◌∷◌, ◌++◌, length, map, drop}
+use Rattle.std.specs.Prelude.{◌≡◌, ℕ, ◌+◌, ◌%◌, ◌^◌, ◌≤◌, Bool, true, false, List, [], ◌∷◌, ◌++◌, length, map, drop}
 use Rattle.xl_model.specs.declared.address.Kind.{Kind}
 use Rattle.xl_model.specs.declared.address.Kind.TheVariants.{Store}
-use Rattle.xl_text.specs.Texts.{lines_by}
+use Rattle.xl_text.specs.Texts.{lines_by, lines_of}
 use Rattle.xl_lackey.specs.declared.skim.Access.{Access}
 use Rattle.xl_lackey.specs.declared.skim.Near.{Near}
 use Rattle.xl_lackey.specs.declared.skim.Skim.{Skim}
@@ -72,3 +72,8 @@ pub record Skimmed (old new : State) (before after : List Access) (count : ℕ) 
       → left_by last old rest ≡ with_records of.taken (left_by last new rest)
   pub no_more : length new.held ≤ length old.held
   pub finished : new.finished ≡ old.finished
+
+-- So many records were the first of a text's lines, of which `n` came before it, and those of the other lines are left.
+pub record Takes (n : ℕ) (old new : List ℕ) (before after : List Access) (count : ℕ) : Type 0 where
+  pub of : Taken before after count
+  pub reads : records n (lines_of old) ≡ with_records of.taken (records ((n + count) % 2 ^ 64) (lines_of new))

@@ -109,18 +109,15 @@ fn near_record(text: &[u8], from: usize) -> Option<Near>
     record_in_page(verdict, used)
 }
 
-/// Puts the accesses of a record behind those that are there.
+/// Puts the access of a record in one page behind those that are there, and the store behind it where the
+/// record is a modify.
 #[inline(always)]
-fn put_accesses(into: &mut Batch, near: Near)
+pub fn put_accesses(into: &mut Batch, va: u64, kind: Kind, is_modify: bool)
     requires { array_vec_len into.old < 63 }
-    ensures { into.new.items ≡ into.old.items ++ read_of near }
+    ensures { into.new.items ≡ into.old.items ++ accesses_near is_modify va kind }
 {
-    let va = near.va;
-    into.push(Access {
-        va,
-        kind: near.kind,
-    });
-    if near.is_modify {
+    into.push(Access { va, kind });
+    if is_modify {
         into.push(Access {
             va,
             kind: Kind::Store,
@@ -145,7 +142,7 @@ pub(crate) fn skim_lines(text: &[u8], before: u64, into: &mut Batch, most: u64) 
         used += near.used;
         lines = lines.wrapping_add(1);
         taken += 1;
-        put_accesses(into, near);
+        put_accesses(into, near.va, near.kind, near.is_modify);
     }
     Skim { used, lines, taken }
 }

@@ -1,1 +1,2 @@
-mod MadeLemmas
+pub mod MadeLemmas
+pub mod ReadLemmas

@@ -1,20 +1,22 @@
 -- Lines that are made one after another.
-use Rattle.std.proofs.Common.{◌≡◌, refl, ap, ℕ, zero, suc, ◌+◌, ◌-◌, ◌*◌, ◌%◌, ◌<◌, Bool, true, false, nat_lt, List, ◌++◌, length, length-append, arith}
-use Rattle.std.specs.Prelude.{codes, if◌then◌else◌}
+use Rattle.std.proofs.Common.{◌≡◌, refl, ap, ℕ, zero, suc, ◌+◌, ◌-◌, ◌*◌, ◌<◌, List, ◌++◌, length, length-append, arith}
 use Rattle.rand_pcg.specs.Lcg.{Lcg}
 use Rattle.xl_model.specs.Lines.{hex_digits}
-use Rattle.xl_made.specs.Made.{word, after, letter_of, size_of, address_of, record_line, record_lines, with_unmap, with_unmaps}
+use Rattle.xl_lackey.specs.declared.reference.Letter.{Letter}
+use Rattle.xl_lackey.specs.declared.reference.Letter.TheVariants as letter
+use Rattle.xl_lackey.specs.Usual.{usual_front}
+use Rattle.xl_made.specs.Made.{word, after, letter_of, size_of, size_text, address_of, record_line, record_lines, with_unmap, with_unmaps}
 
 -- every line has 14 bytes
+line_by : (l : Letter) (address size : ℕ) → length (usual_front l ++ hex_digits 8 address ++ size_text size) ≡ 14
+line_by letter.I address size = refl
+line_by letter.L address size = refl
+line_by letter.S address size = refl
+line_by letter.M address size = refl
+
 pub line-length : (r : ℕ) → length (record_line r) ≡ 14
-unfolding record_line letter_of size_of
-line-length r = by (nat_lt (r % 8) 3) (nat_lt (r % 8) 6) (nat_lt (r % 8) 7)
-  where
-    by : (a b c : Bool) → length ((if a then codes "I  " else (if b then codes " L " else (if c then codes " S " else codes " M "))) ++ hex_digits 8 (address_of r) ++ (if a then codes ",4\n" else codes ",8\n")) ≡ 14
-    by true b c = refl
-    by false true c = refl
-    by false false true = refl
-    by false false false = refl
+unfolding record_line
+line-length r = line_by (letter_of r) (address_of r) (size_of r)
 
 pub lines-length : (n : ℕ) (g : Lcg) → length (record_lines n g) ≡ n * 14
 lines-length zero g = refl

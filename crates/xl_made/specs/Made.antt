@@ -3,6 +3,9 @@ use Rattle.std.specs.Prelude.{ℕ, zero, suc, ◌+◌, ◌*◌, ◌/◌, ◌%◌
 use Rattle.rand_pcg.specs.Lcg.{Lcg, next, started, increment_of}
 use Rattle.rand_pcg.specs.Pcg.{multiplier_64, output_xsh_rr}
 use Rattle.xl_model.specs.Lines.{hex_digits}
+use Rattle.xl_lackey.specs.declared.reference.Letter.{Letter}
+use Rattle.xl_lackey.specs.declared.reference.Letter.TheVariants as letter
+use Rattle.xl_lackey.specs.Usual.{usual_front}
 
 -- The generator of a stream, begun at 42.
 abbrev pub generator : ℕ → Lcg
@@ -16,15 +19,15 @@ word g = output_xsh_rr g.state
 abbrev pub after : Lcg → Lcg
 after g = next 64 multiplier_64 g
 
--- How a record's line begins, by its word: three fetches, three loads, a store and a modify in eight.
-unfoldable pub letter_of : ℕ → List ℕ
+-- The letter of a record, by its word: three fetches, three loads, a store and a modify in eight.
+unfoldable pub letter_of : ℕ → Letter
 letter_of r =
-    if nat_lt (r % 8) 3 then codes "I  " else
-    (if nat_lt (r % 8) 6 then codes " L " else (if nat_lt (r % 8) 7 then codes " S " else codes " M "))
+    if nat_lt (r % 8) 3 then letter.I else
+    (if nat_lt (r % 8) 6 then letter.L else (if nat_lt (r % 8) 7 then letter.S else letter.M))
 
--- How it ends: 4 bytes for a fetch, 8 for all others.
-unfoldable pub size_of : ℕ → List ℕ
-size_of r = if nat_lt (r % 8) 3 then codes ",4\n" else codes ",8\n"
+-- Its size: 4 bytes for a fetch, 8 for all others.
+unfoldable pub size_of : ℕ → ℕ
+size_of r = if nat_lt (r % 8) 3 then 4 else 8
 
 -- The page of a record: one of the first 64 for three words in four, else one of 4096.
 unfoldable pub page_of : ℕ → ℕ
@@ -34,9 +37,13 @@ page_of r = if nat_lt (r / 2 ^ 28) 12 then r / 8 % 64 else r / 8 % 4096
 unfoldable pub address_of : ℕ → ℕ
 address_of r = 0x10000000 + page_of r * 4096 + r / 2 ^ 15 % 512 * 8
 
--- The line of a record.
+-- How a line ends that has this size.
+abbrev pub size_text : ℕ → List ℕ
+size_text size = codes "," ++ hex_digits 1 size ++ codes "\n"
+
+-- The line of a record, as Lackey writes it.
 unfoldable pub record_line : ℕ → List ℕ
-record_line r = letter_of r ++ hex_digits 8 (address_of r) ++ size_of r
+record_line r = usual_front (letter_of r) ++ hex_digits 8 (address_of r) ++ size_text (size_of r)
 
 -- The lines of so many records.
 abbrev pub record_lines : ℕ → Lcg → List ℕ

@@ -1,15 +1,19 @@
 //! The made trace.
 
-ghost use Rattle.std.specs.Prelude.{◌≡◌, ◌<◌, ◌≤◌, ◌+◌, ◌*◌, ◌++◌, [], length, take};
+ghost use Rattle.std.specs.Prelude.{◌≡◌, ℕ, ◌<◌, ◌≤◌, ◌+◌, ◌*◌, ◌^◌, ◌++◌, true, false, [], length, take, IfSome, IfNone};
+ghost use Rattle.arrayvec.specs.ArrayVec.{array_vec_len};
+ghost use Rattle.xl_lackey.specs.Skims.{Takes};
 ghost use Rattle.xl_made.specs.Made.{made_trace};
+ghost use Rattle.xl_made.specs.Taken.{IsFirst, TakesFirst};
 
-use crate::record::{LINE, line, put};
+use crate::record::{LINE, line, put, put_record, reference};
 use rand_core::utils::NextWord;
 use rand_pcg::Lcg64Xsh32;
 use std::marker::Model;
+use xl_lackey::{Batch, Reference};
 
-/// A trace that is made while it is read, in whole lines. Contracts see the bytes that are still to
-/// come.
+/// A trace that is made while it is read. Contracts see the bytes that are still to come. They come as
+/// text, in whole lines, or as what the lines are read as.
 #[derive(Drop)]
 pub struct MadeTrace {
     generator: Lcg64Xsh32,
@@ -62,5 +66,57 @@ impl MadeTrace {
         let line = line(self.generator.next_word());
         self.left -= 1;
         put(buf, at, &line);
+    }
+
+    /// Takes the next record, as its line is read, which has this number. None at the end.
+    pub fn next(&mut self, line: u64) -> Option<Reference>
+        ensures some { IfSome result (λ r. IsFirst r.letter r.addr r.size self.old self.new) }
+        ensures none { IfNone result (self.old ≡ []) }
+        ensures end { IfNone result (self.new ≡ []) }
+    {
+        if self.left == 0 {
+            return None;
+        }
+        let word = self.generator.next_word();
+        self.left -= 1;
+        Some(reference(word, line))
+    }
+
+    /// Takes the next records, at most so many, as their lines are read, and puts their accesses behind
+    /// those that are there, while there is room for two. Gives how many were taken.
+    #[inline(always)]
+    pub fn skim(&mut self, into: &mut Batch, most: u64) -> u64
+        ensures takes { (n : ℕ) → n < 2 ^ 64
+            → Takes n self.old self.new into.old.items into.new.items result }
+        ensures few { result ≤ most }
+        ensures no_more { length self.new ≤ length self.old }
+    {
+        let mut taken = 0;
+        while taken < most && into.len() < 63 {
+            if !self.put_next(into) {
+                return taken;
+            }
+            taken += 1;
+        }
+        taken
+    }
+
+    /// Takes the next record, and puts its accesses behind those that are there; false at the end, where
+    /// nothing changes.
+    #[inline(always)]
+    fn put_next(&mut self, into: &mut Batch) -> bool
+        requires { array_vec_len into.old < 63 }
+        ensures some { result ≡ true → TakesFirst self.old self.new into.old.items into.new.items }
+        ensures none { result ≡ false → self.new ≡ self.old }
+        ensures still { result ≡ false → into.new.items ≡ into.old.items }
+        ensures no_more { length self.new ≤ length self.old }
+    {
+        if self.left == 0 {
+            return false;
+        }
+        let word = self.generator.next_word();
+        self.left -= 1;
+        put_record(into, word);
+        true
     }
 }

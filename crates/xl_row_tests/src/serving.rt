@@ -224,7 +224,7 @@ fn no_memory_for_json_leaves_what_was_told(rt: HostRuntime) -> Result<(), Fail> 
 fn a_made_trace_has_its_records(rt: HostRuntime) -> Result<(), Fail> {
     let alloc = rt.alloc();
     let mut files = folder(alloc, &[], 0)?;
-    let mut tape = MadeTape::of(alloc, 300)?;
+    let mut tape = MadeTape::of(300);
     for number in 1..=300u64 {
         let next = tape.next(&mut files, "");
         assert!(rt; matches!(next, Ok(Some(record)) if record.number == number));

@@ -10,10 +10,11 @@ use Rattle.xl_model.specs.Courses.{Accesses, Course, Trail, accesses_items, befo
 use Rattle.xl_model.specs.Scenes.{Scene, scene_after, scenes_after}
 use Rattle.xl_model_lemmas.proofs.SceneLemmas.{scene-append}
 use Rattle.xl_lackey.specs.declared.skim.Access.{Access}
-use Rattle.xl_lackey.specs.Skims.{pair, accesses_in, all_accesses, Skimmed, with_records}
-use Rattle.xl_lackey.specs.Stream.{Record, Left, left}
+use Rattle.xl_lackey.specs.Skims.{pair, accesses_in, all_accesses, Takes as TakesLines, Skimmed, with_records}
+use Rattle.xl_lackey.specs.Stream.{Record, Left, left, records}
+use Rattle.xl_text.specs.Texts.{lines_of}
 use Rattle.xl_serving.specs.Skims.{accesses_of_all, Skims}
-use Rattle.xl_serving.specs.Tapes.{IsUnfed, IsWithin, IsFedFrom, IsMadeWhole}
+use Rattle.xl_serving.specs.Tapes.{IsUnfed, IsWithin, IsFedFrom}
 use Rattle.xl_serving.specs.Traces.{Progress, MadeProgress, left_of, made_left, trail, numbered, next_number}
 use Rattle.xl_serving.specs.Batches.{item_of, waited}
 use Rattle.xl_serving.specs.Serving.{HasServed}
@@ -80,24 +81,26 @@ pub skims-file : (file : Option (List ℕ)) (old new : Progress) (before after :
 skims-file None old new before after count below k a m h = skims-unfed old new before after count k a h
 skims-file (Some file) old new before after count below k a m h = skims-fed file old new before after count below k a m h
 
--- what the reader of a made trace skims
-pub skims-made : (old new : MadeProgress) (before after : List Access) (count : ℕ) → old.number < 2 ^ 64 → Skimmed old.reader new.reader before after count → new.rest ≡ old.rest
-    → new.number ≡ (old.number + count) % 2 ^ 64 → IsMadeWhole old → Skims (IsMadeWhole new) (made_left old) (made_left new) before after count
-skims-made old new before after count below k r m whole =
+-- the records that were taken of a made trace
+pub skims-made : (old new : MadeProgress) (before after : List Access) (count : ℕ) → TakesLines old.given old.rest new.rest before after count
+    → new.given ≡ (old.given + count) % 2 ^ 64 → Skims (Unit {0}) (made_left old) (made_left new) before after count
+skims-made old new before after count k m =
     let rs : List Record = k.of.taken in
-    let number = number-on old.number new.number count rs m k.of.many in
+    let number = next_number old.given in
+    let later : Left = records ((old.given + count) % 2 ^ 64) (lines_of new.rest) in
+    let next : (number + length rs) % 2 ^ 64 ≡ next_number new.given = omega (arith, m, k.of.many) in
     record {
-      stands_still = λ h. r ∙ whole (sym k.finished ∙ h);
-      taken = numbered old.number rs;
+      stands_still = tt;
+      taken = numbered number rs;
       got = k.of.got;
       split =
-          ap (λ (l : Left). trail old.number l None) (k.reads true old.rest whole)
-          ∙ trail_on old.number rs (left new.reader old.rest) None below
-          ∙ ap (λ (xs : List ℕ). with_numbered old.number rs (trail ((old.number + length rs) % 2 ^ 64) (left new.reader xs) None)) (sym r)
-          ∙ ap (λ (n : ℕ). with_numbered old.number rs (trail n (left new.reader new.rest) None)) (sym number);
+          ap (λ (l : Left). trail number l None) k.reads
+          ∙ trail_on number rs later None (omega arith)
+          ∙ ap (λ (n : ℕ). with_numbered number rs (trail n later None)) next
+          ∙ ap (λ (n : ℕ). with_numbered number rs (trail (next_number new.given) (records n (lines_of new.rest)) None)) (sym m);
       follow = k.of.follow;
-      each = each-numbered old.number rs ∙ k.of.each;
-      many = many-numbered old.number rs ∙ k.of.many;
+      each = each-numbered number rs ∙ k.of.each;
+      many = many-numbered number rs ∙ k.of.many;
     }
 
 pub skims-none : (stands : Type 0) (t : Trail) (xs : List Access) → stands → Skims stands t t xs xs 0

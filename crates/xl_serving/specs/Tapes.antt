@@ -3,7 +3,7 @@ use Rattle.std.specs.Prelude.{◌≡◌, ℕ, ◌+◌, ◌-◌, ◌≤◌, ◌�
 use Rattle.xl_model.specs.declared.fault.InputFault.{InputFault}
 use Rattle.xl_model.specs.declared.fault.InputFault.TheVariants as fault
 use Rattle.xl_model.specs.Courses.{Trail, at_end}
-use Rattle.xl_lackey.specs.Stream.{State, left, MayCome}
+use Rattle.xl_lackey.specs.Stream.{State, left}
 use Rattle.xl_lackey.specs.Answers.{record_of}
 use Rattle.xl_outside.specs.declared.folder.Unread.{Unread}
 use Rattle.xl_outside.specs.declared.folder.Unread.TheVariants as unread
@@ -11,7 +11,7 @@ use Rattle.xl_outside.specs.Folders.{ReadFate, Fine, ReadFailed, FileMissing}
 use Rattle.xl_serving.specs.declared.trace.TraceStop.{TraceStop}
 use Rattle.xl_serving.specs.declared.trace.TraceStop.TheVariants as why
 use Rattle.xl_serving.specs.declared.trace.Numbered.{Numbered}
-use Rattle.xl_serving.specs.Traces.{Progress, MadeProgress, limit, ahead, left_of, accesses_of, with_record}
+use Rattle.xl_serving.specs.Traces.{Progress, limit, ahead, left_of, accesses_of, with_record}
 
 -- Nothing was fed yet.
 pub record IsUnfed (p : Progress) : Type 0 where
@@ -144,20 +144,3 @@ to_come p = to_come_of p.reader.finished p.at
 -- What is still to be fed or is held: each record takes from it, and nothing adds to it.
 abbrev pub size_of : Progress → ℕ
 size_of p = to_come p + length p.reader.held
-
--- Once the reader of a made trace was told that it ended, no byte is left to be made.
-abbrev pub IsMadeWhole : MadeProgress → Type 0
-IsMadeWhole p = MayCome true p.reader p.rest
-
--- How much is still to be done before the reader of a made trace has all.
-abbrev pub to_make_of : Bool → ℕ → ℕ
-to_make_of true n = 0
-to_make_of false n = n + 1
-
--- The same, of a made trace read so far.
-abbrev pub to_make : MadeProgress → ℕ
-to_make p = to_make_of p.reader.finished (length p.rest)
-
--- What is still to be made or is held: each record takes from it, and nothing adds to it.
-abbrev pub made_size : MadeProgress → ℕ
-made_size p = to_make p + length p.reader.held

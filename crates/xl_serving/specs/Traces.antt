@@ -5,7 +5,8 @@ use Rattle.xl_model.specs.declared.fault.InputFault.TheVariants.{TraceTooLong, T
 use Rattle.xl_model.specs.Courses.{Accesses, Trail, at_end}
 use Rattle.xl_lackey.specs.declared.fault.Fault.{Fault}
 use Rattle.xl_lackey.specs.Accesses.{accesses_at, places}
-use Rattle.xl_lackey.specs.Stream.{Record, Left, State, fresh, left, due}
+use Rattle.xl_lackey.specs.Stream.{Record, Left, State, fresh, left, due, records, records_of}
+use Rattle.xl_text.specs.Texts.{lines_of}
 use Rattle.xl_made.specs.Made.{made_trace}
 
 -- The number of the record after this one. Records are numbered from 1, modulo 2^64.
@@ -69,16 +70,15 @@ trail_of file = left_of file at_first
 abbrev pub with_record : Accesses → Trail → Trail
 with_record r t = record t { records = r ∷ t.records }
 
--- How far a made trace was read: its reader, the bytes that are still to be made, and the number of the next record.
+-- How far a made trace was taken: how many of its records were given, modulo 2^64, and the bytes that are still to come.
 pub record MadeProgress : Type 0 where
-  pub reader : State
+  pub given : ℕ
   pub rest : List ℕ
-  pub number : ℕ
 
--- What is left of a made trace.
+-- What is left of a made trace: what its bytes are read as.
 abbrev pub made_left : MadeProgress → Trail
-made_left p = trail p.number (left p.reader p.rest) None
+made_left p = trail (next_number p.given) (records p.given (lines_of p.rest)) None
 
 -- The records of the made trace of so many.
 abbrev pub made_trail : ℕ → Trail
-made_trail n = made_left (record { reader = fresh; rest = made_trace n; number = 1 })
+made_trail n = trail 1 (records_of (made_trace n)) None

@@ -196,7 +196,7 @@ fn replay_made<R: Rows, F: Folder, K: Sink>(
     ensures goes_on { GoesOn (is_all_put result) (K.outside out.old) (K.outside out.new) }
     ensures met { IfErr result StopIsMet }
 {
-    let mut trace = MadeTape::of(alloc, records)?;
+    let mut trace = MadeTape::of(records);
     replay_over(
         alloc, rows, areas, &mut trace, words, folder, out, "", commands,
     )

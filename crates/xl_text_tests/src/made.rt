@@ -1,6 +1,7 @@
 //! The first lines of a made script and a made trace, as they were worked out by hand.
 
 use std::test::Fail;
+use xl_lackey::Batch;
 use xl_made::{MadeTrace, made_script};
 
 /// The first two words are a15c02b7 and 7b47f409.
@@ -17,6 +18,25 @@ fn the_first_records_are_made_in_pieces(rt: HostRuntime) -> Result<(), Fail> {
         text.as_slice(),
         b" M 100165c0,8\nI  10001478,4\n".as_slice()
     );
+    Ok(())
+}
+
+/// The first is a modify, so two accesses; the second is a fetch.
+#[test]
+fn the_first_records_are_taken_without_their_lines(rt: HostRuntime) -> Result<(), Fail> {
+    let mut trace = MadeTrace::new(2);
+    let first = trace.next(1);
+    assert!(rt;
+        matches!(first, Some(record)
+        if record.addr == 0x1001_65c0 && record.size == 8 && record.line == 1)
+    );
+    let second = trace.next(2);
+    assert!(rt; matches!(second, Some(record) if record.addr == 0x1000_1478 && record.size == 4));
+    assert!(rt; trace.next(3).is_none());
+    let mut trace = MadeTrace::new(2);
+    let mut batch = Batch::new();
+    assert_eq!(rt; trace.skim(&mut batch, 9), 2);
+    assert_eq!(rt; batch.len(), 3);
     Ok(())
 }
 
