@@ -65,15 +65,15 @@ pub(crate) fn range_of(item: &RangeItem) -> Range
     }
 }
 
-/// Whether the item's range holds the page of the space. All is compared, for where a range lies can't be
-/// foretold.
+/// Whether the item's range holds the page of the space. On which side of the page a range begins can't be
+/// foretold, so that is not asked: before a range's first page the difference wraps, and is more than any
+/// number of pages.
 #[tactic(auto, unfolding(crate::specs::RangeCoding::range_of))]
 pub(crate) fn holds(item: &RangeItem, space: u16, page: u64) -> bool
     ensures { result ≡ holds_page space page (range_in item.now) }
 {
     let start = item.tag % (1 << 52);
-    let inside = page.wrapping_sub(start) < item.more / 4;
-    (item.tag >> 52 == space as u64) & (start <= page) & inside
+    item.tag >> 52 == space as u64 && page.wrapping_sub(start) < item.more / 4
 }
 
 /// Whether a fence reaches the item's range.

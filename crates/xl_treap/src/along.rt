@@ -41,8 +41,8 @@ pub(crate) fn examine<B: Bus>(bus: &mut B, node: u32, key: u64) -> Visit
             if !below & (key.wrapping_sub(words[0]) < words[1]) {
                 return Visit::Here(range_in(words[0], words[1], words[2]));
             }
-            let shift = if below { 0 } else { 32 };
-            Visit::Goes(((words[3] >> shift) % (1 << 32)) as u32)
+            let (left, right) = (words[3] % (1 << 32), words[3] >> 32);
+            Visit::Goes((if below { left } else { right }) as u32)
         }
     }
 }
