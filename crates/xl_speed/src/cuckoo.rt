@@ -4,7 +4,7 @@
 ghost use Rattle.std.specs.Prelude.{◌<◌, ◌^◌, IsTrue};
 ghost use Rattle.xl_model.specs.Rows.{is_width};
 
-use crate::tables::{READ, first_of};
+use crate::tables::{READ, told_by};
 use std::alloc::Global;
 use xl_cuckoo_walk::CuckooRow;
 use xl_model::{Leaf, NoMemory, Order, Structure};
@@ -38,15 +38,15 @@ fn row_of(alloc: Global, leaves: u64, order: Order, width: u8) -> Result<CuckooR
     Ok(row)
 }
 
-/// The first page of the leaf that a walk finds, 0 where it finds none.
+/// What a walk of a page tells, 0 where it finds none.
 #[tactic(auto, unfolding(xl_cuckoo_walk::specs::Parts::row_state))]
 fn found(row: &mut CuckooRow<3>, page: u64) -> u64
     requires { page < 2 ^ 45 }
 {
-    first_of(row.walk(0, page))
+    told_by(page, row.quick_walk(0, page))
 }
 
-/// A sum over the first pages of the leaves that walks find in a row with so many leaves of an order and
+/// A sum over what walks tell in a row with so many leaves of an order and
 /// caches of this width. The pages lie so far apart, and are among the first 8,192.
 fn walks(
     alloc: Global,
