@@ -1,20 +1,20 @@
 -- What a command that no rule refuses has shown: its change, the leaf that it names, the place that it takes.
-use Rattle.std.proofs.Common.{◌≡◌, ℕ, ◌*◌, ◌^◌, ◌<◌, Bool, true, false, List, [], ◌∷◌, is_some, Option, None, Some, refl, sym, ap, arith}
+use Rattle.std.proofs.Common.{◌≡◌, ℕ, Bool, true, false, List, None, Some, refl, arith}
 use Rattle.xl_model.specs.declared.address.Order.{Order}
 use Rattle.xl_model.specs.declared.perm.Perm.{Perm}
 use Rattle.xl_model.specs.declared.leaf.Leaf.{Leaf}
 use Rattle.xl_model.specs.declared.event.Event.TheVariants as event
-use Rattle.xl_model.specs.Addresses.{page_of, levels_of, pages_of}
+use Rattle.xl_model.specs.Addresses.{page_of, pages_of}
 use Rattle.xl_model.specs.Mapping.{covers, is_leaf, leaf_at_page, leaf_named}
 use Rattle.xl_model.specs.Frames.{lowest}
 use Rattle.xl_model.specs.Rows.{Row}
-use Rattle.xl_model.specs.Changes.{Change, Insert, Remove, Protect, Relocate, IsNamed}
+use Rattle.xl_model.specs.Changes.{Change, Insert, Remove, Protect, Relocate}
 use Rattle.xl_model.specs.Rules.{rule, change_of, there_rule, named_rule, frames_rule}
-use Rattle.xl_model.specs.Structures.{TableState, IsPage, IsBlock, IsLeafFor}
+use Rattle.xl_model.specs.Structures.{TableState, IsBlock, IsLeafFor}
 use Rattle.xl_model_lemmas.specs.Members.{In}
 use Rattle.xl_model_lemmas.specs.Mappings.{IsMapping, IsLeafOf, IsNewLeaf, IsNewPlace}
 use Rattle.xl_model_lemmas.proofs.MemberLemmas.{find-In}
-use Rattle.xl_model_lemmas.proofs.RuleLemmas.{or-first, or-second, unless-true, has-place, sound-of}
+use Rattle.xl_model_lemmas.proofs.RuleLemmas.{or-first, or-second, unless-true, sound-of}
 use Rattle.xl_model_lemmas.proofs.CoverLemmas.{named-by}
 use Rattle.xl_model.specs.declared.row.Purge.{Purge}
 use Rattle.xl_model.specs.Changes.{changed, old_leaf}
@@ -24,9 +24,7 @@ use Rattle.xl_model_lemmas.specs.Pools.{IsPoolOf}
 use Rattle.xl_model_lemmas.proofs.ChangeLemmas.{stays-changed}
 use Rattle.xl_model_lemmas.proofs.PoolChangeLemmas.{pool-taken}
 use Rattle.xl_tlb.specs.Tlbs.{TlbState, tlb_purged}
-use Rattle.xl_tlb.specs.Arrays.{IsFit}
 use Rattle.xl_machine.specs.Served.{IsRowFor}
-use Rattle.xl_machine.proofs.Accesses.{leaf_fit}
 
 -- the change that each command is
 pub unmap-is : (row : Row) (leaves : List Leaf) (space va : ℕ) (o : Order) → change_of row leaves (event.Unmap space va o) ≡ Some (Remove space (page_of row.mode va) o)
@@ -54,18 +52,18 @@ has-frames row leaves space va o perm r e =
     let m : frames_rule None ≡ None = rw e at k in
     cc
 
--- the space and the named leaf of a command
-pub there-unmap : (row : Row) (leaves : List Leaf) (space va : ℕ) (o : Order) → rule row leaves (event.Unmap space va o) ≡ None → (space < row.spaces) × (there_rule row leaves space va o ≡ None)
+-- a command's address has the named leaf
+pub there-unmap : (row : Row) (leaves : List Leaf) (space va : ℕ) (o : Order) → rule row leaves (event.Unmap space va o) ≡ None → there_rule row leaves space va o ≡ None
 unfolding rule
-there-unmap row leaves space va o r = ((has-place row space o (va ∷ []) (or-first _ _ r)).space_in, or-second _ _ r)
+there-unmap row leaves space va o r = or-second _ _ r
 
-pub there-protect : (row : Row) (leaves : List Leaf) (space va : ℕ) (o : Order) (perm : Perm) → rule row leaves (event.Protect space va o perm) ≡ None → (space < row.spaces) × (there_rule row leaves space va o ≡ None)
+pub there-protect : (row : Row) (leaves : List Leaf) (space va : ℕ) (o : Order) (perm : Perm) → rule row leaves (event.Protect space va o perm) ≡ None → there_rule row leaves space va o ≡ None
 unfolding rule
-there-protect row leaves space va o perm r = ((has-place row space o (va ∷ []) (or-first _ _ r)).space_in, or-second _ _ r)
+there-protect row leaves space va o perm r = or-second _ _ r
 
-pub there-move : (row : Row) (leaves : List Leaf) (space from to : ℕ) (o : Order) → rule row leaves (event.Move space from to o) ≡ None → (space < row.spaces) × (there_rule row leaves space from o ≡ None)
+pub there-move : (row : Row) (leaves : List Leaf) (space from to : ℕ) (o : Order) → rule row leaves (event.Move space from to o) ≡ None → there_rule row leaves space from o ≡ None
 unfolding rule
-there-move row leaves space from to o r = ((has-place row space o (from ∷ to ∷ []) (or-first _ _ r)).space_in, or-first _ _ (or-second _ _ r))
+there-move row leaves space from to o r = or-first _ _ (or-second _ _ r)
 
 -- the new place of a move, and the new leaf of a map
 pub place-move : (row : Row) (leaves : List Leaf) (space from to : ℕ) (o : Order) → rule row leaves (event.Move space from to o) ≡ None → IsNewPlace row leaves space (page_of row.mode to) o
@@ -77,9 +75,6 @@ leaf-map row leaves space va o perm at r e = sound-of row leaves (event.Map spac
 
 -- what a row takes, its table takes
 module _ (row : Row) (table : TableState) (fits : IsRowFor row table) where
-  pub page-for : (space page : ℕ) → space < row.spaces → page < 2 ^ (9 * levels_of row.mode) → IsPage table.shape space page
-  page-for space page s p = let a = fits.spaces_in in let b = fits.pages_in in record { space_in = omega arith; page_in = omega arith }
-
   pub block-for : (space to : ℕ) (o : Order) → IsNewPlace row table.leaves space to o → IsBlock table.shape space to o
   block-for space to o new =
       let a = fits.spaces_in in let b = fits.pages_in in let s = new.space_in in let p = new.pages_in in
@@ -95,34 +90,20 @@ module _ (row : Row) (table : TableState) (fits : IsRowFor row table) where
       }
 
 -- the leaf that covers the page of a command that names one
-module _ (row : Row) (table : TableState) (space va : ℕ) (o : Order) (there : there_rule row table.leaves space va o ≡ None) (mapping : IsMapping row table.leaves) where
-  pub is-covered : (x : Leaf) × (leaf_at_page space (page_of row.mode va) table.leaves ≡ Some x)
-  is-covered = go (leaf_at_page space (page_of row.mode va) table.leaves) refl there
-    where
-      go : (f : Option Leaf) → leaf_at_page space (page_of row.mode va) table.leaves ≡ f → named_rule f space (page_of row.mode va) o ≡ None
-          → (x : Leaf) × (leaf_at_page space (page_of row.mode va) table.leaves ≡ Some x)
-      go None e n = cc
-      go (Some x) e n = (x, e)
+module _ (row : Row) (table : TableState) (space va : ℕ) (o : Order) (there : there_rule row table.leaves space va o ≡ None) (mapping : IsMapping row table.leaves) (old : Leaf)
+    (found : leaf_at_page space (page_of row.mode va) table.leaves ≡ Some old) where
+  member : In old table.leaves
+  unfolding leaf_at_page
+  member = find-In (covers space (page_of row.mode va)) old table.leaves found
 
-  module _ (old : Leaf) (found : Some old ≡ leaf_at_page space (page_of row.mode va) table.leaves) where
-    member : In old table.leaves
-    unfolding leaf_at_page
-    member = find-In (covers space (page_of row.mode va)) old table.leaves (sym found)
+  is-it : is_leaf space (page_of row.mode va) o old ≡ true
+  is-it = let k : named_rule (Some old) space (page_of row.mode va) o ≡ None = rw found at there in unless-true _ _ k
 
-    is-it : is_leaf space (page_of row.mode va) o old ≡ true
-    is-it = let k : named_rule (Some old) space (page_of row.mode va) o ≡ None = rw (← found) at there in unless-true _ _ k
+  pub old-named : leaf_named space (page_of row.mode va) o table.leaves ≡ Some old
+  old-named = named-by row table.leaves space (page_of row.mode va) o old mapping member is-it
 
-    pub named : leaf_named space (page_of row.mode va) o table.leaves ≡ Some old
-    named = named-by row table.leaves space (page_of row.mode va) o old mapping member is-it
-
-    pub is-named : IsNamed space (page_of row.mode va) o table.leaves
-    is-named = ap (λ (f : Option Leaf). is_some f) named
-
-    pub valid : IsLeafOf row old
-    valid = mapping.valid old member
-
-    pub old-fit : IsRowFor row table → IsFit old
-    old-fit fits = leaf_fit row table old fits valid
+  pub old-valid : IsLeafOf row old
+  old-valid = mapping.valid old member
 
 -- the arrays after a purge of the leaf as it stood
 pub purged-is : (purge : Purge) (c : Change) (leaves : List Leaf) (old : Leaf) (tlb next : TlbState) → old_leaf c leaves ≡ Some old → next ≡ tlb_purged purge old tlb

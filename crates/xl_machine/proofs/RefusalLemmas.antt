@@ -1,5 +1,5 @@
 -- The refusals of a machine, by its questions in turn.
-use Rattle.std.proofs.Common.{◌≡◌, refl, subst, ℕ, zero, suc, ◌+◌, ◌-◌, ◌*◌, ◌^◌, ◌<◌, ◌≤◌, Bool, true, false, List, [], ◌∷◌, length, Option, None, Some, arith, slice_index_or}
+use Rattle.std.proofs.Common.{◌≡◌, refl, subst, ℕ, zero, suc, ◌+◌, ◌-◌, ◌*◌, ◌^◌, ◌<◌, ◌≤◌, Bool, true, false, List, [], ◌∷◌, length, Option, None, Some, Result, Ok, Err, IsErrAnd, ap, arith, slice_index_or}
 use Rattle.xl_model.specs.declared.address.Order.{Order}
 use Rattle.xl_model.specs.declared.perm.Perm.{Perm}
 use Rattle.xl_model.specs.declared.leaf.Leaf.{Leaf}
@@ -9,7 +9,7 @@ use Rattle.xl_model.specs.declared.event.Refusal.TheVariants as refused
 use Rattle.xl_model.specs.Addresses.{is_aligned, page_of, pages_of, levels_of}
 use Rattle.xl_model.specs.Frames.{lowest}
 use Rattle.xl_model.specs.Rows.{Row}
-use Rattle.xl_model.specs.Rules.{rule, place_rule, overlap_rule, there_rule, frames_rule}
+use Rattle.xl_model.specs.Rules.{rule, place_rule, overlap_rule, frames_rule}
 use Rattle.xl_model.specs.Structures.{TableState, IsBlock}
 use Rattle.xl_model_lemmas.specs.Lowest.{IsAnswer}
 use Rattle.xl_model_lemmas.specs.Pools.{IsPoolOf as IsPool}
@@ -18,7 +18,7 @@ use Rattle.xl_model_lemmas.proofs.OrderLemmas.{pages-some}
 use Rattle.xl_model_lemmas.proofs.PlaceLemmas.{page-block}
 use Rattle.xl_model_lemmas.proofs.PoolLemmas.{free-of, lowest-none}
 use Rattle.xl_frames.specs.Pool.{IsFree, HasNone}
-use Rattle.xl_machine.specs.Rules.{rule_of}
+use Rattle.xl_machine.specs.Rules.{rule_of, there_of}
 use Rattle.xl_model.specs.Scenes.{Served}
 use Rattle.xl_machine.specs.Served.{IsRowFor}
 use Rattle.xl_model_lemmas.specs.Pools.{IsPoolOf}
@@ -67,6 +67,11 @@ block-in row table space va o fits small aligned =
     let c : page_of row.mode va + pages_of o ≤ 2 ^ (9 * levels_of row.mode) = block.0 in
     record { space_in = omega arith; pages_in = omega arith; aligned = block.1 }
 
+-- a result that has this error is it
+pub is-error : {A E : Type 0} (r : Result A E) (e : E) → IsErrAnd r (λ d. d ≡ e) → r ≡ Err e
+is-error (Ok v) e h = absurd h
+is-error (Err d) e h = ap Err h
+
 -- an answer of a place by a row is that by the machine of the row
 pub place-of : (row : Row) (v : Served) (space : ℕ) (o : Order) (addresses : List ℕ) (p q : Option Refusal) → row ≡ v.row → p ≡ place_rule row space o addresses → p ≡ q
     → place_rule v.row space o addresses ≡ q
@@ -89,25 +94,24 @@ module _ (v : Served) (space : ℕ) (o : Order) where
   map-frames va perm e f = rw (e, f) refl
 
   -- an unmap
-  pub unmap-place : (va : ℕ) (r : Refusal) → place_rule v.row space o (va ∷ []) ≡ Some r → Some r ≡ rule_of (event.Unmap space va o) v
+  pub unmap-place : (va : ℕ) (r : Refusal) → place_rule v.row space o (va ∷ []) ≡ Some r → rule_of (event.Unmap space va o) v ≡ Some r
   unfolding rule
   unmap-place va r e = rw e refl
 
-  pub unmap-there : (va : ℕ) → place_rule v.row space o (va ∷ []) ≡ None → there_rule v.row v.state.table.leaves space va o ≡ rule_of (event.Unmap space va o) v
+  pub unmap-there : (va : ℕ) → place_rule v.row space o (va ∷ []) ≡ None → rule_of (event.Unmap space va o) v ≡ there_of space va o v
   unfolding rule
   unmap-there va e = rw e refl
 
   -- a move
-  pub move-place : (from to : ℕ) (r : Refusal) → place_rule v.row space o (from ∷ to ∷ []) ≡ Some r → Some r ≡ rule_of (event.Move space from to o) v
+  pub move-place : (from to : ℕ) (r : Refusal) → place_rule v.row space o (from ∷ to ∷ []) ≡ Some r → rule_of (event.Move space from to o) v ≡ Some r
   unfolding rule
   move-place from to r e = rw e refl
 
-  pub move-there : (from to : ℕ) (r : Refusal) → place_rule v.row space o (from ∷ to ∷ []) ≡ None → there_rule v.row v.state.table.leaves space from o ≡ Some r
-      → Some r ≡ rule_of (event.Move space from to o) v
+  pub move-there : (from to : ℕ) (r : Refusal) → place_rule v.row space o (from ∷ to ∷ []) ≡ None → there_of space from o v ≡ Some r → rule_of (event.Move space from to o) v ≡ Some r
   unfolding rule
   move-there from to r e f = rw (e, f) refl
 
-  pub move-overlap : (from to : ℕ) → place_rule v.row space o (from ∷ to ∷ []) ≡ None → there_rule v.row v.state.table.leaves space from o ≡ None
-      → overlap_rule v.row v.state.table.leaves space to o ≡ rule_of (event.Move space from to o) v
+  pub move-overlap : (from to : ℕ) → place_rule v.row space o (from ∷ to ∷ []) ≡ None → there_of space from o v ≡ None
+      → rule_of (event.Move space from to o) v ≡ overlap_rule v.row v.state.table.leaves space to o
   unfolding rule
   move-overlap from to e f = rw (e, f) refl

@@ -1,31 +1,51 @@
 -- One event of a machine.
-use Rattle.std.proofs.Common.{◌≡◌, refl, ℕ, None, Some}
+use Rattle.std.proofs.Common.{◌≡◌, refl, sym, subst, ℕ, nat_lt, Option, None, Some}
 use Rattle.xl_model.specs.declared.address.Kind.{Kind}
+use Rattle.xl_model.specs.declared.address.Order.{Order}
+use Rattle.xl_model.specs.declared.perm.Perm.{Perm}
 use Rattle.xl_model.specs.declared.event.Event.{Event}
 use Rattle.xl_model.specs.declared.event.Event.TheVariants as event
 use Rattle.xl_model.specs.declared.event.Scope.{Scope}
 use Rattle.xl_model.specs.declared.event.Outcome.TheVariants as outcome
 use Rattle.xl_model.specs.declared.event.Refusal.{Refusal}
+use Rattle.xl_model.specs.declared.event.Refusal.TheVariants as refused
 use Rattle.xl_model.specs.declared.row.Counts.{Counts}
 use Rattle.xl_model.specs.Rows.{Row}
-use Rattle.xl_model.specs.Rules.{rule}
+use Rattle.xl_model.specs.Rules.{rule, unless, fence_rule}
 use Rattle.xl_model.specs.RowRun.{reply_to, outcome_of, after_event}
 use Rattle.xl_model.specs.Structures.{TableState}
 use Rattle.xl_model.specs.Tally.{count_refusal}
 use Rattle.xl_tlb.specs.Tlbs.{TlbState}
 use Rattle.xl_machine.specs.Rules.{rule_of}
 use Rattle.xl_model.specs.Scenes.{Served}
-use Rattle.xl_machine.specs.Served.{served, after_of}
+use Rattle.xl_machine.specs.Served.{served, after_of, refused_by}
 
 -- an event that a rule refuses
 pub refused-outcome : (e : Event) (v : Served) (r : Refusal) → rule_of e v ≡ Some r → outcome.Refused r ≡ outcome_of v.row e v.state
 unfolding outcome_of
 refused-outcome e v r ruled = rw ruled refl
 
-pub refused-after : (e : Event) (row : Row) (table : TableState) (space : ℕ) (tlb : TlbState) (counts : Counts) (r : Refusal) → rule_of e (served row table space tlb counts) ≡ Some r
-    → served row table space tlb (count_refusal r counts) ≡ after_of e (served row table space tlb counts)
-unfolding after_event count_refusal
-refused-after e row table space tlb counts r ruled = rw ruled refl
+pub refused-after : (e : Event) (v : Served) (r : Refusal) → rule_of e v ≡ Some r → refused_by r v ≡ after_of e v
+unfolding after_event
+refused-after e v r ruled = rw ruled refl
+
+-- a refusal that is counted
+pub refusal-counted : (row : Row) (table : TableState) (space : ℕ) (tlb : TlbState) (counts : Counts) (r : Refusal) → served row table space tlb (count_refusal r counts) ≡ refused_by r (served row table space tlb counts)
+unfolding count_refusal
+refusal-counted row table space tlb counts r = refl
+
+-- what a command's rule asks
+pub protect-rule : (v : Served) (space va : ℕ) (o : Order) (perm : Perm) → rule_of (event.Protect space va o perm) v ≡ rule_of (event.Unmap space va o) v
+unfolding rule
+protect-rule v space va o perm = refl
+
+pub space-rule : (row : Row) (v : Served) (space : ℕ) (told : Option Refusal) → row ≡ v.row → told ≡ unless (nat_lt space row.spaces) refused.BadSpace → rule_of (event.Space space) v ≡ told
+unfolding rule
+space-rule row v space told e is = let P : Row → Type 0 = λ r. unless (nat_lt space r.spaces) refused.BadSpace ≡ told in subst P e (sym is)
+
+pub fence-rule : (row : Row) (v : Served) (s : Scope) (told : Option Refusal) → row ≡ v.row → told ≡ fence_rule row s → rule_of (event.Fence s) v ≡ told
+unfolding rule
+fence-rule row v s told e is = let P : Row → Type 0 = λ r. fence_rule r s ≡ told in subst P e (sym is)
 
 -- an event that none refuses
 pub access-outcome : (va : ℕ) (kind : Kind) (v : Served) → outcome.Replied (reply_to v.row v.state va kind) ≡ outcome_of v.row (event.Access va kind) v.state

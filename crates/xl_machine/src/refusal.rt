@@ -1,20 +1,21 @@
-//! The refusals that are tested before anything changes.
+//! The refusals that are tested before anything changes, and the leaves that commands name.
 
-ghost use Rattle.std.specs.Prelude.{◌≡◌, ◌<◌, [], ◌∷◌, true, nat_lt};
+ghost use Rattle.std.specs.Prelude.{◌≡◌, ◌<◌, [], ◌∷◌, true, nat_lt, IfOk, IfErr, OnOk};
 ghost use Rattle.xl_model.specs.Addresses.{is_aligned};
 ghost use Rattle.xl_model.specs.Frames.{lowest};
+ghost use Rattle.xl_model.specs.Mapping.{is_leaf};
 ghost use Rattle.xl_model.specs.Rows.{row_of};
-ghost use Rattle.xl_model.specs.Rules.{unless, place_rule, named_rule, there_rule, overlap_rule, frames_rule, fence_rule};
-ghost use Rattle.xl_machine.specs.Rules.{rule_of};
+ghost use Rattle.xl_model.specs.Rules.{unless, place_rule, overlap_rule, frames_rule, fence_rule};
+ghost use Rattle.xl_machine.specs.Rules.{rule_of, there_of, leaf_of};
 ghost use Rattle.xl_model.specs.declared.event.Event.TheVariants as event;
 ghost use Rattle.xl_model.specs.declared.event.Refusal.TheVariants as refused;
 ghost use Rattle.xl_model.specs.declared.event.Scope.TheVariants as scope;
 
 use crate::machine::Machine;
-use xl_model::{Event, Leaf, Order, Perm, Refusal, Row, Scope, Structure, canonical, page_of};
+use xl_model::{Leaf, Order, Perm, Refusal, Row, Scope, Structure, canonical, page_of};
 
 /// The refusal of a space that the row doesn't have.
-fn space_refusal(row: &Row, space: u16) -> Option<Refusal>
+pub(crate) fn space_refusal(row: &Row, space: u16) -> Option<Refusal>
     ensures { result ≡ unless (nat_lt space row.now.spaces) refused.BadSpace }
 {
     if space < row.spaces {
@@ -56,7 +57,7 @@ fn places_refusal(row: &Row, space: u16, from: u64, to: u64, order: Order) -> Op
 }
 
 /// The refusal of a fence, by the space and the address that it names.
-fn fence_refusal(row: &Row, scope: Scope) -> Option<Refusal>
+pub(crate) fn fence_refusal(row: &Row, scope: Scope) -> Option<Refusal>
     ensures { result ≡ fence_rule (row_of row.now) scope }
 {
     match scope {
@@ -82,26 +83,30 @@ fn address_refusal(row: &Row, va: u64) -> Option<Refusal>
     Some(Refusal::NotCanonical)
 }
 
-/// The refusal where the leaf that covers a page isn't the one that is named.
-fn named_refusal(leaf: Leaf, space: u16, first: u64, order: Order) -> Option<Refusal>
-    ensures { result ≡ named_rule (Some leaf) space first order }
+/// Whether a leaf is the one that is named.
+fn is_named(leaf: Leaf, space: u16, first: u64, order: Order) -> bool
+    ensures { result ≡ is_leaf space first order leaf }
 {
-    if leaf.space == space && leaf.first == first && leaf.order.level() == order.level() {
-        return None;
-    }
-    Some(Refusal::WrongSize)
+    leaf.space == space && leaf.first == first && leaf.order.level() == order.level()
 }
 
 impl<S: Structure> Machine<S> {
-    /// The refusal where not exactly the leaf that is named covers the page of its address.
-    fn there_refusal(&self, space: u16, va: u64, order: Order) -> Option<Refusal>
+    /// The leaf that covers the page of an address, where it is the one that is named.
+    ///
+    /// # Errors
+    ///
+    /// `Unmapped` where no leaf covers the page, `WrongSize` where another one does.
+    fn leaf_named(&self, space: u16, va: u64, order: Order) -> Result<Leaf, Refusal>
         requires { space < self.now.row.spaces }
-        ensures { result ≡ there_rule self.now.row self.now.state.table.leaves space va order }
+        ensures refused { IfErr result (λ r. there_of space va order self.now ≡ Some r) }
+        ensures allowed { OnOk result (there_of space va order self.now ≡ None) }
+        ensures found { IfOk result (λ leaf. leaf_of space va self.now ≡ Some leaf) }
     {
-        let page = page_of(self.row.mode, va);
-        match self.table.leaf_at(space, page) {
-            Some(leaf) => named_refusal(leaf, space, page, order),
-            None => Some(Refusal::Unmapped),
+        let first = page_of(self.row.mode, va);
+        match self.table.leaf_at(space, first) {
+            Some(leaf) if is_named(leaf, space, first, order) => Ok(leaf),
+            Some(_) => Err(Refusal::WrongSize),
+            None => Err(Refusal::Unmapped),
         }
     }
 
@@ -128,7 +133,7 @@ impl<S: Structure> Machine<S> {
     }
 
     /// The first refusal of a map that holds, but for want of room in the table.
-    fn map_refusal(&self, space: u16, va: u64, order: Order) -> Option<Refusal>
+    pub(crate) fn map_refusal(&self, space: u16, va: u64, order: Order) -> Option<Refusal>
         ensures { (perm : Perm) → result ≡ rule_of (event.Map space va order perm) self.now }
     {
         if let Some(refusal) = place_refusal(&self.row, space, va, order) {
@@ -140,57 +145,47 @@ impl<S: Structure> Machine<S> {
         self.frames_refusal(order)
     }
 
-    /// The first refusal of an unmap that holds, but for want of room in the table.
-    fn unmap_refusal(&self, space: u16, va: u64, order: Order) -> Option<Refusal>
-        ensures { result ≡ rule_of (event.Unmap space va order) self.now }
+    /// The leaf that an unmap names, or a protect, where no rule refuses it.
+    ///
+    /// # Errors
+    ///
+    /// The first refusal that holds, but for want of room in the table.
+    pub(crate) fn leaf_to_change(&self, space: u16, va: u64, order: Order) -> Result<Leaf, Refusal>
+        ensures refused { IfErr result
+            (λ r. rule_of (event.Unmap space va order) self.now ≡ Some r) }
+        ensures allowed { OnOk result (rule_of (event.Unmap space va order) self.now ≡ None) }
+        ensures found { IfOk result (λ leaf. leaf_of space va self.now ≡ Some leaf) }
     {
         if let Some(refusal) = place_refusal(&self.row, space, va, order) {
-            return Some(refusal);
+            return Err(refusal);
         }
-        self.there_refusal(space, va, order)
+        self.leaf_named(space, va, order)
     }
 
-    /// The first refusal of a move that holds, but for want of room in the table.
-    fn move_refusal(&self, space: u16, from: u64, to: u64, order: Order) -> Option<Refusal>
-        ensures { result ≡ rule_of (event.Move space from to order) self.now }
+    /// The leaf that a move names, where no rule refuses it.
+    ///
+    /// # Errors
+    ///
+    /// The first refusal that holds, but for want of room in the table.
+    pub(crate) fn leaf_to_move(
+        &self,
+        space: u16,
+        from: u64,
+        to: u64,
+        order: Order,
+    ) -> Result<Leaf, Refusal>
+        ensures refused { IfErr result
+            (λ r. rule_of (event.Move space from to order) self.now ≡ Some r) }
+        ensures allowed { OnOk result (rule_of (event.Move space from to order) self.now ≡ None) }
+        ensures found { IfOk result (λ leaf. leaf_of space from self.now ≡ Some leaf) }
     {
         if let Some(refusal) = places_refusal(&self.row, space, from, to, order) {
-            return Some(refusal);
+            return Err(refusal);
         }
-        if let Some(refusal) = self.there_refusal(space, from, order) {
-            return Some(refusal);
+        let leaf = self.leaf_named(space, from, order)?;
+        if let Some(refusal) = self.overlap_refusal(space, to, order) {
+            return Err(refusal);
         }
-        self.overlap_refusal(space, to, order)
-    }
-
-    /// The first refusal of an event that holds, but for want of room in the table.
-    #[tactic(auto, unfolding(xl_model::specs::Rules::rule))]
-    pub(crate) fn refusal(&self, event: Event) -> Option<Refusal>
-        ensures { result ≡ rule_of event self.now }
-    {
-        match event {
-            Event::Access { .. } => None,
-            Event::Map {
-                space,
-                va,
-                order,
-                ..
-            } => self.map_refusal(space, va, order),
-            Event::Unmap { space, va, order } => self.unmap_refusal(space, va, order),
-            Event::Protect {
-                space,
-                va,
-                order,
-                ..
-            } => self.unmap_refusal(space, va, order),
-            Event::Move {
-                space,
-                from,
-                to,
-                order,
-            } => self.move_refusal(space, from, to, order),
-            Event::Space { space } => space_refusal(&self.row, space),
-            Event::Fence { scope } => fence_refusal(&self.row, scope),
-        }
+        Ok(leaf)
     }
 }

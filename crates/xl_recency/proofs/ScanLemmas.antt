@@ -1,9 +1,10 @@
 -- A scan that stops at the first item that meets a test, against `find`, `touched` and `purged`.
-use Rattle.std.proofs.Common.{◌≡◌, ℕ, zero, suc, ◌<◌, Bool, true, false, List, [], ◌∷◌, length, get_or, find, take, Some, None, refl, sym, subst, ◌∙◌, ◌≤◌, ap, arith}
+use Rattle.std.proofs.Common.{◌≡◌, ℕ, zero, suc, ◌+◌, inl, inr, ◌<◌, Bool, true, false, List, [], ◌∷◌, length, get_or, find, take, Some, None, refl, sym, subst, ◌∙◌, ◌≤◌, ap, arith}
 use Rattle.std.specs.List.{remove}
+use Rattle.std.proofs.lemmas.Bool.{cases_lt}
 use Rattle.std.proofs.lemmas.List.{get_or-take, get_or_read, length-take-le}
 use Rattle.xl_model.specs.Recency.{without_first, touched}
-use Rattle.xl_recency.specs.Lists.{IsTest, IsFirst, AllFail}
+use Rattle.xl_recency.specs.Lists.{IsTest, IsFirst, AllFail, FailBefore}
 
 module _ {A : Type 0} (q : A → Bool) where
   pub find_at : (xs : List A) (at : ℕ) (d : A) → at < length xs → ((k : ℕ) → k < at → q (get_or xs k d) ≡ false) → q (get_or xs at d) ≡ true
@@ -100,3 +101,31 @@ module _ {A : Type 0} (answers : A → Bool → Type 0) (xs : List A) (len : ℕ
         let below : k < len = rw (length-take-le len xs fits) at b in
         subst (λ (y : A). answers y false) (sym (get_or-take len xs k d below)) (before k d (omega arith));
   }
+
+-- a scan by places, one after another
+module _ {A : Type 0} (answers : A → Bool → Type 0) (xs : List A) where
+  pub fail_none : FailBefore answers xs 0
+  fail_none = record { fails = λ k d b l. absurd (omega arith) }
+
+  pub fail_more : (at : ℕ) (x : A) → at < length xs → x ≡ get_or xs at x → answers (get_or xs at x) false → FailBefore answers xs at → FailBefore answers xs (at + 1)
+  fail_more at x within is fails before = record {
+    fails = λ k d b l.
+        elim (cases_lt k at) [
+          | inl below ↦ before.fails k d below l
+          | inr here ↦
+              let e : k ≡ at = omega arith in
+              rw e (subst (λ (y : A). answers y false) (sym is ∙ get_or_read xs at x within is d) fails)
+        ];
+  }
+
+  pub fail_past : (at : ℕ) → length xs ≤ at → FailBefore answers xs at → FailBefore answers xs (at + 1)
+  fail_past at past before = record { fails = λ k d b l. before.fails k d (omega arith) l }
+
+  pub first_at : (at : ℕ) (x : A) → at < length xs → x ≡ get_or xs at x → answers (get_or xs at x) true → FailBefore answers xs at → IsFirst answers xs at
+  first_at at x within is meets before = record {
+    meets = λ d. subst (λ (y : A). answers y true) (sym is ∙ get_or_read xs at x within is d) meets;
+    before = λ k d b. before.fails k d b (omega arith);
+  }
+
+  pub fail_all : (len end : ℕ) (fits : len ≤ length xs) → length xs ≤ end → FailBefore answers xs end → AllFail answers (take len xs)
+  fail_all len end fits past before = scanned_none answers xs len fits len (omega arith) (λ k d b. before.fails k d (omega arith) (omega arith))

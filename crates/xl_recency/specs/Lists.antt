@@ -15,6 +15,10 @@ pub record IsFirst {A : Type 0} (answers : A → Bool → Type 0) (items : List 
 pub record AllFail {A : Type 0} (answers : A → Bool → Type 0) (items : List A) : Type 0 where
   pub fails : (k : ℕ) (d : A) → k < length items → answers (slice_index_or items k d) false
 
+-- The closure answered false for each of the first `at` items.
+pub record FailBefore {A : Type 0} (answers : A → Bool → Type 0) (items : List A) (at : ℕ) : Type 0 where
+  pub fails : (k : ℕ) (d : A) → k < at → k < length items → answers (slice_index_or items k d) false
+
 -- A touch answers the newest item that meets the test, and brings it to the front. Where none meets it,
 -- nothing changes.
 pub record Touches {A : Type 0} (test : A → Bool) (old new : List A) (result : Option A) : Type 0 where

@@ -1,10 +1,10 @@
 //! The work on slices.
 
-ghost use Rattle.std.specs.Prelude.{◌≡◌, ◌∷◌, ◌<◌, ◌≤◌, length, take, find, IfSome, IfNone};
+ghost use Rattle.std.specs.Prelude.{true, false, ◌≡◌, ◌∷◌, ◌<◌, ◌≤◌, ◌+◌, length, take, find, IfSome, IfNone};
 ghost use Rattle.std.specs.List.{remove};
 ghost use Rattle.std.specs.Fn.{FnReturnsAt};
 ghost use Rattle.xl_model.specs.Recency.{purged};
-ghost use Rattle.xl_recency.specs.Lists.{IsTest, IsFirst, AllFail, Touches};
+ghost use Rattle.xl_recency.specs.Lists.{IsTest, IsFirst, AllFail, FailBefore, Touches};
 
 /// Puts the item in front, in place of the one at `at`. From the last place on: so no item is carried, and
 /// LLVM makes one move of the loop.
@@ -115,30 +115,66 @@ pub(crate) fn touch_at<T: Copy, P: Fn(&T) -> bool>(
     }
 }
 
-/// Brings the first of the first `len` items that meets the test to the front. All slots are looked at, those
-/// behind the items too: a loop of a fixed count is written out, and at each of its ways out the place is known,
-/// so that the items in front of it are carried on without a call.
+/// Whether the item at this place meets the test, where none in front of it does.
+#[inline(always)]
+fn is_first_at<const W: usize, T, P: Fn(&T) -> bool>(slots: &[T; W], at: usize, test: &P) -> bool
+    requires test { P.IsAlwaysCallable test.now }
+    requires before { FailBefore (FnReturnsAt P.Fn test.now) slots.now at }
+    ensures within { result ≡ true → at < W }
+    ensures yes { result ≡ true → IsFirst (FnReturnsAt P.Fn test.now) slots.now at }
+    ensures no { result ≡ false → FailBefore (FnReturnsAt P.Fn test.now) slots.now (at + 1) }
+{
+    at < W && test(&slots[at])
+}
+
+/// Brings the item at this place, the first that meets the test, to the front, if it is one of the first
+/// `len` slots.
+#[inline(always)]
+fn bring_at<const W: usize, T: Copy, P: Fn(&T) -> bool>(
+    slots: &mut [T; W],
+    len: usize,
+    at: usize,
+    _test: &P,
+) -> Option<T>
+    requires fits { len ≤ W }
+    requires within { at < W }
+    requires first { IsFirst (FnReturnsAt P.Fn _test.now) slots.old at }
+    ensures { (q : _) → IsTest (FnReturnsAt P.Fn _test.now) q →
+        Touches q (take len slots.old) (take len slots.new) result }
+{
+    if at >= len {
+        return None;
+    }
+    let item = slots[at];
+    carry_in_front(&mut slots[..len], at, item);
+    Some(item)
+}
+
+/// Brings the first of the first `len` items that meets the test to the front, where there are at most eight
+/// slots. All of them are looked at, those behind the items too, and each has a way out of its own: of a loop
+/// LLVM joins the ways out, and then asks once more at each item that it moves.
 #[inline(always)]
 pub(crate) fn touch_first<const W: usize, T: Copy, P: Fn(&T) -> bool>(
     slots: &mut [T; W],
     len: usize,
     test: &P,
 ) -> Option<T>
+    requires few { W ≤ 8 }
     requires fits { len ≤ W }
     requires test { P.IsAlwaysCallable test.now }
     ensures { (q : _) → IsTest (FnReturnsAt P.Fn test.now) q →
         Touches q (take len slots.old) (take len slots.new) result }
 {
-    for at in 0..W {
-        if test(&slots[at]) {
-            if at >= len {
-                return None;
-            }
-            let item = slots[at];
-            carry_in_front(&mut slots[..len], at, item);
-            return Some(item);
-        }
+    macro_rules! ways_out {
+        ($($at:literal)*) => {
+            $(
+                if is_first_at(slots, $at, test) {
+                    return bring_at(slots, len, $at, test);
+                }
+            )*
+        };
     }
+    ways_out!(0 1 2 3 4 5 6 7);
     None
 }
 

@@ -75,27 +75,21 @@ struct SmallFill {
 }
 
 /// Fills each array that takes leaves of 4 KiB with this one: how many do.
-#[tactic(auto, using(crate::proofs::TlbLemmas::count_first))]
+#[inline(always)]
 fn fill_small_each(arrays: &mut [AnyArray], space: u16, page: u64, word: u64) -> u64
     requires space { space < 64 }
     requires page { page < 2 ^ 52 }
     ensures fills { result ≡ count_by (takes_leaf (small_leaf space page word)) arrays.old }
     ensures arrays { arrays.new ≡ map (array_filled (small_leaf space page word)) arrays.old }
 {
-    let Some((first, rest)) = arrays.split_first_mut() else {
-        return 0;
-    };
-    let others = if rest.is_empty() {
-        0
-    } else {
-        fill_small_each(rest, space, page, word)
-    };
-    let taken = first.takes_small();
-    first.fill_small(space, page, word);
-    if taken {
-        return others + 1;
+    let mut fills = 0;
+    for array in arrays.iter_mut() {
+        if array.takes_small() {
+            fills += 1;
+        }
+        array.fill_small(space, page, word);
     }
-    others
+    fills
 }
 
 /// Does what `fill_small_each` does, and tells whether the leaf is in front.

@@ -1,6 +1,9 @@
-use Rattle.std.proofs.Common.{sym, ◌∙◌}
-use Rattle.xl_machine.proofs.StepLemmas.{refused-outcome}
+use Rattle.std.proofs.Common.{ap, ◌∙◌}
+use Rattle.xl_model.specs.declared.event.Outcome.TheVariants as outcome
+use Rattle.xl_model.specs.declared.leaf.Reply.{Reply}
+use Rattle.xl_machine.proofs.StepLemmas.{access-outcome}
 use Rattle.xl_machine.proofs.machine.Machine.rule_and_serve.Goals as goal
 
-pub returns-in-Some-clause-outcome : goal.returns-in-Some-clause-outcome
-returns-in-Some-clause-outcome g c = refused-outcome c.args.event c.args.self.now c.in-Some.refusal (sym c.refusal.ensures ∙ c.in-Some.is)
+pub returns-in-Access-clause-outcome : goal.returns-in-Access-clause-outcome
+returns-in-Access-clause-outcome g c =
+    rw c.in-Access.is (ap (λ (r : Reply). outcome.Replied r) c.access.ensures.reply ∙ access-outcome c.in-Access.va c.in-Access.kind c.args.self.now)

@@ -1,0 +1,10 @@
+use Rattle.std.proofs.Common.{◌∙◌}
+use Rattle.xl_model.specs.declared.event.Event.TheVariants as event
+use Rattle.xl_machine.proofs.StepLemmas.{refused-outcome, refused-after}
+use Rattle.xl_machine.proofs.machine.Machine.unmap_or_refuse.Goals as goal
+
+pub returns-in-Err-clause-outcome : goal.returns-in-Err-clause-outcome
+returns-in-Err-clause-outcome g c = c.refuse_event.ensures.outcome ∙ refused-outcome (event.Unmap c.args.space c.args.va c.args.order) c.args.self.now c.in-Err.refusal c.in-Err.ensures.refused
+
+pub returns-in-Err-clause-after : goal.returns-in-Err-clause-after
+returns-in-Err-clause-after g c = c.refuse_event.ensures.after ∙ refused-after (event.Unmap c.args.space c.args.va c.args.order) c.args.self.now c.in-Err.refusal c.in-Err.ensures.refused
