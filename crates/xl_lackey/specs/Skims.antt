@@ -40,6 +40,14 @@ HasAccesses Skipped got = ⊥
 HasAccesses (Found l addr size) got = accesses_at l (places addr size) ≡ map pair got
 HasAccesses (Bad reason) got = ⊥
 
+-- How many accesses a batch has room for.
+abbrev pub batch_size : ℕ
+batch_size = 256
+
+-- There is room for the accesses of a record in one page, which are two at most.
+abbrev pub HasRoom : List Access → Type 0
+HasRoom accesses = length accesses + 2 ≤ batch_size
+
 -- A text's first line, of so many bytes with its newline, is a record with these accesses.
 pub record IsRecordLine (text : List ℕ) (used : ℕ) (got : List Access) : Type 0 where
   pub verdict : Verdict

@@ -16,4 +16,4 @@ pub use access::{nth_access, sole_access};
 pub use next::Next;
 pub use reader::Reader;
 pub use reference::{Letter, Reference};
-pub use skim::{Access, Batch, put_accesses};
+pub use skim::{Access, Batch, has_room, put_accesses};

@@ -1,10 +1,9 @@
 //! Records whose bytes lie in one page each, taken together: what nearly all of a trace is.
 
-ghost use Rattle.std.specs.Prelude.{◌≡◌, ◌<◌, ◌≤◌, ◌++◌, length, drop, map, IfSome};
-ghost use Rattle.arrayvec.specs.ArrayVec.{array_vec_len};
+ghost use Rattle.std.specs.Prelude.{◌≡◌, ◌≤◌, ◌++◌, length, drop, map, true, IfSome};
 ghost use Rattle.xl_lackey.specs.Accesses.{accesses};
 ghost use Rattle.xl_lackey.specs.Lines.{IsProper};
-ghost use Rattle.xl_lackey.specs.Skims.{pair, read_of, accesses_near, HasAccesses, IsRecordLine, Skims};
+ghost use Rattle.xl_lackey.specs.Skims.{pair, read_of, accesses_near, HasAccesses, HasRoom, IsRecordLine, Skims};
 
 use crate::access::is_within_page;
 use crate::line::Verdict;
@@ -30,7 +29,7 @@ impl Default for Access {
 }
 
 /// Accesses in the order of the trace.
-pub type Batch = ArrayVec<Access, 64>;
+pub type Batch = ArrayVec<Access, 256>;
 
 /// How far the lines of a text were read.
 #[derive(Clone, Copy)]
@@ -109,11 +108,19 @@ fn near_record(text: &[u8], from: usize) -> Option<Near>
     record_in_page(verdict, used)
 }
 
+/// Whether there is room for the accesses of a record in one page, which are two at most.
+#[inline(always)]
+pub fn has_room(batch: &Batch) -> bool
+    ensures { result ≡ true → HasRoom batch.now.items }
+{
+    batch.len() <= batch.capacity() - 2
+}
+
 /// Puts the access of a record in one page behind those that are there, and the store behind it where the
 /// record is a modify.
 #[inline(always)]
 pub fn put_accesses(into: &mut Batch, va: u64, kind: Kind, is_modify: bool)
-    requires { array_vec_len into.old < 63 }
+    requires { HasRoom into.old.items }
     ensures { into.new.items ≡ into.old.items ++ accesses_near is_modify va kind }
 {
     into.push(Access { va, kind });
@@ -135,7 +142,7 @@ pub(crate) fn skim_lines(text: &[u8], before: u64, into: &mut Batch, most: u64) 
     let mut used = 0;
     let mut lines = before;
     let mut taken = 0;
-    while taken < most && into.len() < 63 {
+    while taken < most && has_room(into) {
         let Some(near) = near_record(text, used) else {
             return Skim { used, lines, taken };
         };

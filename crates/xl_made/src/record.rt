@@ -1,7 +1,7 @@
 //! A record by its word: its line, and what the line is read as.
 
-ghost use Rattle.std.specs.Prelude.{◌≡◌, ◌+◌, ◌<◌, ◌≤◌, ◌++◌, length, take};
-ghost use Rattle.arrayvec.specs.ArrayVec.{array_vec_len};
+ghost use Rattle.std.specs.Prelude.{◌≡◌, ◌+◌, ◌≤◌, ◌++◌, length, take};
+ghost use Rattle.xl_lackey.specs.Skims.{HasRoom};
 ghost use Rattle.xl_lackey.specs.Usual.{usual_front};
 ghost use Rattle.xl_made.specs.Made.{letter_of, size_of, size_text, page_of, address_of, record_line};
 ghost use Rattle.xl_made.specs.Taken.{first_kind, is_modify as modifies, Follows};
@@ -139,7 +139,7 @@ fn is_modify(word: u32) -> bool
 /// Puts the accesses of a record behind those that are there. All its bytes lie in one page.
 #[inline(always)]
 pub(crate) fn put_record(into: &mut Batch, word: u32)
-    requires { array_vec_len into.old < 63 }
+    requires { HasRoom into.old.items }
     ensures { Follows word into.old.items into.new.items }
 {
     put_accesses(into, address(word) as u64, kind(word), is_modify(word));

@@ -1,8 +1,7 @@
 //! The made trace.
 
 ghost use Rattle.std.specs.Prelude.{◌≡◌, ℕ, ◌<◌, ◌≤◌, ◌+◌, ◌*◌, ◌^◌, ◌++◌, true, false, [], length, take, IfSome, IfNone};
-ghost use Rattle.arrayvec.specs.ArrayVec.{array_vec_len};
-ghost use Rattle.xl_lackey.specs.Skims.{Takes};
+ghost use Rattle.xl_lackey.specs.Skims.{HasRoom, Takes};
 ghost use Rattle.xl_made.specs.Made.{made_trace};
 ghost use Rattle.xl_made.specs.Taken.{IsFirst, TakesFirst};
 
@@ -10,7 +9,7 @@ use crate::record::{LINE, line, put, put_record, reference};
 use rand_core::utils::NextWord;
 use rand_pcg::Lcg64Xsh32;
 use std::marker::Model;
-use xl_lackey::{Batch, Reference};
+use xl_lackey::{Batch, Reference, has_room};
 
 /// A trace that is made while it is read. Contracts see the bytes that are still to come. They come as
 /// text, in whole lines, or as what the lines are read as.
@@ -92,7 +91,7 @@ impl MadeTrace {
         ensures no_more { length self.new ≤ length self.old }
     {
         let mut taken = 0;
-        while taken < most && into.len() < 63 {
+        while taken < most && has_room(into) {
             if !self.put_next(into) {
                 return taken;
             }
@@ -105,7 +104,7 @@ impl MadeTrace {
     /// nothing changes.
     #[inline(always)]
     fn put_next(&mut self, into: &mut Batch) -> bool
-        requires { array_vec_len into.old < 63 }
+        requires { HasRoom into.old.items }
         ensures some { result ≡ true → TakesFirst self.old self.new into.old.items into.new.items }
         ensures none { result ≡ false → self.new ≡ self.old }
         ensures still { result ≡ false → into.new.items ≡ into.old.items }

@@ -1,6 +1,6 @@
 -- Accesses that are served by one row after another.
 use Rattle.std.proofs.Common.{◌≡◌, refl, sym, ap, ◌∙◌, subst, ℕ, suc, arith, List, [], ◌∷◌, Option, None, Some}
-use Rattle.std.specs.Prelude.{map}
+use Rattle.std.specs.Prelude.{map, take, drop}
 use Rattle.std.specs.List.{All}
 use Rattle.std.proofs.lemmas.List.Elements.{All-cons}
 use Rattle.xl_model.specs.declared.address.Kind.{Kind}
@@ -10,18 +10,21 @@ use Rattle.xl_model.specs.declared.event.Outcome.TheVariants as outcome
 use Rattle.xl_model.specs.declared.leaf.Reply.{Reply}
 use Rattle.xl_model.specs.declared.leaf.Reply.TheVariants as reply
 use Rattle.xl_model.specs.declared.script.Area.{Area}
-use Rattle.xl_model.specs.declared.script.Item.TheVariants.{Referenced}
+use Rattle.xl_model.specs.declared.script.Item.TheVariants.{Command, Referenced}
 use Rattle.xl_model.specs.RowRun.{after_event, reply_to, outcome_of}
 use Rattle.xl_model.specs.Items.{area_for, wanted, map_of, again_where, demanded, state_after}
 use Rattle.xl_model.specs.Scenes.{Served, Scene, rows_after, scene_after, scenes_after}
 use Rattle.xl_machine.specs.Served.{accessed_by, after_of}
 use Rattle.xl_lackey.specs.declared.skim.Access.{Access}
-use Rattle.xl_serving.specs.Batches.{item_of, waited}
+use Rattle.xl_serving.specs.declared.batch.WaitingEvent.{WaitingEvent}
+use Rattle.xl_serving.specs.Batches.{item_of, items_waiting}
+use Rattle.xl_model_lemmas.proofs.SceneLemmas.{scene-append}
+use Rattle.xl_model.specs.declared.event.Event.{Event}
 use Rattle.xl_serving.specs.Serving.{scene_of}
 use Rattle.xl_rack.specs.declared.slot.Slot.{Slot}
 use Rattle.xl_rack.specs.Forms.{form_named}
 use Rattle.xl_rack.specs.Slots.{served_of, slot_form, IsNamed}
-use Rattle.xl_rack.specs.Batches.{demand_served, access_served, row_served}
+use Rattle.xl_rack.specs.Batches.{demand_served, access_served, row_served, waiting_served}
 use Rattle.xl_rack.proofs.DemandLemmas.{access-space, referenced-is}
 
 -- what an access wants, by its reply
@@ -72,23 +75,62 @@ one-then : (a : Access) (accesses : List Access) (areas : List Area) (rows : Lis
 one-then a accesses areas [] = refl
 one-then a accesses areas (r ∷ rows) = ap (λ (rest : List Served). row_served (a ∷ accesses) areas r ∷ rest) (one-then a accesses areas rows)
 
--- All accesses by the first row, then by the next, leave the rows that each access by all rows leaves.
-pub row-by-row : (accesses : List Access) (areas : List Area) (rows : List Served)
-    → scene_of (map (row_served accesses areas) rows) areas ≡ waited accesses (scene_of rows areas)
+-- all accesses by the first row, then by the next
+row-by-row : (accesses : List Access) (areas : List Area) (rows : List Served)
+    → scene_of (map (row_served accesses areas) rows) areas ≡ scenes_after (map item_of accesses) (scene_of rows areas)
 row-by-row [] areas rows = ap (λ (z : List Served). scene_of z areas) (sym (none-served areas rows))
 row-by-row (a ∷ accesses) areas rows =
     ap (λ (z : List Served). scene_of z areas) (sym (one-then a accesses areas rows))
     ∙ row-by-row accesses areas (map (access_served a.va a.kind areas) rows)
     ∙ ap (scenes_after (map item_of accesses)) (sym (scene-map a areas rows))
 
+-- an event of a command, each row by itself
+events-map : (e : Event) (areas : List Area) (rows : List Served) → rows_after (Command e) areas rows ≡ map (after_of e) rows
+unfolding state_after
+events-map e areas [] = refl
+events-map e areas (r ∷ rows) = ap (λ (rest : List Served). after_of e r ∷ rest) (events-map e areas rows)
+
+scene-event : (e : Event) (areas : List Area) (rows : List Served) → scene_after (Command e) (scene_of rows areas) ≡ scene_of (map (after_of e) rows) areas
+unfolding scene_after
+scene-event e areas rows = ap (λ (z : List Served). scene_of z areas) (events-map e areas rows)
+
+waiting-none : (accesses : List Access) (areas : List Area) (rows : List Served) → map (row_served accesses areas) rows ≡ map (waiting_served accesses [] areas) rows
+waiting-none accesses areas [] = refl
+waiting-none accesses areas (v ∷ rows) = ap (λ (rest : List Served). row_served accesses areas v ∷ rest) (waiting-none accesses areas rows)
+
+waiting-then : (accesses : List Access) (w : WaitingEvent) (events : List WaitingEvent) (areas : List Area) (rows : List Served)
+    → map (waiting_served (drop w.gap accesses) events areas) (map (after_of w.event) (map (row_served (take w.gap accesses) areas) rows)) ≡ map (waiting_served accesses (w ∷ events) areas) rows
+waiting-then accesses w events areas [] = refl
+waiting-then accesses w events areas (v ∷ rows) = ap (λ (rest : List Served). waiting_served accesses (w ∷ events) areas v ∷ rest) (waiting-then accesses w events areas rows)
+
+-- All items by the first row, then by the next, leave the rows that each item by all rows leaves.
+pub waiting-by-row : (accesses : List Access) (events : List WaitingEvent) (areas : List Area) (rows : List Served)
+    → scene_of (map (waiting_served accesses events areas) rows) areas ≡ scenes_after (items_waiting accesses events) (scene_of rows areas)
+waiting-by-row accesses [] areas rows =
+    ap (λ (z : List Served). scene_of z areas) (sym (waiting-none accesses areas rows)) ∙ row-by-row accesses areas rows
+waiting-by-row accesses (w ∷ events) areas rows =
+    let front = take w.gap accesses in
+    let rest = drop w.gap accesses in
+    let mid = map (row_served front areas) rows in
+    ap (λ (z : List Served). scene_of z areas) (sym (waiting-then accesses w events areas rows))
+    ∙ waiting-by-row rest events areas (map (after_of w.event) mid)
+    ∙ ap (scenes_after (items_waiting rest events)) (sym (scene-event w.event areas mid) ∙ ap (scene_after (Command w.event)) (row-by-row front areas rows))
+    ∙ sym (scene-append (map item_of front) (Command w.event ∷ items_waiting rest events) (scene_of rows areas))
+
 row-stays : (accesses : List Access) (areas : List Area) (v : Served) → (row_served accesses areas v).row ≡ v.row
 row-stays [] areas v = refl
 row-stays (a ∷ accesses) areas v = row-stays accesses areas (access_served a.va a.kind areas v)
 
+waiting-stays : (accesses : List Access) (events : List WaitingEvent) (areas : List Area) (v : Served) → (waiting_served accesses events areas v).row ≡ v.row
+waiting-stays accesses [] areas v = row-stays accesses areas v
+waiting-stays accesses (w ∷ events) areas v =
+    let front = take w.gap accesses in
+    waiting-stays (drop w.gap accesses) events areas (after_of w.event (row_served front areas v)) ∙ row-stays front areas v
+
 -- a slot stays what its row names
-pub named-stays : (accesses : List Access) (areas : List Area) (s t : Slot) → served_of t ≡ row_served accesses areas (served_of s) → slot_form t ≡ slot_form s → IsNamed s → IsNamed t
-named-stays accesses areas s t after form named =
-    ap (λ (v : Served). form_named v.row) after ∙ ap form_named (row-stays accesses areas (served_of s)) ∙ named ∙ ap Some (sym form)
+pub named-stays : (accesses : List Access) (events : List WaitingEvent) (areas : List Area) (s t : Slot) → served_of t ≡ waiting_served accesses events areas (served_of s) → slot_form t ≡ slot_form s → IsNamed s → IsNamed t
+named-stays accesses events areas s t after form named =
+    ap (λ (v : Served). form_named v.row) after ∙ ap form_named (waiting-stays accesses events areas (served_of s)) ∙ named ∙ ap Some (sym form)
 
 -- each slot does, where the first and the others do
 pub named-each : (s t : Slot) (slots ss ts : List Slot) → slots ≡ s ∷ ss → (IsNamed s → IsNamed t) → (All IsNamed ss → All IsNamed ts) → All IsNamed slots → All IsNamed (t ∷ ts)

@@ -1,11 +1,13 @@
--- Accesses that a row is served one after another, with the events of their demands.
-use Rattle.std.specs.Prelude.{ℕ, List, [], ◌∷◌}
+-- Items that a row is served one after another without lines, an access with the events of its demand.
+use Rattle.std.specs.Prelude.{ℕ, List, [], ◌∷◌, take, drop}
 use Rattle.xl_model.specs.declared.address.Kind.{Kind}
 use Rattle.xl_model.specs.declared.event.Event.TheVariants as event
 use Rattle.xl_model.specs.declared.script.Area.{Area}
 use Rattle.xl_model.specs.Items.{area_for, demanded, referenced}
 use Rattle.xl_model.specs.Scenes.{Served}
+use Rattle.xl_machine.specs.Served.{after_of}
 use Rattle.xl_lackey.specs.declared.skim.Access.{Access}
+use Rattle.xl_serving.specs.declared.batch.WaitingEvent.{WaitingEvent}
 
 -- A row after the demand of an access that was unmapped.
 abbrev pub demand_served : ℕ → Kind → List Area → Served → Served
@@ -19,3 +21,10 @@ access_served va k areas v = record v { state = referenced v.row va k areas v.st
 abbrev pub row_served : List Access → List Area → Served → Served
 row_served [] areas v = v
 row_served (a ∷ accesses) areas v = row_served accesses areas (access_served a.va a.kind areas v)
+
+-- A row after accesses with events among them: for each event the accesses of its gap and then its command, and at the
+-- end the accesses behind the last event.
+abbrev pub waiting_served : List Access → List WaitingEvent → List Area → Served → Served
+waiting_served accesses [] areas v = row_served accesses areas v
+waiting_served accesses (w ∷ events) areas v =
+    waiting_served (drop w.gap accesses) events areas (after_of w.event (row_served (take w.gap accesses) areas v))

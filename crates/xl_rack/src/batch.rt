@@ -1,9 +1,10 @@
-//! Accesses that a row is served one after another without lines: the kind of the row's table is
-//! chosen once for all of them.
+//! Items that a row is served one after another without lines: the kind of the row's table is chosen once
+//! for all of them.
 
-ghost use Rattle.std.specs.Prelude.{◌≡◌, map};
+ghost use Rattle.std.specs.Prelude.{◌≡◌, ◌≤◌, length, map};
 ghost use Rattle.std.specs.List.{All};
-ghost use Rattle.xl_rack.specs.Batches.{demand_served, access_served, row_served};
+ghost use Rattle.xl_serving.specs.Batches.{gaps};
+ghost use Rattle.xl_rack.specs.Batches.{demand_served, access_served, row_served, waiting_served};
 ghost use Rattle.xl_rack.specs.Slots.{served_of, slot_form, IsNamed};
 
 use crate::area::map_for;
@@ -12,6 +13,7 @@ use xl_areas::Areas;
 use xl_lackey::Access;
 use xl_machine::Machine;
 use xl_model::{Kind, Outcome, Reply, Structure};
+use xl_serving::WaitingEvent;
 
 /// Serves the map that an area demands for an address, and where it is done, the access once more.
 #[inline(never)]
@@ -22,7 +24,7 @@ fn serve_demand<S: Structure>(machine: &mut Machine<S>, va: u64, kind: Kind, are
         return;
     };
     if let Outcome::Done = machine.step(map_for(area, va)) {
-        let _reply = machine.access(va, kind);
+        let _reply = machine.access_again(va, kind);
     }
 }
 
@@ -37,6 +39,7 @@ fn serve_one<S: Structure>(machine: &mut Machine<S>, va: u64, kind: Kind, areas:
 }
 
 /// Serves accesses to a machine one after another.
+#[inline(never)]
 fn serve_all<S: Structure>(machine: &mut Machine<S>, accesses: &[Access], areas: &Areas)
     ensures { machine.new ≡ row_served accesses.now areas.now machine.old }
 {
@@ -45,33 +48,61 @@ fn serve_all<S: Structure>(machine: &mut Machine<S>, accesses: &[Access], areas:
     }
 }
 
-/// Serves accesses to the machine of a slot one after another.
-fn serve_slot(slot: &mut Slot, accesses: &[Access], areas: &Areas)
-    ensures served { served_of slot.new ≡ row_served accesses.now areas.now (served_of slot.old) }
+/// Serves accesses to a machine one after another, and the events among them.
+fn serve_machine<S: Structure>(
+    machine: &mut Machine<S>,
+    accesses: &[Access],
+    events: &[WaitingEvent],
+    areas: &Areas,
+)
+    requires { gaps events.now ≤ length accesses.now }
+    ensures { machine.new ≡ waiting_served accesses.now events.now areas.now machine.old }
+{
+    let Some((waiting, later)) = events.split_first() else {
+        serve_all(machine, accesses, areas);
+        return;
+    };
+    let (before, behind) = accesses.split_at(waiting.gap);
+    serve_all(machine, before, areas);
+    let _outcome = machine.step(waiting.event);
+    serve_machine(machine, behind, later, areas);
+}
+
+/// Serves accesses to the machine of a slot, and the events among them.
+fn serve_slot(slot: &mut Slot, accesses: &[Access], events: &[WaitingEvent], areas: &Areas)
+    requires { gaps events.now ≤ length accesses.now }
+    ensures served { served_of slot.new
+        ≡ waiting_served accesses.now events.now areas.now (served_of slot.old) }
     ensures form { slot_form slot.new ≡ slot_form slot.old }
 {
     match slot {
-        Slot::Sv39(machine) => serve_all(machine, accesses, areas),
-        Slot::Sv48(machine) => serve_all(machine, accesses, areas),
-        Slot::Sv57(machine) => serve_all(machine, accesses, areas),
-        Slot::Hashed(machine) => serve_all(machine, accesses, areas),
-        Slot::Clustered(machine) => serve_all(machine, accesses, areas),
-        Slot::Cuckoo2(machine) => serve_all(machine, accesses, areas),
-        Slot::Cuckoo3(machine) => serve_all(machine, accesses, areas),
-        Slot::Cuckoo4(machine) => serve_all(machine, accesses, areas),
-        Slot::Range(machine) => serve_all(machine, accesses, areas),
+        Slot::Sv39(machine) => serve_machine(machine, accesses, events, areas),
+        Slot::Sv48(machine) => serve_machine(machine, accesses, events, areas),
+        Slot::Sv57(machine) => serve_machine(machine, accesses, events, areas),
+        Slot::Hashed(machine) => serve_machine(machine, accesses, events, areas),
+        Slot::Clustered(machine) => serve_machine(machine, accesses, events, areas),
+        Slot::Cuckoo2(machine) => serve_machine(machine, accesses, events, areas),
+        Slot::Cuckoo3(machine) => serve_machine(machine, accesses, events, areas),
+        Slot::Cuckoo4(machine) => serve_machine(machine, accesses, events, areas),
+        Slot::Range(machine) => serve_machine(machine, accesses, events, areas),
     }
 }
 
-/// Serves accesses one after another to each slot in turn.
-pub(crate) fn serve_slots(slots: &mut [Slot], accesses: &[Access], areas: &Areas)
+/// Serves accesses, and the events among them, to each slot in turn.
+pub(crate) fn serve_slots(
+    slots: &mut [Slot],
+    accesses: &[Access],
+    events: &[WaitingEvent],
+    areas: &Areas,
+)
+    requires { gaps events.now ≤ length accesses.now }
     ensures served { map served_of slots.new
-        ≡ map (row_served accesses.now areas.now) (map served_of slots.old) }
+        ≡ map (waiting_served accesses.now events.now areas.now) (map served_of slots.old) }
     ensures named { All IsNamed slots.old → All IsNamed slots.new }
 {
     let Some((first, rest)) = slots.split_first_mut() else {
         return;
     };
-    serve_slot(first, accesses, areas);
-    serve_slots(rest, accesses, areas);
+    serve_slot(first, accesses, events, areas);
+    serve_slots(rest, accesses, events, areas);
 }

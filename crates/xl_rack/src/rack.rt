@@ -7,8 +7,9 @@ ghost use Rattle.xl_model.specs.RowRun.{outcome_of, reply_to};
 ghost use Rattle.xl_model.specs.Rows.{row_of, IsRow};
 ghost use Rattle.xl_model.specs.Scenes.{opened};
 ghost use Rattle.xl_model.specs.Tally.{IsSmall};
+ghost use Rattle.xl_serving.specs.Batches.{gaps};
 ghost use Rattle.xl_rack.specs.Forms.{form_named, form_of, served_behind};
-ghost use Rattle.xl_rack.specs.Batches.{row_served};
+ghost use Rattle.xl_rack.specs.Batches.{waiting_served};
 ghost use Rattle.xl_rack.specs.Places.{at_place};
 ghost use Rattle.xl_rack.specs.Slots.{served_of, IsNamed};
 
@@ -20,6 +21,7 @@ use std::marker::Model;
 use xl_areas::Areas;
 use xl_lackey::Access;
 use xl_model::{Counts, Event, Kind, NoMemory, Outcome, Reply, Row};
+use xl_serving::WaitingEvent;
 
 /// The most rows of a rack.
 const MOST: usize = 16;
@@ -134,11 +136,13 @@ impl Rack {
         access_at(&mut self.slots, i, va, kind)
     }
 
-    /// Serves accesses, with the events of their demands, by each machine in turn.
-    pub fn accesses(&mut self, accesses: &[Access], areas: &Areas)
-        ensures { self.new ≡ map (row_served accesses.now areas.now) self.old }
+    /// Serves accesses, with the events of their demands, and the events among them, by each machine in
+    /// turn.
+    pub fn serve_waiting(&mut self, accesses: &[Access], events: &[WaitingEvent], areas: &Areas)
+        requires { gaps events.now ≤ length accesses.now }
+        ensures { self.new ≡ map (waiting_served accesses.now events.now areas.now) self.old }
     {
-        serve_slots(&mut self.slots, accesses, areas)
+        serve_slots(&mut self.slots, accesses, events, areas)
     }
 
     /// The row at a place, from 0.

@@ -18,7 +18,7 @@ use xl_lackey::Access;
 use xl_model::{Event, Item, Kind, NoMemory, Row};
 use xl_outside::{Failed, Sink};
 use xl_report::write_row;
-use xl_serving::Rows;
+use xl_serving::{Rows, WaitingEvent};
 
 /// Serves an item to a row, where these areas were declared.
 #[inline(always)]
@@ -119,8 +119,8 @@ impl Rows for Rack {
         )
     }
 
-    fn accesses(&mut self, accesses: &[Access], areas: &Areas) {
-        Rack::accesses(self, accesses, areas)
+    fn serve_waiting(&mut self, accesses: &[Access], events: &[WaitingEvent], areas: &Areas) {
+        Rack::serve_waiting(self, accesses, events, areas)
     }
 
     fn write_rows<K: Sink>(&self, out: &mut K) -> Result<(), Failed> {

@@ -9,7 +9,9 @@ use xl_lackey::Access;
 use xl_model::{Event, InputFault, Kind, NoMemory, Row};
 use xl_outside::{Failed, MemFolder, MemSink, Sink, put_all};
 use xl_script::parse;
-use xl_serving::{EndStop, MadeTape, Rows, ServeStop, Status, Tape, Trace, run, serve, write_end};
+use xl_serving::{
+    EndStop, MadeTape, Rows, ServeStop, Status, Tape, Trace, WaitingEvent, run, serve, write_end,
+};
 
 /// No rows, and no memory for one.
 #[derive(Drop)]
@@ -44,7 +46,7 @@ impl Rows for NoRows {
         Ok(())
     }
 
-    fn accesses(&mut self, _accesses: &[Access], _areas: &Areas) {}
+    fn serve_waiting(&mut self, _accesses: &[Access], _events: &[WaitingEvent], _areas: &Areas) {}
 
     fn write_rows<K: Sink>(&self, _out: &mut K) -> Result<(), Failed> {
         Ok(())

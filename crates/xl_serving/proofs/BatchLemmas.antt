@@ -1,18 +1,20 @@
 -- Accesses that wait: one more, and those of a record.
 use Rattle.std.proofs.Common.{◌≡◌, refl, sym, ap, ◌∙◌, subst, ℕ, suc, ◌+◌, ◌≤◌, Bool, true, false, List, [], ◌∷◌, ◌++◌, length, take, arith}
-use Rattle.std.specs.Prelude.{Option, Some, map, slice_get}
-use Rattle.std.proofs.lemmas.List.{map-append, take_all}
+use Rattle.std.specs.Prelude.{Option, Some, map, drop, slice_get}
+use Rattle.std.proofs.lemmas.List.{append_assoc, map-append, take_all, drop_all, take-append-le, drop-append-le, length-drop}
+use Rattle.std.proofs.lemmas.List.Sums.{sum_by-cons}
 use Rattle.xl_model.specs.declared.address.Kind.{Kind}
 use Rattle.xl_model.specs.declared.script.Area.{Area}
 use Rattle.xl_model.specs.declared.script.Item.{Item}
-use Rattle.xl_model.specs.declared.script.Item.TheVariants.{Referenced}
+use Rattle.xl_model.specs.declared.script.Item.TheVariants.{Command, Referenced}
 use Rattle.xl_model.specs.Items.{state_after}
 use Rattle.xl_model.specs.Scenes.{Served, Scene, rows_after, scene_after, scenes_after, untold}
 use Rattle.xl_model_lemmas.proofs.SceneLemmas.{scene-append, untold-stays}
 use Rattle.xl_outside.specs.Sinks.{Outside, SinkAfter}
 use Rattle.xl_outside.proofs.SinkLemmas.{sink_same}
 use Rattle.xl_lackey.specs.declared.skim.Access.{Access}
-use Rattle.xl_serving.specs.Batches.{item_of, waited}
+use Rattle.xl_serving.specs.declared.batch.WaitingEvent.{WaitingEvent}
+use Rattle.xl_serving.specs.Batches.{item_of, items_waiting, gaps}
 use Rattle.xl_serving.specs.Serving.{HasServed}
 use Rattle.xl_serving.proofs.ServedLemmas.{take_one}
 
@@ -26,14 +28,48 @@ pub any-number : (n m va : ℕ) (k : Kind) (s : Scene) → scene_after (Referenc
 unfolding scene_after
 any-number n m va k s = ap (λ (rows : List Served). record { rows = rows; areas = s.areas }) (any-rows n m va k s.areas s.rows)
 
--- one access more waits
-pub waited-more : (accesses : List Access) (va : ℕ) (k : Kind) (s t : Scene) (number : ℕ) → s ≡ t
-    → waited (accesses ++ record { va = va; kind = k } ∷ []) s ≡ scene_after (Referenced number va k) (waited accesses t)
-waited-more accesses va k s t number e =
-    ap (waited (accesses ++ record { va = va; kind = k } ∷ [])) e
-    ∙ ap (λ (items : List Item). scenes_after items t) (map-append item_of accesses (record { va = va; kind = k } ∷ []))
-    ∙ scene-append (map item_of accesses) (Referenced 0 va k ∷ []) t
-    ∙ any-number 0 number va k (waited accesses t)
+-- the first gap is within the accesses
+gap-in : (accesses : List Access) (w : WaitingEvent) (events : List WaitingEvent) → gaps (w ∷ events) ≤ length accesses → w.gap ≤ length accesses
+gap-in accesses w events h = omega (arith, h, sum_by-cons (λ (x : WaitingEvent). x.gap) w events)
+
+-- accesses more wait
+pub items-more : (accesses got : List Access) (events : List WaitingEvent) → gaps events ≤ length accesses → items_waiting (accesses ++ got) events ≡ items_waiting accesses events ++ map item_of got
+items-more accesses got [] h = map-append item_of accesses got
+items-more accesses got (w ∷ events) h =
+    let front = map item_of (take w.gap accesses) in
+    let g : w.gap ≤ length accesses = gap-in accesses w events h in
+    let rest : gaps events ≤ length (drop w.gap accesses) = omega (arith, h, sum_by-cons (λ (x : WaitingEvent). x.gap) w events, length-drop w.gap accesses) in
+    ap (λ (xs : List Access). map item_of xs ++ Command w.event ∷ items_waiting (drop w.gap (accesses ++ got)) events) (take-append-le w.gap accesses got g)
+    ∙ ap (λ (xs : List Access). front ++ Command w.event ∷ items_waiting xs events) (drop-append-le w.gap accesses got g)
+    ∙ ap (λ (items : List Item). front ++ Command w.event ∷ items) (items-more (drop w.gap accesses) got events rest)
+    ∙ sym (append_assoc front (Command w.event ∷ items_waiting (drop w.gap accesses) events) (map item_of got))
+
+-- an event more waits, behind all accesses
+event-more : (accesses : List Access) (events : List WaitingEvent) (w : WaitingEvent) → gaps events + w.gap ≡ length accesses
+    → items_waiting accesses (events ++ w ∷ []) ≡ items_waiting accesses events ++ Command w.event ∷ []
+event-more accesses [] w h =
+    ap (λ (xs : List Access). map item_of xs ++ Command w.event ∷ map item_of (drop w.gap accesses)) (take_all w.gap accesses (omega (arith, h)))
+    ∙ ap (λ (xs : List Access). map item_of accesses ++ Command w.event ∷ map item_of xs) (drop_all w.gap accesses (omega (arith, h)))
+event-more accesses (v ∷ events) w h =
+    let front = map item_of (take v.gap accesses) in
+    let rest : gaps events + w.gap ≡ length (drop v.gap accesses) = omega (arith, h, sum_by-cons (λ (x : WaitingEvent). x.gap) v events, length-drop v.gap accesses) in
+    ap (λ (items : List Item). front ++ Command v.event ∷ items) (event-more (drop v.gap accesses) events w rest)
+    ∙ sym (append_assoc front (Command v.event ∷ items_waiting (drop v.gap accesses) events) (Command w.event ∷ []))
+
+-- the scene after one access more
+pub access-waits : (accesses : List Access) (events : List WaitingEvent) (va : ℕ) (k : Kind) (s : Scene) (number : ℕ) → gaps events ≤ length accesses
+    → scenes_after (items_waiting (accesses ++ record { va = va; kind = k } ∷ []) events) s ≡ scene_after (Referenced number va k) (scenes_after (items_waiting accesses events) s)
+access-waits accesses events va k s number h =
+    ap (λ (items : List Item). scenes_after items s) (items-more accesses (record { va = va; kind = k } ∷ []) events h)
+    ∙ scene-append (items_waiting accesses events) (Referenced 0 va k ∷ []) s
+    ∙ any-number 0 number va k (scenes_after (items_waiting accesses events) s)
+
+-- the scene after one event more
+pub event-waits : (accesses : List Access) (events : List WaitingEvent) (w : WaitingEvent) (s : Scene) → gaps events + w.gap ≡ length accesses
+    → scenes_after (items_waiting accesses (events ++ w ∷ [])) s ≡ scene_after (Command w.event) (scenes_after (items_waiting accesses events) s)
+event-waits accesses events w s h =
+    ap (λ (items : List Item). scenes_after items s) (event-more accesses events w h)
+    ∙ scene-append (items_waiting accesses events) (Command w.event ∷ []) s
 
 -- the next of some items
 pub scenes-next : (xs : List Item) (i : ℕ) (x : Item) (s t u : Scene) → slice_get xs i ≡ Some x → t ≡ scenes_after (take i xs) s → u ≡ scene_after x t

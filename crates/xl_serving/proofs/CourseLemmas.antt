@@ -125,10 +125,10 @@ going_lost A {taken} {outside} {roomy} answers mid after by now later t u r p q 
   stands_still = tt;
 }
 
--- nothing of a run was served yet
-pub underway_run : {K : Type 0} {taken : K → Option (List ℕ)} {outside : K → Outside} {roomy : K → ℕ → Type 0} (answers : Bool) (after : Type 0) (n : ℕ) (t : Trail) (p : Scene) (k : K)
-    → after → Underway taken outside roomy answers after (left_by (ran n) t) (left_by (ran n) t) p p k k
-underway_run answers after n t p k s = record { serves = λ next. reached_none answers (left_by (ran n) t next) p k; stands_still = s }
+-- nothing was served yet
+pub underway_none : {K : Type 0} {taken : K → Option (List ℕ)} {outside : K → Outside} {roomy : K → ℕ → Type 0} (answers : Bool) (after : Type 0) (rules : Rules) (t : Trail) (p : Scene) (k : K)
+    → after → Underway taken outside roomy answers after (left_by rules t) (left_by rules t) p p k k
+underway_none answers after rules t p k s = record { serves = λ next. reached_none answers (left_by rules t next) p k; stands_still = s }
 
 -- the trace has ended
 pub going_ends : {K A : Type 0} {taken : K → Option (List ℕ)} {outside : K → Outside} {roomy : K → ℕ → Type 0} (answers : Bool) (mid after : Type 0)
@@ -191,6 +191,11 @@ pub record Through {K : Type 0} (taken : K → Option (List ℕ)) (outside : K �
 pub through_none : {K : Type 0} (taken : K → Option (List ℕ)) (outside : K → Outside) (roomy : K → ℕ → Type 0) (answers : Bool) (after : Type 0) (c : Course) (p : Scene) (k : K)
     → after → Through taken outside roomy answers after c c p p k k
 through_none taken outside roomy answers after c p k s = record { reached = reached_none answers c p k; stands_still = s }
+
+-- the same scene by another name
+pub through_at : {K : Type 0} {taken : K → Option (List ℕ)} {outside : K → Outside} {roomy : K → ℕ → Type 0} {answers : Bool} {after : Type 0} {whole left : Course} {p q r : Scene} {k l : K}
+    → r ≡ q → Through taken outside roomy answers after whole left p q k l → Through taken outside roomy answers after whole left p r k l
+through_at {K} {taken} {outside} {roomy} {answers} {after} {whole} {left} {p} {q} {r} {k} {l} e h = subst (λ (s : Scene). Through taken outside roomy answers after whole left p s k l) (sym e) h
 
 command-left : (cs : List Command) (i : ℕ) (c : Command) → slice_get cs i ≡ Some c → drop i cs ≡ c ∷ drop (i + 1) cs
 command-left cs i c h = drop_more cs i c (slice_get_within cs i c h) ∙ ap (λ (z : Command). z ∷ drop (i + 1) cs) (get_or_from_slice_get cs i c c h)

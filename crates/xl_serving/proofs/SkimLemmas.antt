@@ -1,7 +1,6 @@
 -- Records of one access alone that a trace gives together: what is left of the trace, and what the rows are served.
-use Rattle.std.proofs.Common.{◌≡◌, refl, sym, ap, ◌∙◌, ℕ, zero, suc, ◌+◌, ◌-◌, ◌%◌, ◌^◌, ◌<◌, ◌≤◌, Bool, true, false, List, [], ◌∷◌, ◌++◌, length, map, append-nil, arith}
+use Rattle.std.proofs.Common.{◌≡◌, refl, sym, ap, ◌∙◌, ℕ, zero, suc, ◌+◌, ◌-◌, ◌%◌, ◌^◌, ◌<◌, ◌≤◌, Bool, true, false, List, [], ◌∷◌, ◌++◌, length, map, append-nil, length-append, arith}
 use Rattle.std.specs.Prelude.{Option, None, Some}
-use Rattle.std.proofs.lemmas.List.{map-append}
 use Rattle.xl_model.specs.declared.address.Kind.{Kind}
 use Rattle.xl_model.specs.declared.fault.InputFault.{InputFault}
 use Rattle.xl_model.specs.declared.script.Item.{Item}
@@ -16,13 +15,18 @@ use Rattle.xl_text.specs.Texts.{lines_of}
 use Rattle.xl_serving.specs.Skims.{accesses_of_all, Skims}
 use Rattle.xl_serving.specs.Tapes.{IsUnfed, IsWithin, IsFedFrom}
 use Rattle.xl_serving.specs.Traces.{Progress, MadeProgress, left_of, made_left, trail, numbered, next_number}
-use Rattle.xl_serving.specs.Batches.{item_of, waited}
+use Rattle.xl_serving.specs.declared.batch.WaitingEvent.{WaitingEvent}
+use Rattle.xl_serving.specs.Batches.{Backlog, item_of, items_waiting, gaps, waited, items_of_all, WaitsMore}
 use Rattle.xl_serving.specs.Serving.{HasServed}
-use Rattle.xl_serving.proofs.BatchLemmas.{any-number, served-untold}
+use Rattle.xl_serving.proofs.BatchLemmas.{any-number, items-more, served-untold}
 use Rattle.xl_serving.proofs.ServedLemmas.{served_none}
 use Rattle.xl_serving.proofs.CourseLemmas.{Rules, Underway, items_of, left_by, before-before, reached_on}
 use Rattle.xl_serving.proofs.RecordLemmas.{gives_all, same_within, trail_on, with_numbered}
 use Rattle.xl_outside.specs.Sinks.{Outside}
+
+-- accesses behind others are no fewer
+pub no-fewer : (before after got : List Access) → after ≡ before ++ got → length before ≤ length after
+no-fewer before after got e = omega (arith, ap (λ (xs : List Access). length xs) e, length-append before got)
 
 -- numbers change no access
 each-numbered : (n : ℕ) (rs : List Record) → accesses_of_all (numbered n rs) ≡ all_accesses rs
@@ -106,26 +110,24 @@ skims-made old new before after count k m =
 pub skims-none : (stands : Type 0) (t : Trail) (xs : List Access) → stands → Skims stands t t xs xs 0
 skims-none stands t xs h = record { stands_still = h; taken = []; got = []; split = refl; follow = sym (append-nil xs); each = refl; many = refl }
 
--- the items of some records
-abbrev all_items : List Accesses → List Item
-all_items [] = []
-all_items (r ∷ rs) = items_of r ++ all_items rs
+pub waits-none : (stands : Type 0) (t : Trail) (w : Backlog) → stands → WaitsMore stands t t w w 0
+waits-none stands t w h = record { stands_still = h; taken = []; split = refl; follow = λ s. refl; many = refl }
 
 -- a rule of records that are taken first
 abbrev Takes : Rules → Rules → List Accesses → Type 0
-Takes now later rs = (us : List Accesses) (e : Option InputFault) (next : Trail → Course) → now (rs ++ us) e next ≡ before (all_items rs) (later us e next)
+Takes now later rs = (us : List Accesses) (e : Option InputFault) (next : Trail → Course) → now (rs ++ us) e next ≡ before (items_of_all rs) (later us e next)
 
 all-taken : (rs : List Accesses) → Takes ran_all ran_all rs
 all-taken [] us e next = refl
-all-taken (r ∷ rs) us e next = ap (before (items_of r)) (all-taken rs us e next) ∙ before-before (items_of r) (all_items rs) (ran_all us e next)
+all-taken (r ∷ rs) us e next = ap (before (items_of r)) (all-taken rs us e next) ∙ before-before (items_of r) (items_of_all rs) (ran_all us e next)
 
 run-taken : (n k : ℕ) (rs : List Accesses) → length rs ≡ k → k ≤ n → Takes (ran n) (ran (n - k)) rs
 run-taken n k [] many h us e next = let z : n ≡ n - k = omega (arith, many) in ap (λ (m : ℕ). ran m us e next) z
 run-taken zero k (r ∷ rs) many h us e next = absurd (omega (arith, many))
 run-taken (suc n) k (r ∷ rs) many h us e next =
     let z : n - length rs ≡ suc n - k = omega (arith, many) in
-    ap (before (items_of r)) (run-taken n (length rs) rs refl (omega (arith, many)) us e next ∙ ap (λ (m : ℕ). before (all_items rs) (ran m us e next)) z)
-    ∙ before-before (items_of r) (all_items rs) (ran (suc n - k) us e next)
+    ap (before (items_of r)) (run-taken n (length rs) rs refl (omega (arith, many)) us e next ∙ ap (λ (m : ℕ). before (items_of_all rs) (ran m us e next)) z)
+    ∙ before-before (items_of r) (items_of_all rs) (ran (suc n - k) us e next)
 
 -- the scene after some accesses, as items of any numbers
 abbrev item_with : ℕ → ℕ × Kind → Item
@@ -140,12 +142,12 @@ items-append : (n : ℕ) (xs ys : List (ℕ × Kind)) → accesses_items n (xs +
 items-append n [] ys = refl
 items-append n (x ∷ xs) ys = ap (λ (zs : List Item). item_with n x ∷ zs) (items-append n xs ys)
 
-scene-all : (rs : List Accesses) (s : Scene) → scenes_after (all_items rs) s ≡ scenes_after (accesses_items 0 (accesses_of_all rs)) s
+scene-all : (rs : List Accesses) (s : Scene) → scenes_after (items_of_all rs) s ≡ scenes_after (accesses_items 0 (accesses_of_all rs)) s
 scene-all [] s = refl
 scene-all (r ∷ rs) s =
     let xs = accesses_items 0 r.accesses in
-    scene-append (items_of r) (all_items rs) s
-    ∙ ap (λ (t : Scene). scenes_after (all_items rs) t) (scene-numbers r.number 0 r.accesses s)
+    scene-append (items_of r) (items_of_all rs) s
+    ∙ ap (λ (t : Scene). scenes_after (items_of_all rs) t) (scene-numbers r.number 0 r.accesses s)
     ∙ scene-all rs (scenes_after xs s)
     ∙ sym (scene-append xs (accesses_items 0 (accesses_of_all rs)) s)
     ∙ sym (ap (λ (items : List Item). scenes_after items s) (items-append 0 r.accesses (accesses_of_all rs)))
@@ -154,26 +156,34 @@ items-waited : (got : List Access) → accesses_items 0 (map pair got) ≡ map i
 items-waited [] = refl
 items-waited (a ∷ got) = ap (λ (zs : List Item). item_of a ∷ zs) (items-waited got)
 
--- the accesses that wait, with those that follow
-waited-on : (before got : List Access) (s : Scene) → waited (before ++ got) s ≡ waited got (waited before s)
-waited-on before got s = ap (λ (items : List Item). scenes_after items s) (map-append item_of before got) ∙ scene-append (map item_of before) (map item_of got) s
-
-scene-each : (rs : List Accesses) (got : List Access) (s : Scene) → accesses_of_all rs ≡ map pair got → waited got s ≡ scenes_after (all_items rs) s
+-- the scene after the accesses of some records
+scene-each : (rs : List Accesses) (got : List Access) (s : Scene) → accesses_of_all rs ≡ map pair got → scenes_after (map item_of got) s ≡ scenes_after (items_of_all rs) s
 scene-each rs got s e =
     sym (scene-all rs s ∙ ap (λ (xs : List (ℕ × Kind)). scenes_after (accesses_items 0 xs) s) e ∙ ap (λ (items : List Item). scenes_after items s) (items-waited got))
 
-module _ {K : Type 0} (taken : K → Option (List ℕ)) (outside : K → Outside) (roomy : K → ℕ → Type 0) (stands : Type 0) (t u : Trail) (xs ys : List Access) (count : ℕ)
-    (k : Skims stands t u xs ys count) (s : Scene) (out : K) where
-  scene-skimmed : waited ys s ≡ scenes_after (all_items k.taken) (waited xs s)
-  scene-skimmed =
-      ap (λ (zs : List Access). waited zs s) k.follow ∙ waited-on xs k.got s ∙ scene-each k.taken k.got (waited xs s) k.each
+-- what a trace skims into the accesses that wait
+pub waits-skimmed : (stands : Type 0) (t u : Trail) (before after : List Access) (events : List WaitingEvent) (count : ℕ) → gaps events ≤ length before → Skims stands t u before after count
+    → WaitsMore stands t u (record { accesses = before; events = events }) (record { accesses = after; events = events }) count
+waits-skimmed stands t u before after events count h k = record {
+  stands_still = k.stands_still;
+  taken = k.taken;
+  split = k.split;
+  follow = λ s.
+      ap (λ (xs : List Access). scenes_after (items_waiting xs events) s) k.follow
+      ∙ ap (λ (items : List Item). scenes_after items s) (items-more before k.got events h)
+      ∙ scene-append (items_waiting before events) (map item_of k.got) s
+      ∙ scene-each k.taken k.got (scenes_after (items_waiting before events) s) k.each;
+  many = k.many;
+}
 
+module _ {K : Type 0} (taken : K → Option (List ℕ)) (outside : K → Outside) (roomy : K → ℕ → Type 0) (stands : Type 0) (t u : Trail) (xs ys : Backlog) (count : ℕ)
+    (k : WaitsMore stands t u xs ys count) (s : Scene) (out : K) where
   -- where lines are written, nothing is skimmed
-  served-skimmed : (answers : Bool) → (answers ≡ true → count ≡ 0) → HasServed taken outside roomy answers (all_items k.taken) (waited xs s) (waited ys s) out out true
-  served-skimmed false idle = served-untold taken outside roomy (all_items k.taken) (waited xs s) (waited ys s) out scene-skimmed
+  served-skimmed : (answers : Bool) → (answers ≡ true → count ≡ 0) → HasServed taken outside roomy answers (items_of_all k.taken) (waited xs s) (waited ys s) out out true
+  served-skimmed false idle = served-untold taken outside roomy (items_of_all k.taken) (waited xs s) (waited ys s) out (k.follow s)
   served-skimmed true idle =
       let none : k.taken ≡ [] = nothing k.taken (k.many ∙ idle refl) in
-      let same : waited ys s ≡ waited xs s = scene-skimmed ∙ ap (λ (rs : List Accesses). scenes_after (all_items rs) (waited xs s)) none in
+      let same : waited ys s ≡ waited xs s = k.follow s ∙ ap (λ (rs : List Accesses). scenes_after (items_of_all rs) (waited xs s)) none in
       rw (none, same) (served_none true (waited xs s) out)
     where
       nothing : (rs : List Accesses) → length rs ≡ 0 → rs ≡ []
@@ -188,7 +198,7 @@ module _ {K : Type 0} (taken : K → Option (List ℕ)) (outside : K → Outside
     serves = λ next.
         reached_on answers (by next) (left_by now t next) (left_by later u next) p (waited xs s) (waited ys s) first out out (g.serves next)
         (record {
-          done = all_items k.taken;
+          done = items_of_all k.taken;
           split = ap (λ (v : Trail). left_by now v next) k.split ∙ takes u.records u.fault next;
           served = served-skimmed answers idle;
         });

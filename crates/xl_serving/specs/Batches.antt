@@ -1,18 +1,53 @@
--- Accesses that wait to be served.
-use Rattle.std.specs.Prelude.{◌≡◌, Bool, true, List, [], map}
+-- Items that wait to be served.
+use Rattle.std.specs.Prelude.{◌≡◌, ℕ, Bool, true, List, [], ◌∷◌, ◌++◌, length, map, take, drop, sum_by}
 use Rattle.xl_model.specs.declared.script.Item.{Item}
-use Rattle.xl_model.specs.declared.script.Item.TheVariants.{Referenced}
+use Rattle.xl_model.specs.declared.script.Item.TheVariants.{Command, Referenced}
+use Rattle.xl_model.specs.Courses.{Accesses, Trail, accesses_items}
 use Rattle.xl_model.specs.Scenes.{Scene, scenes_after}
 use Rattle.xl_lackey.specs.declared.skim.Access.{Access}
+use Rattle.xl_serving.specs.declared.batch.WaitingEvent.{WaitingEvent}
 
 -- An access that waits, as an item. No line of it is written, so the number of its record tells nothing.
 abbrev pub item_of : Access → Item
 item_of a = Referenced 0 a.va a.kind
 
--- The scene after some accesses that wait.
-abbrev pub waited : List Access → Scene → Scene
-waited accesses s = scenes_after (map item_of accesses) s
+-- The items of accesses with events among them: for each event the accesses of its gap and then its command, and at the
+-- end the accesses behind the last event.
+abbrev pub items_waiting : List Access → List WaitingEvent → List Item
+items_waiting accesses [] = map item_of accesses
+items_waiting accesses (w ∷ events) = map item_of (take w.gap accesses) ++ Command w.event ∷ items_waiting (drop w.gap accesses) events
 
--- Where lines are written, no access waits.
-abbrev pub IsIdle : Bool → List Access → Type 0
-IsIdle answers accesses = answers ≡ true → accesses ≡ []
+-- How many accesses come before the last of some events.
+abbrev pub gaps : List WaitingEvent → ℕ
+gaps events = sum_by (λ (w : WaitingEvent). w.gap) events
+
+-- What waits: accesses, and events among them.
+pub record Backlog : Type 0 where
+  pub accesses : List Access
+  pub events : List WaitingEvent
+
+-- The items that wait.
+abbrev pub waits : Backlog → List Item
+waits w = items_waiting w.accesses w.events
+
+-- The scene after what waits.
+abbrev pub waited : Backlog → Scene → Scene
+waited w s = scenes_after (waits w) s
+
+-- Where lines are written, nothing waits.
+abbrev pub IsIdle : Bool → Backlog → Type 0
+IsIdle answers w = answers ≡ true → waits w ≡ []
+
+-- The items of some records, one record after another.
+abbrev pub items_of_all : List Accesses → List Item
+items_of_all [] = []
+items_of_all (r ∷ rs) = accesses_items r.number r.accesses ++ items_of_all rs
+
+-- So many records were the first of what was left, and the rest of it is left; their items wait behind those that waited
+-- before. `stands` says that the trace is fed from its file alone still.
+pub record WaitsMore (stands : Type 0) (t u : Trail) (before after : Backlog) (count : ℕ) : Type 0 where
+  pub stands_still : stands
+  pub taken : List Accesses
+  pub split : t ≡ record u { records = taken ++ u.records }
+  pub follow : (s : Scene) → waited after s ≡ scenes_after (items_of_all taken) (waited before s)
+  pub many : length taken ≡ count

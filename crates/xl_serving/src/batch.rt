@@ -1,84 +1,179 @@
-//! Accesses that wait to be served together, where no line is written: a row serves many at a time, since
-//! no row sees another.
+//! Items that wait to be served together, where no line is written: a row serves many at a time, since no
+//! row sees another.
 
-ghost use Rattle.std.specs.Prelude.{◌≡◌, ◌<◌, ℕ, []};
-ghost use Rattle.arrayvec.specs.ArrayVec.{array_vec_len};
-ghost use Rattle.xl_model.specs.declared.script.Item.TheVariants.{Referenced};
+ghost use Rattle.std.specs.Prelude.{◌≡◌, ◌<◌, ◌≤◌, ℕ, List, [], Option, length, true};
+ghost use Rattle.xl_model.specs.declared.script.Item.TheVariants.{Command, Referenced};
 ghost use Rattle.xl_model.specs.Courses.{accesses_items};
 ghost use Rattle.xl_model.specs.Scenes.{scene_after, scenes_after};
 ghost use Rattle.xl_lackey.specs.Accesses.{accesses};
+ghost use Rattle.xl_lackey.specs.Skims.{batch_size};
 ghost use Rattle.xl_serving.specs.Serving.{scene_of};
-ghost use Rattle.xl_serving.specs.Batches.{waited};
+ghost use Rattle.xl_serving.specs.Batches.{waits, waited, WaitsMore};
 
 use crate::rows::Rows;
-use crate::trace::Numbered;
+use crate::trace::{Numbered, Trace};
+use arrayvec::ArrayVec;
+use std::marker::Model;
 use xl_areas::Areas;
 use xl_lackey::{Access, Batch, nth_access, sole_access};
-use xl_model::Kind;
+use xl_model::{Event, Kind};
 
-/// Serves the accesses that wait.
-#[inline(never)]
-pub(crate) fn settle<R: Rows>(rows: &mut R, areas: &Areas, batch: &mut Batch)
-    ensures served { scene_of (R.rows rows.new) areas.now
-        ≡ waited batch.old.items (scene_of (R.rows rows.old) areas.now) }
-    ensures none { batch.new.items ≡ [] }
-{
-    rows.accesses(batch.as_slice(), areas);
-    batch.clear();
+/// The event of a command that waits among accesses.
+#[derive(Clone, Copy, Debug, PartialEq, Eq)]
+pub struct WaitingEvent {
+    /// How many of the accesses come before it, and behind the event before it.
+    pub gap: usize,
+    pub event: Event,
 }
 
-/// Serves the accesses that wait where there is no room for one more.
-#[inline(always)]
-fn make_room<R: Rows>(rows: &mut R, areas: &Areas, batch: &mut Batch)
-    ensures same { waited batch.new.items (scene_of (R.rows rows.new) areas.now)
-        ≡ waited batch.old.items (scene_of (R.rows rows.old) areas.now) }
-    ensures room { array_vec_len batch.new < 64 }
-{
-    if batch.is_full() {
-        settle(rows, areas, batch);
+impl Default for WaitingEvent {
+    fn default() -> WaitingEvent {
+        WaitingEvent {
+            gap: 0,
+            event: Event::Space { space: 0 },
+        }
     }
 }
 
-/// Lets an access wait.
-#[inline(always)]
-fn put_off<R: Rows>(rows: &mut R, areas: &Areas, batch: &mut Batch, va: u64, kind: Kind)
-    ensures { (number : ℕ) → waited batch.new.items (scene_of (R.rows rows.new) areas.now)
-        ≡ scene_after (Referenced number va kind)
-        (waited batch.old.items (scene_of (R.rows rows.old) areas.now)) }
-{
-    make_room(rows, areas, batch);
-    batch.push(Access { va, kind });
+/// What waits to be served: accesses, and events of commands among them. So a row that is served finds
+/// its code and its table at hand for as many items as wait.
+#[derive(Drop)]
+pub(crate) struct Waiting {
+    accesses: Batch,
+    events: ArrayVec<WaitingEvent, 4>,
+    /// How many of the accesses come before the last of the events.
+    placed: usize,
 }
 
-/// Lets the accesses of a record wait.
-#[inline(always)]
-pub(crate) fn put_off_record<R: Rows>(
-    rows: &mut R,
-    areas: &Areas,
-    batch: &mut Batch,
-    found: &Numbered,
-)
-    ensures { waited batch.new.items (scene_of (R.rows rows.new) areas.now)
-        ≡ scenes_after (accesses_items found.now.number (accesses found.now.reference))
-        (waited batch.old.items (scene_of (R.rows rows.old) areas.now)) }
-{
-    match sole_access(&found.reference) {
-        Some((va, kind)) => put_off(rows, areas, batch, va, kind),
-        None => put_off_each(rows, areas, batch, found),
+impl Model for Waiting {
+    ghost use Rattle.std.specs.Prelude.{◌≡◌, ◌≤◌, length};
+    ghost use Rattle.xl_serving.specs.Batches.{Backlog, gaps};
+
+    ghost Value = { Backlog };
+
+    ghost view = { λ w. record { accesses = w.accesses.items; events = w.events.items } };
+
+    ghost invariant = { λ w. (w.placed ≡ gaps w.events.items)
+        × (gaps w.events.items ≤ length w.accesses.items) };
+}
+
+impl Waiting {
+    /// Nothing waits.
+    pub(crate) fn new() -> Waiting
+        ensures { waits result ≡ [] }
+    {
+        Waiting {
+            accesses: Batch::new(),
+            events: ArrayVec::new(),
+            placed: 0,
+        }
     }
-}
 
-/// Lets the accesses of a record wait, one by one.
-#[inline(never)]
-fn put_off_each<R: Rows>(rows: &mut R, areas: &Areas, batch: &mut Batch, found: &Numbered)
-    ensures { waited batch.new.items (scene_of (R.rows rows.new) areas.now)
-        ≡ scenes_after (accesses_items found.now.number (accesses found.now.reference))
-        (waited batch.old.items (scene_of (R.rows rows.old) areas.now)) }
-{
-    for i in 0..64 {
-        let Some((va, kind)) = nth_access(&found.reference, i) else {
-            return;
-        };
-        put_off(rows, areas, batch, va, kind);
+    /// Whether nothing waits.
+    pub(crate) fn is_idle(&self) -> bool
+        ensures { result ≡ true → waits self.now ≡ [] }
+    {
+        self.accesses.is_empty() && self.events.is_empty()
+    }
+
+    /// Serves what waits.
+    #[inline(never)]
+    pub(crate) fn settle<R: Rows>(&mut self, rows: &mut R, areas: &Areas)
+        ensures served { scene_of (R.rows rows.new) areas.now
+            ≡ waited self.old (scene_of (R.rows rows.old) areas.now) }
+        ensures none { waits self.new ≡ [] }
+        ensures accesses { self.new.accesses ≡ [] }
+        ensures events { self.new.events ≡ [] }
+    {
+        rows.serve_waiting(self.accesses.as_slice(), self.events.as_slice(), areas);
+        self.accesses.clear();
+        self.events.clear();
+        self.placed = 0;
+    }
+
+    /// Serves what waits where there is no room for one access more.
+    #[inline(always)]
+    fn make_room<R: Rows>(&mut self, rows: &mut R, areas: &Areas)
+        ensures same { waited self.new (scene_of (R.rows rows.new) areas.now)
+            ≡ waited self.old (scene_of (R.rows rows.old) areas.now) }
+        ensures room { length self.new.accesses < batch_size }
+    {
+        if self.accesses.is_full() {
+            self.settle(rows, areas);
+        }
+    }
+
+    /// Serves what waits where there is no room for one event more.
+    fn make_room_for_event<R: Rows>(&mut self, rows: &mut R, areas: &Areas)
+        ensures same { waited self.new (scene_of (R.rows rows.new) areas.now)
+            ≡ waited self.old (scene_of (R.rows rows.old) areas.now) }
+        ensures room { length self.new.events < 4 }
+    {
+        if self.events.is_full() {
+            self.settle(rows, areas);
+        }
+    }
+
+    /// Lets an access wait.
+    #[inline(always)]
+    fn put_off<R: Rows>(&mut self, rows: &mut R, areas: &Areas, va: u64, kind: Kind)
+        ensures { (number : ℕ) → waited self.new (scene_of (R.rows rows.new) areas.now)
+            ≡ scene_after (Referenced number va kind)
+            (waited self.old (scene_of (R.rows rows.old) areas.now)) }
+    {
+        self.make_room(rows, areas);
+        self.accesses.push(Access { va, kind });
+    }
+
+    /// Lets an event of a command wait.
+    #[inline(never)]
+    pub(crate) fn put_off_event<R: Rows>(&mut self, rows: &mut R, areas: &Areas, event: Event)
+        ensures { waited self.new (scene_of (R.rows rows.new) areas.now)
+            ≡ scene_after (Command event) (waited self.old (scene_of (R.rows rows.old) areas.now)) }
+    {
+        self.make_room_for_event(rows, areas);
+        let gap = self.accesses.len() - self.placed;
+        self.placed += gap;
+        self.events.push(WaitingEvent { gap, event });
+    }
+
+    /// Lets the accesses of the next records wait, at most so many. Gives of how many records.
+    #[inline(always)]
+    pub(crate) fn skim<T: Trace>(&mut self, trace: &mut T, most: u64) -> u64
+        ensures skims { (file : Option (List ℕ)) → T.stands trace.old file
+            → WaitsMore (T.stands trace.new file) (T.left trace.old file) (T.left trace.new file)
+            self.old self.new result }
+        ensures few { result ≤ most }
+        ensures no_more { T.size trace.new ≤ T.size trace.old }
+    {
+        trace.skim(&mut self.accesses, most)
+    }
+
+    /// Lets the accesses of a record wait.
+    #[inline(always)]
+    pub(crate) fn put_off_record<R: Rows>(&mut self, rows: &mut R, areas: &Areas, found: &Numbered)
+        ensures { waited self.new (scene_of (R.rows rows.new) areas.now)
+            ≡ scenes_after (accesses_items found.now.number (accesses found.now.reference))
+            (waited self.old (scene_of (R.rows rows.old) areas.now)) }
+    {
+        match sole_access(&found.reference) {
+            Some((va, kind)) => self.put_off(rows, areas, va, kind),
+            None => self.put_off_each(rows, areas, found),
+        }
+    }
+
+    /// Lets the accesses of a record wait, one by one.
+    #[inline(never)]
+    fn put_off_each<R: Rows>(&mut self, rows: &mut R, areas: &Areas, found: &Numbered)
+        ensures { waited self.new (scene_of (R.rows rows.new) areas.now)
+            ≡ scenes_after (accesses_items found.now.number (accesses found.now.reference))
+            (waited self.old (scene_of (R.rows rows.old) areas.now)) }
+    {
+        for i in 0..64 {
+            let Some((va, kind)) = nth_access(&found.reference, i) else {
+                return;
+            };
+            self.put_off(rows, areas, va, kind);
+        }
     }
 }

@@ -14,6 +14,7 @@ mod stop;
 mod tape;
 mod trace;
 
+pub use batch::WaitingEvent;
 pub use ending::{EndStop, write_end};
 pub use made::MadeTape;
 pub use rows::Rows;

@@ -1,15 +1,16 @@
 //! What a script is served to.
 
-ghost use Rattle.std.specs.Prelude.{◌≡◌, ◌<◌, ◌++◌, List, [], ◌∷◌, length, string_bytes, is_ok, IfOk, OnOk, OnErr};
+ghost use Rattle.std.specs.Prelude.{◌≡◌, ◌<◌, ◌≤◌, ◌++◌, List, [], ◌∷◌, length, string_bytes, is_ok, IfOk, OnOk, OnErr};
 ghost use Rattle.xl_model.specs.declared.script.Item.TheVariants.{Command, Referenced};
 ghost use Rattle.xl_model.specs.Rows.{row_of, IsRow};
-ghost use Rattle.xl_model.specs.Scenes.{Served, opened};
+ghost use Rattle.xl_model.specs.Scenes.{Served, opened, scenes_after};
 ghost use Rattle.xl_model.specs.Report.{row_lines, images_lines};
 ghost use Rattle.xl_outside.specs.Sinks.{SinkAfter};
 ghost use Rattle.xl_report.specs.Json.{row_objects, objects_text};
 ghost use Rattle.xl_serving.specs.Serving.{HasServed, scene_of};
-ghost use Rattle.xl_serving.specs.Batches.{waited};
+ghost use Rattle.xl_serving.specs.Batches.{gaps, items_waiting};
 
+use crate::batch::WaitingEvent;
 use std::alloc::Global;
 use xl_areas::Areas;
 use xl_lackey::Access;
@@ -56,10 +57,11 @@ pub trait Rows: Sized {
             (scene_of (rows self.old) areas.now) (scene_of (rows self.new) areas.now)
             out.old out.new (is_ok result) };
 
-    /// Serves accesses one after another, where these areas were declared, and writes no line.
-    fn accesses(&mut self, accesses: &[Access], areas: &Areas)
-        ensures { scene_of (rows self.new) areas.now
-            ≡ waited accesses.now (scene_of (rows self.old) areas.now) };
+    /// Serves accesses, with events among them, where these areas were declared, and writes no line.
+    fn serve_waiting(&mut self, accesses: &[Access], events: &[WaitingEvent], areas: &Areas)
+        requires { gaps events.now ≤ length accesses.now }
+        ensures { scene_of (rows self.new) areas.now ≡ scenes_after
+            (items_waiting accesses.now events.now) (scene_of (rows self.old) areas.now) };
 
     /// Writes a line for each row.
     fn write_rows<K: Sink>(&self, out: &mut K) -> Result<(), Failed>

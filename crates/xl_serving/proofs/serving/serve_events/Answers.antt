@@ -5,20 +5,24 @@ use Rattle.xl_serving.proofs.ServedLemmas.{served_next, served_lost, served_all}
 use Rattle.xl_serving.proofs.ItemLemmas.{the_nth_event, length-events}
 use Rattle.xl_serving.proofs.serving.serve_events.Goals as goal
 
-pub returns-in-Err : goal.returns-in-Err
-returns-in-Err g c =
+pub returns-in-Err-clause-served : goal.returns-in-Err-clause-served
+returns-in-Err-clause-served g c =
     let less : c.loop-i.i < count_of c.args.command = let e = c.count-i-end.ensures in grind (arith, nat_tests) in
     (served_lost c.args.answers _ c.loop-i.i _ _ _ _ _ _ _ (the_nth_event (event_at c.args.command) (count_of c.args.command) c.loop-i.i c.nth_event.result less c.nth_event.ensures)
-    c.loop-i.invariant c.in-Err.ensures)
+    c.loop-i.invariant.served c.in-Err.ensures.served)
 
 pub loop-i-preserved : goal.loop-i-preserved
 loop-i-preserved g c =
     let less : c.loop-i.i < count_of c.args.command = let e = c.count-i-end.ensures in grind (arith, nat_tests) in
-    served_next c.args.answers _ c.loop-i.i _ _ _ _ _ _ _ (the_nth_event (event_at c.args.command) (count_of c.args.command) c.loop-i.i c.nth_event.result less c.nth_event.ensures)
-    c.loop-i.invariant c.in-Ok.ensures
+    record {
+      served =
+          served_next c.args.answers _ c.loop-i.i _ _ _ _ _ _ _ (the_nth_event (event_at c.args.command) (count_of c.args.command) c.loop-i.i c.nth_event.result less c.nth_event.ensures)
+          c.loop-i.invariant.served c.in-Ok.ensures.served;
+      idle = c.in-Ok.ensures.idle;
+    }
 
-pub returns : goal.returns
-returns g c =
+pub returns-clause-served : goal.returns-clause-served
+returns-clause-served g c =
     let size = length-events (event_at c.args.command) 0 (count_of c.args.command) in
     let all : count_of c.args.command ≤ c.loop-i.i = let e = c.count-i-end.ensures in grind (arith, nat_tests) in
-    served_all c.args.answers _ c.loop-i.i _ _ _ _ (omega arith) c.loop-i.invariant
+    served_all c.args.answers _ c.loop-i.i _ _ _ _ (omega arith) c.loop-i.invariant.served

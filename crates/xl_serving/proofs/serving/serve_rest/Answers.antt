@@ -1,8 +1,8 @@
 use Rattle.std.proofs.Common.{false, true, subst, ap, ◌∙◌, Option, Result, Ok}
 use Rattle.xl_model.specs.Courses.{ran_all}
-use Rattle.xl_outside.proofs.SinkLemmas.{goes_then}
+use Rattle.xl_outside.proofs.SinkLemmas.{goes_same, goes_then}
 use Rattle.xl_outside.specs.Folders.{file_of}
-use Rattle.xl_outside.proofs.FolderLemmas.{folder_then}
+use Rattle.xl_outside.proofs.FolderLemmas.{folder_same, folder_then}
 use Rattle.xl_serving.specs.declared.trace.Numbered.{Numbered}
 use Rattle.xl_serving.specs.declared.trace.TraceStop.{TraceStop}
 use Rattle.xl_serving.specs.declared.serving.ServeStop.TheVariants as why
@@ -10,9 +10,17 @@ use Rattle.xl_serving.specs.Tapes.{TraceAnswers}
 use Rattle.xl_serving.specs.Serving.{scene_of}
 use Rattle.xl_serving.proofs.BatchLemmas.{lost-any}
 use Rattle.xl_serving.proofs.SkimLemmas.{going_skims_all}
-use Rattle.xl_serving.proofs.ToldLemmas.{told_then, is_err_by}
-use Rattle.xl_serving.proofs.CourseLemmas.{all_steps, going_on, going_lost, going_ends, going_stops}
+use Rattle.xl_serving.proofs.ToldLemmas.{told_all, told_then, is_err_by}
+use Rattle.xl_serving.proofs.CourseLemmas.{all_steps, underway_none, going_on, going_lost, going_ends, going_stops}
 use Rattle.xl_serving.proofs.serving.serve_rest.Goals as goal
+
+pub records-init : goal.records-init
+records-init g c = record {
+  told = told_all (g.F.Folder.files c.args.folder.now) _ (λ fs s. underway_none c.args.answers _ ran_all (g.T.Trace.left c.args.trace.now (file_of fs c.args.name.now)) _ _ s);
+  folder = folder_same _ _ _ _ _;
+  goes_on = goes_same _;
+  idle = c.requires.idle;
+}
 
 pub records-preserved : goal.records-preserved
 records-preserved g c =
@@ -55,13 +63,12 @@ returns-in-Ok-None-clause-told g c =
     let inv = c.records.invariant in
     let stands = g.T.Trace.stands in
     let left = g.T.Trace.left in
-    rw c.settle.ensures.served
-    (told_then (g.F.Folder.files c.args.folder.now) (g.F.Folder.files c.records.folder) _ (λ fs. stands c.skim.new.trace (file_of fs name) → TraceAnswers (stands c.next.new.self (file_of fs name)) (left c.skim.new.trace (file_of fs name)) (left c.next.new.self (file_of fs name)) c.next.result) _
+    told_then (g.F.Folder.files c.args.folder.now) (g.F.Folder.files c.records.folder) _ (λ fs. stands c.skim.new.trace (file_of fs name) → TraceAnswers (stands c.next.new.self (file_of fs name)) (left c.skim.new.trace (file_of fs name)) (left c.next.new.self (file_of fs name)) c.next.result) _
     inv.folder.keeps inv.told c.next.ensures.told
     (λ fs h k s.
     let mid = going_skims_all _ _ _ _ _ _ _ _ _ (c.skim.ensures.skims (file_of fs name) (h s).stands_still) (scene_of (g.R.Rows.rows c.records.rows) c.args.areas.now) c.records.out c.args.answers _ _ _ _ c.skim.ensures.none (h s) in
     going_ends c.args.answers _ _ _ ran_all ran_all _ _ _ _ _ _ _ all_steps mid
-    (subst (λ (z : Result (Option Numbered) TraceStop). TraceAnswers (stands c.next.new.self (file_of fs name)) (left c.skim.new.trace (file_of fs name)) (left c.next.new.self (file_of fs name)) z) (c.in-Ok-None.is ∙ ap (λ (o : Option Numbered). Ok o) c.in-Ok-None.field-0-is) (k mid.stands_still))))
+    (subst (λ (z : Result (Option Numbered) TraceStop). TraceAnswers (stands c.next.new.self (file_of fs name)) (left c.skim.new.trace (file_of fs name)) (left c.next.new.self (file_of fs name)) z) (c.in-Ok-None.is ∙ ap (λ (o : Option Numbered). Ok o) c.in-Ok-None.field-0-is) (k mid.stands_still)))
 
 pub returns-in-Err-clause-told : goal.returns-in-Err-clause-told
 returns-in-Err-clause-told g c =
@@ -69,7 +76,7 @@ returns-in-Err-clause-told g c =
     let inv = c.records.invariant in
     let stands = g.T.Trace.stands in
     let left = g.T.Trace.left in
-    rw (c.from.ensures, c.settle-in-Err.ensures.served)
+    rw c.from.ensures
     (told_then (g.F.Folder.files c.args.folder.now) (g.F.Folder.files c.records.folder) _ (λ fs. stands c.skim.new.trace (file_of fs name) → TraceAnswers (stands c.next.new.self (file_of fs name)) (left c.skim.new.trace (file_of fs name)) (left c.next.new.self (file_of fs name)) c.next.result) _
     inv.folder.keeps inv.told c.next.ensures.told
     (λ fs h k s.

@@ -12,7 +12,7 @@ use Rattle.xl_serving.specs.Serving.{scene_of}
 use Rattle.xl_serving.proofs.BatchLemmas.{lost-any}
 use Rattle.xl_serving.proofs.SkimLemmas.{going_skims_run}
 use Rattle.xl_serving.proofs.ToldLemmas.{told_all, told_then, is_err_by}
-use Rattle.xl_serving.proofs.CourseLemmas.{Steps, run_step, underway_run, going_on, going_lost, going_ends, going_stops}
+use Rattle.xl_serving.proofs.CourseLemmas.{Steps, run_step, underway_none, going_on, going_lost, going_ends, going_stops}
 use Rattle.xl_serving.proofs.serving.serve_run.Goals as goal
 
 pub records-preserved : goal.records-preserved
@@ -77,13 +77,12 @@ returns-in-Ok-None-clause-told g c =
     let inv = c.records.invariant in
     let stands = g.T.Trace.stands in
     let left = g.T.Trace.left in
-    rw c.settle.ensures.served
-    (told_then (g.F.Folder.files c.args.folder.now) (g.F.Folder.files c.records.folder) _ (λ fs. stands c.skim-taken.new.trace (file_of fs name) → TraceAnswers (stands c.next.new.self (file_of fs name)) (left c.skim-taken.new.trace (file_of fs name)) (left c.next.new.self (file_of fs name)) c.next.result) _
+    told_then (g.F.Folder.files c.args.folder.now) (g.F.Folder.files c.records.folder) _ (λ fs. stands c.skim-taken.new.trace (file_of fs name) → TraceAnswers (stands c.next.new.self (file_of fs name)) (left c.skim-taken.new.trace (file_of fs name)) (left c.next.new.self (file_of fs name)) c.next.result) _
     inv.folder.keeps inv.told c.next.ensures.told
     (λ fs h k s.
     let mid = going_skims_run _ _ _ _ _ _ _ _ _ (c.skim-taken.ensures.skims (file_of fs name) (h s).stands_still) (scene_of (g.R.Rows.rows c.records.rows) c.args.areas.now) c.records.out n c.args.answers _ _ _ _ c.skim-taken.ensures.none fits (h s) in
     going_ends c.args.answers _ _ _ (ran (n - taken)) (ran (n - (taken + 1))) _ _ _ _ _ _ tt step mid
-    (subst (λ (z : Result (Option Numbered) TraceStop). TraceAnswers (stands c.next.new.self (file_of fs name)) (left c.skim-taken.new.trace (file_of fs name)) (left c.next.new.self (file_of fs name)) z) (c.in-Ok-None.is ∙ ap (λ (o : Option Numbered). Ok o) c.in-Ok-None.field-0-is) (k mid.stands_still))))
+    (subst (λ (z : Result (Option Numbered) TraceStop). TraceAnswers (stands c.next.new.self (file_of fs name)) (left c.skim-taken.new.trace (file_of fs name)) (left c.next.new.self (file_of fs name)) z) (c.in-Ok-None.is ∙ ap (λ (o : Option Numbered). Ok o) c.in-Ok-None.field-0-is) (k mid.stands_still)))
 
 pub returns-in-Err-clause-told : goal.returns-in-Err-clause-told
 returns-in-Err-clause-told g c =
@@ -98,7 +97,7 @@ returns-in-Err-clause-told g c =
     let inv = c.records.invariant in
     let stands = g.T.Trace.stands in
     let left = g.T.Trace.left in
-    rw (c.from.ensures, c.settle-in-Err.ensures.served)
+    rw c.from.ensures
     (told_then (g.F.Folder.files c.args.folder.now) (g.F.Folder.files c.records.folder) _ (λ fs. stands c.skim-taken.new.trace (file_of fs name) → TraceAnswers (stands c.next.new.self (file_of fs name)) (left c.skim-taken.new.trace (file_of fs name)) (left c.next.new.self (file_of fs name)) c.next.result) _
     inv.folder.keeps inv.told c.next.ensures.told
     (λ fs h k s.
@@ -108,10 +107,10 @@ returns-in-Err-clause-told g c =
 
 pub records-init : goal.records-init
 records-init g c = record {
-  told = rw c.new-batch.ensures (told_all (g.F.Folder.files c.args.folder.now) _ (λ fs s. underway_run c.args.answers _ c.args.n _ _ _ s));
+  told = told_all (g.F.Folder.files c.args.folder.now) _ (λ fs s. underway_none c.args.answers _ (ran c.args.n) _ _ _ s);
   folder = folder_same _ _ _ _ _;
   goes_on = goes_same _;
-  idle = λ _. c.new-batch.ensures;
+  idle = c.requires.idle;
 }
 
 pub returns-in_err-serve_record-in-Ok-Some-clause-goes_on : goal.returns-in_err-serve_record-in-Ok-Some-clause-goes_on

@@ -3,7 +3,7 @@ use Rattle.std.proofs.lemmas.Bool.Decides.{nat_tests}
 use Rattle.xl_lackey.specs.Accesses.{accesses}
 use Rattle.xl_serving.proofs.BatchLemmas.{scenes-next, scenes-all}
 use Rattle.xl_serving.proofs.ItemLemmas.{nth_item, items_end, few_items}
-use Rattle.xl_serving.proofs.batch.put_off_each.Goals as goal
+use Rattle.xl_serving.proofs.batch.Waiting.put_off_each.Goals as goal
 
 pub returns-in_default : goal.returns-in_default
 returns-in_default g c =
