@@ -15,6 +15,7 @@ pub fn mix(x: u64) -> u64
 
 /// The remainder of a number by a count: a mask gives it where the count is a power of two, and a
 /// division else, which costs more than the rest of a look.
+#[tactic(auto, using(crate::proofs::PowerLemmas::masked))]
 #[inline]
 pub fn remainder(number: u64, count: u32) -> usize
     requires { 0 < count }
@@ -22,9 +23,8 @@ pub fn remainder(number: u64, count: u32) -> usize
     ensures within { result < count }
 {
     let count = count as u64;
-    let power = 1 << count.trailing_zeros() % 64;
-    if count == power {
-        return (number % power) as usize;
+    if count.is_power_of_two() {
+        return (number & (count - 1)) as usize;
     }
     (number % count) as usize
 }

@@ -1,5 +1,5 @@
 -- Items that go back by one place, one after another.
-use Rattle.std.proofs.Common.{◌≡◌, refl, ap, ◌∙◌, ℕ, zero, suc, ◌+◌, ◌-◌, ◌<◌, ◌≤◌, List, [], ◌∷◌, length, get_or, set, arith}
+use Rattle.std.proofs.Common.{◌≡◌, refl, ap, ℕ, zero, suc, ◌-◌, ◌<◌, ◌≤◌, List, [], ◌∷◌, length, get_or, set, arith}
 use Rattle.std.specs.List.{remove}
 
 module _ {A : Type 0} where
@@ -46,38 +46,3 @@ module _ {A : Type 0} where
       one-less (suc at) (x ∷ xs) h = ap suc (one-less at xs (omega arith))
   spread-length (suc place) zero (x ∷ xs) h k = absurd (omega arith)
   spread-length (suc place) (suc at) (x ∷ xs) h k = ap suc (spread-length place at xs (omega arith) (omega arith))
-
--- Items that are carried on by one place, one after another.
-module _ {A : Type 0} where
-  -- the items where the first ones, so many, went on by one place behind the item in front
-  abbrev pub carried : ℕ → A → List A → List A
-  carried zero item xs = xs
-  carried (suc place) item [] = []
-  carried (suc place) item (x ∷ xs) = item ∷ carried place x xs
-
-  -- the item in hand then
-  abbrev pub hand : ℕ → A → List A → A
-  hand zero item xs = item
-  hand (suc place) item [] = item
-  hand (suc place) item (x ∷ xs) = hand place x xs
-
-  carried-on : (place : ℕ) (item : A) (xs : List A) → place < length xs → set (carried place item xs) place (hand place item xs) ≡ carried (suc place) item xs
-  carried-on place item [] h = absurd (omega arith)
-  carried-on zero item (x ∷ xs) h = refl
-  carried-on (suc place) item (x ∷ xs) h = ap (λ (ys : List A). item ∷ ys) (carried-on place x xs (omega arith))
-
-  next-hand : (place : ℕ) (item d : A) (xs : List A) → place < length xs → get_or (carried place item xs) place d ≡ hand (suc place) item xs
-  next-hand place item d [] h = absurd (omega arith)
-  next-hand zero item d (x ∷ xs) h = refl
-  next-hand (suc place) item d (x ∷ xs) h = next-hand place x d xs (omega arith)
-
-  pub carried-more : (place : ℕ) (item : A) (xs : List A) → place < length xs → set (carried place item xs) place (hand place item xs) ≡ carried (place + 1) item xs
-  carried-more place item xs h = let one : suc place ≡ place + 1 = omega arith in carried-on place item xs h ∙ ap (λ (n : ℕ). carried n item xs) one
-
-  pub hand-more : (place : ℕ) (item d : A) (xs : List A) → place < length xs → get_or (carried place item xs) place d ≡ hand (place + 1) item xs
-  hand-more place item d xs h = let one : suc place ≡ place + 1 = omega arith in next-hand place item d xs h ∙ ap (λ (n : ℕ). hand n item xs) one
-
-  pub carried-all : (at : ℕ) (item : A) (xs : List A) → at < length xs → carried (suc at) item xs ≡ item ∷ remove xs at
-  carried-all at item [] h = absurd (omega arith)
-  carried-all zero item (x ∷ xs) h = refl
-  carried-all (suc at) item (x ∷ xs) h = ap (λ (ys : List A). item ∷ ys) (carried-all at x xs (omega arith))

@@ -7,7 +7,8 @@ ghost use Rattle.xl_model.specs.Recency.{purged};
 ghost use Rattle.xl_recency.specs.Lists.{IsTest, IsFirst, AllFail, FailBefore, Touches};
 
 /// Puts the item in front, in place of the one at `at`. From the last place on: so no item is carried, and
-/// LLVM makes one move of the loop.
+/// LLVM makes one move of the loop: where the place is known when the program is built, a few loads and stores.
+#[inline(always)]
 pub(crate) fn put_in_front<T: Copy>(items: &mut [T], at: usize, item: T)
     requires { at < length items.old }
     ensures { items.new ≡ item ∷ remove items.old at }
@@ -18,21 +19,6 @@ pub(crate) fn put_in_front<T: Copy>(items: &mut [T], at: usize, item: T)
         place -= 1;
     }
     items[0] = item;
-}
-
-/// Puts the item in front, in place of the one at `at`, by loads and stores: the items on the way are carried
-/// one place on. Where the place is known when the program is built, that costs less than a call.
-#[inline(always)]
-pub(crate) fn carry_in_front<T: Copy>(items: &mut [T], at: usize, item: T)
-    requires { at < length items.old }
-    ensures { items.new ≡ item ∷ remove items.old at }
-{
-    let mut carried = item;
-    for place in 0..at + 1 {
-        let next = items[place];
-        items[place] = carried;
-        carried = next;
-    }
 }
 
 /// The place of the first item that meets the test.
@@ -146,7 +132,7 @@ fn bring_at<const W: usize, T: Copy, P: Fn(&T) -> bool>(
         return None;
     }
     let item = slots[at];
-    carry_in_front(&mut slots[..len], at, item);
+    put_in_front(&mut slots[..len], at, item);
     Some(item)
 }
 

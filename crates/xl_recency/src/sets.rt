@@ -64,6 +64,7 @@ impl<const W: usize> Sets<W> {
 
     /// Brings the newest item of the set that meets the test to the front, and gives it. None where
     /// none meets it; then nothing changes.
+    #[inline(always)]
     pub fn touch<P: Fn(&Item) -> bool>(&mut self, set: usize, test: P) -> Option<Item>
         requires width { W ≤ 64 }
         requires set { set < length self.old }

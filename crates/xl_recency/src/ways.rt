@@ -51,6 +51,7 @@ impl<T: Copy, const W: usize> Ways<T, W> {
 
     /// Brings the newest item that meets the test to the front, and gives it. None where none
     /// meets it; then nothing changes.
+    #[inline(always)]
     pub fn touch<P: Fn(&T) -> bool>(&mut self, test: P) -> Option<T>
         requires { P.IsAlwaysCallable test }
         ensures { (q : _) → IsTest (FnReturnsAt P.Fn test) q → Touches q self.old self.new result }
@@ -71,21 +72,19 @@ impl<T: Copy, const W: usize> Ways<T, W> {
         item_at(&self.slots[..self.len], place, &test)
     }
 
-    /// Puts the item in front, and gives the one that left: Some where the list was full.
+    /// Puts the item in front, and gives the one that left: Some where the list was full. All slots are
+    /// moved, those behind the list too: a move of a fixed length costs less.
     pub fn fill(&mut self, item: T) -> Option<T>
         requires { 0 < W }
         ensures { Fills W item self.old self.new result }
     {
+        let last = self.slots[W - 1];
+        put_in_front(&mut self.slots, W - 1, item);
         if self.len < W {
-            let at = self.len;
             self.len += 1;
-            put_in_front(&mut self.slots[..self.len], at, item);
-            None
-        } else {
-            let last = self.slots[W - 1];
-            put_in_front(&mut self.slots, W - 1, item);
-            Some(last)
+            return None;
         }
+        Some(last)
     }
 
     /// Removes the items that meet the test; the others stay in order. Gives how many left.

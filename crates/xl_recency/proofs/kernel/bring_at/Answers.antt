@@ -21,6 +21,6 @@ returns g c =
     let is = same ∙ sym (get_or-take c.args.len slots at item (omega arith)) in
     rw (← same) (λ q test. record {
       found = found _ q test (take c.args.len slots) at item within first is;
-      moved = take-append-le c.args.len c.carry_in_front.new.items _ (omega (arith, c.carry_in_front.auto.items)) ∙ take_all c.args.len c.carry_in_front.new.items (omega (arith, c.carry_in_front.auto.items))
-          ∙ (rw (← same) at c.carry_in_front.ensures) ∙ moved _ q test (take c.args.len slots) at item within first is;
+      moved = take-append-le c.args.len c.put_in_front.new.items _ (omega (arith, c.put_in_front.auto.items)) ∙ take_all c.args.len c.put_in_front.new.items (omega (arith, c.put_in_front.auto.items))
+          ∙ (rw (← same) at c.put_in_front.ensures) ∙ moved _ q test (take c.args.len slots) at item within first is;
     })
