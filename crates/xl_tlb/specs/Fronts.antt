@@ -32,12 +32,6 @@ abbrev pub AllMiss : ℕ → ℕ → List TlbArray → Type 0
 AllMiss space page [] = Unit {0}
 AllMiss space page (a ∷ rest) = (None ≡ array_hit a space page) × AllMiss space page rest
 
--- If there is one array alone, it has no leaf of 4 KiB that covers the page.
-abbrev pub OneMisses : ℕ → ℕ → List TlbArray → Type 0
-OneMisses space page [] = Unit {0}
-OneMisses space page (a ∷ []) = None ≡ found_as a space page order.K4
-OneMisses space page (a ∷ b ∷ rest) = Unit {0}
-
 -- What a look for a leaf of 4 KiB tells, and what it leaves.
 abbrev pub IsSmallLook : ℕ → ℕ → Small → List TlbArray → List TlbArray → Type 0
 IsSmallLook space page (small.First word) old new = IsFirstHit space page word old new

@@ -12,7 +12,7 @@ ghost use Rattle.xl_tlb.specs.Tlbs.{spec_of, leaf_told, tlb_opening, AreSpecs, I
 
 use crate::any::AnyArray;
 use crate::coding::Hit;
-use crate::look::{Small, count_misses, has_eights, is_above, look_in, look_small};
+use crate::look::{Small, count_misses, has_eights, is_above, is_straight, look_in, look_small};
 use arrayvec::ArrayVec;
 use std::alloc::Global;
 use std::marker::Model;
@@ -33,6 +33,9 @@ pub(crate) struct Levels {
     hits: [u64; 6],
     misses: [u64; 6],
     fills: u64,
+    /// Whether the first array and the second one, where they are there, take leaves of 4 KiB and are each
+    /// alone in their level: a look for such a leaf may go straight then.
+    straight: bool,
 }
 
 impl Model for Levels {
@@ -42,7 +45,7 @@ impl Model for Levels {
 
     ghost view = { λ t. tlb_of t.arrays.items t.hits t.misses t.fills };
 
-    ghost invariant = { λ t. IsTlb (tlb_of t.arrays.items t.hits t.misses t.fills) };
+    ghost invariant = { λ t. IsTlb t.straight (tlb_of t.arrays.items t.hits t.misses t.fills) };
 }
 
 /// Fills each array that takes the leaf's order: how many do.
@@ -170,7 +173,9 @@ impl Levels {
                 return Err(NoMemory);
             }
         }
+        let straight = is_straight(&arrays);
         Ok(Levels {
+            straight,
             arrays,
             hits: [0; 6],
             misses: [0; 6],
@@ -188,6 +193,9 @@ impl Levels {
         requires page { page < 2 ^ 52 }
         ensures { IsAnswered space page result self.old self.new }
     {
+        if !self.straight {
+            return Answered::Unknown;
+        }
         match look_small(&mut self.arrays, space, page) {
             Small::First { word } => {
                 self.hits[0] = self.hits[0].wrapping_add(1);

@@ -1,4 +1,4 @@
-use Rattle.std.proofs.Common.{◌≡◌, true, sym, ◌∙◌}
+use Rattle.std.proofs.Common.{◌≡◌, true}
 use Rattle.xl_model.specs.declared.address.Order.TheVariants as order
 use Rattle.xl_model.specs.Tlb.{takes_order}
 use Rattle.xl_tlb.proofs.LookLemmas.{look_found, look_none, look_moved, look_stays, same_array, touch_kept}
@@ -16,7 +16,7 @@ invariant_of-self-2 g c =
 
 pub returns-in_default-clause-found : goal.returns-in_default-clause-found
 returns-in_default-clause-found g c =
-    let takes : takes_order c.self.inside.spec order.K4 ≡ true = rw (← c.self.view_is) at (sym c.takes.ensures ∙ c.if-not-takes.false) in
+    let takes : takes_order c.self.inside.spec order.K4 ≡ true = rw (← c.self.view_is) at c.requires.takes in
     rw (← c.self.view_is) (look_none c.self.inside.spec c.self.inside.sets c.args.space c.args.page order.K4 c.requires.space takes
     (rw (c.set_of-set.ensures.value, c.tag_of-tag.ensures) at c.in_default.ensures.found))
 
@@ -27,7 +27,7 @@ returns-in_default-clause-none g c =
 
 pub returns : goal.returns
 returns g c =
-    let takes : takes_order c.self.inside.spec order.K4 ≡ true = rw (← c.self.view_is) at (sym c.takes.ensures ∙ c.if-not-takes.false) in
+    let takes : takes_order c.self.inside.spec order.K4 ≡ true = rw (← c.self.view_is) at c.requires.takes in
     rw (← c.self.view_is) (record {
       found = look_found c.self.inside.spec c.self.inside.sets c.args.space c.args.page order.K4 c.requires.space c.in-Some.item takes
           (rw (c.set_of-set.ensures.value, c.tag_of-tag.ensures) at c.in-Some.ensures.found);
