@@ -52,7 +52,6 @@ impl Newest {
     {
         if !eights {
             self.forget();
-            return;
         }
         let place = (block % 8) as usize;
         self.keys[place] = 0;

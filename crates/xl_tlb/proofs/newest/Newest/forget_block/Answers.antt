@@ -2,11 +2,13 @@ use Rattle.std.proofs.Common.{◌%◌, set, refl}
 use Rattle.xl_tlb.specs.declared.newest.Newest.{Newest}
 use Rattle.xl_tlb.proofs.KnownLemmas.{forgot_one}
 use Rattle.xl_tlb.proofs.newest.Newest.forget_block.Goals as goal
-
-pub returns-then-not-eights : goal.returns-then-not-eights
-returns-then-not-eights c = λ old new known stay. c.forget.ensures new
+use Rattle.xl_tlb.proofs.newest.Newest.forget_block.Goals.{then-not-eights, else-not-eights}
 
 pub returns : goal.returns
 returns c = λ old new known stay.
-    let n : Newest = c.args.self.now in
-    forgot_one n (record n { keys = set n.keys (c.args.block % 8) 0 }) (c.args.block % 8) old new refl refl known (stay c.if-not-eights.false)
+    let n : Newest = c.if-not-eights.self in
+    let place = c.args.block % 8 in
+    elim c.if-not-eights.branch [
+      | then-not-eights w ↦ rw w.self-is (forgot_one w.forget.new.self (record w.forget.new.self { keys = set w.forget.new.self.keys place 0 }) place new new refl refl (w.forget.ensures new) (λ space page word other front. front))
+      | else-not-eights w ↦ rw w.self-is (forgot_one c.args.self.now (record c.args.self.now { keys = set c.args.self.now.keys place 0 }) place old new refl refl known (stay w.if-not-eights.false))
+    ]
