@@ -87,6 +87,7 @@ pub(crate) fn reference(word: u32, line: u64) -> Reference
     ensures letter { result.letter ≡ letter_of word }
     ensures addr { result.addr ≡ address_of word }
     ensures size { result.size ≡ size_of word }
+    ensures line { result.line ≡ line }
 {
     Reference {
         letter: letter(word),

@@ -70,6 +70,7 @@ impl MadeTrace {
     /// Takes the next record, as its line is read, which has this number. None at the end.
     pub fn next(&mut self, line: u64) -> Option<Reference>
         ensures some { IfSome result (λ r. IsFirst r.letter r.addr r.size self.old self.new) }
+        ensures line { IfSome result (λ r. r.line ≡ line) }
         ensures none { IfNone result (self.old ≡ []) }
         ensures end { IfNone result (self.new ≡ []) }
     {

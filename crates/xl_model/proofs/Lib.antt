@@ -1,1 +1,4 @@
+mod AllowedLemmas
+pub mod CodeLemmas
+pub mod PermLemmas
 mod PowerLemmas

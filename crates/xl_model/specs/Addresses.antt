@@ -1,5 +1,5 @@
 -- Addresses, page sizes and permissions (RISC-V Privileged manual, Sv39, Sv48, Sv57; user accesses).
-use Rattle.std.specs.Prelude.{ℕ, ◌+◌, ◌-◌, ◌*◌, ◌/◌, ◌%◌, ◌^◌, ◌==◌, Bool, ◌&&◌, ◌||◌, not}
+use Rattle.std.specs.Prelude.{ℕ, zero, suc, ◌+◌, ◌-◌, ◌*◌, ◌/◌, ◌%◌, ◌^◌, ◌==◌, Bool, ◌&&◌, ◌||◌, not}
 use Rattle.xl_model.specs.declared.address.Mode.{Mode}
 use Rattle.xl_model.specs.declared.address.Mode.TheVariants as mode
 use Rattle.xl_model.specs.declared.address.Order.{Order}
@@ -29,6 +29,12 @@ abbrev pub level_of : Order → ℕ
 level_of order.K4 = 0
 level_of order.M2 = 1
 level_of order.G1 = 2
+
+-- The order of a level; each level above 1 is that of 1 GiB.
+abbrev pub order_at : ℕ → Order
+order_at zero = order.K4
+order_at (suc zero) = order.M2
+order_at (suc (suc n)) = order.G1
 
 -- the 4 KiB pages of a leaf of this order
 abbrev pub pages_of : Order → ℕ

@@ -1,9 +1,7 @@
 //! Addresses, page sizes and kinds of access.
 
 ghost use Rattle.std.specs.Prelude.{◌≡◌, ◌*◌};
-ghost use Rattle.xl_model.specs.Addresses.{levels_of, level_of, pages_of, is_canonical, page_of as page_number, allows as is_allowed, code_of};
-
-use crate::perm::Perm;
+ghost use Rattle.xl_model.specs.Addresses.{levels_of, level_of, pages_of, is_canonical, page_of as page_number, code_of};
 
 /// The mode of the walk (RISC-V Privileged manual, Sv39, Sv48 and Sv57).
 #[derive(Clone, Copy, Debug, PartialEq, Eq)]
@@ -97,18 +95,6 @@ pub fn page_of(mode: Mode, va: u64) -> u64
         Mode::Sv48 => page % (1 << 36),
         Mode::Sv57 => page % (1 << 45),
     }
-}
-
-/// Whether a leaf with this permission serves a user access of this kind.
-pub fn allows(perm: Perm, kind: Kind) -> bool
-    ensures { result ≡ is_allowed perm kind }
-{
-    perm.u
-        && match kind {
-            Kind::Fetch => perm.x,
-            Kind::Load => perm.r,
-            Kind::Store => perm.w,
-        }
 }
 
 /// The code of the page fault of an access of this kind (RISC-V Privileged manual).

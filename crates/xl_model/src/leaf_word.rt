@@ -1,11 +1,20 @@
 //! A leaf's frame and permission in one word: the frame times 16, and four bits.
 
-ghost use Rattle.std.specs.Prelude.{◌≡◌};
-ghost use Rattle.xl_model.specs.LeafWords.{perm_at, small_leaf};
+ghost use Rattle.std.specs.Prelude.{◌≡◌, ◌<◌};
+ghost use Rattle.xl_model.specs.LeafWords.{perm_at, perm_code as code_of_perm, small_leaf};
 
 use crate::address::Order;
 use crate::leaf::Leaf;
 use crate::perm::Perm;
+
+/// The code of a permission: a bit each for read, write, execute and user.
+#[tactic(auto, unfolding(crate::specs::LeafWords::perm_code))]
+pub fn perm_code(perm: Perm) -> u64
+    ensures value { result ≡ code_of_perm perm }
+    ensures small { result < 16 }
+{
+    perm.r as u64 + perm.w as u64 * 2 + perm.x as u64 * 4 + perm.u as u64 * 8
+}
 
 /// The permission in the lowest four bits of a word: read, write, execute and user.
 #[tactic(auto, unfolding(crate::specs::LeafWords::perm_at))]

@@ -3,6 +3,7 @@
 #![tactic(auto)]
 
 mod address;
+mod allowed;
 mod event;
 mod fault;
 mod hash;
@@ -16,12 +17,13 @@ mod tally;
 mod way;
 mod work;
 
-pub use address::{Kind, Mode, Order, allows, canonical, code, page_of};
+pub use address::{Kind, Mode, Order, canonical, code, page_of};
+pub use allowed::{allows, word_allows};
 pub use event::{Event, Outcome, Reach, Refusal, Scope};
 pub use fault::InputFault;
 pub use hash::{mix, remainder, way_hash};
 pub use leaf::{Leaf, Range, Reply};
-pub use leaf_word::perm_of;
+pub use leaf_word::{perm_code, perm_of};
 pub use perm::Perm;
 pub use row::{Counts, Purge, Row, Table, TlbSpec};
 pub use script::{Area, Command, Item};

@@ -16,7 +16,7 @@ use Rattle.xl_model_lemmas.specs.Members.{In}
 use Rattle.xl_model_lemmas.specs.Mappings.{IsMapping, IsSound}
 use Rattle.xl_model_lemmas.proofs.ChangeLemmas.{stays-changed}
 use Rattle.xl_model_lemmas.proofs.OrderLemmas.{orders-same}
-use Rattle.xl_model_lemmas.proofs.PermLemmas.{perms-same}
+use Rattle.xl_model.proofs.PermLemmas.{perms-same}
 use Rattle.xl_model_lemmas.specs.Fresh.{PageCovered, RangeFresh, RangesFresh}
 use Rattle.xl_model_lemmas.proofs.RecencyLemmas.{touched-In, newest-In, purged-In}
 

@@ -21,7 +21,7 @@ use Rattle.xl_model_lemmas.specs.Mappings.{IsFound}
 use Rattle.xl_model_lemmas.specs.Fresh.{has_leaves, SectionFresh, SectionsFresh}
 use Rattle.xl_model_lemmas.proofs.MemberLemmas.{In-any}
 use Rattle.xl_model_lemmas.proofs.OrderLemmas.{order-same}
-use Rattle.xl_model_lemmas.proofs.PermLemmas.{bits-same}
+use Rattle.xl_model.proofs.PermLemmas.{bits-same}
 use Rattle.xl_model_lemmas.proofs.RecencyLemmas.{touched-In, newest-In, purged-In}
 
 ways-same : (a b : Option ℕ) → same_way a b ≡ true → a ≡ b

@@ -5,8 +5,6 @@ pub mod RecencyLemmas
 pub mod BucketLemmas
 pub mod GatherLemmas
 pub mod OrderLemmas
-pub mod PermLemmas
-pub mod CodeLemmas
 pub mod InsertionLemmas
 pub mod SortedLemmas
 pub mod LowestLemmas

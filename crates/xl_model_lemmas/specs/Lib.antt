@@ -6,7 +6,6 @@ pub mod Kept
 pub mod Sections
 pub mod Entries
 pub mod Limits
-pub mod Codes
 pub mod Pools
 pub mod Fresh
 pub mod Scenes

@@ -99,6 +99,10 @@ pub fn decode(word: u64, level: usize) -> Pte
     }
 }
 
+/// The codes that the permission of a leaf may have, a bit for each of the sixteen: it may be read, or else
+/// executed and not written. One look at a bit costs less than a test of three.
+const LEGAL: u64 = 0xbaba;
+
 /// The frame (times 16) and the permission of the leaf that a word of level 0 says: the permission's bits
 /// stand in both words in the same order. None where it says no leaf.
 #[inline(always)]
@@ -107,7 +111,7 @@ pub fn small_word(word: u64) -> Option<u64>
     ensures none { IfNone result (SaysNone word) }
 {
     let code = word / 2 % 16;
-    if word % 2 == 1 && word >> 54 == 0 && (code % 2 == 1 || code % 8 == 4) {
+    if word % 2 == 1 && word >> 54 == 0 && (LEGAL >> code) % 2 == 1 {
         Some(word / 1024 * 16 + code)
     } else {
         None

@@ -7,16 +7,15 @@ use Rattle.xl_model.specs.declared.address.Order.{Order}
 use Rattle.xl_model.specs.declared.address.Order.TheVariants as order
 use Rattle.xl_model.specs.declared.leaf.Leaf.{Leaf}
 use Rattle.xl_model.specs.declared.perm.Perm.{Perm}
-use Rattle.xl_model.specs.Addresses.{level_of, pages_of, same_order}
+use Rattle.xl_model.specs.Addresses.{level_of, pages_of, same_order, order_at}
 use Rattle.xl_model.specs.Base.{one_if}
 use Rattle.xl_model.specs.Chains.{leaf_tag}
 use Rattle.xl_model.specs.Mapping.{leaf_key, with_leaf, without_leaf}
-use Rattle.xl_model_lemmas.specs.Codes.{order_at}
 use Rattle.xl_model_lemmas.specs.Entries.{with_some}
 use Rattle.xl_model_lemmas.specs.Kept.{mapping_of}
 use Rattle.xl_model_lemmas.specs.Members.{In, IsSorted}
 use Rattle.xl_model_lemmas.specs.Sections.{counts_at, of_order, key_in, tally, IsAligned}
-use Rattle.xl_model_lemmas.proofs.CodeLemmas.{at-level}
+use Rattle.xl_model.proofs.CodeLemmas.{at-level}
 use Rattle.xl_model_lemmas.proofs.MemberLemmas.{any-In, In-map}
 use Rattle.xl_model_lemmas.proofs.OnceLemmas.{once-short}
 use Rattle.xl_model_lemmas.proofs.InsertionLemmas.{without-other}

@@ -6,15 +6,14 @@ use Rattle.xl_model.specs.declared.address.Order.{Order}
 use Rattle.xl_model.specs.declared.address.Order.TheVariants as order
 use Rattle.xl_model.specs.declared.leaf.Leaf.{Leaf}
 use Rattle.xl_model.specs.declared.perm.Perm.{Perm}
-use Rattle.xl_model.specs.Addresses.{level_of, pages_of}
+use Rattle.xl_model.specs.Addresses.{level_of, pages_of, order_at}
 use Rattle.xl_model.specs.Chains.{leaf_tag}
 use Rattle.xl_model.specs.Mapping.{leaf_key, with_leaf}
 use Rattle.xl_model.specs.Words.{leaf_word}
-use Rattle.xl_model_lemmas.specs.Codes.{order_at}
 use Rattle.xl_model_lemmas.specs.Members.{In}
 use Rattle.xl_model_lemmas.specs.Entries.{with_some}
 use Rattle.xl_model_lemmas.specs.Kept.{mapping_of}
-use Rattle.xl_model_lemmas.proofs.CodeLemmas.{at-level}
+use Rattle.xl_model.proofs.CodeLemmas.{at-level}
 use Rattle.xl_model_lemmas.proofs.OrderLemmas.{level-low}
 use Rattle.xl_model_lemmas.proofs.MemberLemmas.{In-left, In-right, In-append}
 use Rattle.xl_model_lemmas.proofs.InsertionLemmas.{In-with, stays-with, same-place}

@@ -4,7 +4,7 @@ use Rattle.xl_model.specs.declared.address.Order.{Order}
 use Rattle.xl_model.specs.declared.address.Order.TheVariants as order
 use Rattle.xl_model.specs.declared.leaf.Leaf.{Leaf}
 use Rattle.xl_model.specs.declared.work.Walk.{Walk}
-use Rattle.xl_model.specs.Addresses.{level_of, pages_of}
+use Rattle.xl_model.specs.Addresses.{level_of, pages_of, order_at}
 use Rattle.xl_model.specs.Base.{plus}
 use Rattle.xl_model.specs.Caches.{NoCaches}
 use Rattle.xl_model.specs.Chains.{tag_of}
@@ -12,7 +12,6 @@ use Rattle.xl_model.specs.LeafWords.{small_leaf}
 use Rattle.xl_model.specs.Shapes.{Chained}
 use Rattle.xl_model.specs.Structures.{TableState}
 use Rattle.xl_model.specs.Walks.{chain_reads}
-use Rattle.xl_model_lemmas.specs.Codes.{order_at}
 use Rattle.xl_model_lemmas.specs.Entries.{with_some, or_leaf}
 use Rattle.xl_model_lemmas.specs.Kept.{mapping_of}
 use Rattle.xl_pte.specs.declared.word.Pte.{Pte}

@@ -3,14 +3,13 @@ use Rattle.std.proofs.Common.{◌≡◌, ℕ, ◌+◌, ◌*◌, ◌/◌, ◌%◌
 use Rattle.xl_model.specs.declared.address.Order.{Order}
 use Rattle.xl_model.specs.declared.address.Order.TheVariants as order
 use Rattle.xl_model.specs.declared.leaf.Range.{Range}
-use Rattle.xl_model.specs.Addresses.{level_of}
+use Rattle.xl_model.specs.Addresses.{level_of, order_at}
 use Rattle.xl_model.specs.Recency.{touched, with_newest, purged}
 use Rattle.xl_model.specs.Caches.{Cached, without_items}
 use Rattle.xl_model.specs.Walks.{with_touch, with_fill}
 use Rattle.xl_tlb.specs.declared.range_coding.RangeItem.{RangeItem}
-use Rattle.xl_tlb.specs.Coding.{order_at}
 use Rattle.xl_tlb.specs.RangeCoding.{IsKeepable, item_of_range, range_of, range_kept, ranges_of}
-use Rattle.xl_tlb.proofs.FillLemmas.{perm_back, frame_back}
+use Rattle.xl_model.proofs.CodeLemmas.{perm-back, frame-back}
 use Rattle.xl_tlb.proofs.MapLemmas.{newest_map, touched_map, purged_map, find_some, find_none}
 
 level_back : (pages : ℕ) (o : Order) → (order_at ((pages * 4 + level_of o) % 4) ≡ o) × ((pages * 4 + level_of o) / 4 ≡ pages)
@@ -26,7 +25,7 @@ range_back r fit =
     let s : (r.space * 2 ^ 52 + r.start) / 2 ^ 52 ≡ r.space = omega arith in
     let t : (r.space * 2 ^ 52 + r.start) % 2 ^ 52 ≡ r.start = omega arith in
     let l = level_back r.pages r.order in
-    rw (s, t, l.0, l.1, frame_back r.frame r.perm, perm_back r.frame r.perm) refl
+    rw (s, t, l.0, l.1, frame-back r.frame r.perm, perm-back r.frame r.perm) refl
 
 -- a list of ranges of a width
 abbrev of_width : ℕ → List Range → Cached Range

@@ -8,11 +8,11 @@ ghost use Rattle.xl_tlb.specs.Answers.{IsAnswered};
 ghost use Rattle.xl_tlb.specs.Fronts.{IsFront, AllMiss, HasEights};
 ghost use Rattle.xl_model.specs.LeafWords.{small_leaf};
 ghost use Rattle.xl_tlb.specs.Hits.{hit_leaf};
-ghost use Rattle.xl_tlb.specs.Tlbs.{spec_of, leaf_told, tlb_opening, AreSpecs, IsRising, tlb_looked, tlb_filled, tlb_purged, tlb_fenced};
+ghost use Rattle.xl_tlb.specs.Tlbs.{spec_of, leaf_told, tlb_opening, AreSpecs, IsRising, IsStraight, tlb_looked, tlb_filled, tlb_purged, tlb_fenced};
 
 use crate::any::AnyArray;
 use crate::coding::Hit;
-use crate::look::{Small, count_misses, has_eights, is_above, is_straight, look_in, look_small};
+use crate::look::{Small, count_misses, has_eights, is_straight, look_in, look_small};
 use arrayvec::ArrayVec;
 use std::alloc::Global;
 use std::marker::Model;
@@ -69,14 +69,6 @@ fn fill_each(arrays: &mut [AnyArray], leaf: &Leaf) -> u64
     others
 }
 
-/// What a fill of a leaf of 4 KiB did: how many arrays take it, and whether it is known to be the
-/// newest of its set of the first array, and that alone in its level.
-#[derive(Clone, Copy)]
-struct SmallFill {
-    fills: u64,
-    front: bool,
-}
-
 /// Fills each array that takes leaves of 4 KiB with this one: how many do.
 #[inline(always)]
 fn fill_small_each(arrays: &mut [AnyArray], space: u16, page: u64, word: u64) -> u64
@@ -95,36 +87,24 @@ fn fill_small_each(arrays: &mut [AnyArray], space: u16, page: u64, word: u64) ->
     fills
 }
 
-/// Does what `fill_small_each` does, and tells whether the leaf is in front.
+/// Does what `fill_small_each` does. Where the first array takes such leaves and is alone in its level, the
+/// leaf is in front of it then.
+#[inline(always)]
 #[tactic(auto, using(crate::proofs::TlbLemmas::count_first))]
-fn fill_small_in(arrays: &mut [AnyArray], space: u16, page: u64, word: u64) -> SmallFill
+fn fill_small_in(arrays: &mut [AnyArray], space: u16, page: u64, word: u64) -> u64
     requires space { space < 64 }
     requires page { page < 2 ^ 52 }
-    requires rising { IsRising (map spec_of arrays.old) }
-    ensures fills { result.fills ≡ count_by (takes_leaf (small_leaf space page word)) arrays.old }
+    ensures fills { result ≡ count_by (takes_leaf (small_leaf space page word)) arrays.old }
     ensures arrays { arrays.new ≡ map (array_filled (small_leaf space page word)) arrays.old }
-    ensures front { result.front ≡ true → IsFront space page word arrays.new }
+    ensures front { IsStraight (map spec_of arrays.old) → IsFront space page word arrays.new }
 {
     let Some((first, rest)) = arrays.split_first_mut() else {
-        return SmallFill {
-            fills: 0,
-            front: false,
-        };
+        return 0;
     };
-    let alone = is_above(rest, first.level());
     let taken = first.takes_small();
     first.fill_small(space, page, word);
     let others = fill_small_each(rest, space, page, word);
-    if !taken {
-        return SmallFill {
-            fills: others,
-            front: false,
-        };
-    }
-    SmallFill {
-        fills: others + 1,
-        front: alone,
-    }
+    others + taken as u64
 }
 
 /// Purges each array: how many items left.
@@ -286,9 +266,9 @@ impl Levels {
         ensures after { self.new ≡ tlb_filled (small_leaf space page word) self.old }
         ensures front { result ≡ true → IsFront space page word self.new.arrays }
     {
-        let filled = fill_small_in(&mut self.arrays, space, page, word);
-        self.fills = self.fills.wrapping_add(filled.fills);
-        filled.front
+        let fills = fill_small_in(&mut self.arrays, space, page, word);
+        self.fills = self.fills.wrapping_add(fills);
+        self.straight
     }
 
     /// Removes what a purge takes in all levels at a change of this leaf, and gives how many leaves left.

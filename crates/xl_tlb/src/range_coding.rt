@@ -4,11 +4,10 @@
 ghost use Rattle.std.specs.Prelude.{◌≡◌, ◌<◌, ◌≤◌, ◌^◌, ◌+◌, ◌*◌, ◌/◌, ◌%◌};
 ghost use Rattle.xl_model.specs.Ranges.{holds_page};
 ghost use Rattle.xl_model.specs.Caches.{reaches_range};
-ghost use Rattle.xl_tlb.specs.Coding.{order_at};
+ghost use Rattle.xl_model.specs.Addresses.{order_at};
 ghost use Rattle.xl_tlb.specs.RangeCoding.{IsKeepable, item_of_range as kept_as, range_of as range_in};
 
-use crate::coding::perm_code;
-use xl_model::{Order, Range, Reach, perm_of};
+use xl_model::{Order, Range, Reach, perm_code, perm_of};
 
 /// An item of a range TLB: the tag has the range's space and its first page, the word its frame and
 /// its permission, and `more` its pages (times 4) and its order.

@@ -12,7 +12,7 @@ invariant_of-self c =
     let old = array_in c.self.inside.array in
     let leaf = small_leaf c.args.space c.args.page c.args.word in
     record {
-      counts = rw c.fill_small_in_array-filled.ensures.grown (c.raised-self-inside.ensures (leaves_in_sets old.sets) c.self.invariant.counts);
-      smalls = λ none. rw c.fill_small_in_array-filled.ensures.array (filled-small leaf old refl (c.self.invariant.smalls none));
-      kind = rw (ap spec_of c.fill_small_in_array-filled.ensures.array ∙ spec_filled leaf old) c.self.invariant.kind;
+      counts = rw c.fill_hit_in_array-filled.ensures.grown (c.raised-self-inside.ensures (leaves_in_sets old.sets) c.self.invariant.counts);
+      smalls = λ none. rw c.fill_hit_in_array-filled.ensures.array (filled-small leaf old refl (c.self.invariant.smalls none));
+      kind = rw (ap spec_of c.fill_hit_in_array-filled.ensures.array ∙ spec_filled leaf old) c.self.invariant.kind;
     }

@@ -1,13 +1,13 @@
--- Orders and permissions come back from their numbers. For the TLB and the cache of ranges, which keep them in words.
-use Rattle.std.proofs.Common.{◌≡◌, ℕ, zero, suc, ◌+◌, ◌*◌, ◌/◌, ◌%◌, ◌<◌, ◌==◌, Bool, true, false, not, ◌&&◌, ◌||◌, refl, sym, ap, arith}
+-- Orders and permissions come back from their numbers.
+use Rattle.std.proofs.Common.{◌≡◌, ℕ, zero, suc, ◌+◌, ◌*◌, ◌/◌, ◌%◌, ◌<◌, ◌==◌, Bool, true, false, not, ◌&&◌, ◌||◌, refl, sym, arith}
 use Rattle.std.proofs.lemmas.Bool.Decides.{nat_tests}
 use Rattle.xl_model.specs.declared.address.Order.{Order}
 use Rattle.xl_model.specs.declared.address.Order.TheVariants as order
 use Rattle.xl_model.specs.declared.perm.Perm.{Perm}
-use Rattle.xl_model.specs.Addresses.{level_of}
+use Rattle.xl_model.specs.Addresses.{level_of, order_at}
+use Rattle.xl_model.specs.LeafWords.{perm_code, perm_by, perm_at}
 use Rattle.xl_model.specs.Words.{bit_if}
-use Rattle.xl_model_lemmas.specs.Codes.{order_at, perm_code, perm_by, perm_at}
-use Rattle.xl_model_lemmas.proofs.PermLemmas.{same-bits}
+use Rattle.xl_model.proofs.PermLemmas.{same-bits}
 
 -- an order and its level
 pub level-at : (n : ℕ) → n < 3 → level_of (order_at n) ≡ n
@@ -49,7 +49,7 @@ by-bits q false true false u legal a b c d = cc
 by-bits q false false true u legal a b c d = sym (same-bits q false false true u refl a b c d)
 by-bits q false false false u legal a b c d = cc
 
--- a frame, a permission and an order come back from the numbers that hold them
+-- a permission and a frame come back from the word that holds them
 pub perm-back : (frame : ℕ) (q : Perm) → perm_at (frame * 16 + perm_code q) ≡ q
 unfolding perm_at perm_code
 perm-back frame q =
@@ -59,8 +59,3 @@ perm-back frame q =
 pub frame-back : (frame : ℕ) (q : Perm) → (frame * 16 + perm_code q) / 16 ≡ frame
 unfolding perm_code
 frame-back frame q = (bits frame q.r q.w q.x q.u).4
-
-pub level-back : (pages : ℕ) (o : Order) → (order_at ((pages * 3 + level_of o) % 3) ≡ o) × ((pages * 3 + level_of o) / 3 ≡ pages)
-level-back pages order.K4 = (ap order_at {x = (pages * 3 + 0) % 3} {y = 0} (omega arith), omega arith)
-level-back pages order.M2 = (ap order_at {x = (pages * 3 + 1) % 3} {y = 1} (omega arith), omega arith)
-level-back pages order.G1 = (ap order_at {x = (pages * 3 + 2) % 3} {y = 2} (omega arith), omega arith)

@@ -4,9 +4,8 @@ use Rattle.xl_model.specs.declared.address.Kind.{Kind}
 use Rattle.xl_model.specs.declared.address.Kind.TheVariants as kind
 use Rattle.xl_model.specs.declared.perm.Perm.{Perm}
 use Rattle.xl_model.specs.Addresses.{allows}
-use Rattle.xl_model.specs.LeafWords.{perm_at}
-use Rattle.xl_tlb.specs.declared.coding.TheConstants.{ALLOWED}
-use Rattle.xl_tlb.specs.Coding.{kind_place}
+use Rattle.xl_model.specs.declared.allowed.TheConstants.{ALLOWED}
+use Rattle.xl_model.specs.LeafWords.{perm_at, kind_place}
 
 -- the kind of the table's places
 abbrev kind_at : ℕ → Kind
