@@ -22,8 +22,8 @@ pub(crate) fn add(
 ) -> Result<Work, Refused>
     requires whole { IsWhole chains.old smaller.old }
     requires valid { IsLeafFor (table_in Sixteen chains.old).shape leaf }
-    requires free { meets_any leaf.space leaf.first leaf.order (table_in Sixteen chains.old).leaves ≡
-        false }
+    requires free { meets_any leaf.space leaf.first leaf.order
+        (table_in Sixteen chains.old).leaves ≡ false }
     ensures whole { IsWhole chains.new smaller.new }
     ensures changes { IsChange (Insert leaf) (table_in Sixteen chains.old) result
         (table_in Sixteen chains.new) }

@@ -85,7 +85,8 @@ fn all_row_keys(kind: TableKind, table: &Table) -> bool
 /// A row of this number, behind others.
 #[tactic(auto, unfolding(crate::specs::Rows::row_in))]
 fn one_row(row: u32, rows: &[Row], toml: &Table) -> Result<Row, KeyFault>
-    ensures { Reads row_of result (row_in row (names_of (map row_of rows.now)) (table_view toml.now)) }
+    ensures { Reads row_of result
+        (row_in row (names_of (map row_of rows.now)) (table_view toml.now)) }
 {
     let name = name(row, rows, toml)?;
     let mode = mode(row, toml)?;
@@ -174,7 +175,8 @@ fn elements(table: &Table) -> Result<&Array, KeyFault>
 }
 
 fn element_row(number: u32, rows: &[Row], value: &Value) -> Result<Row, KeyFault>
-    ensures { Reads row_of result (element_in number (names_of (map row_of rows.now)) (view value.now)) }
+    ensures { Reads row_of result
+        (element_in number (names_of (map row_of rows.now)) (view value.now)) }
 {
     one_row(number, rows, table_of(0, 0, value)?)
 }
@@ -203,7 +205,8 @@ fn rows_from(alloc: Global, values: &Array) -> Result<Vec<Row>, ConfigFault>
 
 #[tactic(auto, unfolding(crate::specs::Rows::rows_in))]
 fn rows(alloc: Global, table: &Table) -> Result<Vec<Row>, ConfigFault>
-    ensures reading { Gives (λ rows. map row_of rows.items) result (keyed (rows_in (table_view table.now))) }
+    ensures reading { Gives (λ rows. map row_of rows.items) result
+        (keyed (rows_in (table_view table.now))) }
     ensures fit { IfOk result (λ rows. All IsRow (map row_of rows.items)) }
     ensures few { IfOk result (λ rows. length rows.items ≤ 16) }
     ensures keys { IfErr result (λ e. ¬ (e ≡ ConfigFault.TooLong) × ¬ (e ≡ ConfigFault.BadToml)) }
@@ -244,7 +247,8 @@ pub fn read(alloc: Global, text: &[u8]) -> Result<Vec<Row>, ConfigFault>
     ensures fit { IfOk result (λ rows. All IsRow (map row_of rows.items)) }
     ensures few { IfOk result (λ rows. length rows.items ≤ 16) }
     ensures too_long { (result ≡ Err ConfigFault.TooLong) ↔ (65536 < length text.now) }
-    ensures bad_toml { result ≡ Err ConfigFault.BadToml → (length text.now ≤ 65536) × (document_of text.now ≡ None) }
+    ensures bad_toml { result ≡ Err ConfigFault.BadToml → (length text.now ≤ 65536)
+        × (document_of text.now ≡ None) }
 {
     if text.len() > LIMIT {
         return Err(ConfigFault::TooLong);

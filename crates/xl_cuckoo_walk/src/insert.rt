@@ -58,7 +58,8 @@ fn count(counts: &mut Counts, size: Order, leaf: Leaf)
 pub(crate) fn enter<const D: usize>(parts: &mut Parts<D>, leaf: Leaf) -> Result<Moves, Refused>
     requires whole { IsRow parts.old }
     requires valid { IsLeafFor (row_state parts.old).shape leaf }
-    requires free { meets_any leaf.space leaf.first leaf.order (row_state parts.old).leaves ≡ false }
+    requires free { meets_any leaf.space leaf.first leaf.order (row_state parts.old).leaves
+        ≡ false }
     ensures made { IfOk result (λ m. IsEntered leaf parts.old parts.new m) }
     ensures refused { IfErr result (λ r. IsRefused leaf parts.old parts.new r) }
 {
@@ -81,7 +82,8 @@ pub(crate) fn enter<const D: usize>(parts: &mut Parts<D>, leaf: Leaf) -> Result<
 pub(crate) fn insert_leaf<const D: usize>(parts: &mut Parts<D>, leaf: Leaf) -> Result<Work, Refused>
     requires whole { IsRow parts.old }
     requires valid { IsLeafFor (row_state parts.old).shape leaf }
-    requires free { meets_any leaf.space leaf.first leaf.order (row_state parts.old).leaves ≡ false }
+    requires free { meets_any leaf.space leaf.first leaf.order (row_state parts.old).leaves
+        ≡ false }
     ensures whole { IsRow parts.new }
     ensures changes { IsChange (Insert leaf) (row_state parts.old) result (row_state parts.new) }
 {

@@ -22,8 +22,8 @@ pub(crate) fn add(
 ) -> Result<Work, Refused>
     requires whole { IsTagged One chains.old smaller.old }
     requires valid { IsLeafFor (table_in One chains.old).shape leaf }
-    requires free { meets_any leaf.space leaf.first leaf.order (table_in One chains.old).leaves ≡
-        false }
+    requires free { meets_any leaf.space leaf.first leaf.order
+        (table_in One chains.old).leaves ≡ false }
     ensures whole { IsTagged One chains.new smaller.new }
     ensures changes { IsChange (Insert leaf) (table_in One chains.old) result
         (table_in One chains.new) }

@@ -124,7 +124,8 @@ impl<S: Structure> Machine<S> {
 
     /// The refusal where no block of frames of the order is free.
     fn frames_refusal(&self, order: Order) -> Option<Refusal>
-        ensures { result ≡ frames_rule (lowest self.now.row.frames order self.now.state.table.leaves) }
+        ensures { result
+            ≡ frames_rule (lowest self.now.row.frames order self.now.state.table.leaves) }
     {
         if self.frames.can_take(order) {
             return None;

@@ -40,12 +40,14 @@ pub trait Structure: Drop {
     /// Drops a leaf that is there. Refused where a table of ranges has no room for the result.
     fn remove(&mut self, space: u16, first: u64, order: Order) -> Result<Work, Refused>
         requires { IsNamed space first order (table self.old).leaves }
-        ensures changes { IsChange (Remove space first order) (table self.old) result (table self.new) };
+        ensures changes { IsChange (Remove space first order) (table self.old) result
+            (table self.new) };
 
     /// Gives a leaf that is there another permission. Refused as `remove`.
     fn protect(&mut self, space: u16, first: u64, order: Order, perm: Perm) -> Result<Work, Refused>
         requires { IsNamed space first order (table self.old).leaves }
-        ensures changes { IsChange (Protect space first order perm) (table self.old) result (table self.new) };
+        ensures changes { IsChange (Protect space first order perm) (table self.old) result
+            (table self.new) };
 
     /// Moves a leaf that is there to the page `to`, where no leaf meets it, with its frame and
     /// permission. Refused as `insert`, judged with both leaves there, and for ranges on the result too.
@@ -53,7 +55,8 @@ pub trait Structure: Drop {
         requires there { IsNamed space first order (table self.old).leaves }
         requires valid { IsBlock (table self.old).shape space to order }
         requires free { meets_any space to order (table self.old).leaves ≡ false }
-        ensures changes { IsChange (Relocate space first to order) (table self.old) result (table self.new) };
+        ensures changes { IsChange (Relocate space first to order) (table self.old) result
+            (table self.new) };
 
     /// The leaf that covers the page, found by a walk, with the cache hits of the walk. The loads rise
     /// by those of the walk, and the caches are touched and filled.

@@ -86,5 +86,6 @@ impl<K: Sink + Drop> Sink for Buffered<K> {
         self.to.flush()
     }
 
-    ghost fronts = { λ s. fronts_held (K.outside s.to).written (K.taken s.to) s.held.items (K.fronts s.to) };
+    ghost fronts = { λ s. fronts_held (K.outside s.to).written (K.taken s.to) s.held.items
+        (K.fronts s.to) };
 }

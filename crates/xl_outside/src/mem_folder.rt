@@ -27,7 +27,14 @@ impl Model for MemFolder {
 
     ghost Value = { FolderState };
 
-    ghost view = { λ s. record { held = told s.files.items; failing = s.failing.items; piece = s.piece; calls = s.calls; failed = s.faults; missed = s.absences } };
+    ghost view = { λ s. record {
+      held = told s.files.items;
+      failing = s.failing.items;
+      piece = s.piece;
+      calls = s.calls;
+      failed = s.faults;
+      missed = s.absences;
+    } };
 
     ghost invariant = { λ s. 0 < s.piece };
 }
@@ -103,7 +110,8 @@ fn read_part(
     buf: &mut [u8],
 ) -> Result<usize, Unread>
     requires { 0 < piece }
-    ensures answer { result ≡ part_of (file_of (told files.now) name.now) at (length buf.old) piece }
+    ensures answer { result
+        ≡ part_of (file_of (told files.now) name.now) at (length buf.old) piece }
     ensures told { Tells (file_of (told files.now) name.now) at result buf.old buf.new }
 {
     let Some(file) = find(files, name) else {

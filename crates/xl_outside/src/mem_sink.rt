@@ -31,9 +31,17 @@ impl Model for MemSink {
 
     ghost Value = { SinkState };
 
-    ghost view = { λ s. record { text = s.bytes.items; capacity = s.capacity; failing = s.failing.items; piece = s.piece; puts = s.puts; failed = s.faults } };
+    ghost view = { λ s. record {
+      text = s.bytes.items;
+      capacity = s.capacity;
+      failing = s.failing.items;
+      piece = s.piece;
+      puts = s.puts;
+      failed = s.faults;
+    } };
 
-    ghost invariant = { λ s. (0 < s.piece) × (vec_len s.bytes ≤ s.capacity) × (s.capacity ≤ vec_capacity s.bytes) };
+    ghost invariant = { λ s. (0 < s.piece) × (vec_len s.bytes ≤ s.capacity)
+        × (s.capacity ≤ vec_capacity s.bytes) };
 }
 
 impl MemSink {

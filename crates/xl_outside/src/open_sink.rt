@@ -15,7 +15,8 @@ pub trait Writer {
     /// Writes the first bytes of these, and answers how many.
     fn write_some(&mut self, bytes: &[u8]) -> io::Result<usize>
         ensures count { IfOk result (λ n. n ≤ length bytes.now) }
-        ensures took { IfOk result (λ n. text self.new ≡ with_more (text self.old) (take n bytes.now)) }
+        ensures took { IfOk result
+            (λ n. text self.new ≡ with_more (text self.old) (take n bytes.now)) }
         ensures failed { OnErr result (text self.new ≡ text self.old) };
 }
 

@@ -27,7 +27,8 @@ pub trait Stream {
     fn read_on(&mut self, buf: &mut [u8]) -> io::Result<usize>
         ensures count { IfOk result (λ n. n ≤ length buf.new) }
         ensures told { IfOk result (λ n. ReadsHere (state self.old) n buf.old buf.new) }
-        ensures moves { IfOk result (λ n. state self.new ≡ option_map (moved_on n) (state self.old)) };
+        ensures moves { IfOk result
+            (λ n. state self.new ≡ option_map (moved_on n) (state self.old)) };
 }
 
 /// What opens files by name.
@@ -88,7 +89,8 @@ impl<S: Stream + Drop> Placed<S> {
 
     /// The file at a place.
     fn sought(self, at: u64) -> Result<S, Unread>
-        ensures moves { IfOk result (λ t. S.state t ≡ option_map (sought at) (S.state self.stream)) }
+        ensures moves { IfOk result
+            (λ t. S.state t ≡ option_map (sought at) (S.state self.stream)) }
         ensures there { IfOk result (λ t. ForSome (S.state t) (λ s. s.place ≡ at)) }
         ensures failed { result ≢ Err Unread.Missing }
     {

@@ -115,8 +115,10 @@ fn drop(treap: &mut Treap, space: u16, start: u64) -> bool {
 
 /// Whether a range of the space that is held starts at the page and can have so many pages.
 fn has_room(treap: &Treap, space: u16, start: u64, pages: u64) -> bool
-    ensures held { result ≡ true → list_any (has_key (key_at space start)) treap.now.seen.kept ≡ true }
-    ensures apart { result ≡ true → IsApart 0 (resized (key_at space start) pages treap.now.seen.kept) }
+    ensures held { result ≡ true
+        → list_any (has_key (key_at space start)) treap.now.seen.kept ≡ true }
+    ensures apart { result ≡ true
+        → IsApart 0 (resized (key_at space start) pages treap.now.seen.kept) }
 {
     treap.words_read_back();
     let Some(range) = started(treap, space, start) else {

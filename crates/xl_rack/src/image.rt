@@ -86,7 +86,8 @@ fn write_radix<const LEVELS: usize, K: Sink>(
 #[tactic(auto, unfolding(xl_cuckoo_walk::specs::Parts::row_state))]
 fn write_held<K: Sink>(out: &mut K, held: Held<'_>) -> Result<(), Failed>
     ensures { SinkAfter K.taken K.outside K.roomy
-        (image_lines (served_behind held.entry).row.name (served_behind held.entry).state.table.leaves
+        (image_lines (served_behind held.entry).row.name
+        (served_behind held.entry).state.table.leaves
         (served_behind held.entry).state.table.shape)
         out.old out.new (is_ok result) }
 {

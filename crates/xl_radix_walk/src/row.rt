@@ -117,7 +117,8 @@ fn straight<const LEVELS: usize>(
         Some from.node }
     requires level { from.level < LEVELS }
     ensures some { IfSome result (λ word.
-        IsStraight LEVELS from.level _space page (small_leaf _space page word) radix.old radix.new) }
+        IsStraight LEVELS from.level _space page
+        (small_leaf _space page word) radix.old radix.new) }
     ensures none { IfNone result (radix.new ≡ radix.old) }
 {
     radix.words_read_back();

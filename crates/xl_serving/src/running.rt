@@ -161,7 +161,8 @@ fn replay<R: Rows, T: Trace, F: Folder, K: Sink>(
     requires none { areas.old ≡ [] }
     requires unread { (file : Option (List ℕ)) → T.stands trace.old file
         × (T.left trace.old file ≡ T.trail file) }
-    ensures told { IfSome (F.files folder.old) (λ fs. Ends result (course_ending (asked_of words.now)
+    ensures told { IfSome (F.files folder.old)
+        (λ fs. Ends result (course_ending (asked_of words.now)
         (course commands.now (trail_for T.trail (asked_of words.now) fs))
         (scene_of (R.rows rows.old) []))
         K.roomy (K.taken out.old) (K.taken out.new) out.old out.new (R.rows rows.new)) }
@@ -188,7 +189,8 @@ fn replay_made<R: Rows, F: Folder, K: Sink>(
     commands: &Script,
 ) -> Result<(), Stop>
     requires { areas.old ≡ [] }
-    ensures told { IfSome (F.files folder.old) (λ fs. Ends result (course_ending (asked_of words.now)
+    ensures told { IfSome (F.files folder.old)
+        (λ fs. Ends result (course_ending (asked_of words.now)
         (course commands.now (made_trail records)) (scene_of (R.rows rows.old) []))
         K.roomy (K.taken out.old) (K.taken out.new) out.old out.new (R.rows rows.new)) }
     ensures leaves { FolderAfter F.files F.faults F.absences F.steady folder.old folder.new
@@ -217,7 +219,8 @@ fn replay_file<R: Rows, T: Trace, F: Folder, K: Sink>(
     requires none { areas.old ≡ [] }
     requires unread { (file : Option (List ℕ)) → T.stands trace.old file
         × (T.left trace.old file ≡ T.trail file) }
-    ensures told { IfSome (F.files folder.old) (λ fs. Ends result (course_ending (asked_of words.now)
+    ensures told { IfSome (F.files folder.old)
+        (λ fs. Ends result (course_ending (asked_of words.now)
         (course commands.now (trail_in T.trail (asked_of words.now).trace fs))
         (scene_of (R.rows rows.old) []))
         K.roomy (K.taken out.old) (K.taken out.new) out.old out.new (R.rows rows.new)) }
@@ -259,7 +262,8 @@ fn replay_over<R: Rows, T: Trace, F: Folder, K: Sink>(
     requires { areas.old ≡ [] }
     ensures told { IfSome (F.files folder.old) (λ fs. T.stands trace.old (file_of fs name.now)
         → Ends result (course_ending (asked_of words.now)
-        (course commands.now (T.left trace.old (file_of fs name.now))) (scene_of (R.rows rows.old) []))
+        (course commands.now (T.left trace.old (file_of fs name.now)))
+        (scene_of (R.rows rows.old) []))
         K.roomy (K.taken out.old) (K.taken out.new) out.old out.new (R.rows rows.new)) }
     ensures leaves { FolderAfter F.files F.faults F.absences F.steady folder.old folder.new
         (fate_by stop_fate result) }

@@ -70,7 +70,8 @@ pub fn serve<R: Rows, T: Trace, F: Folder, K: Sink>(
     ensures told { IfSome (F.files folder.old) (λ fs. T.stands trace.old (file_of fs name.now)
         → Serves K.taken K.outside K.roomy answers
         (course script.now (T.left trace.old (file_of fs name.now))) (ended None)
-        (scene_of (R.rows rows.old) []) (scene_of (R.rows rows.new) areas.new) out.old out.new result) }
+        (scene_of (R.rows rows.old) [])
+        (scene_of (R.rows rows.new) areas.new) out.old out.new result) }
     ensures leaves { FolderAfter F.files F.faults F.absences F.steady folder.old folder.new
         (fate_by serve_stop_fate result) }
     ensures goes_on { GoesOn (is_written result) (K.outside out.old) (K.outside out.new) }

@@ -191,9 +191,11 @@ impl Tape {
             FeedAnswers (file_of fs name.now) self.old.at result self.old.reader self.new.reader) }
         ensures leaves { FolderAfter F.files F.faults F.absences F.steady folder.old folder.new
             (fate_by unread_fate result) }
-        ensures at { IfOk result (λ n. (self.new.at ≡ self.old.at + n) × (self.new.number ≡ self.old.number)) }
+        ensures at { IfOk result (λ n. (self.new.at ≡ self.old.at + n)
+            × (self.new.number ≡ self.old.number)) }
         ensures most { IfOk result (λ n. self.old.at + n ≤ 2 ^ 34) }
-        ensures held { IfOk result (λ n. length self.new.reader.held ≡ length self.old.reader.held + n) }
+        ensures held { IfOk result
+            (λ n. length self.new.reader.held ≡ length self.old.reader.held + n) }
         ensures unfinished { OnOk result (self.new.reader.finished ≡ false) }
     {
         let wanted = self.wanted();
@@ -221,7 +223,8 @@ impl Tape {
     }
 
     fn finish(&mut self)
-        ensures { self.new ≡ record self.old { reader = record self.old.reader { finished = true } } }
+        ensures { self.new
+            ≡ record self.old { reader = record self.old.reader { finished = true } } }
     {
         self.reader.finish();
     }

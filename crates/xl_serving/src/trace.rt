@@ -47,12 +47,14 @@ pub trait Trace: Sized {
 
     /// A trace of which nothing was read yet. All memory that it wants is taken here.
     fn open(alloc: Global) -> Result<Self, NoMemory>
-        ensures { IfOk result (λ t. (file : Option (List ℕ)) → stands t file × (left t file ≡ trail file)) };
+        ensures { IfOk result (λ t. (file : Option (List ℕ)) → stands t file
+            × (left t file ≡ trail file)) };
 
     /// The next record of the file `name`, or None at its end.
     fn next<F: Folder>(&mut self, folder: &mut F, name: &str) -> Result<Option<Numbered>, TraceStop>
         ensures told { IfSome (F.files folder.old) (λ fs. stands self.old (file_of fs name.now)
-            → TraceAnswers (stands self.new (file_of fs name.now)) (left self.old (file_of fs name.now))
+            → TraceAnswers (stands self.new (file_of fs name.now))
+            (left self.old (file_of fs name.now))
             (left self.new (file_of fs name.now)) result) }
         ensures leaves { FolderAfter F.files F.faults F.absences F.steady folder.old folder.new
             (fate_by trace_stop_fate result) }

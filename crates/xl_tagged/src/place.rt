@@ -72,7 +72,8 @@ pub fn leaf_read(space: u16, order: Order, page: u64, word: u64) -> Option<Leaf>
 /// where the word says none.
 #[inline(always)]
 pub fn small_read(_space: u16, _page: u64, word: u64) -> Option<u64>
-    ensures { small_told _space _page result ≡ read _space orders.K4 (_page / pages_of orders.K4) word }
+    ensures { small_told _space _page result
+        ≡ read _space orders.K4 (_page / pages_of orders.K4) word }
 {
     small_word(word)
 }

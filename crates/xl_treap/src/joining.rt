@@ -12,7 +12,8 @@ use crate::node::{hang, is_above, left_of, right_of, set_pages};
 pub(crate) fn merge_down(words: &[u64], path: &mut [u32], low: u32, high: u32) -> Way
     ghost pair: { Pair }
     requires { CanMerge words.now low high (length path.old) pair }
-    ensures { IsSpine words.now path.new (merge pair.low pair.high) pair.key result.depth result.at }
+    ensures { IsSpine words.now path.new
+        (merge pair.low pair.high) pair.key result.depth result.at }
 {
     let mut low = low;
     let mut high = high;

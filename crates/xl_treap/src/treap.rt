@@ -44,7 +44,8 @@ impl Model for Treap {
 
     ghost view = { λ t. seen_in t.words.items t.root (length t.path.items) t.loads };
 
-    ghost invariant = { λ t. IsKept t.words.items t.root (length t.path.items) t.free.items (vec_capacity t.free) };
+    ghost invariant = { λ t. IsKept t.words.items t.root (length t.path.items) t.free.items
+        (vec_capacity t.free) };
 }
 
 /// The numbers below `n`.
@@ -120,7 +121,8 @@ impl Treap {
     /// are held as there are nodes; then nothing changes.
     pub fn insert(&mut self, range: Range) -> Result<(), Full>
         requires { IsApart 0 (with_range range self.old.seen.kept) }
-        ensures ok { OnOk result (self.new.seen ≡ keeping self.old.seen (with_range range self.old.seen.kept)) }
+        ensures ok { OnOk result
+            (self.new.seen ≡ keeping self.old.seen (with_range range self.old.seen.kept)) }
         ensures room { OnOk result (length self.old.seen.kept < self.old.seen.nodes) }
         ensures full { OnErr result (length self.old.seen.kept ≡ self.old.seen.nodes) }
         ensures same { OnErr result (self.new ≡ self.old) }
@@ -137,7 +139,8 @@ impl Treap {
     /// Takes out the range of the space that starts at page `start`, which is held.
     pub fn remove(&mut self, space: u16, start: u64)
         requires { list_any (has_key (key_at space start)) self.old.seen.kept ≡ true }
-        ensures { self.new.seen ≡ keeping self.old.seen (without_range (key_at space start) self.old.seen.kept) }
+        ensures { self.new.seen
+            ≡ keeping self.old.seen (without_range (key_at space start) self.old.seen.kept) }
     {
         let root = self.root;
         let key = key_of(space, start);
@@ -154,7 +157,8 @@ impl Treap {
     pub fn resize(&mut self, space: u16, start: u64, pages: u64)
         requires held { list_any (has_key (key_at space start)) self.old.seen.kept ≡ true }
         requires apart { IsApart 0 (resized (key_at space start) pages self.old.seen.kept) }
-        ensures { self.new.seen ≡ keeping self.old.seen (resized (key_at space start) pages self.old.seen.kept) }
+        ensures { self.new.seen
+            ≡ keeping self.old.seen (resized (key_at space start) pages self.old.seen.kept) }
     {
         let root = self.root;
         let key = key_of(space, start);
@@ -224,7 +228,8 @@ impl Treap {
         requires space_in { space < 64 }
         requires page_in { page < 2 ^ 52 }
         ensures end { result ≡ tree_back (B.words bus.old) root nodes space page }
-        ensures bus { bus.new ≡ loaded_along B.loaded (B.words bus.old) root nodes (key_at space page) bus.old }
+        ensures bus { bus.new
+            ≡ loaded_along B.loaded (B.words bus.old) root nodes (key_at space page) bus.old }
     {
         seek(bus, root, nodes, key_of(space, page))
     }

@@ -38,7 +38,12 @@ impl Model for Way {
     ghost Value = { WayState };
 
     ghost view = { λ w. record {
-      shape = record { number = w.places.number; cap = w.cap; regs = w.places.regs; entries = entries_of w.slots.items };
+      shape = record {
+        number = w.places.number;
+        cap = w.cap;
+        regs = w.places.regs;
+        entries = entries_of w.slots.items;
+      };
       loads = w.loads;
     } };
 
@@ -129,7 +134,10 @@ impl Way {
         requires { 0 < word }
         ensures left { result ≡ occupant self.old.shape key }
         ensures shape { self.new
-            ≡ record self.old { shape = swapped self.old.shape (record { key = key; word = word }) } }
+            ≡ record self.old {
+              shape = swapped self.old.shape
+                  (record { key = key; word = word });
+            } }
         ensures back { IfSome result (λ e. self.old.shape ≡ swapped self.new.shape e) }
         ensures again { IfSome result (λ e. occupant self.new.shape e.key
             ≡ Some (record { key = key; word = word })) }
