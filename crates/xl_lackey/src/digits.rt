@@ -102,14 +102,15 @@ pub(crate) fn eight_digits(text: &[u8]) -> Option<u64>
     }
 }
 
-/// The value of each byte as a hexadecimal digit, and 16 or more where it is none.
+/// The value of each byte as a hexadecimal digit of lower case, and 16 or more where it is none. Among
+/// digits, one is added to bytes below `0` that reach 256 and so count from 0 again.
 #[inline(always)]
 fn lane_values(bytes: u8x8) -> u8x8
     ensures { result ≡ map lane_value bytes }
 {
-    let digits = bytes - u8x8::splat(b'0');
-    let letters = ((bytes | u8x8::splat(32)) - u8x8::splat(b'a')).saturating_add(u8x8::splat(10));
-    digits.simd_lt(u8x8::splat(10)).select(digits, letters)
+    let digits = (bytes - u8x8::splat(58)).simd_max(u8x8::splat(6)) + u8x8::splat(10);
+    let letters = (bytes - u8x8::splat(b'a')).simd_min(u8x8::splat(118)) + u8x8::splat(10);
+    digits.simd_min(letters)
 }
 
 #[inline(always)]
@@ -153,17 +154,26 @@ pub(crate) fn near_address(text: &[u8]) -> Option<(u64, usize)>
     }
 }
 
-/// A size of one digit that a newline ends.
+/// A size of one digit or of two, of which the first isn't 0, that a newline ends, and how many digits
+/// it has.
 #[inline(always)]
-pub(crate) fn near_size(text: &[u8]) -> Option<u32>
-    requires { 2 ≤ length text.now }
-    ensures small { IfSome result (λ s. s < 10) }
-    ensures newline { IfSome result (λ s. slice_index text.now 1 ≡ 10) }
-    ensures value { IfSome result (λ s. Some (s, 1) ≡ size_in text.now) }
+pub(crate) fn near_size(text: &[u8]) -> Option<(u32, usize)>
+    requires { 3 ≤ length text.now }
+    ensures small { IfSome result (λ r. r.0 < 100) }
+    ensures few { IfSome result (λ r. r.1 ≤ 2) }
+    ensures newline { IfSome result (λ r. slice_index text.now r.1 ≡ 10) }
+    ensures value { IfSome result (λ r. Some r ≡ size_in text.now) }
 {
-    let size = text[0].wrapping_sub(b'0');
-    if size < 10 && text[1] == b'\n' {
-        Some(size as u32)
+    let first = text[0].wrapping_sub(b'1');
+    if first >= 9 {
+        return None;
+    }
+    if text[1] == b'\n' {
+        return Some((first as u32 + 1, 1));
+    }
+    let second = text[1].wrapping_sub(b'0');
+    if second < 10 && text[2] == b'\n' {
+        Some(((first as u32 + 1) * 10 + second as u32, 2))
     } else {
         None
     }

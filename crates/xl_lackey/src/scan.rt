@@ -52,10 +52,9 @@ fn next_line(text: &[u8], from: usize) -> Option<(usize, Verdict)>
     ensures some { IfSome result (λ r. IsFirstLine (drop from text.now) r.0 r.1) }
     ensures none { IfNone result (judged_line (drop from text.now) ≡ None) }
 {
-    let rest = &text[from..];
-    match near_line(rest) {
+    match near_line(text, from) {
         Some(found) => Some(found),
-        None => far_line(rest),
+        None => far_line(&text[from..]),
     }
 }
 
