@@ -1,6 +1,6 @@
 //! Digits, and the blanks before them.
 
-ghost use Rattle.std.specs.Prelude.{map, IsTrue, slice_index, ◌≡◌, ℕ, ◌+◌, ◌^◌, ◌<◌, ◌≤◌, min, length, take, drop, Option, Some, IfSome};
+ghost use Rattle.std.specs.Prelude.{map, IsTrue, slice_index, ◌≡◌, ℕ, ◌+◌, ◌*◌, ◌^◌, ◌<◌, ◌≤◌, min, length, take, drop, Option, Some, IfSome};
 ghost use Rattle.std.specs.Option.{option_map};
 ghost use Rattle.xl_text.specs.Texts.{is_blank};
 ghost use Rattle.std.specs.Simd.Lanes.{Each1};
@@ -154,6 +154,15 @@ pub(crate) fn near_address(text: &[u8]) -> Option<(u64, usize)>
     }
 }
 
+/// Two bytes as a number, of which the first counts least.
+#[inline(always)]
+pub(crate) fn pair(text: &[u8]) -> u16
+    requires { 2 ≤ length text.now }
+    ensures { result ≡ slice_index text.now 0 + slice_index text.now 1 * 256 }
+{
+    u16x1::from_le_bytes(u8x2::from_slice(text)).to_array()[0]
+}
+
 /// A size of one digit or of two, of which the first isn't 0, that a newline ends, and how many digits
 /// it has.
 #[inline(always)]
@@ -164,16 +173,14 @@ pub(crate) fn near_size(text: &[u8]) -> Option<(u32, usize)>
     ensures newline { IfSome result (λ r. slice_index text.now r.1 ≡ 10) }
     ensures value { IfSome result (λ r. Some r ≡ size_in text.now) }
 {
-    let first = text[0].wrapping_sub(b'1');
-    if first >= 9 {
-        return None;
+    let above = pair(text).wrapping_sub(b'1' as u16 + b'\n' as u16 * 256);
+    if above < 9 {
+        return Some((above as u32 + 1, 1));
     }
-    if text[1] == b'\n' {
-        return Some((first as u32 + 1, 1));
-    }
-    let second = text[1].wrapping_sub(b'0');
-    if second < 10 && text[2] == b'\n' {
-        Some(((first as u32 + 1) * 10 + second as u32, 2))
+    let tens = text[0].wrapping_sub(b'1');
+    let ones = text[1].wrapping_sub(b'0');
+    if tens < 9 && ones < 10 && text[2] == b'\n' {
+        Some(((tens as u32 + 1) * 10 + ones as u32, 2))
     } else {
         None
     }

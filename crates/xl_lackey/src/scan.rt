@@ -5,7 +5,7 @@ ghost use Rattle.xl_lackey.specs.Usual.{judged_line};
 ghost use Rattle.xl_lackey.specs.Scans.{IsFirstLine, Scans};
 
 use crate::line::{Verdict, judge};
-use crate::usual::{near_line, usual_line};
+use crate::usual::{NEAR, near_line, usual_line};
 use memchr::memchr;
 
 /// How far the lines of a text were read: up to its first line that isn't skipped, or over all that a
@@ -52,9 +52,13 @@ fn next_line(text: &[u8], from: usize) -> Option<(usize, Verdict)>
     ensures some { IfSome result (λ r. IsFirstLine (drop from text.now) r.0 r.1) }
     ensures none { IfNone result (judged_line (drop from text.now) ≡ None) }
 {
-    match near_line(text, from) {
+    let rest = &text[from..];
+    if rest.len() < NEAR {
+        return far_line(rest);
+    }
+    match near_line(rest) {
         Some(found) => Some(found),
-        None => far_line(&text[from..]),
+        None => far_line(rest),
     }
 }
 

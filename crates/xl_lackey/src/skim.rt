@@ -1,6 +1,6 @@
 //! Records whose bytes lie in one page each, taken together: what nearly all of a trace is.
 
-ghost use Rattle.std.specs.Prelude.{◌≡◌, ◌≤◌, ◌++◌, length, drop, map, true, IfSome};
+ghost use Rattle.std.specs.Prelude.{◌≡◌, ◌+◌, ◌≤◌, ◌++◌, length, drop, map, true, IfSome};
 ghost use Rattle.xl_lackey.specs.Accesses.{accesses};
 ghost use Rattle.xl_lackey.specs.Lines.{IsProper};
 ghost use Rattle.xl_lackey.specs.Skims.{pair, read_of, accesses_near, HasAccesses, HasRoom, IsRecordLine, Skims};
@@ -8,7 +8,7 @@ ghost use Rattle.xl_lackey.specs.Skims.{pair, read_of, accesses_near, HasAccesse
 use crate::access::is_within_page;
 use crate::line::Verdict;
 use crate::reference::{Letter, Reference};
-use crate::usual::near_line;
+use crate::usual::{NEAR, near_line};
 use arrayvec::ArrayVec;
 use xl_model::Kind;
 
@@ -98,10 +98,10 @@ fn near_of(reference: &Reference, used: usize) -> Option<Near>
 /// page. None says nothing of the text.
 #[inline(always)]
 fn near_record(text: &[u8], from: usize) -> Option<Near>
-    requires { from ≤ length text.now }
+    requires { from + 17 ≤ length text.now }
     ensures { IfSome result (λ near. IsRecordLine (drop from text.now) near.used (read_of near)) }
 {
-    let (used, verdict) = near_line(text, from)?;
+    let (used, verdict) = near_line(&text[from..])?;
     record_in_page(verdict, used)
 }
 
@@ -138,7 +138,9 @@ pub(crate) fn skim_lines(text: &[u8], before: u64, into: &mut Batch, most: u64) 
 {
     let mut used = 0;
     let mut taken = 0;
-    while taken < most && has_room(into) {
+    // From here on too few bytes are left for the quick way.
+    let end = text.len().saturating_sub(NEAR - 1);
+    while taken < most && used < end && has_room(into) {
         let Some(near) = near_record(text, used) else {
             break;
         };

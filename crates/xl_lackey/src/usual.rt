@@ -4,7 +4,7 @@ ghost use Rattle.std.specs.Prelude.{◌≡◌, ◌+◌, ◌-◌, ◌<◌, ◌≤
 ghost use Rattle.xl_lackey.specs.Usual.{usual_front};
 ghost use Rattle.xl_lackey.specs.Scans.{IsFirstLine};
 
-use crate::digits::{address, near_address, near_size, size};
+use crate::digits::{address, near_address, near_size, pair, size};
 use crate::line::{Verdict, fits};
 use crate::reference::Letter;
 
@@ -29,17 +29,17 @@ pub(crate) fn usual_line(text: &[u8]) -> Option<(usize, Verdict)>
     }
 }
 
-/// The same of the line from a place on, where it has an address of eight digits or of ten and a size of
-/// one digit or of two, as nearly all have. It is the quick way: no place is looked for.
+/// The most bytes of a line that is read in the quick way.
+pub(crate) const NEAR: usize = 17;
+
+/// The same of a line with an address of eight digits or of ten and a size of one digit or of two, as
+/// nearly all are. It is the quick way: no place is looked for, and no end of the text is met.
 #[inline(always)]
-pub(crate) fn near_line(text: &[u8], from: usize) -> Option<(usize, Verdict)>
-    requires { from ≤ length text.now }
-    ensures { IfSome result (λ r. IsFirstLine (drop from text.now) r.0 r.1) }
+pub(crate) fn near_line(text: &[u8]) -> Option<(usize, Verdict)>
+    requires { 17 ≤ length text.now }
+    ensures { IfSome result (λ r. IsFirstLine text.now r.0 r.1) }
 {
-    if from + 17 > text.len() {
-        return None;
-    }
-    let (letter, numbers) = usual_letter(&text[from..])?;
+    let (letter, numbers) = usual_letter(text)?;
     let (addr, comma) = near_address(numbers)?;
     let (size, digits) = near_size(&numbers[comma + 1..])?;
     Some((comma + digits + 5, Verdict::Found { letter, addr, size }))
@@ -83,8 +83,7 @@ fn usual_letter(text: &[u8]) -> Option<(Letter, &[u8])>
     ensures { IfSome result (λ r. text.entry.now ≡ usual_front r.0 ++ r.1.now) }
 {
     let front = &FRONTS[(text[1] % 8) as usize];
-    let two = text[0] as u16 + text[1] as u16 * 256;
-    if two == front.two && text[2] == b' ' {
+    if pair(text) == front.two && text[2] == b' ' {
         Some((front.letter, &text[3..]))
     } else {
         None

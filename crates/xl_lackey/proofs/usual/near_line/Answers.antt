@@ -1,4 +1,4 @@
-use Rattle.std.proofs.Common.{◌≡◌, ◌+◌, ◌≤◌, ◌++◌, sym, ap, ◌∙◌, drop, length, length-append, length-drop, arith, rules}
+use Rattle.std.proofs.Common.{◌≡◌, ◌+◌, ◌≤◌, ◌++◌, ap, length, length-append, length-drop, arith, rules}
 use Rattle.std.proofs.lemmas.List.{take_rest}
 use Rattle.xl_lackey.specs.Usual.{usual_front}
 use Rattle.xl_lackey.proofs.NearLineLemmas.{near_fits}
@@ -7,13 +7,12 @@ use Rattle.xl_lackey.proofs.usual.near_line.Goals as goal
 
 pub returns : goal.returns
 returns c =
-    let text = drop c.args.from c.args.text.now in
+    let text = c.args.text.now in
     let numbers = c.in_ok-letter.numbers.now in
     let comma = c.in_ok-addr.comma in
-    let whole : text ≡ usual_front c.in_ok-letter.letter ++ numbers = sym (take_rest c.args.text.now c.args.from) ∙ c.in_ok-letter.ensures in
-    let size = length-drop c.args.from c.args.text.now in
-    let long : 14 ≤ length numbers = omega (arith, size, ap length whole, length-append (usual_front c.in_ok-letter.letter) numbers, front_length c.in_ok-letter.letter) in record {
-      within = omega (arith, size, c.in_ok-addr.ensures.within, c.in_ok-size.ensures.few);
+    let whole : text ≡ usual_front c.in_ok-letter.letter ++ numbers = c.in_ok-letter.ensures in
+    let long : 14 ≤ length numbers = omega (arith, ap length whole, length-append (usual_front c.in_ok-letter.letter) numbers, front_length c.in_ok-letter.letter) in record {
+      within = omega (arith, c.in_ok-addr.ensures.within, c.in_ok-size.ensures.few);
       some = omega arith;
       line = own_at c.in_ok-letter.letter text numbers _ c.in_ok-addr.addr comma c.in_ok-size.size c.in_ok-size.digits
           whole (take_rest numbers (comma + 1)) c.in_ok-addr.ensures.value c.in_ok-size.ensures.value
