@@ -3,7 +3,7 @@
 ghost use Rattle.std.specs.Prelude.{map, IsTrue, slice_index, ◌≡◌, ℕ, ◌+◌, ◌*◌, ◌^◌, ◌<◌, ◌≤◌, min, length, take, drop, Option, Some, IfSome};
 ghost use Rattle.std.specs.Option.{option_map};
 ghost use Rattle.xl_text.specs.Texts.{is_blank};
-ghost use Rattle.std.specs.Simd.Lanes.{Each1};
+ghost use Rattle.std.specs.Simd.Lanes.{Each1, number_l};
 ghost use Rattle.xl_lackey.specs.Lanes.{lane_value, number_of};
 ghost use Rattle.xl_lackey.specs.Digits.{hex_digit as digit_of, hex_value};
 ghost use Rattle.xl_lackey.specs.Lines.{is_digit as is_digit_byte, front, after, address_in, decimal_value, size_in};
@@ -102,8 +102,9 @@ pub(crate) fn eight_digits(text: &[u8]) -> Option<u64>
     }
 }
 
-/// The value of each byte as a hexadecimal digit of lower case, and 16 or more where it is none. Among
-/// digits, one is added to bytes below `0` that reach 256 and so count from 0 again.
+/// The value of each byte as a hexadecimal digit of lower case, and 16 or more where it is none: that of
+/// a decimal digit or of a letter, whichever is smaller. Less 58, modulo 256, decimal digits are the ten
+/// greatest bytes, and 10 more makes them 0 to 9; the six smallest are raised, lest they become 10 to 15.
 #[inline(always)]
 fn lane_values(bytes: u8x8) -> u8x8
     ensures { result ≡ map lane_value bytes }
@@ -113,24 +114,31 @@ fn lane_values(bytes: u8x8) -> u8x8
     digits.simd_min(letters)
 }
 
+/// Eight bytes as a number, of which the first counts least.
+#[inline(always)]
+fn word(bytes: u8x8) -> u64
+    ensures { result ≡ number_l 256 bytes }
+{
+    u64x1::from_le_bytes(bytes).to_array()[0]
+}
+
+/// Whether eight values are below 16 each, asked of their upper halves together.
 #[inline(always)]
 fn are_digits(values: u8x8) -> bool
     ensures { IsTrue result → Each1 (λ d. d < 16) values }
 {
-    values.simd_ge(u8x8::splat(16)).to_bitmask() == 0
+    word(values) & 0xf0f0_f0f0_f0f0_f0f0 == 0
 }
 
-/// The number of eight hexadecimal digits.
+/// The number of eight hexadecimal digits. Those in even places are the upper halves of its bytes.
 #[inline(always)]
 fn number(digits: u8x8) -> u64
     requires { Each1 (λ d. d < 16) digits }
     ensures value { result ≡ number_of 0 digits }
     ensures small { result < 16 ^ 8 }
 {
-    let high = digits.swizzle([6, 4, 2, 0]);
-    let low = digits.swizzle([7, 5, 3, 1]);
-    let bytes = high * u8x4::splat(16) + low;
-    u32x1::from_le_bytes(bytes).to_array()[0] as u64
+    let halves = word(digits.swizzle([6, 4, 2, 0, 7, 5, 3, 1]));
+    halves % (1 << 32) * 16 + (halves >> 32)
 }
 
 /// An address of eight digits or of ten, as nearly all are, and the place of the comma that ends it.
@@ -156,11 +164,11 @@ pub(crate) fn near_address(text: &[u8]) -> Option<(u64, usize)>
 
 /// Two bytes as a number, of which the first counts least.
 #[inline(always)]
-pub(crate) fn pair(text: &[u8]) -> u16
+pub(crate) fn pair(text: &[u8]) -> u32
     requires { 2 ≤ length text.now }
     ensures { result ≡ slice_index text.now 0 + slice_index text.now 1 * 256 }
 {
-    u16x1::from_le_bytes(u8x2::from_slice(text)).to_array()[0]
+    u16x1::from_le_bytes(u8x2::from_slice(text)).to_array()[0] as u32
 }
 
 /// A size of one digit or of two, of which the first isn't 0, that a newline ends, and how many digits
@@ -173,9 +181,9 @@ pub(crate) fn near_size(text: &[u8]) -> Option<(u32, usize)>
     ensures newline { IfSome result (λ r. slice_index text.now r.1 ≡ 10) }
     ensures value { IfSome result (λ r. Some r ≡ size_in text.now) }
 {
-    let above = pair(text).wrapping_sub(b'1' as u16 + b'\n' as u16 * 256);
+    let above = pair(text).wrapping_sub(b'1' as u32 + b'\n' as u32 * 256);
     if above < 9 {
-        return Some((above as u32 + 1, 1));
+        return Some((above + 1, 1));
     }
     let tens = text[0].wrapping_sub(b'1');
     let ones = text[1].wrapping_sub(b'0');

@@ -48,27 +48,27 @@ pub(crate) fn near_line(text: &[u8]) -> Option<(usize, Verdict)>
 /// How a line begins: its first two bytes, of which the first counts least, and the letter among them.
 #[derive(Clone, Copy)]
 struct Front {
-    two: u16,
+    two: u32,
     letter: Letter,
 }
 
 const FETCH: Front = Front {
-    two: b'I' as u16 + b' ' as u16 * 256,
+    two: b'I' as u32 + b' ' as u32 * 256,
     letter: Letter::I,
 };
 
 const LOAD: Front = Front {
-    two: b' ' as u16 + b'L' as u16 * 256,
+    two: b' ' as u32 + b'L' as u32 * 256,
     letter: Letter::L,
 };
 
 const STORE: Front = Front {
-    two: b' ' as u16 + b'S' as u16 * 256,
+    two: b' ' as u32 + b'S' as u32 * 256,
     letter: Letter::S,
 };
 
 const MODIFY: Front = Front {
-    two: b' ' as u16 + b'M' as u16 * 256,
+    two: b' ' as u32 + b'M' as u32 * 256,
     letter: Letter::M,
 };
 
