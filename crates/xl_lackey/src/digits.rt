@@ -102,9 +102,10 @@ pub(crate) fn eight_digits(text: &[u8]) -> Option<u64>
     }
 }
 
-/// The value of each byte as a hexadecimal digit of lower case, and 16 or more where it is none: that of
-/// a decimal digit or of a letter, whichever is smaller. Less 58, modulo 256, decimal digits are the ten
-/// greatest bytes, and 10 more makes them 0 to 9; the six smallest are raised, lest they become 10 to 15.
+/// The value of each byte as a hexadecimal digit of lower case, and 16 or more where it is none:
+/// that of a decimal digit or of a letter, whichever is smaller. Less 58, modulo 256, decimal
+/// digits are the ten greatest bytes, and 10 more makes them 0 to 9; the six smallest are raised,
+/// lest they become 10 to 15.
 #[inline(always)]
 fn lane_values(bytes: u8x8) -> u8x8
     ensures { result ≡ map lane_value bytes }
@@ -171,8 +172,8 @@ pub(crate) fn pair(text: &[u8]) -> u32
     u16x1::from_le_bytes(u8x2::from_slice(text)).to_array()[0] as u32
 }
 
-/// A size of one digit or of two, of which the first isn't 0, that a newline ends, and how many digits
-/// it has.
+/// A size of one digit or of two, of which the first isn't 0, that a newline ends, and how many
+/// digits it has. The first digit and the newline are told together, by one comparison.
 #[inline(always)]
 pub(crate) fn near_size(text: &[u8]) -> Option<(u32, usize)>
     requires { 3 ≤ length text.now }

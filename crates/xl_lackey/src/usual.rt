@@ -32,8 +32,8 @@ pub(crate) fn usual_line(text: &[u8]) -> Option<(usize, Verdict)>
 /// The most bytes of a line that is read in the quick way.
 pub(crate) const NEAR: usize = 17;
 
-/// The same of a line with an address of eight digits or of ten and a size of one digit or of two, as
-/// nearly all are. It is the quick way: no place is looked for, and no end of the text is met.
+/// The same of a line with an address of eight digits or of ten and a size of one digit or of two,
+/// as nearly all are. It is the quick way: no place is looked for, and no end of the text is met.
 #[inline(always)]
 pub(crate) fn near_line(text: &[u8]) -> Option<(usize, Verdict)>
     requires { 17 ≤ length text.now }
@@ -45,7 +45,8 @@ pub(crate) fn near_line(text: &[u8]) -> Option<(usize, Verdict)>
     Some((comma + digits + 5, Verdict::Found { letter, addr, size }))
 }
 
-/// How a line begins: its first two bytes, of which the first counts least, and the letter among them.
+/// How a line begins: its first two bytes, of which the first counts least, and the letter among
+/// them.
 #[derive(Clone, Copy)]
 struct Front {
     two: u32,
@@ -72,7 +73,7 @@ const MODIFY: Front = Front {
     letter: Letter::M,
 };
 
-/// The fronts of lines by their second byte modulo 8; in places that belong to none of them stands a fetch.
+/// The fronts of lines by their second byte modulo 8; in places that belong to none stands a fetch.
 /// Which letter comes next can't be foretold, so a choice would cost more than a look-up.
 const FRONTS: [Front; 8] = [FETCH, FETCH, FETCH, STORE, LOAD, MODIFY, FETCH, FETCH];
 
