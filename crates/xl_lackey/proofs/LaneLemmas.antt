@@ -1,11 +1,13 @@
 -- Eight bytes side by side, as lanes.
-use Rattle.std.proofs.Common.{◌≡◌, ℕ, zero, suc, ◌+◌, ◌-◌, ◌*◌, ◌%◌, ◌^◌, ◌<◌, Bool, true, false, List, [], ◌∷◌, map, length, replicate, bit_or, refl, sym, ap, subst, arith, ◌∙◌, w8, Fits}
-use Rattle.std.specs.Prelude.{Option, None, Some, ◌==◌, nat_le, if◌then◌else◌}
+use Rattle.std.proofs.Common.{◌≡◌, ℕ, zero, suc, ◌+◌, ◌*◌, ◌<◌, Bool, true, false, List, [], ◌∷◌, map, length, replicate, refl, sym, ap, ap₂, subst, bit_and, ◌^◌, ◌%◌, arith, ◌∙◌, w8, Fits}
+use Rattle.std.specs.Prelude.{Option, None, Some, ◌==◌, ◌||◌, nat_le, if◌then◌else◌}
 use Rattle.std.specs.Option.{option_and_then}
 use Rattle.std.proofs.lemmas.Bool.Decides.{nat_tests}
-use lib.Lanes.{zip2, sel_l, top, Each1}
+use lib.Lanes.{number_l, zip2, sel_l, top, Each1}
+use Rattle.std.proofs.lemmas.Nat.{and_block}
+use Rattle.std.proofs.lemmas.Grind.{and_high_numeral}
 use Rattle.xl_lackey.specs.Digits.{hex_digit, hex_value}
-use Rattle.xl_lackey.specs.Lanes.{lane_value, less, is_below, number_of}
+use Rattle.xl_lackey.specs.Lanes.{lane_value, less, plus, is_below, number_of}
 
 -- a fact of any eight elements is one of a list of eight
 pub by_eight : (P : List ℕ → Type 0) → ((a b c d e f g h : ℕ) → P (a ∷ b ∷ c ∷ d ∷ e ∷ f ∷ g ∷ h ∷ [])) → (xs : List ℕ) → length xs ≡ 8 → P xs
@@ -21,19 +23,19 @@ by_eight P q (a ∷ b ∷ c ∷ d ∷ e ∷ f ∷ g ∷ h ∷ []) k = q a b c d 
 by_eight P q (a ∷ b ∷ c ∷ d ∷ e ∷ f ∷ g ∷ h ∷ i ∷ rest) k = absurd (omega arith)
 
 -- all lanes at once, as the vectors' operations give them
-abbrev pub flip : ℕ → ℕ
-flip a = 2 ^ 8 - 1 - a
+abbrev pub tests : List ℕ → List ℕ → List Bool
+tests xs ys = map (top 7) (zip2 is_below xs ys)
 
-abbrev pub plus : ℕ → ℕ → ℕ
-plus a b = (a + b) % 2 ^ 8
+abbrev pub smalls : List ℕ → List ℕ → List ℕ
+smalls xs ys = sel_l (tests xs ys) xs ys
 
-abbrev pub letters : List ℕ → List ℕ
-letters xs = zip2 less (zip2 bit_or xs (replicate 8 32)) (replicate 8 97)
+abbrev pub larges : List ℕ → List ℕ → List ℕ
+larges xs ys = sel_l (tests xs ys) ys xs
 
 abbrev pub read_lanes : List ℕ → List ℕ
 read_lanes xs =
-    sel_l (map (top 7) (zip2 is_below (zip2 less xs (replicate 8 48)) (replicate 8 10))) (zip2 less xs (replicate 8 48))
-    (zip2 plus (letters xs) (sel_l (map (top 7) (zip2 is_below (replicate 8 10) (map flip (letters xs)))) (replicate 8 10) (map flip (letters xs))))
+    smalls (zip2 plus (larges (zip2 less xs (replicate 8 58)) (replicate 8 6)) (replicate 8 10))
+    (zip2 plus (smalls (zip2 less xs (replicate 8 97)) (replicate 8 118)) (replicate 8 10))
 
 pub lanes_read : (xs : List ℕ) → length xs ≡ 8 → read_lanes xs ≡ map lane_value xs
 lanes_read xs k = by_eight (λ xs. read_lanes xs ≡ map lane_value xs) (λ a b c d e f g h. refl) xs k
@@ -41,7 +43,7 @@ lanes_read xs k = by_eight (λ xs. read_lanes xs ≡ map lane_value xs) (λ a b 
 -- a lane below 16 is the byte's value, for all 256 bytes at once
 abbrev right_at : ℕ → ℕ → Option ℕ → Bool
 right_at b v None = nat_le 16 v
-right_at b v (Some d) = v == d
+right_at b v (Some d) = nat_le 16 v || v == d
 
 abbrev all_right : ℕ → ℕ → Bool
 all_right zero b = true
@@ -81,3 +83,22 @@ lanes_number value [] f h = refl
 lanes_number value (b ∷ bs) f h =
     ap (option_and_then (λ d. hex_value (value * 16 + d) bs)) (lane_digit b f.0.fits h.0)
     ∙ lanes_number (value * 16 + lane_value b) bs f.1 h.1
+
+-- eight bytes as a number
+pub word_small : (xs : List ℕ) → length xs ≡ 8 → Each1 (Fits w8) xs → number_l 256 xs < 2 ^ 64
+word_small xs k s =
+    by_eight (λ xs. Each1 (Fits w8) xs → number_l 256 xs < 2 ^ 64)
+    (λ a b c d e f g h s. omega (arith, s.0.fits, s.1.0.fits, s.1.1.0.fits, s.1.1.1.0.fits, s.1.1.1.1.0.fits, s.1.1.1.1.1.0.fits, s.1.1.1.1.1.1.0.fits, s.1.1.1.1.1.1.1.0.fits)) xs k s
+
+-- bytes without upper halves are below 16
+pub halves_clear : (xs : List ℕ) → Each1 (Fits w8) xs → bit_and (number_l 256 xs) (number_l 256 (replicate (length xs) 240)) ≡ 0 → Each1 (λ d. d < 16) xs
+halves_clear [] s h = tt
+halves_clear (x ∷ xs) s h =
+    let rest : ℕ = number_l 256 xs in
+    let mask : ℕ = number_l 256 (replicate (length xs) 240) in
+    let apart : bit_and (rest * 2 ^ 8 + x) (mask * 2 ^ 8 + 240) ≡ bit_and rest mask * 2 ^ 8 + bit_and x 240 = and_block 8 rest mask x 240 s.0.fits (omega arith) in
+    let whole : bit_and (x + 256 * rest) (240 + 256 * mask) ≡ bit_and (rest * 2 ^ 8 + x) (mask * 2 ^ 8 + 240) =
+    ap₂ (λ (m n : ℕ). bit_and m n) (omega arith) (omega arith) in
+    let none : bit_and rest mask * 2 ^ 8 + bit_and x 240 ≡ 0 = sym apart ∙ sym whole ∙ h in
+    let upper : bit_and x 240 + x % 2 ^ 4 ≡ x = and_high_numeral x 239 refl s.0.fits in
+    (omega arith, halves_clear xs s.1 (omega arith))

@@ -26,6 +26,6 @@ pub digit_more : (text : List ℕ) (v count d : ℕ) → hex_value 0 (take count
 digit_more text v count d h within e =
     ap (hex_value 0) (take_more text count 0 within) ∙ hex_more 0 v (take count text) (get_or text count 0) d h (sym e)
 
--- a short address and a size of one digit lie within 2^64
-pub near_fits : (addr size : ℕ) → addr < 16 ^ 10 → size < 10 → fits addr size ≡ true
+-- a short address and a size of two digits lie within 2^64
+pub near_fits : (addr size : ℕ) → addr < 16 ^ 10 → size < 100 → fits addr size ≡ true
 near_fits addr size a b = grind (arith, nat_tests)

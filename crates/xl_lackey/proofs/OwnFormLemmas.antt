@@ -155,7 +155,7 @@ begun letter.L text = refl
 begun letter.S text = refl
 begun letter.M text = refl
 
-front_length : (l : Letter) → length (usual_front l) ≡ 3
+pub front_length : (l : Letter) → length (usual_front l) ≡ 3
 front_length letter.I = refl
 front_length letter.L = refl
 front_length letter.S = refl

@@ -1,5 +1,5 @@
 -- Records taken one after another.
-use Rattle.std.proofs.Common.{◌≡◌, refl, sym, ap, ap₂, ◌∙◌, ℕ, ◌+◌, ◌%◌, ◌^◌, ◌<◌, List, [], ◌∷◌, ◌++◌, length, map, drop, append_assoc, append-nil, arith, length-append, length-drop}
+use Rattle.std.proofs.Common.{◌≡◌, refl, sym, ap, ap₂, subst, ◌∙◌, ℕ, ◌+◌, ◌%◌, ◌^◌, ◌<◌, List, [], ◌∷◌, ◌++◌, length, map, drop, append_assoc, append-nil, arith, length-append, length-drop}
 use Rattle.std.specs.Prelude.{None}
 use Rattle.std.proofs.lemmas.List.{map-append}
 use Rattle.xl_model.specs.declared.address.Kind.{Kind}
@@ -19,9 +19,13 @@ use Rattle.xl_lackey.proofs.StepLemmas.{left_passed}
 pub taken_none : (xs : List Access) → Taken xs xs 0
 taken_none xs = record { taken = []; got = []; follow = sym (append-nil xs); each = refl; many = refl }
 
-pub skim_none : (n : ℕ) (text : List ℕ) (xs : List Access) → Skims n text xs xs (record { used = 0; lines = n; taken = 0 })
+pub skim_none : (n : ℕ) (text : List ℕ) (xs : List Access) → n < 2 ^ 64 → Skims n text xs xs (record { used = 0; lines = (n + 0) % 2 ^ 64; taken = 0 })
 unfolding taken_none
-skim_none n text xs = record { within = omega arith; of = taken_none xs; reads = λ last rest. refl }
+skim_none n text xs h = record {
+  within = omega arith;
+  of = taken_none xs;
+  reads = λ last rest. let same : n ≡ (n + 0) % 2 ^ 64 = omega arith in ap (λ (k : ℕ). records k (lines_by last (text ++ rest))) same;
+}
 
 -- one record more was taken
 all-more : (rs : List Record) (r : Record) → all_accesses (rs ++ r ∷ []) ≡ all_accesses rs ++ accesses_in r
@@ -59,9 +63,16 @@ skim_by n text xs ys more s count (Found l addr size) k line e =
           ∙ with_more k.of.taken r (records m (lines_by last (after ++ rest)));
     }
 
-pub skim_more : (n : ℕ) (text : List ℕ) (xs ys more : List Access) (s : Skim) (count : ℕ) → Skims n text xs ys s → IsRecordLine (drop s.used text) count more
-    → Skims n text xs (ys ++ more) (record { used = s.used + count; lines = next_line s.lines; taken = s.taken + 1 })
-skim_more n text xs ys more s count k h = skim_by n text xs ys more s count h.verdict k h.line h.accesses_are
+-- what was read after so many lines, each of which was taken
+abbrev pub skim_at : ℕ → ℕ → ℕ → Skim
+skim_at n used taken = record { used = used; lines = (n + taken) % 2 ^ 64; taken = taken }
+
+pub skim_more : (n : ℕ) (text : List ℕ) (xs ys more : List Access) (used taken count : ℕ) → Skims n text xs ys (skim_at n used taken)
+    → IsRecordLine (drop used text) count more → Skims n text xs (ys ++ more) (skim_at n (used + count) (taken + 1))
+skim_more n text xs ys more used taken count k h =
+    let line : next_line ((n + taken) % 2 ^ 64) ≡ (n + (taken + 1)) % 2 ^ 64 = omega arith in
+    let P : ℕ → Type 0 = λ m. Skims n text xs (ys ++ more) (record { used = used + count; lines = m; taken = taken + 1 }) in
+    subst P line (skim_by n text xs ys more (skim_at n used taken) count h.verdict k h.line h.accesses_are)
 
 -- a reader that skims what it holds
 pub skimmed : (old new : State) (text : List ℕ) (n : ℕ) (xs ys : List Access) (s : Skim) → old.bad ≡ None → text ≡ old.held → n ≡ old.lines → Skims n text xs ys s

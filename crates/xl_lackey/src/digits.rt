@@ -1,9 +1,9 @@
 //! Digits, and the blanks before them.
 
-ghost use Rattle.std.specs.Prelude.{map, IsTrue, slice_index, ◌≡◌, ℕ, ◌+◌, ◌^◌, ◌<◌, ◌≤◌, min, length, take, drop, Option, Some, IfSome};
+ghost use Rattle.std.specs.Prelude.{map, IsTrue, slice_index, ◌≡◌, ℕ, ◌+◌, ◌*◌, ◌^◌, ◌<◌, ◌≤◌, min, length, take, drop, Option, Some, IfSome};
 ghost use Rattle.std.specs.Option.{option_map};
 ghost use Rattle.xl_text.specs.Texts.{is_blank};
-ghost use Rattle.std.specs.Simd.Lanes.{Each1};
+ghost use Rattle.std.specs.Simd.Lanes.{Each1, number_l};
 ghost use Rattle.xl_lackey.specs.Lanes.{lane_value, number_of};
 ghost use Rattle.xl_lackey.specs.Digits.{hex_digit as digit_of, hex_value};
 ghost use Rattle.xl_lackey.specs.Lines.{is_digit as is_digit_byte, front, after, address_in, decimal_value, size_in};
@@ -102,34 +102,44 @@ pub(crate) fn eight_digits(text: &[u8]) -> Option<u64>
     }
 }
 
-/// The value of each byte as a hexadecimal digit, and 16 or more where it is none.
+/// The value of each byte as a hexadecimal digit of lower case, and 16 or more where it is none:
+/// that of a decimal digit or of a letter, whichever is smaller. Less 58, modulo 256, decimal
+/// digits are the ten greatest bytes, and 10 more makes them 0 to 9; the six smallest are raised,
+/// lest they become 10 to 15.
 #[inline(always)]
 fn lane_values(bytes: u8x8) -> u8x8
     ensures { result ≡ map lane_value bytes }
 {
-    let digits = bytes - u8x8::splat(b'0');
-    let letters = ((bytes | u8x8::splat(32)) - u8x8::splat(b'a')).saturating_add(u8x8::splat(10));
-    digits.simd_lt(u8x8::splat(10)).select(digits, letters)
+    let digits = (bytes - u8x8::splat(58)).simd_max(u8x8::splat(6)) + u8x8::splat(10);
+    let letters = (bytes - u8x8::splat(b'a')).simd_min(u8x8::splat(118)) + u8x8::splat(10);
+    digits.simd_min(letters)
 }
 
+/// Eight bytes as a number, of which the first counts least.
+#[inline(always)]
+fn word(bytes: u8x8) -> u64
+    ensures { result ≡ number_l 256 bytes }
+{
+    u64x1::from_le_bytes(bytes).to_array()[0]
+}
+
+/// Whether eight values are below 16 each, asked of their upper halves together.
 #[inline(always)]
 fn are_digits(values: u8x8) -> bool
     ensures { IsTrue result → Each1 (λ d. d < 16) values }
 {
-    values.simd_ge(u8x8::splat(16)).to_bitmask() == 0
+    word(values) & 0xf0f0_f0f0_f0f0_f0f0 == 0
 }
 
-/// The number of eight hexadecimal digits.
+/// The number of eight hexadecimal digits. Those in even places are the upper halves of its bytes.
 #[inline(always)]
 fn number(digits: u8x8) -> u64
     requires { Each1 (λ d. d < 16) digits }
     ensures value { result ≡ number_of 0 digits }
     ensures small { result < 16 ^ 8 }
 {
-    let high = digits.swizzle([6, 4, 2, 0]);
-    let low = digits.swizzle([7, 5, 3, 1]);
-    let bytes = high * u8x4::splat(16) + low;
-    u32x1::from_le_bytes(bytes).to_array()[0] as u64
+    let halves = word(digits.swizzle([6, 4, 2, 0, 7, 5, 3, 1]));
+    halves % (1 << 32) * 16 + (halves >> 32)
 }
 
 /// An address of eight digits or of ten, as nearly all are, and the place of the comma that ends it.
@@ -153,17 +163,33 @@ pub(crate) fn near_address(text: &[u8]) -> Option<(u64, usize)>
     }
 }
 
-/// A size of one digit that a newline ends.
+/// Two bytes as a number, of which the first counts least.
 #[inline(always)]
-pub(crate) fn near_size(text: &[u8]) -> Option<u32>
+pub(crate) fn pair(text: &[u8]) -> u32
     requires { 2 ≤ length text.now }
-    ensures small { IfSome result (λ s. s < 10) }
-    ensures newline { IfSome result (λ s. slice_index text.now 1 ≡ 10) }
-    ensures value { IfSome result (λ s. Some (s, 1) ≡ size_in text.now) }
+    ensures { result ≡ slice_index text.now 0 + slice_index text.now 1 * 256 }
 {
-    let size = text[0].wrapping_sub(b'0');
-    if size < 10 && text[1] == b'\n' {
-        Some(size as u32)
+    u16x1::from_le_bytes(u8x2::from_slice(text)).to_array()[0] as u32
+}
+
+/// A size of one digit or of two, of which the first isn't 0, that a newline ends, and how many
+/// digits it has. The first digit and the newline are told together, by one comparison.
+#[inline(always)]
+pub(crate) fn near_size(text: &[u8]) -> Option<(u32, usize)>
+    requires { 3 ≤ length text.now }
+    ensures small { IfSome result (λ r. r.0 < 100) }
+    ensures few { IfSome result (λ r. r.1 ≤ 2) }
+    ensures newline { IfSome result (λ r. slice_index text.now r.1 ≡ 10) }
+    ensures value { IfSome result (λ r. Some r ≡ size_in text.now) }
+{
+    let above = pair(text).wrapping_sub(b'1' as u32 + b'\n' as u32 * 256);
+    if above < 9 {
+        return Some((above + 1, 1));
+    }
+    let tens = text[0].wrapping_sub(b'1');
+    let ones = text[1].wrapping_sub(b'0');
+    if tens < 9 && ones < 10 && text[2] == b'\n' {
+        Some(((tens as u32 + 1) * 10 + ones as u32, 2))
     } else {
         None
     }

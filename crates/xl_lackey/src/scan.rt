@@ -5,7 +5,7 @@ ghost use Rattle.xl_lackey.specs.Usual.{judged_line};
 ghost use Rattle.xl_lackey.specs.Scans.{IsFirstLine, Scans};
 
 use crate::line::{Verdict, judge};
-use crate::usual::{near_line, usual_line};
+use crate::usual::{NEAR, near_line, usual_line};
 use memchr::memchr;
 
 /// How far the lines of a text were read: up to its first line that isn't skipped, or over all that a
@@ -53,6 +53,9 @@ fn next_line(text: &[u8], from: usize) -> Option<(usize, Verdict)>
     ensures none { IfNone result (judged_line (drop from text.now) ≡ None) }
 {
     let rest = &text[from..];
+    if rest.len() < NEAR {
+        return far_line(rest);
+    }
     match near_line(rest) {
         Some(found) => Some(found),
         None => far_line(rest),

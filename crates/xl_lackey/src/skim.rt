@@ -1,6 +1,6 @@
 //! Records whose bytes lie in one page each, taken together: what nearly all of a trace is.
 
-ghost use Rattle.std.specs.Prelude.{◌≡◌, ◌≤◌, ◌++◌, length, drop, map, true, IfSome};
+ghost use Rattle.std.specs.Prelude.{◌≡◌, ◌+◌, ◌≤◌, ◌++◌, length, drop, map, true, IfSome};
 ghost use Rattle.xl_lackey.specs.Accesses.{accesses};
 ghost use Rattle.xl_lackey.specs.Lines.{IsProper};
 ghost use Rattle.xl_lackey.specs.Skims.{pair, read_of, accesses_near, HasAccesses, HasRoom, IsRecordLine, Skims};
@@ -8,7 +8,7 @@ ghost use Rattle.xl_lackey.specs.Skims.{pair, read_of, accesses_near, HasAccesse
 use crate::access::is_within_page;
 use crate::line::Verdict;
 use crate::reference::{Letter, Reference};
-use crate::usual::near_line;
+use crate::usual::{NEAR, near_line};
 use arrayvec::ArrayVec;
 use xl_model::Kind;
 
@@ -73,6 +73,9 @@ fn record_in_page(verdict: Verdict, used: usize) -> Option<Near>
     }
 }
 
+/// The kind of a letter's first access, by the letter. A look-up costs less than a choice.
+const KINDS: [Kind; 4] = [Kind::Fetch, Kind::Load, Kind::Store, Kind::Load];
+
 /// What is read of a reference whose bytes lie in one page.
 #[inline(always)]
 fn near_of(reference: &Reference, used: usize) -> Option<Near>
@@ -82,18 +85,12 @@ fn near_of(reference: &Reference, used: usize) -> Option<Near>
     if !is_within_page(reference) {
         return None;
     }
-    let va = reference.addr;
-    let (kind, is_modify) = match reference.letter {
-        Letter::I => (Kind::Fetch, false),
-        Letter::L => (Kind::Load, false),
-        Letter::S => (Kind::Store, false),
-        Letter::M => (Kind::Load, true),
-    };
+    let kind = &KINDS[reference.letter as usize];
     Some(Near {
         used,
-        va,
-        kind,
-        is_modify,
+        va: reference.addr,
+        kind: *kind,
+        is_modify: matches!(reference.letter, Letter::M),
     })
 }
 
@@ -101,7 +98,7 @@ fn near_of(reference: &Reference, used: usize) -> Option<Near>
 /// page. None says nothing of the text.
 #[inline(always)]
 fn near_record(text: &[u8], from: usize) -> Option<Near>
-    requires { from ≤ length text.now }
+    requires { from + 17 ≤ length text.now }
     ensures { IfSome result (λ near. IsRecordLine (drop from text.now) near.used (read_of near)) }
 {
     let (used, verdict) = near_line(&text[from..])?;
@@ -140,16 +137,20 @@ pub(crate) fn skim_lines(text: &[u8], before: u64, into: &mut Batch, most: u64) 
     ensures few { result.taken ≤ most }
 {
     let mut used = 0;
-    let mut lines = before;
     let mut taken = 0;
-    while taken < most && has_room(into) {
+    // From here on too few bytes are left for the quick way.
+    let end = text.len().saturating_sub(NEAR - 1);
+    while taken < most && used < end && has_room(into) {
         let Some(near) = near_record(text, used) else {
-            return Skim { used, lines, taken };
+            break;
         };
         used += near.used;
-        lines = lines.wrapping_add(1);
         taken += 1;
         put_accesses(into, near.va, near.kind, near.is_modify);
     }
-    Skim { used, lines, taken }
+    Skim {
+        used,
+        lines: before.wrapping_add(taken),
+        taken,
+    }
 }

@@ -4,7 +4,7 @@ ghost use Rattle.std.specs.Prelude.{◌≡◌, ◌+◌, ◌-◌, ◌<◌, ◌≤
 ghost use Rattle.xl_lackey.specs.Usual.{usual_front};
 ghost use Rattle.xl_lackey.specs.Scans.{IsFirstLine};
 
-use crate::digits::{address, near_address, near_size, size};
+use crate::digits::{address, near_address, near_size, pair, size};
 use crate::line::{Verdict, fits};
 use crate::reference::Letter;
 
@@ -14,6 +14,9 @@ use crate::reference::Letter;
 pub(crate) fn usual_line(text: &[u8]) -> Option<(usize, Verdict)>
     ensures { IfSome result (λ r. IsFirstLine text.now r.0 r.1) }
 {
+    if text.len() < 3 {
+        return None;
+    }
     let (letter, numbers) = usual_letter(text)?;
     let (addr, comma) = address(numbers)?;
     let rest = &numbers[comma + 1..];
@@ -26,31 +29,64 @@ pub(crate) fn usual_line(text: &[u8]) -> Option<(usize, Verdict)>
     }
 }
 
-/// The same of a line with an address of eight digits or of ten and a size of one digit, as nearly all
-/// are. It is the quick way: no place is looked for.
+/// The most bytes of a line that is read in the quick way.
+pub(crate) const NEAR: usize = 17;
+
+/// The same of a line with an address of eight digits or of ten and a size of one digit or of two,
+/// as nearly all are. It is the quick way: no place is looked for, and no end of the text is met.
 #[inline(always)]
 pub(crate) fn near_line(text: &[u8]) -> Option<(usize, Verdict)>
+    requires { 17 ≤ length text.now }
     ensures { IfSome result (λ r. IsFirstLine text.now r.0 r.1) }
 {
-    if text.len() < 16 {
-        return None;
-    }
     let (letter, numbers) = usual_letter(text)?;
     let (addr, comma) = near_address(numbers)?;
-    let size = near_size(&numbers[comma + 1..])?;
-    Some((comma + 6, Verdict::Found { letter, addr, size }))
+    let (size, digits) = near_size(&numbers[comma + 1..])?;
+    Some((comma + digits + 5, Verdict::Found { letter, addr, size }))
 }
+
+/// How a line begins: its first two bytes, of which the first counts least, and the letter among
+/// them.
+#[derive(Clone, Copy)]
+struct Front {
+    two: u32,
+    letter: Letter,
+}
+
+const FETCH: Front = Front {
+    two: b'I' as u32 + b' ' as u32 * 256,
+    letter: Letter::I,
+};
+
+const LOAD: Front = Front {
+    two: b' ' as u32 + b'L' as u32 * 256,
+    letter: Letter::L,
+};
+
+const STORE: Front = Front {
+    two: b' ' as u32 + b'S' as u32 * 256,
+    letter: Letter::S,
+};
+
+const MODIFY: Front = Front {
+    two: b' ' as u32 + b'M' as u32 * 256,
+    letter: Letter::M,
+};
+
+/// The fronts of lines by their second byte modulo 8; in places that belong to none stands a fetch.
+/// Which letter comes next can't be foretold, so a choice would cost more than a look-up.
+const FRONTS: [Front; 8] = [FETCH, FETCH, FETCH, STORE, LOAD, MODIFY, FETCH, FETCH];
 
 /// The letter of a record and the blanks around it, as Lackey writes them, and what follows them.
 #[inline(always)]
 fn usual_letter(text: &[u8]) -> Option<(Letter, &[u8])>
+    requires { 3 ≤ length text.now }
     ensures { IfSome result (λ r. text.entry.now ≡ usual_front r.0 ++ r.1.now) }
 {
-    match text {
-        [b'I', b' ', b' ', rest @ ..] => Some((Letter::I, rest)),
-        [b' ', b'L', b' ', rest @ ..] => Some((Letter::L, rest)),
-        [b' ', b'S', b' ', rest @ ..] => Some((Letter::S, rest)),
-        [b' ', b'M', b' ', rest @ ..] => Some((Letter::M, rest)),
-        _ => None,
+    let front = &FRONTS[(text[1] % 8) as usize];
+    if pair(text) == front.two && text[2] == b' ' {
+        Some((front.letter, &text[3..]))
+    } else {
+        None
     }
 }
