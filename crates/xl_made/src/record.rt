@@ -126,7 +126,8 @@ const KINDS: [Kind; 8] = [
 fn kind(word: u32) -> Kind
     ensures { result ≡ first_kind (letter_of word) }
 {
-    KINDS[(word % 8) as usize]
+    let kind = &KINDS[(word % 8) as usize];
+    *kind
 }
 
 /// Whether a store follows it.
