@@ -13,10 +13,11 @@ is_below a b = if nat_lt a b then 255 else 0
 abbrev pub plus : ℕ → ℕ → ℕ
 plus a b = (a + b) % 2 ^ 8
 
--- The smaller of two bytes, and the larger, by the mask of their comparison.
+-- The smaller of two bytes, by the mask of their comparison.
 abbrev pub smaller : ℕ → ℕ → ℕ
 smaller a b = if nat_le 128 (is_below a b) then a else b
 
+-- The larger of two bytes, by the same mask.
 abbrev pub larger : ℕ → ℕ → ℕ
 larger a b = if nat_le 128 (is_below a b) then b else a
 
