@@ -90,6 +90,7 @@ impl<const W: usize> Sets<W> {
     }
 
     /// Puts the item in front of the set, and gives the one that left: Some where the set was full.
+    #[inline(always)]
     pub fn fill(&mut self, set: usize, item: Item) -> Option<Item>
         requires some { 0 < W }
         requires width { W ≤ 64 }

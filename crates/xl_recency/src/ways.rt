@@ -74,6 +74,7 @@ impl<T: Copy, const W: usize> Ways<T, W> {
 
     /// Puts the item in front, and gives the one that left: Some where the list was full. All slots are
     /// moved, those behind the list too: a move of a fixed length costs less.
+    #[inline(always)]
     pub fn fill(&mut self, item: T) -> Option<T>
         requires { 0 < W }
         ensures { Fills W item self.old self.new result }

@@ -2,10 +2,12 @@
 
 ghost use Rattle.std.specs.Prelude.{ℕ, true, ◌==◌, ◌≡◌, ◌<◌, ◌≤◌, ◌^◌, ◌+◌, ◌*◌, length, map, count_by, slice_index_or, None, IfOk};
 ghost use Rattle.xl_model.specs.declared.leaf.Leaf.{Leaf};
-ghost use Rattle.xl_model.specs.Tlb.{answer_of, leaves_in, takes_leaf, array_filled, array_without, is_purged, reaches_leaf};
+ghost use Rattle.xl_model.specs.Base.{one_if};
+ghost use Rattle.xl_model.specs.Tlb.{answer_of, leaves_in, takes_leaf, takes_order, array_filled, array_without, is_purged, reaches_leaf};
+ghost use Rattle.xl_model.specs.declared.address.Order.TheVariants as order_of;
 ghost use Rattle.xl_tlb.specs.Arrays.{IsFit, InLimits};
 ghost use Rattle.xl_tlb.specs.Answers.{IsAnswered};
-ghost use Rattle.xl_tlb.specs.Fronts.{IsFront, AllMiss, HasEights};
+ghost use Rattle.xl_tlb.specs.Fronts.{IsFront, IsFrontHit, AllMiss, HasEights};
 ghost use Rattle.xl_model.specs.LeafWords.{small_leaf};
 ghost use Rattle.xl_tlb.specs.Hits.{hit_leaf};
 ghost use Rattle.xl_tlb.specs.Tlbs.{spec_of, leaf_told, tlb_opening, AreSpecs, IsRising, IsStraight, tlb_looked, tlb_filled, tlb_purged, tlb_fenced};
@@ -69,8 +71,24 @@ fn fill_each(arrays: &mut [AnyArray], leaf: &Leaf) -> u64
     others
 }
 
-/// Fills each array that takes leaves of 4 KiB with this one: how many do.
+/// Fills the array with a leaf of 4 KiB, where it takes such leaves: 1 if it does, else 0.
 #[inline(always)]
+fn fill_small_one(array: &mut AnyArray, space: u16, page: u64, word: u64) -> u64
+    requires space { space < 64 }
+    requires page { page < 2 ^ 52 }
+    ensures fills { result ≡ one_if (takes_leaf (small_leaf space page word) array.old) }
+    ensures array { array.new ≡ array_filled (small_leaf space page word) array.old }
+    ensures front { takes_order array.old.spec order_of.K4 ≡ true
+        → IsFrontHit space page word array.new }
+{
+    let taken = array.takes_small();
+    array.fill_small(space, page, word);
+    taken as u64
+}
+
+/// Fills each array that takes leaves of 4 KiB with this one: how many do. Behind a call, since few rows have
+/// more than two arrays.
+#[inline(never)]
 fn fill_small_each(arrays: &mut [AnyArray], space: u16, page: u64, word: u64) -> u64
     requires space { space < 64 }
     requires page { page < 2 ^ 52 }
@@ -79,12 +97,28 @@ fn fill_small_each(arrays: &mut [AnyArray], space: u16, page: u64, word: u64) ->
 {
     let mut fills = 0;
     for array in arrays.iter_mut() {
-        if array.takes_small() {
-            fills += 1;
-        }
-        array.fill_small(space, page, word);
+        fills += fill_small_one(array, space, page, word);
     }
     fills
+}
+
+/// Does what `fill_small_each` does, with the first array in line.
+#[inline(always)]
+#[tactic(auto, using(crate::proofs::TlbLemmas::count_first))]
+fn fill_small_second(arrays: &mut [AnyArray], space: u16, page: u64, word: u64) -> u64
+    requires space { space < 64 }
+    requires page { page < 2 ^ 52 }
+    ensures fills { result ≡ count_by (takes_leaf (small_leaf space page word)) arrays.old }
+    ensures arrays { arrays.new ≡ map (array_filled (small_leaf space page word)) arrays.old }
+{
+    let Some((first, rest)) = arrays.split_first_mut() else {
+        return 0;
+    };
+    let taken = fill_small_one(first, space, page, word);
+    if rest.is_empty() {
+        return taken;
+    }
+    taken + fill_small_each(rest, space, page, word)
 }
 
 /// Does what `fill_small_each` does. Where the first array takes such leaves and is alone in its level, the
@@ -101,10 +135,8 @@ fn fill_small_in(arrays: &mut [AnyArray], space: u16, page: u64, word: u64) -> u
     let Some((first, rest)) = arrays.split_first_mut() else {
         return 0;
     };
-    let taken = first.takes_small();
-    first.fill_small(space, page, word);
-    let others = fill_small_each(rest, space, page, word);
-    others + taken as u64
+    let taken = fill_small_one(first, space, page, word);
+    taken + fill_small_second(rest, space, page, word)
 }
 
 /// Purges each array: how many items left.
