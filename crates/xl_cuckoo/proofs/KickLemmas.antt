@@ -1,13 +1,14 @@
 -- An entry put into a way and what stood there put back; an attempt step by step; and displacements undone.
-use Rattle.std.proofs.Common.{◌≡◌, refl, sym, ap, ◌∙◌, ℕ, zero, suc, ◌+◌, ◌<◌, ◌≤◌, List, [], ◌∷◌, ◌++◌, length, map, set, Option, None, Some, arith}
+use Rattle.std.proofs.Common.{◌≡◌, refl, sym, ap, ◌∙◌, ℕ, zero, suc, ◌+◌, ◌<◌, ◌≤◌, List, [], ◌∷◌, ◌++◌, length, take, get_or, map, set, Option, None, Some, length-append, arith}
 use Rattle.std.specs.Prelude.{IfSome}
-use Rattle.std.proofs.lemmas.List.{set-get_or, get_or-set_same, length-set, set-set, map-set}
+use Rattle.std.proofs.Math.Seq.{take-append_seam, get_or-append_seam, take-suc}
+use Rattle.std.proofs.lemmas.List.{set-get_or, get_or-set_same, length-set, set-set, map-set, length-take-le}
 use Rattle.xl_model.specs.declared.way.Entry.{Entry}
 use Rattle.xl_model.specs.Ways.{WayShape, occupant, swapped}
 use Rattle.xl_model.specs.Placing.{way_at, put_in, next_way, Attempt, Stands, Fails, Displaced, by_occupant, attempt}
 use Rattle.xl_way.specs.Slots.{WayState}
 use Rattle.xl_cuckoo.specs.State.{no_way, state_at, shapes, with_swapped, put_at}
-use Rattle.xl_cuckoo.specs.Undo.{previous_way, in_hand, undone}
+use Rattle.xl_cuckoo.specs.Undo.{previous_way, in_hand, undone, keys_in_hand}
 
 pub map-length : {A B : Type 0} (f : A → B) (xs : List A) → length (map f xs) ≡ length xs
 map-length f [] = refl
@@ -65,6 +66,50 @@ taken-back n ws vs at hand e few less is back again =
     ∙ ap (λ (a : ℕ). undone n (put_at vs a e) a (in_hand (occupant (state_at vs a).shape e.key) e)) r
     ∙ ap (λ (us : List WayState). undone n us at (in_hand (occupant (state_at vs at).shape e.key) e)) back
     ∙ ap (λ (o : Option Entry). undone n ws at (in_hand o e)) again
+
+-- the keys in hand: one displacement undone, and one more to undo
+keys-step : (n : ℕ) (ws : List WayState) (at : ℕ) (hand : Entry) → keys_in_hand (n + 1) ws at hand
+    ≡ keys_in_hand n (put_at ws (previous_way (length ws) at) hand) (previous_way (length ws) at) (in_hand (occupant (state_at ws (previous_way (length ws) at)).shape hand.key) hand)
+    ++ hand.key ∷ []
+unfolding keys_in_hand
+keys-step n ws at hand = let e : n + 1 ≡ suc n = omega arith in ap (λ (m : ℕ). keys_in_hand m ws at hand) e
+
+pub keys-more : (n : ℕ) (ws vs : List WayState) (at : ℕ) (hand e : Entry) → length ws ≤ 4 → at < length ws → vs ≡ put_at ws at hand → put_at vs at e ≡ ws
+    → occupant (state_at vs at).shape e.key ≡ Some hand → keys_in_hand (n + 1) vs (next_way (length ws) at) e ≡ keys_in_hand n ws at hand ++ e.key ∷ []
+keys-more n ws vs at hand e few less is back again =
+    let l : length vs ≡ length ws = ap (λ (us : List WayState). length us) is ∙ put-length ws at hand in
+    let r : previous_way (length vs) (next_way (length ws) at) ≡ at = ap (λ (m : ℕ). previous_way m (next_way (length ws) at)) l ∙ round (length ws) at few less in
+    keys-step n vs (next_way (length ws) at) e
+    ∙ ap (λ (a : ℕ). keys_in_hand n (put_at vs a e) a (in_hand (occupant (state_at vs a).shape e.key) e) ++ e.key ∷ []) r
+    ∙ ap (λ (us : List WayState). keys_in_hand n us at (in_hand (occupant (state_at vs at).shape e.key) e) ++ e.key ∷ []) back
+    ∙ ap (λ (o : Option Entry). keys_in_hand n ws at (in_hand o e) ++ e.key ∷ []) again
+
+keys-length : (n : ℕ) (ws : List WayState) (at : ℕ) (hand : Entry) → length (keys_in_hand n ws at hand) ≡ n
+unfolding keys_in_hand
+keys-length zero ws at hand = refl
+keys-length (suc n) ws at hand =
+    let w = previous_way (length ws) at in
+    let left = in_hand (occupant (state_at ws w).shape hand.key) hand in
+    omega (arith, length-append (keys_in_hand n (put_at ws w hand) w left) (hand.key ∷ []), keys-length n (put_at ws w hand) w left)
+
+-- of two lists with one element behind as many: the elements are the same, and what is in front
+same-last : (xs ys : List ℕ) (a b : ℕ) → length xs ≡ length ys → xs ++ a ∷ [] ≡ ys ++ b ∷ [] → (xs ≡ ys) × (a ≡ b)
+same-last xs ys a b l e = (
+  sym (take-append_seam xs (a ∷ [])) ∙ ap (λ (n : ℕ). take n (xs ++ a ∷ [])) l ∙ ap (λ (zs : List ℕ). take (length ys) zs) e ∙ take-append_seam ys (b ∷ []),
+  sym (get_or-append_seam xs a [] 0) ∙ ap (λ (n : ℕ). get_or (xs ++ a ∷ []) n 0) l ∙ ap (λ (zs : List ℕ). get_or zs (length ys) 0) e ∙ get_or-append_seam ys b [] 0,
+)
+
+-- where the keys in hand are the first of these, the one in hand now is the last of them
+pub key-told : (n : ℕ) (ws : List WayState) (at : ℕ) (hand : Entry) (keys : List ℕ) → n < length keys → keys_in_hand (n + 1) ws at hand ≡ take (n + 1) keys
+    → (keys_in_hand n (put_at ws (previous_way (length ws) at) hand) (previous_way (length ws) at) (in_hand (occupant (state_at ws (previous_way (length ws) at)).shape hand.key) hand) ≡ take n keys)
+    × (hand.key ≡ get_or keys n 0)
+key-told n ws at hand keys within told =
+    let w = previous_way (length ws) at in
+    let left = in_hand (occupant (state_at ws w).shape hand.key) hand in
+    let more : n + 1 ≡ suc n = omega arith in
+    same-last (keys_in_hand n (put_at ws w hand) w left) (take n keys) hand.key (get_or keys n 0)
+    (keys-length n (put_at ws w hand) w left ∙ sym (length-take-le n keys (omega (arith, within))))
+    (sym (keys-step n ws at hand) ∙ told ∙ ap (λ (m : ℕ). take m keys) more ∙ take-suc keys n 0 within)
 
 -- an attempt, step by step
 pub attempt-step : (left : ℕ) (ws vs : List WayState) (at : ℕ) (hand e : Entry) (moved : List Displaced) → occupant (state_at ws at).shape hand.key ≡ Some e → vs ≡ put_at ws at hand

@@ -1,5 +1,5 @@
 -- Displacements undone: at each step back the entry in hand goes into the way before, and what stands there is in hand.
-use Rattle.std.specs.Prelude.{ℕ, zero, suc, ◌+◌, ◌-◌, ◌%◌, List, length, Option, None, Some}
+use Rattle.std.specs.Prelude.{ℕ, zero, suc, ◌+◌, ◌-◌, ◌%◌, List, [], ◌∷◌, ◌++◌, length, Option, None, Some}
 use Rattle.xl_model.specs.declared.way.Entry.{Entry}
 use Rattle.xl_model.specs.Ways.{occupant}
 use Rattle.xl_model.specs.Placing.{Displaced}
@@ -31,3 +31,16 @@ undone zero ways at hand = ways
 undone (suc n) ways at hand =
     undone n (put_at ways (previous_way (length ways) at) hand) (previous_way (length ways) at)
     (in_hand (occupant (state_at ways (previous_way (length ways) at)).shape hand.key) hand)
+
+-- The key that is told of a displacement.
+abbrev pub key_of : Moved → ℕ
+key_of m = m.key
+
+-- The keys that are in hand while so many displacements are undone, in the order of the displacements: the one in
+-- hand at first is the last.
+unfoldable pub keys_in_hand : ℕ → List WayState → ℕ → Entry → List ℕ
+keys_in_hand zero ways at hand = []
+keys_in_hand (suc n) ways at hand =
+    keys_in_hand n (put_at ways (previous_way (length ways) at) hand) (previous_way (length ways) at)
+    (in_hand (occupant (state_at ways (previous_way (length ways) at)).shape hand.key) hand)
+    ++ hand.key ∷ []

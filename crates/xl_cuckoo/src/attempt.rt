@@ -1,9 +1,9 @@
 //! An attempt to place an entry, with its displacements, and their undoing.
 
-ghost use Rattle.std.specs.Prelude.{◌≡◌, ◌<◌, ◌≤◌, true, false, [], length, map, Option};
+ghost use Rattle.std.specs.Prelude.{◌≡◌, ◌<◌, ◌≤◌, true, false, [], length, map, slice_index_or, Option};
 ghost use Rattle.xl_model.specs.Placing.{attempt as attempt_by, Stands, Fails};
 ghost use Rattle.xl_cuckoo.specs.State.{shapes};
-ghost use Rattle.xl_cuckoo.specs.Undo.{displaced, undone, in_hand};
+ghost use Rattle.xl_cuckoo.specs.Undo.{displaced, undone, in_hand, key_of, keys_in_hand};
 
 use crate::moved::Moved;
 use crate::ways::{is_free_at, next, previous, swap_at};
@@ -21,18 +21,37 @@ fn hand_after(displaced: Option<Entry>, hand: Entry) -> Entry
     }
 }
 
-/// Undoes the last `count` displacements, where the last displaced entry is in hand for way `at`.
-pub(crate) fn undo(ways: &mut [Way], count: usize, at: usize, hand: Entry)
+/// The key of a displacement.
+fn key_at(moved: &[Moved], i: usize) -> u64
+    requires { i < length moved.now }
+    ensures { result ≡ slice_index_or (map key_of moved.now) i 0 }
+{
+    let displacement = moved[i];
+    displacement.key
+}
+
+/// Undoes the displacements that are told, where the last displaced entry is in hand for way `at`. The keys are
+/// taken from what is told, so that no slot is looked for only when the one before was read.
+pub(crate) fn undo(ways: &mut [Way], moved: &[Moved], at: usize, hand: Entry)
     requires within { at < length ways.old }
     requires few { length ways.old ≤ 4 }
     requires full { 0 < hand.word }
-    ensures { ways.new ≡ undone count ways.old at hand }
+    requires told { keys_in_hand (length moved.now) ways.old at hand ≡ map key_of moved.now }
+    ensures { ways.new ≡ undone (length moved.now) ways.old at hand }
 {
     let mut at = at;
     let mut hand = hand;
-    'back: for _i in 0..count {
+    'back: for i in 0..moved.len() {
+        let key = key_at(moved, moved.len() - 1 - i);
         at = previous(ways.len(), at);
-        let displaced = swap_at(ways, at, hand);
+        let displaced = swap_at(
+            ways,
+            at,
+            Entry {
+                key,
+                word: hand.word,
+            },
+        );
         hand = hand_after(displaced, hand);
     }
 }
@@ -75,7 +94,7 @@ pub(crate) fn attempt(
         swap_at(ways, at, hand);
         true
     } else {
-        undo(ways, limit, at, hand);
+        undo(ways, moved, at, hand);
         false
     }
 }

@@ -7,12 +7,12 @@ use Rattle.xl_model.specs.Placing.{Displaced, Fails, attempt, next_way}
 use Rattle.xl_way.specs.Slots.{WayState}
 use Rattle.xl_cuckoo.specs.declared.moved.Moved.{Moved}
 use Rattle.xl_cuckoo.specs.State.{state_at, put_at, shapes}
-use Rattle.xl_cuckoo.specs.Undo.{displaced, undone}
-use Rattle.xl_cuckoo.proofs.KickLemmas.{attempt-step, attempt-free, attempt-fails, taken-back, put-length}
+use Rattle.xl_cuckoo.specs.Undo.{displaced, undone, key_of, keys_in_hand}
+use Rattle.xl_cuckoo.proofs.KickLemmas.{attempt-step, attempt-free, attempt-fails, taken-back, keys-more, put-length}
 use Rattle.xl_cuckoo.proofs.attempt.attempt.Goals as goal
 
 pub kicks-init : goal.kicks-init
-unfolding undone
+unfolding undone keys_in_hand
 kicks-init c =
     let a = c.args in
     let all : a.limit - 0 ≡ a.limit = omega arith in
@@ -23,6 +23,7 @@ kicks-init c =
       inside = c.requires.start;
       full = c.requires.full;
       told = ap (λ (ms : List Moved). length ms) c.requires.none;
+      hands = ap (λ (ms : List Moved). map key_of ms) (sym c.requires.none);
     }
 
 pub returns-in-None-clause-stands : goal.returns-in-None-clause-stands
@@ -61,6 +62,11 @@ kicks-preserved c =
           ∙ c.kicks.invariant.back;
       inside = (let i = c.next-at.ensures.inside in omega arith);
       full = subst F c.in-Some.is c.swap_at.ensures.full;
+      hands = ap (λ (a : ℕ). keys_in_hand (c.kicks._i + 1) vs a e) to
+          ∙ keys-more c.kicks._i ws vs at c.kicks.hand e (let l = c.requires.few in let k = c.kicks.auto.ways in omega arith) c.kicks.invariant.inside c.swap_at.ensures.ways
+          (subst I c.in-Some.is c.swap_at.ensures.back) (subst A c.in-Some.is c.swap_at.ensures.again)
+          ∙ ap (λ (ks : List ℕ). ks ++ e.key ∷ []) c.kicks.invariant.hands
+          ∙ sym (ap (map key_of) c.push.ensures.items ∙ map-append key_of c.kicks.moved.items last);
       told = (let l = ap (λ (l : List Moved). length l) c.push.ensures.items in let k = c.kicks.invariant.told in omega (arith, length-append c.kicks.moved.items last));
     }
 

@@ -1,7 +1,7 @@
 use Rattle.std.proofs.Common.{◌≡◌, ◌-◌, ◌<◌, [], length, map}
 use Rattle.xl_model.specs.Placing.{attempt}
 use Rattle.xl_cuckoo.specs.State.{shapes}
-use Rattle.xl_cuckoo.specs.Undo.{displaced, undone}
+use Rattle.xl_cuckoo.specs.Undo.{displaced, undone, key_of, keys_in_hand}
 use Rattle.xl_cuckoo.proofs.attempt.attempt.Given as goal
 
 abbrev pub invariant-kicks : goal.invariant-kicks
@@ -11,4 +11,5 @@ invariant-kicks l = record {
   inside : l.at < length l.ways;
   full : 0 < l.hand.word;
   told : length l.moved.items ≡ l._i;
+  hands : keys_in_hand l._i l.ways l.at l.hand ≡ map key_of l.moved.items;
 }

@@ -1,10 +1,11 @@
-use Rattle.std.proofs.Common.{◌≡◌, ◌-◌, ◌<◌, length}
-use Rattle.xl_cuckoo.specs.Undo.{undone}
+use Rattle.std.proofs.Common.{◌≡◌, ◌-◌, ◌<◌, length, map, take}
+use Rattle.xl_cuckoo.specs.Undo.{undone, key_of, keys_in_hand}
 use Rattle.xl_cuckoo.proofs.attempt.undo.Given as goal
 
 abbrev pub invariant-back : goal.invariant-back
 invariant-back l = record {
-  rest : undone (l.count - l._i) l.ways l.at l.hand ≡ undone l.count l.initial.ways l.fn.at l.fn.hand;
+  rest : undone (length l.moved - l.i) l.ways l.at l.hand ≡ undone (length l.moved) l.initial.ways l.fn.at l.fn.hand;
+  hands : keys_in_hand (length l.moved - l.i) l.ways l.at l.hand ≡ take (length l.moved - l.i) (map key_of l.moved);
   inside : l.at < length l.ways;
   full : 0 < l.hand.word;
 }
