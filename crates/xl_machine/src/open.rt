@@ -8,6 +8,7 @@ ghost use Rattle.xl_model.specs.Structures.{IsPage};
 ghost use Rattle.xl_machine.specs.Served.{opened};
 
 use crate::machine::Machine;
+use crate::span::Span;
 use std::alloc::Global;
 use xl_frames::Frames;
 use xl_model::{Counts, Leaf, NoMemory, Row, Structure};
@@ -27,8 +28,10 @@ impl<S: Structure> Machine<S> {
         let frames = Frames::open(alloc, row.frames)?;
         let tlb = Tlb::open(alloc, &row.tlb)?;
         let counts = Counts::none(row.tlb.len());
+        let span = Span::of(row.mode);
         Ok(Machine {
             row,
+            span,
             table,
             frames,
             tlb,

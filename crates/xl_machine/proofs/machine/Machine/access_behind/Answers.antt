@@ -11,57 +11,71 @@ pub look-requires-clause-page : goal.look-requires-clause-page
 look-requires-clause-page g c = (page_small c.self.inside.row.mode c.args.va c.args.page (rw (← c.self.view_is) at c.requires.page)).0
 
 pub reply_of-reply-requires : goal.reply_of-reply-requires
-reply_of-reply-requires g c = hit_reached (row_of c.self.inside.row) (g.S.Structure.table c.self.inside.table) c.self.inside.space c.args.page c.self.inside.tlb c.self.inside.frames c.self.invariant c.in-Some.leaf c.in-Some.ensures.found
+reply_of-reply-requires g c = hit_reached (row_of c.self.inside.row) (g.S.Structure.table c.self.inside.table) c.self.inside.space c.args.page c.self.inside.tlb c.self.inside.frames c.self.invariant.served c.in-Some.leaf c.in-Some.ensures.found
 
 pub invariant_of-self : goal.invariant_of-self
-invariant_of-self g c = rw c.in-Some.ensures.after (hit_kept (row_of c.self.inside.row) (g.S.Structure.table c.self.inside.table) c.self.inside.space c.args.page c.self.inside.tlb c.self.inside.frames c.self.invariant)
+invariant_of-self g c =
+    record {
+      served =
+          rw c.in-Some.ensures.after (hit_kept (row_of c.self.inside.row) (g.S.Structure.table c.self.inside.table) c.self.inside.space c.args.page c.self.inside.tlb c.self.inside.frames c.self.invariant.served);
+      span_is = c.self.invariant.span_is;
+    }
 
 pub quick_walk-requires : goal.quick_walk-requires
 quick_walk-requires g c =
     let p = page_small c.self.inside.row.mode c.args.va c.args.page (rw (← c.self.view_is) at c.requires.page) in
-    let s = c.self.invariant.space_in in
-    let t = c.self.invariant.fits.spaces_in in
-    let q = c.self.invariant.fits.pages_in in
+    let s = c.self.invariant.served.space_in in
+    let t = c.self.invariant.served.fits.spaces_in in
+    let q = c.self.invariant.served.fits.pages_in in
     record { space_in = omega (arith, s, t); page_in = omega (arith, p.1, q) }
 
 pub fill-requires : goal.fill-requires
 fill-requires g c =
     let found : Some c.in-Some-leaf.leaf ≡ leaf_at_page c.self.inside.space c.args.page (g.S.Structure.table c.self.inside.table).leaves = sym c.in-Some-leaf.is ∙ walk_leaf c.in-Any.walk c.self.inside.space c.args.page (g.S.Structure.table c.self.inside.table) c.in-Any.ensures.walks.answer in
-    walked_fit (row_of c.self.inside.row) (g.S.Structure.table c.self.inside.table) c.self.inside.space c.args.page c.self.inside.tlb c.self.inside.frames c.self.invariant c.in-Some-leaf.leaf found
+    walked_fit (row_of c.self.inside.row) (g.S.Structure.table c.self.inside.table) c.self.inside.space c.args.page c.self.inside.tlb c.self.inside.frames c.self.invariant.served c.in-Some-leaf.leaf found
 
 pub reply_of-reply-requires-in-Some-leaf : goal.reply_of-reply-requires-in-Some-leaf
 reply_of-reply-requires-in-Some-leaf g c =
     let found : Some c.in-Some-leaf.leaf ≡ leaf_at_page c.self.inside.space c.args.page (g.S.Structure.table c.self.inside.table).leaves = sym c.in-Some-leaf.is ∙ walk_leaf c.in-Any.walk c.self.inside.space c.args.page (g.S.Structure.table c.self.inside.table) c.in-Any.ensures.walks.answer in
-    walked_reached (row_of c.self.inside.row) (g.S.Structure.table c.self.inside.table) c.self.inside.space c.args.page c.self.inside.tlb c.self.inside.frames c.self.invariant c.in-Some-leaf.leaf found
+    walked_reached (row_of c.self.inside.row) (g.S.Structure.table c.self.inside.table) c.self.inside.space c.args.page c.self.inside.tlb c.self.inside.frames c.self.invariant.served c.in-Some-leaf.leaf found
 
 pub invariant_of-self-in-Some-leaf : goal.invariant_of-self-in-Some-leaf
 invariant_of-self-in-Some-leaf g c =
-    let found : Some c.in-Some-leaf.leaf ≡ leaf_at_page c.self.inside.space c.args.page (g.S.Structure.table c.self.inside.table).leaves = sym c.in-Some-leaf.is ∙ walk_leaf c.in-Any.walk c.self.inside.space c.args.page (g.S.Structure.table c.self.inside.table) c.in-Any.ensures.walks.answer in
-    rw (c.fill.ensures, c.in-None.ensures.after, c.in-Any.ensures.walks.after) (walked_kept (row_of c.self.inside.row) (g.S.Structure.table c.self.inside.table) c.self.inside.space c.args.page c.self.inside.tlb c.self.inside.frames c.self.invariant c.in-Some-leaf.leaf found)
+    record {
+      served =
+          let found : Some c.in-Some-leaf.leaf ≡ leaf_at_page c.self.inside.space c.args.page (g.S.Structure.table c.self.inside.table).leaves = sym c.in-Some-leaf.is ∙ walk_leaf c.in-Any.walk c.self.inside.space c.args.page (g.S.Structure.table c.self.inside.table) c.in-Any.ensures.walks.answer in
+          rw (c.fill.ensures, c.in-None.ensures.after, c.in-Any.ensures.walks.after) (walked_kept (row_of c.self.inside.row) (g.S.Structure.table c.self.inside.table) c.self.inside.space c.args.page c.self.inside.tlb c.self.inside.frames c.self.invariant.served c.in-Some-leaf.leaf found);
+      span_is = c.self.invariant.span_is;
+    }
 
 pub invariant_of-self-in-None-leaf : goal.invariant_of-self-in-None-leaf
-invariant_of-self-in-None-leaf g c = rw (c.in-None.ensures.after, c.in-Any.ensures.walks.after) (missed_kept (row_of c.self.inside.row) (g.S.Structure.table c.self.inside.table) c.self.inside.space c.args.page c.self.inside.tlb c.self.inside.frames c.self.invariant)
+invariant_of-self-in-None-leaf g c =
+    record {
+      served =
+          rw (c.in-None.ensures.after, c.in-Any.ensures.walks.after) (missed_kept (row_of c.self.inside.row) (g.S.Structure.table c.self.inside.table) c.self.inside.space c.args.page c.self.inside.tlb c.self.inside.frames c.self.invariant.served);
+      span_is = c.self.invariant.span_is;
+    }
 
 pub returns-in-Some-clause-reply : goal.returns-in-Some-clause-reply
 returns-in-Some-clause-reply g c =
-    rw (← c.self.view_is) (c.reply_of-reply.ensures.reply ∙ hit_reply (row_of c.self.inside.row) (g.S.Structure.table c.self.inside.table) c.self.inside.space c.args.page c.self.inside.tlb c.self.inside.frames c.self.invariant c.args.va c.args.kind c.self.inside.counts (rw (← c.self.view_is) at c.requires.canonical) (rw (← c.self.view_is) at c.requires.page) c.in-Some.leaf c.in-Some.ensures.found)
+    rw (← c.self.view_is) (c.reply_of-reply.ensures.reply ∙ hit_reply (row_of c.self.inside.row) (g.S.Structure.table c.self.inside.table) c.self.inside.space c.args.page c.self.inside.tlb c.self.inside.frames c.self.invariant.served c.args.va c.args.kind c.self.inside.counts (rw (← c.self.view_is) at c.requires.canonical) (rw (← c.self.view_is) at c.requires.page) c.in-Some.leaf c.in-Some.ensures.found)
 
 pub returns-in-Some-clause-after : goal.returns-in-Some-clause-after
 returns-in-Some-clause-after g c =
-    rw (c.reply.ensures, c.in-Some.ensures.after, ← c.self.view_is) (hit_after (row_of c.self.inside.row) (g.S.Structure.table c.self.inside.table) c.self.inside.space c.args.page c.self.inside.tlb c.self.inside.frames c.self.invariant c.args.va c.args.kind c.self.inside.counts (rw (← c.self.view_is) at c.requires.canonical) (rw (← c.self.view_is) at c.requires.page) c.in-Some.leaf c.reply_of-reply.result c.in-Some.ensures.found
-    (c.reply_of-reply.ensures.reply ∙ hit_reply (row_of c.self.inside.row) (g.S.Structure.table c.self.inside.table) c.self.inside.space c.args.page c.self.inside.tlb c.self.inside.frames c.self.invariant c.args.va c.args.kind c.self.inside.counts (rw (← c.self.view_is) at c.requires.canonical) (rw (← c.self.view_is) at c.requires.page) c.in-Some.leaf c.in-Some.ensures.found))
+    rw (c.reply.ensures, c.in-Some.ensures.after, ← c.self.view_is) (hit_after (row_of c.self.inside.row) (g.S.Structure.table c.self.inside.table) c.self.inside.space c.args.page c.self.inside.tlb c.self.inside.frames c.self.invariant.served c.args.va c.args.kind c.self.inside.counts (rw (← c.self.view_is) at c.requires.canonical) (rw (← c.self.view_is) at c.requires.page) c.in-Some.leaf c.reply_of-reply.result c.in-Some.ensures.found
+    (c.reply_of-reply.ensures.reply ∙ hit_reply (row_of c.self.inside.row) (g.S.Structure.table c.self.inside.table) c.self.inside.space c.args.page c.self.inside.tlb c.self.inside.frames c.self.invariant.served c.args.va c.args.kind c.self.inside.counts (rw (← c.self.view_is) at c.requires.canonical) (rw (← c.self.view_is) at c.requires.page) c.in-Some.leaf c.in-Some.ensures.found))
 
 pub returns-in-Some-leaf-clause-reply : goal.returns-in-Some-leaf-clause-reply
 returns-in-Some-leaf-clause-reply g c =
     let found : Some c.in-Some-leaf.leaf ≡ leaf_at_page c.self.inside.space c.args.page (g.S.Structure.table c.self.inside.table).leaves = sym c.in-Some-leaf.is ∙ walk_leaf c.in-Any.walk c.self.inside.space c.args.page (g.S.Structure.table c.self.inside.table) c.in-Any.ensures.walks.answer in
-    rw (← c.self.view_is) (c.reply_of-reply-in-Some-leaf.ensures.reply ∙ walked_reply (row_of c.self.inside.row) (g.S.Structure.table c.self.inside.table) c.self.inside.space c.args.page c.self.inside.tlb c.self.inside.frames c.self.invariant c.args.va c.args.kind c.self.inside.counts (rw (← c.self.view_is) at c.requires.canonical) (rw (← c.self.view_is) at c.requires.page) (Some c.in-Some-leaf.leaf) found)
+    rw (← c.self.view_is) (c.reply_of-reply-in-Some-leaf.ensures.reply ∙ walked_reply (row_of c.self.inside.row) (g.S.Structure.table c.self.inside.table) c.self.inside.space c.args.page c.self.inside.tlb c.self.inside.frames c.self.invariant.served c.args.va c.args.kind c.self.inside.counts (rw (← c.self.view_is) at c.requires.canonical) (rw (← c.self.view_is) at c.requires.page) (Some c.in-Some-leaf.leaf) found)
 
 pub returns-in-Some-leaf-clause-after : goal.returns-in-Some-leaf-clause-after
 returns-in-Some-leaf-clause-after g c =
     let found : Some c.in-Some-leaf.leaf ≡ leaf_at_page c.self.inside.space c.args.page (g.S.Structure.table c.self.inside.table).leaves = sym c.in-Some-leaf.is ∙ walk_leaf c.in-Any.walk c.self.inside.space c.args.page (g.S.Structure.table c.self.inside.table) c.in-Any.ensures.walks.answer in
     rw (c.reply-in-Some-leaf.ensures, c.walk-in-Any.ensures, c.fill.ensures, c.in-None.ensures.after, c.in-Any.ensures.walks.after, c.in-Any.ensures.walks.answer, ← c.self.view_is)
-    (walked_after (row_of c.self.inside.row) (g.S.Structure.table c.self.inside.table) c.self.inside.space c.args.page c.self.inside.tlb c.self.inside.frames c.self.invariant c.args.va c.args.kind c.self.inside.counts (rw (← c.self.view_is) at c.requires.canonical) (rw (← c.self.view_is) at c.requires.page) (Some c.in-Some-leaf.leaf) c.reply_of-reply-in-Some-leaf.result c.in-None.ensures.found found
-    (c.reply_of-reply-in-Some-leaf.ensures.reply ∙ walked_reply (row_of c.self.inside.row) (g.S.Structure.table c.self.inside.table) c.self.inside.space c.args.page c.self.inside.tlb c.self.inside.frames c.self.invariant c.args.va c.args.kind c.self.inside.counts (rw (← c.self.view_is) at c.requires.canonical) (rw (← c.self.view_is) at c.requires.page) (Some c.in-Some-leaf.leaf) found))
+    (walked_after (row_of c.self.inside.row) (g.S.Structure.table c.self.inside.table) c.self.inside.space c.args.page c.self.inside.tlb c.self.inside.frames c.self.invariant.served c.args.va c.args.kind c.self.inside.counts (rw (← c.self.view_is) at c.requires.canonical) (rw (← c.self.view_is) at c.requires.page) (Some c.in-Some-leaf.leaf) c.reply_of-reply-in-Some-leaf.result c.in-None.ensures.found found
+    (c.reply_of-reply-in-Some-leaf.ensures.reply ∙ walked_reply (row_of c.self.inside.row) (g.S.Structure.table c.self.inside.table) c.self.inside.space c.args.page c.self.inside.tlb c.self.inside.frames c.self.invariant.served c.args.va c.args.kind c.self.inside.counts (rw (← c.self.view_is) at c.requires.canonical) (rw (← c.self.view_is) at c.requires.page) (Some c.in-Some-leaf.leaf) found))
 
 pub fill_small-requires-clause-page : goal.fill_small-requires-clause-page
 fill_small-requires-clause-page g c = (page_small c.self.inside.row.mode c.args.va c.args.page (rw (← c.self.view_is) at c.requires.page)).0
@@ -69,32 +83,36 @@ fill_small-requires-clause-page g c = (page_small c.self.inside.row.mode c.args.
 pub reply_of_word-reply-requires : goal.reply_of_word-reply-requires
 reply_of_word-reply-requires g c =
     let leaf : Leaf = small_leaf c.self.inside.space c.args.page c.in-Small.word in
-    walked_reached (row_of c.self.inside.row) (g.S.Structure.table c.self.inside.table) c.self.inside.space c.args.page c.self.inside.tlb c.self.inside.frames c.self.invariant leaf (told_leaf c.in-Small.ensures.walks)
+    walked_reached (row_of c.self.inside.row) (g.S.Structure.table c.self.inside.table) c.self.inside.space c.args.page c.self.inside.tlb c.self.inside.frames c.self.invariant.served leaf (told_leaf c.in-Small.ensures.walks)
 
 pub invariant_of-self-in-Small : goal.invariant_of-self-in-Small
 invariant_of-self-in-Small g c =
-    let leaf : Leaf = small_leaf c.self.inside.space c.args.page c.in-Small.word in
-    rw (c.fill_small.ensures, c.in-None.ensures.after, c.in-Small.ensures.walks.after) (walked_kept (row_of c.self.inside.row) (g.S.Structure.table c.self.inside.table) c.self.inside.space c.args.page c.self.inside.tlb c.self.inside.frames c.self.invariant leaf (told_leaf c.in-Small.ensures.walks))
+    record {
+      served =
+          let leaf : Leaf = small_leaf c.self.inside.space c.args.page c.in-Small.word in
+          rw (c.fill_small.ensures, c.in-None.ensures.after, c.in-Small.ensures.walks.after) (walked_kept (row_of c.self.inside.row) (g.S.Structure.table c.self.inside.table) c.self.inside.space c.args.page c.self.inside.tlb c.self.inside.frames c.self.invariant.served leaf (told_leaf c.in-Small.ensures.walks));
+      span_is = c.self.invariant.span_is;
+    }
 
 pub returns-in-Small-clause-reply : goal.returns-in-Small-clause-reply
 returns-in-Small-clause-reply g c =
     let leaf : Leaf = small_leaf c.self.inside.space c.args.page c.in-Small.word in
-    rw (← c.self.view_is) (c.reply_of_word-reply.ensures.reply ∙ walked_reply (row_of c.self.inside.row) (g.S.Structure.table c.self.inside.table) c.self.inside.space c.args.page c.self.inside.tlb c.self.inside.frames c.self.invariant c.args.va c.args.kind c.self.inside.counts (rw (← c.self.view_is) at c.requires.canonical) (rw (← c.self.view_is) at c.requires.page) (Some leaf) (told_leaf c.in-Small.ensures.walks))
+    rw (← c.self.view_is) (c.reply_of_word-reply.ensures.reply ∙ walked_reply (row_of c.self.inside.row) (g.S.Structure.table c.self.inside.table) c.self.inside.space c.args.page c.self.inside.tlb c.self.inside.frames c.self.invariant.served c.args.va c.args.kind c.self.inside.counts (rw (← c.self.view_is) at c.requires.canonical) (rw (← c.self.view_is) at c.requires.page) (Some leaf) (told_leaf c.in-Small.ensures.walks))
 
 pub returns-in-Small-clause-after : goal.returns-in-Small-clause-after
 returns-in-Small-clause-after g c =
     let leaf : Leaf = small_leaf c.self.inside.space c.args.page c.in-Small.word in
     rw (c.reply-in-Small.ensures, c.walk.ensures, c.fill_small.ensures, c.in-None.ensures.after, c.in-Small.ensures.walks.after, told_hits c.in-Small.ensures.walks, ← c.self.view_is)
-    (walked_after (row_of c.self.inside.row) (g.S.Structure.table c.self.inside.table) c.self.inside.space c.args.page c.self.inside.tlb c.self.inside.frames c.self.invariant c.args.va c.args.kind c.self.inside.counts (rw (← c.self.view_is) at c.requires.canonical) (rw (← c.self.view_is) at c.requires.page) (Some leaf) c.reply_of_word-reply.result c.in-None.ensures.found (told_leaf c.in-Small.ensures.walks)
-    (c.reply_of_word-reply.ensures.reply ∙ walked_reply (row_of c.self.inside.row) (g.S.Structure.table c.self.inside.table) c.self.inside.space c.args.page c.self.inside.tlb c.self.inside.frames c.self.invariant c.args.va c.args.kind c.self.inside.counts (rw (← c.self.view_is) at c.requires.canonical) (rw (← c.self.view_is) at c.requires.page) (Some leaf) (told_leaf c.in-Small.ensures.walks)))
+    (walked_after (row_of c.self.inside.row) (g.S.Structure.table c.self.inside.table) c.self.inside.space c.args.page c.self.inside.tlb c.self.inside.frames c.self.invariant.served c.args.va c.args.kind c.self.inside.counts (rw (← c.self.view_is) at c.requires.canonical) (rw (← c.self.view_is) at c.requires.page) (Some leaf) c.reply_of_word-reply.result c.in-None.ensures.found (told_leaf c.in-Small.ensures.walks)
+    (c.reply_of_word-reply.ensures.reply ∙ walked_reply (row_of c.self.inside.row) (g.S.Structure.table c.self.inside.table) c.self.inside.space c.args.page c.self.inside.tlb c.self.inside.frames c.self.invariant.served c.args.va c.args.kind c.self.inside.counts (rw (← c.self.view_is) at c.requires.canonical) (rw (← c.self.view_is) at c.requires.page) (Some leaf) (told_leaf c.in-Small.ensures.walks)))
 
 pub returns-in-None-leaf-clause-reply : goal.returns-in-None-leaf-clause-reply
 returns-in-None-leaf-clause-reply g c =
     let found : None ≡ leaf_at_page c.self.inside.space c.args.page (g.S.Structure.table c.self.inside.table).leaves = sym c.in-None-leaf.is ∙ walk_leaf c.in-Any.walk c.self.inside.space c.args.page (g.S.Structure.table c.self.inside.table) c.in-Any.ensures.walks.answer in
-    rw (← c.self.view_is) (walked_reply (row_of c.self.inside.row) (g.S.Structure.table c.self.inside.table) c.self.inside.space c.args.page c.self.inside.tlb c.self.inside.frames c.self.invariant c.args.va c.args.kind c.self.inside.counts (rw (← c.self.view_is) at c.requires.canonical) (rw (← c.self.view_is) at c.requires.page) None found)
+    rw (← c.self.view_is) (walked_reply (row_of c.self.inside.row) (g.S.Structure.table c.self.inside.table) c.self.inside.space c.args.page c.self.inside.tlb c.self.inside.frames c.self.invariant.served c.args.va c.args.kind c.self.inside.counts (rw (← c.self.view_is) at c.requires.canonical) (rw (← c.self.view_is) at c.requires.page) None found)
 
 pub returns-in-None-leaf-clause-after : goal.returns-in-None-leaf-clause-after
 returns-in-None-leaf-clause-after g c =
     let found : None ≡ leaf_at_page c.self.inside.space c.args.page (g.S.Structure.table c.self.inside.table).leaves = sym c.in-None-leaf.is ∙ walk_leaf c.in-Any.walk c.self.inside.space c.args.page (g.S.Structure.table c.self.inside.table) c.in-Any.ensures.walks.answer in
     rw (c.reply-in-None-leaf.ensures, c.walk-in-Any.ensures, c.in-None.ensures.after, c.in-Any.ensures.walks.after, c.in-Any.ensures.walks.answer, ← c.self.view_is)
-    (walked_after (row_of c.self.inside.row) (g.S.Structure.table c.self.inside.table) c.self.inside.space c.args.page c.self.inside.tlb c.self.inside.frames c.self.invariant c.args.va c.args.kind c.self.inside.counts (rw (← c.self.view_is) at c.requires.canonical) (rw (← c.self.view_is) at c.requires.page) None reply.Unmapped c.in-None.ensures.found found (walked_reply (row_of c.self.inside.row) (g.S.Structure.table c.self.inside.table) c.self.inside.space c.args.page c.self.inside.tlb c.self.inside.frames c.self.invariant c.args.va c.args.kind c.self.inside.counts (rw (← c.self.view_is) at c.requires.canonical) (rw (← c.self.view_is) at c.requires.page) None found))
+    (walked_after (row_of c.self.inside.row) (g.S.Structure.table c.self.inside.table) c.self.inside.space c.args.page c.self.inside.tlb c.self.inside.frames c.self.invariant.served c.args.va c.args.kind c.self.inside.counts (rw (← c.self.view_is) at c.requires.canonical) (rw (← c.self.view_is) at c.requires.page) None reply.Unmapped c.in-None.ensures.found found (walked_reply (row_of c.self.inside.row) (g.S.Structure.table c.self.inside.table) c.self.inside.space c.args.page c.self.inside.tlb c.self.inside.frames c.self.invariant.served c.args.va c.args.kind c.self.inside.counts (rw (← c.self.view_is) at c.requires.canonical) (rw (← c.self.view_is) at c.requires.page) None found))

@@ -9,12 +9,16 @@ use Rattle.xl_machine.proofs.machine.Machine.fence.Goals as goal
 
 pub fence-leaves-requires : goal.fence-leaves-requires
 fence-leaves-requires g c =
-    rw c.reach_of-reach.ensures (reach-in (row_of c.self.inside.row) (g.S.Structure.table c.self.inside.table) c.args.scope c.args.self.now (ap (λ (v : Served). v.row) c.self.view_is) c.self.invariant.fits c.requires)
+    rw c.reach_of-reach.ensures (reach-in (row_of c.self.inside.row) (g.S.Structure.table c.self.inside.table) c.args.scope c.args.self.now (ap (λ (v : Served). v.row) c.self.view_is) c.self.invariant.served.fits c.requires)
 
 pub invariant_of-self : goal.invariant_of-self
 invariant_of-self g c =
-    fenced-kept (row_of c.self.inside.row) (g.S.Structure.table c.self.inside.table) (g.S.Structure.table c.fence-entries.new.self) c.self.inside.space c.self.inside.tlb c.fence-leaves.new.self c.self.inside.frames c.reach_of-reach.result c.self.invariant
-    c.fence-entries.ensures.fences.after c.fence-leaves.ensures.after
+    record {
+      served =
+          fenced-kept (row_of c.self.inside.row) (g.S.Structure.table c.self.inside.table) (g.S.Structure.table c.fence-entries.new.self) c.self.inside.space c.self.inside.tlb c.fence-leaves.new.self c.self.inside.frames c.reach_of-reach.result c.self.invariant.served
+          c.fence-entries.ensures.fences.after c.fence-leaves.ensures.after;
+      span_is = c.self.invariant.span_is;
+    }
 
 pub returns : goal.returns
 returns g c =

@@ -9,8 +9,10 @@ pub open-requires-2-clause-rising : goal.open-requires-2-clause-rising
 open-requires-2-clause-rising g c = rising c.args.row.tlb.items c.requires.row.levels_are
 
 pub invariant_of-result : goal.invariant_of-result
-invariant_of-result g c =
-    opening-kept (row_of c.args.row) (g.S.Structure.table c.args.table) c.in_ok-tlb.tlb c.in_ok-frames.frames c.requires.row c.requires.table c.in_ok-tlb.ensures c.in_ok-frames.ensures
+invariant_of-result g c = record {
+  served = opening-kept (row_of c.args.row) (g.S.Structure.table c.args.table) c.in_ok-tlb.tlb c.in_ok-frames.frames c.requires.row c.requires.table c.in_ok-tlb.ensures c.in_ok-frames.ensures;
+  span_is = c.of-span.ensures;
+}
 
 pub returns : goal.returns
 returns g c =

@@ -9,57 +9,65 @@ use Rattle.xl_machine.proofs.machine.Machine.relocate.Goals as goal
 
 pub relocate-requires-clause-there : goal.relocate-requires-clause-there
 relocate-requires-clause-there g c =
-    let known = move-known c.self.invariant c.args.space c.args.from c.args.to c.args.order c.args.old (rw (← c.self.view_is) at c.requires.ruled) (rw (← c.self.view_is) at c.requires.found) in
+    let known = move-known c.self.invariant.served c.args.space c.args.from c.args.to c.args.order c.args.old (rw (← c.self.view_is) at c.requires.ruled) (rw (← c.self.view_is) at c.requires.found) in
     rw c.page_of-first.ensures (ap (λ (f : Option Leaf). is_some f) known.named)
 
 pub relocate-requires-clause-valid : goal.relocate-requires-clause-valid
 relocate-requires-clause-valid g c =
-    let known = move-known c.self.invariant c.args.space c.args.from c.args.to c.args.order c.args.old (rw (← c.self.view_is) at c.requires.ruled) (rw (← c.self.view_is) at c.requires.found) in
-    rw c.page_of-place.ensures (block-for (row_of c.self.inside.row) (g.S.Structure.table c.self.inside.table) c.self.invariant.fits c.args.space (page_of c.self.inside.row.mode c.args.to) c.args.order (place-move (row_of c.self.inside.row) (g.S.Structure.table c.self.inside.table).leaves c.args.space c.args.from c.args.to c.args.order known.ruled))
+    let known = move-known c.self.invariant.served c.args.space c.args.from c.args.to c.args.order c.args.old (rw (← c.self.view_is) at c.requires.ruled) (rw (← c.self.view_is) at c.requires.found) in
+    rw c.page_of-place.ensures (block-for (row_of c.self.inside.row) (g.S.Structure.table c.self.inside.table) c.self.invariant.served.fits c.args.space (page_of c.self.inside.row.mode c.args.to) c.args.order (place-move (row_of c.self.inside.row) (g.S.Structure.table c.self.inside.table).leaves c.args.space c.args.from c.args.to c.args.order known.ruled))
 
 pub relocate-requires-clause-free : goal.relocate-requires-clause-free
 relocate-requires-clause-free g c =
-    let known = move-known c.self.invariant c.args.space c.args.from c.args.to c.args.order c.args.old (rw (← c.self.view_is) at c.requires.ruled) (rw (← c.self.view_is) at c.requires.found) in
+    let known = move-known c.self.invariant.served c.args.space c.args.from c.args.to c.args.order c.args.old (rw (← c.self.view_is) at c.requires.ruled) (rw (← c.self.view_is) at c.requires.found) in
     rw c.page_of-place.ensures (place-move (row_of c.self.inside.row) (g.S.Structure.table c.self.inside.table).leaves c.args.space c.args.from c.args.to c.args.order known.ruled).apart
 
 pub purge-left-requires : goal.purge-left-requires
 purge-left-requires g c =
-    let known = move-known c.self.invariant c.args.space c.args.from c.args.to c.args.order c.args.old (rw (← c.self.view_is) at c.requires.ruled) (rw (← c.self.view_is) at c.requires.found) in
+    let known = move-known c.self.invariant.served c.args.space c.args.from c.args.to c.args.order c.args.old (rw (← c.self.view_is) at c.requires.ruled) (rw (← c.self.view_is) at c.requires.found) in
     known.fit
 
 pub invariant_of-self : goal.invariant_of-self
 invariant_of-self g c =
-    let known = move-known c.self.invariant c.args.space c.args.from c.args.to c.args.order c.args.old (rw (← c.self.view_is) at c.requires.ruled) (rw (← c.self.view_is) at c.requires.found) in
-    let changes = rw (c.page_of-first.ensures, c.page_of-place.ensures) at c.in-Ok.ensures.changes in
-    made-kept known c.self.invariant c.self.inside.frames changes c.purge-left.ensures.after
-    (pool-relocated (row_of c.self.inside.row) c.args.space (page_of c.self.inside.row.mode c.args.from) (page_of c.self.inside.row.mode c.args.to) c.args.order (g.S.Structure.table c.self.inside.table).leaves c.args.old c.self.inside.frames c.self.invariant.mapping (place-move (row_of c.self.inside.row) (g.S.Structure.table c.self.inside.table).leaves c.args.space c.args.from c.args.to c.args.order known.ruled) known.named c.self.invariant.pool_is)
+    record {
+      served =
+          let known = move-known c.self.invariant.served c.args.space c.args.from c.args.to c.args.order c.args.old (rw (← c.self.view_is) at c.requires.ruled) (rw (← c.self.view_is) at c.requires.found) in
+          let changes = rw (c.page_of-first.ensures, c.page_of-place.ensures) at c.in-Ok.ensures.changes in
+          made-kept known c.self.invariant.served c.self.inside.frames changes c.purge-left.ensures.after
+          (pool-relocated (row_of c.self.inside.row) c.args.space (page_of c.self.inside.row.mode c.args.from) (page_of c.self.inside.row.mode c.args.to) c.args.order (g.S.Structure.table c.self.inside.table).leaves c.args.old c.self.inside.frames c.self.invariant.served.mapping (place-move (row_of c.self.inside.row) (g.S.Structure.table c.self.inside.table).leaves c.args.space c.args.from c.args.to c.args.order known.ruled) known.named c.self.invariant.served.pool_is);
+      span_is = c.self.invariant.span_is;
+    }
 
 pub invariant_of-self-in-Err : goal.invariant_of-self-in-Err
 invariant_of-self-in-Err g c =
-    let known = move-known c.self.invariant c.args.space c.args.from c.args.to c.args.order c.args.old (rw (← c.self.view_is) at c.requires.ruled) (rw (← c.self.view_is) at c.requires.found) in
-    let changes = rw (c.page_of-first.ensures, c.page_of-place.ensures) at c.in-Err.ensures.changes in
-    unmade-kept known c.self.invariant changes
+    record {
+      served =
+          let known = move-known c.self.invariant.served c.args.space c.args.from c.args.to c.args.order c.args.old (rw (← c.self.view_is) at c.requires.ruled) (rw (← c.self.view_is) at c.requires.found) in
+          let changes = rw (c.page_of-first.ensures, c.page_of-place.ensures) at c.in-Err.ensures.changes in
+          unmade-kept known c.self.invariant.served changes;
+      span_is = c.self.invariant.span_is;
+    }
 
 pub returns-in-Ok-clause-answer : goal.returns-in-Ok-clause-answer
 returns-in-Ok-clause-answer g c =
-    let known = move-known c.self.invariant c.args.space c.args.from c.args.to c.args.order c.args.old (rw (← c.self.view_is) at c.requires.ruled) (rw (← c.self.view_is) at c.requires.found) in
+    let known = move-known c.self.invariant.served c.args.space c.args.from c.args.to c.args.order c.args.old (rw (← c.self.view_is) at c.requires.ruled) (rw (← c.self.view_is) at c.requires.found) in
     let changes = rw (c.page_of-first.ensures, c.page_of-place.ensures) at c.in-Ok.ensures.changes in
     rw (← c.self.view_is) (made-answer known c.self.inside.space c.self.inside.tlb c.self.inside.counts changes)
 
 pub returns-in-Ok-clause-after : goal.returns-in-Ok-clause-after
 returns-in-Ok-clause-after g c =
-    let known = move-known c.self.invariant c.args.space c.args.from c.args.to c.args.order c.args.old (rw (← c.self.view_is) at c.requires.ruled) (rw (← c.self.view_is) at c.requires.found) in
+    let known = move-known c.self.invariant.served c.args.space c.args.from c.args.to c.args.order c.args.old (rw (← c.self.view_is) at c.requires.ruled) (rw (← c.self.view_is) at c.requires.found) in
     let changes = rw (c.page_of-first.ensures, c.page_of-place.ensures) at c.in-Ok.ensures.changes in
     rw (c.done.ensures, ← c.self.view_is) (made-state known c.self.inside.space c.self.inside.tlb c.self.inside.counts c.purge-left.result changes c.purge-left.ensures.after c.purge-left.ensures.left)
 
 pub returns-in-Err-clause-answer : goal.returns-in-Err-clause-answer
 returns-in-Err-clause-answer g c =
-    let known = move-known c.self.invariant c.args.space c.args.from c.args.to c.args.order c.args.old (rw (← c.self.view_is) at c.requires.ruled) (rw (← c.self.view_is) at c.requires.found) in
+    let known = move-known c.self.invariant.served c.args.space c.args.from c.args.to c.args.order c.args.old (rw (← c.self.view_is) at c.requires.ruled) (rw (← c.self.view_is) at c.requires.found) in
     let changes = rw (c.page_of-first.ensures, c.page_of-place.ensures) at c.in-Err.ensures.changes in
     rw (← c.self.view_is) (unmade-answer known c.self.inside.space c.self.inside.tlb c.self.inside.counts changes c.refuse.ensures.why)
 
 pub returns-in-Err-clause-after : goal.returns-in-Err-clause-after
 returns-in-Err-clause-after g c =
-    let known = move-known c.self.invariant c.args.space c.args.from c.args.to c.args.order c.args.old (rw (← c.self.view_is) at c.requires.ruled) (rw (← c.self.view_is) at c.requires.found) in
+    let known = move-known c.self.invariant.served c.args.space c.args.from c.args.to c.args.order c.args.old (rw (← c.self.view_is) at c.requires.ruled) (rw (← c.self.view_is) at c.requires.found) in
     let changes = rw (c.page_of-first.ensures, c.page_of-place.ensures) at c.in-Err.ensures.changes in
     rw (c.refuse.ensures.counts, ← c.self.view_is) (unmade-state known c.self.inside.space c.self.inside.tlb c.self.inside.counts changes)

@@ -1,0 +1,15 @@
+use Rattle.std.proofs.Common.{◌≡◌, ℕ, ◌+◌, ◌*◌, ◌%◌, ◌^◌, ◌<◌, nat_lt, arith}
+use Rattle.std.proofs.lemmas.Bool.Decides.{nat_tests}
+use Rattle.xl_model.specs.declared.address.Mode.{Mode}
+use Rattle.xl_model.specs.declared.address.Mode.TheVariants as mode
+use Rattle.xl_model.specs.Addresses.{is_canonical, levels_of}
+use Rattle.xl_machine.proofs.span.Span.canonical.Goals as goal
+
+in-halves : (m : Mode) (half va : ℕ) → half ≡ 2 ^ (9 * levels_of m + 11) → va < 2 ^ 64 → nat_lt ((va + half) % 2 ^ 64) (2 * half) ≡ is_canonical m va
+unfolding is_canonical
+in-halves mode.Sv39 half va is small = let h : half ≡ 2 ^ 38 = is in rw h (grind (arith, nat_tests, small))
+in-halves mode.Sv48 half va is small = let h : half ≡ 2 ^ 47 = is in rw h (grind (arith, nat_tests, small))
+in-halves mode.Sv57 half va is small = let h : half ≡ 2 ^ 56 = is in rw h (grind (arith, nat_tests, small))
+
+pub returns : goal.returns
+returns c = rw (← c.self.view_is) (in-halves c.self.inside.mode c.self.inside.half c.args.va c.self.invariant.half_is c.ranges.va.fits)

@@ -1,0 +1,8 @@
+use Rattle.std.proofs.Common.{◌/◌, ◌*◌}
+use Rattle.std.proofs.lemmas.Nat.{and_mask}
+use Rattle.xl_model.specs.Addresses.{page_of, levels_of}
+use Rattle.xl_machine.proofs.span.Span.page_of.Goals as goal
+
+pub returns : goal.returns
+unfolding page_of
+returns c = rw (← c.self.view_is, c.self.invariant.pages_are) (and_mask (c.args.va / 4096) (9 * levels_of c.self.inside.mode))
