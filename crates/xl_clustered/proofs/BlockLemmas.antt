@@ -20,7 +20,7 @@ use Rattle.xl_tagged.specs.Steps.{IsWritten, IsSameTable, IsPut, IsSet, IsTaken,
 use Rattle.xl_tagged.proofs.ChainLemmas.{IsUnderTag, found-under, same-entry, set-by, tags-set, values-without, values-front}
 use Rattle.xl_tagged.proofs.StateLemmas.{held-in, with-there, tag-with}
 use Rattle.xl_tagged.proofs.StepLemmas.{word-first, tag-held, set-here, set-other, len-set, inserted-put, removed-taken}
-use Rattle.xl_clustered.specs.Blocks.{used_in, IsCountedBlock, AreBlocks, IsNewBlock, rewritten, IsFull}
+use Rattle.xl_clustered.specs.Blocks.{used_in, IsCountedBlock, AreBlocks, IsNewBlock, rewritten}
 use Rattle.xl_clustered.proofs.UsedLemmas.{used-more, used-stays, used-less, used-some, used-only, used-single}
 
 -- a value that is set changes no entry's number
@@ -234,10 +234,6 @@ found-first tag e v hs f = sym (word-first tag hs) ∙ ap word_found f
 
 pub found-count : (tag e v : ℕ) (hs : List Held) → AreBlocks hs → found_of (held_with tag hs) ≡ seek.Found e v → v ≡ used_in (slots_of (values_under hs tag)) 16
 found-count tag e v hs blocks f = count-of tag e v hs blocks (found-under tag hs e v f) (found-first tag e v hs f)
-
-pub full-of : (tag : ℕ) (r : Result (Unit {0}) Full) (c : ChainState) → OnErr r (length c.held ≡ c.shape.entries) → has_tag (tags_of c.held) tag ≡ false → OnErr r (IsFull tag c)
-full-of tag (Ok u) c full absent = tt
-full-of tag (Err e) c full absent = record { absent = absent; full = full }
 
 -- a word with another permission is a leaf's
 pub given-some : (perm : Perm) (word : ℕ) → 0 < given_word perm word

@@ -1,9 +1,8 @@
 -- Blocks: the entry of a tag has the number of its slots in use, and then sixteen slots.
-use Rattle.std.specs.Prelude.{ℕ, zero, suc, ◌≡◌, ◌+◌, ◌<◌, ◌==◌, not, false, List, length, slice_index, map}
+use Rattle.std.specs.Prelude.{ℕ, zero, suc, ◌≡◌, ◌+◌, ◌<◌, ◌==◌, not, List, length, slice_index, map}
 use Rattle.xl_model.specs.Base.{one_if}
-use Rattle.xl_model.specs.Chains.{has_tag}
 use Rattle.xl_model_lemmas.specs.Members.{In}
-use Rattle.xl_chain.specs.Held.{Held, ChainState, tags_of, with_value}
+use Rattle.xl_chain.specs.Held.{Held, tags_of, with_value}
 use Rattle.xl_tagged.specs.Forms.{values_under}
 
 -- how many of the first n slots are in use
@@ -29,8 +28,3 @@ pub record IsNewBlock (slot word : ℕ) (values : List ℕ) : Type 0 where
 -- the entries with another number, and another word in a slot, for one of them
 abbrev pub rewritten : ℕ → ℕ → ℕ → ℕ → List Held → List Held
 rewritten entry used slot word hs = map (with_value entry (slot + 1) word) (map (with_value entry 0 used) hs)
-
--- there is no room for a tag that isn't held
-pub record IsFull (tag : ℕ) (c : ChainState) : Type 0 where
-  pub absent : has_tag (tags_of c.held) tag ≡ false
-  pub full : length c.held ≡ c.shape.entries

@@ -1,119 +1,44 @@
 //! The clustered table.
 
-ghost use Rattle.std.specs.Prelude.{◌≡◌, ◌≤◌, ◌^◌, [], IfOk};
-ghost use Rattle.xl_tagged.specs.Forms.{Sixteen};
-ghost use Rattle.xl_tagged.specs.Slots.{chained, table_in};
-ghost use Rattle.xl_clustered.specs.State.{table_seen};
-
-use crate::steps::{add, is_met, leaf_of_page, move_to, set_perm, take_out, walk_page};
+use crate::slots::{give, put, take};
 use std::alloc::Global;
-use std::marker::Model;
 use xl_chain::Chains;
-use xl_model::{Leaf, NoMemory, Order, Perm, QuickWalk, Reach, Refused, Structure, Walk, Work};
-use xl_phys::Bus;
-use xl_pte::words_read_back;
-use xl_tagged::Smaller;
+use xl_model::{Full, Leaf, NoMemory, Order, Perm};
+use xl_pte::leaf_word;
+use xl_tagged::{Grouped, Grouping, slot_of, tag_of};
+
+/// Sixteen consecutive pages of an order, a block, under a tag.
+pub struct Sixteens;
+
+impl Grouping for Sixteens {
+    ghost use Rattle.xl_clustered.specs.Blocks.{AreBlocks};
+
+    type Chains = Chains<17>;
+
+    ghost kept = { AreBlocks };
+
+    fn open(alloc: Global, buckets: u32, tags: u32) -> Result<Chains<17>, NoMemory> {
+        Chains::open(alloc, buckets, tags)
+    }
+
+    fn put(chains: &mut Chains<17>, leaf: Leaf) -> Result<(), Full> {
+        let tag = tag_of(16, leaf.space, leaf.order, leaf.first);
+        let slot = slot_of(16, leaf.order, leaf.first);
+        put(chains, tag, slot, leaf_word(leaf.frame, leaf.perm))
+    }
+
+    fn take(chains: &mut Chains<17>, space: u16, first: u64, order: Order) {
+        let slot = slot_of(16, order, first);
+        take(chains, tag_of(16, space, order, first), slot);
+    }
+
+    fn give(chains: &mut Chains<17>, space: u16, first: u64, order: Order, perm: Perm) {
+        let slot = slot_of(16, order, first);
+        give(chains, tag_of(16, space, order, first), slot, perm);
+    }
+}
 
 /// A clustered table: sixteen consecutive pages of an order, a block, have one tag and one entry, and a
 /// search follows the chain of the tag's bucket. Contracts see its chains. Nothing is allocated after
 /// `open`.
-#[derive(Drop)]
-pub struct Clustered {
-    pub(crate) chains: Chains<17>,
-    smaller: Smaller,
-}
-
-impl Model for Clustered {
-    ghost use Rattle.xl_chain.specs.Held.{ChainState};
-    ghost use Rattle.xl_clustered.specs.State.{IsWhole};
-
-    ghost Value = { ChainState };
-
-    ghost view = { λ c. c.chains };
-
-    ghost invariant = { λ c. IsWhole c.chains c.smaller };
-}
-
-impl Clustered {
-    /// An empty table with this many buckets, and with room for `blocks` blocks.
-    ///
-    /// # Errors
-    ///
-    /// `NoMemory` where there is no memory.
-    pub fn open(alloc: Global, buckets: u32, blocks: u32) -> Result<Clustered, NoMemory>
-        requires buckets_in { (1 ≤ buckets) × (buckets ≤ 2 ^ 20) }
-        requires blocks_in { (1 ≤ blocks) × (blocks ≤ 2 ^ 17) }
-        ensures { IfOk result (λ c. table_seen c ≡ chained Sixteen buckets blocks 0 [] []) }
-    {
-        words_read_back();
-        let chains = Chains::open(alloc, buckets, blocks)?;
-        let smaller = Smaller::open(alloc, blocks)?;
-        Ok(Clustered { chains, smaller })
-    }
-
-    /// The chains.
-    pub fn table(&self) -> &Chains<17>
-        ensures { result.now ≡ self.entry.now }
-    {
-        &self.chains
-    }
-
-    /// The chains, where the table itself has no more use.
-    pub fn into_table(self) -> Chains<17>
-        ensures { result ≡ self }
-    {
-        self.chains
-    }
-}
-
-impl Structure for Clustered {
-    ghost use Rattle.xl_clustered.specs.State.{table_seen};
-
-    ghost table = { table_seen };
-
-    fn meets(&self, space: u16, first: u64, order: Order) -> bool {
-        is_met(&self.chains, &self.smaller, space, first, order)
-    }
-
-    fn leaf_at(&self, space: u16, page: u64) -> Option<Leaf> {
-        leaf_of_page(&self.chains, &self.smaller, space, page)
-    }
-
-    fn insert(&mut self, leaf: Leaf) -> Result<Work, Refused> {
-        add(&mut self.chains, &mut self.smaller, leaf)
-    }
-
-    fn remove(&mut self, space: u16, first: u64, order: Order) -> Result<Work, Refused> {
-        take_out(&mut self.chains, &mut self.smaller, space, first, order)
-    }
-
-    fn protect(
-        &mut self,
-        space: u16,
-        first: u64,
-        order: Order,
-        perm: Perm,
-    ) -> Result<Work, Refused> {
-        set_perm(&mut self.chains, &self.smaller, space, first, order, perm)
-    }
-
-    fn relocate(&mut self, space: u16, first: u64, to: u64, order: Order) -> Result<Work, Refused> {
-        move_to(&mut self.chains, &mut self.smaller, space, first, to, order)
-    }
-
-    fn walk(&mut self, space: u16, page: u64) -> Walk {
-        self.quick_walk(space, page).whole(space, page)
-    }
-
-    fn quick_walk(&mut self, space: u16, page: u64) -> QuickWalk {
-        walk_page(&mut self.chains, &self.smaller, space, page)
-    }
-
-    fn fence(&mut self, _to: Reach) -> u64 {
-        0
-    }
-
-    fn loads(&self) -> u64 {
-        Bus::loads(&self.chains)
-    }
-}
+pub type Clustered = Grouped<Sixteens>;

@@ -5,6 +5,5 @@
 mod block;
 mod clustered;
 mod slots;
-mod steps;
 
-pub use clustered::Clustered;
+pub use clustered::{Clustered, Sixteens};

@@ -2,9 +2,10 @@
 
 ghost use Rattle.std.specs.Prelude.{◌≡◌, ◌<◌, ◌≤◌, length, OnOk, OnErr};
 ghost use Rattle.xl_tagged.specs.Forms.{Sixteen, values_under, word_at};
+ghost use Rattle.xl_tagged.specs.Groups.{IsFull};
 ghost use Rattle.xl_tagged.specs.Steps.{IsPut, IsSet, IsTaken, given_word};
 ghost use Rattle.xl_tagged.specs.Tagged.{AreSized};
-ghost use Rattle.xl_clustered.specs.Blocks.{AreBlocks, IsFull};
+ghost use Rattle.xl_clustered.specs.Blocks.{AreBlocks};
 
 use crate::block::{new_block, rewrite};
 use xl_chain::{Chains, Seek};

@@ -1,23 +1,15 @@
--- One slot under a tag: a leaf that comes has a tag that isn't held.
-use Rattle.std.proofs.Common.{◌≡◌, refl, sym, ap, ◌∙◌, ℕ, true, false, [], ◌∷◌, Result, Ok, Err, OnOk, arith}
-use Rattle.xl_model.specs.declared.leaf.Leaf.{Leaf}
+-- One slot under a tag: the tag is held where the slot is in use.
+use Rattle.std.proofs.Common.{◌≡◌, refl, ap, ◌∙◌, ℕ, true, false, List, [], ◌∷◌, slice_index, Result, Ok, Err, OnOk, arith}
 use Rattle.xl_model.specs.declared.work.Full.{Full}
-use Rattle.xl_model.specs.Chains.{leaf_tag, has_tag}
-use Rattle.xl_model.specs.Mapping.{meets_any}
-use Rattle.xl_model.specs.Structures.{IsLeafFor}
-use Rattle.xl_pte.specs.ReadBack.{MadeWordsReadBack}
-use Rattle.xl_chain.specs.Held.{ChainState, tags_of}
+use Rattle.xl_model.specs.Chains.{has_tag}
+use Rattle.xl_chain.specs.Held.{Held, ChainState, tags_of}
 use Rattle.xl_chain.specs.Kept.{IsInserted}
-use Rattle.xl_tagged.specs.Forms.{One, slot_of, values_under, word_at}
-use Rattle.xl_tagged.specs.Slots.{table_in}
-use Rattle.xl_tagged.specs.Counted.{SmallerState}
-use Rattle.xl_tagged.specs.Tagged.{AreSized, IsTagged}
+use Rattle.xl_tagged.specs.Forms.{One, values_under, word_at}
+use Rattle.xl_tagged.specs.Groups.{AreInUse}
+use Rattle.xl_tagged.specs.Tagged.{AreSized}
 use Rattle.xl_tagged.specs.Steps.{IsPut}
-use Rattle.xl_tagged.proofs.SearchLemmas.{slot-one}
-use Rattle.xl_tagged.proofs.SlotLemmas.{leaf-some}
-use Rattle.xl_tagged.proofs.StepLemmas.{inserted-put}
+use Rattle.xl_tagged.proofs.StepLemmas.{absent-values, inserted-put}
 use Rattle.xl_tagged.proofs.StateLemmas.{held-in}
-use Rattle.xl_tagged.proofs.WholeLemmas.{new-slot}
 
 pub put-one : (tag word : ℕ) (r : Result (Unit {0}) Full) (old new : ChainState) → OnOk r (IsInserted tag (word ∷ []) old new) → has_tag (tags_of old.held) tag ≡ false → AreSized One old.held
     → OnOk r (IsPut One tag 0 word old new)
@@ -25,15 +17,19 @@ put-one tag word (Ok u) old new ins absent sized =
     inserted-put One tag 0 word (word ∷ []) old new absent ins refl refl (λ i low other. absurd (other (omega arith))) sized
 put-one tag word (Err e) old new ins absent sized = tt
 
--- a leaf that comes has a tag that isn't held
-pub new-tag : MadeWordsReadBack → (c : ChainState) (s : SmallerState) (x : Leaf) (tag : ℕ) → IsTagged One c s → IsLeafFor (table_in One c).shape x
-    → meets_any x.space x.first x.order (table_in One c).leaves ≡ false → tag ≡ leaf_tag 1 x → has_tag (tags_of c.held) tag ≡ false
-new-tag back c s x tag w valid free t = ap (has_tag (tags_of c.held)) t ∙ absent (has_tag (tags_of c.held) (leaf_tag 1 x)) refl
-  where
-    absent : (b : _) → has_tag (tags_of c.held) (leaf_tag 1 x) ≡ b → b ≡ false
-    absent false h = refl
-    absent true h =
-        let u = w.held.used (leaf_tag 1 x) (held-in (tags_of c.held) (leaf_tag 1 x) h) in
-        absurd (leaf-some back u.0 (w.held.fit u.0 u.1) (sym (w.held.word u.0 u.1)
-        ∙ ap (λ n. word_at One (values_under c.held) n (slot_of One u.0.order u.0.first)) u.2
-        ∙ new-slot One c s x w valid free (slot_of One u.0.order u.0.first) (sym (slot-one u.0.order u.0.first) ∙ slot-one x.order x.first)))
+-- a tag is held where its slot is in use
+pub held-one : (tag : ℕ) (hs : List Held) → (word_at One (values_under hs) tag 0 ≡ 0 → ⊥) → has_tag (tags_of hs) tag ≡ true
+held-one tag hs used = elim (has_tag (tags_of hs) tag) as (λ b. has_tag (tags_of hs) tag ≡ b → b ≡ true) [
+  | true ↦ λ h. refl
+  | false ↦ λ h. absurd (used (ap (λ (vs : List ℕ). slice_index vs 0) (absent-values hs tag h)))
+] refl
+
+-- a tag isn't held where its slot is empty, since each tag has a slot in use
+pub absent-one : (tag : ℕ) (hs : List Held) → AreInUse One hs → word_at One (values_under hs) tag 0 ≡ 0 → has_tag (tags_of hs) tag ≡ false
+absent-one tag hs used empty = elim (has_tag (tags_of hs) tag) as (λ b. has_tag (tags_of hs) tag ≡ b → b ≡ false) [
+  | true ↦ λ h.
+      let u = used tag (held-in (tags_of hs) tag h) in
+      let none : u.0 ≡ 0 = (let low = u.1 in omega arith) in
+      absurd (u.2 (ap (word_at One (values_under hs) tag) none ∙ empty))
+  | false ↦ λ h. refl
+] refl

@@ -4,6 +4,7 @@ ghost use Rattle.std.specs.Prelude.{◌≡◌, ◌≤◌, false, true, length, O
 ghost use Rattle.xl_model.specs.Chains.{has_tag};
 ghost use Rattle.xl_chain.specs.Held.{tags_of};
 ghost use Rattle.xl_tagged.specs.Forms.{One, values_under, word_at};
+ghost use Rattle.xl_tagged.specs.Groups.{IsFull};
 ghost use Rattle.xl_tagged.specs.Steps.{IsPut, IsSet, IsTaken, given_word};
 ghost use Rattle.xl_tagged.specs.Tagged.{AreSized};
 
@@ -16,7 +17,7 @@ pub(crate) fn put(chains: &mut Chains<1>, tag: u64, word: u64) -> Result<(), Ful
     requires absent { has_tag (tags_of chains.old.held) tag ≡ false }
     requires sized { AreSized One chains.old.held }
     ensures ok { OnOk result (IsPut One tag 0 word chains.old chains.new) }
-    ensures full { OnErr result (length chains.old.held ≡ chains.old.shape.entries) }
+    ensures full { OnErr result (IsFull tag chains.old) }
     ensures same { OnErr result (chains.new ≡ chains.old) }
 {
     chains.insert(tag, [word])

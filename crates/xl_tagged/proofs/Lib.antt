@@ -8,3 +8,4 @@ pub mod StateLemmas
 pub mod WholeLemmas
 pub mod StepLemmas
 pub mod SearchLemmas
+pub mod GroupLemmas

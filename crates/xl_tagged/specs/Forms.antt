@@ -1,5 +1,5 @@
 -- The two forms in which chains hold leaves under tags, and what stands under a tag.
-use Rattle.std.specs.Prelude.{ℕ, ◌+◌, ◌/◌, ◌%◌, List, [], slice_index, Option, None, Some}
+use Rattle.std.specs.Prelude.{ℕ, ◌+◌, ◌/◌, ◌%◌, ◌^◌, List, [], slice_index, Option, None, Some}
 use Rattle.xl_model.specs.declared.address.Order.{Order}
 use Rattle.xl_model.specs.Addresses.{pages_of}
 use Rattle.xl_chain.specs.Held.{Held, held_with}
@@ -14,6 +14,11 @@ pub data Form : Type 0 where
 abbrev pub group_of : Form → ℕ
 group_of One = 1
 group_of Sixteen = 16
+
+-- the most tags that chains of a form have room for
+abbrev pub most_tags : Form → ℕ
+most_tags One = 2 ^ 20
+most_tags Sixteen = 2 ^ 17
 
 -- the values of an entry before its slots
 abbrev pub before : Form → ℕ

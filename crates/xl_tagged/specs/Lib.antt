@@ -3,3 +3,4 @@ pub mod Slots
 pub mod Counted
 pub mod Tagged
 pub mod Steps
+pub mod Groups

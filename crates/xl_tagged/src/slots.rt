@@ -12,9 +12,10 @@ ghost use Rattle.xl_tagged.specs.Steps.{word_found};
 use crate::place::{slot_of, tag_of};
 use xl_chain::{Chains, Seek};
 use xl_model::Order;
+use xl_phys::Bus;
 
 /// Chains that hold leaf words in slots under tags.
-pub trait Slots {
+pub trait Slots: Drop {
     /// How many slots stand under a tag, and behind how many values.
     ghost form: { Form };
 
@@ -37,6 +38,10 @@ pub trait Slots {
             (tag_number (group_of form) space order page) (slot_number form order page) }
         ensures after { state self.new ≡
             loaded_more (order_loads form space page (state self.old) order) (state self.old) };
+
+    /// The loads made so far, modulo 2^64.
+    fn loads(&self) -> u64
+        ensures { result ≡ (state self.now).loads };
 }
 
 /// The word that a search found, 0 where it found none.
@@ -93,6 +98,10 @@ impl Slots for Chains<1> {
     fn load_word(&mut self, space: u16, order: Order, page: u64) -> u64 {
         word_of(self.probe(tag_of(1, space, order, page)))
     }
+
+    fn loads(&self) -> u64 {
+        Bus::loads(self)
+    }
 }
 
 impl Slots for Chains<17> {
@@ -110,5 +119,9 @@ impl Slots for Chains<17> {
     fn load_word(&mut self, space: u16, order: Order, page: u64) -> u64 {
         let slot = slot_of(16, order, page);
         probe_in(self, tag_of(16, space, order, page), slot)
+    }
+
+    fn loads(&self) -> u64 {
+        Bus::loads(self)
     }
 }

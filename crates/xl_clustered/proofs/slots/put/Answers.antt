@@ -7,7 +7,8 @@ use Rattle.xl_tagged.proofs.ChainLemmas.{IsUnderTag, found-under}
 use Rattle.xl_tagged.proofs.StepLemmas.{entry-held, tag-held, not-held}
 use Rattle.xl_clustered.specs.Blocks.{used_in}
 use Rattle.xl_clustered.proofs.UsedLemmas.{used-low}
-use Rattle.xl_clustered.proofs.BlockLemmas.{IsWrote, wrote, slots_of, found-count, wrote-put, wrote-blocks, put-count, new-put, new-blocks, full-of}
+use Rattle.xl_clustered.proofs.BlockLemmas.{IsWrote, wrote, slots_of, found-count, wrote-put, wrote-blocks, put-count, new-put, new-blocks}
+use Rattle.xl_tagged.proofs.GroupLemmas.{full-of}
 use Rattle.xl_clustered.proofs.slots.put.Goals as goal
 
 pub overflow_add-value : goal.overflow_add-value
