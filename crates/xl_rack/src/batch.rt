@@ -8,7 +8,7 @@ ghost use Rattle.xl_rack.specs.Batches.{demand_served, access_served, row_served
 ghost use Rattle.xl_rack.specs.Slots.{served_of, slot_form, IsNamed};
 
 use crate::area::map_for;
-use crate::slot::Slot;
+use crate::slot::{Slot, at_table};
 use xl_areas::Areas;
 use xl_lackey::Access;
 use xl_machine::Machine;
@@ -75,17 +75,7 @@ fn serve_slot(slot: &mut Slot, accesses: &[Access], events: &[WaitingEvent], are
         ≡ waiting_served accesses.now events.now areas.now (served_of slot.old) }
     ensures form { slot_form slot.new ≡ slot_form slot.old }
 {
-    match slot {
-        Slot::Sv39(machine) => serve_machine(machine, accesses, events, areas),
-        Slot::Sv48(machine) => serve_machine(machine, accesses, events, areas),
-        Slot::Sv57(machine) => serve_machine(machine, accesses, events, areas),
-        Slot::Hashed(machine) => serve_machine(machine, accesses, events, areas),
-        Slot::Clustered(machine) => serve_machine(machine, accesses, events, areas),
-        Slot::Cuckoo2(machine) => serve_machine(machine, accesses, events, areas),
-        Slot::Cuckoo3(machine) => serve_machine(machine, accesses, events, areas),
-        Slot::Cuckoo4(machine) => serve_machine(machine, accesses, events, areas),
-        Slot::Range(machine) => serve_machine(machine, accesses, events, areas),
-    }
+    at_table!(slot, machine => serve_machine(machine, accesses, events, areas))
 }
 
 /// Serves accesses, and the events among them, to each slot in turn.

@@ -34,6 +34,24 @@ pub(crate) enum Slot {
     Range(Machine<Ranges>),
 }
 
+/// `$call` with the machine, whatever its table.
+macro_rules! at_table {
+    ($slot:expr, $machine:ident => $call:expr) => {
+        match $slot {
+            Slot::Sv39($machine) => $call,
+            Slot::Sv48($machine) => $call,
+            Slot::Sv57($machine) => $call,
+            Slot::Hashed($machine) => $call,
+            Slot::Clustered($machine) => $call,
+            Slot::Cuckoo2($machine) => $call,
+            Slot::Cuckoo3($machine) => $call,
+            Slot::Cuckoo4($machine) => $call,
+            Slot::Range($machine) => $call,
+        }
+    };
+}
+pub(crate) use at_table;
+
 /// The machine of a row with a radix table of LEVELS levels.
 fn open_radix<const LEVELS: usize>(
     alloc: Global,
@@ -199,17 +217,7 @@ impl Slot {
         ensures after { served_of self.new ≡ after_of event (served_of self.old) }
         ensures form { slot_form self.new ≡ slot_form self.old }
     {
-        match self {
-            Slot::Sv39(machine) => machine.step(event),
-            Slot::Sv48(machine) => machine.step(event),
-            Slot::Sv57(machine) => machine.step(event),
-            Slot::Hashed(machine) => machine.step(event),
-            Slot::Clustered(machine) => machine.step(event),
-            Slot::Cuckoo2(machine) => machine.step(event),
-            Slot::Cuckoo3(machine) => machine.step(event),
-            Slot::Cuckoo4(machine) => machine.step(event),
-            Slot::Range(machine) => machine.step(event),
-        }
+        at_table!(self, machine => machine.step(event))
     }
 
     /// Serves an access.
@@ -220,51 +228,21 @@ impl Slot {
         ensures form { slot_form self.new ≡ slot_form self.old }
         ensures small { IsSmall result }
     {
-        match self {
-            Slot::Sv39(machine) => machine.access(va, kind),
-            Slot::Sv48(machine) => machine.access(va, kind),
-            Slot::Sv57(machine) => machine.access(va, kind),
-            Slot::Hashed(machine) => machine.access(va, kind),
-            Slot::Clustered(machine) => machine.access(va, kind),
-            Slot::Cuckoo2(machine) => machine.access(va, kind),
-            Slot::Cuckoo3(machine) => machine.access(va, kind),
-            Slot::Cuckoo4(machine) => machine.access(va, kind),
-            Slot::Range(machine) => machine.access(va, kind),
-        }
+        at_table!(self, machine => machine.access(va, kind))
     }
 
     /// The row.
     pub(crate) fn row(&self) -> &Row
         ensures { row_of result.now ≡ (served_of self.entry.now).row }
     {
-        match self {
-            Slot::Sv39(machine) => machine.row(),
-            Slot::Sv48(machine) => machine.row(),
-            Slot::Sv57(machine) => machine.row(),
-            Slot::Hashed(machine) => machine.row(),
-            Slot::Clustered(machine) => machine.row(),
-            Slot::Cuckoo2(machine) => machine.row(),
-            Slot::Cuckoo3(machine) => machine.row(),
-            Slot::Cuckoo4(machine) => machine.row(),
-            Slot::Range(machine) => machine.row(),
-        }
+        at_table!(self, machine => machine.row())
     }
 
     /// The current space.
     pub(crate) fn space(&self) -> u16
         ensures { result ≡ (served_of self.now).state.space }
     {
-        match self {
-            Slot::Sv39(machine) => machine.space(),
-            Slot::Sv48(machine) => machine.space(),
-            Slot::Sv57(machine) => machine.space(),
-            Slot::Hashed(machine) => machine.space(),
-            Slot::Clustered(machine) => machine.space(),
-            Slot::Cuckoo2(machine) => machine.space(),
-            Slot::Cuckoo3(machine) => machine.space(),
-            Slot::Cuckoo4(machine) => machine.space(),
-            Slot::Range(machine) => machine.space(),
-        }
+        at_table!(self, machine => machine.space())
     }
 
     /// The counts so far.
@@ -272,17 +250,7 @@ impl Slot {
         ensures counts { result ≡ (served_of self.now).state.counts }
         ensures few { result.arrays ≤ 6 }
     {
-        match self {
-            Slot::Sv39(machine) => machine.counts(),
-            Slot::Sv48(machine) => machine.counts(),
-            Slot::Sv57(machine) => machine.counts(),
-            Slot::Hashed(machine) => machine.counts(),
-            Slot::Clustered(machine) => machine.counts(),
-            Slot::Cuckoo2(machine) => machine.counts(),
-            Slot::Cuckoo3(machine) => machine.counts(),
-            Slot::Cuckoo4(machine) => machine.counts(),
-            Slot::Range(machine) => machine.counts(),
-        }
+        at_table!(self, machine => machine.counts())
     }
 
     /// The machine.

@@ -1,9 +1,10 @@
 -- Laws of lines and words.
-use Rattle.std.proofs.Common.{◌≡◌, ℕ, suc, ◌+◌, ◌-◌, ◌≤◌, ◌<◌, ◌==◌, Bool, true, false, not, cond, if◌then◌else◌, List, [], ◌∷◌, length, take, drop, refl, ap, ap₂, sym, ◌∙◌, map, arith, one-add, add-one, add-zero, get_or, length-drop, length-take}
-use Rattle.std.specs.List.{position_or_len, slice_range}
+use Rattle.std.proofs.Common.{◌≡◌, ℕ, suc, ◌+◌, ◌-◌, ◌≤◌, ◌<◌, ◌==◌, Bool, true, false, not, cond, if◌then◌else◌, List, [], ◌∷◌, length, take, drop, refl, ap, ap₂, sym, ◌∙◌, map, arith, one-add, add-one, add-zero, get_or, length-drop, length-take, Option, None, Some}
+use Rattle.std.specs.List.{position, position_or_len, slice_range}
+use Rattle.memchr.specs.Find.{IsFirstByte}
 use Rattle.std.proofs.lemmas.Bool.{ne_eqb, eqb-true}
-use Rattle.std.specs.Prelude.{count_by}
-use Rattle.std.proofs.lemmas.List.Sums.{prefix_len-le-length, prefix_len_stops, count_by-le-length}
+use Rattle.std.proofs.lemmas.Bool.Decides.{nat_tests}
+use Rattle.std.proofs.lemmas.List.Sums.{prefix_len-le-length, prefix_len_is, prefix_len_stops}
 use Rattle.std.proofs.lemmas.List.{take-take, drop-drop, drop_all, get_or-drop}
 use Rattle.xl_text.specs.Texts.{is_blank, in_first, lines_of, without_return}
 use Rattle.xl_script.specs.Texts.{script_lines, to_newline, onto, pieces, up_to_comment, words_of}
@@ -157,6 +158,18 @@ module _ (text : List ℕ) (at n : ℕ) (front : List ℕ) where
       lines_first (drop at text) n (omega (arith, length-drop at text)) value
       ∙ ap₂ (λ a b. a ∷ script_lines b) (fronts h) tail
 
--- a text has no more newlines than bytes
-pub few_newlines : (text : List ℕ) → count_by (λ byte. byte == 10) text ≤ length text
-few_newlines text = count_by-le-length (λ byte. byte == 10) text
+-- what isn't true is not
+not-true : (b : Bool) → (b ≡ true → ⊥) → not b ≡ true
+not-true true h = absurd (h refl)
+not-true false h = refl
+
+-- the first place that a search finds is the first place
+pub first_place : (test : ℕ → Bool) (text : List ℕ) (found : Option ℕ) → IsFirstByte test text found → found ≡ position test text
+first_place test text None nowhere =
+    let none : position_or_len test text ≡ length text =
+    prefix_len_is (λ b. not (test b)) text (length text) 0 (omega arith) (λ k less. not-true (test (get_or text k 0)) (nowhere k (omega arith) less)) (λ less. absurd (omega (arith, less))) in
+    grind (arith, nat_tests, none)
+first_place test text (Some k) here =
+    let first : position_or_len test text ≡ k =
+    prefix_len_is (λ b. not (test b)) text k 0 (omega (arith, here.0.high)) (λ i less. not-true (test (get_or text i 0)) (here.0.before i (omega arith) less)) (λ less. ap not here.1) in
+    grind (arith, nat_tests, first, here.0.high)

@@ -6,6 +6,7 @@ ghost use Rattle.xl_script.specs.Scripts.{Said, Hears, Gives, Adds, text_read};
 
 use crate::fault::ScriptFault;
 use crate::text::line;
+use memchr::memchr_iter;
 use std::alloc::Global;
 
 /// The most bytes that a script may have.
@@ -26,11 +27,10 @@ pub trait Form {
 }
 
 /// The number of lines of a text, at least, so that it has no more commands.
-#[tactic(auto, using(crate::proofs::TextLemmas::few_newlines))]
 fn count_lines(text: &[u8]) -> usize
     ensures { result ≡ count_by (λ byte. byte == 10) text.now + 1 }
 {
-    text.iter().filter(|byte| **byte == b'\n').count() + 1
+    memchr_iter(b'\n', text).count() + 1
 }
 
 /// Puts a command behind the others.

@@ -6,13 +6,14 @@ ghost use Rattle.std.specs.List.{position, position_or_len};
 ghost use Rattle.xl_text.specs.Texts.{is_blank, without_return};
 ghost use Rattle.xl_script.specs.Texts.{script_lines, to_newline, words_of};
 
+use memchr::memchr;
 use xl_text::{is_blank, without_return};
 
 /// The place of a text's first newline.
 fn first_newline(text: &[u8]) -> Option<usize>
     ensures { result ≡ position (λ byte. byte == 10) text.now }
 {
-    text.iter().position(|byte| *byte == b'\n')
+    memchr(b'\n', text)
 }
 
 /// The number of bytes before the first newline.
