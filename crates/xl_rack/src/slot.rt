@@ -50,6 +50,7 @@ macro_rules! at_table {
         }
     };
 }
+
 pub(crate) use at_table;
 
 /// The machine of a row with a radix table of LEVELS levels.
