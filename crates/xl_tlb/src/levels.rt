@@ -14,7 +14,7 @@ ghost use Rattle.xl_tlb.specs.Tlbs.{spec_of, leaf_told, tlb_opening, AreSpecs, I
 
 use crate::any::AnyArray;
 use crate::coding::Hit;
-use crate::look::{Small, count_misses, has_eights, is_straight, look_in, look_small};
+use crate::look::{Small, count_first_misses, has_eights, is_straight, look_in, look_small};
 use arrayvec::ArrayVec;
 use std::alloc::Global;
 use std::marker::Model;
@@ -232,7 +232,7 @@ impl Levels {
         ensures after { self.new ≡ tlb_looked space page self.old }
         ensures stays { self.new.arrays ≡ self.old.arrays }
     {
-        count_misses(&self.arrays, &mut self.misses, space, page);
+        count_first_misses(&self.arrays, &mut self.misses, space, page);
     }
 
     /// Looks for a page that the newest leaf of a set of the first array answers, with this word: that
