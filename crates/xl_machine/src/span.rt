@@ -13,8 +13,8 @@ pub(crate) struct Span {
     mode: Mode,
     /// How many addresses each of the two halves has: one at the front of all addresses, one at their end.
     half: u64,
-    /// One less than the number of pages.
-    pages: u64,
+    /// The number of the last page: a mask, since the pages are a power of two.
+    last_page: u64,
 }
 
 impl Model for Span {
@@ -25,7 +25,7 @@ impl Model for Span {
 
     ghost view = { λ s. s.mode };
 
-    ghost invariant = { λ s. IsSpan s.half s.pages s.mode };
+    ghost invariant = { λ s. IsSpan s.half s.last_page s.mode };
 }
 
 impl Span {
@@ -41,7 +41,7 @@ impl Span {
         Span {
             mode,
             half: 1 << (bits + 11),
-            pages: (1 << bits) - 1,
+            last_page: (1 << bits) - 1,
         }
     }
 
@@ -58,6 +58,6 @@ impl Span {
     pub fn page_of(&self, va: u64) -> u64
         ensures { result ≡ page_number self.now va }
     {
-        va / 4096 & self.pages
+        va / 4096 & self.last_page
     }
 }
