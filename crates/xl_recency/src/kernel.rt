@@ -136,7 +136,7 @@ fn bring_at<const W: usize, T: Copy, P: Fn(&T) -> bool>(
     Some(item)
 }
 
-/// Brings the first of the first `len` items that meets the test to the front, where there are at most eight
+/// Brings the first of the first `len` items that meets the test to the front, where there are at most sixteen
 /// slots. All of them are looked at, those behind the items too, and each has a way out of its own: of a loop
 /// LLVM joins the ways out, and then asks once more at each item that it moves.
 #[inline(always)]
@@ -145,7 +145,7 @@ pub(crate) fn touch_first<const W: usize, T: Copy, P: Fn(&T) -> bool>(
     len: usize,
     test: &P,
 ) -> Option<T>
-    requires few { W ≤ 8 }
+    requires few { W ≤ 16 }
     requires fits { len ≤ W }
     requires test { P.IsAlwaysCallable test.now }
     ensures { (q : _) → IsTest (FnReturnsAt P.Fn test.now) q →
@@ -160,7 +160,7 @@ pub(crate) fn touch_first<const W: usize, T: Copy, P: Fn(&T) -> bool>(
             )*
         };
     }
-    ways_out!(0 1 2 3 4 5 6 7);
+    ways_out!(0 1 2 3 4 5 6 7 8 9 10 11 12 13 14 15);
     None
 }
 

@@ -56,7 +56,7 @@ impl<T: Copy, const W: usize> Ways<T, W> {
         requires { P.IsAlwaysCallable test }
         ensures { (q : _) → IsTest (FnReturnsAt P.Fn test) q → Touches q self.old self.new result }
     {
-        if W <= 8 {
+        if W <= 16 {
             return touch_first(&mut self.slots, self.len, &test);
         }
         let place = place_of(&self.slots, self.len, &test);

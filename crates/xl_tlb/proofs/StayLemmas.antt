@@ -136,6 +136,15 @@ pub fill_stays : (leaf : Leaf) (t : TlbState) → HasEights t.arrays → FrontsS
 unfolding tlb_filled arrays_filled
 fill_stays leaf t eights = filled_stays leaf t.arrays eights
 
+whole_blocks : (o : Order) (page : ℕ) → page / pages_of o * pages_of o / pages_of o ≡ page / pages_of o
+whole_blocks order.K4 page = omega arith
+whole_blocks order.M2 page = omega arith
+whole_blocks order.G1 page = omega arith
+
+pub hit_fill_stays : (space page word : ℕ) (o : Order) (t : TlbState) → HasEights t.arrays → FrontsStay (page / pages_of o % 8) t.arrays (tlb_filled (leaf_with space page o word) t).arrays
+hit_fill_stays space page word o t eights =
+    subst (λ (n : ℕ). FrontsStay (n % 8) t.arrays (tlb_filled (leaf_with space page o word) t).arrays) (whole_blocks o page) (fill_stays (leaf_with space page o word) t eights)
+
 pub small_fill_stays : (space page word : ℕ) (t : TlbState) → HasEights t.arrays → FrontsStay (page % 8) t.arrays (tlb_filled (small_leaf space page word) t).arrays
 small_fill_stays space page word t eights =
     let one : page / 1 * 1 / 1 ≡ page = omega arith in

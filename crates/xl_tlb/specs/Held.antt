@@ -18,14 +18,9 @@ IsSmall leaf = leaf.order ≡ order.K4
 abbrev pub Smalls : Bool → List (List Leaf) → Type 0
 Smalls large sets = large ≡ false → All (All IsSmall) sets
 
--- An array's level, whether it takes leaves of 4 KiB, and whether its sets are a multiple of eight.
-pub record IsKind (level : ℕ) (small eights : Bool) (spec : TlbSpec) : Type 0 where
-  pub levels : level ≡ spec.level
-  pub takes : small ≡ spec.k4
-  pub by_eight : eights ≡ true → spec.sets % 8 ≡ 0
-
--- How many leaves an array holds, whether larger ones than of 4 KiB may be among them, and what it is.
-pub record IsKnown (held : ℕ) (large : Bool) (level : ℕ) (small eights : Bool) (a : TlbArray) : Type 0 where
+-- How many leaves an array holds, whether larger ones than of 4 KiB may be among them, and its spec, which has sets.
+pub record IsKnown (held : ℕ) (large : Bool) (spec : TlbSpec) (a : TlbArray) : Type 0 where
   pub counts : Counts held (leaves_in_sets a.sets)
   pub smalls : Smalls large a.sets
-  pub kind : IsKind level small eights a.spec
+  pub spec_is : spec ≡ a.spec
+  pub some : 0 < spec.sets

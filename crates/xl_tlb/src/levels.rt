@@ -7,18 +7,21 @@ ghost use Rattle.xl_model.specs.Tlb.{answer_of, leaves_in, takes_leaf, takes_ord
 ghost use Rattle.xl_model.specs.declared.address.Order.TheVariants as order_of;
 ghost use Rattle.xl_tlb.specs.Arrays.{IsFit, InLimits};
 ghost use Rattle.xl_tlb.specs.Answers.{IsAnswered};
-ghost use Rattle.xl_tlb.specs.Fronts.{IsFront, IsFrontHit, AllMiss, HasEights};
+ghost use Rattle.xl_tlb.specs.Fronts.{IsFront, AllMiss, HasEights};
 ghost use Rattle.xl_model.specs.LeafWords.{small_leaf};
-ghost use Rattle.xl_tlb.specs.Hits.{hit_leaf};
-ghost use Rattle.xl_tlb.specs.Tlbs.{spec_of, leaf_told, tlb_opening, AreSpecs, IsRising, IsStraight, tlb_looked, tlb_filled, tlb_purged, tlb_fenced};
+ghost use Rattle.xl_tlb.specs.Paths.{AtMostOne, IsFill, IsPath, IsReady};
+ghost use Rattle.xl_tlb.specs.Sought.{IsSought};
+ghost use Rattle.xl_tlb.specs.Hits.{hit_leaf, leaf_hit};
+ghost use Rattle.xl_tlb.specs.Tlbs.{spec_of, leaf_told, tlb_opening, AreSpecs, IsRising, IsAlone, tlb_looked, tlb_filled, tlb_purged, tlb_fenced};
 
 use crate::any::AnyArray;
 use crate::coding::Hit;
-use crate::look::{Small, count_first_misses, has_eights, is_straight, look_in, look_small};
+use crate::look::{Small, are_common, count_misses, has_eights, is_straight, look_in, look_small};
+use crate::sought::Sought;
 use arrayvec::ArrayVec;
 use std::alloc::Global;
 use std::marker::Model;
-use xl_model::{Leaf, NoMemory, Purge, Reach, TlbSpec};
+use xl_model::{Leaf, NoMemory, Order, Purge, Reach, TlbSpec};
 
 /// What a look for a leaf of 4 KiB told: the leaf's word; or that no array answers; or nothing.
 #[derive(Clone, Copy)]
@@ -28,6 +31,16 @@ pub(crate) enum Answered {
     Unknown,
 }
 
+/// How a leaf of 4 KiB is looked for: in all levels in turn; straight in the first two arrays, where they take
+/// such leaves and are each alone in their level; or so and all in line, where there are no others and both are
+/// common ones.
+#[derive(Clone, Copy)]
+pub(crate) enum Path {
+    InTurn,
+    Straight,
+    Common,
+}
+
 /// The arrays of a row in levels, with their counts.
 #[derive(Drop)]
 pub(crate) struct Levels {
@@ -35,27 +48,27 @@ pub(crate) struct Levels {
     hits: [u64; 6],
     misses: [u64; 6],
     fills: u64,
-    /// Whether the first array and the second one, where they are there, take leaves of 4 KiB and are each
-    /// alone in their level: a look for such a leaf may go straight then.
-    straight: bool,
+    path: Path,
 }
 
 impl Model for Levels {
-    ghost use Rattle.xl_tlb.specs.Tlbs.{TlbState, IsTlb, tlb_of};
+    ghost use Rattle.xl_tlb.specs.Paths.{IsTlb};
+    ghost use Rattle.xl_tlb.specs.Tlbs.{TlbState, tlb_of};
 
     ghost Value = { TlbState };
 
     ghost view = { λ t. tlb_of t.arrays.items t.hits t.misses t.fills };
 
-    ghost invariant = { λ t. IsTlb t.straight (tlb_of t.arrays.items t.hits t.misses t.fills) };
+    ghost invariant = { λ t. IsTlb t.path (tlb_of t.arrays.items t.hits t.misses t.fills) };
 }
 
-/// Fills each array that takes the leaf's order: how many do.
+/// Fills each array that takes the order of a leaf that was hit elsewhere: how many do.
 #[tactic(auto, using(crate::proofs::TlbLemmas::count_first))]
-fn fill_each(arrays: &mut [AnyArray], leaf: &Leaf) -> u64
-    requires { IsFit leaf.now }
-    ensures fills { result ≡ count_by (takes_leaf leaf.now) arrays.old }
-    ensures arrays { arrays.new ≡ map (array_filled leaf.now) arrays.old }
+fn fill_each(arrays: &mut [AnyArray], space: u16, page: u64, hit: Hit) -> u64
+    requires space { space < 64 }
+    requires page { page < 2 ^ 52 }
+    ensures fills { result ≡ count_by (takes_leaf (leaf_hit space page hit)) arrays.old }
+    ensures arrays { arrays.new ≡ map (array_filled (leaf_hit space page hit)) arrays.old }
 {
     let Some((first, rest)) = arrays.split_first_mut() else {
         return 0;
@@ -63,80 +76,70 @@ fn fill_each(arrays: &mut [AnyArray], leaf: &Leaf) -> u64
     let others = if rest.is_empty() {
         0
     } else {
-        fill_each(rest, leaf)
+        fill_each(rest, space, page, hit)
     };
-    if first.fill(*leaf) {
+    if first.fill_hit(space, page, hit) {
         return others + 1;
     }
     others
 }
 
-/// Fills the array with a leaf of 4 KiB, where it takes such leaves: 1 if it does, else 0.
-#[inline(always)]
-fn fill_small_one(array: &mut AnyArray, space: u16, page: u64, word: u64) -> u64
-    requires space { space < 64 }
-    requires page { page < 2 ^ 52 }
-    ensures fills { result ≡ one_if (takes_leaf (small_leaf space page word) array.old) }
-    ensures array { array.new ≡ array_filled (small_leaf space page word) array.old }
-    ensures front { takes_order array.old.spec order_of.K4 ≡ true
-        → IsFrontHit space page word array.new }
-{
-    let taken = array.takes_small();
-    array.fill_small(space, page, word);
-    taken as u64
-}
-
-/// Fills each array that takes leaves of 4 KiB with this one: how many do. Behind a call, since few rows have
-/// more than two arrays.
-#[inline(never)]
-fn fill_small_each(arrays: &mut [AnyArray], space: u16, page: u64, word: u64) -> u64
-    requires space { space < 64 }
-    requires page { page < 2 ^ 52 }
-    ensures fills { result ≡ count_by (takes_leaf (small_leaf space page word)) arrays.old }
-    ensures arrays { arrays.new ≡ map (array_filled (small_leaf space page word)) arrays.old }
-{
-    let mut fills = 0;
-    for array in arrays.iter_mut() {
-        fills += fill_small_one(array, space, page, word);
-    }
-    fills
-}
-
-/// Does what `fill_small_each` does, with the first array in line.
+/// Fills the arrays but the first with the leaf of 4 KiB that is sought: how many do.
 #[inline(always)]
 #[tactic(auto, using(crate::proofs::TlbLemmas::count_first))]
-fn fill_small_second(arrays: &mut [AnyArray], space: u16, page: u64, word: u64) -> u64
-    requires space { space < 64 }
-    requires page { page < 2 ^ 52 }
-    ensures fills { result ≡ count_by (takes_leaf (small_leaf space page word)) arrays.old }
-    ensures arrays { arrays.new ≡ map (array_filled (small_leaf space page word)) arrays.old }
+fn fill_second<const COMMON: bool>(arrays: &mut [AnyArray], sought: Sought, word: u64) -> u64
+    requires sought { IsSought order_of.K4 sought }
+    requires alone { IsAlone (map spec_of arrays.old) }
+    requires common { COMMON ≡ true → AtMostOne (map spec_of arrays.old) }
+    ensures { IsFill sought word result arrays.old arrays.new }
 {
-    let Some((first, rest)) = arrays.split_first_mut() else {
+    let Some((second, others)) = arrays.split_first_mut() else {
         return 0;
     };
-    let taken = fill_small_one(first, space, page, word);
-    if rest.is_empty() {
-        return taken;
+    let set = second.set_of::<COMMON>(sought);
+    second.fill_in::<COMMON>(set, sought, word);
+    if COMMON {
+        return 1;
     }
-    taken + fill_small_each(rest, space, page, word)
+    if others.is_empty() {
+        return 1;
+    }
+    let hit = Hit {
+        word,
+        order: Order::K4,
+    };
+    fill_each(others, sought.space, sought.page, hit) + 1
 }
 
-/// Does what `fill_small_each` does. Where the first array takes such leaves and is alone in its level, the
-/// leaf is in front of it then.
+/// Fills the arrays with the leaf of 4 KiB that is sought: how many do. It is in front of the first then.
 #[inline(always)]
 #[tactic(auto, using(crate::proofs::TlbLemmas::count_first))]
-fn fill_small_in(arrays: &mut [AnyArray], space: u16, page: u64, word: u64) -> u64
-    requires space { space < 64 }
-    requires page { page < 2 ^ 52 }
-    ensures fills { result ≡ count_by (takes_leaf (small_leaf space page word)) arrays.old }
-    ensures arrays { arrays.new ≡ map (array_filled (small_leaf space page word)) arrays.old }
-    ensures front { IsStraight (map spec_of arrays.old) → IsFront space page word arrays.new }
+fn fill_straight<const COMMON: bool>(arrays: &mut [AnyArray], sought: Sought, word: u64) -> u64
+    requires sought { IsSought order_of.K4 sought }
+    requires ready { IsReady COMMON (map spec_of arrays.old) }
+    ensures fill { IsFill sought word result arrays.old arrays.new }
+    ensures front { IsFront sought.space sought.page word arrays.new }
 {
     let Some((first, rest)) = arrays.split_first_mut() else {
-        return 0;
+        unreachable!()
     };
-    let taken = fill_small_one(first, space, page, word);
-    taken + fill_small_second(rest, space, page, word)
+    let set = first.set_of::<COMMON>(sought);
+    first.fill_in::<COMMON>(set, sought, word);
+    fill_second::<COMMON>(rest, sought, word) + 1
+}
+
+/// How a leaf of 4 KiB is looked for in these arrays.
+fn path_of(arrays: &[AnyArray]) -> Path
+    requires { IsRising (map spec_of arrays.now) }
+    ensures { IsPath result (map spec_of arrays.now) }
+{
+    if !is_straight(arrays) {
+        return Path::InTurn;
+    }
+    if !are_common(arrays) {
+        return Path::Straight;
+    }
+    Path::Common
 }
 
 /// Purges each array: how many items left.
@@ -185,9 +188,9 @@ impl Levels {
                 return Err(NoMemory);
             }
         }
-        let straight = is_straight(&arrays);
+        let path = path_of(&arrays);
         Ok(Levels {
-            straight,
+            path,
             arrays,
             hits: [0; 6],
             misses: [0; 6],
@@ -195,20 +198,24 @@ impl Levels {
         })
     }
 
-    /// Does what `look` does, where a leaf of 4 KiB of the first array or of the second one answers and
-    /// each is alone in its level, and gives the leaf's word: it is the newest of its set of the first
-    /// array then. Elsewhere nothing changes, and that no array answers is told where no larger leaf was
-    /// held.
-    #[inline]
-    pub fn hit_small(&mut self, space: u16, page: u64) -> Answered
-        requires space { space < 64 }
-        requires page { page < 2 ^ 52 }
-        ensures { IsAnswered space page result self.old self.new }
+    /// How a leaf of 4 KiB is looked for.
+    #[inline(always)]
+    pub fn path(&self) -> Path
+        ensures { IsPath result (map spec_of self.now.arrays) }
     {
-        if !self.straight {
-            return Answered::Unknown;
-        }
-        match look_small(&mut self.arrays, space, page) {
+        self.path
+    }
+
+    /// Does what `look` does, where the leaf of 4 KiB that is sought stands in the first array or in the second
+    /// one, and gives the leaf's word: it is the newest of its set of the first array then. Elsewhere nothing
+    /// changes, and that no array answers is told where no larger leaf was held.
+    #[inline(always)]
+    pub fn hit_small<const COMMON: bool>(&mut self, sought: Sought) -> Answered
+        requires sought { IsSought order_of.K4 sought }
+        requires ready { IsReady COMMON (map spec_of self.old.arrays) }
+        ensures { IsAnswered sought.space sought.page result self.old self.new }
+    {
+        match look_small::<COMMON>(&mut self.arrays, sought) {
             Small::First { word } => {
                 self.hits[0] = self.hits[0].wrapping_add(1);
                 Answered::Word { word }
@@ -232,7 +239,7 @@ impl Levels {
         ensures after { self.new ≡ tlb_looked space page self.old }
         ensures stays { self.new.arrays ≡ self.old.arrays }
     {
-        count_first_misses(&self.arrays, &mut self.misses, space, page);
+        count_misses(&self.arrays, &mut self.misses, space, page);
     }
 
     /// Looks for a page that the newest leaf of a set of the first array answers, with this word: that
@@ -278,29 +285,29 @@ impl Levels {
     }
 
     /// Puts a leaf that a walk found into the arrays of every level that hold its order.
-    pub fn fill(&mut self, leaf: Leaf)
-        requires { IsFit leaf }
-        ensures { self.new ≡ tlb_filled leaf self.old }
+    pub fn fill(&mut self, space: u16, page: u64, hit: Hit)
+        requires space { space < 64 }
+        requires page { page < 2 ^ 52 }
+        ensures { self.new ≡ tlb_filled (leaf_hit space page hit) self.old }
     {
         if self.arrays.is_empty() {
             return;
         }
-        let fills = fill_each(&mut self.arrays, &leaf);
+        let fills = fill_each(&mut self.arrays, space, page, hit);
         self.fills = self.fills.wrapping_add(fills);
     }
 
-    /// Puts a leaf of 4 KiB into the arrays of every level that hold such leaves. Whether it is known to
-    /// be the newest of its set of the first array, and that alone in its level.
-    #[inline]
-    pub fn fill_small(&mut self, space: u16, page: u64, word: u64) -> bool
-        requires space { space < 64 }
-        requires page { page < 2 ^ 52 }
-        ensures after { self.new ≡ tlb_filled (small_leaf space page word) self.old }
-        ensures front { result ≡ true → IsFront space page word self.new.arrays }
+    /// Puts the leaf of 4 KiB that is sought into the arrays of every level that hold such leaves. It is the
+    /// newest of its set of the first array then, and that alone in its level.
+    #[inline(always)]
+    pub fn fill_small<const COMMON: bool>(&mut self, sought: Sought, word: u64)
+        requires sought { IsSought order_of.K4 sought }
+        requires ready { IsReady COMMON (map spec_of self.old.arrays) }
+        ensures after { self.new ≡ tlb_filled (small_leaf sought.space sought.page word) self.old }
+        ensures front { IsFront sought.space sought.page word self.new.arrays }
     {
-        let fills = fill_small_in(&mut self.arrays, space, page, word);
+        let fills = fill_straight::<COMMON>(&mut self.arrays, sought, word);
         self.fills = self.fills.wrapping_add(fills);
-        self.straight
     }
 
     /// Removes what a purge takes in all levels at a change of this leaf, and gives how many leaves left.
@@ -323,10 +330,11 @@ impl Levels {
 
     /// Whether the sets of the first array are a multiple of eight.
     #[inline]
-    pub fn has_eights(&self) -> bool
+    pub fn has_eights<const COMMON: bool>(&self) -> bool
+        requires { COMMON ≡ true → IsReady true (map spec_of self.now.arrays) }
         ensures { result ≡ true → HasEights self.now.arrays }
     {
-        has_eights(&self.arrays)
+        COMMON || has_eights(&self.arrays)
     }
 
     /// Whether there are no arrays. Then a look and a fill change nothing.

@@ -3,25 +3,22 @@
 ghost use Rattle.std.specs.Prelude.{true, ◌≡◌, ◌<◌, ◌^◌, ◌+◌, ◌*◌, ◌%◌, List, IfSome};
 ghost use Rattle.xl_model.specs.Tlb.{TlbArray};
 ghost use Rattle.xl_tlb.specs.Fronts.{IsFront, FrontsStay, AllMiss};
-ghost use Rattle.xl_tlb.specs.Known.{Knows, Misses, key_of as key_is};
+ghost use Rattle.xl_tlb.specs.Known.{Knows, Misses};
+ghost use Rattle.xl_tlb.specs.Sought.{IsSought};
+ghost use Rattle.xl_model.specs.declared.address.Order.TheVariants as order;
+
+use crate::sought::Sought;
 
 /// For eight pages at most, the words of the leaves that answer them: each is the newest of its set
-/// of the first array. A page's place is its number's last three bits, and 0 is no page's key.
+/// of the first array. A page's place is its number's last three bits, and its key the tag of its leaf.
 #[derive(Clone, Copy, Debug)]
 pub(crate) struct Newest {
     keys: [u64; 8],
     words: [u64; 8],
 }
 
-/// The key of a page.
-#[inline]
-fn key_of(space: u16, page: u64) -> u64
-    requires space { space < 64 }
-    requires page { page < 2 ^ 52 }
-    ensures { result ≡ key_is space page }
-{
-    page * 64 + space as u64 + 1
-}
+/// What stands where no page is known: it is no page's tag.
+const NONE: u64 = u64::MAX;
 
 impl Newest {
     /// No page is known.
@@ -29,7 +26,7 @@ impl Newest {
         ensures { (arrays : List TlbArray) → Knows result arrays }
     {
         Newest {
-            keys: [0; 8],
+            keys: [NONE; 8],
             words: [0; 8],
         }
     }
@@ -39,7 +36,7 @@ impl Newest {
     pub fn forget(&mut self)
         ensures { (arrays : List TlbArray) → Knows self.new arrays }
     {
-        self.keys = [0; 8];
+        self.keys = [NONE; 8];
     }
 
     /// What may have lost its front is not known from now on, where leaves of one set came or moved: that
@@ -54,19 +51,18 @@ impl Newest {
             self.forget();
         }
         let place = (block % 8) as usize;
-        self.keys[place] = 0;
+        self.keys[place] = NONE;
     }
 
     /// The word of the leaf that answers the page, where that is known.
     #[inline]
-    pub fn word(&self, space: u16, page: u64) -> Option<u64>
-        requires space { space < 64 }
-        requires page { page < 2 ^ 52 }
+    pub fn word(&self, sought: Sought) -> Option<u64>
+        requires { IsSought order.K4 sought }
         ensures { (arrays : List TlbArray) → Knows self.now arrays
-            → IfSome result (λ word. IsFront space page word arrays) }
+            → IfSome result (λ word. IsFront sought.space sought.page word arrays) }
     {
-        let place = (page % 8) as usize;
-        if self.keys[place] == key_of(space, page) {
+        let place = (sought.page % 8) as usize;
+        if self.keys[place] == sought.tag {
             return Some(self.words[place]);
         }
         None
@@ -74,19 +70,18 @@ impl Newest {
 
     /// Keeps the word of the leaf that answers the page.
     #[inline]
-    pub fn keep(&mut self, space: u16, page: u64, word: u64)
-        requires space { space < 64 }
-        requires page { page < 2 ^ 52 }
+    pub fn keep(&mut self, sought: Sought, word: u64)
+        requires { IsSought order.K4 sought }
         ensures { (arrays : List TlbArray) → Knows self.old arrays
-            → IsFront space page word arrays → Knows self.new arrays }
+            → IsFront sought.space sought.page word arrays → Knows self.new arrays }
     {
-        let place = (page % 8) as usize;
-        self.keys[place] = key_of(space, page);
+        let place = (sought.page % 8) as usize;
+        self.keys[place] = sought.tag;
         self.words[place] = word;
     }
 }
 
-/// The page that no array answered at the last look for a leaf of 4 KiB, by its key; 0 is no page's key.
+/// The page that no array answered at the last look for a leaf of 4 KiB, by the tag of its leaf.
 #[derive(Clone, Copy, Debug)]
 pub(crate) struct Missed {
     key: u64,
@@ -97,7 +92,7 @@ impl Missed {
     pub fn none() -> Missed
         ensures { (arrays : List TlbArray) → Misses result arrays }
     {
-        Missed { key: 0 }
+        Missed { key: NONE }
     }
 
     /// No page is known from now on.
@@ -105,27 +100,26 @@ impl Missed {
     pub fn forget(&mut self)
         ensures { (arrays : List TlbArray) → Misses self.new arrays }
     {
-        self.key = 0;
+        self.key = NONE;
     }
 
     /// Keeps a page that no array answers.
     #[inline]
-    pub fn keep(&mut self, space: u16, page: u64)
-        requires space { space < 64 }
-        requires page { page < 2 ^ 52 }
-        ensures { (arrays : List TlbArray) → AllMiss space page arrays → Misses self.new arrays }
+    pub fn keep(&mut self, sought: Sought)
+        requires { IsSought order.K4 sought }
+        ensures { (arrays : List TlbArray) → AllMiss sought.space sought.page arrays
+            → Misses self.new arrays }
     {
-        self.key = key_of(space, page);
+        self.key = sought.tag;
     }
 
     /// Whether no array is known to answer the page.
     #[inline]
-    pub fn knows(&self, space: u16, page: u64) -> bool
-        requires space { space < 64 }
-        requires page { page < 2 ^ 52 }
+    pub fn knows(&self, sought: Sought) -> bool
+        requires { IsSought order.K4 sought }
         ensures { (arrays : List TlbArray) → Misses self.now arrays
-            → result ≡ true → AllMiss space page arrays }
+            → result ≡ true → AllMiss sought.space sought.page arrays }
     {
-        self.key == key_of(space, page)
+        self.key == sought.tag
     }
 }

@@ -1,7 +1,9 @@
 //! Where the leaves of an array stand.
 
-ghost use Rattle.std.specs.Prelude.{◌≡◌, ◌<◌, ◌%◌, ◌^◌};
+ghost use Rattle.std.specs.Prelude.{true, ◌≡◌, ◌<◌, ◌%◌, ◌^◌};
 ghost use Rattle.xl_model.specs.Tlb.{set_number, takes_order};
+ghost use Rattle.xl_model.specs.declared.address.Order.TheVariants as order;
+ghost use Rattle.xl_tlb.specs.Arrays.{HasMask, IsCommon};
 
 use std::marker::Model;
 use xl_model::{Order, TlbSpec, remainder};
@@ -11,19 +13,21 @@ use xl_model::{Order, TlbSpec, remainder};
 #[derive(Drop)]
 pub(crate) struct Places {
     spec: TlbSpec,
-    /// One less than the number of sets, where that is a power of two; else 0.
-    mask: u64,
+    /// The number of the last set, counted from 0.
+    last: u64,
+    /// Whether that number is a mask, so that it gives the set of a page without a division.
+    masks: bool,
 }
 
 impl Model for Places {
     ghost use Rattle.xl_model.specs.declared.row.TlbSpec.{TlbSpec};
-    ghost use Rattle.xl_tlb.specs.Arrays.{IsMask};
+    ghost use Rattle.xl_tlb.specs.Arrays.{IsPlaces};
 
     ghost Value = { TlbSpec };
 
     ghost view = { λ p. p.spec };
 
-    ghost invariant = { λ p. IsMask p.mask p.spec.sets };
+    ghost invariant = { λ p. IsPlaces p.last p.masks p.spec.sets };
 }
 
 impl Places {
@@ -32,12 +36,33 @@ impl Places {
         ensures { result ≡ spec }
     {
         let power = 1 << spec.sets.trailing_zeros();
-        let mask = if power == spec.sets as u64 {
-            power - 1
-        } else {
-            0
-        };
-        Places { spec, mask }
+        Places {
+            spec,
+            last: (spec.sets as u64).saturating_sub(1),
+            masks: power == spec.sets as u64,
+        }
+    }
+
+    /// The array's level.
+    #[inline(always)]
+    pub fn level(&self) -> u8
+        ensures { result ≡ self.now.level }
+    {
+        self.spec.level
+    }
+
+    /// Whether the array has four or eight ways, and finds its sets by a mask.
+    pub fn are_common(&self) -> bool
+        ensures { result ≡ true → IsCommon self.now }
+    {
+        self.masks && (self.spec.width == 4 || self.spec.width == 8)
+    }
+
+    /// Whether the sets are a multiple of eight.
+    pub fn are_by_eight(&self) -> bool
+        ensures { result ≡ true → self.now.sets % 8 ≡ 0 }
+    {
+        self.spec.sets % 8 == 0
     }
 
     /// There are less than 2^32 sets.
@@ -67,10 +92,19 @@ impl Places {
         ensures value { result ≡ block % self.now.sets }
         ensures within { result < self.now.sets }
     {
-        if self.mask == 0 {
-            return remainder(block, self.spec.sets);
+        if self.masks {
+            return (block & self.last) as usize;
         }
-        (block & self.mask) as usize
+        remainder(block, self.spec.sets)
+    }
+
+    /// The set of the leaf of 4 KiB that would cover the page, where the last set is a mask.
+    #[inline(always)]
+    pub fn set_by_mask(&self, page: u64) -> usize
+        requires { HasMask self.now.sets }
+        ensures { result ≡ set_number self.now order.K4 page }
+    {
+        (page & self.last) as usize
     }
 
     /// The set of the leaf of the order that would cover the page.

@@ -2,7 +2,7 @@ use Rattle.xl_model.specs.Tlb.{leaves_in_sets}
 use Rattle.xl_tlb.specs.Any.{array_in}
 use Rattle.xl_tlb.specs.Hits.{leaf_hit}
 use Rattle.xl_tlb.proofs.SmallLemmas.{filled-small}
-use Rattle.std.proofs.Common.{ap, ◌∙◌}
+use Rattle.std.proofs.Common.{ap, sym, ◌∙◌}
 use Rattle.xl_tlb.specs.Tlbs.{spec_of}
 use Rattle.xl_tlb.proofs.LevelLemmas.{spec_filled}
 use Rattle.xl_tlb.proofs.any.AnyArray.fill_hit.Goals as goal
@@ -11,8 +11,9 @@ pub invariant_of-self : goal.invariant_of-self
 invariant_of-self c =
     let old = array_in c.self.inside.array in
     record {
-      counts = rw c.fill_hit_in_array-filled.ensures.grown (c.raised-self-inside.ensures (leaves_in_sets old.sets) c.self.invariant.counts);
+      counts = rw c.fill_hit_in_array-filled.ensures.grown (c.raise.ensures (leaves_in_sets old.sets) c.self.invariant.counts);
       smalls = λ none. rw c.fill_hit_in_array-filled.ensures.array
           (filled-small (leaf_hit c.args.space c.args.page c.args.hit) old (c.with_order-self-inside.ensures.new none) (c.self.invariant.smalls (c.with_order-self-inside.ensures.old none)));
-      kind = rw (ap spec_of c.fill_hit_in_array-filled.ensures.array ∙ spec_filled (leaf_hit c.args.space c.args.page c.args.hit) old) c.self.invariant.kind;
+      spec_is = c.self.invariant.spec_is ∙ sym (ap spec_of c.fill_hit_in_array-filled.ensures.array ∙ spec_filled (leaf_hit c.args.space c.args.page c.args.hit) old);
+      some = c.self.invariant.some;
     }

@@ -1,3 +1,4 @@
+use Rattle.std.proofs.Common.{sym, ◌∙◌}
 use Rattle.xl_tlb.specs.Any.{array_in}
 use Rattle.xl_tlb.proofs.HeldLemmas.{looked-held}
 use Rattle.xl_tlb.proofs.SmallLemmas.{looked-small}
@@ -12,5 +13,6 @@ invariant_of-self c =
     record {
       counts = rw (looked-held c.args.space c.args.page c.look_in_array.result old new is.some is.none) c.self.invariant.counts;
       smalls = λ none. looked-small c.args.space c.args.page c.look_in_array.result old new is.some is.none (c.self.invariant.smalls none);
-      kind = rw (spec_looked c.args.space c.args.page c.look_in_array.result old new is.some is.none) c.self.invariant.kind;
+      spec_is = c.self.invariant.spec_is ∙ sym (spec_looked c.args.space c.args.page c.look_in_array.result old new is.some is.none);
+      some = c.self.invariant.some;
     }

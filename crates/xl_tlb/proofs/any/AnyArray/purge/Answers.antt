@@ -1,4 +1,4 @@
-use Rattle.std.proofs.Common.{◌≡◌, ◌∙◌, ap, arith}
+use Rattle.std.proofs.Common.{◌≡◌, ◌∙◌, ap, sym, arith}
 use Rattle.std.proofs.lemmas.Bool.Decides.{nat_tests}
 use Rattle.xl_model.specs.Tlb.{is_purged, leaves_in_sets}
 use Rattle.xl_tlb.specs.Any.{array_in}
@@ -14,7 +14,8 @@ invariant_of-self c =
     record {
       counts = c.lowered-self-inside.ensures (leaves_in_sets old.sets) (leaves_in_sets new.sets) c.self.invariant.counts c.purge_in-left.ensures.left;
       smalls = λ none. rw c.purge_in-left.ensures.array (purged-small (is_purged c.args.purge c.args.leaf) old (c.self.invariant.smalls none));
-      kind = rw (ap spec_of c.purge_in-left.ensures.array) c.self.invariant.kind;
+      spec_is = c.self.invariant.spec_is ∙ sym (ap spec_of c.purge_in-left.ensures.array);
+      some = c.self.invariant.some;
     }
 
 pub returns-then-self-eq0-clause-array : goal.returns-then-self-eq0-clause-array

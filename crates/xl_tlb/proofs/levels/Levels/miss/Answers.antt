@@ -9,4 +9,4 @@ pub returns-clause-after : goal.returns-clause-after
 returns-clause-after c =
     let t = c.self.inside in
     let none : AllMiss c.args.space c.args.page t.arrays.items = rw (← c.self.view_is) at c.requires in
-    rw (← c.self.view_is) (miss_after c.args.space c.args.page t.arrays.items t.hits t.misses c.count_first_misses.new.misses t.fills none (rw c.deref.ensures.value at c.count_first_misses.ensures))
+    rw (← c.self.view_is) (miss_after c.args.space c.args.page t.arrays.items t.hits t.misses c.count_misses.new.misses t.fills none (rw c.deref.ensures.value at c.count_misses.ensures))

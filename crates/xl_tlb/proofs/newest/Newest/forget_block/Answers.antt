@@ -1,5 +1,6 @@
 use Rattle.std.proofs.Common.{◌%◌, set, refl}
 use Rattle.xl_tlb.specs.declared.newest.Newest.{Newest}
+use Rattle.xl_tlb.specs.Known.{no_key}
 use Rattle.xl_tlb.proofs.KnownLemmas.{forgot_one}
 use Rattle.xl_tlb.proofs.newest.Newest.forget_block.Goals as goal
 use Rattle.xl_tlb.proofs.newest.Newest.forget_block.Goals.{then-not-eights, else-not-eights}
@@ -9,6 +10,6 @@ returns c = λ old new known stay.
     let n : Newest = c.if-not-eights.self in
     let place = c.args.block % 8 in
     elim c.if-not-eights.branch [
-      | then-not-eights w ↦ rw w.self-is (forgot_one w.forget.new.self (record w.forget.new.self { keys = set w.forget.new.self.keys place 0 }) place new new refl refl (w.forget.ensures new) (λ space page word other front. front))
-      | else-not-eights w ↦ rw w.self-is (forgot_one c.args.self.now (record c.args.self.now { keys = set c.args.self.now.keys place 0 }) place old new refl refl known (stay w.if-not-eights.false))
+      | then-not-eights w ↦ rw w.self-is (forgot_one w.forget.new.self (record w.forget.new.self { keys = set w.forget.new.self.keys place no_key }) place new new refl refl (w.forget.ensures new) (λ space page word other front. front))
+      | else-not-eights w ↦ rw w.self-is (forgot_one c.args.self.now (record c.args.self.now { keys = set c.args.self.now.keys place no_key }) place old new refl refl known (stay w.if-not-eights.false))
     ]

@@ -4,20 +4,13 @@ use Rattle.xl_tlb.proofs.StayLemmas.{small_fill_stays}
 use Rattle.xl_tlb.proofs.tlb.Tlb.fill_in_front.Goals as goal
 
 pub invariant_of-self : goal.invariant_of-self
-invariant_of-self c =
+invariant_of-self g c =
     let old = c.self.inside.levels in
-    let new = c.fill_small-front.new.self in
-    let stay : c.has_eights-eights.result ≡ true → FrontsStay (c.args.first % 8) old.arrays new.arrays = λ t.
-    rw c.fill_small-front.ensures.after (small_fill_stays c.args.space c.args.first c.args.word old (c.has_eights-eights.ensures t)) in
-    record { fronts = c.forget_block.ensures old.arrays new.arrays c.self.invariant.fronts stay; missed = c.forget.ensures new.arrays }
-
-pub invariant_of-self-2 : goal.invariant_of-self-2
-invariant_of-self-2 c =
-    let old = c.self.inside.levels in
-    let new = c.fill_small-front.new.self in
-    let stay : c.has_eights-eights.result ≡ true → FrontsStay (c.args.first % 8) old.arrays new.arrays = λ t.
-    rw c.fill_small-front.ensures.after (small_fill_stays c.args.space c.args.first c.args.word old (c.has_eights-eights.ensures t)) in
+    let new = c.fill_small.new.self in
+    let s = c.of-sought.result in
+    let stay : c.has_eights-eights.result ≡ true → FrontsStay (s.page % 8) old.arrays new.arrays = λ t.
+    rw c.fill_small.ensures.after (small_fill_stays s.space s.page c.args.word old (c.has_eights-eights.ensures t)) in
     record {
-      fronts = c.keep.ensures new.arrays (c.forget_block.ensures old.arrays new.arrays c.self.invariant.fronts stay) (c.fill_small-front.ensures.front c.if-not-front.false);
+      fronts = c.keep.ensures new.arrays (c.forget_block.ensures old.arrays new.arrays c.self.invariant.fronts stay) c.fill_small.ensures.front;
       missed = c.forget.ensures new.arrays;
     }

@@ -1,10 +1,10 @@
 use Rattle.std.proofs.Common.{true, ◌≡◌, ◌%◌}
 use Rattle.xl_tlb.specs.Fronts.{FrontsStay}
 use Rattle.xl_tlb.proofs.StayLemmas.{small_stays}
-use Rattle.xl_tlb.proofs.tlb.Tlb.search_small.Goals as goal
+use Rattle.xl_tlb.proofs.tlb.Tlb.search.Goals as goal
 
 pub invariant_of-self : goal.invariant_of-self
-invariant_of-self c =
+invariant_of-self g c =
     let old = c.self.inside.levels in
     let new = c.hit_small.new.self in
     let is = c.in-Word.ensures in
