@@ -24,7 +24,7 @@ fn serve_demand<S: Structure>(machine: &mut Machine<S>, va: u64, kind: Kind, are
         return;
     };
     if let Outcome::Done = machine.step(map_for(area, va)) {
-        let _reply = machine.access_again(va, kind);
+        let _reply = machine.access(va, kind);
     }
 }
 

@@ -1,8 +1,10 @@
 -- A look that no array answers.
-use Rattle.std.proofs.Common.{◌≡◌, ℕ, List, [], ◌∷◌, Option, None, refl, sym, ◌∙◌, ap}
+use Rattle.std.proofs.Common.{◌≡◌, ℕ, true, List, [], ◌∷◌, length, get_or, set, Option, None, refl, sym, ◌∙◌, ap, arith}
+use Rattle.xl_model.specs.Base.{plus}
 use Rattle.xl_model.specs.Tally.{counted}
-use Rattle.xl_model.specs.Tlb.{TlbArray, Answer, answer_of, hits_at, misses_at}
-use Rattle.xl_tlb.specs.Fronts.{AllMiss}
+use Rattle.xl_model.specs.Tlb.{TlbArray, Answer, answer_of, array_hit, hits_at, misses_at}
+use Rattle.xl_tlb.specs.Answers.{IsNowhere}
+use Rattle.xl_tlb.specs.Fronts.{AllMiss, AreMissed}
 use Rattle.xl_tlb.specs.Tlbs.{tlb_of, told, leaf_told, looked_arrays, tlb_looked}
 use Rattle.xl_tlb.proofs.TlbLemmas.{look_missed}
 
@@ -11,7 +13,7 @@ module _ (space page : ℕ) where
   no_answer [] m = refl
   no_answer (a ∷ rest) m = rw (← m.0) (no_answer rest m.1)
 
-  pub miss_told : (arrays : List TlbArray) → AllMiss space page arrays → None ≡ leaf_told (answer_of arrays space page)
+  miss_told : (arrays : List TlbArray) → AllMiss space page arrays → None ≡ leaf_told (answer_of arrays space page)
   miss_told arrays m = ap leaf_told (sym (no_answer arrays m))
 
   no_hits : (arrays : List TlbArray) (ns : List ℕ) → AllMiss space page arrays → ns ≡ counted (hits_at None space page) arrays ns
@@ -19,7 +21,7 @@ module _ (space page : ℕ) where
   no_hits (a ∷ rest) [] m = refl
   no_hits (a ∷ rest) (n ∷ ns) m = rw (← m.0) (ap (λ (z : List ℕ). n ∷ z) (no_hits rest ns m.1))
 
-  pub miss_after : (arrays : List TlbArray) (hits misses new : List ℕ) (fills : ℕ) → AllMiss space page arrays → new ≡ counted (misses_at None space page) arrays misses
+  miss_after : (arrays : List TlbArray) (hits misses new : List ℕ) (fills : ℕ) → AllMiss space page arrays → new ≡ counted (misses_at None space page) arrays misses
       → tlb_of arrays hits new fills ≡ tlb_looked space page (tlb_of arrays hits misses fills)
   miss_after arrays hits misses new fills m e =
       let none : None ≡ answer_of arrays space page = sym (no_answer arrays m) in
@@ -28,3 +30,28 @@ module _ (space page : ℕ) where
       (no_hits arrays hits m ∙ ap (λ (o : Option Answer). counted (hits_at o space page) arrays hits) none)
       (e ∙ ap (λ (o : Option Answer). counted (misses_at o space page) arrays misses) none)
       (ap (λ (o : Option Answer). told o arrays) none)
+
+  one_missed : (a : TlbArray) → None ≡ array_hit a space page → misses_at None space page a ≡ true
+  one_missed a e = rw (← e) refl
+
+  -- a miss of each of one or two arrays is counted
+  pub miss_one : (arrays : List TlbArray) (ns : List ℕ) → AreMissed space page arrays → (length arrays ≡ 2 → ⊥) → set ns 0 (plus (get_or ns 0 0) 1) ≡ counted (misses_at None space page) arrays ns
+  miss_one [] ns m two = absurd (omega (arith, m.some))
+  miss_one (a ∷ []) [] m two = refl
+  miss_one (a ∷ []) (n ∷ ns) m two = rw (one_missed a m.missed.0) refl
+  miss_one (a ∷ b ∷ rest) ns m two = absurd (two (let f = m.few in omega (arith, f)))
+
+  pub miss_two : (arrays : List TlbArray) (ns : List ℕ) → AreMissed space page arrays → length arrays ≡ 2 → set (set ns 0 (plus (get_or ns 0 0) 1)) 1 (plus (get_or (set ns 0 (plus (get_or ns 0 0) 1)) 1 0) 1) ≡ counted (misses_at None space page) arrays ns
+  miss_two [] ns m two = absurd (omega (arith, two))
+  miss_two (a ∷ []) ns m two = absurd (omega (arith, two))
+  miss_two (a ∷ b ∷ []) [] m two = refl
+  miss_two (a ∷ b ∷ []) (n ∷ []) m two = rw (one_missed a m.missed.0) refl
+  miss_two (a ∷ b ∷ []) (n ∷ k ∷ ns) m two = rw (one_missed a m.missed.0, one_missed b m.missed.1.0) refl
+  miss_two (a ∷ b ∷ c ∷ rest) ns m two = absurd (omega (arith, two))
+
+  pub missed_after : (arrays : List TlbArray) (hits misses new : List ℕ) (fills : ℕ) → AreMissed space page arrays → new ≡ counted (misses_at None space page) arrays misses
+      → IsNowhere space page (tlb_of arrays hits misses fills) (tlb_of arrays hits new fills)
+  missed_after arrays hits misses new fills m e = record {
+    found = miss_told arrays m.missed;
+    after = miss_after arrays hits misses new fills m.missed e;
+  }

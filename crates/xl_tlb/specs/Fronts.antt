@@ -1,5 +1,5 @@
 -- A look that a leaf of 4 KiB of the first array answers: it comes to the front of its set, or stands there.
-use Rattle.std.specs.Prelude.{ℕ, suc, ◌≡◌, ◌%◌, List, [], ◌∷◌, map, true, None, Some}
+use Rattle.std.specs.Prelude.{ℕ, suc, ◌≡◌, ◌<◌, ◌≤◌, ◌%◌, List, [], ◌∷◌, length, map, true, None, Some}
 use Rattle.xl_model.specs.declared.address.Order.TheVariants as order
 use Rattle.xl_model.specs.Recency.{touched}
 use Rattle.xl_model.specs.Tlb.{TlbArray, array_filled, array_hit, covers_as, found_as, set_at, takes_order}
@@ -32,11 +32,17 @@ abbrev pub AllMiss : ℕ → ℕ → List TlbArray → Type 0
 AllMiss space page [] = Unit {0}
 AllMiss space page (a ∷ rest) = (None ≡ array_hit a space page) × AllMiss space page rest
 
+-- There are one or two arrays, and each of them misses.
+pub record AreMissed (space page : ℕ) (arrays : List TlbArray) : Type 0 where
+  pub missed : AllMiss space page arrays
+  pub some : 0 < length arrays
+  pub few : length arrays ≤ 2
+
 -- What a look for a leaf of 4 KiB tells, and what it leaves.
 abbrev pub IsSmallLook : ℕ → ℕ → Small → List TlbArray → List TlbArray → Type 0
 IsSmallLook space page (small.First word) old new = IsFirstHit space page word old new
 IsSmallLook space page (small.Second word) old new = IsSecondHit space page word old new
-IsSmallLook space page small.Nowhere old new = AllMiss space page old × (new ≡ old)
+IsSmallLook space page small.Nowhere old new = AreMissed space page old × (new ≡ old)
 IsSmallLook space page small.Unknown old new = new ≡ old
 
 -- The first of the arrays finds a leaf so, and is alone in its level.

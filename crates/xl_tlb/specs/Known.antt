@@ -3,9 +3,8 @@ use Rattle.std.specs.Prelude.{ℕ, ◌≡◌, ◌<◌, ◌%◌, ◌^◌, List, s
 use Rattle.xl_model.specs.Tlb.{TlbArray}
 use Rattle.xl_model.specs.declared.address.Order.TheVariants as order
 use Rattle.xl_tlb.specs.Coding.{tag_of}
-use Rattle.xl_tlb.specs.Fronts.{IsFront, AllMiss}
+use Rattle.xl_tlb.specs.Fronts.{IsFront}
 use Rattle.xl_tlb.specs.declared.newest.Newest.{Newest}
-use Rattle.xl_tlb.specs.declared.newest.Missed.{Missed}
 
 -- What stands where no page is known.
 abbrev pub no_key : ℕ
@@ -20,12 +19,3 @@ pub record IsKey (key space page : ℕ) : Type 0 where
 -- A page's place is its last three bits. Each page whose key stands there is answered by the leaf with the word beside the key, and that is the newest of its set.
 abbrev pub Knows : Newest → List TlbArray → Type 0
 Knows n arrays = (space page : ℕ) → IsKey (slice_index_or n.keys (page % 8) no_key) space page → IsFront space page (slice_index_or n.words (page % 8) 0) arrays
-
--- No array answers the page whose key is kept.
-abbrev pub Misses : Missed → List TlbArray → Type 0
-Misses m arrays = (space page : ℕ) → IsKey m.key space page → AllMiss space page arrays
-
--- What is remembered of the arrays: fronts of the first one, and a page that none answers.
-pub record Remembers (n : Newest) (m : Missed) (arrays : List TlbArray) : Type 0 where
-  pub fronts : Knows n arrays
-  pub missed : Misses m arrays

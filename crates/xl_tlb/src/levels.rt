@@ -6,8 +6,8 @@ ghost use Rattle.xl_model.specs.Base.{one_if};
 ghost use Rattle.xl_model.specs.Tlb.{answer_of, leaves_in, takes_leaf, takes_order, array_filled, array_without, is_purged, reaches_leaf};
 ghost use Rattle.xl_model.specs.declared.address.Order.TheVariants as order_of;
 ghost use Rattle.xl_tlb.specs.Arrays.{IsFit, InLimits};
-ghost use Rattle.xl_tlb.specs.Answers.{IsAnswered};
-ghost use Rattle.xl_tlb.specs.Fronts.{IsFront, AllMiss, HasEights};
+ghost use Rattle.xl_tlb.specs.Answers.{IsAnswered, IsNowhere};
+ghost use Rattle.xl_tlb.specs.Fronts.{IsFront, AreMissed, HasEights};
 ghost use Rattle.xl_model.specs.LeafWords.{small_leaf};
 ghost use Rattle.xl_tlb.specs.Paths.{AtMostOne, IsFill, IsPath, IsReady};
 ghost use Rattle.xl_tlb.specs.Sought.{IsSought};
@@ -16,16 +16,17 @@ ghost use Rattle.xl_tlb.specs.Tlbs.{spec_of, leaf_told, tlb_opening, AreSpecs, I
 
 use crate::any::AnyArray;
 use crate::coding::Hit;
-use crate::look::{Small, are_common, count_misses, has_eights, is_straight, look_in, look_small};
+use crate::look::{Small, are_common, has_eights, is_straight, look_in, look_small};
 use crate::sought::Sought;
 use arrayvec::ArrayVec;
 use std::alloc::Global;
 use std::marker::Model;
 use xl_model::{Leaf, NoMemory, Order, Purge, Reach, TlbSpec};
 
-/// What a look for a leaf of 4 KiB told: the leaf's word; or that no array answers; or nothing.
+/// What a look for a leaf of 4 KiB told: the leaf's word; or that no array answers; or nothing, and then
+/// nothing changed.
 #[derive(Clone, Copy)]
-pub(crate) enum Answered {
+pub enum Answered {
     Word { word: u64 },
     Nowhere,
     Unknown,
@@ -207,8 +208,8 @@ impl Levels {
     }
 
     /// Does what `look` does, where the leaf of 4 KiB that is sought stands in the first array or in the second
-    /// one, and gives the leaf's word: it is the newest of its set of the first array then. Elsewhere nothing
-    /// changes, and that no array answers is told where no larger leaf was held.
+    /// one, and gives the leaf's word: it is the newest of its set of the first array then. So too where no
+    /// array answers and no larger leaf was held.
     #[inline(always)]
     pub fn hit_small<const COMMON: bool>(&mut self, sought: Sought) -> Answered
         requires sought { IsSought order_of.K4 sought }
@@ -226,20 +227,25 @@ impl Levels {
                 self.fills = self.fills.wrapping_add(1);
                 Answered::Word { word }
             }
-            Small::Nowhere => Answered::Nowhere,
+            Small::Nowhere => {
+                self.miss(sought.space, sought.page);
+                Answered::Nowhere
+            }
             Small::Unknown => Answered::Unknown,
         }
     }
 
-    /// Looks for a page that no array answers: that counts a miss of each, and changes nothing else.
-    #[inline]
-    pub fn miss(&mut self, space: u16, page: u64)
-        requires { AllMiss space page self.old.arrays }
-        ensures found { None ≡ leaf_told (answer_of self.old.arrays space page) }
-        ensures after { self.new ≡ tlb_looked space page self.old }
-        ensures stays { self.new.arrays ≡ self.old.arrays }
+    /// Looks for a page in one or two arrays that don't answer it: that counts a miss of each, and changes
+    /// nothing else.
+    #[inline(always)]
+    fn miss(&mut self, _space: u16, _page: u64)
+        requires { AreMissed _space _page self.old.arrays }
+        ensures { IsNowhere _space _page self.old self.new }
     {
-        count_misses(&self.arrays, &mut self.misses, space, page);
+        self.misses[0] = self.misses[0].wrapping_add(1);
+        if self.arrays.len() == 2 {
+            self.misses[1] = self.misses[1].wrapping_add(1);
+        }
     }
 
     /// Looks for a page that the newest leaf of a set of the first array answers, with this word: that

@@ -2,8 +2,8 @@
 
 ghost use Rattle.std.specs.Prelude.{true, ◌≡◌, ◌<◌, ◌^◌, ◌+◌, ◌*◌, ◌%◌, List, IfSome};
 ghost use Rattle.xl_model.specs.Tlb.{TlbArray};
-ghost use Rattle.xl_tlb.specs.Fronts.{IsFront, FrontsStay, AllMiss};
-ghost use Rattle.xl_tlb.specs.Known.{Knows, Misses};
+ghost use Rattle.xl_tlb.specs.Fronts.{IsFront, FrontsStay};
+ghost use Rattle.xl_tlb.specs.Known.{Knows};
 ghost use Rattle.xl_tlb.specs.Sought.{IsSought};
 ghost use Rattle.xl_model.specs.declared.address.Order.TheVariants as order;
 
@@ -78,48 +78,5 @@ impl Newest {
         let place = (sought.page % 8) as usize;
         self.keys[place] = sought.tag;
         self.words[place] = word;
-    }
-}
-
-/// The page that no array answered at the last look for a leaf of 4 KiB, by the tag of its leaf.
-#[derive(Clone, Copy, Debug)]
-pub(crate) struct Missed {
-    key: u64,
-}
-
-impl Missed {
-    /// No page is known.
-    pub fn none() -> Missed
-        ensures { (arrays : List TlbArray) → Misses result arrays }
-    {
-        Missed { key: NONE }
-    }
-
-    /// No page is known from now on.
-    #[inline]
-    pub fn forget(&mut self)
-        ensures { (arrays : List TlbArray) → Misses self.new arrays }
-    {
-        self.key = NONE;
-    }
-
-    /// Keeps a page that no array answers.
-    #[inline]
-    pub fn keep(&mut self, sought: Sought)
-        requires { IsSought order.K4 sought }
-        ensures { (arrays : List TlbArray) → AllMiss sought.space sought.page arrays
-            → Misses self.new arrays }
-    {
-        self.key = sought.tag;
-    }
-
-    /// Whether no array is known to answer the page.
-    #[inline]
-    pub fn knows(&self, sought: Sought) -> bool
-        requires { IsSought order.K4 sought }
-        ensures { (arrays : List TlbArray) → Misses self.now arrays
-            → result ≡ true → AllMiss sought.space sought.page arrays }
-    {
-        self.key == sought.tag
     }
 }

@@ -1,12 +1,21 @@
-use Rattle.xl_tlb.specs.Fronts.{AllMiss}
-use Rattle.xl_tlb.proofs.MissLemmas.{miss_told, miss_after}
+use Rattle.std.proofs.Common.{◌≡◌, length, sym, ◌∙◌, arith}
+use Rattle.std.proofs.lemmas.Bool.Decides.{nat_tests}
+use Rattle.xl_tlb.specs.Fronts.{AreMissed}
+use Rattle.xl_tlb.proofs.MissLemmas.{miss_one, miss_two, missed_after}
 use Rattle.xl_tlb.proofs.levels.Levels.miss.Goals as goal
 
-pub returns-clause-found : goal.returns-clause-found
-returns-clause-found c = miss_told c.args.space c.args.page c.args.self.now.arrays c.requires
-
-pub returns-clause-after : goal.returns-clause-after
-returns-clause-after c =
+pub returns-then-len-eq2 : goal.returns-then-len-eq2
+returns-then-len-eq2 c =
     let t = c.self.inside in
-    let none : AllMiss c.args.space c.args.page t.arrays.items = rw (← c.self.view_is) at c.requires in
-    rw (← c.self.view_is) (miss_after c.args.space c.args.page t.arrays.items t.hits t.misses c.count_misses.new.misses t.fills none (rw c.deref.ensures.value at c.count_misses.ensures))
+    let missed : AreMissed c.args._space c.args._page t.arrays.items = rw (← c.self.view_is) at c.requires in
+    let is = c.if-len-eq2.true in
+    let two : length t.arrays.items ≡ 2 = omega (arith, t.arrays.ok.0, c.len.ensures, is) in
+    rw (← c.self.view_is) (missed_after c.args._space c.args._page t.arrays.items t.hits t.misses _ t.fills missed (miss_two c.args._space c.args._page t.arrays.items t.misses missed two))
+
+pub returns-else-len-eq2 : goal.returns-else-len-eq2
+returns-else-len-eq2 c =
+    let t = c.self.inside in
+    let missed : AreMissed c.args._space c.args._page t.arrays.items = rw (← c.self.view_is) at c.requires in
+    let isnt = c.if-len-eq2.false in
+    rw (← c.self.view_is) (missed_after c.args._space c.args._page t.arrays.items t.hits t.misses _ t.fills missed
+    (miss_one c.args._space c.args._page t.arrays.items t.misses missed (λ two. absurd (omega (arith, t.arrays.ok.0, c.len.ensures, isnt, two)))))

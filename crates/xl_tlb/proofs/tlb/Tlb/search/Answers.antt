@@ -1,6 +1,9 @@
-use Rattle.std.proofs.Common.{true, ◌≡◌, ◌%◌}
+use Rattle.std.proofs.Common.{true, ◌≡◌, ◌%◌, List, sym, ap, subst, ◌∙◌}
+use Rattle.xl_model.specs.Tlb.{TlbArray}
 use Rattle.xl_tlb.specs.Fronts.{FrontsStay}
-use Rattle.xl_tlb.proofs.StayLemmas.{small_stays}
+use Rattle.xl_tlb.specs.Known.{Knows}
+use Rattle.xl_tlb.specs.Tlbs.{TlbState}
+use Rattle.xl_tlb.proofs.StayLemmas.{look_none, small_stays}
 use Rattle.xl_tlb.proofs.tlb.Tlb.search.Goals as goal
 
 pub invariant_of-self : goal.invariant_of-self
@@ -10,7 +13,11 @@ invariant_of-self g c =
     let is = c.in-Word.ensures in
     let stay : c.has_eights-eights.result ≡ true → FrontsStay (c.args.page % 8) old.arrays new.arrays = λ t.
     rw is.after (small_stays c.args.space c.args.page c.in-Word.word old is.found (c.has_eights-eights.ensures t)) in
-    record {
-      fronts = c.keep.ensures new.arrays (c.forget_block.ensures old.arrays new.arrays c.self.invariant.fronts stay) is.front;
-      missed = c.forget.ensures new.arrays;
-    }
+    c.keep.ensures new.arrays (c.forget_block.ensures old.arrays new.arrays c.self.invariant stay) is.front
+
+pub invariant_of-self-in-Nowhere : goal.invariant_of-self-in-Nowhere
+invariant_of-self-in-Nowhere g c =
+    let old = c.self.inside.levels in
+    let is = c.in-Nowhere.ensures in
+    let same : c.hit_small.new.self.arrays ≡ old.arrays = ap (λ (t : TlbState). t.arrays) is.after ∙ look_none c.args.space c.args.page old is.found in
+    subst (λ (arrays : List TlbArray). Knows c.self.inside.newest arrays) (sym same) c.self.invariant
