@@ -1,5 +1,5 @@
 -- What is known of pages after one was kept or forgotten.
-use Rattle.std.proofs.Common.{◌≡◌, ◌≢◌, ℕ, zero, suc, ◌*◌, ◌/◌, ◌%◌, ◌==◌, ◌<◌, ◌^◌, ◌+◌, ◌-◌, Bool, true, false, List, [], ◌∷◌, get_or, set, length, refl, sym, ◌∙◌, ap, subst, arith}
+use Rattle.std.proofs.Common.{◌≡◌, ◌≢◌, ℕ, zero, suc, ◌*◌, ◌%◌, ◌==◌, ◌<◌, ◌+◌, Bool, true, false, List, [], ◌∷◌, get_or, set, length, refl, ◌∙◌, ap, subst, arith}
 use Rattle.std.proofs.lemmas.Bool.Decides.{nat_tests}
 use Rattle.std.proofs.lemmas.List.{get_or-set_other}
 use Rattle.xl_model.specs.declared.address.Order.TheVariants as order

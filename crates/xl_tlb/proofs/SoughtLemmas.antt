@@ -1,5 +1,5 @@
 -- What stays known of an array that was touched or filled with a tag.
-use Rattle.std.proofs.Common.{◌≡◌, ℕ, Bool, Option, refl, sym, ◌∙◌, ap, subst}
+use Rattle.std.proofs.Common.{ℕ, Bool, Option, refl, sym, ◌∙◌, ap}
 use Rattle.xl_model.specs.declared.address.Order.TheVariants as order
 use Rattle.xl_model.specs.declared.row.TlbSpec.{TlbSpec}
 use Rattle.xl_model.specs.LeafWords.{small_leaf}

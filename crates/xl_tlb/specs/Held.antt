@@ -1,5 +1,5 @@
 -- What is known of an array beside it.
-use Rattle.std.specs.Prelude.{ℕ, ◌≡◌, ◌<◌, ◌^◌, ◌-◌, ◌%◌, Bool, true, false, List}
+use Rattle.std.specs.Prelude.{ℕ, ◌≡◌, ◌<◌, ◌^◌, ◌-◌, Bool, false, List}
 use Rattle.std.specs.List.{All}
 use Rattle.xl_model.specs.declared.address.Order.TheVariants as order
 use Rattle.xl_model.specs.declared.leaf.Leaf.{Leaf}

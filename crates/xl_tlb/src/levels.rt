@@ -32,13 +32,15 @@ pub enum Answered {
     Unknown,
 }
 
-/// How a leaf of 4 KiB is looked for: in all levels in turn; straight in the first two arrays, where they take
-/// such leaves and are each alone in their level; or so and all in line, where there are no others and both are
-/// common ones.
+/// How a leaf of 4 KiB is looked for.
 #[derive(Clone, Copy)]
 pub(crate) enum Path {
+    /// In all levels in turn.
     InTurn,
+    /// Straight in the first two arrays: they take such leaves, and each is alone in its level.
     Straight,
+    /// So and all in line: there are no others, both are common ones, and the sets of the first are a multiple
+    /// of eight.
     Common,
 }
 
@@ -99,6 +101,7 @@ fn fill_second<const COMMON: bool>(arrays: &mut [AnyArray], sought: Sought, word
     };
     let set = second.set_of::<COMMON>(sought);
     second.fill_in::<COMMON>(set, sought, word);
+    // Common arrays are two at most.
     if COMMON {
         return 1;
     }

@@ -1,6 +1,5 @@
 use Rattle.std.proofs.Common.{◌∷◌, map}
 use Rattle.xl_tlb.specs.Fronts.{FirstHit}
-use Rattle.xl_tlb.specs.Paths.{IsReady}
 use Rattle.xl_tlb.specs.Tlbs.{spec_of}
 use Rattle.xl_tlb.proofs.PathLemmas.{ready_straight}
 use Rattle.xl_tlb.proofs.look.look_small.Goals as goal

@@ -1,4 +1,4 @@
-use Rattle.std.proofs.Common.{◌≡◌, ◌∙◌, sym}
+use Rattle.std.proofs.Common.{◌∙◌}
 use Rattle.xl_model.specs.Rows.{row_of}
 use Rattle.xl_machine.proofs.Accesses.{page_small, hit_reached, hit_kept, hit_reply, hit_after, missed_after, same_reply}
 use Rattle.xl_machine.proofs.machine.Machine.access_in_turn.Goals as goal

@@ -1,4 +1,4 @@
-use Rattle.std.proofs.Common.{◌⊎◌, inl, inr, sym, ◌∙◌}
+use Rattle.std.proofs.Common.{inl, inr, sym, ◌∙◌}
 use Rattle.xl_tlb.specs.Arrays.{IsCommon}
 use Rattle.xl_tlb.proofs.array.Array.not_common.Goals as goal
 

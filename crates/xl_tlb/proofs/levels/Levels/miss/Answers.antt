@@ -1,5 +1,4 @@
-use Rattle.std.proofs.Common.{◌≡◌, length, sym, ◌∙◌, arith}
-use Rattle.std.proofs.lemmas.Bool.Decides.{nat_tests}
+use Rattle.std.proofs.Common.{◌≡◌, length, arith}
 use Rattle.xl_tlb.specs.Fronts.{AreMissed}
 use Rattle.xl_tlb.proofs.MissLemmas.{miss_one, miss_two, missed_after}
 use Rattle.xl_tlb.proofs.levels.Levels.miss.Goals as goal
