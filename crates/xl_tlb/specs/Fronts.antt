@@ -7,7 +7,7 @@ use Rattle.xl_tlb.specs.declared.look.Small.{Small}
 use Rattle.xl_tlb.specs.declared.look.Small.TheVariants as small
 use Rattle.xl_model.specs.LeafWords.{small_leaf}
 use Rattle.xl_tlb.specs.Hits.{word_touched}
-use Rattle.xl_tlb.specs.Tlbs.{spec_of, NoneBelow}
+use Rattle.xl_tlb.specs.Tlbs.{spec_of, IsByEight, NoneBelow}
 
 -- The array finds a 4 KiB leaf with this word, which comes to the front of its set.
 pub record IsTouch (space page word : ℕ) (a new : TlbArray) : Type 0 where
@@ -51,8 +51,7 @@ pub data IsFront (space page word : ℕ) : List TlbArray → Type 0 where
 
 -- The sets of the first array are a multiple of eight, if there is one.
 abbrev pub HasEights : List TlbArray → Type 0
-HasEights [] = Unit {0}
-HasEights (a ∷ rest) = a.spec.sets % 8 ≡ 0
+HasEights arrays = IsByEight (map spec_of arrays)
 
 -- Leaves that stand in front still do, but those of pages whose last three bits are these.
 abbrev pub FrontsStay : ℕ → List TlbArray → List TlbArray → Type 0

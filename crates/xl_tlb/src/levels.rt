@@ -9,14 +9,16 @@ ghost use Rattle.xl_tlb.specs.Arrays.{IsFit, InLimits};
 ghost use Rattle.xl_tlb.specs.Answers.{IsAnswered, IsNowhere};
 ghost use Rattle.xl_tlb.specs.Fronts.{IsFront, AreMissed, HasEights};
 ghost use Rattle.xl_model.specs.LeafWords.{small_leaf};
-ghost use Rattle.xl_tlb.specs.Paths.{AtMostOne, IsFill, IsPath, IsReady};
-ghost use Rattle.xl_tlb.specs.Sought.{IsSought};
+ghost use Rattle.xl_tlb.specs.Paths.{AllCommon, AreCommon, IsPath, IsReady};
+ghost use Rattle.xl_tlb.specs.Sought.{IsFill, IsSought};
 ghost use Rattle.xl_tlb.specs.Hits.{hit_leaf, leaf_hit};
 ghost use Rattle.xl_tlb.specs.Tlbs.{spec_of, leaf_told, tlb_opening, AreSpecs, IsRising, IsAlone, tlb_looked, tlb_filled, tlb_purged, tlb_fenced};
 
 use crate::any::AnyArray;
 use crate::coding::Hit;
-use crate::look::{Small, are_common, has_eights, is_straight, look_in, look_small};
+use crate::look::{
+    Small, are_common, count_behind, first_and_rest, has_eights, is_straight, look_in, look_small,
+};
 use crate::sought::Sought;
 use arrayvec::ArrayVec;
 use std::alloc::Global;
@@ -39,9 +41,11 @@ pub(crate) enum Path {
     InTurn,
     /// Straight in the first two arrays: they take such leaves, and each is alone in its level.
     Straight,
-    /// So and all in line: there are no others, both are common ones, and the sets of the first are a multiple
+    /// So and all in line, in the one array that there is: a common one, whose sets are a multiple of eight.
+    Single,
+    /// So and all in line, in the two arrays that there are: common ones, and the sets of the first are a multiple
     /// of eight.
-    Common,
+    Pair,
 }
 
 /// The arrays of a row in levels, with their counts.
@@ -87,25 +91,23 @@ fn fill_each(arrays: &mut [AnyArray], space: u16, page: u64, hit: Hit) -> u64
     others
 }
 
-/// Fills the arrays but the first with the leaf of 4 KiB that is sought: how many do.
+/// Fills the arrays behind the first with the leaf of 4 KiB that is sought: how many do.
 #[inline(always)]
 #[tactic(auto, using(crate::proofs::TlbLemmas::count_first))]
-fn fill_second<const COMMON: bool>(arrays: &mut [AnyArray], sought: Sought, word: u64) -> u64
+fn fill_second<const COMMON: usize>(arrays: &mut [AnyArray], sought: Sought, word: u64) -> u64
     requires sought { IsSought order_of.K4 sought }
     requires alone { IsAlone (map spec_of arrays.old) }
-    requires common { COMMON ≡ true → AtMostOne (map spec_of arrays.old) }
+    requires common { 0 < COMMON → AllCommon (map spec_of arrays.old) }
+    requires count { 0 < COMMON → 1 + length arrays.old ≡ COMMON }
     ensures { IsFill sought word result arrays.old arrays.new }
 {
-    let Some((second, others)) = arrays.split_first_mut() else {
+    if count_behind::<COMMON>(arrays, 1) == 0 {
         return 0;
-    };
+    }
+    let (second, others) = first_and_rest(arrays);
     let set = second.set_of::<COMMON>(sought);
     second.fill_in::<COMMON>(set, sought, word);
-    // Common arrays are two at most.
-    if COMMON {
-        return 1;
-    }
-    if others.is_empty() {
+    if count_behind::<COMMON>(others, 2) == 0 {
         return 1;
     }
     let hit = Hit {
@@ -118,15 +120,13 @@ fn fill_second<const COMMON: bool>(arrays: &mut [AnyArray], sought: Sought, word
 /// Fills the arrays with the leaf of 4 KiB that is sought: how many do. It is in front of the first then.
 #[inline(always)]
 #[tactic(auto, using(crate::proofs::TlbLemmas::count_first))]
-fn fill_straight<const COMMON: bool>(arrays: &mut [AnyArray], sought: Sought, word: u64) -> u64
+fn fill_straight<const COMMON: usize>(arrays: &mut [AnyArray], sought: Sought, word: u64) -> u64
     requires sought { IsSought order_of.K4 sought }
     requires ready { IsReady COMMON (map spec_of arrays.old) }
     ensures fill { IsFill sought word result arrays.old arrays.new }
     ensures front { IsFront sought.space sought.page word arrays.new }
 {
-    let Some((first, rest)) = arrays.split_first_mut() else {
-        unreachable!()
-    };
+    let (first, rest) = first_and_rest(arrays);
     let set = first.set_of::<COMMON>(sought);
     first.fill_in::<COMMON>(set, sought, word);
     fill_second::<COMMON>(rest, sought, word) + 1
@@ -140,10 +140,14 @@ fn path_of(arrays: &[AnyArray]) -> Path
     if !is_straight(arrays) {
         return Path::InTurn;
     }
-    if !are_common(arrays) {
+    if !are_common(arrays) || !has_eights(arrays) {
         return Path::Straight;
     }
-    Path::Common
+    match arrays.len() {
+        1 => Path::Single,
+        2 => Path::Pair,
+        _ => Path::Straight,
+    }
 }
 
 /// Purges each array: how many items left.
@@ -214,7 +218,7 @@ impl Levels {
     /// one, and gives the leaf's word: it is the newest of its set of the first array then. So too where no
     /// array answers and no larger leaf was held.
     #[inline(always)]
-    pub fn hit_small<const COMMON: bool>(&mut self, sought: Sought) -> Answered
+    pub fn hit_small<const COMMON: usize>(&mut self, sought: Sought) -> Answered
         requires sought { IsSought order_of.K4 sought }
         requires ready { IsReady COMMON (map spec_of self.old.arrays) }
         ensures { IsAnswered sought.space sought.page result self.old self.new }
@@ -231,7 +235,7 @@ impl Levels {
                 Answered::Word { word }
             }
             Small::Nowhere => {
-                self.miss(sought.space, sought.page);
+                self.miss::<COMMON>(sought.space, sought.page);
                 Answered::Nowhere
             }
             Small::Unknown => Answered::Unknown,
@@ -241,12 +245,13 @@ impl Levels {
     /// Looks for a page in one or two arrays that don't answer it: that counts a miss of each, and changes
     /// nothing else.
     #[inline(always)]
-    fn miss(&mut self, _space: u16, _page: u64)
-        requires { AreMissed _space _page self.old.arrays }
+    fn miss<const COMMON: usize>(&mut self, _space: u16, _page: u64)
+        requires missed { AreMissed _space _page self.old.arrays }
+        requires count { 0 < COMMON → length self.old.arrays ≡ COMMON }
         ensures { IsNowhere _space _page self.old self.new }
     {
         self.misses[0] = self.misses[0].wrapping_add(1);
-        if self.arrays.len() == 2 {
+        if count_behind::<COMMON>(&self.arrays, 0) == 2 {
             self.misses[1] = self.misses[1].wrapping_add(1);
         }
     }
@@ -309,7 +314,7 @@ impl Levels {
     /// Puts the leaf of 4 KiB that is sought into the arrays of every level that hold such leaves. It is the
     /// newest of its set of the first array then, and that alone in its level.
     #[inline(always)]
-    pub fn fill_small<const COMMON: bool>(&mut self, sought: Sought, word: u64)
+    pub fn fill_small<const COMMON: usize>(&mut self, sought: Sought, word: u64)
         requires sought { IsSought order_of.K4 sought }
         requires ready { IsReady COMMON (map spec_of self.old.arrays) }
         ensures after { self.new ≡ tlb_filled (small_leaf sought.space sought.page word) self.old }
@@ -339,11 +344,11 @@ impl Levels {
 
     /// Whether the sets of the first array are a multiple of eight.
     #[inline]
-    pub fn has_eights<const COMMON: bool>(&self) -> bool
-        requires { COMMON ≡ true → IsReady true (map spec_of self.now.arrays) }
+    pub fn has_eights<const COMMON: usize>(&self) -> bool
+        requires { 0 < COMMON → AreCommon COMMON (map spec_of self.now.arrays) }
         ensures { result ≡ true → HasEights self.now.arrays }
     {
-        COMMON || has_eights(&self.arrays)
+        COMMON > 0 || has_eights(&self.arrays)
     }
 
     /// Whether there are no arrays. Then a look and a fill change nothing.

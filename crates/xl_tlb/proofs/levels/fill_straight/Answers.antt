@@ -1,13 +1,12 @@
 use Rattle.std.proofs.Common.{◌∷◌, map}
 use Rattle.xl_tlb.specs.Tlbs.{spec_of, IsStraight}
 use Rattle.xl_tlb.proofs.FrontLemmas.{filled_front}
-use Rattle.xl_tlb.proofs.PathLemmas.{ready_straight}
 use Rattle.xl_tlb.proofs.levels.fill_straight.Goals as goal
 
 pub returns-clause-front : goal.returns-clause-front
 returns-clause-front g c =
-    let first = c.in-Some.first.now in
-    let rest = c.in-Some.rest.now in
-    let straight : IsStraight (map spec_of (first ∷ rest)) = ready_straight _ _ (rw c.in-Some.ensures.cases.0 at c.requires.ready) in
+    let first = c.first_and_rest-first.result.0.now in
+    let rest = c.first_and_rest-first.result.1.now in
+    let straight : IsStraight (map spec_of (first ∷ rest)) = rw c.first_and_rest-first.ensures.parts.0 at c.requires.ready.straight in
     filled_front c.args.sought.space c.args.sought.page c.args.word first c.fill_in.new.self rest c.fill_second.new.arrays c.fill_in.ensures.array c.fill_second.ensures.filled
     c.fill_in.ensures.front straight.0.1
