@@ -1,14 +1,6 @@
-//! Tests of the five tables, with their walk caches.
+//! Tests of radix tables and tables of ranges, with their walk caches.
 #![tactic(auto)]
 
-#[cfg(test)]
-mod clustered;
-#[cfg(test)]
-mod cuckoo;
-#[cfg(test)]
-mod cuckoo_walk;
-#[cfg(test)]
-mod hashed;
 #[cfg(test)]
 mod radix;
 #[cfg(test)]

@@ -1,7 +1,7 @@
 use Rattle.std.proofs.Common.{lit<, sym, ◌∙◌, rules}
 use Rattle.xl_tagged.proofs.FindLemmas.{found-named}
 use Rattle.xl_cuckoo_walk.specs.Parts.{row_state}
-use Rattle.xl_table_tests.proofs.cuckoo_walk.moved.Goals as goal
+use Rattle.xl_hash_tests.proofs.cuckoo_walk.moved.Goals as goal
 
 pub relocate-requires : goal.relocate-requires
 unfolding row_state

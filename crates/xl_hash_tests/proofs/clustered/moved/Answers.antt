@@ -4,7 +4,7 @@ use Rattle.xl_tagged.specs.Forms.{Sixteen}
 use Rattle.xl_tagged.specs.Slots.{table_in, held_leaves}
 use Rattle.xl_tagged.proofs.FindLemmas.{found-named}
 use Rattle.xl_tagged.proofs.WholeLemmas.{numbered-block}
-use Rattle.xl_table_tests.proofs.clustered.moved.Goals as goal
+use Rattle.xl_hash_tests.proofs.clustered.moved.Goals as goal
 
 pub meets-requires : goal.meets-requires
 meets-requires c =

@@ -3,7 +3,7 @@ use Rattle.xl_model.specs.Structures.{IsBlock}
 use Rattle.xl_tagged.specs.Forms.{Sixteen}
 use Rattle.xl_tagged.specs.Slots.{table_in}
 use Rattle.xl_tagged.proofs.WholeLemmas.{numbered-block, numbered-leaf}
-use Rattle.xl_table_tests.proofs.clustered.added.Goals as goal
+use Rattle.xl_hash_tests.proofs.clustered.added.Goals as goal
 
 pub meets-requires : goal.meets-requires
 meets-requires c =

@@ -1,0 +1,11 @@
+//! Tests of the tables that find their entries by a hash: chained ones and cuckoo tables.
+#![tactic(auto)]
+
+#[cfg(test)]
+mod clustered;
+#[cfg(test)]
+mod cuckoo;
+#[cfg(test)]
+mod cuckoo_walk;
+#[cfg(test)]
+mod hashed;
