@@ -2,7 +2,8 @@
 use Rattle.std.proofs.Common.{◌≡◌, ℕ, ◌+◌, ◌-◌, ◌≤◌, ◌<◌, Bool, true, false, List, [], ◌++◌, length, take, drop, min, ap, ap₂, arith, ◌∙◌, sym, subst, inl, inr}
 use Rattle.std.specs.Prelude.{Option, None, Some}
 use Rattle.std.proofs.lemmas.Bool.{cases_lt}
-use Rattle.std.proofs.lemmas.List.{take-take, take_all, drop-take, drop_all, take-append-le, length-take, length-take-le, length-drop}
+use Rattle.std.proofs.Math.Seq.{take-append-add}
+use Rattle.std.proofs.lemmas.List.{append-nil, take-take, take_all, drop-take, drop_all, take-append-le, length-append, length-take, length-take-le, length-drop}
 use Rattle.std.specs.List.{copy_within}
 use Rattle.xl_text.specs.Texts.{lines_of, lines_by}
 use Rattle.xl_lackey.specs.declared.fault.Fault.{Fault}
@@ -29,6 +30,16 @@ take_least m n l = elim (cases_lt m n) [ inl k ↦ take_short m n l k | inr k �
 pub take_part : (n start end : ℕ) (buf : List ℕ) → drop start (take (min end (start + n)) buf) ≡ take n (drop start (take end buf))
 take_part n start end buf =
     ap (drop start) (take_least (start + n) end buf) ∙ drop-take start n (take end buf)
+
+pub part_length : (start end : ℕ) (buf : List ℕ) → end ≤ length buf → length (drop start (take end buf)) ≡ end - start
+part_length start end buf h = length-drop start (take end buf) ∙ ap (λ (n : ℕ). n - start) (length-take-le end buf h)
+
+-- bytes that were put in front of a buffer, and so many of those behind them
+pub put_behind : (n count : ℕ) (held piece new : List ℕ) → new ≡ held ++ drop (length held) piece → n ≡ length piece → count + length held ≤ length piece
+    → take (length held + count) (take n (new ++ drop (length new) piece)) ≡ held ++ take count (drop (length held) piece)
+put_behind n count held piece new e same fits =
+    let size : length new ≡ length piece = omega (arith, ap length e, length-append held (drop (length held) piece), length-drop (length held) piece) in
+    rw (drop_all (length new) piece (omega arith), append-nil new, take_all n new (omega arith), e) (take-append-add held (drop (length held) piece) count)
 
 -- a state at which all is read up to here, and no bad line was answered
 left_good : (last : Bool) (s : State) (rest : List ℕ) → s.bad ≡ None → left_by last s rest ≡ records s.lines (lines_by last (s.held ++ rest))

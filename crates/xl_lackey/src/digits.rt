@@ -165,11 +165,21 @@ pub(crate) fn near_address(text: &[u8]) -> Option<(u64, usize)>
 
 /// Two bytes as a number, of which the first counts least.
 #[inline(always)]
-pub(crate) fn pair(text: &[u8]) -> u32
+fn pair(text: &[u8]) -> u32
     requires { 2 ≤ length text.now }
     ensures { result ≡ slice_index text.now 0 + slice_index text.now 1 * 256 }
 {
     u16x1::from_le_bytes(u8x2::from_slice(text)).to_array()[0] as u32
+}
+
+/// Three bytes as a number, of which the first counts least. A fourth is read with them.
+#[inline(always)]
+pub(crate) fn triple(text: &[u8]) -> u32
+    requires { 4 ≤ length text.now }
+    ensures { result ≡ slice_index text.now 0 + slice_index text.now 1 * 256
+        + slice_index text.now 2 * 65536 }
+{
+    u32x1::from_le_bytes(u8x4::from_slice(text)).to_array()[0] % (1 << 24)
 }
 
 /// A size of one digit or of two, of which the first isn't 0, that a newline ends, and how many

@@ -14,6 +14,7 @@ use crate::scan::read_lines;
 use crate::skim::{Batch, skim_lines};
 use std::alloc::Global;
 use std::marker::Model;
+use std::mem::swap;
 use xl_model::NoMemory;
 
 /// How many bytes a reader holds at most.
@@ -90,6 +91,24 @@ impl Reader {
         append(self.buf.as_mut_slice(), held, piece);
         self.start = 0;
         self.end = held + piece.len();
+    }
+
+    /// Takes the next bytes of the trace: so many that stand in `piece` behind as many places as bytes are held.
+    /// The reader goes on in that buffer and gives its own for it, so that only what is held is moved.
+    pub fn exchange(&mut self, piece: &mut Vec<u8>, count: usize)
+        requires size { length piece.old.items ≡ 65536 }
+        requires room { count + length self.old.held ≤ 65536 }
+        requires unfinished { self.old.finished ≡ false }
+        ensures held { self.new ≡ record self.old {
+          held = self.old.held ++ take count (drop (length self.old.held) piece.old.items);
+        } }
+        ensures size { length piece.new.items ≡ 65536 }
+    {
+        let held = self.end - self.start;
+        put_first(piece.as_mut_slice(), self.held());
+        swap(&mut self.buf, piece);
+        self.start = 0;
+        self.end = held + count;
     }
 
     /// Says that the trace has ended.
@@ -241,6 +260,14 @@ fn shift(buf: &mut [u8], start: usize, end: usize)
     ensures { take (end - start) buf.new ≡ drop start (take end buf.old) }
 {
     buf.copy_within(start..end, 0);
+}
+
+/// Puts bytes in front, in place of those that stood there.
+fn put_first(buf: &mut [u8], bytes: &[u8])
+    requires { length bytes.now ≤ length buf.old }
+    ensures { buf.new ≡ bytes.now ++ drop (length bytes.now) buf.old }
+{
+    buf[..bytes.len()].copy_from_slice(bytes);
 }
 
 /// Puts a piece behind the first `held` bytes.

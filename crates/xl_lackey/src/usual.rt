@@ -4,7 +4,7 @@ ghost use Rattle.std.specs.Prelude.{◌≡◌, ◌+◌, ◌-◌, ◌<◌, ◌≤
 ghost use Rattle.xl_lackey.specs.Usual.{usual_front};
 ghost use Rattle.xl_lackey.specs.Scans.{IsFirstLine};
 
-use crate::digits::{address, near_address, near_size, pair, size};
+use crate::digits::{address, near_address, near_size, size, triple};
 use crate::line::{Verdict, fits};
 use crate::reference::Letter;
 
@@ -14,7 +14,7 @@ use crate::reference::Letter;
 pub(crate) fn usual_line(text: &[u8]) -> Option<(usize, Verdict)>
     ensures { IfSome result (λ r. IsFirstLine text.now r.0 r.1) }
 {
-    if text.len() < 3 {
+    if text.len() < 4 {
         return None;
     }
     let (letter, numbers) = usual_letter(text)?;
@@ -45,31 +45,30 @@ pub(crate) fn near_line(text: &[u8]) -> Option<(usize, Verdict)>
     Some((comma + digits + 5, Verdict::Found { letter, addr, size }))
 }
 
-/// How a line begins: its first two bytes, of which the first counts least, and the letter among
-/// them.
+/// How a line begins: its first three bytes, of which the first counts least, and the letter among them.
 #[derive(Clone, Copy)]
 struct Front {
-    two: u32,
+    three: u32,
     letter: Letter,
 }
 
 const FETCH: Front = Front {
-    two: b'I' as u32 + b' ' as u32 * 256,
+    three: b'I' as u32 + b' ' as u32 * 256 + b' ' as u32 * 65536,
     letter: Letter::I,
 };
 
 const LOAD: Front = Front {
-    two: b' ' as u32 + b'L' as u32 * 256,
+    three: b' ' as u32 + b'L' as u32 * 256 + b' ' as u32 * 65536,
     letter: Letter::L,
 };
 
 const STORE: Front = Front {
-    two: b' ' as u32 + b'S' as u32 * 256,
+    three: b' ' as u32 + b'S' as u32 * 256 + b' ' as u32 * 65536,
     letter: Letter::S,
 };
 
 const MODIFY: Front = Front {
-    two: b' ' as u32 + b'M' as u32 * 256,
+    three: b' ' as u32 + b'M' as u32 * 256 + b' ' as u32 * 65536,
     letter: Letter::M,
 };
 
@@ -80,11 +79,11 @@ const FRONTS: [Front; 8] = [FETCH, FETCH, FETCH, STORE, LOAD, MODIFY, FETCH, FET
 /// The letter of a record and the blanks around it, as Lackey writes them, and what follows them.
 #[inline(always)]
 fn usual_letter(text: &[u8]) -> Option<(Letter, &[u8])>
-    requires { 3 ≤ length text.now }
+    requires { 4 ≤ length text.now }
     ensures { IfSome result (λ r. text.entry.now ≡ usual_front r.0 ++ r.1.now) }
 {
     let front = &FRONTS[(text[1] % 8) as usize];
-    if pair(text) == front.two && text[2] == b' ' {
+    if triple(text) == front.three {
         Some((front.letter, &text[3..]))
     } else {
         None

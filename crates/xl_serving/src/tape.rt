@@ -199,8 +199,8 @@ impl Tape {
         ensures unfinished { OnOk result (self.new.reader.finished ≡ false) }
     {
         let wanted = self.wanted();
-        let buf = self.piece.as_mut_slice();
-        let count = feed_from(&mut self.reader, buf, wanted, self.at, folder, name)?;
+        let piece = &mut self.piece;
+        let count = feed_from(&mut self.reader, piece, wanted, self.at, folder, name)?;
         self.at += count as u64;
         Ok(count)
     }
@@ -230,20 +230,22 @@ impl Tape {
     }
 }
 
-/// Reads a piece of a file, of at most `wanted` bytes from a place on, into the buffer, feeds it, and
-/// answers how many bytes it has.
+/// Reads a piece of a file, of at most `wanted` bytes from a place on, into the buffer, behind as many places as
+/// bytes are held, feeds it, and answers how many bytes it has. The reader's buffer comes in place of the piece's.
 fn feed_from<F: Folder>(
     reader: &mut Reader,
-    buf: &mut [u8],
+    buf: &mut Vec<u8>,
     wanted: usize,
     at: u64,
     folder: &mut F,
     name: &str,
 ) -> Result<usize, Unread>
     requires unfinished { reader.old.finished ≡ false }
-    requires wanted { (0 < wanted) × (wanted ≤ length buf.old) }
+    requires wanted { 0 < wanted }
+    requires size { length buf.old.items ≡ 65536 }
     requires room { wanted + length reader.old.held ≤ 65536 }
     ensures count { IfOk result (λ n. n ≤ wanted) }
+    ensures size { length buf.new.items ≡ 65536 }
     ensures told { IfSome (F.files folder.old) (λ fs.
         FeedAnswers (file_of fs name.now) at result reader.old reader.new) }
     ensures leaves { FolderAfter F.files F.faults F.absences F.steady folder.old folder.new
@@ -251,9 +253,10 @@ fn feed_from<F: Folder>(
     ensures held { IfOk result (λ n. length reader.new.held ≡ length reader.old.held + n) }
     ensures unfinished { OnOk result (reader.new.finished ≡ false) }
 {
-    let piece = &mut buf[..wanted];
+    let held = PIECE - reader.room();
+    let piece = &mut buf.as_mut_slice()[held..held + wanted];
     let count = folder.read_at(name, at, piece)?;
-    reader.feed(&piece[..count]);
+    reader.exchange(buf, count);
     Ok(count)
 }
 
