@@ -1,7 +1,5 @@
 -- A leaf's frame and permission in one word: the frame times 16, and four bits.
 use Rattle.std.specs.Prelude.{ℕ, ◌+◌, ◌*◌, ◌/◌, ◌%◌, ◌==◌, Bool, true, false, refl}
-use Rattle.xl_model.specs.declared.address.Kind.{Kind}
-use Rattle.xl_model.specs.declared.address.Kind.TheVariants as kind
 use Rattle.xl_model.specs.declared.address.Order.{Order}
 use Rattle.xl_model.specs.declared.address.Order.TheVariants as order
 use Rattle.xl_model.specs.declared.leaf.Leaf.{Leaf}
@@ -21,12 +19,6 @@ perm_by false w x u = record { r = false; w = false; x = true; u = u; legal = re
 -- The permission in the lowest four bits of a word.
 unfoldable pub perm_at : ℕ → Perm
 perm_at code = perm_by (code % 2 == 1) (code / 2 % 2 == 1) (code / 4 % 2 == 1) (code / 8 % 2 == 1)
-
--- Where a table of what permissions allow has those of this kind: sixteen for each.
-abbrev pub kind_place : Kind → ℕ
-kind_place kind.Fetch = 0
-kind_place kind.Load = 16
-kind_place kind.Store = 32
 
 -- The leaf of this space and order that covers the page, with the frame and permission of the word.
 abbrev pub leaf_with : ℕ → ℕ → Order → ℕ → Leaf

@@ -1,30 +1,24 @@
-//! What permissions allow, by a look-up.
+//! What permissions allow, by a mask.
 
-ghost use Rattle.std.specs.Prelude.{◌≡◌};
+ghost use Rattle.std.specs.Prelude.{◌≡◌, ℕ, ◌<◌, ◌/◌, ◌%◌, ◌^◌, ◌==◌};
 ghost use Rattle.xl_model.specs.Addresses.{allows as is_allowed};
-ghost use Rattle.xl_model.specs.LeafWords.{kind_place, perm_at};
+ghost use Rattle.xl_model.specs.LeafWords.{perm_at};
 
 use crate::address::Kind;
 use crate::leaf_word::perm_code;
 use crate::perm::Perm;
 
-/// Whether permissions of four bits allow an access: sixteen for a fetch, for a load, and for a store. Which
-/// kind comes next can't be foretold, so a choice among them would cost more than a look-up.
-const ALLOWED: [bool; 48] = [
-    false, false, false, false, false, false, false, false, true, false, true, false, true, true,
-    true, true, false, false, false, false, false, false, false, false, false, true, false, true,
-    false, true, false, true, false, false, false, false, false, false, false, false, false, false,
-    false, true, false, false, false, true,
-];
-
-/// Where the sixteen of a kind begin.
-fn place_of(kind: Kind) -> usize
-    ensures { result ≡ kind_place kind }
+/// Which permissions allow an access of this kind: a bit for each of their sixteen codes, and all of them
+/// twice, so that a processor takes five bits of a word as it shifts. Which kind comes next can't be
+/// foretold, so the mask is looked up.
+fn allowed_codes(kind: Kind) -> u32
+    ensures { (code : ℕ) → code < 32
+        → (result / 2 ^ code % 2 == 1) ≡ is_allowed (perm_at code) kind }
 {
     match kind {
-        Kind::Fetch => 0,
-        Kind::Load => 16,
-        Kind::Store => 32,
+        Kind::Fetch => 0xf500_f500,
+        Kind::Load => 0xaa00_aa00,
+        Kind::Store => 0x8800_8800,
     }
 }
 
@@ -33,7 +27,7 @@ fn place_of(kind: Kind) -> usize
 pub fn word_allows(word: u64, kind: Kind) -> bool
     ensures { result ≡ is_allowed (perm_at word) kind }
 {
-    ALLOWED[place_of(kind) + (word % 16) as usize]
+    (allowed_codes(kind) >> (word % 32)) % 2 == 1
 }
 
 /// Whether a leaf with this permission serves a user access of this kind.
