@@ -136,9 +136,21 @@ fn bring_at<const W: usize, T: Copy, P: Fn(&T) -> bool>(
     Some(item)
 }
 
+/// Looks at slots one after another, and leaves with the first that meets the test. Each has a way out of its
+/// own: of a loop LLVM joins the ways out, and then asks once more at each item that it moves.
+macro_rules! ways_out {
+    ($slots:ident $len:ident $test:ident: $($at:literal)*) => {
+        $(
+            if is_first_at($slots, $at, $test) {
+                return bring_at($slots, $len, $at, $test);
+            }
+        )*
+    };
+}
+
 /// Brings the first of the first `len` items that meets the test to the front, where there are at most sixteen
-/// slots. All of them are looked at, those behind the items too, and each has a way out of its own: of a loop
-/// LLVM joins the ways out, and then asks once more at each item that it moves.
+/// slots. All of them are looked at, those behind the items too. Those behind the eighth stand apart, so that
+/// lists of few slots stay small enough to be put in line.
 #[inline(always)]
 pub(crate) fn touch_first<const W: usize, T: Copy, P: Fn(&T) -> bool>(
     slots: &mut [T; W],
@@ -151,16 +163,28 @@ pub(crate) fn touch_first<const W: usize, T: Copy, P: Fn(&T) -> bool>(
     ensures { (q : _) → IsTest (FnReturnsAt P.Fn test.now) q →
         Touches q (take len slots.old) (take len slots.new) result }
 {
-    macro_rules! ways_out {
-        ($($at:literal)*) => {
-            $(
-                if is_first_at(slots, $at, test) {
-                    return bring_at(slots, len, $at, test);
-                }
-            )*
-        };
+    ways_out!(slots len test: 0 1 2 3 4 5 6 7);
+    if W <= 8 {
+        return None;
     }
-    ways_out!(0 1 2 3 4 5 6 7 8 9 10 11 12 13 14 15);
+    touch_behind(slots, len, test)
+}
+
+/// Does what `touch_first` does, where none of the first eight slots meets the test.
+#[inline]
+fn touch_behind<const W: usize, T: Copy, P: Fn(&T) -> bool>(
+    slots: &mut [T; W],
+    len: usize,
+    test: &P,
+) -> Option<T>
+    requires few { W ≤ 16 }
+    requires fits { len ≤ W }
+    requires test { P.IsAlwaysCallable test.now }
+    requires before { FailBefore (FnReturnsAt P.Fn test.now) slots.old 8 }
+    ensures { (q : _) → IsTest (FnReturnsAt P.Fn test.now) q →
+        Touches q (take len slots.old) (take len slots.new) result }
+{
+    ways_out!(slots len test: 8 9 10 11 12 13 14 15);
     None
 }
 

@@ -3,8 +3,8 @@ use Rattle.std.specs.Prelude.{ℕ, suc, ◌≡◌, ◌<◌, ◌≤◌, ◌%◌, 
 use Rattle.xl_model.specs.declared.address.Order.TheVariants as order
 use Rattle.xl_model.specs.Recency.{touched}
 use Rattle.xl_model.specs.Tlb.{TlbArray, array_filled, array_hit, covers_as, found_as, set_at, takes_order}
-use Rattle.xl_tlb.specs.declared.look.Small.{Small}
-use Rattle.xl_tlb.specs.declared.look.Small.TheVariants as small
+use Rattle.xl_tlb.specs.declared.levels.Answered.{Answered}
+use Rattle.xl_tlb.specs.declared.levels.Answered.TheVariants as answered
 use Rattle.xl_model.specs.LeafWords.{small_leaf}
 use Rattle.xl_tlb.specs.Hits.{word_touched}
 use Rattle.xl_tlb.specs.Tlbs.{spec_of, IsByEight, NoneBelow}
@@ -38,12 +38,16 @@ pub record AreMissed (space page : ℕ) (arrays : List TlbArray) : Type 0 where
   pub some : 0 < length arrays
   pub few : length arrays ≤ 2
 
--- What a look for a leaf of 4 KiB tells, and what it leaves.
-abbrev pub IsSmallLook : ℕ → ℕ → Small → List TlbArray → List TlbArray → Type 0
-IsSmallLook space page (small.First word) old new = IsFirstHit space page word old new
-IsSmallLook space page (small.Second word) old new = IsSecondHit space page word old new
-IsSmallLook space page small.Nowhere old new = AreMissed space page old × (new ≡ old)
-IsSmallLook space page small.Unknown old new = new ≡ old
+-- The first of the arrays, if there is one, has no leaf of 4 KiB for the page.
+abbrev pub IsFirstMiss : ℕ → ℕ → List TlbArray → Type 0
+IsFirstMiss space page [] = Unit {0}
+IsFirstMiss space page (a ∷ rest) = None ≡ found_as a space page order.K4
+
+-- What a look at the second array for a leaf of 4 KiB that the first one hasn't tells, and what it leaves.
+abbrev pub IsSecondLook : ℕ → ℕ → Answered → List TlbArray → List TlbArray → Type 0
+IsSecondLook space page (answered.Word word) old new = IsSecondHit space page word old new
+IsSecondLook space page answered.Nowhere old new = AreMissed space page old × (new ≡ old)
+IsSecondLook space page answered.Unknown old new = new ≡ old
 
 -- The first of the arrays finds a leaf so, and is alone in its level.
 pub data IsFront (space page word : ℕ) : List TlbArray → Type 0 where

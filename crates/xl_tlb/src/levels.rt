@@ -1,13 +1,13 @@
 //! The arrays of a row in levels.
 
-ghost use Rattle.std.specs.Prelude.{ℕ, true, ◌==◌, ◌≡◌, ◌<◌, ◌≤◌, ◌^◌, ◌+◌, ◌*◌, length, map, count_by, slice_index_or, None, IfOk};
+ghost use Rattle.std.specs.Prelude.{ℕ, true, ◌==◌, ◌≡◌, ◌<◌, ◌≤◌, ◌^◌, ◌+◌, ◌*◌, length, map, count_by, slice_index_or, None, IfOk, IfSome, IfNone};
 ghost use Rattle.xl_model.specs.declared.leaf.Leaf.{Leaf};
 ghost use Rattle.xl_model.specs.Base.{one_if};
 ghost use Rattle.xl_model.specs.Tlb.{answer_of, leaves_in, takes_leaf, takes_order, array_filled, array_without, is_purged, reaches_leaf};
 ghost use Rattle.xl_model.specs.declared.address.Order.TheVariants as order_of;
 ghost use Rattle.xl_tlb.specs.Arrays.{IsFit, InLimits};
-ghost use Rattle.xl_tlb.specs.Answers.{IsAnswered, IsNowhere};
-ghost use Rattle.xl_tlb.specs.Fronts.{IsFront, AreMissed, HasEights};
+ghost use Rattle.xl_tlb.specs.Answers.{IsAnswered, IsNowhere, IsWord};
+ghost use Rattle.xl_tlb.specs.Fronts.{IsFront, AreMissed, HasEights, IsFirstMiss};
 ghost use Rattle.xl_model.specs.LeafWords.{small_leaf};
 ghost use Rattle.xl_tlb.specs.Paths.{AllCommon, AreCommon, IsPath, IsReady};
 ghost use Rattle.xl_tlb.specs.Sought.{IsFill, IsSought};
@@ -17,7 +17,8 @@ ghost use Rattle.xl_tlb.specs.Tlbs.{spec_of, leaf_told, tlb_opening, AreSpecs, I
 use crate::any::AnyArray;
 use crate::coding::Hit;
 use crate::look::{
-    Small, are_common, count_behind, first_and_rest, has_eights, is_straight, look_in, look_small,
+    are_common, count_behind, first_and_rest, has_eights, is_straight, look_first, look_in,
+    look_second,
 };
 use crate::sought::Sought;
 use arrayvec::ArrayVec;
@@ -214,31 +215,46 @@ impl Levels {
         self.path
     }
 
-    /// Does what `look` does, where the leaf of 4 KiB that is sought stands in the first array or in the second
-    /// one, and gives the leaf's word: it is the newest of its set of the first array then. So too where no
-    /// array answers and no larger leaf was held.
+    /// Does what `look` does, where the leaf of 4 KiB that is sought stands in the first array, and gives the
+    /// leaf's word: it is the newest of its set then. None elsewhere; then nothing changes.
     #[inline(always)]
-    pub fn hit_small<const COMMON: usize>(&mut self, sought: Sought) -> Answered
+    pub fn hit_first<const COMMON: usize>(&mut self, sought: Sought) -> Option<u64>
         requires sought { IsSought order_of.K4 sought }
         requires ready { IsReady COMMON (map spec_of self.old.arrays) }
+        ensures some { IfSome result (λ word.
+            IsWord sought.space sought.page word self.old self.new) }
+        ensures same { IfNone result (self.new ≡ self.old) }
+        ensures missed { IfNone result (IsFirstMiss sought.space sought.page self.old.arrays) }
+    {
+        let Some(word) = look_first::<COMMON>(&mut self.arrays, sought) else {
+            return None;
+        };
+        self.hits[0] = self.hits[0].wrapping_add(1);
+        Some(word)
+    }
+
+    /// Does what `look` does, where the leaf that is sought isn't in the first array and stands in the second
+    /// one, and gives its word: the first array is filled with it. So too where no array answers and no larger
+    /// leaf was held.
+    #[inline(always)]
+    pub fn hit_second<const COMMON: usize>(&mut self, sought: Sought) -> Answered
+        requires sought { IsSought order_of.K4 sought }
+        requires ready { IsReady COMMON (map spec_of self.old.arrays) }
+        requires missed { IsFirstMiss sought.space sought.page self.old.arrays }
         ensures { IsAnswered sought.space sought.page result self.old self.new }
     {
-        match look_small::<COMMON>(&mut self.arrays, sought) {
-            Small::First { word } => {
-                self.hits[0] = self.hits[0].wrapping_add(1);
-                Answered::Word { word }
-            }
-            Small::Second { word } => {
+        match look_second::<COMMON>(&mut self.arrays, sought) {
+            Answered::Word { word } => {
                 self.misses[0] = self.misses[0].wrapping_add(1);
                 self.hits[1] = self.hits[1].wrapping_add(1);
                 self.fills = self.fills.wrapping_add(1);
                 Answered::Word { word }
             }
-            Small::Nowhere => {
+            Answered::Nowhere => {
                 self.miss::<COMMON>(sought.space, sought.page);
                 Answered::Nowhere
             }
-            Small::Unknown => Answered::Unknown,
+            Answered::Unknown => Answered::Unknown,
         }
     }
 

@@ -68,9 +68,21 @@ impl Newest {
         None
     }
 
+    /// Keeps the word of the leaf that answers the page, where leaves of its set came or moved.
+    #[inline]
+    pub fn renew(&mut self, eights: bool, sought: Sought, word: u64)
+        requires { IsSought order.K4 sought }
+        ensures { (old new : List TlbArray) → Knows self.old old
+            → (eights ≡ true → FrontsStay (sought.page % 8) old new)
+            → IsFront sought.space sought.page word new → Knows self.new new }
+    {
+        self.forget_block(eights, sought.page);
+        self.keep(sought, word);
+    }
+
     /// Keeps the word of the leaf that answers the page.
     #[inline]
-    pub fn keep(&mut self, sought: Sought, word: u64)
+    fn keep(&mut self, sought: Sought, word: u64)
         requires { IsSought order.K4 sought }
         ensures { (arrays : List TlbArray) → Knows self.old arrays
             → IsFront sought.space sought.page word arrays → Knows self.new arrays }

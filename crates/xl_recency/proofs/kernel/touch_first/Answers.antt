@@ -30,31 +30,10 @@ bring_at-requires-then-is_first_at-7 g c = (search rules, (c.requires.fits, (c.i
 pub bring_at-requires-then-is_first_at-8 : goal.bring_at-requires-then-is_first_at-8
 bring_at-requires-then-is_first_at-8 g c = (search rules, (c.requires.fits, (c.is_first_at-8.ensures.within c.if-is_first_at-8.true, c.is_first_at-8.ensures.yes c.if-is_first_at-8.true)))
 
-pub bring_at-requires-then-is_first_at-9 : goal.bring_at-requires-then-is_first_at-9
-bring_at-requires-then-is_first_at-9 g c = (search rules, (c.requires.fits, (c.is_first_at-9.ensures.within c.if-is_first_at-9.true, c.is_first_at-9.ensures.yes c.if-is_first_at-9.true)))
-
-pub bring_at-requires-then-is_first_at-10 : goal.bring_at-requires-then-is_first_at-10
-bring_at-requires-then-is_first_at-10 g c = (search rules, (c.requires.fits, (c.is_first_at-10.ensures.within c.if-is_first_at-10.true, c.is_first_at-10.ensures.yes c.if-is_first_at-10.true)))
-
-pub bring_at-requires-then-is_first_at-11 : goal.bring_at-requires-then-is_first_at-11
-bring_at-requires-then-is_first_at-11 g c = (search rules, (c.requires.fits, (c.is_first_at-11.ensures.within c.if-is_first_at-11.true, c.is_first_at-11.ensures.yes c.if-is_first_at-11.true)))
-
-pub bring_at-requires-then-is_first_at-12 : goal.bring_at-requires-then-is_first_at-12
-bring_at-requires-then-is_first_at-12 g c = (search rules, (c.requires.fits, (c.is_first_at-12.ensures.within c.if-is_first_at-12.true, c.is_first_at-12.ensures.yes c.if-is_first_at-12.true)))
-
-pub bring_at-requires-then-is_first_at-13 : goal.bring_at-requires-then-is_first_at-13
-bring_at-requires-then-is_first_at-13 g c = (search rules, (c.requires.fits, (c.is_first_at-13.ensures.within c.if-is_first_at-13.true, c.is_first_at-13.ensures.yes c.if-is_first_at-13.true)))
-
-pub bring_at-requires-then-is_first_at-14 : goal.bring_at-requires-then-is_first_at-14
-bring_at-requires-then-is_first_at-14 g c = (search rules, (c.requires.fits, (c.is_first_at-14.ensures.within c.if-is_first_at-14.true, c.is_first_at-14.ensures.yes c.if-is_first_at-14.true)))
-
-pub bring_at-requires-then-is_first_at-15 : goal.bring_at-requires-then-is_first_at-15
-bring_at-requires-then-is_first_at-15 g c = (search rules, (c.requires.fits, (c.is_first_at-15.ensures.within c.if-is_first_at-15.true, c.is_first_at-15.ensures.yes c.if-is_first_at-15.true)))
-
-pub bring_at-requires-then-is_first_at-16 : goal.bring_at-requires-then-is_first_at-16
-bring_at-requires-then-is_first_at-16 g c = (search rules, (c.requires.fits, (c.is_first_at-16.ensures.within c.if-is_first_at-16.true, c.is_first_at-16.ensures.yes c.if-is_first_at-16.true)))
-
-pub returns : goal.returns
-returns g c =
-    let none = fail_all (FnReturnsAt g.P.Fn c.args.test.now) c.args.slots.now c.args.len 16 (omega arith) (omega arith) (c.is_first_at-16.ensures.no c.if-is_first_at-16.false) in
+pub returns-then-this-le8 : goal.returns-then-this-le8
+returns-then-this-le8 g c =
+    let none = fail_all (FnReturnsAt g.P.Fn c.args.test.now) c.args.slots.now c.args.len 8 (omega arith) (omega arith) (c.is_first_at-8.ensures.no c.if-is_first_at-8.false) in
     λ q test. record { found = none_found _ q test _ none; moved = none_moved _ q test _ none }
+
+pub touch_behind-requires : goal.touch_behind-requires
+touch_behind-requires g c = (search rules, (c.requires.few, (c.requires.fits, (c.requires.test, c.is_first_at-8.ensures.no c.if-is_first_at-8.false))))

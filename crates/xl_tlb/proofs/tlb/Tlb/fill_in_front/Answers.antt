@@ -10,4 +10,4 @@ invariant_of-self g c =
     let s = c.of-sought.result in
     let stay : c.has_eights-eights.result ≡ true → FrontsStay (s.page % 8) old.arrays new.arrays = λ t.
     rw c.fill_small.ensures.after (small_fill_stays s.space s.page c.args.word old (c.has_eights-eights.ensures t)) in
-    c.keep.ensures new.arrays (c.forget_block.ensures old.arrays new.arrays c.self.invariant stay) c.fill_small.ensures.front
+    c.renew.ensures old.arrays new.arrays c.self.invariant stay c.fill_small.ensures.front

@@ -1,0 +1,28 @@
+use Rattle.std.proofs.Common.{◌≡◌, ◌++◌, length, take, drop, sym, ◌∙◌, ap}
+use Rattle.xl_tlb.specs.Fronts.{IsFirstHit}
+use Rattle.xl_tlb.proofs.FrontLemmas.{first_told, first_after, first_front, first_looked}
+use Rattle.xl_tlb.proofs.TlbLemmas.{written, look_kept}
+use Rattle.xl_tlb.proofs.levels.Levels.hit_first.Goals as goal
+
+pub invariant_of-self-2 : goal.invariant_of-self-2
+invariant_of-self-2 g c =
+    let t = c.self.inside in
+    let new = c.look_first.new.arrays in
+    let hit : IsFirstHit c.args.sought.space c.args.sought.page c.in-Some.word t.arrays.items new = rw c.deref_mut.ensures.value at c.in-Some.ensures.some in
+    let back : take t.arrays.len (new ++ drop (length new) t.arrays.items) ≡ new =
+    written t.arrays.len new t.arrays.items (c.look_first.auto.arrays ∙ ap length c.deref_mut.ensures.value) (sym c.deref_mut.ensures.len ∙ ap length c.deref_mut.ensures.value) in
+    rw back (look_kept t.arrays.items new t.hits _ t.misses t.misses t.fills t.fills c.self.invariant c.args.sought.space c.args.sought.page
+    (first_looked c.args.sought.space c.args.sought.page c.in-Some.word t.arrays.items new hit))
+
+pub returns-clause-some : goal.returns-clause-some
+returns-clause-some g c =
+    let t = c.self.inside in
+    let new = c.look_first.new.arrays in
+    let hit : IsFirstHit c.args.sought.space c.args.sought.page c.in-Some.word t.arrays.items new = rw c.deref_mut.ensures.value at c.in-Some.ensures.some in
+    let back : take t.arrays.len (new ++ drop (length new) t.arrays.items) ≡ new =
+    written t.arrays.len new t.arrays.items (c.look_first.auto.arrays ∙ ap length c.deref_mut.ensures.value) (sym c.deref_mut.ensures.len ∙ ap length c.deref_mut.ensures.value) in
+    rw (back, ← c.self.view_is) (record {
+      found = first_told c.args.sought.space c.args.sought.page c.in-Some.word t.arrays.items new hit;
+      after = first_after c.args.sought.space c.args.sought.page c.in-Some.word t.arrays.items new t.hits t.misses t.fills c.self.ranges.1.1.1.0.1 hit;
+      front = first_front c.args.sought.space c.args.sought.page c.in-Some.word t.arrays.items new hit;
+    })
