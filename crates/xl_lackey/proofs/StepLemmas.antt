@@ -35,9 +35,9 @@ pub part_length : (start end : ℕ) (buf : List ℕ) → end ≤ length buf → 
 part_length start end buf h = length-drop start (take end buf) ∙ ap (λ (n : ℕ). n - start) (length-take-le end buf h)
 
 -- bytes that were put in front of a buffer, and so many of those behind them
-pub put_behind : (n count : ℕ) (held piece new : List ℕ) → new ≡ held ++ drop (length held) piece → n ≡ length piece → count + length held ≤ length piece
+pub put_after : (n count : ℕ) (held piece new : List ℕ) → new ≡ held ++ drop (length held) piece → n ≡ length piece → count + length held ≤ length piece
     → take (length held + count) (take n (new ++ drop (length new) piece)) ≡ held ++ take count (drop (length held) piece)
-put_behind n count held piece new e same fits =
+put_after n count held piece new e same fits =
     let size : length new ≡ length piece = omega (arith, ap length e, length-append held (drop (length held) piece), length-drop (length held) piece) in
     rw (drop_all (length new) piece (omega arith), append-nil new, take_all n new (omega arith), e) (take-append-add held (drop (length held) piece) count)
 

@@ -88,7 +88,7 @@ impl Reader {
     {
         let held = self.end - self.start;
         shift(self.buf.as_mut_slice(), self.start, self.end);
-        append(self.buf.as_mut_slice(), held, piece);
+        put_behind(self.buf.as_mut_slice(), held, piece);
         self.start = 0;
         self.end = held + piece.len();
     }
@@ -102,10 +102,13 @@ impl Reader {
         ensures held { self.new ≡ record self.old {
           held = self.old.held ++ take count (drop (length self.old.held) piece.old.items);
         } }
+        ensures reads { (last : Bool) (rest : List ℕ) → left_by last self.new rest
+            ≡ left_by last self.old (take count (drop (length self.old.held) piece.old.items)
+            ++ rest) }
         ensures size { length piece.new.items ≡ 65536 }
     {
         let held = self.end - self.start;
-        put_first(piece.as_mut_slice(), self.held());
+        put_behind(piece.as_mut_slice(), 0, self.held());
         swap(&mut self.buf, piece);
         self.start = 0;
         self.end = held + count;
@@ -262,18 +265,10 @@ fn shift(buf: &mut [u8], start: usize, end: usize)
     buf.copy_within(start..end, 0);
 }
 
-/// Puts bytes in front, in place of those that stood there.
-fn put_first(buf: &mut [u8], bytes: &[u8])
-    requires { length bytes.now ≤ length buf.old }
-    ensures { buf.new ≡ bytes.now ++ drop (length bytes.now) buf.old }
+/// Puts bytes behind the first `held`, in place of those that stood there.
+fn put_behind(buf: &mut [u8], held: usize, bytes: &[u8])
+    requires { held + length bytes.now ≤ length buf.old }
+    ensures { buf.new ≡ take held buf.old ++ bytes.now ++ drop (held + length bytes.now) buf.old }
 {
-    buf[..bytes.len()].copy_from_slice(bytes);
-}
-
-/// Puts a piece behind the first `held` bytes.
-fn append(buf: &mut [u8], held: usize, piece: &[u8])
-    requires { held + length piece.now ≤ length buf.old }
-    ensures { take (held + length piece.now) buf.new ≡ take held buf.old ++ piece.now }
-{
-    buf[held..held + piece.len()].copy_from_slice(piece);
+    buf[held..held + bytes.len()].copy_from_slice(bytes);
 }
