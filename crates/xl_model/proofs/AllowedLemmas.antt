@@ -1,4 +1,4 @@
--- The masks of what permissions allow say what the rule says.
+-- A mask has a bit for each of the lowest bits of a word, and those of what permissions allow say what the rule says.
 use Rattle.std.proofs.Common.{◌≡◌, ℕ, zero, suc, ◌+◌, ◌/◌, ◌%◌, ◌<◌, ◌^◌, ◌==◌, Bool, List, [], ◌∷◌, refl, arith}
 use Rattle.xl_model.specs.declared.address.Kind.{Kind}
 use Rattle.xl_model.specs.declared.address.Kind.TheVariants as kind
@@ -6,7 +6,7 @@ use Rattle.xl_model.specs.Addresses.{allows}
 use Rattle.xl_model.specs.LeafWords.{perm_at}
 
 -- so many answers, from that for i on
-abbrev listed : (ℕ → Bool) → ℕ → ℕ → List Bool
+abbrev pub listed : (ℕ → Bool) → ℕ → ℕ → List Bool
 listed f i zero = []
 listed f i (suc m) = f i ∷ listed f (suc i) m
 
@@ -19,44 +19,40 @@ alike f g i (suc m) (suc j) e h =
     let there = alike f g (suc i) m j rest (omega arith) in
     cc
 
-abbrev bit_of : ℕ → ℕ → Bool
-bit_of mask code = mask / 2 ^ code % 2 == 1
-
-abbrev allowed : Kind → ℕ → Bool
-allowed k code = allows (perm_at code) k
-
-fetches : listed (bit_of 4110480640) 0 32 ≡ listed (allowed kind.Fetch) 0 32
-unfolding perm_at
-fetches = refl
-
-loads : listed (bit_of 2852170240) 0 32 ≡ listed (allowed kind.Load) 0 32
-unfolding perm_at
-loads = refl
-
-stores : listed (bit_of 2281736192) 0 32 ≡ listed (allowed kind.Store) 0 32
-unfolding perm_at
-stores = refl
-
-codes : (mask : ℕ) (k : Kind) → listed (bit_of mask) 0 32 ≡ listed (allowed k) 0 32 → (code : ℕ) → code < 32 → bit_of mask code ≡ allowed k code
-codes mask k e code h =
-    let z : 0 + code ≡ code = omega arith in
-    let there = alike (bit_of mask) (allowed k) 0 32 code e h in
+-- what is alike for so many numbers is alike for each of them
+pub same_answers : (f g : ℕ → Bool) (m j : ℕ) → listed f 0 m ≡ listed g 0 m → j < m → f j ≡ g j
+same_answers f g m j e h =
+    let z : 0 + j ≡ j = omega arith in
+    let there = alike f g 0 m j e h in
     cc
 
-pub fetch_codes : (code : ℕ) → code < 32 → (4110480640 / 2 ^ code % 2 == 1) ≡ allows (perm_at code) kind.Fetch
-fetch_codes code h = codes 4110480640 kind.Fetch fetches code h
+-- Bit j of a mask is set.
+abbrev pub bit_of : ℕ → ℕ → Bool
+bit_of mask j = mask / 2 ^ j % 2 == 1
 
-pub load_codes : (code : ℕ) → code < 32 → (2852170240 / 2 ^ code % 2 == 1) ≡ allows (perm_at code) kind.Load
-load_codes code h = codes 2852170240 kind.Load loads code h
+abbrev pub allowed : Kind → ℕ → Bool
+allowed k code = allows (perm_at code) k
 
-pub store_codes : (code : ℕ) → code < 32 → (2281736192 / 2 ^ code % 2 == 1) ≡ allows (perm_at code) kind.Store
-store_codes code h = codes 2281736192 kind.Store stores code h
+abbrev pub mask_of : Kind → ℕ
+mask_of kind.Fetch = 4110480640
+mask_of kind.Load = 2852170240
+mask_of kind.Store = 2281736192
 
-pub same_perm : (w : ℕ) → perm_at (w % 32) ≡ perm_at w
+all_codes : (k : Kind) → listed (bit_of (mask_of k)) 0 32 ≡ listed (allowed k) 0 32
 unfolding perm_at
-same_perm w =
-    let r : w % 32 % 2 ≡ w % 2 = omega arith in
-    let v : w % 32 / 2 % 2 ≡ w / 2 % 2 = omega arith in
-    let x : w % 32 / 4 % 2 ≡ w / 4 % 2 = omega arith in
-    let u : w % 32 / 8 % 2 ≡ w / 8 % 2 = omega arith in
-    rw (r, v, x, u) refl
+all_codes kind.Fetch = refl
+all_codes kind.Load = refl
+all_codes kind.Store = refl
+
+pub allowed_code : (k : Kind) (code : ℕ) → code < 32 → bit_of (mask_of k) code ≡ allowed k code
+allowed_code k code h = same_answers (bit_of (mask_of k)) (allowed k) 32 code (all_codes k) h
+
+-- a permission is in the lowest four bits
+pub same_perm : (v w : ℕ) → v % 16 ≡ w % 16 → perm_at v ≡ perm_at w
+unfolding perm_at
+same_perm v w same =
+    let r : v % 2 ≡ w % 2 = omega arith in
+    let m : v / 2 % 2 ≡ w / 2 % 2 = omega arith in
+    let x : v / 4 % 2 ≡ w / 4 % 2 = omega arith in
+    let u : v / 8 % 2 ≡ w / 8 % 2 = omega arith in
+    rw (r, m, x, u) refl

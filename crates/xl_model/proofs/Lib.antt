@@ -1,4 +1,4 @@
-mod AllowedLemmas
+pub mod AllowedLemmas
 pub mod CodeLemmas
 pub mod PermLemmas
 mod PowerLemmas

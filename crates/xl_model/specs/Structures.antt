@@ -1,5 +1,6 @@
 -- A table as the layers above see it: its leaves, shape, caches and loads; and what its calls answer and leave.
 use Rattle.std.specs.Prelude.{ℕ, ◌+◌, ◌-◌, ◌^◌, ◌<◌, ◌≤◌, ◌≡◌, ◌*◌, Bool, true, false, List, Option, None, Some, Result, Ok, Err}
+use Rattle.xl_model.specs.declared.address.Kind.{Kind}
 use Rattle.xl_model.specs.declared.address.Order.{Order}
 use Rattle.xl_model.specs.declared.leaf.Leaf.{Leaf}
 use Rattle.xl_model.specs.declared.event.Reach.{Reach}
@@ -10,11 +11,11 @@ use Rattle.xl_model.specs.declared.work.QuickWalk.TheVariants as quick
 use Rattle.xl_model.specs.declared.work.Refused.{Refused}
 use Rattle.xl_model.specs.declared.work.Walk.{Walk}
 use Rattle.xl_model.specs.declared.work.Work.{Work}
-use Rattle.xl_model.specs.Addresses.{pages_of}
+use Rattle.xl_model.specs.Addresses.{allows, pages_of}
 use Rattle.xl_model.specs.Mapping.{leaf_at_page}
 use Rattle.xl_model.specs.Changes.{Change, changed}
 use Rattle.xl_model.specs.Base.{plus}
-use Rattle.xl_model.specs.LeafWords.{small_leaf}
+use Rattle.xl_model.specs.LeafWords.{perm_at, small_leaf}
 use Rattle.xl_model.specs.Placing.{no_moves}
 use Rattle.xl_model.specs.Shapes.{Shape, Radix, Chained, Cuckoo, Runs, brought, widened, shape_after, placed_leaf, moves_of, is_placed}
 use Rattle.xl_model.specs.Room.{has_room}
@@ -140,6 +141,12 @@ walk_told space page (quick.Any walk) = walk
 -- A call answers a walk as the definitions do, where a leaf of 4 KiB may come as its word.
 abbrev pub IsQuickWalk : ℕ → ℕ → TableState → QuickWalk → TableState → Type 0
 IsQuickWalk space page old result new = IsWalk space page old (walk_told space page result) new
+
+-- A walk as the definitions have it, which asked no cache and found a leaf of 4 KiB that has this word and allows
+-- an access of this kind.
+pub record IsAllowedWalk (space page : ℕ) (kind : Kind) (word : ℕ) (old new : TableState) : Type 0 where
+  pub walks : IsWalk space page old (record { leaf = Some (small_leaf space page word); cache_hits = 0 }) new
+  pub allowed : allows (perm_at word) kind ≡ true
 
 -- A call answers a fence as the definitions do, and leaves the table that they leave.
 pub record IsFence (to : Reach) (old : TableState) (result : ℕ) (new : TableState) : Type 0 where

@@ -1,11 +1,11 @@
 //! The trait of the five tables.
 
-ghost use Rattle.std.specs.Prelude.{◌≡◌, false};
+ghost use Rattle.std.specs.Prelude.{◌≡◌, false, IfSome, IfNone};
 ghost use Rattle.xl_model.specs.Mapping.{leaf_at_page, meets_any};
 ghost use Rattle.xl_model.specs.Changes.{Insert, Remove, Protect, Relocate, IsNamed};
-ghost use Rattle.xl_model.specs.Structures.{TableState, IsBlock, IsPage, IsLeafFor, IsChange, IsWalk, IsQuickWalk, IsFence};
+ghost use Rattle.xl_model.specs.Structures.{TableState, IsBlock, IsPage, IsLeafFor, IsChange, IsWalk, IsQuickWalk, IsAllowedWalk, IsFence};
 
-use crate::address::Order;
+use crate::address::{Kind, Order};
 use crate::event::Reach;
 use crate::leaf::Leaf;
 use crate::perm::Perm;
@@ -73,6 +73,18 @@ pub trait Structure: Drop {
         QuickWalk::Any {
             walk: self.walk(space, page),
         }
+    }
+
+    /// Does what `walk` does, where that is soon done: no cache is asked, and the page's leaf is one of 4 KiB
+    /// that allows an access of this kind. Gives the leaf's word. None says nothing, and nothing changes then.
+    #[inline(always)]
+    fn walk_allowed(&mut self, _space: u16, _page: u64, _kind: Kind) -> Option<u64>
+        requires { IsPage (table self.old).shape _space _page }
+        ensures some { IfSome result (λ word.
+            IsAllowedWalk _space _page _kind word (table self.old) (table self.new)) }
+        ensures none { IfNone result (self.new ≡ self.old) }
+    {
+        None
     }
 
     /// Removes from the caches what a fence reaches, and tells how many entries left.
