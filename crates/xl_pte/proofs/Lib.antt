@@ -1,2 +1,3 @@
 pub mod BitLemmas
+mod AllowedLemmas
 mod SmallLemmas

@@ -8,7 +8,7 @@ use Rattle.xl_pte.specs.declared.word.Pte.TheVariants as pte
 use Rattle.xl_pte.specs.declared.word.TheConstants.{LEGAL}
 
 -- a leaf of one page is aligned
-aligned : (n : ℕ) → (n % 2 ^ (9 * 0) == 0) ≡ true
+pub aligned : (n : ℕ) → (n % 2 ^ (9 * 0) == 0) ≡ true
 aligned n = grind (arith, nat_tests)
 
 -- a leaf that may be read, or else executed and not written

@@ -1,8 +1,9 @@
 -- What a PTE word says at a level (RISC-V Privileged manual). Bit 0 is V, 1 R, 2 W, 3 X, 4 U; bits 10 to 53
 -- are the PPN. Any of bits 54 to 63 makes a word reserved; bits 5 to 9 are not looked at.
-use Rattle.std.specs.Prelude.{ℕ, ◌*◌, ◌/◌, ◌%◌, ◌^◌, ◌<◌, ◌==◌, ◌≡◌, Bool, true, false, if◌then◌else◌, IsTrue, refl}
-use Rattle.xl_model.specs.Addresses.{is_legal}
+use Rattle.std.specs.Prelude.{ℕ, ◌*◌, ◌/◌, ◌%◌, ◌^◌, ◌<◌, ◌==◌, ◌≡◌, Bool, true, false, ◌&&◌, if◌then◌else◌, IsTrue, refl}
+use Rattle.xl_model.specs.Addresses.{allows, is_legal}
 use Rattle.xl_model.specs.LeafWords.{perm_at}
+use Rattle.xl_model.specs.declared.address.Kind.{Kind}
 use Rattle.xl_model.specs.declared.perm.Perm.{Perm}
 use Rattle.xl_pte.specs.declared.word.Pte.{Pte}
 use Rattle.xl_pte.specs.declared.word.Pte.TheVariants.{Invalid, Pointer, Leaf, Reserved, Misaligned}
@@ -56,3 +57,18 @@ SaysSmall word small = decode_of word 0 ≡ Leaf (small / 16) (perm_at small)
 -- At level 0 a word says no leaf.
 abbrev pub SaysNone : ℕ → Type 0
 SaysNone word = (frame : ℕ) (p : Perm) → decode_of word 0 ≡ Leaf frame p → ⊥
+
+-- The six lowest bits of a word say a leaf that allows an access of this kind: V is set, and the permission is
+-- legal and allows it.
+abbrev pub low_allows : ℕ → Kind → Bool
+low_allows word kind = bit word 0 && (is_legal (bit word 1) (bit word 2) (bit word 3) && allows (perm_at (word / 2)) kind)
+
+-- At level 0 a word says a leaf, whose frame and permission are in this word, and which allows an access of
+-- this kind.
+pub record SaysAllowed (word : ℕ) (kind : Kind) (small : ℕ) : Type 0 where
+  pub says : SaysSmall word small
+  pub allowed : allows (perm_at small) kind ≡ true
+
+-- No leaf that a word says at level 0 allows an access of this kind.
+abbrev pub SaysNoneAllowed : ℕ → Kind → Type 0
+SaysNoneAllowed word kind = (frame : ℕ) (p : Perm) → decode_of word 0 ≡ Leaf frame p → allows p kind ≡ false

@@ -5,4 +5,4 @@ mod laws;
 mod word;
 
 pub use laws::words_read_back;
-pub use word::{Pte, decode, leaf_word, pointer, small_word};
+pub use word::{Pte, allowed_word, decode, leaf_word, pointer, small_word};

@@ -1,10 +1,10 @@
 //! Words and what they say.
 
-ghost use Rattle.std.specs.Prelude.{◌≡◌, ◌≤◌, ◌<◌, ◌^◌, IfSome, IfNone};
+ghost use Rattle.std.specs.Prelude.{ℕ, ◌≡◌, ◌==◌, ◌≤◌, ◌<◌, ◌/◌, ◌%◌, ◌^◌, IfSome, IfNone};
 ghost use Rattle.xl_model.specs.Words.{pointer_word, leaf_word as word_of_leaf};
-ghost use Rattle.xl_pte.specs.Decode.{bit as bit_of, pointer_at as pointer_said, leaf_at as leaf_said, decode_of, IsProper, SaysSmall, SaysNone};
+ghost use Rattle.xl_pte.specs.Decode.{bit as bit_of, low_allows, pointer_at as pointer_said, leaf_at as leaf_said, decode_of, IsProper, SaysSmall, SaysNone, SaysAllowed, SaysNoneAllowed};
 
-use xl_model::Perm;
+use xl_model::{Kind, Perm};
 
 /// What a PTE word says at a level of the table.
 #[derive(Clone, Copy, Debug, PartialEq, Eq)]
@@ -113,6 +113,31 @@ pub fn small_word(word: u64) -> Option<u64>
     let code = word / 2 % 16;
     if word % 2 == 1 && word >> 54 == 0 && (LEGAL >> code) % 2 == 1 {
         Some(word / 1024 * 16 + code)
+    } else {
+        None
+    }
+}
+
+/// A bit for each value of a word's six lowest bits: whether they say a leaf that allows an access of this
+/// kind. Which kind comes next can't be foretold, so the mask is looked up.
+fn allowed_bits(kind: Kind) -> u64
+    ensures { (low : ℕ) → low < 64 → (result / 2 ^ low % 2 == 1) ≡ low_allows low kind }
+{
+    match kind {
+        Kind::Fetch => 0x8a00_0000_8a00_0000,
+        Kind::Load => 0x8888_0000_8888_0000,
+        Kind::Store => 0x8080_0000_8080_0000,
+    }
+}
+
+/// As `small_word`, for a leaf that allows an access of this kind alone: one look at a bit tells that too.
+#[inline(always)]
+pub fn allowed_word(word: u64, kind: Kind) -> Option<u64>
+    ensures some { IfSome result (SaysAllowed word kind) }
+    ensures none { IfNone result (SaysNoneAllowed word kind) }
+{
+    if word >> 54 == 0 && (allowed_bits(kind) >> (word % 64)) % 2 == 1 {
+        Some(word / 1024 * 16 + word / 2 % 16)
     } else {
         None
     }
