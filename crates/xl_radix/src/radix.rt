@@ -228,7 +228,9 @@ impl<const LEVELS: usize> Radix<LEVELS> {
     pub fn front(&self) -> &[u64]
         ensures front { IsFront result.now self.entry.now.words }
         ensures lines { length self.entry.now.words % 4 ≡ 0 }
+        ensures few { length self.entry.now.words ≤ 2 ^ 23 }
     {
+        self.store.words_read_back();
         self.store.front()
     }
 
