@@ -64,8 +64,8 @@ pub allowed_said : (word : ℕ) (k : Kind) → word < 2 ^ 54 → low_allows word
 allowed_said word k low e =
     let so = are_so (bit word 0) (is_legal (bit word 1) (bit word 2) (bit word 3)) (allows (perm_at (word / 2)) k) e in
     let legal : word / 2 % 2 ≡ 0 → word / 2 % 8 ≡ 4 = λ off.
-        let l = lead (bit word 1) (bit word 2) (bit word 3) so.legal (grind (arith, nat_tests)) in
-        grind (arith, nat_tests, l.0, l.1, off) in
+    let l = lead (bit word 1) (bit word 2) (bit word 3) so.legal (grind (arith, nat_tests)) in
+    grind (arith, nat_tests, l.0, l.1, off) in
     record {
       says = small_said word (grind (arith, nat_tests, so.valid)) low legal;
       allowed = ap (λ (p : Perm). allows p k) (small_perm word) ∙ so.allowed;

@@ -28,23 +28,43 @@ fn serve_demand<S: Structure>(machine: &mut Machine<S>, va: u64, kind: Kind, are
     }
 }
 
-/// Serves an access, with the events of its demand.
+/// Serves an access, with the events of its demand. BARE says how the machine is asked.
 #[inline(always)]
-fn serve_one<S: Structure>(machine: &mut Machine<S>, va: u64, kind: Kind, areas: &Areas)
+fn serve_one<S: Structure, const BARE: bool>(
+    machine: &mut Machine<S>,
+    va: u64,
+    kind: Kind,
+    areas: &Areas,
+)
     ensures { machine.new ≡ access_served va kind areas.now machine.old }
 {
-    if let Reply::Unmapped = machine.access(va, kind) {
+    if let Reply::Unmapped = machine.access_as::<BARE>(va, kind) {
         serve_demand(machine, va, kind, areas);
     }
 }
 
 /// Serves accesses to a machine one after another.
 #[inline(never)]
-fn serve_all<S: Structure>(machine: &mut Machine<S>, accesses: &[Access], areas: &Areas)
+fn serve_each<S: Structure, const BARE: bool>(
+    machine: &mut Machine<S>,
+    accesses: &[Access],
+    areas: &Areas,
+)
     ensures { machine.new ≡ row_served accesses.now areas.now machine.old }
 {
     for access in accesses {
-        serve_one(machine, access.va, access.kind, areas);
+        serve_one::<S, BARE>(machine, access.va, access.kind, areas);
+    }
+}
+
+/// Serves accesses to a machine one after another: whether it has arrays is asked once for all of them.
+fn serve_all<S: Structure>(machine: &mut Machine<S>, accesses: &[Access], areas: &Areas)
+    ensures { machine.new ≡ row_served accesses.now areas.now machine.old }
+{
+    if machine.is_bare() {
+        serve_each::<S, true>(machine, accesses, areas);
+    } else {
+        serve_each::<S, false>(machine, accesses, areas);
     }
 }
 

@@ -1,12 +1,12 @@
 -- Walk caches above others of width 0.
-use Rattle.std.proofs.Common.{ℕ, zero, suc, ◌≡◌, ◌+◌, ◌≤◌, ◌==◌, true, false, ◌&&◌, nat_lt, nat_le, if◌then◌else◌, List, [], ◌∷◌, length, Option, None, refl, ap, ◌∙◌, arith}
+use Rattle.std.proofs.Common.{ℕ, zero, suc, ◌≡◌, ◌+◌, ◌≤◌, ◌==◌, true, false, ◌&&◌, nat_lt, nat_le, if◌then◌else◌, List, [], ◌∷◌, length, Option, None, refl, sym, ap, ◌∙◌, subst, arith}
 use Rattle.std.proofs.lemmas.Bool.Decides.{nat_tests}
 use Rattle.xl_model.specs.Nodes.{Node}
 use Rattle.xl_model.specs.Caches.{Cached, Numbered, empty_cache}
 use Rattle.xl_model.specs.Walks.{start_level, node_caches_after}
 use Rattle.xl_model.specs.declared.event.Reach.{Reach}
 use Rattle.xl_recency.specs.declared.item.Item.{Item}
-use Rattle.xl_radix_walk.specs.Row.{above_off, caches_in, AreNumbered, filled_caches, FillsNone, purged_caches, entries_of, fenced_caches}
+use Rattle.xl_radix_walk.specs.Row.{above_off, caches_in, AreNumbered, AreOff, filled_caches, FillsNone, purged_caches, entries_of, fenced_caches}
 
 pub length-above : (n : ℕ) (cs : List (Cached Item)) → length (above_off n cs) ≡ n + length cs
 length-above zero cs = omega arith
@@ -31,6 +31,9 @@ pub none-kept : (n : ℕ) (cs : List (Cached Item)) → n ≡ length cs → (n =
 none-kept n [] e t = refl
 none-kept n (c ∷ cs) e t = let z : n ≡ 0 = grind (arith, nat_tests) in absurd (omega arith)
 
+pub are-off : (n : ℕ) → AreOff (above_off n [])
+are-off n = let h : length (above_off n []) ≡ n = (let l = length-above n [] in omega arith) in rw h refl
+
 -- a look where no cache has a width
 pub record OffLooked (space page : ℕ) (cs : List (Cached Item)) : Type 0 where
   pub start : start_level 0 space page (caches_in 0 cs) ≡ length cs
@@ -45,6 +48,9 @@ off-looked n space page =
   where
     size : n ≡ length (above_off n [])
     size = let h = length-above n [] in omega arith
+
+pub are-looked : (space page : ℕ) (cs : List (Cached Item)) → AreOff cs → OffLooked space page cs
+are-looked space page cs off = let P : List (Cached Item) → Type 0 = λ l. OffLooked space page l in subst P (sym off) (off-looked (length cs) space page)
 
 pub numbered-inside : (n m level : ℕ) (nodes : List (Option Node)) (cs : List (Cached Item)) → m ≡ n + level → AreNumbered level nodes (above_off n cs) → AreNumbered m nodes cs
 numbered-inside zero m level nodes cs e all = let f : m ≡ level = omega arith in rw f all
@@ -76,6 +82,9 @@ pub fills-none : (n start : ℕ) (cs : List (Cached Item)) → start ≤ n → F
 fills-none n start cs h = record {
   stay = λ least space page path. filled-above n n 0 start least space page path cs (omega arith) ∙ ap (above_off n) (none-from n start least space page path cs h);
 }
+
+pub are-filled : (start : ℕ) (cs : List (Cached Item)) → AreOff cs → start ≤ length cs → FillsNone start cs
+are-filled start cs off h = let P : List (Cached Item) → Type 0 = λ l. FillsNone start l in subst P (sym off) (fills-none (length cs) start [] h)
 
 pub purged-above : (n : ℕ) (nodes : List (Option Node)) (cs : List (Cached Item)) → purged_caches nodes (above_off n cs) ≡ above_off n (purged_caches nodes cs)
 purged-above zero nodes cs = refl

@@ -1,12 +1,12 @@
 -- Steps of the quick walk.
-use Rattle.std.proofs.Common.{◌≡◌, refl, sym, ap, ◌∙◌, subst, ℕ, zero, suc, ◌-◌, ◌/◌, ◌<◌, List, slice_index, arith}
+use Rattle.std.proofs.Common.{◌≡◌, refl, sym, ap, ◌∙◌, subst, ℕ, zero, suc, ◌-◌, ◌/◌, ◌^◌, ◌<◌, List, slice_index, arith}
 use Rattle.std.specs.Prelude.{Option, None, Some, IfSome}
 use Rattle.xl_model.specs.LeafWords.{perm_at}
 use Rattle.xl_pte.specs.Decode.{decode_of, SaysSmall}
 use Rattle.xl_pte.specs.declared.word.Pte.TheVariants as pte
 use Rattle.xl_radix.specs.declared.walk_end.WalkEnd.TheVariants as end
 use Rattle.xl_radix.specs.Walk.{place_of, radix_back}
-use Rattle.xl_radix_walk.specs.Quick.{Points, HasWord, Finds}
+use Rattle.xl_radix_walk.specs.Quick.{Points, HasWord, EndsAt}
 
 pub steps-on : (words : List ℕ) (level node page word next : ℕ) → 0 < level → HasWord words level node page word → Points word next
     → radix_back words level node page ≡ radix_back words (level - 1) next page
@@ -26,10 +26,10 @@ ends-at words node page word small h said =
     let e : decode_of (slice_index words (place_of 0 node page)) 0 ≡ pte.Leaf (small / 16) (perm_at small) = ap (λ (w : ℕ). decode_of w 0) (sym h.1) ∙ said in
     rw (h.0, e) refl
 
--- at the end of the way down
-pub finds-if : (words : List ℕ) (start from level at page word : ℕ) (o : Option ℕ) → level ≡ 0 → radix_back words start from page ≡ radix_back words level at page
-    → HasWord words 0 at page word → IfSome o (SaysSmall word) → IfSome o (Finds words start from page)
-finds-if words start from level at page word None z e h said = tt
-finds-if words start from level at page word (Some small) z e h said =
+-- at the end of the way down, where only numbers below 2^44 have a word
+pub ends-if : (words : List ℕ) (start from level at page : ℕ) (o : Option ℕ) → level ≡ 0 → (at < 2 ^ 44 → radix_back words start from page ≡ radix_back words level at page)
+    → IfSome o (λ word. at < 2 ^ 44) → IfSome o (HasWord words 0 at page) → IfSome o (EndsAt words start from page)
+ends-if words start from level at page None z e near h = tt
+ends-if words start from level at page (Some word) z e near h = λ small said.
     let P : ℕ → Type 0 = λ l. radix_back words start from page ≡ radix_back words l at page in
-    subst P z e ∙ ends-at words at page word small h said
+    subst P z (e near) ∙ ends-at words at page word small h said

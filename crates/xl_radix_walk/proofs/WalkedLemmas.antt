@@ -1,23 +1,27 @@
 -- A walk of a row from one of a page's nodes.
-use Rattle.std.proofs.Common.{ℕ, suc, ◌≡◌, ◌+◌, ◌-◌, ◌*◌, ◌/◌, ◌%◌, ◌^◌, ◌<◌, is_some, List, [], length, Option, Some, None, refl, ap, sym, ◌∙◌, arith}
+use Rattle.std.proofs.Common.{ℕ, suc, ◌≡◌, ◌+◌, ◌-◌, ◌*◌, ◌/◌, ◌%◌, ◌^◌, ◌<◌, ◌≤◌, is_some, List, [], length, Option, Some, None, refl, ap, sym, ◌∙◌, arith}
+use Rattle.std.specs.Prelude.{IfSome}
+use Rattle.xl_model.specs.declared.address.Kind.{Kind}
 use Rattle.xl_model.specs.declared.address.Order.TheVariants as order
 use Rattle.xl_model.specs.LeafWords.{perm_at, small_leaf}
 use Rattle.xl_model.specs.Base.{one_if, plus}
 use Rattle.xl_model.specs.declared.leaf.Leaf.{Leaf}
 use Rattle.xl_model.specs.Mapping.{leaf_at_page}
 use Rattle.xl_model.specs.Nodes.{up, number_of}
-use Rattle.xl_model.specs.Structures.{IsWalk}
+use Rattle.xl_model.specs.Structures.{IsAllowedWalk, IsPage, IsWalk}
 use Rattle.xl_model.specs.Walks.{start_level, end_level, node_caches_after}
 use Rattle.xl_model.specs.Caches.{Cached}
+use Rattle.xl_radix.specs.Steps.{shape_of}
 use Rattle.xl_radix.specs.Table.{Table}
 use Rattle.xl_radix.specs.Walk.{walk_end, WordsReadBack}
 use Rattle.xl_recency.specs.declared.item.Item.{Item}
 use Rattle.xl_radix_walk.specs.Path.{radix_path}
-use Rattle.xl_radix_walk.specs.Quick.{Finds}
+use Rattle.xl_radix_walk.specs.Quick.{Finds, IsAllowed}
 use Rattle.xl_radix_walk.specs.declared.caches.Start.{Start}
-use Rattle.xl_radix_walk.specs.Row.{caches_in, AreNumbered, leaf_told, filled_by, start_or, FillsNone, IsRow, IsStraight, IsWalked, row_of, row_table}
+use Rattle.xl_radix_walk.specs.Row.{caches_in, AreNumbered, AreOff, leaf_told, filled_by, start_or, FillsNone, IsRow, IsStraight, IsWalked, row_of, row_table}
+use Rattle.xl_radix_walk.proofs.AboveLemmas.{are-looked, are-filled}
 use Rattle.xl_radix_walk.proofs.DescentLemmas.{walk-path}
-use Rattle.xl_radix_walk.proofs.RowLemmas.{IsStart, WalkedRow, leaf-told, row-walked, row-answer}
+use Rattle.xl_radix_walk.proofs.RowLemmas.{IsStart, WalkedRow, is-start, page-low, root-at, leaf-told, row-walked, row-answer}
 
 pub straight-found : (top start node space page word : ℕ) (t new : Table) → WordsReadBack top t.spaces t.leaves t.nodes t.words → number_of space (suc start) (up (suc start) page) t.nodes ≡ Some node
     → Finds t.words start node page word → new ≡ record t { loads = (t.loads + (start + 1)) % 2 ^ 64 } → IsStraight top start space page (small_leaf space page word) t new
@@ -59,3 +63,20 @@ row-from top space page t new cs looked after found r hits back h row s el size 
     let ea : after ≡ filled_by (walk_end (leaf_at_page space page t.leaves) least) from.level space page w.filled.0 looked = w.filled.2 ∙ ap (λ (o : Option Leaf). filled_by (walk_end o least) from.level space page w.filled.0 looked) w.leaf in
     let walked : WalkedRow top space page t new cs after = row-walked top space page t new cs looked after found from (walk_end (leaf_at_page space page t.leaves) least) w.filled.0 back h row s refl el size all refl w.filled.1 w.loads ea in
     record { row = walked.row; walks = record { answer = rw eh (row-answer top space page t cs found r s w.leaf); after = walked.table } }
+
+-- the start and the walk of a page where no cache has a width
+module _ (top space page : ℕ) (t : Table) (cs : List (Cached Item)) (back : WordsReadBack top t.spaces t.leaves t.nodes t.words) (fits : IsPage (shape_of top t) space page) (row : IsRow top (row_of t cs)) (off : AreOff cs) where
+  pub uncached-start : IsStart top space page t.nodes cs None
+  uncached-start =
+      is-start top space page t.nodes cs None row.caches tt tt (are-looked space page cs off).start tt
+      (root-at top t.spaces space page t.leaves t.nodes t.words back row.low fits.page_in fits.space_in)
+
+  pub uncached-walk : (new : Table) (kind : Kind) (o : Option ℕ) → IfSome o (λ word. IsStraight top (start_or top space None).level space page (small_leaf space page word) t new) → IfSome o (IsAllowed (Some kind))
+      → IfSome o (λ word. IsAllowedWalk space page kind word (row_table top (row_of t cs)) (row_table top (row_of new cs)))
+  uncached-walk new kind None straight allowed = tt
+  uncached-walk new kind (Some word) straight allowed =
+      let from : Start = start_or top space None in
+      let few : from.level ≤ length cs = (let c = row.caches in omega arith) in
+      let walked = straight-walked top from.level from.node space page (small_leaf space page word) t new cs back uncached-start.number straight (are-filled from.level cs off few) in
+      let w = row-from top space page t new cs cs cs None (Some (small_leaf space page word)) 0 back (page-low top page row.low fits.page_in) row uncached-start (are-looked space page cs off).caches refl row.numbered refl walked in
+      record { walks = w.walks; allowed = allowed }

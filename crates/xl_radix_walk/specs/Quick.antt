@@ -1,7 +1,9 @@
 -- What the quick walk finds.
-use Rattle.std.specs.Prelude.{ℕ, ◌≡◌, ◌<◌, ◌/◌, ◌%◌, true, List, length, slice_index}
+use Rattle.std.specs.Prelude.{ℕ, ◌≡◌, ◌<◌, ◌/◌, ◌%◌, true, List, length, slice_index, Option, None, Some}
+use Rattle.xl_model.specs.declared.address.Kind.{Kind}
+use Rattle.xl_model.specs.Addresses.{allows}
 use Rattle.xl_model.specs.LeafWords.{perm_at}
-use Rattle.xl_pte.specs.Decode.{decode_of}
+use Rattle.xl_pte.specs.Decode.{decode_of, SaysSmall}
 use Rattle.xl_pte.specs.declared.word.Pte.TheVariants as pte
 use Rattle.xl_radix.specs.declared.walk_end.WalkEnd.TheVariants as end
 use Rattle.xl_radix.specs.Lazy.{IsFront}
@@ -18,6 +20,15 @@ HasWord words level node page word = (is_there words (place_of level node page) 
 -- The walk of a page ends at level 0, at the leaf that has this word.
 abbrev pub Finds : List ℕ → ℕ → ℕ → ℕ → ℕ → Type 0
 Finds words start node page small = radix_back words start node page ≡ end.Leaf 0 (small / 16) (perm_at small)
+
+-- The walk of a page ends at level 0 at this word: at the leaf that it says, if any.
+abbrev pub EndsAt : List ℕ → ℕ → ℕ → ℕ → ℕ → Type 0
+EndsAt words start node page word = (small : ℕ) → SaysSmall word small → Finds words start node page small
+
+-- Where a kind is given, the permission in this word allows an access of it.
+abbrev pub IsAllowed : Option Kind → ℕ → Type 0
+IsAllowed None small = Unit {0}
+IsAllowed (Some kind) small = allows (perm_at small) kind ≡ true
 
 -- These are the first of all words, which are whole lines.
 abbrev pub AreFirst : List ℕ → List ℕ → Type 0

@@ -77,6 +77,10 @@ abbrev pub above_off : ℕ → List (Cached Item) → List (Cached Item)
 above_off zero cs = cs
 above_off (suc n) cs = empty_cache 0 ∷ above_off n cs
 
+-- None of these caches has a width.
+abbrev pub AreOff : List (Cached Item) → Type 0
+AreOff cs = cs ≡ above_off (length cs) []
+
 -- A walk that starts at this level fills none of these caches.
 pub record FillsNone (start : ℕ) (cs : List (Cached Item)) : Type 0 where
   pub stay : (least space page : ℕ) (path : List ℕ) → filled_caches 0 start least space page path cs ≡ cs

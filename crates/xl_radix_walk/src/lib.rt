@@ -8,7 +8,6 @@ mod step;
 mod walk_caches;
 mod walker;
 
-pub use quick::quick_word;
 pub use row::RadixRow;
 pub use walker::walk;
 pub use xl_radix::WalkEnd;

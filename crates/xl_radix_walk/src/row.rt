@@ -11,20 +11,23 @@ ghost use Rattle.xl_model.specs.LeafWords.{small_leaf};
 ghost use Rattle.xl_model.specs.Rows.{is_width};
 ghost use Rattle.xl_model.specs.Placing.{no_moves};
 ghost use Rattle.xl_model.specs.Walks.{end_level};
-ghost use Rattle.xl_model.specs.Structures.{IsBlock, IsLeafFor, IsPage, IsChange, IsQuickWalk, IsFence, walk_told, work_of};
+ghost use Rattle.xl_model.specs.Structures.{IsBlock, IsLeafFor, IsPage, IsChange, IsQuickWalk, IsAllowedWalk, IsFence, walk_told, work_of};
 ghost use Rattle.xl_radix.specs.Walk.{walk_end};
 ghost use Rattle.xl_radix.specs.Steps.{shape_of};
+ghost use Rattle.xl_radix_walk.specs.Quick.{IsAllowed};
 ghost use Rattle.xl_radix_walk.specs.Row.{AreNumbered, entries_of, leaf_told, opening_table, purged_caches, refused_for, start_or, IsPath, IsRow, IsStraight, IsWalked, row_of, row_table};
 ghost use Rattle.xl_radix.specs.Walk.{end_of};
 
 use crate::caches::Start;
+use crate::quick::quick_word;
+use crate::walk;
 use crate::walk_caches::WalkCaches;
-use crate::{quick_word, walk};
 use arrayvec::ArrayVec;
 use std::alloc::Global;
 use std::marker::Model;
 use xl_model::{
-    Leaf, NoMemory, NoRoom, NoTable, Order, Perm, QuickWalk, Reach, Refused, Structure, Walk, Work,
+    Kind, Leaf, NoMemory, NoRoom, NoTable, Order, Perm, QuickWalk, Reach, Refused, Structure, Walk,
+    Work,
 };
 use xl_phys::Bus;
 use xl_pte::Pte;
@@ -105,13 +108,15 @@ fn found_leaf(space: u16, page: u64, end: WalkEnd) -> Option<Leaf>
 }
 
 /// Walks a table's words straight from a node of the page, and counts the loads: the word of the leaf. None
-/// where that doesn't end at a leaf of 4 KiB; then nothing is counted.
+/// where that doesn't end at a leaf of 4 KiB, which allows an access of the kind, if one is given; then nothing
+/// is counted.
 #[inline(always)]
 fn straight<const LEVELS: usize>(
     radix: &mut Radix<LEVELS>,
     from: Start,
     _space: u16,
     page: u64,
+    kind: Option<Kind>,
 ) -> Option<u64>
     requires node { number_of _space (suc from.level) (up (suc from.level) page) radix.old.nodes ≡
         Some from.node }
@@ -119,12 +124,38 @@ fn straight<const LEVELS: usize>(
     ensures some { IfSome result (λ word.
         IsStraight LEVELS from.level _space page
         (small_leaf _space page word) radix.old radix.new) }
+    ensures allows { IfSome result (IsAllowed kind) }
     ensures none { IfNone result (radix.new ≡ radix.old) }
 {
     radix.words_read_back();
-    let word = quick_word(radix.front(), from.level, from.node, page)?;
+    let word = quick_word(radix.front(), from.level, from.node, page, kind)?;
     radix.count_loads(from.level as u64 + 1);
     Some(word)
+}
+
+/// The walk of a page from the root, where no cache has a width and the page's leaf is one of 4 KiB that
+/// allows an access of this kind.
+#[inline(always)]
+fn walk_uncached<const LEVELS: usize>(
+    radix: &mut Radix<LEVELS>,
+    caches: &WalkCaches,
+    space: u16,
+    page: u64,
+    kind: Kind,
+) -> Option<u64>
+    requires row { IsRow LEVELS (row_of radix.old caches.now) }
+    requires page { IsPage (shape_of LEVELS radix.old) space page }
+    ensures row { IsRow LEVELS (row_of radix.new caches.now) }
+    ensures some { IfSome result (λ word. IsAllowedWalk space page kind word
+        (row_table LEVELS (row_of radix.old caches.now))
+        (row_table LEVELS (row_of radix.new caches.now))) }
+    ensures none { IfNone result (radix.new ≡ radix.old) }
+{
+    radix.words_read_back();
+    if !caches.are_off() {
+        return None;
+    }
+    straight(radix, root(LEVELS, space), space, page, Some(kind))
 }
 
 /// Walks a page from one of its nodes, whatever the walk ends with, and fills the caches.
@@ -173,7 +204,7 @@ fn walk_from<const LEVELS: usize>(
 {
     radix.words_read_back();
     if caches.fills_none(from.level) {
-        if let Some(word) = straight(radix, from, space, page) {
+        if let Some(word) = straight(radix, from, space, page, None) {
             return QuickWalk::Small { word, cache_hits };
         }
     }
@@ -404,6 +435,10 @@ impl<const LEVELS: usize> Structure for RadixRow<LEVELS> {
 
     fn quick_walk(&mut self, space: u16, page: u64) -> QuickWalk {
         walk_row(&mut self.radix, &mut self.caches, space, page)
+    }
+
+    fn walk_allowed(&mut self, space: u16, page: u64, kind: Kind) -> Option<u64> {
+        walk_uncached(&mut self.radix, &self.caches, space, page, kind)
     }
 
     fn fence(&mut self, reach: Reach) -> u64 {

@@ -7,7 +7,7 @@ ghost use Rattle.xl_model.specs.Caches.{empty_cache};
 ghost use Rattle.xl_model.specs.Rows.{is_width};
 ghost use Rattle.xl_model.specs.Walks.{start_level, node_caches_after};
 ghost use Rattle.xl_radix.specs.Walk.{end_of};
-ghost use Rattle.xl_radix_walk.specs.Row.{above_off, caches_in, AreNumbered, filled_by, FillsNone, purged_caches, entries_of, fenced_caches};
+ghost use Rattle.xl_radix_walk.specs.Row.{above_off, caches_in, AreOff, AreNumbered, filled_by, FillsNone, purged_caches, entries_of, fenced_caches};
 
 use crate::caches::{Start, fence_caches, fill, look, purge};
 use std::alloc::Global;
@@ -95,6 +95,14 @@ impl WalkCaches {
             return None;
         }
         look(&mut self.kept, self.lowest, space, page)
+    }
+
+    /// Whether no cache has a width. Then no look finds anything, and no walk fills anything.
+    #[inline(always)]
+    pub fn are_off(&self) -> bool
+        ensures { IsTrue result → AreOff self.now }
+    {
+        self.kept.is_empty()
     }
 
     /// Whether no cache below this level has a width, so that no walk that starts there fills one.

@@ -17,8 +17,8 @@ returns-else-word-eq0-clause-none c =
     allowed_none word c.args.kind (λ high.
     elim c.else-word-eq0.branch [
       | else-word-eq0-via-then-word-eq0+else-allowed_bits-word-eq1 w ↦
-      let few : word % 64 < 64 = omega arith in
-      let clear : (w.allowed_bits.result / 2 ^ (word % 64) % 2 == 1) ≡ false = grind (arith, nat_tests, w.if-allowed_bits-word-eq1.false) in
-      sym (w.allowed_bits.ensures (word % 64) few ∙ low_same word c.args.kind) ∙ clear
+          let few : word % 64 < 64 = omega arith in
+          let clear : (w.allowed_bits.result / 2 ^ (word % 64) % 2 == 1) ≡ false = grind (arith, nat_tests, w.if-allowed_bits-word-eq1.false) in
+          sym (w.allowed_bits.ensures (word % 64) few ∙ low_same word c.args.kind) ∙ clear
       | else-word-eq0-via-else-word-eq0 w ↦ absurd (w.if-word-eq0.false high)
     ])

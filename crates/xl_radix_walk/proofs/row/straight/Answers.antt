@@ -12,4 +12,4 @@ quick_word-requires-clause-node g c =
 pub returns-clause-some : goal.returns-clause-some
 returns-clause-some g c =
     straight-found g.row.LEVELS c.args.from.level c.args.from.node c.args._space c.args.page c.in_ok-word.word c.args.radix.now c.count_loads.new.self c.words_read_back.ensures c.requires.node
-    (c.in_ok-word.ensures _ (c.front.ensures.front, c.front.ensures.lines)) c.count_loads.ensures
+    (c.in_ok-word.ensures.finds _ (c.front.ensures.front, c.front.ensures.lines)) c.count_loads.ensures

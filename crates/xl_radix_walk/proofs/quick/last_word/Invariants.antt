@@ -1,13 +1,13 @@
 use Rattle.std.proofs.Common.{◌≡◌, ◌≤◌, ◌<◌, ◌^◌, List, ℕ}
 use Rattle.xl_radix.specs.Walk.{radix_back}
 use Rattle.xl_radix_walk.specs.Quick.{AreFirst}
-use Rattle.xl_radix_walk.proofs.quick.quick_word.Given as goal
+use Rattle.xl_radix_walk.proofs.quick.last_word.Given as goal
 
 abbrev pub invariant-down : goal.invariant-down
 invariant-down l = record {
   low : l.level ≤ l.start;
-  small : l.at < 2 ^ 44;
-  end : (all : List ℕ) → AreFirst l.words all → radix_back all l.start l.fn.node l.page ≡ radix_back all l.level l.at l.page;
+  small : l.at < 2 ^ 54;
+  end : l.at < 2 ^ 44 → (all : List ℕ) → AreFirst l.words all → radix_back all l.start l.fn.node l.page ≡ radix_back all l.level l.at l.page;
 }
 
 abbrev pub decreases-down : goal.decreases-down
