@@ -13,6 +13,8 @@ pub(crate) struct Span {
     mode: Mode,
     /// How many addresses each of the two halves has: one at the front of all addresses, one at their end.
     half: u64,
+    /// How many there are of both.
+    both: u64,
     /// The number of the last page: a mask, since the pages are a power of two.
     last_page: u64,
 }
@@ -25,7 +27,7 @@ impl Model for Span {
 
     ghost view = { λ s. s.mode };
 
-    ghost invariant = { λ s. IsSpan s.half s.last_page s.mode };
+    ghost invariant = { λ s. IsSpan s.half s.both s.last_page s.mode };
 }
 
 impl Span {
@@ -41,6 +43,7 @@ impl Span {
         Span {
             mode,
             half: 1 << (bits + 11),
+            both: 1 << (bits + 12),
             last_page: (1 << bits) - 1,
         }
     }
@@ -50,7 +53,7 @@ impl Span {
     pub fn canonical(&self, va: u64) -> bool
         ensures { result ≡ is_canonical self.now va }
     {
-        va.wrapping_add(self.half) < 2 * self.half
+        va.wrapping_add(self.half) < self.both
     }
 
     /// The number of the page of an address.

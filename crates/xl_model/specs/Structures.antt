@@ -14,7 +14,7 @@ use Rattle.xl_model.specs.declared.work.Work.{Work}
 use Rattle.xl_model.specs.Addresses.{allows, pages_of}
 use Rattle.xl_model.specs.Mapping.{leaf_at_page}
 use Rattle.xl_model.specs.Changes.{Change, changed}
-use Rattle.xl_model.specs.Base.{plus}
+use Rattle.xl_model.specs.Base.{one_if, plus}
 use Rattle.xl_model.specs.LeafWords.{perm_at, small_leaf}
 use Rattle.xl_model.specs.Placing.{no_moves}
 use Rattle.xl_model.specs.Shapes.{Shape, Radix, Chained, Cuckoo, Runs, brought, widened, shape_after, placed_leaf, moves_of, is_placed}
@@ -142,11 +142,18 @@ walk_told space page (quick.Any walk) = walk
 abbrev pub IsQuickWalk : ℕ → ℕ → TableState → QuickWalk → TableState → Type 0
 IsQuickWalk space page old result new = IsWalk space page old (walk_told space page result) new
 
--- A walk as the definitions have it, which asked no cache and found a leaf of 4 KiB that has this word and allows
--- an access of this kind.
-pub record IsAllowedWalk (space page : ℕ) (kind : Kind) (word : ℕ) (old new : TableState) : Type 0 where
-  pub walks : IsWalk space page old (record { leaf = Some (small_leaf space page word); cache_hits = 0 }) new
+-- A walk as the definitions have it, which began at a node that a cache held, or else at the root, and found a leaf
+-- of 4 KiB that has this word and allows an access of this kind.
+pub record IsAllowedWalk (space page : ℕ) (kind : Kind) (cached : Bool) (word : ℕ) (old new : TableState) : Type 0 where
+  pub walks : IsWalk space page old (record { leaf = Some (small_leaf space page word); cache_hits = one_if cached }) new
   pub allowed : allows (perm_at word) kind ≡ true
+
+-- A walk of the page finds what it did before, and leaves the same: at most its own node was touched in a cache.
+pub record IsSameWalk (space page : ℕ) (old new : TableState) : Type 0 where
+  pub leaves : new.leaves ≡ old.leaves
+  pub shape : new.shape ≡ old.shape
+  pub loads : new.loads ≡ old.loads
+  pub walked_is : walked new.shape new.caches new.leaves space page ≡ walked old.shape old.caches old.leaves space page
 
 -- A call answers a fence as the definitions do, and leaves the table that they leave.
 pub record IsFence (to : Reach) (old : TableState) (result : ℕ) (new : TableState) : Type 0 where

@@ -71,12 +71,13 @@ pub struct Row {
 }
 
 /// The counts of a row, each modulo 2^64. `refused` has refusals 1 to 9 in order; `hits` and
-/// `misses` have one place per TLB array, and are 0 from `arrays` on, which is their number.
+/// `misses` have one place per TLB array, and are 0 from `arrays` on, which is their number. Counts that rise
+/// together don't stand side by side: LLVM would take both as one vector, at twice the instructions.
 #[derive(Clone, Copy, Debug, Default, PartialEq, Eq)]
 pub struct Counts {
     pub accesses: u64,
-    pub ok: u64,
     pub unmapped: u64,
+    pub ok: u64,
     pub denied: u64,
     pub not_canonical: u64,
     pub accepted: u64,

@@ -3,7 +3,7 @@
 ghost use Rattle.std.specs.Prelude.{◌≡◌, false, IfSome, IfNone};
 ghost use Rattle.xl_model.specs.Mapping.{leaf_at_page, meets_any};
 ghost use Rattle.xl_model.specs.Changes.{Insert, Remove, Protect, Relocate, IsNamed};
-ghost use Rattle.xl_model.specs.Structures.{TableState, IsBlock, IsPage, IsLeafFor, IsChange, IsWalk, IsQuickWalk, IsAllowedWalk, IsFence};
+ghost use Rattle.xl_model.specs.Structures.{TableState, IsBlock, IsPage, IsLeafFor, IsChange, IsWalk, IsQuickWalk, IsAllowedWalk, IsSameWalk, IsFence};
 
 use crate::address::{Kind, Order};
 use crate::event::Reach;
@@ -75,14 +75,16 @@ pub trait Structure: Drop {
         }
     }
 
-    /// Does what `walk` does, where that is soon done: no cache is asked, and the page's leaf is one of 4 KiB
-    /// that allows an access of this kind. Gives the leaf's word. None says nothing, and nothing changes then.
+    /// Does what `walk` does, where that is soon done: where `cached`, the walk begins at a node that the lowest cache
+    /// holds, else there is no cache; and the page's leaf is one of 4 KiB that allows an access of this kind. Gives the
+    /// leaf's word. None says nothing, and a walk of the page is then what it was.
     #[inline(always)]
-    fn walk_allowed(&mut self, _space: u16, _page: u64, _kind: Kind) -> Option<u64>
+    fn walk_allowed(&mut self, _space: u16, _page: u64, _kind: Kind, _cached: bool) -> Option<u64>
         requires { IsPage (table self.old).shape _space _page }
         ensures some { IfSome result (λ word.
-            IsAllowedWalk _space _page _kind word (table self.old) (table self.new)) }
-        ensures none { IfNone result (self.new ≡ self.old) }
+            IsAllowedWalk _space _page _kind _cached word (table self.old) (table self.new)) }
+        ensures none { IfNone result
+            (IsSameWalk _space _page (table self.old) (table self.new)) }
     {
         None
     }

@@ -14,7 +14,7 @@ use Rattle.xl_model.specs.declared.script.Item.TheVariants.{Command, Referenced}
 use Rattle.xl_model.specs.RowRun.{after_event, reply_to, outcome_of}
 use Rattle.xl_model.specs.Items.{area_for, wanted, map_of, again_where, demanded, state_after}
 use Rattle.xl_model.specs.Scenes.{Served, Scene, rows_after, scene_after, scenes_after}
-use Rattle.xl_machine.specs.Served.{accessed_by, after_of}
+use Rattle.xl_machine.specs.Served.{accessed_by, after_of, IsFramed}
 use Rattle.xl_lackey.specs.declared.skim.Access.{Access}
 use Rattle.xl_serving.specs.declared.batch.WaitingEvent.{WaitingEvent}
 use Rattle.xl_serving.specs.Batches.{item_of, items_waiting}
@@ -55,6 +55,12 @@ access-alone va k areas v m answer e not after =
     after
     ∙ ap (λ (z : Option Area). record v { state = demanded z v.row va (event.Access va k) (accessed_by va k v).state }) (sym (wanted-alone answer (area_for v.state.space va areas) not))
     ∙ sym (access-is va k areas v answer e)
+
+-- an access that a frame answered
+pub framed-alone : (va : ℕ) (k : Kind) (areas : List Area) (v m : Served) → IsFramed va k v m → m ≡ access_served va k areas v
+framed-alone va k areas v m framed =
+    let not : reply_to v.row v.state va k ≡ reply.Unmapped → ⊥ = λ e. let f : reply.Frame framed.frame.0 ≡ reply.Unmapped = sym framed.frame.1 ∙ e in cc in
+    access-alone va k areas v m (reply_to v.row v.state va k) refl not framed.after
 
 -- each row by itself
 rows-map : (a : Access) (areas : List Area) (rows : List Served) → rows_after (item_of a) areas rows ≡ map (access_served a.va a.kind areas) rows

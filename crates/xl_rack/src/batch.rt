@@ -28,9 +28,9 @@ fn serve_demand<S: Structure>(machine: &mut Machine<S>, va: u64, kind: Kind, are
     }
 }
 
-/// Serves an access, with the events of its demand. BARE says how the machine is asked.
+/// Serves an access, with the events of its demand. BARE and CACHED say how the machine is asked.
 #[inline(always)]
-fn serve_one<S: Structure, const BARE: bool>(
+fn serve_one<S: Structure, const BARE: bool, const CACHED: bool>(
     machine: &mut Machine<S>,
     va: u64,
     kind: Kind,
@@ -38,6 +38,9 @@ fn serve_one<S: Structure, const BARE: bool>(
 )
     ensures { machine.new ≡ access_served va kind areas.now machine.old }
 {
+    if machine.access_at_once::<BARE, CACHED>(va, kind) {
+        return;
+    }
     if let Reply::Unmapped = machine.access_as::<BARE>(va, kind) {
         serve_demand(machine, va, kind, areas);
     }
@@ -45,7 +48,7 @@ fn serve_one<S: Structure, const BARE: bool>(
 
 /// Serves accesses to a machine one after another.
 #[inline(never)]
-fn serve_each<S: Structure, const BARE: bool>(
+fn serve_each<S: Structure, const BARE: bool, const CACHED: bool>(
     machine: &mut Machine<S>,
     accesses: &[Access],
     areas: &Areas,
@@ -53,18 +56,21 @@ fn serve_each<S: Structure, const BARE: bool>(
     ensures { machine.new ≡ row_served accesses.now areas.now machine.old }
 {
     for access in accesses {
-        serve_one::<S, BARE>(machine, access.va, access.kind, areas);
+        serve_one::<S, BARE, CACHED>(machine, access.va, access.kind, areas);
     }
 }
 
-/// Serves accesses to a machine one after another: whether it has arrays is asked once for all of them.
+/// Serves accesses to a machine one after another: whether it has arrays, and a cache of its lowest nodes, is
+/// asked once for all of them.
 fn serve_all<S: Structure>(machine: &mut Machine<S>, accesses: &[Access], areas: &Areas)
     ensures { machine.new ≡ row_served accesses.now areas.now machine.old }
 {
-    if machine.is_bare() {
-        serve_each::<S, true>(machine, accesses, areas);
+    if !machine.is_bare() {
+        serve_each::<S, false, false>(machine, accesses, areas);
+    } else if machine.caches_lowest() {
+        serve_each::<S, true, true>(machine, accesses, areas);
     } else {
-        serve_each::<S, false>(machine, accesses, areas);
+        serve_each::<S, true, false>(machine, accesses, areas);
     }
 }
 

@@ -78,6 +78,10 @@ none-from level start least space page path (c ∷ cs) h =
     let t : (nat_lt level start && nat_le least level) ≡ false = grind (arith, nat_tests) in
     rw t (ap (λ (l : List (Cached Item)). c ∷ l) (none-from (level + 1) start least space page path cs (omega arith)))
 
+-- a walk from level 0 fills none
+pub fills-lowest : (cs : List (Cached Item)) → FillsNone 0 cs
+fills-lowest cs = record { stay = λ least space page path. none-from 0 0 least space page path cs (omega arith) }
+
 pub fills-none : (n start : ℕ) (cs : List (Cached Item)) → start ≤ n → FillsNone start (above_off n cs)
 fills-none n start cs h = record {
   stay = λ least space page path. filled-above n n 0 start least space page path cs (omega arith) ∙ ap (above_off n) (none-from n start least space page path cs h);

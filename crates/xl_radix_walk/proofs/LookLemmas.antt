@@ -58,7 +58,7 @@ any-none q (y ∷ ys) e = elim (q y) as (λ b. q y ≡ b → cond b (Some y) (fi
   | false ↦ λ t g. any-none q ys g
 ] refl e
 
-touched-none : (q : Item → Bool) (xs : List Item) → find q xs ≡ None → touched q xs ≡ xs
+pub touched-none : (q : Item → Bool) (xs : List Item) → find q xs ≡ None → touched q xs ≡ xs
 touched-none q xs e = rw e (same xs e)
   where
     same : (xs : List Item) → find q xs ≡ None → without_first q xs ≡ xs
@@ -112,7 +112,7 @@ start-from level space page (c ∷ cs) =
       | false ↦ let h = start-from (level + 1) space page cs in omega arith
     ]
 
-above-same : (level start space page : ℕ) (cs : List (Cached Numbered)) → start < level → node_caches_after level start None space page [] cs ≡ cs
+pub above-same : (level start space page : ℕ) (cs : List (Cached Numbered)) → start < level → node_caches_after level start None space page [] cs ≡ cs
 above-same level start space page [] h = refl
 above-same level start space page (c ∷ cs) h =
     let t : (level == start) ≡ false = grind (arith, nat_tests) in

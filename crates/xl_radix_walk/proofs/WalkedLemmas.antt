@@ -1,5 +1,5 @@
 -- A walk of a row from one of a page's nodes.
-use Rattle.std.proofs.Common.{ℕ, suc, ◌≡◌, ◌+◌, ◌-◌, ◌*◌, ◌/◌, ◌%◌, ◌^◌, ◌<◌, ◌≤◌, is_some, List, [], length, Option, Some, None, refl, ap, sym, ◌∙◌, arith}
+use Rattle.std.proofs.Common.{ℕ, suc, ◌≡◌, ◌+◌, ◌-◌, ◌*◌, ◌/◌, ◌%◌, ◌^◌, ◌<◌, ◌≤◌, is_some, List, [], length, Option, Some, None, false, refl, ap, sym, ◌∙◌, arith}
 use Rattle.std.specs.Prelude.{IfSome}
 use Rattle.xl_model.specs.declared.address.Kind.{Kind}
 use Rattle.xl_model.specs.declared.address.Order.TheVariants as order
@@ -72,7 +72,7 @@ module _ (top space page : ℕ) (t : Table) (cs : List (Cached Item)) (back : Wo
       (root-at top t.spaces space page t.leaves t.nodes t.words back row.low fits.page_in fits.space_in)
 
   pub uncached-walk : (new : Table) (kind : Kind) (o : Option ℕ) → IfSome o (λ word. IsStraight top (start_or top space None).level space page (small_leaf space page word) t new) → IfSome o (IsAllowed (Some kind))
-      → IfSome o (λ word. IsAllowedWalk space page kind word (row_table top (row_of t cs)) (row_table top (row_of new cs)))
+      → IfSome o (λ word. IsAllowedWalk space page kind false word (row_table top (row_of t cs)) (row_table top (row_of new cs)))
   uncached-walk new kind None straight allowed = tt
   uncached-walk new kind (Some word) straight allowed =
       let from : Start = start_or top space None in

@@ -10,7 +10,7 @@ use Rattle.xl_model.specs.Placing.{no_moves}
 use Rattle.xl_model.specs.Base.{plus}
 use Rattle.xl_model.specs.Mapping.{leaf_at_page}
 use Rattle.xl_model.specs.Recency.{with_newest, purged}
-use Rattle.xl_model.specs.Walks.{end_level}
+use Rattle.xl_model.specs.Walks.{end_level, node_caches_after, start_level}
 use Rattle.xl_model.specs.Shapes.{Radix, opening_shape}
 use Rattle.xl_model.specs.Structures.{TableState, work_of}
 use Rattle.xl_model_lemmas.specs.Members.{In}
@@ -76,6 +76,15 @@ filled_caches level start least space page path (c ∷ cs) =
 abbrev pub above_off : ℕ → List (Cached Item) → List (Cached Item)
 above_off zero cs = cs
 above_off (suc n) cs = empty_cache 0 ∷ above_off n cs
+
+-- The cache of level 0 held the page's node, which has this number, and the node was touched there.
+pub record IsLowest (space page : ℕ) (old new : List (Cached Item)) (node : ℕ) : Type 0 where
+  pub start : start_level 0 space page (caches_in 0 old) ≡ 0
+  pub caches : caches_in 0 new ≡ node_caches_after 0 0 None space page [] (caches_in 0 old)
+  pub size : length new ≡ length old
+  pub low : 0 < length old
+  pub number : (nodes : List (Option Node)) → AreNumbered 0 nodes old → number_of space 1 (up 1 page) nodes ≡ Some node
+  pub kept : (nodes : List (Option Node)) → AreNumbered 0 nodes old → AreNumbered 0 nodes new
 
 -- None of these caches has a width.
 abbrev pub AreOff : List (Cached Item) → Type 0

@@ -19,7 +19,7 @@ pub(crate) struct Start {
 }
 
 /// The tag of the page's node of this level.
-fn tag_of(space: u16, page: u64, level: usize) -> u64
+pub(crate) fn tag_of(space: u16, page: u64, level: usize) -> u64
     requires level { level < 4 }
     requires page { page < 2 ^ 45 }
     ensures { result ≡ tag_at space level page }
@@ -28,7 +28,7 @@ fn tag_of(space: u16, page: u64, level: usize) -> u64
 }
 
 /// Touches the newest item of a tag.
-fn touch_tag(cache: &mut Cache<Item>, tag: u64) -> Option<Item>
+pub(crate) fn touch_tag(cache: &mut Cache<Item>, tag: u64) -> Option<Item>
     ensures touched { Touches (has_tag tag) cache.old.items cache.new.items result }
     ensures width { cache.new.width ≡ cache.old.width }
 {

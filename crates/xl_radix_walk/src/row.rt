@@ -1,6 +1,6 @@
 //! A radix table with its walk caches.
 
-ghost use Rattle.std.specs.Prelude.{◌≡◌, suc, ◌+◌, ◌-◌, ◌*◌, ◌^◌, ◌<◌, ◌≤◌, [], false, slice_index, None, Some, length, IsTrue, IfOk, IfSome, IfNone};
+ghost use Rattle.std.specs.Prelude.{◌≡◌, true, suc, ◌+◌, ◌-◌, ◌*◌, ◌^◌, ◌<◌, ◌≤◌, [], false, slice_index, None, Some, length, IsTrue, IfOk, IfSome, IfNone};
 ghost use Rattle.std.specs.List.{list_all};
 ghost use Rattle.xl_model.specs.declared.work.NoRoom.TheVariants as why;
 ghost use Rattle.xl_model.specs.Changes.{Insert, Remove, Protect, Relocate, IsNamed};
@@ -11,7 +11,7 @@ ghost use Rattle.xl_model.specs.LeafWords.{small_leaf};
 ghost use Rattle.xl_model.specs.Rows.{is_width};
 ghost use Rattle.xl_model.specs.Placing.{no_moves};
 ghost use Rattle.xl_model.specs.Walks.{end_level};
-ghost use Rattle.xl_model.specs.Structures.{IsBlock, IsLeafFor, IsPage, IsChange, IsQuickWalk, IsAllowedWalk, IsFence, walk_told, work_of};
+ghost use Rattle.xl_model.specs.Structures.{IsBlock, IsLeafFor, IsPage, IsChange, IsQuickWalk, IsAllowedWalk, IsSameWalk, IsFence, walk_told, work_of};
 ghost use Rattle.xl_radix.specs.Walk.{walk_end};
 ghost use Rattle.xl_radix.specs.Steps.{shape_of};
 ghost use Rattle.xl_radix_walk.specs.Quick.{IsAllowed};
@@ -146,7 +146,7 @@ fn walk_uncached<const LEVELS: usize>(
     requires row { IsRow LEVELS (row_of radix.old caches.now) }
     requires page { IsPage (shape_of LEVELS radix.old) space page }
     ensures row { IsRow LEVELS (row_of radix.new caches.now) }
-    ensures some { IfSome result (λ word. IsAllowedWalk space page kind word
+    ensures some { IfSome result (λ word. IsAllowedWalk space page kind false word
         (row_table LEVELS (row_of radix.old caches.now))
         (row_table LEVELS (row_of radix.new caches.now))) }
     ensures none { IfNone result (radix.new ≡ radix.old) }
@@ -156,6 +156,31 @@ fn walk_uncached<const LEVELS: usize>(
         return None;
     }
     straight(radix, root(LEVELS, space), space, page, Some(kind))
+}
+
+/// The walk of a page from its node of level 0, where the cache of that level holds it and the page's leaf
+/// allows an access of this kind.
+#[inline(always)]
+fn walk_lowest<const LEVELS: usize>(
+    radix: &mut Radix<LEVELS>,
+    caches: &mut WalkCaches,
+    space: u16,
+    page: u64,
+    kind: Kind,
+) -> Option<u64>
+    requires row { IsRow LEVELS (row_of radix.old caches.old) }
+    requires page { IsPage (shape_of LEVELS radix.old) space page }
+    ensures row { IsRow LEVELS (row_of radix.new caches.new) }
+    ensures some { IfSome result (λ word. IsAllowedWalk space page kind true word
+        (row_table LEVELS (row_of radix.old caches.old))
+        (row_table LEVELS (row_of radix.new caches.new))) }
+    ensures none { IfNone result (IsSameWalk space page
+        (row_table LEVELS (row_of radix.old caches.old))
+        (row_table LEVELS (row_of radix.new caches.new))) }
+{
+    radix.words_read_back();
+    let node = caches.look_lowest(space, page)?;
+    straight(radix, Start { level: 0, node }, space, page, Some(kind))
 }
 
 /// Walks a page from one of its nodes, whatever the walk ends with, and fills the caches.
@@ -437,8 +462,13 @@ impl<const LEVELS: usize> Structure for RadixRow<LEVELS> {
         walk_row(&mut self.radix, &mut self.caches, space, page)
     }
 
-    fn walk_allowed(&mut self, space: u16, page: u64, kind: Kind) -> Option<u64> {
-        walk_uncached(&mut self.radix, &self.caches, space, page, kind)
+    #[inline(always)]
+    fn walk_allowed(&mut self, space: u16, page: u64, kind: Kind, cached: bool) -> Option<u64> {
+        if cached {
+            walk_lowest(&mut self.radix, &mut self.caches, space, page, kind)
+        } else {
+            walk_uncached(&mut self.radix, &self.caches, space, page, kind)
+        }
     }
 
     fn fence(&mut self, reach: Reach) -> u64 {

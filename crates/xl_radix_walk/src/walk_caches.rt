@@ -7,9 +7,9 @@ ghost use Rattle.xl_model.specs.Caches.{empty_cache};
 ghost use Rattle.xl_model.specs.Rows.{is_width};
 ghost use Rattle.xl_model.specs.Walks.{start_level, node_caches_after};
 ghost use Rattle.xl_radix.specs.Walk.{end_of};
-ghost use Rattle.xl_radix_walk.specs.Row.{above_off, caches_in, AreOff, AreNumbered, filled_by, FillsNone, purged_caches, entries_of, fenced_caches};
+ghost use Rattle.xl_radix_walk.specs.Row.{above_off, caches_in, AreOff, AreNumbered, IsLowest, filled_by, FillsNone, purged_caches, entries_of, fenced_caches};
 
-use crate::caches::{Start, fence_caches, fill, look, purge};
+use crate::caches::{Start, fence_caches, fill, look, purge, tag_of, touch_tag};
 use std::alloc::Global;
 use std::marker::Model;
 use xl_model::{NoMemory, Reach};
@@ -95,6 +95,23 @@ impl WalkCaches {
             return None;
         }
         look(&mut self.kept, self.lowest, space, page)
+    }
+
+    /// The number of the page's node of level 0, where the cache of that level holds it; it is touched then.
+    #[inline(never)]
+    pub fn look_lowest(&mut self, space: u16, page: u64) -> Option<u64>
+        requires page { page < 2 ^ 45 }
+        ensures some { IfSome result (IsLowest space page self.old self.new) }
+        ensures none { IfNone result (self.new ≡ self.old) }
+    {
+        if self.lowest > 0 {
+            return None;
+        }
+        let Some((first, _others)) = self.kept.split_first_mut() else {
+            return None;
+        };
+        let item = touch_tag(first, tag_of(space, page, 0))?;
+        Some(item.word)
     }
 
     /// Whether no cache has a width. Then no look finds anything, and no walk fills anything.

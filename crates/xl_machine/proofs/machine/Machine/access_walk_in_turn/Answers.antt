@@ -5,7 +5,7 @@ use Rattle.xl_model.specs.Mapping.{leaf_at_page}
 use Rattle.xl_model.specs.Rows.{row_of}
 use Rattle.xl_model.specs.declared.leaf.Reply.TheVariants as reply
 use Rattle.xl_machine.proofs.Accesses.{page_small, walk_leaf, told_leaf, told_hits, missed_kept, walked_kept, walked_reached, walked_fit, walked_reply, walked_after}
-use Rattle.xl_machine.proofs.machine.Machine.access_walk.Goals as goal
+use Rattle.xl_machine.proofs.machine.Machine.access_walk_in_turn.Goals as goal
 
 pub quick_walk-requires : goal.quick_walk-requires
 quick_walk-requires g c =
