@@ -28,7 +28,7 @@ pub(crate) fn tag_of(space: u16, page: u64, level: usize) -> u64
 }
 
 /// Touches the newest item of a tag.
-pub(crate) fn touch_tag(cache: &mut Cache<Item>, tag: u64) -> Option<Item>
+fn touch_tag(cache: &mut Cache<Item>, tag: u64) -> Option<Item>
     ensures touched { Touches (has_tag tag) cache.old.items cache.new.items result }
     ensures width { cache.new.width ≡ cache.old.width }
 {

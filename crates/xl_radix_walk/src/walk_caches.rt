@@ -7,9 +7,10 @@ ghost use Rattle.xl_model.specs.Caches.{empty_cache};
 ghost use Rattle.xl_model.specs.Rows.{is_width};
 ghost use Rattle.xl_model.specs.Walks.{start_level, node_caches_after};
 ghost use Rattle.xl_radix.specs.Walk.{end_of};
-ghost use Rattle.xl_radix_walk.specs.Row.{above_off, caches_in, AreOff, AreNumbered, IsLowest, filled_by, FillsNone, purged_caches, entries_of, fenced_caches};
+ghost use Rattle.xl_recency.specs.Lists.{Touches};
+ghost use Rattle.xl_radix_walk.specs.Row.{above_off, has_tag, tag_at, caches_in, AreOff, AreNumbered, IsLowest, filled_by, FillsNone, purged_caches, entries_of, fenced_caches};
 
-use crate::caches::{Start, fence_caches, fill, look, purge, tag_of, touch_tag};
+use crate::caches::{Start, fence_caches, fill, look, purge, tag_of};
 use std::alloc::Global;
 use std::marker::Model;
 use xl_model::{NoMemory, Reach};
@@ -61,6 +62,18 @@ fn open_caches(alloc: Global, widths: &[u8]) -> Result<Vec<Cache<Item>>, NoMemor
     Ok(caches)
 }
 
+/// Touches the page's node in the cache of level 0. The closure makes code of its own, which LLVM puts in line
+/// since one place alone calls it, as it does at the look at all caches.
+fn touch_lowest(cache: &mut Cache<Item>, space: u16, page: u64) -> Option<Item>
+    requires page { page < 2 ^ 45 }
+    ensures touched { Touches (has_tag (tag_at space 0 page)) cache.old.items cache.new.items
+        result }
+    ensures width { cache.new.width ≡ cache.old.width }
+{
+    let tag = tag_of(space, page, 0);
+    cache.touch(|item| item.tag == tag)
+}
+
 impl WalkCaches {
     /// Empty caches of these widths.
     pub fn open(alloc: Global, widths: &[u8]) -> Result<WalkCaches, NoMemory>
@@ -110,7 +123,7 @@ impl WalkCaches {
         let Some((first, _others)) = self.kept.split_first_mut() else {
             return None;
         };
-        let item = touch_tag(first, tag_of(space, page, 0))?;
+        let item = touch_lowest(first, space, page)?;
         Some(item.word)
     }
 
