@@ -78,6 +78,23 @@ decode-points word level = go (bit word 0) (word / 2 ^ 54 == 0)
     go true false = tt
     go false b = tt
 
+entered-none : (words : List ℕ) (page : ℕ) (p : Pte) → Points p 0 → entered p (λ next. entering words 0 next page) ≡ []
+unfolding Points
+entered-none words page (pte.Pointer next) points = absurd (let h = points.1 in omega arith)
+entered-none words page pte.Invalid points = refl
+entered-none words page (pte.Leaf frame perm) points = refl
+entered-none words page pte.Reserved points = refl
+entered-none words page pte.Misaligned points = refl
+
+-- no walk goes on at level 0
+pub path-none : (words : List ℕ) (node page : ℕ) → radix_path words 0 node page ≡ []
+unfolding radix_path
+path-none words node page = go (is_there words (place_of 0 node page))
+  where
+    go : (b : Bool) → cond b (entered (decode_of (slice_index words (place_of 0 node page)) 0) (λ next. entering words 0 next page)) [] ≡ []
+    go true = entered-none words page (decode_of (slice_index words (place_of 0 node page)) 0) (decode-points (slice_index words (place_of 0 node page)) 0)
+    go false = refl
+
 word-points : (words : List ℕ) (level node page : ℕ) (p : Pte) → word_in words level node page ≡ Some p → Points p level
 word-points words level node page p h = go (is_there words (place_of level node page)) h
   where

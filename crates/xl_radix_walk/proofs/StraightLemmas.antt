@@ -1,12 +1,15 @@
 -- Steps of the quick walk.
-use Rattle.std.proofs.Common.{◌≡◌, refl, sym, ap, ◌∙◌, subst, ℕ, zero, suc, ◌-◌, ◌/◌, ◌^◌, ◌<◌, List, slice_index, arith}
+use Rattle.std.proofs.Common.{◌≡◌, refl, sym, ap, ◌∙◌, subst, ℕ, zero, suc, ◌+◌, ◌-◌, ◌/◌, ◌^◌, ◌<◌, ◌≤◌, List, [], ◌∷◌, ◌++◌, length, take, slice_index, slice_set, arith, append_assoc, append-nil}
+use Rattle.std.proofs.lemmas.Grind.{take-set_at}
 use Rattle.std.specs.Prelude.{Option, None, Some, IfSome}
 use Rattle.xl_model.specs.LeafWords.{perm_at}
 use Rattle.xl_pte.specs.Decode.{decode_of, SaysSmall}
 use Rattle.xl_pte.specs.declared.word.Pte.TheVariants as pte
 use Rattle.xl_radix.specs.declared.walk_end.WalkEnd.TheVariants as end
 use Rattle.xl_radix.specs.Walk.{place_of, radix_back}
-use Rattle.xl_radix_walk.specs.Quick.{Points, HasWord, EndsAt}
+use Rattle.xl_radix_walk.specs.Path.{radix_path}
+use Rattle.xl_radix_walk.specs.Quick.{Points, HasWord, EndsAt, Enters}
+use Rattle.xl_radix_walk.proofs.StepLemmas.{path-none}
 
 pub steps-on : (words : List ℕ) (level node page word next : ℕ) → 0 < level → HasWord words level node page word → Points word next
     → radix_back words level node page ≡ radix_back words (level - 1) next page
@@ -18,6 +21,25 @@ steps-on words (suc level) node page word next low h points =
     ap (λ (w : ℕ). decode_of w (suc level)) (sym h.1) ∙ points (suc level) low in
     let P : ℕ → Type 0 = λ l. radix_back words (suc level) node page ≡ radix_back words l next page in
     subst P (sym same) (rw (h.0, e) refl)
+
+pub enters-on : (words : List ℕ) (level node page word next : ℕ) → 0 < level → HasWord words level node page word → Points word next
+    → radix_path words level node page ≡ next ∷ radix_path words (level - 1) next page
+unfolding radix_path
+enters-on words zero node page word next low h points = absurd (omega arith)
+enters-on words (suc level) node page word next low h points =
+    let same : suc level - 1 ≡ level = omega arith in
+    let e : decode_of (slice_index words (place_of (suc level) node page)) (suc level) ≡ pte.Pointer next =
+    ap (λ (w : ℕ). decode_of w (suc level)) (sym h.1) ∙ points (suc level) low in
+    let P : ℕ → Type 0 = λ l. radix_path words (suc level) node page ≡ next ∷ radix_path words l next page in
+    subst P (sym same) (rw (h.0, e) refl)
+
+-- a node more is put behind those that were entered
+pub entered-more : (whole path rest : List ℕ) (start level next : ℕ) → level ≤ start → 0 < level → start < length path + level → whole ≡ take (start - level) path ++ next ∷ rest
+    → whole ≡ take (start - (level - 1)) (slice_set path (start - level) next) ++ rest
+entered-more whole path rest start level next high low room e =
+    let t : take (start - (level - 1)) (slice_set path (start - level) next) ≡ take (start - level) path ++ next ∷ [] =
+    take-set_at path (start - level) (start - (level - 1)) next (omega arith) (omega arith) in
+    e ∙ rw t (sym (append_assoc (take (start - level) path) (next ∷ []) rest))
 
 ends-at : (words : List ℕ) (node page word small : ℕ) → HasWord words 0 node page word → SaysSmall word small
     → radix_back words 0 node page ≡ end.Leaf 0 (small / 16) (perm_at small)
@@ -33,3 +55,13 @@ ends-if words start from level at page None z e near h = tt
 ends-if words start from level at page (Some word) z e near h = λ small said.
     let P : ℕ → Type 0 = λ l. radix_back words start from page ≡ radix_back words l at page in
     subst P z (e near) ∙ ends-at words at page word small h said
+
+-- at level 0 no node is entered
+pub enters-if : (words : List ℕ) (start from level at page : ℕ) (path : List ℕ) (o : Option ℕ) → level ≡ 0 → (at < 2 ^ 44 → radix_path words start from page ≡ take (start - level) path ++ radix_path words level at page)
+    → IfSome o (λ word. at < 2 ^ 44) → IfSome o (λ word. Enters words start from page path)
+enters-if words start from level at page path None z e near = tt
+enters-if words start from level at page path (Some word) z e near =
+    let P : ℕ → Type 0 = λ l. radix_path words start from page ≡ take (start - l) path ++ radix_path words l at page in
+    let all : start - 0 ≡ start = omega arith in
+    let whole : radix_path words start from page ≡ take (start - 0) path ++ radix_path words 0 at page = subst P z (e near) in
+    sym (whole ∙ rw (all, path-none words at page) (append-nil (take start path)))

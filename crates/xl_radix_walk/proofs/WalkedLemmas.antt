@@ -1,8 +1,10 @@
 -- A walk of a row from one of a page's nodes.
-use Rattle.std.proofs.Common.{ℕ, suc, ◌≡◌, ◌+◌, ◌-◌, ◌*◌, ◌/◌, ◌%◌, ◌^◌, ◌<◌, ◌≤◌, is_some, List, [], length, Option, Some, None, false, refl, ap, sym, ◌∙◌, arith}
+use Rattle.std.proofs.Common.{ℕ, suc, ◌≡◌, ◌+◌, ◌-◌, ◌*◌, ◌/◌, ◌%◌, ◌^◌, ◌<◌, ◌≤◌, is_some, List, [], length, take, slice_index, Option, Some, None, false, refl, ap, sym, subst, ◌∙◌, arith}
+use Rattle.std.proofs.lemmas.List.{get_or-take}
 use Rattle.std.specs.Prelude.{IfSome}
 use Rattle.xl_model.specs.declared.address.Kind.{Kind}
 use Rattle.xl_model.specs.declared.address.Order.TheVariants as order
+use Rattle.xl_model.specs.Addresses.{level_of}
 use Rattle.xl_model.specs.LeafWords.{perm_at, small_leaf}
 use Rattle.xl_model.specs.Base.{one_if, plus}
 use Rattle.xl_model.specs.declared.leaf.Leaf.{Leaf}
@@ -16,9 +18,9 @@ use Rattle.xl_radix.specs.Table.{Table}
 use Rattle.xl_radix.specs.Walk.{walk_end, WordsReadBack}
 use Rattle.xl_recency.specs.declared.item.Item.{Item}
 use Rattle.xl_radix_walk.specs.Path.{radix_path}
-use Rattle.xl_radix_walk.specs.Quick.{Finds, IsAllowed}
+use Rattle.xl_radix_walk.specs.Quick.{Enters, Finds, IsAllowed}
 use Rattle.xl_radix_walk.specs.declared.caches.Start.{Start}
-use Rattle.xl_radix_walk.specs.Row.{caches_in, AreNumbered, AreOff, leaf_told, filled_by, start_or, FillsNone, IsRow, IsStraight, IsWalked, row_of, row_table}
+use Rattle.xl_radix_walk.specs.Row.{caches_in, AreNumbered, AreOff, leaf_told, filled_by, filled_caches, start_or, FillsNone, IsPath, IsRow, IsStraight, IsWalked, row_of, row_table}
 use Rattle.xl_radix_walk.proofs.AboveLemmas.{are-looked, are-filled}
 use Rattle.xl_radix_walk.proofs.DescentLemmas.{walk-path}
 use Rattle.xl_radix_walk.proofs.RowLemmas.{IsStart, WalkedRow, is-start, page-low, root-at, leaf-told, row-walked, row-answer}
@@ -37,17 +39,38 @@ straight-found top start node space page word t new back at finds loads =
     small : ℕ → Option Leaf
     small first = Some (record { space = space; first = first; order = order.K4; frame = word / 16; perm = perm_at word })
 
-pub straight-walked : (top start node space page : ℕ) (leaf : Leaf) (t new : Table) (cs : List (Cached Item)) → WordsReadBack top t.spaces t.leaves t.nodes t.words → number_of space (suc start) (up (suc start) page) t.nodes ≡ Some node
-    → IsStraight top start space page leaf t new → FillsNone start cs → IsWalked top start space page (Some leaf) t cs new cs
-straight-walked top start node space page leaf t new cs back at s none =
+-- the path of a walk that found a leaf of 4 KiB
+pub straight-path : (top start node space page : ℕ) (leaf : Leaf) (t new : Table) (path : List ℕ) → WordsReadBack top t.spaces t.leaves t.nodes t.words → number_of space (suc start) (up (suc start) page) t.nodes ≡ Some node
+    → IsStraight top start space page leaf t new → Enters t.words start node page path → IsPath 0 start space page path t.nodes
+straight-path top start node space page leaf t new path back at s enters = record {
+  same = λ h low high.
+      let all : IsPath (end_level (top - 1) 0 space page t.leaves) start space page (radix_path t.words start node page) t.nodes = walk-path t.words top t.spaces space page start node t.leaves t.nodes back at in
+      let first : slice_index (take start path) (start - 1 - h) ≡ slice_index path (start - 1 - h) = get_or-take start path (start - 1 - h) 0 (omega arith) in
+      all.same h (let e = s.level in omega arith) high ∙ ap (λ (n : ℕ). Some n) (ap (λ (ns : List ℕ). slice_index ns (start - 1 - h)) (sym enters) ∙ first);
+}
+
+-- a straight walk whose path filled the caches
+pub filling-walked : (top start space page : ℕ) (leaf : Leaf) (t new : Table) (cs after : List (Cached Item)) (path : List ℕ) → WordsReadBack top t.spaces t.leaves t.nodes t.words
+    → IsStraight top start space page leaf t new → IsPath 0 start space page path t.nodes → after ≡ filled_caches 0 start 0 space page path cs → IsWalked top start space page (Some leaf) t cs new after
+filling-walked top start space page leaf t new cs after path back s is filled =
     record {
       leaf = sym s.found;
       loads = s.loads ∙ ap (λ (n : ℕ). record t { loads = plus t.loads (n + 1) }) count;
-      filled = (radix_path t.words start node page, walk-path t.words top t.spaces space page start node t.leaves t.nodes back at, sym (none.stay _ space page (radix_path t.words start node page)));
+      filled = (path, subst (λ (l : ℕ). IsPath l start space page path t.nodes) (sym s.level) is, subst (λ (l : ℕ). after ≡ filled_caches 0 start l space page path cs) low filled);
     }
   where
     count : start ≡ start - end_level (top - 1) 0 space page t.leaves
     count = let e = s.level in omega arith
+
+    low : 0 ≡ level_of leaf.order
+    low = sym s.level ∙ back.kept.ends space page leaf s.found
+
+pub straight-walked : (top start node space page : ℕ) (leaf : Leaf) (t new : Table) (cs : List (Cached Item)) → WordsReadBack top t.spaces t.leaves t.nodes t.words → number_of space (suc start) (up (suc start) page) t.nodes ≡ Some node
+    → IsStraight top start space page leaf t new → FillsNone start cs → IsWalked top start space page (Some leaf) t cs new cs
+straight-walked top start node space page leaf t new cs back at s none =
+    let path : List ℕ = radix_path t.words start node page in
+    filling-walked top start space page leaf t new cs cs path back s
+    (subst (λ (l : ℕ). IsPath l start space page path t.nodes) s.level (walk-path t.words top t.spaces space page start node t.leaves t.nodes back at)) (sym (none.stay 0 space page path))
 
 -- the row after a walk, and what it answers
 pub record WalkedFrom (top space page : ℕ) (t new : Table) (cs after : List (Cached Item)) (r : Option Leaf) (hits : ℕ) : Type 0 where

@@ -1,5 +1,5 @@
 -- What the quick walk finds.
-use Rattle.std.specs.Prelude.{ℕ, ◌≡◌, ◌<◌, ◌/◌, ◌%◌, true, List, length, slice_index, Option, None, Some}
+use Rattle.std.specs.Prelude.{ℕ, ◌≡◌, ◌<◌, ◌/◌, ◌%◌, true, List, length, take, slice_index, Option, None, Some}
 use Rattle.xl_model.specs.declared.address.Kind.{Kind}
 use Rattle.xl_model.specs.Addresses.{allows}
 use Rattle.xl_model.specs.LeafWords.{perm_at}
@@ -8,6 +8,7 @@ use Rattle.xl_pte.specs.declared.word.Pte.TheVariants as pte
 use Rattle.xl_radix.specs.declared.walk_end.WalkEnd.TheVariants as end
 use Rattle.xl_radix.specs.Lazy.{IsFront}
 use Rattle.xl_radix.specs.Walk.{place_of, is_there, radix_back}
+use Rattle.xl_radix_walk.specs.Path.{radix_path}
 
 -- Above level 0 a word points to a node.
 abbrev pub Points : ℕ → ℕ → Type 0
@@ -24,6 +25,10 @@ Finds words start node page small = radix_back words start node page ≡ end.Lea
 -- The walk of a page ends at level 0 at this word: at the leaf that it says, if any.
 abbrev pub EndsAt : List ℕ → ℕ → ℕ → ℕ → ℕ → Type 0
 EndsAt words start node page word = (small : ℕ) → SaysSmall word small → Finds words start node page small
+
+-- The nodes that the walk of a page enters below its start come first here, in order.
+abbrev pub Enters : List ℕ → ℕ → ℕ → ℕ → List ℕ → Type 0
+Enters words start node page path = take start path ≡ radix_path words start node page
 
 -- Where a kind is given, the permission in this word allows an access of it.
 abbrev pub IsAllowed : Option Kind → ℕ → Type 0

@@ -3,7 +3,7 @@
 ghost use Rattle.std.specs.Prelude.{◌≡◌, ℕ, ◌<◌, ◌≤◌, ◌^◌, List, length, IfSome};
 ghost use Rattle.xl_pte.specs.Decode.{decode_of};
 ghost use Rattle.xl_radix.specs.Walk.{radix_back};
-ghost use Rattle.xl_radix_walk.specs.Quick.{Points, EndsAt, Finds, HasWord, AreFirst, IsAllowed};
+ghost use Rattle.xl_radix_walk.specs.Quick.{Points, EndsAt, Enters, Finds, HasWord, AreFirst, IsAllowed};
 
 use xl_model::Kind;
 use xl_pte::{allowed_word, small_word};
@@ -35,20 +35,23 @@ pub(crate) fn pointed(word: u64) -> Option<u64>
 }
 
 /// The word at level 0 that the walk of a page from `node` of level `start` ends at, over all words of which
-/// these are the first. None says nothing.
+/// these are the first. The nodes entered come first in `path`. None says nothing.
 #[inline(always)]
-fn last_word(words: &[u64], start: usize, node: u64, page: u64) -> Option<u64>
+fn last_word(words: &[u64], start: usize, node: u64, page: u64, path: &mut [u64; 4]) -> Option<u64>
     requires few { length words.now ≤ 2 ^ 53 }
     requires start { start < 5 }
     requires node { node < 2 ^ 44 }
-    ensures { (all : List ℕ) → AreFirst words.now all
+    ensures ends { (all : List ℕ) → AreFirst words.now all
         → IfSome result (EndsAt all start node page) }
+    ensures path { (all : List ℕ) → AreFirst words.now all
+        → IfSome result (λ _. Enters all start node page path.new) }
 {
     let mut level = start;
     let mut at = node;
     'down: while level > 0 {
         // No word is at a number that has a reserved bit.
         at = number_pointed(word_at(words, level, at, page)?)?;
+        path[start - level] = at;
         level -= 1;
     }
     word_at(words, 0, at, page)
@@ -56,7 +59,7 @@ fn last_word(words: &[u64], start: usize, node: u64, page: u64) -> Option<u64>
 
 /// The word of the leaf that the walk of a page from `node` of level `start` finds at level 0, over all words
 /// of which these are the first: its frame (times 16) and its permission. Where a kind is given, the leaf
-/// allows an access of it. None says nothing.
+/// allows an access of it. The nodes entered come first in `path`. None says nothing.
 #[inline(always)]
 pub(crate) fn quick_word(
     words: &[u64],
@@ -64,15 +67,18 @@ pub(crate) fn quick_word(
     node: u64,
     page: u64,
     kind: Option<Kind>,
+    path: &mut [u64; 4],
 ) -> Option<u64>
     requires few { length words.now ≤ 2 ^ 53 }
     requires start { start < 5 }
     requires node { node < 2 ^ 44 }
     ensures finds { (all : List ℕ) → AreFirst words.now all
         → IfSome result (Finds all start node page) }
+    ensures path { (all : List ℕ) → AreFirst words.now all
+        → IfSome result (λ _. Enters all start node page path.new) }
     ensures allows { IfSome result (IsAllowed kind) }
 {
-    let word = last_word(words, start, node, page)?;
+    let word = last_word(words, start, node, page, path)?;
     match kind {
         Some(kind) => allowed_word(word, kind),
         None => small_word(word),

@@ -109,7 +109,7 @@ fn found_leaf(space: u16, page: u64, end: WalkEnd) -> Option<Leaf>
 
 /// Walks a table's words straight from a node of the page, and counts the loads: the word of the leaf. None
 /// where that doesn't end at a leaf of 4 KiB, which allows an access of the kind, if one is given; then nothing
-/// is counted.
+/// is counted. The nodes entered come first in `path`.
 #[inline(always)]
 fn straight<const LEVELS: usize>(
     radix: &mut Radix<LEVELS>,
@@ -117,6 +117,7 @@ fn straight<const LEVELS: usize>(
     _space: u16,
     page: u64,
     kind: Option<Kind>,
+    path: &mut [u64; 4],
 ) -> Option<u64>
     requires node { number_of _space (suc from.level) (up (suc from.level) page) radix.old.nodes ≡
         Some from.node }
@@ -125,10 +126,12 @@ fn straight<const LEVELS: usize>(
         IsStraight LEVELS from.level _space page
         (small_leaf _space page word) radix.old radix.new) }
     ensures allows { IfSome result (IsAllowed kind) }
+    ensures path { IfSome result (λ _.
+        IsPath 0 from.level _space page path.new radix.old.nodes) }
     ensures none { IfNone result (radix.new ≡ radix.old) }
 {
     radix.words_read_back();
-    let word = quick_word(radix.front(), from.level, from.node, page, kind)?;
+    let word = quick_word(radix.front(), from.level, from.node, page, kind, path)?;
     radix.count_loads(from.level as u64 + 1);
     Some(word)
 }
@@ -155,7 +158,14 @@ fn walk_uncached<const LEVELS: usize>(
     if !caches.are_off() {
         return None;
     }
-    straight(radix, root(LEVELS, space), space, page, Some(kind))
+    straight(
+        radix,
+        root(LEVELS, space),
+        space,
+        page,
+        Some(kind),
+        &mut [0; 4],
+    )
 }
 
 /// The walk of a page from its node of level 0, where the cache of that level holds it and the page's leaf
@@ -180,7 +190,14 @@ fn walk_lowest<const LEVELS: usize>(
 {
     radix.words_read_back();
     let node = caches.look_lowest(space, page)?;
-    straight(radix, Start { level: 0, node }, space, page, Some(kind))
+    straight(
+        radix,
+        Start { level: 0, node },
+        space,
+        page,
+        Some(kind),
+        &mut [0; 4],
+    )
 }
 
 /// Walks a page from one of its nodes, whatever the walk ends with, and fills the caches.
@@ -207,8 +224,33 @@ fn walk_filling<const LEVELS: usize>(
     found_leaf(space, page, end)
 }
 
-/// Walks a page from one of its nodes: straight, where that fills no cache and finds a leaf of
-/// 4 KiB.
+/// Walks a page straight from one of its nodes to a leaf of 4 KiB, and fills the caches by the nodes entered.
+/// None where the walk doesn't end so; then nothing changes.
+#[inline(never)]
+fn straight_filling<const LEVELS: usize>(
+    radix: &mut Radix<LEVELS>,
+    caches: &mut WalkCaches,
+    from: Start,
+    space: u16,
+    page: u64,
+) -> Option<u64>
+    requires few { length caches.old ≤ 4 }
+    requires page { page < 2 ^ 45 }
+    requires node { number_of space (suc from.level) (up (suc from.level) page) radix.old.nodes ≡
+        Some from.node }
+    requires level { from.level < LEVELS }
+    ensures some { IfSome result (λ word. IsWalked LEVELS from.level space page
+        (Some (small_leaf space page word)) radix.old caches.old radix.new caches.new) }
+    ensures none { IfNone result ((radix.new ≡ radix.old) × (caches.new ≡ caches.old)) }
+{
+    radix.words_read_back();
+    let mut path = [0; 4];
+    let word = straight(radix, from, space, page, None, &mut path)?;
+    caches.fill(from.level, 0, space, page, &path);
+    Some(word)
+}
+
+/// Walks a page from one of its nodes: straight, where that finds a leaf of 4 KiB.
 #[inline(always)]
 fn walk_from<const LEVELS: usize>(
     radix: &mut Radix<LEVELS>,
@@ -229,9 +271,11 @@ fn walk_from<const LEVELS: usize>(
 {
     radix.words_read_back();
     if caches.fills_none(from.level) {
-        if let Some(word) = straight(radix, from, space, page, None) {
+        if let Some(word) = straight(radix, from, space, page, None, &mut [0; 4]) {
             return QuickWalk::Small { word, cache_hits };
         }
+    } else if let Some(word) = straight_filling(radix, caches, from, space, page) {
+        return QuickWalk::Small { word, cache_hits };
     }
     let leaf = walk_filling(radix, caches, from, space, page);
     QuickWalk::Any {

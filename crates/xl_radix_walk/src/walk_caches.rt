@@ -8,7 +8,7 @@ ghost use Rattle.xl_model.specs.Rows.{is_width};
 ghost use Rattle.xl_model.specs.Walks.{start_level, node_caches_after};
 ghost use Rattle.xl_radix.specs.Walk.{end_of};
 ghost use Rattle.xl_recency.specs.Lists.{Touches};
-ghost use Rattle.xl_radix_walk.specs.Row.{above_off, has_tag, tag_at, caches_in, AreOff, AreNumbered, IsLowest, filled_by, FillsNone, purged_caches, entries_of, fenced_caches};
+ghost use Rattle.xl_radix_walk.specs.Row.{above_off, has_tag, tag_at, caches_in, AreOff, AreNumbered, IsLowest, filled_by, filled_caches, FillsNone, purged_caches, entries_of, fenced_caches};
 
 use crate::caches::{Start, fence_caches, fill, look, purge, tag_of};
 use std::alloc::Global;
@@ -143,6 +143,16 @@ impl WalkCaches {
         start <= self.lowest
     }
 
+    /// Fills the caches of the levels from `least` to below `start` with the nodes of a walk's path.
+    pub fn fill(&mut self, start: usize, least: usize, space: u16, page: u64, path: &[u64])
+        requires levels { length self.old ≤ 4 }
+        requires page { page < 2 ^ 45 }
+        requires path { start ≤ length path.now + least }
+        ensures { self.new ≡ filled_caches 0 start least space page path.now self.old }
+    {
+        fill(&mut self.kept, self.lowest, start, least, space, page, path);
+    }
+
     /// Fills the caches with the nodes of a walk that ended at a leaf.
     pub fn fill_found(&mut self, end: &WalkEnd, start: usize, space: u16, page: u64, path: &[u64])
         requires levels { length self.old ≤ 4 }
@@ -151,15 +161,7 @@ impl WalkCaches {
         ensures { self.new ≡ filled_by end.now start space page path.now self.old }
     {
         if let WalkEnd::Leaf { level, .. } = end {
-            fill(
-                &mut self.kept,
-                self.lowest,
-                start,
-                *level,
-                space,
-                page,
-                path,
-            );
+            self.fill(start, *level, space, page, path);
         }
     }
 

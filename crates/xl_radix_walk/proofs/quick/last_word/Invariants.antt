@@ -1,5 +1,6 @@
-use Rattle.std.proofs.Common.{◌≡◌, ◌≤◌, ◌<◌, ◌^◌, List, ℕ}
+use Rattle.std.proofs.Common.{◌≡◌, ◌≤◌, ◌<◌, ◌-◌, ◌^◌, ◌++◌, List, take, ℕ}
 use Rattle.xl_radix.specs.Walk.{radix_back}
+use Rattle.xl_radix_walk.specs.Path.{radix_path}
 use Rattle.xl_radix_walk.specs.Quick.{AreFirst}
 use Rattle.xl_radix_walk.proofs.quick.last_word.Given as goal
 
@@ -8,6 +9,7 @@ invariant-down l = record {
   low : l.level ≤ l.start;
   small : l.at < 2 ^ 54;
   end : l.at < 2 ^ 44 → (all : List ℕ) → AreFirst l.words all → radix_back all l.start l.fn.node l.page ≡ radix_back all l.level l.at l.page;
+  path : l.at < 2 ^ 44 → (all : List ℕ) → AreFirst l.words all → radix_path all l.start l.fn.node l.page ≡ take (l.start - l.level) l.path ++ radix_path all l.level l.at l.page;
 }
 
 abbrev pub decreases-down : goal.decreases-down

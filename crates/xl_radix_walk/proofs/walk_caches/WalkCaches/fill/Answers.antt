@@ -3,7 +3,7 @@ use Rattle.std.specs.Vec.{with_items}
 use Rattle.std.proofs.lemmas.List.{with_items_is}
 use Rattle.xl_radix_walk.specs.Row.{above_off}
 use Rattle.xl_radix_walk.proofs.AboveLemmas.{length-above, filled-above}
-use Rattle.xl_radix_walk.proofs.walk_caches.WalkCaches.fill_found.Goals as goal
+use Rattle.xl_radix_walk.proofs.walk_caches.WalkCaches.fill.Goals as goal
 
 pub fill-requires-clause-levels : goal.fill-requires-clause-levels
 fill-requires-clause-levels c =
@@ -12,10 +12,10 @@ fill-requires-clause-levels c =
     let h = c.requires.levels in
     omega arith
 
-pub returns-in-Leaf : goal.returns-in-Leaf
-returns-in-Leaf c =
+pub returns : goal.returns
+returns c =
     let n = c.self.inside.lowest in
     let ds = c.deref_mut.result.now in
     let v : above_off n ds ≡ c.args.self.now = rw c.deref_mut.ensures.value c.self.view_is in
     let w : (with_items c.self.inside.kept c.fill.new.caches).items ≡ c.fill.new.caches = with_items_is c.self.inside.kept c.fill.new.caches (c.fill.auto.caches ∙ ap length c.deref_mut.ensures.value ∙ sym c.self.inside.kept.ok.0) in
-    rw (c.in-Leaf.is, ← v, w) (ap (above_off n) c.fill.ensures ∙ sym (filled-above n n 0 c.args.start c.in-Leaf.level c.args.space c.args.page c.args.path.now ds (omega arith)))
+    rw (← v, w) (ap (above_off n) c.fill.ensures ∙ sym (filled-above n n 0 c.args.start c.args.least c.args.space c.args.page c.args.path.now ds (omega arith)))
