@@ -221,7 +221,10 @@ fn walk_filling<const LEVELS: usize>(
     let mut path = ArrayVec::new();
     let end = descend(radix, from, space, page, &mut path);
     caches.fill_found(&end, from.level, space, page, &path);
-    found_leaf(space, page, end)
+    match found_leaf(space, page, end) {
+        Some(leaf) => Some(leaf.by_fields()),
+        None => None,
+    }
 }
 
 /// Walks a page straight from one of its nodes to a leaf of 4 KiB, and fills the caches by the nodes entered.
