@@ -1,58 +1,40 @@
-//! Chains in words.
+//! Chains, with an index where they can be long.
 
-ghost use Rattle.std.specs.Prelude.{◌≡◌, ◌<◌, ◌+◌, ◌*◌, ◌^◌, ◌≤◌, ◌%◌, true, false, length, map, ◌==◌, ◌⊎◌, [], IfOk, IfSome, OnOk, OnErr, replicate};
+ghost use Rattle.std.specs.Prelude.{◌≡◌, ◌<◌, ◌+◌, ◌*◌, ◌^◌, ◌≤◌, true, false, length, map, ◌==◌, ◌⊎◌, [], IfOk, IfSome, OnOk, OnErr};
 ghost use Rattle.std.specs.List.{list_any};
-ghost use Rattle.std.specs.Vec.{vec_capacity};
 ghost use Rattle.xl_model.specs.Chains.{has_tag};
 ghost use Rattle.xl_chain.specs.Layout.{IsShape, most_entries};
 ghost use Rattle.xl_chain.specs.Lines.{WordsReadBack, AreSingle, IsOwn};
-ghost use Rattle.xl_chain.specs.Held.{ChainState, tags_of, held_with, entry_of, entry_found, found_of, in_front_of, is_entry, with_value, without_tag, value_of, loads_after};
-ghost use Rattle.xl_chain.specs.Kept.{IsInserted, upto};
+ghost use Rattle.xl_chain.specs.Held.{ChainState, tags_of, held_with, entry_of, entry_found, found_of, is_entry, with_value, without_tag, value_of, loads_after};
+ghost use Rattle.xl_chain.specs.Kept.{IsInserted};
 ghost use Rattle.xl_phys.specs.Lines.{counted};
 
-use crate::own::search;
-use crate::put::{put, put_front, unlink};
-use crate::shape::{ChainShape, Seek, bucket_of, value_at, words_of};
+use crate::entries::Entries;
+use crate::places::{insert_placed, look_placed, open_places, remove_placed};
+use crate::shape::{ChainShape, Seek};
 use std::alloc::Global;
 use std::marker::Model;
 use xl_model::{Full, NoMemory};
-use xl_phys::{Bus, line_of};
+use xl_phys::Bus;
 
 /// Entries of a tag and `V` values, in chains. Contracts see them as a list, bucket by bucket, newest
 /// first in each. Nothing is allocated after `open`.
 #[derive(Drop)]
 pub struct Chains<const V: usize> {
-    words: Vec<u64>,
-    free: Vec<u32>,
-    shape: ChainShape,
-    loads: u64,
+    entries: Entries<V>,
+    /// Where chains can be long: the place of each tag, the word that leads to its entry.
+    places: Option<Entries<1>>,
 }
 
 impl<const V: usize> Model for Chains<V> {
-    ghost use Rattle.std.specs.Prelude.{◌≡◌, ◌+◌, ◌*◌, ◌≤◌};
-    ghost use Rattle.std.specs.Vec.{vec_capacity};
-    ghost use Rattle.xl_chain.specs.Held.{ChainState, seen_in};
-    ghost use Rattle.xl_chain.specs.Kept.{IsKept};
+    ghost use Rattle.xl_chain.specs.Held.{ChainState};
+    ghost use Rattle.xl_chain.specs.Places.{IsIndexed};
 
     ghost Value = { ChainState };
 
-    ghost view = { λ c. seen_in c.shape c.words.items c.loads };
+    ghost view = { λ c. c.entries };
 
-    ghost invariant = { λ c. IsKept V c.shape c.words.items c.free.items (vec_capacity c.free) };
-}
-
-/// The numbers below `n`.
-fn numbers(alloc: Global, n: u32) -> Result<Vec<u32>, NoMemory>
-    ensures items { IfOk result (λ v. v.items ≡ upto n) }
-    ensures room { IfOk result (λ v. n ≤ vec_capacity v) }
-{
-    let mut all = Vec::with_capacity(alloc, n as usize)?;
-    for i in 0..n {
-        if all.push(i).is_err() {
-            return Err(NoMemory);
-        }
-    }
-    Ok(all)
+    ghost invariant = { λ c. IsIndexed c.entries c.places };
 }
 
 /// The entry that a search found.
@@ -81,18 +63,11 @@ impl<const V: usize> Chains<V> {
         ensures entries { IfOk result (λ c. c.shape.entries ≡ entries) }
         ensures loads { IfOk result (λ c. c.loads ≡ 0) }
     {
-        let shape = ChainShape {
-            buckets,
-            entries,
-            lines: (V as u32 + 3) / 4,
-        };
-        let words = vec![in alloc; 0u64; words_of(shape)]?;
-        let free = numbers(alloc, entries)?;
+        let held = Entries::open(alloc, buckets, entries)?;
+        let places = open_places(alloc, &held)?;
         Ok(Chains {
-            words,
-            free,
-            shape,
-            loads: 0,
+            entries: held,
+            places,
         })
     }
 
@@ -101,14 +76,14 @@ impl<const V: usize> Chains<V> {
         ensures is { result ≡ self.now.shape }
         ensures layout { IsShape result }
     {
-        self.shape
+        self.entries.shape()
     }
 
     /// Whether every entry is held.
     pub fn is_full(&self) -> bool
         ensures { result ≡ (length self.now.held == self.now.shape.entries) }
     {
-        self.free.is_empty()
+        self.entries.is_full()
     }
 
     /// The entry that holds the tag, and no other; None exactly where the tag isn't held.
@@ -116,7 +91,8 @@ impl<const V: usize> Chains<V> {
         ensures found { result ≡ entry_of (held_with tag self.now.held) }
         ensures own { IfSome result (λ e. IsOwn tag e self.now.held) }
     {
-        entry_in(search::<V>(&self.words, self.shape, tag).end)
+        self.words_read_back();
+        entry_in(self.look(tag))
     }
 
     /// What a search for the tag comes to, with its loads: one for the head, and one for each entry
@@ -125,16 +101,18 @@ impl<const V: usize> Chains<V> {
         ensures end { result ≡ found_of (held_with tag self.old.held) }
         ensures after { self.new ≡ record self.old { loads = loads_after tag self.old } }
     {
-        let sought = search::<V>(&self.words, self.shape, tag);
-        self.loads = self.loads.wrapping_add(sought.loads);
-        sought.end
+        self.entries.probe(tag)
     }
 
     /// What a search for the tag comes to, without loads.
+    #[inline(always)]
     pub fn look(&self, tag: u64) -> Seek
         ensures { result ≡ found_of (held_with tag self.now.held) }
     {
-        search::<V>(&self.words, self.shape, tag).end
+        match &self.places {
+            None => self.entries.look(tag),
+            Some(places) => look_placed(&self.entries, places, tag),
+        }
     }
 
     /// Value `i` of an entry that is held.
@@ -143,7 +121,7 @@ impl<const V: usize> Chains<V> {
         requires within { i < V }
         ensures { result ≡ value_of entry i self.now.held }
     {
-        self.words[value_at(self.shape, entry, i)]
+        self.entries.value(entry, i)
     }
 
     /// Value `i` of an entry that is held, with a load of the line in which it stands.
@@ -153,9 +131,7 @@ impl<const V: usize> Chains<V> {
         ensures value { result ≡ value_of entry i self.old.held }
         ensures after { self.new ≡ record self.old { loads = counted self.old.loads } }
     {
-        let value = self.value(entry, i);
-        self.loads = self.loads.wrapping_add(1);
-        value
+        self.entries.load_value(entry, i)
     }
 
     /// Puts `value` in place of value `i` of an entry that is held.
@@ -166,8 +142,7 @@ impl<const V: usize> Chains<V> {
         ensures shape { self.new.shape ≡ self.old.shape }
         ensures loads { self.new.loads ≡ self.old.loads }
     {
-        let at = value_at(self.shape, entry, i);
-        put(&mut self.words, at, value);
+        self.entries.set_value(entry, i, value);
     }
 
     /// Takes out the entry of a tag that is held. Its chain closes up, and the others keep their numbers.
@@ -177,13 +152,9 @@ impl<const V: usize> Chains<V> {
         ensures shape { self.new.shape ≡ self.old.shape }
         ensures loads { self.new.loads ≡ self.old.loads }
     {
-        let bucket = bucket_of(self.shape, tag);
-        match unlink(&mut self.words, self.shape, bucket, tag) {
-            None => unreachable!(),
-            Some(entry) => match self.free.push(entry) {
-                Ok(()) => (),
-                Err(_) => unreachable!(),
-            },
+        match &mut self.places {
+            None => self.entries.remove(tag),
+            Some(places) => remove_placed(&mut self.entries, places, tag),
         }
     }
 
@@ -195,13 +166,12 @@ impl<const V: usize> Chains<V> {
         ensures full { OnErr result (length self.old.held ≡ self.old.shape.entries) }
         ensures same { OnErr result (self.new ≡ self.old) }
     {
-        match self.free.pop() {
-            None => Err(Full),
-            Some(entry) => {
-                let bucket = bucket_of(self.shape, tag);
-                put_front(&mut self.words, self.shape, bucket, entry, tag, &values);
-                Ok(())
-            }
+        match &mut self.places {
+            None => match self.entries.insert(tag, values) {
+                Ok(_) => Ok(()),
+                Err(full) => Err(full),
+            },
+            Some(places) => insert_placed(&mut self.entries, places, tag, values),
         }
     }
 
@@ -210,8 +180,7 @@ impl<const V: usize> Chains<V> {
         ensures words { WordsReadBack self.now }
         ensures single { AreSingle self.now.held }
     {
-        // A look at a field brings in what the type keeps.
-        let _words = &self.words;
+        self.entries.words_read_back();
     }
 }
 
@@ -226,12 +195,11 @@ impl<const V: usize> Bus for Chains<V> {
     ghost loaded = { λ c. record c { loads = counted c.loads } };
 
     fn load(&mut self, line: usize) -> Option<[u64; 4]> {
-        self.loads = self.loads.wrapping_add(1);
-        line_of(&self.words, line)
+        self.entries.load(line)
     }
 
     fn loads(&self) -> u64 {
-        self.loads
+        self.entries.loads()
     }
 
     ghost words_stay = { λ c. refl };

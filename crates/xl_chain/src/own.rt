@@ -1,11 +1,13 @@
 //! The search of words of one's own, in which every chain can be followed to its end.
 
-ghost use Rattle.std.specs.Prelude.{◌≡◌, ◌<◌, ◌+◌, ◌-◌, ◌*◌, ◌≤◌};
+ghost use Rattle.std.specs.Prelude.{◌≡◌, ◌<◌, ◌+◌, ◌-◌, ◌*◌, ◌≤◌, length, slice_index};
 ghost use Rattle.xl_chain.specs.Layout.{IsShape, base_at};
 ghost use Rattle.xl_chain.specs.Back.{chain_back, chain_loads};
 ghost use Rattle.xl_chain.specs.Kept.{AreLinked};
+ghost use Rattle.xl_chain.specs.Steps.{Leads};
+ghost use Rattle.xl_chain.specs.Places.{found_by};
 
-use crate::shape::{ChainShape, Seek, bucket_of};
+use crate::shape::{ChainShape, Seek, base_of, bucket_of};
 
 /// What a search comes to, and the loads that it stands for.
 #[derive(Drop)]
@@ -54,5 +56,19 @@ pub(crate) fn search<const V: usize>(words: &[u64], shape: ChainShape, tag: u64)
     Sought {
         end: Seek::Absent,
         loads,
+    }
+}
+
+/// What a search comes to that finds its tag in the entry to which the word at a place leads.
+pub(crate) fn found_from(words: &[u64], shape: ChainShape, place: usize) -> Seek
+    requires shape { IsShape shape }
+    requires size { length words.now ≡ base_at shape shape.entries }
+    requires leads { Leads shape words.now place }
+    ensures { result ≡ found_by shape words.now (slice_index words.now place) }
+{
+    let entry = (words[place] - 1) as u32;
+    Seek::Found {
+        entry,
+        value: words[base_of(shape, entry) + 2],
     }
 }

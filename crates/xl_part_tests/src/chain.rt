@@ -63,6 +63,37 @@ fn the_middle_of_three_goes_and_comes_back(rt: HostRuntime) -> Result<(), Fail> 
     Ok(())
 }
 
+/// The values under tags 1 to 9, 0 where a tag isn't held.
+fn values(table: &Chains<1>) -> [u64; 9] {
+    [1, 2, 3, 4, 5, 6, 7, 8, 9].map(|tag| match table.look(tag) {
+        Seek::Found { value, .. } => value,
+        _ => 0,
+    })
+}
+
+#[test]
+fn a_long_chain_is_told_by_its_index(rt: HostRuntime) -> Result<(), Fail> {
+    let mut table = Chains::<1>::open(rt.alloc(), 1, 9)?;
+    for tag in 1..10 {
+        put(&mut table, tag, 10 * tag);
+    }
+    assert!(rt; table.is_full());
+    drop(&mut table, 5);
+    drop(&mut table, 9);
+    drop(&mut table, 1);
+    assert_eq!(rt; sought(&mut table, 8), (Some(80), 2));
+    assert_eq!(rt; sought(&mut table, 2), (Some(20), 7));
+    put(&mut table, 5, 51);
+    put(&mut table, 1, 11);
+    assert_eq!(rt; values(&table), [11, 20, 30, 40, 51, 60, 70, 80, 0]);
+    drop(&mut table, 8);
+    drop(&mut table, 2);
+    drop(&mut table, 1);
+    assert_eq!(rt; values(&table), [0, 0, 30, 40, 51, 60, 70, 0, 0]);
+    assert_eq!(rt; sought(&mut table, 3), (Some(30), 6));
+    Ok(())
+}
+
 #[test]
 fn the_largest_tables_are_to_be_had(rt: HostRuntime) -> Result<(), Fail> {
     let one = Chains::<1>::open(rt.alloc(), 1 << 20, 1 << 20)?;

@@ -8,7 +8,7 @@ use Rattle.xl_chain.specs.Kept.{IsTable}
 use Rattle.xl_chain.proofs.PlaceLemmas.{base_past}
 use Rattle.xl_chain.proofs.ValueLemmas.{held-inside, place-in}
 use Rattle.xl_chain.proofs.LineLemmas.{value-read}
-use Rattle.xl_chain.proofs.chains.Chains.value.Goals as goal
+use Rattle.xl_chain.proofs.entries.Entries.value.Goals as goal
 
 pub value_at-requires-clause-entry : goal.value_at-requires-clause-entry
 value_at-requires-clause-entry g c =

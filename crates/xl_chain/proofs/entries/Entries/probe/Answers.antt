@@ -5,7 +5,7 @@ use Rattle.xl_chain.specs.Held.{ChainState, held_with, found_of, loads_after, se
 use Rattle.xl_chain.specs.Kept.{AreLinked}
 use Rattle.xl_chain.proofs.FindLemmas.{search-held}
 use Rattle.xl_chain.proofs.OwnLemmas.{are-linked}
-use Rattle.xl_chain.proofs.chains.Chains.probe.Goals as goal
+use Rattle.xl_chain.proofs.entries.Entries.probe.Goals as goal
 
 pub search-sought-requires-clause-linked : goal.search-sought-requires-clause-linked
 search-sought-requires-clause-linked g c =

@@ -1,0 +1,21 @@
+use Rattle.std.proofs.Common.{◌≡◌, sym, ap, ◌∙◌, subst, ℕ, List, slice_index, Some}
+use Rattle.xl_chain.specs.Steps.{Leads}
+use Rattle.xl_chain.specs.Held.{ChainState, held_with, found_of}
+use Rattle.xl_chain.specs.Places.{place_at, IsPlace, found_by}
+use Rattle.xl_chain.proofs.SpotLemmas.{found-at, leads-at}
+use Rattle.xl_chain.proofs.entries.Entries.look_at.Goals as goal
+
+pub found_from-requires-clause-leads : goal.found_from-requires-clause-leads
+found_from-requires-clause-leads g c =
+    let s = c.self.inside in
+    let P : ChainState → Type 0 = λ v. IsPlace v c.args.place in
+    let k = subst P (sym c.self.view_is) c.requires in
+    let L : List ℕ → Type 0 = λ ws. Leads s.shape ws c.args.place in
+    subst L (sym c.deref.ensures.value) (leads-at s.shape s.words.items s.free.items k.tag c.args.place c.self.invariant.0 k.is)
+
+pub returns : goal.returns
+returns g c =
+    let s = c.self.inside in
+    let R : ChainState → Type 0 = λ v. (t : ℕ) → place_at v t ≡ Some c.args.place → c.found_from.result ≡ found_of (held_with t v.held) in
+    subst R c.self.view_is (λ t k. c.found_from.ensures ∙ ap (λ ws. found_by s.shape ws (slice_index ws c.args.place)) c.deref.ensures.value
+    ∙ found-at s.shape s.words.items s.free.items t c.args.place c.self.invariant.0 k)

@@ -1,0 +1,21 @@
+use Rattle.std.proofs.Common.{◌≡◌, subst, ℕ}
+use Rattle.std.specs.Prelude.{is_some}
+use Rattle.xl_model.specs.Chains.{has_tag}
+use Rattle.xl_chain.specs.Held.{ChainState, tags_of}
+use Rattle.xl_chain.specs.Lines.{WordsReadBack, AreSingle}
+use Rattle.xl_chain.specs.Places.{place_at}
+use Rattle.xl_chain.proofs.LineLemmas.{read-back, held-single}
+use Rattle.xl_chain.proofs.SpotLemmas.{placed-held}
+use Rattle.xl_chain.proofs.entries.Entries.words_read_back.Goals as goal
+
+pub returns : goal.returns
+returns g c =
+    let s = c.self.inside in
+    let W : ChainState → Type 0 = λ v. WordsReadBack v in
+    let S : ChainState → Type 0 = λ v. AreSingle v.held in
+    let P : ChainState → Type 0 = λ v. (t : ℕ) → is_some (place_at v t) ≡ has_tag (tags_of v.held) t in
+    record {
+      words = subst W c.self.view_is (read-back s.shape s.words.items s.free.items s.loads c.self.invariant.0);
+      single = subst S c.self.view_is (held-single s.shape s.words.items s.free.items c.self.invariant.0);
+      places = subst P c.self.view_is (λ t. placed-held s.shape s.words.items s.free.items t c.self.invariant.0);
+    }

@@ -1,0 +1,21 @@
+use Rattle.std.proofs.Common.{sym, ap, ◌∙◌, lit<, arith}
+use Rattle.std.proofs.lemmas.Bool.Decides.{nat_tests}
+use Rattle.xl_model_lemmas.proofs.MemberLemmas.{In-any}
+use Rattle.xl_chain.specs.Held.{held_with, found_of, is_entry}
+use Rattle.xl_chain.specs.Places.{place_found, told, moved}
+use Rattle.xl_chain.proofs.IndexLemmas.{found-entry, told-set}
+use Rattle.xl_chain.proofs.places.tell.Goals as goal
+
+pub set_value-requires : goal.set_value-requires
+set_value-requires c =
+    let hs = c.args.places.now.held in
+    let h = found-entry c.in-Some.tag c.in-Found.entry c.in-Found.value hs (sym c.look.ensures ∙ c.in-Found.is) in
+    let is = h.3 in
+    (lit< tt, (In-any (is_entry c.in-Found.entry) h.0 hs h.1 (grind (arith, nat_tests)), lit< tt))
+
+pub returns-in-Found-clause-told : goal.returns-in-Found-clause-told
+returns-in-Found-clause-told c = λ t.
+    let old = c.args.places.now in
+    ap (λ hs. place_found (found_of (held_with t hs))) c.set_value.ensures.held
+    ∙ told-set old c.in-Some.tag c.in-Found.entry c.in-Found.value c.args.place t c.words_read_back.ensures.words c.words_read_back.ensures.single (sym c.look.ensures ∙ c.in-Found.is)
+    ∙ ap (λ o. moved o c.args.place (told old) t) (sym c.in-Some.is)
