@@ -4,10 +4,10 @@ use Rattle.xl_machine.specs.Served.{state_of}
 use Rattle.xl_machine.proofs.Accesses.{refused_after, refused_reply}
 use Rattle.xl_machine.proofs.machine.Machine.refuse_address.Goals as goal
 
-pub returns-clause-reply : goal.returns-clause-reply
-returns-clause-reply g c =
-    rw (← c.self.view_is) (refused_reply (row_of c.self.inside.row) c.args.va c.args._kind (state_of (length (row_of c.self.inside.row).tlb) (g.S.Structure.table c.self.inside.table) c.self.inside.space c.self.inside.tlb c.self.inside.counts) (rw (← c.self.view_is) at c.requires))
-
-pub returns-clause-after : goal.returns-clause-after
-returns-clause-after g c =
-    rw (c.reply.ensures, ← c.self.view_is) (refused_after (row_of c.self.inside.row) c.args.va c.args._kind (g.S.Structure.table c.self.inside.table) c.self.inside.space c.self.inside.tlb c.self.inside.counts (rw (← c.self.view_is) at c.requires))
+pub returns : goal.returns
+returns g c =
+    rw (c.reply.ensures, ← c.self.view_is) (record {
+      reply_is = refused_reply (row_of c.self.inside.row) c.args.va c.args._kind (state_of (length (row_of c.self.inside.row).tlb) (g.S.Structure.table c.self.inside.table) c.self.inside.space c.self.inside.tlb c.self.inside.counts) (rw (← c.self.view_is) at c.requires);
+      after_is = refused_after (row_of c.self.inside.row) c.args.va c.args._kind (g.S.Structure.table c.self.inside.table) c.self.inside.space c.self.inside.tlb c.self.inside.counts (rw (← c.self.view_is) at c.requires);
+      small = tt;
+    })

@@ -6,4 +6,4 @@ use Rattle.xl_machine.proofs.machine.Machine.rule_and_serve.Goals as goal
 
 pub returns-in-Access-clause-outcome : goal.returns-in-Access-clause-outcome
 returns-in-Access-clause-outcome g c =
-    rw c.in-Access.is (ap (λ (r : Reply). outcome.Replied r) c.access.ensures.reply ∙ access-outcome c.in-Access.va c.in-Access.kind c.args.self.now)
+    rw c.in-Access.is (ap (λ (r : Reply). outcome.Replied r) c.access.ensures.reply_is ∙ access-outcome c.in-Access.va c.in-Access.kind c.args.self.now)
