@@ -238,11 +238,16 @@ impl<const LEVELS: usize> Store<LEVELS> {
         self.words.front()
     }
 
-    /// The word at a place, None where its line isn't all there.
+    /// The word at a place, None where its line isn't all there. The first words are asked before the line is
+    /// looked for: all words are whole nodes, so a place among the first has its line there.
     pub fn word_in(&self, place: usize) -> Option<u64>
         ensures some { IfSome result (IsWord self.now.words place) }
         ensures none { IfNone result (length self.now.words < 4 * (place / 4) + 4) }
     {
+        let first = self.front();
+        if place < first.len() {
+            return Some(first[place]);
+        }
         if place / 4 >= self.words.len() / 4 {
             return None;
         }
