@@ -1,7 +1,7 @@
 //! The words of a radix table with its nodes, and the steps that change them.
 
 ghost use Rattle.std.specs.Prelude.{◌≡◌, ◌==◌, ◌+◌, ◌-◌, ◌*◌, ◌/◌, ◌%◌, ◌^◌, ◌<◌, ◌≤◌, length, slice_index, slice_index_or, slice_set, true, false, None, Some, [], is_none, is_some, position, IfOk, IfSome, IfNone};
-ghost use Rattle.xl_model.specs.Addresses.{level_of};
+ghost use Rattle.xl_model.specs.Addresses.{level_of, pages_of};
 ghost use Rattle.xl_model.specs.Changes.{IsNamed, Protect, changed};
 ghost use Rattle.xl_model.specs.Mapping.{with_leaf, without_leaf, leaf_named, leaf_at_page, meets_any};
 ghost use Rattle.xl_model.specs.Nodes.{up, is_below, in_nodes, free_count, put_first, number_of, with_path, with_leaf_nodes, opening_nodes, only_needed};
@@ -70,21 +70,32 @@ fn order_of(level: usize) -> Option<Order>
     }
 }
 
+/// The first page of a block of an order, by a shift: a multiplication would look its factor up.
+#[inline(always)]
+fn first_of(block: u64, order: Order) -> u64
+    requires { block < 2 ^ 46 }
+    ensures { result ≡ block * pages_of order }
+{
+    block << (9 * order.level())
+}
+
 /// The leaf that a word says, at a block of pages of its level.
+#[inline(always)]
 pub fn leaf_of(space: u16, block: u64, level: usize, pte: Pte) -> Option<Leaf>
     requires { block < 2 ^ 46 }
     ensures { result ≡ leaf_said space block (level_order level) pte }
 {
-    match (order_of(level), pte) {
-        (Some(order), Pte::Leaf { frame, perm }) => Some(Leaf {
-            space,
-            first: block * order.pages(),
-            order,
-            frame,
-            perm,
-        }),
-        _ => None,
-    }
+    let Pte::Leaf { frame, perm } = pte else {
+        return None;
+    };
+    let order = order_of(level)?;
+    Some(Leaf {
+        space,
+        first: first_of(block, order),
+        order,
+        frame,
+        perm,
+    })
 }
 
 /// The block of `512^level` pages in which a page lies.

@@ -91,20 +91,21 @@ fn descend<const LEVELS: usize>(
 }
 
 /// The leaf that a walk ended at.
+#[inline(always)]
 fn found_leaf(space: u16, page: u64, end: WalkEnd) -> Option<Leaf>
     requires level { end_of end < 5 }
     requires page { page < 2 ^ 45 }
     ensures { result ≡ leaf_told space page end }
 {
-    match end {
-        WalkEnd::Leaf { level, frame, perm } => leaf_of(
-            space,
-            block_of(page, level),
-            level,
-            Pte::Leaf { frame, perm },
-        ),
-        _ => None,
-    }
+    let WalkEnd::Leaf { level, frame, perm } = end else {
+        return None;
+    };
+    leaf_of(
+        space,
+        block_of(page, level),
+        level,
+        Pte::Leaf { frame, perm },
+    )
 }
 
 /// Walks a table's words straight from a node of the page, and counts the loads: the word of the leaf. None
@@ -220,11 +221,12 @@ fn walk_filling<const LEVELS: usize>(
     radix.words_read_back();
     let mut path = ArrayVec::new();
     let end = descend(radix, from, space, page, &mut path);
+    let WalkEnd::Leaf { .. } = end else {
+        return None;
+    };
     caches.fill_found(&end, from.level, space, page, &path);
-    match found_leaf(space, page, end) {
-        Some(leaf) => Some(leaf.by_fields()),
-        None => None,
-    }
+    let leaf = found_leaf(space, page, end)?;
+    Some(leaf.by_fields())
 }
 
 /// Walks a page straight from one of its nodes to a leaf of 4 KiB, and fills the caches by the nodes entered.

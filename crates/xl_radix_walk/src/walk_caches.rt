@@ -153,7 +153,19 @@ impl WalkCaches {
         fill(&mut self.kept, self.lowest, start, least, space, page, path);
     }
 
+    /// What `fill` does, out of line: where it is in line, a walk that fills nothing saves registers for it.
+    #[inline(never)]
+    fn fill_apart(&mut self, start: usize, least: usize, space: u16, page: u64, path: &[u64])
+        requires levels { length self.old ≤ 4 }
+        requires page { page < 2 ^ 45 }
+        requires path { start ≤ length path.now + least }
+        ensures { self.new ≡ filled_caches 0 start least space page path.now self.old }
+    {
+        self.fill(start, least, space, page, path);
+    }
+
     /// Fills the caches with the nodes of a walk that ended at a leaf.
+    #[inline(always)]
     pub fn fill_found(&mut self, end: &WalkEnd, start: usize, space: u16, page: u64, path: &[u64])
         requires levels { length self.old ≤ 4 }
         requires page { page < 2 ^ 45 }
@@ -161,7 +173,9 @@ impl WalkCaches {
         ensures { self.new ≡ filled_by end.now start space page path.now self.old }
     {
         if let WalkEnd::Leaf { level, .. } = end {
-            self.fill(start, *level, space, page, path);
+            if !self.fills_none(start) {
+                self.fill_apart(start, *level, space, page, path);
+            }
         }
     }
 
