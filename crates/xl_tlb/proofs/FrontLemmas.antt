@@ -1,4 +1,4 @@
--- A look that a leaf of 4 KiB of the first array answers.
+-- A look that a leaf of the first array answers.
 use Rattle.std.proofs.Common.{◌≡◌, ℕ, zero, suc, ◌^◌, ◌<◌, ◌≤◌, ◌*◌, ◌/◌, ◌%◌, ◌&&◌, Bool, true, false, List, [], ◌∷◌, map, find, take, length, get_or, set, count_by, nat_le, nat_lt, Option, None, Some, refl, sym, ◌∙◌, ap, subst, arith}
 use Rattle.std.proofs.lemmas.Bool.Decides.{nat_tests}
 use Rattle.std.proofs.lemmas.List.{set-get_or, get_or-set_same}
@@ -9,7 +9,7 @@ use Rattle.xl_model.specs.Base.{plus}
 use Rattle.xl_model.specs.Recency.{touched, with_newest, without_first}
 use Rattle.xl_model.specs.Tally.{counted}
 use Rattle.xl_model.specs.Tlb.{TlbArray, Answer, answer_of, array_hit, array_touched, array_filled, filled_where, filled_below, covers_as, found_as, set_at, where_taken, set_number, takes_order, hits_at, misses_at, fills_array}
-use Rattle.xl_tlb.specs.Fronts.{IsTouch, IsFirstHit, FirstHit, IsSecondHit, SecondHit, IsFrontHit, IsFront, Front}
+use Rattle.xl_tlb.specs.Fronts.{IsTouch, IsFirstHit, FirstHit, IsFirstLeaf, FirstLeaf, IsSecondHit, SecondHit, IsFrontHit, IsFront, Front}
 use Rattle.xl_model.specs.LeafWords.{small_leaf}
 use Rattle.xl_tlb.specs.Hits.{word_touched}
 use Rattle.xl_tlb.specs.Tlbs.{spec_of, NoneBelow, hits_up_to, misses_up_to, IsRising, tlb_of, tlb_looked, Told, told, leaf_told, looked_arrays, looked_by}
@@ -123,38 +123,40 @@ module _ (x : Answer) (space page : ℕ) where
   no_fills [] h = refl
   no_fills (a ∷ rest) h = rw (not_down x.level a.spec.level h.0) (no_fills rest h.1)
 
-module _ (space page word : ℕ) where
-  pub first_told : (arrays new : List TlbArray) → IsFirstHit space page word arrays new → Some (small_leaf space page word) ≡ leaf_told (answer_of arrays space page)
-  first_told _ _ (FirstHit a new rest hit alone) = rw (← array_found a space page (small_leaf space page word) hit.found) refl
+-- a leaf of 4 KiB that the first array finds is one that it hits
+pub first_leaf : (space page word : ℕ) (arrays new : List TlbArray) → IsFirstHit space page word arrays new → IsFirstLeaf space page (small_leaf space page word) arrays new
+first_leaf space page word _ _ (FirstHit a new rest hit alone) = FirstLeaf a new rest (array_found a space page (small_leaf space page word) hit.found) hit.moved alone
+
+module _ (space page : ℕ) (leaf : Leaf) where
+  pub first_told : (arrays new : List TlbArray) → IsFirstLeaf space page leaf arrays new → Some leaf ≡ leaf_told (answer_of arrays space page)
+  first_told _ _ (FirstLeaf a new rest found moved alone) = rw (← found) refl
 
   -- what the first array answers
   abbrev first_answer : TlbArray → Answer
-  first_answer a = record { leaf = small_leaf space page word; level = a.spec.level }
+  first_answer a = record { leaf = leaf; level = a.spec.level }
 
-  first_hits : (a : TlbArray) (rest : List TlbArray) (ns : List ℕ) → Some (small_leaf space page word) ≡ array_hit a space page → NoneBelow (suc a.spec.level) (map spec_of rest)
+  first_hits : (a : TlbArray) (rest : List TlbArray) (ns : List ℕ) → Some leaf ≡ array_hit a space page → NoneBelow (suc a.spec.level) (map spec_of rest)
       → set ns 0 (plus (get_or ns 0 0) 1) ≡ counted (hits_at (Some (first_answer a)) space page) (a ∷ rest) ns
   first_hits a rest [] hit alone = refl
   first_hits a rest (n ∷ ns) hit alone =
       rw (← hit, (is_self a.spec.level).0) (ap (λ (z : List ℕ). plus n 1 ∷ z) (sym (no_hits (first_answer a) space page rest ns alone)))
 
-  first_misses : (a : TlbArray) (rest : List TlbArray) (ns : List ℕ) → Some (small_leaf space page word) ≡ array_hit a space page → NoneBelow (suc a.spec.level) (map spec_of rest)
+  first_misses : (a : TlbArray) (rest : List TlbArray) (ns : List ℕ) → Some leaf ≡ array_hit a space page → NoneBelow (suc a.spec.level) (map spec_of rest)
       → ns ≡ counted (misses_at (Some (first_answer a)) space page) (a ∷ rest) ns
   first_misses a rest [] hit alone = refl
   first_misses a rest (n ∷ ns) hit alone =
       rw (← hit, (is_self a.spec.level).0) (ap (λ (z : List ℕ). n ∷ z) (sym (no_misses (first_answer a) space page rest ns alone)))
 
-  pub first_looked : (arrays new : List TlbArray) → IsFirstHit space page word arrays new → new ≡ looked_arrays (answer_of arrays space page) space page arrays
-  first_looked _ _ (FirstHit a new rest hit alone) =
-      first_arrays a rest space page (small_leaf space page word) new (array_found a space page (small_leaf space page word) hit.found) hit.moved
+  pub first_looked : (arrays new : List TlbArray) → IsFirstLeaf space page leaf arrays new → new ≡ looked_arrays (answer_of arrays space page) space page arrays
+  first_looked _ _ (FirstLeaf a new rest found moved alone) = first_arrays a rest space page leaf new found moved
 
-  pub first_after : (arrays new : List TlbArray) (hits misses : List ℕ) (fills : ℕ) → fills < 2 ^ 64 → IsFirstHit space page word arrays new
+  pub first_after : (arrays new : List TlbArray) (hits misses : List ℕ) (fills : ℕ) → fills < 2 ^ 64 → IsFirstLeaf space page leaf arrays new
       → tlb_of new (set hits 0 (plus (get_or hits 0 0) 1)) misses fills ≡ tlb_looked space page (tlb_of arrays hits misses fills)
   unfolding tlb_looked
-  first_after _ _ hits misses fills small (FirstHit a new rest hit alone) =
+  first_after _ _ hits misses fills small (FirstLeaf a new rest found moved alone) =
       let x = first_answer a in
-      let found = array_found a space page (small_leaf space page word) hit.found in
       let told : answer_of (a ∷ rest) space page ≡ Some x = rw (← found) refl in
-      let arrays_are : new ∷ rest ≡ looked_arrays (Some x) space page (a ∷ rest) = rw told at (first_arrays a rest space page (small_leaf space page word) new found hit.moved) in
+      let arrays_are : new ∷ rest ≡ looked_arrays (Some x) space page (a ∷ rest) = rw told at (first_arrays a rest space page leaf new found moved) in
       let none : count_by (fills_array x.level x.leaf) (a ∷ rest) ≡ 0 = rw (is_self a.spec.level).1 (no_fills x space page rest alone) in
       let same : fills ≡ plus fills (count_by (fills_array x.level x.leaf) (a ∷ rest)) = rw none (omega arith) in
       let h = first_hits a rest hits found alone in
@@ -214,18 +216,18 @@ none_lower level (s ∷ specs) h = (let k = h.0 in omega arith, none_lower level
 
 module _ (space page word : ℕ) where
   second_hits : (a b : TlbArray) (rest : List TlbArray) (ns : List ℕ) → None ≡ array_hit a space page → Some (small_leaf space page word) ≡ array_hit b space page → NoneBelow (suc b.spec.level) (map spec_of rest)
-      → set ns 1 (plus (get_or ns 1 0) 1) ≡ counted (hits_at (Some (first_answer space page word b)) space page) (a ∷ b ∷ rest) ns
+      → set ns 1 (plus (get_or ns 1 0) 1) ≡ counted (hits_at (Some (first_answer space page (small_leaf space page word) b)) space page) (a ∷ b ∷ rest) ns
   second_hits a b rest [] missed found alone = refl
   second_hits a b rest (n ∷ ns) missed found alone =
-      let miss : hits_at (Some (first_answer space page word b)) space page a ≡ false = rw (← missed) (and_false (nat_le a.spec.level b.spec.level)) in
-      rw miss (ap (λ (z : List ℕ). n ∷ z) (first_hits space page word b rest ns found alone))
+      let miss : hits_at (Some (first_answer space page (small_leaf space page word) b)) space page a ≡ false = rw (← missed) (and_false (nat_le a.spec.level b.spec.level)) in
+      rw miss (ap (λ (z : List ℕ). n ∷ z) (first_hits space page (small_leaf space page word) b rest ns found alone))
 
   second_misses : (a b : TlbArray) (rest : List TlbArray) (ns : List ℕ) → None ≡ array_hit a space page → Some (small_leaf space page word) ≡ array_hit b space page → NoneBelow (suc b.spec.level) (map spec_of rest)
-      → suc a.spec.level ≤ b.spec.level → set ns 0 (plus (get_or ns 0 0) 1) ≡ counted (misses_at (Some (first_answer space page word b)) space page) (a ∷ b ∷ rest) ns
+      → suc a.spec.level ≤ b.spec.level → set ns 0 (plus (get_or ns 0 0) 1) ≡ counted (misses_at (Some (first_answer space page (small_leaf space page word) b)) space page) (a ∷ b ∷ rest) ns
   second_misses a b rest [] missed found alone below = refl
   second_misses a b rest (n ∷ ns) missed found alone below =
-      let miss : misses_at (Some (first_answer space page word b)) space page a ≡ true = rw ((less a.spec.level b.spec.level below).1, ← missed) refl in
-      rw miss (ap (λ (z : List ℕ). plus n 1 ∷ z) (first_misses space page word b rest ns found alone))
+      let miss : misses_at (Some (first_answer space page (small_leaf space page word) b)) space page a ≡ true = rw ((less a.spec.level b.spec.level below).1, ← missed) refl in
+      rw miss (ap (λ (z : List ℕ). plus n 1 ∷ z) (first_misses space page (small_leaf space page word) b rest ns found alone))
 
   -- what such a look tells
   second_is : (a b new bnew : TlbArray) (rest : List TlbArray) → None ≡ array_hit a space page → takes_order a.spec order.K4 ≡ true → suc a.spec.level ≤ b.spec.level
@@ -238,7 +240,7 @@ module _ (space page word : ℕ) where
       ap (λ (t : Bool). Some (with_one t f)) (sym fills) ∙ more_told a (b ∷ rest) space page f missed one
 
   pub second_told : (arrays new : List TlbArray) → IsSecondHit space page word arrays new → Some (small_leaf space page word) ≡ leaf_told (answer_of arrays space page)
-  second_told _ _ (SecondHit a new rest others missed takes alone hit filled front) = rw (← missed) (first_told space page word rest others hit)
+  second_told _ _ (SecondHit a new rest others missed takes alone hit filled front) = rw (← missed) (first_told space page (small_leaf space page word) rest others (first_leaf space page word rest others hit))
 
   pub second_looked : (arrays new : List TlbArray) → IsSecondHit space page word arrays new → new ≡ looked_arrays (answer_of arrays space page) space page arrays
   second_looked _ _ (SecondHit a new _ _ missed takes alone (FirstHit b bnew rest touch apart) filled front) =
@@ -246,7 +248,7 @@ module _ (space page word : ℕ) where
       let f : Told = record { leaf = small_leaf space page word; level = b.spec.level; fills = 0 } in
       let one = first_one b rest space page (small_leaf space page word) found (none_lower b.spec.level (map spec_of rest) apart) in
       let n : new ≡ filled_below b.spec.level (small_leaf space page word) a = rw (less a.spec.level b.spec.level alone.0).0 filled in
-      more_arrays a (b ∷ rest) space page f new (bnew ∷ rest) missed one n (first_looked space page word (b ∷ rest) (bnew ∷ rest) (FirstHit b bnew rest touch apart))
+      more_arrays a (b ∷ rest) space page f new (bnew ∷ rest) missed one n (first_looked space page (small_leaf space page word) (b ∷ rest) (bnew ∷ rest) (first_leaf space page word (b ∷ rest) (bnew ∷ rest) (FirstHit b bnew rest touch apart)))
 
   pub second_front : (arrays new : List TlbArray) → IsSecondHit space page word arrays new → IsFront space page word new
   second_front _ _ (SecondHit a new _ _ missed takes alone (FirstHit b bnew rest touch apart) filled front) =
@@ -260,7 +262,7 @@ module _ (space page word : ℕ) where
       → tlb_of new (set hits 1 (plus (get_or hits 1 0) 1)) (set misses 0 (plus (get_or misses 0 0) 1)) (plus fills 1) ≡ tlb_looked space page (tlb_of arrays hits misses fills)
   second_after _ _ hits misses fills (SecondHit a new _ _ missed takes alone (FirstHit b bnew rest touch apart) filled front) =
       let found = array_found b space page (small_leaf space page word) touch.found in
-      let x = first_answer space page word b in
+      let x = first_answer space page (small_leaf space page word) b in
       let arrays : List TlbArray = a ∷ b ∷ rest in
       let told : answer_of arrays space page ≡ Some x = rw (← missed, ← found) refl in
       let h = second_hits a b rest hits missed found apart ∙ ap (λ (o : Option Answer). counted (hits_at o space page) arrays hits) (sym told) in

@@ -1,5 +1,6 @@
 -- What stays known of an array that was touched or filled with a tag.
 use Rattle.std.proofs.Common.{ℕ, Bool, Option, refl, sym, ◌∙◌, ap}
+use Rattle.xl_model.specs.declared.address.Order.{Order}
 use Rattle.xl_model.specs.declared.address.Order.TheVariants as order
 use Rattle.xl_model.specs.declared.row.TlbSpec.{TlbSpec}
 use Rattle.xl_model.specs.LeafWords.{small_leaf}
@@ -12,11 +13,11 @@ use Rattle.xl_tlb.proofs.HeldLemmas.{word-held}
 use Rattle.xl_tlb.proofs.LevelLemmas.{spec_filled, spec_word}
 use Rattle.xl_tlb.proofs.SmallLemmas.{filled-small, word-small}
 
-pub known_touched : (held : ℕ) (large : Bool) (spec : TlbSpec) (s : Sought) (word : Option ℕ) (a b : TlbArray) → IsTouched order.K4 s a word b → IsKnown held large spec a → IsKnown held large spec b
-known_touched held large spec s word a b is known = record {
-  counts = rw (word-held s.space s.page order.K4 word a b is.some is.none) known.counts;
-  smalls = λ none. word-small s.space s.page order.K4 word a b is.some is.none (known.smalls none);
-  spec_is = known.spec_is ∙ sym (spec_word s.space s.page order.K4 word a b is.some is.none);
+pub known_touched : (held : ℕ) (large : Bool) (spec : TlbSpec) (o : Order) (s : Sought) (word : Option ℕ) (a b : TlbArray) → IsTouched o s a word b → IsKnown held large spec a → IsKnown held large spec b
+known_touched held large spec o s word a b is known = record {
+  counts = rw (word-held s.space s.page o word a b is.some is.none) known.counts;
+  smalls = λ none. word-small s.space s.page o word a b is.some is.none (known.smalls none);
+  spec_is = known.spec_is ∙ sym (spec_word s.space s.page o word a b is.some is.none);
   some = known.some;
 }
 

@@ -1,13 +1,13 @@
 //! The arrays of a row in levels.
 
-ghost use Rattle.std.specs.Prelude.{ℕ, true, ◌==◌, ◌≡◌, ◌<◌, ◌≤◌, ◌^◌, ◌+◌, ◌*◌, length, map, count_by, slice_index_or, None, IfOk, IfSome, IfNone};
+ghost use Rattle.std.specs.Prelude.{ℕ, true, false, ◌==◌, ◌≡◌, ◌<◌, ◌≤◌, ◌^◌, ◌+◌, ◌*◌, length, map, count_by, slice_index_or, None, IfOk, IfSome, IfNone};
 ghost use Rattle.xl_model.specs.declared.leaf.Leaf.{Leaf};
 ghost use Rattle.xl_model.specs.Base.{one_if};
 ghost use Rattle.xl_model.specs.Tlb.{answer_of, leaves_in, takes_leaf, takes_order, array_filled, array_without, is_purged, reaches_leaf};
 ghost use Rattle.xl_model.specs.declared.address.Order.TheVariants as order_of;
 ghost use Rattle.xl_tlb.specs.Arrays.{IsFit, InLimits};
-ghost use Rattle.xl_tlb.specs.Answers.{IsAnswered, IsNowhere, IsWord};
-ghost use Rattle.xl_tlb.specs.Fronts.{IsFront, AreMissed, HasEights, IsFirstMiss};
+ghost use Rattle.xl_tlb.specs.Answers.{IsHit, IsNowhere, IsSmallAnswered, IsSmallWord};
+ghost use Rattle.xl_tlb.specs.Fronts.{IsFront, AreMissed, FirstMisses, HasEights, IsFirstMiss};
 ghost use Rattle.xl_model.specs.LeafWords.{small_leaf};
 ghost use Rattle.xl_tlb.specs.Paths.{AllCommon, AreCommon, IsPath, IsReady};
 ghost use Rattle.xl_tlb.specs.Sought.{IsFill, IsSought};
@@ -17,8 +17,8 @@ ghost use Rattle.xl_tlb.specs.Tlbs.{spec_of, leaf_told, tlb_opening, AreSpecs, I
 use crate::any::AnyArray;
 use crate::coding::Hit;
 use crate::look::{
-    are_common, count_behind, first_and_rest, has_eights, is_straight, look_first, look_in,
-    look_second,
+    are_common, count_behind, first_and_rest, has_eights, has_large, is_straight, look_first,
+    look_first_above, look_in, look_second,
 };
 use crate::sought::Sought;
 use arrayvec::ArrayVec;
@@ -26,8 +26,8 @@ use std::alloc::Global;
 use std::marker::Model;
 use xl_model::{Leaf, NoMemory, Order, Purge, Reach, TlbSpec};
 
-/// What a look for a leaf of 4 KiB told: the leaf's word; or that no array answers; or nothing, and then
-/// nothing changed.
+/// What a look told: the word of the page, with its frame (times 16) and the permission of its leaf; or that no
+/// array answers; or nothing, and then nothing changed.
 #[derive(Clone, Copy)]
 pub enum Answered {
     Word { word: u64 },
@@ -222,7 +222,7 @@ impl Levels {
         requires sought { IsSought order_of.K4 sought }
         requires ready { IsReady COMMON (map spec_of self.old.arrays) }
         ensures some { IfSome result (λ word.
-            IsWord sought.space sought.page word self.old self.new) }
+            IsSmallWord sought.space sought.page word self.old self.new) }
         ensures same { IfNone result (self.new ≡ self.old) }
         ensures missed { IfNone result (IsFirstMiss sought.space sought.page self.old.arrays) }
     {
@@ -233,15 +233,15 @@ impl Levels {
         Some(word)
     }
 
-    /// Does what `look` does, where the leaf that is sought isn't in the first array and stands in the second
-    /// one, and gives its word: the first array is filled with it. So too where no array answers and no larger
-    /// leaf was held.
+    /// Does what `look` does, where the first array misses the page and the leaf that is sought stands in the
+    /// second one, and gives its word: the first array is filled with it. So too where no array answers and the
+    /// second one never held a larger leaf.
     #[inline(always)]
     pub fn hit_second<const COMMON: usize>(&mut self, sought: Sought) -> Answered
         requires sought { IsSought order_of.K4 sought }
         requires ready { IsReady COMMON (map spec_of self.old.arrays) }
-        requires missed { IsFirstMiss sought.space sought.page self.old.arrays }
-        ensures { IsAnswered sought.space sought.page result self.old self.new }
+        requires missed { FirstMisses sought.space sought.page self.old.arrays }
+        ensures { IsSmallAnswered sought.space sought.page result self.old self.new }
     {
         match look_second::<COMMON>(&mut self.arrays, sought) {
             Answered::Word { word } => {
@@ -256,6 +256,36 @@ impl Levels {
             }
             Answered::Unknown => Answered::Unknown,
         }
+    }
+
+    /// Whether the first array may hold leaves above 4 KiB. Where it can't, and has none of 4 KiB of a page, it
+    /// misses the page.
+    #[inline(always)]
+    pub fn has_large(&self) -> bool
+        requires { 0 < length self.now.arrays }
+        ensures { result ≡ false → (space page : ℕ) → IsFirstMiss space page self.now.arrays →
+            FirstMisses space page self.now.arrays }
+    {
+        has_large(&self.arrays)
+    }
+
+    /// Does what `look` does, where the first array has no leaf of 4 KiB of the page, and a larger one. None
+    /// where it misses the page; then nothing changes.
+    #[inline(always)]
+    pub fn hit_above<const COMMON: usize>(&mut self, space: u16, page: u64) -> Option<Hit>
+        requires space { space < 64 }
+        requires page { page < 2 ^ 52 }
+        requires ready { IsReady COMMON (map spec_of self.old.arrays) }
+        requires missed { IsFirstMiss space page self.old.arrays }
+        ensures some { IfSome result (λ hit. IsHit space page hit self.old self.new) }
+        ensures same { IfNone result (self.new ≡ self.old) }
+        ensures missed { IfNone result (FirstMisses space page self.old.arrays) }
+    {
+        let Some(hit) = look_first_above::<COMMON>(&mut self.arrays, space, page) else {
+            return None;
+        };
+        self.hits[0] = self.hits[0].wrapping_add(1);
+        Some(hit)
     }
 
     /// Looks for a page in one or two arrays that don't answer it: that counts a miss of each, and changes

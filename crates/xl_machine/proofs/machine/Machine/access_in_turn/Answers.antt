@@ -1,13 +1,13 @@
 use Rattle.std.proofs.Common.{◌∙◌}
 use Rattle.xl_model.specs.Rows.{row_of}
-use Rattle.xl_machine.proofs.Accesses.{page_small, hit_reached, hit_kept, hit_answer, missed_after, same_reply}
+use Rattle.xl_machine.proofs.Accesses.{page_small, word_replied, hit_kept, hit_answer, missed_after, same_reply}
 use Rattle.xl_machine.proofs.machine.Machine.access_in_turn.Goals as goal
 
 pub look-requires-clause-page : goal.look-requires-clause-page
 look-requires-clause-page g c = (page_small c.self.inside.row.mode c.args.va c.args.page (rw (← c.self.view_is) at c.requires.page_is)).0
 
-pub reply_of-reply-requires : goal.reply_of-reply-requires
-reply_of-reply-requires g c = hit_reached c.self.invariant.served c.args.page c.in-Some.leaf c.in-Some.ensures.found
+pub reply-requires : goal.reply-requires
+reply-requires g c = (word_replied c.self.invariant.served c.args.page c.in-Some.ensures c.reply_of_word-reply.ensures).small
 
 pub invariant_of-self : goal.invariant_of-self
 invariant_of-self g c = record { served = rw c.in_default.ensures.after (hit_kept c.self.invariant.served c.args.page); span_is = c.self.invariant.span_is }
@@ -30,5 +30,7 @@ returns-in_default g c =
 
 pub returns : goal.returns
 returns g c =
-    rw (c.reply.ensures, c.in-Some.ensures.after, ← c.self.view_is)
-    (hit_answer c.self.invariant.served c.args.page (rw (← c.self.view_is) at c.requires) c.args.kind c.self.inside.counts c.in-Some.leaf c.in-Some.ensures.found c.reply_of-reply.ensures.reply c.reply_of-reply.ensures.small)
+    let is = c.in-Some.ensures in
+    let replied = word_replied c.self.invariant.served c.args.page is c.reply_of_word-reply.ensures in
+    rw (c.reply.ensures, is.after, ← c.self.view_is)
+    (hit_answer c.self.invariant.served c.args.page (rw (← c.self.view_is) at c.requires) c.args.kind c.self.inside.counts is.leaf is.found replied)

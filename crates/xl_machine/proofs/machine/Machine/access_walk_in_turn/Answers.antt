@@ -1,6 +1,6 @@
 use Rattle.std.proofs.Common.{None, Some, refl, sym, ◌∙◌}
 use Rattle.xl_model.specs.LeafWords.{small_leaf}
-use Rattle.xl_machine.proofs.Accesses.{page_small, page_in, told_leaf, told_hits, missed_kept, walked_kept, walked_reached, walked_fit, walked_answer, small_answer}
+use Rattle.xl_machine.proofs.Accesses.{page_small, page_in, told_leaf, told_hits, missed_kept, walked_kept, walked_reached, small_replied, walked_fit, walked_answer, small_answer}
 use Rattle.xl_machine.proofs.machine.Machine.access_walk_in_turn.Goals as goal
 
 pub quick_walk-requires : goal.quick_walk-requires
@@ -25,7 +25,7 @@ invariant_of-self-in-None g c = record { served = rw (c.in-Any.ensures.walks.aft
 pub returns-in-Some : goal.returns-in-Some
 returns-in-Some g c =
     rw (c.reply-in-Some.ensures, c.walk-in-Any.ensures, c.fill.ensures, c.in-Any.ensures.walks.after, told_hits c.in-Any.ensures.walks, ← c.self.view_is)
-    (walked_answer c.self.invariant.served c.args.page (rw (← c.self.view_is) at c.requires) c.args.kind c.self.inside.counts (Some c.in-Some.leaf) (sym c.in-Some.is ∙ told_leaf c.in-Any.ensures.walks) c.reply_of-reply.ensures.reply c.reply_of-reply.ensures.small)
+    (walked_answer c.self.invariant.served c.args.page (rw (← c.self.view_is) at c.requires) c.args.kind c.self.inside.counts (Some c.in-Some.leaf) (sym c.in-Some.is ∙ told_leaf c.in-Any.ensures.walks) c.reply_of-reply.ensures.is c.reply_of-reply.ensures.small)
 
 pub returns-in-None : goal.returns-in-None
 returns-in-None g c =
@@ -35,8 +35,8 @@ returns-in-None g c =
 pub fill_small-requires-clause-page : goal.fill_small-requires-clause-page
 fill_small-requires-clause-page g c = (page_small c.self.inside.row.mode c.args.va c.args.page (rw (← c.self.view_is) at c.requires.page_is)).0
 
-pub reply_of_word-reply-requires : goal.reply_of_word-reply-requires
-reply_of_word-reply-requires g c = walked_reached c.self.invariant.served c.args.page (small_leaf c.self.inside.space c.args.page c.in-Small.word) (told_leaf c.in-Small.ensures.walks)
+pub reply-requires : goal.reply-requires
+reply-requires g c = (small_replied c.self.invariant.served c.args.page (told_leaf c.in-Small.ensures.walks) c.reply_of_word-reply.ensures).small
 
 pub invariant_of-self : goal.invariant_of-self
 invariant_of-self g c =
@@ -47,5 +47,8 @@ invariant_of-self g c =
 
 pub returns-in-Small : goal.returns-in-Small
 returns-in-Small g c =
+    let page = c.args.page in
+    let leaf = small_leaf c.self.inside.space page c.in-Small.word in
+    let replied = small_replied c.self.invariant.served page (told_leaf c.in-Small.ensures.walks) c.reply_of_word-reply.ensures in
     rw (c.reply.ensures, c.walk.ensures, c.fill_small.ensures, ← c.self.view_is)
-    (small_answer c.self.invariant.served c.args.page (rw (← c.self.view_is) at c.requires) c.args.kind c.self.inside.counts (small_leaf c.self.inside.space c.args.page c.in-Small.word) c.in-Small.cache_hits c.in-Small.ensures.walks c.reply_of_word-reply.ensures.reply c.reply_of_word-reply.ensures.small)
+    (small_answer c.self.invariant.served page (rw (← c.self.view_is) at c.requires) c.args.kind c.self.inside.counts leaf c.in-Small.cache_hits c.in-Small.ensures.walks replied.is replied.small)

@@ -5,4 +5,4 @@ use Rattle.xl_tlb.proofs.any.AnyArray.touch_in.Goals as goal
 pub invariant_of-self : goal.invariant_of-self
 invariant_of-self g c =
     let t = c.self.inside in
-    known_touched t.held t.large t.places c.args.sought c.touch_in_array.result (array_in t.array) (array_in c.touch_in_array.new.arrays) c.touch_in_array.ensures c.self.invariant
+    known_touched t.held t.large t.places c.args.order c.args.sought c.touch_in_array.result (array_in t.array) (array_in c.touch_in_array.new.arrays) c.touch_in_array.ensures c.self.invariant

@@ -1,0 +1,44 @@
+-- The word of a page of a leaf.
+use Rattle.std.proofs.Common.{◌≡◌, ℕ, ◌+◌, ◌-◌, ◌*◌, ◌/◌, ◌%◌, ◌^◌, ◌<◌, ◌==◌, Bool, refl, sym, ◌∙◌, ap, arith}
+use Rattle.xl_model.specs.declared.address.Order.{Order}
+use Rattle.xl_model.specs.declared.address.Order.TheVariants as order
+use Rattle.xl_model.specs.Addresses.{pages_of}
+use Rattle.xl_model.specs.LeafWords.{leaf_with, perm_at, perm_by, small_leaf}
+use Rattle.xl_tlb.specs.declared.levels.Answered.{Answered}
+use Rattle.xl_tlb.specs.declared.levels.Answered.TheVariants as answered
+use Rattle.xl_tlb.specs.Answers.{IsAnswered, IsPageWord, IsSmallAnswered, IsSmallWord, IsWord}
+use Rattle.xl_tlb.specs.Tlbs.{TlbState}
+
+-- a permission is four bits, and a frame stands above them
+same_perm : (word behind : ℕ) → perm_at ((word + behind * 16) % 2 ^ 64) ≡ perm_at word
+unfolding perm_at
+same_perm word behind =
+    let n : ℕ = (word + behind * 16) % 2 ^ 64 in
+    let one : n % 2 ≡ word % 2 = omega arith in
+    let two : n / 2 % 2 ≡ word / 2 % 2 = omega arith in
+    let four : n / 4 % 2 ≡ word / 4 % 2 = omega arith in
+    let eight : n / 8 % 2 ≡ word / 8 % 2 = omega arith in
+    rw (one, two, four, eight) refl
+
+pub page_says : (space page word behind result : ℕ) (o : Order) → behind ≡ page - page / pages_of o * pages_of o → result ≡ (word + behind * 16) % 2 ^ 64
+    → IsPageWord page result (leaf_with space page o word)
+page_says space page word behind result o is e =
+    let there : word / 16 + behind < 2 ^ 60 → (word + behind * 16) % 2 ^ 64 / 16 ≡ word / 16 + behind = λ fits. omega arith in
+    record { frame = rw (e, ← is) there; perm = rw e (same_perm word behind) }
+
+-- a leaf of 4 KiB has one page
+pub small_says : (space page word : ℕ) → IsPageWord page word (small_leaf space page word)
+small_says space page word = record { frame = λ fits. omega arith; perm = refl }
+
+pub small_word : (space page word : ℕ) (old new : TlbState) → IsSmallWord space page word old new → IsWord space page word old new
+small_word space page word old new is = record {
+  leaf = small_leaf space page word;
+  found = is.found;
+  says = small_says space page word;
+  after = is.after;
+}
+
+pub small_answered : (space page : ℕ) (told : Answered) (old new : TlbState) → IsSmallAnswered space page told old new → IsAnswered space page told old new
+small_answered space page (answered.Word word) old new is = small_word space page word old new is
+small_answered space page answered.Nowhere old new is = is
+small_answered space page answered.Unknown old new is = is
