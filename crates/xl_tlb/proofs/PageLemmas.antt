@@ -1,12 +1,9 @@
 -- The word of a page of a leaf.
-use Rattle.std.proofs.Common.{◌≡◌, ℕ, ◌+◌, ◌-◌, ◌*◌, ◌/◌, ◌%◌, ◌^◌, ◌<◌, ◌==◌, Bool, refl, sym, ◌∙◌, ap, arith}
+use Rattle.std.proofs.Common.{◌≡◌, ℕ, ◌+◌, ◌-◌, ◌*◌, ◌/◌, ◌%◌, ◌^◌, ◌<◌, refl, arith}
 use Rattle.xl_model.specs.declared.address.Order.{Order}
-use Rattle.xl_model.specs.declared.address.Order.TheVariants as order
 use Rattle.xl_model.specs.Addresses.{pages_of}
-use Rattle.xl_model.specs.LeafWords.{leaf_with, perm_at, perm_by, small_leaf}
-use Rattle.xl_tlb.specs.declared.levels.Answered.{Answered}
-use Rattle.xl_tlb.specs.declared.levels.Answered.TheVariants as answered
-use Rattle.xl_tlb.specs.Answers.{IsAnswered, IsPageWord, IsSmallAnswered, IsSmallWord, IsWord}
+use Rattle.xl_model.specs.LeafWords.{leaf_with, perm_at, small_leaf}
+use Rattle.xl_tlb.specs.Answers.{IsPageWord, IsSmallWord, IsWord}
 use Rattle.xl_tlb.specs.Tlbs.{TlbState}
 
 -- a permission is four bits, and a frame stands above them
@@ -37,8 +34,3 @@ small_word space page word old new is = record {
   says = small_says space page word;
   after = is.after;
 }
-
-pub small_answered : (space page : ℕ) (told : Answered) (old new : TlbState) → IsSmallAnswered space page told old new → IsAnswered space page told old new
-small_answered space page (answered.Word word) old new is = small_word space page word old new is
-small_answered space page answered.Nowhere old new is = is
-small_answered space page answered.Unknown old new is = is

@@ -44,13 +44,7 @@ IsLooked space page (Some word) old new = IsWord space page word old new
 IsLooked space page None old new = IsNowhere space page old new
 
 -- What each answer of a look for a leaf of 4 KiB says; where nothing is known, nothing changes.
-abbrev pub IsSmallAnswered : ℕ → ℕ → Answered → TlbState → TlbState → Type 0
-IsSmallAnswered space page (answered.Word word) old new = IsSmallWord space page word old new
-IsSmallAnswered space page answered.Nowhere old new = IsNowhere space page old new
-IsSmallAnswered space page answered.Unknown old new = new ≡ old
-
--- What each answer says; where nothing is known, nothing changes.
 abbrev pub IsAnswered : ℕ → ℕ → Answered → TlbState → TlbState → Type 0
-IsAnswered space page (answered.Word word) old new = IsWord space page word old new
+IsAnswered space page (answered.Word word) old new = IsSmallWord space page word old new
 IsAnswered space page answered.Nowhere old new = IsNowhere space page old new
 IsAnswered space page answered.Unknown old new = new ≡ old

@@ -6,7 +6,7 @@ ghost use Rattle.xl_model.specs.Base.{one_if};
 ghost use Rattle.xl_model.specs.Tlb.{answer_of, leaves_in, takes_leaf, takes_order, array_filled, array_without, is_purged, reaches_leaf};
 ghost use Rattle.xl_model.specs.declared.address.Order.TheVariants as order_of;
 ghost use Rattle.xl_tlb.specs.Arrays.{IsFit, InLimits};
-ghost use Rattle.xl_tlb.specs.Answers.{IsHit, IsNowhere, IsSmallAnswered, IsSmallWord};
+ghost use Rattle.xl_tlb.specs.Answers.{IsAnswered, IsHit, IsNowhere, IsSmallWord};
 ghost use Rattle.xl_tlb.specs.Fronts.{IsFront, AreMissed, FirstMisses, HasEights, IsFirstMiss};
 ghost use Rattle.xl_model.specs.LeafWords.{small_leaf};
 ghost use Rattle.xl_tlb.specs.Paths.{AllCommon, AreCommon, IsPath, IsReady};
@@ -26,10 +26,10 @@ use std::alloc::Global;
 use std::marker::Model;
 use xl_model::{Leaf, NoMemory, Order, Purge, Reach, TlbSpec};
 
-/// What a look told: the word of the page, with its frame (times 16) and the permission of its leaf; or that no
-/// array answers; or nothing, and then nothing changed.
+/// What a look for a leaf of 4 KiB told: the leaf's word; or that no array answers; or nothing, and then
+/// nothing changed.
 #[derive(Clone, Copy)]
-pub enum Answered {
+pub(crate) enum Answered {
     Word { word: u64 },
     Nowhere,
     Unknown,
@@ -241,7 +241,7 @@ impl Levels {
         requires sought { IsSought order_of.K4 sought }
         requires ready { IsReady COMMON (map spec_of self.old.arrays) }
         requires missed { FirstMisses sought.space sought.page self.old.arrays }
-        ensures { IsSmallAnswered sought.space sought.page result self.old self.new }
+        ensures { IsAnswered sought.space sought.page result self.old self.new }
     {
         match look_second::<COMMON>(&mut self.arrays, sought) {
             Answered::Word { word } => {
