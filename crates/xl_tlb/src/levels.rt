@@ -6,7 +6,7 @@ ghost use Rattle.xl_model.specs.Base.{one_if};
 ghost use Rattle.xl_model.specs.Tlb.{answer_of, leaves_in, takes_leaf, takes_order, array_filled, array_without, is_purged, reaches_leaf};
 ghost use Rattle.xl_model.specs.declared.address.Order.TheVariants as order_of;
 ghost use Rattle.xl_tlb.specs.Arrays.{IsFit, InLimits};
-ghost use Rattle.xl_tlb.specs.Answers.{IsAnswered, IsHit, IsNowhere, IsSmallWord};
+ghost use Rattle.xl_tlb.specs.Answers.{IsAnswered, IsFirstWord, IsHit, IsNowhere, IsSmallWord};
 ghost use Rattle.xl_tlb.specs.Fronts.{IsFront, AreMissed, FirstMisses, HasEights, IsFirstMiss};
 ghost use Rattle.xl_model.specs.LeafWords.{small_leaf};
 ghost use Rattle.xl_tlb.specs.Paths.{AllCommon, AreCommon, IsPath, IsReady};
@@ -18,7 +18,7 @@ use crate::any::AnyArray;
 use crate::coding::Hit;
 use crate::look::{
     are_common, count_behind, first_and_rest, has_eights, has_large, is_straight, look_first,
-    look_first_above, look_in, look_second,
+    look_first_above, look_first_in_turn, look_in, look_second,
 };
 use crate::sought::Sought;
 use arrayvec::ArrayVec;
@@ -342,6 +342,26 @@ impl Levels {
             }
             None => None,
         }
+    }
+
+    /// Does what `look` does, where the first array has the leaf of 4 KiB that is sought, and gives its word. None
+    /// where it hasn't; then nothing changes.
+    #[inline(always)]
+    pub fn hit_in_turn(&mut self, sought: Sought) -> Option<u64>
+        requires { IsSought order_of.K4 sought }
+        ensures some { IfSome result (λ word.
+            IsFirstWord sought.space sought.page word self.old self.new) }
+        ensures same { IfNone result (self.new ≡ self.old) }
+    {
+        let Some(word) = look_first_in_turn(
+            &mut self.arrays,
+            &mut self.hits,
+            &mut self.misses,
+            sought,
+        ) else {
+            return None;
+        };
+        Some(word)
     }
 
     /// Puts a leaf that a walk found into the arrays of every level that hold its order.
