@@ -1,8 +1,8 @@
-use Rattle.std.proofs.Common.{◌≡◌, ◌++◌, List, length, take, drop, Option, None, Some, sym, ◌∙◌, ap, subst, arith}
+use Rattle.std.proofs.Common.{◌≡◌, ◌++◌, List, length, take, drop, Option, None, Some, sym, ◌∙◌, ap, arith}
 use Rattle.xl_model.specs.Base.{plus}
 use Rattle.xl_model.specs.Tlb.{Answer, TlbArray, answer_of}
 use Rattle.xl_tlb.specs.Answers.{IsFirstTold}
-use Rattle.xl_tlb.specs.Tlbs.{Told, leaf_told, tlb_looked, tlb_of, told}
+use Rattle.xl_tlb.specs.Tlbs.{Told, leaf_told, told}
 use Rattle.xl_tlb.proofs.TlbLemmas.{written, look_kept, look_after}
 use Rattle.xl_tlb.proofs.levels.Levels.hit_in_turn.Goals as goal
 
