@@ -27,15 +27,10 @@ pub record IsHit (space page : ℕ) (hit : Hit) (old new : TlbState) : Type 0 wh
   pub found : Some (leaf_hit space page hit) ≡ leaf_told (answer_of old.arrays space page)
   pub after : new ≡ tlb_looked space page old
 
--- A leaf of 4 KiB with this word answers, and fills no array.
+-- A leaf of 4 KiB with this word answers, and no array is filled with it.
 pub record IsFirstTold (space page word : ℕ) (arrays : List TlbArray) : Type 0 where
   pub level : ℕ
   pub told : Some (record { leaf = small_leaf space page word; level = level; fills = 0 }) ≡ told_at space page arrays
-
--- A leaf of 4 KiB with this word answers.
-pub record IsFirstWord (space page word : ℕ) (old new : TlbState) : Type 0 where
-  pub found : Some (small_leaf space page word) ≡ leaf_told (answer_of old.arrays space page)
-  pub after : new ≡ tlb_looked space page old
 
 -- A leaf of 4 KiB with this word answers, and is the newest of its set of the first array then.
 pub record IsSmallWord (space page word : ℕ) (old new : TlbState) : Type 0 where

@@ -6,12 +6,12 @@ ghost use Rattle.xl_model.specs.Base.{one_if};
 ghost use Rattle.xl_model.specs.Tlb.{answer_of, leaves_in, takes_leaf, takes_order, array_filled, array_without, is_purged, reaches_leaf};
 ghost use Rattle.xl_model.specs.declared.address.Order.TheVariants as order_of;
 ghost use Rattle.xl_tlb.specs.Arrays.{IsFit, InLimits};
-ghost use Rattle.xl_tlb.specs.Answers.{IsAnswered, IsFirstWord, IsHit, IsNowhere, IsSmallWord};
+ghost use Rattle.xl_tlb.specs.Answers.{IsAnswered, IsHit, IsNowhere, IsSmallWord};
 ghost use Rattle.xl_tlb.specs.Fronts.{IsFront, AreMissed, FirstMisses, HasEights, IsFirstMiss};
 ghost use Rattle.xl_model.specs.LeafWords.{small_leaf};
 ghost use Rattle.xl_tlb.specs.Paths.{AllCommon, AreCommon, IsPath, IsReady};
 ghost use Rattle.xl_tlb.specs.Sought.{IsFill, IsSought};
-ghost use Rattle.xl_tlb.specs.Hits.{hit_leaf, leaf_hit};
+ghost use Rattle.xl_tlb.specs.Hits.{hit_leaf, leaf_hit, small_hit};
 ghost use Rattle.xl_tlb.specs.Tlbs.{spec_of, leaf_told, tlb_opening, AreSpecs, IsRising, IsAlone, tlb_looked, tlb_filled, tlb_purged, tlb_fenced};
 
 use crate::any::AnyArray;
@@ -349,8 +349,8 @@ impl Levels {
     #[inline(always)]
     pub fn hit_in_turn(&mut self, sought: Sought) -> Option<u64>
         requires { IsSought order_of.K4 sought }
-        ensures some { IfSome result (λ word.
-            IsFirstWord sought.space sought.page word self.old self.new) }
+        ensures some { IfSome result (λ word. IsHit sought.space sought.page (small_hit word)
+            self.old self.new) }
         ensures same { IfNone result (self.new ≡ self.old) }
     {
         let Some(word) = look_first_in_turn(
