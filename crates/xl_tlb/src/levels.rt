@@ -314,9 +314,11 @@ impl Levels {
     }
 
     /// Looks for the page in the levels in turn, and gives what was hit. Touches the array that hits,
-    /// and fills those of lower levels that hold the leaf's order. None where no array hits.
+    /// and fills those of lower levels that hold the leaf's order. None where no array hits. Where it is
+    /// told that the first array misses, that isn't asked.
     #[inline]
-    pub fn look(&mut self, space: u16, page: u64) -> Option<Hit>
+    pub fn look(&mut self, missed: bool, space: u16, page: u64) -> Option<Hit>
+        requires missed { missed ≡ true → FirstMisses space page self.old.arrays }
         requires space { space < 64 }
         requires page { page < 2 ^ 52 }
         ensures found { hit_leaf space page result
@@ -328,6 +330,7 @@ impl Levels {
         }
         match look_in(
             &mut self.arrays,
+            missed,
             &mut self.hits,
             &mut self.misses,
             space,
