@@ -1,19 +1,18 @@
 -- Accesses that are served by one row after another.
-use Rattle.std.proofs.Common.{◌≡◌, refl, sym, ap, ◌∙◌, subst, ℕ, suc, arith, List, [], ◌∷◌, Option, None, Some}
-use Rattle.std.specs.Prelude.{map, take, drop}
+use Rattle.std.proofs.Common.{◌≡◌, refl, sym, ap, ◌∙◌, subst, ℕ, suc, arith, List, [], ◌∷◌, ◌++◌, Option, None, Some}
+use Rattle.std.specs.Prelude.{map, take, drop, length}
 use Rattle.std.specs.List.{All}
-use Rattle.std.proofs.lemmas.List.Elements.{All-cons}
+use Rattle.std.proofs.lemmas.List.{map-append, nil_from_length, take-append-drop}
+use Rattle.std.proofs.lemmas.List.Elements.{All-append, All-cons, All-drop, All-take}
 use Rattle.xl_model.specs.declared.address.Kind.{Kind}
 use Rattle.xl_model.specs.declared.event.Event.TheVariants as event
-use Rattle.xl_model.specs.declared.event.Outcome.{Outcome}
-use Rattle.xl_model.specs.declared.event.Outcome.TheVariants as outcome
 use Rattle.xl_model.specs.declared.leaf.Reply.{Reply}
 use Rattle.xl_model.specs.declared.leaf.Reply.TheVariants as reply
 use Rattle.xl_model.specs.declared.script.Area.{Area}
-use Rattle.xl_model.specs.declared.script.Item.TheVariants.{Command, Referenced}
-use Rattle.xl_model.specs.RowRun.{after_event, reply_to, outcome_of}
-use Rattle.xl_model.specs.Items.{area_for, wanted, map_of, again_where, demanded, state_after}
-use Rattle.xl_model.specs.Scenes.{Served, Scene, rows_after, scene_after, scenes_after}
+use Rattle.xl_model.specs.declared.script.Item.TheVariants.{Command}
+use Rattle.xl_model.specs.RowRun.{reply_to}
+use Rattle.xl_model.specs.Items.{area_for, wanted, demanded, state_after}
+use Rattle.xl_model.specs.Scenes.{Served, rows_after, scene_after, scenes_after}
 use Rattle.xl_machine.specs.Served.{accessed_by, after_of, IsFramed}
 use Rattle.xl_lackey.specs.declared.skim.Access.{Access}
 use Rattle.xl_serving.specs.declared.batch.WaitingEvent.{WaitingEvent}
@@ -133,13 +132,61 @@ waiting-stays accesses (w ∷ events) areas v =
     let front = take w.gap accesses in
     waiting-stays (drop w.gap accesses) events areas (after_of w.event (row_served front areas v)) ∙ row-stays front areas v
 
--- a slot stays what its row names
+-- a slot stays what its row names, where the row and the form stay
+named-row : (s t : Slot) → (served_of t).row ≡ (served_of s).row → slot_form t ≡ slot_form s → IsNamed s → IsNamed t
+named-row s t row form named = ap form_named row ∙ named ∙ ap Some (sym form)
+
 pub named-stays : (accesses : List Access) (events : List WaitingEvent) (areas : List Area) (s t : Slot) → served_of t ≡ waiting_served accesses events areas (served_of s) → slot_form t ≡ slot_form s → IsNamed s → IsNamed t
-named-stays accesses events areas s t after form named =
-    ap (λ (v : Served). form_named v.row) after ∙ ap form_named (waiting-stays accesses events areas (served_of s)) ∙ named ∙ ap Some (sym form)
+named-stays accesses events areas s t after = named-row s t (ap (λ (v : Served). v.row) after ∙ waiting-stays accesses events areas (served_of s))
+
+pub named-accessed : (va : ℕ) (k : Kind) (areas : List Area) (s t : Slot) → served_of t ≡ access_served va k areas (served_of s) → slot_form t ≡ slot_form s → IsNamed s → IsNamed t
+named-accessed va k areas s t after = named-row s t (ap (λ (v : Served). v.row) after)
+
+pub named-stepped : (e : Event) (s t : Slot) → served_of t ≡ after_of e (served_of s) → slot_form t ≡ slot_form s → IsNamed s → IsNamed t
+named-stepped e s t after = named-row s t (ap (λ (v : Served). v.row) after)
 
 -- each slot does, where the first and the others do
 pub named-each : (s t : Slot) (slots ss ts : List Slot) → slots ≡ s ∷ ss → (IsNamed s → IsNamed t) → (All IsNamed ss → All IsNamed ts) → All IsNamed slots → All IsNamed (t ∷ ts)
 named-each s t slots ss ts e f g h =
     let all : All IsNamed (s ∷ ss) = subst (All IsNamed) e h in
     All-cons IsNamed t ts (f (all 0 s (omega arith))) (g (λ k d less. all (suc k) d (omega arith)))
+
+-- slots in two parts, each of them served
+pub served-in-two : (f : Served → Served) (n : ℕ) (slots front back : List Slot) → map served_of front ≡ map f (map served_of (take n slots)) → map served_of back ≡ map f (map served_of (drop n slots))
+    → map served_of (front ++ back) ≡ map f (map served_of slots)
+served-in-two f n slots front back first later =
+    map-append served_of front back
+    ∙ ap (λ (xs : List Served). xs ++ map served_of back) first
+    ∙ ap (λ (ys : List Served). map f (map served_of (take n slots)) ++ ys) later
+    ∙ sym (map-append f (map served_of (take n slots)) (map served_of (drop n slots)))
+    ∙ ap (map f) (sym (map-append served_of (take n slots) (drop n slots)) ∙ ap (map served_of) (take-append-drop n slots))
+
+pub named-in-two : (n : ℕ) (slots front back : List Slot) → (All IsNamed (take n slots) → All IsNamed front) → (All IsNamed (drop n slots) → All IsNamed back)
+    → All IsNamed slots → All IsNamed (front ++ back)
+named-in-two n slots front back first later named =
+    All-append IsNamed front back (first (All-take IsNamed n slots named)) (later (All-drop IsNamed n slots named))
+
+-- accesses and then a command, each by all slots, and then what comes behind them
+pub side-by-side : (accesses before behind : List Access) (events later : List WaitingEvent) (w : WaitingEvent) (areas : List Area) (rows one two three : List Served)
+    → events ≡ w ∷ later → before ≡ take w.gap accesses → behind ≡ drop w.gap accesses
+    → one ≡ map (row_served before areas) rows → two ≡ map (after_of w.event) one → three ≡ map (waiting_served behind later areas) two
+    → three ≡ map (waiting_served accesses events areas) rows
+side-by-side accesses before behind events later w areas rows one two three events-are before-is behind-is first then rest =
+    rest
+    ∙ ap (λ (xs : List Access). map (waiting_served xs later areas) two) behind-is
+    ∙ ap (map (waiting_served (drop w.gap accesses) later areas)) (then ∙ ap (map (after_of w.event)) (first ∙ ap (λ (xs : List Access). map (row_served xs areas) rows) before-is))
+    ∙ waiting-then accesses w later areas rows
+    ∙ ap (λ (es : List WaitingEvent). map (waiting_served accesses es areas) rows) (sym events-are)
+
+-- an access by all slots, and then the others
+pub each-then : (a : Access) (accesses later : List Access) (areas : List Area) (rows one two : List Served) → accesses ≡ a ∷ later
+    → one ≡ map (access_served a.va a.kind areas) rows → two ≡ map (row_served later areas) one → two ≡ map (row_served accesses areas) rows
+each-then a accesses later areas rows one two accesses-are first rest =
+    rest
+    ∙ ap (map (row_served later areas)) first
+    ∙ one-then a later areas rows
+    ∙ ap (λ (xs : List Access). map (row_served xs areas) rows) (sym accesses-are)
+
+-- no accesses by all slots
+pub each-none : (accesses : List Access) (areas : List Area) (rows : List Served) → length accesses ≡ 0 → rows ≡ map (row_served accesses areas) rows
+each-none accesses areas rows none = none-served areas rows ∙ ap (λ (xs : List Access). map (row_served xs areas) rows) (sym (nil_from_length accesses none))

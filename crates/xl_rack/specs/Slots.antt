@@ -1,5 +1,5 @@
 -- What the slots of a rack hold.
-use Rattle.std.specs.Prelude.{◌≡◌, Some}
+use Rattle.std.specs.Prelude.{◌≡◌, ◌==◌, Bool, Some, length}
 use Rattle.xl_model.specs.Scenes.{Served}
 use Rattle.xl_rack.specs.declared.slot.Slot.{Slot}
 use Rattle.xl_rack.specs.declared.slot.Slot.TheVariants as slot
@@ -32,3 +32,7 @@ slot_form (slot.Range m) = RangeForm
 -- A slot's machine is of the form that its row names.
 abbrev pub IsNamed : Slot → Type 0
 IsNamed s = form_named (served_of s).row ≡ Some (slot_form s)
+
+-- A slot's machine has no arrays.
+abbrev pub has_no_arrays : Slot → Bool
+has_no_arrays s = length (served_of s).state.arrays == 0

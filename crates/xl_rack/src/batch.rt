@@ -1,18 +1,19 @@
 //! Items that a row is served one after another without lines: the kind of the row's table is chosen once
 //! for all of them.
 
-ghost use Rattle.std.specs.Prelude.{◌≡◌, ◌≤◌, length, map};
-ghost use Rattle.std.specs.List.{All};
+ghost use Rattle.std.specs.Prelude.{◌≡◌, ◌==◌, ◌&&◌, ◌≤◌, length, map, nat_lt, not};
+ghost use Rattle.std.specs.List.{All, list_any};
+ghost use Rattle.xl_machine.specs.Served.{after_of};
 ghost use Rattle.xl_serving.specs.Batches.{gaps};
 ghost use Rattle.xl_rack.specs.Batches.{demand_served, access_served, row_served, waiting_served};
-ghost use Rattle.xl_rack.specs.Slots.{served_of, slot_form, IsNamed};
+ghost use Rattle.xl_rack.specs.Slots.{served_of, slot_form, has_no_arrays, IsNamed};
 
 use crate::area::map_for;
 use crate::slot::{Slot, at_table};
 use xl_areas::Areas;
 use xl_lackey::Access;
 use xl_machine::Machine;
-use xl_model::{Kind, Outcome, Reply, Structure};
+use xl_model::{Event, Kind, Outcome, Reply, Structure};
 use xl_serving::WaitingEvent;
 
 /// Serves the map that an area demands for an address, and where it is done, the access once more.
@@ -104,7 +105,133 @@ fn serve_slot(slot: &mut Slot, accesses: &[Access], events: &[WaitingEvent], are
     at_table!(slot, machine => serve_machine(machine, accesses, events, areas))
 }
 
-/// Serves accesses, and the events among them, to each slot in turn.
+/// Serves accesses, and the events among them, to each slot in turn: all to the first, then to the
+/// next.
+fn serve_in_turn(slots: &mut [Slot], accesses: &[Access], events: &[WaitingEvent], areas: &Areas)
+    requires { gaps events.now ≤ length accesses.now }
+    ensures served { map served_of slots.new
+        ≡ map (waiting_served accesses.now events.now areas.now) (map served_of slots.old) }
+    ensures named { All IsNamed slots.old → All IsNamed slots.new }
+{
+    let Some((first, rest)) = slots.split_first_mut() else {
+        return;
+    };
+    serve_slot(first, accesses, events, areas);
+    serve_in_turn(rest, accesses, events, areas);
+}
+
+/// Serves an access, with the events of its demand, to the machine of a slot.
+#[inline(always)]
+fn serve_slot_once(slot: &mut Slot, va: u64, kind: Kind, areas: &Areas)
+    ensures served { served_of slot.new ≡ access_served va kind areas.now (served_of slot.old) }
+    ensures form { slot_form slot.new ≡ slot_form slot.old }
+{
+    at_table!(slot, machine => serve_one::<_, false, false>(machine, va, kind, areas))
+}
+
+/// Serves an access, with the events of its demand, to each slot.
+fn serve_to_each(slots: &mut [Slot], va: u64, kind: Kind, areas: &Areas)
+    ensures served { map served_of slots.new
+        ≡ map (access_served va kind areas.now) (map served_of slots.old) }
+    ensures named { All IsNamed slots.old → All IsNamed slots.new }
+{
+    let Some((first, rest)) = slots.split_first_mut() else {
+        return;
+    };
+    serve_slot_once(first, va, kind, areas);
+    serve_to_each(rest, va, kind, areas);
+}
+
+/// Serves accesses to the slots: each access to all of them, then the next.
+fn serve_each_to_all(slots: &mut [Slot], accesses: &[Access], areas: &Areas)
+    ensures served { map served_of slots.new
+        ≡ map (row_served accesses.now areas.now) (map served_of slots.old) }
+    ensures named { All IsNamed slots.old → All IsNamed slots.new }
+{
+    let Some((access, later)) = accesses.split_first() else {
+        return;
+    };
+    serve_to_each(slots, access.va, access.kind, areas);
+    serve_each_to_all(slots, later, areas);
+}
+
+/// Serves an event to each slot.
+fn step_each(slots: &mut [Slot], event: Event)
+    ensures served { map served_of slots.new ≡ map (after_of event) (map served_of slots.old) }
+    ensures named { All IsNamed slots.old → All IsNamed slots.new }
+{
+    let Some((first, rest)) = slots.split_first_mut() else {
+        return;
+    };
+    let _outcome = first.step(event);
+    step_each(rest, event);
+}
+
+/// Serves accesses, and the events among them, to the slots side by side: each to all of them, then
+/// the next. What arrays answer can't be foretold, but mostly it is what those of the row before
+/// answered just now, and so the processor foretells it.
+fn serve_side_by_side(
+    slots: &mut [Slot],
+    accesses: &[Access],
+    events: &[WaitingEvent],
+    areas: &Areas,
+)
+    requires { gaps events.now ≤ length accesses.now }
+    ensures served { map served_of slots.new
+        ≡ map (waiting_served accesses.now events.now areas.now) (map served_of slots.old) }
+    ensures named { All IsNamed slots.old → All IsNamed slots.new }
+{
+    let Some((waiting, later)) = events.split_first() else {
+        serve_each_to_all(slots, accesses, areas);
+        return;
+    };
+    let (before, behind) = accesses.split_at(waiting.gap);
+    serve_each_to_all(slots, before, areas);
+    step_each(slots, waiting.event);
+    serve_side_by_side(slots, behind, later, areas);
+}
+
+/// Whether a slot's machine has no arrays.
+fn is_bare(slot: &Slot) -> bool
+    ensures { result ≡ has_no_arrays slot.now }
+{
+    at_table!(slot, machine => machine.is_bare())
+}
+
+/// Whether the machine of one of these slots has no arrays.
+fn one_is_bare(slots: &[Slot]) -> bool
+    ensures { result ≡ list_any has_no_arrays slots.now }
+{
+    slots.iter().any(|slot| is_bare(slot))
+}
+
+/// Whether these slots are served side by side: several, of which none is without arrays. Without
+/// arrays a machine is served faster alone.
+fn has_company(slots: &[Slot]) -> bool
+    ensures { result ≡ (nat_lt 1 (length slots.now) && not (list_any has_no_arrays slots.now)) }
+{
+    slots.len() > 1 && !one_is_bare(slots)
+}
+
+/// Serves accesses, and the events among them, to some slots.
+fn serve_group(slots: &mut [Slot], accesses: &[Access], events: &[WaitingEvent], areas: &Areas)
+    requires { gaps events.now ≤ length accesses.now }
+    ensures served { map served_of slots.new
+        ≡ map (waiting_served accesses.now events.now areas.now) (map served_of slots.old) }
+    ensures named { All IsNamed slots.old → All IsNamed slots.new }
+{
+    if has_company(slots) {
+        serve_side_by_side(slots, accesses, events, areas);
+    } else {
+        serve_in_turn(slots, accesses, events, areas);
+    }
+}
+
+/// How many slots are served side by side at most: with more of them the arrays of a row would leave
+/// the processor's first cache before its next access.
+const SIDE_BY_SIDE: usize = 8;
+
+/// Serves accesses, and the events among them, to all slots, some of them after the others.
 pub(crate) fn serve_slots(
     slots: &mut [Slot],
     accesses: &[Access],
@@ -116,9 +243,10 @@ pub(crate) fn serve_slots(
         ≡ map (waiting_served accesses.now events.now areas.now) (map served_of slots.old) }
     ensures named { All IsNamed slots.old → All IsNamed slots.new }
 {
-    let Some((first, rest)) = slots.split_first_mut() else {
+    if slots.is_empty() {
         return;
-    };
-    serve_slot(first, accesses, events, areas);
+    }
+    let (group, rest) = slots.split_at_mut(slots.len().min(SIDE_BY_SIDE));
+    serve_group(group, accesses, events, areas);
     serve_slots(rest, accesses, events, areas);
 }

@@ -1,4 +1,4 @@
-use Rattle.std.proofs.Common.{◌≡◌, ◌+◌, ◌<◌, ◌≤◌, arith, ◌∙◌, true, false}
+use Rattle.std.proofs.Common.{◌≡◌, ◌+◌, arith, ◌∙◌, true, false}
 use Rattle.std.specs.Prelude.{slice_index_or, None}
 use Rattle.xl_model.specs.Image.{word_of}
 use Rattle.xl_rack.proofs.WordLemmas.{word-written, word-passed, node-cut}

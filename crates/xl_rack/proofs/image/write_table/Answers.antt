@@ -1,5 +1,4 @@
-use Rattle.std.proofs.Common.{◌≡◌, sym, ◌+◌, ◌≤◌, length, arith, true, false}
-use Rattle.std.specs.Prelude.{slice_index_or, None}
+use Rattle.std.proofs.Common.{sym, ◌+◌, ◌≤◌, length, arith, true, false}
 use Rattle.xl_rack.proofs.WordLemmas.{node-written, number-passed, table-cut, table-whole}
 use Rattle.xl_rack.proofs.image.write_table.Goals as goal
 use Rattle.xl_rack.proofs.image.write_table.Goals.{then-has_number+in-Ok, else-has_number}
