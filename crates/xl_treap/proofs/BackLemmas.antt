@@ -1,20 +1,21 @@
 -- The words of a treap tell what it holds.
-use Rattle.std.proofs.Common.{◌≡◌, refl, sym, ap, ◌∙◌, subst, ℕ, zero, suc, ◌+◌, ◌*◌, ◌%◌, ◌^◌, ◌<◌, ◌≤◌, List, [], ◌∷◌, length, slice_index, replicate, length-append, find, Option, None, Some, inl, inr, arith}
+use Rattle.std.proofs.Common.{◌≡◌, refl, sym, ap, ◌∙◌, subst, ℕ, zero, suc, ◌+◌, ◌*◌, ◌/◌, ◌^◌, ◌<◌, ◌≤◌, List, [], ◌∷◌, length, slice_index, replicate, length-append, find, Option, inl, inr, arith}
 use Rattle.std.proofs.lemmas.List.{get_or-replicate, length-replicate}
 use Rattle.xl_model.specs.declared.leaf.Range.{Range}
-use Rattle.xl_model.specs.Base.{plus}
 use Rattle.xl_model.specs.Ranges.{holds_page, range_reads}
 use Rattle.xl_model_lemmas.specs.Members.{In, Once}
 use Rattle.xl_model_lemmas.proofs.MemberLemmas.{In-append}
 use Rattle.xl_model_lemmas.proofs.OnceLemmas.{once-more}
-use Rattle.xl_treap.specs.Treaps.{TreapState, key_at}
-use Rattle.xl_treap.specs.Back.{Searched, ended, end_of, range_found, search_from, loaded_times}
-use Rattle.xl_treap.specs.Trees.{Tree, Tip, ranges, tree_at}
-use Rattle.xl_treap.specs.Steps.{IsEmpty}
-use Rattle.xl_treap.specs.Kept.{IsTreap, IsKept, WordsReadBack, seen_in, after_load, upto}
+use Rattle.xl_treap.specs.Treaps.{key_at}
+use Rattle.xl_treap.specs.declared.with.Reached.{Reached}
+use Rattle.xl_treap.specs.Lines.{range_of_link}
+use Rattle.xl_treap.specs.Back.{Searched, ended, end_of, search_from}
+use Rattle.xl_treap.specs.Trees.{Tree, Tip, ranges, found, tree_at}
+use Rattle.xl_treap.specs.Steps.{IsEmpty, IsTree, IsReached}
+use Rattle.xl_treap.specs.Kept.{IsTreap, IsKept, WordsReadBack, seen_in, upto}
 use Rattle.xl_treap.proofs.OrderLemmas.{order-apart}
 use Rattle.xl_treap.proofs.ReadLemmas.{examined-reads}
-use Rattle.xl_treap.proofs.FoundLemmas.{seek-tree, found, found-is}
+use Rattle.xl_treap.proofs.FoundLemmas.{seek-tree, found-is}
 use Rattle.xl_treap.proofs.KeptLemmas.{stands-treap}
 
 -- a search of the words finds what is held, by as many loads as there are ranges to read
@@ -27,9 +28,36 @@ search-kept words root nodes space page free t k h =
     ∙ ap (λ (n : ℕ). ended n (end_of (found t (key_at space page)))) (examined-reads 0 (2 ^ 58) t space page o k.stands.heap)
     ∙ ap (λ (q : Option Range). ended (range_reads (ranges t) space page) (end_of q)) (found-is 0 (2 ^ 58) t space page o h)
 
-pub same-range : (q : Option Range) → range_found (end_of q) ≡ q
-same-range None = refl
-same-range (Some r) = refl
+-- the tree of a treap's own words, as deep as they have lines
+pub own-tree : (words : List ℕ) (root nodes : ℕ) (free : List ℕ) → IsTreap words root nodes free (tree_at nodes words root) → nodes ≤ 2 ^ 16 + 1
+    → IsTree words root (tree_at (length words / 4) words root) × (length (ranges (tree_at (length words / 4) words root)) < 2 ^ 32)
+own-tree words root nodes free k few =
+    let size = k.size in let c = k.count in
+    let e : nodes ≡ length words / 4 = omega arith in
+    let small : length (ranges (tree_at nodes words root)) < 2 ^ 32 = omega arith in
+    let P : ℕ → Type 0 = λ m. IsTree words root (tree_at m words root) × (length (ranges (tree_at m words root)) < 2 ^ 32) in
+    subst P e (k.stands, small)
+
+-- what a search of these words reaches is what is held, by as many loads as there are ranges to read
+pub record IsRead (words : List ℕ) (held : List Range) (space page : ℕ) (end : Reached) : Type 0 where
+  pub at_in : 4 * end.at ≤ length words
+  pub found_is : range_of_link words end.at ≡ find (holds_page space page) held
+  pub loads_is : end.loads ≡ range_reads held space page
+
+pub reached-kept : (words : List ℕ) (root nodes space page : ℕ) (free : List ℕ) (end : Reached) → IsTreap words root nodes free (tree_at nodes words root) → page < 2 ^ 52
+    → IsReached words (tree_at (length words / 4) words root) (key_at space page) end → IsRead words (ranges (tree_at nodes words root)) space page end
+reached-kept words root nodes space page free end k h r =
+    let t : Tree = tree_at nodes words root in
+    let size = k.size in
+    let e : length words / 4 ≡ nodes = omega arith in
+    let P : ℕ → Type 0 = λ m. IsReached words (tree_at m words root) (key_at space page) end in
+    let q : IsReached words t (key_at space page) end = subst P e r in
+    let o = order-apart t k.stands.apart in
+    record {
+      at_in = q.at_in;
+      found_is = q.range_is ∙ found-is 0 (2 ^ 58) t space page o h;
+      loads_is = q.loads_is ∙ examined-reads 0 (2 ^ 58) t space page o k.stands.heap;
+    }
 
 pub read-back : (words : List ℕ) (root nodes loads : ℕ) (free : List ℕ) → IsTreap words root nodes free (tree_at nodes words root) → WordsReadBack (seen_in words root nodes loads)
 read-back words root nodes loads free k =
@@ -41,18 +69,6 @@ read-back words root nodes loads free k =
       found = λ space page a b. ap (λ (x : Searched). x.end) (search-kept words root nodes space page free t k b);
       loads = λ space page a b. ap (λ (x : Searched). x.loads) (search-kept words root nodes space page free t k b);
     }
-
--- a treap after so many loads
-abbrev pub with_loads : ℕ → TreapState → TreapState
-with_loads n t = record t { seen = record t.seen { loads = plus t.seen.loads n } }
-
-pub times-is : (n : ℕ) (t : TreapState) → t.seen.loads < 2 ^ 64 → loaded_times after_load n t ≡ with_loads n t
-times-is zero t h =
-    let e : t.seen.loads ≡ plus t.seen.loads 0 = omega arith in
-    ap (λ (k : ℕ). let v : TreapState = record t { seen = record t.seen { loads = k } } in v) e
-times-is (suc n) t h =
-    let e : (plus t.seen.loads n + 1) % 2 ^ 64 ≡ plus t.seen.loads (suc n) = omega arith in
-    ap after_load (times-is n t h) ∙ ap (λ (k : ℕ). let v : TreapState = record t { seen = record t.seen { loads = k } } in v) e
 
 -- a treap that holds nothing
 upto-In : (e n : ℕ) → In e (upto n) → e < n

@@ -10,11 +10,10 @@ use Rattle.xl_treap.specs.declared.along.Visit.TheVariants as visit
 use Rattle.xl_treap.specs.Treaps.{IsFit, key_at}
 use Rattle.xl_treap.specs.Lines.{left_at, right_at, IsNode}
 use Rattle.xl_treap.specs.Back.{Searched, ended, end_of, loaded_before, visit_of, visited, search_from}
-use Rattle.xl_treap.specs.Trees.{Tree, Tip, Bin, ranges, tree_at, tree_by, IsAt, InOrder}
+use Rattle.xl_treap.specs.Trees.{Tree, Tip, Bin, ranges, found, examined, tree_at, tree_by, IsAt, InOrder}
 use Rattle.xl_treap.proofs.WordLemmas.{said-back, node-said}
 use Rattle.xl_treap.proofs.SeekLemmas.{from-none, from-visit}
 use Rattle.xl_treap.proofs.OrderLemmas.{pick-yes, pick-no, side, sizes, order-In}
-use Rattle.xl_treap.proofs.ReadLemmas.{examined}
 
 pub none-at : (d : ℕ) (words : List ℕ) → tree_at d words 0 ≡ Tip
 none-at zero words = refl
@@ -31,11 +30,6 @@ tree-is low high (suc d) words at (Bin n x l r) (e, i, a, b) (f, p, q) h =
     (ap (λ (o : Option Range). tree_by n o (tree_at d words (left_at words n)) (tree_at d words (right_at words n))) (node-said words n x i f)
     ∙ ap (λ (t : Tree). Bin n x t (tree_at d words (right_at words n))) (tree-is low (range_key x) d words (left_at words n) l a p (omega arith))
     ∙ ap (λ (t : Tree). Bin n x l t) (tree-is (end_key x) high d words (right_at words n) r b q (omega arith)))
-
--- the range of a tree that holds a key
-abbrev pub found : Tree → ℕ → Option Range
-found Tip k = None
-found (Bin n x l r) k = cond (nat_lt k (range_key x)) (found l k) (cond (nat_lt (k - range_key x) x.pages) (Some x) (found r k))
 
 visit-is : (words : List ℕ) (n : ℕ) (x : Range) (k : ℕ) → IsNode words n x → IsFit x
     → visit_of words n k ≡ cond (nat_lt k (range_key x)) (visit.Goes (left_at words n)) (cond (nat_lt (k - range_key x) x.pages) (visit.Here (Some x)) (visit.Goes (right_at words n)))

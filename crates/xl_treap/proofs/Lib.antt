@@ -15,4 +15,5 @@ pub mod MergeLemmas
 pub mod RiseLemmas
 pub mod TakeLemmas
 pub mod BesideLemmas
+pub mod WithLemmas
 pub mod BackLemmas

@@ -1,6 +1,6 @@
 -- The nodes that a search of a tree examines are the ranges that it reads: it needs only the order of the keys and that
 -- of the priorities.
-use Rattle.std.proofs.Common.{◌≡◌, refl, sym, ap, ◌∙◌, subst, ℕ, suc, ◌+◌, ◌-◌, ◌<◌, ◌≤◌, Bool, true, false, not, ◌&&◌, ◌||◌, cond, nat_lt, List, [], ◌∷◌, ◌++◌, inl, inr, arith}
+use Rattle.std.proofs.Common.{◌≡◌, refl, sym, ap, ◌∙◌, subst, ℕ, suc, ◌+◌, ◌-◌, ◌<◌, ◌≤◌, Bool, true, false, not, ◌&&◌, ◌||◌, List, [], ◌∷◌, ◌++◌, inl, inr, arith}
 use Rattle.std.specs.List.{list_all}
 use Rattle.std.proofs.lemmas.Bool.Decides.{nat_tests}
 use Rattle.xl_model.specs.declared.leaf.Range.{Range}
@@ -9,15 +9,9 @@ use Rattle.xl_model.specs.Ranges.{range_key, end_key, is_above, is_between, is_r
 use Rattle.xl_model_lemmas.specs.Members.{In}
 use Rattle.xl_model_lemmas.proofs.MemberLemmas.{In-right, In-append}
 use Rattle.xl_treap.specs.Treaps.{key_at}
-use Rattle.xl_treap.specs.Trees.{Tree, Tip, Bin, ranges, InOrder, IsHeap}
+use Rattle.xl_treap.specs.Trees.{Tree, Tip, Bin, ranges, examined, InOrder, IsHeap}
 use Rattle.xl_treap.proofs.OrderLemmas.{pick-yes, pick-no, side, Lies, order-In}
 use Rattle.xl_treap.proofs.AboveLemmas.{above-not, over-In}
-
--- how many nodes a search examines
-abbrev pub examined : Tree → ℕ → ℕ
-examined Tip k = 0
-examined (Bin n x l r) k =
-    cond (nat_lt k (range_key x)) (suc (examined l k)) (cond (nat_lt (k - range_key x) x.pages) 1 (suc (examined r k)))
 
 all-true : (p : Range → Bool) (xs : List Range) → ((z : Range) → In z xs → p z ≡ true) → list_all p xs ≡ true
 all-true p [] h = refl

@@ -66,10 +66,3 @@ tree_loads words root nodes space page = (search_from nodes words root (key_at s
 -- a bus of these words after a search of them
 abbrev pub loaded_along : {A : Type 0} → (A → A) → List ℕ → ℕ → ℕ → ℕ → A → A
 loaded_along loaded words root nodes key bus = loaded_times loaded (search_from nodes words root key).loads bus
-
--- the range that a search found
-abbrev pub range_found : Search → Option Range
-range_found (search_end.Found r) = Some r
-range_found search_end.Absent = None
-range_found search_end.OutOfBus = None
-range_found search_end.TooLong = None

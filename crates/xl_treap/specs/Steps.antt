@@ -7,7 +7,8 @@ use Rattle.xl_treap.specs.Treaps.{IsApart, with_range, without_range, resized, l
 use Rattle.xl_treap.specs.Lines.{node_word, left_at, right_at, range_of_link, IsNode}
 use Rattle.xl_treap.specs.declared.parting.Parts.{Parts}
 use Rattle.xl_treap.specs.declared.beside.Beside.{Beside}
-use Rattle.xl_treap.specs.Trees.{Tree, Tip, Bin, Pair, ranges, IsAt, IsHeap, InOrder, Over, down, cut_low, cut_high}
+use Rattle.xl_treap.specs.declared.with.Reached.{Reached}
+use Rattle.xl_treap.specs.Trees.{Tree, Tip, Bin, Pair, ranges, found, examined, IsAt, IsHeap, InOrder, Over, down, cut_low, cut_high}
 
 -- a node has these links, and no other word changed
 pub record IsLinked (old new : List ℕ) (n left right : ℕ) : Type 0 where
@@ -218,3 +219,9 @@ pub record AreBeside (words : List ℕ) (t : Tree) (k : ℕ) (found : Beside) : 
   pub from_in : 4 * found.from ≤ length words
   pub before_is : range_of_link words found.before ≡ last_below k (ranges t)
   pub from_is : range_of_link words found.from ≡ first_from k (ranges t)
+
+-- the link to the node whose pages hold a key, and the nodes that a search for it examines
+pub record IsReached (words : List ℕ) (t : Tree) (k : ℕ) (end : Reached) : Type 0 where
+  pub at_in : 4 * end.at ≤ length words
+  pub range_is : range_of_link words end.at ≡ found t k
+  pub loads_is : end.loads ≡ examined t k

@@ -1,6 +1,6 @@
 -- Trees of ranges, how they stand in words, and how they are changed. Their keys rise from left to right, and the
 -- priorities of their keys rise downwards.
-use Rattle.std.specs.Prelude.{ℕ, zero, suc, ◌≡◌, ◌≤◌, true, nat_lt, if◌then◌else◌, List, [], ◌∷◌, ◌++◌, Option, None, Some}
+use Rattle.std.specs.Prelude.{ℕ, zero, suc, ◌≡◌, ◌-◌, ◌≤◌, true, nat_lt, if◌then◌else◌, List, [], ◌∷◌, ◌++◌, Option, None, Some}
 use Rattle.xl_model.specs.declared.leaf.Range.{Range}
 use Rattle.xl_model.specs.Ranges.{range_key, end_key, is_above}
 use Rattle.xl_treap.specs.Treaps.{IsFit}
@@ -61,6 +61,20 @@ graft t k zero s = s
 graft Tip k (suc d) s = s
 graft (Bin n x l r) k (suc d) s =
     if nat_lt (range_key x) k then Bin n x l (graft r k d s) else Bin n x (graft l k d s) r
+
+-- the range of a tree whose pages hold a key
+abbrev pub found : Tree → ℕ → Option Range
+found Tip k = None
+found (Bin n x l r) k =
+    if nat_lt k (range_key x) then found l k else (if nat_lt (k - range_key x) x.pages then Some x else found r k)
+
+-- how many nodes a search for it examines
+abbrev pub examined : Tree → ℕ → ℕ
+examined Tip k = 0
+examined (Bin n x l r) k =
+    if nat_lt k (range_key x)
+    then suc (examined l k)
+    else (if nat_lt (k - range_key x) x.pages then 1 else suc (examined r k))
 
 -- what a tree has below a key
 abbrev pub cut_low : ℕ → Tree → Tree

@@ -5,10 +5,10 @@ mod along;
 mod beside;
 mod descent;
 mod joining;
-mod look;
 mod node;
 mod parting;
 mod treap;
+mod with;
 
 pub use along::Search;
-pub use treap::Treap;
+pub use treap::{Neighbours, Treap};

@@ -7,15 +7,15 @@ ghost use Rattle.xl_model.specs.Base.{plus};
 ghost use Rattle.xl_model.specs.Ranges.{range_key, holds_page, range_reads};
 ghost use Rattle.xl_treap.specs.Treaps.{TreapView, TreapState, IsApart, keeping, key_at, with_range, without_range, resized, last_below, first_from, of_space, has_key};
 ghost use Rattle.xl_treap.specs.Lines.{range_of_link};
-ghost use Rattle.xl_treap.specs.Back.{tree_back, loaded_along, range_found};
+ghost use Rattle.xl_treap.specs.Back.{tree_back, loaded_along};
 ghost use Rattle.xl_treap.specs.Kept.{WordsReadBack, upto};
 
 use crate::along::{Search, seek};
 use crate::beside::nodes_beside;
 use crate::joining::{give_pages, take_out};
-use crate::look::Look;
 use crate::node::{key_of, range_in};
 use crate::parting::put_in;
+use crate::with::node_with;
 use std::alloc::Global;
 use std::marker::Model;
 use xl_model::{Full, NoMemory, Range};
@@ -48,6 +48,15 @@ impl Model for Treap {
         (vec_capacity t.free) };
 }
 
+/// The ranges beside a place, where there are any.
+#[derive(Clone, Copy)]
+pub struct Neighbours {
+    /// The last range before it.
+    pub before: Option<Range>,
+    /// The first range from it on.
+    pub from: Option<Range>,
+}
+
 /// The numbers below `n`.
 fn numbers(alloc: Global, n: u32) -> Result<Vec<u32>, NoMemory>
     ensures items { IfOk result (λ v. v.items ≡ upto n) }
@@ -62,14 +71,16 @@ fn numbers(alloc: Global, n: u32) -> Result<Vec<u32>, NoMemory>
     Ok(all)
 }
 
-/// The range that a search found.
-fn range_of(search: Search) -> Option<Range>
-    ensures { result ≡ range_found search }
+/// The range of the node of a link.
+fn range_of(words: &[u64], at: usize) -> Option<Range>
+    requires { 4 * at ≤ length words.now }
+    ensures { result ≡ range_of_link words.now at }
 {
-    match search {
-        Search::Found(range) => Some(range),
-        _ => None,
+    if at == 0 {
+        return None;
     }
+    let line = 4 * (at - 1);
+    range_in(words[line], words[line + 1], words[line + 2])
 }
 
 /// The range of the node of a link, where it is one of this space.
@@ -77,11 +88,7 @@ fn range_at(words: &[u64], at: u32, space: u16) -> Option<Range>
     requires { 4 * at ≤ length words.now }
     ensures { result ≡ of_space space (range_of_link words.now at) }
 {
-    if at == 0 {
-        return None;
-    }
-    let line = 4 * (at as usize - 1);
-    match range_in(words[line], words[line + 1], words[line + 2]) {
+    match range_of(words, at as usize) {
         Some(range) => {
             if range.space == space {
                 Some(range)
@@ -171,11 +178,8 @@ impl Treap {
         requires page_in { page < 2 ^ 52 }
         ensures { result ≡ find (holds_page space page) self.now.seen.kept }
     {
-        let mut look = Look {
-            words: &self.words,
-            loads: 0,
-        };
-        range_of(Treap::search(&mut look, self.root, self.path.len() as u32, space, page))
+        let found = node_with(&self.words, self.root, key_of(space, page));
+        range_of(&self.words, found.at)
     }
 
     /// The last range of the space that starts below the page, None exactly where there is none.
@@ -199,6 +203,23 @@ impl Treap {
         range_at(&self.words, found.from, space)
     }
 
+    /// The ranges of the space beside the start of the page: the last one that starts below it, and
+    /// the first one that starts there or above, None exactly where there is none.
+    pub fn beside(&self, space: u16, page: u64) -> Neighbours
+        requires space_in { space < 64 }
+        requires page_in { page ≤ 2 ^ 52 }
+        ensures before { result.before
+            ≡ of_space space (last_below (key_at space page) self.now.seen.kept) }
+        ensures from { result.from
+            ≡ of_space space (first_from (key_at space page) self.now.seen.kept) }
+    {
+        let found = nodes_beside(&self.words, self.root, self.path.len(), key_of(space, page));
+        Neighbours {
+            before: range_at(&self.words, found.before, space),
+            from: range_at(&self.words, found.from, space),
+        }
+    }
+
     /// How many ranges are held.
     pub fn len(&self) -> u32
         ensures { result ≡ length self.now.seen.kept }
@@ -218,8 +239,9 @@ impl Treap {
         ensures words { self.new.words ≡ self.old.words }
         ensures root { self.new.root ≡ self.old.root }
     {
-        let (root, nodes) = (self.root, self.path.len() as u32);
-        range_of(Treap::search(self, root, nodes, space, page))
+        let found = node_with(&self.words, self.root, key_of(space, page));
+        self.loads = self.loads.wrapping_add(found.loads as u64);
+        range_of(&self.words, found.at)
     }
 
     /// Searches the words of any bus for the range that holds the page: from the root down, one
