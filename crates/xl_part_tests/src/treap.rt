@@ -72,9 +72,8 @@ fn is_clear(treap: &Treap, range: Range) -> bool
     ensures { result ≡ true → IsApart 0 (with_range range treap.now.seen.kept) }
 {
     treap.words_read_back();
-    let last = treap.before(range.space, range.start);
-    let next = treap.from(range.space, range.start);
-    ends_by(last, range.start) && starts_from(next, range.start + range.pages)
+    let found = treap.beside(range.space, range.start);
+    ends_by(found.before, range.start) && starts_from(found.from, range.start + range.pages)
 }
 
 /// The range of the space that is held and starts at the page.
@@ -127,8 +126,8 @@ fn has_room(treap: &Treap, space: u16, start: u64, pages: u64) -> bool
     if space >= 64 || start >= 1 << 40 || pages == 0 || pages >= 1 << 40 || range.frame >= 1 << 40 {
         return false;
     }
-    let next = treap.from(space, start + 1);
-    starts_from(next, start + pages)
+    let found = treap.beside(space, start + 1);
+    starts_from(found.from, start + pages)
 }
 
 /// Gives a range that is held so many pages where it can have them, and answers whether it can.
@@ -235,10 +234,12 @@ fn three_ranges_stand_where_their_hashes_say(rt: HostRuntime) -> Result<(), Fail
         assert_eq!(rt; treap.walk(space, page), want, "at {page}");
         assert_eq!(rt; treap.loads().wrapping_sub(before), loads, "at {page}");
     }
-    assert_eq!(rt; (treap.before(1, 512), treap.from(0, 6)), (None, None));
+    let (last, large_one) = (treap.beside(0, 6), treap.beside(1, 512));
+    assert_eq!(rt; (last.before, last.from), (Some(plain(5, 1, 0)), None));
+    assert_eq!(rt; (large_one.before, large_one.from), (None, Some(large)));
     assert_eq!(rt;
-        (treap.before(0, 6), treap.from(1, 512)),
-        (Some(plain(5, 1, 0)), Some(large))
+        (treap.before(0, 6), treap.before(1, 512)),
+        (last.before, None)
     );
     assert!(rt; drop(&mut treap, 1, 512));
     assert_eq!(rt; treap.load(1), Some([0, 1, 0x4d3, 3 << 32]));

@@ -167,3 +167,10 @@ ready x rs y next prev h is clear ex en ep =
       apart = subst H (sym same) (apart-held 0 (join x rs) (held-join 0 x rs h (omega arith) is clear));
       count = subst N same (put-length next prev y rs there);
     }
+
+-- the same, of the ranges that are found beside the place
+pub ready-beside : {before from : Option Range} → (x : Range) (rs : List Range) (y : Range) (next prev : Option Range) → IsHeld 0 rs → IsRange x → IsClear x rs → y ≡ x
+    → before ≡ of_space y.space (last_below (range_key y) rs) → from ≡ of_space y.space (first_from (range_key y) rs) → next ≡ next_where from y → prev ≡ prev_where before y
+    → IsReady x rs y next prev
+ready-beside x rs y next prev h is clear ex eb ef en ep =
+    ready x rs y next prev h is clear ex (en ∙ ap (λ (o : Option Range). next_where o y) ef) (ep ∙ ap (λ (o : Option Range). prev_where o y) eb)

@@ -3,8 +3,8 @@
 ghost use Rattle.std.specs.Prelude.{◌≡◌, ◌<◌, ◌≤◌, ◌^◌, ◌+◌, length, true, false, nat_le, ◌==◌};
 ghost use Rattle.xl_model.specs.Ranges.{range_of_leaf, same_perm};
 ghost use Rattle.xl_model_lemmas.specs.HeldRanges.{touches as are_touching, IsRange, IsHeld, IsClear, join};
-ghost use Rattle.xl_range.specs.Puts.{next_of as next_in, prev_of as prev_in, range_taken, kept_taken, kept_put, put_by, one_if, IsThere, pages_with};
-ghost use Rattle.xl_treap.specs.Treaps.{keeping, IsFit, IsApart};
+ghost use Rattle.xl_range.specs.Puts.{next_where, prev_where, range_taken, kept_taken, kept_put, put_by, one_if, IsThere, pages_with};
+ghost use Rattle.xl_treap.specs.Treaps.{keeping, IsApart};
 
 use xl_model::{Leaf, Perm, Range};
 use xl_treap::Treap;
@@ -47,12 +47,11 @@ fn touches(range: &Range, next: &Range) -> bool
         && is_sum(next.frame, range.frame, range.pages)
 }
 
-/// The range that begins where this one ends.
-fn next_of(treap: &Treap, range: &Range) -> Option<Range>
-    requires { IsFit range.now }
-    ensures { result ≡ next_in range.now treap.now.seen.kept }
+/// The range behind this one, if it begins where this one ends.
+fn next_of(range: &Range, from: Option<Range>) -> Option<Range>
+    ensures { result ≡ next_where from range.now }
 {
-    match treap.from(range.space, range.start) {
+    match from {
         Some(next) => {
             if touches(range, &next) {
                 Some(next)
@@ -64,12 +63,11 @@ fn next_of(treap: &Treap, range: &Range) -> Option<Range>
     }
 }
 
-/// The range that ends where this one begins.
-fn prev_of(treap: &Treap, range: &Range) -> Option<Range>
-    requires { IsFit range.now }
-    ensures { result ≡ prev_in range.now treap.now.seen.kept }
+/// The range before this one, if it ends where this one begins.
+fn prev_of(range: &Range, before: Option<Range>) -> Option<Range>
+    ensures { result ≡ prev_where before range.now }
 {
-    match treap.before(range.space, range.start) {
+    match before {
         Some(prev) => {
             if touches(&prev, range) {
                 Some(prev)
@@ -157,8 +155,9 @@ pub(crate) fn put_within(treap: &mut Treap, leaf: Leaf, ranges: u32) -> bool
     ensures same { result ≡ false → treap.new.seen ≡ treap.old.seen }
 {
     let range = range_of(leaf);
-    let next = next_of(treap, &range);
-    let prev = prev_of(treap, &range);
+    let found = treap.beside(range.space, range.start);
+    let next = next_of(&range, found.from);
+    let prev = prev_of(&range, found.before);
     if !has_room(ranges, treap.len(), &next, &prev) {
         return false;
     }

@@ -11,7 +11,7 @@ use Rattle.xl_treap.specs.declared.with.Reached.{Reached}
 use Rattle.xl_treap.specs.Lines.{range_of_link}
 use Rattle.xl_treap.specs.Back.{Searched, ended, end_of, search_from}
 use Rattle.xl_treap.specs.Trees.{Tree, Tip, ranges, found, tree_at}
-use Rattle.xl_treap.specs.Steps.{IsEmpty, IsTree, IsReached}
+use Rattle.xl_treap.specs.Steps.{IsEmpty, IsReached}
 use Rattle.xl_treap.specs.Kept.{IsTreap, IsKept, WordsReadBack, seen_in, upto}
 use Rattle.xl_treap.proofs.OrderLemmas.{order-apart}
 use Rattle.xl_treap.proofs.ReadLemmas.{examined-reads}
@@ -27,16 +27,6 @@ search-kept words root nodes space page free t k h =
     seek-tree 0 (2 ^ 58) nodes words root t (key_at space page) k.stands.at o (omega arith)
     ∙ ap (λ (n : ℕ). ended n (end_of (found t (key_at space page)))) (examined-reads 0 (2 ^ 58) t space page o k.stands.heap)
     ∙ ap (λ (q : Option Range). ended (range_reads (ranges t) space page) (end_of q)) (found-is 0 (2 ^ 58) t space page o h)
-
--- the tree of a treap's own words, as deep as they have lines
-pub own-tree : (words : List ℕ) (root nodes : ℕ) (free : List ℕ) → IsTreap words root nodes free (tree_at nodes words root) → nodes ≤ 2 ^ 16 + 1
-    → IsTree words root (tree_at (length words / 4) words root) × (length (ranges (tree_at (length words / 4) words root)) < 2 ^ 32)
-own-tree words root nodes free k few =
-    let size = k.size in let c = k.count in
-    let e : nodes ≡ length words / 4 = omega arith in
-    let small : length (ranges (tree_at nodes words root)) < 2 ^ 32 = omega arith in
-    let P : ℕ → Type 0 = λ m. IsTree words root (tree_at m words root) × (length (ranges (tree_at m words root)) < 2 ^ 32) in
-    subst P e (k.stands, small)
 
 -- what a search of these words reaches is what is held, by as many loads as there are ranges to read
 pub record IsRead (words : List ℕ) (held : List Range) (space page : ℕ) (end : Reached) : Type 0 where

@@ -192,17 +192,6 @@ impl Treap {
         range_at(&self.words, found.before, space)
     }
 
-    /// The first range of the space that starts at the page or above it, None exactly where there
-    /// is none.
-    pub fn from(&self, space: u16, page: u64) -> Option<Range>
-        requires space_in { space < 64 }
-        requires page_in { page ≤ 2 ^ 52 }
-        ensures { result ≡ of_space space (first_from (key_at space page) self.now.seen.kept) }
-    {
-        let found = nodes_beside(&self.words, self.root, self.path.len(), key_of(space, page));
-        range_at(&self.words, found.from, space)
-    }
-
     /// The ranges of the space beside the start of the page: the last one that starts below it, and
     /// the first one that starts there or above, None exactly where there is none.
     pub fn beside(&self, space: u16, page: u64) -> Neighbours

@@ -8,5 +8,5 @@ returns-clause-held c = λ t. has-start (key_at c.args.space c.args.start) c.in-
 
 pub returns-clause-apart : goal.returns-clause-apart
 returns-clause-apart c = λ t.
-    room-apart c.args.space c.args.start c.args.pages c.in-Some.range c.args.treap.now.seen.kept c.from-next.result c.words_read_back.ensures.apart
-    c.in-Some.ensures.0 c.in-Some.ensures.1 (omega arith) (omega arith) (omega arith) (omega arith) (omega arith) c.from-next.ensures (c.starts_from.ensures t)
+    room-apart c.args.space c.args.start c.args.pages c.in-Some.range c.args.treap.now.seen.kept c.beside-found.result.from c.words_read_back.ensures.apart
+    c.in-Some.ensures.0 c.in-Some.ensures.1 (omega arith) (omega arith) (omega arith) (omega arith) (omega arith) c.beside-found.ensures.from (c.starts_from.ensures t)

@@ -1,5 +1,0 @@
-use Rattle.xl_treap.specs.Trees.{tree_at}
-use Rattle.xl_treap.proofs.treap.Treap.from.Given as goal
-
-abbrev pub ghost-nodes_beside : goal.ghost-nodes_beside
-ghost-nodes_beside a = tree_at a.nodes a.words.now a.root
