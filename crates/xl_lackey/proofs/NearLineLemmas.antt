@@ -1,10 +1,14 @@
 -- Lines with short addresses and sizes, by fixed places.
-use Rattle.std.proofs.Common.{◌≡◌, ℕ, ◌+◌, ◌*◌, ◌^◌, ◌<◌, ◌≤◌, true, false, List, ◌∷◌, length, take, drop, get_or, refl, sym, ap, ◌∙◌, arith}
+use Rattle.std.proofs.Common.{◌≡◌, ℕ, ◌+◌, ◌*◌, ◌^◌, ◌<◌, ◌≤◌, true, false, List, ◌∷◌, ◌++◌, length, length-append, length-drop, take, drop, get_or, slice_index, refl, sym, ap, ◌∙◌, arith}
 use Rattle.std.specs.Prelude.{Some, ◌==◌}
 use Rattle.std.proofs.lemmas.Bool.Decides.{nat_tests}
 use Rattle.std.proofs.lemmas.List.{take_more, drop_more}
+use Rattle.xl_lackey.specs.declared.line.Verdict.TheVariants.{Found}
 use Rattle.xl_lackey.specs.Digits.{hex_digit, hex_value}
-use Rattle.xl_lackey.specs.Lines.{address_in, fits}
+use Rattle.xl_lackey.specs.Lines.{address_in, size_in, fits}
+use Rattle.xl_lackey.specs.Nears.{IsNumbers}
+use Rattle.xl_lackey.specs.Usual.{usual_front}
+use Rattle.xl_lackey.proofs.OwnFormLemmas.{own_at, front_length}
 use Rattle.xl_lackey.proofs.AddressLemmas.{hex_at, after_first, hex_more}
 
 comma_read : (value count b : ℕ) (rest : List ℕ) → b ≡ 44 → 1 ≤ count → hex_at value count (b ∷ rest) ≡ Some (value, rest)
@@ -29,3 +33,20 @@ digit_more text v count d h within e =
 -- a short address and a size of two digits lie within 2^64
 pub near_fits : (addr size : ℕ) → addr < 16 ^ 10 → size < 100 → fits addr size ≡ true
 near_fits addr size a b = grind (arith, nat_tests)
+
+-- an address and a size, by the places of their ends
+pub numbers_at : (text u : List ℕ) (addr comma size above digits : ℕ) → 14 ≤ length text → u ≡ drop (comma + 1) text → comma ≤ 10 → size ≡ above + 1 → size < 100
+    → digits ≤ 2 → addr < 16 ^ 10 → Some (addr, drop (comma + 1) text) ≡ address_in text → Some (size, digits) ≡ size_in u → slice_index u digits ≡ 10
+    → IsNumbers text (record { addr = addr; above = above; used = comma + digits + 5 })
+numbers_at text u addr comma size above digits long e c some small d short address sizes newline = record {
+  few = omega arith;
+  small = omega (arith, some);
+  line = λ l. record {
+    within = omega (arith, length-append (usual_front l) text, front_length l);
+    some = omega arith;
+    line = own_at l (usual_front l ++ text) text u addr comma size digits refl e address sizes
+        (omega (arith, ap length e, length-drop (comma + 1) text)) newline (near_fits addr size short small)
+        ∙ ap (λ (k : ℕ). Some (drop (comma + digits + 5) (usual_front l ++ text), Found l addr k)) some;
+    proper = (omega (arith, some), omega (arith, some));
+  };
+}

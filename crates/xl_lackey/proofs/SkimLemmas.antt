@@ -1,5 +1,5 @@
 -- Records taken one after another.
-use Rattle.std.proofs.Common.{◌≡◌, refl, sym, ap, ap₂, subst, ◌∙◌, ℕ, ◌+◌, ◌%◌, ◌^◌, ◌<◌, List, [], ◌∷◌, ◌++◌, length, map, drop, append_assoc, append-nil, arith, length-append, length-drop}
+use Rattle.std.proofs.Common.{◌≡◌, refl, sym, ap, ap₂, subst, ◌∙◌, ℕ, ◌+◌, ◌%◌, ◌^◌, ◌<◌, ◌≤◌, Bool, true, false, List, [], ◌∷◌, ◌++◌, length, map, drop, append_assoc, append-nil, arith, length-append, length-drop}
 use Rattle.std.specs.Prelude.{None}
 use Rattle.std.proofs.lemmas.List.{map-append}
 use Rattle.xl_model.specs.declared.address.Kind.{Kind}
@@ -9,7 +9,7 @@ use Rattle.xl_lackey.specs.declared.skim.Skim.{Skim}
 use Rattle.xl_lackey.specs.declared.line.Verdict.{Verdict}
 use Rattle.xl_lackey.specs.declared.line.Verdict.TheVariants.{Skipped, Found, Bad}
 use Rattle.xl_lackey.specs.Scans.{IsFirstLine}
-use Rattle.xl_lackey.specs.Skims.{pair, accesses_in, all_accesses, HasAccesses, IsRecordLine, Taken, Takes, Skims, Skimmed, with_records}
+use Rattle.xl_lackey.specs.Skims.{pair, accesses_in, accesses_near, IsSure, all_accesses, HasAccesses, IsRecordLine, Taken, Takes, Skims, Skimmed, with_records}
 use Rattle.xl_lackey.specs.Answers.{with_record}
 use Rattle.xl_lackey.specs.Stream.{Record, Left, State, next_line, records}
 use Rattle.xl_lackey.proofs.SplitLemmas.{IsFirst, first_is, on_from, records_step}
@@ -110,3 +110,18 @@ takes_more n old mid new xs ys more count r k h e =
           k.reads ∙ ap (with_records k.of.taken) h ∙ with_more k.of.taken r (records m (lines_of new))
           ∙ ap (λ (j : ℕ). with_records (k.of.taken ++ r ∷ []) (records j (lines_of new))) line;
     }
+
+-- how many records are sure to have their lines and room
+near_few : (b : Bool) (va : ℕ) (k : Kind) → length (accesses_near b va k) ≤ 2
+near_few true va k = omega arith
+near_few false va k = omega arith
+
+-- one record more was taken
+pub sure_more : (taken sure most rest later used : ℕ) (xs : List Access) (b : Bool) (va : ℕ) (k : Kind) → IsSure taken sure most rest xs → taken < sure
+    → used ≤ 17 → later + used ≡ rest → IsSure (taken + 1) sure most later (xs ++ accesses_near b va k)
+sure_more taken sure most rest later used xs b va k is less few e = record {
+  order = omega arith;
+  few = is.few;
+  text = omega (arith, is.text);
+  room = omega (arith, is.room, length-append xs (accesses_near b va k), near_few b va k);
+}

@@ -3,6 +3,7 @@ pub mod Answers
 pub mod Digits
 pub mod Lanes
 pub mod Lines
+pub mod Nears
 pub mod Scans
 pub mod Skims
 pub mod Stream

@@ -1,5 +1,5 @@
 -- Records whose bytes lie in one page each, taken together.
-use Rattle.std.specs.Prelude.{◌≡◌, ℕ, ◌+◌, ◌%◌, ◌^◌, ◌≤◌, Bool, true, false, List, [], ◌∷◌, ◌++◌, length, map, drop}
+use Rattle.std.specs.Prelude.{◌≡◌, ℕ, ◌+◌, ◌-◌, ◌*◌, ◌%◌, ◌^◌, ◌≤◌, Bool, true, false, List, [], ◌∷◌, ◌++◌, length, map, drop}
 use Rattle.xl_model.specs.declared.address.Kind.{Kind}
 use Rattle.xl_model.specs.declared.address.Kind.TheVariants.{Store}
 use Rattle.xl_text.specs.Texts.{lines_by, lines_of}
@@ -40,6 +40,10 @@ HasAccesses Skipped got = ⊥
 HasAccesses (Found l addr size) got = accesses_at l (places addr size) ≡ map pair got
 HasAccesses (Bad reason) got = ⊥
 
+-- What contracts see of a batch: the accesses that were put there, in order.
+pub record Gathered : Type 0 where
+  pub items : List Access
+
 -- How many accesses a batch has room for.
 abbrev pub batch_size : ℕ
 batch_size = 256
@@ -47,6 +51,14 @@ batch_size = 256
 -- There is room for the accesses of a record in one page, which are two at most.
 abbrev pub HasRoom : List Access → Type 0
 HasRoom accesses = length accesses + 2 ≤ batch_size
+
+-- Of records of which some were taken, so many may be taken in all, at most `most`: their lines end in what is left of
+-- the text, and there is room for their accesses.
+pub record IsSure (taken sure most rest : ℕ) (accesses : List Access) : Type 0 where
+  pub order : taken ≤ sure
+  pub few : sure ≤ most
+  pub text : 17 * (sure - taken) ≤ rest
+  pub room : 2 * (sure - taken) ≤ batch_size - length accesses
 
 -- A text's first line, of so many bytes with its newline, is a record with these accesses.
 pub record IsRecordLine (text : List ℕ) (used : ℕ) (got : List Access) : Type 0 where

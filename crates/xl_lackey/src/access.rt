@@ -49,9 +49,18 @@ pub fn sole_access(reference: &Reference) -> Option<(u64, Kind)>
     }
 }
 
-/// Whether all bytes touched lie in one page.
+/// Whether so few bytes above the first one lie in its page. By smaller numbers than those of any
+/// size.
 #[inline(always)]
-pub(crate) fn is_within_page(reference: &Reference) -> bool
+pub(crate) fn stays_in_page(addr: u64, above: u32) -> bool
+    requires { above < 100 }
+    ensures { IsTrue result → borders_of addr (above + 1) ≡ 0 }
+{
+    (addr % PAGE) as u32 + above < PAGE as u32
+}
+
+/// Whether all bytes touched lie in one page.
+fn is_within_page(reference: &Reference) -> bool
     ensures { IsTrue result ↔ (borders_of reference.now.addr reference.now.size ≡ 0) }
 {
     reference.addr % PAGE + reference.size.max(1) as u64 <= PAGE

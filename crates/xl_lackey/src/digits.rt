@@ -142,15 +142,17 @@ fn number(digits: u8x8) -> u64
     halves % (1 << 32) * 16 + (halves >> 32)
 }
 
-/// An address of eight digits or of ten, as nearly all are, and the place of the comma that ends it.
+/// An address of eight digits or of ten, as nearly all are, and the place of the comma that ends
+/// it; the first eight digits are read already.
 #[inline(always)]
-pub(crate) fn near_address(text: &[u8]) -> Option<(u64, usize)>
-    requires { 11 ≤ length text.now }
+pub(crate) fn near_address(text: &[u8], eight: u64) -> Option<(u64, usize)>
+    requires long { 11 ≤ length text.now }
+    requires value { hex_value 0 (take 8 text.now) ≡ Some eight }
+    requires small { eight < 16 ^ 8 }
     ensures within { IfSome result (λ r. r.1 ≤ 10) }
     ensures small { IfSome result (λ r. r.0 < 16 ^ 10) }
     ensures value { IfSome result (λ r. Some (r.0, drop (r.1 + 1) text.now) ≡ address_in text.now) }
 {
-    let eight = eight_digits(text)?;
     if text[8] == b',' {
         return Some((eight, 8));
     }
@@ -161,6 +163,33 @@ pub(crate) fn near_address(text: &[u8]) -> Option<(u64, usize)>
     } else {
         None
     }
+}
+
+/// The size behind an address of eight digits, where it has one digit: how many bytes it says above
+/// the first.
+#[inline(always)]
+pub(crate) fn near_digit(text: &[u8]) -> Option<u32>
+    requires { 11 ≤ length text.now }
+    ensures comma { IfSome result (λ above. slice_index text.now 8 ≡ 44) }
+    ensures newline { IfSome result (λ above. slice_index (drop 9 text.now) 1 ≡ 10) }
+    ensures small { IfSome result (λ above. above < 9) }
+    ensures value { IfSome result (λ above. Some (above + 1, 1) ≡ size_in (drop 9 text.now)) }
+{
+    let above = size_of_digit(&text[9..])?;
+    if text[8] == b',' { Some(above) } else { None }
+}
+
+/// A size of one digit, which isn't 0, that a newline ends: how many bytes it says above the first.
+/// The digit and the newline are told together, by one comparison.
+#[inline(always)]
+fn size_of_digit(text: &[u8]) -> Option<u32>
+    requires { 2 ≤ length text.now }
+    ensures newline { IfSome result (λ above. slice_index text.now 1 ≡ 10) }
+    ensures small { IfSome result (λ above. above < 9) }
+    ensures value { IfSome result (λ above. Some (above + 1, 1) ≡ size_in text.now) }
+{
+    let above = pair(text).wrapping_sub(b'1' as u32 + b'\n' as u32 * 256);
+    if above < 9 { Some(above) } else { None }
 }
 
 /// Two bytes as a number, of which the first counts least.
@@ -183,17 +212,17 @@ pub(crate) fn triple(text: &[u8]) -> u32
 }
 
 /// A size of one digit or of two, of which the first isn't 0, that a newline ends, and how many
-/// digits it has. The first digit and the newline are told together, by one comparison.
+/// digits it has.
 #[inline(always)]
 pub(crate) fn near_size(text: &[u8]) -> Option<(u32, usize)>
     requires { 3 ≤ length text.now }
+    ensures some { IfSome result (λ r. 1 ≤ r.0) }
     ensures small { IfSome result (λ r. r.0 < 100) }
     ensures few { IfSome result (λ r. r.1 ≤ 2) }
     ensures newline { IfSome result (λ r. slice_index text.now r.1 ≡ 10) }
     ensures value { IfSome result (λ r. Some r ≡ size_in text.now) }
 {
-    let above = pair(text).wrapping_sub(b'1' as u32 + b'\n' as u32 * 256);
-    if above < 9 {
+    if let Some(above) = size_of_digit(text) {
         return Some((above + 1, 1));
     }
     let tens = text[0].wrapping_sub(b'1');

@@ -2,6 +2,7 @@
 #![tactic(auto)]
 
 mod access;
+mod batch;
 mod digits;
 mod fault;
 mod line;
@@ -13,7 +14,8 @@ mod skim;
 mod usual;
 
 pub use access::{nth_access, sole_access};
+pub use batch::Batch;
 pub use next::Next;
 pub use reader::Reader;
 pub use reference::{Letter, Reference};
-pub use skim::{Access, Batch, has_room, put_accesses};
+pub use skim::{Access, has_room, put_accesses};

@@ -6,12 +6,13 @@ ghost use Rattle.xl_lackey.specs.Stream.{fresh, left, left_by, records_of, IsWai
 ghost use Rattle.xl_lackey.specs.Answers.{Answers};
 ghost use Rattle.xl_lackey.specs.Skims.{Skimmed};
 
+use crate::batch::Batch;
 use crate::fault::Fault;
 use crate::line::{Verdict, judge};
 use crate::next::Next;
 use crate::reference::Reference;
 use crate::scan::read_lines;
-use crate::skim::{Batch, skim_lines};
+use crate::skim::skim_lines;
 use std::alloc::Global;
 use std::marker::Model;
 use std::mem::swap;

@@ -1,15 +1,10 @@
 //! Records whose bytes lie in one page each, taken together: what nearly all of a trace is.
 
-ghost use Rattle.std.specs.Prelude.{◌≡◌, ◌+◌, ◌≤◌, ◌++◌, length, drop, map, true, IfSome};
-ghost use Rattle.xl_lackey.specs.Accesses.{accesses};
-ghost use Rattle.xl_lackey.specs.Lines.{IsProper};
-ghost use Rattle.xl_lackey.specs.Skims.{pair, read_of, accesses_near, HasAccesses, HasRoom, IsRecordLine, Skims};
+ghost use Rattle.std.specs.Prelude.{◌≡◌, ◌+◌, ◌<◌, ◌≤◌, ◌++◌, length, drop, true, IfSome};
+ghost use Rattle.xl_lackey.specs.Skims.{read_of, accesses_near, HasRoom, IsRecordLine, IsSure, Skims};
 
-use crate::access::is_within_page;
-use crate::line::Verdict;
-use crate::reference::{Letter, Reference};
-use crate::usual::{NEAR, near_line};
-use arrayvec::ArrayVec;
+use crate::batch::{Batch, ROOM};
+use crate::usual::{NEAR, front_of, near_numbers};
 use xl_model::Kind;
 
 /// An access of the trace.
@@ -27,9 +22,6 @@ impl Default for Access {
         }
     }
 }
-
-/// Accesses in the order of the trace.
-pub type Batch = ArrayVec<Access, 256>;
 
 /// How far the lines of a text were read.
 #[derive(Clone, Copy)]
@@ -52,57 +44,23 @@ pub(crate) struct Near {
     pub(crate) is_modify: bool,
 }
 
-/// What is read of a line of so many bytes that is a record whose bytes lie in one page.
-#[inline(always)]
-fn record_in_page(verdict: Verdict, used: usize) -> Option<Near>
-    requires { IsProper verdict }
-    ensures accesses { IfSome result (λ near. HasAccesses verdict (read_of near)) }
-    ensures used { IfSome result (λ near. near.used ≡ used) }
-{
-    match verdict {
-        Verdict::Found { letter, addr, size } => {
-            let reference = Reference {
-                letter,
-                addr,
-                size,
-                line: 0,
-            };
-            near_of(&reference, used)
-        }
-        _ => None,
-    }
-}
-
-/// The kind of a letter's first access, by the letter. A look-up costs less than a choice.
-const KINDS: [Kind; 4] = [Kind::Fetch, Kind::Load, Kind::Store, Kind::Load];
-
-/// What is read of a reference whose bytes lie in one page.
-#[inline(always)]
-fn near_of(reference: &Reference, used: usize) -> Option<Near>
-    ensures accesses { IfSome result (λ near. accesses reference.now ≡ map pair (read_of near)) }
-    ensures used { IfSome result (λ near. near.used ≡ used) }
-{
-    if !is_within_page(reference) {
-        return None;
-    }
-    let kind = &KINDS[reference.letter as usize];
-    Some(Near {
-        used,
-        va: reference.addr,
-        kind: *kind,
-        is_modify: matches!(reference.letter, Letter::M),
-    })
-}
-
 /// The first line from a place on, in Lackey's own form, where it is a record whose bytes lie in one
 /// page. None says nothing of the text.
 #[inline(always)]
 fn near_record(text: &[u8], from: usize) -> Option<Near>
     requires { from + 17 ≤ length text.now }
-    ensures { IfSome result (λ near. IsRecordLine (drop from text.now) near.used (read_of near)) }
+    ensures record { IfSome result
+        (λ near. IsRecordLine (drop from text.now) near.used (read_of near)) }
+    ensures few { IfSome result (λ near. near.used ≤ 17) }
 {
-    let (used, verdict) = near_line(&text[from..])?;
-    record_in_page(verdict, used)
+    let (front, numbers) = front_of(&text[from..])?;
+    let found = near_numbers(numbers)?;
+    Some(Near {
+        used: found.used,
+        va: found.addr,
+        kind: front.kind,
+        is_modify: front.is_modify,
+    })
 }
 
 /// Whether there is room for the accesses of a record in one page, which are two at most.
@@ -110,7 +68,7 @@ fn near_record(text: &[u8], from: usize) -> Option<Near>
 pub fn has_room(batch: &Batch) -> bool
     ensures { result ≡ true → HasRoom batch.now.items }
 {
-    batch.len() <= batch.capacity() - 2
+    batch.len() <= ROOM - 2
 }
 
 /// Puts the access of a record in one page behind those that are there, and the store behind it where the
@@ -129,8 +87,35 @@ pub fn put_accesses(into: &mut Batch, va: u64, kind: Kind, is_modify: bool)
     }
 }
 
-/// Reads the first lines of a text, of which so many came before it, while each is a record in Lackey's
-/// own form whose bytes lie in one page, at most so many, and while there is room for two accesses.
+/// How many records may be taken, at most so many, with no further look whether their lines end in
+/// the text, of which so many bytes are left, and whether there is room for their accesses.
+#[inline(always)]
+fn sure_records(rest: usize, into: &Batch, most: u64) -> u64
+    ensures { IsSure 0 result most rest into.now.items }
+{
+    let room = (ROOM - into.len()) / 2;
+    (room.min(rest / NEAR) as u64).min(most)
+}
+
+/// The same where so many were taken already; None where no more may be taken. A bound that isn't
+/// reached stays.
+#[inline(always)]
+fn sure_from(taken: u64, sure: u64, most: u64, rest: usize, into: &Batch) -> Option<u64>
+    requires { IsSure taken sure most rest into.now.items }
+    ensures sure { IfSome result (λ next. IsSure taken next most rest into.now.items) }
+    ensures more { IfSome result (λ next. taken < next) }
+{
+    if taken < sure {
+        return Some(sure);
+    }
+    let more = sure_records(rest, into, most - sure);
+    if more == 0 { None } else { Some(sure + more) }
+}
+
+/// Reads the first lines of a text, of which so many came before it, while each is a record in
+/// Lackey's own form whose bytes lie in one page, at most so many, and while there is room for two
+/// accesses. What bounds the records is asked for once for many of them, and again where as many
+/// were taken.
 #[inline(always)]
 pub(crate) fn skim_lines(text: &[u8], before: u64, into: &mut Batch, most: u64) -> Skim
     ensures skims { Skims before text.now into.old.items into.new.items result }
@@ -138,9 +123,12 @@ pub(crate) fn skim_lines(text: &[u8], before: u64, into: &mut Batch, most: u64) 
 {
     let mut used = 0;
     let mut taken = 0;
-    // From here on too few bytes are left for the quick way.
-    let end = text.len().saturating_sub(NEAR - 1);
-    while taken < most && used < end && has_room(into) {
+    let mut sure = sure_records(text.len(), into, most);
+    'skim: loop {
+        let Some(next) = sure_from(taken, sure, most, text.len() - used, into) else {
+            break;
+        };
+        sure = next;
         let Some(near) = near_record(text, used) else {
             break;
         };

@@ -1,12 +1,17 @@
 //! Lines in the form that Lackey itself writes, which nearly all lines of a trace have.
 
-ghost use Rattle.std.specs.Prelude.{◌≡◌, ◌+◌, ◌-◌, ◌<◌, ◌≤◌, ◌++◌, length, drop, Some, IfSome};
-ghost use Rattle.xl_lackey.specs.Usual.{usual_front};
+ghost use Rattle.std.specs.Prelude.{◌≡◌, ◌+◌, ◌-◌, ◌^◌, ◌<◌, ◌≤◌, ◌++◌, length, take, drop, Some, IfSome};
+ghost use Rattle.xl_lackey.specs.Usual.{usual_front, first_kind, is_modify};
 ghost use Rattle.xl_lackey.specs.Scans.{IsFirstLine};
+ghost use Rattle.xl_lackey.specs.Accesses.{borders};
+ghost use Rattle.xl_lackey.specs.Digits.{hex_value};
+ghost use Rattle.xl_lackey.specs.Nears.{IsNumbers};
 
-use crate::digits::{address, near_address, near_size, size, triple};
+use crate::access::stays_in_page;
+use crate::digits::{address, eight_digits, near_address, near_digit, near_size, size, triple};
 use crate::line::{Verdict, fits};
 use crate::reference::Letter;
+use xl_model::Kind;
 
 /// A line in Lackey's own form at the front of a text, with the newline that ends it: how many bytes it
 /// has, and what it is. Such a line is read in one go, its end found on the way. None says nothing of
@@ -17,7 +22,8 @@ pub(crate) fn usual_line(text: &[u8]) -> Option<(usize, Verdict)>
     if text.len() < 4 {
         return None;
     }
-    let (letter, numbers) = usual_letter(text)?;
+    let (front, numbers) = front_of(text)?;
+    let letter = front.letter;
     let (addr, comma) = address(numbers)?;
     let rest = &numbers[comma + 1..];
     let (size, digits) = size(rest)?;
@@ -33,58 +39,132 @@ pub(crate) fn usual_line(text: &[u8]) -> Option<(usize, Verdict)>
 pub(crate) const NEAR: usize = 17;
 
 /// The same of a line with an address of eight digits or of ten and a size of one digit or of two,
-/// as nearly all are. It is the quick way: no place is looked for, and no end of the text is met.
+/// as nearly all are, where its bytes lie in one page. It is the quick way: no place is looked for,
+/// and no end of the text is met.
 #[inline(always)]
 pub(crate) fn near_line(text: &[u8]) -> Option<(usize, Verdict)>
     requires { 17 ≤ length text.now }
     ensures { IfSome result (λ r. IsFirstLine text.now r.0 r.1) }
 {
-    let (letter, numbers) = usual_letter(text)?;
-    let (addr, comma) = near_address(numbers)?;
-    let (size, digits) = near_size(&numbers[comma + 1..])?;
-    Some((comma + digits + 5, Verdict::Found { letter, addr, size }))
+    let (front, numbers) = front_of(text)?;
+    let found = near_numbers(numbers)?;
+    let verdict = Verdict::Found {
+        letter: front.letter,
+        addr: found.addr,
+        size: found.above + 1,
+    };
+    Some((found.used, verdict))
 }
 
-/// How a line begins: its first three bytes, of which the first counts least, and the letter among them.
+/// What stands behind the letter of a line: an address and a size, which is told by the bytes above
+/// the first one, and how many bytes the line has with its newline.
 #[derive(Clone, Copy)]
-struct Front {
+pub(crate) struct Numbers {
+    pub(crate) addr: u64,
+    pub(crate) above: u32,
+    pub(crate) used: usize,
+}
+
+/// The numbers of a line with an address of eight digits or of ten and a size of one digit or of
+/// two, whose bytes lie in one page. Those of eight digits and of one, which most lines have, are
+/// looked for first, since all stands at fixed places there.
+#[inline(always)]
+pub(crate) fn near_numbers(text: &[u8]) -> Option<Numbers>
+    requires { 14 ≤ length text.now }
+    ensures numbers { IfSome result (IsNumbers text.now) }
+    ensures page { IfSome result (λ n. borders n.addr (n.above + 1) ≡ 0) }
+{
+    let addr = eight_digits(text)?;
+    if let Some(above) = near_digit(text) {
+        return if stays_in_page(addr, above) {
+            Some(Numbers {
+                addr,
+                above,
+                used: 14,
+            })
+        } else {
+            None
+        };
+    }
+    other_numbers(text, addr)
+}
+
+/// The same of all other such lines; the first eight digits are read already.
+#[inline(always)]
+fn other_numbers(text: &[u8], eight: u64) -> Option<Numbers>
+    requires long { 14 ≤ length text.now }
+    requires value { hex_value 0 (take 8 text.now) ≡ Some eight }
+    requires small { eight < 16 ^ 8 }
+    ensures numbers { IfSome result (IsNumbers text.now) }
+    ensures page { IfSome result (λ n. borders n.addr (n.above + 1) ≡ 0) }
+{
+    let (addr, comma) = near_address(text, eight)?;
+    let (size, digits) = near_size(&text[comma + 1..])?;
+    let above = size - 1;
+    if stays_in_page(addr, above) {
+        Some(Numbers {
+            addr,
+            above,
+            used: comma + digits + 5,
+        })
+    } else {
+        None
+    }
+}
+
+/// How a line begins: its first three bytes, of which the first counts least, the letter among
+/// them, the kind of its first access, and whether it is a modify, so that a store follows.
+#[derive(Clone, Copy)]
+pub(crate) struct Front {
     three: u32,
     letter: Letter,
+    pub(crate) kind: Kind,
+    pub(crate) is_modify: bool,
 }
 
 const FETCH: Front = Front {
     three: b'I' as u32 + b' ' as u32 * 256 + b' ' as u32 * 65536,
     letter: Letter::I,
+    kind: Kind::Fetch,
+    is_modify: false,
 };
 
 const LOAD: Front = Front {
     three: b' ' as u32 + b'L' as u32 * 256 + b' ' as u32 * 65536,
     letter: Letter::L,
+    kind: Kind::Load,
+    is_modify: false,
 };
 
 const STORE: Front = Front {
     three: b' ' as u32 + b'S' as u32 * 256 + b' ' as u32 * 65536,
     letter: Letter::S,
+    kind: Kind::Store,
+    is_modify: false,
 };
 
 const MODIFY: Front = Front {
     three: b' ' as u32 + b'M' as u32 * 256 + b' ' as u32 * 65536,
     letter: Letter::M,
+    kind: Kind::Load,
+    is_modify: true,
 };
 
 /// The fronts of lines by their second byte modulo 8; in places that belong to none stands a fetch.
 /// Which letter comes next can't be foretold, so a choice would cost more than a look-up.
 const FRONTS: [Front; 8] = [FETCH, FETCH, FETCH, STORE, LOAD, MODIFY, FETCH, FETCH];
 
-/// The letter of a record and the blanks around it, as Lackey writes them, and what follows them.
+/// The letter of a record with the blanks around it, as Lackey writes them, and what follows them.
 #[inline(always)]
-fn usual_letter(text: &[u8]) -> Option<(Letter, &[u8])>
+pub(crate) fn front_of(text: &[u8]) -> Option<(&'static Front, &[u8])>
     requires { 4 ≤ length text.now }
-    ensures { IfSome result (λ r. text.entry.now ≡ usual_front r.0 ++ r.1.now) }
+    ensures front { IfSome result (λ r. text.entry.now ≡ usual_front r.0.now.letter ++ r.1.now) }
+    ensures kind { IfSome result (λ r. r.0.now.kind ≡ first_kind r.0.now.letter) }
+    ensures modifies { IfSome result (λ r. r.0.now.is_modify ≡ is_modify r.0.now.letter) }
 {
     let front = &FRONTS[(text[1] % 8) as usize];
     if triple(text) == front.three {
-        Some((front.letter, &text[3..]))
+        Some((front, &text[3..]))
     } else {
         None
     }

@@ -1,7 +1,6 @@
 //! Where the records of a run come from.
 
-ghost use Rattle.std.specs.Prelude.{◌≡◌, ℕ, ◌<◌, ◌≤◌, List, Option, None, IfOk, IfErr, IfSome, IsSome};
-ghost use Rattle.arrayvec.specs.ArrayVec.{array_vec_len};
+ghost use Rattle.std.specs.Prelude.{◌≡◌, ℕ, ◌<◌, ◌≤◌, List, Option, None, IfOk, IfErr, IfSome, IsSome, length};
 ghost use Rattle.xl_model.specs.Courses.{Trail, at_end};
 ghost use Rattle.xl_outside.specs.Folders.{file_of, FolderAfter, fate_by};
 ghost use Rattle.xl_serving.specs.Skims.{Skims};
@@ -70,7 +69,7 @@ pub trait Trace: Sized {
             into.old.items into.new.items result }
         ensures few { result ≤ most }
         ensures no_more { size self.new ≤ size self.old }
-        ensures no_fewer { array_vec_len into.old ≤ array_vec_len into.new };
+        ensures no_fewer { length into.old.items ≤ length into.new.items };
 }
 
 /// The trace of a run that names none: it has no records.

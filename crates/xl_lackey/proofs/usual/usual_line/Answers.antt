@@ -7,8 +7,8 @@ pub returns-then-fits : goal.returns-then-fits
 returns-then-fits c = record {
   within = search rules;
   some = search rules;
-  line = own_at c.in_ok-letter.letter c.args.text.now c.in_ok-letter.numbers.now _ c.in_ok-addr.addr c.in_ok-addr.comma c.in_ok-size.size c.in_ok-size.digits
-      c.in_ok-letter.ensures (take_rest c.in_ok-letter.numbers.now (c.in_ok-addr.comma + 1)) c.in_ok-addr.ensures.value c.in_ok-size.ensures.value
+  line = own_at c.in_ok-front.front.now.letter c.args.text.now c.in_ok-front.numbers.now _ c.in_ok-addr.addr c.in_ok-addr.comma c.in_ok-size.size c.in_ok-size.digits
+      c.in_ok-front.ensures.front (take_rest c.in_ok-front.numbers.now (c.in_ok-addr.comma + 1)) c.in_ok-addr.ensures.value c.in_ok-size.ensures.value
       c.if-digits-rest.true c.if-rest-digits-eq10.true (sym c.if-fits.ensures);
   proper = search rules;
 }
