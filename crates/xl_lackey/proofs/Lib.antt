@@ -4,6 +4,7 @@ mod ByteLemmas
 mod LaneLemmas
 mod LongLineLemmas
 pub mod NearLineLemmas
+pub mod PageLemmas
 mod OwnFormLemmas
 pub mod SkimLemmas
 mod SplitLemmas

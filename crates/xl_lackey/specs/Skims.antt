@@ -1,10 +1,11 @@
 -- Records whose bytes lie in one page each, taken together.
-use Rattle.std.specs.Prelude.{◌≡◌, ℕ, ◌+◌, ◌-◌, ◌*◌, ◌%◌, ◌^◌, ◌≤◌, Bool, true, false, List, [], ◌∷◌, ◌++◌, length, map, drop}
+use Rattle.std.specs.Prelude.{◌≡◌, ℕ, ◌+◌, ◌-◌, ◌*◌, ◌%◌, ◌^◌, ◌<◌, ◌≤◌, Bool, true, false, List, [], ◌∷◌, ◌++◌, length, map, drop}
 use Rattle.xl_model.specs.declared.address.Kind.{Kind}
 use Rattle.xl_model.specs.declared.address.Kind.TheVariants.{Store}
 use Rattle.xl_text.specs.Texts.{lines_by, lines_of}
 use Rattle.xl_lackey.specs.declared.skim.Access.{Access}
 use Rattle.xl_lackey.specs.declared.skim.Near.{Near}
+use Rattle.xl_lackey.specs.declared.skim.Run.{Run}
 use Rattle.xl_lackey.specs.declared.skim.Skim.{Skim}
 use Rattle.xl_lackey.specs.declared.line.Verdict.{Verdict}
 use Rattle.xl_lackey.specs.declared.line.Verdict.TheVariants.{Skipped, Found, Bad}
@@ -52,13 +53,11 @@ batch_size = 256
 abbrev pub HasRoom : List Access → Type 0
 HasRoom accesses = length accesses + 2 ≤ batch_size
 
--- Of records of which some were taken, so many may be taken in all, at most `most`: their lines end in what is left of
--- the text, and there is room for their accesses.
-pub record IsSure (taken sure most rest : ℕ) (accesses : List Access) : Type 0 where
-  pub order : taken ≤ sure
-  pub few : sure ≤ most
-  pub text : 17 * (sure - taken) ≤ rest
-  pub room : 2 * (sure - taken) ≤ batch_size - length accesses
+-- So many records of one access each may be read of a text of `rest` bytes: their lines end there, and behind their
+-- accesses there is room for two at the least, as if a modify were the last.
+pub record IsSure (sure rest : ℕ) (accesses : List Access) : Type 0 where
+  pub text : 17 * sure ≤ rest
+  pub room : sure ≤ batch_size - 1 - length accesses
 
 -- A text's first line, of so many bytes with its newline, is a record with these accesses.
 pub record IsRecordLine (text : List ℕ) (used : ℕ) (got : List Access) : Type 0 where
@@ -84,6 +83,18 @@ pub record Skims (n : ℕ) (text : List ℕ) (before after : List Access) (skim 
   pub of : Taken before after skim.taken
   pub reads : (last : Bool) (rest : List ℕ) → records n (lines_by last (text ++ rest))
       ≡ with_records of.taken (records skim.lines (lines_by last (drop skim.used text ++ rest)))
+
+-- What was read after so many lines, each of which was taken.
+abbrev pub skim_at : ℕ → ℕ → ℕ → Skim
+skim_at n used taken = record { used = used; lines = (n + taken) % 2 ^ 64; taken = taken }
+
+-- The same lines, however many came before the text.
+abbrev pub Runs : List ℕ → List Access → List Access → Run → Type 0
+Runs text before after run = (n : ℕ) → n < 2 ^ 64 → Skims n text before after (skim_at n run.used run.taken)
+
+-- Lines that were read, and more behind them.
+abbrev pub skims_both : Skim → Skim → Skim
+skims_both s more = record { used = s.used + more.used; lines = more.lines; taken = s.taken + more.taken }
 
 -- So many records were the first of what was left, and the rest of it is left.
 pub record Skimmed (old new : State) (before after : List Access) (count : ℕ) : Type 0 where

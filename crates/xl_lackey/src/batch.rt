@@ -1,9 +1,10 @@
 //! Accesses that are served together.
 
-ghost use Rattle.std.specs.Prelude.{◌≡◌, ◌==◌, ◌+◌, ◌<◌, ◌≤◌, ◌++◌, ◌∷◌, [], length, slice_set};
-ghost use Rattle.xl_lackey.specs.Skims.{batch_size};
+ghost use Rattle.std.specs.Prelude.{◌≡◌, ◌==◌, ◌+◌, ◌-◌, ◌<◌, ◌≤◌, ◌++◌, ◌∷◌, [], length, slice_set};
+ghost use Rattle.xl_lackey.specs.Skims.{batch_size, IsSure, Runs};
 
-use crate::skim::Access;
+use crate::pages::Pages;
+use crate::skim::{Access, Run, skim_kept};
 use std::marker::Model;
 
 /// How many accesses a batch has room for.
@@ -86,6 +87,21 @@ impl Batch {
         self.len = len + 1;
     }
 
+    /// Reads the first lines of a text, at most so many, while their pages are kept, and puts their
+    /// accesses behind those that are there.
+    #[inline(always)]
+    pub(crate) fn skim_kept(&mut self, text: &[u8], most: u64, pages: &Pages) -> Run
+        requires { IsSure most (length text.now) self.old.items }
+        ensures runs { Runs text.now self.old.items self.new.items result }
+        ensures few { result.taken ≤ most }
+        ensures sure { IsSure (most - result.taken) (length text.now - result.used) self.new.items }
+    {
+        let len = self.len;
+        let run = skim_kept(text, &mut self.slots, len, most, pages);
+        self.len = len + run.taken as usize;
+        run
+    }
+
     /// Lets all accesses go.
     #[inline(always)]
     pub fn clear(&mut self)
@@ -97,7 +113,7 @@ impl Batch {
 
 /// Puts an access in a place, field by field, so that what lies between two of them isn't written.
 #[inline(always)]
-fn put(slots: &mut [Access], at: usize, access: Access)
+pub(crate) fn put(slots: &mut [Access], at: usize, access: Access)
     requires { at < length slots.old }
     ensures { slots.new ≡ slice_set slots.old at access }
 {

@@ -5,7 +5,7 @@ ghost use Rattle.std.specs.Option.{option_map};
 ghost use Rattle.xl_text.specs.Texts.{is_blank};
 ghost use Rattle.std.specs.Simd.Lanes.{Each1, number_l};
 ghost use Rattle.xl_lackey.specs.Lanes.{lane_value, number_of};
-ghost use Rattle.xl_lackey.specs.Digits.{hex_digit as digit_of, hex_value};
+ghost use Rattle.xl_lackey.specs.Digits.{hex_digit as digit_of, digit_or_4096, hex_value};
 ghost use Rattle.xl_lackey.specs.Lines.{is_digit as is_digit_byte, front, after, address_in, decimal_value, size_in};
 
 use std::simd::prelude::*;
@@ -24,28 +24,38 @@ pub(crate) fn count_blanks(text: &[u8]) -> usize
     text.len()
 }
 
-/// The value of each byte as a hexadecimal digit, and 16 where it is none. Which digit comes next can't
+/// What stands for a byte that is no digit: as many as no place in a page.
+const X: u16 = 4096;
+
+/// The value of each byte as a hexadecimal digit, and 4096, which no place in a page is, where it is none. Which digit comes next can't
 /// be foretold, so a test of each range would cost more than a look-up.
-const HEX_DIGITS: [u8; 256] = [
-    16, 16, 16, 16, 16, 16, 16, 16, 16, 16, 16, 16, 16, 16, 16, 16, 16, 16, 16, 16, 16, 16, 16, 16,
-    16, 16, 16, 16, 16, 16, 16, 16, 16, 16, 16, 16, 16, 16, 16, 16, 16, 16, 16, 16, 16, 16, 16, 16,
-    0, 1, 2, 3, 4, 5, 6, 7, 8, 9, 16, 16, 16, 16, 16, 16, 16, 10, 11, 12, 13, 14, 15, 16, 16, 16,
-    16, 16, 16, 16, 16, 16, 16, 16, 16, 16, 16, 16, 16, 16, 16, 16, 16, 16, 16, 16, 16, 16, 16, 10,
-    11, 12, 13, 14, 15, 16, 16, 16, 16, 16, 16, 16, 16, 16, 16, 16, 16, 16, 16, 16, 16, 16, 16, 16,
-    16, 16, 16, 16, 16, 16, 16, 16, 16, 16, 16, 16, 16, 16, 16, 16, 16, 16, 16, 16, 16, 16, 16, 16,
-    16, 16, 16, 16, 16, 16, 16, 16, 16, 16, 16, 16, 16, 16, 16, 16, 16, 16, 16, 16, 16, 16, 16, 16,
-    16, 16, 16, 16, 16, 16, 16, 16, 16, 16, 16, 16, 16, 16, 16, 16, 16, 16, 16, 16, 16, 16, 16, 16,
-    16, 16, 16, 16, 16, 16, 16, 16, 16, 16, 16, 16, 16, 16, 16, 16, 16, 16, 16, 16, 16, 16, 16, 16,
-    16, 16, 16, 16, 16, 16, 16, 16, 16, 16, 16, 16, 16, 16, 16, 16, 16, 16, 16, 16, 16, 16, 16, 16,
-    16, 16, 16, 16, 16, 16, 16, 16, 16, 16, 16, 16, 16, 16,
+const HEX_DIGITS: [u16; 256] = [
+    X, X, X, X, X, X, X, X, X, X, X, X, X, X, X, X, X, X, X, X, X, X, X, X, X, X, X, X, X, X, X, X,
+    X, X, X, X, X, X, X, X, X, X, X, X, X, X, X, X, 0, 1, 2, 3, 4, 5, 6, 7, 8, 9, X, X, X, X, X, X,
+    X, 10, 11, 12, 13, 14, 15, X, X, X, X, X, X, X, X, X, X, X, X, X, X, X, X, X, X, X, X, X, X, X,
+    X, X, X, 10, 11, 12, 13, 14, 15, X, X, X, X, X, X, X, X, X, X, X, X, X, X, X, X, X, X, X, X, X,
+    X, X, X, X, X, X, X, X, X, X, X, X, X, X, X, X, X, X, X, X, X, X, X, X, X, X, X, X, X, X, X, X,
+    X, X, X, X, X, X, X, X, X, X, X, X, X, X, X, X, X, X, X, X, X, X, X, X, X, X, X, X, X, X, X, X,
+    X, X, X, X, X, X, X, X, X, X, X, X, X, X, X, X, X, X, X, X, X, X, X, X, X, X, X, X, X, X, X, X,
+    X, X, X, X, X, X, X, X, X, X, X, X, X, X, X, X, X, X, X, X, X, X, X, X, X, X, X, X, X, X, X, X,
+    X, X, X, X,
 ];
+
+/// The value of a byte as a hexadecimal digit, and 4096 where it is none.
+#[inline(always)]
+pub(crate) fn digit_or_page(byte: u8) -> u64
+    ensures value { result ≡ digit_or_4096 (digit_of byte) }
+    ensures bound { result ≤ 4096 }
+{
+    HEX_DIGITS[byte as usize] as u64
+}
 
 fn hex_digit(byte: u8) -> Option<u64>
     ensures value { result ≡ digit_of byte }
     ensures bound { IfSome result (λ d. d < 16) }
 {
-    let value = HEX_DIGITS[byte as usize];
-    if value < 16 { Some(value as u64) } else { None }
+    let value = digit_or_page(byte);
+    if value < 16 { Some(value) } else { None }
 }
 
 /// An address of 1 to 16 hexadecimal digits that a comma ends, and the comma's place. In line, since a
@@ -117,7 +127,7 @@ fn lane_values(bytes: u8x8) -> u8x8
 
 /// Eight bytes as a number, of which the first counts least.
 #[inline(always)]
-fn word(bytes: u8x8) -> u64
+pub(crate) fn word(bytes: u8x8) -> u64
     ensures { result ≡ number_l 256 bytes }
 {
     u64x1::from_le_bytes(bytes).to_array()[0]
@@ -182,7 +192,7 @@ pub(crate) fn near_digit(text: &[u8]) -> Option<u32>
 /// A size of one digit, which isn't 0, that a newline ends: how many bytes it says above the first.
 /// The digit and the newline are told together, by one comparison.
 #[inline(always)]
-fn size_of_digit(text: &[u8]) -> Option<u32>
+pub(crate) fn size_of_digit(text: &[u8]) -> Option<u32>
     requires { 2 ≤ length text.now }
     ensures newline { IfSome result (λ above. slice_index text.now 1 ≡ 10) }
     ensures small { IfSome result (λ above. above < 9) }
@@ -194,7 +204,7 @@ fn size_of_digit(text: &[u8]) -> Option<u32>
 
 /// Two bytes as a number, of which the first counts least.
 #[inline(always)]
-fn pair(text: &[u8]) -> u32
+pub(crate) fn pair(text: &[u8]) -> u32
     requires { 2 ≤ length text.now }
     ensures { result ≡ slice_index text.now 0 + slice_index text.now 1 * 256 }
 {

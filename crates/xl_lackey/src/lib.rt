@@ -7,6 +7,7 @@ mod digits;
 mod fault;
 mod line;
 mod next;
+mod pages;
 mod reader;
 mod reference;
 mod scan;

@@ -10,6 +10,7 @@ use crate::batch::Batch;
 use crate::fault::Fault;
 use crate::line::{Verdict, judge};
 use crate::next::Next;
+use crate::pages::Pages;
 use crate::reference::Reference;
 use crate::scan::read_lines;
 use crate::skim::skim_lines;
@@ -34,6 +35,7 @@ pub struct Reader {
     lines: u64,
     finished: bool,
     bad: Option<Fault>,
+    pages: Pages,
 }
 
 impl Model for Reader {
@@ -69,6 +71,7 @@ impl Reader {
             lines: 0,
             finished: false,
             bad: None,
+            pages: Pages::new(),
         })
     }
 
@@ -159,7 +162,8 @@ impl Reader {
         let None = self.bad_line() else {
             return 0;
         };
-        let skim = skim_lines(self.held(), self.lines(), into, most);
+        let text = &self.buf.as_slice()[self.start..self.end];
+        let skim = skim_lines(text, self.lines, into, most, &mut self.pages);
         self.pass(skim.used, skim.lines);
         skim.taken
     }

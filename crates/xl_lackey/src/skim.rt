@@ -1,9 +1,10 @@
 //! Records whose bytes lie in one page each, taken together: what nearly all of a trace is.
 
-ghost use Rattle.std.specs.Prelude.{◌≡◌, ◌+◌, ◌<◌, ◌≤◌, ◌++◌, length, drop, true, IfSome};
-ghost use Rattle.xl_lackey.specs.Skims.{read_of, accesses_near, HasRoom, IsRecordLine, IsSure, Skims};
+ghost use Rattle.std.specs.Prelude.{◌≡◌, ◌+◌, ◌-◌, ◌^◌, ◌<◌, ◌≤◌, ◌++◌, length, take, drop, true, IfSome};
+ghost use Rattle.xl_lackey.specs.Skims.{batch_size, read_of, accesses_near, skims_both, HasRoom, IsRecordLine, IsSure, Runs, Skims};
 
-use crate::batch::{Batch, ROOM};
+use crate::batch::{Batch, ROOM, put};
+use crate::pages::Pages;
 use crate::usual::{NEAR, front_of, near_numbers};
 use xl_model::Kind;
 
@@ -34,6 +35,22 @@ pub(crate) struct Skim {
     pub(crate) taken: u64,
 }
 
+impl Skim {
+    /// Lines that were read, and more behind them.
+    #[inline(always)]
+    fn then(self, more: Skim) -> Skim
+        requires used { self.used + more.used < 2 ^ 64 }
+        requires taken { self.taken + more.taken < 2 ^ 64 }
+        ensures { result ≡ skims_both self more }
+    {
+        Skim {
+            used: self.used + more.used,
+            lines: more.lines,
+            taken: self.taken + more.taken,
+        }
+    }
+}
+
 /// What was read of a line: how many bytes it has with its newline, and its access; of a modify the
 /// load, which a store follows at the same place.
 #[derive(Clone, Copy)]
@@ -44,16 +61,15 @@ pub(crate) struct Near {
     pub(crate) is_modify: bool,
 }
 
-/// The first line from a place on, in Lackey's own form, where it is a record whose bytes lie in one
-/// page. None says nothing of the text.
+/// The first line of a text, in Lackey's own form, where it is a record whose bytes lie in one page.
+/// None says nothing of the text.
 #[inline(always)]
-fn near_record(text: &[u8], from: usize) -> Option<Near>
-    requires { from + 17 ≤ length text.now }
-    ensures record { IfSome result
-        (λ near. IsRecordLine (drop from text.now) near.used (read_of near)) }
+fn near_record(text: &[u8]) -> Option<Near>
+    requires { 17 ≤ length text.now }
+    ensures record { IfSome result (λ near. IsRecordLine text.now near.used (read_of near)) }
     ensures few { IfSome result (λ near. near.used ≤ 17) }
 {
-    let (front, numbers) = front_of(&text[from..])?;
+    let (front, numbers) = front_of(text)?;
     let found = near_numbers(numbers)?;
     Some(Near {
         used: found.used,
@@ -87,58 +103,134 @@ pub fn put_accesses(into: &mut Batch, va: u64, kind: Kind, is_modify: bool)
     }
 }
 
-/// How many records may be taken, at most so many, with no further look whether their lines end in
-/// the text, of which so many bytes are left, and whether there is room for their accesses.
+/// How many records of one access each may be read, at most so many, with no further look whether
+/// their lines end in the text, of which so many bytes are left, and whether there is room for their
+/// accesses.
 #[inline(always)]
 fn sure_records(rest: usize, into: &Batch, most: u64) -> u64
-    ensures { IsSure 0 result most rest into.now.items }
+    ensures sure { IsSure result rest into.now.items }
+    ensures few { result ≤ most }
 {
-    let room = (ROOM - into.len()) / 2;
+    let room = (ROOM - 1).saturating_sub(into.len());
     (room.min(rest / NEAR) as u64).min(most)
 }
 
-/// The same where so many were taken already; None where no more may be taken. A bound that isn't
-/// reached stays.
-#[inline(always)]
-fn sure_from(taken: u64, sure: u64, most: u64, rest: usize, into: &Batch) -> Option<u64>
-    requires { IsSure taken sure most rest into.now.items }
-    ensures sure { IfSome result (λ next. IsSure taken next most rest into.now.items) }
-    ensures more { IfSome result (λ next. taken < next) }
+/// How many bytes of a text were read, and how many records these are.
+#[derive(Clone, Copy)]
+pub(crate) struct Run {
+    pub(crate) used: usize,
+    pub(crate) taken: u64,
+}
+
+/// Reads the first lines of a text, at most so many, while their pages are kept, and puts their accesses
+/// behind the first `len` of these places. A loop of its own, in which all that it needs stays in
+/// registers.
+#[inline(never)]
+pub(crate) fn skim_kept(
+    text: &[u8],
+    slots: &mut [Access],
+    len: usize,
+    most: u64,
+    pages: &Pages,
+) -> Run
+    requires places { length slots.old ≡ batch_size }
+    requires len { len ≤ batch_size }
+    requires sure { IsSure most (length text.now) (take len slots.old) }
+    ensures runs { Runs text.now (take len slots.old) (take (len + result.taken) slots.new) result }
+    ensures places { length slots.new ≡ batch_size }
+    ensures few { result.taken ≤ most }
+    ensures sure { IsSure (most - result.taken) (length text.now - result.used)
+        (take (len + result.taken) slots.new) }
 {
-    if taken < sure {
-        return Some(sure);
+    let mut used = 0;
+    let mut taken = 0;
+    'kept: while taken < most {
+        let Some((count, access)) = pages.record(&text[used..]) else {
+            break;
+        };
+        put(slots, len + taken as usize, access);
+        used += count;
+        taken += 1;
     }
-    let more = sure_records(rest, into, most - sure);
-    if more == 0 { None } else { Some(sure + more) }
+    Run { used, taken }
+}
+
+/// Reads the first line of a text in whatever way, and keeps its page.
+#[inline(never)]
+fn skim_new(text: &[u8], before: u64, into: &mut Batch, pages: &mut Pages) -> Skim
+    requires long { 17 ≤ length text.now }
+    requires room { HasRoom into.old.items }
+    ensures skims { Skims before text.now into.old.items into.new.items result }
+    ensures few { result.taken ≤ 1 }
+{
+    let Some(near) = near_record(text) else {
+        return Skim {
+            used: 0,
+            lines: before,
+            taken: 0,
+        };
+    };
+    pages.keep(text);
+    put_accesses(into, near.va, near.kind, near.is_modify);
+    Skim {
+        used: near.used,
+        lines: before.wrapping_add(1),
+        taken: 1,
+    }
+}
+
+/// Reads the first lines of a text, at most so many: those whose pages are kept, and the one behind
+/// them.
+#[inline(always)]
+fn skim_some(text: &[u8], before: u64, into: &mut Batch, most: u64, pages: &mut Pages) -> Skim
+    ensures skims { Skims before text.now into.old.items into.new.items result }
+    ensures few { result.taken ≤ most }
+{
+    let sure = sure_records(text.len(), into, most);
+    let run = into.skim_kept(text, sure, pages);
+    let kept = Skim {
+        used: run.used,
+        lines: before.wrapping_add(run.taken),
+        taken: run.taken,
+    };
+    if run.taken == sure {
+        return kept;
+    }
+    let new = skim_new(&text[kept.used..], kept.lines, into, pages);
+    kept.then(new)
 }
 
 /// Reads the first lines of a text, of which so many came before it, while each is a record in
 /// Lackey's own form whose bytes lie in one page, at most so many, and while there is room for two
-/// accesses. What bounds the records is asked for once for many of them, and again where as many
-/// were taken.
+/// accesses.
 #[inline(always)]
-pub(crate) fn skim_lines(text: &[u8], before: u64, into: &mut Batch, most: u64) -> Skim
+pub(crate) fn skim_lines(
+    text: &[u8],
+    before: u64,
+    into: &mut Batch,
+    most: u64,
+    pages: &mut Pages,
+) -> Skim
     ensures skims { Skims before text.now into.old.items into.new.items result }
     ensures few { result.taken ≤ most }
 {
-    let mut used = 0;
-    let mut taken = 0;
-    let mut sure = sure_records(text.len(), into, most);
+    let mut skim = Skim {
+        used: 0,
+        lines: before,
+        taken: 0,
+    };
     'skim: loop {
-        let Some(next) = sure_from(taken, sure, most, text.len() - used, into) else {
+        let more = skim_some(
+            &text[skim.used..],
+            skim.lines,
+            into,
+            most - skim.taken,
+            pages,
+        );
+        skim = skim.then(more);
+        if more.taken == 0 {
             break;
-        };
-        sure = next;
-        let Some(near) = near_record(text, used) else {
-            break;
-        };
-        used += near.used;
-        taken += 1;
-        put_accesses(into, near.va, near.kind, near.is_modify);
+        }
     }
-    Skim {
-        used,
-        lines: before.wrapping_add(taken),
-        taken,
-    }
+    skim
 }

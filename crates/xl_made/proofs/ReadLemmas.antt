@@ -13,7 +13,7 @@ use Rattle.xl_lackey.specs.Digits.{hex_digit, hex_value}
 use Rattle.xl_lackey.specs.Lines.{address_in}
 use Rattle.xl_lackey.specs.Skims.{pair, accesses_in, accesses_near, Takes}
 use Rattle.xl_lackey.specs.Stream.{next_line, records}
-use Rattle.xl_lackey.specs.Usual.{usual_front}
+use Rattle.xl_lackey.specs.Usual.{first_kind, is_modify, usual_front}
 use Rattle.xl_lackey.proofs.AddressLemmas.{hex_more}
 use Rattle.xl_lackey.proofs.NearLineLemmas.{comma_at, near_fits}
 use Rattle.xl_lackey.proofs.FirstLineLemmas.{first_record}
@@ -21,7 +21,7 @@ use Rattle.xl_lackey.proofs.SkimLemmas.{takes_more}
 use Rattle.rand_pcg.specs.Lcg.{Lcg}
 use Rattle.xl_text.specs.Texts.{lines_of}
 use Rattle.xl_made.specs.Made.{word, after, letter_of, size_of, size_text, page_of, address_of, record_line, record_lines}
-use Rattle.xl_made.specs.Taken.{first_kind, is_modify, IsFirst, IsFirstOf, record_of_word, Follows, TakesFirst}
+use Rattle.xl_made.specs.Taken.{IsFirst, IsFirstOf, record_of_word, Follows, TakesFirst}
 use Rattle.xl_made.proofs.MadeLemmas.{line_made, line-length}
 
 -- digits that are written are read

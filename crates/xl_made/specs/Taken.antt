@@ -1,10 +1,7 @@
 -- Records of a made trace that are taken as their lines are read, without the lines.
-use Rattle.std.specs.Prelude.{◌≡◌, ℕ, ◌<◌, Bool, true, false, List, ◌++◌, length, map}
-use Rattle.xl_model.specs.declared.address.Kind.{Kind}
-use Rattle.xl_model.specs.declared.address.Kind.TheVariants.{Fetch, Load, Store}
+use Rattle.std.specs.Prelude.{◌≡◌, ℕ, ◌<◌, List, ◌++◌, length, map}
 use Rattle.xl_text.specs.Texts.{lines_of}
 use Rattle.xl_lackey.specs.declared.reference.Letter.{Letter}
-use Rattle.xl_lackey.specs.declared.reference.Letter.TheVariants as letter
 use Rattle.xl_lackey.specs.declared.skim.Access.{Access}
 use Rattle.xl_lackey.specs.Answers.{with_record}
 use Rattle.xl_lackey.specs.Skims.{pair, accesses_in}
@@ -24,20 +21,6 @@ IsFirstOf word old new = IsFirst (letter_of word) (address_of word) (size_of wor
 -- The record of a word, in the line of this number.
 abbrev pub record_of_word : ℕ → ℕ → Record
 record_of_word word line = record { letter = letter_of word; addr = address_of word; size = size_of word; line = line }
-
--- The kind of a record's first access in a page.
-abbrev pub first_kind : Letter → Kind
-first_kind letter.I = Fetch
-first_kind letter.L = Load
-first_kind letter.S = Store
-first_kind letter.M = Load
-
--- Whether a store follows it, at the same place.
-abbrev pub is_modify : Letter → Bool
-is_modify letter.I = false
-is_modify letter.L = false
-is_modify letter.S = false
-is_modify letter.M = true
 
 -- The accesses of a word's record follow those that were there before.
 pub record Follows (word : ℕ) (before after : List Access) : Type 0 where

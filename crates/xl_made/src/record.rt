@@ -2,9 +2,9 @@
 
 ghost use Rattle.std.specs.Prelude.{◌≡◌, ◌+◌, ◌≤◌, ◌++◌, length, take};
 ghost use Rattle.xl_lackey.specs.Skims.{HasRoom};
-ghost use Rattle.xl_lackey.specs.Usual.{usual_front};
 ghost use Rattle.xl_made.specs.Made.{letter_of, size_of, size_text, page_of, address_of, record_line};
-ghost use Rattle.xl_made.specs.Taken.{first_kind, is_modify as modifies, Follows};
+ghost use Rattle.xl_lackey.specs.Usual.{first_kind, is_modify as modifies, usual_front};
+ghost use Rattle.xl_made.specs.Taken.{Follows};
 
 use crate::digits::hex_text;
 use xl_lackey::{Batch, Letter, Reference, put_accesses};
