@@ -14,7 +14,7 @@ use std::simd::prelude::*;
 use xl_model::Kind;
 
 /// How many pages are kept of addresses of eight digits, and as many of those of ten.
-const PLACES: usize = 128;
+const PLACES: usize = 256;
 
 /// A page, and how a line begins whose address lies in it: up to the last three digits, which are the
 /// place in the page.
@@ -64,14 +64,14 @@ impl Page {
 /// The place of a page among those that are kept, by how its lines begin.
 #[inline(always)]
 fn place_of(word: u64, front: u32, extra: usize) -> usize
-    ensures { result < 128 }
+    ensures { result < 256 }
 {
     let key = if extra == 0 {
         word
     } else {
         word.wrapping_add(front as u64 * 8)
     };
-    (key.wrapping_mul(0x9e37_79b9_7f4a_7c15) >> 57) as usize
+    (key.wrapping_mul(0x9e37_79b9_7f4a_7c15) >> 56) as usize
 }
 
 /// The first line of a text, where its address has so many digits more than eight and its page is
@@ -81,7 +81,7 @@ fn kept_record(pages: &[Page], text: &[u8], extra: usize) -> Option<(usize, Acce
     requires long { 17 ≤ length text.now }
     requires few { extra ≤ 2 }
     requires comma { slice_index text.now (11 + extra) ≡ 44 }
-    requires places { length pages.now ≡ 128 }
+    requires places { length pages.now ≡ 256 }
     requires kept { All (IsPage extra) pages.now }
     ensures record { IfSome result (λ r. IsRecordLine text.now r.0 (r.1 ∷ [])) }
     ensures few { IfSome result (λ r. r.0 ≤ 17) }
@@ -117,7 +117,7 @@ fn keep_page(pages: &mut [Page], text: &[u8], extra: usize, page: u64, kind: Kin
     requires long { 17 ≤ length text.now }
     requires few { extra ≤ 2 }
     requires begins { IsBeginning extra (take (8 + extra) text.now) kind page }
-    requires places { length pages.old ≡ 128 }
+    requires places { length pages.old ≡ 256 }
     requires kept { All (IsPage extra) pages.old }
     ensures kept { All (IsPage extra) pages.new }
 {
@@ -193,12 +193,12 @@ impl Pages {
         let Some((front, numbers)) = front_of(text) else {
             return;
         };
-        let Some(eight) = eight_digits(numbers) else {
-            return;
-        };
         if front.is_modify {
             return;
         }
+        let Some(eight) = eight_digits(numbers) else {
+            return;
+        };
         if text[11] == b',' {
             keep_page(&mut self.eight, text, 0, eight / 4096, front.kind);
         } else {

@@ -66,8 +66,7 @@ pub(crate) struct Near {
 #[inline(always)]
 fn near_record(text: &[u8]) -> Option<Near>
     requires { 17 ≤ length text.now }
-    ensures record { IfSome result (λ near. IsRecordLine text.now near.used (read_of near)) }
-    ensures few { IfSome result (λ near. near.used ≤ 17) }
+    ensures { IfSome result (λ near. IsRecordLine text.now near.used (read_of near)) }
 {
     let (front, numbers) = front_of(text)?;
     let found = near_numbers(numbers)?;

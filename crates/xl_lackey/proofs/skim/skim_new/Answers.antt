@@ -8,4 +8,4 @@ returns-in_default-clause-skims c = skim_start c.args.before c.args.text.now c.a
 pub returns-clause-skims : goal.returns-clause-skims
 returns-clause-skims c =
     let near = c.in-Some.near in
-    rw c.put_accesses.ensures (skim_one c.args.before c.args.text.now c.args.into.now.items (read_of near) near.used c.in-Some.ensures.record)
+    rw c.put_accesses.ensures (skim_one c.args.before c.args.text.now c.args.into.now.items (read_of near) near.used c.in-Some.ensures)
