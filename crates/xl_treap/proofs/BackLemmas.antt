@@ -7,7 +7,7 @@ use Rattle.xl_model_lemmas.specs.Members.{In, Once}
 use Rattle.xl_model_lemmas.proofs.MemberLemmas.{In-append}
 use Rattle.xl_model_lemmas.proofs.OnceLemmas.{once-more}
 use Rattle.xl_treap.specs.Treaps.{key_at}
-use Rattle.xl_treap.specs.declared.with.Reached.{Reached}
+use Rattle.xl_treap.specs.declared.own_search.Reached.{Reached}
 use Rattle.xl_treap.specs.Lines.{range_of_link}
 use Rattle.xl_treap.specs.Back.{Searched, ended, end_of, search_from}
 use Rattle.xl_treap.specs.Trees.{Tree, Tip, ranges, found, tree_at}
@@ -29,13 +29,9 @@ search-kept words root nodes space page free t k h =
     ∙ ap (λ (q : Option Range). ended (range_reads (ranges t) space page) (end_of q)) (found-is 0 (2 ^ 58) t space page o h)
 
 -- what a search of these words reaches is what is held, by as many loads as there are ranges to read
-pub record IsRead (words : List ℕ) (held : List Range) (space page : ℕ) (end : Reached) : Type 0 where
-  pub at_in : 4 * end.at ≤ length words
-  pub found_is : range_of_link words end.at ≡ find (holds_page space page) held
-  pub loads_is : end.loads ≡ range_reads held space page
-
 pub reached-kept : (words : List ℕ) (root nodes space page : ℕ) (free : List ℕ) (end : Reached) → IsTreap words root nodes free (tree_at nodes words root) → page < 2 ^ 52
-    → IsReached words (tree_at (length words / 4) words root) (key_at space page) end → IsRead words (ranges (tree_at nodes words root)) space page end
+    → IsReached words (tree_at (length words / 4) words root) (key_at space page) end
+    → (range_of_link words end.at ≡ find (holds_page space page) (ranges (tree_at nodes words root))) × (end.loads ≡ range_reads (ranges (tree_at nodes words root)) space page)
 reached-kept words root nodes space page free end k h r =
     let t : Tree = tree_at nodes words root in
     let size = k.size in
@@ -43,11 +39,7 @@ reached-kept words root nodes space page free end k h r =
     let P : ℕ → Type 0 = λ m. IsReached words (tree_at m words root) (key_at space page) end in
     let q : IsReached words t (key_at space page) end = subst P e r in
     let o = order-apart t k.stands.apart in
-    record {
-      at_in = q.at_in;
-      found_is = q.range_is ∙ found-is 0 (2 ^ 58) t space page o h;
-      loads_is = q.loads_is ∙ examined-reads 0 (2 ^ 58) t space page o k.stands.heap;
-    }
+    (q.range_is ∙ found-is 0 (2 ^ 58) t space page o h, q.loads_is ∙ examined-reads 0 (2 ^ 58) t space page o k.stands.heap)
 
 pub read-back : (words : List ℕ) (root nodes loads : ℕ) (free : List ℕ) → IsTreap words root nodes free (tree_at nodes words root) → WordsReadBack (seen_in words root nodes loads)
 read-back words root nodes loads free k =

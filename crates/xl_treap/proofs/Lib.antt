@@ -14,6 +14,7 @@ pub mod KeptLemmas
 pub mod MergeLemmas
 pub mod RiseLemmas
 pub mod TakeLemmas
+pub mod UnderLemmas
 pub mod BesideLemmas
-pub mod WithLemmas
+pub mod OwnSearchLemmas
 pub mod BackLemmas

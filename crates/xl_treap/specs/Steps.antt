@@ -7,7 +7,7 @@ use Rattle.xl_treap.specs.Treaps.{IsApart, with_range, without_range, resized, l
 use Rattle.xl_treap.specs.Lines.{node_word, left_at, right_at, range_of_link, IsNode}
 use Rattle.xl_treap.specs.declared.parting.Parts.{Parts}
 use Rattle.xl_treap.specs.declared.beside.Beside.{Beside}
-use Rattle.xl_treap.specs.declared.with.Reached.{Reached}
+use Rattle.xl_treap.specs.declared.own_search.Reached.{Reached}
 use Rattle.xl_treap.specs.Trees.{Tree, Tip, Bin, Pair, ranges, found, examined, IsAt, IsHeap, InOrder, Over, down, cut_low, cut_high}
 
 -- a node has these links, and no other word changed

@@ -6,9 +6,9 @@ mod beside;
 mod descent;
 mod joining;
 mod node;
+mod own_search;
 mod parting;
 mod treap;
-mod with;
 
 pub use along::Search;
 pub use treap::{Neighbours, Treap};

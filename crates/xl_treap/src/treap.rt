@@ -14,8 +14,8 @@ use crate::along::{Search, seek};
 use crate::beside::nodes_beside;
 use crate::joining::{give_pages, take_out};
 use crate::node::{key_of, range_in};
+use crate::own_search::node_with;
 use crate::parting::put_in;
-use crate::with::node_with;
 use std::alloc::Global;
 use std::marker::Model;
 use xl_model::{Full, NoMemory, Range};
@@ -55,6 +55,13 @@ pub struct Neighbours {
     pub before: Option<Range>,
     /// The first range from it on.
     pub from: Option<Range>,
+}
+
+/// The range that holds a page, and how many ranges were read to find it.
+#[derive(Clone, Copy)]
+struct Looked {
+    range: Option<Range>,
+    loads: u32,
 }
 
 /// The numbers below `n`.
@@ -178,8 +185,22 @@ impl Treap {
         requires page_in { page < 2 ^ 52 }
         ensures { result ≡ find (holds_page space page) self.now.seen.kept }
     {
+        self.look(space, page).range
+    }
+
+    /// Searches the treap's own words for the range that holds the page.
+    #[inline(always)]
+    fn look(&self, space: u16, page: u64) -> Looked
+        requires space_in { space < 64 }
+        requires page_in { page < 2 ^ 52 }
+        ensures range { result.range ≡ find (holds_page space page) self.now.seen.kept }
+        ensures loads { result.loads ≡ range_reads self.now.seen.kept space page }
+    {
         let found = node_with(&self.words, self.root, key_of(space, page));
-        range_of(&self.words, found.at)
+        Looked {
+            range: range_of(&self.words, found.at),
+            loads: found.loads,
+        }
     }
 
     /// The last range of the space that starts below the page, None exactly where there is none.
@@ -228,9 +249,9 @@ impl Treap {
         ensures words { self.new.words ≡ self.old.words }
         ensures root { self.new.root ≡ self.old.root }
     {
-        let found = node_with(&self.words, self.root, key_of(space, page));
-        self.loads = self.loads.wrapping_add(found.loads as u64);
-        range_of(&self.words, found.at)
+        let looked = self.look(space, page);
+        self.loads = self.loads.wrapping_add(looked.loads as u64);
+        looked.range
     }
 
     /// Searches the words of any bus for the range that holds the page: from the root down, one

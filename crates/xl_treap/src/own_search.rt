@@ -1,4 +1,4 @@
-//! The node with a page.
+//! The node with a page, searched for straight over a treap's own words.
 
 ghost use Rattle.std.specs.Prelude.{◌≡◌, ◌<◌, ◌+◌, ◌*◌, ◌^◌, ◌≤◌, length};
 ghost use Rattle.xl_treap.specs.Trees.{Tree, ranges};

@@ -1,7 +1,7 @@
 use Rattle.std.proofs.Common.{◌-◌, length}
 use Rattle.xl_treap.specs.Trees.{ranges}
-use Rattle.xl_treap.proofs.WithLemmas.{IsLeft}
-use Rattle.xl_treap.proofs.with.node_with.Given as goal
+use Rattle.xl_treap.proofs.OwnSearchLemmas.{IsLeft}
+use Rattle.xl_treap.proofs.own_search.node_with.Given as goal
 
 abbrev pub invariant-down : goal.invariant-down
 invariant-down g l = IsLeft l.words g.tree l.key l.loads l.at

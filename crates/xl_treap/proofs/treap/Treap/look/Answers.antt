@@ -1,11 +1,11 @@
 use Rattle.std.proofs.Common.{ap, ◌∙◌, subst, ℕ, List, length, find, ◌/◌}
-use Rattle.xl_model.specs.Ranges.{holds_page}
+use Rattle.xl_model.specs.Ranges.{holds_page, range_reads}
 use Rattle.xl_treap.specs.Treaps.{TreapState}
 use Rattle.xl_treap.specs.Lines.{range_of_link}
 use Rattle.xl_treap.specs.Trees.{tree_at}
 use Rattle.xl_treap.specs.Steps.{IsReached}
 use Rattle.xl_treap.proofs.BackLemmas.{reached-kept}
-use Rattle.xl_treap.proofs.treap.Treap.find.Goals as goal
+use Rattle.xl_treap.proofs.treap.Treap.look.Goals as goal
 
 pub returns : goal.returns
 returns c =
@@ -17,5 +17,8 @@ returns c =
     let K : ℕ → Type 0 = λ k. IsReached W (tree_at (length W / 4) W s.root) k end in
     let reached = subst K c.key_of.ensures (subst R c.deref.ensures.value c.node_with-found.ensures) in
     let read = reached-kept W s.root (length s.path.items) a.space a.page s.free.items end c.self.invariant.0 c.requires.page_in reached in
-    c.range_of.ensures ∙ ap (λ (ws : List ℕ). range_of_link ws end.at) c.deref-2.ensures.value ∙ read.found_is
-    ∙ ap (λ (v : TreapState). find (holds_page a.space a.page) v.seen.kept) c.self.view_is
+    record {
+      range = c.range_of.ensures ∙ ap (λ (ws : List ℕ). range_of_link ws end.at) c.deref-2.ensures.value ∙ read.0
+          ∙ ap (λ (v : TreapState). find (holds_page a.space a.page) v.seen.kept) c.self.view_is;
+      loads = read.1 ∙ ap (λ (v : TreapState). range_reads v.seen.kept a.space a.page) c.self.view_is;
+    }

@@ -1,0 +1,62 @@
+-- What stands under a link.
+use Rattle.std.proofs.Common.{◌≡◌, refl, ap, ◌∙◌, subst, ℕ, suc, ◌+◌, ◌-◌, ◌^◌, ◌<◌, List, length, Some, arith}
+use Rattle.xl_model.specs.declared.leaf.Range.{Range}
+use Rattle.xl_model.specs.Ranges.{range_key, end_key}
+use Rattle.xl_model_lemmas.specs.Members.{In}
+use Rattle.xl_treap.specs.Treaps.{IsFit}
+use Rattle.xl_treap.specs.Lines.{left_at, right_at, range_of_link, IsNode}
+use Rattle.xl_treap.specs.Trees.{Tree, Tip, Bin, ranges, IsAt, InOrder}
+use Rattle.xl_treap.specs.Steps.{IsTree}
+use Rattle.xl_treap.proofs.OrderLemmas.{sizes, order-apart, order-In}
+use Rattle.xl_treap.proofs.WordLemmas.{node-said}
+
+-- a tree stands in the words from a link on, in order
+pub record Stands (words : List ℕ) (at : ℕ) (s : Tree) : Type 0 where
+  pub here : IsAt words at s
+  pub order : (low : ℕ) × (high : ℕ) × InOrder low high s
+
+pub stands-tree : (words : List ℕ) (root : ℕ) (t : Tree) → IsTree words root t → Stands words root t
+stands-tree words root t s = record { here = s.at; order = (0, 2 ^ 58, order-apart t s.apart) }
+
+pub tip-of : (words : List ℕ) (at : ℕ) (s : Tree) → Stands words at s → at ≡ 0 → s ≡ Tip
+tip-of words at Tip h z = refl
+tip-of words at (Bin n x l r) h z = absurd (let i = h.here in let e = i.0 in omega arith)
+
+-- the node of a link, and the trees under it
+pub record IsTop (words : List ℕ) (at : ℕ) (s : Tree) : Type 0 where
+  pub range : Range
+  pub low : Tree
+  pub high : Tree
+  pub is : s ≡ Bin (at - 1) range low high
+  pub node : IsNode words (at - 1) range
+  pub fit : IsFit range
+  pub said : range_of_link words at ≡ Some range
+  pub size_is : length (ranges s) ≡ length (ranges low) + suc (length (ranges high))
+  pub lower : (z : Range) → In z (ranges low) → range_key z < range_key range
+  pub low_stands : Stands words (left_at words (at - 1)) low
+  pub high_stands : Stands words (right_at words (at - 1)) high
+
+pub top-of : (words : List ℕ) (at : ℕ) (s : Tree) → Stands words at s → 0 < at → IsTop words at s
+top-of words at Tip h some = absurd (let e : at ≡ 0 = h.here in omega arith)
+top-of words at (Bin n x l r) h some =
+    let i = h.here in
+    let low = h.order.0 in
+    let high = h.order.1 in
+    let o = h.order.2 in
+    let m : n ≡ at - 1 = let e = i.0 in omega arith in
+    let P : ℕ → Type 0 = λ z. (Bin n x l r ≡ Bin z x l r) × IsNode words z x × IsAt words (left_at words z) l × IsAt words (right_at words z) r in
+    let p : P (at - 1) = subst P m (refl, i.1, i.2, i.3) in
+    let e : at ≡ suc (at - 1) = omega arith in
+    record {
+      range = x;
+      low = l;
+      high = r;
+      is = p.0;
+      node = p.1;
+      fit = o.0;
+      said = ap (range_of_link words) e ∙ node-said words (at - 1) x p.1 o.0;
+      size_is = sizes n x l r;
+      lower = λ z j. (let a = order-In low (range_key x) z l o.1 j in let b = a.to_high in let c = a.fit.some in omega arith);
+      low_stands = record { here = p.2; order = (low, range_key x, o.1) };
+      high_stands = record { here = p.3; order = (end_key x, high, o.2) };
+    }
