@@ -1,16 +1,16 @@
--- The ranges beside a key's place, on the key's way down.
-use Rattle.std.proofs.Common.{◌≡◌, refl, sym, ap, ◌∙◌, subst, ℕ, suc, ◌+◌, ◌-◌, ◌*◌, ◌^◌, ◌<◌, ◌≤◌, true, false, cond, nat_lt, List, [], ◌∷◌, ◌++◌, length, slice_index, Option, None, Some, inl, inr, arith}
+-- The ranges beside a key's place.
+use Rattle.std.proofs.Common.{◌≡◌, refl, sym, ap, ◌∙◌, ℕ, ◌+◌, ◌-◌, ◌*◌, ◌<◌, ◌≤◌, true, false, cond, nat_lt, List, [], ◌∷◌, ◌++◌, length, slice_index, Option, None, Some, inl, inr, arith}
 use Rattle.xl_model.specs.declared.leaf.Range.{Range}
 use Rattle.xl_model.specs.Ranges.{range_key}
 use Rattle.xl_model_lemmas.specs.Members.{In}
 use Rattle.xl_treap.specs.declared.beside.Beside.{Beside}
 use Rattle.xl_treap.specs.Treaps.{last_or, last_below, first_from}
 use Rattle.xl_treap.specs.Lines.{left_at, right_at, range_of_link}
-use Rattle.xl_treap.specs.Trees.{Tree, Tip, Bin, ranges, IsAt, InOrder, down}
-use Rattle.xl_treap.specs.Steps.{CanLook, AreBeside}
-use Rattle.xl_treap.proofs.OrderLemmas.{pick-yes, pick-no, sizes, order-apart, order-In}
-use Rattle.xl_treap.proofs.WordLemmas.{node-said}
-use Rattle.xl_treap.proofs.WayLemmas.{child, down-next, order-down, at-there, none-left}
+use Rattle.xl_treap.specs.Trees.{Tree, Tip, Bin, ranges, tree_at}
+use Rattle.xl_treap.specs.Steps.{IsTree, AreBeside}
+use Rattle.xl_treap.proofs.OrderLemmas.{pick-yes, pick-no}
+use Rattle.xl_treap.proofs.FoundLemmas.{tree-is}
+use Rattle.xl_treap.proofs.UnderLemmas.{Stands, IsTop, stands-tree, tip-of, top-of}
 
 -- what the first says, or else the second
 abbrev pub or_else : Option Range → Option Range → Option Range
@@ -44,114 +44,103 @@ or-twice : (x : Range) (q o : Option Range) → or_else (or_else q (Some x)) o �
 or-twice x None o = refl
 or-twice x (Some y) o = refl
 
--- a way down so far: the tree under it decides, or else the nodes met
-pub record IsBetween (words : List ℕ) (t : Tree) (k depth nodes at : ℕ) (found : Beside) : Type 0 where
-  pub here : IsAt words at (down t k depth)
-  pub few : depth + length (ranges (down t k depth)) ≤ nodes
+-- a link reached on the way down: the tree under it decides, or else the nodes met
+pub record IsBetween (words : List ℕ) (t : Tree) (k at : ℕ) (found : Beside) : Type 0 where
+  pub under : Tree
+  pub stands : Stands words at under
+  pub few : length (ranges under) ≤ length (ranges t)
   pub before_in : 4 * found.before ≤ length words
   pub from_in : 4 * found.from ≤ length words
-  pub before_is : last_below k (ranges t) ≡ or_else (last_below k (ranges (down t k depth))) (range_of_link words found.before)
-  pub from_is : first_from k (ranges t) ≡ or_else (first_from k (ranges (down t k depth))) (range_of_link words found.from)
+  pub before_is : last_below k (ranges t) ≡ or_else (last_below k (ranges under)) (range_of_link words found.before)
+  pub from_is : first_from k (ranges t) ≡ or_else (first_from k (ranges under)) (range_of_link words found.from)
 
 or-none : (q : Option Range) → q ≡ or_else q None
 or-none None = refl
 or-none (Some x) = refl
 
-pub between-end : (words : List ℕ) (t : Tree) (k depth nodes at : ℕ) (found : Beside) → IsBetween words t k depth nodes at found → at ≡ 0 → AreBeside words t k found
-between-end words t k depth nodes at found b z = go (down t k depth) b.here b.before_is b.from_is
-  where
-    go : (s : Tree) → IsAt words at s → last_below k (ranges t) ≡ or_else (last_below k (ranges s)) (range_of_link words found.before)
-        → first_from k (ranges t) ≡ or_else (first_from k (ranges s)) (range_of_link words found.from) → AreBeside words t k found
-    go Tip i p q = record { before_in = b.before_in; from_in = b.from_in; before_is = sym p; from_is = sym q }
-    go (Bin n x l r) i p q = absurd (let e = i.0 in omega arith)
+pub between-start : (words : List ℕ) (t : Tree) (k root : ℕ) → IsTree words root t → IsBetween words t k root (record { before = 0; from = 0 })
+between-start words t k root s = record {
+  under = t;
+  stands = stands-tree words root t s;
+  few = omega arith;
+  before_in = omega arith;
+  from_in = omega arith;
+  before_is = or-none (last_below k (ranges t));
+  from_is = or-none (first_from k (ranges t));
+}
 
-pub between-none : (words : List ℕ) (t : Tree) (k depth nodes at : ℕ) (found : Beside) → IsBetween words t k depth nodes at found → nodes ≤ depth → at ≡ 0
-between-none words t k depth nodes at found b h = let f = b.few in none-left words at (down t k depth) b.here (omega arith)
+pub between-end : {words : List ℕ} {t : Tree} {k at : ℕ} {found : Beside} → IsBetween words t k at found → at ≡ 0 → AreBeside words t k found
+between-end {words = words} {t = t} {k = k} {at = at} {found = found} b z =
+    let e : b.under ≡ Tip = tip-of words at b.under b.stands z in
+    record {
+      before_in = b.before_in;
+      from_in = b.from_in;
+      before_is = sym (b.before_is ∙ ap (λ s. or_else (last_below k (ranges s)) (range_of_link words found.before)) e);
+      from_is = sym (b.from_is ∙ ap (λ s. or_else (first_from k (ranges s)) (range_of_link words found.from)) e);
+    }
 
--- one node of the way, whose key is below
-below-node : (words : List ℕ) (k at low high : ℕ) (s : Tree) (o p : Option Range) → IsAt words at s → 0 < at → InOrder low high s → slice_index words (4 * (at - 1)) < k
-    → IsAt words (right_at words (at - 1)) (child k s) × (length (ranges (child k s)) < length (ranges s))
-    × (or_else (last_below k (ranges s)) o ≡ or_else (last_below k (ranges (child k s))) (range_of_link words at))
-    × (or_else (first_from k (ranges s)) p ≡ or_else (first_from k (ranges (child k s))) p)
-below-node words k at low high Tip o p i some ord lt = absurd (omega arith)
-below-node words k at low high (Bin n x l r) o p i some ord lt =
-    let m : at - 1 ≡ n = let e = i.0 in omega arith in
-    let N : ℕ → Type 0 = λ z. slice_index words (4 * z) < k in
-    let K : ℕ → Type 0 = λ z. z < k in
-    let less : range_key x < k = subst K i.1.key_is (subst N m lt) in
-    let c : child k (Bin n x l r) ≡ r = pick-yes (range_key x) k r l less in
-    let before : (z : Range) → In z (ranges l) → range_key z < k = (λ z j. let a = order-In low (range_key x) z l ord.1 j in let b = a.to_high in let d = a.fit.some in omega arith) in
-    let said : range_of_link words at ≡ Some x = ap (range_of_link words) i.0 ∙ node-said words n x i.1 ord.0 in
-    let R : ℕ → Type 0 = λ z. IsAt words (right_at words z) r in
-    let T : Tree → Type 0 = λ z. IsAt words (right_at words (at - 1)) z in
-    let L : Tree → Type 0 = λ z. length (ranges z) < length (ranges (Bin n x l r)) in (
-      subst T (sym c) (subst R (sym m) i.3),
-      subst L (sym c) (omega (arith, sizes n x l r)),
-      ap (λ q. or_else q o) (last-here k (ranges l) x (ranges r) before less) ∙ or-last x (last_below k (ranges r)) o
-          ∙ ap (λ q. or_else (last_below k (ranges r)) q) (sym said) ∙ ap (λ z. or_else (last_below k (ranges z)) (range_of_link words at)) (sym c),
-      ap (λ q. or_else q p) (first-behind k (ranges l) x (ranges r) before less) ∙ ap (λ z. or_else (first_from k (ranges z)) p) (sym c),
-    )
+-- how many ranges are under a link, as the words have them
+abbrev pub ranges_under : List ℕ → Tree → ℕ → ℕ
+ranges_under words t at = length (ranges (tree_at (length (ranges t)) words at))
 
--- and one whose key is not
-above-node : (words : List ℕ) (k at low high : ℕ) (s : Tree) (o p : Option Range) → IsAt words at s → 0 < at → InOrder low high s → k ≤ slice_index words (4 * (at - 1))
-    → IsAt words (left_at words (at - 1)) (child k s) × (length (ranges (child k s)) < length (ranges s))
-    × (or_else (last_below k (ranges s)) o ≡ or_else (last_below k (ranges (child k s))) o)
-    × (or_else (first_from k (ranges s)) p ≡ or_else (first_from k (ranges (child k s))) (range_of_link words at))
-above-node words k at low high Tip o p i some ord ge = absurd (omega arith)
-above-node words k at low high (Bin n x l r) o p i some ord ge =
-    let m : at - 1 ≡ n = let e = i.0 in omega arith in
-    let N : ℕ → Type 0 = λ z. k ≤ slice_index words (4 * z) in
-    let K : ℕ → Type 0 = λ z. k ≤ z in
-    let more : k ≤ range_key x = subst K i.1.key_is (subst N m ge) in
-    let c : child k (Bin n x l r) ≡ l = pick-no (range_key x) k r l more in
-    let said : range_of_link words at ≡ Some x = ap (range_of_link words) i.0 ∙ node-said words n x i.1 ord.0 in
-    let R : ℕ → Type 0 = λ z. IsAt words (left_at words z) l in
-    let T : Tree → Type 0 = λ z. IsAt words (left_at words (at - 1)) z in
-    let L : Tree → Type 0 = λ z. length (ranges z) < length (ranges (Bin n x l r)) in (
-      subst T (sym c) (subst R (sym m) i.2),
-      subst L (sym c) (omega (arith, sizes n x l r)),
-      ap (λ q. or_else q o) (last-before k (ranges l) x (ranges r) more) ∙ ap (λ z. or_else (last_below k (ranges z)) o) (sym c),
-      ap (λ q. or_else q p) (first-here k (ranges l) x (ranges r) more) ∙ or-twice x (first_from k (ranges l)) p
-          ∙ ap (λ q. or_else (first_from k (ranges l)) q) (sym said) ∙ ap (λ z. or_else (first_from k (ranges z)) (range_of_link words at)) (sym c),
-    )
+under-is : (words : List ℕ) (t : Tree) (at : ℕ) (s : Tree) → Stands words at s → length (ranges s) ≤ length (ranges t) → ranges_under words t at ≡ length (ranges s)
+under-is words t at s h few = ap (λ z. length (ranges z)) (tree-is h.order.0 h.order.1 (length (ranges t)) words at s h.here h.order.2 few)
 
-module _ (words : List ℕ) (t : Tree) (k depth nodes at root : ℕ) (found : Beside) (can : CanLook words root nodes t) (b : IsBetween words t k depth nodes at found) (some : 0 < at) where
+-- one node of the way
+module _ {words : List ℕ} {t : Tree} {k at : ℕ} {found : Beside} (b : IsBetween words t k at found) (some : 0 < at) where
+  top : IsTop words at b.under
+  top = top-of words at b.under b.stands some
+
   pub between-there : 4 * (at - 1) + 4 ≤ length words
-  between-there = at-there words at (down t k depth) b.here some
+  between-there = top.node.there
 
-  next-is : down t k (depth + 1) ≡ child k (down t k depth)
-  next-is = let m : depth + 1 ≡ suc depth = omega arith in ap (down t k) m ∙ down-next t k depth
+  less-under : (next : ℕ) (s : Tree) → Stands words next s → length (ranges s) < length (ranges b.under) → ranges_under words t next < ranges_under words t at
+  less-under next s h less =
+      let f = b.few in
+      let e = under-is words t at b.under b.stands f in
+      let n = under-is words t next s h (omega arith) in
+      omega arith
 
-  pub between-below : slice_index words (4 * (at - 1)) < k → IsBetween words t k (depth + 1) nodes (right_at words (at - 1)) (record found { before = at })
+  pub less-left : ranges_under words t (left_at words (at - 1)) < ranges_under words t at
+  less-left = less-under (left_at words (at - 1)) top.low top.low_stands (let z = top.size_is in omega arith)
+
+  pub less-right : ranges_under words t (right_at words (at - 1)) < ranges_under words t at
+  less-right = less-under (right_at words (at - 1)) top.high top.high_stands (let z = top.size_is in omega arith)
+
+  -- goes on to one of the trees under the node
+  between-next : (next : ℕ) (s : Tree) (met : Beside) → Stands words next s → length (ranges s) < length (ranges b.under) → 4 * met.before ≤ length words → 4 * met.from ≤ length words
+      → or_else (last_below k (ranges (Bin (at - 1) top.range top.low top.high))) (range_of_link words found.before) ≡ or_else (last_below k (ranges s)) (range_of_link words met.before)
+      → or_else (first_from k (ranges (Bin (at - 1) top.range top.low top.high))) (range_of_link words found.from) ≡ or_else (first_from k (ranges s)) (range_of_link words met.from)
+      → IsBetween words t k next met
+  between-next next s met h less before_in from_in last first =
+      let f = b.few in
+      record {
+        under = s;
+        stands = h;
+        few = omega arith;
+        before_in = before_in;
+        from_in = from_in;
+        before_is = b.before_is ∙ ap (λ z. or_else (last_below k (ranges z)) (range_of_link words found.before)) top.is ∙ last;
+        from_is = b.from_is ∙ ap (λ z. or_else (first_from k (ranges z)) (range_of_link words found.from)) top.is ∙ first;
+      }
+
+  pub between-below : slice_index words (4 * (at - 1)) < k → IsBetween words t k (right_at words (at - 1)) (record found { before = at })
   between-below lt =
-      let o = order-down t k depth 0 (2 ^ 58) (order-apart t can.stands.apart) in
-      let h = below-node words k at o.0 o.1 (down t k depth) (range_of_link words found.before) (range_of_link words found.from) b.here some o.2 lt in
-      let H : Tree → Type 0 = λ z. IsAt words (right_at words (at - 1)) z in
-      let S : Tree → Type 0 = λ z. length (ranges z) < length (ranges (down t k depth)) in
-      let s : length (ranges (down t k (depth + 1))) < length (ranges (down t k depth)) = subst S (sym next-is) h.1 in
-      let f = b.few in let e = between-there in
-      record {
-        here = subst H (sym next-is) h.0;
-        few = omega arith;
-        before_in = omega arith;
-        from_in = b.from_in;
-        before_is = b.before_is ∙ h.2 ∙ ap (λ z. or_else (last_below k (ranges z)) (range_of_link words at)) (sym next-is);
-        from_is = b.from_is ∙ h.3 ∙ ap (λ z. or_else (first_from k (ranges z)) (range_of_link words found.from)) (sym next-is);
-      }
+      let x = top.range in let e = top.node.key_is in let h = top.node.there in let z = top.size_is in
+      let l = ranges top.low in let r = ranges top.high in
+      let less : range_key x < k = omega arith in
+      let lower : (y : Range) → In y l → range_key y < k = (λ y i. let a = top.lower y i in omega arith) in
+      between-next (right_at words (at - 1)) top.high (record found { before = at }) top.high_stands (omega arith) (omega arith) b.from_in
+      (ap (λ q. or_else q (range_of_link words found.before)) (last-here k l x r lower less) ∙ or-last x (last_below k r) (range_of_link words found.before)
+      ∙ ap (or_else (last_below k r)) (sym top.said))
+      (ap (λ q. or_else q (range_of_link words found.from)) (first-behind k l x r lower less))
 
-  pub between-above : k ≤ slice_index words (4 * (at - 1)) → IsBetween words t k (depth + 1) nodes (left_at words (at - 1)) (record found { from = at })
+  pub between-above : k ≤ slice_index words (4 * (at - 1)) → IsBetween words t k (left_at words (at - 1)) (record found { from = at })
   between-above ge =
-      let o = order-down t k depth 0 (2 ^ 58) (order-apart t can.stands.apart) in
-      let h = above-node words k at o.0 o.1 (down t k depth) (range_of_link words found.before) (range_of_link words found.from) b.here some o.2 ge in
-      let H : Tree → Type 0 = λ z. IsAt words (left_at words (at - 1)) z in
-      let S : Tree → Type 0 = λ z. length (ranges z) < length (ranges (down t k depth)) in
-      let s : length (ranges (down t k (depth + 1))) < length (ranges (down t k depth)) = subst S (sym next-is) h.1 in
-      let f = b.few in let e = between-there in
-      record {
-        here = subst H (sym next-is) h.0;
-        few = omega arith;
-        before_in = b.before_in;
-        from_in = omega arith;
-        before_is = b.before_is ∙ h.2 ∙ ap (λ z. or_else (last_below k (ranges z)) (range_of_link words found.before)) (sym next-is);
-        from_is = b.from_is ∙ h.3 ∙ ap (λ z. or_else (first_from k (ranges z)) (range_of_link words at)) (sym next-is);
-      }
+      let x = top.range in let e = top.node.key_is in let h = top.node.there in let z = top.size_is in
+      let l = ranges top.low in let r = ranges top.high in
+      let more : k ≤ range_key x = omega arith in
+      between-next (left_at words (at - 1)) top.low (record found { from = at }) top.low_stands (omega arith) b.before_in (omega arith)
+      (ap (λ q. or_else q (range_of_link words found.before)) (last-before k l x r more))
+      (ap (λ q. or_else q (range_of_link words found.from)) (first-here k l x r more) ∙ or-twice x (first_from k l) (range_of_link words found.from)
+      ∙ ap (or_else (first_from k l)) (sym top.said))

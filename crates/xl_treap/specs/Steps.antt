@@ -208,11 +208,6 @@ pub record IsResized (old new : List ℕ) (t : Tree) (root k pages : ℕ) : Type
   pub made : IsMade old new root node (resized k pages (ranges t))
   pub was : IsEmpty old node → ⊥
 
--- a tree of at most so many nodes stands in the words
-pub record CanLook (words : List ℕ) (root nodes : ℕ) (t : Tree) : Type 0 where
-  pub stands : IsTree words root t
-  pub few : length (ranges t) ≤ nodes
-
 -- the links to the nodes beside a key's place
 pub record AreBeside (words : List ℕ) (t : Tree) (k : ℕ) (found : Beside) : Type 0 where
   pub before_in : 4 * found.before ≤ length words

@@ -1,8 +1,7 @@
 //! The nodes beside a place.
 
-ghost use Rattle.std.specs.Prelude.{◌≡◌, ◌<◌, ◌+◌, ◌*◌, ◌≤◌, length};
-ghost use Rattle.xl_treap.specs.Trees.{Tree, ranges};
-ghost use Rattle.xl_treap.specs.Steps.{CanLook, AreBeside};
+ghost use Rattle.xl_treap.specs.Trees.{Tree};
+ghost use Rattle.xl_treap.specs.Steps.{IsTree, AreBeside};
 
 use crate::node::{left_of, right_of};
 
@@ -14,17 +13,14 @@ pub(crate) struct Beside {
 }
 
 /// The nodes beside the place of a key.
-pub(crate) fn nodes_beside(words: &[u64], root: u32, nodes: usize, key: u64) -> Beside
+pub(crate) fn nodes_beside(words: &[u64], root: u32, key: u64) -> Beside
     ghost tree: { Tree }
-    requires { CanLook words.now root nodes tree }
+    requires { IsTree words.now root tree }
     ensures { AreBeside words.now tree key result }
 {
     let mut at = root;
     let mut found = Beside { before: 0, from: 0 };
-    'down: for depth in 0..nodes {
-        if at == 0 {
-            return found;
-        }
+    'down: while at != 0 {
         let node = at - 1;
         if words[4 * node as usize] < key {
             found.before = at;

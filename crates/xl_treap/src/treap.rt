@@ -209,7 +209,7 @@ impl Treap {
         requires page_in { page ≤ 2 ^ 52 }
         ensures { result ≡ of_space space (last_below (key_at space page) self.now.seen.kept) }
     {
-        let found = nodes_beside(&self.words, self.root, self.path.len(), key_of(space, page));
+        let found = nodes_beside(&self.words, self.root, key_of(space, page));
         range_at(&self.words, found.before, space)
     }
 
@@ -223,7 +223,7 @@ impl Treap {
         ensures from { result.from
             ≡ of_space space (first_from (key_at space page) self.now.seen.kept) }
     {
-        let found = nodes_beside(&self.words, self.root, self.path.len(), key_of(space, page));
+        let found = nodes_beside(&self.words, self.root, key_of(space, page));
         Neighbours {
             before: range_at(&self.words, found.before, space),
             from: range_at(&self.words, found.from, space),

@@ -1,5 +1,6 @@
+use Rattle.std.proofs.Common.{◌/◌, length}
 use Rattle.xl_treap.specs.Trees.{tree_at}
 use Rattle.xl_treap.proofs.treap.Treap.before.Given as goal
 
 abbrev pub ghost-nodes_beside : goal.ghost-nodes_beside
-ghost-nodes_beside a = tree_at a.nodes a.words.now a.root
+ghost-nodes_beside a = tree_at (length a.words.now / 4) a.words.now a.root
