@@ -1,8 +1,10 @@
 -- Accesses that are served by one row after another.
 use Rattle.std.proofs.Common.{◌≡◌, refl, sym, ap, ◌∙◌, subst, ℕ, suc, arith, List, [], ◌∷◌, ◌++◌, Option, None, Some}
-use Rattle.std.specs.Prelude.{map, take, drop, length}
+use Rattle.std.specs.Prelude.{map, take, drop}
 use Rattle.std.specs.List.{All}
-use Rattle.std.proofs.lemmas.List.{map-append, nil_from_length, take-append-drop}
+use Rattle.std.proofs.Math.Path.{fun_ext}
+use Rattle.std.proofs.lemmas.List.{map-append, map-id, take-append-drop}
+use Rattle.std.proofs.lemmas.Simd.{map-map}
 use Rattle.std.proofs.lemmas.List.Elements.{All-append, All-cons, All-drop, All-take}
 use Rattle.xl_model.specs.declared.address.Kind.{Kind}
 use Rattle.xl_model.specs.declared.event.Event.TheVariants as event
@@ -22,7 +24,7 @@ use Rattle.xl_model.specs.declared.event.Event.{Event}
 use Rattle.xl_serving.specs.Serving.{scene_of}
 use Rattle.xl_rack.specs.declared.slot.Slot.{Slot}
 use Rattle.xl_rack.specs.Forms.{form_named}
-use Rattle.xl_rack.specs.Slots.{served_of, slot_form, IsNamed}
+use Rattle.xl_rack.specs.Slots.{served_of, slot_form, EachServed, IsNamed}
 use Rattle.xl_rack.specs.Batches.{demand_served, access_served, row_served, waiting_served}
 use Rattle.xl_rack.proofs.DemandLemmas.{access-space, referenced-is}
 
@@ -71,21 +73,12 @@ scene-map : (a : Access) (areas : List Area) (rows : List Served) → scene_afte
 unfolding scene_after
 scene-map a areas rows = ap (λ (z : List Served). scene_of z areas) (rows-map a areas rows)
 
-none-served : (areas : List Area) (rows : List Served) → rows ≡ map (row_served [] areas) rows
-none-served areas [] = refl
-none-served areas (r ∷ rows) = ap (λ (rest : List Served). r ∷ rest) (none-served areas rows)
-
-one-then : (a : Access) (accesses : List Access) (areas : List Area) (rows : List Served)
-    → map (row_served accesses areas) (map (access_served a.va a.kind areas) rows) ≡ map (row_served (a ∷ accesses) areas) rows
-one-then a accesses areas [] = refl
-one-then a accesses areas (r ∷ rows) = ap (λ (rest : List Served). row_served (a ∷ accesses) areas r ∷ rest) (one-then a accesses areas rows)
-
 -- all accesses by the first row, then by the next
 row-by-row : (accesses : List Access) (areas : List Area) (rows : List Served)
     → scene_of (map (row_served accesses areas) rows) areas ≡ scenes_after (map item_of accesses) (scene_of rows areas)
-row-by-row [] areas rows = ap (λ (z : List Served). scene_of z areas) (sym (none-served areas rows))
+row-by-row [] areas rows = ap (λ (z : List Served). scene_of z areas) (map-id rows)
 row-by-row (a ∷ accesses) areas rows =
-    ap (λ (z : List Served). scene_of z areas) (sym (one-then a accesses areas rows))
+    ap (λ (z : List Served). scene_of z areas) (sym (map-map (row_served accesses areas) (access_served a.va a.kind areas) rows))
     ∙ row-by-row accesses areas (map (access_served a.va a.kind areas) rows)
     ∙ ap (scenes_after (map item_of accesses)) (sym (scene-map a areas rows))
 
@@ -99,25 +92,17 @@ scene-event : (e : Event) (areas : List Area) (rows : List Served) → scene_aft
 unfolding scene_after
 scene-event e areas rows = ap (λ (z : List Served). scene_of z areas) (events-map e areas rows)
 
-waiting-none : (accesses : List Access) (areas : List Area) (rows : List Served) → map (row_served accesses areas) rows ≡ map (waiting_served accesses [] areas) rows
-waiting-none accesses areas [] = refl
-waiting-none accesses areas (v ∷ rows) = ap (λ (rest : List Served). row_served accesses areas v ∷ rest) (waiting-none accesses areas rows)
-
-waiting-then : (accesses : List Access) (w : WaitingEvent) (events : List WaitingEvent) (areas : List Area) (rows : List Served)
-    → map (waiting_served (drop w.gap accesses) events areas) (map (after_of w.event) (map (row_served (take w.gap accesses) areas) rows)) ≡ map (waiting_served accesses (w ∷ events) areas) rows
-waiting-then accesses w events areas [] = refl
-waiting-then accesses w events areas (v ∷ rows) = ap (λ (rest : List Served). waiting_served accesses (w ∷ events) areas v ∷ rest) (waiting-then accesses w events areas rows)
-
 -- All items by the first row, then by the next, leave the rows that each item by all rows leaves.
 pub waiting-by-row : (accesses : List Access) (events : List WaitingEvent) (areas : List Area) (rows : List Served)
     → scene_of (map (waiting_served accesses events areas) rows) areas ≡ scenes_after (items_waiting accesses events) (scene_of rows areas)
-waiting-by-row accesses [] areas rows =
-    ap (λ (z : List Served). scene_of z areas) (sym (waiting-none accesses areas rows)) ∙ row-by-row accesses areas rows
+waiting-by-row accesses [] areas rows = row-by-row accesses areas rows
 waiting-by-row accesses (w ∷ events) areas rows =
     let front = take w.gap accesses in
     let rest = drop w.gap accesses in
     let mid = map (row_served front areas) rows in
-    ap (λ (z : List Served). scene_of z areas) (sym (waiting-then accesses w events areas rows))
+    ap (λ (z : List Served). scene_of z areas)
+    (sym (ap (map (waiting_served rest events areas)) (map-map (after_of w.event) (row_served front areas) rows)
+    ∙ map-map (waiting_served rest events areas) (λ (v : Served). after_of w.event (row_served front areas v)) rows))
     ∙ waiting-by-row rest events areas (map (after_of w.event) mid)
     ∙ ap (scenes_after (items_waiting rest events)) (sym (scene-event w.event areas mid) ∙ ap (scene_after (Command w.event)) (row-by-row front areas rows))
     ∙ sym (scene-append (map item_of front) (Command w.event ∷ items_waiting rest events) (scene_of rows areas))
@@ -126,67 +111,64 @@ row-stays : (accesses : List Access) (areas : List Area) (v : Served) → (row_s
 row-stays [] areas v = refl
 row-stays (a ∷ accesses) areas v = row-stays accesses areas (access_served a.va a.kind areas v)
 
-waiting-stays : (accesses : List Access) (events : List WaitingEvent) (areas : List Area) (v : Served) → (waiting_served accesses events areas v).row ≡ v.row
+pub waiting-stays : (accesses : List Access) (events : List WaitingEvent) (areas : List Area) (v : Served) → (waiting_served accesses events areas v).row ≡ v.row
 waiting-stays accesses [] areas v = row-stays accesses areas v
 waiting-stays accesses (w ∷ events) areas v =
     let front = take w.gap accesses in
     waiting-stays (drop w.gap accesses) events areas (after_of w.event (row_served front areas v)) ∙ row-stays front areas v
 
--- a slot stays what its row names, where the row and the form stay
+-- a slot stays of the form that its row names, where the row and the form stay
 named-row : (s t : Slot) → (served_of t).row ≡ (served_of s).row → slot_form t ≡ slot_form s → IsNamed s → IsNamed t
 named-row s t row form named = ap form_named row ∙ named ∙ ap Some (sym form)
 
-pub named-stays : (accesses : List Access) (events : List WaitingEvent) (areas : List Area) (s t : Slot) → served_of t ≡ waiting_served accesses events areas (served_of s) → slot_form t ≡ slot_form s → IsNamed s → IsNamed t
-named-stays accesses events areas s t after = named-row s t (ap (λ (v : Served). v.row) after ∙ waiting-stays accesses events areas (served_of s))
+-- a slot before others
+pub each-first : {f : Served → Served} {s t : Slot} {slots ss ts : List Slot} → EachServed f ss ts → ((v : Served) → (f v).row ≡ v.row) → slots ≡ s ∷ ss
+    → served_of t ≡ f (served_of s) → slot_form t ≡ slot_form s → EachServed f slots (t ∷ ts)
+each-first {f} {s} {t} {slots} {ss} {ts} rest stays slots-are after form =
+    let named : All IsNamed (s ∷ ss) → All IsNamed (t ∷ ts) =
+    λ all. All-cons IsNamed t ts (named-row s t (ap (λ (v : Served). v.row) after ∙ stays (served_of s)) form (all 0 s (omega arith)))
+    (rest.named (λ k d less. all (suc k) d (omega arith))) in
+    subst (λ (xs : List Slot). EachServed f xs (t ∷ ts)) (sym slots-are) (record {
+      served = ap (λ (v : Served). v ∷ map served_of ts) after ∙ ap (λ (vs : List Served). f (served_of s) ∷ vs) rest.served;
+      named = named;
+    })
 
-pub named-accessed : (va : ℕ) (k : Kind) (areas : List Area) (s t : Slot) → served_of t ≡ access_served va k areas (served_of s) → slot_form t ≡ slot_form s → IsNamed s → IsNamed t
-named-accessed va k areas s t after = named-row s t (ap (λ (v : Served). v.row) after)
+-- slots in two parts
+pub each-in-two : {f : Served → Served} (n : ℕ) {slots group others front back : List Slot} → EachServed f group front → EachServed f others back
+    → group ≡ take n slots → others ≡ drop n slots → EachServed f slots (front ++ back)
+each-in-two {f} n {slots} {group} {others} {front} {back} one two group-is others-are =
+    let first = subst (λ (xs : List Slot). EachServed f xs front) group-is one in
+    let later = subst (λ (xs : List Slot). EachServed f xs back) others-are two in
+    record {
+      served =
+          map-append served_of front back
+          ∙ ap (λ (xs : List Served). xs ++ map served_of back) first.served
+          ∙ ap (λ (ys : List Served). map f (map served_of (take n slots)) ++ ys) later.served
+          ∙ sym (map-append f (map served_of (take n slots)) (map served_of (drop n slots)))
+          ∙ ap (map f) (sym (map-append served_of (take n slots) (drop n slots)) ∙ ap (map served_of) (take-append-drop n slots));
+      named = λ all. All-append IsNamed front back (first.named (All-take IsNamed n slots all)) (later.named (All-drop IsNamed n slots all));
+    }
 
-pub named-stepped : (e : Event) (s t : Slot) → served_of t ≡ after_of e (served_of s) → slot_form t ≡ slot_form s → IsNamed s → IsNamed t
-named-stepped e s t after = named-row s t (ap (λ (v : Served). v.row) after)
+-- slots that stay as they are
+pub each-stays : (slots : List Slot) → EachServed (λ v. v) slots slots
+each-stays slots = record { served = sym (map-id (map served_of slots)); named = λ all. all }
 
--- each slot does, where the first and the others do
-pub named-each : (s t : Slot) (slots ss ts : List Slot) → slots ≡ s ∷ ss → (IsNamed s → IsNamed t) → (All IsNamed ss → All IsNamed ts) → All IsNamed slots → All IsNamed (t ∷ ts)
-named-each s t slots ss ts e f g h =
-    let all : All IsNamed (s ∷ ss) = subst (All IsNamed) e h in
-    All-cons IsNamed t ts (f (all 0 s (omega arith))) (g (λ k d less. all (suc k) d (omega arith)))
+-- one thing by each slot, and then another
+pub each-then : {f g : Served → Served} {slots one two : List Slot} → EachServed f slots one → EachServed g one two → EachServed (λ v. g (f v)) slots two
+each-then {f} {g} {slots} first then = record {
+  served = then.served ∙ ap (map g) first.served ∙ map-map g f (map served_of slots);
+  named = λ all. then.named (first.named all);
+}
 
--- slots in two parts, each of them served
-pub served-in-two : (f : Served → Served) (n : ℕ) (slots front back : List Slot) → map served_of front ≡ map f (map served_of (take n slots)) → map served_of back ≡ map f (map served_of (drop n slots))
-    → map served_of (front ++ back) ≡ map f (map served_of slots)
-served-in-two f n slots front back first later =
-    map-append served_of front back
-    ∙ ap (λ (xs : List Served). xs ++ map served_of back) first
-    ∙ ap (λ (ys : List Served). map f (map served_of (take n slots)) ++ ys) later
-    ∙ sym (map-append f (map served_of (take n slots)) (map served_of (drop n slots)))
-    ∙ ap (map f) (sym (map-append served_of (take n slots) (drop n slots)) ∙ ap (map served_of) (take-append-drop n slots))
+-- one thing by each slot, by another name
+pub each-same : {f g : Served → Served} {slots one : List Slot} → EachServed f slots one → ((v : Served) → f v ≡ g v) → EachServed g slots one
+each-same {slots = slots} {one = one} each same = subst (λ (h : Served → Served). EachServed h slots one) (fun_ext same) each
 
-pub named-in-two : (n : ℕ) (slots front back : List Slot) → (All IsNamed (take n slots) → All IsNamed front) → (All IsNamed (drop n slots) → All IsNamed back)
-    → All IsNamed slots → All IsNamed (front ++ back)
-named-in-two n slots front back first later named =
-    All-append IsNamed front back (first (All-take IsNamed n slots named)) (later (All-drop IsNamed n slots named))
-
--- accesses and then a command, each by all slots, and then what comes behind them
-pub side-by-side : (accesses before behind : List Access) (events later : List WaitingEvent) (w : WaitingEvent) (areas : List Area) (rows one two three : List Served)
+-- accesses, then a command, and then what comes behind them
+pub waiting-in-parts : {before behind : List Access} {events later : List WaitingEvent} {w : WaitingEvent} (accesses : List Access) (areas : List Area) (v : Served)
     → events ≡ w ∷ later → before ≡ take w.gap accesses → behind ≡ drop w.gap accesses
-    → one ≡ map (row_served before areas) rows → two ≡ map (after_of w.event) one → three ≡ map (waiting_served behind later areas) two
-    → three ≡ map (waiting_served accesses events areas) rows
-side-by-side accesses before behind events later w areas rows one two three events-are before-is behind-is first then rest =
-    rest
-    ∙ ap (λ (xs : List Access). map (waiting_served xs later areas) two) behind-is
-    ∙ ap (map (waiting_served (drop w.gap accesses) later areas)) (then ∙ ap (map (after_of w.event)) (first ∙ ap (λ (xs : List Access). map (row_served xs areas) rows) before-is))
-    ∙ waiting-then accesses w later areas rows
-    ∙ ap (λ (es : List WaitingEvent). map (waiting_served accesses es areas) rows) (sym events-are)
-
--- an access by all slots, and then the others
-pub each-then : (a : Access) (accesses later : List Access) (areas : List Area) (rows one two : List Served) → accesses ≡ a ∷ later
-    → one ≡ map (access_served a.va a.kind areas) rows → two ≡ map (row_served later areas) one → two ≡ map (row_served accesses areas) rows
-each-then a accesses later areas rows one two accesses-are first rest =
-    rest
-    ∙ ap (map (row_served later areas)) first
-    ∙ one-then a later areas rows
-    ∙ ap (λ (xs : List Access). map (row_served xs areas) rows) (sym accesses-are)
-
--- no accesses by all slots
-pub each-none : (accesses : List Access) (areas : List Area) (rows : List Served) → length accesses ≡ 0 → rows ≡ map (row_served accesses areas) rows
-each-none accesses areas rows none = none-served areas rows ∙ ap (λ (xs : List Access). map (row_served xs areas) rows) (sym (nil_from_length accesses none))
+    → waiting_served behind later areas (after_of w.event (row_served before areas v)) ≡ waiting_served accesses events areas v
+waiting-in-parts {before} {behind} {events} {later} {w} accesses areas v events-are before-is behind-is =
+    ap (λ (xs : List Access). waiting_served xs later areas (after_of w.event (row_served before areas v))) behind-is
+    ∙ ap (λ (xs : List Access). waiting_served (drop w.gap accesses) later areas (after_of w.event (row_served xs areas v))) before-is
+    ∙ ap (λ (es : List WaitingEvent). waiting_served accesses es areas v) (sym events-are)

@@ -1,5 +1,6 @@
 -- What the slots of a rack hold.
-use Rattle.std.specs.Prelude.{◌≡◌, ◌==◌, Bool, Some, length}
+use Rattle.std.specs.Prelude.{◌≡◌, ◌==◌, Bool, List, Some, length, map}
+use Rattle.std.specs.List.{All}
 use Rattle.xl_model.specs.Scenes.{Served}
 use Rattle.xl_rack.specs.declared.slot.Slot.{Slot}
 use Rattle.xl_rack.specs.declared.slot.Slot.TheVariants as slot
@@ -36,3 +37,8 @@ IsNamed s = form_named (served_of s).row ≡ Some (slot_form s)
 -- A slot's machine has no arrays.
 abbrev pub has_no_arrays : Slot → Bool
 has_no_arrays s = length (served_of s).state.arrays == 0
+
+-- Each slot's row is served, as this function says, and each slot stays of the form that its row names.
+pub record EachServed (after : Served → Served) (old new : List Slot) : Type 0 where
+  pub served : map served_of new ≡ map after (map served_of old)
+  pub named : All IsNamed old → All IsNamed new

@@ -1,12 +1,12 @@
-//! Items that a row is served one after another without lines: the kind of the row's table is chosen once
-//! for all of them.
+//! Items that rows are served without lines, in turn or side by side. Where a row is served alone,
+//! the kind of its table is chosen once for all items.
 
-ghost use Rattle.std.specs.Prelude.{◌≡◌, ◌==◌, ◌&&◌, ◌≤◌, length, map, nat_lt, not};
-ghost use Rattle.std.specs.List.{All, list_any};
+ghost use Rattle.std.specs.Prelude.{◌≡◌, ◌&&◌, ◌≤◌, length, nat_lt, not};
+ghost use Rattle.std.specs.List.{list_any};
 ghost use Rattle.xl_machine.specs.Served.{after_of};
 ghost use Rattle.xl_serving.specs.Batches.{gaps};
 ghost use Rattle.xl_rack.specs.Batches.{demand_served, access_served, row_served, waiting_served};
-ghost use Rattle.xl_rack.specs.Slots.{served_of, slot_form, has_no_arrays, IsNamed};
+ghost use Rattle.xl_rack.specs.Slots.{served_of, slot_form, has_no_arrays, EachServed};
 
 use crate::area::map_for;
 use crate::slot::{Slot, at_table};
@@ -61,8 +61,8 @@ fn serve_each<S: Structure, const BARE: bool, const CACHED: bool>(
     }
 }
 
-/// Serves accesses to a machine one after another: whether it has arrays, and a cache of its lowest nodes, is
-/// asked once for all of them.
+/// Serves accesses to a machine one after another: whether it has arrays, and a cache of its lowest
+/// nodes, is asked once for all of them.
 fn serve_all<S: Structure>(machine: &mut Machine<S>, accesses: &[Access], areas: &Areas)
     ensures { machine.new ≡ row_served accesses.now areas.now machine.old }
 {
@@ -109,9 +109,7 @@ fn serve_slot(slot: &mut Slot, accesses: &[Access], events: &[WaitingEvent], are
 /// next.
 fn serve_in_turn(slots: &mut [Slot], accesses: &[Access], events: &[WaitingEvent], areas: &Areas)
     requires { gaps events.now ≤ length accesses.now }
-    ensures served { map served_of slots.new
-        ≡ map (waiting_served accesses.now events.now areas.now) (map served_of slots.old) }
-    ensures named { All IsNamed slots.old → All IsNamed slots.new }
+    ensures { EachServed (waiting_served accesses.now events.now areas.now) slots.old slots.new }
 {
     let Some((first, rest)) = slots.split_first_mut() else {
         return;
@@ -131,9 +129,7 @@ fn serve_slot_once(slot: &mut Slot, va: u64, kind: Kind, areas: &Areas)
 
 /// Serves an access, with the events of its demand, to each slot.
 fn serve_to_each(slots: &mut [Slot], va: u64, kind: Kind, areas: &Areas)
-    ensures served { map served_of slots.new
-        ≡ map (access_served va kind areas.now) (map served_of slots.old) }
-    ensures named { All IsNamed slots.old → All IsNamed slots.new }
+    ensures { EachServed (access_served va kind areas.now) slots.old slots.new }
 {
     let Some((first, rest)) = slots.split_first_mut() else {
         return;
@@ -144,9 +140,7 @@ fn serve_to_each(slots: &mut [Slot], va: u64, kind: Kind, areas: &Areas)
 
 /// Serves accesses to the slots: each access to all of them, then the next.
 fn serve_each_to_all(slots: &mut [Slot], accesses: &[Access], areas: &Areas)
-    ensures served { map served_of slots.new
-        ≡ map (row_served accesses.now areas.now) (map served_of slots.old) }
-    ensures named { All IsNamed slots.old → All IsNamed slots.new }
+    ensures { EachServed (row_served accesses.now areas.now) slots.old slots.new }
 {
     let Some((access, later)) = accesses.split_first() else {
         return;
@@ -157,8 +151,7 @@ fn serve_each_to_all(slots: &mut [Slot], accesses: &[Access], areas: &Areas)
 
 /// Serves an event to each slot.
 fn step_each(slots: &mut [Slot], event: Event)
-    ensures served { map served_of slots.new ≡ map (after_of event) (map served_of slots.old) }
-    ensures named { All IsNamed slots.old → All IsNamed slots.new }
+    ensures { EachServed (after_of event) slots.old slots.new }
 {
     let Some((first, rest)) = slots.split_first_mut() else {
         return;
@@ -168,8 +161,8 @@ fn step_each(slots: &mut [Slot], event: Event)
 }
 
 /// Serves accesses, and the events among them, to the slots side by side: each to all of them, then
-/// the next. What arrays answer can't be foretold, but mostly it is what those of the row before
-/// answered just now, and so the processor foretells it.
+/// the next. Presumably a row's arrays mostly answer as those of the row before did just now, and
+/// the processor foretells it.
 fn serve_side_by_side(
     slots: &mut [Slot],
     accesses: &[Access],
@@ -177,9 +170,7 @@ fn serve_side_by_side(
     areas: &Areas,
 )
     requires { gaps events.now ≤ length accesses.now }
-    ensures served { map served_of slots.new
-        ≡ map (waiting_served accesses.now events.now areas.now) (map served_of slots.old) }
-    ensures named { All IsNamed slots.old → All IsNamed slots.new }
+    ensures { EachServed (waiting_served accesses.now events.now areas.now) slots.old slots.new }
 {
     let Some((waiting, later)) = events.split_first() else {
         serve_each_to_all(slots, accesses, areas);
@@ -216,9 +207,7 @@ fn has_company(slots: &[Slot]) -> bool
 /// Serves accesses, and the events among them, to some slots.
 fn serve_group(slots: &mut [Slot], accesses: &[Access], events: &[WaitingEvent], areas: &Areas)
     requires { gaps events.now ≤ length accesses.now }
-    ensures served { map served_of slots.new
-        ≡ map (waiting_served accesses.now events.now areas.now) (map served_of slots.old) }
-    ensures named { All IsNamed slots.old → All IsNamed slots.new }
+    ensures { EachServed (waiting_served accesses.now events.now areas.now) slots.old slots.new }
 {
     if has_company(slots) {
         serve_side_by_side(slots, accesses, events, areas);
@@ -227,8 +216,8 @@ fn serve_group(slots: &mut [Slot], accesses: &[Access], events: &[WaitingEvent],
     }
 }
 
-/// How many slots are served side by side at most: with more of them the arrays of a row would leave
-/// the processor's first cache before its next access.
+/// How many slots are served side by side at most: with more of them the arrays of a row presumably
+/// leave the processor's first cache before its next access.
 const SIDE_BY_SIDE: usize = 8;
 
 /// Serves accesses, and the events among them, to all slots, some of them after the others.
@@ -239,9 +228,7 @@ pub(crate) fn serve_slots(
     areas: &Areas,
 )
     requires { gaps events.now ≤ length accesses.now }
-    ensures served { map served_of slots.new
-        ≡ map (waiting_served accesses.now events.now areas.now) (map served_of slots.old) }
-    ensures named { All IsNamed slots.old → All IsNamed slots.new }
+    ensures { EachServed (waiting_served accesses.now events.now areas.now) slots.old slots.new }
 {
     if slots.is_empty() {
         return;

@@ -1,16 +1,16 @@
-use Rattle.std.proofs.Common.{map}
-use Rattle.xl_rack.specs.Slots.{served_of}
-use Rattle.xl_rack.proofs.BatchLemmas.{each-none, each-then}
+use Rattle.std.proofs.Common.{sym, ap, List}
+use Rattle.std.proofs.lemmas.List.{nil_from_length}
+use Rattle.xl_lackey.specs.declared.skim.Access.{Access}
+use Rattle.xl_rack.specs.Batches.{row_served}
+use Rattle.xl_rack.proofs.BatchLemmas.{each-same, each-stays, each-then}
 use Rattle.xl_rack.proofs.batch.+serve_each_to_all.Goals as goal
 
-pub returns-clause-served : goal.returns-clause-served
-returns-clause-served n c =
-    each-then c.in-Some.access.now c.args.accesses.now c.in-Some.later.now c.args.areas.now
-    (map served_of c.args.slots.now) (map served_of c.serve_to_each.new.slots) (map served_of c.serve_each_to_all.new.slots)
-    c.in-Some.ensures.cases.0 c.serve_to_each.ensures.served c.serve_each_to_all.ensures.served
+pub returns : goal.returns
+returns n c =
+    each-same (each-then c.serve_to_each.ensures c.serve_each_to_all.ensures)
+    (λ v. ap (λ (xs : List Access). row_served xs c.args.areas.now v) (sym c.in-Some.ensures.cases.0))
 
-pub returns-clause-named : goal.returns-clause-named
-returns-clause-named n c = λ h. c.serve_each_to_all.ensures.named (c.serve_to_each.ensures.named h)
-
-pub returns-in_default-clause-served : goal.returns-in_default-clause-served
-returns-in_default-clause-served n c = each-none c.args.accesses.now c.args.areas.now (map served_of c.args.slots.now) c.in_default.ensures.cases
+pub returns-in_default : goal.returns-in_default
+returns-in_default n c =
+    each-same (each-stays c.args.slots.now)
+    (λ v. ap (λ (xs : List Access). row_served xs c.args.areas.now v) (sym (nil_from_length c.args.accesses.now c.in_default.ensures.cases)))
