@@ -7,7 +7,7 @@ ghost use Rattle.xl_recency.specs.Widths.{IsWidth};
 use std::alloc::Global;
 use std::test::Fail;
 use xl_model::{NoMemory, mix};
-use xl_recency::{Cache, Item, SetAssociative, Sets, Ways, stamped};
+use xl_recency::{Cache, Item, Sets, Ways, stamped};
 
 fn item(tag: u64) -> Item {
     Item { tag, word: 0 }
@@ -63,37 +63,6 @@ fn sets_stand_apart(rt: HostRuntime) -> Result<(), Fail> {
     assert_eq!(rt; sets.remove_in(1, |item| item.tag == 1), 0);
     assert_eq!(rt; sets.remove_in(2, |item| item.tag == 1), 1);
     assert_eq!(rt; sets.remove_where(|item| item.tag == 1), 1);
-    Ok(())
-}
-
-/// Whether an array with this many sets takes an item into its last set.
-fn fills_last_set(alloc: Global, width: u8, count: u32) -> Result<bool, NoMemory>
-    requires some { 0 < width }
-    requires width { IsWidth width }
-    requires count { 0 < count }
-{
-    let mut array = SetAssociative::open(alloc, width, count)?;
-    let last = count as usize - 1;
-    Ok(
-        array.fill(last, item(1)).is_none()
-            && array.touch(last, |item| item.tag == 1) == Some(item(1))
-            && array.remove_where(|_| true) == 1,
-    )
-}
-
-/// The greatest arrays of each width, which have 16,384 places.
-#[test]
-fn arrays_of_each_width_have_ample_memory(rt: HostRuntime) -> Result<(), Fail> {
-    let alloc = rt.alloc();
-    assert!(rt; fills_last_set(alloc, 1, 16_384)?);
-    assert!(rt; fills_last_set(alloc, 2, 8_192)?);
-    assert!(rt; fills_last_set(alloc, 4, 4_096)?);
-    assert!(rt; fills_last_set(alloc, 6, 2_730)?);
-    assert!(rt; fills_last_set(alloc, 8, 2_048)?);
-    assert!(rt; fills_last_set(alloc, 12, 1_365)?);
-    assert!(rt; fills_last_set(alloc, 16, 1_024)?);
-    assert!(rt; fills_last_set(alloc, 32, 512)?);
-    assert!(rt; fills_last_set(alloc, 64, 256)?);
     Ok(())
 }
 
