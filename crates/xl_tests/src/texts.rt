@@ -35,6 +35,7 @@ fn the_first_records_are_made_in_pieces(rt: HostRuntime) -> Result<(), Fail> {
     Ok(())
 }
 
+#[tactic(auto, unfolding(xl_model::specs::Tally::no_counts))]
 #[test]
 fn the_greatest_count_is_written(rt: HostRuntime) -> Result<(), Fail> {
     let alloc = rt.alloc();
