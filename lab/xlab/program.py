@@ -10,19 +10,25 @@ from typing import IO, Any
 from xlab.messages import Fault, Status
 
 LAB = pathlib.Path(__file__).resolve().parent.parent
-TOP = LAB.parent  # the repository, or PREFIX/share/xlate where it is installed
+TOP = LAB.parent  # the repository, or a copy of its layout where it is installed
 Row = dict[str, Any]  # an object of `--json`: counts by their names, `name` and `pasum` texts
 
 
 def xlate() -> str:
-    """The program's path: that of XLATE, `xlate` at the top of the repository, or `xlate` of an installation or PATH."""
+    """The program's path: that of XLATE, the launcher `xlate` beside `xlab`, or `xlate` in PATH."""
     named = os.environ.get("XLATE")
     if named:
-        return named if shutil.which(named) else _not_there(f"XLATE names {named}, which is no program")
-    for place in (TOP / "xlate", TOP.parent.parent / "bin" / "xlate"):
-        if place.is_file() and os.access(place, os.X_OK):
-            return str(place)
+        return shutil.which(named) or _not_there(f"XLATE names {named}, which is no program")
+    beside = TOP / "xlate"
+    if os.access(beside, os.X_OK):
+        return str(beside)
     return shutil.which("xlate") or _not_there("the program xlate is neither beside xlab nor in PATH")
+
+
+def binary() -> pathlib.Path:
+    """The program's own file: that of XLATE, or the one that the launcher serves, which may not be built yet."""
+    found = pathlib.Path(xlate())
+    return TOP / "out" / "xlate" if found == TOP / "xlate" else found.resolve()
 
 
 def _not_there(why: str) -> str:

@@ -4,19 +4,21 @@ import argparse
 import hashlib
 import pathlib
 import subprocess
+import tomllib
 
 from xlab import program
 from xlab.helppage import Example
+from xlab.messages import Fault
 from xlab.needs import Needs
 
-SUMMARY = "say the commit, the kit, proved or not, and the checksum of the program"
+SUMMARY = "say version, commit, kit, proved or not, and checksum of the program"
 DESCRIPTION = """
-Says what a reader needs to find the program that made a figure: the version and the commit of the sources, what the
-build wrote of itself (commit, kit, proved or not), and the SHA-256 of the program.
+Says what a reader needs to find the program that made a figure: the version and commit of these sources, and of the
+program that is run its file, SHA-256, and what its build wrote of it: version, commit, kit, and whether it is proved.
 """
 EXAMPLES = (Example("xlab version", "a line for each, to be kept beside a result"),)
 NEEDS = Needs()
-BUILT = "crates/xlate/out/xlate.built"  # what a build wrote: lines of a name, a colon or equals sign, and a value
+UNKNOWN = "unknown"
 
 
 def add_parser(parser: argparse.ArgumentParser) -> None:
@@ -32,43 +34,33 @@ def run(words: argparse.Namespace) -> int:
 
 def facts() -> dict[str, str]:
     """What is known of the sources and of the program, by name, in the order in which it is said."""
-    found = {"version": version(), "sources": commit()}
-    program_file = binary()
-    found["program"] = str(program_file) if program_file else "not built"
-    if program_file:
-        found["sha256"] = hashlib.sha256(program_file.read_bytes()).hexdigest()
-        found["built"] = built(program_file)
-    return found
-
-
-def version() -> str:
-    """What VERSION says."""
-    file = program.TOP / "VERSION"
-    return file.read_text().strip() if file.exists() else "none"
+    version = program.TOP / "VERSION"
+    found = {"xlab version": version.read_text().strip() if version.exists() else UNKNOWN, "xlab commit": commit()}
+    try:
+        file = program.binary()
+    except Fault as fault:
+        return found | {"program": str(fault)}
+    if not file.is_file():
+        return found | {"program": f"{file} is not built"}
+    checksum = hashlib.sha256(file.read_bytes()).hexdigest()
+    return found | {"program": str(file), "checksum": checksum} | built(file, checksum)
 
 
 def commit() -> str:
     """The commit of the sources, and whether files were changed after it."""
-    asked = ["git", "-C", str(program.TOP), "describe", "--always", "--dirty=, with changes", "--abbrev=40"]
+    asked = ["git", "-C", str(program.TOP), "describe", "--always", "--dirty=+changes", "--abbrev=40", "--exclude=*"]
     try:
         ended = subprocess.run(asked, capture_output=True, text=True)
     except FileNotFoundError:
-        return "unknown: git is not installed"
-    return f"commit {ended.stdout.strip()}" if ended.returncode == 0 else "no git repository"
+        return UNKNOWN
+    return ended.stdout.strip() if ended.returncode == 0 else UNKNOWN
 
 
-def binary() -> pathlib.Path | None:
-    """The program itself: the one that `./xlate` builds and runs, or an installed one."""
-    try:
-        named = pathlib.Path(program.xlate())
-    except Exception:
-        return None
-    if named == program.TOP / "xlate":
-        named = program.TOP / "crates" / "xlate" / "out" / "xlate"
-    return named if named.is_file() else None
-
-
-def built(file: pathlib.Path) -> str:
-    """What the build wrote of itself beside the program, in a line."""
-    said = file.with_name(file.name + ".built")
-    return ", ".join(said.read_text().split("\n")).strip(", ") if said.exists() else "it says nothing of its build"
+def built(file: pathlib.Path, checksum: str) -> dict[str, str]:
+    """What the build wrote of the program beside it; all unknown where there is none, or it is of another program."""
+    record = file.with_name(file.name + ".built")
+    said = tomllib.loads(record.read_text()) if record.is_file() else {}
+    own = said.get("checksum") == checksum
+    found = {name: str(said.get(name, UNKNOWN)) if own else UNKNOWN for name in ("version", "commit", "kit")}
+    proved = {True: "proved", False: "unproved"}.get(said.get("proved") if own else None, UNKNOWN)
+    return found | {"proof": proved}
