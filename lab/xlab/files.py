@@ -1,17 +1,16 @@
 """Files that may be compressed: opened by their first bytes, and written whole or not at all."""
 
 import contextlib
-import io
 import os
 import pathlib
 import shutil
 import subprocess
 import sys
 import threading
-from collections.abc import Iterator
+from collections.abc import Iterable, Iterator
 from typing import IO, BinaryIO
 
-from xlab.messages import Fault, Status
+from xlab.messages import Fault, Status, bar, note
 
 # a compressed file's first bytes, and the program that unpacks and packs it
 PACKERS = {b"\x1f\x8b": "gzip", b"\x28\xb5\x2f\xfd": "zstd"}
@@ -20,21 +19,21 @@ STANDARD = "-"  # names standard input or output
 
 
 @contextlib.contextmanager
-def unpacked(name: str) -> Iterator[BinaryIO]:
+def unpacked(name: str, salvage: bool = False) -> Iterator[BinaryIO]:
     """The bytes of a file, or of standard input where the name is `-`, unpacked where its first bytes say gzip or
-    zstd. Raises a fault where what is packed is broken, at the end."""
+    zstd. Where what is packed is cut off or broken this is a fault once it is read so far, or with `salvage` a note."""
     with sys.stdin.buffer if name == STANDARD else open(name, "rb") as file:
         head = file.peek(4)[:4]
         packer = next((packer for magic, packer in PACKERS.items() if head.startswith(magic)), None)
         if packer is None:
             yield file
         else:
-            with _through([_there(packer), "-dc"], file, name) as pipe:
+            with _through([_there(packer), "-dc"], file, name, salvage) as pipe:
                 yield pipe
 
 
 @contextlib.contextmanager
-def _through(words: list[str], file: BinaryIO, name: str) -> Iterator[BinaryIO]:
+def _through(words: list[str], file: BinaryIO, name: str, salvage: bool) -> Iterator[BinaryIO]:
     """What a program writes that is given a file on its standard input."""
     direct = file.seekable()
     if direct:
@@ -44,14 +43,16 @@ def _through(words: list[str], file: BinaryIO, name: str) -> Iterator[BinaryIO]:
         assert run.stdout and run.stderr
         if not direct:
             threading.Thread(target=_fed, args=(file, run.stdin), daemon=True).start()
-        yield io.BufferedReader(run.stdout)  # type: ignore[arg-type]
-        at_end = run.stdout.closed or not run.stdout.read(1)
-        if not at_end:
-            run.terminate()  # the reader has enough
+        yield run.stdout  # type: ignore[misc]
+        if run.stdout.read(1):  # the reader has enough
+            run.terminate()
             return
         said = run.stderr.read().decode(errors="replace").strip()
     if run.returncode != 0:
-        raise Fault(f"{name}: {words[0]} can't unpack all of it: {said.splitlines()[-1] if said else run.returncode}")
+        message = f"{name}: {words[0]} can't unpack all of it: {said.splitlines()[-1] if said else run.returncode}"
+        if not salvage:
+            raise Fault(message)
+        note(f"{message}; it is read so far")
 
 
 def _fed(file: BinaryIO, pipe: IO[bytes]) -> None:
@@ -121,3 +122,14 @@ def pieces(file: BinaryIO, size: int = 1 << 21) -> Iterator[bytes]:
                 raise Fault("a line of more than 64 MiB: this is no text")
     if rest:
         yield rest
+
+
+def watched(pieces: Iterable[bytes], what: str = "") -> Iterator[bytes]:
+    """The pieces, with a bar of the bytes read where a terminal looks on."""
+    shown = bar(None, "B", what)
+    try:
+        for piece in pieces:
+            yield piece
+            shown.update(len(piece))
+    finally:
+        shown.close()
