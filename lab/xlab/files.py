@@ -92,7 +92,8 @@ def written(name: str) -> Iterator[BinaryIO]:
 @contextlib.contextmanager
 def _packed(words: list[str], file: BinaryIO) -> Iterator[BinaryIO]:
     """The standard input of a program that writes into a file."""
-    with subprocess.Popen(words, stdin=subprocess.PIPE, stdout=file) as run:
+    # in a group of its own, so that Ctrl-C ends what is packed and not the packer
+    with subprocess.Popen(words, stdin=subprocess.PIPE, stdout=file, process_group=0) as run:
         assert run.stdin
         yield run.stdin  # type: ignore[misc]
         run.stdin.close()
