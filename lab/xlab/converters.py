@@ -4,14 +4,17 @@ a line that it can't read stays as it is, so that the sieve counts it among thos
 import re
 from collections.abc import Callable, Iterable, Iterator
 
+from xlab.messages import Fault
+
 # a mnemonic's width in RISC-V: lb, lhu, c.lwsp, fld, amoadd.w, lr.d and so on
 RISCV_WIDTHS = {b"b": 1, b"h": 2, b"w": 4, b"d": 8, b"q": 16}
 RISCV_PLAIN = re.compile(rb"(?:c\.)?f?[ls](b|h|w|d|q)u?(?:sp)?")
 RISCV_ATOMIC = re.compile(rb"(?:lr|sc|amo\w+)\.(w|d)(?:\.\w+)*")
 
 EXECLOG = re.compile(rb'\d+, 0x([0-9a-f]+), 0x([0-9a-f]+), "([^"]*)"((?:, [^,]+)*)')
-EXECLOG_ACCESS = re.compile(rb"(load|store), 0x([0-9a-f]+)")
-VIEW = re.compile(rb".*?[: ](ifetch|read|write)(?: +|\(\w*\) *)(\d+) byte\(s\) @ (?:0x)?([0-9a-f]+).*")
+EXECLOG_ACCESS = re.compile(rb", (load|store), 0x([0-9a-f]+)(, (?!load|store)[^,]+)?")
+OPCODE = re.compile(rb"[0-9a-f]{4}(?:[0-9a-f]{4})?[ \t]+")  # stands before RISC-V's mnemonic
+VIEW = re.compile(rb".*?[: ](ifetch|read|write)(?: +|\(\w*\) *)(\d+) byte\(s\) @ (?:0x)?0*([0-9a-f]+).*")
 VIEW_LETTERS = {b"ifetch": b"I  ", b"read": b" L ", b"write": b" S "}
 PINATRACE = re.compile(rb"(?:0x)?[0-9a-f]+: ([RW]) +(?:0x)?([0-9a-f]+)(?: +(\d+)(?: .*)?)?")
 PIN_LETTERS = {b"R": b" L ", b"W": b" S "}
@@ -19,7 +22,7 @@ PIN_LETTERS = {b"R": b" L ", b"W": b" S "}
 
 def riscv_size(disassembly: bytes) -> int:
     """The bytes that an instruction of RISC-V loads or stores, by its mnemonic; 1 where that is none."""
-    mnemonic = disassembly.split(None, 1)[0] if disassembly else b""
+    mnemonic = (OPCODE.sub(b"", disassembly, count=1).split(None, 1) or [b""])[0]
     found = RISCV_PLAIN.fullmatch(mnemonic) or RISCV_ATOMIC.fullmatch(mnemonic)
     return RISCV_WIDTHS[found[1]] if found else 1
 
@@ -30,13 +33,16 @@ def fetched(opcode: int) -> int:
 
 
 def of_execlog(line: bytes) -> bytes:
-    """Of QEMU's plugin execlog: `cpu, 0xPC, 0xOPCODE, "disassembly"[, load|store, 0xADDRESS[, device]]..`."""
+    """Of QEMU's plugin execlog: `cpu, 0xPC, 0xOPCODE, "disassembly"[, load|store, 0xADDRESS[, DEVICE]]..`. Raises a
+    fault where there is a device: then QEMU emulates a whole system, and the address is a physical one."""
     found = EXECLOG.fullmatch(line)
     if not found:
         return line
     accesses = EXECLOG_ACCESS.findall(found[4])
+    if any(device for _, _, device in accesses):
+        raise Fault("the log is of a whole system, and has physical addresses: trace a program by qemu-riscv64 or such")
     size = riscv_size(found[3]) if accesses else 0
-    data = [b" %b %b,%d" % (b"L" if kind == b"load" else b"S", address, size) for kind, address in accesses]
+    data = [b" %b %b,%d" % (b"L" if kind == b"load" else b"S", address, size) for kind, address, _ in accesses]
     return b"\n".join([b"I  %b,%d" % (found[1], fetched(int(found[2], 16))), *data])
 
 

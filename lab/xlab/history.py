@@ -10,7 +10,7 @@ from intervaltree import IntervalTree
 
 from xlab.counting import counted
 from xlab.lackey import Block
-from xlab.scripts import Span
+from xlab.scripts import ANY, MOST_AREAS, Span, demand, everything
 from xlab.syscalls import Calls, Change, Emptied, Grown, Mapped, Moved, Protected, Unmapped
 from xlab.touches import Order, Touch, Touches, Use
 
@@ -168,3 +168,24 @@ class History:
         self._areas.chop(change.first, change.end)
         if protection is not None:
             self._areas.addi(change.to, change.to + change.end - change.first, protection)
+
+
+def huge(events: Iterable[Block | bytes], of_files: bool) -> Iterator[str]:
+    """The lines of areas of 2 MiB pages in whole aligned blocks of the memory that the program maps, that of files too
+    or only anonymous memory; and of one area of 4 KiB pages everywhere else. An area that comes first is the one that
+    serves; where there would be more than a script may have, the largest are taken."""
+    calls, areas = Calls(), IntervalTree()
+    for event in events:
+        for change in calls.changes(event) if isinstance(event, bytes) else ():
+            if isinstance(change, Mapped) and change.first < change.end and (of_files or change.anonymous):
+                areas.addi(change.first, change.end)
+    areas.merge_overlaps(strict=False)
+    per_block = Order.LARGE.pages
+    whole = [Span(-(-area.begin // per_block), area.end // per_block - -(-area.begin // per_block), Use.READ)
+             for area in sorted(areas)]  # fmt: skip
+    found = sorted((span for span in whole if span.count > 0), key=lambda span: -span.count)[: MOST_AREAS - 1]
+    blocks = sum(span.count for span in found)
+    yield f"# {counted(blocks, 'block')} of 2 MiB in {counted(len(found), 'area')}"
+    for span in sorted(found, key=lambda span: span.first):
+        yield demand(0, span.first, span.count, Order.LARGE, ANY)
+    yield everything(0, Order.SMALL)

@@ -5,7 +5,6 @@ from dataclasses import dataclass
 
 from xlab.lackey import Block
 from xlab.messages import Fault
-from xlab.syscalls import Calls, Mapped
 from xlab.touches import Order, Touches, Use
 
 MOST_BYTES = 1 << 20
@@ -115,25 +114,6 @@ class Touched:
             yield f"protect 0 {address} {self.order.value} {permission}"
             yield "space 1"
             yield f"run {length}"
-
-
-def huge(events: Iterable[Block | bytes], of_files: bool) -> Iterator[str]:
-    """The lines of areas of 2 MiB pages in whole aligned blocks of the memory that the program maps, that of files too
-    or only anonymous memory; and of one area of 4 KiB pages everywhere else."""
-    calls, uses, per_block = Calls(), dict[int, Use](), Order.LARGE.pages
-    for event in events:
-        for change in calls.changes(event) if isinstance(event, bytes) else ():
-            if isinstance(change, Mapped) and (of_files or change.anonymous):
-                uses.update(dict.fromkeys(range(change.first, change.end), Use.READ))
-    blocks: dict[int, Use] = {}
-    for span in spans(uses):
-        first, end = -(-span.first // per_block), span.end // per_block
-        blocks.update(dict.fromkeys(range(first, end), Use.READ))
-    found = sorted(spans(blocks), key=lambda span: -span.count)[: MOST_AREAS - 1]
-    yield f"# {sum(span.count for span in found)} blocks of 2 MiB in {len(found)} areas"
-    for span in sorted(found, key=lambda span: span.first):
-        yield demand(0, span.first, span.count, Order.LARGE, ANY)
-    yield everything(0, Order.SMALL)
 
 
 def spans(uses: dict[int, Use]) -> list[Span]:

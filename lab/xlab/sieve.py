@@ -104,15 +104,15 @@ class Sieve:
         if not self.skip and self.keep is None:
             return found
         units = np.flatnonzero(found.letter == FETCH) if self.unit is Unit.INSTRUCTIONS else np.arange(len(found))
-        first = _place(units, self.skip - self._passed, len(found))
+        first = _place(units, self.skip - self._passed, len(found)) if self.skip else 0
         last = len(found) if self.keep is None else _place(units, self.skip + self.keep - self._passed, len(found))
         self._passed += len(units)
         return found.part(first, last)
 
 
 def _place(units: Places, number: int, end: int) -> int:
-    """Where the unit of this number begins, among those of a block; its end where it comes later."""
-    return 0 if number <= 0 else int(units[number]) if number < len(units) else end
+    """Where the unit of this number begins, among those of a block; 0 where it has begun, its end where it comes later."""
+    return 0 if number < 0 else int(units[number]) if number < len(units) else end
 
 
 def parted(found: Block) -> Iterator[Block | bytes]:

@@ -14,7 +14,7 @@ from dataclasses import dataclass, field
 from xlab.messages import Fault, Status
 
 PATH = "/usr/bin:/bin"
-PIECE = 1 << 21
+PIECE = 1 << 19  # bytes that are handed on at a time
 WAITED = 0.2  # seconds between two looks at whether the program has ended
 
 

@@ -112,11 +112,10 @@ def _of_trace(words: argparse.Namespace) -> str:
 
 def _history(words: argparse.Namespace, events: Iterable[Block | bytes]) -> Iterable[str]:
     """The lines by the program's system calls."""
-    from xlab import scripts
-    from xlab.history import History
+    from xlab.history import History, huge
 
     if words.huge:
-        return scripts.huge(events, words.huge == "files")
+        return huge(events, words.huge == "files")
     history = History()
     history.read(events)
     return history.lines()
