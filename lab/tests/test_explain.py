@@ -2,9 +2,11 @@
 
 import gzip
 import pathlib
+import subprocess
 from dataclasses import dataclass, field
 
 import pytest
+from conftest import TOP
 
 from xlab import cli
 from xlab.explained import words
@@ -195,9 +197,10 @@ def test_what_is_well_needs_no_word(program, tmp_path, monkeypatch, capfd):
         assert said == "" and " ok=3 " in out
 
 
-def test_a_pipe_is_not_read_again(program, xlab, tmp_path):
+def test_a_pipe_is_not_read_again(program, tmp_path):
     (tmp_path / "c.toml").write_text(ROW)
-    ended = xlab("explain", "--config", "c.toml", "--trace", "/dev/stdin", stdin="hello\n", XLATE=program)
+    asked = [TOP / "xlab", "explain", "--config", "c.toml", "--trace", "/dev/stdin"]
+    ended = subprocess.run(asked, input="hello\n", capture_output=True, text=True, cwd=tmp_path)
     assert ended.returncode == 4 and "/dev/stdin:1: no record" in ended.stderr and "xlab records" in ended.stderr
 
 
