@@ -1,11 +1,10 @@
 """`xlab table`: rows of `xlate --json` as a table of what an architect asks for."""
 
 import argparse
-import fnmatch
 import json
 from typing import Any
 
-from xlab import measures, rowfiles
+from xlab import measures, rowfiles, sampled
 from xlab.helppage import Example
 from xlab.measures import MEASURES, Columns, FirstTouches, Sample, shown, shown_change
 from xlab.messages import Fault, Status, note
@@ -35,19 +34,9 @@ NEEDS = Needs(modules=("pandas", "tabulate"))
 
 def add_parser(parser: argparse.ArgumentParser) -> None:
     """Its words."""
-    parser.add_argument("files", nargs="+", metavar="[LABEL=]FILE", help="rows as JSON; - is standard input")
-    parser.add_argument("--config", action="append", default=[], metavar="FILE",
-                        help="the rows' configuration, which says the level of each array; else it is read off the counts")
-    parser.add_argument("--trace", action="append", default=[], metavar="[LABEL=]FILE", help="counts the trace's instructions")
-    parser.add_argument("--instructions", action="append", default=[], metavar="[LABEL=]N",
-                        help="the number of instructions; with --minus, of the part that is left")
-    parser.add_argument("--minus", action="append", default=[], metavar="[LABEL=]FILE",
-                        help="rows of the front of the same trace, which are taken off: the warm-up")
-    parser.add_argument("--first-touches", type=FirstTouches, choices=tuple(FirstTouches), default=FirstTouches.COUNTED,
-                        metavar="HOW", help="counted (as xlate does), once, or out")
+    sampled.add_words(parser)
     parser.add_argument("--columns", metavar="NAMES", help="in this order, with commas between")
     parser.add_argument("--base", metavar="ROW", help="the row against which changes are reckoned")
-    parser.add_argument("--rows", metavar="PATTERN", default="*", help="only rows with such names, as 'radix*'")
     parser.add_argument("--sort", metavar="COLUMN", help="least first; of several traces, by the first")
     parser.add_argument("--reverse", action="store_true", help="greatest first")
     parser.add_argument("--format", choices=("markdown", "csv", "json"), default="markdown")
@@ -56,38 +45,12 @@ def add_parser(parser: argparse.ArgumentParser) -> None:
 
 def run(words: argparse.Namespace) -> int:
     """Prints the table."""
-    samples = gathered(words)
+    samples = sampled.gathered(words)
     columns = chosen(words, samples)
     if words.format == "markdown" and words.first_touches is FirstTouches.COUNTED and any(it.first_touches for it in samples):
         note("first touches count twice, as xlate counts; --first-touches once or out takes that out")
     rowfiles.write(written(table(words, samples, columns), words.format), words.out)
     return Status.OK
-
-
-def gathered(words: argparse.Namespace) -> list[Sample]:
-    """The rows of all files, with levels and instructions."""
-    levels = {name: found for file in words.config for name, found in rowfiles.levels(file).items()}
-    samples = []
-    for trace, rows in rowfiles.by_trace(words.files).items():
-        warm = rowfiles.of_label(words.minus, trace)
-        count = instructions(words, trace)
-        for row in rowfiles.without(rows, rowfiles.read(warm), warm) if warm else rows:
-            own = tuple(levels.get(row["name"]) or measures.guessed_levels(row))
-            if len(own) != len(row["tlb"]):
-                raise Fault(f"row {row['name']} has {len(row['tlb'])} arrays, and in the configuration {len(own)}")
-            samples.append(Sample(trace, row, own, row.get("instructions", count), words.first_touches))
-    return samples
-
-
-def instructions(words: argparse.Namespace, trace: str) -> int | None:
-    """The instructions of a trace, as the words say."""
-    told = rowfiles.of_label(words.instructions, trace)
-    if told is not None and not (told.isdigit() and int(told) > 0):
-        raise Fault(f"--instructions {told}: a number is wanted", Status.USAGE)
-    file = rowfiles.of_label(words.trace, trace)
-    if told is None and file is not None and rowfiles.of_label(words.minus, trace):
-        raise Fault("with --minus, --instructions N says how many are left; --trace counts the whole trace", Status.USAGE)
-    return int(told) if told is not None else rowfiles.instructions(file) if file is not None else None
 
 
 def chosen(words: argparse.Namespace, samples: list[Sample]) -> Columns:
@@ -104,9 +67,7 @@ def table(words: argparse.Namespace, samples: list[Sample], columns: Columns) ->
     """A data frame with a line for each row, and the columns of all traces side by side."""
     import pandas
 
-    kept = [it for it in samples if fnmatch.fnmatch(it.row["name"], words.rows)]
-    if not kept:
-        raise Fault(f"--rows {words.rows}: no row has such a name", Status.USAGE)
+    kept = sampled.kept(samples, words.rows)
     traces = list(dict.fromkeys(it.trace for it in kept))
     lines: dict[str, dict[str, measures.Value]] = {}
     for it in kept:
