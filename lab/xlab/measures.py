@@ -88,12 +88,19 @@ def _per_thousand(count: Callable[[Sample], int]) -> Callable[[Sample], Value]:
     return lambda it: None if it.instructions is None else _ratio(1000 * count(it), it.instructions)
 
 
+def _per_accesses(count: Callable[[Sample], int]) -> Callable[[Sample], Value]:
+    return lambda it: _ratio(1000 * count(it), it.accesses())
+
+
 def _level(level: int) -> list[Measure]:
     def missed(it: Sample) -> int | None:
         return it.misses(level) if it.has(level) else None
 
     def mpki(it: Sample) -> Value:
         return _per_thousand(lambda it: it.misses(level))(it) if it.has(level) else None
+
+    def mpka(it: Sample) -> Value:
+        return _per_accesses(lambda it: it.misses(level))(it) if it.has(level) else None
 
     def rate(it: Sample) -> Value:
         above = it.accesses() if level == 1 else it.misses(level - 1)
@@ -102,6 +109,7 @@ def _level(level: int) -> list[Measure]:
     return [
         Measure(f"l{level}", f"L{level} misses", missed, "accesses that no array up to this level answered"),
         Measure(f"l{level}-mpki", f"L{level} MPKI", mpki, "those for each 1,000 instructions"),
+        Measure(f"l{level}-mpka", f"L{level} misses PKA", mpka, "those for each 1,000 accesses"),
         Measure(f"l{level}-rate", f"L{level} miss rate %", rate, "those for each 100 accesses that looked at the level"),
     ]
 
@@ -112,6 +120,7 @@ MEASURES = {
         *(measure for level in (1, 2, 3) for measure in _level(level)),
         Measure("walks", "walks", Sample.walks, "accesses that no level answered"),
         Measure("mpki", "walks PKI", _per_thousand(Sample.walks), "walks for each 1,000 instructions"),
+        Measure("mpka", "walks PKA", _per_accesses(Sample.walks), "walks for each 1,000 accesses"),
         Measure("walk-rate", "walk rate %", lambda it: _ratio(100 * it.walks(), it.accesses()), "walks for each 100 accesses"),
         Measure("reads", "reads", lambda it: it.row["reads"], "memory reads of all walks, also those of first touches"),
         Measure("rpki", "reads PKI", _per_thousand(lambda it: it.row["reads"]), "reads for each 1,000 instructions"),
@@ -123,6 +132,8 @@ MEASURES = {
         Measure("instructions", "instructions", lambda it: it.instructions, "the I records of the trace"),
     ]
 }
+UNITS = {"mpki": "per 1,000 instructions", "rpki": "per 1,000 instructions", "mpka": "per 1,000 accesses", "rate": "per cent",
+         "walk": "reads per walk", "access": "reads per access"}  # fmt: skip
 AGAINST = "%"  # behind a column's name: its change in per cent against the base row
 
 
@@ -155,6 +166,11 @@ def value(name: str, it: Sample) -> Value:
         return MEASURES[name].value(it)
     found = it.row.get(name)
     return found if isinstance(found, int | float | str | None) else str(found)
+
+
+def unit(name: str) -> str:
+    """The unit of a column: an axis has one."""
+    return UNITS.get(name.rsplit("-", 1)[-1], "count") if name in MEASURES else "count"
 
 
 def heading(name: str, base: str | None) -> str:
