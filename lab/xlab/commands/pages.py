@@ -2,10 +2,12 @@
 
 import argparse
 import difflib
-import html
+import os
 import pathlib
 import re
+import shlex
 import subprocess
+from concurrent.futures import ThreadPoolExecutor
 from dataclasses import dataclass
 
 from xlab import files, program
@@ -49,11 +51,10 @@ def add_parser(parser: argparse.ArgumentParser) -> None:
 def run(words: argparse.Namespace) -> int:
     """Compares the pages, or writes them."""
     other = 0
-    for name in each(words.pages, len(words.pages), " pages"):
-        page = read(pathlib.Path(name))
-        if words.write:
-            for command in PICTURE.findall(page.text):
-                output(command)
+    with ThreadPoolExecutor(os.cpu_count()) as workers:
+        read_all = workers.map(lambda name: read(pathlib.Path(name), words.write), words.pages)
+        pages = list(each(read_all, len(words.pages), " pages"))
+    for name, page in zip(words.pages, pages):
         if page.text == page.made:
             continue
         if words.write:
@@ -68,19 +69,22 @@ def run(words: argparse.Namespace) -> int:
     return Status.DATA if other else Status.OK
 
 
-def read(file: pathlib.Path) -> Page:
-    """A page with what its commands print."""
+def read(file: pathlib.Path, draws: bool) -> Page:
+    """A page with what its commands print; its pictures are drawn too where that is asked for."""
     text = file.read_text()
     if not FIGURES.search(text) and not PICTURE.search(text):
         raise Fault(f"{file} has no comment <!-- figures: COMMAND --> or <!-- picture: COMMAND -->")
     made = FIGURES.sub(lambda it: f"{it[1]}\n{output(it[2]).strip()}\n\n{it[4]}", text)
+    for command in PICTURE.findall(text) if draws else ():
+        output(command)
     return Page(file, text, made)
 
 
 def output(command: str) -> str:
     """What a command prints that is run at the top of the repository; a pipe fails where a part of it does."""
-    plain = html.unescape(" ".join(command.split()))
-    asked = ["bash", "-o", "pipefail", "-c", plain]
+    plain = " ".join(command.split())
+    own = plain.replace("./xlate ", f"{shlex.quote(program.xlate())} ")  # XLATE may name another program
+    asked = ["bash", "-o", "pipefail", "-c", own]
     ended = subprocess.run(asked, cwd=program.TOP, stdin=subprocess.DEVNULL, capture_output=True, text=True)
     if ended.returncode != 0:
         raise Fault(f"{plain}: status {ended.returncode}: {ended.stderr.strip()[-400:]}", Status.RUN)

@@ -57,13 +57,13 @@ def log_axis(axes: Any, which: str, values: Sequence[float]) -> bool:
     if far:
         getattr(axes, f"set_{which}scale")("log")
         getattr(axes, f"set_{which}lim")(min(positive) / 1.6, max(positive) * 1.8)
-        _plain_ticks(getattr(axes, f"{which}axis"), max(positive) / min(positive))
+        plain_ticks(getattr(axes, f"{which}axis"), max(positive) / min(positive))
     else:
         getattr(axes, f"set_{which}lim")(0, 1.1 * max(positive, default=1))
     return far
 
 
-def _plain_ticks(axis: Any, span: float) -> None:
+def plain_ticks(axis: Any, span: float) -> None:
     """Numbers in place of powers; where there are few decades, also at 2 and 5."""
     from matplotlib import ticker
 

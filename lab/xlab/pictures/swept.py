@@ -105,7 +105,8 @@ def heat(samples: list[Sample], name: str, x: str | None) -> Any:
         axes.set_xticks(range(len(columns)), [str(column) for column in columns])
         axes.set_yticks(range(len(designs)), designs)
         axes.set_xlabel(over)
-    figure.colorbar(shown, ax=list(panels), label=f"{_spoken(name)}, log scale", pad=0.02)
+    bar = figure.colorbar(shown, ax=list(panels), label=f"{_spoken(name)}, log scale", pad=0.02)
+    style.plain_ticks(bar.ax.yaxis, scale.vmax / scale.vmin)
     return figure
 
 
