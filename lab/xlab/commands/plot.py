@@ -22,9 +22,9 @@ marks and dashes differ, so that a picture can be printed in grey.
   curve   what xlate curve printed: misses by width, 1 to 64
 """
 EXAMPLES = (
-    Example("xlab plot rows tlbs.json --out tlbs.png", "misses of each level per 1,000 accesses"),
-    Example("xlab plot sweep study/rows.json --x tlb.2.sets --columns mpki --out study.svg", "a line for each design"),
-    Example("xlab plot rows hash=a.json sort=b.json --columns reads-access --out reads.pdf", "two traces, one scale"),
+    Example("xlab plot rows tlbs.json --output tlbs.png", "misses of each level per 1,000 accesses"),
+    Example("xlab plot sweep study/rows.json --x tlb.2.sets --columns mpki --output study.svg", "a line for each design"),
+    Example("xlab plot rows hash=a.json sort=b.json --columns reads-access --output reads.pdf", "two traces, one scale"),
 )
 NEEDS = Needs(modules=("matplotlib",))
 
@@ -36,7 +36,7 @@ def add_parser(parser: argparse.ArgumentParser) -> None:
     parser.add_argument("--columns", metavar="NAMES", help="as those of `xlab table`; a sweep and a map have one")
     parser.add_argument("--x", metavar="KEY", help="the key along the axis; by default the one with most values")
     parser.add_argument("--title", default="", help="above a picture of one trace")
-    parser.add_argument("--out", required=True, metavar="FILE", help="its ending chooses the form: .png, .svg or .pdf")
+    parser.add_argument("-o", "--output", dest="out", required=True, metavar="FILE", help="its ending chooses the form: .png, .svg or .pdf")
 
 
 def run(words: argparse.Namespace) -> int:

@@ -27,9 +27,9 @@ A picture is --plot KIND or KIND=COLUMNS, as xlab plot has them (rows, sweep, ma
 or its map where lines would be too many, and other rows their marks.
 """
 EXAMPLES = (
-    Example("xlab report study/rows.json --title 'A second-level TLB' --question 'Do 1,536 entries pay?' --out study.html",
+    Example("xlab report study/rows.json --title 'A second-level TLB' --question 'Do 1,536 entries pay?' --output study.html",
             "of a sweep"),
-    Example("xlab report rows.json --config my.toml --script my.script --trace my.trace --out my.html", "of one run"),
+    Example("xlab report rows.json --config my.toml --script my.script --trace my.trace --output my.html", "of one run"),
 )  # fmt: skip
 NEEDS = Needs(modules=("jinja2", "matplotlib"))
 MOST_MARKED = 40  # rows that a picture of marks is drawn of where none is asked for
@@ -67,7 +67,7 @@ def add_parser(parser: argparse.ArgumentParser) -> None:
     parser.add_argument("--base", metavar="ROW", help="the row against which changes are reckoned")
     parser.add_argument("--plot", action="append", default=[], metavar="KIND[=COLUMNS]", help="a picture: rows, sweep or map")
     parser.add_argument("--x", metavar="KEY", help="the key along the axis of a sweep's pictures")
-    parser.add_argument("--out", required=True, metavar="FILE", help="the page")
+    parser.add_argument("-o", "--output", dest="out", required=True, metavar="FILE", help="the page")
 
 
 def run(words: argparse.Namespace) -> int:

@@ -35,9 +35,9 @@ OUT/rows.json and OUT/rows.csv, each with its trace, the trace's instructions, a
 sweep and xlab report take them as they are.
 """
 EXAMPLES = (
-    Example("xlab sweep core.toml --set tlb.2.sets=32,64,128 --set tlb.2.width=4,12 --trace sqlite.trace.zst --out study",
+    Example("xlab sweep core.toml --set tlb.2.sets=32,64,128 --set tlb.2.width=4,12 --trace sqlite.trace.zst --output study",
             "six designs of each row of core.toml, rows in study/rows.json"),
-    Example("xlab sweep core.toml --set 'walk_caches=[0,0],[4,4]' --trace a=1.trace --trace b=2.trace --out s --slurm batch",
+    Example("xlab sweep core.toml --set 'walk_caches=[0,0],[4,4]' --trace a=1.trace --trace b=2.trace --output s --slurm batch",
             "on the partition batch of a Slurm cluster"),
 )  # fmt: skip
 NEEDS = Needs(modules=("tomli_w",), programs=("snakemake",))
@@ -51,7 +51,7 @@ def add_parser(parser: argparse.ArgumentParser) -> None:
                         help="a trace, plain or compressed")
     parser.add_argument("--script", action="append", default=[], metavar="[LABEL=]FILE",
                         help="the script of a trace, or of all; without it each page is mapped when it is first touched")
-    parser.add_argument("--out", required=True, metavar="FOLDER", help="where all that is made goes")
+    parser.add_argument("-o", "--output", dest="out", required=True, metavar="FOLDER", help="where all that is made goes")
     parser.add_argument("--rows", type=int, default=formats.MOST_ROWS, metavar="N",
                         help=f"rows a file, 1 to {formats.MOST_ROWS}; a file reads its trace once")
     parser.add_argument("--jobs", type=int, metavar="N", help="runs at a time; by default as many as there are processors")

@@ -40,7 +40,7 @@ def add_parser(parser: argparse.ArgumentParser) -> None:
     parser.add_argument("--sort", metavar="COLUMN", help="least first; of several traces, by the first")
     parser.add_argument("--reverse", action="store_true", help="greatest first")
     parser.add_argument("--format", choices=("markdown", "csv", "json"), default="markdown")
-    parser.add_argument("--out", metavar="FILE", help="in place of standard output")  # fmt: skip
+    parser.add_argument("-o", "--output", dest="out", metavar="FILE", help="in place of standard output")  # fmt: skip
 
 
 def run(words: argparse.Namespace) -> int:

@@ -90,7 +90,7 @@ def write(figure: Any, out: str) -> None:
     """The file of a picture, whole or not at all."""
     form = pathlib.Path(out).suffix
     if form not in FORMS:
-        raise Fault(f"--out {out}: its ending chooses the form: {', '.join(FORMS)}", Status.USAGE)
+        raise Fault(f"--output {out}: its ending chooses the form: {', '.join(FORMS)}", Status.USAGE)
     data = text_of(figure, form)
     with files.written(out) as file:
         file.write(data)
