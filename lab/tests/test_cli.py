@@ -19,7 +19,7 @@ def test_help_has_an_example(name, xlab):
     assert "examples:\n  xlab" in ended.stdout or "xlab " + name in ended.stdout.split("examples:")[1]
 
 
-@pytest.mark.parametrize("name", NAMES)
+@pytest.mark.parametrize("name", [name for name in NAMES if name != "explain"])  # it hands unknown words on
 def test_an_unknown_word_is_a_usage_fault(name, xlab):
     ended = xlab(name, "--no-such-word")
     assert ended.returncode == Status.USAGE

@@ -59,7 +59,7 @@ def parser() -> Parser:
         made = places.add_parser(name, help=module.SUMMARY, description=paragraphs(module.DESCRIPTION),
                                  epilog=shown(module.EXAMPLES), formatter_class=form)  # fmt: skip
         module.add_parser(made)
-        made.set_defaults(run=module.run, needs=module.NEEDS)
+        made.set_defaults(run=module.run, needs=module.NEEDS, passes_on=getattr(module, "PASSES_ON", False))
     return top
 
 
@@ -68,7 +68,7 @@ def main(argv: list[str]) -> int:
     top = parser()
     if COMPLETED in os.environ:
         complete(top, argv)
-    words = top.parse_args(argv)
+    words = read(top, argv)
     try:
         needs.begin_with(words.needs, argv)
         status = int(words.run(words))
@@ -79,6 +79,16 @@ def main(argv: list[str]) -> int:
     except KeyboardInterrupt:
         print(f"xlab {words.subcommand}: interrupted", file=sys.stderr)
         return Status.INTERRUPTED
+
+
+def read(top: Parser, argv: list[str]) -> argparse.Namespace:
+    """The words; of a subcommand that passes its words on, those that are no word of its own stand in front."""
+    words, rest = top.parse_known_args(argv)
+    if words.passes_on:
+        words.words = rest + words.words
+    elif rest:
+        top.error(f"unrecognized arguments: {' '.join(rest)}")
+    return words
 
 
 def complete(top: Parser, argv: list[str]) -> None:

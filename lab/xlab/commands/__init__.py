@@ -9,6 +9,8 @@ A subcommand's module has
 - `add_parser(parser)`: adds its words to a parser that has all of the above;
 - `run(words) -> int`: does the work, and gives the status. It raises `messages.Fault` where it can't.
 
+Where it has `PASSES_ON = True`, words that are none of its own are no fault, and stand in `words.words`.
+
 Libraries that are not Python's own are imported inside `run` or what it calls, so that `xlab --help` is quick and works
 where they are missing.
 """
