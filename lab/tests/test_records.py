@@ -59,6 +59,13 @@ def test_another_line_is_none(line):
     assert bytes(found.records().text()) == b"I  1,1\n L 2,1\n"
 
 
+@pytest.mark.parametrize(("text", "records"), [(b"", 0), (b"\n", 0), (b"a", 0), (b"\n\n", 0), (b"I  1,1", 0), (b" M 1,1\n", 1)])
+def test_the_shortest_texts(text, records):
+    found = lackey.block(text)
+    assert len(found.records()) == len(found.records().addresses()) == records
+    assert bytes(found.records().text()) == (text if records else b"")
+
+
 def test_xlate_takes_what_is_kept(program, tmp_path):
     mixed = [line for pair in zip(RECORDS * 2, OTHERS, strict=False) for line in pair]
     kept = b"".join(bytes(text) for text in sieve.Sieve().texts(["\n".join(mixed).encode() + b"\n"]))

@@ -7,7 +7,7 @@ import subprocess
 import pytest
 from conftest import EXAMPLES
 
-from xlab.messages import Status
+from xlab.messages import Fault, Status
 
 pytest.importorskip("numpy")
 pytest.importorskip("intervaltree")
@@ -185,10 +185,10 @@ def test_too_many_spans_are_joined():
     assert [(span.first, span.count) for span in scripts.joined(spans, 2)] == [(1, 6), (20, 1)]
 
 
-def test_a_script_that_is_too_long_is_refused(xlab):
-    trace = "".join(f"I  {page:x}000,1\n" for page in range(1, 80000, 2))
-    ended = xlab("script", "--touch", "-", stdin=trace)
-    assert ended.returncode == Status.DATA and "at most 1,048,576" in ended.stderr and ended.stdout == ""
+def test_a_script_that_is_too_long_is_refused():
+    assert len(scripts.whole(["x" * 1023] * 1024, "")) == 1 << 20
+    with pytest.raises(Fault, match="would have 1,048,577 bytes, and xlate reads at most 1,048,576: take less"):
+        scripts.whole(["x" * 1023] * 1023 + ["x" * 1024], "take less")
 
 
 @pytest.mark.parametrize(

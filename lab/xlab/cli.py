@@ -71,7 +71,7 @@ def main(argv: list[str]) -> int:
     words = read(top, argv)
     try:
         needs.begin_with(words.needs, argv)
-        status = words.run(words)
+        status = int(words.run(words))
         sys.stdout.flush()
         return status
     except Exception as fault:

@@ -23,7 +23,7 @@ def unpacked(name: str, salvage: bool = False) -> Iterator[BinaryIO]:
     """The bytes of a file, or of standard input where the name is `-`, unpacked where its first bytes say gzip or
     zstd. Where what is packed is cut off or broken this is a fault once it is read so far, or with `salvage` a note."""
     with sys.stdin.buffer if name == STANDARD else open(name, "rb") as file:
-        head = file.peek(4)[:4]
+        head = file.peek(4)[:4]  # type: ignore[attr-defined]
         packer = next((packer for magic, packer in PACKERS.items() if head.startswith(magic)), None)
         if packer is None:
             yield file

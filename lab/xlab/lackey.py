@@ -9,6 +9,7 @@ import enum
 import re
 from collections import Counter
 from dataclasses import dataclass, field
+from typing import Any
 
 import numpy as np
 from numpy.typing import NDArray
@@ -100,8 +101,8 @@ class Block:
     def part(self, first: int, last: int) -> "Block":
         """The lines from `first` on and before `last`, of a block that has records alone."""
         cut = slice(first, last)
-        parts = (it[cut] for it in (self.starts, self.ends, self.letter, self.comma, self.digits, self.size))
-        return Block(self.data, *parts)
+        places = self.starts[cut], self.ends[cut]
+        return Block(self.data, *places, self.letter[cut], self.comma[cut], self.digits[cut], self.size[cut])
 
     def addresses(self) -> Words:
         """The address of each record, where all lines are records."""
@@ -111,7 +112,7 @@ class Block:
         return low
 
 
-def _word(data: Bytes, kind: str, at: Places) -> NDArray[np.unsignedinteger]:
+def _word(data: Bytes, kind: str, at: Places) -> NDArray[Any]:
     """The unsigned words of a kind that begin at these places."""
     width = np.dtype(kind).itemsize
     return np.ndarray(len(data) - width + 1, kind, data, strides=(1,))[at]
@@ -132,7 +133,7 @@ def _value(data: Bytes, at: Places, digits: Places) -> Words:
 
 def block(text: bytes) -> Block:
     """The lines of a text, and which are records. A last line without a newline is cut off, and is no record."""
-    cut = not text.endswith(b"\n")
+    cut = bool(text) and not text.endswith(b"\n")
     data = np.frombuffer(b"".join((bytes(PAD), text, b"\n" if cut else b"", bytes(PAD))), np.uint8)
     special = np.flatnonzero(NOT_HEX[data[PAD:-PAD]]) + PAD
     of_line = np.flatnonzero(data[special] == NEWLINE)  # each line's newline, among the special places
@@ -143,9 +144,9 @@ def block(text: bytes) -> Block:
 
 def _as_lackey_writes(data: Bytes, special: Places, of_line: Places) -> Block:
     """The lines, and which are records as Lackey itself writes them: up to 15 digits, a size of one or two."""
-    newline, comma, third = special[of_line], special[of_line - 1], special[of_line - 2]
+    newline, comma, third = (special[np.maximum(of_line - back, 0)] for back in (0, 1, 2))
     ends = newline + 1
-    starts = np.concatenate(([PAD], ends[:-1]))
+    starts: Places = np.concatenate((np.array([PAD]), ends))[:-1]
     start = _word(data, "<u4", starts) & 0xFFFFFF
     letter = np.zeros(len(ends), np.uint8)
     for text, it in STARTS.items():

@@ -71,8 +71,9 @@ def bar(total: float | None, unit: str, what: str = "") -> Bar:
         from tqdm import tqdm
     except ModuleNotFoundError:
         return Silence()
-    scaled = unit == "B"
-    return tqdm(total=total, unit=unit, unit_scale=True, unit_divisor=1024 if scaled else 1000, desc=what, leave=False)
+    divisor = 1024 if unit == "B" else 1000
+    shown: Bar = tqdm(total=total, unit=unit, unit_scale=True, unit_divisor=divisor, desc=what or None, leave=False)
+    return shown
 
 
 def each(items: Iterable[T], total: int, unit: str, what: str = "") -> Iterable[T]:

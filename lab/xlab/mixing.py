@@ -1,6 +1,6 @@
 """Several traces by turns, each in a space of its own: the records one after another, and the script that goes along."""
 
-from collections.abc import Iterable, Iterator
+from collections.abc import Iterable, Iterator, Sequence
 from dataclasses import dataclass, field
 
 from xlab.lackey import Block
@@ -24,7 +24,9 @@ class Records:
     def take(self, most: int) -> Iterator[Block]:
         """The next records, at most so many, as blocks that have some; nothing at the end."""
         while most:
-            found = self._left if self._left is not None else next(self.blocks, None)
+            found, self._left = self._left, None
+            if found is None:
+                found = next(self.blocks, None)
             if found is None:
                 return
             taken = min(most, len(found))
@@ -69,7 +71,7 @@ class Mix:
     """Traces by turns of so many records; a trace that has ended has no more turns."""
 
     traces: list[Records]
-    scripts: list[Iterable[str]]
+    scripts: Sequence[Iterable[str]]
     turn: int
     fences: bool = False
     lines: list[str] = field(default_factory=list)  # of the script, once all texts are taken

@@ -44,4 +44,5 @@ def rows(config: str, script: str | None, trace: str | None, stdin: IO[bytes] | 
     if ended.returncode != 0:
         said = ended.stderr.decode(errors="replace").strip() or f"xlate ended with status {ended.returncode}"
         raise Fault(f"{said} (`xlab explain {' '.join(words[1:])}` says more)", Status.RUN)
-    return json.loads(ended.stdout)
+    found: list[Row] = json.loads(ended.stdout)
+    return found

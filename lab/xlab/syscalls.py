@@ -89,7 +89,9 @@ class Calls:
         if not found:
             return []
         thread, name, result = found[1], found["name"], found["result"]
-        call = (name, [_number(word) for word in found["words"].split(b",")]) if name else self._asked.pop(thread, None)
+        call = self._asked.pop(thread, None)
+        if name:
+            call = name, [_number(word) for word in found["words"].split(b",")]
         if call and result.endswith(b"..."):
             self._asked[thread] = call
         elif call and result.startswith(b"Success"):

@@ -123,10 +123,11 @@ def _history(words: argparse.Namespace, events: Iterable[Block | bytes]) -> Iter
 
 def _touched(words: argparse.Namespace, events: Iterable[Block | bytes]) -> Iterable[str]:
     """The lines by what the trace touches."""
+    from xlab.lackey import Block
     from xlab.scripts import Touched
     from xlab.touches import Order
 
-    touched = Touched.of(events, Order(words.order))
+    touched = Touched.of((event for event in events if isinstance(event, Block)), Order(words.order))
     spaces = 2 if words.turns else 1
     yield touched.head(spaces)
     if words.touch:

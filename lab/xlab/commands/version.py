@@ -62,5 +62,5 @@ def built(file: pathlib.Path, checksum: str) -> dict[str, str]:
     said = tomllib.loads(record.read_text()) if record.is_file() else {}
     own = said.get("checksum") == checksum
     found = {name: str(said.get(name, UNKNOWN)) if own else UNKNOWN for name in ("version", "commit", "kit")}
-    proved = {True: "proved", False: "unproved"}.get(said.get("proved") if own else None, UNKNOWN)
-    return found | {"proof": proved}
+    proved = said.get("proved") if own else None
+    return found | {"proof": UNKNOWN if proved is None else "proved" if proved else "unproved"}
