@@ -1,6 +1,7 @@
 """`xlab sweep`: many designs over many traces, as a workflow that can be broken off and run on a cluster."""
 
 import argparse
+import getpass
 import hashlib
 import json
 import os
@@ -13,6 +14,7 @@ from typing import Any
 
 from xlab import formats, program, rowfiles
 from xlab.commands import version
+from xlab.counting import counted
 from xlab.helppage import Example
 from xlab.messages import Fault, Status, bar, note
 from xlab.needs import Needs
@@ -74,7 +76,7 @@ def run(words: argparse.Namespace) -> int:
     todo = folder.plan(place, sources, configs, binary, checksum)
     folder.written(place.plan, json.dumps(todo | {"lab": str(program.LAB)}, indent=1))
     folder.written(place.path / "provenance.json", json.dumps(_provenance(words, todo), indent=1))
-    note(f"{len(found)} designs in {len(configs)} files, {len(todo['runs'])} runs")
+    note(f"{counted(len(found), 'design')} in {counted(len(configs), 'file')}, {counted(len(todo['runs']), 'run')}")
     ended = 0 if words.dry_run else _workflow(words, place, len(todo["runs"]) + len(sources))
     return _told(place, left_out, todo, ended, folder.gathered(place, sources, configs, found), words.dry_run)
 
@@ -138,8 +140,10 @@ def _workflow(words: argparse.Namespace, place: Folder, total: int) -> int:
         asked += ["--slurm", "--jobs", str(words.jobs or 100), "--default-resources", f"slurm_partition={words.slurm}"]
     else:
         asked += ["--cores", str(jobs)]
+    told = os.environ | {"USER": getpass.getuser()}  # Snakemake asks Slurm for the user's account
     with place.said.open("w") as said:
-        running = subprocess.Popen([*asked, *words.snakemake], stdout=said, stderr=subprocess.STDOUT, stdin=subprocess.DEVNULL)
+        running = subprocess.Popen([*asked, *words.snakemake], stdout=said, stderr=subprocess.STDOUT,
+                                   stdin=subprocess.DEVNULL, env=told)  # fmt: skip
         try:
             _watched(running, place, total)
         except KeyboardInterrupt:
@@ -174,14 +178,14 @@ def _told(place: Folder, left_out: list[str], todo: dict[str, Any], ended: int, 
         note(f"run {name} failed: {_message(place, name)}")
     if ended and not failed:
         note(f"snakemake ended with status {ended}: {_last(place.said)}")
-    note(f"{len(rows)} rows in {place.rows}" + (f", {len(failed)} runs are missing" if failed else ""))
+    note(f"{counted(len(rows), 'row')} in {place.rows}" + (f"; {counted(len(failed), 'run')} missing" if failed else ""))
     return Status.RUN if failed or ended else Status.DATA if left_out else Status.OK
 
 
 def _message(place: Folder, name: str) -> str:
     said = place.path / "runs" / f"{name}.said"
     text = said.read_text(errors="replace").strip() if said.exists() else ""
-    return text.splitlines()[-1] if text else f"see {place.said}"
+    return text.splitlines()[-1] if text else f"{_last(place.said)} (all that was said: {place.said})"
 
 
 def _last(file: pathlib.Path) -> str:
