@@ -1,5 +1,6 @@
 """All subcommands alike: help with an example, statuses, messages without a traceback."""
 
+import shutil
 import subprocess
 import sys
 
@@ -7,6 +8,7 @@ import pytest
 from conftest import TOP
 
 from xlab import cli, needs
+from xlab.commands import man
 from xlab.messages import Status
 
 NAMES = list(cli.subcommands())
@@ -60,3 +62,11 @@ def test_completions_come_from_the_parser(tmp_path):
     asked = "_ARGCOMPLETE=1 COMP_LINE='xlab vers' COMP_POINT=9 %s %s 8>&1 9>/dev/null"
     ended = subprocess.run(asked % (sys.executable, TOP / "xlab"), shell=True, capture_output=True, text=True)
     assert ended.stdout.strip() == "version"
+
+
+def test_man_pages_come_from_the_parser(tmp_path):
+    if not shutil.which("help2man"):
+        pytest.skip("help2man is not installed")
+    man.page("records", "keep whole records", tmp_path)
+    text = (tmp_path / "xlab-records.1").read_text()
+    assert "records \\- keep whole records" in text and ".SH SYNOPSIS" in text and "\\-\\-skip" in text

@@ -2,6 +2,7 @@
 
 import argparse
 import difflib
+import functools
 import importlib
 import os
 import pkgutil
@@ -52,7 +53,7 @@ def subcommands() -> dict[str, ModuleType]:
 
 def parser() -> Parser:
     """The parser of all words."""
-    form = argparse.RawDescriptionHelpFormatter
+    form = functools.partial(argparse.RawDescriptionHelpFormatter, max_help_position=26)
     top = Parser("xlab", description=ABOUT, epilog=shown((FIRST,)), formatter_class=form)
     places = top.add_subparsers(title="subcommands", metavar="SUBCOMMAND", dest="subcommand", required=True)
     for name, module in subcommands().items():
