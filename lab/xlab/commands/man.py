@@ -15,10 +15,14 @@ from xlab.needs import Needs
 
 SUMMARY = "make the man pages xlab.1, xlab-trace.1 and so on"
 DESCRIPTION = """
-Makes a man page of xlab and one of each subcommand from their own --help, by help2man, and writes them into a folder.
+Makes a man page of xlab and one of each subcommand from their own --help, by help2man, and writes
+them into a folder.
 """
 EXAMPLES = (
-    Example("xlab man ~/.local/share/man/man1", "man xlab-trace then shows what xlab trace --help says, and more"),
+    Example(
+        "xlab man ~/.local/share/man/man1",
+        "man xlab-trace then shows what xlab trace --help says, and more",
+    ),
 )
 NEEDS = Needs(programs=("help2man",))
 # help2man names a page by the program that it runs, and knows a synopsis by its capital letter
@@ -29,7 +33,9 @@ WRAPPER = """#!/bin/sh
 
 def add_parser(parser: argparse.ArgumentParser) -> None:
     """Its word is the folder."""
-    parser.add_argument("folder", metavar="FOLDER", type=pathlib.Path, help="where to write the pages; it is made")
+    parser.add_argument(
+        "folder", metavar="FOLDER", type=pathlib.Path, help="where to write the pages; it is made"
+    )
 
 
 def run(words: argparse.Namespace) -> int:
@@ -49,9 +55,17 @@ def page(subcommand: str, summary: str, folder: pathlib.Path) -> None:
     environment = os.environ | {"PYTHONPATH": _paths(), "COLUMNS": "1000"}
     with tempfile.TemporaryDirectory() as made:
         wrapper = pathlib.Path(made) / name
-        wrapper.write_text(WRAPPER.format(python=shlex.quote(sys.executable), subcommand=subcommand))
+        wrapper.write_text(
+            WRAPPER.format(python=shlex.quote(sys.executable), subcommand=subcommand)
+        )
         wrapper.chmod(0o755)
-        said = ["--no-info", "--version-string= ", f"--name={summary}", f"--output={folder / name}.1", str(wrapper)]
+        said = [
+            "--no-info",
+            "--version-string= ",
+            f"--name={summary}",
+            f"--output={folder / name}.1",
+            str(wrapper),
+        ]
         ended = subprocess.run(["help2man", *said], env=environment, capture_output=True, text=True)
     if ended.returncode != 0:
         raise Fault(f"help2man: {ended.stderr.strip()}", Status.RUN)
