@@ -173,6 +173,12 @@ def unit(name: str) -> str:
     return UNITS.get(name.rsplit("-", 1)[-1], "count") if name in MEASURES else "count"
 
 
+def spoken(name: str) -> str:
+    """A column in words, with its unit."""
+    note = MEASURES[name].note if name in MEASURES else name
+    return note.replace("for each", "per").replace("those", f"L{name[1]} misses")
+
+
 def heading(name: str, base: str | None) -> str:
     """The heading of a column."""
     if name.endswith(AGAINST):

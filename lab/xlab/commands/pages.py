@@ -10,7 +10,7 @@ import subprocess
 from concurrent.futures import ThreadPoolExecutor
 from dataclasses import dataclass
 
-from xlab import files, program
+from xlab import files, needs, program
 from xlab.helppage import Example
 from xlab.messages import Fault, Status, each, note
 from xlab.needs import Needs
@@ -85,7 +85,8 @@ def output(command: str) -> str:
     plain = " ".join(command.split())
     own = plain.replace("./xlate ", f"{shlex.quote(program.xlate())} ")  # XLATE may name another program
     asked = ["bash", "-o", "pipefail", "-c", own]
-    ended = subprocess.run(asked, cwd=program.TOP, stdin=subprocess.DEVNULL, capture_output=True, text=True)
+    told = {name: value for name, value in os.environ.items() if name != needs.AGAIN}  # an xlab in it finds its own Python
+    ended = subprocess.run(asked, cwd=program.TOP, stdin=subprocess.DEVNULL, capture_output=True, text=True, env=told)
     if ended.returncode != 0:
         raise Fault(f"{plain}: status {ended.returncode}: {ended.stderr.strip()[-400:]}", Status.RUN)
     return ended.stdout

@@ -33,6 +33,7 @@ EXAMPLES = (
 )  # fmt: skip
 NEEDS = Needs(modules=("jinja2", "matplotlib"))
 MOST_MARKED = 40  # rows that a picture of marks is drawn of where none is asked for
+PROOF = {"proved": "proved: what it prints is what the written definitions give", "unproved": "not proved"}
 HOW = {
     FirstTouches.COUNTED: "Counts are those of xlate: a page mapped on demand is missed twice at its first touch.",
     FirstTouches.ONCE: "A page's first touch counts once.",
@@ -86,7 +87,7 @@ def page(words: argparse.Namespace, samples: list[Sample]) -> str:
     text = pathlib.Path(origins.__file__).with_name("study.html.j2").read_text()
     return jinja2.Environment(autoescape=True, undefined=jinja2.StrictUndefined).from_string(text).render(
         title=words.title, question=question(words.question), rows=rows, heads=heads, pictures=pictures(words, samples),
-        reckoned=HOW[words.first_touches], source=", ".join(words.files), designs=designs(words), origins=found, proof=proof,
+        reckoned=HOW[words.first_touches], source=", ".join(words.files), designs=designs(words), origins=found, proof=PROOF.get(proof, "one of which nothing says whether it is proved"),
         command=shlex.join(["xlab", *sys.argv[1:]]),
     )  # fmt: skip
 
@@ -107,7 +108,7 @@ def table(words: argparse.Namespace, samples: list[Sample]) -> tuple[list[dict[s
     rows = [[cell(it.trace), *(cell(it.row.get(key)) for key in front[1:]), *(cell(columns.cell(name, it)) for name in shown)]
             for it in samples]  # fmt: skip
     heads = [*("row" if key == "name" else key for key in front), *(measures.heading(name, words.base) for name in shown)]
-    return [{"name": head, "text": all(row[at].is_text for row in rows)} for at, head in enumerate(heads)], rows
+    return [{"name": head, "text": all(row[at].is_text or not row[at].value for row in rows)} for at, head in enumerate(heads)], rows
 
 
 def cell(value: Value | list[Any]) -> Cell:
@@ -138,8 +139,14 @@ def picture(words: argparse.Namespace, samples: list[Sample], kind: str, names: 
         raise Fault(f"--plot {kind}: rows, sweep or map is wanted", Status.USAGE)
     columns = measures.checked(names.split(","), samples, None) if names else plot.usual(kind, samples)
     drawn = plot.figure(kind, samples, columns, words.x)
-    shown = ", ".join(measures.heading(name, None) for name in (columns if kind == "rows" else columns[:1]))
-    return Picture(base64.b64encode(style.text_of(drawn, ".svg")).decode(), f"{shown}. {HOW[words.first_touches]}")
+    return Picture(base64.b64encode(style.text_of(drawn, ".svg")).decode(), f"{caption(kind, samples, columns, words.x)}. {HOW[words.first_touches]}")
+
+
+def caption(kind: str, samples: list[Sample], columns: list[str], x: str | None) -> str:
+    """What a picture shows, in words."""
+    if kind != "rows":
+        return f"{measures.spoken(columns[0])}, by {swept.axis_of(samples, x)}, of each design and trace"
+    return f"{'; '.join(measures.spoken(name) for name in columns)}, of each row"
 
 
 def designs(words: argparse.Namespace) -> list[dict[str, str]]:

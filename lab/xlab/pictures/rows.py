@@ -13,9 +13,10 @@ def drawn(samples: list[Sample], names: list[str], title: str = "") -> Any:
     units = dict.fromkeys(measures.unit(name) for name in names)
     if len(units) > 1:
         raise Fault(f"one axis has one unit, and these columns have {', '.join(units)}", Status.USAGE)
+    names = [name for name in names if any(_shows(it, name) for it in samples)] or names
     traces = list(dict.fromkeys(it.trace for it in samples))
     rows = list(dict.fromkeys(it.row["name"] for it in samples))
-    figure, panels = style.panels(len(traces), 2.8 + 4.2 * len(traces), 1.2 + 0.23 * len(rows), layout="constrained")
+    figure, panels = style.panels(len(traces), 3.4 + (3.6 if len(traces) == 1 else 2.6) * len(traces), 1.2 + 0.23 * len(rows), layout="constrained")
     values = [value for it in samples for value in _values(it, names)]
     far = style.log_axis(panels[0], "x", values)
     for axes, trace in zip(panels, traces):
@@ -54,6 +55,11 @@ def _is_last(it: Sample, name: str) -> bool:
     return name[0] == "l" and name[1:2] == str(max(it.levels, default=0))
 
 
+def _shows(it: Sample, name: str) -> bool:
+    """Whether a row has a mark for this column: not where it is the walks again."""
+    return not _is_last(it, name) and measures.value(name, it) is not None
+
+
 def _values(it: Sample, names: list[str]) -> list[float]:
     found = [measures.value(name, it) for name in names]
     return [value for value in found if isinstance(value, int | float)]
@@ -63,7 +69,7 @@ def _panel(axes: Any, samples: list[Sample], rows: list[str], names: list[str], 
     """The marks of one trace, with the number beside the last one of a row."""
     shades = style.colours(len(names))
     for at, name in enumerate(names):
-        own = [it for it in samples if len(names) == 1 or not _is_last(it, name)]
+        own = [it for it in samples if len(names) == 1 or _shows(it, name)]
         found = [(measures.value(name, it), rows.index(it.row["name"])) for it in own]
         known = [(value, y) for value, y in found if isinstance(value, int | float)]
         seen = [(value, y) for value, y in known if value > 0 or not far]
@@ -72,7 +78,7 @@ def _panel(axes: Any, samples: list[Sample], rows: list[str], names: list[str], 
         if len(names) == 1:
             _numbers(axes, known, far)
         else:
-            _zeros(axes, [y for value, y in known if value == 0 and far])
+            _zeros(axes, [y for value, y in known if value == 0 and far], _bare(name))
 
 
 def _numbers(axes: Any, known: list[tuple[Any, int]], far: bool) -> None:
@@ -81,10 +87,10 @@ def _numbers(axes: Any, known: list[tuple[Any, int]], far: bool) -> None:
         axes.annotate(_short(value), place, (6, 0), textcoords="offset points", va="center", fontsize=7)
 
 
-def _zeros(axes: Any, lines: list[int]) -> None:
-    """Says 0 at the edge of a log axis, where a mark has no place."""
+def _zeros(axes: Any, lines: list[int], head: str) -> None:
+    """Says what is 0 at the edge of a log axis, where a mark has no place."""
     for y in lines:
-        axes.annotate("0", (axes.get_xlim()[0], y), (2, 0), textcoords="offset points", va="center", fontsize=7)
+        axes.annotate(f"{head}: 0", (axes.get_xlim()[0], y), (2, 0), textcoords="offset points", va="center", fontsize=7)
 
 
 def _short(value: float) -> str:

@@ -60,14 +60,9 @@ def lines(samples: list[Sample], name: str, x: str | None, title: str = "") -> A
         axes.set_title(trace if len(traces) > 1 else title or trace, fontsize=9)
         axes.set_xticks(range(len(ticks)), [str(tick) for tick in ticks], rotation=0 if len(str(ticks)) < 60 else 45)
         axes.set_xlabel(over)
-    panels[0].set_ylabel(f"{_spoken(name)}{', log scale' if far else ''}")
+    panels[0].set_ylabel(f"{measures.spoken(name)}{', log scale' if far else ''}")
     style.legend(panels)
     return figure
-
-
-def _spoken(name: str) -> str:
-    note = measures.MEASURES[name].note if name in measures.MEASURES else name
-    return note.replace("for each", "per").replace("those", f"{name[:2].upper()} misses")
 
 
 def _place(value: Any) -> Any:
@@ -105,7 +100,7 @@ def heat(samples: list[Sample], name: str, x: str | None) -> Any:
         axes.set_xticks(range(len(columns)), [str(column) for column in columns])
         axes.set_yticks(range(len(designs)), designs)
         axes.set_xlabel(over)
-    bar = figure.colorbar(shown, ax=list(panels), label=f"{_spoken(name)}, log scale", pad=0.02)
+    bar = figure.colorbar(shown, ax=list(panels), label=f"{measures.spoken(name)}, log scale", pad=0.02)
     style.plain_ticks(bar.ax.yaxis, scale.vmax / scale.vmin)
     return figure
 
