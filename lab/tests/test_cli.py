@@ -55,7 +55,7 @@ def test_what_is_missing_is_named_with_its_package():
     lacking = needs.missing(needs.Needs(modules=("no_such_module",), programs=("no-such-program",)))
     assert needs.said(lacking) == (
         "Python's no_such_module and no-such-program are not installed: "
-        "apt-get install python3-no_such_module no-such-program"
+        "apt-get install python3-no-such-module no-such-program"
     )
 
 

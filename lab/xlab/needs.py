@@ -33,11 +33,14 @@ class Needs:
 
 def packages(missing: Needs) -> list[str]:
     """Debian's packages for what is missing, each once."""
-    of_modules = [
-        MODULE_PACKAGES.get(name, f"python3-{name.split('.')[0]}") for name in missing.modules
-    ]
+    of_modules = [MODULE_PACKAGES.get(name, _of_module(name)) for name in missing.modules]
     of_programs = [PROGRAM_PACKAGES.get(name, name) for name in missing.programs]
     return list(dict.fromkeys([*of_modules, *of_programs]))
+
+
+def _of_module(name: str) -> str:
+    """Debian's package of a module that has no other name there."""
+    return f"python3-{name.split('.')[0].replace('_', '-').lower()}"
 
 
 def missing(needs: Needs) -> Needs:
