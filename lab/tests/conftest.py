@@ -1,4 +1,5 @@
-"""What the tests share: `xlab` run in this process, the program, and the small traces of the repository."""
+"""What the tests share: `xlab` run in this process, the program, and the small traces of the
+repository."""
 
 import io
 import os
@@ -29,8 +30,11 @@ Xlab = Callable[..., Ended]
 
 
 @pytest.fixture
-def xlab(tmp_path: pathlib.Path, monkeypatch: pytest.MonkeyPatch, capfd: pytest.CaptureFixture[str]) -> Xlab:
-    """Runs `xlab` on words, in this process and in a folder of the test's own; `stdin` is a text, if anything."""
+def xlab(
+    tmp_path: pathlib.Path, monkeypatch: pytest.MonkeyPatch, capfd: pytest.CaptureFixture[str]
+) -> Xlab:
+    """Runs `xlab` on words, in this process and in a folder of the test's own; `stdin` is a
+    text, if anything."""
 
     def run(*words: object, stdin: str = "", **environment: str) -> Ended:
         monkeypatch.chdir(tmp_path)
@@ -50,7 +54,8 @@ def xlab(tmp_path: pathlib.Path, monkeypatch: pytest.MonkeyPatch, capfd: pytest.
 
 @pytest.fixture
 def program(monkeypatch: pytest.MonkeyPatch) -> str:
-    """The program `xlate`, where it is built; a test that wants it is skipped else. XLATE names it for `xlab` too."""
+    """The program `xlate`, where it is built; a test that wants it is skipped else. XLATE names
+    it for `xlab` too."""
     named = os.environ.get("XLATE", str(TOP / "out" / "xlate"))
     if not os.access(named, os.X_OK):
         pytest.skip("the program xlate is not built, and XLATE names none")

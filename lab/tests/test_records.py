@@ -1,4 +1,5 @@
-"""`xlab records`: which lines are records, windows, what is dropped and counted, packed files, other tools' traces."""
+"""`xlab records`: which lines are records, windows, what is dropped and counted, packed files,
+other tools' traces."""
 
 import pathlib
 import re
@@ -18,8 +19,19 @@ SAMPLES = pathlib.Path(__file__).parent / "samples"
 SMALL = EXAMPLES / "small.trace"
 
 # docs/FORMATS.md's forms of a record, and its examples of what is none
-RECORDS = ["I  0401ab70,3", " L 1ffefffa50,8", " S 04034298,16", " M 4,1", "\tI\t10,0", "L 0,065536", " L ffffffffffffffff,0",
-           "I ABCDEF,1 # one", "I  00000000401ab70f,003  ", " M fffffffffffffff,99", "I  10,1\r"]  # fmt: skip
+RECORDS = [
+    "I  0401ab70,3",
+    " L 1ffefffa50,8",
+    " S 04034298,16",
+    " M 4,1",
+    "\tI\t10,0",
+    "L 0,065536",
+    " L ffffffffffffffff,0",
+    "I ABCDEF,1 # one",
+    "I  00000000401ab70f,003  ",
+    " M fffffffffffffff,99",
+    "I  10,1\r",
+]
 OTHERS = {
     " L 0, 1": lackey.Other.ELSE,
     " L 10 ,1": lackey.Other.ELSE,
@@ -59,7 +71,10 @@ def test_another_line_is_none(line):
     assert bytes(found.records().text()) == b"I  1,1\n L 2,1\n"
 
 
-@pytest.mark.parametrize(("text", "records"), [(b"", 0), (b"\n", 0), (b"a", 0), (b"\n\n", 0), (b"I  1,1", 0), (b" M 1,1\n", 1)])
+@pytest.mark.parametrize(
+    ("text", "records"),
+    [(b"", 0), (b"\n", 0), (b"a", 0), (b"\n\n", 0), (b"I  1,1", 0), (b" M 1,1\n", 1)],
+)
 def test_the_shortest_texts(text, records):
     found = lackey.block(text)
     assert len(found.records()) == len(found.records().addresses()) == records
@@ -68,7 +83,9 @@ def test_the_shortest_texts(text, records):
 
 def test_xlate_takes_what_is_kept(program, tmp_path):
     mixed = [line for pair in zip(RECORDS * 2, OTHERS, strict=False) for line in pair]
-    kept = b"".join(bytes(text) for text in sieve.Sieve().texts(["\n".join(mixed).encode() + b"\n"]))
+    kept = b"".join(
+        bytes(text) for text in sieve.Sieve().texts(["\n".join(mixed).encode() + b"\n"])
+    )
     (tmp_path / "trace").write_bytes(kept)
     words = ["--config", EXAMPLES / "primes.toml", "--trace", tmp_path / "trace", "--answers"]
     ended = subprocess.run([program, *words], capture_output=True, text=True)
@@ -86,7 +103,10 @@ def test_all_addresses_of_a_trace():
 def test_a_line_cut_off_is_dropped(xlab):
     ended = xlab("records", stdin="I  1,1\n L 2,1\nI  0401a")
     assert ended.stdout == "I  1,1\n L 2,1\n" and ended.returncode == 0
-    assert "2 records kept, 1 instruction\n" in ended.stderr and "dropped 1 line cut off at the end" in ended.stderr
+    assert (
+        "2 records kept, 1 instruction\n" in ended.stderr
+        and "dropped 1 line cut off at the end" in ended.stderr
+    )
 
 
 @pytest.mark.parametrize(
@@ -124,7 +144,9 @@ def test_it_stops_before_the_most_bytes():
 
 def test_system_calls_stay_as_comments(xlab):
     call = "SYSCALL[7,1](12) sys_brk ( 0x0 ) --> [pre-success] Success(0x4035000) "
-    ended = xlab("records", "--syscalls", "--skip", "1", stdin=f"I  1,1\n{call}\nI  2,1\n# {call}\n")
+    ended = xlab(
+        "records", "--syscalls", "--skip", "1", stdin=f"I  1,1\n{call}\nI  2,1\n# {call}\n"
+    )
     assert ended.stdout == f"# {call}\nI  2,1\n# {call}\n" and "dropped" not in ended.stderr
 
 
@@ -143,9 +165,16 @@ def test_packed_files(packer, xlab, tmp_path):
 def test_a_packed_pipe():
     packed = subprocess.Popen(["gzip", "-c", SMALL], stdout=subprocess.PIPE)
     taken = subprocess.run(
-        [sys.executable, "-c", "import sys; sys.path.insert(0, sys.argv[1]); from xlab import files\n"
-         "with files.unpacked('-') as file: sys.stdout.buffer.write(file.read())", str(EXAMPLES.parent / "lab")],
-        stdin=packed.stdout, capture_output=True)  # fmt: skip
+        [
+            sys.executable,
+            "-c",
+            "import sys; sys.path.insert(0, sys.argv[1]); from xlab import files\n"
+            "with files.unpacked('-') as file: sys.stdout.buffer.write(file.read())",
+            str(EXAMPLES.parent / "lab"),
+        ],
+        stdin=packed.stdout,
+        capture_output=True,
+    )
     assert packed.wait() == 0 and taken.stdout == SMALL.read_bytes()
 
 
@@ -160,13 +189,25 @@ def test_a_file_is_written_whole_or_not_at_all(tmp_path):
 
 def test_a_file_that_is_not_there(xlab):
     ended = xlab("records", "nowhere")
-    assert ended.returncode == Status.NO_INPUT and ended.stderr == "xlab records: nowhere: No such file or directory\n"
+    assert (
+        ended.returncode == Status.NO_INPUT
+        and ended.stderr == "xlab records: nowhere: No such file or directory\n"
+    )
 
 
 def test_execlog(xlab):
     text = xlab("records", "--from", "execlog", SAMPLES / "execlog.txt").stdout
-    assert text.splitlines()[:9] == ["I  11218,4", "I  1121c,4", " L 00012258,8", "I  11220,2", "I  11222,2", " L 00015000,8",
-                                     "I  11224,2", "I  11226,2", " S 00015000,8"]  # fmt: skip
+    assert text.splitlines()[:9] == [
+        "I  11218,4",
+        "I  1121c,4",
+        " L 00012258,8",
+        "I  11220,2",
+        "I  11222,2",
+        " L 00015000,8",
+        "I  11224,2",
+        "I  11226,2",
+        " S 00015000,8",
+    ]
     assert "I  11230,4\n L 00015000,4\n S 00015000,4\n" in text  # amoadd.w
 
 
@@ -178,8 +219,14 @@ def test_execlog_of_a_whole_system_is_refused(xlab):
 
 def test_view(xlab):
     ended = xlab("records", "--from", "drmemtrace", SAMPLES / "view.txt")
-    assert ended.stdout.splitlines() == ["I  7f86ef03d107,3", "I  7f86ef03d10a,5", " S 7ffe5a7d4a48,8", "I  7f86ef03ddd0,2",
-                                         " L 7ffe5a7d4a50,1", " S 7ffe5a7d4a60,1"]  # fmt: skip
+    assert ended.stdout.splitlines() == [
+        "I  7f86ef03d107,3",
+        "I  7f86ef03d10a,5",
+        " S 7ffe5a7d4a48,8",
+        "I  7f86ef03ddd0,2",
+        " L 7ffe5a7d4a50,1",
+        " S 7ffe5a7d4a60,1",
+    ]
 
 
 def test_pinatrace(xlab):

@@ -1,4 +1,5 @@
-"""`xlab script`: one line for all, touched pages, first touches, the real history, pages of 2 MiB, turns."""
+"""`xlab script`: one line for all, touched pages, first touches, the real history, pages of 2
+MiB, turns."""
 
 import json
 import re
@@ -50,7 +51,9 @@ def test_any_script_is_kept_beside_the_examples(xlab):
 
 
 def test_touched_pages_by_hand(xlab):
-    ended = xlab("script", "-", stdin="I  1000,4\n L 2ffe,4\n S 4000,8\nI  5ffe,4\nhello\n M 10000,1\n")
+    ended = xlab(
+        "script", "-", stdin="I  1000,4\n L 2ffe,4\n S 4000,8\nI  5ffe,4\nhello\n M 10000,1\n"
+    )
     assert ended.stdout.splitlines() == [
         "# 7 blocks of 4k in 5 runs: 7 frames are wanted",
         "demand 0 1000 1 4k r-xu",
@@ -62,7 +65,9 @@ def test_touched_pages_by_hand(xlab):
     ]
 
 
-@pytest.mark.parametrize(("words", "pages"), [(["--maps"], 64), (["--touch"], 64), (["--touch", "--order", "2m"], 2)])
+@pytest.mark.parametrize(
+    ("words", "pages"), [(["--maps"], 64), (["--touch"], 64), (["--touch", "--order", "2m"], 2)]
+)
 def test_nothing_counts_twice(words, pages, xlab, row):
     xlab("script", *words, "-o", "my.script", SMALL)
     counts = row("my.script", SMALL)
@@ -155,28 +160,49 @@ def test_the_real_history_wants_system_calls(xlab):
     [
         ("sys_munmap ( 0x1000, 1 )[sync] --> Success(0x0)", [syscalls.Unmapped(1, 2)]),
         ("sys_munmap ( 0x1000, 1 )[sync] --> Failure(0x16)", []),
-        ("sys_mmap ( 0x0, 5, 5, 2, 3, 0 ) --> [pre-success] Success(0x9000)", [syscalls.Mapped(9, 10, 5, False)]),
-        ("sys_mremap ( 0x4000, 16384, 4096, 0x0 ) --> [pre-success] Success(0x4000)", [syscalls.Unmapped(5, 8)]),
-        ("sys_mremap ( 0x4000, 4096, 8192, 0x0 ) --> [pre-success] Success(0x4000)", [syscalls.Grown(5, 6, 4)]),
-        ("sys_mremap ( 0x4000, 4096, 4096, 0x3, 0x8000 ) --> [pre-success] Success(0x8000)",
-         [syscalls.Unmapped(8, 9), syscalls.Moved(4, 5, 8)]),
+        (
+            "sys_mmap ( 0x0, 5, 5, 2, 3, 0 ) --> [pre-success] Success(0x9000)",
+            [syscalls.Mapped(9, 10, 5, False)],
+        ),
+        (
+            "sys_mremap ( 0x4000, 16384, 4096, 0x0 ) --> [pre-success] Success(0x4000)",
+            [syscalls.Unmapped(5, 8)],
+        ),
+        (
+            "sys_mremap ( 0x4000, 4096, 8192, 0x0 ) --> [pre-success] Success(0x4000)",
+            [syscalls.Grown(5, 6, 4)],
+        ),
+        (
+            "sys_mremap ( 0x4000, 4096, 4096, 0x3, 0x8000 ) --> [pre-success] Success(0x8000)",
+            [syscalls.Unmapped(8, 9), syscalls.Moved(4, 5, 8)],
+        ),
         ("sys_read ( 4, 0x1ffefff408, 832 ) --> [async] ...", []),
     ],
-)  # fmt: skip
+)
 def test_a_system_call(line, changes):
     for head in ("SYSCALL[7,1](  9) ", "# SYSCALL[7,1](9) "):
         assert syscalls.Calls().changes((head + line).encode()) == changes
 
 
 def test_pages_of_2_mib(xlab):
-    maps = [("0x4a00000", 0x400000, 0x22), ("0x5001000", 0x200000, 0x22), ("0x6000000", 0x600000, 2)]
-    calls = "".join(f"SYSCALL[7,1](9) sys_mmap ( 0x0, {size}, 3, {flags}, 3, 0 ) --> [pre-success] Success({at})\n"
-                    for at, size, flags in maps)  # fmt: skip
+    maps = [
+        ("0x4a00000", 0x400000, 0x22),
+        ("0x5001000", 0x200000, 0x22),
+        ("0x6000000", 0x600000, 2),
+    ]
+    calls = "".join(
+        f"SYSCALL[7,1](9) sys_mmap ( 0x0, {size}, 3, {flags}, 3, 0 ) --> [pre-success] Success({at})\n"
+        for at, size, flags in maps
+    )
     everywhere = "demand 0 0 17592186044416 4k rwxu"
     anon = xlab("script", "--huge", "anon", "-", stdin=f"{calls}I  1,1\n").stdout.splitlines()
     assert anon == ["# 2 blocks of 2 MiB in 1 area", "demand 0 4a00000 1024 2m rwxu", everywhere]
     of_files = xlab("script", "--huge", "files", "-", stdin=f"{calls}I  1,1\n").stdout.splitlines()
-    assert of_files[1:] == ["demand 0 4a00000 1024 2m rwxu", "demand 0 6000000 1536 2m rwxu", everywhere]
+    assert of_files[1:] == [
+        "demand 0 4a00000 1024 2m rwxu",
+        "demand 0 6000000 1536 2m rwxu",
+        everywhere,
+    ]
     assert xlab("script", "--huge", "all").stdout == everywhere.replace("4k", "2m") + "\n"
 
 
@@ -187,12 +213,20 @@ def test_too_many_spans_are_joined():
 
 def test_a_script_that_is_too_long_is_refused():
     assert len(scripts.whole(["x" * 1023] * 1024, "")) == 1 << 20
-    with pytest.raises(Fault, match="would have 1,048,577 bytes, and xlate reads at most 1,048,576: take less"):
+    with pytest.raises(
+        Fault, match="would have 1,048,577 bytes, and xlate reads at most 1,048,576: take less"
+    ):
         scripts.whole(["x" * 1023] * 1023 + ["x" * 1024], "take less")
 
 
 @pytest.mark.parametrize(
-    "words", [["--touch"], ["--huge", "anon"], ["--syscalls", "--order", "2m", "x"], ["--touch", "--turns", "4", "x"]]
+    "words",
+    [
+        ["--touch"],
+        ["--huge", "anon"],
+        ["--syscalls", "--order", "2m", "x"],
+        ["--touch", "--turns", "4", "x"],
+    ],
 )
 def test_words_at_odds(words, xlab):
     assert xlab("script", *words).returncode == Status.USAGE

@@ -1,7 +1,9 @@
-"""The words of `xlab`: one parser from all the subcommands, which also makes help, man pages and completions."""
+"""The words of `xlab`: one parser from all the subcommands, which also makes help, man pages and
+completions."""
 
 import argparse
 import difflib
+import functools
 import importlib
 import os
 import pkgutil
@@ -31,11 +33,18 @@ class Parser(argparse.ArgumentParser):
 
     def error(self, message: str) -> NoReturn:
         """Says the message and where help is, and ends."""
-        print(f"{self.prog}: {message}{self._meant(message)}; `{self.prog} --help` shows its words", file=sys.stderr)
+        print(
+            f"{self.prog}: {message}{self._meant(message)}; `{self.prog} --help` shows its words",
+            file=sys.stderr,
+        )
         sys.exit(Status.USAGE)
 
     def _meant(self, message: str) -> str:
-        known = [word for action in self._actions for word in (*action.option_strings, *(action.choices or ()))]
+        known = [
+            word
+            for action in self._actions
+            for word in (*action.option_strings, *(action.choices or ()))
+        ]
         unknown = [word.strip("'") for word in message.split() if word.strip("'") not in known]
         for word in unknown if "unrecognized" in message or "invalid choice" in message else ():
             near = difflib.get_close_matches(word, map(str, known), 1)
@@ -52,19 +61,29 @@ def subcommands() -> dict[str, ModuleType]:
 
 def parser() -> Parser:
     """The parser of all words."""
-    form = argparse.RawDescriptionHelpFormatter
+    form = functools.partial(argparse.RawDescriptionHelpFormatter, max_help_position=26)
     top = Parser("xlab", description=ABOUT, epilog=shown((FIRST,)), formatter_class=form)
-    places = top.add_subparsers(title="subcommands", metavar="SUBCOMMAND", dest="subcommand", required=True)
+    places = top.add_subparsers(
+        title="subcommands", metavar="SUBCOMMAND", dest="subcommand", required=True
+    )
     for name, module in subcommands().items():
-        made = places.add_parser(name, help=module.SUMMARY, description=paragraphs(module.DESCRIPTION),
-                                 epilog=shown(module.EXAMPLES), formatter_class=form)  # fmt: skip
+        made = places.add_parser(
+            name,
+            help=module.SUMMARY,
+            description=paragraphs(module.DESCRIPTION),
+            epilog=shown(module.EXAMPLES),
+            formatter_class=form,
+        )
         module.add_parser(made)
-        made.set_defaults(run=module.run, needs=module.NEEDS, passes_on=getattr(module, "PASSES_ON", False))
+        made.set_defaults(
+            run=module.run, needs=module.NEEDS, passes_on=getattr(module, "PASSES_ON", False)
+        )
     return top
 
 
 def main(argv: list[str]) -> int:
-    """Runs the subcommand that the words name, and gives the status; what goes wrong is a message, and no traceback."""
+    """Runs the subcommand that the words name, and gives the status; what goes wrong is a
+    message, and no traceback."""
     top = parser()
     if COMPLETED in os.environ:
         complete(top, argv)
@@ -82,7 +101,8 @@ def main(argv: list[str]) -> int:
 
 
 def read(top: Parser, argv: list[str]) -> argparse.Namespace:
-    """The words; of a subcommand that passes its words on, those that are no word of its own stand in front."""
+    """The words; of a subcommand that passes its words on, those that are no word of its own
+    stand in front."""
     words, rest = top.parse_known_args(argv)
     if words.passes_on:
         words.words = rest + words.words
@@ -107,7 +127,10 @@ def told(fault: Exception, who: str) -> int:
         case FileNotFoundError() | PermissionError() | IsADirectoryError() | NotADirectoryError():
             message, status = f"{fault.filename}: {fault.strerror}", Status.NO_INPUT
         case OSError():
-            message, status = f"{fault.filename or 'input or output'}: {fault.strerror or fault}", Status.RUN
+            message, status = (
+                f"{fault.filename or 'input or output'}: {fault.strerror or fault}",
+                Status.RUN,
+            )
         case _:
             message = f"a fault of its own: {type(fault).__name__}: {fault} ({DEBUG}=1 shows where)"
             status = Status.INTERNAL
@@ -118,7 +141,8 @@ def told(fault: Exception, who: str) -> int:
 
 
 def _end_as_a_pipe_ends() -> NoReturn:
-    """Ends by the signal by which a reader's end of a pipe ends its writers: `xlab .. | head` says nothing."""
+    """Ends by the signal by which a reader's end of a pipe ends its writers: `xlab .. | head`
+    says nothing."""
     signal.signal(signal.SIGPIPE, signal.SIG_DFL)
     os.kill(os.getpid(), signal.SIGPIPE)
     sys.exit(128 + signal.SIGPIPE)

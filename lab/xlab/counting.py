@@ -6,7 +6,8 @@ UNITS = {"k": 10**3, "M": 10**6, "G": 10**9}
 
 
 def number(text: str) -> int:
-    """A number of at least 0, as a word of a command: `120000000`, `120M`, `120_000_000`. For argparse."""
+    """A number of at least 0, as a word of a command: `120000000`, `120M`, `120_000_000`. For
+    argparse."""
     unit = UNITS.get(text[-1:], 1)
     digits = text[:-1] if unit > 1 else text
     try:
@@ -14,7 +15,9 @@ def number(text: str) -> int:
     except ValueError:
         value = -1
     if value < 0:
-        raise argparse.ArgumentTypeError(f"{text} is no number: digits, with k, M or G behind them or not")
+        raise argparse.ArgumentTypeError(
+            f"{text} is no number: digits, with k, M or G behind them or not"
+        )
     return value
 
 

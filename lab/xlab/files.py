@@ -20,8 +20,9 @@ STANDARD = "-"  # names standard input or output
 
 @contextlib.contextmanager
 def unpacked(name: str, salvage: bool = False) -> Iterator[BinaryIO]:
-    """The bytes of a file, or of standard input where the name is `-`, unpacked where its first bytes say gzip or
-    zstd. Where what is packed is cut off or broken this is a fault once it is read so far, or with `salvage` a note."""
+    """The bytes of a file, or of standard input where the name is `-`, unpacked where its first
+    bytes say gzip or zstd. Where what is packed is cut off or broken this is a fault once it is
+    read so far, or with `salvage` a note."""
     with sys.stdin.buffer if name == STANDARD else open(name, "rb") as file:
         head = file.peek(4)[:4]  # type: ignore[attr-defined]
         packer = next((packer for magic, packer in PACKERS.items() if head.startswith(magic)), None)
@@ -38,8 +39,12 @@ def _through(words: list[str], file: BinaryIO, name: str, salvage: bool) -> Iter
     direct = file.seekable()
     if direct:
         os.lseek(file.fileno(), 0, os.SEEK_SET)  # what was looked at is unread for the program
-    with subprocess.Popen(words, stdin=file if direct else subprocess.PIPE, stdout=subprocess.PIPE,
-                          stderr=subprocess.PIPE) as run:  # fmt: skip
+    with subprocess.Popen(
+        words,
+        stdin=file if direct else subprocess.PIPE,
+        stdout=subprocess.PIPE,
+        stderr=subprocess.PIPE,
+    ) as run:
         assert run.stdout and run.stderr
         if not direct:
             threading.Thread(target=_fed, args=(file, run.stdin), daemon=True).start()
@@ -49,7 +54,8 @@ def _through(words: list[str], file: BinaryIO, name: str, salvage: bool) -> Iter
             return
         said = run.stderr.read().decode(errors="replace").strip()
     if run.returncode != 0:
-        message = f"{name}: {words[0]} can't unpack all of it: {said.splitlines()[-1] if said else run.returncode}"
+        why = said.splitlines()[-1] if said else f"status {run.returncode}"
+        message = f"{name}: {words[0]} can't unpack all of it: {why}"
         if not salvage:
             raise Fault(message)
         note(f"{message}; it is read so far")
@@ -63,14 +69,16 @@ def _fed(file: BinaryIO, pipe: IO[bytes]) -> None:
 
 @contextlib.contextmanager
 def written(name: str) -> Iterator[BinaryIO]:
-    """A file to write, or standard output where the name is `-`; packed where it ends in .gz or .zst. What was there
-    under its name stays until all is written, and where something fails."""
+    """A file to write, or standard output where the name is `-`; packed where it ends in .gz or
+    .zst. What was there under its name stays until all is written, and where something fails."""
     if name == STANDARD:
         yield sys.stdout.buffer
         sys.stdout.buffer.flush()
         return
     final, packer = pathlib.Path(name), SUFFIXES.get(pathlib.Path(name).suffix)
-    if final.exists() and not final.is_file():  # a pipe or a device has no other name to be written under
+    if (
+        final.exists() and not final.is_file()
+    ):  # a pipe or a device has no other name to be written under
         with open(final, "wb") as device:
             yield device
         return
@@ -109,8 +117,8 @@ def _there(packer: str) -> str:
 
 
 def pieces(file: BinaryIO, size: int = 1 << 21) -> Iterator[bytes]:
-    """The bytes of a file in pieces of about `size` bytes, each of whole lines; the last may have an unended one.
-    Raises a fault where a line has more than 64 MiB."""
+    """The bytes of a file in pieces of about `size` bytes, each of whole lines; the last may
+    have an unended one. Raises a fault where a line has more than 64 MiB."""
     rest = b""
     while piece := file.read(size):
         cut = piece.rfind(b"\n") + 1

@@ -13,7 +13,8 @@ class Example:
 
 
 def paragraphs(text: str) -> str:
-    """The paragraphs of a text, each filled to the width of a help page; those that are indented are left alone."""
+    """The paragraphs of a text, each filled to the width of a help page; those that are indented
+    are left alone."""
     parts = textwrap.dedent(text).strip("\n").split("\n\n")
     return "\n\n".join(part if part.startswith(" ") else textwrap.fill(part, 78) for part in parts)
 

@@ -1,6 +1,6 @@
-"""The real history of a program's address space as a mapping script: each page is mapped just before its first touch,
-with the protection of its area, as an operating system does at a page fault; and unmapped, protected and moved where
-the program asked for it."""
+"""The real history of a program's address space as a mapping script: each page is mapped just
+before its first touch, with the protection of its area, as an operating system does at a page
+fault; and unmapped, protected and moved where the program asked for it."""
 
 from collections import Counter
 from collections.abc import Iterable, Iterator
@@ -20,8 +20,8 @@ NO_ACCESS = "r---"  # without u no access of a user is served, and the page keep
 
 @dataclass
 class Permission:
-    """A page's permission: that of its area; or, where none is known (the program's own segments, its stack), what it
-    is used for until it is protected."""
+    """A page's permission: that of its area; or, where none is known (the program's own
+    segments, its stack), what it is used for until it is protected."""
 
     protection: int | None = None
     use: Use = Use.READ
@@ -33,12 +33,15 @@ class Permission:
         if self.protection == 0:
             return NO_ACCESS
         stored, fetched = self.protection & 2, self.protection & 4
-        return ((Use.STORED if stored else Use.READ) | (Use.FETCHED if fetched else Use.READ)).permission()
+        return (
+            (Use.STORED if stored else Use.READ) | (Use.FETCHED if fetched else Use.READ)
+        ).permission()
 
 
 @dataclass(frozen=True)
 class Step:
-    """A line of the script, before a record; `{}` in it is a permission, which is known once all is read."""
+    """A line of the script, before a record; `{}` in it is a permission, which is known once all
+    is read."""
 
     record: int
     line: str
@@ -69,7 +72,9 @@ class History:
 
     def lines(self) -> Iterator[str]:
         """The script."""
-        what = ", ".join(f"{self.done[it]:,} {it}" for it in ("mapped", "unmapped", "protected", "moved"))
+        what = ", ".join(
+            f"{self.done[it]:,} {it}" for it in ("mapped", "unmapped", "protected", "moved")
+        )
         yield f"# pages: {what}; at most {counted(self.most, 'page')} at once"
         record = 0
         for step in self.steps:
@@ -79,7 +84,14 @@ class History:
             yield step.line.format(step.permission.word() if step.permission else "")
         yield "run rest"
 
-    def _step(self, done: str, count: int, line: str, permission: Permission | None = None, record: int = -1) -> None:
+    def _step(
+        self,
+        done: str,
+        count: int,
+        line: str,
+        permission: Permission | None = None,
+        record: int = -1,
+    ) -> None:
         self.done[done] += count
         self.steps.append(Step(self._touches.records if record < 0 else record, line, permission))
 
@@ -88,7 +100,9 @@ class History:
         if permission is None:
             permission = self._mapped[touch.block] = Permission(self._protection(touch.block))
             self.most = max(self.most, len(self._mapped))
-            self._step("mapped", 1, f"map 0 {touch.block << SHIFT:x} 4k {{}}", permission, touch.record)
+            self._step(
+                "mapped", 1, f"map 0 {touch.block << SHIFT:x} 4k {{}}", permission, touch.record
+            )
         permission.use |= touch.use
 
     def _protection(self, page: int) -> int | None:
@@ -147,8 +161,11 @@ class History:
         self._areas.chop(change.first, change.end)
         self._areas.addi(change.first, change.end, change.protection)
         new = Permission(change.protection)
-        pages = [page for page in self._mapped_in(change.first, change.end)
-                 if self._mapped[page].protection is None or self._mapped[page].word() != new.word()]  # fmt: skip
+        pages = [
+            page
+            for page in self._mapped_in(change.first, change.end)
+            if self._mapped[page].protection is None or self._mapped[page].word() != new.word()
+        ]
         for run in self._runs(pages):
             line = f"protect 0 {run.first << SHIFT:x} 4k {{}} {run.count}"
             self._step("protected", run.count, line, new)
@@ -171,19 +188,32 @@ class History:
 
 
 def huge(events: Iterable[Block | bytes], of_files: bool) -> Iterator[str]:
-    """The lines of areas of 2 MiB pages in whole aligned blocks of the memory that the program maps, that of files too
-    or only anonymous memory; and of one area of 4 KiB pages everywhere else. An area that comes first is the one that
-    serves; where there would be more than a script may have, the largest are taken."""
+    """The lines of areas of 2 MiB pages in whole aligned blocks of the memory that the program
+    maps, that of files too or only anonymous memory; and of one area of 4 KiB pages everywhere
+    else. An area that comes first is the one that serves; where there would be more than a
+    script may have, the largest are taken."""
     calls, areas = Calls(), IntervalTree()
     for event in events:
         for change in calls.changes(event) if isinstance(event, bytes) else ():
-            if isinstance(change, Mapped) and change.first < change.end and (of_files or change.anonymous):
+            if (
+                isinstance(change, Mapped)
+                and change.first < change.end
+                and (of_files or change.anonymous)
+            ):
                 areas.addi(change.first, change.end)
     areas.merge_overlaps(strict=False)
     per_block = Order.LARGE.pages
-    whole = [Span(-(-area.begin // per_block), area.end // per_block - -(-area.begin // per_block), Use.READ)
-             for area in sorted(areas)]  # fmt: skip
-    found = sorted((span for span in whole if span.count > 0), key=lambda span: -span.count)[: MOST_AREAS - 1]
+    whole = [
+        Span(
+            -(-area.begin // per_block),
+            area.end // per_block - -(-area.begin // per_block),
+            Use.READ,
+        )
+        for area in sorted(areas)
+    ]
+    found = sorted((span for span in whole if span.count > 0), key=lambda span: -span.count)[
+        : MOST_AREAS - 1
+    ]
     blocks = sum(span.count for span in found)
     yield f"# {counted(blocks, 'block')} of 2 MiB in {counted(len(found), 'area')}"
     for span in sorted(found, key=lambda span: span.first):

@@ -1,4 +1,5 @@
-"""How a subcommand says that something went wrong, and how far it is: statuses, faults, notes and progress."""
+"""How a subcommand says that something went wrong, and how far it is: statuses, faults, notes
+and progress."""
 
 import enum
 import os
@@ -10,7 +11,8 @@ T = TypeVar("T")
 
 
 class Status(enum.IntEnum):
-    """How `xlab` ends: the system's own numbers (sysexits.h), none of which is a status of `xlate` (0 to 9)."""
+    """How `xlab` ends: the system's own numbers (sysexits.h), none of which is a status of
+    `xlate` (0 to 9)."""
 
     OK = os.EX_OK
     USAGE = os.EX_USAGE  # 64: the words can't be read
@@ -64,7 +66,8 @@ class Silence:
 def bar(total: float | None, unit: str, what: str = "") -> Bar:
     """A bar on standard error where that is a terminal and tqdm is installed; else silence.
 
-    `total` is the number of units, where it is known; `unit` is `B` for bytes, or a word such as ` records`."""
+    `total` is the number of units, where it is known; `unit` is `B` for bytes, or a word such as
+    ` records`."""
     if not sys.stderr.isatty():
         return Silence()
     try:
@@ -72,7 +75,14 @@ def bar(total: float | None, unit: str, what: str = "") -> Bar:
     except ModuleNotFoundError:
         return Silence()
     divisor = 1024 if unit == "B" else 1000
-    shown: Bar = tqdm(total=total, unit=unit, unit_scale=True, unit_divisor=divisor, desc=what or None, leave=False)
+    shown: Bar = tqdm(
+        total=total,
+        unit=unit,
+        unit_scale=True,
+        unit_divisor=divisor,
+        desc=what or None,
+        leave=False,
+    )
     return shown
 
 

@@ -1,4 +1,5 @@
-"""Several traces by turns, each in a space of its own: the records one after another, and the script that goes along."""
+"""Several traces by turns, each in a space of its own: the records one after another, and the
+script that goes along."""
 
 from collections.abc import Iterable, Iterator, Sequence
 from dataclasses import dataclass, field
@@ -11,7 +12,13 @@ from xlab.touches import Order
 
 MOST_SPACES = 64
 REST = 2**63  # of a `run rest`: more records than any trace has
-SPACE_AT = {"map": 1, "unmap": 1, "protect": 1, "move": 1, "demand": 1}  # which word of a line is its space
+SPACE_AT = {
+    "map": 1,
+    "unmap": 1,
+    "protect": 1,
+    "move": 1,
+    "demand": 1,
+}  # which word of a line is its space
 
 
 @dataclass
@@ -45,7 +52,8 @@ class Script:
     _run: int = 0  # records left of the run that it is at
 
     def run(self, records: int) -> Iterator[str]:
-        """The lines that go along with the next records: commands that stand before them, and runs."""
+        """The lines that go along with the next records: commands that stand before them, and
+        runs."""
         while records:
             while not self._run:
                 words = next(self.lines, "run rest").split("#")[0].split()
@@ -59,10 +67,15 @@ class Script:
             records -= ran
 
     def _in_space(self, words: list[str]) -> str:
-        """A command, of the other space. Raises a fault where the script is not of space 0 alone."""
-        at = 2 if words[:2] in (["fence", "space"], ["fence", "page"]) else SPACE_AT.get(words[0], 0)
+        """A command, of the other space. Raises a fault where the script is not of space 0
+        alone."""
+        at = (
+            2 if words[:2] in (["fence", "space"], ["fence", "page"]) else SPACE_AT.get(words[0], 0)
+        )
         if words[0] == "space" or at and words[at : at + 1] != ["0"]:
-            raise Fault(f"a script to be mixed has space 0 alone, and this one has the line `{' '.join(words)}`")
+            raise Fault(
+                f"a script to be mixed has space 0 alone, and this one has the line `{' '.join(words)}`"
+            )
         return " ".join([*words[:at], str(self.space), *words[at + 1 :]] if at else words)
 
 
@@ -92,7 +105,9 @@ class Mix:
                     self.length += len(found.text())
                     yield found.text()
                 if self.length > MOST_BYTES:
-                    raise Fault(f"the mix would have more than {MOST_BYTES} bytes, of which xlate reads no more")
+                    raise Fault(
+                        f"the mix would have more than {MOST_BYTES} bytes, of which xlate reads no more"
+                    )
                 self._turn(space, taken, scripts[space])
                 if taken < self.turn:
                     running.remove(space)

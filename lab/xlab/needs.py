@@ -33,9 +33,14 @@ class Needs:
 
 def packages(missing: Needs) -> list[str]:
     """Debian's packages for what is missing, each once."""
-    of_modules = [MODULE_PACKAGES.get(name, f"python3-{name.split('.')[0]}") for name in missing.modules]
+    of_modules = [MODULE_PACKAGES.get(name, _of_module(name)) for name in missing.modules]
     of_programs = [PROGRAM_PACKAGES.get(name, name) for name in missing.programs]
     return list(dict.fromkeys([*of_modules, *of_programs]))
+
+
+def _of_module(name: str) -> str:
+    """Debian's package of a module that has no other name there."""
+    return f"python3-{name.split('.')[0].replace('_', '-').lower()}"
 
 
 def missing(needs: Needs) -> Needs:
@@ -53,13 +58,15 @@ def _debian_has(modules: Iterable[str]) -> bool:
     """Whether Debian's Python has all these modules, and is another than this one."""
     if not os.access(DEBIAN_PYTHON, os.X_OK) or os.path.samefile(DEBIAN_PYTHON, sys.executable):
         return False
-    asked = f"import importlib.util as u, sys; sys.exit(any(u.find_spec(m) is None for m in {list(modules)!r}))"
+    found = f"any(util.find_spec(name) is None for name in {list(modules)!r})"
+    asked = f"import sys; from importlib import util; sys.exit({found})"
     return subprocess.run([DEBIAN_PYTHON, "-c", asked], capture_output=True).returncode == 0
 
 
 def begin_with(needs: Needs, argv: list[str]) -> None:
-    """Returns where all is there. Where modules are missing here and Debian's Python has them, `xlab` begins anew by
-    that, with the same words; raises a fault that names what is missing and its packages else."""
+    """Returns where all is there. Where modules are missing here and Debian's Python has them,
+    `xlab` begins anew by that, with the same words; raises a fault that names what is missing
+    and its packages else."""
     lacking = missing(needs)
     if lacking.modules and AGAIN not in os.environ and _debian_has(needs.modules):
         package = os.path.dirname(os.path.dirname(os.path.abspath(__file__)))
@@ -74,4 +81,6 @@ def said(lacking: Needs) -> str:
     """What is missing and how to get it."""
     names = [f"Python's {name}" for name in lacking.modules] + list(lacking.programs)
     verb = "is" if len(names) == 1 else "are"
-    return f"{' and '.join(names)} {verb} not installed: apt-get install {' '.join(packages(lacking))}"
+    return (
+        f"{' and '.join(names)} {verb} not installed: apt-get install {' '.join(packages(lacking))}"
+    )

@@ -32,13 +32,17 @@ def whole(lines: Iterable[str], advice: str) -> str:
     """The script of these lines; raises a fault with advice where it is longer than xlate reads."""
     text = "\n".join(lines) + "\n"
     if len(text) > MOST_BYTES:
-        raise Fault(f"the script would have {len(text):,} bytes, and xlate reads at most {MOST_BYTES:,}: {advice}")
+        raise Fault(
+            f"the script would have {len(text):,} bytes, and xlate reads at most {MOST_BYTES:,}: {advice}"
+        )
     return text
 
 
 def demand(space: int, first: int, count: int, order: Order, permission: str) -> str:
     """The line of an area of so many blocks that are mapped when they are touched."""
-    return f"demand {space} {first << order.shift:x} {count * order.pages} {order.value} {permission}"
+    return (
+        f"demand {space} {first << order.shift:x} {count * order.pages} {order.value} {permission}"
+    )
 
 
 def everything(space: int, order: Order) -> str:
@@ -55,7 +59,8 @@ def maps(space: int, span: Span, order: Order) -> Iterator[str]:
 
 @dataclass(frozen=True)
 class Touched:
-    """What a trace touches, by block: its uses, and the record of its first touch, in this order."""
+    """What a trace touches, by block: its uses, and the record of its first touch, in this
+    order."""
 
     order: Order
     uses: dict[int, Use]
@@ -78,10 +83,12 @@ class Touched:
         """A comment with what the script wants."""
         frames = len(self.uses) * self.order.pages * spaces
         runs = len(spans(self.uses))
-        return f"# {len(self.uses)} blocks of {self.order.value} in {runs} runs: {frames} frames are wanted"
+        blocks = f"{len(self.uses)} blocks of {self.order.value}"
+        return f"# {blocks} in {runs} runs: {frames} frames are wanted"
 
     def on_demand(self, spaces: int = 1) -> Iterator[str]:
-        """The lines of areas whose pages are mapped when they are touched; the same in each of the spaces."""
+        """The lines of areas whose pages are mapped when they are touched; the same in each of
+        the spaces."""
         for space in range(spaces):
             for span in joined(spans(self.uses), MOST_AREAS // spaces):
                 yield demand(space, span.first, span.count, self.order, span.use.permission())
@@ -93,17 +100,19 @@ class Touched:
                 yield from maps(space, span, self.order)
 
     def by_touch(self) -> Iterator[str]:
-        """The lines that map each block just before its first touch, and run the records between."""
+        """The lines that map each block just before its first touch, and run the records
+        between."""
         done = 0
         for block, record in self.first.items():
             if record > done:
                 yield f"run {record - done}"
             done = record
-            yield f"map 0 {block << self.order.shift:x} {self.order.value} {self.uses[block].permission()}"
+            permission = self.uses[block].permission()
+            yield f"map 0 {block << self.order.shift:x} {self.order.value} {permission}"
 
     def turns(self, length: int) -> Iterator[str]:
-        """Turns of spaces 0 and 1 of so many records each; after each turn of space 0 its first block of code gets its
-        permission anew. Raises a fault where the trace has no code."""
+        """Turns of spaces 0 and 1 of so many records each; after each turn of space 0 its first
+        block of code gets its permission anew. Raises a fault where the trace has no code."""
         code = min((block for block, use in self.uses.items() if Use.FETCHED in use), default=None)
         if code is None:
             raise Fault("the trace has no fetch, and --turns changes the permission of code")
@@ -128,7 +137,8 @@ def spans(uses: dict[int, Use]) -> list[Span]:
 
 
 def joined(found: list[Span], most: int) -> list[Span]:
-    """At most so many spans: those with the least gaps between them become one, over the gap, with both uses."""
+    """At most so many spans: those with the least gaps between them become one, over the gap,
+    with both uses."""
     if len(found) <= most:
         return found
     gaps = [right.first - left.end for left, right in zip(found, found[1:], strict=False)]

@@ -46,8 +46,8 @@ class Sieve:
     _passed: int = 0  # units seen so far
 
     def events(self, pieces: Iterable[bytes]) -> Iterator[Block | bytes]:
-        """The records kept, in order, in blocks that have records alone; and between them, where `syscalls` says so,
-        the lines of system calls, those before the window too."""
+        """The records kept, in order, in blocks that have records alone; and between them, where
+        `syscalls` says so, the lines of system calls, those before the window too."""
         for piece in pieces:
             found = block(piece)
             self.others += found.counts()
@@ -71,17 +71,28 @@ class Sieve:
 
     def said(self) -> list[str]:
         """What was kept, what was dropped, and why it ended."""
-        kept = f"{counted(self.records, 'record')} kept, {counted(self.instructions, 'instruction')}"
-        dropped = [f"dropped {counted(count, 'line')} {what}" for what, count in sorted(self.others.items())
-                   if not (self.syscalls and what is Other.SYSCALL)]  # fmt: skip
-        full = [f"stopped before {self.most} bytes, of which xlate reads no more"] if self.full else []
+        kept = (
+            f"{counted(self.records, 'record')} kept, {counted(self.instructions, 'instruction')}"
+        )
+        dropped = [
+            f"dropped {counted(count, 'line')} {what}"
+            for what, count in sorted(self.others.items())
+            if not (self.syscalls and what is Other.SYSCALL)
+        ]
+        full = (
+            [f"stopped before {self.most} bytes, of which xlate reads no more"] if self.full else []
+        )
         return [kept, *dropped, *full]
 
     def _done(self) -> bool:
         if self.keep is None:
             return self.full
         # the data of a window's last instruction end where the next one begins
-        past = self._passed > self.skip + self.keep if self.unit is Unit.INSTRUCTIONS else self._passed >= self.skip + self.keep
+        past = (
+            self._passed > self.skip + self.keep
+            if self.unit is Unit.INSTRUCTIONS
+            else self._passed >= self.skip + self.keep
+        )
         return self.full or past
 
     def _kept(self, found: Block) -> Block:
@@ -103,15 +114,24 @@ class Sieve:
         """The part of a block of records that lies in the window."""
         if not self.skip and self.keep is None:
             return found
-        units = np.flatnonzero(found.letter == FETCH) if self.unit is Unit.INSTRUCTIONS else np.arange(len(found))
+        units = (
+            np.flatnonzero(found.letter == FETCH)
+            if self.unit is Unit.INSTRUCTIONS
+            else np.arange(len(found))
+        )
         first = _place(units, self.skip - self._passed, len(found)) if self.skip else 0
-        last = len(found) if self.keep is None else _place(units, self.skip + self.keep - self._passed, len(found))
+        last = (
+            len(found)
+            if self.keep is None
+            else _place(units, self.skip + self.keep - self._passed, len(found))
+        )
         self._passed += len(units)
         return found.part(first, last)
 
 
 def _place(units: Places, number: int, end: int) -> int:
-    """Where the unit of this number begins, among those of a block; 0 where it has begun, its end where it comes later."""
+    """Where the unit of this number begins, among those of a block; 0 where it has begun, its
+    end where it comes later."""
     return 0 if number < 0 else int(units[number]) if number < len(units) else end
 
 

@@ -1,5 +1,5 @@
-"""The lines of system calls that Valgrind writes into a trace with --trace-syscalls=yes, and the changes of the
-address space that they say."""
+"""The lines of system calls that Valgrind writes into a trace with --trace-syscalls=yes, and the
+changes of the address space that they say."""
 
 import re
 from dataclasses import dataclass, field
@@ -9,11 +9,16 @@ from xlab.touches import Order
 SHIFT = Order.SMALL.shift
 CALL = re.compile(
     rb"(?:# )?SYSCALL\[(\d+,\d+)\]\( *\d+\) "
-    rb"(?:sys_(?P<name>mmap2?|munmap|mprotect|pkey_mprotect|mremap|brk|madvise) \( (?P<words>[^)]*) \)|\.\.\.)"
-    rb".*?--> (?:\[[\w-]+\] )?(?P<result>Success\(0x(?P<value>[0-9a-f]+)|Failure|\[async\] \.\.\.|\.\.\.)"
+    rb"(?:sys_(?P<name>mmap2?|munmap|mprotect|pkey_mprotect|mremap|brk|madvise)"
+    rb" \( (?P<words>[^)]*) \)|\.\.\.)"
+    rb".*?--> (?:\[[\w-]+\] )?"
+    rb"(?P<result>Success\(0x(?P<value>[0-9a-f]+)|Failure|\[async\] \.\.\.|\.\.\.)"
 )
 ANONYMOUS = 0x20  # MAP_ANONYMOUS, of mmap
-NO_PAGES = {4, 9}  # of madvise: MADV_DONTNEED and MADV_REMOVE take the pages away, and their contents with them
+NO_PAGES = {
+    4,
+    9,
+}  # of madvise: MADV_DONTNEED and MADV_REMOVE take the pages away, and their contents with them
 
 
 @dataclass(frozen=True)
@@ -26,7 +31,8 @@ class Pages:
 
 @dataclass(frozen=True)
 class Mapped(Pages):
-    """They are an area, with this protection (PROT_READ 1, PROT_WRITE 2, PROT_EXEC 4); what was there is gone."""
+    """They are an area, with this protection (PROT_READ 1, PROT_WRITE 2, PROT_EXEC 4); what was
+    there is gone."""
 
     protection: int
     anonymous: bool
@@ -81,7 +87,9 @@ class Calls:
     """Reads the lines of system calls, and remembers what one says of the next."""
 
     brk: int | None = None  # the end of the heap
-    _asked: dict[bytes, tuple[bytes, list[int]]] = field(default_factory=dict)  # calls that have not ended, by thread
+    _asked: dict[bytes, tuple[bytes, list[int]]] = field(
+        default_factory=dict
+    )  # calls that have not ended, by thread
 
     def changes(self, line: bytes) -> list[Change]:
         """What a line says has changed; nothing where it is another call, or one that failed."""
@@ -114,11 +122,14 @@ class Calls:
                 return self._heap(value)
 
     def _remapped(self, words: list[int], value: int) -> list[Change]:
-        """An area that moved, shrank or grew: what is left of it at its end is unmapped or mapped."""
+        """An area that moved, shrank or grew: what is left of it at its end is unmapped or
+        mapped."""
         first, old_end = pages(words[0], words[1])
         to, end = pages(value, words[2])
         kept = min(old_end - first, end - to)
-        made: list[Change] = [] if to == first else [Unmapped(to, end), Moved(first, first + kept, to)]
+        made: list[Change] = (
+            [] if to == first else [Unmapped(to, end), Moved(first, first + kept, to)]
+        )
         if first + kept < old_end:
             made.append(Unmapped(first + kept, old_end))
         if kept < end - to:

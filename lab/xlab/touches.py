@@ -1,4 +1,5 @@
-"""What the records of a trace touch: each block of 4 KiB, 2 MiB or 1 GiB at its first use of each kind."""
+"""What the records of a trace touch: each block of 4 KiB, 2 MiB or 1 GiB at its first use of
+each kind."""
 
 import enum
 from dataclasses import dataclass
@@ -6,7 +7,7 @@ from typing import NamedTuple
 
 import numpy as np
 
-from xlab.lackey import FETCH, LOAD, Block, Places, Words
+from xlab.lackey import FETCH, MODIFY, STORE, Block, Places, Words
 
 
 class Order(enum.Enum):
@@ -47,6 +48,9 @@ class Touch(NamedTuple):
     use: Use
 
 
+USES = np.zeros(256, np.uint64)  # of a record's letter
+USES[FETCH] = Use.FETCHED
+USES[[STORE, MODIFY]] = Use.STORED
 SLOTS = 1 << 16
 NOTHING = np.uint64(2**64 - 1)  # no key: blocks have at most 52 bits
 
@@ -55,8 +59,9 @@ NOTHING = np.uint64(2**64 - 1)  # no key: blocks have at most 52 bits
 class Touches:
     """Reads a trace, and says what is touched for the first time.
 
-    A use that was told is remembered in the slot of its key, until another key takes the slot: so a use may be told
-    again, and what was told of it must be known to who asks. What the slots hold is passed over many records at once."""
+    A use that was told is remembered in the slot of its key, until another key takes the slot:
+    so a use may be told again, and what was told of it must be known to who asks. What the slots
+    hold is passed over many records at once."""
 
     order: Order = Order.SMALL
     records: int = 0  # read so far
@@ -90,8 +95,7 @@ class Touches:
         address = found.addresses()
         first = address >> shift
         last = (address + np.maximum(found.size, 1).astype(np.uint64) - np.uint64(1)) >> shift
-        use = np.where(found.letter == FETCH, Use.FETCHED, np.where(found.letter == LOAD, Use.READ, Use.STORED))
-        use = use.astype(np.uint64)
+        use = USES[found.letter]
         keys, records = [first << np.uint64(2) | use], [np.arange(len(found))]
         for record in np.flatnonzero(last != first).tolist():  # those over the end of a block
             more = np.arange(int(first[record]) + 1, int(last[record]) + 1, dtype=np.uint64)

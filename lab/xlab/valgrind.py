@@ -1,4 +1,5 @@
-"""Programs run under Valgrind's tool Lackey, in a fixed environment: their traces as they come, or a log a process."""
+"""Programs run under Valgrind's tool Lackey, in a fixed environment: their traces as they come,
+or a log a process."""
 
 import contextlib
 import os
@@ -31,8 +32,8 @@ class Traced:
 
     @contextlib.contextmanager
     def pieces(self) -> Iterator[Iterator[bytes]]:
-        """Its own trace in pieces of whole lines, while it runs; processes that it makes are not traced. The program
-        is stopped where no more is read."""
+        """Its own trace in pieces of whole lines, while it runs; processes that it makes are not
+        traced. The program is stopped where no more is read."""
         reader, writer = os.pipe()
         with self._run([f"--log-fd={writer}", "--child-silent-after-fork=yes"], (writer,)) as run:
             os.close(writer)
@@ -43,7 +44,8 @@ class Traced:
                 self._stop(run)
 
     def logs(self, folder: pathlib.Path) -> list[pathlib.Path]:
-        """Runs it and the processes that it makes; the log of each, named by its number, in the order of these."""
+        """Runs it and the processes that it makes; the log of each, named by its number, in the
+        order of these."""
         with self._run([f"--log-file={folder}/%p", "--trace-children=yes"], ()) as run:
             while run.poll() is None:
                 with contextlib.suppress(subprocess.TimeoutExpired):
@@ -53,8 +55,8 @@ class Traced:
 
     @contextlib.contextmanager
     def _run(self, words: list[str], kept: tuple[int, ...]) -> Iterator[subprocess.Popen[bytes]]:
-        """The program under Valgrind. What it writes goes to standard error by a pipe, so that it is never a
-        terminal for it; Ctrl-C reaches it alone, and the trace ends with it."""
+        """The program under Valgrind. What it writes goes to standard error by a pipe, so that
+        it is never a terminal for it; Ctrl-C reaches it alone, and the trace ends with it."""
         called = shutil.which(self.command[0])
         if called is None:
             raise Fault(f"{self.command[0]}: no such program", Status.NO_INPUT)
@@ -62,10 +64,17 @@ class Traced:
         tool += ["--trace-syscalls=yes"] if self.syscalls else []
         environment = {"PATH": PATH} | self.environment
         before = signal.signal(signal.SIGINT, self._interrupt)
-        with subprocess.Popen(["cat"], stdin=subprocess.PIPE, stdout=sys.stderr.fileno(), process_group=0) as shown:
+        with subprocess.Popen(
+            ["cat"], stdin=subprocess.PIPE, stdout=sys.stderr.fileno(), process_group=0
+        ) as shown:
             assert shown.stdin
-            with subprocess.Popen([shutil.which("valgrind") or "valgrind", *tool[1:], called, *self.command[1:]],
-                                  stdout=shown.stdin, stderr=shown.stdin, env=environment, pass_fds=kept) as run:  # fmt: skip
+            with subprocess.Popen(
+                [shutil.which("valgrind") or "valgrind", *tool[1:], called, *self.command[1:]],
+                stdout=shown.stdin,
+                stderr=shown.stdin,
+                env=environment,
+                pass_fds=kept,
+            ) as run:
                 shown.stdin.close()
                 try:
                     yield run
@@ -81,7 +90,8 @@ class Traced:
         self.interrupted = True
 
     def _pieces(self, reader: int, run: subprocess.Popen[bytes]) -> Iterator[bytes]:
-        """What comes through a pipe until the program has ended; a process that it left behind may hold it open."""
+        """What comes through a pipe until the program has ended; a process that it left behind
+        may hold it open."""
         parts: list[bytes] = []
         length = 0
         while True:

@@ -7,11 +7,11 @@ from xlab.needs import Needs
 
 SUMMARY = "print a shell's completions of these words"
 DESCRIPTION = """
-Prints what bash, zsh or fish needs to complete subcommands, options and files. The shell asks xlab itself, so that the
-completions are always those of its parser.
+Prints what bash, zsh or fish needs to complete subcommands, options and files. The shell asks xlab
+itself, so that the completions are always those of its parser.
 """
 EXAMPLES = (
-    Example("eval \"$(xlab completions bash)\"", "in ~/.bashrc; zsh takes its own in the same way"),
+    Example('eval "$(xlab completions bash)"', "in ~/.bashrc; zsh takes its own in the same way"),
     Example("xlab completions fish > ~/.config/fish/completions/xlab.fish", "for fish"),
 )
 NEEDS = Needs(modules=("argcomplete",))

@@ -21,43 +21,84 @@ if TYPE_CHECKING:
 
 SUMMARY = "trace a program by Valgrind's Lackey, into a file or straight into xlate"
 DESCRIPTION = """
-Runs a program under Valgrind's tool Lackey and writes its records: to standard output, so that they may go straight
-into xlate with no file at all, or into a file, packed where its name ends in .zst or .gz. The number of records and
-instructions is said on standard error.
+Runs a program under Valgrind's tool Lackey and writes its records: to standard output, so that they
+may go straight into xlate with no file at all, or into a file, packed where its name ends in .zst
+or .gz. The number of records and instructions is said on standard error.
 
-The environment is fixed: PATH=/usr/bin:/bin and what --env says, and no more, so that a second run has the same
-addresses. Standard input is the program's. What it writes goes to standard error, through a pipe, as a program may
-do other things on a terminal.
+The environment is fixed: PATH=/usr/bin:/bin and what --env says, and no more, so that a second run
+has the same addresses. Standard input is the program's. What it writes goes to standard error,
+through a pipe, as a program may do other things on a terminal.
 
-Without --children the program alone is traced. With it a file is written for each process, with the process's number
-in the place of %p in its name; their whole text lies in the same folder until the program has ended, some 14 bytes a
-record. Of a process that begins another program (exec) the last one's records are kept.
+Without --children the program alone is traced. With it a file is written for each process, with the
+process's number in the place of %p in its name; their whole text lies in the same folder until the
+program has ended, some 14 bytes a record. Of a process that begins another program (exec) the last
+one's records are kept.
 
-Lackey writes about a million records a second, so a program runs some hundred times slower than by itself. Where
---keep has enough, the program is stopped. Ctrl-C is the program's: what was traced before it is kept.
+Lackey writes about a million records a second, so a program runs some hundred times slower than by
+itself. Where --keep has enough, the program is stopped. Ctrl-C is the program's: what was traced
+before it is kept.
 """
 EXAMPLES = (
-    Example("xlab trace ls /usr/lib | xlate --config rows.toml --script any.script --trace /dev/stdin",
-            "the rows of a real program, with no file at all"),
+    Example(
+        "xlab trace ls /usr/lib | xlate --config rows.toml --script any.script --trace /dev/stdin",
+        "the rows of a real program, with no file at all",
+    ),
     Example("xlab trace -o sort.trace.zst sort -R /usr/share/dict/words", "a packed file"),
-    Example("xlab trace --syscalls -o ls.trace.zst ls /usr/lib", "with system calls as comments, for `xlab script --syscalls`"),
-    Example("xlab trace --children -o cc.%p.trace.zst gcc -c my.c", "a file for the driver, the compiler, the assembler"),
-    Example("xlab trace --skip 120M --keep 66M -o python.trace.zst python3 my.py", "66 million records from the 120 millionth on"),
-)  # fmt: skip
+    Example(
+        "xlab trace --syscalls -o ls.trace.zst ls /usr/lib",
+        "with system calls as comments, for `xlab script --syscalls`",
+    ),
+    Example(
+        "xlab trace --children -o cc.%p.trace.zst gcc -c my.c",
+        "a file for the driver, the compiler, the assembler",
+    ),
+    Example(
+        "xlab trace --skip 120M --keep 66M -o python.trace.zst python3 my.py",
+        "66 million records from the 120 millionth on",
+    ),
+)
 NEEDS = Needs(modules=("numpy",), programs=("valgrind",))
 
 
 def add_parser(parser: argparse.ArgumentParser) -> None:
     """Adds its words; those behind PROGRAM are the program's."""
-    parser.add_argument("-o", "--output", metavar="FILE", default="-",
-                        help="the file to write, %%p in its name is the process's number; standard output else")  # fmt: skip
-    parser.add_argument("--children", action="store_true", help="trace the processes that it makes, a file each")
-    parser.add_argument("--syscalls", action="store_true", help="keep its system calls, as comments")
-    parser.add_argument("--env", metavar="NAME=VALUE", action="append", default=[], type=_variable,
-                        help="a variable of its environment; more than one may be given")  # fmt: skip
-    parser.add_argument("--skip", metavar="N", type=number, default=0, help="pass over so many first; k, M and G may follow")
-    parser.add_argument("--keep", metavar="N", type=positive, help="keep at most so many, and stop the program then")
-    parser.add_argument("--by", choices=("records", "instructions"), default="records", help="what N counts (default: records)")
+    parser.add_argument(
+        "-o",
+        "--output",
+        metavar="FILE",
+        default="-",
+        help="the file to write, %%p in its name is the process's number; standard output else",
+    )
+    parser.add_argument(
+        "--children", action="store_true", help="trace the processes that it makes, a file each"
+    )
+    parser.add_argument(
+        "--syscalls", action="store_true", help="keep its system calls, as comments"
+    )
+    parser.add_argument(
+        "--env",
+        metavar="NAME=VALUE",
+        action="append",
+        default=[],
+        type=_variable,
+        help="a variable of its environment; more than one may be given",
+    )
+    parser.add_argument(
+        "--skip",
+        metavar="N",
+        type=number,
+        default=0,
+        help="pass over so many first; k, M and G may follow",
+    )
+    parser.add_argument(
+        "--keep", metavar="N", type=positive, help="keep at most so many, and stop the program then"
+    )
+    parser.add_argument(
+        "--by",
+        choices=("records", "instructions"),
+        default="records",
+        help="what N counts (default: records)",
+    )
     parser.add_argument("program", metavar="PROGRAM", help="the program")
     parser.add_argument("words", metavar="...", nargs=argparse.REMAINDER, help="its words")
 
@@ -74,7 +115,10 @@ def run(words: argparse.Namespace) -> int:
     from xlab.valgrind import Traced
 
     if words.output == "-" and sys.stdout.isatty():
-        raise Fault("standard output is a terminal: name a file by -o, or let it go into a pipe", Status.USAGE)
+        raise Fault(
+            "standard output is a terminal: name a file by -o, or let it go into a pipe",
+            Status.USAGE,
+        )
     if words.children and "%p" not in words.output:
         raise Fault("--children wants a name with %p, such as -o my.%p.trace.zst", Status.USAGE)
     traced = Traced([words.program, *words.words], dict(words.env), words.syscalls)
@@ -83,7 +127,9 @@ def run(words: argparse.Namespace) -> int:
     else:
         _itself(words, traced)
     if traced.status and not traced.stopped:
-        ended = f"by signal {-traced.status}" if traced.status < 0 else f"with status {traced.status}"
+        ended = (
+            f"by signal {-traced.status}" if traced.status < 0 else f"with status {traced.status}"
+        )
         note(f"{words.program} ended {ended}")
     return Status.INTERRUPTED if traced.interrupted else Status.OK
 
@@ -127,6 +173,8 @@ def _command(log: pathlib.Path) -> str:
 
 def _said(name: str, sieve: Sieve, of: str = "") -> None:
     place = "" if name == "-" else f"{name}: "
-    note(f"{place}{counted(sieve.records, 'record')}, {counted(sieve.instructions, 'instruction')}{of}")
+    note(
+        f"{place}{counted(sieve.records, 'record')}, {counted(sieve.instructions, 'instruction')}{of}"
+    )
     if sieve.full:
         note(f"it stopped before {sieve.most} bytes, of which xlate reads no more")

@@ -13,8 +13,9 @@ from xlab.needs import Needs
 
 SUMMARY = "say version, commit, kit, proved or not, and checksum of the program"
 DESCRIPTION = """
-Says what a reader needs to find the program that made a figure: the version and commit of these sources, and of the
-program that is run its file, SHA-256, and what its build wrote of it: version, commit, kit, and whether it is proved.
+Says what a reader needs to find the program that made a figure: the version and commit of these
+sources, and of the program that is run its file, SHA-256, and what its build wrote of it: version,
+commit, kit, and whether it is proved.
 """
 EXAMPLES = (Example("xlab version", "a line for each, to be kept beside a result"),)
 NEEDS = Needs()
@@ -33,9 +34,13 @@ def run(words: argparse.Namespace) -> int:
 
 
 def facts() -> dict[str, str]:
-    """What is known of the sources and of the program, by name, in the order in which it is said."""
+    """What is known of the sources and of the program, by name, in the order in which it is
+    said."""
     version = program.TOP / "VERSION"
-    found = {"xlab version": version.read_text().strip() if version.exists() else UNKNOWN, "xlab commit": commit()}
+    found = {
+        "xlab version": version.read_text().strip() if version.exists() else UNKNOWN,
+        "xlab commit": commit(),
+    }
     try:
         file = program.binary()
     except Fault as fault:
@@ -48,7 +53,16 @@ def facts() -> dict[str, str]:
 
 def commit() -> str:
     """The commit of the sources, and whether files were changed after it."""
-    asked = ["git", "-C", str(program.TOP), "describe", "--always", "--dirty=+changes", "--abbrev=40", "--exclude=*"]
+    asked = [
+        "git",
+        "-C",
+        str(program.TOP),
+        "describe",
+        "--always",
+        "--dirty=+changes",
+        "--abbrev=40",
+        "--exclude=*",
+    ]
     try:
         ended = subprocess.run(asked, capture_output=True, text=True)
     except FileNotFoundError:
@@ -57,10 +71,14 @@ def commit() -> str:
 
 
 def built(file: pathlib.Path, checksum: str) -> dict[str, str]:
-    """What the build wrote of the program beside it; all unknown where there is none, or it is of another program."""
+    """What the build wrote of the program beside it; all unknown where there is none, or it is
+    of another program."""
     record = file.with_name(file.name + ".built")
     said = tomllib.loads(record.read_text()) if record.is_file() else {}
     own = said.get("checksum") == checksum
-    found = {name: str(said.get(name, UNKNOWN)) if own else UNKNOWN for name in ("version", "commit", "kit")}
+    found = {
+        name: str(said.get(name, UNKNOWN)) if own else UNKNOWN
+        for name in ("version", "commit", "kit")
+    }
     proved = said.get("proved") if own else None
     return found | {"proof": UNKNOWN if proved is None else "proved" if proved else "unproved"}
