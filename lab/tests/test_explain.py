@@ -19,7 +19,10 @@ spaces = 1
 table = "radix"
 table_frames = 64
 """
-TLB = ROW + 'tlb = [{ level = 1, sets = 1, width = 8, orders = ["4k"] },\n       { level = 2, sets = 4, width = 8, orders = ["4k"] }]\n'
+TLB = (
+    ROW
+    + 'tlb = [{ level = 1, sets = 1, width = 8, orders = ["4k"] },\n       { level = 2, sets = 4, width = 8, orders = ["4k"] }]\n'
+)
 HASHED = ROW.replace("radix", "hashed").replace("table_frames = 64", "buckets = 64\nentries = 64")
 SCRIPT = "demand 0 0 67108864 4k rwxu\n"
 TRACE = "I  1000,4\n L 2000,8\n S 2008,8\n"

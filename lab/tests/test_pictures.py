@@ -35,9 +35,18 @@ def texts(svg):
     "words, says",
     [
         (("rows", "rows.json"), ["misses per 1,000 accesses, log scale", "L1 misses", "walks", "bare", "two"]),
-        (("rows", "rows.json", "--columns", "reads-access", "--title", "mine"), ["reads per access, log scale", "mine"]),
-        (("sweep", "swept.json", "--columns", "rpki"), ["reads per 1,000 instructions", "tlb.2.sets", "x", "y", "a", "b", "16"]),
-        (("map", "swept.json", "--columns", "rpki"), ["reads per 1,000 instructions, log scale", "tlb.2.sets", "x", "y", "25"]),
+        (
+            ("rows", "rows.json", "--columns", "reads-access", "--title", "mine"),
+            ["reads per access, log scale", "mine"],
+        ),
+        (
+            ("sweep", "swept.json", "--columns", "rpki"),
+            ["reads per 1,000 instructions", "tlb.2.sets", "x", "y", "a", "b", "16"],
+        ),
+        (
+            ("map", "swept.json", "--columns", "rpki"),
+            ["reads per 1,000 instructions, log scale", "tlb.2.sets", "x", "y", "25"],
+        ),
         (("curve", "curve"), ["misses per 1,000 lookups", "width (entries of a set)", "r, 2 sets"]),
     ],
 )
@@ -85,7 +94,7 @@ class Page(html.parser.HTMLParser):
 
 def test_a_report_holds_all_that_it_needs(files, xlab):
     pytest.importorskip("jinja2")
-    (files / "c.toml").write_text("# <rows>\n[[row]]\nname = \"two\"\ntlb = [{level = 1}, {level = 1}, {level = 2}]\n")
+    (files / "c.toml").write_text('# <rows>\n[[row]]\nname = "two"\ntlb = [{level = 1}, {level = 1}, {level = 2}]\n')
     ended = xlab("report", "rows.json", "--config", "c.toml", "--title", "Two & bare", "--question", "Is it < 3?\n\nYes.",
                  "--output", "study.html")  # fmt: skip
     assert ended.returncode == 0, ended.stderr

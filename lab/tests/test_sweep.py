@@ -30,7 +30,12 @@ def made(*words, template=None):
 
 def test_a_key_and_an_array():
     found = made("table_frames=8,16", "tlb.2.sets=32,64")
-    assert [(it.row["table_frames"], it.row["tlb"][1]["sets"]) for it in found] == [(8, 32), (8, 64), (16, 32), (16, 64)]
+    assert [(it.row["table_frames"], it.row["tlb"][1]["sets"]) for it in found] == [
+        (8, 32),
+        (8, 64),
+        (16, 32),
+        (16, 64),
+    ]
     assert [it.row["name"] for it in found] == ["r-8-32", "r-8-64", "r-16-32", "r-16-64"]
     assert found[3].values == {"table_frames": 16, "tlb.2.sets": 64}
 
@@ -77,12 +82,26 @@ def test_one_good_table_although_a_design_is_bad_and_a_second_run_is_short(progr
     pytest.importorskip("snakemake")
     pytest.importorskip("tomli_w")
     (tmp_path / "core.toml").write_text(TEXT)
-    words = ["sweep", "core.toml", "--output", "out", "--trace", EXAMPLES / "primes.trace", "--set", "tlb.1.width=4,5,8", "--jobs", 2]
+    words = [
+        "sweep",
+        "core.toml",
+        "--output",
+        "out",
+        "--trace",
+        EXAMPLES / "primes.trace",
+        "--set",
+        "tlb.1.width=4,5,8",
+        "--jobs",
+        2,
+    ]
     ended = xlab(*words)
     assert ended.returncode == Status.DATA, ended.stderr
     assert "left out" in ended.stderr and "tlb.1.width=5: array 1 of `tlb`: `width` is 5" in ended.stderr
     rows = json.loads((tmp_path / "out/rows.json").read_text())
-    assert [(row["name"], row["trace"], row["tlb.1.width"]) for row in rows] == [("r-4", "primes", 4), ("r-8", "primes", 8)]
+    assert [(row["name"], row["trace"], row["tlb.1.width"]) for row in rows] == [
+        ("r-4", "primes", 4),
+        ("r-8", "primes", 8),
+    ]
     assert all(row["accesses"] == row["ok"] + row["unmapped"] and row["instructions"] == INSTRUCTIONS for row in rows)
     with (tmp_path / "out/rows.csv").open() as file:
         assert [line["tlb.1.width"] for line in csv.DictReader(file)] == ["4", "8"]

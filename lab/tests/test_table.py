@@ -71,7 +71,9 @@ def test_changes_against_a_row(xlab, made):
 
 def test_a_warm_up_is_taken_off(xlab, made):
     front = row("two", [[400, 60], [10, 450], [44, 6]], 6, 15, accesses=460, unmapped=2)
-    ended = figures(xlab, made("a.json", TWO), "--minus", made("w.json", front), "--columns", "accesses,l1,walks,reads,first")
+    ended = figures(
+        xlab, made("a.json", TWO), "--minus", made("w.json", front), "--columns", "accesses,l1,walks,reads,first"
+    )
     assert list(ended["two"].values()) == ["540", "30", "4", "10", "0"]
 
 
@@ -98,7 +100,9 @@ def test_a_level_without_a_hit_wants_the_configuration(xlab, made, tmp_path):
 
 def test_instructions_of_a_trace(xlab, made, tmp_path):
     (tmp_path / "t.gz").write_bytes(gzip.compress(b"I  1000,4\n L 1,1\nI  2,4\n"))
-    assert figures(xlab, made("a.json", BARE), "--trace", "t.gz", "--columns", "instructions")["bare"] == {"instructions": "2"}
+    assert figures(xlab, made("a.json", BARE), "--trace", "t.gz", "--columns", "instructions")["bare"] == {
+        "instructions": "2"
+    }
 
 
 def test_rows_of_the_program(xlab, program, tmp_path):

@@ -30,20 +30,24 @@ class Sample:
     instructions: int | None = None
     first: FirstTouches = FirstTouches.COUNTED
 
+    def count(self, name: str) -> int:
+        """A count of the row."""
+        return int(self.row[name])
+
     @property
     def first_touches(self) -> int:
         """Accesses that found their page unmapped and had it mapped on demand."""
-        return min(self.row["unmapped"], self.row["accepted"])
+        return min(self.count("unmapped"), self.count("accepted"))
 
     def accesses(self) -> int:
         """Accesses, without those that first touches count twice."""
-        return self.row["accesses"] - (0 if self.first is FirstTouches.COUNTED else self.first_touches)
+        return self.count("accesses") - (0 if self.first is FirstTouches.COUNTED else self.first_touches)
 
     def misses(self, level: int) -> int:
         """Accesses that no array up to this level answered."""
-        hits = sum(pair[0] for pair, at in zip(self.row["tlb"], self.levels) if at <= level)
+        hits = sum(int(pair[0]) for pair, at in zip(self.row["tlb"], self.levels) if at <= level)
         taken = {FirstTouches.COUNTED: 0, FirstTouches.ONCE: 1, FirstTouches.OUT: 2}[self.first]
-        missed = self.row["accesses"] - self.row["notcanonical"] - hits
+        missed = self.count("accesses") - self.count("notcanonical") - hits
         return max(0, missed - taken * self.first_touches)
 
     def walks(self) -> int:
@@ -110,7 +114,9 @@ def _level(level: int) -> list[Measure]:
         Measure(f"l{level}", f"L{level} misses", missed, "accesses that no array up to this level answered"),
         Measure(f"l{level}-mpki", f"L{level} MPKI", mpki, "those for each 1,000 instructions"),
         Measure(f"l{level}-mpka", f"L{level} misses PKA", mpka, "those for each 1,000 accesses"),
-        Measure(f"l{level}-rate", f"L{level} miss rate %", rate, "those for each 100 accesses that looked at the level"),
+        Measure(
+            f"l{level}-rate", f"L{level} miss rate %", rate, "those for each 100 accesses that looked at the level"
+        ),
     ]
 
 
@@ -121,11 +127,28 @@ MEASURES = {
         Measure("walks", "walks", Sample.walks, "accesses that no level answered"),
         Measure("mpki", "walks PKI", _per_thousand(Sample.walks), "walks for each 1,000 instructions"),
         Measure("mpka", "walks PKA", _per_accesses(Sample.walks), "walks for each 1,000 accesses"),
-        Measure("walk-rate", "walk rate %", lambda it: _ratio(100 * it.walks(), it.accesses()), "walks for each 100 accesses"),
-        Measure("reads", "reads", lambda it: it.row["reads"], "memory reads of all walks, also those of first touches"),
-        Measure("rpki", "reads PKI", _per_thousand(lambda it: it.row["reads"]), "reads for each 1,000 instructions"),
-        Measure("reads-walk", "reads/walk", lambda it: _ratio(it.row["reads"], it.row["walks"]), "reads for each walk, of all walks"),
-        Measure("reads-access", "reads/access", lambda it: _ratio(it.row["reads"], it.row["accesses"]), "reads for each access"),
+        Measure(
+            "walk-rate",
+            "walk rate %",
+            lambda it: _ratio(100 * it.walks(), it.accesses()),
+            "walks for each 100 accesses",
+        ),
+        Measure(
+            "reads", "reads", lambda it: it.count("reads"), "memory reads of all walks, also those of first touches"
+        ),
+        Measure("rpki", "reads PKI", _per_thousand(lambda it: it.count("reads")), "reads for each 1,000 instructions"),
+        Measure(
+            "reads-walk",
+            "reads/walk",
+            lambda it: _ratio(it.row["reads"], it.row["walks"]),
+            "reads for each walk, of all walks",
+        ),
+        Measure(
+            "reads-access",
+            "reads/access",
+            lambda it: _ratio(it.row["reads"], it.row["accesses"]),
+            "reads for each access",
+        ),
         Measure("accesses", "accesses", Sample.accesses, "accesses"),
         Measure("first", "first touches", lambda it: it.first_touches, "accesses that had their page mapped on demand"),
         Measure("refused", "refused", lambda it: sum(it.row["refused"]), "commands refused, for any cause"),

@@ -11,15 +11,38 @@ from xlab.messages import Fault, Status
 def add_words(parser: argparse.ArgumentParser) -> None:
     """The files, and the words that say how their figures are reckoned."""
     parser.add_argument("files", nargs="+", metavar="[LABEL=]FILE", help="rows as JSON; - is standard input")
-    parser.add_argument("--config", action="append", default=[], metavar="FILE",
-                        help="the rows' configuration, which says the level of each array; else it is read off the counts")
-    parser.add_argument("--trace", action="append", default=[], metavar="[LABEL=]FILE", help="counts the trace's instructions")
-    parser.add_argument("--instructions", action="append", default=[], metavar="[LABEL=]N",
-                        help="the number of instructions; with --minus, of the part that is left")
-    parser.add_argument("--minus", action="append", default=[], metavar="[LABEL=]FILE",
-                        help="rows of the front of the same trace, which are taken off: the warm-up")
-    parser.add_argument("--first-touches", type=FirstTouches, choices=tuple(FirstTouches), default=FirstTouches.COUNTED,
-                        metavar="HOW", help="counted (as xlate does), once, or out")
+    parser.add_argument(
+        "--config",
+        action="append",
+        default=[],
+        metavar="FILE",
+        help="the rows' configuration, which says the level of each array; else it is read off the counts",
+    )
+    parser.add_argument(
+        "--trace", action="append", default=[], metavar="[LABEL=]FILE", help="counts the trace's instructions"
+    )
+    parser.add_argument(
+        "--instructions",
+        action="append",
+        default=[],
+        metavar="[LABEL=]N",
+        help="the number of instructions; with --minus, of the part that is left",
+    )
+    parser.add_argument(
+        "--minus",
+        action="append",
+        default=[],
+        metavar="[LABEL=]FILE",
+        help="rows of the front of the same trace, which are taken off: the warm-up",
+    )
+    parser.add_argument(
+        "--first-touches",
+        type=FirstTouches,
+        choices=tuple(FirstTouches),
+        default=FirstTouches.COUNTED,
+        metavar="HOW",
+        help="counted (as xlate does), once, or out",
+    )
     parser.add_argument("--rows", metavar="PATTERN", default="*", help="only rows with such names, as 'radix*'")  # fmt: skip
 
 
@@ -45,7 +68,9 @@ def instructions(words: argparse.Namespace, trace: str) -> int | None:
         raise Fault(f"--instructions {told}: a number is wanted", Status.USAGE)
     file = rowfiles.of_label(words.trace, trace)
     if told is None and file is not None and rowfiles.of_label(words.minus, trace):
-        raise Fault("with --minus, --instructions N says how many are left; --trace counts the whole trace", Status.USAGE)
+        raise Fault(
+            "with --minus, --instructions N says how many are left; --trace counts the whole trace", Status.USAGE
+        )
     return int(told) if told is not None else rowfiles.instructions(file) if file is not None else None
 
 

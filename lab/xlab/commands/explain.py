@@ -27,7 +27,9 @@ The words are xlate's own, all of which docs/FORMATS.md explains:
   --json          the rows as JSON
 """
 EXAMPLES = (
-    Example("xlab explain --config my.toml --script my.script --trace my.trace", "the rows, and what they keep silent about"),
+    Example(
+        "xlab explain --config my.toml --script my.script --trace my.trace", "the rows, and what they keep silent about"
+    ),
     Example("zstd -dc my.trace.zst | xlab explain --config my.toml --trace /dev/stdin", "of a trace in a pipe"),
 )
 NEEDS = Needs()
@@ -84,5 +86,4 @@ def explanation(status: int, message: str, given: list[str], found: list[rows.Ro
             return ["there is too little memory for the rows: fewer rows, or smaller `frames`, `entries` and `ranges`"]
         case 9 if not message:
             return ["a word is no text in UTF-8"]
-        case _:
-            return []
+    return []

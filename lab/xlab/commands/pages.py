@@ -45,7 +45,9 @@ class Page:
 def add_parser(parser: argparse.ArgumentParser) -> None:
     """Its words."""
     parser.add_argument("pages", nargs="+", metavar="PAGE", help="a Markdown file")
-    parser.add_argument("--write", action="store_true", help="writes figures and pictures into the pages and their folders")
+    parser.add_argument(
+        "--write", action="store_true", help="writes figures and pictures into the pages and their folders"
+    )
 
 
 def run(words: argparse.Namespace) -> int:
@@ -63,9 +65,12 @@ def run(words: argparse.Namespace) -> int:
             note(f"{name}: written anew")
         else:
             other += 1
-            print("\n".join(difflib.unified_diff(page.text.splitlines(), page.made.splitlines(), name, "its commands", "", "", 0, "")))
+            lines = page.text.splitlines(), page.made.splitlines()
+            print("\n".join(difflib.unified_diff(*lines, name, "its commands", n=0, lineterm="")))
     if other:
-        note(f"{other} of {len(words.pages)} pages have other figures than their commands print; --write writes them anew")
+        note(
+            f"{other} of {len(words.pages)} pages have other figures than their commands print; --write writes them anew"
+        )
     return Status.DATA if other else Status.OK
 
 
@@ -85,7 +90,8 @@ def output(command: str) -> str:
     plain = " ".join(command.split())
     own = plain.replace("./xlate ", f"{shlex.quote(program.xlate())} ")  # XLATE may name another program
     asked = ["bash", "-o", "pipefail", "-c", own]
-    told = {name: value for name, value in os.environ.items() if name != needs.AGAIN}  # an xlab in it finds its own Python
+    # an xlab in the command finds a Python of its own
+    told = {name: value for name, value in os.environ.items() if name != needs.AGAIN}
     ended = subprocess.run(asked, cwd=program.TOP, stdin=subprocess.DEVNULL, capture_output=True, text=True, env=told)
     if ended.returncode != 0:
         raise Fault(f"{plain}: status {ended.returncode}: {ended.stderr.strip()[-400:]}", Status.RUN)

@@ -23,8 +23,12 @@ marks and dashes differ, so that a picture can be printed in grey.
 """
 EXAMPLES = (
     Example("xlab plot rows tlbs.json --output tlbs.png", "misses of each level per 1,000 accesses"),
-    Example("xlab plot sweep study/rows.json --x tlb.2.sets --columns mpki --output study.svg", "a line for each design"),
-    Example("xlab plot rows hash=a.json sort=b.json --columns reads-access --output reads.pdf", "two traces, one scale"),
+    Example(
+        "xlab plot sweep study/rows.json --x tlb.2.sets --columns mpki --output study.svg", "a line for each design"
+    ),
+    Example(
+        "xlab plot rows hash=a.json sort=b.json --columns reads-access --output reads.pdf", "two traces, one scale"
+    ),
 )
 NEEDS = Needs(modules=("matplotlib",))
 
@@ -36,7 +40,14 @@ def add_parser(parser: argparse.ArgumentParser) -> None:
     parser.add_argument("--columns", metavar="NAMES", help="as those of `xlab table`; a sweep and a map have one")
     parser.add_argument("--x", metavar="KEY", help="the key along the axis; by default the one with most values")
     parser.add_argument("--title", default="", help="above a picture of one trace")
-    parser.add_argument("-o", "--output", dest="out", required=True, metavar="FILE", help="its ending chooses the form: .png, .svg or .pdf")
+    parser.add_argument(
+        "-o",
+        "--output",
+        dest="out",
+        required=True,
+        metavar="FILE",
+        help="its ending chooses the form: .png, .svg or .pdf",
+    )
 
 
 def run(words: argparse.Namespace) -> int:

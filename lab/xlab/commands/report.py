@@ -66,7 +66,9 @@ def add_parser(parser: argparse.ArgumentParser) -> None:
     parser.add_argument("--question", default="", help="paragraphs, or @FILE; an empty line parts them")
     parser.add_argument("--columns", metavar="NAMES", help="as those of `xlab table`")
     parser.add_argument("--base", metavar="ROW", help="the row against which changes are reckoned")
-    parser.add_argument("--plot", action="append", default=[], metavar="KIND[=COLUMNS]", help="a picture: rows, sweep or map")
+    parser.add_argument(
+        "--plot", action="append", default=[], metavar="KIND[=COLUMNS]", help="a picture: rows, sweep or map"
+    )
     parser.add_argument("--x", metavar="KEY", help="the key along the axis of a sweep's pictures")
     parser.add_argument("-o", "--output", dest="out", required=True, metavar="FILE", help="the page")
 
@@ -107,8 +109,14 @@ def table(words: argparse.Namespace, samples: list[Sample]) -> tuple[list[dict[s
     front = ["trace", "name", *swept.keys(samples)]
     rows = [[cell(it.trace), *(cell(it.row.get(key)) for key in front[1:]), *(cell(columns.cell(name, it)) for name in shown)]
             for it in samples]  # fmt: skip
-    heads = [*("row" if key == "name" else key for key in front), *(measures.heading(name, words.base) for name in shown)]
-    return [{"name": head, "text": all(row[at].is_text or not row[at].value for row in rows)} for at, head in enumerate(heads)], rows
+    heads = [
+        *("row" if key == "name" else key for key in front),
+        *(measures.heading(name, words.base) for name in shown),
+    ]
+    return [
+        {"name": head, "text": all(row[at].is_text or not row[at].value for row in rows)}
+        for at, head in enumerate(heads)
+    ], rows
 
 
 def cell(value: Value | list[Any]) -> Cell:
@@ -139,7 +147,10 @@ def picture(words: argparse.Namespace, samples: list[Sample], kind: str, names: 
         raise Fault(f"--plot {kind}: rows, sweep or map is wanted", Status.USAGE)
     columns = measures.checked(names.split(","), samples, None) if names else plot.usual(kind, samples)
     drawn = plot.figure(kind, samples, columns, words.x)
-    return Picture(base64.b64encode(style.text_of(drawn, ".svg")).decode(), f"{caption(kind, samples, columns, words.x)}. {HOW[words.first_touches]}")
+    return Picture(
+        base64.b64encode(style.text_of(drawn, ".svg")).decode(),
+        f"{caption(kind, samples, columns, words.x)}. {HOW[words.first_touches]}",
+    )
 
 
 def caption(kind: str, samples: list[Sample], columns: list[str], x: str | None) -> str:

@@ -48,15 +48,37 @@ NEEDS = Needs(modules=("tomli_w",), programs=("snakemake",))
 def add_parser(parser: argparse.ArgumentParser) -> None:
     """Its words."""
     parser.add_argument("template", metavar="TEMPLATE", help="a configuration, of any number of rows")
-    parser.add_argument("--set", action="append", default=[], metavar="[ROW:]KEY=VALUE,..", help="a key and the values that it takes")
-    parser.add_argument("--trace", action="append", default=[], required=True, metavar="[LABEL=]FILE",
-                        help="a trace, plain or compressed")
-    parser.add_argument("--script", action="append", default=[], metavar="[LABEL=]FILE",
-                        help="the script of a trace, or of all; without it each page is mapped when it is first touched")
-    parser.add_argument("-o", "--output", dest="out", required=True, metavar="FOLDER", help="where all that is made goes")
-    parser.add_argument("--rows", type=int, default=formats.MOST_ROWS, metavar="N",
-                        help=f"rows a file, 1 to {formats.MOST_ROWS}; a file reads its trace once")
-    parser.add_argument("--jobs", type=int, metavar="N", help="runs at a time; by default as many as there are processors")
+    parser.add_argument(
+        "--set", action="append", default=[], metavar="[ROW:]KEY=VALUE,..", help="a key and the values that it takes"
+    )
+    parser.add_argument(
+        "--trace",
+        action="append",
+        default=[],
+        required=True,
+        metavar="[LABEL=]FILE",
+        help="a trace, plain or compressed",
+    )
+    parser.add_argument(
+        "--script",
+        action="append",
+        default=[],
+        metavar="[LABEL=]FILE",
+        help="the script of a trace, or of all; without it each page is mapped when it is first touched",
+    )
+    parser.add_argument(
+        "-o", "--output", dest="out", required=True, metavar="FOLDER", help="where all that is made goes"
+    )
+    parser.add_argument(
+        "--rows",
+        type=int,
+        default=formats.MOST_ROWS,
+        metavar="N",
+        help=f"rows a file, 1 to {formats.MOST_ROWS}; a file reads its trace once",
+    )
+    parser.add_argument(
+        "--jobs", type=int, metavar="N", help="runs at a time; by default as many as there are processors"
+    )
     parser.add_argument("--slurm", metavar="PARTITION", help="runs are jobs of Slurm (sbatch) in this partition")
     parser.add_argument("--dry-run", action="store_true", help="writes the files of rows, and runs nothing")
     parser.add_argument("--snakemake", action="append", default=[], metavar="WORD", help="a further word for snakemake")  # fmt: skip
@@ -86,7 +108,9 @@ def _designs(words: argparse.Namespace) -> list[designs.Design]:
         rows = tomllib.loads(pathlib.Path(words.template).read_text())["row"]
         found = designs.designs([dict(row) for row in rows], [designs.axis(word) for word in words.set])
     except (ValueError, KeyError, TypeError) as fault:
-        raise Fault(f"{words.template} is no configuration: `xlab explain --config {words.template}` says why") from fault
+        raise Fault(
+            f"{words.template} is no configuration: `xlab explain --config {words.template}` says why"
+        ) from fault
     return found
 
 
@@ -178,7 +202,9 @@ def _told(place: Folder, left_out: list[str], todo: dict[str, Any], ended: int, 
         note(f"run {name} failed: {_message(place, name)}")
     if ended and not failed:
         note(f"snakemake ended with status {ended}: {_last(place.said)}")
-    note(f"{counted(len(rows), 'row')} in {place.rows}" + (f"; {counted(len(failed), 'run')} missing" if failed else ""))
+    note(
+        f"{counted(len(rows), 'row')} in {place.rows}" + (f"; {counted(len(failed), 'run')} missing" if failed else "")
+    )
     return Status.RUN if failed or ended else Status.DATA if left_out else Status.OK
 
 

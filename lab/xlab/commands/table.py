@@ -26,7 +26,10 @@ of a row, as fills or kicks, and each value that a sweep set, as tlb.2.sets, is 
 """
 EXAMPLES = (
     Example("xlab table rows.json --trace my.trace", "Markdown: misses of each level and reads per 1,000 instructions"),
-    Example("xlab table sqlite=a.json gcc=b.json --columns walks,walks% --base radix --sort walks", "two traces side by side"),
+    Example(
+        "xlab table sqlite=a.json gcc=b.json --columns walks,walks% --base radix --sort walks",
+        "two traces side by side",
+    ),
     Example("xlab table whole.json --minus front.json --first-touches out --format csv", "without the warm-up"),
 )
 NEEDS = Needs(modules=("pandas", "tabulate"))
@@ -47,7 +50,11 @@ def run(words: argparse.Namespace) -> int:
     """Prints the table."""
     samples = sampled.gathered(words)
     columns = chosen(words, samples)
-    if words.format == "markdown" and words.first_touches is FirstTouches.COUNTED and any(it.first_touches for it in samples):
+    if (
+        words.format == "markdown"
+        and words.first_touches is FirstTouches.COUNTED
+        and any(it.first_touches for it in samples)
+    ):
         note("first touches count twice, as xlate counts; --first-touches once or out takes that out")
     rowfiles.write(written(table(words, samples, columns), words.format), words.out)
     return Status.OK
@@ -90,7 +97,7 @@ def _sorted(words: argparse.Namespace, samples: list[Sample], lines: list[Any], 
     if words.sort == "row":
         return sorted(lines, key=lambda line: line["row"], reverse=words.reverse)
     measures.checked([words.sort], samples, words.base)
-    keys: dict[str, measures.Value] = {}
+    keys: dict[str, Any] = {}
     for it in samples:
         keys.setdefault(it.row["name"], columns.cell(words.sort, it))
     known = [line for line in lines if keys[line["row"]] is not None]
@@ -103,7 +110,9 @@ def written(frame: Any, form: str) -> str:
     if form == "json":
         return json.dumps(frame.where(frame.notna(), None).to_dict("records"), indent=1)
     if form == "csv":
-        return frame.to_csv(index=False).rstrip("\n")
+        return str(frame.to_csv(index=False)).rstrip("\n")
     texts = frame.apply(lambda column: column.map(shown_change if measures.is_change(column.name) else shown))
     texts["row"] = [f"`{name}`" for name in frame["row"]]
-    return texts.to_markdown(index=False, disable_numparse=True, colalign=("left", *["right"] * (len(frame.columns) - 1)))
+    return texts.to_markdown(
+        index=False, disable_numparse=True, colalign=("left", *["right"] * (len(frame.columns) - 1))
+    )

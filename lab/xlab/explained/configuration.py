@@ -3,7 +3,6 @@
 import pathlib
 import re
 import tomllib
-from collections.abc import Callable
 from typing import Any
 
 from xlab import formats
@@ -45,7 +44,7 @@ def _not_toml(file: str, raw: bytes) -> list[str]:
     except UnicodeDecodeError as fault:
         return [f"{file}:{raw[: fault.start].count(10) + 1}: byte {fault.start} is no UTF-8"]
     if text.lstrip().startswith("{"):
-        return [f"{file} looks like JSON, and TOML is wanted: rows begin with [[row]], then lines as mode = \"sv39\""]
+        return [f'{file} looks like JSON, and TOML is wanted: rows begin with [[row]], then lines as mode = "sv39"']
     try:
         tomllib.loads(text)
     except tomllib.TOMLDecodeError as fault:
@@ -82,10 +81,14 @@ def _top(document: Table, places: Places, rule: Rule) -> list[str]:
             return [places.at_top("row", "`row` is no array of tables: write [[row]] with two brackets above each row")]
         case Rule.OUTSIDE:
             count = len(rows) if isinstance(rows, list) else 0
-            return [places.at_top("row", f"{count} rows, and {wanted.split(',')[0]} are allowed; `xlab sweep` splits more")]
+            return [
+                places.at_top("row", f"{count} rows, and {wanted.split(',')[0]} are allowed; `xlab sweep` splits more")
+            ]
         case _:
             others = [key for key in document if key != "row"]
-            return [places.at_top(key, f"`{key}` stands outside the rows; no other key than `row` may") for key in others]
+            return [
+                places.at_top(key, f"`{key}` stands outside the rows; no other key than `row` may") for key in others
+            ]
 
 
 def _row(rows: list[Table], row: int, key: int, rule: Rule, places: Places) -> list[str]:
@@ -194,13 +197,13 @@ def _tlb(arrays: object, row: int, rule: Rule, places: Places) -> list[str]:
 def _array(array: object) -> str | None:
     """What is wrong with one array by itself."""
     if not isinstance(array, dict):
-        return f"it is {_said_type(array)}; wanted: a table, as {{ level = 1, sets = 16, width = 4, orders = [\"4k\"] }}"
+        return f'it is {_said_type(array)}; wanted: a table, as {{ level = 1, sets = 16, width = 4, orders = ["4k"] }}'
     for key in formats.ARRAY_KEYS.values():
         if key.name not in array:
             near = [name for name in array if name not in formats.ARRAY_KEYS and nearest(name, [key.name])]
             return f"it has no `{key.name}`; allowed: {key.allowed}" + (f"; `{near[0]}` stands there" if near else "")
-        tests: Callable[[Any], str | None] = _orders if key.name == "orders" else lambda value, key=key: _number(key, value)
-        fault = tests(array[key.name])
+        value = array[key.name]
+        fault = _orders(value) if key.name == "orders" else _number(key, value)
         if fault:
             return f"`{key.name}` {fault}"
     if array["sets"] * array["width"] > formats.MOST_ENTRIES:
@@ -208,7 +211,11 @@ def _array(array: object) -> str | None:
         return f"`sets` times `width` is {entries}; allowed: at most {formats.MOST_ENTRIES}"
     others = [name for name in array if name not in formats.ARRAY_KEYS]
     known = formats.listed(tuple(formats.ARRAY_KEYS), "and")
-    return f"`{others[0]}` is none of its keys{nearest(others[0], formats.ARRAY_KEYS)}: allowed: {known}" if others else None
+    return (
+        f"`{others[0]}` is none of its keys{nearest(others[0], formats.ARRAY_KEYS)}: allowed: {known}"
+        if others
+        else None
+    )
 
 
 def _number(key: Key, value: object) -> str | None:
@@ -235,7 +242,8 @@ def _orders(value: object) -> str | None:
 
 def _together(arrays: list[Table]) -> tuple[str, int]:
     """What is wrong with arrays that are each well, and the array at which it shows."""
-    level, held = 0, {}
+    level = 0
+    held: dict[tuple[int, str], int] = {}
     for at, array in enumerate(arrays, 1):
         if array["level"] not in (level, level + 1) or array["level"] == 0:
             told = "the first array has" if at == 1 else f"behind level {level} array {at} has"
@@ -243,6 +251,9 @@ def _together(arrays: list[Table]) -> tuple[str, int]:
         level = array["level"]
         for order in array["orders"]:
             if (level, order) in held:
-                return f"arrays {held[level, order]} and {at} of level {level} both hold {order}; in one level no order stands twice", at
+                return (
+                    f"arrays {held[level, order]} and {at} of level {level} both hold {order}; in one level no order stands twice",
+                    at,
+                )
             held[level, order] = at
     return "its arrays are at odds: levels begin at 1, none is left out, and in one level no order stands twice", 1

@@ -15,14 +15,17 @@ Row = dict[str, Any]
 def read(line: str) -> list[Row]:
     """The rows of a line of output: one, or those of `--json`; none where it is another line."""
     if line.startswith("[{"):
-        return json.loads(line)
+        listed: list[Row] = json.loads(line)
+        return listed
     found = LINE.fullmatch(line)
     if found is None:
         return []
     counts: Row = dict(part.split("=") for part in found[2].split())
     refused = [int(part) for part in counts.pop("refused").split(",")]
     pasum = counts.pop("pasum")
-    return [{name: int(count) for name, count in counts.items()} | {"name": found[1], "refused": refused, "pasum": pasum}]
+    return [
+        {name: int(count) for name, count in counts.items()} | {"name": found[1], "refused": refused, "pasum": pasum}
+    ]
 
 
 def explain(rows: list[Row], config: str, script: str, trace: str, made: bool) -> list[str]:
@@ -37,7 +40,9 @@ def explain(rows: list[Row], config: str, script: str, trace: str, made: bool) -
 def _demands(script: str) -> bool:
     """Whether a script has demand lines: then each first touch is unmapped once, and a map is accepted for it."""
     file = pathlib.Path(script)
-    return file.is_file() and any(line.split()[:1] == ["demand"] for line in file.read_text(errors="replace").splitlines())
+    return file.is_file() and any(
+        line.split()[:1] == ["demand"] for line in file.read_text(errors="replace").splitlines()
+    )
 
 
 def _designs(config: str) -> dict[str, Row]:
@@ -69,10 +74,14 @@ def _row(row: Row, design: Row, demands: bool) -> list[str]:
     if lost > 0 and (row["ok"] or row["accepted"]):
         said.append(f"{name}: {lost} accesses found no page, nor a demand line that covers it")
     if row["denied"]:
-        said.append(f"{name}: {row['denied']} accesses were denied: their page's PERM does not allow them (rwxu allows all)")
+        said.append(
+            f"{name}: {row['denied']} accesses were denied: their page's PERM does not allow them (rwxu allows all)"
+        )
     if row["notcanonical"]:
         mode = design.get("mode", "its mode")
-        said.append(f"{name}: {row['notcanonical']} addresses are not canonical in {mode}: take a mode with more levels")
+        said.append(
+            f"{name}: {row['notcanonical']} addresses are not canonical in {mode}: take a mode with more levels"
+        )
     return said
 
 
@@ -84,7 +93,9 @@ def _remedy(cause: int, design: Row) -> str:
         case 7:
             return f"raise {_with_value('frames', design)}"
         case 8:
-            keys = formats.ROOM.get(str(design.get("table")), tuple(key for keys in formats.ROOM.values() for key in keys))
+            keys = formats.ROOM.get(
+                str(design.get("table")), tuple(key for keys in formats.ROOM.values() for key in keys)
+            )
             return f"raise {formats.listed(tuple(_with_value(key, design) for key in keys))}"
         case 9:
             return f"raise {_with_value('cap_bits', design)} or {_with_value('ways', design)}"

@@ -37,7 +37,10 @@ def nearest(word: object, known: Iterable[object], count: int = 1) -> str:
 def nearest_number(value: float, known: Iterable[object]) -> str:
     """` (the nearest: 16 or 32)` for a number that is none of the known ones."""
     numbers = sorted(it for it in known if isinstance(it, int))
-    around = [max((n for n in numbers if n <= value), default=None), min((n for n in numbers if n > value), default=None)]
+    around = [
+        max((n for n in numbers if n <= value), default=None),
+        min((n for n in numbers if n > value), default=None),
+    ]
     return f" (the nearest: {formats.listed(tuple(n for n in around if n is not None))})"
 
 

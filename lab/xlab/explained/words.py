@@ -5,13 +5,14 @@ import pathlib
 import re
 from dataclasses import dataclass, field
 
-from xlab import formats
 from xlab.explained.said import nearest
 
 FILES = ("--config", "--script", "--trace")
 VALUED = (*FILES, "--make")
 KNOWN = (*VALUED, "--answers", "--image", "--json")
-USED = "words: --config FILE [--script FILE] [--trace FILE] [--make N] [--answers] [--image] [--json]; see docs/FORMATS.md"
+USED = (
+    "words: --config FILE [--script FILE] [--trace FILE] [--make N] [--answers] [--image] [--json]; see docs/FORMATS.md"
+)
 MOST_MADE = 1048576
 
 

@@ -16,7 +16,12 @@ def drawn(samples: list[Sample], names: list[str], title: str = "") -> Any:
     names = [name for name in names if any(_shows(it, name) for it in samples)] or names
     traces = list(dict.fromkeys(it.trace for it in samples))
     rows = list(dict.fromkeys(it.row["name"] for it in samples))
-    figure, panels = style.panels(len(traces), 3.4 + (3.6 if len(traces) == 1 else 2.6) * len(traces), 1.2 + 0.23 * len(rows), layout="constrained")
+    figure, panels = style.panels(
+        len(traces),
+        3.4 + (3.6 if len(traces) == 1 else 2.6) * len(traces),
+        1.2 + 0.23 * len(rows),
+        layout="constrained",
+    )
     values = [value for it in samples for value in _values(it, names)]
     far = style.log_axis(panels[0], "x", values)
     for axes, trace in zip(panels, traces):
@@ -90,7 +95,9 @@ def _numbers(axes: Any, known: list[tuple[Any, int]], far: bool) -> None:
 def _zeros(axes: Any, lines: list[int], head: str) -> None:
     """Says what is 0 at the edge of a log axis, where a mark has no place."""
     for y in lines:
-        axes.annotate(f"{head}: 0", (axes.get_xlim()[0], y), (2, 0), textcoords="offset points", va="center", fontsize=7)
+        axes.annotate(
+            f"{head}: 0", (axes.get_xlim()[0], y), (2, 0), textcoords="offset points", va="center", fontsize=7
+        )
 
 
 def _short(value: float) -> str:

@@ -45,7 +45,9 @@ def lines(samples: list[Sample], name: str, x: str | None, title: str = "") -> A
     samples = [it for it in samples if over in it.row]
     designs = list(dict.fromkeys(line_of(it, over, known) for it in samples))
     if len(designs) > MOST_LINES:
-        raise Fault(f"{len(designs)} lines are too many to tell apart: --rows PATTERN chooses, or `xlab plot map`", Status.USAGE)
+        raise Fault(
+            f"{len(designs)} lines are too many to tell apart: --rows PATTERN chooses, or `xlab plot map`", Status.USAGE
+        )
     traces = list(dict.fromkeys(it.trace for it in samples))
     ticks = sorted({_place(it.row[over]) for it in samples}, key=_order)
     figure, panels = style.panels(len(traces), 2 + 2.7 * len(traces), 3.4, layout="constrained")
@@ -114,5 +116,13 @@ def _cells(axes: Any, cells: list[list[Any]], scale: Any) -> Any:
         for x, value in enumerate(line):
             if isinstance(value, int | float):
                 ink = "white" if value > 0 and scale(value) < 0.55 else "black"
-                axes.text(x, y, f"{value:.2g}" if value < 100 else f"{value:,.0f}", ha="center", va="center", fontsize=6.5, color=ink)
+                axes.text(
+                    x,
+                    y,
+                    f"{value:.2g}" if value < 100 else f"{value:,.0f}",
+                    ha="center",
+                    va="center",
+                    fontsize=6.5,
+                    color=ink,
+                )
     return shown

@@ -35,7 +35,9 @@ def named(what: str, words: Iterable[str]) -> list[Origin]:
 def of_program(facts: dict[str, str]) -> list[Origin]:
     """The program and what is known of it."""
     known = [Origin("program", facts.get("program", "unknown"), facts.get("checksum", ""))]
-    return known + [Origin(name, value) for name, value in facts.items() if name not in ("program", "checksum", "proof")]
+    return known + [
+        Origin(name, value) for name, value in facts.items() if name not in ("program", "checksum", "proof")
+    ]
 
 
 def of_sweep(words: Iterable[str]) -> dict[str, Any] | None:
@@ -43,7 +45,8 @@ def of_sweep(words: Iterable[str]) -> dict[str, Any] | None:
     for word in words:
         beside = pathlib.Path(rowfiles.labelled(word)[1]).with_name("provenance.json")
         if beside.is_file():
-            return json.loads(beside.read_text())
+            known: dict[str, Any] = json.loads(beside.read_text())
+            return known
     return None
 
 

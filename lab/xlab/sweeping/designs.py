@@ -52,7 +52,9 @@ def _known(key: str) -> None:
     inner = place[2] if place else None
     if place and inner is not None and inner not in formats.ARRAY_KEYS:
         known = formats.listed(tuple(formats.ARRAY_KEYS))
-        raise Fault(f"--set {key}: {inner} is no key of an array{nearest(inner, formats.ARRAY_KEYS)}: {known}", Status.USAGE)
+        raise Fault(
+            f"--set {key}: {inner} is no key of an array{nearest(inner, formats.ARRAY_KEYS)}: {known}", Status.USAGE
+        )
     names = [it.name for it in formats.KEYS.values()]
     if not place and key not in names:
         forms = "a key of a row, tlb.N.KEY (array N) or tlb.lN.KEY (the arrays of level N) is wanted"

@@ -10,7 +10,11 @@ from xlab import rowfiles
 def of_trace(file: str) -> dict[str, object]:
     """The trace's instructions, and the SHA-256 of its file as it lies there."""
     with open(file, "rb") as opened:
-        return {"file": file, "sha256": hashlib.file_digest(opened, "sha256").hexdigest(), "instructions": rowfiles.instructions(file)}
+        return {
+            "file": file,
+            "sha256": hashlib.file_digest(opened, "sha256").hexdigest(),
+            "instructions": rowfiles.instructions(file),
+        }
 
 
 if __name__ == "__main__":

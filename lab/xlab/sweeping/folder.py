@@ -71,7 +71,9 @@ def written(file: pathlib.Path, text: str) -> pathlib.Path:
     return file
 
 
-def configurations(folder: Folder, program: str, found: list[Design], most: int) -> tuple[list[pathlib.Path], list[str]]:
+def configurations(
+    folder: Folder, program: str, found: list[Design], most: int
+) -> tuple[list[pathlib.Path], list[str]]:
     """Writes the designs into files of at most `most` rows. A design that the program refuses is left out: what is said
     of it comes beside the files."""
     import tomli_w
@@ -101,7 +103,9 @@ def _allowed(folder: Folder, program: str, part: list[Design]) -> tuple[list[Des
     while kept:
         trial.parent.mkdir(parents=True, exist_ok=True)
         trial.write_text(tomli_w.dumps({"row": [it.row for it in kept]}))
-        ended = subprocess.run([program, "--config", str(trial), "--script", "/dev/null"], capture_output=True, text=True)
+        ended = subprocess.run(
+            [program, "--config", str(trial), "--script", "/dev/null"], capture_output=True, text=True
+        )
         found = FAULT.search(ended.stderr)
         if ended.returncode != 2 or found is None or found[1] == "0":
             break
