@@ -91,6 +91,12 @@ def test_traces_side_by_side_and_sorted(xlab, made):
     ]
 
 
+def test_what_a_sweep_set_stands_in_front(xlab, made):
+    rows = [BARE | {"trace": trace, "template": "t", "tlb.2.sets": 4, "walk_caches": [1, 2]} for trace in ("x", "y")]
+    found = figures(xlab, made("rows.json", *rows), "--columns", "walks")
+    assert found["bare"] == {"tlb.2.sets": "4", "walk_caches": "[1, 2]", "x walks": "1000", "y walks": "1000"}
+
+
 def test_a_level_without_a_hit_wants_the_configuration(xlab, made, tmp_path):
     arrays = "".join(f'{{ level = {level}, sets = 1, width = 1, orders = ["4k"] }},' for level in (1, 2))
     (tmp_path / "c.toml").write_text(f'[[row]]\nname = "r"\ntlb = [{arrays}]\n')

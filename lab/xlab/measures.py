@@ -157,6 +157,9 @@ MEASURES = {
 }
 UNITS = {"mpki": "per 1,000 instructions", "rpki": "per 1,000 instructions", "mpka": "per 1,000 accesses", "rate": "per cent",
          "walk": "reads per walk", "access": "reads per access"}  # fmt: skip
+OWN = {"trace", "config", "instructions", "template", "name", "tlb", "refused", "pasum", "accepted", "accesses", "denied",
+       "fences", "fills", "growths", "invalidated", "kicks", "migrated", "notcanonical", "ok", "reads", "undone", "unmapped",
+       "walks", "wchits"}  # fmt: skip
 AGAINST = "%"  # behind a column's name: its change in per cent against the base row
 
 
@@ -189,6 +192,11 @@ def value(name: str, it: Sample) -> Value:
         return MEASURES[name].value(it)
     found = it.row.get(name)
     return found if isinstance(found, int | float | str | None) else str(found)
+
+
+def set_keys(samples: list[Sample]) -> list[str]:
+    """The keys that a sweep set: what rows hold beside their counts and their origin."""
+    return list(dict.fromkeys(key for it in samples for key in it.row if key not in OWN))
 
 
 def unit(name: str) -> str:

@@ -3,6 +3,7 @@
 import argparse
 import subprocess
 import sys
+import threading
 from collections.abc import Iterable
 
 from xlab import program
@@ -45,14 +46,23 @@ def run(asked: argparse.Namespace) -> int:
     """Runs the program and explains; its status is the program's."""
     running = subprocess.Popen([program.xlate(), *asked.words], stdout=subprocess.PIPE, stderr=subprocess.PIPE)
     assert running.stdout and running.stderr
+    heard: list[str] = []
+    hears = threading.Thread(target=_heard, args=(running.stderr, heard))
+    hears.start()
     found = list(_through(running.stdout))
-    message = running.stderr.read().decode(errors="replace")
-    sys.stdout.flush()
-    sys.stderr.write(message)
+    hears.join()
+    message = "".join(heard)
     status = running.wait()
     for line in explanation(status, message, asked.words, found):
         print(line if line.startswith("    ") else f"explain: {line}", file=sys.stderr)
     return status
+
+
+def _heard(errors: Iterable[bytes], heard: list[str]) -> None:
+    """Hands on what the program says, as it says it: a launcher that builds it first says how far it is."""
+    for line in errors:
+        heard.append(line.decode(errors="replace"))
+        print(heard[-1], end="", file=sys.stderr, flush=True)
 
 
 def _through(output: Iterable[bytes]) -> Iterable[rows.Row]:

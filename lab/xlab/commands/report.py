@@ -106,7 +106,7 @@ def table(words: argparse.Namespace, samples: list[Sample]) -> tuple[list[dict[s
     bases = {it.trace: it for it in samples if it.row["name"] == words.base}
     columns = Columns(measures.checked(names, samples, words.base), words.base, bases)
     shown = [name for name in columns.names if any(columns.cell(name, it) is not None for it in samples)]
-    front = ["trace", "name", *swept.keys(samples)]
+    front = ["trace", "name", *measures.set_keys(samples)]
     rows = [[cell(it.trace), *(cell(it.row.get(key)) for key in front[1:]), *(cell(columns.cell(name, it)) for name in shown)]
             for it in samples]  # fmt: skip
     heads = [
@@ -133,7 +133,7 @@ def pictures(words: argparse.Namespace, samples: list[Sample]) -> list[Picture]:
 
 def usual(samples: list[Sample]) -> list[str]:
     """The kinds of picture that suit the rows."""
-    known = swept.keys(samples)
+    known = measures.set_keys(samples)
     if known:
         axis = swept.axis_of(samples, None)
         lines = {swept.line_of(it, axis, known) for it in samples}

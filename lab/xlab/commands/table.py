@@ -13,7 +13,7 @@ from xlab.needs import Needs
 SUMMARY = "misses, MPKI, rates and changes of rows, as Markdown, CSV or JSON"
 DESCRIPTION = f"""
 Makes a table of rows that xlate printed with --json, or that xlab sweep gathered. Files of several traces stand side by
-side. Misses are those of a level, and not of its arrays: an array of 2 MiB pages beside one of 4 KiB pages counts a miss
+side; of a sweep the values set stand in front. Misses are those of a level, and not of its arrays: an array of 2 MiB pages beside one of 4 KiB pages counts a miss
 wherever the other one hits.
 
 A page that is mapped on demand is missed twice at its first touch, once unmapped and once mapped. --first-touches once
@@ -76,13 +76,15 @@ def table(words: argparse.Namespace, samples: list[Sample], columns: Columns) ->
 
     kept = sampled.kept(samples, words.rows)
     traces = list(dict.fromkeys(it.trace for it in kept))
+    swept = [key for key in measures.set_keys(kept) if key not in columns.names]
     lines: dict[str, dict[str, measures.Value]] = {}
     for it in kept:
         cells = columns.cells(it)
         named = cells if len(traces) == 1 else {f"{it.trace} {head}": value for head, value in cells.items()}
-        lines.setdefault(it.row["name"], {"row": it.row["name"]}).update(named)
+        own = {"row": it.row["name"]} | {key: measures.value(key, it) for key in swept}
+        lines.setdefault(it.row["name"], own).update(named)
     frame = pandas.DataFrame(_sorted(words, kept, list(lines.values()), columns), dtype=object)
-    return frame[["row", *_heads(traces, columns)]]
+    return frame[["row", *swept, *_heads(traces, columns)]]
 
 
 def _heads(traces: list[str], columns: Columns) -> list[str]:

@@ -9,21 +9,13 @@ from xlab.measures import Sample
 from xlab.messages import Fault, Status
 from xlab.pictures import style
 
-OWN = {"trace", "config", "instructions", "template", "name", "tlb", "refused", "pasum"}
 MOST_LINES = 12
 Point = tuple[Any, float]
 
 
-def keys(samples: list[Sample]) -> list[str]:
-    """The keys that the sweep set: those that are no counts of a row."""
-    counts = {"accepted", "accesses", "denied", "fences", "fills", "growths", "invalidated", "kicks", "migrated", "notcanonical",
-              "ok", "reads", "undone", "unmapped", "walks", "wchits"}  # fmt: skip
-    return list(dict.fromkeys(key for it in samples for key in it.row if key not in OWN | counts))
-
-
 def axis_of(samples: list[Sample], x: str | None) -> str:
     """The key of the axis: the one that is named, or the one that takes most values."""
-    known = keys(samples)
+    known = measures.set_keys(samples)
     if not known:
         raise Fault("these rows are of no sweep: `xlab sweep` writes rows with the values that it set", Status.USAGE)
     if x is None:
@@ -41,7 +33,7 @@ def line_of(it: Sample, x: str, among: list[str]) -> str:
 
 def lines(samples: list[Sample], name: str, x: str | None, title: str = "") -> Any:
     """A measure over the values of a key: a panel for each trace, a line for each design else alike."""
-    over, known = axis_of(samples, x), keys(samples)
+    over, known = axis_of(samples, x), measures.set_keys(samples)
     samples = [it for it in samples if over in it.row]
     designs = list(dict.fromkeys(line_of(it, over, known) for it in samples))
     if len(designs) > MOST_LINES:
@@ -85,7 +77,7 @@ def heat(samples: list[Sample], name: str, x: str | None) -> Any:
     """A map for each trace: a line for each design else alike, a column for each value; one scale for all."""
     import matplotlib
 
-    over, known = axis_of(samples, x), keys(samples)
+    over, known = axis_of(samples, x), measures.set_keys(samples)
     samples = [it for it in samples if over in it.row]
     traces = list(dict.fromkeys(it.trace for it in samples))
     designs = list(dict.fromkeys(line_of(it, over, known) for it in samples))
