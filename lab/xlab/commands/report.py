@@ -49,6 +49,15 @@ class Picture:
     caption: str
 
 
+@dataclass
+class Head:
+    """A heading, what it means, and whether its column has texts."""
+
+    name: str
+    note: str
+    text: bool = False
+
+
 @dataclass(frozen=True)
 class Cell:
     """A value of the table: what it sorts by, and what is shown."""
@@ -100,7 +109,7 @@ def question(text: str) -> list[str]:
     return [part.strip() for part in whole.split("\n\n") if part.strip()]
 
 
-def table(words: argparse.Namespace, samples: list[Sample]) -> tuple[list[dict[str, Any]], list[list[Cell]]]:
+def table(words: argparse.Namespace, samples: list[Sample]) -> tuple[list[Head], list[list[Cell]]]:
     """The headings and cells: trace, row, what a sweep set, and the columns."""
     names = words.columns.split(",") if words.columns else measures.usual(samples, words.base)
     bases = {it.trace: it for it in samples if it.row["name"] == words.base}
@@ -109,14 +118,13 @@ def table(words: argparse.Namespace, samples: list[Sample]) -> tuple[list[dict[s
     front = ["trace", "name", *measures.set_keys(samples)]
     rows = [[cell(it.trace), *(cell(it.row.get(key)) for key in front[1:]), *(cell(columns.cell(name, it)) for name in shown)]
             for it in samples]  # fmt: skip
-    heads = [
-        *("row" if key == "name" else key for key in front),
-        *(measures.heading(name, words.base) for name in shown),
+    heads = [Head("row" if key == "name" else key, "") for key in front]
+    heads += [
+        Head(measures.heading(name, words.base), measures.spoken(name.removesuffix(measures.AGAINST))) for name in shown
     ]
-    return [
-        {"name": head, "text": all(row[at].is_text or not row[at].value for row in rows)}
-        for at, head in enumerate(heads)
-    ], rows
+    for at, head in enumerate(heads):
+        head.text = all(row[at].is_text or not row[at].value for row in rows)
+    return heads, rows
 
 
 def cell(value: Value | list[Any]) -> Cell:
@@ -147,9 +155,10 @@ def picture(words: argparse.Namespace, samples: list[Sample], kind: str, names: 
         raise Fault(f"--plot {kind}: rows, sweep or map is wanted", Status.USAGE)
     columns = measures.checked(names.split(","), samples, None) if names else plot.usual(kind, samples)
     drawn = plot.figure(kind, samples, columns, words.x)
+    shown = caption(kind, samples, columns, words.x)
     return Picture(
         base64.b64encode(style.text_of(drawn, ".svg")).decode(),
-        f"{caption(kind, samples, columns, words.x)}. {HOW[words.first_touches]}",
+        f"{shown[:1].upper()}{shown[1:]}. {HOW[words.first_touches]}",
     )
 
 
