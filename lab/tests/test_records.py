@@ -187,6 +187,14 @@ def test_a_file_is_written_whole_or_not_at_all(tmp_path):
     assert file.read_text() == "before" and list(tmp_path.iterdir()) == [file]
 
 
+@pytest.mark.parametrize("name", ["nowhere/out", "."])
+def test_a_file_that_cannot_be_written(name, xlab):
+    ended = xlab("records", "-o", name, SMALL)
+    assert ended.returncode == Status.NO_OUTPUT and ended.stderr.startswith(
+        f"xlab records: {name}: "
+    )
+
+
 def test_a_file_that_is_not_there(xlab):
     ended = xlab("records", "nowhere")
     assert (

@@ -76,25 +76,30 @@ def written(name: str) -> Iterator[BinaryIO]:
         sys.stdout.buffer.flush()
         return
     final, packer = pathlib.Path(name), SUFFIXES.get(pathlib.Path(name).suffix)
-    if (
-        final.exists() and not final.is_file()
-    ):  # a pipe or a device has no other name to be written under
-        with open(final, "wb") as device:
+    if final.exists() and not final.is_file():
+        # a pipe or a device has no other name to be written under
+        with _made(final, name) as device:
             yield device
         return
     part = final.with_name(f"{final.name}.{os.getpid()}.part")
     try:
-        with open(part, "wb") as file:
+        with _made(part, name) as file:
             if packer is None:
                 yield file
             else:
                 with _packed([_there(packer), "-qc"], file) as pipe:
                     yield pipe
         part.replace(final)
-    except FileNotFoundError as fault:
-        raise Fault(f"{fault.filename}: {fault.strerror}", Status.NO_OUTPUT) from fault
     finally:
         part.unlink(missing_ok=True)
+
+
+def _made(path: pathlib.Path, name: str) -> BinaryIO:
+    """The file at a path, to be written; the message has the name that was asked for."""
+    try:
+        return open(path, "wb")
+    except OSError as fault:
+        raise Fault(f"{name}: {fault.strerror}", Status.NO_OUTPUT) from fault
 
 
 @contextlib.contextmanager

@@ -26,6 +26,7 @@ class Traced:
     command: list[str]
     environment: dict[str, str] = field(default_factory=dict)
     syscalls: bool = False
+    number: int = 0  # of its process, once it runs
     interrupted: bool = False
     status: int | None = None  # of the program, once it has ended; a signal's number is negative
     stopped: bool = False  # by us, as enough was read
@@ -76,6 +77,7 @@ class Traced:
                 pass_fds=kept,
             ) as run:
                 shown.stdin.close()
+                self.number = run.pid
                 try:
                     yield run
                 finally:

@@ -143,12 +143,14 @@ def _sieve(words: argparse.Namespace) -> Sieve:
 def _itself(words: argparse.Namespace, traced: Traced) -> None:
     """Writes the program's own records while it runs."""
     sieve = _sieve(words)
-    with traced.pieces() as pieces, files.written(words.output) as output:
-        for text in sieve.texts(files.watched(pieces)):
-            output.write(text)
+    with traced.pieces() as pieces:
+        name = words.output.replace("%p", str(traced.number))
+        with files.written(name) as output:
+            for text in sieve.texts(files.watched(pieces)):
+                output.write(text)
     if not sieve.records:
         raise Fault(f"{words.program} left no records", Status.RUN)
-    _said(words.output, sieve)
+    _said(name, sieve)
 
 
 def _each_process(words: argparse.Namespace, traced: Traced) -> None:
