@@ -19,7 +19,7 @@ use xl_lackey::{Access, Batch, nth_access, sole_access};
 use xl_model::{Event, Kind};
 
 /// The event of a command that waits among accesses.
-#[derive(Clone, Copy, Debug, PartialEq, Eq)]
+#[derive(Clone, Copy)]
 pub struct WaitingEvent {
     /// How many of the accesses come before it, and behind the event before it.
     pub gap: usize,
