@@ -6,4 +6,4 @@ mod bench;
 mod tests;
 
 pub use bench::run;
-pub use xl_serving::Status;
+pub use xl_course::Status;
