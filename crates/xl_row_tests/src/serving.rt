@@ -5,13 +5,12 @@ ghost use Rattle.std.specs.Prelude.{[]};
 use std::alloc::{AllocError, Global};
 use std::test::Fail;
 use xl_areas::Areas;
+use xl_course::{Source, Status, Stop, tell};
 use xl_lackey::Access;
 use xl_model::{Event, InputFault, Kind, NoMemory, Row};
 use xl_outside::{Failed, MemFolder, MemSink, Sink, put_all};
-use xl_script::parse;
-use xl_serving::{
-    EndStop, MadeTape, Rows, ServeStop, Status, Tape, Trace, WaitingEvent, run, serve, write_end,
-};
+use xl_serving::{MadeTape, Rows, TraceFile, WaitingEvent, report, words_stop, write_end};
+use xl_words::{Words, read};
 
 /// No rows, and no memory for one.
 #[derive(Drop)]
@@ -160,16 +159,24 @@ fn each_run_has_its_ending_and_its_message(rt: HostRuntime) -> Result<(), Fail> 
         let mut out = MemSink::open(alloc, 0, Vec::new(alloc), 1)?;
         let mut err = MemSink::open(alloc, 200, Vec::new(alloc), 7)?;
         let given = words(alloc, names)?;
-        let status = run::<NoRows, Tape, MemFolder, MemSink, MemSink>(
-            alloc,
-            &given,
-            &mut files,
-            &mut out,
-            &mut err,
-            &mut NoRows,
-        );
+        let end = match read(alloc, given.as_slice()) {
+            Ok(Words::Plain(plain)) => report(alloc, &plain, &mut files, &mut out, &mut NoRows),
+            Err(fault) => Err(words_stop(fault)),
+        };
+        tell(&mut err, end);
+        let status = Status::of(end);
         assert_eq!(rt; status, want, "{message}");
         assert_eq!(rt; err.bytes(), message.as_bytes());
+    }
+    Ok(())
+}
+
+/// How a trace of a few records ends.
+fn read_all(source: &mut TraceFile<'_>, files: &mut MemFolder) -> Result<(), Stop> {
+    for _ in 0..4 {
+        let Some(_) = source.next(files)? else {
+            return Ok(());
+        };
     }
     Ok(())
 }
@@ -177,32 +184,20 @@ fn each_run_has_its_ending_and_its_message(rt: HostRuntime) -> Result<(), Fail> 
 #[test]
 fn the_trace_is_read_until_it_ends_or_is_at_fault(rt: HostRuntime) -> Result<(), Fail> {
     let alloc = rt.alloc();
-    let cases: [(&[u8], u64, Result<(), ServeStop>); 4] = [
+    let cases: [(&[u8], u64, Result<(), Stop>); 4] = [
         (TRACE, 0, Ok(())),
         (b"", 0, Ok(())),
         (
             b" L 1008,4\n L 2\n",
             0,
-            Err(ServeStop::Input(InputFault::TraceLine { line: 2, reason: 2 })),
+            Err(Stop::Input(InputFault::TraceLine { line: 2, reason: 2 })),
         ),
-        (TRACE, 2, Err(ServeStop::ReadFault)),
+        (TRACE, 2, Err(Stop::ReadFault)),
     ];
     for (trace, failing, want) in cases {
         let mut files = folder(alloc, &[("trace", trace)], failing)?;
-        let mut out = MemSink::open(alloc, 0, Vec::new(alloc), 1)?;
-        let script = parse(alloc, SCRIPT)?;
-        let mut areas = Areas::open(alloc)?;
-        let mut tape = Tape::open(alloc)?;
-        let end = serve(
-            &mut NoRows,
-            &mut areas,
-            true,
-            &mut out,
-            &mut tape,
-            &mut files,
-            "trace",
-            &script,
-        );
+        let mut source = TraceFile::open(alloc, "trace")?;
+        let end = read_all(&mut source, &mut files);
         assert!(rt; end == want);
     }
     Ok(())
@@ -216,7 +211,7 @@ fn no_memory_for_json_leaves_what_was_told(rt: HostRuntime) -> Result<(), Fail> 
     let mut out = MemSink::open(alloc, 100, Vec::new(alloc), 3)?;
     put_all(&mut out, b"a cmd map ok\n")?;
     let end = write_end(alloc, &NoRows, true, true, &mut out);
-    assert!(rt; end == Err(EndStop::NoMemory));
+    assert!(rt; end == Err(Stop::NoMemory));
     assert!(rt; write_end(alloc, &NoRows, false, true, &mut out) == Ok(()));
     assert_eq!(rt; out.bytes(), b"a cmd map ok\n".as_slice());
     Ok(())
@@ -228,9 +223,9 @@ fn a_made_trace_has_its_records(rt: HostRuntime) -> Result<(), Fail> {
     let mut files = folder(alloc, &[], 0)?;
     let mut tape = MadeTape::of(300);
     for number in 1..=300u64 {
-        let next = tape.next(&mut files, "");
+        let next = tape.next(&mut files);
         assert!(rt; matches!(next, Ok(Some(record)) if record.number == number));
     }
-    assert!(rt; matches!(tape.next(&mut files, ""), Ok(None)));
+    assert!(rt; matches!(tape.next(&mut files), Ok(None)));
     Ok(())
 }

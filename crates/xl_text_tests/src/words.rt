@@ -2,7 +2,7 @@
 
 use std::alloc::{AllocError, Global};
 use std::test::Fail;
-use xl_words::{Words, WordsFault, read};
+use xl_words::{Plain, Words, WordsFault, read};
 
 fn words(alloc: Global, texts: &[&str]) -> Result<Vec<String>, AllocError> {
     let mut words = Vec::new(alloc);
@@ -15,10 +15,10 @@ fn words(alloc: Global, texts: &[&str]) -> Result<Vec<String>, AllocError> {
 #[test]
 fn options_stand_in_any_order_and_a_flag_needs_no_value(rt: HostRuntime) -> Result<(), Fail> {
     let alloc = rt.alloc();
-    let cases: [(&[&str], Words<'static>); 4] = [
+    let cases: [(&[&str], Plain<'static>); 4] = [
         (
             &["x", "--config", "a"],
-            Words {
+            Plain {
                 config: "a",
                 script: None,
                 trace: None,
@@ -30,7 +30,7 @@ fn options_stand_in_any_order_and_a_flag_needs_no_value(rt: HostRuntime) -> Resu
         ),
         (
             &["x", "--trace", "t", "--answers", "--config=a"],
-            Words {
+            Plain {
                 config: "a",
                 script: None,
                 trace: Some("t"),
@@ -42,7 +42,7 @@ fn options_stand_in_any_order_and_a_flag_needs_no_value(rt: HostRuntime) -> Resu
         ),
         (
             &["x", "--image", "--config", "", "--json", "--script", "-"],
-            Words {
+            Plain {
                 config: "",
                 script: Some("-"),
                 trace: None,
@@ -54,7 +54,7 @@ fn options_stand_in_any_order_and_a_flag_needs_no_value(rt: HostRuntime) -> Resu
         ),
         (
             &["x", "--make", "+1048576", "--config", "a"],
-            Words {
+            Plain {
                 config: "a",
                 script: None,
                 trace: None,
@@ -67,7 +67,7 @@ fn options_stand_in_any_order_and_a_flag_needs_no_value(rt: HostRuntime) -> Resu
     ];
     for (texts, want) in cases {
         let given = words(alloc, texts)?;
-        assert!(rt; read(alloc, given.as_slice()) == Ok(want));
+        assert!(rt; read(alloc, given.as_slice()) == Ok(Words::Plain(want)));
     }
     Ok(())
 }
