@@ -4,4 +4,4 @@
 mod bench;
 
 pub use bench::run;
-pub use xl_serving::Status;
+pub use xl_course::Status;

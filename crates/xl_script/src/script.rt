@@ -1,6 +1,6 @@
 //! A script, and its reading.
 
-ghost use Rattle.std.specs.Prelude.{◌≡◌, ◌<◌, ◌≤◌, ◌↔◌, length, slice_get, count_by};
+ghost use Rattle.std.specs.Prelude.{◌≡◌, ◌<◌, ◌≤◌, ◌↔◌, All, length, slice_get, count_by};
 ghost use Rattle.xl_script.specs.Placing.{IsPlaced, is_area};
 ghost use Rattle.xl_script.specs.Plain.{script_of, Answers};
 
@@ -51,6 +51,14 @@ impl Script {
         ensures placed { IsPlaced result }
     {
         self.commands[i]
+    }
+
+    /// All that the commands name lies in 64 bits, and at most 256 of them declare an area.
+    pub fn fits(&self)
+        ensures placed { All IsPlaced self.now }
+        ensures few_areas { count_by is_area self.now ≤ 256 }
+    {
+        let _commands = &self.commands;
     }
 }
 

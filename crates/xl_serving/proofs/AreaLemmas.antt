@@ -1,8 +1,6 @@
 -- Areas that a script declares.
-use Rattle.std.proofs.Common.{◌≡◌, refl, sym, ap, ◌∙◌, subst, ℕ, ◌+◌, ◌<◌, ◌≤◌, Bool, true, false, cond, List, [], ◌∷◌, ◌++◌, length, take, arith, length-append}
-use Rattle.std.specs.Prelude.{Option, Some, slice_get, count_by}
-use Rattle.std.proofs.lemmas.List.Sums.{count_by_more_no, count_by_more_yes, sum_by-take-drop}
-use Rattle.std.proofs.lemmas.Option.{slice_get_within, get_or_from_slice_get}
+use Rattle.std.proofs.Common.{◌≡◌, refl, sym, ap, subst, ℕ, Bool, true, false, List, [], ◌∷◌, ◌++◌}
+use Rattle.std.specs.Prelude.{Option}
 use Rattle.xl_model.specs.declared.script.Area.{Area}
 use Rattle.xl_model.specs.declared.script.Command.{Command}
 use Rattle.xl_model.specs.declared.script.Command.TheVariants as command
@@ -51,26 +49,3 @@ no_area (command.Fence scope) h = refl
 no_area (command.Demand area) h = absurd (h area refl)
 no_area (command.Run n) h = refl
 no_area command.RunRest h = refl
-
--- how many areas the first commands declare
-few_taken : (n : ℕ) (cs : List Command) → count_by is_area (take n cs) ≤ count_by is_area cs
-few_taken n cs = let e = sum_by-take-drop (λ c. cond (is_area c) 1 0) cs n in omega arith
-
-pub areas_more : (cs : List Command) (i : ℕ) (a : Area) (c : Command) → slice_get cs i ≡ Some c → c ≡ command.Demand a
-    → count_by is_area (take (i + 1) cs) ≡ count_by is_area (take i cs) + 1
-areas_more cs i a c h e =
-    count_by_more_yes is_area cs i c (slice_get_within cs i c h) (ap is_area (get_or_from_slice_get cs i c c h ∙ e))
-
-pub areas_same : (cs : List Command) (i : ℕ) (c : Command) → slice_get cs i ≡ Some c → is_area c ≡ false
-    → count_by is_area (take (i + 1) cs) ≡ count_by is_area (take i cs)
-areas_same cs i c h e =
-    count_by_more_no is_area cs i c (slice_get_within cs i c h) (ap is_area (get_or_from_slice_get cs i c c h) ∙ e)
-
-pub areas_room : (cs : List Command) (i : ℕ) (a : Area) (c : Command) → slice_get cs i ≡ Some c → c ≡ command.Demand a → count_by is_area cs ≤ 256
-    → count_by is_area (take i cs) < 256
-areas_room cs i a c h e most =
-    let m = areas_more cs i a c h e in
-    let f = few_taken (i + 1) cs in omega arith
-
-pub length_more : (areas : List Area) (a : Area) → length (areas ++ a ∷ []) ≡ length areas + 1
-length_more areas a = length-append areas (a ∷ [])

@@ -1,5 +1,5 @@
--- What the reading of a file says of its text, and the opening of rows of the ending.
-use Rattle.std.proofs.Common.{◌≡◌, ℕ, ◌+◌, ◌<◌, Bool, true, List, [], length, take, refl, ap, sym, ◌∙◌, subst, arith, length-take, inl, inr}
+-- What the reading of a file says of its text.
+use Rattle.std.proofs.Common.{◌≡◌, ℕ, ◌+◌, ◌<◌, Bool, List, [], length, take, refl, ap, sym, ◌∙◌, subst, arith, length-take, inl, inr}
 use Rattle.std.specs.Prelude.{Option, None, Some, Result, Ok, Err, nat_lt, if◌then◌else◌}
 use Rattle.std.specs.declared.alloc.Global.{Global}
 use Rattle.std.specs.declared.vec.Vec.{Vec}
@@ -7,10 +7,6 @@ use Rattle.std.proofs.lemmas.Bool.{cases_lt, lt-ltb}
 use Rattle.std.proofs.lemmas.List.{take_all}
 use Rattle.xl_model.specs.declared.fault.InputFault.{InputFault}
 use Rattle.xl_model.specs.declared.script.Command.{Command}
-use Rattle.xl_model.specs.Scenes.{Served}
-use Rattle.xl_model.specs.Courses.{Trail, course}
-use Rattle.xl_model.specs.Report.{Flags}
-use Rattle.xl_model.specs.Endings.{Ending}
 use Rattle.xl_config.specs.Config.{config, config_by, document_of}
 use Rattle.xl_outside.specs.Whole.{TellsWhole}
 use Rattle.xl_script.specs.declared.fault.ScriptFault.{ScriptFault}
@@ -18,13 +14,8 @@ use Rattle.xl_script.specs.declared.fault.ScriptFault.TheVariants as script
 use Rattle.xl_script.specs.Texts.{script_lines}
 use Rattle.xl_script.specs.Scripts.{text_read, lines_read}
 use Rattle.xl_script.specs.Plain.{plain_said, commands_in, script_of}
-use Rattle.xl_serving.specs.declared.stop.Stop.{Stop}
-use Rattle.xl_serving.specs.declared.stop.Stop.TheVariants as why
-use Rattle.xl_serving.specs.Stops.{is_all_put, IsBefore}
+use Rattle.xl_course.specs.declared.stop.Stop.{Stop}
 use Rattle.xl_serving.specs.Inputs.{config_fault, script_fault, said_by, said_in, rows_said, commands_said, Finds}
-use Rattle.xl_serving.specs.Serving.{scene_of}
-use Rattle.xl_words.specs.Words.{Asked}
-use Rattle.xl_serving.specs.Endings.{course_ending, flags_of, Ends, Opens}
 
 longer : (limit : ℕ) (text : List ℕ) → limit < length text → limit < length (take (limit + 1) text)
 longer limit text h = let e = length-take (limit + 1) text in grind arith
@@ -65,27 +56,3 @@ finds_text view says limit (Some file) text bytes r cut h b f =
 pub none_said : commands_said [] ≡ Ok []
 unfolding script_of text_read script_lines
 none_said = refl
-
--- the rows were opened, and the script served over them
-pub opened_ends : {K : Type 0} (roomy : K → ℕ → Type 0) (asked : Asked) (commands : List Command) (by : Trail → Flags → Ending) (served : List Served) (t : Trail)
-    (r : Result (Unit {0}) Stop) (before after : Option (List ℕ)) (old new : K) (rows : List Served) → Opens (Ok commands) by served
-    → Ends r (course_ending asked (course commands t) (scene_of served [])) roomy before after old new rows
-    → Ends r (record { ending = by t (flags_of asked); json = asked.json }) roomy before after old new rows
-opened_ends roomy asked commands by served t r before after old new rows h e =
-    subst (λ (z : Ending). Ends r (record { ending = z; json = asked.json }) roomy before after old new rows) (sym (h t (flags_of asked))) e
-
--- what comes before anything is written, no put has failed
-none_failed : (stop : Stop) → IsBefore stop → is_all_put {A = Unit {0}} (Err stop) ≡ true
-none_failed (why.Input f) h = refl
-none_failed why.ReadFault h = refl
-none_failed why.WriteFault h = absurd h
-none_failed why.NoMemory h = refl
-
--- the rows were not opened
-pub opened_not : {K : Type 0} (roomy : K → ℕ → Type 0) (asked : Asked) (stop : Stop) (by : Trail → Flags → Ending) (served : List Served) (t : Trail) (out : Option (List ℕ)) (old : K) (rows : List Served)
-    → IsBefore stop → Opens (Err stop) by served → Ends (Err stop) (record { ending = by t (flags_of asked); json = asked.json }) roomy out out old old rows
-opened_not roomy asked stop by served t out old rows b h = record {
-  as_said = h t (flags_of asked) asked.json out;
-  room = λ room m n. (none_failed stop b, (room, m));
-  served = tt;
-}

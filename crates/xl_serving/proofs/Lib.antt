@@ -1,13 +1,10 @@
-mod ToldLemmas
 mod PieceLemmas
 mod RecordLemmas
-mod ServedLemmas
-mod BatchLemmas
-mod CourseLemmas
 mod SkimLemmas
-mod ItemLemmas
+mod BatchLemmas
 mod AreaLemmas
+mod ItemLemmas
 mod InputLemmas
 mod OpenedLemmas
 mod EndLemmas
-mod FlushLemmas
+mod PlainLemmas

@@ -8,9 +8,10 @@ use Rattle.xl_model.specs.declared.fault.InputFault.TheVariants.{TraceTooLong}
 use Rattle.xl_model.specs.Courses.{at_end}
 use Rattle.xl_lackey.specs.Stream.{State, Left, left, due, left_by, unless_bad}
 use Rattle.xl_text.specs.Texts.{lines_by}
-use Rattle.xl_serving.specs.declared.trace.TraceStop.TheVariants as why
+use Rattle.xl_course.specs.declared.stop.Stop.TheVariants as why
+use Rattle.xl_course.specs.Sources.{EndsBy}
 use Rattle.xl_serving.specs.Traces.{trail, Progress, limit, ahead, at_first, left_of}
-use Rattle.xl_serving.specs.Tapes.{IsWithin, IsFedFrom, KeepsLeft, Fills, Feeds, FeedsOf, HasMore, EndsBy}
+use Rattle.xl_serving.specs.Tapes.{IsWithin, IsFedFrom, KeepsLeft, Fills, Feeds, FeedsOf, HasMore}
 
 -- a file past the limit, and one within it
 pub long : (file : List ℕ) (p : Progress) → limit < length file → ahead file p ≡ trail p.number (due p.reader (drop p.at (take limit file))) (Some TraceTooLong)

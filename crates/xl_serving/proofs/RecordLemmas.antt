@@ -11,9 +11,10 @@ use Rattle.xl_lackey.specs.declared.reference.Reference.{Reference}
 use Rattle.xl_lackey.specs.Skims.{with_records}
 use Rattle.xl_lackey.specs.Stream.{Record, Left, State, left, left_by, due, MayCome}
 use Rattle.xl_lackey.specs.Answers.{Gives, Ends, Refuses, record_of}
-use Rattle.xl_serving.specs.declared.trace.TraceStop.TheVariants as why
+use Rattle.xl_course.specs.declared.stop.Stop.TheVariants as why
+use Rattle.xl_course.specs.Sources.{EndsBy, Gives as Answered}
 use Rattle.xl_serving.specs.Traces.{trail, Progress, limit, ahead, left_of, next_number, numbered, fault_of, accesses_of, with_record}
-use Rattle.xl_serving.specs.Tapes.{IsUnfed, IsWithin, IsFedFrom, KeepsLeft, TraceAnswers, EndsBy}
+use Rattle.xl_serving.specs.Tapes.{IsUnfed, IsWithin, IsFedFrom, KeepsLeft}
 use Rattle.xl_serving.proofs.PieceLemmas.{long, short}
 
 -- a file past the limit isn't at its end
@@ -119,7 +120,7 @@ still_first (Some file) p h = record { same = refl; within = h }
 -- a record was found, and numbered
 pub gave_found : (file : Option (List ℕ)) (r : Reference) (old mid found new : Progress) → mid.number < 2 ^ 64 → Still file old mid → Gives (record_of r) mid.reader found.reader → found.at ≡ mid.at
     → found.number ≡ mid.number → new ≡ record found { number = next_number found.number }
-    → TraceAnswers (IsFedFrom file new) (left_of file old) (left_of file new) (Ok (Some (record { number = found.number; reference = r })))
+    → Answered (IsFedFrom file new) (left_of file old) (left_of file new) (Ok (Some (record { number = found.number; reference = r })))
 gave_found None r old mid found new b s g a m e = absurd (none_given (record_of r) mid found s g)
 gave_found (Some file) r old mid found new b s g a m e =
     let reader = ap (λ (p : Progress). p.reader) e in
@@ -133,7 +134,7 @@ gave_found (Some file) r old mid found new b s g a m e =
 
 -- the trace has ended
 pub gave_none : (file : Option (List ℕ)) (old mid new : Progress) → Still file old mid → Ends mid.reader new.reader → new.at ≡ mid.at
-    → TraceAnswers (IsFedFrom file new) (left_of file old) (left_of file new) (Ok None)
+    → Answered (IsFedFrom file new) (left_of file old) (left_of file new) (Ok None)
 gave_none None old mid new s g a = absurd (none_ended mid new s g)
 gave_none (Some file) old mid new s g a =
     let k = same_within file mid new s.within a (g.still ∙ sym g.finished) in

@@ -1,28 +1,23 @@
 -- Records of one access alone that a trace gives together: what is left of the trace, and what the rows are served.
-use Rattle.std.proofs.Common.{◌≡◌, refl, sym, ap, ◌∙◌, ℕ, zero, suc, ◌+◌, ◌-◌, ◌%◌, ◌^◌, ◌<◌, ◌≤◌, Bool, true, false, List, [], ◌∷◌, ◌++◌, length, map, append-nil, length-append, arith}
+use Rattle.std.proofs.Common.{◌≡◌, refl, sym, ap, ◌∙◌, ℕ, suc, ◌+◌, ◌%◌, ◌^◌, ◌<◌, ◌≤◌, true, List, [], ◌∷◌, ◌++◌, length, map, append-nil, length-append, arith}
 use Rattle.std.specs.Prelude.{Option, None, Some}
 use Rattle.xl_model.specs.declared.address.Kind.{Kind}
-use Rattle.xl_model.specs.declared.fault.InputFault.{InputFault}
 use Rattle.xl_model.specs.declared.script.Item.{Item}
 use Rattle.xl_model.specs.declared.script.Item.TheVariants.{Referenced}
-use Rattle.xl_model.specs.Courses.{Accesses, Course, Trail, accesses_items, before, ran, ran_all}
+use Rattle.xl_model.specs.Courses.{Accesses, Trail, accesses_items}
 use Rattle.xl_model.specs.Scenes.{Scene, scene_after, scenes_after}
 use Rattle.xl_model_lemmas.proofs.SceneLemmas.{scene-append}
 use Rattle.xl_lackey.specs.declared.skim.Access.{Access}
 use Rattle.xl_lackey.specs.Skims.{pair, accesses_in, all_accesses, Takes as TakesLines, Skimmed, with_records}
 use Rattle.xl_lackey.specs.Stream.{Record, Left, left, records}
 use Rattle.xl_text.specs.Texts.{lines_of}
-use Rattle.xl_serving.specs.Skims.{accesses_of_all, Skims}
+use Rattle.xl_course.specs.Sources.{accesses_of_all, Skims}
 use Rattle.xl_serving.specs.Tapes.{IsUnfed, IsWithin, IsFedFrom}
 use Rattle.xl_serving.specs.Traces.{Progress, MadeProgress, left_of, made_left, trail, numbered, next_number}
 use Rattle.xl_serving.specs.declared.batch.WaitingEvent.{WaitingEvent}
-use Rattle.xl_serving.specs.Batches.{Backlog, item_of, items_waiting, gaps, waited, items_of_all, WaitsMore}
-use Rattle.xl_serving.specs.Serving.{HasServed}
-use Rattle.xl_serving.proofs.BatchLemmas.{any-number, items-more, served-untold}
-use Rattle.xl_serving.proofs.ServedLemmas.{served_none}
-use Rattle.xl_serving.proofs.CourseLemmas.{Rules, Underway, items_of, left_by, before-before, reached_on}
+use Rattle.xl_serving.specs.Batches.{item_of, items_waiting, gaps, items_of_all, WaitsMore}
+use Rattle.xl_serving.proofs.BatchLemmas.{any-number, items-more}
 use Rattle.xl_serving.proofs.RecordLemmas.{gives_all, same_within, trail_on, with_numbered}
-use Rattle.xl_outside.specs.Sinks.{Outside}
 
 -- accesses behind others are no fewer
 pub no-fewer : (before after got : List Access) → after ≡ before ++ got → length before ≤ length after
@@ -110,25 +105,6 @@ skims-made old new before after count k m =
 pub skims-none : (stands : Type 0) (t : Trail) (xs : List Access) → stands → Skims stands t t xs xs 0
 skims-none stands t xs h = record { stands_still = h; taken = []; got = []; split = refl; follow = sym (append-nil xs); each = refl; many = refl }
 
-pub waits-none : (stands : Type 0) (t : Trail) (w : Backlog) → stands → WaitsMore stands t t w w 0
-waits-none stands t w h = record { stands_still = h; taken = []; split = refl; follow = λ s. refl; many = refl }
-
--- a rule of records that are taken first
-abbrev Takes : Rules → Rules → List Accesses → Type 0
-Takes now later rs = (us : List Accesses) (e : Option InputFault) (next : Trail → Course) → now (rs ++ us) e next ≡ before (items_of_all rs) (later us e next)
-
-all-taken : (rs : List Accesses) → Takes ran_all ran_all rs
-all-taken [] us e next = refl
-all-taken (r ∷ rs) us e next = ap (before (items_of r)) (all-taken rs us e next) ∙ before-before (items_of r) (items_of_all rs) (ran_all us e next)
-
-run-taken : (n k : ℕ) (rs : List Accesses) → length rs ≡ k → k ≤ n → Takes (ran n) (ran (n - k)) rs
-run-taken n k [] many h us e next = let z : n ≡ n - k = omega (arith, many) in ap (λ (m : ℕ). ran m us e next) z
-run-taken zero k (r ∷ rs) many h us e next = absurd (omega (arith, many))
-run-taken (suc n) k (r ∷ rs) many h us e next =
-    let z : n - length rs ≡ suc n - k = omega (arith, many) in
-    ap (before (items_of r)) (run-taken n (length rs) rs refl (omega (arith, many)) us e next ∙ ap (λ (m : ℕ). before (items_of_all rs) (ran m us e next)) z)
-    ∙ before-before (items_of r) (items_of_all rs) (ran (suc n - k) us e next)
-
 -- the scene after some accesses, as items of any numbers
 abbrev item_with : ℕ → ℕ × Kind → Item
 item_with n a = Referenced n a.0 a.1
@@ -146,7 +122,7 @@ scene-all : (rs : List Accesses) (s : Scene) → scenes_after (items_of_all rs) 
 scene-all [] s = refl
 scene-all (r ∷ rs) s =
     let xs = accesses_items 0 r.accesses in
-    scene-append (items_of r) (items_of_all rs) s
+    scene-append (accesses_items r.number r.accesses) (items_of_all rs) s
     ∙ ap (λ (t : Scene). scenes_after (items_of_all rs) t) (scene-numbers r.number 0 r.accesses s)
     ∙ scene-all rs (scenes_after xs s)
     ∙ sym (scene-append xs (accesses_items 0 (accesses_of_all rs)) s)
@@ -175,42 +151,3 @@ waits-skimmed stands t u before after events count h k = record {
       ∙ scene-each k.taken k.got (scenes_after (items_waiting before events) s) k.each;
   many = k.many;
 }
-
-module _ {K : Type 0} (taken : K → Option (List ℕ)) (outside : K → Outside) (roomy : K → ℕ → Type 0) (stands : Type 0) (t u : Trail) (xs ys : Backlog) (count : ℕ)
-    (k : WaitsMore stands t u xs ys count) (s : Scene) (out : K) where
-  -- where lines are written, nothing is skimmed
-  served-skimmed : (answers : Bool) → (answers ≡ true → count ≡ 0) → HasServed taken outside roomy answers (items_of_all k.taken) (waited xs s) (waited ys s) out out true
-  served-skimmed false idle = served-untold taken outside roomy (items_of_all k.taken) (waited xs s) (waited ys s) out (k.follow s)
-  served-skimmed true idle =
-      let none : k.taken ≡ [] = nothing k.taken (k.many ∙ idle refl) in
-      let same : waited ys s ≡ waited xs s = k.follow s ∙ ap (λ (rs : List Accesses). scenes_after (items_of_all rs) (waited xs s)) none in
-      rw (none, same) (served_none true (waited xs s) out)
-    where
-      nothing : (rs : List Accesses) → length rs ≡ 0 → rs ≡ []
-      nothing [] e = refl
-      nothing (r ∷ rs) e = absurd (omega (arith, e))
-
-  -- the records that were skimmed are served when their accesses are
-  going_skims : (answers : Bool) (mid : Type 0) (by : (Trail → Course) → Course) (now later : Rules) (p : Scene) (first : K) → Takes now later k.taken → (answers ≡ true → count ≡ 0)
-      → Underway taken outside roomy answers mid by (left_by now t) p (waited xs s) first out
-      → Underway taken outside roomy answers stands by (left_by later u) p (waited ys s) first out
-  going_skims answers mid by now later p first takes idle g = record {
-    serves = λ next.
-        reached_on answers (by next) (left_by now t next) (left_by later u next) p (waited xs s) (waited ys s) first out out (g.serves next)
-        (record {
-          done = items_of_all k.taken;
-          split = ap (λ (v : Trail). left_by now v next) k.split ∙ takes u.records u.fault next;
-          served = served-skimmed answers idle;
-        });
-    stands_still = k.stands_still;
-  }
-
-  pub going_skims_all : (answers : Bool) (mid : Type 0) (by : (Trail → Course) → Course) (p : Scene) (first : K) → (answers ≡ true → count ≡ 0)
-      → Underway taken outside roomy answers mid by (left_by ran_all t) p (waited xs s) first out
-      → Underway taken outside roomy answers stands by (left_by ran_all u) p (waited ys s) first out
-  going_skims_all answers mid by p first idle g = going_skims answers mid by ran_all ran_all p first (all-taken k.taken) idle g
-
-  pub going_skims_run : (n : ℕ) (answers : Bool) (mid : Type 0) (by : (Trail → Course) → Course) (p : Scene) (first : K) → (answers ≡ true → count ≡ 0) → count ≤ n
-      → Underway taken outside roomy answers mid by (left_by (ran n) t) p (waited xs s) first out
-      → Underway taken outside roomy answers stands by (left_by (ran (n - count)) u) p (waited ys s) first out
-  going_skims_run n answers mid by p first idle h g = going_skims answers mid by (ran n) (ran (n - count)) p first (run-taken n count k.taken k.many h) idle g

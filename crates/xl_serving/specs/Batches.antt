@@ -1,5 +1,5 @@
 -- Items that wait to be served.
-use Rattle.std.specs.Prelude.{◌≡◌, ℕ, Bool, true, List, [], ◌∷◌, ◌++◌, length, map, take, drop, sum_by}
+use Rattle.std.specs.Prelude.{◌≡◌, ℕ, List, [], ◌∷◌, ◌++◌, length, map, take, drop, sum_by}
 use Rattle.xl_model.specs.declared.script.Item.{Item}
 use Rattle.xl_model.specs.declared.script.Item.TheVariants.{Command, Referenced}
 use Rattle.xl_model.specs.Courses.{Accesses, Trail, accesses_items}
@@ -33,10 +33,6 @@ waits w = items_waiting w.accesses w.events
 -- The scene after what waits.
 abbrev pub waited : Backlog → Scene → Scene
 waited w s = scenes_after (waits w) s
-
--- Where lines are written, nothing waits.
-abbrev pub IsIdle : Bool → Backlog → Type 0
-IsIdle answers w = answers ≡ true → waits w ≡ []
 
 -- The items of some records, one record after another.
 abbrev pub items_of_all : List Accesses → List Item

@@ -13,10 +13,12 @@ use Rattle.xl_outside.specs.Folders.{Files, file_of}
 use Rattle.xl_script.specs.declared.fault.ScriptFault.{ScriptFault}
 use Rattle.xl_script.specs.declared.fault.ScriptFault.TheVariants as script
 use Rattle.xl_script.specs.Plain.{script_of}
-use Rattle.xl_words.specs.Words.{Asked}
-use Rattle.xl_serving.specs.Traces.{made_trail}
-use Rattle.xl_serving.specs.declared.stop.Stop.{Stop}
-use Rattle.xl_serving.specs.declared.stop.Stop.TheVariants as why
+use Rattle.xl_words.specs.declared.words.WordsFault.{WordsFault}
+use Rattle.xl_words.specs.declared.words.WordsFault.TheVariants as words
+use Rattle.xl_words.specs.Words.{AskedPlain}
+use Rattle.xl_serving.specs.Traces.{made_trail, trail_of}
+use Rattle.xl_course.specs.declared.stop.Stop.{Stop}
+use Rattle.xl_course.specs.declared.stop.Stop.TheVariants as why
 
 -- What is wrong with a configuration that is refused. A text says nothing of memory, so the last case never comes.
 abbrev pub config_fault : ConfigFault → InputFault
@@ -59,10 +61,10 @@ abbrev pub commands_in : Option (List ℕ) → Files → Result (List Command) I
 commands_in None files = Ok []
 commands_in (Some name) files = said_in commands_said (file_of files name)
 
--- The records of the trace of this name, where `trail` gives those of a file. Where none is named there are none.
-abbrev pub trail_in : (Option (List ℕ) → Trail) → Option (List ℕ) → Files → Trail
-trail_in trail None files = at_end None
-trail_in trail (Some name) files = trail (file_of files name)
+-- The records of the trace of this name. Where none is named there are none.
+abbrev pub trail_in : Option (List ℕ) → Files → Trail
+trail_in None files = at_end None
+trail_in (Some name) files = trail_of (file_of files name)
 
 -- The commands of a made script of so many records, or of the script of this name.
 abbrev pub commands_by : Option ℕ → Option (List ℕ) → Files → Result (List Command) InputFault
@@ -70,17 +72,17 @@ commands_by None name files = commands_in name files
 commands_by (Some n) name files = commands_said (made_script n)
 
 -- The records of a made trace of so many, or of the trace of this name.
-abbrev pub trail_by : (Option (List ℕ) → Trail) → Option ℕ → Option (List ℕ) → Files → Trail
-trail_by trail None name files = trail_in trail name files
-trail_by trail (Some n) name files = made_trail n
+abbrev pub trail_by : Option ℕ → Option (List ℕ) → Files → Trail
+trail_by None name files = trail_in name files
+trail_by (Some n) name files = made_trail n
 
 -- The commands that are asked for.
-abbrev pub commands_for : Asked → Files → Result (List Command) InputFault
+abbrev pub commands_for : AskedPlain → Files → Result (List Command) InputFault
 commands_for a files = commands_by a.made a.script files
 
 -- The records that are asked for.
-abbrev pub trail_for : (Option (List ℕ) → Trail) → Asked → Files → Trail
-trail_for trail a files = trail_by trail a.made a.trace files
+abbrev pub trail_for : AskedPlain → Files → Trail
+trail_for a files = trail_by a.made a.trace files
 
 -- What a reading answers, by what is said: that, or its fault. It says nothing of it where a read failed or there was
 -- no memory.
@@ -90,3 +92,21 @@ Finds view (Err (why.Input f)) said = said ≡ Err f
 Finds view (Err why.ReadFault) said = Unit {0}
 Finds view (Err why.WriteFault) said = ⊥
 Finds view (Err why.NoMemory) said = Unit {0}
+
+-- Why a run stops whose words are refused.
+abbrev pub of_words_fault : WordsFault → Stop
+of_words_fault words.Usage = why.Input fault.Words
+of_words_fault words.NoMemory = why.NoMemory
+
+-- Why a run stops whose configuration is refused.
+abbrev pub of_config_fault : ConfigFault → Stop
+of_config_fault config.TooLong = why.Input fault.ConfigTooLong
+of_config_fault config.BadToml = why.Input fault.ConfigNotToml
+of_config_fault (config.BadKey row key rule) = why.Input (fault.ConfigKey row key rule)
+of_config_fault config.NoMemory = why.NoMemory
+
+-- Why a run stops whose script is refused.
+abbrev pub of_script_fault : ScriptFault → Stop
+of_script_fault (script.BadLine line reason) = why.Input (fault.ScriptLine line reason)
+of_script_fault script.TooLong = why.Input fault.ScriptTooLong
+of_script_fault script.NoMemory = why.NoMemory

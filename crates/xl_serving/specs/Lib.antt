@@ -1,9 +1,6 @@
 pub mod Traces
 pub mod Tapes
 pub mod Serving
-pub mod Skims
-pub mod Stops
-pub mod Messages
 pub mod Inputs
-pub mod Endings
 pub mod Batches
+pub mod Plain

@@ -1,17 +1,11 @@
 -- What a trace that is read while it is replayed answers, by what is left of it.
 use Rattle.std.specs.Prelude.{◌≡◌, ℕ, ◌+◌, ◌-◌, ◌≤◌, ◌⊎◌, Bool, true, false, List, [], ◌++◌, length, take, drop, nat_lt, Option, None, Some, Result, Ok, Err}
-use Rattle.xl_model.specs.declared.fault.InputFault.{InputFault}
-use Rattle.xl_model.specs.declared.fault.InputFault.TheVariants as fault
-use Rattle.xl_model.specs.Courses.{Trail, at_end}
 use Rattle.xl_lackey.specs.Stream.{State, left}
-use Rattle.xl_lackey.specs.Answers.{record_of}
 use Rattle.xl_outside.specs.declared.folder.Unread.{Unread}
 use Rattle.xl_outside.specs.declared.folder.Unread.TheVariants as unread
-use Rattle.xl_outside.specs.Folders.{ReadFate, Fine, ReadFailed, FileMissing}
-use Rattle.xl_serving.specs.declared.trace.TraceStop.{TraceStop}
-use Rattle.xl_serving.specs.declared.trace.TraceStop.TheVariants as why
-use Rattle.xl_serving.specs.declared.trace.Numbered.{Numbered}
-use Rattle.xl_serving.specs.Traces.{Progress, limit, ahead, left_of, accesses_of, with_record}
+use Rattle.xl_course.specs.declared.stop.Stop.{Stop}
+use Rattle.xl_course.specs.Sources.{EndsBy}
+use Rattle.xl_serving.specs.Traces.{Progress, limit, ahead, left_of}
 
 -- Nothing was fed yet.
 pub record IsUnfed (p : Progress) : Type 0 where
@@ -40,26 +34,10 @@ abbrev pub Fills : Option (List ℕ) → Progress → Progress → Type 0
 Fills None old new = ⊥
 Fills (Some file) old new = KeepsLeft file old new
 
--- Why no record comes is what ends the trace; a failed read may come anywhere.
-abbrev pub EndsBy : TraceStop → Trail → Type 0
-EndsBy (why.Input fault) t = t ≡ at_end (Some fault)
-EndsBy why.ReadFault t = Unit {0}
-
 -- What a call that feeds the next piece answers.
-abbrev pub FillAnswers : Option (List ℕ) → Result (Unit {0}) TraceStop → Progress → Progress → Type 0
+abbrev pub FillAnswers : Option (List ℕ) → Result (Unit {0}) Stop → Progress → Progress → Type 0
 FillAnswers file (Ok u) old new = Fills file old new
 FillAnswers file (Err stop) old new = EndsBy stop (left_of file old)
-
--- The record is the first of those that were left.
-abbrev pub GivesRecord : Numbered → Trail → Trail → Type 0
-GivesRecord r t u = t ≡ with_record (accesses_of r.number (record_of r.reference)) u
-
--- What a trace answers that is asked for a record, by what is left of it before and after; `stands` says that it was
--- fed from its file alone, and still is.
-abbrev pub TraceAnswers : Type 0 → Trail → Trail → Result (Option Numbered) TraceStop → Type 0
-TraceAnswers stands t u (Ok None) = stands × (t ≡ at_end None) × (u ≡ at_end None)
-TraceAnswers stands t u (Ok (Some r)) = stands × GivesRecord r t u
-TraceAnswers stands t u (Err stop) = EndsBy stop t
 
 -- `n` bytes of the file from `at` on were fed; none only at its end.
 pub record Feeds (file : List ℕ) (at n : ℕ) (old new : State) : Type 0 where
@@ -92,45 +70,6 @@ HasMore (Some file) at more = more ≡ nat_lt at (length file)
 abbrev pub MoreAnswers : Option (List ℕ) → ℕ → Result Bool Unread → Type 0
 MoreAnswers file at (Ok more) = HasMore file at more
 MoreAnswers file at (Err e) = Unreadable file e
-
--- Why a trace stops after a read that gave nothing.
-abbrev pub stop_of : Unread → TraceStop
-stop_of unread.Missing = why.Input fault.NoFile
-stop_of unread.Failed = why.ReadFault
-
--- What a fault of the input tells of its folder: a file that isn't there was asked for, or nothing.
-abbrev pub fault_fate : InputFault → ReadFate
-fault_fate fault.NoFile = FileMissing
-fault_fate fault.Words = Fine
-fault_fate fault.ConfigTooLong = Fine
-fault_fate fault.ConfigNotToml = Fine
-fault_fate (fault.ConfigKey row key rule) = Fine
-fault_fate fault.ScriptTooLong = Fine
-fault_fate (fault.ScriptLine line reason) = Fine
-fault_fate fault.TraceTooLong = Fine
-fault_fate (fault.TraceLine line reason) = Fine
-
--- What a trace that gives no record tells of its folder.
-abbrev pub trace_stop_fate : TraceStop → ReadFate
-trace_stop_fate (why.Input fault) = fault_fate fault
-trace_stop_fate why.ReadFault = ReadFailed
-
--- A fault that is met in the reading of a file; a fault of the words is none.
-abbrev pub IsMet : InputFault → Type 0
-IsMet fault.Words = ⊥
-IsMet fault.ConfigTooLong = Unit {0}
-IsMet fault.ConfigNotToml = Unit {0}
-IsMet (fault.ConfigKey row key rule) = Unit {0}
-IsMet fault.ScriptTooLong = Unit {0}
-IsMet (fault.ScriptLine line reason) = Unit {0}
-IsMet fault.TraceTooLong = Unit {0}
-IsMet (fault.TraceLine line reason) = Unit {0}
-IsMet fault.NoFile = Unit {0}
-
--- The trace stops at a fault that is met in reading, or at a failed read.
-abbrev pub TraceIsMet : TraceStop → Type 0
-TraceIsMet (why.Input fault) = IsMet fault
-TraceIsMet why.ReadFault = Unit {0}
 
 -- How much is still to be done before the reader has all.
 abbrev pub to_come_of : Bool → ℕ → ℕ

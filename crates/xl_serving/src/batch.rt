@@ -1,22 +1,21 @@
 //! Items that wait to be served together, where no line is written: a row serves many at a time, since no
 //! row sees another.
 
-ghost use Rattle.std.specs.Prelude.{◌≡◌, ◌<◌, ◌≤◌, ℕ, List, [], Option, length, true};
+ghost use Rattle.std.specs.Prelude.{◌≡◌, ◌<◌, ◌≤◌, ℕ, [], length, true};
 ghost use Rattle.xl_model.specs.declared.script.Item.TheVariants.{Command, Referenced};
-ghost use Rattle.xl_model.specs.Courses.{accesses_items};
-ghost use Rattle.xl_model.specs.Scenes.{scene_after, scenes_after};
-ghost use Rattle.xl_lackey.specs.Accesses.{accesses};
+ghost use Rattle.xl_model.specs.Scenes.{scene_after};
+ghost use Rattle.xl_outside.specs.Folders.{Files};
 ghost use Rattle.xl_lackey.specs.Skims.{batch_size};
 ghost use Rattle.xl_serving.specs.Serving.{scene_of};
 ghost use Rattle.xl_serving.specs.Batches.{waits, waited, WaitsMore};
 
 use crate::rows::Rows;
-use crate::trace::{Numbered, Trace};
 use arrayvec::ArrayVec;
 use std::marker::Model;
 use xl_areas::Areas;
-use xl_lackey::{Access, Batch, nth_access, sole_access};
-use xl_model::{Event, Kind};
+use xl_course::Source;
+use xl_lackey::{Access, Batch};
+use xl_model::Event;
 
 /// The event of a command that waits among accesses.
 #[derive(Clone, Copy)]
@@ -116,13 +115,13 @@ impl Waiting {
 
     /// Lets an access wait.
     #[inline(always)]
-    fn put_off<R: Rows>(&mut self, rows: &mut R, areas: &Areas, va: u64, kind: Kind)
+    pub(crate) fn put_off<R: Rows>(&mut self, rows: &mut R, areas: &Areas, access: Access)
         ensures { (number : ℕ) → waited self.new (scene_of (R.rows rows.new) areas.now)
-            ≡ scene_after (Referenced number va kind)
+            ≡ scene_after (Referenced number access.va access.kind)
             (waited self.old (scene_of (R.rows rows.old) areas.now)) }
     {
         self.make_room(rows, areas);
-        self.accesses.push(Access { va, kind });
+        self.accesses.push(access);
     }
 
     /// Lets an event of a command wait.
@@ -139,41 +138,13 @@ impl Waiting {
 
     /// Lets the accesses of the next records wait, at most so many. Gives of how many records.
     #[inline(always)]
-    pub(crate) fn skim<T: Trace>(&mut self, trace: &mut T, most: u64) -> u64
-        ensures skims { (file : Option (List ℕ)) → T.stands trace.old file
-            → WaitsMore (T.stands trace.new file) (T.left trace.old file) (T.left trace.new file)
+    pub(crate) fn skim<T: Source>(&mut self, source: &mut T, most: u64) -> u64
+        ensures skims { (fs : Files) → T.stands source.old fs
+            → WaitsMore (T.stands source.new fs) (T.left source.old fs) (T.left source.new fs)
             self.old self.new result }
         ensures few { result ≤ most }
-        ensures no_more { T.size trace.new ≤ T.size trace.old }
+        ensures no_more { T.size source.new ≤ T.size source.old }
     {
-        trace.skim(&mut self.accesses, most)
-    }
-
-    /// Lets the accesses of a record wait.
-    #[inline(always)]
-    pub(crate) fn put_off_record<R: Rows>(&mut self, rows: &mut R, areas: &Areas, found: &Numbered)
-        ensures { waited self.new (scene_of (R.rows rows.new) areas.now)
-            ≡ scenes_after (accesses_items found.now.number (accesses found.now.reference))
-            (waited self.old (scene_of (R.rows rows.old) areas.now)) }
-    {
-        match sole_access(&found.reference) {
-            Some((va, kind)) => self.put_off(rows, areas, va, kind),
-            None => self.put_off_each(rows, areas, found),
-        }
-    }
-
-    /// Lets the accesses of a record wait, one by one.
-    #[inline(never)]
-    fn put_off_each<R: Rows>(&mut self, rows: &mut R, areas: &Areas, found: &Numbered)
-        ensures { waited self.new (scene_of (R.rows rows.new) areas.now)
-            ≡ scenes_after (accesses_items found.now.number (accesses found.now.reference))
-            (waited self.old (scene_of (R.rows rows.old) areas.now)) }
-    {
-        for i in 0..64 {
-            let Some((va, kind)) = nth_access(&found.reference, i) else {
-                return;
-            };
-            self.put_off(rows, areas, va, kind);
-        }
+        source.skim(&mut self.accesses, most)
     }
 }

@@ -4,23 +4,13 @@ ghost use Rattle.std.specs.Prelude.{◌≡◌, ◌++◌, true, codes, is_ok};
 ghost use Rattle.xl_model.specs.Report.{images_where};
 ghost use Rattle.xl_outside.specs.Sinks.{SinkAfter};
 ghost use Rattle.xl_report.specs.Json.{json_line};
-ghost use Rattle.xl_serving.specs.Endings.{rows_text, EndAfter};
+ghost use Rattle.xl_course.specs.Accounts.{EndAfter};
+ghost use Rattle.xl_serving.specs.Plain.{rows_text};
 
 use crate::rows::Rows;
 use std::alloc::Global;
-use thiserror::Error;
+use xl_course::Stop;
 use xl_outside::{Failed, Sink, put_all};
-
-/// Why the end of a report isn't written.
-#[derive(Clone, Copy, Debug, PartialEq, Eq, Error)]
-pub enum EndStop {
-    /// A put failed.
-    #[error("a write failed")]
-    WriteFault,
-    /// There is no memory for the rows as JSON.
-    #[error("no memory")]
-    NoMemory,
-}
 
 /// Writes the rows, as JSON or a line for each, and then the images where they are asked for.
 pub fn write_end<R: Rows, K: Sink>(
@@ -29,7 +19,7 @@ pub fn write_end<R: Rows, K: Sink>(
     json: bool,
     image: bool,
     out: &mut K,
-) -> Result<(), EndStop>
+) -> Result<(), Stop>
     ensures { EndAfter K.taken K.outside K.roomy json
         (rows_text json (R.rows rows.now) ++ images_where image (R.rows rows.now))
         out.old out.new result }
@@ -37,7 +27,7 @@ pub fn write_end<R: Rows, K: Sink>(
     match write_rows(alloc, rows, json, out) {
         Ok(()) => match write_images(rows, image, out) {
             Ok(()) => Ok(()),
-            Err(_) => Err(EndStop::WriteFault),
+            Err(_) => Err(Stop::WriteFault),
         },
         Err(stop) => Err(stop),
     }
@@ -49,7 +39,7 @@ fn write_rows<R: Rows, K: Sink>(
     rows: &R,
     json: bool,
     out: &mut K,
-) -> Result<(), EndStop>
+) -> Result<(), Stop>
     ensures { EndAfter K.taken K.outside K.roomy json (rows_text json (R.rows rows.now))
         out.old out.new result }
 {
@@ -58,22 +48,22 @@ fn write_rows<R: Rows, K: Sink>(
     }
     match rows.write_rows(out) {
         Ok(()) => Ok(()),
-        Err(_) => Err(EndStop::WriteFault),
+        Err(_) => Err(Stop::WriteFault),
     }
 }
 
 /// Writes the rows as one line of JSON. Its text is made before any of it is put.
 #[tactic(auto, unfolding(xl_report::specs::Json::json_line))]
-fn write_json<R: Rows, K: Sink>(alloc: Global, rows: &R, out: &mut K) -> Result<(), EndStop>
+fn write_json<R: Rows, K: Sink>(alloc: Global, rows: &R, out: &mut K) -> Result<(), Stop>
     ensures { EndAfter K.taken K.outside K.roomy true (json_line (R.rows rows.now))
         out.old out.new result }
 {
     let Ok(text) = rows.json(alloc) else {
-        return Err(EndStop::NoMemory);
+        return Err(Stop::NoMemory);
     };
     match put_line(out, text.as_str()) {
         Ok(()) => Ok(()),
-        Err(_) => Err(EndStop::WriteFault),
+        Err(_) => Err(Stop::WriteFault),
     }
 }
 

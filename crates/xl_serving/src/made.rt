@@ -3,12 +3,10 @@
 ghost use Rattle.std.specs.Prelude.{◌≡◌, length};
 ghost use Rattle.xl_serving.specs.Traces.{made_left, made_trail};
 
-use crate::trace::{Numbered, Trace, TraceStop};
-use std::alloc::Global;
 use std::marker::Model;
+use xl_course::{Numbered, Source, Stop};
 use xl_lackey::Batch;
 use xl_made::MadeTrace;
-use xl_model::NoMemory;
 use xl_outside::Folder;
 
 /// A made trace. What is left of it is what its text would be read as, which is never written: each
@@ -28,25 +26,14 @@ impl Model for MadeTape {
     ghost view = { λ t. record { given = t.given; rest = t.trace } };
 }
 
-impl Trace for MadeTape {
-    ghost trail = { λ _. made_trail 0 };
-
+impl Source for MadeTape {
     ghost left = { λ t _. made_left t };
 
     ghost stands = { λ _ _. Unit {0} };
 
     ghost size = { λ t. length t.rest };
 
-    /// Of no records.
-    fn open(_alloc: Global) -> Result<MadeTape, NoMemory> {
-        Ok(MadeTape::of(0))
-    }
-
-    fn next<F: Folder>(
-        &mut self,
-        _folder: &mut F,
-        _name: &str,
-    ) -> Result<Option<Numbered>, TraceStop> {
+    fn next<F: Folder>(&mut self, _folder: &mut F) -> Result<Option<Numbered>, Stop> {
         let number = self.given.wrapping_add(1);
         let Some(reference) = self.trace.next(number) else {
             return Ok(None);

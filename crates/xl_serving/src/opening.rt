@@ -5,19 +5,20 @@ ghost use Rattle.xl_model.specs.Rows.{row_of, IsRow};
 ghost use Rattle.xl_model.specs.Scenes.{opened};
 ghost use Rattle.xl_made.specs.Made.{made_script};
 ghost use Rattle.xl_outside.specs.Folders.{file_of, FolderAfter, fate_by, Fine};
-ghost use Rattle.xl_words.specs.Words.{asked_of};
-ghost use Rattle.xl_serving.specs.Stops.{stop_fate, IsBefore};
+ghost use Rattle.xl_words.specs.Words.{plain_of};
+ghost use Rattle.xl_course.specs.Stops.{stop_fate, StopsOpening};
 ghost use Rattle.xl_serving.specs.Inputs.{Finds, said_in, rows_said, commands_said, rows_in, commands_in, commands_for};
-ghost use Rattle.xl_serving.specs.Endings.{ending_by, Opens};
+ghost use Rattle.xl_serving.specs.Plain.{start_of, started};
 
 use crate::rows::Rows;
-use crate::stop::Stop;
+use crate::stop::{config_stop, script_stop};
 use std::alloc::Global;
+use xl_course::Stop;
 use xl_made::made_script;
 use xl_model::{NoMemory, Row};
 use xl_outside::{Folder, read_whole};
 use xl_script::{Script, parse};
-use xl_words::Words;
+use xl_words::Plain;
 
 /// The most bytes of a configuration.
 const MOST_ROWS: usize = 65_536;
@@ -28,17 +29,17 @@ const MOST_COMMANDS: usize = 1_048_576;
 /// Reads the configuration and then the script, and opens the rows.
 pub(crate) fn open<R: Rows, F: Folder>(
     alloc: Global,
-    words: &Words<'_>,
+    words: &Plain<'_>,
     folder: &mut F,
     rows: &mut R,
 ) -> Result<Script, Stop>
     requires { R.rows rows.old ≡ [] }
-    ensures told { IfSome (F.files folder.old) (λ fs. Opens result
-        (ending_by (rows_in (asked_of words.now).config fs)
-        (commands_for (asked_of words.now) fs)) (R.rows rows.new)) }
+    ensures told { IfSome (F.files folder.old) (λ fs.
+        Finds (start_of (R.rows rows.new)) result (started (rows_in (plain_of words.now).config fs)
+        (commands_for (plain_of words.now) fs))) }
     ensures leaves { FolderAfter F.files F.faults F.absences F.steady folder.old folder.new
         (fate_by stop_fate result) }
-    ensures before { IfErr result IsBefore }
+    ensures before { IfErr result StopsOpening }
 {
     let designs = read_config(alloc, folder, words.config)?;
     let script = script_for(alloc, folder, words)?;
@@ -65,7 +66,7 @@ fn read_config<F: Folder>(alloc: Global, folder: &mut F, name: &str) -> Result<V
         Finds (λ rows. map row_of rows.items) result (rows_in name.now fs)) }
     ensures leaves { FolderAfter F.files F.faults F.absences F.steady folder.old folder.new
         (fate_by stop_fate result) }
-    ensures before { IfErr result IsBefore }
+    ensures before { IfErr result StopsOpening }
     ensures fit { IfOk result (λ rows. All IsRow (map row_of rows.items)) }
     ensures few { IfOk result (λ rows. length rows.items ≤ 16) }
 {
@@ -76,22 +77,24 @@ fn read_config<F: Folder>(alloc: Global, folder: &mut F, name: &str) -> Result<V
 /// The rows of a configuration.
 fn rows_of(alloc: Global, text: &[u8]) -> Result<Vec<Row>, Stop>
     ensures said { Finds (λ rows. map row_of rows.items) result (rows_said text.now) }
-    ensures before { IfErr result IsBefore }
+    ensures before { IfErr result StopsOpening }
     ensures fine { fate_by stop_fate result ≡ Fine }
     ensures fit { IfOk result (λ rows. All IsRow (map row_of rows.items)) }
     ensures few { IfOk result (λ rows. length rows.items ≤ 16) }
 {
-    let rows = xl_config::read(alloc, text)?;
-    Ok(rows)
+    match xl_config::read(alloc, text) {
+        Ok(rows) => Ok(rows),
+        Err(fault) => Err(config_stop(fault)),
+    }
 }
 
 /// Makes the script or reads it, as the words ask for.
-fn script_for<F: Folder>(alloc: Global, folder: &mut F, words: &Words<'_>) -> Result<Script, Stop>
+fn script_for<F: Folder>(alloc: Global, folder: &mut F, words: &Plain<'_>) -> Result<Script, Stop>
     ensures told { IfSome (F.files folder.old) (λ fs.
-        Finds (λ script. script) result (commands_for (asked_of words.now) fs)) }
+        Finds (λ script. script) result (commands_for (plain_of words.now) fs)) }
     ensures leaves { FolderAfter F.files F.faults F.absences F.steady folder.old folder.new
         (fate_by stop_fate result) }
-    ensures before { IfErr result IsBefore }
+    ensures before { IfErr result StopsOpening }
 {
     match words.made {
         Some(records) => made_commands(alloc, records),
@@ -102,7 +105,7 @@ fn script_for<F: Folder>(alloc: Global, folder: &mut F, words: &Words<'_>) -> Re
 /// The commands of a made script.
 fn made_commands(alloc: Global, records: u32) -> Result<Script, Stop>
     ensures said { Finds (λ script. script) result (commands_said (made_script records)) }
-    ensures before { IfErr result IsBefore }
+    ensures before { IfErr result StopsOpening }
     ensures fine { fate_by stop_fate result ≡ Fine }
 {
     let text = made_script(alloc, records)?;
@@ -115,7 +118,7 @@ fn read_script<F: Folder>(alloc: Global, folder: &mut F, name: Option<&str>) -> 
         Finds (λ script. script) result (commands_in (option_map (λ s. s.now) name.entry) fs)) }
     ensures leaves { FolderAfter F.files F.faults F.absences F.steady folder.old folder.new
         (fate_by stop_fate result) }
-    ensures before { IfErr result IsBefore }
+    ensures before { IfErr result StopsOpening }
 {
     match name {
         Some(name) => read_commands(alloc, folder, name),
@@ -129,7 +132,7 @@ fn read_commands<F: Folder>(alloc: Global, folder: &mut F, name: &str) -> Result
         Finds (λ script. script) result (said_in commands_said (file_of fs name.now))) }
     ensures leaves { FolderAfter F.files F.faults F.absences F.steady folder.old folder.new
         (fate_by stop_fate result) }
-    ensures before { IfErr result IsBefore }
+    ensures before { IfErr result StopsOpening }
 {
     let text = read_whole(alloc, folder, name, MOST_COMMANDS)?;
     commands_of(alloc, text.as_slice())
@@ -138,9 +141,11 @@ fn read_commands<F: Folder>(alloc: Global, folder: &mut F, name: &str) -> Result
 /// The commands of a script.
 fn commands_of(alloc: Global, text: &[u8]) -> Result<Script, Stop>
     ensures said { Finds (λ script. script) result (commands_said text.now) }
-    ensures before { IfErr result IsBefore }
+    ensures before { IfErr result StopsOpening }
     ensures fine { fate_by stop_fate result ≡ Fine }
 {
-    let commands = parse(alloc, text)?;
-    Ok(commands)
+    match parse(alloc, text) {
+        Ok(commands) => Ok(commands),
+        Err(fault) => Err(script_stop(fault)),
+    }
 }

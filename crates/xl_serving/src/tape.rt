@@ -5,11 +5,13 @@ ghost use Rattle.xl_outside.specs.Folders.{file_of, FolderAfter, fate_by, unread
 ghost use Rattle.xl_lackey.specs.Stream.{due};
 ghost use Rattle.xl_lackey.specs.Answers.{Answers};
 ghost use Rattle.xl_serving.specs.Traces.{Progress, at_first, next_number, trail_of, left_of};
-ghost use Rattle.xl_serving.specs.Tapes.{IsFedFrom, TraceIsMet, FillAnswers, TraceAnswers, FeedAnswers, MoreAnswers, stop_of, trace_stop_fate, to_come, size_of};
+ghost use Rattle.xl_course.specs.Stops.{stop_fate, StopsSource};
+ghost use Rattle.xl_course.specs.Sources.{Gives, Skims};
+ghost use Rattle.xl_serving.specs.Tapes.{IsFedFrom, FillAnswers, FeedAnswers, MoreAnswers, to_come, size_of};
 
-use crate::trace::{Numbered, Trace, TraceStop};
 use std::alloc::Global;
 use std::marker::Model;
+use xl_course::{Numbered, Stop};
 use xl_lackey::{Batch, Next, Reader, Reference};
 use xl_model::{InputFault, NoMemory};
 use xl_outside::{Folder, Unread};
@@ -20,21 +22,10 @@ const LIMIT: u64 = 1 << 34;
 /// How many bytes a piece has at most.
 const PIECE: usize = 65536;
 
-impl From<Unread> for TraceStop {
-    ghost from_gives = { λ unread stop. stop ≡ stop_of unread };
-
-    fn from(unread: Unread) -> TraceStop {
-        match unread {
-            Unread::Missing => TraceStop::Input(InputFault::NoFile),
-            Unread::Failed => TraceStop::ReadFault,
-        }
-    }
-}
-
 /// A trace that is read while it is replayed: the file's next bytes are asked for only where the
 /// reader holds no line that must be answered.
 #[derive(Drop)]
-pub struct Tape {
+pub(crate) struct Tape {
     reader: Reader,
     /// The place in the file up to which it was fed to the reader.
     at: u64,
@@ -56,16 +47,12 @@ impl Model for Tape {
     ghost invariant = { λ t. (vec_len t.piece ≡ 65536) × (t.at ≤ 2 ^ 34) };
 }
 
-impl Trace for Tape {
-    ghost trail = { trail_of };
-
-    ghost left = { λ t file. left_of file t };
-
-    ghost stands = { λ t file. IsFedFrom file t };
-
-    ghost size = { size_of };
-
-    fn open(alloc: Global) -> Result<Tape, NoMemory> {
+impl Tape {
+    /// A trace of which nothing was read yet. All memory that it wants is taken here.
+    pub(crate) fn open(alloc: Global) -> Result<Tape, NoMemory>
+        ensures { IfOk result (λ t. (file : Option (List ℕ)) → IsFedFrom file t
+            × (left_of file t ≡ trail_of file)) }
+    {
         Ok(Tape {
             reader: Reader::open(alloc)?,
             at: 0,
@@ -74,31 +61,49 @@ impl Trace for Tape {
         })
     }
 
-    fn next<F: Folder>(
+    /// The next record of the file `name`, or None at its end.
+    pub(crate) fn next<F: Folder>(
         &mut self,
         folder: &mut F,
         name: &str,
-    ) -> Result<Option<Numbered>, TraceStop> {
+    ) -> Result<Option<Numbered>, Stop>
+        ensures told { IfSome (F.files folder.old) (λ fs. IsFedFrom (file_of fs name.now) self.old
+            → Gives (IsFedFrom (file_of fs name.now) self.new)
+            (left_of (file_of fs name.now) self.old)
+            (left_of (file_of fs name.now) self.new) result) }
+        ensures leaves { FolderAfter F.files F.faults F.absences F.steady folder.old folder.new
+            (fate_by stop_fate result) }
+        ensures met { IfErr result StopsSource }
+        ensures shrinks { IfOk result (λ r. IsSome r → size_of self.new < size_of self.old) }
+    {
         'pieces: loop {
             match self.answer() {
                 Next::Found(reference) => return Ok(Some(self.number(reference))),
                 Next::End => return Ok(None),
                 Next::BadLine { line, reason } => {
-                    return Err(TraceStop::Input(InputFault::TraceLine { line, reason }));
+                    return Err(Stop::Input(InputFault::TraceLine { line, reason }));
                 }
                 Next::More => self.fill(folder, name)?,
             }
         }
     }
 
-    fn skim(&mut self, into: &mut Batch, most: u64) -> u64 {
+    /// Takes the next records that are at hand, at most so many, while each is in Lackey's own form and
+    /// its bytes lie in one page, and puts their accesses behind those that are there, while there is
+    /// room. Gives how many were taken, perhaps none.
+    pub(crate) fn skim(&mut self, into: &mut Batch, most: u64) -> u64
+        ensures skims { (file : Option (List ℕ)) → IsFedFrom file self.old
+            → Skims (IsFedFrom file self.new) (left_of file self.old) (left_of file self.new)
+            into.old.items into.new.items result }
+        ensures few { result ≤ most }
+        ensures no_more { size_of self.new ≤ size_of self.old }
+        ensures no_fewer { length into.old.items ≤ length into.new.items }
+    {
         let taken = self.reader.skim(into, most);
         self.number = self.number.wrapping_add(taken);
         taken
     }
-}
 
-impl Tape {
     /// What the reader has next.
     fn answer(&mut self) -> Next
         ensures answers { Answers result self.old.reader self.new.reader }
@@ -122,15 +127,15 @@ impl Tape {
 
     /// Feeds the next piece of the file, or says that it has ended.
     #[inline(never)]
-    fn fill<F: Folder>(&mut self, folder: &mut F, name: &str) -> Result<(), TraceStop>
+    fn fill<F: Folder>(&mut self, folder: &mut F, name: &str) -> Result<(), Stop>
         requires unfinished { self.old.reader.finished ≡ false }
         requires room { length self.old.reader.held ≤ 258 }
         requires none { due self.old.reader [] ≡ ([], None) }
         ensures told { IfSome (F.files folder.old) (λ fs. IsFedFrom (file_of fs name.now) self.old
             → FillAnswers (file_of fs name.now) result self.old self.new) }
         ensures leaves { FolderAfter F.files F.faults F.absences F.steady folder.old folder.new
-            (fate_by trace_stop_fate result) }
-        ensures met { IfErr result TraceIsMet }
+            (fate_by stop_fate result) }
+        ensures met { IfErr result StopsSource }
         ensures less { OnOk result (to_come self.new < to_come self.old) }
         ensures no_more { OnOk result (size_of self.new ≤ size_of self.old) }
     {
@@ -142,36 +147,36 @@ impl Tape {
     }
 
     /// At the limit: the file ends there, or it is too long.
-    fn end_at_limit<F: Folder>(&mut self, folder: &mut F, name: &str) -> Result<(), TraceStop>
+    fn end_at_limit<F: Folder>(&mut self, folder: &mut F, name: &str) -> Result<(), Stop>
         requires unfinished { self.old.reader.finished ≡ false }
         requires none { due self.old.reader [] ≡ ([], None) }
         requires limit { self.old.at ≡ 2 ^ 34 }
         ensures told { IfSome (F.files folder.old) (λ fs. IsFedFrom (file_of fs name.now) self.old
             → FillAnswers (file_of fs name.now) result self.old self.new) }
         ensures leaves { FolderAfter F.files F.faults F.absences F.steady folder.old folder.new
-            (fate_by trace_stop_fate result) }
-        ensures met { IfErr result TraceIsMet }
+            (fate_by stop_fate result) }
+        ensures met { IfErr result StopsSource }
         ensures less { OnOk result (to_come self.new < to_come self.old) }
         ensures no_more { OnOk result (size_of self.new ≤ size_of self.old) }
     {
         let more = has_more(folder, name, LIMIT)?;
         if more {
-            return Err(TraceStop::Input(InputFault::TraceTooLong));
+            return Err(Stop::Input(InputFault::TraceTooLong));
         }
         self.finish();
         Ok(())
     }
 
     /// Below the limit: feeds the next piece, and finishes the reader where the file has ended.
-    fn next_piece<F: Folder>(&mut self, folder: &mut F, name: &str) -> Result<(), TraceStop>
+    fn next_piece<F: Folder>(&mut self, folder: &mut F, name: &str) -> Result<(), Stop>
         requires unfinished { self.old.reader.finished ≡ false }
         requires room { length self.old.reader.held ≤ 258 }
         requires below { self.old.at < 2 ^ 34 }
         ensures told { IfSome (F.files folder.old) (λ fs. IsFedFrom (file_of fs name.now) self.old
             → FillAnswers (file_of fs name.now) result self.old self.new) }
         ensures leaves { FolderAfter F.files F.faults F.absences F.steady folder.old folder.new
-            (fate_by trace_stop_fate result) }
-        ensures met { IfErr result TraceIsMet }
+            (fate_by stop_fate result) }
+        ensures met { IfErr result StopsSource }
         ensures less { OnOk result (to_come self.new < to_come self.old) }
         ensures no_more { OnOk result (size_of self.new ≤ size_of self.old) }
     {

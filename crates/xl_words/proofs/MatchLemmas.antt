@@ -1,40 +1,43 @@
--- What a parse of the program's command says of the words.
-use Rattle.std.proofs.Common.{◌≡◌, ℕ, List, [], ◌∷◌, true, refl, sym, ap, ◌∙◌, inl, inr}
-use Rattle.std.specs.Prelude.{◌⊎◌}
+-- What a parse of a simple command says of the words.
+use Rattle.std.proofs.Common.{◌≡◌, ℕ, List, [], ◌∷◌, true, refl, ap, subst, ◌∙◌, inl, inr}
+use Rattle.std.specs.Prelude.{◌⊎◌, Option, Err}
 use Rattle.clap.specs.Faults.{fault_of, is_simple_and_free}
 use Rattle.clap.specs.Simple.{App, is_simple, matches_of}
 use Rattle.clap.specs.Walk.{Row}
 use Rattle.clap.specs.Kinds.{Kinds, IsAmong}
 use Rattle.clap.specs.declared.error.kind.ErrorKind.{ErrorKind}
 use Rattle.clap.specs.declared.error.kind.ErrorKind.TheVariants as kind
-use Rattle.xl_words.specs.Words.{app, file_app, faults_of, values_of}
+use Rattle.xl_words.specs.declared.words.WordsFault.{WordsFault}
+use Rattle.xl_words.specs.declared.words.WordsFault.TheVariants as fault
+use Rattle.xl_words.specs.Words.{app, file_app, Asks, Matches, read_where, read_by}
 
-free : is_simple_and_free app ≡ true
+pub plain-free : (c : App) → c ≡ app → is_simple_and_free c ≡ true
 unfolding app file_app
-free = refl
+plain-free c e = ap is_simple_and_free e ∙ refl
 
-simple : is_simple app ≡ true
+pub plain-simple : (c : App) → c ≡ app → is_simple c ≡ true
 unfolding app file_app
-simple = refl
-
-pub none_refused : (c : App) (words : List (List ℕ)) → c ≡ app → (is_simple_and_free c ≡ true → fault_of c words ≡ []) → faults_of words ≡ []
-unfolding faults_of
-none_refused c words e h = ap (λ (a : App). fault_of a words) (sym e) ∙ h (ap is_simple_and_free e ∙ free)
-
-pub values_found : {X : Type 0} (c : App) (words : List (List ℕ)) (rows : List Row) → c ≡ app → (is_simple c ≡ true → (rows ≡ matches_of c words) × X)
-    → rows ≡ values_of words
-unfolding values_of
-values_found c words rows e h = (h (ap is_simple e ∙ simple)).0 ∙ ap (λ (a : App). matches_of a words) e
+plain-simple c e = ap is_simple e ∙ refl
 
 -- what is among some kinds is not among none
 none_among : (k : ErrorKind) (kinds : Kinds) → IsAmong k kinds → kinds ≡ [] → ⊥
 none_among k [] among e = among
 none_among k (x ∷ xs) among e = cc
 
-pub some_refused : (c : App) (words : List (List ℕ)) (k : ErrorKind) → c ≡ app → (k ≡ kind.OutOfMemory → ⊥)
-    → (is_simple_and_free c ≡ true → (k ≡ kind.OutOfMemory) ⊎ IsAmong k (fault_of c words)) → faults_of words ≡ [] → ⊥
-unfolding faults_of
-some_refused c words k e not h none = elim (h (ap is_simple_and_free e ∙ free)) [
+pub some_refused : (c : App) (words : List (List ℕ)) (k : ErrorKind) → is_simple_and_free c ≡ true → (k ≡ kind.OutOfMemory → ⊥)
+    → (is_simple_and_free c ≡ true → (k ≡ kind.OutOfMemory) ⊎ IsAmong k (fault_of c words)) → fault_of c words ≡ [] → ⊥
+some_refused c words k free not h none = elim (h free) [
   | inl memory ↦ not memory
-  | inr among ↦ none_among k (fault_of c words) among (ap (λ (a : App). fault_of a words) e ∙ none)
+  | inr among ↦ none_among k (fault_of c words) among none
 ]
+
+-- where the command has no matches, nothing is asked for
+refused : {W A : Type 0} (of : W → A) (f : WordsFault) (kinds : Kinds) (rows : List Row) (got : Option A) → Matches kinds rows (Err f) → Asks of (Err f) (read_where kinds got)
+refused of fault.NoMemory kinds rows got h = tt
+refused of fault.Usage [] rows got h = absurd (h refl)
+refused of fault.Usage (k ∷ kinds) rows got h = refl
+
+pub refused_by : {W A : Type 0} (of : W → A) (in' : List Row → Option A) (f : WordsFault) (c a : App) (words : List (List ℕ)) → c ≡ a → Matches (fault_of c words) (matches_of c words) (Err f)
+    → Asks of (Err f) (read_by a in' words)
+refused_by of in' f c a words e h =
+    subst (λ (b : App). Asks of (Err f) (read_by b in' words)) e (refused of f (fault_of c words) (matches_of c words) (in' (matches_of c words)) h)

@@ -8,20 +8,20 @@ use Rattle.clap.specs.declared.builder.value_parser.ValueParser.TheVariants as p
 use Rattle.clap.proofs.ValueTestLemmas.{accepts-Accepts, Accepts-accepts}
 use Rattle.xl_words.specs.Words.{number_of}
 
-numbered-as : (text : List ℕ) (b : Bool) → is_unsigned_in 1 1048576 text ≡ b → number_of text ≡ (if b then Some (digits_value 10 (without_leading_plus text)) else None)
-numbered-as text b e = ap (λ (t : Bool). if t then Some (digits_value 10 (without_leading_plus text)) else None) e
+numbered-as : (most : ℕ) (text : List ℕ) (b : Bool) → is_unsigned_in 1 most text ≡ b → number_of most text ≡ (if b then Some (digits_value 10 (without_leading_plus text)) else None)
+numbered-as most text b e = ap (λ (t : Bool). if t then Some (digits_value 10 (without_leading_plus text)) else None) e
 
 -- a numeral in range is its number
-pub in-range : (text : List ℕ) (n : ℕ) → IsNumeral 10 (without_leading_plus text) → n ≡ digits_value 10 (without_leading_plus text) → 1 ≤ n → n ≤ 1048576 → Some n ≡ number_of text
-in-range text n is e least most =
+pub in-range : (most : ℕ) (text : List ℕ) (n : ℕ) → most < 2 ^ 32 → IsNumeral 10 (without_leading_plus text) → n ≡ digits_value 10 (without_leading_plus text) → 1 ≤ n → n ≤ most → Some n ≡ number_of most text
+in-range most text n few is e least fit =
     let v = digits_value 10 (without_leading_plus text) in
     let low : 1 ≤ v = rw (← e) least in
-    let high : v ≤ 1048576 = rw (← e) most in
+    let high : v ≤ most = rw (← e) fit in
     let fits : v < 2 ^ 64 = omega arith in
-    ap (λ (k : ℕ). Some k) e ∙ sym (numbered-as text true (Accepts-accepts false (parser.Unsigned 1 1048576) text (is, fits, low, high)))
+    ap (λ (k : ℕ). Some k) e ∙ sym (numbered-as most text true (Accepts-accepts false (parser.Unsigned 1 most) text (is, fits, low, high)))
 
 -- any other text is none
-pub out-of-range : (text : List ℕ) → (IsNumeral 10 (without_leading_plus text) → 1 ≤ digits_value 10 (without_leading_plus text) → digits_value 10 (without_leading_plus text) ≤ 1048576 → ⊥) → None ≡ number_of text
-out-of-range text not =
-    sym (numbered-as text false (false_from_ne_true (is_unsigned_in 1 1048576 text)
-    (λ yes. let a = accepts-Accepts false (parser.Unsigned 1 1048576) text yes in not a.0 a.2 a.3)))
+pub out-of-range : (most : ℕ) (text : List ℕ) → (IsNumeral 10 (without_leading_plus text) → 1 ≤ digits_value 10 (without_leading_plus text) → digits_value 10 (without_leading_plus text) ≤ most → ⊥) → None ≡ number_of most text
+out-of-range most text not =
+    sym (numbered-as most text false (false_from_ne_true (is_unsigned_in 1 most text)
+    (λ yes. let a = accepts-Accepts false (parser.Unsigned 1 most) text yes in not a.0 a.2 a.3)))

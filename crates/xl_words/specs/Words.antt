@@ -6,7 +6,11 @@ use Rattle.clap.specs.declared.builder.action.ArgAction.TheVariants.{Set, SetTru
 use Rattle.clap.specs.ValueTests.{is_unsigned_in}
 use Rattle.clap.specs.declared.builder.value_parser.ValueParser.TheVariants as parser
 use Rattle.clap.specs.Words.{App, Kinds, Row, Rule, new_app, new_rule, with_rule, fault_of, matches_of, first_of}
+use Rattle.clap.specs.Words.{found_of, rows_of}
+use Rattle.clap.specs.declared.parser.matches.ArgMatches.{ArgMatches}
+use Rattle.xl_words.specs.declared.words.Plain.{Plain}
 use Rattle.xl_words.specs.declared.words.Words.{Words}
+use Rattle.xl_words.specs.declared.words.Words.TheVariants as words
 use Rattle.xl_words.specs.declared.words.WordsFault.{WordsFault}
 use Rattle.xl_words.specs.declared.words.WordsFault.TheVariants as fault
 
@@ -38,18 +42,10 @@ app =
     with_rule (with_rule (with_rule (with_rule file_app (number_rule (codes "make")))
     (flag_rule (codes "answers"))) (flag_rule (codes "image"))) (flag_rule (codes "json"))
 
--- Why the command has no matches for the words; empty where it has.
-unfoldable pub faults_of : List (List ℕ) → Kinds
-faults_of words = fault_of app words
-
--- The command's matches for the words.
-unfoldable pub values_of : List (List ℕ) → List Row
-values_of words = matches_of app words
-
--- What a run is asked for: the names of its files; for how many records script and trace are made, where they are;
--- whether a line is wanted for each access and command; whether the words of radix tables are; and whether the rows
--- are wanted as JSON.
-pub record Asked : Type 0 where
+-- What the words of the plain form ask for: the names of its files; for how many records script and trace are made,
+-- where they are; whether a line is wanted for each access and command; whether the words of radix tables are; and
+-- whether the rows are wanted as JSON.
+pub record AskedPlain : Type 0 where
   pub config : List ℕ
   pub script : Option (List ℕ)
   pub trace : Option (List ℕ)
@@ -58,25 +54,29 @@ pub record Asked : Type 0 where
   pub image : Bool
   pub json : Bool
 
+-- What the words ask for, in each form of the program.
+pub data Asked : Type 0 where
+  Plainly : AskedPlain → Asked
+
 -- Whether a flag stands among the words.
 abbrev pub is_on : Option (List ℕ) → Bool
 is_on None = false
 is_on (Some text) = bytes_eq text (codes "true")
 
--- The number from 1 to 1,048,576 that a text is; none where it is no such number.
-abbrev pub number_of : List ℕ → Option ℕ
-number_of text = if is_unsigned_in 1 1048576 text then Some (digits_value 10 (without_leading_plus text)) else None
+-- The number from 1 to `most` that a text is; none where it is no such number.
+abbrev pub number_of : ℕ → List ℕ → Option ℕ
+number_of most text = if is_unsigned_in 1 most text then Some (digits_value 10 (without_leading_plus text)) else None
 
 -- For how many records script and trace are made, by the text of the number, where it is given, and the names of a
 -- script and a trace. With one of these none are made, and the words ask for nothing.
 abbrev pub made_by : Option (List ℕ) → Option (List ℕ) → Option (List ℕ) → Option (Option ℕ)
 made_by None script trace = Some None
-made_by (Some text) None None = option_map Some (number_of text)
+made_by (Some text) None None = option_map Some (number_of 1048576 text)
 made_by (Some text) script trace = None
 
--- What is asked for by some matches, where so many records are made.
-abbrev pub asked_with : List Row → Option ℕ → Asked
-asked_with rows made = record {
+-- What is asked for by some matches of the plain form, where so many records are made.
+abbrev pub plain_with : List Row → Option ℕ → AskedPlain
+plain_with rows made = record {
   config = unwrap_or (first_of (codes "config") rows) [];
   script = first_of (codes "script") rows;
   trace = first_of (codes "trace") rows;
@@ -86,25 +86,29 @@ asked_with rows made = record {
   json = is_on (first_of (codes "json") rows);
 }
 
--- What is asked for by some matches; nothing where records are to be made beside a script or a trace.
-abbrev pub asked_in : List Row → Option Asked
-asked_in rows =
-    option_map (asked_with rows)
+-- What is asked for by some matches of the plain form; nothing where records are to be made beside a script or a trace.
+abbrev pub plain_in : List Row → Option AskedPlain
+plain_in rows =
+    option_map (plain_with rows)
     (made_by (first_of (codes "make") rows) (first_of (codes "script") rows) (first_of (codes "trace") rows))
 
--- What is asked for where the command has matches.
-abbrev pub asked_by : Kinds → List Row → Option Asked
-asked_by [] rows = asked_in rows
-asked_by (kind ∷ kinds) rows = None
+-- What is read of a command's matches, where it has any.
+abbrev pub read_where : {A : Type 0} → Kinds → Option A → Option A
+read_where [] asked = asked
+read_where (kind ∷ kinds) asked = None
 
--- What the words ask for; nothing exactly where the command has no matches for them, or records are to be made beside
--- a script or a trace.
+-- What is asked for by the words, as a command reads them; nothing where it has no matches for them.
+abbrev pub read_by : {A : Type 0} → App → (List Row → Option A) → List (List ℕ) → Option A
+read_by app in' words = read_where (fault_of app words) (in' (matches_of app words))
+
+-- What the words ask for; nothing exactly where the command has no matches for them, or records are to be made beside a
+-- script or a trace.
 abbrev pub asked : List (List ℕ) → Option Asked
-asked words = asked_by (faults_of words) (values_of words)
+asked words = option_map Plainly (read_by app plain_in words)
 
--- What words of the code ask for.
-abbrev pub asked_of : Words → Asked
-asked_of w = record {
+-- What words of the plain form ask for, as they were read.
+abbrev pub plain_of : Plain → AskedPlain
+plain_of w = record {
   config = w.config.now;
   script = option_map (λ s. s.now) w.script;
   trace = option_map (λ s. s.now) w.trace;
@@ -114,8 +118,18 @@ asked_of w = record {
   json = w.json;
 }
 
+-- What words ask for, as they were read.
+abbrev pub asked_of : Words → Asked
+asked_of (words.Plain w) = Plainly (plain_of w)
+
 -- What a reading of the words answers: what they ask for, or that they ask for nothing, or that there is no memory.
-abbrev pub Asks : Result Words WordsFault → Option Asked → Type 0
-Asks (Ok w) read = read ≡ Some (asked_of w)
-Asks (Err fault.Usage) read = read ≡ None
-Asks (Err fault.NoMemory) read = Unit {0}
+abbrev pub Asks : {W A : Type 0} → (W → A) → Result W WordsFault → Option A → Type 0
+Asks of (Ok w) read = read ≡ Some (of w)
+Asks of (Err fault.Usage) read = read ≡ None
+Asks of (Err fault.NoMemory) read = Unit {0}
+
+-- What the matching of the words answers, by why there are no matches, and the matches.
+abbrev pub Matches : Kinds → List Row → Result ArgMatches WordsFault → Type 0
+Matches kinds rows (Ok m) = (kinds ≡ []) × (rows_of (found_of m) ≡ rows)
+Matches kinds rows (Err fault.Usage) = kinds ≡ [] → ⊥
+Matches kinds rows (Err fault.NoMemory) = Unit {0}

@@ -4,4 +4,4 @@
 
 mod words;
 
-pub use words::{Words, WordsFault, read};
+pub use words::{Plain, Words, WordsFault, read};

@@ -1,8 +1,8 @@
 //! The words, by a command of `clap`.
 
-ghost use Rattle.std.specs.Prelude.{◌≡◌, [], IfOk, IfErr, OnOk, map, option_map, string_bytes, codes, false, unwrap_or};
-ghost use Rattle.clap.specs.Words.{app_of, rule_of, with_rule, rows_of, found_of, first_of};
-ghost use Rattle.xl_words.specs.Words.{option_rule, needed_rule, number_rule, number_of, made_by, asked_with, flag_rule, app, file_app, faults_of, values_of, is_on, asked, asked_in, asked_of, Asks};
+ghost use Rattle.std.specs.Prelude.{◌≡◌, [], IfOk, true, false, map, option_map, string_bytes, codes};
+ghost use Rattle.clap.specs.Words.{app_of, rule_of, with_rule, rows_of, found_of, first_of, fault_of, matches_of, is_simple, is_simple_and_free};
+ghost use Rattle.xl_words.specs.Words.{option_rule, needed_rule, number_rule, flag_rule, number_of, made_by, app, file_app, is_on, plain_with, plain_in, read_by, asked, plain_of, asked_of, Asks, Matches};
 ghost use Rattle.xl_words.specs.declared.words.WordsFault.TheVariants as why;
 
 use clap::error::ErrorKind;
@@ -10,11 +10,11 @@ use clap::{Arg, ArgAction, ArgMatches, Command};
 use std::alloc::{AllocError, Global};
 use thiserror::Error;
 
-/// What the words ask for: the names of the configuration, the script and the trace; for how many
-/// records script and trace are made, where they are; whether a line is wanted for each access and
-/// command; whether the words of radix tables are; and whether the rows are wanted as JSON.
+/// What the words of the plain form ask for: the names of the configuration, the script and the trace;
+/// for how many records script and trace are made, where they are; whether a line is wanted for each
+/// access and command; whether the words of radix tables are; and whether the rows are wanted as JSON.
 #[derive(Clone, Copy, Debug, PartialEq, Eq)]
-pub struct Words<'a> {
+pub struct Plain<'a> {
     pub config: &'a str,
     pub script: Option<&'a str>,
     pub trace: Option<&'a str>,
@@ -22,6 +22,12 @@ pub struct Words<'a> {
     pub answers: bool,
     pub image: bool,
     pub json: bool,
+}
+
+/// What the words ask for, in each form of the program.
+#[derive(Clone, Copy, Debug, PartialEq, Eq)]
+pub enum Words<'a> {
+    Plain(Plain<'a>),
 }
 
 /// Why the words ask for nothing.
@@ -44,46 +50,56 @@ impl From<AllocError> for WordsFault {
 }
 
 /// The most records that are made.
-const MOST: u32 = 1 << 20;
+const MOST_RECORDS: u32 = 1 << 20;
 
-/// What the words ask for, of which the first is the program's name. Usage exactly where the command
-/// has no matches for them, or records are to be made beside a script or a trace; where there is no
-/// memory, the answer may be that.
+/// What the words ask for, of which the first is the program's name. Usage exactly where the command has
+/// no matches for them, or records are to be made beside a script or a trace; where there is no memory, the
+/// answer may be that.
 pub fn read<'a>(alloc: Global, words: &'a [String]) -> Result<Words<'a>, WordsFault>
-    ensures { Asks result (asked (map string_bytes words.entry.now)) }
+    ensures { Asks asked_of result (asked (map string_bytes words.entry.now)) }
 {
-    match matches(alloc, words) {
-        Ok(matches) => words_in(&matches),
+    match read_plain(alloc, words) {
+        Ok(plain) => Ok(Words::Plain(plain)),
+        Err(fault) => Err(fault),
+    }
+}
+
+/// What words of the plain form ask for.
+fn read_plain<'a>(alloc: Global, words: &'a [String]) -> Result<Plain<'a>, WordsFault>
+    ensures { Asks plain_of result (read_by app plain_in (map string_bytes words.entry.now)) }
+{
+    match matches(command(alloc)?, words) {
+        Ok(matches) => plain_matched(&matches),
         Err(fault) => Err(fault),
     }
 }
 
 /// What is asked for by some matches. The command has none without a configuration.
-fn words_in<'a>(matches: &ArgMatches<'a>) -> Result<Words<'a>, WordsFault>
-    ensures { Asks result (asked_in (rows_of (found_of matches.now))) }
+fn plain_matched<'a>(matches: &ArgMatches<'a>) -> Result<Plain<'a>, WordsFault>
+    ensures { Asks plain_of result (plain_in (rows_of (found_of matches.now))) }
 {
     let script = value(matches, "script");
     let trace = value(matches, "trace");
     match made(value(matches, "make"), script, trace) {
-        Some(made) => Ok(words_with(matches, script, trace, made)),
+        Some(made) => Ok(plain_with(matches, script, trace, made)),
         None => Err(WordsFault::Usage),
     }
 }
 
 /// The words of some matches, with these names, and so many records to be made.
-fn words_with<'a>(
+fn plain_with<'a>(
     matches: &ArgMatches<'a>,
     script: Option<&'a str>,
     trace: Option<&'a str>,
     made: Option<u32>,
-) -> Words<'a>
+) -> Plain<'a>
     requires script { option_map (λ s. s.now) script
         ≡ first_of (codes "script") (rows_of (found_of matches.now)) }
     requires trace { option_map (λ s. s.now) trace
         ≡ first_of (codes "trace") (rows_of (found_of matches.now)) }
-    ensures { asked_of result ≡ asked_with (rows_of (found_of matches.now)) made }
+    ensures { plain_of result ≡ plain_with (rows_of (found_of matches.now)) made }
 {
-    Words {
+    Plain {
         config: value(matches, "config").unwrap_or(""),
         script,
         trace,
@@ -102,7 +118,7 @@ fn made(text: Option<&str>, script: Option<&str>, trace: Option<&str>) -> Option
 {
     match (text, script, trace) {
         (None, _, _) => Some(None),
-        (Some(text), None, None) => match number(text) {
+        (Some(text), None, None) => match number(text, MOST_RECORDS) {
             Some(number) => Some(Some(number)),
             None => None,
         },
@@ -110,14 +126,14 @@ fn made(text: Option<&str>, script: Option<&str>, trace: Option<&str>) -> Option
     }
 }
 
-/// The number that a text is.
-fn number(text: &str) -> Option<u32>
-    ensures { result ≡ number_of text.now }
+/// The number from 1 to `most` that a text is.
+fn number(text: &str, most: u32) -> Option<u32>
+    ensures { result ≡ number_of most text.now }
 {
     let Ok(number) = text.parse::<u32>() else {
         return None;
     };
-    if number < 1 || number > MOST {
+    if number < 1 || number > most {
         return None;
     }
     Some(number)
@@ -140,16 +156,14 @@ fn is_on(value: Option<&str>) -> bool
     }
 }
 
-/// The matches of the words.
-#[tactic(auto, unfolding(crate::specs::Words::faults_of, crate::specs::Words::values_of))]
-fn matches<'a>(alloc: Global, words: &'a [String]) -> Result<ArgMatches<'a>, WordsFault>
-    ensures some { OnOk result (faults_of (map string_bytes words.entry.now) ≡ []) }
-    ensures values { IfOk result (λ m. rows_of (found_of m)
-        ≡ values_of (map string_bytes words.entry.now)) }
-    ensures none { IfErr result (λ f. f ≡ why.Usage
-        → ¬ (faults_of (map string_bytes words.entry.now) ≡ [])) }
+/// The matches of a simple command for some words.
+fn matches<'a>(command: Command<'a>, words: &'a [String]) -> Result<ArgMatches<'a>, WordsFault>
+    requires free { is_simple_and_free (app_of command) ≡ true }
+    requires simple { is_simple (app_of command) ≡ true }
+    ensures { Matches (fault_of (app_of command.entry) (map string_bytes words.entry.now))
+        (matches_of (app_of command.entry) (map string_bytes words.entry.now)) result }
 {
-    match command(alloc)?.try_get_matches_from(words) {
+    match command.try_get_matches_from(words) {
         Ok(matches) => Ok(matches),
         Err(error) => match error.kind() {
             ErrorKind::OutOfMemory => Err(WordsFault::NoMemory),

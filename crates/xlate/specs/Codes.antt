@@ -1,7 +1,7 @@
 -- The program's exit codes.
 use Rattle.std.specs.Prelude.{ℕ}
-use Rattle.xl_serving.specs.declared.status.Status.{Status}
-use Rattle.xl_serving.specs.declared.status.Status.TheVariants.{Ok, Usage, BadConfig, BadScript, BadTrace, ReadFault, WriteFault, NoMemory, NoFile}
+use Rattle.xl_course.specs.declared.status.Status.{Status}
+use Rattle.xl_course.specs.declared.status.Status.TheVariants.{Ok, Usage, BadConfig, BadScript, BadTrace, ReadFault, WriteFault, NoMemory, NoFile}
 
 -- the exit code of a status: each one's own number
 abbrev pub code_of : Status → ℕ

@@ -3,7 +3,7 @@ use Rattle.xl_model.specs.Rows.{row_of}
 use Rattle.xl_outside.specs.Folders.{file_of}
 use Rattle.xl_outside.specs.Whole.{TellsWhole}
 use Rattle.xl_serving.specs.Inputs.{Finds, rows_said, rows_in}
-use Rattle.xl_serving.proofs.ToldLemmas.{told_one}
+use Rattle.xl_course.proofs.ToldLemmas.{told_one}
 use Rattle.xl_serving.proofs.InputLemmas.{finds_text, rows_cut}
 use Rattle.xl_serving.proofs.opening.read_config.Goals as goal
 

@@ -1,6 +1,6 @@
 use Rattle.std.proofs.Common.{subst}
 use Rattle.xl_serving.specs.Inputs.{Finds}
-use Rattle.xl_serving.proofs.ToldLemmas.{told_all}
+use Rattle.xl_course.proofs.ToldLemmas.{told_all}
 use Rattle.xl_serving.proofs.InputLemmas.{none_said}
 use Rattle.xl_serving.proofs.opening.read_script.Goals as goal
 

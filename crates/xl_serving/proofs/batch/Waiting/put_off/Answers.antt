@@ -10,7 +10,7 @@ pub returns : goal.returns
 returns g c number =
     let w = c.self.inside in
     let s = scene_of (g.R.Rows.rows c.make_room.new.rows) c.args.areas.now in
-    let one = scene_after (Referenced number c.args.va c.args.kind) in
-    rw c.push.ensures.items (access-waits w.accesses.items w.events.items c.args.va c.args.kind s number c.self.invariant.1)
+    let one = scene_after (Referenced number c.args.access.va c.args.access.kind) in
+    rw c.push.ensures.items (access-waits w.accesses.items w.events.items c.args.access.va c.args.access.kind s number c.self.invariant.1)
     ∙ ap (λ (b : Backlog). one (waited b s)) c.self.view_is
     ∙ ap one c.make_room.ensures.same

@@ -1,9 +1,10 @@
 use Rattle.xl_model.specs.declared.fault.InputFault.TheVariants.{TraceTooLong}
 use Rattle.xl_outside.specs.Folders.{file_of}
-use Rattle.xl_serving.specs.declared.trace.TraceStop.TheVariants as why
+use Rattle.xl_course.specs.declared.stop.Stop.TheVariants as why
 use Rattle.xl_serving.specs.Traces.{limit, left_of}
-use Rattle.xl_serving.specs.Tapes.{IsFedFrom, HasMore, EndsBy}
-use Rattle.xl_serving.proofs.ToldLemmas.{told_one}
+use Rattle.xl_serving.specs.Tapes.{IsFedFrom, HasMore}
+use Rattle.xl_course.specs.Sources.{EndsBy}
+use Rattle.xl_course.proofs.ToldLemmas.{told_one}
 use Rattle.xl_serving.proofs.PieceLemmas.{too_long}
 use Rattle.xl_serving.proofs.tape.Tape.end_at_limit.Goals as goal
 

@@ -1,0 +1,8 @@
+pub mod ToldLemmas
+pub mod MeaningLemmas
+pub mod ServedLemmas
+mod ItemLemmas
+pub mod CourseLemmas
+pub mod EndLemmas
+pub mod FlushLemmas
+pub mod MessageLemmas

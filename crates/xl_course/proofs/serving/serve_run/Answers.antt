@@ -1,0 +1,121 @@
+use Rattle.std.specs.Prelude.{eqb, not}
+use Rattle.std.proofs.Common.{Bool, sym, true, false, ◌≡◌, ◌∙◌, ap, subst, arith, ◌+◌, ◌-◌, ◌<◌, ◌≤◌}
+use Rattle.std.proofs.lemmas.Bool.Decides.{nat_tests}
+use Rattle.std.specs.Prelude.{Result, Ok, Err, Option, Some, None}
+use Rattle.xl_outside.specs.Sinks.{GoesOn}
+use Rattle.xl_outside.proofs.SinkLemmas.{goes_same, goes_then}
+use Rattle.xl_outside.proofs.FolderLemmas.{folder_then, folder_same}
+use Rattle.xl_course.specs.declared.source.Numbered.{Numbered}
+use Rattle.xl_course.specs.declared.stop.Stop.{Stop}
+use Rattle.xl_course.specs.declared.stop.Stop.TheVariants as why
+use Rattle.xl_course.specs.Sources.{Gives}
+use Rattle.xl_course.specs.Courses.{ran}
+use Rattle.xl_course.proofs.ToldLemmas.{told_all, told_then, is_err_by}
+use Rattle.xl_course.proofs.CourseLemmas.{Steps, run_step, underway_none, going_on, going_lost, going_ends, going_stops, going_skims_run, lost-any}
+use Rattle.xl_course.proofs.EndLemmas.{put_still}
+use Rattle.xl_course.proofs.serving.serve_run.Goals as goal
+
+pub records-init : goal.records-init
+records-init g c = record {
+  told = told_all (g.F.Folder.files c.args.folder.now) _ (λ fs s. underway_none _ _ _ _ (not (eqb g.row.ANSWERS 0)) _ (ran g.D.Form.meaning c.args.n) (g.T.Source.left c.args.source.now fs) _ _ s);
+  folder = folder_same _ _ _ _ _;
+  goes_on = goes_same _;
+  can = λ steps h. h;
+}
+
+pub records-preserved : goal.records-preserved
+records-preserved g c =
+    let inv = c.records.invariant in
+    let m = g.D.Form.meaning in
+    let n = c.records.left in
+    let some : 0 < n = let t = c.records-test.true in grind (arith, nat_tests) in
+    let taken = c.skim-taken.result in
+    let few : taken < n = omega (arith, c.skim-taken.ensures.few, some) in
+    let fits : taken ≤ n = omega arith in
+    let less : n - taken - 1 ≡ n - (taken + 1) = omega arith in
+    let step : Steps m (ran m (n - taken)) (ran m (n - (taken + 1))) = subst (λ j. Steps m (ran m (n - taken)) (ran m j)) less (run_step m (n - taken) (omega arith)) in
+    let stands = g.T.Source.stands in
+    let left = g.T.Source.left in
+    record {
+      told = told_then (g.F.Folder.files c.args.folder.now) (g.F.Folder.files c.records.folder) _ (λ fs. stands c.skim-taken.new.source fs → Gives (stands c.next.new.self fs) (left c.skim-taken.new.source fs) (left c.next.new.self fs) c.next.result) _
+          inv.folder.keeps inv.told c.next.ensures.told
+          (λ fs h k s.
+          let mid = going_skims_run _ _ _ _ _ _ _ _ _ _ (c.skim-taken.ensures.skims fs (h s).stands_still) c.records.out n (not (eqb g.row.ANSWERS 0)) _ _ _ _ c.skim-taken.ensures.none fits (h s) in
+          going_on _ _ _ _ (not (eqb g.row.ANSWERS 0)) _ _ _ (ran m (n - taken)) (ran m (n - (taken + 1))) _ _ c.in-Ok-Some.found _ _ _ _ _ _ step mid
+          (subst (λ (z : Result (Option Numbered) Stop). Gives (stands c.next.new.self fs) (left c.skim-taken.new.source fs) (left c.next.new.self fs) z) (c.in-Ok-Some.is ∙ ap (λ (o : Option Numbered). Ok o) c.in-Ok-Some.field-0-is) (k mid.stands_still))
+          c.in_ok-serve_record-in-Ok-Some.ensures.served);
+      folder = folder_then _ _ _ _ _ _ _ _ inv.folder c.in-Ok-Some.ensures.leaves;
+      goes_on = goes_then true _ _ _ inv.goes_on c.in_ok-serve_record-in-Ok-Some.ensures.served.writes.goes_on;
+      can = λ steps h. c.in_ok-serve_record-in-Ok-Some.ensures.can steps (c.skim-taken.ensures.can steps (inv.can steps h));
+    }
+
+pub returns-in_err-serve_record-in-Ok-Some-clause-told : goal.returns-in_err-serve_record-in-Ok-Some-clause-told
+returns-in_err-serve_record-in-Ok-Some-clause-told g c =
+    let inv = c.records.invariant in
+    let m = g.D.Form.meaning in
+    let n = c.records.left in
+    let some : 0 < n = let t = c.records-test.true in grind (arith, nat_tests) in
+    let taken = c.skim-taken.result in
+    let few : taken < n = omega (arith, c.skim-taken.ensures.few, some) in
+    let fits : taken ≤ n = omega arith in
+    let less : n - taken - 1 ≡ n - (taken + 1) = omega arith in
+    let step : Steps m (ran m (n - taken)) (ran m (n - (taken + 1))) = subst (λ j. Steps m (ran m (n - taken)) (ran m j)) less (run_step m (n - taken) (omega arith)) in
+    let stands = g.T.Source.stands in
+    let left = g.T.Source.left in
+    rw (is_err_by c.from_residual.result why.WriteFault c.from_residual.ensures.1)
+    (told_then (g.F.Folder.files c.args.folder.now) (g.F.Folder.files c.records.folder) _ (λ fs. stands c.skim-taken.new.source fs → Gives (stands c.next.new.self fs) (left c.skim-taken.new.source fs) (left c.next.new.self fs) c.next.result) _
+    inv.folder.keeps inv.told c.next.ensures.told
+    (λ fs h k s.
+    let mid = going_skims_run _ _ _ _ _ _ _ _ _ _ (c.skim-taken.ensures.skims fs (h s).stands_still) c.records.out n (not (eqb g.row.ANSWERS 0)) _ _ _ _ c.skim-taken.ensures.none fits (h s) in
+    going_lost _ _ _ _ (not (eqb g.row.ANSWERS 0)) _ _ _ _ (ran m (n - taken)) (ran m (n - (taken + 1))) _ _ c.in-Ok-Some.found _ _ _ _ _ _ step mid
+    (subst (λ (z : Result (Option Numbered) Stop). Gives (stands c.next.new.self fs) (left c.skim-taken.new.source fs) (left c.next.new.self fs) z) (c.in-Ok-Some.is ∙ ap (λ (o : Option Numbered). Ok o) c.in-Ok-Some.field-0-is) (k mid.stands_still))
+    (lost-any (not (eqb g.row.ANSWERS 0)) _ _ _ _ _ _ c.in_err-serve_record-in-Ok-Some.ensures.served)))
+
+pub returns-in-Ok-None-clause-told : goal.returns-in-Ok-None-clause-told
+returns-in-Ok-None-clause-told g c =
+    let inv = c.records.invariant in
+    let m = g.D.Form.meaning in
+    let n = c.records.left in
+    let some : 0 < n = let t = c.records-test.true in grind (arith, nat_tests) in
+    let taken = c.skim-taken.result in
+    let few : taken < n = omega (arith, c.skim-taken.ensures.few, some) in
+    let fits : taken ≤ n = omega arith in
+    let less : n - taken - 1 ≡ n - (taken + 1) = omega arith in
+    let step : Steps m (ran m (n - taken)) (ran m (n - (taken + 1))) = subst (λ j. Steps m (ran m (n - taken)) (ran m j)) less (run_step m (n - taken) (omega arith)) in
+    let stands = g.T.Source.stands in
+    let left = g.T.Source.left in
+    told_then (g.F.Folder.files c.args.folder.now) (g.F.Folder.files c.records.folder) _ (λ fs. stands c.skim-taken.new.source fs → Gives (stands c.next.new.self fs) (left c.skim-taken.new.source fs) (left c.next.new.self fs) c.next.result) _
+    inv.folder.keeps inv.told c.next.ensures.told
+    (λ fs h k s.
+    let mid = going_skims_run _ _ _ _ _ _ _ _ _ _ (c.skim-taken.ensures.skims fs (h s).stands_still) c.records.out n (not (eqb g.row.ANSWERS 0)) _ _ _ _ c.skim-taken.ensures.none fits (h s) in
+    going_ends _ _ _ _ (not (eqb g.row.ANSWERS 0)) _ _ _ (ran m (n - taken)) (ran m (n - (taken + 1))) _ _ _ _ _ _ _ step mid
+    (subst (λ (z : Result (Option Numbered) Stop). Gives (stands c.next.new.self fs) (left c.skim-taken.new.source fs) (left c.next.new.self fs) z) (c.in-Ok-None.is ∙ ap (λ (o : Option Numbered). Ok o) c.in-Ok-None.field-0-is) (k mid.stands_still)))
+
+pub returns-in-Err-clause-told : goal.returns-in-Err-clause-told
+returns-in-Err-clause-told g c =
+    let inv = c.records.invariant in
+    let m = g.D.Form.meaning in
+    let n = c.records.left in
+    let some : 0 < n = let t = c.records-test.true in grind (arith, nat_tests) in
+    let taken = c.skim-taken.result in
+    let few : taken < n = omega (arith, c.skim-taken.ensures.few, some) in
+    let fits : taken ≤ n = omega arith in
+    let less : n - taken - 1 ≡ n - (taken + 1) = omega arith in
+    let step : Steps m (ran m (n - taken)) (ran m (n - (taken + 1))) = subst (λ j. Steps m (ran m (n - taken)) (ran m j)) less (run_step m (n - taken) (omega arith)) in
+    let stands = g.T.Source.stands in
+    let left = g.T.Source.left in
+    (told_then (g.F.Folder.files c.args.folder.now) (g.F.Folder.files c.records.folder) _ (λ fs. stands c.skim-taken.new.source fs → Gives (stands c.next.new.self fs) (left c.skim-taken.new.source fs) (left c.next.new.self fs) c.next.result) _
+    inv.folder.keeps inv.told c.next.ensures.told
+    (λ fs h k s.
+    let mid = going_skims_run _ _ _ _ _ _ _ _ _ _ (c.skim-taken.ensures.skims fs (h s).stands_still) c.records.out n (not (eqb g.row.ANSWERS 0)) _ _ _ _ c.skim-taken.ensures.none fits (h s) in
+    going_stops _ _ _ _ (not (eqb g.row.ANSWERS 0)) _ _ _ _ (ran m (n - taken)) (ran m (n - (taken + 1))) _ _ _ _ _ _ c.in-Err.stop step mid
+    (subst (λ (z : Result (Option Numbered) Stop). Gives (stands c.next.new.self fs) (left c.skim-taken.new.source fs) (left c.next.new.self fs) z) c.in-Err.is (k mid.stands_still))))
+
+pub returns-in_err-serve_record-in-Ok-Some-clause-goes_on : goal.returns-in_err-serve_record-in-Ok-Some-clause-goes_on
+returns-in_err-serve_record-in-Ok-Some-clause-goes_on g c =
+    rw (is_err_by c.from_residual.result why.WriteFault c.from_residual.ensures.1)
+    (goes_then false _ _ _ c.records.invariant.goes_on c.in_err-serve_record-in-Ok-Some.ensures.served.writes.goes_on)
+
+pub returns-in-Err-clause-goes_on : goal.returns-in-Err-clause-goes_on
+returns-in-Err-clause-goes_on g c =
+    subst (λ (b : Bool). GoesOn b (g.K.Sink.outside c.args.out.now) (g.K.Sink.outside c.records.out)) (sym (put_still c.in-Err.stop c.in-Err.ensures.met)) c.records.invariant.goes_on

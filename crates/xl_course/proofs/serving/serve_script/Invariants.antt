@@ -1,0 +1,20 @@
+use Rattle.std.specs.Prelude.{eqb, not}
+use Rattle.std.proofs.Common.{true}
+use Rattle.std.specs.Prelude.{drop}
+use Rattle.std.specs.Option.{IfSome}
+use Rattle.xl_outside.specs.Folders.{FolderAfter, Fine}
+use Rattle.xl_outside.specs.Sinks.{GoesOn}
+use Rattle.xl_course.specs.Courses.{commands_of, course}
+use Rattle.xl_course.proofs.CourseLemmas.{Through}
+use Rattle.xl_course.proofs.serving.serve_script.Given as goal
+
+abbrev pub invariant-loop-i : goal.invariant-loop-i
+invariant-loop-i g l = record {
+  told : IfSome (g.F.Folder.files l.fn.folder) (λ fs. g.T.Source.stands l.fn.source fs → Through g.D.Form.meaning g.K.Sink.taken g.K.Sink.outside g.K.Sink.roomy (not (eqb g.row.ANSWERS 0))
+      (g.T.Source.stands l.source fs) (course g.D.Form.meaning (g.C.Orders.steps l.orders) (g.T.Source.left l.fn.source fs))
+      (course g.D.Form.meaning (drop l.i (g.C.Orders.steps l.orders)) (g.T.Source.left l.source fs))
+      (g.D.Form.state l.fn.form l.fn.rack) (g.D.Form.state l.form l.rack) l.fn.out l.out);
+  folder : FolderAfter g.F.Folder.files g.F.Folder.faults g.F.Folder.absences g.F.Folder.steady l.fn.folder l.folder Fine;
+  goes_on : GoesOn true (g.K.Sink.outside l.fn.out) (g.K.Sink.outside l.out);
+  can : g.D.Form.can l.form l.rack (commands_of (drop l.i (g.C.Orders.steps l.orders)));
+}

@@ -1,0 +1,44 @@
+-- What a source of records answers, by what is left of it.
+use Rattle.std.specs.Prelude.{◌≡◌, ℕ, List, [], ◌∷◌, ◌++◌, length, map, Option, None, Some, Result, Ok, Err}
+use Rattle.xl_model.specs.declared.address.Kind.{Kind}
+use Rattle.xl_model.specs.Courses.{Accesses, Trail, at_end}
+use Rattle.xl_lackey.specs.declared.skim.Access.{Access}
+use Rattle.xl_lackey.specs.Accesses.{accesses}
+use Rattle.xl_lackey.specs.Skims.{pair}
+use Rattle.xl_course.specs.declared.stop.Stop.{Stop}
+use Rattle.xl_course.specs.declared.stop.Stop.TheVariants as why
+use Rattle.xl_course.specs.declared.source.Numbered.{Numbered}
+
+-- A record that was given, with its accesses.
+abbrev pub found_of : Numbered → Accesses
+found_of r = record { number = r.number; accesses = accesses r.reference }
+
+-- Why no record comes is what ends the trace; a failed read may come anywhere.
+abbrev pub EndsBy : Stop → Trail → Type 0
+EndsBy (why.Input fault) t = t ≡ at_end (Some fault)
+EndsBy why.ReadFault t = Unit {0}
+EndsBy why.WriteFault t = ⊥
+EndsBy why.NoMemory t = ⊥
+
+-- What a source answers that is asked for a record, by what is left of it before and after; `stands` says that it is
+-- fed from its files alone still.
+abbrev pub Gives : Type 0 → Trail → Trail → Result (Option Numbered) Stop → Type 0
+Gives stands t u (Ok None) = stands × (t ≡ at_end None) × (u ≡ at_end None)
+Gives stands t u (Ok (Some r)) = stands × (t ≡ record u { records = found_of r ∷ u.records })
+Gives stands t u (Err stop) = EndsBy stop t
+
+-- The accesses of some records, one record after another.
+abbrev pub accesses_of_all : List Accesses → List (ℕ × Kind)
+accesses_of_all [] = []
+accesses_of_all (r ∷ rs) = r.accesses ++ accesses_of_all rs
+
+-- So many records were the first of what was left, and the rest of it is left; their accesses follow those that were
+-- there before.
+pub record Skims (stands : Type 0) (t u : Trail) (before after : List Access) (count : ℕ) : Type 0 where
+  pub stands_still : stands
+  pub taken : List Accesses
+  pub got : List Access
+  pub split : t ≡ record u { records = taken ++ u.records }
+  pub follow : after ≡ before ++ got
+  pub each : accesses_of_all taken ≡ map pair got
+  pub many : length taken ≡ count

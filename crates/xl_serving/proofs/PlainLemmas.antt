@@ -1,0 +1,192 @@
+-- The plain form: scenes and what is told, as any form's.
+use Rattle.std.proofs.Common.{◌≡◌, refl, sym, ap, subst, ◌∙◌, ℕ, zero, suc, ◌+◌, ◌<◌, ◌≤◌, Bool, true, false, cond, List, [], ◌∷◌, ◌++◌, length, arith, ◌⊎◌, inl, inr}
+use Rattle.std.specs.Prelude.{Option, Some, Result, slice_get, count_by, All}
+use Rattle.std.proofs.lemmas.List.{length-append}
+use Rattle.std.proofs.lemmas.List.Sums.{sum_by-cons}
+use Rattle.std.proofs.lemmas.List.Elements.{All-nil, All-cons, All-head, All-tail, All-same}
+use Rattle.xl_model.specs.declared.address.Kind.{Kind}
+use Rattle.xl_model.specs.declared.script.Area.{Area}
+use Rattle.xl_model.specs.declared.script.Command.{Command}
+use Rattle.xl_model.specs.declared.script.Command.TheVariants as command
+use Rattle.xl_model.specs.declared.script.Item.{Item}
+use Rattle.xl_model.specs.declared.script.Item.TheVariants as item
+use Rattle.xl_model.specs.Scenes.{Served as Row, Scene, scene_after, scenes_after, told_by as scenes_told}
+use Rattle.xl_model.specs.Courses.{Accesses, Trail, events_from, accesses_items as scene_accesses}
+use Rattle.xl_model_lemmas.proofs.SceneLemmas.{told-append}
+use Rattle.xl_outside.specs.Sinks.{Outside, SinkAfter}
+use Rattle.xl_course.specs.declared.form.Step.{Step}
+use Rattle.xl_course.specs.declared.form.Step.TheVariants as step
+use Rattle.xl_course.specs.declared.stop.Stop.{Stop}
+use Rattle.xl_course.specs.Meanings.{lines_where, states_after, told_by}
+use Rattle.xl_course.specs.Courses.{commands_of, course, items_of_all, items_of as record_items}
+use Rattle.xl_course.specs.Accounts.{account, Ends}
+use Rattle.xl_words.specs.Words.{AskedPlain}
+use Rattle.xl_course.specs.Serving.{HasServed as Served, Skimmed}
+use Rattle.xl_script.specs.Placing.{is_area, IsPlaced}
+use Rattle.xl_serving.specs.Plain.{plain, step_of, steps_of, items_of, with_area, end_text, start_of, account_from, rows_from}
+use Rattle.xl_serving.specs.Serving.{HasServed, scene_of, event_at, count_of}
+use Rattle.xl_serving.proofs.AreaLemmas.{served_area}
+use Rattle.xl_serving.specs.Batches.{Backlog, waits, waited, WaitsMore, items_of_all as scene_items}
+
+pub scenes-states : (items : List Item) (s : Scene) → scenes_after items s ≡ states_after plain items s
+scenes-states [] s = refl
+scenes-states (i ∷ items) s = scenes-states items (scene_after i s)
+
+line-one : (answers : Bool) (i : Item) (s : Scene) → scenes_told answers (i ∷ []) s ≡ lines_where plain answers i s
+line-one true i s = refl
+line-one false i s = refl
+
+pub told-plain : (answers : Bool) (items : List Item) (s : Scene) → scenes_told answers items s ≡ told_by plain answers items s
+told-plain answers [] s = refl
+told-plain answers (i ∷ items) s =
+    told-append answers (i ∷ []) items s
+    ∙ ap (λ (t : List ℕ). t ++ scenes_told answers items (scene_after i s)) (line-one answers i s)
+    ∙ ap (λ (t : List ℕ). lines_where plain answers i s ++ t) (told-plain answers items (scene_after i s))
+
+-- what rows were served, the plain form was
+pub served-plain : {K : Type 0} (taken : K → Option (List ℕ)) (outside : K → Outside) (roomy : K → ℕ → Type 0) (answers : Bool) (items : List Item) (p q : Scene) (k l : K) (whole : Bool)
+    → HasServed taken outside roomy answers items p q k l whole → Served plain taken outside roomy answers items p q k l whole
+served-plain taken outside roomy answers items p q k l true x = record {
+  state_is = x.scene_is ∙ scenes-states items p;
+  writes = subst (λ (t : List ℕ). SinkAfter taken outside roomy t k l true) (told-plain answers items p) x.writes;
+}
+served-plain taken outside roomy answers items p q k l false x = record {
+  state_is = tt;
+  writes = subst (λ (t : List ℕ). SinkAfter taken outside roomy t k l false) (told-plain answers items p) x.writes;
+}
+
+same-accesses : (number : ℕ) (xs : List (ℕ × Kind)) → scene_accesses number xs ≡ record_items plain (record { number = number; accesses = xs })
+same-accesses number [] = refl
+same-accesses number (x ∷ xs) = ap (λ (rest : List Item). plain.referenced number x.0 x.1 ∷ rest) (same-accesses number xs)
+
+same-items : (rs : List Accesses) → scene_items rs ≡ items_of_all plain rs
+same-items [] = refl
+same-items (r ∷ rs) = ap (λ (xs : List Item). xs ++ scene_items rs) (same-accesses r.number r.accesses) ∙ ap (λ (xs : List Item). record_items plain r ++ xs) (same-items rs)
+
+-- what waits more, was skimmed
+pub skimmed-plain : (stands : Type 0) (t u : Trail) (before after : Backlog) (count : ℕ) (s : Scene) → WaitsMore stands t u before after count
+    → Skimmed plain stands t u (waited before s) (waited after s) count
+skimmed-plain stands t u before after count s k = record {
+  stands_still = k.stands_still;
+  taken = k.taken;
+  split = k.split;
+  follow = k.follow s ∙ scenes-states (scene_items k.taken) (waited before s) ∙ ap (λ (items : List Item). states_after plain items (waited before s)) (same-items k.taken);
+  many = k.many;
+}
+
+pub length-steps : (cs : List Command) → length (steps_of cs) ≡ length cs
+length-steps [] = refl
+length-steps (c ∷ cs) = ap suc (length-steps cs)
+
+pub nth-step : (cs : List Command) (i : ℕ) (c : Command) → slice_get cs i ≡ Some c → slice_get (steps_of cs) i ≡ Some (step_of c)
+nth-step [] zero c h = absurd (grind arith)
+nth-step [] (suc i) c h = absurd (grind arith)
+nth-step (d ∷ cs) zero c h = let e : d ≡ c = cc in ap (λ (z : Command). Some (step_of z)) e
+nth-step (d ∷ cs) (suc i) c h = nth-step cs i c h
+
+pub own-step : (c : Command) → ((n : ℕ) → c ≡ command.Run n → ⊥) → (c ≡ command.RunRest → ⊥) → step_of c ≡ step.Own c
+own-step (command.Map space va o perm n) r s = refl
+own-step (command.Unmap space va o n) r s = refl
+own-step (command.Protect space va o perm n) r s = refl
+own-step (command.Move space from to o n) r s = refl
+own-step (command.Space space) r s = refl
+own-step (command.Fence scope) r s = refl
+own-step (command.Demand area) r s = refl
+own-step (command.Run n) r s = absurd (r n refl)
+own-step command.RunRest r s = absurd (s refl)
+
+-- a command that declares no area is its events
+pub events-items : (c : Command) → is_area c ≡ false → items_of c ≡ events_from (event_at c) 0 (count_of c)
+events-items (command.Map space va o perm n) h = refl
+events-items (command.Unmap space va o n) h = refl
+events-items (command.Protect space va o perm n) h = refl
+events-items (command.Move space from to o n) h = refl
+events-items (command.Space space) h = refl
+events-items (command.Fence scope) h = refl
+events-items (command.Demand area) h = absurd (let e : true ≡ false = h in cc)
+events-items (command.Run n) h = refl
+events-items command.RunRest h = refl
+
+-- an area was declared
+pub declared : {K : Type 0} (taken : K → Option (List ℕ)) (outside : K → Outside) (roomy : K → ℕ → Type 0) (answers : Bool) (area : Area) (p q : Scene) (k : K)
+    → q ≡ with_area area p → Served plain taken outside roomy answers (item.Declared area ∷ []) p q k k true
+declared taken outside roomy answers area p q k e =
+    subst (λ (s : Scene). Served plain taken outside roomy answers (item.Declared area ∷ []) p s k k true) (sym e)
+    (served-plain taken outside roomy answers (item.Declared area ∷ []) p (with_area area p) k k true (served_area taken outside roomy answers area p.areas p.rows k))
+
+-- what may still be served, after an area
+pub can-area : (area : Area) (rest : List Command) (areas more : List Area) → more ≡ areas ++ area ∷ []
+    → (length areas + count_by is_area (command.Demand area ∷ rest) ≤ 256) × All IsPlaced (command.Demand area ∷ rest) → (length more + count_by is_area rest ≤ 256) × All IsPlaced rest
+can-area area rest areas more e h =
+    let size : length more ≡ length areas + 1 = ap (λ (z : List Area). length z) e ∙ length-append areas (area ∷ []) in
+    let one : count_by is_area (command.Demand area ∷ rest) ≡ 1 + count_by is_area rest = sum_by-cons (λ (x : Command). cond (is_area x) 1 0) (command.Demand area) rest in
+    (omega (arith, size, one, h.0), All-tail IsPlaced (command.Demand area) rest h.1)
+
+-- and after events
+pub can-events : (c : Command) (rest : List Command) (areas more : List Area) → more ≡ areas
+    → (length areas + count_by is_area (c ∷ rest) ≤ 256) × All IsPlaced (c ∷ rest) → (length more + count_by is_area rest ≤ 256) × All IsPlaced rest
+can-events c rest areas more e h =
+    let size : length more ≡ length areas = ap (λ (z : List Area). length z) e in
+    let one : count_by is_area (c ∷ rest) ≡ cond (is_area c) 1 0 + count_by is_area rest = sum_by-cons (λ (x : Command). cond (is_area x) 1 0) c rest in
+    (omega (arith, size, one, h.0), All-tail IsPlaced c rest h.1)
+
+-- there is room for an area that is still to be declared
+pub room : (c : Command) (area : Area) (rest : List Command) (areas : List Area) → c ≡ command.Demand area → length areas + count_by is_area (c ∷ rest) ≤ 256 → length areas < 256
+room c area rest areas e h = at-area (subst (λ (z : Command). length areas + count_by is_area (z ∷ rest) ≤ 256) e h)
+  where
+    at-area : length areas + count_by is_area (command.Demand area ∷ rest) ≤ 256 → length areas < 256
+    at-area k = let one : count_by is_area (command.Demand area ∷ rest) ≡ 1 + count_by is_area rest = sum_by-cons (λ (x : Command). cond (is_area x) 1 0) (command.Demand area) rest in omega (arith, one, k)
+
+pub placed : (c : Command) (rest : List Command) → All IsPlaced (c ∷ rest) → IsPlaced c
+placed c rest h = All-head IsPlaced c rest h
+
+-- a command is served, or runs records
+owned : (c : Command) (rest : List (Step Command)) → (commands_of (step_of c ∷ rest) ≡ c ∷ commands_of rest) ⊎ (commands_of (step_of c ∷ rest) ≡ commands_of rest)
+owned (command.Map space va o perm n) rest = inl refl
+owned (command.Unmap space va o n) rest = inl refl
+owned (command.Protect space va o perm n) rest = inl refl
+owned (command.Move space from to o n) rest = inl refl
+owned (command.Space space) rest = inl refl
+owned (command.Fence scope) rest = inl refl
+owned (command.Demand area) rest = inl refl
+owned (command.Run n) rest = inr refl
+owned command.RunRest rest = inr refl
+
+more-areas : (c : Command) (xs : List Command) → count_by is_area (c ∷ xs) ≡ cond (is_area c) 1 0 + count_by is_area xs
+more-areas c xs = sum_by-cons (λ (x : Command). cond (is_area x) 1 0) c xs
+
+few-step : (c : Command) (cs xs ys : List Command) → (ys ≡ c ∷ xs) ⊎ (ys ≡ xs) → count_by is_area xs ≤ count_by is_area cs → count_by is_area ys ≤ count_by is_area (c ∷ cs)
+few-step c cs xs ys (inl e) h = omega (arith, h, ap (λ (zs : List Command). count_by is_area zs) e, more-areas c xs, more-areas c cs)
+few-step c cs xs ys (inr e) h = omega (arith, h, ap (λ (zs : List Command). count_by is_area zs) e, more-areas c cs)
+
+few_owned : (cs : List Command) → count_by is_area (commands_of (steps_of cs)) ≤ count_by is_area cs
+few_owned [] = omega arith
+few_owned (c ∷ cs) = few-step c cs (commands_of (steps_of cs)) (commands_of (step_of c ∷ steps_of cs)) (owned c (steps_of cs)) (few_owned cs)
+
+placed-step : (c : Command) (xs ys : List Command) → (ys ≡ c ∷ xs) ⊎ (ys ≡ xs) → IsPlaced c → All IsPlaced xs → All IsPlaced ys
+placed-step c xs ys (inl e) p h = All-same IsPlaced ys (c ∷ xs) e (All-cons IsPlaced c xs p h)
+placed-step c xs ys (inr e) p h = All-same IsPlaced ys xs e h
+
+placed_owned : (cs : List Command) → All IsPlaced cs → All IsPlaced (commands_of (steps_of cs))
+placed_owned [] h = All-nil IsPlaced
+placed_owned (c ∷ cs) h =
+    placed-step c (commands_of (steps_of cs)) (commands_of (step_of c ∷ steps_of cs)) (owned c (steps_of cs)) (All-head IsPlaced c cs h) (placed_owned cs (All-tail IsPlaced c cs h))
+
+-- where nothing is declared, all of a script can be served
+pub can-script : (areas : List Area) (cs : List Command) → areas ≡ [] → All IsPlaced cs → count_by is_area cs ≤ 256
+    → (length areas + count_by is_area (commands_of (steps_of cs)) ≤ 256) × All IsPlaced (commands_of (steps_of cs))
+can-script areas cs e placed few =
+    let none : length areas ≡ 0 = ap (λ (xs : List Area). length xs) e in (omega (arith, few_owned cs, few, none), placed_owned cs placed)
+
+-- the state of a bench of which nothing waits and nothing is declared
+pub fresh : (w : Backlog) (rows : List Row) (areas : List Area) → waits w ≡ [] → areas ≡ [] → waited w (scene_of rows areas) ≡ scene_of rows []
+fresh w rows areas idle none = ap (λ (items : List Item). scenes_after items (scene_of rows areas)) idle ∙ ap (scene_of rows) none
+
+-- a script was served over a trace, from a start on
+pub course-ends : {K : Type 0} (roomy : K → ℕ → Type 0) (a : AskedPlain) (rows left : List Row) (cs : List Command) (t u : Trail) (s : Scene) (r : Result (Unit {0}) Stop) (before after : Option (List ℕ)) (old new : K)
+    → s ≡ scene_of rows [] → t ≡ u
+    → Ends r (account plain a.answers (end_text a.json a.image) a.json (course plain (steps_of cs) t) s) roomy before after old new (left ≡ (states_after plain (course plain (steps_of cs) t).items s).rows)
+    → Ends r (account_from a u (start_of rows cs)) roomy before after old new (left ≡ rows_from u (start_of rows cs))
+course-ends roomy a rows left cs t u s r before after old new e f x =
+    subst (λ (v : Trail). Ends r (account_from a v (start_of rows cs)) roomy before after old new (left ≡ rows_from v (start_of rows cs))) f
+    (subst (λ (z : Scene). Ends r (account plain a.answers (end_text a.json a.image) a.json (course plain (steps_of cs) t) z) roomy before after old new (left ≡ (states_after plain (course plain (steps_of cs) t).items z).rows)) e x)

@@ -1,0 +1,14 @@
+use Rattle.std.proofs.Common.{◌≡◌, take, true}
+use Rattle.xl_model.specs.Courses.{events_from}
+use Rattle.xl_course.specs.Serving.{HasServed}
+use Rattle.xl_serving.specs.Batches.{waited}
+use Rattle.xl_serving.specs.Plain.{plain}
+use Rattle.xl_serving.specs.Serving.{scene_of, event_at, count_of}
+use Rattle.xl_serving.proofs.plain.Bench.events.Given as goal
+
+abbrev pub invariant-loop-i : goal.invariant-loop-i
+invariant-loop-i g l = record {
+  served : HasServed plain g.K.Sink.taken g.K.Sink.outside g.K.Sink.roomy l.answers (take l.i (events_from (event_at l.command) 0 (count_of l.command)))
+      (waited l.fn.self.waiting (scene_of (g.R.Rows.rows l.fn.rows) l.fn.self.areas)) (waited l.self.waiting (scene_of (g.R.Rows.rows l.rows) l.self.areas)) l.fn.out l.out true;
+  areas : l.self.areas ≡ l.fn.self.areas;
+}

@@ -1,0 +1,37 @@
+use Rattle.std.proofs.Common.{◌≡◌}
+use Rattle.xl_course.specs.Meanings.{states_after}
+use Rattle.xl_course.specs.Courses.{course}
+use Rattle.xl_course.specs.Accounts.{account, Ends}
+use Rattle.xl_course.proofs.ToldLemmas.{told_one}
+use Rattle.xl_words.specs.Words.{plain_of}
+use Rattle.xl_serving.specs.Inputs.{trail_for}
+use Rattle.xl_serving.specs.Serving.{scene_of}
+use Rattle.xl_serving.specs.Batches.{waited}
+use Rattle.xl_serving.specs.Plain.{plain, end_text, steps_of}
+use Rattle.xl_serving.proofs.PlainLemmas.{can-script, fresh, course-ends}
+use Rattle.xl_serving.proofs.running.report_from.Goals as goal
+
+pub report-requires-clause-can : goal.report-requires-clause-can
+report-requires-clause-can g c =
+    can-script c.in_ok-bench.bench.areas c.args.orders.now.script.now c.in_ok-bench.ensures.areas c.fits.ensures.placed c.fits.ensures.few_areas
+
+pub returns-clause-told : goal.returns-clause-told
+returns-clause-told g c =
+    let a = plain_of c.args.orders.now.words.now in
+    let cs = c.args.orders.now.script.now in
+    let bench = c.in_ok-bench.bench in
+    let rows = g.R.Rows.rows c.args.rows.now in
+    let left = g.R.Rows.rows c.report.new.rack in
+    let state = waited bench.waiting (scene_of rows bench.areas) in
+    let trail = g.T.Source.left c.args.source.now in
+    let roomy = g.K.Sink.roomy in
+    let out = c.args.out.now in
+    let new = c.report.new.out in
+    let before = (g.K.Sink.outside out).written in
+    let after = (g.K.Sink.outside new).written in
+    told_one (g.F.Folder.files c.args.folder.now)
+    (λ fs. g.T.Source.stands c.args.source.now fs → Ends c.report.result (account plain a.answers (end_text a.json a.image) a.json (course plain (steps_of cs) (trail fs)) state)
+    roomy before after out new (left ≡ (states_after plain (course plain (steps_of cs) (trail fs)).items state).rows)) _
+    c.report.ensures.told
+    (λ fs h. course-ends roomy a rows left cs (trail fs) (trail_for a fs) state c.report.result before after out new
+    (fresh bench.waiting rows bench.areas c.in_ok-bench.ensures.idle c.in_ok-bench.ensures.areas) (c.requires.unread fs).1 (h (c.requires.unread fs).0))

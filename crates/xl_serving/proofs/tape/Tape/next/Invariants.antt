@@ -1,0 +1,16 @@
+use Rattle.std.proofs.Common.{◌≤◌}
+use Rattle.std.specs.Option.{IfSome}
+use Rattle.xl_outside.specs.Folders.{file_of, FolderAfter, Fine}
+use Rattle.xl_serving.specs.Tapes.{IsFedFrom, to_come, size_of}
+use Rattle.xl_serving.proofs.RecordLemmas.{Still}
+use Rattle.xl_serving.proofs.tape.Tape.next.Given as goal
+
+abbrev pub invariant-pieces : goal.invariant-pieces
+invariant-pieces g l = record {
+  still : IfSome (g.F.Folder.files l.fn.folder) (λ fs. IsFedFrom (file_of fs l.name) l.fn.self → Still (file_of fs l.name) l.fn.self l.self);
+  folder : FolderAfter g.F.Folder.files g.F.Folder.faults g.F.Folder.absences g.F.Folder.steady l.fn.folder l.folder Fine;
+  no_more : size_of l.self ≤ size_of l.fn.self;
+}
+
+abbrev pub decreases-pieces : goal.decreases-pieces
+decreases-pieces g l = to_come l.self

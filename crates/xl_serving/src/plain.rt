@@ -1,0 +1,236 @@
+//! The plain form: rows that are served, with areas whose pages are mapped on demand.
+
+ghost use Rattle.std.specs.Prelude.{◌≡◌, ◌+◌, ◌≤◌, ◌<◌, ◌∷◌, ◌++◌, [], All, IfOk, length, count_by, is_ok};
+ghost use Rattle.xl_model.specs.declared.script.Item.{Item};
+ghost use Rattle.xl_model.specs.declared.script.Item.TheVariants as item;
+ghost use Rattle.xl_model.specs.Courses.{events_from};
+ghost use Rattle.xl_model.specs.Scenes.{Scene};
+ghost use Rattle.xl_script.specs.Placing.{IsPlaced, is_area};
+ghost use Rattle.xl_course.specs.Serving.{HasServed};
+ghost use Rattle.xl_serving.specs.Serving.{scene_of, count_of, event_at};
+ghost use Rattle.xl_serving.specs.Batches.{waits, waited};
+ghost use Rattle.xl_words.specs.Words.{plain_of};
+ghost use Rattle.xl_serving.specs.Plain.{plain, end_text, end_of, steps_of, with_area};
+
+use crate::batch::Waiting;
+use crate::ending::write_end;
+use crate::events::{count, nth_event};
+use crate::rows::Rows;
+use std::alloc::Global;
+use xl_areas::Areas;
+use xl_course::{Form, Orders, Source, Step, Stop};
+use xl_lackey::Access;
+use xl_model::{Area, Command, Event, NoMemory};
+use xl_outside::{Failed, Sink};
+use xl_script::Script;
+use xl_words::Plain;
+
+/// How the rows are wanted at the end: as JSON, and with images.
+#[derive(Clone, Copy, Debug)]
+pub struct End {
+    pub json: bool,
+    pub image: bool,
+}
+
+/// What a run of the plain form is asked for: a script, and what its words say.
+#[derive(Clone, Copy)]
+pub struct PlainOrders<'a> {
+    pub script: &'a Script,
+    pub words: &'a Plain<'a>,
+}
+
+impl Orders for PlainOrders<'_> {
+    type Command = Command;
+
+    type End = End;
+
+    ghost steps = { λ o. steps_of o.script.now };
+
+    ghost answers = { λ o. o.words.now.answers };
+
+    ghost end = { λ o. end_of (plain_of o.words.now) };
+
+    fn len(&self) -> usize {
+        self.script.len()
+    }
+
+    fn step(&self, i: usize) -> Step<Command> {
+        match self.script.command(i) {
+            Command::Run { n } => Step::Run(n),
+            Command::RunRest => Step::RunRest,
+            command => Step::Own(command),
+        }
+    }
+
+    fn answers(&self) -> bool {
+        self.words.answers
+    }
+
+    fn end(&self) -> End {
+        End {
+            json: self.words.json,
+            image: self.words.image,
+        }
+    }
+}
+
+/// What the plain form keeps beside the rows: the areas declared so far, and what waits. Memory is asked for
+/// once more only where rows are wanted as JSON.
+#[derive(Drop)]
+pub struct Bench {
+    alloc: Global,
+    areas: Areas,
+    waiting: Waiting,
+}
+
+impl<R: Rows> Form<R> for Bench {
+    type Command = Command;
+
+    type End = End;
+
+    ghost Item = { Item };
+
+    ghost State = { Scene };
+
+    ghost meaning = { plain };
+
+    ghost state = { λ b rows. waited b.waiting (scene_of (R.rows rows) b.areas) };
+
+    ghost can = { λ b rows cs. (length b.areas + count_by is_area cs ≤ 256) × All IsPlaced cs };
+
+    ghost last = { λ e s. end_text e.json e.image s };
+
+    ghost late = { λ e. e.json };
+
+    ghost holds = { λ rows s. R.rows rows ≡ s.rows };
+
+    fn command<K: Sink>(
+        &mut self,
+        rows: &mut R,
+        command: Command,
+        answers: bool,
+        out: &mut K,
+    ) -> Result<(), Failed> {
+        match command {
+            Command::Demand { area } => {
+                self.declare(rows, area);
+                Ok(())
+            }
+            _ => self.events(rows, command, answers, out),
+        }
+    }
+
+    #[inline(always)]
+    fn access<K: Sink>(
+        &mut self,
+        rows: &mut R,
+        number: u64,
+        access: Access,
+        answers: bool,
+        out: &mut K,
+    ) -> Result<(), Failed> {
+        if answers {
+            self.quiet(rows);
+            return rows.access(number, access.va, access.kind, &self.areas, answers, out);
+        }
+        self.waiting.put_off(rows, &self.areas, access);
+        Ok(())
+    }
+
+    #[inline(always)]
+    fn skim<T: Source>(&mut self, _rows: &mut R, source: &mut T, most: u64) -> u64 {
+        self.waiting.skim(source, most)
+    }
+
+    fn finish<K: Sink>(&mut self, rows: &mut R, end: End, out: &mut K) -> Result<(), Stop> {
+        self.waiting.settle(rows, &self.areas);
+        write_end(self.alloc, rows, end.json, end.image, out)
+    }
+}
+
+impl Bench {
+    /// No areas, and nothing waits. All memory is taken here.
+    pub fn open(alloc: Global) -> Result<Bench, NoMemory>
+        ensures areas { IfOk result (λ b. b.areas ≡ []) }
+        ensures idle { IfOk result (λ b. waits b.waiting ≡ []) }
+    {
+        Ok(Bench {
+            alloc,
+            areas: Areas::open(alloc)?,
+            waiting: Waiting::new(),
+        })
+    }
+
+    /// Serves what waits, if anything does.
+    #[inline(always)]
+    fn quiet<R: Rows>(&mut self, rows: &mut R)
+        ensures served { scene_of (R.rows rows.new) self.new.areas
+            ≡ waited self.old.waiting (scene_of (R.rows rows.old) self.old.areas) }
+        ensures none { waits self.new.waiting ≡ [] }
+        ensures areas { self.new.areas ≡ self.old.areas }
+    {
+        if self.waiting.is_idle() {
+            return;
+        }
+        self.waiting.settle(rows, &self.areas);
+    }
+
+    /// Declares an area. What waits is served before that.
+    fn declare<R: Rows>(&mut self, rows: &mut R, area: Area)
+        requires { length self.old.areas < 256 }
+        ensures state { waited self.new.waiting (scene_of (R.rows rows.new) self.new.areas)
+            ≡ with_area area (waited self.old.waiting (scene_of (R.rows rows.old) self.old.areas)) }
+        ensures areas { self.new.areas ≡ self.old.areas ++ area ∷ [] }
+    {
+        self.quiet(rows);
+        self.areas.declare(area);
+    }
+
+    /// Serves the events of a command, in rising number.
+    fn events<R: Rows, K: Sink>(
+        &mut self,
+        rows: &mut R,
+        command: Command,
+        answers: bool,
+        out: &mut K,
+    ) -> Result<(), Failed>
+        requires { IsPlaced command }
+        ensures served { HasServed plain K.taken K.outside K.roomy answers
+            (events_from (event_at command) 0 (count_of command))
+            (waited self.old.waiting (scene_of (R.rows rows.old) self.old.areas))
+            (waited self.new.waiting (scene_of (R.rows rows.new) self.new.areas))
+            out.old out.new (is_ok result) }
+        ensures areas { self.new.areas ≡ self.old.areas }
+    {
+        for i in 0..count(command) {
+            match self.event(rows, nth_event(command, i), answers, out) {
+                Ok(()) => {}
+                Err(failed) => return Err(failed),
+            }
+        }
+        Ok(())
+    }
+
+    /// Serves an event of a command. It may wait where no line is written; where nothing waits before it,
+    /// it doesn't, so that commands alone are never put off.
+    fn event<R: Rows, K: Sink>(
+        &mut self,
+        rows: &mut R,
+        event: Event,
+        answers: bool,
+        out: &mut K,
+    ) -> Result<(), Failed>
+        ensures served { HasServed plain K.taken K.outside K.roomy answers (item.Command event ∷ [])
+            (waited self.old.waiting (scene_of (R.rows rows.old) self.old.areas))
+            (waited self.new.waiting (scene_of (R.rows rows.new) self.new.areas))
+            out.old out.new (is_ok result) }
+        ensures areas { self.new.areas ≡ self.old.areas }
+    {
+        if answers || self.waiting.is_idle() {
+            self.quiet(rows);
+            return rows.command(event, &self.areas, answers, out);
+        }
+        self.waiting.put_off_event(rows, &self.areas, event);
+        Ok(())
+    }
+}
