@@ -29,5 +29,4 @@ pub mod Lines
 pub mod Scenes
 pub mod Report
 pub mod Courses
-pub mod Endings
 pub mod Computing

@@ -1,13 +1,8 @@
--- What holds of all rows together: items served in parts, what is told meanwhile, and the text of
--- an ending.
-use Rattle.std.specs.Prelude.{◌≡◌, Bool, List, ◌++◌, None, Some}
-use Rattle.xl_model.specs.declared.fault.InputFault.{InputFault}
+-- What holds of all rows together: items served in parts, and what is told meanwhile.
+use Rattle.std.specs.Prelude.{◌≡◌, Bool, List, ◌++◌}
 use Rattle.xl_model.specs.declared.script.Item.{Item}
 use Rattle.xl_model.specs.Rows.{Row}
 use Rattle.xl_model.specs.Scenes.{Live, Scene, lives_after, opening_scene, told_by, scenes_after}
-use Rattle.xl_model.specs.Report.{Flags, report}
-use Rattle.xl_model.specs.Courses.{Course, before}
-use Rattle.xl_model.specs.Endings.{followed, text_of}
 use Rattle.xl_model_lemmas.specs.Scenes.{ran_by}
 
 -- Items may be served in two parts, one after the other.
@@ -37,20 +32,3 @@ TellingChangesNoRow =
 abbrev pub EachRowRunsByItself : Type 0
 EachRowRunsByItself =
     (items : List Item) (rows : List Row) → (scenes_after items (opening_scene rows)).rows ≡ ran_by items rows
-
--- Where no fault ends the input, the text of a run is the report.
-abbrev pub TheTextIsTheReport : Type 0
-TheTextIsTheReport =
-    (c : Course) (rows : List Row) (flags : Flags) → c.fault ≡ None
-    → text_of (followed c (opening_scene rows) flags) ≡ report flags rows c.items
-
--- Where a fault ends the input, the text of a run is what was told before it.
-abbrev pub AFaultEndsTheText : Type 0
-AFaultEndsTheText =
-    (c : Course) (fault : InputFault) (rows : List Row) (flags : Flags) → c.fault ≡ Some fault
-    → text_of (followed c (opening_scene rows) flags) ≡ told_by flags.answers c.items (opening_scene rows)
-
--- Items that stand before a course may be put there in two parts.
-abbrev pub ItemsMayStandBeforeInParts : Type 0
-ItemsMayStandBeforeInParts =
-    (xs ys : List Item) (c : Course) → before (xs ++ ys) c ≡ before xs (before ys c)

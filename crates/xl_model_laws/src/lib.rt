@@ -6,7 +6,7 @@ ghost use Rattle.xl_model_laws.specs.Fresh.{NothingIsStale};
 ghost use Rattle.xl_model_laws.specs.Refusals.{ARefusalLeavesNothing};
 ghost use Rattle.xl_model_laws.specs.Cuckoo.{KeysHaveTheirSlots, ThePointerIsBelowTheSlots, ARefusalKeepsEveryWord, MigratingMovesNoEntry};
 ghost use Rattle.xl_model_laws.specs.Sentences.{TheRangesAreMaximalRuns, ANodeTakesTheLowestNumber};
-ghost use Rattle.xl_model_laws.specs.Scenes.{ItemsMayBeServedInParts, TheToldTextOnlyGrows, WhatIsToldFirstStandsFirst, TellingChangesNoRow, EachRowRunsByItself, TheTextIsTheReport, AFaultEndsTheText, ItemsMayStandBeforeInParts};
+ghost use Rattle.xl_model_laws.specs.Scenes.{ItemsMayBeServedInParts, TheToldTextOnlyGrows, WhatIsToldFirstStandsFirst, TellingChangesNoRow, EachRowRunsByItself};
 ghost use Rattle.xl_model_laws.specs.Tags.{TheTagsAreTheLeaves};
 ghost use Rattle.xl_model_laws.specs.Nodes.{TheNodesAreTheMappings, RoomIsForAllNodes};
 ghost use Rattle.xl_model_laws.specs.Keys.{EachLeafHasItsKey};
@@ -94,21 +94,6 @@ pub fn telling_changes_no_row()
 /// Rows that are served together come to what each comes to alone.
 pub fn each_row_runs_by_itself()
     ensures { EachRowRunsByItself }
-{}
-
-/// Where no fault ends the input, the text of a run is the report.
-pub fn the_text_is_the_report()
-    ensures { TheTextIsTheReport }
-{}
-
-/// Where a fault ends the input, the text of a run is what was told before it.
-pub fn a_fault_ends_the_text()
-    ensures { AFaultEndsTheText }
-{}
-
-/// Items that stand before a course may be put there in two parts.
-pub fn items_may_stand_before_in_parts()
-    ensures { ItemsMayStandBeforeInParts }
 {}
 
 /// A table takes the same spaces and pages after each change, walk and fence.

@@ -8,7 +8,6 @@ use Rattle.xl_model.specs.Rows.{Row}
 use Rattle.xl_model.specs.RowRun.{opening}
 use Rattle.xl_model.specs.Items.{areas_after, state_after, states_after, run}
 use Rattle.xl_model.specs.Scenes.{Served, Scene, Live, rows_after, scene_after, rows_lines, item_lines, lines_where, live_after, lives_after, opened, opening_scene, untold, told_by, scenes_after}
-use Rattle.xl_model.specs.Courses.{Course, before}
 use Rattle.xl_model_lemmas.specs.Scenes.{rows_by, ran_by}
 
 -- one list of items after another
@@ -85,7 +84,3 @@ opened-run items (row ∷ rows) = ap (λ (rest : List Served). record { row = ro
 
 pub rows-run : (items : List Item) (rows : List Row) → (scenes_after items (opening_scene rows)).rows ≡ ran_by items rows
 rows-run items rows = rows-alone false items (untold (opening_scene rows)) ∙ opened-run items rows
-
--- items before a course, in two parts
-pub before-append : (xs ys : List Item) (c : Course) → before (xs ++ ys) c ≡ before xs (before ys c)
-before-append xs ys c = ap (λ (zs : List Item). record { items = zs; fault = c.fault }) (append_assoc xs ys c.items)

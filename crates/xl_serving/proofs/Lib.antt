@@ -8,3 +8,4 @@ mod InputLemmas
 mod OpenedLemmas
 mod EndLemmas
 mod PlainLemmas
+mod LawLemmas

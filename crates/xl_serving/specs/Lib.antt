@@ -4,3 +4,4 @@ pub mod Serving
 pub mod Inputs
 pub mod Batches
 pub mod Plain
+pub mod Laws

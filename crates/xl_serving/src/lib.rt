@@ -5,6 +5,7 @@
 mod batch;
 mod ending;
 mod events;
+pub mod laws;
 mod made;
 mod opening;
 mod plain;

@@ -1,5 +1,0 @@
-use Rattle.xl_model_laws.proofs.SceneLawLemmas.{items_may_stand_before_in_parts}
-use Rattle.xl_model_laws.proofs.items_may_stand_before_in_parts.Goals as goal
-
-pub returns : goal.returns
-returns c = items_may_stand_before_in_parts

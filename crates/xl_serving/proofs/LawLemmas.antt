@@ -1,0 +1,31 @@
+-- The account of the plain form, in the words of the report.
+use Rattle.std.proofs.Common.{◌≡◌, sym, ap, ◌∙◌, ℕ, false, List, ◌++◌, append-nil}
+use Rattle.std.specs.Prelude.{Option}
+use Rattle.xl_model.specs.declared.fault.InputFault.{InputFault}
+use Rattle.xl_model.specs.Scenes.{Scene, lives_after, opening_scene, told_by as scenes_told, untold}
+use Rattle.xl_model.specs.Report.{report, tail}
+use Rattle.xl_model_lemmas.proofs.SceneLemmas.{scene-is}
+use Rattle.xl_course.specs.Meanings.{states_after, told_by}
+use Rattle.xl_course.specs.Accounts.{last_where}
+use Rattle.xl_serving.specs.Plain.{plain, end_text}
+use Rattle.xl_serving.specs.Laws.{TheTextIsTheReport, AFaultEndsTheText}
+use Rattle.xl_serving.proofs.PlainLemmas.{scenes-states, told-plain}
+
+pub the_text_is_the_report : TheTextIsTheReport
+unfolding report, tail
+the_text_is_the_report c rows flags none =
+    let first : Scene = opening_scene rows in
+    let left : Scene = states_after plain c.items first in
+    let same : left ≡ (lives_after flags.answers c.items (untold first)).scene =
+        sym (scene-is flags.answers c.items (untold first) ∙ scenes-states c.items first) in
+    ap (λ (f : Option InputFault). told_by plain flags.answers c.items first ++ last_where f (end_text false flags.images left)) none
+    ∙ ap (λ (t : List ℕ). t ++ end_text false flags.images left) (sym (told-plain flags.answers c.items first))
+    ∙ ap (λ (s : Scene). scenes_told flags.answers c.items first ++ end_text false flags.images s) same
+
+pub a_fault_ends_the_text : AFaultEndsTheText
+a_fault_ends_the_text c fault rows flags some =
+    let first : Scene = opening_scene rows in
+    let left : Scene = states_after plain c.items first in
+    ap (λ (f : Option InputFault). told_by plain flags.answers c.items first ++ last_where f (end_text false flags.images left)) some
+    ∙ append-nil (told_by plain flags.answers c.items first)
+    ∙ sym (told-plain flags.answers c.items first)
