@@ -12,12 +12,12 @@ use Rattle.xl_serving.specs.Laws.{TheTextIsTheReport, AFaultEndsTheText}
 use Rattle.xl_serving.proofs.PlainLemmas.{scenes-states, told-plain}
 
 pub the_text_is_the_report : TheTextIsTheReport
-unfolding report, tail
+unfolding report tail
 the_text_is_the_report c rows flags none =
     let first : Scene = opening_scene rows in
     let left : Scene = states_after plain c.items first in
     let same : left ≡ (lives_after flags.answers c.items (untold first)).scene =
-        sym (scene-is flags.answers c.items (untold first) ∙ scenes-states c.items first) in
+    sym (scene-is flags.answers c.items (untold first) ∙ scenes-states c.items first) in
     ap (λ (f : Option InputFault). told_by plain flags.answers c.items first ++ last_where f (end_text false flags.images left)) none
     ∙ ap (λ (t : List ℕ). t ++ end_text false flags.images left) (sym (told-plain flags.answers c.items first))
     ∙ ap (λ (s : Scene). scenes_told flags.answers c.items first ++ end_text false flags.images s) same
