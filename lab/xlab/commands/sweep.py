@@ -122,7 +122,7 @@ def _sources(words: argparse.Namespace, place: Folder) -> list[Source]:
         label, file = rowfiles.labelled(word)
         name = label or pathlib.Path(file).name.split(".")[0]
         if name in traces:
-            raise Fault(f"two traces have the label {name}: --trace LABEL=FILE tells them apart", Status.USAGE)
+            raise Fault(f"two traces have the label {name}: --trace LABEL=FILE parts them", Status.USAGE)
         traces[name] = file
     scripts = dict(rowfiles.labelled(word) for word in words.script)
     for label in scripts:
