@@ -85,6 +85,8 @@ class Space:
         to = at
         if new > count or self.random.random() < 0.5:
             to = FIRST + PAGES + self.random.randrange(40)
+            if to < at + count and at < to + new:
+                return  # the system moves nothing onto itself
             self.drop(range(to, to + new))
         kept = {
             page - at + to: self.pages[page]
