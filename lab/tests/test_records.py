@@ -50,6 +50,7 @@ OTHERS = {
     "==7== Lackey": lackey.Other.VALGRIND,
     "SB 0": lackey.Other.VALGRIND,
     "# a comment": lackey.Other.COMMENT,
+    "  # another": lackey.Other.COMMENT,
     "": lackey.Other.COMMENT,
 }
 

@@ -78,10 +78,11 @@ def test_bad_lists(word, says):
         made(word)
 
 
-def test_one_good_table_although_a_design_is_bad_and_a_second_run_is_short(program, xlab, tmp_path):
+def test_one_good_table_although_a_design_and_a_trace_are_bad_and_a_second_run_is_short(program, xlab, tmp_path):
     pytest.importorskip("snakemake")
     pytest.importorskip("tomli_w")
     (tmp_path / "core.toml").write_text(TEXT)
+    (tmp_path / "cut.trace").write_text("I  1000,4\nI  10")
     words = [
         "sweep",
         "core.toml",
@@ -89,13 +90,16 @@ def test_one_good_table_although_a_design_is_bad_and_a_second_run_is_short(progr
         "out",
         "--trace",
         EXAMPLES / "primes.trace",
+        "--trace",
+        "cut.trace",
         "--set",
         "tlb.1.width=4,5,8",
         "--jobs",
         2,
     ]
     ended = xlab(*words)
-    assert ended.returncode == Status.DATA, ended.stderr
+    assert ended.returncode == Status.RUN, ended.stderr
+    assert "run cut.0000 failed: xlate: trace line 2: reason 2" in ended.stderr and "1 run missing" in ended.stderr
     assert "left out" in ended.stderr and "tlb.1.width=5: array 1 of `tlb`: `width` is 5" in ended.stderr
     rows = json.loads((tmp_path / "out/rows.json").read_text())
     assert [(row["name"], row["trace"], row["tlb.1.width"]) for row in rows] == [
@@ -106,7 +110,7 @@ def test_one_good_table_although_a_design_is_bad_and_a_second_run_is_short(progr
     with (tmp_path / "out/rows.csv").open() as file:
         assert [line["tlb.1.width"] for line in csv.DictReader(file)] == ["4", "8"]
     done = (tmp_path / "out/runs/primes.0000.json").stat().st_mtime_ns
-    assert xlab(*words).returncode == Status.DATA
+    assert xlab(*words).returncode == Status.RUN
     assert (tmp_path / "out/runs/primes.0000.json").stat().st_mtime_ns == done
 
 

@@ -144,7 +144,7 @@ TRACE_REASONS = {
     1: "no record: it begins with none of I, L, S and M",
     2: "no address: a blank behind the letter, 1 to 16 hexadecimal digits without 0x, and at once a comma are wanted",
     3: "no size: behind the comma 1 to 6 decimal digits up to 65536 are wanted",
-    4: "something stands behind the size",
+    4: "something follows the size",
     5: "the access passes the last address, 2^64 - 1",
     6: "it has more than 256 bytes",
 }

@@ -56,7 +56,7 @@ def other(line: bytes) -> Other:
         return Other.SYSCALL
     if line.startswith((b"==", b"--", b"**", b"SB ")):
         return Other.VALGRIND
-    if line.startswith(b"#") or not line.strip():
+    if line.lstrip(b" \t").startswith(b"#") or not line.strip():
         return Other.COMMENT
     return Other.ELSE
 

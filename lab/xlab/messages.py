@@ -78,7 +78,7 @@ def bar(total: float | None, unit: str, what: str = "") -> Bar:
     shown: Bar = tqdm(
         total=total,
         unit=unit,
-        unit_scale=True,
+        unit_scale=total is None or total >= 1000,
         unit_divisor=divisor,
         desc=what or None,
         leave=False,

@@ -21,7 +21,7 @@ A page has a figure's command in a comment before it, and the figure up to the n
 
   <!-- figures: ./xlate --config a.toml --script a.script --trace a.trace --json | ./xlab table - -->
 
-The commands are run at the top of the repository, and what they print must be what stands there: without --write a page
+The commands are run at the top of the repository, and what they print must be what the page has: without --write a page
 is only compared. A comment <!-- picture: COMMAND --> names the command that draws a picture: with --write it is run too.
 """
 EXAMPLES = (

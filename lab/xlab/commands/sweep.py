@@ -6,6 +6,7 @@ import hashlib
 import json
 import os
 import pathlib
+import shlex
 import subprocess
 import sys
 import time
@@ -42,6 +43,7 @@ EXAMPLES = (
     Example("xlab sweep core.toml --set 'walk_caches=[0,0],[4,4]' --trace a=1.trace --trace b=2.trace --output s --slurm batch",
             "on the partition batch of a Slurm cluster"),
 )  # fmt: skip
+SHOWN = 10  # runs that failed, of which the message is shown
 NEEDS = Needs(modules=("tomli_w",), programs=("snakemake",))
 
 
@@ -120,7 +122,7 @@ def _sources(words: argparse.Namespace, place: Folder) -> list[Source]:
         label, file = rowfiles.labelled(word)
         name = label or pathlib.Path(file).name.split(".")[0]
         if name in traces:
-            raise Fault(f"two traces have the label {name}: --trace LABEL=FILE tells them apart", Status.USAGE)
+            raise Fault(f"two traces have the label {name}: --trace LABEL=FILE parts them", Status.USAGE)
         traces[name] = file
     scripts = dict(rowfiles.labelled(word) for word in words.script)
     for label in scripts:
@@ -198,8 +200,11 @@ def _told(place: Folder, left_out: list[str], todo: dict[str, Any], ended: int, 
         return Status.DATA if left_out else Status.OK
     folder.kept(place, rows)
     failed = [name for name in todo["runs"] if not (place.path / "runs" / f"{name}.json").exists()]
-    for name in failed[:10]:
+    for name in failed[:SHOWN]:
         note(f"run {name} failed: {_message(place, name)}")
+    if failed:
+        words = shlex.join(f"--{key}={file}" for key, file in todo["runs"][failed[0]].items())
+        note(f"`xlab explain {words}` says more of {failed[0]}")
     if ended and not failed:
         note(f"snakemake ended with status {ended}: {_last(place.said)}")
     note(

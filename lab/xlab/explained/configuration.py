@@ -1,4 +1,4 @@
-"""What is wrong with a configuration (status 2): the line, what stands there, what is allowed."""
+"""What is wrong with a configuration (status 2): the line, what is written there, what is allowed."""
 
 import pathlib
 import re
@@ -60,11 +60,11 @@ def _complaint(file: str, text: str, complaint: str) -> list[str]:
     said = [f"{file}:{number}: TOML: {complaint}", f"    {shown(line)}"]
     bare = re.fullmatch(r"\s*([\w-]+)\s*=\s*([a-zA-Z][\w-]*)\s*(#.*)?", line)
     if bare:
-        said.append(f'    a text stands in quotes: {bare[1]} = "{bare[2]}"')
+        said.append(f'    a text is written in quotes: {bare[1]} = "{bare[2]}"')
     if re.search(r"overwrite|duplicate", complaint, re.I):
-        said.append("    a key stands twice in one table; each row begins with its own [[row]]")
+        said.append("    a key is written twice in one table; each row begins with its own [[row]]")
     if complaint.startswith("Expected newline"):
-        said.append("    each key stands on a line of its own")
+        said.append("    each key has a line of its own")
     return said
 
 
@@ -75,7 +75,7 @@ def _top(document: Table, places: Places, rule: Rule) -> list[str]:
     match rule:
         case Rule.MISSING:
             near = [key for key in document if nearest(key, ["row"])]
-            hint = f"; [[{near[0]}]] stands there: meant [[row]]?" if near else ""
+            hint = f"; [[{near[0]}]] is there: meant [[row]]?" if near else ""
             return [places.at_top(near[0] if near else None, f"there is no `row`: {wanted}{hint}")]
         case Rule.WRONG_TYPE:
             return [places.at_top("row", "`row` is no array of tables: write [[row]] with two brackets above each row")]
@@ -86,9 +86,7 @@ def _top(document: Table, places: Places, rule: Rule) -> list[str]:
             ]
         case _:
             others = [key for key in document if key != "row"]
-            return [
-                places.at_top(key, f"`{key}` stands outside the rows; no other key than `row` may") for key in others
-            ]
+            return [places.at_top(key, f"`{key}` is outside the rows, where `row` is the only key") for key in others]
 
 
 def _row(rows: list[Table], row: int, key: int, rule: Rule, places: Places) -> list[str]:
@@ -121,7 +119,7 @@ def _misspelt(table: Table, row: int, key: Key, places: Places) -> list[str]:
     said = []
     for name in foreign:
         if nearest(name, [key.name]):
-            said += places.at(row, name, f"`{name}` stands there: misspelt {key.name}?")
+            said += places.at(row, name, f"`{name}` is there: misspelt {key.name}?")
         elif name in formats.NUMBER_OF:
             said += places.at(row, name, _unknown(table, name))
     return said
@@ -201,7 +199,7 @@ def _array(array: object) -> str | None:
     for key in formats.ARRAY_KEYS.values():
         if key.name not in array:
             near = [name for name in array if name not in formats.ARRAY_KEYS and nearest(name, [key.name])]
-            return f"it has no `{key.name}`; allowed: {key.allowed}" + (f"; `{near[0]}` stands there" if near else "")
+            return f"it has no `{key.name}`; allowed: {key.allowed}" + (f"; `{near[0]}` is there" if near else "")
         value = array[key.name]
         fault = _orders(value) if key.name == "orders" else _number(key, value)
         if fault:
@@ -252,8 +250,8 @@ def _together(arrays: list[Table]) -> tuple[str, int]:
         for order in array["orders"]:
             if (level, order) in held:
                 return (
-                    f"arrays {held[level, order]} and {at} of level {level} both hold {order}; in one level no order stands twice",
+                    f"arrays {held[level, order]} and {at} of level {level} both hold {order}; in one level no order is held twice",
                     at,
                 )
             held[level, order] = at
-    return "its arrays are at odds: levels begin at 1, none is left out, and in one level no order stands twice", 1
+    return "its arrays are at odds: levels begin at 1, none is left out, and in one level no order is held twice", 1

@@ -1,4 +1,4 @@
-"""Where the keys of a configuration stand in its text: TOML's readers keep no lines."""
+"""Where the keys of a configuration are in its text: TOML's readers keep no lines."""
 
 import re
 from collections.abc import Iterator
@@ -18,7 +18,7 @@ class Places:
         self.lines = text.split("\n")
 
     def at(self, row: int, key: str | None, message: str, array: int | None = None) -> list[str]:
-        """The message with the place of a row's key, or of the row, and the line that stands there."""
+        """The message with the place of a row's key, or of the row, and the line that is there."""
         first, end = self._span(row)
         number = self._key(key, first, end) if key else None
         if array is not None:

@@ -55,12 +55,12 @@ def usage(words: Words) -> list[str]:
     """What is wrong with the words, as far as it can be seen."""
     said = [f"{it} is no word of xlate{_hint(it)}" for it in dict.fromkeys(words.options) if it not in KNOWN]
     said += [f"`{it}` belongs to no word{_owner(it)}" for it in words.loose]
-    said += [f"{it} stands twice" for it in dict.fromkeys(words.options) if words.options.count(it) > 1]
+    said += [f"{it} is given twice" for it in dict.fromkeys(words.options) if words.options.count(it) > 1]
     said += [f"{it} wants a value behind it" for it in words.lost]
     if "--config" not in words.options:
         said.append("--config FILE is needed")
     if "--make" in words.options and {"--script", "--trace"} & set(words.options):
-        said.append("--make stands beside neither --script nor --trace: it makes both")
+        said.append("--make goes with neither --script nor --trace: it makes both")
     made = words.values.get("--make")
     if made is not None and not (re.fullmatch(r"\d+", made) and 1 <= int(made) <= MOST_MADE):
         said.append(f"--make {made}: a number from 1 to {MOST_MADE} is wanted, digits alone")

@@ -50,7 +50,7 @@ def _joined(what: str, unit: str) -> str:
 
 
 def _bare(name: str) -> str:
-    """The heading of a column without its unit, which stands at the axis."""
+    """The heading of a column without its unit, which is at the axis."""
     head = measures.heading(name, None)
     return head.removesuffix(" PKA").removesuffix(" PKI").removesuffix(" rate %").replace("MPKI", "misses")
 
