@@ -1,3 +1,4 @@
+# shellcheck shell=bash disable=SC2154  # `top` is set where this is sourced
 # What ./xlate, ./prove and ./install have in common. Sourced where `top` is the top of the repository, or PREFIX/lib/xlate.
 # out/xlate is the program that is served; out/xlate.built is its record, in TOML:
 #     version   what VERSION says
