@@ -1,0 +1,5 @@
+mod CurveLemmas
+mod KernelLemmas
+mod PlaceLemmas
+mod SetLemmas
+mod StackLemmas

@@ -1,0 +1,60 @@
+-- The two words of a place, and its leaf.
+use Rattle.std.proofs.Common.{◌≡◌, ℕ, ◌+◌, ◌*◌, ◌/◌, ◌%◌, ◌<◌, ◌==◌, Bool, true, false, ◌&&◌, refl, sym, ap, arith}
+use Rattle.std.proofs.lemmas.Bool.Decides.{nat_tests}
+use Rattle.xl_model.specs.declared.address.Order.{Order}
+use Rattle.xl_model.specs.declared.address.Order.TheVariants as order
+use Rattle.xl_model.specs.declared.leaf.Leaf.{Leaf}
+use Rattle.xl_model.specs.Addresses.{level_of, order_at}
+use Rattle.xl_curve_model.specs.Curves.{same_leaf}
+use Rattle.xl_model.specs.LeafWords.{perm_code}
+use Rattle.xl_model.specs.Mapping.{is_leaf}
+use Rattle.xl_model.proofs.CodeLemmas.{level-at, at-level, perm-back, frame-back}
+use Rattle.xl_curve.specs.declared.place.Place.{Place}
+use Rattle.xl_curve.specs.Places.{is_vacant, leaf_in, same_words}
+use Rattle.xl_tlb.specs.Arrays.{IsFit}
+
+low_level : (o : Order) → level_of o < 3
+low_level order.K4 = omega arith
+low_level order.M2 = omega arith
+low_level order.G1 = omega arith
+
+both : (a b : Bool) → (a ≡ true → b ≡ true) → (b ≡ true → a ≡ true) → a ≡ b
+both true b f g = sym (f refl)
+both false true f g = g refl
+both false false f g = refl
+
+-- the parts of a tag
+parts : (first space level tag : ℕ) → space < 64 → level < 3 → tag ≡ (first * 64 + space) * 3 + level
+    → (tag % 3 ≡ level) × (tag / 3 % 64 ≡ space) × (tag / 3 / 64 ≡ first)
+parts first space level tag s l e = (omega arith, omega arith, omega arith)
+
+-- a leaf comes back from its place
+pub place_back : (leaf : Leaf) (p : Place) → IsFit leaf → p.tag ≡ (leaf.first * 64 + leaf.space) * 3 + level_of leaf.order
+    → p.word ≡ leaf.frame * 16 + perm_code leaf.perm → leaf_in p ≡ leaf
+unfolding leaf_in
+place_back leaf p fit t w =
+    let a = parts leaf.first leaf.space (level_of leaf.order) p.tag fit.space_in (low_level leaf.order) t in
+    let low : level_of leaf.order < 3 = low_level leaf.order in
+    rw (a.0, a.1, a.2, w, at-level leaf.order, frame-back leaf.frame leaf.perm, perm-back leaf.frame leaf.perm) refl
+
+-- and the place is no hole
+pub solid : (leaf : Leaf) (p : Place) → IsFit leaf → p.tag ≡ (leaf.first * 64 + leaf.space) * 3 + level_of leaf.order → is_vacant p ≡ false
+solid leaf p fit t =
+    let low : level_of leaf.order < 3 = low_level leaf.order in
+    let n : p.tag < 18446744073709551615 = omega (arith, fit.page_in, fit.space_in) in
+    grind (arith, nat_tests)
+
+-- one number tells space, first page and order
+pub same_tag : (a b : ℕ) → (b == a) ≡ ((b / 3 % 64 == a / 3 % 64) && ((b / 3 / 64 == a / 3 / 64) && (b % 3 == a % 3)))
+same_tag a b = both _ _ (λ t. grind (arith, nat_tests)) (λ t. grind (arith, nat_tests))
+
+level_mod : (t : ℕ) → level_of (order_at (t % 3)) ≡ t % 3
+level_mod t = level-at (t % 3) (omega arith)
+
+pub same_place : (a b : Place) → (b.tag == a.tag) ≡ is_leaf (leaf_in a).space (leaf_in a).first (leaf_in a).order (leaf_in b)
+unfolding leaf_in
+same_place a b = rw (level_mod a.tag, level_mod b.tag) (same_tag a.tag b.tag)
+
+pub same_parts : (a b : Place) → same_leaf (leaf_in a) (leaf_in b) ≡ ((b.tag == a.tag) && same_words a.word b.word)
+unfolding leaf_in
+same_parts a b = ap (λ (t : Bool). t && same_words a.word b.word) (sym (same_place a b))

@@ -1,0 +1,8 @@
+use Rattle.std.proofs.Common.{◌≡◌, arith}
+use Rattle.xl_curve.proofs.CurveLemmas.{opened_curve, holes_held}
+use Rattle.xl_curve.proofs.curve.Curve.open.Goals as goal
+
+pub returns : goal.returns
+returns c =
+    let counter : c.opened.counter ≡ c.args.sets = omega arith in
+    opened_curve c.opened.stacks.items c.args.sets _ holes_held (rw counter at c.opened.invariant)

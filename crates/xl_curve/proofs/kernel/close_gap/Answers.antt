@@ -1,0 +1,43 @@
+use Rattle.std.proofs.Common.{get_or, sym, ◌∙◌, ap}
+use Rattle.xl_curve.specs.declared.place.Place.{Place}
+use Rattle.xl_curve.specs.Places.{leaf_in, places_of}
+use Rattle.xl_curve_model.specs.Curves.{same_leaf}
+use Rattle.xl_curve.proofs.KernelLemmas.{read, solid_place, vacant_place, front_places, hole_filled, hole_distance, own_closed}
+use Rattle.xl_curve.proofs.kernel.close_gap.Goals as goal
+
+pub returns-then-is_hole-clause-moved : goal.returns-then-is_hole-clause-moved
+returns-then-is_hole-clause-moved c =
+    let ps = c.args.places.now in
+    let at = c.args.at in
+    let d : Place = record { tag = 0; word = 0 } in
+    let front = ap (λ (xs : _). places_of xs) c.put_in_front.ensures ∙ front_places ps at c.args.leaf c.requires.solid in
+    let hole = read ps at d c.requires.within ∙ vacant_place (get_or ps at d) (sym c.is_hole.ensures ∙ c.if-is_hole.true) in
+    hole_filled (same_leaf (leaf_in c.args.leaf)) (leaf_in c.args.leaf) (places_of ps) (places_of c.put_in_front.new.places) (places_of c.vacate.new.places) at
+    c.requires.gap hole front c.vacate.ensures.places
+
+pub returns-then-is_hole-clause-distance : goal.returns-then-is_hole-clause-distance
+returns-then-is_hole-clause-distance c =
+    let ps = c.args.places.now in
+    let at = c.args.at in
+    let d : Place = record { tag = 0; word = 0 } in
+    let front = ap (λ (xs : _). places_of xs) c.put_in_front.ensures ∙ front_places ps at c.args.leaf c.requires.solid in
+    let hole = read ps at d c.requires.within ∙ vacant_place (get_or ps at d) (sym c.is_hole.ensures ∙ c.if-is_hole.true) in
+    c.vacate.ensures.distance
+    ∙ hole_distance (same_leaf (leaf_in c.args.leaf)) (leaf_in c.args.leaf) (places_of ps) (places_of c.put_in_front.new.places) at c.requires.gap hole front
+
+pub returns-clause-moved : goal.returns-clause-moved
+returns-clause-moved c =
+    let ps = c.args.places.now in
+    let at = c.args.at in
+    let d : Place = record { tag = 0; word = 0 } in
+    let own = read ps at d c.requires.within ∙ solid_place (get_or ps at d) (sym c.is_hole.ensures ∙ c.if-is_hole.false) in
+    ap (λ (xs : _). places_of xs) c.put_in_front.ensures ∙ front_places ps at c.args.leaf c.requires.solid
+    ∙ sym (own_closed (same_leaf (leaf_in c.args.leaf)) (leaf_in c.args.leaf) (places_of ps) at (leaf_in (get_or ps at d)) c.requires.gap own).0
+
+pub returns-clause-distance : goal.returns-clause-distance
+returns-clause-distance c =
+    let ps = c.args.places.now in
+    let at = c.args.at in
+    let d : Place = record { tag = 0; word = 0 } in
+    let own = read ps at d c.requires.within ∙ solid_place (get_or ps at d) (sym c.is_hole.ensures ∙ c.if-is_hole.false) in
+    sym (own_closed (same_leaf (leaf_in c.args.leaf)) (leaf_in c.args.leaf) (places_of ps) at (leaf_in (get_or ps at d)) c.requires.gap own).1

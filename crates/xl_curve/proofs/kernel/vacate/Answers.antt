@@ -1,0 +1,64 @@
+use Rattle.std.proofs.Common.{◌≡◌, ◌<◌, ◌≤◌, true, false, None, length, get_or, refl, sym, ◌∙◌, arith}
+use Rattle.std.proofs.lemmas.List.{length-map}
+use Rattle.xl_curve.specs.declared.place.Place.{Place}
+use Rattle.xl_curve.specs.Places.{is_vacant, leaf_in, place_of, places_of}
+use Rattle.xl_curve_model.specs.Curves.{same_leaf}
+use Rattle.xl_curve.proofs.KernelLemmas.{read, is_other, other_place, pass_places, pass_distance, left, left_at, none_left, none_at, solid_place, hole_written}
+use Rattle.xl_curve.proofs.kernel.vacate.Goals as goal
+
+pub loop-at-init : goal.loop-at-init
+loop-at-init c = record { same = refl; passed = refl; far = refl }
+
+pub returns-then-is_same-clause-places : goal.returns-then-is_same-clause-places
+returns-then-is_same-clause-places c =
+    let ps = c.args.places.now in
+    let at = c.loop-at.at in
+    let here : Place = get_or ps at (record { tag = 0; word = 0 }) in
+    let l : at < length ps = c.loop-at-test.true in
+    let t : true ≡ same_leaf (leaf_in c.args.leaf) (leaf_in here) = rw c.loop-at.invariant.same at (sym c.if-is_same.true ∙ c.is_same.ensures.same) in
+    let tag : here.tag ≡ c.args.leaf.tag = rw c.loop-at.invariant.same at (c.is_same.ensures.tag c.if-is_same.true) in
+    let solid : is_vacant here ≡ false = rw tag c.requires.solid in
+    rw c.loop-at.invariant.same
+    (hole_written ps at (record { tag = 18446744073709551615; word = 0 }) refl
+    ∙ left (same_leaf (leaf_in c.args.leaf)) (places_of ps) at (leaf_in here) (rw (length-map ps place_of) l) (read ps at _ l ∙ solid_place here solid) (sym t)
+    ∙ sym c.loop-at.invariant.passed)
+
+pub returns-then-is_same-clause-distance : goal.returns-then-is_same-clause-distance
+returns-then-is_same-clause-distance c =
+    let ps = c.args.places.now in
+    let at = c.loop-at.at in
+    let here : Place = get_or ps at (record { tag = 0; word = 0 }) in
+    let l : at < length ps = c.loop-at-test.true in
+    let t : true ≡ same_leaf (leaf_in c.args.leaf) (leaf_in here) = rw c.loop-at.invariant.same at (sym c.if-is_same.true ∙ c.is_same.ensures.same) in
+    let tag : here.tag ≡ c.args.leaf.tag = rw c.loop-at.invariant.same at (c.is_same.ensures.tag c.if-is_same.true) in
+    let solid : is_vacant here ≡ false = rw tag c.requires.solid in
+    left_at (same_leaf (leaf_in c.args.leaf)) (places_of ps) at (leaf_in here) (rw (length-map ps place_of) l) (read ps at _ l ∙ solid_place here solid) (sym t)
+    ∙ sym c.loop-at.invariant.far
+
+pub loop-at-preserved : goal.loop-at-preserved
+loop-at-preserved c =
+    let ps = c.args.places.now in
+    let at = c.loop-at.at in
+    let here : Place = get_or ps at (record { tag = 0; word = 0 }) in
+    let l : at < length ps = c.loop-at-test.true in
+    let m : at < length (places_of ps) = rw (length-map ps place_of) l in
+    let f : false ≡ same_leaf (leaf_in c.args.leaf) (leaf_in here) = rw c.loop-at.invariant.same at (sym c.if-is_same.false ∙ c.is_same.ensures.same) in
+    let o : is_other (same_leaf (leaf_in c.args.leaf)) (get_or (places_of ps) at None) ≡ true =
+    rw (read ps at (record { tag = 0; word = 0 }) l) (other_place (same_leaf (leaf_in c.args.leaf)) here (sym f)) in
+    record {
+      same = c.loop-at.invariant.same;
+      passed = c.loop-at.invariant.passed ∙ pass_places (same_leaf (leaf_in c.args.leaf)) (places_of ps) at m o;
+      far = c.loop-at.invariant.far ∙ pass_distance (same_leaf (leaf_in c.args.leaf)) (places_of ps) at m o;
+    }
+
+pub returns-clause-places : goal.returns-clause-places
+returns-clause-places c =
+    let ps = c.args.places.now in
+    let l : length ps ≤ c.loop-at.at = omega arith in
+    rw c.loop-at.invariant.same (none_left (same_leaf (leaf_in c.args.leaf)) (places_of ps) c.loop-at.at (rw (length-map ps place_of) l) ∙ sym c.loop-at.invariant.passed)
+
+pub returns-clause-distance : goal.returns-clause-distance
+returns-clause-distance c =
+    let ps = c.args.places.now in
+    let l : length ps ≤ c.loop-at.at = omega arith in
+    none_at (same_leaf (leaf_in c.args.leaf)) (places_of ps) c.loop-at.at (rw (length-map ps place_of) l) ∙ sym c.loop-at.invariant.far

@@ -1,0 +1,6 @@
+use Rattle.std.proofs.Common.{rules}
+use Rattle.xl_model.specs.Mapping.{is_leaf}
+use Rattle.xl_curve.proofs.purge.remove_named_in.Goals as goal
+
+pub returns : goal.returns
+returns c = c.remove_in.ensures (is_leaf c.args.space c.args.first c.args.order) (record { same = λ x answer h. search (rules, h) })

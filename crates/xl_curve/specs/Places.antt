@@ -1,0 +1,99 @@
+-- A recency list with holes: one list of places that represents the lists of all widths.
+use Rattle.std.specs.Prelude.{◌≡◌, ℕ, zero, suc, ◌+◌, ◌/◌, ◌%◌, ◌==◌, Bool, ◌&&◌, true, false, not, if◌then◌else◌, List, [], ◌∷◌, map, Option, None, Some}
+use Rattle.std.specs.List.{list_all}
+use Rattle.xl_model.specs.declared.leaf.Leaf.{Leaf}
+use Rattle.xl_model.specs.Addresses.{order_at}
+use Rattle.xl_model.specs.LeafWords.{perm_at}
+use Rattle.xl_model.specs.Ranges.{same_perm}
+use Rattle.xl_curve.specs.declared.place.Place.{Place}
+
+-- Two words have the same frame and permission.
+abbrev pub same_words : ℕ → ℕ → Bool
+same_words word other = (other / 16 == word / 16) && same_perm (perm_at word) (perm_at other)
+
+-- The place is a hole: its tag is that of no leaf that a place can keep.
+abbrev pub is_vacant : Place → Bool
+is_vacant p = p.tag == 18446744073709551615
+
+-- The leaf of a place's two words.
+unfoldable pub leaf_in : Place → Leaf
+leaf_in p = record {
+  space = p.tag / 3 % 64;
+  first = p.tag / 3 / 64;
+  order = order_at (p.tag % 3);
+  frame = p.word / 16;
+  perm = perm_at p.word;
+}
+
+-- The leaf, unless the place is vacant.
+abbrev pub unless_vacant : Bool → Leaf → Option Leaf
+unless_vacant true leaf = None
+unless_vacant false leaf = Some leaf
+
+-- What a place has.
+unfoldable pub place_of : Place → Option Leaf
+place_of p = unless_vacant (is_vacant p) (leaf_in p)
+
+-- What some places have.
+abbrev pub places_of : List Place → List (Option Leaf)
+places_of places = map place_of places
+
+-- The recency list of a width: what the first places have, as many as the width says.
+abbrev pub held : {A : Type 0} → ℕ → List (Option A) → List A
+held zero places = []
+held (suc n) [] = []
+held (suc n) (None ∷ places) = held n places
+held (suc n) (Some x ∷ places) = x ∷ held n places
+
+-- The first item that meets the test leaves a hole.
+abbrev pub vacated : {A : Type 0} → (A → Bool) → List (Option A) → List (Option A)
+vacated q [] = []
+vacated q (None ∷ places) = None ∷ vacated q places
+vacated q (Some x ∷ places) = if q x then (None ∷ places) else (Some x ∷ vacated q places)
+
+-- An item comes to the front. Each item gives way to the one before it, as far as the first that meets the test, which
+-- goes, or as far as the first hole, which is filled; then the item that meets the test leaves a hole further behind.
+abbrev pub shifted : {A : Type 0} → (A → Bool) → A → List (Option A) → List (Option A)
+shifted q x [] = Some x ∷ []
+shifted q x (None ∷ places) = Some x ∷ vacated q places
+shifted q x (Some y ∷ places) = if q y then (Some x ∷ places) else (Some x ∷ shifted q y places)
+
+-- A distance from some places further in front.
+abbrev pub further : ℕ → Option ℕ → Option ℕ
+further n None = None
+further n (Some d) = Some (n + d)
+
+-- A place gives way to an item that comes to the front: it has an item, and that fails the test.
+abbrev pub gives_way : {A : Type 0} → (A → Bool) → Option A → Bool
+gives_way q None = false
+gives_way q (Some x) = not (q x)
+
+-- How many places give way before the first that doesn't, if there is one.
+abbrev pub gap : {A : Type 0} → (A → Bool) → List (Option A) → Option ℕ
+gap q [] = None
+gap q (None ∷ places) = Some 0
+gap q (Some x ∷ places) = if q x then Some 0 else further 1 (gap q places)
+
+-- The stack distance of an item: the number of places in front of the first one whose item meets the test.
+abbrev pub distance : {A : Type 0} → (A → Bool) → List (Option A) → Option ℕ
+distance q [] = None
+distance q (None ∷ places) = further 1 (distance q places)
+distance q (Some x ∷ places) = if q x then Some 0 else further 1 (distance q places)
+
+-- A place is as it was, or a hole: what holds of it and of a hole still does.
+abbrev pub IsSameOrHole : {A : Type 0} → Option A → Option A → Type 0
+IsSameOrHole {A} old new = (t : Option A → Bool) → t None ≡ true → t old ≡ true → t new ≡ true
+
+-- Each place is as it was, or a hole: what holds of each place and of a hole still does.
+abbrev pub IsThinned : {A : Type 0} → List (Option A) → List (Option A) → Type 0
+IsThinned {A} old new = (t : Option A → Bool) → t None ≡ true → list_all t old ≡ true → list_all t new ≡ true
+
+-- The item leaves a hole where the test says so.
+abbrev pub hole_where : {A : Type 0} → Bool → A → Option A
+hole_where true x = None
+hole_where false x = Some x
+
+-- A place without an item that meets the test.
+abbrev pub place_without : {A : Type 0} → (A → Bool) → Option A → Option A
+place_without q None = None
+place_without q (Some x) = hole_where (q x) x

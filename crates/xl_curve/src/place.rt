@@ -1,0 +1,108 @@
+//! What a place of a list has: a leaf, or nothing.
+
+ghost use Rattle.std.specs.Prelude.{◌≡◌, true, false};
+ghost use Rattle.xl_curve.specs.Places.{gives_way as gives_way_to, is_vacant, leaf_in as leaf_kept, place_of, same_words};
+ghost use Rattle.xl_model.specs.Addresses.{order_at};
+ghost use Rattle.xl_tlb.specs.Arrays.{IsFit};
+ghost use Rattle.xl_curve_model.specs.Curves.{same_leaf};
+ghost use Rattle.xl_model.specs.Ranges.{same_perm};
+
+use xl_model::{Leaf, Order, Perm, perm_code, perm_of};
+
+/// A leaf in two words, or a hole. The tag has the leaf's space, first page and order, the word its frame and
+/// permission. No leaf has the hole's tag.
+#[derive(Clone, Copy, Debug, PartialEq, Eq)]
+pub(crate) struct Place {
+    tag: u64,
+    word: u64,
+}
+
+/// A place with nothing in it.
+pub(crate) const HOLE: Place = Place {
+    tag: u64::MAX,
+    word: 0,
+};
+
+/// The order of a level.
+fn order_of(level: u64) -> Order
+    ensures { result ≡ order_at level }
+{
+    match level {
+        0 => Order::K4,
+        1 => Order::M2,
+        _ => Order::G1,
+    }
+}
+
+/// Whether two permissions are the same.
+#[inline(always)]
+fn are_same_perms(perm: Perm, other: Perm) -> bool
+    ensures { result ≡ same_perm perm other }
+{
+    perm.r == other.r && perm.w == other.w && perm.x == other.x && perm.u == other.u
+}
+
+/// Whether two words have the same frame and permission.
+#[inline(always)]
+fn are_same_words(word: u64, other: u64) -> bool
+    ensures { result ≡ same_words word other }
+{
+    other / 16 == word / 16 && are_same_perms(perm_of(word), perm_of(other))
+}
+
+impl Place {
+    /// The place of a leaf.
+    #[inline]
+    pub fn of(leaf: Leaf) -> Place
+        requires { IsFit leaf }
+        ensures solid { is_vacant result ≡ false }
+        ensures leaf { leaf_kept result ≡ leaf }
+    {
+        Place {
+            tag: (leaf.first * 64 + leaf.space as u64) * 3 + leaf.order.level() as u64,
+            word: leaf.frame * 16 + perm_code(leaf.perm),
+        }
+    }
+
+    /// Whether the place is a hole.
+    #[inline(always)]
+    pub fn is_hole(self) -> bool
+        ensures { result ≡ is_vacant self }
+    {
+        self.tag == u64::MAX
+    }
+
+    /// The leaf of the place, where it has one.
+    #[tactic(auto, unfolding(crate::specs::Places::leaf_in))]
+    pub fn leaf(self) -> Leaf
+        ensures { result ≡ leaf_kept self }
+    {
+        Leaf {
+            space: (self.tag / 3 % 64) as u16,
+            first: self.tag / 3 / 64,
+            order: order_of(self.tag % 3),
+            frame: self.word / 16,
+            perm: perm_of(self.word),
+        }
+    }
+
+    /// Whether the other place has the same leaf, where both have one.
+    #[inline(always)]
+    pub fn is_same(self, other: Place) -> bool
+        ensures same { result ≡ same_leaf (leaf_kept self) (leaf_kept other) }
+        ensures tag { result ≡ true → other.tag ≡ self.tag }
+    {
+        other.tag == self.tag && are_same_words(self.word, other.word)
+    }
+
+    /// Whether the place gives way to a leaf that comes to the front: it is no hole, and has another leaf.
+    #[inline(always)]
+    pub fn gives_way(self, leaf: Place) -> bool
+        ensures { result ≡ gives_way_to (same_leaf (leaf_kept leaf)) (place_of self) }
+    {
+        if self.is_hole() {
+            return false;
+        }
+        !leaf.is_same(self)
+    }
+}

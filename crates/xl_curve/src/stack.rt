@@ -1,0 +1,65 @@
+//! The list of places of one set.
+
+ghost use Rattle.std.specs.Prelude.{◌≡◌, ◌<◌, false, None, map, replicate, take, IfSome};
+ghost use Rattle.std.specs.Fn.{FnReturnsAt};
+ghost use Rattle.xl_curve.specs.Places.{IsThinned, distance, is_vacant, leaf_in, place_without, shifted};
+ghost use Rattle.xl_curve_model.specs.Curves.{same_leaf};
+ghost use Rattle.xl_recency.specs.Lists.{IsTest};
+
+use crate::kernel::{bring_in_front, vacate_where};
+use crate::place::{HOLE, Place};
+use std::marker::Model;
+use xl_model::Leaf;
+
+/// The greatest width, and the number of places of a set.
+pub(crate) const WIDEST: usize = 64;
+
+/// A recency list of 64 places, of which some are holes. Contracts see what each place has, the newest first.
+#[derive(Drop)]
+pub(crate) struct Stack {
+    places: [Place; WIDEST],
+}
+
+impl Model for Stack {
+    ghost use Rattle.std.specs.Prelude.{List, Option};
+    ghost use Rattle.xl_model.specs.declared.leaf.Leaf.{Leaf};
+    ghost use Rattle.xl_curve.specs.Places.{places_of};
+
+    ghost Value = { List (Option Leaf) };
+
+    ghost view = { λ s. places_of s.places };
+}
+
+impl Stack {
+    /// A list of holes.
+    #[tactic(auto, unfolding(crate::specs::Places::place_of))]
+    pub fn new() -> Stack
+        ensures { result ≡ replicate 64 None }
+    {
+        Stack {
+            places: [HOLE; WIDEST],
+        }
+    }
+
+    /// Puts a leaf in front, and gives the distance at which it was. The last place gives way, where none is a
+    /// hole and none has the leaf.
+    pub fn access(&mut self, leaf: Place) -> Option<usize>
+        requires { is_vacant leaf ≡ false }
+        ensures moved { self.new ≡
+            take 64 (shifted (same_leaf (leaf_in leaf)) (leaf_in leaf) self.old) }
+        ensures distance { result ≡ distance (same_leaf (leaf_in leaf)) self.old }
+        ensures below { IfSome result (λ d. d < 64) }
+    {
+        bring_in_front(&mut self.places, leaf)
+    }
+
+    /// Removes the leaves that meet the test. They leave holes.
+    pub fn remove_where<P: Fn(&Leaf) -> bool>(&mut self, test: &P)
+        requires { P.IsAlwaysCallable test.now }
+        ensures removed { (q : _) → IsTest (FnReturnsAt P.Fn test.now) q →
+            self.new ≡ map (place_without q) self.old }
+        ensures thinned { IsThinned self.old self.new }
+    {
+        vacate_where(&mut self.places, test);
+    }
+}

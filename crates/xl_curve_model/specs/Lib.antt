@@ -1,0 +1,4 @@
+pub mod Curves
+pub mod CurveRun
+pub mod CurveLines
+pub mod CurveComputing

@@ -1,0 +1,2 @@
+pub mod CurveRows
+pub mod SetRows
