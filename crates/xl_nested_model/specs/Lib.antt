@@ -1,0 +1,5 @@
+pub mod Tally
+pub mod Stages
+pub mod Rules
+pub mod Nested
+pub mod Computing
