@@ -1,0 +1,127 @@
+-- Histories: older mappings, what they are, and whose frames they hold.
+use Rattle.std.proofs.Common.{◌≡◌, refl, sym, ap, subst, ℕ, zero, suc, ◌<◌, ◌≤◌, true, List, [], ◌∷◌, ◌++◌, length, take, get_or, Option, None, Some, ◌⊎◌, inl, inr, arith}
+use Rattle.xl_model.specs.declared.address.Order.{Order}
+use Rattle.xl_hart_model.specs.declared.hart.Request.{Request}
+use Rattle.xl_model.specs.declared.leaf.Leaf.{Leaf}
+use Rattle.xl_model.specs.Changes.{Change, with_new, without_old, changed}
+use Rattle.xl_model.specs.Mapping.{holds_frames}
+use Rattle.xl_hart_model.specs.Requests.{request_of, undone, older, with_held, held_leaves}
+use Rattle.xl_model.specs.Rows.{Row}
+use Rattle.xl_model_lemmas.specs.Mappings.{IsMapping, IsSound}
+use Rattle.xl_model_lemmas.specs.Members.{In}
+use Rattle.xl_model_lemmas.proofs.InsertionLemmas.{with-In, without-In}
+use Rattle.xl_model_lemmas.proofs.MemberLemmas.{In-left, In-right, In-append}
+use Rattle.xl_model_lemmas.proofs.RuleLemmas.{kept-sound}
+use Rattle.xl_hart_laws.specs.Histories.{IsTold, IsHistory, IsOwned}
+use Rattle.xl_hart_laws.proofs.UndoLemmas.{change-undone, change-told}
+
+-- the history after a change
+pub history-changed : (row : Row) (requests : List Request) (leaves : List Leaf) (c : Change) → IsMapping row leaves → IsSound row leaves c → IsHistory row requests leaves
+    → IsHistory row (request_of c leaves ∷ requests) (changed c leaves)
+history-changed row requests leaves c m s h =
+    let P : List Leaf → Type 0 = λ xs. IsHistory row requests xs in
+    (kept-sound row leaves c m s, change-told leaves c, subst P (sym (change-undone row leaves c m s)) h)
+
+-- a change is undone first
+pub older-changed : (row : Row) (requests : List Request) (leaves : List Leaf) (c : Change) (i : ℕ) → IsMapping row leaves → IsSound row leaves c
+    → older (suc i) (request_of c leaves ∷ requests) (changed c leaves) ≡ older i requests leaves
+older-changed row requests leaves c i m s = ap (λ (xs : List Leaf). older i requests xs) (change-undone row leaves c m s)
+
+-- the newest requests alone
+pub history-taken : (row : Row) (n : ℕ) (requests : List Request) (leaves : List Leaf) → IsHistory row requests leaves → IsHistory row (take n requests) leaves
+history-taken row zero [] leaves h = h
+history-taken row zero (r ∷ requests) leaves h = h.0
+history-taken row (suc n) [] leaves h = h
+history-taken row (suc n) (r ∷ requests) leaves (m, t, h) = (m, t, history-taken row n requests (undone r leaves) h)
+
+pub older-taken : (i n : ℕ) (requests : List Request) (leaves : List Leaf) → i ≤ n → older i (take n requests) leaves ≡ older i requests leaves
+older-taken zero n requests leaves below = refl
+older-taken (suc i) zero requests leaves below = absurd (omega arith)
+older-taken (suc i) (suc n) [] leaves below = refl
+older-taken (suc i) (suc n) (r ∷ requests) leaves below = older-taken i n requests (undone r leaves) (omega arith)
+
+-- each older mapping is one
+pub older-mapping : (row : Row) (i : ℕ) (requests : List Request) (leaves : List Leaf) → IsHistory row requests leaves → IsMapping row (older i requests leaves)
+older-mapping row zero [] leaves h = h
+older-mapping row zero (r ∷ requests) leaves h = h.0
+older-mapping row (suc i) [] leaves h = h
+older-mapping row (suc i) (r ∷ requests) leaves (m, t, h) = older-mapping row i requests (undone r leaves) h
+
+-- the last request undone is the oldest
+pub older-last : (i : ℕ) (requests : List Request) (leaves : List Leaf) (d : Request) → i < length requests
+    → older (suc i) requests leaves ≡ undone (get_or requests i d) (older i requests leaves)
+older-last i [] leaves d below = absurd (omega arith)
+older-last zero (r ∷ requests) leaves d below = refl
+older-last (suc i) (r ∷ requests) leaves d below = older-last i requests (undone r leaves) d (omega arith)
+
+-- a leaf before a request was of it, or is there after
+pub undone-In : (before after : Option Leaf) (leaves : List Leaf) (x : Leaf) → In x (with_new before (without_old after leaves)) → (before ≡ Some x) ⊎ In x leaves
+undone-In None after leaves x i = inr (out after leaves x i)
+  where
+    out : (old : Option Leaf) (xs : List Leaf) (z : Leaf) → In z (without_old old xs) → In z xs
+    out None xs z j = j
+    out (Some old) xs z j = without-In z old.space old.first xs j
+undone-In (Some y) after leaves x i =
+    elim (with-In x y (without_old after leaves) i) [
+      | inl e ↦ inl (ap (λ (z : Leaf). Some z) (sym e))
+      | inr j ↦ inr (out after leaves x j)
+    ]
+  where
+    out : (old : Option Leaf) (xs : List Leaf) (z : Leaf) → In z (without_old old xs) → In z xs
+    out None xs z j = j
+    out (Some old) xs z j = without-In z old.space old.first xs j
+
+-- frames that are held back
+held-more : (before after : Option Leaf) (leaves : List Leaf) (x : Leaf) → In x leaves → In x (with_held before after leaves)
+held-more (Some y) None leaves x i = inr i
+held-more (Some y) (Some z) leaves x i = i
+held-more None after leaves x i = i
+
+same-holds : (frame : ℕ) (x y : Leaf) → y.order ≡ x.order → y.frame ≡ x.frame → holds_frames frame 1 x ≡ true → holds_frames frame 1 y ≡ true
+same-holds frame x y o f h =
+    let P : Order → ℕ → Type 0 = λ q n. holds_frames frame 1 (record y { order = q; frame = n }) ≡ true in
+    let Q : ℕ → Type 0 = λ n. P x.order n in
+    let a : P x.order x.frame = h in
+    let b : P x.order y.frame = subst Q (sym f) a in
+    let R : Order → Type 0 = λ q. P q y.frame in
+    subst R (sym o) b
+
+owned-by : (frame : ℕ) (r : Request) (requests : List Request) (leaves : List Leaf) → IsTold r leaves → IsOwned frame (undone r leaves ++ held_leaves requests)
+    → IsOwned frame (leaves ++ held_leaves (r ∷ requests))
+owned-by frame r requests leaves told o =
+    elim (In-append o.leaf (undone r leaves) (held_leaves requests) o.member) [
+      | inl i ↦ elim (undone-In r.before r.after leaves o.leaf i) [
+        | inl e ↦ go r.after refl e
+        | inr j ↦ record { leaf = o.leaf; member = In-left o.leaf leaves (held_leaves (r ∷ requests)) j; holds = o.holds }
+      ]
+      | inr j ↦ record {
+        leaf = o.leaf;
+        member = In-right o.leaf leaves (held_leaves (r ∷ requests)) (held-more r.before r.after (held_leaves requests) o.leaf j);
+        holds = o.holds;
+      }
+    ]
+  where
+    go : (after : Option Leaf) → r.after ≡ after → r.before ≡ Some o.leaf → IsOwned frame (leaves ++ held_leaves (r ∷ requests))
+    go (Some y) a b = record {
+      leaf = y;
+      member = In-left y leaves (held_leaves (r ∷ requests)) (told.there y a);
+      holds = same-holds frame o.leaf y (told.same_order o.leaf y b a) (told.same_frame o.leaf y b a) o.holds;
+    }
+    go None a b =
+        let P : Option Leaf → Option Leaf → Type 0 = λ p q. In o.leaf (with_held p q (held_leaves requests)) in
+        let Q : Option Leaf → Type 0 = λ q. P (Some o.leaf) q in
+        let R : Option Leaf → Type 0 = λ p. P p r.after in
+        let i : P (Some o.leaf) None = inl refl in
+        record {
+          leaf = o.leaf;
+          member = In-right o.leaf leaves (held_leaves (r ∷ requests)) (subst R (sym b) (subst Q (sym a) i));
+          holds = o.holds;
+        }
+
+-- each frame of an older mapping is in the mapping or held back
+pub older-owned : (row : Row) (frame i : ℕ) (requests : List Request) (leaves : List Leaf) (x : Leaf) → IsHistory row requests leaves → In x (older i requests leaves)
+    → holds_frames frame 1 x ≡ true → IsOwned frame (leaves ++ held_leaves requests)
+older-owned row frame zero requests leaves x h i t = record { leaf = x; member = In-left x leaves (held_leaves requests) i; holds = t }
+older-owned row frame (suc n) [] leaves x h i t = record { leaf = x; member = In-left x leaves [] i; holds = t }
+older-owned row frame (suc n) (r ∷ requests) leaves x (m, told, h) i t =
+    owned-by frame r requests leaves told (older-owned row frame n requests (undone r leaves) x h i t)

@@ -1,0 +1,132 @@
+-- A request undone: the mapping is the one before its command.
+use Rattle.std.proofs.Common.{◌≡◌, refl, sym, ◌∙◌, ap, subst, ℕ, ◌+◌, ◌*◌, ◌^◌, ◌==◌, Bool, true, false, List, Option, None, Some, inl, inr, arith}
+use Rattle.std.proofs.lemmas.Bool.Decides.{nat_tests}
+use Rattle.xl_model.specs.declared.address.Order.{Order}
+use Rattle.xl_model.specs.declared.leaf.Leaf.{Leaf}
+use Rattle.xl_model.specs.declared.perm.Perm.{Perm}
+use Rattle.xl_model.specs.Changes.{Change, Insert, Remove, Protect, Relocate, old_leaf, new_leaf, with_perm, at_page, with_new, without_old, changed}
+use Rattle.xl_model.specs.Mapping.{leaf_key, leaf_named, with_leaf, without_leaf}
+use Rattle.xl_hart_model.specs.Requests.{request_of, undone}
+use Rattle.xl_model.specs.Rows.{Row}
+use Rattle.xl_model_lemmas.specs.Mappings.{IsMapping, IsSound}
+use Rattle.xl_model_lemmas.specs.Members.{In, IsSorted}
+use Rattle.xl_model_lemmas.proofs.ChangeLemmas.{first-small, place-small, other-key}
+use Rattle.xl_model_lemmas.proofs.InsertionLemmas.{with-In, In-with, stays-with, sorted-with, sorted-without, without-In, without-other, In-without, same-place}
+use Rattle.xl_model_lemmas.proofs.MappingLemmas.{named-In, named-is}
+use Rattle.xl_model_lemmas.proofs.PlaceLemmas.{named-space}
+use Rattle.xl_model_lemmas.proofs.SortedLemmas.{same-sorted}
+use Rattle.xl_hart_laws.specs.Histories.{IsTold}
+
+-- a leaf of a new key that comes and goes
+pub without-with : (x : Leaf) (xs : List Leaf) → IsSorted xs → ((z : Leaf) → In z xs → leaf_key z ≡ leaf_key x → ⊥)
+    → without_leaf x.space x.first (with_leaf x xs) ≡ xs
+without-with x xs sorted new =
+    same-sorted (without_leaf x.space x.first (with_leaf x xs)) xs (sorted-without x.space x.first (with_leaf x xs) (sorted-with x xs sorted)) sorted
+    (λ z i. elim (with-In z x xs (without-In z x.space x.first (with_leaf x xs) i)) [
+      | inl e ↦ absurd (without-other z x.space x.first (with_leaf x xs) i (ap (λ (y : Leaf). leaf_key y) e))
+      | inr j ↦ j
+    ])
+    (λ z j. In-without z x.space x.first (with_leaf x xs) (stays-with z x xs j (new z j)) (new z j))
+
+-- a leaf that goes and comes
+pub with-without : (x : Leaf) (xs : List Leaf) → IsSorted xs → In x xs → with_leaf x (without_leaf x.space x.first xs) ≡ xs
+with-without x xs sorted i =
+    same-sorted (with_leaf x (without_leaf x.space x.first xs)) xs (sorted-with x (without_leaf x.space x.first xs) (sorted-without x.space x.first xs sorted)) sorted
+    (λ z j. elim (with-In z x (without_leaf x.space x.first xs) j) [
+      | inl e ↦ let P : Leaf → Type 0 = λ y. In y xs in subst P (sym e) i
+      | inr k ↦ without-In z x.space x.first xs k
+    ])
+    (λ z j. back z j (leaf_key z == leaf_key x) refl)
+  where
+    back : (z : Leaf) → In z xs → (b : Bool) → (leaf_key z == leaf_key x) ≡ b → In z (with_leaf x (without_leaf x.space x.first xs))
+    back z j true t =
+        let e : leaf_key z ≡ leaf_key x = grind (arith, nat_tests) in
+        let P : Leaf → Type 0 = λ y. In y (with_leaf x (without_leaf x.space x.first xs)) in
+        subst P (sym (same-place z x xs sorted j i e)) (In-with x (without_leaf x.space x.first xs))
+    back z j false t =
+        let other : leaf_key z ≡ leaf_key x → ⊥ = λ e. absurd (grind (arith, nat_tests)) in
+        stays-with z x (without_leaf x.space x.first xs) (In-without z x.space x.first xs j other) other
+
+pub sorted-old : (old : Option Leaf) (xs : List Leaf) → IsSorted xs → IsSorted (without_old old xs)
+sorted-old None xs s = s
+sorted-old (Some x) xs s = sorted-without x.space x.first xs s
+
+-- one leaf goes and another comes, and back
+undone-by : (old new : Option Leaf) (xs : List Leaf) → IsSorted xs → ((x : Leaf) → old ≡ Some x → In x xs)
+    → ((x : Leaf) → new ≡ Some x → (z : Leaf) → In z (without_old old xs) → leaf_key z ≡ leaf_key x → ⊥)
+    → with_new old (without_old new (with_new new (without_old old xs))) ≡ xs
+undone-by None None xs s there apart = refl
+undone-by None (Some x) xs s there apart = without-with x xs s (apart x refl)
+undone-by (Some x) None xs s there apart = with-without x xs s (there x refl)
+undone-by (Some x) (Some y) xs s there apart =
+    rw (without-with y (without_leaf x.space x.first xs) (sorted-without x.space x.first xs s) (apart y refl)) (with-without x xs s (there x refl))
+
+-- no other leaf has the key of the one that a change brings
+protected-apart : (perm : Perm) (old : Option Leaf) (leaves : List Leaf) (x : Leaf) → with_perm perm old ≡ Some x → (z : Leaf) → In z (without_old old leaves) → leaf_key z ≡ leaf_key x → ⊥
+protected-apart perm None leaves x is z i e = absurd (cc)
+protected-apart perm (Some old) leaves x is z i e =
+    let same : record old { perm = perm } ≡ x = (cc) in
+    without-other z old.space old.first leaves i (e ∙ ap (λ (y : Leaf). leaf_key y) (sym same))
+
+moved-apart : (row : Row) (space to : ℕ) (o : Order) (old : Option Leaf) (leaves : List Leaf) (x : Leaf) → IsMapping row leaves → IsSound row leaves (Relocate space 0 to o)
+    → ((y : Leaf) → old ≡ Some y → y.space ≡ space) → at_page to old ≡ Some x → (z : Leaf) → In z (without_old old leaves) → leaf_key z ≡ leaf_key x → ⊥
+moved-apart row space to o None leaves x m place named is z i e = absurd (cc)
+moved-apart row space to o (Some old) leaves x m place named is z i e =
+    let same : record old { first = to } ≡ x = (cc) in
+    let key : leaf_key z ≡ old.space * 2 ^ 52 + to = e ∙ ap (λ (y : Leaf). leaf_key y) (sym same) in
+    let P : ℕ → Type 0 = λ s. leaf_key z ≡ s * 2 ^ 52 + to in
+    other-key row leaves space to o z m (without-In z old.space old.first leaves i) (place-small row leaves space to o place) place.apart (subst P (named old refl) key)
+
+pub new-apart : (row : Row) (leaves : List Leaf) (c : Change) → IsMapping row leaves → IsSound row leaves c
+    → (x : Leaf) → new_leaf c leaves ≡ Some x → (z : Leaf) → In z (without_old (old_leaf c leaves) leaves) → leaf_key z ≡ leaf_key x → ⊥
+new-apart row leaves (Insert leaf) m s x is z i e =
+    let same : leaf ≡ x = (cc) in
+    other-key row leaves leaf.space leaf.first leaf.order z m i (first-small row leaf s.valid) s.apart (e ∙ ap (λ (y : Leaf). leaf_key y) (sym same))
+new-apart row leaves (Remove space first o) m s x is z i e = absurd (cc)
+new-apart row leaves (Protect space first o perm) m s x is z i e = protected-apart perm (leaf_named space first o leaves) leaves x is z i e
+new-apart row leaves (Relocate space first to o) m s x is z i e =
+    moved-apart row space to o (leaf_named space first o leaves) leaves x m s (λ y h. named-space space first o y (named-is space first o y leaves h)) is z i e
+
+pub old-there : (c : Change) (leaves : List Leaf) (x : Leaf) → old_leaf c leaves ≡ Some x → In x leaves
+old-there (Insert leaf) leaves x h = absurd (cc)
+old-there (Remove space first o) leaves x h = named-In space first o x leaves h
+old-there (Protect space first o perm) leaves x h = named-In space first o x leaves h
+old-there (Relocate space first to o) leaves x h = named-In space first o x leaves h
+
+-- the request of a change that is sound leads back to the mapping before it
+pub change-undone : (row : Row) (leaves : List Leaf) (c : Change) → IsMapping row leaves → IsSound row leaves c → undone (request_of c leaves) (changed c leaves) ≡ leaves
+unfolding changed
+change-undone row leaves c m s =
+    undone-by (old_leaf c leaves) (new_leaf c leaves) leaves m.sorted (old-there c leaves) (new-apart row leaves c m s)
+
+-- what it tells
+perm-same : (perm : Perm) (old : Option Leaf) (x y : Leaf) → old ≡ Some x → with_perm perm old ≡ Some y → (y.order ≡ x.order) × (y.frame ≡ x.frame)
+perm-same perm None x y e f = absurd (cc)
+perm-same perm (Some old) x y e f =
+    let a : old ≡ x = (cc) in
+    let b : record old { perm = perm } ≡ y = (cc) in
+    (ap (λ (z : Leaf). z.order) (sym b) ∙ ap (λ (z : Leaf). z.order) a, ap (λ (z : Leaf). z.frame) (sym b) ∙ ap (λ (z : Leaf). z.frame) a)
+
+page-same : (to : ℕ) (old : Option Leaf) (x y : Leaf) → old ≡ Some x → at_page to old ≡ Some y → (y.order ≡ x.order) × (y.frame ≡ x.frame)
+page-same to None x y e f = absurd (cc)
+page-same to (Some old) x y e f =
+    let a : old ≡ x = (cc) in
+    let b : record old { first = to } ≡ y = (cc) in
+    (ap (λ (z : Leaf). z.order) (sym b) ∙ ap (λ (z : Leaf). z.order) a, ap (λ (z : Leaf). z.frame) (sym b) ∙ ap (λ (z : Leaf). z.frame) a)
+
+pub frames-same : (c : Change) (leaves : List Leaf) (x y : Leaf) → old_leaf c leaves ≡ Some x → new_leaf c leaves ≡ Some y → (y.order ≡ x.order) × (y.frame ≡ x.frame)
+frames-same (Insert leaf) leaves x y e f = absurd (cc)
+frames-same (Remove space first o) leaves x y e f = absurd (cc)
+frames-same (Protect space first o perm) leaves x y e f = perm-same perm (leaf_named space first o leaves) x y e f
+frames-same (Relocate space first to o) leaves x y e f = page-same to (leaf_named space first o leaves) x y e f
+
+new-there : (c : Change) (leaves : List Leaf) (new : Leaf) → new_leaf c leaves ≡ Some new → In new (changed c leaves)
+unfolding changed
+new-there c leaves new h = rw h (In-with new (without_old (old_leaf c leaves) leaves))
+
+pub change-told : (leaves : List Leaf) (c : Change) → IsTold (request_of c leaves) (changed c leaves)
+change-told leaves c = record {
+  there = new-there c leaves;
+  same_order = λ x y e f. (frames-same c leaves x y e f).0;
+  same_frame = λ x y e f. (frames-same c leaves x y e f).1;
+}

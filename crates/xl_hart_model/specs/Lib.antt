@@ -1,0 +1,4 @@
+pub mod Requests
+pub mod Tally
+pub mod Harts
+pub mod Computing

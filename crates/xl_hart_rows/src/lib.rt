@@ -1,0 +1,6 @@
+//! Worked rows of harts. No function here does anything: each is there for its clause, which says what the
+//! definitions count after some events.
+#![tactic(auto)]
+
+pub mod by_hand;
+pub mod rows;
