@@ -58,25 +58,28 @@ host_unmap g o = Remove (host_space g) (host_page g) o
 abbrev pub guest_map : ℕ → Order → ℕ → Perm → Change
 guest_map page o g perm = Insert (record { space = 0; first = page; order = o; frame = g; perm = perm })
 
--- The first refusal that holds, for each of the commands.
+-- The first refusal that holds of a map at the host.
 unfoldable pub gmap_rule : ℕ → Order → Perm → Host → Option NestRefusal
 gmap_rule gaddr o perm host =
     refused_if (is_beyond gaddr) refused.BadAddress
     (refused_if (not (is_aligned o gaddr)) refused.Misaligned
     (map_rule (host_space (gaddr / 4096)) (host_page (gaddr / 4096)) o (host_map (gaddr / 4096) o perm host) host.stage))
 
+-- The first refusal that holds of an unmap at the host.
 unfoldable pub gunmap_rule : ℕ → Order → Host → Option NestRefusal
 gunmap_rule gaddr o host =
     refused_if (is_beyond gaddr) refused.BadAddress
     (refused_if (not (is_aligned o gaddr)) refused.Misaligned
     (unmap_rule (host_space (gaddr / 4096)) (host_page (gaddr / 4096)) o host.stage))
 
+-- The first refusal that holds of a map at the guest.
 unfoldable pub vmap_rule : ℕ → Order → ℕ → Perm → Guest → Option NestRefusal
 vmap_rule va o gaddr perm guest =
     refused_if (not (is_canonical mode.Sv39 va) || is_beyond gaddr) refused.BadAddress
     (refused_if (not (is_aligned o va) || not (is_aligned o gaddr)) refused.Misaligned
     (map_rule 0 (page_of mode.Sv39 va) o (Some (guest_map (page_of mode.Sv39 va) o (gaddr / 4096) perm)) guest.stage))
 
+-- The first refusal that holds of an unmap at the guest.
 unfoldable pub vunmap_rule : ℕ → Order → Guest → Option NestRefusal
 vunmap_rule va o guest =
     refused_if (not (is_canonical mode.Sv39 va)) refused.BadAddress

@@ -49,11 +49,11 @@ opening_guest base nodes = record { base = base; stage = opening_stage 1 nodes }
 abbrev pub opening_host : ℕ → ℕ → ℕ → Host
 opening_host frames nodes width = record { frames = frames; stage = opening_stage 4 nodes; cache = empty_cache width; hits = 0 }
 
--- The host's root of 16 KiB is four roots side by side, one for each of four spaces: guest page g is page
--- g mod 2^27 of space g / 2^27.
+-- The host's root of 16 KiB is four roots side by side, one for each of four spaces: guest page g is in space g / 2^27.
 abbrev pub host_space : ℕ → ℕ
 host_space g = g / 2 ^ 27
 
+-- The guest page's number in its space: g mod 2^27.
 abbrev pub host_page : ℕ → ℕ
 host_page g = g % 2 ^ 27
 
