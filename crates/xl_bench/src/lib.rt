@@ -2,8 +2,6 @@
 #![tactic(auto)]
 
 mod bench;
-#[cfg(test)]
-mod tests;
 
 pub use bench::run;
 pub use xl_course::Status;

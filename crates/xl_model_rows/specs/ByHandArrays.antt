@@ -142,8 +142,8 @@ a_hit_in_the_first_level_touches_it_alone_items =
     (Referenced 6 8192 kind.Load) ∷ []
 
 -- Two sets of one leaf each. Page 1 is in set 1, page 2 in set 0, page 3 in set 1. Pages 1 and 2 miss, then both
--- hit. Page 3 misses and takes the place of page 1. Page 1 misses, page 2 still hits. So 3 hits, 4 misses,
--- 4 walks of 3 loads, 4 fills. The addresses are 0 + 1000 + 0 + 1000 + 2000 + 0 + 1000 = 5000.
+-- hit. Page 3 misses and takes the place of page 1; page 2 still hits. So 3 hits, 3 misses, 3 walks of 3 loads,
+-- 3 fills. The addresses are 0 + 1000 + 0 + 1000 + 2000 + 1000 = 5000.
 abbrev pub two_sets_rows : List Row
 two_sets_rows = (record plain_row { tlb = (record { level = 1; sets = 2; width = 1; k4 = true; m2 = false; g1 = false }) ∷ [] }) ∷ []
 
@@ -158,8 +158,7 @@ two_sets_items =
     (Referenced 3 4096 kind.Load) ∷
     (Referenced 4 8192 kind.Load) ∷
     (Referenced 5 12288 kind.Load) ∷
-    (Referenced 6 4096 kind.Load) ∷
-    (Referenced 7 8192 kind.Load) ∷ []
+    (Referenced 6 8192 kind.Load) ∷ []
 
 -- The set of a 2 MiB leaf is (page / 512) mod 2. Two sets of one leaf, 4 KiB and 2 MiB. The leaf at page 512 is
 -- block 1, in set 1; the one at page 1024 is block 2, in set 0; page 1 is in set 1. Page 513 misses and fills

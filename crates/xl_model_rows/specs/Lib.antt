@@ -13,3 +13,4 @@ pub mod ByHandRanges
 pub mod ByHandChains
 pub mod ByHandWays
 pub mod ByHandCommands
+pub mod ByHandDetails

@@ -45,6 +45,10 @@ perm_rw_u = record { r = true; w = true; x = false; u = true; legal = refl }
 abbrev pub perm_rwxu : Perm
 perm_rwxu = record { r = true; w = true; x = true; u = true; legal = refl }
 
+-- Read, write and execute, for the supervisor alone.
+abbrev pub perm_rwx_ : Perm
+perm_rwx_ = record { r = true; w = true; x = true; u = false; legal = refl }
+
 -- The rows alone are asked for.
 abbrev pub rows_alone : Flags
 rows_alone = record { answers = false; images = false }

@@ -44,7 +44,7 @@ pub fn a_hit_in_the_first_level_touches_it_alone()
 /// Two leaves in different sets, and two that fight for one set.
 #[tactic(auto, unfolding(xl_model::specs::Computing::computing))]
 pub fn two_sets()
-    ensures { report rows_alone two_sets_rows two_sets_items ≡ codes "a accesses=7 ok=7 unmapped=0 denied=0 notcanonical=0 accepted=3 refused=0,0,0,0,0,0,0,0,0 walks=4 reads=12 wchits=0 fills=4 kicks=0 undone=0 migrated=0 growths=0 fences=0 invalidated=0 pasum=0000000000005000 tlb=3/4\n" }
+    ensures { report rows_alone two_sets_rows two_sets_items ≡ codes "a accesses=6 ok=6 unmapped=0 denied=0 notcanonical=0 accepted=3 refused=0,0,0,0,0,0,0,0,0 walks=3 reads=9 wchits=0 fills=3 kicks=0 undone=0 migrated=0 growths=0 fences=0 invalidated=0 pasum=0000000000005000 tlb=3/3\n" }
 {}
 
 /// The set of a leaf is by its number among the blocks of its size.

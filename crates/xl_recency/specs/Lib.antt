@@ -1,4 +1,3 @@
 pub mod Lists
 pub mod Widths
 pub mod Stamps
-pub mod SetLists

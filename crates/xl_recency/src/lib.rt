@@ -1,11 +1,10 @@
 //! Recency lists (LRU): items with the newest first, of a width that is known when the program is
-//! compiled (`Ways`) or when it runs (`Cache`), and in sets (`Sets`, `SetAssociative`).
+//! compiled (`Ways`) or when it runs (`Cache`), and in sets (`Sets`).
 //!
 //! `Ways` keeps its items in order in an array, and moves them. `stamped::Ways` leaves each item in
 //! its place and stamps it. Contracts see either as the list of its items, newest first.
 #![tactic(auto)]
 
-mod associative;
 mod cache;
 mod item;
 mod kernel;
@@ -13,7 +12,6 @@ mod sets;
 pub mod stamped;
 mod ways;
 
-pub use associative::SetAssociative;
 pub use cache::Cache;
 pub use item::{BLANK, Item};
 pub use sets::Sets;

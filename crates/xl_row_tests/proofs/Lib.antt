@@ -1,2 +1,0 @@
-mod NoRowLemmas
-mod TableLemmas

@@ -1,0 +1,18 @@
+use Rattle.xl_tlb.proofs.TlbLemmas.{fill_none, filled_first}
+use Rattle.std.proofs.Common.{sym, ◌∙◌}
+use Rattle.xl_tlb.proofs.levels.fill_second.Goals as goal
+
+pub returns-then-count_behind-eq0 : goal.returns-then-count_behind-eq0
+returns-then-count_behind-eq0 g c =
+    fill_none c.args.sought c.args.word c.args.arrays.now (sym c.count_behind.ensures ∙ c.if-count_behind-eq0.true)
+
+pub returns-then-count_behind-eq0-2 : goal.returns-then-count_behind-eq0-2
+returns-then-count_behind-eq0-2 g c =
+    let rest = c.first_and_rest-second.result.1.now in
+    let others = fill_none c.args.sought c.args.word rest (sym c.count_behind-2.ensures ∙ c.if-count_behind-eq0-2.true) in
+    rw c.first_and_rest-second.ensures.parts.0 (filled_first c.args.sought c.args.word 0 c.first_and_rest-second.result.0.now c.fill_in.new.self rest rest c.set_of-set.ensures.takes c.fill_in.ensures.array others)
+
+pub returns : goal.returns
+returns g c =
+    let rest = c.first_and_rest-second.result.1.now in
+    rw c.first_and_rest-second.ensures.parts.0 (filled_first c.args.sought c.args.word c.fill_each.result c.first_and_rest-second.result.0.now c.fill_in.new.self rest c.fill_each.new.arrays c.set_of-set.ensures.takes c.fill_in.ensures.array (record { count = c.fill_each.ensures.fills; filled = c.fill_each.ensures.arrays }))

@@ -1,0 +1,11 @@
+complete -c xlate -f
+complete -c xlate -l config -r -F -d 'the rows, in TOML'
+complete -c xlate -l script -r -F -d 'mapping commands'
+complete -c xlate -l trace -r -F -d 'records as Lackey writes them'
+complete -c xlate -l make -x -d 'made records, 1 to 1048576'
+complete -c xlate -l answers -d 'a line for each access and command'
+complete -c xlate -l image -d 'the words of each radix table'
+complete -c xlate -l json -d 'the rows as one line of JSON'
+complete -c xlate -l proved -d 'by the proved program'
+complete -c xlate -s h -l help -d 'words, statuses and pages to read'
+complete -c xlate -l version -d 'which program it is'
