@@ -7,7 +7,7 @@ ghost use Rattle.xl_areas.specs.Bounds.{key_at, has_key as is_in, answer_at, cou
 use xl_model::Area;
 
 /// The area that answers from a key on, up to the next bound; or none does.
-#[derive(Clone, Copy, Debug, PartialEq, Eq)]
+#[derive(Clone, Copy)]
 pub(crate) struct Bound {
     pub key: u128,
     pub area: Option<Area>,

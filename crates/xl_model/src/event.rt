@@ -5,7 +5,7 @@ use crate::leaf::Reply;
 use crate::perm::Perm;
 
 /// What a fence reaches, by address (the four scopes of SFENCE.VMA, RISC-V Privileged manual).
-#[derive(Clone, Copy, Debug, PartialEq, Eq)]
+#[derive(Clone, Copy)]
 pub enum Scope {
     All,
     Space { space: u16 },
@@ -14,7 +14,7 @@ pub enum Scope {
 }
 
 /// What a fence reaches, by page.
-#[derive(Clone, Copy, Debug, PartialEq, Eq)]
+#[derive(Clone, Copy)]
 pub enum Reach {
     All,
     Space { space: u16 },
@@ -23,7 +23,7 @@ pub enum Reach {
 }
 
 /// One step of a row: an access of the current space, or a command of one leaf.
-#[derive(Clone, Copy, Debug, PartialEq, Eq)]
+#[derive(Clone, Copy)]
 pub enum Event {
     Access {
         va: u64,

@@ -13,7 +13,7 @@ pub enum Purge {
 }
 
 /// A TLB array: its level from 1, its sets, the ways of each set, and the orders that it holds.
-#[derive(Clone, Copy, Debug, Default, PartialEq, Eq)]
+#[derive(Clone, Copy, Default)]
 pub struct TlbSpec {
     pub level: u8,
     pub sets: u32,
@@ -24,7 +24,7 @@ pub struct TlbSpec {
 }
 
 /// A table kind with its parameters.
-#[derive(Clone, Copy, Debug, PartialEq, Eq)]
+#[derive(Clone, Copy)]
 pub enum Table {
     /// `caches` are the widths of the walk caches, node level 0 first; those after the first
     /// `levels - 1` are 0.
@@ -59,7 +59,7 @@ pub enum Table {
 }
 
 /// A row of the configuration: one translation design.
-#[derive(Debug, Drop)]
+#[derive(Drop)]
 pub struct Row {
     pub name: ArrayString<16>,
     pub mode: Mode,
@@ -73,7 +73,7 @@ pub struct Row {
 /// The counts of a row, each modulo 2^64. `refused` has refusals 1 to 9 in order; `hits` and
 /// `misses` have one place per TLB array, and are 0 from `arrays` on, which is their number. Counts that rise
 /// together don't stand side by side: LLVM would take both as one vector, at twice the instructions.
-#[derive(Clone, Copy, Debug, Default, PartialEq, Eq)]
+#[derive(Clone, Copy, Default)]
 pub struct Counts {
     pub accesses: u64,
     pub unmapped: u64,

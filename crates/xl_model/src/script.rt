@@ -7,7 +7,7 @@ use crate::perm::Perm;
 /// An area whose pages are mapped on demand: an access to one of them that no leaf covers is followed
 /// by a map of a leaf of `order` with `perm`. Its pages are the `pages` pages of 4 KiB from `page` on,
 /// numbered by address / 4096.
-#[derive(Clone, Copy, Debug, PartialEq, Eq)]
+#[derive(Clone, Copy)]
 pub struct Area {
     pub space: u16,
     pub page: u64,
@@ -18,7 +18,7 @@ pub struct Area {
 
 /// A line of a script. Where it has `n`, it stands for `n` events, whose blocks follow one another from
 /// the address on.
-#[derive(Clone, Copy, Debug, PartialEq, Eq)]
+#[derive(Clone, Copy)]
 pub enum Command {
     Map {
         space: u16,
@@ -65,7 +65,7 @@ pub enum Command {
 }
 
 /// What a row is served: an event of a command, an area, or an access with the number of its record.
-#[derive(Clone, Copy, Debug, PartialEq, Eq)]
+#[derive(Clone, Copy)]
 pub enum Item {
     Command(Event),
     Declared(Area),

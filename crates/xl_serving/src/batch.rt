@@ -18,7 +18,7 @@ use xl_lackey::{Access, Batch};
 use xl_model::Event;
 
 /// The event of a command that waits among accesses.
-#[derive(Clone, Copy, Debug, PartialEq, Eq)]
+#[derive(Clone, Copy)]
 pub struct WaitingEvent {
     /// How many of the accesses come before it, and behind the event before it.
     pub gap: usize,
