@@ -200,9 +200,9 @@ refused-shape (Some leaf) leaves (Cuckoo rules ways) (RangeCache c) caps fresh =
 refused-shape (Some leaf) leaves (Cuckoo rules ways) NoCaches caps fresh = (tt, tt)
 
 -- a state with all that it keeps
-record Kept (row : Row) (s : RowState) : Type 0 where
-  mapping : IsMapping row s.table.leaves
-  arrays : ArraysFresh s.arrays s.table.leaves
+pub record Kept (row : Row) (s : RowState) : Type 0 where
+  pub mapping : IsMapping row s.table.leaves
+  pub arrays : ArraysFresh s.arrays s.table.leaves
   caches : CachesFresh s.table.shape s.table.caches s.table.leaves
   full : ShapeFull s.table.shape s.table.caches s.table.leaves
 
@@ -313,7 +313,7 @@ ruled-kept : (row : Row) (e : Event) (s : RowState) (q : Option Refusal) → rul
 ruled-kept row e s (Some r) ruled k = record { mapping = k.mapping; arrays = k.arrays; caches = k.caches; full = k.full }
 ruled-kept row e s None ruled k = served-kept row e s ruled k
 
-event-kept : (row : Row) → Keeps row (Kept row)
+pub event-kept : (row : Row) → Keeps row (Kept row)
 unfolding after_event
 event-kept row e s k = ruled-kept row e s (rule row s.table.leaves e) refl k
 
@@ -356,7 +356,7 @@ levels-positive mode.Sv39 = omega arith
 levels-positive mode.Sv48 = omega arith
 levels-positive mode.Sv57 = omega arith
 
-opening-kept : (row : Row) → Kept row (opening row)
+pub opening-kept : (row : Row) → Kept row (opening row)
 unfolding opening
 opening-kept row =
     let both = opening-table (levels_of row.mode) row.spaces row.table (levels-positive row.mode) in

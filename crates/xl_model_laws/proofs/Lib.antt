@@ -6,7 +6,7 @@ mod SlotLemmas
 mod WayKeepLemmas
 mod WayLemmas
 mod CapLemmas
-mod FreshLemmas
+pub mod FreshLemmas
 mod SentenceLemmas
 mod SceneLawLemmas
 mod LimitLawLemmas

@@ -1,0 +1,2 @@
+mod CurveArrayLemmas
+mod CurveLawLemmas
