@@ -1,5 +1,5 @@
 -- What the steps of a run say of its account.
-use Rattle.std.proofs.Common.{◌≡◌, ℕ, ◌+◌, ◌-◌, ◌≤◌, Bool, true, false, List, [], ◌∷◌, ◌++◌, length, refl, ap, sym, ◌∙◌, subst, inr, arith, length-append, append-nil}
+use Rattle.std.proofs.Common.{◌≡◌, ℕ, ◌+◌, ◌-◌, ◌≤◌, Bool, true, false, List, ◌++◌, length, refl, ap, sym, ◌∙◌, subst, inr, arith, length-append, append-nil}
 use Rattle.std.specs.Prelude.{Option, None, Some, Result, Ok, Err, OnOk}
 use Rattle.xl_model.specs.declared.fault.InputFault.{InputFault}
 use Rattle.xl_outside.specs.Sinks.{Outside, GoesOn, with_more, WroteFront, SinkAfter}
@@ -9,7 +9,7 @@ use Rattle.xl_course.specs.declared.stop.Stop.TheVariants as why
 use Rattle.xl_course.specs.Meanings.{Meaning, states_after, tellings, joined, told_by}
 use Rattle.xl_course.specs.Courses.{Course, ended, before}
 use Rattle.xl_course.specs.Serving.{Reached, Serves}
-use Rattle.xl_course.specs.Stops.{is_all_put, StopsSource, StopsServing}
+use Rattle.xl_course.specs.Stops.{is_all_put, StopsSource}
 use Rattle.xl_course.specs.Accounts.{Account, account, text_of, last_where, Ends, EndAfter}
 use Rattle.xl_course.proofs.MeaningLemmas.{tellings-append, told-append}
 

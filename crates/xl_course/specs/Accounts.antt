@@ -2,7 +2,6 @@
 use Rattle.std.specs.Prelude.{◌≡◌, ℕ, ◌≤◌, ◌⊎◌, Bool, true, false, List, [], ◌++◌, length, Option, None, Some, IsSome, option_map, Result, Ok, Err, OnOk}
 use Rattle.xl_model.specs.declared.fault.InputFault.{InputFault}
 use Rattle.xl_model.specs.declared.fault.InputFault.TheVariants as fault
-use Rattle.xl_outside.specs.Folders.{Files}
 use Rattle.xl_outside.specs.Sinks.{Outside, with_more, WroteFront, SinkAfter, FlushAfter, SentAfter}
 use Rattle.xl_course.specs.declared.stop.Stop.{Stop}
 use Rattle.xl_course.specs.declared.stop.Stop.TheVariants as why

@@ -1,8 +1,6 @@
 use Rattle.std.proofs.Common.{subst}
-use Rattle.std.specs.Prelude.{Result, Err, None, true}
+use Rattle.std.specs.Prelude.{Err, None}
 use Rattle.xl_outside.proofs.SinkLemmas.{goes_then}
-use Rattle.xl_course.specs.declared.stop.Stop.{Stop}
-use Rattle.xl_course.specs.Meanings.{states_after}
 use Rattle.xl_course.specs.Courses.{course, ended}
 use Rattle.xl_course.specs.Serving.{Reached, Serves}
 use Rattle.xl_course.specs.Accounts.{EndAfter}

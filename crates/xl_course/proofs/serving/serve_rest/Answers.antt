@@ -1,6 +1,6 @@
 use Rattle.std.specs.Prelude.{eqb, not}
-use Rattle.std.proofs.Common.{Bool, sym, true, false, ◌≡◌, ◌∙◌, ap, subst}
-use Rattle.std.specs.Prelude.{Result, Ok, Err, Option, Some, None}
+use Rattle.std.proofs.Common.{Bool, sym, true, false, ◌∙◌, ap, subst}
+use Rattle.std.specs.Prelude.{Result, Ok, Option}
 use Rattle.xl_outside.specs.Sinks.{GoesOn}
 use Rattle.xl_outside.proofs.SinkLemmas.{goes_same, goes_then}
 use Rattle.xl_outside.proofs.FolderLemmas.{folder_then, folder_same}

@@ -1,10 +1,9 @@
 use Rattle.std.specs.Prelude.{eqb, not}
-use Rattle.std.proofs.Common.{true, ◌+◌, ◌≤◌, List, length, arith, Ok, Err}
+use Rattle.std.proofs.Common.{true, ◌+◌, ◌≤◌, length, arith, Ok, Err}
 use Rattle.std.specs.Prelude.{drop, None}
 use Rattle.std.proofs.lemmas.Bool.Decides.{nat_tests}
 use Rattle.xl_outside.proofs.SinkLemmas.{goes_same, goes_then}
 use Rattle.xl_outside.proofs.FolderLemmas.{folder_then, folder_same}
-use Rattle.xl_course.specs.declared.form.Step.{Step}
 use Rattle.xl_course.specs.Courses.{commands_of, course, course_by, ran_all, ended}
 use Rattle.xl_course.specs.Serving.{ServesPart}
 use Rattle.xl_course.proofs.ToldLemmas.{told_all, told_then, is_err_by}
