@@ -16,7 +16,7 @@ pub struct HartSpec {
 
 /// One step of harts: another one becomes the current one, one takes the oldest request of its queue, or
 /// the current one is served an event.
-#[derive(Clone, Copy, Debug, PartialEq, Eq)]
+#[derive(Clone, Copy)]
 pub enum HartEvent {
     Hart { hart: u16 },
     Take { hart: u16 },

@@ -2,5 +2,5 @@
 //! definitions count after some events.
 #![tactic(auto)]
 
-pub mod by_hand;
+pub mod counted;
 pub mod rows;

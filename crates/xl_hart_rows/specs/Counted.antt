@@ -1,4 +1,4 @@
--- Events of harts with what is counted, each row worked out by hand.
+-- Events of harts with what is counted, each row by another program.
 use Rattle.std.specs.Prelude.{List, [], ◌∷◌}
 use Rattle.xl_model.specs.declared.address.Kind.TheVariants as kind
 use Rattle.xl_model.specs.declared.address.Order.TheVariants as order
