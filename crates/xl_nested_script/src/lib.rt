@@ -1,0 +1,13 @@
+//! The script of a guest over a host: its head, which has the sizes, and its commands.
+#![tactic(auto)]
+
+mod command;
+mod head;
+mod lines;
+mod reader;
+mod reason;
+mod script;
+mod words;
+
+pub use command::NestCommand;
+pub use script::{NestScript, parse_nest};
