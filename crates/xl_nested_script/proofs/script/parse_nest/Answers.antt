@@ -6,6 +6,8 @@ use Rattle.xl_nested_script.proofs.ReadyLemmas.{script-keeps}
 use Rattle.xl_nested_script.proofs.script.parse_nest.Goals as goal
 
 pub invariant_of-result : goal.invariant_of-result
-invariant_of-result c =
-    (c.in-Some.ensures.limits, script-keeps c.args.text.now c.read_text.new.form c.in_ok-commands.commands.items
-    (ap (λ (head : Option Nest). text_read nest_said head c.args.text.now) (sym c.new-reader.ensures) ∙ c.in_ok-commands.ensures.reading))
+invariant_of-result c = (
+  c.in-Some.ensures.limits,
+  script-keeps c.args.text.now c.read_text.new.form c.in_ok-commands.commands.items
+      (ap (λ (head : Option Nest). text_read nest_said head c.args.text.now) (sym c.new-reader.ensures) ∙ c.in_ok-commands.ensures.reading),
+)
