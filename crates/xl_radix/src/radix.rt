@@ -121,6 +121,30 @@ impl<const LEVELS: usize> Radix<LEVELS> {
         Ok(())
     }
 
+    /// Whether there is room for a leaf that no leaf meets, so that `add` would add it.
+    pub fn has_room(&self, leaf: Leaf) -> bool
+        requires valid { IsLeafFor (shape_of LEVELS self.now) leaf }
+        requires free { meets_any leaf.space leaf.first leaf.order self.now.leaves ≡ false }
+        ensures { result ≡ has_room (Insert leaf) self.now.leaves (shape_of LEVELS self.now) }
+    {
+        let end = self.store.end_for(&leaf);
+        let lacking = end.level - leaf.order.level();
+        lacking <= self.free
+    }
+
+    /// Whether there is room for a leaf that is there at another block, which no leaf meets, so that
+    /// `shift` would move it.
+    pub fn has_room_to(&self, space: u16, first: u64, to: u64, order: Order) -> bool
+        requires named { IsNamed space first order self.now.leaves }
+        requires block { IsBlock (shape_of LEVELS self.now) space to order }
+        requires free { meets_any space to order self.now.leaves ≡ false }
+        ensures { result ≡
+            has_room (Relocate space first to order) self.now.leaves (shape_of LEVELS self.now) }
+    {
+        let moved = self.moved(space, first, to, order);
+        self.has_room(moved)
+    }
+
     /// Takes out a leaf that is there. The nodes that no leaf needs then are given back.
     pub fn take_out(&mut self, space: u16, first: u64, order: Order)
         requires { IsNamed space first order self.old.leaves }

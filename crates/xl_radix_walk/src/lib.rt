@@ -2,12 +2,14 @@
 #![tactic(auto)]
 
 mod caches;
+mod find;
 mod quick;
 mod row;
 mod step;
 mod walk_caches;
 mod walker;
 
+pub use find::find_leaf;
 pub use row::RadixRow;
 pub use walker::walk;
 pub use xl_radix::WalkEnd;

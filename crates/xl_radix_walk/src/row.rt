@@ -7,6 +7,7 @@ ghost use Rattle.xl_model.specs.Changes.{Insert, Remove, Protect, Relocate, IsNa
 ghost use Rattle.xl_model.specs.Mapping.{leaf_at_page, meets_any};
 ghost use Rattle.xl_model.specs.Nodes.{up, number_of};
 ghost use Rattle.xl_model.specs.Base.{plus};
+ghost use Rattle.xl_model.specs.Room.{has_room};
 ghost use Rattle.xl_model.specs.LeafWords.{small_leaf};
 ghost use Rattle.xl_model.specs.Rows.{is_width};
 ghost use Rattle.xl_model.specs.Placing.{no_moves};
@@ -53,7 +54,7 @@ impl<const LEVELS: usize> Model for RadixRow<LEVELS> {
 
 /// The root of a space.
 #[inline(always)]
-fn root(levels: usize, space: u16) -> Start
+pub(crate) fn root(levels: usize, space: u16) -> Start
     requires { 0 < levels }
     ensures { result ≡ start_or levels space None }
 {
@@ -64,7 +65,7 @@ fn root(levels: usize, space: u16) -> Start
 }
 
 /// Walks a table's own words from a node of the page.
-fn descend<const LEVELS: usize>(
+pub(crate) fn descend<const LEVELS: usize>(
     radix: &mut Radix<LEVELS>,
     from: Start,
     space: u16,
@@ -92,7 +93,7 @@ fn descend<const LEVELS: usize>(
 
 /// The leaf that a walk ended at.
 #[inline(always)]
-fn found_leaf(space: u16, page: u64, end: WalkEnd) -> Option<Leaf>
+pub(crate) fn found_leaf(space: u16, page: u64, end: WalkEnd) -> Option<Leaf>
     requires level { end_of end < 5 }
     requires page { page < 2 ^ 45 }
     ensures { result ≡ leaf_told space page end }
@@ -112,7 +113,7 @@ fn found_leaf(space: u16, page: u64, end: WalkEnd) -> Option<Leaf>
 /// where that doesn't end at a leaf of 4 KiB, which allows an access of the kind, if one is given; then nothing
 /// is counted. The nodes entered come first in `path`.
 #[inline(always)]
-fn straight<const LEVELS: usize>(
+pub(crate) fn straight<const LEVELS: usize>(
     radix: &mut Radix<LEVELS>,
     from: Start,
     _space: u16,
@@ -458,6 +459,29 @@ impl<const LEVELS: usize> RadixRow<LEVELS> {
         ensures { result ≡ slice_index self.now.radix.words (node * 512 + index) }
     {
         self.radix.word(node, index)
+    }
+
+    /// Whether there is room for a leaf that no leaf meets, so that `insert` would add it.
+    pub fn has_room(&self, leaf: Leaf) -> bool
+        requires valid { IsLeafFor (row_table LEVELS self.now).shape leaf }
+        requires free { meets_any leaf.space leaf.first leaf.order
+            (row_table LEVELS self.now).leaves ≡ false }
+        ensures { result ≡ has_room (Insert leaf) (row_table LEVELS self.now).leaves
+            (row_table LEVELS self.now).shape }
+    {
+        self.radix.has_room(leaf)
+    }
+
+    /// Whether there is room for a leaf that is there at another block, which no leaf meets, so that
+    /// `relocate` would move it.
+    pub fn has_room_to(&self, space: u16, first: u64, to: u64, order: Order) -> bool
+        requires named { IsNamed space first order (row_table LEVELS self.now).leaves }
+        requires block { IsBlock (row_table LEVELS self.now).shape space to order }
+        requires free { meets_any space to order (row_table LEVELS self.now).leaves ≡ false }
+        ensures { result ≡ has_room (Relocate space first to order)
+            (row_table LEVELS self.now).leaves (row_table LEVELS self.now).shape }
+    {
+        self.radix.has_room_to(space, first, to, order)
     }
 
     /// The table.
