@@ -1,0 +1,186 @@
+-- An access of harts, against the definitions.
+use Rattle.std.proofs.Common.{◌≡◌, refl, sym, ◌∙◌, ap, subst, ℕ, ◌+◌, ◌-◌, ◌%◌, ◌^◌, ◌<◌, ◌≤◌, Bool, true, false, List, ◌++◌, set, Option, None, Some, IfSome, arith}
+use Rattle.std.proofs.lemmas.Bool.Decides.{nat_tests}
+use Rattle.xl_model.specs.declared.address.Kind.{Kind}
+use Rattle.xl_model.specs.declared.address.Mode.TheVariants as mode
+use Rattle.xl_model.specs.declared.event.Event.TheVariants as event
+use Rattle.xl_hart_model.specs.declared.hart.HartCounts.{HartCounts}
+use Rattle.xl_hart_model.specs.declared.hart.HartSpec.{HartSpec}
+use Rattle.xl_model.specs.declared.leaf.Leaf.{Leaf}
+use Rattle.xl_model.specs.declared.leaf.Reply.{Reply}
+use Rattle.xl_model.specs.declared.leaf.Reply.TheVariants as reply
+use Rattle.xl_model.specs.declared.work.Walk.{Walk}
+use Rattle.xl_model.specs.Addresses.{is_canonical, page_of, pages_of}
+use Rattle.xl_model.specs.Base.{plus}
+use Rattle.xl_hart_model.specs.Tally.{count_hit, count_miss}
+use Rattle.xl_hart_model.specs.Harts.{Hart, HartsState, shared_row, current_hart, hart_at, hart_reply, hart_replied, hart_hit, array_walked, accessed_by, hart_accessed, hart_rule, hart_change, hart_refusal, hart_served, after_hart_event}
+use Rattle.xl_model.specs.Mapping.{covers, leaf_at_page, reply_by}
+use Rattle.xl_model.specs.Rules.{rule, change_of}
+use Rattle.xl_model.specs.Structures.{TableState, IsWalk, walk_answer, table_walked}
+use Rattle.xl_model.specs.Tlb.{TlbArray, array_hit, array_touched, first_found}
+use Rattle.xl_hart_model.specs.Requests.{held_leaves}
+use Rattle.xl_model_lemmas.specs.Pools.{IsPoolOf}
+use Rattle.xl_tlb.specs.Answers.{IsPageWord}
+use Rattle.xl_hart_laws.proofs.KeptLemmas.{accessed-kept}
+use Rattle.xl_model.specs.Walks.{walked}
+use Rattle.xl_model_lemmas.specs.Mappings.{IsLeafOf, IsMapping}
+use Rattle.xl_hart_laws.proofs.ArrayLemmas.{hit-is}
+use Rattle.xl_model_lemmas.proofs.MemberLemmas.{find-In, find-passes}
+use Rattle.xl_tlb.specs.Arrays.{IsFit}
+use Rattle.xl_hart_laws.specs.Kept.{IsHartSpec, IsKept}
+use Rattle.xl_hart_laws.proofs.HistoryLemmas.{older-mapping}
+use Rattle.xl_harts.specs.Looks.{IsReached, IsSeen, IsAccess, IsWalked, hart_after, hart_filled, table_looked}
+use Rattle.xl_harts.specs.Views.{IsServed, IsHarts, after_own}
+use Rattle.xl_harts.proofs.RefusalLemmas.{leaf-fit}
+
+-- a leaf of some mapping that covers the page
+pub reached : (spec : HartSpec) (space page : ℕ) (x : Leaf) → IsHartSpec spec → IsLeafOf (shared_row spec) x → covers space page x ≡ true → IsReached page x
+reached spec space page x is valid t =
+    let f : x.first ≤ page = grind (arith, nat_tests) in
+    let g : page < x.first + pages_of x.order = grind (arith, nat_tests) in
+    let a = valid.frames_in in
+    let b = is.few_frames in
+    record { from = f; small = omega arith }
+
+-- what a hart's array finds
+pub seen-valid : (spec : HartSpec) (table : TableState) (h : Hart) (page : ℕ) (x : Leaf) → IsServed spec table h → array_hit h.array h.space page ≡ Some x → IsReached page x
+seen-valid spec table h page x served e =
+    let hit = hit-is h.array h.space page x e in
+    reached spec h.space page x served.spec_is (served.valid x hit.held) hit.covering
+
+-- what a walk finds
+pub found-valid : (spec : HartSpec) (leaves : List Leaf) (space page : ℕ) (x : Leaf) → IsHartSpec spec → IsMapping (shared_row spec) leaves → leaf_at_page space page leaves ≡ Some x
+    → IsReached page x × IsFit x
+unfolding leaf_at_page
+found-valid spec leaves space page x is m e =
+    let valid = m.valid x (find-In (covers space page) x leaves e) in
+    (reached spec space page x is valid (find-passes (covers space page) x leaves e), leaf-fit spec x is valid)
+
+pub walk-leaf : (w : Walk) (space page : ℕ) (t new : TableState) → IsWalk space page t w new → w.leaf ≡ leaf_at_page space page t.leaves
+unfolding walk_answer
+walk-leaf w space page t new is = ap (λ (v : Walk). v.leaf) is.answer
+
+pub walk-after : (w : Walk) (space page : ℕ) (t new : TableState) → IsWalk space page t w new → new.loads ≡ plus t.loads (walked t.shape t.caches t.leaves space page).reads
+unfolding table_walked
+walk-after w space page t new is = ap (λ (v : TableState). v.loads) is.after
+
+-- the loads of a walk are what the table's loads rose by
+pub loads-rose : (c before after reads loads : ℕ) → before < 2 ^ 64 → after ≡ plus before reads → loads ≡ (after + (2 ^ 64 - before)) % 2 ^ 64 → plus c loads ≡ plus c reads
+loads-rose c before after reads loads small a l = omega arith
+
+pub miss-counted : (loads reads : ℕ) (c : HartCounts) → plus c.reads loads ≡ plus c.reads reads → count_miss loads c ≡ count_miss reads c
+unfolding count_miss
+miss-counted loads reads c e = rw e refl
+
+-- the reply, by what was found
+pub reply-refused : (h : Hart) (leaves : List Leaf) (va : ℕ) (kind : Kind) → is_canonical mode.Sv39 va ≡ false → reply.NotCanonical ≡ hart_reply h leaves va kind
+unfolding hart_reply
+reply-refused h leaves va kind e = rw e refl
+
+pub reply-found : (h : Hart) (leaves : List Leaf) (va : ℕ) (kind : Kind) (hit : Option Leaf) → is_canonical mode.Sv39 va ≡ true → array_hit h.array h.space (page_of mode.Sv39 va) ≡ hit
+    → reply_by (first_found hit (leaf_at_page h.space (page_of mode.Sv39 va) leaves)) (page_of mode.Sv39 va) kind ≡ hart_reply h leaves va kind
+unfolding hart_reply
+reply-found h leaves va kind hit e f = rw (e, f) refl
+
+-- an access, by its three ways
+pub access-refused : (va : ℕ) (kind : Kind) (t : TableState) (old new : Hart) → is_canonical mode.Sv39 va ≡ false → new ≡ hart_replied reply.NotCanonical va old
+    → IsAccess va kind reply.NotCanonical t t old new
+access-refused va kind t old new e n = record { reply_is = reply-refused old t.leaves va kind e; hart_is = rw e n; table_is = rw e refl }
+
+pub access-seen : (va page : ℕ) (kind : Kind) (r : Reply) (x : Leaf) (t : TableState) (old new : Hart) → page ≡ page_of mode.Sv39 va → is_canonical mode.Sv39 va ≡ true
+    → array_hit old.array old.space page ≡ Some x → r ≡ reply_by (Some x) page kind → new ≡ hart_replied r va (hart_hit x page old) → IsAccess va kind r t t old new
+access-seen va page kind r x t old new p e f g n =
+    let k : array_hit old.array old.space (page_of mode.Sv39 va) ≡ Some x = rw p at f in
+    record {
+      reply_is = rw p at g ∙ reply-found old t.leaves va kind (Some x) e k;
+      hart_is = rw (e, k) (rw p at n);
+      table_is = rw (e, k) refl;
+    }
+
+pub access-walked : (va page : ℕ) (kind : Kind) (r : Reply) (t after : TableState) (old new : Hart) → page ≡ page_of mode.Sv39 va → is_canonical mode.Sv39 va ≡ true
+    → array_hit old.array old.space page ≡ None → IsWalked va page kind r t after old new → IsAccess va kind r t after old new
+access-walked va page kind r t after old new p e f w =
+    let k : array_hit old.array old.space (page_of mode.Sv39 va) ≡ None = rw p at f in
+    record {
+      reply_is = rw p at w.reply_is ∙ reply-found old t.leaves va kind None e k;
+      hart_is = rw (e, k) (rw p at w.hart_is);
+      table_is = rw (e, k) (rw p at w.table_is);
+    }
+
+-- the state after an access
+accessed-is : (canonical : Bool) (hit : Option Leaf) (page : ℕ) (r : Reply) (va : ℕ) (s : HartsState)
+    → accessed_by canonical hit page r va s ≡ record s { table = table_looked canonical hit (current_hart s).space page s.table; harts = set s.harts s.current (hart_after canonical hit page r va s.table (current_hart s)) }
+accessed-is false hit page r va s = refl
+accessed-is true (Some x) page r va s = refl
+accessed-is true None page r va s = refl
+
+pub access-after : (s : HartsState) (va : ℕ) (kind : Kind) (r : Reply) (t : TableState) (new : Hart) → IsAccess va kind r s.table t (current_hart s) new
+    → record s { table = t; harts = set s.harts s.current new } ≡ hart_accessed va kind s
+unfolding hart_accessed
+access-after s va kind r t new is =
+    ap (λ (u : TableState). let v : HartsState = record s { table = u; harts = set s.harts s.current new } in v) is.table_is
+    ∙ ap (λ (h : Hart). let v : HartsState = record s { table = table_looked (is_canonical mode.Sv39 va) (array_hit (current_hart s).array (current_hart s).space (page_of mode.Sv39 va)) (current_hart s).space (page_of mode.Sv39 va) s.table; harts = set s.harts s.current h } in v) is.hart_is
+    ∙ ap (λ (q : Reply). let v : HartsState = record s { table = table_looked (is_canonical mode.Sv39 va) (array_hit (current_hart s).array (current_hart s).space (page_of mode.Sv39 va)) (current_hart s).space (page_of mode.Sv39 va) s.table; harts = set s.harts s.current (hart_after (is_canonical mode.Sv39 va) (array_hit (current_hart s).array (current_hart s).space (page_of mode.Sv39 va)) (page_of mode.Sv39 va) q va s.table (current_hart s)) } in v) is.reply_is
+    ∙ sym (accessed-is (is_canonical mode.Sv39 va) (array_hit (current_hart s).array (current_hart s).space (page_of mode.Sv39 va)) (page_of mode.Sv39 va) (hart_reply (current_hart s) s.table.leaves va kind) va s)
+
+-- nothing refuses an access
+pub access-event : (s : HartsState) (va : ℕ) (kind : Kind) → after_own (event.Access va kind) s ≡ hart_accessed va kind s
+unfolding after_hart_event hart_refusal hart_rule rule hart_change change_of hart_served
+access-event s va kind = refl
+
+-- a hart that may be served
+pub hart-served : (s : HartsState) → IsKept s → (n : ℕ) → IsServed s.spec s.table (hart_at n s)
+hart-served s kept n = record {
+  spec_is = kept.spec_is;
+  table_is = kept.table_is;
+  mapping = older-mapping (shared_row s.spec) 0 s.requests s.table.leaves kept.history;
+  space_in = (kept.each n).space_in;
+  valid = λ x i. let old = (kept.each n).fresh x i in (older-mapping (shared_row s.spec) old.0 s.requests s.table.leaves kept.history).valid x old.2;
+}
+
+-- the leaves whose frames are kept stay at an access
+pub access-leaves : (canonical : Bool) (hit : Option Leaf) (space page : ℕ) (t : TableState) → (table_looked canonical hit space page t).leaves ≡ t.leaves
+unfolding table_walked
+access-leaves false hit space page t = refl
+access-leaves true (Some x) space page t = refl
+access-leaves true None space page t = refl
+
+-- a look that hits
+pub hit-is-seen : (page word : ℕ) (leaf : Leaf) (space : ℕ) (array next : TlbArray) (waiting : ℕ) (counts after : HartCounts) → array_hit array space page ≡ Some leaf → IsPageWord page word leaf
+    → next ≡ array_touched space page leaf array → after ≡ count_hit counts
+    → IsSeen page word (record { space = space; array = array; waiting = waiting; counts = counts }) (record { space = space; array = next; waiting = waiting; counts = after })
+hit-is-seen page word leaf space array next waiting counts after found says touched counted = record { leaf = leaf; found = found; says = says; after = rw (touched, counted) refl }
+
+pub found-fit : (spec : HartSpec) (leaves : List Leaf) (space page : ℕ) (found : Option Leaf) → IsHartSpec spec → IsMapping (shared_row spec) leaves → found ≡ leaf_at_page space page leaves → IfSome found IsFit
+found-fit spec leaves space page None is m e = tt
+found-fit spec leaves space page (Some x) is m e = (found-valid spec leaves space page x is m (sym e)).1
+
+pub found-reached : (spec : HartSpec) (leaves : List Leaf) (space page : ℕ) (found : Option Leaf) → IsHartSpec spec → IsMapping (shared_row spec) leaves → found ≡ leaf_at_page space page leaves → IfSome found (IsReached page)
+found-reached spec leaves space page None is m e = tt
+found-reached spec leaves space page (Some x) is m e = (found-valid spec leaves space page x is m (sym e)).0
+
+-- an access that was replied to by a walk, by what the walk found
+pub walked-by : (va page : ℕ) (kind : Kind) (r : Reply) (w : Walk) (t after : TableState) (old filled new : Hart) (loads : ℕ) → IsWalk old.space page t w after → t.loads < 2 ^ 64 → loads ≡ (after.loads + (2 ^ 64 - t.loads)) % 2 ^ 64
+    → filled ≡ hart_filled w.leaf loads old → r ≡ reply_by w.leaf page kind → new ≡ hart_replied r va filled → IsWalked va page kind r t after old new
+walked-by va page kind r w t after old filled new loads walks small is fill reply replied =
+    let leaf = walk-leaf w old.space page t after walks in
+    let rose = loads-rose old.counts.reads t.loads after.loads (walked t.shape t.caches t.leaves old.space page).reads loads small (walk-after w old.space page t after walks) is in
+    let counts = miss-counted loads (walked t.shape t.caches t.leaves old.space page).reads old.counts rose in
+    record {
+      reply_is = reply ∙ ap (λ (o : Option Leaf). reply_by o page kind) leaf;
+      hart_is = replied ∙ ap (λ (h : Hart). hart_replied r va h) (fill ∙ ap (λ (o : Option Leaf). hart_filled o loads old) leaf ∙ ap (λ (c : HartCounts). let h : Hart = record old { array = array_walked (leaf_at_page old.space page t.leaves) old.array; counts = c } in h) counts);
+      table_is = walks.after;
+    }
+
+-- harts after an access
+pub access-harts : (s : HartsState) (va : ℕ) (kind : Kind) (r : Reply) (t : TableState) (new : Hart) → IsAccess va kind r s.table t (current_hart s) new → (capacity : ℕ) (pool : List Bool) → IsHarts s capacity pool
+    → IsHarts (record s { table = t; harts = set s.harts s.current new }) capacity pool
+access-harts s va kind r t new is capacity pool kept =
+    let P : HartsState → Type 0 = λ v. IsKept v in
+    let leaves : t.leaves ≡ s.table.leaves = ap (λ (u : TableState). u.leaves) is.table_is ∙ access-leaves (is_canonical mode.Sv39 va) (array_hit (current_hart s).array (current_hart s).space (page_of mode.Sv39 va)) (current_hart s).space (page_of mode.Sv39 va) s.table in
+    let Q : List Leaf → Type 0 = λ xs. IsPoolOf s.spec.frames (xs ++ held_leaves s.requests) pool in
+    record {
+      kept = subst P (sym (access-after s va kind r t new is)) (accessed-kept s kept.kept va kind);
+      pool_is = subst Q (sym leaves) kept.pool_is;
+      room = kept.room;
+    }

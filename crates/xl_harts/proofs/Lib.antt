@@ -1,0 +1,7 @@
+mod QueueLemmas
+mod RefusalLemmas
+mod ChangeLemmas
+mod TakeLemmas
+mod AccessLemmas
+mod StepLemmas
+mod OpenLemmas

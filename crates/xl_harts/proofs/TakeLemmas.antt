@@ -1,0 +1,141 @@
+-- A request that a hart takes: what it was, and what comes free.
+use Rattle.std.proofs.Common.{◌≡◌, refl, sym, ◌∙◌, ap, subst, ℕ, zero, suc, ◌+◌, ◌-◌, ◌<◌, ◌≤◌, Bool, true, false, List, [], ◌∷◌, ◌++◌, length, take, get_or, set, nat_lt, Option, None, Some, IfSome, arith}
+use Rattle.std.proofs.lemmas.Bool.Decides.{nat_tests}
+use Rattle.xl_hart_model.specs.declared.hart.HartEvent.TheVariants as step
+use Rattle.xl_hart_model.specs.declared.hart.Request.{Request}
+use Rattle.xl_model.specs.declared.leaf.Leaf.{Leaf}
+use Rattle.xl_model.specs.Changes.{with_new, without_old}
+use Rattle.xl_hart_model.specs.Harts.{Hart, HartsState, shared_row, opening_hart, hart_at, kept_leaves, hart_refusal, oldest, hart_fenced, longest, request_taken, hart_served, after_hart_event}
+use Rattle.xl_hart_model.specs.Requests.{undone, older, with_held, held_leaves}
+use Rattle.xl_model_lemmas.specs.Mappings.{IsLeafOf}
+use Rattle.xl_model_lemmas.specs.Members.{In}
+use Rattle.xl_model_lemmas.specs.Pools.{IsPoolOf}
+use Rattle.xl_model_lemmas.proofs.InsertionLemmas.{In-with}
+use Rattle.xl_hart_laws.specs.Histories.{owners}
+use Rattle.xl_hart_laws.specs.Kept.{IsKept}
+use Rattle.xl_hart_laws.proofs.HistoryLemmas.{older-mapping, older-last}
+use Rattle.xl_hart_laws.proofs.OwnerLemmas.{owners-append, owners-oldest}
+use Rattle.xl_hart_laws.proofs.HartLemmas.{longest-less, longest-set}
+use Rattle.xl_hart_laws.proofs.CommandLemmas.{first-none, second-none, refused-true}
+use Rattle.xl_hart_laws.proofs.FramePoolLemmas.{pool-stays, pool-without}
+use Rattle.xl_hart_laws.proofs.KeptLemmas.{request-kept}
+use Rattle.xl_tlb.specs.Arrays.{IsFit}
+use Rattle.xl_harts.specs.Views.{IsHarts}
+use Rattle.xl_harts.proofs.RefusalLemmas.{leaf-fit}
+use Rattle.xl_harts.specs.Pools.{given_back, pool_after, LeafFits, Fits, nothing, last_of, settled_by, settled}
+
+-- a take that nothing refuses
+pub take-hart : (s : HartsState) (n : ℕ) → hart_refusal s (step.Take n) ≡ None → n < length s.harts
+unfolding hart_refusal
+take-hart s n ruled = let t : nat_lt n (length s.harts) ≡ true = refused-true _ _ (first-none _ _ ruled) in grind (arith, nat_tests)
+
+pub take-some : (s : HartsState) (n : ℕ) → hart_refusal s (step.Take n) ≡ None → 0 < (hart_at n s).waiting
+unfolding hart_refusal
+take-some s n ruled = let t : nat_lt 0 (hart_at n s).waiting ≡ true = refused-true _ _ (second-none _ _ ruled) in grind (arith, nat_tests)
+
+pub take-after : (s : HartsState) (n : ℕ) → hart_refusal s (step.Take n) ≡ None → after_hart_event (step.Take n) s ≡ request_taken n s
+unfolding after_hart_event hart_served
+take-after s n ruled = rw ruled refl
+
+-- the leaf before a request stood in a mapping
+pub before-valid : (s : HartsState) → IsKept s → (i : ℕ) → i < length s.requests → (x : Leaf) → (get_or s.requests i nothing).before ≡ Some x → IsLeafOf (shared_row s.spec) x
+before-valid s kept i below x e =
+    let r : Request = get_or s.requests i nothing in
+    let last = older-last i s.requests s.table.leaves nothing below in
+    let P : Option Leaf → Type 0 = λ o. In x (with_new o (without_old r.after (older i s.requests s.table.leaves))) in
+    let there : In x (undone r (older i s.requests s.table.leaves)) = subst P (sym e) (In-with x (without_old r.after (older i s.requests s.table.leaves))) in
+    let Q : List Leaf → Type 0 = λ xs. In x xs in
+    (older-mapping (shared_row s.spec) (suc i) s.requests s.table.leaves kept.history).valid x (subst Q (sym last) there)
+
+pub before-fits : (s : HartsState) → IsKept s → (pool : List Bool) → IsPoolOf s.spec.frames (kept_leaves s) pool → Fits (last_of s.requests) pool
+before-fits s kept pool tie = go s.requests refl
+  where
+    leaf-fits : (r : Request) → ((x : Leaf) → r.before ≡ Some x → IsLeafOf (shared_row s.spec) x) → (o : Option Leaf) → r.before ≡ o → LeafFits o pool
+    leaf-fits r valid None e = tt
+    leaf-fits r valid (Some x) e = let a = (valid x e).frames_in in let b = tie.size in omega arith
+
+    go : (requests : List Request) → s.requests ≡ requests → Fits (last_of s.requests) pool
+    go [] e = rw e tt
+    go (r ∷ requests) e =
+        let some : 0 < length s.requests = rw e (omega arith) in
+        leaf-fits (last_of s.requests) (before-valid s kept (length s.requests - 1) (omega arith)) (last_of s.requests).before refl
+
+module _ (s : HartsState) (kept : IsKept s) (n : ℕ) (x : Hart) (less : (hart_at n s).waiting ≤ x.waiting + 1) (no_more : x.waiting ≤ (hart_at n s).waiting) where
+  -- all requests but at most the oldest stay
+  pub near : length s.requests ≤ longest (set s.harts n x) + 1
+  near = let a = longest-less (opening_hart s.spec) x s.harts n less in let b = kept.longest_is in omega arith
+
+  pub few : longest (set s.harts n x) ≤ length s.requests
+  few = let a = longest-set (opening_hart s.spec) x s.harts n no_more in let b = kept.longest_is in omega arith
+
+-- all of a list
+take-all : {A : Type 0} (n : ℕ) (xs : List A) → length xs ≤ n → take n xs ≡ xs
+take-all zero [] h = refl
+take-all zero (x ∷ xs) h = absurd (omega arith)
+take-all (suc n) [] h = refl
+take-all {A} (suc n) (x ∷ xs) h = ap (λ (ys : List A). x ∷ ys) (take-all n xs (omega arith))
+
+-- the pool after a request is let go
+given : (frames : ℕ) (before after : Option Leaf) (leaves rest all : List Leaf) (pool : List Bool) → ((f : ℕ) → owners f all ≡ owners f (with_held before after []) + owners f rest)
+    → ((f : ℕ) → owners f all ≤ 1) → LeafFits before pool → length pool ≡ frames → IsPoolOf frames all pool → IsPoolOf frames rest (given_back before after pool)
+given frames (Some x) None leaves rest all pool count alone fits size tie =
+    pool-without frames x all rest pool (omega arith) tie (λ f. let a = count f in omega arith) alone
+given frames (Some x) (Some y) leaves rest all pool count alone fits size tie = pool-stays frames all rest pool (λ f. let a = count f in omega arith) tie
+given frames None after leaves rest all pool count alone fits size tie = pool-stays frames all rest pool (λ f. let a = count f in omega arith) tie
+
+pub pool-settled : (s : HartsState) → IsKept s → (pool : List Bool) → IsPoolOf s.spec.frames (kept_leaves s) pool → (k : ℕ) → length s.requests ≤ k + 1
+    → IsPoolOf s.spec.frames (s.table.leaves ++ held_leaves (take k s.requests)) (settled k s.requests pool)
+pool-settled s kept pool tie k near = go (nat_lt k (length s.requests)) refl
+  where
+    go : (b : Bool) → nat_lt k (length s.requests) ≡ b → IsPoolOf s.spec.frames (s.table.leaves ++ held_leaves (take k s.requests)) (settled_by b s.requests pool)
+    go true t =
+        let below : k < length s.requests = grind (arith, nat_tests) in
+        let e : length s.requests ≡ suc k = omega arith in
+        let last : last_of s.requests ≡ get_or s.requests k nothing = ap (λ (i : ℕ). get_or s.requests i nothing) (let f : length s.requests - 1 ≡ k = omega arith in f) in
+        let P : Request → Type 0 = λ r. IsPoolOf s.spec.frames (s.table.leaves ++ held_leaves (take k s.requests)) (pool_after r pool) in
+        let Q : Request → Type 0 = λ r. Fits r pool in
+        subst P (sym last) (given s.spec.frames (get_or s.requests k nothing).before (get_or s.requests k nothing).after s.table.leaves (s.table.leaves ++ held_leaves (take k s.requests)) (kept_leaves s) pool
+        (λ f.
+        let a = owners-append f s.table.leaves (held_leaves s.requests) in
+        let b = owners-append f s.table.leaves (held_leaves (take k s.requests)) in
+        let c = owners-oldest f k s.requests nothing e in
+        omega arith)
+        kept.alone (subst Q last (before-fits s kept pool tie)) tie.size tie)
+    go false t =
+        let above : length s.requests ≤ k = grind (arith, nat_tests) in
+        let P : List Request → Type 0 = λ rs. IsPoolOf s.spec.frames (s.table.leaves ++ held_leaves rs) pool in
+        subst P (sym (take-all k s.requests above)) tie
+
+-- the requests that stay are at most one less
+pub take-near : (s : HartsState) → IsKept s → (n : ℕ) → hart_refusal s (step.Take n) ≡ None → length s.requests ≤ longest (set s.harts n (hart_fenced (oldest (hart_at n s) s.requests) (hart_at n s))) + 1
+take-near s kept n ruled = near s kept n (hart_fenced (oldest (hart_at n s) s.requests) (hart_at n s)) (let w = take-some s n ruled in omega arith) (omega arith)
+
+-- the leaf before the oldest request is one that an array can keep
+pub oldest-fit : (s : HartsState) → IsKept s → (n : ℕ) → hart_refusal s (step.Take n) ≡ None → IfSome (oldest (hart_at n s) s.requests).before IsFit
+oldest-fit s kept n ruled = go (oldest (hart_at n s) s.requests).before refl
+  where
+    go : (o : Option Leaf) → (oldest (hart_at n s) s.requests).before ≡ o → IfSome o IsFit
+    go None e = tt
+    go (Some x) e =
+        let w = take-some s n ruled in
+        let k = (kept.each n).waiting_in in
+        leaf-fit s.spec x kept.spec_is (before-valid s kept ((hart_at n s).waiting - 1) (omega arith) x e)
+
+module _ (s : HartsState) (kept : IsKept s) (n : ℕ) (ruled : hart_refusal s (step.Take n) ≡ None) (x : Hart) (is : x ≡ hart_fenced (oldest (hart_at n s) s.requests) (hart_at n s))
+    (requests : List Request) (are : requests ≡ take (longest (set s.harts n x)) s.requests) where
+  taken-is : record s { harts = set s.harts n x; requests = requests } ≡ request_taken n s
+  taken-is = rw (are, is) refl
+
+  pub taken-after : record s { harts = set s.harts n x; requests = requests } ≡ after_hart_event (step.Take n) s
+  taken-after = taken-is ∙ sym (take-after s n ruled)
+
+  pub taken-harts : (capacity : ℕ) → capacity ≡ s.spec.queue → (pool after : List Bool) → IsPoolOf s.spec.frames (kept_leaves s) pool → after ≡ settled (longest (set s.harts n x)) s.requests pool
+      → IsHarts (record s { harts = set s.harts n x; requests = requests }) capacity after
+  taken-harts capacity room pool after tie settles =
+      let P : HartsState → Type 0 = λ v. IsKept v in
+      let far : length s.requests ≤ longest (set s.harts n x) + 1 = rw is (take-near s kept n ruled) in
+      record {
+        kept = subst P (sym taken-is) (request-kept s kept n (take-some s n ruled));
+        pool_is = rw (are, settles) (pool-settled s kept pool tie (longest (set s.harts n x)) far);
+        room = room;
+      }

@@ -1,0 +1,77 @@
+use Rattle.std.proofs.Common.{◌≡◌, None, Some, refl, ◌∙◌, ap}
+use Rattle.circular_buffer.specs.Buffer.{Buffer}
+use Rattle.xl_model.specs.declared.event.Event.TheVariants as event
+use Rattle.xl_hart_model.specs.declared.hart.Request.{Request}
+use Rattle.xl_model.specs.Changes.{Insert}
+use Rattle.xl_hart_model.specs.Harts.{HartsState}
+use Rattle.xl_radix_walk.specs.Row.{row_table}
+use Rattle.xl_harts.specs.Views.{state_of, refusal_of, leaf_at}
+use Rattle.xl_harts.proofs.RefusalLemmas.{leaf-in}
+use Rattle.xl_harts.proofs.ChangeLemmas.{map-finds, map-told, map-new, pool-mapped, change-room, queue-room, all-short, harts-after, state-after}
+use Rattle.xl_harts.proofs.StepLemmas.{written}
+use Rattle.xl_harts.proofs.harts.Harts.map.Goals as goal
+
+pub unreachable-requires : goal.unreachable-requires
+unreachable-requires c =
+    let i = c.self.inside in
+    let s : HartsState = state_of i.spec (row_table 3 i.table) i.requests.items i.harts.items i.current i.accepted i.refused in
+    let ruled : refusal_of (event.Map c.args.space c.args.va c.args.order c.args.perm) s ≡ None = rw (← c.self.view_is) at c.requires in
+    map-finds s c.self.invariant.kept c.args.space c.args.va c.args.order c.args.perm ruled i.frames c.self.invariant.pool_is c.in_default.ensures.none
+
+pub insert-requires-clause-valid : goal.insert-requires-clause-valid
+insert-requires-clause-valid c =
+    let i = c.self.inside in
+    let s : HartsState = state_of i.spec (row_table 3 i.table) i.requests.items i.harts.items i.current i.accepted i.refused in
+    let ruled : refusal_of (event.Map c.args.space c.args.va c.args.order c.args.perm) s ≡ None = rw (← c.self.view_is) at c.requires in
+    let new = map-new s c.self.invariant.kept c.args.space c.args.va c.args.order c.args.perm ruled i.frames c.self.invariant.pool_is c.in-Some.frame c.in-Some.ensures.lowest in
+    rw c.page_of.ensures (leaf-in i.spec (row_table 3 i.table).shape c.self.invariant.kept.table_is (leaf_at c.args.space c.args.va c.args.order c.in-Some.frame c.args.perm) c.self.invariant.kept.spec_is new.valid)
+
+pub insert-requires-clause-free : goal.insert-requires-clause-free
+insert-requires-clause-free c =
+    let i = c.self.inside in
+    let s : HartsState = state_of i.spec (row_table 3 i.table) i.requests.items i.harts.items i.current i.accepted i.refused in
+    let ruled : refusal_of (event.Map c.args.space c.args.va c.args.order c.args.perm) s ≡ None = rw (← c.self.view_is) at c.requires in
+    let new = map-new s c.self.invariant.kept c.args.space c.args.va c.args.order c.args.perm ruled i.frames c.self.invariant.pool_is c.in-Some.frame c.in-Some.ensures.lowest in
+    rw c.page_of.ensures new.apart
+
+pub insert-requires-clause-room : goal.insert-requires-clause-room
+insert-requires-clause-room c =
+    let i = c.self.inside in
+    let s : HartsState = state_of i.spec (row_table 3 i.table) i.requests.items i.harts.items i.current i.accepted i.refused in
+    let ruled : refusal_of (event.Map c.args.space c.args.va c.args.order c.args.perm) s ≡ None = rw (← c.self.view_is) at c.requires in
+    let told = map-told s c.self.invariant.kept c.args.space c.args.va c.args.order c.args.perm ruled i.frames c.self.invariant.pool_is c.in-Some.frame c.in-Some.ensures.lowest in
+    rw c.page_of.ensures (change-room s c.self.invariant.kept (event.Map c.args.space c.args.va c.args.order c.args.perm) (Insert (leaf_at c.args.space c.args.va c.args.order c.in-Some.frame c.args.perm)) ruled told)
+
+pub put-requires-clause-room : goal.put-requires-clause-room
+put-requires-clause-room c =
+    let i = c.self.inside in
+    let s : HartsState = state_of i.spec (row_table 3 i.table) i.requests.items i.harts.items i.current i.accepted i.refused in
+    let ruled : refusal_of (event.Map c.args.space c.args.va c.args.order c.args.perm) s ≡ None = rw (← c.self.view_is) at c.requires in
+    let told = map-told s c.self.invariant.kept c.args.space c.args.va c.args.order c.args.perm ruled i.frames c.self.invariant.pool_is c.in-Some.frame c.in-Some.ensures.lowest in
+    rw c.self.invariant.room (queue-room s c.self.invariant.kept (event.Map c.args.space c.args.va c.args.order c.args.perm) (Insert (leaf_at c.args.space c.args.va c.args.order c.in-Some.frame c.args.perm)) ruled told)
+
+pub put-requires-clause-queues : goal.put-requires-clause-queues
+put-requires-clause-queues c =
+    let i = c.self.inside in
+    let s : HartsState = state_of i.spec (row_table 3 i.table) i.requests.items i.harts.items i.current i.accepted i.refused in
+    rw c.deref_mut.ensures.value (all-short s c.self.invariant.kept)
+
+pub invariant_of-self : goal.invariant_of-self
+invariant_of-self c =
+    let i = c.self.inside in
+    let s : HartsState = state_of i.spec (row_table 3 i.table) i.requests.items i.harts.items i.current i.accepted i.refused in
+    let ruled : refusal_of (event.Map c.args.space c.args.va c.args.order c.args.perm) s ≡ None = rw (← c.self.view_is) at c.requires in
+    let told = map-told s c.self.invariant.kept c.args.space c.args.va c.args.order c.args.perm ruled i.frames c.self.invariant.pool_is c.in-Some.frame c.in-Some.ensures.lowest in
+    let harts = written i.harts.len i.harts.items c.deref_mut.result.now c.put.new.harts c.deref_mut.ensures.value c.deref_mut.ensures.len c.put.ensures.harts in
+    harts-after s c.self.invariant.kept (event.Map c.args.space c.args.va c.args.order c.args.perm) (Insert (leaf_at c.args.space c.args.va c.args.order c.in-Some.frame c.args.perm)) ruled told (row_table 3 c.insert.new.table) (record { before = None; after = Some (record { space = c.args.space; first = c.page_of.result; order = c.args.order; frame = c.in-Some.frame; perm = c.args.perm }) }) c.put.new.requests.items _ (rw c.page_of.ensures at c.insert.ensures) (rw c.page_of.ensures refl)
+    (ap (λ (b : Buffer Request). b.items) c.put.ensures.requests) harts c.put.new.requests.capacity c.take.new.self (ap (λ (b : Buffer Request). b.capacity) c.put.ensures.requests ∙ c.self.invariant.room) (rw c.in-Some.ensures.taken (pool-mapped s c.self.invariant.kept c.args.space c.args.va c.args.order c.args.perm ruled i.frames c.self.invariant.pool_is c.in-Some.frame c.in-Some.ensures.lowest))
+
+pub returns : goal.returns
+returns c =
+    let i = c.self.inside in
+    let s : HartsState = state_of i.spec (row_table 3 i.table) i.requests.items i.harts.items i.current i.accepted i.refused in
+    let ruled : refusal_of (event.Map c.args.space c.args.va c.args.order c.args.perm) s ≡ None = rw (← c.self.view_is) at c.requires in
+    let told = map-told s c.self.invariant.kept c.args.space c.args.va c.args.order c.args.perm ruled i.frames c.self.invariant.pool_is c.in-Some.frame c.in-Some.ensures.lowest in
+    let harts = written i.harts.len i.harts.items c.deref_mut.result.now c.put.new.harts c.deref_mut.ensures.value c.deref_mut.ensures.len c.put.ensures.harts in
+    rw (← c.self.view_is) (state-after s c.self.invariant.kept (event.Map c.args.space c.args.va c.args.order c.args.perm) (Insert (leaf_at c.args.space c.args.va c.args.order c.in-Some.frame c.args.perm)) ruled told (row_table 3 c.insert.new.table) (record { before = None; after = Some (record { space = c.args.space; first = c.page_of.result; order = c.args.order; frame = c.in-Some.frame; perm = c.args.perm }) }) c.put.new.requests.items _ (rw c.page_of.ensures at c.insert.ensures) (rw c.page_of.ensures refl)
+    (ap (λ (b : Buffer Request). b.items) c.put.ensures.requests) harts)

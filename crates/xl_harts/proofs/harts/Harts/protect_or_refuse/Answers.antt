@@ -1,0 +1,17 @@
+use Rattle.std.proofs.Common.{◌∙◌}
+use Rattle.xl_model.specs.declared.event.Event.TheVariants as event
+use Rattle.xl_hart_model.specs.declared.hart.HartEvent.TheVariants as step
+use Rattle.xl_harts.proofs.StepLemmas.{protect-done, refused-outcome, refused-after}
+use Rattle.xl_harts.proofs.harts.Harts.protect_or_refuse.Goals as goal
+
+pub protect-requires-clause-ruled : goal.protect-requires-clause-ruled
+protect-requires-clause-ruled c = c.change_refusal.ensures.protect c.args.perm ∙ c.in-Ok.ensures.allowed
+
+pub returns-in-Ok-clause-outcome : goal.returns-in-Ok-clause-outcome
+returns-in-Ok-clause-outcome c = protect-done c.args.self.now c.args.space c.args.va c.args.order c.args.perm (c.change_refusal.ensures.protect c.args.perm ∙ c.in-Ok.ensures.allowed)
+
+pub returns-in-Err-clause-outcome : goal.returns-in-Err-clause-outcome
+returns-in-Err-clause-outcome c = c.refuse.ensures.outcome ∙ refused-outcome (step.Own (event.Protect c.args.space c.args.va c.args.order c.args.perm)) c.args.self.now c.in-Err.refusal (c.change_refusal.ensures.protect c.args.perm ∙ c.in-Err.ensures.refused)
+
+pub returns-in-Err-clause-after : goal.returns-in-Err-clause-after
+returns-in-Err-clause-after c = c.refuse.ensures.after ∙ refused-after (step.Own (event.Protect c.args.space c.args.va c.args.order c.args.perm)) c.args.self.now c.in-Err.refusal (c.change_refusal.ensures.protect c.args.perm ∙ c.in-Err.ensures.refused)

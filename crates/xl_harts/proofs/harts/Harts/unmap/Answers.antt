@@ -1,0 +1,62 @@
+use Rattle.std.proofs.Common.{◌≡◌, None, Some, is_some, refl, ◌∙◌, ap}
+use Rattle.circular_buffer.specs.Buffer.{Buffer}
+use Rattle.xl_model.specs.declared.address.Mode.TheVariants as mode
+use Rattle.xl_model.specs.declared.event.Event.TheVariants as event
+use Rattle.xl_hart_model.specs.declared.hart.Request.{Request}
+use Rattle.xl_model.specs.Addresses.{page_of}
+use Rattle.xl_model.specs.Changes.{Remove}
+use Rattle.xl_hart_model.specs.Harts.{HartsState}
+use Rattle.xl_hart_laws.proofs.CommandLemmas.{rule-none}
+use Rattle.xl_radix_walk.specs.Row.{row_table}
+use Rattle.xl_harts.specs.Views.{state_of, refusal_of}
+use Rattle.xl_harts.proofs.RefusalLemmas.{unmap-change}
+use Rattle.xl_harts.proofs.ChangeLemmas.{there-unmap, old-named, queue-room, all-short, pool-changed, harts-after, state-after}
+use Rattle.xl_harts.proofs.StepLemmas.{written}
+use Rattle.xl_harts.proofs.harts.Harts.unmap.Goals as goal
+
+pub remove-requires : goal.remove-requires
+remove-requires c =
+    let i = c.self.inside in
+    let s : HartsState = state_of i.spec (row_table 3 i.table) i.requests.items i.harts.items i.current i.accepted i.refused in
+    let ruled : refusal_of (event.Unmap c.args.space c.args.va c.args.order) s ≡ None = rw (← c.self.view_is) at c.requires.ruled in
+    let told = unmap-change s c.args.space c.args.va c.args.order in
+    let named = old-named s c.self.invariant.kept c.args.space c.args.va c.args.order c.args.old (there-unmap s c.args.space c.args.va c.args.order (rule-none s (event.Unmap c.args.space c.args.va c.args.order) ruled)) (rw (← c.self.view_is) at c.requires.found) in
+    rw c.page_of.ensures (ap is_some named)
+
+pub put-requires-clause-room : goal.put-requires-clause-room
+put-requires-clause-room c =
+    let i = c.self.inside in
+    let s : HartsState = state_of i.spec (row_table 3 i.table) i.requests.items i.harts.items i.current i.accepted i.refused in
+    let ruled : refusal_of (event.Unmap c.args.space c.args.va c.args.order) s ≡ None = rw (← c.self.view_is) at c.requires.ruled in
+    let told = unmap-change s c.args.space c.args.va c.args.order in
+    let named = old-named s c.self.invariant.kept c.args.space c.args.va c.args.order c.args.old (there-unmap s c.args.space c.args.va c.args.order (rule-none s (event.Unmap c.args.space c.args.va c.args.order) ruled)) (rw (← c.self.view_is) at c.requires.found) in
+    rw c.self.invariant.room (queue-room s c.self.invariant.kept (event.Unmap c.args.space c.args.va c.args.order) (Remove c.args.space (page_of mode.Sv39 c.args.va) c.args.order) ruled told)
+
+pub put-requires-clause-queues : goal.put-requires-clause-queues
+put-requires-clause-queues c =
+    let i = c.self.inside in
+    let s : HartsState = state_of i.spec (row_table 3 i.table) i.requests.items i.harts.items i.current i.accepted i.refused in
+    rw c.deref_mut.ensures.value (all-short s c.self.invariant.kept)
+
+pub invariant_of-self : goal.invariant_of-self
+invariant_of-self c =
+    let i = c.self.inside in
+    let s : HartsState = state_of i.spec (row_table 3 i.table) i.requests.items i.harts.items i.current i.accepted i.refused in
+    let ruled : refusal_of (event.Unmap c.args.space c.args.va c.args.order) s ≡ None = rw (← c.self.view_is) at c.requires.ruled in
+    let told = unmap-change s c.args.space c.args.va c.args.order in
+    let named = old-named s c.self.invariant.kept c.args.space c.args.va c.args.order c.args.old (there-unmap s c.args.space c.args.va c.args.order (rule-none s (event.Unmap c.args.space c.args.va c.args.order) ruled)) (rw (← c.self.view_is) at c.requires.found) in
+    let harts = written i.harts.len i.harts.items c.deref_mut.result.now c.put.new.harts c.deref_mut.ensures.value c.deref_mut.ensures.len c.put.ensures.harts in
+    let pool = pool-changed s c.self.invariant.kept (event.Unmap c.args.space c.args.va c.args.order) (Remove c.args.space (page_of mode.Sv39 c.args.va) c.args.order) ruled told i.frames (λ f. refl) c.self.invariant.pool_is in
+    harts-after s c.self.invariant.kept (event.Unmap c.args.space c.args.va c.args.order) (Remove c.args.space (page_of mode.Sv39 c.args.va) c.args.order) ruled told (row_table 3 c.remove.new.table) (record { before = Some c.args.old; after = None }) c.put.new.requests.items _ (rw c.page_of.ensures at c.remove.ensures) (rw named refl)
+    (ap (λ (b : Buffer Request). b.items) c.put.ensures.requests) harts c.put.new.requests.capacity i.frames (ap (λ (b : Buffer Request). b.capacity) c.put.ensures.requests ∙ c.self.invariant.room) pool
+
+pub returns : goal.returns
+returns c =
+    let i = c.self.inside in
+    let s : HartsState = state_of i.spec (row_table 3 i.table) i.requests.items i.harts.items i.current i.accepted i.refused in
+    let ruled : refusal_of (event.Unmap c.args.space c.args.va c.args.order) s ≡ None = rw (← c.self.view_is) at c.requires.ruled in
+    let told = unmap-change s c.args.space c.args.va c.args.order in
+    let named = old-named s c.self.invariant.kept c.args.space c.args.va c.args.order c.args.old (there-unmap s c.args.space c.args.va c.args.order (rule-none s (event.Unmap c.args.space c.args.va c.args.order) ruled)) (rw (← c.self.view_is) at c.requires.found) in
+    let harts = written i.harts.len i.harts.items c.deref_mut.result.now c.put.new.harts c.deref_mut.ensures.value c.deref_mut.ensures.len c.put.ensures.harts in
+    rw (← c.self.view_is) (state-after s c.self.invariant.kept (event.Unmap c.args.space c.args.va c.args.order) (Remove c.args.space (page_of mode.Sv39 c.args.va) c.args.order) ruled told (row_table 3 c.remove.new.table) (record { before = Some c.args.old; after = None }) c.put.new.requests.items _ (rw c.page_of.ensures at c.remove.ensures) (rw named refl)
+    (ap (λ (b : Buffer Request). b.items) c.put.ensures.requests) harts)

@@ -1,0 +1,14 @@
+use Rattle.std.proofs.Common.{◌∙◌}
+use Rattle.xl_model.specs.declared.event.Event.TheVariants as event
+use Rattle.xl_hart_model.specs.declared.hart.HartEvent.TheVariants as step
+use Rattle.xl_harts.proofs.StepLemmas.{unmap-done, refused-outcome, refused-after}
+use Rattle.xl_harts.proofs.harts.Harts.unmap_or_refuse.Goals as goal
+
+pub returns-in-Ok-clause-outcome : goal.returns-in-Ok-clause-outcome
+returns-in-Ok-clause-outcome c = unmap-done c.args.self.now c.args.space c.args.va c.args.order c.in-Ok.ensures.allowed
+
+pub returns-in-Err-clause-outcome : goal.returns-in-Err-clause-outcome
+returns-in-Err-clause-outcome c = c.refuse.ensures.outcome ∙ refused-outcome (step.Own (event.Unmap c.args.space c.args.va c.args.order)) c.args.self.now c.in-Err.refusal c.in-Err.ensures.refused
+
+pub returns-in-Err-clause-after : goal.returns-in-Err-clause-after
+returns-in-Err-clause-after c = c.refuse.ensures.after ∙ refused-after (step.Own (event.Unmap c.args.space c.args.va c.args.order)) c.args.self.now c.in-Err.refusal c.in-Err.ensures.refused

@@ -1,0 +1,14 @@
+use Rattle.std.proofs.Common.{List, ap, arith}
+use Rattle.xl_hart_model.specs.declared.hart.Request.{Request}
+use Rattle.xl_hart_model.specs.Tally.{frames_in}
+use Rattle.xl_hart_model.specs.Requests.{held_leaves}
+use Rattle.xl_harts.proofs.StepLemmas.{held-append}
+use Rattle.xl_harts.proofs.harts.held_frames.Goals as goal
+
+pub returns : goal.returns
+returns c =
+    let a = c.held_in.ensures.held in
+    let b = c.held_in-2.ensures.held in
+    let e = ap (λ (rs : List Request). frames_in (held_leaves rs)) c.as_slices.ensures in
+    let f = held-append c.as_slices.result.0.now c.as_slices.result.1.now in
+    omega arith

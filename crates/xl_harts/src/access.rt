@@ -1,0 +1,93 @@
+//! Accesses.
+
+ghost use Rattle.std.specs.Prelude.{◌≡◌, ◌^◌, ◌<◌, None, IfSome};
+ghost use Rattle.xl_model.specs.declared.address.Mode.TheVariants as mode;
+ghost use Rattle.xl_model.specs.Addresses.{is_canonical, page_of as page_number};
+ghost use Rattle.xl_hart_model.specs.Harts.{current_hart, hart_accessed, hart_reply};
+ghost use Rattle.xl_model.specs.Mapping.{reply_by};
+ghost use Rattle.xl_model.specs.Tally.{IsSmall};
+ghost use Rattle.xl_model.specs.Tlb.{array_hit};
+ghost use Rattle.xl_hart_model.specs.declared.hart.HartSpec.{HartSpec};
+ghost use Rattle.xl_radix_walk.specs.Row.{row_table};
+ghost use Rattle.xl_harts.specs.Looks.{IsAccess, IsReached, IsWalked};
+ghost use Rattle.xl_harts.specs.Views.{IsServed};
+
+use crate::hart::Hart;
+use crate::harts::Harts;
+use crate::reply::{reply_of, reply_of_word};
+use xl_model::{Kind, Leaf, Mode, QuickWalk, Reply, Structure, canonical, page_of};
+use xl_radix_walk::RadixRow;
+
+/// The reply by what a walk found.
+fn reply_of_found(found: Option<Leaf>, page: u64, kind: Kind) -> Reply
+    requires { IfSome found (IsReached page) }
+    ensures is { result ≡ reply_by found page kind }
+    ensures small { IsSmall result }
+{
+    match found {
+        Some(leaf) => reply_of(leaf, page, kind),
+        None => Reply::Unmapped,
+    }
+}
+
+/// Replies to an access of a page that the hart's array has not, by a walk.
+#[inline(never)]
+fn walk(table: &mut RadixRow<3>, hart: &mut Hart, va: u64, page: u64, kind: Kind) -> Reply
+    requires served { (spec : HartSpec) × IsServed spec (row_table 3 table.old) hart.old }
+    requires page { page ≡ page_number mode.Sv39 va }
+    ensures { IsWalked va page kind result (row_table 3 table.old) (row_table 3 table.new) hart.old
+        hart.new }
+{
+    let before = table.loads();
+    let space = hart.space();
+    match table.quick_walk(space, page) {
+        QuickWalk::Small { word, .. } => {
+            let loads = table.loads().wrapping_sub(before);
+            hart.fill_small(page, word, loads);
+            let reply = reply_of_word(word, kind);
+            hart.reply(reply, va);
+            reply
+        }
+        QuickWalk::Any { walk } => {
+            let loads = table.loads().wrapping_sub(before);
+            hart.fill(walk.leaf, loads);
+            let reply = reply_of_found(walk.leaf, page, kind);
+            hart.reply(reply, va);
+            reply
+        }
+    }
+}
+
+/// Replies to an access of a hart by its array, or else by a walk.
+#[inline(always)]
+fn serve(table: &mut RadixRow<3>, hart: &mut Hart, va: u64, kind: Kind) -> Reply
+    requires { (spec : HartSpec) × IsServed spec (row_table 3 table.old) hart.old }
+    ensures { IsAccess va kind result (row_table 3 table.old) (row_table 3 table.new) hart.old
+        hart.new }
+{
+    if !canonical(Mode::Sv39, va) {
+        hart.reply(Reply::NotCanonical, va);
+        return Reply::NotCanonical;
+    }
+    let page = page_of(Mode::Sv39, va);
+    match hart.look(page) {
+        Some(word) => {
+            let reply = reply_of_word(word, kind);
+            hart.reply(reply, va);
+            reply
+        }
+        None => walk(table, hart, va, page, kind),
+    }
+}
+
+impl Harts {
+    /// Serves an access of the current hart.
+    #[inline(always)]
+    pub(crate) fn access(&mut self, va: u64, kind: Kind) -> Reply
+        ensures reply { result ≡ hart_reply (current_hart self.old) self.old.table.leaves va kind }
+        ensures after { self.new ≡ hart_accessed va kind self.old }
+    {
+        let hart = &mut self.harts[self.current as usize];
+        serve(&mut self.table, hart, va, kind)
+    }
+}
