@@ -47,8 +47,8 @@ pub(crate) fn open<R: Rows, F: Folder>(
     Ok(script)
 }
 
-/// Opens rows, one after another.
-fn add_all<R: Rows>(alloc: Global, rows: &mut R, designs: Vec<Row>) -> Result<(), NoMemory>
+/// Opens rows, one after another. Where there is no memory for one, nothing is said of the rows.
+pub fn add_all<R: Rows>(alloc: Global, rows: &mut R, designs: Vec<Row>) -> Result<(), NoMemory>
     requires none { R.rows rows.old ≡ [] }
     requires fit { All IsRow (map row_of designs.items) }
     requires few { length designs.items ≤ 16 }
@@ -60,8 +60,8 @@ fn add_all<R: Rows>(alloc: Global, rows: &mut R, designs: Vec<Row>) -> Result<()
     Ok(())
 }
 
-/// Reads the configuration of this name.
-fn read_config<F: Folder>(alloc: Global, folder: &mut F, name: &str) -> Result<Vec<Row>, Stop>
+/// Reads the configuration of this name, of at most 65,536 bytes.
+pub fn read_config<F: Folder>(alloc: Global, folder: &mut F, name: &str) -> Result<Vec<Row>, Stop>
     ensures told { IfSome (F.files folder.old) (λ fs.
         Finds (λ rows. map row_of rows.items) result (rows_in name.now fs)) }
     ensures leaves { FolderAfter F.files F.faults F.absences F.steady folder.old folder.new
@@ -112,8 +112,12 @@ fn made_commands(alloc: Global, records: u32) -> Result<Script, Stop>
     commands_of(alloc, text.as_slice())
 }
 
-/// Reads the script of this name; where there is none, the script has no commands.
-fn read_script<F: Folder>(alloc: Global, folder: &mut F, name: Option<&str>) -> Result<Script, Stop>
+/// Reads the script of this name, of at most 1,048,576 bytes; where there is none, the script has no commands.
+pub fn read_script<F: Folder>(
+    alloc: Global,
+    folder: &mut F,
+    name: Option<&str>,
+) -> Result<Script, Stop>
     ensures told { IfSome (F.files folder.old) (λ fs.
         Finds (λ script. script) result (commands_in (option_map (λ s. s.now) name.entry) fs)) }
     ensures leaves { FolderAfter F.files F.faults F.absences F.steady folder.old folder.new

@@ -34,7 +34,7 @@ pub(crate) fn config_stop(fault: ConfigFault) -> Stop
 }
 
 /// Why a run stops whose script is refused.
-pub(crate) fn script_stop(fault: ScriptFault) -> Stop
+pub fn script_stop(fault: ScriptFault) -> Stop
     ensures { result ≡ of_script_fault fault }
 {
     match fault {

@@ -9,7 +9,7 @@ use Rattle.clap.specs.declared.error.kind.ErrorKind.{ErrorKind}
 use Rattle.clap.specs.declared.error.kind.ErrorKind.TheVariants as kind
 use Rattle.xl_words.specs.declared.words.WordsFault.{WordsFault}
 use Rattle.xl_words.specs.declared.words.WordsFault.TheVariants as fault
-use Rattle.xl_words.specs.Words.{app, file_app, Asks, Matches, read_where, read_by}
+use Rattle.xl_words.specs.Words.{app, file_app, pair_app, curve_app, Asks, Matches, read_where, read_by}
 
 pub plain-free : (c : App) → c ≡ app → is_simple_and_free c ≡ true
 unfolding app file_app
@@ -18,6 +18,22 @@ plain-free c e = ap is_simple_and_free e ∙ refl
 pub plain-simple : (c : App) → c ≡ app → is_simple c ≡ true
 unfolding app file_app
 plain-simple c e = ap is_simple e ∙ refl
+
+pub pair-free : (c : App) → c ≡ pair_app → is_simple_and_free c ≡ true
+unfolding pair_app
+pair-free c e = ap is_simple_and_free e ∙ refl
+
+pub pair-simple : (c : App) → c ≡ pair_app → is_simple c ≡ true
+unfolding pair_app
+pair-simple c e = ap is_simple e ∙ refl
+
+pub curve-free : (c : App) → c ≡ curve_app → is_simple_and_free c ≡ true
+unfolding curve_app file_app
+curve-free c e = ap is_simple_and_free e ∙ refl
+
+pub curve-simple : (c : App) → c ≡ curve_app → is_simple c ≡ true
+unfolding curve_app file_app
+curve-simple c e = ap is_simple e ∙ refl
 
 -- what is among some kinds is not among none
 none_among : (k : ErrorKind) (kinds : Kinds) → IsAmong k kinds → kinds ≡ [] → ⊥

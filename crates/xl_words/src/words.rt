@@ -1,12 +1,13 @@
-//! The words, by a command of `clap`.
+//! The words, by the command of their form.
 
-ghost use Rattle.std.specs.Prelude.{◌≡◌, [], IfOk, true, false, map, option_map, string_bytes, codes};
-ghost use Rattle.clap.specs.Words.{app_of, rule_of, with_rule, rows_of, found_of, first_of, fault_of, matches_of, is_simple, is_simple_and_free};
-ghost use Rattle.xl_words.specs.Words.{option_rule, needed_rule, number_rule, flag_rule, number_of, made_by, app, file_app, is_on, plain_with, plain_in, read_by, asked, plain_of, asked_of, Asks, Matches};
+ghost use Rattle.std.specs.Prelude.{◌≡◌, ◌≤◌, [], true, length, drop, map, option_map, string_bytes, codes};
+ghost use Rattle.clap.specs.Words.{app_of, rows_of, found_of, first_of, fault_of, matches_of, is_simple, is_simple_and_free};
+ghost use Rattle.xl_words.specs.Words.{number_of, made_by, sets_by, app, pair_app, curve_app, is_on, plain_with, plain_in, pair_in, curve_in, read_by, form_of, form_named, asked, plain_of, pair_of, curve_of, asked_of, Asks, Matches};
 ghost use Rattle.xl_words.specs.declared.words.WordsFault.TheVariants as why;
 
+use crate::commands::{command, curve_command, pair_command};
 use clap::error::ErrorKind;
-use clap::{Arg, ArgAction, ArgMatches, Command};
+use clap::{ArgMatches, Command};
 use std::alloc::{AllocError, Global};
 use thiserror::Error;
 
@@ -24,17 +25,48 @@ pub struct Plain<'a> {
     pub json: bool,
 }
 
+/// What the words of the forms `nested` and `harts` ask for: the names of the script and the trace, and
+/// whether a line is wanted for each access.
+#[derive(Clone, Copy, Debug, PartialEq, Eq)]
+pub struct Pair<'a> {
+    pub script: &'a str,
+    pub trace: &'a str,
+    pub answers: bool,
+}
+
+/// What the words of the form `curve` ask for: how many sets the array of each curve has, and the names of
+/// the configuration, the script and the trace.
+#[derive(Clone, Copy, Debug, PartialEq, Eq)]
+pub struct CurveWords<'a> {
+    pub sets: u32,
+    pub config: &'a str,
+    pub script: Option<&'a str>,
+    pub trace: Option<&'a str>,
+}
+
 /// What the words ask for, in each form of the program.
 #[derive(Clone, Copy, Debug, PartialEq, Eq)]
 pub enum Words<'a> {
     Plain(Plain<'a>),
+    Nested(Pair<'a>),
+    Harts(Pair<'a>),
+    Curve(CurveWords<'a>),
+}
+
+/// The forms of the program.
+#[derive(Clone, Copy, Debug, PartialEq, Eq)]
+pub enum Form {
+    Plain,
+    Nested,
+    Harts,
+    Curve,
 }
 
 /// Why the words ask for nothing.
 #[derive(Clone, Copy, Debug, PartialEq, Eq, Error)]
 pub enum WordsFault {
-    /// They are not the command's, or records are to be made beside a script or a trace.
-    #[error("the words are not the command's")]
+    /// They are not those of their form's command, or records are to be made beside a script or a trace.
+    #[error("the words are not those of their form's command")]
     Usage,
     /// There is no memory for the command or its matches.
     #[error("no memory")]
@@ -52,16 +84,55 @@ impl From<AllocError> for WordsFault {
 /// The most records that are made.
 const MOST_RECORDS: u32 = 1 << 20;
 
-/// What the words ask for, of which the first is the program's name. Usage exactly where the command has
-/// no matches for them, or records are to be made beside a script or a trace; where there is no memory, the
-/// answer may be that.
+/// The most sets of a curve's array.
+const MOST_SETS: u32 = 256;
+
+/// What the words ask for, of which the first is the program's name. The second may name a form, whose
+/// command reads the words behind it; else all words are the plain form's. Usage exactly where that command
+/// has no matches for them, or, in the plain form, records are to be made beside a script or a trace; where
+/// there is no memory, the answer may be that.
 pub fn read<'a>(alloc: Global, words: &'a [String]) -> Result<Words<'a>, WordsFault>
     ensures { Asks asked_of result (asked (map string_bytes words.entry.now)) }
 {
-    match read_plain(alloc, words) {
-        Ok(plain) => Ok(Words::Plain(plain)),
-        Err(fault) => Err(fault),
+    match named_form(words) {
+        Form::Plain => Ok(Words::Plain(read_plain(alloc, words)?)),
+        Form::Nested => Ok(Words::Nested(read_pair(alloc, later(words))?)),
+        Form::Harts => Ok(Words::Harts(read_pair(alloc, later(words))?)),
+        Form::Curve => Ok(Words::Curve(read_curve(alloc, later(words))?)),
     }
+}
+
+/// The form that the second of the words names.
+fn named_form(words: &[String]) -> Form
+    ensures { result ≡ form_of (map string_bytes words.now) }
+{
+    match words.get(1) {
+        Some(word) => form_named(word.as_str()),
+        None => Form::Plain,
+    }
+}
+
+/// The form of this name.
+fn form_named(word: &str) -> Form
+    ensures { result ≡ form_named word.now }
+{
+    if word == "nested" {
+        Form::Nested
+    } else if word == "harts" {
+        Form::Harts
+    } else if word == "curve" {
+        Form::Curve
+    } else {
+        Form::Plain
+    }
+}
+
+/// The words from the second on.
+fn later<'a>(words: &'a [String]) -> &'a [String]
+    requires { 1 ≤ length words.now }
+    ensures { result.now ≡ drop 1 words.entry.now }
+{
+    &words[1..]
 }
 
 /// What words of the plain form ask for.
@@ -74,7 +145,56 @@ fn read_plain<'a>(alloc: Global, words: &'a [String]) -> Result<Plain<'a>, Words
     }
 }
 
-/// What is asked for by some matches. The command has none without a configuration.
+/// What words of the forms `nested` and `harts` ask for.
+fn read_pair<'a>(alloc: Global, words: &'a [String]) -> Result<Pair<'a>, WordsFault>
+    ensures { Asks pair_of result (read_by pair_app pair_in (map string_bytes words.entry.now)) }
+{
+    match matches(pair_command(alloc)?, words) {
+        Ok(matches) => Ok(Pair {
+            script: value(&matches, "script").unwrap_or(""),
+            trace: value(&matches, "trace").unwrap_or(""),
+            answers: is_on(value(&matches, "answers")),
+        }),
+        Err(fault) => Err(fault),
+    }
+}
+
+/// What words of the form `curve` ask for.
+fn read_curve<'a>(alloc: Global, words: &'a [String]) -> Result<CurveWords<'a>, WordsFault>
+    ensures { Asks curve_of result (read_by curve_app curve_in (map string_bytes words.entry.now)) }
+{
+    match matches(curve_command(alloc)?, words) {
+        Ok(matches) => curve_matched(&matches),
+        Err(fault) => Err(fault),
+    }
+}
+
+/// What is asked for by some matches of the form `curve`. The command has none without a configuration.
+fn curve_matched<'a>(matches: &ArgMatches<'a>) -> Result<CurveWords<'a>, WordsFault>
+    ensures { Asks curve_of result (curve_in (rows_of (found_of matches.now))) }
+{
+    match sets(value(matches, "sets")) {
+        Some(sets) => Ok(CurveWords {
+            sets,
+            config: value(matches, "config").unwrap_or(""),
+            script: value(matches, "script"),
+            trace: value(matches, "trace"),
+        }),
+        None => Err(WordsFault::Usage),
+    }
+}
+
+/// The number of sets that is given. The command has no matches without such a number.
+fn sets(text: Option<&str>) -> Option<u32>
+    ensures { result ≡ sets_by (option_map (λ s. s.now) text.entry) }
+{
+    match text {
+        Some(text) => number(text, MOST_SETS),
+        None => None,
+    }
+}
+
+/// What is asked for by some matches of the plain form. The command has none without a configuration.
 fn plain_matched<'a>(matches: &ArgMatches<'a>) -> Result<Plain<'a>, WordsFault>
     ensures { Asks plain_of result (plain_in (rows_of (found_of matches.now))) }
 {
@@ -170,67 +290,4 @@ fn matches<'a>(command: Command<'a>, words: &'a [String]) -> Result<ArgMatches<'
             _ => Err(WordsFault::Usage),
         },
     }
-}
-
-/// The command of the program.
-#[tactic(auto, unfolding(crate::specs::Words::app))]
-fn command<'a>(alloc: Global) -> Result<Command<'a>, AllocError>
-    ensures { IfOk result (λ c. app_of c ≡ app) }
-{
-    let command = file_command(alloc)?;
-    let command = add(command, numbered(alloc, "make"))?;
-    let command = add(command, flag(alloc, "answers"))?;
-    let command = add(command, flag(alloc, "image"))?;
-    add(command, flag(alloc, "json"))
-}
-
-/// The command with the options that name a file.
-#[tactic(auto, unfolding(crate::specs::Words::file_app))]
-fn file_command<'a>(alloc: Global) -> Result<Command<'a>, AllocError>
-    ensures { IfOk result (λ c. app_of c ≡ file_app) }
-{
-    let command = Command::new(alloc, "xlate");
-    let command = add(command, needed(alloc, "config"))?;
-    let command = add(command, option(alloc, "script"))?;
-    add(command, option(alloc, "trace"))
-}
-
-/// An option that has a value.
-fn option<'a>(alloc: Global, name: &'a str) -> Arg<'a>
-    ensures rule { rule_of result ≡ option_rule name.entry.now }
-    ensures local { result.global ≡ false }
-{
-    Arg::new(alloc, name).long(name).action(ArgAction::Set)
-}
-
-/// An option that has a value, and that may not be left out.
-fn needed<'a>(alloc: Global, name: &'a str) -> Arg<'a>
-    ensures rule { rule_of result ≡ needed_rule name.entry.now }
-    ensures local { result.global ≡ false }
-{
-    option(alloc, name).required(true)
-}
-
-/// An option that has a number in the range of made records.
-fn numbered<'a>(alloc: Global, name: &'a str) -> Arg<'a>
-    ensures rule { rule_of result ≡ number_rule name.entry.now }
-    ensures local { result.global ≡ false }
-{
-    option(alloc, name).value_parser(clap::value_parser!(u32).range(1..=1_048_576))
-}
-
-/// A flag.
-fn flag<'a>(alloc: Global, name: &'a str) -> Arg<'a>
-    ensures rule { rule_of result ≡ flag_rule name.entry.now }
-    ensures local { result.global ≡ false }
-{
-    Arg::new(alloc, name).long(name).action(ArgAction::SetTrue)
-}
-
-/// The command with one argument more.
-fn add<'a>(command: Command<'a>, arg: Arg<'a>) -> Result<Command<'a>, AllocError>
-    requires { arg.global ≡ false }
-    ensures { IfOk result (λ c. app_of c ≡ with_rule (app_of command.entry) (rule_of arg.entry)) }
-{
-    command.arg(arg)
 }
