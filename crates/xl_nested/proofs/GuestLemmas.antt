@@ -1,0 +1,145 @@
+-- What the guest keeps, and what its leaves are.
+use Rattle.std.proofs.Common.{◌≡◌, refl, sym, ap, ◌∙◌, subst, ℕ, zero, suc, ◌+◌, ◌-◌, ◌^◌, ◌<◌, ◌≤◌, true, List, ◌++◌, length, Option, None, Some, inl, inr, arith}
+use Rattle.std.specs.Prelude.{replicate}
+use Rattle.std.proofs.lemmas.List.{length-append, length-replicate}
+use Rattle.std.proofs.lemmas.Bool.Decides.{nat_tests}
+use Rattle.xl_model.specs.declared.address.Order.{Order}
+use Rattle.xl_model.specs.declared.leaf.Leaf.{Leaf}
+use Rattle.xl_model.specs.declared.perm.Perm.{Perm}
+use Rattle.xl_model.specs.Addresses.{pages_of}
+use Rattle.xl_model.specs.Changes.{Change, Remove}
+use Rattle.xl_model.specs.Mapping.{covers, leaf_at_page}
+use Rattle.xl_nested_model.specs.Rules.{stage_after, guest_map}
+use Rattle.xl_model.specs.Nodes.{Node, up, roots, opening_nodes}
+use Rattle.xl_nested_model.specs.Stages.{Stage, nodes_in, opening_stage, with_loads}
+use Rattle.xl_model.specs.Structures.{IsBlock, IsLeafFor, IsPage}
+use Rattle.xl_model_lemmas.specs.Members.{In}
+use Rattle.xl_model_lemmas.proofs.ChangeLemmas.{changed-In}
+use Rattle.xl_model_lemmas.proofs.MemberLemmas.{find-In, find-passes}
+use Rattle.xl_model_lemmas.proofs.OrderLemmas.{pages-some}
+use Rattle.xl_nested.specs.Commands.{IsPlace}
+use Rattle.xl_nested.specs.Kept.{IsGuest, IsStage}
+use Rattle.xl_nested.specs.declared.stage.Entry.{Entry}
+use Rattle.xl_nested.specs.declared.stage.Entry.TheVariants as entry
+use Rattle.xl_nested.specs.Walks.{IsAt, IsEntry, IsFor, IsReached, LeavesReach}
+use Rattle.xl_radix.proofs.NumberLemmas.{number-some}
+use Rattle.xl_nested.proofs.ApartLemmas.{left-In}
+use Rattle.xl_nested.proofs.ShapeLemmas.{shape-like}
+
+-- a new table
+roots-length : (levels space n : ℕ) → length (roots levels space n) ≡ n
+roots-length levels space zero = refl
+roots-length levels space (suc n) = ap suc (roots-length levels (space + 1) n)
+
+pub opening-length : (spaces n : ℕ) → spaces ≤ n → length (opening_nodes 3 spaces n) ≡ n
+unfolding opening_nodes
+opening-length spaces n few =
+    let none : Option Node = None in
+    let a : length (roots 3 0 spaces ++ replicate (n - spaces) none) ≡ length (roots 3 0 spaces) + length (replicate (n - spaces) none) = length-append (roots 3 0 spaces) (replicate (n - spaces) none) in
+    let b : length (roots 3 0 spaces) ≡ spaces = roots-length 3 0 spaces in
+    let d : length (replicate (n - spaces) none) ≡ n - spaces = length-replicate (n - spaces) none in
+    a ∙ (omega arith)
+
+pub opening-stage : (spaces n : ℕ) → IsStage spaces (opening_stage spaces n)
+opening-stage spaces n = record { spaces_are = refl; pages_are = refl }
+
+pub opening-kept : (base n : ℕ) → 1 ≤ n → base + n ≤ 2 ^ 29 → IsGuest base (opening_stage 1 n)
+opening-kept base n some low =
+    let e : length (opening_nodes 3 1 n) ≡ n = opening-length 1 n some in
+    record { stage_is = opening-stage 1 n; low_nodes = omega arith; low_frames = λ x i. absurd i }
+
+-- a change of a stage's table
+pub stage-stays : (spaces : ℕ) (c : Change) (stage : Stage) → IsStage spaces stage → IsStage spaces (stage_after (Some c) stage)
+stage-stays spaces c stage is =
+    let like = shape-like c stage.leaves stage.shape in
+    record { spaces_are = like.spaces_same ∙ is.spaces_are; pages_are = like.pages_same ∙ is.pages_are }
+
+-- what a stage takes
+pub block-of : (spaces space first : ℕ) (o : Order) (stage : Stage) → IsStage spaces stage → space < spaces → IsPlace first o (2 ^ 27) → IsBlock stage.shape space first o
+block-of spaces space first o stage is few place =
+    let a = is.spaces_are in
+    let b = is.pages_are in
+    let p = place.within in
+    record { space_in = omega arith; pages_in = omega arith; aligned = place.aligned }
+
+pub page-of : (spaces space page : ℕ) (stage : Stage) → IsStage spaces stage → space < spaces → page < 2 ^ 27 → IsPage stage.shape space page
+page-of spaces space page stage is few low =
+    let a = is.spaces_are in
+    let b = is.pages_are in
+    record { space_in = omega arith; page_in = omega arith }
+
+pub first-low : (first : ℕ) (o : Order) (limit : ℕ) → IsPlace first o limit → first < limit
+first-low first o limit place = let p = place.within in let q : 0 < pages_of o = pages-some o in omega arith
+
+pub guest-leaf : (page : ℕ) (o : Order) (g : ℕ) (perm : Perm) (stage : Stage) → IsStage 1 stage → IsPlace page o (2 ^ 27) → IsPlace g o (2 ^ 29)
+    → IsLeafFor stage.shape (record { space = 0; first = page; order = o; frame = g; perm = perm })
+guest-leaf page o g perm stage is place frames =
+    let f = frames.within in
+    record { block = block-of 1 0 page o stage is (omega arith) place; frames_in = omega arith; frames_aligned = frames.aligned }
+
+pub guest-mapped : (base page : ℕ) (o : Order) (g : ℕ) (perm : Perm) (stage : Stage) → IsGuest base stage → IsPlace g o (2 ^ 29)
+    → IsGuest base (stage_after (Some (guest_map page o g perm)) stage)
+guest-mapped base page o g perm stage is frames =
+    let c : Change = guest_map page o g perm in
+    let like = shape-like c stage.leaves stage.shape in
+    let e = like.nodes_same in
+    let n = is.low_nodes in
+    record {
+      stage_is = stage-stays 1 c stage is.stage_is;
+      low_nodes = omega arith;
+      low_frames = λ x i. elim (changed-In stage.leaves c x i) [
+        | inl f ↦ let h : Some (record { space = 0; first = page; order = o; frame = g; perm = perm }) ≡ Some f.0 = f.1 in
+            let same : record { space = 0; first = page; order = o; frame = g; perm = perm } ≡ x = let k : record { space = 0; first = page; order = o; frame = g; perm = perm } ≡ f.0 = cc in k ∙ sym f.2 in
+            subst (λ (z : Leaf). z.frame + pages_of z.order ≤ 2 ^ 29) same frames.within
+        | inr j ↦ is.low_frames x j
+      ];
+    }
+
+pub guest-unmapped : (base page : ℕ) (o : Order) (stage : Stage) → IsGuest base stage → IsGuest base (stage_after (Some (Remove 0 page o)) stage)
+guest-unmapped base page o stage is =
+    let c : Change = Remove 0 page o in
+    let like = shape-like c stage.leaves stage.shape in
+    let e = like.nodes_same in
+    let n = is.low_nodes in
+    record {
+      stage_is = stage-stays 1 c stage is.stage_is;
+      low_nodes = omega arith;
+      low_frames = λ x i. is.low_frames x (left-In 0 page o x stage.leaves i);
+    }
+
+-- the leaf at a page is one of the leaves, and covers the page
+pub found-In : (space page : ℕ) (leaves : List Leaf) (x : Leaf) → leaf_at_page space page leaves ≡ Some x → In x leaves
+unfolding leaf_at_page
+found-In space page leaves x e = find-In (covers space page) x leaves e
+
+pub found-covers : (space page : ℕ) (leaves : List Leaf) (x : Leaf) → leaf_at_page space page leaves ≡ Some x → covers space page x ≡ true
+unfolding leaf_at_page
+found-covers space page leaves x e = find-passes (covers space page) x leaves e
+
+pub covers-for : (space page : ℕ) (x : Leaf) → covers space page x ≡ true → x.frame + pages_of x.order ≤ 2 ^ 44 → IsFor page x
+covers-for space page x h few = record { from = grind (arith, nat_tests); to = grind (arith, nat_tests); frames_in = few }
+
+pub guest-reaches : (base page : ℕ) (stage : Stage) (x : Leaf) → IsGuest base stage → leaf_at_page 0 page stage.leaves ≡ Some x → IsReached page x
+guest-reaches base page stage x is found =
+    let low : x.frame + pages_of x.order ≤ 2 ^ 29 = is.low_frames x (found-In 0 page stage.leaves x found) in
+    record { covers = covers-for 0 page x (found-covers 0 page stage.leaves x found) (omega arith); low = low }
+
+-- the guest page of a node is low
+pub node-low : (base level node page : ℕ) (stage : Stage) → IsGuest base stage → IsAt level node page (record { base = base; stage = stage }) → base + node < 2 ^ 29
+node-low base level node page stage is at =
+    let h = (number-some 0 (suc level) (up (suc level) page) node (nodes_in stage.shape) at.at).0 in
+    let n = is.low_nodes in
+    omega arith
+
+-- a load changes the loads alone
+pub loaded-kept : (base n : ℕ) (stage : Stage) → IsGuest base stage → IsGuest base (with_loads n stage)
+loaded-kept base n stage is = record {
+  stage_is = record { spaces_are = is.stage_is.spaces_are; pages_are = is.stage_is.pages_are };
+  low_nodes = is.low_nodes;
+  low_frames = is.low_frames;
+}
+
+pub entry-reaches : (base level page : ℕ) (stage : Stage) → IsGuest base stage → (e : Entry) → IsEntry level page e stage → LeavesReach page e
+entry-reaches base level page stage is (entry.Node next) says = tt
+entry-reaches base level page stage is (entry.Leaf leaf) says = guest-reaches base page stage leaf is says.1
+entry-reaches base level page stage is entry.Nothing says = tt

@@ -1,0 +1,11 @@
+mod ApartLemmas
+mod EntryLemmas
+mod ShapeLemmas
+mod StageLemmas
+mod CodingLemmas
+mod CacheLemmas
+mod CommandLemmas
+mod GuestLemmas
+mod HostLemmas
+mod WalkLemmas
+mod LawLemmas

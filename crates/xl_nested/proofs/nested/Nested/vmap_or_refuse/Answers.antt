@@ -1,0 +1,8 @@
+use Rattle.xl_nested_model.specs.Nested.{NestState}
+use Rattle.xl_nested.proofs.CommandLemmas.{vmap-settled}
+use Rattle.xl_nested.proofs.nested.Nested.vmap_or_refuse.Goals as goal
+
+pub returns : goal.returns
+returns c =
+    let s : NestState = record { guest = c.self.inside.guest; host = c.self.inside.host; counts = c.self.inside.counts } in
+    rw (c.settle.ensures.outcome, c.settle.ensures.counts, ← c.self.view_is) (vmap-settled s c.args.va c.args.order c.args.gaddr c.args.perm c.vmap-served.result c.vmap-served.new.guest c.vmap-served.ensures)

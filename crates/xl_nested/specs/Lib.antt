@@ -1,0 +1,5 @@
+pub mod Coding
+pub mod Walks
+pub mod Kept
+pub mod Laws
+pub mod Commands

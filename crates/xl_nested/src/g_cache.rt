@@ -1,0 +1,180 @@
+//! The G cache: a recency list of leaves of the host's table.
+
+ghost use Rattle.std.specs.Prelude.{ℕ, ◌≡◌, ◌^◌, ◌<◌, ◌+◌, ◌*◌, ◌/◌, ◌%◌, true, find, IfOk, IfSome};
+ghost use Rattle.xl_model.specs.declared.address.Order.TheVariants as order;
+ghost use Rattle.xl_model.specs.Addresses.{order_at, pages_of};
+ghost use Rattle.xl_model.specs.Caches.{empty_cache};
+ghost use Rattle.xl_model.specs.Mapping.{is_leaf};
+ghost use Rattle.xl_model.specs.Recency.{purged, touched, with_newest};
+ghost use Rattle.xl_nested_model.specs.Stages.{covers_guest, host_page, host_space};
+ghost use Rattle.xl_recency.specs.Lists.{Fills, Purges, Touches};
+ghost use Rattle.xl_recency.specs.Widths.{IsWidth};
+ghost use Rattle.xl_nested.specs.Coding.{has_tag, is_among, leaf_of, tag_of as number_of, IsFound, IsKeepable, IsPageWord};
+ghost use Rattle.xl_nested.specs.Commands.{IsPlace};
+
+use std::alloc::Global;
+use std::marker::Model;
+use xl_model::{Leaf, NoMemory, Order, perm_code};
+use xl_recency::{BLANK, Cache, Item};
+
+/// A recency list of leaves of the host's table. Contracts see its width and the leaves, newest first.
+#[derive(Drop)]
+pub(crate) struct GCache {
+    list: Cache<Item>,
+}
+
+impl Model for GCache {
+    ghost use Rattle.xl_model.specs.Caches.{Cached};
+    ghost use Rattle.xl_model.specs.declared.leaf.Leaf.{Leaf};
+    ghost use Rattle.xl_nested.specs.Coding.{leaves_in, AreSmall};
+
+    ghost Value = { Cached Leaf };
+
+    ghost view = { λ c. leaves_in c.list };
+
+    ghost invariant = { λ c. AreSmall c.list.items };
+}
+
+/// The tag of the block of the order that has the guest page.
+#[tactic(auto, unfolding(crate::specs::Coding::tag_of))]
+#[inline(always)]
+fn tag_of(guest_page: u64, order: Order) -> u64
+    requires { guest_page < 2 ^ 29 }
+    ensures { result ≡ number_of guest_page order }
+{
+    match order {
+        Order::K4 => guest_page * 3,
+        Order::M2 => guest_page / 512 * 3 + 1,
+        Order::G1 => guest_page / 262_144 * 3 + 2,
+    }
+}
+
+/// The order of a number.
+#[inline(always)]
+fn order_of(number: u64) -> Order
+    ensures { result ≡ order_at number }
+{
+    match number {
+        0 => Order::K4,
+        1 => Order::M2,
+        _ => Order::G1,
+    }
+}
+
+/// How many pages its block of the order has before the guest page.
+#[inline(always)]
+fn pages_before(order: Order, guest_page: u64) -> u64
+    ensures value { result ≡ guest_page % pages_of order }
+    ensures few { result < 2 ^ 18 }
+{
+    match order {
+        Order::K4 => 0,
+        Order::M2 => guest_page % 512,
+        Order::G1 => guest_page % 262_144,
+    }
+}
+
+/// The word of a guest page in the leaf of an item.
+#[inline(always)]
+fn page_word(item: Item, guest_page: u64) -> u64
+    requires small { item.word < 2 ^ 48 }
+    requires covers { covers_guest guest_page (leaf_of item) ≡ true }
+    ensures says { IsPageWord (host_page guest_page) result (leaf_of item) }
+    ensures small { result < 2 ^ 49 }
+{
+    item.word + pages_before(order_of(item.tag % 3), guest_page) * 16
+}
+
+/// Touches the newest item with one of three tags.
+#[inline(always)]
+fn touch_tags(list: &mut Cache<Item>, k4: u64, m2: u64, g1: u64) -> Option<Item>
+    ensures touched { Touches (is_among k4 m2 g1) list.old.items list.new.items result }
+    ensures width { list.new.width ≡ list.old.width }
+{
+    list.touch(|item| item.tag == k4 || (item.tag == m2 || item.tag == g1))
+}
+
+/// Touches the newest item whose leaf covers a guest page.
+#[inline(always)]
+fn touch_page(list: &mut Cache<Item>, guest_page: u64) -> Option<Item>
+    requires { guest_page < 2 ^ 29 }
+    ensures touched { Touches (is_among (number_of guest_page order.K4)
+        (number_of guest_page order.M2) (number_of guest_page order.G1))
+        list.old.items list.new.items result }
+    ensures width { list.new.width ≡ list.old.width }
+{
+    touch_tags(
+        list,
+        tag_of(guest_page, Order::K4),
+        tag_of(guest_page, Order::M2),
+        tag_of(guest_page, Order::G1),
+    )
+}
+
+/// Removes the items of a tag.
+fn remove_tag(list: &mut Cache<Item>, tag: u64)
+    ensures kept { (left : ℕ) × Purges (has_tag tag) list.old.items list.new.items left }
+    ensures width { list.new.width ≡ list.old.width }
+{
+    list.remove_where(|item| item.tag == tag);
+}
+
+/// The item that keeps a leaf.
+#[inline(always)]
+fn item_of(leaf: Leaf) -> Item
+    requires { IsKeepable leaf }
+    ensures leaf { leaf_of result ≡ leaf }
+    ensures small { result.word < 2 ^ 48 }
+{
+    Item {
+        tag: tag_of(leaf.space as u64 * (1 << 27) + leaf.first, leaf.order),
+        word: leaf.frame * 16 + perm_code(leaf.perm),
+    }
+}
+
+impl GCache {
+    /// An empty list of the width.
+    pub fn open(alloc: Global, width: u8) -> Result<GCache, NoMemory>
+        requires { IsWidth width }
+        ensures { IfOk result (λ cache. cache ≡ empty_cache width) }
+    {
+        let list = Cache::open(alloc, width, BLANK)?;
+        Ok(GCache { list })
+    }
+
+    /// Touches the newest leaf that covers a guest page, and gives the page's word: its frame times 16,
+    /// and the leaf's permission. None where no leaf covers the page.
+    #[inline(always)]
+    pub fn touch(&mut self, guest_page: u64) -> Option<u64>
+        requires { guest_page < 2 ^ 29 }
+        ensures found { IsFound (host_page guest_page) result
+            (find (covers_guest guest_page) self.old.items) }
+        ensures moved { self.new.items ≡ touched (covers_guest guest_page) self.old.items }
+        ensures width { self.new.width ≡ self.old.width }
+        ensures small { IfSome result (λ word. word < 2 ^ 49) }
+    {
+        let Some(item) = touch_page(&mut self.list, guest_page) else {
+            return None;
+        };
+        Some(page_word(item, guest_page))
+    }
+
+    /// Fills the list with a leaf.
+    pub fn fill(&mut self, leaf: Leaf)
+        requires { IsKeepable leaf }
+        ensures filled { self.new.items ≡ with_newest self.old.width leaf self.old.items }
+        ensures width { self.new.width ≡ self.old.width }
+    {
+        self.list.fill(item_of(leaf));
+    }
+
+    /// Removes the leaf of this first guest page and order.
+    pub fn drop_leaf(&mut self, guest_page: u64, order: Order)
+        requires { IsPlace guest_page order (2 ^ 29) }
+        ensures kept { self.new.items ≡
+            purged (is_leaf (host_space guest_page) (host_page guest_page) order) self.old.items }
+        ensures width { self.new.width ≡ self.old.width }
+    {
+        remove_tag(&mut self.list, tag_of(guest_page, order));
+    }
+}
