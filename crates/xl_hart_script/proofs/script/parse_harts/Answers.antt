@@ -1,0 +1,13 @@
+use Rattle.std.proofs.Common.{sym, ap, ◌∙◌, Option}
+use Rattle.xl_hart_model.specs.declared.hart.HartSpec.{HartSpec}
+use Rattle.xl_script.specs.Scripts.{text_read}
+use Rattle.xl_hart_script.specs.Scripts.{harts_said}
+use Rattle.xl_hart_script.proofs.ReadyLemmas.{script-keeps}
+use Rattle.xl_hart_script.proofs.script.parse_harts.Goals as goal
+
+pub invariant_of-result : goal.invariant_of-result
+invariant_of-result c = (
+  c.in-Some.ensures.limits,
+  script-keeps c.args.text.now c.read_text.new.form c.in_ok-commands.commands.items
+      (ap (λ (head : Option HartSpec). text_read harts_said head c.args.text.now) (sym c.new-reader.ensures) ∙ c.in_ok-commands.ensures.reading),
+)
