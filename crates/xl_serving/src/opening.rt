@@ -27,7 +27,7 @@ const MOST_ROWS: usize = 65_536;
 const MOST_COMMANDS: usize = 1_048_576;
 
 /// Reads the configuration and then the script, and opens the rows.
-pub(crate) fn open<R: Rows, F: Folder>(
+pub fn open<R: Rows, F: Folder>(
     alloc: Global,
     words: &Plain<'_>,
     folder: &mut F,
