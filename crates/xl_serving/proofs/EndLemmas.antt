@@ -1,5 +1,5 @@
 -- The end of a report, and a run from its start.
-use Rattle.std.proofs.Common.{◌≡◌, ℕ, Bool, true, List, [], ◌++◌, refl, sym, subst, inl}
+use Rattle.std.proofs.Common.{◌≡◌, ℕ, Bool, true, List, [], ◌++◌, refl, sym, ap, ◌∙◌, subst, inl}
 use Rattle.std.specs.Prelude.{Option, Result, Ok, Err}
 use Rattle.xl_model.specs.declared.fault.InputFault.{InputFault}
 use Rattle.xl_model.specs.Scenes.{Served}
@@ -10,7 +10,7 @@ use Rattle.xl_outside.proofs.SinkLemmas.{sink_cut}
 use Rattle.xl_course.specs.declared.stop.Stop.{Stop}
 use Rattle.xl_course.specs.declared.stop.Stop.TheVariants as why
 use Rattle.xl_course.specs.Stops.{is_all_put, StopsOpening}
-use Rattle.xl_course.specs.Accounts.{EndAfter, Ends, EndsAs}
+use Rattle.xl_course.specs.Accounts.{Account, EndAfter, Ends, EndsAs, faulted}
 use Rattle.xl_words.specs.Words.{AskedPlain}
 use Rattle.xl_serving.specs.Inputs.{Finds}
 use Rattle.xl_serving.specs.Plain.{Start, account_from, rows_from, account_by, rows_by}
@@ -37,19 +37,19 @@ none_failed why.ReadFault h = refl
 none_failed why.WriteFault h = absurd h
 none_failed why.NoMemory h = refl
 
--- there was no start
-stopped_as : {A : Type 0} (view : A → Start) (a : AskedPlain) (t : Trail) (by : Result Start InputFault) (stop : Stop) (out : Option (List ℕ))
-    → Finds view (Err stop) by → EndsAs (Err stop) (account_by a t by) out out
-stopped_as view a t by (why.Input f) out h =
-    subst (λ (z : Result Start InputFault). EndsAs (Err (why.Input f)) (account_by a t z) out out) (sym h) (refl, with_none out)
-stopped_as view a t by why.ReadFault out h = record { done = []; left = (account_by a t by).told; split = refl; wrote = with_none out }
-stopped_as view a t by why.WriteFault out h = absurd h
-stopped_as view a t by why.NoMemory out h = inl refl
+-- there was no start: a fault ends the run, whatever the form, or a read failed, or there was no memory
+stopped_as : {A B : Type 0} (view : A → B) (account : Result B InputFault → Account) (by : Result B InputFault) (stop : Stop) (out : Option (List ℕ))
+    → ((f : InputFault) → account (Err f) ≡ faulted f) → Finds view (Err stop) by → EndsAs (Err stop) (account by) out out
+stopped_as view account by (why.Input f) out faults h =
+    subst (λ (a : Account). EndsAs (Err (why.Input f)) a out out) (sym (ap account h ∙ faults f)) (refl, with_none out)
+stopped_as view account by why.ReadFault out faults h = record { done = []; left = (account by).told; split = refl; wrote = with_none out }
+stopped_as view account by why.WriteFault out faults h = absurd h
+stopped_as view account by why.NoMemory out faults h = inl refl
 
-pub stopped_ends : {K A : Type 0} (roomy : K → ℕ → Type 0) (view : A → Start) (a : AskedPlain) (t : Trail) (by : Result Start InputFault) (stop : Stop) (out : Option (List ℕ)) (old : K) (left : Type 0)
-    → StopsOpening stop → Finds view (Err stop) by → Ends (Err stop) (account_by a t by) roomy out out old old left
-stopped_ends roomy view a t by stop out old left b h = record {
-  as_said = stopped_as view a t by stop out h;
+pub stopped_ends : {K A B : Type 0} (roomy : K → ℕ → Type 0) (view : A → B) (account : Result B InputFault → Account) (by : Result B InputFault) (stop : Stop) (out : Option (List ℕ)) (old : K) (left : Type 0)
+    → ((f : InputFault) → account (Err f) ≡ faulted f) → StopsOpening stop → Finds view (Err stop) by → Ends (Err stop) (account by) roomy out out old old left
+stopped_ends roomy view account by stop out old left faults b h = record {
+  as_said = stopped_as view account by stop out faults h;
   room = λ room m n. (none_failed stop b, (room, m));
   served = tt;
 }

@@ -7,7 +7,7 @@ ghost use Rattle.xl_serving.specs.Serving.{count_of, event_at};
 use xl_model::{Command, Event};
 
 /// How many events a command is.
-pub(crate) fn count(command: Command) -> u32
+pub fn count(command: Command) -> u32
     ensures { result ≡ count_of command }
 {
     match command {
@@ -24,7 +24,7 @@ pub(crate) fn count(command: Command) -> u32
 }
 
 /// The event of this number of a command, from 0.
-pub(crate) fn nth_event(command: Command, i: u32) -> Event
+pub fn nth_event(command: Command, i: u32) -> Event
     requires placed { IsPlaced command }
     requires within { i < count_of command }
     ensures { result ≡ event_at command i }

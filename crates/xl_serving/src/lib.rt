@@ -17,8 +17,9 @@ mod trace;
 
 pub use batch::WaitingEvent;
 pub use ending::write_end;
+pub use events::{count, nth_event};
 pub use made::MadeTape;
-pub use opening::{add_all, read_config, read_script};
+pub use opening::open;
 pub use plain::{Bench, End, PlainOrders};
 pub use rows::Rows;
 pub use running::report;

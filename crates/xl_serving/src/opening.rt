@@ -26,8 +26,14 @@ const MOST_ROWS: usize = 65_536;
 /// The most bytes of a script.
 const MOST_COMMANDS: usize = 1_048_576;
 
-/// Reads the configuration and then the script, and opens the rows.
-pub(crate) fn open<R: Rows, F: Folder>(
+/// Reads the configuration, of at most 65,536 bytes, and then the script, of at most 1,048,576, and opens the
+/// rows.
+///
+/// # Errors
+///
+/// What is wrong with a file, or that a read failed, or that there is no memory; then nothing is said of the
+/// rows.
+pub fn open<R: Rows, F: Folder>(
     alloc: Global,
     words: &Plain<'_>,
     folder: &mut F,
@@ -48,7 +54,7 @@ pub(crate) fn open<R: Rows, F: Folder>(
 }
 
 /// Opens rows, one after another. Where there is no memory for one, nothing is said of the rows.
-pub fn add_all<R: Rows>(alloc: Global, rows: &mut R, designs: Vec<Row>) -> Result<(), NoMemory>
+fn add_all<R: Rows>(alloc: Global, rows: &mut R, designs: Vec<Row>) -> Result<(), NoMemory>
     requires none { R.rows rows.old ≡ [] }
     requires fit { All IsRow (map row_of designs.items) }
     requires few { length designs.items ≤ 16 }
@@ -61,7 +67,7 @@ pub fn add_all<R: Rows>(alloc: Global, rows: &mut R, designs: Vec<Row>) -> Resul
 }
 
 /// Reads the configuration of this name, of at most 65,536 bytes.
-pub fn read_config<F: Folder>(alloc: Global, folder: &mut F, name: &str) -> Result<Vec<Row>, Stop>
+fn read_config<F: Folder>(alloc: Global, folder: &mut F, name: &str) -> Result<Vec<Row>, Stop>
     ensures told { IfSome (F.files folder.old) (λ fs.
         Finds (λ rows. map row_of rows.items) result (rows_in name.now fs)) }
     ensures leaves { FolderAfter F.files F.faults F.absences F.steady folder.old folder.new
@@ -113,11 +119,7 @@ fn made_commands(alloc: Global, records: u32) -> Result<Script, Stop>
 }
 
 /// Reads the script of this name, of at most 1,048,576 bytes; where there is none, the script has no commands.
-pub fn read_script<F: Folder>(
-    alloc: Global,
-    folder: &mut F,
-    name: Option<&str>,
-) -> Result<Script, Stop>
+fn read_script<F: Folder>(alloc: Global, folder: &mut F, name: Option<&str>) -> Result<Script, Stop>
     ensures told { IfSome (F.files folder.old) (λ fs.
         Finds (λ script. script) result (commands_in (option_map (λ s. s.now) name.entry) fs)) }
     ensures leaves { FolderAfter F.files F.faults F.absences F.steady folder.old folder.new

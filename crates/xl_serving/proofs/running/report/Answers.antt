@@ -1,10 +1,10 @@
-use Rattle.std.proofs.Common.{◌≡◌}
+use Rattle.std.proofs.Common.{◌≡◌, refl}
 use Rattle.std.specs.Prelude.{Ok, Err}
 use Rattle.xl_course.specs.Accounts.{Ends}
 use Rattle.xl_course.proofs.ToldLemmas.{told_one, told_then, is_err_by}
 use Rattle.xl_words.specs.Words.{plain_of}
 use Rattle.xl_serving.specs.Inputs.{Finds, trail_for}
-use Rattle.xl_serving.specs.Plain.{start_of, account_from, rows_from, plain_start, plain_account, plain_rows}
+use Rattle.xl_serving.specs.Plain.{start_of, account_by, account_from, rows_from, plain_start, plain_account, plain_rows}
 use Rattle.xl_serving.proofs.EndLemmas.{started_ends, stopped_ends}
 use Rattle.xl_serving.proofs.running.report.Goals as goal
 
@@ -36,4 +36,4 @@ returns-in_err-script-clause-told g c =
     rw (is_err_by c.from_residual.result stop c.from_residual.ensures.1)
     (told_one (g.F.Folder.files c.args.folder.now) (λ fs. Finds (start_of opened) (Err stop) (plain_start a fs)) _
     c.in_err-script.ensures.told
-    (λ fs h. stopped_ends g.K.Sink.roomy (start_of opened) a (trail_for a fs) (plain_start a fs) stop (g.K.Sink.outside out).written out _ c.in_err-script.ensures.before h))
+    (λ fs h. stopped_ends g.K.Sink.roomy (start_of opened) (account_by a (trail_for a fs)) (plain_start a fs) stop (g.K.Sink.outside out).written out _ (λ f. refl) c.in_err-script.ensures.before h))
