@@ -3,6 +3,7 @@ use Rattle.std.specs.Prelude.{◌≡◌, ℕ, zero, suc, Bool, false, List, [], 
 use Rattle.xl_model.specs.declared.address.Kind.{Kind}
 use Rattle.xl_model.specs.declared.fault.InputFault.{InputFault}
 use Rattle.xl_model.specs.Courses.{Trail}
+use Rattle.xl_lackey.specs.declared.skim.Access.{Access}
 use Rattle.xl_outside.specs.Folders.{Files, file_of}
 use Rattle.xl_script.specs.declared.fault.ScriptFault.{ScriptFault}
 use Rattle.xl_script.specs.declared.fault.ScriptFault.TheVariants as fault
@@ -53,6 +54,11 @@ events_from at i (suc n) = at i ∷ events_from at (suc i) n
 abbrev pub event_of : {A C E S : Type 0} → Pairing A C E S → Item E → E
 event_of p (Command e) = e
 event_of p (Referenced number va kind) = p.access va kind
+
+-- The state after some accesses.
+abbrev pub accesses_after : {A C E S : Type 0} → Pairing A C E S → List Access → S → S
+accesses_after p [] s = s
+accesses_after p (a ∷ accesses) s = accesses_after p accesses (p.after (p.access a.va a.kind) s)
 
 -- The lines of an item: an access has one, a command none.
 abbrev pub item_lines : {A C E S : Type 0} → Pairing A C E S → Item E → S → List ℕ
