@@ -1,0 +1,2 @@
+mod AccessLemmas
+mod ScriptLemmas

@@ -1,0 +1,7 @@
+use Rattle.xl_paired.proofs.PairLemmas.{served_more}
+use Rattle.xl_nesting.specs.Nesting.{event_at, nested_form}
+use Rattle.xl_nesting.proofs.events.serve_events.Goals as goal
+
+pub loop-i-preserved : goal.loop-i-preserved
+loop-i-preserved c =
+    served_more nested_form (event_at c.args.first) c.loop-i.i c.args.nested.now c.loop-i.nested c.step.new.self c.loop-i.invariant (rw c.nth_event.ensures at c.step.ensures.after)

@@ -1,0 +1,80 @@
+//! A run of the form: the report of a script over a trace.
+
+ghost use Rattle.std.specs.Prelude.{◌≡◌, Some, IfErr, IfSome};
+ghost use Rattle.xl_outside.specs.Sinks.{GoesOn, IsFlushed};
+ghost use Rattle.xl_course.specs.Stops.{status_by, FolderLeft, is_all_put, StopsRun};
+ghost use Rattle.xl_course.specs.Accounts.{Ends};
+ghost use Rattle.xl_serving.specs.Inputs.{trail_in};
+ghost use Rattle.xl_paired.specs.Pairs.{account_from, state_from};
+ghost use Rattle.xl_words.specs.Words.{pair_of};
+ghost use Rattle.xl_nesting.specs.Nesting.{nested_form};
+ghost use Rattle.xl_nesting.specs.Accounts.{nested_account, nested_left};
+
+use crate::form::Nesting;
+use crate::orders::NestOrders;
+use crate::reading::NestParser;
+use std::alloc::Global;
+use xl_course::Stop;
+use xl_nested::Nested;
+use xl_outside::{Folder, Sink};
+use xl_paired::read_script;
+use xl_serving::TraceFile;
+use xl_words::Pair;
+
+/// Reads the script, opens a guest over a host of its sizes, serves them the script over the trace, and
+/// writes the report: a line for each access where answers are asked for, and the line of the counts. All
+/// memory is taken before the first event. At Ok the guest over its host is there, as the run leaves it.
+pub fn report<F: Folder, K: Sink>(
+    alloc: Global,
+    words: &Pair<'_>,
+    folder: &mut F,
+    out: &mut K,
+    nested: &mut Option<Nested>,
+) -> Result<(), Stop>
+    requires { IsFlushed K.taken K.outside out.old }
+    ensures told { IfSome (F.files folder.old) (λ fs.
+        Ends result (nested_account (pair_of words.now) fs)
+        K.roomy (K.outside out.old).written (K.outside out.new).written out.old out.new
+        (nested.new ≡ nested_left (pair_of words.now) fs)) }
+    ensures leaves { FolderLeft F.files F.faults F.absences F.steady folder.old folder.new
+        (status_by result) }
+    ensures goes_on { GoesOn (is_all_put result) (K.outside out.old) (K.outside out.new) }
+    ensures met { IfErr result StopsRun }
+{
+    let script = read_script::<NestParser, F>(alloc, folder, words.script)?;
+    let orders = NestOrders {
+        script: &script,
+        answers: words.answers,
+    };
+    report_orders(alloc, &orders, words.trace, folder, out, nested)
+}
+
+/// Opens a guest over a host of a script's sizes, serves them the script over the trace of this name, and
+/// writes the report.
+fn report_orders<F: Folder, K: Sink>(
+    alloc: Global,
+    orders: &NestOrders<'_>,
+    trace: &str,
+    folder: &mut F,
+    out: &mut K,
+    nested: &mut Option<Nested>,
+) -> Result<(), Stop>
+    requires { IsFlushed K.taken K.outside out.old }
+    ensures told { IfSome (F.files folder.old) (λ fs.
+        Ends result (account_from nested_form orders.now.answers (trail_in (Some trace.now) fs)
+        orders.now.script.now)
+        K.roomy (K.outside out.old).written (K.outside out.new).written out.old out.new
+        (nested.new ≡ Some (state_from nested_form (trail_in (Some trace.now) fs)
+        orders.now.script.now))) }
+    ensures leaves { FolderLeft F.files F.faults F.absences F.steady folder.old folder.new
+        (status_by result) }
+    ensures goes_on { GoesOn (is_all_put result) (K.outside out.old) (K.outside out.new) }
+    ensures met { IfErr result StopsRun }
+{
+    orders.fit();
+    let mut machine = Nested::open(alloc, orders.script.nest())?;
+    let mut source = TraceFile::open(alloc, trace)?;
+    let end = xl_course::report(&mut Nesting, &mut machine, orders, &mut source, folder, out);
+    *nested = Some(machine);
+    end
+}
