@@ -5,6 +5,6 @@ use Rattle.xl_nested_model.specs.declared.nest.NestEvent.TheVariants as event
 use Rattle.xl_nested_model.specs.Nested.{NestState, after_nest_event, nest_accessed, nest_rule, nest_served}
 
 -- no rule refuses an access
-pub after-access : (va : ℕ) (kind : Kind) (s : NestState) → nest_accessed va kind s ≡ after_nest_event (event.Access va kind) s
+pub after_access : (va : ℕ) (kind : Kind) (s : NestState) → nest_accessed va kind s ≡ after_nest_event (event.Access va kind) s
 unfolding after_nest_event nest_rule nest_served
-after-access va kind s = refl
+after_access va kind s = refl

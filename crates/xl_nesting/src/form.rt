@@ -2,7 +2,10 @@
 
 ghost use Rattle.std.specs.Prelude.{◌≡◌, All, false};
 ghost use Rattle.xl_nested_model.specs.declared.nest.NestEvent.{NestEvent};
-ghost use Rattle.xl_nested_model.specs.Nested.{NestState};
+ghost use Rattle.xl_nested_model.specs.declared.nest.NestEvent.TheVariants as event;
+ghost use Rattle.xl_nested_model.specs.Nested.{NestState, after_nest_event};
+ghost use Rattle.xl_nested_model.specs.Stages.{nested as reply_of};
+ghost use Rattle.xl_nested_model.specs.Tally.{IsSmallNest};
 ghost use Rattle.xl_nested_script.specs.Lines.{IsPlaced};
 ghost use Rattle.xl_paired.specs.Pairs.{Item, meaning_of};
 ghost use Rattle.xl_nesting.specs.Nesting.{nested_form, counts_text};
@@ -10,7 +13,8 @@ ghost use Rattle.xl_nesting.specs.Nesting.{nested_form, counts_text};
 use crate::events::serve_events;
 use xl_course::{Form, Source, Stop};
 use xl_lackey::Access;
-use xl_nested::Nested;
+use xl_model::Kind;
+use xl_nested::{NestReply, Nested};
 use xl_nested_report::{write_nest, write_nest_counts};
 use xl_nested_script::NestCommand;
 use xl_outside::{Failed, Sink};
@@ -62,7 +66,7 @@ impl Form<Nested> for Nesting {
         answers: bool,
         out: &mut K,
     ) -> Result<(), Failed> {
-        let reply = nested.access(access.va, access.kind);
+        let reply = reply(nested, access.va, access.kind);
         if answers {
             return write_nest(out, number, access.kind, access.va, reply);
         }
@@ -80,4 +84,15 @@ impl Form<Nested> for Nesting {
             Err(_) => Err(Stop::WriteFault),
         }
     }
+}
+
+/// Replies to an access.
+#[tactic(auto, using(crate::proofs::AccessLemmas::after_access))]
+#[inline(always)]
+fn reply(nested: &mut Nested, va: u64, kind: Kind) -> NestReply
+    ensures reply { result ≡ reply_of nested.old.guest nested.old.host.stage.leaves va kind }
+    ensures small { IsSmallNest result }
+    ensures after { nested.new ≡ after_nest_event (event.Access va kind) nested.old }
+{
+    nested.access(va, kind)
 }
