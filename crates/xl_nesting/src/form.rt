@@ -2,26 +2,34 @@
 
 ghost use Rattle.std.specs.Prelude.{◌≡◌, All, false};
 ghost use Rattle.xl_nested_model.specs.declared.nest.NestEvent.{NestEvent};
-ghost use Rattle.xl_nested_model.specs.declared.nest.NestEvent.TheVariants as event;
-ghost use Rattle.xl_nested_model.specs.Nested.{NestState, after_nest_event};
-ghost use Rattle.xl_nested_model.specs.Stages.{nested as reply_of};
-ghost use Rattle.xl_nested_model.specs.Tally.{IsSmallNest};
+ghost use Rattle.xl_nested_model.specs.Nested.{NestState};
 ghost use Rattle.xl_nested_script.specs.Lines.{IsPlaced};
 ghost use Rattle.xl_paired.specs.Pairs.{Item, meaning_of};
 ghost use Rattle.xl_nesting.specs.Nesting.{nested_form, counts_text};
 
-use crate::events::serve_events;
+use crate::events::{reply, serve_accesses, serve_events};
 use xl_course::{Form, Source, Stop};
-use xl_lackey::Access;
-use xl_model::Kind;
-use xl_nested::{NestReply, Nested};
+use xl_lackey::{Access, Batch};
+use xl_nested::Nested;
 use xl_nested_report::{write_nest, write_nest_counts};
 use xl_nested_script::NestCommand;
 use xl_outside::{Failed, Sink};
 
-/// The form of two-stage translation. It keeps nothing beside the guest over its host.
+/// The form of two-stage translation. Beside the guest over its host it keeps room for accesses that the trace
+/// gives together.
 #[derive(Drop)]
-pub struct Nesting;
+pub struct Nesting {
+    accesses: Batch,
+}
+
+impl Nesting {
+    /// The form.
+    pub fn new() -> Nesting {
+        Nesting {
+            accesses: Batch::new(),
+        }
+    }
+}
 
 impl Form<Nested> for Nesting {
     type Command = NestCommand;
@@ -74,8 +82,11 @@ impl Form<Nested> for Nesting {
     }
 
     #[inline(always)]
-    fn skim<T: Source>(&mut self, _nested: &mut Nested, _source: &mut T, _most: u64) -> u64 {
-        0
+    fn skim<T: Source>(&mut self, nested: &mut Nested, source: &mut T, most: u64) -> u64 {
+        self.accesses.clear();
+        let taken = source.skim(&mut self.accesses, most);
+        serve_accesses(nested, self.accesses.as_slice());
+        taken
     }
 
     fn finish<K: Sink>(&mut self, nested: &mut Nested, _end: (), out: &mut K) -> Result<(), Stop> {
@@ -84,15 +95,4 @@ impl Form<Nested> for Nesting {
             Err(_) => Err(Stop::WriteFault),
         }
     }
-}
-
-/// Replies to an access.
-#[tactic(auto, using(crate::proofs::AccessLemmas::after_access))]
-#[inline(always)]
-fn reply(nested: &mut Nested, va: u64, kind: Kind) -> NestReply
-    ensures reply { result ≡ reply_of nested.old.guest nested.old.host.stage.leaves va kind }
-    ensures small { IsSmallNest result }
-    ensures after { nested.new ≡ after_nest_event (event.Access va kind) nested.old }
-{
-    nested.access(va, kind)
 }

@@ -74,7 +74,8 @@ fn report_orders<F: Folder, K: Sink>(
     orders.fit();
     let mut machine = Nested::open(alloc, orders.script.nest())?;
     let mut source = TraceFile::open(alloc, trace)?;
-    let end = xl_course::report(&mut Nesting, &mut machine, orders, &mut source, folder, out);
+    let mut form = Nesting::new();
+    let end = xl_course::report(&mut form, &mut machine, orders, &mut source, folder, out);
     *nested = Some(machine);
     end
 }

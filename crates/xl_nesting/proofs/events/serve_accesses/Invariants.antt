@@ -1,0 +1,7 @@
+use Rattle.std.proofs.Common.{◌≡◌, drop}
+use Rattle.xl_paired.specs.Pairs.{accesses_after}
+use Rattle.xl_nesting.specs.Nesting.{nested_form}
+use Rattle.xl_nesting.proofs.events.serve_accesses.Given as goal
+
+abbrev pub invariant-loop-access : goal.invariant-loop-access
+invariant-loop-access l = accesses_after nested_form (drop l.access-index l.fn.accesses) l.nested ≡ accesses_after nested_form l.fn.accesses l.fn.nested
