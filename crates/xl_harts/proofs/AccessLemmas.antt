@@ -10,11 +10,13 @@ use Rattle.xl_model.specs.declared.leaf.Leaf.{Leaf}
 use Rattle.xl_model.specs.declared.leaf.Reply.{Reply}
 use Rattle.xl_model.specs.declared.leaf.Reply.TheVariants as reply
 use Rattle.xl_model.specs.declared.work.Walk.{Walk}
-use Rattle.xl_model.specs.Addresses.{is_canonical, page_of, pages_of}
+use Rattle.std.specs.Prelude.{if◌then◌else◌}
+use Rattle.xl_model.specs.Addresses.{allows, is_canonical, page_of, pages_of}
 use Rattle.xl_model.specs.Base.{plus}
 use Rattle.xl_hart_model.specs.Tally.{count_hit, count_miss}
 use Rattle.xl_hart_model.specs.Harts.{Hart, HartsState, shared_row, current_hart, hart_at, hart_reply, hart_replied, hart_hit, array_walked, accessed_by, hart_accessed, hart_rule, hart_change, hart_refusal, hart_served, after_hart_event}
-use Rattle.xl_model.specs.Mapping.{covers, leaf_at_page, reply_by}
+use Rattle.xl_model.specs.Mapping.{covers, leaf_at_page, reply_by, reply_where}
+use Rattle.xl_model.specs.Tally.{IsSmall}
 use Rattle.xl_model.specs.Rules.{rule, change_of}
 use Rattle.xl_model.specs.Structures.{TableState, IsWalk, walk_answer, table_walked}
 use Rattle.xl_model.specs.Tlb.{TlbArray, array_hit, array_touched, first_found}
@@ -31,6 +33,7 @@ use Rattle.xl_hart_laws.specs.Kept.{IsHartSpec, IsKept}
 use Rattle.xl_hart_laws.proofs.HistoryLemmas.{older-mapping}
 use Rattle.xl_harts.specs.Looks.{IsReached, IsSeen, IsAccess, IsWalked, hart_after, hart_filled, table_looked}
 use Rattle.xl_harts.specs.Views.{IsServed, IsHarts, after_own}
+use Rattle.xl_harts.specs.Events.{HasSmallReplies}
 use Rattle.xl_harts.proofs.RefusalLemmas.{leaf-fit}
 
 -- a leaf of some mapping that covers the page
@@ -184,3 +187,32 @@ access-harts s va kind r t new is capacity pool kept =
       pool_is = subst Q (sym leaves) kept.pool_is;
       room = kept.room;
     }
+
+-- replies are small
+by-small : (found : Option Leaf) (page : ℕ) (kind : Kind) → IfSome found (IsReached page) → IsSmall (reply_by found page kind)
+by-small None page kind h = tt
+by-small (Some x) page kind h =
+    elim (allows x.perm kind) as (λ b. IsSmall (if b then reply.Frame (x.frame + (page - x.first)) else reply.Denied)) [ true ↦ h.small | false ↦ tt ]
+
+first-reached : (hit found : Option Leaf) (page : ℕ) → ((x : Leaf) → hit ≡ Some x → IsReached page x) → ((x : Leaf) → found ≡ Some x → IsReached page x)
+    → IfSome (first_found hit found) (IsReached page)
+first-reached (Some x) found page a b = a x refl
+first-reached None (Some x) page a b = b x refl
+first-reached None None page a b = tt
+
+where-small : (canonical : Bool) (r : Reply) → IsSmall r → IsSmall (reply_where canonical r)
+where-small true r h = h
+where-small false r h = tt
+
+reply-small : (spec : HartSpec) (table : TableState) (h : Hart) → IsServed spec table h → (va : ℕ) (kind : Kind) → IsSmall (hart_reply h table.leaves va kind)
+unfolding hart_reply
+reply-small spec table h served va kind =
+    let page = page_of mode.Sv39 va in
+    let found = leaf_at_page h.space page table.leaves in
+    where-small (is_canonical mode.Sv39 va) (reply_by (first_found (array_hit h.array h.space page) found) page kind)
+    (by-small (first_found (array_hit h.array h.space page) found) page kind
+    (first-reached (array_hit h.array h.space page) found page (λ x e. seen-valid spec table h page x served e)
+    (λ x e. (found-valid spec table.leaves h.space page x served.spec_is served.mapping e).0)))
+
+pub replies-small : (s : HartsState) → IsKept s → HasSmallReplies s
+replies-small s kept n va kind = reply-small s.spec s.table (hart_at n s) (hart-served s kept n) va kind

@@ -105,7 +105,8 @@ impl Harts {
 
     /// The current hart.
     pub fn current(&self) -> u16
-        ensures { result ≡ self.now.current }
+        ensures value { result ≡ self.now.current }
+        ensures within { result < length self.now.harts }
     {
         self.current
     }

@@ -6,7 +6,7 @@ ghost use Rattle.xl_hart_model.specs.Harts.{after_hart_event, hart_outcome, hart
 ghost use Rattle.xl_model.specs.declared.event.Event.TheVariants as event;
 ghost use Rattle.xl_hart_model.specs.declared.hart.HartEvent.TheVariants as step;
 ghost use Rattle.xl_hart_model.specs.declared.hart.HartOutcome.TheVariants as outcome;
-ghost use Rattle.xl_harts.specs.Events.{IsNoFence, IsServable, outcome_of, refused_by};
+ghost use Rattle.xl_harts.specs.Events.{HasSmallReplies, IsNoFence, IsServable, outcome_of, refused_by};
 ghost use Rattle.xl_harts.specs.Views.{after_own, refusal_of};
 
 use crate::harts::Harts;
@@ -18,7 +18,7 @@ impl Harts {
     /// Serves an event: an access is replied to, a command is done, or refused for the first reason
     /// that holds. Before it and after it harts are coherent: each reply to one is of a mapping that its
     /// queue leads back to, no map takes a frame that an array reaches, and each frame answered is in the
-    /// mapping or held back.
+    /// mapping or held back. A frame that is answered is below 2^52.
     #[inline(always)]
     pub fn step(&mut self, event: HartEvent) -> HartOutcome
         requires { IsServable event }
@@ -26,6 +26,7 @@ impl Harts {
         ensures after { self.new ≡ after_hart_event event self.old }
         ensures coherent { IsCoherent self.old }
         ensures stays { IsCoherent self.new }
+        ensures small { HasSmallReplies self.old }
     {
         self.tell_coherent();
         let outcome = self.serve(event);
@@ -33,10 +34,11 @@ impl Harts {
         outcome
     }
 
-    /// Harts are coherent.
+    /// Harts are coherent, and their replies are small.
     #[inline(always)]
     fn tell_coherent(&self)
-        ensures { IsCoherent self.now }
+        ensures coherent { IsCoherent self.now }
+        ensures small { HasSmallReplies self.now }
     {
         // A look at a field brings in what the type keeps.
         let _requests = &self.requests;

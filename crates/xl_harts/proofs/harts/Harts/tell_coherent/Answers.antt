@@ -2,9 +2,15 @@ use Rattle.std.proofs.Common.{subst}
 use Rattle.xl_hart_model.specs.Harts.{HartsState}
 use Rattle.xl_hart_laws.specs.Kept.{IsKept}
 use Rattle.xl_hart_laws.proofs.CoherenceLemmas.{coherent}
+use Rattle.xl_harts.proofs.AccessLemmas.{replies-small}
 use Rattle.xl_harts.proofs.harts.Harts.tell_coherent.Goals as goal
 
-pub returns : goal.returns
-returns c =
+pub returns-clause-coherent : goal.returns-clause-coherent
+returns-clause-coherent c =
     let P : HartsState → Type 0 = λ s. IsKept s in
     coherent c.args.self.now (subst P c.self.view_is c.self.invariant.kept)
+
+pub returns-clause-small : goal.returns-clause-small
+returns-clause-small c =
+    let P : HartsState → Type 0 = λ s. IsKept s in
+    replies-small c.args.self.now (subst P c.self.view_is c.self.invariant.kept)

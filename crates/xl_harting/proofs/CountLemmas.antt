@@ -1,0 +1,52 @@
+-- The lines of harts, one by one.
+use Rattle.std.proofs.Common.{◌≡◌, ℕ, zero, suc, ◌+◌, ◌<◌, Bool, true, false, List, [], ◌∷◌, ◌++◌, length, take, drop, ap, sym, ◌∙◌, subst, arith, append_assoc}
+use Rattle.std.specs.Prelude.{Option, slice_index_or}
+use Rattle.std.proofs.lemmas.List.{append-nil, take-append-drop}
+use Rattle.xl_outside.specs.Sinks.{Outside, SinkAfter}
+use Rattle.xl_outside.proofs.SinkLemmas.{sink_then, sink_cut}
+use Rattle.xl_hart_model.specs.Harts.{Hart}
+use Rattle.xl_hart_report.specs.Lines.{hart_counts_line}
+use Rattle.xl_harting.specs.Harting.{counts_lines}
+
+lines-more : (n i : ℕ) (harts : List Hart) (none : Hart) → i < length harts
+    → counts_lines n (take (suc i) harts) ≡ counts_lines n (take i harts) ++ hart_counts_line (n + i) (slice_index_or harts i none).counts
+lines-more n i [] none h = absurd (omega arith)
+lines-more n zero (x ∷ harts) none h =
+    let e : n ≡ n + 0 = omega arith in append-nil (hart_counts_line n x.counts) ∙ ap (λ (j : ℕ). hart_counts_line j x.counts) e
+lines-more n (suc i) (x ∷ harts) none h =
+    let e : (n + 1) + i ≡ n + suc i = omega arith in
+    ap (λ (rest : List ℕ). hart_counts_line n x.counts ++ rest)
+    (lines-more (n + 1) i harts none (omega arith) ∙ ap (λ (j : ℕ). counts_lines (n + 1) (take i harts) ++ hart_counts_line j (slice_index_or harts i none).counts) e)
+    ∙ sym (append_assoc (hart_counts_line n x.counts) (counts_lines (n + 1) (take i harts)) (hart_counts_line (n + suc i) (slice_index_or harts i none).counts))
+
+lines-append : (n : ℕ) (xs ys : List Hart) → counts_lines n (xs ++ ys) ≡ counts_lines n xs ++ counts_lines (n + length xs) ys
+lines-append n [] ys = let e : n ≡ n + 0 = omega arith in ap (λ (j : ℕ). counts_lines j ys) e
+lines-append n (x ∷ xs) ys =
+    let e : (n + 1) + length xs ≡ n + suc (length xs) = omega arith in
+    ap (λ (rest : List ℕ). hart_counts_line n x.counts ++ rest) (lines-append (n + 1) xs ys ∙ ap (λ (j : ℕ). counts_lines (n + 1) xs ++ counts_lines j ys) e)
+    ∙ sym (append_assoc (hart_counts_line n x.counts) (counts_lines (n + 1) xs) (counts_lines (n + suc (length xs)) ys))
+
+module _ {K : Type 0} (taken : K → Option (List ℕ)) (outside : K → Outside) (roomy : K → ℕ → Type 0) (harts : List Hart) (none : Hart) (i : ℕ) (inside : i < length harts) (a b c : K) where
+  line-next : (whole : Bool) → SinkAfter taken outside roomy (counts_lines 0 (take i harts)) a b true
+      → SinkAfter taken outside roomy (hart_counts_line i (slice_index_or harts i none).counts) b c whole → SinkAfter taken outside roomy (counts_lines 0 (take (suc i) harts)) a c whole
+  line-next whole x y =
+      let e : i ≡ 0 + i = omega arith in
+      let line = λ (j : ℕ). hart_counts_line j (slice_index_or harts i none).counts in
+      subst (λ (text : List ℕ). SinkAfter taken outside roomy text a c whole) (ap (λ (j : ℕ). counts_lines 0 (take i harts) ++ line j) e ∙ sym (lines-more 0 i harts none inside))
+      (sink_then taken outside roomy (counts_lines 0 (take i harts)) (line i) a b c whole x y)
+
+  -- the line of one hart more was put
+  pub lines_next : SinkAfter taken outside roomy (counts_lines 0 (take i harts)) a b true
+      → SinkAfter taken outside roomy (hart_counts_line i (slice_index_or harts i none).counts) b c true → SinkAfter taken outside roomy (counts_lines 0 (take (i + 1) harts)) a c true
+  lines_next x y =
+      let e : suc i ≡ i + 1 = omega arith in
+      subst (λ (j : ℕ). SinkAfter taken outside roomy (counts_lines 0 (take j harts)) a c true) e (line-next true x y)
+
+  -- the line of a hart wasn't put whole
+  pub lines_lost : SinkAfter taken outside roomy (counts_lines 0 (take i harts)) a b true
+      → SinkAfter taken outside roomy (hart_counts_line i (slice_index_or harts i none).counts) b c false → SinkAfter taken outside roomy (counts_lines 0 harts) a c false
+  lines_lost x y =
+      let first = take (suc i) harts in
+      let rest = drop (suc i) harts in
+      subst (λ (text : List ℕ). SinkAfter taken outside roomy text a c false) (sym (lines-append 0 first rest) ∙ ap (counts_lines 0) (take-append-drop (suc i) harts))
+      (sink_cut taken outside roomy (counts_lines 0 first) (counts_lines (0 + length first) rest) a c (line-next false x y))

@@ -1,0 +1,25 @@
+-- The events of a command, and what an access is answered.
+use Rattle.std.proofs.Common.{◌≡◌, ℕ, [], refl}
+use Rattle.xl_model.specs.declared.address.Kind.{Kind}
+use Rattle.xl_model.specs.declared.leaf.Reply.{Reply}
+use Rattle.xl_model.specs.Rules.{rule, change_of}
+use Rattle.xl_hart_model.specs.declared.hart.HartOutcome.TheVariants as outcome
+use Rattle.xl_hart_model.specs.Harts.{HartsState, current_hart, hart_change, hart_outcome, hart_refusal, hart_reply, hart_rule}
+use Rattle.xl_hart_model.specs.declared.hart.HartEvent.{HartEvent}
+use Rattle.xl_hart_script.specs.declared.command.HartCommand.{HartCommand}
+use Rattle.xl_hart_script.specs.declared.command.HartCommand.TheVariants as command
+use Rattle.xl_harting.specs.Harting.{access_of, events_of}
+
+-- an access is replied to
+pub access_outcome : (va : ℕ) (kind : Kind) (s : HartsState) → hart_outcome (access_of va kind) s ≡ outcome.Replied (hart_reply (current_hart s) s.table.leaves va kind)
+unfolding hart_outcome hart_refusal hart_rule rule hart_change change_of
+access_outcome va kind s = refl
+
+pub replied : (r q : Reply) → outcome.Replied r ≡ outcome.Replied q → r ≡ q
+replied r q e = cc
+
+-- a command that is no events has none
+pub no_events : (c : HartCommand) → ((first : HartEvent) (n : ℕ) → c ≡ command.Events first n → ⊥) → events_of c ≡ []
+no_events (command.Events first n) h = absurd (h first n refl)
+no_events (command.Run n) h = refl
+no_events command.RunRest h = refl

@@ -1,0 +1,3 @@
+mod ScriptLemmas
+mod EventLemmas
+mod CountLemmas

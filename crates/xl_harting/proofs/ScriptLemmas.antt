@@ -1,0 +1,17 @@
+-- The commands of a script's steps.
+use Rattle.std.proofs.Common.{List, [], ◌∷◌, map}
+use Rattle.std.specs.Prelude.{All}
+use Rattle.std.proofs.lemmas.List.Elements.{All-nil, All-cons, All-head, All-tail}
+use Rattle.xl_hart_script.specs.declared.command.HartCommand.{HartCommand}
+use Rattle.xl_hart_script.specs.declared.command.HartCommand.TheVariants as command
+use Rattle.xl_hart_script.specs.Scripts.{IsReady}
+use Rattle.xl_course.specs.Courses.{commands_of}
+use Rattle.xl_harting.specs.Harting.{step_of}
+
+-- what holds of a script's commands holds of those of its steps
+pub ready_steps : (cs : List HartCommand) → All IsReady cs → All IsReady (commands_of (map step_of cs))
+ready_steps [] h = All-nil IsReady
+ready_steps (command.Events first n ∷ cs) h =
+    All-cons IsReady (command.Events first n) (commands_of (map step_of cs)) (All-head IsReady (command.Events first n) cs h) (ready_steps cs (All-tail IsReady (command.Events first n) cs h))
+ready_steps (command.Run n ∷ cs) h = ready_steps cs (All-tail IsReady (command.Run n) cs h)
+ready_steps (command.RunRest ∷ cs) h = ready_steps cs (All-tail IsReady command.RunRest cs h)

@@ -1,0 +1,12 @@
+use Rattle.std.specs.Prelude.{is_ok}
+use Rattle.xl_outside.proofs.SinkLemmas.{sink_then}
+use Rattle.xl_hart_model.specs.Harts.{all_counts}
+use Rattle.xl_hart_report.specs.Lines.{all_counts_line}
+use Rattle.xl_harting.specs.Harting.{counts_lines}
+use Rattle.xl_harting.proofs.ending.write_end.Goals as goal
+
+pub returns-in-Ok : goal.returns-in-Ok
+returns-in-Ok g c =
+    let s = c.args.harts.now in
+    sink_then g.K.Sink.taken g.K.Sink.outside g.K.Sink.roomy (counts_lines 0 s.harts) (all_counts_line (all_counts s)) c.args.out.now c.write_each.new.out c.write_all_counts.new.out
+    (is_ok c.write_all_counts.result) c.in-Ok.ensures (rw c.all.ensures at c.write_all_counts.ensures)

@@ -1,0 +1,8 @@
+use Rattle.xl_paired.proofs.PairLemmas.{served_more}
+use Rattle.xl_harting.specs.Harting.{event_at, harts_form}
+use Rattle.xl_harting.proofs.events.serve_events.Goals as goal
+
+pub loop-i-preserved : goal.loop-i-preserved
+loop-i-preserved c =
+    served_more harts_form (event_at c.args.first) c.loop-i.i c.args.harts.now c.loop-i.harts c.step.new.self c.loop-i.invariant
+    (rw c.nth_event.ensures at c.step.ensures.after)

@@ -1,0 +1,24 @@
+use Rattle.std.specs.Prelude.{[]}
+use Rattle.std.proofs.Common.{refl}
+use Rattle.std.proofs.lemmas.List.Elements.{All-tail}
+use Rattle.xl_hart_script.specs.Scripts.{IsReady}
+use Rattle.xl_paired.specs.Pairs.{events_from}
+use Rattle.xl_paired.proofs.PairLemmas.{served_commands}
+use Rattle.xl_harting.specs.Harting.{event_at, harts_form}
+use Rattle.xl_harting.proofs.EventLemmas.{no_events}
+use Rattle.xl_harting.proofs.form.HartingFormHarts.command.Goals as goal
+
+pub returns-in-Events-clause-served : goal.returns-in-Events-clause-served
+returns-in-Events-clause-served g c =
+    rw c.in-Events.is (served_commands harts_form g.K.Sink.taken g.K.Sink.outside g.K.Sink.roomy c.args._answers (events_from (event_at c.in-Events.first) 0 c.in-Events.n)
+    c.args.harts.now c.serve_events.new.harts c.args._out.now c.serve_events.ensures)
+
+pub returns-in-Events-clause-can : goal.returns-in-Events-clause-can
+returns-in-Events-clause-can g c rest h = All-tail IsReady c.args.command rest h
+
+pub returns-in_default : goal.returns-in_default
+returns-in_default g c = record {
+  served = rw (no_events c.args.command c.in_default.not-Events)
+      (served_commands harts_form g.K.Sink.taken g.K.Sink.outside g.K.Sink.roomy c.args._answers [] c.args.harts.now c.args.harts.now c.args._out.now refl);
+  can = λ rest h. All-tail IsReady c.args.command rest h;
+}

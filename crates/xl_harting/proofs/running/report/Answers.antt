@@ -1,0 +1,39 @@
+use Rattle.std.proofs.Common.{◌≡◌}
+use Rattle.std.specs.Prelude.{Some, Ok, Err}
+use Rattle.xl_course.specs.Accounts.{Ends}
+use Rattle.xl_course.proofs.ToldLemmas.{told_one, told_then, is_err_by}
+use Rattle.xl_hart_script.specs.Scripts.{HartText, harts_script_of}
+use Rattle.xl_words.specs.Words.{pair_of}
+use Rattle.xl_serving.specs.Inputs.{Finds, trail_in}
+use Rattle.xl_paired.specs.Pairs.{account_from, state_from, script_in}
+use Rattle.xl_paired.proofs.PairLemmas.{served_ends, stopped_ends}
+use Rattle.xl_harting.specs.Harting.{harts_form, harts_account, harts_left}
+use Rattle.xl_harting.proofs.running.report.Goals as goal
+
+pub returns-clause-told : goal.returns-clause-told
+returns-clause-told g c =
+    let a = pair_of c.args.words.now in
+    let script = c.in_ok-script.script in
+    let end = c.report_orders.result in
+    let roomy = g.K.Sink.roomy in
+    let out = c.args.out.now in
+    let new = c.report_orders.new.out in
+    let left = c.report_orders.new.harts in
+    let before = (g.K.Sink.outside out).written in
+    let after = (g.K.Sink.outside new).written in
+    told_then (g.F.Folder.files c.args.folder.now) (g.F.Folder.files c.read_script.new.folder)
+    (λ fs. Finds (λ (s : HartText). s) (Ok script) (script_in harts_script_of a.script fs))
+    (λ fs. Ends end (account_from harts_form a.answers (trail_in (Some a.trace) fs) script) roomy before after out new (left ≡ Some (state_from harts_form (trail_in (Some a.trace) fs) script)))
+    (λ fs. Ends end (harts_account a fs) roomy before after out new (left ≡ harts_left a fs))
+    c.in_ok-script.ensures.leaves.keeps c.in_ok-script.ensures.told c.report_orders.ensures.told
+    (λ fs h k. served_ends harts_form a.answers roomy (trail_in (Some a.trace) fs) (script_in harts_script_of a.script fs) script end before after out new left h k)
+
+pub returns-in_err-script-clause-told : goal.returns-in_err-script-clause-told
+returns-in_err-script-clause-told g c =
+    let a = pair_of c.args.words.now in
+    let stop = c.in_err-script.field-0.0 in
+    let out = c.args.out.now in
+    rw (is_err_by c.from_residual.result stop c.from_residual.ensures.1)
+    (told_one (g.F.Folder.files c.args.folder.now) (λ fs. Finds {A = HartText} (λ s. s) (Err stop) (script_in harts_script_of a.script fs)) _
+    c.in_err-script.ensures.told
+    (λ fs h. stopped_ends harts_form a.answers g.K.Sink.roomy (trail_in (Some a.trace) fs) (script_in harts_script_of a.script fs) (λ (s : HartText). s) stop (g.K.Sink.outside out).written out _ c.in_err-script.ensures.before h))

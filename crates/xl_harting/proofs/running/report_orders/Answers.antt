@@ -1,0 +1,37 @@
+use Rattle.std.proofs.Common.{◌≡◌, ◌∙◌, ap, false}
+use Rattle.std.specs.Prelude.{Some, Ok}
+use Rattle.xl_outside.specs.Folders.{file_of}
+use Rattle.xl_course.specs.Meanings.{states_after}
+use Rattle.xl_course.specs.Accounts.{account, Ends}
+use Rattle.xl_course.proofs.ToldLemmas.{told_one}
+use Rattle.xl_serving.specs.Inputs.{trail_in}
+use Rattle.xl_serving.specs.Traces.{trail_of, left_of}
+use Rattle.xl_serving.specs.Tapes.{IsFedFrom}
+use Rattle.xl_paired.specs.Pairs.{meaning_of, course_of}
+use Rattle.xl_paired.proofs.PairLemmas.{course_ends}
+use Rattle.xl_harting.specs.Harting.{harts_form}
+use Rattle.xl_harting.proofs.running.report_orders.Goals as goal
+
+pub returns-clause-told : goal.returns-clause-told
+returns-clause-told g c =
+    let source = c.in_ok-source.source in
+    let script = c.args.orders.now.script.now in
+    let answers = c.args.orders.now.answers in
+    let trace = c.args.trace.now in
+    let name = source.name.now in
+    let opened = c.in_ok-machine.machine in
+    let left = c.report-end.new.rack in
+    let end = c.report-end.result in
+    let roomy = g.K.Sink.roomy in
+    let out = c.args.out.now in
+    let new = c.report-end.new.out in
+    let before = (g.K.Sink.outside out).written in
+    let after = (g.K.Sink.outside new).written in
+    told_one (g.F.Folder.files c.args.folder.now)
+    (λ fs. IsFedFrom (file_of fs name) source.tape → Ends end (account (meaning_of harts_form) answers harts_form.last false (course_of harts_form script (left_of (file_of fs name) source.tape)) opened)
+    roomy before after out new (left ≡ states_after (meaning_of harts_form) (course_of harts_form script (left_of (file_of fs name) source.tape)).items opened)) _
+    c.report-end.ensures.told
+    (λ fs h. course_ends harts_form answers roomy (trail_in (Some trace) fs) (Ok script) script (left_of (file_of fs name) source.tape) opened left end before after out new
+    (c.in_ok-machine.ensures ∙ ap (λ spec. harts_form.opens (record { spec = spec; commands = script.commands })) c.spec.ensures.value)
+    ((c.in_ok-source.ensures.unread (file_of fs name)).1 ∙ ap (λ n. trail_of (file_of fs n)) c.in_ok-source.ensures.name)
+    (h (c.in_ok-source.ensures.unread (file_of fs name)).0))

@@ -1,0 +1,2 @@
+pub mod Harting
+pub mod Cuts
