@@ -46,7 +46,6 @@ STAGES = {
     "nested-cached": (16, "gmap 100000 4k rw-u 8\ngmap 1000000 4k rwxu 1024\n"),
     "nested-large": (16, "gmap 0 2m rwxu 1\ngmap 1000000 2m rwxu 2\n"),
 }
-MAPPED_AT_ONCE = 16  # as many requests as a queue holds
 
 
 def stages_script(name):
@@ -58,11 +57,17 @@ def all_take(harts, requests):
     return "".join(f"take {hart}\n" * requests for hart in range(harts))
 
 
-def harts_script(records, rng, harts=4, queue=MAPPED_AT_ONCE):
-    """1,024 pages are mapped; then turns of a thousand records, a hart each, and behind each turn a protect that all take."""
-    lines = [f"harts {harts} {queue} 8192 64 1 64\n"]
-    for first in range(0, 1024, MAPPED_AT_ONCE):
-        lines += [f"map 0 {0x10000000 + first * 4096:x} 4k rwxu {MAPPED_AT_ONCE}\n", all_take(harts, MAPPED_AT_ONCE)]
+def mapping_harts(harts, queue, sets, pages, at=0x10000000):
+    """The head of a script of harts, and maps of so many pages, as many at a time as a queue holds requests."""
+    lines = [f"harts {harts} {queue} 16384 64 1 {sets}\n"]
+    for first in range(0, pages, queue):
+        lines += [f"map 0 {at + first * 4096:x} 4k rwxu {queue}\n", all_take(harts, queue)]
+    return "".join(lines)
+
+
+def harts_script(records, rng, harts=4):
+    """Turns of a thousand records, a hart each, and behind each turn a protect that all take."""
+    lines = [mapping_harts(harts, 16, 64, 1024)]
     for turn in range(records // 1000):
         page = 0x10000000 + rng.randrange(1024) * 4096
         lines.append(f"hart {turn % harts}\nrun 1000\nprotect 0 {page:x} 4k rwxu\n{all_take(harts, 1)}")
