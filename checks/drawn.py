@@ -21,6 +21,7 @@ class Drawn:
     flags = ("answers",)
     script_words = FORM_WORDS
     spread = 2  # an access is to one of the pages, or so many behind it
+    lengths = [0, 3, 50, 400]  # of traces
 
     def __init__(self, rng, without=()):
         self.rng = rng
@@ -55,7 +56,7 @@ class Drawn:
         return self.rng.choice(forms).format(address, size)
 
     def trace(self):
-        lines = [self.record() for _ in range(self.rng.choice([0, 3, 50, 400]))]
+        lines = [self.record() for _ in range(self.rng.choice(self.lengths))]
         if self.likely(0.3):
             lines.insert(self.rng.randint(0, len(lines)),
                          self.rng.choice(["==1== x", "--", "** x", "SB 0", "#", "", " \t", "=" * 70000, "\r"]))
@@ -178,13 +179,14 @@ class Harts(Drawn):
     """Some harts, of which each now and then takes what waits for it."""
 
     form = ["harts"]
+    lengths = [0, 50, 400, 1000]
 
     def __init__(self, rng, without=()):
         super().__init__(rng, without)
         self.harts = rng.choice([1, 2, 2, 4, 8])
         self.spaces = rng.choice([1, 1, 2, 64])
         origins = [0, 0, 508, (1 << 18) - 4, NEGATIVE >> 12] + [(1 << 26) - 4] * rng.choice([0, 1])
-        self.pages = [rng.choice(origins) + rng.randrange(3) for _ in range(rng.choice([1, 2, 4]))]
+        self.pages = [rng.choice(origins) + rng.randrange(3) for _ in range(rng.choice([1, 1, 2, 4]))]
         self.mapped = []
 
     def head(self):
@@ -222,8 +224,8 @@ class Harts(Drawn):
 
     def lines(self):
         """One line, or some that belong together: all harts take, in any order."""
-        verb = self.rng.choice(["map"] * 4 + ["unmap", "protect", "move", "hart", "hart", "take", "takes", "run", "run",
-                                              "space"])
+        verb = self.rng.choice(["map"] * 4 + ["unmap", "unmap", "protect", "move", "hart", "hart", "take", "takes"]
+                               + ["run"] * 4 + ["space"])
         match verb:
             case "hart" | "take":
                 return [f"{verb} {self.hart()}"]
@@ -231,7 +233,7 @@ class Harts(Drawn):
                 order = self.rng.sample(range(self.harts), self.harts)
                 return [f"take {hart}" for hart in order for _ in range(self.rng.choice([1, 1, 2]))]
             case "run":
-                return [f"run {self.rng.choice(['1', '5', '20', '60'])}" if self.likely(0.99) else "run rest"]
+                return [f"run {self.rng.choice(['1', '5', '20'])}" if self.likely(0.99) else "run rest"]
             case "space":
                 return [f"space {self.space()}"]
             case _:
@@ -239,5 +241,5 @@ class Harts(Drawn):
 
     def script(self):
         lines = [line for _ in range(self.rng.choice([0, 4])) for line in self.change("map")]
-        lines += [line for _ in range(self.rng.choice([0, 3, 20, 80])) for line in self.lines()]
+        lines += [line for _ in range(self.rng.choice([0, 20, 80, 150])) for line in self.lines()]
         return self.written(headed(self.rng, self.head(), lines))
