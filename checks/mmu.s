@@ -1,12 +1,21 @@
 # The guest of checks/mmu: it makes each request's access as a user would, and keeps what came of it. It runs in machine
 # mode, whose own accesses are not translated. A request has eight words of 64 bits:
-#     0 satp, 1 the virtual address, 2 the kind (0 load, 1 store, 2 fetch), 3 the awaited physical address, 4 a token to store
+#     0 satp, 1 the virtual address, 2 the kind (0 load, 1 store, 2 fetch; 3, 4, 5 the same by a guest's user, over two
+#     stages), 3 the awaited physical address, 4 a token to store
 # and what came of it:
 #     5 the trap's code; 8, a call by user mode, where the fetched code made its call, and where a load or store was done
 #     6 what a load read, what lies at the awaited physical address behind a store, or what the fetched code left in a0
+#     7 what mtinst says of the trap
+# In front of the requests stand their number, and hgatp and vsatp for those of a guest's user.
 .equ DONE, 8
 .equ MPRV, 1 << 17
 .equ MPP, 3 << 11
+.equ MPV, 1 << 39
+.equ SPVP, 1 << 8
+.equ VSATP, 0x280
+.equ HSTATUS, 0x600
+.equ HGATP, 0x680
+.equ MTINST, 0x34a
 .globl _start
 _start:
     li t0, -1               # user mode may reach all of physical memory
@@ -17,6 +26,8 @@ _start:
     csrw mtvec, t0
     la s0, requests
     ld s1, 0(s0)            # their number, and then the requests
+    ld s7, 8(s0)
+    ld s8, 16(s0)
     addi s0, s0, 64
 next:
     beqz s1, finish
@@ -31,6 +42,8 @@ next:
     li t0, MPP
     csrc mstatus, t0        # what mret and MPRV go to is user mode
     li t1, MPRV
+    li t2, 3
+    bgeu s3, t2, guest
     li t2, 1
     beq s3, t2, store
     bgtu s3, t2, fetch
@@ -48,18 +61,44 @@ store:
     sd s6, 0(s4)            # later requests find what lay there
 done:
     li a1, DONE
+    li a2, 0
     j keep
 fetch:
     csrw mepc, s2
     mret
+guest:
+    csrw HGATP, s7
+    csrw VSATP, s8
+    .insn r 0x73, 0, 0x31, x0, x0, x0   # hfence.gvma
+    .insn r 0x73, 0, 0x11, x0, x0, x0   # hfence.vvma
+    li t0, SPVP             # hlv and hsv are of the guest's user
+    csrc HSTATUS, t0
+    beq s3, t2, guest_load
+    li t2, 4
+    bgtu s3, t2, guest_fetch
+guest_store:
+    ld s6, 0(s4)
+    .insn r 0x73, 4, 0x37, x0, s2, s5   # hsv.d s5, (s2)
+    ld a0, 0(s4)
+    sd s6, 0(s4)
+    j done
+guest_load:
+    .insn r 0x73, 4, 0x36, a0, s2, x0   # hlv.d a0, (s2)
+    j done
+guest_fetch:
+    li t0, MPV
+    csrs mstatus, t0
+    j fetch
 .balign 4
 trapped:
-    li t1, MPRV
+    li t1, MPRV | MPV
     csrc mstatus, t1
     csrr a1, mcause
+    csrr a2, MTINST
 keep:
     sd a1, 40(s0)
     sd a0, 48(s0)
+    sd a2, 56(s0)
     addi s0, s0, 64
     addi s1, s1, -1
     j next

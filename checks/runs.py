@@ -90,6 +90,11 @@ class Place:
                 words += ["--" + name, self.write(name, text)]
         return words + list(more)
 
+    def form_words(self, form, script, trace, *more):
+        """The words of a run of the form `nested` or `harts` with files of these texts."""
+        files = ["--script", self.write("script", script), "--trace", self.write("trace", trace)]
+        return [self.program, form, *files, *more]
+
 
 class Tally:
     """What the checks found: how many there were, and which failed."""

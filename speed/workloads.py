@@ -24,12 +24,12 @@ def timed_row(table):
     return row(table, table, frames=8192, spaces=2, tlb=TWO_LEVELS, **TIMED_TABLES[table])
 
 
-def made_trace(records, rng):
-    """Lines in Lackey's form: three in four touch one of 64 pages, the others one of 4,096."""
+def made_trace(records, rng, pages=4096):
+    """Lines in Lackey's form: three in four touch one of 64 pages, the others one of `pages`."""
     lines = []
     for _ in range(records):
         letter, size = rng.choice((("I ", 4),) * 3 + ((" L", 8),) * 3 + ((" S", 8), (" M", 8)))
-        page = rng.randrange(64 if rng.random() < 0.75 else 4096)
+        page = rng.randrange(64 if rng.random() < 0.75 else pages)
         lines.append(f"{letter} {0x10000000 + page * 4096 + rng.randrange(512) * 8:08x},{size}\n")
     return "".join(lines)
 
@@ -38,6 +38,40 @@ def made_script(records, rng):
     """Each page is mapped where it is touched first, and after each 64 records one of 4,096 is unmapped."""
     unmaps = (f"run 64\nunmap 0 {0x10000000 + rng.randrange(4096) * 4096:08x} 4k\n" for _ in range(records // 64))
     return "demand 0 10000000 4096 4k rwxu\n" + "".join(unmaps)
+
+
+# A guest's 1,024 pages, by the width of the G cache and the host's pages; its nodes stand at guest page 100 (hexadecimal).
+STAGES = {
+    "nested": (0, "gmap 100000 4k rw-u 8\ngmap 1000000 4k rwxu 1024\n"),
+    "nested-cached": (16, "gmap 100000 4k rw-u 8\ngmap 1000000 4k rwxu 1024\n"),
+    "nested-large": (16, "gmap 0 2m rwxu 1\ngmap 1000000 2m rwxu 2\n"),
+}
+
+
+def stages_script(name):
+    width, host = STAGES[name]
+    return f"guest 100 16 8192 64 {width}\n{host}vmap 10000000 4k 1000000 rwxu 1024\n"
+
+
+def all_take(harts, requests):
+    return "".join(f"take {hart}\n" * requests for hart in range(harts))
+
+
+def mapping_harts(harts, queue, sets, pages, at=0x10000000):
+    """The head of a script of harts, and maps of so many pages, as many at a time as a queue holds requests."""
+    lines = [f"harts {harts} {queue} 16384 64 1 {sets}\n"]
+    for first in range(0, pages, queue):
+        lines += [f"map 0 {at + first * 4096:x} 4k rwxu {queue}\n", all_take(harts, queue)]
+    return "".join(lines)
+
+
+def harts_script(records, rng, harts=4):
+    """Turns of a thousand records, a hart each, and behind each turn a protect that all take."""
+    lines = [mapping_harts(harts, 16, 64, 1024)]
+    for turn in range(records // 1000):
+        page = 0x10000000 + rng.randrange(1024) * 4096
+        lines.append(f"hart {turn % harts}\nrun 1000\nprotect 0 {page:x} 4k rwxu\n{all_take(harts, 1)}")
+    return "".join(lines)
 
 
 def captured_trace(path):

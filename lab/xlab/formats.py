@@ -121,6 +121,30 @@ FORMS = {
     "demand": ("SPACE", "ADDR", "PAGES", "ORDER", "PERM"),
     "run": ("COUNT",),
 }
+# Those of the forms `nested` and `harts`; the first of each is the head.
+SCRIPTS = {
+    "plain": FORMS,
+    "nested": {
+        "guest": ("BASE", "NODES", "FRAMES", "GNODES", "GCACHE"),
+        "gmap": ("ADDR", "ORDER", "PERM", "[N]"),
+        "gunmap": ("ADDR", "ORDER", "[N]"),
+        "vmap": ("ADDR", "ORDER", "ADDR", "PERM", "[N]"),
+        "vunmap": ("ADDR", "ORDER", "[N]"),
+        "run": ("COUNT",),
+    },
+    "harts": {
+        "harts": ("HARTS", "QUEUE", "FRAMES", "NODES", "SPACES", "SETS"),
+        "hart": ("HART",),
+        "take": ("HART",),
+    }
+    | {form: FORMS[form] for form in ("map", "unmap", "protect", "move", "space", "run")},
+}
+# Of words that are decimal, the least and the most.
+LIMITS = {
+    "SPACE": (0, 65535), "N": (1, 1048576), "COUNT": (1, 4294967295), "PAGES": (1, 2**45), "NODES": (1, 16384),
+    "FRAMES": (1, 4194304), "GNODES": (4, 16384), "GCACHE": (0, 64), "HARTS": (1, 8), "QUEUE": (1, 64),
+    "SPACES": (1, 64), "SETS": (1, 2048), "HART": (0, 65535),
+}  # fmt: skip
 WORDS = {
     "SPACE": "SPACE is decimal, 0 to 65535, without zeros in front",
     "ADDR": "an address is 1 to 16 hexadecimal digits, with or without 0x",
@@ -129,6 +153,11 @@ WORDS = {
     "PAGES": "PAGES is decimal, 1 to 35184372088832 (pages of 4 KiB), without zeros in front",
     "N": "N is decimal, 1 to 1048576, without zeros in front",
     "COUNT": "run wants a decimal from 1 to 4294967295, or the word rest",
+    "BASE": "BASE is the guest page of the guest's first node: 1 to 16 hexadecimal digits, with or without 0x",
+    "GCACHE": f"the G cache's width is {A_WIDTH}",
+} | {
+    name: f"{name} is decimal, {LIMITS[name][0]} to {LIMITS[name][1]}, without zeros in front"
+    for name in ("NODES", "FRAMES", "GNODES", "HARTS", "QUEUE", "SPACES", "SETS", "HART")
 }
 SCRIPT_REASONS = {
     1: "the first word is no command",
@@ -139,6 +168,7 @@ SCRIPT_REASONS = {
     6: "it passes the last address, 2^64 - 1; or a demand's address or pages are no whole number of its leaves "
     "(2m: 512 pages of 4 KiB, 1g: 262144)",
     7: f"a script has at most 256 areas: join neighbours, or let one line cover all: {EVERYTHING}",
+    8: "the head must stand once, in the first line that is no comment",
 }
 TRACE_REASONS = {
     1: "no record: it begins with none of I, L, S and M",
@@ -159,6 +189,24 @@ CAUSES = {
     7: "no free frames",
     8: "no room in the table",
     9: "every cuckoo way is at its cap",
+}
+CAUSES_OF = {
+    "nested": {
+        1: "a virtual address that is not canonical in Sv39, or a guest physical address of 2^41 or more",
+        2: "an address is no multiple of its page size",
+        3: "nothing of this first address and size is mapped",
+        4: "something is mapped there already",
+        5: "no free frames: raise FRAMES in the script's head",
+        6: "no room in the table: raise NODES (vmap) or GNODES (gmap) in the script's head",
+    },
+    "harts": CAUSES
+    | {
+        7: "no free frames, or those that are free are held back until every hart takes: raise FRAMES, or take earlier",
+        8: "no room in the table: raise NODES in the script's head",
+        10: "a hart's queue is full: take earlier, or raise QUEUE in the script's head",
+        11: "a take, and nothing waits for this hart",
+        12: "no such hart: they are numbered from 0",
+    },
 }
 REMEDIES = {
     2: "addresses above half of what the mode spans need their high bits set; or take a mode with more levels",

@@ -159,7 +159,7 @@ UNITS = {"mpki": "per 1,000 instructions", "rpki": "per 1,000 instructions", "mp
          "walk": "reads per walk", "access": "reads per access"}  # fmt: skip
 OWN = {"trace", "config", "instructions", "template", "name", "tlb", "refused", "pasum", "accepted", "accesses", "denied",
        "fences", "fills", "growths", "invalidated", "kicks", "migrated", "notcanonical", "ok", "reads", "undone", "unmapped",
-       "walks", "wchits"}  # fmt: skip
+       "walks", "wchits", "pagefaults", "guestfaults", "hits", "misses", "taken", "waiting", "held"}  # fmt: skip
 AGAINST = "%"  # behind a column's name: its change in per cent against the base row
 
 
@@ -236,6 +236,8 @@ def checked(names: Iterable[str], samples: list[Sample], base: str | None) -> li
 
 def usual(samples: list[Sample], base: str | None) -> list[str]:
     """The columns that are shown where none are named."""
+    if all("guestfaults" in it.row for it in samples):
+        return ["accesses", "reads", "reads-access", "hits", "pagefaults", "guestfaults"]
     most = max((level for it in samples for level in it.levels), default=0)
     counted = any(it.instructions is not None for it in samples)
     of_levels = [f"l{level}{'-mpki' if counted else ''}" for level in range(1, most)]

@@ -7,7 +7,7 @@ import tomllib
 from collections.abc import Iterable
 from typing import Any
 
-from xlab import files
+from xlab import files, formrows
 from xlab.messages import Fault, Status
 
 Row = dict[str, Any]  # a row's counts by name; of a sweep also `trace`, `config` and the values set
@@ -20,8 +20,12 @@ def labelled(word: str) -> tuple[str, str]:
 
 
 def read(file: str) -> list[Row]:
-    """The rows of a file, or of standard input where it is `-`: JSON, one array or a value for each line."""
+    """The rows of a file, or of standard input where it is `-`: JSON, one array or a value for each line; or a report of
+    the forms `nested` and `harts`."""
     text = sys.stdin.read() if file == files.STANDARD else pathlib.Path(file).read_text()
+    report = formrows.read(text)
+    if report is not None:
+        return [report | {"form": report["name"]}]
     try:
         values = [json.loads(line) for line in text.splitlines() if line.strip()]
     except ValueError:
@@ -45,11 +49,16 @@ def _whole(file: str, text: str) -> list[Any]:
 
 
 def by_trace(words: Iterable[str]) -> dict[str, list[Row]]:
-    """The rows of all files by trace: that of a row itself, the label of its file, or the file's name without ending."""
+    """The rows of all files by trace: that of a row itself, the label of its file, or the file's name without ending. A
+    report of `nested` or `harts` has one row, whose name is the label."""
     found: dict[str, list[Row]] = {}
     for word in words:
         label, file = labelled(word)
         for row in read(file):
+            form = row.pop("form", None)
+            if form is not None:
+                found.setdefault(form, []).append(row | {"name": label or form})
+                continue
             found.setdefault(label or row.get("trace") or pathlib.Path(file).stem, []).append(row)
     return found
 

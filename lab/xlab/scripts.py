@@ -12,6 +12,8 @@ MOST_AREAS = 256
 MOST_LEAVES = 1 << 20  # of a line
 ALL_PAGES = 1 << 44  # of the lower half of Sv57, in which those of Sv48 and Sv39 lie
 ANY = "rwxu"
+MOST_FRAMES = 1 << 22  # of a host
+GUEST_DATA = 1 << 30  # the guest physical address of a guest's first page; its nodes stand from 0 on
 
 
 @dataclass
@@ -55,6 +57,10 @@ def maps(space: int, span: Span, order: Order) -> Iterator[str]:
     for first in range(span.first, span.end, MOST_LEAVES):
         count = min(span.end - first, MOST_LEAVES)
         yield f"map {space} {first << order.shift:x} {order.value} {span.use.permission()} {count}"
+
+
+def _host_map(address: int, order: Order, permission: str, count: int) -> str:
+    return f"gmap {address:x} {order.value} {permission} {min(count, MOST_LEAVES)}"
 
 
 @dataclass(frozen=True)
@@ -109,6 +115,33 @@ class Touched:
             done = record
             permission = self.uses[block].permission()
             yield f"map 0 {block << self.order.shift:x} {self.order.value} {permission}"
+
+    def staged(self, host: Order, cache: int) -> Iterator[str]:
+        """The lines of a guest with these blocks, over a host with blocks of a size of its own and
+        a G cache of this width. Raises a fault where the host has too few frames."""
+        nodes, pages = self._nodes(), len(self.uses) * self.order.pages
+        of_nodes, of_data = (-(-count // host.pages) for count in (nodes, pages))
+        frames = (of_nodes + of_data) * host.pages
+        if frames > MOST_FRAMES:
+            raise Fault(f"{frames:,} frames of the host are wanted, and there are {MOST_FRAMES:,}")
+        host_nodes = 4 + sum(2 + (nodes >> shift) + (pages >> shift) for shift in (9, 18))
+        yield f"guest 0 {nodes} {frames} {host_nodes} {cache}"
+        for first in range(0, of_nodes, MOST_LEAVES):
+            yield _host_map(first << host.shift, host, "rw-u", of_nodes - first)
+        for first in range(0, of_data, MOST_LEAVES):
+            yield _host_map(GUEST_DATA + (first << host.shift), host, ANY, of_data - first)
+        at = GUEST_DATA
+        for span in spans(self.uses):
+            for line in maps(0, span, self.order):
+                _, _, address, order, permission, count = line.split()
+                yield f"vmap {address} {order} {at:x} {permission} {count}"
+                at += int(count) << self.order.shift
+
+    def _nodes(self) -> int:
+        """The nodes of an Sv39 table with these blocks."""
+        shifts = [shift for shift in (21, 30) if shift > self.order.shift]
+        above = [{block >> shift - self.order.shift for block in self.uses} for shift in shifts]
+        return 1 + sum(map(len, above))
 
     def turns(self, length: int) -> Iterator[str]:
         """Turns of spaces 0 and 1 of so many records each; after each turn of space 0 its first

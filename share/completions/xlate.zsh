@@ -1,5 +1,6 @@
 #compdef xlate
 _arguments \
+    '1:form:((nested\:"a guest over a host\: two stages" harts\:"several harts with queued fences"))' \
     '--config[the rows, in TOML]:configuration:_files -g "*.toml"' \
     '--script[mapping commands]:script:_files' \
     '--trace[records as Lackey writes them]:trace:_files' \

@@ -6,8 +6,8 @@ import sys
 import threading
 from collections.abc import Iterable
 
-from xlab import program
-from xlab.explained import configuration, rows, script, trace, words
+from xlab import formrows, program
+from xlab.explained import configuration, rows, script, stages, trace, words
 from xlab.helppage import Example
 from xlab.needs import Needs
 
@@ -26,11 +26,14 @@ The words are xlate's own, all of which docs/FORMATS.md explains:
   --answers       a line for each access and command
   --image         the words of each radix table
   --json          the rows as JSON
+
+or, after the word nested or harts, --script FILE --trace FILE [--answers]: two stages, or several harts.
 """
 EXAMPLES = (
     Example(
         "xlab explain --config my.toml --script my.script --trace my.trace", "the rows, and what they keep silent about"
     ),
+    Example("xlab explain nested --script my.script --trace my.trace", "of a guest over a host; or of harts"),
     Example("zstd -dc my.trace.zst | xlab explain --config my.toml --trace /dev/stdin", "of a trace in a pipe"),
 )
 NEEDS = Needs()
@@ -49,11 +52,13 @@ def run(asked: argparse.Namespace) -> int:
     heard: list[str] = []
     hears = threading.Thread(target=_heard, args=(running.stderr, heard))
     hears.start()
-    found = list(_through(running.stdout))
+    counted: list[str] = []
+    found = list(_through(running.stdout, counted))
     hears.join()
     message = "".join(heard)
     status = running.wait()
-    for line in explanation(status, message, asked.words, found):
+    report = formrows.read("\n".join(counted))
+    for line in explanation(status, message, asked.words, found, report):
         print(line if line.startswith("    ") else f"explain: {line}", file=sys.stderr)
     return status
 
@@ -65,19 +70,25 @@ def _heard(errors: Iterable[bytes], heard: list[str]) -> None:
         print(heard[-1], end="", file=sys.stderr, flush=True)
 
 
-def _through(output: Iterable[bytes]) -> Iterable[rows.Row]:
-    """Hands the program's output through, and gives the rows that are in it."""
+def _through(output: Iterable[bytes], counted: list[str]) -> Iterable[rows.Row]:
+    """Hands the program's output through, and gives the rows that are in it; lines of counts of other forms are kept."""
     for line in output:
         sys.stdout.buffer.write(line)
-        yield from rows.read(line.decode(errors="replace").rstrip("\n"))
+        text = line.decode(errors="replace").rstrip("\n")
+        counted += [text] if formrows.is_count(text) else []
+        yield from rows.read(text)
     sys.stdout.buffer.flush()
 
 
-def explanation(status: int, message: str, given: list[str], found: list[rows.Row]) -> list[str]:
+def explanation(
+    status: int, message: str, given: list[str], found: list[rows.Row], report: formrows.Row | None = None
+) -> list[str]:
     """What is to be said of a run that ended so."""
     read = words.read(given)
     config, mapped, traced = read.file("config"), read.file("script"), read.file("trace")
     match status:
+        case 0 if report is not None:
+            return stages.explain(report, traced)
         case 0:
             return rows.explain(found, config, mapped, traced, "--make" in read.values)
         case 1:
@@ -85,7 +96,7 @@ def explanation(status: int, message: str, given: list[str], found: list[rows.Ro
         case 2:
             return configuration.explain(config, message)
         case 3:
-            return script.explain(mapped, message)
+            return script.explain(mapped, message, read.form)
         case 4:
             return trace.explain(traced, message)
         case 5 | 8:

@@ -8,6 +8,7 @@ from typing import TYPE_CHECKING
 
 from xlab import files
 from xlab.counting import positive
+from xlab.formats import WIDTHS
 from xlab.helppage import Example
 from xlab.messages import Fault, Status
 from xlab.needs import Needs
@@ -35,6 +36,10 @@ With --huge the areas are pages of 2 MiB where whole aligned blocks of 2 MiB lie
 anonymous memory (anon), or in this and in what it maps of files (files), and of 4 KiB elsewhere;
 both want lines of system calls. With all they are of 2 MiB everywhere.
 
+With --stages it is the script of `xlate nested`: a guest with these pages, all mapped before the
+run, over a host with pages of 4k, 2m or 1g, behind a G cache of the width of --gcache. --order is
+that of the guest's pages.
+
 TRACE may be packed by gzip or zstd, and is read as `xlab records` reads it: lines that are no
 records count for nothing. Run xlate on whole records then: the script counts these alone.
 """
@@ -50,11 +55,16 @@ EXAMPLES = (
         "2 MiB pages where the system could give them",
     ),
     Example(
+        "xlab script --stages 2m --gcache 16 -o nested.script my.trace.zst",
+        "a guest over host pages of 2 MiB",
+    ),
+    Example(
         "xlab script --turns 400 -o two.script my.trace",
         "two spaces by turns of 400 records, with a change at each",
     ),
 )
 NEEDS = Needs(modules=("numpy", "intervaltree"))
+ORDERS = ("4k", "2m", "1g")
 HUGE = ("anon", "files", "all")
 ADVICE = (
     "take a part of the trace (xlab records --keep), larger pages (--order), or areas on demand"
@@ -82,8 +92,19 @@ def add_parser(parser: argparse.ArgumentParser) -> None:
         "--syscalls", action="store_true", help="the program's own changes of its address space"
     )
     kind.add_argument("--huge", choices=HUGE, help="pages of 2 MiB in whole blocks of such memory")
+    kind.add_argument(
+        "--stages", choices=ORDERS, help="a guest over a host with pages of this size"
+    )
     parser.add_argument(
-        "--order", choices=("4k", "2m", "1g"), default="4k", help="the size of pages (default: 4k)"
+        "--order", choices=ORDERS, default="4k", help="the size of pages (default: 4k)"
+    )
+    parser.add_argument(
+        "--gcache",
+        metavar="WIDTH",
+        type=int,
+        choices=WIDTHS,
+        default=0,
+        help="with --stages: a width of the G cache (default: 0)",
     )
     parser.add_argument(
         "--turns",
@@ -106,14 +127,17 @@ def run(words: argparse.Namespace) -> int:
 def _at_odds(words: argparse.Namespace) -> None:
     """Raises a fault where words don't go together."""
     wanting = next(
-        (name for name in ("maps", "touch", "syscalls", "turns") if getattr(words, name)), None
+        (name for name in ("maps", "touch", "syscalls", "stages", "turns") if getattr(words, name)),
+        None,
     )
     wanting = f"huge {words.huge}" if words.huge in ("anon", "files") else wanting
     if words.trace is None and wanting:
         raise Fault(f"--{wanting} wants a TRACE", Status.USAGE)
     if words.order != "4k" and (words.syscalls or words.huge):
         raise Fault(f"--order {words.order} goes with neither --syscalls nor --huge", Status.USAGE)
-    if words.turns and (words.touch or words.syscalls or words.huge):
+    if words.gcache and not words.stages:
+        raise Fault("--gcache goes with --stages", Status.USAGE)
+    if words.turns and (words.touch or words.syscalls or words.huge or words.stages):
         raise Fault("--turns goes with --maps or with areas on demand alone", Status.USAGE)
 
 
@@ -166,6 +190,10 @@ def _touched(words: argparse.Namespace, events: Iterable[Block | bytes]) -> Iter
         (event for event in events if isinstance(event, Block)), Order(words.order)
     )
     spaces = 2 if words.turns else 1
+    if words.stages:
+        yield from touched.staged(Order(words.stages), words.gcache)
+        yield "run rest"
+        return
     yield touched.head(spaces)
     if words.touch:
         yield from touched.by_touch()

@@ -84,7 +84,8 @@ def content(file: str) -> Content:
     first = next((line for line in lines if line and not line.startswith((b"#", b"=="))), b"")
     if RECORD.match(first):
         return Content.TRACE
-    if first.split(b" ")[0].decode("latin1") in {form.split()[0] for form in formats.FORMS}:
+    verbs = {form.split()[0] for forms in formats.SCRIPTS.values() for form in forms}
+    if first.split(b" ")[0].decode("latin1") in verbs:
         return Content.SCRIPT
     return Content.CONFIGURATION if re.match(rb"\[\[?\w+\]|\w+\s*=", first) else Content.OTHER
 

@@ -9,17 +9,22 @@ from xlab.explained.said import nearest
 
 FILES = ("--config", "--script", "--trace")
 VALUED = (*FILES, "--make")
-KNOWN = (*VALUED, "--answers", "--image", "--json")
-USED = (
-    "words: --config FILE [--script FILE] [--trace FILE] [--make N] [--answers] [--image] [--json]; see docs/FORMATS.md"
-)
+PAIR = ("--script", "--trace", "--answers")
+KNOWN = {"plain": (*VALUED, "--answers", "--image", "--json"), "nested": PAIR, "harts": PAIR}
+NEEDED = {"plain": ("--config",), "nested": PAIR[:2], "harts": PAIR[:2]}
+USED = {
+    "plain": "--config FILE [--script FILE] [--trace FILE] [--make N] [--answers] [--image] [--json]",
+    "nested": "nested --script FILE --trace FILE [--answers]",
+    "harts": "harts --script FILE --trace FILE [--answers]",
+}
 MOST_MADE = 1048576
 
 
 @dataclass
 class Words:
-    """The words of a run: the options with their values, and words that belong to none."""
+    """The words of a run: its form, the options with their values, and words that belong to none."""
 
+    form: str = "plain"
     options: list[str] = field(default_factory=list)
     values: dict[str, str] = field(default_factory=dict)
     lost: list[str] = field(default_factory=list)  # options that want a value and have none
@@ -33,6 +38,8 @@ class Words:
 def read(words: list[str]) -> Words:
     """The words as the program reads them."""
     found, rest = Words(), list(words)
+    if rest and rest[0] in ("nested", "harts"):
+        found.form = rest.pop(0)
     while rest:
         word = rest.pop(0)
         name, equals, value = word.partition("=")
@@ -46,38 +53,41 @@ def read(words: list[str]) -> Words:
             found.values[name] = rest.pop(0)
         elif name in VALUED:
             found.lost.append(name)
-        elif name not in KNOWN and not equals and rest and not rest[0].startswith("-"):
+        elif name not in KNOWN[found.form] and not equals and rest and not rest[0].startswith("-"):
             rest.pop(0)  # the value of a misspelt word
     return found
 
 
 def usage(words: Words) -> list[str]:
     """What is wrong with the words, as far as it can be seen."""
-    said = [f"{it} is no word of xlate{_hint(it)}" for it in dict.fromkeys(words.options) if it not in KNOWN]
+    known = KNOWN[words.form]
+    own = "xlate" if words.form == "plain" else f"xlate {words.form}"
+    said = [f"{it} is no word of {own}{_hint(it, known)}" for it in dict.fromkeys(words.options) if it not in known]
     said += [f"`{it}` belongs to no word{_owner(it)}" for it in words.loose]
     said += [f"{it} is given twice" for it in dict.fromkeys(words.options) if words.options.count(it) > 1]
     said += [f"{it} wants a value behind it" for it in words.lost]
-    if "--config" not in words.options:
-        said.append("--config FILE is needed")
+    said += [f"{it} FILE is needed" for it in NEEDED[words.form] if it not in words.options]
     if "--make" in words.options and {"--script", "--trace"} & set(words.options):
         said.append("--make goes with neither --script nor --trace: it makes both")
     made = words.values.get("--make")
     if made is not None and not (re.fullmatch(r"\d+", made) and 1 <= int(made) <= MOST_MADE):
         said.append(f"--make {made}: a number from 1 to {MOST_MADE} is wanted, digits alone")
-    return [*said, USED]
+    return [*said, f"words: {USED[words.form]}; see docs/FORMATS.md"]
 
 
-def _hint(word: str) -> str:
+def _hint(word: str, known: tuple[str, ...]) -> str:
     if word in ("--help", "-h", "--version"):
         return ": `xlab explain --help`, `xlab version` and docs/FORMATS.md say more"
     if word in ("--csv", "--markdown", "--format"):
         return ": `xlab table` makes CSV and Markdown of what --json prints"
     if word in ("-o", "--out", "--output"):
         return ": the rows go to standard output: > FILE"
-    return nearest(word, KNOWN)
+    return nearest(word, known)
 
 
 def _owner(word: str) -> str:
+    if word in ("nested", "harts"):
+        return f": `{word}` is the first word, or none"
     kinds = {".toml": "--config", ".script": "--script", ".trace": "--trace"}
     kind = kinds.get(pathlib.Path(word).suffix)
     return f" (meant {kind} {word}?)" if kind else ""
