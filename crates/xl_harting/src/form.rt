@@ -1,27 +1,35 @@
 //! Harts as a form of the program.
 
 ghost use Rattle.std.specs.Prelude.{◌≡◌, All, false};
-ghost use Rattle.xl_model.specs.Tally.{IsSmall};
 ghost use Rattle.xl_hart_model.specs.declared.hart.HartEvent.{HartEvent};
-ghost use Rattle.xl_hart_model.specs.Harts.{HartsState, after_hart_event, current_hart, hart_reply};
+ghost use Rattle.xl_hart_model.specs.Harts.{HartsState};
 ghost use Rattle.xl_hart_script.specs.Scripts.{IsReady};
 ghost use Rattle.xl_paired.specs.Pairs.{Item, meaning_of};
-ghost use Rattle.xl_harting.specs.Harting.{access_of, harts_form, harts_lines};
+ghost use Rattle.xl_harting.specs.Harting.{harts_form, harts_lines};
 
 use crate::ending::write_end;
-use crate::events::serve_events;
+use crate::events::{reply, serve_accesses, serve_events};
 use xl_course::{Form, Source, Stop};
-use xl_hart_model::{HartEvent, HartOutcome};
 use xl_hart_report::write_hart;
 use xl_hart_script::HartCommand;
 use xl_harts::Harts;
-use xl_lackey::Access;
-use xl_model::{Event, Kind, Reply};
+use xl_lackey::{Access, Batch};
 use xl_outside::{Failed, Sink};
 
-/// The form of harts. It keeps nothing beside them.
+/// The form of harts. Beside them it keeps room for accesses that the trace gives together.
 #[derive(Drop)]
-pub struct Harting;
+pub struct Harting {
+    accesses: Batch,
+}
+
+impl Harting {
+    /// The form.
+    pub fn new() -> Harting {
+        Harting {
+            accesses: Batch::new(),
+        }
+    }
+}
 
 impl Form<Harts> for Harting {
     type Command = HartCommand;
@@ -77,8 +85,11 @@ impl Form<Harts> for Harting {
     }
 
     #[inline(always)]
-    fn skim<T: Source>(&mut self, _harts: &mut Harts, _source: &mut T, _most: u64) -> u64 {
-        0
+    fn skim<T: Source>(&mut self, harts: &mut Harts, source: &mut T, most: u64) -> u64 {
+        self.accesses.clear();
+        let taken = source.skim(&mut self.accesses, most);
+        serve_accesses(harts, self.accesses.as_slice());
+        taken
     }
 
     fn finish<K: Sink>(&mut self, harts: &mut Harts, _end: (), out: &mut K) -> Result<(), Stop> {
@@ -86,19 +97,5 @@ impl Form<Harts> for Harting {
             Ok(()) => Ok(()),
             Err(_) => Err(Stop::WriteFault),
         }
-    }
-}
-
-/// Replies to an access of the current hart.
-#[inline(always)]
-fn reply(harts: &mut Harts, va: u64, kind: Kind) -> Reply
-    ensures reply { result ≡ hart_reply (current_hart harts.old) harts.old.table.leaves va kind }
-    ensures small { IsSmall result }
-    ensures after { harts.new ≡ after_hart_event (access_of va kind) harts.old }
-{
-    let event = Event::Access { va, kind };
-    match harts.step(HartEvent::Own { event }) {
-        HartOutcome::Replied(reply) => reply,
-        _ => unreachable!(),
     }
 }

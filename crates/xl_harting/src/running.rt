@@ -71,7 +71,8 @@ fn report_orders<F: Folder, K: Sink>(
     orders.fit();
     let mut source = TraceFile::open(alloc, trace)?;
     let mut machine = Harts::open(alloc, orders.script.spec())?;
-    let end = xl_course::report(&mut Harting, &mut machine, orders, &mut source, folder, out);
+    let mut form = Harting::new();
+    let end = xl_course::report(&mut form, &mut machine, orders, &mut source, folder, out);
     *harts = Some(machine);
     end
 }

@@ -2,7 +2,7 @@ use Rattle.std.proofs.Common.{◌∙◌, sym, subst}
 use Rattle.xl_model.specs.declared.leaf.Reply.{Reply}
 use Rattle.xl_model.specs.Tally.{IsSmall}
 use Rattle.xl_harting.proofs.EventLemmas.{access_outcome, replied}
-use Rattle.xl_harting.proofs.form.reply.Goals as goal
+use Rattle.xl_harting.proofs.events.reply.Goals as goal
 
 pub unreachable-requires : goal.unreachable-requires
 unreachable-requires c = c.in_default.not-Replied _ (c.step.ensures.outcome ∙ access_outcome c.args.va c.args.kind c.args.harts.now)
