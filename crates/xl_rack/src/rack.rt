@@ -148,8 +148,8 @@ impl Rack {
         serve_slots(&mut self.slots, accesses, events, areas)
     }
 
-    /// Serves an event by each machine in turn, and a curve follows each: the first curve the first machine, and so
-    /// on. Machines that have no curve are served all the same.
+    /// Serves an event by each machine in turn, and a curve follows each: the first curve the first
+    /// machine, and so on. Machines that have no curve are served all the same.
     pub fn step_beside(&mut self, curves: &mut [Curve], event: Event)
         ensures rows { self.new ≡ map (after_of event) self.old }
         ensures curves { curves.new ≡ each_curve (curve_stepped event) self.old curves.old }
@@ -157,8 +157,8 @@ impl Rack {
         step_slots_beside(&mut self.slots, curves, event)
     }
 
-    /// Serves accesses, with the events of their demands, by each machine in turn, and a curve follows each, as in
-    /// `step_beside`.
+    /// Serves accesses, with the events of their demands, by each machine in turn, and a curve follows
+    /// each, as in `step_beside`.
     pub fn serve_beside(&mut self, curves: &mut [Curve], accesses: &[Access], areas: &Areas)
         ensures rows { self.new ≡ map (row_served accesses.now areas.now) self.old }
         ensures curves { curves.new
