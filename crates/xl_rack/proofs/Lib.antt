@@ -1,4 +1,5 @@
 mod BatchLemmas
+mod BesideLemmas
 mod DemandLemmas
 mod ImageLemmas
 mod LineLemmas

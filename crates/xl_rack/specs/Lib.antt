@@ -4,3 +4,4 @@ pub mod Places
 pub mod Served
 pub mod Slots
 pub mod Batches
+pub mod Beside

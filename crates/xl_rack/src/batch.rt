@@ -150,7 +150,7 @@ fn serve_each_to_all(slots: &mut [Slot], accesses: &[Access], areas: &Areas)
 }
 
 /// Serves an event to each slot.
-fn step_each(slots: &mut [Slot], event: Event)
+pub(crate) fn step_each(slots: &mut [Slot], event: Event)
     ensures { EachServed (after_of event) slots.old slots.new }
 {
     let Some((first, rest)) = slots.split_first_mut() else {

@@ -4,6 +4,7 @@
 
 mod area;
 mod batch;
+mod beside;
 mod demand;
 mod held;
 mod image;

@@ -9,16 +9,19 @@ ghost use Rattle.xl_model.specs.Scenes.{opened};
 ghost use Rattle.xl_model.specs.Tally.{IsSmall};
 ghost use Rattle.xl_serving.specs.Batches.{gaps};
 ghost use Rattle.xl_rack.specs.Forms.{form_named, form_of, served_behind};
-ghost use Rattle.xl_rack.specs.Batches.{waiting_served};
+ghost use Rattle.xl_rack.specs.Batches.{row_served, waiting_served};
+ghost use Rattle.xl_rack.specs.Beside.{curve_served, curve_stepped, each_curve};
 ghost use Rattle.xl_rack.specs.Places.{at_place};
 ghost use Rattle.xl_rack.specs.Slots.{served_of, IsNamed};
 
 use crate::batch::serve_slots;
+use crate::beside::{serve_slots_beside, step_slots_beside};
 use crate::held::Held;
 use crate::slot::Slot;
 use std::alloc::Global;
 use std::marker::Model;
 use xl_areas::Areas;
+use xl_curve::Curve;
 use xl_lackey::Access;
 use xl_model::{Counts, Event, Kind, NoMemory, Outcome, Reply, Row};
 use xl_serving::WaitingEvent;
@@ -143,6 +146,25 @@ impl Rack {
         ensures { self.new ≡ map (waiting_served accesses.now events.now areas.now) self.old }
     {
         serve_slots(&mut self.slots, accesses, events, areas)
+    }
+
+    /// Serves an event by each machine in turn, and a curve follows each: the first curve the first
+    /// machine, and so on. Machines that have no curve are served all the same.
+    pub fn step_beside(&mut self, curves: &mut [Curve], event: Event)
+        ensures rows { self.new ≡ map (after_of event) self.old }
+        ensures curves { curves.new ≡ each_curve (curve_stepped event) self.old curves.old }
+    {
+        step_slots_beside(&mut self.slots, curves, event)
+    }
+
+    /// Serves accesses, with the events of their demands, by each machine in turn, and a curve follows
+    /// each, as in `step_beside`.
+    pub fn serve_beside(&mut self, curves: &mut [Curve], accesses: &[Access], areas: &Areas)
+        ensures rows { self.new ≡ map (row_served accesses.now areas.now) self.old }
+        ensures curves { curves.new
+            ≡ each_curve (curve_served accesses.now areas.now) self.old curves.old }
+    {
+        serve_slots_beside(&mut self.slots, curves, accesses, areas)
     }
 
     /// The row at a place, from 0.

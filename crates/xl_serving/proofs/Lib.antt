@@ -1,11 +1,11 @@
 mod PieceLemmas
 mod RecordLemmas
 mod SkimLemmas
-mod BatchLemmas
-mod AreaLemmas
-mod ItemLemmas
+pub mod BatchLemmas
+pub mod AreaLemmas
+pub mod ItemLemmas
 mod InputLemmas
 mod OpenedLemmas
-mod EndLemmas
-mod PlainLemmas
+pub mod EndLemmas
+pub mod PlainLemmas
 mod LawLemmas

@@ -1,0 +1,4 @@
+mod EndLemmas
+mod LineLemmas
+mod SceneLemmas
+mod SkimLemmas

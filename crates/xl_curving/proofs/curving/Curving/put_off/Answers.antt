@@ -1,0 +1,14 @@
+use Rattle.std.proofs.Common.{◌∙◌, ap, List}
+use Rattle.xl_model.specs.declared.script.Item.TheVariants.{Referenced}
+use Rattle.xl_lackey.specs.declared.skim.Access.{Access}
+use Rattle.xl_curving.specs.Curving.{curve_scene_after, curve_scene_of, curves_waited}
+use Rattle.xl_curving.proofs.SceneLemmas.{put-off}
+use Rattle.xl_curving.proofs.curving.Curving.put_off.Goals as goal
+
+pub returns-clause-served : goal.returns-clause-served
+returns-clause-served c number =
+    let form = c.make_room.new.self in
+    let s = curve_scene_of c.make_room.new.rack form.areas form.curves.items in
+    ap (λ (xs : List Access). curves_waited xs s) c.push.ensures.items
+    ∙ put-off form.waiting.items c.args.access number s
+    ∙ ap (curve_scene_after (Referenced number c.args.access.va c.args.access.kind)) c.make_room.ensures.same

@@ -1,0 +1,21 @@
+use Rattle.std.proofs.Common.{◌≡◌, ◌∙◌, ap, List, length, map, arith}
+use Rattle.xl_model.specs.Scenes.{Served}
+use Rattle.xl_curve_model.specs.Curves.{HitCurve}
+use Rattle.xl_rack.specs.Batches.{row_served}
+use Rattle.xl_rack.specs.Beside.{curve_served, each_curve}
+use Rattle.xl_curving.specs.Curving.{curve_scene_of}
+use Rattle.xl_curving.proofs.SceneLemmas.{by-row, written}
+use Rattle.xl_curving.proofs.curving.Curving.settle.Goals as goal
+
+pub returns-clause-served : goal.returns-clause-served
+returns-clause-served c =
+    let form = c.args.self.now in
+    let rows = c.args.rack.now in
+    let waiting = form.waiting.items in
+    let f = curve_served waiting form.areas in
+    let many : form.curves.len ≡ length form.curves.items = omega (arith, c.as_mut_slice.ensures.len, ap length c.as_mut_slice.ensures.value) in
+    let served : c.serve_beside.new.self ≡ map (row_served waiting form.areas) rows = rw (c.as_slice.ensures.value) at c.serve_beside.ensures.rows in
+    let followed : c.serve_beside.new.curves ≡ each_curve f rows form.curves.items = rw (c.as_slice.ensures.value, c.as_mut_slice.ensures.value) at c.serve_beside.ensures.curves in
+    ap (λ (cs : List HitCurve). curve_scene_of c.serve_beside.new.self form.areas cs) (written form.curves.len f rows c.serve_beside.new.curves form.curves.items followed many)
+    ∙ ap (λ (rs : List Served). curve_scene_of rs form.areas (each_curve f rows form.curves.items)) served
+    ∙ by-row waiting form.areas rows form.curves.items

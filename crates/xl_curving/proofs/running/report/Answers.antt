@@ -1,0 +1,49 @@
+use Rattle.std.proofs.Common.{◌≡◌, refl, subst}
+use Rattle.std.specs.Prelude.{Ok, Err, IfSome}
+use Rattle.xl_course.specs.Accounts.{Ends}
+use Rattle.xl_course.proofs.ToldLemmas.{told_one, told_then, is_err_by}
+use Rattle.xl_words.specs.Words.{AskedPlain, plain_of}
+use Rattle.xl_serving.specs.Inputs.{Finds, trail_for}
+use Rattle.xl_serving.specs.Plain.{start_of, rows_by, rows_from, plain_start}
+use Rattle.xl_serving.proofs.EndLemmas.{stopped_ends}
+use Rattle.xl_curving.specs.Curving.{curves_by, curves_from}
+use Rattle.xl_curving.proofs.EndLemmas.{started}
+use Rattle.xl_curving.proofs.running.report.Goals as goal
+
+pub returns-clause-told : goal.returns-clause-told
+returns-clause-told g c =
+    let sets = c.args.words.now.sets in
+    let p = plain_of c.plain_words-plain.result in
+    let opened = c.open.new.rows in
+    let script = c.in_ok-script.script in
+    let end = c.report_orders.result in
+    let roomy = g.K.Sink.roomy in
+    let out = c.args.out.now in
+    let new = c.report_orders.new.out in
+    let left = c.report_orders.new.rows in
+    let before = (g.K.Sink.outside out).written in
+    let after = (g.K.Sink.outside new).written in
+    subst (λ (a : AskedPlain). IfSome (g.F.Folder.files c.args.folder.now)
+    (λ fs. Ends end (curves_by sets (trail_for a fs) (plain_start a fs)) roomy before after out new (left ≡ rows_by (trail_for a fs) (plain_start a fs)))) c.plain_words-plain.ensures
+    (told_then (g.F.Folder.files c.args.folder.now) (g.F.Folder.files c.open.new.folder)
+    (λ fs. Finds (start_of opened) (Ok script) (plain_start p fs))
+    (λ fs. Ends end (curves_from sets (trail_for p fs) (start_of opened script)) roomy before after out new (left ≡ rows_from (trail_for p fs) (start_of opened script)))
+    (λ fs. Ends end (curves_by sets (trail_for p fs) (plain_start p fs)) roomy before after out new (left ≡ rows_by (trail_for p fs) (plain_start p fs)))
+    c.in_ok-script.ensures.leaves.keeps c.in_ok-script.ensures.told c.report_orders.ensures.told
+    (λ fs h k. started roomy sets (trail_for p fs) (start_of opened script) (plain_start p fs) end before after out new left h k))
+
+pub returns-in_err-script-clause-told : goal.returns-in_err-script-clause-told
+returns-in_err-script-clause-told g c =
+    let sets = c.args.words.now.sets in
+    let p = plain_of c.plain_words-plain.result in
+    let opened = c.open.new.rows in
+    let stop = c.in_err-script.field-0.0 in
+    let out = c.args.out.now in
+    let roomy = g.K.Sink.roomy in
+    let written = (g.K.Sink.outside out).written in
+    rw (is_err_by c.from_residual.result stop c.from_residual.ensures.1)
+    (subst (λ (a : AskedPlain). IfSome (g.F.Folder.files c.args.folder.now)
+    (λ fs. Ends (Err stop) (curves_by sets (trail_for a fs) (plain_start a fs)) roomy written written out out (opened ≡ rows_by (trail_for a fs) (plain_start a fs)))) c.plain_words-plain.ensures
+    (told_one (g.F.Folder.files c.args.folder.now) (λ fs. Finds (start_of opened) (Err stop) (plain_start p fs)) _
+    c.in_err-script.ensures.told
+    (λ fs h. stopped_ends roomy (start_of opened) (curves_by sets (trail_for p fs)) (plain_start p fs) stop written out _ (λ f. refl) c.in_err-script.ensures.before h)))

@@ -1,0 +1,13 @@
+//! Hit curves as a form of the program: rows that are served a script over a trace, while a curve
+//! follows each.
+#![tactic(auto)]
+
+mod curving;
+mod orders;
+mod running;
+mod words;
+
+pub use curving::Curving;
+pub use orders::CurveOrders;
+pub use running::report;
+pub use words::CurveWords;

@@ -1,0 +1,15 @@
+use Rattle.std.proofs.Common.{[]}
+use Rattle.std.specs.Prelude.{map}
+use Rattle.xl_rack.specs.Beside.{curve_served}
+use Rattle.xl_rack.specs.Slots.{served_of}
+use Rattle.xl_rack.proofs.BatchLemmas.{each-first, waiting-stays}
+use Rattle.xl_rack.proofs.BesideLemmas.{no-curves}
+use Rattle.xl_rack.proofs.beside.+serve_slots_beside.Goals as goal
+
+pub returns-in_default-clause-curves : goal.returns-in_default-clause-curves
+returns-in_default-clause-curves t c =
+    no-curves (curve_served c.args.accesses.now c.args.areas.now) (map served_of c.args.slots.now) c.args.curves.now c.in_default.ensures.cases
+
+pub returns-clause-slots : goal.returns-clause-slots
+returns-clause-slots t c =
+    each-first c.serve_slots_beside.ensures.slots (waiting-stays c.args.accesses.now [] c.args.areas.now) c.in-Some-split_first_mut.ensures.cases.0 c.serve_slot.ensures.served c.serve_slot.ensures.form
