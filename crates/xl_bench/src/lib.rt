@@ -1,7 +1,9 @@
-//! The workbench: the rows of a rack over a script and a trace.
+//! The workbench: the machines of a run over a script and a trace.
 #![tactic(auto)]
 
 mod bench;
+mod machines;
 
 pub use bench::run;
+pub use machines::Machines;
 pub use xl_course::Status;

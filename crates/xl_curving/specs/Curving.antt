@@ -12,7 +12,7 @@ use Rattle.xl_outside.specs.Folders.{Files}
 use Rattle.xl_course.specs.Meanings.{Meaning, states_after}
 use Rattle.xl_course.specs.Courses.{course}
 use Rattle.xl_course.specs.Accounts.{Account, account, faulted}
-use Rattle.xl_words.specs.Words.{AskedPlain}
+use Rattle.xl_words.specs.Words.{AskedCurve, AskedPlain}
 use Rattle.xl_serving.specs.Batches.{item_of}
 use Rattle.xl_serving.specs.Inputs.{trail_for}
 use Rattle.xl_serving.specs.Plain.{Start, items_of, plain_start, plain_rows}
@@ -21,7 +21,6 @@ use Rattle.xl_curve_model.specs.Curves.{HitCurve, opening_curve}
 use Rattle.xl_curve_model.specs.CurveLines.{line_of}
 use Rattle.xl_chart.specs.Charts.{curve_item}
 use Rattle.xl_rack.specs.Beside.{each_curve}
-use Rattle.xl_curving.specs.Words.{AskedCurve}
 
 -- All rows with the areas declared so far, and the curves of the rows.
 pub record CurveScene : Type 0 where

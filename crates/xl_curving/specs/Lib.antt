@@ -1,2 +1,1 @@
 pub mod Curving
-pub mod Words

@@ -5,9 +5,7 @@
 mod curving;
 mod orders;
 mod running;
-mod words;
 
 pub use curving::Curving;
 pub use orders::CurveOrders;
 pub use running::report;
-pub use words::CurveWords;

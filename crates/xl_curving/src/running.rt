@@ -5,21 +5,19 @@ ghost use Rattle.xl_outside.specs.Folders.{Files};
 ghost use Rattle.xl_outside.specs.Sinks.{GoesOn, IsFlushed};
 ghost use Rattle.xl_course.specs.Stops.{status_by, FolderLeft, is_all_put, StopsRun};
 ghost use Rattle.xl_course.specs.Accounts.{Ends};
-ghost use Rattle.xl_words.specs.Words.{plain_of};
+ghost use Rattle.xl_words.specs.Words.{curve_of, plain_of};
 ghost use Rattle.xl_serving.specs.Inputs.{trail_for};
 ghost use Rattle.xl_serving.specs.Plain.{start_of, rows_from};
 ghost use Rattle.xl_curving.specs.Curving.{curve_account, curve_rows, curves_from, plain_words};
-ghost use Rattle.xl_curving.specs.Words.{curve_of};
 
 use crate::curving::Curving;
 use crate::orders::CurveOrders;
-use crate::words::CurveWords;
 use std::alloc::Global;
 use xl_course::{Source, Stop};
 use xl_outside::{Folder, Sink};
 use xl_rack::Rack;
 use xl_serving::{NoTrace, PlainOrders, TraceFile, open};
-use xl_words::Plain;
+use xl_words::{CurveWords, Plain};
 
 /// The words of a plain run over the same files.
 fn plain_words<'a>(words: &CurveWords<'a>) -> Plain<'a>

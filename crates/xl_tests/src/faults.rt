@@ -3,9 +3,8 @@
 use std::alloc::{AllocError, Global};
 use std::process::Abort;
 use std::test::Fail;
-use xl_bench::{Status, run};
+use xl_bench::{Machines, Status, run};
 use xl_outside::{MemFolder, MemSink};
-use xl_rack::Rack;
 
 /// The size of the pieces in which all bytes go in and out.
 const PIECE: usize = 10;
@@ -129,8 +128,15 @@ impl<'a> Whole<'a> {
         let mut folder = self.folder(alloc, read)?;
         let mut out = sink(alloc, put)?;
         let mut err = sink(alloc, message)?;
-        let mut rack = Rack::open(alloc)?;
-        let status = run(alloc, &words, &mut folder, &mut out, &mut err, &mut rack);
+        let mut machines = Machines::open(alloc)?;
+        let status = run(
+            alloc,
+            &words,
+            &mut folder,
+            &mut out,
+            &mut err,
+            &mut machines,
+        );
         Ok(Ended {
             status,
             out: Vec::from_slice(alloc, out.bytes())?,

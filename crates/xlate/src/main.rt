@@ -7,11 +7,10 @@ ghost use Rattle.xlate.specs.Codes.{code_of};
 use std::env;
 use std::io::ErrorKind;
 use std::process::ExitCode;
-use xl_bench::{Status, run};
+use xl_bench::{Machines, Status, run};
 use xl_outside::{HostErr, HostFolder, HostOut};
-use xl_rack::Rack;
 
-/// The exit code where there is no memory for the words or the rack.
+/// The exit code where there is no memory for the words or the machines.
 const NO_MEMORY: u8 = 7;
 
 /// The exit code where the system doesn't give the words as texts.
@@ -31,7 +30,7 @@ fn answer(rt: HostRuntime) -> u8 {
     let Ok(words) = args.collect(rt.alloc()) else {
         return NO_MEMORY;
     };
-    let Ok(mut rack) = Rack::open(rt.alloc()) else {
+    let Ok(mut machines) = Machines::open(rt.alloc()) else {
         return NO_MEMORY;
     };
     let mut folder = HostFolder::open(&rt);
@@ -43,7 +42,7 @@ fn answer(rt: HostRuntime) -> u8 {
         &mut folder,
         &mut out,
         &mut err,
-        &mut rack,
+        &mut machines,
     ))
 }
 

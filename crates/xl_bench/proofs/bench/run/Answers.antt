@@ -3,7 +3,7 @@ use Rattle.std.specs.Prelude.{string_bytes}
 use Rattle.xl_course.specs.Accounts.{EndsAs, Ends, Says}
 use Rattle.xl_course.proofs.ToldLemmas.{told_one}
 use Rattle.xl_course.proofs.MessageLemmas.{run_says}
-use Rattle.xl_bench.specs.Accounts.{account_of, rack_left}
+use Rattle.xl_bench.specs.Accounts.{account_of, machines_left}
 use Rattle.xl_bench.proofs.bench.run.Goals as goal
 
 pub returns-clause-said : goal.returns-clause-said
@@ -15,6 +15,6 @@ returns-clause-said g c =
     let after = (g.K.Sink.outside c.report_of-end.new.out).written in
     rw c.of.ensures
     (run_says (λ text. Says g.E.Sink.outside g.E.Sink.roomy text c.args.err.now c.tell.new.err) files (account_of words) end before after
-    (told_one files (λ fs. Ends end (account_of words fs) g.K.Sink.roomy before after c.args.out.now c.report_of-end.new.out (c.report_of-end.new.rack ≡ rack_left words fs))
+    (told_one files (λ fs. Ends end (account_of words fs) g.K.Sink.roomy before after c.args.out.now c.report_of-end.new.out (c.report_of-end.new.machines ≡ machines_left words fs))
     (λ fs. EndsAs end (account_of words fs) before after) c.report_of-end.ensures.told (λ fs h. h.as_said))
     c.tell.ensures)
