@@ -145,3 +145,9 @@ def test_stages_want_a_trace(xlab):
     for asked, says in ((["--stages", "4k"], "wants a TRACE"), (["--gcache", "4"], "goes with --stages")):
         ended = xlab("script", *asked)
         assert ended.returncode == Status.USAGE and says in ended.stderr
+
+
+def test_the_figures_of_the_examples_are_what_the_program_prints(program, xlab):
+    pytest.importorskip("tabulate")
+    ended = xlab("pages", EXAMPLES / "stages.md", EXAMPLES / "harts.md")
+    assert ended.returncode == 0, ended.stdout

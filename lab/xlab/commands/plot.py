@@ -12,9 +12,9 @@ from xlab.pictures import curves, rows, style, swept
 
 SUMMARY = "pictures of rows, sweeps and curves: misses and reads, on one scale"
 DESCRIPTION = """
-Draws rows that xlate printed with --json or that xlab sweep gathered, each trace in a panel of its own, all panels on one
-scale. What differs by more than a factor of eight has a log axis, which its label says; colours go from dark to light, and
-marks and dashes differ, so that a picture can be printed in grey.
+Draws rows that xlate printed with --json or that xlab sweep gathered, or reports of `xlate nested` and `xlate harts`, each
+trace in a panel of its own, all panels on one scale. What differs by more than a factor of eight has a log axis, which its
+label says; colours go from dark to light, and marks and dashes differ, so that a picture can be printed in grey.
 
   rows    a mark for each row and column: misses of each level, or --columns of one unit
   sweep   a line for each design over the values of a key (--x KEY) of xlab sweep

@@ -55,17 +55,21 @@ def _passes(words: list[str]) -> str:
 
 def _no_verb(words: list[str], kind: str) -> str:
     forms = SCRIPTS[kind]
-    verbs = tuple(dict.fromkeys(form.split()[0] for form in forms))
+    verbs = _verbs(forms)
     if words[0] == "fence" and kind == "plain":
         return f"`fence {' '.join(words[1:2])}` is no fence; allowed: {_shown_all('fence', forms)}"
     if words[0].startswith(("//", ";", "--")):
         return "a comment begins with #"
     foreign = FOREIGN.get(words[0])
     meant = f" (meant {foreign}?)" if foreign in verbs else nearest(words[0], verbs)
-    other = next((it for it, known in SCRIPTS.items() if it != kind and words[0] in known), None)
+    other = next((it for it, known in SCRIPTS.items() if words[0] in _verbs(known)), None)
     if other and not meant:
         meant = f" of {_script_of(kind)}, but of {_script_of(other)}"
     return f"`{words[0]}` is no command{meant}; allowed: {formats.listed(verbs, 'and')}; a comment begins with #"
+
+
+def _verbs(forms: Forms) -> tuple[str, ...]:
+    return tuple(dict.fromkeys(form.split()[0] for form in forms))
 
 
 def _script_of(kind: str) -> str:

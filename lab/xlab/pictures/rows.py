@@ -73,6 +73,7 @@ def _values(it: Sample, names: list[str]) -> list[float]:
 def _panel(axes: Any, samples: list[Sample], rows: list[str], names: list[str], far: bool) -> None:
     """The marks of one trace, with the number beside the last one of a row."""
     shades = style.colours(len(names))
+    zeros: dict[int, list[str]] = {}
     for at, name in enumerate(names):
         own = [it for it in samples if len(names) == 1 or _shows(it, name)]
         found = [(measures.value(name, it), rows.index(it.row["name"])) for it in own]
@@ -83,7 +84,9 @@ def _panel(axes: Any, samples: list[Sample], rows: list[str], names: list[str], 
         if len(names) == 1:
             _numbers(axes, known, far)
         else:
-            _zeros(axes, [y for value, y in known if value == 0 and far], _bare(name))
+            for _, y in (it for it in known if it[0] == 0 and far):
+                zeros.setdefault(y, []).append(_bare(name))
+    _zeros(axes, zeros)
 
 
 def _numbers(axes: Any, known: list[tuple[Any, int]], far: bool) -> None:
@@ -92,11 +95,11 @@ def _numbers(axes: Any, known: list[tuple[Any, int]], far: bool) -> None:
         axes.annotate(_short(value), place, (6, 0), textcoords="offset points", va="center", fontsize=7)
 
 
-def _zeros(axes: Any, lines: list[int], head: str) -> None:
-    """Says what is 0 at the edge of a log axis, where a mark has no place."""
-    for y in lines:
+def _zeros(axes: Any, zeros: dict[int, list[str]]) -> None:
+    """Says what is 0 in each line at the edge of a log axis, where a mark has no place."""
+    for y, heads in zeros.items():
         axes.annotate(
-            f"{head}: 0", (axes.get_xlim()[0], y), (2, 0), textcoords="offset points", va="center", fontsize=7
+            f"{', '.join(heads)}: 0", (axes.get_xlim()[0], y), (2, 0), textcoords="offset points", va="center", fontsize=7
         )
 
 
