@@ -36,6 +36,7 @@ fn plain_words<'a>(words: &CurveWords<'a>) -> Plain<'a>
 
 /// Reads the configuration and the script, opens the rows and their curves, serves the script over the
 /// trace, and writes a line for each curve. All memory is taken before the first event.
+#[inline(never)]
 pub fn report<F: Folder, K: Sink>(
     alloc: Global,
     words: &CurveWords<'_>,

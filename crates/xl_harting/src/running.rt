@@ -23,6 +23,7 @@ use xl_words::Pair;
 /// Reads the script, opens its harts, serves them the script over the trace, and writes the report: a line
 /// for each access where answers are asked for, a line for each hart, and one for all of them. All memory
 /// is taken before the first event. At Ok the harts are there, as the run leaves them.
+#[inline(never)]
 pub fn report<F: Folder, K: Sink>(
     alloc: Global,
     words: &Pair<'_>,

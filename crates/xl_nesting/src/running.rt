@@ -24,6 +24,7 @@ use xl_words::Pair;
 /// Reads the script, opens a guest over a host of its sizes, serves them the script over the trace, and
 /// writes the report: a line for each access where answers are asked for, and the line of the counts. All
 /// memory is taken before the first event. At Ok the guest over its host is there, as the run leaves it.
+#[inline(never)]
 pub fn report<F: Folder, K: Sink>(
     alloc: Global,
     words: &Pair<'_>,
