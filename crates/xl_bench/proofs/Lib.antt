@@ -1,1 +1,2 @@
+mod MachineLemmas
 mod WordLemmas

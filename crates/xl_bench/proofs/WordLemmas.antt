@@ -13,14 +13,14 @@ use Rattle.xl_words.specs.declared.words.Form.{Form}
 use Rattle.xl_words.specs.declared.words.Form.TheVariants as form
 use Rattle.xl_words.specs.declared.words.WordsFault.{WordsFault}
 use Rattle.xl_words.specs.declared.words.WordsFault.TheVariants as words
-use Rattle.xl_words.specs.Words.{Asked, AskedCurve, AskedPair, AskedPlain, Plainly, Nestedly, Hartly, Curved, Asks, asked_as, asked_of, curve_app, curve_in, curve_with, number_of, read_where, sets_by}
+use Rattle.xl_words.specs.Words.{Asked, AskedCurve, AskedPair, AskedPlain, Plainly, Nestedly, Hartly, Curved, Asks, asked, asked_as, asked_of, curve_app, curve_in, curve_with, form_of, number_of, read_where, sets_by}
 
 pub words_refused : (f : WordsFault) (a : Option Asked) → Asks asked_of (Err f) a → SaysOfWords (status_at (of_words_fault f)) a
 words_refused words.Usage a h = h
 words_refused words.NoMemory a h = tt
 
 -- A number of sets within its limits.
-abbrev IsFew : ℕ → Type 0
+abbrev pub IsFew : ℕ → Type 0
 IsFew n = (0 < n) × (n ≤ 256)
 
 few-by : (text : List ℕ) (n : ℕ) (b : Bool) → is_unsigned_in 1 256 text ≡ b → (if b then Some (digits_value 10 (without_leading_plus text)) else None) ≡ Some n → IsFew n
@@ -72,11 +72,16 @@ no-plain (Some p) a h = cc
 
 no-pair : (asked : AskedPair → Asked) → ((p : AskedPair) (a : AskedCurve) → asked p ≡ Curved a → ⊥) → (x : Option AskedPair) (a : AskedCurve) → option_map asked x ≡ Some (Curved a) → ⊥
 no-pair asked not None a h = cc
-no-pair asked not (Some p) a h = cc
+no-pair asked not (Some p) a h = not p a cc
 
 few-as : (f : Form) (ws : List (List ℕ)) (a : AskedCurve) → asked_as f ws ≡ Some (Curved a) → IsFew a.sets
+unfolding curve_asked
 few-as form.Plain ws a h = absurd (no-plain _ a h)
 few-as form.Nested ws a h = absurd (no-pair Nestedly (λ p b e. cc) _ a h)
 few-as form.Harts ws a h = absurd (no-pair Hartly (λ p b e. cc) _ a h)
 few-as form.Curve ws a h =
     few-read (fault_of curve_app (drop 1 ws)) (matches_of curve_app (drop 1 ws)) a (sym (asked-curve _) ∙ ap curve_asked h)
+
+-- the sets of a curve that words ask for
+pub few_sets : (ws : List (List ℕ)) (a : AskedCurve) → asked ws ≡ Some (Curved a) → IsFew a.sets
+few_sets ws a h = few-as (form_of ws) ws a h

@@ -1,5 +1,47 @@
-use Rattle.xl_bench.proofs.WordLemmas.{words_refused}
+use Rattle.std.proofs.Common.{◌≡◌, ◌∙◌, sym, subst}
+use Rattle.std.specs.Prelude.{Option, map, string_bytes}
+use Rattle.xl_course.specs.Accounts.{Ends}
+use Rattle.xl_course.proofs.ToldLemmas.{told_one}
+use Rattle.xl_words.specs.Words.{Asked, curve_of, plain_of}
+use Rattle.xl_serving.specs.Plain.{plain_account, plain_rows}
+use Rattle.xl_curving.specs.Curving.{curve_account, curve_rows}
+use Rattle.xl_bench.specs.contracts.machines.Machines.{the_view}
+use Rattle.xl_bench.specs.Accounts.{account_of, asked_account, asked_machines, machines_left}
+use Rattle.xl_bench.proofs.MachineLemmas.{rows_left}
+use Rattle.xl_bench.proofs.WordLemmas.{few_sets, words_refused}
 use Rattle.xl_bench.proofs.bench.report_of.Goals as goal
+
+pub report-requires-in-Ok-Curve-clause-some : goal.report-requires-in-Ok-Curve-clause-some
+report-requires-in-Ok-Curve-clause-some g c =
+    (few_sets (map string_bytes c.args.words.now.items) (curve_of c.in-Ok-Curve.words) (rw (c.as_slice.ensures.value, c.in-Ok-Curve.field-0-is) at c.in-Ok-Curve.ensures)).0
+
+pub report-requires-in-Ok-Curve-clause-most : goal.report-requires-in-Ok-Curve-clause-most
+report-requires-in-Ok-Curve-clause-most g c =
+    (few_sets (map string_bytes c.args.words.now.items) (curve_of c.in-Ok-Curve.words) (rw (c.as_slice.ensures.value, c.in-Ok-Curve.field-0-is) at c.in-Ok-Curve.ensures)).1
+
+pub returns-in-Ok-Plain-clause-told : goal.returns-in-Ok-Plain-clause-told
+unfolding account_of machines_left
+returns-in-Ok-Plain-clause-told g c =
+    let out = c.args.out.now in
+    let new = c.report.new.out in
+    let a = plain_of c.in-Ok-Plain.words in
+    told_one (g.F.Folder.files c.args.folder.now) _ _ c.report.ensures.told
+    (λ fs h. subst (λ (z : Option Asked). Ends c.report.result (asked_account z fs) g.K.Sink.roomy (g.K.Sink.outside out).written (g.K.Sink.outside new).written out new
+    (record (the_view c.machines.inside) { rows = c.report.new.rows } ≡ asked_machines z fs))
+    (sym (rw (c.as_slice.ensures.value, c.in-Ok-Plain.field-0-is) at c.in-Ok-Plain.ensures))
+    (rows_left c.report.result (plain_account a fs) g.K.Sink.roomy (g.K.Sink.outside out).written (g.K.Sink.outside new).written out new (the_view c.machines.inside) c.report.new.rows (plain_rows a fs) (c.machines.view_is ∙ c.requires.none) h))
+
+pub returns-in-Ok-Curve-clause-told : goal.returns-in-Ok-Curve-clause-told
+unfolding account_of machines_left
+returns-in-Ok-Curve-clause-told g c =
+    let out = c.args.out.now in
+    let new = c.report-in-Ok-Curve.new.out in
+    let a = curve_of c.in-Ok-Curve.words in
+    told_one (g.F.Folder.files c.args.folder.now) _ _ c.report-in-Ok-Curve.ensures.told
+    (λ fs h. subst (λ (z : Option Asked). Ends c.report-in-Ok-Curve.result (asked_account z fs) g.K.Sink.roomy (g.K.Sink.outside out).written (g.K.Sink.outside new).written out new
+    (record (the_view c.machines.inside) { rows = c.report-in-Ok-Curve.new.rows } ≡ asked_machines z fs))
+    (sym (rw (c.as_slice.ensures.value, c.in-Ok-Curve.field-0-is) at c.in-Ok-Curve.ensures))
+    (rows_left c.report-in-Ok-Curve.result (curve_account a fs) g.K.Sink.roomy (g.K.Sink.outside out).written (g.K.Sink.outside new).written out new (the_view c.machines.inside) c.report-in-Ok-Curve.new.rows (curve_rows a fs) (c.machines.view_is ∙ c.requires.none) h))
 
 pub returns-in-Err-clause-usage : goal.returns-in-Err-clause-usage
 returns-in-Err-clause-usage g c =
