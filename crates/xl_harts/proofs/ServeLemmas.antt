@@ -1,5 +1,5 @@
 -- Accesses of the current hart, one after another.
-use Rattle.std.proofs.Common.{◌≡◌, refl, sym, ◌∙◌, ap, subst, ℕ, ◌<◌, Bool, List, [], ◌∷◌, length, set}
+use Rattle.std.proofs.Common.{◌≡◌, refl, sym, ◌∙◌, ap, subst, ℕ, Bool, List, [], ◌∷◌, set}
 use Rattle.std.proofs.lemmas.List.{get_or-set_same, set-get_or, set-set}
 use Rattle.xl_lackey.specs.declared.skim.Access.{Access}
 use Rattle.xl_model.specs.declared.address.Mode.TheVariants as mode
@@ -9,7 +9,7 @@ use Rattle.xl_model.specs.declared.leaf.Reply.TheVariants as reply
 use Rattle.xl_model.specs.Addresses.{is_canonical, page_of}
 use Rattle.xl_model.specs.Structures.{TableState}
 use Rattle.xl_model.specs.Tlb.{array_hit}
-use Rattle.xl_hart_model.specs.Harts.{Hart, HartsState, opening_hart, current_hart, hart_accessed, hart_reply}
+use Rattle.xl_hart_model.specs.Harts.{Hart, HartsState, opening_hart, current_hart, hart_reply}
 use Rattle.xl_hart_laws.specs.Kept.{IsKept}
 use Rattle.xl_hart_laws.proofs.KeptLemmas.{accessed-kept}
 use Rattle.xl_harts.specs.Events.{AreServed, accesses_served, last_reply}

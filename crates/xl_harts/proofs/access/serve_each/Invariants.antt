@@ -1,8 +1,6 @@
-use Rattle.std.proofs.Common.{◌≡◌, drop}
-use Rattle.xl_model.specs.declared.leaf.Reply.TheVariants as reply
+use Rattle.std.proofs.Common.{drop}
 use Rattle.xl_hart_model.specs.Harts.{HartsState}
 use Rattle.xl_radix_walk.specs.Row.{row_table}
-use Rattle.xl_harts.specs.Events.{accesses_served, last_reply}
 use Rattle.xl_harts.specs.Views.{IsCurrent}
 use Rattle.xl_harts.proofs.ServeLemmas.{IsOnTheWay}
 use Rattle.xl_harts.proofs.access.serve_each.Given as goal

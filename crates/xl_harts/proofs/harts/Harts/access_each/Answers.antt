@@ -1,8 +1,7 @@
-use Rattle.std.proofs.Common.{◌∙◌, refl, sym, subst}
+use Rattle.std.proofs.Common.{◌∙◌, refl}
 use Rattle.xl_hart_model.specs.Harts.{HartsState, opening_hart}
 use Rattle.xl_radix_walk.specs.Row.{row_table}
-use Rattle.xl_model.specs.declared.leaf.Reply.TheVariants as reply
-use Rattle.xl_harts.specs.Events.{AreServed, last_reply}
+use Rattle.xl_harts.specs.Events.{AreServed}
 use Rattle.xl_harts.specs.Views.{state_of, IsCurrent}
 use Rattle.xl_harts.proofs.ServeLemmas.{served-placed, served-harts}
 use Rattle.xl_harts.proofs.StepLemmas.{same-place}
