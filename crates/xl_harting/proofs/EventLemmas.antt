@@ -1,14 +1,17 @@
 -- The events of a command, and what an access is answered.
-use Rattle.std.proofs.Common.{◌≡◌, ℕ, [], refl}
+use Rattle.std.proofs.Common.{◌≡◌, ℕ, List, [], ◌∷◌, refl}
+use Rattle.xl_lackey.specs.declared.skim.Access.{Access}
 use Rattle.xl_model.specs.declared.address.Kind.{Kind}
 use Rattle.xl_model.specs.declared.leaf.Reply.{Reply}
 use Rattle.xl_model.specs.Rules.{rule, change_of}
 use Rattle.xl_hart_model.specs.declared.hart.HartOutcome.TheVariants as outcome
-use Rattle.xl_hart_model.specs.Harts.{HartsState, current_hart, hart_change, hart_outcome, hart_refusal, hart_reply, hart_rule}
+use Rattle.xl_hart_model.specs.Harts.{HartsState, after_hart_event, current_hart, hart_change, hart_outcome, hart_refusal, hart_reply, hart_rule}
 use Rattle.xl_hart_model.specs.declared.hart.HartEvent.{HartEvent}
 use Rattle.xl_hart_script.specs.declared.command.HartCommand.{HartCommand}
 use Rattle.xl_hart_script.specs.declared.command.HartCommand.TheVariants as command
-use Rattle.xl_harting.specs.Harting.{access_of, events_of}
+use Rattle.xl_harts.specs.Events.{accesses_served}
+use Rattle.xl_paired.specs.Pairs.{accesses_after}
+use Rattle.xl_harting.specs.Harting.{access_of, events_of, harts_form}
 
 -- an access is replied to
 pub access_outcome : (va : ℕ) (kind : Kind) (s : HartsState) → hart_outcome (access_of va kind) s ≡ outcome.Replied (hart_reply (current_hart s) s.table.leaves va kind)
@@ -23,3 +26,8 @@ pub no_events : (c : HartCommand) → ((first : HartEvent) (n : ℕ) → c ≡ c
 no_events (command.Events first n) h = absurd (h first n refl)
 no_events (command.Run n) h = refl
 no_events command.RunRest h = refl
+
+-- accesses that are served together
+pub accesses-served : (accesses : List Access) (s : HartsState) → accesses_served accesses s ≡ accesses_after harts_form accesses s
+accesses-served [] s = refl
+accesses-served (a ∷ accesses) s = accesses-served accesses (after_hart_event (access_of a.va a.kind) s)

@@ -117,7 +117,5 @@ pub(crate) fn reply(harts: &mut Harts, va: u64, kind: Kind) -> Reply
 pub(crate) fn serve_accesses(harts: &mut Harts, accesses: &[Access])
     ensures { harts.new ≡ accesses_after harts_form accesses.now harts.old }
 {
-    for access in accesses {
-        reply(harts, access.va, access.kind);
-    }
+    harts.serve_accesses(accesses);
 }

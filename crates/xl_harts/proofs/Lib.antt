@@ -3,5 +3,6 @@ mod RefusalLemmas
 mod ChangeLemmas
 mod TakeLemmas
 mod AccessLemmas
+mod ServeLemmas
 mod StepLemmas
 mod OpenLemmas

@@ -10,7 +10,7 @@ use Rattle.xl_hart_model.specs.declared.hart.Request.{Request}
 use Rattle.xl_model.specs.declared.leaf.Leaf.{Leaf}
 use Rattle.xl_model.specs.declared.perm.Perm.{Perm}
 use Rattle.xl_model.specs.Addresses.{page_of}
-use Rattle.xl_hart_model.specs.Harts.{Hart, HartsState, kept_leaves, hart_refusal, after_hart_event, shared_row}
+use Rattle.xl_hart_model.specs.Harts.{Hart, HartsState, current_hart, kept_leaves, hart_refusal, after_hart_event, shared_row}
 use Rattle.xl_model.specs.Mapping.{leaf_at_page}
 use Rattle.xl_model.specs.Structures.{TableState}
 use Rattle.xl_model_lemmas.specs.Fresh.{InSets}
@@ -45,6 +45,12 @@ pub record IsServed (spec : HartSpec) (table : TableState) (h : Hart) : Type 0 w
   pub mapping : IsMapping (shared_row spec) table.leaves
   pub space_in : h.space < spec.spaces
   pub valid : (x : Leaf) → InSets x h.array.sets → IsLeafOf (shared_row spec) x
+
+-- Harts of which the current one, which is this, is served by their table.
+pub record IsCurrent (s : HartsState) (table : TableState) (h : Hart) : Type 0 where
+  pub kept : IsKept s
+  pub table_is : table ≡ s.table
+  pub hart_is : h ≡ current_hart s
 
 -- The first refusal of an event that is served for the current hart.
 abbrev pub refusal_of : Event → HartsState → Option HartRefusal

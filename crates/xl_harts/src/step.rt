@@ -36,7 +36,7 @@ impl Harts {
 
     /// Harts are coherent, and their replies are small.
     #[inline(always)]
-    fn tell_coherent(&self)
+    pub(crate) fn tell_coherent(&self)
         ensures coherent { IsCoherent self.now }
         ensures small { HasSmallReplies self.now }
     {

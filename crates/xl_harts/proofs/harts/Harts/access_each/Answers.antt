@@ -1,0 +1,43 @@
+use Rattle.std.proofs.Common.{◌∙◌, refl}
+use Rattle.xl_hart_model.specs.Harts.{HartsState, opening_hart}
+use Rattle.xl_radix_walk.specs.Row.{row_table}
+use Rattle.xl_harts.specs.Events.{AreServed}
+use Rattle.xl_harts.specs.Views.{state_of, IsCurrent}
+use Rattle.xl_harts.proofs.ServeLemmas.{served-placed, served-harts}
+use Rattle.xl_harts.proofs.StepLemmas.{same-place}
+use Rattle.xl_harts.proofs.harts.Harts.access_each.Goals as goal
+
+pub serve_each-requires : goal.serve_each-requires
+serve_each-requires c =
+    let i = c.self.inside in
+    let s : HartsState = state_of i.spec (row_table 3 i.table) i.requests.items i.harts.items i.current i.accepted i.refused in
+    let at = c.index_mut-hart.ensures.value ∙ same-place i.harts.items i.current c.index_mut-hart.result.now (opening_hart i.spec) c.self.invariant.kept.current_in in
+    let current : IsCurrent s (row_table 3 i.table) c.index_mut-hart.result.now = record { kept = c.self.invariant.kept; table_is = refl; hart_is = at } in
+    (s, current)
+
+pub invariant_of-self : goal.invariant_of-self
+invariant_of-self c =
+    let i = c.self.inside in
+    let s : HartsState = state_of i.spec (row_table 3 i.table) i.requests.items i.harts.items i.current i.accepted i.refused in
+    let at = c.index_mut-hart.ensures.value ∙ same-place i.harts.items i.current c.index_mut-hart.result.now (opening_hart i.spec) c.self.invariant.kept.current_in in
+    let current : IsCurrent s (row_table 3 i.table) c.index_mut-hart.result.now = record { kept = c.self.invariant.kept; table_is = refl; hart_is = at } in
+    let served : AreServed c.args.accesses.now s c.serve_each.result (row_table 3 c.serve_each.new.table) c.serve_each.new.hart = c.serve_each.ensures s current in
+    served-harts c.args.accesses.now s c.serve_each.result (row_table 3 c.serve_each.new.table) c.serve_each.new.hart i.requests.capacity i.frames served c.self.invariant
+
+pub returns-clause-reply : goal.returns-clause-reply
+returns-clause-reply c =
+    let i = c.self.inside in
+    let s : HartsState = state_of i.spec (row_table 3 i.table) i.requests.items i.harts.items i.current i.accepted i.refused in
+    let at = c.index_mut-hart.ensures.value ∙ same-place i.harts.items i.current c.index_mut-hart.result.now (opening_hart i.spec) c.self.invariant.kept.current_in in
+    let current : IsCurrent s (row_table 3 i.table) c.index_mut-hart.result.now = record { kept = c.self.invariant.kept; table_is = refl; hart_is = at } in
+    let served : AreServed c.args.accesses.now s c.serve_each.result (row_table 3 c.serve_each.new.table) c.serve_each.new.hart = c.serve_each.ensures s current in
+    rw (← c.self.view_is) served.reply_is
+
+pub returns-clause-after : goal.returns-clause-after
+returns-clause-after c =
+    let i = c.self.inside in
+    let s : HartsState = state_of i.spec (row_table 3 i.table) i.requests.items i.harts.items i.current i.accepted i.refused in
+    let at = c.index_mut-hart.ensures.value ∙ same-place i.harts.items i.current c.index_mut-hart.result.now (opening_hart i.spec) c.self.invariant.kept.current_in in
+    let current : IsCurrent s (row_table 3 i.table) c.index_mut-hart.result.now = record { kept = c.self.invariant.kept; table_is = refl; hart_is = at } in
+    let served : AreServed c.args.accesses.now s c.serve_each.result (row_table 3 c.serve_each.new.table) c.serve_each.new.hart = c.serve_each.ensures s current in
+    rw (← c.self.view_is) (served-placed c.args.accesses.now s c.serve_each.result (row_table 3 c.serve_each.new.table) c.serve_each.new.hart served)
