@@ -21,6 +21,10 @@ HARTS_REPORT = """hart 0 accesses=10 ok=7 unmapped=2 denied=1 notcanonical=0 hit
 hart 1 accesses=5 ok=5 unmapped=0 denied=0 notcanonical=0 hits=4 misses=1 reads=3 taken=0 invalidated=0 pasum=0000000000000002
 harts accepted=4 refused=0,0,0,0,0,0,0,0,0,5,0,0 waiting=2 held=1
 """
+CURVES = (
+    "r curve sets=1 lookups=100 hits=" + ",".join(map(str, range(1, 65))) + "\n"
+    "r curve sets=16 lookups=100 hits=6," + ",".join(["7"] * 63) + "\n"
+)
 
 
 @pytest.mark.parametrize(
@@ -107,6 +111,16 @@ def test_tables_of_reports(xlab, tmp_path):
     assert "reads/access" in xlab("table", "n").stdout
     ended = xlab("table", "h", "--columns", "l1,walks,held,refused", "--format", "json")
     assert json.loads(ended.stdout) == [{"row": "harts", "L1 misses": 5, "walks": 5, "held": 1, "refused": 5}]
+
+
+def test_tables_of_curves(xlab, tmp_path):
+    pytest.importorskip("tabulate")
+    (tmp_path / "c").write_text(CURVES)
+    ended = xlab("table", "c", "--columns", "accesses,w1,w64", "--format", "json")
+    rows = [{"row": "r, 1 set", "accesses": 100, "w1": 99, "w64": 36}, {"row": "r, 16 sets", "accesses": 100, "w1": 94, "w64": 93}]
+    assert ended.returncode == 0 and json.loads(ended.stdout) == rows, ended.stderr
+    ended = xlab("table", "c", "--columns", "walks")
+    assert ended.returncode == Status.USAGE and "w1 to w64" in ended.stderr
 
 
 @pytest.mark.parametrize(
