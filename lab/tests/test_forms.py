@@ -144,7 +144,8 @@ def test_tables_of_curves(xlab, tmp_path):
     pytest.importorskip("tabulate")
     (tmp_path / "c").write_text(CURVES)
     ended = xlab("table", "c", "--columns", "accesses,w1,w64", "--format", "json")
-    rows = [{"row": "r, 1 set", "accesses": 100, "w1": 99, "w64": 36}, {"row": "r, 16 sets", "accesses": 100, "w1": 94, "w64": 93}]
+    wanted = (("r, 1 set", 99, 36), ("r, 16 sets", 94, 93))
+    rows = [{"row": name, "accesses": 100, "w1": narrow, "w64": wide} for name, narrow, wide in wanted]
     assert ended.returncode == 0 and json.loads(ended.stdout) == rows, ended.stderr
     ended = xlab("table", "c", "--columns", "walks")
     assert ended.returncode == Status.USAGE and "w1 to w64" in ended.stderr

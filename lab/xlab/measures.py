@@ -160,7 +160,8 @@ UNITS = {"mpki": "per 1,000 instructions", "rpki": "per 1,000 instructions", "mp
          "walk": "reads per walk", "access": "reads per access"}  # fmt: skip
 OWN = {"trace", "config", "instructions", "template", "name", "tlb", "refused", "pasum", "accepted", "accesses", "denied",
        "fences", "fills", "growths", "invalidated", "kicks", "migrated", "notcanonical", "ok", "reads", "undone", "unmapped",
-       "walks", "wchits", "pagefaults", "guestfaults", "hits", "misses", "taken", "waiting", "held", *formrows.WIDTHS}  # fmt: skip
+       "walks", "wchits", "pagefaults", "guestfaults", "hits", "misses", "taken", "waiting", "held",
+       *formrows.WIDTHS}  # fmt: skip
 AGAINST = "%"  # behind a column's name: its change in per cent against the base row
 
 
