@@ -89,8 +89,8 @@ def first_lines(path, count):
 
 
 def accesses(out):
-    """The accesses of all rows of a report."""
-    return sum(map(int, re.findall(rb"accesses=(\d+)", out)))
+    """The accesses of all rows of a report, or the look-ups of all curves."""
+    return sum(map(int, re.findall(rb"(?:accesses|lookups)=(\d+)", out)))
 
 
 def least(words, runs):

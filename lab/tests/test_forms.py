@@ -1,4 +1,5 @@
-"""The forms `nested` and `harts`: what `xlab explain` says of them, their reports as rows, a trace's script of two stages."""
+"""The forms `curve`, `nested` and `harts`: what `xlab explain` says of them, their reports as rows, a trace's script of
+two stages."""
 
 import json
 import subprocess
@@ -10,6 +11,7 @@ from xlab import cli, formrows
 from xlab.explained import words
 from xlab.messages import Status
 
+ROWS = '[[row]]\nname = "a"\nmode = "sv39"\nframes = 64\nspaces = 1\ntable = "radix"\ntable_frames = 64\n'
 GUEST = "guest 100 16 64 64 0\ngmap 100000 4k rw-u 3\ngmap 0 4k rwxu\nvmap 1000 4k 0 rw-u\n"
 HARTS = "harts 1 4 1 16 1 1\nmap 0 1000 4k r--u\nunmap 0 1000 4k\n"
 LOAD = " L 1008,1\n"
@@ -21,6 +23,10 @@ HARTS_REPORT = """hart 0 accesses=10 ok=7 unmapped=2 denied=1 notcanonical=0 hit
 hart 1 accesses=5 ok=5 unmapped=0 denied=0 notcanonical=0 hits=4 misses=1 reads=3 taken=0 invalidated=0 pasum=0000000000000002
 harts accepted=4 refused=0,0,0,0,0,0,0,0,0,5,0,0 waiting=2 held=1
 """
+CURVES = (
+    "r curve sets=1 lookups=100 hits=" + ",".join(map(str, range(1, 65))) + "\n"
+    "r curve sets=16 lookups=100 hits=6," + ",".join(["7"] * 63) + "\n"
+)
 
 
 @pytest.mark.parametrize(
@@ -64,10 +70,35 @@ def test_a_mistake_is_explained(form, script, trace, status, says, program, tmp_
         (["nested", "--script", "s", "--trace", "t", "--config", "c"], ["--config is no word of xlate nested"]),
         (["harts", "--script", "s", "--trace", "t", "--json"], ["--json is no word of xlate harts"]),
         (["--config", "c", "harts"], ["`harts` is the first word, or none"]),
+        (["curve", "--config", "c"], ["--sets N is needed", "words: curve --sets N --config"]),
+        (["curve", "--sets", "257", "--config", "c"], ["--sets 257: a number from 1 to 256"]),
+        (["curve", "--sets", "1", "--config", "c", "--make", "64"], ["--make is no word of xlate curve"]),
+        (["--sets", "1", "--config", "c"], ["--sets is no word of xlate"]),
+        (["--sets", "1", "--config", "c", "curve"], ["`curve` is the first word, or none"]),
     ],
 )
 def test_words_of_a_form(asked, says):
     said = "\n".join(words.usage(words.read(asked)))
+    assert not [it for it in says if it not in said], said
+
+
+@pytest.mark.parametrize(
+    "config, script, trace, status, says",
+    [
+        (ROWS, "map 0 2000 4k r--u\n", LOAD, 0, ["no look-up hit at any width: s maps none", "demand 0 0", "without `curve`"]),
+        (ROWS, "map 0 1000 4k r--u\n", "", 0, ["no row looked anything up: t holds no record"]),
+        (ROWS, "map 0 1000 4k\n", LOAD, 3, ["s:1: too few or too many", "map SPACE ADDR ORDER PERM [N]"]),
+        (ROWS.replace("sv39", "sv40"), "", LOAD, 2, ["c:3:", "sv39"]),
+        (ROWS, "", "hello\n", 4, ["t:1: no record"]),
+    ],
+)  # fmt: skip
+def test_a_mistake_of_a_curve_is_explained(config, script, trace, status, says, program, tmp_path, monkeypatch, capfd):
+    monkeypatch.chdir(tmp_path)
+    for name, text in (("c", config), ("s", script), ("t", trace)):
+        (tmp_path / name).write_text(text)
+    asked = ["explain", "curve", "--sets", "2", "--config", "c", "--script", "s", "--trace", "t"]
+    assert cli.main(asked) == status
+    said = capfd.readouterr().err
     assert not [it for it in says if it not in said], said
 
 
@@ -107,6 +138,17 @@ def test_tables_of_reports(xlab, tmp_path):
     assert "reads/access" in xlab("table", "n").stdout
     ended = xlab("table", "h", "--columns", "l1,walks,held,refused", "--format", "json")
     assert json.loads(ended.stdout) == [{"row": "harts", "L1 misses": 5, "walks": 5, "held": 1, "refused": 5}]
+
+
+def test_tables_of_curves(xlab, tmp_path):
+    pytest.importorskip("tabulate")
+    (tmp_path / "c").write_text(CURVES)
+    ended = xlab("table", "c", "--columns", "accesses,w1,w64", "--format", "json")
+    wanted = (("r, 1 set", 99, 36), ("r, 16 sets", 94, 93))
+    rows = [{"row": name, "accesses": 100, "w1": narrow, "w64": wide} for name, narrow, wide in wanted]
+    assert ended.returncode == 0 and json.loads(ended.stdout) == rows, ended.stderr
+    ended = xlab("table", "c", "--columns", "walks")
+    assert ended.returncode == Status.USAGE and "w1 to w64" in ended.stderr
 
 
 @pytest.mark.parametrize(

@@ -24,6 +24,7 @@ def files(tmp_path):
     (tmp_path / "rows.json").write_text(json.dumps([BARE, TWO]))
     (tmp_path / "swept.json").write_text(json.dumps(SWEPT))
     (tmp_path / "curve").write_text(CURVE)
+    (tmp_path / "two").write_text(CURVE + CURVE.replace("r curve sets=2", "s curve sets=1"))
     return tmp_path
 
 
@@ -47,7 +48,11 @@ def texts(svg):
             ("map", "swept.json", "--columns", "rpki"),
             ["reads per 1,000 instructions, log scale", "tlb.2.sets", "x", "y", "25"],
         ),
-        (("curve", "curve"), ["misses per 1,000 lookups", "width (entries of a set)", "r, 2 sets"]),
+        (("curve", "curve"), ["misses per 1,000 lookups", "width (entries of a set)", "2 sets"]),
+        (
+            ("curve", "my=two", "--instructions", "my=4000", "--title", "mine"),
+            ["misses per 1,000 instructions", "r, 2 sets", "s, 1 set", "mine"],
+        ),
     ],
 )
 def test_what_a_picture_says(words, says, files, xlab):
@@ -71,6 +76,7 @@ def test_the_same_rows_give_the_same_bytes(files, xlab):
         (("sweep", "rows.json", "--output", "a.png"), "of no sweep"),
         (("sweep", "swept.json", "--x", "tlb.2.set", "--output", "a.png"), "meant tlb.2.sets?"),
         (("curve", "rows.json", "--output", "a.png"), "no curves"),
+        (("rows", "curve", "--output", "a.png"), "xlab plot curve"),
         (("rows", "rows.json", "--output", "none/a.png"), "none"),
     ],
 )

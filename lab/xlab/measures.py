@@ -5,6 +5,7 @@ import math
 from collections.abc import Callable, Iterable
 from dataclasses import dataclass, field
 
+from xlab import formrows
 from xlab.explained.said import nearest
 from xlab.messages import Fault, Status
 from xlab.rowfiles import Row
@@ -159,7 +160,8 @@ UNITS = {"mpki": "per 1,000 instructions", "rpki": "per 1,000 instructions", "mp
          "walk": "reads per walk", "access": "reads per access"}  # fmt: skip
 OWN = {"trace", "config", "instructions", "template", "name", "tlb", "refused", "pasum", "accepted", "accesses", "denied",
        "fences", "fills", "growths", "invalidated", "kicks", "migrated", "notcanonical", "ok", "reads", "undone", "unmapped",
-       "walks", "wchits", "pagefaults", "guestfaults", "hits", "misses", "taken", "waiting", "held"}  # fmt: skip
+       "walks", "wchits", "pagefaults", "guestfaults", "hits", "misses", "taken", "waiting", "held",
+       *formrows.WIDTHS}  # fmt: skip
 AGAINST = "%"  # behind a column's name: its change in per cent against the base row
 
 
@@ -231,13 +233,22 @@ def checked(names: Iterable[str], samples: list[Sample], base: str | None) -> li
             raise Fault(f"column {name} wants --base ROW", Status.USAGE)
         if name.removesuffix(AGAINST) not in known:
             raise Fault(f"{name} is no column{nearest(name, known)}; `--help` lists them", Status.USAGE)
+        if of_curves(samples) and name.removesuffix(AGAINST) not in {"accesses", *formrows.WIDTHS}:
+            raise Fault(f"curves have no {name}: their columns are accesses, and misses by width, w1 to w64", Status.USAGE)
     return wanted
+
+
+def of_curves(samples: list[Sample]) -> bool:
+    """Whether a row is of a curve, which counts misses by width alone."""
+    return any(formrows.WIDTHS <= it.row.keys() for it in samples)
 
 
 def usual(samples: list[Sample], base: str | None) -> list[str]:
     """The columns that are shown where none are named."""
     if all("guestfaults" in it.row for it in samples):
         return ["accesses", "reads", "reads-access", "hits", "pagefaults", "guestfaults"]
+    if of_curves(samples):
+        return ["accesses", *(f"w{width}" for width in (1, 2, 4, 8, 16, 32, 64))]
     most = max((level for it in samples for level in it.levels), default=0)
     counted = any(it.instructions is not None for it in samples)
     of_levels = [f"l{level}{'-mpki' if counted else ''}" for level in range(1, most)]

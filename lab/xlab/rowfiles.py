@@ -21,11 +21,14 @@ def labelled(word: str) -> tuple[str, str]:
 
 def read(file: str) -> list[Row]:
     """The rows of a file, or of standard input where it is `-`: JSON, one array or a value for each line; or a report of
-    the forms `nested` and `harts`."""
+    the forms `nested`, `harts` and `curve`."""
     text = sys.stdin.read() if file == files.STANDARD else pathlib.Path(file).read_text()
     report = formrows.read(text)
     if report is not None:
         return [report | {"form": report["name"]}]
+    curves = formrows.of_curves(text)
+    if curves:
+        return curves
     try:
         values = [json.loads(line) for line in text.splitlines() if line.strip()]
     except ValueError:

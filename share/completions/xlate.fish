@@ -1,6 +1,8 @@
 complete -c xlate -f
+complete -c xlate -n __fish_use_subcommand -a curve -d 'hits of all widths in one pass'
 complete -c xlate -n __fish_use_subcommand -a nested -d 'a guest over a host: two stages'
 complete -c xlate -n __fish_use_subcommand -a harts -d 'several harts with queued fences'
+complete -c xlate -n '__fish_seen_subcommand_from curve' -l sets -x -d 'sets of the array, 1 to 256'
 complete -c xlate -l config -r -F -d 'the rows, in TOML'
 complete -c xlate -l script -r -F -d 'mapping commands'
 complete -c xlate -l trace -r -F -d 'records as Lackey writes them'

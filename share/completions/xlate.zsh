@@ -1,6 +1,7 @@
 #compdef xlate
 _arguments \
-    '1:form:((nested\:"a guest over a host\: two stages" harts\:"several harts with queued fences"))' \
+    '1:form:((curve\:"hits of all widths in one pass" nested\:"a guest over a host\: two stages" harts\:"several harts with queued fences"))' \
+    '--sets[of curve\: sets of the array, 1 to 256]:number:' \
     '--config[the rows, in TOML]:configuration:_files -g "*.toml"' \
     '--script[mapping commands]:script:_files' \
     '--trace[records as Lackey writes them]:trace:_files' \

@@ -7,7 +7,7 @@ import threading
 from collections.abc import Iterable
 
 from xlab import formrows, program
-from xlab.explained import configuration, rows, script, stages, trace, words
+from xlab.explained import configuration, curves, rows, script, stages, trace, words
 from xlab.helppage import Example
 from xlab.needs import Needs
 
@@ -27,12 +27,14 @@ The words are xlate's own, all of which docs/FORMATS.md explains:
   --image         the words of each radix table
   --json          the rows as JSON
 
-or, after the word nested or harts, --script FILE --trace FILE [--answers]: two stages, or several harts.
+or, after the word curve, --sets N and the three files: hit curves of all widths; or, after the word nested or harts,
+--script FILE --trace FILE [--answers]: two stages, or several harts.
 """
 EXAMPLES = (
     Example(
         "xlab explain --config my.toml --script my.script --trace my.trace", "the rows, and what they keep silent about"
     ),
+    Example("xlab explain curve --sets 16 --config my.toml --script my.script --trace my.trace", "of hit curves"),
     Example("xlab explain nested --script my.script --trace my.trace", "of a guest over a host; or of harts"),
     Example("zstd -dc my.trace.zst | xlab explain --config my.toml --trace /dev/stdin", "of a trace in a pipe"),
 )
@@ -57,8 +59,7 @@ def run(asked: argparse.Namespace) -> int:
     hears.join()
     message = "".join(heard)
     status = running.wait()
-    report = formrows.read("\n".join(counted))
-    for line in explanation(status, message, asked.words, found, report):
+    for line in explanation(status, message, asked.words, found, "\n".join(counted)):
         print(line if line.startswith("    ") else f"explain: {line}", file=sys.stderr)
     return status
 
@@ -81,12 +82,15 @@ def _through(output: Iterable[bytes], counted: list[str]) -> Iterable[rows.Row]:
 
 
 def explanation(
-    status: int, message: str, given: list[str], found: list[rows.Row], report: formrows.Row | None = None
+    status: int, message: str, given: list[str], found: list[rows.Row], counts: str = ""
 ) -> list[str]:
-    """What is to be said of a run that ended so."""
+    """What is to be said of a run that ended so, with these rows, or lines of counts of another form."""
     read = words.read(given)
     config, mapped, traced = read.file("config"), read.file("script"), read.file("trace")
+    report = formrows.read(counts)
     match status:
+        case 0 if read.form == "curve":
+            return curves.explain(formrows.curves(counts), mapped, traced)
         case 0 if report is not None:
             return stages.explain(report, traced)
         case 0:
@@ -96,7 +100,7 @@ def explanation(
         case 2:
             return configuration.explain(config, message)
         case 3:
-            return script.explain(mapped, message, read.form)
+            return script.explain(mapped, message, "plain" if read.form == "curve" else read.form)
         case 4:
             return trace.explain(traced, message)
         case 5 | 8:

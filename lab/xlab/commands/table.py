@@ -12,9 +12,10 @@ from xlab.needs import Needs
 
 SUMMARY = "misses, MPKI, rates and changes of rows, as Markdown, CSV or JSON"
 DESCRIPTION = f"""
-Makes a table of rows that xlate printed with --json, or that xlab sweep gathered, or of the reports of `xlate nested` and
-`xlate harts`, each a row named by its label. Several traces are shown side by side, and of a sweep the values set in front. Misses are those of a level, and not of its arrays: an array of 2 MiB
-pages beside one of 4 KiB pages counts a miss wherever the other one hits.
+Makes a table of rows that xlate printed with --json, or that xlab sweep gathered, or of the reports of `xlate nested`
+and `xlate harts`, each a row named by its label, or of `xlate curve`, whose columns w1 to w64 are the misses of each
+width. Several traces are shown side by side, and of a sweep the values set in front. Misses are those of a level, and
+not of its arrays: an array of 2 MiB pages beside one of 4 KiB pages counts a miss wherever the other one hits.
 
 A page that is mapped on demand is missed twice at its first touch, once unmapped and once mapped. --first-touches once
 counts it as other simulators do; out leaves these misses out, which no TLB can avoid. Reads are all reads in each case.

@@ -8,16 +8,23 @@ from dataclasses import dataclass, field
 from xlab.explained.said import nearest
 
 FILES = ("--config", "--script", "--trace")
-VALUED = (*FILES, "--make")
+VALUED = (*FILES, "--make", "--sets")
 PAIR = ("--script", "--trace", "--answers")
-KNOWN = {"plain": (*VALUED, "--answers", "--image", "--json"), "nested": PAIR, "harts": PAIR}
-NEEDED = {"plain": ("--config",), "nested": PAIR[:2], "harts": PAIR[:2]}
+KNOWN = {
+    "plain": (*FILES, "--make", "--answers", "--image", "--json"),
+    "curve": ("--sets", *FILES),
+    "nested": PAIR,
+    "harts": PAIR,
+}
+NEEDED = {"plain": ("--config FILE",), "curve": ("--sets N", "--config FILE"), "nested": ("--script FILE", "--trace FILE"),
+          "harts": ("--script FILE", "--trace FILE")}  # fmt: skip
 USED = {
     "plain": "--config FILE [--script FILE] [--trace FILE] [--make N] [--answers] [--image] [--json]",
+    "curve": "curve --sets N --config FILE [--script FILE] [--trace FILE]",
     "nested": "nested --script FILE --trace FILE [--answers]",
     "harts": "harts --script FILE --trace FILE [--answers]",
 }
-MOST_MADE = 1048576
+MOST = {"--make": 1048576, "--sets": 256}
 
 
 @dataclass
@@ -38,7 +45,7 @@ class Words:
 def read(words: list[str]) -> Words:
     """The words as the program reads them."""
     found, rest = Words(), list(words)
-    if rest and rest[0] in ("nested", "harts"):
+    if rest and rest[0] in KNOWN and rest[0] != "plain":
         found.form = rest.pop(0)
     while rest:
         word = rest.pop(0)
@@ -66,12 +73,13 @@ def usage(words: Words) -> list[str]:
     said += [f"`{it}` belongs to no word{_owner(it)}" for it in words.loose]
     said += [f"{it} is given twice" for it in dict.fromkeys(words.options) if words.options.count(it) > 1]
     said += [f"{it} wants a value behind it" for it in words.lost]
-    said += [f"{it} FILE is needed" for it in NEEDED[words.form] if it not in words.options]
-    if "--make" in words.options and {"--script", "--trace"} & set(words.options):
+    said += [f"{it} is needed" for it in NEEDED[words.form] if it.split()[0] not in words.options]
+    if "--make" in words.options and "--make" in known and {"--script", "--trace"} & set(words.options):
         said.append("--make goes with neither --script nor --trace: it makes both")
-    made = words.values.get("--make")
-    if made is not None and not (re.fullmatch(r"\d+", made) and 1 <= int(made) <= MOST_MADE):
-        said.append(f"--make {made}: a number from 1 to {MOST_MADE} is wanted, digits alone")
+    for name, most in MOST.items():
+        told = words.values.get(name)
+        if name in known and told is not None and not (re.fullmatch(r"[0-9]+", told) and 1 <= int(told) <= most):
+            said.append(f"{name} {told}: a number from 1 to {most} is wanted, digits alone")
     return [*said, f"words: {USED[words.form]}; see docs/FORMATS.md"]
 
 
@@ -86,7 +94,7 @@ def _hint(word: str, known: tuple[str, ...]) -> str:
 
 
 def _owner(word: str) -> str:
-    if word in ("nested", "harts"):
+    if word in KNOWN and word != "plain":
         return f": `{word}` is the first word, or none"
     kinds = {".toml": "--config", ".script": "--script", ".trace": "--trace"}
     kind = kinds.get(pathlib.Path(word).suffix)
