@@ -191,5 +191,5 @@ def test_stages_want_a_trace(xlab):
 
 def test_the_figures_of_the_examples_are_what_the_program_prints(program, xlab):
     pytest.importorskip("tabulate")
-    ended = xlab("pages", EXAMPLES / "stages.md", EXAMPLES / "harts.md")
+    ended = xlab("pages", EXAMPLES / "guests.md", EXAMPLES / "harts.md")
     assert ended.returncode == 0, ended.stdout
