@@ -1,5 +1,5 @@
 -- The host after a look into its G cache.
-use Rattle.std.proofs.Common.{◌≡◌, refl, ap, ◌∙◌, subst, ℕ, ◌+◌, ◌-◌, ◌/◌, Bool, true, false, if◌then◌else◌, List, Option, None, Some}
+use Rattle.std.proofs.Common.{◌≡◌, refl, ap, ◌∙◌, subst, ℕ, ◌+◌, ◌-◌, ◌/◌, Bool, true, false, if◌then◌else◌, List, Option, None, Some, arith}
 use Rattle.std.specs.Prelude.{find}
 use Rattle.xl_model.specs.declared.address.Kind.{Kind}
 use Rattle.xl_model.specs.declared.leaf.Leaf.{Leaf}
@@ -7,6 +7,7 @@ use Rattle.xl_model.specs.declared.leaf.Reply.TheVariants as reply
 use Rattle.xl_model.specs.declared.perm.Perm.{Perm}
 use Rattle.xl_model.specs.Addresses.{allows}
 use Rattle.xl_model.specs.Base.{plus}
+use Rattle.xl_model.specs.LeafWords.{small_leaf}
 use Rattle.xl_model.specs.Caches.{Cached, without_items}
 use Rattle.xl_model.specs.Mapping.{leaf_at_page, reply_by}
 use Rattle.xl_model.specs.Recency.{purged, touched, with_newest}
@@ -89,3 +90,10 @@ frame-found page word kind (Some x) found =
 pub frame-some : (g word : ℕ) (leaves : List Leaf) (kind : Kind) → IsFound (host_page g) (Some word) (host_leaf g leaves) → frame_said kind word ≡ stage2 leaves g kind
 unfolding stage2
 frame-some g word leaves kind found = frame-found (host_page g) word kind (host_leaf g leaves) found
+
+-- a leaf of 4 KiB, by its word
+pub small-says : (space page word : ℕ) → IsPageWord page word (small_leaf space page word)
+small-says space page word = record { frame = omega arith; perm = refl }
+
+pub small-frame : (page word : ℕ) (kind : Kind) → frame_said kind word ≡ frame_of (reply_by (Some (small_leaf 0 page word)) page kind)
+small-frame page word kind = frame-found page word kind (Some (small_leaf 0 page word)) (small-says 0 page word)

@@ -6,7 +6,7 @@ use Rattle.xl_model.specs.declared.address.Order.TheVariants as order
 use Rattle.xl_model.specs.declared.leaf.Leaf.{Leaf}
 use Rattle.xl_model.specs.declared.perm.Perm.{Perm}
 use Rattle.xl_model.specs.Addresses.{level_of, order_at, pages_of, same_order}
-use Rattle.xl_model.specs.LeafWords.{perm_at, perm_code}
+use Rattle.xl_model.specs.LeafWords.{perm_at, perm_code, small_leaf}
 use Rattle.xl_model.specs.Mapping.{covers, is_leaf}
 use Rattle.xl_model.specs.Recency.{purged, touched, with_newest}
 use Rattle.xl_model.proofs.CodeLemmas.{at-level, frame-back, perm-back}
@@ -112,6 +112,16 @@ kept-back x i k t w =
     ∙ ap (λ (n : ℕ). made x.space x.first x.order (n / 16) (perm_at n)) w
     ∙ ap (λ (n : ℕ). made x.space x.first x.order n (perm_at (x.frame * 16 + perm_code x.perm))) (frame-back x.frame x.perm)
     ∙ ap (λ (z : Perm). made x.space x.first x.order x.frame z) (perm-back x.frame x.perm)
+
+-- the leaf of 4 KiB of a guest page, by its word
+pub small-kept : (g : ℕ) (i : Item) → i.tag ≡ tag_of g order.K4 → leaf_of i ≡ small_leaf (host_space g) (host_page g) i.word
+unfolding tag_of leaf_of
+small-kept g i t =
+    let a : i.tag % 3 ≡ 0 = omega arith in
+    let b : i.tag / 3 ≡ g = omega arith in
+    let space : host_space (g * 1) ≡ host_space g = omega arith in
+    let first : host_page (g * 1) ≡ host_page g / 1 * 1 = omega arith in
+    rw (a, b, space, first) refl
 
 -- how far a guest page is behind the first of its block
 behind-first : (o : Order) (block g : ℕ) → (block == g / pages_of o) ≡ true → host_page g - host_page (block * pages_of o) ≡ g % pages_of o

@@ -17,6 +17,7 @@ use Rattle.xl_model_lemmas.specs.Members.{In}
 use Rattle.xl_model_lemmas.proofs.ChangeLemmas.{changed-In}
 use Rattle.xl_model_lemmas.proofs.MemberLemmas.{find-In, find-passes}
 use Rattle.xl_model_lemmas.proofs.OrderLemmas.{pages-some}
+use Rattle.xl_model.specs.LeafWords.{small_leaf}
 use Rattle.xl_nested.specs.Commands.{IsPlace}
 use Rattle.xl_nested.specs.Kept.{IsGuest, IsStage}
 use Rattle.xl_nested.specs.declared.stage.Entry.{Entry}
@@ -141,5 +142,6 @@ loaded-kept base n stage is = record {
 
 pub entry-reaches : (base level page : ℕ) (stage : Stage) → IsGuest base stage → (e : Entry) → IsEntry level page e stage → LeavesReach page e
 entry-reaches base level page stage is (entry.Node next) says = tt
+entry-reaches base level page stage is (entry.Small word) says = let h = (guest-reaches base page stage (small_leaf 0 page word) is says.1).low in omega arith
 entry-reaches base level page stage is (entry.Leaf leaf) says = guest-reaches base page stage leaf is says.1
 entry-reaches base level page stage is entry.Nothing says = tt

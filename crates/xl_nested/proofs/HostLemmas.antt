@@ -8,6 +8,7 @@ use Rattle.xl_model.specs.declared.leaf.Leaf.{Leaf}
 use Rattle.xl_model.specs.declared.perm.Perm.{Perm}
 use Rattle.xl_model.specs.Addresses.{pages_of}
 use Rattle.xl_model.specs.Caches.{Cached, empty_cache, without_items}
+use Rattle.xl_model.specs.LeafWords.{small_leaf}
 use Rattle.xl_model.specs.Changes.{Insert, Remove, changed}
 use Rattle.xl_model.specs.Mapping.{is_leaf, leaf_at_page, leaf_named, meets_any}
 use Rattle.xl_nested_model.specs.declared.nest.NestRefusal.{NestRefusal}
@@ -63,6 +64,11 @@ opening-is frames nodes width stage pool cache e f k = rw (e, f, k, length-repli
 module _ {stage : Stage} {pool : List Bool} {cache : Cached Leaf} (is : IsHost stage pool cache) where
   pub valid-few : (x : Leaf) → In x stage.leaves → x.frame + pages_of x.order ≤ 2 ^ 44
   valid-few x i = let v = (is.mapping.valid x i).frames_in in let f = is.few in omega arith
+
+  -- the word of a leaf of 4 KiB is small
+  pub small-low : (space page word : ℕ) → leaf_at_page space page stage.leaves ≡ Some (small_leaf space page word) → word < 2 ^ 48
+  small-low space page word e =
+      let few : word / 16 + 1 ≤ 2 ^ 44 = valid-few (small_leaf space page word) (found-In space page stage.leaves (small_leaf space page word) e) in omega arith
 
   -- a leaf of the G cache that covers a guest page is the page's
   pub cached-is : (g : ℕ) (x : Leaf) → find (covers_guest g) cache.items ≡ Some x → host_leaf g stage.leaves ≡ Some x

@@ -4,6 +4,7 @@ mod ShapeLemmas
 mod StageLemmas
 mod CodingLemmas
 mod CacheLemmas
+mod HeldLemmas
 mod CommandLemmas
 mod GuestLemmas
 mod HostLemmas

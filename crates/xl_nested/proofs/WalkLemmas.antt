@@ -19,6 +19,9 @@ use Rattle.xl_nested_model.specs.Tally.{count_nest_reply}
 use Rattle.xl_model.specs.Nodes.{in_nodes, up, number_of}
 use Rattle.xl_nested_model.specs.Stages.{Stage, Guest, frame_of, guest_reply, is_loadable, nodes_in, path_from, reply_if_canonical, reply_if_loadable, stage2, translated, translated_by, covers_guest, guest_path, nested, Host, with_loads}
 use Rattle.xl_nested.specs.declared.stage.Entry.TheVariants as entry
+use Rattle.xl_nested.proofs.CacheLemmas.{small-frame}
+use Rattle.xl_nested.specs.Coding.{frame_said}
+use Rattle.xl_model.specs.LeafWords.{small_leaf}
 use Rattle.xl_nested.specs.Walks.{IsAt, IsEntry, guest_frame, last_level, path_down, reply_from, walked_from}
 
 -- the guest's node is translated and loaded
@@ -121,6 +124,17 @@ module _ (level node page : ℕ) (kind : Kind) (s : NestState) (at : IsAt level 
     leaf-after leaf (last, found) =
         let P : Option Leaf → Type 0 = λ o. with_last (frame_of (reply_by o page kind)) (stepped (s.guest.base + node) s) ≡ walked_from level page kind s in
         subst P found (end-after last)
+
+    pub small-reply : (word : ℕ) (to : Option ℕ) → to ≡ frame_said kind word → IsEntry level page (entry.Small word) s.guest.stage
+        → guest_reply to (translated (s.guest.base + node) s.host).stage.leaves kind ≡ reply_from level page kind s
+    small-reply word to e is =
+        let P : Option ℕ → Type 0 = λ o. guest_reply o (translated (s.guest.base + node) s.host).stage.leaves kind ≡ reply_from level page kind s in
+        subst P (sym (e ∙ small-frame page word kind)) (leaf-reply (small_leaf 0 page word) is)
+
+    pub small-after : (word : ℕ) (to : Option ℕ) → to ≡ frame_said kind word → IsEntry level page (entry.Small word) s.guest.stage → with_last to (stepped (s.guest.base + node) s) ≡ walked_from level page kind s
+    small-after word to e is =
+        let P : Option ℕ → Type 0 = λ o. with_last o (stepped (s.guest.base + node) s) ≡ walked_from level page kind s in
+        subst P (sym (e ∙ small-frame page word kind)) (leaf-after (small_leaf 0 page word) is)
 
     pub nothing-reply : IsEntry level page entry.Nothing s.guest.stage → nest.PageFault ≡ reply_from level page kind s
     nothing-reply (last, found) =

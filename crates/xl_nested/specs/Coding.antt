@@ -1,6 +1,6 @@
 -- How a leaf of the host's table is kept in an item of the G cache: the tag has the block of guest pages and the
 -- order, the word has the frame and the permission. Each tag is that of one block and order.
-use Rattle.std.specs.Prelude.{ℕ, ◌≡◌, ◌+◌, ◌-◌, ◌*◌, ◌/◌, ◌%◌, ◌^◌, ◌<◌, ◌==◌, Bool, true, false, ◌||◌, List, map, Option, None, Some}
+use Rattle.std.specs.Prelude.{ℕ, ◌≡◌, ◌+◌, ◌-◌, ◌*◌, ◌/◌, ◌%◌, ◌^◌, ◌<◌, ◌==◌, Bool, true, false, ◌||◌, List, [], map, Option, None, Some}
 use Rattle.xl_model.specs.declared.address.Kind.{Kind}
 use Rattle.xl_model.specs.declared.address.Order.{Order}
 use Rattle.xl_model.specs.declared.leaf.Leaf.{Leaf}
@@ -10,6 +10,8 @@ use Rattle.xl_model.specs.LeafWords.{perm_at}
 use Rattle.xl_model_lemmas.specs.Members.{In}
 use Rattle.xl_nested_model.specs.Stages.{host_page, host_space}
 use Rattle.xl_recency.specs.declared.item.Item.{Item}
+use Rattle.xl_nested.specs.declared.g_cache.Held.{Held}
+use Rattle.xl_nested.specs.declared.g_cache.Held.TheVariants as held
 
 -- The tag of the block of this order that has the guest page.
 unfoldable pub tag_of : ℕ → Order → ℕ
@@ -51,6 +53,18 @@ pub record IsKeepable (leaf : Leaf) : Type 0 where
 -- The words of a list are small: each frame is below 2^44.
 pub record AreSmall (items : List Item) : Type 0 where
   pub small : (i : Item) → In i items → i.word < 2 ^ 48
+
+-- The orders of a list's leaves are as it is said of them.
+abbrev pub IsHeld : Held → Cached Item → Type 0
+IsHeld held.Off c = (c.width ≡ 0) × (c.items ≡ [])
+IsHeld held.Nothing c = c.items ≡ []
+IsHeld (held.Only o) c = (i : Item) → In i c.items → i.tag % 3 ≡ level_of o
+IsHeld held.Several c = Unit {0}
+
+-- What the G cache keeps: its words are small, and the orders of its leaves are as it is said of them.
+pub record IsGCache (held : Held) (list : Cached Item) : Type 0 where
+  pub small : AreSmall list.items
+  pub orders : IsHeld held list
 
 -- A word says a page of a leaf: it has the frame of the page (times 16), and the leaf's permission.
 pub record IsPageWord (page word : ℕ) (leaf : Leaf) : Type 0 where

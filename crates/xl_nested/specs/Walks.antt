@@ -1,5 +1,5 @@
 -- The steps of a walk through both stages.
-use Rattle.std.specs.Prelude.{ℕ, suc, ◌≡◌, ◌+◌, ◌-◌, ◌^◌, ◌<◌, ◌≤◌, List, Option, None, Some}
+use Rattle.std.specs.Prelude.{ℕ, suc, ◌≡◌, ◌+◌, ◌-◌, ◌/◌, ◌^◌, ◌<◌, ◌≤◌, List, Option, None, Some}
 use Rattle.std.specs.List.{list_all}
 use Rattle.xl_model.specs.declared.address.Kind.{Kind}
 use Rattle.xl_model.specs.declared.leaf.Leaf.{Leaf}
@@ -10,6 +10,8 @@ use Rattle.xl_nested_model.specs.Nested.{NestState, along, with_last}
 use Rattle.xl_model.specs.Nodes.{up, number_of}
 use Rattle.xl_nested_model.specs.Stages.{Stage, Guest, frame_of, guest_reply, is_loadable, nodes_in, path_from, reply_if_loadable}
 use Rattle.xl_model.specs.Walks.{end_level}
+use Rattle.xl_model.specs.LeafWords.{small_leaf}
+use Rattle.xl_pte.specs.Decode.{SaysSmall, decode_of}
 use Rattle.xl_pte.specs.declared.word.Pte.{Pte}
 use Rattle.xl_pte.specs.declared.word.Pte.TheVariants as pte
 use Rattle.xl_radix.specs.ReadBack.{order_of, leaf_said}
@@ -35,6 +37,13 @@ entry_said level block (pte.Leaf frame perm) = entry_by (leaf_said 0 block (orde
 entry_said level block pte.Reserved = entry.Nothing
 entry_said level block pte.Misaligned = entry.Nothing
 
+-- What a word of a level says at a page of space 0. A leaf of 4 KiB may be told by its word.
+abbrev pub IsSaid : ℕ → ℕ → ℕ → Entry → Type 0
+IsSaid level page word (entry.Node next) = entry.Node next ≡ entry_said level (up level page) (decode_of word level)
+IsSaid level page word (entry.Small small) = (level ≡ 0) × SaysSmall word small
+IsSaid level page word (entry.Leaf leaf) = entry.Leaf leaf ≡ entry_said level (up level page) (decode_of word level)
+IsSaid level page word entry.Nothing = entry.Nothing ≡ entry_said level (up level page) (decode_of word level)
+
 -- The level at which the nodes of a page of space 0 end.
 abbrev pub last_level : ℕ → Stage → ℕ
 last_level page stage = end_level 2 0 0 page stage.leaves
@@ -44,6 +53,8 @@ last_level page stage = end_level 2 0 0 page stage.leaves
 abbrev pub IsEntry : ℕ → ℕ → Entry → Stage → Type 0
 IsEntry level page (entry.Node next) stage =
     (0 < level) × (last_level page stage < level) × (number_of 0 level (up level page) (nodes_in stage.shape) ≡ Some next)
+IsEntry level page (entry.Small word) stage =
+    (last_level page stage ≡ level) × (leaf_at_page 0 page stage.leaves ≡ Some (small_leaf 0 page word))
 IsEntry level page (entry.Leaf leaf) stage =
     (last_level page stage ≡ level) × (leaf_at_page 0 page stage.leaves ≡ Some leaf)
 IsEntry level page entry.Nothing stage =
@@ -64,6 +75,7 @@ pub record IsReached (page : ℕ) (leaf : Leaf) : Type 0 where
 -- The same of what a word says, where it says a leaf.
 abbrev pub LeavesReach : ℕ → Entry → Type 0
 LeavesReach page (entry.Node next) = Unit {0}
+LeavesReach page (entry.Small word) = word / 16 < 2 ^ 29
 LeavesReach page (entry.Leaf leaf) = IsReached page leaf
 LeavesReach page entry.Nothing = Unit {0}
 

@@ -2,37 +2,53 @@
 
 ghost use Rattle.std.specs.Prelude.{ℕ, ◌≡◌, ◌^◌, ◌<◌, ◌+◌, ◌*◌, ◌/◌, ◌%◌, true, find, IfOk, IfSome};
 ghost use Rattle.xl_model.specs.declared.address.Order.TheVariants as order;
-ghost use Rattle.xl_model.specs.Addresses.{order_at, pages_of};
-ghost use Rattle.xl_model.specs.Caches.{empty_cache};
+ghost use Rattle.xl_model.specs.Addresses.{level_of, order_at, pages_of};
+ghost use Rattle.xl_model.specs.Caches.{Cached, empty_cache};
+ghost use Rattle.xl_model.specs.LeafWords.{small_leaf};
 ghost use Rattle.xl_model.specs.Mapping.{is_leaf};
 ghost use Rattle.xl_model.specs.Recency.{purged, touched, with_newest};
 ghost use Rattle.xl_nested_model.specs.Stages.{covers_guest, host_page, host_space};
+ghost use Rattle.xl_recency.specs.declared.item.Item.{Item};
 ghost use Rattle.xl_recency.specs.Lists.{Fills, Purges, Touches};
 ghost use Rattle.xl_recency.specs.Widths.{IsWidth};
-ghost use Rattle.xl_nested.specs.Coding.{has_tag, is_among, leaf_of, tag_of as number_of, IsFound, IsKeepable, IsPageWord};
+ghost use Rattle.xl_nested.specs.Coding.{has_tag, is_among, leaf_of, tag_of as number_of, IsFound, IsHeld, IsKeepable, IsPageWord};
 ghost use Rattle.xl_nested.specs.Commands.{IsPlace};
+ghost use Rattle.xl_nested.specs.declared.g_cache.Held.TheVariants as orders;
 
 use std::alloc::Global;
 use std::marker::Model;
 use xl_model::{Leaf, NoMemory, Order, perm_code};
 use xl_recency::{BLANK, Cache, Item};
 
+/// The orders of the leaves in a list.
+#[derive(Clone, Copy)]
+pub(crate) enum Held {
+    /// The list has no width.
+    Off,
+    /// There is no leaf.
+    Nothing,
+    /// All are of this order: one tag of a guest page is looked for.
+    Only(Order),
+    Several,
+}
+
 /// A recency list of leaves of the host's table. Contracts see its width and the leaves, newest first.
 #[derive(Drop)]
 pub(crate) struct GCache {
+    held: Held,
     list: Cache<Item>,
 }
 
 impl Model for GCache {
     ghost use Rattle.xl_model.specs.Caches.{Cached};
     ghost use Rattle.xl_model.specs.declared.leaf.Leaf.{Leaf};
-    ghost use Rattle.xl_nested.specs.Coding.{leaves_in, AreSmall};
+    ghost use Rattle.xl_nested.specs.Coding.{leaves_in, IsGCache};
 
     ghost Value = { Cached Leaf };
 
     ghost view = { λ c. leaves_in c.list };
 
-    ghost invariant = { λ c. AreSmall c.list.items };
+    ghost invariant = { λ c. IsGCache c.held c.list };
 }
 
 /// The tag of the block of the order that has the guest page.
@@ -40,7 +56,8 @@ impl Model for GCache {
 #[inline(always)]
 fn tag_of(guest_page: u64, order: Order) -> u64
     requires { guest_page < 2 ^ 29 }
-    ensures { result ≡ number_of guest_page order }
+    ensures value { result ≡ number_of guest_page order }
+    ensures order { result % 3 ≡ level_of order }
 {
     match order {
         Order::K4 => guest_page * 3,
@@ -94,9 +111,18 @@ fn touch_tags(list: &mut Cache<Item>, k4: u64, m2: u64, g1: u64) -> Option<Item>
     list.touch(|item| item.tag == k4 || (item.tag == m2 || item.tag == g1))
 }
 
-/// Touches the newest item whose leaf covers a guest page.
+/// Touches the newest item with a tag.
 #[inline(always)]
-fn touch_page(list: &mut Cache<Item>, guest_page: u64) -> Option<Item>
+fn touch_tag(list: &mut Cache<Item>, tag: u64) -> Option<Item>
+    ensures touched { Touches (has_tag tag) list.old.items list.new.items result }
+    ensures width { list.new.width ≡ list.old.width }
+{
+    list.touch(|item| item.tag == tag)
+}
+
+/// Touches the newest item whose leaf covers a guest page, in a list of leaves of any order.
+#[inline(always)]
+fn touch_any(list: &mut Cache<Item>, guest_page: u64) -> Option<Item>
     requires { guest_page < 2 ^ 29 }
     ensures touched { Touches (is_among (number_of guest_page order.K4)
         (number_of guest_page order.M2) (number_of guest_page order.G1))
@@ -109,6 +135,81 @@ fn touch_page(list: &mut Cache<Item>, guest_page: u64) -> Option<Item>
         tag_of(guest_page, Order::M2),
         tag_of(guest_page, Order::G1),
     )
+}
+
+/// Touches the newest item whose leaf covers a guest page.
+#[tactic(auto, using(crate::proofs::HeldLemmas::touches_none, crate::proofs::HeldLemmas::touches_only))]
+#[inline(always)]
+fn touch_page(list: &mut Cache<Item>, held: Held, guest_page: u64) -> Option<Item>
+    requires page { guest_page < 2 ^ 29 }
+    requires orders { IsHeld held list.old }
+    ensures touched { Touches (is_among (number_of guest_page order.K4)
+        (number_of guest_page order.M2) (number_of guest_page order.G1))
+        list.old.items list.new.items result }
+    ensures width { list.new.width ≡ list.old.width }
+{
+    match held {
+        Held::Off => None,
+        Held::Nothing => None,
+        Held::Only(order) => touch_tag(list, tag_of(guest_page, order)),
+        Held::Several => touch_any(list, guest_page),
+    }
+}
+
+/// The orders in an empty list of a width.
+#[tactic(auto, using(crate::proofs::HeldLemmas::opened_off, crate::proofs::HeldLemmas::opened_nothing))]
+fn held_first(width: u8) -> Held
+    ensures { (list : Cached Item) → list ≡ empty_cache width → IsHeld result list }
+{
+    if width == 0 { Held::Off } else { Held::Nothing }
+}
+
+/// The orders in a list of leaves of one order, after a fill with a leaf of an order.
+#[tactic(auto, using(crate::proofs::HeldLemmas::more_same))]
+#[inline(always)]
+fn only_with(only: Order, order: Order) -> Held
+    ensures { (old new : Cached Item) (item : Item) → IsHeld (orders.Only only) old →
+        item.tag % 3 ≡ level_of order → new.items ≡ with_newest old.width item old.items →
+        IsHeld result new }
+{
+    if only.level() == order.level() {
+        Held::Only(only)
+    } else {
+        Held::Several
+    }
+}
+
+/// The orders in a list after a fill with a leaf of an order.
+#[tactic(auto, using(crate::proofs::HeldLemmas::off_filled, crate::proofs::HeldLemmas::first_filled))]
+#[inline(always)]
+fn held_with(held: Held, order: Order) -> Held
+    ensures { (old new : Cached Item) (item : Item) → IsHeld held old → item.tag % 3 ≡ level_of order →
+        new.width ≡ old.width → new.items ≡ with_newest old.width item old.items →
+        IsHeld result new }
+{
+    match held {
+        Held::Off => Held::Off,
+        Held::Nothing => Held::Only(order),
+        Held::Only(only) => only_with(only, order),
+        Held::Several => Held::Several,
+    }
+}
+
+/// Fills a list with the item of a leaf of an order.
+#[tactic(auto, using(crate::proofs::HeldLemmas::off_same))]
+#[inline(always)]
+fn fill_list(list: &mut Cache<Item>, held: &mut Held, item: Item, order: Order)
+    requires orders { IsHeld held.old list.old }
+    requires order { item.tag % 3 ≡ level_of order }
+    ensures filled { list.new.items ≡ with_newest list.old.width item list.old.items }
+    ensures width { list.new.width ≡ list.old.width }
+    ensures orders { IsHeld held.new list.new }
+{
+    if let Held::Off = *held {
+        return;
+    }
+    list.fill(item);
+    *held = held_with(*held, order);
 }
 
 /// Removes the items of a tag.
@@ -124,6 +225,7 @@ fn remove_tag(list: &mut Cache<Item>, tag: u64)
 fn item_of(leaf: Leaf) -> Item
     requires { IsKeepable leaf }
     ensures leaf { leaf_of result ≡ leaf }
+    ensures order { result.tag % 3 ≡ level_of leaf.order }
     ensures small { result.word < 2 ^ 48 }
 {
     Item {
@@ -139,7 +241,8 @@ impl GCache {
         ensures { IfOk result (λ cache. cache ≡ empty_cache width) }
     {
         let list = Cache::open(alloc, width, BLANK)?;
-        Ok(GCache { list })
+        let held = held_first(width);
+        Ok(GCache { held, list })
     }
 
     /// Touches the newest leaf that covers a guest page, and gives the page's word: its frame times 16,
@@ -153,7 +256,7 @@ impl GCache {
         ensures width { self.new.width ≡ self.old.width }
         ensures small { IfSome result (λ word. word < 2 ^ 49) }
     {
-        let Some(item) = touch_page(&mut self.list, guest_page) else {
+        let Some(item) = touch_page(&mut self.list, self.held, guest_page) else {
             return None;
         };
         Some(page_word(item, guest_page))
@@ -165,7 +268,25 @@ impl GCache {
         ensures filled { self.new.items ≡ with_newest self.old.width leaf self.old.items }
         ensures width { self.new.width ≡ self.old.width }
     {
-        self.list.fill(item_of(leaf));
+        fill_list(&mut self.list, &mut self.held, item_of(leaf), leaf.order);
+    }
+
+    /// Fills the list with the leaf of 4 KiB of a guest page, by its word.
+    #[inline(always)]
+    pub fn fill_small(&mut self, guest_page: u64, word: u64)
+        requires page { guest_page < 2 ^ 29 }
+        requires small { word < 2 ^ 48 }
+        ensures filled { self.new.items ≡ with_newest self.old.width
+            (small_leaf (host_space guest_page) (host_page guest_page) word) self.old.items }
+        ensures width { self.new.width ≡ self.old.width }
+    {
+        let tag = tag_of(guest_page, Order::K4);
+        fill_list(
+            &mut self.list,
+            &mut self.held,
+            Item { tag, word },
+            Order::K4,
+        );
     }
 
     /// Removes the leaf of this first guest page and order.

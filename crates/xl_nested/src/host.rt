@@ -130,9 +130,31 @@ impl Host {
     }
 
     /// The word of a guest page that no leaf of the G cache covers, by a walk. A leaf found fills the
-    /// cache.
+    /// cache. A leaf of 4 KiB is answered and kept by its word.
     #[inline(never)]
     fn walk(&mut self, guest_page: u64) -> Option<u64>
+        requires page { guest_page < 2 ^ 29 }
+        requires missed { find (covers_guest guest_page) self.old.cache.items ≡ None }
+        ensures word { IsFound (host_page guest_page) result
+            (host_leaf guest_page self.old.stage.leaves) }
+        ensures after { self.new ≡ translated guest_page self.old }
+        ensures small { IfSome result (λ word. word < 2 ^ 49) }
+    {
+        let found = self
+            .stage
+            .walk_small(space_of(guest_page), page_in(guest_page));
+        match found {
+            Some(word) => {
+                self.cache.fill_small(guest_page, word);
+                Some(word)
+            }
+            None => self.walk_slowly(guest_page),
+        }
+    }
+
+    /// What `walk` does, whatever the walk ends with.
+    #[inline(never)]
+    fn walk_slowly(&mut self, guest_page: u64) -> Option<u64>
         requires page { guest_page < 2 ^ 29 }
         requires missed { find (covers_guest guest_page) self.old.cache.items ≡ None }
         ensures word { IsFound (host_page guest_page) result

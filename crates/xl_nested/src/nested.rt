@@ -1,23 +1,22 @@
 //! A guest over a host.
 
-ghost use Rattle.std.specs.Prelude.{◌≡◌, Some, IfOk};
+ghost use Rattle.std.specs.Prelude.{◌≡◌, ◌^◌, ◌<◌, IfOk, IfSome};
 ghost use Rattle.xl_model.specs.Addresses.{is_canonical};
-ghost use Rattle.xl_model.specs.Mapping.{reply_by};
 ghost use Rattle.xl_nested_model.specs.Tally.{IsSmallNest};
 ghost use Rattle.xl_nested_model.specs.Nested.{IsNest, nest_accessed, nest_counts, opening_nest, walked_if, with_last};
-ghost use Rattle.xl_nested_model.specs.Stages.{frame_of, guest_reply, host_reply, nested};
+ghost use Rattle.xl_nested_model.specs.Stages.{guest_reply, host_reply, nested};
 ghost use Rattle.xl_model.specs.declared.address.Mode.TheVariants as mode;
 ghost use Rattle.xl_nested.specs.Kept.{stage_of};
 ghost use Rattle.xl_nested.specs.Laws.{ReplyLaws};
-ghost use Rattle.xl_nested.specs.Walks.{IsAt, IsReached, reply_from, walked_from};
+ghost use Rattle.xl_nested.specs.Walks.{IsAt, reply_from, walked_from};
 
 use crate::guest::Guest;
 use crate::host::Host;
-use crate::leaf::frame_in;
+use crate::leaf::{frame_allowed, frame_in};
 use crate::stage::Entry;
 use std::alloc::Global;
 use std::marker::Model;
-use xl_model::{Kind, Leaf, Mode, NoMemory, canonical, page_of};
+use xl_model::{Kind, Mode, NoMemory, canonical, page_of};
 use xl_nested_model::{Nest, NestCounts, NestReply};
 use xl_phys::Bus;
 use xl_radix::Radix;
@@ -123,33 +122,40 @@ impl Nested {
 
     /// The walk of a page from its node of a level down: the node's guest page is translated, and the
     /// page's word is loaded.
-    fn walk_from(&mut self, level: usize, node: u64, page: u64, kind: Kind) -> NestReply
-        requires { IsAt level node page self.old.guest }
-        ensures reply { result ≡ reply_from level page kind self.old }
-        ensures after { self.new ≡ walked_from level page kind self.old }
+    fn walk_from(&mut self, start: usize, node: u64, page: u64, kind: Kind) -> NestReply
+        requires { IsAt start node page self.old.guest }
+        ensures reply { result ≡ reply_from start page kind self.old }
+        ensures after { self.new ≡ walked_from start page kind self.old }
         ensures small { IsSmallNest result }
     {
-        let node_page = self.guest.page_of_node(level, node, page);
-        let Some(_frame) = self.host.translate(node_page, Kind::Load) else {
-            return NestReply::GuestFault;
-        };
-        match self.guest.load(level, node, page) {
-            Entry::Node(next) => self.walk_from(level - 1, next, page, kind),
-            Entry::Leaf(leaf) => self.reach(leaf, page, kind),
-            Entry::Nothing => NestReply::PageFault,
+        let mut level = start;
+        let mut at = node;
+        'down: loop {
+            let node_page = self.guest.page_of_node(level, at, page);
+            let Some(_frame) = self.host.translate(node_page, Kind::Load) else {
+                return NestReply::GuestFault;
+            };
+            match self.guest.load(level, at, page) {
+                Entry::Node(next) => {
+                    at = next;
+                    level -= 1;
+                }
+                Entry::Small(word) => return self.reach(frame_allowed(word, kind), kind),
+                Entry::Leaf(leaf) => return self.reach(frame_in(leaf, page, kind), kind),
+                Entry::Nothing => return NestReply::PageFault,
+            }
         }
     }
 
     /// The end of a walk at the guest's leaf: where the leaf allows the access, its guest page is translated.
     #[inline(always)]
-    fn reach(&mut self, leaf: Leaf, page: u64, kind: Kind) -> NestReply
-        requires { IsReached page leaf }
-        ensures reply { result ≡ guest_reply (frame_of (reply_by (Some leaf) page kind))
-            self.old.host.stage.leaves kind }
-        ensures after { self.new ≡ with_last (frame_of (reply_by (Some leaf) page kind)) self.old }
+    fn reach(&mut self, guest_page: Option<u64>, kind: Kind) -> NestReply
+        requires { IfSome guest_page (λ page. page < 2 ^ 29) }
+        ensures reply { result ≡ guest_reply guest_page self.old.host.stage.leaves kind }
+        ensures after { self.new ≡ with_last guest_page self.old }
         ensures small { IsSmallNest result }
     {
-        match frame_in(leaf, page, kind) {
+        match guest_page {
             Some(guest_page) => reply_by_host(self.host.translate(guest_page, kind)),
             None => NestReply::PageFault,
         }

@@ -1,7 +1,8 @@
 //! The table of a stage.
 
-ghost use Rattle.std.specs.Prelude.{◌≡◌, suc, ◌-◌, ◌^◌, ◌<◌, ◌≤◌, false, Some, IfOk};
+ghost use Rattle.std.specs.Prelude.{◌≡◌, suc, ◌-◌, ◌^◌, ◌<◌, ◌≤◌, false, Some, IfOk, IfSome, IfNone};
 ghost use Rattle.xl_model.specs.Changes.{Insert, Remove, IsNamed};
+ghost use Rattle.xl_model.specs.LeafWords.{small_leaf};
 ghost use Rattle.xl_model.specs.Mapping.{leaf_at_page, leaf_named, meets_any};
 ghost use Rattle.xl_nested_model.specs.Rules.{room_rule, stage_after};
 ghost use Rattle.xl_model.specs.Nodes.{number_of, up};
@@ -11,20 +12,22 @@ ghost use Rattle.xl_model.specs.Walks.{end_level};
 ghost use Rattle.xl_pte.specs.Decode.{decode_of};
 ghost use Rattle.xl_nested.specs.Commands.{IsAsAdded, IsServed};
 ghost use Rattle.xl_nested.specs.Kept.{stage_of};
-ghost use Rattle.xl_nested.specs.Walks.{IsEntry, entry_said};
+ghost use Rattle.xl_nested.specs.Walks.{IsEntry, IsSaid, entry_said};
 
 use crate::leaf::is_named;
 use std::alloc::Global;
 use std::marker::Model;
 use xl_model::{Leaf, NoMemory, NoTable, Order};
 use xl_nested_model::NestRefusal;
-use xl_pte::{Pte, decode};
+use xl_pte::{Pte, decode, small_word};
 use xl_radix::{Radix, block_of, index_of, leaf_of};
-use xl_radix_walk::find_leaf;
+use xl_radix_walk::{find_leaf, find_word, pointed};
 
 /// What a word of a node says: it points to the node below, is a leaf, or neither.
 pub(crate) enum Entry {
     Node(u64),
+    /// A leaf of 4 KiB, by its frame (times 16) and its permission.
+    Small(u64),
     Leaf(Leaf),
     Nothing,
 }
@@ -70,14 +73,32 @@ fn entry_of(pte: Pte, block: u64, level: usize) -> Entry
     }
 }
 
-/// What the word of a page of space 0 says at a level.
-#[inline(always)]
+/// What the word of a page of space 0 says at a level, whatever it says.
+#[inline(never)]
 fn said(word: u64, level: usize, page: u64) -> Entry
     requires level { level < 3 }
     requires page { page < 2 ^ 27 }
     ensures { result ≡ entry_said level (up level page) (decode_of word level) }
 {
     entry_of(decode(word, level), block_of(page, level), level)
+}
+
+/// What the word of a page of space 0 says at a level. A test each tells a pointer, which most words above level
+/// 0 are, and a leaf of level 0.
+#[inline(always)]
+fn judged(word: u64, level: usize, page: u64) -> Entry
+    requires level { level < 3 }
+    requires page { page < 2 ^ 27 }
+    ensures { IsSaid level page word result }
+{
+    if level > 0 {
+        if let Some(next) = pointed(word) {
+            return Entry::Node(next);
+        }
+    } else if let Some(small) = small_word(word) {
+        return Entry::Small(small);
+    }
+    said(word, level, page)
 }
 
 impl Stage {
@@ -152,7 +173,22 @@ impl Stage {
         find_leaf(&mut self.table, space, page)
     }
 
+    /// The word of the leaf of 4 KiB that covers a page, by a walk from the root of its space. None says
+    /// nothing.
+    #[inline(always)]
+    pub fn walk_small(&mut self, space: u16, page: u64) -> Option<u64>
+        requires { IsPage self.old.shape space page }
+        ensures leaf { IfSome result (λ word.
+            leaf_at_page space page self.old.leaves ≡ Some (small_leaf space page word)) }
+        ensures after { IfSome result (λ _. self.new ≡
+            with_loads (3 - end_level 2 0 space page self.old.leaves) self.old) }
+        ensures none { IfNone result (self.new ≡ self.old) }
+    {
+        find_word(&mut self.table, space, page)
+    }
+
     /// The number of the root of a page of space 0.
+    #[inline(always)]
     pub fn root(&self, _page: u64) -> u64
         requires { IsPage self.now.shape 0 _page }
         ensures { number_of 0 3 (up 3 _page) (nodes_in self.now.shape) ≡ Some result }
@@ -162,6 +198,7 @@ impl Stage {
     }
 
     /// Loads the word of a page of space 0 in its node of a level.
+    #[inline(always)]
     pub fn load(&mut self, level: usize, node: u64, page: u64) -> Entry
         requires node { number_of 0 (suc level) (up (suc level) page) (nodes_in self.old.shape) ≡
             Some node }
@@ -173,6 +210,6 @@ impl Stage {
         self.table.words_read_back();
         let word = self.table.word(node as u32, index_of(page, level) as u32);
         self.table.count_loads(1);
-        said(word, level, page)
+        judged(word, level, page)
     }
 }

@@ -9,7 +9,8 @@ mod step;
 mod walk_caches;
 mod walker;
 
-pub use find::find_leaf;
+pub use find::{find_leaf, find_word};
+pub use quick::pointed;
 pub use row::RadixRow;
 pub use walker::walk;
 pub use xl_radix::WalkEnd;

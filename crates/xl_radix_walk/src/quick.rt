@@ -26,7 +26,7 @@ fn number_pointed(word: u64) -> Option<u64>
 
 /// The node that a word points to at a level above 0: V is set, and neither R, W, X nor a reserved bit is.
 #[inline(always)]
-pub(crate) fn pointed(word: u64) -> Option<u64>
+pub fn pointed(word: u64) -> Option<u64>
     ensures said { IfSome result (Points word) }
     ensures small { IfSome result (λ next. next < 2 ^ 44) }
 {

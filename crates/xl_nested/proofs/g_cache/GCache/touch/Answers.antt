@@ -2,19 +2,26 @@ use Rattle.std.proofs.Common.{sym}
 use Rattle.xl_nested_model.specs.Stages.{host_page}
 use Rattle.xl_nested.proofs.CacheLemmas.{leaf-found, nothing-found}
 use Rattle.xl_nested.proofs.CodingLemmas.{found-covers, found-leaf, found-nothing, found-small, touched-leaves, touched-small}
+use Rattle.xl_nested.proofs.HeldLemmas.{held-touched}
 use Rattle.xl_nested.proofs.g_cache.GCache.touch.Goals as goal
 
 pub page_word-requires-clause-small : goal.page_word-requires-clause-small
-page_word-requires-clause-small c = found-small c.args.guest_page c.self.inside.list.items c.in-Some.item c.self.invariant c.in-Some.ensures.touched.found
+page_word-requires-clause-small c = found-small c.args.guest_page c.self.inside.list.items c.in-Some.item c.self.invariant.small c.in-Some.ensures.touched.found
 
 pub page_word-requires-clause-covers : goal.page_word-requires-clause-covers
 page_word-requires-clause-covers c = found-covers c.args.guest_page c.self.inside.list.items c.in-Some.item c.in-Some.ensures.touched.found
 
 pub invariant_of-self : goal.invariant_of-self
-invariant_of-self c = touched-small _ c.self.inside.list.items c.touch_page.new.list.items c.self.invariant c.touch_page.ensures.touched.moved
+invariant_of-self c = record {
+  small = touched-small _ c.self.inside.list.items c.touch_page.new.list.items c.self.invariant.small c.touch_page.ensures.touched.moved;
+  orders = held-touched c.self.inside.held c.self.inside.list c.touch_page.new.list _ c.self.invariant.orders c.touch_page.ensures.width c.touch_page.ensures.touched.moved;
+}
 
 pub invariant_of-self-2 : goal.invariant_of-self-2
-invariant_of-self-2 c = touched-small _ c.self.inside.list.items c.touch_page.new.list.items c.self.invariant c.touch_page.ensures.touched.moved
+invariant_of-self-2 c = record {
+  small = touched-small _ c.self.inside.list.items c.touch_page.new.list.items c.self.invariant.small c.touch_page.ensures.touched.moved;
+  orders = held-touched c.self.inside.held c.self.inside.list c.touch_page.new.list _ c.self.invariant.orders c.touch_page.ensures.width c.touch_page.ensures.touched.moved;
+}
 
 pub returns-clause-found : goal.returns-clause-found
 returns-clause-found c =

@@ -1,45 +1,41 @@
-use Rattle.std.proofs.Common.{sym, refl, None, Some}
-use Rattle.xl_nested_model.specs.Stages.{host_page}
-use Rattle.xl_nested.proofs.CacheLemmas.{filled-as, leaf-by, leaf-found, miss-after, nothing-found}
+use Rattle.std.proofs.Common.{◌≡◌, ◌<◌, ◌^◌, sym, refl, Some, arith}
+use Rattle.xl_model.specs.declared.leaf.Leaf.{Leaf}
+use Rattle.xl_model.specs.LeafWords.{small_leaf}
+use Rattle.xl_model.specs.Mapping.{leaf_at_page}
+use Rattle.xl_nested_model.specs.Stages.{host_page, host_space}
+use Rattle.xl_nested.proofs.CacheLemmas.{filled-as, leaf-by, leaf-found, miss-after, small-says}
 use Rattle.xl_nested.proofs.GuestLemmas.{found-In}
-use Rattle.xl_nested.proofs.HostLemmas.{filled-kept, keepable, loaded-kept, walked-for}
+use Rattle.xl_nested.proofs.HostLemmas.{filled-kept, small-low}
 use Rattle.xl_nested.proofs.host.Host.walk.Goals as goal
 
+pub fill_small-requires-clause-small : goal.fill_small-requires-clause-small
+fill_small-requires-clause-small c = small-low c.self.invariant c.space_of.result c.page_in.result c.in-Some.word c.in-Some.ensures.leaf
+
 pub invariant_of-self : goal.invariant_of-self
-invariant_of-self c = rw c.in_err-leaf.ensures.after (loaded-kept c.self.invariant _)
+invariant_of-self c =
+    let x : Leaf = small_leaf (host_space c.args.guest_page) (host_page c.args.guest_page) c.in-Some.word in
+    let there : leaf_at_page (host_space c.args.guest_page) (host_page c.args.guest_page) c.self.inside.stage.leaves ≡ Some x = rw (c.space_of.ensures.value, c.page_in.ensures.value) at c.in-Some.ensures.leaf in
+    rw c.in-Some.ensures.after (filled-kept c.self.invariant x _ c.self.inside.cache.width c.fill_small.new.self
+    (found-In (host_space c.args.guest_page) (host_page c.args.guest_page) c.self.inside.stage.leaves x there) c.fill_small.ensures.filled)
 
-pub returns-in_err-leaf-clause-word : goal.returns-in_err-leaf-clause-word
-returns-in_err-leaf-clause-word c =
-    rw (c.from_residual.ensures, ← c.self.view_is)
-    (nothing-found (host_page c.args.guest_page) _
-    (leaf-by c.args.guest_page c.space_of.result c.page_in-page.result c.self.inside.stage.leaves None c.space_of.ensures.value c.page_in-page.ensures.value c.in_err-leaf.ensures.leaf))
-
-pub returns-in_err-leaf-clause-after : goal.returns-in_err-leaf-clause-after
-returns-in_err-leaf-clause-after c =
-    rw (← c.self.view_is) (miss-after c.args.guest_page c.space_of.result c.page_in-page.result c.self.inside.hits c.self.inside.stage c.walk.new.self c.self.inside.frames c.self.inside.cache c.self.inside.cache None
-    c.space_of.ensures.value c.page_in-page.ensures.value (rw (← c.self.view_is) at c.requires.missed) c.in_err-leaf.ensures.leaf c.in_err-leaf.ensures.after refl)
-
-pub fill-requires : goal.fill-requires
-fill-requires c =
-    keepable c.self.invariant c.in_ok-leaf.leaf (found-In c.space_of.result c.page_in-page.result c.self.inside.stage.leaves c.in_ok-leaf.leaf (sym c.in_ok-leaf.ensures.leaf))
-
-pub word_in-requires : goal.word_in-requires
-word_in-requires c = walked-for c.self.invariant c.space_of.result c.page_in-page.result c.in_ok-leaf.leaf (sym c.in_ok-leaf.ensures.leaf)
-
-pub invariant_of-self-2 : goal.invariant_of-self-2
-invariant_of-self-2 c =
-    rw c.in_ok-leaf.ensures.after (filled-kept c.self.invariant c.in_ok-leaf.leaf _ c.self.inside.cache.width c.fill.new.self
-    (found-In c.space_of.result c.page_in-page.result c.self.inside.stage.leaves c.in_ok-leaf.leaf (sym c.in_ok-leaf.ensures.leaf)) c.fill.ensures.filled)
-
-pub returns-clause-word : goal.returns-clause-word
-returns-clause-word c =
+pub returns-in-Some-clause-word : goal.returns-in-Some-clause-word
+returns-in-Some-clause-word c =
+    let x : Leaf = small_leaf (host_space c.args.guest_page) (host_page c.args.guest_page) c.in-Some.word in
+    let there : leaf_at_page (host_space c.args.guest_page) (host_page c.args.guest_page) c.self.inside.stage.leaves ≡ Some x = rw (c.space_of.ensures.value, c.page_in.ensures.value) at c.in-Some.ensures.leaf in
     rw (← c.self.view_is)
-    (leaf-found (host_page c.args.guest_page) c.word_in.result c.in_ok-leaf.leaf _
-    (leaf-by c.args.guest_page c.space_of.result c.page_in-page.result c.self.inside.stage.leaves (Some c.in_ok-leaf.leaf) c.space_of.ensures.value c.page_in-page.ensures.value c.in_ok-leaf.ensures.leaf)
-    (rw c.page_in-page.ensures.value at c.word_in.ensures.says))
+    (leaf-found (host_page c.args.guest_page) c.in-Some.word x _
+    (leaf-by c.args.guest_page (host_space c.args.guest_page) (host_page c.args.guest_page) c.self.inside.stage.leaves (Some x) refl refl (sym there))
+    (small-says (host_space c.args.guest_page) (host_page c.args.guest_page) c.in-Some.word))
 
-pub returns-clause-after : goal.returns-clause-after
-returns-clause-after c =
-    rw (← c.self.view_is) (miss-after c.args.guest_page c.space_of.result c.page_in-page.result c.self.inside.hits c.self.inside.stage c.walk.new.self c.self.inside.frames c.fill.new.self c.self.inside.cache (Some c.in_ok-leaf.leaf)
-    c.space_of.ensures.value c.page_in-page.ensures.value (rw (← c.self.view_is) at c.requires.missed) c.in_ok-leaf.ensures.leaf c.in_ok-leaf.ensures.after
-    (filled-as c.fill.new.self c.self.inside.cache c.in_ok-leaf.leaf c.fill.ensures.width c.fill.ensures.filled))
+pub returns-in-Some-clause-after : goal.returns-in-Some-clause-after
+returns-in-Some-clause-after c =
+    let x : Leaf = small_leaf (host_space c.args.guest_page) (host_page c.args.guest_page) c.in-Some.word in
+    let there : leaf_at_page (host_space c.args.guest_page) (host_page c.args.guest_page) c.self.inside.stage.leaves ≡ Some x = rw (c.space_of.ensures.value, c.page_in.ensures.value) at c.in-Some.ensures.leaf in
+    rw (← c.self.view_is) (miss-after c.args.guest_page (host_space c.args.guest_page) (host_page c.args.guest_page) c.self.inside.hits c.self.inside.stage c.walk_small-found.new.self c.self.inside.frames c.fill_small.new.self c.self.inside.cache (Some x)
+    refl refl (rw (← c.self.view_is) at c.requires.missed) (sym there) (rw (c.space_of.ensures.value, c.page_in.ensures.value) at c.in-Some.ensures.after)
+    (filled-as c.fill_small.new.self c.self.inside.cache x c.fill_small.ensures.width c.fill_small.ensures.filled))
+
+pub returns-in-Some-clause-small : goal.returns-in-Some-clause-small
+returns-in-Some-clause-small c =
+    let low : c.in-Some.word < 2 ^ 48 = small-low c.self.invariant c.space_of.result c.page_in.result c.in-Some.word c.in-Some.ensures.leaf in
+    omega arith

@@ -1,6 +1,6 @@
 use Rattle.std.proofs.Common.{◌-◌, ◌<◌, lit<}
 use Rattle.xl_radix_walk.proofs.FindLemmas.{root-level, root-number}
-use Rattle.xl_radix_walk.proofs.find.find_leaf.Goals as goal
+use Rattle.xl_radix_walk.proofs.find.find_word.Goals as goal
 
 pub straight-requires : goal.straight-requires
 straight-requires g c =
