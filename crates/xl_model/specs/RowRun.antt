@@ -52,13 +52,13 @@ opening row = record {
   counts = no_counts (length row.tlb);
 }
 
--- An access that some array hits: the arrays are touched and filled.
+-- An access that some array answers: the arrays that serve it are touched and filled.
 -- One that all miss: a walk, and what it finds fills every level.
-abbrev pub walk_filled : Option Leaf → RowState → RowState
-walk_filled None s = s
-walk_filled (Some leaf) s = record s {
-  arrays = arrays_filled leaf s.arrays;
-  counts = count_fills (count_by (takes_leaf leaf) s.arrays) s.counts;
+abbrev pub walk_filled : Kind → Option Leaf → RowState → RowState
+walk_filled kind None s = s
+walk_filled kind (Some leaf) s = record s {
+  arrays = arrays_filled kind leaf s.arrays;
+  counts = count_fills (count_by (takes_leaf kind leaf) s.arrays) s.counts;
 }
 
 -- A walk is made, and counted with its loads and cache hits.
@@ -70,24 +70,24 @@ walk_made space page s = record s {
 }
 
 -- A look-up: an array answers, or all miss and a walk is made.
-abbrev pub looked_by : Option Answer → ℕ → RowState → RowState
-looked_by (Some answer) page s = record s {
-  arrays = arrays_hit answer s.space page s.arrays;
-  counts = count_fills (count_by (fills_array answer.level answer.leaf) s.arrays)
-      (count_look (Some answer) s.space page s.arrays s.counts);
+abbrev pub looked_by : Kind → Option Answer → ℕ → RowState → RowState
+looked_by kind (Some answer) page s = record s {
+  arrays = arrays_hit kind answer s.space page s.arrays;
+  counts = count_fills (count_by (fills_array kind answer.level answer.leaf) s.arrays)
+      (count_look kind (Some answer) s.space page s.arrays s.counts);
 }
-looked_by None page s =
-    walk_filled (leaf_at_page s.space page s.table.leaves)
-    (walk_made s.space page (record s { counts = count_look None s.space page s.arrays s.counts }))
+looked_by kind None page s =
+    walk_filled kind (leaf_at_page s.space page s.table.leaves)
+    (walk_made s.space page (record s { counts = count_look kind None s.space page s.arrays s.counts }))
 
--- A look-up of a page in the current space.
-unfoldable pub looked : ℕ → RowState → RowState
-looked page s = looked_by (answer_of s.arrays s.space page) page s
+-- A look-up of a page in the current space, for an access of this kind.
+unfoldable pub looked : Kind → ℕ → RowState → RowState
+looked kind page s = looked_by kind (answer_of kind s.arrays s.space page) page s
 
 -- a non-canonical access looks at nothing
-abbrev pub looked_where : Bool → ℕ → RowState → RowState
-looked_where true page s = looked page s
-looked_where false page s = s
+abbrev pub looked_where : Bool → Kind → ℕ → RowState → RowState
+looked_where true kind page s = looked kind page s
+looked_where false kind page s = s
 
 -- The reply to an access: that of the flat mapping.
 unfoldable pub reply_to : Row → RowState → ℕ → Kind → Reply
@@ -96,7 +96,7 @@ reply_to row s va kind = flat s.table.leaves row.mode s.space va kind
 -- A row after an access: it was looked up where it is canonical, and its reply is counted.
 unfoldable pub accessed : Row → ℕ → Kind → RowState → RowState
 accessed row va kind s =
-    let after = looked_where (is_canonical row.mode va) (page_of row.mode va) s in
+    let after = looked_where (is_canonical row.mode va) kind (page_of row.mode va) s in
     record after { counts = count_reply (reply_to row s va kind) va after.counts }
 
 -- A change of the mapping: the table answers, the arrays are purged of the old leaf.

@@ -7,6 +7,8 @@ use Rattle.xl_model.specs.declared.address.Mode.{Mode}
 use Rattle.xl_model.specs.declared.row.Purge.{Purge}
 use Rattle.xl_model.specs.declared.row.Row.{Row as RowFields}
 use Rattle.xl_model.specs.declared.row.Table.{Table}
+use Rattle.xl_model.specs.declared.row.Serves.{Serves}
+use Rattle.xl_model.specs.declared.row.Serves.TheVariants as serves
 use Rattle.xl_model.specs.declared.row.TlbSpec.{TlbSpec}
 
 -- A row: a translation design with its limits.
@@ -74,9 +76,21 @@ abbrev pub levels_rise : List TlbSpec → Bool
 levels_rise [] = true
 levels_rise (t ∷ ts) = (t.level == 1) && levels_rise_from t.level ts
 
--- Two arrays stand in one level and have an order in common.
+-- Two arrays serve one kind of access: not one fetches and the other data.
+abbrev pub serve_together : Serves → Serves → Bool
+serve_together serves.Fetch serves.Data = false
+serve_together serves.Data serves.Fetch = false
+serve_together serves.All u = true
+serve_together serves.Fetch serves.All = true
+serve_together serves.Fetch serves.Fetch = true
+serve_together serves.Data serves.All = true
+serve_together serves.Data serves.Data = true
+
+-- Two arrays of one level have an order in common for one kind of access.
 abbrev pub clash : TlbSpec → TlbSpec → Bool
-clash t u = (t.level == u.level) && ((t.k4 && u.k4) || ((t.m2 && u.m2) || (t.g1 && u.g1)))
+clash t u =
+    (t.level == u.level && serve_together t.serves u.serves)
+    && ((t.k4 && u.k4) || ((t.m2 && u.m2) || (t.g1 && u.g1)))
 
 -- No two arrays clash.
 abbrev pub none_clash : List TlbSpec → Bool

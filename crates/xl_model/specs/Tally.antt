@@ -1,5 +1,6 @@
 -- The counts of a row, each modulo 2^64.
 use Rattle.std.specs.Prelude.{ℕ, ◌<◌, ◌+◌, ◌*◌, ◌%◌, ◌^◌, Bool, true, false, List, [], ◌∷◌, slice_index_or, slice_set, Option}
+use Rattle.xl_model.specs.declared.address.Kind.{Kind}
 use Rattle.xl_model.specs.declared.leaf.Reply.{Reply}
 use Rattle.xl_model.specs.declared.leaf.Reply.TheVariants as reply
 use Rattle.xl_model.specs.declared.event.Refusal.{Refusal}
@@ -94,11 +95,11 @@ counted p [] ns = ns
 counted p (a ∷ arrays) [] = []
 counted p (a ∷ arrays) (n ∷ ns) = one_more_where (p a) n ∷ counted p arrays ns
 
--- a look-up: one hit or one miss for each array of a level that is looked at
-unfoldable pub count_look : Option Answer → ℕ → ℕ → List TlbArray → Counts → Counts
-count_look answer space page arrays c = record c {
-  hits = counted (hits_at answer space page) arrays c.hits;
-  misses = counted (misses_at answer space page) arrays c.misses;
+-- a look-up by an access of this kind: one hit or one miss for each array that is looked at
+unfoldable pub count_look : Kind → Option Answer → ℕ → ℕ → List TlbArray → Counts → Counts
+count_look k answer space page arrays c = record c {
+  hits = counted (hits_at k answer space page) arrays c.hits;
+  misses = counted (misses_at k answer space page) arrays c.misses;
 }
 
 -- what a command did in the table; a refused one is counted as such beside it

@@ -1,5 +1,8 @@
--- TLB arrays in levels: look-up, fills, purges and fences. Each set of an array is a recency list.
+-- TLB arrays in levels: look-up, fills, purges and fences. Each set of an array is a recency list. An access asks,
+-- touches and fills only the arrays that serve its kind.
 use Rattle.std.specs.Prelude.{ℕ, ◌+◌, ◌/◌, ◌%◌, ◌==◌, Bool, true, false, ◌&&◌, not, nat_le, nat_lt, if◌then◌else◌, List, [], ◌∷◌, find, map, length, replicate, slice_index_or, slice_set, is_some, Option, None, Some}
+use Rattle.xl_model.specs.declared.address.Kind.{Kind}
+use Rattle.xl_model.specs.declared.address.Kind.TheVariants as kind
 use Rattle.xl_model.specs.declared.address.Order.{Order}
 use Rattle.xl_model.specs.declared.address.Order.TheVariants as order
 use Rattle.xl_model.specs.declared.leaf.Leaf.{Leaf}
@@ -7,6 +10,8 @@ use Rattle.xl_model.specs.declared.event.Reach.{Reach}
 use Rattle.xl_model.specs.declared.event.Reach.TheVariants as reach
 use Rattle.xl_model.specs.declared.row.Purge.{Purge}
 use Rattle.xl_model.specs.declared.row.Purge.TheVariants as purge
+use Rattle.xl_model.specs.declared.row.Serves.{Serves}
+use Rattle.xl_model.specs.declared.row.Serves.TheVariants as serves
 use Rattle.xl_model.specs.declared.row.TlbSpec.{TlbSpec}
 use Rattle.xl_model.specs.Addresses.{pages_of, same_order}
 use Rattle.xl_model.specs.Recency.{touched, with_newest, purged}
@@ -74,7 +79,25 @@ filled_where false leaf a = a
 unfoldable pub array_filled : Leaf → TlbArray → TlbArray
 array_filled leaf a = filled_where (takes_order a.spec leaf.order) leaf a
 
--- The arrays stand in rising level; the first that hits answers.
+-- What serves all, fetches or data serves an access of this kind: loads and stores are data.
+abbrev pub serves_as : Serves → Kind → Bool
+serves_as serves.All k = true
+serves_as serves.Fetch kind.Fetch = true
+serves_as serves.Fetch kind.Load = false
+serves_as serves.Fetch kind.Store = false
+serves_as serves.Data kind.Fetch = false
+serves_as serves.Data kind.Load = true
+serves_as serves.Data kind.Store = true
+
+-- An array serves accesses of this kind.
+abbrev pub serves_kind : Kind → TlbArray → Bool
+serves_kind k a = serves_as a.spec.serves k
+
+-- What an array answers to an access of this kind: the leaf that hits, where it serves such accesses.
+abbrev pub asked : Kind → TlbArray → ℕ → ℕ → Option Leaf
+asked k a space page = where_taken (serves_kind k a) (array_hit a space page)
+
+-- The arrays stand in rising level; the first that answers an access answers for all.
 pub record Answer : Type 0 where
   pub leaf : Leaf
   pub level : ℕ
@@ -84,52 +107,56 @@ abbrev pub answered_by : Option Leaf → ℕ → Option Answer → Option Answer
 answered_by (Some leaf) level next = Some (record { leaf = leaf; level = level })
 answered_by None level next = next
 
--- The first array that hits, with its level.
-abbrev pub answer_of : List TlbArray → ℕ → ℕ → Option Answer
-answer_of [] space page = None
-answer_of (a ∷ arrays) space page = answered_by (array_hit a space page) a.spec.level (answer_of arrays space page)
+-- The first array that answers an access of this kind, with its level.
+abbrev pub answer_of : Kind → List TlbArray → ℕ → ℕ → Option Answer
+answer_of k [] space page = None
+answer_of k (a ∷ arrays) space page = answered_by (asked k a space page) a.spec.level (answer_of k arrays space page)
 
--- arrays of the levels up to the one that answered, or of all levels, are looked at
-abbrev pub is_looked : Option Answer → TlbArray → Bool
-is_looked None a = true
-is_looked (Some answer) a = nat_le a.spec.level answer.level
+-- arrays of the levels up to the one that answered, or of all levels, are looked at, where they serve the access
+abbrev pub is_looked : Kind → Option Answer → TlbArray → Bool
+is_looked k None a = serves_kind k a
+is_looked k (Some answer) a = serves_kind k a && nat_le a.spec.level answer.level
 
 -- An array that is looked at, and hits.
-abbrev pub hits_at : Option Answer → ℕ → ℕ → TlbArray → Bool
-hits_at answer space page a = is_looked answer a && is_some (array_hit a space page)
+abbrev pub hits_at : Kind → Option Answer → ℕ → ℕ → TlbArray → Bool
+hits_at k answer space page a = is_looked k answer a && is_some (array_hit a space page)
 
 -- An array that is looked at, and misses.
-abbrev pub misses_at : Option Answer → ℕ → ℕ → TlbArray → Bool
-misses_at answer space page a = is_looked answer a && not (is_some (array_hit a space page))
+abbrev pub misses_at : Kind → Option Answer → ℕ → ℕ → TlbArray → Bool
+misses_at k answer space page a = is_looked k answer a && not (is_some (array_hit a space page))
 
--- An array before the one that answers is filled where its level is a lower one.
-abbrev pub filled_below : ℕ → Leaf → TlbArray → TlbArray
-filled_below level leaf a = if nat_lt a.spec.level level then array_filled leaf a else a
+-- An array that serves the access is filled where its level is lower than the one that answers.
+abbrev pub filled_below : Kind → ℕ → Leaf → TlbArray → TlbArray
+filled_below k level leaf a = if serves_kind k a && nat_lt a.spec.level level then array_filled leaf a else a
 
--- The first array that hits is touched, and those behind it stay.
+-- The first array that answers is touched, and those behind it stay.
 abbrev pub touched_or : Option Leaf → ℕ → ℕ → TlbArray → List TlbArray → List TlbArray → List TlbArray
 touched_or (Some leaf) space page a arrays before = array_touched space page leaf a ∷ arrays
 touched_or None space page a arrays before = before
 
--- The arrays after a hit: those before the array that answered are filled where their level is a lower one, and
--- that array is touched.
-unfoldable pub arrays_hit : Answer → ℕ → ℕ → List TlbArray → List TlbArray
-arrays_hit answer space page [] = []
-arrays_hit answer space page (a ∷ arrays) =
-    touched_or (array_hit a space page) space page a arrays
-    (filled_below answer.level answer.leaf a ∷ arrays_hit answer space page arrays)
+-- The arrays after a hit: those before the array that answered are filled where they serve the access and their
+-- level is a lower one, and that array is touched.
+unfoldable pub arrays_hit : Kind → Answer → ℕ → ℕ → List TlbArray → List TlbArray
+arrays_hit k answer space page [] = []
+arrays_hit k answer space page (a ∷ arrays) =
+    touched_or (asked k a space page) space page a arrays
+    (filled_below k answer.level answer.leaf a ∷ arrays_hit k answer space page arrays)
 
 -- A hit at this level fills an array.
-abbrev pub fills_array : ℕ → Leaf → TlbArray → Bool
-fills_array level leaf a = nat_lt a.spec.level level && takes_order a.spec leaf.order
+abbrev pub fills_array : Kind → ℕ → Leaf → TlbArray → Bool
+fills_array k level leaf a = serves_kind k a && (nat_lt a.spec.level level && takes_order a.spec leaf.order)
 
--- a walk that found a leaf fills the arrays of every level
-unfoldable pub arrays_filled : Leaf → List TlbArray → List TlbArray
-arrays_filled leaf arrays = map (array_filled leaf) arrays
+-- An array after a walk that an access of this kind made: it is filled where it serves such accesses.
+abbrev pub filled_for : Kind → Leaf → TlbArray → TlbArray
+filled_for k leaf a = if serves_kind k a then array_filled leaf a else a
 
--- An array takes a leaf's order.
-abbrev pub takes_leaf : Leaf → TlbArray → Bool
-takes_leaf leaf a = takes_order a.spec leaf.order
+-- a walk that found a leaf fills the arrays of every level that serve the access
+unfoldable pub arrays_filled : Kind → Leaf → List TlbArray → List TlbArray
+arrays_filled k leaf arrays = map (filled_for k leaf) arrays
+
+-- A walk that an access of this kind made fills an array with its leaf.
+abbrev pub takes_leaf : Kind → Leaf → TlbArray → Bool
+takes_leaf k leaf a = serves_kind k a && takes_order a.spec leaf.order
 
 -- what a purge removes: the leaf as it stood before, all leaves of its space, or all
 abbrev pub is_purged : Purge → Leaf → Leaf → Bool

@@ -25,7 +25,7 @@ pub use hash::{mix, remainder, way_hash};
 pub use leaf::{Leaf, Range, Reply};
 pub use leaf_word::{perm_code, perm_of};
 pub use perm::Perm;
-pub use row::{Counts, Purge, Row, Table, TlbSpec};
+pub use row::{Counts, Purge, Row, Serves, Table, TlbSpec};
 pub use script::{Area, Command, Item};
 pub use structure::Structure;
 pub use way::{Entry, Moves, WayRegs};

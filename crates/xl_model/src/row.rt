@@ -1,6 +1,11 @@
 //! A row of the configuration and its counts.
 
-use crate::address::Mode;
+ghost use Rattle.std.specs.Prelude.{◌≡◌};
+ghost use Rattle.xl_model.specs.Rows.{serve_together};
+ghost use Rattle.xl_model.specs.Tlb.{serves_as};
+ghost use Rattle.xl_model.specs.declared.row.Serves.TheVariants.{All};
+
+use crate::address::{Kind, Mode};
 use arrayvec::{ArrayString, ArrayVec};
 
 /// What an accepted unmap, protect or move removes from the TLB arrays: the leaf as it stood before,
@@ -12,7 +17,50 @@ pub enum Purge {
     All,
 }
 
-/// A TLB array: its level from 1, its sets, the ways of each set, and the orders that it holds.
+/// The accesses that a TLB array serves: all, fetches, or data (loads and stores).
+#[derive(Clone, Copy, Debug, PartialEq, Eq)]
+pub enum Serves {
+    All,
+    Fetch,
+    Data,
+}
+
+impl Default for Serves {
+    fn default() -> Serves
+        ensures { result ≡ All }
+    {
+        Serves::All
+    }
+}
+
+impl Serves {
+    /// Whether it serves an access of this kind.
+    #[inline(always)]
+    pub fn serves(self, kind: Kind) -> bool
+        ensures { result ≡ serves_as self kind }
+    {
+        match (self, kind) {
+            (Serves::All, _) => true,
+            (Serves::Fetch, Kind::Fetch) => true,
+            (Serves::Fetch, Kind::Load | Kind::Store) => false,
+            (Serves::Data, Kind::Fetch) => false,
+            (Serves::Data, Kind::Load | Kind::Store) => true,
+        }
+    }
+
+    /// Whether both serve one kind of access: not one fetches and the other data.
+    pub fn meets(self, other: Serves) -> bool
+        ensures { result ≡ serve_together self other }
+    {
+        match (self, other) {
+            (Serves::Fetch, Serves::Data) | (Serves::Data, Serves::Fetch) => false,
+            _ => true,
+        }
+    }
+}
+
+/// A TLB array: its level from 1, its sets, the ways of each set, the orders that it holds, and the accesses
+/// that it serves.
 #[derive(Clone, Copy, Default)]
 pub struct TlbSpec {
     pub level: u8,
@@ -21,6 +69,7 @@ pub struct TlbSpec {
     pub k4: bool,
     pub m2: bool,
     pub g1: bool,
+    pub serves: Serves,
 }
 
 /// A table kind with its parameters.
