@@ -161,4 +161,5 @@ read-back s words free loads t = record {
       let P : List ℕ → Type 0 = λ es. IsChain (next_in s words) (slice_index words b) es in subst P (sym here) (t.chains b less);
   lines = λ h i. are-lines s words free h t i;
   found = λ tag. ap (λ (x : Searched). x.end) (search-held s words free tag t);
+  loads = λ tag. ap (λ (x : Searched). x.loads) (search-held s words free tag t);
 }
