@@ -13,7 +13,7 @@ use crate::keys::{array, at, found, number, small, table as table_of, text, widt
 use arrayvec::ArrayVec;
 use toml::value::Array;
 use toml::{Table, Value};
-use xl_model::{Order, TlbSpec};
+use xl_model::{Order, Serves, TlbSpec};
 
 fn order_named(text: &str) -> Option<Order>
     ensures { result ≡ order_named text.now }
@@ -120,6 +120,7 @@ fn one_array(row: u32, table: &Table) -> Result<TlbSpec, KeyFault>
         k4: false,
         m2: false,
         g1: false,
+        serves: Serves::All,
     };
     let spec = orders(row, table, bare)?;
     if u64::from(sets) * u64::from(width) > 16_384 {
