@@ -14,6 +14,7 @@ use xl_words::Plain;
 const PIECE: usize = 10;
 
 /// What a run is given, and how it ends where nothing fails.
+#[derive(Clone, Copy)]
 struct Whole<'a> {
     words: Plain<'a>,
     config: &'a str,
