@@ -42,7 +42,8 @@ impl<K: Sink + Drop> Buffered<K> {
         ensures none { OnOk result (self.new.held.items ≡ []) }
         ensures kept { with_more (K.sink.taken self.new.to) self.new.held.items
             ≡ with_more (K.sink.taken self.old.to) self.old.held.items }
-        ensures goes_on { GoesOn (is_ok result) (K.sink.outside self.old.to) (K.sink.outside self.new.to) }
+        ensures goes_on { GoesOn (is_ok result)
+            (K.sink.outside self.old.to) (K.sink.outside self.new.to) }
         ensures calm { (room : ℕ) → K.sink.roomy self.old.to (length self.old.held.items + room)
             → (is_ok result ≡ true) × K.sink.roomy self.new.to room }
     {
