@@ -6,7 +6,7 @@ ghost use Rattle.xl_model.specs.Items.{map_of};
 use xl_model::{Area, Event};
 
 /// The map that an area demands for an address.
-pub(crate) fn map_for(area: Area, va: u64) -> Event
+pub fn map_for(area: Area, va: u64) -> Event
     ensures { result ≡ map_of area va }
 {
     let bytes = area.order.bytes();
