@@ -32,9 +32,14 @@ def valgrind(tool, words, command):
     return done.stderr
 
 
+def misses_behind(first, last, command):
+    """Cachegrind's misses of I1, D1 and LL, where the first two and the last have these sets and ways."""
+    geometries = {"I1": first[0], "D1": first[1], "LL": last}
+    caches = [f"--{kind}={sets * width * PAGE},{width},{PAGE}" for kind, (sets, width) in geometries.items()]
+    said = valgrind("cachegrind", ["--cache-sim=yes", "--cachegrind-out-file=/dev/null", *caches], command)
+    return {kind: int(re.search(rf"{kind}\s+misses:\s+([\d,]+)", said)[1].replace(",", "")) for kind in geometries}
+
+
 def misses_there(sets, width, command):
     """Cachegrind's I1 and D1 misses, with both caches of this geometry."""
-    cache = f"{sets * width * PAGE},{width},{PAGE}"
-    said = valgrind("cachegrind", ["--cache-sim=yes", "--cachegrind-out-file=/dev/null", f"--I1={cache}",
-                                   f"--D1={cache}", f"--LL={1 << 26},16,{PAGE}"], command)
-    return {kind: int(re.search(rf"{kind}\s+misses:\s+([\d,]+)", said)[1].replace(",", "")) for kind in ("I1", "D1")}
+    return misses_behind([(sets, width), (sets, width)], (1024, 16), command)
