@@ -110,14 +110,14 @@ module _ (kind : Kind) (level space page : ℕ) where
   pub level_hits : (rest : List TlbArray) (ns : List ℕ) → NoneBelow (suc level) (map spec_of rest) → counted (hits_up_to kind level space page) rest ns ≡ ns
   level_hits [] ns h = refl
   level_hits (a ∷ rest) [] h = refl
-  level_hits (a ∷ rest) (n ∷ ns) h = 
+  level_hits (a ∷ rest) (n ∷ ns) h =
       ap (λ (b : Bool). one_more_where b n ∷ counted (hits_up_to kind level space page) rest ns) (not_up_to (serves_kind kind a) (nat_le a.spec.level level) (is_some (array_hit a space page)) (not_up level a.spec.level h.0))
       ∙ ap (λ (z : List ℕ). n ∷ z) (level_hits rest ns h.1)
 
   pub level_misses : (rest : List TlbArray) (ns : List ℕ) → NoneBelow (suc level) (map spec_of rest) → counted (misses_up_to kind level space page) rest ns ≡ ns
   level_misses [] ns h = refl
   level_misses (a ∷ rest) [] h = refl
-  level_misses (a ∷ rest) (n ∷ ns) h = 
+  level_misses (a ∷ rest) (n ∷ ns) h =
       ap (λ (b : Bool). one_more_where b n ∷ counted (misses_up_to kind level space page) rest ns) (not_up_to (serves_kind kind a) (nat_le a.spec.level level) (not (is_some (array_hit a space page))) (not_up level a.spec.level h.0))
       ∙ ap (λ (z : List ℕ). n ∷ z) (level_misses rest ns h.1)
 
