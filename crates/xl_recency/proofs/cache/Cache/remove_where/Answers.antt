@@ -1,4 +1,4 @@
-use Rattle.std.proofs.Common.{refl, arith}
+use Rattle.std.proofs.Common.{rules, refl}
 use Rattle.xl_recency.proofs.cache.Cache.remove_where.Goals as goal
 use Rattle.xl_recency.proofs.cache.Cache.remove_where.Goals.{in-W0, in-W1, in-W2, in-W4, in-W6, in-W8, in-W12, in-W16, in-W32, in-W64}
 
@@ -20,44 +20,44 @@ returns-clause-kept g c =
 pub returns-clause-count : goal.returns-clause-count
 returns-clause-count g c =
     elim c.match-self.branch [
-      | in-W0 w ↦ rw (w.self-inside-is, w.result-is, ← c.self.view_is, w.in-W0.is) refl
-      | in-W1 w ↦ rw (w.self-inside-is, w.result-is, ← c.self.view_is, w.in-W1.is) w.remove_where.ensures.count
-      | in-W2 w ↦ rw (w.self-inside-is, w.result-is, ← c.self.view_is, w.in-W2.is) w.remove_where-in-W2.ensures.count
-      | in-W4 w ↦ rw (w.self-inside-is, w.result-is, ← c.self.view_is, w.in-W4.is) w.remove_where-in-W4.ensures.count
-      | in-W6 w ↦ rw (w.self-inside-is, w.result-is, ← c.self.view_is, w.in-W6.is) w.remove_where-in-W6.ensures.count
-      | in-W8 w ↦ rw (w.self-inside-is, w.result-is, ← c.self.view_is, w.in-W8.is) w.remove_where-in-W8.ensures.count
-      | in-W12 w ↦ rw (w.self-inside-is, w.result-is, ← c.self.view_is, w.in-W12.is) w.remove_where-in-W12.ensures.count
-      | in-W16 w ↦ rw (w.self-inside-is, w.result-is, ← c.self.view_is, w.in-W16.is) w.remove_where-in-W16.ensures.count
-      | in-W32 w ↦ rw (w.self-inside-is, w.result-is, ← c.self.view_is, w.in-W32.is) w.remove_where-in-W32.ensures.count
-      | in-W64 w ↦ rw (w.self-inside-is, w.result-is, ← c.self.view_is, w.in-W64.is) w.remove_where-in-W64.ensures.count
+      | in-W0 w ↦ search rules
+      | in-W1 w ↦ search rules
+      | in-W2 w ↦ search rules
+      | in-W4 w ↦ search rules
+      | in-W6 w ↦ search rules
+      | in-W8 w ↦ search rules
+      | in-W12 w ↦ search rules
+      | in-W16 w ↦ search rules
+      | in-W32 w ↦ search rules
+      | in-W64 w ↦ search rules
     ]
 
 pub returns-clause-most : goal.returns-clause-most
 returns-clause-most g c =
     elim c.match-self.branch [
-      | in-W0 w ↦ rw w.result-is (omega arith)
-      | in-W1 w ↦ rw w.result-is (omega (arith, w.remove_where.ensures.most))
-      | in-W2 w ↦ rw w.result-is (omega (arith, w.remove_where-in-W2.ensures.most))
-      | in-W4 w ↦ rw w.result-is (omega (arith, w.remove_where-in-W4.ensures.most))
-      | in-W6 w ↦ rw w.result-is (omega (arith, w.remove_where-in-W6.ensures.most))
-      | in-W8 w ↦ rw w.result-is (omega (arith, w.remove_where-in-W8.ensures.most))
-      | in-W12 w ↦ rw w.result-is (omega (arith, w.remove_where-in-W12.ensures.most))
-      | in-W16 w ↦ rw w.result-is (omega (arith, w.remove_where-in-W16.ensures.most))
-      | in-W32 w ↦ rw w.result-is (omega (arith, w.remove_where-in-W32.ensures.most))
-      | in-W64 w ↦ rw w.result-is (omega (arith, w.remove_where-in-W64.ensures.most))
+      | in-W0 w ↦ search rules
+      | in-W1 w ↦ search rules
+      | in-W2 w ↦ search rules
+      | in-W4 w ↦ search rules
+      | in-W6 w ↦ search rules
+      | in-W8 w ↦ search rules
+      | in-W12 w ↦ search rules
+      | in-W16 w ↦ search rules
+      | in-W32 w ↦ search rules
+      | in-W64 w ↦ search rules
     ]
 
 pub returns-clause-width : goal.returns-clause-width
 returns-clause-width g c =
     elim c.match-self.branch [
-      | in-W0 w ↦ rw (w.self-inside-is, ← c.self.view_is, w.in-W0.is) refl
-      | in-W1 w ↦ rw (w.self-inside-is, ← c.self.view_is, w.in-W1.is) refl
-      | in-W2 w ↦ rw (w.self-inside-is, ← c.self.view_is, w.in-W2.is) refl
-      | in-W4 w ↦ rw (w.self-inside-is, ← c.self.view_is, w.in-W4.is) refl
-      | in-W6 w ↦ rw (w.self-inside-is, ← c.self.view_is, w.in-W6.is) refl
-      | in-W8 w ↦ rw (w.self-inside-is, ← c.self.view_is, w.in-W8.is) refl
-      | in-W12 w ↦ rw (w.self-inside-is, ← c.self.view_is, w.in-W12.is) refl
-      | in-W16 w ↦ rw (w.self-inside-is, ← c.self.view_is, w.in-W16.is) refl
-      | in-W32 w ↦ rw (w.self-inside-is, ← c.self.view_is, w.in-W32.is) refl
-      | in-W64 w ↦ rw (w.self-inside-is, ← c.self.view_is, w.in-W64.is) refl
+      | in-W0 w ↦ search rules
+      | in-W1 w ↦ search rules
+      | in-W2 w ↦ search rules
+      | in-W4 w ↦ search rules
+      | in-W6 w ↦ search rules
+      | in-W8 w ↦ search rules
+      | in-W12 w ↦ search rules
+      | in-W16 w ↦ search rules
+      | in-W32 w ↦ search rules
+      | in-W64 w ↦ search rules
     ]
