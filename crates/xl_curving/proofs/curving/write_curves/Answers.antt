@@ -6,9 +6,7 @@ use Rattle.xl_curving.proofs.curving.write_curves.Goals as goal
 
 pub returns-in-Err : goal.returns-in-Err
 returns-in-Err g c =
-    let taken = g.K.Sink.sink.taken in
-    let outside = g.K.Sink.sink.outside in
-    let roomy = g.K.Sink.sink.roomy in
+    let sink = g.K.Sink.sink in
     let at = c.loop-i in
     let sets = c.args.sets in
     let rows = c.args.rack.now in
