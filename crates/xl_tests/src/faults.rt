@@ -38,20 +38,17 @@ struct Ended {
     out: Vec<u8>,
 }
 
-/// The words that name a configuration and a trace, and ask for answers.
-const ANSWERS: Plain = Plain {
-    config: "config",
-    script: None,
-    trace: Some("trace"),
-    made: None,
-    answers: true,
-    image: false,
-    json: false,
-};
-
 /// Two accesses that are answered, and a line that is none. Each good line has ten bytes.
 const BAD_TRACE: Whole = Whole {
-    words: ANSWERS,
+    words: Plain {
+        config: "config",
+        script: None,
+        trace: Some("trace"),
+        made: None,
+        answers: true,
+        image: false,
+        json: false,
+    },
     config: "[[row]]\nname = \"a\"\nmode = \"sv39\"\nframes = 64\nspaces = 2\ntable = \"radix\"\ntable_frames = 64\n",
     script: "",
     trace: " L 1000,1\n S 1000,1\n Q 1,1\n",
@@ -62,10 +59,13 @@ const BAD_TRACE: Whole = Whole {
 /// Two rows, with answers, images and JSON.
 const EVERY_WORD: Whole = Whole {
     words: Plain {
+        config: "config",
         script: Some("script"),
+        trace: Some("trace"),
+        made: None,
+        answers: true,
         image: true,
         json: true,
-        ..ANSWERS
     },
     config: "[[row]]\nname = \"a\"\nmode = \"sv39\"\nframes = 64\nspaces = 1\ntable = \"radix\"\ntable_frames = 4\n[[row]]\nname = \"b\"\nmode = \"sv39\"\nframes = 64\nspaces = 1\ntable = \"hashed\"\nbuckets = 4\nentries = 4\n",
     script: "map 0 1000 4k rw-u\nrun rest\n",
