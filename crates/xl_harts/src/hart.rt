@@ -11,7 +11,7 @@ ghost use Rattle.xl_harts.specs.Looks.{IsSeen, IsUnseen, hart_filled};
 use std::alloc::Global;
 use std::marker::Model;
 use xl_hart_model::{HartCounts, HartSpec, Request};
-use xl_model::{Leaf, NoMemory, Order, Reply, TlbSpec};
+use xl_model::{Leaf, NoMemory, Order, Reply, Serves, TlbSpec};
 use xl_tlb::{Array, Hit, page_word};
 
 /// A hart: its current space, its TLB array, how many requests stand in its queue, and its counts.
@@ -73,6 +73,7 @@ impl Hart {
                 k4: true,
                 m2: true,
                 g1: true,
+                serves: Serves::All,
             },
         )?;
         Ok(Hart {

@@ -1,7 +1,8 @@
 -- Leaves of TLB arrays: touched, filled, purged.
-use Rattle.std.proofs.Common.{◌≡◌, refl, sym, ◌∙◌, subst, ℕ, zero, suc, Bool, true, false, cond, List, [], ◌∷◌, Option, None, Some, ◌⊎◌, inl, inr, map, slice_set, nat_lt}
+use Rattle.std.proofs.Common.{◌≡◌, refl, sym, ◌∙◌, subst, ℕ, zero, suc, Bool, true, false, cond, ◌&&◌, List, [], ◌∷◌, Option, None, Some, ◌⊎◌, inl, inr, map, slice_set, nat_lt}
 use Rattle.std.specs.Prelude.{replicate}
 use Rattle.std.proofs.lemmas.Bool.{eq-eqb}
+use Rattle.xl_model.specs.declared.address.Kind.{Kind}
 use Rattle.xl_model.specs.declared.address.Order.{Order}
 use Rattle.xl_model.specs.declared.leaf.Leaf.{Leaf}
 use Rattle.xl_model.specs.declared.row.Purge.{Purge}
@@ -11,7 +12,7 @@ use Rattle.xl_model.specs.Addresses.{same_order}
 use Rattle.xl_model.specs.Recency.{touched, with_newest, purged}
 use Rattle.xl_model.specs.Rows.{Row}
 use Rattle.xl_model.specs.Changes.{Change, old_leaf, changed}
-use Rattle.xl_model.specs.Tlb.{TlbArray, set_number, set_at, takes_order, covers_as, array_hit, array_touched, filled_where, array_filled, Answer, answer_of, filled_below, touched_or, arrays_hit, arrays_filled, is_purged, array_without, arrays_without, opening_array, opening_arrays}
+use Rattle.xl_model.specs.Tlb.{TlbArray, set_number, set_at, takes_order, covers_as, array_touched, filled_where, array_filled, serves_kind, asked, Answer, answer_of, filled_below, touched_or, arrays_hit, filled_for, arrays_filled, is_purged, array_without, arrays_without, opening_array, opening_arrays}
 use Rattle.xl_model.specs.RowRun.{arrays_after}
 use Rattle.xl_model_lemmas.specs.Members.{In}
 use Rattle.xl_model_lemmas.specs.Mappings.{IsMapping, IsSound}
@@ -58,44 +59,47 @@ unfolding array_filled
 filled-sets new leaf a i = filled-by (takes_order a.spec new.order) new leaf a i
 
 -- all arrays
--- a hit moves leaves, and fills the arrays before with the leaf that answered
-below-sets : (level : ℕ) (new leaf : Leaf) (a : TlbArray) → InSets leaf (filled_below level new a).sets → (leaf ≡ new) ⊎ InSets leaf a.sets
-below-sets level new leaf a i =
-    elim (nat_lt a.spec.level level) as (λ b. InSets leaf (cond b (array_filled new a) a).sets → (leaf ≡ new) ⊎ InSets leaf a.sets) [
-      | true ↦ λ j. filled-sets new leaf a j
-      | false ↦ λ j. inr j
-    ] i
+-- a hit moves leaves, and fills arrays before with the leaf that answered; a walk fills those that serve the access
+filled-if : (b : Bool) (new leaf : Leaf) (a : TlbArray) → InSets leaf (cond b (array_filled new a) a).sets → (leaf ≡ new) ⊎ InSets leaf a.sets
+filled-if true new leaf a i = filled-sets new leaf a i
+filled-if false new leaf a i = inr i
 
-hit-held : (answer : Answer) (space page : ℕ) (leaf : Leaf) (arrays : List TlbArray) → Held leaf (arrays_hit answer space page arrays) → (leaf ≡ answer.leaf) ⊎ Held leaf arrays
+below-sets : (kind : Kind) (level : ℕ) (new leaf : Leaf) (a : TlbArray) → InSets leaf (filled_below kind level new a).sets → (leaf ≡ new) ⊎ InSets leaf a.sets
+below-sets kind level new leaf a i = filled-if (serves_kind kind a && nat_lt a.spec.level level) new leaf a i
+
+hit-held : (kind : Kind) (answer : Answer) (space page : ℕ) (leaf : Leaf) (arrays : List TlbArray) → Held leaf (arrays_hit kind answer space page arrays)
+    → (leaf ≡ answer.leaf) ⊎ Held leaf arrays
 unfolding arrays_hit
-hit-held answer space page leaf [] h = absurd h
-hit-held answer space page leaf (a ∷ arrays) h = go (array_hit a space page) h (λ k. hit-held answer space page leaf arrays k)
+hit-held kind answer space page leaf [] h = absurd h
+hit-held kind answer space page leaf (a ∷ arrays) h = go (asked kind a space page) h (λ k. hit-held kind answer space page leaf arrays k)
   where
-    go : (o : Option Leaf) → Held leaf (touched_or o space page a arrays (filled_below answer.level answer.leaf a ∷ arrays_hit answer space page arrays))
-        → (Held leaf (arrays_hit answer space page arrays) → (leaf ≡ answer.leaf) ⊎ Held leaf arrays) → (leaf ≡ answer.leaf) ⊎ Held leaf (a ∷ arrays)
+    go : (o : Option Leaf)
+        → Held leaf (touched_or o space page a arrays (filled_below kind answer.level answer.leaf a ∷ arrays_hit kind answer space page arrays))
+        → (Held leaf (arrays_hit kind answer space page arrays) → (leaf ≡ answer.leaf) ⊎ Held leaf arrays) → (leaf ≡ answer.leaf) ⊎ Held leaf (a ∷ arrays)
     go (Some hit) k next = elim k [ inl i ↦ inr (inl (touched-sets space page hit leaf a i)) | inr j ↦ inr (inr j) ]
     go None k next = elim k [
-      | inl i ↦ elim (below-sets answer.level answer.leaf leaf a i) [ inl e ↦ inl e | inr l ↦ inr (inl l) ]
+      | inl i ↦ elim (below-sets kind answer.level answer.leaf leaf a i) [ inl e ↦ inl e | inr l ↦ inr (inl l) ]
       | inr j ↦ elim (next j) [ inl e ↦ inl e | inr l ↦ inr (inr l) ]
     ]
 
-pub hit-fresh : (arrays : List TlbArray) (leaves : List Leaf) (space page : ℕ) (answer : Answer) → ArraysFresh arrays leaves
-    → answer_of arrays space page ≡ Some answer → ArraysFresh (arrays_hit answer space page arrays) leaves
-hit-fresh arrays leaves space page answer fresh is leaf h =
-    elim (hit-held answer space page leaf arrays h) [
-      | inl e ↦ let P : Leaf → Type 0 = λ z. In z leaves in subst P (sym e) (fresh answer.leaf (answer-held arrays space page answer is))
+pub hit-fresh : (kind : Kind) (arrays : List TlbArray) (leaves : List Leaf) (space page : ℕ) (answer : Answer) → ArraysFresh arrays leaves
+    → answer_of kind arrays space page ≡ Some answer → ArraysFresh (arrays_hit kind answer space page arrays) leaves
+hit-fresh kind arrays leaves space page answer fresh is leaf h =
+    elim (hit-held kind answer space page leaf arrays h) [
+      | inl e ↦ let P : Leaf → Type 0 = λ z. In z leaves in subst P (sym e) (fresh answer.leaf (answer-held kind arrays space page answer is))
       | inr k ↦ fresh leaf k
     ]
 
-filled-held : (new leaf : Leaf) (arrays : List TlbArray) → Held leaf (map (array_filled new) arrays) → (leaf ≡ new) ⊎ Held leaf arrays
-filled-held new leaf [] h = absurd h
-filled-held new leaf (a ∷ arrays) (inl i) = elim (filled-sets new leaf a i) [ inl e ↦ inl e | inr k ↦ inr (inl k) ]
-filled-held new leaf (a ∷ arrays) (inr i) = elim (filled-held new leaf arrays i) [ inl e ↦ inl e | inr k ↦ inr (inr k) ]
+filled-held : (kind : Kind) (new leaf : Leaf) (arrays : List TlbArray) → Held leaf (map (filled_for kind new) arrays) → (leaf ≡ new) ⊎ Held leaf arrays
+filled-held kind new leaf [] h = absurd h
+filled-held kind new leaf (a ∷ arrays) (inl i) = elim (filled-if (serves_kind kind a) new leaf a i) [ inl e ↦ inl e | inr k ↦ inr (inl k) ]
+filled-held kind new leaf (a ∷ arrays) (inr i) = elim (filled-held kind new leaf arrays i) [ inl e ↦ inl e | inr k ↦ inr (inr k) ]
 
-pub filled-fresh : (arrays : List TlbArray) (leaves : List Leaf) (new : Leaf) → ArraysFresh arrays leaves → In new leaves → ArraysFresh (arrays_filled new arrays) leaves
+pub filled-fresh : (kind : Kind) (arrays : List TlbArray) (leaves : List Leaf) (new : Leaf) → ArraysFresh arrays leaves → In new leaves
+    → ArraysFresh (arrays_filled kind new arrays) leaves
 unfolding arrays_filled
-filled-fresh arrays leaves new fresh i leaf h =
-    elim (filled-held new leaf arrays h) [
+filled-fresh kind arrays leaves new fresh i leaf h =
+    elim (filled-held kind new leaf arrays h) [
       | inl e ↦ let P : Leaf → Type 0 = λ z. In z leaves in subst P (sym e) i
       | inr k ↦ fresh leaf k
     ]

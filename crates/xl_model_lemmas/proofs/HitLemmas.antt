@@ -2,12 +2,13 @@
 use Rattle.std.proofs.Common.{◌≡◌, refl, subst, ℕ, zero, suc, Bool, true, false, List, [], ◌∷◌, Option, None, Some, inl, inr, slice_index_or}
 use Rattle.std.specs.Prelude.{find}
 use Rattle.std.specs.Cmp.{second_so}
+use Rattle.xl_model.specs.declared.address.Kind.{Kind}
 use Rattle.xl_model.specs.declared.address.Order.{Order}
 use Rattle.xl_model.specs.declared.address.Order.TheVariants as order
 use Rattle.xl_model.specs.declared.leaf.Leaf.{Leaf}
 use Rattle.xl_model.specs.Addresses.{same_order}
 use Rattle.xl_model.specs.Mapping.{covers}
-use Rattle.xl_model.specs.Tlb.{TlbArray, set_number, set_at, where_taken, takes_order, covers_as, found_as, first_found, array_hit, Answer, answered_by, answer_of}
+use Rattle.xl_model.specs.Tlb.{TlbArray, set_number, set_at, where_taken, takes_order, covers_as, found_as, first_found, array_hit, serves_kind, asked, Answer, answered_by, answer_of}
 use Rattle.xl_model_lemmas.specs.Members.{In}
 use Rattle.xl_model_lemmas.specs.Fresh.{InSets, Held}
 use Rattle.xl_model_lemmas.proofs.MemberLemmas.{find-In, find-passes}
@@ -18,9 +19,9 @@ get-In leaf (s ∷ sets) zero h = inl h
 get-In leaf (s ∷ sets) (suc i) h = inr (get-In leaf sets i h)
 
 -- what one array finds
-record IsHit (a : TlbArray) (space page : ℕ) (leaf : Leaf) : Type 0 where
-  held : InSets leaf a.sets
-  covering : covers space page leaf ≡ true
+pub record IsHit (a : TlbArray) (space page : ℕ) (leaf : Leaf) : Type 0 where
+  pub held : InSets leaf a.sets
+  pub covering : covers space page leaf ≡ true
 
 found-is : (a : TlbArray) (space page : ℕ) (o : Order) (leaf : Leaf) → found_as a space page o ≡ Some leaf → IsHit a space page leaf
 found-is a space page o leaf h = go (takes_order a.spec o) h
@@ -37,7 +38,7 @@ first-is : (a : TlbArray) (space page : ℕ) (leaf : Leaf) (x y : Option Leaf) �
 first-is a space page leaf None y f g h = g h
 first-is a space page leaf (Some z) y f g h = f h
 
-hit-is : (a : TlbArray) (space page : ℕ) (leaf : Leaf) → array_hit a space page ≡ Some leaf → IsHit a space page leaf
+pub hit-is : (a : TlbArray) (space page : ℕ) (leaf : Leaf) → array_hit a space page ≡ Some leaf → IsHit a space page leaf
 unfolding array_hit
 hit-is a space page leaf h =
     first-is a space page leaf (found_as a space page order.K4) (first_found (found_as a space page order.M2) (found_as a space page order.G1))
@@ -45,27 +46,35 @@ hit-is a space page leaf h =
     (first-is a space page leaf (found_as a space page order.M2) (found_as a space page order.G1)
     (found-is a space page order.M2 leaf) (found-is a space page order.G1 leaf)) h
 
+-- what an array answers to a kind of access, where it serves the kind
+taken-is : (taken : Bool) (found : Option Leaf) (leaf : Leaf) → where_taken taken found ≡ Some leaf → found ≡ Some leaf
+taken-is true found leaf h = h
+taken-is false found leaf h = absurd (cc)
+
+pub asked-is : (kind : Kind) (a : TlbArray) (space page : ℕ) (leaf : Leaf) → asked kind a space page ≡ Some leaf → array_hit a space page ≡ Some leaf
+asked-is kind a space page leaf h = taken-is (serves_kind kind a) (array_hit a space page) leaf h
+
 -- what all arrays answer
-pub answer-held : (arrays : List TlbArray) (space page : ℕ) (answer : Answer) → answer_of arrays space page ≡ Some answer → Held answer.leaf arrays
-answer-held [] space page answer h = absurd (cc)
-answer-held (a ∷ arrays) space page answer h = go (array_hit a space page) refl h (λ k. answer-held arrays space page answer k)
+pub answer-held : (kind : Kind) (arrays : List TlbArray) (space page : ℕ) (answer : Answer) → answer_of kind arrays space page ≡ Some answer → Held answer.leaf arrays
+answer-held kind [] space page answer h = absurd (cc)
+answer-held kind (a ∷ arrays) space page answer h = go (asked kind a space page) refl h (λ k. answer-held kind arrays space page answer k)
   where
-    go : (o : Option Leaf) → array_hit a space page ≡ o → answered_by o a.spec.level (answer_of arrays space page) ≡ Some answer
-        → (answer_of arrays space page ≡ Some answer → Held answer.leaf arrays) → Held answer.leaf (a ∷ arrays)
+    go : (o : Option Leaf) → asked kind a space page ≡ o → answered_by o a.spec.level (answer_of kind arrays space page) ≡ Some answer
+        → (answer_of kind arrays space page ≡ Some answer → Held answer.leaf arrays) → Held answer.leaf (a ∷ arrays)
     go None is k next = inr (next k)
     go (Some leaf) is k next =
         let same : leaf ≡ answer.leaf = cc in
         let P : Leaf → Type 0 = λ z. InSets z a.sets in
-        inl (subst P same (hit-is a space page leaf is).held)
+        inl (subst P same (hit-is a space page leaf (asked-is kind a space page leaf is)).held)
 
-pub answer-covers : (arrays : List TlbArray) (space page : ℕ) (answer : Answer) → answer_of arrays space page ≡ Some answer → covers space page answer.leaf ≡ true
-answer-covers [] space page answer h = absurd (cc)
-answer-covers (a ∷ arrays) space page answer h = go (array_hit a space page) refl h (λ k. answer-covers arrays space page answer k)
+pub answer-covers : (kind : Kind) (arrays : List TlbArray) (space page : ℕ) (answer : Answer) → answer_of kind arrays space page ≡ Some answer → covers space page answer.leaf ≡ true
+answer-covers kind [] space page answer h = absurd (cc)
+answer-covers kind (a ∷ arrays) space page answer h = go (asked kind a space page) refl h (λ k. answer-covers kind arrays space page answer k)
   where
-    go : (o : Option Leaf) → array_hit a space page ≡ o → answered_by o a.spec.level (answer_of arrays space page) ≡ Some answer
-        → (answer_of arrays space page ≡ Some answer → covers space page answer.leaf ≡ true) → covers space page answer.leaf ≡ true
+    go : (o : Option Leaf) → asked kind a space page ≡ o → answered_by o a.spec.level (answer_of kind arrays space page) ≡ Some answer
+        → (answer_of kind arrays space page ≡ Some answer → covers space page answer.leaf ≡ true) → covers space page answer.leaf ≡ true
     go None is k next = next k
     go (Some leaf) is k next =
         let same : leaf ≡ answer.leaf = cc in
         let P : Leaf → Type 0 = λ z. covers space page z ≡ true in
-        subst P same (hit-is a space page leaf is).covering
+        subst P same (hit-is a space page leaf (asked-is kind a space page leaf is)).covering

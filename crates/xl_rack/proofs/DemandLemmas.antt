@@ -84,23 +84,23 @@ unfolding state_after
 declared-after area areas v = refl
 
 -- an access leaves the current space
-filled-space : (found : Option Leaf) (s : RowState) → (walk_filled found s).space ≡ s.space
-filled-space None s = refl
-filled-space (Some leaf) s = refl
+filled-space : (k : Kind) (found : Option Leaf) (s : RowState) → (walk_filled k found s).space ≡ s.space
+filled-space k None s = refl
+filled-space k (Some leaf) s = refl
 
-looked-space : (answer : Option Answer) (page : ℕ) (s : RowState) → (looked_by answer page s).space ≡ s.space
-looked-space None page s =
-    filled-space (leaf_at_page s.space page s.table.leaves) (walk_made s.space page (record s { counts = count_look None s.space page s.arrays s.counts }))
-looked-space (Some answer) page s = refl
+looked-space : (k : Kind) (answer : Option Answer) (page : ℕ) (s : RowState) → (looked_by k answer page s).space ≡ s.space
+looked-space k None page s =
+    filled-space k (leaf_at_page s.space page s.table.leaves) (walk_made s.space page (record s { counts = count_look k None s.space page s.arrays s.counts }))
+looked-space k (Some answer) page s = refl
 
-where-space : (there : Bool) (page : ℕ) (s : RowState) → (looked_where there page s).space ≡ s.space
+where-space : (there : Bool) (k : Kind) (page : ℕ) (s : RowState) → (looked_where there k page s).space ≡ s.space
 unfolding looked
-where-space true page s = looked-space (answer_of s.arrays s.space page) page s
-where-space false page s = refl
+where-space true k page s = looked-space k (answer_of k s.arrays s.space page) page s
+where-space false k page s = refl
 
 pub access-space : (row : Row) (va : ℕ) (k : Kind) (s : RowState) → (after_event row (event.Access va k) s).space ≡ s.space
 unfolding after_event rule done accessed
-access-space row va k s = where-space (is_canonical row.mode va) (page_of row.mode va) s
+access-space row va k s = where-space (is_canonical row.mode va) k (page_of row.mode va) s
 
 pub none-of : (area : Option Area) → ((a : Area) → area ≡ Some a → ⊥) → area ≡ None
 none-of None not = refl
