@@ -7,11 +7,13 @@ use Rattle.std.proofs.Math.Seq.{drop-append_seam}
 use Rattle.std.specs.Prelude.{IfSome, ◌-◌, ◌==◌}
 use Rattle.std.specs.Cmp.{first_so, second_so}
 use Rattle.std.specs.List.{list_all, remove}
+use Rattle.xl_model.specs.declared.address.Order.{Order}
 use Rattle.xl_model.specs.declared.leaf.Leaf.{Leaf}
+use Rattle.xl_model.specs.Mapping.{is_leaf}
 use Rattle.xl_curve_model.specs.Curves.{same_leaf}
 use Rattle.xl_curve.proofs.PlaceLemmas.{same_parts}
 use Rattle.xl_curve.specs.declared.place.Place.{Place}
-use Rattle.xl_curve.specs.Places.{AreMarks, IsOther, is_vacant, leaf_in, mark_of, mark_unless, place_of, places_of, same_words, vacated, shifted, further, gives_way, gap, distance, place_without}
+use Rattle.xl_curve.specs.Places.{AreMarks, IsNamed, IsOther, is_vacant, leaf_in, mark_of, mark_unless, place_of, places_of, same_words, vacated, shifted, further, gives_way, gap, distance, place_without}
 
 append_nil : {A : Type 0} (xs : List A) → xs ++ [] ≡ xs
 append_nil [] = refl
@@ -401,6 +403,29 @@ without_met q p hole vacant solid t = rw (vacant_place hole vacant, solid_place 
 
 pub without_kept : (q : Leaf → Bool) (p : Place) → is_vacant p ≡ false → q (leaf_in p) ≡ false → place_of p ≡ place_without q (place_of p)
 without_kept q p solid f = rw (solid_place p solid, f) refl
+
+-- A place with another mark than a name's and a hole's has another leaf than the name's.
+unnamed : (space first : ℕ) (o : Order) (named p : Place) → IsNamed space first o named → IsOther (mark_of named) (mark_of p)
+    → place_without (is_leaf space first o) (place_of p) ≡ place_of p
+unnamed space first o named p n other = go (is_vacant p) (p.tag == named.tag) refl refl
+  where
+    go : (v s : Bool) → is_vacant p ≡ v → (p.tag == named.tag) ≡ s → place_without (is_leaf space first o) (place_of p) ≡ place_of p
+    go true s e f = sym (without_hole (is_leaf space first o) p e)
+    go false false e f = sym (without_kept (is_leaf space first o) p e (n.named p ∙ f))
+    go false true e f =
+        let same : p.tag ≡ named.tag = grind (arith, nat_tests) in
+        absurd (other.0 (ap (λ (b : Bool). mark_unless b p.tag) e ∙ ap (λ (k : ℕ). mark_unless false k) same ∙ sym (ap (λ (b : Bool). mark_unless b named.tag) n.solid)))
+
+-- Where all marks are other ones, no leaf of the name is removed.
+pub none_named : (space first : ℕ) (o : Order) (named : Place) (marks : List ℕ) (places : List Place) → IsNamed space first o named → AreMarks marks places
+    → ((k : ℕ) → k < length places → IsOther (mark_of named) (get_or marks k 0)) → map (place_without (is_leaf space first o)) (places_of places) ≡ places_of places
+none_named space first o named marks places n are others = go places (λ k l. rw are at (others k l))
+  where
+    go : (ps : List Place) → ((k : ℕ) → k < length ps → IsOther (mark_of named) (get_or (map mark_of ps) k 0)) → map (place_without (is_leaf space first o)) (places_of ps) ≡ places_of ps
+    go [] h = refl
+    go (p ∷ ps) h =
+        ap (λ (x : Option Leaf). x ∷ map (place_without (is_leaf space first o)) (places_of ps)) (unnamed space first o named p n (h zero (omega arith)))
+        ∙ ap (λ (xs : List (Option Leaf)). place_of p ∷ xs) (go ps (λ k l. h (suc k) (omega arith)))
 
 -- all places were purged
 pub all_purged : (f : Option Leaf → Option Leaf) (ps ls : List (Option Leaf)) (at : ℕ) → length ps ≤ at

@@ -1,10 +1,12 @@
 //! The work on slices of places.
 
-ghost use Rattle.std.specs.Prelude.{◌≡◌, ℕ, ◌<◌, ◌≤◌, ◌++◌, ◌∷◌, false, Some, take, drop, length, map, slice_index, IfSome};
+ghost use Rattle.std.specs.Prelude.{◌≡◌, ℕ, ◌<◌, ◌≤◌, ◌++◌, ◌∷◌, true, false, Some, take, drop, length, map, slice_index, IfSome};
 ghost use Rattle.std.specs.Fn.{FnReturnsAt};
 ghost use Rattle.std.specs.List.{remove};
-ghost use Rattle.xl_curve.specs.Places.{AreMarks, IsOther, IsSameOrHole, IsThinned, distance, further, gap, is_vacant, leaf_in, place_of, place_without, places_of, shifted, vacated};
+ghost use Rattle.xl_curve.specs.Places.{AreMarks, IsNamed, IsOther, IsSameOrHole, IsThinned, distance, further, gap, is_vacant, leaf_in, place_of, place_without, places_of, shifted, vacated};
 ghost use Rattle.xl_curve_model.specs.Curves.{same_leaf};
+ghost use Rattle.xl_model.specs.Mapping.{is_leaf};
+ghost use Rattle.xl_model.specs.declared.address.Order.{Order};
 ghost use Rattle.xl_recency.specs.Lists.{IsTest};
 
 use crate::place::{HOLE, HOLE_MARK, Place};
@@ -31,6 +33,17 @@ fn first_marked(marks: &[u8; WIDEST], mark: u8) -> u8
         first = if place < first { place } else { first };
     }
     first
+}
+
+/// Whether no place has the leaf of a name, where that is soon told: neither its mark nor a hole's is there.
+#[inline(always)]
+pub(crate) fn lacks(marks: &[u8; WIDEST], _places: &[Place; WIDEST], named: Place) -> bool
+    requires { AreMarks marks.now _places.now }
+    ensures { (space first : ℕ) (o : Order) → IsNamed space first o named → result ≡ true
+        → map (place_without (is_leaf space first o)) (places_of _places.now)
+        ≡ places_of _places.now }
+{
+    first_marked(marks, named.mark()) == 64
 }
 
 /// The first place from `from` on that is a hole or has the leaf.

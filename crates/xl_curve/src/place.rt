@@ -1,7 +1,7 @@
 //! What a place of a list has: a leaf, or nothing.
 
-ghost use Rattle.std.specs.Prelude.{◌≡◌, true, false};
-ghost use Rattle.xl_curve.specs.Places.{gives_way as gives_way_to, is_vacant, leaf_in as leaf_kept, mark_of, place_of, same_words};
+ghost use Rattle.std.specs.Prelude.{◌≡◌, ◌<◌, ◌^◌, true, false, IfSome};
+ghost use Rattle.xl_curve.specs.Places.{IsNamed, gives_way as gives_way_to, is_vacant, leaf_in as leaf_kept, mark_of, place_of, same_words};
 ghost use Rattle.xl_model.specs.Addresses.{order_at};
 ghost use Rattle.xl_tlb.specs.Arrays.{IsFit};
 ghost use Rattle.xl_curve_model.specs.Curves.{same_leaf};
@@ -53,6 +53,15 @@ fn are_same_words(word: u64, other: u64) -> bool
     other == word || (other / 16 == word / 16 && are_same_perms(perm_of(word), perm_of(other)))
 }
 
+/// Whether a place can have a leaf of this space that begins at this page.
+#[inline(always)]
+fn is_kept(space: u16, first: u64) -> bool
+    ensures space { result ≡ true → space < 64 }
+    ensures first { result ≡ true → first < 2 ^ 52 }
+{
+    space < 64 && first < 1 << 52
+}
+
 impl Place {
     /// The place of a leaf.
     #[inline(always)]
@@ -65,6 +74,20 @@ impl Place {
             tag: (leaf.first * 64 + leaf.space as u64) * 3 + leaf.order.level() as u64,
             word: leaf.frame * 16 + perm_code(leaf.perm),
         }
+    }
+
+    /// A place whose leaf has this space, first page and order, where a place can have them.
+    #[inline(always)]
+    pub fn named(space: u16, first: u64, order: Order) -> Option<Place>
+        ensures { IfSome result (IsNamed space first order) }
+    {
+        if !is_kept(space, first) {
+            return None;
+        }
+        Some(Place {
+            tag: (first * 64 + space as u64) * 3 + order.level() as u64,
+            word: 0,
+        })
     }
 
     /// Whether the place is a hole.

@@ -1,15 +1,16 @@
 //! The list of places of one set.
 
-ghost use Rattle.std.specs.Prelude.{◌≡◌, ◌<◌, false, None, map, replicate, take, IfSome};
+ghost use Rattle.std.specs.Prelude.{◌≡◌, ◌<◌, true, false, None, map, replicate, take, IfSome};
 ghost use Rattle.std.specs.Fn.{FnReturnsAt};
 ghost use Rattle.xl_curve.specs.Places.{IsThinned, distance, is_vacant, leaf_in, place_without, shifted};
 ghost use Rattle.xl_curve_model.specs.Curves.{same_leaf};
+ghost use Rattle.xl_model.specs.Mapping.{is_leaf};
 ghost use Rattle.xl_recency.specs.Lists.{IsTest};
 
-use crate::kernel::{WIDEST, bring_in_front, vacate_where};
+use crate::kernel::{WIDEST, bring_in_front, lacks, vacate_where};
 use crate::place::{HOLE, HOLE_MARK, Place};
 use std::marker::Model;
-use xl_model::Leaf;
+use xl_model::{Leaf, Order};
 
 /// A recency list of 64 places, of which some are holes. Contracts see what each place has, the newest first.
 #[derive(Drop)]
@@ -53,6 +54,17 @@ impl Stack {
         ensures below { IfSome result (λ d. d < 64) }
     {
         bring_in_front(&mut self.marks, &mut self.places, leaf)
+    }
+
+    /// Whether no place has the leaf of this space, first page and order, as its mark soon tells.
+    #[inline(always)]
+    pub fn lacks(&self, space: u16, first: u64, order: Order) -> bool
+        ensures { result ≡ true → map (place_without (is_leaf space first order)) self.now ≡ self.now }
+    {
+        match Place::named(space, first, order) {
+            Some(named) => lacks(&self.marks, &self.places, named),
+            None => false,
+        }
     }
 
     /// Removes the leaves that meet the test. They leave holes.
