@@ -1,4 +1,4 @@
-# The guest of checks/mmu: it makes each request's access as a user would, and keeps what came of it. It runs in machine
+# The guest of tools/checks/mmu: it makes each request's access as a user would, and keeps what came of it. It runs in machine
 # mode, whose own accesses are not translated. A request has eight words of 64 bits:
 #     0 satp, 1 the virtual address, 2 the kind (0 load, 1 store, 2 fetch; 3, 4, 5 the same by a guest's user, over two
 #     stages), 3 the awaited physical address, 4 a token to store

@@ -5,7 +5,7 @@ import subprocess
 import sys
 from pathlib import Path
 
-TOP = Path(__file__).resolve().parent.parent
+TOP = Path(__file__).resolve().parent.parent.parent
 sys.path.append(str(TOP / "checks"))
 from runs import ALL, array, row, run  # noqa: E402
 
