@@ -6,7 +6,7 @@ import sys
 from pathlib import Path
 
 TOP = Path(__file__).resolve().parent.parent.parent
-sys.path.append(str(TOP / "checks"))
+sys.path.append(str(TOP / "tools/checks"))
 from runs import ALL, array, row, run  # noqa: E402
 
 TWO_LEVELS = [array(1, 16, 4, *ALL), array(2, 64, 8, *ALL)]
