@@ -182,7 +182,7 @@ item-block i g first pages covers f p =
       some = pages-some (order_at (i.tag % 3));
       covers = λ h. sym (block-covers (order_at (i.tag % 3)) (i.tag / 3) h) ∙ block-has (order_at (i.tag % 3)) (i.tag / 3) g h first n f;
       says = λ h has. page-says i h (h - first) _ (sym (block-covers (order_at (i.tag % 3)) (i.tag / 3) h) ∙ block-has (order_at (i.tag % 3)) (i.tag / 3) g h first n f ∙ has)
-      (block-behind (order_at (i.tag % 3)) (i.tag / 3) g h first n f has) refl;
+          (block-behind (order_at (i.tag % 3)) (i.tag / 3) g h first n f has) refl;
     })
 
 pub few-pages : (o : Order) → pages_of o ≤ 2 ^ 18
