@@ -98,7 +98,7 @@ make_unproved() {
     if is_fresh; then return; fi
     echo "xlate: a program is made first, which takes two to five minutes; it is NOT proved (./prove proves it)" >&2
     begin
-    if ! "$top/speed/unproved" "$top/out/made" 9>&- < /dev/null >&2; then
+    if ! "$top/tools/speed/unproved" "$top/out/made" 9>&- < /dev/null >&2; then
         echo "xlate: the program could not be made" >&2
         exit 9
     fi

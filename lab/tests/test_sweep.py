@@ -46,6 +46,11 @@ def test_all_arrays_of_a_level():
     assert [it["width"] for it in found.row["tlb"]] == [8, 8, 4]
 
 
+def test_what_an_array_serves():
+    fetch, both = made("tlb.1.serves=fetch,none")
+    assert fetch.row["tlb"][0]["serves"] == "fetch" and both.row["tlb"][0] == ARRAY
+
+
 def test_an_array_itself_and_none():
     with_two, without = made('tlb.2={level = 2, sets = 8, width = 6, orders = ["4k", "2m"]},none')
     assert with_two.row["tlb"][1]["width"] == 6 and without.row["tlb"] == [ARRAY]

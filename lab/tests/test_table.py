@@ -28,6 +28,12 @@ BARE = row("bare", [], 1000, 3000)
 TWO = row("two", [[900, 100], [20, 980], [70, 10]], 10, 25, unmapped=2)
 
 
+# 400 fetches and 600 loads and stores, each with a first level of its own; of 70 misses the level that they share hits 50
+SPLIT = row("split", [[390, 10], [540, 60], [50, 20]], 20, 60)
+# the same with arrays of 4 KiB and of 2 MiB, and a second level that is split too
+APART = row("apart", [[380, 20], [10, 390], [540, 60], [0, 600], [6, 4], [44, 16]], 20, 60)
+
+
 @pytest.fixture
 def made(tmp_path):
     """Writes rows into a file."""
@@ -49,6 +55,16 @@ def test_misses_are_of_levels(xlab, made):
     found = figures(xlab, made("a.json", BARE, TWO), "--columns", "l1,l2,walks,l1-rate,l2-rate,reads-walk,walk-rate")
     assert list(found["two"].values()) == ["80", "10", "10", "8.0", "12.5", "2.5", "1.0"]
     assert found["bare"]["L1 misses"] == "" and found["bare"]["walks"] == "1000"
+
+
+def test_levels_that_are_split(xlab, made):
+    found = figures(xlab, made("a.json", SPLIT, APART), "--columns", "l1,l2,walks")
+    assert list(found["split"].values()) == list(found["apart"].values()) == ["70", "20", "20"]
+
+
+def test_a_split_level_that_fetches_alone_look_at(xlab, made):
+    only = row("only", [[900, 100], [0, 0], [70, 30]], 30, 90)
+    assert list(figures(xlab, made("a.json", only), "--columns", "l1,l2")["only"].values()) == ["100", "30"]
 
 
 def test_figures_per_thousand_instructions(xlab, made):

@@ -8,6 +8,7 @@ MODES = ("sv39", "sv48", "sv57")
 TABLES = ("radix", "hashed", "clustered", "cuckoo", "range")
 ORDERS = ("4k", "2m", "1g")
 PURGES = ("page", "space", "all")
+SERVES = {"all": ("fetches", "data"), "fetch": ("fetches",), "data": ("data",)}  # the accesses that a TLB array serves
 LEVELS = {"sv39": 3, "sv48": 4, "sv57": 5}
 MOST_ROWS = 16
 MOST_ARRAYS = 6
@@ -90,7 +91,7 @@ KEYS: dict[int, Key] = {
     19: _number("sections_1g", 1, 4096, "cuckoo"),
     20: _number("ranges", 1, 65536, "range"),
     21: Key("range_tlb", Type.NUMBER, A_WIDTH, WIDTHS, ("range",)),
-    TLB: Key("tlb", Type.ARRAYS, f"0 to {MOST_ARRAYS} tables of level, sets, width and orders"),
+    TLB: Key("tlb", Type.ARRAYS, f"0 to {MOST_ARRAYS} tables of level, sets, width, orders and serves"),
 }  # fmt: skip
 NUMBER_OF = {key.name: number for number, key in KEYS.items()}
 ARRAY_KEYS = {
@@ -98,7 +99,9 @@ ARRAY_KEYS = {
     "sets": _number("sets", 1, 16384),
     "width": Key("width", Type.NUMBER, listed(WIDTHS[1:]), WIDTHS[1:]),
     "orders": Key("orders", Type.NUMBERS, f'1 to 3 of {quoted(ORDERS)}, each once, as ["4k", "2m"]', ORDERS),
+    "serves": Key("serves", Type.TEXT, quoted(tuple(SERVES)), tuple(SERVES)),
 }
+MAY_BE_LEFT_OUT = ("serves",)  # of the keys of an array
 
 
 def keys_of(table: object) -> list[str]:

@@ -2,7 +2,7 @@
 
 import enum
 import math
-from collections.abc import Callable, Iterable
+from collections.abc import Callable, Iterable, Iterator
 from dataclasses import dataclass, field
 
 from xlab import formrows
@@ -61,18 +61,31 @@ class Sample:
 
 
 def guessed_levels(row: Row) -> tuple[int, ...]:
-    """The level of each array of a row, read off its counts: all arrays of a level are looked at alike, and those of the
-    next one where they all missed. A level that had no hit can't be told from the next one."""
+    """The level of each array of a row, read off its counts: an access looks at the arrays of a level that serve it, and
+    at those of the next one where they all missed. A level that had no hit can't be told from the next one."""
     looked = row["accesses"] - row["notcanonical"]
-    found, level, hits = [], 1, 0
-    for hit, miss in row["tlb"]:
-        if hit + miss != looked:
-            looked, level, hits = looked - hits, level + 1, 0
-        if hit + miss != looked:
-            raise Fault(f"row {row['name']}: the counts of its tlb don't fit together; name its --config")
-        found.append(level)
-        hits += hit
-    return tuple(found)
+    found = next((it for split in (False, True) for it in _levels(row["tlb"], looked, split)), None)
+    if found is None:
+        raise Fault(f"row {row['name']}: the counts of its tlb don't fit together; name its --config")
+    return found
+
+
+def _levels(counts: list[list[int]], looked: int, split: bool, level: int = 1) -> Iterator[tuple[int, ...]]:
+    """The levels that arrays with these counts may have, where so many accesses look at the first of them."""
+    if not counts:
+        yield ()
+    for size in range(len(counts), 0, -1):
+        if _is_level(counts[:size], looked, split):
+            left = looked - sum(hit for hit, _ in counts[:size])
+            yield from ((level,) * size + rest for rest in _levels(counts[size:], left, split, level + 1))
+
+
+def _is_level(counts: list[list[int]], looked: int, split: bool) -> bool:
+    """Whether arrays with these counts may be a level that so many accesses look at: each sees all of them, or, where the
+    level is split, the fetches or the rest."""
+    lookups = {hit + miss for hit, miss in counts}
+    parts = lookups - {looked}
+    return not parts or split and len(parts) <= 2 and all(looked - part in lookups for part in parts)
 
 
 @dataclass(frozen=True)

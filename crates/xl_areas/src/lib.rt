@@ -4,5 +4,7 @@
 
 mod areas;
 mod bounds;
+mod demanded;
 
 pub use areas::Areas;
+pub use demanded::map_for;

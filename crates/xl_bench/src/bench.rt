@@ -30,21 +30,22 @@ pub fn run<F: Folder, K: Sink, E: Sink>(
     machines: &mut Machines,
 ) -> Status
     requires none { machines.old ≡ no_machines }
-    requires out_flushed { IsFlushed K.taken K.outside out.old }
-    requires err_flushed { IsFlushed E.taken E.outside err.old }
-    ensures told { IfSome (F.files folder.old) (λ fs. Answers result
+    requires out_flushed { IsFlushed K.sink out.old }
+    requires err_flushed { IsFlushed E.sink err.old }
+    ensures told { IfSome (F.folder.files folder.old) (λ fs. Answers result
         (account_of (map string_bytes words.now.items) fs)
-        (K.outside out.old).written (K.outside out.new).written) }
-    ensures served { IfSome (F.files folder.old) (λ fs. result ≡ Status.Ok
+        (K.sink.outside out.old).written (K.sink.outside out.new).written) }
+    ensures served { IfSome (F.folder.files folder.old) (λ fs. result ≡ Status.Ok
         → machines.new ≡ machines_left (map string_bytes words.now.items) fs) }
     ensures usage { SaysOfWords result (asked (map string_bytes words.now.items)) }
-    ensures leaves { FolderLeft F.files F.faults F.absences F.steady folder.old folder.new result }
-    ensures goes_on { GoesOn (is_status_put result) (K.outside out.old) (K.outside out.new) }
+    ensures leaves { FolderLeft F.folder folder.old folder.new result }
+    ensures goes_on { GoesOn (is_status_put result)
+        (K.sink.outside out.old) (K.sink.outside out.new) }
     ensures said { IfSome (message_of result
-        (option_map (account_of (map string_bytes words.now.items)) (F.files folder.old)))
-        (λ text. Says E.outside E.roomy text err.old err.new) }
-    ensures complete { F.steady folder.old → IfSome (F.files folder.old) (λ fs. K.roomy out.old
-        (length (text_of (account_of (map string_bytes words.now.items) fs)))
+        (option_map (account_of (map string_bytes words.now.items)) (F.folder.files folder.old)))
+        (λ text. Says E.sink text err.old err.new) }
+    ensures complete { F.folder.steady folder.old → IfSome (F.folder.files folder.old) (λ fs.
+        K.sink.roomy out.old (length (text_of (account_of (map string_bytes words.now.items) fs)))
         → Completes result (account_of (map string_bytes words.now.items) fs)) }
 {
     let end = report_of(alloc, words, folder, out, machines);
@@ -62,15 +63,16 @@ fn report_of<F: Folder, K: Sink>(
     machines: &mut Machines,
 ) -> Result<(), Stop>
     requires none { machines.old ≡ no_machines }
-    requires flushed { IsFlushed K.taken K.outside out.old }
-    ensures told { IfSome (F.files folder.old) (λ fs. Ends result
+    requires flushed { IsFlushed K.sink out.old }
+    ensures told { IfSome (F.folder.files folder.old) (λ fs. Ends result
         (account_of (map string_bytes words.now.items) fs)
-        K.roomy (K.outside out.old).written (K.outside out.new).written out.old out.new
+        K.sink.roomy (K.sink.outside out.old).written (K.sink.outside out.new).written
+        out.old out.new
         (machines.new ≡ machines_left (map string_bytes words.now.items) fs)) }
     ensures usage { SaysOfWords (status_by result) (asked (map string_bytes words.now.items)) }
-    ensures leaves { FolderLeft F.files F.faults F.absences F.steady folder.old folder.new
+    ensures leaves { FolderLeft F.folder folder.old folder.new
         (status_by result) }
-    ensures goes_on { GoesOn (is_all_put result) (K.outside out.old) (K.outside out.new) }
+    ensures goes_on { GoesOn (is_all_put result) (K.sink.outside out.old) (K.sink.outside out.new) }
 {
     match read(alloc, words.as_slice()) {
         Ok(Words::Plain(words)) => xl_serving::report(

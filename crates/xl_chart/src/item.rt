@@ -3,27 +3,14 @@
 ghost use Rattle.std.specs.Prelude.{◌≡◌};
 ghost use Rattle.xl_chart.specs.Charts.{IsServedBeside, charted_access, curve_item, wanted_by};
 ghost use Rattle.xl_curve_model.specs.CurveRun.{charted_again, charted_demand};
-ghost use Rattle.xl_model.specs.Items.{area_for, map_of};
+ghost use Rattle.xl_model.specs.Items.{area_for};
 ghost use Rattle.xl_model.specs.Scenes.{served_after};
 
 use crate::beside::step_beside;
-use xl_areas::Areas;
+use xl_areas::{Areas, map_for};
 use xl_curve::Curve;
 use xl_machine::Machine;
 use xl_model::{Area, Event, Item, Kind, Outcome, Reply, Structure};
-
-/// The map that an area demands for an address.
-fn map_for(area: Area, va: u64) -> Event
-    ensures { result ≡ map_of area va }
-{
-    let bytes = area.order.bytes();
-    Event::Map {
-        space: area.space,
-        va: va / bytes * bytes,
-        order: area.order,
-        perm: area.perm,
-    }
-}
 
 /// Serves an access once more where a map was done.
 fn again_beside<S: Structure>(

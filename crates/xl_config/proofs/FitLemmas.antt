@@ -23,8 +23,8 @@ use Rattle.xl_config.specs.declared.fault.Rule.TheVariants as rule
 use Rattle.xl_config.specs.declared.kind.TableKind.{TableKind}
 use Rattle.xl_config.specs.declared.kind.TableKind.TheVariants as kind
 use Rattle.xl_config.specs.Config.{keyed}
-use Rattle.xl_config.specs.Keys.{◌>>=◌, Gives, bad, needed, checked, found, text_of, array_of, table_of, between, number_of, number_in, width_by, width_of, is_name, name_in, mode_in, kind_named, kind_in, purge_in, range_tlb_by, count_items, widths_from, caches_by, caches_in}
-use Rattle.xl_config.specs.Arrays.{with_order, order_named, order_of, orders_from, orders_in, width_in, without_orders, is_array_key, only_known, array_in, arrays_from, agree, arrays_by, arrays_in}
+use Rattle.xl_config.specs.Keys.{◌>>=◌, Gives, bad, needed, checked, found, text_of, array_of, table_of, between, number_of, number_in, width_by, width_of, is_name, name_in, mode_in, kind_in, purge_in, range_tlb_by, count_items, widths_from, caches_by, caches_in}
+use Rattle.xl_config.specs.Arrays.{with_order, order_named, order_of, orders_from, orders_in, width_in, without_orders, serves_in, is_array_key, only_known, array_in, arrays_from, agree, arrays_by, arrays_in}
 use Rattle.xl_config.specs.Tables.{radix_in, hashed_in, clustered_in, cuckoo_in, range_in, table_in, is_known}
 use Rattle.xl_config.specs.Rows.{names_of, row_in, element_in, rows_from}
 
@@ -282,10 +282,11 @@ array_fits row ms =
     then_fits _ IsArray (number_in row 22 (codes "sets") 1 16384 ms) _ (number_fits row 22 (codes "sets") 1 16384 ms) (λ sets b.
     then_fits (IsWidth 1) IsArray (width_in row ms) _ (then_any _ (found row 22 (codes "width") ms) (width_of row 22 1) (width_fits row 22 1)) (λ width c.
     then_fits (Ordered (without_orders level sets width)) IsArray (orders_in row ms (without_orders level sets width)) _ (orders_in_fit row ms (without_orders level sets width)) (λ t o.
+    then_any IsArray (serves_in row ms) _ (λ s.
     then_fits (λ u. (u ≡ t) × (nat_le (sets * width) 16384 ≡ true)) IsArray (checked (bad row 22 rule.Outside) (nat_le (sets * width) 16384) t) _
     (checked_fits _ (bad row 22 rule.Outside) (nat_le (sets * width) 16384) t (λ few. (refl, few))) (λ u few.
-    checked_fits IsArray (bad row 22 rule.NotAllowed) (only_known is_array_key ms) u (λ only.
-    let P : TlbSpec → Type 0 = IsArray in subst P (sym few.0) (array_is level sets width t a b c o few.1)))))))
+    checked_fits IsArray (bad row 22 rule.NotAllowed) (only_known is_array_key ms) (record u { serves = s }) (λ only.
+    let P : TlbSpec → Type 0 = IsArray in subst P (sym few.0) (array_is level sets width t a b c o few.1))))))))
 
 -- arrays, so many of them at most
 abbrev AreArrays : ℕ → List TlbSpec → Type 0

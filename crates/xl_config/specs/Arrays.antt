@@ -4,6 +4,8 @@ use Rattle.std.specs.Str.{bytes_eq}
 use Rattle.toml.specs.Data.{Data, Items, no_items, item, Members, no_members, member, get_member}
 use Rattle.xl_model.specs.declared.address.Order.{Order}
 use Rattle.xl_model.specs.declared.address.Order.TheVariants as order
+use Rattle.xl_model.specs.declared.row.Serves.{Serves}
+use Rattle.xl_model.specs.declared.row.Serves.TheVariants as serves
 use Rattle.xl_model.specs.declared.row.TlbSpec.{TlbSpec}
 use Rattle.xl_model.specs.Rows.{is_within, levels_rise, none_clash}
 use Rattle.xl_config.specs.declared.fault.KeyFault.{KeyFault}
@@ -47,19 +49,37 @@ orders_in row ms t =
 abbrev pub width_in : ℕ → Members → Result ℕ KeyFault
 width_in row ms = found row 22 (codes "width") ms >>= width_of row 22 1
 
+-- The words for what an array serves.
+abbrev pub serves_named : List ℕ → Option Serves
+serves_named s =
+    if bytes_eq s (codes "all") then Some serves.All
+    else (if bytes_eq s (codes "fetch") then Some serves.Fetch
+    else (if bytes_eq s (codes "data") then Some serves.Data
+    else None))
+
+-- The accesses that a value says: all where the key isn't there.
+abbrev pub serves_by : ℕ → Option Data → Result Serves KeyFault
+serves_by row None = Ok serves.All
+serves_by row (Some d) = text_of row 22 d >>= (λ s. needed (bad row 22 rule.Outside) (serves_named s))
+
+-- The accesses that an array serves.
+abbrev pub serves_in : ℕ → Members → Result Serves KeyFault
+serves_in row ms = serves_by row (get_member (codes "serves") ms)
+
 -- The keys of an array.
 abbrev pub is_array_key : List ℕ → Bool
 is_array_key k =
     bytes_eq k (codes "level") || bytes_eq k (codes "sets") || bytes_eq k (codes "width") || bytes_eq k (codes "orders")
+    || bytes_eq k (codes "serves")
 
 -- All keys of a table are known.
 abbrev pub only_known : (List ℕ → Bool) → Members → Bool
 only_known known no_members = true
 only_known known (member k d ms) = known k && only_known known ms
 
--- An array that has no orders yet.
+-- An array that has no orders yet, and serves all accesses.
 abbrev pub without_orders : ℕ → ℕ → ℕ → TlbSpec
-without_orders level sets width = record { level = level; sets = sets; width = width; k4 = false; m2 = false; g1 = false }
+without_orders level sets width = record { level = level; sets = sets; width = width; k4 = false; m2 = false; g1 = false; serves = serves.All }
 
 -- One array, read whole.
 unfoldable pub array_in : ℕ → Members → Result TlbSpec KeyFault
@@ -68,15 +88,16 @@ array_in row ms =
     number_in row 22 (codes "sets") 1 16384 ms >>= (λ sets.
     width_in row ms >>= (λ width.
     orders_in row ms (without_orders level sets width) >>= (λ t.
+    serves_in row ms >>= (λ s.
     checked (bad row 22 rule.Outside) (nat_le (sets * width) 16384) t >>= (λ t.
-    checked (bad row 22 rule.NotAllowed) (only_known is_array_key ms) t)))))
+    checked (bad row 22 rule.NotAllowed) (only_known is_array_key ms) (record t { serves = s })))))))
 
 -- Arrays behind those so far, each read whole.
 abbrev pub arrays_from : ℕ → Items → List TlbSpec → Result (List TlbSpec) KeyFault
 arrays_from row no_items ts = Ok ts
 arrays_from row (item d ds) ts = table_of row 22 d >>= array_in row >>= (λ t. arrays_from row ds (ts ++ t ∷ []))
 
--- The levels rise from 1 on, and no two arrays of one level have an order in common.
+-- The levels rise from 1 on, and no two arrays of one level have an order in common for one kind of access.
 abbrev pub agree : List TlbSpec → Bool
 agree ts = levels_rise ts && none_clash ts
 

@@ -6,7 +6,7 @@ ghost use Rattle.std.specs.BTreeMap.{keys};
 ghost use Rattle.toml.specs.View.{view, array_view, table_view};
 ghost use Rattle.xl_model.specs.Rows.{levels_rise_from, levels_rise, clash, none_clash};
 ghost use Rattle.xl_config.specs.Keys.{Reads};
-ghost use Rattle.xl_config.specs.Arrays.{order_named, with_order, order_of, orders_from, orders_in, width_in, is_array_key, only_known, array_in, arrays_from, agree, arrays_in};
+ghost use Rattle.xl_config.specs.Arrays.{order_named, with_order, order_of, orders_from, orders_in, width_in, is_array_key, only_known, array_in, arrays_from, agree, arrays_in, serves_named, serves_in};
 
 use crate::fault::{KeyFault, Rule};
 use crate::keys::{array, at, found, number, small, table as table_of, text, width};
@@ -81,10 +81,39 @@ fn orders(row: u32, table: &Table, spec: TlbSpec) -> Result<TlbSpec, KeyFault>
     orders_from(row, values, spec)
 }
 
+fn serves_named(text: &str) -> Option<Serves>
+    ensures { result ≡ serves_named text.now }
+{
+    if text == "all" {
+        Some(Serves::All)
+    } else if text == "fetch" {
+        Some(Serves::Fetch)
+    } else if text == "data" {
+        Some(Serves::Data)
+    } else {
+        None
+    }
+}
+
+/// The accesses that an array serves: all, where the key isn't there.
+fn serves(row: u32, table: &Table) -> Result<Serves, KeyFault>
+    ensures { Reads (λ s. s) result (serves_in row (table_view table.now)) }
+{
+    let Some(value) = at(table, "serves") else {
+        return Ok(Serves::All);
+    };
+    let text = text(row, 22, value)?;
+    serves_named(text).ok_or(KeyFault {
+        row,
+        key: 22,
+        rule: Rule::Outside,
+    })
+}
+
 fn is_array_key(key: &str) -> bool
     ensures { result ≡ is_array_key key.now }
 {
-    key == "level" || key == "sets" || key == "width" || key == "orders"
+    key == "level" || key == "sets" || key == "width" || key == "orders" || key == "serves"
 }
 
 fn has_array_keys(table: &Table) -> bool
@@ -123,6 +152,7 @@ fn one_array(row: u32, table: &Table) -> Result<TlbSpec, KeyFault>
         serves: Serves::All,
     };
     let spec = orders(row, table, bare)?;
+    let serves = serves(row, table)?;
     if u64::from(sets) * u64::from(width) > 16_384 {
         return Err(KeyFault {
             row,
@@ -137,7 +167,7 @@ fn one_array(row: u32, table: &Table) -> Result<TlbSpec, KeyFault>
             rule: Rule::NotAllowed,
         });
     }
-    Ok(spec)
+    Ok(TlbSpec { serves, ..spec })
 }
 
 /// All arrays, each whole.
@@ -181,11 +211,13 @@ fn levels_rise(arrays: &[TlbSpec]) -> bool
     }
 }
 
-/// Whether two arrays of one level have an order in common.
+/// Whether two arrays of one level have an order in common for one kind of access.
 fn clash(t: &TlbSpec, u: &TlbSpec) -> bool
     ensures { result ≡ clash t.now u.now }
 {
-    t.level == u.level && ((t.k4 && u.k4) || ((t.m2 && u.m2) || (t.g1 && u.g1)))
+    t.level == u.level
+        && t.serves.meets(u.serves)
+        && ((t.k4 && u.k4) || ((t.m2 && u.m2) || (t.g1 && u.g1)))
 }
 
 /// Whether an array clashes with none of these.
@@ -209,7 +241,8 @@ fn none_clash(arrays: &[TlbSpec]) -> bool
     true
 }
 
-/// Whether the levels rise from 1 on, and no two arrays of one level have an order in common.
+/// Whether the levels rise from 1 on, and no two arrays of one level have an order in common for one kind
+/// of access.
 fn agree(arrays: &[TlbSpec]) -> bool
     ensures { result ≡ agree arrays.now }
 {

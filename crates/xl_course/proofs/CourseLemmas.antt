@@ -5,7 +5,7 @@ use Rattle.std.proofs.lemmas.List.{drop_all, drop_more}
 use Rattle.std.proofs.lemmas.Option.{slice_get_within, get_or_from_slice_get}
 use Rattle.xl_model.specs.declared.fault.InputFault.{InputFault}
 use Rattle.xl_model.specs.Courses.{Accesses, Trail, at_end}
-use Rattle.xl_outside.specs.Sinks.{Outside}
+use Rattle.xl_outside.specs.Sinks.{SinkMeaning}
 use Rattle.xl_course.specs.declared.form.Step.{Step}
 use Rattle.xl_course.specs.declared.source.Numbered.{Numbered}
 use Rattle.xl_course.specs.declared.stop.Stop.{Stop}
@@ -42,13 +42,13 @@ abbrev pub left_by : {I : Type 0} → Rules I → Trail → (Trail → Course I)
 left_by rules t next = rules t.records t.fault next
 
 -- how far a loop over records came: what goes on after what is left, goes on after what was left
-pub record Underway {K C I S : Type 0} (m : Meaning C I S) (taken : K → Option (List ℕ)) (outside : K → Outside) (roomy : K → ℕ → Type 0) (answers : Bool) (after : Type 0) (by now : (Trail → Course I) → Course I) (p q : S) (k l : K) : Type 0 where
-  pub serves : (next : Trail → Course I) → Reached m taken outside roomy answers (by next) (now next) p q k l
+pub record Underway {K C I S : Type 0} (m : Meaning C I S) (sink : SinkMeaning K) (answers : Bool) (after : Type 0) (by now : (Trail → Course I) → Course I) (p q : S) (k l : K) : Type 0 where
+  pub serves : (next : Trail → Course I) → Reached m sink answers (by next) (now next) p q k l
   pub stands_still : after
 
 -- how far a script came
-pub record Through {K C I S : Type 0} (m : Meaning C I S) (taken : K → Option (List ℕ)) (outside : K → Outside) (roomy : K → ℕ → Type 0) (answers : Bool) (after : Type 0) (whole left : Course I) (p q : S) (k l : K) : Type 0 where
-  pub reached : Reached m taken outside roomy answers whole left p q k l
+pub record Through {K C I S : Type 0} (m : Meaning C I S) (sink : SinkMeaning K) (answers : Bool) (after : Type 0) (whole left : Course I) (p q : S) (k l : K) : Type 0 where
+  pub reached : Reached m sink answers whole left p q k l
   pub stands_still : after
 
 -- a rule of records that are taken first
@@ -74,19 +74,19 @@ steps-left {C} cs i c h = drop_more cs i c (slice_get_within cs i c h) ∙ ap (�
 pub next-left : {C : Type 0} (P : List (Step C) → Type 0) (cs : List (Step C)) (i : ℕ) (c : Step C) → slice_get cs i ≡ Some c → P (drop i cs) → P (c ∷ drop (i + 1) cs)
 next-left {C} P cs i c h x = subst P (steps-left cs i c h) x
 
-module _ {K C I S : Type 0} (m : Meaning C I S) (taken : K → Option (List ℕ)) (outside : K → Outside) (roomy : K → ℕ → Type 0) (answers : Bool) where
+module _ {K C I S : Type 0} (m : Meaning C I S) (sink : SinkMeaning K) (answers : Bool) where
   -- what is said above, of this sink
   abbrev Has : List I → S → S → K → K → Bool → Type 0
-  Has xs p q k l whole = HasServed m taken outside roomy answers xs p q k l whole
+  Has xs p q k l whole = HasServed m sink answers xs p q k l whole
 
   abbrev Comes : Course I → Course I → S → S → K → K → Type 0
-  Comes all left p q k l = Reached m taken outside roomy answers all left p q k l
+  Comes all left p q k l = Reached m sink answers all left p q k l
 
   abbrev On : Type 0 → ((Trail → Course I) → Course I) → ((Trail → Course I) → Course I) → S → S → K → K → Type 0
-  On after by now p q k l = Underway m taken outside roomy answers after by now p q k l
+  On after by now p q k l = Underway m sink answers after by now p q k l
 
   pub reached_none : (c : Course I) (p : S) (k : K) → Comes c c p p k k
-  reached_none c p k = record { done = []; split = refl; served = served_none m taken outside roomy answers p k }
+  reached_none c p k = record { done = []; split = refl; served = served_none m sink answers p k }
 
   -- some items of a course were served
   reached_items : (xs : List I) (c : Course I) (p q : S) (k l : K) → Has xs p q k l true → Comes (before xs c) c p q k l
@@ -96,18 +96,18 @@ module _ {K C I S : Type 0} (m : Meaning C I S) (taken : K → Option (List ℕ)
   reached_on a b c p q r k l n x y = record {
     done = x.done ++ y.done;
     split = x.split ∙ ap (before x.done) y.split ∙ before-before x.done y.done c;
-    served = served_on m taken outside roomy answers x.done y.done p q r k l n true x.served y.served;
+    served = served_on m sink answers x.done y.done p q r k l n true x.served y.served;
   }
 
   -- items were served, and then a put failed
   lost_on : (a b : Course I) (p q r : S) (k l n : K) → Comes a b p q k l → Has b.items q r l n false → Has a.items p r k n false
   lost_on a b p q r k l n x y =
       subst (λ (zs : List I). Has zs p r k n false) (sym (ap (λ (z : Course I). z.items) x.split))
-      (served_on m taken outside roomy answers x.done b.items p q r k l n false x.served y)
+      (served_on m sink answers x.done b.items p q r k l n false x.served y)
 
   -- a part that was served, and then a part that may stop
   serves_on : {A : Type 0} (a b c : Course I) (p q s : S) (k l n : K) (r : Result A Stop)
-      → Comes a b p q k l → Serves m taken outside roomy answers b c q s l n r → Serves m taken outside roomy answers a c p s k n r
+      → Comes a b p q k l → Serves m sink answers b c q s l n r → Serves m sink answers a c p s k n r
   serves_on a b c p q s k l n (Ok v) x y = reached_on a b c p q s k l n x y
   serves_on a b c p q s k l n (Err (why.Input fault)) x y = reached_on a b (ended (Some fault)) p q s k l n x y
   serves_on a b c p q s k l n (Err why.WriteFault) x y = lost_on a b p q s k l n x y
@@ -131,7 +131,7 @@ module _ {K C I S : Type 0} (m : Meaning C I S) (taken : K → Option (List ℕ)
   -- a put failed in the midst of a record
   pub going_lost : (A : Type 0) (mid after : Type 0) (by : (Trail → Course I) → Course I) (now later : Rules I) (t u : Trail) (r : Numbered) (p q s : S) (k l n : K)
       → Steps m now later → On mid by (left_by now t) p q k l → Gives after t u (Ok (Some r)) → Has (items_of m (found_of r)) q s l n false
-      → ServesPart {A = A} m taken outside roomy answers after by u p s k n (Err why.WriteFault)
+      → ServesPart {A = A} m sink answers after by u p s k n (Err why.WriteFault)
   going_lost A mid after by now later t u r p q s k l n steps g f x = record {
     serves = λ next.
         let items : List I = items_of m (found_of r) in
@@ -139,7 +139,7 @@ module _ {K C I S : Type 0} (m : Meaning C I S) (taken : K → Option (List ℕ)
         ap (λ (v : Trail). left_by now v next) f.1 ∙ steps.first (found_of r) u.records u.fault next in
         lost_on (by next) (left_by now t next) p q s k l n (g.serves next)
         (subst (λ (zs : List I). Has zs q s l n false) (sym (ap (λ (z : Course I). z.items) e))
-        (served_cut m taken outside roomy answers items (left_by later u next).items q s l n x));
+        (served_cut m sink answers items (left_by later u next).items q s l n x));
     stands_still = tt;
   }
 
@@ -150,7 +150,7 @@ module _ {K C I S : Type 0} (m : Meaning C I S) (taken : K → Option (List ℕ)
   -- the trace has ended
   pub going_ends : {A : Type 0} (mid after : Type 0) (by : (Trail → Course I) → Course I) (now later : Rules I) (t u : Trail) (p q : S) (k l : K) (v : A)
       → Steps m now later → On mid by (left_by now t) p q k l → Gives after t u (Ok None)
-      → ServesPart m taken outside roomy answers after by u p q k l (Ok v)
+      → ServesPart m sink answers after by u p q k l (Ok v)
   going_ends mid after by now later t u p q k l v steps g f = record {
     serves = λ next.
         let e : left_by now t next ≡ next u = ap (λ (w : Trail). left_by now w next) f.1 ∙ steps.last None next ∙ ap next (sym f.2) in
@@ -160,7 +160,7 @@ module _ {K C I S : Type 0} (m : Meaning C I S) (taken : K → Option (List ℕ)
 
   -- as many records were served as were to be
   pub going_full : {A : Type 0} (mid : Type 0) (by : (Trail → Course I) → Course I) (t : Trail) (p q : S) (k l : K) (v : A)
-      → On mid by (left_by (ran m 0) t) p q k l → ServesPart m taken outside roomy answers mid by t p q k l (Ok v)
+      → On mid by (left_by (ran m 0) t) p q k l → ServesPart m sink answers mid by t p q k l (Ok v)
   going_full mid by t p q k l v g = record { serves = g.serves; stands_still = g.stands_still }
 
   ends_at : (mid : Type 0) (by : (Trail → Course I) → Course I) (now later : Rules I) (t : Trail) (p q : S) (k l : K) (e : Option InputFault) (next : Trail → Course I)
@@ -171,7 +171,7 @@ module _ {K C I S : Type 0} (m : Meaning C I S) (taken : K → Option (List ℕ)
   -- the trace stopped: why it did, is why the course ends
   pub going_stops : (A : Type 0) (mid after : Type 0) (by : (Trail → Course I) → Course I) (now later : Rules I) (t u : Trail) (p q : S) (k l : K) (stop : Stop)
       → Steps m now later → On mid by (left_by now t) p q k l → Gives after t u (Err stop)
-      → ServesPart {A = A} m taken outside roomy answers after by u p q k l (Err stop)
+      → ServesPart {A = A} m sink answers after by u p q k l (Err stop)
   going_stops A mid after by now later t u p q k l why.WriteFault steps g f = absurd f
   going_stops A mid after by now later t u p q k l why.NoMemory steps g f = absurd f
   going_stops A mid after by now later t u p q k l why.ReadFault steps g f =
@@ -181,20 +181,20 @@ module _ {K C I S : Type 0} (m : Meaning C I S) (taken : K → Option (List ℕ)
 
   -- a step, and then what goes on
   part_then : {A : Type 0} (after : Type 0) (a : Course I) (by : (Trail → Course I) → Course I) (next : Trail → Course I) (u : Trail) (p q s : S) (k l n : K) (r : Result A Stop)
-      → Comes a (by next) p q k l → ServesPart m taken outside roomy answers after by u q s l n r → Serves m taken outside roomy answers a (next u) p s k n r
+      → Comes a (by next) p q k l → ServesPart m sink answers after by u q s l n r → Serves m sink answers a (next u) p s k n r
   part_then after a by next u p q s k l n r d x = serves_on a (by next) (next u) p q s k l n r d (x.serves next)
 
   -- a command was served: the trace stays
   pub part_items : {A : Type 0} (after : Type 0) (xs : List I) (t : Trail) (p q : S) (k l : K) (v : A) → after → Has xs p q k l true
-      → ServesPart m taken outside roomy answers after (λ next. before xs (next t)) t p q k l (Ok v)
+      → ServesPart m sink answers after (λ next. before xs (next t)) t p q k l (Ok v)
   part_items after xs t p q k l v s x = record { serves = λ next. reached_items xs (next t) p q k l x; stands_still = s }
 
   -- a put failed in a command
   pub part_lost : (A : Type 0) (after : Type 0) (xs : List I) (t : Trail) (p q : S) (k l : K) → Has xs p q k l false
-      → ServesPart {A = A} m taken outside roomy answers after (λ next. before xs (next t)) t p q k l (Err why.WriteFault)
-  part_lost A after xs t p q k l x = record { serves = λ next. served_cut m taken outside roomy answers xs (next t).items p q k l x; stands_still = tt }
+      → ServesPart {A = A} m sink answers after (λ next. before xs (next t)) t p q k l (Err why.WriteFault)
+  part_lost A after xs t p q k l x = record { serves = λ next. served_cut m sink answers xs (next t).items p q k l x; stands_still = tt }
 
-  pub through_none : (after : Type 0) (c : Course I) (p : S) (k : K) → after → Through m taken outside roomy answers after c c p p k k
+  pub through_none : (after : Type 0) (c : Course I) (p : S) (k : K) → after → Through m sink answers after c c p p k k
   through_none after c p k s = record { reached = reached_none c p k; stands_still = s }
 
   course-left : (cs : List (Step C)) (i : ℕ) (c : Step C) (t : Trail) → slice_get cs i ≡ Some c → course m (drop i cs) t ≡ course_by m c t (course m (drop (i + 1) cs))
@@ -202,16 +202,16 @@ module _ {K C I S : Type 0} (m : Meaning C I S) (taken : K → Option (List ℕ)
 
   -- the next step was served, or serving stopped at it
   pub through_by : {A : Type 0} (mid after : Type 0) (whole : Course I) (cs : List (Step C)) (i : ℕ) (c : Step C) (t u : Trail) (p q s : S) (k l n : K) (r : Result A Stop)
-      → slice_get cs i ≡ Some c → Through m taken outside roomy answers mid whole (course m (drop i cs) t) p q k l
-      → ServesPart m taken outside roomy answers after (course_by m c t) u q s l n r
-      → Serves m taken outside roomy answers whole (course m (drop (i + 1) cs) u) p s k n r
+      → slice_get cs i ≡ Some c → Through m sink answers mid whole (course m (drop i cs) t) p q k l
+      → ServesPart m sink answers after (course_by m c t) u q s l n r
+      → Serves m sink answers whole (course m (drop (i + 1) cs) u) p s k n r
   through_by mid after whole cs i c t u p q s k l n r h g x =
       part_then after whole (course_by m c t) (course m (drop (i + 1) cs)) u p q s k l n r
       (subst (λ (z : Course I). Comes whole z p q k l) (course-left cs i c t h) g.reached) x
 
   -- a stop says the same, whatever was to go on
   pub stop_any : (A B : Type 0) (whole left other : Course I) (p q : S) (k l : K) (stop : Stop)
-      → Serves {A = A} m taken outside roomy answers whole left p q k l (Err stop) → Serves {A = B} m taken outside roomy answers whole other p q k l (Err stop)
+      → Serves {A = A} m sink answers whole left p q k l (Err stop) → Serves {A = B} m sink answers whole other p q k l (Err stop)
   stop_any A B whole left other p q k l why.WriteFault h = h
   stop_any A B whole left other p q k l why.ReadFault h = h
   stop_any A B whole left other p q k l why.NoMemory h = h
@@ -219,30 +219,30 @@ module _ {K C I S : Type 0} (m : Meaning C I S) (taken : K → Option (List ℕ)
 
   -- all steps were served, and then the rest of the trace
   pub through_rest : {A : Type 0} (mid after : Type 0) (whole : Course I) (cs : List (Step C)) (i : ℕ) (t u : Trail) (p q s : S) (k l n : K) (r : Result A Stop)
-      → length cs ≤ i → Through m taken outside roomy answers mid whole (course m (drop i cs) t) p q k l
-      → ServesPart m taken outside roomy answers after (ran_all m t.records t.fault) u q s l n r
-      → Serves m taken outside roomy answers whole (finish u) p s k n r
+      → length cs ≤ i → Through m sink answers mid whole (course m (drop i cs) t) p q k l
+      → ServesPart m sink answers after (ran_all m t.records t.fault) u q s l n r
+      → Serves m sink answers whole (finish u) p s k n r
   through_rest mid after whole cs i t u p q s k l n r h g x =
       part_then after whole (ran_all m t.records t.fault) finish u p q s k l n r
       (subst (λ (ds : List (Step C)). Comes whole (course m ds t) p q k l) (drop_all i cs h) g.reached) x
 
 -- where a put failed, nothing is said of the state after
-pub lost-any : {K C I S : Type 0} {m : Meaning C I S} {taken : K → Option (List ℕ)} {outside : K → Outside} {roomy : K → ℕ → Type 0} (answers : Bool) (xs : List I) (p q r : S) (k l : K)
-    → HasServed m taken outside roomy answers xs p q k l false → HasServed m taken outside roomy answers xs p r k l false
+pub lost-any : {K C I S : Type 0} {m : Meaning C I S} {sink : SinkMeaning K} (answers : Bool) (xs : List I) (p q r : S) (k l : K)
+    → HasServed m sink answers xs p q k l false → HasServed m sink answers xs p r k l false
 lost-any answers xs p q r k l x = record { state_is = tt; writes = x.writes }
 
 pub skimmed-none : {C I S : Type 0} (m : Meaning C I S) (stands : Type 0) (t : Trail) (p : S) → stands → Skimmed m stands t t p p 0
 skimmed-none m stands t p h = record { stands_still = h; taken = []; split = refl; follow = refl; many = refl }
 
-module _ {K C I S : Type 0} (m : Meaning C I S) (taken : K → Option (List ℕ)) (outside : K → Outside) (roomy : K → ℕ → Type 0) (stands : Type 0) (t u : Trail) (q s : S) (count : ℕ)
+module _ {K C I S : Type 0} (m : Meaning C I S) (sink : SinkMeaning K) (stands : Type 0) (t u : Trail) (q s : S) (count : ℕ)
     (k : Skimmed m stands t u q s count) (out : K) where
   -- where lines are written, nothing is skimmed
-  served-skimmed : (answers : Bool) → (answers ≡ true → count ≡ 0) → HasServed m taken outside roomy answers (items_of_all m k.taken) q s out out true
-  served-skimmed false idle = served-untold m taken outside roomy (items_of_all m k.taken) q s out k.follow
+  served-skimmed : (answers : Bool) → (answers ≡ true → count ≡ 0) → HasServed m sink answers (items_of_all m k.taken) q s out out true
+  served-skimmed false idle = served-untold m sink (items_of_all m k.taken) q s out k.follow
   served-skimmed true idle =
       let none : k.taken ≡ [] = nothing k.taken (k.many ∙ idle refl) in
       let same : s ≡ q = k.follow ∙ ap (λ (rs : List Accesses). states_after m (items_of_all m rs) q) none in
-      rw (none, same) (served_none m taken outside roomy true q out)
+      rw (none, same) (served_none m sink true q out)
     where
       nothing : (rs : List Accesses) → length rs ≡ 0 → rs ≡ []
       nothing [] e = refl
@@ -250,11 +250,11 @@ module _ {K C I S : Type 0} (m : Meaning C I S) (taken : K → Option (List ℕ)
 
   -- the records that were skimmed are served when the form has taken them
   going_skims : (answers : Bool) (mid : Type 0) (by : (Trail → Course I) → Course I) (now later : Rules I) (p : S) (first : K) → Takes m now later k.taken → (answers ≡ true → count ≡ 0)
-      → Underway m taken outside roomy answers mid by (left_by now t) p q first out
-      → Underway m taken outside roomy answers stands by (left_by later u) p s first out
+      → Underway m sink answers mid by (left_by now t) p q first out
+      → Underway m sink answers stands by (left_by later u) p s first out
   going_skims answers mid by now later p first takes idle g = record {
     serves = λ next.
-        reached_on m taken outside roomy answers (by next) (left_by now t next) (left_by later u next) p q s first out out (g.serves next)
+        reached_on m sink answers (by next) (left_by now t next) (left_by later u next) p q s first out out (g.serves next)
         (record {
           done = items_of_all m k.taken;
           split = ap (λ (v : Trail). left_by now v next) k.split ∙ takes u.records u.fault next;
@@ -264,11 +264,11 @@ module _ {K C I S : Type 0} (m : Meaning C I S) (taken : K → Option (List ℕ)
   }
 
   pub going_skims_all : (answers : Bool) (mid : Type 0) (by : (Trail → Course I) → Course I) (p : S) (first : K) → (answers ≡ true → count ≡ 0)
-      → Underway m taken outside roomy answers mid by (left_by (ran_all m) t) p q first out
-      → Underway m taken outside roomy answers stands by (left_by (ran_all m) u) p s first out
+      → Underway m sink answers mid by (left_by (ran_all m) t) p q first out
+      → Underway m sink answers stands by (left_by (ran_all m) u) p s first out
   going_skims_all answers mid by p first idle g = going_skims answers mid by (ran_all m) (ran_all m) p first (all-taken m k.taken) idle g
 
   pub going_skims_run : (n : ℕ) (answers : Bool) (mid : Type 0) (by : (Trail → Course I) → Course I) (p : S) (first : K) → (answers ≡ true → count ≡ 0) → count ≤ n
-      → Underway m taken outside roomy answers mid by (left_by (ran m n) t) p q first out
-      → Underway m taken outside roomy answers stands by (left_by (ran m (n - count)) u) p s first out
+      → Underway m sink answers mid by (left_by (ran m n) t) p q first out
+      → Underway m sink answers stands by (left_by (ran m (n - count)) u) p s first out
   going_skims_run n answers mid by p first idle h g = going_skims answers mid by (ran m n) (ran m (n - count)) p first (run-taken m n count k.taken k.many h) idle g

@@ -2,7 +2,7 @@
 use Rattle.std.proofs.Common.{◌≡◌, ℕ, ◌+◌, ◌-◌, ◌≤◌, Bool, true, false, List, ◌++◌, length, refl, ap, sym, ◌∙◌, subst, inr, arith, length-append, append-nil}
 use Rattle.std.specs.Prelude.{Option, None, Some, Result, Ok, Err, OnOk}
 use Rattle.xl_model.specs.declared.fault.InputFault.{InputFault}
-use Rattle.xl_outside.specs.Sinks.{Outside, GoesOn, with_more, WroteFront, SinkAfter}
+use Rattle.xl_outside.specs.Sinks.{SinkMeaning, GoesOn, with_more, WroteFront, SinkAfter}
 use Rattle.xl_outside.proofs.SinkLemmas.{front_of_more, sink_then, goes_same}
 use Rattle.xl_course.specs.declared.stop.Stop.{Stop}
 use Rattle.xl_course.specs.declared.stop.Stop.TheVariants as why
@@ -27,7 +27,7 @@ front_text a before after h = front_of_more before after (joined a.told) (last_w
 fits_text : (a : Account) → length (joined a.told) ≤ length (text_of a)
 fits_text a = let e = length-append (joined a.told) (last_where a.fault a.last) in omega arith
 
-module _ {K C I S : Type 0} (m : Meaning C I S) (taken : K → Option (List ℕ)) (outside : K → Outside) (roomy : K → ℕ → Type 0) (answers : Bool) (last : S → List ℕ) (late : Bool) where
+module _ {K C I S : Type 0} (m : Meaning C I S) (sink : SinkMeaning K) (answers : Bool) (last : S → List ℕ) (late : Bool) where
   -- the account of a course
   abbrev Of : Course I → S → Account
   Of c p = account m answers last late c p
@@ -42,10 +42,10 @@ module _ {K C I S : Type 0} (m : Meaning C I S) (taken : K → Option (List ℕ)
 
   -- serving stopped
   pub serve_ends : (c : Course I) (p q : S) (k l : K) (stop : Stop) (left : Type 0)
-      → Serves {A = Unit {0}} m taken outside roomy answers c (ended None) p q k l (Err stop)
-      → Ends (Err stop) (Of c p) roomy (taken k) (taken l) k l left
+      → Serves {A = Unit {0}} m sink answers c (ended None) p q k l (Err stop)
+      → Ends (Err stop) (Of c p) sink.roomy (sink.taken k) (sink.taken l) k l left
   serve_ends c p q k l why.WriteFault left x = record {
-    as_said = front_text (Of c p) (taken k) (taken l) x.writes.took;
+    as_said = front_text (Of c p) (sink.taken k) (sink.taken l) x.writes.took;
     room = λ room h n.
         let f = fits_text (Of c p) in
         let calm = x.writes.calm room h (omega arith) in (calm.0, (room - length (told_by m answers c.items p), calm.1));
@@ -70,9 +70,9 @@ module _ {K C I S : Type 0} (m : Meaning C I S) (taken : K → Option (List ℕ)
   serve_ends c p q k l why.NoMemory left x = absurd x
   serve_ends c p q k l (why.Input f) left x =
       let e : text_of (Of (whole x.done (Some f)) p) ≡ told_by m answers x.done p = append-nil (told_by m answers x.done p) in
-      subst (λ (z : Course I). Ends (Err (why.Input f)) (Of z p) roomy (taken k) (taken l) k l left) (sym (whole-is c x.done (Some f) x.split))
+      subst (λ (z : Course I). Ends (Err (why.Input f)) (Of z p) sink.roomy (sink.taken k) (sink.taken l) k l left) (sym (whole-is c x.done (Some f) x.split))
       (record {
-        as_said = (refl, x.served.writes.took ∙ ap (with_more (taken k)) (sym e));
+        as_said = (refl, x.served.writes.took ∙ ap (with_more (sink.taken k)) (sym e));
         room = λ room h n.
             let size = ap (λ (t : List ℕ). length t) e in
             (refl, (room - length (told_by m answers x.done p), (x.served.writes.calm room h (omega (arith, size))).1));
@@ -80,57 +80,57 @@ module _ {K C I S : Type 0} (m : Meaning C I S) (taken : K → Option (List ℕ)
       })
 
   -- what was told, and the end of the report behind it
-  text_then : (c : Course I) (p q : S) (k l n : K) (all : Bool) (x : Reached m taken outside roomy answers c (ended None) p q k l)
-      → SinkAfter taken outside roomy (last q) l n all → SinkAfter taken outside roomy (text_of (Of (whole x.done None) p)) k n all
+  text_then : (c : Course I) (p q : S) (k l n : K) (all : Bool) (x : Reached m sink answers c (ended None) p q k l)
+      → SinkAfter sink (last q) l n all → SinkAfter sink (text_of (Of (whole x.done None) p)) k n all
   text_then c p q k l n all x y =
-      sink_then taken outside roomy (told_by m answers x.done p) (last (states_after m x.done p)) k l n all x.served.writes
-      (subst (λ (t : S). SinkAfter taken outside roomy (last t) l n all) x.served.state_is y)
+      sink_then sink (told_by m answers x.done p) (last (states_after m x.done p)) k l n all x.served.writes
+      (subst (λ (t : S). SinkAfter sink (last t) l n all) x.served.state_is y)
 
-  pub report_written : (holds : S → Type 0) (c : Course I) (p q : S) (k l n : K) → Reached m taken outside roomy answers c (ended None) p q k l
-      → SinkAfter taken outside roomy (last q) l n true → holds q → Ends (Ok tt) (Of c p) roomy (taken k) (taken n) k n (holds (states_after m c.items p))
+  pub report_written : (holds : S → Type 0) (c : Course I) (p q : S) (k l n : K) → Reached m sink answers c (ended None) p q k l
+      → SinkAfter sink (last q) l n true → holds q → Ends (Ok tt) (Of c p) sink.roomy (sink.taken k) (sink.taken n) k n (holds (states_after m c.items p))
   report_written holds c p q k l n x y h =
       let z = text_then c p q k l n true x y in
-      subst (λ (d : Course I). Ends (Ok tt) (Of d p) roomy (taken k) (taken n) k n (holds (states_after m d.items p))) (sym (whole-is c x.done None x.split))
+      subst (λ (d : Course I). Ends (Ok tt) (Of d p) sink.roomy (sink.taken k) (sink.taken n) k n (holds (states_after m d.items p))) (sym (whole-is c x.done None x.split))
       (record {
         as_said = (refl, z.took);
         room = λ room g n. (refl, (_, (z.calm room g n).1));
         served = subst holds x.served.state_is h;
       })
 
-  pub report_cut : (c : Course I) (p q : S) (k l n : K) (stop : Stop) (left : Type 0) (x : Reached m taken outside roomy answers c (ended None) p q k l)
-      → EndAfter taken outside roomy late (last q) l n (Err stop) → Ends (Err stop) (Of c p) roomy (taken k) (taken n) k n left
+  pub report_cut : (c : Course I) (p q : S) (k l n : K) (stop : Stop) (left : Type 0) (x : Reached m sink answers c (ended None) p q k l)
+      → EndAfter sink late (last q) l n (Err stop) → Ends (Err stop) (Of c p) sink.roomy (sink.taken k) (sink.taken n) k n left
   report_cut c p q k l n why.WriteFault left x y =
       let z = text_then c p q k l n false x y in
-      subst (λ (d : Course I). Ends (Err why.WriteFault) (Of d p) roomy (taken k) (taken n) k n left) (sym (whole-is c x.done None x.split))
+      subst (λ (d : Course I). Ends (Err why.WriteFault) (Of d p) sink.roomy (sink.taken k) (sink.taken n) k n left) (sym (whole-is c x.done None x.split))
       (record { as_said = z.took; room = λ room h n. ((z.calm room h n).0, (_, (z.calm room h n).1)); served = tt })
   report_cut c p q k l n why.ReadFault left x y = absurd y
   report_cut c p q k l n (why.Input f) left x y = absurd y
   report_cut c p q k l n why.NoMemory left x y =
-      subst (λ (d : Course I). Ends (Err why.NoMemory) (Of d p) roomy (taken k) (taken n) k n left) (sym (whole-is c x.done None x.split))
+      subst (λ (d : Course I). Ends (Err why.NoMemory) (Of d p) sink.roomy (sink.taken k) (sink.taken n) k n left) (sym (whole-is c x.done None x.split))
       (record {
-        as_said = inr (y.0, refl, ap taken y.1 ∙ x.served.writes.took);
+        as_said = inr (y.0, refl, ap sink.taken y.1 ∙ x.served.writes.took);
         room = λ room h n.
             let told = told_by m answers x.done p in
             let size = length-append told (last (states_after m x.done p)) in
             let calm = x.served.writes.calm room h (omega (arith, size)) in
-            (refl, (room - length told, subst (λ (d : K). roomy d (room - length told)) (sym y.1) calm.1));
+            (refl, (room - length told, subst (λ (d : K). sink.roomy d (room - length told)) (sym y.1) calm.1));
         served = tt;
       })
 
   -- the end of the report was written, or not to its end
-  pub report_done : (holds : S → Type 0) (c : Course I) (p q : S) (k l n : K) (r : Result (Unit {0}) Stop) → Reached m taken outside roomy answers c (ended None) p q k l
-      → EndAfter taken outside roomy late (last q) l n r → OnOk r (holds q) → Ends r (Of c p) roomy (taken k) (taken n) k n (holds (states_after m c.items p))
+  pub report_done : (holds : S → Type 0) (c : Course I) (p q : S) (k l n : K) (r : Result (Unit {0}) Stop) → Reached m sink answers c (ended None) p q k l
+      → EndAfter sink late (last q) l n r → OnOk r (holds q) → Ends r (Of c p) sink.roomy (sink.taken k) (sink.taken n) k n (holds (states_after m c.items p))
   report_done holds c p q k l n (Ok u) x y h = report_written holds c p q k l n x y h
   report_done holds c p q k l n (Err stop) x y h = report_cut c p q k l n stop _ x y
 
 -- and so the sink goes on
-pub end_goes : {K : Type 0} (taken : K → Option (List ℕ)) (outside : K → Outside) (roomy : K → ℕ → Type 0) (late : Bool) (text : List ℕ) (a b : K) (r : Result (Unit {0}) Stop)
-    → EndAfter taken outside roomy late text a b r → GoesOn (is_all_put r) (outside a) (outside b)
-end_goes taken outside roomy late text a b (Ok u) x = x.goes_on
-end_goes taken outside roomy late text a b (Err why.WriteFault) x = x.goes_on
-end_goes taken outside roomy late text a b (Err why.ReadFault) x = absurd x
-end_goes taken outside roomy late text a b (Err (why.Input f)) x = absurd x
-end_goes taken outside roomy late text a b (Err why.NoMemory) x = subst (λ k. GoesOn true (outside a) (outside k)) (sym x.1) (goes_same (outside a))
+pub end_goes : {K : Type 0} (sink : SinkMeaning K) (late : Bool) (text : List ℕ) (a b : K) (r : Result (Unit {0}) Stop)
+    → EndAfter sink late text a b r → GoesOn (is_all_put r) (sink.outside a) (sink.outside b)
+end_goes sink late text a b (Ok u) x = x.goes_on
+end_goes sink late text a b (Err why.WriteFault) x = x.goes_on
+end_goes sink late text a b (Err why.ReadFault) x = absurd x
+end_goes sink late text a b (Err (why.Input f)) x = absurd x
+end_goes sink late text a b (Err why.NoMemory) x = subst (λ k. GoesOn true (sink.outside a) (sink.outside k)) (sym x.1) (goes_same (sink.outside a))
 
 -- where a source stops, no put has failed
 pub put_still : (stop : Stop) → StopsSource stop → is_all_put {A = Unit {0}} (Err stop) ≡ true

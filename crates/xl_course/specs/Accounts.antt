@@ -2,7 +2,7 @@
 use Rattle.std.specs.Prelude.{◌≡◌, ℕ, ◌≤◌, ◌⊎◌, Bool, true, false, List, [], ◌++◌, length, Option, None, Some, IsSome, option_map, Result, Ok, Err, OnOk}
 use Rattle.xl_model.specs.declared.fault.InputFault.{InputFault}
 use Rattle.xl_model.specs.declared.fault.InputFault.TheVariants as fault
-use Rattle.xl_outside.specs.Sinks.{Outside, with_more, WroteFront, SinkAfter, FlushAfter, SentAfter}
+use Rattle.xl_outside.specs.Sinks.{SinkMeaning, with_more, WroteFront, SinkAfter, FlushAfter, SentAfter}
 use Rattle.xl_course.specs.declared.stop.Stop.{Stop}
 use Rattle.xl_course.specs.declared.stop.Stop.TheVariants as why
 use Rattle.xl_course.specs.declared.status.Status.{Status}
@@ -79,12 +79,12 @@ pub record Ends {K : Type 0} (r : Result (Unit {0}) Stop) (a : Account) (roomy :
 
 -- What writing the end of a report leaves of a sink: the text whole, or its front up to a put that failed. Where there
 -- is no memory, which only an end that is made in memory wants, nothing is put.
-abbrev pub EndAfter : {K : Type 0} (taken : K → Option (List ℕ)) (outside : K → Outside) (roomy : K → ℕ → Type 0) (late : Bool) (text : List ℕ) (old new : K) → Result (Unit {0}) Stop → Type 0
-EndAfter taken outside roomy late text old new (Ok u) = SinkAfter taken outside roomy text old new true
-EndAfter taken outside roomy late text old new (Err why.WriteFault) = SinkAfter taken outside roomy text old new false
-EndAfter taken outside roomy late text old new (Err why.NoMemory) = (late ≡ true) × (new ≡ old)
-EndAfter taken outside roomy late text old new (Err why.ReadFault) = ⊥
-EndAfter taken outside roomy late text old new (Err (why.Input fault)) = ⊥
+abbrev pub EndAfter : {K : Type 0} (sink : SinkMeaning K) (late : Bool) (text : List ℕ) (old new : K) → Result (Unit {0}) Stop → Type 0
+EndAfter sink late text old new (Ok u) = SinkAfter sink text old new true
+EndAfter sink late text old new (Err why.WriteFault) = SinkAfter sink text old new false
+EndAfter sink late text old new (Err why.NoMemory) = (late ≡ true) × (new ≡ old)
+EndAfter sink late text old new (Err why.ReadFault) = ⊥
+EndAfter sink late text old new (Err (why.Input fault)) = ⊥
 
 -- The end of a run after a flush, which came to all or failed.
 abbrev pub end_flushed : Bool → Result (Unit {0}) Stop → Result (Unit {0}) Stop
@@ -92,10 +92,10 @@ end_flushed true end = end
 end_flushed false end = Err why.WriteFault
 
 -- What a flush at the end of a run comes to; there is none where a put failed before.
-abbrev pub FlushesEnd : {K : Type 0} (taken : K → Option (List ℕ)) (outside : K → Outside) (roomy : K → ℕ → Type 0) (old new : K) → Result (Unit {0}) Stop → Result (Unit {0}) Stop → Type 0
-FlushesEnd taken outside roomy old new (Err why.WriteFault) after = (new ≡ old) × (after ≡ Err why.WriteFault)
-FlushesEnd taken outside roomy old new end after =
-    (whole : Bool) × FlushAfter taken outside roomy old new whole × (after ≡ end_flushed whole end)
+abbrev pub FlushesEnd : {K : Type 0} (sink : SinkMeaning K) (old new : K) → Result (Unit {0}) Stop → Result (Unit {0}) Stop → Type 0
+FlushesEnd sink old new (Err why.WriteFault) after = (new ≡ old) × (after ≡ Err why.WriteFault)
+FlushesEnd sink old new end after =
+    (whole : Bool) × FlushAfter sink old new whole × (after ≡ end_flushed whole end)
 
 -- The status of a run with this account.
 abbrev pub status_of : Account → Status
@@ -145,6 +145,6 @@ message_by (Ok u) = []
 message_by (Err stop) = message_at stop
 
 -- A text was written to a sink that was flushed: whole, or up to a put that failed.
-pub record Says {E : Type 0} (outside : E → Outside) (roomy : E → ℕ → Type 0) (text : List ℕ) (old new : E) : Type 0 where
+pub record Says {E : Type 0} (sink : SinkMeaning E) (text : List ℕ) (old new : E) : Type 0 where
   pub all : Bool
-  pub says : SentAfter outside roomy text old new all
+  pub says : SentAfter sink text old new all

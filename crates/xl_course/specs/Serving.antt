@@ -1,7 +1,7 @@
 -- What serving leaves of the state and of the sink that is told.
 use Rattle.std.specs.Prelude.{◌≡◌, ℕ, Bool, true, false, List, ◌++◌, length, Option, Some, Result, Ok, Err, OnOk}
 use Rattle.xl_model.specs.Courses.{Accesses, Trail}
-use Rattle.xl_outside.specs.Sinks.{Outside, SinkAfter}
+use Rattle.xl_outside.specs.Sinks.{SinkMeaning, SinkAfter}
 use Rattle.xl_course.specs.declared.stop.Stop.{Stop}
 use Rattle.xl_course.specs.declared.stop.Stop.TheVariants as why
 use Rattle.xl_course.specs.Meanings.{Meaning, states_after, told_by}
@@ -13,34 +13,34 @@ StateAfter m true items s t = t ≡ states_after m items s
 StateAfter m false items s t = Unit {0}
 
 -- These items were served, and what they tell was written: whole, or up to a put that failed.
-pub record HasServed {K C I S : Type 0} (m : Meaning C I S) (taken : K → Option (List ℕ)) (outside : K → Outside) (roomy : K → ℕ → Type 0) (answers : Bool) (items : List I) (p q : S) (k l : K) (whole : Bool) : Type 0 where
+pub record HasServed {K C I S : Type 0} (m : Meaning C I S) (sink : SinkMeaning K) (answers : Bool) (items : List I) (p q : S) (k l : K) (whole : Bool) : Type 0 where
   pub state_is : StateAfter m whole items p q
-  pub writes : SinkAfter taken outside roomy (told_by m answers items p) k l whole
+  pub writes : SinkAfter sink (told_by m answers items p) k l whole
 
 -- Of this course some items were served and told, and that course is left.
-pub record Reached {K C I S : Type 0} (m : Meaning C I S) (taken : K → Option (List ℕ)) (outside : K → Outside) (roomy : K → ℕ → Type 0) (answers : Bool) (all left : Course I) (p q : S) (k l : K) : Type 0 where
+pub record Reached {K C I S : Type 0} (m : Meaning C I S) (sink : SinkMeaning K) (answers : Bool) (all left : Course I) (p q : S) (k l : K) : Type 0 where
   pub done : List I
   pub split : all ≡ before done left
-  pub served : HasServed m taken outside roomy answers done p q k l true
+  pub served : HasServed m sink answers done p q k l true
 
 -- Of this course some items were served and told, and some course is left.
-pub record ReachedSome {K C I S : Type 0} (m : Meaning C I S) (taken : K → Option (List ℕ)) (outside : K → Outside) (roomy : K → ℕ → Type 0) (answers : Bool) (all : Course I) (p q : S) (k l : K) : Type 0 where
+pub record ReachedSome {K C I S : Type 0} (m : Meaning C I S) (sink : SinkMeaning K) (answers : Bool) (all : Course I) (p q : S) (k l : K) : Type 0 where
   pub left : Course I
-  pub reached : Reached m taken outside roomy answers all left p q k l
+  pub reached : Reached m sink answers all left p q k l
 
 -- How far serving came of a course: to what is to be left; to the fault that ends it; to a put that failed; or anywhere,
 -- where a read failed.
-abbrev pub Serves : {K C I S A : Type 0} (m : Meaning C I S) (taken : K → Option (List ℕ)) (outside : K → Outside) (roomy : K → ℕ → Type 0) → Bool → Course I → Course I → S → S → K → K → Result A Stop → Type 0
-Serves m taken outside roomy answers all left p q k l (Ok a) = Reached m taken outside roomy answers all left p q k l
-Serves m taken outside roomy answers all left p q k l (Err (why.Input fault)) = Reached m taken outside roomy answers all (ended (Some fault)) p q k l
-Serves m taken outside roomy answers all left p q k l (Err why.WriteFault) = HasServed m taken outside roomy answers all.items p q k l false
-Serves m taken outside roomy answers all left p q k l (Err why.ReadFault) = ReachedSome m taken outside roomy answers all p q k l
-Serves m taken outside roomy answers all left p q k l (Err why.NoMemory) = ⊥
+abbrev pub Serves : {K C I S A : Type 0} (m : Meaning C I S) (sink : SinkMeaning K) → Bool → Course I → Course I → S → S → K → K → Result A Stop → Type 0
+Serves m sink answers all left p q k l (Ok a) = Reached m sink answers all left p q k l
+Serves m sink answers all left p q k l (Err (why.Input fault)) = Reached m sink answers all (ended (Some fault)) p q k l
+Serves m sink answers all left p q k l (Err why.WriteFault) = HasServed m sink answers all.items p q k l false
+Serves m sink answers all left p q k l (Err why.ReadFault) = ReachedSome m sink answers all p q k l
+Serves m sink answers all left p q k l (Err why.NoMemory) = ⊥
 
 -- What a call answers that serves a part of a script: `by` gives the course of that part, and of what goes on after it;
 -- `stands` says that the trace was fed from its files alone.
-pub record ServesPart {K C I S A : Type 0} (m : Meaning C I S) (taken : K → Option (List ℕ)) (outside : K → Outside) (roomy : K → ℕ → Type 0) (answers : Bool) (stands : Type 0) (by : (Trail → Course I) → Course I) (u : Trail) (p q : S) (k l : K) (r : Result A Stop) : Type 0 where
-  pub serves : (next : Trail → Course I) → Serves m taken outside roomy answers (by next) (next u) p q k l r
+pub record ServesPart {K C I S A : Type 0} (m : Meaning C I S) (sink : SinkMeaning K) (answers : Bool) (stands : Type 0) (by : (Trail → Course I) → Course I) (u : Trail) (p q : S) (k l : K) (r : Result A Stop) : Type 0 where
+  pub serves : (next : Trail → Course I) → Serves m sink answers (by next) (next u) p q k l r
   pub stands_still : OnOk r stands
 
 -- So many records were the first of what was left, the rest of it is left, and the state is that after their items.

@@ -6,7 +6,7 @@ use Rattle.xl_outside.specs.declared.folder.Unread.{Unread}
 use Rattle.xl_outside.specs.declared.folder.Unread.TheVariants as unread
 use Rattle.xl_outside.specs.declared.whole.ReadStop.{ReadStop}
 use Rattle.xl_outside.specs.declared.whole.ReadStop.TheVariants as read
-use Rattle.xl_outside.specs.Folders.{Files, ReadFate, Fine, ReadFailed, FileMissing, FolderAfter}
+use Rattle.xl_outside.specs.Folders.{FolderMeaning, ReadFate, Fine, ReadFailed, FileMissing, FolderAfter}
 use Rattle.xl_course.specs.declared.status.Status.{Status}
 use Rattle.xl_course.specs.declared.status.Status.TheVariants as status
 use Rattle.xl_course.specs.declared.stop.Stop.{Stop}
@@ -60,9 +60,9 @@ status_fate _ = Fine
 
 -- What a run of this status leaves of the folder. At a failed put a read may have failed too: what was put before that
 -- read can be written after it.
-abbrev pub FolderLeft : {D : Type 0} (files : D → Option Files) (faults absences : D → ℕ) (steady : D → Type 0) (old new : D) → Status → Type 0
-FolderLeft files faults absences steady old new status.WriteFault = (fate : ReadFate) × FolderAfter files faults absences steady old new fate
-FolderLeft files faults absences steady old new s = FolderAfter files faults absences steady old new (status_fate s)
+abbrev pub FolderLeft : {D : Type 0} (folder : FolderMeaning D) (old new : D) → Status → Type 0
+FolderLeft folder old new status.WriteFault = (fate : ReadFate) × FolderAfter folder old new fate
+FolderLeft folder old new s = FolderAfter folder old new (status_fate s)
 
 -- Whether a status tells of no failed put.
 abbrev pub is_status_put : Status → Bool

@@ -101,7 +101,7 @@ pub trait Form<R>: Sized {
         out: &mut K,
     ) -> Result<(), Failed>
         requires { (rest : List Self.Command) × can self.old rack.old (command ∷ rest) }
-        ensures served { HasServed meaning K.taken K.outside K.roomy answers
+        ensures served { HasServed meaning K.sink answers
             (meaning.items command) (state self.old rack.old) (state self.new rack.new)
             out.old out.new (is_ok result) }
         ensures can { (rest : List Self.Command)
@@ -116,7 +116,7 @@ pub trait Form<R>: Sized {
         answers: bool,
         out: &mut K,
     ) -> Result<(), Failed>
-        ensures served { HasServed meaning K.taken K.outside K.roomy answers
+        ensures served { HasServed meaning K.sink answers
             (meaning.referenced number access.va access.kind ∷ [])
             (state self.old rack.old) (state self.new rack.new) out.old out.new (is_ok result) }
         ensures can { (commands : List Self.Command)
@@ -135,7 +135,7 @@ pub trait Form<R>: Sized {
 
     /// Serves what waits, and writes the end of the report.
     fn finish<K: Sink>(&mut self, rack: &mut R, end: Self::End, out: &mut K) -> Result<(), Stop>
-        ensures written { EndAfter K.taken K.outside K.roomy (late end)
+        ensures written { EndAfter K.sink (late end)
             (last end (state self.old rack.old)) out.old out.new result }
         ensures holds { OnOk result (holds rack.new (state self.old rack.old)) };
 }

@@ -31,17 +31,17 @@ fn replay<
     out: &mut K,
 ) -> Result<(), Stop>
     requires { D.can form.old rack.old (commands_of (C.steps orders.now)) }
-    ensures told { IfSome (F.files folder.old) (λ fs. T.stands source.old fs
+    ensures told { IfSome (F.folder.files folder.old) (λ fs. T.stands source.old fs
         → Ends result (account D.meaning (C.answers orders.now) (D.last (C.end orders.now))
         (D.late (C.end orders.now))
         (course D.meaning (C.steps orders.now) (T.left source.old fs)) (D.state form.old rack.old))
-        K.roomy (K.taken out.old) (K.taken out.new) out.old out.new
+        K.sink.roomy (K.sink.taken out.old) (K.sink.taken out.new) out.old out.new
         (D.holds rack.new (states_after D.meaning
         (course D.meaning (C.steps orders.now) (T.left source.old fs)).items
         (D.state form.old rack.old)))) }
-    ensures leaves { FolderAfter F.files F.faults F.absences F.steady folder.old folder.new
+    ensures leaves { FolderAfter F.folder folder.old folder.new
         (fate_by stop_fate result) }
-    ensures goes_on { GoesOn (is_all_put result) (K.outside out.old) (K.outside out.new) }
+    ensures goes_on { GoesOn (is_all_put result) (K.sink.outside out.old) (K.sink.outside out.new) }
     ensures met { IfErr result StopsRun }
 {
     serve(form, rack, orders, source, folder, out)?;
@@ -51,7 +51,7 @@ fn replay<
 /// Writes what the sink took and has not yet written, unless a put failed. Gives the run's end after
 /// that.
 fn flushed<K: Sink>(out: &mut K, end: Result<(), Stop>) -> Result<(), Stop>
-    ensures { FlushesEnd K.taken K.outside K.roomy out.old out.new end result }
+    ensures { FlushesEnd K.sink out.old out.new end result }
 {
     if let Err(Stop::WriteFault) = end {
         return end;
@@ -81,18 +81,19 @@ pub fn report<
     out: &mut K,
 ) -> Result<(), Stop>
     requires can { D.can form.old rack.old (commands_of (C.steps orders.now)) }
-    requires flushed { IsFlushed K.taken K.outside out.old }
-    ensures told { IfSome (F.files folder.old) (λ fs. T.stands source.old fs
+    requires flushed { IsFlushed K.sink out.old }
+    ensures told { IfSome (F.folder.files folder.old) (λ fs. T.stands source.old fs
         → Ends result (account D.meaning (C.answers orders.now) (D.last (C.end orders.now))
         (D.late (C.end orders.now))
         (course D.meaning (C.steps orders.now) (T.left source.old fs)) (D.state form.old rack.old))
-        K.roomy (K.outside out.old).written (K.outside out.new).written out.old out.new
+        K.sink.roomy (K.sink.outside out.old).written (K.sink.outside out.new).written
+        out.old out.new
         (D.holds rack.new (states_after D.meaning
         (course D.meaning (C.steps orders.now) (T.left source.old fs)).items
         (D.state form.old rack.old)))) }
-    ensures leaves { FolderLeft F.files F.faults F.absences F.steady folder.old folder.new
+    ensures leaves { FolderLeft F.folder folder.old folder.new
         (status_by result) }
-    ensures goes_on { GoesOn (is_all_put result) (K.outside out.old) (K.outside out.new) }
+    ensures goes_on { GoesOn (is_all_put result) (K.sink.outside out.old) (K.sink.outside out.new) }
     ensures met { IfErr result StopsRun }
 {
     let end = replay(form, rack, orders, source, folder, out);
@@ -101,8 +102,8 @@ pub fn report<
 
 /// Says why the run stops. Where that can't be said, it isn't.
 pub fn tell<E: Sink>(err: &mut E, end: Result<(), Stop>)
-    requires { IsFlushed E.taken E.outside err.old }
-    ensures { Says E.outside E.roomy (message_by end) err.old err.new }
+    requires { IsFlushed E.sink err.old }
+    ensures { Says E.sink (message_by end) err.old err.new }
 {
     if let Err(stop) = end {
         let _ = send_all(err, stop.message().bytes());

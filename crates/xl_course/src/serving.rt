@@ -33,13 +33,13 @@ pub fn serve<
     out: &mut K,
 ) -> Result<(), Stop>
     requires { D.can form.old rack.old (commands_of (C.steps orders.now)) }
-    ensures told { IfSome (F.files folder.old) (λ fs. T.stands source.old fs
-        → Serves D.meaning K.taken K.outside K.roomy (C.answers orders.now)
+    ensures told { IfSome (F.folder.files folder.old) (λ fs. T.stands source.old fs
+        → Serves D.meaning K.sink (C.answers orders.now)
         (course D.meaning (C.steps orders.now) (T.left source.old fs)) (ended None)
         (D.state form.old rack.old) (D.state form.new rack.new) out.old out.new result) }
-    ensures leaves { FolderAfter F.files F.faults F.absences F.steady folder.old folder.new
+    ensures leaves { FolderAfter F.folder folder.old folder.new
         (fate_by stop_fate result) }
-    ensures goes_on { GoesOn (is_all_put result) (K.outside out.old) (K.outside out.new) }
+    ensures goes_on { GoesOn (is_all_put result) (K.sink.outside out.old) (K.sink.outside out.new) }
     ensures met { IfErr result StopsServing }
 {
     if orders.answers() {
@@ -66,13 +66,13 @@ fn serve_script<
     out: &mut K,
 ) -> Result<(), Stop>
     requires { D.can form.old rack.old (commands_of (C.steps orders.now)) }
-    ensures told { IfSome (F.files folder.old) (λ fs. T.stands source.old fs
-        → Serves D.meaning K.taken K.outside K.roomy ANSWERS
+    ensures told { IfSome (F.folder.files folder.old) (λ fs. T.stands source.old fs
+        → Serves D.meaning K.sink ANSWERS
         (course D.meaning (C.steps orders.now) (T.left source.old fs)) (ended None)
         (D.state form.old rack.old) (D.state form.new rack.new) out.old out.new result) }
-    ensures leaves { FolderAfter F.files F.faults F.absences F.steady folder.old folder.new
+    ensures leaves { FolderAfter F.folder folder.old folder.new
         (fate_by stop_fate result) }
-    ensures goes_on { GoesOn (is_all_put result) (K.outside out.old) (K.outside out.new) }
+    ensures goes_on { GoesOn (is_all_put result) (K.sink.outside out.old) (K.sink.outside out.new) }
     ensures met { IfErr result StopsServing }
 {
     for i in 0..orders.len() {
@@ -92,13 +92,13 @@ fn serve_step<R, D: Form<R>, T: Source, F: Folder, K: Sink, const ANSWERS: bool>
 ) -> Result<(), Stop>
     requires { (rest : List (Step D.Command))
         × D.can form.old rack.old (commands_of (step ∷ rest)) }
-    ensures told { IfSome (F.files folder.old) (λ fs. T.stands source.old fs
-        → ServesPart D.meaning K.taken K.outside K.roomy ANSWERS (T.stands source.new fs)
+    ensures told { IfSome (F.folder.files folder.old) (λ fs. T.stands source.old fs
+        → ServesPart D.meaning K.sink ANSWERS (T.stands source.new fs)
         (course_by D.meaning step (T.left source.old fs)) (T.left source.new fs)
         (D.state form.old rack.old) (D.state form.new rack.new) out.old out.new result) }
-    ensures leaves { FolderAfter F.files F.faults F.absences F.steady folder.old folder.new
+    ensures leaves { FolderAfter F.folder folder.old folder.new
         (fate_by stop_fate result) }
-    ensures goes_on { GoesOn (is_all_put result) (K.outside out.old) (K.outside out.new) }
+    ensures goes_on { GoesOn (is_all_put result) (K.sink.outside out.old) (K.sink.outside out.new) }
     ensures met { IfErr result StopsServing }
     ensures can { (rest : List (Step D.Command))
         → D.can form.old rack.old (commands_of (step ∷ rest))
@@ -145,14 +145,14 @@ fn serve_rest<R, D: Form<R>, T: Source, F: Folder, K: Sink, const ANSWERS: bool>
     folder: &mut F,
     out: &mut K,
 ) -> Result<(), Stop>
-    ensures told { IfSome (F.files folder.old) (λ fs. T.stands source.old fs
-        → ServesPart D.meaning K.taken K.outside K.roomy ANSWERS (T.stands source.new fs)
+    ensures told { IfSome (F.folder.files folder.old) (λ fs. T.stands source.old fs
+        → ServesPart D.meaning K.sink ANSWERS (T.stands source.new fs)
         (ran_all D.meaning (T.left source.old fs).records (T.left source.old fs).fault)
         (T.left source.new fs)
         (D.state form.old rack.old) (D.state form.new rack.new) out.old out.new result) }
-    ensures leaves { FolderAfter F.files F.faults F.absences F.steady folder.old folder.new
+    ensures leaves { FolderAfter F.folder folder.old folder.new
         (fate_by stop_fate result) }
-    ensures goes_on { GoesOn (is_all_put result) (K.outside out.old) (K.outside out.new) }
+    ensures goes_on { GoesOn (is_all_put result) (K.sink.outside out.old) (K.sink.outside out.new) }
     ensures met { IfErr result StopsServing }
     ensures can { (commands : List D.Command)
         → D.can form.old rack.old commands → D.can form.new rack.new commands }
@@ -176,14 +176,14 @@ fn serve_run<R, D: Form<R>, T: Source, F: Folder, K: Sink, const ANSWERS: bool>(
     out: &mut K,
     n: u64,
 ) -> Result<(), Stop>
-    ensures told { IfSome (F.files folder.old) (λ fs. T.stands source.old fs
-        → ServesPart D.meaning K.taken K.outside K.roomy ANSWERS (T.stands source.new fs)
+    ensures told { IfSome (F.folder.files folder.old) (λ fs. T.stands source.old fs
+        → ServesPart D.meaning K.sink ANSWERS (T.stands source.new fs)
         (ran D.meaning n (T.left source.old fs).records (T.left source.old fs).fault)
         (T.left source.new fs)
         (D.state form.old rack.old) (D.state form.new rack.new) out.old out.new result) }
-    ensures leaves { FolderAfter F.files F.faults F.absences F.steady folder.old folder.new
+    ensures leaves { FolderAfter F.folder folder.old folder.new
         (fate_by stop_fate result) }
-    ensures goes_on { GoesOn (is_all_put result) (K.outside out.old) (K.outside out.new) }
+    ensures goes_on { GoesOn (is_all_put result) (K.sink.outside out.old) (K.sink.outside out.new) }
     ensures met { IfErr result StopsServing }
     ensures can { (commands : List D.Command)
         → D.can form.old rack.old commands → D.can form.new rack.new commands }
@@ -209,7 +209,7 @@ fn serve_record<R, D: Form<R>, K: Sink, const ANSWERS: bool>(
     found: &Numbered,
     out: &mut K,
 ) -> Result<(), Failed>
-    ensures served { HasServed D.meaning K.taken K.outside K.roomy ANSWERS
+    ensures served { HasServed D.meaning K.sink ANSWERS
         (items_of D.meaning (found_of found.now))
         (D.state form.old rack.old) (D.state form.new rack.new) out.old out.new (is_ok result) }
     ensures can { (commands : List D.Command)
@@ -229,7 +229,7 @@ fn serve_accesses<R, D: Form<R>, K: Sink, const ANSWERS: bool>(
     found: &Numbered,
     out: &mut K,
 ) -> Result<(), Failed>
-    ensures served { HasServed D.meaning K.taken K.outside K.roomy ANSWERS
+    ensures served { HasServed D.meaning K.sink ANSWERS
         (items_of D.meaning (found_of found.now))
         (D.state form.old rack.old) (D.state form.new rack.new) out.old out.new (is_ok result) }
     ensures can { (commands : List D.Command)

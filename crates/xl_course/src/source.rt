@@ -30,9 +30,9 @@ pub trait Source: Sized {
 
     /// The next record, or None at the end.
     fn next<F: Folder>(&mut self, folder: &mut F) -> Result<Option<Numbered>, Stop>
-        ensures told { IfSome (F.files folder.old) (λ fs. stands self.old fs
+        ensures told { IfSome (F.folder.files folder.old) (λ fs. stands self.old fs
             → Gives (stands self.new fs) (left self.old fs) (left self.new fs) result) }
-        ensures leaves { FolderAfter F.files F.faults F.absences F.steady folder.old folder.new
+        ensures leaves { FolderAfter F.folder folder.old folder.new
             (fate_by stop_fate result) }
         ensures met { IfErr result StopsSource }
         ensures shrinks { IfOk result (λ r. IsSome r → size self.new < size self.old) };

@@ -1,14 +1,19 @@
 -- The steps of the loops over places.
 use Rattle.std.proofs.Common.{◌≡◌, ℕ, zero, suc, ◌+◌, ◌<◌, ◌≤◌, Bool, true, false, not, List, [], ◌∷◌, ◌++◌, length, get_or, set, map, take, drop, Option, None, Some, refl, sym, ◌∙◌, ap, arith, append_assoc}
+use Rattle.std.proofs.lemmas.Bool.Decides.{nat_tests}
 use Rattle.std.proofs.lemmas.List.{map-append, map-set, length-map, get_or-map, take_more, drop_more, drop-set, take-set, take-append-drop, take_all, drop_all, take_at, get_or_default, length-take-le, take-map, drop-map}
 use Rattle.std.proofs.lemmas.List.Edits.{map_over_more}
 use Rattle.std.proofs.Math.Seq.{drop-append_seam}
-use Rattle.std.specs.Prelude.{IfSome, ◌-◌}
+use Rattle.std.specs.Prelude.{IfSome, ◌-◌, ◌==◌}
 use Rattle.std.specs.Cmp.{first_so, second_so}
 use Rattle.std.specs.List.{list_all, remove}
+use Rattle.xl_model.specs.declared.address.Order.{Order}
 use Rattle.xl_model.specs.declared.leaf.Leaf.{Leaf}
+use Rattle.xl_model.specs.Mapping.{is_leaf}
+use Rattle.xl_curve_model.specs.Curves.{same_leaf}
+use Rattle.xl_curve.proofs.PlaceLemmas.{same_parts}
 use Rattle.xl_curve.specs.declared.place.Place.{Place}
-use Rattle.xl_curve.specs.Places.{is_vacant, leaf_in, place_of, places_of, vacated, shifted, further, gives_way, gap, distance, place_without}
+use Rattle.xl_curve.specs.Places.{AreMarks, IsNamed, IsOther, is_vacant, leaf_in, mark_of, mark_unless, place_of, places_of, same_words, vacated, shifted, further, gives_way, gap, distance, place_without}
 
 append_nil : {A : Type 0} (xs : List A) → xs ++ [] ≡ xs
 append_nil [] = refl
@@ -281,6 +286,58 @@ last_goes q leaf old new n same some e f =
     ∙ ap (λ (k : ℕ). take k (Some leaf ∷ old)) (let k : suc (n - 1) ≡ n = omega arith in k)
     ∙ ap (take n) (sym (all_give_way q leaf old e).0)
 
+-- ---- marks
+
+-- A place with another mark than a leaf's and a hole's gives way to the leaf.
+other_gives : (leaf p : Place) → is_vacant leaf ≡ false → IsOther (mark_of leaf) (mark_of p) → gives_way (same_leaf (leaf_in leaf)) (place_of p) ≡ true
+other_gives leaf p solid other = go (is_vacant p) (same_leaf (leaf_in leaf) (leaf_in p)) refl refl
+  where
+    go : (v s : Bool) → is_vacant p ≡ v → same_leaf (leaf_in leaf) (leaf_in p) ≡ s → gives_way (same_leaf (leaf_in leaf)) (place_of p) ≡ true
+    go true s e f = absurd (other.1 (ap (λ (b : Bool). mark_unless b p.tag) e))
+    go false false e f = rw (solid_place p e, f) refl
+    go false true e f =
+        let t : (p.tag == leaf.tag) ≡ true = first_so (p.tag == leaf.tag) (same_words leaf.word p.word) (sym (same_parts leaf p) ∙ f) in
+        let same : p.tag ≡ leaf.tag = grind (arith, nat_tests) in
+        absurd (other.0 (ap (λ (b : Bool). mark_unless b p.tag) e ∙ ap (λ (n : ℕ). mark_unless false n) same ∙ sym (ap (λ (b : Bool). mark_unless b leaf.tag) solid)))
+
+-- Places that give way are passed.
+pass_gaps : {A : Type 0} (q : A → Bool) (ps : List (Option A)) (n from to : ℕ) → from + n ≡ to → to ≤ length ps
+    → ((k : ℕ) → from ≤ k → k < to → gives_way q (get_or ps k None) ≡ true) → further from (gap q (drop from ps)) ≡ further to (gap q (drop to ps))
+pass_gaps q ps zero from to e l gives = ap (λ (k : ℕ). further k (gap q (drop k ps))) (let same : from ≡ to = omega arith in same)
+pass_gaps q ps (suc n) from to e l gives =
+    pass_gap q ps from (omega arith) (gives from (omega arith) (omega arith))
+    ∙ pass_gaps q ps n (from + 1) to (omega arith) l (λ k a b. gives k (omega arith) b)
+
+module _ (marks : List ℕ) (places : List Place) (are : AreMarks marks places) where
+  -- the mark of a place
+  mark_read : (k : ℕ) (d : Place) → k < length places → get_or marks k 0 ≡ mark_of (get_or places k d)
+  mark_read k d l = ap (λ (ms : List ℕ). get_or ms k 0) are ∙ get_or-map mark_of places k d 0 l
+
+  -- Places with other marks are passed.
+  pub others_passed : (leaf : Place) (from to : ℕ) → is_vacant leaf ≡ false → from ≤ to → to ≤ length places
+      → ((k : ℕ) → from ≤ k → k < to → IsOther (mark_of leaf) (get_or marks k 0))
+      → further from (gap (same_leaf (leaf_in leaf)) (drop from (places_of places))) ≡ further to (gap (same_leaf (leaf_in leaf)) (drop to (places_of places)))
+  others_passed leaf from to solid l m others =
+      pass_gaps (same_leaf (leaf_in leaf)) (places_of places) (to - from) from to (omega arith) (rw (length-map places place_of) m)
+      (λ k a b.
+      let d : Place = record { tag = 0; word = 0 } in
+      let inside : k < length places = omega arith in
+      let other : IsOther (mark_of leaf) (mark_of (get_or places k d)) = rw (mark_read k d inside) at (others k a b) in
+      rw (read places k d inside) (other_gives leaf (get_or places k d) solid other))
+
+  pub mark_written : (at mark : ℕ) (p : Place) → mark ≡ mark_of p → AreMarks (set marks at mark) (set places at p)
+  mark_written at mark p is =
+      ap (λ (m : ℕ). set marks at m) is ∙ ap (λ (ms : List ℕ). set ms at (mark_of p)) are ∙ sym (map-set mark_of places at p)
+
+  pub marks_moved : (at mark : ℕ) (p : Place) → mark ≡ mark_of p → AreMarks (mark ∷ remove marks at) (p ∷ remove places at)
+  marks_moved at mark p is =
+      ap (λ (m : ℕ). m ∷ remove marks at) is
+      ∙ ap (λ (ms : List ℕ). mark_of p ∷ remove ms at) are
+      ∙ ap (λ (ms : List ℕ). mark_of p ∷ ms)
+      (ap (λ (ms : List ℕ). ms ++ drop (suc at) (map mark_of places)) (take-map mark_of at places)
+      ∙ ap (λ (ms : List ℕ). map mark_of (take at places) ++ ms) (drop-map mark_of (suc at) places)
+      ∙ sym (map-append mark_of (take at places) (drop (suc at) places)))
+
 -- ---- what meets a test leaves a hole
 
 -- one place more is purged
@@ -346,6 +403,29 @@ without_met q p hole vacant solid t = rw (vacant_place hole vacant, solid_place 
 
 pub without_kept : (q : Leaf → Bool) (p : Place) → is_vacant p ≡ false → q (leaf_in p) ≡ false → place_of p ≡ place_without q (place_of p)
 without_kept q p solid f = rw (solid_place p solid, f) refl
+
+-- A place with another mark than a name's and a hole's has another leaf than the name's.
+unnamed : (space first : ℕ) (o : Order) (named p : Place) → IsNamed space first o named → IsOther (mark_of named) (mark_of p)
+    → place_without (is_leaf space first o) (place_of p) ≡ place_of p
+unnamed space first o named p n other = go (is_vacant p) (p.tag == named.tag) refl refl
+  where
+    go : (v s : Bool) → is_vacant p ≡ v → (p.tag == named.tag) ≡ s → place_without (is_leaf space first o) (place_of p) ≡ place_of p
+    go true s e f = sym (without_hole (is_leaf space first o) p e)
+    go false false e f = sym (without_kept (is_leaf space first o) p e (n.named p ∙ f))
+    go false true e f =
+        let same : p.tag ≡ named.tag = grind (arith, nat_tests) in
+        absurd (other.0 (ap (λ (b : Bool). mark_unless b p.tag) e ∙ ap (λ (k : ℕ). mark_unless false k) same ∙ sym (ap (λ (b : Bool). mark_unless b named.tag) n.solid)))
+
+-- Where all marks are other ones, no leaf of the name is removed.
+pub none_named : (space first : ℕ) (o : Order) (named : Place) (marks : List ℕ) (places : List Place) → IsNamed space first o named → AreMarks marks places
+    → ((k : ℕ) → k < length places → IsOther (mark_of named) (get_or marks k 0)) → map (place_without (is_leaf space first o)) (places_of places) ≡ places_of places
+none_named space first o named marks places n are others = go places (λ k l. rw are at (others k l))
+  where
+    go : (ps : List Place) → ((k : ℕ) → k < length ps → IsOther (mark_of named) (get_or (map mark_of ps) k 0)) → map (place_without (is_leaf space first o)) (places_of ps) ≡ places_of ps
+    go [] h = refl
+    go (p ∷ ps) h =
+        ap (λ (x : Option Leaf). x ∷ map (place_without (is_leaf space first o)) (places_of ps)) (unnamed space first o named p n (h zero (omega arith)))
+        ∙ ap (λ (xs : List (Option Leaf)). place_of p ∷ xs) (go ps (λ k l. h (suc k) (omega arith)))
 
 -- all places were purged
 pub all_purged : (f : Option Leaf → Option Leaf) (ps ls : List (Option Leaf)) (at : ℕ) → length ps ≤ at

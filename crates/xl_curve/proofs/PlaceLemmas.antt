@@ -1,5 +1,5 @@
 -- The two words of a place, and its leaf.
-use Rattle.std.proofs.Common.{◌≡◌, ℕ, ◌+◌, ◌*◌, ◌/◌, ◌%◌, ◌<◌, ◌==◌, Bool, true, false, ◌&&◌, refl, sym, ap, arith}
+use Rattle.std.proofs.Common.{◌≡◌, ℕ, ◌+◌, ◌*◌, ◌/◌, ◌%◌, ◌^◌, ◌<◌, ◌==◌, Bool, true, false, ◌&&◌, refl, sym, ◌∙◌, ap, arith}
 use Rattle.std.proofs.lemmas.Bool.Decides.{nat_tests}
 use Rattle.xl_model.specs.declared.address.Order.{Order}
 use Rattle.xl_model.specs.declared.address.Order.TheVariants as order
@@ -10,7 +10,7 @@ use Rattle.xl_model.specs.LeafWords.{perm_code}
 use Rattle.xl_model.specs.Mapping.{is_leaf}
 use Rattle.xl_model.proofs.CodeLemmas.{level-at, at-level, perm-back, frame-back}
 use Rattle.xl_curve.specs.declared.place.Place.{Place}
-use Rattle.xl_curve.specs.Places.{is_vacant, leaf_in, same_words}
+use Rattle.xl_curve.specs.Places.{IsNamed, is_vacant, leaf_in, same_words}
 use Rattle.xl_tlb.specs.Arrays.{IsFit}
 
 low_level : (o : Order) → level_of o < 3
@@ -48,6 +48,10 @@ solid leaf p fit t =
 pub same_tag : (a b : ℕ) → (b == a) ≡ ((b / 3 % 64 == a / 3 % 64) && ((b / 3 / 64 == a / 3 / 64) && (b % 3 == a % 3)))
 same_tag a b = both _ _ (λ t. grind (arith, nat_tests)) (λ t. grind (arith, nat_tests))
 
+-- a tag of these parts isn't a hole's
+pub tag_solid : (first space level tag : ℕ) → first < 2 ^ 52 → space < 64 → level < 3 → tag ≡ (first * 64 + space) * 3 + level → (tag == 18446744073709551615) ≡ false
+tag_solid first space level tag f s l e = let n : tag < 18446744073709551615 = omega arith in grind (arith, nat_tests)
+
 level_mod : (t : ℕ) → level_of (order_at (t % 3)) ≡ t % 3
 level_mod t = level-at (t % 3) (omega arith)
 
@@ -58,3 +62,21 @@ same_place a b = rw (level_mod a.tag, level_mod b.tag) (same_tag a.tag b.tag)
 pub same_parts : (a b : Place) → same_leaf (leaf_in a) (leaf_in b) ≡ ((b.tag == a.tag) && same_words a.word b.word)
 unfolding leaf_in
 same_parts a b = ap (λ (t : Bool). t && same_words a.word b.word) (sym (same_place a b))
+
+named_parts : (space first : ℕ) (o : Order) (p : Place) → space < 64 → p.tag ≡ (first * 64 + space) * 3 + level_of o
+    → (q : Place) → is_leaf space first o (leaf_in q) ≡ (q.tag == p.tag)
+unfolding leaf_in
+named_parts space first o p s t q =
+    let a = parts first space (level_of o) p.tag s (low_level o) t in
+    let at : order_at (p.tag % 3) ≡ o = ap order_at a.0 ∙ at-level o in
+    ap (λ (n : ℕ). is_leaf n first o (leaf_in q)) (sym a.1)
+    ∙ ap (λ (n : ℕ). is_leaf (p.tag / 3 % 64) n o (leaf_in q)) (sym a.2)
+    ∙ ap (λ (w : Order). is_leaf (p.tag / 3 % 64) (p.tag / 3 / 64) w (leaf_in q)) (sym at)
+    ∙ sym (same_place p q)
+
+-- a place of a tag has its space, first page and order
+pub named_place : (space first : ℕ) (o : Order) (p : Place) → first < 2 ^ 52 → space < 64 → p.tag ≡ (first * 64 + space) * 3 + level_of o → IsNamed space first o p
+named_place space first o p f s t = record {
+  solid = tag_solid first space (level_of o) p.tag f s (low_level o) t;
+  named = named_parts space first o p s t;
+}

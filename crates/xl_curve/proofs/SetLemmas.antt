@@ -1,7 +1,7 @@
 -- Each leaf is in its own set, so that what is looked for in one set is in no other.
 use Rattle.std.proofs.Common.{◌≡◌, ℕ, zero, suc, ◌+◌, ◌/◌, ◌%◌, ◌<◌, ◌≤◌, ◌==◌, Bool, true, false, ◌&&◌, ◌||◌, List, [], ◌∷◌, length, get_or, set, map, take, replicate, Option, None, Some, refl, sym, ◌∙◌, ap, subst, arith}
 use Rattle.std.proofs.lemmas.Bool.Decides.{nat_tests}
-use Rattle.std.proofs.lemmas.List.{length-map, length-set, get_or-set_same, get_or-set_other, get_or_default}
+use Rattle.std.proofs.lemmas.List.{length-map, length-set, get_or-set_same, get_or-set_other, get_or_default, set-get_or}
 use Rattle.std.proofs.Math.ListN.{get_or-map}
 use Rattle.std.specs.Cmp.{first_so, second_so}
 use Rattle.std.specs.List.{list_all}
@@ -13,7 +13,7 @@ use Rattle.xl_model.specs.Mapping.{covers, is_leaf}
 use Rattle.xl_model.specs.Tlb.{covers_as}
 use Rattle.xl_curve_model.proofs.SameLeafLemmas.{order_same}
 use Rattle.xl_curve.specs.Places.{IsThinned, vacated, shifted, hole_where, place_without}
-use Rattle.xl_curve.specs.Views.{set_of, with_removed, removed, is_placed, IsCurve}
+use Rattle.xl_curve.specs.Views.{set_of, with_removed, removed, is_placed, IsCurve, IsRemovedIn}
 
 -- ---- places that all pass a test
 
@@ -196,6 +196,17 @@ pub anywhere_removed : (stacks new : List (List (Option Leaf))) (k page : ℕ) (
     → new ≡ with_removed (λ x. covers_as x.space page o x) k stacks → new ≡ removed (λ x. covers_as x.space page o x) stacks
 anywhere_removed stacks new k page o kept e is =
     removed_there stacks new k (λ x. covers_as x.space page o x) kept (λ x aligned t. covering_set (length stacks) k x.space page o x e aligned t) is
+
+-- Nothing is removed from a set where no leaf meets the test.
+pub none_removed : (stacks : List (List (Option Leaf))) (k : ℕ) (d : List (Option Leaf)) (q : Leaf → Bool) → k < length stacks
+    → map (place_without q) (get_or stacks k d) ≡ get_or stacks k d → IsRemovedIn q k stacks stacks
+none_removed stacks k d q l same =
+    let own : get_or stacks k d ≡ get_or stacks k [] = get_or_default stacks k d [] l in
+    record {
+      is =
+          sym (set-get_or stacks k [])
+          ∙ ap (λ (x : List (Option Leaf)). set stacks k x) (sym own ∙ sym same ∙ ap (λ (x : List (Option Leaf)). map (place_without q) x) own);
+    }
 
 -- ---- one order after another
 

@@ -1,9 +1,11 @@
 -- A recency list with holes: one list of places that represents the lists of all widths.
-use Rattle.std.specs.Prelude.{◌≡◌, ℕ, zero, suc, ◌+◌, ◌/◌, ◌%◌, ◌==◌, Bool, ◌&&◌, true, false, not, if◌then◌else◌, List, [], ◌∷◌, map, Option, None, Some}
+use Rattle.std.specs.Prelude.{◌≡◌, ◌≢◌, ℕ, zero, suc, ◌+◌, ◌/◌, ◌%◌, ◌==◌, Bool, ◌&&◌, true, false, not, if◌then◌else◌, List, [], ◌∷◌, map, Option, None, Some}
 use Rattle.std.specs.List.{list_all}
+use Rattle.xl_model.specs.declared.address.Order.{Order}
 use Rattle.xl_model.specs.declared.leaf.Leaf.{Leaf}
 use Rattle.xl_model.specs.Addresses.{order_at}
 use Rattle.xl_model.specs.LeafWords.{perm_at}
+use Rattle.xl_model.specs.Mapping.{is_leaf}
 use Rattle.xl_model.specs.Ranges.{same_perm}
 use Rattle.xl_curve.specs.declared.place.Place.{Place}
 
@@ -37,6 +39,28 @@ place_of p = unless_vacant (is_vacant p) (leaf_in p)
 -- What some places have.
 abbrev pub places_of : List Place → List (Option Leaf)
 places_of places = map place_of places
+
+-- The mark of a place that is vacant, or has this tag.
+abbrev pub mark_unless : Bool → ℕ → ℕ
+mark_unless true tag = 255
+mark_unless false tag = tag % 251
+
+-- The mark of a place: places of the same leaf have the same, and a hole has another than any leaf.
+abbrev pub mark_of : Place → ℕ
+mark_of p = mark_unless (is_vacant p) p.tag
+
+-- These are the places' marks.
+abbrev pub AreMarks : List ℕ → List Place → Type 0
+AreMarks marks places = marks ≡ map mark_of places
+
+-- A mark is neither this one nor a hole's.
+abbrev pub IsOther : ℕ → ℕ → Type 0
+IsOther mark other = (other ≢ mark) × (other ≢ 255)
+
+-- A place's leaf has this space, first page and order: those of its tag.
+pub record IsNamed (space first : ℕ) (order : Order) (p : Place) : Type 0 where
+  pub solid : is_vacant p ≡ false
+  pub named : (q : Place) → is_leaf space first order (leaf_in q) ≡ (q.tag == p.tag)
 
 -- The recency list of a width: what the first places have, as many as the width says.
 abbrev pub held : {A : Type 0} → ℕ → List (Option A) → List A

@@ -8,9 +8,10 @@ ghost use Rattle.xl_curve_model.specs.Curves.{curve_accessed, curve_missed, curv
 ghost use Rattle.xl_recency.specs.Lists.{IsTest};
 ghost use Rattle.xl_tlb.specs.Arrays.{IsFit};
 
+use crate::kernel::WIDEST;
 use crate::place::Place;
 use crate::sets::{access_in, remove_from_each, set_of};
-use crate::stack::{Stack, WIDEST};
+use crate::stack::Stack;
 use std::alloc::Global;
 use std::marker::Model;
 use xl_model::{Leaf, NoMemory};
@@ -37,6 +38,7 @@ impl Model for Curve {
 }
 
 /// Counts a distance, where there is one.
+#[inline(always)]
 fn count(counts: &mut [u64], distance: Option<usize>)
     requires { IfSome distance (λ d. d < length counts.old) }
     ensures { counts.new ≡ counted distance counts.old }
@@ -95,7 +97,8 @@ impl Curve {
     }
 
     /// Looks for a leaf that covers the page of an access. An array that holds it is hit and touches it; else
-    /// the leaf is filled.
+    /// the leaf is filled. In line wherever it is called, so that a leaf is not put into memory on its way.
+    #[inline(always)]
     pub fn access(&mut self, leaf: Leaf)
         requires { IsFit leaf }
         ensures { self.new ≡ curve_accessed leaf self.old }

@@ -1,21 +1,60 @@
 //! The work on slices of places.
 
-ghost use Rattle.std.specs.Prelude.{◌≡◌, ◌<◌, ◌≤◌, ◌++◌, ◌∷◌, false, Some, take, drop, length, map, IfSome};
+ghost use Rattle.std.specs.Prelude.{◌≡◌, ℕ, ◌<◌, ◌≤◌, ◌++◌, ◌∷◌, true, false, Some, take, drop, length, map, slice_index, IfSome};
 ghost use Rattle.std.specs.Fn.{FnReturnsAt};
 ghost use Rattle.std.specs.List.{remove};
-ghost use Rattle.xl_curve.specs.Places.{IsSameOrHole, IsThinned, distance, further, gap, is_vacant, leaf_in, place_of, place_without, places_of, shifted, vacated};
+ghost use Rattle.xl_curve.specs.Places.{AreMarks, IsNamed, IsOther, IsSameOrHole, IsThinned, distance, further, gap, is_vacant, leaf_in, place_of, place_without, places_of, shifted, vacated};
 ghost use Rattle.xl_curve_model.specs.Curves.{same_leaf};
+ghost use Rattle.xl_model.specs.Mapping.{is_leaf};
+ghost use Rattle.xl_model.specs.declared.address.Order.{Order};
 ghost use Rattle.xl_recency.specs.Lists.{IsTest};
 
-use crate::place::{HOLE, Place};
+use crate::place::{HOLE, HOLE_MARK, Place};
 use xl_model::Leaf;
 
-/// The first place that is a hole or has the leaf.
-fn first_gap(places: &[Place], leaf: Place) -> Option<usize>
-    ensures place { result ≡ gap (same_leaf (leaf_in leaf)) (places_of places.now) }
-    ensures within { IfSome result (λ at. at < length places.now) }
+/// How many places there are: the greatest width.
+pub(crate) const WIDEST: usize = 64;
+
+/// The first place that has this mark or a hole's, or 64 where none has. All marks are looked at: a loop without a
+/// way out is done sixteen marks at a time.
+#[inline(always)]
+fn first_marked(marks: &[u8; WIDEST], mark: u8) -> u8
+    ensures passed { (k : ℕ) → k < result → IsOther mark (slice_index marks.now k) }
+    ensures within { result ≤ 64 }
 {
-    for at in 0..places.len() {
+    let mut first: u8 = 64;
+    for at in 0..64 {
+        let here = marks[at as usize];
+        let place = if here == mark || here == HOLE_MARK {
+            at
+        } else {
+            64
+        };
+        first = if place < first { place } else { first };
+    }
+    first
+}
+
+/// Whether no place has the leaf of a name, where that is soon told: neither its mark nor a hole's is there.
+#[inline(always)]
+pub(crate) fn lacks(marks: &[u8; WIDEST], _places: &[Place; WIDEST], named: Place) -> bool
+    requires { AreMarks marks.now _places.now }
+    ensures { (space first : ℕ) (o : Order) → IsNamed space first o named → result ≡ true
+        → map (place_without (is_leaf space first o)) (places_of _places.now)
+        ≡ places_of _places.now }
+{
+    first_marked(marks, named.mark()) == 64
+}
+
+/// The first place from `from` on that is a hole or has the leaf.
+#[inline(always)]
+fn gap_behind(places: &[Place; WIDEST], from: usize, leaf: Place) -> Option<usize>
+    requires { from ≤ 64 }
+    ensures place { result ≡
+        further from (gap (same_leaf (leaf_in leaf)) (drop from (places_of places.now))) }
+    ensures within { IfSome result (λ at. at < 64) }
+{
+    for at in from..WIDEST {
         if !places[at].gives_way(leaf) {
             return Some(at);
         }
@@ -23,65 +62,111 @@ fn first_gap(places: &[Place], leaf: Place) -> Option<usize>
     None
 }
 
-/// Makes a hole of the place of a leaf, if it is at `from` or behind. Gives where it was.
-fn vacate(places: &mut [Place], from: usize, leaf: Place) -> Option<usize>
+/// The first place that is a hole or has the leaf. Marks tell most of the places in front of it apart.
+#[inline(always)]
+fn first_gap(marks: &[u8; WIDEST], places: &[Place; WIDEST], leaf: Place) -> Option<usize>
     requires solid { is_vacant leaf ≡ false }
-    requires from { from ≤ length places.old }
+    requires marks { AreMarks marks.now places.now }
+    ensures place { result ≡ gap (same_leaf (leaf_in leaf)) (places_of places.now) }
+    ensures within { IfSome result (λ at. at < 64) }
+{
+    let from = first_marked(marks, leaf.mark());
+    gap_behind(places, from as usize, leaf)
+}
+
+/// Makes a hole of the place of a leaf, if it is at `from` or behind. Gives where it was.
+fn vacate(
+    marks: &mut [u8; WIDEST],
+    places: &mut [Place; WIDEST],
+    from: usize,
+    leaf: Place,
+) -> Option<usize>
+    requires from { from ≤ 64 }
+    requires solid { is_vacant leaf ≡ false }
+    requires marks { AreMarks marks.old places.old }
     ensures places { places_of places.new ≡ take from (places_of places.old)
         ++ vacated (same_leaf (leaf_in leaf)) (drop from (places_of places.old)) }
     ensures distance { result ≡
         further from (distance (same_leaf (leaf_in leaf)) (drop from (places_of places.old))) }
+    ensures marks { AreMarks marks.new places.new }
 {
-    for at in from..places.len() {
+    for at in from..WIDEST {
         if leaf.is_same(places[at]) {
             places[at] = HOLE;
+            marks[at] = HOLE_MARK;
             return Some(at);
         }
     }
     None
 }
 
-/// Puts a leaf in front. The places in front of `at` move on by one, over the one at `at`.
+/// Puts an item in front. The items in front of `at` move on by one, over the one at `at`.
 #[inline(always)]
-fn put_in_front(places: &mut [Place], at: usize, leaf: Place)
-    requires { at < length places.old }
-    ensures { places.new ≡ leaf ∷ remove places.old at }
+fn put_in_front<T: Copy>(items: &mut [T], at: usize, item: T)
+    requires { at < length items.old }
+    ensures { items.new ≡ item ∷ remove items.old at }
 {
-    places.copy_within(0..at, 1);
-    places[0] = leaf;
+    items.copy_within(0..at, 1);
+    items[0] = item;
+}
+
+/// Puts a leaf in front, and its mark. The places in front of `at` move on by one, over the one at `at`.
+#[inline(always)]
+fn put_leaf_in_front(marks: &mut [u8; WIDEST], places: &mut [Place; WIDEST], at: usize, leaf: Place)
+    requires within { at < 64 }
+    requires marks { AreMarks marks.old places.old }
+    ensures places { places.new ≡ leaf ∷ remove places.old at }
+    ensures marks { AreMarks marks.new places.new }
+{
+    put_in_front(marks, at, leaf.mark());
+    put_in_front(places, at, leaf);
 }
 
 /// Puts a leaf in front, where the first place that is a hole or has the leaf is at `at`. Behind a hole the
 /// leaf leaves one where it was. Gives the distance at which it was.
-fn close_gap(places: &mut [Place], at: usize, leaf: Place) -> Option<usize>
+#[inline(always)]
+fn close_gap(
+    marks: &mut [u8; WIDEST],
+    places: &mut [Place; WIDEST],
+    at: usize,
+    leaf: Place,
+) -> Option<usize>
+    requires within { at < 64 }
     requires solid { is_vacant leaf ≡ false }
-    requires within { at < length places.old }
     requires gap { gap (same_leaf (leaf_in leaf)) (places_of places.old) ≡ Some at }
+    requires marks { AreMarks marks.old places.old }
     ensures moved { places_of places.new ≡
         shifted (same_leaf (leaf_in leaf)) (leaf_in leaf) (places_of places.old) }
     ensures distance { result ≡ distance (same_leaf (leaf_in leaf)) (places_of places.old) }
+    ensures marks { AreMarks marks.new places.new }
 {
     let here = places[at];
-    put_in_front(places, at, leaf);
+    put_leaf_in_front(marks, places, at, leaf);
     if here.is_hole() {
-        return vacate(places, at + 1, leaf);
+        return vacate(marks, places, at + 1, leaf);
     }
     Some(at)
 }
 
 /// Puts a leaf in front, and gives the distance at which it was. The last place gives way, where none is a
 /// hole and none has the leaf.
-pub(crate) fn bring_in_front(places: &mut [Place], leaf: Place) -> Option<usize>
-    requires some { 0 < length places.old }
+#[inline(always)]
+pub(crate) fn bring_in_front(
+    marks: &mut [u8; WIDEST],
+    places: &mut [Place; WIDEST],
+    leaf: Place,
+) -> Option<usize>
     requires solid { is_vacant leaf ≡ false }
-    ensures moved { places_of places.new ≡ take (length places.old)
-        (shifted (same_leaf (leaf_in leaf)) (leaf_in leaf) (places_of places.old)) }
+    requires marks { AreMarks marks.old places.old }
+    ensures moved { places_of places.new ≡
+        take 64 (shifted (same_leaf (leaf_in leaf)) (leaf_in leaf) (places_of places.old)) }
     ensures distance { result ≡ distance (same_leaf (leaf_in leaf)) (places_of places.old) }
+    ensures marks { AreMarks marks.new places.new }
 {
-    match first_gap(places, leaf) {
-        Some(at) => close_gap(places, at, leaf),
+    match first_gap(marks, places, leaf) {
+        Some(at) => close_gap(marks, places, at, leaf),
         None => {
-            put_in_front(places, places.len() - 1, leaf);
+            put_leaf_in_front(marks, places, WIDEST - 1, leaf);
             None
         }
     }
@@ -104,14 +189,21 @@ fn without<P: Fn(&Leaf) -> bool>(place: Place, test: &P) -> Place
 }
 
 /// Makes a hole of each place whose leaf meets the test.
-pub(crate) fn vacate_where<P: Fn(&Leaf) -> bool>(places: &mut [Place], test: &P)
-    requires { P.IsAlwaysCallable test.now }
+pub(crate) fn vacate_where<P: Fn(&Leaf) -> bool>(
+    marks: &mut [u8; WIDEST],
+    places: &mut [Place; WIDEST],
+    test: &P,
+)
+    requires test { P.IsAlwaysCallable test.now }
+    requires marks { AreMarks marks.old places.old }
     ensures purged { (q : _) → IsTest (FnReturnsAt P.Fn test.now) q →
         places_of places.new ≡ map (place_without q) (places_of places.old) }
     ensures thinned { IsThinned (places_of places.old) (places_of places.new) }
-    ensures count { length places.new ≡ length places.old }
+    ensures marks { AreMarks marks.new places.new }
 {
-    for at in 0..places.len() {
-        places[at] = without(places[at], test);
+    for at in 0..WIDEST {
+        let place = without(places[at], test);
+        places[at] = place;
+        marks[at] = place.mark();
     }
 }

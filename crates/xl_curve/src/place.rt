@@ -1,7 +1,7 @@
 //! What a place of a list has: a leaf, or nothing.
 
-ghost use Rattle.std.specs.Prelude.{◌≡◌, true, false};
-ghost use Rattle.xl_curve.specs.Places.{gives_way as gives_way_to, is_vacant, leaf_in as leaf_kept, place_of, same_words};
+ghost use Rattle.std.specs.Prelude.{◌≡◌, ◌<◌, ◌^◌, true, false, IfSome};
+ghost use Rattle.xl_curve.specs.Places.{IsNamed, gives_way as gives_way_to, is_vacant, leaf_in as leaf_kept, mark_of, place_of, same_words};
 ghost use Rattle.xl_model.specs.Addresses.{order_at};
 ghost use Rattle.xl_tlb.specs.Arrays.{IsFit};
 ghost use Rattle.xl_curve_model.specs.Curves.{same_leaf};
@@ -22,6 +22,9 @@ pub(crate) const HOLE: Place = Place {
     tag: u64::MAX,
     word: 0,
 };
+
+/// The mark of a place with nothing in it. No leaf's place has it.
+pub(crate) const HOLE_MARK: u8 = 255;
 
 /// The order of a level.
 fn order_of(level: u64) -> Order
@@ -47,12 +50,21 @@ fn are_same_perms(perm: Perm, other: Perm) -> bool
 fn are_same_words(word: u64, other: u64) -> bool
     ensures { result ≡ same_words word other }
 {
-    other / 16 == word / 16 && are_same_perms(perm_of(word), perm_of(other))
+    other == word || (other / 16 == word / 16 && are_same_perms(perm_of(word), perm_of(other)))
+}
+
+/// Whether a place can have a leaf of this space that begins at this page.
+#[inline(always)]
+fn is_kept(space: u16, first: u64) -> bool
+    ensures space { result ≡ true → space < 64 }
+    ensures first { result ≡ true → first < 2 ^ 52 }
+{
+    space < 64 && first < 1 << 52
 }
 
 impl Place {
     /// The place of a leaf.
-    #[inline]
+    #[inline(always)]
     pub fn of(leaf: Leaf) -> Place
         requires { IsFit leaf }
         ensures solid { is_vacant result ≡ false }
@@ -64,12 +76,38 @@ impl Place {
         }
     }
 
+    /// A place whose leaf has this space, first page and order, where a place can have them.
+    #[inline(always)]
+    pub fn named(space: u16, first: u64, order: Order) -> Option<Place>
+        ensures { IfSome result (IsNamed space first order) }
+    {
+        if !is_kept(space, first) {
+            return None;
+        }
+        Some(Place {
+            tag: (first * 64 + space as u64) * 3 + order.level() as u64,
+            word: 0,
+        })
+    }
+
     /// Whether the place is a hole.
     #[inline(always)]
     pub fn is_hole(self) -> bool
         ensures { result ≡ is_vacant self }
     {
         self.tag == u64::MAX
+    }
+
+    /// The mark of the place, a byte that tells most leaves apart, so that many places are looked at together. By
+    /// a prime the marks of neighbouring pages differ, also where they are every so many pages.
+    #[inline(always)]
+    pub fn mark(self) -> u8
+        ensures { result ≡ mark_of self }
+    {
+        if self.is_hole() {
+            return HOLE_MARK;
+        }
+        (self.tag % 251) as u8
     }
 
     /// The leaf of the place, where it has one.

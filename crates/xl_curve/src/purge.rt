@@ -30,11 +30,14 @@ fn is_covering(leaf: &Leaf, space: u16, page: u64, order: Order) -> bool
         && page - leaf.first < leaf.order.pages()
 }
 
-/// Removes the leaf of this space, first page and order from one set.
+/// Removes the leaf of this space, first page and order from one set. Mostly it isn't there.
 fn remove_named_in(stacks: &mut [Stack], set: usize, space: u16, first: u64, order: Order)
     requires { set < length stacks.old }
     ensures { IsRemovedIn (is_leaf space first order) set stacks.old stacks.new }
 {
+    if stacks[set].lacks(space, first, order) {
+        return;
+    }
     remove_in(stacks, set, |leaf| is_named(leaf, space, first, order));
 }
 

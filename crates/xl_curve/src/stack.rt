@@ -1,33 +1,34 @@
 //! The list of places of one set.
 
-ghost use Rattle.std.specs.Prelude.{◌≡◌, ◌<◌, false, None, map, replicate, take, IfSome};
+ghost use Rattle.std.specs.Prelude.{◌≡◌, ◌<◌, true, false, None, map, replicate, take, IfSome};
 ghost use Rattle.std.specs.Fn.{FnReturnsAt};
 ghost use Rattle.xl_curve.specs.Places.{IsThinned, distance, is_vacant, leaf_in, place_without, shifted};
 ghost use Rattle.xl_curve_model.specs.Curves.{same_leaf};
+ghost use Rattle.xl_model.specs.Mapping.{is_leaf};
 ghost use Rattle.xl_recency.specs.Lists.{IsTest};
 
-use crate::kernel::{bring_in_front, vacate_where};
-use crate::place::{HOLE, Place};
+use crate::kernel::{WIDEST, bring_in_front, lacks, vacate_where};
+use crate::place::{HOLE, HOLE_MARK, Place};
 use std::marker::Model;
-use xl_model::Leaf;
-
-/// The greatest width, and the number of places of a set.
-pub(crate) const WIDEST: usize = 64;
+use xl_model::{Leaf, Order};
 
 /// A recency list of 64 places, of which some are holes. Contracts see what each place has, the newest first.
 #[derive(Drop)]
 pub(crate) struct Stack {
+    marks: [u8; WIDEST],
     places: [Place; WIDEST],
 }
 
 impl Model for Stack {
     ghost use Rattle.std.specs.Prelude.{List, Option};
     ghost use Rattle.xl_model.specs.declared.leaf.Leaf.{Leaf};
-    ghost use Rattle.xl_curve.specs.Places.{places_of};
+    ghost use Rattle.xl_curve.specs.Places.{AreMarks, places_of};
 
     ghost Value = { List (Option Leaf) };
 
     ghost view = { λ s. places_of s.places };
+
+    ghost invariant = { λ s. AreMarks s.marks s.places };
 }
 
 impl Stack {
@@ -37,12 +38,14 @@ impl Stack {
         ensures { result ≡ replicate 64 None }
     {
         Stack {
+            marks: [HOLE_MARK; WIDEST],
             places: [HOLE; WIDEST],
         }
     }
 
     /// Puts a leaf in front, and gives the distance at which it was. The last place gives way, where none is a
     /// hole and none has the leaf.
+    #[inline(always)]
     pub fn access(&mut self, leaf: Place) -> Option<usize>
         requires { is_vacant leaf ≡ false }
         ensures moved { self.new ≡
@@ -50,7 +53,18 @@ impl Stack {
         ensures distance { result ≡ distance (same_leaf (leaf_in leaf)) self.old }
         ensures below { IfSome result (λ d. d < 64) }
     {
-        bring_in_front(&mut self.places, leaf)
+        bring_in_front(&mut self.marks, &mut self.places, leaf)
+    }
+
+    /// Whether no place has the leaf of this space, first page and order, as its mark soon tells.
+    #[inline(always)]
+    pub fn lacks(&self, space: u16, first: u64, order: Order) -> bool
+        ensures { result ≡ true → map (place_without (is_leaf space first order)) self.now ≡ self.now }
+    {
+        match Place::named(space, first, order) {
+            Some(named) => lacks(&self.marks, &self.places, named),
+            None => false,
+        }
     }
 
     /// Removes the leaves that meet the test. They leave holes.
@@ -60,6 +74,6 @@ impl Stack {
             self.new ≡ map (place_without q) self.old }
         ensures thinned { IsThinned self.old self.new }
     {
-        vacate_where(&mut self.places, test);
+        vacate_where(&mut self.marks, &mut self.places, test);
     }
 }

@@ -16,6 +16,7 @@ use Rattle.xl_model.specs.declared.event.Reach.{Reach}
 use Rattle.xl_model.specs.declared.event.Refusal.{Refusal}
 use Rattle.xl_model.specs.declared.row.Counts.{Counts}
 use Rattle.xl_model.specs.declared.row.Purge.{Purge}
+use Rattle.xl_model.specs.declared.row.TlbSpec.{TlbSpec}
 use Rattle.xl_model.specs.declared.script.Area.{Area}
 use Rattle.xl_model.specs.declared.script.Item.{Item}
 use Rattle.xl_model.specs.declared.script.Item.TheVariants.{Command, Declared, Referenced}
@@ -34,7 +35,7 @@ use Rattle.xl_model.specs.Shapes.{Shape, brought, widened, shape_after}
 use Rattle.xl_model.specs.Structures.{TableState, Verdict, Made, NoSpace, NoPlace, verdict_by, finds_place, verdict, answer_by, after_by, table_made, table_answer, table_after, table_walked, table_fenced}
 use Rattle.xl_model.specs.Tally.{no_counts, count_refusal, count_reply, count_walk, count_fills, count_look, count_work, count_accepted, count_invalidated, count_fence}
 use Rattle.std.specs.Cmp.{second_so}
-use Rattle.xl_model.specs.Tlb.{takes_order, filled_where, covers_as, set_at, set_number, TlbArray, Answer, answer_of, array_hit, array_touched, arrays_hit, array_filled, arrays_filled, array_without, arrays_without, is_purged, reaches_leaf, opening_arrays}
+use Rattle.xl_model.specs.Tlb.{takes_order, filled_where, covers_as, set_at, set_number, TlbArray, serves_as, serves_kind, Answer, answer_of, array_hit, array_touched, arrays_hit, array_filled, arrays_filled, array_without, arrays_without, is_purged, reaches_leaf, opening_arrays}
 use Rattle.xl_model_lemmas.specs.Fresh.{ArraysFresh}
 use Rattle.xl_model_lemmas.specs.Members.{In}
 use Rattle.xl_model_lemmas.proofs.CoverLemmas.{covered-is, found-leaf}
@@ -164,14 +165,15 @@ module _ (sets width : ℕ) (row : Row) where
 
 -- ---- an access
 
-looked-table : (answer : Option Answer) (page : ℕ) (s : RowState)
-    → ((looked_by answer page s).table.leaves ≡ s.table.leaves) × ((looked_by answer page s).table.shape ≡ s.table.shape) × ((looked_by answer page s).space ≡ s.space)
+looked-table : (kind : Kind) (answer : Option Answer) (page : ℕ) (s : RowState)
+    → ((looked_by kind answer page s).table.leaves ≡ s.table.leaves) × ((looked_by kind answer page s).table.shape ≡ s.table.shape)
+    × ((looked_by kind answer page s).space ≡ s.space)
 unfolding table_walked
-looked-table (Some answer) page s = (refl, refl, refl)
-looked-table None page s = go (leaf_at_page s.space page s.table.leaves) _ refl refl refl
+looked-table kind (Some answer) page s = (refl, refl, refl)
+looked-table kind None page s = go (leaf_at_page s.space page s.table.leaves) _ refl refl refl
   where
     go : (found : Option Leaf) (t : RowState) → t.table.leaves ≡ s.table.leaves → t.table.shape ≡ s.table.shape → t.space ≡ s.space
-        → ((walk_filled found t).table.leaves ≡ s.table.leaves) × ((walk_filled found t).table.shape ≡ s.table.shape) × ((walk_filled found t).space ≡ s.space)
+        → ((walk_filled kind found t).table.leaves ≡ s.table.leaves) × ((walk_filled kind found t).table.shape ≡ s.table.shape) × ((walk_filled kind found t).space ≡ s.space)
     go None t l p q = (l, p, q)
     go (Some leaf) t l p q = (l, p, q)
 
@@ -179,19 +181,20 @@ same-level : (n : ℕ) → nat_le n n ≡ true
 same-level n = grind (arith, nat_tests)
 
 -- An array alone that is hit.
-single-hit : (a : TlbArray) (x : Leaf) (page : ℕ) (s : RowState) (h : ℕ) (hs : List ℕ) → s.arrays ≡ a ∷ [] → s.counts.hits ≡ h ∷ hs → array_hit a s.space page ≡ Some x
-    → ((looked page s).arrays ≡ array_touched s.space page x a ∷ []) × ((looked page s).counts.hits ≡ plus h 1 ∷ hs)
+single-hit : (a : TlbArray) (x : Leaf) (kind : Kind) (page : ℕ) (s : RowState) (h : ℕ) (hs : List ℕ) → serves_kind kind a ≡ true → s.arrays ≡ a ∷ [] → s.counts.hits ≡ h ∷ hs
+    → array_hit a s.space page ≡ Some x → ((looked kind page s).arrays ≡ array_touched s.space page x a ∷ []) × ((looked kind page s).counts.hits ≡ plus h 1 ∷ hs)
 unfolding looked arrays_hit count_look count_fills
-single-hit a x page s h hs one n is = rw (one, n, is) (rw is (refl, rw (same-level a.spec.level) refl))
+single-hit a x kind page s h hs all one n is = rw (one, n, all, is) (rw (all, is) (refl, rw (same-level a.spec.level) refl))
 
 -- One that is missed.
-single-miss : (a : TlbArray) (page : ℕ) (s : RowState) (h : ℕ) (hs : List ℕ) → s.arrays ≡ a ∷ [] → s.counts.hits ≡ h ∷ hs → array_hit a s.space page ≡ None
-    → ((leaf_at_page s.space page s.table.leaves ≡ None) → ((looked page s).arrays ≡ a ∷ []) × ((looked page s).counts.hits ≡ h ∷ hs))
-    × ((leaf : Leaf) → (leaf_at_page s.space page s.table.leaves ≡ Some leaf) → ((looked page s).arrays ≡ array_filled leaf a ∷ []) × ((looked page s).counts.hits ≡ h ∷ hs))
+single-miss : (a : TlbArray) (kind : Kind) (page : ℕ) (s : RowState) (h : ℕ) (hs : List ℕ) → serves_kind kind a ≡ true → s.arrays ≡ a ∷ [] → s.counts.hits ≡ h ∷ hs
+    → array_hit a s.space page ≡ None
+    → ((leaf_at_page s.space page s.table.leaves ≡ None) → ((looked kind page s).arrays ≡ a ∷ []) × ((looked kind page s).counts.hits ≡ h ∷ hs))
+    × ((leaf : Leaf) → (leaf_at_page s.space page s.table.leaves ≡ Some leaf) → ((looked kind page s).arrays ≡ array_filled leaf a ∷ []) × ((looked kind page s).counts.hits ≡ h ∷ hs))
 unfolding looked count_look count_fills count_walk arrays_filled
-single-miss a page s h hs one n is = (
-  λ none. rw (one, n, is) (rw none (refl, rw is refl)),
-  λ leaf some. rw (one, n, is) (rw some (refl, rw is refl)),
+single-miss a kind page s h hs all one n is = (
+  λ none. rw (one, n, all, is) (rw none (refl, rw (all, is) refl)),
+  λ leaf some. rw (one, n, all, is) (rw (some, all) (refl, rw is refl)),
 )
 
 filled-spec : (leaf : Leaf) (a : TlbArray) → (array_filled leaf a).spec ≡ a.spec
@@ -218,11 +221,11 @@ module _ (sets width : ℕ) (row : Row) where
   abbrev single-row : Row
   single-row = with_array sets width row
 
-  looked-beside : (page : ℕ) (s u : RowState) (c : HitCurve) → Kept single-row s → Beside sets width s u c
-      → Beside sets width (looked page s) (looked page u) (curve_looked (leaf_at_page u.space page u.table.leaves) c)
+  looked-beside : (kind : Kind) (page : ℕ) (s u : RowState) (c : HitCurve) → Kept single-row s → Beside sets width s u c
+      → Beside sets width (looked kind page s) (looked kind page u) (curve_looked (leaf_at_page u.space page u.table.leaves) c)
   unfolding looked
-  looked-beside page s u c k b =
-      subst (λ (m : Option Leaf). Beside sets width (looked page s) (looked page u) (curve_looked m c)) found-same
+  looked-beside kind page s u c k b =
+      subst (λ (m : Option Leaf). Beside sets width (looked kind page s) (looked kind page u) (curve_looked m c)) found-same
       (go (array_hit b.point.array s.space page) (leaf_at_page s.space page s.table.leaves) refl refl)
     where
       found-same : leaf_at_page s.space page s.table.leaves ≡ leaf_at_page u.space page u.table.leaves
@@ -234,23 +237,26 @@ module _ (sets width : ℕ) (row : Row) where
       all : TakesAll b.point.array
       all = takes-all b.point.array sets width b.spec
 
-      leaves : (looked page s).table.leaves ≡ (looked page u).table.leaves
-      leaves = (looked-table (answer_of s.arrays s.space page) page s).0 ∙ b.leaves ∙ sym (looked-table (answer_of u.arrays u.space page) page u).0
+      serves : serves_kind kind b.point.array ≡ true
+      serves = ap (λ (t : TlbSpec). serves_as t.serves kind) b.spec
 
-      shape : (looked page s).table.shape ≡ (looked page u).table.shape
-      shape = (looked-table (answer_of s.arrays s.space page) page s).1 ∙ b.shape ∙ sym (looked-table (answer_of u.arrays u.space page) page u).1
+      leaves : (looked kind page s).table.leaves ≡ (looked kind page u).table.leaves
+      leaves = (looked-table kind (answer_of kind s.arrays s.space page) page s).0 ∙ b.leaves ∙ sym (looked-table kind (answer_of kind u.arrays u.space page) page u).0
 
-      space : (looked page s).space ≡ (looked page u).space
-      space = (looked-table (answer_of s.arrays s.space page) page s).2 ∙ b.space ∙ sym (looked-table (answer_of u.arrays u.space page) page u).2
+      shape : (looked kind page s).table.shape ≡ (looked kind page u).table.shape
+      shape = (looked-table kind (answer_of kind s.arrays s.space page) page s).1 ∙ b.shape ∙ sym (looked-table kind (answer_of kind u.arrays u.space page) page u).1
 
-      hit : (x : Leaf) → array_hit b.point.array s.space page ≡ Some x → Beside sets width (looked page s) (looked page u) (curve_looked (leaf_at_page s.space page s.table.leaves) c)
+      space : (looked kind page s).space ≡ (looked kind page u).space
+      space = (looked-table kind (answer_of kind s.arrays s.space page) page s).2 ∙ b.space ∙ sym (looked-table kind (answer_of kind u.arrays u.space page) page u).2
+
+      hit : (x : Leaf) → array_hit b.point.array s.space page ≡ Some x → Beside sets width (looked kind page s) (looked kind page u) (curve_looked (leaf_at_page s.space page s.table.leaves) c)
       hit x is =
           let own : find (covers_as s.space page x.order) (set_at b.point.array x.order page) ≡ Some x = hit-own b.point.array s.space page x all is in
           let t : covers s.space page x ≡ true = second_so (same_order x.order x.order) (covers s.space page x) (find-passes (covers_as s.space page x.order) x (set_at b.point.array x.order page) own) in
           let i : In x s.table.leaves = fresh x (inl (get-In x b.point.array.sets (set_number b.point.array.spec x.order page) (find-In (covers_as s.space page x.order) x (set_at b.point.array x.order page) own))) in
           let there : leaf_at_page s.space page s.table.leaves ≡ Some x = covered-is single-row s.table.leaves s.space page x k.mapping i t in
           let held : held_in x b.point.array ≡ Some x = hit-held single-row s.table.leaves b.point.array s.space page x k.mapping fresh i t own in
-          let after = single-hit b.point.array x page s b.point.hits b.others b.arrays b.hits is in
+          let after = single-hit b.point.array x kind page s b.point.hits b.others serves b.arrays b.hits is in
           let new : Point = record { array = array_touched s.space page x b.point.array; hits = plus b.point.hits 1 } in
           let is_new : point_accessed x b.point ≡ new =
           rw held (ap (λ (z : TlbArray). let p : Point = record { array = z; hits = plus b.point.hits 1 } in p) (hit-touched single-row s.table.leaves b.point.array s.space page x k.mapping fresh i t)) in
@@ -268,9 +274,9 @@ module _ (sets width : ℕ) (row : Row) where
           })
 
       none : array_hit b.point.array s.space page ≡ None → leaf_at_page s.space page s.table.leaves ≡ None
-          → Beside sets width (looked page s) (looked page u) (curve_looked (leaf_at_page s.space page s.table.leaves) c)
+          → Beside sets width (looked kind page s) (looked kind page u) (curve_looked (leaf_at_page s.space page s.table.leaves) c)
       none is absent =
-          let after = (single-miss b.point.array page s b.point.hits b.others b.arrays b.hits is).0 absent in
+          let after = (single-miss b.point.array kind page s b.point.hits b.others serves b.arrays b.hits is).0 absent in
           rw absent (record {
             point = b.point;
             others = b.others;
@@ -284,10 +290,10 @@ module _ (sets width : ℕ) (row : Row) where
           })
 
       miss : (x : Leaf) → array_hit b.point.array s.space page ≡ None → leaf_at_page s.space page s.table.leaves ≡ Some x
-          → Beside sets width (looked page s) (looked page u) (curve_looked (leaf_at_page s.space page s.table.leaves) c)
+          → Beside sets width (looked kind page s) (looked kind page u) (curve_looked (leaf_at_page s.space page s.table.leaves) c)
       miss x is there =
           let found = found-leaf single-row s.space page s.table.leaves k.mapping x there in
-          let after = (single-miss b.point.array page s b.point.hits b.others b.arrays b.hits is).1 x there in
+          let after = (single-miss b.point.array kind page s b.point.hits b.others serves b.arrays b.hits is).1 x there in
           let held : held_in x b.point.array ≡ None = miss-held single-row s.table.leaves b.point.array s.space page x k.mapping fresh found.member found.covers_page (miss-each b.point.array s.space page x.order all is) in
           let new : Point = record { array = array_filled x b.point.array; hits = b.point.hits } in
           let is_new : point_accessed x b.point ≡ new = rw held refl in
@@ -305,7 +311,7 @@ module _ (sets width : ℕ) (row : Row) where
           })
 
       go : (o m : Option Leaf) → array_hit b.point.array s.space page ≡ o → leaf_at_page s.space page s.table.leaves ≡ m
-          → Beside sets width (looked page s) (looked page u) (curve_looked (leaf_at_page s.space page s.table.leaves) c)
+          → Beside sets width (looked kind page s) (looked kind page u) (curve_looked (leaf_at_page s.space page s.table.leaves) c)
       go (Some x) m is there = hit x is
       go None None is there = none is there
       go None (Some x) is there = miss x is there
@@ -336,19 +342,19 @@ module _ (sets width : ℕ) (row : Row) where
     spec = b.spec;
   }
 
-  where-beside : (canonical : Bool) (page : ℕ) (s u : RowState) (c : HitCurve) → Kept its-row s → Beside sets width s u c
-      → Beside sets width (looked_where canonical page s) (looked_where canonical page u) (curve_looked_where canonical (leaf_at_page u.space page u.table.leaves) c)
-  where-beside true page s u c k b = looked-beside sets width row page s u c k b
-  where-beside false page s u c k b = b
+  where-beside : (canonical : Bool) (kind : Kind) (page : ℕ) (s u : RowState) (c : HitCurve) → Kept its-row s → Beside sets width s u c
+      → Beside sets width (looked_where canonical kind page s) (looked_where canonical kind page u) (curve_looked_where canonical (leaf_at_page u.space page u.table.leaves) c)
+  where-beside true kind page s u c k b = looked-beside sets width row kind page s u c k b
+  where-beside false kind page s u c k b = b
 
   accessed-beside : (va : ℕ) (kind : Kind) (s u : RowState) (c : HitCurve) → Kept its-row s → Beside sets width s u c
       → Beside sets width (accessed its-row va kind s) (accessed row va kind u)
       (curve_looked_where (is_canonical row.mode va) (leaf_at_page u.space (page_of row.mode va) u.table.leaves) c)
   unfolding accessed
   accessed-beside va kind s u c k b =
-      replied-beside (looked_where (is_canonical row.mode va) (page_of row.mode va) s) (looked_where (is_canonical row.mode va) (page_of row.mode va) u) _ _ _
-      (reply-hits (reply_to its-row s va kind) va (looked_where (is_canonical row.mode va) (page_of row.mode va) s).counts)
-      (where-beside (is_canonical row.mode va) (page_of row.mode va) s u c k b)
+      replied-beside (looked_where (is_canonical row.mode va) kind (page_of row.mode va) s) (looked_where (is_canonical row.mode va) kind (page_of row.mode va) u) _ _ _
+      (reply-hits (reply_to its-row s va kind) va (looked_where (is_canonical row.mode va) kind (page_of row.mode va) s).counts)
+      (where-beside (is_canonical row.mode va) kind (page_of row.mode va) s u c k b)
 
   rule-same : (e : Event) (xs ys : List Leaf) → xs ≡ ys → rule its-row xs e ≡ rule row ys e
   unfolding rule

@@ -22,7 +22,7 @@ pub fn write_curve<K: Sink>(
     lookups: u64,
     hits: &[u64; 64],
 ) -> Result<(), Failed>
-    ensures { SinkAfter K.taken K.outside K.roomy
+    ensures { SinkAfter K.sink
         (curve_line row.now.name.bytes sets lookups hits.now) out.old out.new (is_ok result) }
 {
     let mut line = Line::<1536>::new();

@@ -3,6 +3,7 @@
 use Rattle.std.specs.Prelude.{ℕ, ◌-◌, ◌==◌, Bool, true, ◌&&◌, List, find, map, slice_index_or, Option, None, Some}
 use Rattle.std.specs.List.{range_with_len}
 use Rattle.xl_model.specs.declared.leaf.Leaf.{Leaf}
+use Rattle.xl_model.specs.declared.row.Serves.TheVariants as serves
 use Rattle.xl_model.specs.declared.row.TlbSpec.{TlbSpec}
 use Rattle.xl_model.specs.Base.{plus}
 use Rattle.xl_model.specs.Mapping.{is_leaf}
@@ -61,7 +62,7 @@ curve_without q c = record c { points = map (point_without q) c.points }
 
 -- The array of a width: at level 1, of all orders.
 abbrev pub spec_of_width : ℕ → ℕ → TlbSpec
-spec_of_width sets width = record { level = 1; sets = sets; width = width; k4 = true; m2 = true; g1 = true }
+spec_of_width sets width = record { level = 1; sets = sets; width = width; k4 = true; m2 = true; g1 = true; serves = serves.All }
 
 -- The point of a width, before any look-up.
 abbrev pub opening_point : ℕ → ℕ → Point

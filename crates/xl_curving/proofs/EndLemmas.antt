@@ -8,7 +8,7 @@ use Rattle.xl_model.specs.declared.script.Item.{Item}
 use Rattle.xl_model.specs.Courses.{Accesses, Trail, at_end}
 use Rattle.xl_model.specs.Scenes.{Served, Scene}
 use Rattle.xl_lackey.specs.declared.skim.Access.{Access}
-use Rattle.xl_outside.specs.Sinks.{Outside, SinkAfter}
+use Rattle.xl_outside.specs.Sinks.{SinkMeaning, SinkAfter}
 use Rattle.xl_outside.proofs.SinkLemmas.{sink_same}
 use Rattle.xl_course.specs.declared.form.Step.{Step}
 use Rattle.xl_course.specs.declared.form.Step.TheVariants as step
@@ -30,11 +30,11 @@ told-nothing true (i ∷ items) s = told-nothing true items (curve_scene_after i
 told-nothing false (i ∷ items) s = told-nothing false items (curve_scene_after i s)
 
 -- items were served
-pub served : {K : Type 0} (taken : K → Option (List ℕ)) (outside : K → Outside) (roomy : K → ℕ → Type 0) (answers : Bool) (items : List Item) (p q : CurveScene) (k : K)
-    → q ≡ states_after curved items p → HasServed curved taken outside roomy answers items p q k k true
-served taken outside roomy answers items p q k e = record {
+pub served : {K : Type 0} (sink : SinkMeaning K) (answers : Bool) (items : List Item) (p q : CurveScene) (k : K)
+    → q ≡ states_after curved items p → HasServed curved sink answers items p q k k true
+served sink answers items p q k e = record {
   state_is = e;
-  writes = subst (λ (text : List ℕ). SinkAfter taken outside roomy text k k true) (sym (told-nothing answers items p)) (sink_same taken outside roomy k);
+  writes = subst (λ (text : List ℕ). SinkAfter sink text k k true) (sym (told-nothing answers items p)) (sink_same sink k);
 }
 
 -- the state of a form of which nothing waits and nothing is declared

@@ -3,7 +3,7 @@ use Rattle.std.proofs.Common.{◌≡◌, refl, sym, ap, ◌∙◌, subst, ℕ, z
 use Rattle.std.specs.Prelude.{Option, None, Some, IfSome, slice_get, slice_index_or}
 use Rattle.xl_model.specs.Rows.{Row}
 use Rattle.xl_model.specs.Scenes.{Served}
-use Rattle.xl_outside.specs.Sinks.{Outside, SinkAfter}
+use Rattle.xl_outside.specs.Sinks.{SinkMeaning, SinkAfter}
 use Rattle.xl_outside.proofs.SinkLemmas.{sink_then, sink_cut}
 use Rattle.xl_curve_model.specs.Curves.{HitCurve}
 use Rattle.xl_curve_model.specs.CurveLines.{line_of}
@@ -77,28 +77,28 @@ nth-is [] i x h e = absurd (omega arith)
 nth-is (y ∷ xs) zero x h e = ap Some (sym e)
 nth-is (y ∷ xs) (suc i) x h e = nth-is xs i x (omega arith) e
 
-module _ {K : Type 0} (taken : K → Option (List ℕ)) (outside : K → Outside) (roomy : K → ℕ → Type 0) where
+module _ {K : Type 0} (sink : SinkMeaning K) where
   -- one line more was written, or a put failed in it
   pub line-written : (sets i : ℕ) (rows : List Served) (curves : List HitCurve) (row : Row) (c : HitCurve) (k l m : K) (whole : Bool) → i < length rows
-      → IfSome (slice_get rows i) (λ v. row ≡ v.row) → slice_get curves i ≡ Some c → SinkAfter taken outside roomy (curve_lines sets (take i rows) curves) k l true
-      → SinkAfter taken outside roomy (line_of row.name sets c) l m whole → SinkAfter taken outside roomy (curve_lines sets (take (i + 1) rows) curves) k m whole
+      → IfSome (slice_get rows i) (λ v. row ≡ v.row) → slice_get curves i ≡ Some c → SinkAfter sink (curve_lines sets (take i rows) curves) k l true
+      → SinkAfter sink (line_of row.name sets c) l m whole → SinkAfter sink (curve_lines sets (take (i + 1) rows) curves) k m whole
   line-written sets i rows curves row c k l m whole h named at first next =
       let (v, e) = nth rows i h in
       let same : row ≡ v.row = some-of (slice_get rows i) (λ (w : Served). row ≡ w.row) v named e in
-      let P : List ℕ → Type 0 = λ t. SinkAfter taken outside roomy t k m whole in
+      let P : List ℕ → Type 0 = λ t. SinkAfter sink t k m whole in
       let line = line_of v.row.name sets c in
-      let second : SinkAfter taken outside roomy line l m whole = subst (λ (r : Row). SinkAfter taken outside roomy (line_of r.name sets c) l m whole) same next in
-      subst P (sym (lines-next sets i rows curves v c e at)) (sink_then taken outside roomy (curve_lines sets (take i rows) curves) line k l m whole first second)
+      let second : SinkAfter sink line l m whole = subst (λ (r : Row). SinkAfter sink (line_of r.name sets c) l m whole) same next in
+      subst P (sym (lines-next sets i rows curves v c e at)) (sink_then sink (curve_lines sets (take i rows) curves) line k l m whole first second)
 
   -- a put failed in the lines of the first rows
-  pub lines-cut : (sets i : ℕ) (rows : List Served) (curves : List HitCurve) (k l : K) → SinkAfter taken outside roomy (curve_lines sets (take i rows) curves) k l false
-      → SinkAfter taken outside roomy (curve_lines sets rows curves) k l false
+  pub lines-cut : (sets i : ℕ) (rows : List Served) (curves : List HitCurve) (k l : K) → SinkAfter sink (curve_lines sets (take i rows) curves) k l false
+      → SinkAfter sink (curve_lines sets rows curves) k l false
   lines-cut sets i rows curves k l first =
-      let P : List ℕ → Type 0 = λ t. SinkAfter taken outside roomy t k l false in
-      subst P (sym (lines-parts sets i rows curves)) (sink_cut taken outside roomy (curve_lines sets (take i rows) curves) (curve_lines sets (drop i rows) (drop i curves)) k l first)
+      let P : List ℕ → Type 0 = λ t. SinkAfter sink t k l false in
+      subst P (sym (lines-parts sets i rows curves)) (sink_cut sink (curve_lines sets (take i rows) curves) (curve_lines sets (drop i rows) (drop i curves)) k l first)
 
   -- all lines were written
   pub lines-written : (sets i : ℕ) (rows : List Served) (curves : List HitCurve) (k l : K) → (length rows ≤ i) ⊎ (length curves ≤ i)
-      → SinkAfter taken outside roomy (curve_lines sets (take i rows) curves) k l true → SinkAfter taken outside roomy (curve_lines sets rows curves) k l true
-  lines-written sets i rows curves k l (inl h) first = subst (λ (t : List ℕ). SinkAfter taken outside roomy t k l true) (lines-all sets i rows curves h) first
-  lines-written sets i rows curves k l (inr h) first = subst (λ (t : List ℕ). SinkAfter taken outside roomy t k l true) (lines-of-all sets i rows curves h) first
+      → SinkAfter sink (curve_lines sets (take i rows) curves) k l true → SinkAfter sink (curve_lines sets rows curves) k l true
+  lines-written sets i rows curves k l (inl h) first = subst (λ (t : List ℕ). SinkAfter sink t k l true) (lines-all sets i rows curves h) first
+  lines-written sets i rows curves k l (inr h) first = subst (λ (t : List ℕ). SinkAfter sink t k l true) (lines-of-all sets i rows curves h) first

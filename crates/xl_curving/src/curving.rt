@@ -217,7 +217,7 @@ fn write_curves<K: Sink>(
     sets: u32,
     out: &mut K,
 ) -> Result<(), Failed>
-    ensures { SinkAfter K.taken K.outside K.roomy (curve_lines sets rack.now curves.now)
+    ensures { SinkAfter K.sink (curve_lines sets rack.now curves.now)
         out.old out.new (is_ok result) }
 {
     for i in 0..curves.len() {

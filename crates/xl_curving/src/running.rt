@@ -47,14 +47,15 @@ pub fn report<F: Folder, K: Sink>(
     requires some { 0 < words.now.sets }
     requires most { words.now.sets ≤ 256 }
     requires none { rows.old ≡ [] }
-    requires flushed { IsFlushed K.taken K.outside out.old }
-    ensures told { IfSome (F.files folder.old) (λ fs.
+    requires flushed { IsFlushed K.sink out.old }
+    ensures told { IfSome (F.folder.files folder.old) (λ fs.
         Ends result (curve_account (curve_of words.now) fs)
-        K.roomy (K.outside out.old).written (K.outside out.new).written out.old out.new
+        K.sink.roomy (K.sink.outside out.old).written (K.sink.outside out.new).written
+        out.old out.new
         (rows.new ≡ curve_rows (curve_of words.now) fs)) }
-    ensures leaves { FolderLeft F.files F.faults F.absences F.steady folder.old folder.new
+    ensures leaves { FolderLeft F.folder folder.old folder.new
         (status_by result) }
-    ensures goes_on { GoesOn (is_all_put result) (K.outside out.old) (K.outside out.new) }
+    ensures goes_on { GoesOn (is_all_put result) (K.sink.outside out.old) (K.sink.outside out.new) }
     ensures met { IfErr result StopsRun }
 {
     let plain = plain_words(words);
@@ -70,7 +71,8 @@ pub fn report<F: Folder, K: Sink>(
 }
 
 /// Serves the script over the trace that the words name, and writes the curves. Where they name none,
-/// the trace has no records.
+/// the trace has no records. Apart, so that rows are opened with no buffer of a trace on the stack.
+#[inline(never)]
 fn report_orders<F: Folder, K: Sink>(
     alloc: Global,
     orders: &CurveOrders<'_>,
@@ -81,17 +83,18 @@ fn report_orders<F: Folder, K: Sink>(
     requires some { 0 < orders.now.sets }
     requires most { orders.now.sets ≤ 256 }
     requires unmade { (plain_of orders.now.plain.words.now).made ≡ None }
-    requires flushed { IsFlushed K.taken K.outside out.old }
-    ensures told { IfSome (F.files folder.old) (λ fs.
+    requires flushed { IsFlushed K.sink out.old }
+    ensures told { IfSome (F.folder.files folder.old) (λ fs.
         Ends result (curves_from orders.now.sets
         (trail_for (plain_of orders.now.plain.words.now) fs)
         (start_of rows.old orders.now.plain.script.now))
-        K.roomy (K.outside out.old).written (K.outside out.new).written out.old out.new
+        K.sink.roomy (K.sink.outside out.old).written (K.sink.outside out.new).written
+        out.old out.new
         (rows.new ≡ rows_from (trail_for (plain_of orders.now.plain.words.now) fs)
         (start_of rows.old orders.now.plain.script.now))) }
-    ensures leaves { FolderLeft F.files F.faults F.absences F.steady folder.old folder.new
+    ensures leaves { FolderLeft F.folder folder.old folder.new
         (status_by result) }
-    ensures goes_on { GoesOn (is_all_put result) (K.outside out.old) (K.outside out.new) }
+    ensures goes_on { GoesOn (is_all_put result) (K.sink.outside out.old) (K.sink.outside out.new) }
     ensures met { IfErr result StopsRun }
 {
     match orders.plain.words.trace {
@@ -114,19 +117,20 @@ fn report_from<T: Source, F: Folder, K: Sink>(
 ) -> Result<(), Stop>
     requires some { 0 < orders.now.sets }
     requires most { orders.now.sets ≤ 256 }
-    requires flushed { IsFlushed K.taken K.outside out.old }
+    requires flushed { IsFlushed K.sink out.old }
     requires unread { (fs : Files) → T.stands source.old fs
         × (T.left source.old fs ≡ trail_for (plain_of orders.now.plain.words.now) fs) }
-    ensures told { IfSome (F.files folder.old) (λ fs.
+    ensures told { IfSome (F.folder.files folder.old) (λ fs.
         Ends result (curves_from orders.now.sets
         (trail_for (plain_of orders.now.plain.words.now) fs)
         (start_of rows.old orders.now.plain.script.now))
-        K.roomy (K.outside out.old).written (K.outside out.new).written out.old out.new
+        K.sink.roomy (K.sink.outside out.old).written (K.sink.outside out.new).written
+        out.old out.new
         (rows.new ≡ rows_from (trail_for (plain_of orders.now.plain.words.now) fs)
         (start_of rows.old orders.now.plain.script.now))) }
-    ensures leaves { FolderLeft F.files F.faults F.absences F.steady folder.old folder.new
+    ensures leaves { FolderLeft F.folder folder.old folder.new
         (status_by result) }
-    ensures goes_on { GoesOn (is_all_put result) (K.outside out.old) (K.outside out.new) }
+    ensures goes_on { GoesOn (is_all_put result) (K.sink.outside out.old) (K.sink.outside out.new) }
     ensures met { IfErr result StopsRun }
 {
     orders.plain.script.fits();

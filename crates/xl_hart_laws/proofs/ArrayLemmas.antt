@@ -1,27 +1,13 @@
 -- Leaves of one TLB array: hit, touched, filled, removed.
-use Rattle.std.proofs.Common.{◌≡◌, refl, ℕ, zero, suc, Bool, true, false, List, [], ◌∷◌, Some, ◌⊎◌, inl, inr, map, slice_set, replicate}
+use Rattle.std.proofs.Common.{◌≡◌, ℕ, zero, suc, Bool, true, false, List, [], ◌∷◌, ◌⊎◌, inl, inr, map, slice_set, replicate}
 use Rattle.xl_model.specs.declared.leaf.Leaf.{Leaf}
-use Rattle.xl_model.specs.Mapping.{covers}
 use Rattle.xl_model.specs.Recency.{touched, with_newest, purged}
-use Rattle.xl_model.specs.Tlb.{TlbArray, Answer, answer_of, set_number, set_at, takes_order, covers_as, array_hit, array_touched, filled_where, array_filled}
+use Rattle.xl_model.specs.Tlb.{TlbArray, set_number, set_at, takes_order, covers_as, array_touched, filled_where, array_filled}
 use Rattle.xl_model_lemmas.specs.Fresh.{InSets}
 use Rattle.xl_model_lemmas.specs.Members.{In}
-use Rattle.xl_model_lemmas.proofs.HitLemmas.{get-In, answer-held, answer-covers}
+use Rattle.xl_model_lemmas.proofs.HitLemmas.{get-In}
+pub use Rattle.xl_model_lemmas.proofs.HitLemmas.{hit-is}
 use Rattle.xl_model_lemmas.proofs.RecencyLemmas.{touched-In, newest-In, purged-In}
-
--- a leaf with which the array hits is held by it, and covers the page
-pub record IsHit (a : TlbArray) (space page : ℕ) (leaf : Leaf) : Type 0 where
-  pub held : InSets leaf a.sets
-  pub covering : covers space page leaf ≡ true
-
-pub hit-is : (a : TlbArray) (space page : ℕ) (leaf : Leaf) → array_hit a space page ≡ Some leaf → IsHit a space page leaf
-hit-is a space page leaf h =
-    let answer : Answer = record { leaf = leaf; level = a.spec.level } in
-    let answers : answer_of (a ∷ []) space page ≡ Some answer = rw h refl in
-    record {
-      held = elim (answer-held (a ∷ []) space page answer answers) [ inl i ↦ i | inr j ↦ absurd j ];
-      covering = answer-covers (a ∷ []) space page answer answers;
-    }
 
 set-In : (leaf : Leaf) (sets : List (List Leaf)) (i : ℕ) (v : List Leaf) → InSets leaf (slice_set sets i v) → In leaf v ⊎ InSets leaf sets
 set-In leaf [] i v h = inr h

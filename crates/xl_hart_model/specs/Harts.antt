@@ -21,6 +21,7 @@ use Rattle.xl_hart_model.specs.declared.hart.Request.{Request}
 use Rattle.xl_model.specs.declared.leaf.Leaf.{Leaf}
 use Rattle.xl_model.specs.declared.leaf.Reply.{Reply}
 use Rattle.xl_model.specs.declared.row.Purge.TheVariants as purge
+use Rattle.xl_model.specs.declared.row.Serves.TheVariants as serves
 use Rattle.xl_model.specs.declared.row.Table.TheVariants as table
 use Rattle.xl_model.specs.declared.row.TlbSpec.{TlbSpec}
 use Rattle.xl_model.specs.Addresses.{is_canonical, page_of}
@@ -64,7 +65,7 @@ queue_of h s = take h.waiting s.requests
 
 -- Every array has eight ways, and takes leaves of all orders.
 abbrev pub array_spec : HartSpec → TlbSpec
-array_spec spec = record { level = 1; sets = spec.sets; width = 8; k4 = true; m2 = true; g1 = true }
+array_spec spec = record { level = 1; sets = spec.sets; width = 8; k4 = true; m2 = true; g1 = true; serves = serves.All }
 
 -- The row of which the shared table is: Sv39, a radix table, no walk caches.
 abbrev pub shared_row : HartSpec → Row

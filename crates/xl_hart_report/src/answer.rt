@@ -8,38 +8,33 @@ ghost use Rattle.xl_hart_report.specs.Lines.{hart_line};
 
 use xl_model::{Kind, Reply, code};
 use xl_outside::{Failed, Sink, put_all};
-use xl_report::Line;
+use xl_report::{Answered, Line};
 
 /// Appends the line of an access: the hart, the record's number, the access in the hart's space, and its
-/// reply. A frame that is replied is below 2^52, so that its physical addresses are below 2^64.
+/// reply. A frame that is replied is below 2^52, so that its physical addresses are below 2^64. In line, so
+/// that the parts of the access stay in registers.
 ///
 /// # Errors
 ///
 /// `Failed` only where the sink's faults rose; then the beginning of the line was appended.
+#[inline(always)]
 #[tactic(auto, unfolding(crate::specs::Lines::hart_line, xl_model::specs::Lines::answer_line))]
-pub fn write_hart<K: Sink>(
-    out: &mut K,
-    hart: u16,
-    number: u64,
-    kind: Kind,
-    space: u16,
-    va: u64,
-    reply: Reply,
-) -> Result<(), Failed>
-    requires { IsSmall reply }
-    ensures { SinkAfter K.taken K.outside K.roomy (hart_line hart number kind space va reply)
+pub fn write_hart<K: Sink>(out: &mut K, hart: u16, answered: Answered) -> Result<(), Failed>
+    requires { IsSmall answered.reply }
+    ensures { SinkAfter K.sink
+        (hart_line hart answered.number answered.kind answered.space answered.va answered.reply)
         out.old out.new (is_ok result) }
 {
     let mut line = Line::<128>::new();
     line.add(b"hart ");
     line.number(hart as u64);
     line.add(b" ");
-    line.number(number);
-    line.add(letter(kind));
-    line.number(space as u64);
+    line.number(answered.number);
+    line.add(letter(answered.kind));
+    line.number(answered.space as u64);
     line.add(b" ");
-    line.hex(va);
-    add_reply(&mut line, kind, va, reply);
+    line.hex(answered.va);
+    add_reply(&mut line, answered.kind, answered.va, answered.reply);
     line.add(b"\n");
     put_all(out, line.bytes())
 }

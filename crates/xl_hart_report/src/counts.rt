@@ -16,7 +16,7 @@ use xl_report::Line;
 /// `Failed` only where the sink's faults rose; then the beginning of the line was appended.
 #[tactic(auto, unfolding(crate::specs::Lines::hart_counts_line))]
 pub fn write_hart_counts<K: Sink>(out: &mut K, hart: u16, counts: &HartCounts) -> Result<(), Failed>
-    ensures { SinkAfter K.taken K.outside K.roomy (hart_counts_line hart counts.now) out.old out.new
+    ensures { SinkAfter K.sink (hart_counts_line hart counts.now) out.old out.new
         (is_ok result) }
 {
     let mut line = Line::<512>::new();
@@ -83,7 +83,7 @@ fn takes(line: &mut Line<512>, counts: &HartCounts)
 /// `Failed` only where the sink's faults rose; then the beginning of the line was appended.
 #[tactic(auto, unfolding(crate::specs::Lines::all_counts_line))]
 pub fn write_all_counts<K: Sink>(out: &mut K, counts: &AllCounts) -> Result<(), Failed>
-    ensures { SinkAfter K.taken K.outside K.roomy (all_counts_line counts.now) out.old out.new
+    ensures { SinkAfter K.sink (all_counts_line counts.now) out.old out.new
         (is_ok result) }
 {
     let mut line = Line::<512>::new();

@@ -2,7 +2,7 @@
 use Rattle.std.proofs.Common.{◌≡◌, ℕ, zero, suc, ◌+◌, ◌<◌, Bool, true, false, List, [], ◌∷◌, ◌++◌, length, take, drop, ap, sym, ◌∙◌, subst, arith, append_assoc}
 use Rattle.std.specs.Prelude.{Option, slice_index_or}
 use Rattle.std.proofs.lemmas.List.{append-nil, take-append-drop}
-use Rattle.xl_outside.specs.Sinks.{Outside, SinkAfter}
+use Rattle.xl_outside.specs.Sinks.{SinkMeaning, SinkAfter}
 use Rattle.xl_outside.proofs.SinkLemmas.{sink_then, sink_cut}
 use Rattle.xl_hart_model.specs.Harts.{Hart}
 use Rattle.xl_hart_report.specs.Lines.{hart_counts_line}
@@ -26,27 +26,27 @@ lines-append n (x ∷ xs) ys =
     ap (λ (rest : List ℕ). hart_counts_line n x.counts ++ rest) (lines-append (n + 1) xs ys ∙ ap (λ (j : ℕ). counts_lines (n + 1) xs ++ counts_lines j ys) e)
     ∙ sym (append_assoc (hart_counts_line n x.counts) (counts_lines (n + 1) xs) (counts_lines (n + suc (length xs)) ys))
 
-module _ {K : Type 0} (taken : K → Option (List ℕ)) (outside : K → Outside) (roomy : K → ℕ → Type 0) (harts : List Hart) (none : Hart) (i : ℕ) (inside : i < length harts) (a b c : K) where
-  line-next : (whole : Bool) → SinkAfter taken outside roomy (counts_lines 0 (take i harts)) a b true
-      → SinkAfter taken outside roomy (hart_counts_line i (slice_index_or harts i none).counts) b c whole → SinkAfter taken outside roomy (counts_lines 0 (take (suc i) harts)) a c whole
+module _ {K : Type 0} (sink : SinkMeaning K) (harts : List Hart) (none : Hart) (i : ℕ) (inside : i < length harts) (a b c : K) where
+  line-next : (whole : Bool) → SinkAfter sink (counts_lines 0 (take i harts)) a b true
+      → SinkAfter sink (hart_counts_line i (slice_index_or harts i none).counts) b c whole → SinkAfter sink (counts_lines 0 (take (suc i) harts)) a c whole
   line-next whole x y =
       let e : i ≡ 0 + i = omega arith in
       let line = λ (j : ℕ). hart_counts_line j (slice_index_or harts i none).counts in
-      subst (λ (text : List ℕ). SinkAfter taken outside roomy text a c whole) (ap (λ (j : ℕ). counts_lines 0 (take i harts) ++ line j) e ∙ sym (lines-more 0 i harts none inside))
-      (sink_then taken outside roomy (counts_lines 0 (take i harts)) (line i) a b c whole x y)
+      subst (λ (text : List ℕ). SinkAfter sink text a c whole) (ap (λ (j : ℕ). counts_lines 0 (take i harts) ++ line j) e ∙ sym (lines-more 0 i harts none inside))
+      (sink_then sink (counts_lines 0 (take i harts)) (line i) a b c whole x y)
 
   -- the line of one hart more was put
-  pub lines_next : SinkAfter taken outside roomy (counts_lines 0 (take i harts)) a b true
-      → SinkAfter taken outside roomy (hart_counts_line i (slice_index_or harts i none).counts) b c true → SinkAfter taken outside roomy (counts_lines 0 (take (i + 1) harts)) a c true
+  pub lines_next : SinkAfter sink (counts_lines 0 (take i harts)) a b true
+      → SinkAfter sink (hart_counts_line i (slice_index_or harts i none).counts) b c true → SinkAfter sink (counts_lines 0 (take (i + 1) harts)) a c true
   lines_next x y =
       let e : suc i ≡ i + 1 = omega arith in
-      subst (λ (j : ℕ). SinkAfter taken outside roomy (counts_lines 0 (take j harts)) a c true) e (line-next true x y)
+      subst (λ (j : ℕ). SinkAfter sink (counts_lines 0 (take j harts)) a c true) e (line-next true x y)
 
   -- the line of a hart wasn't put whole
-  pub lines_lost : SinkAfter taken outside roomy (counts_lines 0 (take i harts)) a b true
-      → SinkAfter taken outside roomy (hart_counts_line i (slice_index_or harts i none).counts) b c false → SinkAfter taken outside roomy (counts_lines 0 harts) a c false
+  pub lines_lost : SinkAfter sink (counts_lines 0 (take i harts)) a b true
+      → SinkAfter sink (hart_counts_line i (slice_index_or harts i none).counts) b c false → SinkAfter sink (counts_lines 0 harts) a c false
   lines_lost x y =
       let first = take (suc i) harts in
       let rest = drop (suc i) harts in
-      subst (λ (text : List ℕ). SinkAfter taken outside roomy text a c false) (sym (lines-append 0 first rest) ∙ ap (counts_lines 0) (take-append-drop (suc i) harts))
-      (sink_cut taken outside roomy (counts_lines 0 first) (counts_lines (0 + length first) rest) a c (line-next false x y))
+      subst (λ (text : List ℕ). SinkAfter sink text a c false) (sym (lines-append 0 first rest) ∙ ap (counts_lines 0) (take-append-drop (suc i) harts))
+      (sink_cut sink (counts_lines 0 first) (counts_lines (0 + length first) rest) a c (line-next false x y))

@@ -10,7 +10,7 @@ use xl_outside::{Failed, Sink};
 
 /// Writes a line for each hart, and one for all of them.
 pub(crate) fn write_end<K: Sink>(harts: &Harts, out: &mut K) -> Result<(), Failed>
-    ensures { SinkAfter K.taken K.outside K.roomy (harts_lines harts.now) out.old out.new
+    ensures { SinkAfter K.sink (harts_lines harts.now) out.old out.new
         (is_ok result) }
 {
     match write_each(harts, out) {
@@ -21,7 +21,7 @@ pub(crate) fn write_end<K: Sink>(harts: &Harts, out: &mut K) -> Result<(), Faile
 
 /// Writes a line for each hart.
 fn write_each<K: Sink>(harts: &Harts, out: &mut K) -> Result<(), Failed>
-    ensures { SinkAfter K.taken K.outside K.roomy (counts_lines 0 harts.now.harts) out.old out.new
+    ensures { SinkAfter K.sink (counts_lines 0 harts.now.harts) out.old out.new
         (is_ok result) }
 {
     for hart in 0..harts.len() {

@@ -15,6 +15,7 @@ use xl_hart_script::HartCommand;
 use xl_harts::Harts;
 use xl_lackey::{Access, Batch};
 use xl_outside::{Failed, Sink};
+use xl_report::Answered;
 
 /// The form of harts. Beside them it keeps room for accesses that the trace gives together.
 #[derive(Drop)]
@@ -80,8 +81,16 @@ impl Form<Harts> for Harting {
         }
         let hart = harts.current();
         let space = harts.space(hart);
-        let reply = reply(harts, access.va, access.kind);
-        write_hart(out, hart, number, access.kind, space, access.va, reply)
+        let Access { va, kind } = access;
+        let reply = reply(harts, va, kind);
+        let answered = Answered {
+            number,
+            kind,
+            space,
+            va,
+            reply,
+        };
+        write_hart(out, hart, answered)
     }
 
     #[inline(always)]

@@ -31,14 +31,15 @@ pub fn report<F: Folder, K: Sink>(
     out: &mut K,
     harts: &mut Option<Harts>,
 ) -> Result<(), Stop>
-    requires { IsFlushed K.taken K.outside out.old }
-    ensures told { IfSome (F.files folder.old) (λ fs.
+    requires { IsFlushed K.sink out.old }
+    ensures told { IfSome (F.folder.files folder.old) (λ fs.
         Ends result (harts_account (pair_of words.now) fs)
-        K.roomy (K.outside out.old).written (K.outside out.new).written out.old out.new
+        K.sink.roomy (K.sink.outside out.old).written (K.sink.outside out.new).written
+        out.old out.new
         (harts.new ≡ harts_left (pair_of words.now) fs)) }
-    ensures leaves { FolderLeft F.files F.faults F.absences F.steady folder.old folder.new
+    ensures leaves { FolderLeft F.folder folder.old folder.new
         (status_by result) }
-    ensures goes_on { GoesOn (is_all_put result) (K.outside out.old) (K.outside out.new) }
+    ensures goes_on { GoesOn (is_all_put result) (K.sink.outside out.old) (K.sink.outside out.new) }
     ensures met { IfErr result StopsRun }
 {
     let script = read_script::<HartParser, F>(alloc, folder, words.script)?;
@@ -58,15 +59,17 @@ fn report_orders<F: Folder, K: Sink>(
     out: &mut K,
     harts: &mut Option<Harts>,
 ) -> Result<(), Stop>
-    requires { IsFlushed K.taken K.outside out.old }
-    ensures told { IfSome (F.files folder.old) (λ fs.
+    requires { IsFlushed K.sink out.old }
+    ensures told { IfSome (F.folder.files folder.old) (λ fs.
         Ends result (account_from harts_form orders.now.answers (trail_in (Some trace.now) fs)
         orders.now.script.now)
-        K.roomy (K.outside out.old).written (K.outside out.new).written out.old out.new
-        (harts.new ≡ Some (state_from harts_form (trail_in (Some trace.now) fs) orders.now.script.now))) }
-    ensures leaves { FolderLeft F.files F.faults F.absences F.steady folder.old folder.new
+        K.sink.roomy (K.sink.outside out.old).written (K.sink.outside out.new).written
+        out.old out.new
+        (harts.new ≡ Some (state_from harts_form (trail_in (Some trace.now) fs)
+        orders.now.script.now))) }
+    ensures leaves { FolderLeft F.folder folder.old folder.new
         (status_by result) }
-    ensures goes_on { GoesOn (is_all_put result) (K.outside out.old) (K.outside out.new) }
+    ensures goes_on { GoesOn (is_all_put result) (K.sink.outside out.old) (K.sink.outside out.new) }
     ensures met { IfErr result StopsRun }
 {
     orders.fit();

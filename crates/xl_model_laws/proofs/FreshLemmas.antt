@@ -232,11 +232,12 @@ changed-kept row None s sound k = k
 changed-kept row (Some c) s sound k = change-kept row c s (verdict c s.table) refl (sound c refl) k
 
 -- an access
-filled-kept : (row : Row) (found : Option Leaf) (s : RowState) → ((leaf : Leaf) → found ≡ Some leaf → In leaf s.table.leaves) → Kept row s → Kept row (walk_filled found s)
-filled-kept row None s known k = k
-filled-kept row (Some leaf) s known k = record {
+filled-kept : (row : Row) (kind : Kind) (found : Option Leaf) (s : RowState) → ((leaf : Leaf) → found ≡ Some leaf → In leaf s.table.leaves)
+    → Kept row s → Kept row (walk_filled kind found s)
+filled-kept row kind None s known k = k
+filled-kept row kind (Some leaf) s known k = record {
   mapping = k.mapping;
-  arrays = filled-fresh s.arrays s.table.leaves leaf k.arrays (known leaf refl);
+  arrays = filled-fresh kind s.arrays s.table.leaves leaf k.arrays (known leaf refl);
   caches = k.caches;
   full = k.full;
 }
@@ -247,30 +248,31 @@ walked-kept row space page s k =
     let both = walk-fresh row space page s.table.leaves s.table.shape s.table.caches k.mapping k.caches k.full in
     record { mapping = k.mapping; arrays = k.arrays; caches = both.0; full = both.1 }
 
-looked-kept : (row : Row) (answer : Option Answer) (page : ℕ) (s : RowState) → answer_of s.arrays s.space page ≡ answer → Kept row s → Kept row (looked_by answer page s)
+looked-kept : (row : Row) (kind : Kind) (answer : Option Answer) (page : ℕ) (s : RowState) → answer_of kind s.arrays s.space page ≡ answer
+    → Kept row s → Kept row (looked_by kind answer page s)
 unfolding table_walked leaf_at_page
-looked-kept row (Some answer) page s is k = record {
+looked-kept row kind (Some answer) page s is k = record {
   mapping = k.mapping;
-  arrays = hit-fresh s.arrays s.table.leaves s.space page answer k.arrays is;
+  arrays = hit-fresh kind s.arrays s.table.leaves s.space page answer k.arrays is;
   caches = k.caches;
   full = k.full;
 }
-looked-kept row None page s is k =
-    let t : RowState = record s { counts = count_look None s.space page s.arrays s.counts } in
+looked-kept row kind None page s is k =
+    let t : RowState = record s { counts = count_look kind None s.space page s.arrays s.counts } in
     let kt : Kept row t = record { mapping = k.mapping; arrays = k.arrays; caches = k.caches; full = k.full } in
-    filled-kept row (find (covers s.space page) s.table.leaves) (walk_made s.space page t)
+    filled-kept row kind (find (covers s.space page) s.table.leaves) (walk_made s.space page t)
     (λ leaf h. find-In (covers s.space page) leaf s.table.leaves h)
     (walked-kept row s.space page t kt)
 
-where-kept : (row : Row) (canonical : Bool) (page : ℕ) (s : RowState) → Kept row s → Kept row (looked_where canonical page s)
+where-kept : (row : Row) (canonical : Bool) (kind : Kind) (page : ℕ) (s : RowState) → Kept row s → Kept row (looked_where canonical kind page s)
 unfolding looked
-where-kept row true page s k = looked-kept row (answer_of s.arrays s.space page) page s refl k
-where-kept row false page s k = k
+where-kept row true kind page s k = looked-kept row kind (answer_of kind s.arrays s.space page) page s refl k
+where-kept row false kind page s k = k
 
 accessed-kept : (row : Row) (va : ℕ) (kind : Kind) (s : RowState) → Kept row s → Kept row (accessed row va kind s)
 unfolding accessed
 accessed-kept row va kind s k =
-    let after = where-kept row (is_canonical row.mode va) (page_of row.mode va) s k in
+    let after = where-kept row (is_canonical row.mode va) kind (page_of row.mode va) s k in
     record { mapping = after.mapping; arrays = after.arrays; caches = after.caches; full = after.full }
 
 -- a fence

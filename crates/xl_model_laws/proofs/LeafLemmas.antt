@@ -21,21 +21,21 @@ use Rattle.xl_model_lemmas.proofs.LowestLemmas.{lowest-is-lowest}
 use Rattle.xl_model_laws.specs.Runs.{TheLeavesAreAMapping, AReplyIsByTheMapping, TheLowestIsTheLeast}
 use Rattle.xl_model_laws.proofs.RunLemmas.{Keeps, run-keeps}
 
-pub filled-leaves : (found : Option Leaf) (s : RowState) → (walk_filled found s).table ≡ s.table
-filled-leaves None s = refl
-filled-leaves (Some leaf) s = refl
+pub filled-leaves : (kind : Kind) (found : Option Leaf) (s : RowState) → (walk_filled kind found s).table ≡ s.table
+filled-leaves kind None s = refl
+filled-leaves kind (Some leaf) s = refl
 
-looked-leaves : (answer : Option Answer) (page : ℕ) (s : RowState) → (looked_by answer page s).table.leaves ≡ s.table.leaves
+looked-leaves : (kind : Kind) (answer : Option Answer) (page : ℕ) (s : RowState) → (looked_by kind answer page s).table.leaves ≡ s.table.leaves
 unfolding table_walked
-looked-leaves (Some answer) page s = refl
-looked-leaves None page s = ap (λ (t : TableState). t.leaves) (filled-leaves (leaf_at_page s.space page s.table.leaves) _)
+looked-leaves kind (Some answer) page s = refl
+looked-leaves kind None page s = ap (λ (t : TableState). t.leaves) (filled-leaves kind (leaf_at_page s.space page s.table.leaves) _)
 
 pub accessed-leaves : (row : Row) (va : ℕ) (k : Kind) (s : RowState) → (accessed row va k s).table.leaves ≡ s.table.leaves
 unfolding accessed looked
 accessed-leaves row va k s = go (is_canonical row.mode va)
   where
-    go : (b : Bool) → (looked_where b (page_of row.mode va) s).table.leaves ≡ s.table.leaves
-    go true = looked-leaves (answer_of s.arrays s.space (page_of row.mode va)) (page_of row.mode va) s
+    go : (b : Bool) → (looked_where b k (page_of row.mode va) s).table.leaves ≡ s.table.leaves
+    go true = looked-leaves k (answer_of k s.arrays s.space (page_of row.mode va)) (page_of row.mode va) s
     go false = refl
 
 -- a table after a change has the changed leaves, or those that it had

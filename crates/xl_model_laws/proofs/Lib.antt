@@ -16,3 +16,5 @@ mod NodeLawLemmas
 mod AfterLemmas
 mod NodeRunLemmas
 mod KeyLawLemmas
+mod KindLemmas
+mod AloneLemmas

@@ -43,29 +43,31 @@ reply_commutes r reply.NotCanonical va c = refl
 reply_commutes r reply.Unmapped va c = refl
 reply_commutes r reply.Denied va c = refl
 
-filled_commutes : (r : Refusal) (found : Option Leaf) (s : RowState) → walk_filled found (with_refusal r s) ≡ with_refusal r (walk_filled found s)
+filled_commutes : (r : Refusal) (k : Kind) (found : Option Leaf) (s : RowState) → walk_filled k found (with_refusal r s) ≡ with_refusal r (walk_filled k found s)
 unfolding count_refusal count_fills
-filled_commutes r None s = refl
-filled_commutes r (Some leaf) s = refl
+filled_commutes r k None s = refl
+filled_commutes r k (Some leaf) s = refl
 
-looked_by_commutes : (r : Refusal) (answer : Option Answer) (page : ℕ) (s : RowState) → looked_by answer page (with_refusal r s) ≡ with_refusal r (looked_by answer page s)
+looked_by_commutes : (r : Refusal) (k : Kind) (answer : Option Answer) (page : ℕ) (s : RowState)
+    → looked_by k answer page (with_refusal r s) ≡ with_refusal r (looked_by k answer page s)
 unfolding count_refusal count_fills count_look count_walk
-looked_by_commutes r (Some answer) page s = refl
-looked_by_commutes r None page s =
-    filled_commutes r (leaf_at_page s.space page s.table.leaves)
-    (walk_made s.space page (record s { counts = count_look None s.space page s.arrays s.counts }))
+looked_by_commutes r k (Some answer) page s = refl
+looked_by_commutes r k None page s =
+    filled_commutes r k (leaf_at_page s.space page s.table.leaves)
+    (walk_made s.space page (record s { counts = count_look k None s.space page s.arrays s.counts }))
 
-looked_commutes : (r : Refusal) (canonical : Bool) (page : ℕ) (s : RowState) → looked_where canonical page (with_refusal r s) ≡ with_refusal r (looked_where canonical page s)
+looked_commutes : (r : Refusal) (canonical : Bool) (k : Kind) (page : ℕ) (s : RowState)
+    → looked_where canonical k page (with_refusal r s) ≡ with_refusal r (looked_where canonical k page s)
 unfolding looked
-looked_commutes r true page s = looked_by_commutes r (answer_of s.arrays s.space page) page s
-looked_commutes r false page s = refl
+looked_commutes r true k page s = looked_by_commutes r k (answer_of k s.arrays s.space page) page s
+looked_commutes r false k page s = refl
 
 accessed_commutes : (r : Refusal) (row : Row) (va : ℕ) (k : Kind) (s : RowState) → accessed row va k (with_refusal r s) ≡ with_refusal r (accessed row va k s)
 unfolding accessed reply_to
 accessed_commutes r row va k s =
     ap (λ (t : RowState). let u : RowState = record t { counts = count_reply (reply_to row s va k) va t.counts } in u)
-    (looked_commutes r (is_canonical row.mode va) (page_of row.mode va) s)
-    ∙ (let t : RowState = looked_where (is_canonical row.mode va) (page_of row.mode va) s in
+    (looked_commutes r (is_canonical row.mode va) k (page_of row.mode va) s)
+    ∙ (let t : RowState = looked_where (is_canonical row.mode va) k (page_of row.mode va) s in
     ap (λ (c : Counts). let u : RowState = record t { counts = c } in u) (reply_commutes r (reply_to row s va k) va t.counts))
 
 work_commutes : (r : Refusal) (work : Work) (c : Counts) → count_work work (count_refusal r c) ≡ count_refusal r (count_work work c)

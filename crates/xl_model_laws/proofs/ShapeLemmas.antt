@@ -24,17 +24,17 @@ pub record ShapeKeeps (P : Shape → Type 0) : Type 0 where
   pub made : (c : Change) (leaves : List Leaf) (shape : Shape) → P shape → P (shape_after c leaves shape)
   pub refused : (leaf : Option Leaf) (shape : Shape) → P shape → P (widened leaf shape)
 
-looked-shape : (answer : Option Answer) (page : ℕ) (s : RowState) → (looked_by answer page s).table.shape ≡ s.table.shape
+looked-shape : (kind : Kind) (answer : Option Answer) (page : ℕ) (s : RowState) → (looked_by kind answer page s).table.shape ≡ s.table.shape
 unfolding table_walked
-looked-shape (Some answer) page s = refl
-looked-shape None page s = ap (λ (t : TableState). t.shape) (filled-leaves (leaf_at_page s.space page s.table.leaves) _)
+looked-shape kind (Some answer) page s = refl
+looked-shape kind None page s = ap (λ (t : TableState). t.shape) (filled-leaves kind (leaf_at_page s.space page s.table.leaves) _)
 
 pub accessed-shape : (row : Row) (va : ℕ) (k : Kind) (s : RowState) → (accessed row va k s).table.shape ≡ s.table.shape
 unfolding accessed looked
 accessed-shape row va k s = go (is_canonical row.mode va)
   where
-    go : (b : Bool) → (looked_where b (page_of row.mode va) s).table.shape ≡ s.table.shape
-    go true = looked-shape (answer_of s.arrays s.space (page_of row.mode va)) (page_of row.mode va) s
+    go : (b : Bool) → (looked_where b k (page_of row.mode va) s).table.shape ≡ s.table.shape
+    go true = looked-shape k (answer_of k s.arrays s.space (page_of row.mode va)) (page_of row.mode va) s
     go false = refl
 
 table-shape : (P : Shape → Type 0) → ShapeKeeps P → (c : Change) (t : TableState) (v : Verdict) → P t.shape → P (after_by v c t).shape

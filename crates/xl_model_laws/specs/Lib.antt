@@ -8,3 +8,4 @@ pub mod Limits
 pub mod Tags
 pub mod Nodes
 pub mod Keys
+pub mod Kinds

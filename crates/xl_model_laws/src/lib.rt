@@ -10,6 +10,7 @@ ghost use Rattle.xl_model_laws.specs.Scenes.{ItemsMayBeServedInParts, TheToldTex
 ghost use Rattle.xl_model_laws.specs.Tags.{TheTagsAreTheLeaves};
 ghost use Rattle.xl_model_laws.specs.Nodes.{TheNodesAreTheMappings, RoomIsForAllNodes};
 ghost use Rattle.xl_model_laws.specs.Keys.{EachLeafHasItsKey};
+ghost use Rattle.xl_model_laws.specs.Kinds.{ArraysForAllTakeNoNoteOfKinds, AStoreLooksUpAsALoad, AnArrayForOthersStays, AnAccessNeedsItsArraysAlone};
 ghost use Rattle.xl_model_laws.specs.Limits.{EachCallKeepsTheLimits, TheLimitsStay};
 ghost use Rattle.xl_model_laws.specs.Runs.{TheLeavesAreAMapping, AReplyIsByTheMapping, TheLowestIsTheLeast};
 
@@ -129,4 +130,24 @@ pub fn room_is_for_all_nodes()
 /// other key stands there.
 pub fn each_leaf_has_its_key()
     ensures { EachLeafHasItsKey }
+{}
+
+/// Where each array serves all accesses, the kind of an access changes nothing of its look-up.
+pub fn arrays_for_all_take_no_note_of_kinds()
+    ensures { ArraysForAllTakeNoNoteOfKinds }
+{}
+
+/// A store looks a page up as a load does, whatever the arrays serve.
+pub fn a_store_looks_up_as_a_load()
+    ensures { AStoreLooksUpAsALoad }
+{}
+
+/// An access leaves each array that does not serve it as it is, and the array's hits and misses.
+pub fn an_array_for_others_stays()
+    ensures { AnArrayForOthersStays }
+{}
+
+/// An access does in a row what it does in the row with the arrays alone that serve its kind.
+pub fn an_access_needs_its_arrays_alone()
+    ensures { AnAccessNeedsItsArraysAlone }
 {}

@@ -6,6 +6,7 @@ use Rattle.xl_model.specs.declared.event.Event.TheVariants as event
 use Rattle.xl_model.specs.Rows.{Row}
 use Rattle.xl_model.specs.declared.script.Item.{Item}
 use Rattle.xl_model.specs.declared.script.Item.TheVariants.{Command, Referenced}
+use Rattle.xl_model.specs.declared.row.Serves.TheVariants as serves
 use Rattle.xl_model_rows.specs.Plain.{plain_row, perm_r__u}
 
 -- A touch at a full set, and the fill after it. One set of two leaves, newest first; a walk is 3 loads.
@@ -13,7 +14,7 @@ use Rattle.xl_model_rows.specs.Plain.{plain_row, perm_r__u}
 -- leaves: [3, 1]. Page 1 hits: [1, 3]. Page 2 misses. So 2 hits and 4 misses, 4 walks of 3 loads, 4 fills.
 -- Pages 1, 2, 3 have frames 0, 1, 2: the addresses are 0 + 1000 + 0 + 2000 + 0 + 1000 = 4000, hexadecimal.
 abbrev pub a_touch_at_a_full_set_rows : List Row
-a_touch_at_a_full_set_rows = (record plain_row { tlb = (record { level = 1; sets = 1; width = 2; k4 = true; m2 = true; g1 = true }) ∷ [] }) ∷ []
+a_touch_at_a_full_set_rows = (record plain_row { tlb = (record { level = 1; sets = 1; width = 2; k4 = true; m2 = true; g1 = true; serves = serves.All }) ∷ [] }) ∷ []
 
 -- What is served then.
 abbrev pub a_touch_at_a_full_set_items : List Item
@@ -33,7 +34,7 @@ a_touch_at_a_full_set_items =
 -- 2 hits, 7 misses, 7 walks of 3 loads and 7 fills. Page n has frame n - 1: the addresses are 0 + 1000 + 2000 + 3000 + 1000
 -- + 4000 + 2000 + 0 + 3000 = 10000.
 abbrev pub a_touch_in_the_middle_rows : List Row
-a_touch_in_the_middle_rows = (record plain_row { tlb = (record { level = 1; sets = 1; width = 4; k4 = true; m2 = true; g1 = true }) ∷ [] }) ∷ []
+a_touch_in_the_middle_rows = (record plain_row { tlb = (record { level = 1; sets = 1; width = 4; k4 = true; m2 = true; g1 = true; serves = serves.All }) ∷ [] }) ∷ []
 
 -- What is served then.
 abbrev pub a_touch_in_the_middle_items : List Item
@@ -61,7 +62,7 @@ a_touch_in_the_middle_items =
 -- Level 1: 1 hit, 5 misses; level 2: 1 and 4; level 3: 1 and 3. Fills 2 + 2 + 2 + 1 = 7. Loads 3 + 3 + 2 = 8.
 -- The frames are 0, 1 and 512: the addresses are 0 + 1000 + 200000 + 0 + 0 + 200000 = 401000.
 abbrev pub a_hit_in_the_third_level_rows : List Row
-a_hit_in_the_third_level_rows = (record plain_row { frames = 1024; tlb = (record { level = 1; sets = 1; width = 1; k4 = true; m2 = false; g1 = false }) ∷ (record { level = 2; sets = 1; width = 1; k4 = false; m2 = true; g1 = false }) ∷ (record { level = 3; sets = 1; width = 4; k4 = true; m2 = true; g1 = true }) ∷ [] }) ∷ []
+a_hit_in_the_third_level_rows = (record plain_row { frames = 1024; tlb = (record { level = 1; sets = 1; width = 1; k4 = true; m2 = false; g1 = false; serves = serves.All }) ∷ (record { level = 2; sets = 1; width = 1; k4 = false; m2 = true; g1 = false; serves = serves.All }) ∷ (record { level = 3; sets = 1; width = 4; k4 = true; m2 = true; g1 = true; serves = serves.All }) ∷ [] }) ∷ []
 
 -- What is served then.
 abbrev pub a_hit_in_the_third_level_items : List Item
@@ -83,7 +84,7 @@ a_hit_in_the_third_level_items =
 -- hits. Level 1: 2 hits, 5 misses; level 2: 1 and 4; level 3: 1 and 3. Fills 3 + 3 + 2 + 2 + 1 = 11. Loads
 -- 3 + 3 + 2 = 8. The frames are 0, 1 and 512: the addresses add up to 1000 + 200000 = 201000.
 abbrev pub a_hit_in_the_third_level_fills_two_rows : List Row
-a_hit_in_the_third_level_fills_two_rows = (record plain_row { frames = 1024; tlb = (record { level = 1; sets = 1; width = 1; k4 = true; m2 = true; g1 = false }) ∷ (record { level = 2; sets = 1; width = 1; k4 = true; m2 = false; g1 = false }) ∷ (record { level = 3; sets = 1; width = 4; k4 = true; m2 = true; g1 = true }) ∷ [] }) ∷ []
+a_hit_in_the_third_level_fills_two_rows = (record plain_row { frames = 1024; tlb = (record { level = 1; sets = 1; width = 1; k4 = true; m2 = true; g1 = false; serves = serves.All }) ∷ (record { level = 2; sets = 1; width = 1; k4 = true; m2 = false; g1 = false; serves = serves.All }) ∷ (record { level = 3; sets = 1; width = 4; k4 = true; m2 = true; g1 = true; serves = serves.All }) ∷ [] }) ∷ []
 
 -- What is served then.
 abbrev pub a_hit_in_the_third_level_fills_two_items : List Item
@@ -105,7 +106,7 @@ a_hit_in_the_third_level_fills_two_items =
 -- level 2: 2 and 4. Fills 2 + 2 + 1 + 2 + 1 + 2 = 10. Four walks of 3 loads. The addresses are
 -- 0 + 1000 + 0 + 2000 + 0 + 1000 = 4000.
 abbrev pub a_hit_in_a_later_level_touches_it_rows : List Row
-a_hit_in_a_later_level_touches_it_rows = (record plain_row { tlb = (record { level = 1; sets = 1; width = 1; k4 = true; m2 = true; g1 = true }) ∷ (record { level = 2; sets = 1; width = 2; k4 = true; m2 = true; g1 = true }) ∷ [] }) ∷ []
+a_hit_in_a_later_level_touches_it_rows = (record plain_row { tlb = (record { level = 1; sets = 1; width = 1; k4 = true; m2 = true; g1 = true; serves = serves.All }) ∷ (record { level = 2; sets = 1; width = 2; k4 = true; m2 = true; g1 = true; serves = serves.All }) ∷ [] }) ∷ []
 
 -- What is served then.
 abbrev pub a_hit_in_a_later_level_touches_it_items : List Item
@@ -126,7 +127,7 @@ a_hit_in_a_later_level_touches_it_items =
 -- level 2: 1 and 3. Fills 2 + 2 + 2 + 1 = 7, three walks of 3 loads. The addresses are
 -- 0 + 1000 + 0 + 2000 + 0 + 1000 = 4000.
 abbrev pub a_hit_in_the_first_level_touches_it_alone_rows : List Row
-a_hit_in_the_first_level_touches_it_alone_rows = (record plain_row { tlb = (record { level = 1; sets = 1; width = 2; k4 = true; m2 = true; g1 = true }) ∷ (record { level = 2; sets = 1; width = 2; k4 = true; m2 = true; g1 = true }) ∷ [] }) ∷ []
+a_hit_in_the_first_level_touches_it_alone_rows = (record plain_row { tlb = (record { level = 1; sets = 1; width = 2; k4 = true; m2 = true; g1 = true; serves = serves.All }) ∷ (record { level = 2; sets = 1; width = 2; k4 = true; m2 = true; g1 = true; serves = serves.All }) ∷ [] }) ∷ []
 
 -- What is served then.
 abbrev pub a_hit_in_the_first_level_touches_it_alone_items : List Item
@@ -145,7 +146,7 @@ a_hit_in_the_first_level_touches_it_alone_items =
 -- hit. Page 3 misses and takes the place of page 1; page 2 still hits. So 3 hits, 3 misses, 3 walks of 3 loads,
 -- 3 fills. The addresses are 0 + 1000 + 0 + 1000 + 2000 + 1000 = 5000.
 abbrev pub two_sets_rows : List Row
-two_sets_rows = (record plain_row { tlb = (record { level = 1; sets = 2; width = 1; k4 = true; m2 = false; g1 = false }) ∷ [] }) ∷ []
+two_sets_rows = (record plain_row { tlb = (record { level = 1; sets = 2; width = 1; k4 = true; m2 = false; g1 = false; serves = serves.All }) ∷ [] }) ∷ []
 
 -- What is served then.
 abbrev pub two_sets_items : List Item
@@ -166,7 +167,7 @@ two_sets_items =
 -- Page 512 misses. So 2 hits, 4 misses, 4 fills; loads 2 + 2 + 3 + 2 = 9. The leaves have frames 0, 512 and 1024:
 -- the addresses are 1000 + 200000 + 0 + 400000 + 200000 + 0 = 801000.
 abbrev pub sets_by_the_order_rows : List Row
-sets_by_the_order_rows = (record plain_row { frames = 2048; tlb = (record { level = 1; sets = 2; width = 1; k4 = true; m2 = true; g1 = false }) ∷ [] }) ∷ []
+sets_by_the_order_rows = (record plain_row { frames = 2048; tlb = (record { level = 1; sets = 2; width = 1; k4 = true; m2 = true; g1 = false; serves = serves.All }) ∷ [] }) ∷ []
 
 -- What is served then.
 abbrev pub sets_by_the_order_items : List Item
@@ -186,7 +187,7 @@ sets_by_the_order_items =
 -- another place of the leaf. The addresses are 0 + 201000 + 40005000 + 8 + 203000 + 40258000 = 8065c008 hexadecimal
 -- (page 513 is frame 513; page 262144 + 5 is frame 262149; then byte 8, page 515, page 262144 + 600).
 abbrev pub three_orders_in_one_array_rows : List Row
-three_orders_in_one_array_rows = (record plain_row { frames = 524288; tlb = (record { level = 1; sets = 1; width = 4; k4 = true; m2 = true; g1 = true }) ∷ [] }) ∷ []
+three_orders_in_one_array_rows = (record plain_row { frames = 524288; tlb = (record { level = 1; sets = 1; width = 4; k4 = true; m2 = true; g1 = true; serves = serves.All }) ∷ [] }) ∷ []
 
 -- What is served then.
 abbrev pub three_orders_in_one_array_items : List Item
@@ -204,7 +205,7 @@ three_orders_in_one_array_items =
 -- A store on a read-only page misses, its walk of 3 loads finds the leaf, the store is denied, and the array is
 -- filled. The load after it hits.
 abbrev pub a_denied_access_fills_rows : List Row
-a_denied_access_fills_rows = (record plain_row { tlb = (record { level = 1; sets = 1; width = 4; k4 = true; m2 = true; g1 = true }) ∷ [] }) ∷ []
+a_denied_access_fills_rows = (record plain_row { tlb = (record { level = 1; sets = 1; width = 4; k4 = true; m2 = true; g1 = true; serves = serves.All }) ∷ [] }) ∷ []
 
 -- What is served then.
 abbrev pub a_denied_access_fills_items : List Item
@@ -216,7 +217,7 @@ a_denied_access_fills_items =
 -- Address 2^38 = 4000000000 hexadecimal isn't canonical under Sv39: no hit, no miss, no walk. Page 5 is
 -- unmapped: a miss and a walk of one load, that of the root's empty word; no fill. Page 5 again: the same.
 abbrev pub accesses_that_fill_nothing_rows : List Row
-accesses_that_fill_nothing_rows = (record plain_row { tlb = (record { level = 1; sets = 1; width = 4; k4 = true; m2 = true; g1 = true }) ∷ [] }) ∷ []
+accesses_that_fill_nothing_rows = (record plain_row { tlb = (record { level = 1; sets = 1; width = 4; k4 = true; m2 = true; g1 = true; serves = serves.All }) ∷ [] }) ∷ []
 
 -- What is served then.
 abbrev pub accesses_that_fill_nothing_items : List Item

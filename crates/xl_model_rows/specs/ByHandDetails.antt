@@ -5,6 +5,7 @@ use Rattle.xl_model.specs.declared.address.Order.TheVariants as order
 use Rattle.xl_model.specs.declared.address.Kind.TheVariants as kind
 use Rattle.xl_model.specs.declared.event.Event.TheVariants as event
 use Rattle.xl_model.specs.declared.event.Scope.TheVariants as scope
+use Rattle.xl_model.specs.declared.row.Serves.TheVariants as serves
 use Rattle.xl_model.specs.declared.row.Table.TheVariants as table
 use Rattle.xl_model.specs.Rows.{Row}
 use Rattle.xl_model.specs.declared.script.Item.{Item}
@@ -15,7 +16,7 @@ use Rattle.xl_model_rows.specs.Plain.{plain_row, one_array, perm_r__u, perm_rwx_
 -- misses and takes the place of page 1, which then misses, and so does 65, and page 1 again. So 2 hits and 6 misses, each a
 -- walk of 3 loads. Pages 1, 3, 5, 65 have frames 0 to 3: the addresses are 0 + 1000 + 0 + 1000 + 2000 + 0 + 3000 + 0 = 7000.
 abbrev pub four_sets_rows : List Row
-four_sets_rows = (record plain_row { tlb = (record { level = 1; sets = 4; width = 1; k4 = true; m2 = false; g1 = false }) ∷ [] }) ∷ []
+four_sets_rows = (record plain_row { tlb = (record { level = 1; sets = 4; width = 1; k4 = true; m2 = false; g1 = false; serves = serves.All }) ∷ [] }) ∷ []
 
 -- What is served then.
 abbrev pub four_sets_items : List Item
@@ -49,7 +50,7 @@ a_page_without_u_items =
 -- hits at most one, and misses the other. The first of each page misses both: 1 hit and 3 misses in each. A walk to the
 -- 4 KiB leaf is 3 loads, to the 2 MiB leaf 2. The leaves have frames 0 and 512: 0 + 200000 + 0 + 200000 = 400000.
 abbrev pub two_arrays_in_one_level_rows : List Row
-two_arrays_in_one_level_rows = (record plain_row { frames = 1024; tlb = (record { level = 1; sets = 1; width = 2; k4 = true; m2 = false; g1 = false }) ∷ (record { level = 1; sets = 1; width = 2; k4 = false; m2 = true; g1 = false }) ∷ [] }) ∷ []
+two_arrays_in_one_level_rows = (record plain_row { frames = 1024; tlb = (record { level = 1; sets = 1; width = 2; k4 = true; m2 = false; g1 = false; serves = serves.All }) ∷ (record { level = 1; sets = 1; width = 2; k4 = false; m2 = true; g1 = false; serves = serves.All }) ∷ [] }) ∷ []
 
 -- What is served then.
 abbrev pub two_arrays_in_one_level_items : List Item

@@ -5,6 +5,7 @@ use Rattle.xl_model.specs.declared.address.Kind.TheVariants as kind
 use Rattle.xl_model.specs.declared.event.Event.TheVariants as event
 use Rattle.xl_model.specs.declared.event.Scope.TheVariants as scope
 use Rattle.xl_model.specs.declared.row.Purge.TheVariants as purge
+use Rattle.xl_model.specs.declared.row.Serves.TheVariants as serves
 use Rattle.xl_model.specs.declared.row.Table.TheVariants as table
 use Rattle.xl_model.specs.Rows.{Row}
 use Rattle.xl_model.specs.declared.script.Item.{Item}
@@ -15,7 +16,7 @@ use Rattle.xl_model_rows.specs.Plain.{plain_row, perm_r__u, perm_rw_u}
 -- The unmap of page 1 of space 0, with the purge `page`, removes the leaf alone: 1. Then both others hit.
 -- So 2 hits, 3 misses, as many walks of 3 loads and fills. The addresses are 0 + 1000 + 2000 + 2000 + 1000 = 6000.
 abbrev pub unmap_by_page_rows : List Row
-unmap_by_page_rows = (record plain_row { tlb = (record { level = 1; sets = 1; width = 8; k4 = true; m2 = true; g1 = true }) ∷ [] }) ∷ []
+unmap_by_page_rows = (record plain_row { tlb = (record { level = 1; sets = 1; width = 8; k4 = true; m2 = true; g1 = true; serves = serves.All }) ∷ [] }) ∷ []
 
 -- What is served then.
 abbrev pub unmap_by_page_items : List Item
@@ -36,7 +37,7 @@ unmap_by_page_items =
 -- The unmap of page 1 of space 0, with the purge `space`, removes both leaves of space 0: 2. Then space 1's page hits and page 2 of space 0 misses.
 -- So 1 hits, 4 misses, as many walks of 3 loads and fills. The addresses are 0 + 1000 + 2000 + 2000 + 1000 = 6000.
 abbrev pub unmap_by_space_rows : List Row
-unmap_by_space_rows = (record plain_row { purge = purge.Space; tlb = (record { level = 1; sets = 1; width = 8; k4 = true; m2 = true; g1 = true }) ∷ [] }) ∷ []
+unmap_by_space_rows = (record plain_row { purge = purge.Space; tlb = (record { level = 1; sets = 1; width = 8; k4 = true; m2 = true; g1 = true; serves = serves.All }) ∷ [] }) ∷ []
 
 -- What is served then.
 abbrev pub unmap_by_space_items : List Item
@@ -57,7 +58,7 @@ unmap_by_space_items =
 -- The unmap of page 1 of space 0, with the purge `all`, removes all: 3. Then both others miss.
 -- So 0 hits, 5 misses, as many walks of 3 loads and fills. The addresses are 0 + 1000 + 2000 + 2000 + 1000 = 6000.
 abbrev pub unmap_by_all_rows : List Row
-unmap_by_all_rows = (record plain_row { purge = purge.All; tlb = (record { level = 1; sets = 1; width = 8; k4 = true; m2 = true; g1 = true }) ∷ [] }) ∷ []
+unmap_by_all_rows = (record plain_row { purge = purge.All; tlb = (record { level = 1; sets = 1; width = 8; k4 = true; m2 = true; g1 = true; serves = serves.All }) ∷ [] }) ∷ []
 
 -- What is served then.
 abbrev pub unmap_by_all_items : List Item
@@ -78,7 +79,7 @@ unmap_by_all_items =
 -- The protect of page 1 of space 0, with the purge `page`, removes the leaf alone: 1. Then both others hit.
 -- So 2 hits, 3 misses, as many walks of 3 loads and fills. The addresses are 0 + 1000 + 2000 + 2000 + 1000 = 6000.
 abbrev pub protect_by_page_rows : List Row
-protect_by_page_rows = (record plain_row { tlb = (record { level = 1; sets = 1; width = 8; k4 = true; m2 = true; g1 = true }) ∷ [] }) ∷ []
+protect_by_page_rows = (record plain_row { tlb = (record { level = 1; sets = 1; width = 8; k4 = true; m2 = true; g1 = true; serves = serves.All }) ∷ [] }) ∷ []
 
 -- What is served then.
 abbrev pub protect_by_page_items : List Item
@@ -99,7 +100,7 @@ protect_by_page_items =
 -- The protect of page 1 of space 0, with the purge `space`, removes both leaves of space 0: 2. Then space 1's page hits and page 2 of space 0 misses.
 -- So 1 hits, 4 misses, as many walks of 3 loads and fills. The addresses are 0 + 1000 + 2000 + 2000 + 1000 = 6000.
 abbrev pub protect_by_space_rows : List Row
-protect_by_space_rows = (record plain_row { purge = purge.Space; tlb = (record { level = 1; sets = 1; width = 8; k4 = true; m2 = true; g1 = true }) ∷ [] }) ∷ []
+protect_by_space_rows = (record plain_row { purge = purge.Space; tlb = (record { level = 1; sets = 1; width = 8; k4 = true; m2 = true; g1 = true; serves = serves.All }) ∷ [] }) ∷ []
 
 -- What is served then.
 abbrev pub protect_by_space_items : List Item
@@ -120,7 +121,7 @@ protect_by_space_items =
 -- The protect of page 1 of space 0, with the purge `all`, removes all: 3. Then both others miss.
 -- So 0 hits, 5 misses, as many walks of 3 loads and fills. The addresses are 0 + 1000 + 2000 + 2000 + 1000 = 6000.
 abbrev pub protect_by_all_rows : List Row
-protect_by_all_rows = (record plain_row { purge = purge.All; tlb = (record { level = 1; sets = 1; width = 8; k4 = true; m2 = true; g1 = true }) ∷ [] }) ∷ []
+protect_by_all_rows = (record plain_row { purge = purge.All; tlb = (record { level = 1; sets = 1; width = 8; k4 = true; m2 = true; g1 = true; serves = serves.All }) ∷ [] }) ∷ []
 
 -- What is served then.
 abbrev pub protect_by_all_items : List Item
@@ -141,7 +142,7 @@ protect_by_all_items =
 -- The move of page 1 of space 0, with the purge `page`, removes the leaf alone: 1. Then both others hit.
 -- So 2 hits, 3 misses, as many walks of 3 loads and fills. The addresses are 0 + 1000 + 2000 + 2000 + 1000 = 6000.
 abbrev pub move_by_page_rows : List Row
-move_by_page_rows = (record plain_row { tlb = (record { level = 1; sets = 1; width = 8; k4 = true; m2 = true; g1 = true }) ∷ [] }) ∷ []
+move_by_page_rows = (record plain_row { tlb = (record { level = 1; sets = 1; width = 8; k4 = true; m2 = true; g1 = true; serves = serves.All }) ∷ [] }) ∷ []
 
 -- What is served then.
 abbrev pub move_by_page_items : List Item
@@ -162,7 +163,7 @@ move_by_page_items =
 -- The move of page 1 of space 0, with the purge `space`, removes both leaves of space 0: 2. Then space 1's page hits and page 2 of space 0 misses.
 -- So 1 hits, 4 misses, as many walks of 3 loads and fills. The addresses are 0 + 1000 + 2000 + 2000 + 1000 = 6000.
 abbrev pub move_by_space_rows : List Row
-move_by_space_rows = (record plain_row { purge = purge.Space; tlb = (record { level = 1; sets = 1; width = 8; k4 = true; m2 = true; g1 = true }) ∷ [] }) ∷ []
+move_by_space_rows = (record plain_row { purge = purge.Space; tlb = (record { level = 1; sets = 1; width = 8; k4 = true; m2 = true; g1 = true; serves = serves.All }) ∷ [] }) ∷ []
 
 -- What is served then.
 abbrev pub move_by_space_items : List Item
@@ -183,7 +184,7 @@ move_by_space_items =
 -- The move of page 1 of space 0, with the purge `all`, removes all: 3. Then both others miss.
 -- So 0 hits, 5 misses, as many walks of 3 loads and fills. The addresses are 0 + 1000 + 2000 + 2000 + 1000 = 6000.
 abbrev pub move_by_all_rows : List Row
-move_by_all_rows = (record plain_row { purge = purge.All; tlb = (record { level = 1; sets = 1; width = 8; k4 = true; m2 = true; g1 = true }) ∷ [] }) ∷ []
+move_by_all_rows = (record plain_row { purge = purge.All; tlb = (record { level = 1; sets = 1; width = 8; k4 = true; m2 = true; g1 = true; serves = serves.All }) ∷ [] }) ∷ []
 
 -- What is served then.
 abbrev pub move_by_all_items : List Item
@@ -202,7 +203,7 @@ move_by_all_items =
 
 -- Page 1 misses (3 loads, a fill). A map removes nothing, also with the purge `all`: page 1 hits.
 abbrev pub a_map_purges_nothing_rows : List Row
-a_map_purges_nothing_rows = (record plain_row { purge = purge.All; tlb = (record { level = 1; sets = 1; width = 8; k4 = true; m2 = true; g1 = true }) ∷ [] }) ∷ []
+a_map_purges_nothing_rows = (record plain_row { purge = purge.All; tlb = (record { level = 1; sets = 1; width = 8; k4 = true; m2 = true; g1 = true; serves = serves.All }) ∷ [] }) ∷ []
 
 -- What is served then.
 abbrev pub a_map_purges_nothing_items : List Item
@@ -215,7 +216,7 @@ a_map_purges_nothing_items =
 -- Page 1 misses (3 loads, a fill). The unmap of page 2 is refused (4), as nothing is there, and the protect of
 -- page 0 as 2 MiB too (nothing covers page 0): both leave the array. Page 1 hits.
 abbrev pub a_refused_command_purges_nothing_rows : List Row
-a_refused_command_purges_nothing_rows = (record plain_row { purge = purge.All; tlb = (record { level = 1; sets = 1; width = 8; k4 = true; m2 = true; g1 = true }) ∷ [] }) ∷ []
+a_refused_command_purges_nothing_rows = (record plain_row { purge = purge.All; tlb = (record { level = 1; sets = 1; width = 8; k4 = true; m2 = true; g1 = true; serves = serves.All }) ∷ [] }) ∷ []
 
 -- What is served then.
 abbrev pub a_refused_command_purges_nothing_items : List Item
@@ -229,7 +230,7 @@ a_refused_command_purges_nothing_items =
 -- Two levels. Page 1 misses in both: a walk of 3 loads, 2 fills. Its unmap removes 2 entries. The access after it
 -- misses in both and finds nothing: its walk is one load, since the nodes are gone too.
 abbrev pub a_purge_in_every_level_rows : List Row
-a_purge_in_every_level_rows = (record plain_row { tlb = (record { level = 1; sets = 1; width = 2; k4 = true; m2 = true; g1 = true }) ∷ (record { level = 2; sets = 1; width = 4; k4 = true; m2 = true; g1 = true }) ∷ [] }) ∷ []
+a_purge_in_every_level_rows = (record plain_row { tlb = (record { level = 1; sets = 1; width = 2; k4 = true; m2 = true; g1 = true; serves = serves.All }) ∷ (record { level = 2; sets = 1; width = 4; k4 = true; m2 = true; g1 = true; serves = serves.All }) ∷ [] }) ∷ []
 
 -- What is served then.
 abbrev pub a_purge_in_every_level_items : List Item
@@ -243,7 +244,7 @@ a_purge_in_every_level_items =
 -- Its unmap with the purge `all` removes the one leaf from the array; both nodes are still needed by page 2, so
 -- their tags stay: 1 removed. Page 2: a miss, the level 0 tag hits, 1 load, a fill. Its frame is 1.
 abbrev pub node_tags_at_a_purge_of_all_rows : List Row
-node_tags_at_a_purge_of_all_rows = (record plain_row { purge = purge.All; table = table.Radix 64 (4 ∷ 4 ∷ 0 ∷ 0 ∷ []); tlb = (record { level = 1; sets = 1; width = 8; k4 = true; m2 = true; g1 = true }) ∷ [] }) ∷ []
+node_tags_at_a_purge_of_all_rows = (record plain_row { purge = purge.All; table = table.Radix 64 (4 ∷ 4 ∷ 0 ∷ 0 ∷ []); tlb = (record { level = 1; sets = 1; width = 8; k4 = true; m2 = true; g1 = true; serves = serves.All }) ∷ [] }) ∷ []
 
 -- What is served then.
 abbrev pub node_tags_at_a_purge_of_all_items : List Item
@@ -261,7 +262,7 @@ node_tags_at_a_purge_of_all_items =
 -- The fence by the address of page 1 removes that page's leaves of both spaces and both cached ranges: 4. Then page 1
 -- of space 1 is a walk of 1 load, page 1 of space 0 one of 2, and page 2 hits its array: 1 hit, 5 misses.
 abbrev pub fence_of_addr_of_both_spaces_rows : List Row
-fence_of_addr_of_both_spaces_rows = (record plain_row { table = table.Range 4 4; tlb = (record { level = 1; sets = 1; width = 8; k4 = true; m2 = true; g1 = true }) ∷ [] }) ∷ []
+fence_of_addr_of_both_spaces_rows = (record plain_row { table = table.Range 4 4; tlb = (record { level = 1; sets = 1; width = 8; k4 = true; m2 = true; g1 = true; serves = serves.All }) ∷ [] }) ∷ []
 
 -- What is served then.
 abbrev pub fence_of_addr_of_both_spaces_items : List Item
@@ -286,7 +287,7 @@ fence_of_addr_of_both_spaces_items =
 -- The fence by the address of page 2 removes that page's leaf and the cached range of space 0, which holds page 2: 2.
 -- Then both pages 1 hit, and page 2 is a walk of 2 loads: 2 hits, 4 misses.
 abbrev pub fence_of_addr_of_one_space_rows : List Row
-fence_of_addr_of_one_space_rows = (record plain_row { table = table.Range 4 4; tlb = (record { level = 1; sets = 1; width = 8; k4 = true; m2 = true; g1 = true }) ∷ [] }) ∷ []
+fence_of_addr_of_one_space_rows = (record plain_row { table = table.Range 4 4; tlb = (record { level = 1; sets = 1; width = 8; k4 = true; m2 = true; g1 = true; serves = serves.All }) ∷ [] }) ∷ []
 
 -- What is served then.
 abbrev pub fence_of_addr_of_one_space_items : List Item
@@ -311,7 +312,7 @@ fence_of_addr_of_one_space_items =
 -- The fence by page 1 of space 1 removes that leaf and that space's cached range: 2. Then page 1 of space 1 is a walk
 -- of 1 load, and both pages of space 0 hit: 2 hits, 4 misses.
 abbrev pub fence_of_page_of_space_1_rows : List Row
-fence_of_page_of_space_1_rows = (record plain_row { table = table.Range 4 4; tlb = (record { level = 1; sets = 1; width = 8; k4 = true; m2 = true; g1 = true }) ∷ [] }) ∷ []
+fence_of_page_of_space_1_rows = (record plain_row { table = table.Range 4 4; tlb = (record { level = 1; sets = 1; width = 8; k4 = true; m2 = true; g1 = true; serves = serves.All }) ∷ [] }) ∷ []
 
 -- What is served then.
 abbrev pub fence_of_page_of_space_1_items : List Item
@@ -336,7 +337,7 @@ fence_of_page_of_space_1_items =
 -- The fence by page 1 of space 0 removes that leaf and that space's cached range: 2. Then page 1 of space 1 hits, page
 -- 1 of space 0 is a walk of 2 loads, and page 2 hits: 2 hits, 4 misses.
 abbrev pub fence_of_page_of_space_0_rows : List Row
-fence_of_page_of_space_0_rows = (record plain_row { table = table.Range 4 4; tlb = (record { level = 1; sets = 1; width = 8; k4 = true; m2 = true; g1 = true }) ∷ [] }) ∷ []
+fence_of_page_of_space_0_rows = (record plain_row { table = table.Range 4 4; tlb = (record { level = 1; sets = 1; width = 8; k4 = true; m2 = true; g1 = true; serves = serves.All }) ∷ [] }) ∷ []
 
 -- What is served then.
 abbrev pub fence_of_page_of_space_0_items : List Item
@@ -360,7 +361,7 @@ fence_of_page_of_space_0_items =
 -- miss, 1 load. So the array has 3 leaves and the range TLB 2 ranges, with 3 loads and 1 hit of it.
 -- The fence by page 2 of space 1 removes nothing: that page has a leaf and a range in space 0 alone. Then all hit.
 abbrev pub fence_of_page_of_no_leaf_rows : List Row
-fence_of_page_of_no_leaf_rows = (record plain_row { table = table.Range 4 4; tlb = (record { level = 1; sets = 1; width = 8; k4 = true; m2 = true; g1 = true }) ∷ [] }) ∷ []
+fence_of_page_of_no_leaf_rows = (record plain_row { table = table.Range 4 4; tlb = (record { level = 1; sets = 1; width = 8; k4 = true; m2 = true; g1 = true; serves = serves.All }) ∷ [] }) ∷ []
 
 -- What is served then.
 abbrev pub fence_of_page_of_no_leaf_items : List Item
@@ -385,7 +386,7 @@ fence_of_page_of_no_leaf_items =
 -- The fence by space 0 removes its two leaves and its range: 3. Then page 1 of space 1 hits, page 1 of space 0 is a
 -- walk of 2 loads that fills the range, and page 2 misses and hits it: 1 hit, 5 misses.
 abbrev pub fence_of_space_0_rows : List Row
-fence_of_space_0_rows = (record plain_row { table = table.Range 4 4; tlb = (record { level = 1; sets = 1; width = 8; k4 = true; m2 = true; g1 = true }) ∷ [] }) ∷ []
+fence_of_space_0_rows = (record plain_row { table = table.Range 4 4; tlb = (record { level = 1; sets = 1; width = 8; k4 = true; m2 = true; g1 = true; serves = serves.All }) ∷ [] }) ∷ []
 
 -- What is served then.
 abbrev pub fence_of_space_0_items : List Item
@@ -410,7 +411,7 @@ fence_of_space_0_items =
 -- The fence of all removes 3 leaves and 2 ranges: 5. Then page 1 of space 1 is a walk of 1 load, page 1 of space 0 one
 -- of 2, and page 2 hits the range filled by it: 6 misses.
 abbrev pub fence_of_all_rows : List Row
-fence_of_all_rows = (record plain_row { table = table.Range 4 4; tlb = (record { level = 1; sets = 1; width = 8; k4 = true; m2 = true; g1 = true }) ∷ [] }) ∷ []
+fence_of_all_rows = (record plain_row { table = table.Range 4 4; tlb = (record { level = 1; sets = 1; width = 8; k4 = true; m2 = true; g1 = true; serves = serves.All }) ∷ [] }) ∷ []
 
 -- What is served then.
 abbrev pub fence_of_all_items : List Item
@@ -585,7 +586,7 @@ sections_at_a_fence_of_all_items =
 -- A third one finds nothing. Then both miss: loads 2 + 3. The frames are 0 and 512: the addresses are
 -- 0 + 200000 + 0 + 200000 = 400000.
 abbrev pub a_fence_inside_a_large_leaf_rows : List Row
-a_fence_inside_a_large_leaf_rows = (record plain_row { frames = 1024; tlb = (record { level = 1; sets = 1; width = 8; k4 = true; m2 = true; g1 = true }) ∷ [] }) ∷ []
+a_fence_inside_a_large_leaf_rows = (record plain_row { frames = 1024; tlb = (record { level = 1; sets = 1; width = 8; k4 = true; m2 = true; g1 = true; serves = serves.All }) ∷ [] }) ∷ []
 
 -- What is served then.
 abbrev pub a_fence_inside_a_large_leaf_items : List Item

@@ -7,6 +7,7 @@ pub mod CuckooRows
 pub mod RangeRows
 pub mod TlbRows
 pub mod ByHandArrays
+pub mod ByHandServes
 pub mod ByHandPurges
 pub mod ByHandNodes
 pub mod ByHandRanges

@@ -8,6 +8,7 @@ use Rattle.xl_model.specs.declared.row.Purge.TheVariants as purge
 use Rattle.xl_model.specs.Rows.{Row}
 use Rattle.xl_model.specs.declared.script.Item.{Item}
 use Rattle.xl_model.specs.declared.script.Item.TheVariants.{Command, Referenced}
+use Rattle.xl_model.specs.declared.row.Serves.TheVariants as serves
 use Rattle.xl_model_rows.specs.Plain.{plain_row, one_array, perm_r__u, perm_rw_u}
 
 -- A store on a read-only leaf that hits.
@@ -81,7 +82,7 @@ spaces_and_fences_items =
 
 -- A hit in the second level fills the first.
 abbrev pub two_levels_rows : List Row
-two_levels_rows = (record plain_row { tlb = (record { level = 1; sets = 1; width = 1; k4 = true; m2 = true; g1 = true }) ∷ (record { level = 2; sets = 1; width = 4; k4 = true; m2 = true; g1 = true }) ∷ [] }) ∷ []
+two_levels_rows = (record plain_row { tlb = (record { level = 1; sets = 1; width = 1; k4 = true; m2 = true; g1 = true; serves = serves.All }) ∷ (record { level = 2; sets = 1; width = 4; k4 = true; m2 = true; g1 = true; serves = serves.All }) ∷ [] }) ∷ []
 
 -- What is served then.
 abbrev pub two_levels_items : List Item

@@ -10,6 +10,7 @@ pub mod by_hand_details;
 pub mod by_hand_nodes;
 pub mod by_hand_purges;
 pub mod by_hand_ranges;
+pub mod by_hand_serves;
 pub mod by_hand_ways;
 pub mod chains;
 pub mod commands;

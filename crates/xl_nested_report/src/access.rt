@@ -26,7 +26,7 @@ pub fn write_nest<K: Sink>(
     reply: NestReply,
 ) -> Result<(), Failed>
     requires { IsSmallNest reply }
-    ensures { SinkAfter K.taken K.outside K.roomy (nest_line number kind va reply)
+    ensures { SinkAfter K.sink (nest_line number kind va reply)
         out.old out.new (is_ok result) }
 {
     let mut line = Line::<128>::new();

@@ -16,7 +16,7 @@ use xl_report::Line;
 /// `Failed` only where the sink's faults rose; then the beginning of the line was appended.
 #[tactic(auto, unfolding(crate::specs::Lines::nest_counts_line))]
 pub fn write_nest_counts<K: Sink>(out: &mut K, counts: &NestCounts) -> Result<(), Failed>
-    ensures { SinkAfter K.taken K.outside K.roomy (nest_counts_line counts.now)
+    ensures { SinkAfter K.sink (nest_counts_line counts.now)
         out.old out.new (is_ok result) }
 {
     let mut line = Line::<512>::new();

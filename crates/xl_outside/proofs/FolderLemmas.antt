@@ -1,12 +1,11 @@
 -- Calls on a folder, one after another.
 use Rattle.std.proofs.Common.{◌≡◌, ℕ, refl, ◌∙◌, inl, inr, arith}
-use Rattle.std.specs.Prelude.{Option}
 use Rattle.xl_outside.specs.Outside.{Counted}
-use Rattle.xl_outside.specs.Folders.{Files, FolderAfter, ReadFate, Fine, ReadFailed, FileMissing, FateCounts}
+use Rattle.xl_outside.specs.Folders.{FolderMeaning, FolderAfter, ReadFate, Fine, ReadFailed, FileMissing, FateCounts}
 
 -- no call
-pub folder_same : {D : Type 0} (files : D → Option Files) (faults absences : D → ℕ) (steady : D → Type 0) (a : D) → FolderAfter files faults absences steady a a Fine
-folder_same files faults absences steady a =
+pub folder_same : {D : Type 0} (folder : FolderMeaning D) (a : D) → FolderAfter folder a a Fine
+folder_same folder a =
     record { keeps = refl; counts = (refl, refl); calm = λ h. (tt, h) }
 
 counted_later : (a b c : ℕ) → b ≡ a → Counted b c → Counted a c
@@ -19,10 +18,10 @@ counts_later ReadFailed f g h a b c k l x = (counted_later f g h k x.0, x.1 ∙ 
 counts_later FileMissing f g h a b c k l x = (x.0 ∙ k, counted_later a b c l x.1)
 
 -- calls that were all fine, and others after them
-pub folder_then : {D : Type 0} (files : D → Option Files) (faults absences : D → ℕ) (steady : D → Type 0) (a b c : D) (fate : ReadFate)
-    → FolderAfter files faults absences steady a b Fine → FolderAfter files faults absences steady b c fate → FolderAfter files faults absences steady a c fate
-folder_then files faults absences steady a b c fate x y = record {
+pub folder_then : {D : Type 0} (folder : FolderMeaning D) (a b c : D) (fate : ReadFate)
+    → FolderAfter folder a b Fine → FolderAfter folder b c fate → FolderAfter folder a c fate
+folder_then folder a b c fate x y = record {
   keeps = y.keeps ∙ x.keeps;
-  counts = counts_later fate (faults a) (faults b) (faults c) (absences a) (absences b) (absences c) x.counts.0 x.counts.1 y.counts;
+  counts = counts_later fate (folder.faults a) (folder.faults b) (folder.faults c) (folder.absences a) (folder.absences b) (folder.absences c) x.counts.0 x.counts.1 y.counts;
   calm = λ h. y.calm (x.calm h).1;
 }

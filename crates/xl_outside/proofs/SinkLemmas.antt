@@ -4,7 +4,7 @@ use Rattle.std.specs.Prelude.{Option, None, Some}
 use Rattle.std.proofs.lemmas.List.{take-append-le, take-append-drop, take_all, take_rest, append_cancel_left}
 use Rattle.std.proofs.Math.Seq.{take-add, take-append-add, take-append_seam}
 use Rattle.xl_outside.specs.Outside.{Counted}
-use Rattle.xl_outside.specs.Sinks.{Outside, SinkAfter, FlushAfter, SentAfter, IsFlushed, GoesOn, IsMore, Wrote, WroteFront, WriteCounts, with_more}
+use Rattle.xl_outside.specs.Sinks.{Outside, SinkMeaning, SinkAfter, FlushAfter, SentAfter, IsFlushed, GoesOn, IsMore, Wrote, WroteFront, WriteCounts, with_more}
 use Rattle.xl_outside.specs.Fronts.{with_none, with_more-twice, more_none, more_then}
 
 -- the first `a`, and `n` of the rest as a slice of it is written
@@ -28,11 +28,11 @@ pub goes_same : (o : Outside) → GoesOn true o o
 goes_same o = record { stays = more_none o.written; counts = refl }
 
 -- nothing is put
-pub sink_same : {D : Type 0} (taken : D → Option (List ℕ)) (outside : D → Outside) (roomy : D → ℕ → Type 0) (a : D) → SinkAfter taken outside roomy [] a a true
-sink_same taken outside roomy a = record {
-  took = with_none (taken a);
-  goes_on = goes_same (outside a);
-  calm = λ room h k. (refl, subst (roomy a) (let e : room ≡ room - 0 = omega arith in e) h);
+pub sink_same : {D : Type 0} (sink : SinkMeaning D) (a : D) → SinkAfter sink [] a a true
+sink_same sink a = record {
+  took = with_none (sink.taken a);
+  goes_on = goes_same (sink.outside a);
+  calm = λ room h k. (refl, subst (sink.roomy a) (let e : room ≡ room - 0 = omega arith in e) h);
 }
 
 wrote_then : (whole : Bool) (a b c : Option (List ℕ)) (xs ys : List ℕ) → b ≡ with_more a xs → Wrote whole b ys c → Wrote whole a (xs ++ ys) c
@@ -58,17 +58,17 @@ goes_then whole a b c h k = record {
 }
 
 -- a whole text, and another after it
-pub sink_then : {D : Type 0} (taken : D → Option (List ℕ)) (outside : D → Outside) (roomy : D → ℕ → Type 0) (xs ys : List ℕ) (a b c : D) (whole : Bool)
-    → SinkAfter taken outside roomy xs a b true → SinkAfter taken outside roomy ys b c whole → SinkAfter taken outside roomy (xs ++ ys) a c whole
-sink_then taken outside roomy xs ys a b c whole x y = record {
-  took = wrote_then whole (taken a) (taken b) (taken c) xs ys x.took y.took;
-  goes_on = goes_then whole (outside a) (outside b) (outside c) x.goes_on y.goes_on;
+pub sink_then : {D : Type 0} (sink : SinkMeaning D) (xs ys : List ℕ) (a b c : D) (whole : Bool)
+    → SinkAfter sink xs a b true → SinkAfter sink ys b c whole → SinkAfter sink (xs ++ ys) a c whole
+sink_then sink xs ys a b c whole x y = record {
+  took = wrote_then whole (sink.taken a) (sink.taken b) (sink.taken c) xs ys x.took y.took;
+  goes_on = goes_then whole (sink.outside a) (sink.outside b) (sink.outside c) x.goes_on y.goes_on;
   calm = λ room h k.
       let size : length (xs ++ ys) ≡ length xs + length ys = length-append xs ys in
       let s = x.calm room h (omega arith) in
       let t = y.calm (room - length xs) s.1 (omega arith) in
       let e : (room - length xs) - length ys ≡ room - length (xs ++ ys) = omega arith in
-      (t.0, subst (roomy c) e t.1);
+      (t.0, subst (sink.roomy c) e t.1);
 }
 
 pub front_of_more : (a c : Option (List ℕ)) (xs ys : List ℕ) → WroteFront a xs c → WroteFront a (xs ++ ys) c
@@ -78,10 +78,10 @@ front_of_more a c xs ys k =
     (k.0, omega arith, k.2 ∙ ap (with_more a) (sym (take-append-le k.0 xs ys fits)))
 
 -- where a put of the first text failed, the second never came
-pub sink_cut : {D : Type 0} (taken : D → Option (List ℕ)) (outside : D → Outside) (roomy : D → ℕ → Type 0) (xs ys : List ℕ) (a b : D)
-    → SinkAfter taken outside roomy xs a b false → SinkAfter taken outside roomy (xs ++ ys) a b false
-sink_cut taken outside roomy xs ys a b x = record {
-  took = front_of_more (taken a) (taken b) xs ys x.took;
+pub sink_cut : {D : Type 0} (sink : SinkMeaning D) (xs ys : List ℕ) (a b : D)
+    → SinkAfter sink xs a b false → SinkAfter sink (xs ++ ys) a b false
+sink_cut sink xs ys a b x = record {
+  took = front_of_more (sink.taken a) (sink.taken b) xs ys x.took;
   goes_on = x.goes_on;
   calm = λ room h k.
       let size : length (xs ++ ys) ≡ length xs + length ys = length-append xs ys in
@@ -116,28 +116,28 @@ front_written (Some x) taken written text (n, few, k) (more, h) (rest, l) =
     (m, omega arith, h ∙ ap (λ (t : List ℕ). Some (x ++ t)) (sym front))
 
 -- a text that was put, and then flushed, by a sink that held nothing
-pub sent_flushed : {D : Type 0} (taken : D → Option (List ℕ)) (outside : D → Outside) (roomy : D → ℕ → Type 0) (text : List ℕ) (a b c : D) (whole : Bool)
-    → IsFlushed taken outside a → SinkAfter taken outside roomy text a b true → FlushAfter taken outside roomy b c whole
-    → IsMore (outside c).written (taken c) → SentAfter outside roomy text a c whole
-sent_flushed taken outside roomy text a b c true e x y l = record {
+pub sent_flushed : {D : Type 0} (sink : SinkMeaning D) (text : List ℕ) (a b c : D) (whole : Bool)
+    → IsFlushed sink a → SinkAfter sink text a b true → FlushAfter sink b c whole
+    → IsMore (sink.outside c).written (sink.taken c) → SentAfter sink text a c whole
+sent_flushed sink text a b c true e x y l = record {
   wrote = y.flushed ∙ y.keeps ∙ x.took ∙ ap (λ (w : Option (List ℕ)). with_more w text) (sym e);
-  counts = (goes_then true (outside a) (outside b) (outside c) x.goes_on y.goes_on).counts;
+  counts = (goes_then true (sink.outside a) (sink.outside b) (sink.outside c) x.goes_on y.goes_on).counts;
   calm = λ room h k. refl;
 }
-sent_flushed taken outside roomy text a b c false e x y l =
-    let front : WroteFront (taken a) text (taken c) = (length text, omega arith, y.keeps ∙ x.took ∙ ap (with_more (taken a)) (sym (take_all (length text) text (omega arith)))) in
-    let goes = goes_then false (outside a) (outside b) (outside c) x.goes_on y.goes_on in record {
-      wrote = front_written (outside a).written (taken c) (outside c).written text (subst (λ (w : Option (List ℕ)). WroteFront w text (taken c)) (sym e) front) goes.stays l;
+sent_flushed sink text a b c false e x y l =
+    let front : WroteFront (sink.taken a) text (sink.taken c) = (length text, omega arith, y.keeps ∙ x.took ∙ ap (with_more (sink.taken a)) (sym (take_all (length text) text (omega arith)))) in
+    let goes = goes_then false (sink.outside a) (sink.outside b) (sink.outside c) x.goes_on y.goes_on in record {
+      wrote = front_written (sink.outside a).written (sink.taken c) (sink.outside c).written text (subst (λ (w : Option (List ℕ)). WroteFront w text (sink.taken c)) (sym e) front) goes.stays l;
       counts = goes.counts;
       calm = λ room h k. (y.calm (room - length text) (x.calm room h k).1).0;
     }
 
 -- a text of which a put failed
-pub sent_cut : {D : Type 0} (taken : D → Option (List ℕ)) (outside : D → Outside) (roomy : D → ℕ → Type 0) (text : List ℕ) (a b : D)
-    → IsFlushed taken outside a → SinkAfter taken outside roomy text a b false → IsMore (outside b).written (taken b)
-    → SentAfter outside roomy text a b false
-sent_cut taken outside roomy text a b e x l = record {
-  wrote = front_written (outside a).written (taken b) (outside b).written text (subst (λ (w : Option (List ℕ)). WroteFront w text (taken b)) (sym e) x.took) x.goes_on.stays l;
+pub sent_cut : {D : Type 0} (sink : SinkMeaning D) (text : List ℕ) (a b : D)
+    → IsFlushed sink a → SinkAfter sink text a b false → IsMore (sink.outside b).written (sink.taken b)
+    → SentAfter sink text a b false
+sent_cut sink text a b e x l = record {
+  wrote = front_written (sink.outside a).written (sink.taken b) (sink.outside b).written text (subst (λ (w : Option (List ℕ)). WroteFront w text (sink.taken b)) (sym e) x.took) x.goes_on.stays l;
   counts = x.goes_on.counts;
   calm = λ room h k. (x.calm room h k).0;
 }

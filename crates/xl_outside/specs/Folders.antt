@@ -67,9 +67,17 @@ NoneFailed Fine = Unit {0}
 NoneFailed ReadFailed = ⊥
 NoneFailed FileMissing = Unit {0}
 
+-- What a folder of one type means: its files, where it tells them; how many reads failed, and how many asked for a
+-- file that isn't there, numbers that never fall; and that no read fails from here on.
+pub record FolderMeaning (D : Type 0) : Type 1 where
+  pub files : D → Option Files
+  pub faults : D → ℕ
+  pub absences : D → ℕ
+  pub steady : D → Type 0
+
 -- What calls that came to this fate leave of a folder: its files stay, its counts rise by what
 -- failed, and in a steady folder no read fails and it is steady still.
-pub record FolderAfter {D : Type 0} (files : D → Option Files) (faults absences : D → ℕ) (steady : D → Type 0) (old new : D) (fate : ReadFate) : Type 0 where
-  pub keeps : files new ≡ files old
-  pub counts : FateCounts fate (faults old) (faults new) (absences old) (absences new)
-  pub calm : steady old → NoneFailed fate × steady new
+pub record FolderAfter {D : Type 0} (folder : FolderMeaning D) (old new : D) (fate : ReadFate) : Type 0 where
+  pub keeps : folder.files new ≡ folder.files old
+  pub counts : FateCounts fate (folder.faults old) (folder.faults new) (folder.absences old) (folder.absences new)
+  pub calm : folder.steady old → NoneFailed fate × folder.steady new

@@ -6,8 +6,8 @@ use Rattle.std.specs.declared.string.String.{String}
 use Rattle.std.specs.String.{string_bytes}
 use Rattle.std.specs.List.{list_any}
 use Rattle.xl_outside.specs.Outside.{raised}
-use Rattle.xl_outside.specs.Folders.{Files, file_of}
-use Rattle.xl_outside.specs.Sinks.{Outside}
+use Rattle.xl_outside.specs.Folders.{Files, FolderMeaning, file_of}
+use Rattle.xl_outside.specs.Sinks.{Outside, SinkMeaning}
 use Rattle.xl_outside.specs.declared.folder.Unread.{Unread}
 use Rattle.xl_outside.specs.declared.folder.Unread.TheVariants.{Missing, Failed}
 use Rattle.xl_outside.specs.declared.sink.Failed.{Failed as PutFailed}
@@ -55,6 +55,10 @@ after_read s (Ok n) = record s { calls = raised s.calls }
 after_read s (Err Failed) = record s { calls = raised s.calls; failed = raised s.failed }
 after_read s (Err Missing) = record s { calls = raised s.calls; missed = raised s.missed }
 
+-- what a folder in memory means: it tells its files
+abbrev pub told_folder : FolderMeaning FolderState
+told_folder = record { files = λ s. Some s.held; faults = λ s. s.failed; absences = λ s. s.missed; steady = NeverFails }
+
 -- a sink in memory: what was written, how many bytes it holds at most, the numbers of the puts that
 -- are to fail, the most bytes of a put, and how many puts of bytes and faults there were
 pub record SinkState : Type 0 where
@@ -76,6 +80,10 @@ done_outside s = record { written = Some s.text; faults = s.failed }
 -- no put of it is to fail while so many more bytes come, and its faults don't stand at the counter's last value
 abbrev pub HasRoom : SinkState → ℕ → Type 0
 HasRoom s more = (s.failing ≡ []) × (s.failed ≡ 0) × (length s.text + more ≤ s.capacity)
+
+-- what a sink in memory means: it tells what it took
+abbrev pub text_sink : SinkMeaning SinkState
+text_sink = record { taken = λ s. Some s.text; outside = done_outside; roomy = HasRoom }
 
 -- what a put of so many bytes, at least one, comes to: the least of the piece, the room and the bytes
 abbrev pub put_part : SinkState → ℕ → Result ℕ PutFailed

@@ -9,6 +9,13 @@ pub record Outside : Type 0 where
   pub written : Option (List ℕ)
   pub faults : ℕ
 
+-- What a sink of one type means: all bytes that it took, where it tells them; what it has done outside; and that no put
+-- fails for so many more bytes, and no flush.
+pub record SinkMeaning (D : Type 0) : Type 1 where
+  pub taken : D → Option (List ℕ)
+  pub outside : D → Outside
+  pub roomy : D → ℕ → Type 0
+
 -- what a sink was given, and these bytes after it; a sink that doesn't tell still doesn't
 abbrev pub with_more : Option (List ℕ) → List ℕ → Option (List ℕ)
 with_more None bytes = None
@@ -39,11 +46,11 @@ PutLeaves (Err e) size leaves = ⊥
 
 -- What one put of a piece leaves of a sink. What was written outside stays. Where the sink has room for the piece, the
 -- put takes some of it, and the rest of the room is left.
-pub record PutAfter {D : Type 0} (taken : D → Option (List ℕ)) (outside : D → Outside) (roomy : D → ℕ → Type 0) (piece : List ℕ) (old new : D) (result : Result ℕ Failed) : Type 0 where
-  pub took : PutTook result (taken old) piece (taken new)
-  pub stays : IsMore (outside old).written (outside new).written
-  pub counts : PutCounts result (length piece) (outside old).faults (outside new).faults
-  pub calm : (room : ℕ) → roomy old room → length piece ≤ room → PutLeaves result (length piece) (λ n. roomy new (room - n))
+pub record PutAfter {D : Type 0} (sink : SinkMeaning D) (piece : List ℕ) (old new : D) (result : Result ℕ Failed) : Type 0 where
+  pub took : PutTook result (sink.taken old) piece (sink.taken new)
+  pub stays : IsMore (sink.outside old).written (sink.outside new).written
+  pub counts : PutCounts result (length piece) (sink.outside old).faults (sink.outside new).faults
+  pub calm : (room : ℕ) → sink.roomy old room → length piece ≤ room → PutLeaves result (length piece) (λ n. sink.roomy new (room - n))
 
 -- all of the text came, or its front where a put failed
 abbrev pub Wrote : Bool → Option (List ℕ) → List ℕ → Option (List ℕ) → Type 0
@@ -62,14 +69,14 @@ pub record GoesOn (whole : Bool) (before after : Outside) : Type 0 where
 
 -- What putting a text leaves of a sink: it took the text whole, or its front up to a put that failed. Where the sink
 -- has room for the text, no put fails, and the rest of the room is left.
-pub record SinkAfter {D : Type 0} (taken : D → Option (List ℕ)) (outside : D → Outside) (roomy : D → ℕ → Type 0) (text : List ℕ) (old new : D) (whole : Bool) : Type 0 where
-  pub took : Wrote whole (taken old) text (taken new)
-  pub goes_on : GoesOn whole (outside old) (outside new)
-  pub calm : (room : ℕ) → roomy old room → length text ≤ room → (whole ≡ true) × roomy new (room - length text)
+pub record SinkAfter {D : Type 0} (sink : SinkMeaning D) (text : List ℕ) (old new : D) (whole : Bool) : Type 0 where
+  pub took : Wrote whole (sink.taken old) text (sink.taken new)
+  pub goes_on : GoesOn whole (sink.outside old) (sink.outside new)
+  pub calm : (room : ℕ) → sink.roomy old room → length text ≤ room → (whole ≡ true) × sink.roomy new (room - length text)
 
 -- all that the sink took is written
-abbrev pub IsFlushed : {D : Type 0} (taken : D → Option (List ℕ)) (outside : D → Outside) → D → Type 0
-IsFlushed taken outside s = (outside s).written ≡ taken s
+abbrev pub IsFlushed : {D : Type 0} → SinkMeaning D → D → Type 0
+IsFlushed sink s = (sink.outside s).written ≡ sink.taken s
 
 -- where all went well, all that the sink took is written
 abbrev pub FlushedWhere : Bool → (written taken : Option (List ℕ)) → Type 0
@@ -77,15 +84,15 @@ FlushedWhere true written taken = written ≡ taken
 FlushedWhere false written taken = Unit {0}
 
 -- What a flush leaves of a sink. Where the sink has room, it does not fail, and the room is left.
-pub record FlushAfter {D : Type 0} (taken : D → Option (List ℕ)) (outside : D → Outside) (roomy : D → ℕ → Type 0) (old new : D) (whole : Bool) : Type 0 where
-  pub keeps : taken new ≡ taken old
-  pub flushed : FlushedWhere whole (outside new).written (taken new)
-  pub goes_on : GoesOn whole (outside old) (outside new)
-  pub calm : (room : ℕ) → roomy old room → (whole ≡ true) × roomy new room
+pub record FlushAfter {D : Type 0} (sink : SinkMeaning D) (old new : D) (whole : Bool) : Type 0 where
+  pub keeps : sink.taken new ≡ sink.taken old
+  pub flushed : FlushedWhere whole (sink.outside new).written (sink.taken new)
+  pub goes_on : GoesOn whole (sink.outside old) (sink.outside new)
+  pub calm : (room : ℕ) → sink.roomy old room → (whole ≡ true) × sink.roomy new room
 
 -- What sending a text leaves of a sink that was flushed: the text is written whole, or its front up to a put that
 -- failed. Where the sink has room for the text, no put fails.
-pub record SentAfter {D : Type 0} (outside : D → Outside) (roomy : D → ℕ → Type 0) (text : List ℕ) (old new : D) (whole : Bool) : Type 0 where
-  pub wrote : Wrote whole (outside old).written text (outside new).written
-  pub counts : WriteCounts whole (outside old).faults (outside new).faults
-  pub calm : (room : ℕ) → roomy old room → length text ≤ room → whole ≡ true
+pub record SentAfter {D : Type 0} (sink : SinkMeaning D) (text : List ℕ) (old new : D) (whole : Bool) : Type 0 where
+  pub wrote : Wrote whole (sink.outside old).written text (sink.outside new).written
+  pub counts : WriteCounts whole (sink.outside old).faults (sink.outside new).faults
+  pub calm : (room : ℕ) → sink.roomy old room → length text ≤ room → whole ≡ true

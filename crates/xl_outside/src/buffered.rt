@@ -40,11 +40,12 @@ impl<K: Sink + Drop> Buffered<K> {
     /// Puts all that is held to the other sink.
     fn pass_on(&mut self) -> Result<(), Failed>
         ensures none { OnOk result (self.new.held.items ≡ []) }
-        ensures kept { with_more (K.taken self.new.to) self.new.held.items
-            ≡ with_more (K.taken self.old.to) self.old.held.items }
-        ensures goes_on { GoesOn (is_ok result) (K.outside self.old.to) (K.outside self.new.to) }
-        ensures calm { (room : ℕ) → K.roomy self.old.to (length self.old.held.items + room)
-            → (is_ok result ≡ true) × K.roomy self.new.to room }
+        ensures kept { with_more (K.sink.taken self.new.to) self.new.held.items
+            ≡ with_more (K.sink.taken self.old.to) self.old.held.items }
+        ensures goes_on { GoesOn (is_ok result)
+            (K.sink.outside self.old.to) (K.sink.outside self.new.to) }
+        ensures calm { (room : ℕ) → K.sink.roomy self.old.to (length self.old.held.items + room)
+            → (is_ok result ≡ true) × K.sink.roomy self.new.to room }
     {
         while !self.held.is_empty() {
             match self.to.put(self.held.as_slice()) {
@@ -66,11 +67,11 @@ fn drop_front(held: &mut ArrayVec<u8, ROOM>, count: usize)
 }
 
 impl<K: Sink + Drop> Sink for Buffered<K> {
-    ghost taken = { λ s. with_more (K.taken s.to) s.held.items };
-
-    ghost outside = { λ s. K.outside s.to };
-
-    ghost roomy = { λ s room. K.roomy s.to (length s.held.items + room) };
+    ghost sink = { record {
+      taken = λ s. with_more (K.sink.taken s.to) s.held.items;
+      outside = λ s. K.sink.outside s.to;
+      roomy = λ s room. K.sink.roomy s.to (length s.held.items + room);
+    } };
 
     fn put(&mut self, bytes: &[u8]) -> Result<usize, Failed> {
         if bytes.len() > self.held.remaining_capacity() {
@@ -86,6 +87,6 @@ impl<K: Sink + Drop> Sink for Buffered<K> {
         self.to.flush()
     }
 
-    ghost fronts = { λ s. fronts_held (K.outside s.to).written (K.taken s.to) s.held.items
+    ghost fronts = { λ s. fronts_held (K.sink.outside s.to).written (K.sink.taken s.to) s.held.items
         (K.fronts s.to) };
 }

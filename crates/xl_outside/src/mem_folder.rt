@@ -2,7 +2,7 @@
 
 ghost use Rattle.std.specs.Prelude.{◌≡◌, ℕ, ◌+◌, ◌-◌, ◌^◌, ◌<◌, ◌≤◌, min, length, take, drop, Option, Some, None, Ok, Err, if◌then◌else◌, IfOk, IfSome, option_copied, option_map};
 ghost use Rattle.xl_outside.specs.Folders.{Files, file_of, Tells, Reads, FolderAfter, fate_by, unread_fate};
-ghost use Rattle.xl_outside.specs.Memory.{FolderState, told, is_listed, part_of, opened_folder, NeverFails, read_answer, after_read};
+ghost use Rattle.xl_outside.specs.Memory.{FolderState, told, is_listed, part_of, opened_folder, told_folder, read_answer, after_read};
 
 use crate::folder::{Folder, Unread};
 use std::marker::Model;
@@ -57,22 +57,14 @@ impl MemFolder {
 }
 
 impl Folder for MemFolder {
-    ghost files = { λ s. Some s.held };
-
-    ghost faults = { λ s. s.failed };
-
-    ghost absences = { λ s. s.missed };
-
-    ghost steady = { NeverFails };
+    ghost folder = { told_folder };
 
     fn read_at(&mut self, name: &str, at: u64, buf: &mut [u8]) -> Result<usize, Unread>
         ensures answer { result ≡ read_answer self.old name.now at (length buf.old) }
         ensures after { self.new ≡ after_read self.old result }
         ensures count { IfOk result (λ n. n ≤ length buf.new) }
         ensures told { Tells (file_of self.old.held name.now) at result buf.old buf.new }
-        ensures leaves { FolderAfter (λ (s : FolderState). Some s.held)
-            (λ (s : FolderState). s.failed) (λ (s : FolderState). s.missed) NeverFails
-            self.old self.new (fate_by unread_fate result) }
+        ensures leaves { FolderAfter told_folder self.old self.new (fate_by unread_fate result) }
     {
         self.calls = self.calls.saturating_add(1);
         let answer = if self.failing.contains(&self.calls) {

@@ -3,7 +3,7 @@
 ghost use Rattle.std.specs.Prelude.{◌≡◌, ℕ, ◌+◌, ◌-◌, ◌^◌, ◌<◌, ◌≤◌, ◌++◌, [], min, length, take, drop, Option, Some, Ok, Err, if◌then◌else◌, IfOk, OnErr, is_ok};
 ghost use Rattle.xl_outside.specs.Sinks.{with_more, Outside, IsMore, PutAfter, FlushAfter};
 ghost use Rattle.xl_outside.specs.Fronts.{more_none};
-ghost use Rattle.xl_outside.specs.Memory.{SinkState, is_listed, opened_sink, HasRoom, done_outside, put_answer, after_put};
+ghost use Rattle.xl_outside.specs.Memory.{SinkState, is_listed, opened_sink, text_sink, put_answer, after_put};
 
 use crate::sink::{Failed, Sink};
 use std::alloc::Global;
@@ -74,19 +74,14 @@ impl MemSink {
 }
 
 impl Sink for MemSink {
-    ghost taken = { λ s. Some s.text };
-
-    ghost outside = { done_outside };
-
-    ghost roomy = { HasRoom };
+    ghost sink = { text_sink };
 
     fn put(&mut self, bytes: &[u8]) -> Result<usize, Failed>
         ensures answer { result ≡ put_answer self.old (length bytes.now) }
         ensures after { self.new ≡ after_put self.old bytes.now result }
         ensures count { IfOk result (λ n. n ≤ length bytes.now) }
         ensures empty { length bytes.now ≡ 0 → result ≡ Ok 0 }
-        ensures leaves { PutAfter (λ (s : SinkState). Some s.text) done_outside HasRoom
-            bytes.now self.old self.new result }
+        ensures leaves { PutAfter text_sink bytes.now self.old self.new result }
     {
         if bytes.is_empty() {
             return Ok(0);
@@ -105,8 +100,7 @@ impl Sink for MemSink {
     /// Each put writes at once, so there is nothing to write.
     fn flush(&mut self) -> Result<(), Failed>
         ensures same { self.new ≡ self.old }
-        ensures leaves { FlushAfter (λ (s : SinkState). Some s.text) done_outside HasRoom
-            self.old self.new (is_ok result) }
+        ensures leaves { FlushAfter text_sink self.old self.new (is_ok result) }
     {
         Ok(())
     }

@@ -68,11 +68,13 @@ impl<O: Opener<S> + Drop, S: Stream + Drop> OpenFolder<O, S> {
 }
 
 impl<O: Opener<S> + Drop, S: Stream + Drop> Folder for OpenFolder<O, S> {
-    ghost files = { λ f. O.files f.opener };
-
-    ghost faults = { λ f. f.faults };
-
-    ghost absences = { λ f. f.absences };
+    /// It doesn't know whether a read will fail.
+    ghost folder = { record {
+      files = λ f. O.files f.opener;
+      faults = λ f. f.faults;
+      absences = λ f. f.absences;
+      steady = λ _. ⊥;
+    } };
 
     fn read_at(&mut self, name: &str, at: u64, buf: &mut [u8]) -> Result<usize, Unread> {
         let answer = self.read(name, at, buf);

@@ -38,9 +38,12 @@ impl<W: Writer + Drop> OpenSink<W> {
 }
 
 impl<W: Writer + Drop> Sink for OpenSink<W> {
-    ghost taken = { λ s. W.text s.to };
-
-    ghost outside = { λ s. record { written = W.text s.to; faults = s.faults } };
+    /// It doesn't know of any room.
+    ghost sink = { record {
+      taken = λ s. W.text s.to;
+      outside = λ s. record { written = W.text s.to; faults = s.faults };
+      roomy = λ _ _. ⊥;
+    } };
 
     fn put(&mut self, bytes: &[u8]) -> Result<usize, Failed> {
         if bytes.is_empty() {

@@ -1,7 +1,7 @@
 //! A sink that takes bytes.
 
 ghost use Rattle.std.specs.Prelude.{◌≡◌, ℕ, ◌+◌, ◌-◌, ◌^◌, ◌<◌, ◌≤◌, length, take, drop, List, Option, Ok, IfOk, OnOk, OnErr, is_ok};
-ghost use Rattle.xl_outside.specs.Sinks.{Outside, IsMore, PutAfter, SinkAfter, FlushAfter, SentAfter, IsFlushed};
+ghost use Rattle.xl_outside.specs.Sinks.{SinkMeaning, IsMore, PutAfter, SinkAfter, FlushAfter, SentAfter, IsFlushed};
 
 use thiserror::Error;
 
@@ -13,34 +13,28 @@ pub struct Failed;
 /// What takes bytes, some at a time, and writes them outside: at once, or at the latest where it is
 /// flushed.
 pub trait Sink {
-    /// All bytes that it took, where it tells them.
-    ghost taken: { Self → Option (List ℕ) };
-
-    /// What it has done outside.
-    ghost outside: { Self → Outside };
-
-    /// No put fails for so many more bytes, and no flush. A sink that doesn't know claims nothing.
-    ghost roomy: { Self → ℕ → Type 0 } = { λ _ _. ⊥ };
+    /// What it took, what it has done outside, and for how much more it has room.
+    ghost sink: { SinkMeaning Self };
 
     /// Takes the first bytes of the piece, and answers how many. An answer of 0 to a piece that
     /// isn't empty counts as a fault; an empty piece is answered 0, and counts as none.
     fn put(&mut self, bytes: &[u8]) -> Result<usize, Failed>
         ensures count { IfOk result (λ n. n ≤ length bytes.now) }
         ensures empty { length bytes.now ≡ 0 → result ≡ Ok 0 }
-        ensures leaves { PutAfter taken outside roomy bytes.now self.old self.new result };
+        ensures leaves { PutAfter sink bytes.now self.old self.new result };
 
     /// Writes what it took and has not yet written.
     fn flush(&mut self) -> Result<(), Failed>
-        ensures { FlushAfter taken outside roomy self.old self.new (is_ok result) };
+        ensures { FlushAfter sink self.old self.new (is_ok result) };
 
     /// What is written is the front of what it took.
-    ghost fronts: { (s : Self) → IsMore (outside s).written (taken s) };
+    ghost fronts: { (s : Self) → IsMore (sink.outside s).written (sink.taken s) };
 }
 
 /// Puts a whole piece, in as many puts as it takes. Where one of them fails or takes nothing, the
 /// first bytes of the piece were taken.
 pub fn put_all<K: Sink>(out: &mut K, bytes: &[u8]) -> Result<(), Failed>
-    ensures { SinkAfter K.taken K.outside K.roomy bytes.now out.old out.new (is_ok result) }
+    ensures { SinkAfter K.sink bytes.now out.old out.new (is_ok result) }
 {
     let mut done = 0;
     while done < bytes.len() {
@@ -56,8 +50,8 @@ pub fn put_all<K: Sink>(out: &mut K, bytes: &[u8]) -> Result<(), Failed>
 /// Puts a whole piece and flushes, so that the piece is written. Where a put fails, the first bytes
 /// of the piece may have been written.
 pub fn send_all<K: Sink>(out: &mut K, bytes: &[u8]) -> Result<(), Failed>
-    requires { IsFlushed K.taken K.outside out.old }
-    ensures { SentAfter K.outside K.roomy bytes.now out.old out.new (is_ok result) }
+    requires { IsFlushed K.sink out.old }
+    ensures { SentAfter K.sink bytes.now out.old out.new (is_ok result) }
 {
     match put_all(out, bytes) {
         Ok(()) => out.flush(),

@@ -52,9 +52,9 @@ pub fn read_whole<F: Folder>(
 ) -> Result<Vec<u8>, ReadStop>
     requires { limit < 2 ^ 63 }
     ensures size { IfOk result (λ bytes. vec_len bytes ≤ limit + 1) }
-    ensures told { IfSome (F.files folder.old)
+    ensures told { IfSome (F.folder.files folder.old)
         (λ fs. TellsWhole (file_of fs name.now) limit result) }
-    ensures leaves { FolderAfter F.files F.faults F.absences F.steady folder.old folder.new
+    ensures leaves { FolderAfter F.folder folder.old folder.new
         (fate_by read_stop_fate result) }
 {
     let mut bytes = Vec::new(alloc);

@@ -10,7 +10,7 @@ use Rattle.xl_model.specs.declared.fault.InputFault.{InputFault}
 use Rattle.xl_model.specs.Courses.{Trail}
 use Rattle.xl_outside.specs.Whole.{TellsWhole}
 use Rattle.xl_outside.specs.Fronts.{with_none}
-use Rattle.xl_outside.specs.Sinks.{Outside, SinkAfter}
+use Rattle.xl_outside.specs.Sinks.{SinkMeaning, SinkAfter}
 use Rattle.xl_outside.proofs.SinkLemmas.{sink_same}
 use Rattle.xl_script.specs.declared.fault.ScriptFault.{ScriptFault}
 use Rattle.xl_script.specs.declared.fault.ScriptFault.TheVariants as fault
@@ -90,13 +90,13 @@ module _ {A C E S : Type 0} (p : Pairing A C E S) where
   pub skimmed_none : (stands : Type 0) (t : Trail) (s : S) → stands → Skimmed (meaning_of p) stands t t s s 0
   skimmed_none stands t s h = record { stands_still = h; taken = []; split = refl; follow = refl; many = refl }
 
-  module _ {K : Type 0} (taken : K → Option (List ℕ)) (outside : K → Outside) (roomy : K → ℕ → Type 0) where
+  module _ {K : Type 0} (sink : SinkMeaning K) where
     -- events of commands were served, of which nothing is told
     pub served_commands : (answers : Bool) (es : List E) (s t : S) (k : K) → t ≡ commanded es s
-        → HasServed (meaning_of p) taken outside roomy answers (map Command es) s t k k true
+        → HasServed (meaning_of p) sink answers (map Command es) s t k k true
     served_commands answers es s t k e = record {
       state_is = e;
-      writes = subst (λ (text : List ℕ). SinkAfter taken outside roomy text k k true) (sym (told-commands answers es s)) (sink_same taken outside roomy k);
+      writes = subst (λ (text : List ℕ). SinkAfter sink text k k true) (sym (told-commands answers es s)) (sink_same sink k);
     }
 
     state-told : (whole : Bool) (number va : ℕ) (kind : Kind) (s t : S) → t ≡ p.after (p.access va kind) s → StateAfter (meaning_of p) whole (Referenced number va kind ∷ []) s t
@@ -104,17 +104,17 @@ module _ {A C E S : Type 0} (p : Pairing A C E S) where
     state-told false number va kind s t h = tt
 
     -- an access was served, and its line put
-    pub served_told : (number va : ℕ) (kind : Kind) (s t : S) (k l : K) (whole : Bool) → t ≡ p.after (p.access va kind) s → SinkAfter taken outside roomy (p.line number va kind s) k l whole
-        → HasServed (meaning_of p) taken outside roomy true (Referenced number va kind ∷ []) s t k l whole
+    pub served_told : (number va : ℕ) (kind : Kind) (s t : S) (k l : K) (whole : Bool) → t ≡ p.after (p.access va kind) s → SinkAfter sink (p.line number va kind s) k l whole
+        → HasServed (meaning_of p) sink true (Referenced number va kind ∷ []) s t k l whole
     served_told number va kind s t k l whole h w = record {
       state_is = state-told whole number va kind s t h;
-      writes = subst (λ (text : List ℕ). SinkAfter taken outside roomy text k l whole) (sym (append-nil (p.line number va kind s))) w;
+      writes = subst (λ (text : List ℕ). SinkAfter sink text k l whole) (sym (append-nil (p.line number va kind s))) w;
     }
 
     -- an access was served of which no line is wanted
     pub served_quietly : (number va : ℕ) (kind : Kind) (s t : S) (k : K) → t ≡ p.after (p.access va kind) s
-        → HasServed (meaning_of p) taken outside roomy false (Referenced number va kind ∷ []) s t k k true
-    served_quietly number va kind s t k h = served-untold (meaning_of p) taken outside roomy (Referenced number va kind ∷ []) s t k h
+        → HasServed (meaning_of p) sink false (Referenced number va kind ∷ []) s t k k true
+    served_quietly number va kind s t k h = served-untold (meaning_of p) sink (Referenced number va kind ∷ []) s t k h
 
 -- the steps of some commands
 pub length_steps : {C D : Type 0} (f : C → D) (cs : List C) → length (map f cs) ≡ length cs

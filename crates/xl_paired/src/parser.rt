@@ -48,9 +48,9 @@ pub fn read_script<P: Parser, F: Folder>(
     folder: &mut F,
     name: &str,
 ) -> Result<P::Script, Stop>
-    ensures told { IfSome (F.files folder.old) (λ fs.
+    ensures told { IfSome (F.folder.files folder.old) (λ fs.
         Finds P.said result (script_in P.says name.now fs)) }
-    ensures leaves { FolderAfter F.files F.faults F.absences F.steady folder.old folder.new
+    ensures leaves { FolderAfter F.folder folder.old folder.new
         (fate_by stop_fate result) }
     ensures before { IfErr result StopsOpening }
 {

@@ -23,7 +23,8 @@ use Rattle.xl_model.specs.declared.leaf.Leaf.{Leaf}
 use Rattle.xl_model.specs.Items.{area_for, wanted, area_wanted, map_of, again_where, demanded, referenced, state_after}
 use Rattle.xl_model.specs.Scenes.{Served, served_after, access_line, event_line, second_line, demand_lines, item_lines}
 use Rattle.xl_machine.specs.Served.{after_of}
-use Rattle.xl_outside.specs.Sinks.{Outside, SinkAfter}
+use Rattle.xl_outside.specs.Sinks.{SinkMeaning, SinkAfter}
+use Rattle.xl_rack.specs.Demands.{demand_after, again_after}
 use Rattle.xl_rack.specs.Places.{at_place}
 use Rattle.xl_rack.proofs.PlaceLemmas.{get-at_place, some-of}
 use Rattle.xl_rack.specs.Served.{ServedAt}
@@ -33,15 +34,9 @@ use Rattle.xl_rack.proofs.ServedAtLemmas.{told-at, as-at, none-at, then-at, cut-
 abbrev with_state : Served → RowState → Served
 with_state v s = record v { state = s }
 
--- a row after a demand, and the lines of it
-abbrev demand_after : Option Area → ℕ → Kind → Served → Served
-demand_after area va k v = with_state v (demanded area v.row va (event.Access va k) v.state)
-
+-- the lines of a demand, of what is served again, of a command and of an access
 abbrev demand_told : Option Area → ℕ → ℕ → Kind → Served → List ℕ
 demand_told area number va k v = demand_lines area v.row number va k v.state
-
-abbrev again_after : Outcome → ℕ → Kind → Served → Served
-again_after o va k v = with_state v (again_where o v.row (event.Access va k) v.state)
 
 abbrev again_told : Outcome → ℕ → ℕ → Kind → Served → List ℕ
 again_told o number va k v = second_line o v.row number va k v.state
@@ -84,23 +79,23 @@ unfolding state_after
 declared-after area areas v = refl
 
 -- an access leaves the current space
-filled-space : (found : Option Leaf) (s : RowState) → (walk_filled found s).space ≡ s.space
-filled-space None s = refl
-filled-space (Some leaf) s = refl
+filled-space : (k : Kind) (found : Option Leaf) (s : RowState) → (walk_filled k found s).space ≡ s.space
+filled-space k None s = refl
+filled-space k (Some leaf) s = refl
 
-looked-space : (answer : Option Answer) (page : ℕ) (s : RowState) → (looked_by answer page s).space ≡ s.space
-looked-space None page s =
-    filled-space (leaf_at_page s.space page s.table.leaves) (walk_made s.space page (record s { counts = count_look None s.space page s.arrays s.counts }))
-looked-space (Some answer) page s = refl
+looked-space : (k : Kind) (answer : Option Answer) (page : ℕ) (s : RowState) → (looked_by k answer page s).space ≡ s.space
+looked-space k None page s =
+    filled-space k (leaf_at_page s.space page s.table.leaves) (walk_made s.space page (record s { counts = count_look k None s.space page s.arrays s.counts }))
+looked-space k (Some answer) page s = refl
 
-where-space : (there : Bool) (page : ℕ) (s : RowState) → (looked_where there page s).space ≡ s.space
+where-space : (there : Bool) (k : Kind) (page : ℕ) (s : RowState) → (looked_where there k page s).space ≡ s.space
 unfolding looked
-where-space true page s = looked-space (answer_of s.arrays s.space page) page s
-where-space false page s = refl
+where-space true k page s = looked-space k (answer_of k s.arrays s.space page) page s
+where-space false k page s = refl
 
 pub access-space : (row : Row) (va : ℕ) (k : Kind) (s : RowState) → (after_event row (event.Access va k) s).space ≡ s.space
 unfolding after_event rule done accessed
-access-space row va k s = where-space (is_canonical row.mode va) (page_of row.mode va) s
+access-space row va k s = where-space (is_canonical row.mode va) k (page_of row.mode va) s
 
 pub none-of : (area : Option Area) → ((a : Area) → area ≡ Some a → ⊥) → area ≡ None
 none-of None not = refl
@@ -117,14 +112,14 @@ again-untold outcome.Done number va k v not = absurd (not refl)
 again-untold (outcome.Refused r) number va k v not = refl
 again-untold (outcome.Replied answer) number va k v not = refl
 
-module _ {K : Type 0} (taken : K → Option (List ℕ)) (outside : K → Outside) (roomy : K → ℕ → Type 0) (answers : Bool) (i : ℕ) where
+module _ {K : Type 0} (sink : SinkMeaning K) (answers : Bool) (i : ℕ) where
   -- the row was served an event of a command, and its line was written
   pub command-told : (e : Event) (o : Outcome) (row : RowFields) (p q : List Served) (k l : K) (whole : Bool) → answers ≡ true
       → IfSome (slice_get p i) (λ v. o ≡ outcome_of v.row e v.state) → q ≡ at_place (after_of e) i p → IfSome (slice_get q i) (λ v. row_of row ≡ v.row)
-      → SinkAfter taken outside roomy (command_line row.name.bytes e o) k l whole
-      → ServedAt taken outside roomy answers i (after_of e) (event_told e) p q k l whole
+      → SinkAfter sink (command_line row.name.bytes e o) k l whole
+      → ServedAt sink answers i (after_of e) (event_told e) p q k l whole
   command-told e o row p q k l whole asked is after named told =
-      told-at taken outside roomy answers i (after_of e) (event_told e) p q k l whole (command_line row.name.bytes e o) after
+      told-at sink answers i (after_of e) (event_told e) p q k l whole (command_line row.name.bytes e o) after
       (λ v h.
       let same_end : o ≡ outcome_of v.row e v.state = some-of _ _ v is h in
       let got : slice_get q i ≡ Some (after_of e v) = ap (λ (rows : List Served). slice_get rows i) after ∙ get-at_place (after_of e) i p v h in
@@ -134,27 +129,27 @@ module _ {K : Type 0} (taken : K → Option (List ℕ)) (outside : K → Outside
 
   -- an item of a command's event, and one of an area
   pub command-served : (item : Item) (e : Event) (areas : List Area) (p q : List Served) (k l : K) (whole : Bool) → item ≡ Command e
-      → ServedAt taken outside roomy answers i (after_of e) (event_told e) p q k l whole
-      → ServedAt taken outside roomy answers i (served_after item areas) (λ v. item_lines item areas v.row v.state) p q k l whole
+      → ServedAt sink answers i (after_of e) (event_told e) p q k l whole
+      → ServedAt sink answers i (served_after item areas) (λ v. item_lines item areas v.row v.state) p q k l whole
   command-served item e areas p q k l whole is x =
-      as-at taken outside roomy answers i (served_after item areas) (after_of e) (λ v. item_lines item areas v.row v.state) (event_told e) p q k l whole
+      as-at sink answers i (served_after item areas) (after_of e) (λ v. item_lines item areas v.row v.state) (event_told e) p q k l whole
       (λ v h. rw is (command-after e areas v)) (λ v h. rw is (command-lines e areas v)) x
 
   pub declared-served : (item : Item) (area : Area) (areas : List Area) (p : List Served) (k : K) → item ≡ Declared area
-      → ServedAt taken outside roomy answers i (served_after item areas) (λ v. item_lines item areas v.row v.state) p p k k true
+      → ServedAt sink answers i (served_after item areas) (λ v. item_lines item areas v.row v.state) p p k k true
   declared-served item area areas p k is =
-      as-at taken outside roomy answers i (served_after item areas) (λ v. v) (λ v. item_lines item areas v.row v.state) (λ v. []) p p k k true
-      (λ v h. rw is (declared-after area areas v)) (λ v h. rw is (declared-lines area areas v)) (none-at taken outside roomy answers i p k)
+      as-at sink answers i (served_after item areas) (λ v. v) (λ v. item_lines item areas v.row v.state) (λ v. []) p p k k true
+      (λ v h. rw is (declared-after area areas v)) (λ v h. rw is (declared-lines area areas v)) (none-at sink answers i p k)
 
-module _ {K : Type 0} (taken : K → Option (List ℕ)) (outside : K → Outside) (roomy : K → ℕ → Type 0) (answers : Bool) (i number va : ℕ) (kind : Kind) where
+module _ {K : Type 0} (sink : SinkMeaning K) (answers : Bool) (i number va : ℕ) (kind : Kind) where
   -- the row was served an access, and its line was written
   pub access-line-told : (space : ℕ) (answer : Reply) (row : RowFields) (p q : List Served) (k l : K) (whole : Bool) → answers ≡ true
       → IfSome (slice_get q i) (λ v. space ≡ v.state.space) → IfSome (slice_get p i) (λ v. answer ≡ reply_to v.row v.state va kind)
       → q ≡ at_place (after_of (event.Access va kind)) i p → IfSome (slice_get q i) (λ v. row_of row ≡ v.row)
-      → SinkAfter taken outside roomy (answer_line row.name.bytes number kind space va answer) k l whole
-      → ServedAt taken outside roomy answers i (after_of (event.Access va kind)) (access_told number va kind) p q k l whole
+      → SinkAfter sink (answer_line row.name.bytes number kind space va answer) k l whole
+      → ServedAt sink answers i (after_of (event.Access va kind)) (access_told number va kind) p q k l whole
   access-line-told space answer row p q k l whole asked at is after named told =
-      told-at taken outside roomy answers i (after_of (event.Access va kind)) (access_told number va kind) p q k l whole (answer_line row.name.bytes number kind space va answer) after
+      told-at sink answers i (after_of (event.Access va kind)) (access_told number va kind) p q k l whole (answer_line row.name.bytes number kind space va answer) after
       (λ v h.
       let t : answer ≡ reply_to v.row v.state va kind = some-of _ _ v is h in
       let got : slice_get q i ≡ Some (after_of (event.Access va kind) v) = ap (λ (rows : List Served). slice_get rows i) after ∙ get-at_place (after_of (event.Access va kind)) i p v h in
@@ -164,55 +159,55 @@ module _ {K : Type 0} (taken : K → Option (List ℕ)) (outside : K → Outside
       told
 
   pub not-again : (o : Outcome) (p : List Served) (k : K) → (o ≡ outcome.Done → ⊥)
-      → ServedAt taken outside roomy answers i (again_after o va kind) (again_told o number va kind) p p k k true
+      → ServedAt sink answers i (again_after o va kind) (again_told o number va kind) p p k k true
   not-again o p k not =
-      as-at taken outside roomy answers i (again_after o va kind) (λ v. v) (again_told o number va kind) (λ v. []) p p k k true
-      (λ v h. again-none o va kind v not) (λ v h. again-untold o number va kind v not) (none-at taken outside roomy answers i p k)
+      as-at sink answers i (again_after o va kind) (λ v. v) (again_told o number va kind) (λ v. []) p p k k true
+      (λ v h. again-none o va kind v not) (λ v h. again-untold o number va kind v not) (none-at sink answers i p k)
 
   pub not-demanded : (area : Option Area) (p : List Served) (k : K) → area ≡ None
-      → ServedAt taken outside roomy answers i (demand_after area va kind) (demand_told area number va kind) p p k k true
+      → ServedAt sink answers i (demand_after area va kind) (demand_told area number va kind) p p k k true
   not-demanded area p k none =
-      as-at taken outside roomy answers i (demand_after area va kind) (λ v. v) (demand_told area number va kind) (λ v. []) p p k k true
-      (λ v h. rw none refl) (λ v h. rw none refl) (none-at taken outside roomy answers i p k)
+      as-at sink answers i (demand_after area va kind) (λ v. v) (demand_told area number va kind) (λ v. []) p p k k true
+      (λ v h. rw none refl) (λ v h. rw none refl) (none-at sink answers i p k)
 
   -- the map of a demand, and the second access
   pub demand-served : (found : Option Area) (area : Area) (map : Event) (o : Outcome) (p q r : List Served) (k l m : K) (whole : Bool)
       → found ≡ Some area → map ≡ map_of area va → IfSome (slice_get p i) (λ v. o ≡ outcome_of v.row map v.state)
-      → ServedAt taken outside roomy answers i (after_of map) (event_told map) p q k l true
-      → ServedAt taken outside roomy answers i (again_after o va kind) (again_told o number va kind) q r l m whole
-      → ServedAt taken outside roomy answers i (demand_after found va kind) (demand_told found number va kind) p r k m whole
+      → ServedAt sink answers i (after_of map) (event_told map) p q k l true
+      → ServedAt sink answers i (again_after o va kind) (again_told o number va kind) q r l m whole
+      → ServedAt sink answers i (demand_after found va kind) (demand_told found number va kind) p r k m whole
   demand-served found area map o p q r k l m whole f e is first next =
-      as-at taken outside roomy answers i (demand_after found va kind) (λ v. again_after o va kind (after_of map v)) (demand_told found number va kind)
+      as-at sink answers i (demand_after found va kind) (λ v. again_after o va kind (after_of map v)) (demand_told found number va kind)
       (λ v. event_told map v ++ again_told o number va kind (after_of map v)) p r k m whole
       (λ v h. let at : o ≡ outcome_of v.row map v.state = some-of _ _ v is h in rw (f, at, e) refl)
       (λ v h. let at : o ≡ outcome_of v.row map v.state = some-of _ _ v is h in rw (f, at, e) refl)
-      (then-at taken outside roomy answers i (after_of map) (again_after o va kind) (event_told map) (again_told o number va kind) p q r k l m whole first next)
+      (then-at sink answers i (after_of map) (again_after o va kind) (event_told map) (again_told o number va kind) p q r k l m whole first next)
 
   pub demand-cut : (found : Option Area) (area : Area) (map : Event) (p q : List Served) (k l : K) → found ≡ Some area → map ≡ map_of area va
-      → ServedAt taken outside roomy answers i (after_of map) (event_told map) p q k l false
-      → ServedAt taken outside roomy answers i (demand_after found va kind) (demand_told found number va kind) p q k l false
+      → ServedAt sink answers i (after_of map) (event_told map) p q k l false
+      → ServedAt sink answers i (demand_after found va kind) (demand_told found number va kind) p q k l false
   demand-cut found area map p q k l f e first =
-      as-at taken outside roomy answers i (demand_after found va kind) (demand_after found va kind) (demand_told found number va kind)
+      as-at sink answers i (demand_after found va kind) (demand_after found va kind) (demand_told found number va kind)
       (λ v. event_told map v ++ again_told (outcome_of v.row map v.state) number va kind (after_of map v)) p q k l false
       (λ v h. refl)
       (λ v h. rw (f, e) refl)
-      (cut-at taken outside roomy answers i (after_of map) (demand_after found va kind) (event_told map) (λ v. again_told (outcome_of v.row map v.state) number va kind (after_of map v)) p q k l first)
+      (cut-at sink answers i (after_of map) (demand_after found va kind) (event_told map) (λ v. again_told (outcome_of v.row map v.state) number va kind (after_of map v)) p q k l first)
 
   -- an access, and its demand
   pub access-served : (areas : List Area) (answer : Reply) (area : Option Area) (p q r : List Served) (k l m : K) (whole : Bool)
       → IfSome (slice_get p i) (λ v. answer ≡ reply_to v.row v.state va kind) → IfSome (slice_get q i) (λ v. area ≡ wanted answer (area_for v.state.space va areas))
-      → ServedAt taken outside roomy answers i (after_of (event.Access va kind)) (access_told number va kind) p q k l true
-      → ServedAt taken outside roomy answers i (demand_after area va kind) (demand_told area number va kind) q r l m whole
-      → ServedAt taken outside roomy answers i (served_after (Referenced number va kind) areas) (λ v. item_lines (Referenced number va kind) areas v.row v.state) p r k m whole
+      → ServedAt sink answers i (after_of (event.Access va kind)) (access_told number va kind) p q k l true
+      → ServedAt sink answers i (demand_after area va kind) (demand_told area number va kind) q r l m whole
+      → ServedAt sink answers i (served_after (Referenced number va kind) areas) (λ v. item_lines (Referenced number va kind) areas v.row v.state) p r k m whole
   access-served areas answer area p q r k l m whole told found first next =
-      as-at taken outside roomy answers i (served_after (Referenced number va kind) areas) (λ v. demand_after area va kind (after_of (event.Access va kind) v))
+      as-at sink answers i (served_after (Referenced number va kind) areas) (λ v. demand_after area va kind (after_of (event.Access va kind) v))
       (λ v. item_lines (Referenced number va kind) areas v.row v.state)
       (λ v. access_told number va kind v ++ demand_told area number va kind (after_of (event.Access va kind) v)) p r k m whole
       (λ v h. ap (with_state v) (access-after number va kind areas v.row v.state)
       ∙ ap (λ (z : Option Area). with_state v (demanded z v.row va (event.Access va kind) (after_event v.row (event.Access va kind) v.state))) (sym (area-is v h)))
       (λ v h. access-lines number va kind areas v.row v.state
       ∙ ap (λ (z : Option Area). access_line v.row number va kind v.state ++ demand_lines z v.row number va kind (after_event v.row (event.Access va kind) v.state)) (sym (area-is v h)))
-      (then-at taken outside roomy answers i (after_of (event.Access va kind)) (demand_after area va kind) (access_told number va kind) (demand_told area number va kind) p q r k l m whole first next)
+      (then-at sink answers i (after_of (event.Access va kind)) (demand_after area va kind) (access_told number va kind) (demand_told area number va kind) p q r k l m whole first next)
     where
       area-is : (v : Served) → slice_get p i ≡ Some v → area ≡ area_wanted v.row va kind areas v.state
       area-is v h =
@@ -223,13 +218,13 @@ module _ {K : Type 0} (taken : K → Option (List ℕ)) (outside : K → Outside
           e ∙ ap (λ (z : ℕ). wanted answer (area_for z va areas)) (access-space v.row va kind v.state) ∙ ap (λ (z : Reply). wanted z (area_for v.state.space va areas)) t
 
   pub access-cut : (areas : List Area) (p q : List Served) (k l : K)
-      → ServedAt taken outside roomy answers i (after_of (event.Access va kind)) (access_told number va kind) p q k l false
-      → ServedAt taken outside roomy answers i (served_after (Referenced number va kind) areas) (λ v. item_lines (Referenced number va kind) areas v.row v.state) p q k l false
+      → ServedAt sink answers i (after_of (event.Access va kind)) (access_told number va kind) p q k l false
+      → ServedAt sink answers i (served_after (Referenced number va kind) areas) (λ v. item_lines (Referenced number va kind) areas v.row v.state) p q k l false
   access-cut areas p q k l first =
-      as-at taken outside roomy answers i (served_after (Referenced number va kind) areas) (served_after (Referenced number va kind) areas)
+      as-at sink answers i (served_after (Referenced number va kind) areas) (served_after (Referenced number va kind) areas)
       (λ v. item_lines (Referenced number va kind) areas v.row v.state)
       (λ v. access_told number va kind v ++ demand_lines (area_wanted v.row va kind areas v.state) v.row number va kind (after_event v.row (event.Access va kind) v.state)) p q k l false
       (λ v h. refl)
       (λ v h. access-lines number va kind areas v.row v.state)
-      (cut-at taken outside roomy answers i (after_of (event.Access va kind)) (served_after (Referenced number va kind) areas) (access_told number va kind)
+      (cut-at sink answers i (after_of (event.Access va kind)) (served_after (Referenced number va kind) areas) (access_told number va kind)
       (λ v. demand_lines (area_wanted v.row va kind areas v.state) v.row number va kind (after_event v.row (event.Access va kind) v.state)) p q k l first)

@@ -4,7 +4,7 @@ use Rattle.std.specs.Prelude.{slice_get}
 use Rattle.std.proofs.lemmas.List.{take-append-drop, append-nil}
 use Rattle.xl_model.specs.Report.{image_lines, images_lines}
 use Rattle.xl_model.specs.Scenes.{Served}
-use Rattle.xl_outside.specs.Sinks.{Outside, SinkAfter}
+use Rattle.xl_outside.specs.Sinks.{SinkMeaning, SinkAfter}
 use Rattle.xl_outside.proofs.SinkLemmas.{sink_then, sink_cut}
 
 -- the image of one row
@@ -23,15 +23,15 @@ images-next rows i v h = (let e : i + 1 ≡ suc i = omega arith in ap (λ (j : �
     one (r ∷ rows) zero h = let e : r ≡ v = cc in append-nil (image_of r) ∙ ap image_of e
     one (r ∷ rows) (suc i) h = ap (λ (t : List ℕ). image_of r ++ t) (one rows i h) ∙ sym (append_assoc (image_of r) (images_lines (take i rows)) (image_of v))
 
-module _ {K : Type 0} (taken : K → Option (List ℕ)) (outside : K → Outside) (roomy : K → ℕ → Type 0) where
+module _ {K : Type 0} (sink : SinkMeaning K) where
   pub image-written : (rows : List Served) (i : ℕ) (v : Served) (k l m : K) (whole : Bool) → slice_get rows i ≡ Some v
-      → SinkAfter taken outside roomy (images_lines (take i rows)) k l true → SinkAfter taken outside roomy (image_of v) l m whole
-      → SinkAfter taken outside roomy (images_lines (take (i + 1) rows)) k m whole
+      → SinkAfter sink (images_lines (take i rows)) k l true → SinkAfter sink (image_of v) l m whole
+      → SinkAfter sink (images_lines (take (i + 1) rows)) k m whole
   image-written rows i v k l m whole e first next =
-      subst (λ (t : List ℕ). SinkAfter taken outside roomy t k m whole) (sym (images-next rows i v e))
-      (sink_then taken outside roomy (images_lines (take i rows)) (image_of v) k l m whole first next)
+      subst (λ (t : List ℕ). SinkAfter sink t k m whole) (sym (images-next rows i v e))
+      (sink_then sink (images_lines (take i rows)) (image_of v) k l m whole first next)
 
-  pub images-cut : (rows : List Served) (i : ℕ) (k l : K) → SinkAfter taken outside roomy (images_lines (take i rows)) k l false → SinkAfter taken outside roomy (images_lines rows) k l false
+  pub images-cut : (rows : List Served) (i : ℕ) (k l : K) → SinkAfter sink (images_lines (take i rows)) k l false → SinkAfter sink (images_lines rows) k l false
   images-cut rows i k l first =
-      subst (λ (t : List ℕ). SinkAfter taken outside roomy t k l false) (sym (images-append (take i rows) (drop i rows)) ∙ ap images_lines (take-append-drop i rows))
-      (sink_cut taken outside roomy (images_lines (take i rows)) (images_lines (drop i rows)) k l first)
+      subst (λ (t : List ℕ). SinkAfter sink t k l false) (sym (images-append (take i rows) (drop i rows)) ∙ ap images_lines (take-append-drop i rows))
+      (sink_cut sink (images_lines (take i rows)) (images_lines (drop i rows)) k l first)

@@ -1,6 +1,6 @@
 -- Lines that are written where they are asked for, one after another.
 use Rattle.std.proofs.Common.{◌≡◌, ℕ, Bool, true, false, List, [], ◌++◌, Option, refl, sym, subst}
-use Rattle.xl_outside.specs.Sinks.{Outside, SinkAfter}
+use Rattle.xl_outside.specs.Sinks.{SinkMeaning, SinkAfter}
 use Rattle.xl_outside.proofs.SinkLemmas.{sink_same, sink_then, sink_cut}
 use Rattle.xl_rack.specs.Lines.{line_where}
 
@@ -12,22 +12,22 @@ no-line : (answers : Bool) → line_where answers [] ≡ []
 no-line true = refl
 no-line false = refl
 
-module _ {K : Type 0} (taken : K → Option (List ℕ)) (outside : K → Outside) (roomy : K → ℕ → Type 0) where
+module _ {K : Type 0} (sink : SinkMeaning K) where
   -- lines that are asked for, one after another
-  pub lines-then : (answers : Bool) (xs ys : List ℕ) (a b c : K) (whole : Bool) → SinkAfter taken outside roomy (line_where answers xs) a b true
-      → SinkAfter taken outside roomy (line_where answers ys) b c whole → SinkAfter taken outside roomy (line_where answers (xs ++ ys)) a c whole
+  pub lines-then : (answers : Bool) (xs ys : List ℕ) (a b c : K) (whole : Bool) → SinkAfter sink (line_where answers xs) a b true
+      → SinkAfter sink (line_where answers ys) b c whole → SinkAfter sink (line_where answers (xs ++ ys)) a c whole
   lines-then answers xs ys a b c whole first next =
-      let P : List ℕ → Type 0 = λ t. SinkAfter taken outside roomy t a c whole in
-      subst P (sym (line-more answers xs ys)) (sink_then taken outside roomy (line_where answers xs) (line_where answers ys) a b c whole first next)
+      let P : List ℕ → Type 0 = λ t. SinkAfter sink t a c whole in
+      subst P (sym (line-more answers xs ys)) (sink_then sink (line_where answers xs) (line_where answers ys) a b c whole first next)
 
-  pub lines-cut : (answers : Bool) (xs ys : List ℕ) (a b : K) → SinkAfter taken outside roomy (line_where answers xs) a b false
-      → SinkAfter taken outside roomy (line_where answers (xs ++ ys)) a b false
+  pub lines-cut : (answers : Bool) (xs ys : List ℕ) (a b : K) → SinkAfter sink (line_where answers xs) a b false
+      → SinkAfter sink (line_where answers (xs ++ ys)) a b false
   lines-cut answers xs ys a b first =
-      let P : List ℕ → Type 0 = λ t. SinkAfter taken outside roomy t a b false in
-      subst P (sym (line-more answers xs ys)) (sink_cut taken outside roomy (line_where answers xs) (line_where answers ys) a b first)
+      let P : List ℕ → Type 0 = λ t. SinkAfter sink t a b false in
+      subst P (sym (line-more answers xs ys)) (sink_cut sink (line_where answers xs) (line_where answers ys) a b first)
 
   -- nothing to tell
-  pub lines-none : (answers : Bool) (a : K) → SinkAfter taken outside roomy (line_where answers []) a a true
+  pub lines-none : (answers : Bool) (a : K) → SinkAfter sink (line_where answers []) a a true
   lines-none answers a =
-      let P : List ℕ → Type 0 = λ t. SinkAfter taken outside roomy t a a true in
-      subst P (sym (no-line answers)) (sink_same taken outside roomy a)
+      let P : List ℕ → Type 0 = λ t. SinkAfter sink t a a true in
+      subst P (sym (no-line answers)) (sink_same sink a)

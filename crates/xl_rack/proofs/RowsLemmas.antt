@@ -10,7 +10,7 @@ use Rattle.xl_model.specs.Lines.{row_line}
 use Rattle.xl_model.specs.Report.{row_lines}
 use Rattle.xl_model.specs.Rows.{Row}
 use Rattle.xl_model.specs.Scenes.{Served, scene_after, served_after, rows_after, rows_lines, item_lines, told_by}
-use Rattle.xl_outside.specs.Sinks.{Outside, SinkAfter}
+use Rattle.xl_outside.specs.Sinks.{SinkMeaning, SinkAfter}
 use Rattle.xl_outside.proofs.SinkLemmas.{sink_then, sink_cut}
 use Rattle.xl_serving.specs.Serving.{HasServed, SceneAfter, scene_of}
 use Rattle.xl_rack.specs.Places.{at_place}
@@ -101,29 +101,29 @@ unfolding scene_after
 scene-item true item areas p q is same = rw (is refl, same) refl
 scene-item false item areas p q is same = tt
 
-module _ {K : Type 0} (taken : K → Option (List ℕ)) (outside : K → Outside) (roomy : K → ℕ → Type 0) where
+module _ {K : Type 0} (sink : SinkMeaning K) where
   -- the rows up to a place were served, and what they tell was written
   pub record Going (answers : Bool) (item : Item) (areas : List Area) (i : ℕ) (p q : List Served) (k l : K) : Type 0 where
     pub rows_are : q ≡ partly item areas p i
-    pub writes : SinkAfter taken outside roomy (line_where answers (rows_lines item areas (take i p))) k l true
+    pub writes : SinkAfter sink (line_where answers (rows_lines item areas (take i p))) k l true
 
   pub nothing-yet : (answers : Bool) (item : Item) (areas : List Area) (p : List Served) (k : K) → Going answers item areas 0 p p k k
-  nothing-yet answers item areas p k = record { rows_are = refl; writes = lines-none taken outside roomy answers k }
+  nothing-yet answers item areas p k = record { rows_are = refl; writes = lines-none sink answers k }
 
   -- what the row at the place tells next
   next-told : (answers : Bool) (item : Item) (areas : List Area) (i : ℕ) (p q r : List Served) (k l m : K) (whole : Bool) (v : Served) → slice_get p i ≡ Some v → i < length p
-      → Going answers item areas i p q k l → ServedAt taken outside roomy answers i (served_after item areas) (λ w. item_lines item areas w.row w.state) q r l m whole
-      → SinkAfter taken outside roomy (line_where answers (rows_lines item areas (take i p) ++ item_lines item areas v.row v.state)) k m whole
+      → Going answers item areas i p q k l → ServedAt sink answers i (served_after item areas) (λ w. item_lines item areas w.row w.state) q r l m whole
+      → SinkAfter sink (line_where answers (rows_lines item areas (take i p) ++ item_lines item areas v.row v.state)) k m whole
   next-told answers item areas i p q r k l m whole v e h going x =
       let got : slice_get q i ≡ Some v = ap (λ (rows : List Served). slice_get rows i) going.rows_are ∙ get-partly item areas p i h ∙ e in
-      lines-then taken outside roomy answers (rows_lines item areas (take i p)) (item_lines item areas v.row v.state) k l m whole going.writes (some-of _ _ v x.writes got)
+      lines-then sink answers (rows_lines item areas (take i p)) (item_lines item areas v.row v.state) k l m whole going.writes (some-of _ _ v x.writes got)
 
   pub one-more : (answers : Bool) (item : Item) (areas : List Area) (i : ℕ) (p q r : List Served) (k l m : K) → i < length p
-      → Going answers item areas i p q k l → ServedAt taken outside roomy answers i (served_after item areas) (λ v. item_lines item areas v.row v.state) q r l m true
+      → Going answers item areas i p q k l → ServedAt sink answers i (served_after item areas) (λ v. item_lines item areas v.row v.state) q r l m true
       → Going answers item areas (i + 1) p r k m
   one-more answers item areas i p q r k l m h going x =
       let (v, e) = the-row p i h in
-      let P : List ℕ → Type 0 = λ t. SinkAfter taken outside roomy (line_where answers t) k m true in
+      let P : List ℕ → Type 0 = λ t. SinkAfter sink (line_where answers t) k m true in
       record {
         rows_are = x.rows_are ∙ ap (at_place (served_after item areas) i) going.rows_are ∙ next_place item areas p i h;
         writes = subst P (sym (lines-next item areas p i v e)) (next-told answers item areas i p q r k l m true v e h going x);
@@ -131,9 +131,9 @@ module _ {K : Type 0} (taken : K → Option (List ℕ)) (outside : K → Outside
 
   -- all rows were served
   pub all-served : (answers : Bool) (item : Item) (areas : List Area) (i : ℕ) (p q : List Served) (k l : K) → length p ≤ i → areas_after item areas ≡ areas
-      → Going answers item areas i p q k l → HasServed taken outside roomy answers (item ∷ []) (scene_of p areas) (scene_of q areas) k l true
+      → Going answers item areas i p q k l → HasServed sink answers (item ∷ []) (scene_of p areas) (scene_of q areas) k l true
   all-served answers item areas i p q k l h same going =
-      let P : List ℕ → Type 0 = λ t. SinkAfter taken outside roomy t k l true in
+      let P : List ℕ → Type 0 = λ t. SinkAfter sink t k l true in
       record {
         scene_is = scene-item true item areas p q (λ w. going.rows_are ∙ partly_all item areas p i h) same;
         writes = subst P (ap (λ (rows : List Served). line_where answers (rows_lines item areas rows)) (take_all i p h) ∙ told-item answers item areas p) going.writes;
@@ -141,35 +141,35 @@ module _ {K : Type 0} (taken : K → Option (List ℕ)) (outside : K → Outside
 
   -- a put failed at a row
   pub row-lost : (answers : Bool) (item : Item) (areas : List Area) (i : ℕ) (p q r : List Served) (k l m : K) → i < length p → areas_after item areas ≡ areas
-      → Going answers item areas i p q k l → ServedAt taken outside roomy answers i (served_after item areas) (λ v. item_lines item areas v.row v.state) q r l m false
-      → HasServed taken outside roomy answers (item ∷ []) (scene_of p areas) (scene_of r areas) k m false
+      → Going answers item areas i p q k l → ServedAt sink answers i (served_after item areas) (λ v. item_lines item areas v.row v.state) q r l m false
+      → HasServed sink answers (item ∷ []) (scene_of p areas) (scene_of r areas) k m false
   row-lost answers item areas i p q r k l m h same going x =
       let (v, e) = the-row p i h in
-      let front : SinkAfter taken outside roomy (line_where answers (rows_lines item areas (take i p) ++ item_lines item areas v.row v.state)) k m false =
+      let front : SinkAfter sink (line_where answers (rows_lines item areas (take i p) ++ item_lines item areas v.row v.state)) k m false =
       next-told answers item areas i p q r k l m false v e h going x in
-      let P : List ℕ → Type 0 = λ t. SinkAfter taken outside roomy (line_where answers t) k m false in
-      let upto : SinkAfter taken outside roomy (line_where answers (rows_lines item areas (take (i + 1) p))) k m false = subst P (sym (lines-next item areas p i v e)) front in
-      let Q : List ℕ → Type 0 = λ t. SinkAfter taken outside roomy t k m false in
+      let P : List ℕ → Type 0 = λ t. SinkAfter sink (line_where answers t) k m false in
+      let upto : SinkAfter sink (line_where answers (rows_lines item areas (take (i + 1) p))) k m false = subst P (sym (lines-next item areas p i v e)) front in
+      let Q : List ℕ → Type 0 = λ t. SinkAfter sink t k m false in
       record {
         scene_is = tt;
         writes = subst Q (ap (line_where answers) (sym (lines-parts item areas p (i + 1))) ∙ told-item answers item areas p)
-            (lines-cut taken outside roomy answers (rows_lines item areas (take (i + 1) p)) (rows_lines item areas (drop (i + 1) p)) k m upto);
+            (lines-cut sink answers (rows_lines item areas (take (i + 1) p)) (rows_lines item areas (drop (i + 1) p)) k m upto);
       }
 
   -- the lines of the rows, one after another
   pub row-written : (rows : List Served) (i : ℕ) (row : Row) (counts : Counts) (k l m : K) (whole : Bool) → i < length rows
-      → IfSome (slice_get rows i) (λ v. row ≡ v.row) → IfSome (slice_get rows i) (λ v. counts ≡ v.state.counts) → SinkAfter taken outside roomy (row_lines (take i rows)) k l true
-      → SinkAfter taken outside roomy (row_line row.name counts) l m whole → SinkAfter taken outside roomy (row_lines (take (i + 1) rows)) k m whole
+      → IfSome (slice_get rows i) (λ v. row ≡ v.row) → IfSome (slice_get rows i) (λ v. counts ≡ v.state.counts) → SinkAfter sink (row_lines (take i rows)) k l true
+      → SinkAfter sink (row_line row.name counts) l m whole → SinkAfter sink (row_lines (take (i + 1) rows)) k m whole
   row-written rows i row counts k l m whole h named counted first next =
       let (v, e) = the-row rows i h in
       let same : row ≡ v.row = some-of _ _ v named e in
       let equal : counts ≡ v.state.counts = some-of _ _ v counted e in
-      let P : List ℕ → Type 0 = λ t. SinkAfter taken outside roomy t k m whole in
-      let second : SinkAfter taken outside roomy (row_line v.row.name v.state.counts) l m whole = rw (same, equal) at next in
-      subst P (sym (row-lines-next rows i v e)) (sink_then taken outside roomy (row_lines (take i rows)) (row_line v.row.name v.state.counts) k l m whole first second)
+      let P : List ℕ → Type 0 = λ t. SinkAfter sink t k m whole in
+      let second : SinkAfter sink (row_line v.row.name v.state.counts) l m whole = rw (same, equal) at next in
+      subst P (sym (row-lines-next rows i v e)) (sink_then sink (row_lines (take i rows)) (row_line v.row.name v.state.counts) k l m whole first second)
 
-  pub rows-cut : (rows : List Served) (i : ℕ) (k l : K) → SinkAfter taken outside roomy (row_lines (take i rows)) k l false → SinkAfter taken outside roomy (row_lines rows) k l false
+  pub rows-cut : (rows : List Served) (i : ℕ) (k l : K) → SinkAfter sink (row_lines (take i rows)) k l false → SinkAfter sink (row_lines rows) k l false
   rows-cut rows i k l first =
-      let P : List ℕ → Type 0 = λ t. SinkAfter taken outside roomy t k l false in
+      let P : List ℕ → Type 0 = λ t. SinkAfter sink t k l false in
       subst P (sym (row-lines-append (take i rows) (drop i rows)) ∙ ap row_lines (take-append-drop i rows))
-      (sink_cut taken outside roomy (row_lines (take i rows)) (row_lines (drop i rows)) k l first)
+      (sink_cut sink (row_lines (take i rows)) (row_lines (drop i rows)) k l first)

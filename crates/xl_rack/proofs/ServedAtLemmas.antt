@@ -2,7 +2,7 @@
 use Rattle.std.proofs.Common.{◌≡◌, ℕ, ◌<◌, length, Bool, true, false, List, [], ◌++◌, Option, Some, sym, ◌∙◌, ap, subst}
 use Rattle.std.specs.Prelude.{slice_get}
 use Rattle.xl_model.specs.Scenes.{Served}
-use Rattle.xl_outside.specs.Sinks.{Outside, SinkAfter}
+use Rattle.xl_outside.specs.Sinks.{SinkMeaning, SinkAfter}
 use Rattle.xl_rack.specs.Places.{at_place}
 use Rattle.xl_rack.proofs.PlaceLemmas.{length-at_place, get-at_place, at_place-at_place, same-at_place, kept-at_place, if-some, some-of}
 use Rattle.xl_rack.specs.Lines.{line_where}
@@ -29,47 +29,47 @@ rows-then false f g i p q r first next = tt
 pub still-there : (f : Served → Served) (i : ℕ) (p q : List Served) → q ≡ at_place f i p → i < length p → i < length q
 still-there f i p q is h = let e : length q ≡ length p = ap (λ (rows : List Served). length rows) is ∙ length-at_place f i p in rw e h
 
-module _ {K : Type 0} (taken : K → Option (List ℕ)) (outside : K → Outside) (roomy : K → ℕ → Type 0) (answers : Bool) (i : ℕ) where
+module _ {K : Type 0} (sink : SinkMeaning K) (answers : Bool) (i : ℕ) where
   -- the row was served, and this text was written
   pub told-at : (f : Served → Served) (lines : Served → List ℕ) (p q : List Served) (k l : K) (whole : Bool) (text : List ℕ) → q ≡ at_place f i p
-      → ((v : Served) → slice_get p i ≡ Some v → text ≡ line_where answers (lines v)) → SinkAfter taken outside roomy text k l whole
-      → ServedAt taken outside roomy answers i f lines p q k l whole
+      → ((v : Served) → slice_get p i ≡ Some v → text ≡ line_where answers (lines v)) → SinkAfter sink text k l whole
+      → ServedAt sink answers i f lines p q k l whole
   told-at f lines p q k l whole text is same told = record {
     rows_are = rows-is whole f i p q is;
-    writes = if-some _ _ (λ v e. let P : List ℕ → Type 0 = λ t. SinkAfter taken outside roomy t k l whole in subst P (same v e) told);
+    writes = if-some _ _ (λ v e. let P : List ℕ → Type 0 = λ t. SinkAfter sink t k l whole in subst P (same v e) told);
   }
 
   -- the same in other words
   pub as-at : (f g : Served → Served) (a b : Served → List ℕ) (p q : List Served) (k l : K) (whole : Bool) → Agree p i f g → Agree p i a b
-      → ServedAt taken outside roomy answers i g b p q k l whole → ServedAt taken outside roomy answers i f a p q k l whole
+      → ServedAt sink answers i g b p q k l whole → ServedAt sink answers i f a p q k l whole
   as-at f g a b p q k l whole same lines x = record {
     rows_are = rows-as whole f g i p q same x.rows_are;
-    writes = if-some _ _ (λ v e. let P : List ℕ → Type 0 = λ t. SinkAfter taken outside roomy (line_where answers t) k l whole in
+    writes = if-some _ _ (λ v e. let P : List ℕ → Type 0 = λ t. SinkAfter sink (line_where answers t) k l whole in
         subst P (sym (lines v e)) (some-of _ _ v x.writes e));
   }
 
   -- nothing is served
-  pub none-at : (p : List Served) (k : K) → ServedAt taken outside roomy answers i (λ v. v) (λ v. []) p p k k true
+  pub none-at : (p : List Served) (k : K) → ServedAt sink answers i (λ v. v) (λ v. []) p p k k true
   none-at p k = record {
     rows_are = sym (kept-at_place i p);
-    writes = if-some _ _ (λ v e. lines-none taken outside roomy answers k);
+    writes = if-some _ _ (λ v e. lines-none sink answers k);
   }
 
   -- two things, one after the other
   pub then-at : (f g : Served → Served) (a b : Served → List ℕ) (p q r : List Served) (k l m : K) (whole : Bool)
-      → ServedAt taken outside roomy answers i f a p q k l true → ServedAt taken outside roomy answers i g b q r l m whole
-      → ServedAt taken outside roomy answers i (λ v. g (f v)) (λ v. a v ++ b (f v)) p r k m whole
+      → ServedAt sink answers i f a p q k l true → ServedAt sink answers i g b q r l m whole
+      → ServedAt sink answers i (λ v. g (f v)) (λ v. a v ++ b (f v)) p r k m whole
   then-at f g a b p q r k l m whole x y = record {
     rows_are = rows-then whole f g i p q r x.rows_are y.rows_are;
     writes = if-some _ _ (λ v e.
         let got : slice_get q i ≡ Some (f v) = ap (λ (rows : List Served). slice_get rows i) x.rows_are ∙ get-at_place f i p v e in
-        lines-then taken outside roomy answers (a v) (b (f v)) k l m whole (some-of _ _ v x.writes e) (some-of _ _ (f v) y.writes got));
+        lines-then sink answers (a v) (b (f v)) k l m whole (some-of _ _ v x.writes e) (some-of _ _ (f v) y.writes got));
   }
 
   -- the first of two, where a put failed
-  pub cut-at : (f g : Served → Served) (a b : Served → List ℕ) (p q : List Served) (k l : K) → ServedAt taken outside roomy answers i f a p q k l false
-      → ServedAt taken outside roomy answers i g (λ v. a v ++ b v) p q k l false
+  pub cut-at : (f g : Served → Served) (a b : Served → List ℕ) (p q : List Served) (k l : K) → ServedAt sink answers i f a p q k l false
+      → ServedAt sink answers i g (λ v. a v ++ b v) p q k l false
   cut-at f g a b p q k l x = record {
     rows_are = tt;
-    writes = if-some _ _ (λ v e. lines-cut taken outside roomy answers (a v) (b v) k l (some-of _ _ v x.writes e));
+    writes = if-some _ _ (λ v e. lines-cut sink answers (a v) (b v) k l (some-of _ _ v x.writes e));
   }

@@ -7,7 +7,7 @@ use Rattle.xl_model.specs.Nodes.{Node}
 use Rattle.xl_model.specs.Image.{Word, word_of, unless_zero, words_from, image_from, image}
 use Rattle.xl_model.specs.Lines.{image_line}
 use Rattle.xl_model.specs.Report.{word_lines}
-use Rattle.xl_outside.specs.Sinks.{Outside, SinkAfter}
+use Rattle.xl_outside.specs.Sinks.{SinkMeaning, SinkAfter}
 use Rattle.xl_outside.proofs.SinkLemmas.{sink_same, sink_then, sink_cut}
 
 unless-append : (n i w : ℕ) (xs ys : List Word) → unless_zero n i w (xs ++ ys) ≡ unless_zero n i w xs ++ ys
@@ -74,20 +74,20 @@ module _ (leaves : List Leaf) (nodes : List (Option Node)) where
       ap (λ (ws : List Word). own ++ ws) (image-parts (suc a) n rest ∙ ap (λ (v : ℕ). image_from leaves nodes (suc a) (take n rest) ++ image_from leaves nodes v (drop n rest)) e)
       ∙ sym (append_assoc own (image_from leaves nodes (suc a) (take n rest)) (image_from leaves nodes (a + suc n) (drop n rest)))
 
-module _ {K : Type 0} (taken : K → Option (List ℕ)) (outside : K → Outside) (roomy : K → ℕ → Type 0) (name : List ℕ) (leaves : List Leaf) (nodes : List (Option Node)) where
+module _ {K : Type 0} (sink : SinkMeaning K) (name : List ℕ) (leaves : List Leaf) (nodes : List (Option Node)) where
   -- the lines of some words were written: whole, or up to a put that failed
   abbrev pub Lines : List Word → K → K → Bool → Type 0
-  Lines words k l whole = SinkAfter taken outside roomy (word_lines name words) k l whole
+  Lines words k l whole = SinkAfter sink (word_lines name words) k l whole
 
   lines-then : (xs ys : List Word) (k l m : K) (whole : Bool) → Lines xs k l true → Lines ys l m whole → Lines (xs ++ ys) k m whole
   lines-then xs ys k l m whole first second =
-      subst (λ (t : List ℕ). SinkAfter taken outside roomy t k m whole) (sym (lines-append name xs ys))
-      (sink_then taken outside roomy (word_lines name xs) (word_lines name ys) k l m whole first second)
+      subst (λ (t : List ℕ). SinkAfter sink t k m whole) (sym (lines-append name xs ys))
+      (sink_then sink (word_lines name xs) (word_lines name ys) k l m whole first second)
 
   lines-cut : (xs ys : List Word) (k l : K) → Lines xs k l false → Lines (xs ++ ys) k l false
   lines-cut xs ys k l first =
-      subst (λ (t : List ℕ). SinkAfter taken outside roomy t k l false) (sym (lines-append name xs ys))
-      (sink_cut taken outside roomy (word_lines name xs) (word_lines name ys) k l first)
+      subst (λ (t : List ℕ). SinkAfter sink t k l false) (sym (lines-append name xs ys))
+      (sink_cut sink (word_lines name xs) (word_lines name ys) k l first)
 
   -- the first words of the node of a number, if it has one
   abbrev pub NodeLines : ℕ → Option Node → ℕ → K → K → Bool → Type 0
@@ -95,7 +95,7 @@ module _ {K : Type 0} (taken : K → Option (List ℕ)) (outside : K → Outside
 
   pub no-words : (n : ℕ) (o : Option Node) (k : K) → NodeLines n o 0 k k true
   no-words n None k = tt
-  no-words n (Some node) k = sink_same taken outside roomy k
+  no-words n (Some node) k = sink_same sink k
 
   next-words : (n : ℕ) (node : Node) (i w : ℕ) → w ≡ word_of leaves nodes (Some node) i → words_from leaves nodes n node 0 (i + 1) ≡ words_from leaves nodes n node 0 i ++ unless_zero n i w []
   next-words n node i w e =
@@ -104,12 +104,12 @@ module _ {K : Type 0} (taken : K → Option (List ℕ)) (outside : K → Outside
       ∙ ap (λ (v : ℕ). words_from leaves nodes n node 0 i ++ unless_zero n i v []) (sym e)
 
   pub word-written : (n : ℕ) (o : Option Node) (i w : ℕ) (k l m : K) (whole : Bool) → w ≡ word_of leaves nodes o i → (w ≡ 0 → ⊥)
-      → NodeLines n o i k l true → SinkAfter taken outside roomy (image_line name (record { node = n; index = i; word = w })) l m whole → NodeLines n o (i + 1) k m whole
+      → NodeLines n o i k l true → SinkAfter sink (image_line name (record { node = n; index = i; word = w })) l m whole → NodeLines n o (i + 1) k m whole
   word-written n None i w k l m whole e h first second = tt
   word-written n (Some node) i w k l m whole e h first second =
       subst (λ (ws : List Word). Lines ws k m whole) (sym (next-words n node i w e))
       (lines-then (words_from leaves nodes n node 0 i) (unless_zero n i w []) k l m whole first
-      (subst (λ (t : List ℕ). SinkAfter taken outside roomy t l m whole) (sym (unless-line name n i w h)) second))
+      (subst (λ (t : List ℕ). SinkAfter sink t l m whole) (sym (unless-line name n i w h)) second))
 
   pub word-passed : (n : ℕ) (o : Option Node) (i w : ℕ) (k l : K) → w ≡ word_of leaves nodes o i → w ≡ 0 → NodeLines n o i k l true → NodeLines n o (i + 1) k l true
   word-passed n None i w k l e z first = tt

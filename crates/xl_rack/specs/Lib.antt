@@ -4,4 +4,5 @@ pub mod Places
 pub mod Served
 pub mod Slots
 pub mod Batches
+pub mod Demands
 pub mod Beside

@@ -1,7 +1,7 @@
 -- One row of several that is served.
 use Rattle.std.specs.Prelude.{◌≡◌, ℕ, Bool, true, false, List, Option, IfSome, slice_get}
 use Rattle.xl_model.specs.Scenes.{Served}
-use Rattle.xl_outside.specs.Sinks.{Outside, SinkAfter}
+use Rattle.xl_outside.specs.Sinks.{SinkMeaning, SinkAfter}
 use Rattle.xl_rack.specs.Places.{at_place}
 use Rattle.xl_rack.specs.Lines.{line_where}
 
@@ -12,6 +12,6 @@ RowsAfter false after i p q = Unit {0}
 
 -- The row at a place, and no other, was served, and its lines were written where they are asked for: whole, or up to
 -- a put that failed.
-pub record ServedAt {K : Type 0} (taken : K → Option (List ℕ)) (outside : K → Outside) (roomy : K → ℕ → Type 0) (answers : Bool) (i : ℕ) (after : Served → Served) (lines : Served → List ℕ) (p q : List Served) (k l : K) (whole : Bool) : Type 0 where
+pub record ServedAt {K : Type 0} (sink : SinkMeaning K) (answers : Bool) (i : ℕ) (after : Served → Served) (lines : Served → List ℕ) (p q : List Served) (k l : K) (whole : Bool) : Type 0 where
   pub rows_are : RowsAfter whole after i p q
-  pub writes : IfSome (slice_get p i) (λ v. SinkAfter taken outside roomy (line_where answers (lines v)) k l whole)
+  pub writes : IfSome (slice_get p i) (λ v. SinkAfter sink (line_where answers (lines v)) k l whole)

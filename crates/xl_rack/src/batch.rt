@@ -8,9 +8,8 @@ ghost use Rattle.xl_serving.specs.Batches.{gaps};
 ghost use Rattle.xl_rack.specs.Batches.{demand_served, access_served, row_served, waiting_served};
 ghost use Rattle.xl_rack.specs.Slots.{served_of, slot_form, has_no_arrays, EachServed};
 
-use crate::area::map_for;
 use crate::slot::{Slot, at_table};
-use xl_areas::Areas;
+use xl_areas::{Areas, map_for};
 use xl_lackey::Access;
 use xl_machine::Machine;
 use xl_model::{Event, Kind, Outcome, Reply, Structure};

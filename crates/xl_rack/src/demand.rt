@@ -1,20 +1,27 @@
 //! Events that a row is served, with their lines; an access with the events of its demand.
 
 ghost use Rattle.std.specs.Prelude.{◌≡◌, ◌<◌, Option, Some, IfOk, IfSome, is_ok, find, drop, length, slice_get};
-ghost use Rattle.xl_model.specs.declared.event.Event.TheVariants as event;
 ghost use Rattle.xl_model.specs.declared.script.Item.TheVariants.{Referenced};
-ghost use Rattle.xl_model.specs.Items.{in_area, area_for, wanted, map_of, again_where, demanded};
+ghost use Rattle.xl_model.specs.Items.{in_area, area_for, wanted};
 ghost use Rattle.xl_model.specs.RowRun.{outcome_of, reply_to};
 ghost use Rattle.xl_model.specs.Scenes.{served_after, access_line, event_line, second_line, demand_lines, item_lines};
 ghost use Rattle.xl_machine.specs.Served.{accessed_by, after_of};
+ghost use Rattle.xl_rack.specs.Demands.{demand_after, again_after};
 ghost use Rattle.xl_rack.specs.Served.{ServedAt};
 
-use crate::area::map_for;
 use crate::rack::Rack;
-use xl_areas::Areas;
+use xl_areas::{Areas, map_for};
 use xl_model::{Area, Event, Kind, Outcome, Reply};
 use xl_outside::{Failed, Sink};
-use xl_report::{write_answer, write_command};
+use xl_report::{Answered, write_answer, write_command};
+
+/// An access of the record of this number.
+#[derive(Clone, Copy)]
+pub(crate) struct Numbered {
+    pub(crate) number: u64,
+    pub(crate) va: u64,
+    pub(crate) kind: Kind,
+}
 
 /// Serves an event of a command to a row, and writes its line where it is asked for.
 pub(crate) fn serve_command<K: Sink>(
@@ -27,7 +34,7 @@ pub(crate) fn serve_command<K: Sink>(
     requires { i < length rack.old }
     ensures outcome { IfOk result (λ o. IfSome (slice_get rack.old i)
         (λ v. o ≡ outcome_of v.row event v.state)) }
-    ensures served { ServedAt K.taken K.outside K.roomy answers i (after_of event)
+    ensures served { ServedAt K.sink answers i (after_of event)
         (λ v. event_line v.row event v.state) rack.old rack.new out.old out.new (is_ok result) }
 {
     let outcome = rack.step(i, event);
@@ -45,25 +52,30 @@ pub(crate) fn serve_command<K: Sink>(
 fn serve_once<K: Sink>(
     rack: &mut Rack,
     i: usize,
-    number: u64,
-    va: u64,
-    kind: Kind,
+    access: Numbered,
     answers: bool,
     out: &mut K,
 ) -> Result<Reply, Failed>
     requires { i < length rack.old }
     ensures reply { IfOk result (λ r. IfSome (slice_get rack.old i)
-        (λ v. r ≡ reply_to v.row v.state va kind)) }
-    ensures served { ServedAt K.taken K.outside K.roomy answers i (accessed_by va kind)
-        (λ v. access_line v.row number va kind v.state)
+        (λ v. r ≡ reply_to v.row v.state access.va access.kind)) }
+    ensures served { ServedAt K.sink answers i (accessed_by access.va access.kind)
+        (λ v. access_line v.row access.number access.va access.kind v.state)
         rack.old rack.new out.old out.new (is_ok result) }
 {
-    let reply = rack.access(i, va, kind);
+    let reply = rack.access(i, access.va, access.kind);
     if !answers {
         return Ok(reply);
     }
     let space = rack.space(i);
-    match write_answer(out, rack.row(i), number, kind, space, va, reply) {
+    let answered = Answered {
+        number: access.number,
+        kind: access.kind,
+        space,
+        va: access.va,
+        reply,
+    };
+    match write_answer(out, rack.row(i), answered) {
         Ok(()) => Ok(reply),
         Err(failed) => Err(failed),
     }
@@ -74,20 +86,18 @@ fn serve_again<K: Sink>(
     rack: &mut Rack,
     i: usize,
     outcome: Outcome,
-    number: u64,
-    va: u64,
-    kind: Kind,
+    access: Numbered,
     answers: bool,
     out: &mut K,
 ) -> Result<(), Failed>
     requires { i < length rack.old }
-    ensures { ServedAt K.taken K.outside K.roomy answers i
-        (λ v. record v { state = again_where outcome v.row (event.Access va kind) v.state })
-        (λ v. second_line outcome v.row number va kind v.state)
+    ensures { ServedAt K.sink answers i
+        (again_after outcome access.va access.kind)
+        (λ v. second_line outcome v.row access.number access.va access.kind v.state)
         rack.old rack.new out.old out.new (is_ok result) }
 {
     match outcome {
-        Outcome::Done => match serve_once(rack, i, number, va, kind, answers, out) {
+        Outcome::Done => match serve_once(rack, i, access, answers, out) {
             Ok(_) => Ok(()),
             Err(failed) => Err(failed),
         },
@@ -114,20 +124,18 @@ fn serve_area<K: Sink>(
     rack: &mut Rack,
     i: usize,
     area: Area,
-    number: u64,
-    va: u64,
-    kind: Kind,
+    access: Numbered,
     answers: bool,
     out: &mut K,
 ) -> Result<(), Failed>
     requires { i < length rack.old }
-    ensures { ServedAt K.taken K.outside K.roomy answers i
-        (λ v. record v { state = demanded (Some area) v.row va (event.Access va kind) v.state })
-        (λ v. demand_lines (Some area) v.row number va kind v.state)
+    ensures { ServedAt K.sink answers i
+        (demand_after (Some area) access.va access.kind)
+        (λ v. demand_lines (Some area) v.row access.number access.va access.kind v.state)
         rack.old rack.new out.old out.new (is_ok result) }
 {
-    match serve_command(rack, i, map_for(area, va), answers, out) {
-        Ok(outcome) => serve_again(rack, i, outcome, number, va, kind, answers, out),
+    match serve_command(rack, i, map_for(area, access.va), answers, out) {
+        Ok(outcome) => serve_again(rack, i, outcome, access, answers, out),
         Err(failed) => Err(failed),
     }
 }
@@ -138,20 +146,18 @@ fn serve_demand<K: Sink>(
     rack: &mut Rack,
     i: usize,
     area: Option<Area>,
-    number: u64,
-    va: u64,
-    kind: Kind,
+    access: Numbered,
     answers: bool,
     out: &mut K,
 ) -> Result<(), Failed>
     requires { i < length rack.old }
-    ensures { ServedAt K.taken K.outside K.roomy answers i
-        (λ v. record v { state = demanded area v.row va (event.Access va kind) v.state })
-        (λ v. demand_lines area v.row number va kind v.state)
+    ensures { ServedAt K.sink answers i
+        (demand_after area access.va access.kind)
+        (λ v. demand_lines area v.row access.number access.va access.kind v.state)
         rack.old rack.new out.old out.new (is_ok result) }
 {
     match area {
-        Some(area) => serve_area(rack, i, area, number, va, kind, answers, out),
+        Some(area) => serve_area(rack, i, area, access, answers, out),
         None => Ok(()),
     }
 }
@@ -161,23 +167,21 @@ fn serve_demand<K: Sink>(
 pub(crate) fn serve_access<K: Sink>(
     rack: &mut Rack,
     i: usize,
-    number: u64,
-    va: u64,
-    kind: Kind,
+    access: Numbered,
     areas: &Areas,
     answers: bool,
     out: &mut K,
 ) -> Result<(), Failed>
     requires { i < length rack.old }
-    ensures { ServedAt K.taken K.outside K.roomy answers i
-        (served_after (Referenced number va kind) areas.now)
-        (λ v. item_lines (Referenced number va kind) areas.now v.row v.state)
+    ensures { ServedAt K.sink answers i
+        (served_after (Referenced access.number access.va access.kind) areas.now)
+        (λ v. item_lines (Referenced access.number access.va access.kind) areas.now v.row v.state)
         rack.old rack.new out.old out.new (is_ok result) }
 {
-    match serve_once(rack, i, number, va, kind, answers, out) {
+    match serve_once(rack, i, access, answers, out) {
         Ok(reply) => {
-            let area = area_wanted(rack, i, areas, va, reply);
-            serve_demand(rack, i, area, number, va, kind, answers, out)
+            let area = area_wanted(rack, i, areas, access.va, reply);
+            serve_demand(rack, i, area, access, answers, out)
         }
         Err(failed) => Err(failed),
     }

@@ -30,7 +30,7 @@ fn write_node<const LEVELS: usize, K: Sink>(
 ) -> Result<(), Failed>
     requires { number < length radix.now.nodes }
     ensures { IfSome (slice_index_or radix.now.nodes number None) (λ node.
-        SinkAfter K.taken K.outside K.roomy (word_lines row.now.name.bytes
+        SinkAfter K.sink (word_lines row.now.name.bytes
         (words_from radix.now.leaves radix.now.nodes number node 0 512))
         out.old out.new (is_ok result)) }
 {
@@ -54,7 +54,7 @@ fn write_table<const LEVELS: usize, K: Sink>(
     row: &Row,
     radix: &Radix<LEVELS>,
 ) -> Result<(), Failed>
-    ensures { SinkAfter K.taken K.outside K.roomy
+    ensures { SinkAfter K.sink
         (word_lines row.now.name.bytes (image radix.now.leaves radix.now.nodes))
         out.old out.new (is_ok result) }
 {
@@ -75,7 +75,7 @@ fn write_radix<const LEVELS: usize, K: Sink>(
     out: &mut K,
     machine: &Machine<RadixRow<LEVELS>>,
 ) -> Result<(), Failed>
-    ensures { SinkAfter K.taken K.outside K.roomy (image_lines machine.now.row.name
+    ensures { SinkAfter K.sink (image_lines machine.now.row.name
         machine.now.state.table.leaves machine.now.state.table.shape)
         out.old out.new (is_ok result) }
 {
@@ -85,7 +85,7 @@ fn write_radix<const LEVELS: usize, K: Sink>(
 /// Writes the image of a machine's table. Only a radix table has one.
 #[tactic(auto, unfolding(xl_cuckoo_walk::specs::Parts::row_state))]
 fn write_held<K: Sink>(out: &mut K, held: Held<'_>) -> Result<(), Failed>
-    ensures { SinkAfter K.taken K.outside K.roomy
+    ensures { SinkAfter K.sink
         (image_lines (served_behind held.entry).row.name
         (served_behind held.entry).state.table.leaves
         (served_behind held.entry).state.table.shape)
@@ -125,7 +125,7 @@ fn write_held<K: Sink>(out: &mut K, held: Held<'_>) -> Result<(), Failed>
 
 /// Writes the image of each row's table.
 pub(crate) fn write_images<K: Sink>(rack: &Rack, out: &mut K) -> Result<(), Failed>
-    ensures { SinkAfter K.taken K.outside K.roomy (images_lines rack.now) out.old out.new
+    ensures { SinkAfter K.sink (images_lines rack.now) out.old out.new
         (is_ok result) }
 {
     for i in 0..rack.len() {

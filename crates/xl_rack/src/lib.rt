@@ -2,7 +2,6 @@
 //! by one after another.
 #![tactic(auto)]
 
-mod area;
 mod batch;
 mod beside;
 mod demand;

@@ -8,14 +8,14 @@ ghost use Rattle.xl_outside.specs.Sinks.{SinkAfter};
 ghost use Rattle.xl_serving.specs.Serving.{HasServed, scene_of};
 ghost use Rattle.xl_rack.specs.Served.{ServedAt};
 
-use crate::demand::{serve_access, serve_command};
+use crate::demand::{Numbered, serve_access, serve_command};
 use crate::image::write_images;
 use crate::object::rows_json;
 use crate::rack::Rack;
 use std::alloc::Global;
 use xl_areas::Areas;
 use xl_lackey::Access;
-use xl_model::{Event, Item, Kind, NoMemory, Row};
+use xl_model::{Event, Item, NoMemory, Row};
 use xl_outside::{Failed, Sink};
 use xl_report::write_row;
 use xl_serving::{Rows, WaitingEvent};
@@ -31,7 +31,7 @@ fn serve_item<K: Sink>(
     out: &mut K,
 ) -> Result<(), Failed>
     requires { i < length rack.old }
-    ensures { ServedAt K.taken K.outside K.roomy answers i (served_after item areas.now)
+    ensures { ServedAt K.sink answers i (served_after item areas.now)
         (λ v. item_lines item areas.now v.row v.state)
         rack.old rack.new out.old out.new (is_ok result) }
 {
@@ -42,7 +42,7 @@ fn serve_item<K: Sink>(
         },
         Item::Declared(_) => Ok(()),
         Item::Referenced { number, va, kind } => {
-            serve_access(rack, i, number, va, kind, areas, answers, out)
+            serve_access(rack, i, Numbered { number, va, kind }, areas, answers, out)
         }
     }
 }
@@ -58,7 +58,7 @@ pub(crate) fn serve_rows<K: Sink>(
     out: &mut K,
 ) -> Result<(), Failed>
     requires { areas_after item areas.now ≡ areas.now }
-    ensures { HasServed K.taken K.outside K.roomy answers (item ∷ [])
+    ensures { HasServed K.sink answers (item ∷ [])
         (scene_of rack.old areas.now) (scene_of rack.new areas.now) out.old out.new (is_ok result) }
 {
     for i in 0..rack.len() {
@@ -72,7 +72,7 @@ pub(crate) fn serve_rows<K: Sink>(
 
 /// Writes the line of each row.
 pub(crate) fn write_rows<K: Sink>(rack: &Rack, out: &mut K) -> Result<(), Failed>
-    ensures { SinkAfter K.taken K.outside K.roomy (row_lines rack.now) out.old out.new
+    ensures { SinkAfter K.sink (row_lines rack.now) out.old out.new
         (is_ok result) }
 {
     for i in 0..rack.len() {
@@ -104,12 +104,12 @@ impl Rows for Rack {
     fn access<K: Sink>(
         &mut self,
         number: u64,
-        va: u64,
-        kind: Kind,
+        access: Access,
         areas: &Areas,
         answers: bool,
         out: &mut K,
     ) -> Result<(), Failed> {
+        let Access { va, kind } = access;
         serve_rows(
             self,
             Item::Referenced { number, va, kind },

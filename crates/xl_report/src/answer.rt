@@ -9,35 +9,40 @@ use crate::line::Line;
 use xl_model::{Event, Kind, Outcome, Reply, Row, code};
 use xl_outside::{Failed, Sink, put_all};
 
+/// An access of the record of this number, in the space where it was served, and its reply.
+#[derive(Clone, Copy)]
+pub struct Answered {
+    pub number: u64,
+    pub kind: Kind,
+    pub space: u16,
+    pub va: u64,
+    pub reply: Reply,
+}
+
 /// Appends the line of an access: the row's name, the record's number, the access, and its reply. A
-/// frame that is replied is below 2^52, so that its physical addresses are below 2^64.
+/// frame that is replied is below 2^52, so that its physical addresses are below 2^64. In line, so that
+/// the parts of the access stay in registers.
 ///
 /// # Errors
 ///
 /// `Failed` only where the sink's faults rose; then the beginning of the line was appended.
+#[inline(always)]
 #[tactic(auto, unfolding(xl_model::specs::Lines::answer_line))]
-pub fn write_answer<K: Sink>(
-    out: &mut K,
-    row: &Row,
-    number: u64,
-    kind: Kind,
-    space: u16,
-    va: u64,
-    reply: Reply,
-) -> Result<(), Failed>
-    requires { IsSmall reply }
-    ensures { SinkAfter K.taken K.outside K.roomy
-        (answer_line row.now.name.bytes number kind space va reply) out.old out.new (is_ok result) }
+pub fn write_answer<K: Sink>(out: &mut K, row: &Row, answered: Answered) -> Result<(), Failed>
+    requires { IsSmall answered.reply }
+    ensures { SinkAfter K.sink
+        (answer_line row.now.name.bytes answered.number answered.kind answered.space answered.va
+        answered.reply) out.old out.new (is_ok result) }
 {
     let mut line = Line::<128>::new();
     line.add(row.name.as_bytes());
     line.add(b" ");
-    line.number(number);
-    line.add(letter(kind));
-    line.number(space as u64);
+    line.number(answered.number);
+    line.add(letter(answered.kind));
+    line.number(answered.space as u64);
     line.add(b" ");
-    line.hex(va);
-    add_reply(&mut line, kind, va, reply);
+    line.hex(answered.va);
+    add_reply(&mut line, answered.kind, answered.va, answered.reply);
     line.add(b"\n");
     put_all(out, line.bytes())
 }
@@ -88,7 +93,7 @@ pub fn write_command<K: Sink>(
     event: Event,
     outcome: Outcome,
 ) -> Result<(), Failed>
-    ensures { SinkAfter K.taken K.outside K.roomy
+    ensures { SinkAfter K.sink
         (command_line row.now.name.bytes event outcome) out.old out.new (is_ok result) }
 {
     let mut line = Line::<128>::new();
@@ -145,7 +150,7 @@ pub fn write_image<K: Sink>(
     index: u32,
     word: u64,
 ) -> Result<(), Failed>
-    ensures { SinkAfter K.taken K.outside K.roomy
+    ensures { SinkAfter K.sink
         (image_line row.now.name.bytes (record { node = node; index = index; word = word }))
         out.old out.new (is_ok result) }
 {

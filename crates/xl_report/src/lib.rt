@@ -7,7 +7,7 @@ mod line;
 mod object;
 mod row;
 
-pub use answer::{write_answer, write_command, write_image};
+pub use answer::{Answered, write_answer, write_command, write_image};
 pub use line::Line;
 pub use object::{json, row_value, text};
 pub use row::write_row;

@@ -15,7 +15,7 @@ use xl_outside::{Failed, Sink, put_all};
 /// `Failed` only where the sink's faults rose; then the beginning of the line was appended.
 pub fn write_row<K: Sink>(out: &mut K, row: &Row, counts: &Counts) -> Result<(), Failed>
     requires { counts.now.arrays ≤ 6 }
-    ensures { SinkAfter K.taken K.outside K.roomy (row_line row.now.name.bytes counts.now)
+    ensures { SinkAfter K.sink (row_line row.now.name.bytes counts.now)
         out.old out.new (is_ok result) }
 {
     let mut line = Line::<1024>::new();

@@ -8,7 +8,7 @@ use Rattle.xl_model.specs.declared.script.Item.TheVariants.{Declared}
 use Rattle.xl_model.specs.Items.{state_after}
 use Rattle.xl_model.specs.Scenes.{Served, rows_after, rows_lines, item_lines, scene_after, scenes_after, told_by}
 use Rattle.xl_script.specs.Placing.{is_area}
-use Rattle.xl_outside.specs.Sinks.{Outside, SinkAfter}
+use Rattle.xl_outside.specs.Sinks.{SinkMeaning, SinkAfter}
 use Rattle.xl_outside.proofs.SinkLemmas.{sink_same}
 use Rattle.xl_serving.specs.Serving.{HasServed, scene_of}
 
@@ -31,11 +31,11 @@ unfolding scene_after
 declared_scene area areas rows = ap (λ (z : List Served). scene_of z (areas ++ area ∷ [])) (sym (declared_rows area areas rows))
 
 -- an area is declared: nothing is told, and all rows stay
-pub served_area : {K : Type 0} (taken : K → Option (List ℕ)) (outside : K → Outside) (roomy : K → ℕ → Type 0) (answers : Bool) (area : Area) (areas : List Area) (rows : List Served) (k : K)
-    → HasServed taken outside roomy answers (Declared area ∷ []) (scene_of rows areas) (scene_of rows (areas ++ area ∷ [])) k k true
-served_area taken outside roomy answers area areas rows k = record {
+pub served_area : {K : Type 0} (sink : SinkMeaning K) (answers : Bool) (area : Area) (areas : List Area) (rows : List Served) (k : K)
+    → HasServed sink answers (Declared area ∷ []) (scene_of rows areas) (scene_of rows (areas ++ area ∷ [])) k k true
+served_area sink answers area areas rows k = record {
   scene_is = declared_scene area areas rows;
-  writes = subst (λ (text : List ℕ). SinkAfter taken outside roomy text k k true) (sym (declared_told answers area areas rows)) (sink_same taken outside roomy k);
+  writes = subst (λ (text : List ℕ). SinkAfter sink text k k true) (sym (declared_told answers area areas rows)) (sink_same sink k);
 }
 
 -- a command that isn't a demand declares no area

@@ -4,7 +4,7 @@ use Rattle.std.specs.Prelude.{Option, Result, Ok, Err}
 use Rattle.xl_model.specs.declared.fault.InputFault.{InputFault}
 use Rattle.xl_model.specs.Scenes.{Served}
 use Rattle.xl_model.specs.Courses.{Trail}
-use Rattle.xl_outside.specs.Sinks.{Outside}
+use Rattle.xl_outside.specs.Sinks.{SinkMeaning}
 use Rattle.xl_outside.specs.Fronts.{with_none}
 use Rattle.xl_outside.proofs.SinkLemmas.{sink_cut}
 use Rattle.xl_course.specs.declared.stop.Stop.{Stop}
@@ -16,12 +16,12 @@ use Rattle.xl_serving.specs.Inputs.{Finds}
 use Rattle.xl_serving.specs.Plain.{Start, account_from, rows_from, account_by, rows_by}
 
 -- the end of a report stopped in its rows
-pub end_cut : {K : Type 0} (taken : K → Option (List ℕ)) (outside : K → Outside) (roomy : K → ℕ → Type 0) (json : Bool) (xs ys : List ℕ) (a b : K) (stop : Stop)
-    → EndAfter taken outside roomy json xs a b (Err stop) → EndAfter taken outside roomy json (xs ++ ys) a b (Err stop)
-end_cut taken outside roomy json xs ys a b why.WriteFault x = sink_cut taken outside roomy xs ys a b x
-end_cut taken outside roomy json xs ys a b why.NoMemory x = x
-end_cut taken outside roomy json xs ys a b why.ReadFault x = absurd x
-end_cut taken outside roomy json xs ys a b (why.Input f) x = absurd x
+pub end_cut : {K : Type 0} (sink : SinkMeaning K) (json : Bool) (xs ys : List ℕ) (a b : K) (stop : Stop)
+    → EndAfter sink json xs a b (Err stop) → EndAfter sink json (xs ++ ys) a b (Err stop)
+end_cut sink json xs ys a b why.WriteFault x = sink_cut sink xs ys a b x
+end_cut sink json xs ys a b why.NoMemory x = x
+end_cut sink json xs ys a b why.ReadFault x = absurd x
+end_cut sink json xs ys a b (why.Input f) x = absurd x
 
 -- there was a start, and its course was served
 pub started_ends : {K : Type 0} (roomy : K → ℕ → Type 0) (a : AskedPlain) (t : Trail) (start : Start) (by : Result Start InputFault) (r : Result (Unit {0}) Stop) (before after : Option (List ℕ)) (old new : K) (rows : List Served)

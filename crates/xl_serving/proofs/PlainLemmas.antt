@@ -13,7 +13,7 @@ use Rattle.xl_model.specs.declared.script.Item.TheVariants as item
 use Rattle.xl_model.specs.Scenes.{Served as Row, Scene, scene_after, scenes_after, told_by as scenes_told}
 use Rattle.xl_model.specs.Courses.{Accesses, Trail, events_from, accesses_items as scene_accesses}
 use Rattle.xl_model_lemmas.proofs.SceneLemmas.{told-append}
-use Rattle.xl_outside.specs.Sinks.{Outside, SinkAfter}
+use Rattle.xl_outside.specs.Sinks.{SinkMeaning, SinkAfter}
 use Rattle.xl_course.specs.declared.form.Step.{Step}
 use Rattle.xl_course.specs.declared.form.Step.TheVariants as step
 use Rattle.xl_course.specs.declared.stop.Stop.{Stop}
@@ -44,15 +44,15 @@ told-plain answers (i ∷ items) s =
     ∙ ap (λ (t : List ℕ). lines_where plain answers i s ++ t) (told-plain answers items (scene_after i s))
 
 -- what rows were served, the plain form was
-pub served-plain : {K : Type 0} (taken : K → Option (List ℕ)) (outside : K → Outside) (roomy : K → ℕ → Type 0) (answers : Bool) (items : List Item) (p q : Scene) (k l : K) (whole : Bool)
-    → HasServed taken outside roomy answers items p q k l whole → Served plain taken outside roomy answers items p q k l whole
-served-plain taken outside roomy answers items p q k l true x = record {
+pub served-plain : {K : Type 0} (sink : SinkMeaning K) (answers : Bool) (items : List Item) (p q : Scene) (k l : K) (whole : Bool)
+    → HasServed sink answers items p q k l whole → Served plain sink answers items p q k l whole
+served-plain sink answers items p q k l true x = record {
   state_is = x.scene_is ∙ scenes-states items p;
-  writes = subst (λ (t : List ℕ). SinkAfter taken outside roomy t k l true) (told-plain answers items p) x.writes;
+  writes = subst (λ (t : List ℕ). SinkAfter sink t k l true) (told-plain answers items p) x.writes;
 }
-served-plain taken outside roomy answers items p q k l false x = record {
+served-plain sink answers items p q k l false x = record {
   state_is = tt;
-  writes = subst (λ (t : List ℕ). SinkAfter taken outside roomy t k l false) (told-plain answers items p) x.writes;
+  writes = subst (λ (t : List ℕ). SinkAfter sink t k l false) (told-plain answers items p) x.writes;
 }
 
 same-accesses : (number : ℕ) (xs : List (ℕ × Kind)) → scene_accesses number xs ≡ record_items plain (record { number = number; accesses = xs })
@@ -108,11 +108,11 @@ events-items (command.Run n) h = refl
 events-items command.RunRest h = refl
 
 -- an area was declared
-pub declared : {K : Type 0} (taken : K → Option (List ℕ)) (outside : K → Outside) (roomy : K → ℕ → Type 0) (answers : Bool) (area : Area) (p q : Scene) (k : K)
-    → q ≡ with_area area p → Served plain taken outside roomy answers (item.Declared area ∷ []) p q k k true
-declared taken outside roomy answers area p q k e =
-    subst (λ (s : Scene). Served plain taken outside roomy answers (item.Declared area ∷ []) p s k k true) (sym e)
-    (served-plain taken outside roomy answers (item.Declared area ∷ []) p (with_area area p) k k true (served_area taken outside roomy answers area p.areas p.rows k))
+pub declared : {K : Type 0} (sink : SinkMeaning K) (answers : Bool) (area : Area) (p q : Scene) (k : K)
+    → q ≡ with_area area p → Served plain sink answers (item.Declared area ∷ []) p q k k true
+declared sink answers area p q k e =
+    subst (λ (s : Scene). Served plain sink answers (item.Declared area ∷ []) p s k k true) (sym e)
+    (served-plain sink answers (item.Declared area ∷ []) p (with_area area p) k k true (served_area sink answers area p.areas p.rows k))
 
 -- what may still be served, after an area
 pub can-area : (area : Area) (rest : List Command) (areas more : List Area) → more ≡ areas ++ area ∷ []

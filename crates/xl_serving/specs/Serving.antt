@@ -8,7 +8,7 @@ use Rattle.xl_model.specs.declared.script.Item.{Item}
 use Rattle.xl_model.specs.declared.script.Area.{Area}
 use Rattle.xl_model.specs.Scenes.{Served, Scene, scenes_after, told_by}
 use Rattle.xl_model.specs.Courses.{block_address}
-use Rattle.xl_outside.specs.Sinks.{Outside, SinkAfter}
+use Rattle.xl_outside.specs.Sinks.{SinkMeaning, SinkAfter}
 
 -- These rows, where these areas were declared.
 abbrev pub scene_of : List Served → List Area → Scene
@@ -20,9 +20,9 @@ SceneAfter true items s t = t ≡ scenes_after items s
 SceneAfter false items s t = Unit {0}
 
 -- These items were served, and what they tell was written: whole, or up to a put that failed.
-pub record HasServed {K : Type 0} (taken : K → Option (List ℕ)) (outside : K → Outside) (roomy : K → ℕ → Type 0) (answers : Bool) (items : List Item) (p q : Scene) (k l : K) (whole : Bool) : Type 0 where
+pub record HasServed {K : Type 0} (sink : SinkMeaning K) (answers : Bool) (items : List Item) (p q : Scene) (k l : K) (whole : Bool) : Type 0 where
   pub scene_is : SceneAfter whole items p q
-  pub writes : SinkAfter taken outside roomy (told_by answers items p) k l whole
+  pub writes : SinkAfter sink (told_by answers items p) k l whole
 
 -- How many events a command is.
 abbrev pub count_of : Command → ℕ

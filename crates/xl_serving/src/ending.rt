@@ -20,7 +20,7 @@ pub fn write_end<R: Rows, K: Sink>(
     image: bool,
     out: &mut K,
 ) -> Result<(), Stop>
-    ensures { EndAfter K.taken K.outside K.roomy json
+    ensures { EndAfter K.sink json
         (rows_text json (R.rows rows.now) ++ images_where image (R.rows rows.now))
         out.old out.new result }
 {
@@ -40,7 +40,7 @@ fn write_rows<R: Rows, K: Sink>(
     json: bool,
     out: &mut K,
 ) -> Result<(), Stop>
-    ensures { EndAfter K.taken K.outside K.roomy json (rows_text json (R.rows rows.now))
+    ensures { EndAfter K.sink json (rows_text json (R.rows rows.now))
         out.old out.new result }
 {
     if json {
@@ -55,7 +55,7 @@ fn write_rows<R: Rows, K: Sink>(
 /// Writes the rows as one line of JSON. Its text is made before any of it is put.
 #[tactic(auto, unfolding(xl_report::specs::Json::json_line))]
 fn write_json<R: Rows, K: Sink>(alloc: Global, rows: &R, out: &mut K) -> Result<(), Stop>
-    ensures { EndAfter K.taken K.outside K.roomy true (json_line (R.rows rows.now))
+    ensures { EndAfter K.sink true (json_line (R.rows rows.now))
         out.old out.new result }
 {
     let Ok(text) = rows.json(alloc) else {
@@ -69,7 +69,7 @@ fn write_json<R: Rows, K: Sink>(alloc: Global, rows: &R, out: &mut K) -> Result<
 
 /// Writes a text and a newline.
 fn put_line<K: Sink>(out: &mut K, text: &str) -> Result<(), Failed>
-    ensures { SinkAfter K.taken K.outside K.roomy (text.now ++ codes "\n")
+    ensures { SinkAfter K.sink (text.now ++ codes "\n")
         out.old out.new (is_ok result) }
 {
     match put_all(out, text.as_bytes()) {
@@ -80,7 +80,7 @@ fn put_line<K: Sink>(out: &mut K, text: &str) -> Result<(), Failed>
 
 /// Writes the images where they are asked for.
 fn write_images<R: Rows, K: Sink>(rows: &R, image: bool, out: &mut K) -> Result<(), Failed>
-    ensures { SinkAfter K.taken K.outside K.roomy (images_where image (R.rows rows.now))
+    ensures { SinkAfter K.sink (images_where image (R.rows rows.now))
         out.old out.new (is_ok result) }
 {
     if image {

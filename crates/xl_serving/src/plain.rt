@@ -131,7 +131,7 @@ impl<R: Rows> Form<R> for Bench {
     ) -> Result<(), Failed> {
         if answers {
             self.quiet(rows);
-            return rows.access(number, access.va, access.kind, &self.areas, answers, out);
+            return rows.access(number, access, &self.areas, answers, out);
         }
         self.waiting.put_off(rows, &self.areas, access);
         Ok(())
@@ -195,7 +195,7 @@ impl Bench {
         out: &mut K,
     ) -> Result<(), Failed>
         requires { IsPlaced command }
-        ensures served { HasServed plain K.taken K.outside K.roomy answers
+        ensures served { HasServed plain K.sink answers
             (events_from (event_at command) 0 (count_of command))
             (waited self.old.waiting (scene_of (R.rows rows.old) self.old.areas))
             (waited self.new.waiting (scene_of (R.rows rows.new) self.new.areas))
@@ -220,7 +220,7 @@ impl Bench {
         answers: bool,
         out: &mut K,
     ) -> Result<(), Failed>
-        ensures served { HasServed plain K.taken K.outside K.roomy answers (item.Command event ∷ [])
+        ensures served { HasServed plain K.sink answers (item.Command event ∷ [])
             (waited self.old.waiting (scene_of (R.rows rows.old) self.old.areas))
             (waited self.new.waiting (scene_of (R.rows rows.new) self.new.areas))
             out.old out.new (is_ok result) }

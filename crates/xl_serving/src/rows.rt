@@ -14,7 +14,7 @@ use crate::batch::WaitingEvent;
 use std::alloc::Global;
 use xl_areas::Areas;
 use xl_lackey::Access;
-use xl_model::{Event, Kind, NoMemory, Row};
+use xl_model::{Event, NoMemory, Row};
 use xl_outside::{Failed, Sink};
 
 /// Rows that are served: each item, with the events of its demand, by one row after another. Where
@@ -39,7 +39,7 @@ pub trait Rows: Sized {
         answers: bool,
         out: &mut K,
     ) -> Result<(), Failed>
-        ensures { HasServed K.taken K.outside K.roomy answers (Command event ∷ [])
+        ensures { HasServed K.sink answers (Command event ∷ [])
             (scene_of (rows self.old) areas.now) (scene_of (rows self.new) areas.now)
             out.old out.new (is_ok result) };
 
@@ -47,13 +47,12 @@ pub trait Rows: Sized {
     fn access<K: Sink>(
         &mut self,
         number: u64,
-        va: u64,
-        kind: Kind,
+        access: Access,
         areas: &Areas,
         answers: bool,
         out: &mut K,
     ) -> Result<(), Failed>
-        ensures { HasServed K.taken K.outside K.roomy answers (Referenced number va kind ∷ [])
+        ensures { HasServed K.sink answers (Referenced number access.va access.kind ∷ [])
             (scene_of (rows self.old) areas.now) (scene_of (rows self.new) areas.now)
             out.old out.new (is_ok result) };
 
@@ -65,7 +64,7 @@ pub trait Rows: Sized {
 
     /// Writes a line for each row.
     fn write_rows<K: Sink>(&self, out: &mut K) -> Result<(), Failed>
-        ensures { SinkAfter K.taken K.outside K.roomy (row_lines (rows self.now))
+        ensures { SinkAfter K.sink (row_lines (rows self.now))
             out.old out.new (is_ok result) };
 
     /// The rows as the text of a JSON array, with an object for each row. Where there is no memory,
@@ -76,6 +75,6 @@ pub trait Rows: Sized {
 
     /// Writes the words of each radix table that are not 0, row by row.
     fn write_images<K: Sink>(&self, out: &mut K) -> Result<(), Failed>
-        ensures { SinkAfter K.taken K.outside K.roomy (images_lines (rows self.now))
+        ensures { SinkAfter K.sink (images_lines (rows self.now))
             out.old out.new (is_ok result) };
 }

@@ -29,14 +29,15 @@ pub fn report<R: Rows, F: Folder, K: Sink>(
     rows: &mut R,
 ) -> Result<(), Stop>
     requires none { R.rows rows.old ≡ [] }
-    requires flushed { IsFlushed K.taken K.outside out.old }
-    ensures told { IfSome (F.files folder.old) (λ fs.
+    requires flushed { IsFlushed K.sink out.old }
+    ensures told { IfSome (F.folder.files folder.old) (λ fs.
         Ends result (plain_account (plain_of words.now) fs)
-        K.roomy (K.outside out.old).written (K.outside out.new).written out.old out.new
+        K.sink.roomy (K.sink.outside out.old).written (K.sink.outside out.new).written
+        out.old out.new
         (R.rows rows.new ≡ plain_rows (plain_of words.now) fs)) }
-    ensures leaves { FolderLeft F.files F.faults F.absences F.steady folder.old folder.new
+    ensures leaves { FolderLeft F.folder folder.old folder.new
         (status_by result) }
-    ensures goes_on { GoesOn (is_all_put result) (K.outside out.old) (K.outside out.new) }
+    ensures goes_on { GoesOn (is_all_put result) (K.sink.outside out.old) (K.sink.outside out.new) }
     ensures met { IfErr result StopsRun }
 {
     let script = open(alloc, words, folder, rows)?;
@@ -48,7 +49,9 @@ pub fn report<R: Rows, F: Folder, K: Sink>(
 }
 
 /// Serves the script over the trace that the words name or ask to be made, and writes the report. Where they
-/// do neither, the trace has no records.
+/// do neither, the trace has no records. Apart, so that rows are opened with no buffer of a trace on the
+/// stack.
+#[inline(never)]
 fn report_orders<R: Rows, F: Folder, K: Sink>(
     alloc: Global,
     orders: &PlainOrders<'_>,
@@ -56,17 +59,18 @@ fn report_orders<R: Rows, F: Folder, K: Sink>(
     out: &mut K,
     rows: &mut R,
 ) -> Result<(), Stop>
-    requires flushed { IsFlushed K.taken K.outside out.old }
-    ensures told { IfSome (F.files folder.old) (λ fs.
+    requires flushed { IsFlushed K.sink out.old }
+    ensures told { IfSome (F.folder.files folder.old) (λ fs.
         Ends result (account_from (plain_of orders.now.words.now)
         (trail_for (plain_of orders.now.words.now) fs)
         (start_of (R.rows rows.old) orders.now.script.now))
-        K.roomy (K.outside out.old).written (K.outside out.new).written out.old out.new
+        K.sink.roomy (K.sink.outside out.old).written (K.sink.outside out.new).written
+        out.old out.new
         (R.rows rows.new ≡ rows_from (trail_for (plain_of orders.now.words.now) fs)
         (start_of (R.rows rows.old) orders.now.script.now))) }
-    ensures leaves { FolderLeft F.files F.faults F.absences F.steady folder.old folder.new
+    ensures leaves { FolderLeft F.folder folder.old folder.new
         (status_by result) }
-    ensures goes_on { GoesOn (is_all_put result) (K.outside out.old) (K.outside out.new) }
+    ensures goes_on { GoesOn (is_all_put result) (K.sink.outside out.old) (K.sink.outside out.new) }
     ensures met { IfErr result StopsRun }
 {
     match orders.words.made {
@@ -93,19 +97,20 @@ fn report_from<R: Rows, T: Source, F: Folder, K: Sink>(
     out: &mut K,
     rows: &mut R,
 ) -> Result<(), Stop>
-    requires flushed { IsFlushed K.taken K.outside out.old }
+    requires flushed { IsFlushed K.sink out.old }
     requires unread { (fs : Files) → T.stands source.old fs
         × (T.left source.old fs ≡ trail_for (plain_of orders.now.words.now) fs) }
-    ensures told { IfSome (F.files folder.old) (λ fs.
+    ensures told { IfSome (F.folder.files folder.old) (λ fs.
         Ends result (account_from (plain_of orders.now.words.now)
         (trail_for (plain_of orders.now.words.now) fs)
         (start_of (R.rows rows.old) orders.now.script.now))
-        K.roomy (K.outside out.old).written (K.outside out.new).written out.old out.new
+        K.sink.roomy (K.sink.outside out.old).written (K.sink.outside out.new).written
+        out.old out.new
         (R.rows rows.new ≡ rows_from (trail_for (plain_of orders.now.words.now) fs)
         (start_of (R.rows rows.old) orders.now.script.now))) }
-    ensures leaves { FolderLeft F.files F.faults F.absences F.steady folder.old folder.new
+    ensures leaves { FolderLeft F.folder folder.old folder.new
         (status_by result) }
-    ensures goes_on { GoesOn (is_all_put result) (K.outside out.old) (K.outside out.new) }
+    ensures goes_on { GoesOn (is_all_put result) (K.sink.outside out.old) (K.sink.outside out.new) }
     ensures met { IfErr result StopsRun }
 {
     orders.script.fits();

@@ -67,11 +67,12 @@ impl Tape {
         folder: &mut F,
         name: &str,
     ) -> Result<Option<Numbered>, Stop>
-        ensures told { IfSome (F.files folder.old) (λ fs. IsFedFrom (file_of fs name.now) self.old
+        ensures told { IfSome (F.folder.files folder.old) (λ fs.
+            IsFedFrom (file_of fs name.now) self.old
             → Gives (IsFedFrom (file_of fs name.now) self.new)
             (left_of (file_of fs name.now) self.old)
             (left_of (file_of fs name.now) self.new) result) }
-        ensures leaves { FolderAfter F.files F.faults F.absences F.steady folder.old folder.new
+        ensures leaves { FolderAfter F.folder folder.old folder.new
             (fate_by stop_fate result) }
         ensures met { IfErr result StopsSource }
         ensures shrinks { IfOk result (λ r. IsSome r → size_of self.new < size_of self.old) }
@@ -131,9 +132,10 @@ impl Tape {
         requires unfinished { self.old.reader.finished ≡ false }
         requires room { length self.old.reader.held ≤ 258 }
         requires none { due self.old.reader [] ≡ ([], None) }
-        ensures told { IfSome (F.files folder.old) (λ fs. IsFedFrom (file_of fs name.now) self.old
+        ensures told { IfSome (F.folder.files folder.old) (λ fs.
+            IsFedFrom (file_of fs name.now) self.old
             → FillAnswers (file_of fs name.now) result self.old self.new) }
-        ensures leaves { FolderAfter F.files F.faults F.absences F.steady folder.old folder.new
+        ensures leaves { FolderAfter F.folder folder.old folder.new
             (fate_by stop_fate result) }
         ensures met { IfErr result StopsSource }
         ensures less { OnOk result (to_come self.new < to_come self.old) }
@@ -151,9 +153,10 @@ impl Tape {
         requires unfinished { self.old.reader.finished ≡ false }
         requires none { due self.old.reader [] ≡ ([], None) }
         requires limit { self.old.at ≡ 2 ^ 34 }
-        ensures told { IfSome (F.files folder.old) (λ fs. IsFedFrom (file_of fs name.now) self.old
+        ensures told { IfSome (F.folder.files folder.old) (λ fs.
+            IsFedFrom (file_of fs name.now) self.old
             → FillAnswers (file_of fs name.now) result self.old self.new) }
-        ensures leaves { FolderAfter F.files F.faults F.absences F.steady folder.old folder.new
+        ensures leaves { FolderAfter F.folder folder.old folder.new
             (fate_by stop_fate result) }
         ensures met { IfErr result StopsSource }
         ensures less { OnOk result (to_come self.new < to_come self.old) }
@@ -172,9 +175,10 @@ impl Tape {
         requires unfinished { self.old.reader.finished ≡ false }
         requires room { length self.old.reader.held ≤ 258 }
         requires below { self.old.at < 2 ^ 34 }
-        ensures told { IfSome (F.files folder.old) (λ fs. IsFedFrom (file_of fs name.now) self.old
+        ensures told { IfSome (F.folder.files folder.old) (λ fs.
+            IsFedFrom (file_of fs name.now) self.old
             → FillAnswers (file_of fs name.now) result self.old self.new) }
-        ensures leaves { FolderAfter F.files F.faults F.absences F.steady folder.old folder.new
+        ensures leaves { FolderAfter F.folder folder.old folder.new
             (fate_by stop_fate result) }
         ensures met { IfErr result StopsSource }
         ensures less { OnOk result (to_come self.new < to_come self.old) }
@@ -192,9 +196,9 @@ impl Tape {
         requires unfinished { self.old.reader.finished ≡ false }
         requires room { length self.old.reader.held ≤ 258 }
         requires below { self.old.at < 2 ^ 34 }
-        ensures told { IfSome (F.files folder.old) (λ fs.
+        ensures told { IfSome (F.folder.files folder.old) (λ fs.
             FeedAnswers (file_of fs name.now) self.old.at result self.old.reader self.new.reader) }
-        ensures leaves { FolderAfter F.files F.faults F.absences F.steady folder.old folder.new
+        ensures leaves { FolderAfter F.folder folder.old folder.new
             (fate_by unread_fate result) }
         ensures at { IfOk result (λ n. (self.new.at ≡ self.old.at + n)
             × (self.new.number ≡ self.old.number)) }
@@ -251,9 +255,9 @@ fn feed_from<F: Folder>(
     requires room { wanted + length reader.old.held ≤ 65536 }
     ensures count { IfOk result (λ n. n ≤ wanted) }
     ensures size { length buf.new.items ≡ 65536 }
-    ensures told { IfSome (F.files folder.old) (λ fs.
+    ensures told { IfSome (F.folder.files folder.old) (λ fs.
         FeedAnswers (file_of fs name.now) at result reader.old reader.new) }
-    ensures leaves { FolderAfter F.files F.faults F.absences F.steady folder.old folder.new
+    ensures leaves { FolderAfter F.folder folder.old folder.new
         (fate_by unread_fate result) }
     ensures held { IfOk result (λ n. length reader.new.held ≡ length reader.old.held + n) }
     ensures unfinished { OnOk result (reader.new.finished ≡ false) }
@@ -267,8 +271,9 @@ fn feed_from<F: Folder>(
 
 /// Whether a file has bytes from a place on.
 fn has_more<F: Folder>(folder: &mut F, name: &str, at: u64) -> Result<bool, Unread>
-    ensures told { IfSome (F.files folder.old) (λ fs. MoreAnswers (file_of fs name.now) at result) }
-    ensures leaves { FolderAfter F.files F.faults F.absences F.steady folder.old folder.new
+    ensures told { IfSome (F.folder.files folder.old) (λ fs.
+        MoreAnswers (file_of fs name.now) at result) }
+    ensures leaves { FolderAfter F.folder folder.old folder.new
         (fate_by unread_fate result) }
 {
     let mut byte = [0; 1];

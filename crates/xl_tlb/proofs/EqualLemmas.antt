@@ -1,12 +1,9 @@
 -- The item that keeps a leaf in all its parts.
-use Rattle.std.proofs.Common.{◌≡◌, ℕ, ◌/◌, ◌==◌, ◌<◌, Bool, true, false, ◌&&◌, refl, ap}
-use Rattle.xl_model.specs.Addresses.{pages_of}
+use Rattle.std.proofs.Common.{◌≡◌, ◌/◌, ◌==◌, ◌<◌, Bool, true, false, ◌&&◌, refl, ap}
 use Rattle.xl_model.specs.LeafWords.{perm_at}
-use Rattle.xl_model.specs.Mapping.{is_leaf}
 use Rattle.xl_model.specs.Ranges.{same_perm}
 use Rattle.xl_model.specs.Tlb.{set_number}
 use Rattle.xl_model.specs.declared.leaf.Leaf.{Leaf}
-use Rattle.xl_model.specs.declared.perm.Perm.{Perm}
 use Rattle.xl_model.specs.declared.row.TlbSpec.{TlbSpec}
 use Rattle.xl_recency.specs.declared.item.Item.{Item}
 use Rattle.xl_tlb.specs.Arrays.{IsFit}

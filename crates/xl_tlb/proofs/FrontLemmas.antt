@@ -1,20 +1,21 @@
 -- A look that a leaf of the first array answers.
-use Rattle.std.proofs.Common.{◌≡◌, ℕ, zero, suc, ◌^◌, ◌<◌, ◌≤◌, ◌*◌, ◌/◌, ◌%◌, ◌&&◌, Bool, true, false, List, [], ◌∷◌, map, find, take, length, get_or, set, count_by, nat_le, nat_lt, Option, None, Some, refl, sym, ◌∙◌, ap, subst, arith}
+use Rattle.std.proofs.Common.{◌≡◌, ℕ, zero, suc, ◌^◌, ◌<◌, ◌≤◌, ◌*◌, ◌/◌, ◌%◌, ◌&&◌, Bool, true, false, List, [], ◌∷◌, map, find, take, length, get_or, set, count_by, nat_le, nat_lt, Option, None, Some, is_some, not, refl, sym, ◌∙◌, ap, subst, arith}
 use Rattle.std.proofs.lemmas.Bool.Decides.{nat_tests}
 use Rattle.std.proofs.lemmas.List.{set-get_or, get_or-set_same}
+use Rattle.xl_model.specs.declared.address.Kind.{Kind}
 use Rattle.xl_model.specs.declared.address.Order.TheVariants as order
 use Rattle.xl_model.specs.declared.leaf.Leaf.{Leaf}
 use Rattle.xl_model.specs.declared.row.TlbSpec.{TlbSpec}
 use Rattle.xl_model.specs.Base.{plus}
 use Rattle.xl_model.specs.Recency.{touched, with_newest, without_first}
-use Rattle.xl_model.specs.Tally.{counted}
-use Rattle.xl_model.specs.Tlb.{TlbArray, Answer, answer_of, array_hit, array_touched, array_filled, filled_where, filled_below, covers_as, found_as, set_at, where_taken, set_number, takes_order, hits_at, misses_at, fills_array}
+use Rattle.xl_model.specs.Tally.{counted, one_more_where}
+use Rattle.xl_model.specs.Tlb.{TlbArray, Answer, answer_of, serves_kind, array_hit, array_touched, array_filled, filled_where, filled_below, filled_for, covers_as, found_as, set_at, where_taken, set_number, takes_order, hits_at, misses_at, fills_array}
 use Rattle.xl_tlb.specs.Fronts.{IsTouch, IsFirstHit, FirstHit, IsFirstLeaf, FirstLeaf, IsSecondHit, SecondHit, IsFrontHit, IsFront, Front}
 use Rattle.xl_model.specs.LeafWords.{small_leaf}
 use Rattle.xl_tlb.specs.Hits.{word_touched}
-use Rattle.xl_tlb.specs.Tlbs.{spec_of, NoneBelow, hits_up_to, misses_up_to, IsRising, tlb_of, tlb_looked, Told, told, leaf_told, looked_arrays, looked_by}
-use Rattle.xl_tlb.proofs.LevelLemmas.{first_told as first_one, first_arrays, spec_touched, spec_filled, with_one, more_told, more_arrays}
-use Rattle.xl_tlb.proofs.TlbLemmas.{look_after, specs_filled}
+use Rattle.xl_tlb.specs.Tlbs.{spec_of, NoneBelow, ServesAlone, hits_up_to, misses_up_to, IsRising, tlb_of, tlb_looked, Told, told, leaf_told, looked_arrays, looked_by}
+use Rattle.xl_tlb.proofs.LevelLemmas.{first_told as first_one, first_arrays, spec_touched, spec_filled, with_one, more_told, more_arrays, not_filled, and_false}
+use Rattle.xl_tlb.proofs.TlbLemmas.{answers_all, look_after, serves_all, specs_filled}
 
 -- what was touched stands in front, and a touch of it moves nothing
 meets : (p : Leaf → Bool) (xs : List Leaf) (x : Leaf) → find p xs ≡ Some x → p x ≡ true
@@ -69,7 +70,7 @@ module _ (space page word : ℕ) where
   pub first_front : (arrays new : List TlbArray) → IsFirstHit space page word arrays new → IsFront space page word new
   first_front _ _ (FirstHit a new rest hit alone) = Front new rest (hit_front a new hit) (rw hit.moved (alone_after a rest alone))
     where
-      alone_after : (a : TlbArray) (rest : List TlbArray) → NoneBelow (suc a.spec.level) (map spec_of rest) → NoneBelow (suc (word_touched space page order.K4 word a).spec.level) (map spec_of rest)
+      alone_after : (a : TlbArray) (rest : List TlbArray) → ServesAlone a.spec (map spec_of rest) → ServesAlone (word_touched space page order.K4 word a).spec (map spec_of rest)
       alone_after a rest alone = rw (spec_touched space page (small_leaf space page word) a) alone
 
   -- a leaf in front is touched, and nothing moves
@@ -101,72 +102,79 @@ not_down level other l = grind (arith, nat_tests)
 is_self : (level : ℕ) → (nat_le level level ≡ true) × (nat_lt level level ≡ false)
 is_self level = (grind (arith, nat_tests), grind (arith, nat_tests))
 
-module _ (level space page : ℕ) where
-  pub level_hits : (rest : List TlbArray) (ns : List ℕ) → NoneBelow (suc level) (map spec_of rest) → counted (hits_up_to level space page) rest ns ≡ ns
+not_up_to : (b c d : Bool) → c ≡ false → ((b && c) && d) ≡ false
+not_up_to b c d e = ap (λ (x : Bool). (b && x) && d) e ∙ ap (λ (x : Bool). x && d) (and_false b)
+
+module _ (kind : Kind) (level space page : ℕ) where
+  pub level_hits : (rest : List TlbArray) (ns : List ℕ) → NoneBelow (suc level) (map spec_of rest) → counted (hits_up_to kind level space page) rest ns ≡ ns
   level_hits [] ns h = refl
   level_hits (a ∷ rest) [] h = refl
-  level_hits (a ∷ rest) (n ∷ ns) h = rw (not_up level a.spec.level h.0) (ap (λ (z : List ℕ). n ∷ z) (level_hits rest ns h.1))
+  level_hits (a ∷ rest) (n ∷ ns) h =
+      ap (λ (b : Bool). one_more_where b n ∷ counted (hits_up_to kind level space page) rest ns) (not_up_to (serves_kind kind a) (nat_le a.spec.level level) (is_some (array_hit a space page)) (not_up level a.spec.level h.0))
+      ∙ ap (λ (z : List ℕ). n ∷ z) (level_hits rest ns h.1)
 
-  pub level_misses : (rest : List TlbArray) (ns : List ℕ) → NoneBelow (suc level) (map spec_of rest) → counted (misses_up_to level space page) rest ns ≡ ns
+  pub level_misses : (rest : List TlbArray) (ns : List ℕ) → NoneBelow (suc level) (map spec_of rest) → counted (misses_up_to kind level space page) rest ns ≡ ns
   level_misses [] ns h = refl
   level_misses (a ∷ rest) [] h = refl
-  level_misses (a ∷ rest) (n ∷ ns) h = rw (not_up level a.spec.level h.0) (ap (λ (z : List ℕ). n ∷ z) (level_misses rest ns h.1))
+  level_misses (a ∷ rest) (n ∷ ns) h =
+      ap (λ (b : Bool). one_more_where b n ∷ counted (misses_up_to kind level space page) rest ns) (not_up_to (serves_kind kind a) (nat_le a.spec.level level) (not (is_some (array_hit a space page))) (not_up level a.spec.level h.0))
+      ∙ ap (λ (z : List ℕ). n ∷ z) (level_misses rest ns h.1)
 
-module _ (x : Answer) (space page : ℕ) where
-  no_hits : (rest : List TlbArray) (ns : List ℕ) → NoneBelow (suc x.level) (map spec_of rest) → counted (hits_at (Some x) space page) rest ns ≡ ns
-  no_hits rest ns h = level_hits x.level space page rest ns h
+module _ (kind : Kind) (x : Answer) (space page : ℕ) where
+  no_hits : (rest : List TlbArray) (ns : List ℕ) → NoneBelow (suc x.level) (map spec_of rest) → counted (hits_at kind (Some x) space page) rest ns ≡ ns
+  no_hits rest ns h = level_hits kind x.level space page rest ns h
 
-  no_misses : (rest : List TlbArray) (ns : List ℕ) → NoneBelow (suc x.level) (map spec_of rest) → counted (misses_at (Some x) space page) rest ns ≡ ns
-  no_misses rest ns h = level_misses x.level space page rest ns h
+  no_misses : (rest : List TlbArray) (ns : List ℕ) → NoneBelow (suc x.level) (map spec_of rest) → counted (misses_at kind (Some x) space page) rest ns ≡ ns
+  no_misses rest ns h = level_misses kind x.level space page rest ns h
 
-  no_fills : (rest : List TlbArray) → NoneBelow (suc x.level) (map spec_of rest) → count_by (fills_array x.level x.leaf) rest ≡ 0
+  no_fills : (rest : List TlbArray) → NoneBelow (suc x.level) (map spec_of rest) → count_by (fills_array kind x.level x.leaf) rest ≡ 0
   no_fills [] h = refl
-  no_fills (a ∷ rest) h = rw (not_down x.level a.spec.level h.0) (no_fills rest h.1)
+  no_fills (a ∷ rest) h = rw (not_filled kind x.level x.leaf a (not_down x.level a.spec.level h.0)) (no_fills rest h.1)
 
 -- a leaf of 4 KiB that the first array finds is one that it hits
 pub first_leaf : (space page word : ℕ) (arrays new : List TlbArray) → IsFirstHit space page word arrays new → IsFirstLeaf space page (small_leaf space page word) arrays new
 first_leaf space page word _ _ (FirstHit a new rest hit alone) = FirstLeaf a new rest (array_found a space page (small_leaf space page word) hit.found) hit.moved alone
 
-module _ (space page : ℕ) (leaf : Leaf) where
-  pub first_told : (arrays new : List TlbArray) → IsFirstLeaf space page leaf arrays new → Some leaf ≡ leaf_told (answer_of arrays space page)
-  first_told _ _ (FirstLeaf a new rest found moved alone) = rw (← found) refl
+module _ (kind : Kind) (space page : ℕ) (leaf : Leaf) where
+  pub first_told : (arrays new : List TlbArray) → IsFirstLeaf space page leaf arrays new → Some leaf ≡ leaf_told (answer_of kind arrays space page)
+  first_told _ _ (FirstLeaf a new rest found moved alone) = rw (← answers_all kind a space page (Some leaf) alone.0 found) refl
 
   -- what the first array answers
   abbrev first_answer : TlbArray → Answer
   first_answer a = record { leaf = leaf; level = a.spec.level }
 
-  first_hits : (a : TlbArray) (rest : List TlbArray) (ns : List ℕ) → Some leaf ≡ array_hit a space page → NoneBelow (suc a.spec.level) (map spec_of rest)
-      → set ns 0 (plus (get_or ns 0 0) 1) ≡ counted (hits_at (Some (first_answer a)) space page) (a ∷ rest) ns
+  first_hits : (a : TlbArray) (rest : List TlbArray) (ns : List ℕ) → Some leaf ≡ array_hit a space page → ServesAlone a.spec (map spec_of rest)
+      → set ns 0 (plus (get_or ns 0 0) 1) ≡ counted (hits_at kind (Some (first_answer a)) space page) (a ∷ rest) ns
   first_hits a rest [] hit alone = refl
   first_hits a rest (n ∷ ns) hit alone =
-      rw (← hit, (is_self a.spec.level).0) (ap (λ (z : List ℕ). plus n 1 ∷ z) (sym (no_hits (first_answer a) space page rest ns alone)))
+      rw (serves_all kind a alone.0, ← hit, (is_self a.spec.level).0) (ap (λ (z : List ℕ). plus n 1 ∷ z) (sym (no_hits kind (first_answer a) space page rest ns alone.1)))
 
-  first_misses : (a : TlbArray) (rest : List TlbArray) (ns : List ℕ) → Some leaf ≡ array_hit a space page → NoneBelow (suc a.spec.level) (map spec_of rest)
-      → ns ≡ counted (misses_at (Some (first_answer a)) space page) (a ∷ rest) ns
+  first_misses : (a : TlbArray) (rest : List TlbArray) (ns : List ℕ) → Some leaf ≡ array_hit a space page → ServesAlone a.spec (map spec_of rest)
+      → ns ≡ counted (misses_at kind (Some (first_answer a)) space page) (a ∷ rest) ns
   first_misses a rest [] hit alone = refl
   first_misses a rest (n ∷ ns) hit alone =
-      rw (← hit, (is_self a.spec.level).0) (ap (λ (z : List ℕ). n ∷ z) (sym (no_misses (first_answer a) space page rest ns alone)))
+      rw (serves_all kind a alone.0, ← hit, (is_self a.spec.level).0) (ap (λ (z : List ℕ). n ∷ z) (sym (no_misses kind (first_answer a) space page rest ns alone.1)))
 
-  pub first_looked : (arrays new : List TlbArray) → IsFirstLeaf space page leaf arrays new → new ≡ looked_arrays (answer_of arrays space page) space page arrays
-  first_looked _ _ (FirstLeaf a new rest found moved alone) = first_arrays a rest space page leaf new found moved
+  pub first_looked : (arrays new : List TlbArray) → IsFirstLeaf space page leaf arrays new → new ≡ looked_arrays kind (answer_of kind arrays space page) space page arrays
+  first_looked _ _ (FirstLeaf a new rest found moved alone) = first_arrays kind a rest space page leaf new (answers_all kind a space page (Some leaf) alone.0 found) moved
 
   pub first_after : (arrays new : List TlbArray) (hits misses : List ℕ) (fills : ℕ) → fills < 2 ^ 64 → IsFirstLeaf space page leaf arrays new
-      → tlb_of new (set hits 0 (plus (get_or hits 0 0) 1)) misses fills ≡ tlb_looked space page (tlb_of arrays hits misses fills)
+      → tlb_of new (set hits 0 (plus (get_or hits 0 0) 1)) misses fills ≡ tlb_looked kind space page (tlb_of arrays hits misses fills)
   unfolding tlb_looked
   first_after _ _ hits misses fills small (FirstLeaf a new rest found moved alone) =
       let x = first_answer a in
-      let told : answer_of (a ∷ rest) space page ≡ Some x = rw (← found) refl in
-      let arrays_are : new ∷ rest ≡ looked_arrays (Some x) space page (a ∷ rest) = rw told at (first_arrays a rest space page leaf new found moved) in
-      let none : count_by (fills_array x.level x.leaf) (a ∷ rest) ≡ 0 = rw (is_self a.spec.level).1 (no_fills x space page rest alone) in
-      let same : fills ≡ plus fills (count_by (fills_array x.level x.leaf) (a ∷ rest)) = rw none (omega arith) in
+      let told : answer_of kind (a ∷ rest) space page ≡ Some x = rw (← answers_all kind a space page (Some leaf) alone.0 found) refl in
+      let arrays_are : new ∷ rest ≡ looked_arrays kind (Some x) space page (a ∷ rest) = rw told at (first_arrays kind a rest space page leaf new (answers_all kind a space page (Some leaf) alone.0 found) moved) in
+      let none : count_by (fills_array kind x.level x.leaf) (a ∷ rest) ≡ 0 = rw (not_filled kind a.spec.level leaf a (is_self a.spec.level).1) (no_fills kind x space page rest alone.1) in
+      let same : fills ≡ plus fills (count_by (fills_array kind x.level x.leaf) (a ∷ rest)) = rw none (omega arith) in
       let h = first_hits a rest hits found alone in
       let m = first_misses a rest misses found alone in
-      let P : Option Answer → Type 0 = λ o. tlb_of (new ∷ rest) (set hits 0 (plus (get_or hits 0 0) 1)) misses fills ≡ looked_by o space page (tlb_of (a ∷ rest) hits misses fills) in
+      let P : Option Answer → Type 0 = λ o. tlb_of (new ∷ rest) (set hits 0 (plus (get_or hits 0 0) 1)) misses fills ≡ looked_by kind o space page (tlb_of (a ∷ rest) hits misses fills) in
       subst P (sym told)
       (ap (λ (z : List TlbArray). tlb_of z (set hits 0 (plus (get_or hits 0 0) 1)) misses fills) arrays_are
-      ∙ ap (λ (z : List ℕ). tlb_of (looked_arrays (Some x) space page (a ∷ rest)) z misses fills) h
-      ∙ ap (λ (z : List ℕ). tlb_of (looked_arrays (Some x) space page (a ∷ rest)) (counted (hits_at (Some x) space page) (a ∷ rest) hits) z fills) m
-      ∙ ap (λ (n : ℕ). tlb_of (looked_arrays (Some x) space page (a ∷ rest)) (counted (hits_at (Some x) space page) (a ∷ rest) hits) (counted (misses_at (Some x) space page) (a ∷ rest) misses) n) same)
+      ∙ ap (λ (z : List ℕ). tlb_of (looked_arrays kind (Some x) space page (a ∷ rest)) z misses fills) h
+      ∙ ap (λ (z : List ℕ). tlb_of (looked_arrays kind (Some x) space page (a ∷ rest)) (counted (hits_at kind (Some x) space page) (a ∷ rest) hits) z fills) m
+      ∙ ap (λ (n : ℕ). tlb_of (looked_arrays kind (Some x) space page (a ∷ rest)) (counted (hits_at kind (Some x) space page) (a ∷ rest) hits) (counted (misses_at kind (Some x) space page) (a ∷ rest) misses) n) same)
 
 -- a leaf of 4 KiB that is filled stands in front
 small_covers : (space page word : ℕ) → covers_as space page order.K4 (small_leaf space page word) ≡ true
@@ -206,77 +214,83 @@ fill_front space page word a within some takes =
 less : (x y : ℕ) → suc x ≤ y → (nat_lt x y ≡ true) × (nat_le x y ≡ true)
 less x y l = (grind (arith, nat_tests), grind (arith, nat_tests))
 
-and_false : (b : Bool) → (b && false) ≡ false
-and_false true = refl
-and_false false = refl
-
 none_lower : (level : ℕ) (specs : List TlbSpec) → NoneBelow (suc level) specs → NoneBelow level specs
 none_lower level [] h = tt
 none_lower level (s ∷ specs) h = (let k = h.0 in omega arith, none_lower level specs h.1)
 
-module _ (space page word : ℕ) where
-  second_hits : (a b : TlbArray) (rest : List TlbArray) (ns : List ℕ) → None ≡ array_hit a space page → Some (small_leaf space page word) ≡ array_hit b space page → NoneBelow (suc b.spec.level) (map spec_of rest)
-      → set ns 1 (plus (get_or ns 1 0) 1) ≡ counted (hits_at (Some (first_answer space page (small_leaf space page word) b)) space page) (a ∷ b ∷ rest) ns
+module _ (kind : Kind) (space page word : ℕ) where
+  -- the answer of the second array
+  abbrev second_answer : TlbArray → Answer
+  second_answer b = first_answer kind space page (small_leaf space page word) b
+
+  second_hits : (a b : TlbArray) (rest : List TlbArray) (ns : List ℕ) → None ≡ array_hit a space page → Some (small_leaf space page word) ≡ array_hit b space page → ServesAlone b.spec (map spec_of rest)
+      → set ns 1 (plus (get_or ns 1 0) 1) ≡ counted (hits_at kind (Some (second_answer b)) space page) (a ∷ b ∷ rest) ns
   second_hits a b rest [] missed found alone = refl
   second_hits a b rest (n ∷ ns) missed found alone =
-      let miss : hits_at (Some (first_answer space page (small_leaf space page word) b)) space page a ≡ false = rw (← missed) (and_false (nat_le a.spec.level b.spec.level)) in
-      rw miss (ap (λ (z : List ℕ). n ∷ z) (first_hits space page (small_leaf space page word) b rest ns found alone))
+      let miss : hits_at kind (Some (second_answer b)) space page a ≡ false = rw (← missed) (and_false (serves_kind kind a && nat_le a.spec.level b.spec.level)) in
+      rw miss (ap (λ (z : List ℕ). n ∷ z) (first_hits kind space page (small_leaf space page word) b rest ns found alone))
 
-  second_misses : (a b : TlbArray) (rest : List TlbArray) (ns : List ℕ) → None ≡ array_hit a space page → Some (small_leaf space page word) ≡ array_hit b space page → NoneBelow (suc b.spec.level) (map spec_of rest)
-      → suc a.spec.level ≤ b.spec.level → set ns 0 (plus (get_or ns 0 0) 1) ≡ counted (misses_at (Some (first_answer space page (small_leaf space page word) b)) space page) (a ∷ b ∷ rest) ns
+  second_misses : (a b : TlbArray) (rest : List TlbArray) (ns : List ℕ) → None ≡ array_hit a space page → Some (small_leaf space page word) ≡ array_hit b space page → ServesAlone b.spec (map spec_of rest)
+      → ServesAlone a.spec (map spec_of (b ∷ rest)) → set ns 0 (plus (get_or ns 0 0) 1) ≡ counted (misses_at kind (Some (second_answer b)) space page) (a ∷ b ∷ rest) ns
   second_misses a b rest [] missed found alone below = refl
   second_misses a b rest (n ∷ ns) missed found alone below =
-      let miss : misses_at (Some (first_answer space page (small_leaf space page word) b)) space page a ≡ true = rw ((less a.spec.level b.spec.level below).1, ← missed) refl in
-      rw miss (ap (λ (z : List ℕ). plus n 1 ∷ z) (first_misses space page (small_leaf space page word) b rest ns found alone))
+      let miss : misses_at kind (Some (second_answer b)) space page a ≡ true = rw (serves_all kind a below.0, (less a.spec.level b.spec.level below.1.0).1, ← missed) refl in
+      rw miss (ap (λ (z : List ℕ). plus n 1 ∷ z) (first_misses kind space page (small_leaf space page word) b rest ns found alone))
+
+  second_one : (b : TlbArray) (rest : List TlbArray) → Some (small_leaf space page word) ≡ array_hit b space page → ServesAlone b.spec (map spec_of rest)
+      → Some (record { leaf = small_leaf space page word; level = b.spec.level; fills = 0 }) ≡ told kind (answer_of kind (b ∷ rest) space page) (b ∷ rest)
+  second_one b rest found alone =
+      first_one kind b rest space page (small_leaf space page word) (answers_all kind b space page (Some (small_leaf space page word)) alone.0 found) (none_lower b.spec.level (map spec_of rest) alone.1)
 
   -- what such a look tells
-  second_is : (a b new bnew : TlbArray) (rest : List TlbArray) → None ≡ array_hit a space page → takes_order a.spec order.K4 ≡ true → suc a.spec.level ≤ b.spec.level
-      → Some (small_leaf space page word) ≡ array_hit b space page → NoneBelow (suc b.spec.level) (map spec_of rest)
-      → Some (record { leaf = small_leaf space page word; level = b.spec.level; fills = 1 }) ≡ told (answer_of (a ∷ b ∷ rest) space page) (a ∷ b ∷ rest)
-  second_is a b new bnew rest missed takes below found alone =
+  second_is : (a b : TlbArray) (rest : List TlbArray) → None ≡ array_hit a space page → takes_order a.spec order.K4 ≡ true → ServesAlone a.spec (map spec_of (b ∷ rest))
+      → Some (small_leaf space page word) ≡ array_hit b space page → ServesAlone b.spec (map spec_of rest)
+      → Some (record { leaf = small_leaf space page word; level = b.spec.level; fills = 1 }) ≡ told kind (answer_of kind (a ∷ b ∷ rest) space page) (a ∷ b ∷ rest)
+  second_is a b rest missed takes below found alone =
       let f : Told = record { leaf = small_leaf space page word; level = b.spec.level; fills = 0 } in
-      let one = first_one b rest space page (small_leaf space page word) found (none_lower b.spec.level (map spec_of rest) alone) in
-      let fills : fills_array b.spec.level (small_leaf space page word) a ≡ true = rw ((less a.spec.level b.spec.level below).0, takes) refl in
-      ap (λ (t : Bool). Some (with_one t f)) (sym fills) ∙ more_told a (b ∷ rest) space page f missed one
+      let fills : fills_array kind b.spec.level (small_leaf space page word) a ≡ true = rw (serves_all kind a below.0, (less a.spec.level b.spec.level below.1.0).0, takes) refl in
+      ap (λ (t : Bool). Some (with_one t f)) (sym fills) ∙ more_told kind a (b ∷ rest) space page f (answers_all kind a space page None below.0 missed) (second_one b rest found alone)
 
-  pub second_told : (arrays new : List TlbArray) → IsSecondHit space page word arrays new → Some (small_leaf space page word) ≡ leaf_told (answer_of arrays space page)
-  second_told _ _ (SecondHit a new rest others missed takes alone hit filled front) = rw (← missed) (first_told space page (small_leaf space page word) rest others (first_leaf space page word rest others hit))
+  pub second_told : (arrays new : List TlbArray) → IsSecondHit space page word arrays new → Some (small_leaf space page word) ≡ leaf_told (answer_of kind arrays space page)
+  second_told _ _ (SecondHit a new rest others missed takes alone hit filled front) =
+      rw (← answers_all kind a space page None alone.0 missed) (first_told kind space page (small_leaf space page word) rest others (first_leaf space page word rest others hit))
 
-  pub second_looked : (arrays new : List TlbArray) → IsSecondHit space page word arrays new → new ≡ looked_arrays (answer_of arrays space page) space page arrays
+  pub second_looked : (arrays new : List TlbArray) → IsSecondHit space page word arrays new → new ≡ looked_arrays kind (answer_of kind arrays space page) space page arrays
   second_looked _ _ (SecondHit a new _ _ missed takes alone (FirstHit b bnew rest touch apart) filled front) =
       let found = array_found b space page (small_leaf space page word) touch.found in
       let f : Told = record { leaf = small_leaf space page word; level = b.spec.level; fills = 0 } in
-      let one = first_one b rest space page (small_leaf space page word) found (none_lower b.spec.level (map spec_of rest) apart) in
-      let n : new ≡ filled_below b.spec.level (small_leaf space page word) a = rw (less a.spec.level b.spec.level alone.0).0 filled in
-      more_arrays a (b ∷ rest) space page f new (bnew ∷ rest) missed one n (first_looked space page (small_leaf space page word) (b ∷ rest) (bnew ∷ rest) (first_leaf space page word (b ∷ rest) (bnew ∷ rest) (FirstHit b bnew rest touch apart)))
+      let n : new ≡ filled_below kind b.spec.level (small_leaf space page word) a = rw (serves_all kind a alone.0, (less a.spec.level b.spec.level alone.1.0).0) filled in
+      more_arrays kind a (b ∷ rest) space page f new (bnew ∷ rest) (answers_all kind a space page None alone.0 missed) (second_one b rest found apart) n
+      (first_looked kind space page (small_leaf space page word) (b ∷ rest) (bnew ∷ rest) (first_leaf space page word (b ∷ rest) (bnew ∷ rest) (FirstHit b bnew rest touch apart)))
 
   pub second_front : (arrays new : List TlbArray) → IsSecondHit space page word arrays new → IsFront space page word new
   second_front _ _ (SecondHit a new _ _ missed takes alone (FirstHit b bnew rest touch apart) filled front) =
       let new_is : new.spec ≡ a.spec = ap spec_of filled ∙ spec_filled (small_leaf space page word) a in
       let b_is : bnew.spec ≡ b.spec = ap spec_of touch.moved ∙ spec_touched space page (small_leaf space page word) b in
       Front new (bnew ∷ rest) front
-      (subst (λ (s : TlbSpec). NoneBelow (suc s.level) (bnew.spec ∷ map spec_of rest)) (sym new_is)
-      (subst (λ (s : TlbSpec). NoneBelow (suc a.spec.level) (s ∷ map spec_of rest)) (sym b_is) alone))
+      (subst (λ (s : TlbSpec). ServesAlone s (bnew.spec ∷ map spec_of rest)) (sym new_is)
+      (subst (λ (s : TlbSpec). ServesAlone a.spec (s ∷ map spec_of rest)) (sym b_is) alone))
 
   pub second_after : (arrays new : List TlbArray) (hits misses : List ℕ) (fills : ℕ) → IsSecondHit space page word arrays new
-      → tlb_of new (set hits 1 (plus (get_or hits 1 0) 1)) (set misses 0 (plus (get_or misses 0 0) 1)) (plus fills 1) ≡ tlb_looked space page (tlb_of arrays hits misses fills)
+      → tlb_of new (set hits 1 (plus (get_or hits 1 0) 1)) (set misses 0 (plus (get_or misses 0 0) 1)) (plus fills 1) ≡ tlb_looked kind space page (tlb_of arrays hits misses fills)
   second_after _ _ hits misses fills (SecondHit a new _ _ missed takes alone (FirstHit b bnew rest touch apart) filled front) =
       let found = array_found b space page (small_leaf space page word) touch.found in
-      let x = first_answer space page (small_leaf space page word) b in
+      let x = second_answer b in
       let arrays : List TlbArray = a ∷ b ∷ rest in
-      let told : answer_of arrays space page ≡ Some x = rw (← missed, ← found) refl in
-      let h = second_hits a b rest hits missed found apart ∙ ap (λ (o : Option Answer). counted (hits_at o space page) arrays hits) (sym told) in
-      let m = second_misses a b rest misses missed found apart alone.0 ∙ ap (λ (o : Option Answer). counted (misses_at o space page) arrays misses) (sym told) in
-      look_after arrays (new ∷ bnew ∷ rest) hits misses (set hits 1 (plus (get_or hits 1 0) 1)) (set misses 0 (plus (get_or misses 0 0) 1)) fills space page
+      let told : answer_of kind arrays space page ≡ Some x =
+      rw (← answers_all kind a space page None alone.0 missed, ← answers_all kind b space page (Some (small_leaf space page word)) apart.0 found) refl in
+      let h = second_hits a b rest hits missed found apart ∙ ap (λ (o : Option Answer). counted (hits_at kind o space page) arrays hits) (sym told) in
+      let m = second_misses a b rest misses missed found apart alone ∙ ap (λ (o : Option Answer). counted (misses_at kind o space page) arrays misses) (sym told) in
+      look_after kind arrays (new ∷ bnew ∷ rest) hits misses (set hits 1 (plus (get_or hits 1 0) 1)) (set misses 0 (plus (get_or misses 0 0) 1)) fills space page
       (second_looked (a ∷ b ∷ rest) (new ∷ bnew ∷ rest) (SecondHit a new (b ∷ rest) (bnew ∷ rest) missed takes alone (FirstHit b bnew rest touch apart) filled front)) h m
       (record { leaf = small_leaf space page word; level = b.spec.level; fills = 1 })
-      (second_is a b new bnew rest missed takes alone.0 found apart)
+      (second_is a b rest missed takes alone found apart)
 
 -- a fill puts the leaf in front of the first array
-pub filled_front : (space page word : ℕ) (a new : TlbArray) (rest others : List TlbArray) → new ≡ array_filled (small_leaf space page word) a → others ≡ map (array_filled (small_leaf space page word)) rest
-    → IsFrontHit space page word new → NoneBelow (suc a.spec.level) (map spec_of rest) → IsFront space page word (new ∷ others)
-filled_front space page word a new rest others first more hit alone =
+pub filled_front : (kind : Kind) (space page word : ℕ) (a new : TlbArray) (rest others : List TlbArray) → new ≡ array_filled (small_leaf space page word) a → others ≡ map (filled_for kind (small_leaf space page word)) rest
+    → IsFrontHit space page word new → ServesAlone a.spec (map spec_of rest) → IsFront space page word (new ∷ others)
+filled_front kind space page word a new rest others first more hit alone =
     let new_is : new.spec ≡ a.spec = ap spec_of first ∙ spec_filled (small_leaf space page word) a in
-    let rest_is : map spec_of others ≡ map spec_of rest = ap (λ (z : List TlbArray). map spec_of z) more ∙ specs_filled (small_leaf space page word) rest in
+    let rest_is : map spec_of others ≡ map spec_of rest = ap (λ (z : List TlbArray). map spec_of z) more ∙ specs_filled kind (small_leaf space page word) rest in
     Front new others hit
-    (subst (λ (s : TlbSpec). NoneBelow (suc s.level) (map spec_of others)) (sym new_is) (subst (λ (z : List TlbSpec). NoneBelow (suc a.spec.level) z) (sym rest_is) alone))
+    (subst (λ (s : TlbSpec). ServesAlone s (map spec_of others)) (sym new_is) (subst (λ (z : List TlbSpec). ServesAlone a.spec z) (sym rest_is) alone))

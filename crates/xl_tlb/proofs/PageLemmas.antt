@@ -1,5 +1,6 @@
 -- The word of a page of a leaf.
 use Rattle.std.proofs.Common.{◌≡◌, ℕ, ◌+◌, ◌-◌, ◌*◌, ◌/◌, ◌%◌, ◌^◌, ◌<◌, refl, arith}
+use Rattle.xl_model.specs.declared.address.Kind.{Kind}
 use Rattle.xl_model.specs.declared.address.Order.{Order}
 use Rattle.xl_model.specs.Addresses.{pages_of}
 use Rattle.xl_model.specs.LeafWords.{leaf_with, perm_at, small_leaf}
@@ -27,8 +28,8 @@ page_says space page word behind result o is e =
 pub small_says : (space page word : ℕ) → IsPageWord page word (small_leaf space page word)
 small_says space page word = record { frame = λ fits. omega arith; perm = refl }
 
-pub small_word : (space page word : ℕ) (old new : TlbState) → IsSmallWord space page word old new → IsWord space page word old new
-small_word space page word old new is = record {
+pub small_word : (kind : Kind) (space page word : ℕ) (old new : TlbState) → IsSmallWord kind space page word old new → IsWord kind space page word old new
+small_word kind space page word old new is = record {
   leaf = small_leaf space page word;
   found = is.found;
   says = small_says space page word;

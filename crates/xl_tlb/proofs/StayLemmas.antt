@@ -1,18 +1,19 @@
 -- Leaves in front that stay there where one set of the first array changes.
-use Rattle.std.proofs.Common.{◌≡◌, ◌≢◌, ℕ, suc, ◌*◌, ◌/◌, ◌%◌, Bool, true, false, nat_lt, cond, List, [], ◌∷◌, map, find, get_or, Option, None, Some, refl, sym, ◌∙◌, ap, subst, arith}
+use Rattle.std.proofs.Common.{◌≡◌, ◌≢◌, ℕ, ◌*◌, ◌/◌, ◌%◌, ◌&&◌, Bool, true, false, nat_lt, cond, List, [], ◌∷◌, map, find, get_or, Option, None, Some, refl, sym, ◌∙◌, ap, subst, arith}
 use Rattle.std.proofs.lemmas.List.{get_or-set_other}
 use Rattle.std.proofs.lemmas.Nat.Gcd.{dvd_of_mod-eq-zero}
 use Rattle.std.proofs.Math.Nat.{mod-mod_of_dvd}
+use Rattle.xl_model.specs.declared.address.Kind.{Kind}
 use Rattle.xl_model.specs.declared.address.Order.{Order}
 use Rattle.xl_model.specs.declared.address.Order.TheVariants as order
 use Rattle.xl_model.specs.declared.leaf.Leaf.{Leaf}
 use Rattle.xl_model.specs.declared.row.TlbSpec.{TlbSpec}
 use Rattle.xl_model.specs.Addresses.{pages_of}
 use Rattle.xl_model.specs.Recency.{touched}
-use Rattle.xl_model.specs.Tlb.{TlbArray, Answer, answer_of, array_hit, array_touched, array_filled, arrays_hit, arrays_filled, filled_where, filled_below, with_set, covers_as, set_at, where_taken, set_number, takes_order}
+use Rattle.xl_model.specs.Tlb.{TlbArray, Answer, answer_of, asked, serves_kind, filled_for, array_touched, array_filled, arrays_hit, arrays_filled, filled_where, filled_below, with_set, covers_as, set_at, where_taken, set_number, takes_order}
 use Rattle.xl_model.specs.LeafWords.{leaf_with, small_leaf}
 use Rattle.xl_tlb.specs.Fronts.{IsFrontHit, IsFront, Front, HasEights, FrontsStay}
-use Rattle.xl_tlb.specs.Tlbs.{TlbState, spec_of, NoneBelow, leaf_told, looked_arrays, tlb_looked, tlb_filled}
+use Rattle.xl_tlb.specs.Tlbs.{TlbState, spec_of, ServesAlone, leaf_told, looked_arrays, tlb_looked, tlb_filled}
 use Rattle.xl_tlb.proofs.FillLemmas.{hit_set}
 use Rattle.xl_tlb.proofs.TlbLemmas.{specs_hit, specs_filled}
 
@@ -36,8 +37,15 @@ filled_others leaf a = go (takes_order a.spec leaf.order)
     go true = set_others a _ _
     go false = record { same_spec = refl; same_sets = λ j n. refl }
 
-below_others : (level : ℕ) (leaf : Leaf) (a : TlbArray) → OtherSets (set_number a.spec leaf.order leaf.first) a (filled_below level leaf a)
-below_others level leaf a = go (nat_lt a.spec.level level)
+below_others : (kind : Kind) (level : ℕ) (leaf : Leaf) (a : TlbArray) → OtherSets (set_number a.spec leaf.order leaf.first) a (filled_below kind level leaf a)
+below_others kind level leaf a = go (serves_kind kind a && nat_lt a.spec.level level)
+  where
+    go : (b : Bool) → OtherSets (set_number a.spec leaf.order leaf.first) a (cond b (array_filled leaf a) a)
+    go true = filled_others leaf a
+    go false = record { same_spec = refl; same_sets = λ j n. refl }
+
+for_others : (kind : Kind) (leaf : Leaf) (a : TlbArray) → OtherSets (set_number a.spec leaf.order leaf.first) a (filled_for kind leaf a)
+for_others kind leaf a = go (serves_kind kind a)
   where
     go : (b : Bool) → OtherSets (set_number a.spec leaf.order leaf.first) a (cond b (array_filled leaf a) a)
     go true = filled_others leaf a
@@ -61,7 +69,7 @@ module _ (space page word : ℕ) where
         stays = ap (touched p) here ∙ hit.stays ∙ sym here;
       }
 
-  parts_of : (a : TlbArray) (rest : List TlbArray) → IsFront space page word (a ∷ rest) → IsFrontHit space page word a × NoneBelow (suc a.spec.level) (map spec_of rest)
+  parts_of : (a : TlbArray) (rest : List TlbArray) → IsFront space page word (a ∷ rest) → IsFrontHit space page word a × ServesAlone a.spec (map spec_of rest)
   parts_of a rest (Front _ _ hit alone) = (hit, alone)
 
 first_stays : (x : ℕ) (a b : TlbArray) (rest others : List TlbArray) → a.spec.sets % 8 ≡ 0 → OtherSets (x % a.spec.sets) a b → map spec_of others ≡ map spec_of rest
@@ -73,79 +81,79 @@ first_stays x a b rest others eights o specs space page word d front =
     Front b others (hit_stays space page word (x % a.spec.sets) a b o n p.0) (rw (o.same_spec, specs) p.1)
 
 -- a look changes one set of the first array
-module _ (space page word : ℕ) (o : Order) where
-  looked_stays : (arrays : List TlbArray) → Some (leaf_with space page o word) ≡ leaf_told (answer_of arrays space page) → HasEights arrays
-      → FrontsStay (page / pages_of o % 8) arrays (looked_arrays (answer_of arrays space page) space page arrays)
+module _ (kind : Kind) (space page word : ℕ) (o : Order) where
+  looked_stays : (arrays : List TlbArray) → Some (leaf_with space page o word) ≡ leaf_told (answer_of kind arrays space page) → HasEights arrays
+      → FrontsStay (page / pages_of o % 8) arrays (looked_arrays kind (answer_of kind arrays space page) space page arrays)
   unfolding arrays_hit
   looked_stays [] e eights = cc
-  looked_stays (a ∷ rest) e eights = go (array_hit a space page) refl
+  looked_stays (a ∷ rest) e eights = go (asked kind a space page) refl
     where
       same_set : (x : Leaf) → leaf_with space page o word ≡ x → set_number a.spec x.order x.first ≡ page / pages_of o % a.spec.sets
       same_set x same = ap (λ (z : Leaf). set_number a.spec z.order z.first) (sym same) ∙ sym (hit_set a.spec page o)
 
-      up : (x : Option Answer) → array_hit a space page ≡ None → answer_of rest space page ≡ x
-          → FrontsStay (page / pages_of o % 8) (a ∷ rest) (looked_arrays (answer_of (a ∷ rest) space page) space page (a ∷ rest))
+      up : (x : Option Answer) → asked kind a space page ≡ None → answer_of kind rest space page ≡ x
+          → FrontsStay (page / pages_of o % 8) (a ∷ rest) (looked_arrays kind (answer_of kind (a ∷ rest) space page) space page (a ∷ rest))
       up None t u = let v : Some (leaf_with space page o word) ≡ None = rw (t, u) at e in cc
       up (Some x) t u =
           let v : Some (leaf_with space page o word) ≡ Some x.leaf = rw (t, u) at e in
           let same : leaf_with space page o word ≡ x.leaf = cc in
-          let are : looked_arrays (answer_of (a ∷ rest) space page) space page (a ∷ rest) ≡ filled_below x.level x.leaf a ∷ arrays_hit x space page rest = rw (t, u, t) refl in
-          let others : OtherSets (page / pages_of o % a.spec.sets) a (filled_below x.level x.leaf a) =
-          subst (λ (k : ℕ). OtherSets k a (filled_below x.level x.leaf a)) (same_set x.leaf same) (below_others x.level x.leaf a) in
+          let are : looked_arrays kind (answer_of kind (a ∷ rest) space page) space page (a ∷ rest) ≡ filled_below kind x.level x.leaf a ∷ arrays_hit kind x space page rest = rw (t, u, t) refl in
+          let others : OtherSets (page / pages_of o % a.spec.sets) a (filled_below kind x.level x.leaf a) =
+          subst (λ (k : ℕ). OtherSets k a (filled_below kind x.level x.leaf a)) (same_set x.leaf same) (below_others kind x.level x.leaf a) in
           subst (FrontsStay (page / pages_of o % 8) (a ∷ rest)) (sym are)
-          (first_stays (page / pages_of o) a (filled_below x.level x.leaf a) rest (arrays_hit x space page rest) eights others (specs_hit x space page rest))
+          (first_stays (page / pages_of o) a (filled_below kind x.level x.leaf a) rest (arrays_hit kind x space page rest) eights others (specs_hit kind x space page rest))
 
-      go : (h : Option Leaf) → array_hit a space page ≡ h
-          → FrontsStay (page / pages_of o % 8) (a ∷ rest) (looked_arrays (answer_of (a ∷ rest) space page) space page (a ∷ rest))
-      go None t = up (answer_of rest space page) t refl
+      go : (h : Option Leaf) → asked kind a space page ≡ h
+          → FrontsStay (page / pages_of o % 8) (a ∷ rest) (looked_arrays kind (answer_of kind (a ∷ rest) space page) space page (a ∷ rest))
+      go None t = up (answer_of kind rest space page) t refl
       go (Some leaf) t =
           let v : Some (leaf_with space page o word) ≡ Some leaf = rw t at e in
           let same : leaf_with space page o word ≡ leaf = cc in
-          let are : looked_arrays (answer_of (a ∷ rest) space page) space page (a ∷ rest) ≡ array_touched space page leaf a ∷ rest = rw (t, t) refl in
+          let are : looked_arrays kind (answer_of kind (a ∷ rest) space page) space page (a ∷ rest) ≡ array_touched space page leaf a ∷ rest = rw (t, t) refl in
           let others : OtherSets (page / pages_of o % a.spec.sets) a (array_touched space page leaf a) =
           subst (λ (z : Leaf). OtherSets (page / pages_of z.order % a.spec.sets) a (array_touched space page leaf a)) (sym same) (touched_others space page leaf a) in
           subst (FrontsStay (page / pages_of o % 8) (a ∷ rest)) (sym are)
           (first_stays (page / pages_of o) a (array_touched space page leaf a) rest rest eights others refl)
 
-  pub look_stays : (t : TlbState) → Some (leaf_with space page o word) ≡ leaf_told (answer_of t.arrays space page) → HasEights t.arrays
-      → FrontsStay (page / pages_of o % 8) t.arrays (tlb_looked space page t).arrays
+  pub look_stays : (t : TlbState) → Some (leaf_with space page o word) ≡ leaf_told (answer_of kind t.arrays space page) → HasEights t.arrays
+      → FrontsStay (page / pages_of o % 8) t.arrays (tlb_looked kind space page t).arrays
   unfolding tlb_looked
   look_stays t e eights = looked_stays t.arrays e eights
 
-pub small_stays : (space page word : ℕ) (t : TlbState) → Some (small_leaf space page word) ≡ leaf_told (answer_of t.arrays space page) → HasEights t.arrays
-    → FrontsStay (page % 8) t.arrays (tlb_looked space page t).arrays
-small_stays space page word t e eights =
+pub small_stays : (kind : Kind) (space page word : ℕ) (t : TlbState) → Some (small_leaf space page word) ≡ leaf_told (answer_of kind t.arrays space page) → HasEights t.arrays
+    → FrontsStay (page % 8) t.arrays (tlb_looked kind space page t).arrays
+small_stays kind space page word t e eights =
     let one : page / 1 ≡ page = omega arith in
-    subst (λ (n : ℕ). FrontsStay (n % 8) t.arrays (tlb_looked space page t).arrays) one (look_stays space page word order.K4 t e eights)
+    subst (λ (n : ℕ). FrontsStay (n % 8) t.arrays (tlb_looked kind space page t).arrays) one (look_stays kind space page word order.K4 t e eights)
 
-pub look_none : (space page : ℕ) (t : TlbState) → None ≡ leaf_told (answer_of t.arrays space page) → (tlb_looked space page t).arrays ≡ t.arrays
+pub look_none : (kind : Kind) (space page : ℕ) (t : TlbState) → None ≡ leaf_told (answer_of kind t.arrays space page) → (tlb_looked kind space page t).arrays ≡ t.arrays
 unfolding tlb_looked
-look_none space page t e = go (answer_of t.arrays space page) refl
+look_none kind space page t e = go (answer_of kind t.arrays space page) refl
   where
-    go : (o : Option Answer) → answer_of t.arrays space page ≡ o → looked_arrays (answer_of t.arrays space page) space page t.arrays ≡ t.arrays
+    go : (o : Option Answer) → answer_of kind t.arrays space page ≡ o → looked_arrays kind (answer_of kind t.arrays space page) space page t.arrays ≡ t.arrays
     go None u = rw u refl
     go (Some x) u = let v : None ≡ Some x.leaf = rw u at e in cc
 
 -- and so does a fill
-filled_stays : (leaf : Leaf) (arrays : List TlbArray) → HasEights arrays → FrontsStay (leaf.first / pages_of leaf.order % 8) arrays (map (array_filled leaf) arrays)
-filled_stays leaf [] eights = λ space page word d front. front
-filled_stays leaf (a ∷ rest) eights =
-    first_stays (leaf.first / pages_of leaf.order) a (array_filled leaf a) rest (map (array_filled leaf) rest) eights (filled_others leaf a) (specs_filled leaf rest)
+filled_stays : (kind : Kind) (leaf : Leaf) (arrays : List TlbArray) → HasEights arrays → FrontsStay (leaf.first / pages_of leaf.order % 8) arrays (map (filled_for kind leaf) arrays)
+filled_stays kind leaf [] eights = λ space page word d front. front
+filled_stays kind leaf (a ∷ rest) eights =
+    first_stays (leaf.first / pages_of leaf.order) a (filled_for kind leaf a) rest (map (filled_for kind leaf) rest) eights (for_others kind leaf a) (specs_filled kind leaf rest)
 
-pub fill_stays : (leaf : Leaf) (t : TlbState) → HasEights t.arrays → FrontsStay (leaf.first / pages_of leaf.order % 8) t.arrays (tlb_filled leaf t).arrays
+pub fill_stays : (kind : Kind) (leaf : Leaf) (t : TlbState) → HasEights t.arrays → FrontsStay (leaf.first / pages_of leaf.order % 8) t.arrays (tlb_filled kind leaf t).arrays
 unfolding tlb_filled arrays_filled
-fill_stays leaf t eights = filled_stays leaf t.arrays eights
+fill_stays kind leaf t eights = filled_stays kind leaf t.arrays eights
 
 whole_blocks : (o : Order) (page : ℕ) → page / pages_of o * pages_of o / pages_of o ≡ page / pages_of o
 whole_blocks order.K4 page = omega arith
 whole_blocks order.M2 page = omega arith
 whole_blocks order.G1 page = omega arith
 
-pub hit_fill_stays : (space page word : ℕ) (o : Order) (t : TlbState) → HasEights t.arrays → FrontsStay (page / pages_of o % 8) t.arrays (tlb_filled (leaf_with space page o word) t).arrays
-hit_fill_stays space page word o t eights =
-    subst (λ (n : ℕ). FrontsStay (n % 8) t.arrays (tlb_filled (leaf_with space page o word) t).arrays) (whole_blocks o page) (fill_stays (leaf_with space page o word) t eights)
+pub hit_fill_stays : (kind : Kind) (space page word : ℕ) (o : Order) (t : TlbState) → HasEights t.arrays → FrontsStay (page / pages_of o % 8) t.arrays (tlb_filled kind (leaf_with space page o word) t).arrays
+hit_fill_stays kind space page word o t eights =
+    subst (λ (n : ℕ). FrontsStay (n % 8) t.arrays (tlb_filled kind (leaf_with space page o word) t).arrays) (whole_blocks o page) (fill_stays kind (leaf_with space page o word) t eights)
 
-pub small_fill_stays : (space page word : ℕ) (t : TlbState) → HasEights t.arrays → FrontsStay (page % 8) t.arrays (tlb_filled (small_leaf space page word) t).arrays
-small_fill_stays space page word t eights =
+pub small_fill_stays : (kind : Kind) (space page word : ℕ) (t : TlbState) → HasEights t.arrays → FrontsStay (page % 8) t.arrays (tlb_filled kind (small_leaf space page word) t).arrays
+small_fill_stays kind space page word t eights =
     let one : page / 1 * 1 / 1 ≡ page = omega arith in
-    subst (λ (n : ℕ). FrontsStay (n % 8) t.arrays (tlb_filled (small_leaf space page word) t).arrays) one (fill_stays (small_leaf space page word) t eights)
+    subst (λ (n : ℕ). FrontsStay (n % 8) t.arrays (tlb_filled kind (small_leaf space page word) t).arrays) one (fill_stays kind (small_leaf space page word) t eights)

@@ -1,5 +1,6 @@
 -- What a look in all levels tells, and what it leaves.
 use Rattle.std.specs.Prelude.{ℕ, ◌≡◌, ◌+◌, ◌-◌, ◌/◌, ◌<◌, ◌^◌, List, Option, Some, None}
+use Rattle.xl_model.specs.declared.address.Kind.{Kind}
 use Rattle.xl_model.specs.declared.leaf.Leaf.{Leaf}
 use Rattle.xl_model.specs.Tlb.{TlbArray, answer_of}
 use Rattle.xl_tlb.specs.declared.levels.Answered.{Answered}
@@ -15,41 +16,41 @@ pub record IsPageWord (page word : ℕ) (leaf : Leaf) : Type 0 where
   pub frame : leaf.frame + (page - leaf.first) < 2 ^ 60 → word / 16 ≡ leaf.frame + (page - leaf.first)
   pub perm : perm_at word ≡ leaf.perm
 
--- A leaf answers, and the word says the page of it.
-pub record IsWord (space page word : ℕ) (old new : TlbState) : Type 0 where
+-- A leaf answers an access of this kind, and the word says the page of it.
+pub record IsWord (k : Kind) (space page word : ℕ) (old new : TlbState) : Type 0 where
   pub leaf : Leaf
-  pub found : Some leaf ≡ leaf_told (answer_of old.arrays space page)
+  pub found : Some leaf ≡ leaf_told (answer_of k old.arrays space page)
   pub says : IsPageWord page word leaf
-  pub after : new ≡ tlb_looked space page old
+  pub after : new ≡ tlb_looked k space page old
 
--- What was hit is the leaf that answers.
-pub record IsHit (space page : ℕ) (hit : Hit) (old new : TlbState) : Type 0 where
-  pub found : Some (leaf_hit space page hit) ≡ leaf_told (answer_of old.arrays space page)
-  pub after : new ≡ tlb_looked space page old
+-- What was hit is the leaf that answers an access of this kind.
+pub record IsHit (k : Kind) (space page : ℕ) (hit : Hit) (old new : TlbState) : Type 0 where
+  pub found : Some (leaf_hit space page hit) ≡ leaf_told (answer_of k old.arrays space page)
+  pub after : new ≡ tlb_looked k space page old
 
--- A leaf of 4 KiB with this word answers, and no array is filled with it.
-pub record IsFirstTold (space page word : ℕ) (arrays : List TlbArray) : Type 0 where
+-- A leaf of 4 KiB with this word answers an access of this kind, and no array is filled with it.
+pub record IsFirstTold (k : Kind) (space page word : ℕ) (arrays : List TlbArray) : Type 0 where
   pub level : ℕ
-  pub told : Some (record { leaf = small_leaf space page word; level = level; fills = 0 }) ≡ told_at space page arrays
+  pub told : Some (record { leaf = small_leaf space page word; level = level; fills = 0 }) ≡ told_at k space page arrays
 
--- A leaf of 4 KiB with this word answers, and is the newest of its set of the first array then.
-pub record IsSmallWord (space page word : ℕ) (old new : TlbState) : Type 0 where
-  pub found : Some (small_leaf space page word) ≡ leaf_told (answer_of old.arrays space page)
-  pub after : new ≡ tlb_looked space page old
+-- A leaf of 4 KiB with this word answers an access of this kind, and is the newest of its set of the first array then.
+pub record IsSmallWord (k : Kind) (space page word : ℕ) (old new : TlbState) : Type 0 where
+  pub found : Some (small_leaf space page word) ≡ leaf_told (answer_of k old.arrays space page)
+  pub after : new ≡ tlb_looked k space page old
   pub front : IsFront space page word new.arrays
 
--- No array answers.
-pub record IsNowhere (space page : ℕ) (old new : TlbState) : Type 0 where
-  pub found : None ≡ leaf_told (answer_of old.arrays space page)
-  pub after : new ≡ tlb_looked space page old
+-- No array answers an access of this kind.
+pub record IsNowhere (k : Kind) (space page : ℕ) (old new : TlbState) : Type 0 where
+  pub found : None ≡ leaf_told (answer_of k old.arrays space page)
+  pub after : new ≡ tlb_looked k space page old
 
 -- What a look tells: the word of a leaf that answers, or that none does.
-abbrev pub IsLooked : ℕ → ℕ → Option ℕ → TlbState → TlbState → Type 0
-IsLooked space page (Some word) old new = IsWord space page word old new
-IsLooked space page None old new = IsNowhere space page old new
+abbrev pub IsLooked : Kind → ℕ → ℕ → Option ℕ → TlbState → TlbState → Type 0
+IsLooked k space page (Some word) old new = IsWord k space page word old new
+IsLooked k space page None old new = IsNowhere k space page old new
 
 -- What each answer of a look for a leaf of 4 KiB says; where nothing is known, nothing changes.
-abbrev pub IsAnswered : ℕ → ℕ → Answered → TlbState → TlbState → Type 0
-IsAnswered space page (answered.Word word) old new = IsSmallWord space page word old new
-IsAnswered space page answered.Nowhere old new = IsNowhere space page old new
-IsAnswered space page answered.Unknown old new = new ≡ old
+abbrev pub IsAnswered : Kind → ℕ → ℕ → Answered → TlbState → TlbState → Type 0
+IsAnswered k space page (answered.Word word) old new = IsSmallWord k space page word old new
+IsAnswered k space page answered.Nowhere old new = IsNowhere k space page old new
+IsAnswered k space page answered.Unknown old new = new ≡ old

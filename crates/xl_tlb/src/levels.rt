@@ -1,9 +1,10 @@
 //! The arrays of a row in levels.
 
 ghost use Rattle.std.specs.Prelude.{ℕ, true, false, ◌==◌, ◌≡◌, ◌<◌, ◌≤◌, ◌^◌, ◌+◌, ◌*◌, length, map, count_by, slice_index_or, None, IfOk, IfSome, IfNone};
+ghost use Rattle.xl_model.specs.declared.address.Kind.{Kind as KindOf};
 ghost use Rattle.xl_model.specs.declared.leaf.Leaf.{Leaf};
 ghost use Rattle.xl_model.specs.Base.{one_if};
-ghost use Rattle.xl_model.specs.Tlb.{answer_of, leaves_in, takes_leaf, takes_order, array_filled, array_without, is_purged, reaches_leaf};
+ghost use Rattle.xl_model.specs.Tlb.{answer_of, leaves_in, takes_leaf, takes_order, filled_for, array_without, is_purged, reaches_leaf};
 ghost use Rattle.xl_model.specs.declared.address.Order.TheVariants as order_of;
 ghost use Rattle.xl_tlb.specs.Arrays.{IsFit, InLimits};
 ghost use Rattle.xl_tlb.specs.Answers.{IsAnswered, IsHit, IsNowhere, IsSmallWord};
@@ -18,13 +19,13 @@ use crate::any::AnyArray;
 use crate::coding::Hit;
 use crate::look::{
     are_common, count_behind, first_and_rest, has_eights, has_large, is_straight, look_first,
-    look_first_above, look_first_in_turn, look_in, look_second,
+    look_first_above, look_first_in_turn, look_in, look_second, serve_all,
 };
 use crate::sought::Sought;
 use arrayvec::ArrayVec;
 use std::alloc::Global;
 use std::marker::Model;
-use xl_model::{Leaf, NoMemory, Order, Purge, Reach, TlbSpec};
+use xl_model::{Kind, Leaf, NoMemory, Order, Purge, Reach, TlbSpec};
 
 /// What a look for a leaf of 4 KiB told: the leaf's word; or that no array answers; or nothing, and then
 /// nothing changed.
@@ -40,7 +41,8 @@ pub(crate) enum Answered {
 pub(crate) enum Path {
     /// In all levels in turn.
     InTurn,
-    /// Straight in the first two arrays: they take such leaves, and each is alone in its level.
+    /// Straight in the first two arrays: they take such leaves, and each is alone in its level. All arrays serve all
+    /// accesses.
     Straight,
     /// So and all in line, in the one array that there is: a common one, whose sets are a multiple of eight.
     Single,
@@ -70,13 +72,13 @@ impl Model for Levels {
     ghost invariant = { λ t. IsTlb t.path (tlb_of t.arrays.items t.hits t.misses t.fills) };
 }
 
-/// Fills each array that takes the order of a leaf that was hit elsewhere: how many do.
+/// Fills each array that serves the access and takes the order of a leaf that was hit elsewhere: how many do.
 #[tactic(auto, using(crate::proofs::TlbLemmas::count_first))]
-fn fill_each(arrays: &mut [AnyArray], space: u16, page: u64, hit: Hit) -> u64
+fn fill_each(arrays: &mut [AnyArray], kind: Kind, space: u16, page: u64, hit: Hit) -> u64
     requires space { space < 64 }
     requires page { page < 2 ^ 52 }
-    ensures fills { result ≡ count_by (takes_leaf (leaf_hit space page hit)) arrays.old }
-    ensures arrays { arrays.new ≡ map (array_filled (leaf_hit space page hit)) arrays.old }
+    ensures fills { result ≡ count_by (takes_leaf kind (leaf_hit space page hit)) arrays.old }
+    ensures arrays { arrays.new ≡ map (filled_for kind (leaf_hit space page hit)) arrays.old }
 {
     let Some((first, rest)) = arrays.split_first_mut() else {
         return 0;
@@ -84,9 +86,9 @@ fn fill_each(arrays: &mut [AnyArray], space: u16, page: u64, hit: Hit) -> u64
     let others = if rest.is_empty() {
         0
     } else {
-        fill_each(rest, space, page, hit)
+        fill_each(rest, kind, space, page, hit)
     };
-    if first.fill_hit(space, page, hit) {
+    if first.serves(kind) && first.fill_hit(space, page, hit) {
         return others + 1;
     }
     others
@@ -95,12 +97,17 @@ fn fill_each(arrays: &mut [AnyArray], space: u16, page: u64, hit: Hit) -> u64
 /// Fills the arrays behind the first with the leaf of 4 KiB that is sought: how many do.
 #[inline(always)]
 #[tactic(auto, using(crate::proofs::TlbLemmas::count_first))]
-fn fill_second<const COMMON: usize>(arrays: &mut [AnyArray], sought: Sought, word: u64) -> u64
+fn fill_second<const COMMON: usize>(
+    arrays: &mut [AnyArray],
+    kind: Kind,
+    sought: Sought,
+    word: u64,
+) -> u64
     requires sought { IsSought order_of.K4 sought }
     requires alone { IsAlone (map spec_of arrays.old) }
     requires common { 0 < COMMON → AllCommon (map spec_of arrays.old) }
     requires count { 0 < COMMON → 1 + length arrays.old ≡ COMMON }
-    ensures { IsFill sought word result arrays.old arrays.new }
+    ensures { IsFill kind sought word result arrays.old arrays.new }
 {
     if count_behind::<COMMON>(arrays, 1) == 0 {
         return 0;
@@ -115,22 +122,27 @@ fn fill_second<const COMMON: usize>(arrays: &mut [AnyArray], sought: Sought, wor
         word,
         order: Order::K4,
     };
-    fill_each(others, sought.space, sought.page, hit) + 1
+    fill_each(others, kind, sought.space, sought.page, hit) + 1
 }
 
 /// Fills the arrays with the leaf of 4 KiB that is sought: how many do. It is in front of the first then.
 #[inline(always)]
 #[tactic(auto, using(crate::proofs::TlbLemmas::count_first))]
-fn fill_straight<const COMMON: usize>(arrays: &mut [AnyArray], sought: Sought, word: u64) -> u64
+fn fill_straight<const COMMON: usize>(
+    arrays: &mut [AnyArray],
+    kind: Kind,
+    sought: Sought,
+    word: u64,
+) -> u64
     requires sought { IsSought order_of.K4 sought }
     requires ready { IsReady COMMON (map spec_of arrays.old) }
-    ensures fill { IsFill sought word result arrays.old arrays.new }
+    ensures fill { IsFill kind sought word result arrays.old arrays.new }
     ensures front { IsFront sought.space sought.page word arrays.new }
 {
     let (first, rest) = first_and_rest(arrays);
     let set = first.set_of::<COMMON>(sought);
     first.fill_in::<COMMON>(set, sought, word);
-    fill_second::<COMMON>(rest, sought, word) + 1
+    fill_second::<COMMON>(rest, kind, sought, word) + 1
 }
 
 /// How a leaf of 4 KiB is looked for in these arrays.
@@ -139,6 +151,9 @@ fn path_of(arrays: &[AnyArray]) -> Path
     ensures { IsPath result (map spec_of arrays.now) }
 {
     if !is_straight(arrays) {
+        return Path::InTurn;
+    }
+    if !serve_all(arrays) {
         return Path::InTurn;
     }
     if !are_common(arrays) || !has_eights(arrays) {
@@ -218,11 +233,11 @@ impl Levels {
     /// Does what `look` does, where the leaf of 4 KiB that is sought stands in the first array, and gives the
     /// leaf's word: it is the newest of its set then. None elsewhere; then nothing changes.
     #[inline(always)]
-    pub fn hit_first<const COMMON: usize>(&mut self, sought: Sought) -> Option<u64>
+    pub fn hit_first<const COMMON: usize>(&mut self, _kind: Kind, sought: Sought) -> Option<u64>
         requires sought { IsSought order_of.K4 sought }
         requires ready { IsReady COMMON (map spec_of self.old.arrays) }
         ensures some { IfSome result (λ word.
-            IsSmallWord sought.space sought.page word self.old self.new) }
+            IsSmallWord _kind sought.space sought.page word self.old self.new) }
         ensures same { IfNone result (self.new ≡ self.old) }
         ensures missed { IfNone result (IsFirstMiss sought.space sought.page self.old.arrays) }
     {
@@ -237,11 +252,11 @@ impl Levels {
     /// second one, and gives its word: the first array is filled with it. So too where no array answers and the
     /// second one never held a larger leaf.
     #[inline(always)]
-    pub fn hit_second<const COMMON: usize>(&mut self, sought: Sought) -> Answered
+    pub fn hit_second<const COMMON: usize>(&mut self, _kind: Kind, sought: Sought) -> Answered
         requires sought { IsSought order_of.K4 sought }
         requires ready { IsReady COMMON (map spec_of self.old.arrays) }
         requires missed { FirstMisses sought.space sought.page self.old.arrays }
-        ensures { IsAnswered sought.space sought.page result self.old self.new }
+        ensures { IsAnswered _kind sought.space sought.page result self.old self.new }
     {
         match look_second::<COMMON>(&mut self.arrays, sought) {
             Answered::Word { word } => {
@@ -251,7 +266,7 @@ impl Levels {
                 Answered::Word { word }
             }
             Answered::Nowhere => {
-                self.miss::<COMMON>(sought.space, sought.page);
+                self.miss::<COMMON>(_kind, sought.space, sought.page);
                 Answered::Nowhere
             }
             Answered::Unknown => Answered::Unknown,
@@ -272,12 +287,17 @@ impl Levels {
     /// Does what `look` does, where the first array has no leaf of 4 KiB of the page, and a larger one. None
     /// where it misses the page; then nothing changes.
     #[inline(always)]
-    pub fn hit_above<const COMMON: usize>(&mut self, space: u16, page: u64) -> Option<Hit>
+    pub fn hit_above<const COMMON: usize>(
+        &mut self,
+        _kind: Kind,
+        space: u16,
+        page: u64,
+    ) -> Option<Hit>
         requires space { space < 64 }
         requires page { page < 2 ^ 52 }
         requires ready { IsReady COMMON (map spec_of self.old.arrays) }
         requires missed { IsFirstMiss space page self.old.arrays }
-        ensures some { IfSome result (λ hit. IsHit space page hit self.old self.new) }
+        ensures some { IfSome result (λ hit. IsHit _kind space page hit self.old self.new) }
         ensures same { IfNone result (self.new ≡ self.old) }
         ensures missed { IfNone result (FirstMisses space page self.old.arrays) }
     {
@@ -291,10 +311,10 @@ impl Levels {
     /// Looks for a page in one or two arrays that don't answer it: that counts a miss of each, and changes
     /// nothing else.
     #[inline(always)]
-    fn miss<const COMMON: usize>(&mut self, _space: u16, _page: u64)
+    fn miss<const COMMON: usize>(&mut self, _kind: Kind, _space: u16, _page: u64)
         requires missed { AreMissed _space _page self.old.arrays }
         requires count { 0 < COMMON → length self.old.arrays ≡ COMMON }
-        ensures { IsNowhere _space _page self.old self.new }
+        ensures { IsNowhere _kind _space _page self.old self.new }
     {
         self.misses[0] = self.misses[0].wrapping_add(1);
         if count_behind::<COMMON>(&self.arrays, 0) == 2 {
@@ -305,9 +325,9 @@ impl Levels {
     /// Looks for a page that the newest leaf of a set of the first array answers, with this word: that
     /// counts a hit there, and moves nothing.
     #[inline]
-    pub fn hit_in_front(&mut self, _space: u16, _page: u64, _word: u64)
+    pub fn hit_in_front(&mut self, _kind: Kind, _space: u16, _page: u64, _word: u64)
         requires { IsFront _space _page _word self.old.arrays }
-        ensures after { self.new ≡ tlb_looked _space _page self.old }
+        ensures after { self.new ≡ tlb_looked _kind _space _page self.old }
         ensures stays { self.new.arrays ≡ self.old.arrays }
     {
         self.hits[0] = self.hits[0].wrapping_add(1);
@@ -317,19 +337,20 @@ impl Levels {
     /// and fills those of lower levels that hold the leaf's order. None where no array hits. Where it is
     /// told that the first array misses, that isn't asked.
     #[inline]
-    pub fn look(&mut self, missed: bool, space: u16, page: u64) -> Option<Hit>
+    pub fn look(&mut self, kind: Kind, missed: bool, space: u16, page: u64) -> Option<Hit>
         requires missed { missed ≡ true → FirstMisses space page self.old.arrays }
         requires space { space < 64 }
         requires page { page < 2 ^ 52 }
         ensures found { hit_leaf space page result
-            ≡ leaf_told (answer_of self.old.arrays space page) }
-        ensures after { self.new ≡ tlb_looked space page self.old }
+            ≡ leaf_told (answer_of kind self.old.arrays space page) }
+        ensures after { self.new ≡ tlb_looked kind space page self.old }
     {
         if self.arrays.is_empty() {
             return None;
         }
         match look_in(
             &mut self.arrays,
+            kind,
             missed,
             &mut self.hits,
             &mut self.misses,
@@ -350,14 +371,15 @@ impl Levels {
     /// Does what `look` does, where the first array has the leaf of 4 KiB that is sought, and gives its word. None
     /// where it hasn't; then nothing changes.
     #[inline(always)]
-    pub fn hit_in_turn(&mut self, sought: Sought) -> Option<u64>
+    pub fn hit_in_turn(&mut self, kind: Kind, sought: Sought) -> Option<u64>
         requires { IsSought order_of.K4 sought }
-        ensures some { IfSome result (λ word. IsHit sought.space sought.page (small_hit word)
+        ensures some { IfSome result (λ word. IsHit kind sought.space sought.page (small_hit word)
             self.old self.new) }
         ensures same { IfNone result (self.new ≡ self.old) }
     {
         let Some(word) = look_first_in_turn(
             &mut self.arrays,
+            kind,
             &mut self.hits,
             &mut self.misses,
             sought,
@@ -367,29 +389,30 @@ impl Levels {
         Some(word)
     }
 
-    /// Puts a leaf that a walk found into the arrays of every level that hold its order.
-    pub fn fill(&mut self, space: u16, page: u64, hit: Hit)
+    /// Puts a leaf that a walk found into the arrays of every level that serve the access and hold its order.
+    pub fn fill(&mut self, kind: Kind, space: u16, page: u64, hit: Hit)
         requires space { space < 64 }
         requires page { page < 2 ^ 52 }
-        ensures { self.new ≡ tlb_filled (leaf_hit space page hit) self.old }
+        ensures { self.new ≡ tlb_filled kind (leaf_hit space page hit) self.old }
     {
         if self.arrays.is_empty() {
             return;
         }
-        let fills = fill_each(&mut self.arrays, space, page, hit);
+        let fills = fill_each(&mut self.arrays, kind, space, page, hit);
         self.fills = self.fills.wrapping_add(fills);
     }
 
-    /// Puts the leaf of 4 KiB that is sought into the arrays of every level that hold such leaves. It is the
-    /// newest of its set of the first array then, and that alone in its level.
+    /// Puts the leaf of 4 KiB that is sought into the arrays of every level that serve the access and hold such
+    /// leaves. It is the newest of its set of the first array then, and that alone in its level.
     #[inline(always)]
-    pub fn fill_small<const COMMON: usize>(&mut self, sought: Sought, word: u64)
+    pub fn fill_small<const COMMON: usize>(&mut self, kind: Kind, sought: Sought, word: u64)
         requires sought { IsSought order_of.K4 sought }
         requires ready { IsReady COMMON (map spec_of self.old.arrays) }
-        ensures after { self.new ≡ tlb_filled (small_leaf sought.space sought.page word) self.old }
+        ensures after { self.new
+            ≡ tlb_filled kind (small_leaf sought.space sought.page word) self.old }
         ensures front { IsFront sought.space sought.page word self.new.arrays }
     {
-        let fills = fill_straight::<COMMON>(&mut self.arrays, sought, word);
+        let fills = fill_straight::<COMMON>(&mut self.arrays, kind, sought, word);
         self.fills = self.fills.wrapping_add(fills);
     }
 
@@ -424,9 +447,10 @@ impl Levels {
     #[inline]
     pub fn is_bare(&self) -> bool
         ensures is { result ≡ (length self.now.arrays == 0) }
-        ensures looked { result ≡ true → (space page : ℕ)
-            → self.now ≡ tlb_looked space page self.now }
-        ensures filled { result ≡ true → (leaf : Leaf) → self.now ≡ tlb_filled leaf self.now }
+        ensures looked { result ≡ true → (kind : KindOf) (space page : ℕ)
+            → self.now ≡ tlb_looked kind space page self.now }
+        ensures filled { result ≡ true → (kind : KindOf) (leaf : Leaf)
+            → self.now ≡ tlb_filled kind leaf self.now }
     {
         let _fills = self.fills;
         self.arrays.is_empty()

@@ -1,12 +1,13 @@
 //! Where the leaves of an array stand.
 
 ghost use Rattle.std.specs.Prelude.{true, ◌≡◌, ◌<◌, ◌%◌, ◌^◌};
-ghost use Rattle.xl_model.specs.Tlb.{set_number, takes_order};
+ghost use Rattle.xl_model.specs.Tlb.{serves_as, set_number, takes_order};
 ghost use Rattle.xl_model.specs.declared.address.Order.TheVariants as order;
+ghost use Rattle.xl_model.specs.declared.row.Serves.TheVariants as serves_of;
 ghost use Rattle.xl_tlb.specs.Arrays.{HasMask, IsCommon};
 
 use std::marker::Model;
-use xl_model::{Order, TlbSpec, remainder};
+use xl_model::{Kind, Order, Serves, TlbSpec, remainder};
 
 /// The spec of an array, with what the set of a page takes of it, so that it isn't computed at each look.
 /// Contracts see the spec.
@@ -49,6 +50,24 @@ impl Places {
         ensures { result ≡ self.now.level }
     {
         self.spec.level
+    }
+
+    /// Whether the array serves accesses of this kind.
+    #[inline(always)]
+    pub fn serves(&self, kind: Kind) -> bool
+        ensures { result ≡ serves_as self.now.serves kind }
+    {
+        self.spec.serves.serves(kind)
+    }
+
+    /// Whether the array serves accesses of every kind.
+    pub fn serve_all(&self) -> bool
+        ensures { result ≡ true → self.now.serves ≡ serves_of.All }
+    {
+        match self.spec.serves {
+            Serves::All => true,
+            Serves::Fetch | Serves::Data => false,
+        }
     }
 
     /// Whether the array has four or eight ways, and finds its sets by a mask.

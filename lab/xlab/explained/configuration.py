@@ -1,5 +1,6 @@
 """What is wrong with a configuration (status 2): the line, what is written there, what is allowed."""
 
+import itertools
 import pathlib
 import re
 import tomllib
@@ -198,10 +199,11 @@ def _array(array: object) -> str | None:
         return f'it is {_said_type(array)}; wanted: a table, as {{ level = 1, sets = 16, width = 4, orders = ["4k"] }}'
     for key in formats.ARRAY_KEYS.values():
         if key.name not in array:
+            if key.name in formats.MAY_BE_LEFT_OUT:
+                continue
             near = [name for name in array if name not in formats.ARRAY_KEYS and nearest(name, [key.name])]
             return f"it has no `{key.name}`; allowed: {key.allowed}" + (f"; `{near[0]}` is there" if near else "")
-        value = array[key.name]
-        fault = _orders(value) if key.name == "orders" else _number(key, value)
+        fault = ARRAY_FAULTS.get(key.name, _number)(key, array[key.name])
         if fault:
             return f"`{key.name}` {fault}"
     if array["sets"] * array["width"] > formats.MOST_ENTRIES:
@@ -224,8 +226,8 @@ def _number(key: Key, value: object) -> str | None:
     return None if key.values or 1 <= value <= formats.MOST_ENTRIES else f"is {value}; allowed: {key.allowed}"
 
 
-def _orders(value: object) -> str | None:
-    allowed = formats.ARRAY_KEYS["orders"].allowed
+def _orders(key: Key, value: object) -> str | None:
+    allowed = key.allowed
     if not isinstance(value, list):
         return f"is {_said_type(value)}; wanted: an array of texts; allowed: {allowed}"
     if not 1 <= len(value) <= len(formats.ORDERS):
@@ -238,20 +240,28 @@ def _orders(value: object) -> str | None:
     return None
 
 
+def _serves(key: Key, value: object) -> str | None:
+    if not isinstance(value, str):
+        return f"is {_said_type(value)}; wanted: {key.type.value}; allowed: {key.allowed}"
+    return None if value in key.values else f"is {_written(value)}; allowed: {key.allowed}{nearest(value, key.values)}"
+
+
+# What is wrong with a value of an array, of keys that are no numbers.
+ARRAY_FAULTS = {"orders": _orders, "serves": _serves}
+
+
 def _together(arrays: list[Table]) -> tuple[str, int]:
     """What is wrong with arrays that are each well, and the array at which it shows."""
     level = 0
-    held: dict[tuple[int, str], int] = {}
+    held: dict[tuple[int, str, str], int] = {}
     for at, array in enumerate(arrays, 1):
         if array["level"] not in (level, level + 1) or array["level"] == 0:
             told = "the first array has" if at == 1 else f"behind level {level} array {at} has"
             return f"{told} level {array['level']}; levels begin at 1, rise, and none is left out", at
         level = array["level"]
-        for order in array["orders"]:
-            if (level, order) in held:
-                return (
-                    f"arrays {held[level, order]} and {at} of level {level} both hold {order}; in one level no order is held twice",
-                    at,
-                )
-            held[level, order] = at
+        for order, kind in itertools.product(array["orders"], formats.SERVES[array.get("serves", "all")]):
+            first = held.setdefault((level, order, kind), at)
+            if first != at:
+                told = f"arrays {first} and {at} of level {level} both hold {order} for {kind}"
+                return f"{told}; in one level no order is held twice for one kind of access", at
     return "its arrays are at odds: levels begin at 1, none is left out, and in one level no order is held twice", 1

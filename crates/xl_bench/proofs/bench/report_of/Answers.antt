@@ -25,11 +25,11 @@ returns-in-Ok-Plain-clause-told g c =
     let out = c.args.out.now in
     let new = c.report.new.out in
     let a = plain_of c.in-Ok-Plain.words in
-    told_one (g.F.Folder.files c.args.folder.now) _ _ c.report.ensures.told
-    (λ fs h. subst (λ (z : Option Asked). Ends c.report.result (asked_account z fs) g.K.Sink.roomy (g.K.Sink.outside out).written (g.K.Sink.outside new).written out new
+    told_one (g.F.Folder.folder.files c.args.folder.now) _ _ c.report.ensures.told
+    (λ fs h. subst (λ (z : Option Asked). Ends c.report.result (asked_account z fs) g.K.Sink.sink.roomy (g.K.Sink.sink.outside out).written (g.K.Sink.sink.outside new).written out new
     (record (the_view c.machines.inside) { rows = c.report.new.rows } ≡ asked_machines z fs))
     (sym (rw (c.as_slice.ensures.value, c.in-Ok-Plain.field-0-is) at c.in-Ok-Plain.ensures))
-    (rows_left c.report.result (plain_account a fs) g.K.Sink.roomy (g.K.Sink.outside out).written (g.K.Sink.outside new).written out new (the_view c.machines.inside) c.report.new.rows (plain_rows a fs) (c.machines.view_is ∙ c.requires.none) h))
+    (rows_left c.report.result (plain_account a fs) g.K.Sink.sink.roomy (g.K.Sink.sink.outside out).written (g.K.Sink.sink.outside new).written out new (the_view c.machines.inside) c.report.new.rows (plain_rows a fs) (c.machines.view_is ∙ c.requires.none) h))
 
 pub returns-in-Ok-Curve-clause-told : goal.returns-in-Ok-Curve-clause-told
 unfolding account_of machines_left
@@ -37,11 +37,11 @@ returns-in-Ok-Curve-clause-told g c =
     let out = c.args.out.now in
     let new = c.report-in-Ok-Curve.new.out in
     let a = curve_of c.in-Ok-Curve.words in
-    told_one (g.F.Folder.files c.args.folder.now) _ _ c.report-in-Ok-Curve.ensures.told
-    (λ fs h. subst (λ (z : Option Asked). Ends c.report-in-Ok-Curve.result (asked_account z fs) g.K.Sink.roomy (g.K.Sink.outside out).written (g.K.Sink.outside new).written out new
+    told_one (g.F.Folder.folder.files c.args.folder.now) _ _ c.report-in-Ok-Curve.ensures.told
+    (λ fs h. subst (λ (z : Option Asked). Ends c.report-in-Ok-Curve.result (asked_account z fs) g.K.Sink.sink.roomy (g.K.Sink.sink.outside out).written (g.K.Sink.sink.outside new).written out new
     (record (the_view c.machines.inside) { rows = c.report-in-Ok-Curve.new.rows } ≡ asked_machines z fs))
     (sym (rw (c.as_slice.ensures.value, c.in-Ok-Curve.field-0-is) at c.in-Ok-Curve.ensures))
-    (rows_left c.report-in-Ok-Curve.result (curve_account a fs) g.K.Sink.roomy (g.K.Sink.outside out).written (g.K.Sink.outside new).written out new (the_view c.machines.inside) c.report-in-Ok-Curve.new.rows (curve_rows a fs) (c.machines.view_is ∙ c.requires.none) h))
+    (rows_left c.report-in-Ok-Curve.result (curve_account a fs) g.K.Sink.sink.roomy (g.K.Sink.sink.outside out).written (g.K.Sink.sink.outside new).written out new (the_view c.machines.inside) c.report-in-Ok-Curve.new.rows (curve_rows a fs) (c.machines.view_is ∙ c.requires.none) h))
 
 pub returns-in-Err-clause-usage : goal.returns-in-Err-clause-usage
 returns-in-Err-clause-usage g c =

@@ -8,13 +8,13 @@ use Rattle.xl_bench.proofs.bench.run.Goals as goal
 
 pub returns-clause-said : goal.returns-clause-said
 returns-clause-said g c =
-    let files = g.F.Folder.files c.args.folder.now in
+    let files = g.F.Folder.folder.files c.args.folder.now in
     let words = map string_bytes c.args.words.now.items in
     let end = c.report_of-end.result in
-    let before = (g.K.Sink.outside c.args.out.now).written in
-    let after = (g.K.Sink.outside c.report_of-end.new.out).written in
+    let before = (g.K.Sink.sink.outside c.args.out.now).written in
+    let after = (g.K.Sink.sink.outside c.report_of-end.new.out).written in
     rw c.of.ensures
-    (run_says (λ text. Says g.E.Sink.outside g.E.Sink.roomy text c.args.err.now c.tell.new.err) files (account_of words) end before after
-    (told_one files (λ fs. Ends end (account_of words fs) g.K.Sink.roomy before after c.args.out.now c.report_of-end.new.out (c.report_of-end.new.machines ≡ machines_left words fs))
+    (run_says (λ text. Says g.E.Sink.sink text c.args.err.now c.tell.new.err) files (account_of words) end before after
+    (told_one files (λ fs. Ends end (account_of words fs) g.K.Sink.sink.roomy before after c.args.out.now c.report_of-end.new.out (c.report_of-end.new.machines ≡ machines_left words fs))
     (λ fs. EndsAs end (account_of words fs) before after) c.report_of-end.ensures.told (λ fs h. h.as_said))
     c.tell.ensures)

@@ -15,9 +15,9 @@ returns-in_err-serve-clause-told g c =
     let stop = c.in_err-serve.field-0.0 in
     let end = g.C.Orders.end a.orders.now in
     rw (is_err_by c.from_residual.result stop c.from_residual.ensures.1)
-    (told_one (g.F.Folder.files a.folder.now) (λ fs. g.T.Source.stands a.source.now fs → Serves {A = Unit {0}} m g.K.Sink.taken g.K.Sink.outside g.K.Sink.roomy (g.C.Orders.answers a.orders.now)
+    (told_one (g.F.Folder.folder.files a.folder.now) (λ fs. g.T.Source.stands a.source.now fs → Serves {A = Unit {0}} m g.K.Sink.sink (g.C.Orders.answers a.orders.now)
     (course m (g.C.Orders.steps a.orders.now) (g.T.Source.left a.source.now fs)) (ended None) (g.D.Form.state a.form.now a.rack.now) (g.D.Form.state c.serve.new.form c.serve.new.rack) a.out.now c.serve.new.out (Err stop)) _
-    c.in_err-serve.ensures.told (λ fs h s. serve_ends m _ _ _ (g.C.Orders.answers a.orders.now) (g.D.Form.last end) (g.D.Form.late end) _ _ _ _ _ stop _ (h s)))
+    c.in_err-serve.ensures.told (λ fs h s. serve_ends m _ (g.C.Orders.answers a.orders.now) (g.D.Form.last end) (g.D.Form.late end) _ _ _ _ _ stop _ (h s)))
 
 pub returns-clause-told : goal.returns-clause-told
 returns-clause-told g c =
@@ -25,13 +25,13 @@ returns-clause-told g c =
     let m = g.D.Form.meaning in
     let end = g.C.Orders.end a.orders.now in
     let state = g.D.Form.state c.serve.new.form c.serve.new.rack in
-    told_one (g.F.Folder.files a.folder.now) (λ fs. g.T.Source.stands a.source.now fs → Reached m g.K.Sink.taken g.K.Sink.outside g.K.Sink.roomy (g.C.Orders.answers a.orders.now)
+    told_one (g.F.Folder.folder.files a.folder.now) (λ fs. g.T.Source.stands a.source.now fs → Reached m g.K.Sink.sink (g.C.Orders.answers a.orders.now)
     (course m (g.C.Orders.steps a.orders.now) (g.T.Source.left a.source.now fs)) (ended None) (g.D.Form.state a.form.now a.rack.now) state a.out.now c.serve.new.out) _
     c.in_ok-serve.ensures.told
-    (λ fs h s. report_done m _ _ _ (g.C.Orders.answers a.orders.now) (g.D.Form.last end) (g.D.Form.late end) (g.D.Form.holds c.finish.new.rack) _ _ _ _ _ _ c.finish.result (h s)
-    (subst (λ (e : g.row.D-End.Denot). EndAfter g.K.Sink.taken g.K.Sink.outside g.K.Sink.roomy (g.D.Form.late e) (g.D.Form.last e state) c.serve.new.out c.finish.new.out c.finish.result) c.end.ensures c.finish.ensures.written)
+    (λ fs h s. report_done m _ (g.C.Orders.answers a.orders.now) (g.D.Form.last end) (g.D.Form.late end) (g.D.Form.holds c.finish.new.rack) _ _ _ _ _ _ c.finish.result (h s)
+    (subst (λ (e : g.row.D-End.Denot). EndAfter g.K.Sink.sink (g.D.Form.late e) (g.D.Form.last e state) c.serve.new.out c.finish.new.out c.finish.result) c.end.ensures c.finish.ensures.written)
     c.finish.ensures.holds)
 
 pub returns-clause-goes_on : goal.returns-clause-goes_on
 returns-clause-goes_on g c =
-    goes_then _ _ _ _ c.in_ok-serve.ensures.goes_on (end_goes g.K.Sink.taken g.K.Sink.outside g.K.Sink.roomy _ _ _ _ c.finish.result c.finish.ensures.written)
+    goes_then _ _ _ _ c.in_ok-serve.ensures.goes_on (end_goes g.K.Sink.sink _ _ _ _ c.finish.result c.finish.ensures.written)

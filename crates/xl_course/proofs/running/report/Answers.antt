@@ -12,13 +12,13 @@ returns-clause-told g c =
     let m = g.D.Form.meaning in
     let of = λ (fs : Files). account m (g.C.Orders.answers a.orders.now) (g.D.Form.last (g.C.Orders.end a.orders.now)) (g.D.Form.late (g.C.Orders.end a.orders.now)) (course m (g.C.Orders.steps a.orders.now) (g.T.Source.left a.source.now fs)) (g.D.Form.state a.form.now a.rack.now) in
     let left = λ (fs : Files). g.D.Form.holds c.replay-end.new.rack (states_after m (course m (g.C.Orders.steps a.orders.now) (g.T.Source.left a.source.now fs)).items (g.D.Form.state a.form.now a.rack.now)) in
-    told_one (g.F.Folder.files a.folder.now)
-    (λ fs. g.T.Source.stands a.source.now fs → Ends c.replay-end.result (of fs) g.K.Sink.roomy (g.K.Sink.taken a.out.now) (g.K.Sink.taken c.replay-end.new.out) a.out.now c.replay-end.new.out (left fs)) _
+    told_one (g.F.Folder.folder.files a.folder.now)
+    (λ fs. g.T.Source.stands a.source.now fs → Ends c.replay-end.result (of fs) g.K.Sink.sink.roomy (g.K.Sink.sink.taken a.out.now) (g.K.Sink.sink.taken c.replay-end.new.out) a.out.now c.replay-end.new.out (left fs)) _
     c.replay-end.ensures.told
-    (λ fs h s. end_then g.K.Sink.taken g.K.Sink.outside g.K.Sink.roomy (of fs) a.out.now c.replay-end.new.out c.flushed.new.out (left fs) c.requires.flushed (g.met.K.Sink.fronts c.flushed.new.out)
+    (λ fs h s. end_then g.K.Sink.sink (of fs) a.out.now c.replay-end.new.out c.flushed.new.out (left fs) c.requires.flushed (g.met.K.Sink.fronts c.flushed.new.out)
     c.replay-end.result c.flushed.result c.flushed.ensures c.replay-end.ensures.goes_on (h s))
 
 pub returns-clause-goes_on : goal.returns-clause-goes_on
 returns-clause-goes_on g c =
-    goes_flushed g.K.Sink.taken g.K.Sink.outside g.K.Sink.roomy c.args.out.now c.replay-end.new.out c.flushed.new.out c.replay-end.result c.flushed.result
+    goes_flushed g.K.Sink.sink c.args.out.now c.replay-end.new.out c.flushed.new.out c.replay-end.result c.flushed.result
     c.flushed.ensures c.replay-end.ensures.goes_on

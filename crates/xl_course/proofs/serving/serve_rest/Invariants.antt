@@ -9,12 +9,12 @@ use Rattle.xl_course.proofs.serving.serve_rest.Given as goal
 
 abbrev pub invariant-records : goal.invariant-records
 invariant-records g l = record {
-  told : IfSome (g.F.Folder.files l.fn.folder) (λ fs. g.T.Source.stands l.fn.source fs → Underway g.D.Form.meaning g.K.Sink.taken g.K.Sink.outside g.K.Sink.roomy (not (eqb g.row.ANSWERS 0))
+  told : IfSome (g.F.Folder.folder.files l.fn.folder) (λ fs. g.T.Source.stands l.fn.source fs → Underway g.D.Form.meaning g.K.Sink.sink (not (eqb g.row.ANSWERS 0))
       (g.T.Source.stands l.source fs) (ran_all g.D.Form.meaning (g.T.Source.left l.fn.source fs).records (g.T.Source.left l.fn.source fs).fault)
       (ran_all g.D.Form.meaning (g.T.Source.left l.source fs).records (g.T.Source.left l.source fs).fault)
       (g.D.Form.state l.fn.form l.fn.rack) (g.D.Form.state l.form l.rack) l.fn.out l.out);
-  folder : FolderAfter g.F.Folder.files g.F.Folder.faults g.F.Folder.absences g.F.Folder.steady l.fn.folder l.folder Fine;
-  goes_on : GoesOn true (g.K.Sink.outside l.fn.out) (g.K.Sink.outside l.out);
+  folder : FolderAfter g.F.Folder.folder l.fn.folder l.folder Fine;
+  goes_on : GoesOn true (g.K.Sink.sink.outside l.fn.out) (g.K.Sink.sink.outside l.out);
   can : (commands : List g.row.D-Command.Denot) → g.D.Form.can l.fn.form l.fn.rack commands → g.D.Form.can l.form l.rack commands;
 }
 

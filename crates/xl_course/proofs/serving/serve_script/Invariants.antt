@@ -10,11 +10,11 @@ use Rattle.xl_course.proofs.serving.serve_script.Given as goal
 
 abbrev pub invariant-loop-i : goal.invariant-loop-i
 invariant-loop-i g l = record {
-  told : IfSome (g.F.Folder.files l.fn.folder) (λ fs. g.T.Source.stands l.fn.source fs → Through g.D.Form.meaning g.K.Sink.taken g.K.Sink.outside g.K.Sink.roomy (not (eqb g.row.ANSWERS 0))
+  told : IfSome (g.F.Folder.folder.files l.fn.folder) (λ fs. g.T.Source.stands l.fn.source fs → Through g.D.Form.meaning g.K.Sink.sink (not (eqb g.row.ANSWERS 0))
       (g.T.Source.stands l.source fs) (course g.D.Form.meaning (g.C.Orders.steps l.orders) (g.T.Source.left l.fn.source fs))
       (course g.D.Form.meaning (drop l.i (g.C.Orders.steps l.orders)) (g.T.Source.left l.source fs))
       (g.D.Form.state l.fn.form l.fn.rack) (g.D.Form.state l.form l.rack) l.fn.out l.out);
-  folder : FolderAfter g.F.Folder.files g.F.Folder.faults g.F.Folder.absences g.F.Folder.steady l.fn.folder l.folder Fine;
-  goes_on : GoesOn true (g.K.Sink.outside l.fn.out) (g.K.Sink.outside l.out);
+  folder : FolderAfter g.F.Folder.folder l.fn.folder l.folder Fine;
+  goes_on : GoesOn true (g.K.Sink.sink.outside l.fn.out) (g.K.Sink.sink.outside l.out);
   can : g.D.Form.can l.form l.rack (commands_of (drop l.i (g.C.Orders.steps l.orders)));
 }

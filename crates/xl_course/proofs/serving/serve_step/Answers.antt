@@ -11,8 +11,8 @@ returns-in-RunRest-clause-told g c = rw c.in-RunRest.is c.serve_rest.ensures.tol
 
 pub returns-in-Ok-clause-told : goal.returns-in-Ok-clause-told
 returns-in-Ok-clause-told g c =
-    rw c.in-Own.is (told_all (g.F.Folder.files c.args.folder.now) _ (λ fs s. part_items _ _ _ _ (not (eqb g.row.ANSWERS 0)) _ _ _ _ _ _ _ _ s c.in-Ok.ensures.served))
+    rw c.in-Own.is (told_all (g.F.Folder.folder.files c.args.folder.now) _ (λ fs s. part_items _ _ (not (eqb g.row.ANSWERS 0)) _ _ _ _ _ _ _ _ s c.in-Ok.ensures.served))
 
 pub returns-in-Err-clause-told : goal.returns-in-Err-clause-told
 returns-in-Err-clause-told g c =
-    rw c.in-Own.is (told_all (g.F.Folder.files c.args.folder.now) _ (λ fs s. part_lost _ _ _ _ (not (eqb g.row.ANSWERS 0)) _ _ _ _ _ _ _ _ c.in-Err.ensures.served))
+    rw c.in-Own.is (told_all (g.F.Folder.folder.files c.args.folder.now) _ (λ fs s. part_lost _ _ (not (eqb g.row.ANSWERS 0)) _ _ _ _ _ _ _ _ c.in-Err.ensures.served))

@@ -1,4 +1,4 @@
-use Rattle.std.proofs.Common.{get_or, sym, ◌∙◌, ap}
+use Rattle.std.proofs.Common.{◌<◌, length, get_or, sym, ◌∙◌, ap, arith}
 use Rattle.xl_curve.specs.declared.place.Place.{Place}
 use Rattle.xl_curve.specs.Places.{leaf_in, places_of}
 use Rattle.xl_curve_model.specs.Curves.{same_leaf}
@@ -10,9 +10,10 @@ returns-then-is_hole-clause-moved c =
     let ps = c.args.places.now in
     let at = c.args.at in
     let d : Place = record { tag = 0; word = 0 } in
-    let front = ap (λ (xs : _). places_of xs) c.put_in_front.ensures ∙ front_places ps at c.args.leaf c.requires.solid in
-    let hole = read ps at d c.requires.within ∙ vacant_place (get_or ps at d) (sym c.is_hole.ensures ∙ c.if-is_hole.true) in
-    hole_filled (same_leaf (leaf_in c.args.leaf)) (leaf_in c.args.leaf) (places_of ps) (places_of c.put_in_front.new.places) (places_of c.vacate.new.places) at
+    let inside : at < length ps = omega arith in
+    let front = ap (λ (xs : _). places_of xs) c.put_leaf_in_front.ensures.places ∙ front_places ps at c.args.leaf c.requires.solid in
+    let hole = read ps at d inside ∙ vacant_place (get_or ps at d) (sym c.is_hole.ensures ∙ c.if-is_hole.true) in
+    hole_filled (same_leaf (leaf_in c.args.leaf)) (leaf_in c.args.leaf) (places_of ps) (places_of c.put_leaf_in_front.new.places) (places_of c.vacate.new.places) at
     c.requires.gap hole front c.vacate.ensures.places
 
 pub returns-then-is_hole-clause-distance : goal.returns-then-is_hole-clause-distance
@@ -20,18 +21,20 @@ returns-then-is_hole-clause-distance c =
     let ps = c.args.places.now in
     let at = c.args.at in
     let d : Place = record { tag = 0; word = 0 } in
-    let front = ap (λ (xs : _). places_of xs) c.put_in_front.ensures ∙ front_places ps at c.args.leaf c.requires.solid in
-    let hole = read ps at d c.requires.within ∙ vacant_place (get_or ps at d) (sym c.is_hole.ensures ∙ c.if-is_hole.true) in
+    let inside : at < length ps = omega arith in
+    let front = ap (λ (xs : _). places_of xs) c.put_leaf_in_front.ensures.places ∙ front_places ps at c.args.leaf c.requires.solid in
+    let hole = read ps at d inside ∙ vacant_place (get_or ps at d) (sym c.is_hole.ensures ∙ c.if-is_hole.true) in
     c.vacate.ensures.distance
-    ∙ hole_distance (same_leaf (leaf_in c.args.leaf)) (leaf_in c.args.leaf) (places_of ps) (places_of c.put_in_front.new.places) at c.requires.gap hole front
+    ∙ hole_distance (same_leaf (leaf_in c.args.leaf)) (leaf_in c.args.leaf) (places_of ps) (places_of c.put_leaf_in_front.new.places) at c.requires.gap hole front
 
 pub returns-clause-moved : goal.returns-clause-moved
 returns-clause-moved c =
     let ps = c.args.places.now in
     let at = c.args.at in
     let d : Place = record { tag = 0; word = 0 } in
-    let own = read ps at d c.requires.within ∙ solid_place (get_or ps at d) (sym c.is_hole.ensures ∙ c.if-is_hole.false) in
-    ap (λ (xs : _). places_of xs) c.put_in_front.ensures ∙ front_places ps at c.args.leaf c.requires.solid
+    let inside : at < length ps = omega arith in
+    let own = read ps at d inside ∙ solid_place (get_or ps at d) (sym c.is_hole.ensures ∙ c.if-is_hole.false) in
+    ap (λ (xs : _). places_of xs) c.put_leaf_in_front.ensures.places ∙ front_places ps at c.args.leaf c.requires.solid
     ∙ sym (own_closed (same_leaf (leaf_in c.args.leaf)) (leaf_in c.args.leaf) (places_of ps) at (leaf_in (get_or ps at d)) c.requires.gap own).0
 
 pub returns-clause-distance : goal.returns-clause-distance
@@ -39,5 +42,6 @@ returns-clause-distance c =
     let ps = c.args.places.now in
     let at = c.args.at in
     let d : Place = record { tag = 0; word = 0 } in
-    let own = read ps at d c.requires.within ∙ solid_place (get_or ps at d) (sym c.is_hole.ensures ∙ c.if-is_hole.false) in
+    let inside : at < length ps = omega arith in
+    let own = read ps at d inside ∙ solid_place (get_or ps at d) (sym c.is_hole.ensures ∙ c.if-is_hole.false) in
     sym (own_closed (same_leaf (leaf_in c.args.leaf)) (leaf_in c.args.leaf) (places_of ps) at (leaf_in (get_or ps at d)) c.requires.gap own).1

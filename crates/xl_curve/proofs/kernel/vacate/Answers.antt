@@ -3,18 +3,18 @@ use Rattle.std.proofs.lemmas.List.{length-map}
 use Rattle.xl_curve.specs.declared.place.Place.{Place}
 use Rattle.xl_curve.specs.Places.{is_vacant, leaf_in, place_of, places_of}
 use Rattle.xl_curve_model.specs.Curves.{same_leaf}
-use Rattle.xl_curve.proofs.KernelLemmas.{read, is_other, other_place, pass_places, pass_distance, left, left_at, none_left, none_at, solid_place, hole_written}
+use Rattle.xl_curve.proofs.KernelLemmas.{read, is_other, other_place, pass_places, pass_distance, left, left_at, none_left, none_at, solid_place, hole_written, mark_written}
 use Rattle.xl_curve.proofs.kernel.vacate.Goals as goal
 
 pub loop-at-init : goal.loop-at-init
-loop-at-init c = record { same = refl; passed = refl; far = refl }
+loop-at-init c = record { same = refl; marks = c.requires.marks; passed = refl; far = refl }
 
 pub returns-then-is_same-clause-places : goal.returns-then-is_same-clause-places
 returns-then-is_same-clause-places c =
     let ps = c.args.places.now in
     let at = c.loop-at.at in
     let here : Place = get_or ps at (record { tag = 0; word = 0 }) in
-    let l : at < length ps = c.loop-at-test.true in
+    let l : at < length ps = omega arith in
     let t : true ≡ same_leaf (leaf_in c.args.leaf) (leaf_in here) = rw c.loop-at.invariant.same at (sym c.if-is_same.true ∙ c.is_same.ensures.same) in
     let tag : here.tag ≡ c.args.leaf.tag = rw c.loop-at.invariant.same at (c.is_same.ensures.tag c.if-is_same.true) in
     let solid : is_vacant here ≡ false = rw tag c.requires.solid in
@@ -28,25 +28,30 @@ returns-then-is_same-clause-distance c =
     let ps = c.args.places.now in
     let at = c.loop-at.at in
     let here : Place = get_or ps at (record { tag = 0; word = 0 }) in
-    let l : at < length ps = c.loop-at-test.true in
+    let l : at < length ps = omega arith in
     let t : true ≡ same_leaf (leaf_in c.args.leaf) (leaf_in here) = rw c.loop-at.invariant.same at (sym c.if-is_same.true ∙ c.is_same.ensures.same) in
     let tag : here.tag ≡ c.args.leaf.tag = rw c.loop-at.invariant.same at (c.is_same.ensures.tag c.if-is_same.true) in
     let solid : is_vacant here ≡ false = rw tag c.requires.solid in
     left_at (same_leaf (leaf_in c.args.leaf)) (places_of ps) at (leaf_in here) (rw (length-map ps place_of) l) (read ps at _ l ∙ solid_place here solid) (sym t)
     ∙ sym c.loop-at.invariant.far
 
+pub returns-then-is_same-clause-marks : goal.returns-then-is_same-clause-marks
+returns-then-is_same-clause-marks c =
+    mark_written c.loop-at.marks c.loop-at.places c.loop-at.invariant.marks c.loop-at.at 255 (record { tag = 18446744073709551615; word = 0 }) refl
+
 pub loop-at-preserved : goal.loop-at-preserved
 loop-at-preserved c =
     let ps = c.args.places.now in
     let at = c.loop-at.at in
     let here : Place = get_or ps at (record { tag = 0; word = 0 }) in
-    let l : at < length ps = c.loop-at-test.true in
+    let l : at < length ps = omega arith in
     let m : at < length (places_of ps) = rw (length-map ps place_of) l in
     let f : false ≡ same_leaf (leaf_in c.args.leaf) (leaf_in here) = rw c.loop-at.invariant.same at (sym c.if-is_same.false ∙ c.is_same.ensures.same) in
     let o : is_other (same_leaf (leaf_in c.args.leaf)) (get_or (places_of ps) at None) ≡ true =
     rw (read ps at (record { tag = 0; word = 0 }) l) (other_place (same_leaf (leaf_in c.args.leaf)) here (sym f)) in
     record {
       same = c.loop-at.invariant.same;
+      marks = c.loop-at.invariant.marks;
       passed = c.loop-at.invariant.passed ∙ pass_places (same_leaf (leaf_in c.args.leaf)) (places_of ps) at m o;
       far = c.loop-at.invariant.far ∙ pass_distance (same_leaf (leaf_in c.args.leaf)) (places_of ps) at m o;
     }

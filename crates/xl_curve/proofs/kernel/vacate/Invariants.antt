@@ -1,11 +1,12 @@
 use Rattle.std.proofs.Common.{◌≡◌, ◌++◌, take, drop}
-use Rattle.xl_curve.specs.Places.{distance, further, leaf_in, places_of, vacated}
+use Rattle.xl_curve.specs.Places.{AreMarks, distance, further, leaf_in, places_of, vacated}
 use Rattle.xl_curve_model.specs.Curves.{same_leaf}
 use Rattle.xl_curve.proofs.kernel.vacate.Given as goal
 
 abbrev pub invariant-loop-at : goal.invariant-loop-at
 invariant-loop-at l = record {
   same : l.places ≡ l.fn.places;
+  marks : AreMarks l.marks l.places;
   passed : take l.from (places_of l.fn.places) ++ vacated (same_leaf (leaf_in l.leaf)) (drop l.from (places_of l.fn.places))
       ≡ take l.at (places_of l.fn.places) ++ vacated (same_leaf (leaf_in l.leaf)) (drop l.at (places_of l.fn.places));
   far : further l.from (distance (same_leaf (leaf_in l.leaf)) (drop l.from (places_of l.fn.places)))

@@ -1,24 +1,27 @@
-use Rattle.std.proofs.Common.{◌≤◌, ◌<◌, length, refl, arith}
-use Rattle.std.proofs.lemmas.List.{length-map}
+use Rattle.std.proofs.Common.{◌≡◌, ◌≤◌, ◌<◌, length, refl, ◌∙◌, arith}
+use Rattle.std.proofs.lemmas.List.{length-map, length-set}
 use Rattle.xl_curve.specs.declared.place.Place.{Place}
 use Rattle.xl_curve.specs.Places.{place_of, place_without, places_of}
-use Rattle.xl_curve.proofs.KernelLemmas.{purged_more, thinned_more, all_purged}
+use Rattle.xl_curve.proofs.KernelLemmas.{mark_written, purged_more, thinned_more, all_purged}
 use Rattle.xl_curve.proofs.kernel.vacate_where.Goals as goal
 
 pub loop-at-init : goal.loop-at-init
-loop-at-init g c = record { purged = λ q test. refl; thinned = λ t hole held. held }
+loop-at-init g c = record { count = c.told-places; purged = λ q test. refl; thinned = λ t hole held. held; marks = c.requires.marks }
 
 pub loop-at-preserved : goal.loop-at-preserved
 loop-at-preserved g c =
     let ls = c.loop-at.places in
     let at = c.loop-at.at in
-    let l : at < length ls = omega arith in
+    let l : at < length ls = omega (arith, c.loop-at.invariant.count) in
+    let same : length ls ≡ length c.args.places.now = omega (arith, c.loop-at.invariant.count) in
     let d : Place = record { tag = 0; word = 0 } in
     record {
+      count = length-set ls at c.without-place.result ∙ c.loop-at.invariant.count;
       purged = λ q test.
-          purged_more (place_without q) c.args.places.now ls at c.without.result d l c.loop-at.auto.places (c.loop-at.invariant.purged q test) (c.without.ensures.without q test);
+          purged_more (place_without q) c.args.places.now ls at c.without-place.result d l same (c.loop-at.invariant.purged q test) (c.without-place.ensures.without q test);
       thinned = λ t hole held.
-          thinned_more t ls at c.without.result d l (c.loop-at.invariant.thinned t hole held) (c.without.ensures.thinned t hole);
+          thinned_more t ls at c.without-place.result d l (c.loop-at.invariant.thinned t hole held) (c.without-place.ensures.thinned t hole);
+      marks = mark_written c.loop-at.marks ls c.loop-at.invariant.marks at c.mark.result c.without-place.result c.mark.ensures;
     }
 
 pub returns-clause-purged : goal.returns-clause-purged

@@ -17,15 +17,15 @@ returns-clause-told g c =
     let opened = c.open.new.rows in
     let script = c.in_ok-script.script in
     let end = c.report_orders.result in
-    let roomy = g.K.Sink.roomy in
+    let roomy = g.K.Sink.sink.roomy in
     let out = c.args.out.now in
     let new = c.report_orders.new.out in
     let left = c.report_orders.new.rows in
-    let before = (g.K.Sink.outside out).written in
-    let after = (g.K.Sink.outside new).written in
-    subst (λ (a : AskedPlain). IfSome (g.F.Folder.files c.args.folder.now)
+    let before = (g.K.Sink.sink.outside out).written in
+    let after = (g.K.Sink.sink.outside new).written in
+    subst (λ (a : AskedPlain). IfSome (g.F.Folder.folder.files c.args.folder.now)
     (λ fs. Ends end (curves_by sets (trail_for a fs) (plain_start a fs)) roomy before after out new (left ≡ rows_by (trail_for a fs) (plain_start a fs)))) c.plain_words-plain.ensures
-    (told_then (g.F.Folder.files c.args.folder.now) (g.F.Folder.files c.open.new.folder)
+    (told_then (g.F.Folder.folder.files c.args.folder.now) (g.F.Folder.folder.files c.open.new.folder)
     (λ fs. Finds (start_of opened) (Ok script) (plain_start p fs))
     (λ fs. Ends end (curves_from sets (trail_for p fs) (start_of opened script)) roomy before after out new (left ≡ rows_from (trail_for p fs) (start_of opened script)))
     (λ fs. Ends end (curves_by sets (trail_for p fs) (plain_start p fs)) roomy before after out new (left ≡ rows_by (trail_for p fs) (plain_start p fs)))
@@ -39,11 +39,11 @@ returns-in_err-script-clause-told g c =
     let opened = c.open.new.rows in
     let stop = c.in_err-script.field-0.0 in
     let out = c.args.out.now in
-    let roomy = g.K.Sink.roomy in
-    let written = (g.K.Sink.outside out).written in
+    let roomy = g.K.Sink.sink.roomy in
+    let written = (g.K.Sink.sink.outside out).written in
     rw (is_err_by c.from_residual.result stop c.from_residual.ensures.1)
-    (subst (λ (a : AskedPlain). IfSome (g.F.Folder.files c.args.folder.now)
+    (subst (λ (a : AskedPlain). IfSome (g.F.Folder.folder.files c.args.folder.now)
     (λ fs. Ends (Err stop) (curves_by sets (trail_for a fs) (plain_start a fs)) roomy written written out out (opened ≡ rows_by (trail_for a fs) (plain_start a fs)))) c.plain_words-plain.ensures
-    (told_one (g.F.Folder.files c.args.folder.now) (λ fs. Finds (start_of opened) (Err stop) (plain_start p fs)) _
+    (told_one (g.F.Folder.folder.files c.args.folder.now) (λ fs. Finds (start_of opened) (Err stop) (plain_start p fs)) _
     c.in_err-script.ensures.told
     (λ fs h. stopped_ends roomy (start_of opened) (curves_by sets (trail_for p fs)) (plain_start p fs) stop written out _ (λ f. refl) c.in_err-script.ensures.before h)))

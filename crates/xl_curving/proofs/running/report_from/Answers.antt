@@ -25,12 +25,12 @@ returns-clause-told g c =
     let left = c.report.new.rack in
     let state = curves_waited form.waiting.items (curve_scene_of rows form.areas form.curves.items) in
     let trail = g.T.Source.left c.args.source.now in
-    let roomy = g.K.Sink.roomy in
+    let roomy = g.K.Sink.sink.roomy in
     let out = c.args.out.now in
     let new = c.report.new.out in
-    let before = (g.K.Sink.outside out).written in
-    let after = (g.K.Sink.outside new).written in
-    told_one (g.F.Folder.files c.args.folder.now)
+    let before = (g.K.Sink.sink.outside out).written in
+    let after = (g.K.Sink.sink.outside new).written in
+    told_one (g.F.Folder.folder.files c.args.folder.now)
     (λ fs. g.T.Source.stands c.args.source.now fs → Ends c.report.result (account curved false (curves_text sets) false (course curved (steps_of cs) (trail fs)) state)
     roomy before after out new (left ≡ (states_after curved (course curved (steps_of cs) (trail fs)).items state).scene.rows)) _
     c.report.ensures.told

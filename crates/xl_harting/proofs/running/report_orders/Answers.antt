@@ -22,12 +22,12 @@ returns-clause-told g c =
     let opened = c.in_ok-machine.machine in
     let left = c.report-end.new.rack in
     let end = c.report-end.result in
-    let roomy = g.K.Sink.roomy in
+    let roomy = g.K.Sink.sink.roomy in
     let out = c.args.out.now in
     let new = c.report-end.new.out in
-    let before = (g.K.Sink.outside out).written in
-    let after = (g.K.Sink.outside new).written in
-    told_one (g.F.Folder.files c.args.folder.now)
+    let before = (g.K.Sink.sink.outside out).written in
+    let after = (g.K.Sink.sink.outside new).written in
+    told_one (g.F.Folder.folder.files c.args.folder.now)
     (λ fs. IsFedFrom (file_of fs name) source.tape → Ends end (account (meaning_of harts_form) answers harts_form.last false (course_of harts_form script (left_of (file_of fs name) source.tape)) opened)
     roomy before after out new (left ≡ states_after (meaning_of harts_form) (course_of harts_form script (left_of (file_of fs name) source.tape)).items opened)) _
     c.report-end.ensures.told

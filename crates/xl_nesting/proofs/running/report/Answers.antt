@@ -16,13 +16,13 @@ returns-clause-told g c =
     let a = pair_of c.args.words.now in
     let script = c.in_ok-script.script in
     let end = c.report_orders.result in
-    let roomy = g.K.Sink.roomy in
+    let roomy = g.K.Sink.sink.roomy in
     let out = c.args.out.now in
     let new = c.report_orders.new.out in
     let left = c.report_orders.new.nested in
-    let before = (g.K.Sink.outside out).written in
-    let after = (g.K.Sink.outside new).written in
-    told_then (g.F.Folder.files c.args.folder.now) (g.F.Folder.files c.read_script.new.folder)
+    let before = (g.K.Sink.sink.outside out).written in
+    let after = (g.K.Sink.sink.outside new).written in
+    told_then (g.F.Folder.folder.files c.args.folder.now) (g.F.Folder.folder.files c.read_script.new.folder)
     (λ fs. Finds (λ s. s) (Ok script) (script_in nest_script_of a.script fs))
     (λ fs. Ends end (account_from nested_form a.answers (trail_in (Some a.trace) fs) script) roomy before after out new (left ≡ Some (state_from nested_form (trail_in (Some a.trace) fs) script)))
     (λ fs. Ends end (nested_account a fs) roomy before after out new (left ≡ nested_left a fs))
@@ -35,6 +35,6 @@ returns-in_err-script-clause-told g c =
     let stop = c.in_err-script.field-0.0 in
     let out = c.args.out.now in
     rw (is_err_by c.from_residual.result stop c.from_residual.ensures.1)
-    (told_one (g.F.Folder.files c.args.folder.now) (λ fs. Finds (λ s. s) (Err stop) (script_in nest_script_of a.script fs)) _
+    (told_one (g.F.Folder.folder.files c.args.folder.now) (λ fs. Finds (λ s. s) (Err stop) (script_in nest_script_of a.script fs)) _
     c.in_err-script.ensures.told
-    (λ fs h. stopped_ends nested_form a.answers g.K.Sink.roomy (trail_in (Some a.trace) fs) (script_in nest_script_of a.script fs) (λ s. s) stop (g.K.Sink.outside out).written out _ c.in_err-script.ensures.before h))
+    (λ fs h. stopped_ends nested_form a.answers g.K.Sink.sink.roomy (trail_in (Some a.trace) fs) (script_in nest_script_of a.script fs) (λ s. s) stop (g.K.Sink.sink.outside out).written out _ c.in_err-script.ensures.before h))

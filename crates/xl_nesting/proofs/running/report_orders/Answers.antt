@@ -17,7 +17,7 @@ use Rattle.xl_nesting.proofs.running.report_orders.Goals as goal
 
 pub returns-in_err-source-clause-goes_on : goal.returns-in_err-source-clause-goes_on
 returns-in_err-source-clause-goes_on g c =
-    rw (is_err_by c.from_residual-in_err-source.result why.NoMemory c.from_residual-in_err-source.ensures.1) (goes_same (g.K.Sink.outside c.args.out.now))
+    rw (is_err_by c.from_residual-in_err-source.result why.NoMemory c.from_residual-in_err-source.ensures.1) (goes_same (g.K.Sink.sink.outside c.args.out.now))
 
 pub returns-clause-told : goal.returns-clause-told
 returns-clause-told g c =
@@ -27,12 +27,12 @@ returns-clause-told g c =
     let source = c.in_ok-source.source in
     let opened = c.in_ok-machine.machine in
     let m = meaning_of nested_form in
-    let roomy = g.K.Sink.roomy in
+    let roomy = g.K.Sink.sink.roomy in
     let out = c.args.out.now in
     let new = c.report-end.new.out in
-    let before = (g.K.Sink.outside out).written in
-    let after = (g.K.Sink.outside new).written in
-    told_one (g.F.Folder.files c.args.folder.now)
+    let before = (g.K.Sink.sink.outside out).written in
+    let after = (g.K.Sink.sink.outside new).written in
+    told_one (g.F.Folder.folder.files c.args.folder.now)
     (λ fs. IsFedFrom (file_of fs source.name.now) source.tape
     → Ends c.report-end.result (account m a.answers counts_text false (course m (map step_of text.commands) (left_of (file_of fs source.name.now) source.tape)) opened) roomy before after out new
     (c.report-end.new.rack ≡ states_after m (course m (map step_of text.commands) (left_of (file_of fs source.name.now) source.tape)).items opened)) _

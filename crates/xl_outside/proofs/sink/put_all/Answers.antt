@@ -10,13 +10,13 @@ loop-done-preserved g c =
     let rest = length-rest bytes c.loop-done.done inv.within in
     let most = c.in-Ok.ensures.count in record {
       within = omega (arith, most);
-      so_far = written_on (g.K.Sink.taken c.args.out.now) (g.K.Sink.taken c.loop-done.out) _ bytes c.loop-done.done c.in-Ok.count inv.so_far put.took;
+      so_far = written_on (g.K.Sink.sink.taken c.args.out.now) (g.K.Sink.sink.taken c.loop-done.out) _ bytes c.loop-done.done c.in-Ok.count inv.so_far put.took;
       goes_on = goes_then true _ _ _ inv.goes_on (put_goes _ _ put.stays (put.counts.1 (inl (omega arith))));
       calm = λ room h k.
           let fits : length (take (length bytes - c.loop-done.done) (drop c.loop-done.done bytes)) ≤ room - c.loop-done.done = omega arith in
           let step = put.calm (room - c.loop-done.done) (inv.calm room h k) fits in
           let e : (room - c.loop-done.done) - c.in-Ok.count ≡ room - (c.loop-done.done + c.in-Ok.count) = omega arith in
-          subst (λ left. g.K.Sink.roomy c.put.new.self left) e step.1;
+          subst (λ left. g.K.Sink.sink.roomy c.put.new.self left) e step.1;
     }
 
 pub returns-in-Ok-eq0 : goal.returns-in-Ok-eq0
@@ -28,7 +28,7 @@ returns-in-Ok-eq0 g c =
     let rest = length-rest bytes done inv.within in
     let most = c.in-Ok-eq0.ensures.count in
     let more = c.loop-done-test.true in record {
-      took = (done + c.in-Ok-eq0.field-0, omega (arith, most), written_on (g.K.Sink.taken c.args.out.now) (g.K.Sink.taken c.loop-done.out) _ bytes done c.in-Ok-eq0.field-0 inv.so_far put.took);
+      took = (done + c.in-Ok-eq0.field-0, omega (arith, most), written_on (g.K.Sink.sink.taken c.args.out.now) (g.K.Sink.sink.taken c.loop-done.out) _ bytes done c.in-Ok-eq0.field-0 inv.so_far put.took);
       goes_on = put_stops _ _ _ inv.goes_on put.stays (put.counts.0 c.in-Ok-eq0.field-0-test (omega arith));
       calm = λ room h k.
           let fits : length (take (length bytes - done) (drop done bytes)) ≤ room - done = omega arith in

@@ -12,6 +12,6 @@ returns-clause-told g c =
     let p = g.P.Parser in
     let name = c.args.name.now in
     let answer = c.script_of.result in
-    told_one (g.F.Folder.files c.args.folder.now) (λ fs. TellsWhole (file_of fs name) 1048576 (Ok c.in_ok-text.text)) (λ fs. Finds p.said answer (script_in p.says name fs))
+    told_one (g.F.Folder.folder.files c.args.folder.now) (λ fs. TellsWhole (file_of fs name) 1048576 (Ok c.in_ok-text.text)) (λ fs. Finds p.said answer (script_in p.says name fs))
     c.in_ok-text.ensures.told
     (λ fs h. finds_text p.said p.says (file_of fs name) c.in_ok-text.text c.as_slice.result.now answer g.met.P.Parser.cut h c.as_slice.ensures.value c.script_of.ensures.said)

@@ -10,11 +10,11 @@ serve_again-requires g c =
 
 pub returns-in-Ok : goal.returns-in-Ok
 returns-in-Ok g c =
-    demand-served g.K.Sink.taken g.K.Sink.outside g.K.Sink.roomy c.args.answers c.args.i c.args.number c.args.va c.args.kind (Some c.args.area) c.args.area c.map_for.result c.in-Ok.outcome
+    demand-served g.K.Sink.sink c.args.answers c.args.i c.args.access.number c.args.access.va c.args.access.kind (Some c.args.area) c.args.area c.map_for.result c.in-Ok.outcome
     c.args.rack.now c.serve_command.new.rack c.serve_again.new.rack c.args.out.now c.serve_command.new.out c.serve_again.new.out (is_ok c.serve_again.result)
     refl c.map_for.ensures c.in-Ok.ensures.outcome c.in-Ok.ensures.served c.serve_again.ensures
 
 pub returns-in-Err : goal.returns-in-Err
 returns-in-Err g c =
-    demand-cut g.K.Sink.taken g.K.Sink.outside g.K.Sink.roomy c.args.answers c.args.i c.args.number c.args.va c.args.kind (Some c.args.area) c.args.area c.map_for.result
+    demand-cut g.K.Sink.sink c.args.answers c.args.i c.args.access.number c.args.access.va c.args.access.kind (Some c.args.area) c.args.area c.map_for.result
     c.args.rack.now c.serve_command.new.rack c.args.out.now c.serve_command.new.out refl c.map_for.ensures c.in-Err.ensures.served

@@ -9,10 +9,10 @@ row-requires g c = still-there (after_of c.args.event) c.args.i c.args.rack.now 
 
 pub returns-in-Ok-clause-served : goal.returns-in-Ok-clause-served
 returns-in-Ok-clause-served g c =
-    command-told g.K.Sink.taken g.K.Sink.outside g.K.Sink.roomy c.args.answers c.args.i c.args.event c.step-outcome.result c.row.result.now c.args.rack.now c.step-outcome.new.self c.args.out.now c.write_command.new.out true
+    command-told g.K.Sink.sink c.args.answers c.args.i c.args.event c.step-outcome.result c.row.result.now c.args.rack.now c.step-outcome.new.self c.args.out.now c.write_command.new.out true
     c.if-not-answers.false c.step-outcome.ensures.outcome c.step-outcome.ensures.after c.row.ensures c.in-Ok.ensures
 
 pub returns-in-Err-clause-served : goal.returns-in-Err-clause-served
 returns-in-Err-clause-served g c =
-    command-told g.K.Sink.taken g.K.Sink.outside g.K.Sink.roomy c.args.answers c.args.i c.args.event c.step-outcome.result c.row.result.now c.args.rack.now c.step-outcome.new.self c.args.out.now c.write_command.new.out false
+    command-told g.K.Sink.sink c.args.answers c.args.i c.args.event c.step-outcome.result c.row.result.now c.args.rack.now c.step-outcome.new.self c.args.out.now c.write_command.new.out false
     c.if-not-answers.false c.step-outcome.ensures.outcome c.step-outcome.ensures.after c.row.ensures c.in-Err.ensures

@@ -11,9 +11,9 @@ returns-in-Err g c =
     let node = slice_index_or radix.nodes c.args.number None in
     let within = c.loop-index-test.true in
     let e : c.word-word.result ≡ word_of radix.leaves radix.nodes node c.loop-index.index = c.word-word.ensures ∙ c.words_read_back.ensures.each c.args.number c.loop-index.index c.requires within in
-    node-cut g.K.Sink.taken g.K.Sink.outside g.K.Sink.roomy c.args.row.now.name.bytes radix.leaves radix.nodes 512 c.args.number node (c.loop-index.index + 1) c.args.out.now c.write_image.new.out
+    node-cut g.K.Sink.sink c.args.row.now.name.bytes radix.leaves radix.nodes 512 c.args.number node (c.loop-index.index + 1) c.args.out.now c.write_image.new.out
     (omega arith)
-    (word-written g.K.Sink.taken g.K.Sink.outside g.K.Sink.roomy c.args.row.now.name.bytes radix.leaves radix.nodes c.args.number node c.loop-index.index c.word-word.result
+    (word-written g.K.Sink.sink c.args.row.now.name.bytes radix.leaves radix.nodes c.args.number node c.loop-index.index c.word-word.result
     c.args.out.now c.loop-index.out c.write_image.new.out false e c.if-word-ne0.true c.loop-index.invariant c.in-Err.ensures)
 
 pub loop-index-preserved : goal.loop-index-preserved
@@ -25,10 +25,10 @@ loop-index-preserved g c =
     elim c.if-word-ne0.branch [
       | then-word-ne0+in-Ok w ↦
           rw w.out-is
-          (word-written g.K.Sink.taken g.K.Sink.outside g.K.Sink.roomy c.args.row.now.name.bytes radix.leaves radix.nodes c.args.number node c.loop-index.index c.word-word.result
+          (word-written g.K.Sink.sink c.args.row.now.name.bytes radix.leaves radix.nodes c.args.number node c.loop-index.index c.word-word.result
           c.args.out.now c.loop-index.out w.write_image.new.out true e w.if-word-ne0.true c.loop-index.invariant w.in-Ok.ensures)
       | else-word-ne0 w ↦
           rw w.out-is
-          (word-passed g.K.Sink.taken g.K.Sink.outside g.K.Sink.roomy c.args.row.now.name.bytes radix.leaves radix.nodes c.args.number node c.loop-index.index c.word-word.result
+          (word-passed g.K.Sink.sink c.args.row.now.name.bytes radix.leaves radix.nodes c.args.number node c.loop-index.index c.word-word.result
           c.args.out.now c.loop-index.out e w.if-word-ne0.false c.loop-index.invariant)
     ]

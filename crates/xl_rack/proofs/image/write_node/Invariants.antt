@@ -4,4 +4,4 @@ use Rattle.xl_rack.proofs.image.write_node.Given as goal
 
 abbrev pub invariant-loop-index : goal.invariant-loop-index
 invariant-loop-index g l =
-    NodeLines g.K.Sink.taken g.K.Sink.outside g.K.Sink.roomy l.row.name.bytes l.radix.leaves l.radix.nodes l.number (slice_index_or l.radix.nodes l.number None) l.index l.fn.out l.out true
+    NodeLines g.K.Sink.sink l.row.name.bytes l.radix.leaves l.radix.nodes l.number (slice_index_or l.radix.nodes l.number None) l.index l.fn.out l.out true

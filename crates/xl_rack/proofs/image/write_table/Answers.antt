@@ -6,8 +6,8 @@ use Rattle.xl_rack.proofs.image.write_table.Goals.{then-has_number+in-Ok, else-h
 pub returns-in-Err : goal.returns-in-Err
 returns-in-Err g c =
     let radix = c.args.radix.now in
-    table-cut g.K.Sink.taken g.K.Sink.outside g.K.Sink.roomy c.args.row.now.name.bytes radix.leaves radix.nodes (c.loop-number.number + 1) c.args.out.now c.write_node.new.out
-    (node-written g.K.Sink.taken g.K.Sink.outside g.K.Sink.roomy c.args.row.now.name.bytes radix.leaves radix.nodes c.loop-number.number c.args.out.now c.loop-number.out c.write_node.new.out false
+    table-cut g.K.Sink.sink c.args.row.now.name.bytes radix.leaves radix.nodes (c.loop-number.number + 1) c.args.out.now c.write_node.new.out
+    (node-written g.K.Sink.sink c.args.row.now.name.bytes radix.leaves radix.nodes c.loop-number.number c.args.out.now c.loop-number.out c.write_node.new.out false
     (sym c.if-has_number.ensures) c.loop-number.invariant c.in-Err.ensures)
 
 pub loop-number-preserved : goal.loop-number-preserved
@@ -16,11 +16,11 @@ loop-number-preserved g c =
     elim c.if-has_number.branch [
       | then-has_number+in-Ok w ↦
           rw w.out-is
-          (node-written g.K.Sink.taken g.K.Sink.outside g.K.Sink.roomy c.args.row.now.name.bytes radix.leaves radix.nodes c.loop-number.number c.args.out.now c.loop-number.out w.write_node.new.out true
+          (node-written g.K.Sink.sink c.args.row.now.name.bytes radix.leaves radix.nodes c.loop-number.number c.args.out.now c.loop-number.out w.write_node.new.out true
           (sym w.if-has_number.ensures) c.loop-number.invariant w.in-Ok.ensures)
       | else-has_number w ↦
           rw w.out-is
-          (number-passed g.K.Sink.taken g.K.Sink.outside g.K.Sink.roomy c.args.row.now.name.bytes radix.leaves radix.nodes c.loop-number.number c.args.out.now c.loop-number.out
+          (number-passed g.K.Sink.sink c.args.row.now.name.bytes radix.leaves radix.nodes c.loop-number.number c.args.out.now c.loop-number.out
           (sym w.if-has_number.ensures) c.loop-number.invariant)
     ]
 
@@ -30,4 +30,4 @@ returns g c =
     let small = c.words_read_back.ensures.kept.small in
     let over = c.loop-number-test.false in
     let h : length radix.nodes ≤ c.loop-number.number = omega arith in
-    table-whole g.K.Sink.taken g.K.Sink.outside g.K.Sink.roomy c.args.row.now.name.bytes radix.leaves radix.nodes c.loop-number.number c.args.out.now c.loop-number.out h c.loop-number.invariant
+    table-whole g.K.Sink.sink c.args.row.now.name.bytes radix.leaves radix.nodes c.loop-number.number c.args.out.now c.loop-number.out h c.loop-number.invariant

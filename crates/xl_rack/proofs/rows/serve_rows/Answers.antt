@@ -16,7 +16,7 @@ returns-in-Err g c =
     let size = c.len-i-end.ensures in
     let within = c.loop-i-test.true in
     let h : c.loop-i.i < length c.args.rack.now = omega arith in
-    row-lost g.K.Sink.taken g.K.Sink.outside g.K.Sink.roomy c.args.answers c.args.item c.args.areas.now c.loop-i.i c.args.rack.now c.loop-i.rack c.serve_item.new.rack
+    row-lost g.K.Sink.sink c.args.answers c.args.item c.args.areas.now c.loop-i.i c.args.rack.now c.loop-i.rack c.serve_item.new.rack
     c.args.out.now c.loop-i.out c.serve_item.new.out h c.requires c.loop-i.invariant c.in-Err.ensures
 
 pub loop-i-preserved : goal.loop-i-preserved
@@ -24,7 +24,7 @@ loop-i-preserved g c =
     let size = c.len-i-end.ensures in
     let within = c.loop-i-test.true in
     let h : c.loop-i.i < length c.args.rack.now = omega arith in
-    one-more g.K.Sink.taken g.K.Sink.outside g.K.Sink.roomy c.args.answers c.args.item c.args.areas.now c.loop-i.i c.args.rack.now c.loop-i.rack c.serve_item.new.rack
+    one-more g.K.Sink.sink c.args.answers c.args.item c.args.areas.now c.loop-i.i c.args.rack.now c.loop-i.rack c.serve_item.new.rack
     c.args.out.now c.loop-i.out c.serve_item.new.out h c.loop-i.invariant c.in-Ok.ensures
 
 pub returns : goal.returns
@@ -32,5 +32,5 @@ returns g c =
     let size = c.len-i-end.ensures in
     let over = c.loop-i-test.false in
     let h : length c.args.rack.now ≤ c.loop-i.i = omega arith in
-    all-served g.K.Sink.taken g.K.Sink.outside g.K.Sink.roomy c.args.answers c.args.item c.args.areas.now c.loop-i.i c.args.rack.now c.loop-i.rack c.args.out.now c.loop-i.out
+    all-served g.K.Sink.sink c.args.answers c.args.item c.args.areas.now c.loop-i.i c.args.rack.now c.loop-i.rack c.args.out.now c.loop-i.out
     h c.requires c.loop-i.invariant

@@ -8,8 +8,8 @@ returns-in-Err g c =
     let size = c.len-i-end.ensures in
     let within = c.loop-i-test.true in
     let h : c.loop-i.i < length c.args.rack.now = omega arith in
-    rows-cut g.K.Sink.taken g.K.Sink.outside g.K.Sink.roomy c.args.rack.now (c.loop-i.i + 1) c.args.out.now c.write_row.new.out
-    (row-written g.K.Sink.taken g.K.Sink.outside g.K.Sink.roomy c.args.rack.now c.loop-i.i (row_of c.row.result.now) c.counts.result c.args.out.now c.loop-i.out c.write_row.new.out false
+    rows-cut g.K.Sink.sink c.args.rack.now (c.loop-i.i + 1) c.args.out.now c.write_row.new.out
+    (row-written g.K.Sink.sink c.args.rack.now c.loop-i.i (row_of c.row.result.now) c.counts.result c.args.out.now c.loop-i.out c.write_row.new.out false
     h c.row.ensures c.counts.ensures.counts c.loop-i.invariant c.in-Err.ensures)
 
 pub loop-i-preserved : goal.loop-i-preserved
@@ -17,5 +17,5 @@ loop-i-preserved g c =
     let size = c.len-i-end.ensures in
     let within = c.loop-i-test.true in
     let h : c.loop-i.i < length c.args.rack.now = omega arith in
-    row-written g.K.Sink.taken g.K.Sink.outside g.K.Sink.roomy c.args.rack.now c.loop-i.i (row_of c.row.result.now) c.counts.result c.args.out.now c.loop-i.out c.write_row.new.out true
+    row-written g.K.Sink.sink c.args.rack.now c.loop-i.i (row_of c.row.result.now) c.counts.result c.args.out.now c.loop-i.out c.write_row.new.out true
     h c.row.ensures c.counts.ensures.counts c.loop-i.invariant c.in-Ok.ensures

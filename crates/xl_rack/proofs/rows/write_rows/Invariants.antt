@@ -4,4 +4,4 @@ use Rattle.xl_outside.specs.Sinks.{SinkAfter}
 use Rattle.xl_rack.proofs.rows.write_rows.Given as goal
 
 abbrev pub invariant-loop-i : goal.invariant-loop-i
-invariant-loop-i g l = SinkAfter g.K.Sink.taken g.K.Sink.outside g.K.Sink.roomy (row_lines (take l.i l.rack)) l.fn.out l.out true
+invariant-loop-i g l = SinkAfter g.K.Sink.sink (row_lines (take l.i l.rack)) l.fn.out l.out true

@@ -12,6 +12,6 @@ returns-clause-told g c =
     let text = c.in_ok-text.text in
     let bytes = c.as_slice.result.now in
     let answer = c.commands_of.result in
-    told_one (g.F.Folder.files c.args.folder.now) (λ fs. TellsWhole (file_of fs name) 1048576 (Ok text)) (λ fs. Finds (λ script. script) answer (said_in commands_said (file_of fs name)))
+    told_one (g.F.Folder.folder.files c.args.folder.now) (λ fs. TellsWhole (file_of fs name) 1048576 (Ok text)) (λ fs. Finds (λ script. script) answer (said_in commands_said (file_of fs name)))
     c.in_ok-text.ensures.told
     (λ fs h. finds_text (λ script. script) commands_said 1048576 (file_of fs name) text bytes answer commands_cut h c.as_slice.ensures.value c.commands_of.ensures.said)

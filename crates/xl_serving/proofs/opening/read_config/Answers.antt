@@ -13,6 +13,6 @@ returns-clause-told g c =
     let text = c.in_ok-text.text in
     let bytes = c.as_slice.result.now in
     let answer = c.rows_of.result in
-    told_one (g.F.Folder.files c.args.folder.now) (λ fs. TellsWhole (file_of fs name) 65536 (Ok text)) (λ fs. Finds (λ rows. map row_of rows.items) answer (rows_in name fs))
+    told_one (g.F.Folder.folder.files c.args.folder.now) (λ fs. TellsWhole (file_of fs name) 65536 (Ok text)) (λ fs. Finds (λ rows. map row_of rows.items) answer (rows_in name fs))
     c.in_ok-text.ensures.told
     (λ fs h. finds_text (λ rows. map row_of rows.items) rows_said 65536 (file_of fs name) text bytes answer rows_cut h c.as_slice.ensures.value c.rows_of.ensures.said)

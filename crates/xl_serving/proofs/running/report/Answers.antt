@@ -14,13 +14,13 @@ returns-clause-told g c =
     let opened = g.R.Rows.rows c.open.new.rows in
     let script = c.in_ok-script.script in
     let end = c.report_orders.result in
-    let roomy = g.K.Sink.roomy in
+    let roomy = g.K.Sink.sink.roomy in
     let out = c.args.out.now in
     let new = c.report_orders.new.out in
     let left = g.R.Rows.rows c.report_orders.new.rows in
-    let before = (g.K.Sink.outside out).written in
-    let after = (g.K.Sink.outside new).written in
-    told_then (g.F.Folder.files c.args.folder.now) (g.F.Folder.files c.open.new.folder)
+    let before = (g.K.Sink.sink.outside out).written in
+    let after = (g.K.Sink.sink.outside new).written in
+    told_then (g.F.Folder.folder.files c.args.folder.now) (g.F.Folder.folder.files c.open.new.folder)
     (λ fs. Finds (start_of opened) (Ok script) (plain_start a fs))
     (λ fs. Ends end (account_from a (trail_for a fs) (start_of opened script)) roomy before after out new (left ≡ rows_from (trail_for a fs) (start_of opened script)))
     (λ fs. Ends end (plain_account a fs) roomy before after out new (left ≡ plain_rows a fs))
@@ -34,6 +34,6 @@ returns-in_err-script-clause-told g c =
     let stop = c.in_err-script.field-0.0 in
     let out = c.args.out.now in
     rw (is_err_by c.from_residual.result stop c.from_residual.ensures.1)
-    (told_one (g.F.Folder.files c.args.folder.now) (λ fs. Finds (start_of opened) (Err stop) (plain_start a fs)) _
+    (told_one (g.F.Folder.folder.files c.args.folder.now) (λ fs. Finds (start_of opened) (Err stop) (plain_start a fs)) _
     c.in_err-script.ensures.told
-    (λ fs h. stopped_ends g.K.Sink.roomy (start_of opened) (account_by a (trail_for a fs)) (plain_start a fs) stop (g.K.Sink.outside out).written out _ (λ f. refl) c.in_err-script.ensures.before h))
+    (λ fs h. stopped_ends g.K.Sink.sink.roomy (start_of opened) (account_by a (trail_for a fs)) (plain_start a fs) stop (g.K.Sink.sink.outside out).written out _ (λ f. refl) c.in_err-script.ensures.before h))

@@ -24,12 +24,12 @@ returns-clause-told g c =
     let left = g.R.Rows.rows c.report.new.rack in
     let state = waited bench.waiting (scene_of rows bench.areas) in
     let trail = g.T.Source.left c.args.source.now in
-    let roomy = g.K.Sink.roomy in
+    let roomy = g.K.Sink.sink.roomy in
     let out = c.args.out.now in
     let new = c.report.new.out in
-    let before = (g.K.Sink.outside out).written in
-    let after = (g.K.Sink.outside new).written in
-    told_one (g.F.Folder.files c.args.folder.now)
+    let before = (g.K.Sink.sink.outside out).written in
+    let after = (g.K.Sink.sink.outside new).written in
+    told_one (g.F.Folder.folder.files c.args.folder.now)
     (λ fs. g.T.Source.stands c.args.source.now fs → Ends c.report.result (account plain a.answers (end_text a.json a.image) a.json (course plain (steps_of cs) (trail fs)) state)
     roomy before after out new (left ≡ (states_after plain (course plain (steps_of cs) (trail fs)).items state).rows)) _
     c.report.ensures.told

@@ -1,13 +1,13 @@
-use Rattle.std.proofs.Common.{◌≡◌, ℕ, suc, List, ◌∷◌, map, Option, None, Some, IfSome, IfNone, ap}
+use Rattle.std.proofs.Common.{◌≡◌, ℕ, List, ◌∷◌, map, Option, None, Some, IfSome, IfNone, ap}
 use Rattle.xl_model.specs.declared.address.Order.TheVariants as order
 use Rattle.xl_model.specs.Tlb.{TlbArray}
 use Rattle.xl_tlb.specs.Fronts.{IsFirstHit, IsFirstMiss, FirstHit}
 use Rattle.xl_tlb.specs.Sought.{IsTouched}
-use Rattle.xl_tlb.specs.Tlbs.{spec_of, NoneBelow}
+use Rattle.xl_tlb.specs.Tlbs.{spec_of, ServesAlone}
 use Rattle.xl_tlb.specs.declared.sought.Sought.{Sought}
 use Rattle.xl_tlb.proofs.look.look_first.Goals as goal
 
-hit : (s : Sought) (a new : TlbArray) (rest : List TlbArray) (word : Option ℕ) → IsTouched order.K4 s a word new → NoneBelow (suc a.spec.level) (map spec_of rest)
+hit : (s : Sought) (a new : TlbArray) (rest : List TlbArray) (word : Option ℕ) → IsTouched order.K4 s a word new → ServesAlone a.spec (map spec_of rest)
     → IfSome word (λ w. IsFirstHit s.space s.page w (a ∷ rest) (new ∷ rest))
 hit s a new rest None t alone = tt
 hit s a new rest (Some w) t alone = FirstHit a new rest (record { found = t.found; moved = t.some }) alone

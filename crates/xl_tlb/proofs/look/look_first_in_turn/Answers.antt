@@ -10,10 +10,10 @@ returns-clause-found c =
     let rising : IsRising (map spec_of (c.in-Some.first.now ∷ c.in-Some.rest.now)) = rw c.in-Some.ensures.cases.0 at c.requires.rising in
     rw c.in-Some.ensures.cases.0 (record {
       level = c.in-Some.first.now.spec.level;
-      told = first_told c.in-Some.first.now c.in-Some.rest.now s.space s.page (small_leaf s.space s.page c.in-Some-touch_small.word) c.in-Some-touch_small.ensures.found rising.0;
+      told = first_told c.args.kind c.in-Some.first.now c.in-Some.rest.now s.space s.page (small_leaf s.space s.page c.in-Some-touch_small.word) c.in-Some-touch_small.ensures.found rising.0;
     })
 
 pub returns-clause-arrays : goal.returns-clause-arrays
 returns-clause-arrays c =
     let s = c.args.sought in
-    rw c.in-Some.ensures.cases.0 (first_arrays c.in-Some.first.now c.in-Some.rest.now s.space s.page (small_leaf s.space s.page c.in-Some-touch_small.word) c.touch_small.new.array c.in-Some-touch_small.ensures.found c.in-Some-touch_small.ensures.moved)
+    rw c.in-Some.ensures.cases.0 (first_arrays c.args.kind c.in-Some.first.now c.in-Some.rest.now s.space s.page (small_leaf s.space s.page c.in-Some-touch_small.word) c.touch_small.new.array c.in-Some-touch_small.ensures.found c.in-Some-touch_small.ensures.moved)

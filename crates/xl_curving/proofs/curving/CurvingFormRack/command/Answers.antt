@@ -14,6 +14,6 @@ returns-in-Demand-clause-can g c = rw c.in-Demand.is (λ rest h. can-area c.in-D
 
 pub returns-in_default : goal.returns-in_default
 returns-in_default g c = record {
-  served = rw (events-items c.args.command (no_area c.args.command c.in_default.not-Demand)) (served _ _ _ c.args._answers _ _ _ _ c.events.ensures.served);
+  served = rw (events-items c.args.command (no_area c.args.command c.in_default.not-Demand)) (served _ c.args._answers _ _ _ _ c.events.ensures.served);
   can = λ rest h. can-events c.args.command rest _ _ c.events.ensures.areas h;
 }

@@ -7,7 +7,7 @@ use Rattle.xl_machine.proofs.machine.Machine.access_apart.Goals as goal
 pub returns-then-is_bare : goal.returns-then-is_bare
 returns-then-is_bare g c =
     let paged : HasPage (row_of c.self.inside.row) c.args.va c.page_of-page.result = has_page (row_of c.self.inside.row) c.self.invariant.span_is c.canonical.ensures c.if-canonical.true c.page_of-page.ensures in
-    let nowhere = c.is_bare.ensures.looked c.if-is_bare.true c.self.inside.space c.page_of-page.result in
+    let nowhere = c.is_bare.ensures.looked c.if-is_bare.true c.args.kind c.self.inside.space c.page_of-page.result in
     let walked = c.access_walk_in_turn.ensures in
     record {
       reply_is = walked.reply_is;

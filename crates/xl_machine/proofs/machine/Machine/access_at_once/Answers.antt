@@ -14,7 +14,7 @@ invariant_of-self g c = record { served = same_kept c.in_default.ensures.none c.
 pub returns-in_default-clause-not : goal.returns-in_default-clause-not
 returns-in_default-clause-not g c = λ off.
     let paged : HasPage (row_of c.self.inside.row) c.args.va c.page_of-page.result = has_page (row_of c.self.inside.row) c.self.invariant.span_is c.canonical.ensures c.if-not-canonical.false c.page_of-page.ensures in
-    rw (← c.self.view_is) (same_access_left c.in_default.ensures.none c.self.invariant.served paged c.args.kind c.self.inside.counts (c.is_bare.ensures.looked c.if-not-is_bare.false c.self.inside.space c.page_of-page.result))
+    rw (← c.self.view_is) (same_access_left c.in_default.ensures.none c.self.invariant.served paged c.args.kind c.self.inside.counts (c.is_bare.ensures.looked c.if-not-is_bare.false c.args.kind c.self.inside.space c.page_of-page.result))
 
 pub count_small-requires : goal.count_small-requires
 count_small-requires g c =
@@ -27,7 +27,7 @@ invariant_of-self-2 g c = record { served = rw c.in-Some.ensures.some.walks.afte
 pub returns-clause-done : goal.returns-clause-done
 returns-clause-done g c = λ on.
     let paged : HasPage (row_of c.self.inside.row) c.args.va c.page_of-page.result = has_page (row_of c.self.inside.row) c.self.invariant.span_is c.canonical.ensures c.if-not-canonical.false c.page_of-page.ensures in
-    let nowhere = c.is_bare.ensures.looked c.if-not-is_bare.false c.self.inside.space c.page_of-page.result in
-    let filled = c.is_bare.ensures.filled c.if-not-is_bare.false (small_leaf c.self.inside.space c.page_of-page.result c.in-Some.word) in
+    let nowhere = c.is_bare.ensures.looked c.if-not-is_bare.false c.args.kind c.self.inside.space c.page_of-page.result in
+    let filled = c.is_bare.ensures.filled c.if-not-is_bare.false c.args.kind (small_leaf c.self.inside.space c.page_of-page.result c.in-Some.word) in
     rw (c.count_small.ensures.counts, ← c.self.view_is)
     (small_framed c.self.invariant.served c.page_of-page.result paged c.args.kind c.self.inside.counts c.in-Some.word _ nowhere filled c.in-Some.ensures.some.walks c.in-Some.ensures.some.allowed)

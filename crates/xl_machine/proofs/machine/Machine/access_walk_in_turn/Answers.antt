@@ -15,7 +15,7 @@ reply_of-reply-requires g c = walked_reached c.self.invariant.served c.args.page
 pub invariant_of-self-in-Some : goal.invariant_of-self-in-Some
 invariant_of-self-in-Some g c =
     record {
-      served = rw (c.fill.ensures, c.in-Any.ensures.walks.after) (walked_kept c.self.invariant.served c.args.page c.in-Some.leaf (sym c.in-Some.is ∙ told_leaf c.in-Any.ensures.walks));
+      served = rw (c.fill.ensures, c.in-Any.ensures.walks.after) (walked_kept c.self.invariant.served c.args.page c.args.kind c.in-Some.leaf (sym c.in-Some.is ∙ told_leaf c.in-Any.ensures.walks));
       span_is = c.self.invariant.span_is;
     }
 
@@ -41,7 +41,7 @@ reply-requires g c = (small_replied c.self.invariant.served c.args.page (told_le
 pub invariant_of-self : goal.invariant_of-self
 invariant_of-self g c =
     record {
-      served = rw (c.fill_small.ensures, c.in-Small.ensures.walks.after) (walked_kept c.self.invariant.served c.args.page (small_leaf c.self.inside.space c.args.page c.in-Small.word) (told_leaf c.in-Small.ensures.walks));
+      served = rw (c.fill_small.ensures, c.in-Small.ensures.walks.after) (walked_kept c.self.invariant.served c.args.page c.args.kind (small_leaf c.self.inside.space c.args.page c.in-Small.word) (told_leaf c.in-Small.ensures.walks));
       span_is = c.self.invariant.span_is;
     }
 

@@ -25,7 +25,7 @@ count_small-requires g c =
 pub invariant_of-self-2 : goal.invariant_of-self-2
 invariant_of-self-2 g c =
     record {
-      served = rw (c.fill_small.ensures, c.in_ok-word.ensures.some.walks.after) (walked_kept c.self.invariant.served c.args.page (small_leaf c.self.inside.space c.args.page c.in_ok-word.word) (told_leaf c.in_ok-word.ensures.some.walks));
+      served = rw (c.fill_small.ensures, c.in_ok-word.ensures.some.walks.after) (walked_kept c.self.invariant.served c.args.page c.args.kind (small_leaf c.self.inside.space c.args.page c.in_ok-word.word) (told_leaf c.in_ok-word.ensures.some.walks));
       span_is = c.self.invariant.span_is;
     }
 

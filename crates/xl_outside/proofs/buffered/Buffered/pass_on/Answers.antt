@@ -23,15 +23,15 @@ loop-self-preserved g c =
     let size : length c.drop_front.new.held.items ≡ length held - count = ap (λ xs. length xs) gone ∙ length-drop count held in
     let all : length c.as_slice.result.now ≡ length held = ap (λ xs. length xs) shown in
     record {
-      kept = ap (with_more (g.K.Sink.taken c.put.new.self)) gone
-          ∙ moved_on (g.K.Sink.taken c.loop-self.self.to) (g.K.Sink.taken c.put.new.self) held count (put.took ∙ ap (λ xs. with_more (g.K.Sink.taken c.loop-self.self.to) (take count xs)) shown)
+      kept = ap (with_more (g.K.Sink.sink.taken c.put.new.self)) gone
+          ∙ moved_on (g.K.Sink.sink.taken c.loop-self.self.to) (g.K.Sink.sink.taken c.put.new.self) held count (put.took ∙ ap (λ xs. with_more (g.K.Sink.sink.taken c.loop-self.self.to) (take count xs)) shown)
           ∙ inv.kept;
       goes_on = goes_then true _ _ _ inv.goes_on (put_goes _ _ put.stays (put.counts.1 (inl (omega (arith, some)))));
       calm = λ room h.
           let fits : length c.as_slice.result.now ≤ length held + room = omega (arith, all) in
           let left = put.calm (length held + room) (inv.calm room h) fits in
           let e : (length held + room) - count ≡ length c.drop_front.new.held.items + room = omega (arith, size, most) in
-          subst (g.K.Sink.roomy c.put.new.self) e left.1;
+          subst (g.K.Sink.sink.roomy c.put.new.self) e left.1;
     }
 
 pub returns-in-Err-clause-goes_on : goal.returns-in-Err-clause-goes_on

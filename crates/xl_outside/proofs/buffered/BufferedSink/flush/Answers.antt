@@ -18,5 +18,5 @@ returns g c =
       calm = λ room h.
           let left = flushed.calm room (passed.calm room h).1 in
           let e : room ≡ length held + room = omega (arith, size) in
-          (left.0, subst (g.K.Sink.roomy c.flush.new.self) e left.1);
+          (left.0, subst (g.K.Sink.sink.roomy c.flush.new.self) e left.1);
     }

@@ -9,7 +9,7 @@ pub events-requires : goal.events-requires
 events-requires g c = placed c.args.command c.requires.0 c.requires.1.1
 
 pub returns-in-Demand-clause-served : goal.returns-in-Demand-clause-served
-returns-in-Demand-clause-served g c = rw c.in-Demand.is (declared _ _ _ c.args.answers c.in-Demand.area _ _ _ c.declare.ensures.state)
+returns-in-Demand-clause-served g c = rw c.in-Demand.is (declared _ c.args.answers c.in-Demand.area _ _ _ c.declare.ensures.state)
 
 pub returns-in-Demand-clause-can : goal.returns-in-Demand-clause-can
 returns-in-Demand-clause-can g c = rw c.in-Demand.is (λ rest h. can-area c.in-Demand.area rest _ _ c.declare.ensures.areas h)

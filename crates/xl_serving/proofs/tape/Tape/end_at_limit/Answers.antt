@@ -12,7 +12,7 @@ pub returns-then-more-clause-told : goal.returns-then-more-clause-told
 returns-then-more-clause-told g c =
     let p = c.args.self.now in
     let name = c.args.name.now in
-    told_one (g.F.Folder.files c.args.folder.now) (λ fs. HasMore (file_of fs name) limit c.in_ok-more.more)
+    told_one (g.F.Folder.folder.files c.args.folder.now) (λ fs. HasMore (file_of fs name) limit c.in_ok-more.more)
     (λ fs. IsFedFrom (file_of fs name) p → EndsBy (why.Input TraceTooLong) (left_of (file_of fs name) p))
     c.in_ok-more.ensures.told
     (λ fs h w. too_long (file_of fs name) p c.in_ok-more.more h c.if-more.true c.requires.limit c.requires.none)

@@ -7,8 +7,8 @@ use Rattle.xl_serving.proofs.tape.Tape.next.Given as goal
 
 abbrev pub invariant-pieces : goal.invariant-pieces
 invariant-pieces g l = record {
-  still : IfSome (g.F.Folder.files l.fn.folder) (λ fs. IsFedFrom (file_of fs l.name) l.fn.self → Still (file_of fs l.name) l.fn.self l.self);
-  folder : FolderAfter g.F.Folder.files g.F.Folder.faults g.F.Folder.absences g.F.Folder.steady l.fn.folder l.folder Fine;
+  still : IfSome (g.F.Folder.folder.files l.fn.folder) (λ fs. IsFedFrom (file_of fs l.name) l.fn.self → Still (file_of fs l.name) l.fn.self l.self);
+  folder : FolderAfter g.F.Folder.folder l.fn.folder l.folder Fine;
   no_more : size_of l.self ≤ size_of l.fn.self;
 }
 

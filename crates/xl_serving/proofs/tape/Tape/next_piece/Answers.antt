@@ -12,7 +12,7 @@ returns-then-count-eq0-clause-told g c =
     let name = c.args.name.now in
     let n = c.in_ok-count.count in
     let fed = c.in_ok-count.ensures in
-    told_one (g.F.Folder.files c.args.folder.now) (λ fs. FeedsOf (file_of fs name) old.at n old.reader mid.reader)
+    told_one (g.F.Folder.folder.files c.args.folder.now) (λ fs. FeedsOf (file_of fs name) old.at n old.reader mid.reader)
     (λ fs. IsFedFrom (file_of fs name) old → Fills (file_of fs name) old new) fed.told
     (λ fs k h. fills_to_end (file_of fs name) n old mid new h k fed.at.0 fed.at.1 fed.most fed.unfinished c.if-count-eq0.true c.finish.ensures)
 
@@ -23,6 +23,6 @@ returns-else-count-eq0-clause-told g c =
     let name = c.args.name.now in
     let n = c.in_ok-count.count in
     let fed = c.in_ok-count.ensures in
-    told_one (g.F.Folder.files c.args.folder.now) (λ fs. FeedsOf (file_of fs name) old.at n old.reader new.reader)
+    told_one (g.F.Folder.folder.files c.args.folder.now) (λ fs. FeedsOf (file_of fs name) old.at n old.reader new.reader)
     (λ fs. IsFedFrom (file_of fs name) old → Fills (file_of fs name) old new) fed.told
     (λ fs k h. fills_on (file_of fs name) n old new h k fed.at.0 fed.at.1 fed.most fed.unfinished)

@@ -1,4 +1,5 @@
 use Rattle.std.proofs.Common.{◌≡◌, ◌++◌, List, length, take, drop, Option, None, Some, sym, ◌∙◌, ap, arith}
+use Rattle.xl_model.specs.declared.address.Kind.{Kind}
 use Rattle.xl_model.specs.Base.{plus}
 use Rattle.xl_model.specs.Tlb.{Answer, TlbArray, answer_of}
 use Rattle.xl_tlb.specs.Answers.{IsFirstTold}
@@ -6,9 +7,9 @@ use Rattle.xl_tlb.specs.Tlbs.{Told, leaf_told, told}
 use Rattle.xl_tlb.proofs.TlbLemmas.{written, look_kept, look_after}
 use Rattle.xl_tlb.proofs.levels.Levels.hit_in_turn.Goals as goal
 
-leaf_of_told : (o : Option Answer) (arrays : List TlbArray) (f : Told) → Some f ≡ told o arrays → Some f.leaf ≡ leaf_told o
-leaf_of_told None arrays f e = cc
-leaf_of_told (Some x) arrays f e = cc
+leaf_of_told : (kind : Kind) (o : Option Answer) (arrays : List TlbArray) (f : Told) → Some f ≡ told kind o arrays → Some f.leaf ≡ leaf_told o
+leaf_of_told kind None arrays f e = cc
+leaf_of_told kind (Some x) arrays f e = cc
 
 pub invariant_of-self-2 : goal.invariant_of-self-2
 invariant_of-self-2 c =
@@ -16,7 +17,7 @@ invariant_of-self-2 c =
     let new = c.look_first_in_turn.new.arrays in
     let back : take t.arrays.len (new ++ drop (length new) t.arrays.items) ≡ new =
     written t.arrays.len new t.arrays.items (c.look_first_in_turn.auto.arrays ∙ ap length c.deref_mut.ensures.value) (sym c.deref_mut.ensures.len ∙ ap length c.deref_mut.ensures.value) in
-    rw back (look_kept t.arrays.items new t.hits c.look_first_in_turn.new.hits t.misses c.look_first_in_turn.new.misses t.fills t.fills c.self.invariant
+    rw back (look_kept t.arrays.items new t.hits c.look_first_in_turn.new.hits t.misses c.look_first_in_turn.new.misses t.fills t.fills c.self.invariant c.args.kind
     c.args.sought.space c.args.sought.page (rw c.deref_mut.ensures.value at c.in-Some.ensures.arrays))
 
 pub returns-clause-some : goal.returns-clause-some
@@ -26,12 +27,12 @@ returns-clause-some c =
     let l = c.look_first_in_turn.new in
     let back : take t.arrays.len (l.arrays ++ drop (length l.arrays) t.arrays.items) ≡ l.arrays =
     written t.arrays.len l.arrays t.arrays.items (c.look_first_in_turn.auto.arrays ∙ ap length c.deref_mut.ensures.value) (sym c.deref_mut.ensures.len ∙ ap length c.deref_mut.ensures.value) in
-    let is : IsFirstTold s.space s.page c.in-Some.word t.arrays.items = rw c.deref_mut.ensures.value at c.in-Some.ensures.found in
+    let is : IsFirstTold c.args.kind s.space s.page c.in-Some.word t.arrays.items = rw c.deref_mut.ensures.value at c.in-Some.ensures.found in
     let small = c.self.ranges.1.1.1.0.1 in
     let same : plus t.fills 0 ≡ t.fills = omega (arith, small) in
-    let looked = look_after t.arrays.items l.arrays t.hits t.misses l.hits l.misses t.fills s.space s.page
+    let looked = look_after c.args.kind t.arrays.items l.arrays t.hits t.misses l.hits l.misses t.fills s.space s.page
     (rw c.deref_mut.ensures.value at c.in-Some.ensures.arrays) (rw c.deref_mut.ensures.value at c.in-Some.ensures.hits) (rw c.deref_mut.ensures.value at c.in-Some.ensures.misses) _ is.told in
     rw (back, ← c.self.view_is) (record {
-      found = leaf_of_told (answer_of t.arrays.items s.space s.page) t.arrays.items _ is.told;
+      found = leaf_of_told c.args.kind (answer_of c.args.kind t.arrays.items s.space s.page) t.arrays.items _ is.told;
       after = rw same at looked;
     })

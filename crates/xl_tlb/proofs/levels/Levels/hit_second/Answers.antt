@@ -11,8 +11,8 @@ invariant_of-self g c =
     let hit : IsSecondHit c.args.sought.space c.args.sought.page c.in-Word.word t.arrays.items new = rw c.deref_mut.ensures.value at c.in-Word.ensures in
     let back : take t.arrays.len (new ++ drop (length new) t.arrays.items) ≡ new =
     written t.arrays.len new t.arrays.items (c.look_second.auto.arrays ∙ ap length c.deref_mut.ensures.value) (sym c.deref_mut.ensures.len ∙ ap length c.deref_mut.ensures.value) in
-    rw back (look_kept t.arrays.items new t.hits _ t.misses _ t.fills _ c.self.invariant c.args.sought.space c.args.sought.page
-    (second_looked c.args.sought.space c.args.sought.page c.in-Word.word t.arrays.items new hit))
+    rw back (look_kept t.arrays.items new t.hits _ t.misses _ t.fills _ c.self.invariant c.args._kind c.args.sought.space c.args.sought.page
+    (second_looked c.args._kind c.args.sought.space c.args.sought.page c.in-Word.word t.arrays.items new hit))
 
 pub returns-in-Word : goal.returns-in-Word
 returns-in-Word g c =
@@ -22,7 +22,7 @@ returns-in-Word g c =
     let back : take t.arrays.len (new ++ drop (length new) t.arrays.items) ≡ new =
     written t.arrays.len new t.arrays.items (c.look_second.auto.arrays ∙ ap length c.deref_mut.ensures.value) (sym c.deref_mut.ensures.len ∙ ap length c.deref_mut.ensures.value) in
     rw (back, ← c.self.view_is) (record {
-      found = second_told c.args.sought.space c.args.sought.page c.in-Word.word t.arrays.items new hit;
-      after = second_after c.args.sought.space c.args.sought.page c.in-Word.word t.arrays.items new t.hits t.misses t.fills hit;
-      front = second_front c.args.sought.space c.args.sought.page c.in-Word.word t.arrays.items new hit;
+      found = second_told c.args._kind c.args.sought.space c.args.sought.page c.in-Word.word t.arrays.items new hit;
+      after = second_after c.args._kind c.args.sought.space c.args.sought.page c.in-Word.word t.arrays.items new t.hits t.misses t.fills hit;
+      front = second_front c.args._kind c.args.sought.space c.args.sought.page c.in-Word.word t.arrays.items new hit;
     })

@@ -12,7 +12,7 @@ returns-then-count_behind-eq2 g c =
     let count = c.count_behind.ensures in
     let value = c.deref.ensures.value in
     let two : length t.arrays.items ≡ 2 = grind (arith, nat_tests) in
-    rw (← c.self.view_is) (missed_after c.args._space c.args._page t.arrays.items t.hits t.misses _ t.fills missed (miss_two c.args._space c.args._page t.arrays.items t.misses missed two))
+    rw (← c.self.view_is) (missed_after c.args._kind c.args._space c.args._page t.arrays.items t.hits t.misses _ t.fills missed (miss_two c.args._kind c.args._space c.args._page t.arrays.items t.misses missed two))
 
 pub returns-else-count_behind-eq2 : goal.returns-else-count_behind-eq2
 returns-else-count_behind-eq2 g c =
@@ -20,5 +20,5 @@ returns-else-count_behind-eq2 g c =
     let missed : AreMissed c.args._space c.args._page t.arrays.items = rw (← c.self.view_is) at c.requires.missed in
     let isnt = c.if-count_behind-eq2.false in
     let count = rw c.deref.ensures.value at c.count_behind.ensures in
-    rw (← c.self.view_is) (missed_after c.args._space c.args._page t.arrays.items t.hits t.misses _ t.fills missed
-    (miss_one c.args._space c.args._page t.arrays.items t.misses missed (λ two. absurd (grind (arith, nat_tests)))))
+    rw (← c.self.view_is) (missed_after c.args._kind c.args._space c.args._page t.arrays.items t.hits t.misses _ t.fills missed
+    (miss_one c.args._kind c.args._space c.args._page t.arrays.items t.misses missed (λ two. absurd (grind (arith, nat_tests)))))

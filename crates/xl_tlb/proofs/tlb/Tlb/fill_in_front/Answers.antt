@@ -1,5 +1,7 @@
-use Rattle.std.proofs.Common.{true, ◌≡◌, ◌%◌}
+use Rattle.std.proofs.Common.{true, ◌≡◌, ◌%◌, ◌∙◌}
+use Rattle.xl_model.specs.declared.address.Kind.TheVariants as kind
 use Rattle.xl_tlb.specs.Fronts.{FrontsStay}
+use Rattle.xl_tlb.proofs.KindLemmas.{same_filled}
 use Rattle.xl_tlb.proofs.StayLemmas.{small_fill_stays}
 use Rattle.xl_tlb.proofs.tlb.Tlb.fill_in_front.Goals as goal
 
@@ -9,5 +11,11 @@ invariant_of-self g c =
     let new = c.fill_small.new.self in
     let s = c.of-sought.result in
     let stay : c.has_eights-eights.result ≡ true → FrontsStay (s.page % 8) old.arrays new.arrays = λ t.
-    rw c.fill_small.ensures.after (small_fill_stays s.space s.page c.args.word old (c.has_eights-eights.ensures t)) in
+    rw c.fill_small.ensures.after (small_fill_stays kind.Load s.space s.page c.args.word old (c.has_eights-eights.ensures t)) in
     c.renew.ensures old.arrays new.arrays c.self.invariant stay c.fill_small.ensures.front
+
+pub returns : goal.returns
+returns g c =
+    let s = c.of-sought.ensures in
+    rw (← c.self.view_is) (rw (s.space, s.page) at c.fill_small.ensures.after
+    ∙ same_filled kind.Load c.args._kind _ c.self.inside.levels (rw (← c.self.view_is) at c.requires.ready.all))

@@ -10,12 +10,12 @@ invariant_of-self g c =
     let new = c.hit_first.new.self in
     let is = c.in-Some.ensures.some in
     let stay : c.has_eights-eights.result ≡ true → FrontsStay (c.args.page % 8) old.arrays new.arrays = λ t.
-    rw is.after (small_stays c.args.space c.args.page c.in-Some.word old is.found (c.has_eights-eights.ensures t)) in
+    rw is.after (small_stays c.args._kind c.args.space c.args.page c.in-Some.word old is.found (c.has_eights-eights.ensures t)) in
     c.renew.ensures old.arrays new.arrays c.self.invariant stay is.front
 
 pub returns-in-Some : goal.returns-in-Some
 returns-in-Some g c =
-    rw (← c.self.view_is) (small_word c.args.space c.args.page c.in-Some.word c.self.inside.levels c.hit_first.new.self c.in-Some.ensures.some)
+    rw (← c.self.view_is) (small_word c.args._kind c.args.space c.args.page c.in-Some.word c.self.inside.levels c.hit_first.new.self c.in-Some.ensures.some)
 
 pub search_second-requires-clause-missed : goal.search_second-requires-clause-missed
 search_second-requires-clause-missed g c =

@@ -11,7 +11,7 @@ invariant_of-self g c =
     let hit = c.in-Some.hit in
     let is = c.in-Some.ensures.some in
     let stay : c.has_eights-eights.result ≡ true → FrontsStay (c.block_of.result % 8) old.arrays new.arrays = λ t.
-    rw (c.block_of.ensures, is.after) (look_stays c.args.space c.args.page hit.word hit.order old is.found (c.has_eights-eights.ensures t)) in
+    rw (c.block_of.ensures, is.after) (look_stays c.args._kind c.args.space c.args.page hit.word hit.order old is.found (c.has_eights-eights.ensures t)) in
     c.forget_block.ensures old.arrays new.arrays c.self.invariant stay
 
 pub returns-in-Some : goal.returns-in-Some

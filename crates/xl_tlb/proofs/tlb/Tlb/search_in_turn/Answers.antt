@@ -11,7 +11,7 @@ invariant_of-self c =
     let new = c.hit_in_turn.new.self in
     let is = c.in-Some.ensures.some in
     let stay : c.has_eights-eights.result ≡ true → FrontsStay (c.args.sought.page % 8) old.arrays new.arrays = λ t.
-    rw is.after (small_stays c.args.sought.space c.args.sought.page c.in-Some.word old is.found (c.has_eights-eights.ensures t)) in
+    rw is.after (small_stays c.args.kind c.args.sought.space c.args.sought.page c.in-Some.word old is.found (c.has_eights-eights.ensures t)) in
     c.forget_block.ensures old.arrays new.arrays c.self.invariant stay
 
 pub returns-in-Some : goal.returns-in-Some

@@ -1,8 +1,0 @@
-use Rattle.std.proofs.Common.{◌≡◌, drop}
-use Rattle.xl_curve.specs.Places.{further, gap, leaf_in, places_of}
-use Rattle.xl_curve_model.specs.Curves.{same_leaf}
-use Rattle.xl_curve.proofs.kernel.first_gap.Given as goal
-
-abbrev pub invariant-loop-at : goal.invariant-loop-at
-invariant-loop-at l =
-    gap (same_leaf (leaf_in l.leaf)) (places_of l.places) ≡ further l.at (gap (same_leaf (leaf_in l.leaf)) (drop l.at (places_of l.places)))

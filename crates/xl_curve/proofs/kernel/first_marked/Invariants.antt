@@ -1,0 +1,9 @@
+use Rattle.std.proofs.Common.{ℕ, ◌<◌, ◌≤◌, get_or}
+use Rattle.xl_curve.specs.Places.{IsOther}
+use Rattle.xl_curve.proofs.kernel.first_marked.Given as goal
+
+abbrev pub invariant-loop-at : goal.invariant-loop-at
+invariant-loop-at l = record {
+  passed : (k : ℕ) → k < l.at → k < l.first → IsOther l.mark (get_or l.marks k 0);
+  within : l.first ≤ 64;
+}
