@@ -18,7 +18,7 @@ use Rattle.xl_recency.specs.declared.item.Item.{Item}
 use Rattle.xl_nested.specs.Coding.{block_leaf, has_tag, is_among, leaf_of, tag_of, AreSmall, IsKeepable, IsPageWord}
 use Rattle.xl_nested.specs.Commands.{IsPlace}
 use Rattle.xl_nested.specs.declared.block.Block.{Block}
-use Rattle.xl_nested.specs.Fronts.{has_page, word_at, IsBlockOf, IsFoundBlock}
+use Rattle.xl_nested.specs.Fronts.{IsBlockOf, IsFoundBlock}
 use Rattle.xl_model_lemmas.proofs.OrderLemmas.{pages-some}
 
 both : (a b : Bool) → (a ≡ true → b ≡ true) → (b ≡ true → a ≡ true) → a ≡ b
