@@ -1,5 +1,5 @@
 -- What an item of the G cache says: one block of guest pages and one order, a frame and a permission.
-use Rattle.std.proofs.Common.{◌≡◌, refl, sym, ap, ◌∙◌, subst, ℕ, zero, suc, ◌+◌, ◌-◌, ◌*◌, ◌/◌, ◌%◌, ◌^◌, ◌<◌, ◌==◌, nat_le, nat_lt, Bool, true, false, ◌&&◌, ◌||◌, List, [], map, find, None, Some, inl, inr, arith}
+use Rattle.std.proofs.Common.{◌≡◌, refl, sym, ap, ◌∙◌, subst, ℕ, zero, suc, ◌+◌, ◌-◌, ◌*◌, ◌/◌, ◌%◌, ◌^◌, ◌<◌, ◌≤◌, ◌==◌, nat_le, nat_lt, Bool, true, false, ◌&&◌, ◌||◌, List, [], map, find, Option, None, Some, inl, inr, arith}
 use Rattle.std.proofs.lemmas.Bool.Decides.{nat_tests}
 use Rattle.xl_model.specs.declared.address.Order.{Order}
 use Rattle.xl_model.specs.declared.address.Order.TheVariants as order
@@ -17,6 +17,9 @@ use Rattle.xl_nested_model.specs.Stages.{covers_guest, host_page, host_space}
 use Rattle.xl_recency.specs.declared.item.Item.{Item}
 use Rattle.xl_nested.specs.Coding.{block_leaf, has_tag, is_among, leaf_of, tag_of, AreSmall, IsKeepable, IsPageWord}
 use Rattle.xl_nested.specs.Commands.{IsPlace}
+use Rattle.xl_nested.specs.declared.block.Block.{Block}
+use Rattle.xl_nested.specs.Fronts.{IsBlockOf, IsFoundBlock}
+use Rattle.xl_model_lemmas.proofs.OrderLemmas.{pages-some}
 
 both : (a b : Bool) → (a ≡ true → b ≡ true) → (b ≡ true → a ≡ true) → a ≡ b
 both true b f g = sym (f refl)
@@ -153,6 +156,50 @@ page-says i g behind result covers is e =
       perm = ap (λ (n : ℕ). perm_at n) e ∙ same-perm i.word behind;
     }
 
+-- the block of an item's leaf begins at a multiple of its size
+block-has : (o : Order) (block g h first : ℕ) → block ≡ g / pages_of o → first ≡ g - g % pages_of o → (block == h / pages_of o) ≡ (nat_le first h && nat_lt (h - first) (pages_of o))
+block-has order.K4 block g h first b f = let m : first ≡ block * 1 = omega arith in both _ _ (λ e. grind (arith, nat_tests)) (λ e. grind (arith, nat_tests))
+block-has order.M2 block g h first b f = let m : first ≡ block * 512 = omega arith in both _ _ (λ e. grind (arith, nat_tests)) (λ e. grind (arith, nat_tests))
+block-has order.G1 block g h first b f = let m : first ≡ block * 262144 = omega arith in both _ _ (λ e. grind (arith, nat_tests)) (λ e. grind (arith, nat_tests))
+
+block-behind : (o : Order) (block g h first : ℕ) → block ≡ g / pages_of o → first ≡ g - g % pages_of o → (nat_le first h && nat_lt (h - first) (pages_of o)) ≡ true → h - first ≡ h % pages_of o
+block-behind order.K4 block g h first b f e = let m : first ≡ block * 1 = omega arith in grind (arith, nat_tests)
+block-behind order.M2 block g h first b f e = let m : first ≡ block * 512 = omega arith in grind (arith, nat_tests)
+block-behind order.G1 block g h first b f e = let m : first ≡ block * 262144 = omega arith in grind (arith, nat_tests)
+
+number-of : (o : Order) (block g : ℕ) → (block == g / pages_of o) ≡ true → block ≡ g / pages_of o
+number-of order.K4 block g e = grind (arith, nat_tests)
+number-of order.M2 block g e = grind (arith, nat_tests)
+number-of order.G1 block g e = grind (arith, nat_tests)
+
+pub item-block : (i : Item) (g first pages : ℕ) → covers_guest g (leaf_of i) ≡ true → first ≡ g - g % pages_of (order_at (i.tag % 3)) → pages ≡ pages_of (order_at (i.tag % 3))
+    → IsBlockOf (record { first = first; pages = pages; word = i.word }) (leaf_of i)
+unfolding leaf_of
+item-block i g first pages covers f p =
+    let n : i.tag / 3 ≡ g / pages_of (order_at (i.tag % 3)) = number-of (order_at (i.tag % 3)) (i.tag / 3) g (block-covers (order_at (i.tag % 3)) (i.tag / 3) g ∙ covers) in
+    let P : ℕ → Type 0 = λ k. IsBlockOf (record { first = first; pages = k; word = i.word }) (block_leaf (order_at (i.tag % 3)) (i.tag / 3) i.word) in
+    subst P (sym p) (record {
+      some = pages-some (order_at (i.tag % 3));
+      covers = λ h. sym (block-covers (order_at (i.tag % 3)) (i.tag / 3) h) ∙ block-has (order_at (i.tag % 3)) (i.tag / 3) g h first n f;
+      says = λ h has. page-says i h (h - first) _ (sym (block-covers (order_at (i.tag % 3)) (i.tag / 3) h) ∙ block-has (order_at (i.tag % 3)) (i.tag / 3) g h first n f ∙ has)
+          (block-behind (order_at (i.tag % 3)) (i.tag / 3) g h first n f has) refl;
+    })
+
+pub few-pages : (o : Order) → pages_of o ≤ 2 ^ 18
+few-pages order.K4 = omega arith
+few-pages order.M2 = omega arith
+few-pages order.G1 = omega arith
+
+pub order-known : (o : Order) (i : Item) → i.tag % 3 ≡ level_of o → o ≡ order_at (i.tag % 3)
+order-known o i e = sym (at-level o) ∙ ap order_at (sym e)
+
+-- a block is found by its leaf
+pub block-found : (b : Block) (x : Leaf) (o : Option Leaf) → Some x ≡ o → IsBlockOf b x → IsFoundBlock (Some b) o
+block-found b x o e is = subst (λ (y : Option Leaf). IsFoundBlock (Some b) y) e is
+
+pub no-block : (o : Option Leaf) → None ≡ o → IsFoundBlock None o
+no-block o e = subst (λ (y : Option Leaf). IsFoundBlock None y) e tt
+
 -- the word of a page, by the leaf
 pub leaf-says : (x : Leaf) (page result : ℕ) → result ≡ (x.frame + (page - x.first)) * 16 + perm_code x.perm → IsPageWord page result x
 leaf-says x page result e = record {
@@ -170,6 +217,9 @@ module _ (g : ℕ) (items : List Item) where
 
   pub found-small : (i : Item) → AreSmall items → Some i ≡ find (is_among (tag_of g order.K4) (tag_of g order.M2) (tag_of g order.G1)) items → i.word < 2 ^ 48
   found-small i all e = all.small i (find-In (is_among (tag_of g order.K4) (tag_of g order.M2) (tag_of g order.G1)) i items (sym e))
+
+  pub found-in : (i : Item) → Some i ≡ find (is_among (tag_of g order.K4) (tag_of g order.M2) (tag_of g order.G1)) items → In i items
+  found-in i e = find-In (is_among (tag_of g order.K4) (tag_of g order.M2) (tag_of g order.G1)) i items (sym e)
 
   pub found-nothing : None ≡ find (is_among (tag_of g order.K4) (tag_of g order.M2) (tag_of g order.G1)) items → find (covers_guest g) (map leaf_of items) ≡ None
   found-nothing e = find-none leaf_of (covers_guest g) (is_among (tag_of g order.K4) (tag_of g order.M2) (tag_of g order.G1)) (λ x. same-page g x) items (sym e)

@@ -10,3 +10,4 @@ mod GuestLemmas
 mod HostLemmas
 mod WalkLemmas
 mod LawLemmas
+mod FrontLemmas

@@ -3,3 +3,4 @@ pub mod Walks
 pub mod Kept
 pub mod Laws
 pub mod Commands
+pub mod Fronts

@@ -1,6 +1,6 @@
 //! The G cache: a recency list of leaves of the host's table.
 
-ghost use Rattle.std.specs.Prelude.{ℕ, ◌≡◌, ◌^◌, ◌<◌, ◌+◌, ◌*◌, ◌/◌, ◌%◌, true, find, IfOk, IfSome};
+ghost use Rattle.std.specs.Prelude.{ℕ, ◌≡◌, ◌^◌, ◌<◌, ◌≤◌, ◌+◌, ◌*◌, ◌/◌, ◌%◌, true, find, IfOk, IfSome};
 ghost use Rattle.xl_model.specs.declared.address.Order.TheVariants as order;
 ghost use Rattle.xl_model.specs.Addresses.{level_of, order_at, pages_of};
 ghost use Rattle.xl_model.specs.Caches.{Cached, empty_cache};
@@ -11,10 +11,13 @@ ghost use Rattle.xl_nested_model.specs.Stages.{covers_guest, host_page, host_spa
 ghost use Rattle.xl_recency.specs.declared.item.Item.{Item};
 ghost use Rattle.xl_recency.specs.Lists.{Fills, Purges, Touches};
 ghost use Rattle.xl_recency.specs.Widths.{IsWidth};
-ghost use Rattle.xl_nested.specs.Coding.{has_tag, is_among, leaf_of, tag_of as number_of, IsFound, IsHeld, IsKeepable, IsPageWord};
+ghost use Rattle.xl_model_lemmas.specs.Members.{In};
+ghost use Rattle.xl_nested.specs.Coding.{has_tag, is_among, leaf_of, tag_of as number_of, IsHeld, IsKeepable};
 ghost use Rattle.xl_nested.specs.Commands.{IsPlace};
+ghost use Rattle.xl_nested.specs.Fronts.{IsBlockOf, IsFoundBlock, IsSmallBlock};
 ghost use Rattle.xl_nested.specs.declared.g_cache.Held.TheVariants as orders;
 
+use crate::block::Block;
 use std::alloc::Global;
 use std::marker::Model;
 use xl_model::{Leaf, NoMemory, Order, perm_code};
@@ -82,7 +85,7 @@ fn order_of(number: u64) -> Order
 #[inline(always)]
 fn pages_before(order: Order, guest_page: u64) -> u64
     ensures value { result ≡ guest_page % pages_of order }
-    ensures few { result < 2 ^ 18 }
+    ensures within { result ≤ guest_page }
 {
     match order {
         Order::K4 => 0,
@@ -91,15 +94,33 @@ fn pages_before(order: Order, guest_page: u64) -> u64
     }
 }
 
-/// The word of a guest page in the leaf of an item.
+/// The block of the leaf of an item, which has the guest page.
 #[inline(always)]
-fn page_word(item: Item, guest_page: u64) -> u64
+fn block_of(item: Item, order: Order, guest_page: u64) -> Block
+    requires page { guest_page < 2 ^ 29 }
     requires small { item.word < 2 ^ 48 }
+    requires order { order ≡ order_at (item.tag % 3) }
     requires covers { covers_guest guest_page (leaf_of item) ≡ true }
-    ensures says { IsPageWord (host_page guest_page) result (leaf_of item) }
-    ensures small { result < 2 ^ 49 }
+    ensures block { IsBlockOf result (leaf_of item) }
+    ensures small { IsSmallBlock result }
 {
-    item.word + pages_before(order_of(item.tag % 3), guest_page) * 16
+    Block {
+        first: guest_page - pages_before(order, guest_page),
+        pages: order.pages(),
+        word: item.word,
+    }
+}
+
+/// The order of the leaf of an item that is in a list. Where all are of one order, it need not be asked.
+#[inline(always)]
+fn order_in(held: Held, item: Item) -> Order
+    ensures { (list : Cached Item) → IsHeld held list → In item list.items →
+        result ≡ order_at (item.tag % 3) }
+{
+    match held {
+        Held::Only(order) => order,
+        _ => order_of(item.tag % 3),
+    }
 }
 
 /// Touches the newest item with one of three tags.
@@ -245,21 +266,20 @@ impl GCache {
         Ok(GCache { held, list })
     }
 
-    /// Touches the newest leaf that covers a guest page, and gives the page's word: its frame times 16,
-    /// and the leaf's permission. None where no leaf covers the page.
+    /// Touches the newest leaf that covers a guest page, and gives the block of the leaf. None where no leaf
+    /// covers the page.
     #[inline(always)]
-    pub fn touch(&mut self, guest_page: u64) -> Option<u64>
+    pub fn touch(&mut self, guest_page: u64) -> Option<Block>
         requires { guest_page < 2 ^ 29 }
-        ensures found { IsFound (host_page guest_page) result
-            (find (covers_guest guest_page) self.old.items) }
+        ensures found { IsFoundBlock result (find (covers_guest guest_page) self.old.items) }
         ensures moved { self.new.items ≡ touched (covers_guest guest_page) self.old.items }
         ensures width { self.new.width ≡ self.old.width }
-        ensures small { IfSome result (λ word. word < 2 ^ 49) }
+        ensures small { IfSome result IsSmallBlock }
     {
         let Some(item) = touch_page(&mut self.list, self.held, guest_page) else {
             return None;
         };
-        Some(page_word(item, guest_page))
+        Some(block_of(item, order_in(self.held, item), guest_page))
     }
 
     /// Fills the list with a leaf.

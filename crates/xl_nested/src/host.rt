@@ -9,7 +9,7 @@ ghost use Rattle.xl_nested.specs.Coding.{IsFound};
 ghost use Rattle.xl_nested.specs.Commands.{IsPlace, IsServed};
 ghost use Rattle.xl_nested.specs.Kept.{stage_of};
 
-use crate::g_cache::GCache;
+use crate::front_cache::FrontCache;
 use crate::leaf::{frame_allowed, word_in};
 use crate::stage::Stage;
 use std::alloc::Global;
@@ -25,7 +25,7 @@ use xl_radix::Radix;
 pub(crate) struct Host {
     stage: Stage,
     frames: Frames,
-    cache: GCache,
+    cache: FrontCache,
     hits: u64,
 }
 
@@ -76,7 +76,7 @@ impl Host {
     {
         let stage = Stage::open(alloc, 4, nodes)?;
         let frames = Frames::open(alloc, frames)?;
-        let cache = GCache::open(alloc, width)?;
+        let cache = FrontCache::open(alloc, width)?;
         Ok(Host {
             stage,
             frames,

@@ -2,7 +2,9 @@
 //! G-stage (RISC-V Privileged manual, hypervisor extension).
 #![tactic(auto)]
 
+mod block;
 mod commands;
+mod front_cache;
 mod g_cache;
 mod guest;
 mod host;

@@ -1,0 +1,14 @@
+use Rattle.std.proofs.Common.{List}
+use Rattle.xl_model.specs.declared.leaf.Leaf.{Leaf}
+use Rattle.xl_model.specs.Recency.{with_newest}
+use Rattle.xl_nested.proofs.FrontLemmas.{changed-seen}
+use Rattle.xl_nested.proofs.front_cache.FrontCache.fill.Goals as goal
+
+pub invariant_of-self : goal.invariant_of-self
+invariant_of-self c = c.forget.ensures.known c.fill.new.self.items
+
+pub returns-clause-filled : goal.returns-clause-filled
+returns-clause-filled c =
+    rw (← c.self.view_is)
+    (changed-seen c.forget.new.fronts.swapped c.fill.new.self.items c.forget.new.cache.items _ (λ (xs : List Leaf). with_newest c.self.inside.cache.width c.args.leaf xs) c.forget.ensures.straight
+    (rw c.forget.ensures.width at c.fill.ensures.filled) c.forget.ensures.items)
