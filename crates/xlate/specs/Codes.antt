@@ -1,7 +1,10 @@
 -- The program's exit codes.
-use Rattle.std.specs.Prelude.{ℕ}
+use Rattle.std.specs.Prelude.{ℕ, ◌≡◌, List, Option}
 use Rattle.xl_course.specs.declared.status.Status.{Status}
 use Rattle.xl_course.specs.declared.status.Status.TheVariants.{Ok, Usage, BadConfig, BadScript, BadTrace, ReadFault, WriteFault, NoMemory, NoFile}
+use Rattle.xl_course.specs.Accounts.{Account, Answers}
+use Rattle.xlate.specs.declared.NoWords.{NoWords}
+use Rattle.xlate.specs.declared.NoWords.TheVariants as without
 
 -- the exit code of a status: each one's own number
 abbrev pub code_of : Status → ℕ
@@ -14,3 +17,14 @@ code_of ReadFault = 5
 code_of WriteFault = 6
 code_of NoMemory = 7
 code_of NoFile = 8
+
+-- the exit code where the system gives no words: for want of memory, or since they are not texts
+abbrev pub code_without : NoWords → ℕ
+code_without without.Memory = 7
+code_without without.Texts = 9
+
+-- The exit code is that of a status which says this of the account and of the output before and after the run.
+pub record EndsWithCode (code : ℕ) (a : Account) (before after : Option (List ℕ)) : Type 0 where
+  pub status : Status
+  pub is : code ≡ code_of status
+  pub answers : Answers status a before after

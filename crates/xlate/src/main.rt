@@ -1,49 +1,87 @@
 //! Runs address-translation designs over a trace of memory accesses.
 #![tactic(auto)]
 
-ghost use Rattle.std.specs.Prelude.{◌≡◌};
-ghost use Rattle.xlate.specs.Codes.{code_of};
+ghost use Rattle.std.specs.Prelude.{◌≡◌, IfErr, IfOk, IfSome, map, string_bytes};
+ghost use Rattle.xl_bench.specs.Accounts.{account_of};
+ghost use Rattle.xl_course.specs.Accounts.{Answers};
+ghost use Rattle.xl_outside.specs.Sinks.{IsFlushed};
+ghost use Rattle.xlate.specs.Codes.{code_of, code_without, EndsWithCode};
 
+use std::alloc::Global;
 use std::env;
 use std::io::ErrorKind;
 use std::process::ExitCode;
 use xl_bench::{Machines, Status, run};
-use xl_outside::{HostErr, HostFolder, HostOut};
+use xl_outside::{Folder, HostErr, HostFolder, HostOut, Sink};
 
-/// The exit code where there is no memory for the words or the machines.
-const NO_MEMORY: u8 = 7;
-
-/// The exit code where the system doesn't give the words as texts.
-const NO_WORDS: u8 = 9;
-
-fn main(rt: HostRuntime) -> ExitCode {
-    ExitCode::from(answer(rt))
+/// Why the system gives no words.
+enum NoWords {
+    /// There is no memory for them.
+    Memory,
+    /// They are not texts.
+    Texts,
 }
 
-/// Runs, and answers the exit code.
-fn answer(rt: HostRuntime) -> u8 {
-    let args = match env::args(&rt) {
-        Ok(args) => args,
-        Err(error) if error.kind() == ErrorKind::OutOfMemory => return NO_MEMORY,
-        Err(_) => return NO_WORDS,
-    };
-    let Ok(words) = args.collect(rt.alloc()) else {
-        return NO_MEMORY;
-    };
-    let Ok(mut machines) = Machines::open(rt.alloc()) else {
-        return NO_MEMORY;
-    };
+fn main(rt: HostRuntime) -> ExitCode {
     let mut folder = HostFolder::open(&rt);
     let mut out = HostOut::open(&rt);
     let mut err = HostErr::open(&rt);
-    code(run(
-        rt.alloc(),
-        &words,
-        &mut folder,
-        &mut out,
-        &mut err,
-        &mut machines,
-    ))
+    ExitCode::from(answer(rt.alloc(), words(&rt), &mut folder, &mut out, &mut err))
+}
+
+/// The program's name and the words behind it.
+fn words(rt: &HostRuntime) -> Result<Vec<String>, NoWords> {
+    let args = match env::args(rt) {
+        Ok(args) => args,
+        Err(error) if error.kind() == ErrorKind::OutOfMemory => return Err(NoWords::Memory),
+        Err(_) => return Err(NoWords::Texts),
+    };
+    match args.collect(rt.alloc()) {
+        Ok(words) => Ok(words),
+        Err(_) => Err(NoWords::Memory),
+    }
+}
+
+/// Runs with these words, and answers the exit code.
+fn answer<F: Folder, K: Sink, E: Sink>(
+    alloc: Global,
+    words: Result<Vec<String>, NoWords>,
+    folder: &mut F,
+    out: &mut K,
+    err: &mut E,
+) -> u8
+    requires out_flushed { IsFlushed K.sink out.old }
+    requires err_flushed { IsFlushed E.sink err.old }
+    ensures lacking { IfErr words (λ why. result ≡ code_without why) }
+    ensures told { IfOk words (λ ws. IfSome (F.folder.files folder.old) (λ fs. EndsWithCode result
+        (account_of (map string_bytes ws.items) fs)
+        (K.sink.outside out.old).written (K.sink.outside out.new).written)) }
+{
+    match words {
+        Ok(words) => code(serve(alloc, &words, folder, out, err)),
+        Err(NoWords::Memory) => 7,
+        Err(NoWords::Texts) => 9,
+    }
+}
+
+/// Opens the machines, and runs.
+fn serve<F: Folder, K: Sink, E: Sink>(
+    alloc: Global,
+    words: &Vec<String>,
+    folder: &mut F,
+    out: &mut K,
+    err: &mut E,
+) -> Status
+    requires out_flushed { IsFlushed K.sink out.old }
+    requires err_flushed { IsFlushed E.sink err.old }
+    ensures told { IfSome (F.folder.files folder.old) (λ fs. Answers result
+        (account_of (map string_bytes words.now.items) fs)
+        (K.sink.outside out.old).written (K.sink.outside out.new).written) }
+{
+    let Ok(mut machines) = Machines::open(alloc) else {
+        return Status::NoMemory;
+    };
+    run(alloc, words, folder, out, err, &mut machines)
 }
 
 /// The exit code of a status.
