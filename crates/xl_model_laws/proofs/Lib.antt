@@ -18,3 +18,5 @@ mod NodeRunLemmas
 mod KeyLawLemmas
 mod KindLemmas
 mod AloneLemmas
+mod ReadLemmas
+mod BeyondLemmas

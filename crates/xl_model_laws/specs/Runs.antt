@@ -1,5 +1,5 @@
 -- What holds after every list of items, from the opening state: demand is in it.
-use Rattle.std.specs.Prelude.{ℕ, ◌≡◌, List}
+use Rattle.std.specs.Prelude.{ℕ, ◌≡◌, ◌≤◌, List, length, slice_index_or}
 use Rattle.xl_model.specs.declared.address.Kind.{Kind}
 use Rattle.xl_model.specs.declared.address.Order.{Order}
 use Rattle.xl_model.specs.declared.leaf.Leaf.{Leaf}
@@ -33,3 +33,17 @@ abbrev pub TheLowestIsTheLeast : Type 0
 TheLowestIsTheLeast =
     (frames : ℕ) (o : Order) (leaves : List Leaf)
     → IsAnswer frames (pages_of o) leaves (lowest frames o leaves)
+
+-- The reads that a row counts are the loads that were made of its table: those of the walks of its accesses.
+abbrev pub TheReadsAreTheLoads : Type 0
+TheReadsAreTheLoads = (row : Row) (items : List Item) → (run row items).counts.reads ≡ (run row items).table.loads
+
+-- From this place on each count is 0.
+abbrev pub IsZeroBeyond : ℕ → List ℕ → Type 0
+IsZeroBeyond n counts = (i : ℕ) → n ≤ i → slice_index_or counts i 0 ≡ 0
+
+-- Hits and misses are counted of a row's arrays alone: the places behind them are 0.
+abbrev pub NothingIsCountedBeyondTheArrays : Type 0
+NothingIsCountedBeyondTheArrays =
+    (row : Row) (items : List Item) → IsZeroBeyond (length row.tlb) (run row items).counts.hits
+    × IsZeroBeyond (length row.tlb) (run row items).counts.misses

@@ -12,7 +12,7 @@ ghost use Rattle.xl_model_laws.specs.Nodes.{TheNodesAreTheMappings, RoomIsForAll
 ghost use Rattle.xl_model_laws.specs.Keys.{EachLeafHasItsKey};
 ghost use Rattle.xl_model_laws.specs.Kinds.{ArraysForAllTakeNoNoteOfKinds, AStoreLooksUpAsALoad, AnArrayForOthersStays, AnAccessNeedsItsArraysAlone};
 ghost use Rattle.xl_model_laws.specs.Limits.{EachCallKeepsTheLimits, TheLimitsStay};
-ghost use Rattle.xl_model_laws.specs.Runs.{TheLeavesAreAMapping, AReplyIsByTheMapping, TheLowestIsTheLeast};
+ghost use Rattle.xl_model_laws.specs.Runs.{TheLeavesAreAMapping, AReplyIsByTheMapping, TheLowestIsTheLeast, TheReadsAreTheLoads, NothingIsCountedBeyondTheArrays};
 
 /// A command refused for another cause than the cap of the ways leaves nothing but its count,
 /// whatever events follow.
@@ -150,4 +150,14 @@ pub fn an_array_for_others_stays()
 /// An access does in a row what it does in the row with the arrays alone that serve its kind.
 pub fn an_access_needs_its_arrays_alone()
     ensures { AnAccessNeedsItsArraysAlone }
+{}
+
+/// The reads that a row counts are the loads that were made of its table: those of the walks of its accesses.
+pub fn the_reads_are_the_loads()
+    ensures { TheReadsAreTheLoads }
+{}
+
+/// Hits and misses are counted of a row's arrays alone: the places behind them are 0.
+pub fn nothing_is_counted_beyond_the_arrays()
+    ensures { NothingIsCountedBeyondTheArrays }
 {}
