@@ -20,3 +20,4 @@ mod KindLemmas
 mod AloneLemmas
 mod ReadLemmas
 mod BeyondLemmas
+mod SectionLawLemmas

@@ -17,7 +17,8 @@ use Rattle.xl_model_lemmas.specs.Members.{In, Once}
 use Rattle.xl_model_lemmas.proofs.MemberLemmas.{In-any, any-In, filter-In, filter-passes, In-filter}
 use Rattle.xl_model_lemmas.proofs.ChangeLemmas.{changed-In}
 use Rattle.xl_model_lemmas.proofs.FreshNodeLemmas.{new-brought}
-use Rattle.xl_model_laws.specs.Tags.{AreTagsOf, HasTags, TheTagsAreTheLeaves}
+use Rattle.xl_model.specs.Items.{run}
+use Rattle.xl_model_laws.specs.Tags.{AreTagsOf, HasTags, TheTagsAreTheLeaves, HasTagsWith, RoomIsForAllTags}
 use Rattle.xl_model_laws.proofs.TableRunLemmas.{TableKeeps, run-holds}
 
 -- a tag put in front of its bucket
@@ -204,3 +205,23 @@ opening-tags levels spaces (table.Range ranges tlb) = tt
 
 pub the_tags_are_the_leaves : TheTagsAreTheLeaves
 the_tags_are_the_leaves row items = (run-holds row HasTags (tags-keep row) (opening-tags (levels_of row.mode) row.spaces row.table) items).holds
+
+-- the tags of the leaves with one more
+tags-with : (leaf : Leaf) (leaves : List Leaf) (shape : Shape) → HasTags leaves shape → HasTagsWith leaf leaves shape
+tags-with leaf leaves (Radix levels spaces nodes) h = tt
+tags-with leaf leaves (Chained group buckets entries tags) h = record {
+  once = put-once buckets (leaf_tag group leaf) tags h.once;
+  there = λ x i. elim i [
+    | inl e ↦ subst (λ z. In (leaf_tag group z) (with_tag buckets (leaf_tag group leaf) tags)) (sym e) (In-put buckets (leaf_tag group leaf) tags)
+    | inr j ↦ stays-put buckets (leaf_tag group leaf) (leaf_tag group x) tags (h.there x j)
+  ];
+  only = λ tag i. elim (put-In buckets (leaf_tag group leaf) tag tags i) [
+    | inl e ↦ (leaf, inl refl, e)
+    | inr j ↦ (let o = h.only tag j in (o.0, inr o.1, o.2))
+  ];
+}
+tags-with leaf leaves (Cuckoo rules ways) h = tt
+tags-with leaf leaves (Runs ranges) h = tt
+
+pub room_is_for_all_tags : RoomIsForAllTags
+room_is_for_all_tags row items leaf = tags-with leaf (run row items).table.leaves (run row items).table.shape (the_tags_are_the_leaves row items)

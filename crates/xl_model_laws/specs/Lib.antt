@@ -9,3 +9,4 @@ pub mod Tags
 pub mod Nodes
 pub mod Keys
 pub mod Kinds
+pub mod Sections

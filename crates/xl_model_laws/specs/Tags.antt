@@ -1,8 +1,8 @@
 -- The tags of a hashed or clustered table.
-use Rattle.std.specs.Prelude.{ℕ, List}
+use Rattle.std.specs.Prelude.{ℕ, List, ◌∷◌}
 use Rattle.xl_model.specs.declared.leaf.Leaf.{Leaf}
 use Rattle.xl_model.specs.declared.script.Item.{Item}
-use Rattle.xl_model.specs.Chains.{leaf_tag}
+use Rattle.xl_model.specs.Chains.{leaf_tag, with_tag}
 use Rattle.xl_model.specs.Shapes.{Shape, Radix, Chained, Cuckoo, Runs}
 use Rattle.xl_model.specs.Rows.{Row}
 use Rattle.xl_model.specs.Items.{run}
@@ -28,3 +28,18 @@ abbrev pub TheTagsAreTheLeaves : Type 0
 TheTagsAreTheLeaves =
     (row : Row) (items : List Item)
     → HasTags (run row items).table.leaves (run row items).table.shape
+
+-- the tags that room for a leaf counts are those of the leaves with it
+abbrev pub HasTagsWith : Leaf → List Leaf → Shape → Type 0
+HasTagsWith leaf leaves (Radix levels spaces nodes) = Unit {0}
+HasTagsWith leaf leaves (Chained group buckets entries tags) =
+    AreTagsOf group (leaf ∷ leaves) (with_tag buckets (leaf_tag group leaf) tags)
+HasTagsWith leaf leaves (Cuckoo rules ways) = Unit {0}
+HasTagsWith leaf leaves (Runs ranges) = Unit {0}
+
+-- After every list of items a hashed or clustered table has room for a leaf where the tags of its leaves and of the new
+-- one, each once, are at most its entries: the leaves of a hashed table, the blocks of a clustered one.
+abbrev pub RoomIsForAllTags : Type 0
+RoomIsForAllTags =
+    (row : Row) (items : List Item) (leaf : Leaf)
+    → HasTagsWith leaf (run row items).table.leaves (run row items).table.shape

@@ -7,9 +7,10 @@ ghost use Rattle.xl_model_laws.specs.Refusals.{ARefusalLeavesNothing};
 ghost use Rattle.xl_model_laws.specs.Cuckoo.{KeysHaveTheirSlots, ThePointerIsBelowTheSlots, ARefusalKeepsEveryWord, MigratingMovesNoEntry};
 ghost use Rattle.xl_model_laws.specs.Sentences.{TheRangesAreMaximalRuns, ANodeTakesTheLowestNumber};
 ghost use Rattle.xl_model_laws.specs.Scenes.{ItemsMayBeServedInParts, TheToldTextOnlyGrows, WhatIsToldFirstStandsFirst, TellingChangesNoRow, EachRowRunsByItself};
-ghost use Rattle.xl_model_laws.specs.Tags.{TheTagsAreTheLeaves};
+ghost use Rattle.xl_model_laws.specs.Tags.{RoomIsForAllTags, TheTagsAreTheLeaves};
 ghost use Rattle.xl_model_laws.specs.Nodes.{TheNodesAreTheMappings, RoomIsForAllNodes};
 ghost use Rattle.xl_model_laws.specs.Keys.{EachLeafHasItsKey};
+ghost use Rattle.xl_model_laws.specs.Sections.{SectionsAreCountedOnce};
 ghost use Rattle.xl_model_laws.specs.Kinds.{ArraysForAllTakeNoNoteOfKinds, AStoreLooksUpAsALoad, AnArrayForOthersStays, AnAccessNeedsItsArraysAlone};
 ghost use Rattle.xl_model_laws.specs.Limits.{EachCallKeepsTheLimits, TheLimitsStay};
 ghost use Rattle.xl_model_laws.specs.Runs.{TheLeavesAreAMapping, AReplyIsByTheMapping, TheLowestIsTheLeast, TheReadsAreTheLoads, NothingIsCountedBeyondTheArrays};
@@ -160,4 +161,15 @@ pub fn the_reads_are_the_loads()
 /// Hits and misses are counted of a row's arrays alone: the places behind them are 0.
 pub fn nothing_is_counted_beyond_the_arrays()
     ensures { NothingIsCountedBeyondTheArrays }
+{}
+
+/// A hashed or clustered table has room for a leaf where the tags of its leaves and of the new one, each once, are at
+/// most its entries: the leaves of a hashed table, the blocks of a clustered one.
+pub fn room_is_for_all_tags()
+    ensures { RoomIsForAllTags }
+{}
+
+/// The sections that room in a cuckoo table counts are those of the leaves, each once.
+pub fn sections_are_counted_once()
+    ensures { SectionsAreCountedOnce }
 {}
