@@ -37,8 +37,8 @@ HasTagsWith leaf leaves (Chained group buckets entries tags) =
 HasTagsWith leaf leaves (Cuckoo rules ways) = Unit {0}
 HasTagsWith leaf leaves (Runs ranges) = Unit {0}
 
--- After every list of items a hashed or clustered table has room for a leaf where the tags of its leaves and of the new
--- one, each once, are at most its entries: the leaves of a hashed table, the blocks of a clustered one.
+-- After every list of items the tags that room for a leaf counts in a hashed or clustered table are those of its leaves
+-- and of the new one, each once: the leaves of a hashed table, the blocks of a clustered one.
 abbrev pub RoomIsForAllTags : Type 0
 RoomIsForAllTags =
     (row : Row) (items : List Item) (leaf : Leaf)

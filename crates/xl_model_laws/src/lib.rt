@@ -163,8 +163,8 @@ pub fn nothing_is_counted_beyond_the_arrays()
     ensures { NothingIsCountedBeyondTheArrays }
 {}
 
-/// A hashed or clustered table has room for a leaf where the tags of its leaves and of the new one, each once, are at
-/// most its entries: the leaves of a hashed table, the blocks of a clustered one.
+/// The tags that room for a leaf counts in a hashed or clustered table are those of its leaves and of the new one, each
+/// once: the leaves of a hashed table, the blocks of a clustered one.
 pub fn room_is_for_all_tags()
     ensures { RoomIsForAllTags }
 {}
