@@ -4,7 +4,8 @@ use Rattle.std.specs.List.{All}
 use Rattle.xl_model.specs.declared.script.Area.{Area}
 use Rattle.xl_areas.specs.declared.bounds.Bound.{Bound}
 
--- The key of a page: those of a space follow one another, and the spaces lie further apart than an area is long.
+-- The key of a page: those of a space follow one another, and the spaces lie further apart than an
+-- area is long.
 abbrev pub key_at : ℕ → ℕ → ℕ
 key_at space page = space * 2 ^ 65 + page
 
@@ -12,7 +13,8 @@ key_at space page = space * 2 ^ 65 + page
 abbrev pub has_key : ℕ → Area → Bool
 has_key key area = nat_le (key_at area.space area.page) key && nat_lt key (key_at area.space area.page + area.pages)
 
--- The area that answers a key: that of the last bound at or below it, and before the first bound the one given.
+-- The area that serves a key: that of the last bound at or below it, and before the first bound the
+-- one given.
 unfoldable pub answer_at : ℕ → Option Area → List Bound → Option Area
 answer_at key before [] = before
 answer_at key before (b ∷ bounds) = cond (nat_le b.key key) (answer_at key b.area bounds) before

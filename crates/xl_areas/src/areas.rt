@@ -11,8 +11,8 @@ use xl_model::{Area, NoMemory};
 /// The most areas of a script.
 const MOST: usize = 256;
 
-/// The areas that a script declared so far, at most 256, and their index. Contracts see the areas, in
-/// the order in which they were declared.
+/// The areas that a script declared so far, at most 256, and their index. Contracts see the areas,
+/// in the order in which they were declared.
 #[derive(Drop)]
 pub struct Areas {
     areas: Vec<Area>,

@@ -6,7 +6,7 @@ ghost use Rattle.xl_areas.specs.Bounds.{key_at, has_key as is_in, answer_at, cou
 
 use xl_model::Area;
 
-/// The area that answers from a key on, up to the next bound; or none does.
+/// The area that serves keys from this one up to the next bound, if one does.
 #[derive(Clone, Copy)]
 pub(crate) struct Bound {
     pub key: u128,
@@ -21,7 +21,7 @@ pub(crate) fn key_of(space: u16, page: u64) -> u128
     space as u128 * 36_893_488_147_419_103_232 + page as u128
 }
 
-/// The key behind an area's last page.
+/// The key after an area's last page.
 pub(crate) fn end_of(area: &Area) -> u128
     ensures value { result ≡ key_at area.now.space area.now.page + area.now.pages }
     ensures placed { IsPlaced area.now }
@@ -49,7 +49,7 @@ fn count(bounds: &[Bound], key: u128) -> usize
     )
 }
 
-/// The area that answers a key.
+/// The area that serves a key.
 pub(crate) fn answer(bounds: &[Bound], key: u128) -> Option<Area>
     requires { AreRising 0 bounds.now }
     ensures { result ≡ answer_at key None bounds.now }
@@ -61,7 +61,7 @@ pub(crate) fn answer(bounds: &[Bound], key: u128) -> Option<Area>
     bounds[count - 1].area
 }
 
-/// Puts a bound at a key, which changes no answer.
+/// Puts a bound at a key, which changes no key's area.
 pub(crate) fn cut(bounds: &mut Vec<Bound>, key: u128)
     requires rising { AreRising 0 bounds.old.items }
     requires room { length bounds.old.items < vec_capacity bounds.old }
@@ -73,7 +73,7 @@ pub(crate) fn cut(bounds: &mut Vec<Bound>, key: u128)
     bounds.insert(place, Bound { key, area }).unwrap();
 }
 
-/// The bound, where an area that comes later answers if none did and it has the bound's key.
+/// The bound, where an area declared later serves its key if none did.
 fn later(bound: Bound, area: &Area) -> Bound
     ensures { result ≡ with_later area.now bound }
 {
@@ -86,7 +86,7 @@ fn later(bound: Bound, area: &Area) -> Bound
     bound
 }
 
-/// Lets an area that comes later answer where none did.
+/// Lets an area declared later serve keys that no other serves.
 pub(crate) fn add_later(bounds: &mut [Bound], area: &Area)
     ensures { bounds.new ≡ map (with_later area.now) bounds.old }
 {

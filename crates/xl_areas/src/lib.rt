@@ -1,5 +1,5 @@
-//! The areas that a script declared so far, with an index by which the first that has a page is found
-//! without looking at all of them.
+//! The areas that a script declared so far, with an index by which the first that has a page is
+//! found without looking at all of them.
 #![tactic(auto)]
 
 mod areas;

@@ -10,8 +10,8 @@ use Rattle.xl_nesting.specs.Accounts.{nested_account, nested_left}
 use Rattle.xl_harting.specs.Harting.{harts_account, harts_left}
 use Rattle.xl_bench.specs.Machines.{MachineStates, no_machines}
 
--- What a run that is asked for this is to write: by the form asked for, the account of its script's course over its
--- trace, from its opening state. Words that ask for nothing are a fault.
+-- What a run that is asked for this is to write: by the form asked for, the account of its script's
+-- course over its trace, from its opening state. Words that ask for nothing are a fault.
 abbrev pub asked_account : Option Asked → Files → Account
 asked_account None files = faulted fault.Words
 asked_account (Some (Plainly a)) files = plain_account a files

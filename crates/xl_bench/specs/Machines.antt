@@ -4,8 +4,8 @@ use Rattle.xl_model.specs.Scenes.{Served}
 use Rattle.xl_nested_model.specs.Nested.{NestState}
 use Rattle.xl_hart_model.specs.Harts.{HartsState}
 
--- The rows that were opened, in their order, each with its state; the state of the machine of two-stage translation, and
--- that of the machine of several harts, where they were opened.
+-- The rows that were opened, in their order, each with its state; the state of the machine of
+-- two-stage translation, and that of the machine of several harts, where they were opened.
 pub record MachineStates : Type 0 where
   pub rows : List Served
   pub nested : Option NestState

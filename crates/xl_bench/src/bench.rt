@@ -15,12 +15,13 @@ use xl_outside::{Folder, Sink};
 use xl_serving::words_stop;
 use xl_words::{Words, read};
 
-/// Reads the words and the files that they name, opens the machines of the form that they ask for, serves
-/// the script over the trace, and writes the report to `out`. At any status but Ok a line on `err` says
-/// why. The words are the program's name and those after it: `--config F [--script F] [--trace F]
-/// [--make N] [--answers] [--image] [--json]`, or `curve --sets N --config F [--script F] [--trace F]`, or
-/// `nested` or `harts` with `--script F --trace F [--answers]`. All memory is taken before the first event,
-/// but for the text of the rows as JSON. At status Ok the machines are as the run leaves them.
+/// Reads the words and the files that they name, opens the machines of the form that they ask for,
+/// serves the script over the trace, and writes the report to `out`. At any status but Ok a line on
+/// `err` says why. The words are the program's name and those after it: `--config F [--script F]
+/// [--trace F] [--make N] [--answers] [--image] [--json]`, or `curve --sets N --config F [--script
+/// F] [--trace F]`, or `nested` or `harts` with `--script F --trace F [--answers]`. All memory is
+/// taken before the first event, but for the text of the rows as JSON. At status Ok the machines
+/// are as the run leaves them.
 pub fn run<F: Folder, K: Sink, E: Sink>(
     alloc: Global,
     words: &Vec<String>,

@@ -10,9 +10,9 @@ use xl_model::NoMemory;
 use xl_nested::Nested;
 use xl_rack::Rack;
 
-/// The machines of a run: the rows of a configuration, or the machine of two-stage translation, or that of
-/// several harts. A run opens those of its form and no others. No call takes one away or sets a state, so
-/// states come from events that were served.
+/// The machines of a run: the rows of a configuration, or the machine of two-stage translation, or
+/// that of several harts. A run opens those of its form and no others. No call takes one away or
+/// sets a state, so states come from events that were served.
 #[derive(Drop)]
 pub struct Machines {
     pub(crate) rows: Rack,

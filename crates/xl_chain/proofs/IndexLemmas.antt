@@ -63,7 +63,7 @@ with-set e i v t (y ∷ hs) =
       | false ↦ with-set e i v t hs
     ]
 
--- whether a tag is told
+-- whether the index has a place for a tag
 same-some : (o : Option Held) → is_some (place_found (found_of o)) ≡ is_some (entry_of o)
 same-some None = refl
 same-some (Some h) = refl
@@ -95,7 +95,7 @@ found-entry t e v hs k =
       | Some h ↦ λ f l. let p : (h.tag == t) ≡ true = find-passes (has t) h hs f in (h, find-In (has t) h hs f, grind (arith, nat_tests), cc)
     ] refl k
 
--- a place told anew
+-- a place written anew
 pub told-set : (c : ChainState) (tag e v p t : ℕ) → WordsReadBack c → AreSingle c.held → found_of (held_with tag c.held) ≡ seek.Found e v
     → place_found (found_of (held_with t (map (with_value e 0 p) c.held))) ≡ moved (Some tag) p (told c) t
 unfolding held_with
@@ -127,7 +127,7 @@ told-set c tag e v p t words single found =
     first-set [] p some = absurd (omega arith)
     first-set (v ∷ vs) p some = refl
 
--- the index after a removal: it was told the place of the entry behind, then it forgot the tag
+-- the index after a removal: it has the place of the entry after, and the tag no more
 pub index-less : (c d i j k : ChainState) (tag p : ℕ) → IsIndex c i → IsTaken tag p c d → length d.held + 1 ≡ length c.held → d.shape ≡ c.shape
     → ((t : ℕ) → told j t ≡ moved (tag_led d p) p (told i) t) → length j.held ≡ length i.held → j.shape ≡ i.shape
     → k.held ≡ without_tag tag j.held → length k.held + 1 ≡ length j.held → k.shape ≡ j.shape → IsIndex d k
@@ -141,7 +141,8 @@ index-less c d i j k tag p index taken fewer shape tells count-j shape-j less co
   room = ap (λ s. s.entries) (shape-k ∙ shape-j) ∙ index.room ∙ sym (ap (λ s. s.entries) shape);
 }
 
--- the index after an insertion: it was told the place of the entry that was in front, then it learned the tag
+-- the index after an insertion: it has the new place of the entry that was in front, and the new
+-- tag
 pub index-more : (c d i j k : ChainState) (tag n head : ℕ) (values : List ℕ) → IsIndex c i → IsInserted tag values c d → IsFirst tag n c d → head ≡ bucket_of c.shape.buckets tag
     → ((t : ℕ) → told j t ≡ moved (tag_led c head) n (told i) t) → length j.held ≡ length i.held → j.shape ≡ i.shape
     → has_tag (tags_of j.held) tag ≡ false → IsInserted tag (head ∷ []) j k → IsIndex d k
@@ -176,7 +177,7 @@ index-none c i none empty room places = record {
     no-place None h = refl
     no-place (Some p) h = absurd (cc)
 
--- a tag that is told a new place is held in the index as it is in the chains
+-- a tag whose place changed is held in the index as it is in the chains
 pub still-held : (c i j : ChainState) (x : Option ℕ) (p tag : ℕ) → IsIndex c i → ((t : ℕ) → is_some (place_at c t) ≡ has_tag (tags_of c.held) t)
     → ((t : ℕ) → told j t ≡ moved x p (told i) t) → has_tag (tags_of j.held) tag ≡ has_tag (tags_of c.held) tag
 still-held c i j x p tag index places tells =

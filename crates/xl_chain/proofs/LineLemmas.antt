@@ -19,7 +19,7 @@ use Rattle.xl_chain.specs.Lines.{in_bucket, AreLines, WordsReadBack, AreSingle, 
 use Rattle.xl_chain.proofs.FrontLemmas.{are-placed}
 use Rattle.xl_chain.proofs.FindLemmas.{search-held}
 
--- what is held stands in its bucket, and is what the words say of its entry
+-- what is held is in its bucket, and is what the words say of its entry
 held-back : (s : ChainShape) (words : List ℕ) (h : Held) → In h (held_of s words)
     → (b : ℕ) × (b < s.buckets) × In h.entry (chain_in s words b) × (h ≡ held_in s words h.entry)
 unfolding held_of

@@ -34,7 +34,7 @@ moved-other : (x : Option ℕ) (p t : ℕ) (f : ℕ → Option ℕ) → ((y : �
 moved-other None p t f n = refl
 moved-other (Some x) p t f n = ap (λ c. cond c (set_place p (f t)) (f t)) (test-no x t (n x refl))
 
--- the first tag of a chain, and the one behind the entry of a tag
+-- the first tag of a chain, and the one after the entry of a tag
 abbrev first_in : ChainShape → List ℕ → List ℕ → Option ℕ
 first_in s words [] = None
 first_in s words (e ∷ es) = Some (tag_in s words e)

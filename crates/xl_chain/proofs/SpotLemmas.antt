@@ -17,7 +17,7 @@ use Rattle.xl_chain.proofs.FrontLemmas.{chain-short, held-In, absent}
 use Rattle.xl_chain.proofs.RemovalLemmas.{place_in, along-place, place-where, place-reads, found-place}
 use Rattle.xl_chain.proofs.LineLemmas.{held-single}
 
--- the places of tags, as the words tell them
+-- the places of tags by the words
 abbrev pub spot : ChainShape → List ℕ → ℕ → Option ℕ
 spot s words t = place_from s.entries words s (bucket_of s.buckets t) t
 

@@ -21,8 +21,9 @@ pub record AreLines (s : ChainShape) (words : List ℕ) (h : Held) : Type 0 wher
   pub fourth : slice_index words (base_at s h.entry + 3) ≡ 0
   pub values : (i : ℕ) → i < length h.values → slice_index words (place_of_value s h.entry i) ≡ slice_index h.values i
 
--- The words tell what is held: the words of a bucket lead to the entries that it holds, newest first, and then to none;
--- each entry has its lines; and a search of the words finds what is held, by as many loads as are counted of it.
+-- The words say what is held: the words of a bucket lead to the entries that it holds, newest
+-- first, and then to none; each entry has its lines; and a search of the words finds what is held,
+-- by as many loads as are counted of it.
 pub record WordsReadBack (c : ChainState) : Type 0 where
   pub size : length c.words ≡ base_at c.shape c.shape.entries
   pub chains : (b : ℕ) → b < c.shape.buckets

@@ -26,7 +26,7 @@ tag_by s words (suc e) = if nat_lt e s.entries then Some (tag_in s words e) else
 abbrev pub tag_led : ChainState → ℕ → Option ℕ
 tag_led c place = tag_by c.shape c.words (slice_index c.words place)
 
--- what a search comes to that finds its tag in the entry to which a word leads
+-- The result of a search that finds its tag in the entry to which a word leads.
 abbrev pub found_by : ChainShape → List ℕ → ℕ → Seek
 found_by s words zero = seek.Absent
 found_by s words (suc e) = seek.Found e (slice_index words (base_at s e + 2))
@@ -45,13 +45,14 @@ moved (Some tag) place at t = if tag == t then set_place place (at t) else at t
 abbrev pub placed : ℕ → Option ℕ → (ℕ → Option ℕ) → ℕ → Option ℕ
 placed tag place at t = if tag == t then place else at t
 
--- Chains before and after the entry of a tag was taken out, to which the word at a place led: the one behind it has that
--- place.
+-- Chains before and after the entry of a tag was taken out, to which the word at a place led: the
+-- one after it has that place.
 pub record IsTaken (tag place : ℕ) (old new : ChainState) : Type 0 where
   pub held : new.held ≡ without_tag tag old.held
   pub places : (t : ℕ) → place_at new t ≡ placed tag None (moved (tag_led new place) place (place_at old)) t
 
--- Places before and after a tag came in front of its bucket: the one that was in front there has the place `next`.
+-- Places before and after a tag came in front of its bucket: the one that was in front there has
+-- the place `next`.
 abbrev pub IsFirst : ℕ → ℕ → ChainState → ChainState → Type 0
 IsFirst tag next old new = (t : ℕ) → place_at new t
     ≡ placed tag (Some (bucket_of old.shape.buckets tag)) (moved (tag_led old (bucket_of old.shape.buckets tag)) next (place_at old)) t
@@ -63,17 +64,17 @@ place_found seek.Absent = None
 place_found seek.OutOfBus = None
 place_found seek.TooLong = None
 
--- the place that an index tells of a tag
+-- the place that an index has for a tag
 abbrev pub told : ChainState → ℕ → Option ℕ
 told places tag = place_found (found_of (held_with tag places.held))
 
--- an index tells the place of each tag in chains, and has room for as many
+-- an index has the place of each tag in chains, and room for as many
 pub record IsIndex (c places : ChainState) : Type 0 where
   pub each : (t : ℕ) → told places t ≡ place_at c t
   pub count : length places.held ≡ length c.held
   pub room : places.shape.entries ≡ c.shape.entries
 
--- chains have no index, or one that tells their places
+-- chains have no index, or one that has their places
 abbrev pub IsIndexed : ChainState → Option ChainState → Type 0
 IsIndexed c None = Unit {0}
 IsIndexed c (Some places) = IsIndex c places

@@ -17,8 +17,8 @@ use std::marker::Model;
 use xl_model::{Full, NoMemory};
 use xl_phys::Bus;
 
-/// Entries of a tag and `V` values, in chains. Contracts see them as a list, bucket by bucket, newest
-/// first in each. Nothing is allocated after `open`.
+/// Entries of a tag and `V` values, in chains. Contracts see them as a list, bucket by bucket,
+/// newest first in each. Nothing is allocated after `open`.
 #[derive(Drop)]
 pub struct Chains<const V: usize> {
     entries: Entries<V>,
@@ -48,8 +48,8 @@ fn entry_in(seek: Seek) -> Option<u32>
 }
 
 impl<const V: usize> Chains<V> {
-    /// Chains that hold nothing, in this many buckets, with room for this many entries: at most 2^20 of
-    /// one value each, or 2^17 of seventeen.
+    /// Chains that hold nothing, in this many buckets, with room for this many entries: at most
+    /// 2^20 of one value each, or 2^17 of seventeen.
     ///
     /// # Errors
     ///
@@ -95,7 +95,7 @@ impl<const V: usize> Chains<V> {
         entry_in(self.look(tag))
     }
 
-    /// What a search for the tag comes to, with its loads: one for the head, and one for each entry
+    /// The search result for the tag, with its loads: one for the head, and one for each entry
     /// examined.
     pub fn probe(&mut self, tag: u64) -> Seek
         ensures end { result ≡ found_of (held_with tag self.old.held) }
@@ -104,7 +104,7 @@ impl<const V: usize> Chains<V> {
         self.entries.probe(tag)
     }
 
-    /// What a search for the tag comes to, without loads.
+    /// The search result for the tag; counts no loads.
     #[inline(always)]
     pub fn look(&self, tag: u64) -> Seek
         ensures { result ≡ found_of (held_with tag self.now.held) }
@@ -124,7 +124,7 @@ impl<const V: usize> Chains<V> {
         self.entries.value(entry, i)
     }
 
-    /// Value `i` of an entry that is held, with a load of the line in which it stands.
+    /// Value `i` of an entry that is held, with a load of the line in which it is.
     pub fn load_value(&mut self, entry: u32, i: usize) -> u64
         requires held { list_any (is_entry entry) self.old.held ≡ true }
         requires within { i < V }
@@ -145,7 +145,8 @@ impl<const V: usize> Chains<V> {
         self.entries.set_value(entry, i, value);
     }
 
-    /// Takes out the entry of a tag that is held. Its chain closes up, and the others keep their numbers.
+    /// Takes out the entry of a tag that is held. Its chain closes up, and the others keep their
+    /// numbers.
     pub fn remove(&mut self, tag: u64)
         requires { has_tag (tags_of self.old.held) tag ≡ true }
         ensures held { self.new.held ≡ without_tag tag self.old.held }
@@ -158,8 +159,8 @@ impl<const V: usize> Chains<V> {
         }
     }
 
-    /// Holds the tag with these values, in front of its bucket, under any entry that isn't held. Full
-    /// exactly where all entries are held; then nothing changes.
+    /// Holds the tag with these values, in front of its bucket, under any entry that isn't held.
+    /// Full exactly where all entries are held; then nothing changes.
     pub fn insert(&mut self, tag: u64, values: [u64; V]) -> Result<(), Full>
         requires { has_tag (tags_of self.old.held) tag ≡ false }
         ensures ok { OnOk result (IsInserted tag values.entry self.old self.new) }
@@ -175,7 +176,7 @@ impl<const V: usize> Chains<V> {
         }
     }
 
-    /// What the type keeps: the words tell what is held, and each tag has one entry of its own.
+    /// What the type keeps: the words say what is held, and each tag has one entry of its own.
     pub fn words_read_back(&self)
         ensures words { WordsReadBack self.now }
         ensures single { AreSingle self.now.held }

@@ -100,7 +100,7 @@ impl<const V: usize> Entries<V> {
         self.free.is_empty()
     }
 
-    /// What a search for the tag comes to, with its loads.
+    /// The search result for the tag, with its loads.
     pub(crate) fn probe(&mut self, tag: u64) -> Seek
         ensures end { result ≡ found_of (held_with tag self.old.held) }
         ensures after { self.new ≡ record self.old { loads = loads_after tag self.old } }
@@ -110,7 +110,7 @@ impl<const V: usize> Entries<V> {
         sought.end
     }
 
-    /// What a search for the tag comes to, without loads.
+    /// The search result for the tag; counts no loads.
     pub(crate) fn look(&self, tag: u64) -> Seek
         ensures { result ≡ found_of (held_with tag self.now.held) }
     {
@@ -166,8 +166,8 @@ impl<const V: usize> Entries<V> {
         }
     }
 
-    /// Takes out the entry to which the word at a place leads. The word leads to the one behind it from
-    /// then on, and the others keep their numbers.
+    /// Takes out the entry to which the word at a place leads. The word leads to the one after it
+    /// from then on, and the others keep their numbers.
     pub(crate) fn remove_at(&mut self, place: usize)
         requires { IsPlace self.old place }
         ensures taken { (t : ℕ) → place_at self.old t ≡ Some place
@@ -207,7 +207,7 @@ impl<const V: usize> Entries<V> {
         Some(self.words[base_of(self.shape, (at - 1) as u32)])
     }
 
-    /// What a search comes to for a tag that has this place.
+    /// The search result for a tag that has this place.
     pub(crate) fn look_at(&self, place: usize) -> Seek
         requires { IsPlace self.now place }
         ensures { (t : ℕ) → place_at self.now t ≡ Some place
@@ -216,8 +216,9 @@ impl<const V: usize> Entries<V> {
         found_from(&self.words, self.shape, place)
     }
 
-    /// Holds the tag with these values, in front of its bucket, and answers the place of the word that
-    /// leads on from its entry. Full exactly where all entries are held; then nothing changes.
+    /// Inserts the tag with these values, in front of its bucket. Returns the place of the word
+    /// that leads on from its entry. `Full` exactly where all entries are held; then nothing
+    /// changes.
     pub(crate) fn insert(&mut self, tag: u64, values: [u64; V]) -> Result<usize, Full>
         requires { has_tag (tags_of self.old.held) tag ≡ false }
         ensures ok { OnOk result (IsInserted tag values.entry self.old self.new) }
@@ -235,14 +236,14 @@ impl<const V: usize> Entries<V> {
         }
     }
 
-    /// What the type keeps: the words tell what is held, and each tag has one entry and a place.
+    /// What the type keeps: the words say what is held, and each tag has one entry and a place.
     pub(crate) fn words_read_back(&self)
         ensures words { WordsReadBack self.now }
         ensures single { AreSingle self.now.held }
         ensures places { (t : ℕ) → is_some (place_at self.now t)
             ≡ has_tag (tags_of self.now.held) t }
     {
-        // A look at a field brings in what the type keeps.
+        // Reading a field brings in the type's invariant.
         let _words = &self.words;
     }
 }

@@ -9,7 +9,7 @@ ghost use Rattle.xl_chain.specs.Places.{found_by};
 
 use crate::shape::{ChainShape, Seek, base_of, bucket_of};
 
-/// What a search comes to, and the loads that it stands for.
+/// A search result, and the loads that it counts for.
 #[derive(Drop)]
 pub(crate) struct Sought {
     pub(crate) end: Seek,
@@ -29,8 +29,8 @@ fn led_to<const V: usize>(shape: ChainShape, at: u64) -> usize
     (shape.buckets as usize + 3) / 4 * 4 + (at - 1) as usize * (V + 3)
 }
 
-/// Searches as `seek` does, and comes to the same. No line is missing and each chain ends, so nothing
-/// but the words themselves is looked at.
+/// Like `seek`, with the same result. No line is missing and each chain ends, so nothing but the
+/// words themselves is looked at.
 #[inline(always)]
 pub(crate) fn search<const V: usize>(words: &[u64], shape: ChainShape, tag: u64) -> Sought
     requires lines { V + 3 ≡ 4 * shape.lines }
@@ -59,7 +59,7 @@ pub(crate) fn search<const V: usize>(words: &[u64], shape: ChainShape, tag: u64)
     }
 }
 
-/// What a search comes to that finds its tag in the entry to which the word at a place leads.
+/// The result of a search that finds its tag in the entry to which the word at a place leads.
 pub(crate) fn found_from(words: &[u64], shape: ChainShape, place: usize) -> Seek
     requires shape { IsShape shape }
     requires size { length words.now ≡ base_at shape shape.entries }

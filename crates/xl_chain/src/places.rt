@@ -12,7 +12,7 @@ use crate::shape::Seek;
 use std::alloc::Global;
 use xl_model::{Full, NoMemory};
 
-/// So many entries for each bucket, and fewer, are found along their chains: an index is no faster.
+/// Up to this number of entries a bucket, the chain is searched: an index is no faster.
 const FEW_FOR_A_BUCKET: u32 = 8;
 
 /// An index of entries of which none is held, where their chains can be long.
@@ -31,7 +31,7 @@ pub(crate) fn open_places<const V: usize>(
     Ok(Some(Entries::open(alloc, shape.entries, shape.entries)?))
 }
 
-/// The place that the index tells of a tag.
+/// The place that the index has for a tag.
 #[inline(never)]
 fn place_told(places: &Entries<1>, tag: u64) -> Option<usize>
     ensures { result ≡ told places.now tag }
@@ -42,7 +42,7 @@ fn place_told(places: &Entries<1>, tag: u64) -> Option<usize>
     }
 }
 
-/// What a search for the tag comes to, without loads.
+/// The search result for the tag; counts no loads.
 #[inline(always)]
 pub(crate) fn look_placed<const V: usize>(
     entries: &Entries<V>,
@@ -59,7 +59,7 @@ pub(crate) fn look_placed<const V: usize>(
     }
 }
 
-/// Tells the index another place of a tag, where there is a tag and the index has it.
+/// Writes another place of a tag into the index, where there is a tag and the index has it.
 fn tell(places: &mut Entries<1>, tag: Option<u64>, place: usize)
     ensures told { (t : ℕ) → told places.new t ≡ moved tag place (told places.old) t }
     ensures count { length places.new.held ≡ length places.old.held }
@@ -75,7 +75,7 @@ fn tell(places: &mut Entries<1>, tag: Option<u64>, place: usize)
     }
 }
 
-/// Takes out the entry of a tag that is held. The entry behind it has its place from then on.
+/// Takes out the entry of a tag that is held. The entry after it has its place from then on.
 #[inline(never)]
 pub(crate) fn remove_placed<const V: usize>(
     entries: &mut Entries<V>,
@@ -101,8 +101,8 @@ pub(crate) fn remove_placed<const V: usize>(
     }
 }
 
-/// Holds the tag with these values, in front of its bucket. Behind it stands the entry that was in
-/// front there, whose place is the new entry's word from then on.
+/// Holds the tag with these values, in front of its bucket. After it is the entry that was in front
+/// there, whose place is the new entry's word from then on.
 #[inline(never)]
 pub(crate) fn insert_placed<const V: usize>(
     entries: &mut Entries<V>,

@@ -78,7 +78,8 @@ fn access_beside<S: Structure>(
     demand_beside(machine, curve, area, va, access);
 }
 
-/// Serves an item to a machine, with the events of its demand, and the curve follows each of its events.
+/// Serves an item to a machine, with the events of its demand, and the curve follows each of its
+/// events.
 pub fn serve_beside<S: Structure>(
     machine: &mut Machine<S>,
     curve: &mut Curve,

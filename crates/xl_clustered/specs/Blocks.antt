@@ -10,7 +10,7 @@ unfoldable pub used_in : (ℕ → ℕ) → ℕ → ℕ
 used_in word zero = 0
 used_in word (suc n) = one_if (not (word n == 0)) + used_in word n
 
--- a number and so many slots in use
+-- the number of slots in use, and the slots
 pub record IsCountedBlock (values : List ℕ) : Type 0 where
   pub count : slice_index values 0 ≡ used_in (λ i. slice_index values (1 + i)) 16
 

@@ -38,7 +38,7 @@ impl Grouping for Sixteens {
     }
 }
 
-/// A clustered table: sixteen consecutive pages of an order, a block, have one tag and one entry, and a
-/// search follows the chain of the tag's bucket. Contracts see its chains. Nothing is allocated after
-/// `open`.
+/// A clustered table: sixteen consecutive pages of an order, a block, have one tag and one entry,
+/// and a search follows the chain of the tag's bucket. Contracts see its chains. Nothing is
+/// allocated after `open`.
 pub type Clustered = Grouped<Sixteens>;

@@ -1,5 +1,5 @@
-//! The clustered table: sixteen consecutive pages of an order under one tag, in chains of words (after
-//! Talluri, Hill and Khalidi, 1995).
+//! The clustered table: sixteen consecutive pages of an order under one tag, in chains of words
+//! (after Talluri, Hill and Khalidi, 1995).
 #![tactic(auto)]
 
 mod block;

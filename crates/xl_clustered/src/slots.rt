@@ -12,7 +12,8 @@ use xl_chain::{Chains, Seek};
 use xl_model::{Full, Perm};
 use xl_tagged::give_perm;
 
-/// Puts a word into an empty slot: into the block of its tag, or into a new block where there is none.
+/// Puts a word into an empty slot: into the block of its tag, or into a new block where there is
+/// none.
 pub(crate) fn put(chains: &mut Chains<17>, tag: u64, slot: usize, word: u64) -> Result<(), Full>
     requires place { (slot < 16) × (0 < word) }
     requires empty { word_at Sixteen (values_under chains.old.held) tag slot ≡ 0 }
@@ -34,7 +35,7 @@ pub(crate) fn put(chains: &mut Chains<17>, tag: u64, slot: usize, word: u64) -> 
     }
 }
 
-/// Empties a slot that is in use. A block with no slot in use goes.
+/// Empties a slot that is in use. A block with no slot in use is removed.
 pub(crate) fn take(chains: &mut Chains<17>, tag: u64, slot: usize)
     requires slot { slot < 16 }
     requires used { word_at Sixteen (values_under chains.old.held) tag slot ≡ 0 → ⊥ }

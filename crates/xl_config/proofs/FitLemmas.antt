@@ -28,7 +28,7 @@ use Rattle.xl_config.specs.Arrays.{with_order, order_named, order_of, orders_fro
 use Rattle.xl_config.specs.Tables.{radix_in, hashed_in, clustered_in, cuckoo_in, range_in, table_in, is_known}
 use Rattle.xl_config.specs.Rows.{names_of, row_in, element_in, rows_from}
 
--- what is read, if it is, meets a rule
+-- what is read, if it is, keeps a rule
 abbrev pub Fits : {A : Type 0} → (A → Type 0) → Result A KeyFault → Type 0
 Fits P (Ok a) = P a
 Fits P (Err e) = Unit {0}
@@ -95,7 +95,7 @@ width_fits row key least d =
     then_any _ (needed (bad row key rule.WrongType) (as_integer d)) (λ z. needed (bad row key rule.Outside) (width_by least z)) (λ z.
     needed_fits _ (bad row key rule.Outside) (width_by least z) (width_is least z))
 
--- walk caches: all are widths, and those after the first so many stay 0
+-- walk caches: all are widths, and those after the first `count` stay 0
 abbrev CachesAre : ℕ → List ℕ → Type 0
 CachesAre count ws = (list_all is_width ws ≡ true) × (list_all (λ w. w == 0) (drop count ws) ≡ true)
 
@@ -288,7 +288,7 @@ array_fits row ms =
     checked_fits IsArray (bad row 22 rule.NotAllowed) (only_known is_array_key ms) (record u { serves = s }) (λ only.
     let P : TlbSpec → Type 0 = IsArray in subst P (sym few.0) (array_is level sets width t a b c o few.1))))))))
 
--- arrays, so many of them at most
+-- arrays, n of them at most
 abbrev AreArrays : ℕ → List TlbSpec → Type 0
 AreArrays n ts = (length ts ≤ n) × (list_all is_array ts ≡ true)
 

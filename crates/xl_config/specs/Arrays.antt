@@ -92,12 +92,13 @@ array_in row ms =
     checked (bad row 22 rule.Outside) (nat_le (sets * width) 16384) t >>= (λ t.
     checked (bad row 22 rule.NotAllowed) (only_known is_array_key ms) (record t { serves = s })))))))
 
--- Arrays behind those so far, each read whole.
+-- Arrays after those so far, each read whole.
 abbrev pub arrays_from : ℕ → Items → List TlbSpec → Result (List TlbSpec) KeyFault
 arrays_from row no_items ts = Ok ts
 arrays_from row (item d ds) ts = table_of row 22 d >>= array_in row >>= (λ t. arrays_from row ds (ts ++ t ∷ []))
 
--- The levels rise from 1 on, and no two arrays of one level have an order in common for one kind of access.
+-- The levels rise from 1 on, and no two arrays of one level have an order in common for one kind of
+-- access.
 abbrev pub agree : List TlbSpec → Bool
 agree ts = levels_rise ts && none_clash ts
 

@@ -52,6 +52,7 @@ config_by true document = Err fault.TooLong
 config_by false None = Err fault.BadToml
 config_by false (Some ms) = keyed (rows_in ms)
 
--- The rows of a configuration, or the first thing that is wrong: it is too long, or no TOML, or breaks a rule.
+-- The rows of a configuration, or the first thing that is wrong: it is too long, or no TOML, or
+-- breaks a rule.
 unfoldable pub config : List ℕ → Result (List Row) ConfigFault
 config text = config_by (nat_lt 65536 (length text)) (document_of text)

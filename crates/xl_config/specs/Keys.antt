@@ -36,17 +36,17 @@ abbrev pub checked : {A : Type 0} → KeyFault → Bool → A → Result A KeyFa
 checked e true a = Ok a
 checked e false a = Err e
 
--- A reader that takes no memory answers what is read, as its value is seen.
+-- A reader that takes no memory returns what is read, as its value is seen.
 abbrev pub Reads : {A B : Type 0} → (A → B) → Result A KeyFault → Result B KeyFault → Type 0
 Reads view (Ok x) read = read ≡ Ok (view x)
 Reads view (Err e) read = read ≡ Err e
 
--- A reader that writes its value answers what is read.
+-- A reader that writes its value returns what is read.
 abbrev pub Fills : {B : Type 0} → Result (Unit {0}) KeyFault → B → Result B KeyFault → Type 0
 Fills (Ok done) new read = read ≡ Ok new
 Fills (Err e) new read = read ≡ Err e
 
--- A reader that takes memory answers what is read, or that there is none.
+-- A reader that takes memory returns what is read, or that there is none.
 abbrev pub Gives : {A B : Type 0} → (A → B) → Result A ConfigFault → Result B ConfigFault → Type 0
 Gives view (Ok x) read = read ≡ Ok (view x)
 Gives view (Err e) read = ¬ (e ≡ fault.NoMemory) → read ≡ Err e
@@ -162,7 +162,7 @@ abbrev pub widths_from : ℕ → ℕ → Items → List ℕ → Result (List ℕ
 widths_from row i no_items widths = Ok widths
 widths_from row i (item d ds) widths = width_of row 8 0 d >>= (λ w. widths_from row (i + 1) ds (slice_set widths i w))
 
--- The widths of so many walk caches, at the front of zeros; all are 0 where the key isn't there.
+-- The widths of `count` walk caches, at the front of zeros; all are 0 where the key isn't there.
 abbrev pub caches_by : ℕ → ℕ → List ℕ → Option Data → Result (List ℕ) KeyFault
 caches_by row count zeros None = Ok zeros
 caches_by row count zeros (Some d) =

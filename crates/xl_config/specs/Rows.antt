@@ -14,7 +14,7 @@ abbrev pub names_of : List Row → List (List ℕ)
 names_of [] = []
 names_of (r ∷ rs) = r.name ∷ names_of rs
 
--- The row of this number, behind rows of these names: each key in its turn, and then no other.
+-- The row of this number, after rows of these names: each key in its turn, and then no other.
 unfoldable pub row_in : ℕ → List (List ℕ) → Members → Result Row KeyFault
 row_in row earlier ms =
     name_in row earlier ms >>= (λ name.
@@ -40,7 +40,7 @@ row_in row earlier ms =
 abbrev pub element_in : ℕ → List (List ℕ) → Data → Result Row KeyFault
 element_in number earlier d = table_of 0 0 d >>= row_in number earlier
 
--- Rows behind those so far.
+-- Rows after those so far.
 abbrev pub rows_from : ℕ → Items → List Row → Result (List Row) KeyFault
 rows_from number no_items rows = Ok rows
 rows_from number (item d ds) rows =

@@ -11,7 +11,8 @@ use Rattle.xl_config.specs.declared.kind.TableKind.{TableKind}
 use Rattle.xl_config.specs.declared.kind.TableKind.TheVariants as kind
 use Rattle.xl_config.specs.Keys.{◌>>=◌, number_in, caches_in, range_tlb_by}
 
--- A radix table: its frames, at least the row's spaces, and a walk cache for each level of nodes but the roots'.
+-- A radix table: its frames, at least the row's spaces, and a walk cache for each level of nodes
+-- but the roots'.
 unfoldable pub radix_in : ℕ → Mode → ℕ → Members → Result Table KeyFault
 radix_in row mode spaces ms =
     number_in row 7 (codes "table_frames") spaces 16384 ms >>= (λ frames.

@@ -241,8 +241,8 @@ fn none_clash(arrays: &[TlbSpec]) -> bool
     true
 }
 
-/// Whether the levels rise from 1 on, and no two arrays of one level have an order in common for one kind
-/// of access.
+/// Whether the levels rise from 1 on, and no two arrays of one level have an order in common for
+/// one kind of access.
 fn agree(arrays: &[TlbSpec]) -> bool
     ensures { result ≡ agree arrays.now }
 {

@@ -16,10 +16,10 @@ pub enum ConfigFault {
     /// The text is no TOML document.
     BadToml,
 
-    /// The first key, in the order of the tests, that breaks a rule. Rows are numbered from 1, and row 0
-    /// is the document. Of the rules, 1 says that the key is missing, 2 that its value has another type,
-    /// 3 that it is outside its limits, 4 that no such key may stand there, 5 that it disagrees with
-    /// others.
+    /// The first key, in the order of the tests, that breaks a rule. Rows are numbered from 1, and
+    /// row 0 is the document. Of the rules, 1 says that the key is missing, 2 that its value has
+    /// another type, 3 that it is outside its limits, 4 that no such key may be there, 5 that it
+    /// disagrees with others.
     BadKey { row: u32, key: u8, rule: u8 },
 
     /// There is no memory for the document or the rows.

@@ -82,7 +82,7 @@ fn all_row_keys(kind: TableKind, table: &Table) -> bool
     table.keys().all(|key| is_known(kind, key.as_str()))
 }
 
-/// A row of this number, behind others.
+/// A row of this number, after others.
 #[tactic(auto, unfolding(crate::specs::Rows::row_in))]
 fn one_row(row: u32, rows: &[Row], toml: &Table) -> Result<Row, KeyFault>
     ensures { Reads row_of result
@@ -237,10 +237,11 @@ fn document(alloc: Global, text: &[u8]) -> Result<Table, ConfigFault>
     }
 }
 
-/// The rows of a configuration: a TOML document of at most 65,536 bytes, with an array `row` of 1 to 16
-/// tables. Each row keeps the rules of a row. It is too long where it has more bytes; else it is no TOML
-/// where `toml` reads no document; else the first key counts that breaks a rule, the keys of each row in
-/// the order of their numbers. Where there is no memory, the answer may be that.
+/// The rows of a configuration: a TOML document of at most 65,536 bytes, with an array `row` of 1
+/// to 16 tables. Each row keeps the rules of a row. It is too long where it has more bytes; else it
+/// is no TOML where `toml` reads no document; else the first key counts that breaks a rule, the
+/// keys of each row in the order of their numbers. Where there is no memory, the answer may be
+/// that.
 #[tactic(auto, unfolding(crate::specs::Config::config))]
 pub fn read(alloc: Global, text: &[u8]) -> Result<Vec<Row>, ConfigFault>
     ensures reading { Gives (λ rows. map row_of rows.items) result (config text.now) }

@@ -19,8 +19,8 @@ use Rattle.xl_course.proofs.ServedLemmas.{served_none, served_on, served_cut, se
 pub before-before : {I : Type 0} (xs ys : List I) (c : Course I) → before xs (before ys c) ≡ before (xs ++ ys) c
 before-before {I} xs ys c = ap (λ (zs : List I). record { items = zs; fault = c.fault }) (sym (append_assoc xs ys c.items))
 
--- A loop over records goes by a course that is `now` of the records that are left: where none is left it is `at_last`, and
--- else the first record's items stand before what is `later` of the others.
+-- A loop over records goes by a course that is `now` of the records that are left: where none is
+-- left it is `at_last`, and else the first record's items are before what is `later` of the others.
 abbrev pub Rules : Type 0 → Type 0
 Rules I = List Accesses → Option InputFault → (Trail → Course I) → Course I
 
@@ -41,7 +41,8 @@ run_step m (suc n) h = let e : suc n - 1 ≡ n = omega arith in rw e (run_steps 
 abbrev pub left_by : {I : Type 0} → Rules I → Trail → (Trail → Course I) → Course I
 left_by rules t next = rules t.records t.fault next
 
--- how far a loop over records came: what goes on after what is left, goes on after what was left
+-- how far a loop over records came: what continues after what is left, continues after what was
+-- left
 pub record Underway {K C I S : Type 0} (m : Meaning C I S) (sink : SinkMeaning K) (answers : Bool) (after : Type 0) (by now : (Trail → Course I) → Course I) (p q : S) (k l : K) : Type 0 where
   pub serves : (next : Trail → Course I) → Reached m sink answers (by next) (now next) p q k l
   pub stands_still : after
@@ -179,7 +180,7 @@ module _ {K C I S : Type 0} (m : Meaning C I S) (sink : SinkMeaning K) (answers 
   going_stops A mid after by now later t u p q k l (why.Input fault) steps g f =
       record { serves = λ next. ends_at mid by now later t p q k l (Some fault) next steps g f refl; stands_still = tt }
 
-  -- a step, and then what goes on
+  -- a step, and then what continues
   part_then : {A : Type 0} (after : Type 0) (a : Course I) (by : (Trail → Course I) → Course I) (next : Trail → Course I) (u : Trail) (p q s : S) (k l n : K) (r : Result A Stop)
       → Comes a (by next) p q k l → ServesPart m sink answers after by u q s l n r → Serves m sink answers a (next u) p s k n r
   part_then after a by next u p q s k l n r d x = serves_on a (by next) (next u) p q s k l n r d (x.serves next)
@@ -209,7 +210,7 @@ module _ {K C I S : Type 0} (m : Meaning C I S) (sink : SinkMeaning K) (answers 
       part_then after whole (course_by m c t) (course m (drop (i + 1) cs)) u p q s k l n r
       (subst (λ (z : Course I). Comes whole z p q k l) (course-left cs i c t h) g.reached) x
 
-  -- a stop says the same, whatever was to go on
+  -- a stop says the same, whatever was to continue
   pub stop_any : (A B : Type 0) (whole left other : Course I) (p q : S) (k l : K) (stop : Stop)
       → Serves {A = A} m sink answers whole left p q k l (Err stop) → Serves {A = B} m sink answers whole other p q k l (Err stop)
   stop_any A B whole left other p q k l why.WriteFault h = h

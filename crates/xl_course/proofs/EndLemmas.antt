@@ -20,7 +20,7 @@ whole xs f = record { items = xs; fault = f }
 whole-is : {I : Type 0} (c : Course I) (xs : List I) (f : Option InputFault) → c ≡ before xs (ended f) → c ≡ whole xs f
 whole-is {I} c xs f h = h ∙ ap (λ (ys : List I). whole ys f) (append-nil xs)
 
--- what is told is the front of the text
+-- what was written is the front of the text
 pub front_text : (a : Account) (before after : Option (List ℕ)) → WroteFront before (joined a.told) after → WroteFront before (text_of a) after
 front_text a before after h = front_of_more before after (joined a.told) (last_where a.fault a.last) h
 
@@ -32,7 +32,7 @@ module _ {K C I S : Type 0} (m : Meaning C I S) (sink : SinkMeaning K) (answers 
   abbrev Of : Course I → S → Account
   Of c p = account m answers last late c p
 
-  -- what some first items tell fits where what all tell does
+  -- the text of some first items fits where the text of all does
   fits_done : (done left items : List I) (p : S) → items ≡ done ++ left → length (told_by m answers done p) ≤ length (told_by m answers items p)
   fits_done done left items p h =
       let e : length (told_by m answers items p) ≡ length (told_by m answers done p) + length (told_by m answers left (states_after m done p)) =
@@ -79,7 +79,7 @@ module _ {K C I S : Type 0} (m : Meaning C I S) (sink : SinkMeaning K) (answers 
         served = tt;
       })
 
-  -- what was told, and the end of the report behind it
+  -- the lines written, and the end of the report after them
   text_then : (c : Course I) (p q : S) (k l n : K) (all : Bool) (x : Reached m sink answers c (ended None) p q k l)
       → SinkAfter sink (last q) l n all → SinkAfter sink (text_of (Of (whole x.done None) p)) k n all
   text_then c p q k l n all x y =
@@ -123,7 +123,7 @@ module _ {K C I S : Type 0} (m : Meaning C I S) (sink : SinkMeaning K) (answers 
   report_done holds c p q k l n (Ok u) x y h = report_written holds c p q k l n x y h
   report_done holds c p q k l n (Err stop) x y h = report_cut c p q k l n stop _ x y
 
--- and so the sink goes on
+-- and so the sink continues
 pub end_goes : {K : Type 0} (sink : SinkMeaning K) (late : Bool) (text : List ℕ) (a b : K) (r : Result (Unit {0}) Stop)
     → EndAfter sink late text a b r → GoesOn (is_all_put r) (sink.outside a) (sink.outside b)
 end_goes sink late text a b (Ok u) x = x.goes_on

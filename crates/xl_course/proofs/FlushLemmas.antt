@@ -62,7 +62,7 @@ module _ {K : Type 0} (sink : SinkMeaning K) (w : Account) (a b : K) (rows : Typ
         served = tt;
       }
 
--- what a flush at the end of a run comes to: there is none, or one
+-- a flush at the end of a run: there is none, or one
 abbrev FlushKind : {K : Type 0} (sink : SinkMeaning K) (b c : K) → Result (Unit {0}) Stop → Result (Unit {0}) Stop → Type 0
 FlushKind sink b c end after =
     ((end ≡ Err why.WriteFault) × (c ≡ b) × (after ≡ Err why.WriteFault))

@@ -10,7 +10,7 @@ use Rattle.xl_course.specs.Stops.{status_by}
 use Rattle.xl_course.specs.Messages.{message_at}
 use Rattle.xl_course.specs.Accounts.{Account, EndsAs, EndsWith, fault_message, message_by, message_of}
 
--- the line for the end of a run is that of its status, where the files tell what the fault is
+-- the line for the end of a run is that of its status, where the files say what the fault is
 module _ (P : List ℕ → Type 0) (fs : Option Files) (e : Files → Account) where
   fault_says : (f : InputFault) (b a : Option (List ℕ)) → IfSome fs (λ file. EndsWith (Some f) (e file) b a) → P (message_at (why.Input f))
       → IfSome (option_map (λ (w : Account). fault_message w.fault) (option_map e fs)) P

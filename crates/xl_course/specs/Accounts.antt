@@ -12,8 +12,9 @@ use Rattle.xl_course.specs.Messages.{message_at}
 use Rattle.xl_course.specs.Meanings.{Meaning, states_after, tellings, joined}
 use Rattle.xl_course.specs.Courses.{Course}
 
--- What a run is to write: what each item tells, in the order served; behind it the end of the report, where no fault of
--- the input ends the run before; and that fault. `late` says that the end of the report is made in memory before it is put.
+-- What a run is to write: the lines of each item, in the order served; after them the end of the
+-- report, where no fault of the input ends the run before; and that fault. `late` says that the end
+-- of the report is made in memory before it is put.
 pub record Account : Type 0 where
   pub told : List (List ℕ)
   pub last : List ℕ
@@ -29,7 +30,7 @@ last_where (Some fault) last = []
 abbrev pub text_of : Account → List ℕ
 text_of a = joined a.told ++ last_where a.fault a.last
 
--- A fault of the words, the configuration or the script: nothing is told.
+-- A fault of the words, the configuration or the script: nothing is written.
 abbrev pub faulted : InputFault → Account
 faulted fault = record { told = []; last = []; fault = Some fault; late = false }
 
@@ -42,7 +43,7 @@ account m answers last late c s = record {
   late = late;
 }
 
--- What some first items tell was written, each item's whole.
+-- The lines of some first items were written, each item's whole.
 pub record WroteItems (a : Account) (before after : Option (List ℕ)) : Type 0 where
   pub done : List (List ℕ)
   pub left : List (List ℕ)
@@ -53,8 +54,8 @@ pub record WroteItems (a : Account) (before after : Option (List ℕ)) : Type 0 
 abbrev pub EndsWith : Option InputFault → Account → Option (List ℕ) → Option (List ℕ) → Type 0
 EndsWith f a before after = (a.fault ≡ f) × (after ≡ with_more before (text_of a))
 
--- Nothing was written; or, where the end of the report is made in memory and no fault ends the run, all that is told
--- before it.
+-- Nothing was written; or, where the end of the report is made in memory and no fault ends the run,
+-- all lines before it.
 abbrev pub WroteNoEnd : Account → Option (List ℕ) → Option (List ℕ) → Type 0
 WroteNoEnd a before after =
     (after ≡ before) ⊎ ((a.late ≡ true) × (a.fault ≡ None) × (after ≡ with_more before (joined a.told)))
@@ -71,14 +72,15 @@ EndsAs (Err why.NoMemory) a before after = WroteNoEnd a before after
 abbrev pub IsRoomy : {K : Type 0} (roomy : K → ℕ → Type 0) → K → Type 0
 IsRoomy roomy k = (n : ℕ) × roomy k n
 
--- The same; in a sink that has room for the text, no put fails; and where all was served, `left` holds of what is left.
+-- The same; in a sink that has room for the text, no put fails; and where all was served, `left`
+-- holds of what is left.
 pub record Ends {K : Type 0} (r : Result (Unit {0}) Stop) (a : Account) (roomy : K → ℕ → Type 0) (before after : Option (List ℕ)) (old new : K) (left : Type 0) : Type 0 where
   pub as_said : EndsAs r a before after
   pub room : (room : ℕ) → roomy old room → length (text_of a) ≤ room → (is_all_put r ≡ true) × IsRoomy roomy new
   pub served : OnOk r left
 
--- What writing the end of a report leaves of a sink: the text whole, or its front up to a put that failed. Where there
--- is no memory, which only an end that is made in memory wants, nothing is put.
+-- What writing the end of a report leaves of a sink: the text whole, or its front up to a put that
+-- failed. Where there is no memory, which only an end that is made in memory wants, nothing is put.
 abbrev pub EndAfter : {K : Type 0} (sink : SinkMeaning K) (late : Bool) (text : List ℕ) (old new : K) → Result (Unit {0}) Stop → Type 0
 EndAfter sink late text old new (Ok u) = SinkAfter sink text old new true
 EndAfter sink late text old new (Err why.WriteFault) = SinkAfter sink text old new false
@@ -86,12 +88,12 @@ EndAfter sink late text old new (Err why.NoMemory) = (late ≡ true) × (new ≡
 EndAfter sink late text old new (Err why.ReadFault) = ⊥
 EndAfter sink late text old new (Err (why.Input fault)) = ⊥
 
--- The end of a run after a flush, which came to all or failed.
+-- The end of a run after a flush, which wrote all or failed.
 abbrev pub end_flushed : Bool → Result (Unit {0}) Stop → Result (Unit {0}) Stop
 end_flushed true end = end
 end_flushed false end = Err why.WriteFault
 
--- What a flush at the end of a run comes to; there is none where a put failed before.
+-- A flush at the end of a run; there is none where a put failed before.
 abbrev pub FlushesEnd : {K : Type 0} (sink : SinkMeaning K) (old new : K) → Result (Unit {0}) Stop → Result (Unit {0}) Stop → Type 0
 FlushesEnd sink old new (Err why.WriteFault) after = (new ≡ old) × (after ≡ Err why.WriteFault)
 FlushesEnd sink old new end after =
@@ -101,17 +103,18 @@ FlushesEnd sink old new end after =
 abbrev pub status_of : Account → Status
 status_of a = status_with a.fault
 
--- What a status says of the account, and of the output before and after the run. At a fault of the input, and where
--- there is none, the whole text is written; at a failed read, what some first items tell; at a failed write, a front of
--- the text; and for want of memory nothing, or, where the end of the report is made in memory, all but that end.
+-- What a status says of the account, and of the output before and after the run. At a fault of the
+-- input, and where there is none, the whole text is written; at a failed read, the lines of some
+-- first items; at a failed write, a front of the text; and for want of memory nothing, or, where
+-- the end of the report is made in memory, all but that end.
 abbrev pub Answers : Status → Account → Option (List ℕ) → Option (List ℕ) → Type 0
 Answers status.ReadFault a before after = WroteItems a before after
 Answers status.WriteFault a before after = WroteFront before (text_of a) after
 Answers status.NoMemory a before after = WroteNoEnd a before after
 Answers s a before after = (s ≡ status_of a) × (after ≡ with_more before (text_of a))
 
--- What a status says of what the words ask for: they ask for nothing exactly at the status of usage. Want of memory may
--- come first.
+-- What a status says of what the words ask for: they ask for nothing exactly at the status of
+-- usage. Want of memory may come first.
 abbrev pub SaysOfWords : {A : Type 0} → Status → Option A → Type 0
 SaysOfWords status.Usage a = a ≡ None
 SaysOfWords status.NoMemory a = Unit {0}
@@ -126,8 +129,8 @@ abbrev pub fault_message : Option InputFault → List ℕ
 fault_message None = []
 fault_message (Some f) = message_at (why.Input f)
 
--- The line for a status. Which line or key is bad, only the account knows, which a folder that tells no files leaves
--- open.
+-- The line for a status. Which line or key is bad, only the account knows; in a folder whose files
+-- aren't known it is left open.
 abbrev pub message_of : Status → Option Account → Option (List ℕ)
 message_of status.BadConfig e = option_map (λ (a : Account). fault_message a.fault) e
 message_of status.BadScript e = option_map (λ (a : Account). fault_message a.fault) e

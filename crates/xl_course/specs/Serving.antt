@@ -12,24 +12,24 @@ abbrev pub StateAfter : {C I S : Type 0} → Meaning C I S → Bool → List I �
 StateAfter m true items s t = t ≡ states_after m items s
 StateAfter m false items s t = Unit {0}
 
--- These items were served, and what they tell was written: whole, or up to a put that failed.
+-- These items were served, and their lines were written: whole, or up to a put that failed.
 pub record HasServed {K C I S : Type 0} (m : Meaning C I S) (sink : SinkMeaning K) (answers : Bool) (items : List I) (p q : S) (k l : K) (whole : Bool) : Type 0 where
   pub state_is : StateAfter m whole items p q
   pub writes : SinkAfter sink (told_by m answers items p) k l whole
 
--- Of this course some items were served and told, and that course is left.
+-- Of this course some items were served with their lines written, and that course is left.
 pub record Reached {K C I S : Type 0} (m : Meaning C I S) (sink : SinkMeaning K) (answers : Bool) (all left : Course I) (p q : S) (k l : K) : Type 0 where
   pub done : List I
   pub split : all ≡ before done left
   pub served : HasServed m sink answers done p q k l true
 
--- Of this course some items were served and told, and some course is left.
+-- Of this course some items were served with their lines written, and some course is left.
 pub record ReachedSome {K C I S : Type 0} (m : Meaning C I S) (sink : SinkMeaning K) (answers : Bool) (all : Course I) (p q : S) (k l : K) : Type 0 where
   pub left : Course I
   pub reached : Reached m sink answers all left p q k l
 
--- How far serving came of a course: to what is to be left; to the fault that ends it; to a put that failed; or anywhere,
--- where a read failed.
+-- How far serving came of a course: to what is to be left; to the fault that ends it; to a put that
+-- failed; or anywhere, where a read failed.
 abbrev pub Serves : {K C I S A : Type 0} (m : Meaning C I S) (sink : SinkMeaning K) → Bool → Course I → Course I → S → S → K → K → Result A Stop → Type 0
 Serves m sink answers all left p q k l (Ok a) = Reached m sink answers all left p q k l
 Serves m sink answers all left p q k l (Err (why.Input fault)) = Reached m sink answers all (ended (Some fault)) p q k l
@@ -37,13 +37,14 @@ Serves m sink answers all left p q k l (Err why.WriteFault) = HasServed m sink a
 Serves m sink answers all left p q k l (Err why.ReadFault) = ReachedSome m sink answers all p q k l
 Serves m sink answers all left p q k l (Err why.NoMemory) = ⊥
 
--- What a call answers that serves a part of a script: `by` gives the course of that part, and of what goes on after it;
--- `stands` says that the trace was fed from its files alone.
+-- What a call returns that serves a part of a script: `by` gives the course of that part, and of
+-- what continues after it; `stands` says that the trace was fed from its files alone.
 pub record ServesPart {K C I S A : Type 0} (m : Meaning C I S) (sink : SinkMeaning K) (answers : Bool) (stands : Type 0) (by : (Trail → Course I) → Course I) (u : Trail) (p q : S) (k l : K) (r : Result A Stop) : Type 0 where
   pub serves : (next : Trail → Course I) → Serves m sink answers (by next) (next u) p q k l r
   pub stands_still : OnOk r stands
 
--- So many records were the first of what was left, the rest of it is left, and the state is that after their items.
+-- `count` records were the first of what was left, the rest of it is left, and the state is that
+-- after their items.
 pub record Skimmed {C I S : Type 0} (m : Meaning C I S) (stands : Type 0) (t u : Trail) (p q : S) (count : ℕ) : Type 0 where
   pub stands_still : stands
   pub taken : List Accesses

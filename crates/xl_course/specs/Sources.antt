@@ -20,8 +20,8 @@ EndsBy why.ReadFault t = Unit {0}
 EndsBy why.WriteFault t = ⊥
 EndsBy why.NoMemory t = ⊥
 
--- What a source answers that is asked for a record, by what is left of it before and after; `stands` says that it is
--- fed from its files alone still.
+-- What a source returns that is asked for a record, by what is left of it before and after;
+-- `stands` says that it is fed from its files alone still.
 abbrev pub Gives : Type 0 → Trail → Trail → Result (Option Numbered) Stop → Type 0
 Gives stands t u (Ok None) = stands × (t ≡ at_end None) × (u ≡ at_end None)
 Gives stands t u (Ok (Some r)) = stands × (t ≡ record u { records = found_of r ∷ u.records })
@@ -32,8 +32,8 @@ abbrev pub accesses_of_all : List Accesses → List (ℕ × Kind)
 accesses_of_all [] = []
 accesses_of_all (r ∷ rs) = r.accesses ++ accesses_of_all rs
 
--- So many records were the first of what was left, and the rest of it is left; their accesses follow those that were
--- there before.
+-- `count` records were the first of what was left, and the rest of it is left; their accesses
+-- follow those that were there before.
 pub record Skims (stands : Type 0) (t u : Trail) (before after : List Access) (count : ℕ) : Type 0 where
   pub stands_still : stands
   pub taken : List Accesses

@@ -52,24 +52,25 @@ of_read read.Missing = why.Input fault.NoFile
 of_read read.Failed = why.ReadFault
 of_read read.NoMemory = why.NoMemory
 
--- What a status tells of the folder.
+-- What is known of the folder by a status.
 abbrev pub status_fate : Status → ReadFate
 status_fate status.NoFile = FileMissing
 status_fate status.ReadFault = ReadFailed
 status_fate _ = Fine
 
--- What a run of this status leaves of the folder. At a failed put a read may have failed too: what was put before that
--- read can be written after it.
+-- What a run of this status leaves of the folder. At a failed put a read may have failed too: what
+-- was put before that read can be written after it.
 abbrev pub FolderLeft : {D : Type 0} (folder : FolderMeaning D) (old new : D) → Status → Type 0
 FolderLeft folder old new status.WriteFault = (fate : ReadFate) × FolderAfter folder old new fate
 FolderLeft folder old new s = FolderAfter folder old new (status_fate s)
 
--- Whether a status tells of no failed put.
+-- Whether no put failed, by a status.
 abbrev pub is_status_put : Status → Bool
 is_status_put status.WriteFault = false
 is_status_put _ = true
 
--- What a fault of the input tells of its folder: a file that isn't there was asked for, or nothing.
+-- What is known of the folder by a fault of the input: a file that isn't there was asked for, or
+-- nothing.
 abbrev pub fault_fate : InputFault → ReadFate
 fault_fate fault.NoFile = FileMissing
 fault_fate fault.Words = Fine
@@ -81,7 +82,7 @@ fault_fate (fault.ScriptLine line reason) = Fine
 fault_fate fault.TraceTooLong = Fine
 fault_fate (fault.TraceLine line reason) = Fine
 
--- What a stop tells of the folder.
+-- What is known of the folder by a stop.
 abbrev pub stop_fate : Stop → ReadFate
 stop_fate (why.Input fault) = fault_fate fault
 stop_fate why.ReadFault = ReadFailed
@@ -96,7 +97,7 @@ is_all_put (Err why.ReadFault) = true
 is_all_put (Err why.WriteFault) = false
 is_all_put (Err why.NoMemory) = true
 
--- A fault that is met in the reading of a file; a fault of the words is none.
+-- A fault that is found while a file is read; a fault of the words is none.
 abbrev pub IsMet : InputFault → Type 0
 IsMet fault.Words = ⊥
 IsMet fault.ConfigTooLong = Unit {0}
@@ -108,14 +109,14 @@ IsMet fault.TraceTooLong = Unit {0}
 IsMet (fault.TraceLine line reason) = Unit {0}
 IsMet fault.NoFile = Unit {0}
 
--- A source stops at a fault that is met in reading, or at a failed read.
+-- A source stops at a fault found in reading, or at a failed read.
 abbrev pub StopsSource : Stop → Type 0
 StopsSource (why.Input fault) = IsMet fault
 StopsSource why.ReadFault = Unit {0}
 StopsSource why.WriteFault = ⊥
 StopsSource why.NoMemory = ⊥
 
--- Serving takes no memory: it stops at a fault that is met in reading, or at a failed read or write.
+-- Serving takes no memory: it stops at a fault found in reading, or at a failed read or write.
 abbrev pub StopsServing : Stop → Type 0
 StopsServing (why.Input fault) = IsMet fault
 StopsServing why.ReadFault = Unit {0}
@@ -129,7 +130,7 @@ StopsOpening why.ReadFault = Unit {0}
 StopsOpening why.WriteFault = ⊥
 StopsOpening why.NoMemory = Unit {0}
 
--- A run stops at something that is met in it, and not at its words.
+-- A run stops at something found in it, and not at its words.
 abbrev pub StopsRun : Stop → Type 0
 StopsRun (why.Input fault) = IsMet fault
 StopsRun why.ReadFault = Unit {0}

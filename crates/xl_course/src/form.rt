@@ -23,8 +23,8 @@ pub enum Step<C> {
     RunRest,
 }
 
-/// What a run is asked for, beside its trace: a script, lines of its accesses and commands, and the end of
-/// its report.
+/// What a run is asked for, beside its trace: a script, lines of its accesses and commands, and the
+/// end of its report.
 pub trait Orders {
     /// The commands of the script.
     type Command: Copy;
@@ -59,8 +59,8 @@ pub trait Orders {
         ensures { result ≡ end self.now };
 }
 
-/// A form of the program: how it serves commands and accesses to what a rack holds, and how it ends its
-/// report. It may keep something beside the rack, and let items wait where no line is written.
+/// A form of the program: how it serves commands and accesses to what a rack holds, and how it ends
+/// its report. It may keep state beside the rack, and queue items where no line is written.
 pub trait Form<R>: Sized {
     /// The commands of its script.
     type Command: Copy;
@@ -74,10 +74,10 @@ pub trait Form<R>: Sized {
     /// What items change.
     ghost State: { Type 0 };
 
-    /// What commands and accesses are, and what items do and tell.
+    /// What commands and accesses are, what items do, and their lines.
     ghost meaning: { Meaning Self.Command Item State };
 
-    /// The state, when what waits is served.
+    /// The state once the queue is flushed.
     ghost state: { Self → R → State };
 
     /// These commands may still be served, one after another.
@@ -107,7 +107,7 @@ pub trait Form<R>: Sized {
         ensures can { (rest : List Self.Command)
             → can self.old rack.old (command ∷ rest) → can self.new rack.new rest };
 
-    /// Serves an access of the record of this number. It may wait where no line is written.
+    /// Serves an access of the record of this number. It may be queued where no line is written.
     fn access<K: Sink>(
         &mut self,
         rack: &mut R,
@@ -122,8 +122,8 @@ pub trait Form<R>: Sized {
         ensures can { (commands : List Self.Command)
             → can self.old rack.old commands → can self.new rack.new commands };
 
-    /// Serves the accesses of the next records, at most so many and perhaps none, of which no line is
-    /// written. Gives of how many records.
+    /// Serves the accesses of the next records, of `most` at most and perhaps none, of which no
+    /// line is written. Returns of how many records.
     fn skim<T: Source>(&mut self, rack: &mut R, source: &mut T, most: u64) -> u64
         ensures skims { (fs : Files) → T.stands source.old fs
             → Skimmed meaning (T.stands source.new fs) (T.left source.old fs) (T.left source.new fs)
@@ -133,7 +133,7 @@ pub trait Form<R>: Sized {
         ensures can { (commands : List Self.Command)
             → can self.old rack.old commands → can self.new rack.new commands };
 
-    /// Serves what waits, and writes the end of the report.
+    /// Flushes the queue, and writes the end of the report.
     fn finish<K: Sink>(&mut self, rack: &mut R, end: Self::End, out: &mut K) -> Result<(), Stop>
         ensures written { EndAfter K.sink (late end)
             (last end (state self.old rack.old)) out.old out.new result }

@@ -1,5 +1,5 @@
-//! A script that is served over a trace, in any form of the program: the order in which commands and
-//! accesses are served, the end of the report, and how the run ends.
+//! A script that is served over a trace, in any form of the program: the order in which commands
+//! and accesses are served, the end of the report, and how the run ends.
 #![tactic(auto)]
 
 mod form;

@@ -1,4 +1,4 @@
-//! A script that is served over a trace, and the end of the report behind it.
+//! A script that is served over a trace, and the end of the report after it.
 
 ghost use Rattle.std.specs.Prelude.{◌≡◌, IfErr, IfSome};
 ghost use Rattle.xl_outside.specs.Folders.{FolderAfter, fate_by};
@@ -48,8 +48,8 @@ fn replay<
     form.finish(rack, orders.end(), out)
 }
 
-/// Writes what the sink took and has not yet written, unless a put failed. Gives the run's end after
-/// that.
+/// Writes what the sink took and has not yet written, unless a put failed. Gives the run's end
+/// after that.
 fn flushed<K: Sink>(out: &mut K, end: Result<(), Stop>) -> Result<(), Stop>
     ensures { FlushesEnd K.sink out.old out.new end result }
 {
@@ -62,9 +62,9 @@ fn flushed<K: Sink>(out: &mut K, end: Result<(), Stop>) -> Result<(), Stop>
     }
 }
 
-/// Serves a script over a trace, writes the end of the report, and flushes. What is written is the account
-/// of the script's course over what is left of the source, from the form's state on. At Ok the rack holds
-/// the state after that course.
+/// Serves a script over a trace, writes the end of the report, and flushes. What is written is the
+/// account of the script's course over what is left of the source, from the form's state on. At Ok
+/// the rack holds the state after that course.
 pub fn report<
     R,
     D: Form<R>,

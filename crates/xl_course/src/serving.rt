@@ -114,7 +114,7 @@ fn serve_step<R, D: Form<R>, T: Source, F: Folder, K: Sink, const ANSWERS: bool>
     }
 }
 
-/// Lets the form take the next records, at most so many, where no line is written. Gives how many.
+/// Lets the form take the next records, `most` at most, where no line is written. Returns how many.
 #[inline(always)]
 fn skim<R, D: Form<R>, T: Source, const ANSWERS: bool>(
     form: &mut D,
@@ -201,7 +201,7 @@ fn serve_run<R, D: Form<R>, T: Source, F: Folder, K: Sink, const ANSWERS: bool>(
     Ok(())
 }
 
-/// Serves the accesses of a record. In line, so that a record stays in registers.
+/// Serves the accesses of a record. Inlined, so that a record stays in registers.
 #[inline(always)]
 fn serve_record<R, D: Form<R>, K: Sink, const ANSWERS: bool>(
     form: &mut D,

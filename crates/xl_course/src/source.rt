@@ -37,9 +37,9 @@ pub trait Source: Sized {
         ensures met { IfErr result StopsSource }
         ensures shrinks { IfOk result (λ r. IsSome r → size self.new < size self.old) };
 
-    /// Takes the next records that are at hand, at most so many, while each is in Lackey's own form and
-    /// its bytes lie in one page, and puts their accesses behind those that are there, while there is
-    /// room. Gives how many were taken, perhaps none.
+    /// Takes the next records that are held, `most` at most, while each is in Lackey's own form and
+    /// its bytes lie in one page; appends their accesses, while there is room. Returns how many
+    /// were taken, perhaps none.
     fn skim(&mut self, into: &mut Batch, most: u64) -> u64
         ensures skims { (fs : Files) → stands self.old fs
             → Skims (stands self.new fs) (left self.old fs) (left self.new fs)

@@ -129,7 +129,7 @@ pub reworded-is : (key word at : ℕ) (ws : List WayState) → AreOnce (shapes w
 unfolding Leaves with_word
 reworded-is key word at ws once l h = one-changed key at (with_word key word) ws (λ w n. ap (λ es. record w { entries = es }) (none-reworded key word w.entries n)) l h (once key)
 
--- each key goes on to stand once
+-- each key continues to occur once
 pub once-same : (old new : List WayShape) → AreOnce old → SameEntries old new → AreOnce new
 once-same old new once same = λ key. let e : tally (has_key key) (entries_in new) ≡ tally (has_key key) (entries_in old) = ap (tally (has_key key)) (entries-same new old same) in let o = once key in omega arith
 

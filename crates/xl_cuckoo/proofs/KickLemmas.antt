@@ -28,7 +28,7 @@ shapes-put ws at x =
 pub put-length : (ws : List WayState) (at : ℕ) (x : Entry) → length (put_at ws at x) ≡ length ws
 put-length ws at x = length-set ws at (with_swapped x (state_at ws at))
 
--- what stood in a slot, put back
+-- what was in a slot, put back
 pub back-is : (ws : List WayState) (at : ℕ) (old new : WayState) (o : Option Entry) → at < length ws → old ≡ state_at ws at → new.loads ≡ old.loads
     → IfSome o (λ e. old.shape ≡ swapped new.shape e) → IfSome o (λ e. put_at (set ws at new) at e ≡ ws)
 back-is ws at old new None less is loads h = tt
@@ -92,14 +92,14 @@ keys-length (suc n) ws at hand =
     let left = in_hand (occupant (state_at ws w).shape hand.key) hand in
     omega (arith, length-append (keys_in_hand n (put_at ws w hand) w left) (hand.key ∷ []), keys-length n (put_at ws w hand) w left)
 
--- of two lists with one element behind as many: the elements are the same, and what is in front
+-- of two lists with one element after as many: the elements are the same, and what is in front
 same-last : (xs ys : List ℕ) (a b : ℕ) → length xs ≡ length ys → xs ++ a ∷ [] ≡ ys ++ b ∷ [] → (xs ≡ ys) × (a ≡ b)
 same-last xs ys a b l e = (
   sym (take-append_seam xs (a ∷ [])) ∙ ap (λ (n : ℕ). take n (xs ++ a ∷ [])) l ∙ ap (λ (zs : List ℕ). take (length ys) zs) e ∙ take-append_seam ys (b ∷ []),
   sym (get_or-append_seam xs a [] 0) ∙ ap (λ (n : ℕ). get_or (xs ++ a ∷ []) n 0) l ∙ ap (λ (zs : List ℕ). get_or zs (length ys) 0) e ∙ get_or-append_seam ys b [] 0,
 )
 
--- where the keys in hand are the first of these, the one in hand now is the last of them
+-- where the keys in hand are the first of these, the one in hand at present is the last of them
 pub key-told : (n : ℕ) (ws : List WayState) (at : ℕ) (hand : Entry) (keys : List ℕ) → n < length keys → keys_in_hand (n + 1) ws at hand ≡ take (n + 1) keys
     → (keys_in_hand n (put_at ws (previous_way (length ws) at) hand) (previous_way (length ws) at) (in_hand (occupant (state_at ws (previous_way (length ws) at)).shape hand.key) hand) ≡ take n keys)
     × (hand.key ≡ get_or keys n 0)

@@ -83,7 +83,7 @@ written-end f ws vs i l e = e ∙ ap (λ us. map f (take i ws) ++ us) (drop_all 
     take-all (suc n) [] h = refl
     take-all (suc n) (u ∷ us) h = ap (λ vs. u ∷ vs) (take-all n us (omega arith))
 
--- what stands at the next place is still as it was
+-- what is at the next place is still as it was
 pub state-same : (f : WayState → WayState) (ws vs : List WayState) (i : ℕ) → i < length ws → vs ≡ map f (take i ws) ++ drop i ws → state_at vs i ≡ state_at ws i
 state-same f ws vs i l e = ap (λ us. state_at us i) e ∙ go ws i l
   where

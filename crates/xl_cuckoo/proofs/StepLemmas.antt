@@ -15,7 +15,7 @@ use Rattle.xl_cuckoo.specs.Table.{SameEntries}
 use Rattle.xl_cuckoo.specs.Steps.{IsCapped, IsGrown, with_kicks, with_undone}
 use Rattle.xl_cuckoo.proofs.KickLemmas.{map-length, shape-at}
 
--- what the attempts of an entry come to
+-- the result of the attempts of an entry
 abbrev pub tried : ℕ → List WayShape → Entry → Attempt
 tried limit ws x = attempt limit ws (start_way (length ws) x.key) x []
 

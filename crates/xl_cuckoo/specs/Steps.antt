@@ -9,7 +9,7 @@ use Rattle.xl_cuckoo.specs.declared.placing.Step.{Step}
 use Rattle.xl_cuckoo.specs.declared.placing.Step.TheVariants as step
 use Rattle.xl_cuckoo.specs.Table.{SameEntries}
 
--- What was done, with the kicks of an attempt that stands.
+-- What was done, with the kicks of a successful attempt.
 abbrev pub with_kicks : ℕ → Moves → Moves
 with_kicks kicks m = record m { kicks = plus m.kicks kicks }
 
@@ -23,7 +23,7 @@ pub record IsCapped (limit : ℕ) (x : Entry) (m : Moves) (old new : List WaySha
   pub kept : SameEntries old new
   pub none : moved ≡ []
 
--- The attempt fails and a way grows: placing goes on from there, with one growth fewer.
+-- The attempt fails and a way grows: placing continues from there, with one growth fewer.
 pub record IsGrown (limit : ℕ) (x : Entry) (m : Moves) (old new : List WayShape) (after : Moves) : Type 0 where
   pub is : (room : ℕ) → placing (suc room) limit old x m ≡ placing room limit new x after
   pub kept : SameEntries old new

@@ -7,7 +7,8 @@ use Rattle.xl_model.specs.Placing.{Displaced, Placing, insertion}
 use Rattle.xl_model_lemmas.specs.Sections.{tally, entries_of, entries_in}
 use Rattle.xl_way.specs.Slots.{word_of}
 
--- A table: its rules, its ways, what the attempt that stood displaced in the last insertion, and the loads made of it.
+-- A table: its rules, its ways, what the last insertion displaced in its successful attempt, and
+-- the loads made of it.
 pub record CuckooState : Type 0 where
   pub threshold : ℕ
   pub kick_limit : ℕ
@@ -20,11 +21,11 @@ pub record CuckooState : Type 0 where
 abbrev pub value_of : ℕ → List WayShape → Option ℕ
 value_of key ways = word_of key (entries_in ways)
 
--- A table of which so many loads more were made.
+-- A table of which n loads more were made.
 abbrev pub loaded : ℕ → CuckooState → CuckooState
 loaded n t = record t { loads = plus t.loads n }
 
--- What the insertion of an entry comes to, by the table's own rules.
+-- The result of the insertion of an entry, by the table's own rules.
 abbrev pub inserted : CuckooState → Entry → Placing
 inserted t x = insertion t.kick_limit t.migrate t.threshold t.ways x
 
@@ -36,7 +37,7 @@ SameEntries old new = map entries_of new ≡ map entries_of old
 abbrev pub AddsEntry : Entry → List WayShape → List WayShape → Type 0
 AddsEntry x old new = (p : Entry → Bool) → tally p (entries_in new) ≡ one_if (p x) + tally p (entries_in old)
 
--- No key stands twice, in one way or in two.
+-- No key occurs twice, in one way or in two.
 abbrev pub AreOnce : List WayShape → Type 0
 AreOnce ways = (key : ℕ) → tally (has_key key) (entries_in ways) ≤ 1
 
@@ -45,7 +46,7 @@ abbrev pub opening : ℕ → ℕ → ℕ → List WayShape → CuckooState
 opening threshold kick_limit migrate ways =
     record { threshold = threshold; kick_limit = kick_limit; migrate = migrate; ways = ways; moved = []; loads = 0 }
 
--- What a table of so many ways keeps.
+-- What a table of `count` ways keeps.
 pub record IsTable (count threshold kick_limit : ℕ) (ways : List WayShape) : Type 0 where
   pub width : length ways ≡ count
   pub some : 2 ≤ count

@@ -7,11 +7,11 @@ use Rattle.xl_way.specs.Slots.{WayState}
 use Rattle.xl_cuckoo.specs.declared.moved.Moved.{Moved}
 use Rattle.xl_cuckoo.specs.State.{state_at, put_at}
 
--- What is told of a displaced key.
+-- What the log has of a displaced key.
 abbrev pub displaced : Moved → Displaced
 displaced m = record { key = m.key; way = m.way }
 
--- What is told of a displaced key, if there is one.
+-- What the log has of a displaced key, if there is one.
 abbrev pub told : Option Moved → Option Displaced
 told None = None
 told (Some m) = Some (displaced m)
@@ -20,24 +20,24 @@ told (Some m) = Some (displaced m)
 abbrev pub previous_way : ℕ → ℕ → ℕ
 previous_way count at = (at + (count - 1)) % count
 
--- What is taken in hand: the entry that stood in the slot.
+-- What is taken in hand: the entry that was in the slot.
 abbrev pub in_hand : Option Entry → Entry → Entry
 in_hand None hand = hand
 in_hand (Some e) hand = e
 
--- The ways after so many displacements were undone.
+-- The ways after n displacements were undone.
 unfoldable pub undone : ℕ → List WayState → ℕ → Entry → List WayState
 undone zero ways at hand = ways
 undone (suc n) ways at hand =
     undone n (put_at ways (previous_way (length ways) at) hand) (previous_way (length ways) at)
     (in_hand (occupant (state_at ways (previous_way (length ways) at)).shape hand.key) hand)
 
--- The key that is told of a displacement.
+-- The key of a logged displacement.
 abbrev pub key_of : Moved → ℕ
 key_of m = m.key
 
--- The keys that are in hand while so many displacements are undone, in the order of the displacements: the one in
--- hand at first is the last.
+-- The keys that are in hand while n displacements are undone, in the order of the displacements:
+-- the one in hand at first is the last.
 unfoldable pub keys_in_hand : ℕ → List WayState → ℕ → Entry → List ℕ
 keys_in_hand zero ways at hand = []
 keys_in_hand (suc n) ways at hand =

@@ -30,8 +30,9 @@ fn key_at(moved: &[Moved], i: usize) -> u64
     displacement.key
 }
 
-/// Undoes the displacements that are told, where the last displaced entry is in hand for way `at`. The keys are
-/// taken from what is told, so that no slot is looked for only when the one before was read.
+/// Rolls back kicks from the log; `hand` is the last entry displaced, and `at` the way that it went
+/// to. Keys are taken from the log, so that no slot is looked for only when the one before was
+/// read.
 pub(crate) fn undo(ways: &mut [Way], moved: &[Moved], at: usize, hand: Entry)
     requires within { at < length ways.old }
     requires few { length ways.old ≤ 4 }
@@ -56,8 +57,8 @@ pub(crate) fn undo(ways: &mut [Way], moved: &[Moved], at: usize, hand: Entry)
     }
 }
 
-/// Makes an attempt to place `entry`, from way `start` on, with at most `limit` displacements, which
-/// are told in their order. Answers whether it stands; if not, all ways are as before it.
+/// Makes an attempt to place `entry`, from way `start` on, with at most `limit` displacements,
+/// logged in their order. Returns whether it succeeds; if not, all ways are as before it.
 pub(crate) fn attempt(
     ways: &mut [Way],
     limit: usize,

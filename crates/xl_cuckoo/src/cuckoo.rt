@@ -19,8 +19,8 @@ use std::marker::Model;
 use xl_model::{Entry, Moves, NoMemory};
 use xl_way::Way;
 
-/// An elastic cuckoo table of `D` ways, two to four: keys with a word each. A key stands in one way,
-/// in its slot there. Contracts see the ways by what they hold, with their registers, and the loads
+/// An elastic cuckoo table of `D` ways, two to four: keys with a word each. A key is in one way, in
+/// its slot there. Contracts see the ways by what they hold, with their registers, and the loads
 /// that were made of all of them. Nothing is allocated after `open`.
 #[derive(Drop)]
 pub struct Cuckoo<const D: usize> {
@@ -75,9 +75,9 @@ fn open_ways(
 
 impl<const D: usize> Cuckoo<D> {
     /// An empty table, each of whose ways has 2^`start_bits` slots and may grow to 2^`cap_bits`. An
-    /// insertion displaces at most `kick_limit` keys in an attempt; then each growing way migrates at
-    /// most `migrate` slots, and a way begins to grow where it holds more keys than `threshold` in the
-    /// hundred of its slots. All memory that the table wants is taken here.
+    /// insertion displaces at most `kick_limit` keys in an attempt; then each growing way migrates
+    /// at most `migrate` slots, and a way begins to grow where it holds more keys than `threshold`
+    /// in the hundred of its slots. All memory that the table wants is taken here.
     ///
     /// # Errors
     ///
@@ -152,9 +152,9 @@ impl<const D: usize> Cuckoo<D> {
         self.loads
     }
 
-    /// The `i`-th key, from 0 on, that the last insertion displaced in the attempt that stood, and the
-    /// way to which it went. None past the last one, and where the last insertion was refused or
-    /// there was none.
+    /// The `i`-th key, from 0 on, that the last insertion displaced in its successful attempt, and
+    /// the way to which it went. `None` past the last one, and where the last insertion was refused
+    /// or there was none.
     pub fn moved(&self, i: usize) -> Option<Moved>
         ensures is { told result ≡ slice_get self.now.moved i }
         ensures few { IfSome result (λ moved. i < 64) }
@@ -167,7 +167,7 @@ impl<const D: usize> Cuckoo<D> {
     }
 
     /// Counts a load of each way. All ways of a key are read at once, whichever holds it, so that a
-    /// probe counts as many loads wherever its search ends, and also where its answer isn't wanted.
+    /// probe counts as many loads wherever its search ends, and also where its result isn't needed.
     #[inline(always)]
     pub fn count_probe(&mut self)
         ensures { self.new ≡ loaded (length self.old.ways) self.old }
@@ -183,7 +183,7 @@ impl<const D: usize> Cuckoo<D> {
         self.loads = self.loads.wrapping_add(1);
     }
 
-    /// The word that is kept for the key, as `get` answers it, by one load of each way.
+    /// The word that is kept for the key, as `get` returns it, by one load of each way.
     #[inline(always)]
     pub fn probe(&mut self, key: u64) -> Option<u64>
         ensures found { result ≡ value_of key self.old.ways }
@@ -194,8 +194,8 @@ impl<const D: usize> Cuckoo<D> {
         found
     }
 
-    /// The word that one way keeps for the key, by one load; None exactly where that way doesn't hold
-    /// it.
+    /// The word that one way keeps for the key, by one load; None exactly where that way doesn't
+    /// hold it.
     #[inline(always)]
     pub fn probe_way(&mut self, way: u64, key: u64) -> Option<u64>
         requires { way < length self.old.ways }
@@ -207,10 +207,10 @@ impl<const D: usize> Cuckoo<D> {
         found
     }
 
-    /// Inserts a key that isn't held, with its word. An attempt puts it into its slot of a way; the key
-    /// that stood there goes on to the next way, round all ways, until a slot is empty. Where an
-    /// attempt comes to more displacements than it may make, all of them are undone, the smallest way
-    /// grows, and another attempt is made. Answers what was done.
+    /// Inserts a key that isn't held, with its word. An attempt puts it into its slot of a way; the
+    /// key that was there moves to the next way, round all ways, until a slot is empty. Where an
+    /// attempt needs more displacements than it may make, all of them are undone, the smallest way
+    /// grows, and another attempt is made. Returns what was done.
     ///
     /// # Errors
     ///
@@ -256,12 +256,12 @@ impl<const D: usize> Cuckoo<D> {
         remove(&mut self.ways, key)
     }
 
-    /// What the type keeps: no key stands twice, and the ways are as many as the type says.
+    /// What the type keeps: no key occurs twice, and the ways are as many as the type says.
     pub fn keys_stand_once(&self)
         ensures once { AreOnce self.now.ways }
         ensures width { length self.now.ways ≡ D }
     {
-        // A look at a field brings in what the type keeps.
+        // Reading a field brings in the type's invariant.
         let _ways = &self.ways;
     }
 }

@@ -1,4 +1,4 @@
-//! Growth: the way that grows after a failed attempt, and what settles after one that stands.
+//! Growth: the way that grows after a failed attempt, and migration after one that succeeded.
 
 ghost use Rattle.std.specs.Prelude.{◌≡◌, ◌<◌, ◌≤◌, true, false};
 ghost use Rattle.xl_model.specs.Ways.{slots_left};
@@ -7,8 +7,8 @@ ghost use Rattle.xl_model.specs.Base.{one_if};
 
 use xl_way::Way;
 
-/// Completes a growth of a way, which begins where the way isn't growing. Answers how many slots were
-/// migrated, and how many growths began.
+/// Completes a growth of a way, which begins where the way isn't growing. Returns how many slots
+/// were migrated, and how many growths began.
 #[tactic(auto, unfolding(xl_model::specs::Placing::forced, xl_model::specs::Ways::begun))]
 pub(crate) fn force(way: &mut Way) -> (u64, u64)
     requires { way.old.shape.regs.s < way.old.shape.cap }
@@ -21,7 +21,7 @@ pub(crate) fn force(way: &mut Way) -> (u64, u64)
     (way.migrate(slots), growths)
 }
 
-/// Begins to grow, unless the way is growing. Answers how many growths began.
+/// Begins to grow, unless the way is growing. Returns how many growths began.
 #[tactic(auto, unfolding(xl_model::specs::Ways::begun))]
 fn start(way: &mut Way) -> u64
     requires { way.old.shape.regs.s < way.old.shape.cap }
@@ -37,7 +37,7 @@ fn start(way: &mut Way) -> u64
     }
 }
 
-/// Migrates some slots of a way that is growing, and answers how many.
+/// Migrates some slots of a way that is growing, and returns how many.
 pub(crate) fn settle_way(way: &mut Way, most: u64) -> u64
     ensures way { way.new ≡ record way.old { shape = settled_way most way.old.shape } }
     ensures migrated { result ≡ slots_settled most way.old.shape }
@@ -61,7 +61,7 @@ fn begins_now(way: &Way, threshold: u64) -> bool
     !regs.growing && regs.s < way.cap() && threshold << regs.s < way.used() as u64 * 100
 }
 
-/// Begins to grow where the way is fuller than the threshold. Answers how many growths began.
+/// Begins to grow where the way is fuller than the threshold. Returns how many growths began.
 pub(crate) fn begin_if_full(way: &mut Way, threshold: u64) -> u64
     requires { threshold ≤ 100 }
     ensures way { way.new ≡ record way.old { shape = begun_if_full threshold way.old.shape } }

@@ -1,4 +1,4 @@
-//! What an insertion tells.
+//! The log of an insertion.
 
 use xl_model::Moves;
 

@@ -15,8 +15,8 @@ use arrayvec::ArrayVec;
 use xl_model::{Entry, Moves, way_hash};
 use xl_way::Way;
 
-/// By what a table inserts: at most `kick_limit` displacements an attempt, at most `migrate` slots of
-/// a way that settle, and the threshold at which a way grows, in hundredths of its slots.
+/// By what a table inserts: at most `kick_limit` displacements an attempt, at most `migrate` slots
+/// of a way that settle, and the threshold at which a way grows, in hundredths of its slots.
 #[derive(Clone, Copy)]
 pub(crate) struct Rules {
     pub(crate) threshold: u8,
@@ -24,7 +24,7 @@ pub(crate) struct Rules {
     pub(crate) migrate: u8,
 }
 
-/// What an attempt came to, with the growth that followed it, and all that was done so far.
+/// The result of an attempt, with the growth that followed it, and all that was done so far.
 enum Step {
     Stands(Moves),
     Grown(Moves),
@@ -40,7 +40,7 @@ fn start(count: usize, key: u64) -> usize
     (way_hash(count as u64, key) % count as u64) as usize
 }
 
-/// The kicks of an attempt that stands, with what was done before.
+/// The kicks of an attempt that succeeded, with what was done before.
 fn count_kicks(moves: Moves, kicks: u64) -> Moves
     ensures { result ≡ with_kicks kicks moves }
 {
@@ -91,8 +91,8 @@ fn try_once(
     }
 }
 
-/// Places an entry: attempts and growths in turn, until an attempt stands or no way may grow.
-/// Displacements of the attempt that stands are told in their order.
+/// Places an entry: attempts and growths in turn, until an attempt succeeds or no way may grow.
+/// The displacements of the successful attempt are logged in their order.
 fn place(
     ways: &mut [Way],
     limit: usize,

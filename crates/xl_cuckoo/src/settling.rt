@@ -1,4 +1,4 @@
-//! What settles after an attempt that stands.
+//! Migration and growth after a successful insertion.
 
 ghost use Rattle.std.specs.Prelude.{◌≡◌, ◌<◌, ◌≤◌, length, map, slice_set};
 ghost use Rattle.xl_model.specs.Base.{plus, one_if};
@@ -9,7 +9,7 @@ use crate::growth::{begin_if_full, settle_way};
 use xl_model::Moves;
 use xl_way::Way;
 
-/// Migrates some slots of one way, if it is growing, and answers how many.
+/// Migrates some slots of one way, if it is growing, and returns how many.
 fn settle_at(ways: &mut [Way], at: usize, most: u64) -> u64
     requires { at < length ways.old }
     ensures ways { ways.new ≡ slice_set ways.old at (with_settled most (state_at ways.old at)) }
@@ -19,7 +19,7 @@ fn settle_at(ways: &mut [Way], at: usize, most: u64) -> u64
     settle_way(way, most)
 }
 
-/// One way begins to grow where it is fuller than the threshold. Answers how many growths began.
+/// One way begins to grow where it is fuller than the threshold. Returns how many growths began.
 fn begin_at(ways: &mut [Way], at: usize, threshold: u64) -> u64
     requires within { at < length ways.old }
     requires threshold { threshold ≤ 100 }
@@ -57,8 +57,8 @@ fn begin_each(ways: &mut [Way], threshold: u64, before: u64) -> u64
     growths
 }
 
-/// Settles the ways: those that are growing migrate at most so many slots each, then those that are
-/// fuller than the threshold begin to grow. Answers what was done, with what was done before.
+/// Settles the ways: those that are growing migrate `most` slots each at most, then those that are
+/// fuller than the threshold begin to grow. Returns what was done, with what was done before.
 pub(crate) fn settle(ways: &mut [Way], most: u64, threshold: u64, moves: Moves) -> Moves
     requires { threshold ≤ 100 }
     ensures ways { shapes ways.new ≡ settled most threshold (shapes ways.old) }

@@ -9,7 +9,7 @@ ghost use Rattle.xl_cuckoo.specs.Undo.{previous_way};
 use xl_model::Entry;
 use xl_way::Way;
 
-/// Puts an entry into its slot of one way, and answers what stood there.
+/// Puts an entry into its slot of one way, and returns the entry that was there.
 pub(crate) fn swap_at(ways: &mut [Way], at: usize, entry: Entry) -> Option<Entry>
     requires within { at < length ways.old }
     requires full { 0 < entry.word }
@@ -32,8 +32,8 @@ pub(crate) fn is_free_at(ways: &[Way], at: usize, key: u64) -> bool
     way.is_free(key)
 }
 
-/// The way behind this one, round all ways. By a comparison: a division would cost more than all else of a
-/// displacement.
+/// The way after this one, round all ways. By a comparison: a division would cost more than all
+/// else of a displacement.
 pub(crate) fn next(count: usize, at: usize) -> usize
     requires within { at < count }
     requires few { count ≤ 4 }

@@ -36,7 +36,7 @@ purged_state t rules ws m2 g1 leaves now = record {
   loads = t.loads;
 }
 
--- the row that the compared parts are, and the table that they come to
+-- the row of the compared parts, and its table
 pub record ComparedRow (p after : RowParts) (leaves : List Leaf) (now : CuckooWays) : Type 0 where
   pub row : IsRow after
   pub state : row_state after ≡ purged_state (row_state p) (rules_in p) (ways_in p) (sections_in p.middle_cache) (sections_in p.large_cache) leaves now

@@ -38,7 +38,7 @@ fresh to size leaves ways c after left f old =
 both-left : (a b x y p q : ℕ) → a + x ≡ p → b + y ≡ q → a + b ≡ (p + q) - (x + y)
 both-left a b x y p q e f = omega arith
 
--- the row after a fence, and what it answers
+-- the row after a fence, and the result
 pub record FencedRow (to : Reach) (p after : RowParts) (left : ℕ) : Type 0 where
   pub row : IsRow after
   pub fence : IsFence to (row_state p) left (row_state after)

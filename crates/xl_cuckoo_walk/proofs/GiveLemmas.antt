@@ -68,7 +68,7 @@ key-reworded key word e (w ∷ ways) i = elim (In-append e (map (reworded key wo
     go d true = refl
     go d false = refl
 
--- the word of a frame tells the frame
+-- the frame of a word
 bit-low : (b : Bool) (m : ℕ) → bit_if b m ≤ m
 bit-low true m = omega arith
 bit-low false m = omega arith

@@ -132,7 +132,7 @@ fit-leaf p x v = record {
   frame_aligned = frames x.order x.frame v.frames_aligned.0 v.frames_aligned.1;
 }
 
--- a leaf that meets none of the row's
+-- a leaf that overlaps none of the row's
 pub free-now : (p : RowParts) (x : Leaf) → meets_any x.space x.first x.order (row_state p).leaves ≡ false → meets_any x.space x.first x.order (leaves_in (ways_in p)) ≡ false
 unfolding row_state
 free-now p x free = free

@@ -68,7 +68,7 @@ pub leaf-found : MadeWordsReadBack → (p : RowParts) → IsRow p → (s page : 
 unfolding row_state
 leaf-found back p r s page h = from-said order.K4 s page (ways_in p) h.space_in h.page_in ∙ at-page back One s page (values_in (ways_in p)) (tags_in (ways_in p)) (leaves_in (ways_in p)) h.space_in h.page_in r.held
 
--- whether a block is met
+-- whether a block overlaps a leaf
 pub block-met : MadeWordsReadBack → (p : RowParts) → IsRow p → (s first : ℕ) (o : Order) → IsBlock (row_state p).shape s first o
     → (counts_smaller o (s * 2 ^ 45 + first / pages_of o) p || is_some (looked_from o s first (ways_in p))) ≡ meets_any s first o (row_state p).leaves
 unfolding row_state

@@ -89,7 +89,7 @@ module _ (back : MadeWordsReadBack) (ws : CuckooWays) (leaves : List Leaf) (held
   possible-large (Some z) h x i c =
       ap (λ y. holds y x.order) (h z refl).is ∙ holds-bit order.G1 x.order s (page / 262144) leaves ws.g1 ∙ covered-bit order.G1 x i c (level-low x.order)
 
-  -- a leaf that counts for the page's 2 MiB section meets a leaf of 1 GiB that covers the page
+  -- a leaf that counts for the page's 2 MiB section overlaps a leaf of 1 GiB that covers the page
   apart-middle : (o : Order) (x y : Leaf) → In x leaves → In y leaves → x.order ≡ order.G1 → covers s page x ≡ true → counts_for order.M2 s (page / 512) y ≡ true → y.order ≡ o → level_of o ≤ 1 → ⊥
   apart-middle o x y i j g c t q l =
       let at = (held.fit x i).aligned.aligned in
@@ -150,7 +150,7 @@ module _ (back : MadeWordsReadBack) (ws : CuckooWays) (leaves : List Leaf) (held
   abbrev pub key_at : Order → ℕ
   key_at o = s * 2 ^ 45 + page / pages_of o
 
-  -- the way that a cached section of a leaf tells
+  -- the way in a cached section of a leaf
   pub record IsKnown (o : Order) (way : Option ℕ) : Type 0 where
     pub at : ℕ
     pub way_is : way ≡ Some at

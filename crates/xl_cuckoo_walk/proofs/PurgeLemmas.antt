@@ -60,7 +60,7 @@ purged-map p q (x ∷ xs) h =
     go true false e f g r = let z : true ≡ false = sym e ∙ g ∙ f in absurd (cc)
     go false true e f g r = let z : true ≡ false = sym f ∙ sym g ∙ e in absurd (cc)
 
--- what a key of the list tells of an item, and what none of them tells
+-- what a key of the list says of an item, and what none of them says
 old-other : (k word : ℕ) (i : Item) → (i.tag == k) ≡ false → is_old k word i ≡ false
 old-other k word i e = ap (λ b. b && not (i.word == word)) e
 
@@ -119,7 +119,7 @@ In-or-not k (m ∷ ks) =
       ]
     ] refl
 
--- a word of a section is told by the section
+-- a word of a section is known by the section
 one-bit : (a b : ℕ) → a < 2 → b < 2 → (a == 1) ≡ (b == 1) → a ≡ b
 one-bit zero zero h k e = refl
 one-bit (suc zero) (suc zero) h k e = refl
@@ -223,7 +223,7 @@ pub refreshed-append : (word : ℕ → ℕ) (ks ls : List ℕ) (c : Cached Item)
 refreshed-append word [] ls c = refl
 refreshed-append word (k ∷ ks) ls c = refreshed-append word ks ls (record c { items = purged (is_old k (word k)) c.items })
 
--- the keys that are told, one by one
+-- the logged keys, one by one
 pub told-none : (moved : List Displaced) (at : ℕ) → key_told (slice_get moved at) ≡ None → keys_from at moved ≡ []
 unfolding keys_from
 told-none [] zero e = refl

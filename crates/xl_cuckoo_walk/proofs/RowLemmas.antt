@@ -50,7 +50,7 @@ slot-none : (n : ℕ) → n % 1 ≡ 0
 slot-none n = omega arith
 
 module _ (back : MadeWordsReadBack) (ws : CuckooWays) (leaves : List Leaf) (held : AreHeld One (values_in ws) (tags_in ws) leaves) (once : (o : Order) → AreOnce (ways_of o ws)) where
-  -- the key of a leaf that meets none isn't held
+  -- the key of a leaf that overlaps none isn't held
   pub free-value : (x : Leaf) → IsPlaced x → ((y : Leaf) → In y leaves → meets_block x.space x.first x.order y ≡ false) → value_of (leaf_entry x).key (ways_of x.order ws) ≡ None
   unfolding word_of
   free-value x at free = go (find (has_key (leaf_entry x).key) (entries_in (ways_of x.order ws))) refl

@@ -35,7 +35,7 @@ use Rattle.xl_cuckoo_walk.proofs.WordsLemmas.{words-with, words-less}
 abbrev pub items_of : RowParts → ℕ
 items_of p = length p.middle_cache.items + length p.large_cache.items
 
--- the row after a change, and what it answers
+-- the row after a change, and the result
 pub record SteppedRow (c : Change) (p after : RowParts) (m : Moves) : Type 0 where
   pub row : IsRow after
   pub fewer : items_of after ≤ items_of p
@@ -103,7 +103,7 @@ removed-row back p q r space first o n left =
     by-name (λ s f w. C (T (page_key w s f) s f w)) p space first o n (subst (λ k. C (T k n.leaf.space n.leaf.first n.leaf.order)) (entry-key n.leaf) own) in
     record { row = is.row; fewer = is.items; changes = answered (Remove space first o) p after no_moves (T (page_key o space first) space first o) is.state named }
 
--- the keys that were displaced, where sections of their size tell their ways
+-- the keys that were displaced, where sections of their size have their ways
 moved-same : (size o : Order) (p : RowParts) → keys_moved size o p ≡ keys_if (same_order size o) (keys_from 0 (table_of o p).moved)
 moved-same order.K4 order.K4 p = refl
 moved-same order.K4 order.M2 p = refl

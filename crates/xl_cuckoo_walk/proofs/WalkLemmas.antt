@@ -137,7 +137,7 @@ steps_after p s page p4 p2 p1 found middle large = record p {
   large_cache = filled (is_some found) large (large_key s page) (new_word order.G1 (large_key s page) p.large.counts (probed p1 p.g1).ways) (touched_in (large_key s page) p.large_cache);
 }
 
--- the row after a walk, and what the walk answers
+-- the row after a walk, and the walk's result
 pub record IsWalked (p : RowParts) (s page : ℕ) (found : Option Leaf) (hits : ℕ) (after : RowParts) : Type 0 where
   pub row : IsRow after
   pub walks : IsWalk s page (row_state p) (record { leaf = found; cache_hits = hits }) (row_state after)

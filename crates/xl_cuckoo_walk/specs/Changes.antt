@@ -45,8 +45,8 @@ pub record IsCapped (o : Order) (x : Entry) (old new : RowParts) (m : Moves) : T
   pub refused : inserted (table_of o old) x ≡ AtCap (table_of o new).ways m
   pub kept : SameEntries (table_of o old).ways (table_of o new).ways
 
--- There is room for the section of a leaf more: the leaf is larger than the section, or its section has leaves, or not
--- all sections have.
+-- There is room for the section of a leaf more: the leaf is larger than the section, or its section
+-- has leaves, or not all sections have.
 abbrev pub fits_by : Bool → Bool → Bool → Bool
 fits_by lies counted full = not lies || (counted || not full)
 
@@ -63,11 +63,13 @@ keys_if false keys = []
 abbrev pub page_key : Order → ℕ → ℕ → ℕ
 page_key size space page = space * 2 ^ 45 + page / pages_of size
 
--- The keys that the last insertion into the table of an order displaced, where sections of this size tell their ways.
+-- The keys that the last insertion into the table of an order displaced, where sections of this
+-- size have their ways.
 abbrev pub keys_moved : Order → Order → RowParts → List ℕ
 keys_moved size o p = keys_if (same_order size o) (keys_from 0 (table_of size p).moved)
 
--- The parts after the cached sections of these keys, of 2 MiB and of 1 GiB, are compared with what they are now.
+-- The parts after the cached sections of these keys, of 2 MiB and of 1 GiB, are compared with what
+-- they are now.
 abbrev pub compared : List ℕ → List ℕ → RowParts → RowParts
 compared middle large p = record p {
   middle_cache = refreshed (λ key. new_word order.M2 key p.middle.counts p.m2.ways) middle p.middle_cache;

@@ -8,7 +8,7 @@ use Rattle.xl_model.specs.declared.event.Reach.{Reach}
 use Rattle.xl_model.specs.Caches.{Cached, reaches_space}
 use Rattle.xl_recency.specs.declared.item.Item.{Item}
 
--- A way by its code: 0 stands for none.
+-- A way by its code: 0 is none.
 abbrev pub way_by : ℕ → Option ℕ
 way_by zero = None
 way_by (suc n) = Some n
@@ -19,7 +19,7 @@ bit_in word order.K4 = word % 2 == 1
 bit_in word order.M2 = word / 2 % 2 == 1
 bit_in word order.G1 = word / 4 % 2 == 1
 
--- The section that a tag and a word stand for.
+-- The section of a tag and a word.
 abbrev pub section_by : ℕ → ℕ → Section
 section_by tag word = record {
   space = tag / 2 ^ 45;
@@ -30,7 +30,7 @@ section_by tag word = record {
   way = way_by (word / 8);
 }
 
--- The section that an item stands for.
+-- The section of an item.
 abbrev pub section_in : Item → Section
 section_in i = section_by i.tag i.word
 
@@ -51,7 +51,7 @@ abbrev pub word_of_item : Option Item → Option ℕ
 word_of_item None = None
 word_of_item (Some i) = Some i.word
 
--- The cached section that a cache's answer for a tag stands for.
+-- The cached section that a cache returns for a tag.
 abbrev pub hit_of : ℕ → Option ℕ → Option Section
 hit_of tag None = None
 hit_of tag (Some word) = Some (section_by tag word)
@@ -65,6 +65,6 @@ code_of (Some n) = suc n
 abbrev pub word_by : Bool → Bool → Bool → Option ℕ → ℕ
 word_by k4 m2 g1 way = one_if k4 + (2 * one_if m2 + (4 * one_if g1 + 8 * code_of way))
 
--- A fence reaches the section that an item stands for.
+-- A fence reaches the section of an item.
 abbrev pub is_reached : Reach → Item → Bool
 is_reached to i = reaches_space to (i.tag / 2 ^ 45)

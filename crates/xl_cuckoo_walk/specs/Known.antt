@@ -19,7 +19,8 @@ abbrev pub word_known : Option ℕ → ℕ
 word_known None = 0
 word_known (Some word) = word
 
--- A list that isn't kept is an empty one of width 0, and the section that is known to be in front is.
+-- A list that isn't kept is an empty one of width 0, and the section that is known to be in front
+-- is.
 pub record IsKnown (is_kept : Bool) (tag word : ℕ) (c : Cached Item) : Type 0 where
   pub off : is_kept ≡ false → c ≡ empty_cache 0
   pub front : IsFrontIf tag word c.items

@@ -9,7 +9,8 @@ abbrev pub opening_orders : ℕ → ℕ → ℕ → CuckooWays
 opening_orders count start cap =
     record { k4 = opening_ways start cap 0 count; m2 = opening_ways start cap 0 count; g1 = opening_ways start cap 0 count }
 
--- A row in which nothing was mapped: its ways are empty, it has empty caches of these widths, and made no load.
+-- A row in which nothing was mapped: its ways are empty, it has empty caches of these widths, and
+-- made no load.
 abbrev pub opening_table : ℕ → ℕ → ℕ → CuckooRules → List ℕ → TableState
 opening_table count start cap rules widths =
     record { leaves = []; shape = Cuckoo rules (opening_orders count start cap); caches = section_caches widths; loads = 0 }

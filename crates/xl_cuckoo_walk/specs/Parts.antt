@@ -22,8 +22,8 @@ use Rattle.xl_tagged.specs.Tagged.{AreHeld}
 use Rattle.xl_cuckoo.specs.Table.{CuckooState, value_of, AreOnce}
 use Rattle.xl_cuckoo_walk.specs.Coding.{sections_in}
 
--- The parts of a row: a table for each order, and for the sections of 2 MiB and of 1 GiB how many leaves of each order
--- they hold, and a cache.
+-- The parts of a row: a table for each order, and for the sections of 2 MiB and of 1 GiB how many
+-- leaves of each order they hold, and a cache.
 pub record RowParts : Type 0 where
   pub k4 : CuckooState
   pub m2 : CuckooState
@@ -87,7 +87,7 @@ rules_in p = record {
   sections_1g = p.large.room;
 }
 
--- The table that the parts come to.
+-- The table of the parts.
 unfoldable pub row_state : RowParts → TableState
 row_state p = record {
   leaves = leaves_in (ways_in p);
@@ -107,8 +107,8 @@ pub record SameRules (a b : CuckooState) : Type 0 where
 abbrev pub AreKeys : CuckooWays → Type 0
 AreKeys ws = (o : Order) (e : Entry) → In e (entries_in (ways_of o ws)) → e.key < 2 ^ 60
 
--- What a row keeps of its leaves: each stands in a way of its order, sections are counted, and cached sections are as
--- they are.
+-- What a row keeps of its leaves: each is in a way of its order, sections are counted, and cached
+-- sections agree with these.
 pub record IsRow (p : RowParts) : Type 0 where
   pub held : AreHeld One (values_in (ways_in p)) (tags_in (ways_in p)) (leaves_in (ways_in p))
   pub keys : AreKeys (ways_in p)

@@ -25,18 +25,19 @@ abbrev pub plan_at : Option ℕ → Plan
 plan_at None = plan.Every
 plan_at (Some way) = plan.At way
 
--- The way that a cached section tells.
+-- The way in a cached section.
 abbrev pub way_told : Option Section → Option ℕ
 way_told None = None
 way_told (Some s) = s.way
 
--- The cached section that tells the way of a leaf of an order: that of the order's own size.
+-- The cached section that says the way of a leaf of an order: that of the order's own size.
 abbrev pub own_section : Order → Option Section → Option Section → Option Section
 own_section order.K4 m2 g1 = None
 own_section order.M2 m2 g1 = m2
 own_section order.G1 m2 g1 = g1
 
--- How an order is probed: not at all where it isn't possible, in one way where that is known, else in every way.
+-- How an order is probed: not at all where it isn't possible, in one way where that is known, else
+-- in every way.
 abbrev pub plan_by : Bool → Bool → Option ℕ → Plan
 plan_by false known way = plan.Skip
 plan_by true false way = plan.Every
@@ -112,7 +113,7 @@ fenced reach c = record c { items = purged (is_reached reach) c.items }
 unfoldable pub keys_from : ℕ → List Displaced → List ℕ
 keys_from at moved = drop at (map (λ d. d.key) moved)
 
--- The key that is told, if there is one.
+-- The key of a logged displacement, if there is one.
 abbrev pub key_told : Option Displaced → Option ℕ
 key_told None = None
 key_told (Some d) = Some d.key

@@ -8,7 +8,8 @@ use Rattle.xl_cuckoo_walk.specs.declared.sole.Sole.TheVariants as sole
 use Rattle.xl_cuckoo_walk.specs.Coding.{hit_of}
 use Rattle.xl_cuckoo_walk.specs.Plans.{plan_of}
 
--- So the orders are probed by the words of both sections of a page, whatever the sections' tags are. No word is 0.
+-- So the orders are probed by the words of both sections of a page, whatever the sections' tags
+-- are. No word is 0.
 pub record ArePlans (middle large : ℕ) (k4 m2 g1 : Plan) : Type 0 where
   pub middle_some : 0 < middle
   pub large_some : 0 < large

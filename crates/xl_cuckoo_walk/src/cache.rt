@@ -20,8 +20,8 @@ pub(crate) struct Sections {
     list: Cache<Item>,
     /// False only where the width is 0: then nothing is looked for.
     is_kept: bool,
-    /// The tag of the last touch, and the word that it found: that section is in front. 0 where this
-    /// isn't known, since no section's word is 0.
+    /// The tag of the last touch, and the word that it found: that section is in front. 0 where
+    /// this isn't known, since no section's word is 0.
     tag: u64,
     word: u64,
 }
@@ -63,7 +63,7 @@ impl Sections {
         })
     }
 
-    /// Whether sections are kept. If not, there is none, and none comes.
+    /// Whether sections are kept. If not, there is none.
     #[inline(always)]
     pub fn is_kept(&self) -> bool
         ensures { result ≡ false → self.now ≡ empty_cache 0 }
@@ -79,8 +79,8 @@ impl Sections {
         self.list.len()
     }
 
-    /// The word of the section of this tag where that is known to be in front: then a touch finds it and
-    /// moves nothing. Else 0.
+    /// The word of the section of this tag where that is known to be in front: then a touch finds
+    /// it and moves nothing. Else 0.
     #[inline(always)]
     pub fn front(&self, tag: u64) -> u64
         ensures { IsFrontIf tag result self.now.items }
@@ -88,7 +88,7 @@ impl Sections {
         if self.tag == tag { self.word } else { 0 }
     }
 
-    /// Brings the section of this tag to the front, and gives its word.
+    /// Moves the section of this tag to the front, and returns its word.
     #[inline(always)]
     pub fn touch(&mut self, tag: u64) -> Option<u64>
         ensures found { result ≡ word_of_item (find (has_tag tag) self.old.items) }
@@ -131,7 +131,7 @@ impl Sections {
         refresh(&mut self.list, tag, word);
     }
 
-    /// Removes what a fence reaches. Gives how many sections left.
+    /// Removes what a fence reaches. Returns how many sections it removed.
     pub fn fence(&mut self, reach: Reach) -> u64
         ensures left { self.new ≡ fenced reach self.old }
         ensures count { result + length self.new.items ≡ length self.old.items }

@@ -11,7 +11,7 @@ ghost use Rattle.xl_cuckoo_walk.specs.Plans.{touched_in, newest_in, fenced};
 use xl_model::Reach;
 use xl_recency::{Cache, Item};
 
-/// Brings the section of this tag to the front, and gives its word.
+/// Moves the section of this tag to the front, and returns its word.
 pub(crate) fn touch(cache: &mut Cache<Item>, tag: u64) -> Option<u64>
     ensures found { result ≡ word_of_item (find (has_tag tag) cache.old.items) }
     ensures moved { cache.new ≡ touched_in tag cache.old }
@@ -73,7 +73,7 @@ fn reaches(reach: Reach, space: u64) -> bool
     }
 }
 
-/// Removes what a fence reaches from a cache. Gives how many sections left.
+/// Removes what a fence reaches from a cache. Returns how many sections it removed.
 pub(crate) fn fence_cache(cache: &mut Cache<Item>, reach: Reach) -> u64
     ensures left { cache.new ≡ fenced reach cache.old }
     ensures count { result + length cache.new.items ≡ length cache.old.items }

@@ -6,7 +6,7 @@ ghost use Rattle.xl_cuckoo_walk.specs.Parts.{IsRow, row_state};
 use crate::parts::Parts;
 use xl_model::Reach;
 
-/// Removes what a fence reaches. Gives how many sections left.
+/// Removes what a fence reaches. Returns how many sections it removed.
 pub(crate) fn fence_parts<const D: usize>(parts: &mut Parts<D>, reach: Reach) -> u64
     requires whole { IsRow parts.old }
     ensures whole { IsRow parts.new }

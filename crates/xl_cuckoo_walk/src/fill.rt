@@ -14,7 +14,7 @@ use xl_cuckoo::Cuckoo;
 use xl_model::{Leaf, Order};
 use xl_sections::{Counts, parts};
 
-/// The way that holds a key, where it is to be told.
+/// The way that holds a key, where the section keeps it.
 fn way_if<const D: usize>(table: &Cuckoo<D>, key: u64, told: bool) -> Option<u64>
     requires { length table.now.ways ≤ 4 }
     ensures is { result ≡ way_where told (holder_from 0 table.now.ways key) }

@@ -1,4 +1,4 @@
-//! Leaves that come.
+//! Leaves that are inserted.
 
 ghost use Rattle.std.specs.Prelude.{◌≡◌, ◌<◌, ◌≤◌, ◌^◌, ◌&&◌, false, IfOk, IfErr};
 ghost use Rattle.xl_model.specs.Addresses.{level_of};
@@ -20,8 +20,8 @@ use xl_pte::{leaf_word, words_read_back};
 use xl_sections::{Counts, note_leaf, section};
 use xl_tagged::full_table;
 
-/// Whether the sections of a size have room for a leaf: it is larger than a section, its section has
-/// leaves, or not all sections have.
+/// Whether the sections of a size have room for a leaf: it is larger than a section, its section
+/// has leaves, or not all sections have.
 fn fits(counts: &Counts, size: Order, leaf: Leaf) -> bool
     requires space_in { leaf.space < 64 }
     requires page_in { leaf.first < 2 ^ 45 }
@@ -53,8 +53,8 @@ fn count(counts: &mut Counts, size: Order, leaf: Leaf)
     }
 }
 
-/// Puts a leaf that no leaf meets into the table of its order, and counts it. The caches stay as they
-/// are.
+/// Puts a leaf that no leaf overlaps into the table of its order, and counts it. The caches stay as
+/// they are.
 pub(crate) fn enter<const D: usize>(parts: &mut Parts<D>, leaf: Leaf) -> Result<Moves, Refused>
     requires whole { IsRow parts.old }
     requires valid { IsLeafFor (row_state parts.old).shape leaf }
@@ -78,7 +78,7 @@ pub(crate) fn enter<const D: usize>(parts: &mut Parts<D>, leaf: Leaf) -> Result<
     }
 }
 
-/// Adds a leaf that no leaf meets.
+/// Adds a leaf that overlaps no other.
 pub(crate) fn insert_leaf<const D: usize>(parts: &mut Parts<D>, leaf: Leaf) -> Result<Work, Refused>
     requires whole { IsRow parts.old }
     requires valid { IsLeafFor (row_state parts.old).shape leaf }

@@ -1,5 +1,5 @@
-//! The row of elastic cuckoo tables (Skarlatos and others, 2020): a table for each order, and cuckoo
-//! walk caches of sections.
+//! The row of elastic cuckoo tables (Skarlatos and others, 2020): a table for each order, and
+//! cuckoo walk caches of sections.
 #![tactic(auto)]
 
 mod cache;

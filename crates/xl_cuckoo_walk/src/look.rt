@@ -39,8 +39,8 @@ fn look_large<const D: usize>(parts: &Parts<D>, space: u16, page: u64) -> Option
     }
 }
 
-/// The leaf of this order or of a larger one that covers the page. Behind one that was found no other
-/// is looked for.
+/// The leaf of this order or of a larger one that covers the page. After one that was found no
+/// other is looked for.
 fn look_from<const D: usize>(parts: &Parts<D>, order: Order, space: u16, page: u64) -> Option<Leaf>
     requires space_in { space < 64 }
     requires page_in { page < 2 ^ 45 }
@@ -86,8 +86,8 @@ pub(crate) fn leaf_of_page<const D: usize>(parts: &Parts<D>, space: u16, page: u
     look_from(parts, Order::K4, space, page)
 }
 
-/// Whether a leaf has a page of a block: a smaller leaf lies in it, or one that isn't smaller has its
-/// first page.
+/// Whether a leaf has a page of a block: a smaller leaf lies in it, or one that isn't smaller has
+/// its first page.
 pub(crate) fn is_met<const D: usize>(parts: &Parts<D>, space: u16, first: u64, order: Order) -> bool
     requires whole { IsRow parts.now }
     requires block { IsBlock (row_state parts.now).shape space first order }

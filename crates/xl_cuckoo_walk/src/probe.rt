@@ -79,7 +79,7 @@ pub(crate) fn probe_small<const D: usize>(
     small_read(space, page, word)
 }
 
-/// Counts the loads of a probe as planned, whose answer isn't wanted.
+/// Counts the loads of a planned probe whose result isn't needed.
 #[inline(always)]
 fn count_by<const D: usize>(table: &mut Cuckoo<D>, plan: Plan)
     ensures { table.new ≡ probed plan table.old }
@@ -92,7 +92,7 @@ fn count_by<const D: usize>(table: &mut Cuckoo<D>, plan: Plan)
 }
 
 /// The leaf that was found before, or else the leaf of this order that covers the page. Probed as
-/// planned in either case: behind a leaf that was found the loads are counted and not made.
+/// planned in either case: after a leaf that was found the loads are counted and not made.
 #[inline(always)]
 pub(crate) fn probe_next<const D: usize>(
     found: Option<Leaf>,

@@ -12,7 +12,8 @@ use xl_pte::words_read_back;
 use xl_sections::section;
 use xl_tagged::give_perm;
 
-/// Gives a leaf that is there another permission. No section tells permissions, so none leaves.
+/// Gives a leaf that is there another permission. Sections have no permissions, so none leaves the
+/// caches.
 pub(crate) fn protect_leaf<const D: usize>(
     parts: &mut Parts<D>,
     space: u16,

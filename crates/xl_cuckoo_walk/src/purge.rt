@@ -1,4 +1,4 @@
-//! Cached sections that a change makes untrue.
+//! Invalidates walk-cache entries after a change.
 
 ghost use Rattle.std.specs.Prelude.{◌≡◌, ◌≤◌, ◌<◌, ◌+◌, ◌*◌, ◌/◌, ◌^◌, ◌∷◌, [], length};
 ghost use Rattle.xl_model.specs.Addresses.{pages_of};
@@ -83,8 +83,8 @@ pub(crate) fn refresh_leaf<const D: usize>(parts: &mut Parts<D>, space: u16, fir
     );
 }
 
-/// Compares the sections that are leaves of this order which the last insertion of one displaced: they
-/// stand in other ways now.
+/// Compares the sections that are leaves of this order which the last insertion of one displaced:
+/// they are in other ways now.
 pub(crate) fn refresh_displaced<const D: usize>(parts: &mut Parts<D>, order: Order)
     requires middle { length parts.old.m2.ways ≤ 4 }
     requires large { length parts.old.g1.ways ≤ 4 }

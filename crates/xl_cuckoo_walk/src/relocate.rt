@@ -15,8 +15,8 @@ use crate::work::{cached, work};
 use xl_model::{Leaf, Order, Refused, Work};
 use xl_pte::words_read_back;
 
-/// Moves a leaf to a block that no leaf meets: it enters there before it leaves its old place, and then
-/// cached sections are compared.
+/// Moves a leaf to a block that no leaf overlaps: it enters there before it leaves its old place,
+/// and then cached sections are compared.
 pub(crate) fn relocate_leaf<const D: usize>(
     parts: &mut Parts<D>,
     space: u16,

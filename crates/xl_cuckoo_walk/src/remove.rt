@@ -14,7 +14,8 @@ use xl_model::{Order, Refused, Work};
 use xl_pte::words_read_back;
 use xl_sections::{drop_leaf, section};
 
-/// Takes a leaf out of the table of its order, and counts it no longer. The caches stay as they are.
+/// Takes a leaf out of the table of its order, and counts it no longer. The caches stay as they
+/// are.
 pub(crate) fn leave<const D: usize>(parts: &mut Parts<D>, space: u16, first: u64, order: Order)
     requires holds { HoldsLeaves parts.old (leaves_in (ways_in parts.old)) }
     requires named { IsNamed space first order (leaves_in (ways_in parts.old)) }

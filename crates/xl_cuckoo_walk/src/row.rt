@@ -21,8 +21,8 @@ use xl_cuckoo::Cuckoo;
 use xl_model::{Leaf, NoMemory, Order, Perm, QuickWalk, Reach, Refused, Structure, Walk, Work};
 use xl_sections::Counts;
 
-/// A row of elastic cuckoo tables of `D` ways, two to four: a table for each order, and two caches of
-/// sections, which tell a walk the orders and the ways that it has to probe. Contracts see its parts.
+/// A row of elastic cuckoo tables of `D` ways, two to four: a table for each order, and two caches
+/// of sections, by which a walk knows the orders and the ways to probe. Contracts see its parts.
 /// Nothing is allocated after `open`.
 #[derive(Drop)]
 pub struct CuckooRow<const D: usize> {
@@ -49,10 +49,11 @@ fn loads_of<const D: usize>(parts: &Parts<D>) -> u64
 }
 
 impl<const D: usize> CuckooRow<D> {
-    /// An empty row. Each way of its tables has 2^`start_bits` slots and may grow to 2^`cap_bits`; an
-    /// insertion goes by `threshold`, `kick_limit` and `migrate` as `Cuckoo::open` says. Leaves may lie
-    /// in so many sections of 2 MiB and of 1 GiB, and the caches of sections have these widths, that of
-    /// 2 MiB first. All memory that the row wants is taken here.
+    /// An empty row. Each way of its tables has 2^`start_bits` slots and may grow to 2^`cap_bits`;
+    /// an insertion goes by `threshold`, `kick_limit` and `migrate` as `Cuckoo::open` says. Leaves
+    /// may lie in `sections_2m` sections of 2 MiB and `sections_1g` of 1 GiB, and `caches` has the
+    /// widths of the walk caches, that of 2 MiB sections first. All memory that the row needs is
+    /// taken here.
     ///
     /// # Errors
     ///

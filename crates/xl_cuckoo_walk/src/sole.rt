@@ -1,8 +1,9 @@
-//! Pages of which the cached sections leave one order alone.
+//! Pages whose size the walk caches already determine.
 
 ghost use Rattle.xl_cuckoo_walk.specs.Soles.{IsSole};
 
-/// The one order that is probed: 4 KiB in every way, or 2 MiB in one way. Else it is not known to be one.
+/// The one order that is probed: 4 KiB in every way, or 2 MiB in one way. Else it is not known to
+/// be one.
 #[derive(Clone, Copy)]
 pub(crate) enum Sole {
     Small,
@@ -10,8 +11,8 @@ pub(crate) enum Sole {
     Unknown,
 }
 
-/// The one order that the words of both sections of a page leave. A word that isn't known is 0, and then
-/// nothing is.
+/// The one order that the words of both sections of a page leave. An unknown word is 0, and then no
+/// order is determined.
 #[inline(always)]
 pub(crate) fn sole_of(middle: u64, large: u64) -> Sole
     ensures { IsSole middle large result }

@@ -34,8 +34,8 @@ fn small_walk(_space: u16, _page: u64, found: Option<u64>) -> QuickWalk
     }
 }
 
-/// The walk of a page. Where its sections are in front of both caches and leave one order alone, no more
-/// than that order is looked at. A leaf of 4 KiB comes as its word then.
+/// The walk of a page. Where its sections are in front of both caches and leave one order alone, no
+/// more than that order is looked at. A leaf of 4 KiB comes as its word then.
 #[inline(always)]
 pub(crate) fn walk_page<const D: usize>(parts: &mut Parts<D>, space: u16, page: u64) -> QuickWalk
     requires whole { IsRow parts.old }
@@ -68,8 +68,8 @@ pub(crate) fn walk_page<const D: usize>(parts: &mut Parts<D>, space: u16, page: 
     }
 }
 
-/// The walk of any page: the cached sections of the page tell which orders are possible, and in which way
-/// a large leaf stands; the possible orders are probed, and sections are cached that weren't.
+/// The walk of any page: the cached sections of the page say which orders are possible, and in
+/// which way a large leaf is; the possible orders are probed, and sections are cached that weren't.
 fn walk_behind<const D: usize>(parts: &mut Parts<D>, space: u16, page: u64) -> Walk
     requires whole { IsRow parts.old }
     requires page { IsPage (row_state parts.old).shape space page }

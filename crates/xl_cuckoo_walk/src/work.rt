@@ -21,7 +21,7 @@ pub(crate) fn work(moves: Moves, invalidated: u64) -> Work
     }
 }
 
-/// The answer to a leaf for which no way may grow.
+/// The result for a leaf for which no way may grow.
 pub(crate) fn no_place(full: WayAtCap) -> Refused
     ensures { result ≡ record { why = why.WayAtCap; work = work_of full.moves 0 } }
 {

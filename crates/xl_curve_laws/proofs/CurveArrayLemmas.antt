@@ -52,7 +52,7 @@ block-of page e order.K4 l m = omega arith
 block-of page e order.M2 l m = omega arith
 block-of page e order.G1 l m = omega arith
 
--- a page that a leaf covers stands in the leaf's set
+-- a page that a leaf covers is in the leaf's set
 pub own-set : (row : Row) (leaves : List Leaf) (a : TlbArray) (space page : ℕ) (leaf : Leaf) → IsMapping row leaves → In leaf leaves
     → covers space page leaf ≡ true → set_number a.spec leaf.order page ≡ set_number a.spec leaf.order leaf.first
 own-set row leaves a space page leaf m i t =

@@ -9,8 +9,8 @@ use xl_model::Row;
 use xl_outside::{Failed, Sink, put_all};
 use xl_report::Line;
 
-/// Appends the line of a row's curve: its name, the number of sets, that of look-ups, and the hits of each width
-/// from 1 to 64.
+/// Appends the line of a row's curve: its name, the number of sets, that of look-ups, and the hits
+/// of each width from 1 to 64.
 ///
 /// # Errors
 ///
@@ -31,7 +31,7 @@ pub fn write_curve<K: Sink>(
     put_all(out, line.bytes())
 }
 
-/// Puts the whole line behind the name.
+/// Puts the whole line after the name.
 #[tactic(auto, unfolding(xl_curve_model::specs::CurveLines::curve_line))]
 fn fill(line: &mut Line<1536>, sets: u32, lookups: u64, hits: &[u64])
     requires name { length line.old ≤ 16 }
@@ -69,7 +69,7 @@ fn numbers(line: &mut Line<1536>, numbers: &[u64])
     }
 }
 
-/// Puts numbers at the line's end, each behind a comma.
+/// Puts numbers at the line's end, each after a comma.
 fn rest(line: &mut Line<1536>, numbers: &[u64])
     requires few { length numbers.now ≤ 64 }
     requires room { length line.old + 1344 ≤ 1536 }

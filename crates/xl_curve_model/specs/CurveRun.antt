@@ -29,18 +29,18 @@ abbrev pub curve_looked_where : Bool → Option Leaf → HitCurve → HitCurve
 curve_looked_where true leaf c = curve_looked leaf c
 curve_looked_where false leaf c = c
 
--- The curve after a purge of the leaf as it stood; without such a leaf nothing is purged.
+-- The curve after a purge of the leaf as it was; without such a leaf nothing is purged.
 abbrev pub curve_purged : Purge → Option Leaf → HitCurve → HitCurve
 curve_purged purge None c = c
 curve_purged purge (Some old) c = curve_without (is_purged purge old) c
 
--- The leaf as it stood before a change, if there is one.
+-- The leaf as it was before a change, if there is one.
 abbrev pub old_of : Option Change → List Leaf → Option Leaf
 old_of None leaves = None
 old_of (Some change) leaves = old_leaf change leaves
 
--- The curve after an event that is not refused: an access looks for the leaf of its page; a fence and the purge of a
--- change take from each array what they take from the row's.
+-- The curve after an event that is not refused: an access looks for the leaf of its page; a fence
+-- and the purge of a change take from each array what they take from the row's.
 abbrev pub curve_followed : Row → Event → RowState → HitCurve → HitCurve
 curve_followed row (event.Access va kind) s c =
     curve_looked_where (is_canonical row.mode va) (leaf_at_page s.space (page_of row.mode va) s.table.leaves) c

@@ -44,7 +44,7 @@ looked_for None leaf p = record p { array = array_filled leaf p.array }
 abbrev pub point_accessed : Leaf → Point → Point
 point_accessed leaf p = looked_for (held_in leaf p.array) leaf p
 
--- A point without the leaves that meet a test.
+-- A point without the leaves that pass a test.
 abbrev pub point_without : (Leaf → Bool) → Point → Point
 point_without q p = record p { array = array_without q p.array }
 
@@ -56,7 +56,7 @@ curve_accessed leaf c = record { points = map (point_accessed leaf) c.points; lo
 unfoldable pub curve_missed : HitCurve → HitCurve
 curve_missed c = record c { lookups = plus c.lookups 1 }
 
--- The curve without the leaves that meet a test.
+-- The curve without the leaves that pass a test.
 unfoldable pub curve_without : (Leaf → Bool) → HitCurve → HitCurve
 curve_without q c = record c { points = map (point_without q) c.points }
 

@@ -59,7 +59,7 @@ three_pages_twice_items =
     (Referenced 5 8192 kind.Load) ∷
     (Referenced 6 12288 kind.Load) ∷ []
 
--- A removed leaf leaves a hole: where the places behind it closed up, width 2 would have two hits.
+-- A removed leaf leaves a hole: where the places after it closed up, width 2 would have two hits.
 abbrev pub a_removed_leaf_leaves_a_hole_row : Row
 a_removed_leaf_leaves_a_hole_row = plain_row
 
@@ -100,7 +100,7 @@ a_hole_above_the_touched_place_items =
     (Referenced 9 20480 kind.Load) ∷
     (Referenced 10 8192 kind.Load) ∷ []
 
--- A hole behind the touched place stays where it is.
+-- A hole after the touched place stays where it is.
 abbrev pub a_hole_below_the_touched_place_row : Row
 a_hole_below_the_touched_place_row = plain_row
 
@@ -268,7 +268,7 @@ a_purge_of_all_items =
     (Referenced 7 12288 kind.Load) ∷
     (Referenced 8 4096 kind.Load) ∷ []
 
--- A protect and a move purge the leaf as it stood.
+-- A protect and a move purge the leaf as it was.
 abbrev pub a_protect_and_a_move_row : Row
 a_protect_and_a_move_row = plain_row
 
@@ -337,7 +337,8 @@ refused_commands_items =
     (Referenced 3 4096 kind.Load) ∷
     (Referenced 4 8192 kind.Load) ∷ []
 
--- A denied access looks for its leaf, an unmapped one misses at every width, and one that isn't canonical isn't a look-up.
+-- A denied access looks for its leaf, an unmapped one misses at every width, and one that isn't
+-- canonical isn't a look-up.
 abbrev pub denied_and_absent_row : Row
 denied_and_absent_row = plain_row
 

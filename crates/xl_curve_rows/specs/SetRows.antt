@@ -205,7 +205,8 @@ a_move_to_another_set_items =
     (Referenced 7 4096 kind.Load) ∷
     (Referenced 8 12288 kind.Load) ∷ []
 
--- A store to an area without that permission is absent at first; its page is mapped, and the second access, which is denied, fills the leaf.
+-- A store to an area without that permission is absent at first; its page is mapped, and the second
+-- access, which is denied, fills the leaf.
 abbrev pub a_demand_that_denies_row : Row
 a_demand_that_denies_row = plain_row
 

@@ -11,7 +11,7 @@ pub fn three_pages_twice()
         ≡ 6 ∷ 0 ∷ 0 ∷ replicate 62 3 }
 {}
 
-/// A removed leaf leaves a hole: where the places behind it closed up, width 2 would have two hits.
+/// A removed leaf leaves a hole: where the places after it closed up, width 2 would have two hits.
 #[tactic(auto, unfolding(xl_curve_model::specs::CurveComputing::computing_curves))]
 pub fn a_removed_leaf_leaves_a_hole()
     ensures { figures (curve_of_run a_removed_leaf_leaves_a_hole_row 1 a_removed_leaf_leaves_a_hole_items)
@@ -25,7 +25,7 @@ pub fn a_hole_above_the_touched_place()
         ≡ 10 ∷ 0 ∷ 0 ∷ 0 ∷ 4 ∷ replicate 60 5 }
 {}
 
-/// A hole behind the touched place stays where it is.
+/// A hole after the touched place stays where it is.
 #[tactic(auto, unfolding(xl_curve_model::specs::CurveComputing::computing_curves))]
 pub fn a_hole_below_the_touched_place()
     ensures { figures (curve_of_run a_hole_below_the_touched_place_row 1 a_hole_below_the_touched_place_items)
@@ -74,7 +74,7 @@ pub fn a_purge_of_all()
         ≡ 8 ∷ 0 ∷ 0 ∷ replicate 62 2 }
 {}
 
-/// A protect and a move purge the leaf as it stood.
+/// A protect and a move purge the leaf as it was.
 #[tactic(auto, unfolding(xl_curve_model::specs::CurveComputing::computing_curves))]
 pub fn a_protect_and_a_move()
     ensures { figures (curve_of_run a_protect_and_a_move_row 1 a_protect_and_a_move_items)
@@ -95,7 +95,8 @@ pub fn refused_commands()
         ≡ 4 ∷ 0 ∷ replicate 63 2 }
 {}
 
-/// A denied access looks for its leaf, an unmapped one misses at every width, and one that isn't canonical isn't a look-up.
+/// A denied access looks for its leaf, an unmapped one misses at every width, and one that isn't
+/// canonical isn't a look-up.
 #[tactic(auto, unfolding(xl_curve_model::specs::CurveComputing::computing_curves))]
 pub fn denied_and_absent()
     ensures { figures (curve_of_run denied_and_absent_row 1 denied_and_absent_items)

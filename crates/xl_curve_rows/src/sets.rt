@@ -61,7 +61,8 @@ pub fn a_move_to_another_set()
         ≡ 8 ∷ 1 ∷ replicate 63 3 }
 {}
 
-/// A store to an area without that permission is absent at first; its page is mapped, and the second access, which is denied, fills the leaf.
+/// A store to an area without that permission is absent at first; its page is mapped, and the
+/// second access, which is denied, fills the leaf.
 #[tactic(auto, unfolding(xl_curve_model::specs::CurveComputing::computing_curves))]
 pub fn a_demand_that_denies()
     ensures { figures (curve_of_run a_demand_that_denies_row 1 a_demand_that_denies_items)

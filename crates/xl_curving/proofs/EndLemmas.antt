@@ -22,7 +22,7 @@ use Rattle.xl_serving.specs.Serving.{scene_of}
 use Rattle.xl_curve_model.specs.Curves.{HitCurve, opening_curve}
 use Rattle.xl_curving.specs.Curving.{CurveScene, curved, curve_scene_after, curve_scene_of, curves_by, curves_from, curves_text, curves_waited, with_curves}
 
--- nothing is told
+-- no lines
 told-nothing : (answers : Bool) (items : List Item) (s : CurveScene) → told_by curved answers items s ≡ []
 told-nothing true [] s = refl
 told-nothing false [] s = refl
@@ -37,7 +37,7 @@ served sink answers items p q k e = record {
   writes = subst (λ (text : List ℕ). SinkAfter sink text k k true) (sym (told-nothing answers items p)) (sink_same sink k);
 }
 
--- the state of a form of which nothing waits and nothing is declared
+-- the state of a form with an empty queue and no declared area
 pub fresh : (waiting : List Access) (rows : List Served) (areas : List Area) (curves : List HitCurve) (sets count : ℕ) → waiting ≡ [] → areas ≡ [] → count ≡ length rows
     → curves ≡ replicate count (opening_curve sets) → curves_waited waiting (curve_scene_of rows areas curves) ≡ with_curves sets (scene_of rows [])
 fresh waiting rows areas curves sets count idle none many e =

@@ -44,7 +44,7 @@ lines-next sets i rows curves v c h k =
     let e : i + 1 ≡ suc i = omega arith in
     ap (λ (j : ℕ). curve_lines sets (take j rows) curves) e ∙ next-line sets i rows curves v c h k
 
--- behind the last row, or the last curve, there are no lines
+-- after the last row, or the last curve, there are no lines
 pub lines-all : (sets i : ℕ) (rows : List Served) (curves : List HitCurve) → length rows ≤ i → curve_lines sets (take i rows) curves ≡ curve_lines sets rows curves
 lines-all sets i [] curves h = none i
   where

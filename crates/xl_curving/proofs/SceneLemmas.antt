@@ -126,7 +126,7 @@ any-record n m va k s =
     ∙ ap (λ (cs : List HitCurve). record { scene = scene_after (Referenced m va k) s.scene; curves = cs })
     (each-same (curve_item (Referenced n va k) s.scene.areas) (curve_item (Referenced m va k) s.scene.areas) s.scene.rows s.curves (any-curve n m va k s.scene.areas))
 
--- one access more waits
+-- one access more in the queue
 pub put-off : (accesses : List Access) (a : Access) (number : ℕ) (s : CurveScene) → curves_waited (accesses ++ a ∷ []) s ≡ curve_scene_after (Referenced number a.va a.kind) (curves_waited accesses s)
 put-off accesses a number s =
     ap (λ (items : List Item). states_after curved items s) (map-append item_of accesses (a ∷ []))

@@ -43,7 +43,7 @@ items-waiting : (got : List Access) → items-with 0 (map pair got) ≡ map item
 items-waiting [] = refl
 items-waiting (a ∷ got) = ap (λ (zs : List Item). item_of a ∷ zs) (items-waiting got)
 
--- what a trace skims into the accesses that wait
+-- what a trace skims into the queue
 pub skimmed : (stands : Type 0) (t u : Trail) (before after : List Access) (count : ℕ) (s : CurveScene) → Skims stands t u before after count
     → Skimmed curved stands t u (curves_waited before s) (curves_waited after s) count
 skimmed stands t u before after count s k =

@@ -34,7 +34,7 @@ curve_scene_after i s = record {
   curves = each_curve (curve_item i s.scene.areas) s.scene.rows s.curves;
 }
 
--- An item tells nothing.
+-- An item has no lines.
 abbrev pub no_lines : Item → CurveScene → List ℕ
 no_lines i s = []
 
@@ -46,7 +46,7 @@ curved = record { items = items_of; referenced = item.Referenced; after = curve_
 abbrev pub curve_scene_of : List Served → List Area → List HitCurve → CurveScene
 curve_scene_of rows areas curves = record { scene = scene_of rows areas; curves = curves }
 
--- The same after accesses that wait.
+-- The same after queued accesses.
 abbrev pub curves_waited : List Access → CurveScene → CurveScene
 curves_waited accesses s = states_after curved (map item_of accesses) s
 
@@ -86,7 +86,8 @@ plain_words a = record {
   json = false;
 }
 
--- What a run of the form is to write over these files. It starts from what a plain run over them starts from.
+-- What a run of the form is to write over these files. It starts from what a plain run over them
+-- starts from.
 abbrev pub curve_account : AskedCurve → Files → Account
 curve_account a files = curves_by a.sets (trail_for (plain_words a) files) (plain_start (plain_words a) files)
 

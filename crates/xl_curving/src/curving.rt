@@ -23,8 +23,8 @@ use xl_outside::{Failed, Sink};
 use xl_rack::Rack;
 use xl_serving::{count, nth_event};
 
-/// What the form keeps beside the rack: the areas declared so far, a curve for each row, and accesses
-/// that wait. No line is written of an access, so a row is served many at a time.
+/// What the form keeps beside the rack: the areas declared so far, a curve for each row, and a
+/// queue of accesses. No line is written of an access, so a row is served many at a time.
 #[derive(Drop)]
 pub struct Curving {
     areas: Areas,
@@ -96,7 +96,7 @@ impl Form<Rack> for Curving {
 }
 
 impl Curving {
-    /// No areas, and a curve of this many sets for each of so many rows. All memory is taken here.
+    /// No areas, and a curve of `sets` sets for each of `rows` rows. All memory is taken here.
     ///
     /// # Errors
     ///
@@ -122,7 +122,7 @@ impl Curving {
         })
     }
 
-    /// Serves what waits.
+    /// Flushes the queue.
     #[inline(never)]
     fn settle(&mut self, rack: &mut Rack)
         ensures served { curve_scene_of rack.new self.new.areas self.new.curves.items
@@ -139,7 +139,7 @@ impl Curving {
         self.waiting.clear();
     }
 
-    /// Lets an access wait. Where there is no room, what waits is served before that.
+    /// Queues an access. Where there is no room, the queue is flushed first.
     #[inline(always)]
     fn put_off(&mut self, rack: &mut Rack, access: Access)
         ensures served { (number : ℕ) → curves_waited self.new.waiting.items
@@ -153,7 +153,7 @@ impl Curving {
         self.waiting.push(access);
     }
 
-    /// Serves what waits where there is no room for one access more.
+    /// Flushes the queue where there is no room for one access more.
     #[inline(always)]
     fn make_room(&mut self, rack: &mut Rack)
         ensures same { curves_waited self.new.waiting.items
@@ -168,7 +168,7 @@ impl Curving {
         }
     }
 
-    /// Declares an area. What waits is served before that.
+    /// Declares an area, after a flush of the queue.
     fn declare(&mut self, rack: &mut Rack, area: Area)
         requires { length self.old.areas < 256 }
         ensures served { curves_waited self.new.waiting.items
@@ -181,7 +181,7 @@ impl Curving {
         self.areas.declare(area);
     }
 
-    /// Serves the events of a command, in rising number. What waits is served before that.
+    /// Serves the events of a command, in rising number, after a flush of the queue.
     fn events(&mut self, rack: &mut Rack, command: Command)
         requires { IsPlaced command }
         ensures served { curves_waited self.new.waiting.items

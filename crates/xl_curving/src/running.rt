@@ -34,8 +34,8 @@ fn plain_words<'a>(words: &CurveWords<'a>) -> Plain<'a>
     }
 }
 
-/// Reads the configuration and the script, opens the rows and their curves, serves the script over the
-/// trace, and writes a line for each curve. All memory is taken before the first event.
+/// Reads the configuration and the script, opens the rows and their curves, serves the script over
+/// the trace, and writes a line for each curve. All memory is taken before the first event.
 #[inline(never)]
 pub fn report<F: Folder, K: Sink>(
     alloc: Global,
@@ -70,8 +70,9 @@ pub fn report<F: Folder, K: Sink>(
     report_orders(alloc, &orders, folder, out, rows)
 }
 
-/// Serves the script over the trace that the words name, and writes the curves. Where they name none,
-/// the trace has no records. Apart, so that rows are opened with no buffer of a trace on the stack.
+/// Serves the script over the trace that the words name, and writes the curves. Where they name
+/// none, the trace has no records. Apart, so that rows are opened with no buffer of a trace on the
+/// stack.
 #[inline(never)]
 fn report_orders<F: Folder, K: Sink>(
     alloc: Global,

@@ -3,7 +3,8 @@ use Rattle.std.specs.Prelude.{◌≡◌, ℕ, ◌*◌, ◌/◌, ◌^◌, ◌≤�
 use Rattle.xl_numbers.specs.Free.{AreMarked}
 use Rattle.xl_frames.specs.Pool.{IsFree, IsLowest, HasNone}
 
--- A block of a size is flagged exactly where all its frames are free. Only whole blocks have a flag.
+-- A block of a size is flagged exactly where all its frames are free. Only whole blocks have a
+-- flag.
 pub record AreBlocks (size : ℕ) (pool blocks : List Bool) : Type 0 where
   pub count : length blocks ≡ length pool / size
   pub flagged : (block : ℕ) → slice_index_or blocks block false ≡ true → IsFree pool (block * size) size

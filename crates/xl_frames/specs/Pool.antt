@@ -5,7 +5,8 @@ use Rattle.std.specs.Prelude.{◌≡◌, ℕ, ◌+◌, ◌*◌, ◌<◌, ◌≤�
 pub record IsFree (pool : List Bool) (first count : ℕ) : Type 0 where
   pub each : (frame : ℕ) → first ≤ frame → frame < first + count → slice_index_or pool frame false ≡ true
 
--- The lowest free block of a size begins here: at the least multiple of the size whose block is free.
+-- The lowest free block of a size begins here: at the least multiple of the size whose block is
+-- free.
 pub record IsLowest (pool : List Bool) (size at : ℕ) : Type 0 where
   pub aligned : (block : ℕ) × (at ≡ block * size)
   pub fits : at + size ≤ length pool

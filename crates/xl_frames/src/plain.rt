@@ -69,7 +69,7 @@ impl Frames {
         Ok(Frames { flags })
     }
 
-    /// Takes the lowest free block of the order, and gives the number of its first frame. None
+    /// Takes the lowest free block of the order, and returns the number of its first frame. None
     /// exactly where no block of the order is free.
     pub fn take(&mut self, order: Order) -> Option<u64>
         ensures lowest { IfSome result (IsLowest self.old (pages_of order)) }

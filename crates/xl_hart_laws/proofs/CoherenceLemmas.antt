@@ -97,7 +97,7 @@ out-of-reach s kept o at low n x i = go (holds_frames at (pages_of o) x) refl
         let k : true ≡ false = sym (holds-meets shared.0 block own.leaf shared.1 own.holds) ∙ free own.leaf own.member in
         absurd (cc)
 
--- a frame that is answered
+-- a frame that a reply has
 framed : (found : Option Leaf) (canonical : Bool) (page frame : ℕ) (kind : Kind) (xs : List Leaf)
     → ((x : Leaf) → found ≡ Some x → covers x.space page x ≡ true × ((f : ℕ) → holds_frames f 1 x ≡ true → IsOwned f xs))
     → reply_where canonical (reply_by found page kind) ≡ reply.Frame frame → IsOwned frame xs

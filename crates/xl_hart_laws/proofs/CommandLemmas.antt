@@ -32,7 +32,8 @@ and_first : (a b : Bool) → (a && b) ≡ true → a ≡ true
 and_first true b h = refl
 and_first false b h = h
 
--- A change that no refusal stops is sound; a leaf that comes stands in frames that no leaf holds, and none is held back.
+-- A change that no refusal stops is sound; a leaf that comes is in frames that no leaf holds, and
+-- none is held back.
 pub record IsAllowed (s : HartsState) (c : Change) : Type 0 where
   pub sound : IsSound (shared_row s.spec) s.table.leaves c
   pub free : (x : Leaf) → c ≡ Insert x → IsFree (pages_of x.order) x.frame (kept_leaves s)

@@ -111,7 +111,7 @@ module _ {spec : HartSpec} {requests : List Request} {leaves : List Leaf} (h : H
   switched-hart : (space : ℕ) → space < spec.spaces → IsHart spec requests leaves (record h { space = space })
   switched-hart space below = record { space_in = below; array_is = kept.array_is; waiting_in = kept.waiting_in; fresh = kept.fresh }
 
-  -- of so many of the newest requests, its queue among them
+  -- of n of the newest requests, its queue among them
   least-hart : (n : ℕ) → n ≤ length requests → h.waiting ≤ n → IsHart spec (take n requests) leaves h
   least-hart n few below = record {
     space_in = kept.space_in;

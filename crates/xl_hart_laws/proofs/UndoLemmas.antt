@@ -99,7 +99,7 @@ unfolding changed
 change-undone row leaves c m s =
     undone-by (old_leaf c leaves) (new_leaf c leaves) leaves m.sorted (old-there c leaves) (new-apart row leaves c m s)
 
--- what it tells
+-- what it says
 perm-same : (perm : Perm) (old : Option Leaf) (x y : Leaf) → old ≡ Some x → with_perm perm old ≡ Some y → (y.order ≡ x.order) × (y.frame ≡ x.frame)
 perm-same perm None x y e f = absurd (cc)
 perm-same perm (Some old) x y e f =

@@ -9,14 +9,14 @@ use Rattle.xl_model.specs.Rows.{Row}
 use Rattle.xl_model_lemmas.specs.Mappings.{IsMapping}
 use Rattle.xl_model_lemmas.specs.Members.{In}
 
--- A request tells of the mapping after its command: the leaf after is there; where there is a leaf before too, it held
--- the same frames.
+-- A request fits the mapping after its command: the leaf after is there; where there is a leaf
+-- before too, it held the same frames.
 pub record IsTold (r : Request) (leaves : List Leaf) : Type 0 where
   pub there : (x : Leaf) → r.after ≡ Some x → In x leaves
   pub same_order : (x y : Leaf) → r.before ≡ Some x → r.after ≡ Some y → y.order ≡ x.order
   pub same_frame : (x y : Leaf) → r.before ≡ Some x → r.after ≡ Some y → y.frame ≡ x.frame
 
--- With the newest requests undone, however many, there is a mapping, of which the next request tells.
+-- With the newest requests undone, however many, there is a mapping that the next request fits.
 abbrev pub IsHistory : Row → List Request → List Leaf → Type 0
 IsHistory row [] leaves = IsMapping row leaves
 IsHistory row (r ∷ requests) leaves = IsMapping row leaves × IsTold r leaves × IsHistory row requests (undone r leaves)

@@ -25,12 +25,12 @@ pub record IsHartSpec (spec : HartSpec) : Type 0 where
   pub some_sets : 1 ≤ spec.sets
   pub few_sets : spec.sets ≤ 2048
 
--- A leaf is of the mapping, or of one that was before some of the newest so many requests.
+-- A leaf is of the mapping, or of one that was before some of the newest n requests.
 abbrev pub IsOfOlder : ℕ → List Request → List Leaf → Leaf → Type 0
 IsOfOlder n requests leaves x = (i : ℕ) × (i ≤ n) × In x (older i requests leaves)
 
--- A hart keeps: its space and its array are ones of the spec, its queue has so many requests, and each leaf of its array
--- is of a mapping that its queue leads back to.
+-- A hart keeps: its space and its array are ones of the spec, its queue is no longer than the
+-- requests, and each leaf of its array is of a mapping that its queue leads back to.
 pub record IsHart (spec : HartSpec) (requests : List Request) (leaves : List Leaf) (h : Hart) : Type 0 where
   pub space_in : h.space < spec.spaces
   pub array_is : h.array.spec ≡ array_spec spec
@@ -44,8 +44,9 @@ IsTable spec (Chained group buckets entries tags) = ⊥
 IsTable spec (Cuckoo rules ways) = ⊥
 IsTable spec (Runs ranges) = ⊥
 
--- Harts keep: the requests tell the history of the mapping; the harts keep what each keeps; some hart has still to take
--- all of the requests, which are no more than a queue holds; the current hart is there; and no frame is held twice, by leaves of the mapping or held back.
+-- Harts keep: the requests are the history of the mapping; the harts keep what each keeps; some
+-- hart has still to take all of the requests, which are no more than a queue holds; the current
+-- hart is there; and no frame is held twice, by leaves of the mapping or held back.
 pub record IsKept (s : HartsState) : Type 0 where
   pub spec_is : IsHartSpec s.spec
   pub table_is : IsTable s.spec s.table.shape

@@ -19,8 +19,9 @@ use Rattle.xl_hart_model.specs.Requests.{request_of, older}
 use Rattle.xl_model_lemmas.specs.Fresh.{InSets}
 use Rattle.xl_hart_laws.specs.Kept.{IsHartSpec}
 
--- The reply to an access of a hart is that of the flat mapping with so many of the hart's newest requests undone: at most
--- all of its queue, so that it is of no mapping before the last request that the hart has taken.
+-- The reply to an access of a hart is that of the flat mapping with `undone` of the hart's newest
+-- requests undone: at most all of its queue, so that it is of no mapping before the last request
+-- that the hart has taken.
 pub record IsOlderReply (h : Hart) (s : HartsState) (va : ℕ) (kind : Kind) : Type 0 where
   pub undone : ℕ
   pub in_queue : undone ≤ length (queue_of h s)
@@ -32,7 +33,7 @@ IsOutOfReach s =
     (o : Order) (at : ℕ) → lowest s.spec.frames o (kept_leaves s) ≡ Some at
     → (n : ℕ) (x : Leaf) → InSets x (hart_at n s).array.sets → holds_frames at (pages_of o) x ≡ false
 
--- A frame that a hart is answered is in the mapping or held back.
+-- A frame in a reply to a hart is in the mapping or held back.
 abbrev pub IsFrameKept : Hart → HartsState → Type 0
 IsFrameKept h s =
     (va : ℕ) (kind : Kind) (frame : ℕ) → hart_reply h s.table.leaves va kind ≡ reply.Frame frame
@@ -44,8 +45,9 @@ pub record IsCoherent (s : HartsState) : Type 0 where
   pub out_of_reach : IsOutOfReach s
   pub frames_kept : (n : ℕ) → IsFrameKept (hart_at n s) s
 
--- After every list of events each reply to a hart is of a mapping that its queue leads back to, no map takes a frame that
--- an array reaches, and each frame that is answered is in the mapping or held back.
+-- After every list of events each reply to a hart is of a mapping that its queue leads back to, no
+-- map takes a frame that an array reaches, and each frame of a reply is in the mapping or held
+-- back.
 abbrev pub HartsAreCoherent : Type 0
 HartsAreCoherent = (spec : HartSpec) (events : List HartEvent) → IsHartSpec spec → IsCoherent (after_hart_events events (opening_harts spec))
 
@@ -60,13 +62,13 @@ pub record TakesOldest (s : HartsState) (n : ℕ) : Type 0 where
   pub own : queue_of (hart_at n (after_hart_event (step.Take n) s)) (after_hart_event (step.Take n) s) ≡ take (length (queue_of (hart_at n s) s) - 1) (queue_of (hart_at n s) s)
   pub others : (m : ℕ) → (m ≡ n → ⊥) → queue_of (hart_at m (after_hart_event (step.Take n) s)) (after_hart_event (step.Take n) s) ≡ queue_of (hart_at m s) s
 
--- What is promised of the queues in a state: a request comes into each; one takes its oldest; and what holds frames back
--- are the requests of one of them, which has all that the others have.
+-- What is promised of the queues in a state: a request comes into each; one takes its oldest; and
+-- what holds frames back are the requests of one of them, which has all that the others have.
 pub record AreQueues (s : HartsState) : Type 0 where
   pub comes : (n : ℕ) → n < length s.harts → ComesIntoQueue s n
   pub takes : (n : ℕ) → hart_refusal s (step.Take n) ≡ None → TakesOldest s n
   pub longest : (n : ℕ) × (queue_of (hart_at n s) s ≡ s.requests)
 
--- One list of requests serves all harts: after every list of events its newest so many are queues.
+-- One list of requests serves all harts: after every list of events its newest are queues.
 abbrev pub OneListServesAllQueues : Type 0
 OneListServesAllQueues = (spec : HartSpec) (events : List HartEvent) → IsHartSpec spec → AreQueues (after_hart_events events (opening_harts spec))

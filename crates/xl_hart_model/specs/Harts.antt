@@ -48,8 +48,9 @@ pub record Hart : Type 0 where
   pub waiting : ℕ
   pub counts : HartCounts
 
--- Harts with what they share: the table, and the requests that some hart has still to take, newest first. A request
--- comes into every hart's queue at once; so the queue of a hart is so many of the newest requests.
+-- Harts with what they share: the table, and the requests that some hart has still to take, newest
+-- first. A request comes into every hart's queue at once; so the queue of a hart is some of the
+-- newest requests.
 pub record HartsState : Type 0 where
   pub spec : HartSpec
   pub table : TableState
@@ -111,7 +112,8 @@ with_hart i h s = record s { harts = slice_set s.harts i h }
 abbrev pub kept_leaves : HartsState → List Leaf
 kept_leaves s = s.table.leaves ++ held_leaves s.requests
 
--- An access. The leaf that it is replied by: that of the hart's array which covers the page, or else that of the mapping.
+-- An access. The leaf that it is replied by: that of the hart's array which covers the page, or
+-- else that of the mapping.
 abbrev pub leaf_seen : Hart → ℕ → List Leaf → Option Leaf
 leaf_seen h page leaves = first_found (array_hit h.array h.space page) (leaf_at_page h.space page leaves)
 
@@ -190,7 +192,8 @@ of_mapping (Some r) = Some (why.Mapping r)
 abbrev pub is_full : HartSpec → Hart → Bool
 is_full spec h = h.waiting == spec.queue
 
--- 8 and 10, of a command that changes the mapping: the table has no room; some hart's queue is full.
+-- 8 and 10, of a command that changes the mapping: the table has no room; some hart's queue is
+-- full.
 abbrev pub change_rule : Option Change → HartsState → Option HartRefusal
 change_rule None s = None
 change_rule (Some c) s =
@@ -209,7 +212,7 @@ hart_refusal s (step.Own e) = first_refusal (of_mapping (hart_rule s e)) (change
 abbrev pub hart_asked : Hart → Hart
 hart_asked h = record h { waiting = h.waiting + 1 }
 
--- After a command that changes the mapping: its request stands in every queue.
+-- After a command that changes the mapping: its request is in every queue.
 abbrev pub mapping_changed : Option Change → HartsState → HartsState
 mapping_changed None s = s
 mapping_changed (Some c) s = record s {
@@ -260,7 +263,8 @@ with_taken harts s = record s { harts = harts; requests = take (longest harts) s
 abbrev pub request_taken : ℕ → HartsState → HartsState
 request_taken n s = with_taken (slice_set s.harts n (hart_fenced (oldest (hart_at n s) s.requests) (hart_at n s))) s
 
--- After an event that is served for the current hart, where none refuses it. Harts are sent no fence but by requests.
+-- After an event that is served for the current hart, where none refuses it. Harts are sent no
+-- fence but by requests.
 abbrev pub own_served : Event → HartsState → HartsState
 own_served (event.Access va kind) s = hart_accessed va kind s
 own_served (event.Space space) s = hart_switched space s
@@ -306,7 +310,7 @@ abbrev pub after_hart_events : List HartEvent → HartsState → HartsState
 after_hart_events [] s = s
 after_hart_events (e ∷ es) s = after_hart_events es (after_hart_event e s)
 
--- How many requests stand in all queues.
+-- How many requests are in all queues.
 abbrev pub waiting_in : List Hart → ℕ
 waiting_in [] = 0
 waiting_in (h ∷ harts) = h.waiting + waiting_in harts

@@ -5,7 +5,8 @@ use Rattle.xl_hart_model.specs.declared.hart.Request.{Request}
 use Rattle.xl_model.specs.declared.leaf.Leaf.{Leaf}
 use Rattle.xl_model.specs.Changes.{Change, old_leaf, new_leaf, with_new, without_old}
 
--- The request of a change: the leaf before, which a map has not, and the leaf after, which an unmap has not.
+-- The request of a change: the leaf before, which a map has not, and the leaf after, which an unmap
+-- has not.
 abbrev pub request_of : Change → List Leaf → Request
 request_of c leaves = record { before = old_leaf c leaves; after = new_leaf c leaves }
 
@@ -13,7 +14,7 @@ request_of c leaves = record { before = old_leaf c leaves; after = new_leaf c le
 abbrev pub undone : Request → List Leaf → List Leaf
 undone r leaves = with_new r.before (without_old r.after leaves)
 
--- The mapping with so many requests undone, the newest first.
+-- The mapping with this number of requests undone, the newest first.
 abbrev pub older : ℕ → List Request → List Leaf → List Leaf
 older zero requests leaves = leaves
 older (suc i) [] leaves = leaves

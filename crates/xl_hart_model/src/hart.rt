@@ -2,8 +2,9 @@
 
 use xl_model::{Event, Leaf, Refusal, Reply};
 
-/// The limits of harts over one Sv39 radix table: how many harts there are, how many requests a queue
-/// holds, the data frames, the table's nodes, the spaces, and the sets of each hart's TLB array.
+/// The limits of harts over one Sv39 radix table: how many harts there are, how many requests a
+/// queue holds, the data frames, the table's nodes, the spaces, and the sets of each hart's TLB
+/// array.
 #[derive(Clone, Copy, Debug, PartialEq, Eq)]
 pub struct HartSpec {
     pub harts: u16,
@@ -14,8 +15,8 @@ pub struct HartSpec {
     pub sets: u32,
 }
 
-/// One step of harts: another one becomes the current one, one takes the oldest request of its queue, or
-/// the current one is served an event.
+/// One step of harts: another one becomes the current one, one takes the oldest request of its
+/// queue, or the current one is served an event.
 #[derive(Clone, Copy)]
 pub enum HartEvent {
     Hart { hart: u16 },
@@ -23,7 +24,8 @@ pub enum HartEvent {
     Own { event: Event },
 }
 
-/// Why an event of harts is refused: as an event of a row (1 to 8), or by the queues and harts (10 to 12).
+/// Why an event of harts is refused: as an event of a row (1 to 8), or by the queues and harts (10
+/// to 12).
 #[derive(Clone, Copy, Debug, PartialEq, Eq)]
 pub enum HartRefusal {
     Mapping(Refusal),
@@ -32,7 +34,7 @@ pub enum HartRefusal {
     BadHart,
 }
 
-/// What an event of harts came to.
+/// The result of an event of harts.
 #[derive(Clone, Copy, Debug, PartialEq, Eq)]
 pub enum HartOutcome {
     Replied(Reply),
@@ -40,7 +42,7 @@ pub enum HartOutcome {
     Refused(HartRefusal),
 }
 
-/// A request of a remote fence (a TLB shootdown): the leaf as it stood before a command, and as it stands
+/// A request of a remote fence (a TLB shootdown): the leaf as it was before a command, and as it is
 /// after it.
 #[derive(Clone, Copy, Debug, PartialEq, Eq)]
 pub struct Request {
@@ -64,8 +66,8 @@ pub struct HartCounts {
     pub pasum: u64,
 }
 
-/// The counts of all harts together: commands that were done, refusals by their numbers, requests in all
-/// queues, and frames held back.
+/// The counts of all harts together: commands that were done, refusals by their numbers, requests
+/// in all queues, and frames held back.
 #[derive(Clone, Copy, Debug, PartialEq, Eq)]
 pub struct AllCounts {
     pub accepted: u64,

@@ -1,5 +1,5 @@
-//! Several harts over one table: the types that the crates of this form speak of, and the definitions that
-//! their contracts cite, in `specs/`.
+//! Several harts over one table: the types that the crates of this form speak of, and the
+//! definitions that their contracts cite, in `specs/`.
 #![tactic(auto)]
 
 mod hart;

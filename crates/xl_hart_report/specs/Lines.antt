@@ -27,7 +27,8 @@ with_hart_walks line c =
     line ++ codes " hits=" ++ decimal c.hits ++ codes " misses=" ++ decimal c.misses
     ++ codes " reads=" ++ decimal c.reads
 
--- The line with the requests that a hart took, the entries that left its array, and its sum of physical addresses.
+-- The line with the requests that a hart took, the entries that left its array, and its sum of
+-- physical addresses.
 unfoldable pub with_hart_takes : List ℕ → HartCounts → List ℕ
 with_hart_takes line c =
     line ++ codes " taken=" ++ decimal c.taken ++ codes " invalidated=" ++ decimal c.invalidated

@@ -10,9 +10,9 @@ use xl_model::{Kind, Reply, code};
 use xl_outside::{Failed, Sink, put_all};
 use xl_report::{Answered, Line};
 
-/// Appends the line of an access: the hart, the record's number, the access in the hart's space, and its
-/// reply. A frame that is replied is below 2^52, so that its physical addresses are below 2^64. In line, so
-/// that the parts of the access stay in registers.
+/// Appends the line of an access: the hart, the record's number, the access in the hart's space,
+/// and its reply. A frame that is replied is below 2^52, so that its physical addresses are below
+/// 2^64. Inlined, so that the parts of the access stay in registers.
 ///
 /// # Errors
 ///

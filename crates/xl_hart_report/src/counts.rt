@@ -9,7 +9,7 @@ use xl_hart_model::{AllCounts, HartCounts};
 use xl_outside::{Failed, Sink, put_all};
 use xl_report::Line;
 
-/// Appends the line of a hart's counts: the hart, and each count behind its name.
+/// Appends the line of a hart's counts: the hart, and each count after its name.
 ///
 /// # Errors
 ///
@@ -75,8 +75,8 @@ fn takes(line: &mut Line<512>, counts: &HartCounts)
     line.hex(counts.pasum);
 }
 
-/// Appends the line of all harts together: the commands done, the refusals by their numbers, the requests in
-/// all queues, and the frames held back.
+/// Appends the line of all harts together: the commands done, the refusals by their numbers, the
+/// requests in all queues, and the frames held back.
 ///
 /// # Errors
 ///
@@ -118,7 +118,7 @@ fn numbers(line: &mut Line<512>, numbers: &[u64])
     }
 }
 
-/// Puts numbers at the line's end, each behind a comma.
+/// Puts numbers at the line's end, each after a comma.
 fn rest(line: &mut Line<512>, numbers: &[u64])
     requires few { length numbers.now ≤ 11 }
     requires room { length line.old + 231 ≤ 512 }

@@ -1,4 +1,5 @@
-//! The lines of a report of harts: one for an access, one for a hart's counts, one for all harts together.
+//! The lines of a report of harts: one for an access, one for a hart's counts, one for all harts
+//! together.
 #![tactic(auto)]
 
 mod answer;

@@ -9,7 +9,8 @@ use Rattle.xl_hart_model.specs.declared.hart.HartSpec.{HartSpec}
 use Rattle.xl_hart_model.specs.Tally.{no_hart_counts, no_refusals}
 use Rattle.xl_hart_rows.specs.Rows.{Told, perm_r__u, perm_rw_u}
 
--- Eight harts read a page that is then unmapped, and take in rising order: each loses its entry, and the last one frees the frame.
+-- Eight harts read a page that is then unmapped, and take in rising order: each loses its entry,
+-- and the last one frees the frame.
 abbrev pub eight_harts_in_turn_spec : HartSpec
 eight_harts_in_turn_spec = record { harts = 8; queue = 4; frames = 1; nodes = 16; spaces = 1; sets = 2 }
 
@@ -207,7 +208,8 @@ no_such_hart_told = record {
   all = record { accepted = 1; refused = 0 ∷ 0 ∷ 0 ∷ 0 ∷ 0 ∷ 0 ∷ 0 ∷ 0 ∷ 0 ∷ 0 ∷ 1 ∷ 6 ∷ []; waiting = 1; held = 0 };
 }
 
--- Two harts, and the frames of one block of 4 KiB: the block is held back until the second has taken the unmap.
+-- Two harts, and the frames of one block of 4 KiB: the block is held back until the second has
+-- taken the unmap.
 abbrev pub a_block_of_4k_held_back_spec : HartSpec
 a_block_of_4k_held_back_spec = record { harts = 2; queue = 4; frames = 1; nodes = 16; spaces = 1; sets = 1 }
 
@@ -241,7 +243,8 @@ a_block_of_4k_held_back_told = record {
   all = record { accepted = 3; refused = 0 ∷ 0 ∷ 0 ∷ 0 ∷ 0 ∷ 0 ∷ 3 ∷ 0 ∷ 0 ∷ 0 ∷ 0 ∷ 0 ∷ []; waiting = 2; held = 0 };
 }
 
--- Two harts, and the frames of one block of 2 MiB: the block is held back until the second has taken the unmap.
+-- Two harts, and the frames of one block of 2 MiB: the block is held back until the second has
+-- taken the unmap.
 abbrev pub a_block_of_2m_held_back_spec : HartSpec
 a_block_of_2m_held_back_spec = record { harts = 2; queue = 4; frames = 512; nodes = 16; spaces = 1; sets = 1 }
 
@@ -275,7 +278,8 @@ a_block_of_2m_held_back_told = record {
   all = record { accepted = 3; refused = 0 ∷ 0 ∷ 0 ∷ 0 ∷ 0 ∷ 0 ∷ 3 ∷ 0 ∷ 0 ∷ 0 ∷ 0 ∷ 0 ∷ []; waiting = 2; held = 0 };
 }
 
--- Two harts, and the frames of one block of 1 GiB: the block is held back until the second has taken the unmap.
+-- Two harts, and the frames of one block of 1 GiB: the block is held back until the second has
+-- taken the unmap.
 abbrev pub a_block_of_1g_held_back_spec : HartSpec
 a_block_of_1g_held_back_spec = record { harts = 2; queue = 4; frames = 262144; nodes = 16; spaces = 1; sets = 1 }
 
@@ -309,7 +313,8 @@ a_block_of_1g_held_back_told = record {
   all = record { accepted = 3; refused = 0 ∷ 0 ∷ 0 ∷ 0 ∷ 0 ∷ 0 ∷ 3 ∷ 0 ∷ 0 ∷ 0 ∷ 0 ∷ 0 ∷ []; waiting = 2; held = 0 };
 }
 
--- A protect that one hart sees and the other doesn't, until it takes: a store is allowed, denied, then denied.
+-- A protect that one hart sees and the other doesn't, until it takes: a store is allowed, denied,
+-- then denied.
 abbrev pub a_protect_seen_old_and_new_spec : HartSpec
 a_protect_seen_old_and_new_spec = record { harts = 2; queue = 4; frames = 4; nodes = 16; spaces = 1; sets = 1 }
 
@@ -338,7 +343,8 @@ a_protect_seen_old_and_new_told = record {
   all = record { accepted = 2; refused = no_refusals; waiting = 2; held = 0 };
 }
 
--- A move: the hart that read the page still reads it at its old place, the other at its new place alone.
+-- A move: the hart that read the page still reads it at its old place, the other at its new place
+-- alone.
 abbrev pub a_move_seen_old_and_new_spec : HartSpec
 a_move_seen_old_and_new_spec = record { harts = 2; queue = 4; frames = 4; nodes = 16; spaces = 1; sets = 1 }
 
@@ -596,7 +602,8 @@ eight_harts_in_mixed_order_told = record {
   all = record { accepted = 4; refused = 0 ∷ 0 ∷ 0 ∷ 0 ∷ 0 ∷ 0 ∷ 1 ∷ 0 ∷ 0 ∷ 0 ∷ 0 ∷ 0 ∷ []; waiting = 16; held = 0 };
 }
 
--- Each refusal where later ones hold too: 1, 2, 3, 6 and 7 of a map, 4 and 5 of an unmap, 4, 6, 8 and 10 of a move.
+-- Each refusal where later ones hold too: 1, 2, 3, 6 and 7 of a map, 4 and 5 of an unmap, 4, 6, 8
+-- and 10 of a move.
 abbrev pub refusals_in_their_order_spec : HartSpec
 refusals_in_their_order_spec = record { harts = 1; queue = 3; frames = 3; nodes = 3; spaces = 1; sets = 1 }
 
@@ -633,7 +640,8 @@ refusals_in_their_order_told = record {
   all = record { accepted = 3; refused = 1 ∷ 1 ∷ 1 ∷ 2 ∷ 1 ∷ 2 ∷ 1 ∷ 1 ∷ 0 ∷ 1 ∷ 1 ∷ 2 ∷ []; waiting = 0; held = 0 };
 }
 
--- A full queue and a table without room: a map and a move into another root entry are refused for the room.
+-- A full queue and a table without room: a map and a move into another root entry are refused for
+-- the room.
 abbrev pub room_comes_before_the_queue_spec : HartSpec
 room_comes_before_the_queue_spec = record { harts = 1; queue = 1; frames = 4; nodes = 3; spaces = 1; sets = 1 }
 

@@ -21,16 +21,16 @@ perm_r__u = record { r = true; w = false; x = false; u = true; legal = refl }
 abbrev pub perm_rw_u : Perm
 perm_rw_u = record { r = true; w = true; x = false; u = true; legal = refl }
 
--- What harts come to after some events: the counts of each, and of all together.
+-- The counts of harts after some events: of each, and of all together.
 pub record Told : Type 0 where
   pub harts : List HartCounts
   pub all : AllCounts
 
--- What harts come to in a state.
+-- The counts of harts in a state.
 abbrev pub told_of : HartsState → Told
 told_of s = record { harts = map (λ h. h.counts) s.harts; all = all_counts s }
 
--- What harts come to after some events from the opening on.
+-- The counts of harts after some events from the opening on.
 abbrev pub told : HartSpec → List HartEvent → Told
 told spec events = told_of (after_hart_events events (opening_harts spec))
 
@@ -56,7 +56,7 @@ an_older_mapping_events =
     (step.Own (event.Access 4104 kind.Load)) ∷
     (step.Own (event.Map 0 12288 order.K4 perm_rw_u)) ∷ []
 
--- What that comes to.
+-- The counts after that.
 abbrev pub an_older_mapping_told : Told
 an_older_mapping_told = record {
   harts =
@@ -81,7 +81,7 @@ a_frame_held_back_events =
     (step.Own (event.Map 0 4096 order.K4 perm_r__u)) ∷
     (step.Own (event.Access 4096 kind.Load)) ∷ []
 
--- What that comes to.
+-- The counts after that.
 abbrev pub a_frame_held_back_told : Told
 a_frame_held_back_told = record {
   harts = (record no_hart_counts { accesses = 1; ok = 1; misses = 1; reads = 3; taken = 2 }) ∷ [];

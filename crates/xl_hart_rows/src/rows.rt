@@ -1,4 +1,4 @@
-//! What harts come to after events, by another program.
+//! Counts of harts after events, by another program.
 
 ghost use Rattle.std.specs.Prelude.{◌≡◌};
 ghost use Rattle.xl_hart_rows.specs.Rows.{told, an_older_mapping_spec, an_older_mapping_events, an_older_mapping_told, a_frame_held_back_spec, a_frame_held_back_events, a_frame_held_back_told};

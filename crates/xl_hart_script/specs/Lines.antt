@@ -38,7 +38,7 @@ abbrev pub head_line : List (List ℕ) → Result HartSpec Reason
 head_line (harts ∷ queue ∷ frames ∷ nodes ∷ spaces ∷ sets ∷ []) = head_words harts queue frames nodes spaces sets
 head_line _ = Err reason.WordCount
 
--- So many events of the current hart, of which this is the first.
+-- n events of the current hart, of which this is the first.
 abbrev pub events : Event → ℕ → HartCommand
 events e n = command.Events (step.Own e) n
 
@@ -115,11 +115,11 @@ run_line (n ∷ []) =
     else (number 1 4294967295 n >>= (λ k. Ok (command.Run k)))
 run_line _ = Err reason.WordCount
 
--- So many blocks from an address on end by the last address of 64 bits.
+-- n blocks from an address on end by the last address of 64 bits.
 abbrev pub fits : ℕ → Order → ℕ → Bool
 fits va o n = nat_le (end_of va o n) (2 ^ 64)
 
--- All that so many events of the current hart name lies in 64 bits; a move names two blocks each.
+-- All that n events of the current hart name lies in 64 bits; a move names two blocks each.
 abbrev pub own_fits : Event → ℕ → Bool
 own_fits (event.Map space va o perm) n = fits va o n
 own_fits (event.Unmap space va o) n = fits va o n
@@ -171,7 +171,7 @@ is_head name.Move = false
 is_head name.Space = false
 is_head name.Run = false
 
--- A head where there is none yet, or another line behind one.
+-- A head where there is none yet, or another line after one.
 abbrev pub turn : Bool → Bool → Name → Result Name Reason
 turn true true n = Err reason.Head
 turn true false n = Ok n

@@ -69,7 +69,7 @@ said_by head (Ok (line.Head spec)) = Ok (Some spec, None)
 said_by head (Ok (line.Own c)) = Ok (head, Some c)
 said_by head (Err why) = Err (code_of why)
 
--- What the words of a line say before the head or after it. A line with no words says nothing.
+-- What the words of a line say before the head or after it. A line with no words is skipped.
 abbrev pub harts_said : Option HartSpec → List (List ℕ) → Said (Option HartSpec) HartCommand
 harts_said head [] = Ok (head, None)
 harts_said head (first ∷ rest) = said_by head (line_of (is_some head) first rest)

@@ -2,8 +2,9 @@
 
 use xl_hart_model::{HartEvent, HartSpec};
 
-/// A command: events, or a run of the next records of the trace, by their number or all that are left.
-/// Event i of `Events`, from 0, is `first` with each of its addresses raised by i times the order's size.
+/// A command: events, or a run of the next records of the trace, by their number or all that are
+/// left. Event i of `Events`, from 0, is `first` with each of its addresses raised by i times the
+/// order's size.
 #[derive(Clone, Copy)]
 pub enum HartCommand {
     Events { first: HartEvent, n: u32 },

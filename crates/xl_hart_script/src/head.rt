@@ -48,7 +48,7 @@ fn head_by(
     })
 }
 
-/// `harts COUNT QUEUE FRAMES NODES SPACES SETS`, by its words behind the first.
+/// `harts COUNT QUEUE FRAMES NODES SPACES SETS`, by its words after the first.
 pub(crate) fn head_line(line: &[u8]) -> Result<HartSpec, Reason>
     ensures value { result ≡ head_line (drop 1 (words_of line.now)) }
     ensures limits { IfOk result IsHartSpec }

@@ -37,7 +37,7 @@ pub(crate) struct Leaves {
     pub(crate) n: u32,
 }
 
-/// So many events of the current hart, of which this is the first.
+/// `n` events of the current hart, of which `event` is the first.
 fn events(event: Event, n: u32) -> HartCommand
     ensures { result ≡ events_of event n }
 {
@@ -65,7 +65,7 @@ fn leaves_by(
     })
 }
 
-/// `SPACE ADDR ORDER PERM [N]`, the words behind the first.
+/// `SPACE ADDR ORDER PERM [N]`, the words after the first.
 fn leaves_line(line: &[u8]) -> Result<Leaves, Reason>
     ensures { result ≡ leaves_line (drop 1 (words_of line.now)) }
 {
@@ -77,7 +77,7 @@ fn leaves_line(line: &[u8]) -> Result<Leaves, Reason>
     leaves_by(space, addr, size, perm, n)
 }
 
-/// `map SPACE ADDR ORDER PERM [N]`, by its words behind the first.
+/// `map SPACE ADDR ORDER PERM [N]`, by its words after the first.
 fn map_line(line: &[u8]) -> Result<HartCommand, Reason>
     ensures { result ≡ map_line (drop 1 (words_of line.now)) }
 {
@@ -97,7 +97,7 @@ fn map_line(line: &[u8]) -> Result<HartCommand, Reason>
     Ok(events(first, n))
 }
 
-/// `protect SPACE ADDR ORDER PERM [N]`, by its words behind the first.
+/// `protect SPACE ADDR ORDER PERM [N]`, by its words after the first.
 fn protect_line(line: &[u8]) -> Result<HartCommand, Reason>
     ensures { result ≡ protect_line (drop 1 (words_of line.now)) }
 {
@@ -130,7 +130,7 @@ fn unmap_by(space: &[u8], addr: &[u8], size: &[u8], n: &[u8]) -> Result<HartComm
     Ok(events(first, count(n)?))
 }
 
-/// `unmap SPACE ADDR ORDER [N]`, by its words behind the first.
+/// `unmap SPACE ADDR ORDER [N]`, by its words after the first.
 fn unmap_line(line: &[u8]) -> Result<HartCommand, Reason>
     ensures { result ≡ unmap_line (drop 1 (words_of line.now)) }
 {
@@ -161,7 +161,7 @@ fn move_by(
     Ok(events(first, count(n)?))
 }
 
-/// `move SPACE FROM TO ORDER [N]`, by its words behind the first.
+/// `move SPACE FROM TO ORDER [N]`, by its words after the first.
 fn move_line(line: &[u8]) -> Result<HartCommand, Reason>
     ensures { result ≡ move_line (drop 1 (words_of line.now)) }
 {
@@ -173,7 +173,7 @@ fn move_line(line: &[u8]) -> Result<HartCommand, Reason>
     move_by(space, from, to, size, n)
 }
 
-/// The one word of a line behind the first: a number from 0 to 65535.
+/// The one word of a line after the first: a number from 0 to 65535.
 fn only_number(line: &[u8]) -> Result<u16, Reason>
     ensures { result ≡ only_number (drop 1 (words_of line.now)) }
 {
@@ -184,7 +184,7 @@ fn only_number(line: &[u8]) -> Result<u16, Reason>
     short(word)
 }
 
-/// `space SPACE`, by its words behind the first.
+/// `space SPACE`, by its words after the first.
 fn space_line(line: &[u8]) -> Result<HartCommand, Reason>
     ensures { result ≡ space_line (drop 1 (words_of line.now)) }
 {
@@ -192,7 +192,7 @@ fn space_line(line: &[u8]) -> Result<HartCommand, Reason>
     Ok(events(Event::Space { space }, 1))
 }
 
-/// `hart H`, by its words behind the first.
+/// `hart H`, by its words after the first.
 fn hart_line(line: &[u8]) -> Result<HartCommand, Reason>
     ensures { result ≡ hart_line (drop 1 (words_of line.now)) }
 {
@@ -201,7 +201,7 @@ fn hart_line(line: &[u8]) -> Result<HartCommand, Reason>
     Ok(HartCommand::Events { first, n: 1 })
 }
 
-/// `take H`, by its words behind the first.
+/// `take H`, by its words after the first.
 fn take_line(line: &[u8]) -> Result<HartCommand, Reason>
     ensures { result ≡ take_line (drop 1 (words_of line.now)) }
 {
@@ -210,7 +210,7 @@ fn take_line(line: &[u8]) -> Result<HartCommand, Reason>
     Ok(HartCommand::Events { first, n: 1 })
 }
 
-/// `run N` or `run rest`, by its words behind the first.
+/// `run N` or `run rest`, by its words after the first.
 fn run_line(line: &[u8]) -> Result<HartCommand, Reason>
     ensures { result ≡ run_line (drop 1 (words_of line.now)) }
 {
@@ -232,7 +232,7 @@ fn fits(address: u64, order: Order, n: u32) -> bool
     (n as u64 * order.bytes()).saturating_sub(1) <= u64::MAX - address
 }
 
-/// Whether all that so many events name lies in 64 bits.
+/// Whether all that `n` events name lies in 64 bits.
 fn own_fits(event: Event, n: u32) -> bool
     ensures { result ≡ own_fits event n }
 {
@@ -323,7 +323,7 @@ fn own(command: HartCommand) -> Result<Line, Reason>
     Ok(Line::Own(placed(command)?))
 }
 
-/// The line of a name, by its words behind the first.
+/// The line of a name, by its words after the first.
 fn line_named(name: Name, line: &[u8]) -> Result<Line, Reason>
     ensures value { result ≡ line_named name (drop 1 (words_of line.now)) }
     ensures limits { IfOk result HasLimits }
@@ -341,7 +341,7 @@ fn line_named(name: Name, line: &[u8]) -> Result<Line, Reason>
     }
 }
 
-/// A line, by its first word and the words behind it, before the head or after it.
+/// A line, by its first word and the words after it, before the head or after it.
 #[tactic(auto, unfolding(crate::specs::Lines::line_of))]
 pub(crate) fn line_of(opened: bool, first: &[u8], line: &[u8]) -> Result<Line, Reason>
     ensures value { result ≡ line_of opened first.now (drop 1 (words_of line.now)) }

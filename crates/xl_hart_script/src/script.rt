@@ -15,8 +15,8 @@ use xl_script::{ScriptFault, read_text};
 /// A line takes no more memory than this.
 const _: () = prove!(size_of::<HartCommand>() <= 64);
 
-/// The limits in the head of a script, and its commands in the order of its lines. All that they name lies
-/// in 64 bits, and no event is a fence.
+/// The limits in the head of a script, and its commands in the order of its lines. All that they
+/// name lies in 64 bits, and no event is a fence.
 #[derive(Drop)]
 pub struct HartScript {
     spec: HartSpec,
@@ -52,7 +52,8 @@ impl HartScript {
         self.commands.len()
     }
 
-    /// The command at this place, from 0. What it names lies in 64 bits, and its events are no fences.
+    /// The command at this place, from 0. What it names lies in 64 bits, and its events are no
+    /// fences.
     pub fn command(&self, i: usize) -> HartCommand
         requires { i < length self.now.commands }
         ensures value { slice_get self.now.commands i ≡ Some result }
@@ -62,13 +63,14 @@ impl HartScript {
     }
 }
 
-/// Reads a script. It is too long where it has more than 1,048,576 bytes; else it is refused by its first
-/// bad line, or at line 1 where it has no head. Where there is no memory, the answer may be that.
+/// Reads a script. It is too long where it has more than 1,048,576 bytes; else it is refused by its
+/// first bad line, or at line 1 where it has no head. Where there is no memory, the answer may be
+/// that.
 ///
-/// The reasons of a bad line: 1, its first word names no line; 8, it is a head and not the first line, or
-/// no head and the first; 2, it has too few or too many words; 3, a number or an address, or a head with
-/// fewer nodes than spaces; 4, a page's size; 5, a permission; 6, it names bytes past the last address. 1
-/// and 8 are tested first, 2 before the words, and each word in turn.
+/// The reasons of a bad line: 1, its first word names no line; 8, it is a head and not the first
+/// line, or no head and the first; 2, it has too few or too many words; 3, a number or an address,
+/// or a head with fewer nodes than spaces; 4, a page's size; 5, a permission; 6, it names bytes
+/// past the last address. 1 and 8 are tested first, 2 before the words, and each word in turn.
 #[tactic(auto, unfolding(crate::specs::Scripts::harts_script_of))]
 pub fn parse_harts(alloc: Global, text: &[u8]) -> Result<HartScript, ScriptFault>
     ensures reading { Answers result (harts_script_of text.now) }

@@ -19,7 +19,7 @@ use Rattle.xl_serving.specs.Inputs.{trail_in}
 use Rattle.xl_paired.specs.Pairs.{Pairing, account_by, events_from, left_by, script_in}
 use Rattle.xl_words.specs.Words.{AskedPair}
 
--- An event with each of its addresses raised by so many times the order's size.
+-- An event with each of its addresses raised by `i` times the order's size.
 abbrev pub raised : Event → ℕ → Event
 raised (event.Map space va o perm) i = event.Map space (block_address va o i) o perm
 raised (event.Unmap space va o) i = event.Unmap space (block_address va o i) o
@@ -65,7 +65,8 @@ step_of (command.Events first n) = steps.Own (command.Events first n)
 step_of (command.Run n) = steps.Run n
 step_of command.RunRest = steps.RunRest
 
--- The form of harts: a script opens the harts of its head, with nothing mapped, and each event is served at once.
+-- The form of harts: a script opens the harts of its head, with nothing mapped, and each event is
+-- served at once.
 abbrev pub harts_form : Pairing HartText HartCommand HartEvent HartsState
 harts_form = record {
   opens = λ (script : HartText). opening_harts script.spec;

@@ -24,8 +24,8 @@ fn block(address: u64, order: Order, i: u32) -> u64
     address + i as u64 * order.bytes()
 }
 
-/// The event of this number, from 0, of so many for the current hart, of which the first is given: each of
-/// its addresses is raised by so many blocks.
+/// Event number `i`, from 0, of `n` for the current hart, of which the first is given: each of its
+/// addresses is raised by `i` blocks.
 fn raised(first: Event, i: u32, n: u32) -> Event
     requires fits { own_fits first n ≡ true }
     requires within { i < n }
@@ -74,7 +74,7 @@ fn raised(first: Event, i: u32, n: u32) -> Event
     }
 }
 
-/// The event of this number, from 0, of so many of which the first is given.
+/// Event number `i`, from 0, of `n` of which the first is given.
 fn nth_event(first: HartEvent, i: u32, n: u32) -> HartEvent
     requires fits { fits_events first n ≡ true }
     requires within { i < n }

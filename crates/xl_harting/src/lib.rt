@@ -1,5 +1,5 @@
-//! The form of the program for several harts: its script and its trace are served to harts that share one
-//! table.
+//! The form of the program for several harts: its script and its trace are served to harts that
+//! share one table.
 #![tactic(auto)]
 
 mod ending;

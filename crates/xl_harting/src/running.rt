@@ -20,9 +20,10 @@ use xl_paired::read_script;
 use xl_serving::TraceFile;
 use xl_words::Pair;
 
-/// Reads the script, opens its harts, serves them the script over the trace, and writes the report: a line
-/// for each access where answers are asked for, a line for each hart, and one for all of them. All memory
-/// is taken before the first event. At Ok the harts are there, as the run leaves them.
+/// Reads the script, opens its harts, serves them the script over the trace, and writes the report:
+/// a line for each access where answers are asked for, a line for each hart, and one for all of
+/// them. All memory is taken before the first event. At Ok the harts are there, as the run leaves
+/// them.
 #[inline(never)]
 pub fn report<F: Folder, K: Sink>(
     alloc: Global,
@@ -50,7 +51,8 @@ pub fn report<F: Folder, K: Sink>(
     report_orders(alloc, &orders, words.trace, folder, out, harts)
 }
 
-/// Opens the harts of a script, serves them the script over the trace of this name, and writes the report.
+/// Opens the harts of a script, serves them the script over the trace of this name, and writes the
+/// report.
 fn report_orders<F: Folder, K: Sink>(
     alloc: Global,
     orders: &HartOrders<'_>,

@@ -33,6 +33,6 @@ impl Grouping for Single {
     }
 }
 
-/// A hashed table: the leaf of each tag stands in an entry of its own, and a search follows the chain
+/// A hashed table: the leaf of each tag is in an entry of its own, and a search follows the chain
 /// of the tag's bucket. Contracts see its chains. Nothing is allocated after `open`.
 pub type Hashed = Grouped<Single>;

@@ -36,7 +36,7 @@ value_is value (b ∷ bs) =
     ap (option_and_then (λ d. hex_value (value * 16 + d) bs)) (digit_is b)
     ∙ by_digit value b bs (λ v. value_is v bs) (cases_lt (digit_value b) 16)
 
--- digits read from the front give the number that they stand for
+-- the number of digits read from the front
 pub number_is : (bs : List ℕ) → hex_value 0 bs ≡ number_in 16 bs
 number_is bs = value_is 0 bs ∙ none_read 16 bs
 
@@ -47,7 +47,7 @@ hex_at value count (b ∷ bs) =
     if b == 44 then (if count == 0 then None else Some (value, bs))
     else option_and_then (λ d. if count == 16 then None else hex_at (value * 16 + d) (count + 1) bs) (hex_digit b)
 
--- what the rest of an address and what follows it come to, where it has so many digits so far
+-- the result for the rest of an address and what follows it, where it has n digits so far
 abbrev is_length : ℕ → Bool
 is_length n = nat_le 1 n && nat_le n 16
 
@@ -158,7 +158,7 @@ hex_more value v (c ∷ cs) b d h e =
     let parts = digit_and_rest (hex_digit c) (λ k. hex_value (value * 16 + k) cs) v h in
     ap (option_and_then (λ k. hex_value (value * 16 + k) (cs ++ b ∷ []))) parts.1 ∙ hex_more (value * 16 + parts.0) v cs b d parts.2 e
 
--- an address goes on behind its first digits
+-- an address continues after its first digits
 pub hex_front : (value v count : ℕ) (bs rest : List ℕ) → hex_value value bs ≡ Some v → count + length bs ≤ 16
     → hex_at value count (bs ++ rest) ≡ hex_at v (count + length bs) rest
 hex_front value v count [] rest h few =

@@ -55,7 +55,7 @@ pub none_ended : (l : List ℕ) → parted 10 l ≡ None → ended_lines (l ++ [
 none_ended [] h = refl
 none_ended (b ∷ bs) h = lines_joined false (b ∷ bs) [] h (omega arith)
 
--- a line of more than 257 bytes is told by its first three
+-- a line of more than 257 bytes is judged by its first three
 told_by : ℕ → ℕ → ℕ → Verdict
 told_by a b c = if is_remark (a ∷ b ∷ c ∷ []) then Skipped else Bad 6
 
@@ -77,7 +77,7 @@ judge_long a b c xs h =
     elim (slice_index (a ∷ b ∷ c ∷ xs) (length (a ∷ b ∷ c ∷ xs) - 1) == 13) as (λ t. of_text (if t then take (length (a ∷ b ∷ c ∷ xs) - 1) (a ∷ b ∷ c ∷ xs) else (a ∷ b ∷ c ∷ xs)) ≡ told_by a b c)
     [ true ↦ cut_long a b c xs h | false ↦ long_text a b c xs (omega arith) ]
 
--- so all but its first bytes can be let go
+-- so all but its first bytes can be dropped
 records_joined : (last : Bool) (n a b c : ℕ) (xs ys : List ℕ) (ls : List (List ℕ)) → 254 < length xs → 254 < length ys
     → records n (joined last (a ∷ b ∷ c ∷ xs) ls) ≡ records n (joined last (a ∷ b ∷ c ∷ ys) ls)
 records_joined true n a b c xs ys [] h k =

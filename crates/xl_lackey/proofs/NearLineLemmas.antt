@@ -17,7 +17,7 @@ comma_read value count b rest e l =
     let u : (count == 0) ≡ false = grind (arith, nat_tests) in
     rw (t, u) refl
 
--- an address that a comma ends behind its first digits
+-- an address that a comma ends after its first digits
 pub comma_at : (text : List ℕ) (v count : ℕ) → hex_value 0 (take count text) ≡ Some v → count < length text → 1 ≤ count → count ≤ 16
     → get_or text count 0 ≡ 44 → Some (v, drop (count + 1) text) ≡ address_in text
 comma_at text v count h within some few e =

@@ -74,7 +74,7 @@ front_and_rest test (b ∷ bs) =
     elim (test b) as (λ t. b ∷ bs ≡ (if t then b ∷ front test bs else []) ++ drop (length (if t then b ∷ front test bs else [])) (b ∷ bs))
     [ true ↦ ap (λ (xs : List ℕ). b ∷ xs) (front_and_rest test bs) | false ↦ refl ]
 
--- what stands around the first byte of a kind
+-- what is around the first byte of a kind
 abbrev is_around : ℕ → List ℕ → Option (List ℕ × List ℕ) → Type 0
 is_around k text None = Unit {0}
 is_around k text (Some parts) = text ≡ parts.0 ++ k ∷ parts.1
@@ -147,7 +147,7 @@ front_avoids letter.L = (refl, refl)
 front_avoids letter.S = (refl, refl)
 front_avoids letter.M = (refl, refl)
 
--- a text that begins as Lackey writes it goes on with its address
+-- a text that begins as Lackey writes it continues with its address
 begun : (l : Letter) (text : List ℕ) → of_text (usual_front l ++ text)
     ≡ (if nat_lt 256 (length (usual_front l ++ text)) then Bad 6 else of_address l (address_in (after is_blank text)))
 begun letter.I text = refl

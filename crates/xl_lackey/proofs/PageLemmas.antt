@@ -94,7 +94,7 @@ page_kept extra text kind page word front long bytes b w f = record {
   addr = refl;
 }
 
--- more digits behind those that were read
+-- more digits after those that were read
 pub hex_then : (u v : ℕ) (xs ys : List ℕ) → hex_value u xs ≡ Some v → hex_value u (xs ++ ys) ≡ hex_value v ys
 hex_then u v [] ys h = ap (λ (k : ℕ). hex_value k ys) (same_Some u v h)
 hex_then u v (x ∷ xs) ys h =

@@ -27,7 +27,7 @@ pub skim_none : (n : ℕ) (text : List ℕ) (xs : List Access) → n < 2 ^ 64 �
 skim_none n text xs h =
     let same : n ≡ (n + 0) % 2 ^ 64 = omega arith in subst (λ (k : ℕ). Skims n text xs xs (record { used = 0; lines = k; taken = 0 })) same (skim_start n text xs)
 
--- records, and others behind them
+-- records, and others after them
 all-both : (rs qs : List Record) → all_accesses (rs ++ qs) ≡ all_accesses rs ++ all_accesses qs
 all-both [] qs = refl
 all-both (r ∷ rs) qs = ap (λ (xs : List (ℕ × Kind)). accesses_in r ++ xs) (all-both rs qs) ∙ sym (append_assoc (accesses_in r) (all_accesses rs) (all_accesses qs))
@@ -84,7 +84,7 @@ skim_more n text xs ys more used taken count k h =
     let P : ℕ → Type 0 = λ m. Skims n text xs (ys ++ more) (record { used = used + count; lines = m; taken = taken + 1 }) in
     subst P line (skim_by n text xs ys more (skim_at n used taken) count h.verdict k h.line h.accesses_are)
 
--- lines that were read, and more behind them
+-- lines that were read, and more after them
 pub skim_then : (n : ℕ) (text : List ℕ) (xs ys zs : List Access) (s t : Skim) → Skims n text xs ys s → Skims s.lines (drop s.used text) ys zs t
     → Skims n text xs zs (skims_both s t)
 unfolding taken_both

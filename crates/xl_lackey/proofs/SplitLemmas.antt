@@ -30,7 +30,7 @@ lines_from last (b ∷ bs) rest =
     (if t then ([] ∷ lines_by last (bs ++ rest)) else in_first last b (lines_by last (bs ++ rest))))
     [ true ↦ refl | false ↦ by_part last b (parted 10 bs) rest (lines_by last (bs ++ rest)) (lines_from last bs rest) ]
 
--- the first line of a text that a newline ends, and what is left behind it
+-- the first line of a text that a newline ends, and what is left after it
 pub lines_first : (last : Bool) (text rest line after : List ℕ) → parted 10 text ≡ Some (line, after)
     → lines_by last (text ++ rest) ≡ line ∷ lines_by last (after ++ rest)
 lines_first last text rest line after h =
@@ -65,7 +65,7 @@ false_of_not : (t : Bool) → ¬ (t ≡ true) → t ≡ false
 false_of_not true h = absurd (h refl)
 false_of_not false h = refl
 
--- the first newline, as the search answers it
+-- the first newline, as the search returns it
 some_first : (text : List ℕ) (at : ℕ) → at < length text → (slice_index text at == 10) ≡ true
     → ((k : ℕ) → k < at → ¬ ((slice_index text k == 10) ≡ true)) → parted 10 text ≡ Some (take at text, drop (at + 1) text)
 some_first [] at h e before = absurd (omega arith)

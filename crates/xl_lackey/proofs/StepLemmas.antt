@@ -34,14 +34,14 @@ take_part n start end buf =
 pub part_length : (start end : ℕ) (buf : List ℕ) → end ≤ length buf → length (drop start (take end buf)) ≡ end - start
 part_length start end buf h = length-drop start (take end buf) ∙ ap (λ (n : ℕ). n - start) (length-take-le end buf h)
 
--- bytes that were put in front of a buffer, and so many of those behind them
+-- bytes that were put in front of a buffer, and n of those after them
 pub put_after : (n count : ℕ) (held piece new : List ℕ) → new ≡ held ++ drop (length held) piece → n ≡ length piece → count + length held ≤ length piece
     → take (length held + count) (take n (new ++ drop (length new) piece)) ≡ held ++ take count (drop (length held) piece)
 put_after n count held piece new e same fits =
     let size : length new ≡ length piece = omega (arith, ap length e, length-append held (drop (length held) piece), length-drop (length held) piece) in
     rw (drop_all (length new) piece (omega arith), append-nil new, take_all n new (omega arith), e) (take-append-add held (drop (length held) piece) count)
 
--- a state at which all is read up to here, and no bad line was answered
+-- a state at which all is read up to here, and no bad line was returned
 left_good : (last : Bool) (s : State) (rest : List ℕ) → s.bad ≡ None → left_by last s rest ≡ records s.lines (lines_by last (s.held ++ rest))
 left_good last s rest h = ap (λ (b : Option Fault). unless_bad b s.lines (lines_by last (s.held ++ rest))) h
 
@@ -57,7 +57,7 @@ left_passed last s t text before used n gives h a b reads e rest =
     ∙ sym (ap gives (ap (λ (u : State). left_by last u rest) e
     ∙ ap (λ (c : Option Fault). unless_bad c n (lines_by last (drop used s.held ++ rest))) h))
 
--- bytes of a long line that are let go
+-- bytes of a long line that are dropped
 pub left_kept : (last : Bool) (s t : State) → s.bad ≡ None → parted 10 s.held ≡ None → t ≡ record s { held = take 258 s.held }
     → (rest : List ℕ) → left_by last t rest ≡ left_by last s rest
 left_kept last s t h none e rest =
@@ -77,7 +77,7 @@ pub left_last : (s : State) (n : ℕ) (v : Verdict) → s.bad ≡ None → parte
 left_last s n v h none k e f =
     rw (e, f) (left_good true s [] h ∙ ap (records s.lines) (last_line s.held none k))
 
--- bytes that may come to a state may come to another whose input has ended where its has
+-- bytes that may follow at a state may follow at another whose input has ended where its has
 may_come : (last : Bool) (s t : State) (rest : List ℕ) → t.finished ≡ s.finished → MayCome last s rest → MayCome last t rest
 may_come true s t rest f m = λ q. m (sym f ∙ q)
 may_come false s t rest f m = f ∙ m

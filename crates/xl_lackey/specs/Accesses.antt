@@ -10,12 +10,13 @@ use Rattle.xl_lackey.specs.declared.reference.Reference.{Reference}
 abbrev pub borders : ℕ → ℕ → ℕ
 borders addr size = (addr + max size 1 - 1) / 4096 - addr / 4096
 
--- The first bytes of so many pages, from this page on.
+-- The first bytes of n pages, from this page on.
 abbrev pub starts : ℕ → ℕ → List ℕ
 starts zero page = []
 starts (suc n) page = page * 4096 ∷ starts n (page + 1)
 
--- The addresses of one going over the pages touched: the first byte touched, and the start of each further page.
+-- The addresses of one going over the pages touched: the first byte touched, and the start of each
+-- further page.
 abbrev pub places : ℕ → ℕ → List ℕ
 places addr size = addr ∷ starts (borders addr size) (addr / 4096 + 1)
 
@@ -24,7 +25,8 @@ abbrev pub each : Kind → List ℕ → List (ℕ × Kind)
 each kind [] = []
 each kind (p ∷ ps) = (p, kind) ∷ each kind ps
 
--- The accesses at these addresses, by the record's letter; a modify is all its loads, and then all its stores.
+-- The accesses at these addresses, by the record's letter; a modify is all its loads, and then all
+-- its stores.
 abbrev pub accesses_at : Letter → List ℕ → List (ℕ × Kind)
 accesses_at letter.I ps = each Fetch ps
 accesses_at letter.L ps = each Load ps

@@ -22,8 +22,8 @@ pub record Gives (r : Record) (old new : State) : Type 0 where
   pub finished : new.finished ≡ old.finished
   pub good : new.bad ≡ None
 
--- What is left stays, no line that ends is held, and there is room for more bytes: no more are held than
--- before, and at most 258.
+-- What is left stays, no line that ends is held, and there is room for more bytes: no more are held
+-- than before, and at most 258.
 pub record Waits (old new : State) : Type 0 where
   pub reads : (last : Bool) (rest : List ℕ) → left_by last new rest ≡ left_by last old rest
   pub none : due new [] ≡ ([], None)

@@ -15,7 +15,8 @@ abbrev pub digit_or_4096 : Option ℕ → ℕ
 digit_or_4096 None = 4096
 digit_or_4096 (Some d) = d
 
--- The value of hexadecimal digits that follow those of a value; None where one of them is no such digit.
+-- The value of hexadecimal digits that follow those of a value; None where one of them is no such
+-- digit.
 abbrev pub hex_value : ℕ → List ℕ → Option ℕ
 hex_value value [] = Some value
 hex_value value (b ∷ bs) = option_and_then (λ d. hex_value (value * 16 + d) bs) (hex_digit b)

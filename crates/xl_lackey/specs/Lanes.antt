@@ -21,12 +21,13 @@ smaller a b = if nat_le 128 (is_below a b) then a else b
 abbrev pub larger : ℕ → ℕ → ℕ
 larger a b = if nat_le 128 (is_below a b) then b else a
 
--- The value of a byte as a hexadecimal digit of lower case, and 16 or more where it is none, as it is computed of all
--- bytes side by side: that of a decimal digit, or of a letter, whichever is smaller.
+-- The value of a byte as a hexadecimal digit of lower case, and 16 or more where it is none, as it
+-- is computed of all bytes side by side: that of a decimal digit, or of a letter, whichever is
+-- smaller.
 abbrev pub lane_value : ℕ → ℕ
 lane_value b = smaller (plus (larger (less b 58) 6) 10) (plus (smaller (less b 97) 118) 10)
 
--- The number that hexadecimal digits give behind those of a value.
+-- The number that hexadecimal digits give after those of a value.
 abbrev pub number_of : ℕ → List ℕ → ℕ
 number_of value [] = value
 number_of value (d ∷ ds) = number_of (value * 16 + d) ds

@@ -49,7 +49,7 @@ decimal_value value (b ∷ bs) = decimal_value (value * 10 + (b - 48)) bs
 abbrev pub in_front : ℕ → List ℕ × List ℕ → List ℕ × List ℕ
 in_front b parts = (b ∷ parts.0, parts.1)
 
--- What stands before the first byte of a kind, and after it; None where there is none.
+-- What is before the first byte of a kind, and after it; None where there is none.
 abbrev pub parted : ℕ → List ℕ → Option (List ℕ × List ℕ)
 parted kind [] = None
 parted kind (b ∷ bs) = if b == kind then Some ([], bs) else option_map (in_front b) (parted kind bs)
@@ -67,7 +67,7 @@ with_rest parts = before parts.1 (address_of parts.0)
 abbrev pub address_in : List ℕ → Option (ℕ × List ℕ)
 address_in text = option_and_then with_rest (parted 44 text)
 
--- After the letter stand at least one blank, and then the address.
+-- After the letter there is at least one blank, and then the address.
 abbrev pub address_after : List ℕ → Option (ℕ × List ℕ)
 address_after [] = None
 address_after (b ∷ bs) = if is_blank b then address_in (after is_blank bs) else None
@@ -87,12 +87,13 @@ abbrev pub is_end : List ℕ → Bool
 is_end [] = true
 is_end (b ∷ bs) = b == 35
 
--- The bytes touched are those from the address on, at least one; the last of them is at most 2 ^ 64 - 1.
+-- The bytes touched are those from the address on, at least one; the last of them is at most 2 ^ 64
+-- - 1.
 abbrev pub fits : ℕ → ℕ → Bool
 fits addr size = nat_le (addr + max size 1) (2 ^ 64)
 
--- What a line is, by its parts from left to right; each reason stands where the first fault is met.
--- A record whose bytes pass the last address has reason 5.
+-- What a line is, by its parts from left to right; the reason is that of the first fault. A
+-- record whose bytes pass the last address has reason 5.
 abbrev pub of_range : Letter → ℕ → ℕ → Verdict
 of_range l addr size = if fits addr size then Found l addr size else Bad 5
 

@@ -6,7 +6,8 @@ use Rattle.xl_lackey.specs.declared.line.Verdict.TheVariants.{Found}
 use Rattle.xl_lackey.specs.Usual.{usual_front}
 use Rattle.xl_lackey.specs.Scans.{IsFirstLine}
 
--- A text begins with an address and a size that a newline ends, both short: behind whatever letter, they are a record.
+-- A text begins with an address and a size that a newline ends, both short: after whatever letter,
+-- they are a record.
 pub record IsNumbers (text : List ℕ) (numbers : Numbers) : Type 0 where
   pub few : numbers.used ≤ 17
   pub small : numbers.above < 99

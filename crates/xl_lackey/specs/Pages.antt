@@ -8,8 +8,8 @@ use Rattle.xl_lackey.specs.declared.reference.Letter.{Letter}
 use Rattle.xl_lackey.specs.Digits.{hex_value}
 use Rattle.xl_lackey.specs.Usual.{usual_front, first_kind, is_modify}
 
--- A line of such a kind begins so where its address has so many digits more than eight and lies in this page: with
--- its letter, and then all digits but the last three. A modify isn't meant.
+-- A line of such a kind begins so where its address has `extra` digits more than eight and lies in
+-- this page: with its letter, and then all digits but the last three. A modify isn't meant.
 pub record IsBeginning (extra : ℕ) (head : List ℕ) (kind : Kind) (page : ℕ) : Type 0 where
   pub letter : Letter
   pub high : List ℕ
@@ -24,7 +24,7 @@ pub record IsBeginning (extra : ℕ) (head : List ℕ) (kind : Kind) (page : ℕ
 abbrev pub two_bytes : List ℕ → ℕ
 two_bytes text = slice_index text 0 + slice_index text 1 * 256
 
--- A page as it is kept, of an address with so many digits more than eight.
+-- A page as it is kept, of an address with `extra` digits more than eight.
 pub record IsPage (extra : ℕ) (kept : Page) : Type 0 where
   pub head : List ℕ
   pub page : ℕ

@@ -13,7 +13,7 @@ use Rattle.xl_lackey.specs.Accesses.{accesses_at, places}
 use Rattle.xl_lackey.specs.Scans.{IsFirstLine}
 use Rattle.xl_lackey.specs.Stream.{Record, Left, State, left_by, MayCome, records}
 
--- An access, as it stands among those of a record.
+-- An access as a pair, as the list of a record has it.
 abbrev pub pair : Access → ℕ × Kind
 pair a = (a.va, a.kind)
 
@@ -26,7 +26,7 @@ abbrev pub all_accesses : List Record → List (ℕ × Kind)
 all_accesses [] = []
 all_accesses (r ∷ rs) = accesses_in r ++ all_accesses rs
 
--- The access of a record in one page, and the store behind it where the record is a modify.
+-- The access of a record in one page, and the store after it where the record is a modify.
 abbrev pub accesses_near : Bool → ℕ → Kind → List Access
 accesses_near true va k = record { va = va; kind = k } ∷ record { va = va; kind = Store } ∷ []
 accesses_near false va k = record { va = va; kind = k } ∷ []
@@ -53,13 +53,13 @@ batch_size = 256
 abbrev pub HasRoom : List Access → Type 0
 HasRoom accesses = length accesses + 2 ≤ batch_size
 
--- So many records of one access each may be read of a text of `rest` bytes: their lines end there, and behind their
--- accesses there is room for two at the least, as if a modify were the last.
+-- `sure` records of one access each may be read of a text of `rest` bytes: their lines end there,
+-- and after their accesses there is room for two at the least, as if a modify were the last.
 pub record IsSure (sure rest : ℕ) (accesses : List Access) : Type 0 where
   pub text : 17 * sure ≤ rest
   pub room : sure ≤ batch_size - 1 - length accesses
 
--- A text's first line, of so many bytes with its newline, is a record with these accesses.
+-- A text's first line, of `used` bytes with its newline, is a record with these accesses.
 pub record IsRecordLine (text : List ℕ) (used : ℕ) (got : List Access) : Type 0 where
   pub verdict : Verdict
   pub line : IsFirstLine text used verdict
@@ -69,7 +69,7 @@ pub record IsRecordLine (text : List ℕ) (used : ℕ) (got : List Access) : Typ
 abbrev pub with_records : List Record → Left → Left
 with_records rs later = (rs ++ later.0, later.1)
 
--- So many records were taken, and their accesses follow those that were there before.
+-- `count` records were taken, and their accesses follow those that were there before.
 pub record Taken (before after : List Access) (count : ℕ) : Type 0 where
   pub taken : List Record
   pub got : List Access
@@ -84,7 +84,7 @@ pub record Skims (n : ℕ) (text : List ℕ) (before after : List Access) (skim 
   pub reads : (last : Bool) (rest : List ℕ) → records n (lines_by last (text ++ rest))
       ≡ with_records of.taken (records skim.lines (lines_by last (drop skim.used text ++ rest)))
 
--- What was read after so many lines, each of which was taken.
+-- What was read after n lines, each of which was taken.
 abbrev pub skim_at : ℕ → ℕ → ℕ → Skim
 skim_at n used taken = record { used = used; lines = (n + taken) % 2 ^ 64; taken = taken }
 
@@ -92,11 +92,11 @@ skim_at n used taken = record { used = used; lines = (n + taken) % 2 ^ 64; taken
 abbrev pub Runs : List ℕ → List Access → List Access → Run → Type 0
 Runs text before after run = (n : ℕ) → n < 2 ^ 64 → Skims n text before after (skim_at n run.used run.taken)
 
--- Lines that were read, and more behind them.
+-- Lines that were read, and more after them.
 abbrev pub skims_both : Skim → Skim → Skim
 skims_both s more = record { used = s.used + more.used; lines = more.lines; taken = s.taken + more.taken }
 
--- So many records were the first of what was left, and the rest of it is left.
+-- `count` records were the first of what was left, and the rest of it is left.
 pub record Skimmed (old new : State) (before after : List Access) (count : ℕ) : Type 0 where
   pub of : Taken before after count
   pub reads : (last : Bool) (rest : List ℕ) → MayCome last old rest
@@ -104,7 +104,8 @@ pub record Skimmed (old new : State) (before after : List Access) (count : ℕ) 
   pub no_more : length new.held ≤ length old.held
   pub finished : new.finished ≡ old.finished
 
--- So many records were the first of a text's lines, of which `n` came before it, and those of the other lines are left.
+-- Records that were the first of a text's lines, after `n` lines before it; those of the other
+-- lines are left.
 pub record Takes (n : ℕ) (old new : List ℕ) (before after : List Access) (count : ℕ) : Type 0 where
   pub of : Taken before after count
   pub reads : records n (lines_of old) ≡ with_records of.taken (records ((n + count) % 2 ^ 64) (lines_of new))

@@ -7,7 +7,7 @@ use Rattle.xl_lackey.specs.declared.line.Verdict.TheVariants.{Skipped, Found, Ba
 use Rattle.xl_lackey.specs.declared.fault.Fault.{Fault}
 use Rattle.xl_lackey.specs.Lines.{judge}
 
--- The number of the line after so many: lines are numbered from 1, modulo 2 ^ 64.
+-- The number of the line after n: lines are numbered from 1, modulo 2 ^ 64.
 abbrev pub next_line : ℕ → ℕ
 next_line n = (n + 1) % 2 ^ 64
 
@@ -48,9 +48,9 @@ abbrev pub first_due : ℕ → List (List ℕ) → ℕ × Verdict
 first_due n [] = (n, Skipped)
 first_due n (line ∷ lines) = of_due (next_line n) (judge line) (first_due (next_line n) lines)
 
--- What a reader stands at: how many lines ended, the bytes held, whether the input has ended, and
--- the bad line that was answered, if there is one. Of a long line that isn't ended yet, the first 258
--- bytes alone may be held: they tell whether the line is skipped or bad, as all its bytes do.
+-- Where a reader is: how many lines ended, the bytes held, whether the input has ended, and the bad
+-- line that was returned, if there is one. Of a long line that isn't ended yet, the first 258 bytes
+-- alone may be held: they say whether the line is skipped or bad, as all its bytes do.
 pub record State : Type 0 where
   pub lines : ℕ
   pub held : List ℕ
@@ -61,13 +61,14 @@ pub record State : Type 0 where
 abbrev pub fresh : State
 fresh = record { lines = 0; held = []; finished = false; bad = None }
 
--- What some lines after the first `n` give to a reader; nothing but the bad line, where it answered one.
+-- What some lines after the first `n` give to a reader; nothing but the bad line, where it returned
+-- one.
 abbrev pub unless_bad : Option Fault → ℕ → List (List ℕ) → Left
 unless_bad None n lines = records n lines
 unless_bad (Some fault) n lines = ([], Some fault)
 
--- What a reader at which these bytes are still to come has before it; `last` says whether a last line
--- without a newline counts.
+-- What a reader at which these bytes are still to come has before it; `last` says whether a last
+-- line without a newline counts.
 abbrev pub left_by : Bool → State → List ℕ → Left
 left_by last s rest = unless_bad s.bad s.lines (lines_by last (s.held ++ rest))
 
@@ -79,12 +80,12 @@ left s rest = left_by true s rest
 abbrev pub due : State → List ℕ → Left
 due s rest = left_by false s rest
 
--- Bytes that may still come: none once the input has ended. Where a last line without a newline doesn't
--- count, the input hasn't ended.
+-- Bytes that may still come: none once the input has ended. Where a last line without a newline
+-- doesn't count, the input hasn't ended.
 abbrev pub MayCome : Bool → State → List ℕ → Type 0
 MayCome true s rest = s.finished ≡ true → rest ≡ []
 MayCome false s rest = s.finished ≡ false
 
--- The input hasn't ended, no bad line was answered, and each line that the bytes held end is skipped.
+-- The input hasn't ended, no bad line was returned, and each whole line held is skipped.
 abbrev pub IsWaiting : State → Type 0
 IsWaiting s = (s.finished ≡ false) × (s.bad ≡ None) × ((first_due s.lines (ended_lines s.held)).1 ≡ Skipped)

@@ -10,8 +10,8 @@ use std::marker::Model;
 /// How many accesses a batch has room for.
 pub(crate) const ROOM: usize = 256;
 
-/// Accesses in the order of the trace. An access is put in its place field by field, and what
-/// stands behind the last one is never seen: so nothing is written but the accesses themselves.
+/// Accesses in the order of the trace. An access is written field by field, and what is after the
+/// last one is never seen: so nothing is written but the accesses themselves.
 #[derive(Drop)]
 pub struct Batch {
     slots: [Access; ROOM],
@@ -75,7 +75,7 @@ impl Batch {
         &self.slots[..self.len]
     }
 
-    /// Puts an access behind those that are there.
+    /// Appends an access.
     #[inline(always)]
     pub fn push(&mut self, access: Access)
         requires { length self.old.items < batch_size }
@@ -87,8 +87,8 @@ impl Batch {
         self.len = len + 1;
     }
 
-    /// Reads the first lines of a text, at most so many, while their pages are kept, and puts their
-    /// accesses behind those that are there.
+    /// Reads the first lines of a text, `most` at most, while their pages are kept, and appends
+    /// their accesses.
     #[inline(always)]
     pub(crate) fn skim_kept(&mut self, text: &[u8], most: u64, pages: &Pages) -> Run
         requires { IsSure most (length text.now) self.old.items }
@@ -102,7 +102,7 @@ impl Batch {
         run
     }
 
-    /// Lets all accesses go.
+    /// Removes all accesses.
     #[inline(always)]
     pub fn clear(&mut self)
         ensures { self.new.items ≡ [] }

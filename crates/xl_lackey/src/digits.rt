@@ -24,11 +24,12 @@ pub(crate) fn count_blanks(text: &[u8]) -> usize
     text.len()
 }
 
-/// What stands for a byte that is no digit: as many as no place in a page.
+/// Not a digit: above every place in a page.
 const X: u16 = 4096;
 
-/// The value of each byte as a hexadecimal digit, and 4096, which no place in a page is, where it is none. Which digit comes next can't
-/// be foretold, so a test of each range would cost more than a look-up.
+/// The value of each byte as a hexadecimal digit, and 4096, which no place in a page is, where it
+/// is none. Which digit comes next can't be predicted, so a test of each range would cost more than
+/// a look-up.
 const HEX_DIGITS: [u16; 256] = [
     X, X, X, X, X, X, X, X, X, X, X, X, X, X, X, X, X, X, X, X, X, X, X, X, X, X, X, X, X, X, X, X,
     X, X, X, X, X, X, X, X, X, X, X, X, X, X, X, X, 0, 1, 2, 3, 4, 5, 6, 7, 8, 9, X, X, X, X, X, X,
@@ -58,8 +59,8 @@ fn hex_digit(byte: u8) -> Option<u64>
     if value < 16 { Some(value) } else { None }
 }
 
-/// An address of 1 to 16 hexadecimal digits that a comma ends, and the comma's place. In line, since a
-/// call would hand the pair over through memory; so are the sizes below.
+/// An address of 1 to 16 hexadecimal digits that a comma ends, and the comma's place. Inlined,
+/// since a call would return the pair through memory; so are the sizes below.
 #[inline(always)]
 pub(crate) fn address(text: &[u8]) -> Option<(u64, usize)>
     ensures within { IfSome result (λ r. r.1 < length text.now) }
@@ -79,8 +80,8 @@ pub(crate) fn address(text: &[u8]) -> Option<(u64, usize)>
     None
 }
 
-/// The value of the first digits of a text, and how many they are: eight or none. Nearly all addresses
-/// have as many, and they are read with no look at where the text ends.
+/// The value of the first digits of a text, and how many they are: eight or none. Nearly all
+/// addresses have eight, and they are read without a look at where the text ends.
 fn first_digits(text: &[u8]) -> (u64, usize)
     ensures value { hex_value 0 (take result.1 text.now) ≡ Some result.0 }
     ensures within { result.1 ≤ length text.now }
@@ -96,8 +97,8 @@ fn first_digits(text: &[u8]) -> (u64, usize)
     }
 }
 
-/// The value of the first eight bytes of a text, where they are hexadecimal digits. The eight bytes are
-/// looked at side by side.
+/// The value of the first eight bytes of a text, where they are hexadecimal digits. The eight bytes
+/// are looked at side by side.
 #[inline(always)]
 pub(crate) fn eight_digits(text: &[u8]) -> Option<u64>
     requires { 8 ≤ length text.now }
@@ -114,8 +115,8 @@ pub(crate) fn eight_digits(text: &[u8]) -> Option<u64>
 
 /// The value of each byte as a hexadecimal digit of lower case, and 16 or more where it is none:
 /// that of a decimal digit or of a letter, whichever is smaller. Less 58, modulo 256, decimal
-/// digits are the ten greatest bytes, and 10 more makes them 0 to 9; the six smallest are raised,
-/// lest they become 10 to 15.
+/// digits are the ten greatest bytes, and 10 more makes them 0 to 9; the six smallest saturate, so
+/// that they don't map to 10 to 15.
 #[inline(always)]
 fn lane_values(bytes: u8x8) -> u8x8
     ensures { result ≡ map lane_value bytes }
@@ -133,7 +134,7 @@ pub(crate) fn word(bytes: u8x8) -> u64
     u64x1::from_le_bytes(bytes).to_array()[0]
 }
 
-/// Whether eight values are below 16 each, asked of their upper halves together.
+/// Whether eight values are below 16 each, by one test of their upper halves.
 #[inline(always)]
 fn are_digits(values: u8x8) -> bool
     ensures { IsTrue result → Each1 (λ d. d < 16) values }
@@ -175,7 +176,7 @@ pub(crate) fn near_address(text: &[u8], eight: u64) -> Option<(u64, usize)>
     }
 }
 
-/// The size behind an address of eight digits, where it has one digit: how many bytes it says above
+/// The size after an address of eight digits, where it has one digit: how many bytes it has above
 /// the first.
 #[inline(always)]
 pub(crate) fn near_digit(text: &[u8]) -> Option<u32>
@@ -189,8 +190,8 @@ pub(crate) fn near_digit(text: &[u8]) -> Option<u32>
     if text[8] == b',' { Some(above) } else { None }
 }
 
-/// A size of one digit, which isn't 0, that a newline ends: how many bytes it says above the first.
-/// The digit and the newline are told together, by one comparison.
+/// A size of one digit, which isn't 0, that a newline ends: how many bytes it has above the first.
+/// Tests digit and newline in one comparison.
 #[inline(always)]
 pub(crate) fn size_of_digit(text: &[u8]) -> Option<u32>
     requires { 2 ≤ length text.now }

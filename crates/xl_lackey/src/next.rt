@@ -1,4 +1,4 @@
-//! What a reader answers.
+//! What a reader returns.
 
 use crate::reference::Reference;
 
@@ -11,7 +11,7 @@ pub enum Next {
     More,
     /// The trace has ended.
     End,
-    /// The first line outside the grammar, and the first of the reasons 1 to 6 that holds of it. It is
-    /// answered again by every later call.
+    /// The first line outside the grammar, and the first of the reasons 1 to 6 that holds of it.
+    /// Every later call returns it again.
     BadLine { line: u64, reason: u8 },
 }

@@ -1,4 +1,4 @@
-//! Lines whose pages are known from lines before them.
+//! Line-prefix cache: prefix bytes to page and kind.
 
 ghost use Rattle.std.specs.Prelude.{◌≡◌, ◌≢◌, ℕ, ◌+◌, ◌*◌, ◌^◌, ◌<◌, ◌≤◌, ◌∷◌, ◌⊎◌, [], IsTrue, length, take, drop, Some, IfSome, slice_index};
 ghost use Rattle.std.specs.List.{All};
@@ -16,8 +16,8 @@ use xl_model::Kind;
 /// How many pages are kept of addresses of eight digits, and as many of those of ten.
 const PLACES: usize = 256;
 
-/// A page, and how a line begins whose address lies in it: up to the last three digits, which are the
-/// place in the page.
+/// A page, and how a line begins whose address lies in it: up to the last three digits, which are
+/// the place in the page.
 #[derive(Clone, Copy)]
 struct Page {
     /// The eight bytes before the last three digits, of which the first counts least.
@@ -31,8 +31,8 @@ struct Page {
 }
 
 impl Page {
-    /// Whether the page's lines begin so. Eight bytes tell all of a line with eight digits, and not the
-    /// letter of one with more.
+    /// Whether the prefix matches. Eight bytes are the whole prefix of a line with eight digits,
+    /// and all but the letter of one with more.
     #[inline(always)]
     fn begins(&self, word: u64, front: u32, extra: usize) -> bool
         ensures word { IsTrue result → self.now.word ≡ word }
@@ -41,7 +41,7 @@ impl Page {
         self.word == word && (extra == 0 || self.front == front)
     }
 
-    /// The access at such a place in the page, where so many bytes above it lie in the page too.
+    /// The access at offset `at`, if its `above` further bytes stay in the page.
     #[inline(always)]
     fn access(&self, at: u64, above: u32) -> Option<Access>
         requires at { at < 2000000 }
@@ -74,7 +74,7 @@ fn place_of(word: u64, front: u32, extra: usize) -> usize
     (key.wrapping_mul(0x9e37_79b9_7f4a_7c15) >> 56) as usize
 }
 
-/// The first line of a text, where its address has so many digits more than eight and its page is
+/// The first line of a text, where its address has `extra` digits more than eight and its page is
 /// kept: how many bytes it has with its newline, and its access.
 #[inline(always)]
 fn kept_record(pages: &[Page], text: &[u8], extra: usize) -> Option<(usize, Access)>
@@ -131,8 +131,8 @@ fn keep_page(pages: &mut [Page], text: &[u8], extra: usize, page: u64, kind: Kin
     };
 }
 
-/// The pages that lines had not long ago, each in the one place that its lines' bytes give it. Most
-/// lines have one of them, and then tell but three digits and a size.
+/// Direct-mapped prefix cache: prefix bytes to page and kind. Of most lines only three digits and a
+/// size are left to read.
 #[derive(Drop)]
 pub(crate) struct Pages {
     eight: [Page; PLACES],
@@ -169,8 +169,8 @@ impl Pages {
         }
     }
 
-    /// The first line of a text, where its page is kept: how many bytes it has with its newline, and
-    /// its access.
+    /// The first line of a text, where its page is kept: how many bytes it has with its newline,
+    /// and its access.
     #[inline(always)]
     pub(crate) fn record(&self, text: &[u8]) -> Option<(usize, Access)>
         requires { 17 ≤ length text.now }

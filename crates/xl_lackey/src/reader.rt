@@ -22,8 +22,7 @@ use xl_model::NoMemory;
 /// How many bytes a reader holds at most.
 const ROOM: usize = 65536;
 
-/// How many bytes of an unended line tell what a long line is: those of the longest good one, with a
-/// carriage return, and one more.
+/// Bytes kept of an over-long line: the longest good one, a carriage return, and one more.
 const TELLING: usize = 258;
 
 /// A reader of a trace, which is fed the trace's bytes in pieces.
@@ -97,8 +96,9 @@ impl Reader {
         self.end = held + piece.len();
     }
 
-    /// Takes the next bytes of the trace: so many that stand in `piece` behind as many places as bytes are held.
-    /// The reader goes on in that buffer and gives its own for it, so that only what is held is moved.
+    /// Takes the next bytes of the trace: `count` bytes in `piece`, after as many places as bytes
+    /// are held. The reader takes that buffer and leaves its own for it, so that only what is held
+    /// is moved.
     pub fn exchange(&mut self, piece: &mut Vec<u8>, count: usize)
         requires size { length piece.old.items ≡ 65536 }
         requires room { count + length self.old.held ≤ 65536 }
@@ -151,9 +151,9 @@ impl Reader {
         }
     }
 
-    /// Takes the next records, at most so many, while each is in Lackey's own form and its bytes lie in
-    /// one page, and puts their accesses behind those that are there, while there is room. Gives how
-    /// many were taken, perhaps none.
+    /// Takes the next records, `most` at most, while each is in Lackey's own form and its bytes lie
+    /// in one page; appends their accesses, while there is room. Returns how many were taken,
+    /// perhaps none.
     #[inline(always)]
     pub fn skim(&mut self, into: &mut Batch, most: u64) -> u64
         ensures skims { Skimmed self.old self.new into.old.items into.new.items result }
@@ -168,7 +168,7 @@ impl Reader {
         skim.taken
     }
 
-    /// Where no newline is held: waits for more bytes, or judges the last line.
+    /// Where no newline is held: returns that more bytes are needed, or judges the last line.
     fn end_of_held(&mut self) -> Next
         requires good { self.old.bad ≡ None }
         requires no_newline { parted 10 self.old.held ≡ None }
@@ -235,7 +235,7 @@ impl Reader {
         self.bad
     }
 
-    /// Goes on behind the first `used` bytes held, which end so many lines in all.
+    /// Drops the first `used` bytes held; `lines` lines have ended in all.
     fn pass(&mut self, used: usize, lines: u64)
         requires { used ≤ length self.old.held }
         ensures { self.new ≡ record self.old { lines = lines; held = drop used self.old.held } }
@@ -244,7 +244,7 @@ impl Reader {
         self.lines = lines;
     }
 
-    /// Of an unended line lets all bytes go but those that tell what a long line is.
+    /// Truncates an over-long line to what judging it needs.
     fn keep_telling(&mut self)
         ensures { self.new ≡ record self.old { held = take 258 self.old.held } }
     {
@@ -270,7 +270,7 @@ fn shift(buf: &mut [u8], start: usize, end: usize)
     buf.copy_within(start..end, 0);
 }
 
-/// Puts bytes behind the first `held`, in place of those that stood there.
+/// Writes bytes after the first `held`, over those that were there.
 fn put_behind(buf: &mut [u8], held: usize, bytes: &[u8])
     requires { held + length bytes.now ≤ length buf.old }
     ensures { buf.new ≡ take held buf.old ++ bytes.now ++ drop (held + length bytes.now) buf.old }

@@ -2,8 +2,8 @@
 
 ghost use Rattle.std.specs.Prelude.{ℕ, ◌+◌, ◌^◌, ◌≤◌, max};
 
-/// What a line of the trace begins with: an instruction fetch, a load, a store, or a modify, which is
-/// a load and then a store at the same place.
+/// What a line of the trace begins with: an instruction fetch, a load, a store, or a modify, which
+/// is a load and then a store at the same place.
 #[derive(Clone, Copy, Debug, PartialEq, Eq)]
 pub enum Letter {
     I,
@@ -12,7 +12,8 @@ pub enum Letter {
     M,
 }
 
-/// A reference: `size` bytes from the address `addr` on, and at least one, by the line of this number.
+/// A reference: `size` bytes from the address `addr` on, and at least one, by the line of this
+/// number.
 #[derive(Clone, Copy, Debug)]
 pub struct Reference {
     pub letter: Letter,

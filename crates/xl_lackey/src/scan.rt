@@ -8,8 +8,8 @@ use crate::line::{Verdict, judge};
 use crate::usual::{NEAR, near_line, usual_line};
 use memchr::memchr;
 
-/// How far the lines of a text were read: up to its first line that isn't skipped, or over all that a
-/// newline ends.
+/// How far the lines of a text were read: up to its first line that isn't skipped, or over all that
+/// a newline ends.
 #[derive(Clone, Copy)]
 pub(crate) struct Scan {
     /// The bytes of the lines that were read, with their newlines.
@@ -20,7 +20,7 @@ pub(crate) struct Scan {
     pub(crate) verdict: Verdict,
 }
 
-/// Reads the lines of a text, of which so many came before it.
+/// Reads the lines of a text, after `before` other lines.
 pub(crate) fn read_lines(text: &[u8], before: u64) -> Scan
     ensures { Scans before text.now result }
 {
@@ -45,8 +45,8 @@ pub(crate) fn read_lines(text: &[u8], before: u64) -> Scan
     }
 }
 
-/// The first line from a place on that a newline ends: how many bytes it has with the newline, and what
-/// it is.
+/// The first line from a place on that a newline ends: how many bytes it has with the newline, and
+/// what it is.
 fn next_line(text: &[u8], from: usize) -> Option<(usize, Verdict)>
     requires { from ≤ length text.now }
     ensures some { IfSome result (λ r. IsFirstLine (drop from text.now) r.0 r.1) }
@@ -62,7 +62,7 @@ fn next_line(text: &[u8], from: usize) -> Option<(usize, Verdict)>
     }
 }
 
-/// The same of a line that the quick way didn't read. Not in line, so that it costs the others nothing.
+/// General reader, kept out of line.
 #[inline(never)]
 fn far_line(text: &[u8]) -> Option<(usize, Verdict)>
     ensures some { IfSome result (λ r. IsFirstLine text.now r.0 r.1) }
@@ -75,7 +75,7 @@ fn far_line(text: &[u8]) -> Option<(usize, Verdict)>
 }
 
 /// The first line of a text that a newline ends, in whatever form: how many bytes it has with the
-/// newline, and what it is. Not in line, since its search would else be made ready for every line.
+/// newline, and what it is. Out of line: inlined, its search would be set up for every line.
 #[inline(never)]
 fn any_line(text: &[u8]) -> Option<(usize, Verdict)>
     ensures some { IfSome result (λ r. IsFirstLine text.now r.0 r.1) }

@@ -1,4 +1,4 @@
-//! Records whose bytes lie in one page each, taken together: what nearly all of a trace is.
+//! Bulk path: single-page records in Lackey's own form.
 
 ghost use Rattle.std.specs.Prelude.{◌≡◌, ◌+◌, ◌-◌, ◌^◌, ◌<◌, ◌≤◌, ◌++◌, length, take, drop, true, IfSome};
 ghost use Rattle.xl_lackey.specs.Skims.{batch_size, read_of, accesses_near, skims_both, HasRoom, IsRecordLine, IsSure, Runs, Skims};
@@ -36,7 +36,7 @@ pub(crate) struct Skim {
 }
 
 impl Skim {
-    /// Lines that were read, and more behind them.
+    /// Lines that were read, and more after them.
     #[inline(always)]
     fn then(self, more: Skim) -> Skim
         requires used { self.used + more.used < 2 ^ 64 }
@@ -51,7 +51,7 @@ impl Skim {
     }
 }
 
-/// What was read of a line: how many bytes it has with its newline, and its access; of a modify the
+/// A line that was read: how many bytes it has with its newline, and its access; of a modify the
 /// load, which a store follows at the same place.
 #[derive(Clone, Copy)]
 pub(crate) struct Near {
@@ -61,8 +61,8 @@ pub(crate) struct Near {
     pub(crate) is_modify: bool,
 }
 
-/// The first line of a text, in Lackey's own form, where it is a record whose bytes lie in one page.
-/// None says nothing of the text.
+/// The first line of a text, in Lackey's own form, where it is a record whose bytes lie in one
+/// page. `None`: not taken.
 #[inline(always)]
 fn near_record(text: &[u8]) -> Option<Near>
     requires { 17 ≤ length text.now }
@@ -86,8 +86,7 @@ pub fn has_room(batch: &Batch) -> bool
     batch.len() <= ROOM - 2
 }
 
-/// Puts the access of a record in one page behind those that are there, and the store behind it where the
-/// record is a modify.
+/// Appends the access of a record in one page, and the store after it where the record is a modify.
 #[inline(always)]
 pub fn put_accesses(into: &mut Batch, va: u64, kind: Kind, is_modify: bool)
     requires { HasRoom into.old.items }
@@ -102,9 +101,8 @@ pub fn put_accesses(into: &mut Batch, va: u64, kind: Kind, is_modify: bool)
     }
 }
 
-/// How many records of one access each may be read, at most so many, with no further look whether
-/// their lines end in the text, of which so many bytes are left, and whether there is room for their
-/// accesses.
+/// Records, `most` at most, that can be read without bounds checks: their lines end in the text, of
+/// which `rest` bytes are left, and there is room for their accesses.
 #[inline(always)]
 fn sure_records(rest: usize, into: &Batch, most: u64) -> u64
     ensures sure { IsSure result rest into.now.items }
@@ -121,8 +119,8 @@ pub(crate) struct Run {
     pub(crate) taken: u64,
 }
 
-/// Reads the first lines of a text, at most so many, while their pages are kept, and puts their accesses
-/// behind the first `len` of these places. A loop of its own, in which all that it needs stays in
+/// Reads the first lines of a text, `most` at most, while their pages are kept, and puts their
+/// accesses after the first `len` slots. A loop of its own, in which all that it needs stays in
 /// registers.
 #[inline(never)]
 pub(crate) fn skim_kept(
@@ -154,7 +152,7 @@ pub(crate) fn skim_kept(
     Run { used, taken }
 }
 
-/// Reads the first line of a text in whatever way, and keeps its page.
+/// Reads the first line of a text by the general way, and keeps its page.
 #[inline(never)]
 fn skim_new(text: &[u8], before: u64, into: &mut Batch, pages: &mut Pages) -> Skim
     requires long { 17 ≤ length text.now }
@@ -178,7 +176,7 @@ fn skim_new(text: &[u8], before: u64, into: &mut Batch, pages: &mut Pages) -> Sk
     }
 }
 
-/// Reads the first lines of a text, at most so many: those whose pages are kept, and the one behind
+/// Reads the first lines of a text, `most` at most: those whose pages are kept, and the one after
 /// them.
 #[inline(always)]
 fn skim_some(text: &[u8], before: u64, into: &mut Batch, most: u64, pages: &mut Pages) -> Skim
@@ -199,9 +197,8 @@ fn skim_some(text: &[u8], before: u64, into: &mut Batch, most: u64, pages: &mut 
     kept.then(new)
 }
 
-/// Reads the first lines of a text, of which so many came before it, while each is a record in
-/// Lackey's own form whose bytes lie in one page, at most so many, and while there is room for two
-/// accesses.
+/// Reads up to `most` single-page records of a text, after `before` lines; stops at the first other
+/// line, or where there is no room for two accesses.
 #[inline(always)]
 pub(crate) fn skim_lines(
     text: &[u8],

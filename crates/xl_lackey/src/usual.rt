@@ -13,9 +13,8 @@ use crate::line::{Verdict, fits};
 use crate::reference::Letter;
 use xl_model::Kind;
 
-/// A line in Lackey's own form at the front of a text, with the newline that ends it: how many bytes it
-/// has, and what it is. Such a line is read in one go, its end found on the way. None says nothing of
-/// the text.
+/// Single-pass reader of canonical lines, at the front of a text: how many bytes the line has, and
+/// what it is. `None`: use the general reader.
 pub(crate) fn usual_line(text: &[u8]) -> Option<(usize, Verdict)>
     ensures { IfSome result (λ r. IsFirstLine text.now r.0 r.1) }
 {
@@ -35,12 +34,12 @@ pub(crate) fn usual_line(text: &[u8]) -> Option<(usize, Verdict)>
     }
 }
 
-/// The most bytes of a line that is read in the quick way.
+/// The most bytes of a line that is read on the fast path.
 pub(crate) const NEAR: usize = 17;
 
 /// The same of a line with an address of eight digits or of ten and a size of one digit or of two,
-/// as nearly all are, where its bytes lie in one page. It is the quick way: no place is looked for,
-/// and no end of the text is met.
+/// as nearly all are, where its bytes lie in one page. It is the fast path: no place is searched
+/// for, and no bound is tested.
 #[inline(always)]
 pub(crate) fn near_line(text: &[u8]) -> Option<(usize, Verdict)>
     requires { 17 ≤ length text.now }
@@ -56,8 +55,8 @@ pub(crate) fn near_line(text: &[u8]) -> Option<(usize, Verdict)>
     Some((found.used, verdict))
 }
 
-/// What stands behind the letter of a line: an address and a size, which is told by the bytes above
-/// the first one, and how many bytes the line has with its newline.
+/// What is after the letter of a line: an address and a size (`above`, the bytes above the first),
+/// and how many bytes the line has with its newline.
 #[derive(Clone, Copy)]
 pub(crate) struct Numbers {
     pub(crate) addr: u64,
@@ -67,7 +66,7 @@ pub(crate) struct Numbers {
 
 /// The numbers of a line with an address of eight digits or of ten and a size of one digit or of
 /// two, whose bytes lie in one page. Those of eight digits and of one, which most lines have, are
-/// looked for first, since all stands at fixed places there.
+/// looked for first, since all is at fixed places there.
 #[inline(always)]
 pub(crate) fn near_numbers(text: &[u8]) -> Option<Numbers>
     requires { 14 ≤ length text.now }
@@ -150,8 +149,7 @@ const MODIFY: Front = Front {
     is_modify: true,
 };
 
-/// The fronts of lines by their second byte modulo 8; in places that belong to none stands a fetch.
-/// Which letter comes next can't be foretold, so a choice would cost more than a look-up.
+/// Prefix table by letter mod 8 (branch-free); unused slots hold FETCH.
 const FRONTS: [Front; 8] = [FETCH, FETCH, FETCH, STORE, LOAD, MODIFY, FETCH, FETCH];
 
 /// The letter of a record with the blanks around it, as Lackey writes them, and what follows them.

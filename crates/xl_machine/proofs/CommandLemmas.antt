@@ -105,7 +105,7 @@ module _ (row : Row) (table : TableState) (space va : ℕ) (o : Order) (there : 
   pub old-valid : IsLeafOf row old
   old-valid = mapping.valid old member
 
--- the arrays after a purge of the leaf as it stood
+-- the arrays after a purge of the leaf as it was
 pub purged-is : (purge : Purge) (c : Change) (leaves : List Leaf) (old : Leaf) (tlb next : TlbState) → old_leaf c leaves ≡ Some old → next ≡ tlb_purged purge old tlb
     → next ≡ record tlb { arrays = arrays_after purge (old_leaf c leaves) tlb.arrays }
 unfolding tlb_purged

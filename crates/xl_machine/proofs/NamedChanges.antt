@@ -27,7 +27,7 @@ use Rattle.xl_machine.proofs.Accesses.{leaf_fit}
 use Rattle.xl_machine.proofs.ChangeLemmas.{done-kept, refused-kept, done-state, done-answer, refused-answer, refused-state}
 use Rattle.xl_machine.proofs.CommandLemmas.{unmap-is, protect-is, move-is, there-unmap, there-protect, there-move, old-named, old-valid, purged-is}
 
--- What is known of such a command where no rule refuses it: its change, and the leaf as it stands.
+-- What is known of such a command where no rule refuses it: its change, and the leaf as it is.
 pub record IsNamedChange (row : Row) (table : TableState) (e : Event) (c : Change) (old : Leaf) : Type 0 where
   pub ruled : rule row table.leaves e ≡ None
   pub is : change_of row table.leaves e ≡ Some c

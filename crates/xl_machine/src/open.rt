@@ -1,4 +1,4 @@
-//! A machine that is opened, and what it tells.
+//! Opening a machine, and its accessors.
 
 ghost use Rattle.std.specs.Prelude.{◌≡◌, ◌≤◌, IfOk};
 ghost use Rattle.xl_model.specs.Mapping.{leaf_at_page};

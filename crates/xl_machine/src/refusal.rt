@@ -91,11 +91,11 @@ fn is_named(leaf: Leaf, space: u16, first: u64, order: Order) -> bool
 }
 
 impl<S: Structure> Machine<S> {
-    /// The leaf that covers the page of an address, where it is the one that is named.
+    /// The leaf that covers the page of an address, where it is the leaf that the command names.
     ///
     /// # Errors
     ///
-    /// `Unmapped` where no leaf covers the page, `WrongSize` where another one does.
+    /// `Unmapped` where no leaf covers the page, `WrongSize` where a leaf of another order does.
     fn leaf_named(&self, space: u16, va: u64, order: Order) -> Result<Leaf, Refusal>
         requires { space < self.now.row.spaces }
         ensures refused { IfErr result (λ r. there_of space va order self.now ≡ Some r) }
@@ -110,7 +110,7 @@ impl<S: Structure> Machine<S> {
         }
     }
 
-    /// The refusal of a block that a leaf meets.
+    /// The refusal of a block that overlaps a leaf.
     fn overlap_refusal(&self, space: u16, va: u64, order: Order) -> Option<Refusal>
         requires space { space < self.now.row.spaces }
         requires aligned { is_aligned order va ≡ true }

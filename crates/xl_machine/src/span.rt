@@ -6,12 +6,13 @@ ghost use Rattle.xl_model.specs.Addresses.{is_canonical, page_of as page_number}
 use std::marker::Model;
 use xl_model::Mode;
 
-/// Which addresses of a mode are canonical and of which pages they are, by numbers that are known at opening,
-/// so that no access asks for the mode. Contracts see the mode.
+/// Which addresses of a mode are canonical and of which pages they are, by numbers computed at
+/// opening, so that an access needs no match on the mode. Contracts see the mode.
 #[derive(Drop)]
 pub(crate) struct Span {
     mode: Mode,
-    /// How many addresses each of the two halves has: one at the front of all addresses, one at their end.
+    /// How many addresses each of the two halves has: one at the front of all addresses, one at
+    /// their end.
     half: u64,
     /// How many there are of both.
     both: u64,

@@ -28,7 +28,7 @@ use Rattle.xl_made.proofs.MadeLemmas.{line_made, line-length}
 glyph_read : (d : ℕ) → d < 16 → hex_digit (hex_glyph d) ≡ Some d
 glyph_read d h = grind (arith, nat_tests)
 
--- what so many digits leave of a number
+-- what n digits leave of a number
 abbrev above : ℕ → ℕ → ℕ
 above zero n = n
 above (suc k) n = above k (n / 16)
@@ -58,7 +58,7 @@ line_of_8 : (n : ℕ) (l : Letter) (a : ℕ) (rest : List ℕ) → a < 2 ^ 32 �
 line_of_8 n l a rest h =
     first_record n l (hex_digits 8 a ++ 44 ∷ 56 ∷ 10 ∷ rest) (56 ∷ 10 ∷ rest) rest a 8 1 (address_read a (56 ∷ 10 ∷ rest) h) refl refl (near_fits a 8 (omega arith) (omega arith))
 
--- the parts of a line, one behind another
+-- the parts of a line, one after another
 abbrev line_with : Letter → ℕ → ℕ → List ℕ → List ℕ
 line_with l a s rest = (usual_front l ++ hex_digits 8 a ++ size_text s) ++ rest
 
@@ -129,7 +129,7 @@ takes_first n old mid new xs ys zs count k f =
     subst (λ (all : List Access). Takes n old new xs all (count + 1)) (sym f.follows.follow)
     (takes_more n old mid new xs ys f.follows.got count (record_of_word f.word m) k (f.first.reads ((n + count) % 2 ^ 64)) (f.follows.each m))
 
--- what is put behind the accesses that are there
+-- what is put after the accesses that are there
 pub follows_put : (r : ℕ) (before after : List Access) (m : Bool) (a : ℕ) (k : Kind) → m ≡ is_modify (letter_of r) → a ≡ address_of r → k ≡ first_kind (letter_of r)
     → after ≡ before ++ accesses_near m a k → Follows r before after
 follows_put r before after m a k em ea ek h = record {

@@ -45,12 +45,12 @@ size_text size = codes "," ++ hex_digits 1 size ++ codes "\n"
 unfoldable pub record_line : ℕ → List ℕ
 record_line r = usual_front (letter_of r) ++ hex_digits 8 (address_of r) ++ size_text (size_of r)
 
--- The lines of so many records.
+-- The lines of n records.
 abbrev pub record_lines : ℕ → Lcg → List ℕ
 record_lines zero g = []
 record_lines (suc n) g = record_line (word g) ++ record_lines n (after g)
 
--- The trace of so many records.
+-- The trace of n records.
 abbrev pub made_trace : ℕ → List ℕ
 made_trace n = record_lines n (generator 54)
 
@@ -58,11 +58,12 @@ made_trace n = record_lines n (generator 54)
 unfoldable pub with_unmap : ℕ → List ℕ → List ℕ
 with_unmap w script = script ++ codes "run 64\nunmap 0 " ++ hex_digits 8 (0x10000000 + w % 4096 * 4096) ++ codes " 4k\n"
 
--- The script with so many of those.
+-- The script with n of those.
 abbrev pub with_unmaps : ℕ → Lcg → List ℕ → List ℕ
 with_unmaps zero g script = script
 with_unmaps (suc n) g script = with_unmaps n (after g) (with_unmap (word g) script)
 
--- The script for so many records: all pages are mapped on demand, and after each 64 records one is unmapped.
+-- The script for n records: all pages are mapped on demand, and after each 64 records one is
+-- unmapped.
 abbrev pub made_script : ℕ → List ℕ
 made_script n = with_unmaps (n / 64) (generator 55) (codes "demand 0 10000000 4096 4k rwxu\n")

@@ -28,8 +28,8 @@ pub record Follows (word : ℕ) (before after : List Access) : Type 0 where
   pub follow : after ≡ before ++ got
   pub each : (line : ℕ) → accesses_in (record_of_word word line) ≡ map pair got
 
--- The first line of a text is read as a record whose accesses follow those that were there before, and the other
--- lines are left.
+-- The first line of a text is read as a record whose accesses follow those that were there before,
+-- and the other lines are left.
 pub record TakesFirst (old new : List ℕ) (before after : List Access) : Type 0 where
   pub word : ℕ
   pub first : IsFirstOf word old new

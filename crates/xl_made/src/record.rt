@@ -36,8 +36,8 @@ pub(crate) fn put(line: &mut [u8], at: usize, bytes: &[u8])
     line[at..at + bytes.len()].copy_from_slice(bytes);
 }
 
-/// How a line begins and ends, by the last three bits of its word: three bytes for each. Which comes next
-/// can't be foretold, so a choice among them would cost more than a look-up.
+/// How a line begins and ends, by the last three bits of its word: three bytes for each. Which
+/// comes next can't be predicted, so a choice among them would cost more than a look-up.
 const LETTERS: [u8; 24] = *b"I  I  I   L  L  L  S  M ";
 
 const SIZES: [u8; 24] = *b",4\n,4\n,4\n,8\n,8\n,8\n,8\n,8\n";
@@ -51,7 +51,7 @@ fn front(word: u32) -> [u8; 3]
     [LETTERS[at], LETTERS[at + 1], LETTERS[at + 2]]
 }
 
-/// How the line ends: the size, and what stands round it.
+/// How the line ends: the size, and what is round it.
 #[tactic(auto, unfolding(crate::specs::Made::size_of))]
 fn end(word: u32) -> [u8; 3]
     ensures { result ≡ size_text (size_of word) }
@@ -138,7 +138,7 @@ fn is_modify(word: u32) -> bool
     word % 8 == 7
 }
 
-/// Puts the accesses of a record behind those that are there. All its bytes lie in one page.
+/// Puts the accesses of a record after those that are there. All its bytes lie in one page.
 #[inline(always)]
 pub(crate) fn put_record(into: &mut Batch, word: u32)
     requires { HasRoom into.old.items }

@@ -10,7 +10,7 @@ use rand_pcg::Lcg64Xsh32;
 use std::alloc::{AllocError, Global};
 use xl_model::NoMemory;
 
-/// The script for a made trace of so many records.
+/// The script for a made trace of `n` records.
 ///
 /// # Errors
 ///

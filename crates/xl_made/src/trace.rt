@@ -11,8 +11,8 @@ use rand_pcg::Lcg64Xsh32;
 use std::marker::Model;
 use xl_lackey::{Batch, Reference, has_room};
 
-/// A trace that is made while it is read. Contracts see the bytes that are still to come. They come as
-/// text, in whole lines, or as what the lines are read as.
+/// A trace that is made while it is read. Contracts see the bytes that are still to come. They come
+/// as text, in whole lines, or as what the lines are read as.
 #[derive(Drop)]
 pub struct MadeTrace {
     generator: Lcg64Xsh32,
@@ -30,7 +30,7 @@ impl Model for MadeTrace {
 }
 
 impl MadeTrace {
-    /// The trace of so many records.
+    /// The trace of `n` records.
     pub fn new(n: u32) -> MadeTrace
         ensures { result ≡ made_trace n }
     {
@@ -40,7 +40,7 @@ impl MadeTrace {
         }
     }
 
-    /// Gives the next lines into the buffer, as many whole ones as it has room for, and answers how
+    /// Gives the next lines into the buffer, as many whole ones as it has room for, and returns how
     /// many bytes they are; none into a buffer with room for a line only at the end.
     pub fn piece(&mut self, buf: &mut [u8]) -> usize
         ensures count { result ≤ length buf.old }
@@ -82,8 +82,8 @@ impl MadeTrace {
         Some(reference(word, line))
     }
 
-    /// Takes the next records, at most so many, as their lines are read, and puts their accesses behind
-    /// those that are there, while there is room for two. Gives how many were taken.
+    /// Takes the next records, `most` at most, as their lines are read, and appends their accesses,
+    /// while there is room for two. Returns how many were taken.
     #[inline(always)]
     pub fn skim(&mut self, into: &mut Batch, most: u64) -> u64
         ensures takes { (n : ℕ) → n < 2 ^ 64
@@ -101,8 +101,8 @@ impl MadeTrace {
         taken
     }
 
-    /// Takes the next record, and puts its accesses behind those that are there; false at the end, where
-    /// nothing changes.
+    /// Takes the next record, and puts its accesses after those that are there; false at the end,
+    /// where nothing changes.
     #[inline(always)]
     fn put_next(&mut self, into: &mut Batch) -> bool
         requires { HasRoom into.old.items }

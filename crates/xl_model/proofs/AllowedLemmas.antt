@@ -5,7 +5,7 @@ use Rattle.xl_model.specs.declared.address.Kind.TheVariants as kind
 use Rattle.xl_model.specs.Addresses.{allows}
 use Rattle.xl_model.specs.LeafWords.{perm_at}
 
--- so many answers, from that for i on
+-- `m` answers, from that for `i` on
 abbrev pub listed : (ℕ → Bool) → ℕ → ℕ → List Bool
 listed f i zero = []
 listed f i (suc m) = f i ∷ listed f (suc i) m
@@ -19,7 +19,7 @@ alike f g i (suc m) (suc j) e h =
     let there = alike f g (suc i) m j rest (omega arith) in
     cc
 
--- what is alike for so many numbers is alike for each of them
+-- what is alike for `m` numbers is alike for each of them
 pub same_answers : (f g : ℕ → Bool) (m j : ℕ) → listed f 0 m ≡ listed g 0 m → j < m → f j ≡ g j
 same_answers f g m j e h =
     let z : 0 + j ≡ j = omega arith in

@@ -24,7 +24,7 @@ is_canonical m va =
 unfoldable pub page_of : Mode → ℕ → ℕ
 page_of m va = va / 4096 % 2 ^ (9 * levels_of m)
 
--- the level of the radix table at which a leaf of this order stands
+-- the level of the radix table at which a leaf of this order is
 abbrev pub level_of : Order → ℕ
 level_of order.K4 = 0
 level_of order.M2 = 1
@@ -50,7 +50,8 @@ same_order a b = level_of a == level_of b
 abbrev pub is_aligned : Order → ℕ → Bool
 is_aligned o va = va % (4096 * pages_of o) == 0
 
--- The rule of a leaf's permission bits: at least one of read, write and execute, and no write without read.
+-- The rule of a leaf's permission bits: at least one of read, write and execute, and no write
+-- without read.
 abbrev pub is_legal : Bool → Bool → Bool → Bool
 is_legal r w x = (r || x) && (r || not w)
 

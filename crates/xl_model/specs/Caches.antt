@@ -34,7 +34,7 @@ pub data Caches : Type 0 where
   RangeCache : (ranges : Cached Range) → Caches
   NoCaches : Caches
 
--- A cache without the items that meet a test.
+-- A cache without the items that pass a test.
 abbrev pub without_items : {A : Type 0} → (A → Bool) → Cached A → Cached A
 without_items p c = record c { items = purged p c.items }
 
@@ -66,8 +66,8 @@ abbrev pub holds_first : Option Leaf → Range → Bool
 holds_first None r = false
 holds_first (Some leaf) r = holds_page leaf.space leaf.first r
 
--- The precise purge of an accepted command: node tags of nodes that the mapping no longer needs, sections
--- that aren't as they were, and ranges that hold the old leaf's first page.
+-- The precise purge of an accepted command: node tags of nodes that the mapping no longer needs,
+-- sections that aren't as they were, and ranges that hold the old leaf's first page.
 unfoldable pub caches_purged : Change → List Leaf → Shape → Shape → Caches → Caches
 caches_purged c leaves before (Radix levels spaces nodes) (NodeCaches cs) =
     NodeCaches (all_without (λ e. not (is_needed levels (changed c leaves) e.node)) cs)

@@ -19,7 +19,7 @@ tag_of group space o page = level_of o * 2 ^ 60 + key_of group space o page
 abbrev pub leaf_tag : ℕ → Leaf → ℕ
 leaf_tag group leaf = tag_of group leaf.space leaf.order leaf.first
 
--- The tags of all chains stand in one list, bucket by bucket, newest first in each bucket.
+-- The tags of all chains are in one list, bucket by bucket, newest first in each bucket.
 abbrev pub bucket_of : ℕ → ℕ → ℕ
 bucket_of buckets tag = mix tag % buckets
 
@@ -35,7 +35,7 @@ in_front_of_bucket buckets tag (t ∷ ts) =
     then t ∷ in_front_of_bucket buckets tag ts
     else (tag ∷ t ∷ ts)
 
--- A tag stands among these.
+-- A tag is among these.
 abbrev pub has_tag : List ℕ → ℕ → Bool
 has_tag tags tag = list_any (λ t. t == tag) tags
 

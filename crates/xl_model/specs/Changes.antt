@@ -12,7 +12,7 @@ pub data Change : Type 0 where
   Protect : (space : ℕ) → (first : ℕ) → (order : Order) → (perm : Perm) → Change
   Relocate : (space : ℕ) → (first : ℕ) → (to : ℕ) → (order : Order) → Change
 
--- the leaf as it stood before
+-- the leaf as it was before
 abbrev pub old_leaf : Change → List Leaf → Option Leaf
 old_leaf (Insert leaf) leaves = None
 old_leaf (Remove space first order) leaves = leaf_named space first order leaves
@@ -29,19 +29,19 @@ abbrev pub at_page : ℕ → Option Leaf → Option Leaf
 at_page to None = None
 at_page to (Some leaf) = Some (record leaf { first = to })
 
--- the leaf as it stands after
+-- the leaf as it is after
 abbrev pub new_leaf : Change → List Leaf → Option Leaf
 new_leaf (Insert leaf) leaves = Some leaf
 new_leaf (Remove space first order) leaves = None
 new_leaf (Protect space first order perm) leaves = with_perm perm (leaf_named space first order leaves)
 new_leaf (Relocate space first to order) leaves = at_page to (leaf_named space first order leaves)
 
--- The leaves without the leaf as it stood.
+-- The leaves without the leaf as it was.
 abbrev pub without_old : Option Leaf → List Leaf → List Leaf
 without_old None leaves = leaves
 without_old (Some leaf) leaves = without_leaf leaf.space leaf.first leaves
 
--- The leaves with the leaf as it stands after.
+-- The leaves with the leaf as it is after.
 abbrev pub with_new : Option Leaf → List Leaf → List Leaf
 with_new None leaves = leaves
 with_new (Some leaf) leaves = with_leaf leaf leaves

@@ -13,8 +13,8 @@ pub record Accesses : Type 0 where
   pub number : ℕ
   pub accesses : List (ℕ × Kind)
 
--- The records of a trace that are left, and the fault that ends them: a bad line, a trace that is too long,
--- or a trace that isn't there; none where the trace was good to its end.
+-- The records of a trace that are left, and the fault that ends them: a bad line, a trace that is
+-- too long, or a trace that isn't there; none where the trace was good to its end.
 pub record Trail : Type 0 where
   pub records : List Accesses
   pub fault : Option InputFault
@@ -23,12 +23,12 @@ pub record Trail : Type 0 where
 abbrev pub at_end : Option InputFault → Trail
 at_end fault = record { records = []; fault = fault }
 
--- The events of a command, so many of them, from the one of this number on.
+-- The events of a command, n of them, from the one of this number on.
 abbrev pub events_from : (ℕ → Event) → ℕ → ℕ → List Item
 events_from event_at i zero = []
 events_from event_at i (suc n) = item.Command (event_at i) ∷ events_from event_at (suc i) n
 
--- The address of the block of this number behind an address.
+-- The address of the block of this number after an address.
 abbrev pub block_address : ℕ → Order → ℕ → ℕ
 block_address va o i = va + i * (4096 * pages_of o)
 

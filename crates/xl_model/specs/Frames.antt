@@ -7,7 +7,7 @@ use Rattle.xl_model.specs.declared.leaf.Leaf.{Leaf}
 use Rattle.xl_model.specs.Addresses.{pages_of}
 use Rattle.xl_model.specs.Mapping.{holds_frames}
 
--- The block of so many frames from here on lies among the frames, and no leaf holds one of them.
+-- The block of `size` frames from here on lies among the frames, and no leaf holds one of them.
 abbrev pub is_free_block : ℕ → ℕ → List Leaf → ℕ → Bool
 is_free_block frames size leaves at = nat_le (at + size) frames && not (list_any (holds_frames at size) leaves)
 

@@ -1,7 +1,7 @@
 -- Hashes of tables: the finalizer of SplitMix64 (Steele, Lea and Flood, 2014). All steps wrap at 64 bits.
 use Rattle.std.specs.Prelude.{ℕ, ◌+◌, ◌*◌, ◌/◌, ◌%◌, ◌^◌, bit_xor}
 
--- A word, each bit of which is exclusive-ored with the bit so many places above it.
+-- A word, each bit of which is exclusive-ored with the bit `bits` places above it.
 abbrev pub mixed_right : ℕ → ℕ → ℕ
 mixed_right bits x = bit_xor x (x / 2 ^ bits)
 

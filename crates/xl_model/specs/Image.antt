@@ -7,11 +7,11 @@ use Rattle.xl_model.specs.Addresses.{level_of}
 use Rattle.xl_model.specs.Words.{pointer_word, leaf_word}
 use Rattle.xl_model.specs.Nodes.{Node, up, number_of}
 
--- The leaf stands at the slot.
+-- The leaf is at the slot.
 abbrev pub is_slot : ℕ → ℕ → ℕ → Leaf → Bool
 is_slot space l block leaf = (leaf.space == space) && ((level_of leaf.order == l) && (up l leaf.first == block))
 
--- The leaf that stands at the slot, if there is one.
+-- The leaf that is at the slot, if there is one.
 unfoldable pub leaf_in : ℕ → ℕ → ℕ → List Leaf → Option Leaf
 leaf_in space l block leaves = find (is_slot space l block) leaves
 
@@ -41,7 +41,7 @@ abbrev pub unless_zero : ℕ → ℕ → ℕ → List Word → List Word
 unless_zero number index zero words = words
 unless_zero number index (suc word) words = record { node = number; index = index; word = suc word } ∷ words
 
--- Those of a node's words that are not 0, from an index on, so many of them.
+-- Those of a node's words that are not 0, from an index on, as many as are left.
 abbrev pub words_from : List Leaf → List (Option Node) → ℕ → Node → ℕ → ℕ → List Word
 words_from leaves nodes number node index zero = []
 words_from leaves nodes number node index (suc left) =

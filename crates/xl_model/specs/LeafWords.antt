@@ -11,7 +11,7 @@ use Rattle.xl_model.specs.Words.{bit_if}
 unfoldable pub perm_code : Perm → ℕ
 perm_code p = bit_if p.r 1 + bit_if p.w 2 + bit_if p.x 4 + bit_if p.u 8
 
--- The permission of four bits. Those that aren't legal stand for one that may only be executed.
+-- The permission of four bits. Those that aren't legal give one that may only be executed.
 abbrev pub perm_by : Bool → Bool → Bool → Bool → Perm
 perm_by true w x u = record { r = true; w = w; x = x; u = u; legal = refl }
 perm_by false w x u = record { r = false; w = false; x = true; u = u; legal = refl }

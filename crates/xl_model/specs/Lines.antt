@@ -17,7 +17,7 @@ use Rattle.xl_model.specs.Image.{Word}
 abbrev pub hex_glyph : ℕ → ℕ
 hex_glyph n = if nat_lt n 10 then 48 + n else 87 + n
 
--- so many hexadecimal digits of a number, in lower case
+-- n hexadecimal digits of a number, in lower case
 abbrev pub hex_digits : ℕ → ℕ → List ℕ
 hex_digits zero n = []
 hex_digits (suc k) n = hex_digits k (n / 16) ++ hex_glyph (n % 16) ∷ []
@@ -26,7 +26,7 @@ hex_digits (suc k) n = hex_digits k (n / 16) ++ hex_glyph (n % 16) ∷ []
 unfoldable pub hex16 : ℕ → List ℕ
 hex16 n = hex_digits 16 n
 
--- The row's line: the name, and each count behind its name.
+-- The row's line: the name, and each count after its name.
 unfoldable pub with_verdicts : List ℕ → Counts → List ℕ
 with_verdicts line c =
     line ++ codes " accesses=" ++ decimal c.accesses ++ codes " ok=" ++ decimal c.ok
@@ -72,7 +72,7 @@ with_more_arrays line (suc n) (h ∷ hits) (m ∷ misses) =
     with_more_arrays (line ++ codes "," ++ decimal h ++ codes "/" ++ decimal m) n hits misses
 with_more_arrays line n hits misses = line
 
--- hits and misses of so many arrays, parted by commas; a dash for no array
+-- hits and misses of n arrays, parted by commas; a dash for no array
 abbrev pub with_arrays : List ℕ → ℕ → List ℕ → List ℕ → List ℕ
 with_arrays line zero hits misses = line ++ codes "-"
 with_arrays line (suc n) (h ∷ hits) (m ∷ misses) = with_more_arrays (line ++ decimal h ++ codes "/" ++ decimal m) n hits misses

@@ -20,12 +20,13 @@ pub record Node : Type 0 where
 abbrev pub node_at : ℕ → ℕ → ℕ → Node
 node_at space level page = record { space = space; level = level; prefix = up (suc level) page }
 
--- A slot is named by its space, its level l and its block of 512^l pages; the node below it is of level l - 1.
+-- A slot is named by its space, its level l and its block of 512^l pages; the node below it is of
+-- level l - 1.
 abbrev pub is_below : ℕ → ℕ → ℕ → Option Node → Bool
 is_below space l block None = false
 is_below space l block (Some node) = (node.space == space) && ((node.level + 1 == l) && (node.prefix == block))
 
--- a leaf stands below a slot
+-- a leaf is below a slot
 abbrev pub is_under : ℕ → ℕ → ℕ → Leaf → Bool
 is_under space l block leaf = (leaf.space == space) && (nat_lt (level_of leaf.order) l && (up l leaf.first == block))
 
@@ -33,7 +34,7 @@ is_under space l block leaf = (leaf.space == space) && (nat_lt (level_of leaf.or
 unfoldable pub in_nodes : ℕ → ℕ → ℕ → List Leaf → Bool
 in_nodes space l block leaves = list_any (is_under space l block) leaves
 
--- The numbers of the nodes: a list in which the node of number n stands at place n, and None where the
+-- The numbers of the nodes: a list in which the node of number n is at place n, and None where the
 -- number is free. It is as long as the table has frames.
 unfoldable pub number_of : ℕ → ℕ → ℕ → List (Option Node) → Option ℕ
 number_of space l block nodes = position_from (is_below space l block) 0 nodes
@@ -78,12 +79,12 @@ free_count [] = 0
 free_count (None ∷ nodes) = free_count nodes + 1
 free_count (Some node ∷ nodes) = free_count nodes
 
--- the nodes of a leaf in a table of so many levels
+-- the nodes of a leaf in a table of `levels` levels
 unfoldable pub with_leaf_nodes : ℕ → Leaf → List (Option Node) → List (Option Node)
 with_leaf_nodes levels leaf nodes =
     with_path leaf.space leaf.first (level_of leaf.order) (levels - 1 - level_of leaf.order) nodes
 
--- How many nodes a leaf lacks in a table of so many levels.
+-- How many nodes a leaf lacks in a table of `levels` levels.
 unfoldable pub leaf_nodes_missing : ℕ → Leaf → List (Option Node) → ℕ
 leaf_nodes_missing levels leaf nodes =
     missing leaf.space leaf.first (level_of leaf.order) (levels - 1 - level_of leaf.order) nodes

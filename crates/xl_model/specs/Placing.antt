@@ -25,22 +25,22 @@ way_at ways at = slice_index_or ways at (opening_way 0 0 0)
 abbrev pub put_in : List WayShape → ℕ → Entry → List WayShape
 put_in ways at x = slice_set ways at (swapped (way_at ways at) x)
 
--- The way behind this one, round all ways.
+-- The way after this one, round all ways.
 abbrev pub next_way : ℕ → ℕ → ℕ
 next_way count at = (at + 1) % count
 
--- An attempt stands, with what it displaced, or fails.
+-- An attempt succeeds, with what it displaced, or fails.
 pub data Attempt : Type 0 where
   Stands : (ways : List WayShape) → (moved : List Displaced) → Attempt
   Fails : Attempt
 
--- What follows where the slot is empty, and where an entry stands in it.
+-- What follows where the slot is empty, and where an entry is in it.
 abbrev pub by_occupant : Option Entry → Attempt → (Entry → Attempt) → Attempt
 by_occupant None free taken = free
 by_occupant (Some e) free taken = taken e
 
 -- The entry in hand is placed where its slot in this way is empty. Else it takes the slot, and the
--- displaced entry goes on to the next way, while displacements are left; then the attempt fails.
+-- displaced entry goes to the next way, while displacements are left; then the attempt fails.
 unfoldable pub attempt : ℕ → List WayShape → ℕ → Entry → List Displaced → Attempt
 attempt zero ways at hand moved =
     by_occupant (occupant (way_at ways at) hand.key) (Stands (put_in ways at hand) moved) (λ e. Fails)
@@ -90,7 +90,7 @@ forced w = advanced (slots_left (growing_now w).regs) (growing_now w)
 abbrev pub forced_moves : WayShape → Moves → Moves
 forced_moves w m = record m { migrated = plus m.migrated (slots_left (growing_now w).regs); growths = plus m.growths (growths_begun w) }
 
--- An entry was placed, or every way stands at its cap; with the ways after, and what was done.
+-- An entry was placed, or every way is at its cap; with the ways after, and what was done.
 pub data Placing : Type 0 where
   Placed : (ways : List WayShape) → (moved : List Displaced) → (moves : Moves) → Placing
   AtCap : (ways : List WayShape) → (moves : Moves) → Placing
@@ -110,7 +110,7 @@ abbrev pub growths_left : List WayShape → ℕ
 growths_left [] = 0
 growths_left (w ∷ ways) = (w.cap - w.regs.s) + growths_left ways
 
--- Attempts and growths in turn, as many as growths are left, until one attempt stands.
+-- Attempts and growths in turn, as many as growths are left, until one attempt succeeds.
 unfoldable pub placing : ℕ → ℕ → List WayShape → Entry → Moves → Placing
 placing zero limit ways x m =
     after_attempt (attempt limit ways (start_way (length ways) x.key) x []) limit m (λ n. AtCap ways n)
@@ -119,16 +119,17 @@ placing (suc room) limit ways x m =
     (λ n. with_growth (to_grow 0 ways) (AtCap ways n)
     (λ i. placing room limit (slice_set ways i (forced (way_at ways i))) x (forced_moves (way_at ways i) n)))
 
--- Where a new entry comes to stand, or that every way is at its cap.
+-- Where a new entry is placed, or that every way is at its cap.
 unfoldable pub place : ℕ → List WayShape → Entry → Placing
 place limit ways x = placing (growths_left ways) limit ways x no_moves
 
--- After a successful attempt each growing way migrates some slots; then each way that isn't growing,
--- is below its cap and holds more than its threshold, in hundredths of its slots, begins to grow.
+-- After a successful attempt each growing way migrates some slots; then each way that isn't
+-- growing, is below its cap and holds more than its threshold, in hundredths of its slots, begins
+-- to grow.
 abbrev pub slots_settled : ℕ → WayShape → ℕ
 slots_settled most w = if w.regs.growing then min most (slots_left w.regs) else 0
 
--- A way that is growing, after it migrated so many slots at most.
+-- A way that is growing, after it migrated `most` slots at most.
 abbrev pub settled_way : ℕ → WayShape → WayShape
 settled_way most w = if w.regs.growing then advanced (min most (slots_left w.regs)) w else w
 

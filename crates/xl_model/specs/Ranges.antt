@@ -24,13 +24,13 @@ range_of_leaf leaf = record {
   perm = leaf.perm;
 }
 
--- a leaf goes on into a range
+-- a leaf joins a range that begins where the leaf ends
 abbrev pub goes_into : Leaf → Range → Bool
 goes_into leaf r =
     ((leaf.space == r.space) && (same_order leaf.order r.order && same_perm leaf.perm r.perm))
     && ((leaf.first + pages_of leaf.order == r.start) && (leaf.frame + pages_of leaf.order == r.frame))
 
--- A leaf in front of the ranges behind it: it goes into the first of them where it can.
+-- A leaf in front of the ranges after it: it goes into the first of them where it can.
 abbrev pub joined : Leaf → List Range → List Range
 joined leaf [] = range_of_leaf leaf ∷ []
 joined leaf (r ∷ rs) =
@@ -51,18 +51,18 @@ holds_page space page r = (r.space == space) && (nat_le r.start page && nat_lt p
 abbrev pub range_key : Range → ℕ
 range_key r = r.space * 2 ^ 52 + r.start
 
--- The key behind a range's last page.
+-- The key after a range's last page.
 abbrev pub end_key : Range → ℕ
 end_key r = range_key r + r.pages
 
--- Of two ranges of a treap, by their keys, the one with the lesser priority is above; the priority is the
--- hash of the key, and of two equal ones the lesser key is above.
+-- Of two ranges of a treap, by their keys, the one with the lesser priority is above; the priority
+-- is the hash of the key, and of two equal ones the lesser key is above.
 abbrev pub is_above : ℕ → ℕ → Bool
 is_above a b = nat_lt (mix a) (mix b) || ((mix a == mix b) && nat_le a b)
 
--- The place of a key is the range that holds it, or the gap where a range that begins there would stand.
--- The range that begins at key z and ends at `end` lies from the range at key y to the place of the key
--- `at`, both inclusive.
+-- The place of a key is the range that holds it, or the gap where a range that begins there would
+-- be. The range that begins at key z and ends at `end` lies from the range at key y to the place of
+-- the key `at`, both inclusive.
 abbrev pub is_between : ℕ → ℕ → ℕ → ℕ → Bool
 is_between at y z end =
     if nat_le y at then nat_le y z && nat_le z at else (nat_le z y && nat_lt at end)

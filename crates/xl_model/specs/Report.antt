@@ -8,8 +8,8 @@ use Rattle.xl_model.specs.Image.{Word, image}
 use Rattle.xl_model.specs.Lines.{row_line, image_line}
 use Rattle.xl_model.specs.Scenes.{Served, Scene, Live, lives_after, opening_scene, untold}
 
--- What a report is asked for beside the rows: a line for each access and command, and the words of each
--- radix table.
+-- What a report is asked for beside the rows: a line for each access and command, and the words of
+-- each radix table.
 pub record Flags : Type 0 where
   pub answers : Bool
   pub images : Bool
@@ -46,7 +46,7 @@ images_where false rows = []
 unfoldable pub tail : Flags → Scene → List ℕ
 tail flags s = row_lines s.rows ++ images_where flags.images s.rows
 
--- What was told, and the end of the report behind it.
+-- The lines so far, and the end of the report after them.
 abbrev pub reported : Flags → Live → List ℕ
 reported flags l = l.told ++ tail flags l.scene
 

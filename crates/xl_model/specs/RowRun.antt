@@ -52,8 +52,8 @@ opening row = record {
   counts = no_counts (length row.tlb);
 }
 
--- An access that some array answers: the arrays that serve it are touched and filled.
--- One that all miss: a walk, and what it finds fills every level.
+-- An access that hits some array: the arrays that serve it are touched and filled. One that misses
+-- all: a walk, and the leaf found fills every level.
 abbrev pub walk_filled : Kind → Option Leaf → RowState → RowState
 walk_filled kind None s = s
 walk_filled kind (Some leaf) s = record s {
@@ -69,7 +69,7 @@ walk_made space page s = record s {
       (walked s.table.shape s.table.caches s.table.leaves space page).cache_hits s.counts;
 }
 
--- A look-up: an array answers, or all miss and a walk is made.
+-- A look-up: an array hits, or all miss and a walk is made.
 abbrev pub looked_by : Kind → Option Answer → ℕ → RowState → RowState
 looked_by kind (Some answer) page s = record s {
   arrays = arrays_hit kind answer s.space page s.arrays;
@@ -99,12 +99,12 @@ accessed row va kind s =
     let after = looked_where (is_canonical row.mode va) kind (page_of row.mode va) s in
     record after { counts = count_reply (reply_to row s va kind) va after.counts }
 
--- A change of the mapping: the table answers, the arrays are purged of the old leaf.
+-- A change of the mapping: the table changes, and the arrays are purged of the old leaf.
 abbrev pub refusal_of : NoRoom → Refusal
 refusal_of why.NoTable = refused.NoTable
 refusal_of why.WayAtCap = refused.WayAtCap
 
--- The arrays after a purge of the leaf as it stood; without such a leaf nothing is purged.
+-- The arrays after a purge of the leaf as it was; without such a leaf nothing is purged.
 abbrev pub arrays_after : Purge → Option Leaf → List TlbArray → List TlbArray
 arrays_after purge None arrays = arrays
 arrays_after purge (Some old) arrays = arrays_without (is_purged purge old) arrays
@@ -118,7 +118,7 @@ abbrev pub counts_refused : NoRoom → Work → Counts → Counts
 counts_refused why.NoTable work c = count_refusal refused.NoTable c
 counts_refused why.WayAtCap work c = count_refusal refused.WayAtCap (count_work work c)
 
--- A row after a change, by what the table answers: made, with its purge, or refused.
+-- A row after a change, by the table's result: made, with its purge, or refused.
 abbrev pub changed_by : Result Work Refused → Row → Change → RowState → RowState
 changed_by (Ok work) row c s = record s {
   table = table_after c s.table;
@@ -152,7 +152,7 @@ reach_of row (scope.Space space) = reach.Space space
 reach_of row (scope.Addr va) = reach.Addr (page_of row.mode va)
 reach_of row (scope.Page space va) = reach.Page space (page_of row.mode va)
 
--- A row after a fence: what it reaches has left the arrays and the caches.
+-- A row after a fence: what it reaches is removed from the arrays and the caches.
 unfoldable pub fenced : Reach → RowState → RowState
 fenced to s = record s {
   table = table_fenced to s.table;

@@ -46,8 +46,8 @@ is_width n = list_any (λ w. w == n) (0 ∷ 1 ∷ 2 ∷ 4 ∷ 6 ∷ 8 ∷ 12 ∷
 abbrev pub is_within : ℕ → ℕ → ℕ → Bool
 is_within least most n = nat_le least n && nat_le n most
 
--- A table of this many levels and spaces keeps its limits. Radix caches after the first levels - 1 are of
--- width 0.
+-- A table of this many levels and spaces keeps its limits. Radix caches after the first levels - 1
+-- are of width 0.
 abbrev pub is_table : ℕ → ℕ → Table → Bool
 is_table levels spaces (table.Radix frames caches) =
     is_within spaces 16384 frames && (list_all is_width caches && list_all (λ w. w == 0) (drop (levels - 1) caches))

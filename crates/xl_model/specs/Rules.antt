@@ -41,7 +41,7 @@ named_rule (Some leaf) space first o = unless (is_leaf space first o leaf) refus
 abbrev pub there_rule : Row → List Leaf → ℕ → ℕ → Order → Option Refusal
 there_rule row leaves space va o = named_rule (leaf_at_page space (page_of row.mode va) leaves) space (page_of row.mode va) o
 
--- 6: no leaf meets the block
+-- 6: no leaf overlaps the block
 abbrev pub overlap_rule : Row → List Leaf → ℕ → ℕ → Order → Option Refusal
 overlap_rule row leaves space va o = unless (not (meets_any space (page_of row.mode va) o leaves)) refused.Overlap
 

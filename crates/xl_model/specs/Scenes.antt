@@ -75,12 +75,12 @@ abbrev pub lines_where : Bool → Item → Scene → List ℕ
 lines_where true item s = rows_lines item s.areas s.rows
 lines_where false item s = []
 
--- The scene, and the text told so far.
+-- The scene, and the text so far.
 pub record Live : Type 0 where
   pub scene : Scene
   pub told : List ℕ
 
--- One step: an item is served, and its lines are told where answers are asked for.
+-- One step: an item is served, and its lines are written where they are asked for.
 abbrev pub live_after : Bool → Item → Live → Live
 live_after answers item l =
     record { scene = scene_after item l.scene; told = l.told ++ lines_where answers item l.scene }
@@ -99,11 +99,11 @@ opened (row ∷ rows) = record { row = row; state = opening row } ∷ opened row
 abbrev pub opening_scene : List Row → Scene
 opening_scene rows = record { rows = opened rows; areas = [] }
 
--- A scene of which nothing was told yet.
+-- A scene before any line.
 abbrev pub untold : Scene → Live
 untold s = record { scene = s; told = [] }
 
--- What some items tell from a scene on.
+-- The text of some items from a scene on.
 abbrev pub told_by : Bool → List Item → Scene → List ℕ
 told_by answers items s = (lives_after answers items (untold s)).told
 

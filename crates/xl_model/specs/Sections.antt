@@ -41,7 +41,7 @@ way_where false way = None
 abbrev pub section_key : ℕ → ℕ → ℕ
 section_key space block = space * 2 ^ 45 + block
 
--- the section of a mapping whose leaves of the section's own order stand in these ways
+-- the section of a mapping whose leaves of the section's own order are in these ways
 unfoldable pub section_of : Order → ℕ → ℕ → List Leaf → List WayShape → Section
 section_of size space block leaves ways = record {
   space = space;
@@ -52,7 +52,7 @@ section_of size space block leaves ways = record {
   way = way_where (holds_order size space block size leaves) (holder_from 0 ways (section_key space block));
 }
 
--- A key put to a list in which each key stands once.
+-- A key put to a list in which each key occurs once.
 abbrev pub with_key : ℕ → List ℕ → List ℕ
 with_key key keys = if list_any (λ k. k == key) keys then keys else (key ∷ keys)
 
@@ -68,14 +68,14 @@ section_keys size (leaf ∷ leaves) =
 abbrev pub section_count : Order → List Leaf → ℕ
 section_count size leaves = length (section_keys size leaves)
 
--- Two sections tell the same way, or both none.
+-- Two sections have the same way, or both none.
 abbrev pub same_way : Option ℕ → Option ℕ → Bool
 same_way None None = true
 same_way None (Some b) = false
 same_way (Some a) None = false
 same_way (Some a) (Some b) = a == b
 
--- Two sections of one place tell the same.
+-- Two sections of one place have the same content.
 abbrev pub same_section : Section → Section → Bool
 same_section a b =
     (same_bit a.has_k4 b.has_k4 && same_bit a.has_m2 b.has_m2)

@@ -60,7 +60,7 @@ brought (Remove space first o) leaves = None
 brought (Protect space first o perm) leaves = None
 brought (Relocate space first to o) leaves = new_leaf (Relocate space first to o) leaves
 
--- What the insertion of a leaf comes to in the table of its order.
+-- The result of the insertion of a leaf into the table of its order.
 abbrev pub placed_leaf : CuckooRules → CuckooWays → Leaf → Placing
 placed_leaf rules ws leaf = insertion rules.kick_limit rules.migrate rules.threshold (ways_of leaf.order ws) (leaf_entry leaf)
 
@@ -84,7 +84,8 @@ abbrev pub ways_brought : CuckooRules → Option Leaf → CuckooWays → CuckooW
 ways_brought rules None ws = ws
 ways_brought rules (Some leaf) ws = with_ways leaf.order (ways_placed (placed_leaf rules ws leaf)) ws
 
--- the ways without the old leaf of a removal or a relocation, and with the new word of a protected leaf
+-- the ways without the old leaf of a removal or a relocation, and with the new word of a protected
+-- leaf
 abbrev pub ways_taken : Change → Option Leaf → CuckooWays → CuckooWays
 ways_taken (Insert leaf) old ws = ws
 ways_taken c None ws = ws

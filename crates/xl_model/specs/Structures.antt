@@ -29,7 +29,7 @@ pub record TableState : Type 0 where
   pub caches : Caches
   pub loads : ℕ
 
--- what the attempt of a cuckoo table comes to, where a change makes one
+-- the result of the attempt of a cuckoo table, where a change makes one
 abbrev pub moves_made : Option Leaf → Shape → Moves
 moves_made None shape = no_moves
 moves_made (Some leaf) (Cuckoo rules ways) = moves_of (placed_leaf rules ways leaf)
@@ -37,7 +37,8 @@ moves_made (Some leaf) (Radix levels spaces nodes) = no_moves
 moves_made (Some leaf) (Chained group buckets entries tags) = no_moves
 moves_made (Some leaf) (Runs ranges) = no_moves
 
--- The leaf that a change brings finds a place in the ways of a cuckoo table; other tables have no ways.
+-- The leaf that a change brings finds a place in the ways of a cuckoo table; other tables have no
+-- ways.
 abbrev pub finds_place : Option Leaf → Shape → Bool
 finds_place None shape = true
 finds_place (Some leaf) (Cuckoo rules ways) = is_placed (placed_leaf rules ways leaf)
@@ -55,8 +56,8 @@ work_of m invalidated = record {
   invalidated = invalidated;
 }
 
--- A change is made; or there is no room, and nothing changes; or there is no place in the ways, and the
--- forced growths stay.
+-- A change is made; or there is no room, and nothing changes; or there is no place in the ways, and
+-- the forced growths stay.
 pub data Verdict : Type 0 where
   Made : Verdict
   NoSpace : Verdict
@@ -123,39 +124,40 @@ fence_answer to t = entries_in t.caches - entries_in (caches_fenced to t.caches)
 unfoldable pub table_fenced : Reach → TableState → TableState
 table_fenced to t = record t { caches = caches_fenced to t.caches }
 
--- A call answers a change as the definitions do, and leaves the table that they leave.
+-- The result of a change is that of the definitions, and so is the table after it.
 pub record IsChange (c : Change) (old : TableState) (result : Result Work Refused) (new : TableState) : Type 0 where
   pub answer : result ≡ table_answer c old
   pub after : new ≡ table_after c old
 
--- A call answers a walk as the definitions do, and leaves the table that they leave.
+-- The result of a walk is that of the definitions, and so is the table after it.
 pub record IsWalk (space page : ℕ) (old : TableState) (result : Walk) (new : TableState) : Type 0 where
   pub answer : result ≡ walk_answer space page old
   pub after : new ≡ table_walked space page old
 
--- The walk of a page that a quick walk tells.
+-- The walk of a page by the result of a quick walk.
 abbrev pub walk_told : ℕ → ℕ → QuickWalk → Walk
 walk_told space page (quick.Small word cache_hits) = record { leaf = Some (small_leaf space page word); cache_hits = cache_hits }
 walk_told space page (quick.Any walk) = walk
 
--- A call answers a walk as the definitions do, where a leaf of 4 KiB may come as its word.
+-- The same, where a leaf of 4 KiB may be returned as its word.
 abbrev pub IsQuickWalk : ℕ → ℕ → TableState → QuickWalk → TableState → Type 0
 IsQuickWalk space page old result new = IsWalk space page old (walk_told space page result) new
 
--- A walk as the definitions have it, which began at a node that a cache held, or else at the root, and found a leaf
--- of 4 KiB that has this word and allows an access of this kind.
+-- A walk as the definitions have it, which began at a node that a cache held, or else at the root,
+-- and found a leaf of 4 KiB that has this word and allows an access of this kind.
 pub record IsAllowedWalk (space page : ℕ) (kind : Kind) (cached : Bool) (word : ℕ) (old new : TableState) : Type 0 where
   pub walks : IsWalk space page old (record { leaf = Some (small_leaf space page word); cache_hits = one_if cached }) new
   pub allowed : allows (perm_at word) kind ≡ true
 
--- A walk of the page finds what it did before, and leaves the same: at most its own node was touched in a cache.
+-- A walk of the page finds what it did before, and leaves the same: at most its own node was
+-- touched in a cache.
 pub record IsSameWalk (space page : ℕ) (old new : TableState) : Type 0 where
   pub leaves : new.leaves ≡ old.leaves
   pub shape : new.shape ≡ old.shape
   pub loads : new.loads ≡ old.loads
   pub walked_is : walked new.shape new.caches new.leaves space page ≡ walked old.shape old.caches old.leaves space page
 
--- A call answers a fence as the definitions do, and leaves the table that they leave.
+-- The result of a fence is that of the definitions, and so is the table after it.
 pub record IsFence (to : Reach) (old : TableState) (result : ℕ) (new : TableState) : Type 0 where
   pub answer : result ≡ fence_answer to old
   pub after : new ≡ table_fenced to old

@@ -10,7 +10,7 @@ use Rattle.xl_model.specs.declared.work.Work.{Work}
 use Rattle.xl_model.specs.Base.{plus}
 use Rattle.xl_model.specs.Tlb.{TlbArray, Answer, hits_at, misses_at}
 
--- All counts are 0, of a row with so many arrays.
+-- All counts are 0, of a row with this number of arrays.
 unfoldable pub no_counts : ℕ → Counts
 no_counts arrays = record {
   accesses = 0;
@@ -80,7 +80,7 @@ unfoldable pub count_walk : ℕ → ℕ → Counts → Counts
 count_walk reads cache_hits c =
     record c { walks = plus c.walks 1; reads = plus c.reads reads; wc_hits = plus c.wc_hits cache_hits }
 
--- So many fills of arrays more.
+-- These fills of arrays more.
 unfoldable pub count_fills : ℕ → Counts → Counts
 count_fills fills c = record c { fills = plus c.fills fills }
 
@@ -116,7 +116,7 @@ count_work w c = record c {
 unfoldable pub count_accepted : Counts → Counts
 count_accepted c = record c { accepted = plus c.accepted 1 }
 
--- So many entries more that left by a purge or a fence.
+-- n entries more that left by a purge or a fence.
 unfoldable pub count_invalidated : ℕ → Counts → Counts
 count_invalidated n c = record c { invalidated = plus c.invalidated n }
 

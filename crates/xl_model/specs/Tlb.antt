@@ -32,7 +32,7 @@ takes_order spec order.G1 = spec.g1
 abbrev pub set_number : TlbSpec → Order → ℕ → ℕ
 set_number spec o page = page / pages_of o % spec.sets
 
--- The leaves of the set in which a leaf of this order that covers the page would stand.
+-- The leaves of the set in which a leaf of this order that covers the page would be.
 abbrev pub set_at : TlbArray → Order → ℕ → List Leaf
 set_at a o page = slice_index_or a.sets (set_number a.spec o page) []
 
@@ -69,7 +69,8 @@ unfoldable pub array_touched : ℕ → ℕ → Leaf → TlbArray → TlbArray
 array_touched space page leaf a =
     with_set a (set_number a.spec leaf.order page) (touched (covers_as space page leaf.order) (set_at a leaf.order page))
 
--- A leaf in front of its set, which keeps as many as the width says, where the array takes its order.
+-- A leaf in front of its set, which keeps as many as the width says, where the array takes its
+-- order.
 abbrev pub filled_where : Bool → Leaf → TlbArray → TlbArray
 filled_where true leaf a =
     with_set a (set_number a.spec leaf.order leaf.first) (with_newest a.spec.width leaf (set_at a leaf.order leaf.first))
@@ -93,26 +94,27 @@ serves_as serves.Data kind.Store = true
 abbrev pub serves_kind : Kind → TlbArray → Bool
 serves_kind k a = serves_as a.spec.serves k
 
--- What an array answers to an access of this kind: the leaf that hits, where it serves such accesses.
+-- The leaf in an array that an access of this kind hits, where the array serves such accesses.
 abbrev pub asked : Kind → TlbArray → ℕ → ℕ → Option Leaf
 asked k a space page = where_taken (serves_kind k a) (array_hit a space page)
 
--- The arrays stand in rising level; the first that answers an access answers for all.
+-- The arrays are in rising level; the first that an access hits gives its reply.
 pub record Answer : Type 0 where
   pub leaf : Leaf
   pub level : ℕ
 
--- The answer of an array that hits, or else that of those behind it.
+-- The answer of an array that hits, or else that of those after it.
 abbrev pub answered_by : Option Leaf → ℕ → Option Answer → Option Answer
 answered_by (Some leaf) level next = Some (record { leaf = leaf; level = level })
 answered_by None level next = next
 
--- The first array that answers an access of this kind, with its level.
+-- The first array that an access of this kind hits, with its level.
 abbrev pub answer_of : Kind → List TlbArray → ℕ → ℕ → Option Answer
 answer_of k [] space page = None
 answer_of k (a ∷ arrays) space page = answered_by (asked k a space page) a.spec.level (answer_of k arrays space page)
 
--- arrays of the levels up to the one that answered, or of all levels, are looked at, where they serve the access
+-- arrays of the levels up to the one that hit, or of all levels, are looked at, where they serve
+-- the access
 abbrev pub is_looked : Kind → Option Answer → TlbArray → Bool
 is_looked k None a = serves_kind k a
 is_looked k (Some answer) a = serves_kind k a && nat_le a.spec.level answer.level
@@ -125,17 +127,17 @@ hits_at k answer space page a = is_looked k answer a && is_some (array_hit a spa
 abbrev pub misses_at : Kind → Option Answer → ℕ → ℕ → TlbArray → Bool
 misses_at k answer space page a = is_looked k answer a && not (is_some (array_hit a space page))
 
--- An array that serves the access is filled where its level is lower than the one that answers.
+-- An array that serves the access is filled where its level is lower than the one that hit.
 abbrev pub filled_below : Kind → ℕ → Leaf → TlbArray → TlbArray
 filled_below k level leaf a = if serves_kind k a && nat_lt a.spec.level level then array_filled leaf a else a
 
--- The first array that answers is touched, and those behind it stay.
+-- The first array that hits is touched, and those after it stay.
 abbrev pub touched_or : Option Leaf → ℕ → ℕ → TlbArray → List TlbArray → List TlbArray → List TlbArray
 touched_or (Some leaf) space page a arrays before = array_touched space page leaf a ∷ arrays
 touched_or None space page a arrays before = before
 
--- The arrays after a hit: those before the array that answered are filled where they serve the access and their
--- level is a lower one, and that array is touched.
+-- The arrays after a hit: those before the array that hit are filled where they serve the access
+-- and their level is a lower one, and that array is touched.
 unfoldable pub arrays_hit : Kind → Answer → ℕ → ℕ → List TlbArray → List TlbArray
 arrays_hit k answer space page [] = []
 arrays_hit k answer space page (a ∷ arrays) =
@@ -146,7 +148,8 @@ arrays_hit k answer space page (a ∷ arrays) =
 abbrev pub fills_array : Kind → ℕ → Leaf → TlbArray → Bool
 fills_array k level leaf a = serves_kind k a && (nat_lt a.spec.level level && takes_order a.spec leaf.order)
 
--- An array after a walk that an access of this kind made: it is filled where it serves such accesses.
+-- An array after a walk that an access of this kind made: it is filled where it serves such
+-- accesses.
 abbrev pub filled_for : Kind → Leaf → TlbArray → TlbArray
 filled_for k leaf a = if serves_kind k a then array_filled leaf a else a
 
@@ -158,7 +161,7 @@ arrays_filled k leaf arrays = map (filled_for k leaf) arrays
 abbrev pub takes_leaf : Kind → Leaf → TlbArray → Bool
 takes_leaf k leaf a = serves_kind k a && takes_order a.spec leaf.order
 
--- what a purge removes: the leaf as it stood before, all leaves of its space, or all
+-- what a purge removes: the leaf as it was before, all leaves of its space, or all
 abbrev pub is_purged : Purge → Leaf → Leaf → Bool
 is_purged purge.Page old leaf = is_leaf old.space old.first old.order leaf
 is_purged purge.Space old leaf = leaf.space == old.space
@@ -171,11 +174,11 @@ reaches_leaf (reach.Space s) leaf = leaf.space == s
 reaches_leaf (reach.Addr page) leaf = covers leaf.space page leaf
 reaches_leaf (reach.Page s page) leaf = covers s page leaf
 
--- An array without the leaves that meet a test.
+-- An array without the leaves that pass a test.
 abbrev pub array_without : (Leaf → Bool) → TlbArray → TlbArray
 array_without p a = record a { sets = map (purged p) a.sets }
 
--- The arrays without the leaves that meet a test.
+-- The arrays without the leaves that pass a test.
 unfoldable pub arrays_without : (Leaf → Bool) → List TlbArray → List TlbArray
 arrays_without p arrays = map (array_without p) arrays
 

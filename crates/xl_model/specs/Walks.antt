@@ -16,13 +16,13 @@ use Rattle.xl_model.specs.Ranges.{ranges_of, holds_page, range_reads}
 use Rattle.xl_model.specs.Shapes.{Shape, Radix, Chained, Cuckoo, Runs, CuckooWays, ways_of}
 use Rattle.xl_model.specs.Caches.{Caches, NodeCaches, SectionCaches, RangeCache, Cached, Numbered}
 
--- what a walk comes to: its loads, its cache hits, and the caches after it
+-- the result of a walk: its loads, its cache hits, and the caches after it
 pub record Walked : Type 0 where
   pub reads : ℕ
   pub cache_hits : ℕ
   pub caches : Caches
 
--- A cache whose newest item that meets a test is in front.
+-- A cache whose newest item that passes a test is in front.
 abbrev pub with_touch : {A : Type 0} → (A → Bool) → Cached A → Cached A
 with_touch p c = record c { items = touched p c.items }
 
@@ -34,7 +34,8 @@ with_fill x c = record c { items = with_newest c.width x c.items }
 abbrev pub is_tag : ℕ → ℕ → Numbered → Bool
 is_tag space prefix e = (e.node.space == space) && (e.node.prefix == prefix)
 
--- the least level, from this one on, whose cache holds the page's node; else the level past them all, the root's
+-- the least level, from this one on, whose cache holds the page's node; else the level past them
+-- all, the root's
 abbrev pub start_level : ℕ → ℕ → ℕ → List (Cached Numbered) → ℕ
 start_level level space page [] = level
 start_level level space page (c ∷ cs) =
@@ -66,7 +67,8 @@ node_caches_after level start found space page nodes [] = []
 node_caches_after level start found space page nodes (c ∷ cs) =
     node_cache_after level start found space page nodes c ∷ node_caches_after (level + 1) start found space page nodes cs
 
--- A walk that began at a level: a load for each level down to where the path ends, and a hit unless it began at the root.
+-- A walk that began at a level: a load for each level down to where the path ends, and a hit unless
+-- it began at the root.
 abbrev pub radix_walk_from : ℕ → ℕ → Option Leaf → List Leaf → List (Option Node) → List (Cached Numbered) → ℕ → ℕ → Walked
 radix_walk_from levels start found leaves nodes cs space page = record {
   reads = start - end_level (levels - 1) 0 space page leaves + 1;
@@ -74,12 +76,13 @@ radix_walk_from levels start found leaves nodes cs space page = record {
   caches = NodeCaches (node_caches_after 0 start found space page nodes cs);
 }
 
--- Hashed and clustered. An order is tried by its chain, up to and with the order of the page's leaf; a
--- clustered table reads one line more where the block is found.
+-- Hashed and clustered. An order is tried by its chain, up to and with the order of the page's
+-- leaf; a clustered table reads one line more where the block is found.
 abbrev pub slot_read : ℕ → Bool → ℕ
 slot_read group found = if group == 1 then 0 else one_if found
 
--- The loads of a search for a tag: its bucket's head, the entries examined, and a slot where there are slots.
+-- The loads of a search for a tag: its bucket's head, the entries examined, and a slot where there
+-- are slots.
 abbrev pub chain_reads : ℕ → ℕ → List ℕ → ℕ → ℕ
 chain_reads group buckets tags tag =
     1 + (examined tag (chain_of buckets (bucket_of buckets tag) tags) + slot_read group (has_tag tags tag))
@@ -101,8 +104,8 @@ chains_reads group buckets tags space page [] = 0
 chains_reads group buckets tags space page (o ∷ os) =
     chain_reads group buckets tags (tag_of group space o page) + chains_reads group buckets tags space page os
 
--- Cuckoo. The orders left possible by the cached sections of the page are probed: one way alone where a
--- cached section is the leaf of that order, else every way.
+-- Cuckoo. The orders left possible by the cached sections of the page are probed: one way alone
+-- where a cached section is the leaf of that order, else every way.
 abbrev pub leaves_possible : Option Section → Order → Bool
 leaves_possible None o = true
 leaves_possible (Some s) o = holds s o
@@ -112,13 +115,14 @@ abbrev pub is_leaf_section : Order → Option Section → Bool
 is_leaf_section o None = false
 is_leaf_section o (Some s) = holds s o
 
--- A cached section tells the way of this order's leaf.
+-- A cached section says the way of this order's leaf.
 abbrev pub way_known : Order → Option Section → Option Section → Bool
 way_known order.K4 m2 g1 = false
 way_known order.M2 m2 g1 = is_leaf_section order.M2 m2
 way_known order.G1 m2 g1 = is_leaf_section order.G1 g1
 
--- How many ways of an order are probed: none where a cached section rules it out, one where the way is known, else all.
+-- How many ways of an order are probed: none where a cached section rules it out, one where the way
+-- is known, else all.
 abbrev pub probes : ℕ → Option Section → Option Section → Order → ℕ
 probes count m2 g1 o =
     if leaves_possible m2 o && leaves_possible g1 o then (if way_known o m2 g1 then 1 else count) else 0
@@ -151,7 +155,7 @@ cuckoo_walk_by hit2 hit1 found leaves ways m2 g1 space page = record {
       (section_after order.G1 space page leaves ways (is_some found) hit1 g1);
 }
 
--- Range. The newest cached range that holds the page answers without a load.
+-- Range. A hit in the newest cached range that holds the page needs no load.
 abbrev pub with_range : Option Range → Cached Range → Cached Range
 with_range None c = c
 with_range (Some r) c = with_fill r c

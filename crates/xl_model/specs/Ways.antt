@@ -24,7 +24,7 @@ slot r way key = slot_at r (way_hash way key)
 abbrev pub has_key : ℕ → Entry → Bool
 has_key key e = e.key == key
 
--- the entry that stands in the key's slot
+-- the entry that is in the key's slot
 unfoldable pub occupant : WayShape → ℕ → Option Entry
 occupant w key = find (λ e. slot w.regs w.number e.key == slot w.regs w.number key) w.entries
 
@@ -43,7 +43,7 @@ abbrev pub without_occupant : Option Entry → List Entry → List Entry
 without_occupant None es = es
 without_occupant (Some e) es = without_key e.key es
 
--- the way with this entry in its slot; the entry that stood there is out
+-- the way with this entry in its slot; the entry that was there is out
 unfoldable pub swapped : WayShape → Entry → WayShape
 swapped w x = record w { entries = with_entry x (without_occupant (occupant w x.key) w.entries) }
 
@@ -73,7 +73,7 @@ abbrev pub regs_after : ℕ → WayRegs → WayRegs
 regs_after n r =
     if n == slots_left r then record { s = r.s + 1; p = 0; growing = false } else record r { p = r.p + n }
 
--- A way that migrated so many slots more.
+-- A way that migrated n slots more.
 unfoldable pub advanced : ℕ → WayShape → WayShape
 advanced n w = record w { regs = regs_after n w.regs }
 

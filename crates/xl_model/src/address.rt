@@ -24,7 +24,7 @@ impl Mode {
     }
 }
 
-/// The size of a leaf: 4 KiB, 2 MiB or 1 GiB, which are 2^0, 2^9 and 2^18 pages.
+/// The size of a leaf (the page size): 4 KiB, 2 MiB or 1 GiB, which are 2^0, 2^9 and 2^18 pages.
 #[derive(Clone, Copy, Debug, PartialEq, Eq)]
 pub enum Order {
     K4,
@@ -51,7 +51,7 @@ impl Order {
         4096 * self.pages()
     }
 
-    /// The level of a radix table at which a leaf of this order stands.
+    /// The level of a radix table at which a leaf of this order is.
     pub fn level(&self) -> usize
         ensures { result ≡ level_of self.now }
     {
@@ -84,7 +84,7 @@ pub fn canonical(mode: Mode, va: u64) -> bool
     }
 }
 
-/// The number of the page of `va` in `mode`.
+/// The number of the page of `va` in `mode` (the VPN).
 #[tactic(auto, unfolding(crate::specs::Addresses::page_of))]
 pub fn page_of(mode: Mode, va: u64) -> u64
     ensures { result ≡ page_number mode va }

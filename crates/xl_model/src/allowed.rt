@@ -8,9 +8,9 @@ use crate::address::Kind;
 use crate::leaf_word::perm_code;
 use crate::perm::Perm;
 
-/// Which permissions allow an access of this kind: a bit for each of their sixteen codes, and all of them
-/// twice, so that a processor takes five bits of a word as it shifts. Which kind comes next can't be
-/// foretold, so the mask is looked up.
+/// Which permissions allow an access of this kind: a bit for each of their sixteen codes, and all
+/// of them twice, so that a processor takes five bits of a word as it shifts. Which kind comes next
+/// can't be predicted, so the mask is looked up.
 fn allowed_codes(kind: Kind) -> u32
     ensures { (code : ℕ) → code < 32
         → (result / 2 ^ code % 2 == 1) ≡ is_allowed (perm_at code) kind }

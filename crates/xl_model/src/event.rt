@@ -75,7 +75,7 @@ pub enum Refusal {
     WayAtCap,
 }
 
-/// What an event came to: an access is replied to, a command is done or refused.
+/// The result of an event: an access has a reply, a command is done or refused.
 #[derive(Clone, Copy, Debug, PartialEq, Eq)]
 pub enum Outcome {
     Replied(Reply),

@@ -10,8 +10,8 @@ pub enum InputFault {
     ConfigTooLong,
     /// The configuration is no TOML document.
     ConfigNotToml,
-    /// The first key of the configuration that breaks a rule; rows are numbered from 1, and 0 is the
-    /// document.
+    /// The first key of the configuration that breaks a rule; rows are numbered from 1, and 0 is
+    /// the document.
     ConfigKey { row: u32, key: u8, rule: u8 },
     /// The script has more than 1,048,576 bytes.
     ScriptTooLong,

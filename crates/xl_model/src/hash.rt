@@ -3,7 +3,7 @@
 ghost use Rattle.std.specs.Prelude.{◌≡◌, ◌<◌, ◌%◌};
 ghost use Rattle.xl_model.specs.Hashes.{mix as mixed, way_hash as hashed};
 
-/// `x` mixed, so that each bit of it moves about half of the bits of the answer.
+/// `x` mixed, so that each bit of it moves about half of the bits of the result.
 #[tactic(auto, unfolding(crate::specs::Hashes::mix))]
 pub fn mix(x: u64) -> u64
     ensures { result ≡ mixed x }

@@ -5,8 +5,8 @@ ghost use Rattle.std.specs.Prelude.{◌≡◌};
 use crate::address::Order;
 use crate::perm::Perm;
 
-/// A leaf of a mapping: the pages of `space` from `first` on, as many as `order` says, stand in as
-/// many data frames from `frame` on.
+/// A leaf of a mapping: the pages of `space` (the ASID) from `first` (a VPN) on, as many as `order`
+/// (the page size) says, are in as many data frames from `frame` (a PPN) on.
 #[derive(Clone, Copy, Debug, PartialEq, Eq)]
 pub struct Leaf {
     pub space: u16,
@@ -17,8 +17,8 @@ pub struct Leaf {
 }
 
 impl Leaf {
-    /// The same leaf, put together field by field. A leaf that comes back from a call is read so where
-    /// it also comes from elsewhere: the other one needn't stand in memory then.
+    /// The same leaf, put together field by field, for a leaf that a call returned: it then needn't
+    /// be in memory where it joins one from elsewhere.
     #[inline(always)]
     pub fn by_fields(self) -> Leaf
         ensures { result ≡ self }
@@ -45,7 +45,7 @@ pub struct Range {
     pub perm: Perm,
 }
 
-/// The answer to an access: the data frame of its page, or why there is none.
+/// The reply to an access: the data frame of its page, or why there is none.
 #[derive(Clone, Copy, Debug, PartialEq, Eq)]
 pub enum Reply {
     Frame(u64),

@@ -1,5 +1,5 @@
-//! The types that every part of `xlate` speaks of: addresses, leaves, commands, rows and counts.
-//! The definitions that contracts cite stand in `specs/`.
+//! The types that all parts of `xlate` share: addresses, leaves, commands, rows and counts.
+//! The definitions that contracts cite are in `specs/`.
 #![tactic(auto)]
 
 mod address;

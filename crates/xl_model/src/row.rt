@@ -8,8 +8,8 @@ ghost use Rattle.xl_model.specs.declared.row.Serves.TheVariants.{All};
 use crate::address::{Kind, Mode};
 use arrayvec::{ArrayString, ArrayVec};
 
-/// What an accepted unmap, protect or move removes from the TLB arrays: the leaf as it stood before,
-/// all leaves of its space, or all.
+/// The purge, which is the TLB invalidation by a change itself: what an accepted unmap, protect or
+/// move removes from the TLB arrays. The leaf as it was before, all leaves of its space, or all.
 #[derive(Clone, Copy, Debug, PartialEq, Eq)]
 pub enum Purge {
     Page,
@@ -59,8 +59,8 @@ impl Serves {
     }
 }
 
-/// A TLB array: its level from 1, its sets, the ways of each set, the orders that it holds, and the accesses
-/// that it serves.
+/// A TLB array: its level from 1, its sets, the ways of each set, the orders that it holds, and the
+/// accesses that it serves.
 #[derive(Clone, Copy, Default)]
 pub struct TlbSpec {
     pub level: u8,
@@ -120,8 +120,9 @@ pub struct Row {
 }
 
 /// The counts of a row, each modulo 2^64. `refused` has refusals 1 to 9 in order; `hits` and
-/// `misses` have one place per TLB array, and are 0 from `arrays` on, which is their number. Counts that rise
-/// together don't stand side by side: LLVM would take both as one vector, at twice the instructions.
+/// `misses` have one place per TLB array, and are 0 from `arrays` on, which is their number. Counts
+/// that rise together aren't side by side: LLVM would take both as one vector, at twice the
+/// instructions.
 #[derive(Clone, Copy, Default)]
 pub struct Counts {
     pub accesses: u64,

@@ -1,12 +1,12 @@
-//! The lines of a script, and the items that a script and a trace come to.
+//! The lines of a script, and the items of a script and a trace.
 
 use crate::address::{Kind, Order};
 use crate::event::{Event, Scope};
 use crate::perm::Perm;
 
-/// An area whose pages are mapped on demand: an access to one of them that no leaf covers is followed
-/// by a map of a leaf of `order` with `perm`. Its pages are the `pages` pages of 4 KiB from `page` on,
-/// numbered by address / 4096.
+/// An area whose pages are mapped on demand: an access to one of them that no leaf covers is
+/// followed by a map of a leaf of `order` with `perm`. Its pages are the `pages` pages of 4 KiB
+/// from `page` on, numbered by address / 4096.
 #[derive(Clone, Copy)]
 pub struct Area {
     pub space: u16,
@@ -16,8 +16,8 @@ pub struct Area {
     pub perm: Perm,
 }
 
-/// A line of a script. Where it has `n`, it stands for `n` events, whose blocks follow one another from
-/// the address on.
+/// A line of a script. With `n` it is `n` events, whose blocks follow one another from the address
+/// on.
 #[derive(Clone, Copy)]
 pub enum Command {
     Map {
@@ -64,7 +64,8 @@ pub enum Command {
     RunRest,
 }
 
-/// What a row is served: an event of a command, an area, or an access with the number of its record.
+/// What a row is served: an event of a command, an area, or an access with the number of its
+/// record.
 #[derive(Clone, Copy)]
 pub enum Item {
     Command(Event),

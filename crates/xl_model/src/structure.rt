@@ -11,12 +11,13 @@ use crate::leaf::Leaf;
 use crate::perm::Perm;
 use crate::work::{QuickWalk, Refused, Walk, Work};
 
-/// A table of a row: what holds the leaves of its mapping and answers walks. Contracts see it as its
+/// A table of a row: holds the leaves of its mapping, and is walked. Contracts see it as its
 /// `table`: the leaves, sorted by space and first page, the shape, the walk caches and the loads.
 ///
-/// Only `walk` changes the loads. A refused change leaves the leaves and the caches, and of the shape
-/// all but the growths that a cuckoo table was forced to. After a change that is made exactly the
-/// entries of the precise purge have left the caches, and `Work` tells how many. No call allocates.
+/// Only `walk` changes the loads. A refused change leaves the leaves and the caches, and of the
+/// shape all but the growths that a cuckoo table was forced to. After a change that is made exactly
+/// the entries of the precise purge have left the caches, and `Work` says how many. No call
+/// allocates.
 pub trait Structure: Drop {
     ghost table: { Self → TableState };
 
@@ -30,8 +31,8 @@ pub trait Structure: Drop {
         requires { IsPage (table self.now).shape space page }
         ensures { result ≡ leaf_at_page space page (table self.now).leaves };
 
-    /// Adds a leaf that no leaf meets. Refused where there is no room, and then where every way of a
-    /// cuckoo table is at its cap.
+    /// Adds a leaf that overlaps no other. Refused where there is no room, and then where every way
+    /// of a cuckoo table is at its cap.
     fn insert(&mut self, leaf: Leaf) -> Result<Work, Refused>
         requires valid { IsLeafFor (table self.old).shape leaf }
         requires free { meets_any leaf.space leaf.first leaf.order (table self.old).leaves ≡ false }
@@ -49,8 +50,9 @@ pub trait Structure: Drop {
         ensures changes { IsChange (Protect space first order perm) (table self.old) result
             (table self.new) };
 
-    /// Moves a leaf that is there to the page `to`, where no leaf meets it, with its frame and
-    /// permission. Refused as `insert`, judged with both leaves there, and for ranges on the result too.
+    /// Moves a leaf that is there to the page `to`, where no leaf overlaps it, with its frame and
+    /// permission. Refused as `insert`, judged with both leaves there, and for ranges on the result
+    /// too.
     fn relocate(&mut self, space: u16, first: u64, to: u64, order: Order) -> Result<Work, Refused>
         requires there { IsNamed space first order (table self.old).leaves }
         requires valid { IsBlock (table self.old).shape space to order }
@@ -58,14 +60,13 @@ pub trait Structure: Drop {
         ensures changes { IsChange (Relocate space first to order) (table self.old) result
             (table self.new) };
 
-    /// The leaf that covers the page, found by a walk, with the cache hits of the walk. The loads rise
-    /// by those of the walk, and the caches are touched and filled.
+    /// The leaf that covers the page, found by a walk, with the cache hits of the walk. The loads
+    /// rise by those of the walk, and the caches are touched and filled.
     fn walk(&mut self, space: u16, page: u64) -> Walk
         requires { IsPage (table self.old).shape space page }
         ensures walks { IsWalk space page (table self.old) result (table self.new) };
 
-    /// Does what `walk` does. A leaf of 4 KiB may come as its word, which costs less to put together and
-    /// to go on with.
+    /// Like `walk`. A leaf of 4 KiB may be returned as its word, which costs less.
     fn quick_walk(&mut self, space: u16, page: u64) -> QuickWalk
         requires { IsPage (table self.old).shape space page }
         ensures walks { IsQuickWalk space page (table self.old) result (table self.new) }
@@ -75,9 +76,9 @@ pub trait Structure: Drop {
         }
     }
 
-    /// Does what `walk` does, where that is soon done: where `cached`, the walk begins at a node that the lowest cache
-    /// holds, else there is no cache; and the page's leaf is one of 4 KiB that allows an access of this kind. Gives the
-    /// leaf's word. None says nothing, and a walk of the page is then what it was.
+    /// Fast path of `walk`. Where `cached`, it begins at a level-0 node in the lowest cache, else
+    /// there is no cache; only for a 4 KiB leaf that permits `kind`. Returns the leaf's word.
+    /// `None`: not taken, and a walk of the page has the result that it had.
     #[inline(always)]
     fn walk_allowed(&mut self, _space: u16, _page: u64, _kind: Kind, _cached: bool) -> Option<u64>
         requires { IsPage (table self.old).shape _space _page }
@@ -89,7 +90,7 @@ pub trait Structure: Drop {
         None
     }
 
-    /// Removes from the caches what a fence reaches, and tells how many entries left.
+    /// Removes from the caches what a fence reaches, and says how many entries left.
     fn fence(&mut self, reach: Reach) -> u64
         ensures fences { IsFence reach (table self.old) result (table self.new) };
 

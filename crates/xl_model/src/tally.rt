@@ -29,7 +29,7 @@ impl Refusal {
 }
 
 impl Counts {
-    /// All counts 0, for a row with so many TLB arrays.
+    /// All counts 0, for a row with this number of TLB arrays.
     #[tactic(auto, unfolding(crate::specs::Tally::no_counts))]
     pub fn none(arrays: usize) -> Counts
         ensures { result ≡ no_counts arrays }
@@ -125,7 +125,7 @@ impl Counts {
         self.accepted = self.accepted.wrapping_add(1);
     }
 
-    /// Counts entries that left the arrays and walk caches.
+    /// Counts entries invalidated in the arrays and walk caches.
     #[tactic(auto, unfolding(crate::specs::Tally::count_invalidated))]
     pub fn invalidate(&mut self, entries: u64)
         ensures { self.new ≡ count_invalidated entries self.old }

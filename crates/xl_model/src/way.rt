@@ -1,4 +1,5 @@
-//! The registers and the entries of one way of an elastic cuckoo table (Skarlatos and others, 2020).
+//! The registers and the entries of one way of an elastic cuckoo table (Skarlatos and others,
+//! 2020).
 
 /// The registers of a way: it has `2^s` slots, of which those below the rehash pointer `p` are
 /// already in their places of `2^(s + 1)` slots while the way is growing.

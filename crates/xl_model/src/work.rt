@@ -1,4 +1,4 @@
-//! What a table answers to the machine above it.
+//! What a table returns to the machine above it.
 
 ghost use Rattle.std.specs.Prelude.{◌≡◌};
 ghost use Rattle.xl_model.specs.Placing.{no_moves};
@@ -74,8 +74,8 @@ pub struct Walk {
     pub cache_hits: u64,
 }
 
-/// What a walk of a page found, where a leaf of 4 KiB may come as its word: its frame (times 16) and its
-/// permission (four bits: read, write, execute, user).
+/// What a walk of a page found, where a leaf of 4 KiB may be returned as its word: its frame (times
+/// 16) and its permission (four bits: read, write, execute, user).
 #[derive(Clone, Copy, Debug, PartialEq, Eq)]
 pub enum QuickWalk {
     Small { word: u64, cache_hits: u64 },
@@ -83,7 +83,7 @@ pub enum QuickWalk {
 }
 
 impl QuickWalk {
-    /// The walk of the page that this tells.
+    /// The walk of the page in this result.
     #[inline(always)]
     pub fn whole(self, space: u16, page: u64) -> Walk
         ensures { result ≡ walk_told space page self }

@@ -308,7 +308,7 @@ moved-counted row rules ws old new leaves m i apart small aligned placed c = rec
         join true false d h = refl
         join false b d h = refl
 
--- a leaf that a sound insertion or move brings stands at a place of its own
+-- a leaf that a sound insertion or move brings is at a place of its own
 insert-apart : (row : Row) (leaves : List Leaf) (leaf z : Leaf) → IsMapping row leaves → IsSound row leaves (Insert leaf) → In z leaves → leaf_key z ≡ leaf_key leaf → ⊥
 insert-apart row leaves leaf z m s i e = other-key row leaves leaf.space leaf.first leaf.order z m i (first-small row leaf s.valid) s.apart e
 

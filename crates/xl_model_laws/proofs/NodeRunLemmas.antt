@@ -238,7 +238,7 @@ module _ (levels spaces : ℕ) (leaf : Leaf) (leaves : List Leaf) (numbers : Lis
           lt-true : (m n : ℕ) → m < n → (nat_lt m n && true) ≡ true
           lt-true m n less = grind (arith, nat_tests)
 
-  -- a node below the roots under which the new leaf stands has a number, or is lacked
+  -- a node below the roots under which the new leaf is has a number, or is lacked
   own : (x : Node) → x.level + 1 < levels → is_under x.space (x.level + 1) x.prefix leaf ≡ true → In x (somes numbers ++ gone)
   unfolding number_of
   own x low under =

@@ -12,7 +12,7 @@ use Rattle.xl_model.specs.Items.{run}
 use Rattle.xl_model_lemmas.specs.Members.{In}
 use Rattle.xl_model_lemmas.specs.Sections.{entries_of, tally}
 
--- an entry stands in this slot of a way
+-- an entry is in this slot of a way
 abbrev pub stands_at : WayRegs → ℕ → ℕ → Entry → Bool
 stands_at r number at e = slot r number e.key == at
 

@@ -11,14 +11,14 @@ use Rattle.xl_model.specs.Items.{run}
 use Rattle.xl_model_lemmas.specs.Members.{In}
 use Rattle.xl_model_lemmas.specs.Sections.{tally, entries_in}
 
--- each leaf of an order has its key and word in the ways, no other entry stands there, and each key
--- stands in one way alone
+-- each leaf of an order has its key and word in the ways, no other entry is there, and each key is
+-- in one way alone
 pub record AreEntriesOf (o : Order) (leaves : List Leaf) (ways : List WayShape) : Type 0 where
   pub once : (key : ℕ) → tally (has_key key) (entries_in ways) ≤ 1
   pub there : (leaf : Leaf) → In leaf leaves → leaf.order ≡ o → In (leaf_entry leaf) (entries_in ways)
   pub only : (e : Entry) → In e (entries_in ways) → (leaf : Leaf) × In leaf leaves × (leaf.order ≡ o) × (e ≡ leaf_entry leaf)
 
--- in a cuckoo row so stand the entries of each order
+-- in a cuckoo row so are the entries of each order
 abbrev pub HasEntries : List Leaf → Shape → Type 0
 HasEntries leaves (Radix levels spaces nodes) = Unit {0}
 HasEntries leaves (Chained group buckets entries tags) = Unit {0}
@@ -26,7 +26,7 @@ HasEntries leaves (Cuckoo rules ways) = (o : Order) → AreEntriesOf o leaves (w
 HasEntries leaves (Runs ranges) = Unit {0}
 
 -- After every list of items each leaf of a cuckoo row has its key in one way of its order, and no
--- other key stands there.
+-- other key is there.
 abbrev pub EachLeafHasItsKey : Type 0
 EachLeafHasItsKey =
     (row : Row) (items : List Item) → IsRow row

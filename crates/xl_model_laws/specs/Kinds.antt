@@ -37,7 +37,7 @@ AnArrayForOthersStays =
 abbrev pub arrays_for : Kind → List TlbArray → List TlbArray
 arrays_for k arrays = filter (serves_kind k) arrays
 
--- A list without what it has at the places marked false; what is behind all marks stays.
+-- A list without what it has at the places marked false; what is after all marks stays.
 abbrev pub at_places : List Bool → List ℕ → List ℕ
 at_places [] ns = ns
 at_places (b ∷ bs) [] = []

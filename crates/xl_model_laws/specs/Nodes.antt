@@ -14,8 +14,8 @@ use Rattle.xl_model_lemmas.specs.Members.{In, Once}
 abbrev pub root_of : ℕ → ℕ → Node
 root_of levels space = record { space = space; level = levels - 1; prefix = 0 }
 
--- a node that a mapping needs: the root of one of the spaces, or a node below the roots under which
--- a leaf stands
+-- a node that a mapping needs: the root of one of the spaces, or a node below the roots with a leaf
+-- under it
 abbrev pub IsNodeOf : ℕ → ℕ → List Leaf → Node → Type 0
 IsNodeOf levels spaces leaves x =
     ((space : ℕ) × (space < spaces) × (x ≡ root_of levels space))

@@ -35,7 +35,7 @@ leaves_nothing refused.NoFrames = true
 leaves_nothing refused.NoTable = true
 leaves_nothing refused.WayAtCap = false
 
--- After such a refusal, in whatever state, the run goes on as if the command had not been there:
+-- After such a refusal, in whatever state, the run continues as if the command had not been there:
 -- the outcomes of all further events are the same, and the state but for that refusal's count.
 abbrev pub ARefusalLeavesNothing : Type 0
 ARefusalLeavesNothing =

@@ -34,7 +34,8 @@ TheLowestIsTheLeast =
     (frames : ℕ) (o : Order) (leaves : List Leaf)
     → IsAnswer frames (pages_of o) leaves (lowest frames o leaves)
 
--- The reads that a row counts are the loads that were made of its table: those of the walks of its accesses.
+-- The reads that a row counts are the loads that were made of its table: those of the walks of its
+-- accesses.
 abbrev pub TheReadsAreTheLoads : Type 0
 TheReadsAreTheLoads = (row : Row) (items : List Item) → (run row items).counts.reads ≡ (run row items).table.loads
 
@@ -42,7 +43,7 @@ TheReadsAreTheLoads = (row : Row) (items : List Item) → (run row items).counts
 abbrev pub IsZeroBeyond : ℕ → List ℕ → Type 0
 IsZeroBeyond n counts = (i : ℕ) → n ≤ i → slice_index_or counts i 0 ≡ 0
 
--- Hits and misses are counted of a row's arrays alone: the places behind them are 0.
+-- Hits and misses are counted of a row's arrays alone: the places after them are 0.
 abbrev pub NothingIsCountedBeyondTheArrays : Type 0
 NothingIsCountedBeyondTheArrays =
     (row : Row) (items : List Item) → IsZeroBeyond (length row.tlb) (run row items).counts.hits

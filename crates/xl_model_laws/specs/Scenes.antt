@@ -11,24 +11,24 @@ ItemsMayBeServedInParts =
     (answers : Bool) (xs ys : List Item) (l : Live)
     → lives_after answers (xs ++ ys) l ≡ lives_after answers ys (lives_after answers xs l)
 
--- What was told stays told: items put their text behind it, whatever it is.
+-- Lines that were written stay: items add their lines after them, whatever they are.
 abbrev pub TheToldTextOnlyGrows : Type 0
 TheToldTextOnlyGrows =
     (answers : Bool) (items : List Item) (l : Live)
     → (lives_after answers items l).told ≡ l.told ++ told_by answers items l.scene
 
--- What some items tell is the beginning of what they tell with others behind them.
+-- The lines of some items are the beginning of their lines with others after them.
 abbrev pub WhatIsToldFirstStandsFirst : Type 0
 WhatIsToldFirstStandsFirst =
     (answers : Bool) (xs ys : List Item) (s : Scene)
     → told_by answers (xs ++ ys) s ≡ told_by answers xs s ++ told_by answers ys (scenes_after xs s)
 
--- What is served does not depend on what is told.
+-- What is served does not depend on which lines are written.
 abbrev pub TellingChangesNoRow : Type 0
 TellingChangesNoRow =
     (answers : Bool) (items : List Item) (l : Live) → (lives_after answers items l).scene ≡ scenes_after items l.scene
 
--- Rows that are served together come to what each comes to alone.
+-- Rows that are served together end as each ends alone.
 abbrev pub EachRowRunsByItself : Type 0
 EachRowRunsByItself =
     (items : List Item) (rows : List Row) → (scenes_after items (opening_scene rows)).rows ≡ ran_by items rows

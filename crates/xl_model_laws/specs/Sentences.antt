@@ -8,7 +8,7 @@ use Rattle.xl_model.specs.Nodes.{Node, put_first}
 use Rattle.xl_model.specs.Ranges.{same_perm, ranges_of}
 
 -- leaves of one space, order and permission, consecutive in pages and in frames from here on, and
--- so many pages of them
+-- `pages` pages of them
 abbrev pub AreConsecutive : Range → ℕ → ℕ → ℕ → List Leaf → Type 0
 AreConsecutive r start frame pages [] = pages ≡ 0
 AreConsecutive r start frame pages (x ∷ xs) =

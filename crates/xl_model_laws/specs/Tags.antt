@@ -9,7 +9,7 @@ use Rattle.xl_model.specs.Items.{run}
 use Rattle.xl_model_lemmas.specs.Members.{In, Once}
 use Rattle.std.specs.Prelude.{◌≡◌}
 
--- the tags are exactly those of the leaves, and each stands once
+-- the tags are exactly those of the leaves, and each occurs once
 pub record AreTagsOf (group : ℕ) (leaves : List Leaf) (tags : List ℕ) : Type 0 where
   pub once : Once tags
   pub there : (leaf : Leaf) → In leaf leaves → In (leaf_tag group leaf) tags
@@ -37,8 +37,9 @@ HasTagsWith leaf leaves (Chained group buckets entries tags) =
 HasTagsWith leaf leaves (Cuckoo rules ways) = Unit {0}
 HasTagsWith leaf leaves (Runs ranges) = Unit {0}
 
--- After every list of items the tags that room for a leaf counts in a hashed or clustered table are those of its leaves
--- and of the new one, each once: the leaves of a hashed table, the blocks of a clustered one.
+-- After every list of items the tags that room for a leaf counts in a hashed or clustered table are
+-- those of its leaves and of the new one, each once: the leaves of a hashed table, the blocks of a
+-- clustered one.
 abbrev pub RoomIsForAllTags : Type 0
 RoomIsForAllTags =
     (row : Row) (items : List Item) (leaf : Leaf)

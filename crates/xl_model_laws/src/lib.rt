@@ -1,5 +1,5 @@
 //! Laws of the definitions: what holds of every run of a row, and that the definitions are the
-//! sentences that they stand for. No function here does anything: each is there for its clause.
+//! sentences above them. No function here does anything: each is there for its clause.
 #![tactic(auto)]
 
 ghost use Rattle.xl_model_laws.specs.Fresh.{NothingIsStale};
@@ -78,22 +78,22 @@ pub fn items_may_be_served_in_parts()
     ensures { ItemsMayBeServedInParts }
 {}
 
-/// What was told stays told, and items put their text behind it.
+/// Lines that were written stay, and items add their lines after them.
 pub fn the_told_text_only_grows()
     ensures { TheToldTextOnlyGrows }
 {}
 
-/// What some items tell is the beginning of what they tell with others behind them.
+/// The lines of some items are the beginning of their lines with others after them.
 pub fn what_is_told_first_stands_first()
     ensures { WhatIsToldFirstStandsFirst }
 {}
 
-/// What is served does not depend on what is told.
+/// What is served does not depend on which lines are written.
 pub fn telling_changes_no_row()
     ensures { TellingChangesNoRow }
 {}
 
-/// Rows that are served together come to what each comes to alone.
+/// Rows that are served together end as each ends alone.
 pub fn each_row_runs_by_itself()
     ensures { EachRowRunsByItself }
 {}
@@ -128,7 +128,7 @@ pub fn room_is_for_all_nodes()
 {}
 
 /// After every list of items each leaf of a cuckoo row has its key in one way of its order, and no
-/// other key stands there.
+/// other key is there.
 pub fn each_leaf_has_its_key()
     ensures { EachLeafHasItsKey }
 {}
@@ -153,18 +153,19 @@ pub fn an_access_needs_its_arrays_alone()
     ensures { AnAccessNeedsItsArraysAlone }
 {}
 
-/// The reads that a row counts are the loads that were made of its table: those of the walks of its accesses.
+/// The reads that a row counts are the loads that were made of its table: those of the walks of its
+/// accesses.
 pub fn the_reads_are_the_loads()
     ensures { TheReadsAreTheLoads }
 {}
 
-/// Hits and misses are counted of a row's arrays alone: the places behind them are 0.
+/// Hits and misses are counted of a row's arrays alone: the places after them are 0.
 pub fn nothing_is_counted_beyond_the_arrays()
     ensures { NothingIsCountedBeyondTheArrays }
 {}
 
-/// The tags that room for a leaf counts in a hashed or clustered table are those of its leaves and of the new one, each
-/// once: the leaves of a hashed table, the blocks of a clustered one.
+/// The tags that room for a leaf counts in a hashed or clustered table are those of its leaves and
+/// of the new one, each once: the leaves of a hashed table, the blocks of a clustered one.
 pub fn room_is_for_all_tags()
     ensures { RoomIsForAllTags }
 {}

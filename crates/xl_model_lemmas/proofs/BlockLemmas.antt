@@ -12,7 +12,7 @@ use Rattle.xl_model_lemmas.specs.Members.{In}
 use Rattle.xl_model_lemmas.specs.Sections.{counts_at, of_order, IsAligned}
 use Rattle.xl_model_lemmas.proofs.SameLemmas.{same-tests, any-each, any-or, any-find}
 
--- a 1 GiB block is met by what lies in its section
+-- a 1 GiB block overlaps what lies in its section
 pub meets-g1 : (space first e : ℕ) (x : Leaf) → space < 64 → first < 2 ^ 45 → first ≡ e * 262144 → IsAligned x → meets_block space first order.G1 x ≡ counts_at order.G1 (space * 2 ^ 45 + first / 262144) x
 meets-g1 space first e x a b c s = go x.order s.aligned.0 s.aligned.1
   where
@@ -36,7 +36,7 @@ meets-g1 space first e x a b c s = go x.order s.aligned.0 s.aligned.1
         (λ t. let z : x.space * 2 ^ 45 + x.first / 262144 ≡ space * 2 ^ 45 + first / 262144 = grind (arith, nat_tests) in
         let u : x.space ≡ space = omega arith in let v : x.first < first + 262144 = omega arith in let w : first < x.first + 262144 = omega arith in grind (arith, nat_tests))
 
--- a 2 MiB block is met by what lies in its section, and by the 1 GiB leaf of its 1 GiB section
+-- a 2 MiB block overlaps what lies in its section, and the 1 GiB leaf of its 1 GiB section
 pub meets-m2 : (space first e : ℕ) (x : Leaf) → space < 64 → first < 2 ^ 45 → first ≡ e * 512 → IsAligned x
     → meets_block space first order.M2 x ≡ (counts_at order.M2 (space * 2 ^ 45 + first / 512) x || of_order order.G1 (space * 2 ^ 45 + first / 262144) order.G1 x)
 meets-m2 space first e x a b c s = go x.order s.aligned.0 s.aligned.1
@@ -62,7 +62,7 @@ meets-m2 space first e x a b c s = go x.order s.aligned.0 s.aligned.1
         (λ t. let z : x.space * 2 ^ 45 + x.first / 262144 ≡ space * 2 ^ 45 + first / 262144 = grind (arith, nat_tests) in
         let u : x.space ≡ space = omega arith in let v : x.first < first + 512 = omega arith in let w : first < x.first + 262144 = omega arith in grind (arith, nat_tests))
 
--- Whether a block is met, by the leaves that count for its sections.
+-- Whether a block overlaps a leaf, by the leaves that count for its sections.
 pub any-large : (space first e : ℕ) (leaves : List Leaf) → space < 64 → first < 2 ^ 45 → first ≡ e * 262144 → ((x : Leaf) → In x leaves → IsAligned x)
     → list_any (meets_block space first order.G1) leaves ≡ list_any (counts_at order.G1 (space * 2 ^ 45 + first / 262144)) leaves
 any-large space first e leaves a b c s =
@@ -77,7 +77,7 @@ any-middle space first e leaves a b c s =
     any-each (meets_block space first order.M2) (λ x. counts_at order.M2 k2 x || of_order order.G1 k1 order.G1 x) leaves (λ x i. meets-m2 space first e x a b c (s x i))
     ∙ any-or (counts_at order.M2 k2) (of_order order.G1 k1 order.G1) leaves
 
--- a block of one page is met by the leaf that covers it
+-- a block of one page overlaps the leaf that covers it
 pub any-page : (s f : ℕ) (xs : List Leaf) → list_any (meets_block s f order.K4) xs ≡ is_some (find (covers s f) xs)
 any-page s f xs = any-each (meets_block s f order.K4) (covers s f) xs (λ x i. page-test x) ∙ any-find (covers s f) xs
   where

@@ -40,7 +40,7 @@ first-small row x v = let a : x.first < 2 ^ 45 = first-low row x v in omega arit
 pub place-small : (row : Row) (leaves : List Leaf) (space to : ℕ) (o : Order) → IsNewPlace row leaves space to o → to < 2 ^ 52
 place-small row leaves space to o v = let a : to < 2 ^ 45 = page-low row.mode o to v.pages_in in omega arith
 
--- a leaf at the first page of a block meets it
+-- a leaf at the first page of a block overlaps it
 meets-at : (space first : ℕ) (o : Order) (x : Leaf) → x.first < 2 ^ 52 → first < 2 ^ 52 → leaf_key x ≡ space * 2 ^ 52 + first → meets_block space first o x ≡ true
 meets-at space first o x a b e =
     let p : 0 < pages_of o = pages-some o in
@@ -49,7 +49,7 @@ meets-at space first o x a b e =
     let f : x.first ≡ first = omega arith in
     grind (arith, nat_tests)
 
--- a member that meets no block at a place has another key
+-- a member that overlaps no block at a place has another key
 pub other-key : (row : Row) (leaves : List Leaf) (space first : ℕ) (o : Order) (x : Leaf) → IsMapping row leaves → In x leaves → first < 2 ^ 52
     → meets_any space first o leaves ≡ false → leaf_key x ≡ space * 2 ^ 52 + first → ⊥
 unfolding meets_any

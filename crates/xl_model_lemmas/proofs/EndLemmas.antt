@@ -15,7 +15,7 @@ use Rattle.xl_model_lemmas.specs.Mappings.{IsMapping}
 use Rattle.xl_model_lemmas.proofs.MemberLemmas.{any-In, In-any}
 use Rattle.xl_model_lemmas.proofs.PlaceLemmas.{first-covered}
 
--- a leaf that covers a page stands under each slot of the page above its level
+-- a leaf that covers a page is under each slot of the page above its level
 up-one : (e first page : ℕ) → first ≡ e * 512 → first ≤ page → page < first + 512 → page / 512 ≡ first / 512
 up-one e first page a b c = omega arith
 

@@ -29,7 +29,7 @@ pub length-front : (b : ℕ) (x : Leaf) (xs : List Leaf) → length (in_front b 
 unfolding in_front
 length-front b x xs = length-by (leaf_tag 1) b x xs
 
--- the list is kept where no leaf meets the new one
+-- the list is kept where no leaf overlaps the new one
 abbrev pub IsNew : Leaf → List Leaf → Type 0
 IsNew x xs = (y : Leaf) → In y xs → meets_block x.space x.first x.order y ≡ false
 

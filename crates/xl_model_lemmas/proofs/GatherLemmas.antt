@@ -10,7 +10,7 @@ use Rattle.xl_model_lemmas.specs.Buckets.{in_front_by, gather}
 use Rattle.xl_model_lemmas.proofs.MemberLemmas.{In-left, In-right, In-append}
 
 module _ {A : Type 0} (tag : A → ℕ) (n : ℕ) where
-  -- an item goes past the buckets below its own, and stands before the others
+  -- an item goes past the buckets below its own, and is before the others
   AllBelow : ℕ → List A → Type 0
   AllBelow b xs = (z : A) → In z xs → bucket_of n (tag z) < b
 
@@ -74,7 +74,7 @@ length-gather f b (suc n) less =
           omega (arith, length-append (gather f n) (f n), length-gather f b n l)
     ] refl
 
--- each item stands in the bucket of its tag
+-- each item is in the bucket of its tag
 pub record ArePlaced {A : Type 0} (tag : A → ℕ) (n : ℕ) (f : ℕ → List A) : Type 0 where
   pub at : (b : ℕ) (x : A) → b < n → In x (f b) → bucket_of n (tag x) ≡ b
 

@@ -46,7 +46,7 @@ hit-is a space page leaf h =
     (first-is a space page leaf (found_as a space page order.M2) (found_as a space page order.G1)
     (found-is a space page order.M2 leaf) (found-is a space page order.G1 leaf)) h
 
--- what an array answers to a kind of access, where it serves the kind
+-- the leaf in an array that a kind of access hits, where it serves the kind
 taken-is : (taken : Bool) (found : Option Leaf) (leaf : Leaf) → where_taken taken found ≡ Some leaf → found ≡ Some leaf
 taken-is true found leaf h = h
 taken-is false found leaf h = absurd (cc)

@@ -45,7 +45,7 @@ holder-set key [] at v e i = refl
 holder-set key (w ∷ ways) zero v e i = ap (λ b. cond b (Some i) (holder_from (i + 1) ways key)) e
 holder-set key (w ∷ ways) (suc at) v e i = ap (λ o. cond (is_held w key) (Some i) o) (holder-set key ways at v e (i + 1))
 
--- what was displaced stays told
+-- what was displaced stays in the log
 Told : Displaced → Attempt → Type 0
 Told d (Stands ways moved) = In d moved
 Told d Fails = Unit {0}

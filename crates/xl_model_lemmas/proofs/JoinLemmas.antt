@@ -21,7 +21,7 @@ pub lower : (low high : ℕ) (rs : List Range) → low ≤ high → IsHeld high 
 lower low high [] le h = tt
 lower low high (r ∷ rs) le (above, is, stops, rest) = (omega arith, is, stops, rest)
 
--- what begins behind a range, and lies apart from it, begins behind its end
+-- what begins after a range, and lies apart from it, begins after its end
 pub held-behind : (low : ℕ) (x : Range) (rs : List Range) → IsHeld low rs → IsClear x rs → range_key x ≤ low → IsHeld (end_key x) rs
 held-behind low x [] h clear le = tt
 held-behind low x (r ∷ rs) (above, is, stops, rest) (apart, clear) le = (elim apart [ inl a ↦ (let p : 0 < r.pages = some-pages r is in absurd (omega arith)) | inr b ↦ b ], is, stops, rest)

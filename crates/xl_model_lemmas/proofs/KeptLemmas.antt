@@ -15,7 +15,7 @@ use Rattle.xl_model_lemmas.specs.Kept.{IsPlaced, IsApart, IsKept, mapping_of}
 pub meets-sym : (x y : Leaf) → meets_block x.space x.first x.order y ≡ false → meets_block y.space y.first y.order x ≡ false
 meets-sym x y h = grind (arith, nat_tests)
 
--- leaves of one place meet
+-- leaves of one place overlap
 pub place-meets : (x y : Leaf) → IsPlaced x → IsPlaced y → leaf_key y ≡ leaf_key x → meets_block x.space x.first x.order y ≡ true
 place-meets x y a b e =
     let p : 0 < pages_of x.order = pages-some x.order in
@@ -32,7 +32,7 @@ key-apart x y a b h e = both _ (place-meets x y a b e) h
 pub kept-tail : (x : Leaf) (xs : List Leaf) → IsKept (x ∷ xs) → IsKept xs
 kept-tail x xs k = record { placed = all-tail IsPlaced x xs k.placed; apart = k.apart.1 }
 
--- members that meet are one
+-- members that overlap are one
 apart-same : (x y : Leaf) (xs : List Leaf) → IsApart xs → In x xs → In y xs → meets_block x.space x.first x.order y ≡ true → x ≡ y
 apart-same x y [] a i j h = absurd i
 apart-same x y (z ∷ zs) (none, rest) (inl e) (inl f) h = e ∙ sym f

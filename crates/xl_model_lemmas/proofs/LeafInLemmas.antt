@@ -14,7 +14,7 @@ use Rattle.xl_model_lemmas.proofs.PlaceLemmas.{named-space, named-first, named-o
 use Rattle.xl_model_lemmas.proofs.RunLemmas.{leaves-is}
 use Rattle.xl_model_lemmas.proofs.TouchLemmas.{leap, leap-none, leap-next}
 
--- Where a named leaf stands among so many leaves from one on.
+-- Where a named leaf is among n leaves from one on.
 pub record InRun (space first : ℕ) (o : Order) (n : ℕ) (l x : Leaf) : Type 0 where
   pub before : ℕ
   pub behind : ℕ
@@ -70,7 +70,7 @@ named-in space first o low x (r ∷ rs) (above, is, stops, rest) e =
       | inr f ↦ let found = named-in space first o (end_key r) x rs rest f in (found.0, inr found.1, found.2)
     ]
 
--- How many pages of a range lie before and behind a leaf of it.
+-- How many pages of a range lie before and after a leaf of it.
 pub record Sizes (first : ℕ) (o : Order) (r : Range) (before behind : ℕ) : Type 0 where
   pub some : 0 < pages_of o
   pub from : r.start ≤ first

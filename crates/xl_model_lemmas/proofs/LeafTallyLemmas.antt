@@ -10,7 +10,7 @@ use Rattle.xl_model_lemmas.specs.Sections.{tally}
 use Rattle.xl_model_lemmas.proofs.InsertionLemmas.{above-In, same-place}
 use Rattle.xl_model_lemmas.proofs.TallyLemmas.{tally-filter, tally-only}
 
--- in a sorted list no leaf stands twice
+-- in a sorted list no leaf occurs twice
 pub sorted-once : (xs : List Leaf) → IsSorted xs → Once xs
 sorted-once [] s = tt
 sorted-once (x ∷ xs) (above, rest) = (λ i. let l : leaf_key x < leaf_key x = above-In (leaf_key x) x xs above i in omega arith, sorted-once xs rest)

@@ -55,7 +55,7 @@ met at size x h = (grind (arith, nat_tests), grind (arith, nat_tests))
 unmet : (at next size : ℕ) (x : Leaf) → next ≡ at + size → x.frame < at + size → holds_frames next size x ≡ false → x.frame + pages_of x.order ≤ next
 unmet at next size x e low h = grind (arith, nat_tests)
 
--- a leaf that meets a block and not the next ends at that next block's beginning or before
+-- a leaf that overlaps a block and not the next ends at that next block's beginning or before
 ends-behind : (o : Order) (e : ℕ) (x : Leaf) → holds_frames (e * pages_of o) (pages_of o) x ≡ true
     → holds_frames (suc e * pages_of o) (pages_of o) x ≡ false → behind (pages_of o) x ≡ suc e * pages_of o
 ends-behind o e x here next =

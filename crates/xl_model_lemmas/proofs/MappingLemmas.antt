@@ -14,7 +14,7 @@ use Rattle.xl_model_lemmas.proofs.MemberLemmas.{find-In, find-passes, any-false}
 use Rattle.xl_model_lemmas.proofs.InsertionLemmas.{with-In, sorted-with, sorted-without, without-In, without-other}
 use Rattle.xl_model_lemmas.proofs.PlaceLemmas.{covers-meets, meets-covers, holds-meets, frame-shared, named-space, named-order}
 
--- a leaf that meets no other and holds no other's frame
+-- a leaf that overlaps no other and holds no other's frame
 pub kept-with : (row : Row) (x : Leaf) (xs : List Leaf) → IsMapping row xs → IsLeafOf row x
     → ((y : Leaf) → In y xs → meets_block x.space x.first x.order y ≡ true → ⊥)
     → ((y : Leaf) → In y xs → holds_frames x.frame (pages_of x.order) y ≡ true → ⊥)

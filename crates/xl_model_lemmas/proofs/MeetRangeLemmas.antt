@@ -50,7 +50,7 @@ any-spread low space f o (r ∷ rs) (above, is, stops, rest) =
     ∙ ap (λ (k : ℕ). ((r.space == space) && (nat_lt r.start (f + pages_of o) && nat_lt f (r.start + k))) || list_any (meets_block space f o) (spread rs)) e
     ∙ ap (λ (b : Bool). ((r.space == space) && (nat_lt r.start (f + pages_of o) && nat_lt f (r.start + r.pages))) || b) tail)
 
--- what no leaf meets lies apart from the ranges
+-- what no leaf overlaps lies apart from the ranges
 clear-one : (l : Leaf) (r : Range) → l.first + pages_of l.order ≤ 2 ^ 52 → IsRange r → meets_range l.space l.first (l.first + pages_of l.order) r ≡ false
     → (end_key r ≤ range_key (range_of_leaf l)) ⊎ (end_key (range_of_leaf l) ≤ range_key r)
 unfolding meets_range

@@ -97,7 +97,7 @@ not-relocated : (b e l s f to : ℕ) (o : Order) (old : Leaf) (xs : List Leaf) �
 not-relocated b e l s f to o old xs m h =
     refused b e l (Relocate s f to o) (mapping_of xs) (map (leaf_tag 1) xs) (moved-room b e s f to o old xs m ∙ no-room b e (moved to old) xs m.kept m.placed m.new h)
 
--- What the two steps of a move come to: a leaf put in at the new place is answered so, and leaves this table.
+-- The two steps of a move: a leaf put in at the new place has this result, and leaves this table.
 pub record IsMove (s f to : ℕ) (o : Order) (now : TableState) (r : Result Work Refused) (between : TableState) : Type 0 where
   pub refused : (q : Refused) → r ≡ Err q → IsChange (Relocate s f to o) now (Err q) between
   pub there : (w : Work) → r ≡ Ok w → IsNamed s f o between.leaves

@@ -30,7 +30,7 @@ module _ {A : Type 0} (eq : A → A → Bool) (is : (x y : A) → eq x y ≡ tru
         | false ↦ λ t. elim i [ inl e ↦ inl e | inr j ↦ inr (dropped-In x z ys j o) ]
       ] refl
 
-  -- members that stand once are no more than those of the list in which they all are
+  -- members that occur once are no more than those of the list in which they all are
   pub short-by : (xs ys : List A) → Once xs → ((x : A) → In x xs → In x ys) → length xs ≤ length ys
   short-by [] ys o h = omega arith
   short-by (x ∷ xs) ys (out, rest) h =

@@ -12,11 +12,11 @@ use Rattle.xl_model_lemmas.specs.HeldRanges.{next_leaf, run_on, first_leaf, spre
 use Rattle.xl_model_lemmas.proofs.OrderLemmas.{pages-some}
 use Rattle.xl_model_lemmas.proofs.RunLemmas.{leaves-is}
 
--- The leaf so many pages on.
+-- The leaf `skip` pages on.
 unfoldable leaf_off : ℕ → Leaf → Leaf
 leaf_off skip l = record l { first = l.first + skip; frame = l.frame + skip }
 
--- The pages of whole leaves among so many.
+-- The pages of whole leaves among `a`.
 unfoldable whole : ℕ → Order → ℕ
 whole a o = a / pages_of o * pages_of o
 

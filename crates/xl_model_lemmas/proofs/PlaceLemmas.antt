@@ -14,12 +14,12 @@ use Rattle.xl_model_lemmas.proofs.OrderLemmas.{pages-some, same-level}
 pub first-covered : (x : Leaf) → covers x.space x.first x ≡ true
 first-covered x = let p : 0 < pages_of x.order = pages-some x.order in grind (arith, nat_tests)
 
--- two leaves that cover one page of a space: each meets the other's block
+-- two leaves that cover one page of a space: each overlaps the other's block
 pub covers-meets : (space page : ℕ) (x y : Leaf) → covers space page x ≡ true → covers space page y ≡ true
     → meets_block x.space x.first x.order y ≡ true
 covers-meets space page x y a b = grind (arith, nat_tests)
 
--- a leaf that meets another's block covers a page with it
+-- a leaf that overlaps another's block covers a page with it
 pub meets-covers : (x y : Leaf) → meets_block x.space x.first x.order y ≡ true
     → (page : ℕ) × (covers x.space page x ≡ true) × (covers x.space page y ≡ true)
 meets-covers x y h =

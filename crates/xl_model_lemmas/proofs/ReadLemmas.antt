@@ -36,7 +36,7 @@ pub is-new : (x : Leaf) (xs : List Leaf) → IsKept xs → meets_any x.space x.f
 unfolding meets_any
 is-new x xs k free = λ y i. any-false (meets_block x.space x.first x.order) y (mapping_of xs) free (In-mapping y xs k i)
 
--- the leaf that a name stands for
+-- the leaf of a name
 pub record Named (s f : ℕ) (o : Order) (xs : List Leaf) : Type 0 where
   pub old : Leaf
   pub named : leaf_named s f o (mapping_of xs) ≡ Some old

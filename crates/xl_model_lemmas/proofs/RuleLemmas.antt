@@ -53,7 +53,7 @@ pub no-overlap : (row : Row) (leaves : List Leaf) (space va : ℕ) (o : Order) �
     → meets_any space (page_of row.mode va) o leaves ≡ false
 no-overlap row leaves space va o h = not-true _ (unless-true _ _ h)
 
--- a map's leaf stands at the lowest free block
+-- a map's leaf is at the lowest free block
 new-leaf : (row : Row) (space va : ℕ) (o : Order) (perm : Perm) (leaves : List Leaf) (at : Option ℕ) (c : Change)
     → rule row leaves (event.Map space va o perm) ≡ None → IsAnswer row.frames (pages_of o) leaves at
     → insert_at space (page_of row.mode va) o (record { space = space; first = page_of row.mode va; order = o; frame = 0; perm = perm }) at ≡ Some c

@@ -19,7 +19,7 @@ bit-same false = refl
 perm-same : (p : Perm) → same_perm p p ≡ true
 perm-same p = rw (bit-same p.r, bit-same p.w, bit-same p.x, bit-same p.u) refl
 
--- a leaf goes into a range of its kind that begins behind it
+-- a leaf goes into a range of its kind that begins after it
 pub goes-next : (n : ℕ) (l : Leaf) → goes_into l (range_from n (next_leaf l)) ≡ true
 goes-next n l =
     let o : same_order l.order l.order ≡ true = order-same l.order in

@@ -29,7 +29,7 @@ pub lives-told : (answers : Bool) (xs : List Item) (l : Live) → lives_after an
 lives-told answers xs l =
     ap (λ (t : List ℕ). lives_after answers xs (record { scene = l.scene; told = t })) (sym (append-nil l.told)) ∙ lives-beyond answers xs l.told (untold l.scene)
 
--- what is served does not depend on whether it is told
+-- what is served does not depend on whether lines are written
 same-scene : (a b : Bool) (xs : List Item) (l m : Live) → l.scene ≡ m.scene → (lives_after a xs l).scene ≡ (lives_after b xs m).scene
 same-scene a b [] l m e = e
 same-scene a b (x ∷ xs) l m e = same-scene a b xs (live_after a x l) (live_after b x m) (ap (scene_after x) e)
@@ -45,7 +45,7 @@ told-append answers xs ys s =
     ap (λ (l : Live). l.told) (lives-append answers xs ys (untold s) ∙ lives-told answers ys (lives_after answers xs (untold s)))
     ∙ ap (λ t. told_by answers xs s ++ told_by answers ys t) (scene-is answers xs (untold s))
 
--- where nothing is to be told, nothing is
+-- where no line is to be written, none is
 pub untold-stays : (xs : List Item) (l : Live) → (lives_after false xs l).told ≡ l.told
 untold-stays [] l = refl
 untold-stays (x ∷ xs) l = untold-stays xs (live_after false x l) ∙ append-nil l.told

@@ -109,7 +109,7 @@ module _ {A : Type 0} (read : A → Option Leaf) (tag : A → ℕ) (s page : ℕ
           let same : Some y.0 ≡ None = sym y.1.is ∙ k in
           absurd (cc)
 
-  -- under the tag of an order stands the page's leaf, where it is of that order
+  -- under the tag of an order is the page's leaf, where it is of that order
   pub under-is : (o : Order) → read_under read tag (tag_of 1 s o page) hs ≡ only o (find (covers s page) (leaves_read read hs))
   under-is o = go (read_under read tag (tag_of 1 s o page) hs) refl
     where

@@ -102,7 +102,7 @@ count-short size (x ∷ xs) =
       | false ↦ omega arith
     ]
 
--- Keys that stand once and are those of the sections are as many as the sections.
+-- Keys that occur once and are those of the sections are as many as the sections.
 pub count-keys : (size : Order) (leaves : List Leaf) (keys : List ℕ) → Once keys → ((k : ℕ) → In k keys → list_any (counts_at size k) leaves ≡ true)
     → ((k : ℕ) → list_any (counts_at size k) leaves ≡ true → In k keys) → length keys ≡ section_count size leaves
 count-keys size leaves keys once there back =

@@ -94,7 +94,7 @@ tally-given p s f o perm xs same =
       | false ↦ λ t. ap p (given-no s f o perm x t)
     ] refl)
 
--- a member that stands once and alone passes
+-- a member that occurs once and alone passes
 pub tally-zero : {A : Type 0} (q : A → Bool) (xs : List A) → ((z : A) → In z xs → q z ≡ true → ⊥) → tally q xs ≡ 0
 tally-zero q [] no_one = refl
 tally-zero q (x ∷ xs) no_one =

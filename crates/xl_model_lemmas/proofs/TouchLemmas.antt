@@ -50,7 +50,7 @@ pub stops-grown : (x q : Range) (rs : List Range) → Touch x q → Stops q rs �
 stops-grown x q [] t h = tt
 stops-grown x q (s ∷ ss) t h = grown-touches x q s t ∙ h
 
--- The leaf so many leaves on.
+-- The leaf n leaves on.
 unfoldable pub leap : ℕ → Leaf → Leaf
 leap n l = record l { first = l.first + n * pages_of l.order; frame = l.frame + n * pages_of l.order }
 

@@ -73,7 +73,7 @@ tally-reworded p key word (x ∷ xs) h =
     go true = refl
     go false = refl
 
--- where a key stands at most once, taking it out takes what passes of it
+-- where a key is at most once, taking it out takes what passes of it
 pub tally-key : (p : Entry → Bool) (key : ℕ) (xs : List Entry) → tally (has_key key) xs ≤ 1
     → tally p (without_key key xs) + tally (λ e. has_key key e && p e) xs ≡ tally p xs
 tally-key p key [] few = refl

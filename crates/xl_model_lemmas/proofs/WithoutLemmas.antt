@@ -69,7 +69,7 @@ pub without-all : (s f : ℕ) (o : Order) (xs : List Leaf) → ((x : Leaf) → I
 without-all s f o [] n = without-none s f o
 without-all s f o (x ∷ xs) n = without-no s f o x xs (n x (inl refl)) ∙ ap (λ ys. x ∷ ys) (without-all s f o xs (λ y i. n y (inr i)))
 
--- behind a named leaf no other has the name
+-- after a named leaf no other has the name
 pub behind : (s f : ℕ) (o : Order) (x : Leaf) (xs : List Leaf) → IsKept (x ∷ xs) → is_leaf s f o x ≡ true → (z : Leaf) → In z xs → is_leaf s f o z ≡ false
 behind s f o x xs k t z i =
     elim (is_leaf s f o z) as (λ b. is_leaf s f o z ≡ b → b ≡ false) [

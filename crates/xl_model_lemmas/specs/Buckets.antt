@@ -2,7 +2,7 @@
 use Rattle.std.specs.Prelude.{ℕ, zero, suc, nat_lt, if◌then◌else◌, List, [], ◌∷◌, ◌++◌}
 use Rattle.xl_model.specs.Chains.{bucket_of}
 
--- an item stands before the first of a bucket that isn't lower than its own
+-- an item is before the first of a bucket that isn't lower than its own
 abbrev pub in_front_by : {A : Type 0} → (A → ℕ) → ℕ → A → List A → List A
 in_front_by tag buckets x [] = x ∷ []
 in_front_by tag buckets x (y ∷ ys) =
@@ -10,7 +10,7 @@ in_front_by tag buckets x (y ∷ ys) =
     then y ∷ in_front_by tag buckets x ys
     else (x ∷ y ∷ ys)
 
--- the items of so many buckets, one bucket after another
+-- the items of n buckets, one bucket after another
 abbrev pub gather : {A : Type 0} → (ℕ → List A) → ℕ → List A
 gather bucket zero = []
 gather bucket (suc n) = gather bucket n ++ bucket n

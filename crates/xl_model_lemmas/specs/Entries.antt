@@ -15,7 +15,7 @@ unfoldable pub leaves_read : {A : Type 0} → (A → Option Leaf) → List A →
 leaves_read read [] = []
 leaves_read read (h ∷ hs) = with_some (read h) (leaves_read read hs)
 
--- an entry reads as this leaf, and stands under the leaf's tag
+-- an entry reads as this leaf, and is under the leaf's tag
 pub record IsRead {A : Type 0} (read : A → Option Leaf) (tag : A → ℕ) (h : A) (leaf : Leaf) : Type 0 where
   pub is : read h ≡ Some leaf
   pub tag_is : tag h ≡ leaf_tag 1 leaf

@@ -15,7 +15,7 @@ use Rattle.xl_model.specs.Caches.{Caches, NodeCaches, SectionCaches, RangeCache,
 use Rattle.xl_model.specs.Tlb.{TlbArray}
 use Rattle.xl_model_lemmas.specs.Members.{In}
 
--- a leaf stands in one of the sets
+-- a leaf is in one of the sets
 abbrev pub InSets : Leaf → List (List Leaf) → Type 0
 InSets leaf [] = ⊥
 InSets leaf (set ∷ sets) = In leaf set ⊎ InSets leaf sets
@@ -50,8 +50,8 @@ TagsFresh levels level leaves nodes (c ∷ cs) =
 abbrev pub has_leaves : Section → Bool
 has_leaves s = s.has_k4 || (s.has_m2 || s.has_g1)
 
--- a cached section has the mapping's bits, and the way in which its leaf's key stands; some leaf
--- lies in it
+-- a cached section has the mapping's bits, and the way in which its leaf's key is; some leaf lies
+-- in it
 pub record SectionFresh (size : Order) (leaves : List Leaf) (ways : List WayShape) (s : Section) : Type 0 where
   pub is : s ≡ section_of size s.space s.block leaves ways
   pub some : has_leaves s ≡ true

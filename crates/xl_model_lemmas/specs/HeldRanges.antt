@@ -8,11 +8,11 @@ use Rattle.xl_model.specs.Addresses.{pages_of, same_order}
 use Rattle.xl_model.specs.Ranges.{same_perm, range_of_leaf, range_key, end_key}
 use Rattle.std.proofs.Common.{Option}
 
--- The leaf behind one of its kind, next in pages and frames.
+-- The leaf after one of its kind, next in pages and frames.
 abbrev pub next_leaf : Leaf → Leaf
 next_leaf l = record l { first = l.first + pages_of l.order; frame = l.frame + pages_of l.order }
 
--- So many leaves from this one on, in front of others.
+-- n leaves from this one on, in front of others.
 abbrev pub run_on : ℕ → Leaf → List Leaf → List Leaf
 run_on zero l rest = rest
 run_on (suc n) l rest = l ∷ run_on n (next_leaf l) rest
@@ -30,7 +30,7 @@ unfoldable pub spread : List Range → List Leaf
 spread [] = []
 spread (r ∷ rs) = run_on (leaves_in r) (first_leaf r) (spread rs)
 
--- A range of so many leaves from this one on.
+-- A range of n leaves from this one on.
 abbrev pub range_from : ℕ → Leaf → Range
 range_from n l = record (range_of_leaf l) { pages = n * pages_of l.order }
 
@@ -67,7 +67,7 @@ abbrev pub IsClear : Range → List Range → Type 0
 IsClear x [] = Unit {0}
 IsClear x (r ∷ rs) = ((end_key r ≤ range_key x) ⊎ (end_key x ≤ range_key r)) × IsClear x rs
 
--- A range with the pages of the range behind it.
+-- A range with the pages of the range after it.
 abbrev pub grown : Range → Range → Range
 grown x q = record x { pages = x.pages + q.pages }
 
@@ -88,11 +88,11 @@ join x (r ∷ rs) =
 abbrev pub pages_before : ℕ → Range → ℕ
 pages_before first r = first - r.start
 
--- How many pages of a range lie behind a leaf of it.
+-- How many pages of a range lie after a leaf of it.
 abbrev pub pages_behind : ℕ → Order → Range → ℕ
 pages_behind first o r = r.start + r.pages - (first + pages_of o)
 
--- What is left of a range behind a leaf of it.
+-- What is left of a range after a leaf of it.
 abbrev pub part_behind : ℕ → Order → Range → Range
 part_behind first o r = record r {
   start = first + pages_of o;
@@ -105,7 +105,7 @@ abbrev pub before_on : ℕ → Range → List Range → List Range
 before_on zero r rest = rest
 before_on (suc n) r rest = record r { pages = suc n } ∷ rest
 
--- What is left of a range behind a leaf, in front of others, where anything is left.
+-- What is left of a range after a leaf, in front of others, where anything is left.
 abbrev pub behind_on : ℕ → Range → List Range → List Range
 behind_on zero x rest = rest
 behind_on (suc n) x rest = x ∷ rest
@@ -119,7 +119,7 @@ abbrev pub some_if : ℕ → ℕ
 some_if zero = 0
 some_if (suc n) = 1
 
--- A leaf stands in a range, so many leaves from its beginning and so many from its end.
+-- A leaf is in a range, `before` leaves from its beginning and `behind` from its end.
 pub record IsLeafIn (space first : ℕ) (o : Order) (r : Range) : Type 0 where
   pub before : ℕ
   pub behind : ℕ
@@ -152,6 +152,6 @@ abbrev pub leaf_by : ℕ → Option Range → Option Leaf
 leaf_by page None = None
 leaf_by page (Some r) = Some (leaf_in page r)
 
--- A range meets the pages of a space from one on to before another.
+-- A range overlaps the pages of a space from one on to before another.
 unfoldable pub meets_range : ℕ → ℕ → ℕ → Range → Bool
 meets_range space f e r = (r.space == space) && (nat_lt r.start e && nat_lt f (r.start + r.pages))

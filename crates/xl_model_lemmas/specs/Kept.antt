@@ -17,7 +17,7 @@ pub record IsPlaced (leaf : Leaf) : Type 0 where
   pub space_in : leaf.space < 64
   pub page_in : leaf.first < 2 ^ 45
 
--- no leaf meets one behind it
+-- no leaf overlaps one after it
 abbrev pub IsApart : List Leaf → Type 0
 IsApart [] = Unit {0}
 IsApart (x ∷ xs) = (list_any (meets_block x.space x.first x.order) xs ≡ false) × IsApart xs
@@ -32,7 +32,7 @@ unfoldable pub mapping_of : List Leaf → List Leaf
 mapping_of [] = []
 mapping_of (x ∷ xs) = with_leaf x (mapping_of xs)
 
--- a new leaf stands before the first leaf of a bucket that isn't lower
+-- a new leaf is before the first leaf of a bucket that isn't lower
 unfoldable pub in_front : ℕ → Leaf → List Leaf → List Leaf
 in_front buckets leaf items = in_front_by (leaf_tag 1) buckets leaf items
 

@@ -31,7 +31,7 @@ pub record IsAligned (leaf : Leaf) : Type 0 where
   pub placed : IsPlaced leaf
   pub aligned : (e : ℕ) × (leaf.first ≡ e * pages_of leaf.order)
 
--- the entries that stand in a way
+-- the entries that are in a way
 abbrev pub entries_of : WayShape → List Entry
 entries_of w = w.entries
 

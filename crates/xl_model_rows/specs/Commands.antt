@@ -8,7 +8,7 @@ use Rattle.xl_model.specs.declared.script.Item.{Item}
 use Rattle.xl_model.specs.declared.script.Item.TheVariants.{Command, Referenced}
 use Rattle.xl_model_rows.specs.Plain.{plain_row, perm_r__u, perm_rw_u}
 
--- A move to its own place meets the moved leaf; a move elsewhere is done.
+-- A move to its own place overlaps the moved leaf; a move elsewhere is done.
 abbrev pub a_move_onto_itself_rows : List Row
 a_move_onto_itself_rows = plain_row ∷ []
 

@@ -5,7 +5,7 @@ ghost use Rattle.xl_model.specs.Report.{report};
 ghost use Rattle.xl_model_rows.specs.Plain.{rows_alone};
 ghost use Rattle.xl_model_rows.specs.ByHandChains.{a_moved_tag_is_in_front_rows, a_moved_tag_is_in_front_items, a_protect_leaves_the_place_rows, a_protect_leaves_the_place_items, a_removal_closes_up_rows, a_removal_closes_up_items, two_buckets_rows, two_buckets_items, empty_slots_of_two_blocks_rows, empty_slots_of_two_blocks_items, a_page_into_a_block_rows, a_page_into_a_block_items, an_empty_block_is_removed_rows, an_empty_block_is_removed_items, a_move_within_a_block_rows, a_move_within_a_block_items, tags_of_two_spaces_rows, tags_of_two_spaces_items};
 
-/// A moved leaf's tag comes to the front of its bucket.
+/// A moved leaf's tag moves to the front of its bucket.
 #[tactic(auto, unfolding(xl_model::specs::Computing::computing))]
 pub fn a_moved_tag_is_in_front()
     ensures { report rows_alone a_moved_tag_is_in_front_rows a_moved_tag_is_in_front_items ≡ codes "a accesses=2 ok=2 unmapped=0 denied=0 notcanonical=0 accepted=4 refused=0,0,0,0,0,0,0,0,0 walks=2 reads=6 wchits=0 fills=0 kicks=0 undone=0 migrated=0 growths=0 fences=0 invalidated=0 pasum=0000000000001000 tlb=-\n" }

@@ -29,7 +29,7 @@ pub fn fences_and_spaces_refused()
     ensures { report with_answers fences_and_spaces_refused_rows fences_and_spaces_refused_items ≡ codes "a cmd space refused 1\na cmd fence refused 1\na cmd fence refused 1\na cmd fence refused 2\na cmd fence refused 2\na cmd fence ok\na cmd fence ok\na accesses=0 ok=0 unmapped=0 denied=0 notcanonical=0 accepted=2 refused=3,2,0,0,0,0,0,0,0 walks=0 reads=0 wchits=0 fills=0 kicks=0 undone=0 migrated=0 growths=0 fences=2 invalidated=0 pasum=0000000000000000 tlb=-\n" }
 {}
 
-/// Want of a section is told before any attempt is made.
+/// A command is refused for want of a section before any attempt is made.
 #[tactic(auto, unfolding(xl_model::specs::Computing::computing))]
 pub fn no_room_before_the_cap()
     ensures { report with_answers no_room_before_the_cap_rows no_room_before_the_cap_items ≡ codes "a cmd map ok\na cmd map ok\na cmd map refused 8\na cmd map refused 9\na accesses=0 ok=0 unmapped=0 denied=0 notcanonical=0 accepted=2 refused=0,0,0,0,0,0,0,1,1 walks=0 reads=0 wchits=0 fills=0 kicks=2 undone=2 migrated=0 growths=0 fences=0 invalidated=0 pasum=0000000000000000 tlb=-\n" }

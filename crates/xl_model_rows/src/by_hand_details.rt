@@ -1,4 +1,4 @@
-//! Details that no other row tells apart, each worked out by hand.
+//! Details that no other row shows, each worked out by hand.
 
 ghost use Rattle.std.specs.Prelude.{◌≡◌, codes};
 ghost use Rattle.xl_model.specs.Report.{report};
@@ -17,7 +17,7 @@ pub fn a_page_without_u()
     ensures { report rows_alone a_page_without_u_rows a_page_without_u_items ≡ codes "a accesses=3 ok=0 unmapped=0 denied=3 notcanonical=0 accepted=1 refused=0,0,0,0,0,0,0,0,0 walks=3 reads=9 wchits=0 fills=0 kicks=0 undone=0 migrated=0 growths=0 fences=0 invalidated=0 pasum=0000000000000000 tlb=-\n" }
 {}
 
-/// Both arrays of a level are looked at, also the one behind a hit.
+/// Both arrays of a level are looked at, also the one after a hit.
 #[tactic(auto, unfolding(xl_model::specs::Computing::computing))]
 pub fn two_arrays_in_one_level()
     ensures { report rows_alone two_arrays_in_one_level_rows two_arrays_in_one_level_items ≡ codes "a accesses=4 ok=4 unmapped=0 denied=0 notcanonical=0 accepted=2 refused=0,0,0,0,0,0,0,0,0 walks=2 reads=5 wchits=0 fills=2 kicks=0 undone=0 migrated=0 growths=0 fences=0 invalidated=0 pasum=0000000000400000 tlb=1/3,1/3\n" }

@@ -29,7 +29,7 @@ pub fn a_walk_from_the_middle_fills_below()
     ensures { report rows_alone a_walk_from_the_middle_fills_below_rows a_walk_from_the_middle_fills_below_items ≡ codes "a accesses=2 ok=2 unmapped=0 denied=0 notcanonical=0 accepted=4 refused=0,0,0,0,0,0,0,0,0 walks=2 reads=6 wchits=1 fills=0 kicks=0 undone=0 migrated=0 growths=0 fences=0 invalidated=4 pasum=0000000000001000 tlb=-\n" }
 {}
 
-/// A node tag that hits comes to the front of its cache.
+/// A node tag that hits moves to the front of its cache.
 #[tactic(auto, unfolding(xl_model::specs::Computing::computing))]
 pub fn a_touch_of_a_node_tag()
     ensures { report rows_alone a_touch_of_a_node_tag_rows a_touch_of_a_node_tag_items ≡ codes "a accesses=6 ok=6 unmapped=0 denied=0 notcanonical=0 accepted=3 refused=0,0,0,0,0,0,0,0,0 walks=6 reads=14 wchits=2 fills=0 kicks=0 undone=0 migrated=0 growths=0 fences=0 invalidated=0 pasum=0000000000004000 tlb=-\n" }

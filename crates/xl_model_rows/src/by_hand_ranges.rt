@@ -23,13 +23,13 @@ pub fn ranges_of_both_spaces_in_one_treap()
     ensures { report rows_alone ranges_of_both_spaces_in_one_treap_rows ranges_of_both_spaces_in_one_treap_items ≡ codes "a accesses=5 ok=2 unmapped=3 denied=0 notcanonical=0 accepted=3 refused=0,0,0,0,0,0,0,0,0 walks=5 reads=8 wchits=0 fills=0 kicks=0 undone=0 migrated=0 growths=0 fences=0 invalidated=0 pasum=0000000000001000 tlb=-\n" }
 {}
 
-/// Of two overlapping cached ranges the newest answers and is touched.
+/// Of two overlapping cached ranges the newest hits and is touched.
 #[tactic(auto, unfolding(xl_model::specs::Computing::computing))]
 pub fn the_newest_of_two_cached_ranges()
     ensures { report rows_alone the_newest_of_two_cached_ranges_rows the_newest_of_two_cached_ranges_items ≡ codes "a accesses=5 ok=5 unmapped=0 denied=0 notcanonical=0 accepted=3 refused=0,0,0,0,0,0,0,0,0 walks=5 reads=4 wchits=2 fills=0 kicks=0 undone=0 migrated=0 growths=0 fences=0 invalidated=0 pasum=0000000000004000 tlb=-\n" }
 {}
 
-/// A cached range that hits comes to the front.
+/// A cached range that hits moves to the front.
 #[tactic(auto, unfolding(xl_model::specs::Computing::computing))]
 pub fn a_touch_of_a_cached_range()
     ensures { report rows_alone a_touch_of_a_cached_range_rows a_touch_of_a_cached_range_items ≡ codes "a accesses=6 ok=6 unmapped=0 denied=0 notcanonical=0 accepted=3 refused=0,0,0,0,0,0,0,0,0 walks=6 reads=8 wchits=2 fills=0 kicks=0 undone=0 migrated=0 growths=0 fences=0 invalidated=0 pasum=0000000000004000 tlb=-\n" }
@@ -65,7 +65,7 @@ pub fn a_move_beside_cached_ranges()
     ensures { report rows_alone a_move_beside_cached_ranges_rows a_move_beside_cached_ranges_items ≡ codes "a accesses=5 ok=5 unmapped=0 denied=0 notcanonical=0 accepted=4 refused=0,0,0,0,0,0,0,0,0 walks=5 reads=6 wchits=1 fills=0 kicks=0 undone=0 migrated=0 growths=0 fences=0 invalidated=1 pasum=0000000000005000 tlb=-\n" }
 {}
 
-/// Two large leaves join where they are consecutive, and a small one behind them does not.
+/// Two large leaves join where they are consecutive, and a small one after them does not.
 #[tactic(auto, unfolding(xl_model::specs::Computing::computing))]
 pub fn ranges_are_of_one_order()
     ensures { report rows_alone ranges_are_of_one_order_rows ranges_are_of_one_order_items ≡ codes "a accesses=1 ok=1 unmapped=0 denied=0 notcanonical=0 accepted=2 refused=0,0,0,0,0,0,0,1,0 walks=1 reads=1 wchits=0 fills=0 kicks=0 undone=0 migrated=0 growths=0 fences=0 invalidated=0 pasum=0000000000201000 tlb=-\n" }

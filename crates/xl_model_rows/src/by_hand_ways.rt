@@ -35,14 +35,14 @@ pub fn a_forced_growth_of_a_growing_way()
     ensures standing { k4_ways (run a_forced_growth_of_a_growing_way_row a_forced_growth_of_a_growing_way_items).table.shape ≡ way_at 2 0 false (in_slot 1 1 ∷ in_slot 0 6 ∷ in_slot 3 7 ∷ []) ∷ way_at 1 1 true (in_slot 0 0 ∷ in_slot 1 3 ∷ []) ∷ [] }
 {}
 
-/// Displaced keys go on to the next of three ways.
+/// Displaced keys continue to the next of three ways.
 #[tactic(auto, unfolding(xl_model::specs::Computing::computing))]
 pub fn kicks_in_three_ways()
     ensures told { report rows_alone kicks_in_three_ways_rows kicks_in_three_ways_items ≡ codes "a accesses=3 ok=3 unmapped=0 denied=0 notcanonical=0 accepted=3 refused=0,0,0,0,0,0,0,0,0 walks=3 reads=27 wchits=0 fills=0 kicks=3 undone=0 migrated=0 growths=0 fences=0 invalidated=0 pasum=0000000000003000 tlb=-\n" }
     ensures standing { k4_ways (run kicks_in_three_ways_row kicks_in_three_ways_items).table.shape ≡ way_at 0 0 false (in_slot 0 3 ∷ []) ∷ way_at 0 0 false (in_slot 0 1 ∷ []) ∷ way_at 0 0 false (in_slot 0 5 ∷ []) ∷ [] }
 {}
 
-/// Displaced keys go on to the next of four ways.
+/// Displaced keys continue to the next of four ways.
 #[tactic(auto, unfolding(xl_model::specs::Computing::computing))]
 pub fn kicks_in_four_ways()
     ensures told { report rows_alone kicks_in_four_ways_rows kicks_in_four_ways_items ≡ codes "a accesses=1 ok=1 unmapped=0 denied=0 notcanonical=0 accepted=4 refused=0,0,0,0,0,0,0,0,0 walks=1 reads=12 wchits=0 fills=0 kicks=6 undone=0 migrated=0 growths=0 fences=0 invalidated=0 pasum=0000000000000000 tlb=-\n" }
@@ -108,7 +108,7 @@ pub fn sections_that_stay_and_leave()
     ensures { report rows_alone sections_that_stay_and_leave_rows sections_that_stay_and_leave_items ≡ codes "a accesses=4 ok=2 unmapped=2 denied=0 notcanonical=0 accepted=4 refused=0,0,0,0,0,0,0,0,0 walks=4 reads=20 wchits=2 fills=0 kicks=0 undone=0 migrated=0 growths=0 fences=0 invalidated=2 pasum=0000000000000000 tlb=-\n" }
 {}
 
-/// A cached section that hits comes to the front.
+/// A cached section that hits moves to the front.
 #[tactic(auto, unfolding(xl_model::specs::Computing::computing))]
 pub fn a_touch_of_a_cached_section()
     ensures { report rows_alone a_touch_of_a_cached_section_rows a_touch_of_a_cached_section_items ≡ codes "a accesses=6 ok=6 unmapped=0 denied=0 notcanonical=0 accepted=3 refused=0,0,0,0,0,0,0,0,0 walks=6 reads=28 wchits=2 fills=0 kicks=0 undone=0 migrated=0 growths=0 fences=0 invalidated=0 pasum=0000000000004000 tlb=-\n" }
@@ -126,7 +126,7 @@ pub fn a_move_changes_sections()
     ensures { report rows_alone a_move_changes_sections_rows a_move_changes_sections_items ≡ codes "a accesses=2 ok=2 unmapped=0 denied=0 notcanonical=0 accepted=2 refused=0,0,0,0,0,0,0,0,0 walks=2 reads=8 wchits=1 fills=0 kicks=0 undone=0 migrated=0 growths=0 fences=0 invalidated=1 pasum=0000000000000000 tlb=-\n" }
 {}
 
-/// A cached 2 MiB section alone tells the way of its leaf.
+/// A cached 2 MiB section alone says the way of its leaf.
 #[tactic(auto, unfolding(xl_model::specs::Computing::computing))]
 pub fn a_large_leaf_known_by_one_section()
     ensures { report rows_alone a_large_leaf_known_by_one_section_rows a_large_leaf_known_by_one_section_items ≡ codes "a accesses=2 ok=2 unmapped=0 denied=0 notcanonical=0 accepted=1 refused=0,0,0,0,0,0,0,0,0 walks=2 reads=7 wchits=1 fills=0 kicks=0 undone=0 migrated=0 growths=0 fences=0 invalidated=0 pasum=0000000000001000 tlb=-\n" }

@@ -5,7 +5,7 @@ ghost use Rattle.xl_model.specs.Report.{report};
 ghost use Rattle.xl_model_rows.specs.Plain.{rows_alone};
 ghost use Rattle.xl_model_rows.specs.Commands.{a_move_onto_itself_rows, a_move_onto_itself_items, a_move_onto_itself_again_rows, a_move_onto_itself_again_items, no_block_of_511_frames_rows, no_block_of_511_frames_items, no_block_of_1023_frames_rows, no_block_of_1023_frames_items, a_block_of_1024_frames_rows, a_block_of_1024_frames_items, seven_refusals_rows, seven_refusals_items, a_freed_block_taken_again_rows, a_freed_block_taken_again_items};
 
-/// A move to its own place meets the moved leaf; a move elsewhere is done.
+/// A move to its own place overlaps the moved leaf; a move elsewhere is done.
 #[tactic(auto, unfolding(xl_model::specs::Computing::computing))]
 pub fn a_move_onto_itself()
     ensures { report rows_alone a_move_onto_itself_rows a_move_onto_itself_items ≡ codes "a accesses=2 ok=1 unmapped=1 denied=0 notcanonical=0 accepted=2 refused=0,0,0,0,0,1,0,0,0 walks=2 reads=6 wchits=0 fills=0 kicks=0 undone=0 migrated=0 growths=0 fences=0 invalidated=0 pasum=0000000000000000 tlb=-\n" }

@@ -19,13 +19,14 @@ pub record IsPlain {Z : Type 0} (leaves : Vec Leaf Z) (buckets entries : ℕ) : 
 abbrev pub tags_of : List Leaf → List ℕ
 tags_of items = map (leaf_tag 1) items
 
--- The loads of a search for a tag: one for its bucket, and one for each leaf of the bucket up to and
--- with the one that has it.
+-- The loads of a search for a tag: one for its bucket, and one for each leaf of the bucket up to
+-- and with the one that has it.
 abbrev pub search_loads : ℕ → ℕ → List Leaf → ℕ
 search_loads buckets tag items =
     1 + examined tag (chain_of buckets (bucket_of buckets tag) (tags_of items))
 
--- The loads of a walk that finds this leaf, or none: those of a search for each order that it tries.
+-- The loads of a walk that finds this leaf, or none: those of a search for each order that it
+-- tries.
 abbrev pub walk_loads : ℕ → List Leaf → ℕ → ℕ → Option Leaf → ℕ
 walk_loads buckets items space page found =
     chains_reads 1 buckets (tags_of items) space page (orders_tried found)

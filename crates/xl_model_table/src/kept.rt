@@ -39,7 +39,7 @@ fn is_named(leaf: &Leaf, space: u16, first: u64, order: Order) -> bool
     leaf.space == space && leaf.first == first && leaf.order.level() == order.level()
 }
 
-/// Whether one of the leaves meets the block.
+/// Whether one of the leaves overlaps the block.
 pub(crate) fn any_meets(items: &[Leaf], space: u16, first: u64, order: Order) -> bool
     ensures { result ≡ list_any (meets_block space first order) items.now }
 {

@@ -49,7 +49,7 @@ impl PlainTable {
         })
     }
 
-    /// Adds a leaf that no leaf meets, where there is room.
+    /// Adds a leaf that overlaps no other, where there is room.
     fn add(&mut self, leaf: Leaf) -> Result<Work, Refused>
         requires valid { IsBlock self.old.shape leaf.space leaf.first leaf.order }
         requires free { meets_any leaf.space leaf.first leaf.order self.old.leaves ≡ false }

@@ -29,7 +29,8 @@ pub record IsNest (nest : Nest) : Type 0 where
   pub few_g_nodes : nest.g_nodes ≤ 16384
   pub width : IsTrue (is_width nest.g_cache)
 
--- A guest over a host, with counts. Each stage counts its loads and the host its hits; `nest_counts` has all counts.
+-- A guest over a host, with counts. Each stage counts its loads and the host its hits;
+-- `nest_counts` has all counts.
 pub record NestState : Type 0 where
   pub guest : Guest
   pub host : Host
@@ -47,19 +48,21 @@ opening_nest n = record {
   counts = no_nest_counts;
 }
 
--- One step of a walk: the guest's node is loaded where the host has a frame for its page, and the walk goes on.
--- Where it has none, the walk ends.
+-- One step of a walk: the guest's node is loaded where the host has a frame for its page, and the
+-- walk continues. Where it has none, the walk ends.
 abbrev pub loaded_where : Option ℕ → (NestState → NestState) → NestState → NestState
 loaded_where None on s = s
 loaded_where (Some frame) on s = on (record s { guest = record s.guest { stage = with_loads 1 s.guest.stage } })
 
--- A walk along the guest pages of nodes: each page is translated and then loaded. A last step follows.
+-- A walk along the guest pages of nodes: each page is translated and then loaded. A last step
+-- follows.
 abbrev pub along : List ℕ → (NestState → NestState) → NestState → NestState
 along [] last s = last s
 along (g ∷ gs) last s =
     loaded_where (stage2 s.host.stage.leaves g kind.Load) (along gs last) (record s { host = translated g s.host })
 
--- The last step: the guest page of the access itself is translated, where the guest's mapping gives one.
+-- The last step: the guest page of the access itself is translated, where the guest's mapping gives
+-- one.
 abbrev pub with_last : Option ℕ → NestState → NestState
 with_last None s = s
 with_last (Some g) s = record s { host = translated g s.host }

@@ -43,7 +43,8 @@ abbrev pub stage_after : Option Change → Stage → Stage
 stage_after None stage = stage
 stage_after (Some c) stage = record stage { leaves = changed c stage.leaves; shape = shape_after c stage.leaves stage.shape }
 
--- The change of a map at the host: the leaf takes the lowest free block of frames. None where no block is free.
+-- The change of a map at the host: the leaf takes the lowest free block of frames. None where no
+-- block is free.
 abbrev pub host_map : ℕ → Order → Perm → Host → Option Change
 host_map g o perm host =
     insert_at (host_space g) (host_page g) o
@@ -54,7 +55,8 @@ host_map g o perm host =
 abbrev pub host_unmap : ℕ → Order → Change
 host_unmap g o = Remove (host_space g) (host_page g) o
 
--- The change of a map at the guest: the leaf's frames are the guest pages named, which other leaves may have too.
+-- The change of a map at the guest: the leaf's frames are the guest pages named, which other leaves
+-- may have too.
 abbrev pub guest_map : ℕ → Order → ℕ → Perm → Change
 guest_map page o g perm = Insert (record { space = 0; first = page; order = o; frame = g; perm = perm })
 

@@ -25,7 +25,7 @@ pub record Stage : Type 0 where
   pub shape : Shape
   pub loads : ℕ
 
--- A stage without leaves, with a root for each of so many spaces, of so many nodes at most.
+-- A stage without leaves, with a root for each of `spaces` spaces, of `nodes` nodes at most.
 abbrev pub opening_stage : ℕ → ℕ → Stage
 opening_stage spaces nodes = record { leaves = []; shape = Radix 3 spaces (opening_nodes 3 spaces nodes); loads = 0 }
 
@@ -34,7 +34,8 @@ pub record Guest : Type 0 where
   pub base : ℕ
   pub stage : Stage
 
--- The host: the number of its frames, its table, and a recency list of its leaves, the G cache, with its hits.
+-- The host: the number of its frames, its table, and a recency list of its leaves, the G cache,
+-- with its hits.
 pub record Host : Type 0 where
   pub frames : ℕ
   pub stage : Stage
@@ -49,7 +50,8 @@ opening_guest base nodes = record { base = base; stage = opening_stage 1 nodes }
 abbrev pub opening_host : ℕ → ℕ → ℕ → Host
 opening_host frames nodes width = record { frames = frames; stage = opening_stage 4 nodes; cache = empty_cache width; hits = 0 }
 
--- The host's root of 16 KiB is four roots side by side, one for each of four spaces: guest page g is in space g / 2^27.
+-- The host's root of 16 KiB is four roots side by side, one for each of four spaces: guest page g
+-- is in space g / 2^27.
 abbrev pub host_space : ℕ → ℕ
 host_space g = g / 2 ^ 27
 
@@ -72,7 +74,8 @@ frame_of reply.NotCanonical = None
 frame_of reply.Unmapped = None
 frame_of reply.Denied = None
 
--- The host's mapping: the frame of a guest page, where a leaf of the host covers the page and allows the access.
+-- The host's mapping: the frame of a guest page, where a leaf of the host covers the page and
+-- allows the access.
 unfoldable pub stage2 : List Leaf → ℕ → Kind → Option ℕ
 stage2 leaves g kind = frame_of (reply_by (host_leaf g leaves) (host_page g) kind)
 
@@ -87,12 +90,13 @@ nodes_in (Runs ranges) = []
 abbrev pub node_page : ℕ → ℕ → ℕ → List (Option Node) → ℕ
 node_page base level page nodes = base + number_or_0 (number_of 0 (suc level) (up (suc level) page) nodes)
 
--- The guest pages of a page's nodes from this level down, so many of them.
+-- The guest pages of a page's nodes from this level down, n of them.
 abbrev pub path_from : ℕ → ℕ → ℕ → ℕ → List (Option Node) → List ℕ
 path_from base level page zero nodes = []
 path_from base level page (suc n) nodes = node_page base level page nodes ∷ path_from base (level - 1) page n nodes
 
--- The guest pages of the nodes on a page's path, from level 2 down to the last one that the guest's leaves need.
+-- The guest pages of the nodes on a page's path, from level 2 down to the last one that the guest's
+-- leaves need.
 unfoldable pub guest_path : Guest → ℕ → List ℕ
 guest_path guest page =
     path_from guest.base 2 page (3 - end_level 2 0 0 page guest.stage.leaves) (nodes_in guest.stage.shape)
@@ -106,8 +110,8 @@ abbrev pub host_reply : Option ℕ → NestReply
 host_reply None = nest.GuestFault
 host_reply (Some frame) = nest.Frame frame
 
--- The reply by the guest page that the guest's mapping gives: a page fault where it gives none, else by the host's
--- frame of that page.
+-- The reply by the guest page that the guest's mapping gives: a page fault where it gives none,
+-- else by the host's frame of that page.
 abbrev pub guest_reply : Option ℕ → List Leaf → Kind → NestReply
 guest_reply None host kind = nest.PageFault
 guest_reply (Some g) host kind = host_reply (stage2 host g kind)
@@ -122,8 +126,8 @@ abbrev pub reply_if_canonical : Bool → NestReply → NestReply
 reply_if_canonical false answer = nest.PageFault
 reply_if_canonical true answer = answer
 
--- The reply to an access of the guest: the host's mapping after the guest's. A node on the page's path that can't
--- be loaded faults before the guest's leaf does.
+-- The reply to an access of the guest: the host's mapping after the guest's. A node on the page's
+-- path that can't be loaded faults before the guest's leaf does.
 unfoldable pub nested : Guest → List Leaf → ℕ → Kind → NestReply
 nested guest host va kind =
     reply_if_canonical (is_canonical mode.Sv39 va)
@@ -136,13 +140,14 @@ guest_code_of kind.Fetch = 20
 guest_code_of kind.Load = 21
 guest_code_of kind.Store = 23
 
--- The code of a reply's fault. A guest-page fault at a node has the code of the access, not that of a load.
+-- The code of a reply's fault. A guest-page fault at a node has the code of the access, not that of
+-- a load.
 abbrev pub nest_code_of : NestReply → Kind → Option ℕ
 nest_code_of (nest.Frame frame) kind = None
 nest_code_of nest.PageFault kind = Some (code_of kind)
 nest_code_of nest.GuestFault kind = Some (guest_code_of kind)
 
--- A stage with so many more loads.
+-- A stage with n more loads.
 abbrev pub with_loads : ℕ → Stage → Stage
 with_loads n stage = record stage { loads = plus stage.loads n }
 
@@ -151,9 +156,9 @@ abbrev pub with_found : Option Leaf → Cached Leaf → Cached Leaf
 with_found None cache = cache
 with_found (Some leaf) cache = with_fill leaf cache
 
--- The host after a look for a guest page in the G cache. A hit touches the leaf. A miss walks the host's table from
--- the page's root down to its last node, one load a node, and fills the cache with a leaf found there, whether or
--- not the leaf allows the access.
+-- The host after a look for a guest page in the G cache. A hit touches the leaf. A miss walks the
+-- host's table from the page's root down to its last node, one load a node, and fills the cache
+-- with a leaf found there, whether or not the leaf allows the access.
 abbrev pub translated_by : Option Leaf → ℕ → Host → Host
 translated_by (Some hit) g host = record host { cache = with_touch (covers_guest g) host.cache; hits = plus host.hits 1 }
 translated_by None g host = record host {

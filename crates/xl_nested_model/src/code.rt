@@ -17,8 +17,8 @@ pub fn guest_code(kind: Kind) -> u8
     }
 }
 
-/// The code of a reply's fault, of a page fault or of a guest-page fault (RISC-V Privileged manual). None
-/// exactly where the reply is a frame.
+/// The code of a reply's fault, of a page fault or of a guest-page fault (RISC-V Privileged
+/// manual). None exactly where the reply is a frame.
 pub fn nest_code(reply: NestReply, kind: Kind) -> Option<u8>
     ensures { result ≡ nest_code_of reply kind }
 {

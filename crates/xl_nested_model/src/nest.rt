@@ -2,8 +2,8 @@
 
 use xl_model::{Kind, Order, Perm};
 
-/// The sizes of a guest with tables of its own and of the host below it. Node n of the guest's table lies
-/// in guest page `base + n`.
+/// The sizes of a guest with tables of its own and of the host below it. Node n of the guest's
+/// table lies in guest page `base + n`.
 #[derive(Clone, Copy, Debug, PartialEq, Eq)]
 pub struct Nest {
     /// The guest page of the guest's first node.
@@ -18,8 +18,8 @@ pub struct Nest {
     pub g_cache: u8,
 }
 
-/// One event: an access of the guest, or a command of one leaf. `GMap` and `GUnmap` change the host's
-/// table, the G-stage; `VMap` and `VUnmap` change the guest's, the VS-stage.
+/// One event: an access of the guest, or a command of one leaf. `GMap` and `GUnmap` change the
+/// host's table, the G-stage; `VMap` and `VUnmap` change the guest's, the VS-stage.
 #[derive(Clone, Copy, Debug, PartialEq, Eq)]
 pub enum NestEvent {
     Access {
@@ -47,8 +47,8 @@ pub enum NestEvent {
     },
 }
 
-/// The reply to an access: the host's frame of its page, a page fault of the VS-stage, or a guest-page
-/// fault of the G-stage.
+/// The reply to an access: the host's frame of its page, a page fault of the VS-stage, or a
+/// guest-page fault of the G-stage.
 #[derive(Clone, Copy, Debug, PartialEq, Eq)]
 pub enum NestReply {
     Frame(u64),
@@ -59,7 +59,8 @@ pub enum NestReply {
 /// Why a command is refused: 1 to 6 in this order, in which they are tested.
 #[derive(Clone, Copy, Debug, PartialEq, Eq)]
 pub enum NestRefusal {
-    /// The virtual address isn't canonical in Sv39, or the guest physical address has more than 41 bits.
+    /// The virtual address isn't canonical in Sv39, or the guest physical address has more than 41
+    /// bits.
     BadAddress,
     /// An address isn't a multiple of the leaf's size.
     Misaligned,

@@ -50,7 +50,8 @@ impl NestCounts {
         self.refused[place] = self.refused[place].wrapping_add(1);
     }
 
-    /// Counts an access by its reply, and adds the physical address of one that was served to `pasum`.
+    /// Counts an access by its reply, and adds the physical address of one that was served to
+    /// `pasum`.
     #[tactic(auto, unfolding(crate::specs::Tally::count_nest_reply))]
     pub fn reply(&mut self, reply: NestReply, va: u64)
         requires { IsSmallNest reply }

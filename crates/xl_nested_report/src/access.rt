@@ -11,8 +11,8 @@ use xl_nested_model::{NestReply, guest_code};
 use xl_outside::{Failed, Sink, put_all};
 use xl_report::Line;
 
-/// Appends the line of an access: the record's number, the kind and the address, and the reply. A frame
-/// that is replied is below 2^52, so that its physical addresses are below 2^64.
+/// Appends the line of an access: the record's number, the kind and the address, and the reply. A
+/// frame that is replied is below 2^52, so that its physical addresses are below 2^64.
 ///
 /// # Errors
 ///

@@ -9,7 +9,7 @@ use xl_nested_model::NestCounts;
 use xl_outside::{Failed, Sink, put_all};
 use xl_report::Line;
 
-/// Appends the line of the counts, each behind its name.
+/// Appends the line of the counts, each after its name.
 ///
 /// # Errors
 ///
@@ -68,7 +68,7 @@ fn numbers(line: &mut Line<512>, numbers: &[u64])
     }
 }
 
-/// Puts numbers at the line's end, each behind a comma.
+/// Puts numbers at the line's end, each after a comma.
 fn rest(line: &mut Line<512>, numbers: &[u64])
     requires few { length numbers.now ≤ 5 }
     requires room { length line.old + 105 ≤ 512 }

@@ -262,39 +262,39 @@ a_cache_of_one_large_leaf_row = record {
   };
 }
 
--- GMAPs of so many guest pages, from this one up.
+-- GMAPs of n guest pages, from this one up.
 abbrev pub maps_from : ℕ → ℕ → List NestEvent
 maps_from g zero = []
 maps_from g (suc n) = event.GMap (g * 4096) order.K4 perm_rw_u ∷ maps_from (suc g) n
 
--- Loads of so many pages, from this one up.
+-- Loads of n pages, from this one up.
 abbrev pub loads_from : ℕ → ℕ → List NestEvent
 loads_from page zero = []
 loads_from page (suc n) = event.Access (page * 4096) kind.Load ∷ loads_from (suc page) n
 
--- Loads of so many pages, down to page 0.
+-- Loads of n pages, down to page 0.
 abbrev pub loads_back : ℕ → List NestEvent
 loads_back zero = []
 loads_back (suc n) = event.Access (n * 4096) kind.Load ∷ loads_back n
 
--- So many commands that are done.
+-- n commands that are done.
 abbrev pub all_done : ℕ → List NestOutcome
 all_done zero = []
 all_done (suc n) = outcome.Done ∷ all_done n
 
--- So many frames, from this one up.
+-- n frames, from this one up.
 abbrev pub frames_from : ℕ → ℕ → List NestOutcome
 frames_from frame zero = []
 frames_from frame (suc n) = outcome.Replied (reply.Frame frame) ∷ frames_from (suc frame) n
 
--- So many frames, down to frame 1.
+-- n frames, down to frame 1.
 abbrev pub frames_back : ℕ → List NestOutcome
 frames_back zero = []
 frames_back (suc n) = outcome.Replied (reply.Frame (suc n)) ∷ frames_back n
 
--- A G cache of this width. The guest has one leaf of 1 GiB, in its root; the host has leaves of 4 KiB for the root and
--- for so many pages. Each page is loaded in turn, and then each in the reverse order. The last two numbers are the
--- loads and the hits.
+-- A G cache of this width. The guest has one leaf of 1 GiB, in its root; the host has leaves of 4
+-- KiB for the root and for `pages` pages. Each page is loaded in turn, and then each in the reverse
+-- order. The last two numbers are the loads and the hits.
 abbrev pub there_and_back : ℕ → ℕ → ℕ → ℕ → NestRow
 there_and_back width pages reads hits = record {
   nest = record { base = 256; nodes = 4; frames = 64; g_nodes = 64; g_cache = width };

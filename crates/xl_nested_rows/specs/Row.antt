@@ -7,7 +7,8 @@ use Rattle.xl_nested_model.specs.declared.nest.NestEvent.{NestEvent}
 use Rattle.xl_nested_model.specs.declared.nest.NestOutcome.{NestOutcome}
 use Rattle.xl_nested_model.specs.Nested.{nest_counts, nest_outcomes, nest_run, opening_nest}
 
--- The sizes, the events, and the outcomes and counts that were worked out apart from the definitions.
+-- The sizes, the events, and the outcomes and counts that were worked out apart from the
+-- definitions.
 pub record NestRow : Type 0 where
   pub nest : Nest
   pub events : List NestEvent

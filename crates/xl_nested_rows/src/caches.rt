@@ -47,63 +47,63 @@ pub fn a_cache_of_one_large_leaf()
     ensures counts { counts_of a_cache_of_one_large_leaf_row ≡ a_cache_of_one_large_leaf_row.counts }
 {}
 
-/// 6 pages there and back, behind the root's, over a G cache of no leaf.
+/// 6 pages there and back, after the root's, over a G cache of no leaf.
 #[tactic(auto, unfolding(xl_model::specs::Computing::computing, xl_nested_model::specs::Computing::nested_computing))]
 pub fn width_0()
     ensures outcomes { outcomes_of (there_and_back 0 6 84 0) ≡ (there_and_back 0 6 84 0).outcomes }
     ensures counts { counts_of (there_and_back 0 6 84 0) ≡ (there_and_back 0 6 84 0).counts }
 {}
 
-/// 6 pages there and back, behind the root's, over a G cache of 2 leaves.
+/// 6 pages there and back, after the root's, over a G cache of 2 leaves.
 #[tactic(auto, unfolding(xl_model::specs::Computing::computing, xl_nested_model::specs::Computing::nested_computing))]
 pub fn width_2()
     ensures outcomes { outcomes_of (there_and_back 2 6 48 12) ≡ (there_and_back 2 6 48 12).outcomes }
     ensures counts { counts_of (there_and_back 2 6 48 12) ≡ (there_and_back 2 6 48 12).counts }
 {}
 
-/// 6 pages there and back, behind the root's, over a G cache of 4 leaves.
+/// 6 pages there and back, after the root's, over a G cache of 4 leaves.
 #[tactic(auto, unfolding(xl_model::specs::Computing::computing, xl_nested_model::specs::Computing::nested_computing))]
 pub fn width_4()
     ensures outcomes { outcomes_of (there_and_back 4 6 42 14) ≡ (there_and_back 4 6 42 14).outcomes }
     ensures counts { counts_of (there_and_back 4 6 42 14) ≡ (there_and_back 4 6 42 14).counts }
 {}
 
-/// 14 pages there and back, behind the root's, over a G cache of 6 leaves.
+/// 14 pages there and back, after the root's, over a G cache of 6 leaves.
 #[tactic(auto, unfolding(xl_model::specs::Computing::computing, xl_nested_model::specs::Computing::nested_computing))]
 pub fn width_6()
     ensures outcomes { outcomes_of (there_and_back 6 14 100 32) ≡ (there_and_back 6 14 100 32).outcomes }
     ensures counts { counts_of (there_and_back 6 14 100 32) ≡ (there_and_back 6 14 100 32).counts }
 {}
 
-/// 14 pages there and back, behind the root's, over a G cache of 8 leaves.
+/// 14 pages there and back, after the root's, over a G cache of 8 leaves.
 #[tactic(auto, unfolding(xl_model::specs::Computing::computing, xl_nested_model::specs::Computing::nested_computing))]
 pub fn width_8()
     ensures outcomes { outcomes_of (there_and_back 8 14 94 34) ≡ (there_and_back 8 14 94 34).outcomes }
     ensures counts { counts_of (there_and_back 8 14 94 34) ≡ (there_and_back 8 14 94 34).counts }
 {}
 
-/// 14 pages there and back, behind the root's, over a G cache of 12 leaves.
+/// 14 pages there and back, after the root's, over a G cache of 12 leaves.
 #[tactic(auto, unfolding(xl_model::specs::Computing::computing, xl_nested_model::specs::Computing::nested_computing))]
 pub fn width_12()
     ensures outcomes { outcomes_of (there_and_back 12 14 82 38) ≡ (there_and_back 12 14 82 38).outcomes }
     ensures counts { counts_of (there_and_back 12 14 82 38) ≡ (there_and_back 12 14 82 38).counts }
 {}
 
-/// 18 pages there and back, behind the root's, over a G cache of 16 leaves.
+/// 18 pages there and back, after the root's, over a G cache of 16 leaves.
 #[tactic(auto, unfolding(xl_model::specs::Computing::computing, xl_nested_model::specs::Computing::nested_computing))]
 pub fn width_16()
     ensures outcomes { outcomes_of (there_and_back 16 18 102 50) ≡ (there_and_back 16 18 102 50).outcomes }
     ensures counts { counts_of (there_and_back 16 18 102 50) ≡ (there_and_back 16 18 102 50).counts }
 {}
 
-/// 34 pages there and back, behind the root's, over a G cache of 32 leaves.
+/// 34 pages there and back, after the root's, over a G cache of 32 leaves.
 #[tactic(auto, unfolding(xl_model::specs::Computing::computing, xl_nested_model::specs::Computing::nested_computing))]
 pub fn width_32()
     ensures outcomes { outcomes_of (there_and_back 32 34 182 98) ≡ (there_and_back 32 34 182 98).outcomes }
     ensures counts { counts_of (there_and_back 32 34 182 98) ≡ (there_and_back 32 34 182 98).counts }
 {}
 
-/// 34 pages there and back, behind the root's, over a G cache of 64 leaves.
+/// 34 pages there and back, after the root's, over a G cache of 64 leaves.
 #[tactic(auto, unfolding(xl_model::specs::Computing::computing, xl_nested_model::specs::Computing::nested_computing))]
 pub fn width_64()
     ensures outcomes { outcomes_of (there_and_back 64 34 173 101) ≡ (there_and_back 64 34 173 101).outcomes }

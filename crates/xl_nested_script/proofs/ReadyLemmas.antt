@@ -63,7 +63,7 @@ unfolding vunmap_words
 vunmap-words va size n =
     bind Users (λ e. tt) (address_in va) _ (λ v a. bind Users (λ e. tt) (order_in size) _ (λ o b. bind Users (λ e. tt) (count_in n) _ (λ k d. tt)))
 
--- the words of a command behind its number
+-- the words of a command after its number
 counted : (r : Result (List ℕ) Reason) (f : List ℕ → Result NestCommand Reason) → ((n : List ℕ) → Users (f n)) → Users (r >>= f)
 counted (Ok n) f h = h n
 counted (Err why) f h = tt

@@ -92,7 +92,8 @@ run_line (n ∷ []) =
     else (number 1 4294967295 n >>= (λ k. Ok (command.Run k)))
 run_line _ = Err reason.WordCount
 
--- The addresses behind the last bytes that events name, by the first of them. Those of a vmap name two blocks each.
+-- The addresses after the last bytes that events name, by the first of them. Those of a vmap name
+-- two blocks each.
 abbrev pub event_ends : NestEvent → ℕ → List ℕ
 event_ends (event.Access va kind) n = []
 event_ends (event.GMap gaddr o perm) n = end_of gaddr o n ∷ []
@@ -134,7 +135,7 @@ is_head name.VMap = false
 is_head name.VUnmap = false
 is_head name.Run = false
 
--- A head where there is none yet, or another line behind one.
+-- A head where there is none yet, or another line after one.
 abbrev pub turn : Bool → Bool → Name → Result Name Reason
 turn true true n = Err reason.Head
 turn true false n = Ok n

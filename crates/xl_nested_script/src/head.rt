@@ -87,7 +87,7 @@ fn head_by(
     })
 }
 
-/// `guest BASE NODES FRAMES GNODES GCACHE`, by its words behind the first.
+/// `guest BASE NODES FRAMES GNODES GCACHE`, by its words after the first.
 pub(crate) fn head_line(line: &[u8]) -> Result<Nest, Reason>
     ensures value { result ≡ head_line (drop 1 (words_of line.now)) }
     ensures limits { IfOk result IsNest }

@@ -43,7 +43,7 @@ fn gmap_by(gaddr: &[u8], size: &[u8], perm: &[u8], n: &[u8]) -> Result<NestComma
     })
 }
 
-/// `gmap GADDR ORDER PERM [N]`, by its words behind the first.
+/// `gmap GADDR ORDER PERM [N]`, by its words after the first.
 fn gmap_line(line: &[u8]) -> Result<NestCommand, Reason>
     ensures { result ≡ gmap_line (drop 1 (words_of line.now)) }
 {
@@ -69,7 +69,7 @@ fn gunmap_by(gaddr: &[u8], size: &[u8], n: &[u8]) -> Result<NestCommand, Reason>
     })
 }
 
-/// `gunmap GADDR ORDER [N]`, by its words behind the first.
+/// `gunmap GADDR ORDER [N]`, by its words after the first.
 fn gunmap_line(line: &[u8]) -> Result<NestCommand, Reason>
     ensures { result ≡ gunmap_line (drop 1 (words_of line.now)) }
 {
@@ -102,7 +102,7 @@ fn vmap_by(
     })
 }
 
-/// `vmap VA ORDER GADDR PERM [N]`, by its words behind the first.
+/// `vmap VA ORDER GADDR PERM [N]`, by its words after the first.
 fn vmap_line(line: &[u8]) -> Result<NestCommand, Reason>
     ensures { result ≡ vmap_line (drop 1 (words_of line.now)) }
 {
@@ -129,7 +129,7 @@ fn vunmap_by(va: &[u8], size: &[u8], n: &[u8]) -> Result<NestCommand, Reason>
     })
 }
 
-/// `vunmap VA ORDER [N]`, by its words behind the first.
+/// `vunmap VA ORDER [N]`, by its words after the first.
 fn vunmap_line(line: &[u8]) -> Result<NestCommand, Reason>
     ensures { result ≡ vunmap_line (drop 1 (words_of line.now)) }
 {
@@ -139,7 +139,7 @@ fn vunmap_line(line: &[u8]) -> Result<NestCommand, Reason>
     vunmap_by(va, size, n)
 }
 
-/// `run N` or `run rest`, by its words behind the first.
+/// `run N` or `run rest`, by its words after the first.
 fn run_line(line: &[u8]) -> Result<NestCommand, Reason>
     ensures { result ≡ run_line (drop 1 (words_of line.now)) }
 {
@@ -251,7 +251,7 @@ fn own(command: NestCommand) -> Result<Line, Reason>
     Ok(Line::Own(placed(command)?))
 }
 
-/// The line of a name, by its words behind the first.
+/// The line of a name, by its words after the first.
 fn line_named(name: Name, line: &[u8]) -> Result<Line, Reason>
     ensures value { result ≡ line_named name (drop 1 (words_of line.now)) }
     ensures limits { IfOk result HasLimits }
@@ -266,7 +266,7 @@ fn line_named(name: Name, line: &[u8]) -> Result<Line, Reason>
     }
 }
 
-/// A line, by its first word and the words behind it, before the head or after it.
+/// A line, by its first word and the words after it, before the head or after it.
 #[tactic(auto, unfolding(crate::specs::Lines::line_of))]
 pub(crate) fn line_of(opened: bool, first: &[u8], line: &[u8]) -> Result<Line, Reason>
     ensures value { result ≡ line_of opened first.now (drop 1 (words_of line.now)) }

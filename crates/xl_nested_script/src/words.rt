@@ -16,7 +16,7 @@ pub(crate) fn is(word: &[u8], text: &[u8]) -> bool
     word == text
 }
 
-/// The word at this place of a line, and the place behind it. None where the line has no word there.
+/// The word at this place of a line, and the place after it. None where the line has no word there.
 pub(crate) fn next_at(line: &[u8], at: usize) -> Option<(&[u8], usize)>
     requires { at < 16 }
     ensures some { IfSome result (λ found.
@@ -41,7 +41,7 @@ pub(crate) fn first_word(line: &[u8]) -> Option<&[u8]>
     Some(first)
 }
 
-/// The word at this place of a line that needs one there, and the place behind it.
+/// The word at this place of a line that needs one there, and the place after it.
 pub(crate) fn needed(line: &[u8], at: usize) -> Result<(&[u8], usize), Reason>
     requires { at < 16 }
     ensures found { MatchResult result

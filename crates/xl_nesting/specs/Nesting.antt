@@ -14,7 +14,8 @@ use Rattle.xl_course.specs.declared.form.Step.{Step}
 use Rattle.xl_course.specs.declared.form.Step.TheVariants as steps
 use Rattle.xl_paired.specs.Pairs.{Pairing, events_from}
 
--- The event of this number, from 0, of those whose first is given: each of its addresses is raised by so many blocks.
+-- The event of this number, from 0, of those whose first is given: each of its addresses is raised
+-- by `i` blocks.
 abbrev pub event_at : NestEvent → ℕ → NestEvent
 event_at (event.Access va kind) i = event.Access va kind
 event_at (event.GMap gaddr o perm) i = event.GMap (block_address gaddr o i) o perm
@@ -42,7 +43,8 @@ step_of (command.Events first n) = steps.Own (command.Events first n)
 step_of (command.Run n) = steps.Run n
 step_of command.RunRest = steps.RunRest
 
--- The form: a script opens a guest over a host of the sizes in its head, without leaves, and each event is served at once.
+-- The form: a script opens a guest over a host of the sizes in its head, without leaves, and each
+-- event is served at once.
 abbrev pub nested_form : Pairing NestText NestCommand NestEvent NestState
 nested_form = record {
   opens = λ (script : NestText). opening_nest script.nest;

@@ -24,8 +24,8 @@ fn block(address: u64, order: Order, i: u32) -> u64
     address + i as u64 * order.bytes()
 }
 
-/// The event of this number, from 0, of those whose first is given: each of its addresses is raised by so
-/// many blocks.
+/// The event of this number, from 0, of those whose first is given: each of its addresses is raised
+/// by n blocks.
 fn nth_event(first: NestEvent, i: u32) -> NestEvent
     requires { AreInMemory (event_ends first (i + 1)) }
     ensures { result ≡ event_at first i }

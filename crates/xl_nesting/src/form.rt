@@ -15,8 +15,8 @@ use xl_nested_report::{write_nest, write_nest_counts};
 use xl_nested_script::NestCommand;
 use xl_outside::{Failed, Sink};
 
-/// The form of two-stage translation. Beside the guest over its host it keeps room for accesses that the trace
-/// gives together.
+/// The form of two-stage translation. Beside the guest over its host it keeps room for accesses
+/// that the trace gives together.
 #[derive(Drop)]
 pub struct Nesting {
     accesses: Batch,

@@ -1,5 +1,5 @@
-//! The form of the program for two-stage translation: its script and its trace are served to a guest over a
-//! host.
+//! The form of the program for two-stage translation: its script and its trace are served to a
+//! guest over a host.
 #![tactic(auto)]
 
 mod events;

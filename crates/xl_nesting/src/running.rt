@@ -21,9 +21,10 @@ use xl_paired::read_script;
 use xl_serving::TraceFile;
 use xl_words::Pair;
 
-/// Reads the script, opens a guest over a host of its sizes, serves them the script over the trace, and
-/// writes the report: a line for each access where answers are asked for, and the line of the counts. All
-/// memory is taken before the first event. At Ok the guest over its host is there, as the run leaves it.
+/// Reads the script, opens a guest over a host of its sizes, serves them the script over the trace,
+/// and writes the report: a line for each access where answers are asked for, and the line of the
+/// counts. All memory is taken before the first event. At Ok the guest over its host is there, as
+/// the run leaves it.
 #[inline(never)]
 pub fn report<F: Folder, K: Sink>(
     alloc: Global,
@@ -51,8 +52,8 @@ pub fn report<F: Folder, K: Sink>(
     report_orders(alloc, &orders, words.trace, folder, out, nested)
 }
 
-/// Opens a guest over a host of a script's sizes, serves them the script over the trace of this name, and
-/// writes the report.
+/// Opens a guest over a host of a script's sizes, serves them the script over the trace of this
+/// name, and writes the report.
 fn report_orders<F: Folder, K: Sink>(
     alloc: Global,
     orders: &NestOrders<'_>,

@@ -23,7 +23,7 @@ put-word words k w bit within here kept = record {
 pub bit-none : (words : List ℕ) (k : ℕ) → slice_index words (k / 64) ≡ 0 → bit_of words k ≡ 0
 bit-none words k e = ap (λ n. bit_at n (k % 64)) e ∙ bit_at-zero (k % 64)
 
--- a bit that is set stands in a word that isn't 0
+-- a bit that is set is in a word that isn't 0
 pub bit-some : (words : List ℕ) (k : ℕ) → bit_of words k ≡ 1 → 0 < slice_index words (k / 64)
 bit-some words k e =
     elim (cases_eq (slice_index words (k / 64)) 0) [

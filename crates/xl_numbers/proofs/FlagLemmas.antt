@@ -114,7 +114,7 @@ flag-within bit n k e =
 pub flag-set : (bit : ℕ → ℕ) (n k : ℕ) → slice_index_or (flags bit n) k false ≡ true → bit k ≡ 1
 flag-set bit n k e = eqb-true (bit k) 1 (sym (flag-at bit n k (flag-within bit n k e)) ∙ e)
 
--- writing what stands there changes nothing
+-- writing what is there changes nothing
 pub set-kept : (xs : List Bool) (k : ℕ) → slice_index_or xs k false ≡ false → slice_set xs k false ≡ xs
 set-kept xs k e = ap (λ b. slice_set xs k b) (sym e) ∙ set-get_or xs k false
 

@@ -11,7 +11,7 @@ use Rattle.xl_numbers.proofs.BitLemmas.{bit-none, bit-some, word-within}
 pub bit-low : (words : List ℕ) (k : ℕ) → bit_of words k < 2
 bit-low words k = bit_at-lt (slice_index words (k / 64)) (k % 64)
 
--- the first bit above stands for the first word below that isn't 0
+-- the first bit above is that of the first word below that isn't 0
 pub first-below : (below above : List ℕ) (j : ℕ) → IsAbove below above → IsFirstBit above j → IsFirstWord below j
 first-below below above j a first = record {
   within = word-within below j (a.some j first.set);
@@ -143,7 +143,7 @@ module _ (low middle top low' : List ℕ) (n : ℕ) (s : IsStack low middle top)
           last = (let l = s.last in let m = c.len in omega arith);
         }
 
--- a word that a test tells to be 0, or not
+-- a word that a test finds to be 0, or not
 pub word-none : (n : ℕ) (r : Bool) → r ≡ (n == 0) → r ≡ true → n ≡ 0
 word-none n r e h = grind (arith, nat_tests)
 
@@ -228,7 +228,7 @@ ones-none words first count i less fits other ones =
     let set : bit_at w t ≡ 1 = rw (place, index) at (ones.each k (omega arith) (omega (arith, clear.0))) in
     omega (arith, clear.1)
 
--- 64 words that one word stands above, all written
+-- the 64 words below one word, all written
 module _ (below above below' above' : List ℕ) (g word m : ℕ) (a : IsAbove below above) (w : AreWords below below' (64 * g) 64 word) (high : IsWord above above' g m) where
   group-below : (j : ℕ) → (j / 64 ≡ g → ⊥) → slice_index below' j ≡ slice_index below j
   group-below j other = elim (cases_lt j (64 * g)) [

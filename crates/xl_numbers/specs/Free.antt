@@ -15,7 +15,8 @@ HasNone free = (k : ℕ) → slice_index_or free k false ≡ false
 pub record AreFree (free : List Bool) (first count : ℕ) : Type 0 where
   pub each : (k : ℕ) → first ≤ k → k < first + count → slice_index_or free k false ≡ true
 
--- the numbers from `first` on, as many as `count` says, are all free now, or all taken, and all else stays
+-- the numbers from `first` on, as many as `count` says, are all free now, or all taken, and all
+-- else stays
 pub record AreMarked (old new : List Bool) (first count : ℕ) (is_free : Bool) : Type 0 where
   pub len : length new ≡ length old
   pub inside : (k : ℕ) → first ≤ k → k < first + count → slice_index_or new k false ≡ is_free

@@ -1,5 +1,6 @@
-//! Bits in words, on three levels: a word of the second has a bit for each of 64 words of the first,
-//! and a word of the third a bit for each of 64 words of the second. The third has few words.
+//! Bits in words, on three levels: a word of the second has a bit for each of 64 words of the
+//! first, and a word of the third a bit for each of 64 words of the second. The third has few
+//! words.
 
 ghost use Rattle.std.specs.Prelude.{ℕ, ◌≡◌, ◌<◌, ◌≤◌, ◌+◌, ◌*◌, ◌/◌, ◌^◌, ◌==◌, length, slice_index, IfSome, IfNone, IsTrue, ◌↔◌, ◌⊎◌};
 ghost use Rattle.xl_numbers.specs.Bits.{bit_of, IsStack, IsFirstWord, IsFirstBit, IsPut, IsWord, AreWords, AreOnes, NoWord, IsAlike};
@@ -35,7 +36,7 @@ fn raise_bit(words: &mut [u64], k: usize)
     words[k / 64] |= 1 << (k % 64);
 }
 
-/// Clears a bit. Answers whether its word is 0 now.
+/// Clears a bit. Returns whether its word is 0 now.
 fn drop_bit(words: &mut [u64], k: usize) -> bool
     requires { k < 64 * length words.old }
     ensures put { IsPut words.old words.new k 0 }
@@ -129,7 +130,7 @@ fn write_words(words: &mut [u64], first: usize, count: usize, word: u64)
     }
 }
 
-/// Writes the same word to the 64 words of a set that one word stands above.
+/// Writes the same word to the 64 words of a set below one word.
 fn put_group(low: &mut [u64], middle: &mut [u64], top: &mut [u64], group: usize, word: u64)
     requires stack { IsStack low.old middle.old top.old }
     requires within { 64 * group + 64 ≤ length low.old }
@@ -147,7 +148,7 @@ fn put_group(low: &mut [u64], middle: &mut [u64], top: &mut [u64], group: usize,
 }
 
 /// Writes the same word to as many parts of a set as `count` says. A part has `SIZE` words: the 64
-/// that one word stands above, or one word.
+/// below one word, or one word.
 fn put_parts<const SIZE: usize>(
     low: &mut [u64],
     middle: &mut [u64],

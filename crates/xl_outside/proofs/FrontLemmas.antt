@@ -11,7 +11,7 @@ abbrev pub IsFrontOf : Option (List ℕ) → List ℕ → Type 0
 IsFrontOf None bytes = bytes ≡ []
 IsFrontOf (Some file) bytes = bytes ≡ take (length bytes) file
 
--- bytes that are read behind a front make it longer
+-- bytes that are read after a front make it longer
 pub front_more : (file : Option (List ℕ)) (xs : List ℕ) (n w : ℕ) (old new : List ℕ)
     → IsFrontOf file xs → Tells file (length xs) (Ok n) old new → w ≤ n → n ≤ length new → IsFrontOf file (xs ++ take w new)
 front_more None xs n w old new front tells h k = absurd tells
@@ -22,7 +22,7 @@ front_more (Some file) xs n w old new front reads h k =
     ap (λ (ys : List ℕ). ys ++ take w new) front ∙ ap (λ (ys : List ℕ). take (length xs) file ++ ys) part
     ∙ sym (take-add (length xs) w file) ∙ sym (ap (λ (m : ℕ). take m file) size)
 
--- the same, of the file of a name in a folder that tells its files
+-- the same, of the file of a name in a folder whose files are known
 pub more_read : (fs gs : Option Files) (name xs : List ℕ) (at n w : ℕ) (old new after : List ℕ) → gs ≡ fs
     → IfSome fs (λ f. IsFrontOf (file_of f name) xs) → at ≡ length xs
     → IfSome gs (λ f. Tells (file_of f name) at (Ok n) old new)

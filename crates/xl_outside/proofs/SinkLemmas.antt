@@ -14,7 +14,7 @@ take-on bs a n = rw take_rest (sym (take-add a n bs))
 pub length-rest : (bs : List ℕ) (a : ℕ) → a ≤ length bs → length (take (length bs - a) (drop a bs)) + a ≡ length bs
 length-rest bs a h = rw take_rest (omega (arith, length-drop a bs))
 
--- what is written so far goes on by the next part
+-- what is written so far continues by the next part
 pub written_on : (before now after : Option (List ℕ)) (bs : List ℕ) (a n : ℕ)
     → now ≡ with_more before (take a bs) → after ≡ with_more now (take n (take (length bs - a) (drop a bs)))
     → after ≡ with_more before (take (a + n) bs)

@@ -11,7 +11,7 @@ use Rattle.xl_outside.specs.declared.whole.ReadStop.TheVariants as stop
 abbrev pub Files : Type 0
 Files = List (List ℕ × List ℕ)
 
--- the bytes of the file of this name; where a name stands twice, its first file is meant
+-- the bytes of the file of this name; where a name occurs twice, its first file is meant
 abbrev pub file_of : Files → List ℕ → Option (List ℕ)
 file_of [] name = None
 file_of (f ∷ fs) name = if bytes_eq f.0 name then Some f.1 else file_of fs name
@@ -23,8 +23,8 @@ pub record Reads (file : List ℕ) (at n : ℕ) (old new : List ℕ) : Type 0 wh
   pub within : (at + n ≤ length file) ⊎ (n ≡ 0)
   pub end : n ≡ 0 → 0 < length old → length file ≤ at
 
--- What a folder that tells its files may answer: bytes of the file, or a failed read. A file that is
--- there is never missing, and nothing is read of one that isn't.
+-- What a folder whose files are known may return: bytes of the file, or a failed read. A file that
+-- is there is never missing, and nothing is read of one that isn't.
 abbrev pub Tells : Option (List ℕ) → ℕ → Result ℕ Unread → List ℕ → List ℕ → Type 0
 Tells None at (Ok n) old new = ⊥
 Tells None at (Err e) old new = Unit {0}
@@ -39,7 +39,7 @@ pub data ReadFate : Type 0 where
   ReadFailed : ReadFate
   FileMissing : ReadFate
 
--- the fate that a result tells, where each error tells its own
+-- the fate in a result, where each error has its own
 abbrev pub fate_by : {A E : Type 0} → (E → ReadFate) → Result A E → ReadFate
 fate_by of (Ok a) = Fine
 fate_by of (Err e) = of e
@@ -67,16 +67,17 @@ NoneFailed Fine = Unit {0}
 NoneFailed ReadFailed = ⊥
 NoneFailed FileMissing = Unit {0}
 
--- What a folder of one type means: its files, where it tells them; how many reads failed, and how many asked for a
--- file that isn't there, numbers that never fall; and that no read fails from here on.
+-- What a folder of one type means: its files, where they are known; how many reads failed, and how
+-- many asked for a file that isn't there, numbers that never fall; and that no read fails from here
+-- on.
 pub record FolderMeaning (D : Type 0) : Type 1 where
   pub files : D → Option Files
   pub faults : D → ℕ
   pub absences : D → ℕ
   pub steady : D → Type 0
 
--- What calls that came to this fate leave of a folder: its files stay, its counts rise by what
--- failed, and in a steady folder no read fails and it is steady still.
+-- A folder after calls with this fate: its files stay, its counts rise by what failed, and in a
+-- steady folder no read fails and it is steady still.
 pub record FolderAfter {D : Type 0} (folder : FolderMeaning D) (old new : D) (fate : ReadFate) : Type 0 where
   pub keeps : folder.files new ≡ folder.files old
   pub counts : FateCounts fate (folder.faults old) (folder.faults new) (folder.absences old) (folder.absences new)

@@ -35,16 +35,16 @@ pub record FolderState : Type 0 where
 abbrev pub opened_folder : Files → List ℕ → ℕ → FolderState
 opened_folder fs numbers most = record { held = fs; failing = numbers; piece = most; calls = 0; failed = 0; missed = 0 }
 
--- no call of it is to fail, and its faults don't stand at the counter's last value
+-- no call of it is to fail, and its faults aren't at the counter's last value
 abbrev pub NeverFails : FolderState → Type 0
 NeverFails s = (s.failing ≡ []) × (s.failed ≡ 0)
 
--- what a read of a file comes to: the least of the piece, the room and what is left
+-- the size of a read of a file: the least of the piece, the room and what is left
 abbrev pub part_of : Option (List ℕ) → ℕ → ℕ → ℕ → Result ℕ Unread
 part_of None at room piece = Err Missing
 part_of (Some file) at room piece = Ok (min piece (min room (length file - at)))
 
--- The call of the next number is answered Failed where that number is listed, else by the file.
+-- The call of the next number returns Failed where that number is listed, else what the file has.
 abbrev pub read_answer : FolderState → List ℕ → ℕ → ℕ → Result ℕ Unread
 read_answer s name at room =
     if is_listed s.failing (raised s.calls) then Err Failed else part_of (file_of s.held name) at room s.piece
@@ -55,7 +55,7 @@ after_read s (Ok n) = record s { calls = raised s.calls }
 after_read s (Err Failed) = record s { calls = raised s.calls; failed = raised s.failed }
 after_read s (Err Missing) = record s { calls = raised s.calls; missed = raised s.missed }
 
--- what a folder in memory means: it tells its files
+-- what a folder in memory means: its files are known
 abbrev pub told_folder : FolderMeaning FolderState
 told_folder = record { files = λ s. Some s.held; faults = λ s. s.failed; absences = λ s. s.missed; steady = NeverFails }
 
@@ -77,21 +77,22 @@ opened_sink room numbers most = record { text = []; capacity = room; failing = n
 abbrev pub done_outside : SinkState → Outside
 done_outside s = record { written = Some s.text; faults = s.failed }
 
--- no put of it is to fail while so many more bytes come, and its faults don't stand at the counter's last value
+-- no put of it is to fail while `more` more bytes come, and its faults aren't at the counter's last
+-- value
 abbrev pub HasRoom : SinkState → ℕ → Type 0
 HasRoom s more = (s.failing ≡ []) × (s.failed ≡ 0) × (length s.text + more ≤ s.capacity)
 
--- what a sink in memory means: it tells what it took
+-- what a sink in memory means: the bytes that it took are known
 abbrev pub text_sink : SinkMeaning SinkState
 text_sink = record { taken = λ s. Some s.text; outside = done_outside; roomy = HasRoom }
 
--- what a put of so many bytes, at least one, comes to: the least of the piece, the room and the bytes
+-- the size of a put of `count` bytes, at least one: the least of the piece, the room and the bytes
 abbrev pub put_part : SinkState → ℕ → Result ℕ PutFailed
 put_part s count =
     if is_listed s.failing (raised s.puts) || (s.capacity - length s.text == 0) then Err (record {})
     else Ok (min s.piece (min (s.capacity - length s.text) count))
 
--- an empty piece is answered 0
+-- a put of an empty piece returns 0
 abbrev pub put_answer : SinkState → ℕ → Result ℕ PutFailed
 put_answer s count = if count == 0 then Ok 0 else put_part s count
 

@@ -16,8 +16,8 @@ pub record StreamState : Type 0 where
 abbrev pub opened : List ℕ → List ℕ → StreamState
 opened title content = record { name = title; bytes = content; place = 0; seeks = 0 }
 
--- an opening gives the file of this name, at its front; one that isn't there is never opened, and one
--- that is there is never missing
+-- an opening gives the file of this name, at its front; one that isn't there is never opened, and
+-- one that is there is never missing
 abbrev pub Opens : {S : Type 0} → Result S Unread → (S → Option StreamState) → List ℕ → Option (List ℕ) → Type 0
 Opens (Ok s) state name file = (is_some file ≡ true) × (state s ≡ option_map (opened name) file)
 Opens (Err Missing) state name file = file ≡ None
@@ -31,26 +31,26 @@ moved_on n s = record s { place = s.place + n }
 abbrev pub put_at : ℕ → StreamState → StreamState
 put_at at s = record s { place = at; seeks = s.seeks + 1 }
 
--- an open file at this place: put there only where it stands at another
+-- an open file at this place: put there only where it is at another
 abbrev pub sought : ℕ → StreamState → StreamState
 sought at s = if s.place == at then s else put_at at s
 
--- `n` bytes were read where the file stands, if it tells its bytes
+-- `n` bytes were read where the file is, if its bytes are known
 abbrev pub ReadsHere : Option StreamState → ℕ → List ℕ → List ℕ → Type 0
 ReadsHere None n old new = Unit {0}
 ReadsHere (Some s) n old new = Reads s.bytes s.place n old new
 
--- the name by which a file was opened, where it tells it
+-- the name by which a file was opened, where it is known
 abbrev pub name_in : Option StreamState → List ℕ
 name_in None = []
 name_in (Some s) = s.name
 
--- the bytes of a file that was opened, where it tells them
+-- the bytes of a file that was opened, where they are known
 abbrev pub bytes_in : Option StreamState → Option (List ℕ)
 bytes_in None = None
 bytes_in (Some s) = Some s.bytes
 
--- an open file tells its bytes, and they are those of its name
+-- the bytes of an open file are known, and they are those of its name
 abbrev pub IsFileOf : Files → Option StreamState → Type 0
 IsFileOf fs state = (is_some state ≡ true) × (file_of fs (name_in state) ≡ bytes_in state)
 

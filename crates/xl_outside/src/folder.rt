@@ -8,7 +8,7 @@ use thiserror::Error;
 /// Why a read gave nothing.
 #[derive(Clone, Copy, Debug, PartialEq, Eq, Error)]
 pub enum Unread {
-    /// No file of this name can be had.
+    /// No file of this name can be opened.
     #[error("no such file")]
     Missing,
     /// The read failed.
@@ -21,8 +21,8 @@ pub trait Folder {
     /// Its files, what failed so far, and whether no read fails from here on.
     ghost folder: { FolderMeaning Self };
 
-    /// Reads bytes of the file `name`, from the byte `at` on, to the front of `buf`, and answers how
-    /// many: 0 for a buffer that isn't empty exactly where `at` is at or past the file's end.
+    /// Reads bytes of the file `name`, from the byte `at` on, to the front of `buf`, and returns
+    /// how many: 0 for a buffer that isn't empty exactly where `at` is at or past the file's end.
     fn read_at(&mut self, name: &str, at: u64, buf: &mut [u8]) -> Result<usize, Unread>
         ensures count { IfOk result (λ n. n ≤ length buf.new) }
         ensures told { IfSome (folder.files self.old)

@@ -9,7 +9,7 @@ use std::fs::File;
 use std::io::{ErrorKind, Read, Seek, SeekFrom};
 use std::{fs, io};
 
-/// The system's files, by path. It tells nothing of what they hold.
+/// The system's files, by path. What they hold isn't known to contracts.
 pub type HostFolder = OpenFolder<HostFiles, HostFile>;
 
 impl HostFolder {
@@ -30,7 +30,7 @@ pub struct HostFiles {
 impl Opener<HostFile> for HostFiles {
     ghost files = { λ _. None };
 
-    /// What can't be opened is missing, unless only memory was wanting.
+    /// What can't be opened is missing, unless only memory was lacking.
     fn open(&self, name: &str) -> Result<HostFile, Unread> {
         let file = match fs::open(&self.rt, name) {
             Ok(file) => file,

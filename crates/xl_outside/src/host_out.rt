@@ -8,10 +8,10 @@ use std::io;
 use std::io::Write;
 use std::rt::{Stderr, Stdout};
 
-/// Standard output, which is written in large pieces. It tells nothing of what it shows.
+/// Standard output, which is written in large pieces. The output isn't visible to contracts.
 pub type HostOut = Buffered<OpenSink<Stdout>>;
 
-/// Standard error. It tells nothing of what it shows.
+/// Standard error. The output isn't visible to contracts.
 pub type HostErr = OpenSink<Stderr>;
 
 impl HostOut {

@@ -1,6 +1,6 @@
 //! What lies outside: a folder whose files are read in pieces, and a sink that takes bytes.
 //!
-//! Each has two implementations: one in memory that fails where it is told to, whose contract says
+//! Each has two implementations: one in memory that fails where it is asked to, whose contract says
 //! all that it does, and one over the system, which is the trusted edge.
 #![tactic(auto)]
 

@@ -1,4 +1,4 @@
-//! A folder in memory, which fails where it is told to.
+//! A folder in memory, which fails where it is asked to.
 
 ghost use Rattle.std.specs.Prelude.{◌≡◌, ℕ, ◌+◌, ◌-◌, ◌^◌, ◌<◌, ◌≤◌, min, length, take, drop, Option, Some, None, Ok, Err, if◌then◌else◌, IfOk, IfSome, option_copied, option_map};
 ghost use Rattle.xl_outside.specs.Folders.{Files, file_of, Tells, Reads, FolderAfter, fate_by, unread_fate};
@@ -9,8 +9,8 @@ use std::marker::Model;
 
 /// Files in memory.
 ///
-/// A read takes at most `piece` bytes. The reads are numbered from 1, and those whose number stands
-/// in `failing`, and no others, answer Failed.
+/// A read takes at most `piece` bytes. The reads are numbered from 1, and those whose number is in
+/// `failing`, and no others, return Failed.
 #[derive(Drop)]
 pub struct MemFolder {
     files: Vec<(String, Vec<u8>)>,
@@ -40,7 +40,7 @@ impl Model for MemFolder {
 }
 
 impl MemFolder {
-    /// Takes the files with their names. Where a name stands twice, its first file is meant.
+    /// Takes the files with their names. Where a name occurs twice, its first file is meant.
     pub fn open(files: Vec<(String, Vec<u8>)>, failing: Vec<u64>, piece: usize) -> MemFolder
         requires { 0 < piece }
         ensures { result ≡ opened_folder (told files.items) failing.items piece }

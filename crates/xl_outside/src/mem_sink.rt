@@ -1,4 +1,4 @@
-//! A sink in memory, which fails where it is told to.
+//! A sink in memory, which fails where it is asked to.
 
 ghost use Rattle.std.specs.Prelude.{◌≡◌, ℕ, ◌+◌, ◌-◌, ◌^◌, ◌<◌, ◌≤◌, ◌++◌, [], min, length, take, drop, Option, Some, Ok, Err, if◌then◌else◌, IfOk, OnErr, is_ok};
 ghost use Rattle.xl_outside.specs.Sinks.{with_more, Outside, IsMore, PutAfter, FlushAfter};
@@ -12,8 +12,8 @@ use xl_model::NoMemory;
 
 /// A sink in memory, with room for `capacity` bytes.
 ///
-/// A put takes at most `piece` bytes. The puts of pieces that aren't empty are numbered from 1: those
-/// whose number stands in `failing`, those for which no room is left, and no others, fail.
+/// A put takes at most `piece` bytes. The puts of pieces that aren't empty are numbered from 1:
+/// those whose number is in `failing`, those for which no room is left, and no others, fail.
 #[derive(Drop)]
 pub struct MemSink {
     bytes: Vec<u8>,

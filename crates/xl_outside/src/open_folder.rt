@@ -8,9 +8,9 @@ ghost use Rattle.xl_outside.specs.Streams.{IsFileOf, Holds};
 use crate::folder::{Folder, Unread};
 use crate::stream::{Opener, Placed, Stream};
 
-/// A folder over files that are opened: it tells what its opener tells.
+/// A folder over files that are opened: contracts know its files where they know its opener's.
 ///
-/// The last file stays open, and a read that goes on where the last one ended reads on: so a long
+/// The last file stays open, and a read that continues where the last one ended reads on: so a long
 /// file costs one opening and no seek, and a pipe can be read.
 #[derive(Drop)]
 pub struct OpenFolder<O: Opener<S>, S: Stream> {

@@ -9,10 +9,10 @@ use std::io;
 
 /// What bytes are written to.
 pub trait Writer {
-    /// All bytes that were written, where it tells them.
+    /// All bytes that were written, where they are known.
     ghost text: { Self → Option (List ℕ) };
 
-    /// Writes the first bytes of these, and answers how many.
+    /// Writes the first bytes of these, and returns how many.
     fn write_some(&mut self, bytes: &[u8]) -> io::Result<usize>
         ensures count { IfOk result (λ n. n ≤ length bytes.now) }
         ensures took { IfOk result
@@ -20,8 +20,8 @@ pub trait Writer {
         ensures failed { OnErr result (text self.new ≡ text self.old) };
 }
 
-/// A sink over what is written to: it tells what its writer tells. A write that fails, or takes none
-/// of the bytes, is a fault.
+/// A sink over what is written to: contracts know its output where they know its writer's. A write
+/// that fails, or takes none of the bytes, is a fault.
 #[derive(Drop)]
 pub struct OpenSink<W: Writer> {
     to: W,

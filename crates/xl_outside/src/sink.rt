@@ -16,8 +16,8 @@ pub trait Sink {
     /// What it took, what it has done outside, and for how much more it has room.
     ghost sink: { SinkMeaning Self };
 
-    /// Takes the first bytes of the piece, and answers how many. An answer of 0 to a piece that
-    /// isn't empty counts as a fault; an empty piece is answered 0, and counts as none.
+    /// Takes the first bytes of the piece, and returns how many. 0 for a piece that isn't empty
+    /// counts as a fault; for an empty piece it returns 0, which counts as none.
     fn put(&mut self, bytes: &[u8]) -> Result<usize, Failed>
         ensures count { IfOk result (λ n. n ≤ length bytes.now) }
         ensures empty { length bytes.now ≡ 0 → result ≡ Ok 0 }

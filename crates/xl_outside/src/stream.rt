@@ -11,7 +11,7 @@ use std::io;
 /// A file that is open.
 pub trait Stream {
     /// Its name, its bytes, the place of the next one, and how often it was put at another place,
-    /// where it tells them.
+    /// where they are known.
     ghost state: { Self → Option StreamState };
 
     /// Whether it was opened by this name.
@@ -22,7 +22,7 @@ pub trait Stream {
     fn seek_to(&mut self, at: u64) -> io::Result<()>
         ensures { OnOk result (state self.new ≡ option_map (put_at at) (state self.old)) };
 
-    /// Reads on, to the front of `buf`, and answers how many bytes: 0 for a buffer that isn't empty
+    /// Reads on, to the front of `buf`, and returns how many bytes: 0 for a buffer that isn't empty
     /// exactly at the file's end.
     fn read_on(&mut self, buf: &mut [u8]) -> io::Result<usize>
         ensures count { IfOk result (λ n. n ≤ length buf.new) }
@@ -33,7 +33,7 @@ pub trait Stream {
 
 /// What opens files by name.
 pub trait Opener<S: Stream> {
-    /// The files, where it tells them.
+    /// The files, where they are known.
     ghost files: { Self → Option Files };
 
     /// Opens the file of this name at its front.
@@ -67,7 +67,7 @@ impl<S: Stream + Drop> Placed<S> {
         self.stream.is_named(name)
     }
 
-    /// Reads from a place. The file is put there only where it stands at another one, so that a pipe
+    /// Reads from a place. The file is put there only where it is at another one, so that a pipe
     /// can be read from its front to its end.
     pub fn read_at(self, at: u64, buf: &mut [u8]) -> Result<(Placed<S>, usize), Unread>
         ensures count { IfOk result (λ r. r.1 ≤ length buf.new) }

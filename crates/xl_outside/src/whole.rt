@@ -13,7 +13,7 @@ use thiserror::Error;
 /// Why a file wasn't read.
 #[derive(Clone, Copy, Debug, PartialEq, Eq, Error)]
 pub enum ReadStop {
-    /// No file of this name can be had.
+    /// No file of this name can be opened.
     #[error("no such file")]
     Missing,
     /// A read failed.

@@ -91,7 +91,7 @@ module _ {A C E S : Type 0} (p : Pairing A C E S) where
   skimmed_none stands t s h = record { stands_still = h; taken = []; split = refl; follow = refl; many = refl }
 
   module _ {K : Type 0} (sink : SinkMeaning K) where
-    -- events of commands were served, of which nothing is told
+    -- events of commands were served, which have no lines
     pub served_commands : (answers : Bool) (es : List E) (s t : S) (k : K) → t ≡ commanded es s
         → HasServed (meaning_of p) sink answers (map Command es) s t k k true
     served_commands answers es s t k e = record {

@@ -28,14 +28,16 @@ script_said says text = said_by script_fault (says text)
 abbrev pub script_in : {A : Type 0} → (List ℕ → Result A ScriptFault) → List ℕ → Files → Result A InputFault
 script_in says name files = said_in (script_said says) (file_of files name)
 
--- What is served: an event of a command, or an access of the record of this number, at this address and of this kind.
+-- What is served: an event of a command, or an access of the record of this number, at this address
+-- and of this kind.
 pub data Item (E : Type 0) : Type 0 where
   Command : E → Item E
   Referenced : ℕ → ℕ → Kind → Item E
 
--- A form whose words name a script and a trace, over what its scripts say (A), its commands, its events and its states: the
--- state that a script opens, and its steps; the events of a command, and the event of an access; the state after an event;
--- the line of an access of the record of this number; and the end of the report.
+-- A form whose words name a script and a trace, over what its scripts say (A), its commands, its
+-- events and its states: the state that a script opens, and its steps; the events of a command, and
+-- the event of an access; the state after an event; the line of an access of the record of this
+-- number; and the end of the report.
 pub record Pairing (A C E S : Type 0) : Type 0 where
   pub opens : A → S
   pub steps : A → List (Step C)
@@ -45,7 +47,7 @@ pub record Pairing (A C E S : Type 0) : Type 0 where
   pub line : ℕ → ℕ → Kind → S → List ℕ
   pub last : S → List ℕ
 
--- So many events, from the one of this number on.
+-- n events, from the one of this number on.
 abbrev pub events_from : {E : Type 0} → (ℕ → E) → ℕ → ℕ → List E
 events_from at i zero = []
 events_from at i (suc n) = at i ∷ events_from at (suc i) n
@@ -78,7 +80,8 @@ meaning_of p = record {
 abbrev pub course_of : {A C E S : Type 0} → Pairing A C E S → A → Trail → Course (Item E)
 course_of p script t = course (meaning_of p) (p.steps script) t
 
--- What is to be written of a script over a trace: the account of its course, from the state that it opens.
+-- What is to be written of a script over a trace: the account of its course, from the state that it
+-- opens.
 abbrev pub account_from : {A C E S : Type 0} → Pairing A C E S → Bool → Trail → A → Account
 account_from p answers t script = account (meaning_of p) answers p.last false (course_of p script t) (p.opens script)
 

@@ -12,8 +12,7 @@ pub trait Bus {
     /// The loads made so far, modulo 2^64.
     ghost count: { Self → ℕ };
 
-    /// What the bus is after a load. It tells the owner of a bus that the rest of it stayed as it
-    /// was.
+    /// The bus after a load. By this the owner of a bus knows that the rest of it stayed as it was.
     ghost loaded: { Self → Self };
 
     /// Loads line `line`, and counts one load. None exactly where the line's four words aren't all
@@ -23,7 +22,7 @@ pub trait Bus {
         ensures none { IfNone result (length (words self.old) < 4 * line + 4) }
         ensures after { self.new ≡ loaded self.old };
 
-    /// Loads the line of word `place`, and answers that word. None exactly where the line's four
+    /// Loads the line of word `place`, and returns that word. `None` exactly where the line's four
     /// words aren't all there; that counts too.
     fn word(&mut self, place: usize) -> Option<u64>
         ensures some { IfSome result (IsWord (words self.old) place) }

@@ -16,7 +16,7 @@ bit word k = word / 2 ^ k % 2 == 1
 abbrev pub ppn_of : ℕ → ℕ
 ppn_of word = word / 2 ^ 10 % 2 ^ 44
 
--- A pointer says its node; at level 0 it is reserved, since the walk can't go on.
+-- A pointer gives its node; at level 0 it is reserved, since the walk can't continue.
 abbrev pub pointer_at : ℕ → ℕ → Pte
 pointer_at level number = if level == 0 then Reserved else Pointer number
 
@@ -24,7 +24,8 @@ pointer_at level number = if level == 0 then Reserved else Pointer number
 abbrev pub leaf_at : ℕ → ℕ → Perm → Pte
 leaf_at level number p = if number % 2 ^ (9 * level) == 0 then Leaf number p else Misaligned
 
--- By the bits R, W, X and U: W without R is reserved, a word without R, W and X points, all else is a leaf.
+-- By the bits R, W, X and U: W without R is reserved, a word without R, W and X points, all else is
+-- a leaf.
 abbrev pub says : Bool → Bool → Bool → Bool → ℕ → ℕ → Pte
 says false true x u level number = Reserved
 says false false false u level number = pointer_at level number
@@ -32,8 +33,8 @@ says false false true u level number =
     leaf_at level number (record { r = false; w = false; x = true; u = u; legal = refl })
 says true w x u level number = leaf_at level number (record { r = true; w = w; x = x; u = u; legal = refl })
 
--- What a word says at a level: nothing where V isn't set, reserved where any of bits 54 to 63 is set, else what
--- the bits R, W, X and U say.
+-- What a word says at a level: nothing where V isn't set, reserved where any of bits 54 to 63 is
+-- set, else what the bits R, W, X and U say.
 unfoldable pub decode_of : ℕ → ℕ → Pte
 decode_of word level =
     if bit word 0
@@ -58,13 +59,13 @@ SaysSmall word small = decode_of word 0 ≡ Leaf (small / 16) (perm_at small)
 abbrev pub SaysNone : ℕ → Type 0
 SaysNone word = (frame : ℕ) (p : Perm) → decode_of word 0 ≡ Leaf frame p → ⊥
 
--- The six lowest bits of a word say a leaf that allows an access of this kind: V is set, and the permission is
--- legal and allows it.
+-- The six lowest bits of a word say a leaf that allows an access of this kind: V is set, and the
+-- permission is legal and allows it.
 abbrev pub low_allows : ℕ → Kind → Bool
 low_allows word kind = bit word 0 && (is_legal (bit word 1) (bit word 2) (bit word 3) && allows (perm_at (word / 2)) kind)
 
--- At level 0 a word says a leaf, whose frame and permission are in this word, and which allows an access of
--- this kind.
+-- At level 0 a word says a leaf, whose frame and permission are in this word, and which allows an
+-- access of this kind.
 pub record SaysAllowed (word : ℕ) (kind : Kind) (small : ℕ) : Type 0 where
   pub says : SaysSmall word small
   pub allowed : allows (perm_at small) kind ≡ true

@@ -11,7 +11,7 @@ use xl_model::{Kind, Perm};
 pub enum Pte {
     /// There is nothing.
     Invalid,
-    /// The walk goes on in this node, one level down.
+    /// The walk continues in this node, one level down.
     Pointer { node: u64 },
     /// A leaf of this level, from this frame on.
     Leaf { frame: u64, perm: Perm },
@@ -49,7 +49,7 @@ fn bit(word: u64, k: u32) -> bool
     (word >> k) % 2 == 1
 }
 
-/// The word of node `number` at `level`: reserved at level 0, where no walk goes on.
+/// The word of node `number` at `level`: reserved at level 0, where no walk continues.
 fn pointer_at(level: usize, number: u64) -> Pte
     ensures { result ≡ pointer_said level number }
 {
@@ -75,7 +75,7 @@ fn leaf_at(level: usize, number: u64, perm: Perm) -> Pte
     }
 }
 
-/// What `word` says at `level`. A number in the answer is below 2^44. Bits G, A, D and RSW are not
+/// What `word` says at `level`. A number in the result is below 2^44. Bits G, A, D and RSW are not
 /// looked at, and bit U of a pointer isn't either; any of bits 54 to 63 makes the word reserved.
 #[tactic(auto, unfolding(crate::specs::Decode::decode_of))]
 pub fn decode(word: u64, level: usize) -> Pte
@@ -99,12 +99,12 @@ pub fn decode(word: u64, level: usize) -> Pte
     }
 }
 
-/// The codes that the permission of a leaf may have, a bit for each of the sixteen: it may be read, or else
-/// executed and not written. One look at a bit costs less than a test of three.
+/// The codes that the permission of a leaf may have, a bit for each of the sixteen: it may be read,
+/// or else executed and not written. One look at a bit costs less than a test of three.
 const LEGAL: u64 = 0xbaba;
 
-/// The frame (times 16) and the permission of the leaf that a word of level 0 says: the permission's bits
-/// stand in both words in the same order. None where it says no leaf.
+/// The frame (times 16) and the permission of the leaf in a word of level 0: the
+/// permission's bits are in both words in the same order. None where it says no leaf.
 #[inline(always)]
 pub fn small_word(word: u64) -> Option<u64>
     ensures some { IfSome result (SaysSmall word) }
@@ -118,8 +118,8 @@ pub fn small_word(word: u64) -> Option<u64>
     }
 }
 
-/// A bit for each value of a word's six lowest bits: whether they say a leaf that allows an access of this
-/// kind. Which kind comes next can't be foretold, so the mask is looked up.
+/// A bit for each value of a word's six lowest bits: whether they say a leaf that allows an access
+/// of this kind. Which kind comes next can't be predicted, so the mask is looked up.
 fn allowed_bits(kind: Kind) -> u64
     ensures { (low : ℕ) → low < 64 → (result / 2 ^ low % 2 == 1) ≡ low_allows low kind }
 {
@@ -130,7 +130,8 @@ fn allowed_bits(kind: Kind) -> u64
     }
 }
 
-/// As `small_word`, for a leaf that allows an access of this kind alone: one look at a bit tells that too.
+/// As `small_word`, for a leaf that allows an access of this kind alone: one look at a bit says
+/// that too.
 #[inline(always)]
 pub fn allowed_word(word: u64, kind: Kind) -> Option<u64>
     ensures some { IfSome result (SaysAllowed word kind) }

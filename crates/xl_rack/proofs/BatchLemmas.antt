@@ -35,7 +35,7 @@ wanted-alone reply.Unmapped area not = absurd (not refl)
 wanted-alone reply.Denied area not = refl
 wanted-alone (reply.Frame frame) area not = refl
 
--- the access is served, and demands what is wanted
+-- the access is served, and then the map that it demands
 access-is : (va : ℕ) (k : Kind) (areas : List Area) (v : Served) (answer : Reply) → answer ≡ reply_to v.row v.state va k
     → access_served va k areas v ≡ record v { state = demanded (wanted answer (area_for v.state.space va areas)) v.row va (event.Access va k) (accessed_by va k v).state }
 access-is va k areas v answer e =
@@ -57,7 +57,7 @@ access-alone va k areas v m answer e not after =
     ∙ ap (λ (z : Option Area). record v { state = demanded z v.row va (event.Access va k) (accessed_by va k v).state }) (sym (wanted-alone answer (area_for v.state.space va areas) not))
     ∙ sym (access-is va k areas v answer e)
 
--- an access that a frame answered
+-- an access that a frame was returned for
 pub framed-alone : (va : ℕ) (k : Kind) (areas : List Area) (v m : Served) → IsFramed va k v m → m ≡ access_served va k areas v
 framed-alone va k areas v m framed =
     let not : reply_to v.row v.state va k ≡ reply.Unmapped → ⊥ = λ e. let f : reply.Frame framed.frame.0 ≡ reply.Unmapped = sym framed.frame.1 ∙ e in cc in
@@ -164,7 +164,7 @@ each-then {f} {g} {slots} first then = record {
 pub each-same : {f g : Served → Served} {slots one : List Slot} → EachServed f slots one → ((v : Served) → f v ≡ g v) → EachServed g slots one
 each-same {slots = slots} {one = one} each same = subst (λ (h : Served → Served). EachServed h slots one) (fun_ext same) each
 
--- accesses, then a command, and then what comes behind them
+-- accesses, then a command, and then what comes after them
 pub waiting-in-parts : {before behind : List Access} {events later : List WaitingEvent} {w : WaitingEvent} (accesses : List Access) (areas : List Area) (v : Served)
     → events ≡ w ∷ later → before ≡ take w.gap accesses → behind ≡ drop w.gap accesses
     → waiting_served behind later areas (after_of w.event (row_served before areas v)) ≡ waiting_served accesses events areas v

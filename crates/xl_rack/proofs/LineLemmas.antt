@@ -26,7 +26,7 @@ module _ {K : Type 0} (sink : SinkMeaning K) where
       let P : List ℕ → Type 0 = λ t. SinkAfter sink t a b false in
       subst P (sym (line-more answers xs ys)) (sink_cut sink (line_where answers xs) (line_where answers ys) a b first)
 
-  -- nothing to tell
+  -- no line
   pub lines-none : (answers : Bool) (a : K) → SinkAfter sink (line_where answers []) a a true
   lines-none answers a =
       let P : List ℕ → Type 0 = λ t. SinkAfter sink t a a true in

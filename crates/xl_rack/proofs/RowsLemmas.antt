@@ -102,7 +102,7 @@ scene-item true item areas p q is same = rw (is refl, same) refl
 scene-item false item areas p q is same = tt
 
 module _ {K : Type 0} (sink : SinkMeaning K) where
-  -- the rows up to a place were served, and what they tell was written
+  -- the rows up to a place were served, and their lines were written
   pub record Going (answers : Bool) (item : Item) (areas : List Area) (i : ℕ) (p q : List Served) (k l : K) : Type 0 where
     pub rows_are : q ≡ partly item areas p i
     pub writes : SinkAfter sink (line_where answers (rows_lines item areas (take i p))) k l true
@@ -110,7 +110,7 @@ module _ {K : Type 0} (sink : SinkMeaning K) where
   pub nothing-yet : (answers : Bool) (item : Item) (areas : List Area) (p : List Served) (k : K) → Going answers item areas 0 p p k k
   nothing-yet answers item areas p k = record { rows_are = refl; writes = lines-none sink answers k }
 
-  -- what the row at the place tells next
+  -- the lines of the row at the place
   next-told : (answers : Bool) (item : Item) (areas : List Area) (i : ℕ) (p q r : List Served) (k l m : K) (whole : Bool) (v : Served) → slice_get p i ≡ Some v → i < length p
       → Going answers item areas i p q k l → ServedAt sink answers i (served_after item areas) (λ w. item_lines item areas w.row w.state) q r l m whole
       → SinkAfter sink (line_where answers (rows_lines item areas (take i p) ++ item_lines item areas v.row v.state)) k m whole

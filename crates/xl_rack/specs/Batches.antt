@@ -22,8 +22,8 @@ abbrev pub row_served : List Access → List Area → Served → Served
 row_served [] areas v = v
 row_served (a ∷ accesses) areas v = row_served accesses areas (access_served a.va a.kind areas v)
 
--- A row after accesses with events among them: for each event the accesses of its gap and then its command, and at the
--- end the accesses behind the last event.
+-- A row after accesses with events among them: for each event the accesses of its gap and then its
+-- command, and at the end the accesses after the last event.
 abbrev pub waiting_served : List Access → List WaitingEvent → List Area → Served → Served
 waiting_served accesses [] areas v = row_served accesses areas v
 waiting_served accesses (w ∷ events) areas v =

@@ -10,7 +10,8 @@ use Rattle.xl_curve_model.specs.CurveRun.{curve_after}
 use Rattle.xl_chart.specs.Charts.{curve_item}
 use Rattle.xl_rack.specs.Batches.{access_served}
 
--- Each curve, changed by its own row: the first curve by the first row, and so on. A curve without a row stays.
+-- Each curve, changed by its own row: the first curve by the first row, and so on. A curve without
+-- a row stays.
 abbrev pub each_curve : (Served → HitCurve → HitCurve) → List Served → List HitCurve → List HitCurve
 each_curve f [] curves = curves
 each_curve f (r ∷ rows) [] = []

@@ -44,7 +44,7 @@ form_by m (table.Clustered buckets blocks) = Some ClusteredForm
 form_by m (table.Cuckoo ways start cap threshold kick_limit migrate sections_2m sections_1g caches) = cuckoo_form ways
 form_by m (table.Range ranges range_tlb) = Some RangeForm
 
--- A cuckoo table of so many ways.
+-- A cuckoo table of `n` ways.
 abbrev pub IsCuckoo : ℕ → Table → Type 0
 IsCuckoo count (table.Cuckoo ways start cap threshold kick_limit migrate sections_2m sections_1g caches) = ways ≡ count
 IsCuckoo count _ = ⊥

@@ -38,7 +38,8 @@ IsNamed s = form_named (served_of s).row ≡ Some (slot_form s)
 abbrev pub has_no_arrays : Slot → Bool
 has_no_arrays s = length (served_of s).state.arrays == 0
 
--- Each slot's row is served, as this function says, and each slot stays of the form that its row names.
+-- Each slot's row is served, as this function says, and each slot stays of the form that its row
+-- names.
 pub record EachServed (after : Served → Served) (old new : List Slot) : Type 0 where
   pub served : map served_of new ≡ map after (map served_of old)
   pub named : All IsNamed old → All IsNamed new

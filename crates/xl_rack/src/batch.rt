@@ -28,7 +28,8 @@ fn serve_demand<S: Structure>(machine: &mut Machine<S>, va: u64, kind: Kind, are
     }
 }
 
-/// Serves an access, with the events of its demand. BARE and CACHED say how the machine is asked.
+/// Serves an access, with the events of its demand. BARE: no TLB is expected; CACHED: the row
+/// caches level-0 nodes.
 #[inline(always)]
 fn serve_one<S: Structure, const BARE: bool, const CACHED: bool>(
     machine: &mut Machine<S>,
@@ -60,8 +61,8 @@ fn serve_each<S: Structure, const BARE: bool, const CACHED: bool>(
     }
 }
 
-/// Serves accesses to a machine one after another: whether it has arrays, and a cache of its lowest
-/// nodes, is asked once for all of them.
+/// Serves accesses to a machine one after another. Whether it has arrays, and a cache of level-0
+/// nodes, is looked at once for all of them.
 fn serve_all<S: Structure>(machine: &mut Machine<S>, accesses: &[Access], areas: &Areas)
     ensures { machine.new ≡ row_served accesses.now areas.now machine.old }
 {
@@ -159,9 +160,8 @@ pub(crate) fn step_each(slots: &mut [Slot], event: Event)
     step_each(rest, event);
 }
 
-/// Serves accesses, and the events among them, to the slots side by side: each to all of them, then
-/// the next. Presumably a row's arrays mostly answer as those of the row before did just now, and
-/// the processor foretells it.
+/// Serves accesses, and the events among them, to the slots side by side: each to all slots, then
+/// the next. Hits and misses of rows go together, which helps branch prediction.
 fn serve_side_by_side(
     slots: &mut [Slot],
     accesses: &[Access],
@@ -195,8 +195,8 @@ fn one_is_bare(slots: &[Slot]) -> bool
     slots.iter().any(|slot| is_bare(slot))
 }
 
-/// Whether these slots are served side by side: several, of which none is without arrays. Without
-/// arrays a machine is served faster alone.
+/// Whether these slots are served side by side: several, all with a TLB. Without a TLB a machine is
+/// served faster alone.
 fn has_company(slots: &[Slot]) -> bool
     ensures { result ≡ (nat_lt 1 (length slots.now) && not (list_any has_no_arrays slots.now)) }
 {
@@ -215,8 +215,7 @@ fn serve_group(slots: &mut [Slot], accesses: &[Access], events: &[WaitingEvent],
     }
 }
 
-/// How many slots are served side by side at most: with more of them the arrays of a row presumably
-/// leave the processor's first cache before its next access.
+/// Interleaving limit: the arrays of more rows presumably don't fit in the processor's first cache.
 const SIDE_BY_SIDE: usize = 8;
 
 /// Serves accesses, and the events among them, to all slots, some of them after the others.

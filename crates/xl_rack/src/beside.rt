@@ -37,8 +37,8 @@ fn serve_one<S: Structure>(
     serve_beside(machine, curve, item, areas);
 }
 
-/// Serves accesses to a machine one after another, each with the events of its demand, and the curve
-/// follows.
+/// Serves accesses to a machine one after another, each with the events of its demand, and the
+/// curve follows.
 fn serve_machine<S: Structure>(
     machine: &mut Machine<S>,
     curve: &mut Curve,
@@ -64,8 +64,8 @@ fn serve_slot(slot: &mut Slot, curve: &mut Curve, accesses: &[Access], areas: &A
     at_table!(slot, machine => serve_machine(machine, curve, accesses, areas))
 }
 
-/// Serves accesses to each slot, while a curve follows each. Where there are more slots than curves,
-/// the last are served alone.
+/// Serves accesses to each slot, while a curve follows each. Where there are more slots than
+/// curves, the last are served alone.
 pub(crate) fn serve_slots_beside(
     slots: &mut [Slot],
     curves: &mut [Curve],
@@ -96,8 +96,8 @@ fn step_slot(slot: &mut Slot, curve: &mut Curve, event: Event)
     let _outcome = at_table!(slot, machine => step_beside(machine, curve, event));
 }
 
-/// Serves an event to each slot, while a curve follows each. Where there are more slots than curves,
-/// the last are served alone.
+/// Serves an event to each slot, while a curve follows each. Where there are more slots than
+/// curves, the last are served alone.
 pub(crate) fn step_slots_beside(slots: &mut [Slot], curves: &mut [Curve], event: Event)
     ensures slots { EachServed (after_of event) slots.old slots.new }
     ensures curves { curves.new

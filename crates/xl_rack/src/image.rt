@@ -1,4 +1,4 @@
-//! The words of radix tables, as they stand in the tables.
+//! The words of radix tables, as the tables hold them.
 
 ghost use Rattle.std.specs.Prelude.{◌≡◌, ◌<◌, true, None, is_ok, is_some, length, slice_index_or, IfSome};
 ghost use Rattle.xl_model.specs.Report.{image_lines, images_lines, word_lines};

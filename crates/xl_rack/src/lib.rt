@@ -1,5 +1,5 @@
-//! The machines of all rows: up to sixteen, each over the table that its row names. An item is served
-//! by one after another.
+//! The machines of all rows: up to sixteen, each over the table that its row names. An item is
+//! served by one after another.
 #![tactic(auto)]
 
 mod batch;

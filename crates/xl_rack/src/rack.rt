@@ -29,8 +29,8 @@ use xl_serving::WaitingEvent;
 /// The most rows of a rack.
 const MOST: usize = 16;
 
-/// The machines of up to sixteen rows, in the order in which they were added. Contracts see each row
-/// with its state. A state changes by the events that are served, and in no other way.
+/// The machines of up to sixteen rows, in the order in which they were added. Contracts see each
+/// row with its state. A state changes by the events that are served, and in no other way.
 #[derive(Drop)]
 pub struct Rack {
     slots: Vec<Slot>,
@@ -92,8 +92,8 @@ impl Rack {
         })
     }
 
-    /// Opens the table that a row names and a machine over it, and puts the row last, in its opening
-    /// state.
+    /// Opens the table that a row names and a machine over it, and puts the row last, in its
+    /// opening state.
     ///
     /// # Errors
     ///
@@ -139,8 +139,8 @@ impl Rack {
         access_at(&mut self.slots, i, va, kind)
     }
 
-    /// Serves accesses, with the events of their demands, and the events among them, by each machine in
-    /// turn.
+    /// Serves accesses, with the events of their demands, and the events among them, by each
+    /// machine in turn.
     pub fn serve_waiting(&mut self, accesses: &[Access], events: &[WaitingEvent], areas: &Areas)
         requires { gaps events.now ≤ length accesses.now }
         ensures { self.new ≡ map (waiting_served accesses.now events.now areas.now) self.old }
@@ -157,8 +157,8 @@ impl Rack {
         step_slots_beside(&mut self.slots, curves, event)
     }
 
-    /// Serves accesses, with the events of their demands, by each machine in turn, and a curve follows
-    /// each, as in `step_beside`.
+    /// Serves accesses, with the events of their demands, by each machine in turn, and a curve
+    /// follows each, as in `step_beside`.
     pub fn serve_beside(&mut self, curves: &mut [Curve], accesses: &[Access], areas: &Areas)
         ensures rows { self.new ≡ map (row_served accesses.now areas.now) self.old }
         ensures curves { curves.new

@@ -47,7 +47,7 @@ fn serve_item<K: Sink>(
     }
 }
 
-/// Serves an item that declares no area: whole by the first row, then by the next. In line, so that
+/// Serves an item that declares no area: whole by the first row, then by the next. Inlined, so that
 /// the item's kind is known in the loop.
 #[inline(always)]
 pub(crate) fn serve_rows<K: Sink>(

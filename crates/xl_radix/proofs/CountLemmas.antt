@@ -82,7 +82,7 @@ filled-nothing words at (suc n) h =
 apart : (m n i size : ℕ) → m ≢ n → size ≡ 512 → i < size → (n * 512 + i < m * 512) ⊎ (m * 512 + size ≤ n * 512 + i)
 apart m n i size t big g = elim (cases_lt n m) [ inl a ↦ inl (omega arith) | inr a ↦ inr (omega arith) ]
 
--- A word comes to an empty place of a node.
+-- A word is put at an empty place of a node.
 pub counted-more : (size n i w : ℕ) (nodes : List (Option Node)) (words used : List ℕ) → size ≡ 512 → IsCounted nodes words used → length words ≡ length nodes * 512 → n < length nodes → i < size → slice_index words (n * 512 + i) ≡ 0 → w ≢ 0 → IsCounted nodes (slice_set words (n * 512 + i) w) (slice_set used n (slice_index used n + 1))
 counted-more size n i w nodes words used big c len h g e f = record {
   places = length-set used n (slice_index used n + 1) ∙ c.places;

@@ -53,7 +53,7 @@ none-high top spaces s page l n leaves nodes y high m exact at i same h block =
         let g : level_of z.order ≡ level_of y.order = ap (λ (w : Leaf). level_of w.order) e in
         omega (arith, g, lower, h)
 
--- Where a slot has neither leaf nor node, no leaf meets its block or a block in it.
+-- Where a slot has neither leaf nor node, no leaf overlaps its block or a block in it.
 pub none-overlaps : (top spaces s page l n m : ℕ) (leaves : List Leaf) (nodes : List (Option Node)) (words : List ℕ) (used : List ℕ) (y : Leaf) → IsTable top spaces leaves nodes words used → l < top → Stands s page l n nodes → leaf_in s l (up l page) leaves ≡ None → number_of s l (up l page) nodes ≡ None → m ≤ l → In y leaves → Met s page m y → ⊥
 none-overlaps top spaces s page l n m leaves nodes words used y t low at e f h i g =
     elim (cases_lt l (level_of y.order)) [
@@ -136,7 +136,7 @@ pub none-word : (s l q : ℕ) (leaves : List Leaf) (nodes : List (Option Node)) 
 unfolding word_at
 none-word s l q leaves nodes e f = rw (e, f) refl
 
--- A walk for a block stops at a word that is 0 exactly where no leaf meets the block.
+-- A walk for a block stops at a word that is 0 exactly where no leaf overlaps the block.
 pub no-leaf-meets : (top spaces s first n l : ℕ) (o : Order) (leaves : List Leaf) (nodes : List (Option Node)) (words : List ℕ) (used : List ℕ) → IsTable top spaces leaves nodes words used → up (level_of o) first * pages_of o ≡ first → IsEnd top s first (level_of o) l n nodes → word_at leaves nodes s l (up l first) ≡ 0 → meets_any s first o leaves ≡ false
 unfolding meets_any
 no-leaf-meets top spaces s first n l o leaves nodes words used t aligned end empty =

@@ -29,7 +29,7 @@ node-is s l q node is =
     let c = is.prefix_is in
     rw (← a, ← b, ← c) refl
 
--- No leaf and no node stands in an empty node.
+-- No leaf and no node is in an empty node.
 pub nothing-in : (top s l q k c : ℕ) (leaves : List Leaf) (nodes : List (Option Node)) (words : List ℕ) → IsImage top leaves nodes words → IsEmpty s l q k nodes words → c / 512 ≡ q → (leaf_in s l c leaves ≡ None) × (number_of s l c nodes ≡ None)
 nothing-in top s l q k c leaves nodes words image empty h =
     let inside : k < length nodes = node-in k nodes (new_node s l q) empty.below in

@@ -24,7 +24,7 @@ any-nothing p xs not =
       | false ↦ λ e. refl
     ] refl
 
--- A test that the new leaf doesn't meet finds what it found, where no leaf has the new one's key.
+-- A test that the new leaf fails finds what it found, where no leaf has the new one's key.
 pub find-with-other : (p : Leaf → Bool) (x : Leaf) (xs : List Leaf) → p x ≡ false → ((y : Leaf) → In y xs → leaf_key x ≡ leaf_key y → ⊥) → find p (with_leaf x xs) ≡ find p xs
 find-with-other p x [] f not = rw f refl
 find-with-other p x (z ∷ zs) f not =

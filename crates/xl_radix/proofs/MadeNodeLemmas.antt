@@ -129,7 +129,7 @@ made-pointer s l q k leaves nodes spot = rw (spot.empty, made-number-same s l q 
 abbrev pub made_words : ℕ → ℕ → ℕ → List ℕ → List ℕ
 made_words n index k words = slice_set words (n * 512 + index) (pointer_word k)
 
--- what a node that stands at a page is
+-- what a node that is at a page is
 pub stands-is : (s page l n : ℕ) (nodes : List (Option Node)) → Stands s page l n nodes → (node : Node) × (slice_index_or nodes n None ≡ Some node) × Is s (suc l) (up (suc l) page) node
 stands-is s page l n nodes at = below-some s (suc l) (up (suc l) page) _ at.stands
 
@@ -137,7 +137,8 @@ stands-is s page l n nodes at = below-some s (suc l) (up (suc l) page) _ at.stan
 pub places : (n m i j : ℕ) → i < 512 → j < 512 → n * 512 + i ≡ m * 512 + j → (n ≡ m) × (i ≡ j)
 places n m i j h g e = (omega arith, omega arith)
 
--- The place of a page's word in the node that stands there is no other slot's, and no place of a free number.
+-- The place of a page's word in the node that is there is no other slot's, and no place of a free
+-- number.
 pub other-slot : (s page l n m i : ℕ) (nodes : List (Option Node)) (node : Node) → Stands s page l n nodes → i < 512 → slice_index_or nodes m None ≡ Some node → ((node.space ≡ s) × (node.level ≡ l) × (node.prefix * 512 + i ≡ up l page) → ⊥) → m * 512 + i ≢ n * 512 + up l page % 512
 other-slot s page l n m i nodes node at g f not d =
     let stand = stands-is s page l n nodes at in
@@ -244,7 +245,7 @@ made top s page l k n leaves nodes words image low at spot = record {
           | inr e ↦ old a b c (image.closed a b c m (rw e.1 at h))
         ]
 
--- The new node stands at its page.
+-- The new node is at its page.
 pub made-stands : (s page l k : ℕ) (leaves : List Leaf) (nodes : List (Option Node)) → IsSpot s l (up (suc l) page) k leaves nodes → Stands s page l k (made_nodes s l (up (suc l) page) k nodes)
 made-stands s page l k leaves nodes spot = record {
   stands = rw (get_or-set_same nodes k (Some (new_node s l (up (suc l) page))) None spot.within) (new-below s l (up (suc l) page));

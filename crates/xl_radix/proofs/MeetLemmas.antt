@@ -54,7 +54,7 @@ and-true false b h = cc
 both-true : (a b : Bool) → a ≡ true → b ≡ true → (a && b) ≡ true
 both-true a b e f = rw (e, f) refl
 
--- What it means that a leaf meets a block.
+-- What it means that a leaf overlaps a block.
 pub record Met (space at : ℕ) (level : ℕ) (leaf : Leaf) : Type 0 where
   pub space_is : leaf.space ≡ space
   pub overlap : Overlap (level_of leaf.order) leaf.first level at

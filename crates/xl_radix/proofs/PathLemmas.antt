@@ -38,7 +38,7 @@ path-step s page l j nodes h e =
     let b : l + suc (j - 1 - l) ≡ j = omega arith in
     path-at s page l (j - l) (j - 1 - l) j nodes a b ∙ ap (with_path s page l (j - 1 - l)) (with-node-new s j (up j page) nodes e)
 
--- The nodes above one that stands at a page are there, and so a path begins below it.
+-- The nodes above one that is at a page are there, and so a path begins below it.
 pub path-skip : (top s page l j n e : ℕ) (leaves : List Leaf) (nodes : List (Option Node)) (words : List ℕ) → IsImage top leaves nodes words → Stands s page j n nodes → l ≤ j → j + e < top → with_path s page l (j + e - l) nodes ≡ with_path s page l (j - l) nodes
 path-skip top s page l j n zero leaves nodes words image at h low = let a : j + 0 ≡ j = omega arith in rw a refl
 path-skip top s page l j n (suc e) leaves nodes words image at h low =

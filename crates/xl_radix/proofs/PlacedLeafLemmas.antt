@@ -53,7 +53,7 @@ pub same-word : (s l q : ℕ) (new leaves : List Leaf) (nodes : List (Option Nod
 unfolding word_at
 same-word s l q new leaves nodes e = rw e refl
 
--- Above a node that stands at a page, the page's nodes are there.
+-- Above a node that is at a page, the page's nodes are there.
 pub above : (top s page l n b : ℕ) (leaves : List Leaf) (nodes : List (Option Node)) (words : List ℕ) → IsImage top leaves nodes words → Stands s page l n nodes → l < b → b ≤ top → number_of s b (up b page) nodes ≡ None → ⊥
 above top s page l n zero leaves nodes words image at h g e = omega arith
 above top s page l n (suc b) leaves nodes words image at h g e =
@@ -75,7 +75,7 @@ above top s page l n (suc b) leaves nodes words image at h g e =
 abbrev pub placed_words : Leaf → ℕ → List ℕ → List ℕ
 placed_words x n words = slice_set words (n * 512 + up (level_of x.order) x.first % 512) (leaf_word x.frame x.perm)
 
--- The place of a leaf's word is that of no slot at which the leaf doesn't stand.
+-- The place of a leaf's word is that of no slot at which the leaf isn't.
 pub other-leaf-slot : (x : Leaf) (n m i : ℕ) (nodes : List (Option Node)) (node : Node) → Stands x.space x.first (level_of x.order) n nodes → i < 512 → slice_index_or nodes m None ≡ Some node → is_slot node.space node.level (node.prefix * 512 + i) x ≡ false → m * 512 + i ≢ n * 512 + up (level_of x.order) x.first % 512
 other-leaf-slot x n m i nodes node at g f not =
     other-slot x.space x.first (level_of x.order) n m i nodes node at g f (λ e.

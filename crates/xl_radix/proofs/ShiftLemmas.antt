@@ -81,14 +81,14 @@ limit-low (suc (suc (suc (suc zero)))) h g = omega arith
 limit-low (suc (suc (suc (suc (suc zero))))) h g = omega arith
 limit-low (suc (suc (suc (suc (suc (suc l)))))) h g = absurd (omega arith)
 
--- A leaf that begins where a block begins meets it.
+-- A leaf that begins where a block begins overlaps it.
 begins-meets : (s to : ℕ) (o : Order) (y : Leaf) → y.space ≡ s → y.first ≡ to → meets_block s to o y ≡ true
 begins-meets s to o y e f =
     let a = pages-some o in
     let b = pages-some y.order in
     grind (arith, nat_tests)
 
--- No leaf of the mapping has the key of a place that none meets.
+-- No leaf of the mapping has the key of a place that overlaps none.
 no-key : (top spaces s to : ℕ) (o : Order) (leaves : List Leaf) → IsRadixMapping top spaces leaves → to < 2 ^ 52 → meets_any s to o leaves ≡ false → (y : Leaf) → In y leaves → s * 2 ^ 52 + to ≡ leaf_key y → ⊥
 unfolding meets_any
 no-key top spaces s to o leaves m low free y i e =
@@ -136,12 +136,12 @@ moves top spaces s f to o x leaves nodes words used store e block free =
       after = sym (changed-is s f to o x leaves e a b d ∙ with-without s f new leaves store.mapping.sorted none other);
     }
 
--- There is room for a move where there is room for the leaf as it stands afterwards.
+-- There is room for a move where there is room for the leaf as it is afterwards.
 pub room-moved : (top s f to : ℕ) (o : Order) (x : Leaf) (t : Table) → IsMove top t.spaces s f to o x t.leaves t.nodes → has_room (Insert x) t.leaves (shape_of top t) ≡ has_room (Relocate s f to o) t.leaves (shape_of top t)
 unfolding has_room
 room-moved top s f to o x t move = rw move.brings refl
 
--- The leaf as it stands afterwards comes, then the old one goes.
+-- The leaf as it is afterwards comes, then the old one goes.
 pub shifted : (top s f to given : ℕ) (o : Order) (x : Leaf) (old mid new : Table) → IsMove top old.spaces s f to o x old.leaves old.nodes
     → mid.leaves ≡ with_leaf x old.leaves → mid.nodes ≡ with_leaf_nodes top x old.nodes → mid.spaces ≡ old.spaces → mid.loads ≡ old.loads
     → IsMade top (Remove s f o) given mid new → new.leaves ≡ without_leaf s f mid.leaves → IsMade top (Relocate s f to o) given old new

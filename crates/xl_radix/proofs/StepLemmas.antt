@@ -25,7 +25,7 @@ use Rattle.xl_radix.proofs.PlacedLeafLemmas.{placed, placed-mapping, placed-exac
 use Rattle.xl_radix.proofs.ReadBackLemmas.{reads-back}
 use Rattle.xl_radix.proofs.CountLemmas.{counted-more, filled-le}
 
--- The word that was read, in the node that stands at a page, is that of the slot.
+-- The word that was read, in the node that is at a page, is that of the slot.
 pub read-word : (top spaces s page l n i w : ℕ) (leaves : List Leaf) (nodes : List (Option Node)) (words used : List ℕ) → IsStore top spaces leaves nodes words used → Stands s page l n nodes → i ≡ up l page % 512 → w ≡ slice_index words (n * 512 + i) → w ≡ word_at leaves nodes s l (up l page)
 read-word top spaces s page l n i w leaves nodes words used store at e f =
     let r = stands-word top s page l n leaves nodes words store.image at in

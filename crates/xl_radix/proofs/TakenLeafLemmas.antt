@@ -24,7 +24,7 @@ use Rattle.xl_radix.proofs.PlacedLeafLemmas.{same-word, other-leaf-slot}
 abbrev pub stays : ℕ → ℕ → Leaf → Bool
 stays space first leaf = if leaf.space * 2 ^ 52 + leaf.first == space * 2 ^ 52 + first then false else true
 
--- A test that no leaf that leaves meets finds what it found.
+-- A test that no removed leaf passes finds what it found.
 filter-find : (p q : Leaf → Bool) (xs : List Leaf) → ((y : Leaf) → In y xs → q y ≡ false → p y ≡ false) → find p (filter q xs) ≡ find p xs
 filter-find p q [] h = refl
 filter-find p q (x ∷ xs) h =
@@ -72,7 +72,7 @@ unfolding leaf_in without_leaf
 unplaced-leaf-other top spaces s l q x leaves m i f =
     filter-find (is_slot s l q) (stays x.space x.first) leaves (λ y j e. let g = same-place y x leaves m.sorted j i (leaves-key x.space x.first y e) in ap (is_slot s l q) g ∙ f)
 
--- the leaf is in the table, at the node that stands there, and no node is below its slot
+-- the leaf is in the table, at the node that is there, and no node is below its slot
 pub record IsHeld (x : Leaf) (n : ℕ) (leaves : List Leaf) (nodes : List (Option Node)) : Type 0 where
   pub there : In x leaves
   pub at : Stands x.space x.first (level_of x.order) n nodes

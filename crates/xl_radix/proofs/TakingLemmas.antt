@@ -62,7 +62,7 @@ still-nearly top spaces s page (suc l) k leaves nodes words used store pos low a
     let h : suc l - 1 ≡ l = omega arith in
     still-core top spaces s page l k leaves nodes words used store low (rw h at at) ne (rw h at nearly)
 
--- Giving back goes on.
+-- Giving back continues.
 pub less-trans : (a b c : List (Option Node)) → IsLess a b → IsLess b c → IsLess a c
 less-trans a b c f g = record {
   size = g.size ∙ f.size;
@@ -100,7 +100,7 @@ nearly-exact top spaces s page leaves nodes words used store nearly = record {
     needed a b c n h (inr (inl e)) = inr e
     needed a b c n h (inr (inr e)) = inl (high a b c n h e.1)
 
--- A root stands at each page.
+-- A root is at each page.
 pub root-stands : (top spaces s page : ℕ) (leaves : List Leaf) (nodes : List (Option Node)) (words used : List ℕ) → IsStore top spaces leaves nodes words used → s < spaces → up top page ≡ 0 → Stands s page (top - 1) s nodes
 root-stands top spaces s page leaves nodes words used store h e =
     let high = store.high in
@@ -163,7 +163,7 @@ taken-only top spaces spaces' j given before leaves old new words used words' us
         let t : is_needed top leaves x ≡ false = false_from_ne_true _ (λ h. gone n x e f (needed-cases top leaves x h)) in
         f ∙ sym (ap (kept_node top leaves) e ∙ rw t refl)
 
--- A node of the path at a level from which none was given back stands yet.
+-- A node of the path at a level from which none was given back is yet.
 pub stays : (s page j h given n : ℕ) (a b : List (Option Node)) → IsTaken j given a b → j ≤ h → Stands s page h n a → Stands s page h n b
 stays s page j h given n a b taken low at = record { stands = taken.others s (suc h) (up (suc h) page) n (omega arith) at.stands }
 

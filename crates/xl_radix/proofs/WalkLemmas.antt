@@ -23,7 +23,7 @@ use Rattle.xl_radix.proofs.FoundLemmas.{leaf-ends, leaf-said}
 use Rattle.xl_radix.specs.Table.{IsStore}
 use Rattle.xl_radix.proofs.EndLemmas.{IsTable, seen-low, found-at, found-none}
 
--- Where a slot of a node that stands at a page is empty, the mapping's nodes end.
+-- Where a slot of a node that is at a page is empty, the mapping's nodes end.
 end-here : (top spaces s page l n : ℕ) (leaves : List Leaf) (nodes : List (Option Node)) (words used : List ℕ) → IsTable top spaces leaves nodes words used → l < top → Stands s page l n nodes → leaf_in s l (up l page) leaves ≡ None → number_of s l (up l page) nodes ≡ None → end_level (top - 1) 0 s page leaves ≡ l
 end-here top spaces s page l n leaves nodes words used t low at e f =
     end-is (top - 1) 0 l s page leaves (omega arith) (omega arith) (λ h g. false_from_ne_true _ (λ k. none h g (in-nodes-leaf s (suc h) (up (suc h) page) leaves k))) (last (t.exact.needed s (suc l) (up (suc l) page) n at.stands))

@@ -1,7 +1,7 @@
 -- Words of which only the first are kept: the others are 0.
 use Rattle.std.specs.Prelude.{ℕ, ◌≡◌, ◌-◌, ◌<◌, ◌≤◌, List, ◌++◌, length, replicate, slice_index}
 
--- The kept words, and 0 for each further one, so many in all.
+-- The kept words, and 0 for each further one, `size` in all.
 unfoldable pub padded : ℕ → List ℕ → List ℕ
 padded size kept = kept ++ replicate (size - length kept) 0
 

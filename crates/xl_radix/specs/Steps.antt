@@ -14,8 +14,9 @@ use Rattle.xl_radix.specs.Table.{Table}
 pub record Stands (space page level number : ℕ) (nodes : List (Option Node)) : Type 0 where
   pub stands : is_below space (suc level) (up (suc level) page) (slice_index_or nodes number None) ≡ true
 
--- The walk of a page down to a level stops in this node of a level: at the level that was asked for, or above
--- it where no node is below. So the path lacks the nodes from there down, and no others.
+-- The walk of a page down to a level stops in this node of a level: at the level that was asked
+-- for, or above it where no node is below. So the path lacks the nodes from there down, and no
+-- others.
 pub record IsEnd (top space page least level number : ℕ) (nodes : List (Option Node)) : Type 0 where
   pub least_in : least ≤ level
   pub level_in : level < top
@@ -24,7 +25,7 @@ pub record IsEnd (top space page least level number : ℕ) (nodes : List (Option
   pub path : with_path space page least (top - 1 - least) nodes ≡ with_path space page least (level - least) nodes
   pub lacks : missing space page least (top - 1 - least) nodes ≡ level - least
 
--- A node stands at a page, and the page's slot in it is empty.
+-- A node is at a page, and the page's slot in it is empty.
 pub record IsReady (space page level number : ℕ) (leaves : List Leaf) (nodes : List (Option Node)) : Type 0 where
   pub at : Stands space page level number nodes
   pub empty : leaf_in space level (up level page) leaves ≡ None
@@ -39,14 +40,15 @@ pub record IsLess (old new : List (Option Node)) : Type 0 where
   pub size : length new ≡ length old
   pub each : (n : ℕ) → (slice_index_or new n None ≡ slice_index_or old n None) ⊎ (slice_index_or new n None ≡ None)
 
--- So many nodes were given back, and none of this level or above.
+-- n nodes were given back, and none of this level or above.
 pub record IsTaken (level given : ℕ) (old new : List (Option Node)) : Type 0 where
   pub less : IsLess old new
   pub others : (a b c n : ℕ) → level < b → is_below a b c (slice_index_or old n None) ≡ true → is_below a b c (slice_index_or new n None) ≡ true
   pub count : free_count new ≡ free_count old + given
 
--- A leaf that moves, as it stands afterwards: a leaf that the table can take, at a block that no leaf meets.
--- Beside it the old one still has its name, and without the old one the mapping is that after the move.
+-- A leaf that moves, as it is afterwards: a leaf that the table can take, at a block that no leaf
+-- overlaps. Beside it the old one still has its name, and without the old one the mapping is that
+-- after the move.
 pub record IsMove (top spaces space first to : ℕ) (order : Order) (leaf : Leaf) (leaves : List Leaf) (nodes : List (Option Node)) : Type 0 where
   pub brings : brought (Relocate space first to order) leaves ≡ Some leaf
   pub valid : IsLeafFor (Radix top spaces nodes) leaf
@@ -59,8 +61,8 @@ abbrev pub with_brought : ℕ → Option Leaf → List (Option Node) → List (O
 with_brought top None nodes = nodes
 with_brought top (Some leaf) nodes = with_leaf_nodes top leaf nodes
 
--- A change was made: the nodes that the new leaf lacked have come, and then so many that no leaf needs were
--- given back.
+-- A change was made: the nodes that the new leaf lacked have come, and then `given` that no leaf
+-- needs were given back.
 pub record IsMade (top : ℕ) (c : Change) (given : ℕ) (old new : Table) : Type 0 where
   pub leaves : new.leaves ≡ changed c old.leaves
   pub shape : shape_of top new ≡ shape_after c old.leaves (shape_of top old)

@@ -37,14 +37,14 @@ pub record IsRadixMapping (top spaces : ℕ) (leaves : List Leaf) : Type 0 where
   pub sorted : IsSorted leaves
   pub apart : (x y : Leaf) → In x leaves → In y leaves → x.space ≡ y.space → level_of x.order ≤ level_of y.order → up (level_of y.order) x.first ≡ up (level_of y.order) y.first → x ≡ y
 
--- A leaf that no leaf of a table meets, at its level or at theirs.
+-- A leaf that overlaps no leaf of a table, at its level or at theirs.
 pub record IsNew (top spaces : ℕ) (x : Leaf) (leaves : List Leaf) : Type 0 where
   pub proper : IsRadixLeaf top spaces x
   pub over : (y : Leaf) → In y leaves → y.space ≡ x.space → level_of y.order ≤ level_of x.order → up (level_of x.order) y.first ≡ up (level_of x.order) x.first → ⊥
   pub under : (y : Leaf) → In y leaves → y.space ≡ x.space → level_of x.order ≤ level_of y.order → up (level_of y.order) y.first ≡ up (level_of y.order) x.first → ⊥
 
--- The words are the image of the leaves and the nodes. Each node but a root has its parent, no node has two
--- numbers, and the leaves have their nodes.
+-- The words are the image of the leaves and the nodes. Each node but a root has its parent, no node
+-- has two numbers, and the leaves have their nodes.
 pub record IsImage (top : ℕ) (leaves : List Leaf) (nodes : List (Option Node)) (words : List ℕ) : Type 0 where
   pub size : length words ≡ length nodes * 512
   pub same : (n i : ℕ) → n < length nodes → i < 512 → slice_index words (n * 512 + i) ≡ word_of leaves nodes (slice_index_or nodes n None) i
@@ -65,7 +65,7 @@ abbrev pub one_if_filled : ℕ → ℕ
 one_if_filled zero = 0
 one_if_filled (suc word) = 1
 
--- How many of the words from a place on, so many of them, aren't 0.
+-- How many of the words from a place on, n of them, aren't 0.
 unfoldable pub filled : List ℕ → ℕ → ℕ → ℕ
 filled words from zero = 0
 filled words from (suc n) = filled words from n + one_if_filled (slice_index words (from + n))

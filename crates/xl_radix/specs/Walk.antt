@@ -30,7 +30,7 @@ end_of (end.Reserved level) = level
 end_of (end.Misaligned level) = level
 end_of (end.OutOfBus level) = level
 
--- What a word ends the walk with, or where it goes on.
+-- What a word ends the walk with, or where it continues.
 abbrev pub end_at : Pte → ℕ → (ℕ → WalkEnd) → WalkEnd
 end_at pte.Invalid level on = end.Invalid level
 end_at (pte.Pointer node) level on = on node
@@ -38,8 +38,8 @@ end_at (pte.Leaf frame perm) level on = end.Leaf level frame perm
 end_at pte.Reserved level on = end.Reserved level
 end_at pte.Misaligned level on = end.Misaligned level
 
--- The walk of a page from a node, with so many levels left: it reads the word of the page, and goes on at
--- a pointer one level down.
+-- The walk of a page from a node, with this number of levels left: it reads the word of the page,
+-- and continues at a pointer one level down.
 abbrev pub reading : List ℕ → ℕ → ℕ → ℕ → WalkEnd
 reading words zero node page = end.Reserved zero
 reading words (suc level) node page =
@@ -56,18 +56,19 @@ abbrev pub walk_end : Option Leaf → ℕ → WalkEnd
 walk_end None level = end.Invalid level
 walk_end (Some leaf) level = end.Leaf (level_of leaf.order) leaf.frame leaf.perm
 
--- The walk of a page that a leaf covers ends at the leaf's level, and its word there says the leaf. There are 3
--- to 5 levels and at most 16,384 numbers.
+-- The walk of a page that a leaf covers ends at the leaf's level, and its word there says the leaf.
+-- There are 3 to 5 levels and at most 16,384 numbers.
 pub record LeavesSaid (top : ℕ) (leaves : List Leaf) (nodes : List (Option Node)) : Type 0 where
   pub ends : (space page : ℕ) (x : Leaf) → leaf_at_page space page leaves ≡ Some x → end_level (top - 1) 0 space page leaves ≡ level_of x.order
   pub said : (space page : ℕ) (x : Leaf) → leaf_at_page space page leaves ≡ Some x → leaf_said space (up (level_of x.order) page) (order_of (level_of x.order)) (pte.Leaf x.frame x.perm) ≡ Some x
   pub levels : (3 ≤ top) × (top ≤ 5)
   pub small : length nodes ≤ 16384
 
--- Each space's root has the space's number. From each node, at its level and number, the walk over the words
--- of a page of the node finds the leaf that covers the page, else it ends where the nodes of the mapping end.
--- A node that the walk enters has its number. Each word is the one that the leaves and the nodes give, and
--- those that aren't 0 are the image of the leaves and the nodes. And leaves are said by their words.
+-- Each space's root has the space's number. From each node, at its level and number, the walk over
+-- the words of a page of the node finds the leaf that covers the page, else it ends where the nodes
+-- of the mapping end. A node that the walk enters has its number. Each word is the one that the
+-- leaves and the nodes give, and those that aren't 0 are the image of the leaves and the nodes. And
+-- leaves are said by their words.
 pub record WordsReadBack (top spaces : ℕ) (leaves : List Leaf) (nodes : List (Option Node)) (words : List ℕ) : Type 0 where
   pub roots : (space : ℕ) → space < spaces → number_of space top 0 nodes ≡ Some space
   pub back : (space page level node : ℕ) → number_of space (suc level) (up (suc level) page) nodes ≡ Some node → radix_back words level node page ≡ walk_end (leaf_at_page space page leaves) (end_level (top - 1) 0 space page leaves)

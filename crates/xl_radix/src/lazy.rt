@@ -1,4 +1,4 @@
-//! Words that take no work and no memory of the system before they are written.
+//! Words that take neither work nor memory of the system before they are written.
 
 ghost use Rattle.std.specs.Prelude.{◌≡◌, ◌<◌, ◌≤◌, length, slice_index, slice_set, replicate, IfOk};
 ghost use Rattle.std.specs.Vec.{vec_capacity};
@@ -8,8 +8,8 @@ use std::alloc::Global;
 use std::marker::Model;
 use xl_model::NoMemory;
 
-/// Words, so many of them, all 0 at first. Only those up to the furthest page of 512 that was written are
-/// kept; room for all is taken at opening. Contracts see all words.
+/// Zero-initialised words, grown lazily by pages of 512 words; room for all is taken at opening.
+/// Contracts see all words.
 #[derive(Drop)]
 pub(crate) struct LazyWords {
     kept: Vec<u64>,
@@ -29,7 +29,7 @@ impl Model for LazyWords {
 }
 
 impl LazyWords {
-    /// So many words, all 0.
+    /// `size` words, all 0.
     #[tactic(auto, using(crate::proofs::LazyLemmas::none_kept))]
     pub fn open(alloc: Global, size: usize) -> Result<LazyWords, NoMemory>
         ensures { IfOk result (λ words. words ≡ replicate size 0) }
@@ -70,7 +70,7 @@ impl LazyWords {
         self.size
     }
 
-    /// The first words: behind them all are 0.
+    /// The first words: after them all are 0.
     #[inline]
     #[tactic(auto, using(crate::proofs::LazyLemmas::is_front))]
     pub fn front(&self) -> &[u64]
@@ -80,7 +80,7 @@ impl LazyWords {
     }
 }
 
-/// Keeps at least the words up to the end of a place's page, of so many in all.
+/// Keeps at least the words up to the end of a place's page, of `size` in all.
 #[inline]
 #[tactic(auto, using(crate::proofs::LazyLemmas::more_kept))]
 fn keep_to(kept: &mut Vec<u64>, place: usize, size: usize)

@@ -92,7 +92,8 @@ impl<const LEVELS: usize> Radix<LEVELS> {
         self.store.leaf_at(space, page)
     }
 
-    /// Adds a leaf that no leaf meets. New nodes take the lowest free numbers, upper ones first.
+    /// Adds a leaf that overlaps no other. New nodes take the lowest free numbers, upper ones
+    /// first.
     ///
     /// # Errors
     ///
@@ -121,7 +122,7 @@ impl<const LEVELS: usize> Radix<LEVELS> {
         Ok(())
     }
 
-    /// Whether there is room for a leaf that no leaf meets, so that `add` would add it.
+    /// Whether there is room for a leaf that overlaps no other, so that `add` would add it.
     pub fn has_room(&self, leaf: Leaf) -> bool
         requires valid { IsLeafFor (shape_of LEVELS self.now) leaf }
         requires free { meets_any leaf.space leaf.first leaf.order self.now.leaves ≡ false }
@@ -132,8 +133,8 @@ impl<const LEVELS: usize> Radix<LEVELS> {
         lacking <= self.free
     }
 
-    /// Whether there is room for a leaf that is there at another block, which no leaf meets, so that
-    /// `shift` would move it.
+    /// Whether there is room for a leaf that is there at another block, which no leaf overlaps, so
+    /// that `shift` would move it.
     pub fn has_room_to(&self, space: u16, first: u64, to: u64, order: Order) -> bool
         requires named { IsNamed space first order self.now.leaves }
         requires block { IsBlock (shape_of LEVELS self.now) space to order }
@@ -153,7 +154,7 @@ impl<const LEVELS: usize> Radix<LEVELS> {
         self.take_out_counted(space, first, order);
     }
 
-    /// What `take_out` does, and how many nodes were given back.
+    /// Like `take_out`; returns how many nodes were given back.
     pub fn take_out_counted(&mut self, space: u16, first: u64, order: Order) -> usize
         requires { IsNamed space first order self.old.leaves }
         ensures made { IsMade LEVELS (Remove space first order) result self.old self.new }
@@ -173,8 +174,8 @@ impl<const LEVELS: usize> Radix<LEVELS> {
         self.store.set_perm(space, first, order, perm);
     }
 
-    /// Moves a leaf that is there to a block that no leaf meets, with its frame and permission. New
-    /// nodes take the lowest free numbers before any node is given back.
+    /// Moves a leaf that is there to a block that no leaf overlaps, with its frame and permission.
+    /// New nodes take the lowest free numbers before any node is given back.
     ///
     /// # Errors
     ///
@@ -194,7 +195,7 @@ impl<const LEVELS: usize> Radix<LEVELS> {
         Ok(())
     }
 
-    /// What `shift` does, and how many nodes were given back.
+    /// Like `shift`; returns how many nodes were given back.
     ///
     /// # Errors
     ///
@@ -220,7 +221,7 @@ impl<const LEVELS: usize> Radix<LEVELS> {
         Ok(self.take_out_counted(space, first, order))
     }
 
-    /// A leaf that is there as it would stand at another block, which no leaf meets.
+    /// A leaf that is there as it would be at another block, which no leaf overlaps.
     fn moved(&self, space: u16, first: u64, to: u64, order: Order) -> Leaf
         requires named { IsNamed space first order self.now.leaves }
         requires block { IsBlock (shape_of LEVELS self.now) space to order }
@@ -247,7 +248,7 @@ impl<const LEVELS: usize> Radix<LEVELS> {
         self.store.word(node as usize, index as usize)
     }
 
-    /// The first of the words, of which each node number has 512: behind them all are 0.
+    /// The first of the words, of which each node number has 512: after them all are 0.
     #[inline]
     pub fn front(&self) -> &[u64]
         ensures front { IsFront result.now self.entry.now.words }
@@ -258,7 +259,7 @@ impl<const LEVELS: usize> Radix<LEVELS> {
         self.store.front()
     }
 
-    /// Counts so many loads, which were made by reading the words at once.
+    /// Counts `loads` loads, which were made by reading the words at once.
     pub fn count_loads(&mut self, loads: u64)
         ensures { self.new ≡ record self.old { loads = (self.old.loads + loads) % 2 ^ 64 } }
     {

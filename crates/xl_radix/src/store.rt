@@ -23,7 +23,7 @@ use std::marker::Model;
 use xl_model::{Leaf, NoMemory, Order, Perm};
 use xl_pte::{Pte, decode, leaf_word, pointer};
 
-/// Where a walk stands: a node and its level, and so the page's word in it.
+/// Where a walk is: a node and its level, and so the page's word in it.
 #[derive(Clone, Copy)]
 pub struct Place {
     pub node: usize,
@@ -192,7 +192,7 @@ impl<const LEVELS: usize> Store<LEVELS> {
         self.words.get(node * 512 + index_of(first, level)) != 0
     }
 
-    /// The walk for a leaf that no leaf meets.
+    /// The walk for a leaf that overlaps no other.
     pub fn end_for(&self, leaf: &Leaf) -> Place
         requires exact { IsExact LEVELS self.now.leaves self.now.nodes }
         requires valid { IsLeafFor (Radix LEVELS self.now.spaces self.now.nodes) leaf.now }
@@ -202,7 +202,7 @@ impl<const LEVELS: usize> Store<LEVELS> {
             result.level result.node self.now.nodes }
         ensures new { IsNew LEVELS self.now.spaces leaf.now self.now.leaves }
     {
-        // What `new` says rests on what the type keeps, which a look at a field brings in.
+        // What `new` says rests on the type's invariant, which reading a field brings in.
         let _words = &self.words;
         self.end_of(leaf.space, leaf.first, leaf.order.level())
     }
@@ -236,11 +236,11 @@ impl<const LEVELS: usize> Store<LEVELS> {
         ensures { WordsReadBack LEVELS self.now.spaces self.now.leaves self.now.nodes
             self.now.words }
     {
-        // A look at a field brings in what the type keeps.
+        // Reading a field brings in the type's invariant.
         let _words = &self.words;
     }
 
-    /// The first words: behind them all are 0.
+    /// The first words: after them all are 0.
     #[inline]
     pub fn front(&self) -> &[u64]
         ensures front { IsFront result.now self.entry.now.words }
@@ -249,8 +249,9 @@ impl<const LEVELS: usize> Store<LEVELS> {
         self.words.front()
     }
 
-    /// The word at a place, None where its line isn't all there. The first words are asked before the line is
-    /// looked for: all words are whole nodes, so a place among the first has its line there.
+    /// The word at a place, `None` where its line isn't all there. The first words are tested
+    /// before the line is looked for: all words are whole nodes, so a place among the first has its
+    /// line there.
     pub fn word_in(&self, place: usize) -> Option<u64>
         ensures some { IfSome result (IsWord self.now.words place) }
         ensures none { IfNone result (length self.now.words < 4 * (place / 4) + 4) }
@@ -300,7 +301,7 @@ impl<const LEVELS: usize> Store<LEVELS> {
             IsNearly LEVELS space page l self.new.leaves self.new.nodes }
         ensures free { free_count self.new.nodes + 1 ≡ free_count self.old.nodes }
     {
-        // What the type keeps comes in by a look at a field.
+        // Reading a field brings in the type's invariant.
         let _words = &self.words;
         let name = Node::new(space, above.level as u8 - 1, block_of(page, above.level));
         let Some(number) = self.numbers.take(name) else {
@@ -313,7 +314,7 @@ impl<const LEVELS: usize> Store<LEVELS> {
     }
 
     /// Makes the nodes of a page's path that are missing: those below an empty slot, down to level
-    /// `least`, upper ones first. Answers the lowest one's number.
+    /// `least`, upper ones first. Returns the lowest one's number.
     fn make_path(&mut self, space: u16, page: u64, from: Place, least: usize) -> usize
         requires ready { IsReady space page from.level from.node self.old.leaves self.old.nodes }
         requires low { least ≤ from.level }
@@ -356,7 +357,8 @@ impl<const LEVELS: usize> Store<LEVELS> {
         self.words.set(at, leaf_word(leaf.frame, leaf.perm));
     }
 
-    /// Adds a leaf that no leaf meets, where the walk for it stops. The free numbers are enough.
+    /// Adds a leaf that overlaps no other, where the walk for it stops. The free numbers are
+    /// enough.
     pub fn add_leaf(&mut self, from: Place, leaf: Leaf)
         requires new { IsNew LEVELS self.old.spaces leaf self.old.leaves }
         requires exact { IsExact LEVELS self.old.leaves self.old.nodes }
@@ -374,7 +376,7 @@ impl<const LEVELS: usize> Store<LEVELS> {
         self.write_leaf(node, leaf);
     }
 
-    /// Takes a leaf out of its slot, in the node that stands there.
+    /// Takes a leaf out of its slot, in the node that is there.
     fn clear_leaf(&mut self, space: u16, first: u64, order: Order, node: usize)
         requires exact { IsExact LEVELS self.old.leaves self.old.nodes }
         requires named { IsNamed space first order self.old.leaves }
@@ -390,7 +392,7 @@ impl<const LEVELS: usize> Store<LEVELS> {
         self.words.set(at, 0);
     }
 
-    /// Gives a leaf another permission, in the node that stands at it.
+    /// Gives a leaf another permission, in the node that is at it.
     fn write_perm(&mut self, node: usize, old: Leaf, perm: Perm)
         requires exact { IsExact LEVELS self.old.leaves self.old.nodes }
         requires there { leaf_named old.space old.first old.order self.old.leaves ≡ Some old }
@@ -401,7 +403,7 @@ impl<const LEVELS: usize> Store<LEVELS> {
         ensures spaces { self.new.spaces ≡ self.old.spaces }
         ensures exact { IsExact LEVELS self.new.leaves self.new.nodes }
     {
-        // What the type keeps comes in by a look at a field.
+        // Reading a field brings in the type's invariant.
         let _words = &self.words;
         let at = node * 512 + index_of(old.first, old.order.level());
         self.words.set(at, leaf_word(old.frame, perm));
@@ -425,7 +427,7 @@ impl<const LEVELS: usize> Store<LEVELS> {
         self.write_perm(node, old, perm);
     }
 
-    /// A leaf that is there as it would stand at another block, which no leaf meets.
+    /// A leaf that is there as it would be at another block, which no leaf overlaps.
     pub fn moved(&self, space: u16, first: u64, to: u64, order: Order) -> Leaf
         requires exact { IsExact LEVELS self.now.leaves self.now.nodes }
         requires named { IsNamed space first order self.now.leaves }
@@ -434,7 +436,7 @@ impl<const LEVELS: usize> Store<LEVELS> {
         ensures { IsMove LEVELS self.now.spaces space first to order result self.now.leaves
             self.now.nodes }
     {
-        // What the type keeps comes in by a look at a field.
+        // Reading a field brings in the type's invariant.
         let _words = &self.words;
         let Some(old) = self.leaf_at(space, first) else {
             unreachable!()
@@ -496,8 +498,8 @@ impl<const LEVELS: usize> Store<LEVELS> {
         }
     }
 
-    /// Takes out a leaf below a node that stands at it, and gives back the nodes below this one
-    /// that are empty then. Answers how many.
+    /// Takes out a leaf below a node that is at it, and gives back the nodes below this one that
+    /// are empty then. Returns how many.
     fn take_leaf_below(&mut self, space: u16, first: u64, order: Order, from: Place) -> usize
         requires exact { IsExact LEVELS self.old.leaves self.old.nodes }
         requires named { IsNamed space first order self.old.leaves }
@@ -520,7 +522,7 @@ impl<const LEVELS: usize> Store<LEVELS> {
             level: from.level - 1,
         };
         let given = self.take_leaf_below(space, first, order, below);
-        // What the type keeps comes in by a look at a field.
+        // Reading a field brings in the type's invariant.
         let _words = &self.words;
         if !self.is_unused(node) {
             return given;
@@ -529,7 +531,7 @@ impl<const LEVELS: usize> Store<LEVELS> {
         given + 1
     }
 
-    /// Takes out a leaf, and gives back the nodes that no leaf needs then. Answers how many.
+    /// Takes out a leaf, and gives back the nodes that no leaf needs then. Returns how many.
     pub fn take_leaf(&mut self, space: u16, first: u64, order: Order) -> usize
         requires exact { IsExact LEVELS self.old.leaves self.old.nodes }
         requires named { IsNamed space first order self.old.leaves }
@@ -541,7 +543,7 @@ impl<const LEVELS: usize> Store<LEVELS> {
         ensures less { IsLess self.old.nodes self.new.nodes }
         ensures small { free_count self.new.nodes ≤ 16384 }
     {
-        // What the type keeps comes in by a look at a field.
+        // Reading a field brings in the type's invariant.
         let _words = &self.words;
         let root = Place {
             node: space as usize,

@@ -125,7 +125,7 @@ module _ (top space page : ℕ) (t : Table) (cs looked : List (Cached Item)) (no
   walk-none new None same = rw same lowest-same.0
   walk-none new (Some word) same = tt
 
--- what a look at the cache of level 0 tells
+-- what a look-up in the cache of level 0 returns
 pub looked-lowest : (space page : ℕ) (c new : Cached Item) (cs : List (Cached Item)) (item : Item) → page < 2 ^ 45 → Touches (has_tag (tag_at space 0 page)) c.items new.items (Some item) → new.width ≡ c.width → IsLowest space page (c ∷ cs) (new ∷ cs) item.word
 looked-lowest space page c new cs item h t width =
     let k = hit 0 space page item c new cs h (sym t.found) t.moved width in

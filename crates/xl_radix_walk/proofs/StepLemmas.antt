@@ -86,7 +86,7 @@ entered-none words page (pte.Leaf frame perm) points = refl
 entered-none words page pte.Reserved points = refl
 entered-none words page pte.Misaligned points = refl
 
--- no walk goes on at level 0
+-- a walk ends at level 0
 pub path-none : (words : List ℕ) (node page : ℕ) → radix_path words 0 node page ≡ []
 unfolding radix_path
 path-none words node page = go (is_there words (place_of 0 node page))

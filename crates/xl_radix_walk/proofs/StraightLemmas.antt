@@ -33,7 +33,7 @@ enters-on words (suc level) node page word next low h points =
     let P : ℕ → Type 0 = λ l. radix_path words (suc level) node page ≡ next ∷ radix_path words l next page in
     subst P (sym same) (rw (h.0, e) refl)
 
--- a node more is put behind those that were entered
+-- a node more after those that were entered
 pub entered-more : (whole path rest : List ℕ) (start level next : ℕ) → level ≤ start → 0 < level → start < length path + level → whole ≡ take (start - level) path ++ next ∷ rest
     → whole ≡ take (start - (level - 1)) (slice_set path (start - level) next) ++ rest
 entered-more whole path rest start level next high low room e =

@@ -72,7 +72,7 @@ straight-walked top start node space page leaf t new cs back at s none =
     filling-walked top start space page leaf t new cs cs path back s
     (subst (λ (l : ℕ). IsPath l start space page path t.nodes) s.level (walk-path t.words top t.spaces space page start node t.leaves t.nodes back at)) (sym (none.stay 0 space page path))
 
--- the row after a walk, and what it answers
+-- the row after a walk, and the walk's result
 pub record WalkedFrom (top space page : ℕ) (t new : Table) (cs after : List (Cached Item)) (r : Option Leaf) (hits : ℕ) : Type 0 where
   pub row : IsRow top (row_of new after)
   pub walks : IsWalk space page (row_table top (row_of t cs)) (record { leaf = r; cache_hits = hits }) (row_table top (row_of new after))

@@ -17,7 +17,7 @@ entered (pte.Leaf frame perm) on = []
 entered pte.Reserved on = []
 entered pte.Misaligned on = []
 
--- The same from a node, with so many levels left.
+-- The same from a node, with this number of levels left.
 abbrev pub entering : List ℕ → ℕ → ℕ → ℕ → List ℕ
 entering words zero node page = []
 entering words (suc level) node page =
@@ -29,7 +29,7 @@ entering words (suc level) node page =
 unfoldable pub radix_path : List ℕ → ℕ → ℕ → ℕ → List ℕ
 radix_path words level node page = entering words (suc level) node page
 
--- What a bus is after so many loads.
+-- What a bus is after `n` loads.
 abbrev pub loaded_times : {A : Type 0} → (A → A) → ℕ → A → A
 loaded_times loaded zero bus = bus
 loaded_times loaded (suc n) bus = loaded (loaded_times loaded n bus)
@@ -39,7 +39,7 @@ abbrev pub word_in : List ℕ → ℕ → ℕ → ℕ → Option Pte
 word_in words level node page =
     if is_there words (place_of level node page) then Some (decode_of (slice_index words (place_of level node page)) level) else None
 
--- Where the walk goes on, or what it ends with.
+-- The node that the walk enters next, or the walk's result.
 abbrev pub step_of : Option Pte → ℕ → Step
 step_of None level = step.Ends (end.OutOfBus level)
 step_of (Some (pte.Pointer node)) level = step.GoesOn node
@@ -48,7 +48,8 @@ step_of (Some (pte.Leaf frame perm)) level = step.Ends (end.Leaf level frame per
 step_of (Some pte.Reserved) level = step.Ends (end.Reserved level)
 step_of (Some pte.Misaligned) level = step.Ends (end.Misaligned level)
 
--- A step that goes on: the walk is that from the next node, one level down, which comes first in the path.
+-- A step to a next node: the walk is that from the next node, one level down, which comes first in
+-- the path.
 pub record GoesTo (words : List ℕ) (level node page next : ℕ) : Type 0 where
   pub above : 0 < level
   pub end : radix_back words level node page ≡ radix_back words (level - 1) next page

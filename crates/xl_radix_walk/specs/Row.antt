@@ -65,14 +65,14 @@ AreNumbered level nodes (c ∷ cs) = AllNumbered level nodes c.items × AreNumbe
 abbrev pub filled_one : Bool → ℕ → ℕ → Cached Item → Cached Item
 filled_one fills tag number c = if fills then record c { items = with_newest c.width (item_at tag number) c.items } else c
 
--- The caches of the levels from this one on, filled with the nodes of a walk's path from below its start down
--- to the least level.
+-- The caches of the levels from this one on, filled with the nodes of a walk's path from below its
+-- start down to the least level.
 abbrev pub filled_caches : ℕ → ℕ → ℕ → ℕ → ℕ → List ℕ → List (Cached Item) → List (Cached Item)
 filled_caches level start least space page path [] = []
 filled_caches level start least space page path (c ∷ cs) =
     filled_one (nat_lt level start && nat_le least level) (tag_at space level page) (slice_index path (start - 1 - level)) c ∷ filled_caches (level + 1) start least space page path cs
 
--- These caches above so many of width 0.
+-- These caches above `n` caches of width 0.
 abbrev pub above_off : ℕ → List (Cached Item) → List (Cached Item)
 above_off zero cs = cs
 above_off (suc n) cs = empty_cache 0 ∷ above_off n cs
@@ -103,7 +103,7 @@ pub record RowState : Type 0 where
 abbrev pub row_of : Table → List (Cached Item) → RowState
 row_of radix caches = record { radix = radix; caches = caches }
 
--- A row of so many levels as the layers above see it.
+-- A row of `n` levels as the layers above see it.
 abbrev pub row_table : ℕ → RowState → TableState
 row_table levels r = record {
   leaves = r.radix.leaves;
@@ -112,15 +112,16 @@ row_table levels r = record {
   loads = r.radix.loads;
 }
 
--- What a row keeps: 3 to 5 levels, a cache for each level of nodes below the root, and the node of each tag is
--- there, with its number, at the level of its cache.
+-- What a row keeps: 3 to 5 levels, a cache for each level of nodes below the root, and the node of
+-- each tag is there, with its number, at the level of its cache.
 pub record IsRow (levels : ℕ) (r : RowState) : Type 0 where
   pub high : 3 ≤ levels
   pub low : levels ≤ 5
   pub caches : length r.caches + 1 ≡ levels
   pub numbered : AreNumbered 0 r.radix.nodes r.caches
 
--- The path of a walk has the numbers of the page's nodes, from below its start down to where it ended.
+-- The path of a walk has the numbers of the page's nodes, from below its start down to where it
+-- ended.
 pub record IsPath (least start space page : ℕ) (path : List ℕ) (nodes : List (Option Node)) : Type 0 where
   pub same : (h : ℕ) → least ≤ h → h < start → number_of space (suc h) (up (suc h) page) nodes ≡ Some (slice_index path (start - 1 - h))
 
@@ -145,14 +146,15 @@ filled_by (end.Reserved level) start space page path cs = cs
 filled_by (end.Misaligned level) start space page path cs = cs
 filled_by (end.OutOfBus level) start space page path cs = cs
 
--- A straight walk from a node of this level found the page's leaf at level 0, and made a load for each level.
+-- A straight walk from a node of this level found the page's leaf at level 0, and made a load for
+-- each level.
 pub record IsStraight (levels start space page : ℕ) (leaf : Leaf) (old new : Table) : Type 0 where
   pub found : leaf_at_page space page old.leaves ≡ Some leaf
   pub level : end_level (levels - 1) 0 space page old.leaves ≡ 0
   pub loads : new ≡ record old { loads = plus old.loads (start + 1) }
 
--- A walk from a node of this level: it finds the page's leaf, makes a load for each level down to the end of the
--- page's nodes, and fills the caches by its path.
+-- A walk from a node of this level: it finds the page's leaf, makes a load for each level down to
+-- the end of the page's nodes, and fills the caches by its path.
 pub record IsWalked (levels start space page : ℕ) (found : Option Leaf) (old : Table) (caches : List (Cached Item)) (new : Table) (after : List (Cached Item)) : Type 0 where
   pub leaf : found ≡ leaf_at_page space page old.leaves
   pub loads : new ≡ record old { loads = plus old.loads (start - end_level (levels - 1) 0 space page old.leaves + 1) }
@@ -186,7 +188,8 @@ fenced_caches to (c ∷ cs) = record c { items = purged (is_fenced to) c.items }
 abbrev pub refused_for : NoRoom → Refused
 refused_for why = record { why = why; work = work_of no_moves 0 }
 
--- A row in which nothing was mapped: it has the roots alone, empty caches of these widths, and made no load.
+-- A row in which nothing was mapped: it has the roots alone, empty caches of these widths, and made
+-- no load.
 abbrev pub opening_table : ℕ → ℕ → ℕ → List ℕ → TableState
 opening_table levels frames spaces widths = record {
   leaves = [];

@@ -112,7 +112,7 @@ pub(crate) fn fill(
     fill(rest, level + 1, start, least, space, page, path);
 }
 
-/// Removes the items whose numbers no node has. Gives how many left.
+/// Removes the items whose numbers no node has. Returns how many it removed.
 fn purge_cache<const LEVELS: usize>(cache: &mut Cache<Item>, radix: &Radix<LEVELS>) -> u64
     ensures purged { Purges (is_gone radix.now.nodes) cache.old.items cache.new.items result }
     ensures width { cache.new.width ≡ cache.old.width }
@@ -125,7 +125,7 @@ fn purge_cache<const LEVELS: usize>(cache: &mut Cache<Item>, radix: &Radix<LEVEL
     )
 }
 
-/// Removes from all caches the items whose numbers no node has. Gives how many left.
+/// Removes from all caches the items whose numbers no node has. Returns how many it removed.
 pub(crate) fn purge<const LEVELS: usize>(caches: &mut [Cache<Item>], radix: &Radix<LEVELS>) -> u64
     requires { length caches.old ≤ 4 }
     ensures caches { caches.new ≡ purged_caches radix.now.nodes caches.old }
@@ -150,7 +150,7 @@ fn reaches(reach: Reach, space: u64) -> bool
     }
 }
 
-/// Removes what a fence reaches from a cache. Gives how many left.
+/// Removes what a fence reaches from a cache. Returns how many it removed.
 fn fence_cache(cache: &mut Cache<Item>, reach: Reach) -> u64
     ensures purged { Purges (is_fenced reach) cache.old.items cache.new.items result }
     ensures width { cache.new.width ≡ cache.old.width }
@@ -163,7 +163,7 @@ fn fence_cache(cache: &mut Cache<Item>, reach: Reach) -> u64
     )
 }
 
-/// Removes what a fence reaches from all caches. Gives how many left.
+/// Removes what a fence reaches from all caches. Returns how many it removed.
 pub(crate) fn fence_caches(caches: &mut [Cache<Item>], reach: Reach) -> u64
     requires { length caches.old ≤ 4 }
     ensures caches { caches.new ≡ fenced_caches reach caches.old }

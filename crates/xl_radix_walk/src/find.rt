@@ -32,8 +32,8 @@ fn find_slowly<const LEVELS: usize>(
     found_leaf(space, page, end)
 }
 
-/// The word of the leaf of 4 KiB that covers a page: its frame (times 16) and its permission, by the walk that
-/// `find_leaf` makes. None says nothing; then no load is made.
+/// The word of the leaf of 4 KiB that covers a page: its frame (times 16) and its permission, by
+/// the walk of `find_leaf`. `None`: not taken; no load is made.
 #[inline(always)]
 pub fn find_word<const LEVELS: usize>(
     radix: &mut Radix<LEVELS>,
@@ -52,8 +52,8 @@ pub fn find_word<const LEVELS: usize>(
     straight(radix, root(LEVELS, space), space, page, None, &mut [0; 4])
 }
 
-/// The leaf that covers a page, None exactly where none does, by a walk of the table's words from the root of
-/// the page's space. It makes one load for each level down to the page's last node.
+/// The leaf that covers a page, None exactly where none does, by a walk of the table's words from
+/// the root of the page's space. It makes one load for each level down to the page's last node.
 pub fn find_leaf<const LEVELS: usize>(
     radix: &mut Radix<LEVELS>,
     space: u16,

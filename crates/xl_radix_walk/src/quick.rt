@@ -1,4 +1,5 @@
-//! A walk over all words at once, that answers in the usual case alone.
+//! Radix walk over a slice of all words; only the case where every word is valid and the leaf is 4
+//! KiB.
 
 ghost use Rattle.std.specs.Prelude.{◌≡◌, ℕ, ◌<◌, ◌≤◌, ◌^◌, List, length, IfSome};
 ghost use Rattle.xl_pte.specs.Decode.{decode_of};
@@ -9,8 +10,8 @@ use xl_model::Kind;
 use xl_pte::{allowed_word, small_word};
 use xl_radix::index_of;
 
-/// The number that the word of a pointer says, above level 0: V is set, and neither R, W nor X is. Reserved bits
-/// are read as the number's highest, so that it is 2^44 or more where one is set.
+/// The number that the word of a pointer says, above level 0: V is set, and neither R, W nor X is.
+/// Reserved bits are read as the number's highest, so that it is 2^44 or more where one is set.
 #[inline(always)]
 #[tactic(auto, unfolding(xl_pte::specs::Decode::decode_of))]
 fn number_pointed(word: u64) -> Option<u64>
@@ -24,7 +25,8 @@ fn number_pointed(word: u64) -> Option<u64>
     }
 }
 
-/// The node that a word points to at a level above 0: V is set, and neither R, W, X nor a reserved bit is.
+/// The node that a word points to at a level above 0: V is set, and neither R, W, X nor a reserved
+/// bit is.
 #[inline(always)]
 pub fn pointed(word: u64) -> Option<u64>
     ensures said { IfSome result (Points word) }
@@ -34,8 +36,8 @@ pub fn pointed(word: u64) -> Option<u64>
     if next >> 44 == 0 { Some(next) } else { None }
 }
 
-/// The word at level 0 that the walk of a page from `node` of level `start` ends at, over all words of which
-/// these are the first. The nodes entered come first in `path`. None says nothing.
+/// The word at level 0 that the walk of a page from `node` of level `start` ends at. `words` are
+/// the first of all words. The nodes entered come first in `path`. `None`: not taken.
 #[inline(always)]
 fn last_word(words: &[u64], start: usize, node: u64, page: u64, path: &mut [u64; 4]) -> Option<u64>
     requires few { length words.now ≤ 2 ^ 53 }
@@ -57,9 +59,9 @@ fn last_word(words: &[u64], start: usize, node: u64, page: u64, path: &mut [u64;
     word_at(words, 0, at, page)
 }
 
-/// The word of the leaf that the walk of a page from `node` of level `start` finds at level 0, over all words
-/// of which these are the first: its frame (times 16) and its permission. Where a kind is given, the leaf
-/// allows an access of it. The nodes entered come first in `path`. None says nothing.
+/// The word of the leaf that the walk of a page from `node` of level `start` finds at level 0: its
+/// frame (times 16) and its permission. `words` are the first of all words. Where a kind is given,
+/// the leaf permits it. The nodes entered come first in `path`. `None`: not taken.
 #[inline(always)]
 pub(crate) fn quick_word(
     words: &[u64],

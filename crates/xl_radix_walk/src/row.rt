@@ -109,9 +109,9 @@ pub(crate) fn found_leaf(space: u16, page: u64, end: WalkEnd) -> Option<Leaf>
     )
 }
 
-/// Walks a table's words straight from a node of the page, and counts the loads: the word of the leaf. None
-/// where that doesn't end at a leaf of 4 KiB, which allows an access of the kind, if one is given; then nothing
-/// is counted. The nodes entered come first in `path`.
+/// Walks a table's words straight from a node of the page, and counts the loads: the word of the
+/// leaf. None where that doesn't end at a leaf of 4 KiB, which allows an access of the kind, if one
+/// is given; then nothing is counted. The nodes entered come first in `path`.
 #[inline(always)]
 pub(crate) fn straight<const LEVELS: usize>(
     radix: &mut Radix<LEVELS>,
@@ -138,8 +138,8 @@ pub(crate) fn straight<const LEVELS: usize>(
     Some(word)
 }
 
-/// The walk of a page from the root, where no cache has a width and the page's leaf is one of 4 KiB that
-/// allows an access of this kind.
+/// The walk of a page from the root, where no cache has a width and the page's leaf is one of 4 KiB
+/// that allows an access of this kind.
 #[inline(always)]
 fn walk_uncached<const LEVELS: usize>(
     radix: &mut Radix<LEVELS>,
@@ -170,8 +170,8 @@ fn walk_uncached<const LEVELS: usize>(
     )
 }
 
-/// The walk of a page from its node of level 0, where the cache of that level holds it and the page's leaf
-/// allows an access of this kind.
+/// The walk of a page from its node of level 0, where the cache of that level holds it and the
+/// page's leaf allows an access of this kind.
 #[inline(always)]
 fn walk_lowest<const LEVELS: usize>(
     radix: &mut Radix<LEVELS>,
@@ -230,8 +230,8 @@ fn walk_filling<const LEVELS: usize>(
     Some(leaf.by_fields())
 }
 
-/// Walks a page straight from one of its nodes to a leaf of 4 KiB, and fills the caches by the nodes entered.
-/// None where the walk doesn't end so; then nothing changes.
+/// Walks a page straight from one of its nodes to a leaf of 4 KiB, and fills the caches by the
+/// nodes entered. None where the walk doesn't end so; then nothing changes.
 #[inline(never)]
 fn straight_filling<const LEVELS: usize>(
     radix: &mut Radix<LEVELS>,
@@ -310,7 +310,7 @@ fn walk_row<const LEVELS: usize>(
     }
 }
 
-/// The work of a change that gave back so many nodes: their tags leave the caches.
+/// The work of a change that freed `given` nodes: their entries leave the caches.
 fn settle<const LEVELS: usize>(radix: &Radix<LEVELS>, caches: &mut WalkCaches, given: usize) -> Work
     requires few { length caches.old ≤ 4 }
     requires none { given ≡ 0 → AreNumbered 0 radix.now.nodes caches.old }
@@ -334,7 +334,7 @@ fn no_table() -> Refused
     }
 }
 
-/// Adds a leaf that no leaf meets.
+/// Adds a leaf that overlaps no other.
 fn insert_leaf<const LEVELS: usize>(
     radix: &mut Radix<LEVELS>,
     caches: &mut WalkCaches,
@@ -392,7 +392,7 @@ fn protect_leaf<const LEVELS: usize>(
     Ok(settle(radix, caches, 0))
 }
 
-/// Moves a leaf to a block that no leaf meets.
+/// Moves a leaf to a block that overlaps no other leaf.
 fn relocate_leaf<const LEVELS: usize>(
     radix: &mut Radix<LEVELS>,
     caches: &mut WalkCaches,
@@ -461,7 +461,7 @@ impl<const LEVELS: usize> RadixRow<LEVELS> {
         self.radix.word(node, index)
     }
 
-    /// Whether there is room for a leaf that no leaf meets, so that `insert` would add it.
+    /// Whether there is room for a leaf that overlaps no other, so that `insert` would add it.
     pub fn has_room(&self, leaf: Leaf) -> bool
         requires valid { IsLeafFor (row_table LEVELS self.now).shape leaf }
         requires free { meets_any leaf.space leaf.first leaf.order
@@ -472,7 +472,7 @@ impl<const LEVELS: usize> RadixRow<LEVELS> {
         self.radix.has_room(leaf)
     }
 
-    /// Whether there is room for a leaf that is there at another block, which no leaf meets, so that
+    /// Whether there is room for a leaf at another block, which overlaps no other leaf, so that
     /// `relocate` would move it.
     pub fn has_room_to(&self, space: u16, first: u64, to: u64, order: Order) -> bool
         requires named { IsNamed space first order (row_table LEVELS self.now).leaves }

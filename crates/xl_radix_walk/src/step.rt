@@ -9,7 +9,7 @@ use xl_phys::Bus;
 use xl_pte::{Pte, decode};
 use xl_radix::{WalkEnd, index_of};
 
-/// Where a walk goes on, one level down, or what it ends with.
+/// The node that a walk enters next, one level down, or the walk's result.
 pub(crate) enum Step {
     GoesOn(u64),
     Ends(WalkEnd),

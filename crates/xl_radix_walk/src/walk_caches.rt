@@ -62,8 +62,8 @@ fn open_caches(alloc: Global, widths: &[u8]) -> Result<Vec<Cache<Item>>, NoMemor
     Ok(caches)
 }
 
-/// Touches the page's node in the cache of level 0. The closure makes code of its own, which LLVM puts in line
-/// since one place alone calls it, as it does at the look at all caches.
+/// Touches the page's node in the cache of level 0. The closure is written out here, so that LLVM
+/// has a copy of the search for this call alone, and inlines it.
 fn touch_lowest(cache: &mut Cache<Item>, space: u16, page: u64) -> Option<Item>
     requires page { page < 2 ^ 45 }
     ensures touched { Touches (has_tag (tag_at space 0 page)) cache.old.items cache.new.items
@@ -110,7 +110,8 @@ impl WalkCaches {
         look(&mut self.kept, self.lowest, space, page)
     }
 
-    /// The number of the page's node of level 0, where the cache of that level holds it; it is touched then.
+    /// The number of the page's node of level 0, where the cache of that level holds it; it is
+    /// touched then.
     #[inline(never)]
     pub fn look_lowest(&mut self, space: u16, page: u64) -> Option<u64>
         requires page { page < 2 ^ 45 }
@@ -143,7 +144,8 @@ impl WalkCaches {
         start <= self.lowest
     }
 
-    /// Fills the caches of the levels from `least` to below `start` with the nodes of a walk's path.
+    /// Fills the caches of the levels from `least` to below `start` with the nodes of a walk's
+    /// path.
     pub fn fill(&mut self, start: usize, least: usize, space: u16, page: u64, path: &[u64])
         requires levels { length self.old ≤ 4 }
         requires page { page < 2 ^ 45 }
@@ -153,7 +155,7 @@ impl WalkCaches {
         fill(&mut self.kept, self.lowest, start, least, space, page, path);
     }
 
-    /// What `fill` does, out of line: where it is in line, a walk that fills nothing saves registers for it.
+    /// `fill`, out of line: inlined, it would cost a walk that fills nothing registers.
     #[inline(never)]
     fn fill_apart(&mut self, start: usize, least: usize, space: u16, page: u64, path: &[u64])
         requires levels { length self.old ≤ 4 }
@@ -180,7 +182,7 @@ impl WalkCaches {
     }
 
     /// Removes from all caches the items whose numbers no node has, with no look at a cache where
-    /// no node was given back. Gives how many left.
+    /// no node was given back. Returns how many it removed.
     pub fn purge_given<const LEVELS: usize>(&mut self, radix: &Radix<LEVELS>, given: usize) -> u64
         requires few { length self.old ≤ 4 }
         requires none { given ≡ 0 → AreNumbered 0 radix.now.nodes self.old }
@@ -193,7 +195,7 @@ impl WalkCaches {
         purge(&mut self.kept, radix)
     }
 
-    /// Removes what a fence reaches from all caches. Gives how many left.
+    /// Removes what a fence reaches from all caches. Returns how many it removed.
     pub fn fence(&mut self, reach: Reach) -> u64
         requires { length self.old ≤ 4 }
         ensures caches { self.new ≡ fenced_caches reach self.old }

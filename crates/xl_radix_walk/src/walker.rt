@@ -10,9 +10,9 @@ use arrayvec::ArrayVec;
 use xl_phys::Bus;
 use xl_radix::WalkEnd;
 
-/// Walks the page from node `node` at level `start`: reads the word of the page's index, and goes
-/// on at a pointer one level down (RISC-V Privileged manual). `path` gets the nodes entered below
-/// `start`, in order. It makes a load for each level that it comes to.
+/// Walks the page from node `node` at level `start`: reads the word of the page's index, and at a
+/// pointer enters the next node, one level down (RISC-V Privileged manual). `path` gets the nodes
+/// entered below `start`, in order. It makes a load for each level that it reads.
 pub fn walk<B: Bus, const LEVELS: usize>(
     bus: &mut B,
     start: usize,

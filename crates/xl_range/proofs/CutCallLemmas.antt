@@ -117,7 +117,7 @@ put-calls first p o r old new e is k =
     ap (λ (q : ℕ). kept_behind (r.start + r.pages - (first + q)) (record r { start = first + q; pages = r.start + r.pages - (first + q); frame = r.frame + (first + q - r.start) }) new.kept) e
     ∙ ap (λ (t : TreapView). kept_behind (pages_behind first o r) (part_behind first o r) t.kept) is ∙ k.calls
 
--- The test of room tells whether the cut list is short enough.
+-- The test of room says whether the cut list is short enough.
 pub test-cut : (n len before behind : ℕ) (first : ℕ) (o : Order) (r : Range) (rs : List Range) (result : Bool) → In r rs → result ≡ nat_le (len + (some_if before + some_if behind)) (n + 1)
     → len ≡ length rs → before ≡ pages_before first r → behind ≡ pages_behind first o r → result ≡ nat_le (length (cut first o r rs)) n
 test-cut n len before behind first o r rs result m e l b d =

@@ -95,7 +95,7 @@ protect-undone space first o perm n t cutt between new r l put whole k ec el tes
       same = λ f. en (again ∙ ap (λ (xs : List Range). nat_le (length xs) n) rb ∙ yes) ∙ ap (keeping between) rb ∙ ap (λ (v : TreapView). keeping v t.kept) (eb ∙ ec);
     }
 
--- A leaf that is moved to where no leaf meets it.
+-- A leaf that is moved to where no leaf overlaps it.
 pub record IsMoving (space first to : ℕ) (o : Order) (n : ℕ) (t : TreapView) (new : Leaf) : Type 0 where
   pub whole : IsTable n t
   pub old : Leaf

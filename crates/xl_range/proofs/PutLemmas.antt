@@ -11,7 +11,7 @@ use Rattle.xl_range.specs.Puts.{next_of, prev_of, next_where, prev_where, range_
 use Rattle.xl_range.proofs.HoldLemmas.{with-front, own-key, length-with, length-without, length-resized, apart-held}
 use Rattle.xl_range.proofs.NeighbourLemmas.{next-space, prev-space, IsNext, first-next, IsPrev, last-prev, by-option, next-there, CanPut, can-put}
 
--- neighbours behind a first range
+-- neighbours after a first range
 pub Past : Range → Option Range → Type 0
 Past r None = Unit {0}
 Past r (Some q) = range_key r < range_key q
@@ -57,7 +57,7 @@ put-front low x r rs (above, is, stops, rest) le =
       | false ↦ rw not_less refl
     ]
 
--- behind a range that it touches
+-- after a range that it touches
 put-touch : (x r : Range) (rs : List Range) → Touch r x → 0 < r.pages → 0 < x.pages → IsHeld (end_key x) rs → put_by (next_of x rs) (Some r) x (r ∷ rs) ≡ glue (grown r x) rs
 put-touch x r [] k some more h = rw (own-key r) refl
 put-touch x r (s ∷ ss) k some more (above, is, stops, rest) =

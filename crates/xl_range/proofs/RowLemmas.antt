@@ -86,7 +86,7 @@ is-refused : (c : Change) (n : ℕ) (t : TreapView) (k : Cached Range) → has_r
 unfolding verdict
 is-refused c n t k room = rw room refl
 
--- A change of the row: what it keeps, answers and leaves.
+-- A change of the row: what it keeps, returns and leaves.
 pub record IsRowChange (c : Change) (n : ℕ) (t new : TreapView) (k left : Cached Range) (result : Result Work Refused) : Type 0 where
   pub row : IsRow n new left
   pub changes : IsChange c (row_of n t k) result (row_of n new left)

@@ -12,7 +12,7 @@ use Rattle.xl_model_lemmas.proofs.OrderLemmas.{pages-some}
 use Rattle.xl_model_lemmas.proofs.RunLemmas.{leaves-is}
 use Rattle.xl_model_lemmas.proofs.JoinLemmas.{In-key}
 
--- A leaf stands within these keys, in this space.
+-- A leaf is within these keys, in this space.
 pub record StandsIn (space low high : ℕ) (z : Leaf) : Type 0 where
   pub space_same : z.space ≡ space
   pub from : low ≤ leaf_key z
@@ -34,7 +34,7 @@ run-In (suc n) l z rest (inr i) =
       | inr j ↦ inr j
     ]
 
--- A leaf of held ranges stands in one of them.
+-- A leaf of held ranges is in one of them.
 pub record OfRange (rs : List Range) (z : Leaf) : Type 0 where
   pub range : Range
   pub member : In range rs

@@ -24,7 +24,7 @@ use Rattle.xl_range.specs.Rows.{IsAt, IsFresh, IsTable, IsRow, row_of}
 use Rattle.xl_range.proofs.HoldLemmas.{fit-range}
 use Rattle.xl_range.proofs.FindLemmas.{at-page, leaf-found, held-fresh}
 
--- A walk of the row: what it keeps, answers and leaves.
+-- A walk of the row: what it keeps, returns and leaves.
 pub record IsRowWalk (space page n : ℕ) (t new : TreapView) (k left : Cached Range) (result : Walk) : Type 0 where
   pub row : IsRow n new left
   pub walks : IsWalk space page (row_of n t k) result (row_of n new left)
@@ -46,7 +46,7 @@ filled-row n space page t k r row found = record { whole = row.whole; fresh = λ
         subst P (sym e) (fit-range r (In-range 0 r t.kept row.whole.held member), held-fresh t.kept r row.whole.held member)
     new z (inr i) = row.fresh z i
 
--- A walk that the range TLB answers.
+-- A walk that hits the range TLB.
 pub hit-at : (n space page : ℕ) (t : TreapView) (k : Cached Range) (r : Range) → IsRow n t k → Some r ≡ find (holds_page space page) k.items → IsAt page r
 hit-at n space page t k r row e =
     at-page space page r (row.fresh r (find-In (holds_page space page) r k.items (sym e))).0 (find-passes (holds_page space page) r k.items (sym e))

@@ -5,12 +5,12 @@ use Rattle.xl_model.specs.declared.leaf.Range.{Range}
 use Rattle.xl_model.specs.Addresses.{pages_of}
 use Rattle.xl_treap.specs.Treaps.{with_range, without_range, resized, IsFit}
 
--- The held ranges, that of this key with so many pages, or without it where it keeps none.
+-- The held ranges, that of this key with n pages, or without it where it keeps none.
 abbrev pub kept_cut : ℕ → ℕ → List Range → List Range
 kept_cut zero k held = without_range k held
 kept_cut (suc n) k held = resized k (suc n) held
 
--- The held ranges with what is left behind a leaf, if that has pages.
+-- The held ranges with what is left after a leaf, if that has pages.
 abbrev pub kept_behind : ℕ → Range → List Range → List Range
 kept_behind zero x held = held
 kept_behind (suc n) x held = with_range x held

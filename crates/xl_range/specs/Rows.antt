@@ -25,7 +25,7 @@ abbrev pub meets_where : ℕ → Option Range → Bool
 meets_where first None = false
 meets_where first (Some r) = nat_lt first (r.start + r.pages)
 
--- The table of a treap that may hold so many ranges, and of a range TLB.
+-- The table of a treap that may hold `ranges` ranges, and of a range TLB.
 abbrev pub row_of : ℕ → TreapView → Cached Range → TableState
 row_of ranges t c = record {
   leaves = spread t.kept;
@@ -44,7 +44,7 @@ pub record RowState : Type 0 where
 abbrev pub row_table : RowState → TableState
 row_table s = row_of s.ranges s.treap.seen s.tlb
 
--- An empty table that may hold so many ranges, with an empty range TLB of a width.
+-- An empty table that may hold `ranges` ranges, with an empty range TLB of a width.
 abbrev pub opening_table : ℕ → ℕ → TableState
 opening_table ranges width = record { leaves = []; shape = Runs ranges; caches = RangeCache (empty_cache width); loads = 0 }
 
@@ -57,7 +57,7 @@ IsFresh leaves r = (page : ℕ) → holds_page r.space page r ≡ true → leaf_
 abbrev pub AllFresh : List Leaf → List Range → Type 0
 AllFresh leaves items = (r : Range) → In r items → IsFit r × IsFresh leaves r
 
--- A treap holds maximal ranges, at most so many, and has a node more.
+-- A treap holds maximal ranges, at most `ranges`, and has a node more.
 pub record IsTable (ranges : ℕ) (t : TreapView) : Type 0 where
   pub held : IsHeld 0 t.kept
   pub few : length t.kept ≤ ranges
@@ -75,8 +75,8 @@ pub record HasRanges (xs : List Leaf) (old new : TreapView) : Type 0 where
   pub leaves : spread new.kept ≡ xs
   pub rest : new ≡ keeping old new.kept
 
--- A change is made exactly where there is room: then the treap holds the ranges of the leaves that the
--- change leaves. Else it is as it was.
+-- A change is made exactly where there is room: then the treap holds the ranges of the leaves that
+-- the change leaves. Else it is as it was.
 pub record IsDone (c : Change) (ranges : ℕ) (old : TreapView) (result : Bool) (new : TreapView) : Type 0 where
   pub room : result ≡ has_room c (spread old.kept) (Runs ranges)
   pub made : result ≡ true → HasRanges (changed c (spread old.kept)) old new

@@ -1,4 +1,5 @@
-//! The changes of a table of ranges, on its treap: each is made whole, or leaves the treap as it was.
+//! The changes of a table of ranges, on its treap: each is made whole, or leaves the treap as it
+//! was.
 
 ghost use Rattle.std.specs.Prelude.{◌≡◌, false};
 ghost use Rattle.xl_model.specs.Changes.{Insert, Remove, Protect, Relocate, IsNamed};
@@ -13,7 +14,7 @@ use crate::pieces::{cut, cut_within, leaf_in, range_with};
 use xl_model::{Leaf, Order, Perm};
 use xl_treap::Treap;
 
-/// Adds a leaf that no leaf meets.
+/// Adds a leaf that overlaps no other.
 pub(crate) fn add(treap: &mut Treap, ranges: u32, leaf: Leaf) -> bool
     requires whole { IsTable ranges treap.old.seen }
     requires valid { IsLeafFor (Runs ranges) leaf }
@@ -59,8 +60,9 @@ pub(crate) fn set_perm(
     made
 }
 
-/// Moves a leaf that is there to the page `to`, where no leaf meets it: the new leaf is put in before
-/// the old one is cut out. Where there is no room without the old one, the new one is cut out again.
+/// Moves a leaf that is there to the page `to`, where no leaf overlaps it: the new leaf is put in
+/// before the old one is cut out. Where there is no room without the old one, the new one is cut
+/// out again.
 pub(crate) fn move_to(
     treap: &mut Treap,
     ranges: u32,

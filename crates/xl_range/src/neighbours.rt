@@ -29,7 +29,7 @@ fn same(a: Perm, b: Perm) -> bool
     a.r == b.r && a.w == b.w && a.x == b.x && a.u == b.u
 }
 
-/// Whether a number is another and so many more.
+/// Whether `sum` is `from` and `more` together.
 fn is_sum(sum: u64, from: u64, more: u64) -> bool
     ensures { result ≡ (from + more == sum) }
 {
@@ -47,7 +47,7 @@ fn touches(range: &Range, next: &Range) -> bool
         && is_sum(next.frame, range.frame, range.pages)
 }
 
-/// The range behind this one, if it begins where this one ends.
+/// The range after this one, if it begins where this one ends.
 fn next_of(range: &Range, from: Option<Range>) -> Option<Range>
     ensures { result ≡ next_where from range.now }
 {
@@ -79,7 +79,7 @@ fn prev_of(range: &Range, before: Option<Range>) -> Option<Range>
     }
 }
 
-/// Takes the next range out, and gives the range with its pages.
+/// Takes the next range out, and returns the range with its pages.
 fn take_next(treap: &mut Treap, range: Range, next: Option<Range>) -> Range
     requires there { IsThere next treap.old.seen.kept }
     requires small { pages_with next range < 2 ^ 64 }
@@ -133,7 +133,7 @@ fn put(treap: &mut Treap, range: Range, next: Option<Range>, prev: Option<Range>
     put_behind(treap, range, prev);
 }
 
-/// Whether with one range more, that joins its neighbours, there are at most so many.
+/// Whether adding and merging stays within `ranges`.
 fn has_room(ranges: u32, held: u32, next: &Option<Range>, prev: &Option<Range>) -> bool
     ensures { result ≡ nat_le (held + 1) (ranges + (one_if next.now + one_if prev.now)) }
 {
@@ -141,8 +141,8 @@ fn has_room(ranges: u32, held: u32, next: &Option<Range>, prev: &Option<Range>) 
     held as u64 + 1 <= ranges as u64 + joined
 }
 
-/// Puts a leaf's range in, joined with those that it touches, where then at most so many ranges are
-/// held, and tells whether it did.
+/// Puts a leaf's range in, joined with those that it touches, if that stays within `ranges`.
+/// Returns whether it did.
 pub(crate) fn put_within(treap: &mut Treap, leaf: Leaf, ranges: u32) -> bool
     requires range { IsRange (range_of_leaf leaf) }
     requires held { IsHeld 0 treap.old.seen.kept }

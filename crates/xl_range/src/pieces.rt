@@ -42,7 +42,7 @@ pub(crate) fn range_with(treap: &Treap, space: u16, first: u64, order: Order) ->
     }
 }
 
-/// Keeps so many pages of a held range, or none.
+/// Keeps the first `before` pages of a held range, or none.
 fn cut_before(treap: &mut Treap, range: &Range, before: u64)
     requires there { list_any (has_key (range_key range.now)) treap.old.seen.kept ≡ true }
     requires apart { 0 < before →
@@ -57,7 +57,7 @@ fn cut_before(treap: &mut Treap, range: &Range, before: u64)
     }
 }
 
-/// Puts in what is left behind a leaf, if that has pages.
+/// Puts in what is left after a leaf, if that has pages.
 fn put_rest(treap: &mut Treap, rest: Range, pages: u64)
     requires apart { IsApart 0 (kept_behind pages rest treap.old.seen.kept) }
     requires room { length (kept_behind pages rest treap.old.seen.kept) ≤
@@ -103,16 +103,15 @@ fn one_if(pages: u64) -> u64
     if pages == 0 { 0 } else { 1 }
 }
 
-/// Whether without a leaf, where so many pages are left before and behind it, there are at most so
-/// many ranges.
+/// Whether cutting a leaf out stays within `ranges`, where `before` and `behind` pages are left on
+/// its sides.
 fn has_room_without(ranges: u32, held: u32, before: u64, behind: u64) -> bool
     ensures { result ≡ nat_le (held + (some_if before + some_if behind)) (ranges + 1) }
 {
     held as u64 + (one_if(before) + one_if(behind)) <= ranges as u64 + 1
 }
 
-/// Cuts a leaf out of the range that has it where then at most so many ranges are held, and tells
-/// whether it did.
+/// Cuts a leaf out of the range that has it, if that stays within `ranges`. Returns whether it did.
 pub(crate) fn cut_within(
     treap: &mut Treap,
     range: &Range,

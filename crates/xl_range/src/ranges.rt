@@ -19,7 +19,7 @@ use xl_tlb::RangeTlb;
 use xl_treap::Treap;
 
 /// A table of ranges (redundant memory mappings, Karakostas and others, 2015): the maximal runs of
-/// its leaves stand in a treap, one for all spaces, and a TLB of ranges is its walk cache. Contracts
+/// its leaves are in a treap, one for all spaces, and a TLB of ranges is its walk cache. Contracts
 /// see the treap, the range TLB and how many ranges it may hold. Nothing is allocated after `open`.
 #[derive(Drop)]
 pub struct Ranges {
@@ -48,7 +48,7 @@ fn reaches_in(last: Option<Range>, first: u64) -> bool
     }
 }
 
-/// The answer to a change for which there is no room.
+/// The result for a change for which there is no room.
 fn no_room() -> Refused
     ensures { result ≡ record { why = why.NoTable; work = work_of no_moves 0 } }
 {
@@ -58,7 +58,7 @@ fn no_room() -> Refused
     }
 }
 
-/// Removes the cached ranges that hold a page, and gives the work of that.
+/// Removes the cached ranges that hold a page, and returns the work of that.
 fn purge(tlb: &mut RangeTlb, space: u16, page: u64) -> Work
     ensures work { result ≡ work_of no_moves (length tlb.old.items - length tlb.new.items) }
     ensures after { tlb.new ≡ without_items (holds_page space page) tlb.old }

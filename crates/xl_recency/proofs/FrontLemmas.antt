@@ -3,8 +3,8 @@ use Rattle.std.proofs.Common.{◌≡◌, refl, ap, ℕ, zero, suc, ◌-◌, ◌<
 use Rattle.std.specs.List.{remove}
 
 module _ {A : Type 0} where
-  -- the items without the one at `at`, where the items from `place` on up to it went back by one place: the one at
-  -- `place` stands there still
+  -- the items without the one at `at`, where the items from `place` on up to it moved back by one
+  -- place: the item at `place` is there still
   abbrev pub spread : ℕ → ℕ → List A → List A
   spread place at [] = []
   spread zero at (x ∷ xs) = x ∷ remove (x ∷ xs) at

@@ -87,7 +87,7 @@ module _ {A : Type 0} (answers : A → Bool → Type 0) (xs : List A) (len end :
         subst (λ (x : A). answers x false) (same_item k d below) (f.fails k d (rw (length-take-le end xs whole) (omega arith)));
   }
 
--- a scan of the items of a list and of what stands behind them
+-- a scan of the items of a list and of the slots after them
 module _ {A : Type 0} (answers : A → Bool → Type 0) (xs : List A) (len : ℕ) (fits : len ≤ length xs) where
   pub scanned_first : (at : ℕ) (x : A) → at < len → x ≡ get_or xs at x → answers (get_or xs at x) true → ((k : ℕ) (d : A) → k < at → answers (get_or xs k d) false) → IsFirst answers (take len xs) at
   scanned_first at x l is meets before = record {

@@ -51,7 +51,7 @@ unfolding by_stamp Each
 pushed [] new f = with_greatest new [] tt
 pushed (x ∷ xs) new f = ap (with_place x) (pushed xs new f.1) ∙ past_greatest x new (by_stamp xs) f.0
 
--- ---- the newest that meets a test
+-- ---- the newest that passes a test
 
 first_is : (q : Item → Bool) (s : ℕ) (p : Place) (xs : List Place) → Sorted xs → In p xs → p.stamp ≡ s → q p.item ≡ true
     → Each (λ y. (q y.item ≡ false) ⊎ (y.stamp ≤ s)) xs
@@ -217,7 +217,7 @@ full_step old xs i last item l n a least e =
       f.1 ∙ ap (λ (k : ℕ). drop k (item ∷ newest_first xs)) n ∙ ap (λ (ys : List Item). drop (length old) (item ∷ ys)) e,
     )
 
--- the place behind the used ones
+-- the place after the used ones
 pub next_place : (xs rest : List Place) (len : ℕ) (p : Place) → length xs ≡ len → 0 < length rest
     → take (len + 1) (set (xs ++ rest) len p) ≡ xs ++ p ∷ []
 next_place xs rest len p n some =

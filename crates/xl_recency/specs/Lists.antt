@@ -6,32 +6,32 @@ use Rattle.xl_model.specs.Recency.{touched, with_newest, purged}
 pub record IsTest {A : Type 0} (answers : A → Bool → Type 0) (test : A → Bool) : Type 0 where
   pub same : (x : A) (answer : Bool) → answers x answer → answer ≡ test x
 
--- This is the first item for which the closure answered true.
+-- This is the first item for which the closure returned true.
 pub record IsFirst {A : Type 0} (answers : A → Bool → Type 0) (items : List A) (at : ℕ) : Type 0 where
   pub meets : (d : A) → answers (slice_index_or items at d) true
   pub before : (k : ℕ) (d : A) → k < at → answers (slice_index_or items k d) false
 
--- The closure answered false for each item.
+-- The closure returned false for each item.
 pub record AllFail {A : Type 0} (answers : A → Bool → Type 0) (items : List A) : Type 0 where
   pub fails : (k : ℕ) (d : A) → k < length items → answers (slice_index_or items k d) false
 
--- The closure answered false for each of the first `at` items.
+-- The closure returned false for each of the first `at` items.
 pub record FailBefore {A : Type 0} (answers : A → Bool → Type 0) (items : List A) (at : ℕ) : Type 0 where
   pub fails : (k : ℕ) (d : A) → k < at → k < length items → answers (slice_index_or items k d) false
 
--- A touch answers the newest item that meets the test, and brings it to the front. Where none meets it,
--- nothing changes.
+-- A touch returns the newest item that passes the test, and moves it to the front. Where none
+-- passes, nothing changes.
 pub record Touches {A : Type 0} (test : A → Bool) (old new : List A) (result : Option A) : Type 0 where
   pub found : result ≡ find test old
   pub moved : new ≡ touched test old
 
--- A fill puts the item in front of a list of this width, and answers the one that left, which is the item
--- itself at width 0.
+-- A fill inserts the item in front of a list of this width, and returns the item evicted, which is
+-- the item itself at width 0.
 pub record Fills {A : Type 0} (width : ℕ) (item : A) (old new : List A) (result : Option A) : Type 0 where
   pub list : new ≡ with_newest width item old
   pub left : option_to_list result ≡ drop width (item ∷ old)
 
--- A purge keeps the items that don't meet the test, in order, and answers how many left.
+-- A purge keeps the items that fail the test, in order, and returns how many it removed.
 pub record Purges {A : Type 0} (test : A → Bool) (old new : List A) (result : ℕ) : Type 0 where
   pub kept : new ≡ purged test old
   pub count : result + length new ≡ length old

@@ -36,13 +36,13 @@ pub record AreStamps (last : ℕ) (places : List Place) : Type 0 where
   pub given : Each (λ y. y.stamp ≤ last) places
   pub apart : Apart places
 
--- Of the first `count` places this one has the greatest stamp among those whose items the closure
--- answered true for.
+-- Of the first `count` places this one has the greatest stamp among those for whose items the
+-- closure returned true.
 pub record IsNewest (answers : Item → Bool → Type 0) (places : List Place) (count at : ℕ) : Type 0 where
   pub meets : (d : Place) → answers (slice_index_or places at d).item true
   pub newest : (k : ℕ) (d : Place) → k < count → answers (slice_index_or places k d).item false ⊎ ((slice_index_or places k d).stamp ≤ (slice_index_or places at d).stamp)
 
--- The closure answered false for the item of each place.
+-- The closure returned false for the item of each place.
 pub record NoneMeets (answers : Item → Bool → Type 0) (places : List Place) : Type 0 where
   pub fails : (k : ℕ) (d : Place) → k < length places → answers (slice_index_or places k d).item false
 

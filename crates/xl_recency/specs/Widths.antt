@@ -13,7 +13,7 @@ IsWidth width = IsTrue (is_width width)
 abbrev pub cached : {T : Type 0} → ℕ → List T → Cached T
 cached width items = record { width = width; items = items }
 
--- The list that stands in the variant of its width, with that width; at width 0 it is empty.
+-- The list that is in the variant of its width, with that width; at width 0 it is empty.
 abbrev pub cached_in : {T : Type 0} → Slots T → Cached T
 cached_in slots.W0 = cached 0 []
 cached_in (slots.W1 items) = cached 1 items

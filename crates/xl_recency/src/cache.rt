@@ -61,8 +61,8 @@ macro_rules! at_width {
 }
 
 impl<T: Copy> Cache<T> {
-    /// An empty list of the width. It stands in the value itself, so memory is never wanting.
-    /// `blank` is what stands in places that hold nothing; contracts never see it.
+    /// An empty list of the width. Stored inline; never allocates. `blank` fills unused slots;
+    /// contracts never see it.
     pub fn open(alloc: Global, width: u8, blank: T) -> Result<Cache<T>, NoMemory>
         requires { IsWidth width }
         ensures ok { IsOk result }
@@ -92,8 +92,8 @@ impl<T: Copy> Cache<T> {
         at_width!(&self.slots, ways => ways.len(), 0)
     }
 
-    /// Brings the newest item that meets the test to the front, and gives it. None where none
-    /// meets it; then nothing changes.
+    /// Moves the newest item that passes the test to the front, and returns it. `None` where none
+    /// passes; then nothing changes.
     pub fn touch<P: Fn(&T) -> bool>(&mut self, test: P) -> Option<T>
         requires { P.IsAlwaysCallable test }
         ensures touched { (q : _) → IsTest (FnReturnsAt P.Fn test) q →
@@ -103,8 +103,8 @@ impl<T: Copy> Cache<T> {
         at_width!(&mut self.slots, ways => ways.touch(test), None)
     }
 
-    /// Puts the item in front, and gives the one that left: Some where the list was full. At width
-    /// 0 that is the item itself.
+    /// Puts the item in front, and returns the item evicted: `Some` where the list was full. At
+    /// width 0 that is the item itself.
     pub fn fill(&mut self, item: T) -> Option<T>
         ensures filled { Fills self.old.width item self.old.items self.new.items result }
         ensures width { self.new.width ≡ self.old.width }
@@ -112,7 +112,7 @@ impl<T: Copy> Cache<T> {
         at_width!(&mut self.slots, ways => ways.fill(item), Some(item))
     }
 
-    /// Removes the items that meet the test; the others stay in order. Gives how many left.
+    /// Removes the items that pass the test; the others stay in order. Returns how many it removed.
     pub fn remove_where<P: Fn(&T) -> bool>(&mut self, test: P) -> u64
         requires { P.IsAlwaysCallable test }
         ensures kept { (q : _) → IsTest (FnReturnsAt P.Fn test) q →

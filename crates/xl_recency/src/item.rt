@@ -7,5 +7,5 @@ pub struct Item {
     pub word: u64,
 }
 
-/// What stands in places that hold no item.
+/// Fills unused slots.
 pub const BLANK: Item = Item { tag: 0, word: 0 };

@@ -6,8 +6,9 @@ ghost use Rattle.std.specs.Fn.{FnReturnsAt};
 ghost use Rattle.xl_model.specs.Recency.{purged};
 ghost use Rattle.xl_recency.specs.Lists.{IsTest, IsFirst, AllFail, FailBefore, Touches};
 
-/// Puts the item in front, in place of the one at `at`. From the last place on: so no item is carried, and
-/// LLVM makes one move of the loop: where the place is known when the program is built, a few loads and stores.
+/// Puts the item in front, in place of the one at `at`. From the last place on: so no item is
+/// carried, and LLVM makes one move of the loop: where the place is known when the program is
+/// built, a few loads and stores.
 #[inline(always)]
 pub(crate) fn put_in_front<T: Copy>(items: &mut [T], at: usize, item: T)
     requires { at < length items.old }
@@ -21,7 +22,7 @@ pub(crate) fn put_in_front<T: Copy>(items: &mut [T], at: usize, item: T)
     items[0] = item;
 }
 
-/// The place of the first item that meets the test.
+/// The place of the first item that passes the test.
 pub(crate) fn first_place<T, P: Fn(&T) -> bool>(items: &[T], test: &P) -> Option<usize>
     requires { P.IsAlwaysCallable test.now }
     ensures within { IfSome result (λ at. at < length items.now) }
@@ -36,8 +37,8 @@ pub(crate) fn first_place<T, P: Fn(&T) -> bool>(items: &[T], test: &P) -> Option
     None
 }
 
-/// The place of the first of the first `len` items that meets the test. Where there are few slots, all of
-/// them are looked at, those behind the items too: a loop of a fixed count costs less.
+/// The place of the first of the first `len` items that passes the test. Where there are few slots,
+/// all of them are looked at, unused ones too: a loop of a fixed count costs less.
 #[inline(always)]
 pub(crate) fn place_of<const W: usize, T, P: Fn(&T) -> bool>(
     slots: &[T; W],
@@ -75,8 +76,7 @@ pub(crate) fn keep_failing<T: Copy, P: Fn(&T) -> bool>(items: &mut [T], test: &P
     kept
 }
 
-/// Brings the first item that meets the test to the front, where its place is known. Where it stands
-/// there already nothing moves.
+/// Moves the item at `at`, the first that passes the test, to the front. At place 0 nothing moves.
 pub(crate) fn touch_at<T: Copy, P: Fn(&T) -> bool>(
     items: &mut [T],
     place: Option<usize>,
@@ -101,7 +101,7 @@ pub(crate) fn touch_at<T: Copy, P: Fn(&T) -> bool>(
     }
 }
 
-/// Whether the item at this place meets the test, where none in front of it does.
+/// Whether the item at this place passes the test, where none before it does.
 #[inline(always)]
 fn is_first_at<const W: usize, T, P: Fn(&T) -> bool>(slots: &[T; W], at: usize, test: &P) -> bool
     requires test { P.IsAlwaysCallable test.now }
@@ -113,8 +113,8 @@ fn is_first_at<const W: usize, T, P: Fn(&T) -> bool>(slots: &[T; W], at: usize, 
     at < W && test(&slots[at])
 }
 
-/// Brings the item at this place, the first that meets the test, to the front, if it is one of the first
-/// `len` slots.
+/// Moves the item at this place, the first that passes the test, to the front, if it is one of the
+/// first `len` slots.
 #[inline(always)]
 fn bring_at<const W: usize, T: Copy, P: Fn(&T) -> bool>(
     slots: &mut [T; W],
@@ -136,8 +136,8 @@ fn bring_at<const W: usize, T: Copy, P: Fn(&T) -> bool>(
     Some(item)
 }
 
-/// Looks at slots one after another, and leaves with the first that meets the test. Each has a way out of its
-/// own: of a loop LLVM joins the ways out, and then asks once more at each item that it moves.
+/// Unrolled search; one return per slot (LLVM merges the exits of a loop, and would test again at
+/// each item that it moves).
 macro_rules! ways_out {
     ($slots:ident $len:ident $test:ident: $($at:literal)*) => {
         $(
@@ -148,9 +148,9 @@ macro_rules! ways_out {
     };
 }
 
-/// Brings the first of the first `len` items that meets the test to the front, where there are at most sixteen
-/// slots. All of them are looked at, those behind the items too. Those behind the eighth stand apart, so that
-/// lists of few slots stay small enough to be put in line.
+/// Moves the first of the first `len` items that passes the test to the front, where there are at
+/// most sixteen slots. All slots are looked at, unused ones too. Those past the eighth are in a
+/// function of their own, so that lists of few slots stay small enough to be inlined.
 #[inline(always)]
 pub(crate) fn touch_first<const W: usize, T: Copy, P: Fn(&T) -> bool>(
     slots: &mut [T; W],
@@ -170,7 +170,7 @@ pub(crate) fn touch_first<const W: usize, T: Copy, P: Fn(&T) -> bool>(
     touch_behind(slots, len, test)
 }
 
-/// Does what `touch_first` does, where none of the first eight slots meets the test.
+/// Like `touch_first`, where none of the first eight slots passes the test.
 #[inline]
 fn touch_behind<const W: usize, T: Copy, P: Fn(&T) -> bool>(
     slots: &mut [T; W],
@@ -188,7 +188,7 @@ fn touch_behind<const W: usize, T: Copy, P: Fn(&T) -> bool>(
     None
 }
 
-/// The first item that meets the test, where its place is known.
+/// The first item that passes the test, where its place is known.
 pub(crate) fn item_at<T: Copy, P: Fn(&T) -> bool>(
     items: &[T],
     place: Option<usize>,

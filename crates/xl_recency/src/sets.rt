@@ -27,7 +27,7 @@ impl<const W: usize> Model for Sets<W> {
     ghost invariant = { λ s. length s.sets.items ≤ 2 ^ 32 };
 }
 
-/// Removes the items of every set that meet the test: how many left.
+/// Removes the items of every set that pass the test. Returns how many it removed.
 fn remove_from_each<const W: usize, P: Fn(&Item) -> bool>(
     sets: &mut [Ways<Item, W>],
     test: &P,
@@ -62,8 +62,8 @@ impl<const W: usize> Sets<W> {
         Ok(Sets { sets })
     }
 
-    /// Brings the newest item of the set that meets the test to the front, and gives it. None where
-    /// none meets it; then nothing changes.
+    /// Moves the newest item of the set that passes the test to the front, and returns it. `None`
+    /// where none passes; then nothing changes.
     #[inline(always)]
     pub fn touch<P: Fn(&Item) -> bool>(&mut self, set: usize, test: P) -> Option<Item>
         requires width { W ≤ 64 }
@@ -77,7 +77,7 @@ impl<const W: usize> Sets<W> {
         ways.touch(test)
     }
 
-    /// The newest item of the set that meets the test.
+    /// The newest item of the set that passes the test.
     pub fn find<P: Fn(&Item) -> bool>(&self, set: usize, test: P) -> Option<Item>
         requires width { W ≤ 64 }
         requires set { set < length self.now }
@@ -89,7 +89,8 @@ impl<const W: usize> Sets<W> {
         ways.find(test)
     }
 
-    /// Puts the item in front of the set, and gives the one that left: Some where the set was full.
+    /// Puts the item in front of the set, and returns the item evicted: `Some` where the set was
+    /// full.
     #[inline(always)]
     pub fn fill(&mut self, set: usize, item: Item) -> Option<Item>
         requires some { 0 < W }
@@ -101,8 +102,8 @@ impl<const W: usize> Sets<W> {
         ways.fill(item)
     }
 
-    /// Removes the items of every set that meet the test; the others stay in order. Gives how many
-    /// left.
+    /// Removes the items of every set that pass the test; the others stay in order. Returns how
+    /// many it removed.
     pub fn remove_where<P: Fn(&Item) -> bool>(&mut self, test: P) -> u64
         requires width { W ≤ 64 }
         requires test { P.IsAlwaysCallable test }
@@ -115,8 +116,8 @@ impl<const W: usize> Sets<W> {
         remove_from_each(&mut self.sets, &test)
     }
 
-    /// Removes the items of one set that meet the test; the others stay in order. Gives how many
-    /// left.
+    /// Removes the items of one set that pass the test; the others stay in order. Returns how many
+    /// it removed.
     pub fn remove_in<P: Fn(&Item) -> bool>(&mut self, set: usize, test: P) -> u64
         requires width { W ≤ 64 }
         requires set { set < length self.old }

@@ -41,7 +41,7 @@ impl<const W: usize> Model for Ways<W> {
         AreStamps s.last (take s.len s.places.items) };
 }
 
-/// The place of an item that meets the test.
+/// The place of an item that passes the test.
 fn first_meeting<P: Fn(&Item) -> bool>(places: &[Place], test: &P) -> Option<usize>
     requires { P.IsAlwaysCallable test.now }
     ensures within { IfSome result (λ at. at < length places.now) }
@@ -59,7 +59,7 @@ fn first_meeting<P: Fn(&Item) -> bool>(places: &[Place], test: &P) -> Option<usi
     None
 }
 
-/// The place with the greatest stamp among those whose items meet the test: none does before
+/// The place with the greatest stamp among those whose items pass the test: none does before
 /// `first`, which does.
 fn newest_from<P: Fn(&Item) -> bool>(places: &[Place], first: usize, test: &P) -> usize
     requires test { P.IsAlwaysCallable test.now }
@@ -134,7 +134,7 @@ fn make_room(places: &mut [Place], last: &mut u64)
     *last = count as u64;
 }
 
-/// Gives the newest item that meets the test a new greatest stamp.
+/// Gives the newest item that passes the test a new greatest stamp.
 fn touch_newest<P: Fn(&Item) -> bool>(
     places: &mut [Place],
     last: &mut u64,
@@ -174,7 +174,7 @@ fn fill_place(places: &mut [Place], len: usize, last: &mut u64, item: Item)
     places[len] = Place { stamp: *last, item };
 }
 
-/// Puts the item in the place of the oldest, and gives that one.
+/// Puts the item in the place of the oldest, and returns that item.
 fn replace_oldest(places: &mut [Place], last: &mut u64, item: Item) -> Item
     requires some { 0 < length places.old }
     requires few { length places.old ≤ 64 }
@@ -255,8 +255,7 @@ impl<const W: usize> Ways<W> {
         Ways::open_at(alloc, 1)
     }
 
-    /// An empty list whose first stamp is `next`. Lists that were opened at other stamps answer
-    /// alike.
+    /// An empty list whose first stamp is `next`. Lists opened at other stamps return the same.
     pub fn open_at(alloc: Global, next: u64) -> Result<Ways<W>, NoMemory>
         requires width { W ≤ 64 }
         requires next { 1 ≤ next }
@@ -274,8 +273,8 @@ impl<const W: usize> Ways<W> {
         })
     }
 
-    /// Brings the newest item that meets the test to the front, and gives it. None where none
-    /// meets it; then nothing changes.
+    /// Moves the newest item that passes the test to the front, and returns it. `None` where none
+    /// passes; then nothing changes.
     pub fn touch<P: Fn(&Item) -> bool>(&mut self, test: P) -> Option<Item>
         requires { P.IsAlwaysCallable test }
         ensures { (q : _) → IsTest (FnReturnsAt P.Fn test) q → Touches q self.old self.new result }
@@ -283,7 +282,7 @@ impl<const W: usize> Ways<W> {
         touch_used(&mut self.places, self.len, &mut self.last, &test)
     }
 
-    /// Puts the item in front, and gives the one that left: Some where the list was full.
+    /// Puts the item in front, and returns the item evicted: `Some` where the list was full.
     pub fn fill(&mut self, item: Item) -> Option<Item>
         requires { 0 < W }
         ensures { Fills W item self.old self.new result }
@@ -297,7 +296,7 @@ impl<const W: usize> Ways<W> {
         }
     }
 
-    /// Removes the items that meet the test; the others stay in order. Gives how many left.
+    /// Removes the items that pass the test; the others stay in order. Returns how many it removed.
     pub fn remove_where<P: Fn(&Item) -> bool>(&mut self, test: P) -> u64
         requires { P.IsAlwaysCallable test }
         ensures kept { (q : _) → IsTest (FnReturnsAt P.Fn test) q →

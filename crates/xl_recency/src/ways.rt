@@ -28,8 +28,8 @@ impl<T, const W: usize> Model for Ways<T, W> {
 }
 
 impl<T: Copy, const W: usize> Ways<T, W> {
-    /// An empty list. It stands in the value itself, so memory is never wanting. `blank` is what
-    /// stands in places that hold nothing; contracts never see it.
+    /// An empty list. Stored inline; never allocates. `blank` fills unused slots; contracts never
+    /// see it.
     pub fn open(_alloc: Global, blank: T) -> Result<Ways<T, W>, NoMemory>
         ensures ok { IsOk result }
         ensures empty { IfOk result (λ ways. ways ≡ []) }
@@ -49,8 +49,8 @@ impl<T: Copy, const W: usize> Ways<T, W> {
         items.len()
     }
 
-    /// Brings the newest item that meets the test to the front, and gives it. None where none
-    /// meets it; then nothing changes.
+    /// Moves the newest item that passes the test to the front, and returns it. `None` where none
+    /// passes; then nothing changes.
     #[inline(always)]
     pub fn touch<P: Fn(&T) -> bool>(&mut self, test: P) -> Option<T>
         requires { P.IsAlwaysCallable test }
@@ -63,7 +63,7 @@ impl<T: Copy, const W: usize> Ways<T, W> {
         touch_at(&mut self.slots[..self.len], place, &test)
     }
 
-    /// The newest item that meets the test.
+    /// The newest item that passes the test.
     pub fn find<P: Fn(&T) -> bool>(&self, test: P) -> Option<T>
         requires { P.IsAlwaysCallable test }
         ensures { (q : _) → IsTest (FnReturnsAt P.Fn test) q → result ≡ find q self.now }
@@ -72,8 +72,8 @@ impl<T: Copy, const W: usize> Ways<T, W> {
         item_at(&self.slots[..self.len], place, &test)
     }
 
-    /// Puts the item in front, and gives the one that left: Some where the list was full. All slots are
-    /// moved, those behind the list too: a move of a fixed length costs less.
+    /// Inserts the item in front, and returns the item evicted: `Some` where the list was full. All
+    /// slots are moved, unused ones too: a move of a fixed length costs less.
     #[inline(always)]
     pub fn fill(&mut self, item: T) -> Option<T>
         requires { 0 < W }
@@ -88,7 +88,7 @@ impl<T: Copy, const W: usize> Ways<T, W> {
         Some(last)
     }
 
-    /// Removes the items that meet the test; the others stay in order. Gives how many left.
+    /// Removes the items that pass the test; the others stay in order. Returns how many it removed.
     pub fn remove_where<P: Fn(&T) -> bool>(&mut self, test: P) -> u64
         requires { P.IsAlwaysCallable test }
         ensures kept { (q : _) → IsTest (FnReturnsAt P.Fn test) q →

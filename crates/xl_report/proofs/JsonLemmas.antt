@@ -13,7 +13,7 @@ use Rattle.xl_model.specs.Lines.{hex_digits, hex_glyph}
 use Rattle.xl_model.specs.Scenes.{Served}
 use Rattle.xl_report.specs.Json.{amount, pair, pairs, row_object, row_objects, objects_of, verdict_members, walk_members, change_members, named_members}
 
--- the members, put one after another, stand in order
+-- the members, put one after another, are in order
 pub members_in_order : (name : List ℕ) (c : Counts) → object (named_members name c (change_members c (walk_members c (verdict_members c no_members)))) ≡ row_object name c
 unfolding row_object verdict_members walk_members change_members named_members
 members_in_order name c = refl

@@ -20,7 +20,7 @@ amounts ns = array (items_of (map amount ns))
 abbrev pub pair : ℕ → ℕ → Data
 pair hits misses = array (item (amount hits) (item (amount misses) no_items))
 
--- The hits and the misses of so many arrays.
+-- The hits and the misses of n arrays.
 abbrev pub pairs : ℕ → List ℕ → List ℕ → List Data
 pairs zero hits misses = []
 pairs (suc n) (h ∷ hits) (m ∷ misses) = pair h m ∷ pairs n hits misses
@@ -74,7 +74,8 @@ change_members c ms =
     (with_member (codes "growths") (amount c.growths) (with_member (codes "migrated") (amount c.migrated)
     (with_member (codes "undone") (amount c.undone) (with_member (codes "kicks") (amount c.kicks) ms)))))
 
--- Members with the name of a row, its refusals, its sum and its arrays put among them, each at its place.
+-- Members with the name of a row, its refusals, its sum and its arrays put among them, each at its
+-- place.
 unfoldable pub named_members : List ℕ → Counts → Members → Members
 named_members name c ms =
     with_member (codes "tlb") (arrays_of c) (with_member (codes "pasum") (string (hex16 c.pasum))

@@ -20,8 +20,8 @@ pub struct Answered {
 }
 
 /// Appends the line of an access: the row's name, the record's number, the access, and its reply. A
-/// frame that is replied is below 2^52, so that its physical addresses are below 2^64. In line, so that
-/// the parts of the access stay in registers.
+/// frame that is replied is below 2^52, so that its physical addresses are below 2^64. Inlined, so
+/// that the parts of the access stay in registers.
 ///
 /// # Errors
 ///
@@ -80,7 +80,7 @@ fn add_reply(line: &mut Line<128>, kind: Kind, va: u64, reply: Reply)
     line.number(code(kind) as u64);
 }
 
-/// Appends the line of a command: the row's name, the command's verb, and what it came to. An event
+/// Appends the line of a command: the row's name, the command's verb, and its outcome. An event
 /// that is an access has no verb, and a reply no word.
 ///
 /// # Errors
@@ -104,7 +104,7 @@ pub fn write_command<K: Sink>(
     put_all(out, line.bytes())
 }
 
-/// The verb of a command, behind what marks a command's line.
+/// The verb of a command, after what marks a command's line.
 fn verb(event: Event) -> &'static [u8]
     ensures text { result.now ≡ verb_of event }
     ensures size { length result.now ≤ 12 }
@@ -120,7 +120,7 @@ fn verb(event: Event) -> &'static [u8]
     }
 }
 
-/// Puts what a command came to at the line's end.
+/// Puts the outcome of a command at the line's end.
 fn add_outcome(line: &mut Line<128>, outcome: Outcome)
     requires { length line.old + 40 ≤ 128 }
     ensures text { line.new ≡ with_outcome line.old outcome }

@@ -6,8 +6,8 @@ ghost use Rattle.xl_model.specs.Lines.{hex16, hex_digits};
 use itoa::Buffer;
 use std::marker::Model;
 
-/// A line of at most `MOST` bytes that is being put together. Contracts see its bytes so far. Its room
-/// is cleared for each line, so a line that is written often has little.
+/// A line of at most `MOST` bytes that is being put together. Contracts see its bytes so far. Its
+/// room is cleared for each line, so a line that is written often has little.
 #[derive(Drop)]
 pub struct Line<const MOST: usize> {
     bytes: [u8; MOST],
@@ -72,7 +72,7 @@ impl<const MOST: usize> Line<MOST> {
     }
 }
 
-/// Puts bytes into a buffer behind the first `at`.
+/// Puts bytes into a buffer after the first `at`.
 fn put(buffer: &mut [u8], at: usize, bytes: &[u8])
     requires { at + length bytes.now ≤ length buffer.old }
     ensures { take (at + length bytes.now) buffer.new ≡ take at buffer.old ++ bytes.now }

@@ -14,7 +14,7 @@ use std::str;
 use xl_model::{Counts, NoMemory, Row};
 
 /// The rows as the text of a JSON array with an object for each row. Its keys are those of the
-/// lines of rows, and `name`; they stand in rising order.
+/// lines of rows, and `name`; they are in rising order.
 ///
 /// # Errors
 ///
@@ -163,7 +163,7 @@ fn arrays_value(alloc: Global, counts: &Counts) -> Result<Value, AllocError>
     pairs_value(alloc, counts.arrays, &counts.hits, &counts.misses)
 }
 
-/// The hits and the misses of so many arrays.
+/// The hits and the misses of `count` arrays.
 fn pairs_value(
     alloc: Global,
     count: usize,

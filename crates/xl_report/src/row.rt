@@ -8,7 +8,7 @@ use crate::line::Line;
 use xl_model::{Counts, Row};
 use xl_outside::{Failed, Sink, put_all};
 
-/// Appends the line of a row: its name, and each count behind its name.
+/// Appends the line of a row: its name, and each count after its name.
 ///
 /// # Errors
 ///
@@ -84,7 +84,7 @@ fn numbers(line: &mut Line<1024>, numbers: &[u64])
     }
 }
 
-/// Puts numbers at the line's end, each behind a comma.
+/// Puts numbers at the line's end, each after a comma.
 fn rest(line: &mut Line<1024>, numbers: &[u64])
     requires few { length numbers.now ≤ 8 }
     requires room { length line.old + 168 ≤ 1024 }
@@ -154,7 +154,7 @@ fn tlb(line: &mut Line<1024>, counts: &Counts)
     arrays(line, counts.arrays, &counts.hits, &counts.misses);
 }
 
-/// Puts the hits and misses of so many arrays at the line's end; a dash for none.
+/// Puts the hits and misses of `count` arrays at the line's end; a dash for none.
 fn arrays(line: &mut Line<1024>, count: usize, hits: &[u64], misses: &[u64])
     requires count { count ≤ 6 }
     requires hits { length hits.now ≡ 6 }

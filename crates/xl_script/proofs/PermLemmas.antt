@@ -30,7 +30,7 @@ no_use true w x legal is_r is_x = cc
 no_use false w true legal is_r is_x = cc
 no_use false w false legal is_r is_x = cc
 
--- what `Perm::new` answers is the permission with these bits
+-- what `Perm::new` returns is the permission with these bits
 pub perm_is : (r w x u : Bool) (p : Option Perm) → IfSome p (λ q. (q.r ≡ r) × (q.w ≡ w) × (q.x ≡ x) × (q.u ≡ u))
     → IfNone p (((r || x) && (r || not w)) ≡ false) → p ≡ perm_with r w x u
 perm_is true w x u (Some q) bits unfit = ap Some (same_bits q true w x u refl bits.0 bits.1 bits.2 bits.3)

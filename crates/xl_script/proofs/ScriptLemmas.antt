@@ -49,7 +49,7 @@ then_good : (r : Result Command Reason) → Good (r >>= placed)
 then_good (Ok c) = placed_good c
 then_good (Err why) = tt
 
--- what a line keeps after so many areas
+-- what a line keeps after `areas` areas
 abbrev Says : ℕ → Said ℕ Command → Type 0
 Says areas (Ok (t, None)) = t ≡ areas
 Says areas (Ok (t, Some c)) = IsPlaced c × (t ≡ cond (is_area c) 1 0 + areas) × (t ≤ 256)
@@ -72,7 +72,7 @@ words_say : (areas : ℕ) (words : List (List ℕ)) → areas ≤ 256 → Says a
 words_say areas [] few = refl
 words_say areas (first ∷ rest) few = line_says areas (command_of first rest) few (then_good (named first rest))
 
--- what lines after so many areas keep
+-- what lines after `areas` areas keep
 abbrev Keeps : ℕ → Reading ℕ Command → Type 0
 Keeps areas (Ok (t, commands)) = All IsPlaced commands × (count_by is_area commands + areas ≡ t) × (t ≤ 256)
 Keeps areas (Err f) = Unit {0}

@@ -67,7 +67,7 @@ comment : (ps : List (List ℕ)) → up_to_comment (onto 35 ps) ≡ []
 comment [] = refl
 comment (p ∷ ps) = refl
 
--- after the blanks at the front stands no blank
+-- after the blanks at the front is no blank
 pub blanks_end : (bs : List ℕ) (n : ℕ) → n ≡ blanks bs → 0 < length (drop n bs) → is_blank (get_or (drop n bs) 0 0) ≡ false
 blanks_end bs n is some =
     let short : blanks bs < length bs = omega (arith, some, is, length-drop n bs) in
@@ -122,13 +122,13 @@ pub lines_first : (text : List ℕ) (n : ℕ) → 0 < length text → n ≡ to_n
     → script_lines text ≡ without_return (take n text) ∷ script_lines (drop (n + 1) text)
 lines_first text n some is = rw is (lines_at text some)
 
--- past a text's end stands no line
+-- past a text's end is no line
 pub no_lines : (text : List ℕ) (at : ℕ) → length text ≤ at → script_lines (drop at text) ≡ []
 unfolding script_lines
 no_lines text at past = rw (drop_all at text past) refl
 
 module _ (text : List ℕ) (at n : ℕ) (front : List ℕ) where
-  -- front is what stands before the newline, without a carriage return
+  -- front is what is before the newline, without a carriage return
   pub record IsFront : Type 0 where
     pub value : front ≡ without_return (take n (drop at text))
     pub first : front ≡ take (length front) (take n (drop at text))

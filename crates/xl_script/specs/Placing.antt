@@ -5,11 +5,11 @@ use Rattle.xl_model.specs.declared.address.Order.{Order}
 use Rattle.xl_model.specs.declared.script.Command.{Command}
 use Rattle.xl_model.specs.declared.script.Command.TheVariants.{Map, Unmap, Protect, Move, Space, Fence, Demand, Run, RunRest}
 
--- The address behind the last byte of n blocks.
+-- The address after the last byte of n blocks.
 abbrev pub end_of : ℕ → Order → ℕ → ℕ
 end_of va o n = va + n * (4096 * pages_of o)
 
--- The addresses behind the last bytes that a command names; a move names two.
+-- The addresses after the last bytes that a command names; a move names two.
 abbrev pub ends_of : Command → List ℕ
 ends_of (Map space va o perm n) = end_of va o n ∷ []
 ends_of (Unmap space va o n) = end_of va o n ∷ []

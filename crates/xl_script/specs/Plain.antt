@@ -19,12 +19,12 @@ code_of reason.Perm = 5
 code_of reason.PastTheEnd = 6
 code_of reason.TooManyAreas = 7
 
--- A command after so many areas, and how many there are then: at most 256.
+-- A command after `areas` areas, and how many there are then: at most 256.
 abbrev pub counted : ℕ → Command → Result (ℕ × Command) Reason
 counted areas c =
     if is_area c then (if nat_lt areas 256 then Ok (areas + 1, c) else Err reason.TooManyAreas) else Ok (areas, c)
 
--- The command of a line after so many areas, by its first word and the words after it.
+-- The command of a line after `areas` areas, by its first word and the words after it.
 abbrev pub counted_line : ℕ → List ℕ → List (List ℕ) → Result (ℕ × Command) Reason
 counted_line areas first rest = command_of first rest >>= counted areas
 
@@ -33,7 +33,7 @@ abbrev pub numbered : Result (ℕ × Command) Reason → Said ℕ Command
 numbered (Ok (areas, c)) = Ok (areas, Some c)
 numbered (Err why) = Err (code_of why)
 
--- What the words of a line say after so many areas; a line with no words has no command.
+-- What the words of a line say after `areas` areas; a line with no words has no command.
 abbrev pub plain_said : ℕ → List (List ℕ) → Said ℕ Command
 plain_said areas [] = Ok (areas, None)
 plain_said areas (first ∷ rest) = numbered (counted_line areas first rest)
@@ -54,7 +54,7 @@ Answers (Err fault.NoMemory) said = Unit {0}
 Answers (Err (fault.BadLine line why)) said = said ≡ Err (fault.BadLine line why)
 Answers (Err fault.TooLong) said = said ≡ Err fault.TooLong
 
--- What the counting of a command answers is what it comes to.
+-- What the counting of a command returns is its result.
 abbrev pub Counts : Result Command Reason → ℕ → Result (ℕ × Command) Reason → Type 0
 Counts (Ok c) areas said = said ≡ Ok (areas, c)
 Counts (Err why) areas said = said ≡ Err why

@@ -16,7 +16,7 @@ abbrev pub onto : ℕ → List (List ℕ) → List (List ℕ)
 onto b [] = (b ∷ []) ∷ []
 onto b (piece ∷ pieces) = (b ∷ piece) ∷ pieces
 
--- What stands between the blanks of a line.
+-- What is between the blanks of a line.
 abbrev pub pieces : List ℕ → List (List ℕ)
 pieces [] = [] ∷ []
 pieces (b ∷ bs) = if is_blank b then [] ∷ pieces bs else onto b (pieces bs)

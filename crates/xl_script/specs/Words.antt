@@ -17,7 +17,8 @@ order_of word =
 abbrev pub flag : ℕ → ℕ → Option Bool
 flag letter c = if c == letter then Some true else (if c == 45 then Some false else None)
 
--- The permission with these bits, where it is legal: one of read, write and execute, and no write without read.
+-- The permission with these bits, where it is legal: one of read, write and execute, and no write
+-- without read.
 abbrev pub perm_with : Bool → Bool → Bool → Bool → Option Perm
 perm_with true w x u = Some (record { r = true; w = w; x = x; u = u; legal = refl })
 perm_with false true x u = None

@@ -10,10 +10,11 @@ use std::fmt;
 /// Why a script is not read.
 #[derive(Clone, Copy, Debug, PartialEq, Eq)]
 pub enum ScriptFault {
-    /// The first bad line, by its number from 1, and the first that is wrong with it: 1, its first word
-    /// names no line; 2, it has too few or too many words; 3, a number or an address; 4, a page's size;
-    /// 5, a permission; 6, it names bytes past the last address, or an area that isn't of whole pages of
-    /// its size; 7, it declares the 257th area. Other kinds of script have further reasons.
+    /// The first bad line, by its number from 1, and the first that is wrong with it: 1, its first
+    /// word names no line; 2, it has too few or too many words; 3, a number or an address; 4, a
+    /// page's size; 5, a permission; 6, it names bytes past the last address, or an area that isn't
+    /// of whole pages of its size; 7, it declares the 257th area. Other kinds of script have
+    /// further reasons.
     BadLine { line: u64, reason: u8 },
 
     /// The text has more than 1,048,576 bytes.

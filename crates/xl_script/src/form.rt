@@ -20,8 +20,8 @@ pub trait Form {
     /// What the words of a line say after the lines before it.
     ghost said: { Self → List (List ℕ) → Said Self Self.Command };
 
-    /// The command of the next line; None where it has none. Else the number of the first reason for
-    /// which it is bad.
+    /// The command of the next line; None where it has none. Else the number of the first reason
+    /// for which it is bad.
     fn read_line(&mut self, line: &[u8]) -> Result<Option<Self::Command>, u8>
         ensures { Hears result self.new (said self.old (words_of line.now)) };
 }
@@ -33,7 +33,7 @@ fn count_lines(text: &[u8]) -> usize
     memchr_iter(b'\n', text).count() + 1
 }
 
-/// Puts a command behind the others.
+/// Puts a command after the others.
 fn push<C: Drop>(commands: &mut Vec<C>, command: C) -> Result<(), ScriptFault>
     ensures ok { OnOk result (commands.new.items ≡ commands.old.items ++ command ∷ []) }
     ensures err { IfErr result (λ f. f ≡ ScriptFault.NoMemory) }
@@ -64,9 +64,9 @@ fn add_line<F: Form>(
     }
 }
 
-/// The commands of a text of this form. It is too long where it has more than 1,048,576 bytes; else it
-/// is refused by its first bad line. Where there is no memory, the answer may be that. The form has then
-/// read all lines up to the first bad one.
+/// The commands of a text of this form. It is too long where it has more than 1,048,576 bytes; else
+/// it is refused by its first bad line. Where there is no memory, the answer may be that. The form
+/// has then read all lines up to the first bad one.
 #[tactic(auto, unfolding(crate::specs::Scripts::text_read))]
 pub fn read_text<F: Form>(
     alloc: Global,

@@ -1,8 +1,8 @@
 //! The script of a run: its lines, its words and its commands.
 //!
 //! A script is a text of lines, each with one command, a comment or nothing. The readers of a line,
-//! a word and a number are public, and so is the reader of a whole text, so that other texts of this
-//! kind are read by the same rules.
+//! a word and a number are public, and so is the reader of a whole text, so that other texts of
+//! this kind are read by the same rules.
 #![tactic(auto)]
 
 mod fault;

@@ -26,8 +26,8 @@ fn with_digit(n: u64, digit: u8, base: u32) -> Option<u64>
     shifted.checked_add(u64::from(value))
 }
 
-/// The number that digits of this base stand for. None where a byte is no digit of the base, or the
-/// number passes 2^64 - 1.
+/// The number of digits in this base. `None` where a byte is no digit of the base, or the number
+/// passes 2^64 - 1.
 fn number(digits: &[u8], base: u32) -> Option<u64>
     requires least { 2 ≤ base }
     requires most { base ≤ 36 }

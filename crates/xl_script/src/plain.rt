@@ -16,7 +16,7 @@ use xl_model::Command;
 /// The most areas of a script.
 const AREAS: u32 = 256;
 
-/// A run's script, as far as it was read: it has so many areas.
+/// A run's script, as far as it was read: how many areas it has.
 #[derive(Drop)]
 pub(crate) struct Plain {
     areas: u32,

@@ -15,8 +15,8 @@ use xl_model::Command;
 /// A line takes no more memory than this.
 const _: () = prove!(size_of::<Command>() <= 64);
 
-/// The commands of a script, in the order of its lines. All that they name lies in 64 bits, and at most
-/// 256 of them declare an area.
+/// The commands of a script, in the order of its lines. All that they name lies in 64 bits, and at
+/// most 256 of them declare an area.
 #[derive(Drop)]
 pub struct Script {
     commands: Vec<Command>,

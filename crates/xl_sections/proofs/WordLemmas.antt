@@ -57,7 +57,7 @@ any-is size key (x ∷ xs) = go (counts_at size key x) x.order (any-is size key 
     go true order.G1 on = nonzero _ (omega arith)
     go false o on = let e : a + (b * 2 ^ 22 + c * 2 ^ 44) ≡ 0 + a + ((0 + b) * 2 ^ 22 + (0 + c) * 2 ^ 44) = omega arith in on ∙ ap (λ n. not (n == 0)) e
 
--- one leaf more, wherever it stands
+-- one leaf more, wherever it is
 pub word-cons : (size : Order) (key : ℕ) (x : Leaf) (xs : List Leaf) → word_of size key (x ∷ xs) ≡ word_of size key xs + cond (counts_at size key x) (unit x.order) 0
 unfolding word_of
 word-cons size key x xs = go (counts_at size key x) x.order

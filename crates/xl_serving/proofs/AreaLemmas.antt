@@ -30,7 +30,7 @@ declared_scene : (area : Area) (areas : List Area) (rows : List Served) → scen
 unfolding scene_after
 declared_scene area areas rows = ap (λ (z : List Served). scene_of z (areas ++ area ∷ [])) (sym (declared_rows area areas rows))
 
--- an area is declared: nothing is told, and all rows stay
+-- an area is declared: no line is written, and all rows stay
 pub served_area : {K : Type 0} (sink : SinkMeaning K) (answers : Bool) (area : Area) (areas : List Area) (rows : List Served) (k : K)
     → HasServed sink answers (Declared area ∷ []) (scene_of rows areas) (scene_of rows (areas ++ area ∷ [])) k k true
 served_area sink answers area areas rows k = record {

@@ -28,7 +28,7 @@ any-number n m va k s = ap (λ (rows : List Served). record { rows = rows; areas
 gap-in : (accesses : List Access) (w : WaitingEvent) (events : List WaitingEvent) → gaps (w ∷ events) ≤ length accesses → w.gap ≤ length accesses
 gap-in accesses w events h = omega (arith, h, sum_by-cons (λ (x : WaitingEvent). x.gap) w events)
 
--- accesses more wait
+-- accesses more in the queue
 pub items-more : (accesses got : List Access) (events : List WaitingEvent) → gaps events ≤ length accesses → items_waiting (accesses ++ got) events ≡ items_waiting accesses events ++ map item_of got
 items-more accesses got [] h = map-append item_of accesses got
 items-more accesses got (w ∷ events) h =
@@ -40,7 +40,7 @@ items-more accesses got (w ∷ events) h =
     ∙ ap (λ (items : List Item). front ++ Command w.event ∷ items) (items-more (drop w.gap accesses) got events rest)
     ∙ sym (append_assoc front (Command w.event ∷ items_waiting (drop w.gap accesses) events) (map item_of got))
 
--- an event more waits, behind all accesses
+-- an event more in the queue, after all accesses
 event-more : (accesses : List Access) (events : List WaitingEvent) (w : WaitingEvent) → gaps events + w.gap ≡ length accesses
     → items_waiting accesses (events ++ w ∷ []) ≡ items_waiting accesses events ++ Command w.event ∷ []
 event-more accesses [] w h =

@@ -80,7 +80,7 @@ keeps_fed file n old new w f a m most open_still = record {
   };
 }
 
--- the reader is told that the file has ended
+-- the reader learned that the file has ended
 abbrev finished : Progress → Progress
 finished p = record p { reader = record p.reader { finished = true } }
 

@@ -63,7 +63,7 @@ same-items : (rs : List Accesses) → scene_items rs ≡ items_of_all plain rs
 same-items [] = refl
 same-items (r ∷ rs) = ap (λ (xs : List Item). xs ++ scene_items rs) (same-accesses r.number r.accesses) ∙ ap (λ (xs : List Item). record_items plain r ++ xs) (same-items rs)
 
--- what waits more, was skimmed
+-- what is queued more, was skimmed
 pub skimmed-plain : (stands : Type 0) (t u : Trail) (before after : Backlog) (count : ℕ) (s : Scene) → WaitsMore stands t u before after count
     → Skimmed plain stands t u (waited before s) (waited after s) count
 skimmed-plain stands t u before after count s k = record {
@@ -178,7 +178,7 @@ pub can-script : (areas : List Area) (cs : List Command) → areas ≡ [] → Al
 can-script areas cs e placed few =
     let none : length areas ≡ 0 = ap (λ (xs : List Area). length xs) e in (omega (arith, few_owned cs, few, none), placed_owned cs placed)
 
--- the state of a bench of which nothing waits and nothing is declared
+-- the state of a bench with an empty queue and no declared area
 pub fresh : (w : Backlog) (rows : List Row) (areas : List Area) → waits w ≡ [] → areas ≡ [] → waited w (scene_of rows areas) ≡ scene_of rows []
 fresh w rows areas idle none = ap (λ (items : List Item). scenes_after items (scene_of rows areas)) idle ∙ ap (scene_of rows) none
 

@@ -92,7 +92,7 @@ refused file line reason old new w g = elim (cases_lt limit (length file)) [
   | inr h ↦ short file old h ∙ ap (λ (l : Left). trail old.number l None) (g.reads true (drop old.at file) (may_come file old w))
 ]
 
--- of a file that isn't there nothing was fed, and so there is no answer but that more is wanted
+-- of a file that isn't there nothing was fed, and so the reader can only need more
 record≢none : (r : Record) (rs : List Record) → r ∷ rs ≡ [] → ⊥
 record≢none r rs e = let k : true ≡ false = cc in absurd (false≢true (sym k))
 

@@ -19,7 +19,7 @@ use Rattle.xl_serving.specs.Batches.{item_of, items_waiting, gaps, items_of_all,
 use Rattle.xl_serving.proofs.BatchLemmas.{any-number, items-more}
 use Rattle.xl_serving.proofs.RecordLemmas.{gives_all, same_within, trail_on, with_numbered}
 
--- accesses behind others are no fewer
+-- accesses after others are no fewer
 pub no-fewer : (before after got : List Access) → after ≡ before ++ got → length before ≤ length after
 no-fewer before after got e = omega (arith, ap (λ (xs : List Access). length xs) e, length-append before got)
 
@@ -137,7 +137,7 @@ scene-each : (rs : List Accesses) (got : List Access) (s : Scene) → accesses_o
 scene-each rs got s e =
     sym (scene-all rs s ∙ ap (λ (xs : List (ℕ × Kind)). scenes_after (accesses_items 0 xs) s) e ∙ ap (λ (items : List Item). scenes_after items s) (items-waited got))
 
--- what a trace skims into the accesses that wait
+-- what a trace skims into the queue
 pub waits-skimmed : (stands : Type 0) (t u : Trail) (before after : List Access) (events : List WaitingEvent) (count : ℕ) → gaps events ≤ length before → Skims stands t u before after count
     → WaitsMore stands t u (record { accesses = before; events = events }) (record { accesses = after; events = events }) count
 waits-skimmed stands t u before after events count h k = record {

@@ -7,12 +7,13 @@ use Rattle.xl_model.specs.Scenes.{Scene, scenes_after}
 use Rattle.xl_lackey.specs.declared.skim.Access.{Access}
 use Rattle.xl_serving.specs.declared.batch.WaitingEvent.{WaitingEvent}
 
--- An access that waits, as an item. No line of it is written, so the number of its record tells nothing.
+-- A queued access, as an item. No line of it is written, so the number of its record doesn't
+-- matter.
 abbrev pub item_of : Access → Item
 item_of a = Referenced 0 a.va a.kind
 
--- The items of accesses with events among them: for each event the accesses of its gap and then its command, and at the
--- end the accesses behind the last event.
+-- The items of accesses with events among them: for each event the accesses of its gap and then its
+-- command, and at the end the accesses after the last event.
 abbrev pub items_waiting : List Access → List WaitingEvent → List Item
 items_waiting accesses [] = map item_of accesses
 items_waiting accesses (w ∷ events) = map item_of (take w.gap accesses) ++ Command w.event ∷ items_waiting (drop w.gap accesses) events
@@ -21,16 +22,16 @@ items_waiting accesses (w ∷ events) = map item_of (take w.gap accesses) ++ Com
 abbrev pub gaps : List WaitingEvent → ℕ
 gaps events = sum_by (λ (w : WaitingEvent). w.gap) events
 
--- What waits: accesses, and events among them.
+-- The queue: accesses, and events among them.
 pub record Backlog : Type 0 where
   pub accesses : List Access
   pub events : List WaitingEvent
 
--- The items that wait.
+-- The items of the queue.
 abbrev pub waits : Backlog → List Item
 waits w = items_waiting w.accesses w.events
 
--- The scene after what waits.
+-- The scene after the queue.
 abbrev pub waited : Backlog → Scene → Scene
 waited w s = scenes_after (waits w) s
 
@@ -39,8 +40,9 @@ abbrev pub items_of_all : List Accesses → List Item
 items_of_all [] = []
 items_of_all (r ∷ rs) = accesses_items r.number r.accesses ++ items_of_all rs
 
--- So many records were the first of what was left, and the rest of it is left; their items wait behind those that waited
--- before. `stands` says that the trace is fed from its file alone still.
+-- `count` records were the first of what was left, and the rest of it is left; their items are
+-- queued after those that were there. `stands` says that the trace is fed from its file alone
+-- still.
 pub record WaitsMore (stands : Type 0) (t u : Trail) (before after : Backlog) (count : ℕ) : Type 0 where
   pub stands_still : stands
   pub taken : List Accesses

@@ -20,7 +20,8 @@ use Rattle.xl_serving.specs.Traces.{made_trail, trail_of}
 use Rattle.xl_course.specs.declared.stop.Stop.{Stop}
 use Rattle.xl_course.specs.declared.stop.Stop.TheVariants as why
 
--- What is wrong with a configuration that is refused. A text says nothing of memory, so the last case never comes.
+-- What is wrong with a configuration that is refused. A text can't lack memory, so the last case
+-- never comes.
 abbrev pub config_fault : ConfigFault → InputFault
 config_fault config.TooLong = fault.ConfigTooLong
 config_fault config.BadToml = fault.ConfigNotToml
@@ -55,8 +56,8 @@ commands_said text = said_by script_fault (script_of text)
 abbrev pub rows_in : List ℕ → Files → Result (List Row) InputFault
 rows_in name files = said_in rows_said (file_of files name)
 
--- The commands of the script of this name. Where none is named there are none: what is left of the trace is run at
--- the end of each script, and so all of it is.
+-- The commands of the script of this name. Where none is named there are none: what is left of the
+-- trace is run at the end of each script, and so all of it is.
 abbrev pub commands_in : Option (List ℕ) → Files → Result (List Command) InputFault
 commands_in None files = Ok []
 commands_in (Some name) files = said_in commands_said (file_of files name)
@@ -66,12 +67,12 @@ abbrev pub trail_in : Option (List ℕ) → Files → Trail
 trail_in None files = at_end None
 trail_in (Some name) files = trail_of (file_of files name)
 
--- The commands of a made script of so many records, or of the script of this name.
+-- The commands of a made script of n records, or of the script of this name.
 abbrev pub commands_by : Option ℕ → Option (List ℕ) → Files → Result (List Command) InputFault
 commands_by None name files = commands_in name files
 commands_by (Some n) name files = commands_said (made_script n)
 
--- The records of a made trace of so many, or of the trace of this name.
+-- The records of a made trace of n, or of the trace of this name.
 abbrev pub trail_by : Option ℕ → Option (List ℕ) → Files → Trail
 trail_by None name files = trail_in name files
 trail_by (Some n) name files = made_trail n
@@ -84,8 +85,8 @@ commands_for a files = commands_by a.made a.script files
 abbrev pub trail_for : AskedPlain → Files → Trail
 trail_for a files = trail_by a.made a.trace files
 
--- What a reading answers, by what is said: that, or its fault. It says nothing of it where a read failed or there was
--- no memory.
+-- What a reading returns: what is said, or its fault. Nothing is known of it where a read failed or
+-- there was no memory.
 abbrev pub Finds : {A B : Type 0} → (A → B) → Result A Stop → Result B InputFault → Type 0
 Finds view (Ok a) said = said ≡ Ok (view a)
 Finds view (Err (why.Input f)) said = said ≡ Err f

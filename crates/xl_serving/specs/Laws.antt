@@ -20,7 +20,7 @@ TheTextIsTheReport =
     (c : Course Item) (rows : List Row) (flags : Flags) → c.fault ≡ None
     → text_of (lines_account c rows flags) ≡ report flags rows c.items
 
--- Where a fault ends the input, the text of a run is what was told before it.
+-- Where a fault ends the input, the text of a run is what was written before it.
 abbrev pub AFaultEndsTheText : Type 0
 AFaultEndsTheText =
     (c : Course Item) (fault : InputFault) (rows : List Row) (flags : Flags) → c.fault ≡ Some fault

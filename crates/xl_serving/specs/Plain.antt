@@ -72,8 +72,8 @@ pub record Start : Type 0 where
 abbrev pub start_of : List Served → List Command → Start
 start_of rows commands = record { scene = scene_of rows []; steps = steps_of commands }
 
--- The start from the rows of a configuration, each in its opening state, and the commands of a script; or the fault of
--- the first of these that has one.
+-- The start from the rows of a configuration, each in its opening state, and the commands of a
+-- script; or the fault of the first of these that has one.
 abbrev pub started : Result (List Row) InputFault → Result (List Command) InputFault → Result Start InputFault
 started (Err f) commands = Err f
 started (Ok rows) (Err f) = Err f

@@ -19,7 +19,7 @@ abbrev pub SceneAfter : Bool → List Item → Scene → Scene → Type 0
 SceneAfter true items s t = t ≡ scenes_after items s
 SceneAfter false items s t = Unit {0}
 
--- These items were served, and what they tell was written: whole, or up to a put that failed.
+-- These items were served, and their lines were written: whole, or up to a put that failed.
 pub record HasServed {K : Type 0} (sink : SinkMeaning K) (answers : Bool) (items : List Item) (p q : Scene) (k l : K) (whole : Bool) : Type 0 where
   pub scene_is : SceneAfter whole items p q
   pub writes : SinkAfter sink (told_by answers items p) k l whole

@@ -13,7 +13,7 @@ pub record IsUnfed (p : Progress) : Type 0 where
   pub unfinished : p.reader.finished ≡ false
   pub first : p.at ≡ 0
 
--- A part of the file was fed, within the limit; all of it, once the reader was told that it ended.
+-- A part of the file was fed, within the limit; all of it, once the reader learned that it ended.
 pub record IsWithin (file : List ℕ) (p : Progress) : Type 0 where
   pub part : p.at ≤ length file
   pub most : p.at ≤ limit
@@ -34,7 +34,7 @@ abbrev pub Fills : Option (List ℕ) → Progress → Progress → Type 0
 Fills None old new = ⊥
 Fills (Some file) old new = KeepsLeft file old new
 
--- What a call that feeds the next piece answers.
+-- The result of a call that feeds the next piece.
 abbrev pub FillAnswers : Option (List ℕ) → Result (Unit {0}) Stop → Progress → Progress → Type 0
 FillAnswers file (Ok u) old new = Fills file old new
 FillAnswers file (Err stop) old new = EndsBy stop (left_of file old)
@@ -56,7 +56,7 @@ Unreadable file unread.Failed = Unit {0}
 Unreadable None unread.Missing = Unit {0}
 Unreadable (Some file) unread.Missing = ⊥
 
--- What a call that feeds a piece from a place on answers.
+-- The result of a call that feeds a piece from a place on.
 abbrev pub FeedAnswers : Option (List ℕ) → ℕ → Result ℕ Unread → State → State → Type 0
 FeedAnswers file at (Ok n) old new = FeedsOf file at n old new
 FeedAnswers file at (Err e) old new = Unreadable file e
@@ -66,7 +66,7 @@ abbrev pub HasMore : Option (List ℕ) → ℕ → Bool → Type 0
 HasMore None at more = ⊥
 HasMore (Some file) at more = more ≡ nat_lt at (length file)
 
--- What the question whether a file has bytes from a place on is answered.
+-- The result of the question whether a file has bytes from a place on.
 abbrev pub MoreAnswers : Option (List ℕ) → ℕ → Result Bool Unread → Type 0
 MoreAnswers file at (Ok more) = HasMore file at more
 MoreAnswers file at (Err e) = Unreadable file e

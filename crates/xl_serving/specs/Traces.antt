@@ -35,14 +35,15 @@ trail n l end = record { records = numbered n l.0; fault = fault_of l.1 end }
 abbrev pub limit : ℕ
 limit = 2 ^ 34
 
--- How far a trace was read: its reader, the place up to which its file was fed to the reader, and the number of
--- the next record.
+-- How far a trace was read: its reader, the place up to which its file was fed to the reader, and
+-- the number of the next record.
 pub record Progress : Type 0 where
   pub reader : State
   pub at : ℕ
   pub number : ℕ
 
--- What is left of a file: the lines to its end. Of a file past the limit, the lines that end before it.
+-- What is left of a file: the lines to its end. Of a file past the limit, the lines that end before
+-- it.
 abbrev pub ahead : List ℕ → Progress → Trail
 ahead file p =
     if nat_lt limit (length file)
@@ -70,7 +71,8 @@ trail_of file = left_of file at_first
 abbrev pub with_record : Accesses → Trail → Trail
 with_record r t = record t { records = r ∷ t.records }
 
--- How far a made trace was taken: how many of its records were given, modulo 2^64, and the bytes that are still to come.
+-- How far a made trace was taken: how many of its records were given, modulo 2^64, and the bytes
+-- that are still to come.
 pub record MadeProgress : Type 0 where
   pub given : ℕ
   pub rest : List ℕ
@@ -79,6 +81,6 @@ pub record MadeProgress : Type 0 where
 abbrev pub made_left : MadeProgress → Trail
 made_left p = trail (next_number p.given) (records p.given (lines_of p.rest)) None
 
--- The records of the made trace of so many.
+-- The records of the made trace of n.
 abbrev pub made_trail : ℕ → Trail
 made_trail n = trail 1 (records_of (made_trace n)) None

@@ -1,5 +1,5 @@
-//! Items that wait to be served together, where no line is written: a row serves many at a time, since no
-//! row sees another.
+//! A queue of accesses and events, where no line is written. Rows are independent, so a row serves
+//! many at a time.
 
 ghost use Rattle.std.specs.Prelude.{◌≡◌, ◌<◌, ◌≤◌, ℕ, [], length, true};
 ghost use Rattle.xl_model.specs.declared.script.Item.TheVariants.{Command, Referenced};
@@ -17,10 +17,10 @@ use xl_course::Source;
 use xl_lackey::{Access, Batch};
 use xl_model::Event;
 
-/// The event of a command that waits among accesses.
+/// The event of a command, queued among accesses.
 #[derive(Clone, Copy)]
 pub struct WaitingEvent {
-    /// How many of the accesses come before it, and behind the event before it.
+    /// How many of the accesses come between the event before it and this one.
     pub gap: usize,
     pub event: Event,
 }
@@ -34,8 +34,8 @@ impl Default for WaitingEvent {
     }
 }
 
-/// What waits to be served: accesses, and events of commands among them. So a row that is served finds
-/// its code and its table at hand for as many items as wait.
+/// The queue: accesses, and events of commands among them. A batch runs one row at a time, so that
+/// its code and its table stay in the processor's caches.
 #[derive(Drop)]
 pub(crate) struct Waiting {
     accesses: Batch,
@@ -57,7 +57,7 @@ impl Model for Waiting {
 }
 
 impl Waiting {
-    /// Nothing waits.
+    /// An empty queue.
     pub(crate) fn new() -> Waiting
         ensures { waits result ≡ [] }
     {
@@ -68,14 +68,14 @@ impl Waiting {
         }
     }
 
-    /// Whether nothing waits.
+    /// Whether the queue is empty.
     pub(crate) fn is_idle(&self) -> bool
         ensures { result ≡ true → waits self.now ≡ [] }
     {
         self.accesses.is_empty() && self.events.is_empty()
     }
 
-    /// Serves what waits.
+    /// Flushes the queue.
     #[inline(never)]
     pub(crate) fn settle<R: Rows>(&mut self, rows: &mut R, areas: &Areas)
         ensures served { scene_of (R.rows rows.new) areas.now
@@ -90,7 +90,7 @@ impl Waiting {
         self.placed = 0;
     }
 
-    /// Serves what waits where there is no room for one access more.
+    /// Flushes the queue where there is no room for one access more.
     #[inline(always)]
     fn make_room<R: Rows>(&mut self, rows: &mut R, areas: &Areas)
         ensures same { waited self.new (scene_of (R.rows rows.new) areas.now)
@@ -102,7 +102,7 @@ impl Waiting {
         }
     }
 
-    /// Serves what waits where there is no room for one event more.
+    /// Flushes the queue where there is no room for one event more.
     fn make_room_for_event<R: Rows>(&mut self, rows: &mut R, areas: &Areas)
         ensures same { waited self.new (scene_of (R.rows rows.new) areas.now)
             ≡ waited self.old (scene_of (R.rows rows.old) areas.now) }
@@ -113,7 +113,7 @@ impl Waiting {
         }
     }
 
-    /// Lets an access wait.
+    /// Queues an access.
     #[inline(always)]
     pub(crate) fn put_off<R: Rows>(&mut self, rows: &mut R, areas: &Areas, access: Access)
         ensures { (number : ℕ) → waited self.new (scene_of (R.rows rows.new) areas.now)
@@ -124,7 +124,7 @@ impl Waiting {
         self.accesses.push(access);
     }
 
-    /// Lets an event of a command wait.
+    /// Queues an event of a command.
     #[inline(never)]
     pub(crate) fn put_off_event<R: Rows>(&mut self, rows: &mut R, areas: &Areas, event: Event)
         ensures { waited self.new (scene_of (R.rows rows.new) areas.now)
@@ -136,7 +136,7 @@ impl Waiting {
         self.events.push(WaitingEvent { gap, event });
     }
 
-    /// Lets the accesses of the next records wait, at most so many. Gives of how many records.
+    /// Queues the accesses of the next records, of `most` at most. Returns of how many.
     #[inline(always)]
     pub(crate) fn skim<T: Source>(&mut self, source: &mut T, most: u64) -> u64
         ensures skims { (fs : Files) → T.stands source.old fs

@@ -1,5 +1,5 @@
-//! The plain form of the program: rows that are served a script over a trace, and the traces that are read
-//! while they are replayed. The rows are whatever is served.
+//! The plain form of the program: rows that are served a script over a trace, and the traces that
+//! are read while they are replayed. The rows are whatever is served.
 #![tactic(auto)]
 
 mod batch;

@@ -50,7 +50,7 @@ impl Source for MadeTape {
 }
 
 impl MadeTape {
-    /// The trace of so many records, of which none was given yet.
+    /// The trace of `n` records, of which none was given yet.
     pub fn of(n: u32) -> MadeTape
         ensures { made_left result ≡ made_trail n }
     {

@@ -1,4 +1,4 @@
-//! What a run takes before its first event: the files of its words, and its rows.
+//! Opening: reads configuration and script, opens the rows.
 
 ghost use Rattle.std.specs.Prelude.{◌≡◌, ◌≤◌, [], None, All, IfOk, IfErr, OnOk, IfSome, length, map, option_map};
 ghost use Rattle.xl_model.specs.Rows.{row_of, IsRow};
@@ -26,13 +26,13 @@ const MOST_ROWS: usize = 65_536;
 /// The most bytes of a script.
 const MOST_COMMANDS: usize = 1_048_576;
 
-/// Reads the configuration, of at most 65,536 bytes, and then the script, of at most 1,048,576, and opens the
-/// rows.
+/// Reads the configuration, of at most 65,536 bytes, and then the script, of at most 1,048,576, and
+/// opens the rows.
 ///
 /// # Errors
 ///
-/// What is wrong with a file, or that a read failed, or that there is no memory; then nothing is said of the
-/// rows.
+/// What is wrong with a file, or that a read failed, or that there is no memory; then nothing is
+/// said of the rows.
 pub fn open<R: Rows, F: Folder>(
     alloc: Global,
     words: &Plain<'_>,
@@ -118,7 +118,8 @@ fn made_commands(alloc: Global, records: u32) -> Result<Script, Stop>
     commands_of(alloc, text.as_slice())
 }
 
-/// Reads the script of this name, of at most 1,048,576 bytes; where there is none, the script has no commands.
+/// Reads the script of this name, of at most 1,048,576 bytes; where there is none, the script has
+/// no commands.
 fn read_script<F: Folder>(alloc: Global, folder: &mut F, name: Option<&str>) -> Result<Script, Stop>
     ensures told { IfSome (F.folder.files folder.old) (λ fs.
         Finds (λ script. script) result (commands_in (option_map (λ s. s.now) name.entry) fs)) }

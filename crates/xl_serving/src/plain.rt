@@ -74,8 +74,8 @@ impl Orders for PlainOrders<'_> {
     }
 }
 
-/// What the plain form keeps beside the rows: the areas declared so far, and what waits. Memory is asked for
-/// once more only where rows are wanted as JSON.
+/// What the plain form keeps beside the rows: the areas declared so far, and the queue. Memory is
+/// taken once more only where rows are wanted as JSON.
 #[derive(Drop)]
 pub struct Bench {
     alloc: Global,
@@ -149,7 +149,7 @@ impl<R: Rows> Form<R> for Bench {
 }
 
 impl Bench {
-    /// No areas, and nothing waits. All memory is taken here.
+    /// No areas, and an empty queue. All memory is taken here.
     pub fn open(alloc: Global) -> Result<Bench, NoMemory>
         ensures areas { IfOk result (λ b. b.areas ≡ []) }
         ensures idle { IfOk result (λ b. waits b.waiting ≡ []) }
@@ -161,7 +161,7 @@ impl Bench {
         })
     }
 
-    /// Serves what waits, if anything does.
+    /// Flushes the queue, if it isn't empty.
     #[inline(always)]
     fn quiet<R: Rows>(&mut self, rows: &mut R)
         ensures served { scene_of (R.rows rows.new) self.new.areas
@@ -175,7 +175,7 @@ impl Bench {
         self.waiting.settle(rows, &self.areas);
     }
 
-    /// Declares an area. What waits is served before that.
+    /// Declares an area, after a flush of the queue.
     fn declare<R: Rows>(&mut self, rows: &mut R, area: Area)
         requires { length self.old.areas < 256 }
         ensures state { waited self.new.waiting (scene_of (R.rows rows.new) self.new.areas)
@@ -211,8 +211,8 @@ impl Bench {
         Ok(())
     }
 
-    /// Serves an event of a command. It may wait where no line is written; where nothing waits before it,
-    /// it doesn't, so that commands alone are never put off.
+    /// Serves an event of a command. Queued only after other items, where no line is written;
+    /// otherwise served at once.
     fn event<R: Rows, K: Sink>(
         &mut self,
         rows: &mut R,

@@ -56,7 +56,8 @@ pub trait Rows: Sized {
             (scene_of (rows self.old) areas.now) (scene_of (rows self.new) areas.now)
             out.old out.new (is_ok result) };
 
-    /// Serves accesses, with events among them, where these areas were declared, and writes no line.
+    /// Serves accesses, with events among them, where these areas were declared, and writes no
+    /// line.
     fn serve_waiting(&mut self, accesses: &[Access], events: &[WaitingEvent], areas: &Areas)
         requires { gaps events.now ≤ length accesses.now }
         ensures { scene_of (rows self.new) areas.now ≡ scenes_after

@@ -19,8 +19,9 @@ use xl_course::{Source, Stop};
 use xl_outside::{Folder, Sink};
 use xl_words::Plain;
 
-/// Reads the configuration and the script, opens the rows, serves the script over the trace, and writes the
-/// report. All memory is taken before the first event, but for the text of the rows as JSON.
+/// Reads the configuration and the script, opens the rows, serves the script over the trace, and
+/// writes the report. All memory is taken before the first event, but for the text of the rows as
+/// JSON.
 pub fn report<R: Rows, F: Folder, K: Sink>(
     alloc: Global,
     words: &Plain<'_>,
@@ -48,9 +49,9 @@ pub fn report<R: Rows, F: Folder, K: Sink>(
     report_orders(alloc, &orders, folder, out, rows)
 }
 
-/// Serves the script over the trace that the words name or ask to be made, and writes the report. Where they
-/// do neither, the trace has no records. Apart, so that rows are opened with no buffer of a trace on the
-/// stack.
+/// Serves the script over the trace that the words name or ask to be made, and writes the report.
+/// Where they do neither, the trace has no records. Apart, so that rows are opened with no buffer
+/// of a trace on the stack.
 #[inline(never)]
 fn report_orders<R: Rows, F: Folder, K: Sink>(
     alloc: Global,

@@ -22,8 +22,8 @@ const LIMIT: u64 = 1 << 34;
 /// How many bytes a piece has at most.
 const PIECE: usize = 65536;
 
-/// A trace that is read while it is replayed: the file's next bytes are asked for only where the
-/// reader holds no line that must be answered.
+/// A trace that is read while it is replayed: the file's next bytes are read only where the reader
+/// holds no line that it can return.
 #[derive(Drop)]
 pub(crate) struct Tape {
     reader: Reader,
@@ -89,9 +89,9 @@ impl Tape {
         }
     }
 
-    /// Takes the next records that are at hand, at most so many, while each is in Lackey's own form and
-    /// its bytes lie in one page, and puts their accesses behind those that are there, while there is
-    /// room. Gives how many were taken, perhaps none.
+    /// Takes the next records that are held, `most` at most, while each is in Lackey's own form and
+    /// its bytes lie in one page; appends their accesses, while there is room. Returns how many
+    /// were taken, perhaps none.
     pub(crate) fn skim(&mut self, into: &mut Batch, most: u64) -> u64
         ensures skims { (file : Option (List ℕ)) → IsFedFrom file self.old
             → Skims (IsFedFrom file self.new) (left_of file self.old) (left_of file self.new)
@@ -191,7 +191,7 @@ impl Tape {
         Ok(())
     }
 
-    /// Feeds the next piece, and answers how many bytes it has.
+    /// Feeds the next piece, and returns how many bytes it has.
     fn pull<F: Folder>(&mut self, folder: &mut F, name: &str) -> Result<usize, Unread>
         requires unfinished { self.old.reader.finished ≡ false }
         requires room { length self.old.reader.held ≤ 258 }
@@ -214,7 +214,8 @@ impl Tape {
         Ok(count)
     }
 
-    /// How many bytes the next piece may have: all for which the reader has room, or all to the limit.
+    /// How many bytes the next piece may have: all for which the reader has room, or all to the
+    /// limit.
     fn wanted(&self) -> usize
         requires room { length self.now.reader.held ≤ 258 }
         requires below { self.now.at < 2 ^ 34 }
@@ -239,8 +240,9 @@ impl Tape {
     }
 }
 
-/// Reads a piece of a file, of at most `wanted` bytes from a place on, into the buffer, behind as many places as
-/// bytes are held, feeds it, and answers how many bytes it has. The reader's buffer comes in place of the piece's.
+/// Reads a piece of a file, of at most `wanted` bytes from a place on, into the buffer, after as
+/// many places as bytes are held, feeds it, and returns how many bytes it has. The reader's buffer
+/// comes in place of the piece's.
 fn feed_from<F: Folder>(
     reader: &mut Reader,
     buf: &mut Vec<u8>,

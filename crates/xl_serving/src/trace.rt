@@ -21,8 +21,8 @@ pub struct TraceFile<'a> {
 }
 
 impl<'a> TraceFile<'a> {
-    /// The trace of the file of this name, of which nothing was read yet. All memory that it wants is taken
-    /// here.
+    /// The trace of the file of this name, of which nothing was read yet. All memory that it wants
+    /// is taken here.
     pub fn open(alloc: Global, name: &'a str) -> Result<TraceFile<'a>, NoMemory>
         ensures name { IfOk result (λ t. t.name.now ≡ name.entry.now) }
         ensures unread { IfOk result (λ t. (file : Option (List ℕ)) → IsFedFrom file t.tape

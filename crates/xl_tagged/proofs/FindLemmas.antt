@@ -61,7 +61,7 @@ module _ (back : MadeWordsReadBack) (f : Form) (s page : ℕ) (values : ℕ → 
         | false ↦ λ t. refl
       ] refl
 
-  -- under the tag of an order, in its slot, stands the page's leaf, where it is of that order
+  -- under the tag of an order, in its slot, is the page's leaf, where it is of that order
   pub found-is : (o : Order) → found_in f s page values o ≡ only o (find (covers s page) leaves)
   found-is o = elim (h.slot (tag_of (group_of f) s o page) (slot_of f o page) (slot-low f (page / pages_of o))) [
     | inl e ↦ ap (leaf_read s o (page / pages_of o)) e ∙ none-read s o (page / pages_of o) ∙ none-found o e (find (covers s page) leaves) refl
@@ -120,7 +120,7 @@ lies_in size key x = is_smaller size x.order && counts_at size key x
 either : (a b : ℕ) → (not (a == 0) || not (b == 0)) ≡ not (a + b * 2 ^ 22 == 0)
 either a b = same-tests (not (a == 0) || not (b == 0)) (not (a + b * 2 ^ 22 == 0)) (λ t. grind (arith, nat_tests)) (λ t. grind (arith, nat_tests))
 
--- a section's word tells whether a smaller leaf lies in it
+-- a section's word says whether a smaller leaf lies in it
 pub lies-any : (size : Order) (key : ℕ) (leaves : List Leaf) → list_any (lies_in size key) leaves ≡ not (smaller_word size key leaves == 0)
 lies-any order.K4 key leaves = none-any (lies_in order.K4 key) leaves (λ x i. go x x.order)
   where
@@ -153,7 +153,7 @@ lies-any order.G1 key leaves =
     go false order.M2 = refl
     go false order.G1 = refl
 
--- a leaf that isn't smaller meets a block where it covers the block's first page
+-- a leaf that isn't smaller overlaps a block where it covers the block's first page
 large-covers : (o p : Order) (a b first e k : ℕ) → first ≡ e * pages_of o → a ≡ k * pages_of p → level_of o ≤ level_of p → a < first + pages_of o → a ≤ first
 large-covers order.K4 p a b first e k h i l m = omega arith
 large-covers order.M2 order.K4 a b first e k h i l m = absurd (omega arith)
@@ -163,7 +163,7 @@ large-covers order.G1 order.K4 a b first e k h i l m = absurd (omega arith)
 large-covers order.G1 order.M2 a b first e k h i l m = absurd (omega arith)
 large-covers order.G1 order.G1 a b first e k h i l m = omega arith
 
--- a smaller leaf meets a block where it lies in the block's section
+-- a smaller leaf overlaps a block where it lies in the block's section
 small-lies : (o : Order) (s first e : ℕ) (x : Leaf) → s < 64 → first < 2 ^ 45 → first ≡ e * pages_of o → IsAligned x → is_smaller o x.order ≡ true
     → meets_block s first o x ≡ counts_at o (s * 2 ^ 45 + first / pages_of o) x
 small-lies order.K4 s first e x a b c d l = absurd (grind (arith, nat_tests))
@@ -211,7 +211,7 @@ meets-each o s first e x a b c d =
     by true q h j k = j refl
     by false q h j k = k h
 
--- A block is met where its first page has a leaf, or a smaller leaf lies in its section.
+-- A block overlaps a leaf where its first page has a leaf, or a smaller leaf lies in its section.
 pub meets-is : (o : Order) (s first e : ℕ) (leaves : List Leaf) → s < 64 → first < 2 ^ 45 → first ≡ e * pages_of o → ((x : Leaf) → In x leaves → IsAligned x)
     → (is_some (leaf_at_page s first leaves) || not (smaller_word o (s * 2 ^ 45 + first / pages_of o) leaves == 0)) ≡ meets_any s first o leaves
 unfolding leaf_at_page meets_any
@@ -267,7 +267,8 @@ none-from order.K4 = refl
 none-from order.M2 = refl
 none-from order.G1 = refl
 
--- where no smaller leaf lies in its section, a block is met by a leaf of its order or a larger one alone
+-- where no smaller leaf lies in its section, a block overlaps a leaf of its order or a larger one
+-- alone
 pub from-is : (o : Order) (s first e : ℕ) (leaves : List Leaf) → s < 64 → first < 2 ^ 45 → first ≡ e * pages_of o → ((x : Leaf) → In x leaves → IsAligned x)
     → (not (smaller_word o (s * 2 ^ 45 + first / pages_of o) leaves == 0) || is_some (from-only o (find (covers s first) leaves)))
     ≡ (is_some (find (covers s first) leaves) || not (smaller_word o (s * 2 ^ 45 + first / pages_of o) leaves == 0))

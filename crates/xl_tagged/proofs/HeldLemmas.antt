@@ -28,7 +28,7 @@ place-or t i tag slot =
       | false ↦ λ a. inr (λ p q. absurd (grind (arith, nat_tests)))
     ] refl
 
--- the leaves with one at its place, where another may have stood
+-- the leaves with one at its place, where another may have been
 pub record IsWith (f : Form) (x : Leaf) (old new : List Leaf) : Type 0 where
   pub sorted : IsSorted new
   pub split : (z : Leaf) → In z new → (z ≡ x) ⊎ (In z old × (IsAt f (leaf_tag (group_of f) x) (slot_of f x.order x.first) z → ⊥))
@@ -152,7 +152,7 @@ take-held f values values' tags tags' tag slot xs ys h some w ts l = record {
 at-key : (f : Form) (tag i : ℕ) (x y : Leaf) → IsFit x → IsFit y → IsAt f tag i x → IsAt f tag i y → leaf_key x ≡ leaf_key y
 at-key f tag i x y a b p q = place-key x y (at-one f tag i x y a.aligned b.aligned p q)
 
--- a leaf that comes where none meets it
+-- a leaf that comes where none overlaps it
 pub with-new : (f : Form) (values : ℕ → List ℕ) (tags : List ℕ) (x : Leaf) (xs : List Leaf) → AreHeld f values tags xs → IsFit x
     → ((y : Leaf) → In y xs → meets_block x.space x.first x.order y ≡ false) → IsWith f x xs (with_leaf x xs)
 with-new f values tags x xs h fit free = record {

@@ -50,7 +50,7 @@ number-covers order.K4 first page e h a = (omega arith, omega arith)
 number-covers order.M2 first page e h a = (omega arith, omega arith)
 number-covers order.G1 first page e h a = (omega arith, omega arith)
 
--- a tag tells its order, its space and its number
+-- a tag has its order, its space and its number
 record IsSameTag (o p : Order) (s t m n : ℕ) : Type 0 where
   order_same : o ≡ p
   space_same : s ≡ t

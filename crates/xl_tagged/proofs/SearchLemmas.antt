@@ -21,7 +21,7 @@ slot-one o page = none (page / pages_of o)
     none : (n : ℕ) → 0 ≡ n % 1
     none n = omega arith
 
--- the word that a search for a page's tag tells, where there is one slot
+-- the word that a search for a page's tag finds, where there is one slot
 pub found-one : (space page tag word : ℕ) (o : Order) (hs : List Held) → tag ≡ tag_of 1 space o page → word ≡ word_found (found_of (held_with tag hs))
     → word ≡ word_at One (values_under hs) (tag_of 1 space o page) (slot_of One o page)
 found-one space page tag word o hs t w =

@@ -220,7 +220,7 @@ module _ (f : Form) (b e l : ℕ) where
       made (Protect s first o perm) xs (with_leaf (record old { perm = perm }) (without_leaf old.space old.first xs)) tags tags' None refl refl refl refl
       (given s first o perm old xs named) (given-shape (group_of f) b e s first o perm old xs tags tags' named used)
 
--- What the two steps of a move come to: a leaf put in at the new place is answered so, and leaves this table.
+-- The two steps of a move: a leaf put in at the new place has this result, and leaves this table.
 pub record IsMove (s first to : ℕ) (o : Order) (now : TableState) (r : Result Work Refused) (between : TableState) : Type 0 where
   pub refused : (q : Refused) → r ≡ Err q → IsChange (Relocate s first to o) now (Err q) between
   pub there : (w : Work) → r ≡ Ok w → is_some (leaf_named s first o between.leaves) ≡ true
@@ -230,7 +230,7 @@ pub record IsMove (s first to : ℕ) (o : Order) (now : TableState) (r : Result 
 abbrev pub at_to : ℕ → Leaf → Leaf
 at_to to old = record old { first = to }
 
--- What is known of a leaf that moves: it has the name, and no leaf stands at its new place.
+-- What is known of a leaf that moves: it has the name, and no leaf is at its new place.
 pub record IsMoving (g s first to : ℕ) (o : Order) (old : Leaf) (xs : List Leaf) (tags : List ℕ) : Type 0 where
   pub sorted : IsSorted xs
   pub named : leaf_named s first o xs ≡ Some old

@@ -31,7 +31,7 @@ absent-values (g ∷ hs) t h =
       | false ↦ λ k. absent-values hs t k
     ] h
 
--- what a search tells of the first value
+-- what a search finds of the first value
 pub word-first : (tag : ℕ) (hs : List Held) → word_found (found_of (held_with tag hs)) ≡ slice_index (values_under hs tag) 0
 unfolding values_under
 word-first tag hs = go (held_with tag hs)

@@ -434,7 +434,7 @@ small-found f space page values only_small none h =
     alone None = refl
     alone (Some x) = refl
 
--- whether a block is met
+-- whether a block overlaps a leaf
 pub meets-step : MadeWordsReadBack → (f : Form) (space first : ℕ) (o : Order) (c : ChainState) (s : SmallerState) → IsTagged f c s → IsBlock (table_in f c).shape space first o
     → (any_smaller o space first s || is_some (found_from f space first (values_under c.held) o)) ≡ meets_any space first o (table_in f c).leaves
 meets-step back f space first o c s w b =

@@ -73,7 +73,8 @@ pub record AreIn (space first : ℕ) (o : Order) (s : SmallerState) : Type 0 whe
   pub middle : IsIn order.M2 space first o s.middle
   pub large : IsIn order.G1 space first o s.large
 
--- the leaf is counted more for both sizes, and only leaves of 4 KiB were counted where it is one and it was so before
+-- the leaf is counted more for both sizes, and only leaves of 4 KiB were counted where it is one
+-- and it was so before
 pub record AreMore (leaf : Leaf) (old new : SmallerState) : Type 0 where
   pub middle : IsMore order.M2 leaf old.middle new.middle
   pub large : IsMore order.G1 leaf old.large new.large

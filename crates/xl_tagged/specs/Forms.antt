@@ -4,8 +4,8 @@ use Rattle.xl_model.specs.declared.address.Order.{Order}
 use Rattle.xl_model.specs.Addresses.{pages_of}
 use Rattle.xl_chain.specs.Held.{Held, held_with}
 
--- A hashed table has one leaf under a tag. A clustered one has sixteen slots under a tag, and their number in use
--- before them.
+-- A hashed table has one leaf under a tag. A clustered one has sixteen slots under a tag, and their
+-- number in use before them.
 pub data Form : Type 0 where
   One : Form
   Sixteen : Form

@@ -32,7 +32,7 @@ pub record IsReady (f : Form) (keeps : List Held → Type 0) (c : ChainState) : 
   pub used : AreInUse f c.held
   pub kept : keeps c.held
 
--- chains that hold nothing, in so many buckets and with room for so many tags
+-- chains that hold nothing, in `many` buckets and with room for `most` tags
 pub record IsOpened (keeps : List Held → Type 0) (many most : ℕ) (c : ChainState) : Type 0 where
   pub held : c.held ≡ []
   pub buckets : c.shape.buckets ≡ many

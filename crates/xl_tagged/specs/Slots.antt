@@ -38,7 +38,7 @@ abbrev pub small_told : ℕ → ℕ → Option ℕ → Option Leaf
 small_told space page None = None
 small_told space page (Some word) = Some (small_leaf space page word)
 
--- the leaf of a slot: the tag tells the order, the space and, with the slot, the number
+-- the leaf of a slot: the tag has the order, the space and, with the slot, the number
 unfoldable pub leaf_in : Form → ℕ → ℕ → ℕ → Option Leaf
 leaf_in f tag i word =
     leaf_read (tag / 2 ^ 45 % 2 ^ 15) (order_at (tag / 2 ^ 60)) (tag % 2 ^ 45 * group_of f + i) word
@@ -113,15 +113,15 @@ abbrev pub large_by : Option Leaf → ℕ → ℕ → ℕ
 large_by (Some leaf) b c = b
 large_by None b c = b + c
 
--- the loads of a walk of a page behind the search for 4 KiB
+-- the loads of a walk of a page after the search for 4 KiB
 abbrev pub large_loads : Form → ℕ → ℕ → ChainState → ℕ
 large_loads f space page c =
     large_by (found_in f space page (values_under c.held) order.M2) (order_loads f space page c order.M2) (order_loads f space page c order.G1)
 
--- what a walk without caches tells, where it finds this
+-- what a walk without caches returns, where it finds this
 abbrev pub bare_walk : Option Leaf → Walk
 bare_walk leaf = record { leaf = leaf; cache_hits = 0 }
 
--- chains with so many loads more
+-- chains with n loads more
 abbrev pub loaded_more : ℕ → ChainState → ChainState
 loaded_more n c = record c { loads = plus c.loads n }

@@ -23,8 +23,8 @@ pub record IsAt (f : Form) (tag i : ℕ) (x : Leaf) : Type 0 where
   pub tag_is : leaf_tag (group_of f) x ≡ tag
   pub slot_is : slot_of f x.order x.first ≡ i
 
--- Each leaf's word stands at its place, each slot is a leaf's place or holds 0, each tag is that of a leaf, and no two
--- leaves share a page.
+-- Each leaf's word is at its place, each slot is a leaf's place or holds 0, each tag is that of a
+-- leaf, and no two leaves share a page.
 pub record AreHeld (f : Form) (values : ℕ → List ℕ) (tags : List ℕ) (leaves : List Leaf) : Type 0 where
   pub sorted : IsSorted leaves
   pub fit : (x : Leaf) → In x leaves → IsFit x

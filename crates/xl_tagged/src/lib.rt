@@ -1,5 +1,5 @@
-//! Leaves under tags in chains: what hashed and clustered tables have in common. A tag stands for so
-//! many consecutive pages of one order (one, or sixteen after Talluri, Hill and Khalidi, 1995), each of
+//! Leaves under tags in chains: what hashed and clustered tables have in common. A tag is that of
+//! consecutive pages of one order (one, or sixteen after Talluri, Hill and Khalidi, 1995), each of
 //! which has a slot of its own for its leaf word. The search for a page's leaf goes over slots of
 //! either form, and the table over any grouping of pages under tags.
 #![tactic(auto)]

@@ -13,7 +13,7 @@ ghost use Rattle.xl_tagged.specs.Steps.{given_word};
 use xl_model::{Leaf, NoRoom, Order, Perm, Refused, Work};
 use xl_pte::{Pte, decode, leaf_word, small_word};
 
-/// The tag under which a page of this order stands, where each tag has `group` pages: one or sixteen.
+/// The tag under which a page of this order is, where each tag has `group` pages: one or sixteen.
 #[inline(always)]
 pub fn tag_of(group: u64, space: u16, order: Order, page: u64) -> u64
     requires group { (group ≡ 1) ⊎ (group ≡ 16) }
@@ -53,8 +53,8 @@ fn leaf_said(space: u16, order: Order, number: u64, pte: Pte) -> Option<Leaf>
     }
 }
 
-/// The leaf of this order in which a page lies, as its word says it; None where the word says none, as
-/// 0 does.
+/// The leaf of this order in which a page lies, as its word says it; None where the word says none,
+/// as 0 does.
 #[inline(always)]
 pub fn leaf_read(space: u16, order: Order, page: u64, word: u64) -> Option<Leaf>
     requires { page < 2 ^ 45 }
@@ -68,8 +68,8 @@ pub fn leaf_read(space: u16, order: Order, page: u64, word: u64) -> Option<Leaf>
     )
 }
 
-/// The frame (times 16) and the permission of the leaf of 4 KiB of a page, as the page's word says it; None
-/// where the word says none.
+/// The frame (times 16) and the permission of the leaf of 4 KiB of a page, as the page's word says
+/// it; None where the word says none.
 #[inline(always)]
 pub fn small_read(_space: u16, _page: u64, word: u64) -> Option<u64>
     ensures { small_told _space _page result
@@ -85,7 +85,7 @@ pub fn give_perm(word: u64, perm: Perm) -> u64
     leaf_word((word >> 10) % (1 << 44), perm)
 }
 
-/// The answer to a leaf for which a table has no room.
+/// The result for a leaf for which a table has no room.
 pub fn full_table() -> Refused
     ensures { result ≡ record { why = why.NoTable; work = work_of no_moves 0 } }
 {

@@ -35,7 +35,7 @@ fn probe<S: Slots>(slots: &mut S, space: u16, order: Order, page: u64) -> Option
 }
 
 /// The leaf of a page among those above 4 KiB, without loads. There is none where only leaves of
-/// 4 KiB were ever held, so no chain is gone along then.
+/// 4 KiB were ever held, so no chain is searched then.
 fn look_large<S: Slots>(slots: &S, only_small: bool, space: u16, page: u64) -> Option<Leaf>
     requires space_in { space < 64 }
     requires page_in { page < 2 ^ 45 }

@@ -16,7 +16,7 @@ use xl_phys::Bus;
 
 /// Chains that hold leaf words in slots under tags.
 pub trait Slots: Drop {
-    /// How many slots stand under a tag, and behind how many values.
+    /// How many slots are under a tag, and after how many values.
     ghost form: { Form };
 
     /// The chains.

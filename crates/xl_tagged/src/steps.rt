@@ -14,7 +14,7 @@ use crate::smaller::Smaller;
 use xl_model::{Leaf, Order, Perm, QuickWalk, Refused, Work};
 use xl_pte::words_read_back;
 
-/// Adds a leaf that no leaf meets.
+/// Adds a leaf that overlaps no other.
 pub(crate) fn add<G: Grouping>(
     chains: &mut G::Chains,
     smaller: &mut Smaller,
@@ -83,7 +83,7 @@ pub(crate) fn set_perm<G: Grouping>(
     Ok(Work::none())
 }
 
-/// Moves a leaf to a block that no leaf meets: its new place is filled before its old one is
+/// Moves a leaf to a block that no leaf overlaps: its new place is filled before its old one is
 /// emptied.
 pub(crate) fn move_to<G: Grouping>(
     chains: &mut G::Chains,

@@ -81,8 +81,8 @@ fn a_look_past_the_words_finds_none(rt: HostRuntime) -> Result<(), Fail> {
     Ok(())
 }
 
-/// Node 0 has nodes 1 and 2 under it; node 1 has no leaf's word and leads back to node 0; node 2 leads to a node that
-/// isn't there.
+/// Node 0 has nodes 1 and 2 under it; node 1 has no leaf's word and leads back to node 0; node 2
+/// leads to a node that isn't there.
 fn no_treap(alloc: Global) -> Result<PhysMem, NoMemory> {
     let mut memory = PhysMem::open(alloc, 12)?;
     memory.poke(0, 10);

@@ -1,4 +1,5 @@
-//! Each read and put of a run failing in turn, until a run meets no failure, and each put of a message.
+//! Each read and put of a run failing in turn, until a run has no failure, and each put of a
+//! message.
 
 use std::alloc::{AllocError, Global};
 use std::process::Abort;
@@ -38,7 +39,7 @@ struct Ended {
     out: Vec<u8>,
 }
 
-/// Two accesses that are answered, and a line that is none. Each good line has ten bytes.
+/// Two good accesses, and a line that is none. Each good line has ten bytes.
 const BAD_TRACE: Whole = Whole {
     words: Plain {
         config: "config",
@@ -112,8 +113,8 @@ impl<'a> Whole<'a> {
     }
 }
 
-/// Makes each call fail in turn, and tells how many there are. What was written is then a front of what is
-/// written where nothing fails.
+/// Makes each call fail in turn, and says how many there are. What was written is then a front of
+/// what is written where nothing fails.
 fn fail_each(rt: &(impl Abort + AllocGlobal), whole: &Whole, fault: Fault) -> Result<u64, Fail> {
     let status = match fault {
         Fault::Read => Status::ReadFault,

@@ -1,5 +1,5 @@
-//! Tests of what no clause says and no report of the program shows: each read, put and message that fails, memory
-//! that is there, and calls that the program doesn't make.
+//! Tests of what no clause says and no report of the program shows: each read, put and message that
+//! fails, memory that is there, and calls that the program doesn't make.
 #![tactic(auto)]
 
 #[cfg(test)]

@@ -1,5 +1,5 @@
-//! Memory where there is memory, of what the program doesn't open or opens smaller. The reports of the greatest tables
-//! show it of all else.
+//! Memory where there is memory, of what the program doesn't open or opens smaller. The reports of
+//! the greatest tables show it of all else.
 
 use std::test::Fail;
 use xl_frames::plain;
@@ -16,7 +16,8 @@ fn the_greatest_pools_of_frames_and_numbers_are_to_be_had(rt: HostRuntime) -> Re
     Ok(())
 }
 
-/// Stamps that end are given anew: the two items here get stamps 1 and 2, and the third one stamp 3.
+/// Stamps that end are given anew: the two items here get stamps 1 and 2, and the third one stamp
+/// 3.
 #[test]
 fn lists_of_both_forms_are_to_be_had(rt: HostRuntime) -> Result<(), Fail> {
     let [one, two, three] = [1, 2, 3].map(|tag| Item { tag, word: 0 });

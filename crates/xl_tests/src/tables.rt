@@ -1,5 +1,5 @@
-//! Calls that any table takes, on the plain table, which the program doesn't have, and on a hashed one whose words are
-//! searched afterwards.
+//! Calls that any table takes, on the plain table, which the program doesn't have, and on a hashed
+//! one whose words are searched afterwards.
 
 ghost use Rattle.std.specs.Prelude.{◌≡◌, ◌<◌, ◌^◌};
 ghost use Rattle.xl_model.specs.Structures.{spaces_of, page_limit};
@@ -10,7 +10,7 @@ use xl_hashed::Hashed;
 use xl_model::{Leaf, NoRoom, Order, Perm, Refused, Structure, Work};
 use xl_model_table::PlainTable;
 
-/// Adds a leaf of one page of space 1, None where a leaf meets it.
+/// Adds a leaf of one page of space 1, None where a leaf overlaps it.
 fn added<S: Structure>(table: &mut S, first: u64) -> Option<Result<Work, Refused>>
     requires small { first < 100 }
     requires spaces { spaces_of (S.table table.old).shape ≡ 64 }
@@ -48,8 +48,8 @@ fn loads_of<S: Structure>(table: &mut S, page: u64) -> u64
     table.loads().wrapping_sub(before)
 }
 
-/// One load is for the bucket, and one for each leaf up to the one that is sought, newest first. An absent page is
-/// sought in the chain of each order, which here are one.
+/// One load is for the bucket, and one for each leaf up to the one that is sought, newest first. An
+/// absent page is sought in the chain of each order, which here are one.
 #[test]
 fn the_plain_table_reads_up_to_its_leaf_and_refuses_where_it_is_full(
     rt: HostRuntime,
@@ -70,7 +70,8 @@ fn the_plain_table_reads_up_to_its_leaf_and_refuses_where_it_is_full(
     Ok(())
 }
 
-/// Tags of pages of 4 KiB of space 1 begin at 2^45, and the word is that of frame 7, which a user may read.
+/// Tags of pages of 4 KiB of space 1 begin at 2^45, and the word is that of frame 7, which a user
+/// may read.
 #[test]
 fn the_words_of_a_hashed_table_are_searched(rt: HostRuntime) -> Result<(), Fail> {
     let mut table = Hashed::open(rt.alloc(), 4, 8)?;

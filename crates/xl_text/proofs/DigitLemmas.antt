@@ -6,7 +6,7 @@ use Rattle.std.proofs.Math.Nat.{pow-suc, add-mul, mul_assoc, mul_comm}
 use Rattle.std.proofs.lemmas.Bool.{le-ltb, lt-ltb}
 use Rattle.xl_text.specs.Numbers.{number_in}
 
--- the number that n and then these digits stand for
+-- the number of n and then these digits
 abbrev pub number_after : ℕ → ℕ → List ℕ → Option ℕ
 number_after base n cs = option_map (λ v. n * base ^ length cs + v) (number_in base cs)
 

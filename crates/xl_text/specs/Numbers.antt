@@ -3,8 +3,8 @@ use Rattle.std.specs.Prelude.{ℕ, ◌+◌, ◌*◌, ◌^◌, ◌&&◌, nat_le, 
 use Rattle.std.specs.Option.{option_map}
 use Rattle.std.specs.Char.{digit_value, is_digit}
 
--- The number that digits stand for, each worth as many times a power of the base as digits follow it.
--- None where a byte is no digit of the base.
+-- The number of some digits, each worth as many times a power of the base as digits follow it. None
+-- where a byte is no digit of the base.
 abbrev pub number_in : ℕ → List ℕ → Option ℕ
 number_in base [] = Some 0
 number_in base (c ∷ cs) =

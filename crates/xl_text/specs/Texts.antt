@@ -5,15 +5,15 @@ use Rattle.std.specs.Prelude.{ℕ, ◌-◌, ◌==◌, Bool, true, false, ◌||�
 abbrev pub is_blank : ℕ → Bool
 is_blank b = (b == 32) || (b == 9)
 
--- A byte in front of the lines that follow it. Where there is none, it begins a last line that no newline
--- ends, which may count or not.
+-- A byte in front of the lines that follow it. Where there is none, it begins a last line that no
+-- newline ends, which may count or not.
 abbrev pub in_first : Bool → ℕ → List (List ℕ) → List (List ℕ)
 in_first last b (line ∷ lines) = (b ∷ line) ∷ lines
 in_first true b [] = (b ∷ []) ∷ []
 in_first false b [] = []
 
--- The lines of a text, each without the newline that ends it; `last` says whether a last line without a
--- newline counts, where it isn't empty.
+-- The lines of a text, each without the newline that ends it; `last` says whether a last line
+-- without a newline counts, where it isn't empty.
 abbrev pub lines_by : Bool → List ℕ → List (List ℕ)
 lines_by last [] = []
 lines_by last (b ∷ bs) = if b == 10 then [] ∷ lines_by last bs else in_first last b (lines_by last bs)

@@ -47,7 +47,7 @@ hung-under base w new low high k p b (Bin n x l r) s i o so link u off =
       | inr ge ↦ hung-high base w new low high k n b x l r s keep o link u off ge (subst O (pick-no (range_key x) k r l ge) so) i.3
     ]) link off
 
--- what stands after a tree was attached so many steps down a way
+-- what is after a tree was attached `depth` steps down a way
 pub record Attached (base new : List ℕ) (t : Tree) (k depth : ℕ) (s : Tree) (root : ℕ) : Type 0 where
   pub here : IsAt new root (graft t k depth s)
   pub off : SameOff t base new

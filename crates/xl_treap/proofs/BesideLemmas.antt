@@ -44,7 +44,7 @@ or-twice : (x : Range) (q o : Option Range) → or_else (or_else q (Some x)) o �
 or-twice x None o = refl
 or-twice x (Some y) o = refl
 
--- a link reached on the way down: the tree under it decides, or else the nodes met
+-- a link reached on the way down: the tree under it decides, or else the nodes passed
 pub record IsBetween (words : List ℕ) (t : Tree) (k at : ℕ) (found : Beside) : Type 0 where
   pub under : Tree
   pub stands : Stands words at under
@@ -107,7 +107,7 @@ module _ {words : List ℕ} {t : Tree} {k at : ℕ} {found : Beside} (b : IsBetw
   pub less-right : ranges_under words t (right_at words (at - 1)) < ranges_under words t at
   less-right = less-under (right_at words (at - 1)) top.high top.high_stands (let z = top.size_is in omega arith)
 
-  -- goes on to one of the trees under the node
+  -- continues to one of the trees under the node
   between-next : (next : ℕ) (s : Tree) (met : Beside) → Stands words next s → length (ranges s) < length (ranges b.under) → 4 * met.before ≤ length words → 4 * met.from ≤ length words
       → or_else (last_below k (ranges (Bin (at - 1) top.range top.low top.high))) (range_of_link words found.before) ≡ or_else (last_below k (ranges s)) (range_of_link words met.before)
       → or_else (first_from k (ranges (Bin (at - 1) top.range top.low top.high))) (range_of_link words found.from) ≡ or_else (first_from k (ranges s)) (range_of_link words met.from)

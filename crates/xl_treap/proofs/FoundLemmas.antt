@@ -19,7 +19,7 @@ pub none-at : (d : ℕ) (words : List ℕ) → tree_at d words 0 ≡ Tip
 none-at zero words = refl
 none-at (suc d) words = refl
 
--- the tree that stands in the words is the one that they have
+-- the tree that is in the words is the one that they have
 pub tree-is : (low high d : ℕ) (words : List ℕ) (at : ℕ) (t : Tree) → IsAt words at t → InOrder low high t → length (ranges t) ≤ d → tree_at d words at ≡ t
 tree-is low high d words at Tip i o h = let P : ℕ → Type 0 = λ a. tree_at d words a ≡ Tip in subst P (sym i) (none-at d words)
 tree-is low high zero words at (Bin n x l r) i o h = absurd (omega (arith, sizes n x l r))

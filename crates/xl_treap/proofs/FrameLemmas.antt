@@ -81,8 +81,8 @@ abbrev pub with_child : ℕ → Tree → Tree → Tree
 with_child k Tip s = s
 with_child k (Bin n x l r) s = cond (nat_lt (range_key x) k) (Bin n x l s) (Bin n x s r)
 
--- What stands after a tree was hung under a node: the node's tree so far, `base` its words before what is under it
--- changed, and `old` before the hanging.
+-- What is after a tree was hung under a node: the node's tree so far, `base` its words before what
+-- is under it changed, and `old` before the hanging.
 pub record Hung (base new : List ℕ) (k : ℕ) (p : ℕ) (t s : Tree) : Type 0 where
   pub here : IsAt new (suc p) (with_child k t s)
   pub off : SameOff t base new

@@ -30,7 +30,8 @@ each-down P (Bin m x l r) k (suc d) (e, a, b) = by (nat_lt (range_key x) k) (eac
     by true u v = v
     by false u v = u
 
--- a change of sorted ranges at a key, by its steps: ranges below the key stay in front, and ranges behind stay behind
+-- a change of sorted ranges at a key, by its steps: ranges below the key stay in front, and ranges
+-- after stay after
 module _ (F : List Range → List Range) (k : ℕ) (H : List Range → Type 0)
     (in-front : (y : Range) (ys : List Range) → range_key y < k → F (y ∷ ys) ≡ y ∷ F ys)
     (behind : (ls : List Range) (x : Range) (rs : List Range) → H ls → k ≤ range_key x → F (ls ++ x ∷ rs) ≡ F ls ++ x ∷ rs)
@@ -228,7 +229,7 @@ same-link words a b (Bin n x l r) i j = i.0 ∙ sym j.0
 pub off-down : (t : Tree) (k d : ℕ) (old new : List ℕ) → SameOff (down t k d) old new → SameOff t old new
 off-down t k d old new s = record { len = s.len; same = λ m o. s.same m (each-down (λ n. n ≡ m → ⊥) t k d o) }
 
--- what stands under a link is another tree now, and all above it stays
+-- what is under a link is another tree now, and all above it stays
 pub lift : (base new : List ℕ) (low high at a k d : ℕ) (t s : Tree) → IsAt base at t → InOrder low high t → IsAt base a (down t k d) → SameOff (down t k d) base new → IsAt new a s
     → IsAt new at (graft t k d s)
 lift base new low high at a k zero t s i o j so u = let A : ℕ → Type 0 = λ z. IsAt new z s in subst A (same-link base a at t j i) u

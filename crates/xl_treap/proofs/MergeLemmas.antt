@@ -140,7 +140,7 @@ more-nodes words path t k depth at u less here i h = elim (side i depth) [
       subst I q (subst A (sym (get_or-set_same path depth at 0 less)) here)
 ]
 
--- what a step down comes to, where the first tree's top is above, or the second's
+-- the result of a step down, where the first tree's top is above, or the second's
 merging-step : (words path : List ℕ) (t : Tree) (k depth low high : ℕ) (a b : Tree) (top : ℕ) → IsAt words low a → IsAt words high b → down t k depth ≡ merge a b → InOrder 0 k a → InOrder (suc k) top b
     → depth + (length (ranges a) + length (ranges b)) ≤ length path → ((i : ℕ) → i < depth → Half words (slice_index path i) k (down t k i)) → 0 < low → 0 < high → depth < length path → (above : Bool)
     → is_above (slice_index words (4 * (low - 1))) (slice_index words (4 * (high - 1))) ≡ above

@@ -40,7 +40,7 @@ pub within-apart : (low high : ℕ) (xs : List Range) → Within low high xs →
 within-apart low high [] h = tt
 within-apart low high (x ∷ xs) (a, f, b) = (a, f, within-apart (end_key x) high xs b)
 
--- the parts before a range and behind it
+-- the parts before a range and after it
 pub within-split : (low high : ℕ) (ls : List Range) (x : Range) (rs : List Range) → Within low high (ls ++ x ∷ rs) → Within low (range_key x) ls × IsFit x × Within (end_key x) high rs
 within-split low high [] x rs (a, f, b) = (a, f, b)
 within-split low high (y ∷ ls) x rs (a, f, b) = let k = within-split (end_key y) high ls x rs b in ((a, f, k.0), k.1, k.2)

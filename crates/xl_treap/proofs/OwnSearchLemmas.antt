@@ -7,7 +7,7 @@ use Rattle.xl_treap.specs.Steps.{IsTree, IsReached}
 use Rattle.xl_treap.proofs.OrderLemmas.{pick-yes, pick-no}
 use Rattle.xl_treap.proofs.UnderLemmas.{Stands, IsTop, stands-tree, tip-of, top-of}
 
--- a link reached by so many nodes: the tree under it decides, and has the rest of the nodes to examine
+-- a link reached by `loads` nodes: the tree under it decides, with the other nodes to examine
 pub record IsLeft (words : List ℕ) (t : Tree) (k loads at : ℕ) : Type 0 where
   pub small : at < 2 ^ 32
   pub under : Tree
@@ -57,7 +57,7 @@ module _ {words : List ℕ} {t : Tree} {k loads at : ℕ} (b : IsLeft words t k 
       let f = top.fit in let a = f.some in let c = f.space_in in let d = f.pages_in in let e = top.node.key_is in let g = top.node.pages_is in
       record { first_in = omega arith; pages_in = omega arith }
 
-  -- goes on to one of the trees under the node
+  -- continues to one of the trees under the node
   left-next : (next : ℕ) (s : Tree) → next < 2 ^ 32 → Stands words next s → length (ranges s) < length (ranges b.under)
       → found (Bin (at - 1) top.range top.low top.high) k ≡ found s k → examined (Bin (at - 1) top.range top.low top.high) k ≡ suc (examined s k) → IsLeft words t k (loads + 1) next
   left-next next s fits stands less found_is loads_is =

@@ -28,7 +28,7 @@ half-there : (words : List ℕ) (p k : ℕ) (q : Tree) → Half words p k q → 
 half-there words p k Tip h = absurd h
 half-there words p k (Bin n x l r) h = let a = h.1.there in let e = h.0 in (omega arith, omega arith)
 
--- one node more stands
+-- one node more on the path
 rise-node : (old w new : List ℕ) (low high p k at : ℕ) (q : Tree) → Half old p k q → Keeps old q → InOrder low high q → IsAt w at (child k q) → SameBut (child k q) old w
     → IsHung w new (p - 1) k at → IsAt new p q × SameBut q old new
 rise-node old w new low high p k at Tip h keep o i but link = absurd h

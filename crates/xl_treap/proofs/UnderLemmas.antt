@@ -10,7 +10,7 @@ use Rattle.xl_treap.specs.Steps.{IsTree}
 use Rattle.xl_treap.proofs.OrderLemmas.{sizes, order-apart, order-In}
 use Rattle.xl_treap.proofs.WordLemmas.{node-said}
 
--- a tree stands in the words from a link on, in order
+-- a tree is in the words from a link on, in order
 pub record Stands (words : List ℕ) (at : ℕ) (s : Tree) : Type 0 where
   pub here : IsAt words at s
   pub order : (low : ℕ) × (high : ℕ) × InOrder low high s

@@ -8,7 +8,7 @@ use Rattle.xl_treap.specs.declared.along.Visit.TheVariants as visit
 use Rattle.xl_treap.specs.Treaps.{key_at}
 use Rattle.xl_treap.specs.Lines.{range_of_node, left_at, right_at}
 
--- a bus after so many loads
+-- a bus after n loads
 abbrev pub loaded_times : {A : Type 0} → (A → A) → ℕ → A → A
 loaded_times loaded zero bus = bus
 loaded_times loaded (suc n) bus = loaded (loaded_times loaded n bus)
@@ -18,11 +18,11 @@ pub record Searched : Type 0 where
   pub end : Search
   pub loads : ℕ
 
--- a search that ends so, after so many loads
+-- a search that ends so, after `loads` loads
 abbrev pub ended : ℕ → Search → Searched
 ended loads end = record { end = end; loads = loads }
 
--- a search with so many loads before it
+-- a search with n loads before it
 abbrev pub loaded_before : ℕ → Searched → Searched
 loaded_before n x = record { end = x.end; loads = n + x.loads }
 
@@ -31,7 +31,8 @@ abbrev pub end_of : Option Range → Search
 end_of None = search_end.Absent
 end_of (Some r) = search_end.Found r
 
--- what a node says of a key: its line is not there, its pages hold the key, or the search goes on to another node
+-- what a node says of a key: its line is not there, its pages hold the key, or the search continues
+-- to another node
 abbrev pub visit_of : List ℕ → ℕ → ℕ → Visit
 visit_of words n key =
     if nat_lt (length words) (4 * n + 4)
@@ -48,7 +49,7 @@ visited visit.Gone on = ended 1 search_end.OutOfBus
 visited (visit.Here range) on = ended 1 (end_of range)
 visited (visit.Goes next) on = loaded_before 1 (on next)
 
--- the search from a link on, where so many nodes may still be examined
+-- the search from a link on, where n nodes may still be examined
 unfoldable pub search_from : ℕ → List ℕ → ℕ → ℕ → Searched
 search_from left words zero key = ended 0 search_end.Absent
 search_from zero words (suc n) key = ended 0 search_end.TooLong

@@ -30,13 +30,15 @@ pub record IsTreap (words : List ℕ) (root nodes : ℕ) (free : List ℕ) (t : 
   pub free_once : Once free
   pub empty : (e : ℕ) → In e free → IsEmpty words e
 
--- What a treap keeps: its words, its number of nodes, and room for the number of each node among the free ones.
+-- What a treap keeps: its words, its number of nodes, and room for the number of each node among
+-- the free ones.
 abbrev pub IsKept : List ℕ → ℕ → ℕ → List ℕ → ℕ → Type 0
 IsKept words root nodes free room =
     IsTreap words root nodes free (tree_at nodes words root) × (nodes ≤ 2 ^ 16 + 1) × (nodes ≤ room)
 
--- The words tell what is held: they are a tree of the ranges whose keys rise from left to right and whose priorities
--- rise downwards, and a search of them finds what is held, by as many loads as there are ranges to read.
+-- The words say what is held: they are a tree of the ranges whose keys rise from left to right and
+-- whose priorities rise downwards, and a search of them finds what is held, by as many loads as
+-- there are ranges to read.
 pub record WordsReadBack (t : TreapState) : Type 0 where
   pub size : length t.words ≡ 4 * t.seen.nodes
   pub tree : (tree : Tree) × IsAt t.words t.root tree × IsHeap tree × (ranges tree ≡ t.seen.kept)

@@ -11,7 +11,8 @@ use Rattle.xl_pte.specs.declared.word.Pte.{Pte}
 use Rattle.xl_pte.specs.declared.word.Pte.TheVariants.{Invalid, Pointer, Leaf, Reserved, Misaligned}
 use Rattle.xl_pte.specs.Decode.{decode_of}
 
--- the word of a range's frame, permission and order: a leaf's word, and the order's number from bit 62 on
+-- the word of a range's frame, permission and order: a leaf's word, and the order's number from bit
+-- 62 on
 unfoldable pub node_word : Range → ℕ
 node_word r = leaf_word r.frame r.perm + level_of r.order * 2 ^ 62
 
@@ -22,7 +23,7 @@ order_said (suc zero) = Some order.M2
 order_said (suc (suc zero)) = Some order.G1
 order_said (suc (suc (suc n))) = None
 
--- the range of a key, so many pages and an order, where the word is a leaf's
+-- the range of a key, `pages` pages and an order, where the word is a leaf's
 abbrev pub range_by : ℕ → ℕ → Order → Pte → Option Range
 range_by key pages o (Leaf frame p) =
     Some (record { space = key / 2 ^ 52; start = key % 2 ^ 52; pages = pages; frame = frame; order = o; perm = p })
@@ -31,7 +32,7 @@ range_by key pages o (Pointer node) = None
 range_by key pages o Reserved = None
 range_by key pages o Misaligned = None
 
--- the range of a key, so many pages and a word, where there is an order
+-- the range of a key, `pages` pages and a word, where there is an order
 abbrev pub range_under : ℕ → ℕ → ℕ → Option Order → Option Range
 range_under key pages word None = None
 range_under key pages word (Some o) = range_by key pages o (decode_of (word % 2 ^ 62) 0)

@@ -25,7 +25,7 @@ pub record IsLined (old new : List ℕ) (n : ℕ) (x : Range) : Type 0 where
   pub word_is : slice_index new (4 * n + 2) ≡ node_word x
   pub others : (m j : ℕ) → j < 4 → (m ≡ n → ⊥) → slice_index new (4 * m + j) ≡ slice_index old (4 * m + j)
 
--- a node has so many pages, and no other word changed
+-- a node has n pages, and no other word changed
 pub record IsSized (old new : List ℕ) (n pages : ℕ) : Type 0 where
   pub len : length new ≡ length old
   pub is : slice_index new (4 * n + 1) ≡ pages
@@ -75,8 +75,8 @@ abbrev pub Keeps : List ℕ → Tree → Type 0
 Keeps words Tip = Unit {0}
 Keeps words (Bin n x l r) = IsNode words n x × Keeps words l × Keeps words r
 
--- The way down to a key: the links on it, to nodes of other keys, and the one at its end, which is none or that of the
--- key's node.
+-- The way down to a key: the links on it, to nodes of other keys, and the one at its end, which is
+-- none or that of the key's node.
 pub record IsWay (words path : List ℕ) (t : Tree) (k depth at : ℕ) : Type 0 where
   pub short : depth ≤ length path
   pub nodes : (i : ℕ) → i < depth → IsAt words (slice_index path i) (down t k i)
@@ -101,7 +101,8 @@ pub record IsPlace (t : Tree) (k depth : ℕ) : Type 0 where
   pub over : Over k (down t k depth)
   pub stop : (d : ℕ) → depth ≡ suc d → TopOver k (down t k d)
 
--- the top node of a tree to come, by its link: it says its range, and has the tree that lies away from a key
+-- the top node of a tree to come, by its link: it says its range, and has the tree that lies away
+-- from a key
 abbrev pub Half : List ℕ → ℕ → ℕ → Tree → Type 0
 Half words p k Tip = ⊥
 Half words p k (Bin n x l r) =
@@ -113,7 +114,7 @@ pub record IsSpine (words path : List ℕ) (t : Tree) (k depth at : ℕ) : Type 
   pub nodes : (i : ℕ) → i < depth → Half words (slice_index path i) k (down t k i)
   pub here : IsAt words at (down t k depth)
 
--- a tree stands in the words from a link on, sorted and heaped
+-- a tree is in the words from a link on, sorted and heaped
 pub record IsTree (words : List ℕ) (root : ℕ) (t : Tree) : Type 0 where
   pub at : IsAt words root t
   pub heap : IsHeap t
@@ -152,7 +153,8 @@ pub record CanPart (words path : List ℕ) (t : Tree) (k depth : ℕ) : Type 0 w
   pub order : InOrder 0 (2 ^ 58) t
   pub heap : IsHeap t
 
--- The tree so far down a way is parted: as far as the first node on the way up that is above the key.
+-- The tree so far down a way is parted: as far as the first node on the way up that is above the
+-- key.
 pub record IsParted (old new : List ℕ) (t : Tree) (k depth : ℕ) (parts : Parts) : Type 0 where
   pub short : parts.depth ≤ depth
   pub cut : IsCut old new parts.low parts.high k (down t k parts.depth)
@@ -166,7 +168,7 @@ pub record CanPut (words : List ℕ) (root nodes : ℕ) (t : Tree) (n : ℕ) (x 
   pub small : n < 2 ^ 31
   pub apart : IsApart 0 (with_range x (ranges t))
 
--- two trees stand in the words, the key between them
+-- two trees are in the words, the key between them
 pub record CanMerge (words : List ℕ) (low high nodes : ℕ) (pair : Pair) : Type 0 where
   pub low_at : IsAt words low pair.low
   pub high_at : IsAt words high pair.high
@@ -180,7 +182,7 @@ pub record CanRise (words path : List ℕ) (t : Tree) (k depth at : ℕ) : Type 
   pub keeps : Keeps words t
   pub order : (top : ℕ) × InOrder 0 top t
 
--- a tree came to stand in the words
+-- a tree was put into the words
 pub record IsRisen (old new : List ℕ) (t : Tree) (at : ℕ) : Type 0 where
   pub here : IsAt new at t
   pub but : SameBut t old new
@@ -197,12 +199,12 @@ pub record IsTaken (old new : List ℕ) (t : Tree) (k root n : ℕ) : Type 0 whe
   pub free : IsEmpty new n
   pub was : IsEmpty old n → ⊥
 
--- a key's range can have so many pages
+-- a key's range can have `pages` pages
 pub record CanResize (words : List ℕ) (root nodes : ℕ) (t : Tree) (k pages : ℕ) : Type 0 where
   pub take : CanTake words root nodes t k
   pub apart : IsApart 0 (resized k pages (ranges t))
 
--- a key's range has so many pages
+-- a key's range has `pages` pages
 pub record IsResized (old new : List ℕ) (t : Tree) (root k pages : ℕ) : Type 0 where
   pub node : ℕ
   pub made : IsMade old new root node (resized k pages (ranges t))

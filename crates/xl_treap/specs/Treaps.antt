@@ -3,8 +3,8 @@ use Rattle.std.specs.Prelude.{ℕ, ◌+◌, ◌*◌, ◌^◌, ◌<◌, ◌≤◌
 use Rattle.xl_model.specs.declared.leaf.Range.{Range}
 use Rattle.xl_model.specs.Ranges.{range_key, end_key}
 
--- What is seen of a treap: the ranges that it holds, sorted by space and start, the most that it can hold, and the
--- loads made of it.
+-- What is seen of a treap: the ranges that it holds, sorted by space and start, the most that it
+-- can hold, and the loads made of it.
 pub record TreapView : Type 0 where
   pub kept : List Range
   pub nodes : ℕ
@@ -34,7 +34,7 @@ abbrev pub without_range : ℕ → List Range → List Range
 without_range k [] = []
 without_range k (r ∷ rs) = if range_key r == k then rs else (r ∷ without_range k rs)
 
--- the ranges, that of this key with so many pages
+-- the ranges, that of this key with `pages` pages
 abbrev pub resized : ℕ → ℕ → List Range → List Range
 resized k pages [] = []
 resized k pages (r ∷ rs) = if range_key r == k then record r { pages = pages } ∷ rs else (r ∷ resized k pages rs)

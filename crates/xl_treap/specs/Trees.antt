@@ -21,7 +21,7 @@ abbrev pub tree_by : ℕ → Option Range → Tree → Tree → Tree
 tree_by n None l r = Tip
 tree_by n (Some x) l r = Bin n x l r
 
--- the tree that the words have from a link on, so many nodes deep
+-- the tree that the words have from a link on, n nodes deep
 abbrev pub tree_at : ℕ → List ℕ → ℕ → Tree
 tree_at zero words at = Tip
 tree_at (suc d) words zero = Tip
@@ -49,13 +49,13 @@ abbrev pub IsHeap : Tree → Type 0
 IsHeap Tip = Unit {0}
 IsHeap (Bin n x l r) = Over (range_key x) l × Over (range_key x) r × IsHeap l × IsHeap r
 
--- so many steps down towards the place of a key
+-- n steps down towards the place of a key
 abbrev pub down : Tree → ℕ → ℕ → Tree
 down t k zero = t
 down Tip k (suc d) = Tip
 down (Bin n x l r) k (suc d) = if nat_lt (range_key x) k then down r k d else down l k d
 
--- a tree with another one so many steps down
+-- a tree with another one n steps down
 abbrev pub graft : Tree → ℕ → ℕ → Tree → Tree
 graft t k zero s = s
 graft Tip k (suc d) s = s
@@ -86,13 +86,14 @@ abbrev pub cut_high : ℕ → Tree → Tree
 cut_high k Tip = Tip
 cut_high k (Bin n x l r) = if nat_lt (range_key x) k then cut_high k r else Bin n x (cut_high k l) r
 
--- a node with two trees of which the left one is there, and a way to make one of the right tree and another
+-- a node with two trees of which the left one is there, and a way to make one of the right tree and
+-- another
 abbrev pub merge_into : ℕ → Range → Tree → Tree → (Tree → Tree) → Tree → Tree
 merge_into n x l r on Tip = Bin n x l r
 merge_into n x l r on (Bin m y c d) =
     if is_above (range_key x) (range_key y) then Bin n x l (on (Bin m y c d)) else Bin m y (merge_into n x l r on c) d
 
--- one tree of two, of which the second lies behind the first
+-- one tree of two, of which the second lies after the first
 abbrev pub merge : Tree → Tree → Tree
 merge Tip b = b
 merge (Bin n x l r) b = merge_into n x l r (λ z. merge r z) b

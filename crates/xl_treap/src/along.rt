@@ -7,7 +7,7 @@ use crate::node::range_in;
 use xl_model::Range;
 use xl_phys::Bus;
 
-/// What a search for a page comes to.
+/// The result of a search for a page.
 #[derive(Clone, Copy, Debug, PartialEq, Eq)]
 pub enum Search {
     /// The range that holds the page.
@@ -16,7 +16,7 @@ pub enum Search {
     Absent,
     /// The line of a node is not there.
     OutOfBus,
-    /// As many nodes as there are were examined, and the path goes on.
+    /// As many nodes as there are were examined, and the path continues.
     TooLong,
 }
 
@@ -28,8 +28,8 @@ pub(crate) enum Visit {
     Goes(u32),
 }
 
-/// Loads a node. Which way a search goes can't be foretold, so both links are there before one is chosen, and
-/// LLVM needs no branch for the choice.
+/// Loads a node. Which way a search goes can't be predicted, so both links are there before one is
+/// chosen, and LLVM needs no branch for the choice.
 pub(crate) fn examine<B: Bus>(bus: &mut B, node: u32, key: u64) -> Visit
     ensures visit { result ≡ visit_of (B.words bus.old) node key }
     ensures bus { bus.new ≡ B.loaded bus.old }

@@ -13,8 +13,8 @@ pub(crate) struct Way {
     pub(crate) at: u32,
 }
 
-/// Goes down to the node of a key, or to the end of a path where it would stand. The nodes on the
-/// way are put into `path`, by their links.
+/// Goes down to the node of a key, or to the end of a path where it would be. The nodes on the way
+/// are put into `path`, by their links.
 pub(crate) fn descend(words: &[u64], path: &mut [u32], root: u32, key: u64) -> Way
     ghost tree: { Tree }
     requires at { IsAt words.now root tree }
@@ -39,7 +39,7 @@ pub(crate) fn descend(words: &[u64], path: &mut [u32], root: u32, key: u64) -> W
     }
 }
 
-/// The link to the node before the end of a way of so many nodes, 0 where it has none.
+/// The link to the node before the end of a path of `depth` nodes, 0 where it has none.
 pub(crate) fn parent_of(path: &[u32], depth: usize) -> u32
     requires short { depth ≤ length path.now }
     ensures { result ≡ parent_at path.now depth }
@@ -48,7 +48,7 @@ pub(crate) fn parent_of(path: &[u32], depth: usize) -> u32
 }
 
 /// Makes `at` the link below a parent, on the side of a key, or the root where there is no
-/// parent. Answers the root.
+/// parent. Returns the root.
 pub(crate) fn attach(words: &mut [u64], root: u32, parent: u32, key: u64, at: u32) -> u32
     requires { 4 * parent ≤ length words.old }
     ensures { IsAttached words.old words.new root result parent key at }

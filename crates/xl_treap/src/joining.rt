@@ -7,7 +7,7 @@ ghost use Rattle.xl_treap.specs.Steps.{CanMerge, IsSpine, CanRise, IsRisen, CanT
 use crate::descent::{Way, attach, descend, parent_of};
 use crate::node::{hang, is_above, left_of, right_of, set_pages};
 
-/// Goes down two trees, of which the second lies behind the first and the key between them, along
+/// Goes down two trees, of which the second lies after the first and the key between them, along
 /// the nodes of one tree of both.
 pub(crate) fn merge_down(words: &[u64], path: &mut [u32], low: u32, high: u32) -> Way
     ghost pair: { Pair }
@@ -39,8 +39,7 @@ pub(crate) fn merge_down(words: &[u64], path: &mut [u32], low: u32, high: u32) -
     }
 }
 
-/// Goes up a way of so many nodes, and links each to what comes from below. Answers the link to
-/// the first.
+/// Relinks along `path` (bottom up). Returns the link to the first node.
 pub(crate) fn rise(words: &mut [u64], path: &[u32], way: Way, key: u64) -> u32
     ghost tree: { Tree }
     requires { CanRise words.old path.now tree key way.depth way.at }
@@ -57,8 +56,8 @@ pub(crate) fn rise(words: &mut [u64], path: &[u32], way: Way, key: u64) -> u32
     at
 }
 
-/// Makes one tree of two, of which the second lies behind the first and the key between them.
-/// Answers the link to its top.
+/// Makes one tree of two, of which the second lies after the first and the key between them.
+/// Returns the link to its top.
 pub(crate) fn join(words: &mut [u64], path: &mut [u32], low: u32, high: u32, key: u64) -> u32
     ghost pair: { Pair }
     requires merge { CanMerge words.old low high (length path.old) pair }
@@ -76,7 +75,7 @@ pub(crate) struct Taken {
     pub(crate) node: u32,
 }
 
-/// Takes the range of a key that is held out of the tree.
+/// Takes out of the tree the range of a key that is held.
 pub(crate) fn take_out(words: &mut [u64], path: &mut [u32], root: u32, key: u64) -> Taken
     ghost tree: { Tree }
     requires { CanTake words.old root (length path.old) tree key }
@@ -92,7 +91,7 @@ pub(crate) fn take_out(words: &mut [u64], path: &mut [u32], root: u32, key: u64)
     Taken { root, node }
 }
 
-/// Gives the range of a key that is held so many pages.
+/// Gives the range of a key that is held `pages` pages.
 pub(crate) fn give_pages(words: &mut [u64], path: &mut [u32], root: u32, key: u64, pages: u64)
     ghost tree: { Tree }
     requires { CanResize words.old root (length path.old) tree key pages }

@@ -146,7 +146,7 @@ pub(crate) fn set_line(words: &mut [u64], node: u32, range: Range)
     words[at + 2] = word_of(range);
 }
 
-/// Gives a node so many pages.
+/// Gives a node `pages` pages.
 pub(crate) fn set_pages(words: &mut [u64], node: u32, pages: u64)
     requires { 4 * node + 4 ≤ length words.old }
     ensures { IsSized words.old words.new node pages }

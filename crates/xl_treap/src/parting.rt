@@ -10,7 +10,7 @@ use crate::descent::{attach, descend, parent_of};
 use crate::node::{hang, is_above, key_of, set_line, set_links};
 use xl_model::Range;
 
-/// Links to what lies below a key and to what lies above it, of a tree so many nodes down.
+/// Links to what lies below a key and to what lies above it, of a tree `depth` nodes down.
 #[derive(Clone, Copy)]
 pub(crate) struct Parts {
     pub(crate) low: u32,
@@ -48,7 +48,7 @@ pub(crate) fn part(words: &mut [u64], path: &[u32], depth: usize, key: u64) -> P
     parts
 }
 
-/// Puts a range into the tree, in a node that is free. Answers the root.
+/// Puts a range into the tree, in a node that is free. Returns the root.
 pub(crate) fn put_in(words: &mut [u64], path: &mut [u32], root: u32, node: u32, range: Range) -> u32
     ghost tree: { Tree }
     requires { CanPut words.old root (length path.old) tree node range }

@@ -166,7 +166,7 @@ impl Treap {
         }
     }
 
-    /// Gives the range of the space that starts at page `start`, which is held, so many pages. It
+    /// Gives the range of the space that starts at page `start`, which is held, `pages` pages. It
     /// then lies over no other.
     pub fn resize(&mut self, space: u16, start: u64, pages: u64)
         requires held { list_any (has_key (key_at space start)) self.old.seen.kept ≡ true }
@@ -278,7 +278,7 @@ impl Treap {
     pub fn words_read_back(&self)
         ensures { WordsReadBack self.now }
     {
-        // A look at a field brings in what the type keeps.
+        // Reading a field brings in the type's invariant.
         let _words = &self.words;
     }
 }

@@ -64,7 +64,7 @@ by-low low wide p m l b w e =
       | false ↦ λ t k. k
     ] refl e
 
--- no key has the slot to which it moves, unless that is the slot where it stands
+-- no key has the slot to which it moves, unless that is the slot where it is
 by-empty : (low wide other far p m at : ℕ) → low < m → p < m → (wide ≡ low) ⊎ (wide ≡ low + m) → (far ≡ other) ⊎ (far ≡ other + m) → other < m
     → slot_by true p low wide ≡ p → slot_by true (p + 1) low wide ≡ at → slot_by true p other far ≡ at → at ≡ p
 by-empty low wide other far p m at l b w f o here goes stands =

@@ -25,7 +25,7 @@ put-put x y es h =
       ] refl
     ] refl
 
--- the key of x stands in no other slot that isn't empty
+-- the key of x is in no other slot that isn't empty
 abbrev pub Alone : List Entry → ℕ → Entry → Type 0
 Alone xs i x = (j : ℕ) → j < length xs → (j ≡ i → ⊥) → ((cell xs j).word ≡ 0 → ⊥) → (cell xs j).key ≡ x.key → ⊥
 
@@ -124,14 +124,14 @@ abbrev pub IsOfSlot : ℕ → WayRegs → ℕ → (Entry → Bool) → Type 0
 IsOfSlot number r i p = (e : Entry) → p e ≡ true → slot r number e.key ≡ i
 
 module _ (number : ℕ) (r : WayRegs) (xs : List Entry) (placed : ArePlaced number r xs) where
-  -- a key whose slot this is stands in no other slot
+  -- a key whose slot this is is in no other slot
   pub alone-at : (i : ℕ) (x : Entry) → slot r number x.key ≡ i → Alone xs i x
   alone-at i x is j less other full same =
       let a : slot r number (cell xs j).key ≡ j = placed.full j less full in
       let b : slot r number (cell xs j).key ≡ slot r number x.key = ap (λ (k : ℕ). slot r number k) same in
       other (sym a ∙ b ∙ is)
 
-  -- the entry that stands in a slot is there alone
+  -- the entry that is in a slot is there alone
   pub alone-own : (i : ℕ) → i < length xs → ((cell xs i).word ≡ 0 → ⊥) → Alone xs i (cell xs i)
   alone-own i less full = alone-at i (cell xs i) (placed.full i less full)
 
@@ -171,7 +171,7 @@ module _ (number : ℕ) (r : WayRegs) (xs : List Entry) (placed : ArePlaced numb
             | false ↦ λ t. refl
           ] refl
 
-  -- what is found by a test of one slot is what stands in that slot
+  -- what is found by a test of one slot is what is in that slot
   pub find-at : (i : ℕ) (p : Entry → Bool) → i < length xs → IsOfSlot number r i p → find p (entries_of xs) ≡ passing p (cell xs i)
   find-at i p less of =
       ap (find p) (split-at i less) ∙ find-put p (cell xs i) (others xs i) (others-none i p less of)

@@ -22,7 +22,7 @@ use Rattle.xl_way.proofs.SlotLemmas.{others, entries-set, find-at, split-at, oth
 abbrev pub way_of : ℕ → ℕ → WayRegs → List Entry → WayShape
 way_of number cap r es = record { number = number; cap = cap; regs = r; entries = es }
 
--- what stands in a slot, if it isn't empty
+-- what is in a slot, if it isn't empty
 abbrev pub standing_in : Entry → Option Entry
 standing_in x = cond (x.word == 0) None (Some x)
 
@@ -55,7 +55,7 @@ word-is number cap r xs used key at k is =
     of : (e : Entry) → has_key key e ≡ true → slot r number e.key ≡ at
     of e t = let q : e.key ≡ key = grind (arith, nat_tests) in ap (λ (n : ℕ). slot r number n) q ∙ sym is
 
--- the occupant of a key's slot is what stands there
+-- the occupant of a key's slot is what is there
 pub occupant-is : (number cap : ℕ) (r : WayRegs) (xs : List Entry) (key at : ℕ) → ArePlaced number r xs → at < length xs → at ≡ slot r number key
     → occupant (way_of number cap r (entries_of xs)) key ≡ standing_in (cell xs at)
 unfolding occupant
@@ -119,7 +119,7 @@ placed-set number r xs at x placed less full empty = record {
         let o : j ≡ at → ⊥ = (λ e. grind (arith, nat_tests)) in
         there j o ∙ placed.empty j l (sym (ap (λ (y : Entry). y.word) (there j o)) ∙ z)
 
--- the entries with x in its slot, whatever stood there
+-- the entries with x in its slot, whatever was there
 pub entries-now : (number : ℕ) (r : WayRegs) (xs : List Entry) (at : ℕ) (x : Entry) → ArePlaced number r xs → at < length xs → slot r number x.key ≡ at → 0 < x.word
     → entries_of (set xs at x) ≡ with_entry x (others xs at)
 entries-now number r xs at x placed less is some =
@@ -140,7 +140,7 @@ swap-is number cap r xs at x placed less is some =
 pub some-word : (x : Entry) → 0 < x.word → standing_in x ≡ Some x
 some-word x some = let t : (x.word == 0) ≡ false = grind (arith, nat_tests) in rw t refl
 
--- the way after a swap, where an entry stood in the slot
+-- the way after a swap, where an entry was in the slot
 pub record Swapped (number cap : ℕ) (r : WayRegs) (xs ys : List Entry) (x old : Entry) : Type 0 where
   pub again : occupant (way_of number cap r (entries_of ys)) old.key ≡ Some x
   pub back : way_of number cap r (entries_of xs) ≡ swapped (way_of number cap r (entries_of ys)) old
@@ -171,7 +171,7 @@ swap-back number cap r xs at x placed less is some full =
           let c = length-with x (others xs at) in let d = length-with old (others xs at) in omega arith);
     }
 
--- where no entry stood in the slot, there is one more
+-- where no entry was in the slot, there is one more
 pub swap-more : (number : ℕ) (r : WayRegs) (xs : List Entry) (at : ℕ) (x : Entry) → ArePlaced number r xs → at < length xs → at ≡ slot r number x.key → 0 < x.word
     → (cell xs at).word ≡ 0 → length (entries_of (set xs at x)) ≡ length (entries_of xs) + 1
 swap-more number r xs at x placed less is some none =
@@ -192,7 +192,7 @@ kept-set number cap r xs used at x now k less full empty count = record {
   count = count;
 }
 
--- a key that is held stands in its slot, and in no other
+-- a key that is held is in its slot, and in no other
 pub record Held (number : ℕ) (r : WayRegs) (xs : List Entry) (used key at : ℕ) : Type 0 where
   pub same : (cell xs at).key ≡ key
   pub was : entries_of xs ≡ with_entry (cell xs at) (others xs at)
@@ -287,7 +287,7 @@ kept-begun number cap r xs used k still room = record {
   count = k.count;
 }
 
--- a migrated slot: every entry is kept, and each stands in its slot
+-- a migrated slot: every entry is kept, and each is in its slot
 module _ (number cap : ℕ) (r : WayRegs) (xs : List Entry) (used : ℕ) (k : IsKept number cap r xs used) (growing : r.growing ≡ true) where
   pub reach-in : reach r ≤ length xs
   reach-in = let a = reach-there cap r k.regs in let b = k.size in omega arith
@@ -334,7 +334,7 @@ module _ (number cap : ℕ) (r : WayRegs) (xs : List Entry) (used : ℕ) (k : Is
       let b = slot-within r (way_hash number (cell xs r.p).key) growing k.regs.below in
       omega arith
 
-  -- nothing stands there
+  -- nothing is there
   goes-empty : ((cell xs r.p).word ≡ 0 → ⊥) → set cleared goes no_entry ≡ cleared
   unfolding cleared goes slot
   goes-empty full = ap (λ (x : Entry). set cleared goes x) (sym none) ∙ set-get_or cleared goes no_entry

@@ -63,7 +63,7 @@ slots-even cap = elim (cap == 0) as (λ b. (cap == 0) ≡ b → cond b 2 (2 ^ ca
     even zero o = absurd (o refl)
     even (suc n) o = let e = pow-suc 2 n in omega arith
 
--- the entry whose slot it is, is that which stands in the slot
+-- the entry whose slot it is, is that which is in the slot
 pub standing-is : (number cap : ℕ) (r : WayRegs) (xs : List Entry) (i : ℕ) → ArePlaced number r xs → i < length xs → standing (way_of number cap r (entries_of xs)) i ≡ cell xs i
 unfolding standing
 standing-is number cap r xs i placed less =
@@ -138,7 +138,7 @@ module _ (number cap : ℕ) (r : WayRegs) (xs : List Entry) (used : ℕ) (k : Is
   size-in : length (words_of whole) ≡ 2 * length xs
   size-in = words-size (way_of number cap r (entries_of xs)) ∙ ap (λ (n : ℕ). 2 * n) (sym k.size)
 
-  -- the four words of two slots that stand side by side
+  -- the four words of two slots that are side by side
   pub line-is : (line : ℕ) → 2 * line + 2 ≤ length xs
       → IsLine (words_of (way_of number cap r (entries_of xs))) line
       ((cell xs (2 * line)).key ∷ (cell xs (2 * line)).word ∷ (cell xs (2 * line + 1)).key ∷ (cell xs (2 * line + 1)).word ∷ [])
@@ -189,7 +189,7 @@ module _ (number cap : ℕ) (r : WayRegs) (xs : List Entry) (used : ℕ) (k : Is
       says x false true t u = rw t refl
       says x false false t u = rw t refl
 
-  -- an entry that is held stands in its slot
+  -- an entry that is held is in its slot
   pub stands-in : (e : Entry) → In e (entries_of xs) → (cell xs (slot r number e.key) ≡ e) × (0 < e.word)
   stands-in e i =
       let at : ℕ = slot r number e.key in

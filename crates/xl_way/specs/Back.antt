@@ -5,7 +5,8 @@ use Rattle.xl_model.specs.Ways.{slot}
 use Rattle.xl_way.specs.declared.found.Look.{Look}
 use Rattle.xl_way.specs.declared.found.Look.TheVariants.{Found, Absent, OutOfBus}
 
--- What a slot with these two words says of a key: its word, where the slot has the key and isn't empty.
+-- What a slot with these two words says of a key: its word, where the slot has the key and isn't
+-- empty.
 abbrev pub found_in : ℕ → ℕ → ℕ → Look
 found_in key held word = if held == key && not (word == 0) then Found word else Absent
 
@@ -20,7 +21,7 @@ slot_says words at key =
 unfoldable pub slot_back : List ℕ → WayRegs → ℕ → ℕ → Look
 slot_back words r way key = slot_says words (slot r way key) key
 
--- What a look comes to where this word is kept for the key, or none.
+-- The result of a look where this word is kept for the key, or none.
 abbrev pub look_of : Option ℕ → Look
 look_of None = Absent
 look_of (Some word) = Found word

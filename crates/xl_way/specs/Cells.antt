@@ -5,7 +5,7 @@ use Rattle.xl_model.specs.declared.way.WayRegs.{WayRegs}
 use Rattle.xl_model.specs.Ways.{slot, has_key, regs_after}
 use Rattle.xl_way.specs.Slots.{no_entry, cell}
 
--- What stands in a slot, if it isn't empty and passes a test.
+-- What is in a slot, if it isn't empty and passes a test.
 abbrev pub passing : (Entry → Bool) → Entry → Option Entry
 passing p x = if p x && not (x.word == 0) then Some x else None
 

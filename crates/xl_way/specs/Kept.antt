@@ -12,7 +12,8 @@ use Rattle.xl_way.specs.Back.{slot_back, look_of}
 abbrev pub reach : WayRegs → ℕ
 reach r = if r.growing then 2 ^ (r.s + 1) else 2 ^ r.s
 
--- The registers of a way that may grow to 2^cap slots: the pointer is below the slots, and 0 unless the way is growing.
+-- The registers of a way that may grow to 2^cap slots: the pointer is below the slots, and 0 unless
+-- the way is growing.
 pub record AreRegs (cap : ℕ) (r : WayRegs) : Type 0 where
   pub few : cap ≤ 18
   pub below : r.p < 2 ^ r.s
@@ -20,7 +21,8 @@ pub record AreRegs (cap : ℕ) (r : WayRegs) : Type 0 where
   pub within : r.s ≤ cap
   pub room : r.growing ≡ true → r.s < cap
 
--- What is kept beside a number and registers, so that a key's slot takes no more than a sum, a mix and two masks.
+-- What is kept beside a number and registers, so that a key's slot takes no more than a sum, a mix
+-- and two masks.
 pub record IsReady (number : ℕ) (r : WayRegs) (salt mask wide : ℕ) : Type 0 where
   pub salted : salt ≡ (number + 1) * 0x9e3779b97f4a7c15 % 2 ^ 64
   pub few : r.s ≤ 18
@@ -28,7 +30,7 @@ pub record IsReady (number : ℕ) (r : WayRegs) (salt mask wide : ℕ) : Type 0 
   pub twice : wide ≡ 2 ^ (r.s + 1) - 1
   pub still : r.growing ≡ false → r.p ≡ 0
 
--- Each entry stands in its key's slot, and an empty slot has key 0.
+-- Each entry is in its key's slot, and an empty slot has key 0.
 pub record ArePlaced (number : ℕ) (r : WayRegs) (slots : List Entry) : Type 0 where
   pub full : (i : ℕ) → i < length slots → ((cell slots i).word ≡ 0 → ⊥) → slot r number (cell slots i).key ≡ i
   pub empty : (i : ℕ) → i < length slots → (cell slots i).word ≡ 0 → cell slots i ≡ no_entry
@@ -40,8 +42,8 @@ pub record IsKept (number cap : ℕ) (r : WayRegs) (slots : List Entry) (used : 
   pub placed : ArePlaced number r slots
   pub count : used ≡ length (entries_of slots)
 
--- The words tell what a way holds: each entry's are those of its key's slot, and a look at the words finds what is kept
--- for a key, and nothing else.
+-- The words say what a way holds: each entry's are those of its key's slot, and a look at the words
+-- finds what is kept for a key, and nothing else.
 pub record WordsReadBack (w : WayShape) : Type 0 where
   pub size : length (words_of w) ≡ 2 * slots_of w.cap
   pub keys : (e : Entry) → In e w.entries → slice_index (words_of w) (2 * slot w.regs w.number e.key) ≡ e.key

@@ -9,7 +9,7 @@ pub record WayState : Type 0 where
   pub shape : WayShape
   pub loads : ℕ
 
--- Where the keys of a way stand: its number and its registers.
+-- Where the keys of a way are: its number and its registers.
 pub record PlacesState : Type 0 where
   pub number : ℕ
   pub regs : WayRegs
@@ -18,7 +18,7 @@ pub record PlacesState : Type 0 where
 abbrev pub no_entry : Entry
 no_entry = record { key = 0; word = 0 }
 
--- What stands in a slot.
+-- What is in a slot.
 abbrev pub cell : List Entry → ℕ → Entry
 cell slots i = slice_index_or slots i no_entry
 

@@ -11,7 +11,7 @@ use xl_model::{Entry, WayRegs};
 /// An empty slot.
 pub(crate) const EMPTY: Entry = Entry { key: 0, word: 0 };
 
-/// Puts an entry into a slot, and gives what stood there.
+/// Puts an entry into a slot, and gives what was there.
 pub(crate) fn exchange(slots: &mut [Entry], at: usize, entry: Entry) -> Entry
     requires { at < length slots.old }
     ensures left { result ≡ cell slots.old at }

@@ -1,6 +1,6 @@
-//! What a look at a way comes to.
+//! The result of a look at a way.
 
-/// What a look for a key comes to.
+/// The result of a look for a key.
 #[derive(Clone, Copy, Debug, PartialEq, Eq)]
 pub enum Look {
     /// The word that is kept for the key.

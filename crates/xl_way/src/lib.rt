@@ -1,5 +1,5 @@
-//! One way of an elastic cuckoo table (Skarlatos and others, 2020), in words of memory: a key has one
-//! slot, and the way grows slot by slot, behind a rehash pointer.
+//! One way of an elastic cuckoo table (Skarlatos and others, 2020), in words of memory: a key has
+//! one slot, and the way grows slot by slot, after a rehash pointer.
 #![tactic(auto)]
 
 mod cells;

@@ -1,4 +1,4 @@
-//! Where the keys of a way stand.
+//! Where the keys of a way are.
 
 ghost use Rattle.std.specs.Prelude.{◌≡◌, ◌+◌, ◌-◌, ◌*◌, ◌%◌, ◌^◌, ◌≤◌, false, ℕ};
 ghost use Rattle.xl_model.specs.Ways.{slot as slot_of};
@@ -6,8 +6,8 @@ ghost use Rattle.xl_model.specs.Ways.{slot as slot_of};
 use std::marker::Model;
 use xl_model::{WayRegs, mix};
 
-/// The number of a way and its registers, with what the slot of a key takes of them, so that it isn't
-/// computed for each key. Contracts see the number and the registers.
+/// The number of a way and its registers, with what the slot of a key takes of them, so that it
+/// isn't computed for each key. Contracts see the number and the registers.
 #[derive(Drop)]
 pub(crate) struct Places {
     number: u64,
@@ -37,7 +37,7 @@ fn salt_of(number: u64) -> u64
     number.wrapping_add(1).wrapping_mul(0x9e37_79b9_7f4a_7c15)
 }
 
-/// So many bits, all set.
+/// `bits` bits, all set.
 fn ones(bits: u8) -> u64
     requires { bits ≤ 19 }
     ensures { result ≡ 2 ^ bits - 1 }
@@ -96,8 +96,8 @@ impl Places {
         self.wide = ones(regs.s + 1);
     }
 
-    /// The slot of a key. The rehash pointer is 0 unless the way is growing, so it alone tells whether
-    /// the slot is one of twice as many.
+    /// The slot of a key. The rehash pointer is 0 unless the way is growing, so it alone says
+    /// whether the slot is one of twice as many.
     #[inline(always)]
     pub fn slot(&self, key: u64) -> u64
         ensures is { result ≡ slot_of self.now.regs self.now.number key }

@@ -19,8 +19,8 @@ use std::marker::Model;
 use xl_model::{Entry, NoMemory, WayRegs};
 use xl_phys::Bus;
 
-/// A way of an elastic cuckoo table: keys with a word each, where each key has one slot. Contracts see
-/// its entries by rising key, so that migrating a slot changes its registers alone. Nothing is
+/// A way of an elastic cuckoo table: keys with a word each, where each key has one slot. Contracts
+/// see its entries by rising key, so that migrating a slot changes its registers alone. Nothing is
 /// allocated after `open`.
 #[derive(Drop)]
 pub struct Way {
@@ -94,7 +94,7 @@ impl Way {
         self.places.regs()
     }
 
-    /// The most that `s` may come to.
+    /// The most that `s` may be.
     pub fn cap(&self) -> u8
         ensures { result ≡ self.now.shape.cap }
     {
@@ -120,7 +120,7 @@ impl Way {
         word_at(&self.slots, at as usize, key)
     }
 
-    /// Whether no key stands in the slot of this key.
+    /// Whether no key is in the slot of this key.
     pub fn is_free(&self, key: u64) -> bool
         ensures { IsTrue result ↔ (occupant self.now.shape key ≡ None) }
     {
@@ -128,7 +128,7 @@ impl Way {
         is_empty(&self.slots, at as usize)
     }
 
-    /// Puts the key with its word into its slot, and answers what stood there. What stood there, put
+    /// Puts the key with its word into its slot, and returns what was there. What was there, put
     /// back, gives the way as it was.
     pub fn swap(&mut self, key: u64, word: u64) -> Option<Entry>
         requires { 0 < word }
@@ -196,7 +196,7 @@ impl Way {
         self.places.set(stepped(regs));
     }
 
-    /// Migrates `most` slots, or those that are left where they are fewer, and answers how many.
+    /// Migrates `most` slots, or those that are left where they are fewer, and returns how many.
     pub fn migrate(&mut self, most: u64) -> u64
         requires { self.old.shape.regs.growing ≡ true }
         ensures count { result ≡ min most (slots_to_go self.old.shape.regs) }
@@ -210,7 +210,7 @@ impl Way {
         count
     }
 
-    /// The word that is kept for the key, as `get` answers it, by a look at the words. It makes one
+    /// The word that is kept for the key, as `get` returns it, by a look at the words. It makes one
     /// load.
     pub fn probe(&mut self, key: u64) -> Option<u64>
         ensures word { result ≡ word_of key self.old.shape.entries }
@@ -223,14 +223,14 @@ impl Way {
         }
     }
 
-    /// What the type keeps, at each value of the registers: the words tell what is held, each key has a
-    /// slot of its own, and the registers stay within the way's room.
+    /// What the type keeps, at each value of the registers: the words say what is held, each key
+    /// has a slot of its own, and the registers stay within the way's room.
     pub fn words_read_back(&self)
         ensures words { WordsReadBack self.now.shape }
         ensures apart { AreApart self.now.shape }
         ensures regs { AreRegs self.now.shape.cap self.now.shape.regs }
     {
-        // A look at a field brings in what the type keeps.
+        // Reading a field brings in the type's invariant.
         let _slots = &self.slots;
     }
 }

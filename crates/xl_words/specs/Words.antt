@@ -38,19 +38,22 @@ number_rule name = record (option_rule name) { parser = Some (parser.Signed (pos
 abbrev pub sets_rule : List ℕ → Rule
 sets_rule name = record (needed_rule name) { parser = Some (parser.Signed (pos 1) (pos 256)) }
 
--- The command with the options that name a file: `--config`, which is needed, `--script` and `--trace`.
+-- The command with the options that name a file: `--config`, which is needed, `--script` and
+-- `--trace`.
 unfoldable pub file_app : App
 file_app =
     with_rule (with_rule (with_rule (new_app (codes "xlate"))
     (needed_rule (codes "config"))) (option_rule (codes "script"))) (option_rule (codes "trace"))
 
--- The command of the plain form: the same, with the option `--make` and the flags `--answers`, `--image` and `--json`.
+-- The command of the plain form: the same, with the option `--make` and the flags `--answers`,
+-- `--image` and `--json`.
 unfoldable pub app : App
 app =
     with_rule (with_rule (with_rule (with_rule file_app (number_rule (codes "make")))
     (flag_rule (codes "answers"))) (flag_rule (codes "image"))) (flag_rule (codes "json"))
 
--- The command of the forms `nested` and `harts`: `--script` and `--trace`, which are needed, and the flag `--answers`.
+-- The command of the forms `nested` and `harts`: `--script` and `--trace`, which are needed, and
+-- the flag `--answers`.
 unfoldable pub pair_app : App
 pair_app =
     with_rule (with_rule (with_rule (new_app (codes "xlate"))
@@ -60,9 +63,9 @@ pair_app =
 unfoldable pub curve_app : App
 curve_app = with_rule file_app (sets_rule (codes "sets"))
 
--- What the words of the plain form ask for: the names of its files; for how many records script and trace are made,
--- where they are; whether a line is wanted for each access and command; whether the words of radix tables are; and
--- whether the rows are wanted as JSON.
+-- What the words of the plain form ask for: the names of its files; for how many records script and
+-- trace are made, where they are; whether a line is wanted for each access and command; whether the
+-- words of radix tables are; and whether the rows are wanted as JSON.
 pub record AskedPlain : Type 0 where
   pub config : List ℕ
   pub script : Option (List ℕ)
@@ -72,14 +75,15 @@ pub record AskedPlain : Type 0 where
   pub image : Bool
   pub json : Bool
 
--- What the words of the forms `nested` and `harts` ask for: the names of the script and the trace, and whether a line is
--- wanted for each access.
+-- What the words of the forms `nested` and `harts` ask for: the names of the script and the trace,
+-- and whether a line is wanted for each access.
 pub record AskedPair : Type 0 where
   pub script : List ℕ
   pub trace : List ℕ
   pub answers : Bool
 
--- What the words of the form `curve` ask for: how many sets the array of each curve has, and the names of its files.
+-- What the words of the form `curve` ask for: how many sets the array of each curve has, and the
+-- names of its files.
 pub record AskedCurve : Type 0 where
   pub sets : ℕ
   pub config : List ℕ
@@ -93,7 +97,7 @@ pub data Asked : Type 0 where
   Hartly : AskedPair → Asked
   Curved : AskedCurve → Asked
 
--- Whether a flag stands among the words.
+-- Whether a flag is among the words.
 abbrev pub is_on : Option (List ℕ) → Bool
 is_on None = false
 is_on (Some text) = bytes_eq text (codes "true")
@@ -102,8 +106,9 @@ is_on (Some text) = bytes_eq text (codes "true")
 abbrev pub number_of : ℕ → List ℕ → Option ℕ
 number_of most text = if is_unsigned_in 1 most text then Some (digits_value 10 (without_leading_plus text)) else None
 
--- For how many records script and trace are made, by the text of the number, where it is given, and the names of a
--- script and a trace. With one of these none are made, and the words ask for nothing.
+-- For how many records script and trace are made, by the text of the number, where it is given, and
+-- the names of a script and a trace. With one of these none are made, and the words ask for
+-- nothing.
 abbrev pub made_by : Option (List ℕ) → Option (List ℕ) → Option (List ℕ) → Option (Option ℕ)
 made_by None script trace = Some None
 made_by (Some text) None None = option_map Some (number_of 1048576 text)
@@ -114,7 +119,7 @@ abbrev pub sets_by : Option (List ℕ) → Option ℕ
 sets_by None = None
 sets_by (Some text) = number_of 256 text
 
--- What is asked for by some matches of the plain form, where so many records are made.
+-- What is asked for by some matches of the plain form, where `made` records are made.
 abbrev pub plain_with : List Row → Option ℕ → AskedPlain
 plain_with rows made = record {
   config = unwrap_or (first_of (codes "config") rows) [];
@@ -126,7 +131,8 @@ plain_with rows made = record {
   json = is_on (first_of (codes "json") rows);
 }
 
--- What is asked for by some matches of the plain form; nothing where records are to be made beside a script or a trace.
+-- What is asked for by some matches of the plain form; nothing where records are to be made beside
+-- a script or a trace.
 abbrev pub plain_in : List Row → Option AskedPlain
 plain_in rows =
     option_map (plain_with rows)
@@ -140,7 +146,7 @@ pair_in rows = Some (record {
   answers = is_on (first_of (codes "answers") rows);
 })
 
--- What is asked for by some matches of the form `curve`, with so many sets.
+-- What is asked for by some matches of the form `curve`, with `sets` sets.
 abbrev pub curve_with : List Row → ℕ → AskedCurve
 curve_with rows sets = record {
   sets = sets;
@@ -149,7 +155,8 @@ curve_with rows sets = record {
   trace = first_of (codes "trace") rows;
 }
 
--- What is asked for by some matches of the form `curve`. The command has none without a number of sets.
+-- What is asked for by some matches of the form `curve`. The command has none without a number of
+-- sets.
 abbrev pub curve_in : List Row → Option AskedCurve
 curve_in rows = option_map (curve_with rows) (sets_by (first_of (codes "sets") rows))
 
@@ -158,7 +165,8 @@ abbrev pub read_where : {A : Type 0} → Kinds → Option A → Option A
 read_where [] asked = asked
 read_where (kind ∷ kinds) asked = None
 
--- What is asked for by the words, as a command reads them; nothing where it has no matches for them.
+-- What is asked for by the words, as a command reads them; nothing where it has no matches for
+-- them.
 abbrev pub read_by : {A : Type 0} → App → (List Row → Option A) → List (List ℕ) → Option A
 read_by app in' words = read_where (fault_of app words) (in' (matches_of app words))
 
@@ -176,16 +184,16 @@ form_of [] = form.Plain
 form_of (program ∷ []) = form.Plain
 form_of (program ∷ word ∷ words) = form_named word
 
--- What the words ask for in a form. The command of a form that is named reads the words from that name on, which is in
--- the place of the program's name.
+-- What the words ask for in a form. The command of a form that is named reads the words from that
+-- name on, which is in the place of the program's name.
 abbrev pub asked_as : Form → List (List ℕ) → Option Asked
 asked_as form.Plain words = option_map Plainly (read_by app plain_in words)
 asked_as form.Nested words = option_map Nestedly (read_by pair_app pair_in (drop 1 words))
 asked_as form.Harts words = option_map Hartly (read_by pair_app pair_in (drop 1 words))
 asked_as form.Curve words = option_map Curved (read_by curve_app curve_in (drop 1 words))
 
--- What the words ask for; nothing exactly where the command of their form has no matches for them, or, in the plain form,
--- records are to be made beside a script or a trace.
+-- What the words ask for; nothing exactly where the command of their form has no matches for them,
+-- or, in the plain form, records are to be made beside a script or a trace.
 abbrev pub asked : List (List ℕ) → Option Asked
 asked words = asked_as (form_of words) words
 
@@ -221,13 +229,14 @@ asked_of (words.Nested w) = Nestedly (pair_of w)
 asked_of (words.Harts w) = Hartly (pair_of w)
 asked_of (words.Curve w) = Curved (curve_of w)
 
--- What a reading of the words answers: what they ask for, or that they ask for nothing, or that there is no memory.
+-- What a reading of the words returns: what they ask for, or that they ask for nothing, or that
+-- there is no memory.
 abbrev pub Asks : {W A : Type 0} → (W → A) → Result W WordsFault → Option A → Type 0
 Asks of (Ok w) read = read ≡ Some (of w)
 Asks of (Err fault.Usage) read = read ≡ None
 Asks of (Err fault.NoMemory) read = Unit {0}
 
--- What the matching of the words answers, by why there are no matches, and the matches.
+-- What the matching of the words returns, by why there are no matches, and the matches.
 abbrev pub Matches : Kinds → List Row → Result ArgMatches WordsFault → Type 0
 Matches kinds rows (Ok m) = (kinds ≡ []) × (rows_of (found_of m) ≡ rows)
 Matches kinds rows (Err fault.Usage) = kinds ≡ [] → ⊥

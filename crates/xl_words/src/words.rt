@@ -11,9 +11,10 @@ use clap::{ArgMatches, Command};
 use std::alloc::{AllocError, Global};
 use thiserror::Error;
 
-/// What the words of the plain form ask for: the names of the configuration, the script and the trace;
-/// for how many records script and trace are made, where they are; whether a line is wanted for each
-/// access and command; whether the words of radix tables are; and whether the rows are wanted as JSON.
+/// What the words of the plain form ask for: the names of the configuration, the script and the
+/// trace; for how many records script and trace are made, where they are; whether a line is wanted
+/// for each access and command; whether the words of radix tables are; and whether the rows are
+/// wanted as JSON.
 #[derive(Clone, Copy, Debug, PartialEq, Eq)]
 pub struct Plain<'a> {
     pub config: &'a str,
@@ -25,8 +26,8 @@ pub struct Plain<'a> {
     pub json: bool,
 }
 
-/// What the words of the forms `nested` and `harts` ask for: the names of the script and the trace, and
-/// whether a line is wanted for each access.
+/// What the words of the forms `nested` and `harts` ask for: the names of the script and the trace,
+/// and whether a line is wanted for each access.
 #[derive(Clone, Copy, Debug, PartialEq, Eq)]
 pub struct Pair<'a> {
     pub script: &'a str,
@@ -34,8 +35,8 @@ pub struct Pair<'a> {
     pub answers: bool,
 }
 
-/// What the words of the form `curve` ask for: how many sets the array of each curve has, and the names of
-/// the configuration, the script and the trace.
+/// What the words of the form `curve` ask for: how many sets the array of each curve has, and the
+/// names of the configuration, the script and the trace.
 #[derive(Clone, Copy, Debug, PartialEq, Eq)]
 pub struct CurveWords<'a> {
     pub sets: u32,
@@ -65,7 +66,8 @@ pub enum Form {
 /// Why the words ask for nothing.
 #[derive(Clone, Copy, Debug, PartialEq, Eq, Error)]
 pub enum WordsFault {
-    /// They are not those of their form's command, or records are to be made beside a script or a trace.
+    /// They are not those of their form's command, or records are to be made beside a script or a
+    /// trace.
     #[error("the words are not those of their form's command")]
     Usage,
     /// There is no memory for the command or its matches.
@@ -87,10 +89,10 @@ const MOST_RECORDS: u32 = 1 << 20;
 /// The most sets of a curve's array.
 const MOST_SETS: u32 = 256;
 
-/// What the words ask for, of which the first is the program's name. The second may name a form, whose
-/// command reads the words behind it; else all words are the plain form's. Usage exactly where that command
-/// has no matches for them, or, in the plain form, records are to be made beside a script or a trace; where
-/// there is no memory, the answer may be that.
+/// What the words ask for, of which the first is the program's name. The second may name a form,
+/// whose command reads the words after it; else all words are the plain form's. Usage exactly where
+/// that command has no matches for them, or, in the plain form, records are to be made beside a
+/// script or a trace; where there is no memory, the answer may be that.
 pub fn read<'a>(alloc: Global, words: &'a [String]) -> Result<Words<'a>, WordsFault>
     ensures { Asks asked_of result (asked (map string_bytes words.entry.now)) }
 {
@@ -169,7 +171,8 @@ fn read_curve<'a>(alloc: Global, words: &'a [String]) -> Result<CurveWords<'a>, 
     }
 }
 
-/// What is asked for by some matches of the form `curve`. The command has none without a configuration.
+/// What is asked for by some matches of the form `curve`. The command has none without a
+/// configuration.
 fn curve_matched<'a>(matches: &ArgMatches<'a>) -> Result<CurveWords<'a>, WordsFault>
     ensures { Asks curve_of result (curve_in (rows_of (found_of matches.now))) }
 {
@@ -194,7 +197,8 @@ fn sets(text: Option<&str>) -> Option<u32>
     }
 }
 
-/// What is asked for by some matches of the plain form. The command has none without a configuration.
+/// What is asked for by some matches of the plain form. The command has none without a
+/// configuration.
 fn plain_matched<'a>(matches: &ArgMatches<'a>) -> Result<Plain<'a>, WordsFault>
     ensures { Asks plain_of result (plain_in (rows_of (found_of matches.now))) }
 {
@@ -206,7 +210,7 @@ fn plain_matched<'a>(matches: &ArgMatches<'a>) -> Result<Plain<'a>, WordsFault>
     }
 }
 
-/// The words of some matches, with these names, and so many records to be made.
+/// The words of some matches, with these names, and `made` records to be made.
 fn plain_with<'a>(
     matches: &ArgMatches<'a>,
     script: Option<&'a str>,
@@ -266,7 +270,7 @@ fn value<'a>(matches: &ArgMatches<'a>, name: &str) -> Option<&'a str>
     matches.get_str(name)
 }
 
-/// Whether a flag of this value stands among the words.
+/// Whether a flag of this value is among the words.
 fn is_on(value: Option<&str>) -> bool
     ensures { result ≡ is_on (option_map (λ s. s.now) value.entry) }
 {

@@ -23,7 +23,8 @@ abbrev pub code_without : NoWords → ℕ
 code_without without.Memory = 7
 code_without without.Texts = 9
 
--- The exit code is that of a status which says this of the account and of the output before and after the run.
+-- The exit code is that of a status which says this of the account and of the output before and
+-- after the run.
 pub record EndsWithCode (code : ℕ) (a : Account) (before after : Option (List ℕ)) : Type 0 where
   pub status : Status
   pub is : code ≡ code_of status

@@ -29,7 +29,7 @@ fn main(rt: HostRuntime) -> ExitCode {
     ExitCode::from(answer(rt.alloc(), words(&rt), &mut folder, &mut out, &mut err))
 }
 
-/// The program's name and the words behind it.
+/// The program's name and the words after it.
 fn words(rt: &HostRuntime) -> Result<Vec<String>, NoWords> {
     let args = match env::args(rt) {
         Ok(args) => args,
@@ -42,7 +42,7 @@ fn words(rt: &HostRuntime) -> Result<Vec<String>, NoWords> {
     }
 }
 
-/// Runs with these words, and answers the exit code.
+/// Runs with these words, and returns the exit code.
 fn answer<F: Folder, K: Sink, E: Sink>(
     alloc: Global,
     words: Result<Vec<String>, NoWords>,

@@ -3,7 +3,7 @@ use Rattle.xl_script.specs.Texts.{script_lines}
 use Rattle.xl_script.specs.Scripts.{after, lines_read}
 use Rattle.xl_script.proofs.form.read_text.Given as goal
 
--- the commands so far and the lines left come to what the whole text comes to
+-- the commands so far and the lines left read as the whole text does
 abbrev pub invariant-loop-at : goal.invariant-loop-at
 invariant-loop-at g l = record {
   reading : after l.commands.items (lines_read g.F.Form.said l.form l.number (script_lines (drop l.at l.text)))

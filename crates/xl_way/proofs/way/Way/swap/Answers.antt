@@ -18,7 +18,7 @@ overflow_add-self c =
     let l = few-used s.places.number s.cap s.places.regs s.slots.items s.used c.self.invariant in
     omega arith
 
--- where no entry stood in the slot
+-- where no entry was in the slot
 pub invariant_of-self : goal.invariant_of-self
 invariant_of-self c =
     let s = c.self.inside in
@@ -48,7 +48,7 @@ returns-then-left-eq0-clause-shape c =
     swapped-now c.self.inside c.args.self.now c.deref_mut.result.now c.exchange-left.new.slots c.slot-at.result (record { key = c.args.key; word = c.args.word })
     c.self.invariant c.self.view_is c.deref_mut.ensures.value c.exchange-left.ensures.slots c.slot-at.ensures.is c.requires
 
--- where an entry stood there
+-- where an entry was there
 pub invariant_of-self-else-left-eq0 : goal.invariant_of-self-else-left-eq0
 invariant_of-self-else-left-eq0 c =
     let s = c.self.inside in
