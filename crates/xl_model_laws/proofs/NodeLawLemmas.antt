@@ -9,8 +9,8 @@ use Rattle.xl_model.specs.Changes.{Change, changed}
 use Rattle.xl_model.specs.Nodes.{up, Node, is_below, in_nodes, is_under, number_of, put_first, unless_there, with_node, with_path, with_leaf_nodes, is_needed, kept_node, only_needed, roots, opening_nodes}
 use Rattle.xl_model.specs.Shapes.{brought}
 use Rattle.xl_model_lemmas.proofs.MemberLemmas.{any-In}
-use Rattle.xl_model_lemmas.proofs.NumberLemmas.{position-none, is-new, kept-at}
-use Rattle.xl_model_lemmas.proofs.FreshNodeLemmas.{NodesFull, wide, HasPath, wide-at, full-after}
+use Rattle.xl_model_laws.proofs.NumberLemmas.{position-none, is-new, kept-at}
+use Rattle.xl_model_laws.proofs.FreshNodeLemmas.{NodesFull, wide, HasPath, wide-at, full-after}
 use Rattle.xl_model_laws.specs.Nodes.{root_of, IsNodeOf, AreNumbered}
 
 -- a node at a number, and the tests that it passes

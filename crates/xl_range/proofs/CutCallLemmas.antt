@@ -7,12 +7,12 @@ use Rattle.xl_model.specs.declared.leaf.Range.{Range}
 use Rattle.xl_model.specs.Addresses.{pages_of}
 use Rattle.xl_model.specs.Ranges.{range_key, end_key}
 use Rattle.xl_model_lemmas.specs.Members.{In}
-use Rattle.xl_model_lemmas.specs.HeldRanges.{IsHeld, pages_before, pages_behind, part_behind, before_on, behind_on, some_if, IsLeafIn, cut}
-use Rattle.xl_model_lemmas.proofs.TouchLemmas.{some-pages}
-use Rattle.xl_model_lemmas.proofs.JoinLemmas.{In-key, In-range}
-use Rattle.xl_model_lemmas.proofs.LeafInLemmas.{Sizes, sizes}
-use Rattle.xl_model_lemmas.proofs.CutLemmas.{head-cut, next-cut, held-cut}
-use Rattle.xl_model_lemmas.proofs.CutCountLemmas.{cut-count}
+use Rattle.xl_range.specs.HeldRanges.{IsHeld, pages_before, pages_behind, part_behind, before_on, behind_on, some_if, IsLeafIn, cut}
+use Rattle.xl_range.proofs.TouchLemmas.{some-pages}
+use Rattle.xl_range.proofs.JoinLemmas.{In-key, In-range}
+use Rattle.xl_range.proofs.LeafInLemmas.{Sizes, sizes}
+use Rattle.xl_range.proofs.CutLemmas.{head-cut, next-cut, held-cut}
+use Rattle.xl_range.proofs.CutCountLemmas.{cut-count}
 use Rattle.xl_treap.specs.Treaps.{TreapView, keeping, with_range, without_range, resized, has_key, IsApart}
 use Rattle.xl_range.specs.Cuts.{kept_cut, kept_behind, IsInside}
 use Rattle.xl_range.proofs.HoldLemmas.{fit-range, apart-held, with-front, own-key, length-with, key-there, apart-resized}

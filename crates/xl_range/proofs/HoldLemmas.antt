@@ -5,9 +5,9 @@ use Rattle.std.specs.List.{list_any}
 use Rattle.xl_model.specs.declared.leaf.Range.{Range}
 use Rattle.xl_model.specs.Ranges.{range_key, end_key}
 use Rattle.xl_model_lemmas.specs.Members.{In}
-use Rattle.xl_model_lemmas.specs.HeldRanges.{IsRange, IsHeld}
-use Rattle.xl_model_lemmas.proofs.JoinLemmas.{lower, In-key}
-use Rattle.xl_model_lemmas.proofs.TouchLemmas.{some-pages}
+use Rattle.xl_range.specs.HeldRanges.{IsRange, IsHeld}
+use Rattle.xl_range.proofs.JoinLemmas.{lower, In-key}
+use Rattle.xl_range.proofs.TouchLemmas.{some-pages}
 use Rattle.xl_treap.specs.Treaps.{with_range, without_range, resized, has_key, IsFit, IsApart}
 
 pub fit-range : (r : Range) → IsRange r → IsFit r

@@ -13,12 +13,12 @@ use Rattle.xl_model.specs.Room.{has_room}
 use Rattle.xl_model.specs.Shapes.{Runs}
 use Rattle.xl_model.specs.Structures.{IsBlock}
 use Rattle.xl_model_lemmas.specs.Members.{In}
-use Rattle.xl_model_lemmas.specs.HeldRanges.{spread, IsRange, IsHeld, IsClear, join, cut, leaf_in}
+use Rattle.xl_range.specs.HeldRanges.{spread, IsRange, IsHeld, IsClear, join, cut, leaf_in}
 use Rattle.xl_model_lemmas.proofs.MemberLemmas.{In-any}
 use Rattle.xl_model_lemmas.proofs.PlaceLemmas.{named-space, named-first, named-order}
 use Rattle.xl_model_lemmas.proofs.MappingLemmas.{named-In, named-is}
 use Rattle.xl_model_lemmas.proofs.OrderLemmas.{pages-some}
-use Rattle.xl_model_lemmas.proofs.MeetRangeLemmas.{clear-any}
+use Rattle.xl_range.proofs.MeetRangeLemmas.{clear-any}
 use Rattle.xl_model_lemmas.proofs.SortedLemmas.{with-without}
 use Rattle.xl_treap.specs.Treaps.{TreapView, keeping}
 use Rattle.xl_range.specs.Rows.{IsTable, IsDone, HasRanges, HasLeaf}

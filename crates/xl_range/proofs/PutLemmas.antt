@@ -3,9 +3,9 @@ use Rattle.std.proofs.Common.{◌≡◌, refl, sym, ap, ◌∙◌, subst, ℕ, s
 use Rattle.std.proofs.lemmas.Bool.Decides.{nat_tests}
 use Rattle.xl_model.specs.declared.leaf.Range.{Range}
 use Rattle.xl_model.specs.Ranges.{range_key, end_key}
-use Rattle.xl_model_lemmas.specs.HeldRanges.{touches, IsRange, IsHeld, IsClear, grown, glue, join}
-use Rattle.xl_model_lemmas.proofs.TouchLemmas.{Touch, touch, touch-key, grown-touches, some-pages, not-touching}
-use Rattle.xl_model_lemmas.proofs.JoinLemmas.{held-behind, held-join}
+use Rattle.xl_range.specs.HeldRanges.{touches, IsRange, IsHeld, IsClear, grown, glue, join}
+use Rattle.xl_range.proofs.TouchLemmas.{Touch, touch, touch-key, grown-touches, some-pages, not-touching}
+use Rattle.xl_range.proofs.JoinLemmas.{held-behind, held-join}
 use Rattle.xl_treap.specs.Treaps.{with_range, without_range, resized, last_below, first_from, of_space, last_or, IsApart}
 use Rattle.xl_range.specs.Puts.{next_of, prev_of, next_where, prev_where, range_taken, kept_taken, kept_put, put_by, IsThere, one_if}
 use Rattle.xl_range.proofs.HoldLemmas.{with-front, own-key, length-with, length-without, length-resized, apart-held}

@@ -9,7 +9,7 @@ use Rattle.xl_model.specs.declared.leaf.Range.{Range}
 use Rattle.xl_model.specs.Addresses.{pages_of, same_order}
 use Rattle.xl_model.specs.Base.{same_bit}
 use Rattle.xl_model.specs.Ranges.{same_perm, range_of_leaf, goes_into, joined, ranges_of, end_key}
-use Rattle.xl_model_lemmas.specs.HeldRanges.{next_leaf, run_on, first_leaf, leaves_in, spread, range_from, begins, Stops, IsRange, IsHeld}
+use Rattle.xl_range.specs.HeldRanges.{next_leaf, run_on, first_leaf, leaves_in, spread, range_from, begins, Stops, IsRange, IsHeld}
 use Rattle.xl_model_lemmas.proofs.OrderLemmas.{order-same}
 
 bit-same : (b : Bool) → same_bit b b ≡ true

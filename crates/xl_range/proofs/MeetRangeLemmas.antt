@@ -8,9 +8,9 @@ use Rattle.xl_model.specs.declared.leaf.Range.{Range}
 use Rattle.xl_model.specs.Addresses.{pages_of}
 use Rattle.xl_model.specs.Mapping.{meets_block, meets_any}
 use Rattle.xl_model.specs.Ranges.{range_key, range_of_leaf, end_key}
-use Rattle.xl_model_lemmas.specs.HeldRanges.{next_leaf, run_on, first_leaf, spread, IsRange, IsHeld, IsClear, meets_range}
+use Rattle.xl_range.specs.HeldRanges.{next_leaf, run_on, first_leaf, spread, IsRange, IsHeld, IsClear, meets_range}
 use Rattle.xl_model_lemmas.proofs.OrderLemmas.{pages-some}
-use Rattle.xl_model_lemmas.proofs.RunLemmas.{leaves-is}
+use Rattle.xl_range.proofs.RunLemmas.{leaves-is}
 
 -- Two tests of which each follows from the other are one.
 both-so : (a b : Bool) → (a ≡ true → b ≡ true) → (b ≡ true → a ≡ true) → a ≡ b

@@ -22,7 +22,7 @@ use Rattle.xl_model_lemmas.proofs.ChangeLemmas.{changed-In}
 use Rattle.xl_model_lemmas.specs.Mappings.{IsFound}
 use Rattle.xl_model_lemmas.specs.Fresh.{TagFresh, LevelFresh, TagsFresh}
 use Rattle.xl_model_lemmas.proofs.RecencyLemmas.{touched-In, newest-In, purged-In}
-use Rattle.xl_model_lemmas.proofs.NumberLemmas.{position-none, position-at, path-at, path-has, path-puts, kept-at, kept-has}
+use Rattle.xl_model_laws.proofs.NumberLemmas.{position-none, position-at, path-at, path-has, path-puts, kept-at, kept-has}
 
 -- every node below the root that the mapping needs is there
 pub record NodesFull (levels : ℕ) (leaves : List Leaf) (nodes : List (Option Node)) : Type 0 where
