@@ -144,7 +144,7 @@ tags-after levels level c leaves nodes (d ∷ ds) (here, rest) = (
   tags-after levels (level + 1) c leaves nodes ds rest,
 )
 
-node-by : (y : Node) (s l p : ℕ) → y.space ≡ s → y.level ≡ l → y.prefix ≡ p → y ≡ record { space = s; level = l; prefix = p }
+pub node-by : (y : Node) (s l p : ℕ) → y.space ≡ s → y.level ≡ l → y.prefix ≡ p → y ≡ record { space = s; level = l; prefix = p }
 node-by y s l p a b c = rw (← a, ← b, ← c) refl
 
 -- what a walk fills in

@@ -22,7 +22,7 @@ pub record AtHead (low : ℕ) (r : Range) (rs : List Range) : Type 0 where
   pub stops : Stops r rs
   pub rest : IsHeld (end_key r) rs
 
-own-key : (r : Range) → (range_key r == range_key r) ≡ true
+pub own-key : (r : Range) → (range_key r == range_key r) ≡ true
 own-key r = grind (arith, nat_tests)
 
 pub head-cut : (first : ℕ) (o : Order) (r : Range) (rs : List Range) → cut first o r (r ∷ rs) ≡ pieces first o r rs

@@ -171,9 +171,6 @@ has-ranges t new rs leaves e a =
     let H : List Range → Type 0 = λ ys. IsHeld 0 ys in
     record { held = subst H (sym k) a.held; leaves = ap spread k ∙ a.leaves_are; rest = e ∙ ap (keeping t) (sym k) }
 
-pub same-bools : (b : Bool) → b ≡ true → b ≡ false → ⊥
-same-bools b t f = let e : true ≡ false = sym t ∙ f in absurd (cc)
-
 -- An insertion.
 pub insert-clear : (n : ℕ) (t : TreapView) (leaf : Leaf) → IsTable n t → IsLeafFor (Runs n) leaf → meets_any leaf.space leaf.first leaf.order (spread t.kept) ≡ false → IsClear (range_of_leaf leaf) t.kept
 insert-clear n t leaf whole valid free = clear-any leaf t.kept whole.held (let l = valid.block.pages_in in omega arith) free

@@ -222,15 +222,6 @@ meets-is o s first e leaves a b c d =
     ∙ ap (λ t. t || list_any (lies_in o key) leaves) (any-find (covers s first) leaves)
     ∙ ap (λ t. is_some (find (covers s first) leaves) || t) (lies-any o key leaves))
 
--- a leaf that is found has its own name
-pub found-named : (s page : ℕ) (x : Leaf) (leaves : List Leaf) → leaf_at_page s page leaves ≡ Some x → IsNamed x.space x.first x.order leaves
-unfolding leaf_at_page leaf_named
-found-named s page x leaves h =
-    sym (any-find (is_leaf x.space x.first x.order) leaves) ∙ In-any (is_leaf x.space x.first x.order) x leaves (find-In (covers s page) x leaves h) named
-  where
-    named : is_leaf x.space x.first x.order x ≡ true
-    named = grind (arith, nat_tests)
-
 -- among leaves that aren't smaller than a block, the one that covers a page is found
 abbrev pub from-only : Order → Option Leaf → Option Leaf
 from-only order.K4 q = q

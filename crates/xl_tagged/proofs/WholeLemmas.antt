@@ -28,7 +28,7 @@ use Rattle.xl_model_lemmas.specs.Sections.{IsAligned}
 use Rattle.xl_model_lemmas.proofs.InsertionLemmas.{with-In, without-In}
 use Rattle.xl_model_lemmas.proofs.MappingLemmas.{named-In, named-is}
 use Rattle.xl_model_lemmas.proofs.MemberLemmas.{In-any, any-false, filter-In, filter-passes, In-filter}
-use Rattle.xl_model_lemmas.proofs.PlaceLemmas.{named-space, named-first, named-order}
+use Rattle.xl_model_lemmas.proofs.PlaceLemmas.{named-space, named-first, named-order, aligned-frame}
 use Rattle.xl_model_lemmas.proofs.SameLemmas.{both}
 use Rattle.xl_model_lemmas.proofs.TagLemmas.{named-tag}
 use Rattle.xl_pte.specs.ReadBack.{MadeWordsReadBack}
@@ -77,12 +77,6 @@ whole-of back f old new s t ys w h rest counted =
       counted = subst (λ zs. AreCounted zs new.shape.entries t) (sym leaves) (subst (λ n. AreCounted ys n t) (sym entries) counted);
     }
 
--- a leaf that the table can take
-frames : (o : Order) (frame e : ℕ) → frame ≡ e * pages_of o → frame % 2 ^ (9 * level_of o) ≡ 0
-frames order.K4 frame e h = omega arith
-frames order.M2 frame e h = omega arith
-frames order.G1 frame e h = omega arith
-
 low : (o : Order) (n m : ℕ) → n + pages_of o ≤ m → n < m
 low order.K4 n m h = omega arith
 low order.M2 n m h = omega arith
@@ -95,7 +89,7 @@ pub fit-of : (f : Form) (c : ChainState) (x : Leaf) → IsLeafFor (table_in f c)
 fit-of f c x v = record {
   aligned = record { placed = record { space_in = v.block.space_in; page_in = low x.order x.first (2 ^ 45) v.block.pages_in }; aligned = v.block.aligned };
   frame_in = low x.order x.frame (2 ^ 44) v.frames_in;
-  frame_aligned = frames x.order x.frame v.frames_aligned.0 v.frames_aligned.1;
+  frame_aligned = aligned-frame x.order x.frame v.frames_aligned.0 v.frames_aligned.1;
 }
 
 free-of : (x : Leaf) (xs : List Leaf) → meets_any x.space x.first x.order xs ≡ false → (y : Leaf) → In y xs → meets_block x.space x.first x.order y ≡ false

@@ -3,10 +3,10 @@ use Rattle.std.proofs.Common.{◌≡◌, refl, sym, ap, ◌∙◌, subst, ℕ, s
 use Rattle.xl_model.specs.Ranges.{range_key, end_key, is_above}
 use Rattle.xl_treap.specs.Trees.{Tree, Tip, Bin, IsAt, InOrder, Over, IsHeap, down, cut_low, cut_high}
 use Rattle.xl_treap.specs.Steps.{SameLine, Each, Off, IsCut, CanPart, TopOver, IsHung}
-use Rattle.xl_treap.proofs.OrderLemmas.{pick-yes, pick-no}
 use Rattle.xl_treap.proofs.AboveLemmas.{above-total, over-chain}
 use Rattle.xl_treap.proofs.WayLemmas.{child, down-next, order-down, heap-down, at-there}
 use Rattle.xl_treap.proofs.FrameLemmas.{each-map, at-keeps, frame, off-key, linked-line, linked-three, Hung, hung-low, hung-high}
+use Rattle.xl_model_lemmas.proofs.SameLemmas.{pick-yes, pick-no}
 
 pub each-low : (P : ℕ → Type 0) (k : ℕ) (t : Tree) → Each P t → Each P (cut_low k t)
 each-low P k Tip e = tt

@@ -9,8 +9,9 @@ use Rattle.xl_treap.specs.Treaps.{with_range, without_range, resized}
 use Rattle.xl_treap.specs.Lines.{left_at, right_at}
 use Rattle.xl_treap.specs.Trees.{Tree, Tip, Bin, ranges, IsAt, InOrder, Over, IsHeap, down, graft, cut_low, cut_high}
 use Rattle.xl_treap.specs.Steps.{SameLine, Each, Off, SameOff}
-use Rattle.xl_treap.proofs.OrderLemmas.{pick-yes, pick-no, side, order-In}
+use Rattle.xl_treap.proofs.OrderLemmas.{side, order-In}
 use Rattle.xl_treap.proofs.FrameLemmas.{each-map, each-off, at-keeps, frame, off-key, node-same, with_child}
+use Rattle.xl_model_lemmas.proofs.SameLemmas.{pick-yes, pick-no}
 
 pub down-In : (y : Range) (t : Tree) (k d : ℕ) → In y (ranges (down t k d)) → In y (ranges t)
 down-In y t k zero i = i

@@ -9,13 +9,14 @@ use Rattle.xl_treap.specs.Treaps.{IsFit, IsApart, with_range}
 use Rattle.xl_treap.specs.Lines.{IsNode}
 use Rattle.xl_treap.specs.Trees.{Tree, Tip, Bin, ranges, IsAt, InOrder, IsHeap, Over, down, graft, cut_low, cut_high}
 use Rattle.xl_treap.specs.Steps.{IsAttached, IsLinked, IsLined, SameLine, Each, Off, SameOff, TopOver, IsWay, IsMade, CanPart, CanPut, IsParted, parent_at}
-use Rattle.xl_treap.proofs.OrderLemmas.{pick-yes, pick-no, side, apart-within, within-In, order-apart, fit-end}
+use Rattle.xl_treap.proofs.OrderLemmas.{side, apart-within, within-In, order-apart, fit-end}
 use Rattle.xl_treap.proofs.AboveLemmas.{above-chain}
 use Rattle.xl_treap.proofs.WayLemmas.{child, down-next, order-down, heap-down}
 use Rattle.xl_treap.proofs.FrameLemmas.{each-map, at-keeps, frame, node-same, linked-line, linked-three, with_child}
 use Rattle.xl_treap.proofs.CutLemmas.{each-low, each-high}
 use Rattle.xl_treap.proofs.GraftLemmas.{down-In, each-down, graft-with, cut-with, heap-graft, over-low, over-high, heap-low, heap-high, graft-next}
 use Rattle.xl_treap.proofs.AttachLemmas.{same-or-not, top-each, off-child, Attached, IsParent, attached, parent-there, off-empty, lined-line}
+use Rattle.xl_model_lemmas.proofs.SameLemmas.{pick-yes, pick-no}
 
 with-In : (x : Range) (xs : List Range) → In x (with_range x xs)
 with-In x [] = inl refl
