@@ -52,7 +52,7 @@ holder i (w ∷ ways) key h = go (is_held w key) (word_of key w.entries) refl re
     go false (Some n) t u e rest = let z : false ≡ true = sym t ∙ e ∙ ap (λ (q : Option ℕ). is_some q) u in absurd (cc)
 
 -- the word under the tag of a page
-level-ways : (o : Order) (ws : CuckooWays) → ways_at (level_of o) ws ≡ ways_of o ws
+pub level-ways : (o : Order) (ws : CuckooWays) → ways_at (level_of o) ws ≡ ways_of o ws
 level-ways order.K4 ws = refl
 level-ways order.M2 ws = refl
 level-ways order.G1 ws = refl

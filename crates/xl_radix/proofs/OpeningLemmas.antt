@@ -50,7 +50,7 @@ free-at levels a zero k i h = none-at k i
 free-at levels a (suc n) k zero h = absurd (omega arith)
 free-at levels a (suc n) k (suc i) h = free-at levels (a + 1) n k i (omega arith)
 
-length-roots : (levels a n : ℕ) → length (roots levels a n) ≡ n
+pub length-roots : (levels a n : ℕ) → length (roots levels a n) ≡ n
 length-roots levels a zero = refl
 length-roots levels a (suc n) = let e = length-roots levels (a + 1) n in rw e refl
 

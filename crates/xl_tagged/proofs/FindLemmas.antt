@@ -117,7 +117,7 @@ module _ (back : MadeWordsReadBack) (f : Form) (s page : ℕ) (values : ℕ → 
 abbrev pub lies_in : Order → ℕ → Leaf → Bool
 lies_in size key x = is_smaller size x.order && counts_at size key x
 
-either : (a b : ℕ) → (not (a == 0) || not (b == 0)) ≡ not (a + b * 2 ^ 22 == 0)
+pub either : (a b : ℕ) → (not (a == 0) || not (b == 0)) ≡ not (a + b * 2 ^ 22 == 0)
 either a b = same-tests (not (a == 0) || not (b == 0)) (not (a + b * 2 ^ 22 == 0)) (λ t. grind (arith, nat_tests)) (λ t. grind (arith, nat_tests))
 
 -- a section's word tells whether a smaller leaf lies in it
