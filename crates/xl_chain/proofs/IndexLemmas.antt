@@ -5,7 +5,7 @@ use Rattle.std.proofs.lemmas.Bool.Decides.{nat_tests}
 use Rattle.xl_model.specs.Chains.{bucket_of, has_tag}
 use Rattle.xl_model_lemmas.specs.Members.{In}
 use Rattle.xl_model_lemmas.proofs.MemberLemmas.{find-In, find-passes}
-use Rattle.xl_model_lemmas.proofs.BucketLemmas.{length-by}
+use Rattle.xl_model_lemmas.proofs.BucketLemmas.{length-by, unequal}
 use Rattle.xl_chain.specs.declared.shape.Seek.TheVariants as seek
 use Rattle.xl_chain.specs.Held.{Held, ChainState, has, tags_of, held_with, first_value, entry_of, found_of, in_front_of, without_tag, with_value}
 use Rattle.xl_chain.specs.Kept.{IsInserted}
@@ -13,7 +13,7 @@ use Rattle.xl_chain.specs.Lines.{AreSingle, WordsReadBack}
 use Rattle.xl_chain.specs.Places.{place_at, tag_led, set_place, moved, placed, IsTaken, IsFirst, place_found, told, IsIndex}
 use Rattle.xl_chain.proofs.FrontLemmas.{absent}
 use Rattle.xl_chain.proofs.FindLemmas.{has_found}
-use Rattle.xl_chain.proofs.MovedLemmas.{test-no, moved-same, placed-same}
+use Rattle.xl_chain.proofs.MovedLemmas.{moved-same, placed-same}
 
 -- what is found of a tag, after a change of what is held
 with-front : (n t : ℕ) (x : Held) (hs : List Held) → ((h : Held) → In h hs → h.tag ≡ x.tag → ⊥) → held_with t (in_front_of n x hs) ≡ cond (x.tag == t) (Some x) (held_with t hs)
@@ -23,7 +23,7 @@ with-front n t x (y ∷ hs) fresh =
     elim (nat_lt (bucket_of n y.tag) (bucket_of n x.tag)) as (λ b. find (has t) (cond b (y ∷ in_front_of n x hs) (x ∷ y ∷ hs)) ≡ cond (x.tag == t) (Some x) (cond (y.tag == t) (Some y) (find (has t) hs))) [
       | true ↦ elim (y.tag == t) as (λ b. (y.tag == t) ≡ b → cond b (Some y) (find (has t) (in_front_of n x hs)) ≡ cond (x.tag == t) (Some x) (cond b (Some y) (find (has t) hs))) [
         | true ↦ λ b. let is : y.tag ≡ t = grind (arith, nat_tests) in
-            ap (λ c. cond c (Some x) (Some y)) (sym (test-no x.tag t (λ z. fresh y (inl refl) (is ∙ sym z))))
+            ap (λ c. cond c (Some x) (Some y)) (sym (unequal x.tag t (λ z. fresh y (inl refl) (is ∙ sym z))))
         | false ↦ λ b. with-front n t x hs (λ h i. fresh h (inr i))
       ] refl
       | false ↦ refl
@@ -38,11 +38,11 @@ with-less tag t (y ∷ hs) =
       | true ↦ λ b. let is : y.tag ≡ tag = grind (arith, nat_tests) in
           rest ∙ elim (tag == t) as (λ c. (tag == t) ≡ c → cond c None (find (has t) hs) ≡ cond c None (cond (y.tag == t) (Some y) (find (has t) hs))) [
             | true ↦ λ c. refl
-            | false ↦ λ c. ap (λ d. cond d (Some y) (find (has t) hs)) (sym (test-no y.tag t (λ z. let h : tag ≡ t = sym is ∙ z in grind (arith, nat_tests))))
+            | false ↦ λ c. ap (λ d. cond d (Some y) (find (has t) hs)) (sym (unequal y.tag t (λ z. let h : tag ≡ t = sym is ∙ z in grind (arith, nat_tests))))
           ] refl
       | false ↦ λ b. elim (y.tag == t) as (λ c. (y.tag == t) ≡ c → cond c (Some y) (find (has t) (without_tag tag hs)) ≡ cond (tag == t) None (cond c (Some y) (find (has t) hs))) [
         | true ↦ λ c. let is : y.tag ≡ t = grind (arith, nat_tests) in
-            ap (λ d. cond d None (Some y)) (sym (test-no tag t (λ z. let h : y.tag ≡ tag = is ∙ sym z in grind (arith, nat_tests))))
+            ap (λ d. cond d None (Some y)) (sym (unequal tag t (λ z. let h : y.tag ≡ tag = is ∙ sym z in grind (arith, nat_tests))))
         | false ↦ λ c. rest
       ] refl
     ] refl
@@ -116,7 +116,7 @@ told-set c tag e v p t words single found =
                 ap (λ x. Some (first_value (cond x (record h { values = slice_set h.values 0 p }) h).values)) d
                 ∙ ap Some (first-set h.values p (let n = (words.lines h i).count in omega arith))
             | false ↦ λ b.
-                let d : (h.entry == e) ≡ false = test-no h.entry e (λ z.
+                let d : (h.entry == e) ≡ false = unequal h.entry e (λ z.
                 let same : h ≡ here.0 = single.by_entry h here.0 i here.1 (z ∙ sym here.3) in
                 let u : tag ≡ t = sym here.2 ∙ sym (ap (λ (x : Held). x.tag) same) ∙ is in grind (arith, nat_tests)) in
                 ap (λ x. Some (first_value (cond x (record h { values = slice_set h.values 0 p }) h).values)) d

@@ -9,7 +9,7 @@ use Rattle.xl_model.specs.Chains.{bucket_of}
 use Rattle.xl_model_lemmas.specs.Members.{In}
 use Rattle.xl_model_lemmas.specs.Buckets.{gather}
 use Rattle.xl_model_lemmas.proofs.MemberLemmas.{map-In, any-In, In-any, find-In, find-passes, find-only}
-use Rattle.xl_model_lemmas.proofs.GatherLemmas.{gather-In, ArePlaced}
+use Rattle.xl_chain.proofs.GatherLemmas.{gather-In, ArePlaced}
 use Rattle.xl_chain.specs.declared.shape.ChainShape.{ChainShape}
 use Rattle.xl_chain.specs.Layout.{base_at, place_of_value}
 use Rattle.xl_chain.specs.Back.{Searched}

@@ -9,12 +9,13 @@ use Rattle.xl_chain.specs.Held.{tag_in, next_in, chain_in, seen_in}
 use Rattle.xl_chain.specs.Kept.{IsChain, Apart, IsTable, IsFront}
 use Rattle.xl_chain.specs.Steps.{IsPast}
 use Rattle.xl_chain.specs.Places.{tag_by, set_place, moved, placed, IsTaken}
-use Rattle.xl_chain.proofs.SearchLemmas.{pick-yes}
 use Rattle.xl_chain.proofs.PlaceLemmas.{IsSet, is-set}
 use Rattle.xl_chain.proofs.FrontLemmas.{Fronted}
 use Rattle.xl_chain.proofs.RemovalLemmas.{place_in, left_in, left-all, gone, Removed}
 use Rattle.xl_chain.proofs.ValueLemmas.{Valued}
 use Rattle.xl_chain.proofs.SpotLemmas.{spot, some_bucket, place-read}
+use Rattle.xl_model_lemmas.proofs.BucketLemmas.{unequal}
+use Rattle.xl_model_lemmas.proofs.SameLemmas.{pick-yes}
 
 -- what a change of places makes of a tag goes by the tag's place before
 pub moved-same : (x : Option ℕ) (p t : ℕ) (f g : ℕ → Option ℕ) → f t ≡ g t → moved x p f t ≡ moved x p g t
@@ -24,15 +25,12 @@ moved-same (Some x) p t f g e = ap (λ o. cond (x == t) (set_place p o) o) e
 pub placed-same : (tag t : ℕ) (to : Option ℕ) (f g : ℕ → Option ℕ) → f t ≡ g t → placed tag to f t ≡ placed tag to g t
 placed-same tag t to f g e = ap (λ o. cond (tag == t) to o) e
 
-pub test-no : (x t : ℕ) → (x ≡ t → ⊥) → (x == t) ≡ false
-test-no x t n = elim (x == t) as (λ b. (x == t) ≡ b → b ≡ false) [ true ↦ λ b. absurd (n (grind (arith, nat_tests))) | false ↦ λ b. refl ] refl
-
 placed-other : (tag t : ℕ) (to : Option ℕ) (f : ℕ → Option ℕ) → (tag ≡ t → ⊥) → placed tag to f t ≡ f t
-placed-other tag t to f n = ap (λ c. cond c to (f t)) (test-no tag t n)
+placed-other tag t to f n = ap (λ c. cond c to (f t)) (unequal tag t n)
 
 moved-other : (x : Option ℕ) (p t : ℕ) (f : ℕ → Option ℕ) → ((y : ℕ) → x ≡ Some y → y ≡ t → ⊥) → moved x p f t ≡ f t
 moved-other None p t f n = refl
-moved-other (Some x) p t f n = ap (λ c. cond c (set_place p (f t)) (f t)) (test-no x t (n x refl))
+moved-other (Some x) p t f n = ap (λ c. cond c (set_place p (f t)) (f t)) (unequal x t (n x refl))
 
 -- the first tag of a chain, and the one after the entry of a tag
 abbrev first_in : ChainShape → List ℕ → List ℕ → Option ℕ
@@ -78,7 +76,7 @@ place-same s old new t p (e ∷ es) h =
 
 place-absent : (s : ChainShape) (words : List ℕ) (t p : ℕ) (es : List ℕ) → ((x : ℕ) → In x es → tag_in s words x ≡ t → ⊥) → place_in s words t p es ≡ None
 place-absent s words t p [] n = refl
-place-absent s words t p (e ∷ es) n = rw (test-no (tag_in s words e) t (n e (inl refl))) (place-absent s words t (base_at s e + 1) es (λ x i. n x (inr i)))
+place-absent s words t p (e ∷ es) n = rw (unequal (tag_in s words e) t (n e (inl refl))) (place-absent s words t (base_at s e + 1) es (λ x i. n x (inr i)))
 
 -- from another word the first entry alone has another place
 place-first : (s : ChainShape) (words : List ℕ) (t p n : ℕ) (es : List ℕ) → place_in s words t n es ≡ moved (first_in s words es) n (λ u. place_in s words u p es) t
@@ -96,7 +94,7 @@ place-gone s words tag t p q [] a w = absurd (cc)
 place-gone s words tag t p q (e ∷ es) (first, others) w =
     let f : ℕ → Option ℕ = λ u. place_in s words u p (e ∷ es) in
     let g : ℕ → Option ℕ = λ u. place_in s words u (base_at s e + 1) es in
-    let skip : (tag_in s words e ≡ t → ⊥) → f t ≡ g t = (λ n. ap (λ c. cond c (Some p) (g t)) (test-no (tag_in s words e) t n)) in
+    let skip : (tag_in s words e ≡ t → ⊥) → f t ≡ g t = (λ n. ap (λ c. cond c (Some p) (g t)) (unequal (tag_in s words e) t n)) in
     elim (tag_in s words e == tag) as (λ b. (tag_in s words e == tag) ≡ b → cond b (Some p) (g tag) ≡ Some q
     → place_in s words t p (cond (not b) (e ∷ left_in s words tag es) (left_in s words tag es)) ≡ placed tag None (moved (cond b (first_in s words es) (behind_in s words tag es)) q f) t) [
       | true ↦ λ b k.

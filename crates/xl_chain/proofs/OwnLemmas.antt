@@ -10,9 +10,10 @@ use Rattle.xl_chain.specs.Layout.{base_at, line_at}
 use Rattle.xl_chain.specs.Back.{Searched, ended, loaded_before, visit_of, visited, search_from}
 use Rattle.xl_chain.specs.Held.{next_in, chain_in}
 use Rattle.xl_chain.specs.Kept.{IsChain, IsTable, IsLinked, AreLinked}
-use Rattle.xl_chain.proofs.SearchLemmas.{pick-no, from-visit, more-loads}
+use Rattle.xl_chain.proofs.SearchLemmas.{from-visit, more-loads}
 use Rattle.xl_chain.proofs.PlaceLemmas.{base_past}
 use Rattle.xl_chain.proofs.FrontLemmas.{chain-short}
+use Rattle.xl_model_lemmas.proofs.SameLemmas.{pick-no}
 
 pub are-linked : (s : ChainShape) (words free : List ℕ) → IsTable s words free → AreLinked s words
 are-linked s words free t = record {

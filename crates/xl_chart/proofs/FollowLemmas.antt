@@ -33,6 +33,7 @@ use Rattle.xl_model_lemmas.proofs.MemberLemmas.{find-In, find-None, find-passes}
 use Rattle.xl_model_lemmas.proofs.OrderLemmas.{orders-same}
 use Rattle.xl_curve.specs.Tests.{purges}
 use Rattle.xl_chart.specs.Follows.{page_reach, followed}
+use Rattle.xl_model_lemmas.proofs.RuleLemmas.{or-second, or-first}
 
 -- a purge of a leaf is one by its name
 purged-named : (p : Purge) (old : Leaf) (space first : ℕ) (o : Order) → is_leaf space first o old ≡ true → is_purged p old ≡ purges p space first o
@@ -73,14 +74,6 @@ named-there leaves space page o ruled = go (find (covers space page) leaves) ref
     go None is r = absurd (cc)
     go (Some x) is r = seen x (find-In (covers space page) x leaves is) (tested (is_leaf space page o x) r) (find (is_leaf space page o) leaves) refl
 
-second-none : (a b : Option Refusal) → or_else a b ≡ None → b ≡ None
-second-none None b e = e
-second-none (Some r) b e = absurd (cc)
-
-first-none : (a b : Option Refusal) → or_else a b ≡ None → a ≡ None
-first-none None b e = refl
-first-none (Some r) b e = absurd (cc)
-
 -- the purge of a named leaf
 purged-there : (p : Purge) (leaves : List Leaf) (space page : ℕ) (o : Order) (c : HitCurve) → named_rule (leaf_at_page space page leaves) space page o ≡ None
     → curve_without (purges p space page o) c ≡ curve_purged p (leaf_named space page o leaves) c
@@ -107,13 +100,13 @@ ruled-followed row (event.Access va kind) s c ruled done = absurd (cc)
 ruled-followed row (event.Map space va o perm) s c ruled done =
     sym (ap (λ (m : Option Leaf). curve_purged row.purge m c) (map-old row s.table.leaves (record { space = space; first = page_of row.mode va; order = o; frame = 0; perm = perm }) space (page_of row.mode va) o (lowest row.frames o s.table.leaves)))
 ruled-followed row (event.Unmap space va o) s c ruled done =
-    purged-there row.purge s.table.leaves space (page_of row.mode va) o c (second-none (place_rule row space o (va ∷ [])) (there_rule row s.table.leaves space va o) ruled)
+    purged-there row.purge s.table.leaves space (page_of row.mode va) o c (or-second (place_rule row space o (va ∷ [])) (there_rule row s.table.leaves space va o) ruled)
 ruled-followed row (event.Protect space va o perm) s c ruled done =
-    purged-there row.purge s.table.leaves space (page_of row.mode va) o c (second-none (place_rule row space o (va ∷ [])) (there_rule row s.table.leaves space va o) ruled)
+    purged-there row.purge s.table.leaves space (page_of row.mode va) o c (or-second (place_rule row space o (va ∷ [])) (there_rule row s.table.leaves space va o) ruled)
 ruled-followed row (event.Move space from to o) s c ruled done =
     purged-there row.purge s.table.leaves space (page_of row.mode from) o c
-    (first-none (there_rule row s.table.leaves space from o) (overlap_rule row s.table.leaves space to o)
-    (second-none (place_rule row space o (from ∷ to ∷ [])) (or_else (there_rule row s.table.leaves space from o) (overlap_rule row s.table.leaves space to o)) ruled))
+    (or-first (there_rule row s.table.leaves space from o) (overlap_rule row s.table.leaves space to o)
+    (or-second (place_rule row space o (from ∷ to ∷ [])) (or_else (there_rule row s.table.leaves space from o) (overlap_rule row s.table.leaves space to o)) ruled))
 ruled-followed row (event.Space space) s c ruled done = refl
 ruled-followed row (event.Fence to) s c ruled done = ap (λ (r : _). curve_without (reaches_leaf r) c) (reach-same row to)
 

@@ -19,9 +19,10 @@ use Rattle.xl_tagged.specs.Tagged.{AreSized}
 use Rattle.xl_tagged.specs.Steps.{IsWritten, IsSameTable, IsPut, IsSet, IsTaken, given_word, word_found}
 use Rattle.xl_tagged.proofs.ChainLemmas.{IsUnderTag, found-under, same-entry, set-by, tags-set, values-without, values-front}
 use Rattle.xl_tagged.proofs.StateLemmas.{held-in, with-there, tag-with}
-use Rattle.xl_tagged.proofs.StepLemmas.{word-first, tag-held, set-here, set-other, len-set, inserted-put, removed-taken}
+use Rattle.xl_tagged.proofs.StepLemmas.{word-first, tag-held, len-set, inserted-put, removed-taken}
 use Rattle.xl_clustered.specs.Blocks.{used_in, IsCountedBlock, AreBlocks, IsNewBlock, rewritten}
 use Rattle.xl_clustered.proofs.UsedLemmas.{used-more, used-stays, used-less, used-some, used-only, used-single}
+use Rattle.xl_chain.proofs.PlaceLemmas.{set-same, set-other}
 
 -- a value that is set changes no entry's number
 with-entry : (e i w : ℕ) (g : Held) → (with_value e i w g).entry ≡ g.entry
@@ -73,8 +74,8 @@ block-with used slot word vs len low =
     let len2 : length mid ≡ 17 = len-set true vs 0 used ∙ len in
     record {
       size = len-set true mid (slot + 1) word ∙ len-set true vs 0 used;
-      count = set-other mid (slot + 1) 0 word (λ e. absurd (omega arith)) ∙ set-here vs 0 used (omega arith);
-      here = ap (slice_index (block_with used slot word vs)) (turn slot) ∙ set-here mid (slot + 1) word (omega arith);
+      count = set-other mid (slot + 1) 0 word (λ e. absurd (omega arith)) ∙ set-same vs 0 used (omega arith);
+      here = ap (slice_index (block_with used slot word vs)) (turn slot) ∙ set-same mid (slot + 1) word (omega arith);
       others = λ i other. set-other mid (slot + 1) (1 + i) word (λ e. other (omega arith)) ∙ set-other vs 0 (1 + i) used (λ e. absurd (omega arith));
     }
   where

@@ -16,7 +16,8 @@ use Rattle.xl_way.specs.Slots.{WayState, word_in, word_of}
 use Rattle.xl_cuckoo.specs.State.{state_at, shapes, changed_by}
 use Rattle.xl_cuckoo.specs.Table.{value_of, SameEntries, AddsEntry, AreOnce}
 use Rattle.xl_cuckoo.proofs.KickLemmas.{shape-at}
-use Rattle.xl_cuckoo.proofs.LoopLemmas.{value-first, held-by}
+use Rattle.xl_cuckoo.proofs.LoopLemmas.{value-first}
+use Rattle.xl_way.proofs.WayLemmas.{held_by}
 
 -- a way that holds a key, by number
 held-some : (key : ℕ) (w : WayShape) → is_held w key ≡ true → 1 ≤ tally (has_key key) w.entries
@@ -38,7 +39,7 @@ pub holder-some : (key i : ℕ) (ws : List WayShape) → is_some (holder_from i 
 unfolding word_of
 holder-some key i [] = refl
 holder-some key i (w ∷ ws) =
-    go (is_held w key) (word_of key w.entries) (held-by w key) (holder-some key (i + 1) ws) ∙ ap (λ (o : Option ℕ). is_some o) (sym (value-first key w ws))
+    go (is_held w key) (word_of key w.entries) (held_by w key) (holder-some key (i + 1) ws) ∙ ap (λ (o : Option ℕ). is_some o) (sym (value-first key w ws))
   where
     go : (b : Bool) (o : Option ℕ) → b ≡ is_some o → is_some (holder_from (i + 1) ws key) ≡ is_some (value_of key ws)
         → is_some (cond b (Some i) (holder_from (i + 1) ws key)) ≡ is_some (option_or o (value_of key ws))

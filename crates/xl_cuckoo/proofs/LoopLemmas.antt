@@ -15,6 +15,7 @@ use Rattle.xl_model_lemmas.proofs.SameLemmas.{any-find}
 use Rattle.xl_way.specs.Slots.{WayState, word_in, word_of}
 use Rattle.xl_cuckoo.specs.State.{no_way, state_at, shapes, changed_by}
 use Rattle.xl_cuckoo.specs.Table.{value_of}
+use Rattle.xl_way.proofs.WayLemmas.{held_by}
 
 -- the ways from one on
 pub from-here : (ws : List WayState) (i : ℕ) → i < length ws → drop i ws ≡ state_at ws i ∷ drop (i + 1) ws
@@ -46,21 +47,12 @@ pub value-end : (key : ℕ) (ws : List WayState) (i : ℕ) → length ws ≤ i �
 unfolding word_of
 value-end key ws i l = ap (λ (us : List WayState). value_of key (shapes us)) (drop_all i ws l)
 
--- the holder of a key
-pub held-by : (w : WayShape) (key : ℕ) → is_held w key ≡ is_some (word_of key w.entries)
-unfolding word_of
-held-by w key = any-find (has_key key) w.entries ∙ go (find (has_key key) w.entries)
-  where
-    go : (o : Option Entry) → is_some o ≡ is_some (word_in o)
-    go None = refl
-    go (Some e) = refl
-
 pub holder-here : (key : ℕ) (ws : List WayState) (i : ℕ) (w : WayState) → i < length ws → w ≡ get_or ws i w
     → holder_from i (shapes (drop i ws)) key ≡ cond (is_some (word_of key w.shape.entries)) (Some i) (holder_from (i + 1) (shapes (drop (i + 1) ws)) key)
 holder-here key ws i w l e =
     ap (λ (us : List WayState). holder_from i (shapes us) key) (from-here ws i l)
     ∙ ap (λ b. cond b (Some i) (holder_from (i + 1) (shapes (drop (i + 1) ws)) key))
-    (held-by (state_at ws i).shape key ∙ ap (λ (v : WayState). is_some (word_of key v.shape.entries)) (read-here ws i w l e))
+    (held_by (state_at ws i).shape key ∙ ap (λ (v : WayState). is_some (word_of key v.shape.entries)) (read-here ws i w l e))
 
 pub holder-end : (key : ℕ) (ws : List WayState) (i : ℕ) → length ws ≤ i → holder_from i (shapes (drop i ws)) key ≡ None
 holder-end key ws i l = ap (λ (us : List WayState). holder_from i (shapes us) key) (drop_all i ws l)

@@ -46,12 +46,12 @@ opening-more start most number n = let e : n + 1 ≡ suc n = omega arith in ap (
         ap (λ us. opening_way start most k ∷ us) (go (k + 1) n)
         ∙ ap (λ i. opening_way start most k ∷ (opening_ways start most (k + 1) n ++ opening_way start most i ∷ [])) e
 
-opening-entries : (start most number n : ℕ) → entries_in (opening_ways start most number n) ≡ []
+pub opening-entries : (start most number n : ℕ) → entries_in (opening_ways start most number n) ≡ []
 unfolding opening_way
 opening-entries start most number zero = refl
 opening-entries start most number (suc n) = opening-entries start most (number + 1) n
 
-opening-length : (start most number n : ℕ) → length (opening_ways start most number n) ≡ n
+pub opening-length : (start most number n : ℕ) → length (opening_ways start most number n) ≡ n
 opening-length start most number zero = refl
 opening-length start most number (suc n) = ap suc (opening-length start most (number + 1) n)
 

@@ -21,6 +21,7 @@ use Rattle.xl_sections.proofs.WordLemmas.{parts-are}
 use Rattle.xl_cuckoo_walk.specs.Coding.{section_by, word_by}
 use Rattle.xl_cuckoo_walk.specs.Plans.{is_counted, new_word}
 use Rattle.xl_cuckoo_walk.proofs.CodeLemmas.{IsWord, word-back}
+use Rattle.xl_model_lemmas.proofs.FreshSectionLemmas.{by-fields}
 
 -- no more leaves lie in a stretch than it has pages
 tally-above : (q : Leaf → Bool) (top k : ℕ) (xs : List Leaf) → AllAbove k xs → IsSorted xs → ((x : Leaf) → In x xs → q x ≡ true → leaf_key x < top) → tally q xs ≤ top - (k + 1)
@@ -92,13 +93,6 @@ bit-counted size space block o leaves counts low sorted placed tied =
     (λ x i. ap (λ b. b && same_order x.order o) (counts-same size space block x low (placed x i).page_in))
     ∙ tally-any (of_order size (section_key space block) o) leaves
     ∙ ap (λ n. not (n == 0)) (sym (part-tied size (section_key space block) o leaves counts sorted placed tied))
-
-by-fields : (a b : Section) → a.space ≡ b.space → a.block ≡ b.block → a.has_k4 ≡ b.has_k4 → a.has_m2 ≡ b.has_m2 → a.has_g1 ≡ b.has_g1 → a.way ≡ b.way → a ≡ b
-by-fields a b s k x y z w =
-    let A : Section = record { space = a.space; block = a.block; has_k4 = a.has_k4; has_m2 = a.has_m2; has_g1 = a.has_g1; way = a.way } in
-    let B : Section = record { space = b.space; block = b.block; has_k4 = b.has_k4; has_m2 = b.has_m2; has_g1 = b.has_g1; way = b.way } in
-    let e : A ≡ B = rw (s, k, x, y, z, w) refl in
-    e
 
 -- the word that is written for a section is that section
 pub written-is : (size : Order) (space block : ℕ) (leaves : List Leaf) (counts : List Count) (ways : List WayShape) → block < 2 ^ 45 → IsSorted leaves → ((x : Leaf) → In x leaves → IsPlaced x) → IsTied size leaves counts

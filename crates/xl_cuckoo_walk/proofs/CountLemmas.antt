@@ -23,6 +23,7 @@ use Rattle.xl_sections.proofs.KeyLemmas.{keys-count}
 use Rattle.xl_sections.proofs.WordLemmas.{word-cons, any-is}
 use Rattle.xl_cuckoo_walk.specs.Changes.{fits_by}
 use Rattle.xl_cuckoo_walk.proofs.BitLemmas.{few-in}
+use Rattle.xl_tagged.proofs.CountLemmas.{unit-low}
 
 -- no leaf has this leaf's place
 abbrev pub Apart : Leaf → List Leaf → Type 0
@@ -69,12 +70,6 @@ tied-given size x perm xs counts sorted i tied key =
     let rest : List Leaf = without_leaf x.space x.first xs in
     tied key ∙ word-less size key x xs sorted i ∙ word-cons size key x rest ∙ sym (word-cons size key y rest)
     ∙ sym (word-with size key y rest (λ z j. without-other z x.space x.first xs j))
-
--- a section's count leaves room for a leaf more
-unit-low : (o : Order) → unit o ≤ 2 ^ 44
-unit-low order.K4 = omega arith
-unit-low order.M2 = omega arith
-unit-low order.G1 = omega arith
 
 count-low : (size : Order) (k : ℕ) (xs : List Leaf) (counts : List Count) → IsSorted xs → ((x : Leaf) → In x xs → IsPlaced x) → IsTied size xs counts → count_of k counts ≤ 2 ^ 18 + 2 ^ 40 + 2 ^ 62
 unfolding word_of

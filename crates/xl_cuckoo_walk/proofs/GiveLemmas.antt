@@ -39,6 +39,7 @@ use Rattle.xl_cuckoo_walk.proofs.RowLemmas.{give-leaf}
 use Rattle.xl_cuckoo_walk.proofs.StepLemmas.{items_of, answered}
 use Rattle.xl_cuckoo_walk.proofs.VerdictLemmas.{state_made, given}
 use Rattle.xl_cuckoo_walk.proofs.WordsLemmas.{word-same, ways-by}
+use Rattle.xl_tagged.proofs.WholeLemmas.{bit-low, frame-back}
 
 -- another word moves no key
 any-reworded : (k key word : ℕ) (es : List Entry) → list_any (has_key k) (map (reworded key word) es) ≡ list_any (has_key k) es
@@ -67,20 +68,6 @@ key-reworded key word e (w ∷ ways) i = elim (In-append e (map (reworded key wo
     go : (d : Entry) (b : Bool) → (cond b (record d { word = word }) d).key ≡ d.key
     go d true = refl
     go d false = refl
-
--- the frame of a word
-bit-low : (b : Bool) (m : ℕ) → bit_if b m ≤ m
-bit-low true m = omega arith
-bit-low false m = omega arith
-
-frame-back : (frame : ℕ) (q : Perm) → frame < 2 ^ 44 → leaf_word frame q / 1024 % 2 ^ 44 ≡ frame
-unfolding leaf_word
-frame-back frame q h =
-    let a = bit-low q.r 2 in
-    let b = bit-low q.w 4 in
-    let c = bit-low q.x 8 in
-    let d = bit-low q.u 16 in
-    omega arith
 
 -- the parts with another word for a key of an order
 word-parts : (o : Order) (k w : ℕ) (p : RowParts)

@@ -22,6 +22,7 @@ use Rattle.xl_cuckoo.proofs.KeyLemmas.{no-value}
 use Rattle.xl_cuckoo.specs.Table.{value_of, AddsEntry, AreOnce}
 use Rattle.xl_cuckoo_walk.specs.Parts.{ways_at, word_list, values_in, order_tags, tags_in, AreKeys}
 use Rattle.xl_cuckoo_walk.proofs.ValueLemmas.{tag_is, tag-tally, tally-tag, value-out}
+use Rattle.xl_cuckoo_walk.proofs.HolderLemmas.{level-ways}
 
 -- the ways of an order, and those of others
 pub with-same : (o : Order) (after : List WayShape) (ws : CuckooWays) → ways_of o (with_ways o after ws) ≡ after
@@ -44,11 +45,6 @@ at-own : (o : Order) (after : List WayShape) (ws : CuckooWays) → ways_at (leve
 at-own order.K4 after ws = refl
 at-own order.M2 after ws = refl
 at-own order.G1 after ws = refl
-
-at-before : (o : Order) (ws : CuckooWays) → ways_at (level_of o) ws ≡ ways_of o ws
-at-before order.K4 ws = refl
-at-before order.M2 ws = refl
-at-before order.G1 ws = refl
 
 at-other : (n : ℕ) (o : Order) (after : List WayShape) (ws : CuckooWays) → (n ≡ level_of o → ⊥) → ways_at n (with_ways o after ws) ≡ ways_at n ws
 at-other zero order.K4 after ws h = absurd (h refl)
@@ -90,7 +86,7 @@ unfolding values_in
 values-before o key ws low =
     ap (λ n. word_list (value_of n (ways_at (tag_with o key / 2 ^ 60) ws))) (tag-key o key low)
     ∙ ap (λ n. word_list (value_of key (ways_at n ws))) (tag-level o key low)
-    ∙ ap (λ us. word_list (value_of key us)) (at-before o ws)
+    ∙ ap (λ us. word_list (value_of key us)) (level-ways o ws)
 
 values-other : (t : ℕ) (o : Order) (after : List WayShape) (ws : CuckooWays) → (t / 2 ^ 60 ≡ level_of o → ⊥) → values_in (with_ways o after ws) t ≡ values_in ws t
 unfolding values_in

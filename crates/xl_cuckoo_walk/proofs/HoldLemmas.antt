@@ -41,6 +41,8 @@ use Rattle.xl_cuckoo_walk.proofs.ChangeLemmas.{IsTableFor, with-ways-in, ways-ta
 use Rattle.xl_cuckoo_walk.proofs.CountLemmas.{Apart, tied-with, tied-less, fits-is, place-is, roomy-is}
 use Rattle.xl_cuckoo_walk.proofs.RowLemmas.{key-low, free-value, put-leaf, take-leaf, leaves-known, held-known}
 use Rattle.xl_cuckoo_walk.proofs.ValueLemmas.{tally-In, In-tally}
+use Rattle.xl_tagged.proofs.WholeLemmas.{low}
+use Rattle.xl_model_lemmas.proofs.PlaceLemmas.{aligned-frame}
 
 -- a row holds its leaves, and with fresh caches what holds leaves is a row
 pub row-holds : (p : RowParts) → IsRow p → HoldsLeaves p (leaves_in (ways_in p))
@@ -113,23 +115,12 @@ by-rules order.K4 p before h x = refl
 by-rules order.M2 p before h x = let s = h.same_m2 in rw (s.threshold, s.kick_limit, s.migrate) refl
 by-rules order.G1 p before h x = let s = h.same_g1 in rw (s.threshold, s.kick_limit, s.migrate) refl
 
--- a leaf that the row can take
-low : (o : Order) (n m : ℕ) → n + pages_of o ≤ m → n < m
-low order.K4 n m h = omega arith
-low order.M2 n m h = omega arith
-low order.G1 n m h = omega arith
-
-frames : (o : Order) (frame e : ℕ) → frame ≡ e * pages_of o → frame % 2 ^ (9 * level_of o) ≡ 0
-frames order.K4 frame e h = omega arith
-frames order.M2 frame e h = omega arith
-frames order.G1 frame e h = omega arith
-
 pub fit-leaf : (p : RowParts) (x : Leaf) → IsLeafFor (row_state p).shape x → IsFit x
 unfolding row_state
 fit-leaf p x v = record {
   aligned = record { placed = record { space_in = v.block.space_in; page_in = low x.order x.first (2 ^ 45) v.block.pages_in }; aligned = v.block.aligned };
   frame_in = low x.order x.frame (2 ^ 44) v.frames_in;
-  frame_aligned = frames x.order x.frame v.frames_aligned.0 v.frames_aligned.1;
+  frame_aligned = aligned-frame x.order x.frame v.frames_aligned.0 v.frames_aligned.1;
 }
 
 -- a leaf that overlaps none of the row's

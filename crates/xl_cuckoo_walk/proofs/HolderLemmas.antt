@@ -14,9 +14,10 @@ use Rattle.xl_tagged.specs.Slots.{leaf_read, found_in}
 use Rattle.xl_tagged.proofs.SlotLemmas.{none-read}
 use Rattle.xl_way.specs.Slots.{word_of}
 use Rattle.xl_cuckoo.specs.Table.{value_of}
-use Rattle.xl_cuckoo.proofs.LoopLemmas.{value-first, held-by}
+use Rattle.xl_cuckoo.proofs.LoopLemmas.{value-first}
 use Rattle.xl_cuckoo_walk.specs.Parts.{ways_at, word_list, values_in}
 use Rattle.xl_cuckoo_walk.specs.Plans.{leaf_said_by}
+use Rattle.xl_way.proofs.WayLemmas.{held_by}
 
 -- the way that holds a key
 pub record IsHolder (i : ℕ) (ways : List WayShape) (key : ℕ) : Type 0 where
@@ -28,7 +29,7 @@ pub record IsHolder (i : ℕ) (ways : List WayShape) (key : ℕ) : Type 0 where
 pub holder : (i : ℕ) (ways : List WayShape) (key : ℕ) → is_some (value_of key ways) ≡ true → IsHolder i ways key
 unfolding word_of
 holder i [] key h = absurd (cc)
-holder i (w ∷ ways) key h = go (is_held w key) (word_of key w.entries) refl refl (held-by w key) (λ t. holder (i + 1) ways key t)
+holder i (w ∷ ways) key h = go (is_held w key) (word_of key w.entries) refl refl (held_by w key) (λ t. holder (i + 1) ways key t)
   where
     go : (b : Bool) (o : Option ℕ) → is_held w key ≡ b → word_of key w.entries ≡ o → is_held w key ≡ is_some (word_of key w.entries)
         → (is_some (value_of key ways) ≡ true → IsHolder (i + 1) ways key) → IsHolder i (w ∷ ways) key
@@ -51,7 +52,7 @@ holder i (w ∷ ways) key h = go (is_held w key) (word_of key w.entries) refl re
     go false (Some n) t u e rest = let z : false ≡ true = sym t ∙ e ∙ ap (λ (q : Option ℕ). is_some q) u in absurd (cc)
 
 -- the word under the tag of a page
-level-ways : (o : Order) (ws : CuckooWays) → ways_at (level_of o) ws ≡ ways_of o ws
+pub level-ways : (o : Order) (ws : CuckooWays) → ways_at (level_of o) ws ≡ ways_of o ws
 level-ways order.K4 ws = refl
 level-ways order.M2 ws = refl
 level-ways order.G1 ws = refl

@@ -19,15 +19,12 @@ use Rattle.xl_pte.specs.ReadBack.{MadeWordsReadBack}
 use Rattle.xl_tagged.specs.Counted.{smaller_word}
 use Rattle.xl_tagged.specs.Forms.{One}
 use Rattle.xl_tagged.specs.Slots.{found_in, found_from}
-use Rattle.xl_tagged.proofs.FindLemmas.{at-page, found-from, from-is, meets-is, page-found}
+use Rattle.xl_tagged.proofs.FindLemmas.{at-page, found-from, from-is, meets-is, page-found, either}
 use Rattle.xl_cuckoo_walk.specs.Parts.{RowParts, ways_in, values_in, tags_in, leaves_in, row_state, IsRow}
 use Rattle.xl_cuckoo_walk.specs.Plans.{is_counted}
 use Rattle.xl_cuckoo_walk.specs.Looks.{looked, looked_from, counts_smaller}
 use Rattle.xl_cuckoo_walk.proofs.BitLemmas.{part-tied}
 use Rattle.xl_cuckoo_walk.proofs.HolderLemmas.{found-said}
-
-either : (a b : ℕ) → (not (a == 0) || not (b == 0)) ≡ not (a + b * 2 ^ 22 == 0)
-either a b = same-tests (not (a == 0) || not (b == 0)) (not (a + b * 2 ^ 22 == 0)) (λ t. grind (arith, nat_tests)) (λ t. grind (arith, nat_tests))
 
 module _ (p : RowParts) (r : IsRow p) where
   placed : (x : Leaf) → In x (leaves_in (ways_in p)) → IsPlaced x
@@ -53,10 +50,6 @@ from-said order.M2 s page ws a b =
     ap (λ q. or_leaf q (looked order.G1 s page ws)) (found-said order.M2 s page ws a b)
     ∙ ap (or_leaf (found_in One s page (values_in ws) order.M2)) (found-said order.G1 s page ws a b)
 from-said order.G1 s page ws a b = found-said order.G1 s page ws a b
-
-pub page-parts : (p : RowParts) (s page : ℕ) → IsPage (row_state p).shape s page → (s < 64) × (page < 2 ^ 45)
-unfolding row_state
-page-parts p s page h = (h.space_in, h.page_in)
 
 pub block-parts : (p : RowParts) (s first : ℕ) (o : Order) → IsBlock (row_state p).shape s first o → (s < 64) × (first < 2 ^ 45)
 unfolding row_state

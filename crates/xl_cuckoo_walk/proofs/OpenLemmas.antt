@@ -17,15 +17,7 @@ use Rattle.xl_way.specs.Slots.{word_in, word_of as word_kept}
 use Rattle.xl_cuckoo.specs.Table.{CuckooState, value_of, opening}
 use Rattle.xl_cuckoo_walk.specs.Parts.{RowParts, IsRow, values_in, tags_in, leaves_in, ways_in, word_list, ways_at, row_state}
 use Rattle.xl_cuckoo_walk.specs.Openings.{opening_table}
-
-entries-none : (start cap number n : ℕ) → entries_in (opening_ways start cap number n) ≡ []
-unfolding opening_way
-entries-none start cap number zero = refl
-entries-none start cap number (suc n) = entries-none start cap (number + 1) n
-
-ways-length : (start cap number n : ℕ) → length (opening_ways start cap number n) ≡ n
-ways-length start cap number zero = refl
-ways-length start cap number (suc n) = ap suc (ways-length start cap (number + 1) n)
+use Rattle.xl_cuckoo.proofs.TableLemmas.{opening-entries, opening-length}
 
 -- no order holds an entry
 abbrev AreEmpty : CuckooWays → Type 0
@@ -84,9 +76,9 @@ module _ (threshold limit migrate start cap count : ℕ) (middle large : CountSt
   parts = opened (opening threshold limit migrate (opening_ways start cap 0 count)) middle large a b
 
   empty : AreEmpty (ways_in parts)
-  empty order.K4 = entries-none start cap 0 count
-  empty order.M2 = entries-none start cap 0 count
-  empty order.G1 = entries-none start cap 0 count
+  empty order.K4 = opening-entries start cap 0 count
+  empty order.M2 = opening-entries start cap 0 count
+  empty order.G1 = opening-entries start cap 0 count
 
   pub row-opened : count ≤ 4 → IsRow parts
   row-opened few = record {
@@ -95,7 +87,7 @@ module _ (threshold limit migrate start cap count : ℕ) (middle large : CountSt
     once = λ o key. let n : tally (has_key key) (entries_in (ways_of o (ways_in parts))) ≡ 0 = ap (λ es. tally (has_key key) es) (empty o) in omega arith;
     same_m2 = record { threshold = refl; kick_limit = refl; migrate = refl; width = refl };
     same_g1 = record { threshold = refl; kick_limit = refl; migrate = refl; width = refl };
-    few = (let n = ways-length start cap 0 count in omega arith);
+    few = (let n = opening-length start cap 0 count in omega arith);
     middle_are = counts-none middle.counts no_middle;
     large_are = counts-none large.counts no_large;
     middle_within = (let n : length middle.counts ≡ 0 = ap (λ (cs : List Count). length cs) no_middle in omega arith);

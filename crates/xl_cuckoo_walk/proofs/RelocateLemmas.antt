@@ -35,6 +35,7 @@ use Rattle.xl_cuckoo_walk.proofs.HoldLemmas.{row-holds, apart-leaf, fit-leaf, fr
 use Rattle.xl_cuckoo_walk.proofs.RowLemmas.{leaves-known}
 use Rattle.xl_cuckoo_walk.proofs.StepLemmas.{SteppedRow, answered, words-left, keys_entered, words-entered, entered-room}
 use Rattle.xl_cuckoo_walk.proofs.VerdictLemmas.{state_made, made_answer, made, refused-same, room-both}
+use Rattle.xl_tagged.proofs.WholeLemmas.{frame-fits}
 
 -- the leaf of a name is the one that its first page finds
 pub named-found : (p : RowParts) → IsRow p → (space first : ℕ) (o : Order) (n : NamedLeaf p space first o) → leaf_at_page space first (row_state p).leaves ≡ Some n.leaf
@@ -68,11 +69,6 @@ found-leaf p r space first o n found old e f =
       key_is = ap (λ x. (leaf_entry x).key) (sym s) ∙ n.key_is;
       value = n.value ∙ ap (λ (x : Leaf). Some (leaf_word x.frame x.perm)) s;
     }
-
-frame-fits : (o : Order) (frame : ℕ) → frame < 2 ^ 44 → frame % 2 ^ (9 * level_of o) ≡ 0 → (frame + pages_of o ≤ 2 ^ 44) × ((e : ℕ) × (frame ≡ e * pages_of o))
-frame-fits order.K4 frame h m = (omega arith, (frame, omega arith))
-frame-fits order.M2 frame h m = (omega arith, (frame / 512, omega arith))
-frame-fits order.G1 frame h m = (omega arith, (frame / 262144, omega arith))
 
 -- room for a leaf that moves is room for one that comes
 room_by : CuckooRules → Option Leaf → List Leaf → Bool

@@ -37,11 +37,7 @@ use Rattle.xl_cuckoo_walk.specs.Plans.{plan_of, value_by, probed, IsIn, loads_by
 use Rattle.xl_cuckoo_walk.proofs.CodeLemmas.{tag-same, hit-is}
 use Rattle.xl_cuckoo_walk.proofs.BitLemmas.{written-is}
 use Rattle.xl_cuckoo_walk.proofs.PlanLemmas.{AreHits, hit-fresh, IsPlanned, planned}
-
-block-in : (size : Order) (page : ℕ) → page < 2 ^ 45 → page / pages_of size < 2 ^ 45
-block-in order.K4 page h = omega arith
-block-in order.M2 page h = omega arith
-block-in order.G1 page h = omega arith
+use Rattle.xl_model_lemmas.proofs.SectionLemmas.{small-block}
 
 -- a cache after a walk
 cache-after : (size : Order) (s page : ℕ) (leaves : List Leaf) (ws : CuckooWays) (fills : Bool) (word : ℕ) (c : Cached Item) → page < 2 ^ 45
@@ -57,7 +53,7 @@ cache-after size s page leaves ws fills word c h e = go (find (has_tag tag) c.it
     test = is_section s (page / pages_of size)
 
     same : (i : Item) → has_tag tag i ≡ test (section_in i)
-    same = tag-same s (page / pages_of size) (block-in size page h)
+    same = tag-same s (page / pages_of size) (small-block size page h)
 
     with : List Item → Cached Section
     with items = record { width = c.width; items = map section_in items }
@@ -177,10 +173,10 @@ module _ (back : MadeWordsReadBack) (p : RowParts) (r : IsRow p) (s page : ℕ) 
   hit1 = find (is_page_section order.G1 s page) (sections_in p.large_cache).items
 
   h2-is : h2 ≡ hit2
-  h2-is = hit-is s (page / 512) (block-in order.M2 page page_in) p.middle_cache.items
+  h2-is = hit-is s (page / 512) (small-block order.M2 page page_in) p.middle_cache.items
 
   h1-is : h1 ≡ hit1
-  h1-is = hit-is s (page / 262144) (block-in order.G1 page page_in) p.large_cache.items
+  h1-is = hit-is s (page / 262144) (small-block order.G1 page page_in) p.large_cache.items
 
   pub planned-at : (o : Order) → IsPlanned back ws leaves r.held s page space_in page_in o h2 h1
   planned-at o = planned back ws leaves r.held s page space_in page_in o h2 h1
@@ -210,11 +206,11 @@ module _ (back : MadeWordsReadBack) (p : RowParts) (r : IsRow p) (s page : ℕ) 
   -- the caches
   after-middle : (fills : Bool) → sections_in (filled fills w2 k2 (new_word order.M2 k2 p.middle.counts p.m2.ways) (touched_in k2 p.middle_cache)) ≡ section_after order.M2 s page leaves ws fills hit2 (sections_in p.middle_cache)
   after-middle fills = cache-after order.M2 s page leaves ws fills (new_word order.M2 k2 p.middle.counts p.m2.ways) p.middle_cache page_in
-      (written-is order.M2 s (page / 512) leaves p.middle.counts p.m2.ways (block-in order.M2 page page_in) r.held.sorted placed r.middle_tied)
+      (written-is order.M2 s (page / 512) leaves p.middle.counts p.m2.ways (small-block order.M2 page page_in) r.held.sorted placed r.middle_tied)
 
   after-large : (fills : Bool) → sections_in (filled fills w1 k1 (new_word order.G1 k1 p.large.counts p.g1.ways) (touched_in k1 p.large_cache)) ≡ section_after order.G1 s page leaves ws fills hit1 (sections_in p.large_cache)
   after-large fills = cache-after order.G1 s page leaves ws fills (new_word order.G1 k1 p.large.counts p.g1.ways) p.large_cache page_in
-      (written-is order.G1 s (page / 262144) leaves p.large.counts p.g1.ways (block-in order.G1 page page_in) r.held.sorted placed r.large_tied)
+      (written-is order.G1 s (page / 262144) leaves p.large.counts p.g1.ways (small-block order.G1 page page_in) r.held.sorted placed r.large_tied)
 
   is-found : (x : Leaf) → L ≡ Some x → IsFound s page leaves x
   is-found x e =

@@ -12,16 +12,7 @@ use Rattle.xl_model.proofs.CodeLemmas.{level-at, at-level, perm-back, frame-back
 use Rattle.xl_curve.specs.declared.place.Place.{Place}
 use Rattle.xl_curve.specs.Places.{IsNamed, is_vacant, leaf_in, same_words}
 use Rattle.xl_tlb.specs.Arrays.{IsFit}
-
-low_level : (o : Order) → level_of o < 3
-low_level order.K4 = omega arith
-low_level order.M2 = omega arith
-low_level order.G1 = omega arith
-
-both : (a b : Bool) → (a ≡ true → b ≡ true) → (b ≡ true → a ≡ true) → a ≡ b
-both true b f g = sym (f refl)
-both false true f g = g refl
-both false false f g = refl
+use Rattle.xl_tlb.proofs.TagLemmas.{both, low_level}
 
 -- the parts of a tag
 parts : (first space level tag : ℕ) → space < 64 → level < 3 → tag ≡ (first * 64 + space) * 3 + level

@@ -14,6 +14,7 @@ use Rattle.xl_model.specs.Tlb.{covers_as}
 use Rattle.xl_curve_model.proofs.SameLeafLemmas.{order_same}
 use Rattle.xl_curve.specs.Places.{IsThinned, vacated, shifted, hole_where, place_without}
 use Rattle.xl_curve.specs.Views.{set_of, with_removed, removed, is_placed, IsCurve, IsRemovedIn}
+use Rattle.xl_tlb.proofs.DropLemmas.{or_false}
 
 -- ---- places that all pass a test
 
@@ -228,16 +229,3 @@ module _ (p q r w : Leaf → Bool) (any : (x : Leaf) → w x ≡ (p x || (q x ||
   pub removed_in_turn : (stacks : List (List (Option Leaf))) → removed r (removed q (removed p stacks)) ≡ removed w stacks
   removed_in_turn [] = refl
   removed_in_turn (s ∷ stacks) = rw (places_in_turn s) (ap (λ (xs : List (List (Option Leaf))). map (place_without w) s ∷ xs) (removed_in_turn stacks))
-
-or_false : (b : Bool) → (b || false) ≡ b
-or_false true = refl
-or_false false = refl
-
--- Each leaf that covers a page has one of the orders.
-pub each_order : (space page : ℕ) (x : Leaf) → covers space page x ≡ (covers_as space page order.K4 x || (covers_as space page order.M2 x || covers_as space page order.G1 x))
-each_order space page x = go x.order refl
-  where
-    go : (o : Order) → x.order ≡ o → covers space page x ≡ (covers_as space page order.K4 x || (covers_as space page order.M2 x || covers_as space page order.G1 x))
-    go order.K4 e = rw e (sym (or_false _))
-    go order.M2 e = rw e (sym (or_false _))
-    go order.G1 e = rw e refl

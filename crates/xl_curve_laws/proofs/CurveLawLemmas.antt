@@ -44,6 +44,7 @@ use Rattle.xl_model_lemmas.proofs.MemberLemmas.{find-In, find-passes}
 use Rattle.xl_curve_laws.specs.CurveLaws.{with_array, TheCurveIsThatOfEachWidth}
 use Rattle.xl_curve_laws.proofs.CurveArrayLemmas.{TakesAll, takes-all, hit-own, miss-each, hit-held, hit-touched, miss-held}
 use Rattle.xl_model_laws.proofs.FreshLemmas.{Kept, event-kept, opening-kept}
+use Rattle.xl_model_lemmas.proofs.FreshArrayLemmas.{touched-spec, filled-spec}
 
 -- Side by side: a state of the row with the one array, a state of the row, and its curve.
 record Beside (sets width : ℕ) (single whole : RowState) (curve : HitCurve) : Type 0 where
@@ -196,18 +197,6 @@ single-miss a kind page s h hs all one n is = (
   λ none. rw (one, n, all, is) (rw none (refl, rw (all, is) refl)),
   λ leaf some. rw (one, n, all, is) (rw (some, all) (refl, rw is refl)),
 )
-
-filled-spec : (leaf : Leaf) (a : TlbArray) → (array_filled leaf a).spec ≡ a.spec
-unfolding array_filled
-filled-spec leaf a = go (takes_order a.spec leaf.order)
-  where
-    go : (b : Bool) → (filled_where b leaf a).spec ≡ a.spec
-    go true = refl
-    go false = refl
-
-touched-spec : (space page : ℕ) (leaf : Leaf) (a : TlbArray) → (array_touched space page leaf a).spec ≡ a.spec
-unfolding array_touched
-touched-spec space page leaf a = refl
 
 missed-points : (c : HitCurve) → (curve_missed c).points ≡ c.points
 unfolding curve_missed

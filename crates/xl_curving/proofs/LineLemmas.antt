@@ -8,6 +8,7 @@ use Rattle.xl_outside.proofs.SinkLemmas.{sink_then, sink_cut}
 use Rattle.xl_curve_model.specs.Curves.{HitCurve}
 use Rattle.xl_curve_model.specs.CurveLines.{line_of}
 use Rattle.xl_curving.specs.Curving.{curve_lines}
+use Rattle.xl_rack.proofs.PlaceLemmas.{some-of}
 
 no-curves : (sets : ℕ) (rows : List Served) → curve_lines sets rows [] ≡ []
 no-curves sets [] = refl
@@ -61,10 +62,6 @@ lines-of-all sets zero (r ∷ rows) [] h = refl
 lines-of-all sets (suc i) (r ∷ rows) [] h = refl
 lines-of-all sets zero (r ∷ rows) (c ∷ curves) h = absurd (omega arith)
 lines-of-all sets (suc i) (r ∷ rows) (c ∷ curves) h = ap (λ (t : List ℕ). line_of r.row.name sets c ++ t) (lines-of-all sets i rows curves (omega arith))
-
-some-of : {A : Type 0} (o : Option A) (P : A → Type 0) (v : A) → IfSome o P → o ≡ Some v → P v
-some-of None P v h e = absurd (grind arith)
-some-of (Some w) P v h e = let d : w ≡ v = cc in subst P d h
 
 nth : {A : Type 0} (xs : List A) (i : ℕ) → i < length xs → (x : A) × (slice_get xs i ≡ Some x)
 nth [] i h = absurd (omega arith)

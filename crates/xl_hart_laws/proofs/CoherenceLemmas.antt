@@ -20,7 +20,7 @@ use Rattle.xl_model_lemmas.specs.Fresh.{InSets}
 use Rattle.xl_model_lemmas.specs.Lowest.{IsAnswer, IsLowest}
 use Rattle.xl_model_lemmas.specs.Members.{In}
 use Rattle.xl_model_lemmas.proofs.CoverLemmas.{covered-is}
-use Rattle.xl_hart_laws.proofs.ArrayLemmas.{hit-is}
+use Rattle.xl_model_lemmas.proofs.HitLemmas.{hit-is}
 use Rattle.xl_model_lemmas.proofs.LowestLemmas.{lowest-is-lowest}
 use Rattle.xl_model_lemmas.proofs.MemberLemmas.{find-In, find-passes, In-any}
 use Rattle.xl_model_lemmas.proofs.PlaceLemmas.{frame-shared, holds-meets}

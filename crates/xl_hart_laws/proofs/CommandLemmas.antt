@@ -28,7 +28,7 @@ use Rattle.xl_model_lemmas.proofs.PlaceLemmas.{page-block}
 use Rattle.xl_model_lemmas.proofs.RuleLemmas.{HasPlace, has-place, no-overlap, or-first, or-second, sound-of}
 use Rattle.xl_hart_laws.specs.Kept.{IsTable}
 
-and_first : (a b : Bool) → (a && b) ≡ true → a ≡ true
+pub and_first : (a b : Bool) → (a && b) ≡ true → a ≡ true
 and_first true b h = refl
 and_first false b h = h
 

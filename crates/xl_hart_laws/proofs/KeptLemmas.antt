@@ -28,7 +28,6 @@ use Rattle.xl_model.specs.Tlb.{TlbArray, array_touched, array_filled, filled_whe
 use Rattle.xl_model_lemmas.specs.Fresh.{InSets}
 use Rattle.xl_model_lemmas.specs.Lowest.{IsFree}
 use Rattle.xl_model_lemmas.specs.Members.{In}
-use Rattle.xl_hart_laws.proofs.ArrayLemmas.{touched-sets, filled-sets, purged-sets, opening-sets}
 use Rattle.xl_model_lemmas.proofs.MemberLemmas.{find-In}
 use Rattle.xl_model_lemmas.proofs.PlaceLemmas.{holds-meets}
 use Rattle.xl_model_lemmas.proofs.PoolLemmas.{no-leaf}
@@ -39,19 +38,9 @@ use Rattle.xl_hart_laws.proofs.HistoryLemmas.{history-changed, older-changed, hi
 use Rattle.xl_hart_laws.proofs.OwnerLemmas.{owners_by, inserted, owners-append, owners-after, owners-taken, none-owned}
 use Rattle.xl_hart_laws.proofs.HartLemmas.{below-full, each-set, each-map, below-longest, longest-set, longest-same, longest-asked, length-least}
 use Rattle.xl_hart_laws.proofs.CommandLemmas.{IsAllowed, rule-allows, rule-none, change-none, room-none, full-none, second-none, refused-true, change-made, made-table}
-
--- one hart
-touched-spec : (space page : ℕ) (leaf : Leaf) (a : TlbArray) → (array_touched space page leaf a).spec ≡ a.spec
-unfolding array_touched
-touched-spec space page leaf a = refl
-
-filled-spec : (leaf : Leaf) (a : TlbArray) → (array_filled leaf a).spec ≡ a.spec
-unfolding array_filled
-filled-spec leaf a = go (takes_order a.spec leaf.order)
-  where
-    go : (b : Bool) → (filled_where b leaf a).spec ≡ a.spec
-    go true = refl
-    go false = refl
+use Rattle.xl_model_lemmas.proofs.FreshArrayLemmas.{touched-spec, filled-spec, purged-sets, touched-sets, filled-sets, opening-sets}
+use Rattle.xl_model_lemmas.proofs.SameLemmas.{bit-same, perm-same}
+use Rattle.xl_model_lemmas.proofs.OnceLemmas.{own-number}
 
 pub walked-spec : (found : Option Leaf) (a : TlbArray) → (array_walked found a).spec ≡ a.spec
 walked-spec None a = refl
@@ -131,19 +120,8 @@ opening-hart spec requests leaves is = record {
   fresh = λ x i. absurd (opening-sets x spec.sets i);
 }
 
--- a leaf is equal to itself
-bit-same : (b : Bool) → same_bit b b ≡ true
-bit-same true = refl
-bit-same false = refl
-
-perm-same : (p : Perm) → same_perm p p ≡ true
-perm-same p = rw (bit-same p.r, bit-same p.w, bit-same p.x, bit-same p.u) refl
-
-number-same : (n : ℕ) → (n == n) ≡ true
-number-same n = grind (arith, nat_tests)
-
 pub equal-self : (x : Leaf) → is_equal x x ≡ true
-equal-self x = rw (number-same x.space, number-same x.first, number-same (level_of x.order), number-same x.frame, perm-same x.perm) refl
+equal-self x = rw (own-number x.space, own-number x.first, own-number (level_of x.order), own-number x.frame, perm-same x.perm) refl
 
 -- what a hart's array holds after it took a request
 fenced-sets : (before : Option Leaf) (a : TlbArray) (x : Leaf) → InSets x (array_fenced before a).sets → InSets x a.sets × (before ≡ Some x → ⊥)

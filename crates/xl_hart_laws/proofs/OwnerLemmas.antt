@@ -13,7 +13,9 @@ use Rattle.xl_model_lemmas.specs.Mappings.{IsMapping, IsSound}
 use Rattle.xl_model_lemmas.specs.Members.{In}
 use Rattle.xl_model_lemmas.proofs.InsertionLemmas.{without-other}
 use Rattle.xl_hart_laws.specs.Histories.{owners}
-use Rattle.xl_hart_laws.proofs.UndoLemmas.{new-apart, old-there, with-without}
+use Rattle.xl_hart_laws.proofs.UndoLemmas.{new-apart}
+use Rattle.xl_model_lemmas.proofs.PoolChangeLemmas.{old-In}
+use Rattle.xl_model_lemmas.proofs.SortedLemmas.{put-back}
 
 -- of one leaf, if there is one
 abbrev pub owners_by : ℕ → Option Leaf → ℕ
@@ -41,12 +43,12 @@ owners-with frame x (y ∷ ys) new = go (leaf_key x == leaf_key y) (nat_lt (leaf
 pub owners-changed : (row : Row) (frame : ℕ) (leaves : List Leaf) (c : Change) → IsMapping row leaves → IsSound row leaves c
     → owners frame (changed c leaves) + owners_by frame (old_leaf c leaves) ≡ owners frame leaves + owners_by frame (new_leaf c leaves)
 unfolding changed
-owners-changed row frame leaves c m s = go (old_leaf c leaves) (new_leaf c leaves) (old-there c leaves) (new-apart row leaves c m s)
+owners-changed row frame leaves c m s = go (old_leaf c leaves) (new_leaf c leaves) (old-In c leaves) (new-apart row leaves c m s)
   where
     without : (old : Option Leaf) → ((x : Leaf) → old ≡ Some x → In x leaves) → owners frame (without_old old leaves) + owners_by frame old ≡ owners frame leaves
     without None there = omega arith
     without (Some x) there =
-        let back : with_leaf x (without_leaf x.space x.first leaves) ≡ leaves = with-without x leaves m.sorted (there x refl) in
+        let back : with_leaf x (without_leaf x.space x.first leaves) ≡ leaves = put-back x leaves m.sorted (there x refl) in
         let e : owners frame (with_leaf x (without_leaf x.space x.first leaves)) ≡ one_if (holds_frames frame 1 x) + owners frame (without_leaf x.space x.first leaves) =
         owners-with frame x (without_leaf x.space x.first leaves) (λ z i k. without-other z x.space x.first leaves i k) in
         let f : owners frame leaves ≡ one_if (holds_frames frame 1 x) + owners frame (without_leaf x.space x.first leaves) = rw back at e in

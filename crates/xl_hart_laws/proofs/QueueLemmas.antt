@@ -20,15 +20,15 @@ use Rattle.xl_hart_laws.proofs.HartLemmas.{below-longest, length-least}
 use Rattle.xl_hart_laws.proofs.CoherenceLemmas.{events-kept, opening-kept}
 
 -- an event that is no change
-no-access : (s : HartsState) (va : ℕ) (k : Kind) (c : Change) → hart_change s (event.Access va k) ≡ Some c → ⊥
+pub no-access : (s : HartsState) (va : ℕ) (k : Kind) (c : Change) → hart_change s (event.Access va k) ≡ Some c → ⊥
 unfolding hart_change change_of
 no-access s va k c e = cc
 
-no-switch : (s : HartsState) (space : ℕ) (c : Change) → hart_change s (event.Space space) ≡ Some c → ⊥
+pub no-switch : (s : HartsState) (space : ℕ) (c : Change) → hart_change s (event.Space space) ≡ Some c → ⊥
 unfolding hart_change change_of
 no-switch s space c e = cc
 
-no-fence : (s : HartsState) (to : Scope) (c : Change) → hart_change s (event.Fence to) ≡ Some c → ⊥
+pub no-fence : (s : HartsState) (to : Scope) (c : Change) → hart_change s (event.Fence to) ≡ Some c → ⊥
 unfolding hart_change change_of
 no-fence s to c e = cc
 
@@ -48,7 +48,7 @@ pub after-take : (s : HartsState) (n : ℕ) → hart_refusal s (step.Take n) ≡
 unfolding after_hart_event hart_served
 after-take s n ruled = rw ruled refl
 
-take-some : (s : HartsState) (n : ℕ) → hart_refusal s (step.Take n) ≡ None → 0 < (hart_at n s).waiting
+pub take-some : (s : HartsState) (n : ℕ) → hart_refusal s (step.Take n) ≡ None → 0 < (hart_at n s).waiting
 unfolding hart_refusal
 take-some s n ruled = let t : nat_lt 0 (hart_at n s).waiting ≡ true = refused-true _ _ (second-none _ _ ruled) in grind (arith, nat_tests)
 
@@ -88,7 +88,7 @@ longest-there d (h ∷ hs) e = go (nat_le (longest hs) h.waiting) refl (longest-
     go true t there = let k : longest hs ≤ h.waiting = grind (arith, nat_tests) in (0, sym (max-eq_left k))
     go false t there = let k : h.waiting ≤ longest hs = grind (arith, nat_tests) in (suc there.0, there.1 ∙ sym (max-eq_right k))
 
-take-all : {A : Type 0} (n : ℕ) (xs : List A) → length xs ≤ n → take n xs ≡ xs
+pub take-all : {A : Type 0} (n : ℕ) (xs : List A) → length xs ≤ n → take n xs ≡ xs
 take-all zero [] h = refl
 take-all zero (x ∷ xs) h = absurd (omega arith)
 take-all (suc n) [] h = refl

@@ -14,38 +14,9 @@ use Rattle.xl_model_lemmas.proofs.ChangeLemmas.{first-small, place-small, other-
 use Rattle.xl_model_lemmas.proofs.InsertionLemmas.{with-In, In-with, stays-with, sorted-with, sorted-without, without-In, without-other, In-without, same-place}
 use Rattle.xl_model_lemmas.proofs.MappingLemmas.{named-In, named-is}
 use Rattle.xl_model_lemmas.proofs.PlaceLemmas.{named-space}
-use Rattle.xl_model_lemmas.proofs.SortedLemmas.{same-sorted}
+use Rattle.xl_model_lemmas.proofs.SortedLemmas.{same-sorted, put-back, took-back}
 use Rattle.xl_hart_laws.specs.Histories.{IsTold}
-
--- a leaf of a new key that comes and goes
-pub without-with : (x : Leaf) (xs : List Leaf) → IsSorted xs → ((z : Leaf) → In z xs → leaf_key z ≡ leaf_key x → ⊥)
-    → without_leaf x.space x.first (with_leaf x xs) ≡ xs
-without-with x xs sorted new =
-    same-sorted (without_leaf x.space x.first (with_leaf x xs)) xs (sorted-without x.space x.first (with_leaf x xs) (sorted-with x xs sorted)) sorted
-    (λ z i. elim (with-In z x xs (without-In z x.space x.first (with_leaf x xs) i)) [
-      | inl e ↦ absurd (without-other z x.space x.first (with_leaf x xs) i (ap (λ (y : Leaf). leaf_key y) e))
-      | inr j ↦ j
-    ])
-    (λ z j. In-without z x.space x.first (with_leaf x xs) (stays-with z x xs j (new z j)) (new z j))
-
--- a leaf that goes and comes
-pub with-without : (x : Leaf) (xs : List Leaf) → IsSorted xs → In x xs → with_leaf x (without_leaf x.space x.first xs) ≡ xs
-with-without x xs sorted i =
-    same-sorted (with_leaf x (without_leaf x.space x.first xs)) xs (sorted-with x (without_leaf x.space x.first xs) (sorted-without x.space x.first xs sorted)) sorted
-    (λ z j. elim (with-In z x (without_leaf x.space x.first xs) j) [
-      | inl e ↦ let P : Leaf → Type 0 = λ y. In y xs in subst P (sym e) i
-      | inr k ↦ without-In z x.space x.first xs k
-    ])
-    (λ z j. back z j (leaf_key z == leaf_key x) refl)
-  where
-    back : (z : Leaf) → In z xs → (b : Bool) → (leaf_key z == leaf_key x) ≡ b → In z (with_leaf x (without_leaf x.space x.first xs))
-    back z j true t =
-        let e : leaf_key z ≡ leaf_key x = grind (arith, nat_tests) in
-        let P : Leaf → Type 0 = λ y. In y (with_leaf x (without_leaf x.space x.first xs)) in
-        subst P (sym (same-place z x xs sorted j i e)) (In-with x (without_leaf x.space x.first xs))
-    back z j false t =
-        let other : leaf_key z ≡ leaf_key x → ⊥ = λ e. absurd (grind (arith, nat_tests)) in
-        stays-with z x (without_leaf x.space x.first xs) (In-without z x.space x.first xs j other) other
+use Rattle.xl_model_lemmas.proofs.PoolChangeLemmas.{old-In, new-In}
 
 pub sorted-old : (old : Option Leaf) (xs : List Leaf) → IsSorted xs → IsSorted (without_old old xs)
 sorted-old None xs s = s
@@ -56,10 +27,10 @@ undone-by : (old new : Option Leaf) (xs : List Leaf) → IsSorted xs → ((x : L
     → ((x : Leaf) → new ≡ Some x → (z : Leaf) → In z (without_old old xs) → leaf_key z ≡ leaf_key x → ⊥)
     → with_new old (without_old new (with_new new (without_old old xs))) ≡ xs
 undone-by None None xs s there apart = refl
-undone-by None (Some x) xs s there apart = without-with x xs s (apart x refl)
-undone-by (Some x) None xs s there apart = with-without x xs s (there x refl)
+undone-by None (Some x) xs s there apart = took-back x xs s (apart x refl)
+undone-by (Some x) None xs s there apart = put-back x xs s (there x refl)
 undone-by (Some x) (Some y) xs s there apart =
-    rw (without-with y (without_leaf x.space x.first xs) (sorted-without x.space x.first xs s) (apart y refl)) (with-without x xs s (there x refl))
+    rw (took-back y (without_leaf x.space x.first xs) (sorted-without x.space x.first xs s) (apart y refl)) (put-back x xs s (there x refl))
 
 -- no other leaf has the key of the one that a change brings
 protected-apart : (perm : Perm) (old : Option Leaf) (leaves : List Leaf) (x : Leaf) → with_perm perm old ≡ Some x → (z : Leaf) → In z (without_old old leaves) → leaf_key z ≡ leaf_key x → ⊥
@@ -87,17 +58,11 @@ new-apart row leaves (Protect space first o perm) m s x is z i e = protected-apa
 new-apart row leaves (Relocate space first to o) m s x is z i e =
     moved-apart row space to o (leaf_named space first o leaves) leaves x m s (λ y h. named-space space first o y (named-is space first o y leaves h)) is z i e
 
-pub old-there : (c : Change) (leaves : List Leaf) (x : Leaf) → old_leaf c leaves ≡ Some x → In x leaves
-old-there (Insert leaf) leaves x h = absurd (cc)
-old-there (Remove space first o) leaves x h = named-In space first o x leaves h
-old-there (Protect space first o perm) leaves x h = named-In space first o x leaves h
-old-there (Relocate space first to o) leaves x h = named-In space first o x leaves h
-
 -- the request of a change that is sound leads back to the mapping before it
 pub change-undone : (row : Row) (leaves : List Leaf) (c : Change) → IsMapping row leaves → IsSound row leaves c → undone (request_of c leaves) (changed c leaves) ≡ leaves
 unfolding changed
 change-undone row leaves c m s =
-    undone-by (old_leaf c leaves) (new_leaf c leaves) leaves m.sorted (old-there c leaves) (new-apart row leaves c m s)
+    undone-by (old_leaf c leaves) (new_leaf c leaves) leaves m.sorted (old-In c leaves) (new-apart row leaves c m s)
 
 -- what it says
 perm-same : (perm : Perm) (old : Option Leaf) (x y : Leaf) → old ≡ Some x → with_perm perm old ≡ Some y → (y.order ≡ x.order) × (y.frame ≡ x.frame)
@@ -120,13 +85,9 @@ frames-same (Remove space first o) leaves x y e f = absurd (cc)
 frames-same (Protect space first o perm) leaves x y e f = perm-same perm (leaf_named space first o leaves) x y e f
 frames-same (Relocate space first to o) leaves x y e f = page-same to (leaf_named space first o leaves) x y e f
 
-new-there : (c : Change) (leaves : List Leaf) (new : Leaf) → new_leaf c leaves ≡ Some new → In new (changed c leaves)
-unfolding changed
-new-there c leaves new h = rw h (In-with new (without_old (old_leaf c leaves) leaves))
-
 pub change-told : (leaves : List Leaf) (c : Change) → IsTold (request_of c leaves) (changed c leaves)
 change-told leaves c = record {
-  there = new-there c leaves;
+  there = new-In c leaves;
   same_order = λ x y e f. (frames-same c leaves x y e f).0;
   same_frame = λ x y e f. (frames-same c leaves x y e f).1;
 }

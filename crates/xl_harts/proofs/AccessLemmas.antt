@@ -26,7 +26,7 @@ use Rattle.xl_tlb.specs.Answers.{IsPageWord}
 use Rattle.xl_hart_laws.proofs.KeptLemmas.{accessed-kept}
 use Rattle.xl_model.specs.Walks.{walked}
 use Rattle.xl_model_lemmas.specs.Mappings.{IsLeafOf, IsMapping}
-use Rattle.xl_hart_laws.proofs.ArrayLemmas.{hit-is}
+use Rattle.xl_model_lemmas.proofs.HitLemmas.{hit-is}
 use Rattle.xl_model_lemmas.proofs.MemberLemmas.{find-In, find-passes}
 use Rattle.xl_tlb.specs.Arrays.{IsFit}
 use Rattle.xl_hart_laws.specs.Kept.{IsHartSpec, IsKept}

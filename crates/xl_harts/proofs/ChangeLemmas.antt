@@ -40,6 +40,7 @@ use Rattle.xl_model_lemmas.proofs.PoolLemmas.{lowest-some, lowest-none}
 use Rattle.xl_harts.specs.Views.{refusal_of, after_own, leaf_at, state_of, AllShort, IsHarts}
 use Rattle.xl_harts.proofs.RefusalLemmas.{map-at, map-change, table-limits}
 use Rattle.xl_hart_model.specs.declared.hart.HartSpec.{HartSpec}
+use Rattle.xl_hart_laws.proofs.QueueLemmas.{no-access, no-switch, no-fence}
 
 -- a radix table never refuses a change for which it has room
 pub never-refused : (c : Change) (t : TableState) (r : Refused) (levels spaces : ℕ) (nodes : List (Option Node)) → t.shape ≡ Radix levels spaces nodes → has_room c t.leaves t.shape ≡ true → Err r ≡ table_answer c t → ⊥
@@ -101,19 +102,6 @@ there-protect s space va o perm r = or-second _ _ r
 pub there-move : (s : HartsState) (space from to : ℕ) (o : Order) → hart_rule s (event.Move space from to o) ≡ None → there_rule (shared_row s.spec) s.table.leaves space from o ≡ None
 unfolding hart_rule rule
 there-move s space from to o r = or-first _ _ (or-second _ _ r)
-
--- an event that is no change
-no-access : (s : HartsState) (va : ℕ) (k : Kind) (c : Change) → hart_change s (event.Access va k) ≡ Some c → ⊥
-unfolding hart_change change_of
-no-access s va k c e = cc
-
-no-switch : (s : HartsState) (space : ℕ) (c : Change) → hart_change s (event.Space space) ≡ Some c → ⊥
-unfolding hart_change change_of
-no-switch s space c e = cc
-
-no-fence : (s : HartsState) (to : Scope) (c : Change) → hart_change s (event.Fence to) ≡ Some c → ⊥
-unfolding hart_change change_of
-no-fence s to c e = cc
 
 -- the state after a command that nothing refuses
 pub after-change : (s : HartsState) (e : Event) (c : Change) → refusal_of e s ≡ None → hart_change s e ≡ Some c → after_own e s ≡ mapping_changed (Some c) s

@@ -33,6 +33,7 @@ use Rattle.xl_frames.specs.Pool.{IsFree, HasNone}
 use Rattle.xl_hart_laws.specs.Kept.{IsHartSpec, IsTable}
 use Rattle.xl_tlb.specs.Arrays.{IsFit}
 use Rattle.xl_harts.specs.Views.{refusal_of, leaf_at}
+use Rattle.xl_hart_laws.proofs.CommandLemmas.{and_first}
 
 -- the spaces and pages of the shared table
 pub table-limits : (spec : HartSpec) (shape : Shape) → IsTable spec shape → (spaces_of shape ≡ spec.spaces) × (page_limit shape ≡ 2 ^ 27)
@@ -246,10 +247,6 @@ pub record MapPlace (s : HartsState) (space va : ℕ) (o : Order) : Type 0 where
   pub space_in : space < s.spec.spaces
   pub aligned : is_aligned o va ≡ true
   pub free : overlap_rule (shared_row s.spec) s.table.leaves space va o ≡ None
-
-and_first : (a b : Bool) → (a && b) ≡ true → a ≡ true
-and_first true b h = refl
-and_first false b h = h
 
 pub map-placed : (s : HartsState) (space va : ℕ) (o : Order) (perm : Perm) → hart_rule s (event.Map space va o perm) ≡ None → MapPlace s space va o
 unfolding hart_rule

@@ -23,19 +23,12 @@ use Rattle.xl_tlb.specs.Arrays.{IsFit}
 use Rattle.xl_harts.specs.Views.{IsHarts}
 use Rattle.xl_harts.proofs.RefusalLemmas.{leaf-fit}
 use Rattle.xl_harts.specs.Pools.{given_back, pool_after, LeafFits, Fits, nothing, last_of, settled_by, settled}
+use Rattle.xl_hart_laws.proofs.QueueLemmas.{after-take, take-some, take-all}
 
 -- a take that nothing refuses
 pub take-hart : (s : HartsState) (n : ℕ) → hart_refusal s (step.Take n) ≡ None → n < length s.harts
 unfolding hart_refusal
 take-hart s n ruled = let t : nat_lt n (length s.harts) ≡ true = refused-true _ _ (first-none _ _ ruled) in grind (arith, nat_tests)
-
-pub take-some : (s : HartsState) (n : ℕ) → hart_refusal s (step.Take n) ≡ None → 0 < (hart_at n s).waiting
-unfolding hart_refusal
-take-some s n ruled = let t : nat_lt 0 (hart_at n s).waiting ≡ true = refused-true _ _ (second-none _ _ ruled) in grind (arith, nat_tests)
-
-pub take-after : (s : HartsState) (n : ℕ) → hart_refusal s (step.Take n) ≡ None → after_hart_event (step.Take n) s ≡ request_taken n s
-unfolding after_hart_event hart_served
-take-after s n ruled = rw ruled refl
 
 -- the leaf before a request stood in a mapping
 pub before-valid : (s : HartsState) → IsKept s → (i : ℕ) → i < length s.requests → (x : Leaf) → (get_or s.requests i nothing).before ≡ Some x → IsLeafOf (shared_row s.spec) x
@@ -67,13 +60,6 @@ module _ (s : HartsState) (kept : IsKept s) (n : ℕ) (x : Hart) (less : (hart_a
 
   pub few : longest (set s.harts n x) ≤ length s.requests
   few = let a = longest-set (opening_hart s.spec) x s.harts n no_more in let b = kept.longest_is in omega arith
-
--- all of a list
-take-all : {A : Type 0} (n : ℕ) (xs : List A) → length xs ≤ n → take n xs ≡ xs
-take-all zero [] h = refl
-take-all zero (x ∷ xs) h = absurd (omega arith)
-take-all (suc n) [] h = refl
-take-all {A} (suc n) (x ∷ xs) h = ap (λ (ys : List A). x ∷ ys) (take-all n xs (omega arith))
 
 -- the pool after a request is let go
 given : (frames : ℕ) (before after : Option Leaf) (leaves rest all : List Leaf) (pool : List Bool) → ((f : ℕ) → owners f all ≡ owners f (with_held before after []) + owners f rest)
@@ -127,7 +113,7 @@ module _ (s : HartsState) (kept : IsKept s) (n : ℕ) (ruled : hart_refusal s (s
   taken-is = rw (are, is) refl
 
   pub taken-after : record s { harts = set s.harts n x; requests = requests } ≡ after_hart_event (step.Take n) s
-  taken-after = taken-is ∙ sym (take-after s n ruled)
+  taken-after = taken-is ∙ sym (after-take s n ruled)
 
   pub taken-harts : (capacity : ℕ) → capacity ≡ s.spec.queue → (pool after : List Bool) → IsPoolOf s.spec.frames (kept_leaves s) pool → after ≡ settled (longest (set s.harts n x)) s.requests pool
       → IsHarts (record s { harts = set s.harts n x; requests = requests }) capacity after

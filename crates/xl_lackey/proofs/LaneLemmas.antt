@@ -8,6 +8,7 @@ use Rattle.std.proofs.lemmas.Nat.{and_block}
 use Rattle.std.proofs.lemmas.Grind.{and_high_numeral}
 use Rattle.xl_lackey.specs.Digits.{hex_digit, hex_value}
 use Rattle.xl_lackey.specs.Lanes.{lane_value, less, plus, is_below, number_of}
+use Rattle.xl_lackey.proofs.TableLemmas.{both_hold}
 
 -- a fact of any eight elements is one of a list of eight
 pub by_eight : (P : List ℕ → Type 0) → ((a b c d e f g h : ℕ) → P (a ∷ b ∷ c ∷ d ∷ e ∷ f ∷ g ∷ h ∷ [])) → (xs : List ℕ) → length xs ≡ 8 → P xs
@@ -51,10 +52,6 @@ all_right (suc n) b = if right_at b (lane_value b) (hex_digit b) then all_right 
 
 all_bytes : all_right 256 0 ≡ true
 all_bytes = refl
-
-both_hold : (t on : Bool) → (if t then on else false) ≡ true → (t ≡ true) × (on ≡ true)
-both_hold true on h = (refl, h)
-both_hold false on h = cc
 
 right_of : (n b k : ℕ) → all_right n b ≡ true → k < n → right_at (b + k) (lane_value (b + k)) (hex_digit (b + k)) ≡ true
 right_of zero b k h l = absurd (omega arith)

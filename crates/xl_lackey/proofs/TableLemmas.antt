@@ -13,7 +13,7 @@ agrees b (d ∷ ds) = if d == digit_or_4096 (hex_digit b) then agrees (suc b) ds
 table_agrees : agrees 0 HEX_DIGITS ≡ true
 table_agrees = refl
 
-both_hold : (t on : Bool) → (if t then on else false) ≡ true → (t ≡ true) × (on ≡ true)
+pub both_hold : (t on : Bool) → (if t then on else false) ≡ true → (t ≡ true) × (on ≡ true)
 both_hold true on h = (refl, h)
 both_hold false on h = cc
 

@@ -65,10 +65,6 @@ pub there-move : (row : Row) (leaves : List Leaf) (space from to : ℕ) (o : Ord
 unfolding rule
 there-move row leaves space from to o r = or-first _ _ (or-second _ _ r)
 
--- the new place of a move, and the new leaf of a map
-pub place-move : (row : Row) (leaves : List Leaf) (space from to : ℕ) (o : Order) → rule row leaves (event.Move space from to o) ≡ None → IsNewPlace row leaves space (page_of row.mode to) o
-place-move row leaves space from to o r = sound-of row leaves (event.Move space from to o) (Relocate space (page_of row.mode from) (page_of row.mode to) o) r (move-is row leaves space from to o)
-
 pub leaf-map : (row : Row) (leaves : List Leaf) (space va : ℕ) (o : Order) (perm : Perm) (at : ℕ) → rule row leaves (event.Map space va o perm) ≡ None → lowest row.frames o leaves ≡ Some at
     → IsNewLeaf row leaves (record { space = space; first = page_of row.mode va; order = o; frame = at; perm = perm })
 leaf-map row leaves space va o perm at r e = sound-of row leaves (event.Map space va o perm) (Insert (record { space = space; first = page_of row.mode va; order = o; frame = at; perm = perm })) r (map-is row leaves space va o perm at e)

@@ -6,7 +6,7 @@ use Rattle.xl_model.specs.Changes.{Change, old_leaf, changed}
 use Rattle.xl_model.specs.Nodes.{Node, only_needed}
 use Rattle.xl_model.specs.Shapes.{Radix, Chained, Cuckoo, Runs, CuckooWays, CuckooRules, brought, ways_brought, ways_taken, widened, narrowed, shape_after}
 use Rattle.xl_model.specs.Room.{room_for}
-use Rattle.xl_model_lemmas.proofs.FreshNodeLemmas.{wide, HasPath}
+use Rattle.xl_model_laws.proofs.FreshNodeLemmas.{wide, HasPath}
 
 radix-widened : (leaf : Option Leaf) (levels spaces : ℕ) (nodes : List (Option Node)) → widened leaf (Radix levels spaces nodes) ≡ Radix levels spaces (wide levels leaf nodes)
 unfolding wide

@@ -34,13 +34,13 @@ use Rattle.xl_model_laws.specs.Fresh.{NothingIsStale}
 use Rattle.xl_model_laws.proofs.RunLemmas.{Keeps, run-keeps}
 use Rattle.xl_model_laws.proofs.LeafLemmas.{opening-mapping}
 use Rattle.xl_model_lemmas.proofs.FreshArrayLemmas.{hit-fresh, filled-fresh, without-fresh, changed-fresh, opening-fresh}
-use Rattle.xl_model_lemmas.proofs.FreshNodeLemmas.{NodesFull, wide, full-after, tags-after, tags-fenced, tags-walked, same-length, without-few}
+use Rattle.xl_model_laws.proofs.FreshNodeLemmas.{NodesFull, wide, full-after, tags-after, tags-fenced, tags-walked, same-length, without-few}
 use Rattle.xl_model_lemmas.proofs.FreshSectionLemmas.{section-some, section-walked, section-fenced, section-after, section-refused}
 use Rattle.xl_model_laws.proofs.CapLemmas.{refused-same}
 use Rattle.xl_model_laws.proofs.AfterLemmas.{radix-after, cuckoo-after, runs-after, chained-after, path-room}
 use Rattle.xl_model_laws.proofs.TableRunLemmas.{made-room, caps-placed}
 use Rattle.xl_model_lemmas.proofs.CoverLemmas.{found-leaf}
-use Rattle.xl_model_lemmas.proofs.FreshRangeLemmas.{ranges-fresh, range-filled, range-touched, range-fenced, range-after}
+use Rattle.xl_model_laws.proofs.FreshRangeLemmas.{ranges-fresh, range-filled, range-touched, range-fenced, range-after}
 use Rattle.xl_model.specs.declared.address.Mode.TheVariants as mode
 use Rattle.xl_model.specs.declared.address.Order.{Order}
 use Rattle.xl_model.specs.declared.address.Order.TheVariants as order

@@ -21,3 +21,6 @@ mod AloneLemmas
 mod ReadLemmas
 mod BeyondLemmas
 mod SectionLawLemmas
+mod NumberLemmas
+mod FreshRangeLemmas
+mod FreshNodeLemmas

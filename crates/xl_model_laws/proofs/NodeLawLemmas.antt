@@ -9,8 +9,8 @@ use Rattle.xl_model.specs.Changes.{Change, changed}
 use Rattle.xl_model.specs.Nodes.{up, Node, is_below, in_nodes, is_under, number_of, put_first, unless_there, with_node, with_path, with_leaf_nodes, is_needed, kept_node, only_needed, roots, opening_nodes}
 use Rattle.xl_model.specs.Shapes.{brought}
 use Rattle.xl_model_lemmas.proofs.MemberLemmas.{any-In}
-use Rattle.xl_model_lemmas.proofs.NumberLemmas.{position-none, is-new, kept-at}
-use Rattle.xl_model_lemmas.proofs.FreshNodeLemmas.{NodesFull, wide, HasPath, wide-at, full-after}
+use Rattle.xl_model_laws.proofs.NumberLemmas.{position-none, is-new, kept-at}
+use Rattle.xl_model_laws.proofs.FreshNodeLemmas.{NodesFull, wide, HasPath, wide-at, full-after, node-by}
 use Rattle.xl_model_laws.specs.Nodes.{root_of, IsNodeOf, AreNumbered}
 
 -- a node at a number, and the tests that it passes
@@ -27,10 +27,6 @@ any-at p (y ∷ nodes) h =
       | true ↦ λ t k. (0, t)
       | false ↦ λ t k. let r = any-at p nodes k in (suc r.0, r.1)
     ] refl h
-
--- the node below a slot
-node-by : (y : Node) (s l p : ℕ) → y.space ≡ s → y.level ≡ l → y.prefix ≡ p → y ≡ record { space = s; level = l; prefix = p }
-node-by y s l p a b c = rw (← a, ← b, ← c) refl
 
 pub below-is : (space l block : ℕ) (o : Option Node) → is_below space l block o ≡ true → (x : Node) × (o ≡ Some x) × (x ≡ record { space = space; level = l - 1; prefix = block }) × (x.level + 1 ≡ l)
 below-is space l block None h = absurd (cc)

@@ -19,7 +19,7 @@ use Rattle.xl_model.specs.Items.{run}
 use Rattle.xl_model_lemmas.specs.Members.{In, Once}
 use Rattle.xl_model_lemmas.proofs.MemberLemmas.{In-left, In-right, In-append}
 use Rattle.xl_model_lemmas.proofs.OnceLemmas.{same-by, once-append}
-use Rattle.xl_model_lemmas.proofs.NumberLemmas.{position-none, position-any}
+use Rattle.xl_model_laws.proofs.NumberLemmas.{position-none, position-any}
 use Rattle.xl_model_laws.specs.Nodes.{IsNodeOf, AreNumbered, HasNumbers, TheNodesAreTheMappings, AreNodesOf, RoomIsForAllNodes}
 use Rattle.xl_model_laws.proofs.AfterLemmas.{radix-after, path-room}
 use Rattle.xl_model_laws.proofs.TableRunLemmas.{run-holds}

@@ -25,6 +25,7 @@ use Rattle.xl_model.specs.Tlb.{Answer, answer_of}
 use Rattle.xl_model.specs.RowRun.{RowState, opening, walk_filled, walk_made, looked_by, looked, looked_where, reply_to, accessed, counts_refused, changed_by, changed_where, fenced, served, after_rule, after_event}
 use Rattle.xl_model_laws.specs.Runs.{TheReadsAreTheLoads}
 use Rattle.xl_model_laws.proofs.RunLemmas.{Keeps, run-keeps}
+use Rattle.xl_model_lemmas.proofs.LimitLemmas.{loads-by}
 
 AreLoads : RowState → Type 0
 AreLoads s = s.counts.reads ≡ s.table.loads
@@ -60,12 +61,6 @@ accessed-reads row va k s h = go (is_canonical row.mode va)
         ∙ looked-reads k (answer_of k s.arrays s.space (page_of row.mode va)) (page_of row.mode va) s h
     go false = reply-reads (reply_to row s va k) va s.counts ∙ h
 
-after-loads : (v : Verdict) (c : Change) (t : TableState) → (after_by v c t).loads ≡ t.loads
-unfolding table_made
-after-loads Made c t = refl
-after-loads NoSpace c t = refl
-after-loads NoPlace c t = refl
-
 refused-reads : (r : NoRoom) (w : Work) (c : Counts) → (counts_refused r w c).reads ≡ c.reads
 unfolding count_refusal count_work
 refused-reads why.NoTable w c = refl
@@ -73,8 +68,8 @@ refused-reads why.WayAtCap w c = refl
 
 made-reads : (answer : Result Work Refused) (row : Row) (c : Change) (s : RowState) → AreLoads s → AreLoads (changed_by answer row c s)
 unfolding AreLoads table_after count_accepted count_invalidated count_work
-made-reads (Ok work) row c s h = h ∙ sym (after-loads (verdict c s.table) c s.table)
-made-reads (Err r) row c s h = refused-reads r.why r.work s.counts ∙ (h ∙ sym (after-loads (verdict c s.table) c s.table))
+made-reads (Ok work) row c s h = h ∙ sym (loads-by (verdict c s.table) c s.table)
+made-reads (Err r) row c s h = refused-reads r.why r.work s.counts ∙ (h ∙ sym (loads-by (verdict c s.table) c s.table))
 
 changed-reads : (row : Row) (c : Option Change) (s : RowState) → AreLoads s → AreLoads (changed_where c row s)
 changed-reads row None s h = h

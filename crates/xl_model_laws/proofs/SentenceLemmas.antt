@@ -8,7 +8,7 @@ use Rattle.xl_model.specs.Addresses.{pages_of, same_order}
 use Rattle.xl_model.specs.Nodes.{Node}
 use Rattle.xl_model.specs.Ranges.{same_perm, range_of_leaf, goes_into, joined, ranges_of}
 use Rattle.xl_model_laws.specs.Sentences.{AreConsecutive, IsRun, AreRuns, runs_on, NoneRunsOn, TheRangesAreMaximalRuns, ANodeTakesTheLowestNumber}
-use Rattle.xl_model_lemmas.proofs.FreshRangeLemmas.{Joins, joins}
+use Rattle.xl_model_laws.proofs.FreshRangeLemmas.{Joins, joins}
 
 -- a run looked at from a range of the same kind
 same-kind : (a b : Range) (start frame pages : ℕ) (xs : List Leaf) → a.space ≡ b.space → a.order ≡ b.order → a.perm ≡ b.perm

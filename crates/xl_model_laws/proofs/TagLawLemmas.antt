@@ -16,7 +16,7 @@ use Rattle.xl_model.specs.Nodes.{Node}
 use Rattle.xl_model_lemmas.specs.Members.{In, Once}
 use Rattle.xl_model_lemmas.proofs.MemberLemmas.{In-any, any-In, filter-In, filter-passes, In-filter}
 use Rattle.xl_model_lemmas.proofs.ChangeLemmas.{changed-In}
-use Rattle.xl_model_lemmas.proofs.FreshNodeLemmas.{new-brought}
+use Rattle.xl_model_laws.proofs.FreshNodeLemmas.{new-brought}
 use Rattle.xl_model.specs.Items.{run}
 use Rattle.xl_model_laws.specs.Tags.{AreTagsOf, HasTags, TheTagsAreTheLeaves, HasTagsWith, RoomIsForAllTags}
 use Rattle.xl_model_laws.proofs.TableRunLemmas.{TableKeeps, run-holds}

@@ -54,7 +54,7 @@ module _ {A : Type 0} (tag : A → ℕ) (n : ℕ) where
         | false ↦ refl
       ]
 
-unequal : (x y : ℕ) → (x ≡ y → ⊥) → (x == y) ≡ false
+pub unequal : (x y : ℕ) → (x ≡ y → ⊥) → (x == y) ≡ false
 unequal x y o = elim (x == y) as (λ t. (x == y) ≡ t → t ≡ false) [ true ↦ λ t. absurd (o (grind (arith, nat_tests))) | false ↦ λ t. refl ] refl
 
 -- a tag in front of its bucket changes the chain of that bucket alone

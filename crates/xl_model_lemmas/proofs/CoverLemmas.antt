@@ -7,9 +7,11 @@ use Rattle.xl_model.specs.Mapping.{covers, is_leaf, leaf_at_page, leaf_named}
 use Rattle.xl_model.specs.Rows.{Row}
 use Rattle.xl_model_lemmas.specs.Members.{In}
 use Rattle.xl_model_lemmas.specs.Mappings.{IsMapping, IsFound}
-use Rattle.xl_model_lemmas.proofs.MemberLemmas.{find-In, find-passes, find-only}
+use Rattle.xl_model_lemmas.proofs.MemberLemmas.{find-In, find-passes, find-only, In-any}
 use Rattle.xl_model_lemmas.proofs.InsertionLemmas.{same-place}
 use Rattle.xl_model_lemmas.proofs.PlaceLemmas.{named-key}
+use Rattle.xl_model.specs.Changes.{IsNamed}
+use Rattle.xl_model_lemmas.proofs.SameLemmas.{any-find}
 
 -- two leaves of a mapping that cover a page are one
 pub covered-one : (row : Row) (leaves : List Leaf) (space page : ℕ) (x y : Leaf) → IsMapping row leaves → In x leaves → In y leaves
@@ -39,3 +41,12 @@ unfolding leaf_named
 named-by row leaves space first o x m i t =
     find-only (is_leaf space first o) x leaves i t
     (λ y j h. same-place y x leaves m.sorted j i (named-key space first o y h ∙ sym (named-key space first o x t)))
+
+-- a leaf that is found has its own name
+pub found-named : (s page : ℕ) (x : Leaf) (leaves : List Leaf) → leaf_at_page s page leaves ≡ Some x → IsNamed x.space x.first x.order leaves
+unfolding leaf_at_page leaf_named
+found-named s page x leaves h =
+    sym (any-find (is_leaf x.space x.first x.order) leaves) ∙ In-any (is_leaf x.space x.first x.order) x leaves (find-In (covers s page) x leaves h) named
+  where
+    named : is_leaf x.space x.first x.order x ≡ true
+    named = grind (arith, nat_tests)

@@ -22,20 +22,20 @@ use Rattle.xl_model_lemmas.specs.Fresh.{InSets, Held, ArraysFresh}
 use Rattle.xl_model_lemmas.proofs.HitLemmas.{get-In, answer-held}
 
 -- sets
-set-In : (leaf : Leaf) (sets : List (List Leaf)) (i : ℕ) (v : List Leaf) → InSets leaf (slice_set sets i v) → In leaf v ⊎ InSets leaf sets
+pub set-In : (leaf : Leaf) (sets : List (List Leaf)) (i : ℕ) (v : List Leaf) → InSets leaf (slice_set sets i v) → In leaf v ⊎ InSets leaf sets
 set-In leaf [] i v h = inr h
 set-In leaf (s ∷ sets) zero v (inl j) = inl j
 set-In leaf (s ∷ sets) zero v (inr j) = inr (inr j)
 set-In leaf (s ∷ sets) (suc i) v (inl j) = inr (inl j)
 set-In leaf (s ∷ sets) (suc i) v (inr j) = elim (set-In leaf sets i v j) [ inl k ↦ inl k | inr k ↦ inr (inr k) ]
 
-purged-sets : (p : Leaf → Bool) (leaf : Leaf) (sets : List (List Leaf)) → InSets leaf (map (purged p) sets) → InSets leaf sets × (p leaf ≡ false)
+pub purged-sets : (p : Leaf → Bool) (leaf : Leaf) (sets : List (List Leaf)) → InSets leaf (map (purged p) sets) → InSets leaf sets × (p leaf ≡ false)
 purged-sets p leaf [] h = absurd h
 purged-sets p leaf (s ∷ sets) (inl i) = let k = purged-In p leaf s i in (inl k.0, k.1)
 purged-sets p leaf (s ∷ sets) (inr i) = let k = purged-sets p leaf sets i in (inr k.0, k.1)
 
 -- one array
-touched-sets : (space page : ℕ) (hit leaf : Leaf) (a : TlbArray) → InSets leaf (array_touched space page hit a).sets → InSets leaf a.sets
+pub touched-sets : (space page : ℕ) (hit leaf : Leaf) (a : TlbArray) → InSets leaf (array_touched space page hit a).sets → InSets leaf a.sets
 unfolding array_touched
 touched-sets space page hit leaf a i =
     elim (set-In leaf a.sets (set_number a.spec hit.order page) (touched (covers_as space page hit.order) (set_at a hit.order page)) i) [
@@ -43,7 +43,7 @@ touched-sets space page hit leaf a i =
       | inr j ↦ j
     ]
 
-filled-by : (b : Bool) (new leaf : Leaf) (a : TlbArray) → InSets leaf (filled_where b new a).sets → (leaf ≡ new) ⊎ InSets leaf a.sets
+pub filled-by : (b : Bool) (new leaf : Leaf) (a : TlbArray) → InSets leaf (filled_where b new a).sets → (leaf ≡ new) ⊎ InSets leaf a.sets
 filled-by false new leaf a i = inr i
 filled-by true new leaf a i =
     elim (set-In leaf a.sets (set_number a.spec new.order new.first) (with_newest a.spec.width new (set_at a new.order new.first)) i) [
@@ -54,7 +54,7 @@ filled-by true new leaf a i =
       | inr j ↦ inr j
     ]
 
-filled-sets : (new leaf : Leaf) (a : TlbArray) → InSets leaf (array_filled new a).sets → (leaf ≡ new) ⊎ InSets leaf a.sets
+pub filled-sets : (new leaf : Leaf) (a : TlbArray) → InSets leaf (array_filled new a).sets → (leaf ≡ new) ⊎ InSets leaf a.sets
 unfolding array_filled
 filled-sets new leaf a i = filled-by (takes_order a.spec new.order) new leaf a i
 
@@ -145,7 +145,7 @@ changed-fresh row c arrays leaves m s fresh leaf h =
     let k = after-held row.purge (old_leaf c leaves) leaf arrays h in
     stays-changed row leaves c leaf m s (fresh leaf k.0) k.1
 
-opening-sets : (leaf : Leaf) (n : ℕ) → InSets leaf (replicate n []) → ⊥
+pub opening-sets : (leaf : Leaf) (n : ℕ) → InSets leaf (replicate n []) → ⊥
 opening-sets leaf zero h = h
 opening-sets leaf (suc n) (inl i) = i
 opening-sets leaf (suc n) (inr i) = opening-sets leaf n i
@@ -158,3 +158,16 @@ opening-held leaf (spec ∷ specs) (inr i) = opening-held leaf specs i
 pub opening-fresh : (specs : List TlbSpec) (leaves : List Leaf) → ArraysFresh (opening_arrays specs) leaves
 unfolding opening_arrays
 opening-fresh specs leaves leaf h = absurd (opening-held leaf specs h)
+
+-- one hart
+pub touched-spec : (space page : ℕ) (leaf : Leaf) (a : TlbArray) → (array_touched space page leaf a).spec ≡ a.spec
+unfolding array_touched
+touched-spec space page leaf a = refl
+
+pub filled-spec : (leaf : Leaf) (a : TlbArray) → (array_filled leaf a).spec ≡ a.spec
+unfolding array_filled
+filled-spec leaf a = go (takes_order a.spec leaf.order)
+  where
+    go : (b : Bool) → (filled_where b leaf a).spec ≡ a.spec
+    go true = refl
+    go false = refl

@@ -30,7 +30,7 @@ ways-same None (Some b) h = absurd (cc)
 ways-same (Some a) None h = absurd (cc)
 ways-same (Some a) (Some b) h = let e : a ≡ b = grind (arith, nat_tests) in ap Some e
 
-by-fields : (a b : Section) → a.space ≡ b.space → a.block ≡ b.block → a.has_k4 ≡ b.has_k4 → a.has_m2 ≡ b.has_m2 → a.has_g1 ≡ b.has_g1 → a.way ≡ b.way → a ≡ b
+pub by-fields : (a b : Section) → a.space ≡ b.space → a.block ≡ b.block → a.has_k4 ≡ b.has_k4 → a.has_m2 ≡ b.has_m2 → a.has_g1 ≡ b.has_g1 → a.way ≡ b.way → a ≡ b
 by-fields a b s k x y z w =
     let A : Section = record { space = a.space; block = a.block; has_k4 = a.has_k4; has_m2 = a.has_m2; has_g1 = a.has_g1; way = a.way } in
     let B : Section = record { space = b.space; block = b.block; has_k4 = b.has_k4; has_m2 = b.has_m2; has_g1 = b.has_g1; way = b.way } in

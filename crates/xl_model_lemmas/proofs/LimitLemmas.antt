@@ -70,7 +70,7 @@ page-stays old new space page same is = record {
 }
 
 -- a change and a fence load nothing
-loads-by : (v : Verdict) (c : Change) (t : TableState) → (after_by v c t).loads ≡ t.loads
+pub loads-by : (v : Verdict) (c : Change) (t : TableState) → (after_by v c t).loads ≡ t.loads
 unfolding table_made
 loads-by Made c t = refl
 loads-by NoSpace c t = refl

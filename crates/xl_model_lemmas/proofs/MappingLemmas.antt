@@ -64,7 +64,7 @@ kept-without row space first xs m = record {
   frames = λ a b frame i j s t. m.frames a b frame (without-In a space first xs i) (without-In b space first xs j) s t;
 }
 
-none-true : (a : Bool) → a ≡ false → a ≡ true → ⊥
+pub none-true : (a : Bool) → a ≡ false → a ≡ true → ⊥
 none-true a f t = let e : false ≡ true = sym f ∙ t in absurd (cc)
 
 -- a leaf in place of another, with its order and frame

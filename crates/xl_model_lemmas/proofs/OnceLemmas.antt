@@ -46,7 +46,7 @@ module _ {A : Type 0} (eq : A → A → Bool) (is : (x y : A) → eq x y ≡ tru
 numbers-one : (x y : ℕ) → (x == y) ≡ true → x ≡ y
 numbers-one x y t = grind (arith, nat_tests)
 
-own-number : (x : ℕ) → (x == x) ≡ true
+pub own-number : (x : ℕ) → (x == x) ≡ true
 own-number x = grind (arith, nat_tests)
 
 pub once-short : (xs ys : List ℕ) → Once xs → ((x : ℕ) → In x xs → In x ys) → length xs ≤ length ys

@@ -6,7 +6,7 @@ use Rattle.xl_model.specs.declared.address.Mode.TheVariants as mode
 use Rattle.xl_model.specs.declared.address.Order.{Order}
 use Rattle.xl_model.specs.declared.address.Order.TheVariants as order
 use Rattle.xl_model.specs.declared.leaf.Leaf.{Leaf}
-use Rattle.xl_model.specs.Addresses.{levels_of, pages_of, page_of, is_aligned}
+use Rattle.xl_model.specs.Addresses.{levels_of, pages_of, page_of, is_aligned, level_of}
 use Rattle.xl_model.specs.Mapping.{covers, meets_block, holds_frames, is_leaf, leaf_key}
 use Rattle.xl_model_lemmas.proofs.OrderLemmas.{pages-some, same-level}
 
@@ -101,3 +101,9 @@ unfolding page_of
 page-block m o va h =
     let is = block-in o m (va / 4096) (page-aligned-in 0 0 o va h) in
     (is.0, (va / 4096 % 2 ^ (9 * levels_of m) / pages_of o, is.1))
+
+-- a leaf that the table can take
+pub aligned-frame : (o : Order) (frame e : ℕ) → frame ≡ e * pages_of o → frame % 2 ^ (9 * level_of o) ≡ 0
+aligned-frame order.K4 frame e h = omega arith
+aligned-frame order.M2 frame e h = omega arith
+aligned-frame order.G1 frame e h = omega arith

@@ -117,7 +117,7 @@ old-In (Remove space first o) leaves old h = named-In space first o old leaves h
 old-In (Protect space first o perm) leaves old h = named-In space first o old leaves h
 old-In (Relocate space first to o) leaves old h = named-In space first o old leaves h
 
-new-In : (c : Change) (leaves : List Leaf) (new : Leaf) → new_leaf c leaves ≡ Some new → In new (changed c leaves)
+pub new-In : (c : Change) (leaves : List Leaf) (new : Leaf) → new_leaf c leaves ≡ Some new → In new (changed c leaves)
 unfolding changed
 new-In c leaves new h = rw h (In-with new (without_old (old_leaf c leaves) leaves))
 

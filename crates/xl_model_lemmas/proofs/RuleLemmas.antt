@@ -72,7 +72,7 @@ new-leaf row space va o perm leaves (Some at) c ruled is told =
       free = is.is_free;
     })
 
-new-place : (row : Row) (leaves : List Leaf) (space from to : ℕ) (o : Order)
+pub new-place : (row : Row) (leaves : List Leaf) (space from to : ℕ) (o : Order)
     → rule row leaves (event.Move space from to o) ≡ None → IsNewPlace row leaves space (page_of row.mode to) o
 unfolding rule
 new-place row leaves space from to o ruled =

@@ -1,9 +1,13 @@
 -- Tests that agree, and lists with the same members: what one finds or passes, the other does.
-use Rattle.std.proofs.Common.{◌≡◌, refl, sym, ap, ◌∙◌, Bool, true, false, cond, List, [], ◌∷◌, Option, None, Some, ◌||◌, inl, inr}
+use Rattle.std.proofs.Common.{◌≡◌, refl, sym, ap, ◌∙◌, Bool, true, false, cond, List, [], ◌∷◌, Option, None, Some, ◌||◌, inl, inr, ℕ, ◌<◌, nat_lt, arith, ◌≤◌}
 use Rattle.std.specs.Prelude.{find, is_some}
 use Rattle.std.specs.List.{list_any}
 use Rattle.xl_model_lemmas.specs.Members.{In}
 use Rattle.xl_model_lemmas.proofs.MemberLemmas.{find-In, find-passes, find-None, find-only, any-false, any-In}
+use Rattle.std.proofs.lemmas.Bool.Decides.{nat_tests}
+use Rattle.xl_model.specs.Base.{same_bit}
+use Rattle.xl_model.specs.declared.perm.Perm.{Perm}
+use Rattle.xl_model.specs.Ranges.{same_perm}
 
 -- a test passes some member of both or of neither
 pub any-same : {A : Type 0} (p : A → Bool) (xs ys : List A) → ((z : A) → In z xs → In z ys) → ((z : A) → In z ys → In z xs) → list_any p xs ≡ list_any p ys
@@ -71,3 +75,16 @@ same-tests false false h k = refl
 
 pub both : (b : Bool) → b ≡ true → b ≡ false → ⊥
 both b t f = let e : true ≡ false = sym t ∙ f in absurd (cc)
+
+pub pick-yes : {A : Type 0} → (m n : ℕ) (a b : A) → m < n → cond (nat_lt m n) a b ≡ a
+pick-yes m n a b h = let e : nat_lt m n ≡ true = grind (arith, nat_tests) in rw e refl
+
+pub pick-no : {A : Type 0} → (m n : ℕ) (a b : A) → n ≤ m → cond (nat_lt m n) a b ≡ b
+pick-no m n a b h = let e : nat_lt m n ≡ false = grind (arith, nat_tests) in rw e refl
+
+pub bit-same : (b : Bool) → same_bit b b ≡ true
+bit-same true = refl
+bit-same false = refl
+
+pub perm-same : (p : Perm) → same_perm p p ≡ true
+perm-same p = rw (bit-same p.r, bit-same p.w, bit-same p.x, bit-same p.u) refl

@@ -126,7 +126,7 @@ count-with size x xs apart =
     ])
 
 -- the definition's test of a section is that of its key
-small-block : (o : Order) (first : ℕ) → first < 2 ^ 45 → first / pages_of o < 2 ^ 45
+pub small-block : (o : Order) (first : ℕ) → first < 2 ^ 45 → first / pages_of o < 2 ^ 45
 small-block order.K4 first h = omega arith
 small-block order.M2 first h = omega arith
 small-block order.G1 first h = omega arith

@@ -1,9 +1,10 @@
 -- A sorted list of leaves is known by its members; one leaf put in and another taken out, in either order.
-use Rattle.std.proofs.Common.{◌≡◌, refl, sym, ap, subst, ℕ, List, [], ◌∷◌, inl, inr, ◌<◌, ◌+◌, ◌*◌, ◌^◌, arith}
+use Rattle.std.proofs.Common.{◌≡◌, refl, sym, ap, subst, ℕ, List, [], ◌∷◌, inl, inr, ◌<◌, ◌+◌, ◌*◌, ◌^◌, arith, true, false, ◌==◌}
 use Rattle.xl_model.specs.declared.leaf.Leaf.{Leaf}
 use Rattle.xl_model.specs.Mapping.{leaf_key, with_leaf, without_leaf}
 use Rattle.xl_model_lemmas.specs.Members.{In, AllAbove, IsSorted}
-use Rattle.xl_model_lemmas.proofs.InsertionLemmas.{above-In, with-In, In-with, stays-with, sorted-with, sorted-without, without-In, without-other, In-without}
+use Rattle.xl_model_lemmas.proofs.InsertionLemmas.{above-In, with-In, In-with, stays-with, sorted-with, sorted-without, without-In, without-other, In-without, same-place}
+use Rattle.std.proofs.lemmas.Bool.Decides.{nat_tests}
 
 heads : (x y : Leaf) (xs ys : List Leaf) → AllAbove (leaf_key x) xs → AllAbove (leaf_key y) ys → In x (y ∷ ys) → In y (x ∷ xs) → x ≡ y
 heads x y xs ys above_x above_y (inl e) j = e
@@ -49,3 +50,32 @@ with-without s f x xs sorted other new =
       | inl e ↦ let P : Leaf → Type 0 = λ w. In w (with_leaf x (without_leaf s f xs)) in subst P (sym e) (In-with x (without_leaf s f xs))
       | inr j ↦ stays-with z x (without_leaf s f xs) (In-without z s f xs j (without-other z s f (with_leaf x xs) i)) (new z j)
     ])
+
+-- A leaf taken out and put back.
+pub put-back : (x : Leaf) (xs : List Leaf) → IsSorted xs → In x xs → with_leaf x (without_leaf x.space x.first xs) ≡ xs
+put-back x xs sorted i =
+    same-sorted (with_leaf x (without_leaf x.space x.first xs)) xs (sorted-with x (without_leaf x.space x.first xs) (sorted-without x.space x.first xs sorted)) sorted
+    (λ z j. elim (with-In z x (without_leaf x.space x.first xs) j) [
+      | inl e ↦ let P : Leaf → Type 0 = λ w. In w xs in subst P (sym e) i
+      | inr k ↦ without-In z x.space x.first xs k
+    ])
+    (λ z j. elim (leaf_key z == leaf_key x) as (λ b. (leaf_key z == leaf_key x) ≡ b → In z (with_leaf x (without_leaf x.space x.first xs))) [
+      | true ↦ λ t.
+          let e : leaf_key z ≡ leaf_key x = grind (arith, nat_tests) in
+          let same : z ≡ x = same-place z x xs sorted j i e in
+          let P : Leaf → Type 0 = λ w. In w (with_leaf x (without_leaf x.space x.first xs)) in
+          subst P (sym same) (In-with x (without_leaf x.space x.first xs))
+      | false ↦ λ t.
+          let other : leaf_key z ≡ leaf_key x → ⊥ = λ e. grind (arith, nat_tests) in
+          stays-with z x (without_leaf x.space x.first xs) (In-without z x.space x.first xs j other) other
+    ] refl)
+
+-- A leaf put in and taken out again.
+pub took-back : (x : Leaf) (xs : List Leaf) → IsSorted xs → ((z : Leaf) → In z xs → leaf_key z ≡ leaf_key x → ⊥) → without_leaf x.space x.first (with_leaf x xs) ≡ xs
+took-back x xs sorted new =
+    same-sorted (without_leaf x.space x.first (with_leaf x xs)) xs (sorted-without x.space x.first (with_leaf x xs) (sorted-with x xs sorted)) sorted
+    (λ z j. elim (with-In z x xs (without-In z x.space x.first (with_leaf x xs) j)) [
+      | inl e ↦ absurd (without-other z x.space x.first (with_leaf x xs) j (ap leaf_key e))
+      | inr k ↦ k
+    ])
+    (λ z j. In-without z x.space x.first (with_leaf x xs) (stays-with z x xs j (new z j)) (new z j))

@@ -9,4 +9,3 @@ pub mod Limits
 pub mod Pools
 pub mod Fresh
 pub mod Scenes
-pub mod HeldRanges

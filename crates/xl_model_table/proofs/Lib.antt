@@ -1,1 +1,3 @@
 mod ScanLemmas
+mod TableLemmas
+mod MoveLemmas

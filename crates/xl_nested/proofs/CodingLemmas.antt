@@ -20,28 +20,24 @@ use Rattle.xl_nested.specs.Commands.{IsPlace}
 use Rattle.xl_nested.specs.declared.block.Block.{Block}
 use Rattle.xl_nested.specs.Fronts.{IsBlockOf, IsFoundBlock}
 use Rattle.xl_model_lemmas.proofs.OrderLemmas.{pages-some}
-
-both : (a b : Bool) → (a ≡ true → b ≡ true) → (b ≡ true → a ≡ true) → a ≡ b
-both true b f g = sym (f refl)
-both false true f g = g refl
-both false false f g = refl
+use Rattle.xl_model_lemmas.proofs.SameLemmas.{same-tests}
 
 -- a block covers the guest pages of its number
 block-covers : (o : Order) (block g : ℕ) → (block == g / pages_of o)
     ≡ ((host_space (block * pages_of o) == host_space g) && (nat_le (host_page (block * pages_of o)) (host_page g) && nat_lt (host_page g) (host_page (block * pages_of o) + pages_of o)))
-block-covers order.K4 block g = both _ _ (λ h. grind (arith, nat_tests)) (λ h. grind (arith, nat_tests))
-block-covers order.M2 block g = both _ _ (λ h. grind (arith, nat_tests)) (λ h. grind (arith, nat_tests))
-block-covers order.G1 block g = both _ _ (λ h. grind (arith, nat_tests)) (λ h. grind (arith, nat_tests))
+block-covers order.K4 block g = same-tests _ _ (λ h. grind (arith, nat_tests)) (λ h. grind (arith, nat_tests))
+block-covers order.M2 block g = same-tests _ _ (λ h. grind (arith, nat_tests)) (λ h. grind (arith, nat_tests))
+block-covers order.G1 block g = same-tests _ _ (λ h. grind (arith, nat_tests)) (λ h. grind (arith, nat_tests))
 
 -- of the three tags of a guest page an item can have that of its own order alone
 tag-4k : (t g : ℕ) → t % 3 ≡ 0 → ((t == g / 1 * 3 + 0) || ((t == g / 512 * 3 + 1) || (t == g / 262144 * 3 + 2))) ≡ (t / 3 == g / 1)
-tag-4k t g e = both _ _ (λ h. grind (arith, nat_tests)) (λ h. grind (arith, nat_tests))
+tag-4k t g e = same-tests _ _ (λ h. grind (arith, nat_tests)) (λ h. grind (arith, nat_tests))
 
 tag-2m : (t g : ℕ) → t % 3 ≡ 1 → ((t == g / 1 * 3 + 0) || ((t == g / 512 * 3 + 1) || (t == g / 262144 * 3 + 2))) ≡ (t / 3 == g / 512)
-tag-2m t g e = both _ _ (λ h. grind (arith, nat_tests)) (λ h. grind (arith, nat_tests))
+tag-2m t g e = same-tests _ _ (λ h. grind (arith, nat_tests)) (λ h. grind (arith, nat_tests))
 
 tag-1g : (t g : ℕ) → t % 3 ≡ 2 → ((t == g / 1 * 3 + 0) || ((t == g / 512 * 3 + 1) || (t == g / 262144 * 3 + 2))) ≡ (t / 3 == g / 262144)
-tag-1g t g e = both _ _ (λ h. grind (arith, nat_tests)) (λ h. grind (arith, nat_tests))
+tag-1g t g e = same-tests _ _ (λ h. grind (arith, nat_tests)) (λ h. grind (arith, nat_tests))
 
 -- a look compares an item's tag with those of the guest page
 pub same-page : (g : ℕ) (i : Item) → is_among (tag_of g order.K4) (tag_of g order.M2) (tag_of g order.G1) i ≡ covers_guest g (leaf_of i)
@@ -63,15 +59,15 @@ parts-of block order.G1 = (omega arith, omega arith)
 -- a leaf named by its block
 core-leaf : (block g e : ℕ) (x o : Order) → g ≡ e * pages_of o → (block * 3 + level_of x == g / pages_of o * 3 + level_of o)
     ≡ ((host_space (block * pages_of x) == host_space g) && ((host_page (block * pages_of x) == host_page g) && same_order x o))
-core-leaf block g e order.K4 order.K4 a = both _ _ (λ h. grind (arith, nat_tests)) (λ h. grind (arith, nat_tests))
-core-leaf block g e order.K4 order.M2 a = both _ _ (λ h. grind (arith, nat_tests)) (λ h. grind (arith, nat_tests))
-core-leaf block g e order.K4 order.G1 a = both _ _ (λ h. grind (arith, nat_tests)) (λ h. grind (arith, nat_tests))
-core-leaf block g e order.M2 order.K4 a = both _ _ (λ h. grind (arith, nat_tests)) (λ h. grind (arith, nat_tests))
-core-leaf block g e order.M2 order.M2 a = both _ _ (λ h. grind (arith, nat_tests)) (λ h. grind (arith, nat_tests))
-core-leaf block g e order.M2 order.G1 a = both _ _ (λ h. grind (arith, nat_tests)) (λ h. grind (arith, nat_tests))
-core-leaf block g e order.G1 order.K4 a = both _ _ (λ h. grind (arith, nat_tests)) (λ h. grind (arith, nat_tests))
-core-leaf block g e order.G1 order.M2 a = both _ _ (λ h. grind (arith, nat_tests)) (λ h. grind (arith, nat_tests))
-core-leaf block g e order.G1 order.G1 a = both _ _ (λ h. grind (arith, nat_tests)) (λ h. grind (arith, nat_tests))
+core-leaf block g e order.K4 order.K4 a = same-tests _ _ (λ h. grind (arith, nat_tests)) (λ h. grind (arith, nat_tests))
+core-leaf block g e order.K4 order.M2 a = same-tests _ _ (λ h. grind (arith, nat_tests)) (λ h. grind (arith, nat_tests))
+core-leaf block g e order.K4 order.G1 a = same-tests _ _ (λ h. grind (arith, nat_tests)) (λ h. grind (arith, nat_tests))
+core-leaf block g e order.M2 order.K4 a = same-tests _ _ (λ h. grind (arith, nat_tests)) (λ h. grind (arith, nat_tests))
+core-leaf block g e order.M2 order.M2 a = same-tests _ _ (λ h. grind (arith, nat_tests)) (λ h. grind (arith, nat_tests))
+core-leaf block g e order.M2 order.G1 a = same-tests _ _ (λ h. grind (arith, nat_tests)) (λ h. grind (arith, nat_tests))
+core-leaf block g e order.G1 order.K4 a = same-tests _ _ (λ h. grind (arith, nat_tests)) (λ h. grind (arith, nat_tests))
+core-leaf block g e order.G1 order.M2 a = same-tests _ _ (λ h. grind (arith, nat_tests)) (λ h. grind (arith, nat_tests))
+core-leaf block g e order.G1 order.G1 a = same-tests _ _ (λ h. grind (arith, nat_tests)) (λ h. grind (arith, nat_tests))
 
 -- a removal compares one number
 pub same-leaf : (g : ℕ) (o : Order) → IsPlace g o (2 ^ 29) → (i : Item) → has_tag (tag_of g o) i ≡ is_leaf (host_space g) (host_page g) o (leaf_of i)
@@ -158,9 +154,9 @@ page-says i g behind result covers is e =
 
 -- the block of an item's leaf begins at a multiple of its size
 block-has : (o : Order) (block g h first : ℕ) → block ≡ g / pages_of o → first ≡ g - g % pages_of o → (block == h / pages_of o) ≡ (nat_le first h && nat_lt (h - first) (pages_of o))
-block-has order.K4 block g h first b f = let m : first ≡ block * 1 = omega arith in both _ _ (λ e. grind (arith, nat_tests)) (λ e. grind (arith, nat_tests))
-block-has order.M2 block g h first b f = let m : first ≡ block * 512 = omega arith in both _ _ (λ e. grind (arith, nat_tests)) (λ e. grind (arith, nat_tests))
-block-has order.G1 block g h first b f = let m : first ≡ block * 262144 = omega arith in both _ _ (λ e. grind (arith, nat_tests)) (λ e. grind (arith, nat_tests))
+block-has order.K4 block g h first b f = let m : first ≡ block * 1 = omega arith in same-tests _ _ (λ e. grind (arith, nat_tests)) (λ e. grind (arith, nat_tests))
+block-has order.M2 block g h first b f = let m : first ≡ block * 512 = omega arith in same-tests _ _ (λ e. grind (arith, nat_tests)) (λ e. grind (arith, nat_tests))
+block-has order.G1 block g h first b f = let m : first ≡ block * 262144 = omega arith in same-tests _ _ (λ e. grind (arith, nat_tests)) (λ e. grind (arith, nat_tests))
 
 block-behind : (o : Order) (block g h first : ℕ) → block ≡ g / pages_of o → first ≡ g - g % pages_of o → (nat_le first h && nat_lt (h - first) (pages_of o)) ≡ true → h - first ≡ h % pages_of o
 block-behind order.K4 block g h first b f e = let m : first ≡ block * 1 = omega arith in grind (arith, nat_tests)

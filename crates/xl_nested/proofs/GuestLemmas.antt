@@ -26,18 +26,14 @@ use Rattle.xl_nested.specs.Walks.{IsAt, IsEntry, IsFor, IsReached, LeavesReach}
 use Rattle.xl_radix.proofs.NumberLemmas.{number-some}
 use Rattle.xl_nested.proofs.ApartLemmas.{left-In}
 use Rattle.xl_nested.proofs.ShapeLemmas.{shape-like}
-
--- a new table
-roots-length : (levels space n : ℕ) → length (roots levels space n) ≡ n
-roots-length levels space zero = refl
-roots-length levels space (suc n) = ap suc (roots-length levels (space + 1) n)
+use Rattle.xl_radix.proofs.OpeningLemmas.{length-roots}
 
 pub opening-length : (spaces n : ℕ) → spaces ≤ n → length (opening_nodes 3 spaces n) ≡ n
 unfolding opening_nodes
 opening-length spaces n few =
     let none : Option Node = None in
     let a : length (roots 3 0 spaces ++ replicate (n - spaces) none) ≡ length (roots 3 0 spaces) + length (replicate (n - spaces) none) = length-append (roots 3 0 spaces) (replicate (n - spaces) none) in
-    let b : length (roots 3 0 spaces) ≡ spaces = roots-length 3 0 spaces in
+    let b : length (roots 3 0 spaces) ≡ spaces = length-roots 3 0 spaces in
     let d : length (replicate (n - spaces) none) ≡ n - spaces = length-replicate (n - spaces) none in
     a ∙ (omega arith)
 

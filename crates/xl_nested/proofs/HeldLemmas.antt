@@ -13,18 +13,14 @@ use Rattle.xl_recency.specs.Lists.{Touches}
 use Rattle.xl_nested.specs.declared.g_cache.Held.{Held}
 use Rattle.xl_nested.specs.declared.g_cache.Held.TheVariants as held
 use Rattle.xl_nested.specs.Coding.{has_tag, is_among, tag_of, IsHeld}
-
-both : (a b : Bool) → (a ≡ true → b ≡ true) → (b ≡ true → a ≡ true) → a ≡ b
-both true b f g = sym (f refl)
-both false true f g = g refl
-both false false f g = refl
+use Rattle.xl_model_lemmas.proofs.SameLemmas.{same-tests}
 
 -- of the three tags of a guest page an item of an order can have that of its order alone
 only-among : (g : ℕ) (o : Order) (i : Item) → i.tag % 3 ≡ level_of o → has_tag (tag_of g o) i ≡ is_among (tag_of g order.K4) (tag_of g order.M2) (tag_of g order.G1) i
 unfolding tag_of
-only-among g order.K4 i e = both _ _ (λ h. grind (arith, nat_tests)) (λ h. grind (arith, nat_tests))
-only-among g order.M2 i e = both _ _ (λ h. grind (arith, nat_tests)) (λ h. grind (arith, nat_tests))
-only-among g order.G1 i e = both _ _ (λ h. grind (arith, nat_tests)) (λ h. grind (arith, nat_tests))
+only-among g order.K4 i e = same-tests _ _ (λ h. grind (arith, nat_tests)) (λ h. grind (arith, nat_tests))
+only-among g order.M2 i e = same-tests _ _ (λ h. grind (arith, nat_tests)) (λ h. grind (arith, nat_tests))
+only-among g order.G1 i e = same-tests _ _ (λ h. grind (arith, nat_tests)) (λ h. grind (arith, nat_tests))
 
 -- tests that agree on a list find and touch the same
 module _ (p q : Item → Bool) where

@@ -43,10 +43,6 @@ module _ {U E : Type 0} where
   added-served (Err e) (Ok v) x t new told room same a b d = absurd told
   added-served (Err e) (Err f) x t new told room same a b d = (rw (← room, told) refl, ap stage_of same)
 
-pub up-low : (l page : ℕ) → up l page ≤ page
-up-low zero page = omega arith
-up-low (suc l) page = let h : up l page ≤ page = up-low l page in omega arith
-
 -- the root of space 0 has number 0
 pub root-is : (page : ℕ) (t : Table) → WordsReadBack 3 t.spaces t.leaves t.nodes t.words → IsPage (shape_of 3 t) 0 page → number_of 0 3 (up 3 page) t.nodes ≡ Some 0
 root-is page t back fits =

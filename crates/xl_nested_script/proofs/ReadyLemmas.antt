@@ -21,6 +21,7 @@ use Rattle.xl_nested_script.specs.declared.reason.Reason.TheVariants as reason
 use Rattle.xl_nested_script.specs.Words.{◌>>=◌, address_in, count_in, last_count, number, order_in, perm_in, user_perm, user_perm_in}
 use Rattle.xl_nested_script.specs.Lines.{ends_of, gmap_line, gmap_words, gunmap_line, gunmap_words, head_line, in_turn, line_named, line_of, name_of, own_line, placed, run_line, vmap_line, vmap_words, vunmap_line, vunmap_words}
 use Rattle.xl_nested_script.specs.Scripts.{nest_said, said_by, HasUsers, IsReady}
+use Rattle.xl_script.proofs.ScriptLemmas.{in_memory}
 
 -- a reading after another keeps what each answer of the second does
 bind : {A B : Type 0} (P : Result B Reason → Type 0) → ((e : Reason) → P (Err e)) → (r : Result A Reason) (f : A → Result B Reason) → ((a : A) → r ≡ Ok a → P (f a)) → P (r >>= f)
@@ -110,17 +111,11 @@ Good (Ok (line.Head nest)) = Unit {0}
 Good (Ok (line.Own c)) = IsReady c
 Good (Err why) = Unit {0}
 
-in-memory : (es : List ℕ) → list_all (λ e. nat_le e (2 ^ 64)) es ≡ true → AreInMemory es
-in-memory [] h = tt
-in-memory (e ∷ es) h =
-    elim (nat_le e (2 ^ 64)) as (λ v. nat_le e (2 ^ 64) ≡ v → (v && list_all (λ d. nat_le d (2 ^ 64)) es) ≡ true → (e ≤ 2 ^ 64) × AreInMemory es)
-    [ true ↦ λ is all. (leb-true e (2 ^ 64) is, in-memory es all) | false ↦ λ is all. cc ] refl h
-
 own-good : (c : NestCommand) → HasUsers c → Good (own_line c)
 unfolding placed
 own-good c users =
     elim (list_all (λ e. nat_le e (2 ^ 64)) (ends_of c)) as (λ v. list_all (λ e. nat_le e (2 ^ 64)) (ends_of c) ≡ v → Good ((if v then Ok c else Err reason.PastTheEnd) >>= (λ d. Ok (line.Own d))))
-    [ true ↦ λ is. (in-memory (ends_of c) is, users) | false ↦ λ is. tt ] refl
+    [ true ↦ λ is. (in_memory (ends_of c) is, users) | false ↦ λ is. tt ] refl
 
 then-good : (r : Result NestCommand Reason) → Users r → Good (r >>= own_line)
 then-good (Ok c) users = own-good c users

@@ -86,7 +86,7 @@ first-small count low middle top k s first =
     ] refl
 
 -- words that are all 0
-zero-word : (n i : ℕ) → slice_index (replicate n 0) i ≡ 0
+pub zero-word : (n i : ℕ) → slice_index (replicate n 0) i ≡ 0
 zero-word zero i = refl
 zero-word (suc n) zero = refl
 zero-word (suc n) (suc i) = zero-word n i

@@ -1,4 +1,4 @@
 mod BitLemmas
 mod LevelLemmas
-mod FlagLemmas
+pub mod FlagLemmas
 mod ViewLemmas

@@ -25,9 +25,8 @@ use Rattle.xl_course.specs.Accounts.{account, Ends, EndsAs}
 use Rattle.xl_course.proofs.ServedLemmas.{served-untold}
 use Rattle.xl_serving.specs.Inputs.{Finds, said_by, said_in, script_fault}
 use Rattle.xl_paired.specs.Pairs.{Command, Referenced, Pairing, events_from, meaning_of, course_of, script_said, account_from, state_from, account_by, left_by}
-
-longer : (limit : ℕ) (text : List ℕ) → limit < length text → limit < length (take (limit + 1) text)
-longer limit text h = let e = length-take (limit + 1) text in grind arith
+use Rattle.xl_serving.proofs.InputLemmas.{longer}
+use Rattle.xl_serving.proofs.EndLemmas.{none_failed}
 
 module _ {S C : Type 0} (said : S → List (List ℕ) → Said S C) (start : S) where
   -- a text of which one byte more than the limit was read is too long as it was
@@ -48,13 +47,6 @@ pub finds_text : {A B : Type 0} (view : A → B) (says : List ℕ → Result B S
 finds_text view says None text bytes r cut h b f = absurd h
 finds_text view says (Some file) text bytes r cut h b f =
     subst (Finds view r) (ap (said_by script_fault) (ap says (b ∙ h) ∙ cut file)) f
-
--- what comes before anything is written, no put has failed
-none_failed : (stop : Stop) → StopsOpening stop → is_all_put {A = Unit {0}} (Err stop) ≡ true
-none_failed (why.Input f) h = refl
-none_failed why.ReadFault h = refl
-none_failed why.WriteFault h = absurd h
-none_failed why.NoMemory h = refl
 
 module _ {A C E S : Type 0} (p : Pairing A C E S) where
   events-more : (at : ℕ → E) (i n : ℕ) → events_from at i (suc n) ≡ events_from at i n ++ at (i + n) ∷ []

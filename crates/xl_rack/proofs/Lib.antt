@@ -4,7 +4,7 @@ mod DemandLemmas
 mod ImageLemmas
 mod LineLemmas
 mod ObjectLemmas
-mod PlaceLemmas
+pub mod PlaceLemmas
 mod RowsLemmas
 mod ServedAtLemmas
 mod SlotLemmas

@@ -18,6 +18,7 @@ use Rattle.xl_rack.proofs.PlaceLemmas.{some-of}
 use Rattle.xl_rack.specs.Lines.{line_where}
 use Rattle.xl_rack.specs.Served.{ServedAt}
 use Rattle.xl_rack.proofs.LineLemmas.{lines-then, lines-cut, lines-none}
+use Rattle.xl_model_lemmas.proofs.SceneLemmas.{lines-append}
 
 -- the first rows were served
 abbrev pub partly : Item → List Area → List Served → ℕ → List Served
@@ -63,13 +64,6 @@ take_next rows i v h = (let e : i + 1 ≡ suc i = omega arith in ap (λ (j : ℕ
 
 parts : (rows : List Served) (i : ℕ) (v : Served) → slice_get rows i ≡ Some v → rows ≡ (take i rows ++ v ∷ []) ++ drop (i + 1) rows
 parts rows i v h = sym (take-append-drop (i + 1) rows) ∙ ap (λ (xs : List Served). xs ++ drop (i + 1) rows) (take_next rows i v h)
-
--- lines, row by row
-lines-append : (item : Item) (areas : List Area) (xs ys : List Served) → rows_lines item areas (xs ++ ys) ≡ rows_lines item areas xs ++ rows_lines item areas ys
-lines-append item areas [] ys = refl
-lines-append item areas (x ∷ xs) ys =
-    ap (λ (t : List ℕ). item_lines item areas x.row x.state ++ t) (lines-append item areas xs ys)
-    ∙ sym (append_assoc (item_lines item areas x.row x.state) (rows_lines item areas xs) (rows_lines item areas ys))
 
 lines-next : (item : Item) (areas : List Area) (rows : List Served) (i : ℕ) (v : Served) → slice_get rows i ≡ Some v
     → rows_lines item areas (take (i + 1) rows) ≡ rows_lines item areas (take i rows) ++ item_lines item areas v.row v.state

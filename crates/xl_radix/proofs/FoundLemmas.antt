@@ -12,7 +12,7 @@ use Rattle.xl_model.specs.Nodes.{up}
 use Rattle.xl_model.specs.Walks.{end_level}
 use Rattle.xl_model_lemmas.specs.Members.{In}
 use Rattle.xl_model_lemmas.proofs.MemberLemmas.{find-In, find-passes}
-use Rattle.xl_model_lemmas.proofs.OrderLemmas.{level-low}
+use Rattle.xl_model_lemmas.proofs.OrderLemmas.{level-low, order-same}
 use Rattle.xl_model_lemmas.proofs.EndLemmas.{up-from, end-is}
 use Rattle.xl_pte.specs.declared.word.Pte.TheVariants as pte
 use Rattle.xl_radix.specs.ReadBack.{order_of, leaf_said}
@@ -21,6 +21,7 @@ use Rattle.xl_radix.proofs.ListLemmas.{found-some}
 use Rattle.xl_radix.proofs.MeetLemmas.{covered}
 use Rattle.xl_radix.proofs.SlotLemmas.{Under, in-nodes, in-nodes-leaf}
 use Rattle.xl_radix.proofs.ReadBackLemmas.{said-leaf}
+use Rattle.xl_model_lemmas.proofs.CoverLemmas.{found-named}
 
 pub record Covering (s page : ℕ) (x : Leaf) (leaves : List Leaf) : Type 0 where
   pub there : In x leaves
@@ -57,19 +58,9 @@ leaf-said top spaces s page x leaves m e =
     let c = covering-is top spaces s page x leaves m e in
     said-leaf s (level_of x.order) (up (level_of x.order) page) x (record { space_is = c.space_is; level_is = refl; block_is = c.block_is }) (m.proper x c.there).aligned
 
-same-as-itself : (o : Order) → same_order o o ≡ true
-same-as-itself order.K4 = refl
-same-as-itself order.M2 = refl
-same-as-itself order.G1 = refl
-
 own-name : (x : Leaf) → is_leaf x.space x.first x.order x ≡ true
-own-name x = rw (eq-eqb x.space x.space refl, eq-eqb x.first x.first refl, same-as-itself x.order) refl
-
--- A leaf that covers a page is named by its own place.
-pub covering-named : (s page : ℕ) (x : Leaf) (leaves : List Leaf) → leaf_at_page s page leaves ≡ Some x → IsNamed x.space x.first x.order leaves
-unfolding leaf_at_page leaf_named
-covering-named s page x leaves e = found-some (is_leaf x.space x.first x.order) x leaves (find-In (covers s page) x leaves e) (own-name x)
+own-name x = rw (eq-eqb x.space x.space refl, eq-eqb x.first x.first refl, order-same x.order) refl
 
 pub covering-has-name : (s page : ℕ) (r : Option Leaf) (leaves : List Leaf) → r ≡ leaf_at_page s page leaves → IfSome r (λ x. IsNamed x.space x.first x.order leaves)
 covering-has-name s page None leaves e = tt
-covering-has-name s page (Some x) leaves e = covering-named s page x leaves (sym e)
+covering-has-name s page (Some x) leaves e = found-named s page x leaves (sym e)

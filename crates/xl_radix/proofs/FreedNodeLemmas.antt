@@ -15,7 +15,7 @@ use Rattle.xl_radix.proofs.CaseLemmas.{split-le}
 use Rattle.xl_radix.proofs.NumberLemmas.{node-in, number-some, number-there, number-set-any, is-below, below-is, Is}
 use Rattle.xl_radix.proofs.SlotLemmas.{At, Under, leaf-in-some, leaf-in-none, in-nodes, in-nodes-leaf}
 use Rattle.xl_radix.proofs.EndLemmas.{word-none, none-word}
-use Rattle.xl_radix.proofs.MadeNodeLemmas.{Which, That, Another, which, new_node, new-below, places, stands-is, other-slot, no-slot}
+use Rattle.xl_radix.proofs.MadeNodeLemmas.{new_node, new-below, not-below, places, stands-is, stored-same}
 
 -- Node k is below slot (s, l + 1, q), and its words are 0.
 pub record IsEmpty (s l q k : ℕ) (nodes : List (Option Node)) (words : List ℕ) : Type 0 where
@@ -83,16 +83,9 @@ freed-number-same top s l q k leaves nodes words image empty =
       | inr e ↦ e.0 (image.apart s (suc l) q m k (rw e.1 at h) own)
     ]
 
-plain : (s l q a b c : ℕ) → is_below a b c (Some (new_node s (suc l - 1) q)) ≡ false → is_below a b c (Some (new_node s l q)) ≡ false
-plain s l q a b c e = let h : suc l - 1 ≡ l = omega arith in rw h at e
-
 -- A node other than the one given back keeps its number.
 pub freed-keeps : (s l q k a b c : ℕ) (nodes : List (Option Node)) (words : List ℕ) → IsEmpty s l q k nodes words → ((a ≡ s) × (b ≡ suc l) × (c ≡ q) → ⊥) → (number_of a b c nodes ≡ None → ⊥) → number_of a b c (freed_nodes k nodes) ≡ None → ⊥
-freed-keeps s l q k a b c nodes words empty not there h =
-    elim (which s l q a b c) [
-      | That e f g ↦ not (e, f, g)
-      | Another e f ↦ there (sym (freed-number-other s l q k a b c nodes words empty (plain s l q a b c e)) ∙ h)
-    ]
+freed-keeps s l q k a b c nodes words empty not there h = there (sym (freed-number-other s l q k a b c nodes words empty (not-below s l q a b c not)) ∙ h)
 
 freed-word : (s l q k a b c : ℕ) (leaves : List Leaf) (nodes : List (Option Node)) (words : List ℕ) → IsEmpty s l q k nodes words → is_below a b c (Some (new_node s l q)) ≡ false → word_at leaves (freed_nodes k nodes) a b c ≡ word_at leaves nodes a b c
 unfolding word_at
@@ -106,44 +99,22 @@ pub freed-same : (top s page l k n m i : ℕ) (leaves : List Leaf) (nodes : List
 freed-same top s page l k n m i leaves nodes words image at no-leaf empty h g =
     elim (freed-at s l (up (suc l) page) k m nodes words empty) [
       | inl e ↦ rw e.1 (own e.0)
-      | inr e ↦ rw e.1 (elim (slice_index_or nodes m None) as (λ o. slice_index_or nodes m None ≡ o → slice_index (freed_words n (up (suc l) page % 512) words) (m * 512 + i) ≡ word_of leaves (freed_nodes k nodes) o i) [
-        | None ↦ λ f. kept (no-slot s page (suc l) n m i nodes at g f) ∙ image.same m i h g ∙ ap (λ (o : Option Node). word_of leaves nodes o i) f
-        | Some node ↦ λ f. some node f (which s l (up (suc l) page) node.space node.level (node.prefix * 512 + i))
-      ] refl)
+      | inr e ↦ rw e.1 (stored-same top s page (suc l) n 0 m i leaves leaves nodes (freed_nodes k nodes) words image at h g
+      (none-word s (suc l) (up (suc l) page) leaves (freed_nodes k nodes) no-leaf (freed-number-same top s l (up (suc l) page) k leaves nodes words image empty))
+      (λ a b c other. freed-word s l (up (suc l) page) k a b c leaves nodes words empty (not-below s l (up (suc l) page) a b c other)))
     ]
   where
     stand : (node : Node) × (slice_index_or nodes n None ≡ Some node) × Is s (suc (suc l)) (up (suc (suc l)) page) node
     stand = stands-is s page (suc l) n nodes at
 
-    kept : (m * 512 + i ≢ n * 512 + up (suc l) page % 512) → slice_index (freed_words n (up (suc l) page % 512) words) (m * 512 + i) ≡ slice_index words (m * 512 + i)
-    kept d = get_or-set_other words (n * 512 + up (suc l) page % 512) (m * 512 + i) 0 0 d
-
     levels : (a b : Node) → a ≡ b → a.level + 1 ≡ suc (suc l) → b.level ≡ l → ⊥
     levels a b e f g = let k : a.level ≡ b.level = ap (λ (v : Node). v.level) e in omega arith
 
     own : m ≡ k → slice_index (freed_words n (up (suc l) page % 512) words) (m * 512 + i) ≡ 0
-    own e = kept (λ d. let p = places m n i (up (suc l) page % 512) g (omega arith) d in
+    own e = get_or-set_other words (n * 512 + up (suc l) page % 512) (m * 512 + i) 0 0 (λ d. let p = places m n i (up (suc l) page % 512) g (omega arith) d in
         let a : slice_index_or nodes n None ≡ Some (new_node s l (up (suc l) page)) = subst (λ (v : ℕ). slice_index_or nodes v None ≡ Some (new_node s l (up (suc l) page))) (sym e ∙ p.0) empty.below in
         let c : stand.0 ≡ new_node s l (up (suc l) page) = same_Some _ _ (sym stand.1 ∙ a) in
         levels stand.0 (new_node s l (up (suc l) page)) c stand.2.level_is refl) ∙ ap (λ (v : ℕ). slice_index words (v * 512 + i)) e ∙ empty.zeros i g
-
-    zero-at-slot : word_at leaves (freed_nodes k nodes) s (suc l) (up (suc l) page) ≡ 0
-    zero-at-slot = none-word s (suc l) (up (suc l) page) leaves (freed_nodes k nodes) no-leaf (freed-number-same top s l (up (suc l) page) k leaves nodes words image empty)
-
-    that : (node : Node) → slice_index_or nodes m None ≡ Some node → node.space ≡ s → node.level ≡ suc l → node.prefix * 512 + i ≡ up (suc l) page → slice_index (freed_words n (up (suc l) page % 512) words) (m * 512 + i) ≡ 0
-    that node f a b c =
-        let pre : node.prefix ≡ up (suc (suc l)) page = omega (arith, c) in
-        let idx : i ≡ up (suc l) page % 512 = omega (arith, c) in
-        let here : is_below s (suc (suc l)) (up (suc (suc l)) page) (slice_index_or nodes m None) ≡ true = rw f (is-below s (suc (suc l)) (up (suc (suc l)) page) node (record { space_is = a; level_is = omega (arith, b); prefix_is = pre })) in
-        let e : m ≡ n = image.apart s (suc (suc l)) (up (suc (suc l)) page) m n here at.stands in
-        let inside : n * 512 + up (suc l) page % 512 < length words = omega (arith, image.size, e) in
-        let zero-word : slice_index (freed_words n (up (suc l) page % 512) words) (n * 512 + up (suc l) page % 512) ≡ 0 = get_or-set_same words (n * 512 + up (suc l) page % 512) 0 0 inside in
-        subst (λ (v : ℕ). slice_index (freed_words n (up (suc l) page % 512) words) v ≡ 0) (let p : n * 512 + up (suc l) page % 512 ≡ m * 512 + i = omega (arith, e, idx) in p) zero-word
-
-    some : (node : Node) → slice_index_or nodes m None ≡ Some node → Which s (suc l) (up (suc l) page) node.space node.level (node.prefix * 512 + i) → slice_index (freed_words n (up (suc l) page % 512) words) (m * 512 + i) ≡ word_at leaves (freed_nodes k nodes) node.space node.level (node.prefix * 512 + i)
-    some node f (That a b c) = that node f a b c ∙ sym (rw (a, b, c) zero-at-slot)
-    some node f (Another a b) =
-        kept (other-slot s page (suc l) n m i nodes node at g f b) ∙ image.same m i h g ∙ ap (λ (o : Option Node). word_of leaves nodes o i) f ∙ sym (freed-word s l (up (suc l) page) k node.space node.level (node.prefix * 512 + i) leaves nodes words empty (plain s l (up (suc l) page) node.space node.level (node.prefix * 512 + i) a))
 
 pub freed : (top s page l k n : ℕ) (leaves : List Leaf) (nodes : List (Option Node)) (words : List ℕ) → IsImage top leaves nodes words → suc l < top → Stands s page (suc l) n nodes → leaf_in s (suc l) (up (suc l) page) leaves ≡ None → IsEmpty s l (up (suc l) page) k nodes words → IsImage top leaves (freed_nodes k nodes) (freed_words n (up (suc l) page % 512) words)
 freed top s page l k n leaves nodes words image low at no-leaf empty = record {

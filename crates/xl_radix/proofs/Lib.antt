@@ -1,7 +1,7 @@
 mod CaseLemmas
 mod ListLemmas
 pub mod NumberLemmas
-mod UpLemmas
+pub mod UpLemmas
 mod MeetLemmas
 mod SlotLemmas
 mod EndLemmas
@@ -11,7 +11,7 @@ mod ReadBackLemmas
 mod CountLemmas
 mod StepLemmas
 mod PathLemmas
-mod OpeningLemmas
+pub mod OpeningLemmas
 mod FreeLemmas
 mod LookLemmas
 pub mod FoundLemmas

@@ -26,6 +26,7 @@ use Rattle.xl_radix.proofs.SlotLemmas.{pointer-low}
 use Rattle.xl_radix.proofs.EndLemmas.{IsTable, found-at, found-none, no-leaf-meets, a-leaf-meets}
 use Rattle.xl_radix.proofs.ReadBackLemmas.{said-is}
 use Rattle.xl_radix.proofs.StepLemmas.{read-word, read-says}
+use Rattle.xl_model_lemmas.proofs.PlaceLemmas.{aligned-frame}
 
 -- Where the walk of a page stops, the slot has the page's leaf, or the page has none.
 pub at-page : (top spaces s page l n : ℕ) (leaves : List Leaf) (nodes : List (Option Node)) (words used : List ℕ) → IsTable top spaces leaves nodes words used → IsEnd top s page 0 l n nodes → leaf_in s l (up l page) leaves ≡ leaf_at_page s page leaves
@@ -52,11 +53,6 @@ aligned-up : (o : Order) (first e : ℕ) → first ≡ e * pages_of o → up (le
 aligned-up order.K4 first e h = omega arith
 aligned-up order.M2 first e h = omega arith
 aligned-up order.G1 first e h = omega arith
-
-aligned-frame : (o : Order) (frame e : ℕ) → frame ≡ e * pages_of o → frame % 2 ^ (9 * level_of o) ≡ 0
-aligned-frame order.K4 frame e h = omega arith
-aligned-frame order.M2 frame e h = omega arith
-aligned-frame order.G1 frame e h = omega arith
 
 limit-low : (top page : ℕ) → 3 ≤ top → top ≤ 5 → page < 2 ^ (9 * top) → page < 2 ^ 52
 limit-low zero page h g b = absurd (omega arith)

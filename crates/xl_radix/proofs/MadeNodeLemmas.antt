@@ -1,5 +1,6 @@
 -- A node is made below an empty slot.
 use Rattle.std.proofs.Common.{ℕ, suc, ◌≡◌, ◌≢◌, ◌+◌, ◌-◌, ◌*◌, ◌/◌, ◌%◌, ◌<◌, ◌≤◌, ◌==◌, true, false, ◌⊎◌, inl, inr, List, length, slice_index, slice_index_or, slice_set, Option, Some, None, refl, ap, sym, ◌∙◌, subst, arith}
+use Rattle.std.proofs.lemmas.Bool.{cases_eq}
 use Rattle.std.proofs.lemmas.Bool.Decides.{nat_tests}
 use Rattle.std.proofs.lemmas.List.{get_or-set_same, get_or-set_other, length-set}
 use Rattle.std.proofs.lemmas.Option.{same_Some}
@@ -21,21 +22,25 @@ new_node s l q = record { space = s; level = l; prefix = q }
 pub new-below : (s l q : ℕ) → is_below s (suc l) q (Some (new_node s l q)) ≡ true
 new-below s l q = is-below s (suc l) q (new_node s l q) (record { space_is = refl; level_is = omega arith; prefix_is = refl })
 
--- Which slot a slot is, against one that is named.
-pub data Which (s l q a b c : ℕ) : Type 0 where
-  That : a ≡ s → b ≡ l → c ≡ q → Which s l q a b c
-  Another : is_below a b c (Some (new_node s (l - 1) q)) ≡ false → ((a ≡ s) × (b ≡ l) × (c ≡ q) → ⊥) → Which s l q a b c
+-- A slot is the one that is named.
+abbrev pub IsSame : ℕ → ℕ → ℕ → ℕ → ℕ → ℕ → Type 0
+IsSame s l q a b c = (a ≡ s) × (b ≡ l) × (c ≡ q)
 
-pub which : (s l q a b c : ℕ) → Which s (suc l) q a b c
-which s l q a b c =
-    elim (is_below a b c (Some (new_node s l q))) as (λ t. is_below a b c (Some (new_node s l q)) ≡ t → Which s (suc l) q a b c) [
-      | true ↦ λ e. let i = below-is a b c (new_node s l q) e in That (sym i.space_is) (omega (arith, i.level_is)) (sym i.prefix_is)
-      | false ↦ λ e. Another (let h : suc l - 1 ≡ l = omega arith in rw h e) (λ t. not e t)
-    ] refl
-  where
-    not : is_below a b c (Some (new_node s l q)) ≡ false → (a ≡ s) × (b ≡ suc l) × (c ≡ q) → ⊥
-    not e t =
-        let f = is-below a b c (new_node s l q) (record { space_is = sym t.0; level_is = omega (arith, t.1); prefix_is = sym t.2 }) in cc
+pub which : (s l q a b c : ℕ) → IsSame s l q a b c ⊎ (IsSame s l q a b c → ⊥)
+which s l q a b c = elim (cases_eq a s) [
+  | inl e ↦ elim (cases_eq b l) [
+    | inl f ↦ elim (cases_eq c q) [ inl g ↦ inl (e, f, g) | inr g ↦ inr (λ t. g t.2) ]
+    | inr f ↦ inr (λ t. f t.1)
+  ]
+  | inr e ↦ inr (λ t. e t.0)
+]
+
+-- no other slot has the new node below it
+pub not-below : (s l q a b c : ℕ) → (IsSame s (suc l) q a b c → ⊥) → is_below a b c (Some (new_node s l q)) ≡ false
+not-below s l q a b c other = elim (is_below a b c (Some (new_node s l q))) as (λ t. is_below a b c (Some (new_node s l q)) ≡ t → t ≡ false) [
+  | true ↦ λ e. let i = below-is a b c (new_node s l q) e in absurd (other (sym i.space_is, omega (arith, i.level_is), sym i.prefix_is))
+  | false ↦ λ e. refl
+] refl
 
 pub record IsSpot (s l q k : ℕ) (leaves : List Leaf) (nodes : List (Option Node)) : Type 0 where
   pub within : k < length nodes
@@ -73,13 +78,10 @@ made-number-same s l q k leaves nodes spot =
 -- A node that was there stays there.
 pub made-keeps : (s l q k a b c : ℕ) (leaves : List Leaf) (nodes : List (Option Node)) → IsSpot s l q k leaves nodes → (number_of a b c nodes ≡ None → ⊥) → number_of a b c (made_nodes s l q k nodes) ≡ None → ⊥
 made-keeps s l q k a b c leaves nodes spot there h =
-    elim (which s l q a b c) [
-      | That e f g ↦ let t = made-number-same s l q k leaves nodes spot in let u : number_of a b c (made_nodes s l q k nodes) ≡ number_of s (suc l) q (made_nodes s l q k nodes) = rw (e, f, g) refl in absurd (cc)
-      | Another e f ↦ there (sym (made-number-other s l q k a b c leaves nodes spot (plain e)) ∙ h)
+    elim (which s (suc l) q a b c) [
+      | inl e ↦ let t = made-number-same s l q k leaves nodes spot in let u : number_of a b c (made_nodes s l q k nodes) ≡ number_of s (suc l) q (made_nodes s l q k nodes) = rw (e.0, e.1, e.2) refl in absurd (cc)
+      | inr e ↦ there (sym (made-number-other s l q k a b c leaves nodes spot (not-below s l q a b c e)) ∙ h)
     ]
-  where
-    plain : is_below a b c (Some (new_node s (suc l - 1) q)) ≡ false → is_below a b c (Some (new_node s l q)) ≡ false
-    plain e = let h : suc l - 1 ≡ l = omega arith in rw h at e
 
 -- the words of the new node are 0
 pub made-empty : (top s l q k i : ℕ) (leaves : List Leaf) (nodes : List (Option Node)) (words : List ℕ) → IsImage top leaves nodes words → suc l ≤ top → IsSpot s l q k leaves nodes → i < 512 → word_at leaves (made_nodes s l q k nodes) s l (q * 512 + i) ≡ 0
@@ -157,42 +159,46 @@ no-slot s page l n m i nodes at g f d =
     let a : slice_index_or nodes n None ≡ None = subst (λ (v : ℕ). slice_index_or nodes v None ≡ None) p.0 f in
     let b = stand.1 in cc
 
+-- A word is written at a page's slot, in the node that stands there. Where that slot has this word afterwards, and each
+-- other slot has the word that it had, the words say what the slots have.
+pub stored-same : (top s page l n value m i : ℕ) (old new : List Leaf) (nodes after : List (Option Node)) (words : List ℕ) → IsImage top old nodes words → Stands s page l n nodes → m < length nodes → i < 512 → word_at new after s l (up l page) ≡ value
+    → ((a b c : ℕ) → (IsSame s l (up l page) a b c → ⊥) → word_at new after a b c ≡ word_at old nodes a b c)
+    → slice_index (slice_set words (n * 512 + up l page % 512) value) (m * 512 + i) ≡ word_of new after (slice_index_or nodes m None) i
+stored-same top s page l n value m i old new nodes after words image at h g own others =
+    elim (slice_index_or nodes m None) as (λ o. slice_index_or nodes m None ≡ o → slice_index (slice_set words (n * 512 + up l page % 512) value) (m * 512 + i) ≡ word_of new after o i) [
+      | None ↦ λ f. was None f (no-slot s page l n m i nodes at g f)
+      | Some node ↦ λ f. elim (which s l (up l page) node.space node.level (node.prefix * 512 + i)) [
+        | inl e ↦ here node f e ∙ sym (rw (e.0, e.1, e.2) own)
+        | inr e ↦ was (Some node) f (other-slot s page l n m i nodes node at g f e) ∙ sym (others node.space node.level (node.prefix * 512 + i) e)
+      ]
+    ] refl
+  where
+    was : (o : Option Node) → slice_index_or nodes m None ≡ o → (m * 512 + i ≢ n * 512 + up l page % 512) → slice_index (slice_set words (n * 512 + up l page % 512) value) (m * 512 + i) ≡ word_of old nodes o i
+    was o f d = get_or-set_other words (n * 512 + up l page % 512) (m * 512 + i) value 0 d ∙ image.same m i h g ∙ ap (λ (o : Option Node). word_of old nodes o i) f
+
+    here : (node : Node) → slice_index_or nodes m None ≡ Some node → IsSame s l (up l page) node.space node.level (node.prefix * 512 + i) → slice_index (slice_set words (n * 512 + up l page % 512) value) (m * 512 + i) ≡ value
+    here node f e =
+        let c : node.prefix * 512 + i ≡ up l page = e.2 in
+        let pre : node.prefix ≡ up (suc l) page = omega (arith, c) in
+        let idx : i ≡ up l page % 512 = omega (arith, c) in
+        let below : is_below s (suc l) (up (suc l) page) (slice_index_or nodes m None) ≡ true = rw f (is-below s (suc l) (up (suc l) page) node (record { space_is = e.0; level_is = omega (arith, e.1); prefix_is = pre })) in
+        let same : m ≡ n = image.apart s (suc l) (up (suc l) page) m n below at.stands in
+        let inside : n * 512 + up l page % 512 < length words = omega (arith, image.size, same) in
+        rw (same, idx) (get_or-set_same words (n * 512 + up l page % 512) value 0 inside)
+
 pub made-same : (top s page l k n m i : ℕ) (leaves : List Leaf) (nodes : List (Option Node)) (words : List ℕ) → IsImage top leaves nodes words → suc l < top → Stands s page (suc l) n nodes → IsSpot s l (up (suc l) page) k leaves nodes → m < length nodes → i < 512 →
     slice_index (made_words n (up (suc l) page % 512) k words) (m * 512 + i) ≡ word_of leaves (made_nodes s l (up (suc l) page) k nodes) (slice_index_or (made_nodes s l (up (suc l) page) k nodes) m None) i
 made-same top s page l k n m i leaves nodes words image low at spot h g =
     elim (made-at s l q k m leaves nodes spot) [
-      | inl e ↦ rw e.1 (kept (new-place e.0) ∙ image.same m i h g ∙ ap (λ (o : Option Node). word_of leaves nodes o i) (subst (λ (v : ℕ). slice_index_or nodes v None ≡ None) (sym e.0) spot.free) ∙ sym (made-empty top s l q k i leaves nodes words image (omega arith) spot g))
-      | inr e ↦ rw e.1 (elim (slice_index_or nodes m None) as (λ o. slice_index_or nodes m None ≡ o → slice_index (made_words n (q % 512) k words) (m * 512 + i) ≡ word_of leaves (made_nodes s l q k nodes) o i) [
-        | None ↦ λ f. kept (no-slot s page (suc l) n m i nodes at g f) ∙ image.same m i h g ∙ ap (λ (o : Option Node). word_of leaves nodes o i) f
-        | Some node ↦ λ f. some node f (which s l q node.space node.level (node.prefix * 512 + i))
-      ] refl)
+      | inl e ↦ rw e.1 (get_or-set_other words (n * 512 + q % 512) (m * 512 + i) (pointer_word k) 0 (no-slot s page (suc l) n m i nodes at g (was-free e.0)) ∙ image.same m i h g ∙ ap (λ (o : Option Node). word_of leaves nodes o i) (was-free e.0) ∙ sym (made-empty top s l q k i leaves nodes words image (omega arith) spot g))
+      | inr e ↦ rw e.1 (stored-same top s page (suc l) n (pointer_word k) m i leaves leaves nodes (made_nodes s l q k nodes) words image at h g (made-pointer s l q k leaves nodes spot) (λ a b c other. made-word s l q k a b c leaves nodes spot (not-below s l q a b c other)))
     ]
   where
     q : ℕ
     q = up (suc l) page
 
-    kept : (m * 512 + i ≢ n * 512 + up (suc l) page % 512) → slice_index (made_words n (up (suc l) page % 512) k words) (m * 512 + i) ≡ slice_index words (m * 512 + i)
-    kept d = get_or-set_other words (n * 512 + up (suc l) page % 512) (m * 512 + i) (pointer_word k) 0 d
-
-    new-place : m ≡ k → m * 512 + i ≢ n * 512 + up (suc l) page % 512
-    new-place e = no-slot s page (suc l) n m i nodes at g (subst (λ (v : ℕ). slice_index_or nodes v None ≡ None) (sym e) spot.free)
-
-    that : (node : Node) → slice_index_or nodes m None ≡ Some node → node.space ≡ s → node.level ≡ suc l → node.prefix * 512 + i ≡ up (suc l) page → slice_index (made_words n (up (suc l) page % 512) k words) (m * 512 + i) ≡ pointer_word k
-    that node f a b c =
-        let pre : node.prefix ≡ up (suc (suc l)) page = omega (arith, c) in
-        let idx : i ≡ up (suc l) page % 512 = omega (arith, c) in
-        let here : is_below s (suc (suc l)) (up (suc (suc l)) page) (slice_index_or nodes m None) ≡ true = rw f (is-below s (suc (suc l)) (up (suc (suc l)) page) node (record { space_is = a; level_is = omega (arith, b); prefix_is = pre })) in
-        let e : m ≡ n = image.apart s (suc (suc l)) (up (suc (suc l)) page) m n here at.stands in
-        let inside : n * 512 + up (suc l) page % 512 < length words = omega (arith, image.size, e) in
-        rw (e, idx) (get_or-set_same words (n * 512 + up (suc l) page % 512) (pointer_word k) 0 inside)
-
-    plain : (a b c : ℕ) → is_below a b c (Some (new_node s (suc l - 1) (up (suc l) page))) ≡ false → is_below a b c (Some (new_node s l (up (suc l) page))) ≡ false
-    plain a b c e = let h : suc l - 1 ≡ l = omega arith in rw h at e
-
-    some : (node : Node) → slice_index_or nodes m None ≡ Some node → Which s (suc l) (up (suc l) page) node.space node.level (node.prefix * 512 + i) → slice_index (made_words n (up (suc l) page % 512) k words) (m * 512 + i) ≡ word_at leaves (made_nodes s l (up (suc l) page) k nodes) node.space node.level (node.prefix * 512 + i)
-    some node f (That a b c) = that node f a b c ∙ sym (rw (a, b, c) (made-pointer s l (up (suc l) page) k leaves nodes spot))
-    some node f (Another a b) =
-        kept (other-slot s page (suc l) n m i nodes node at g f b) ∙ image.same m i h g ∙ ap (λ (o : Option Node). word_of leaves nodes o i) f ∙ sym (made-word s l (up (suc l) page) k node.space node.level (node.prefix * 512 + i) leaves nodes spot (plain node.space node.level (node.prefix * 512 + i) a))
+    was-free : m ≡ k → slice_index_or nodes m None ≡ None
+    was-free e = subst (λ (v : ℕ). slice_index_or nodes v None ≡ None) (sym e) spot.free
 
 pub made : (top s page l k n : ℕ) (leaves : List Leaf) (nodes : List (Option Node)) (words : List ℕ) → IsImage top leaves nodes words → suc l < top → Stands s page (suc l) n nodes → IsSpot s l (up (suc l) page) k leaves nodes → IsImage top leaves (made_nodes s l (up (suc l) page) k nodes) (made_words n (up (suc l) page % 512) k words)
 made top s page l k n leaves nodes words image low at spot = record {

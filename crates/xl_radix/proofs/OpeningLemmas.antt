@@ -11,6 +11,7 @@ use Rattle.xl_radix.proofs.NumberLemmas.{number-some, below-some, is-below}
 use Rattle.xl_radix.proofs.EndLemmas.{none-word}
 use Rattle.xl_radix.proofs.ReadBackLemmas.{reads-back}
 use Rattle.xl_radix.proofs.CountLemmas.{filled-nothing}
+use Rattle.xl_numbers.proofs.FlagLemmas.{zero-word}
 
 abbrev pub none-node : Option Node
 none-node = None
@@ -49,7 +50,7 @@ free-at levels a zero k i h = none-at k i
 free-at levels a (suc n) k zero h = absurd (omega arith)
 free-at levels a (suc n) k (suc i) h = free-at levels (a + 1) n k i (omega arith)
 
-length-roots : (levels a n : ℕ) → length (roots levels a n) ≡ n
+pub length-roots : (levels a n : ℕ) → length (roots levels a n) ≡ n
 length-roots levels a zero = refl
 length-roots levels a (suc n) = let e = length-roots levels (a + 1) n in rw e refl
 
@@ -112,12 +113,6 @@ no-nodes : (s l q : ℕ) → in_nodes s l q [] ≡ false
 unfolding in_nodes
 no-nodes s l q = refl
 
-zero-at : (k i : ℕ) → slice_index (replicate k 0) i ≡ 0
-zero-at k i = elim (cases_lt i k) [
-  | inl lt ↦ get_or-replicate k i 0 0 lt
-  | inr ge ↦ get_or_past (replicate k 0) i 0 (let e = length-replicate {A = ℕ} k 0 in omega (arith, e, ge))
-]
-
 opening-word : (levels spaces frames n i : ℕ) (o : Option Node) → 3 ≤ levels → slice_index_or (opening_nodes levels spaces frames) n none-node ≡ o → word_of [] (opening_nodes levels spaces frames) o i ≡ 0
 opening-word levels spaces frames n i None high h = refl
 opening-word levels spaces frames n i (Some node) high h =
@@ -128,7 +123,7 @@ opening-word levels spaces frames n i (Some node) high h =
 opening-image : (levels spaces frames : ℕ) → 3 ≤ levels → spaces ≤ frames → IsImage levels [] (opening_nodes levels spaces frames) (replicate (frames * 512) 0)
 opening-image levels spaces frames high h = record {
   size = length-replicate {A = ℕ} (frames * 512) 0 ∙ ap (λ (v : ℕ). v * 512) (sym (length-opening levels spaces frames h));
-  same = λ n i g k. zero-at (frames * 512) (n * 512 + i) ∙ sym (opening-word levels spaces frames n i (slice_index_or (opening_nodes levels spaces frames) n none-node) high refl);
+  same = λ n i g k. zero-word (frames * 512) (n * 512 + i) ∙ sym (opening-word levels spaces frames n i (slice_index_or (opening_nodes levels spaces frames) n none-node) high refl);
   apart = λ s l q n m a b. sym (opening-below levels spaces frames s l q n high a).0 ∙ (opening-below levels spaces frames s l q m high b).0;
   closed = λ s l q n a. inl (opening-below levels spaces frames s l q n high a).1;
   full = λ s l q a b e. let f = no-nodes s l q in no a f;
@@ -140,7 +135,7 @@ opening-image levels spaces frames high h = record {
 opening-counted : (levels spaces frames size : ℕ) → size ≡ 512 → spaces ≤ frames → IsCounted (opening_nodes levels spaces frames) (replicate (frames * 512) 0) (replicate frames 0)
 opening-counted levels spaces frames size big h = record {
   places = length-replicate {A = ℕ} frames 0 ∙ sym (length-opening levels spaces frames h);
-  each = λ n g. zero-at frames n ∙ sym (subst (λ (v : ℕ). filled (replicate (frames * 512) 0) (n * 512) v ≡ 0) big (filled-nothing (replicate (frames * 512) 0) (n * 512) size (λ i k. zero-at (frames * 512) (n * 512 + i))));
+  each = λ n g. zero-word frames n ∙ sym (subst (λ (v : ℕ). filled (replicate (frames * 512) 0) (n * 512) v ≡ 0) big (filled-nothing (replicate (frames * 512) 0) (n * 512) size (λ i k. zero-word (frames * 512) (n * 512 + i))));
 }
 
 pub opening-exact : (levels spaces frames : ℕ) → 3 ≤ levels → IsExact levels [] (opening_nodes levels spaces frames)

@@ -16,7 +16,7 @@ use Rattle.xl_radix.proofs.CaseLemmas.{split-less}
 use Rattle.xl_radix.proofs.ListLemmas.{find-with, find-with-other}
 use Rattle.xl_radix.proofs.NumberLemmas.{number-some, number-there, is-below}
 use Rattle.xl_radix.proofs.SlotLemmas.{At, Under, slot-at, at-slot, leaf-in-none, in-nodes, in-nodes-leaf}
-use Rattle.xl_radix.proofs.MadeNodeLemmas.{other-slot, no-slot}
+use Rattle.xl_radix.proofs.MadeNodeLemmas.{IsSame, stored-same}
 
 pub no-key : (top spaces : ℕ) (x : Leaf) (leaves : List Leaf) → IsRadixMapping top spaces leaves → IsNew top spaces x leaves → (y : Leaf) → In y leaves → leaf_key x ≡ leaf_key y → ⊥
 no-key top spaces x leaves m new y i e =
@@ -75,35 +75,22 @@ above top s page l n (suc b) leaves nodes words image at h g e =
 abbrev pub placed_words : Leaf → ℕ → List ℕ → List ℕ
 placed_words x n words = slice_set words (n * 512 + up (level_of x.order) x.first % 512) (leaf_word x.frame x.perm)
 
--- The place of a leaf's word is that of no slot at which the leaf isn't.
-pub other-leaf-slot : (x : Leaf) (n m i : ℕ) (nodes : List (Option Node)) (node : Node) → Stands x.space x.first (level_of x.order) n nodes → i < 512 → slice_index_or nodes m None ≡ Some node → is_slot node.space node.level (node.prefix * 512 + i) x ≡ false → m * 512 + i ≢ n * 512 + up (level_of x.order) x.first % 512
-other-leaf-slot x n m i nodes node at g f not =
-    other-slot x.space x.first (level_of x.order) n m i nodes node at g f (λ e.
-    let t = at-slot node.space node.level (node.prefix * 512 + i) x (record { space_is = sym e.0; level_is = sym e.1; block_is = subst (λ (v : ℕ). up v x.first ≡ node.prefix * 512 + i) (sym e.1) (sym e.2) }) in cc)
+-- a leaf stands at its own slot, and at no other
+pub own-at : (x : Leaf) → At x.space (level_of x.order) (up (level_of x.order) x.first) x
+own-at x = record { space_is = refl; level_is = refl; block_is = refl }
+
+pub not-slot : (x : Leaf) (a b c : ℕ) → (IsSame x.space (level_of x.order) (up (level_of x.order) x.first) a b c → ⊥) → is_slot a b c x ≡ false
+not-slot x a b c other = elim (is_slot a b c x) as (λ t. is_slot a b c x ≡ t → t ≡ false) [
+  | true ↦ λ e. let i = slot-at a b c x e in absurd (other (sym i.space_is, sym i.level_is, subst (λ (v : ℕ). c ≡ up v x.first) (sym i.level_is) (sym i.block_is)))
+  | false ↦ λ e. refl
+] refl
 
 pub placed-same : (top spaces : ℕ) (x : Leaf) (n m i : ℕ) (leaves : List Leaf) (nodes : List (Option Node)) (words : List ℕ) → IsRadixMapping top spaces leaves → IsImage top leaves nodes words → IsNew top spaces x leaves → IsReady x.space x.first (level_of x.order) n leaves nodes → m < length nodes → i < 512 →
     slice_index (placed_words x n words) (m * 512 + i) ≡ word_of (with_leaf x leaves) nodes (slice_index_or nodes m None) i
 placed-same top spaces x n m i leaves nodes words mapping image new hole h g =
-    elim (slice_index_or nodes m None) as (λ o. slice_index_or nodes m None ≡ o → slice_index (placed_words x n words) (m * 512 + i) ≡ word_of (with_leaf x leaves) nodes o i) [
-      | None ↦ λ f. kept (no-slot x.space x.first (level_of x.order) n m i nodes hole.at g f) ∙ image.same m i h g ∙ ap (λ (o : Option Node). word_of leaves nodes o i) f
-      | Some node ↦ λ f. elim (is_slot node.space node.level (node.prefix * 512 + i) x) as (λ t. is_slot node.space node.level (node.prefix * 512 + i) x ≡ t → slice_index (placed_words x n words) (m * 512 + i) ≡ word_at (with_leaf x leaves) nodes node.space node.level (node.prefix * 512 + i)) [
-        | true ↦ λ e. let a = slot-at node.space node.level (node.prefix * 512 + i) x e in that node f a ∙ sym (placed-word node.space node.level (node.prefix * 512 + i) x (with_leaf x leaves) nodes (placed-leaf-same top spaces node.space node.level (node.prefix * 512 + i) x n leaves nodes hole a))
-        | false ↦ λ e. kept (other-leaf-slot x n m i nodes node hole.at g f e) ∙ image.same m i h g ∙ ap (λ (o : Option Node). word_of leaves nodes o i) f ∙ sym (same-word node.space node.level (node.prefix * 512 + i) (with_leaf x leaves) leaves nodes (placed-leaf-other top spaces node.space node.level (node.prefix * 512 + i) x leaves mapping new e))
-      ] refl
-    ] refl
-  where
-    kept : (m * 512 + i ≢ n * 512 + up (level_of x.order) x.first % 512) → slice_index (placed_words x n words) (m * 512 + i) ≡ slice_index words (m * 512 + i)
-    kept d = get_or-set_other words (n * 512 + up (level_of x.order) x.first % 512) (m * 512 + i) (leaf_word x.frame x.perm) 0 d
-
-    that : (node : Node) → slice_index_or nodes m None ≡ Some node → At node.space node.level (node.prefix * 512 + i) x → slice_index (placed_words x n words) (m * 512 + i) ≡ leaf_word x.frame x.perm
-    that node f a =
-        let c : up (level_of x.order) x.first ≡ node.prefix * 512 + i = let e = a.level_is in rw e a.block_is in
-        let pre : node.prefix ≡ up (suc (level_of x.order)) x.first = omega (arith, c) in
-        let idx : i ≡ up (level_of x.order) x.first % 512 = omega (arith, c) in
-        let here : is_below x.space (suc (level_of x.order)) (up (suc (level_of x.order)) x.first) (slice_index_or nodes m None) ≡ true = rw f (is-below x.space (suc (level_of x.order)) (up (suc (level_of x.order)) x.first) node (record { space_is = sym a.space_is; level_is = omega (arith, a.level_is); prefix_is = pre })) in
-        let e : m ≡ n = image.apart x.space (suc (level_of x.order)) (up (suc (level_of x.order)) x.first) m n here hole.at.stands in
-        let inside : n * 512 + up (level_of x.order) x.first % 512 < length words = omega (arith, image.size, e) in
-        rw (e, idx) (get_or-set_same words (n * 512 + up (level_of x.order) x.first % 512) (leaf_word x.frame x.perm) 0 inside)
+    stored-same top x.space x.first (level_of x.order) n (leaf_word x.frame x.perm) m i leaves (with_leaf x leaves) nodes nodes words image hole.at h g
+    (placed-word x.space (level_of x.order) (up (level_of x.order) x.first) x (with_leaf x leaves) nodes (placed-leaf-same top spaces x.space (level_of x.order) (up (level_of x.order) x.first) x n leaves nodes hole (own-at x)))
+    (λ a b c other. same-word a b c (with_leaf x leaves) leaves nodes (placed-leaf-other top spaces a b c x leaves mapping new (not-slot x a b c other)))
 
 pub placed : (top spaces : ℕ) (x : Leaf) (n : ℕ) (leaves : List Leaf) (nodes : List (Option Node)) (words : List ℕ) → 3 ≤ top → IsRadixMapping top spaces leaves → IsImage top leaves nodes words → IsNew top spaces x leaves → IsReady x.space x.first (level_of x.order) n leaves nodes → IsImage top (with_leaf x leaves) nodes (placed_words x n words)
 placed top spaces x n leaves nodes words high mapping image new hole = record {

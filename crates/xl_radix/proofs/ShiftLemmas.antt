@@ -20,29 +20,12 @@ use Rattle.xl_model_lemmas.proofs.MappingLemmas.{named-In, named-is}
 use Rattle.xl_model_lemmas.proofs.MemberLemmas.{any-false}
 use Rattle.xl_model_lemmas.proofs.OrderLemmas.{pages-some}
 use Rattle.xl_model_lemmas.proofs.PlaceLemmas.{named-space, named-first, named-order}
-use Rattle.xl_model_lemmas.proofs.SortedLemmas.{same-sorted}
+use Rattle.xl_model_lemmas.proofs.SortedLemmas.{with-without}
 use Rattle.xl_radix.specs.Table.{Table, IsRadixMapping, IsStore}
 use Rattle.xl_radix.specs.Steps.{shape_of, IsLess, IsMove, IsMade}
 use Rattle.xl_radix.proofs.ListLemmas.{found-some}
 use Rattle.xl_radix.proofs.EndLemmas.{found-at}
 use Rattle.xl_radix.proofs.ReadBackLemmas.{own-slot}
-
--- A leaf comes and another goes, in either order.
-pub with-without : (s f : ℕ) (x : Leaf) (xs : List Leaf) → IsSorted xs → ((y : Leaf) → In y xs → leaf_key x ≡ leaf_key y → ⊥) → (leaf_key x ≡ s * 2 ^ 52 + f → ⊥) → with_leaf x (without_leaf s f xs) ≡ without_leaf s f (with_leaf x xs)
-with-without s f x xs sorted none other =
-    same-sorted (with_leaf x (without_leaf s f xs)) (without_leaf s f (with_leaf x xs)) (sorted-with x (without_leaf s f xs) (sorted-without s f xs sorted)) (sorted-without s f (with_leaf x xs) (sorted-with x xs sorted)) there back
-  where
-    there : (z : Leaf) → In z (with_leaf x (without_leaf s f xs)) → In z (without_leaf s f (with_leaf x xs))
-    there z i = elim (with-In z x (without_leaf s f xs) i) [
-      | inl e ↦ subst (λ (v : Leaf). In v (without_leaf s f (with_leaf x xs))) (sym e) (In-without x s f (with_leaf x xs) (In-with x xs) other)
-      | inr j ↦ let k = without-In z s f xs j in In-without z s f (with_leaf x xs) (stays-with z x xs k (λ e. none z k (sym e))) (without-other z s f xs j)
-    ]
-
-    back : (z : Leaf) → In z (without_leaf s f (with_leaf x xs)) → In z (with_leaf x (without_leaf s f xs))
-    back z i = elim (with-In z x xs (without-In z s f (with_leaf x xs) i)) [
-      | inl e ↦ subst (λ (v : Leaf). In v (with_leaf x (without_leaf s f xs))) (sym e) (In-with x (without_leaf s f xs))
-      | inr j ↦ stays-with z x (without_leaf s f xs) (In-without z s f xs j (without-other z s f (with_leaf x xs) i)) (λ e. none z j (sym e))
-    ]
 
 -- A leaf that is named covers the page that names it.
 pub named-page-is : (top spaces s f : ℕ) (o : Order) (x : Leaf) (leaves : List Leaf) → IsRadixMapping top spaces leaves → leaf_named s f o leaves ≡ Some x → leaf_at_page s f leaves ≡ Some x
@@ -133,7 +116,7 @@ moves top spaces s f to o x leaves nodes words used store e block free =
       };
       free = free;
       named = found-some (is_leaf s f o) x (with_leaf new leaves) (stays-with x new leaves i (λ k. none x i (sym k))) is;
-      after = sym (changed-is s f to o x leaves e a b d ∙ with-without s f new leaves store.mapping.sorted none other);
+      after = sym (changed-is s f to o x leaves e a b d ∙ with-without s f new leaves store.mapping.sorted other (λ z j e. none z j (sym e)));
     }
 
 -- There is room for a move where there is room for the leaf as it is afterwards.

@@ -16,9 +16,9 @@ use Rattle.xl_radix.specs.Steps.{Stands}
 use Rattle.xl_radix.proofs.ListLemmas.{find-nothing}
 use Rattle.xl_radix.proofs.NumberLemmas.{is-below}
 use Rattle.xl_radix.proofs.SlotLemmas.{At, Under, slot-at, in-nodes, in-nodes-leaf}
-use Rattle.xl_radix.proofs.MadeNodeLemmas.{no-slot}
+use Rattle.xl_radix.proofs.MadeNodeLemmas.{stored-same}
 use Rattle.xl_radix.proofs.EndLemmas.{none-word}
-use Rattle.xl_radix.proofs.PlacedLeafLemmas.{same-word, other-leaf-slot}
+use Rattle.xl_radix.proofs.PlacedLeafLemmas.{same-word, own-at, not-slot}
 
 -- the test that a removal keeps a leaf by
 abbrev pub stays : ℕ → ℕ → Leaf → Bool
@@ -84,29 +84,9 @@ unplaced_words x n words = slice_set words (n * 512 + up (level_of x.order) x.fi
 pub unplaced-same : (top spaces : ℕ) (x : Leaf) (n m i : ℕ) (leaves : List Leaf) (nodes : List (Option Node)) (words : List ℕ) → IsRadixMapping top spaces leaves → IsImage top leaves nodes words → IsHeld x n leaves nodes → m < length nodes → i < 512 →
     slice_index (unplaced_words x n words) (m * 512 + i) ≡ word_of (without_leaf x.space x.first leaves) nodes (slice_index_or nodes m None) i
 unplaced-same top spaces x n m i leaves nodes words mapping image held h g =
-    elim (slice_index_or nodes m None) as (λ o. slice_index_or nodes m None ≡ o → slice_index (unplaced_words x n words) (m * 512 + i) ≡ word_of (without_leaf x.space x.first leaves) nodes o i) [
-      | None ↦ λ f. kept (no-slot x.space x.first (level_of x.order) n m i nodes held.at g f) ∙ image.same m i h g ∙ ap (λ (o : Option Node). word_of leaves nodes o i) f
-      | Some node ↦ λ f. elim (is_slot node.space node.level (node.prefix * 512 + i) x) as (λ t. is_slot node.space node.level (node.prefix * 512 + i) x ≡ t → slice_index (unplaced_words x n words) (m * 512 + i) ≡ word_at (without_leaf x.space x.first leaves) nodes node.space node.level (node.prefix * 512 + i)) [
-        | true ↦ λ e. let a = slot-at node.space node.level (node.prefix * 512 + i) x e in that node f a
-        | false ↦ λ e. kept (other-leaf-slot x n m i nodes node held.at g f e) ∙ image.same m i h g ∙ ap (λ (o : Option Node). word_of leaves nodes o i) f ∙ sym (same-word node.space node.level (node.prefix * 512 + i) (without_leaf x.space x.first leaves) leaves nodes (unplaced-leaf-other top spaces node.space node.level (node.prefix * 512 + i) x leaves mapping held.there e))
-      ] refl
-    ] refl
-  where
-    kept : (m * 512 + i ≢ n * 512 + up (level_of x.order) x.first % 512) → slice_index (unplaced_words x n words) (m * 512 + i) ≡ slice_index words (m * 512 + i)
-    kept d = get_or-set_other words (n * 512 + up (level_of x.order) x.first % 512) (m * 512 + i) 0 0 d
-
-    that : (node : Node) → slice_index_or nodes m None ≡ Some node → At node.space node.level (node.prefix * 512 + i) x → slice_index (unplaced_words x n words) (m * 512 + i) ≡ word_at (without_leaf x.space x.first leaves) nodes node.space node.level (node.prefix * 512 + i)
-    that node f a =
-        let c : up (level_of x.order) x.first ≡ node.prefix * 512 + i = let e = a.level_is in rw e a.block_is in
-        let pre : node.prefix ≡ up (suc (level_of x.order)) x.first = omega (arith, c) in
-        let idx : i ≡ up (level_of x.order) x.first % 512 = omega (arith, c) in
-        let here : is_below x.space (suc (level_of x.order)) (up (suc (level_of x.order)) x.first) (slice_index_or nodes m None) ≡ true = rw f (is-below x.space (suc (level_of x.order)) (up (suc (level_of x.order)) x.first) node (record { space_is = sym a.space_is; level_is = omega (arith, a.level_is); prefix_is = pre })) in
-        let e : m ≡ n = image.apart x.space (suc (level_of x.order)) (up (suc (level_of x.order)) x.first) m n here held.at.stands in
-        let inside : n * 512 + up (level_of x.order) x.first % 512 < length words = omega (arith, image.size, e) in
-        let none : number_of node.space node.level (node.prefix * 512 + i) nodes ≡ None = rw (← a.space_is, ← a.level_is, ← c) held.absent in
-        let zero-word : slice_index (unplaced_words x n words) (n * 512 + up (level_of x.order) x.first % 512) ≡ 0 = get_or-set_same words (n * 512 + up (level_of x.order) x.first % 512) 0 0 inside in
-        subst (λ (v : ℕ). slice_index (unplaced_words x n words) v ≡ 0) (let p : n * 512 + up (level_of x.order) x.first % 512 ≡ m * 512 + i = omega (arith, e, idx) in p) zero-word
-        ∙ sym (none-word node.space node.level (node.prefix * 512 + i) (without_leaf x.space x.first leaves) nodes (unplaced-leaf-same top spaces node.space node.level (node.prefix * 512 + i) x leaves mapping held.there a) none)
+    stored-same top x.space x.first (level_of x.order) n 0 m i leaves (without_leaf x.space x.first leaves) nodes nodes words image held.at h g
+    (none-word x.space (level_of x.order) (up (level_of x.order) x.first) (without_leaf x.space x.first leaves) nodes (unplaced-leaf-same top spaces x.space (level_of x.order) (up (level_of x.order) x.first) x leaves mapping held.there (own-at x)) held.absent)
+    (λ a b c other. same-word a b c (without_leaf x.space x.first leaves) leaves nodes (unplaced-leaf-other top spaces a b c x leaves mapping held.there (not-slot x a b c other)))
 
 pub unplaced : (top spaces : ℕ) (x : Leaf) (n : ℕ) (leaves : List Leaf) (nodes : List (Option Node)) (words : List ℕ) → IsRadixMapping top spaces leaves → IsImage top leaves nodes words → IsHeld x n leaves nodes → IsImage top (without_leaf x.space x.first leaves) nodes (unplaced_words x n words)
 unplaced top spaces x n leaves nodes words mapping image held = record {

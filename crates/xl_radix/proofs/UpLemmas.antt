@@ -23,7 +23,7 @@ up-top (suc (suc (suc (suc zero)))) page h g b = omega arith
 up-top (suc (suc (suc (suc (suc zero))))) page h g b = omega arith
 up-top (suc (suc (suc (suc (suc (suc l)))))) page h g b = absurd (omega arith)
 
-up-le : (l page : ℕ) → up l page ≤ page
+pub up-le : (l page : ℕ) → up l page ≤ page
 up-le zero page = omega arith
 up-le (suc l) page = let h = up-le l page in omega arith
 

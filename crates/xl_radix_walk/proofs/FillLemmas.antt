@@ -10,7 +10,7 @@ use Rattle.xl_model_lemmas.specs.Members.{In}
 use Rattle.xl_model_lemmas.proofs.MemberLemmas.{take-In}
 use Rattle.xl_recency.specs.declared.item.Item.{Item}
 use Rattle.xl_radix_walk.specs.Row.{tag_at, item_at, numbered_in, cache_in, caches_in, AreNumbered, filled_one, filled_caches, IsPath}
-use Rattle.xl_radix_walk.proofs.LookLemmas.{up-le}
+use Rattle.xl_radix.proofs.UpLemmas.{up-le}
 
 map-take : (f : Item → Numbered) (n : ℕ) (xs : List Item) → map f (take n xs) ≡ take n (map f xs)
 map-take f zero xs = refl

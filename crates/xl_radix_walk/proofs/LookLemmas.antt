@@ -11,10 +11,7 @@ use Rattle.xl_model_lemmas.specs.Members.{In}
 use Rattle.xl_model_lemmas.proofs.MemberLemmas.{find-In, find-passes}
 use Rattle.xl_recency.specs.declared.item.Item.{Item}
 use Rattle.xl_radix_walk.specs.Row.{tag_at, has_tag, numbered_in, caches_in, AreNumbered}
-
-pub up-le : (l page : ℕ) → up l page ≤ page
-up-le zero page = omega arith
-up-le (suc l) page = let h = up-le l page in omega arith
+use Rattle.xl_radix.proofs.UpLemmas.{up-le}
 
 -- lists under a map
 any-map : (p : Numbered → Bool) (q : Item → Bool) (f : Item → Numbered) (xs : List Item) → ((x : Item) → p (f x) ≡ q x) → list_any p (map f xs) ≡ list_any q xs

@@ -7,15 +7,16 @@ use Rattle.xl_model.specs.declared.leaf.Range.{Range}
 use Rattle.xl_model.specs.Addresses.{pages_of}
 use Rattle.xl_model.specs.Ranges.{range_key, end_key}
 use Rattle.xl_model_lemmas.specs.Members.{In}
-use Rattle.xl_model_lemmas.specs.HeldRanges.{IsHeld, pages_before, pages_behind, part_behind, before_on, behind_on, some_if, IsLeafIn, cut}
-use Rattle.xl_model_lemmas.proofs.TouchLemmas.{some-pages}
-use Rattle.xl_model_lemmas.proofs.JoinLemmas.{In-key, In-range}
-use Rattle.xl_model_lemmas.proofs.LeafInLemmas.{Sizes, sizes}
-use Rattle.xl_model_lemmas.proofs.CutLemmas.{head-cut, next-cut, held-cut}
-use Rattle.xl_model_lemmas.proofs.CutCountLemmas.{cut-count}
+use Rattle.xl_range.specs.HeldRanges.{IsHeld, pages_before, pages_behind, part_behind, before_on, behind_on, some_if, IsLeafIn, cut}
+use Rattle.xl_range.proofs.TouchLemmas.{some-pages}
+use Rattle.xl_range.proofs.JoinLemmas.{In-key, In-range}
+use Rattle.xl_range.proofs.LeafInLemmas.{Sizes, sizes}
+use Rattle.xl_range.proofs.CutLemmas.{head-cut, next-cut, held-cut, own-key}
+use Rattle.xl_range.proofs.CutCountLemmas.{cut-count}
 use Rattle.xl_treap.specs.Treaps.{TreapView, keeping, with_range, without_range, resized, has_key, IsApart}
 use Rattle.xl_range.specs.Cuts.{kept_cut, kept_behind, IsInside}
-use Rattle.xl_range.proofs.HoldLemmas.{fit-range, apart-held, with-front, own-key, length-with, key-there, apart-resized}
+use Rattle.xl_range.proofs.HoldLemmas.{fit-range, apart-held, with-front, key-there, apart-resized}
+use Rattle.xl_treap.proofs.KeptLemmas.{with-length}
 
 behind-cons : (n : ℕ) (x r : Range) (rs : List Range) → range_key r < range_key x → kept_behind n x (r ∷ rs) ≡ r ∷ kept_behind n x rs
 behind-cons zero x r rs less = refl
@@ -56,7 +57,7 @@ behind-some (suc n) x rs e = refl
 
 pub behind-room : (n : ℕ) (x : Range) (rs : List Range) (nodes : ℕ) → 0 < n → length (kept_behind n x rs) ≤ nodes → length rs ≡ nodes → ⊥
 behind-room zero x rs nodes some h full = absurd (omega arith)
-behind-room (suc n) x rs nodes some h full = let a : length (with_range x rs) ≡ suc (length rs) = length-with x rs in omega arith
+behind-room (suc n) x rs nodes some h full = let a : length (with_range x rs) ≡ suc (length rs) = with-length x rs in omega arith
 
 pub some-none : (n : ℕ) → n ≡ 0 → some_if n ≡ 0
 some-none zero e = refl

@@ -7,14 +7,14 @@ use Rattle.xl_model.specs.declared.leaf.Range.{Range}
 use Rattle.xl_model.specs.Addresses.{pages_of}
 use Rattle.xl_model.specs.Ranges.{range_key, end_key, holds_page}
 use Rattle.xl_model_lemmas.specs.Members.{In}
-use Rattle.xl_model_lemmas.specs.HeldRanges.{first_leaf, spread, IsHeld, IsLeafIn, leaf_in, leaf_by}
+use Rattle.xl_range.specs.HeldRanges.{first_leaf, spread, IsHeld, IsLeafIn, leaf_in, leaf_by}
 use Rattle.xl_model.specs.Mapping.{leaf_at_page, leaf_named}
 use Rattle.xl_model.specs.Changes.{IsNamed}
 use Rattle.xl_model_lemmas.proofs.MemberLemmas.{find-In, find-passes}
-use Rattle.xl_model_lemmas.proofs.JoinLemmas.{In-key, In-range}
-use Rattle.xl_model_lemmas.proofs.TouchLemmas.{leap}
-use Rattle.xl_model_lemmas.proofs.LeafInLemmas.{sizes, named-in, holds-first}
-use Rattle.xl_model_lemmas.proofs.PageRangeLemmas.{find-spread}
+use Rattle.xl_range.proofs.JoinLemmas.{In-key, In-range}
+use Rattle.xl_range.proofs.TouchLemmas.{leap}
+use Rattle.xl_range.proofs.LeafInLemmas.{sizes, named-in, holds-first}
+use Rattle.xl_range.proofs.PageRangeLemmas.{find-spread}
 use Rattle.xl_treap.specs.Treaps.{IsFit}
 use Rattle.xl_range.specs.Rows.{IsAt, IsFresh, HasLeaf}
 use Rattle.xl_range.proofs.HoldLemmas.{fit-range}

@@ -12,7 +12,7 @@ use Rattle.xl_model.specs.Changes.{Insert, Remove, Protect, Relocate, changed}
 use Rattle.xl_model.specs.Ranges.{holds_page, range_of_leaf}
 use Rattle.xl_model.specs.Recency.{purged}
 use Rattle.xl_model.specs.Caches.{Cached, holds_first, without_items}
-use Rattle.xl_model_lemmas.specs.HeldRanges.{spread, IsHeld, IsClear, cut, leaf_in}
+use Rattle.xl_range.specs.HeldRanges.{spread, IsHeld, IsClear, cut, leaf_in}
 use Rattle.xl_model_lemmas.proofs.MemberLemmas.{find-In, find-passes}
 use Rattle.xl_model_lemmas.proofs.RecencyLemmas.{purged-In}
 use Rattle.xl_treap.specs.Treaps.{TreapView, keeping, IsFit}

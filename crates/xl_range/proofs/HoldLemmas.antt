@@ -5,9 +5,9 @@ use Rattle.std.specs.List.{list_any}
 use Rattle.xl_model.specs.declared.leaf.Range.{Range}
 use Rattle.xl_model.specs.Ranges.{range_key, end_key}
 use Rattle.xl_model_lemmas.specs.Members.{In}
-use Rattle.xl_model_lemmas.specs.HeldRanges.{IsRange, IsHeld}
-use Rattle.xl_model_lemmas.proofs.JoinLemmas.{lower, In-key}
-use Rattle.xl_model_lemmas.proofs.TouchLemmas.{some-pages}
+use Rattle.xl_range.specs.HeldRanges.{IsRange, IsHeld}
+use Rattle.xl_range.proofs.JoinLemmas.{lower, In-key}
+use Rattle.xl_range.proofs.TouchLemmas.{some-pages}
 use Rattle.xl_treap.specs.Treaps.{with_range, without_range, resized, has_key, IsFit, IsApart}
 
 pub fit-range : (r : Range) → IsRange r → IsFit r
@@ -17,13 +17,6 @@ pub apart-held : (low : ℕ) (rs : List Range) → IsHeld low rs → IsApart low
 apart-held low [] h = tt
 apart-held low (r ∷ rs) (above, is, stops, rest) = (above, fit-range r is, apart-held (end_key r) rs rest)
 
-pub length-with : (x : Range) (rs : List Range) → length (with_range x rs) ≡ suc (length rs)
-length-with x [] = refl
-length-with x (r ∷ rs) = elim (nat_lt (range_key r) (range_key x)) as (λ b. length (cond b (r ∷ with_range x rs) (x ∷ r ∷ rs)) ≡ suc (suc (length rs))) [
-  | true ↦ ap suc (length-with x rs)
-  | false ↦ refl
-]
-
 pub length-without : (k : ℕ) (rs : List Range) → list_any (has_key k) rs ≡ true → suc (length (without_range k rs)) ≡ length rs
 length-without k [] h = absurd (cc)
 length-without k (r ∷ rs) h = elim (range_key r == k) as (λ b. (b || list_any (has_key k) rs) ≡ true → suc (length (cond b rs (r ∷ without_range k rs))) ≡ suc (length rs)) [
@@ -31,19 +24,9 @@ length-without k (r ∷ rs) h = elim (range_key r == k) as (λ b. (b || list_any
   | false ↦ λ t. ap suc (length-without k rs t)
 ] h
 
-pub length-resized : (k n : ℕ) (rs : List Range) → length (resized k n rs) ≡ length rs
-length-resized k n [] = refl
-length-resized k n (r ∷ rs) = elim (range_key r == k) as (λ b. length (cond b (record r { pages = n } ∷ rs) (r ∷ resized k n rs)) ≡ suc (length rs)) [
-  | true ↦ refl
-  | false ↦ ap suc (length-resized k n rs)
-]
-
 pub with-front : (low : ℕ) (y : Range) (rs : List Range) → IsHeld low rs → range_key y ≤ low → with_range y rs ≡ y ∷ rs
 with-front low y [] h le = refl
 with-front low y (r ∷ rs) (above, is, stops, rest) le = let a : nat_lt (range_key r) (range_key y) ≡ false = grind (arith, nat_tests) in rw a refl
-
-pub own-key : (r : Range) → (range_key r == range_key r) ≡ true
-own-key r = grind (arith, nat_tests)
 
 -- counts, and what the calls ask for
 pub key-there : (r : Range) (rs : List Range) → In r rs → list_any (has_key (range_key r)) rs ≡ true

@@ -40,10 +40,6 @@ named-own x xs i =
 pub new-named : (x : Leaf) (xs : List Leaf) → IsNamed x.space x.first x.order (with_leaf x xs)
 new-named x xs = named-own x (with_leaf x xs) (In-with x xs)
 
-pub found-named : (space page : ℕ) (x : Leaf) (xs : List Leaf) → leaf_at_page space page xs ≡ Some x → IsNamed x.space x.first x.order xs
-unfolding leaf_at_page
-found-named space page x xs e = named-own x xs (find-In (covers space page) x xs e)
-
 -- Another leaf that is named stays so.
 pub still-named : (space first : ℕ) (o : Order) (x : Leaf) (xs : List Leaf) → (x.first ≡ first → ⊥) → ((z : Leaf) → In z xs → leaf_key z ≡ leaf_key x → ⊥)
     → leaf_named space first o (with_leaf x xs) ≡ leaf_named space first o xs
@@ -53,35 +49,6 @@ still-named space first o x xs other keys = finds-with (is_leaf space first o) x
     out : (b : Bool) → is_leaf space first o x ≡ b → is_leaf space first o x ≡ false
     out true t = absurd (other (named-first space first o x t))
     out false t = t
-
--- A leaf taken out and put back.
-pub put-back : (x : Leaf) (xs : List Leaf) → IsSorted xs → In x xs → with_leaf x (without_leaf x.space x.first xs) ≡ xs
-put-back x xs sorted i =
-    same-sorted (with_leaf x (without_leaf x.space x.first xs)) xs (sorted-with x (without_leaf x.space x.first xs) (sorted-without x.space x.first xs sorted)) sorted
-    (λ z j. elim (with-In z x (without_leaf x.space x.first xs) j) [
-      | inl e ↦ let P : Leaf → Type 0 = λ w. In w xs in subst P (sym e) i
-      | inr k ↦ without-In z x.space x.first xs k
-    ])
-    (λ z j. elim (leaf_key z == leaf_key x) as (λ b. (leaf_key z == leaf_key x) ≡ b → In z (with_leaf x (without_leaf x.space x.first xs))) [
-      | true ↦ λ t.
-          let e : leaf_key z ≡ leaf_key x = grind (arith, nat_tests) in
-          let same : z ≡ x = same-place z x xs sorted j i e in
-          let P : Leaf → Type 0 = λ w. In w (with_leaf x (without_leaf x.space x.first xs)) in
-          subst P (sym same) (In-with x (without_leaf x.space x.first xs))
-      | false ↦ λ t.
-          let other : leaf_key z ≡ leaf_key x → ⊥ = λ e. grind (arith, nat_tests) in
-          stays-with z x (without_leaf x.space x.first xs) (In-without z x.space x.first xs j other) other
-    ] refl)
-
--- A leaf put in and taken out again.
-pub took-back : (x : Leaf) (xs : List Leaf) → IsSorted xs → ((z : Leaf) → In z xs → leaf_key z ≡ leaf_key x → ⊥) → without_leaf x.space x.first (with_leaf x xs) ≡ xs
-took-back x xs sorted new =
-    same-sorted (without_leaf x.space x.first (with_leaf x xs)) xs (sorted-without x.space x.first (with_leaf x xs) (sorted-with x xs sorted)) sorted
-    (λ z j. elim (with-In z x xs (without-In z x.space x.first (with_leaf x xs) j)) [
-      | inl e ↦ absurd (without-other z x.space x.first (with_leaf x xs) j (ap leaf_key e))
-      | inr k ↦ k
-    ])
-    (λ z j. In-without z x.space x.first (with_leaf x xs) (stays-with z x xs j (new z j)) (new z j))
 
 -- What the changes leave, by the leaf that is named.
 old-is : (space first : ℕ) (o : Order) (x : Leaf) (leaves : List Leaf) → leaf_named space first o leaves ≡ Some x → without_old (leaf_named space first o leaves) leaves ≡ without_leaf space first leaves

@@ -11,3 +11,14 @@ pub mod FreshLemmas
 pub mod RowLemmas
 pub mod WalkLemmas
 pub mod MeetLemmas
+mod RunLemmas
+mod TouchLemmas
+mod JoinLemmas
+mod SpreadLemmas
+mod LeafInLemmas
+mod PieceLemmas
+mod LeftLemmas
+mod CutLemmas
+mod PageRangeLemmas
+mod MeetRangeLemmas
+mod CutCountLemmas

@@ -7,9 +7,9 @@ use Rattle.xl_model.specs.declared.leaf.Range.{Range}
 use Rattle.xl_model.specs.Addresses.{pages_of}
 use Rattle.xl_model.specs.Mapping.{meets_any}
 use Rattle.xl_model.specs.Ranges.{range_key, end_key}
-use Rattle.xl_model_lemmas.specs.HeldRanges.{spread, IsRange, IsHeld, meets_range}
-use Rattle.xl_model_lemmas.proofs.TouchLemmas.{some-pages}
-use Rattle.xl_model_lemmas.proofs.MeetRangeLemmas.{any-spread}
+use Rattle.xl_range.specs.HeldRanges.{spread, IsRange, IsHeld, meets_range}
+use Rattle.xl_range.proofs.TouchLemmas.{some-pages}
+use Rattle.xl_range.proofs.MeetRangeLemmas.{any-spread}
 use Rattle.xl_treap.specs.Treaps.{last_below, of_space, last_or, key_at}
 use Rattle.xl_range.specs.Rows.{meets_where}
 use Rattle.xl_range.proofs.NeighbourLemmas.{IsPrev, last-prev, by-option}

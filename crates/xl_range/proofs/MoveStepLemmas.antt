@@ -13,19 +13,20 @@ use Rattle.xl_model.specs.Room.{has_room}
 use Rattle.xl_model.specs.Shapes.{Runs}
 use Rattle.xl_model.specs.Structures.{IsBlock}
 use Rattle.xl_model_lemmas.specs.Members.{In}
-use Rattle.xl_model_lemmas.specs.HeldRanges.{spread, IsRange, IsHeld, IsClear, join, cut, leaf_in}
+use Rattle.xl_range.specs.HeldRanges.{spread, IsRange, IsHeld, IsClear, join, cut, leaf_in}
 use Rattle.xl_model_lemmas.proofs.MemberLemmas.{In-any}
 use Rattle.xl_model_lemmas.proofs.PlaceLemmas.{named-space, named-first, named-order}
 use Rattle.xl_model_lemmas.proofs.MappingLemmas.{named-In, named-is}
 use Rattle.xl_model_lemmas.proofs.OrderLemmas.{pages-some}
-use Rattle.xl_model_lemmas.proofs.MeetRangeLemmas.{clear-any}
-use Rattle.xl_model_lemmas.proofs.SortedLemmas.{with-without}
+use Rattle.xl_range.proofs.MeetRangeLemmas.{clear-any}
+use Rattle.xl_model_lemmas.proofs.SortedLemmas.{with-without, put-back, took-back}
 use Rattle.xl_treap.specs.Treaps.{TreapView, keeping}
 use Rattle.xl_range.specs.Rows.{IsTable, IsDone, HasRanges, HasLeaf}
 use Rattle.xl_range.proofs.FindLemmas.{named-range}
 use Rattle.xl_range.proofs.SpreadLeafLemmas.{sorted-spread, clear-key}
-use Rattle.xl_range.proofs.LeafChangeLemmas.{new-named, still-named, put-back, took-back, protect-changed, relocate-changed, protect-room, relocate-room}
-use Rattle.xl_range.proofs.StepLemmas.{AreRanges, join-ranges, cut-ranges, same-ranges, has-ranges, same-bools, kept-is, CanPutLeaf, cut-can}
+use Rattle.xl_range.proofs.LeafChangeLemmas.{new-named, still-named, protect-changed, relocate-changed, protect-room, relocate-room}
+use Rattle.xl_range.proofs.StepLemmas.{AreRanges, join-ranges, cut-ranges, same-ranges, has-ranges, kept-is, CanPutLeaf, cut-can}
+use Rattle.xl_model_lemmas.proofs.SameLemmas.{both as same-bools}
 
 -- The leaf of a range that is named is of its space and order, and its first page is the name's.
 pub record IsThat (space first : ℕ) (o : Order) (x : Leaf) : Type 0 where

@@ -4,7 +4,7 @@ use Rattle.std.proofs.lemmas.Bool.Decides.{nat_tests}
 use Rattle.std.specs.List.{list_any}
 use Rattle.xl_model.specs.declared.leaf.Range.{Range}
 use Rattle.xl_model.specs.Ranges.{range_key, end_key}
-use Rattle.xl_model_lemmas.specs.HeldRanges.{touches, IsRange, IsHeld}
+use Rattle.xl_range.specs.HeldRanges.{touches, IsRange, IsHeld}
 use Rattle.xl_treap.specs.Treaps.{without_range, last_below, first_from, of_space, last_or, has_key}
 use Rattle.xl_range.specs.Puts.{next_of, prev_of, next_where, prev_where, range_taken, kept_taken, IsThere, pages_with}
 

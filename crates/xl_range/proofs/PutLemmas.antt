@@ -3,13 +3,15 @@ use Rattle.std.proofs.Common.{◌≡◌, refl, sym, ap, ◌∙◌, subst, ℕ, s
 use Rattle.std.proofs.lemmas.Bool.Decides.{nat_tests}
 use Rattle.xl_model.specs.declared.leaf.Range.{Range}
 use Rattle.xl_model.specs.Ranges.{range_key, end_key}
-use Rattle.xl_model_lemmas.specs.HeldRanges.{touches, IsRange, IsHeld, IsClear, grown, glue, join}
-use Rattle.xl_model_lemmas.proofs.TouchLemmas.{Touch, touch, touch-key, grown-touches, some-pages, not-touching}
-use Rattle.xl_model_lemmas.proofs.JoinLemmas.{held-behind, held-join}
+use Rattle.xl_range.specs.HeldRanges.{touches, IsRange, IsHeld, IsClear, grown, glue, join}
+use Rattle.xl_range.proofs.TouchLemmas.{Touch, touch, touch-key, grown-touches, some-pages, not-touching}
+use Rattle.xl_range.proofs.JoinLemmas.{held-behind, held-join}
 use Rattle.xl_treap.specs.Treaps.{with_range, without_range, resized, last_below, first_from, of_space, last_or, IsApart}
 use Rattle.xl_range.specs.Puts.{next_of, prev_of, next_where, prev_where, range_taken, kept_taken, kept_put, put_by, IsThere, one_if}
-use Rattle.xl_range.proofs.HoldLemmas.{with-front, own-key, length-with, length-without, length-resized, apart-held}
+use Rattle.xl_range.proofs.HoldLemmas.{with-front, length-without, apart-held}
 use Rattle.xl_range.proofs.NeighbourLemmas.{next-space, prev-space, IsNext, first-next, IsPrev, last-prev, by-option, next-there, CanPut, can-put}
+use Rattle.xl_treap.proofs.KeptLemmas.{with-length, resized-length}
+use Rattle.xl_range.proofs.CutLemmas.{own-key}
 
 -- neighbours after a first range
 pub Past : Range → Option Range → Type 0
@@ -122,20 +124,20 @@ put-join low x (r ∷ rs) (above, also, stops, rest) is (apart, clear) =
     ] refl
 
 pub put-length : (next prev : Option Range) (x : Range) (rs : List Range) → IsThere next rs → length (put_by next prev x rs) + (one_if next + one_if prev) ≡ suc (length rs)
-put-length None None x rs t = let a : length (with_range x rs) ≡ suc (length rs) = length-with x rs in omega arith
-put-length None (Some p) x rs t = let a : length (resized (range_key p) (p.pages + x.pages) rs) ≡ length rs = length-resized (range_key p) (p.pages + x.pages) rs in omega arith
+put-length None None x rs t = let a : length (with_range x rs) ≡ suc (length rs) = with-length x rs in omega arith
+put-length None (Some p) x rs t = let a : length (resized (range_key p) (p.pages + x.pages) rs) ≡ length rs = resized-length (range_key p) (p.pages + x.pages) rs in omega arith
 put-length (Some q) None x rs t =
-    let a : length (with_range (grown x q) (without_range (range_key q) rs)) ≡ suc (length (without_range (range_key q) rs)) = length-with (grown x q) (without_range (range_key q) rs) in
+    let a : length (with_range (grown x q) (without_range (range_key q) rs)) ≡ suc (length (without_range (range_key q) rs)) = with-length (grown x q) (without_range (range_key q) rs) in
     let b : suc (length (without_range (range_key q) rs)) ≡ length rs = length-without (range_key q) rs t in
     omega arith
 put-length (Some q) (Some p) x rs t =
-    let a : length (resized (range_key p) (p.pages + (x.pages + q.pages)) (without_range (range_key q) rs)) ≡ length (without_range (range_key q) rs) = length-resized (range_key p) (p.pages + (x.pages + q.pages)) (without_range (range_key q) rs) in
+    let a : length (resized (range_key p) (p.pages + (x.pages + q.pages)) (without_range (range_key q) rs)) ≡ length (without_range (range_key q) rs) = resized-length (range_key p) (p.pages + (x.pages + q.pages)) (without_range (range_key q) rs) in
     let b : suc (length (without_range (range_key q) rs)) ≡ length rs = length-without (range_key q) rs t in
     omega arith
 
 -- a list with a range more than a full treap holds
 pub no-room : (prev : Option Range) (x : Range) (rs : List Range) (nodes : ℕ) → prev ≡ None → length (kept_put prev x rs) ≤ nodes → length rs ≡ nodes → ⊥
-no-room None x rs nodes e h full = let a : length (with_range x rs) ≡ suc (length rs) = length-with x rs in omega arith
+no-room None x rs nodes e h full = let a : length (with_range x rs) ≡ suc (length rs) = with-length x rs in omega arith
 no-room (Some p) x rs nodes e h full = absurd (cc)
 
 pub test-is : (n held len count joined : ℕ) (result : Bool) → result ≡ nat_le (len + 1) (n + joined) → len ≡ held → count + joined ≡ suc held → result ≡ nat_le count n

@@ -16,8 +16,8 @@ use Rattle.xl_model.specs.Room.{has_room}
 use Rattle.xl_model.specs.Shapes.{Shape, Runs, brought, widened, narrowed, shape_after}
 use Rattle.xl_model.specs.Caches.{Cached, RangeCache, without_items, holds_first, caches_purged, entries_in}
 use Rattle.xl_model.specs.Structures.{TableState, IsBlock, IsLeafFor, IsChange, Verdict, verdict, Made, NoSpace, moves_made, finds_place, work_of, table_made, answer_by, after_by, table_answer, table_after}
-use Rattle.xl_model_lemmas.specs.HeldRanges.{spread, IsHeld, leaf_in}
-use Rattle.xl_model_lemmas.proofs.RunLemmas.{ranges-spread}
+use Rattle.xl_range.specs.HeldRanges.{spread, IsHeld, leaf_in}
+use Rattle.xl_range.proofs.RunLemmas.{ranges-spread}
 use Rattle.xl_treap.specs.Treaps.{TreapView, keeping}
 use Rattle.xl_range.specs.Rows.{AllFresh, IsTable, IsRow, IsDone, HasRanges, row_of}
 use Rattle.xl_range.proofs.FindLemmas.{IsNamedIn, named-range}

@@ -7,10 +7,10 @@ use Rattle.xl_model.specs.Addresses.{pages_of}
 use Rattle.xl_model.specs.Mapping.{leaf_key, covers}
 use Rattle.xl_model.specs.Ranges.{range_key, end_key, range_of_leaf}
 use Rattle.xl_model_lemmas.specs.Members.{In, AllAbove, IsSorted}
-use Rattle.xl_model_lemmas.specs.HeldRanges.{next_leaf, run_on, first_leaf, leaves_in, spread, IsHeld, IsClear}
+use Rattle.xl_range.specs.HeldRanges.{next_leaf, run_on, first_leaf, leaves_in, spread, IsHeld, IsClear}
 use Rattle.xl_model_lemmas.proofs.OrderLemmas.{pages-some}
-use Rattle.xl_model_lemmas.proofs.RunLemmas.{leaves-is}
-use Rattle.xl_model_lemmas.proofs.JoinLemmas.{In-key}
+use Rattle.xl_range.proofs.RunLemmas.{leaves-is}
+use Rattle.xl_range.proofs.JoinLemmas.{In-key}
 
 -- A leaf is within these keys, in this space.
 pub record StandsIn (space low high : ℕ) (z : Leaf) : Type 0 where

@@ -11,15 +11,15 @@ use Rattle.xl_model.specs.Ranges.{range_key, end_key, range_of_leaf, ranges_of}
 use Rattle.xl_model.specs.Shapes.{Runs}
 use Rattle.xl_model.specs.Structures.{IsLeafFor}
 use Rattle.xl_model_lemmas.specs.Members.{In}
-use Rattle.xl_model_lemmas.specs.HeldRanges.{first_leaf, spread, IsRange, IsHeld, IsClear, join, pages_before, pages_behind, part_behind, before_on, behind_on, some_if, IsLeafIn, cut, leaf_in}
-use Rattle.xl_model_lemmas.proofs.RunLemmas.{ranges-spread}
-use Rattle.xl_model_lemmas.proofs.TouchLemmas.{leap, some-pages}
-use Rattle.xl_model_lemmas.proofs.JoinLemmas.{In-key, In-range, held-join}
-use Rattle.xl_model_lemmas.proofs.SpreadLemmas.{spread-join}
-use Rattle.xl_model_lemmas.proofs.LeafInLemmas.{Sizes, sizes}
-use Rattle.xl_model_lemmas.proofs.CutLemmas.{AtHead, head-cut, next-cut, cut-spread, held-cut}
-use Rattle.xl_model_lemmas.proofs.CutCountLemmas.{cut-count}
-use Rattle.xl_model_lemmas.proofs.MeetRangeLemmas.{clear-any}
+use Rattle.xl_range.specs.HeldRanges.{first_leaf, spread, IsRange, IsHeld, IsClear, join, pages_before, pages_behind, part_behind, before_on, behind_on, some_if, IsLeafIn, cut, leaf_in}
+use Rattle.xl_range.proofs.RunLemmas.{ranges-spread}
+use Rattle.xl_range.proofs.TouchLemmas.{leap, some-pages}
+use Rattle.xl_range.proofs.JoinLemmas.{In-key, In-range, held-join}
+use Rattle.xl_range.proofs.SpreadLemmas.{spread-join}
+use Rattle.xl_range.proofs.LeafInLemmas.{Sizes, sizes}
+use Rattle.xl_range.proofs.CutLemmas.{AtHead, head-cut, next-cut, cut-spread, held-cut}
+use Rattle.xl_range.proofs.CutCountLemmas.{cut-count}
+use Rattle.xl_range.proofs.MeetRangeLemmas.{clear-any}
 use Rattle.xl_treap.specs.Treaps.{TreapView, keeping}
 use Rattle.xl_range.specs.Rows.{IsAt, IsTable, IsDone, HasRanges, HasLeaf}
 use Rattle.xl_range.proofs.HoldLemmas.{fit-range}
@@ -170,9 +170,6 @@ has-ranges t new rs leaves e a =
     let k : new.kept ≡ rs = kept-is t new rs e in
     let H : List Range → Type 0 = λ ys. IsHeld 0 ys in
     record { held = subst H (sym k) a.held; leaves = ap spread k ∙ a.leaves_are; rest = e ∙ ap (keeping t) (sym k) }
-
-pub same-bools : (b : Bool) → b ≡ true → b ≡ false → ⊥
-same-bools b t f = let e : true ≡ false = sym t ∙ f in absurd (cc)
 
 -- An insertion.
 pub insert-clear : (n : ℕ) (t : TreapView) (leaf : Leaf) → IsTable n t → IsLeafFor (Runs n) leaf → meets_any leaf.space leaf.first leaf.order (spread t.kept) ≡ false → IsClear (range_of_leaf leaf) t.kept

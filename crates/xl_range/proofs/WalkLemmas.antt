@@ -13,11 +13,11 @@ use Rattle.xl_model.specs.Caches.{Cached, RangeCache, without_items, caches_fenc
 use Rattle.xl_model.specs.Walks.{with_touch, with_fill, with_range, walked, range_walk_by}
 use Rattle.xl_model.specs.Structures.{TableState, IsWalk, IsFence, walk_answer, table_walked, fence_answer, table_fenced}
 use Rattle.xl_model_lemmas.specs.Members.{In}
-use Rattle.xl_model_lemmas.specs.HeldRanges.{spread, leaf_in, leaf_by}
+use Rattle.xl_range.specs.HeldRanges.{spread, leaf_in, leaf_by}
 use Rattle.xl_model_lemmas.proofs.MemberLemmas.{find-In, find-passes}
 use Rattle.xl_model_lemmas.proofs.RecencyLemmas.{touched-In, newest-In, purged-In, touched-none}
-use Rattle.xl_model_lemmas.proofs.RunLemmas.{ranges-spread}
-use Rattle.xl_model_lemmas.proofs.JoinLemmas.{In-range}
+use Rattle.xl_range.proofs.RunLemmas.{ranges-spread}
+use Rattle.xl_range.proofs.JoinLemmas.{In-range}
 use Rattle.xl_tlb.specs.RangeCoding.{IsKeepable}
 use Rattle.xl_treap.specs.Treaps.{TreapView, IsFit}
 use Rattle.xl_range.specs.Rows.{IsAt, IsFresh, IsTable, IsRow, row_of}

@@ -1,3 +1,4 @@
 pub mod Puts
 pub mod Cuts
 pub mod Rows
+pub mod HeldRanges

@@ -3,7 +3,7 @@ use Rattle.std.specs.Prelude.{ℕ, ◌+◌, ◌≡◌, true, if◌then◌else◌
 use Rattle.std.specs.List.{list_any}
 use Rattle.xl_model.specs.declared.leaf.Range.{Range}
 use Rattle.xl_model.specs.Ranges.{range_key}
-use Rattle.xl_model_lemmas.specs.HeldRanges.{touches, grown}
+use Rattle.xl_range.specs.HeldRanges.{touches, grown}
 use Rattle.xl_treap.specs.Treaps.{with_range, without_range, resized, last_below, first_from, of_space, has_key}
 
 -- The range, if the other one touches it.

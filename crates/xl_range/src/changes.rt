@@ -6,7 +6,7 @@ ghost use Rattle.xl_model.specs.Changes.{Insert, Remove, Protect, Relocate, IsNa
 ghost use Rattle.xl_model.specs.Mapping.{meets_any};
 ghost use Rattle.xl_model.specs.Shapes.{Runs};
 ghost use Rattle.xl_model.specs.Structures.{IsBlock, IsLeafFor};
-ghost use Rattle.xl_model_lemmas.specs.HeldRanges.{spread};
+ghost use Rattle.xl_range.specs.HeldRanges.{spread};
 ghost use Rattle.xl_range.specs.Rows.{IsTable, IsDone};
 
 use crate::neighbours::put_within;

@@ -2,7 +2,7 @@
 
 ghost use Rattle.std.specs.Prelude.{◌≡◌, ◌<◌, ◌≤◌, ◌^◌, ◌+◌, length, true, false, nat_le, ◌==◌};
 ghost use Rattle.xl_model.specs.Ranges.{range_of_leaf, same_perm};
-ghost use Rattle.xl_model_lemmas.specs.HeldRanges.{touches as are_touching, IsRange, IsHeld, IsClear, join};
+ghost use Rattle.xl_range.specs.HeldRanges.{touches as are_touching, IsRange, IsHeld, IsClear, join};
 ghost use Rattle.xl_range.specs.Puts.{next_where, prev_where, range_taken, kept_taken, kept_put, put_by, one_if, IsThere, pages_with};
 ghost use Rattle.xl_treap.specs.Treaps.{keeping, IsApart};
 

@@ -1,4 +1,4 @@
 mod DigitLemmas
 mod PermLemmas
-mod ScriptLemmas
+pub mod ScriptLemmas
 mod TextLemmas

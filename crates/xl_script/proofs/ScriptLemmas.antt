@@ -33,7 +33,7 @@ abbrev Good : Result Command Reason → Type 0
 Good (Ok c) = IsPlaced c
 Good (Err why) = Unit {0}
 
-in_memory : (es : List ℕ) → list_all (λ e. nat_le e (2 ^ 64)) es ≡ true → AreInMemory es
+pub in_memory : (es : List ℕ) → list_all (λ e. nat_le e (2 ^ 64)) es ≡ true → AreInMemory es
 in_memory [] h = tt
 in_memory (e ∷ es) h =
     elim (nat_le e (2 ^ 64)) as (λ v. nat_le e (2 ^ 64) ≡ v → (v && list_all (λ d. nat_le d (2 ^ 64)) es) ≡ true → (e ≤ 2 ^ 64) × AreInMemory es)

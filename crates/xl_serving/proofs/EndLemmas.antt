@@ -31,7 +31,7 @@ started_ends roomy a t start by r before after old new rows e x =
     subst (λ (z : Result Start InputFault). Ends r (account_by a t z) roomy before after old new (rows ≡ rows_by t z)) (sym e) x
 
 -- what comes before anything is written, no put has failed
-none_failed : (stop : Stop) → StopsOpening stop → is_all_put {A = Unit {0}} (Err stop) ≡ true
+pub none_failed : (stop : Stop) → StopsOpening stop → is_all_put {A = Unit {0}} (Err stop) ≡ true
 none_failed (why.Input f) h = refl
 none_failed why.ReadFault h = refl
 none_failed why.WriteFault h = absurd h

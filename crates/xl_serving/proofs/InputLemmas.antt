@@ -17,7 +17,7 @@ use Rattle.xl_script.specs.Plain.{plain_said, commands_in, script_of}
 use Rattle.xl_course.specs.declared.stop.Stop.{Stop}
 use Rattle.xl_serving.specs.Inputs.{config_fault, script_fault, said_by, said_in, rows_said, commands_said, Finds}
 
-longer : (limit : ℕ) (text : List ℕ) → limit < length text → limit < length (take (limit + 1) text)
+pub longer : (limit : ℕ) (text : List ℕ) → limit < length text → limit < length (take (limit + 1) text)
 longer limit text h = let e = length-take (limit + 1) text in grind arith
 
 -- a text of which one byte more than the limit was read is too long as it was

@@ -4,7 +4,7 @@ mod SkimLemmas
 pub mod BatchLemmas
 pub mod AreaLemmas
 pub mod ItemLemmas
-mod InputLemmas
+pub mod InputLemmas
 mod OpenedLemmas
 pub mod EndLemmas
 pub mod PlainLemmas

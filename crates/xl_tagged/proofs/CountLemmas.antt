@@ -235,7 +235,7 @@ word-low order.K4 key xs h = omega arith
 word-low order.M2 key xs h = let a = tally-short (of_order order.M2 key order.K4) xs in omega arith
 word-low order.G1 key xs h = let a = tally-short (of_order order.G1 key order.K4) xs in let b = tally-short (of_order order.G1 key order.M2) xs in omega arith
 
-unit-low : (o : Order) → unit o ≤ 2 ^ 44
+pub unit-low : (o : Order) → unit o ≤ 2 ^ 44
 unit-low order.K4 = omega arith
 unit-low order.M2 = omega arith
 unit-low order.G1 = omega arith

@@ -117,7 +117,7 @@ module _ (back : MadeWordsReadBack) (f : Form) (s page : ℕ) (values : ℕ → 
 abbrev pub lies_in : Order → ℕ → Leaf → Bool
 lies_in size key x = is_smaller size x.order && counts_at size key x
 
-either : (a b : ℕ) → (not (a == 0) || not (b == 0)) ≡ not (a + b * 2 ^ 22 == 0)
+pub either : (a b : ℕ) → (not (a == 0) || not (b == 0)) ≡ not (a + b * 2 ^ 22 == 0)
 either a b = same-tests (not (a == 0) || not (b == 0)) (not (a + b * 2 ^ 22 == 0)) (λ t. grind (arith, nat_tests)) (λ t. grind (arith, nat_tests))
 
 -- a section's word says whether a smaller leaf lies in it
@@ -221,15 +221,6 @@ meets-is o s first e leaves a b c d =
     ∙ any-or (covers s first) (lies_in o key) leaves
     ∙ ap (λ t. t || list_any (lies_in o key) leaves) (any-find (covers s first) leaves)
     ∙ ap (λ t. is_some (find (covers s first) leaves) || t) (lies-any o key leaves))
-
--- a leaf that is found has its own name
-pub found-named : (s page : ℕ) (x : Leaf) (leaves : List Leaf) → leaf_at_page s page leaves ≡ Some x → IsNamed x.space x.first x.order leaves
-unfolding leaf_at_page leaf_named
-found-named s page x leaves h =
-    sym (any-find (is_leaf x.space x.first x.order) leaves) ∙ In-any (is_leaf x.space x.first x.order) x leaves (find-In (covers s page) x leaves h) named
-  where
-    named : is_leaf x.space x.first x.order x ≡ true
-    named = grind (arith, nat_tests)
 
 -- among leaves that aren't smaller than a block, the one that covers a page is found
 abbrev pub from-only : Order → Option Leaf → Option Leaf

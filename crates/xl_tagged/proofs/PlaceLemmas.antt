@@ -11,6 +11,7 @@ use Rattle.xl_model_lemmas.specs.Sections.{IsAligned}
 use Rattle.xl_model_lemmas.proofs.OrderLemmas.{level-low, same-level}
 use Rattle.xl_tagged.specs.Forms.{Form, One, Sixteen, group_of, slot_of}
 use Rattle.xl_tagged.specs.Tagged.{IsAt}
+use Rattle.xl_model_lemmas.proofs.SectionLemmas.{small-block}
 
 -- a number in its group
 pub group-low : (f : Form) (n : ℕ) → n < 2 ^ 45 → n / group_of f < 2 ^ 45
@@ -28,12 +29,6 @@ group-back Sixteen n = omega arith
 group-same : (f : Form) (m n : ℕ) → m / group_of f ≡ n / group_of f → m % group_of f ≡ n % group_of f → m ≡ n
 group-same f m n a b =
     sym (group-back f m) ∙ ap (λ (q : ℕ). q * group_of f + m % group_of f) a ∙ ap (λ (r : ℕ). n / group_of f * group_of f + r) b ∙ group-back f n
-
--- the number of a page among the blocks of an order
-pub number-low : (o : Order) (page : ℕ) → page < 2 ^ 45 → page / pages_of o < 2 ^ 45
-number-low order.K4 page h = omega arith
-number-low order.M2 page h = omega arith
-number-low order.G1 page h = omega arith
 
 pub number-back : (o : Order) (first e : ℕ) → first ≡ e * pages_of o → first / pages_of o * pages_of o ≡ first
 number-back order.K4 first e h = omega arith
@@ -86,7 +81,7 @@ pub at-covers : (f : Form) (s page : ℕ) (o : Order) (x : Leaf) → s < 64 → 
 at-covers f s page o x a b e at =
     let t : IsSameTag x.order o x.space s (x.first / pages_of x.order / group_of f) (page / pages_of o / group_of f) =
     tag-split x.order o x.space s (x.first / pages_of x.order / group_of f) (page / pages_of o / group_of f) e.placed.space_in a
-    (group-low f (x.first / pages_of x.order) (number-low x.order x.first e.placed.page_in)) (group-low f (page / pages_of o) (number-low o page b)) at.tag_is in
+    (group-low f (x.first / pages_of x.order) (small-block x.order x.first e.placed.page_in)) (group-low f (page / pages_of o) (small-block o page b)) at.tag_is in
     let n : x.first / pages_of x.order ≡ page / pages_of o = group-same f (x.first / pages_of x.order) (page / pages_of o) t.number_same at.slot_is in
     let m : x.first / pages_of x.order ≡ page / pages_of x.order = n ∙ ap (λ q. page / pages_of q) (sym t.order_same) in
     let r = number-covers x.order x.first page e.aligned.0 e.aligned.1 m in
@@ -124,7 +119,7 @@ pub record HasParts (tag space n level : ℕ) : Type 0 where
   pub number_is : tag % 2 ^ 45 ≡ n
 
 pub tag-parts : (f : Form) (tag : ℕ) (x : Leaf) → IsAligned x → leaf_tag (group_of f) x ≡ tag → HasParts tag x.space (x.first / pages_of x.order / group_of f) (level_of x.order)
-tag-parts f tag x a t = go (x.first / pages_of x.order / group_of f) (group-low f (x.first / pages_of x.order) (number-low x.order x.first a.placed.page_in)) t
+tag-parts f tag x a t = go (x.first / pages_of x.order / group_of f) (group-low f (x.first / pages_of x.order) (small-block x.order x.first a.placed.page_in)) t
   where
     go : (m : ℕ) → m < 2 ^ 45 → level_of x.order * 2 ^ 60 + (x.space * 2 ^ 45 + m) ≡ tag → HasParts tag x.space m (level_of x.order)
     go m b e =

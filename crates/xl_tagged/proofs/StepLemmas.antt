@@ -20,6 +20,9 @@ use Rattle.xl_model.specs.declared.perm.Perm.{Perm}
 use Rattle.xl_tagged.specs.Steps.{IsPut, IsSet, IsTaken, word_found, given_word}
 use Rattle.xl_tagged.proofs.ChainLemmas.{values-none, values-cons, values-front, IsUnderTag, same-entry, set-by, values-without, tags-set, tags-without}
 use Rattle.xl_tagged.proofs.StateLemmas.{with-absent, tag-with}
+use Rattle.xl_chain.proofs.PlaceLemmas.{set-same, set-other}
+use Rattle.xl_model_lemmas.proofs.OnceLemmas.{own-number}
+pub use Rattle.xl_sections.proofs.RaiseLemmas.{absent-key as not-held}
 
 -- a tag that isn't held has no values
 pub absent-values : (hs : List Held) (t : ℕ) → has_tag (tags_of hs) t ≡ false → values_under hs t ≡ []
@@ -58,25 +61,6 @@ entry-held tag e v hs u = In-any (is_entry e) u.held hs u.there (eq-eqb u.held.e
 pub tag-held : (tag e v : ℕ) (hs : List Held) → IsUnderTag tag hs e v → has_tag (tags_of hs) tag ≡ true
 tag-held tag e v hs u = In-any (λ t. t == tag) u.held.tag (tags_of hs) (In-map (λ (h : Held). h.tag) u.held hs u.there) (eq-eqb u.held.tag tag u.tag_is)
 
--- a tag that no search finds isn't held
-pub not-held : (tag : ℕ) (hs : List Held) → ((e v : ℕ) → found_of (held_with tag hs) ≡ seek.Found e v → ⊥) → has_tag (tags_of hs) tag ≡ false
-unfolding held_with
-not-held tag hs none = elim (has_tag (tags_of hs) tag) as (λ b. has_tag (tags_of hs) tag ≡ b → b ≡ false) [
-  | true ↦ λ t. absurd (go hs t none)
-  | false ↦ λ t. refl
-] refl
-  where
-    go : (gs : List Held) → has_tag (tags_of gs) tag ≡ true → ((e v : ℕ) → found_of (find (has tag) gs) ≡ seek.Found e v → ⊥) → ⊥
-    go [] h n = absurd (cc)
-    go (g ∷ gs) h n =
-        elim (g.tag == tag) as (λ b. (b || has_tag (tags_of gs) tag) ≡ true → ((e v : ℕ) → found_of (cond b (Some g) (find (has tag) gs)) ≡ seek.Found e v → ⊥) → ⊥) [
-          | true ↦ λ k m. m g.entry (first_value g.values) refl
-          | false ↦ λ k m. go gs k m
-        ] h n
-
-own : (tag : ℕ) → (tag == tag) ≡ true
-own tag = eq-eqb tag tag refl
-
 other-tag : (t tag : ℕ) → (t ≡ tag → ⊥) → (tag == t) ≡ false
 other-tag t tag other = ne_eqb tag t (λ e. other (sym e))
 
@@ -93,7 +77,7 @@ inserted-put f tag slot word vs old new absent ins len here empty sized =
     let tags : tags_of new.held ≡ with_tag b tag (tags_of hs) = ap tags_of is ∙ sym (tags-by (λ (g : Held). g.tag) b h hs) ∙ sym (with-absent b tag (tags_of hs) absent) in
     record {
       written = record {
-        here = ap (λ (us : List ℕ). slice_index us (before f + slot)) (values tag ∙ ap (λ c. cond c vs (values_under hs tag)) (own tag)) ∙ here;
+        here = ap (λ (us : List ℕ). slice_index us (before f + slot)) (values tag ∙ ap (λ c. cond c vs (values_under hs tag)) (own-number tag)) ∙ here;
         others = λ t i low other.
             elim (tag == t) as (λ c. (tag == t) ≡ c → word_at f (values_under new.held) t i ≡ word_at f (values_under hs) t i) [
               | true ↦ λ k.
@@ -124,12 +108,6 @@ shorter tag (g ∷ hs) =
     let on = shorter tag hs in
     elim (g.tag == tag) as (λ b. length (cond (not b) (g ∷ filter (λ h. not (has tag h)) hs) (filter (λ h. not (has tag h)) hs)) ≤ suc (length hs)) [ true ↦ omega arith | false ↦ omega arith ]
 
-pub set-here : (vs : List ℕ) (i w : ℕ) → i < length vs → slice_index (slice_set vs i w) i ≡ w
-set-here vs i w h = get_or-set_same vs i w 0 h
-
-pub set-other : (vs : List ℕ) (i j w : ℕ) → (j ≡ i → ⊥) → slice_index (slice_set vs i w) j ≡ slice_index vs j
-set-other vs i j w other = get_or-set_other vs i j w 0 other
-
 pub len-set : (b : Bool) (vs : List ℕ) (i w : ℕ) → length (cond b (slice_set vs i w) vs) ≡ length vs
 len-set true vs i w = length-set vs i w
 len-set false vs i w = refl
@@ -151,8 +129,8 @@ set-slot f tag slot word e v old new single u held shape loads low sized within 
     let len : length (values_under hs tag) ≡ before f + group_of f = sized tag there in
     record {
       written = record {
-        here = ap (λ (us : List ℕ). slice_index us (before f + slot)) (values tag ∙ ap (λ c. cond c (slice_set (values_under hs tag) (before f + slot) word) (values_under hs tag)) (own tag))
-            ∙ set-here (values_under hs tag) (before f + slot) word (omega arith);
+        here = ap (λ (us : List ℕ). slice_index us (before f + slot)) (values tag ∙ ap (λ c. cond c (slice_set (values_under hs tag) (before f + slot) word) (values_under hs tag)) (own-number tag))
+            ∙ set-same (values_under hs tag) (before f + slot) word (omega arith);
         others = λ t i under other.
             elim (tag == t) as (λ c. (tag == t) ≡ c → word_at f (values_under new.held) t i ≡ word_at f (values_under hs) t i) [
               | true ↦ λ k.
@@ -178,7 +156,7 @@ removed-taken f tag slot old new held shape loads empty sized within =
     let hs : List Held = old.held in
     let values : (t : ℕ) → values_under new.held t ≡ cond (tag == t) [] (values_under hs t) = (λ t. ap (λ gs. values_under gs t) held ∙ values-without tag hs t) in
     let tags : tags_of new.held ≡ filter (λ t. not (t == tag)) (tags_of hs) = ap tags_of held ∙ tags-without tag hs in
-    let gone : (i : ℕ) → word_at f (values_under new.held) tag i ≡ 0 = (λ i. ap (λ (us : List ℕ). slice_index us (before f + i)) (values tag ∙ ap (λ c. cond c [] (values_under hs tag)) (own tag))) in
+    let gone : (i : ℕ) → word_at f (values_under new.held) tag i ≡ 0 = (λ i. ap (λ (us : List ℕ). slice_index us (before f + i)) (values tag ∙ ap (λ c. cond c [] (values_under hs tag)) (own-number tag))) in
     record {
       written = record {
         here = gone slot;

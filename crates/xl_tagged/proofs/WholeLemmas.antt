@@ -28,7 +28,7 @@ use Rattle.xl_model_lemmas.specs.Sections.{IsAligned}
 use Rattle.xl_model_lemmas.proofs.InsertionLemmas.{with-In, without-In}
 use Rattle.xl_model_lemmas.proofs.MappingLemmas.{named-In, named-is}
 use Rattle.xl_model_lemmas.proofs.MemberLemmas.{In-any, any-false, filter-In, filter-passes, In-filter}
-use Rattle.xl_model_lemmas.proofs.PlaceLemmas.{named-space, named-first, named-order}
+use Rattle.xl_model_lemmas.proofs.PlaceLemmas.{named-space, named-first, named-order, aligned-frame}
 use Rattle.xl_model_lemmas.proofs.SameLemmas.{both}
 use Rattle.xl_model_lemmas.proofs.TagLemmas.{named-tag}
 use Rattle.xl_pte.specs.ReadBack.{MadeWordsReadBack}
@@ -77,13 +77,7 @@ whole-of back f old new s t ys w h rest counted =
       counted = subst (λ zs. AreCounted zs new.shape.entries t) (sym leaves) (subst (λ n. AreCounted ys n t) (sym entries) counted);
     }
 
--- a leaf that the table can take
-frames : (o : Order) (frame e : ℕ) → frame ≡ e * pages_of o → frame % 2 ^ (9 * level_of o) ≡ 0
-frames order.K4 frame e h = omega arith
-frames order.M2 frame e h = omega arith
-frames order.G1 frame e h = omega arith
-
-low : (o : Order) (n m : ℕ) → n + pages_of o ≤ m → n < m
+pub low : (o : Order) (n m : ℕ) → n + pages_of o ≤ m → n < m
 low order.K4 n m h = omega arith
 low order.M2 n m h = omega arith
 low order.G1 n m h = omega arith
@@ -95,7 +89,7 @@ pub fit-of : (f : Form) (c : ChainState) (x : Leaf) → IsLeafFor (table_in f c)
 fit-of f c x v = record {
   aligned = record { placed = record { space_in = v.block.space_in; page_in = low x.order x.first (2 ^ 45) v.block.pages_in }; aligned = v.block.aligned };
   frame_in = low x.order x.frame (2 ^ 44) v.frames_in;
-  frame_aligned = frames x.order x.frame v.frames_aligned.0 v.frames_aligned.1;
+  frame_aligned = aligned-frame x.order x.frame v.frames_aligned.0 v.frames_aligned.1;
 }
 
 free-of : (x : Leaf) (xs : List Leaf) → meets_any x.space x.first x.order xs ≡ false → (y : Leaf) → In y xs → meets_block x.space x.first x.order y ≡ false
@@ -225,11 +219,11 @@ named-found back f space first o c s w n =
     ∙ ap (λ p. leaf_read x.space p (x.first / pages_of p) (leaf_word x.frame x.perm)) (sym (named-order space first o x n.is))
     ∙ read-leaf back x (w.held.fit x n.there)
 
-bit-low : (p : Bool) (m : ℕ) → bit_if p m ≤ m
+pub bit-low : (p : Bool) (m : ℕ) → bit_if p m ≤ m
 bit-low true m = omega arith
 bit-low false m = omega arith
 
-frame-back : (frame : ℕ) (p : Perm) → frame < 2 ^ 44 → leaf_word frame p / 1024 % 2 ^ 44 ≡ frame
+pub frame-back : (frame : ℕ) (p : Perm) → frame < 2 ^ 44 → leaf_word frame p / 1024 % 2 ^ 44 ≡ frame
 unfolding leaf_word
 frame-back frame p h =
     let a = bit-low p.r 2 in
@@ -359,7 +353,7 @@ pub record CanMove (f : Form) (space first to : ℕ) (o : Order) (old : Leaf) (c
   pub free : meets_any old.space to old.order (table_in f c).leaves ≡ false
   pub move : (r : Result Work Refused) (between : TableState) → IsChange (Insert (at_to to old)) (table_in f c) r between → IsMove space first to o (table_in f c) r between
 
-frame-fits : (o : Order) (frame : ℕ) → frame < 2 ^ 44 → frame % 2 ^ (9 * level_of o) ≡ 0 → (frame + pages_of o ≤ 2 ^ 44) × ((e : ℕ) × (frame ≡ e * pages_of o))
+pub frame-fits : (o : Order) (frame : ℕ) → frame < 2 ^ 44 → frame % 2 ^ (9 * level_of o) ≡ 0 → (frame + pages_of o ≤ 2 ^ 44) × ((e : ℕ) × (frame ≡ e * pages_of o))
 frame-fits order.K4 frame h m = (omega arith, (frame, omega arith))
 frame-fits order.M2 frame h m = (omega arith, (frame / 512, omega arith))
 frame-fits order.G1 frame h m = (omega arith, (frame / 262144, omega arith))

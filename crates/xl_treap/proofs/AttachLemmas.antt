@@ -5,10 +5,11 @@ use Rattle.xl_model.specs.declared.leaf.Range.{Range}
 use Rattle.xl_model.specs.Ranges.{range_key, end_key}
 use Rattle.xl_treap.specs.Trees.{Tree, Tip, Bin, IsAt, InOrder, down, graft}
 use Rattle.xl_treap.specs.Steps.{IsAttached, IsLined, SameLine, Each, Off, SameOff, Keeps, IsEmpty, parent_at, IsHung}
-use Rattle.xl_treap.proofs.OrderLemmas.{pick-yes, pick-no, side}
+use Rattle.xl_treap.proofs.OrderLemmas.{side}
 use Rattle.xl_treap.proofs.WayLemmas.{child, down-next, order-down, at-there}
 use Rattle.xl_treap.proofs.FrameLemmas.{at-keeps, off-key, with_child, Hung, hung-low, hung-high}
 use Rattle.xl_treap.proofs.GraftLemmas.{lift, off-down, graft-next}
+use Rattle.xl_model_lemmas.proofs.SameLemmas.{pick-yes, pick-no}
 
 pub same-or-not : (m n : ℕ) → (m ≡ n) ⊎ (m ≡ n → ⊥)
 same-or-not m n = elim (m == n) as (λ b. (m == n) ≡ b → (m ≡ n) ⊎ (m ≡ n → ⊥)) [

@@ -8,9 +8,9 @@ use Rattle.xl_treap.specs.Treaps.{last_or, last_below, first_from}
 use Rattle.xl_treap.specs.Lines.{left_at, right_at, range_of_link}
 use Rattle.xl_treap.specs.Trees.{Tree, Tip, Bin, ranges, tree_at}
 use Rattle.xl_treap.specs.Steps.{IsTree, AreBeside}
-use Rattle.xl_treap.proofs.OrderLemmas.{pick-yes, pick-no}
 use Rattle.xl_treap.proofs.FoundLemmas.{tree-is}
 use Rattle.xl_treap.proofs.UnderLemmas.{Stands, IsTop, stands-tree, tip-of, top-of}
+use Rattle.xl_model_lemmas.proofs.SameLemmas.{pick-yes, pick-no}
 
 -- what the first says, or else the second
 abbrev pub or_else : Option Range → Option Range → Option Range

@@ -3,26 +3,18 @@ use Rattle.std.proofs.Common.{◌≡◌, refl, sym, ap, ◌∙◌, subst, ℕ, s
 use Rattle.xl_model.specs.Ranges.{range_key, end_key, is_above}
 use Rattle.xl_treap.specs.Trees.{Tree, Tip, Bin, IsAt, InOrder, Over, IsHeap, down, cut_low, cut_high}
 use Rattle.xl_treap.specs.Steps.{SameLine, Each, Off, IsCut, CanPart, TopOver, IsHung}
-use Rattle.xl_treap.proofs.OrderLemmas.{pick-yes, pick-no}
 use Rattle.xl_treap.proofs.AboveLemmas.{above-total, over-chain}
 use Rattle.xl_treap.proofs.WayLemmas.{child, down-next, order-down, heap-down, at-there}
 use Rattle.xl_treap.proofs.FrameLemmas.{each-map, at-keeps, frame, off-key, linked-line, linked-three, Hung, hung-low, hung-high}
+use Rattle.xl_model_lemmas.proofs.SameLemmas.{pick-yes, pick-no}
 
-pub each-low : (P : ℕ → Type 0) (k : ℕ) (t : Tree) → Each P t → Each P (cut_low k t)
-each-low P k Tip e = tt
-each-low P k (Bin m x l r) (e, a, b) = by (nat_lt (range_key x) k) (each-low P k l a) (each-low P k r b)
-  where
-    by : (c : Bool) → Each P (cut_low k l) → Each P (cut_low k r) → Each P (cond c (Bin m x l (cut_low k r)) (cut_low k l))
-    by true u v = (e, a, v)
-    by false u v = u
-
-pub each-high : (P : ℕ → Type 0) (k : ℕ) (t : Tree) → Each P t → Each P (cut_high k t)
-each-high P k Tip e = tt
-each-high P k (Bin m x l r) (e, a, b) = by (nat_lt (range_key x) k) (each-high P k l a) (each-high P k r b)
-  where
-    by : (c : Bool) → Each P (cut_high k l) → Each P (cut_high k r) → Each P (cond c (cut_high k r) (Bin m x (cut_high k l) r))
-    by true u v = v
-    by false u v = (e, u, b)
+-- what each of a tree's nodes is, each node of its two parts is
+pub each-cut : (P : ℕ → Type 0) (k : ℕ) (t : Tree) → Each P t → Each P (cut_low k t) × Each P (cut_high k t)
+each-cut P k Tip e = (tt, tt)
+each-cut P k (Bin m x l r) (e, a, b) = elim (nat_lt (range_key x) k) as (λ c. Each P (cond c (Bin m x l (cut_low k r)) (cut_low k l)) × Each P (cond c (cut_high k r) (Bin m x (cut_high k l) r))) [
+  | true ↦ let u = each-cut P k r b in ((e, a, u.0), u.1)
+  | false ↦ let u = each-cut P k l a in (u.0, (e, u.1, b))
+]
 
 -- one node on the way up goes to the lower part
 pub cut-below : (old w new : List ℕ) (at k bound top low high : ℕ) (t : Tree) → IsAt old at t → 0 < at → InOrder bound top t → IsCut old w low high k (child k t)
@@ -44,14 +36,14 @@ cut-below old w new at k bound top low high (Bin n x l r) i some o c lt link =
     let fit = o.0.some in
     let off-r : Off n r = off-key old n (range_key x) (end_key x) top r i.1.key_is keep.2 o.2 (inl (omega arith)) in
     let h : Hung old new k n (Bin n x l r) (cut_low k r) =
-    hung-low old w new bound top k n low x l r (cut_low k r) keep o lk d.lows (each-low (λ m. m ≡ n → ⊥) k r off-r) less d.but.off i.2 in
+    hung-low old w new bound top k n low x l r (cut_low k r) keep o lk d.lows (each-cut (λ m. m ≡ n → ⊥) k r off-r).0 less d.but.off i.2 in
     let A : ℕ → Type 0 = λ a. IsAt new a (cut_low k (Bin n x l r)) in
     let T : Tree → Type 0 = λ s. IsAt new (suc n) s in
     let H : Tree → Type 0 = λ s. IsAt new high s in
     record {
       lows = subst A (sym i.0) (subst T (pick-yes (range_key x) k _ _ less ∙ sym (pick-yes (range_key x) k (Bin n x l (cut_low k r)) (cut_low k l) less)) h.here);
       highs = subst H (sym (pick-yes (range_key x) k (cut_high k r) (Bin n x (cut_high k l) r) less))
-          (frame w new high (cut_high k r) lk.len (each-map (λ m. m ≡ n → ⊥) (SameLine w new) (cut_high k r) (λ m ne. linked-line w new n _ _ m lk ne) (each-high (λ m. m ≡ n → ⊥) k r off-r)) d.highs);
+          (frame w new high (cut_high k r) lk.len (each-map (λ m. m ≡ n → ⊥) (SameLine w new) (cut_high k r) (λ m ne. linked-line w new n _ _ m lk ne) (each-cut (λ m. m ≡ n → ⊥) k r off-r).1) d.highs);
       but = record { off = h.off; kept = λ m j q. linked-three w new n _ _ lk m j q ∙ d.but.kept m j q };
     }
 
@@ -74,14 +66,14 @@ cut-above old w new at k bound top low high (Bin n x l r) i some o c ge link =
     let keep = at-keeps old at (Bin n x l r) i in
     let off-l : Off n l = off-key old n (range_key x) bound (range_key x) l i.1.key_is keep.1 o.1 (inr (omega arith)) in
     let h : Hung old new k n (Bin n x l r) (cut_high k l) =
-    hung-high old w new bound top k n high x l r (cut_high k l) keep o lk d.highs (each-high (λ m. m ≡ n → ⊥) k l off-l) more d.but.off i.3 in
+    hung-high old w new bound top k n high x l r (cut_high k l) keep o lk d.highs (each-cut (λ m. m ≡ n → ⊥) k l off-l).1 more d.but.off i.3 in
     let A : ℕ → Type 0 = λ a. IsAt new a (cut_high k (Bin n x l r)) in
     let T : Tree → Type 0 = λ s. IsAt new (suc n) s in
     let H : Tree → Type 0 = λ s. IsAt new low s in
     record {
       highs = subst A (sym i.0) (subst T (pick-no (range_key x) k _ _ more ∙ sym (pick-no (range_key x) k (cut_high k r) (Bin n x (cut_high k l) r) more)) h.here);
       lows = subst H (sym (pick-no (range_key x) k (Bin n x l (cut_low k r)) (cut_low k l) more))
-          (frame w new low (cut_low k l) lk.len (each-map (λ m. m ≡ n → ⊥) (SameLine w new) (cut_low k l) (λ m ne. linked-line w new n _ _ m lk ne) (each-low (λ m. m ≡ n → ⊥) k l off-l)) d.lows);
+          (frame w new low (cut_low k l) lk.len (each-map (λ m. m ≡ n → ⊥) (SameLine w new) (cut_low k l) (λ m ne. linked-line w new n _ _ m lk ne) (each-cut (λ m. m ≡ n → ⊥) k l off-l).0) d.lows);
       but = record { off = h.off; kept = λ m j q. linked-three w new n _ _ lk m j q ∙ d.but.kept m j q };
     }
 

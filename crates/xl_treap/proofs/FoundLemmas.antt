@@ -13,7 +13,8 @@ use Rattle.xl_treap.specs.Back.{Searched, ended, end_of, loaded_before, visit_of
 use Rattle.xl_treap.specs.Trees.{Tree, Tip, Bin, ranges, found, examined, tree_at, tree_by, IsAt, InOrder}
 use Rattle.xl_treap.proofs.WordLemmas.{said-back, node-said}
 use Rattle.xl_treap.proofs.SeekLemmas.{from-none, from-visit}
-use Rattle.xl_treap.proofs.OrderLemmas.{pick-yes, pick-no, side, sizes, order-In}
+use Rattle.xl_treap.proofs.OrderLemmas.{side, sizes, order-In}
+use Rattle.xl_model_lemmas.proofs.SameLemmas.{pick-yes, pick-no}
 
 pub none-at : (d : ℕ) (words : List ℕ) → tree_at d words 0 ≡ Tip
 none-at zero words = refl

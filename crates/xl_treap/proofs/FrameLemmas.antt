@@ -5,7 +5,8 @@ use Rattle.xl_model.specs.Ranges.{range_key, end_key}
 use Rattle.xl_treap.specs.Lines.{left_at, right_at, IsNode}
 use Rattle.xl_treap.specs.Trees.{Tree, Tip, Bin, IsAt, InOrder}
 use Rattle.xl_treap.specs.Steps.{IsLinked, SameLine, Each, Off, SameOff, Keeps, IsHung}
-use Rattle.xl_treap.proofs.OrderLemmas.{pick-yes, pick-no, order-le}
+use Rattle.xl_treap.proofs.OrderLemmas.{order-le}
+use Rattle.xl_model_lemmas.proofs.SameLemmas.{pick-yes, pick-no}
 
 pub each-map : (P Q : ℕ → Type 0) (t : Tree) → ((m : ℕ) → P m → Q m) → Each P t → Each Q t
 each-map P Q Tip f e = tt

@@ -9,8 +9,9 @@ use Rattle.xl_treap.specs.Treaps.{with_range, without_range, resized}
 use Rattle.xl_treap.specs.Lines.{left_at, right_at}
 use Rattle.xl_treap.specs.Trees.{Tree, Tip, Bin, ranges, IsAt, InOrder, Over, IsHeap, down, graft, cut_low, cut_high}
 use Rattle.xl_treap.specs.Steps.{SameLine, Each, Off, SameOff}
-use Rattle.xl_treap.proofs.OrderLemmas.{pick-yes, pick-no, side, order-In}
+use Rattle.xl_treap.proofs.OrderLemmas.{side, order-In}
 use Rattle.xl_treap.proofs.FrameLemmas.{each-map, each-off, at-keeps, frame, off-key, node-same, with_child}
+use Rattle.xl_model_lemmas.proofs.SameLemmas.{pick-yes, pick-no}
 
 pub down-In : (y : Range) (t : Tree) (k d : ℕ) → In y (ranges (down t k d)) → In y (ranges t)
 down-In y t k zero i = i
@@ -181,32 +182,18 @@ heap-graft (Bin n x l r) s k (suc d) (o, p, a, b) g f =
       | false ↦ λ f. let i = heap-graft l s k d a g f in ((i.1 (range_key x) o, p, i.0, b), λ y q. (q.0, i.1 y q.1, q.2))
     ] f
 
-pub over-low : (y k : ℕ) (t : Tree) → Over y t → Over y (cut_low k t)
-over-low y k Tip o = tt
-over-low y k (Bin n x l r) (o, a, b) = elim (nat_lt (range_key x) k) as (λ c. Over y (cond c (Bin n x l (cut_low k r)) (cut_low k l))) [
-  | true ↦ (o, a, over-low y k r b)
-  | false ↦ over-low y k l a
+pub over-cut : (y k : ℕ) (t : Tree) → Over y t → Over y (cut_low k t) × Over y (cut_high k t)
+over-cut y k Tip o = (tt, tt)
+over-cut y k (Bin n x l r) (o, a, b) = elim (nat_lt (range_key x) k) as (λ c. Over y (cond c (Bin n x l (cut_low k r)) (cut_low k l)) × Over y (cond c (cut_high k r) (Bin n x (cut_high k l) r))) [
+  | true ↦ let u = over-cut y k r b in ((o, a, u.0), u.1)
+  | false ↦ let u = over-cut y k l a in (u.0, (o, u.1, b))
 ]
 
-pub over-high : (y k : ℕ) (t : Tree) → Over y t → Over y (cut_high k t)
-over-high y k Tip o = tt
-over-high y k (Bin n x l r) (o, a, b) = elim (nat_lt (range_key x) k) as (λ c. Over y (cond c (cut_high k r) (Bin n x (cut_high k l) r))) [
-  | true ↦ over-high y k r b
-  | false ↦ (o, over-high y k l a, b)
-]
-
-pub heap-low : (k : ℕ) (t : Tree) → IsHeap t → IsHeap (cut_low k t)
-heap-low k Tip h = tt
-heap-low k (Bin n x l r) (o, p, a, b) = elim (nat_lt (range_key x) k) as (λ c. IsHeap (cond c (Bin n x l (cut_low k r)) (cut_low k l))) [
-  | true ↦ (o, over-low (range_key x) k r p, a, heap-low k r b)
-  | false ↦ heap-low k l a
-]
-
-pub heap-high : (k : ℕ) (t : Tree) → IsHeap t → IsHeap (cut_high k t)
-heap-high k Tip h = tt
-heap-high k (Bin n x l r) (o, p, a, b) = elim (nat_lt (range_key x) k) as (λ c. IsHeap (cond c (cut_high k r) (Bin n x (cut_high k l) r))) [
-  | true ↦ heap-high k r b
-  | false ↦ (over-high (range_key x) k l o, p, heap-high k l a, b)
+pub heap-cut : (k : ℕ) (t : Tree) → IsHeap t → IsHeap (cut_low k t) × IsHeap (cut_high k t)
+heap-cut k Tip h = (tt, tt)
+heap-cut k (Bin n x l r) (o, p, a, b) = elim (nat_lt (range_key x) k) as (λ c. IsHeap (cond c (Bin n x l (cut_low k r)) (cut_low k l)) × IsHeap (cond c (cut_high k r) (Bin n x (cut_high k l) r))) [
+  | true ↦ let u = heap-cut k r b in ((o, (over-cut (range_key x) k r p).0, a, u.0), u.1)
+  | false ↦ let u = heap-cut k l a in (u.0, ((over-cut (range_key x) k l o).1, p, u.1, b))
 ]
 
 -- a graft one step further down

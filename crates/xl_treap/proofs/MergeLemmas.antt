@@ -5,9 +5,10 @@ use Rattle.xl_model.specs.Ranges.{range_key, end_key, is_above}
 use Rattle.xl_treap.specs.Lines.{left_at, right_at}
 use Rattle.xl_treap.specs.Trees.{Tree, Tip, Bin, ranges, IsAt, InOrder, IsHeap, Over, down, merge, merge_into}
 use Rattle.xl_treap.specs.Steps.{Each, Keeps, Half}
-use Rattle.xl_treap.proofs.OrderLemmas.{pick-yes, pick-no, side, sizes, Within, order-of, of-order, order-le, order-wider}
+use Rattle.xl_treap.proofs.OrderLemmas.{side, sizes, Within, order-of, of-order, order-le, order-wider}
 use Rattle.xl_treap.proofs.AboveLemmas.{above-total, over-chain}
 use Rattle.xl_treap.proofs.WayLemmas.{child, down-next, at-there, none-left}
+use Rattle.xl_model_lemmas.proofs.SameLemmas.{pick-yes, pick-no}
 
 pub merge-none : (a : Tree) → merge a Tip ≡ a
 merge-none Tip = refl

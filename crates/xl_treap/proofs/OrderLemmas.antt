@@ -7,12 +7,6 @@ use Rattle.xl_model_lemmas.specs.Members.{In}
 use Rattle.xl_treap.specs.Treaps.{IsFit, IsApart}
 use Rattle.xl_treap.specs.Trees.{Tree, Tip, Bin, ranges, InOrder}
 
-pub pick-yes : {A : Type 0} → (m n : ℕ) (a b : A) → m < n → cond (nat_lt m n) a b ≡ a
-pick-yes m n a b h = let e : nat_lt m n ≡ true = grind (arith, nat_tests) in rw e refl
-
-pub pick-no : {A : Type 0} → (m n : ℕ) (a b : A) → n ≤ m → cond (nat_lt m n) a b ≡ b
-pick-no m n a b h = let e : nat_lt m n ≡ false = grind (arith, nat_tests) in rw e refl
-
 -- which of two numbers is the lesser
 pub side : (m n : ℕ) → (m < n) ⊎ (n ≤ m)
 side m n = elim (nat_lt m n) as (λ b. nat_lt m n ≡ b → (m < n) ⊎ (n ≤ m)) [

@@ -4,8 +4,8 @@ use Rattle.xl_model.specs.Ranges.{range_key}
 use Rattle.xl_treap.specs.Lines.{left_at, right_at}
 use Rattle.xl_treap.specs.Trees.{Tree, Tip, Bin, ranges, found, examined}
 use Rattle.xl_treap.specs.Steps.{IsTree, IsReached}
-use Rattle.xl_treap.proofs.OrderLemmas.{pick-yes, pick-no}
 use Rattle.xl_treap.proofs.UnderLemmas.{Stands, IsTop, stands-tree, tip-of, top-of}
+use Rattle.xl_model_lemmas.proofs.SameLemmas.{pick-yes, pick-no}
 
 -- a link reached by `loads` nodes: the tree under it decides, with the other nodes to examine
 pub record IsLeft (words : List ℕ) (t : Tree) (k loads at : ℕ) : Type 0 where

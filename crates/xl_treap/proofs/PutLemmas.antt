@@ -9,13 +9,14 @@ use Rattle.xl_treap.specs.Treaps.{IsFit, IsApart, with_range}
 use Rattle.xl_treap.specs.Lines.{IsNode}
 use Rattle.xl_treap.specs.Trees.{Tree, Tip, Bin, ranges, IsAt, InOrder, IsHeap, Over, down, graft, cut_low, cut_high}
 use Rattle.xl_treap.specs.Steps.{IsAttached, IsLinked, IsLined, SameLine, Each, Off, SameOff, TopOver, IsWay, IsMade, CanPart, CanPut, IsParted, parent_at}
-use Rattle.xl_treap.proofs.OrderLemmas.{pick-yes, pick-no, side, apart-within, within-In, order-apart, fit-end}
+use Rattle.xl_treap.proofs.OrderLemmas.{side, apart-within, within-In, order-apart, fit-end}
 use Rattle.xl_treap.proofs.AboveLemmas.{above-chain}
 use Rattle.xl_treap.proofs.WayLemmas.{child, down-next, order-down, heap-down}
 use Rattle.xl_treap.proofs.FrameLemmas.{each-map, at-keeps, frame, node-same, linked-line, linked-three, with_child}
-use Rattle.xl_treap.proofs.CutLemmas.{each-low, each-high}
-use Rattle.xl_treap.proofs.GraftLemmas.{down-In, each-down, graft-with, cut-with, heap-graft, over-low, over-high, heap-low, heap-high, graft-next}
+use Rattle.xl_treap.proofs.CutLemmas.{each-cut}
+use Rattle.xl_treap.proofs.GraftLemmas.{down-In, each-down, graft-with, cut-with, heap-graft, over-cut, heap-cut, graft-next}
 use Rattle.xl_treap.proofs.AttachLemmas.{same-or-not, top-each, off-child, Attached, IsParent, attached, parent-there, off-empty, lined-line}
+use Rattle.xl_model_lemmas.proofs.SameLemmas.{pick-yes, pick-no}
 
 with-In : (x : Range) (xs : List Range) → In x (with_range x xs)
 with-In x [] = inl refl
@@ -107,8 +108,8 @@ module _ (w0 w1 : List ℕ) (root nodes : ℕ) (t : Tree) (n : ℕ) (x : Range) 
               let H : ℕ → Type 0 = λ z. IsAt w3 z (cut_high (range_key x) under) in (
                 omega arith,
                 node-three,
-                subst L (sym linked.left_is) (frame w2 w3 parts.low (cut_low (range_key x) under) linked.len (stays (cut_low (range_key x) under) (each-low (λ m. m ≡ n → ⊥) (range_key x) under off-under)) parted.cut.lows),
-                subst H (sym linked.right_is) (frame w2 w3 parts.high (cut_high (range_key x) under) linked.len (stays (cut_high (range_key x) under) (each-high (λ m. m ≡ n → ⊥) (range_key x) under off-under)) parted.cut.highs),
+                subst L (sym linked.left_is) (frame w2 w3 parts.low (cut_low (range_key x) under) linked.len (stays (cut_low (range_key x) under) (each-cut (λ m. m ≡ n → ⊥) (range_key x) under off-under).0) parted.cut.lows),
+                subst H (sym linked.right_is) (frame w2 w3 parts.high (cut_high (range_key x) under) linked.len (stays (cut_high (range_key x) under) (each-cut (λ m. m ≡ n → ⊥) (range_key x) under off-under).1) parted.cut.highs),
               )
 
           -- the words before the parting, but with the new node's links
@@ -163,7 +164,7 @@ module _ (w0 w1 : List ℕ) (root nodes : ℕ) (t : Tree) (n : ℕ) (x : Range) 
               let ne : slice_index path d - 1 ≡ n → ⊥ = top-each (λ m. m ≡ n → ⊥) w1 (slice_index path d) (down t (range_key x) d) a b off-d in (
                 base-at (slice_index path d) (down t (range_key x) d) off-d a,
                 b,
-                (λ q. ne (sym q), each-low (λ m. m ≡ slice_index path d - 1 → ⊥) (range_key x) under f, each-high (λ m. m ≡ slice_index path d - 1 → ⊥) (range_key x) under f),
+                (λ q. ne (sym q), (each-cut (λ m. m ≡ slice_index path d - 1 → ⊥) (range_key x) under f).0, (each-cut (λ m. m ≡ slice_index path d - 1 → ⊥) (range_key x) under f).1),
               )
 
           pub put-room : 4 * parent_at path parts.depth ≤ length w3
@@ -180,14 +181,14 @@ module _ (w0 w1 : List ℕ) (root nodes : ℕ) (t : Tree) (n : ℕ) (x : Range) 
           made-heap : IsHeap made
           made-heap =
               let h : IsHeap under = heap-down t (range_key x) parts.depth can.stands.heap in (
-                over-low (range_key x) (range_key x) under parted.place.over,
-                over-high (range_key x) (range_key x) under parted.place.over,
-                heap-low (range_key x) under h,
-                heap-high (range_key x) under h,
+                (over-cut (range_key x) (range_key x) under parted.place.over).0,
+                (over-cut (range_key x) (range_key x) under parted.place.over).1,
+                (heap-cut (range_key x) under h).0,
+                (heap-cut (range_key x) under h).1,
               )
 
           made-over : (y : ℕ) → is_above y (range_key x) ≡ true → Over y under → Over y made
-          made-over y a o = (a, over-low y (range_key x) under o, over-high y (range_key x) under o)
+          made-over y a o = (a, (over-cut y (range_key x) under o).0, (over-cut y (range_key x) under o).1)
 
 -- under a node that is above a key, a tree with that key at its top
 heap-child : (k : ℕ) (q s : Tree) → IsHeap q → IsHeap s → TopOver k q → ((y : ℕ) → is_above y k ≡ true → Over y (child k q) → Over y s)

@@ -10,8 +10,9 @@ use Rattle.xl_model_lemmas.specs.Members.{In}
 use Rattle.xl_model_lemmas.proofs.MemberLemmas.{In-right, In-append}
 use Rattle.xl_treap.specs.Treaps.{key_at}
 use Rattle.xl_treap.specs.Trees.{Tree, Tip, Bin, ranges, examined, InOrder, IsHeap}
-use Rattle.xl_treap.proofs.OrderLemmas.{pick-yes, pick-no, side, Lies, order-In}
+use Rattle.xl_treap.proofs.OrderLemmas.{side, Lies, order-In}
 use Rattle.xl_treap.proofs.AboveLemmas.{above-not, over-In}
+use Rattle.xl_model_lemmas.proofs.SameLemmas.{pick-yes, pick-no}
 
 all-true : (p : Range → Bool) (xs : List Range) → ((z : Range) → In z xs → p z ≡ true) → list_all p xs ≡ true
 all-true p [] h = refl

@@ -4,10 +4,11 @@ use Rattle.xl_model.specs.declared.leaf.Range.{Range}
 use Rattle.xl_model.specs.Ranges.{range_key, end_key}
 use Rattle.xl_treap.specs.Trees.{Tree, Tip, Bin, Pair, IsAt, InOrder, down, merge}
 use Rattle.xl_treap.specs.Steps.{Off, Keeps, Half, CanMerge, CanRise, IsSpine, SameOff, SameBut, IsHung}
-use Rattle.xl_treap.proofs.OrderLemmas.{pick-yes, pick-no, side}
+use Rattle.xl_treap.proofs.OrderLemmas.{side}
 use Rattle.xl_treap.proofs.WayLemmas.{child, down-next, order-down}
 use Rattle.xl_treap.proofs.MergeLemmas.{merge-keeps, merge-order}
 use Rattle.xl_treap.proofs.FrameLemmas.{at-keeps, off-key, linked-three, with_child, Hung, hung-low, hung-high}
+use Rattle.xl_model_lemmas.proofs.SameLemmas.{pick-yes, pick-no}
 
 keeps-down : (words : List ℕ) (t : Tree) (k d : ℕ) → Keeps words t → Keeps words (down t k d)
 keeps-down words t k zero h = h

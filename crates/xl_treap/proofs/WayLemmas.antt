@@ -4,7 +4,8 @@ use Rattle.xl_model.specs.Ranges.{range_key, end_key}
 use Rattle.xl_treap.specs.Lines.{left_at, right_at}
 use Rattle.xl_treap.specs.Trees.{Tree, Tip, Bin, ranges, IsAt, InOrder, IsHeap, down}
 use Rattle.xl_treap.specs.Steps.{step_at}
-use Rattle.xl_treap.proofs.OrderLemmas.{sizes, pick-yes, pick-no, side}
+use Rattle.xl_treap.proofs.OrderLemmas.{sizes, side}
+use Rattle.xl_model_lemmas.proofs.SameLemmas.{pick-yes, pick-no}
 
 pub at-there : (words : List ℕ) (at : ℕ) (t : Tree) → IsAt words at t → 0 < at → 4 * (at - 1) + 4 ≤ length words
 at-there words at Tip i h = absurd (omega arith)

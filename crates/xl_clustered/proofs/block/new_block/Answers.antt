@@ -1,7 +1,8 @@
 use Rattle.std.proofs.Common.{◌≡◌, ap, ◌∙◌, ℕ, suc, true, ◌+◌, ◌<◌, List, [], ◌∷◌, slice_index, slice_set, arith}
 use Rattle.std.proofs.lemmas.List.{get_or-replicate}
 use Rattle.xl_clustered.specs.Blocks.{IsNewBlock}
-use Rattle.xl_tagged.proofs.StepLemmas.{set-here, set-other, len-set}
+use Rattle.xl_tagged.proofs.StepLemmas.{len-set}
+use Rattle.xl_chain.proofs.PlaceLemmas.{set-same, set-other}
 use Rattle.xl_clustered.proofs.block.new_block.Goals as goal
 
 front : List ℕ
@@ -19,7 +20,7 @@ unfolding front
 block slot word low = record {
   size = len-set true front (slot + 1) word;
   count = set-other front (slot + 1) 0 word (λ e. absurd (omega arith));
-  here = ap (slice_index (slice_set front (slot + 1) word)) (turn slot) ∙ set-here front (slot + 1) word (omega arith);
+  here = ap (slice_index (slice_set front (slot + 1) word)) (turn slot) ∙ set-same front (slot + 1) word (omega arith);
   others = λ i l other. set-other front (slot + 1) (1 + i) word (λ e. other (omega arith)) ∙ rest i l;
 }
   where

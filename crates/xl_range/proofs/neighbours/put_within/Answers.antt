@@ -1,7 +1,7 @@
 use Rattle.std.proofs.Common.{◌≡◌, ◌∙◌, ◌+◌, ◌≤◌, ap, sym, length, List, arith}
 use Rattle.xl_model.specs.declared.leaf.Range.{Range}
 use Rattle.xl_model.specs.Ranges.{range_of_leaf}
-use Rattle.xl_model_lemmas.specs.HeldRanges.{join}
+use Rattle.xl_range.specs.HeldRanges.{join}
 use Rattle.xl_treap.specs.Treaps.{keeping}
 use Rattle.xl_range.specs.Puts.{put_by, one_if}
 use Rattle.xl_range.proofs.PutLemmas.{IsReady, ready-beside, test-is, few-test}

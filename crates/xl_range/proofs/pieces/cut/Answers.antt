@@ -1,6 +1,6 @@
 use Rattle.std.proofs.Common.{◌≡◌, ◌∙◌, ◌+◌, ◌-◌, ◌≤◌, ap, sym, subst, length, List, arith}
 use Rattle.xl_model.specs.declared.leaf.Range.{Range}
-use Rattle.xl_model_lemmas.specs.HeldRanges.{cut}
+use Rattle.xl_range.specs.HeldRanges.{cut}
 use Rattle.xl_treap.specs.Treaps.{TreapView, keeping, IsApart}
 use Rattle.xl_range.specs.Cuts.{kept_behind}
 use Rattle.xl_range.proofs.CutCallLemmas.{CanCut, can-cut, put-calls}

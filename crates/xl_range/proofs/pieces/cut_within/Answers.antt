@@ -1,5 +1,5 @@
 use Rattle.std.proofs.Common.{◌∙◌, ◌+◌, ◌-◌, ◌≤◌, ℕ, ap, sym, refl, length, arith}
-use Rattle.xl_model_lemmas.specs.HeldRanges.{cut}
+use Rattle.xl_range.specs.HeldRanges.{cut}
 use Rattle.xl_range.proofs.PutLemmas.{few-test}
 use Rattle.xl_range.proofs.CutCallLemmas.{CanCut, can-cut, test-cut}
 use Rattle.xl_range.proofs.pieces.cut_within.Goals as goal

@@ -6,7 +6,8 @@ use Rattle.xl_hart_model.specs.Harts.{Hart, HartsState, opening_hart, hart_at, h
 use Rattle.xl_radix_walk.specs.Row.{row_table}
 use Rattle.xl_harts.specs.Views.{state_of}
 use Rattle.xl_harts.proofs.StepLemmas.{same-place}
-use Rattle.xl_harts.proofs.TakeLemmas.{take-hart, take-some, take-near, oldest-fit, before-fits, taken-harts, taken-after}
+use Rattle.xl_harts.proofs.TakeLemmas.{take-hart, take-near, oldest-fit, before-fits, taken-harts, taken-after}
+use Rattle.xl_hart_laws.proofs.QueueLemmas.{take-some}
 use Rattle.xl_harts.proofs.harts.Harts.take_request.Goals as goal
 
 pub index-requires : goal.index-requires

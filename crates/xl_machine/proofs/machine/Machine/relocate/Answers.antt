@@ -3,8 +3,9 @@ use Rattle.xl_model.specs.declared.leaf.Leaf.{Leaf}
 use Rattle.xl_model.specs.Addresses.{page_of}
 use Rattle.xl_model.specs.Rows.{row_of}
 use Rattle.xl_model_lemmas.proofs.PoolChangeLemmas.{pool-relocated}
-use Rattle.xl_machine.proofs.CommandLemmas.{block-for, place-move}
+use Rattle.xl_machine.proofs.CommandLemmas.{block-for}
 use Rattle.xl_machine.proofs.NamedChanges.{move-known, made-kept, unmade-kept, made-answer, made-state, unmade-answer, unmade-state}
+use Rattle.xl_model_lemmas.proofs.RuleLemmas.{new-place}
 use Rattle.xl_machine.proofs.machine.Machine.relocate.Goals as goal
 
 pub relocate-requires-clause-there : goal.relocate-requires-clause-there
@@ -15,12 +16,12 @@ relocate-requires-clause-there g c =
 pub relocate-requires-clause-valid : goal.relocate-requires-clause-valid
 relocate-requires-clause-valid g c =
     let known = move-known c.self.invariant.served c.args.space c.args.from c.args.to c.args.order c.args.old (rw (← c.self.view_is) at c.requires.ruled) (rw (← c.self.view_is) at c.requires.found) in
-    rw c.page_of-place.ensures (block-for (row_of c.self.inside.row) (g.S.Structure.table c.self.inside.table) c.self.invariant.served.fits c.args.space (page_of c.self.inside.row.mode c.args.to) c.args.order (place-move (row_of c.self.inside.row) (g.S.Structure.table c.self.inside.table).leaves c.args.space c.args.from c.args.to c.args.order known.ruled))
+    rw c.page_of-place.ensures (block-for (row_of c.self.inside.row) (g.S.Structure.table c.self.inside.table) c.self.invariant.served.fits c.args.space (page_of c.self.inside.row.mode c.args.to) c.args.order (new-place (row_of c.self.inside.row) (g.S.Structure.table c.self.inside.table).leaves c.args.space c.args.from c.args.to c.args.order known.ruled))
 
 pub relocate-requires-clause-free : goal.relocate-requires-clause-free
 relocate-requires-clause-free g c =
     let known = move-known c.self.invariant.served c.args.space c.args.from c.args.to c.args.order c.args.old (rw (← c.self.view_is) at c.requires.ruled) (rw (← c.self.view_is) at c.requires.found) in
-    rw c.page_of-place.ensures (place-move (row_of c.self.inside.row) (g.S.Structure.table c.self.inside.table).leaves c.args.space c.args.from c.args.to c.args.order known.ruled).apart
+    rw c.page_of-place.ensures (new-place (row_of c.self.inside.row) (g.S.Structure.table c.self.inside.table).leaves c.args.space c.args.from c.args.to c.args.order known.ruled).apart
 
 pub purge-left-requires : goal.purge-left-requires
 purge-left-requires g c =
@@ -34,7 +35,7 @@ invariant_of-self g c =
           let known = move-known c.self.invariant.served c.args.space c.args.from c.args.to c.args.order c.args.old (rw (← c.self.view_is) at c.requires.ruled) (rw (← c.self.view_is) at c.requires.found) in
           let changes = rw (c.page_of-first.ensures, c.page_of-place.ensures) at c.in-Ok.ensures.changes in
           made-kept known c.self.invariant.served c.self.inside.frames changes c.purge-left.ensures.after
-          (pool-relocated (row_of c.self.inside.row) c.args.space (page_of c.self.inside.row.mode c.args.from) (page_of c.self.inside.row.mode c.args.to) c.args.order (g.S.Structure.table c.self.inside.table).leaves c.args.old c.self.inside.frames c.self.invariant.served.mapping (place-move (row_of c.self.inside.row) (g.S.Structure.table c.self.inside.table).leaves c.args.space c.args.from c.args.to c.args.order known.ruled) known.named c.self.invariant.served.pool_is);
+          (pool-relocated (row_of c.self.inside.row) c.args.space (page_of c.self.inside.row.mode c.args.from) (page_of c.self.inside.row.mode c.args.to) c.args.order (g.S.Structure.table c.self.inside.table).leaves c.args.old c.self.inside.frames c.self.invariant.served.mapping (new-place (row_of c.self.inside.row) (g.S.Structure.table c.self.inside.table).leaves c.args.space c.args.from c.args.to c.args.order known.ruled) known.named c.self.invariant.served.pool_is);
       span_is = c.self.invariant.span_is;
     }
 

@@ -3,7 +3,7 @@ use Rattle.std.specs.List.{insert}
 use Rattle.std.specs.Vec.{vec_len}
 use Rattle.xl_model_lemmas.specs.Kept.{IsKept, in_front}
 use Rattle.xl_model_lemmas.proofs.FrontLemmas.{kept-front}
-use Rattle.xl_model_lemmas.proofs.TableLemmas.{IsComing, coming, insert-made, insert-refused}
+use Rattle.xl_model_table.proofs.TableLemmas.{IsComing, coming, insert-made, insert-refused}
 use Rattle.xl_model_table.proofs.plain.PlainTable.add.Goals as goal
 
 pub place_of-place-requires-clause-new : goal.place_of-place-requires-clause-new

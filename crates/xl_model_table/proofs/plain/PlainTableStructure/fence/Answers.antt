@@ -1,4 +1,4 @@
-use Rattle.xl_model_lemmas.proofs.TableLemmas.{fence-made}
+use Rattle.xl_model_table.proofs.TableLemmas.{fence-made}
 use Rattle.xl_model_table.proofs.plain.PlainTableStructure.fence.Goals as goal
 
 pub returns : goal.returns

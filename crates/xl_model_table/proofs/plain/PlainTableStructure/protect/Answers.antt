@@ -3,7 +3,7 @@ use Rattle.std.proofs.lemmas.List.{with_items_is}
 use Rattle.std.specs.Vec.{with_items}
 use Rattle.xl_model_lemmas.specs.Kept.{IsKept, with_perm_named}
 use Rattle.xl_model_lemmas.proofs.GivenLemmas.{kept-protected, length-protected}
-use Rattle.xl_model_lemmas.proofs.TableLemmas.{protect-made}
+use Rattle.xl_model_table.proofs.TableLemmas.{protect-made}
 use Rattle.xl_model_table.proofs.plain.PlainTableStructure.protect.Goals as goal
 
 pub invariant_of-self : goal.invariant_of-self

@@ -1,6 +1,6 @@
 use Rattle.std.proofs.Common.{◌∙◌, sym, ap, find}
 use Rattle.xl_model.specs.Mapping.{is_leaf}
-use Rattle.xl_model_lemmas.proofs.MoveLemmas.{IsMovable, movable, no-leaf}
+use Rattle.xl_model_table.proofs.MoveLemmas.{IsMovable, movable, no-leaf}
 use Rattle.xl_model_table.proofs.plain.PlainTableStructure.relocate.Goals as goal
 
 pub unreachable-requires : goal.unreachable-requires

@@ -1,7 +1,7 @@
 use Rattle.std.proofs.Common.{sym, subst, arith}
 use Rattle.xl_model_lemmas.specs.Kept.{IsKept}
 use Rattle.xl_model_lemmas.proofs.WithoutLemmas.{kept-without}
-use Rattle.xl_model_lemmas.proofs.TableLemmas.{remove-made}
+use Rattle.xl_model_table.proofs.TableLemmas.{remove-made}
 use Rattle.xl_model_table.proofs.plain.PlainTableStructure.remove.Goals as goal
 
 pub invariant_of-self : goal.invariant_of-self

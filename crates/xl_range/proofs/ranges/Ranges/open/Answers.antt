@@ -1,7 +1,7 @@
 use Rattle.std.proofs.Common.{◌≡◌, refl, ℕ, []}
 use Rattle.xl_model.specs.declared.leaf.Range.{Range}
 use Rattle.xl_model.specs.Caches.{Cached, empty_cache}
-use Rattle.xl_model_lemmas.specs.HeldRanges.{spread}
+use Rattle.xl_range.specs.HeldRanges.{spread}
 use Rattle.xl_treap.specs.Treaps.{TreapView}
 use Rattle.xl_range.specs.Rows.{row_of, opening_table}
 use Rattle.xl_range.proofs.ranges.Ranges.open.Goals as goal

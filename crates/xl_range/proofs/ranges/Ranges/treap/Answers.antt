@@ -1,7 +1,7 @@
 use Rattle.std.proofs.Common.{◌∙◌, ap, sym}
 use Rattle.xl_model.specs.Ranges.{ranges_of}
-use Rattle.xl_model_lemmas.specs.HeldRanges.{spread}
-use Rattle.xl_model_lemmas.proofs.RunLemmas.{ranges-spread}
+use Rattle.xl_range.specs.HeldRanges.{spread}
+use Rattle.xl_range.proofs.RunLemmas.{ranges-spread}
 use Rattle.xl_range.specs.Rows.{RowState}
 use Rattle.xl_range.proofs.ranges.Ranges.treap.Goals as goal
 

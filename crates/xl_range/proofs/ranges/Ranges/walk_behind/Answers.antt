@@ -1,5 +1,5 @@
 use Rattle.std.proofs.Common.{ap, ◌∙◌, sym, refl, Some, None}
-use Rattle.xl_model_lemmas.specs.HeldRanges.{leaf_in}
+use Rattle.xl_range.specs.HeldRanges.{leaf_in}
 use Rattle.xl_range.specs.Rows.{row_table}
 use Rattle.xl_range.proofs.FindLemmas.{found-at}
 use Rattle.xl_range.proofs.WalkLemmas.{hit-at, hit-walk, miss-walk, none-of, keepable, seen-walk, leaf-walk}

@@ -1,7 +1,7 @@
 use Rattle.std.proofs.Common.{◌∙◌, ap, sym, Some}
 use Rattle.xl_model.specs.Mapping.{leaf_at_page}
 use Rattle.xl_model.specs.Structures.{TableState}
-use Rattle.xl_model_lemmas.specs.HeldRanges.{leaf_by}
+use Rattle.xl_range.specs.HeldRanges.{leaf_by}
 use Rattle.xl_range.specs.Rows.{row_table}
 use Rattle.xl_range.proofs.FindLemmas.{found-at, leaf-found}
 use Rattle.xl_range.proofs.ranges.RangesStructure.leaf_at.Goals as goal

@@ -24,7 +24,7 @@ use Rattle.xl_model_lemmas.proofs.FrontLemmas.{IsNew, stays-front, kept-front, m
 use Rattle.xl_model_lemmas.proofs.WithoutLemmas.{mapping-without, named-same}
 use Rattle.xl_model_lemmas.proofs.TagLemmas.{with-tag, used-without}
 use Rattle.xl_model_lemmas.proofs.ReadLemmas.{named-mapping, Named}
-use Rattle.xl_model_lemmas.proofs.TableLemmas.{done, full, made, refused, has-room, no-room, inserted, not-inserted, removed, IsComing, coming}
+use Rattle.xl_model_table.proofs.TableLemmas.{done, full, made, refused, has-room, no-room, inserted, not-inserted, removed, IsComing, coming}
 
 -- A leaf that moves: put at its new place, then taken out at its old one.
 pub record IsMoving (s f to : ℕ) (o : Order) (old : Leaf) (xs : List Leaf) : Type 0 where

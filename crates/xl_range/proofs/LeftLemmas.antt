@@ -4,10 +4,10 @@ use Rattle.xl_model.specs.declared.address.Order.{Order}
 use Rattle.xl_model.specs.declared.leaf.Range.{Range}
 use Rattle.xl_model.specs.Addresses.{pages_of}
 use Rattle.xl_model.specs.Ranges.{range_key, end_key}
-use Rattle.xl_model_lemmas.specs.HeldRanges.{touches, Stops, IsRange, IsHeld, pages_before, pages_behind, part_behind, before_on, behind_on, IsLeafIn}
-use Rattle.xl_model_lemmas.proofs.TouchLemmas.{touch, touch-key, not-touching}
-use Rattle.xl_model_lemmas.proofs.JoinLemmas.{lower}
-use Rattle.xl_model_lemmas.proofs.LeafInLemmas.{Sizes, sizes}
+use Rattle.xl_range.specs.HeldRanges.{touches, Stops, IsRange, IsHeld, pages_before, pages_behind, part_behind, before_on, behind_on, IsLeafIn}
+use Rattle.xl_range.proofs.TouchLemmas.{touch, touch-key, not-touching}
+use Rattle.xl_range.proofs.JoinLemmas.{lower}
+use Rattle.xl_range.proofs.LeafInLemmas.{Sizes, sizes}
 
 pub stops-far : (low : ℕ) (y : Range) (rs : List Range) → end_key y < low → IsHeld low rs → Stops y rs
 stops-far low y [] less h = tt

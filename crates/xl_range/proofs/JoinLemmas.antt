@@ -4,8 +4,8 @@ use Rattle.std.proofs.lemmas.Bool.Decides.{nat_tests}
 use Rattle.xl_model.specs.declared.leaf.Range.{Range}
 use Rattle.xl_model.specs.Ranges.{range_key, end_key}
 use Rattle.xl_model_lemmas.specs.Members.{In}
-use Rattle.xl_model_lemmas.specs.HeldRanges.{touches, Stops, IsRange, IsHeld, IsClear, grown, glue, join}
-use Rattle.xl_model_lemmas.proofs.TouchLemmas.{Touch, touch, touch-key, stops-grown, grown-range, some-pages}
+use Rattle.xl_range.specs.HeldRanges.{touches, Stops, IsRange, IsHeld, IsClear, grown, glue, join}
+use Rattle.xl_range.proofs.TouchLemmas.{Touch, touch, touch-key, stops-grown, grown-range, some-pages}
 
 pub In-key : (low : ℕ) (r : Range) (rs : List Range) → IsHeld low rs → In r rs → low ≤ range_key r
 In-key low r [] h i = absurd i

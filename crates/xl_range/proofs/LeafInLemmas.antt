@@ -8,11 +8,11 @@ use Rattle.xl_model.specs.Addresses.{pages_of}
 use Rattle.xl_model.specs.Mapping.{leaf_key, is_leaf}
 use Rattle.xl_model.specs.Ranges.{end_key, holds_page}
 use Rattle.xl_model_lemmas.specs.Members.{In}
-use Rattle.xl_model_lemmas.specs.HeldRanges.{next_leaf, run_on, first_leaf, leaves_in, spread, IsHeld, pages_before, pages_behind, part_behind, IsLeafIn}
+use Rattle.xl_range.specs.HeldRanges.{next_leaf, run_on, first_leaf, leaves_in, spread, IsHeld, pages_before, pages_behind, part_behind, IsLeafIn}
 use Rattle.xl_model_lemmas.proofs.OrderLemmas.{pages-some}
 use Rattle.xl_model_lemmas.proofs.PlaceLemmas.{named-space, named-first, named-order}
-use Rattle.xl_model_lemmas.proofs.RunLemmas.{leaves-is}
-use Rattle.xl_model_lemmas.proofs.TouchLemmas.{leap, leap-none, leap-next}
+use Rattle.xl_range.proofs.RunLemmas.{leaves-is}
+use Rattle.xl_range.proofs.TouchLemmas.{leap, leap-none, leap-next}
 
 -- Where a named leaf is among n leaves from one on.
 pub record InRun (space first : ℕ) (o : Order) (n : ℕ) (l x : Leaf) : Type 0 where

@@ -5,7 +5,7 @@ use Rattle.xl_model.specs.declared.address.Order.{Order}
 use Rattle.xl_model.specs.declared.leaf.Range.{Range}
 use Rattle.xl_model.specs.Ranges.{range_key}
 use Rattle.xl_model_lemmas.specs.Members.{In}
-use Rattle.xl_model_lemmas.specs.HeldRanges.{touches, grown, glue, join, pages_before, pages_behind, part_behind, before_on, behind_on, pieces, some_if, cut}
+use Rattle.xl_range.specs.HeldRanges.{touches, grown, glue, join, pages_before, pages_behind, part_behind, before_on, behind_on, pieces, some_if, cut}
 
 pieces-count : (n m : ℕ) (r x : Range) (rs : List Range) → length (before_on n r (behind_on m x rs)) ≡ length rs + (some_if n + some_if m)
 pieces-count zero zero r x rs = omega arith

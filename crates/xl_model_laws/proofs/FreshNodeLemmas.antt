@@ -22,7 +22,7 @@ use Rattle.xl_model_lemmas.proofs.ChangeLemmas.{changed-In}
 use Rattle.xl_model_lemmas.specs.Mappings.{IsFound}
 use Rattle.xl_model_lemmas.specs.Fresh.{TagFresh, LevelFresh, TagsFresh}
 use Rattle.xl_model_lemmas.proofs.RecencyLemmas.{touched-In, newest-In, purged-In}
-use Rattle.xl_model_lemmas.proofs.NumberLemmas.{position-none, position-at, path-at, path-has, path-puts, kept-at, kept-has}
+use Rattle.xl_model_laws.proofs.NumberLemmas.{position-none, position-at, path-at, path-has, path-puts, kept-at, kept-has}
 
 -- every node below the root that the mapping needs is there
 pub record NodesFull (levels : ℕ) (leaves : List Leaf) (nodes : List (Option Node)) : Type 0 where
@@ -144,7 +144,7 @@ tags-after levels level c leaves nodes (d ∷ ds) (here, rest) = (
   tags-after levels (level + 1) c leaves nodes ds rest,
 )
 
-node-by : (y : Node) (s l p : ℕ) → y.space ≡ s → y.level ≡ l → y.prefix ≡ p → y ≡ record { space = s; level = l; prefix = p }
+pub node-by : (y : Node) (s l p : ℕ) → y.space ≡ s → y.level ≡ l → y.prefix ≡ p → y ≡ record { space = s; level = l; prefix = p }
 node-by y s l p a b c = rw (← a, ← b, ← c) refl
 
 -- what a walk fills in

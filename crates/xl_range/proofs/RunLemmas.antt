@@ -9,15 +9,9 @@ use Rattle.xl_model.specs.declared.leaf.Range.{Range}
 use Rattle.xl_model.specs.Addresses.{pages_of, same_order}
 use Rattle.xl_model.specs.Base.{same_bit}
 use Rattle.xl_model.specs.Ranges.{same_perm, range_of_leaf, goes_into, joined, ranges_of, end_key}
-use Rattle.xl_model_lemmas.specs.HeldRanges.{next_leaf, run_on, first_leaf, leaves_in, spread, range_from, begins, Stops, IsRange, IsHeld}
+use Rattle.xl_range.specs.HeldRanges.{next_leaf, run_on, first_leaf, leaves_in, spread, range_from, begins, Stops, IsRange, IsHeld}
 use Rattle.xl_model_lemmas.proofs.OrderLemmas.{order-same}
-
-bit-same : (b : Bool) → same_bit b b ≡ true
-bit-same true = refl
-bit-same false = refl
-
-perm-same : (p : Perm) → same_perm p p ≡ true
-perm-same p = rw (bit-same p.r, bit-same p.w, bit-same p.x, bit-same p.u) refl
+use Rattle.xl_model_lemmas.proofs.SameLemmas.{bit-same, perm-same}
 
 -- a leaf goes into a range of its kind that begins after it
 pub goes-next : (n : ℕ) (l : Leaf) → goes_into l (range_from n (next_leaf l)) ≡ true

@@ -7,11 +7,11 @@ use Rattle.xl_model.specs.declared.leaf.Range.{Range}
 use Rattle.xl_model.specs.Addresses.{pages_of}
 use Rattle.xl_model.specs.Mapping.{leaf_key}
 use Rattle.xl_model.specs.Ranges.{end_key}
-use Rattle.xl_model_lemmas.specs.HeldRanges.{next_leaf, run_on, first_leaf, leaves_in, spread, IsRange, IsHeld, pages_before, pages_behind, part_behind, before_on, behind_on, IsLeafIn}
+use Rattle.xl_range.specs.HeldRanges.{next_leaf, run_on, first_leaf, leaves_in, spread, IsRange, IsHeld, pages_before, pages_behind, part_behind, before_on, behind_on, IsLeafIn}
 use Rattle.xl_model_lemmas.proofs.OrderLemmas.{pages-some}
-use Rattle.xl_model_lemmas.proofs.RunLemmas.{count-is}
-use Rattle.xl_model_lemmas.proofs.TouchLemmas.{leap, run-add, some-pages}
-use Rattle.xl_model_lemmas.proofs.LeafInLemmas.{Sizes, sizes, next-of-leap, leap-key}
+use Rattle.xl_range.proofs.RunLemmas.{count-is}
+use Rattle.xl_range.proofs.TouchLemmas.{leap, run-add, some-pages}
+use Rattle.xl_range.proofs.LeafInLemmas.{Sizes, sizes, next-of-leap, leap-key}
 
 -- A leaf has another key.
 unfoldable pub stays : ℕ → Leaf → Bool

@@ -8,15 +8,10 @@ use Rattle.xl_model.specs.declared.leaf.Range.{Range}
 use Rattle.xl_model.specs.Addresses.{pages_of}
 use Rattle.xl_model.specs.Mapping.{meets_block, meets_any}
 use Rattle.xl_model.specs.Ranges.{range_key, range_of_leaf, end_key}
-use Rattle.xl_model_lemmas.specs.HeldRanges.{next_leaf, run_on, first_leaf, spread, IsRange, IsHeld, IsClear, meets_range}
+use Rattle.xl_range.specs.HeldRanges.{next_leaf, run_on, first_leaf, spread, IsRange, IsHeld, IsClear, meets_range}
 use Rattle.xl_model_lemmas.proofs.OrderLemmas.{pages-some}
-use Rattle.xl_model_lemmas.proofs.RunLemmas.{leaves-is}
-
--- Two tests of which each follows from the other are one.
-both-so : (a b : Bool) → (a ≡ true → b ≡ true) → (b ≡ true → a ≡ true) → a ≡ b
-both-so true b f g = sym (f refl)
-both-so false true f g = g refl
-both-so false false f g = refl
+use Rattle.xl_range.proofs.RunLemmas.{leaves-is}
+use Rattle.xl_model_lemmas.proofs.SameLemmas.{same-tests}
 
 or-three : (a b c : Bool) → (a || (b || c)) ≡ ((a || b) || c)
 or-three true b c = refl
@@ -25,7 +20,7 @@ or-three false b c = refl
 or-runs : (s : Bool) (first p m f e : ℕ) → f < e → 0 < p
     → ((s && (nat_lt first e && nat_lt f (first + p))) || (s && (nat_lt (first + p) e && nat_lt f (first + p + m)))) ≡ (s && (nat_lt first e && nat_lt f (first + p + m)))
 or-runs false first p m f e less some = refl
-or-runs true first p m f e less some = both-so _ _ (λ t. grind (arith, nat_tests)) (λ t. grind (arith, nat_tests))
+or-runs true first p m f e less some = same-tests _ _ (λ t. grind (arith, nat_tests)) (λ t. grind (arith, nat_tests))
 
 any-run : (n : ℕ) (space f : ℕ) (o : Order) (l : Leaf) (rest : List Leaf)
     → list_any (meets_block space f o) (run_on (suc n) l rest)

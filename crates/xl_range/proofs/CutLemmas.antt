@@ -7,13 +7,13 @@ use Rattle.xl_model.specs.Addresses.{pages_of}
 use Rattle.xl_model.specs.Mapping.{without_leaf}
 use Rattle.xl_model.specs.Ranges.{range_key, end_key}
 use Rattle.xl_model_lemmas.specs.Members.{In}
-use Rattle.xl_model_lemmas.specs.HeldRanges.{run_on, first_leaf, leaves_in, spread, touches, Stops, IsRange, IsHeld, pages_before, pages_behind, part_behind, before_on, behind_on, pieces, IsLeafIn, cut}
-use Rattle.xl_model_lemmas.proofs.RunLemmas.{leaves-is}
-use Rattle.xl_model_lemmas.proofs.TouchLemmas.{touch, touch-key, some-pages, not-touching}
-use Rattle.xl_model_lemmas.proofs.JoinLemmas.{In-key}
-use Rattle.xl_model_lemmas.proofs.LeafInLemmas.{Sizes, sizes}
-use Rattle.xl_model_lemmas.proofs.PieceLemmas.{stays, filter-below, head-spread}
-use Rattle.xl_model_lemmas.proofs.LeftLemmas.{stops-far, head-held}
+use Rattle.xl_range.specs.HeldRanges.{run_on, first_leaf, leaves_in, spread, touches, Stops, IsRange, IsHeld, pages_before, pages_behind, part_behind, before_on, behind_on, pieces, IsLeafIn, cut}
+use Rattle.xl_range.proofs.RunLemmas.{leaves-is}
+use Rattle.xl_range.proofs.TouchLemmas.{touch, touch-key, some-pages, not-touching}
+use Rattle.xl_range.proofs.JoinLemmas.{In-key}
+use Rattle.xl_range.proofs.LeafInLemmas.{Sizes, sizes}
+use Rattle.xl_range.proofs.PieceLemmas.{stays, filter-below, head-spread}
+use Rattle.xl_range.proofs.LeftLemmas.{stops-far, head-held}
 
 -- What is known of a range in its place.
 pub record AtHead (low : ℕ) (r : Range) (rs : List Range) : Type 0 where
@@ -22,7 +22,7 @@ pub record AtHead (low : ℕ) (r : Range) (rs : List Range) : Type 0 where
   pub stops : Stops r rs
   pub rest : IsHeld (end_key r) rs
 
-own-key : (r : Range) → (range_key r == range_key r) ≡ true
+pub own-key : (r : Range) → (range_key r == range_key r) ≡ true
 own-key r = grind (arith, nat_tests)
 
 pub head-cut : (first : ℕ) (o : Order) (r : Range) (rs : List Range) → cut first o r (r ∷ rs) ≡ pieces first o r rs

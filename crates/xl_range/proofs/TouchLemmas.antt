@@ -6,10 +6,10 @@ use Rattle.xl_model.specs.declared.leaf.Leaf.{Leaf}
 use Rattle.xl_model.specs.declared.leaf.Range.{Range}
 use Rattle.xl_model.specs.Addresses.{pages_of}
 use Rattle.xl_model.specs.Ranges.{range_key, end_key}
-use Rattle.xl_model_lemmas.specs.HeldRanges.{next_leaf, run_on, first_leaf, leaves_in, begins, touches, Stops, IsRange, grown}
+use Rattle.xl_range.specs.HeldRanges.{next_leaf, run_on, first_leaf, leaves_in, begins, touches, Stops, IsRange, grown}
 use Rattle.xl_model_lemmas.proofs.OrderLemmas.{pages-some, orders-same}
 use Rattle.xl_model.proofs.PermLemmas.{perms-same}
-use Rattle.xl_model_lemmas.proofs.RunLemmas.{leaves-is, count-is}
+use Rattle.xl_range.proofs.RunLemmas.{leaves-is, count-is}
 
 -- What ranges that touch share.
 pub record Touch (r q : Range) : Type 0 where

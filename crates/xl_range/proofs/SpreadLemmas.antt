@@ -6,11 +6,11 @@ use Rattle.xl_model.specs.declared.leaf.Range.{Range}
 use Rattle.xl_model.specs.Addresses.{pages_of}
 use Rattle.xl_model.specs.Mapping.{leaf_key, with_leaf}
 use Rattle.xl_model.specs.Ranges.{range_key, range_of_leaf, end_key}
-use Rattle.xl_model_lemmas.specs.HeldRanges.{next_leaf, run_on, first_leaf, leaves_in, spread, touches, IsRange, IsHeld, IsClear, grown, glue, join}
+use Rattle.xl_range.specs.HeldRanges.{next_leaf, run_on, first_leaf, leaves_in, spread, touches, IsRange, IsHeld, IsClear, grown, glue, join}
 use Rattle.xl_model_lemmas.proofs.OrderLemmas.{pages-some}
-use Rattle.xl_model_lemmas.proofs.RunLemmas.{leaves-is, count-is}
-use Rattle.xl_model_lemmas.proofs.TouchLemmas.{Touch, touch, touch-key, grown-range, run-grown, some-pages}
-use Rattle.xl_model_lemmas.proofs.JoinLemmas.{held-behind, clear-ends}
+use Rattle.xl_range.proofs.RunLemmas.{leaves-is, count-is}
+use Rattle.xl_range.proofs.TouchLemmas.{Touch, touch, touch-key, grown-range, run-grown, some-pages}
+use Rattle.xl_range.proofs.JoinLemmas.{held-behind, clear-ends}
 
 pub with-run : (n : ℕ) (l a : Leaf) (rest : List Leaf) → leaf_key a + n * pages_of a.order ≤ leaf_key l → with_leaf l (run_on n a rest) ≡ run_on n a (with_leaf l rest)
 with-run zero l a rest h = refl

@@ -8,9 +8,9 @@ use Rattle.xl_model.specs.declared.leaf.Range.{Range}
 use Rattle.xl_model.specs.Addresses.{pages_of}
 use Rattle.xl_model.specs.Mapping.{covers}
 use Rattle.xl_model.specs.Ranges.{holds_page, end_key}
-use Rattle.xl_model_lemmas.specs.HeldRanges.{next_leaf, run_on, first_leaf, spread, IsHeld, leaf_in, leaf_by}
+use Rattle.xl_range.specs.HeldRanges.{next_leaf, run_on, first_leaf, spread, IsHeld, leaf_in, leaf_by}
 use Rattle.xl_model_lemmas.proofs.OrderLemmas.{pages-some}
-use Rattle.xl_model_lemmas.proofs.RunLemmas.{leaves-is}
+use Rattle.xl_range.proofs.RunLemmas.{leaves-is}
 
 -- The leaf `skip` pages on.
 unfoldable leaf_off : ℕ → Leaf → Leaf
