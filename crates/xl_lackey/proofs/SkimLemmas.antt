@@ -1,7 +1,7 @@
 -- Records taken one after another.
-use Rattle.std.proofs.Common.{◌≡◌, refl, sym, ap, ap₂, subst, ◌∙◌, ℕ, ◌+◌, ◌%◌, ◌^◌, ◌<◌, ◌≤◌, List, [], ◌∷◌, ◌++◌, length, map, drop, append_assoc, append-nil, arith, length-append, length-drop}
+use Rattle.std.proofs.Common.{◌≡◌, refl, sym, ap, ap₂, subst, ◌∙◌, ℕ, ◌+◌, ◌%◌, ◌^◌, ◌<◌, ◌≤◌, List, [], ◌∷◌, ◌++◌, length, map, take, drop, set, append_assoc, append-nil, arith, length-append, length-drop, length-set}
 use Rattle.std.specs.Prelude.{None}
-use Rattle.std.proofs.lemmas.List.{map-append, drop-drop}
+use Rattle.std.proofs.lemmas.List.{map-append, drop-drop, take_more_set, take-set-le}
 use Rattle.xl_model.specs.declared.address.Kind.{Kind}
 use Rattle.xl_text.specs.Texts.{lines_by, lines_of}
 use Rattle.xl_lackey.specs.declared.skim.Access.{Access}
@@ -142,3 +142,15 @@ sure_less more sure later rest used xs a is e few parts = record {
   text = omega (arith, is.text, e, few, parts);
   room = omega (arith, is.room, e, length-append xs (a ∷ []));
 }
+
+-- an access and a store behind it, which counts where the record is a modify
+pub put_both : (slots : List Access) (at : ℕ) (a b : Access) → at + 2 ≤ length slots → take (at + 2) (set (set slots at a) (at + 1) b) ≡ take at slots ++ a ∷ b ∷ []
+put_both slots at a b h =
+    let first : List Access = set slots at a in
+    let within : at + 1 < length first = omega (arith, h, length-set slots at a) in
+    let count : at + 2 ≡ at + 1 + 1 = omega arith in
+    ap (λ (n : ℕ). take n (set first (at + 1) b)) count ∙ take_more_set first (at + 1) b within
+    ∙ ap (λ (xs : List Access). xs ++ b ∷ []) (take_more_set slots at a (omega (arith, h))) ∙ append_assoc (take at slots) (a ∷ []) (b ∷ [])
+
+pub put_first : (slots : List Access) (at : ℕ) (a b : Access) → at + 2 ≤ length slots → take (at + 1) (set (set slots at a) (at + 1) b) ≡ take at slots ++ a ∷ []
+put_first slots at a b h = take-set-le (at + 1) (set slots at a) (at + 1) b (omega arith) ∙ take_more_set slots at a (omega (arith, h))

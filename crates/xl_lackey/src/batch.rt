@@ -4,7 +4,7 @@ ghost use Rattle.std.specs.Prelude.{◌≡◌, ◌==◌, ◌+◌, ◌-◌, ◌<�
 ghost use Rattle.xl_lackey.specs.Skims.{batch_size, IsSure, Runs};
 
 use crate::pages::Pages;
-use crate::skim::{Access, Run, skim_kept};
+use crate::skim::{Access, Run, skim_kept, skim_plain};
 use std::marker::Model;
 
 /// How many accesses a batch has room for.
@@ -100,6 +100,19 @@ impl Batch {
         let run = skim_kept(text, &mut self.slots, len, most, pages);
         self.len = len + run.taken as usize;
         run
+    }
+
+    /// Reads the first lines of a text, `most` at most, whether their pages are kept or not, and
+    /// puts their accesses after those that are there.
+    #[inline(always)]
+    pub(crate) fn skim_plain(&mut self, text: &[u8], most: u64) -> Run
+        ensures runs { Runs text.now self.old.items self.new.items result }
+        ensures few { result.taken ≤ most }
+    {
+        let len = self.len;
+        let plain = skim_plain(text, &mut self.slots, len, most);
+        self.len = plain.len;
+        plain.run
     }
 
     /// Removes all accesses.

@@ -119,6 +119,13 @@ pub(crate) struct Run {
     pub(crate) taken: u64,
 }
 
+/// The same, with the number of accesses after it.
+#[derive(Clone, Copy)]
+pub(crate) struct Plain {
+    pub(crate) run: Run,
+    pub(crate) len: usize,
+}
+
 /// Reads the first lines of a text, `most` at most, while their pages are kept, and puts their
 /// accesses after the first `len` slots. A loop of its own, in which all that it needs stays in
 /// registers.
@@ -152,32 +159,68 @@ pub(crate) fn skim_kept(
     Run { used, taken }
 }
 
-/// Reads the first line of a text by the general way, and keeps its page.
-#[inline(never)]
-fn skim_new(text: &[u8], before: u64, into: &mut Batch, pages: &mut Pages) -> Skim
-    requires long { 17 ≤ length text.now }
-    requires room { HasRoom into.old.items }
-    ensures skims { Skims before text.now into.old.items into.new.items result }
-    ensures few { result.taken ≤ 1 }
+/// Writes the access of a line into slot `at`, and a store into the next one. Returns how many of
+/// the two count. No branch asks whether a line is a modify: it would be predicted badly.
+#[inline(always)]
+fn put_near(slots: &mut [Access], at: usize, near: Near) -> usize
+    requires { at + 2 ≤ length slots.old }
+    ensures items { take (at + result) slots.new ≡ take at slots.old ++ read_of near }
+    ensures places { length slots.new ≡ length slots.old }
+    ensures few { result ≤ 2 }
 {
-    let Some(near) = near_record(text) else {
-        return Skim {
-            used: 0,
-            lines: before,
-            taken: 0,
-        };
-    };
-    pages.keep(text);
-    put_accesses(into, near.va, near.kind, near.is_modify);
-    Skim {
-        used: near.used,
-        lines: before.wrapping_add(1),
-        taken: 1,
-    }
+    let Near { va, kind, .. } = near;
+    put(slots, at, Access { va, kind });
+    let kind = Kind::Store;
+    put(slots, at + 1, Access { va, kind });
+    if near.is_modify { 2 } else { 1 }
 }
 
-/// Reads the first lines of a text, `most` at most: those whose pages are kept, and the one after
-/// them.
+/// Reads the first lines of a text, `most` at most, whether their pages are kept or not, and puts
+/// their accesses after the first `len` slots.
+#[inline(never)]
+pub(crate) fn skim_plain(text: &[u8], slots: &mut [Access], len: usize, most: u64) -> Plain
+    requires places { length slots.old ≡ batch_size }
+    requires len { len ≤ batch_size }
+    ensures runs { Runs text.now (take len slots.old) (take result.len slots.new) result.run }
+    ensures places { length slots.new ≡ batch_size }
+    ensures len { result.len ≤ batch_size }
+    ensures few { result.run.taken ≤ most }
+{
+    let mut used = 0;
+    let mut taken = 0;
+    let mut end = len;
+    'plain: while taken < most && end <= ROOM - 2 && text.len() - used >= NEAR {
+        let Some(near) = near_record(&text[used..]) else {
+            break;
+        };
+        end += put_near(slots, end, near);
+        used += near.used;
+        taken += 1;
+    }
+    let run = Run { used, taken };
+    Plain { run, len: end }
+}
+
+/// Fewer lines of kept pages than this, one after another, are few.
+const FEW: u64 = 4;
+
+/// How many lines are read whether their pages are kept or not, after few lines of kept pages.
+const PLAIN: u64 = 32;
+
+/// How many lines are read whether their pages are kept or not, after `kept` lines of kept pages, at
+/// most `most` in all: one, or many where those are few, since a branch on which line's page is kept
+/// is then predicted badly.
+#[inline(always)]
+fn plain_lines(kept: u64, most: u64) -> u64
+    requires { kept ≤ most }
+    ensures { kept + result ≤ most }
+{
+    let lines = if kept < FEW { PLAIN } else { 1 };
+    lines.min(most - kept)
+}
+
+/// Reads the first lines of a text, `most` at most: those whose pages are kept, and some after them.
+/// The page of the first of these is kept from then on.
 #[inline(always)]
 fn skim_some(text: &[u8], before: u64, into: &mut Batch, most: u64, pages: &mut Pages) -> Skim
     ensures skims { Skims before text.now into.old.items into.new.items result }
@@ -193,8 +236,14 @@ fn skim_some(text: &[u8], before: u64, into: &mut Batch, most: u64, pages: &mut 
     if run.taken == sure {
         return kept;
     }
-    let new = skim_new(&text[kept.used..], kept.lines, into, pages);
-    kept.then(new)
+    let rest = &text[kept.used..];
+    pages.keep(rest);
+    let new = into.skim_plain(rest, plain_lines(run.taken, most));
+    kept.then(Skim {
+        used: new.used,
+        lines: kept.lines.wrapping_add(new.taken),
+        taken: new.taken,
+    })
 }
 
 /// Reads up to `most` single-page records of a text, after `before` lines; stops at the first other

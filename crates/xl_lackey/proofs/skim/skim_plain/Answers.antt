@@ -1,0 +1,32 @@
+use Rattle.std.proofs.Common.{◌≡◌, ◌+◌, ◌-◌, ◌≤◌, List, ℕ, length, length-drop, take, sym, subst, ◌∙◌, ◌++◌, arith}
+use Rattle.std.proofs.lemmas.List.{take_rest}
+use Rattle.xl_lackey.specs.declared.skim.Access.{Access}
+use Rattle.xl_lackey.specs.Skims.{IsRecordLine, Skims, read_of, skim_at}
+use Rattle.xl_lackey.proofs.SkimLemmas.{skim_none, skim_more}
+use Rattle.xl_lackey.proofs.skim.skim_plain.Goals as goal
+
+pub plain-init : goal.plain-init
+plain-init c = record {
+  runs = λ n h. skim_none n c.args.text.now (take c.args.len c.args.slots.now) h;
+  places = c.requires.places;
+  end = c.requires.len;
+  within = omega arith;
+  few = omega arith;
+}
+
+pub plain-preserved : goal.plain-preserved
+plain-preserved c =
+    let text = c.args.text.now in
+    let first : List Access = take c.args.len c.args.slots.now in
+    let near = c.in-Some.near in
+    let old = c.plain in
+    let put = c.put_near-end in
+    let line = subst (λ (t : List ℕ). IsRecordLine t near.used (read_of near)) (take_rest text old.used) c.in-Some.ensures in
+    record {
+      runs = λ n h. subst (λ (xs : List Access). Skims n text first xs (skim_at n (old.used + near.used) (old.taken + 1))) (sym put.ensures.items)
+          (skim_more n text first (take old.end old.slots) (read_of near) old.used old.taken near.used (old.invariant.runs n h) line);
+      places = put.ensures.places ∙ old.invariant.places;
+      end = omega (arith, put.ensures.few, c.if-end.true);
+      within = omega (arith, line.line.within, length-drop old.used text, old.invariant.within);
+      few = omega (arith, c.plain-test.true);
+    }
