@@ -69,14 +69,6 @@ skim_by n text xs ys more s count (Found l addr size) k line e =
           ∙ with_both k.of.taken (r ∷ []) (records m (lines_by last (after ++ rest)));
     }
 
--- the first line alone
-pub skim_one : (n : ℕ) (text : List ℕ) (xs more : List Access) (count : ℕ) → IsRecordLine text count more
-    → Skims n text xs (xs ++ more) (record { used = count; lines = (n + 1) % 2 ^ 64; taken = 1 })
-skim_one n text xs more count h =
-    let none : 0 + count ≡ count = omega arith in
-    subst (λ (k : ℕ). Skims n text xs (xs ++ more) (record { used = k; lines = (n + 1) % 2 ^ 64; taken = 1 })) none
-    (skim_by n text xs xs more (record { used = 0; lines = n; taken = 0 }) count h.verdict (skim_start n text xs) h.line h.accesses_are)
-
 pub skim_more : (n : ℕ) (text : List ℕ) (xs ys more : List Access) (used taken count : ℕ) → Skims n text xs ys (skim_at n used taken)
     → IsRecordLine (drop used text) count more → Skims n text xs (ys ++ more) (skim_at n (used + count) (taken + 1))
 skim_more n text xs ys more used taken count k h =

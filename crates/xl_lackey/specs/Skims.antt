@@ -1,5 +1,5 @@
 -- Records whose bytes lie in one page each, taken together.
-use Rattle.std.specs.Prelude.{◌≡◌, ℕ, ◌+◌, ◌-◌, ◌*◌, ◌%◌, ◌^◌, ◌<◌, ◌≤◌, Bool, true, false, List, [], ◌∷◌, ◌++◌, length, map, drop}
+use Rattle.std.specs.Prelude.{◌≡◌, ℕ, ◌+◌, ◌*◌, ◌%◌, ◌^◌, ◌<◌, ◌≤◌, Bool, true, false, List, [], ◌∷◌, ◌++◌, length, map, drop}
 use Rattle.xl_model.specs.declared.address.Kind.{Kind}
 use Rattle.xl_model.specs.declared.address.Kind.TheVariants.{Store}
 use Rattle.xl_text.specs.Texts.{lines_by, lines_of}
@@ -54,10 +54,10 @@ abbrev pub HasRoom : List Access → Type 0
 HasRoom accesses = length accesses + 2 ≤ batch_size
 
 -- `sure` records of one access each may be read of a text of `rest` bytes: their lines end there,
--- and after their accesses there is room for two at the least, as if a modify were the last.
+-- and there is room for their accesses.
 pub record IsSure (sure rest : ℕ) (accesses : List Access) : Type 0 where
   pub text : 17 * sure ≤ rest
-  pub room : sure ≤ batch_size - 1 - length accesses
+  pub room : length accesses + sure ≤ batch_size
 
 -- A text's first line, of `used` bytes with its newline, is a record with these accesses.
 pub record IsRecordLine (text : List ℕ) (used : ℕ) (got : List Access) : Type 0 where

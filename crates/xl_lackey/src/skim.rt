@@ -108,7 +108,7 @@ fn sure_records(rest: usize, into: &Batch, most: u64) -> u64
     ensures sure { IsSure result rest into.now.items }
     ensures few { result ≤ most }
 {
-    let room = (ROOM - 1).saturating_sub(into.len());
+    let room = ROOM - into.len();
     (room.min(rest / NEAR) as u64).min(most)
 }
 
@@ -247,7 +247,7 @@ fn skim_some(text: &[u8], before: u64, into: &mut Batch, most: u64, pages: &mut 
 }
 
 /// Reads up to `most` single-page records of a text, after `before` lines; stops at the first other
-/// line, or where there is no room for two accesses.
+/// line, or where there is no room.
 #[inline(always)]
 pub(crate) fn skim_lines(
     text: &[u8],

@@ -1,4 +1,4 @@
-use Rattle.std.proofs.Common.{◌≡◌, ◌+◌, ◌-◌, ◌≤◌, List, ℕ, length, length-drop, take, sym, subst, ◌∙◌, ◌++◌, arith}
+use Rattle.std.proofs.Common.{◌+◌, List, ℕ, length-drop, take, sym, subst, ◌∙◌, arith}
 use Rattle.std.proofs.lemmas.List.{take_rest}
 use Rattle.xl_lackey.specs.declared.skim.Access.{Access}
 use Rattle.xl_lackey.specs.Skims.{IsRecordLine, Skims, read_of, skim_at}
