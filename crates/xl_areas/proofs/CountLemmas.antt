@@ -1,10 +1,5 @@
 -- How many bounds lie at or below a key, and which of them answers.
-use Rattle.std.proofs.Common.{◌≡◌, refl, ap, ℕ, zero, suc, ◌<◌, ◌≤◌, true, false, cond, nat_le, List, [], ◌∷◌, length, slice_index_or, Option, arith}
-use Rattle.std.specs.List.{AllWithin}
-use Rattle.std.proofs.lemmas.Bool.Decides.{nat_tests}
-use Rattle.xl_model.specs.declared.script.Area.{Area}
-use Rattle.xl_areas.specs.declared.bounds.Bound.{Bound}
-use Rattle.xl_areas.specs.Bounds.{answer_at, count_to, AreRising}
+use Rattle.xl_areas.proofs.Common.{◌<◌, ◌∷◌, ◌≡◌, ◌≤◌, [], AllWithin, answer_at, ap, Area, AreRising, arith, Bound, cond, count_to, false, length, List, nat_le, nat_tests, Option, refl, slice_index_or, suc, true, zero, ℕ}
 
 -- the bounds from a place on are at or above the ones before
 rising-from : (from : ℕ) (bounds : List Bound) (i : ℕ) (d : Bound) → AreRising from bounds → i < length bounds → from ≤ (slice_index_or bounds i d).key

@@ -1,10 +1,5 @@
 -- One more bound.
-use Rattle.std.proofs.Common.{◌≡◌, refl, ap, ℕ, suc, ◌≤◌, true, false, cond, nat_le, List, [], ◌∷◌, length, Option, inl, inr, ◌⊎◌, arith}
-use Rattle.std.specs.List.{insert}
-use Rattle.std.proofs.lemmas.Bool.Decides.{nat_tests}
-use Rattle.xl_model.specs.declared.script.Area.{Area}
-use Rattle.xl_areas.specs.declared.bounds.Bound.{Bound}
-use Rattle.xl_areas.specs.Bounds.{answer_at, count_to, cut_at, AreRising}
+use Rattle.xl_areas.proofs.Common.{◌∷◌, ◌≡◌, ◌≤◌, ◌⊎◌, [], answer_at, ap, Area, AreRising, arith, Bound, cond, count_to, cut_at, false, inl, inr, insert, length, List, nat_le, nat_tests, Option, refl, suc, true, ℕ}
 
 -- a key is that of a bound
 abbrev pub IsBound : ℕ → List Bound → Type 0

@@ -1,14 +1,7 @@
 -- The index of no areas, and of one area more; and what it answers.
-use Rattle.std.proofs.Common.{◌≡◌, refl, sym, ap, ◌∙◌, ℕ, zero, suc, ◌+◌, ◌*◌, ◌^◌, ◌<◌, ◌≤◌, Bool, true, false, cond, nat_le, nat_lt, ◌==◌, ◌&&◌, List, [], ◌∷◌, ◌++◌, length, map, find, None, Some, arith}
-use Rattle.std.specs.List.{All}
-use Rattle.std.proofs.lemmas.Bool.Decides.{nat_tests}
-use Rattle.std.proofs.lemmas.List.{length-map, length-append}
-use Rattle.xl_model.specs.declared.script.Area.{Area}
-use Rattle.xl_model.specs.Items.{in_area}
-use Rattle.xl_areas.specs.declared.bounds.Bound.{Bound}
-use Rattle.xl_areas.specs.Bounds.{key_at, has_key, answer_at, cut_at, or_later, with_later, IsPlaced, IsIndex}
-use Rattle.xl_areas.proofs.CutLemmas.{cut-answers, cut-rises, cut-bound, cut-keeps, cut-length}
-use Rattle.xl_areas.proofs.LaterLemmas.{later-rises, later-answers}
+use Rattle.xl_areas.proofs.Common.{◌&&◌, ◌*◌, ◌++◌, ◌+◌, ◌<◌, ◌==◌, ◌^◌, ◌∙◌, ◌∷◌, ◌≡◌, ◌≤◌, [], All, answer_at, ap, Area, arith, Bool, Bound, cond, cut_at, false, find, has_key, in_area, IsIndex, IsPlaced, key_at, length, length-append, length-map, List, map, nat_le, nat_lt, nat_tests, None, or_later, refl, Some, suc, sym, true, with_later, zero, ℕ}
+use Rattle.xl_areas.proofs.CutLemmas.{cut-answers, cut-bound, cut-keeps, cut-length, cut-rises}
+use Rattle.xl_areas.proofs.LaterLemmas.{later-answers, later-rises}
 
 pub no-index : IsIndex [] []
 unfolding answer_at

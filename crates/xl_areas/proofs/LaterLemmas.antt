@@ -1,9 +1,5 @@
 -- A later area among the bounds.
-use Rattle.std.proofs.Common.{◌≡◌, refl, sym, ap, ℕ, ◌+◌, ◌<◌, ◌≤◌, true, false, cond, nat_le, nat_lt, List, [], ◌∷◌, map, Option, None, Some, inl, inr, ◌⊎◌, ◌&&◌, arith}
-use Rattle.std.proofs.lemmas.Bool.Decides.{nat_tests}
-use Rattle.xl_model.specs.declared.script.Area.{Area}
-use Rattle.xl_areas.specs.declared.bounds.Bound.{Bound}
-use Rattle.xl_areas.specs.Bounds.{key_at, has_key, answer_at, or_later, with_later, AreRising}
+use Rattle.xl_areas.proofs.Common.{◌&&◌, ◌+◌, ◌<◌, ◌∷◌, ◌≡◌, ◌≤◌, ◌⊎◌, [], answer_at, ap, Area, AreRising, arith, Bound, cond, false, has_key, inl, inr, key_at, List, map, nat_le, nat_lt, nat_tests, None, Option, or_later, refl, Some, sym, true, with_later, ℕ}
 use Rattle.xl_areas.proofs.CutLemmas.{IsBound}
 
 pub later-rises : (from : ℕ) (area : Area) (bounds : List Bound) → AreRising from bounds → AreRising from (map (with_later area) bounds)

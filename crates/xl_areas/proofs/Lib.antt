@@ -1,3 +1,4 @@
+mod Common
 mod CountLemmas
 mod CutLemmas
 mod LaterLemmas

@@ -1,9 +1,9 @@
 -- What a form that serves rows leaves of the machines.
-use Rattle.std.proofs.Common.{◌≡◌, ℕ, List, refl}
-use Rattle.std.specs.Prelude.{Option, OnOk, Result, Ok, Err}
-use Rattle.xl_model.specs.Scenes.{Served}
-use Rattle.xl_course.specs.declared.stop.Stop.{Stop}
+use Rattle.std.proofs.Common.{◌≡◌, List, refl, ℕ}
+use Rattle.std.specs.Prelude.{Err, Ok, OnOk, Option, Result}
 use Rattle.xl_course.specs.Accounts.{Account, Ends}
+use Rattle.xl_course.specs.declared.stop.Stop.{Stop}
+use Rattle.xl_model.specs.Scenes.{Served}
 use Rattle.xl_bench.specs.Machines.{MachineStates, no_machines}
 
 served-rows : (r : Result (Unit {0}) Stop) (m : MachineStates) (rows left : List Served) → m ≡ no_machines → OnOk r (rows ≡ left)

@@ -1,19 +1,19 @@
 -- Words that are refused, and the number of sets of a curve.
-use Rattle.std.proofs.Common.{◌≡◌, ℕ, ◌<◌, ◌≤◌, Bool, true, false, List, [], ◌∷◌, refl, sym, ap, ◌∙◌, arith}
-use Rattle.std.specs.Prelude.{Option, None, Some, Err, option_map, unwrap_or, if◌then◌else◌, codes, drop}
+use Rattle.std.proofs.Common.{◌<◌, ◌∙◌, ◌∷◌, ◌≡◌, ◌≤◌, [], ap, arith, Bool, false, List, refl, sym, true, ℕ}
+use Rattle.std.specs.Prelude.{if◌then◌else◌, codes, drop, Err, None, Option, option_map, Some, unwrap_or}
 use Rattle.std.specs.Str.Parse.{digits_value, without_leading_plus}
-use Rattle.clap.specs.ValueTests.{is_unsigned_in}
-use Rattle.clap.specs.declared.builder.value_parser.ValueParser.TheVariants as parser
-use Rattle.clap.specs.Words.{Kinds, Row, fault_of, matches_of, first_of}
 use Rattle.clap.proofs.ValueTestLemmas.{accepts-Accepts}
-use Rattle.xl_course.specs.Stops.{status_at}
+use Rattle.clap.specs.ValueTests.{is_unsigned_in}
+use Rattle.clap.specs.Words.{fault_of, first_of, Kinds, matches_of, Row}
 use Rattle.xl_course.specs.Accounts.{SaysOfWords}
+use Rattle.xl_course.specs.Stops.{status_at}
 use Rattle.xl_serving.specs.Inputs.{of_words_fault}
+use Rattle.xl_words.specs.Words.{Asked, asked, asked_as, asked_of, AskedCurve, AskedPair, AskedPlain, Asks, curve_app, curve_in, curve_with, Curved, form_of, Hartly, Nestedly, number_of, Plainly, read_where, sets_by}
 use Rattle.xl_words.specs.declared.words.Form.{Form}
-use Rattle.xl_words.specs.declared.words.Form.TheVariants as form
 use Rattle.xl_words.specs.declared.words.WordsFault.{WordsFault}
+use Rattle.clap.specs.declared.builder.value_parser.ValueParser.TheVariants as parser
+use Rattle.xl_words.specs.declared.words.Form.TheVariants as form
 use Rattle.xl_words.specs.declared.words.WordsFault.TheVariants as words
-use Rattle.xl_words.specs.Words.{Asked, AskedCurve, AskedPair, AskedPlain, Plainly, Nestedly, Hartly, Curved, Asks, asked, asked_as, asked_of, curve_app, curve_in, curve_with, form_of, number_of, read_where, sets_by}
 
 pub words_refused : (f : WordsFault) (a : Option Asked) → Asks asked_of (Err f) a → SaysOfWords (status_at (of_words_fault f)) a
 words_refused words.Usage a h = h

@@ -1,13 +1,5 @@
 -- Buckets one after another: an item more, items less, what is found, and the chain of a bucket. For chains in words.
-use Rattle.std.proofs.Common.{◌≡◌, refl, sym, ap, ◌∙◌, subst, ℕ, zero, suc, ◌<◌, ◌≤◌, Bool, true, false, cond, List, [], ◌∷◌, ◌++◌, map, length, nat_lt, ◌==◌, None, Some, inl, inr, length-append, arith}
-use Rattle.std.specs.Prelude.{find, filter}
-use Rattle.std.proofs.lemmas.List.{append-nil, map-append}
-use Rattle.std.proofs.lemmas.List.Elements.{filter-append}
-use Rattle.std.proofs.lemmas.Bool.Decides.{nat_tests}
-use Rattle.xl_model.specs.Chains.{bucket_of, chain_of}
-use Rattle.xl_model_lemmas.specs.Members.{In}
-use Rattle.xl_model_lemmas.specs.Buckets.{in_front_by, gather}
-use Rattle.xl_model_lemmas.proofs.MemberLemmas.{In-left, In-right, In-append}
+use Rattle.xl_chain.proofs.Common.{◌++◌, ◌<◌, ◌==◌, ◌∙◌, ◌∷◌, ◌≡◌, ◌≤◌, [], ap, append-nil, arith, Bool, bucket_of, chain_of, cond, false, filter, filter-append, find, gather, In, In-append, In-left, In-right, in_front_by, inl, inr, length, length-append, List, map, map-append, nat_lt, nat_tests, None, refl, Some, subst, suc, sym, true, zero, ℕ}
 
 module _ {A : Type 0} (tag : A → ℕ) (n : ℕ) where
   -- an item goes past the buckets below its own, and is before the others

@@ -1,19 +1,9 @@
 -- What an index tells, as it and the chains change.
-use Rattle.std.proofs.Common.{◌≡◌, refl, sym, ap, ◌∙◌, ℕ, ◌+◌, ◌<◌, true, false, cond, not, List, [], ◌∷◌, map, length, slice_set, nat_lt, ◌==◌, Option, None, Some, inl, inr, arith}
-use Rattle.std.specs.Prelude.{find, is_some}
-use Rattle.std.proofs.lemmas.Bool.Decides.{nat_tests}
-use Rattle.xl_model.specs.Chains.{bucket_of, has_tag}
-use Rattle.xl_model_lemmas.specs.Members.{In}
-use Rattle.xl_model_lemmas.proofs.MemberLemmas.{find-In, find-passes}
-use Rattle.xl_model_lemmas.proofs.BucketLemmas.{length-by, unequal}
-use Rattle.xl_chain.specs.declared.shape.Seek.TheVariants as seek
-use Rattle.xl_chain.specs.Held.{Held, ChainState, has, tags_of, held_with, first_value, entry_of, found_of, in_front_of, without_tag, with_value}
-use Rattle.xl_chain.specs.Kept.{IsInserted}
-use Rattle.xl_chain.specs.Lines.{AreSingle, WordsReadBack}
-use Rattle.xl_chain.specs.Places.{place_at, tag_led, set_place, moved, placed, IsTaken, IsFirst, place_found, told, IsIndex}
-use Rattle.xl_chain.proofs.FrontLemmas.{absent}
+use Rattle.xl_chain.proofs.Common.{◌+◌, ◌<◌, ◌==◌, ◌∙◌, ◌∷◌, ◌≡◌, [], ap, AreSingle, arith, bucket_of, ChainState, cond, entry_of, false, find, find-In, find-passes, first_value, found_of, has, has_tag, Held, held_with, In, in_front_of, inl, inr, is_some, IsFirst, IsIndex, IsInserted, IsTaken, length, length-by, List, map, moved, nat_lt, nat_tests, None, not, Option, place_at, place_found, placed, refl, set_place, slice_set, Some, sym, tag_led, tags_of, told, true, unequal, with_value, without_tag, WordsReadBack, ℕ}
 use Rattle.xl_chain.proofs.FindLemmas.{has_found}
+use Rattle.xl_chain.proofs.FrontLemmas.{absent}
 use Rattle.xl_chain.proofs.MovedLemmas.{moved-same, placed-same}
+use Rattle.xl_chain.specs.declared.shape.Seek.TheVariants as seek
 
 -- what is found of a tag, after a change of what is held
 with-front : (n t : ℕ) (x : Held) (hs : List Held) → ((h : Held) → In h hs → h.tag ≡ x.tag → ⊥) → held_with t (in_front_of n x hs) ≡ cond (x.tag == t) (Some x) (held_with t hs)

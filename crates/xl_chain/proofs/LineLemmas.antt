@@ -1,23 +1,8 @@
 -- What the words tell of what is held.
-use Rattle.std.proofs.Common.{◌≡◌, refl, sym, ap, ◌∙◌, subst, ℕ, zero, suc, ◌+◌, ◌-◌, ◌*◌, ◌<◌, ◌≤◌, Bool, true, false, cond, List, [], ◌∷◌, ◌++◌, map, length, slice_index, ◌==◌, None, Some, inl, inr, arith}
-use Rattle.std.specs.Prelude.{find, filter, IfSome}
-use Rattle.std.specs.List.{list_any}
-use Rattle.std.proofs.lemmas.List.{append-nil}
-use Rattle.std.proofs.lemmas.List.Elements.{filter-append}
-use Rattle.std.proofs.lemmas.Bool.Decides.{nat_tests}
-use Rattle.xl_model.specs.Chains.{bucket_of}
-use Rattle.xl_model_lemmas.specs.Members.{In}
-use Rattle.xl_model_lemmas.specs.Buckets.{gather}
-use Rattle.xl_model_lemmas.proofs.MemberLemmas.{map-In, any-In, In-any, find-In, find-passes, find-only}
-use Rattle.xl_chain.proofs.GatherLemmas.{gather-In, ArePlaced}
-use Rattle.xl_chain.specs.declared.shape.ChainShape.{ChainShape}
-use Rattle.xl_chain.specs.Layout.{base_at, place_of_value}
-use Rattle.xl_chain.specs.Back.{Searched}
-use Rattle.xl_chain.specs.Held.{Held, tag_in, next_in, run, values_in, held_in, chain_in, held_at, held_of, has, held_with, entry_of, is_entry, value_in, value_of}
-use Rattle.xl_chain.specs.Kept.{IsChain, Apart, IsTable}
-use Rattle.xl_chain.specs.Lines.{in_bucket, AreLines, WordsReadBack, AreSingle, IsOwn}
-use Rattle.xl_chain.proofs.FrontLemmas.{are-placed}
+use Rattle.xl_chain.proofs.Common.{◌*◌, ◌++◌, ◌+◌, ◌-◌, ◌<◌, ◌==◌, ◌∙◌, ◌∷◌, ◌≡◌, ◌≤◌, [], any-In, ap, Apart, append-nil, AreLines, AreSingle, arith, base_at, Bool, bucket_of, chain_in, ChainShape, cond, entry_of, false, filter, filter-append, find, find-In, find-only, find-passes, gather, has, Held, held_at, held_in, held_of, held_with, IfSome, In, In-any, in_bucket, inl, inr, is_entry, IsChain, IsOwn, IsTable, length, List, list_any, map, map-In, nat_tests, next_in, None, place_of_value, refl, run, Searched, slice_index, Some, subst, suc, sym, tag_in, true, value_in, value_of, values_in, WordsReadBack, zero, ℕ}
 use Rattle.xl_chain.proofs.FindLemmas.{search-held}
+use Rattle.xl_chain.proofs.FrontLemmas.{are-placed}
+use Rattle.xl_chain.proofs.GatherLemmas.{ArePlaced, gather-In}
 
 -- what is held is in its bucket, and is what the words say of its entry
 held-back : (s : ChainShape) (words : List ℕ) (h : Held) → In h (held_of s words)

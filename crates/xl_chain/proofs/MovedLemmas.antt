@@ -1,21 +1,10 @@
 -- The places of tags after an entry came in front of its bucket, and after one was taken out.
-use Rattle.std.proofs.Common.{◌≡◌, refl, sym, ap, ◌∙◌, ℕ, zero, suc, ◌+◌, ◌<◌, true, false, cond, not, List, [], ◌∷◌, ◌++◌, slice_index, nat_lt, ◌==◌, Option, None, Some, inl, inr, arith}
-use Rattle.std.proofs.lemmas.Bool.Decides.{nat_tests}
-use Rattle.xl_model.specs.Chains.{bucket_of}
-use Rattle.xl_model_lemmas.specs.Members.{In}
-use Rattle.xl_chain.specs.declared.shape.ChainShape.{ChainShape}
-use Rattle.xl_chain.specs.Layout.{base_at}
-use Rattle.xl_chain.specs.Held.{tag_in, next_in, chain_in, seen_in}
-use Rattle.xl_chain.specs.Kept.{IsChain, Apart, IsTable, IsFront}
-use Rattle.xl_chain.specs.Steps.{IsPast}
-use Rattle.xl_chain.specs.Places.{tag_by, set_place, moved, placed, IsTaken}
-use Rattle.xl_chain.proofs.PlaceLemmas.{IsSet, is-set}
+use Rattle.xl_chain.proofs.Common.{◌++◌, ◌+◌, ◌<◌, ◌==◌, ◌∙◌, ◌∷◌, ◌≡◌, [], ap, Apart, arith, base_at, bucket_of, chain_in, ChainShape, cond, false, In, inl, inr, IsChain, IsFront, IsPast, IsTable, IsTaken, List, moved, nat_lt, nat_tests, next_in, None, not, Option, pick-yes, placed, refl, seen_in, set_place, slice_index, Some, suc, sym, tag_by, tag_in, true, unequal, zero, ℕ}
 use Rattle.xl_chain.proofs.FrontLemmas.{Fronted}
-use Rattle.xl_chain.proofs.RemovalLemmas.{place_in, left_in, left-all, gone, Removed}
+use Rattle.xl_chain.proofs.PlaceLemmas.{is-set, IsSet}
+use Rattle.xl_chain.proofs.RemovalLemmas.{gone, left-all, left_in, place_in, Removed}
+use Rattle.xl_chain.proofs.SpotLemmas.{place-read, some_bucket, spot}
 use Rattle.xl_chain.proofs.ValueLemmas.{Valued}
-use Rattle.xl_chain.proofs.SpotLemmas.{spot, some_bucket, place-read}
-use Rattle.xl_model_lemmas.proofs.BucketLemmas.{unequal}
-use Rattle.xl_model_lemmas.proofs.SameLemmas.{pick-yes}
 
 -- what a change of places makes of a tag goes by the tag's place before
 pub moved-same : (x : Option ℕ) (p t : ℕ) (f g : ℕ → Option ℕ) → f t ≡ g t → moved x p f t ≡ moved x p g t

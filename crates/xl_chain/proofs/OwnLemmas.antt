@@ -1,19 +1,10 @@
 -- The search of words in which every chain can be followed to its end.
-use Rattle.std.proofs.Common.{◌≡◌, refl, sym, ap, ◌∙◌, subst, ℕ, suc, ◌+◌, ◌-◌, ◌*◌, ◌<◌, ◌≤◌, true, false, cond, List, [], ◌∷◌, length, slice_index, ◌==◌, inl, inr, arith}
-use Rattle.std.proofs.lemmas.Bool.Decides.{nat_tests}
-use Rattle.xl_model_lemmas.specs.Members.{In}
-use Rattle.xl_chain.specs.declared.shape.ChainShape.{ChainShape}
-use Rattle.xl_chain.specs.declared.shape.Seek.TheVariants as seek
-use Rattle.xl_chain.specs.declared.along.Visit.{Visit}
-use Rattle.xl_chain.specs.declared.along.Visit.TheVariants as visit
-use Rattle.xl_chain.specs.Layout.{base_at, line_at}
-use Rattle.xl_chain.specs.Back.{Searched, ended, loaded_before, visit_of, visited, search_from}
-use Rattle.xl_chain.specs.Held.{next_in, chain_in}
-use Rattle.xl_chain.specs.Kept.{IsChain, IsTable, IsLinked, AreLinked}
-use Rattle.xl_chain.proofs.SearchLemmas.{from-visit, more-loads}
-use Rattle.xl_chain.proofs.PlaceLemmas.{base_past}
+use Rattle.xl_chain.proofs.Common.{◌*◌, ◌+◌, ◌-◌, ◌<◌, ◌==◌, ◌∙◌, ◌∷◌, ◌≡◌, ◌≤◌, [], ap, AreLinked, arith, base_at, chain_in, ChainShape, cond, ended, false, In, inl, inr, IsChain, IsLinked, IsTable, length, line_at, List, loaded_before, nat_tests, next_in, pick-no, refl, search_from, Searched, slice_index, subst, suc, sym, true, Visit, visit_of, visited, ℕ}
 use Rattle.xl_chain.proofs.FrontLemmas.{chain-short}
-use Rattle.xl_model_lemmas.proofs.SameLemmas.{pick-no}
+use Rattle.xl_chain.proofs.PlaceLemmas.{base_past}
+use Rattle.xl_chain.proofs.SearchLemmas.{from-visit, more-loads}
+use Rattle.xl_chain.specs.declared.along.Visit.TheVariants as visit
+use Rattle.xl_chain.specs.declared.shape.Seek.TheVariants as seek
 
 pub are-linked : (s : ChainShape) (words free : List ℕ) → IsTable s words free → AreLinked s words
 are-linked s words free t = record {

@@ -1,21 +1,9 @@
 -- Where the word stands that leads to a tag's entry.
-use Rattle.std.proofs.Common.{◌≡◌, refl, sym, ap, ◌∙◌, ℕ, suc, ◌+◌, ◌<◌, true, false, cond, List, [], ◌∷◌, length, slice_index, ◌==◌, Option, None, Some, inl, inr, arith}
-use Rattle.std.specs.Prelude.{find, is_some}
-use Rattle.std.proofs.lemmas.Bool.Decides.{nat_tests}
-use Rattle.xl_model.specs.Chains.{bucket_of, has_tag}
-use Rattle.xl_model_lemmas.specs.Members.{In}
-use Rattle.xl_model_lemmas.proofs.MemberLemmas.{find-only}
-use Rattle.xl_chain.specs.declared.shape.ChainShape.{ChainShape}
-use Rattle.xl_chain.specs.Layout.{base_at}
-use Rattle.xl_chain.specs.Back.{place_from}
-use Rattle.xl_chain.specs.Held.{Held, tag_in, next_in, values_in, held_in, chain_in, held_of, has, tags_of, held_with, found_of}
-use Rattle.xl_chain.specs.Kept.{IsChain, IsTable}
-use Rattle.xl_chain.specs.Steps.{Leads}
-use Rattle.xl_chain.specs.Places.{found_by}
-use Rattle.xl_chain.proofs.PlaceLemmas.{base_past, head-before}
-use Rattle.xl_chain.proofs.FrontLemmas.{chain-short, held-In, absent}
-use Rattle.xl_chain.proofs.RemovalLemmas.{place_in, along-place, place-where, place-reads, found-place}
+use Rattle.xl_chain.proofs.Common.{◌+◌, ◌<◌, ◌==◌, ◌∙◌, ◌∷◌, ◌≡◌, [], ap, arith, base_at, bucket_of, chain_in, ChainShape, cond, false, find, find-only, found_by, found_of, has, has_tag, Held, held_in, held_of, held_with, In, inl, inr, is_some, IsChain, IsTable, Leads, length, List, nat_tests, next_in, None, Option, place_from, refl, slice_index, Some, suc, sym, tag_in, tags_of, true, values_in, ℕ}
+use Rattle.xl_chain.proofs.FrontLemmas.{absent, chain-short, held-In}
 use Rattle.xl_chain.proofs.LineLemmas.{held-single}
+use Rattle.xl_chain.proofs.PlaceLemmas.{base_past, head-before}
+use Rattle.xl_chain.proofs.RemovalLemmas.{along-place, found-place, place-reads, place-where, place_in}
 
 -- the places of tags by the words
 abbrev pub spot : ChainShape → List ℕ → ℕ → Option ℕ

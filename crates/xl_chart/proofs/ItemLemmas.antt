@@ -1,22 +1,22 @@
 -- Events that are served one after another.
-use Rattle.std.proofs.Common.{◌≡◌, ℕ, List, Option, None, Some, refl, ◌∙◌, ap, subst}
-use Rattle.xl_model.specs.declared.address.Kind.{Kind}
-use Rattle.xl_model.specs.declared.event.Event.{Event}
-use Rattle.xl_model.specs.declared.event.Event.TheVariants as event
-use Rattle.xl_model.specs.declared.event.Outcome.{Outcome}
-use Rattle.xl_model.specs.declared.event.Outcome.TheVariants as outcome
-use Rattle.xl_model.specs.declared.script.Item.{Item}
-use Rattle.xl_model.specs.declared.script.Item.TheVariants.{Command, Declared, Referenced}
-use Rattle.xl_model.specs.declared.script.Area.{Area}
-use Rattle.xl_model.specs.RowRun.{RowState, outcome_of, reply_to}
+use Rattle.std.proofs.Common.{◌∙◌, ◌≡◌, ap, List, None, Option, refl, Some, subst, ℕ}
+use Rattle.xl_curve_model.specs.CurveRun.{Charted, charted_again, charted_demand, charted_event, charted_item, curve_after}
+use Rattle.xl_curve_model.specs.Curves.{HitCurve}
+use Rattle.xl_machine.specs.Served.{after_of}
 use Rattle.xl_model.specs.Items.{again_where, area_for, area_wanted, demanded, map_of, referenced, state_after, wanted}
+use Rattle.xl_model.specs.RowRun.{outcome_of, reply_to, RowState}
 use Rattle.xl_model.specs.Rows.{Row}
 use Rattle.xl_model.specs.Rules.{rule}
 use Rattle.xl_model.specs.Scenes.{Served, served_after}
-use Rattle.xl_machine.specs.Served.{after_of}
-use Rattle.xl_curve_model.specs.Curves.{HitCurve}
-use Rattle.xl_curve_model.specs.CurveRun.{Charted, curve_after, charted_event, charted_again, charted_demand, charted_item}
-use Rattle.xl_chart.specs.Charts.{both, charted_access, curve_item, wanted_by, IsServedBeside}
+use Rattle.xl_model.specs.declared.address.Kind.{Kind}
+use Rattle.xl_model.specs.declared.event.Event.{Event}
+use Rattle.xl_model.specs.declared.event.Outcome.{Outcome}
+use Rattle.xl_model.specs.declared.script.Area.{Area}
+use Rattle.xl_model.specs.declared.script.Item.{Item}
+use Rattle.xl_model.specs.declared.script.Item.TheVariants.{Command, Declared, Referenced}
+use Rattle.xl_chart.specs.Charts.{both, charted_access, curve_item, IsServedBeside, wanted_by}
+use Rattle.xl_model.specs.declared.event.Event.TheVariants as event
+use Rattle.xl_model.specs.declared.event.Outcome.TheVariants as outcome
 
 -- One event.
 pub event_served : (e : Event) (v w : Served) (c d : HitCurve) → w ≡ after_of e v → d ≡ curve_after v.row e v.state c

@@ -1,28 +1,17 @@
 -- What a block that is written makes of the slots.
-use Rattle.std.proofs.Common.{◌≡◌, refl, sym, ap, ◌∙◌, subst, ℕ, ◌+◌, ◌-◌, ◌<◌, ◌≤◌, Bool, true, false, cond, not, ◌||◌, List, [], ◌∷◌, map, length, slice_set, slice_index, ◌==◌, Result, Ok, Err, OnOk, OnErr, inl, inr, arith}
-use Rattle.std.specs.List.{list_any}
-use Rattle.std.proofs.lemmas.List.{length-map}
-use Rattle.std.proofs.lemmas.Bool.{eq-eqb, eqb-true, ne_eqb}
-use Rattle.xl_model.specs.declared.work.Full.{Full}
-use Rattle.xl_model.specs.declared.perm.Perm.{Perm}
-use Rattle.xl_model.specs.Chains.{has_tag}
-use Rattle.xl_model.specs.Words.{leaf_word}
-use Rattle.xl_model_lemmas.specs.Members.{In}
-use Rattle.xl_model_lemmas.proofs.MemberLemmas.{map-In, filter-In}
-use Rattle.xl_model_lemmas.proofs.SameLemmas.{both}
-use Rattle.xl_chain.specs.Lines.{AreSingle}
+use Rattle.xl_clustered.proofs.Common.{◌+◌, ◌-◌, ◌<◌, ◌==◌, ◌||◌, ◌∙◌, ◌∷◌, ◌≡◌, ◌≤◌, [], ap, AreBlocks, arith, Bool, ChainState, cond, eq-eqb, eqb-true, Err, false, found-under, found_of, given_word, has_tag, Held, held_with, inl, inr, inserted-put, is_entry, IsCountedBlock, IsNewBlock, IsPut, IsSameTable, IsSet, IsTaken, IsUnderTag, IsWritten, len-set, length, length-map, List, list_any, map, ne_eqb, not, Ok, OnErr, OnOk, refl, removed-taken, Result, rewritten, same-entry, set-by, set-other, set-same, Sixteen, slice_index, slice_set, subst, sym, tag-held, tags-set, tags_of, true, used_in, values-front, values-without, values_under, with_value, without_tag, word-first, word_at, word_found, ℕ}
 use Rattle.xl_chain.specs.Kept.{IsInserted}
-use Rattle.xl_chain.specs.declared.shape.Seek.TheVariants as seek
-use Rattle.xl_chain.specs.Held.{Held, ChainState, found_of, tags_of, held_with, is_entry, with_value, without_tag}
-use Rattle.xl_tagged.specs.Forms.{Sixteen, values_under, word_at}
+use Rattle.xl_chain.specs.Lines.{AreSingle}
+use Rattle.xl_model.specs.Words.{leaf_word}
+use Rattle.xl_model.specs.declared.perm.Perm.{Perm}
+use Rattle.xl_model.specs.declared.work.Full.{Full}
+use Rattle.xl_model_lemmas.proofs.MemberLemmas.{filter-In, map-In}
+use Rattle.xl_model_lemmas.proofs.SameLemmas.{both}
+use Rattle.xl_model_lemmas.specs.Members.{In}
+use Rattle.xl_tagged.proofs.StateLemmas.{held-in, tag-with, with-there}
 use Rattle.xl_tagged.specs.Tagged.{AreSized}
-use Rattle.xl_tagged.specs.Steps.{IsWritten, IsSameTable, IsPut, IsSet, IsTaken, given_word, word_found}
-use Rattle.xl_tagged.proofs.ChainLemmas.{IsUnderTag, found-under, same-entry, set-by, tags-set, values-without, values-front}
-use Rattle.xl_tagged.proofs.StateLemmas.{held-in, with-there, tag-with}
-use Rattle.xl_tagged.proofs.StepLemmas.{word-first, tag-held, len-set, inserted-put, removed-taken}
-use Rattle.xl_clustered.specs.Blocks.{used_in, IsCountedBlock, AreBlocks, IsNewBlock, rewritten}
-use Rattle.xl_clustered.proofs.UsedLemmas.{used-more, used-stays, used-less, used-some, used-only, used-single}
-use Rattle.xl_chain.proofs.PlaceLemmas.{set-same, set-other}
+use Rattle.xl_clustered.proofs.UsedLemmas.{used-less, used-more, used-only, used-single, used-some, used-stays}
+use Rattle.xl_chain.specs.declared.shape.Seek.TheVariants as seek
 
 -- a value that is set changes no entry's number
 with-entry : (e i w : ℕ) (g : Held) → (with_value e i w g).entry ≡ g.entry

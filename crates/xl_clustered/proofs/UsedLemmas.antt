@@ -1,9 +1,7 @@
 -- How many slots of a block are in use.
-use Rattle.std.proofs.Common.{◌≡◌, refl, sym, ap, ◌∙◌, ℕ, zero, suc, ◌+◌, ◌<◌, ◌≤◌, Bool, true, false, not, ◌==◌, arith}
+use Rattle.xl_clustered.proofs.Common.{◌+◌, ◌<◌, ◌==◌, ◌∙◌, ◌≡◌, ◌≤◌, ap, arith, Bool, eqb-true, false, ne_eqb, not, refl, suc, sym, true, used_in, zero, ℕ}
 use Rattle.std.proofs.lemmas.Bool.Decides.{nat_tests}
-use Rattle.std.proofs.lemmas.Bool.{eqb-true, ne_eqb}
 use Rattle.xl_model.specs.Base.{one_if}
-use Rattle.xl_clustered.specs.Blocks.{used_in}
 
 one-low : (b : Bool) → one_if b ≤ 1
 one-low true = omega arith

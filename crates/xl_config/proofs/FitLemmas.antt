@@ -1,32 +1,22 @@
 -- A row that is read keeps the rules of a row.
-use Rattle.std.proofs.Common.{◌≡◌, ℕ, ℤ, pos, zero, suc, ◌+◌, ◌-◌, ◌*◌, ◌≤◌, ◌<◌, Bool, true, false, ◌&&◌, ◌||◌, nat_le, List, [], ◌∷◌, ◌++◌, length, drop, set, Option, None, Some, Ok, Err, refl, ap, sym, ◌∙◌, subst, arith, length-append, if◌then◌else◌, codes}
-use Rattle.std.specs.Prelude.{Result, IfOk, All, ◌==◌, slice_set}
-use Rattle.std.specs.List.{list_all, list_any}
-use Rattle.std.specs.Str.{bytes_eq}
-use Rattle.std.proofs.lemmas.Bool.{leb-true, eqb-true}
-use Rattle.std.proofs.lemmas.Option.{same_Some}
+use Rattle.xl_config.proofs.Common.{if◌then◌else◌, ◌&&◌, ◌*◌, ◌++◌, ◌+◌, ◌-◌, ◌<◌, ◌==◌, ◌>>=◌, ◌||◌, ◌∙◌, ◌∷◌, ◌≡◌, ◌≤◌, [], agree, All, ap, arith, array_in, array_of, arrays_by, arrays_from, arrays_in, as_integer, bad, between, Bool, bytes_eq, caches_by, caches_in, checked, clustered_in, codes, count_items, cuckoo_in, Data, drop, element_in, Err, false, found, get_member, Gives, hashed_in, IfOk, is_array, is_array_key, is_known, is_name, is_name_byte, is_table, is_width, is_within, IsRow, item, Items, keyed, kind_in, length, length-append, levels_rise, List, list_all, list_any, Members, mode_in, name_in, names_of, nat_le, needed, no_items, None, none_clash, number_in, number_of, Ok, only_known, Option, order_named, order_of, orders_from, orders_in, pos, purge_in, radix_in, range_in, range_tlb_by, refl, Result, Row, row_in, rows_from, serves_in, set, set as slice_set, Some, subst, suc, sym, table_in, table_of, text_of, true, width_by, width_in, width_of, widths_from, with_order, without_orders, zero, ℕ, ℤ}
+use Rattle.std.proofs.lemmas.Bool.{eqb-true, leb-true}
 use Rattle.std.proofs.lemmas.List.{drop-set-lt}
-use Rattle.std.proofs.lemmas.List.Folds.{list_all-append}
 use Rattle.std.proofs.lemmas.List.Elements.{All-nil, All-push}
-use Rattle.toml.specs.Data.{Data, Items, no_items, item, Members, get_member, as_integer}
+use Rattle.std.proofs.lemmas.List.Folds.{list_all-append}
+use Rattle.std.proofs.lemmas.Option.{same_Some}
 use Rattle.xl_model.specs.Addresses.{levels_of}
 use Rattle.xl_model.specs.declared.address.Mode.{Mode}
-use Rattle.xl_model.specs.declared.address.Mode.TheVariants as mode
 use Rattle.xl_model.specs.declared.address.Order.{Order}
-use Rattle.xl_model.specs.declared.address.Order.TheVariants as order
 use Rattle.xl_model.specs.declared.row.Table.{Table}
 use Rattle.xl_model.specs.declared.row.TlbSpec.{TlbSpec}
-use Rattle.xl_model.specs.Rows.{Row, IsRow, is_table, is_array, is_within, is_width, is_name_byte, levels_rise, none_clash}
 use Rattle.xl_config.specs.declared.fault.ConfigFault.{ConfigFault}
 use Rattle.xl_config.specs.declared.fault.KeyFault.{KeyFault}
-use Rattle.xl_config.specs.declared.fault.Rule.TheVariants as rule
 use Rattle.xl_config.specs.declared.kind.TableKind.{TableKind}
+use Rattle.xl_model.specs.declared.address.Mode.TheVariants as mode
+use Rattle.xl_model.specs.declared.address.Order.TheVariants as order
+use Rattle.xl_config.specs.declared.fault.Rule.TheVariants as rule
 use Rattle.xl_config.specs.declared.kind.TableKind.TheVariants as kind
-use Rattle.xl_config.specs.Config.{keyed}
-use Rattle.xl_config.specs.Keys.{◌>>=◌, Gives, bad, needed, checked, found, text_of, array_of, table_of, between, number_of, number_in, width_by, width_of, is_name, name_in, mode_in, kind_in, purge_in, range_tlb_by, count_items, widths_from, caches_by, caches_in}
-use Rattle.xl_config.specs.Arrays.{with_order, order_named, order_of, orders_from, orders_in, width_in, without_orders, serves_in, is_array_key, only_known, array_in, arrays_from, agree, arrays_by, arrays_in}
-use Rattle.xl_config.specs.Tables.{radix_in, hashed_in, clustered_in, cuckoo_in, range_in, table_in, is_known}
-use Rattle.xl_config.specs.Rows.{names_of, row_in, element_in, rows_from}
 
 -- what is read, if it is, keeps a rule
 abbrev pub Fits : {A : Type 0} → (A → Type 0) → Result A KeyFault → Type 0

@@ -1,17 +1,8 @@
 -- Toml's items and members beside the lists that they stand for.
-use Rattle.std.proofs.Common.{◌≡◌, ℕ, Bool, ◌&&◌, ◌||◌, List, [], ◌∷◌, length, map, suc, string_bytes, String, Global, refl, ap}
-use Rattle.std.specs.Prelude.{is_some}
-use Rattle.std.specs.List.{list_all, list_any}
+use Rattle.xl_config.proofs.Common.{◌&&◌, ◌||◌, ◌∷◌, ◌≡◌, [], all_tables, ap, as_table, Bool, bytes_eq, count_items, Global, is_some, items_view, length, List, list_all, list_any, map, members_view, names_of, only_known, refl, row_of, String, string_bytes, suc, view, ℕ}
 use Rattle.std.specs.Map.{keys_of}
-use Rattle.std.specs.Str.{bytes_eq}
-use Rattle.toml.specs.Data.{as_table}
-use Rattle.toml.specs.View.{view, items_view, members_view}
 use Rattle.toml.specs.declared.value.Value.{Value}
-use Rattle.xl_model.specs.Rows.{row_of}
 use Rattle.xl_model.specs.declared.row.Row.{Row as RowFields}
-use Rattle.xl_config.specs.Keys.{count_items}
-use Rattle.xl_config.specs.Arrays.{only_known}
-use Rattle.xl_config.specs.Rows.{all_tables, names_of}
 
 pub count_view : (vs : List Value) → count_items (items_view vs) ≡ length vs
 count_view [] = refl

@@ -1,3 +1,4 @@
+mod Common
 mod DocumentLemmas
 mod FitLemmas
 mod ItemLemmas

@@ -1,20 +1,10 @@
 -- Courses that are served part by part.
-use Rattle.std.proofs.Common.{◌≡◌, refl, sym, ap, ◌∙◌, subst, ℕ, zero, suc, ◌+◌, ◌-◌, ◌<◌, ◌≤◌, Bool, true, false, List, [], ◌∷◌, ◌++◌, append_assoc, arith}
-use Rattle.std.specs.Prelude.{Option, None, Some, Result, Ok, Err, drop, length, slice_get}
-use Rattle.std.proofs.lemmas.List.{drop_all, drop_more}
-use Rattle.std.proofs.lemmas.Option.{slice_get_within, get_or_from_slice_get}
-use Rattle.xl_model.specs.declared.fault.InputFault.{InputFault}
-use Rattle.xl_model.specs.Courses.{Accesses, Trail, at_end}
-use Rattle.xl_outside.specs.Sinks.{SinkMeaning}
+use Rattle.xl_course.proofs.Common.{◌++◌, ◌+◌, ◌-◌, ◌<◌, ◌∙◌, ◌∷◌, ◌≡◌, ◌≤◌, [], ap, append_assoc, arith, at_last, before, Bool, Course, course, course_by, drop, drop_all, drop_more, ended, Err, false, finish, found_of, Gives, HasServed, InputFault, items_of, items_of_all, length, List, Meaning, None, Numbered, Ok, Option, ran, ran_all, Reached, refl, Result, Serves, ServesPart, SinkMeaning, Skimmed, slice_get, Some, states_after, Stop, subst, suc, sym, true, zero, ℕ}
+use Rattle.std.proofs.lemmas.Option.{get_or_from_slice_get, slice_get_within}
+use Rattle.xl_model.specs.Courses.{Accesses, at_end, Trail}
+use Rattle.xl_course.proofs.ServedLemmas.{served-untold, served_cut, served_none, served_on}
 use Rattle.xl_course.specs.declared.form.Step.{Step}
-use Rattle.xl_course.specs.declared.source.Numbered.{Numbered}
-use Rattle.xl_course.specs.declared.stop.Stop.{Stop}
 use Rattle.xl_course.specs.declared.stop.Stop.TheVariants as why
-use Rattle.xl_course.specs.Sources.{Gives, found_of}
-use Rattle.xl_course.specs.Meanings.{Meaning, states_after}
-use Rattle.xl_course.specs.Courses.{Course, ended, before, items_of, items_of_all, at_last, ran, ran_all, finish, course, course_by}
-use Rattle.xl_course.specs.Serving.{HasServed, Reached, Serves, ServesPart, Skimmed}
-use Rattle.xl_course.proofs.ServedLemmas.{served_none, served_on, served_cut, served-untold}
 
 pub before-before : {I : Type 0} (xs ys : List I) (c : Course I) → before xs (before ys c) ≡ before (xs ++ ys) c
 before-before {I} xs ys c = ap (λ (zs : List I). record { items = zs; fault = c.fault }) (sym (append_assoc xs ys c.items))

@@ -1,17 +1,7 @@
 -- What the steps of a run say of its account.
-use Rattle.std.proofs.Common.{◌≡◌, ℕ, ◌+◌, ◌-◌, ◌≤◌, Bool, true, false, List, ◌++◌, length, refl, ap, sym, ◌∙◌, subst, inr, arith, length-append, append-nil}
-use Rattle.std.specs.Prelude.{Option, None, Some, Result, Ok, Err, OnOk}
-use Rattle.xl_model.specs.declared.fault.InputFault.{InputFault}
-use Rattle.xl_outside.specs.Sinks.{SinkMeaning, GoesOn, with_more, WroteFront, SinkAfter}
-use Rattle.xl_outside.proofs.SinkLemmas.{front_of_more, sink_then, goes_same}
-use Rattle.xl_course.specs.declared.stop.Stop.{Stop}
-use Rattle.xl_course.specs.declared.stop.Stop.TheVariants as why
-use Rattle.xl_course.specs.Meanings.{Meaning, states_after, tellings, joined, told_by}
-use Rattle.xl_course.specs.Courses.{Course, ended, before}
-use Rattle.xl_course.specs.Serving.{Reached, Serves}
-use Rattle.xl_course.specs.Stops.{is_all_put, StopsSource}
-use Rattle.xl_course.specs.Accounts.{Account, account, text_of, last_where, Ends, EndAfter}
+use Rattle.xl_course.proofs.Common.{◌++◌, ◌+◌, ◌-◌, ◌∙◌, ◌≡◌, ◌≤◌, Account, account, ap, append-nil, arith, before, Bool, Course, EndAfter, ended, Ends, Err, false, front_of_more, goes_same, GoesOn, InputFault, inr, is_all_put, joined, last_where, length, length-append, List, Meaning, None, Ok, OnOk, Option, Reached, refl, Result, Serves, sink_then, SinkAfter, SinkMeaning, Some, states_after, Stop, StopsSource, subst, sym, tellings, text_of, told_by, true, with_more, WroteFront, ℕ}
 use Rattle.xl_course.proofs.MeaningLemmas.{tellings-append, told-append}
+use Rattle.xl_course.specs.declared.stop.Stop.TheVariants as why
 
 -- a course of which all items were served
 abbrev whole : {I : Type 0} → List I → Option InputFault → Course I

@@ -1,22 +1,12 @@
 -- What a flush makes of the end of a run.
-use Rattle.std.proofs.Common.{◌≡◌, ℕ, Bool, true, false, List, length, ◌⊎◌, refl, sym, ap, subst, ◌∙◌, inl, inr, arith}
-use Rattle.std.specs.Prelude.{Option, Result, Ok, Err}
-use Rattle.std.proofs.lemmas.List.{take_all}
-use Rattle.xl_model.specs.declared.fault.InputFault.TheVariants as fault
-use Rattle.xl_outside.specs.Folders.{FolderMeaning, FolderAfter, Fine, ReadFailed, FileMissing, fate_by}
-use Rattle.xl_outside.proofs.FolderLemmas.{folder_then}
-use Rattle.xl_outside.specs.Sinks.{SinkMeaning, Outside, IsMore, IsFlushed, GoesOn, WroteFront, FlushAfter, with_more}
+use Rattle.xl_course.proofs.Common.{◌∙◌, ◌≡◌, ◌⊎◌, Account, ap, arith, Bool, end_flushed, Ends, EndsAs, Err, false, fate_by, FileMissing, Fine, FlushAfter, FlushesEnd, folder_then, FolderAfter, FolderLeft, FolderMeaning, front_of_more, front_written, goes_then, GoesOn, inl, inr, is_all_put, IsFlushed, IsMore, joined, length, List, Ok, Option, Outside, ReadFailed, refl, Result, SinkMeaning, status_by, Stop, stop_fate, subst, sym, take_all, text_of, true, with_more, WroteFront, ℕ}
 use Rattle.xl_outside.specs.Fronts.{with_none}
-use Rattle.xl_outside.proofs.SinkLemmas.{front_of_more, front_written, goes_then}
-use Rattle.xl_course.specs.declared.status.Status.{Status}
-use Rattle.xl_course.specs.declared.status.Status.TheVariants as status
-use Rattle.xl_course.specs.declared.stop.Stop.{Stop}
-use Rattle.xl_course.specs.declared.stop.Stop.TheVariants as why
-use Rattle.xl_course.specs.Meanings.{joined}
-use Rattle.xl_course.specs.Stops.{stop_fate, status_by, is_all_put, FolderLeft}
-use Rattle.xl_course.specs.Accounts.{Account, text_of, Ends, EndsAs, end_flushed, FlushesEnd}
-use Rattle.xl_course.proofs.MeaningLemmas.{joined-append}
 use Rattle.xl_course.proofs.EndLemmas.{front_text}
+use Rattle.xl_course.proofs.MeaningLemmas.{joined-append}
+use Rattle.xl_course.specs.declared.status.Status.{Status}
+use Rattle.xl_model.specs.declared.fault.InputFault.TheVariants as fault
+use Rattle.xl_course.specs.declared.status.Status.TheVariants as status
+use Rattle.xl_course.specs.declared.stop.Stop.TheVariants as why
 
 whole_front : (before after : Option (List ℕ)) (text : List ℕ) → after ≡ with_more before text → WroteFront before text after
 whole_front before after text h = (length text, omega arith, h ∙ ap (with_more before) (sym (take_all (length text) text (omega arith))))

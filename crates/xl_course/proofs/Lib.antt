@@ -1,3 +1,4 @@
+mod Common
 pub mod ToldLemmas
 pub mod MeaningLemmas
 pub mod ServedLemmas

@@ -1,14 +1,8 @@
 -- The line for the end of a run.
-use Rattle.std.proofs.Common.{sym, subst, List, ℕ}
-use Rattle.std.specs.Prelude.{Option, None, Some, option_map, IfSome, Result, Ok, Err}
-use Rattle.xl_model.specs.declared.fault.InputFault.{InputFault}
-use Rattle.xl_model.specs.declared.fault.InputFault.TheVariants as fault
-use Rattle.xl_outside.specs.Folders.{Files}
-use Rattle.xl_course.specs.declared.stop.Stop.{Stop}
-use Rattle.xl_course.specs.declared.stop.Stop.TheVariants as why
-use Rattle.xl_course.specs.Stops.{status_by}
+use Rattle.xl_course.proofs.Common.{Account, EndsAs, EndsWith, Err, fault_message, Files, IfSome, InputFault, List, message_by, message_of, None, Ok, Option, option_map, Result, Some, status_by, Stop, subst, sym, ℕ}
 use Rattle.xl_course.specs.Messages.{message_at}
-use Rattle.xl_course.specs.Accounts.{Account, EndsAs, EndsWith, fault_message, message_by, message_of}
+use Rattle.xl_model.specs.declared.fault.InputFault.TheVariants as fault
+use Rattle.xl_course.specs.declared.stop.Stop.TheVariants as why
 
 -- the line for the end of a run is that of its status, where the files say what the fault is
 module _ (P : List ℕ → Type 0) (fs : Option Files) (e : Files → Account) where

@@ -1,10 +1,5 @@
 -- The way that is to grow.
-use Rattle.std.proofs.Common.{◌≡◌, refl, sym, ap, ◌∙◌, ℕ, ◌+◌, ◌<◌, ◌≤◌, Bool, true, false, cond, nat_le, List, length, drop, Option, None, Some, arith}
-use Rattle.std.proofs.lemmas.List.{drop_all}
-use Rattle.std.proofs.lemmas.Bool.Decides.{nat_tests}
-use Rattle.xl_model.specs.Placing.{Candidate, candidate, smaller, to_grow}
-use Rattle.xl_way.specs.Slots.{WayState}
-use Rattle.xl_cuckoo.specs.State.{state_at, shapes}
+use Rattle.xl_cuckoo.proofs.Common.{◌+◌, ◌<◌, ◌∙◌, ◌≡◌, ◌≤◌, ap, arith, Bool, Candidate, candidate, cond, drop, drop_all, false, length, List, nat_le, nat_tests, None, Option, refl, shapes, smaller, Some, state_at, sym, to_grow, true, WayState, ℕ}
 use Rattle.xl_cuckoo.proofs.LoopLemmas.{from-here}
 
 smaller-none : (o : Option Candidate) → smaller o None ≡ o

@@ -1,23 +1,10 @@
 -- Keys that stand once: which way holds one, and what a change of one key leaves.
-use Rattle.std.proofs.Common.{◌≡◌, refl, sym, ap, ◌∙◌, subst, ℕ, zero, suc, ◌+◌, ◌<◌, ◌≤◌, ◌==◌, not, Bool, true, false, cond, ◌||◌, List, [], ◌∷◌, length, set, map, Option, None, Some, arith}
-use Rattle.std.specs.Prelude.{find, is_some, IsSome}
+use Rattle.xl_cuckoo.proofs.Common.{◌+◌, ◌<◌, ◌==◌, ◌||◌, ◌∙◌, ◌∷◌, ◌≡◌, ◌≤◌, [], AddsEntry, ap, AreOnce, arith, Bool, changed_by, cond, entries-same, entries_in, Entry, false, find, has_key, held_by, holder_from, is_held, is_some, IsSome, length, List, map, nat_tests, None, not, one_if, Option, option_or, refl, reworded, SameEntries, set, shapes, Some, state_at, subst, suc, sym, tally, true, value_of, way_at, WayShape, WayState, with_word, without_entry, without_key, word_in, word_of, zero, ℕ}
 use Rattle.std.specs.List.{list_any}
-use Rattle.std.specs.Option.{option_or}
-use Rattle.std.proofs.lemmas.Bool.Decides.{nat_tests}
-use Rattle.xl_model.specs.declared.way.Entry.{Entry}
-use Rattle.xl_model.specs.Base.{one_if}
-use Rattle.xl_model.specs.Ways.{WayShape, has_key, without_key, without_entry, reworded, with_word}
-use Rattle.xl_model.specs.Placing.{way_at, is_held, holder_from}
-use Rattle.xl_model_lemmas.specs.Sections.{tally, entries_in}
 use Rattle.xl_model_lemmas.proofs.TallyLemmas.{tally-any, tally-append}
-use Rattle.xl_model_lemmas.proofs.PlacingLemmas.{entries-same}
-use Rattle.xl_model_lemmas.proofs.WayTallyLemmas.{tally-none, tally-same, ways-without, ways-reworded}
-use Rattle.xl_way.specs.Slots.{WayState, word_in, word_of}
-use Rattle.xl_cuckoo.specs.State.{state_at, shapes, changed_by}
-use Rattle.xl_cuckoo.specs.Table.{value_of, SameEntries, AddsEntry, AreOnce}
+use Rattle.xl_model_lemmas.proofs.WayTallyLemmas.{tally-none, tally-same, ways-reworded, ways-without}
 use Rattle.xl_cuckoo.proofs.KickLemmas.{shape-at}
 use Rattle.xl_cuckoo.proofs.LoopLemmas.{value-first}
-use Rattle.xl_way.proofs.WayLemmas.{held_by}
 
 -- a way that holds a key, by number
 held-some : (key : ℕ) (w : WayShape) → is_held w key ≡ true → 1 ≤ tally (has_key key) w.entries

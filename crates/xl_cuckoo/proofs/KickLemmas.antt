@@ -1,14 +1,5 @@
 -- An entry put into a way and what stood there put back; an attempt step by step; and displacements undone.
-use Rattle.std.proofs.Common.{◌≡◌, refl, sym, ap, ◌∙◌, ℕ, zero, suc, ◌+◌, ◌<◌, ◌≤◌, List, [], ◌∷◌, ◌++◌, length, take, get_or, map, set, Option, None, Some, length-append, arith}
-use Rattle.std.specs.Prelude.{IfSome}
-use Rattle.std.proofs.Math.Seq.{take-append_seam, get_or-append_seam, take-suc}
-use Rattle.std.proofs.lemmas.List.{set-get_or, get_or-set_same, length-set, set-set, map-set, length-take-le}
-use Rattle.xl_model.specs.declared.way.Entry.{Entry}
-use Rattle.xl_model.specs.Ways.{WayShape, occupant, swapped}
-use Rattle.xl_model.specs.Placing.{way_at, put_in, next_way, Attempt, Stands, Fails, Displaced, by_occupant, attempt}
-use Rattle.xl_way.specs.Slots.{WayState}
-use Rattle.xl_cuckoo.specs.State.{no_way, state_at, shapes, with_swapped, put_at}
-use Rattle.xl_cuckoo.specs.Undo.{previous_way, in_hand, undone, keys_in_hand}
+use Rattle.xl_cuckoo.proofs.Common.{◌++◌, ◌+◌, ◌<◌, ◌∙◌, ◌∷◌, ◌≡◌, ◌≤◌, [], ap, arith, Attempt, attempt, by_occupant, Displaced, Entry, Fails, get_or, get_or-append_seam, get_or-set_same, IfSome, in_hand, keys_in_hand, length, length-append, length-set, length-take-le, List, map, map-set, next_way, no_way, None, occupant, Option, previous_way, put_at, put_in, refl, set, set-get_or, set-set, shapes, Some, Stands, state_at, suc, swapped, sym, take, take-append_seam, take-suc, undone, way_at, WayShape, WayState, with_swapped, zero, ℕ}
 
 pub map-length : {A B : Type 0} (f : A → B) (xs : List A) → length (map f xs) ≡ length xs
 map-length f [] = refl

@@ -1,3 +1,4 @@
+mod Common
 pub mod KickLemmas
 pub mod LoopLemmas
 pub mod GrowLemmas

@@ -1,21 +1,7 @@
 -- Ways read and written one after another.
-use Rattle.std.proofs.Common.{◌≡◌, refl, sym, ap, ◌∙◌, ℕ, zero, suc, ◌+◌, ◌^◌, ◌<◌, ◌≤◌, cond, List, [], ◌∷◌, ◌++◌, length, map, get_or, set, take, drop, Option, None, Some, arith}
-use Rattle.std.specs.Prelude.{find, is_some}
-use Rattle.std.specs.Option.{option_or}
-use Rattle.std.proofs.Math.Seq.{drop-cons}
-use Rattle.std.proofs.lemmas.List.{drop_all, get_or_default}
+use Rattle.xl_cuckoo.proofs.Common.{◌++◌, ◌+◌, ◌<◌, ◌^◌, ◌∙◌, ◌∷◌, ◌≡◌, ◌≤◌, [], ap, arith, changed_by, cond, drop, drop-cons, drop_all, entries_in, Entry, find, get_or, get_or_default, has_key, held_by, holder_from, is_some, length, List, map, no_way, None, Option, option_or, plus, refl, set, shapes, Some, state_at, suc, sym, take, total, value_of, WayShape, WayState, word_in, word_of, zero, ℕ}
 use Rattle.std.proofs.lemmas.List.Edits.{map_over_more}
 use Rattle.std.proofs.lemmas.List.Folds.{find-append}
-use Rattle.xl_model.specs.declared.way.Entry.{Entry}
-use Rattle.xl_model.specs.Base.{plus}
-use Rattle.xl_model.specs.Ways.{WayShape, has_key}
-use Rattle.xl_model.specs.Placing.{is_held, holder_from, total}
-use Rattle.xl_model_lemmas.specs.Sections.{entries_in}
-use Rattle.xl_model_lemmas.proofs.SameLemmas.{any-find}
-use Rattle.xl_way.specs.Slots.{WayState, word_in, word_of}
-use Rattle.xl_cuckoo.specs.State.{no_way, state_at, shapes, changed_by}
-use Rattle.xl_cuckoo.specs.Table.{value_of}
-use Rattle.xl_way.proofs.WayLemmas.{held_by}
 
 -- the ways from one on
 pub from-here : (ws : List WayState) (i : ℕ) → i < length ws → drop i ws ≡ state_at ws i ∷ drop (i + 1) ws

@@ -1,18 +1,5 @@
 -- One attempt and the growth that follows it, in the definition of placing.
-use Rattle.std.proofs.Common.{◌≡◌, refl, sym, ap, ◌∙◌, subst, ℕ, zero, suc, ◌+◌, ◌<◌, ◌==◌, ◌⊎◌, inl, inr, Bool, true, false, cond, nat_le, nat_lt, List, [], ◌∷◌, length, set, map, Option, None, Some, arith}
-use Rattle.std.proofs.lemmas.Bool.Decides.{nat_tests}
-use Rattle.std.proofs.lemmas.List.{map-set}
-use Rattle.std.proofs.Math.Seq.{map-set_same}
-use Rattle.xl_model.specs.declared.way.Entry.{Entry}
-use Rattle.xl_model.specs.declared.way.Moves.{Moves}
-use Rattle.xl_model.specs.Ways.{WayShape, slots_left, advanced, begun, opening_way}
-use Rattle.xl_model.specs.Placing.{way_at, Displaced, Attempt, Stands, Fails, attempt, start_way, Candidate, candidate, smaller, to_grow, forced, forced_moves, Placed, AtCap, after_attempt, with_growth, growths_left, placing}
-use Rattle.xl_model_lemmas.specs.Sections.{entries_of}
-use Rattle.xl_model_lemmas.proofs.PlacingLemmas.{forced-entries}
-use Rattle.xl_way.specs.Slots.{WayState}
-use Rattle.xl_cuckoo.specs.State.{state_at, shapes, with_forced}
-use Rattle.xl_cuckoo.specs.Table.{SameEntries}
-use Rattle.xl_cuckoo.specs.Steps.{IsCapped, IsGrown, with_kicks, with_undone}
+use Rattle.xl_cuckoo.proofs.Common.{◌+◌, ◌<◌, ◌==◌, ◌∙◌, ◌∷◌, ◌≡◌, ◌⊎◌, [], advanced, after_attempt, ap, arith, AtCap, Attempt, attempt, begun, Bool, Candidate, candidate, cond, Displaced, entries_of, Entry, Fails, false, forced, forced-entries, forced_moves, growths_left, inl, inr, IsCapped, IsGrown, length, List, map, map-set, map-set_same, Moves, nat_le, nat_lt, nat_tests, None, opening_way, Option, Placed, placing, refl, SameEntries, set, shapes, slots_left, smaller, Some, Stands, start_way, state_at, subst, suc, sym, to_grow, true, way_at, WayShape, WayState, with_forced, with_growth, with_kicks, with_undone, zero, ℕ}
 use Rattle.xl_cuckoo.proofs.KickLemmas.{map-length, shape-at}
 
 -- the result of the attempts of an entry

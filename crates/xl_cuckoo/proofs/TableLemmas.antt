@@ -1,14 +1,5 @@
 -- The table by its fields, after its ways were lent out and changed.
-use Rattle.std.proofs.Common.{◌≡◌, refl, sym, ap, ◌∙◌, ℕ, zero, suc, ◌+◌, ◌≤◌, List, [], ◌∷◌, ◌++◌, length, map, Vec, arith}
-use Rattle.std.specs.Vec.{with_items}
-use Rattle.std.proofs.lemmas.List.{with_items_is}
-use Rattle.xl_model.specs.Ways.{WayShape, has_key, opening_way}
-use Rattle.xl_model.specs.Placing.{Displaced}
-use Rattle.xl_model.specs.Shapes.{opening_ways}
-use Rattle.xl_model_lemmas.specs.Sections.{tally, entries_in}
-use Rattle.xl_way.specs.Slots.{WayState}
-use Rattle.xl_cuckoo.specs.State.{shapes, changed_by}
-use Rattle.xl_cuckoo.specs.Table.{CuckooState, AreOnce, IsTable}
+use Rattle.xl_cuckoo.proofs.Common.{◌++◌, ◌+◌, ◌∙◌, ◌∷◌, ◌≡◌, ◌≤◌, [], ap, AreOnce, arith, changed_by, CuckooState, Displaced, entries_in, has_key, IsTable, length, List, map, opening_way, opening_ways, refl, shapes, suc, sym, tally, Vec, WayShape, WayState, with_items, with_items_is, zero, ℕ}
 use Rattle.xl_cuckoo.proofs.LoopLemmas.{shapes-map}
 
 -- the ways that come back

@@ -1,27 +1,8 @@
 -- The bits of a section, by the counts of leaves and by a leaf that covers a page.
-use Rattle.std.proofs.Common.{◌≡◌, refl, sym, ap, ◌∙◌, ℕ, ◌+◌, ◌-◌, ◌*◌, ◌/◌, ◌%◌, ◌^◌, ◌<◌, ◌≤◌, Bool, true, false, not, ◌&&◌, List, [], ◌∷◌, nat_le, ◌==◌, Option, inl, inr, arith}
-use Rattle.std.proofs.lemmas.Bool.Decides.{nat_tests}
-use Rattle.xl_model.specs.declared.address.Order.{Order}
-use Rattle.xl_model.specs.declared.address.Order.TheVariants as order
-use Rattle.xl_model.specs.declared.leaf.Leaf.{Leaf}
-use Rattle.xl_model.specs.Addresses.{level_of, pages_of, same_order}
-use Rattle.xl_model.specs.Base.{one_if}
-use Rattle.xl_model.specs.Mapping.{covers, leaf_key}
-use Rattle.xl_model.specs.Placing.{holder_from}
-use Rattle.xl_model.specs.Sections.{Section, section_of, section_key, counts_for, holds_order, way_where}
-use Rattle.xl_model.specs.Ways.{WayShape}
-use Rattle.xl_model_lemmas.specs.Kept.{IsPlaced}
-use Rattle.xl_model_lemmas.specs.Members.{In, AllAbove, IsSorted}
-use Rattle.xl_model_lemmas.specs.Sections.{tally, counts_at, key_in, of_order, IsAligned}
-use Rattle.xl_model_lemmas.proofs.SameLemmas.{any-each}
-use Rattle.xl_model_lemmas.proofs.SectionLemmas.{counts-same}
-use Rattle.xl_model_lemmas.proofs.TallyLemmas.{tally-any}
-use Rattle.xl_sections.specs.Counted.{Count, part, count_of, word_of, IsTied}
-use Rattle.xl_sections.proofs.WordLemmas.{parts-are}
-use Rattle.xl_cuckoo_walk.specs.Coding.{section_by, word_by}
-use Rattle.xl_cuckoo_walk.specs.Plans.{is_counted, new_word}
+use Rattle.xl_cuckoo_walk.proofs.Common.{◌%◌, ◌&&◌, ◌*◌, ◌+◌, ◌-◌, ◌/◌, ◌<◌, ◌==◌, ◌^◌, ◌∙◌, ◌∷◌, ◌≡◌, ◌≤◌, [], AllAbove, any-each, ap, arith, Bool, by-fields, Count, count_of, counts-same, counts_at, counts_for, covers, false, holder_from, holds_order, In, inl, inr, is_counted, IsAligned, IsPlaced, IsSorted, IsTied, key_in, Leaf, leaf_key, level_of, List, nat_le, nat_tests, new_word, not, of_order, one_if, Option, Order, pages_of, part, parts-are, refl, same_order, section_by, section_key, section_of, sym, tally, tally-any, true, way_where, WayShape, word_by, ℕ}
+use Rattle.xl_sections.specs.Counted.{word_of}
 use Rattle.xl_cuckoo_walk.proofs.CodeLemmas.{IsWord, word-back}
-use Rattle.xl_model_lemmas.proofs.FreshSectionLemmas.{by-fields}
+use Rattle.xl_model.specs.declared.address.Order.TheVariants as order
 
 -- no more leaves lie in a stretch than it has pages
 tally-above : (q : Leaf → Bool) (top k : ℕ) (xs : List Leaf) → AllAbove k xs → IsSorted xs → ((x : Leaf) → In x xs → q x ≡ true → leaf_key x < top) → tally q xs ≤ top - (k + 1)

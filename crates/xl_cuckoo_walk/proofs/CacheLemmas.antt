@@ -1,14 +1,5 @@
 -- A cache of sections, by what is known beside its list.
-use Rattle.std.proofs.Common.{◌≡◌, refl, sym, ap, ◌∙◌, subst, ℕ, Bool, true, false, not, List, ◌∷◌, find, Option, None, Some, arith}
-use Rattle.std.specs.Prelude.{◌==◌}
-use Rattle.std.proofs.lemmas.Bool.Decides.{nat_tests}
-use Rattle.xl_model.specs.Caches.{Cached, empty_cache}
-use Rattle.xl_model.specs.Recency.{touched, without_first, purged}
-use Rattle.xl_model_lemmas.proofs.MemberLemmas.{find-passes}
-use Rattle.xl_recency.specs.declared.item.Item.{Item}
-use Rattle.xl_cuckoo_walk.specs.Coding.{has_tag, word_of_item}
-use Rattle.xl_cuckoo_walk.specs.Known.{IsFrontIf, word_known, IsKnown}
-use Rattle.xl_cuckoo_walk.specs.Plans.{touched_in, newest_in, filled}
+use Rattle.xl_cuckoo_walk.proofs.Common.{◌==◌, ◌∙◌, ◌∷◌, ◌≡◌, ap, arith, Bool, Cached, empty_cache, false, filled, find, find-passes, has_tag, IsFrontIf, IsKnown, Item, List, nat_tests, newest_in, None, not, Option, purged, refl, Some, subst, sym, touched, touched_in, true, without_first, word_known, word_of_item, ℕ}
 
 -- what a touch found is in front
 front_touched : (tag : ℕ) (xs : List Item) (o : Option Item) → find (has_tag tag) xs ≡ o → IsFrontIf tag (word_known (word_of_item o)) (touched (has_tag tag) xs)

@@ -1,20 +1,7 @@
 -- The row when the table of one order changes.
-use Rattle.std.proofs.Common.{◌≡◌, refl, sym, ◌∙◌, subst, ◌^◌, ◌<◌, ◌≤◌, Bool, true, false, List, length, arith}
-use Rattle.xl_model.specs.declared.address.Order.{Order}
+use Rattle.xl_cuckoo_walk.proofs.Common.{◌<◌, ◌^◌, ◌∙◌, ◌≡◌, ◌≤◌, AreHeld, AreOnce, arith, Bool, CuckooState, CuckooWays, entries_in, Entry, false, In, Leaf, length, List, One, Order, orders-same, refl, RowParts, same_order, SameRules, subst, sym, table_of, tags_in, true, values_in, ways_in, ways_of, WayShape, with_table, with_ways}
+use Rattle.xl_cuckoo_walk.proofs.HeldLemmas.{with-other, with-same}
 use Rattle.xl_model.specs.declared.address.Order.TheVariants as order
-use Rattle.xl_model.specs.declared.leaf.Leaf.{Leaf}
-use Rattle.xl_model.specs.declared.way.Entry.{Entry}
-use Rattle.xl_model.specs.Addresses.{same_order}
-use Rattle.xl_model.specs.Shapes.{CuckooWays, ways_of, with_ways}
-use Rattle.xl_model.specs.Ways.{WayShape}
-use Rattle.xl_model_lemmas.specs.Members.{In}
-use Rattle.xl_model_lemmas.specs.Sections.{entries_in}
-use Rattle.xl_model_lemmas.proofs.OrderLemmas.{orders-same}
-use Rattle.xl_tagged.specs.Forms.{One}
-use Rattle.xl_tagged.specs.Tagged.{AreHeld}
-use Rattle.xl_cuckoo.specs.Table.{CuckooState, AreOnce}
-use Rattle.xl_cuckoo_walk.specs.Parts.{RowParts, ways_in, values_in, tags_in, SameRules, table_of, with_table}
-use Rattle.xl_cuckoo_walk.proofs.HeldLemmas.{with-same, with-other}
 
 -- a table that an order may have beside the others
 pub record IsTableFor (p : RowParts) (o : Order) (t : CuckooState) (leaves : List Leaf) : Type 0 where

@@ -1,15 +1,6 @@
 -- Cached sections, as items.
-use Rattle.std.proofs.Common.{◌≡◌, refl, sym, ap, ◌∙◌, ℕ, ◌+◌, ◌*◌, ◌/◌, ◌%◌, ◌^◌, ◌<◌, Bool, true, false, List, map, ◌==◌, Option, None, Some, arith}
-use Rattle.std.specs.Prelude.{find}
-use Rattle.std.proofs.lemmas.Bool.Decides.{nat_tests}
+use Rattle.xl_cuckoo_walk.proofs.Common.{◌%◌, ◌*◌, ◌+◌, ◌/◌, ◌<◌, ◌==◌, ◌^◌, ◌∙◌, ◌≡◌, ap, arith, bit_in, Bool, code_of, false, find, find-none, find-passes, find-some, has_tag, hit_of, is_section, Item, List, map, nat_tests, None, one_if, Option, refl, same-tests, section_by, section_in, Some, sym, true, way_by, word_by, word_of_item, ℕ}
 use Rattle.xl_model.specs.declared.address.Order.TheVariants as order
-use Rattle.xl_model.specs.Base.{one_if}
-use Rattle.xl_model.specs.Sections.{is_section}
-use Rattle.xl_model_lemmas.proofs.MemberLemmas.{find-passes}
-use Rattle.xl_model_lemmas.proofs.RecencyLemmas.{find-some, find-none}
-use Rattle.xl_model_lemmas.proofs.SameLemmas.{same-tests}
-use Rattle.xl_recency.specs.declared.item.Item.{Item}
-use Rattle.xl_cuckoo_walk.specs.Coding.{way_by, bit_in, section_by, section_in, has_tag, word_of_item, hit_of, code_of, word_by}
 
 pub tag-same : (space block : ℕ) → block < 2 ^ 45 → (i : Item) → has_tag (space * 2 ^ 45 + block) i ≡ is_section space block (section_in i)
 tag-same space block h i = same-tests (has_tag (space * 2 ^ 45 + block) i) (is_section space block (section_in i))

@@ -1,26 +1,9 @@
 -- The row after a change whose sections were compared.
-use Rattle.std.proofs.Common.{◌≡◌, refl, sym, ap, ◌∙◌, subst, ℕ, suc, ◌+◌, ◌≤◌, Bool, true, false, List, [], ◌∷◌, ◌++◌, length, arith}
-use Rattle.std.proofs.lemmas.List.{length-map}
-use Rattle.xl_model.specs.declared.address.Order.TheVariants as order
-use Rattle.xl_model.specs.declared.leaf.Leaf.{Leaf}
-use Rattle.xl_model.specs.Base.{plus}
-use Rattle.xl_model.specs.Caches.{Cached, SectionCaches, without_items, has_changed}
-use Rattle.xl_model.specs.Recency.{purged}
-use Rattle.xl_model.specs.Sections.{Section}
-use Rattle.xl_model.specs.Shapes.{CuckooRules, CuckooWays, Cuckoo}
-use Rattle.xl_model.specs.Structures.{TableState}
-use Rattle.xl_model_lemmas.specs.Fresh.{SectionsFresh}
-use Rattle.xl_model_lemmas.specs.Kept.{IsPlaced}
-use Rattle.xl_model_lemmas.specs.Members.{In}
-use Rattle.xl_pte.specs.ReadBack.{MadeWordsReadBack}
-use Rattle.xl_recency.specs.declared.item.Item.{Item}
-use Rattle.xl_cuckoo_walk.specs.Coding.{sections_in, section_in, is_old}
-use Rattle.xl_cuckoo_walk.specs.Parts.{RowParts, ways_in, leaves_in, rules_in, row_state, IsRow}
-use Rattle.xl_cuckoo_walk.specs.Plans.{new_word, refreshed}
-use Rattle.xl_cuckoo_walk.specs.Changes.{compared, HoldsLeaves, StaysBeside}
-use Rattle.xl_cuckoo_walk.proofs.HoldLemmas.{row-holds, holds-row}
-use Rattle.xl_cuckoo_walk.proofs.PurgeLemmas.{purge-is, fresh-now, refreshed-append}
+use Rattle.xl_cuckoo_walk.proofs.Common.{◌++◌, ◌+◌, ◌∙◌, ◌∷◌, ◌≡◌, ◌≤◌, [], ap, arith, Bool, Cached, compared, Cuckoo, CuckooRules, CuckooWays, false, has_changed, HoldsLeaves, In, is_old, IsPlaced, IsRow, Item, Leaf, leaves_in, length, length-map, List, MadeWordsReadBack, new_word, plus, purged, refl, refreshed, row_state, RowParts, rules_in, Section, section_in, SectionCaches, sections_in, SectionsFresh, StaysBeside, subst, suc, sym, TableState, true, ways_in, without_items, ℕ}
+use Rattle.xl_cuckoo_walk.proofs.HoldLemmas.{holds-row, row-holds}
+use Rattle.xl_cuckoo_walk.proofs.PurgeLemmas.{fresh-now, purge-is, refreshed-append}
 use Rattle.xl_cuckoo_walk.proofs.RowLemmas.{leaves-known}
+use Rattle.xl_model.specs.declared.address.Order.TheVariants as order
 
 -- the words of sections whose keys aren't these are as they were
 pub record WordsStay (middle large : List ℕ) (p q : RowParts) : Type 0 where

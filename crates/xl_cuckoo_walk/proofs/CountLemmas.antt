@@ -1,29 +1,10 @@
 -- The counts of leaves by section when a leaf comes, goes, or gets another permission; and room for one more.
-use Rattle.std.proofs.Common.{◌≡◌, refl, sym, ap, ◌∙◌, subst, ℕ, suc, ◌+◌, ◌*◌, ◌^◌, ◌≤◌, Bool, true, false, cond, not, nat_le, ◌==◌, List, ◌∷◌, length, arith}
-use Rattle.std.specs.List.{list_any}
-use Rattle.std.proofs.lemmas.Bool.Decides.{nat_tests}
-use Rattle.xl_model.specs.declared.address.Order.{Order}
-use Rattle.xl_model.specs.declared.address.Order.TheVariants as order
-use Rattle.xl_model.specs.declared.leaf.Leaf.{Leaf}
-use Rattle.xl_model.specs.declared.perm.Perm.{Perm}
-use Rattle.xl_model.specs.Addresses.{level_of}
-use Rattle.xl_model.specs.Mapping.{leaf_key, with_leaf, without_leaf}
-use Rattle.xl_model.specs.Sections.{section_keys, section_count}
-use Rattle.xl_model_lemmas.specs.Kept.{IsPlaced}
-use Rattle.xl_model_lemmas.specs.Members.{In, IsSorted}
-use Rattle.xl_model_lemmas.specs.Sections.{tally, counts_at, key_in, of_order}
-use Rattle.xl_model_lemmas.proofs.InsertionLemmas.{without-other}
-use Rattle.xl_model_lemmas.proofs.LeafTallyLemmas.{tally-with, tally-less}
-use Rattle.xl_model_lemmas.proofs.MemberLemmas.{In-any, any-In}
-use Rattle.xl_model_lemmas.proofs.SameLemmas.{same-tests}
-use Rattle.xl_model_lemmas.proofs.SectionLemmas.{keys-In, In-keys, count-with}
-use Rattle.xl_sections.specs.Counted.{Count, CountState, AreCounts, unit, word_of, count_of, IsTied}
-use Rattle.xl_sections.specs.Noted.{HasPlace, IsRoomy, IsNoted, IsShared, IsDropped}
-use Rattle.xl_sections.proofs.KeyLemmas.{keys-count}
-use Rattle.xl_sections.proofs.WordLemmas.{word-cons, any-is}
-use Rattle.xl_cuckoo_walk.specs.Changes.{fits_by}
-use Rattle.xl_cuckoo_walk.proofs.BitLemmas.{few-in}
+use Rattle.xl_cuckoo_walk.proofs.Common.{◌*◌, ◌+◌, ◌==◌, ◌^◌, ◌∙◌, ◌∷◌, ◌≡◌, ◌≤◌, any-In, any-is, ap, AreCounts, arith, Bool, cond, Count, count-with, count_of, counts_at, CountState, false, fits_by, HasPlace, In, In-any, In-keys, IsDropped, IsNoted, IsPlaced, IsRoomy, IsShared, IsSorted, IsTied, key_in, keys-count, keys-In, Leaf, leaf_key, length, level_of, List, list_any, nat_le, nat_tests, not, of_order, Order, Perm, refl, same-tests, section_count, section_keys, subst, suc, sym, tally, true, unit, with_leaf, without-other, without_leaf, word-cons, ℕ}
+use Rattle.xl_model_lemmas.proofs.LeafTallyLemmas.{tally-less, tally-with}
+use Rattle.xl_sections.specs.Counted.{word_of}
 use Rattle.xl_tagged.proofs.CountLemmas.{unit-low}
+use Rattle.xl_cuckoo_walk.proofs.BitLemmas.{few-in}
+use Rattle.xl_model.specs.declared.address.Order.TheVariants as order
 
 -- no leaf has this leaf's place
 abbrev pub Apart : Leaf → List Leaf → Type 0

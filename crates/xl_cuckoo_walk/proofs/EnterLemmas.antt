@@ -1,46 +1,14 @@
 -- A leaf that comes: it is counted where it found a place; and where it is refused, what was forced to grow stays.
-use Rattle.std.proofs.Common.{◌≡◌, refl, sym, ap, ◌∙◌, subst, ℕ, zero, suc, ◌+◌, ◌*◌, ◌/◌, ◌%◌, ◌^◌, ◌≤◌, nat_le, Bool, true, false, ◌&&◌, List, ◌++◌, map, length, None, Err}
-use Rattle.xl_model.specs.declared.address.Order.{Order}
-use Rattle.xl_model.specs.declared.address.Order.TheVariants as order
-use Rattle.xl_model.specs.declared.leaf.Leaf.{Leaf}
-use Rattle.xl_model.specs.declared.way.Entry.{Entry}
-use Rattle.xl_model.specs.declared.way.Moves.{Moves}
-use Rattle.xl_model.specs.declared.work.NoRoom.TheVariants as why
-use Rattle.xl_model.specs.Addresses.{level_of}
-use Rattle.xl_model.specs.Base.{plus}
-use Rattle.xl_model.specs.Caches.{Cached}
-use Rattle.xl_model.specs.Changes.{Insert}
-use Rattle.xl_model.specs.Mapping.{meets_any, with_leaf}
-use Rattle.xl_model.specs.Placing.{Displaced, AtCap, no_moves}
-use Rattle.xl_model.specs.Room.{has_room}
-use Rattle.xl_model.specs.Sections.{section_count}
-use Rattle.xl_model.specs.Shapes.{CuckooRules, CuckooWays, Cuckoo, ways_of, with_ways, leaf_entry}
-use Rattle.xl_model.specs.Structures.{TableState, IsChange, work_of}
-use Rattle.xl_model.specs.Ways.{WayShape}
-use Rattle.xl_model.specs.Words.{leaf_word}
-use Rattle.xl_model_lemmas.specs.Fresh.{SectionsFresh}
-use Rattle.xl_model_lemmas.specs.Members.{In}
-use Rattle.xl_model_lemmas.specs.Sections.{entries_of, entries_in}
-use Rattle.xl_model_lemmas.proofs.FreshSectionLemmas.{section-refused}
+use Rattle.xl_cuckoo_walk.proofs.Common.{◌%◌, ◌&&◌, ◌*◌, ◌++◌, ◌+◌, ◌/◌, ◌^◌, ◌∙◌, ◌≡◌, ◌≤◌, ap, AreHeld, AtCap, Bool, Cached, CountState, Cuckoo, CuckooRules, CuckooState, CuckooWays, Displaced, entries_in, entries_of, Entry, Err, false, has_fit, has_room, HoldsLeaves, In, Insert, inserted, IsCapped, IsChange, IsEntered, IsFit, IsNoted, IsPut, IsRefused, IsRoomy, IsRow, Item, Leaf, leaf_entry, leaf_word, leaves_in, length, level_of, List, MadeWordsReadBack, map, meets_any, Moves, nat_le, no_moves, None, once-same, One, Order, order_tags, page_key, plus, refl, row_state, RowParts, rules_in, SameEntries, SameRules, section-refused, section_count, sections_in, SectionsFresh, StaysBeside, subst, suc, sym, table_of, TableState, tags_in, true, value_of, values_in, ways_at, ways_in, ways_of, WayShape, with_leaf, with_put_in, with_table, with_ways, word_list, word_of, work_of, zero, ℕ}
 use Rattle.xl_model_lemmas.proofs.PlacingLemmas.{entries-same}
-use Rattle.xl_pte.specs.ReadBack.{MadeWordsReadBack}
-use Rattle.xl_recency.specs.declared.item.Item.{Item}
-use Rattle.xl_sections.specs.Counted.{CountState}
-use Rattle.xl_sections.specs.Noted.{IsRoomy, IsNoted}
-use Rattle.xl_tagged.specs.Forms.{One}
-use Rattle.xl_tagged.specs.Tagged.{IsFit, AreHeld}
-use Rattle.xl_way.specs.Slots.{word_of}
-use Rattle.xl_cuckoo.specs.Table.{CuckooState, value_of, inserted, SameEntries}
-use Rattle.xl_cuckoo.proofs.KeyLemmas.{once-same}
-use Rattle.xl_cuckoo_walk.specs.Coding.{sections_in}
-use Rattle.xl_cuckoo_walk.specs.Parts.{RowParts, ways_at, word_list, ways_in, values_in, order_tags, tags_in, leaves_in, rules_in, row_state, SameRules, IsRow, table_of, with_table}
-use Rattle.xl_cuckoo_walk.specs.Changes.{page_key, has_fit, with_put_in, IsPut, IsCapped, HoldsLeaves, StaysBeside, IsEntered, IsRefused}
 use Rattle.xl_cuckoo_walk.proofs.BitLemmas.{and-first, and-second}
-use Rattle.xl_cuckoo_walk.proofs.ChangeLemmas.{IsTableFor, with-ways-in, ways-table}
-use Rattle.xl_cuckoo_walk.proofs.HoldLemmas.{row-holds, holds-row, parts_now, holds-changed, beside-now, by-rules, entry-key, free-key, room-leaf, roomy-leaf, entered}
+use Rattle.xl_cuckoo_walk.proofs.ChangeLemmas.{IsTableFor, ways-table, with-ways-in}
+use Rattle.xl_cuckoo_walk.proofs.HoldLemmas.{beside-now, by-rules, entered, entry-key, free-key, holds-changed, holds-row, parts_now, room-leaf, roomy-leaf, row-holds}
 use Rattle.xl_cuckoo_walk.proofs.RowLemmas.{leaves-known}
-use Rattle.xl_cuckoo_walk.proofs.VerdictLemmas.{state_by, no-space, no-place, room-both}
+use Rattle.xl_cuckoo_walk.proofs.VerdictLemmas.{no-place, no-space, room-both, state_by}
 use Rattle.xl_cuckoo_walk.proofs.WordsLemmas.{ways-by}
+use Rattle.xl_model.specs.declared.address.Order.TheVariants as order
+use Rattle.xl_model.specs.declared.work.NoRoom.TheVariants as why
 
 -- the counts beside a table that changes
 pub middle-stays : (o : Order) (t : CuckooState) (p : RowParts) → (with_table o t p).middle ≡ p.middle

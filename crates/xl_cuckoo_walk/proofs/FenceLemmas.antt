@@ -1,21 +1,7 @@
 -- Fences on cached sections.
-use Rattle.std.proofs.Common.{◌≡◌, refl, sym, ap, ◌∙◌, subst, ℕ, ◌+◌, ◌-◌, List, length, arith}
-use Rattle.std.proofs.lemmas.List.{length-map}
-use Rattle.xl_model.specs.declared.address.Order.{Order}
-use Rattle.xl_model.specs.declared.address.Order.TheVariants as order
+use Rattle.xl_cuckoo_walk.proofs.Common.{◌+◌, ◌-◌, ◌∙◌, ◌≡◌, ap, arith, Cached, caches_fenced, fence_answer, is_reached, IsFence, IsRow, Item, Leaf, leaves_in, length, length-map, List, Order, purged, purged-map, reaches_space, refl, row_state, RowParts, Section, section-fenced, section_in, sections_in, SectionsFresh, subst, sym, table_fenced, ways_in, WayShape, without_items, ℕ}
 use Rattle.xl_model.specs.declared.event.Reach.{Reach}
-use Rattle.xl_model.specs.declared.leaf.Leaf.{Leaf}
-use Rattle.xl_model.specs.Caches.{Cached, without_items, reaches_space, caches_fenced}
-use Rattle.xl_model.specs.Recency.{purged}
-use Rattle.xl_model.specs.Sections.{Section}
-use Rattle.xl_model.specs.Structures.{IsFence, fence_answer, table_fenced}
-use Rattle.xl_model.specs.Ways.{WayShape}
-use Rattle.xl_model_lemmas.specs.Fresh.{SectionsFresh}
-use Rattle.xl_model_lemmas.proofs.FreshSectionLemmas.{section-fenced}
-use Rattle.xl_model_lemmas.proofs.RecencyLemmas.{purged-map}
-use Rattle.xl_recency.specs.declared.item.Item.{Item}
-use Rattle.xl_cuckoo_walk.specs.Coding.{section_in, sections_in, is_reached}
-use Rattle.xl_cuckoo_walk.specs.Parts.{RowParts, ways_in, leaves_in, row_state, IsRow}
+use Rattle.xl_model.specs.declared.address.Order.TheVariants as order
 
 -- the sections that a fence leaves, and how many it takes
 record IsFenced (to : Reach) (c after : Cached Item) (left : ℕ) : Type 0 where

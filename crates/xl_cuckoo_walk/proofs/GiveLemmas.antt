@@ -1,45 +1,15 @@
 -- A leaf of the row gets another permission.
-use Rattle.std.proofs.Common.{◌≡◌, refl, sym, ap, ◌∙◌, subst, ℕ, ◌+◌, ◌-◌, ◌/◌, ◌%◌, ◌^◌, ◌<◌, ◌≤◌, Bool, true, false, cond, ◌||◌, ◌==◌, List, [], ◌∷◌, map, length, Some, Ok, inl, inr, arith}
-use Rattle.std.specs.List.{list_any}
-use Rattle.std.proofs.lemmas.List.{length-map}
-use Rattle.xl_model.specs.declared.address.Order.{Order}
-use Rattle.xl_model.specs.declared.address.Order.TheVariants as order
-use Rattle.xl_model.specs.declared.leaf.Leaf.{Leaf}
-use Rattle.xl_model.specs.declared.perm.Perm.{Perm}
-use Rattle.xl_model.specs.declared.way.Entry.{Entry}
-use Rattle.xl_model.specs.Base.{plus}
-use Rattle.xl_model.specs.Caches.{Cached}
-use Rattle.xl_model.specs.Changes.{Change, Protect}
-use Rattle.xl_model.specs.Mapping.{with_leaf, without_leaf}
-use Rattle.xl_model.specs.Placing.{is_held, holder_from, no_moves}
-use Rattle.xl_model.specs.Sections.{Section}
-use Rattle.xl_model.specs.Shapes.{CuckooWays, ways_of, with_ways, leaf_entry}
-use Rattle.xl_model.specs.Structures.{IsChange, work_of}
-use Rattle.xl_model.specs.Ways.{WayShape, has_key, with_word, reworded}
-use Rattle.xl_model.specs.Words.{bit_if, leaf_word}
-use Rattle.xl_model_lemmas.specs.Members.{In}
-use Rattle.xl_model_lemmas.specs.Sections.{entries_in as ways_entries}
-use Rattle.xl_model_lemmas.proofs.MemberLemmas.{map-In, In-append, In-left, In-right}
-use Rattle.xl_pte.specs.ReadBack.{MadeWordsReadBack}
-use Rattle.xl_recency.specs.declared.item.Item.{Item}
-use Rattle.xl_sections.specs.Counted.{Count, CountState}
-use Rattle.xl_tagged.specs.Steps.{given_word}
-use Rattle.xl_cuckoo.specs.Table.{CuckooState, value_of}
-use Rattle.xl_cuckoo.proofs.KeyLemmas.{once-reworded}
-use Rattle.xl_cuckoo_walk.specs.Coding.{sections_in}
-use Rattle.xl_cuckoo_walk.specs.Parts.{RowParts, ways_in, leaves_in, rules_in, row_state, SameRules, IsRow, table_of}
-use Rattle.xl_cuckoo_walk.specs.Plans.{new_word}
-use Rattle.xl_cuckoo_walk.specs.Changes.{with_word_in, page_key, AreTied, HoldsLeaves, StaysBeside}
-use Rattle.xl_cuckoo_walk.proofs.ChangeLemmas.{IsTableFor, with-ways-in, ways-table}
-use Rattle.xl_cuckoo_walk.proofs.ComparedLemmas.{WordsStay, ComparedRow, compared-row}
+use Rattle.xl_cuckoo_walk.proofs.Common.{◌%◌, ◌+◌, ◌-◌, ◌/◌, ◌<◌, ◌==◌, ◌^◌, ◌||◌, ◌∙◌, ◌∷◌, ◌≡◌, ◌≤◌, [], ap, AreTied, arith, Bool, Cached, Change, cond, Count, CountState, CuckooState, CuckooWays, Entry, false, frame-back, given_word, has_key, holder_from, HoldsLeaves, In, In-append, In-left, In-right, inl, inr, is_held, IsChange, IsRow, Item, Leaf, leaf_entry, leaf_word, leaves_in, length, length-map, List, list_any, MadeWordsReadBack, map, map-In, new_word, no_moves, Ok, once-reworded, Order, page_key, Perm, plus, Protect, refl, reworded, row_state, RowParts, rules_in, SameRules, Section, sections_in, Some, StaysBeside, subst, sym, table_of, true, value_of, entries_in as ways_entries, ways_in, ways_of, WayShape, with_leaf, with_ways, with_word, with_word_in, without_leaf, work_of, ℕ}
+use Rattle.xl_cuckoo_walk.proofs.ChangeLemmas.{IsTableFor, ways-table, with-ways-in}
+use Rattle.xl_cuckoo_walk.proofs.ComparedLemmas.{compared-row, ComparedRow, WordsStay}
 use Rattle.xl_cuckoo_walk.proofs.CountLemmas.{tied-given}
-use Rattle.xl_cuckoo_walk.proofs.HoldLemmas.{row-holds, parts_now, holds-changed, beside-now}
+use Rattle.xl_cuckoo_walk.proofs.HoldLemmas.{beside-now, holds-changed, parts_now, row-holds}
 use Rattle.xl_cuckoo_walk.proofs.NamedLemmas.{NamedLeaf}
 use Rattle.xl_cuckoo_walk.proofs.RowLemmas.{give-leaf}
-use Rattle.xl_cuckoo_walk.proofs.StepLemmas.{items_of, answered}
-use Rattle.xl_cuckoo_walk.proofs.VerdictLemmas.{state_made, given}
-use Rattle.xl_cuckoo_walk.proofs.WordsLemmas.{word-same, ways-by}
-use Rattle.xl_tagged.proofs.WholeLemmas.{bit-low, frame-back}
+use Rattle.xl_cuckoo_walk.proofs.StepLemmas.{answered, items_of}
+use Rattle.xl_cuckoo_walk.proofs.VerdictLemmas.{given, state_made}
+use Rattle.xl_cuckoo_walk.proofs.WordsLemmas.{ways-by, word-same}
+use Rattle.xl_model.specs.declared.address.Order.TheVariants as order
 
 -- another word moves no key
 any-reworded : (k key word : ℕ) (es : List Entry) → list_any (has_key k) (map (reworded key word) es) ≡ list_any (has_key k) es

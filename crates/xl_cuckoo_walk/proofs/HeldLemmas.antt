@@ -1,28 +1,8 @@
 -- What the ways hold under tags when those of one order change.
-use Rattle.std.proofs.Common.{◌≡◌, refl, sym, ap, ◌∙◌, subst, ℕ, zero, suc, ◌+◌, ◌*◌, ◌/◌, ◌%◌, ◌^◌, ◌<◌, ◌≤◌, Bool, true, false, cond, ◌&&◌, ◌==◌, List, [], ◌∷◌, ◌++◌, map, ◌⊎◌, inl, inr, arith}
-use Rattle.std.specs.Prelude.{slice_index}
-use Rattle.std.proofs.lemmas.Bool.Decides.{nat_tests}
-use Rattle.xl_model.specs.declared.address.Order.{Order}
-use Rattle.xl_model.specs.declared.address.Order.TheVariants as order
-use Rattle.xl_model.specs.declared.way.Entry.{Entry}
-use Rattle.xl_model.specs.Addresses.{level_of, same_order}
-use Rattle.xl_model.specs.Base.{one_if}
-use Rattle.xl_model.specs.Shapes.{CuckooWays, ways_of, with_ways}
-use Rattle.xl_model.specs.Ways.{WayShape, has_key, without_entry, with_word, reworded}
-use Rattle.xl_model_lemmas.specs.Members.{In}
-use Rattle.xl_model_lemmas.specs.Sections.{tally, entries_in}
-use Rattle.xl_model_lemmas.proofs.MemberLemmas.{In-left, In-right, In-append, map-In}
-use Rattle.xl_model_lemmas.proofs.OrderLemmas.{orders-same, order-same, same-level}
-use Rattle.xl_model_lemmas.proofs.SameLemmas.{same-tests}
-use Rattle.xl_model_lemmas.proofs.WayTallyLemmas.{ways-without, ways-reworded, tally-same}
-use Rattle.xl_tagged.specs.Forms.{One, word_at}
-use Rattle.xl_tagged.specs.Steps.{IsWritten}
-use Rattle.xl_tagged.proofs.HeldLemmas.{IsTagWith, IsTagWithout}
-use Rattle.xl_cuckoo.proofs.KeyLemmas.{no-value}
-use Rattle.xl_cuckoo.specs.Table.{value_of, AddsEntry, AreOnce}
-use Rattle.xl_cuckoo_walk.specs.Parts.{ways_at, word_list, values_in, order_tags, tags_in, AreKeys}
-use Rattle.xl_cuckoo_walk.proofs.ValueLemmas.{tag_is, tag-tally, tally-tag, value-out}
+use Rattle.xl_cuckoo_walk.proofs.Common.{◌%◌, ◌&&◌, ◌*◌, ◌++◌, ◌+◌, ◌/◌, ◌<◌, ◌==◌, ◌^◌, ◌∙◌, ◌∷◌, ◌≡◌, ◌≤◌, ◌⊎◌, [], AddsEntry, ap, AreKeys, AreOnce, arith, Bool, cond, CuckooWays, entries_in, Entry, false, has_key, In, In-append, In-left, In-right, inl, inr, IsTagWith, IsTagWithout, IsWritten, level_of, List, map, map-In, nat_tests, no-value, One, one_if, Order, order-same, order_tags, orders-same, refl, reworded, same-level, same-tests, same_order, slice_index, subst, suc, sym, tags_in, tally, tally-same, true, value_of, values_in, ways-reworded, ways-without, ways_at, ways_of, WayShape, with_ways, with_word, without_entry, word_at, word_list, zero, ℕ}
 use Rattle.xl_cuckoo_walk.proofs.HolderLemmas.{level-ways}
+use Rattle.xl_cuckoo_walk.proofs.ValueLemmas.{tag-tally, tag_is, tally-tag, value-out}
+use Rattle.xl_model.specs.declared.address.Order.TheVariants as order
 
 -- the ways of an order, and those of others
 pub with-same : (o : Order) (after : List WayShape) (ws : CuckooWays) → ways_of o (with_ways o after ws) ≡ after

@@ -1,48 +1,12 @@
 -- Tables and counts that hold leaves: when a leaf comes and when one goes.
-use Rattle.std.proofs.Common.{◌≡◌, refl, sym, ap, ◌∙◌, subst, ℕ, ◌+◌, ◌*◌, ◌%◌, ◌^◌, ◌<◌, ◌≤◌, nat_le, Bool, true, false, ◌&&◌, List, length, map, None, arith}
-use Rattle.std.proofs.lemmas.Bool.Decides.{nat_tests}
-use Rattle.std.proofs.lemmas.List.{length-map}
-use Rattle.xl_model.specs.declared.address.Order.{Order}
-use Rattle.xl_model.specs.declared.address.Order.TheVariants as order
-use Rattle.xl_model.specs.declared.leaf.Leaf.{Leaf}
-use Rattle.xl_model.specs.declared.way.Entry.{Entry}
-use Rattle.xl_model.specs.declared.way.Moves.{Moves}
-use Rattle.xl_model.specs.Addresses.{level_of, pages_of}
-use Rattle.xl_model.specs.Base.{one_if}
-use Rattle.xl_model.specs.Mapping.{with_leaf, without_leaf, meets_block, meets_any}
-use Rattle.xl_model.specs.Placing.{Displaced, Placed, insertion}
-use Rattle.xl_model.specs.Sections.{section_count, section_keys}
-use Rattle.xl_model.specs.Shapes.{CuckooWays, ways_of, with_ways, leaf_entry}
-use Rattle.xl_model.specs.Structures.{IsLeafFor}
-use Rattle.xl_model.specs.Ways.{WayShape, has_key, without_entry}
-use Rattle.xl_model_lemmas.specs.Fresh.{SectionsFresh}
-use Rattle.xl_model_lemmas.specs.Kept.{IsPlaced}
-use Rattle.xl_model_lemmas.specs.Members.{In}
-use Rattle.xl_model_lemmas.specs.Sections.{tally, entries_in, counts_at}
-use Rattle.xl_model_lemmas.proofs.MemberLemmas.{any-false, any-In, In-any}
-use Rattle.xl_model_lemmas.proofs.InsertionLemmas.{without-In}
+use Rattle.xl_cuckoo_walk.proofs.Common.{◌%◌, ◌&&◌, ◌*◌, ◌+◌, ◌<◌, ◌^◌, ◌∙◌, ◌≡◌, ◌≤◌, AddsEntry, aligned-frame, any-false, any-In, ap, AreHeld, AreKeys, AreOnce, AreTied, arith, Bool, counts_at, CountState, CuckooState, CuckooWays, Displaced, entries_in, Entry, false, has_fit, has_key, HoldsLeaves, In, In-any, In-keys, inserted, insertion, IsDropped, IsEntered, IsFit, IsLeafFor, IsLeft, IsNoted, IsPlaced, IsRoomy, IsRow, IsTied, keys-count, keys-In, keys-once, Leaf, leaf_entry, leaves_in, length, length-map, level_of, List, low, MadeWordsReadBack, map, meets_any, meets_block, Moves, nat_le, nat_tests, new-keys, None, once-added, once-cleared, One, one_if, Order, page_key, Placed, refl, row_state, RowParts, rules_in, SameRules, section_count, section_keys, sections_in, SectionsFresh, StaysBeside, subst, sym, table_of, tags_in, tally, true, value_of, values_in, ways-without, ways_in, ways_of, WayShape, with_leaf, with_table, with_ways, without-In, without_entry, without_leaf}
 use Rattle.xl_model_lemmas.proofs.OnceLemmas.{once-short}
-use Rattle.xl_model_lemmas.proofs.SectionLemmas.{keys-In, In-keys, keys-once}
-use Rattle.xl_model_lemmas.proofs.WayTallyLemmas.{ways-without}
-use Rattle.xl_pte.specs.ReadBack.{MadeWordsReadBack}
-use Rattle.xl_sections.specs.Counted.{CountState, IsTied}
-use Rattle.xl_sections.specs.Noted.{IsRoomy, IsNoted, IsDropped}
-use Rattle.xl_sections.proofs.KeyLemmas.{keys-count}
-use Rattle.xl_tagged.specs.Forms.{One}
-use Rattle.xl_tagged.specs.Tagged.{IsFit, AreHeld}
-use Rattle.xl_tagged.proofs.HeldLemmas.{new-keys}
-use Rattle.xl_cuckoo.specs.Table.{CuckooState, value_of, inserted, AddsEntry, AreOnce}
-use Rattle.xl_cuckoo.proofs.KeyLemmas.{once-added, once-cleared}
-use Rattle.xl_cuckoo_walk.specs.Coding.{sections_in}
-use Rattle.xl_cuckoo_walk.specs.Parts.{RowParts, ways_in, values_in, tags_in, leaves_in, rules_in, row_state, SameRules, AreKeys, IsRow, table_of, with_table}
-use Rattle.xl_cuckoo_walk.specs.Changes.{page_key, has_fit, AreTied, HoldsLeaves, StaysBeside, IsEntered, IsLeft}
 use Rattle.xl_cuckoo_walk.proofs.BitLemmas.{and-first, and-second}
-use Rattle.xl_cuckoo_walk.proofs.ChangeLemmas.{IsTableFor, with-ways-in, ways-table, rules-m2, rules-g1, few-with, each-way}
-use Rattle.xl_cuckoo_walk.proofs.CountLemmas.{Apart, tied-with, tied-less, fits-is, place-is, roomy-is}
-use Rattle.xl_cuckoo_walk.proofs.RowLemmas.{key-low, free-value, put-leaf, take-leaf, leaves-known, held-known}
-use Rattle.xl_cuckoo_walk.proofs.ValueLemmas.{tally-In, In-tally}
-use Rattle.xl_tagged.proofs.WholeLemmas.{low}
-use Rattle.xl_model_lemmas.proofs.PlaceLemmas.{aligned-frame}
+use Rattle.xl_cuckoo_walk.proofs.ChangeLemmas.{each-way, few-with, IsTableFor, rules-g1, rules-m2, ways-table, with-ways-in}
+use Rattle.xl_cuckoo_walk.proofs.CountLemmas.{Apart, fits-is, place-is, roomy-is, tied-less, tied-with}
+use Rattle.xl_cuckoo_walk.proofs.RowLemmas.{free-value, held-known, key-low, leaves-known, put-leaf, take-leaf}
+use Rattle.xl_cuckoo_walk.proofs.ValueLemmas.{In-tally, tally-In}
+use Rattle.xl_model.specs.declared.address.Order.TheVariants as order
 
 -- a row holds its leaves, and with fresh caches what holds leaves is a row
 pub row-holds : (p : RowParts) → IsRow p → HoldsLeaves p (leaves_in (ways_in p))

@@ -1,23 +1,9 @@
 -- The way that holds a key, and the word under a tag.
-use Rattle.std.proofs.Common.{◌≡◌, refl, sym, ap, ◌∙◌, ℕ, suc, ◌+◌, ◌*◌, ◌/◌, ◌%◌, ◌^◌, ◌<◌, Bool, true, false, cond, List, [], ◌∷◌, length, Option, None, Some, arith}
-use Rattle.std.specs.Prelude.{is_some, slice_index}
+use Rattle.xl_cuckoo_walk.proofs.Common.{◌%◌, ◌*◌, ◌+◌, ◌/◌, ◌<◌, ◌^◌, ◌∙◌, ◌∷◌, ◌≡◌, [], ap, arith, Bool, cond, CuckooWays, false, found_in, holder_from, is_held, is_some, leaf_read, leaf_said_by, length, level_of, List, None, none-read, One, Option, Order, pages_of, refl, slice_index, slot_of, Some, suc, sym, tag_of, true, value_of, values_in, way_at, ways_at, ways_of, WayShape, word_at, word_list, word_of, ℕ}
 use Rattle.std.specs.Option.{option_or}
-use Rattle.xl_model.specs.declared.address.Order.{Order}
-use Rattle.xl_model.specs.declared.address.Order.TheVariants as order
-use Rattle.xl_model.specs.Addresses.{level_of, pages_of}
-use Rattle.xl_model.specs.Chains.{tag_of}
-use Rattle.xl_model.specs.Placing.{way_at, is_held, holder_from}
-use Rattle.xl_model.specs.Shapes.{CuckooWays, ways_of}
-use Rattle.xl_model.specs.Ways.{WayShape}
-use Rattle.xl_tagged.specs.Forms.{One, slot_of, word_at}
-use Rattle.xl_tagged.specs.Slots.{leaf_read, found_in}
-use Rattle.xl_tagged.proofs.SlotLemmas.{none-read}
-use Rattle.xl_way.specs.Slots.{word_of}
-use Rattle.xl_cuckoo.specs.Table.{value_of}
 use Rattle.xl_cuckoo.proofs.LoopLemmas.{value-first}
-use Rattle.xl_cuckoo_walk.specs.Parts.{ways_at, word_list, values_in}
-use Rattle.xl_cuckoo_walk.specs.Plans.{leaf_said_by}
 use Rattle.xl_way.proofs.WayLemmas.{held_by}
+use Rattle.xl_model.specs.declared.address.Order.TheVariants as order
 
 -- the way that holds a key
 pub record IsHolder (i : ℕ) (ways : List WayShape) (key : ℕ) : Type 0 where

@@ -1,22 +1,11 @@
 -- A leaf that goes: it is counted no longer.
-use Rattle.std.proofs.Common.{◌≡◌, refl, sym, ap, ◌∙◌, subst, ℕ, List, map, Some}
-use Rattle.std.specs.Prelude.{IsSome}
-use Rattle.xl_model.specs.declared.address.Order.{Order}
-use Rattle.xl_model.specs.declared.address.Order.TheVariants as order
-use Rattle.xl_model.specs.declared.leaf.Leaf.{Leaf}
-use Rattle.xl_model.specs.Ways.{without_entry}
-use Rattle.xl_model.specs.Words.{leaf_word}
-use Rattle.xl_pte.specs.ReadBack.{MadeWordsReadBack}
-use Rattle.xl_sections.specs.Counted.{CountState}
-use Rattle.xl_sections.specs.Noted.{IsShared, IsDropped}
-use Rattle.xl_cuckoo.specs.Table.{CuckooState, value_of}
-use Rattle.xl_cuckoo_walk.specs.Parts.{RowParts, ways_in, leaves_in, table_of}
-use Rattle.xl_cuckoo_walk.specs.Changes.{page_key, without_key_in, AreTied, HoldsLeaves, IsLeft}
+use Rattle.xl_cuckoo_walk.proofs.Common.{◌∙◌, ◌≡◌, ap, AreTied, CountState, CuckooState, HoldsLeaves, IsDropped, IsLeft, IsShared, IsSome, Leaf, leaf_word, leaves_in, List, MadeWordsReadBack, map, Order, page_key, refl, RowParts, Some, subst, sym, table_of, value_of, ways_in, without_entry, without_key_in, ℕ}
 use Rattle.xl_cuckoo_walk.proofs.ChangeLemmas.{ways-table}
 use Rattle.xl_cuckoo_walk.proofs.CountLemmas.{shared-is}
-use Rattle.xl_cuckoo_walk.proofs.EnterLemmas.{middle-stays, large-stays}
-use Rattle.xl_cuckoo_walk.proofs.NamedLemmas.{NamedLeaf, by-name}
-use Rattle.xl_cuckoo_walk.proofs.HoldLemmas.{parts_now, entry-key, left-leaf}
+use Rattle.xl_cuckoo_walk.proofs.EnterLemmas.{large-stays, middle-stays}
+use Rattle.xl_cuckoo_walk.proofs.HoldLemmas.{entry-key, left-leaf, parts_now}
+use Rattle.xl_cuckoo_walk.proofs.NamedLemmas.{by-name, NamedLeaf}
+use Rattle.xl_model.specs.declared.address.Order.TheVariants as order
 
 module _ (back : MadeWordsReadBack) (p : RowParts) (h : HoldsLeaves p (leaves_in (ways_in p))) (space first : ℕ) (o : Order) (n : NamedLeaf p space first o) where
   abbrev leaves : List Leaf

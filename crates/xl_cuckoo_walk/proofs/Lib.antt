@@ -1,3 +1,4 @@
+mod Common
 pub mod CodeLemmas
 pub mod BitLemmas
 pub mod HolderLemmas

@@ -1,30 +1,9 @@
 -- Leaves that are looked for without loads.
-use Rattle.std.proofs.Common.{◌≡◌, refl, sym, ap, ◌∙◌, ℕ, ◌+◌, ◌*◌, ◌/◌, ◌^◌, ◌<◌, ◌≤◌, Bool, not, ◌||◌, ◌==◌, List, arith}
-use Rattle.std.specs.Prelude.{is_some}
-use Rattle.std.proofs.lemmas.Bool.Decides.{nat_tests}
-use Rattle.xl_model.specs.declared.address.Order.{Order}
-use Rattle.xl_model.specs.declared.address.Order.TheVariants as order
-use Rattle.xl_model.specs.declared.leaf.Leaf.{Leaf}
-use Rattle.xl_model.specs.Addresses.{pages_of}
-use Rattle.xl_model.specs.Mapping.{leaf_at_page, meets_any}
-use Rattle.xl_model.specs.Shapes.{CuckooWays}
-use Rattle.xl_model.specs.Structures.{IsBlock, IsPage}
-use Rattle.xl_model_lemmas.specs.Entries.{or_leaf}
-use Rattle.xl_model_lemmas.specs.Kept.{IsPlaced}
-use Rattle.xl_model_lemmas.specs.Members.{In}
-use Rattle.xl_model_lemmas.specs.Sections.{tally, of_order}
-use Rattle.xl_model_lemmas.proofs.OrderLemmas.{pages-some}
-use Rattle.xl_model_lemmas.proofs.SameLemmas.{same-tests}
-use Rattle.xl_pte.specs.ReadBack.{MadeWordsReadBack}
+use Rattle.xl_cuckoo_walk.proofs.Common.{◌*◌, ◌+◌, ◌/◌, ◌<◌, ◌==◌, ◌^◌, ◌||◌, ◌∙◌, ◌≡◌, ◌≤◌, ap, arith, at-page, Bool, counts_smaller, CuckooWays, either, found-from, found_from, found_in, from-is, In, is_counted, is_some, IsBlock, IsPage, IsPlaced, IsRow, Leaf, leaf_at_page, leaves_in, List, looked, looked_from, MadeWordsReadBack, meets-is, meets_any, not, of_order, One, or_leaf, Order, page-found, pages-some, pages_of, refl, row_state, RowParts, sym, tags_in, tally, values_in, ways_in, ℕ}
 use Rattle.xl_tagged.specs.Counted.{smaller_word}
-use Rattle.xl_tagged.specs.Forms.{One}
-use Rattle.xl_tagged.specs.Slots.{found_in, found_from}
-use Rattle.xl_tagged.proofs.FindLemmas.{at-page, found-from, from-is, meets-is, page-found, either}
-use Rattle.xl_cuckoo_walk.specs.Parts.{RowParts, ways_in, values_in, tags_in, leaves_in, row_state, IsRow}
-use Rattle.xl_cuckoo_walk.specs.Plans.{is_counted}
-use Rattle.xl_cuckoo_walk.specs.Looks.{looked, looked_from, counts_smaller}
 use Rattle.xl_cuckoo_walk.proofs.BitLemmas.{part-tied}
 use Rattle.xl_cuckoo_walk.proofs.HolderLemmas.{found-said}
+use Rattle.xl_model.specs.declared.address.Order.TheVariants as order
 
 module _ (p : RowParts) (r : IsRow p) where
   placed : (x : Leaf) → In x (leaves_in (ways_in p)) → IsPlaced x

@@ -1,21 +1,5 @@
 -- The leaf of a name, and the word that its key has.
-use Rattle.std.proofs.Common.{◌≡◌, refl, sym, ap, ◌∙◌, subst, ℕ, ◌+◌, ◌*◌, ◌/◌, ◌^◌, ◌<◌, true, false, Option, None, Some, arith}
-use Rattle.std.specs.Prelude.{is_some, slice_index, IsSome}
-use Rattle.xl_model.specs.declared.address.Order.{Order}
-use Rattle.xl_model.specs.declared.leaf.Leaf.{Leaf}
-use Rattle.xl_model.specs.declared.perm.Perm.{Perm}
-use Rattle.xl_model.specs.Addresses.{pages_of}
-use Rattle.xl_model.specs.Changes.{IsNamed}
-use Rattle.xl_model.specs.Mapping.{is_leaf, leaf_named}
-use Rattle.xl_model.specs.Shapes.{ways_of, leaf_entry}
-use Rattle.xl_model.specs.Words.{leaf_word}
-use Rattle.xl_model_lemmas.specs.Members.{In}
-use Rattle.xl_model_lemmas.proofs.MappingLemmas.{named-In, named-is}
-use Rattle.xl_model_lemmas.proofs.PlaceLemmas.{named-space, named-first, named-order}
-use Rattle.xl_pte.specs.ReadBack.{MadeWordsReadBack}
-use Rattle.xl_cuckoo.specs.Table.{value_of}
-use Rattle.xl_cuckoo_walk.specs.Parts.{RowParts, ways_in, word_list, leaves_in, row_state, IsRow}
-use Rattle.xl_cuckoo_walk.specs.Changes.{HoldsLeaves}
+use Rattle.xl_cuckoo_walk.proofs.Common.{◌*◌, ◌+◌, ◌/◌, ◌<◌, ◌^◌, ◌∙◌, ◌≡◌, ap, arith, false, HoldsLeaves, In, is_leaf, is_some, IsNamed, IsRow, IsSome, Leaf, leaf_entry, leaf_named, leaf_word, leaves_in, MadeWordsReadBack, named-first, named-In, named-is, named-order, named-space, None, Option, Order, pages_of, Perm, refl, row_state, RowParts, slice_index, Some, subst, sym, true, value_of, ways_in, ways_of, word_list, ℕ}
 use Rattle.xl_cuckoo_walk.proofs.HoldLemmas.{row-holds}
 use Rattle.xl_cuckoo_walk.proofs.RowLemmas.{leaf-value, some-value}
 

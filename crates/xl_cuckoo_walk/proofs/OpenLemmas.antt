@@ -1,23 +1,9 @@
 -- A row that is opened: nothing stands in its ways, no section is counted, and none is cached.
-use Rattle.std.proofs.Common.{◌≡◌, refl, sym, ap, subst, ℕ, zero, suc, ◌+◌, ◌/◌, ◌%◌, ◌^◌, ◌≤◌, List, [], ◌∷◌, length, get_or, inl, None, arith}
-use Rattle.std.specs.Prelude.{find, slice_index}
-use Rattle.xl_model.specs.declared.address.Order.{Order}
-use Rattle.xl_model.specs.declared.address.Order.TheVariants as order
-use Rattle.xl_model.specs.Caches.{empty_cache}
-use Rattle.xl_model.specs.Shapes.{CuckooWays, opening_ways, ways_of}
-use Rattle.xl_model.specs.Ways.{WayShape, opening_way, has_key}
-use Rattle.xl_model_lemmas.specs.Kept.{mapping_of}
-use Rattle.xl_model_lemmas.specs.Members.{In}
-use Rattle.xl_model_lemmas.specs.Sections.{tally, entries_in}
-use Rattle.xl_sections.specs.Counted.{Count, CountState, AreCounts, IsTied, count_of, word_of}
-use Rattle.xl_tagged.specs.Forms.{One}
-use Rattle.xl_tagged.specs.Slots.{leaves_under}
-use Rattle.xl_tagged.specs.Tagged.{AreHeld}
-use Rattle.xl_way.specs.Slots.{word_in, word_of as word_kept}
-use Rattle.xl_cuckoo.specs.Table.{CuckooState, value_of, opening}
-use Rattle.xl_cuckoo_walk.specs.Parts.{RowParts, IsRow, values_in, tags_in, leaves_in, ways_in, word_list, ways_at, row_state}
-use Rattle.xl_cuckoo_walk.specs.Openings.{opening_table}
+use Rattle.xl_cuckoo_walk.proofs.Common.{◌%◌, ◌+◌, ◌/◌, ◌^◌, ◌∷◌, ◌≡◌, ◌≤◌, [], ap, AreCounts, AreHeld, arith, Count, count_of, CountState, CuckooState, CuckooWays, empty_cache, entries_in, find, get_or, has_key, In, inl, IsRow, IsTied, leaves_in, leaves_under, length, List, mapping_of, None, One, opening, opening_ways, Order, refl, row_state, RowParts, slice_index, subst, suc, sym, tags_in, tally, value_of, values_in, ways_at, ways_in, ways_of, WayShape, word_in, word_of as word_kept, word_list, zero, ℕ}
 use Rattle.xl_cuckoo.proofs.TableLemmas.{opening-entries, opening-length}
+use Rattle.xl_sections.specs.Counted.{word_of}
+use Rattle.xl_cuckoo_walk.specs.Openings.{opening_table}
+use Rattle.xl_model.specs.declared.address.Order.TheVariants as order
 
 -- no order holds an entry
 abbrev AreEmpty : CuckooWays → Type 0

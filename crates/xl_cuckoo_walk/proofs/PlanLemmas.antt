@@ -1,37 +1,8 @@
 -- Probes as planned by the cached sections.
-use Rattle.std.proofs.Common.{◌≡◌, refl, sym, ap, ◌∙◌, subst, ℕ, ◌+◌, ◌*◌, ◌/◌, ◌%◌, ◌^◌, ◌<◌, ◌≤◌, Bool, true, false, cond, ◌&&◌, ◌||◌, List, length, nat_le, ◌==◌, Option, None, Some, inl, inr, ◌⊎◌, arith}
-use Rattle.std.specs.Prelude.{find, is_some, slice_index}
-use Rattle.std.proofs.lemmas.Bool.Decides.{nat_tests}
-use Rattle.xl_model.specs.declared.address.Order.{Order}
+use Rattle.xl_cuckoo_walk.proofs.Common.{◌%◌, ◌&&◌, ◌*◌, ◌+◌, ◌/◌, ◌<◌, ◌==◌, ◌^◌, ◌||◌, ◌∙◌, ◌≡◌, ◌≤◌, ◌⊎◌, any-In, ap, AreHeld, arith, Bool, Cached, cond, counts_for, covers, CuckooWays, false, find, find-In, find-passes, found-is, has_leaves, holder_from, holds, holds_order, In, In-any, inl, inr, is_section, is_some, IsIn, Leaf, leaf-some, leaf_said_by, leaf_tag, leaf_word, leaves_possible, length, level-low, level_of, List, loads_by, MadeWordsReadBack, meets_block, nat_le, nat_tests, None, none-any, One, only, Option, Order, order-same, orders-same, own_section, pages-some, pages_of, plan_at, plan_by, plan_of, probes, refl, same_order, Section, section_key, section_of, section_of_page, SectionFresh, SectionsFresh, slice_index, slot_of, Some, subst, sym, tag_of, tags_in, true, value_by, value_of, values_in, way_at, way_known, way_told, way_where, ways_of, WayShape, word_at, word_list, word_of, ℕ}
+use Rattle.xl_cuckoo_walk.proofs.BitLemmas.{and-first, and-second, counts-covered}
+use Rattle.xl_cuckoo_walk.proofs.HolderLemmas.{found-said, holder, IsHolder, word-under}
 use Rattle.xl_model.specs.declared.address.Order.TheVariants as order
-use Rattle.xl_model.specs.declared.leaf.Leaf.{Leaf}
-use Rattle.xl_model.specs.Addresses.{level_of, pages_of, same_order}
-use Rattle.xl_model.specs.Chains.{tag_of, leaf_tag}
-use Rattle.xl_model.specs.Mapping.{covers, meets_block}
-use Rattle.xl_model.specs.Sections.{Section, section_of, section_key, counts_for, holds_order, holds, way_where, is_section}
-use Rattle.xl_model.specs.Placing.{holder_from, way_at}
-use Rattle.xl_model.specs.Ways.{WayShape}
-use Rattle.xl_model.specs.Words.{leaf_word}
-use Rattle.xl_model.specs.Walks.{leaves_possible, way_known, probes, section_of_page}
-use Rattle.xl_model.specs.Shapes.{CuckooWays, ways_of}
-use Rattle.xl_model.specs.Caches.{Cached}
-use Rattle.xl_model_lemmas.specs.Fresh.{has_leaves, SectionFresh, SectionsFresh}
-use Rattle.xl_model_lemmas.specs.Members.{In}
-use Rattle.xl_model_lemmas.proofs.MemberLemmas.{In-any, any-In, find-In, find-passes}
-use Rattle.xl_model_lemmas.proofs.OrderLemmas.{level-low, pages-some, orders-same, order-same}
-use Rattle.xl_model_lemmas.proofs.SameLemmas.{none-any}
-use Rattle.xl_model_lemmas.proofs.SearchLemmas.{only}
-use Rattle.xl_pte.specs.ReadBack.{MadeWordsReadBack}
-use Rattle.xl_tagged.specs.Forms.{One, slot_of, word_at}
-use Rattle.xl_tagged.specs.Tagged.{AreHeld}
-use Rattle.xl_tagged.proofs.FindLemmas.{found-is}
-use Rattle.xl_tagged.proofs.SlotLemmas.{leaf-some}
-use Rattle.xl_way.specs.Slots.{word_of}
-use Rattle.xl_cuckoo.specs.Table.{value_of}
-use Rattle.xl_cuckoo_walk.specs.Parts.{values_in, tags_in, word_list}
-use Rattle.xl_cuckoo_walk.specs.Plans.{plan_of, plan_by, plan_at, way_told, own_section, value_by, IsIn, loads_by, leaf_said_by}
-use Rattle.xl_cuckoo_walk.proofs.BitLemmas.{counts-covered, and-first, and-second}
-use Rattle.xl_cuckoo_walk.proofs.HolderLemmas.{IsHolder, holder, word-under, found-said}
 
 -- a cached section that is found is that of the page, and has leaves
 pub record IsHit (size : Order) (s page : ℕ) (leaves : List Leaf) (ws : CuckooWays) (z : Section) : Type 0 where

@@ -1,24 +1,5 @@
 -- The purge of a few keys is the definition's purge of all sections that a change makes untrue.
-use Rattle.std.proofs.Common.{◌≡◌, refl, sym, ap, ◌∙◌, subst, ℕ, zero, suc, ◌+◌, ◌/◌, ◌%◌, ◌^◌, ◌<◌, Bool, true, false, not, ◌&&◌, ◌||◌, List, [], ◌∷◌, ◌++◌, map, drop, ◌==◌, Option, None, Some, inl, inr, ◌⊎◌, arith}
-use Rattle.std.specs.Prelude.{slice_get}
-use Rattle.std.proofs.lemmas.Bool.Decides.{nat_tests}
-use Rattle.xl_model.specs.declared.address.Order.{Order}
-use Rattle.xl_model.specs.declared.leaf.Leaf.{Leaf}
-use Rattle.xl_model.specs.Base.{same_bit}
-use Rattle.xl_model.specs.Placing.{Displaced}
-use Rattle.xl_model.specs.Recency.{purged}
-use Rattle.xl_model.specs.Caches.{Cached, without_items, has_changed}
-use Rattle.xl_model.specs.Sections.{Section, section_of, section_key, same_way, same_section}
-use Rattle.xl_model.specs.Shapes.{CuckooWays, ways_of}
-use Rattle.xl_model_lemmas.specs.Fresh.{SectionsFresh}
-use Rattle.xl_model_lemmas.specs.Kept.{IsPlaced}
-use Rattle.xl_model_lemmas.specs.Members.{In, IsSorted}
-use Rattle.xl_model_lemmas.proofs.FreshSectionLemmas.{sections-same, section-after}
-use Rattle.xl_model_lemmas.proofs.MemberLemmas.{In-map}
-use Rattle.xl_recency.specs.declared.item.Item.{Item}
-use Rattle.xl_sections.specs.Counted.{Count, IsTied}
-use Rattle.xl_cuckoo_walk.specs.Coding.{way_by, section_by, section_in, sections_in, is_old}
-use Rattle.xl_cuckoo_walk.specs.Plans.{new_word, refreshed, keys_from, key_told}
+use Rattle.xl_cuckoo_walk.proofs.Common.{◌%◌, ◌&&◌, ◌++◌, ◌+◌, ◌/◌, ◌<◌, ◌==◌, ◌^◌, ◌||◌, ◌∙◌, ◌∷◌, ◌≡◌, ◌⊎◌, [], ap, arith, Bool, Cached, Count, CuckooWays, Displaced, drop, false, has_changed, In, In-map, inl, inr, is_old, IsPlaced, IsSorted, IsTied, Item, key_told, keys_from, Leaf, List, map, nat_tests, new_word, None, not, Option, Order, purged, refl, refreshed, same_bit, same_section, same_way, Section, section-after, section_by, section_in, section_key, section_of, sections-same, sections_in, SectionsFresh, slice_get, Some, subst, suc, sym, true, way_by, ways_of, without_items, zero, ℕ}
 use Rattle.xl_cuckoo_walk.proofs.BitLemmas.{written-is}
 
 -- one cut of several tests

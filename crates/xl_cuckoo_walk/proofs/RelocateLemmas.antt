@@ -1,41 +1,13 @@
 -- A leaf that moves: it comes to its new place, and then goes from its old one.
-use Rattle.std.proofs.Common.{◌≡◌, refl, sym, ap, ◌∙◌, subst, ℕ, ◌+◌, ◌*◌, ◌/◌, ◌%◌, ◌^◌, ◌<◌, ◌≤◌, nat_le, Bool, true, false, ◌&&◌, List, [], ◌∷◌, ◌++◌, map, Option, None, Some, Err, arith}
-use Rattle.std.specs.Prelude.{find, is_some}
-use Rattle.xl_model.specs.declared.address.Order.{Order}
-use Rattle.xl_model.specs.declared.address.Order.TheVariants as order
-use Rattle.xl_model.specs.declared.leaf.Leaf.{Leaf}
-use Rattle.xl_model.specs.declared.way.Moves.{Moves}
-use Rattle.xl_model.specs.declared.work.Refused.{Refused}
-use Rattle.xl_model.specs.Addresses.{level_of, pages_of, same_order}
-use Rattle.xl_model.specs.Base.{plus}
-use Rattle.xl_model.specs.Caches.{Cached}
-use Rattle.xl_model.specs.Changes.{Change, Insert, Relocate, at_page, changed, with_new, without_old, with_both}
-use Rattle.xl_model.specs.Mapping.{covers, is_leaf, leaf_key, leaf_at_page, leaf_named, meets_any, with_leaf, without_leaf}
-use Rattle.xl_model.specs.Room.{room_for, has_room}
-use Rattle.xl_model.specs.Sections.{Section, section_count}
-use Rattle.xl_model.specs.Shapes.{CuckooRules, CuckooWays, Cuckoo, ways_of, with_ways, ways_taken, leaf_entry}
-use Rattle.xl_model.specs.Structures.{TableState, IsBlock, IsPage, IsLeafFor, IsChange}
-use Rattle.xl_model.specs.Ways.{without_entry}
-use Rattle.xl_model.specs.Words.{leaf_word}
-use Rattle.xl_model_lemmas.specs.Members.{In}
-use Rattle.xl_model_lemmas.proofs.InsertionLemmas.{stays-with}
-use Rattle.xl_model_lemmas.proofs.MappingLemmas.{named-is}
-use Rattle.xl_model_lemmas.proofs.MemberLemmas.{In-left, In-right, find-only, find-None}
-use Rattle.xl_model_lemmas.proofs.PlaceLemmas.{first-covered, covers-meets}
+use Rattle.xl_cuckoo_walk.proofs.Common.{◌%◌, ◌&&◌, ◌*◌, ◌++◌, ◌+◌, ◌/◌, ◌<◌, ◌^◌, ◌∙◌, ◌∷◌, ◌≡◌, ◌≤◌, [], ap, at_page, Bool, Cached, Change, changed, compared, covers, covers-meets, Cuckoo, CuckooRules, CuckooWays, Err, false, find, find-None, find-only, first-covered, frame-fits, has_room, HoldsLeaves, In, In-left, In-right, Insert, is_leaf, is_some, IsBlock, IsChange, IsEntered, IsFit, IsLeafFor, IsLeft, IsPage, IsRefused, IsRow, keys_from, keys_if, keys_moved, Leaf, leaf_at_page, leaf_entry, leaf_key, leaf_named, leaf_word, leaves_in, List, MadeWordsReadBack, map, meets_any, Moves, named-is, nat_le, None, Option, Order, page_key, plus, refl, Refused, Relocate, room_for, row_state, RowParts, rules_in, same_order, Section, section_count, sections_in, Some, stays-with, StaysBeside, subst, sym, table_of, TableState, true, ways_in, ways_of, ways_taken, with_both, with_leaf, with_new, with_ways, without_entry, without_leaf, without_old, ℕ}
 use Rattle.xl_model_lemmas.proofs.SortedLemmas.{with-without}
-use Rattle.xl_pte.specs.ReadBack.{MadeWordsReadBack}
-use Rattle.xl_tagged.specs.Tagged.{IsFit}
-use Rattle.xl_cuckoo_walk.specs.Coding.{sections_in}
-use Rattle.xl_cuckoo_walk.specs.Parts.{RowParts, ways_in, leaves_in, rules_in, row_state, IsRow, table_of}
-use Rattle.xl_cuckoo_walk.specs.Plans.{keys_from}
-use Rattle.xl_cuckoo_walk.specs.Changes.{page_key, keys_if, keys_moved, compared, HoldsLeaves, StaysBeside, IsEntered, IsRefused, IsLeft}
-use Rattle.xl_cuckoo_walk.proofs.ComparedLemmas.{WordsStay, ComparedRow, compared-row, compared-twice}
-use Rattle.xl_cuckoo_walk.proofs.NamedLemmas.{NamedLeaf, named-held, by-name, to-name}
-use Rattle.xl_cuckoo_walk.proofs.HoldLemmas.{row-holds, apart-leaf, fit-leaf, free-now}
+use Rattle.xl_cuckoo_walk.proofs.ComparedLemmas.{compared-row, compared-twice, ComparedRow, WordsStay}
+use Rattle.xl_cuckoo_walk.proofs.HoldLemmas.{apart-leaf, fit-leaf, free-now, row-holds}
+use Rattle.xl_cuckoo_walk.proofs.NamedLemmas.{by-name, named-held, NamedLeaf, to-name}
 use Rattle.xl_cuckoo_walk.proofs.RowLemmas.{leaves-known}
-use Rattle.xl_cuckoo_walk.proofs.StepLemmas.{SteppedRow, answered, words-left, keys_entered, words-entered, entered-room}
-use Rattle.xl_cuckoo_walk.proofs.VerdictLemmas.{state_made, made_answer, made, refused-same, room-both}
-use Rattle.xl_tagged.proofs.WholeLemmas.{frame-fits}
+use Rattle.xl_cuckoo_walk.proofs.StepLemmas.{answered, entered-room, keys_entered, SteppedRow, words-entered, words-left}
+use Rattle.xl_cuckoo_walk.proofs.VerdictLemmas.{made, made_answer, refused-same, room-both, state_made}
+use Rattle.xl_model.specs.declared.address.Order.TheVariants as order
 
 -- the leaf of a name is the one that its first page finds
 pub named-found : (p : RowParts) → IsRow p → (space first : ℕ) (o : Order) (n : NamedLeaf p space first o) → leaf_at_page space first (row_state p).leaves ≡ Some n.leaf

@@ -1,35 +1,9 @@
 -- The leaves of the row when a leaf comes, goes, or gets another permission.
-use Rattle.std.proofs.Common.{◌≡◌, refl, sym, ap, ◌∙◌, subst, ℕ, ◌+◌, ◌*◌, ◌/◌, ◌%◌, ◌^◌, ◌<◌, false, List, map, Option, None, Some, arith}
-use Rattle.std.specs.Prelude.{find, slice_index, IsSome}
-use Rattle.std.proofs.lemmas.Bool.Decides.{nat_tests}
-use Rattle.xl_model.specs.declared.address.Order.{Order}
-use Rattle.xl_model.specs.declared.address.Order.TheVariants as order
-use Rattle.xl_model.specs.declared.leaf.Leaf.{Leaf}
-use Rattle.xl_model.specs.declared.perm.Perm.{Perm}
-use Rattle.xl_model.specs.declared.way.Entry.{Entry}
-use Rattle.xl_model.specs.Addresses.{level_of, pages_of}
-use Rattle.xl_model.specs.Chains.{leaf_tag}
-use Rattle.xl_model.specs.Mapping.{with_leaf, without_leaf, meets_block}
-use Rattle.xl_model.specs.Shapes.{CuckooWays, ways_of, with_ways, leaf_entry}
-use Rattle.xl_model.specs.Ways.{WayShape, has_key, without_entry, with_word}
-use Rattle.xl_model.specs.Words.{leaf_word}
-use Rattle.xl_model_lemmas.specs.Kept.{IsPlaced}
-use Rattle.xl_model_lemmas.specs.Members.{In}
-use Rattle.xl_model_lemmas.specs.Sections.{entries_in}
-use Rattle.xl_model_lemmas.proofs.MemberLemmas.{find-In, find-passes, In-map}
-use Rattle.xl_model_lemmas.proofs.SameLemmas.{both}
+use Rattle.xl_cuckoo_walk.proofs.Common.{◌%◌, ◌*◌, ◌+◌, ◌/◌, ◌<◌, ◌^◌, ◌∙◌, ◌≡◌, AddsEntry, ap, AreHeld, AreKeys, AreOnce, arith, both, CuckooWays, entries_in, Entry, false, find, find-In, find-passes, has_key, In, In-map, IsFit, IsPlaced, IsSome, known-leaves, Leaf, leaf-some, leaf_entry, leaf_tag, leaf_word, leaves_in, level_of, List, MadeWordsReadBack, map, meets_block, nat_tests, None, once-added, once-cleared, once-reworded, One, Option, Order, order_tags, pages_of, Perm, put-held, refl, slice_index, slot_of, Some, subst, sym, tags_in, take-held, value_of, values_in, ways_of, WayShape, with-given, with-new, with_leaf, with_ways, with_word, without-old, without_entry, without_leaf, word_in, word_list, word_of, ℕ}
 use Rattle.xl_model_lemmas.proofs.TagLemmas.{tag-meets}
-use Rattle.xl_pte.specs.ReadBack.{MadeWordsReadBack}
-use Rattle.xl_tagged.specs.Forms.{One, slot_of}
-use Rattle.xl_tagged.specs.Tagged.{IsFit, AreHeld}
-use Rattle.xl_tagged.proofs.HeldLemmas.{put-held, take-held, with-new, without-old, with-given}
-use Rattle.xl_tagged.proofs.SlotLemmas.{leaf-some, known-leaves}
-use Rattle.xl_way.specs.Slots.{word_in, word_of}
-use Rattle.xl_cuckoo.specs.Table.{value_of, AddsEntry, AreOnce}
-use Rattle.xl_cuckoo.proofs.KeyLemmas.{once-added, once-cleared, once-reworded}
-use Rattle.xl_cuckoo_walk.specs.Parts.{word_list, values_in, order_tags, tags_in, leaves_in, AreKeys}
-use Rattle.xl_cuckoo_walk.proofs.ValueLemmas.{value-added, value-kept, value-out, value-left, value-other, value-reworded}
-use Rattle.xl_cuckoo_walk.proofs.HeldLemmas.{tag_with, values-before, written, tags-to, tag-with, tag-without, tag-reworded}
+use Rattle.xl_cuckoo_walk.proofs.HeldLemmas.{tag-reworded, tag-with, tag-without, tag_with, tags-to, values-before, written}
+use Rattle.xl_cuckoo_walk.proofs.ValueLemmas.{value-added, value-kept, value-left, value-other, value-out, value-reworded}
+use Rattle.xl_model.specs.declared.address.Order.TheVariants as order
 
 -- a leaf's key
 pub key-low : (x : Leaf) → IsPlaced x → (leaf_entry x).key < 2 ^ 60

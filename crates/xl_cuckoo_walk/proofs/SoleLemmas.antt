@@ -1,26 +1,9 @@
 -- A walk of a page of which the sections in front leave one order alone.
-use Rattle.std.proofs.Common.{◌≡◌, refl, sym, ap, ◌∙◌, subst, ℕ, suc, ◌+◌, ◌-◌, ◌*◌, ◌/◌, ◌%◌, ◌^◌, ◌<◌, Bool, true, false, Option, None, Some, ◌==◌, arith}
-use Rattle.std.specs.Prelude.{find, is_some}
-use Rattle.std.proofs.lemmas.Bool.Decides.{nat_tests}
-use Rattle.xl_model.specs.declared.address.Order.{Order}
-use Rattle.xl_model.specs.declared.address.Order.TheVariants as order
-use Rattle.xl_model.specs.declared.leaf.Leaf.{Leaf}
-use Rattle.xl_model.specs.Addresses.{pages_of}
-use Rattle.xl_model.specs.Caches.{Cached}
-use Rattle.xl_model.specs.Shapes.{ways_of}
-use Rattle.xl_model.specs.Walks.{fills_m2}
-use Rattle.xl_model_lemmas.specs.Entries.{or_leaf}
-use Rattle.xl_pte.specs.ReadBack.{MadeWordsReadBack}
-use Rattle.xl_recency.specs.declared.item.Item.{Item}
-use Rattle.xl_cuckoo.specs.Table.{CuckooState}
-use Rattle.xl_cuckoo_walk.specs.declared.plan.Plan.{Plan}
-use Rattle.xl_cuckoo_walk.specs.declared.plan.Plan.TheVariants as plan
-use Rattle.xl_cuckoo_walk.specs.Coding.{has_tag, word_of_item, way_by, hit_of}
-use Rattle.xl_cuckoo_walk.specs.Known.{IsFrontIf}
-use Rattle.xl_cuckoo_walk.specs.Parts.{RowParts, ways_in, IsRow}
-use Rattle.xl_cuckoo_walk.specs.Plans.{plan_of, value_by, probed, IsIn, leaf_said_by, new_word, touched_in, filled}
+use Rattle.xl_cuckoo_walk.proofs.Common.{◌%◌, ◌*◌, ◌+◌, ◌-◌, ◌/◌, ◌<◌, ◌==◌, ◌^◌, ◌∙◌, ◌≡◌, ap, arith, Bool, Cached, CuckooState, false, filled, fills_m2, find, has_tag, hit_of, is_some, IsFrontIf, IsIn, IsRow, Item, Leaf, leaf_said_by, MadeWordsReadBack, nat_tests, new_word, None, Option, or_leaf, Order, pages_of, Plan, plan_of, probed, refl, RowParts, Some, subst, suc, sym, touched_in, true, value_by, way_by, ways_in, ways_of, word_of_item, ℕ}
+use Rattle.xl_cuckoo_walk.proofs.WalkLemmas.{IsWalked, large_key, middle_key, plan-inside, steps-walked}
 use Rattle.xl_cuckoo_walk.specs.Soles.{ArePlans}
-use Rattle.xl_cuckoo_walk.proofs.WalkLemmas.{middle_key, large_key, IsWalked, steps-walked, plan-inside}
+use Rattle.xl_model.specs.declared.address.Order.TheVariants as order
+use Rattle.xl_cuckoo_walk.specs.declared.plan.Plan.TheVariants as plan
 
 -- how the orders are probed
 pub small-plans : (middle large : ℕ) → middle % 8 ≡ 1 → large % 2 ≡ 1 → ArePlans middle large plan.Every plan.Skip plan.Skip

@@ -1,35 +1,11 @@
 -- A row after a leaf came or went, with the sections compared that may have changed.
-use Rattle.std.proofs.Common.{◌≡◌, refl, sym, ap, ◌∙◌, subst, ℕ, ◌+◌, ◌-◌, ◌≤◌, nat_le, true, false, ◌&&◌, List, [], ◌∷◌, ◌++◌, length, map, Result, Ok, arith}
-use Rattle.xl_model.specs.declared.address.Order.{Order}
+use Rattle.xl_cuckoo_walk.proofs.Common.{◌&&◌, ◌++◌, ◌+◌, ◌-◌, ◌∙◌, ◌∷◌, ◌≡◌, ◌≤◌, [], ap, arith, Cached, Change, changed, compared, Count, Cuckoo, CuckooWays, false, has_room, HoldsLeaves, In, Insert, IsChange, IsEntered, IsFit, IsLeafFor, IsLeft, IsNamed, IsRow, IsTied, keys_from, keys_if, keys_moved, Leaf, leaf_entry, leaves_in, length, List, MadeWordsReadBack, map, meets_any, Moves, nat_le, new_word, no_moves, Ok, Order, page_key, plus, refl, Refused, Remove, Result, row_state, RowParts, rules_in, same_order, Section, section_count, sections_in, subst, sym, table_of, TableState, true, ways_in, ways_of, WayShape, with_leaf, with_ways, without_entry, without_leaf, Work, work_of, ℕ}
+use Rattle.xl_cuckoo_walk.proofs.ComparedLemmas.{cached-items, compared-row, compared-twice, ComparedRow, WordsStay}
+use Rattle.xl_cuckoo_walk.proofs.HoldLemmas.{apart-leaf, entry-key, fit-leaf, free-now, row-holds}
+use Rattle.xl_cuckoo_walk.proofs.NamedLemmas.{by-name, named-leaf, NamedLeaf}
+use Rattle.xl_cuckoo_walk.proofs.VerdictLemmas.{made, made_answer, removed, room-both, state_made}
+use Rattle.xl_cuckoo_walk.proofs.WordsLemmas.{words-less, words-with}
 use Rattle.xl_model.specs.declared.address.Order.TheVariants as order
-use Rattle.xl_model.specs.declared.leaf.Leaf.{Leaf}
-use Rattle.xl_model.specs.declared.way.Moves.{Moves}
-use Rattle.xl_model.specs.declared.work.Refused.{Refused}
-use Rattle.xl_model.specs.declared.work.Work.{Work}
-use Rattle.xl_model.specs.Addresses.{same_order}
-use Rattle.xl_model.specs.Base.{plus}
-use Rattle.xl_model.specs.Caches.{Cached}
-use Rattle.xl_model.specs.Changes.{Change, Insert, Remove, IsNamed, changed}
-use Rattle.xl_model.specs.Mapping.{meets_any, with_leaf, without_leaf}
-use Rattle.xl_model.specs.Placing.{no_moves}
-use Rattle.xl_model.specs.Room.{has_room}
-use Rattle.xl_model.specs.Sections.{Section, section_count}
-use Rattle.xl_model.specs.Shapes.{CuckooWays, Cuckoo, ways_of, with_ways, leaf_entry}
-use Rattle.xl_model.specs.Structures.{TableState, IsChange, IsLeafFor, work_of}
-use Rattle.xl_model.specs.Ways.{WayShape, without_entry}
-use Rattle.xl_model_lemmas.specs.Members.{In}
-use Rattle.xl_pte.specs.ReadBack.{MadeWordsReadBack}
-use Rattle.xl_sections.specs.Counted.{IsTied, Count}
-use Rattle.xl_tagged.specs.Tagged.{IsFit}
-use Rattle.xl_cuckoo_walk.specs.Coding.{sections_in}
-use Rattle.xl_cuckoo_walk.specs.Parts.{RowParts, ways_in, leaves_in, rules_in, row_state, IsRow, table_of}
-use Rattle.xl_cuckoo_walk.specs.Plans.{new_word, keys_from}
-use Rattle.xl_cuckoo_walk.specs.Changes.{page_key, keys_if, keys_moved, compared, HoldsLeaves, IsEntered, IsLeft}
-use Rattle.xl_cuckoo_walk.proofs.ComparedLemmas.{WordsStay, ComparedRow, compared-row, compared-twice, cached-items}
-use Rattle.xl_cuckoo_walk.proofs.NamedLemmas.{NamedLeaf, named-leaf, by-name}
-use Rattle.xl_cuckoo_walk.proofs.HoldLemmas.{row-holds, entry-key, apart-leaf, fit-leaf, free-now}
-use Rattle.xl_cuckoo_walk.proofs.VerdictLemmas.{state_made, made_answer, made, removed, room-both}
-use Rattle.xl_cuckoo_walk.proofs.WordsLemmas.{words-with, words-less}
 
 -- how many sections are cached
 abbrev pub items_of : RowParts → ℕ

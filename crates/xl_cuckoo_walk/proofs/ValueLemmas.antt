@@ -1,20 +1,5 @@
 -- Words under keys in ways, by how often entries pass tests: with an entry more, without one, and with another word.
-use Rattle.std.proofs.Common.{◌≡◌, refl, sym, ap, ◌∙◌, subst, ℕ, ◌+◌, ◌*◌, ◌^◌, ◌≤◌, Bool, true, false, cond, not, ◌&&◌, ◌==◌, List, [], ◌∷◌, map, inl, inr, Option, None, Some, arith}
-use Rattle.std.specs.Prelude.{find, IsSome}
-use Rattle.std.proofs.lemmas.Bool.Decides.{nat_tests}
-use Rattle.xl_model.specs.declared.address.Order.{Order}
-use Rattle.xl_model.specs.declared.way.Entry.{Entry}
-use Rattle.xl_model.specs.Addresses.{level_of}
-use Rattle.xl_model.specs.Base.{one_if}
-use Rattle.xl_model.specs.Ways.{WayShape, has_key, without_entry, with_word, reworded}
-use Rattle.xl_model_lemmas.specs.Members.{In}
-use Rattle.xl_model_lemmas.specs.Sections.{tally, entries_in}
-use Rattle.xl_model_lemmas.proofs.MemberLemmas.{find-In, find-passes, find-None, any-In, map-In, In-map}
-use Rattle.xl_model_lemmas.proofs.TallyLemmas.{tally-any}
-use Rattle.xl_model_lemmas.proofs.WayTallyLemmas.{tally-same, ways-without, ways-reworded}
-use Rattle.xl_way.specs.Slots.{word_in, word_of}
-use Rattle.xl_cuckoo.specs.Table.{value_of, AddsEntry, AreOnce}
-use Rattle.xl_cuckoo_walk.specs.Parts.{order_tags}
+use Rattle.xl_cuckoo_walk.proofs.Common.{◌&&◌, ◌*◌, ◌+◌, ◌==◌, ◌^◌, ◌∙◌, ◌∷◌, ◌≡◌, ◌≤◌, [], AddsEntry, any-In, ap, AreOnce, arith, Bool, cond, entries_in, Entry, false, find, find-In, find-None, find-passes, has_key, In, In-map, inl, inr, IsSome, level_of, List, map, map-In, nat_tests, None, not, one_if, Option, Order, order_tags, refl, reworded, Some, subst, sym, tally, tally-any, tally-same, true, value_of, ways-reworded, ways-without, WayShape, with_word, without_entry, word_in, word_of, ℕ}
 
 -- members and how many pass
 pub tally-In : {A : Type 0} (q : A → Bool) (x : A) (xs : List A) → In x xs → q x ≡ true → 1 ≤ tally q xs

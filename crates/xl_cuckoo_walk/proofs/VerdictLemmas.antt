@@ -1,23 +1,8 @@
 -- What a change of a row comes to by the definitions, by each verdict.
-use Rattle.std.proofs.Common.{◌≡◌, refl, sym, ap, ◌∙◌, subst, ℕ, ◌-◌, nat_le, true, false, ◌&&◌, List, map, Option, None, Some, Result, Ok, Err}
-use Rattle.xl_model.specs.declared.address.Order.{Order}
+use Rattle.xl_cuckoo_walk.proofs.Common.{◌&&◌, ◌-◌, ◌∙◌, ◌≡◌, after_by, answer_by, ap, AtCap, brought, Cached, caches_purged, Change, changed, Cuckoo, CuckooRules, CuckooWays, Displaced, Err, false, finds_place, has_changed, has_room, Insert, is_placed, IsChange, Leaf, leaf_entry, leaf_named, leaf_word, List, Made, map, Moves, moves_made, moves_of, narrowed, nat_le, no_moves, None, NoPlace, NoSpace, Ok, old_leaf, Option, Order, Perm, Placed, placed_leaf, Protect, refl, Refused, Remove, Result, room_for, Section, section_count, SectionCaches, Shape, shape_after, Some, subst, sym, table_after, table_answer, table_made, TableState, true, Verdict, verdict, verdict_by, ways_of, ways_placed, ways_taken, WayShape, widened, with_both, with_leaf, with_new, with_perm, with_ways, with_word, without_entry, without_items, without_leaf, without_old, Work, work_of, ℕ}
+use Rattle.xl_model.specs.Caches.{entries_in}
 use Rattle.xl_model.specs.declared.address.Order.TheVariants as order
-use Rattle.xl_model.specs.declared.leaf.Leaf.{Leaf}
-use Rattle.xl_model.specs.declared.perm.Perm.{Perm}
-use Rattle.xl_model.specs.declared.way.Moves.{Moves}
 use Rattle.xl_model.specs.declared.work.NoRoom.TheVariants as why
-use Rattle.xl_model.specs.declared.work.Refused.{Refused}
-use Rattle.xl_model.specs.declared.work.Work.{Work}
-use Rattle.xl_model.specs.Caches.{Cached, SectionCaches, entries_in, without_items, has_changed, caches_purged}
-use Rattle.xl_model.specs.Changes.{Change, Insert, Remove, Protect, changed, old_leaf, without_old, with_new, with_perm, with_both}
-use Rattle.xl_model.specs.Mapping.{leaf_named, with_leaf, without_leaf}
-use Rattle.xl_model.specs.Placing.{Placed, AtCap, Displaced, no_moves}
-use Rattle.xl_model.specs.Room.{room_for, has_room}
-use Rattle.xl_model.specs.Sections.{Section, section_count}
-use Rattle.xl_model.specs.Shapes.{CuckooRules, CuckooWays, Shape, Cuckoo, ways_of, with_ways, leaf_entry, brought, placed_leaf, ways_placed, moves_of, is_placed, ways_taken, widened, narrowed, shape_after}
-use Rattle.xl_model.specs.Structures.{TableState, IsChange, moves_made, finds_place, work_of, Verdict, Made, NoSpace, NoPlace, verdict, verdict_by, table_made, answer_by, after_by, table_answer, table_after}
-use Rattle.xl_model.specs.Ways.{WayShape, with_word, without_entry}
-use Rattle.xl_model.specs.Words.{leaf_word}
 
 -- the table of a cuckoo row
 abbrev pub state_by : CuckooRules → List Leaf → CuckooWays → Cached Section → Cached Section → ℕ → TableState

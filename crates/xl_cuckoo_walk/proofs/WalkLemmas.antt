@@ -1,43 +1,12 @@
 -- A walk, step by step, is the definition's.
-use Rattle.std.proofs.Common.{◌≡◌, refl, sym, ap, ◌∙◌, subst, ℕ, ◌+◌, ◌*◌, ◌/◌, ◌%◌, ◌^◌, ◌<◌, ◌≤◌, Bool, true, false, not, List, length, map, Option, None, Some, arith}
-use Rattle.std.specs.Prelude.{find, is_some}
-use Rattle.xl_model.specs.declared.address.Order.{Order}
-use Rattle.xl_model.specs.declared.address.Order.TheVariants as order
-use Rattle.xl_model.specs.declared.leaf.Leaf.{Leaf}
+use Rattle.xl_cuckoo_walk.proofs.Common.{◌%◌, ◌*◌, ◌+◌, ◌/◌, ◌<◌, ◌^◌, ◌∙◌, ◌≡◌, ◌≤◌, ap, arith, Bool, Cached, Count, covers, CuckooState, CuckooWays, false, filled, fills_m2, find, find-In, find-none, find-passes, find-some, has_leaves, has_tag, hit_of, In, is_page_section, is_section, is_some, IsIn, IsPage, IsPlaced, IsRow, IsWalk, Item, Leaf, leaf_at_page, leaf_said_by, leaves_in, length, level-low, level_of, List, loads_by, MadeWordsReadBack, map, new_word, newest-map, None, not, one_if, only, only-first, Option, or_leaf, Order, page-found, pages_of, Plan, plan_of, plus, probed, probes, refl, row_state, RowParts, same_order, Section, section-some, section-walked, section_after, section_by, section_in, section_of_page, SectionCaches, sections_in, SectionsFresh, small-block, Some, subst, sym, table_walked, TableState, touched-map, touched-none, touched_in, true, value_by, walk_answer, walked, ways_in, ways_of, with_newest, word_of_item, ℕ}
 use Rattle.xl_model.specs.declared.work.Walk.{Walk}
-use Rattle.xl_model.specs.Addresses.{level_of, pages_of, same_order}
-use Rattle.xl_model.specs.Base.{plus, one_if}
-use Rattle.xl_model.specs.Mapping.{covers, leaf_at_page}
-use Rattle.xl_model.specs.Sections.{Section, is_section}
-use Rattle.xl_model.specs.Walks.{probes, section_of_page, is_page_section, section_after, fills_m2, walked}
-use Rattle.xl_model.specs.Shapes.{CuckooWays, ways_of}
-use Rattle.xl_model.specs.Structures.{TableState, IsPage, IsWalk, walk_answer, table_walked}
-use Rattle.xl_model.specs.Recency.{with_newest}
-use Rattle.xl_model.specs.Caches.{Cached, SectionCaches}
-use Rattle.xl_model_lemmas.specs.Entries.{or_leaf}
-use Rattle.xl_model_lemmas.specs.Fresh.{has_leaves, SectionsFresh}
-use Rattle.xl_model_lemmas.specs.Kept.{IsPlaced}
 use Rattle.xl_model_lemmas.specs.Mappings.{IsFound}
-use Rattle.xl_model_lemmas.specs.Members.{In}
-use Rattle.xl_model_lemmas.proofs.FreshSectionLemmas.{section-some, section-walked}
-use Rattle.xl_model_lemmas.proofs.MemberLemmas.{find-In, find-passes}
-use Rattle.xl_model_lemmas.proofs.OrderLemmas.{level-low}
-use Rattle.xl_model_lemmas.proofs.RecencyLemmas.{find-some, find-none, touched-map, touched-none, newest-map}
-use Rattle.xl_model_lemmas.proofs.SearchLemmas.{only, only-first}
-use Rattle.xl_pte.specs.ReadBack.{MadeWordsReadBack}
-use Rattle.xl_recency.specs.declared.item.Item.{Item}
-use Rattle.xl_sections.specs.Counted.{Count}
-use Rattle.xl_tagged.proofs.FindLemmas.{page-found}
-use Rattle.xl_cuckoo.specs.Table.{CuckooState}
-use Rattle.xl_cuckoo_walk.specs.declared.plan.Plan.{Plan}
-use Rattle.xl_cuckoo_walk.specs.declared.plan.Plan.TheVariants as plan
-use Rattle.xl_cuckoo_walk.specs.Coding.{section_by, section_in, sections_in, has_tag, word_of_item, hit_of}
-use Rattle.xl_cuckoo_walk.specs.Parts.{RowParts, ways_in, leaves_in, row_state, IsRow}
-use Rattle.xl_cuckoo_walk.specs.Plans.{plan_of, value_by, probed, IsIn, loads_by, leaf_said_by, new_word, touched_in, filled}
-use Rattle.xl_cuckoo_walk.proofs.CodeLemmas.{tag-same, hit-is}
 use Rattle.xl_cuckoo_walk.proofs.BitLemmas.{written-is}
+use Rattle.xl_cuckoo_walk.proofs.CodeLemmas.{hit-is, tag-same}
 use Rattle.xl_cuckoo_walk.proofs.PlanLemmas.{AreHits, hit-fresh, IsPlanned, planned}
-use Rattle.xl_model_lemmas.proofs.SectionLemmas.{small-block}
+use Rattle.xl_model.specs.declared.address.Order.TheVariants as order
+use Rattle.xl_cuckoo_walk.specs.declared.plan.Plan.TheVariants as plan
 
 -- a cache after a walk
 cache-after : (size : Order) (s page : ℕ) (leaves : List Leaf) (ws : CuckooWays) (fills : Bool) (word : ℕ) (c : Cached Item) → page < 2 ^ 45

@@ -1,31 +1,11 @@
 -- The words of sections that a leaf's coming or going leaves as they are.
-use Rattle.std.proofs.Common.{◌≡◌, refl, sym, ap, ◌∙◌, subst, ℕ, ◌+◌, Bool, true, false, cond, not, ◌&&◌, ◌||◌, nat_le, ◌==◌, List, [], ◌∷◌, ◌++◌, map, Option, Some, inl, arith}
-use Rattle.std.specs.List.{list_any}
-use Rattle.std.proofs.lemmas.Bool.Decides.{nat_tests}
-use Rattle.xl_model.specs.declared.address.Order.{Order}
-use Rattle.xl_model.specs.declared.address.Order.TheVariants as order
-use Rattle.xl_model.specs.declared.leaf.Leaf.{Leaf}
-use Rattle.xl_model.specs.declared.way.Entry.{Entry}
-use Rattle.xl_model.specs.declared.way.Moves.{Moves}
-use Rattle.xl_model.specs.Addresses.{level_of, same_order}
-use Rattle.xl_model.specs.Mapping.{with_leaf, without_leaf}
-use Rattle.xl_model.specs.Placing.{Displaced, Placed, is_held, holder_from}
-use Rattle.xl_model.specs.Sections.{way_where}
-use Rattle.xl_model.specs.Shapes.{CuckooRules, CuckooWays, ways_of, with_ways, leaf_entry, placed_leaf}
-use Rattle.xl_model.specs.Ways.{WayShape, has_key, without_key, without_entry}
-use Rattle.xl_model_lemmas.specs.Members.{In, IsSorted}
-use Rattle.xl_model_lemmas.specs.Sections.{counts_at, key_in}
+use Rattle.xl_cuckoo_walk.proofs.Common.{◌&&◌, ◌++◌, ◌+◌, ◌==◌, ◌||◌, ◌∙◌, ◌∷◌, ◌≡◌, [], ap, arith, Bool, cond, Count, count_of, counts_at, CuckooRules, CuckooWays, Displaced, Entry, false, has_key, holder_from, In, In-left, In-map, In-right, inl, is_held, IsSorted, IsTied, key_in, keys_from, keys_if, Leaf, leaf_entry, level_of, List, list_any, map, Moves, nat_le, nat_tests, new_word, not, Option, Order, orders-same, page_key, part, Placed, placed_leaf, refl, same_order, Some, subst, sym, true, unit, way_where, ways_of, WayShape, with_leaf, with_ways, without_entry, without_key, without_leaf, word-cons, word_by, ℕ}
 use Rattle.xl_model_lemmas.proofs.HolderLemmas.{insertion-stays}
-use Rattle.xl_model_lemmas.proofs.MemberLemmas.{In-map, In-left, In-right}
-use Rattle.xl_model_lemmas.proofs.OrderLemmas.{orders-same}
-use Rattle.xl_sections.specs.Counted.{Count, unit, part, word_of, count_of, IsTied}
-use Rattle.xl_sections.proofs.WordLemmas.{word-cons}
-use Rattle.xl_cuckoo_walk.specs.Coding.{word_by}
-use Rattle.xl_cuckoo_walk.specs.Plans.{new_word, keys_from}
-use Rattle.xl_cuckoo_walk.specs.Changes.{keys_if, page_key}
-use Rattle.xl_cuckoo_walk.proofs.CountLemmas.{Apart, word-with, word-less}
-use Rattle.xl_cuckoo_walk.proofs.HeldLemmas.{with-same, with-other}
+use Rattle.xl_sections.specs.Counted.{word_of}
+use Rattle.xl_cuckoo_walk.proofs.CountLemmas.{Apart, word-less, word-with}
+use Rattle.xl_cuckoo_walk.proofs.HeldLemmas.{with-other, with-same}
 use Rattle.xl_cuckoo_walk.proofs.HoldLemmas.{entry-key}
+use Rattle.xl_model.specs.declared.address.Order.TheVariants as order
 
 -- the word of a section by its count and the holder of its key
 abbrev word_for : Order → ℕ → Option ℕ → ℕ

@@ -1,24 +1,11 @@
 -- What a change of one set's list of places is for the points of all widths.
-use Rattle.std.proofs.Common.{◌≡◌, ℕ, zero, suc, ◌+◌, ◌-◌, ◌%◌, ◌^◌, ◌<◌, ◌≤◌, Bool, true, false, nat_lt, List, [], ◌∷◌, ◌++◌, length, get_or, set, map, take, drop, find, replicate, is_some, Option, None, Some, refl, sym, ◌∙◌, ap, subst, arith}
-use Rattle.std.proofs.lemmas.Bool.Decides.{nat_tests}
-use Rattle.std.proofs.lemmas.List.{map-set, length-map, length-set, get_or-map, take-set-le, take_all, take_more_set, take-append-le}
+use Rattle.xl_curve.proofs.Common.{◌%◌, ◌++◌, ◌+◌, ◌-◌, ◌<◌, ◌^◌, ◌∙◌, ◌∷◌, ◌≡◌, ◌≤◌, [], ap, arith, array_filled, Bool, counted, curve_accessed, curve_missed, curve_of, curve_without, distance, drop, false, find, found_same, get_or, get_or-map, held, HitCurve, hits_at, hits_below, hits_of, IfSome, is_some, IsCurve, Leaf, length, length-map, length-set, List, looked_for, map, map-set, nat_lt, nat_tests, None, opening_curve, opening_point, Option, Order, pages_of, place_without, Point, point_accessed, point_at, point_without, purged, range_with_len, refl, removed, replicate, same_leaf, set, set_of, shifted, Some, spec_of_width, subst, suc, sum, sym, take, take-append-le, take-set-le, take_all, take_more_set, takes_order, touched, true, with_front, with_newest, zero, ℕ}
 use Rattle.std.proofs.lemmas.List.FromFn.{get_or-map-range_with_len, map-range_with_len_more}
 use Rattle.std.proofs.lemmas.List.Sums.{sum_by-cons, sum_by_more}
-use Rattle.std.specs.Prelude.{IfSome}
-use Rattle.std.specs.List.{range_with_len, sum}
-use Rattle.xl_model.specs.declared.address.Order.{Order}
-use Rattle.xl_model.specs.declared.address.Order.TheVariants as order
-use Rattle.xl_model.specs.declared.leaf.Leaf.{Leaf}
-use Rattle.xl_model.specs.Addresses.{pages_of}
 use Rattle.xl_model.specs.Base.{plus}
-use Rattle.xl_curve_model.specs.Curves.{Point, HitCurve, same_leaf, looked_for, point_accessed, point_without, curve_accessed, curve_missed, curve_without, spec_of_width, opening_point, opening_curve, hits_of, hits_at}
-use Rattle.xl_model.specs.Recency.{touched, with_newest, purged}
-use Rattle.xl_model.specs.Tlb.{takes_order, array_filled}
-use Rattle.xl_curve_model.proofs.SameLeafLemmas.{found_same}
-use Rattle.xl_curve.specs.Places.{held, shifted, distance, place_without}
-use Rattle.xl_curve.specs.Views.{point_at, hits_below, curve_of, counted, set_of, with_front, removed, IsCurve}
 use Rattle.xl_curve.proofs.SetLemmas.{front_kept, removed_kept}
-use Rattle.xl_curve.proofs.StackLemmas.{within, distance_held, touched_held, filled_held, taken_held, purged_held}
+use Rattle.xl_curve.proofs.StackLemmas.{distance_held, filled_held, purged_held, taken_held, touched_held, within}
+use Rattle.xl_model.specs.declared.address.Order.TheVariants as order
 
 -- ---- hits
 

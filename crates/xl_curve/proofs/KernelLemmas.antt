@@ -1,19 +1,7 @@
 -- The steps of the loops over places.
-use Rattle.std.proofs.Common.{◌≡◌, ℕ, zero, suc, ◌+◌, ◌<◌, ◌≤◌, Bool, true, false, not, List, [], ◌∷◌, ◌++◌, length, get_or, set, map, take, drop, Option, None, Some, refl, sym, ◌∙◌, ap, arith, append_assoc}
-use Rattle.std.proofs.lemmas.Bool.Decides.{nat_tests}
-use Rattle.std.proofs.lemmas.List.{map-append, map-set, length-map, get_or-map, take_more, drop_more, drop-set, take-set, take-append-drop, take_all, drop_all, take_at, get_or_default, length-take-le, take-map, drop-map}
-use Rattle.std.proofs.lemmas.List.Edits.{map_over_more}
+use Rattle.xl_curve.proofs.Common.{◌++◌, ◌+◌, ◌-◌, ◌<◌, ◌==◌, ◌∙◌, ◌∷◌, ◌≡◌, ◌≤◌, [], ap, append_assoc, AreMarks, arith, Bool, distance, drop, drop-map, drop-set, drop_all, drop_more, false, first_so, further, gap, get_or, get_or-map, get_or_default, gives_way, IfSome, is_leaf, is_vacant, IsNamed, IsOther, Leaf, leaf_in, length, length-map, length-take-le, List, list_all, map, map-append, map-set, map_over_more, mark_of, mark_unless, nat_tests, None, not, Option, Order, Place, place_of, place_without, places_of, refl, remove, same_leaf, same_words, second_so, set, shifted, Some, suc, sym, take, take-append-drop, take-map, take-set, take_all, take_at, take_more, true, vacated, zero, ℕ}
 use Rattle.std.proofs.Math.Seq.{drop-append_seam}
-use Rattle.std.specs.Prelude.{IfSome, ◌-◌, ◌==◌}
-use Rattle.std.specs.Cmp.{first_so, second_so}
-use Rattle.std.specs.List.{list_all, remove}
-use Rattle.xl_model.specs.declared.address.Order.{Order}
-use Rattle.xl_model.specs.declared.leaf.Leaf.{Leaf}
-use Rattle.xl_model.specs.Mapping.{is_leaf}
-use Rattle.xl_curve_model.specs.Curves.{same_leaf}
 use Rattle.xl_curve.proofs.PlaceLemmas.{same_parts}
-use Rattle.xl_curve.specs.declared.place.Place.{Place}
-use Rattle.xl_curve.specs.Places.{AreMarks, IsNamed, IsOther, is_vacant, leaf_in, mark_of, mark_unless, place_of, places_of, same_words, vacated, shifted, further, gives_way, gap, distance, place_without}
 
 append_nil : {A : Type 0} (xs : List A) → xs ++ [] ≡ xs
 append_nil [] = refl

@@ -1,3 +1,4 @@
+mod Common
 mod CurveLemmas
 mod KernelLemmas
 mod PlaceLemmas

@@ -1,17 +1,7 @@
 -- The two words of a place, and its leaf.
-use Rattle.std.proofs.Common.{◌≡◌, ℕ, ◌+◌, ◌*◌, ◌/◌, ◌%◌, ◌^◌, ◌<◌, ◌==◌, Bool, true, false, ◌&&◌, refl, sym, ◌∙◌, ap, arith}
-use Rattle.std.proofs.lemmas.Bool.Decides.{nat_tests}
-use Rattle.xl_model.specs.declared.address.Order.{Order}
-use Rattle.xl_model.specs.declared.address.Order.TheVariants as order
-use Rattle.xl_model.specs.declared.leaf.Leaf.{Leaf}
-use Rattle.xl_model.specs.Addresses.{level_of, order_at}
-use Rattle.xl_curve_model.specs.Curves.{same_leaf}
+use Rattle.xl_curve.proofs.Common.{◌%◌, ◌&&◌, ◌*◌, ◌+◌, ◌/◌, ◌<◌, ◌==◌, ◌^◌, ◌∙◌, ◌≡◌, ap, arith, Bool, false, is_leaf, is_vacant, IsFit, IsNamed, Leaf, leaf_in, level_of, nat_tests, Order, order_at, Place, refl, same_leaf, same_words, sym, ℕ}
+use Rattle.xl_model.proofs.CodeLemmas.{at-level, frame-back, level-at, perm-back}
 use Rattle.xl_model.specs.LeafWords.{perm_code}
-use Rattle.xl_model.specs.Mapping.{is_leaf}
-use Rattle.xl_model.proofs.CodeLemmas.{level-at, at-level, perm-back, frame-back}
-use Rattle.xl_curve.specs.declared.place.Place.{Place}
-use Rattle.xl_curve.specs.Places.{IsNamed, is_vacant, leaf_in, same_words}
-use Rattle.xl_tlb.specs.Arrays.{IsFit}
 use Rattle.xl_tlb.proofs.TagLemmas.{both, low_level}
 
 -- the parts of a tag

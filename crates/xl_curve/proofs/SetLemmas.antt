@@ -1,20 +1,7 @@
 -- Each leaf is in its own set, so that what is looked for in one set is in no other.
-use Rattle.std.proofs.Common.{◌≡◌, ℕ, zero, suc, ◌+◌, ◌/◌, ◌%◌, ◌<◌, ◌≤◌, ◌==◌, Bool, true, false, ◌&&◌, ◌||◌, List, [], ◌∷◌, length, get_or, set, map, take, replicate, Option, None, Some, refl, sym, ◌∙◌, ap, subst, arith}
-use Rattle.std.proofs.lemmas.Bool.Decides.{nat_tests}
-use Rattle.std.proofs.lemmas.List.{length-map, length-set, get_or-set_same, get_or-set_other, get_or_default, set-get_or}
+use Rattle.xl_curve.proofs.Common.{◌%◌, ◌&&◌, ◌+◌, ◌/◌, ◌<◌, ◌==◌, ◌||◌, ◌∙◌, ◌∷◌, ◌≡◌, ◌≤◌, [], ap, arith, Bool, covers, covers_as, false, first_so, get_or, get_or-set_other, get_or-set_same, get_or_default, hole_where, is_leaf, is_placed, IsCurve, IsRemovedIn, IsThinned, Leaf, length, length-map, length-set, List, list_all, map, nat_tests, None, Option, Order, order_same, pages_of, place_without, refl, removed, replicate, same_order, second_so, set, set-get_or, set_of, shifted, Some, subst, suc, sym, take, true, vacated, with_removed, zero, ℕ}
 use Rattle.std.proofs.Math.ListN.{get_or-map}
-use Rattle.std.specs.Cmp.{first_so, second_so}
-use Rattle.std.specs.List.{list_all}
-use Rattle.xl_model.specs.declared.address.Order.{Order}
 use Rattle.xl_model.specs.declared.address.Order.TheVariants as order
-use Rattle.xl_model.specs.declared.leaf.Leaf.{Leaf}
-use Rattle.xl_model.specs.Addresses.{pages_of, same_order}
-use Rattle.xl_model.specs.Mapping.{covers, is_leaf}
-use Rattle.xl_model.specs.Tlb.{covers_as}
-use Rattle.xl_curve_model.proofs.SameLeafLemmas.{order_same}
-use Rattle.xl_curve.specs.Places.{IsThinned, vacated, shifted, hole_where, place_without}
-use Rattle.xl_curve.specs.Views.{set_of, with_removed, removed, is_placed, IsCurve, IsRemovedIn}
-use Rattle.xl_tlb.proofs.DropLemmas.{or_false}
 
 -- ---- places that all pass a test
 

@@ -1,25 +1,12 @@
 -- One array that takes all orders: what it hits of a page is the leaf of the mapping, found in its own set.
-use Rattle.std.proofs.Common.{◌≡◌, ℕ, ◌+◌, ◌*◌, ◌/◌, ◌%◌, ◌<◌, ◌≤◌, Bool, true, false, List, [], ◌∷◌, find, slice_index_or, Option, None, Some, inl, inr, refl, sym, ◌∙◌, ap, subst, arith}
-use Rattle.std.proofs.lemmas.Bool.Decides.{nat_tests}
-use Rattle.std.specs.Cmp.{first_so, second_so}
-use Rattle.xl_model.specs.declared.address.Order.{Order}
-use Rattle.xl_model.specs.declared.address.Order.TheVariants as order
-use Rattle.xl_model.specs.declared.leaf.Leaf.{Leaf}
-use Rattle.xl_model.specs.Addresses.{pages_of, same_order}
-use Rattle.xl_curve_model.specs.Curves.{same_leaf, held_in, leaf_touched, spec_of_width}
-use Rattle.xl_model.specs.Mapping.{covers}
-use Rattle.xl_model.specs.Recency.{without_first, in_front, touched}
-use Rattle.xl_model.specs.Rows.{Row}
-use Rattle.xl_model.specs.Tlb.{TlbArray, set_number, set_at, with_set, covers_as, found_as, takes_order, first_found, array_hit, array_touched}
+use Rattle.xl_curve_laws.proofs.Common.{◌%◌, ◌*◌, ◌+◌, ◌/◌, ◌<◌, ◌∙◌, ◌∷◌, ◌≡◌, ◌≤◌, [], ap, arith, array_hit, array_touched, ArraysFresh, Bool, covered-one, covers, covers_as, false, find, find-passes, first_found, first_so, found_as, get-In, held_in, In, inl, inr, Leaf, leaf_touched, List, nat_tests, None, Option, pages_of, refl, Row, same_leaf, same_order, second_so, set_at, set_number, slice_index_or, Some, spec_of_width, subst, sym, takes_order, TlbArray, true, with_set, ℕ}
 use Rattle.xl_curve_model.proofs.SameLeafLemmas.{leaf_same, leaf_self}
-use Rattle.xl_model_lemmas.specs.Fresh.{ArraysFresh}
-use Rattle.xl_model_lemmas.specs.Mappings.{IsMapping}
-use Rattle.xl_model_lemmas.specs.Members.{In}
-use Rattle.xl_model_lemmas.proofs.CoverLemmas.{covered-one}
-use Rattle.xl_model_lemmas.proofs.HitLemmas.{get-In}
-use Rattle.xl_model_lemmas.proofs.MemberLemmas.{find-passes}
-use Rattle.xl_model_lemmas.proofs.OrderLemmas.{orders-same, order-same}
+use Rattle.xl_model.specs.Recency.{in_front, touched, without_first}
+use Rattle.xl_model.specs.declared.address.Order.{Order}
+use Rattle.xl_model_lemmas.proofs.OrderLemmas.{order-same, orders-same}
 use Rattle.xl_model_lemmas.proofs.SameLemmas.{same-tests}
+use Rattle.xl_model_lemmas.specs.Mappings.{IsMapping}
+use Rattle.xl_model.specs.declared.address.Order.TheVariants as order
 
 -- ---- tests that agree on a list
 

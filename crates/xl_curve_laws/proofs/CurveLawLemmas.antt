@@ -1,50 +1,37 @@
 -- A row with one array and the row's curve go side by side through every run.
-use Rattle.std.proofs.Common.{◌≡◌, ℕ, zero, suc, ◌+◌, ◌-◌, ◌<◌, ◌≤◌, Bool, true, false, List, [], ◌∷◌, map, find, slice_get, slice_index_or, nat_le, Option, None, Some, inl, refl, sym, ◌∙◌, ap, subst, arith}
-use Rattle.std.proofs.lemmas.Bool.Decides.{nat_tests}
+use Rattle.xl_curve_laws.proofs.Common.{◌+◌, ◌-◌, ◌<◌, ◌∙◌, ◌∷◌, ◌≡◌, ◌≤◌, [], Answer, answer_of, ap, arith, array_filled, array_hit, array_touched, array_without, arrays_filled, arrays_hit, arrays_without, ArraysFresh, Bool, covered-is, covers, covers_as, curve_accessed, curve_missed, curve_without, false, find, find-In, find-passes, flat, found-leaf, get-In, held_in, HitCurve, hits_at, hits_of, In, inl, is_canonical, is_purged, Leaf, leaf_at_page, List, map, nat_le, nat_tests, None, opening_arrays, opening_curve, opening_point, Option, page_of, Point, point_accessed, point_without, reaches_leaf, refl, Row, same_order, second_so, serves_as, serves_kind, set_at, set_number, slice_get, slice_index_or, Some, spec_of_width, subst, suc, sym, TlbArray, true, zero, ℕ}
 use Rattle.std.specs.List.{range_with_len}
+use Rattle.xl_curve_model.specs.CurveRun.{Charted, charted_again, charted_demand, charted_event, charted_item, charted_items, curve_after, curve_followed, curve_looked, curve_looked_where, curve_of_run, curve_purged, old_of, unless_refused}
+use Rattle.xl_model.specs.Base.{plus}
+use Rattle.xl_model.specs.Changes.{Change, changed, old_leaf}
+use Rattle.xl_model.specs.Items.{again_where, area_for, area_wanted, areas_after, demanded, map_of, referenced, run, state_after, states_after, wanted}
+use Rattle.xl_model.specs.Room.{has_room}
+use Rattle.xl_model.specs.RowRun.{accessed, after_event, after_rule, arrays_after, changed_by, changed_outcome, changed_where, fenced, looked, looked_by, looked_where, opening, outcome_after_rule, outcome_by, outcome_of, reach_of, reply_to, RowState, served, served_outcome, walk_filled}
+use Rattle.xl_model.specs.Rules.{change_of, rule}
+use Rattle.xl_model.specs.Shapes.{brought, Shape, shape_after, widened}
+use Rattle.xl_model.specs.Structures.{after_by, answer_by, finds_place, Made, NoPlace, NoSpace, table_after, table_answer, table_fenced, table_made, table_walked, TableState, Verdict, verdict, verdict_by}
+use Rattle.xl_model.specs.Tally.{count_accepted, count_fence, count_fills, count_invalidated, count_look, count_refusal, count_reply, count_walk, count_work, no_counts}
 use Rattle.xl_model.specs.declared.address.Kind.{Kind}
-use Rattle.xl_model.specs.declared.leaf.Leaf.{Leaf}
-use Rattle.xl_model.specs.declared.leaf.Reply.{Reply}
-use Rattle.xl_model.specs.declared.leaf.Reply.TheVariants as reply
-use Rattle.xl_model.specs.declared.event.Scope.{Scope}
-use Rattle.xl_model.specs.declared.event.Scope.TheVariants as scope
 use Rattle.xl_model.specs.declared.event.Event.{Event}
-use Rattle.xl_model.specs.declared.event.Event.TheVariants as event
 use Rattle.xl_model.specs.declared.event.Outcome.{Outcome}
-use Rattle.xl_model.specs.declared.event.Outcome.TheVariants as outcome
 use Rattle.xl_model.specs.declared.event.Reach.{Reach}
 use Rattle.xl_model.specs.declared.event.Refusal.{Refusal}
+use Rattle.xl_model.specs.declared.event.Scope.{Scope}
+use Rattle.xl_model.specs.declared.leaf.Reply.{Reply}
 use Rattle.xl_model.specs.declared.row.Counts.{Counts}
 use Rattle.xl_model.specs.declared.row.Purge.{Purge}
 use Rattle.xl_model.specs.declared.row.TlbSpec.{TlbSpec}
 use Rattle.xl_model.specs.declared.script.Area.{Area}
 use Rattle.xl_model.specs.declared.script.Item.{Item}
 use Rattle.xl_model.specs.declared.script.Item.TheVariants.{Command, Declared, Referenced}
-use Rattle.xl_model.specs.Addresses.{is_canonical, page_of, same_order}
-use Rattle.xl_model.specs.Base.{plus}
-use Rattle.xl_model.specs.Changes.{Change, old_leaf, changed}
-use Rattle.xl_curve_model.specs.Curves.{Point, HitCurve, point_accessed, point_without, held_in, spec_of_width, curve_accessed, curve_missed, curve_without, opening_point, opening_curve, hits_of, hits_at}
-use Rattle.xl_curve_model.specs.CurveRun.{curve_looked, curve_looked_where, curve_purged, old_of, curve_followed, unless_refused, curve_after, Charted, charted_event, charted_again, charted_demand, charted_item, charted_items, curve_of_run}
-use Rattle.xl_model.specs.Items.{area_for, wanted, again_where, demanded, map_of, area_wanted, areas_after, referenced, state_after, states_after, run}
-use Rattle.xl_model.specs.Mapping.{covers, flat, leaf_at_page}
-use Rattle.xl_model.specs.RowRun.{RowState, opening, looked_by, looked_where, looked, walk_filled, accessed, arrays_after, changed_by, changed_where, fenced, reach_of, served, after_rule, after_event, outcome_after_rule, outcome_by, changed_outcome, outcome_of, served_outcome, reply_to}
-use Rattle.xl_model.specs.Rows.{Row}
-use Rattle.xl_model.specs.Rules.{rule, change_of}
-use Rattle.xl_model.specs.Room.{has_room}
-use Rattle.xl_model.specs.Shapes.{Shape, brought, widened, shape_after}
-use Rattle.xl_model.specs.Structures.{TableState, Verdict, Made, NoSpace, NoPlace, verdict_by, finds_place, verdict, answer_by, after_by, table_made, table_answer, table_after, table_walked, table_fenced}
-use Rattle.xl_model.specs.Tally.{no_counts, count_refusal, count_reply, count_walk, count_fills, count_look, count_work, count_accepted, count_invalidated, count_fence}
-use Rattle.std.specs.Cmp.{second_so}
-use Rattle.xl_model.specs.Tlb.{takes_order, filled_where, covers_as, set_at, set_number, TlbArray, serves_as, serves_kind, Answer, answer_of, array_hit, array_touched, arrays_hit, array_filled, arrays_filled, array_without, arrays_without, is_purged, reaches_leaf, opening_arrays}
-use Rattle.xl_model_lemmas.specs.Fresh.{ArraysFresh}
-use Rattle.xl_model_lemmas.specs.Members.{In}
-use Rattle.xl_model_lemmas.proofs.CoverLemmas.{covered-is, found-leaf}
-use Rattle.xl_model_lemmas.proofs.HitLemmas.{get-In}
-use Rattle.xl_model_lemmas.proofs.MemberLemmas.{find-In, find-passes}
-use Rattle.xl_curve_laws.specs.CurveLaws.{with_array, TheCurveIsThatOfEachWidth}
-use Rattle.xl_curve_laws.proofs.CurveArrayLemmas.{TakesAll, takes-all, hit-own, miss-each, hit-held, hit-touched, miss-held}
-use Rattle.xl_model_laws.proofs.FreshLemmas.{Kept, event-kept, opening-kept}
-use Rattle.xl_model_lemmas.proofs.FreshArrayLemmas.{touched-spec, filled-spec}
+use Rattle.xl_model_laws.proofs.FreshLemmas.{event-kept, Kept, opening-kept}
+use Rattle.xl_model_lemmas.proofs.FreshArrayLemmas.{filled-spec, touched-spec}
+use Rattle.xl_curve_laws.proofs.CurveArrayLemmas.{hit-held, hit-own, hit-touched, miss-each, miss-held, takes-all, TakesAll}
+use Rattle.xl_curve_laws.specs.CurveLaws.{TheCurveIsThatOfEachWidth, with_array}
+use Rattle.xl_model.specs.declared.event.Event.TheVariants as event
+use Rattle.xl_model.specs.declared.event.Outcome.TheVariants as outcome
+use Rattle.xl_model.specs.declared.event.Scope.TheVariants as scope
+use Rattle.xl_model.specs.declared.leaf.Reply.TheVariants as reply
 
 -- Side by side: a state of the row with the one array, a state of the row, and its curve.
 record Beside (sets width : ℕ) (single whole : RowState) (curve : HitCurve) : Type 0 where

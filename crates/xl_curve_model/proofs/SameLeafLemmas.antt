@@ -1,17 +1,17 @@
 -- Two leaves that are the same in each part are one.
-use Rattle.std.proofs.Common.{◌≡◌, ℕ, ◌==◌, ◌&&◌, Bool, true, false, List, [], ◌∷◌, find, Some, refl, sym, ◌∙◌, ap, arith}
+use Rattle.std.proofs.Common.{◌&&◌, ◌==◌, ◌∙◌, ◌∷◌, ◌≡◌, [], ap, arith, Bool, false, find, List, refl, Some, sym, true, ℕ}
 use Rattle.std.proofs.lemmas.Bool.Decides.{nat_tests}
 use Rattle.std.specs.Cmp.{first_so, second_so}
-use Rattle.xl_model.specs.declared.address.Order.{Order}
-use Rattle.xl_model.specs.declared.address.Order.TheVariants as order
-use Rattle.xl_model.specs.declared.leaf.Leaf.{Leaf}
-use Rattle.xl_model.specs.declared.perm.Perm.{Perm}
+use Rattle.xl_model.proofs.PermLemmas.{perms-same}
 use Rattle.xl_model.specs.Addresses.{same_order}
 use Rattle.xl_model.specs.Base.{same_bit}
-use Rattle.xl_curve_model.specs.Curves.{same_leaf}
 use Rattle.xl_model.specs.Mapping.{is_leaf}
 use Rattle.xl_model.specs.Ranges.{same_perm}
-use Rattle.xl_model.proofs.PermLemmas.{perms-same}
+use Rattle.xl_model.specs.declared.address.Order.{Order}
+use Rattle.xl_model.specs.declared.leaf.Leaf.{Leaf}
+use Rattle.xl_model.specs.declared.perm.Perm.{Perm}
+use Rattle.xl_curve_model.specs.Curves.{same_leaf}
+use Rattle.xl_model.specs.declared.address.Order.TheVariants as order
 
 -- two orders that are the same are one
 pub order_same : (a b : Order) → same_order a b ≡ true → a ≡ b

@@ -1,26 +1,10 @@
 -- A run from its start: its course is that of the plain form, and the rows are what that leaves.
-use Rattle.std.proofs.Common.{◌≡◌, refl, sym, ap, ◌∙◌, subst, ℕ, zero, suc, Bool, true, false, List, [], ◌∷◌, length}
-use Rattle.std.specs.Prelude.{Option, None, Some, Result, Ok, replicate}
-use Rattle.xl_model.specs.declared.fault.InputFault.{InputFault}
-use Rattle.xl_model.specs.declared.script.Area.{Area}
-use Rattle.xl_model.specs.declared.script.Command.{Command}
-use Rattle.xl_model.specs.declared.script.Item.{Item}
-use Rattle.xl_model.specs.Courses.{Accesses, Trail, at_end}
-use Rattle.xl_model.specs.Scenes.{Served, Scene}
-use Rattle.xl_lackey.specs.declared.skim.Access.{Access}
-use Rattle.xl_outside.specs.Sinks.{SinkMeaning, SinkAfter}
-use Rattle.xl_outside.proofs.SinkLemmas.{sink_same}
+use Rattle.xl_curving.proofs.Common.{◌∙◌, ◌∷◌, ◌≡◌, [], Access, Accesses, account, ap, Area, at_end, at_last, before, Bool, Course, course, course_by, curve_scene_after, curve_scene_of, curved, curves_by, curves_from, curves_text, curves_waited, CurveScene, Ends, false, finish, HasServed, HitCurve, Item, items_in, length, List, None, Ok, opening_curve, Option, plain, ran, ran_all, refl, replicate, Result, rows_by, rows_from, Scene, scene_of, Served, sink_same, SinkAfter, SinkMeaning, Some, Start, start_of, states_after, steps_of, subst, suc, sym, told_by, Trail, true, with_curves, zero, ℕ}
 use Rattle.xl_course.specs.declared.form.Step.{Step}
-use Rattle.xl_course.specs.declared.form.Step.TheVariants as step
 use Rattle.xl_course.specs.declared.stop.Stop.{Stop}
-use Rattle.xl_course.specs.Accounts.{account, Ends}
-use Rattle.xl_course.specs.Courses.{Course, at_last, before, course, course_by, finish, items_of as items_in, ran, ran_all}
-use Rattle.xl_course.specs.Meanings.{states_after, told_by}
-use Rattle.xl_course.specs.Serving.{HasServed}
-use Rattle.xl_serving.specs.Plain.{Start, plain, rows_by, rows_from, start_of, steps_of}
-use Rattle.xl_serving.specs.Serving.{scene_of}
-use Rattle.xl_curve_model.specs.Curves.{HitCurve, opening_curve}
-use Rattle.xl_curving.specs.Curving.{CurveScene, curved, curve_scene_after, curve_scene_of, curves_by, curves_from, curves_text, curves_waited, with_curves}
+use Rattle.xl_model.specs.declared.fault.InputFault.{InputFault}
+use Rattle.xl_model.specs.declared.script.Command.{Command}
+use Rattle.xl_course.specs.declared.form.Step.TheVariants as step
 
 -- no lines
 told-nothing : (answers : Bool) (items : List Item) (s : CurveScene) → told_by curved answers items s ≡ []

@@ -1,3 +1,4 @@
+mod Common
 mod EndLemmas
 mod LineLemmas
 mod SceneLemmas

@@ -1,13 +1,6 @@
 -- The lines of curves, one after another.
-use Rattle.std.proofs.Common.{◌≡◌, refl, sym, ap, ◌∙◌, subst, ℕ, zero, suc, ◌+◌, ◌≤◌, ◌<◌, Bool, true, false, List, [], ◌∷◌, ◌++◌, length, take, drop, append_assoc, append-nil, ◌⊎◌, inl, inr, arith}
-use Rattle.std.specs.Prelude.{Option, None, Some, IfSome, slice_get, slice_index_or}
-use Rattle.xl_model.specs.Rows.{Row}
-use Rattle.xl_model.specs.Scenes.{Served}
-use Rattle.xl_outside.specs.Sinks.{SinkMeaning, SinkAfter}
-use Rattle.xl_outside.proofs.SinkLemmas.{sink_then, sink_cut}
-use Rattle.xl_curve_model.specs.Curves.{HitCurve}
+use Rattle.xl_curving.proofs.Common.{◌++◌, ◌+◌, ◌<◌, ◌∙◌, ◌∷◌, ◌≡◌, ◌≤◌, ◌⊎◌, [], ap, append-nil, append_assoc, arith, Bool, curve_lines, drop, false, HitCurve, IfSome, inl, inr, length, List, refl, Row, Served, sink_cut, sink_then, SinkAfter, SinkMeaning, slice_get, slice_index_or, Some, subst, suc, sym, take, true, zero, ℕ}
 use Rattle.xl_curve_model.specs.CurveLines.{line_of}
-use Rattle.xl_curving.specs.Curving.{curve_lines}
 use Rattle.xl_rack.proofs.PlaceLemmas.{some-of}
 
 no-curves : (sets : ℕ) (rows : List Served) → curve_lines sets rows [] ≡ []

@@ -1,28 +1,13 @@
 -- Rows with their curves: what they are served row by row is what they are served item by item.
-use Rattle.std.proofs.Common.{◌≡◌, refl, sym, ap, ◌∙◌, ℕ, suc, ◌+◌, List, [], ◌∷◌, ◌++◌, length, map, take, drop, arith}
-use Rattle.std.specs.Prelude.{Some, slice_get}
-use Rattle.std.proofs.lemmas.List.{map-append, map-id, take-append-le, take_all}
+use Rattle.xl_curving.proofs.Common.{◌++◌, ◌+◌, ◌∙◌, ◌∷◌, ◌≡◌, [], Access, access_served, ap, Area, arith, Command, curve_scene_after, curve_scene_of, curve_served, curve_stepped, curved, curves_waited, CurveScene, Declared, drop, each_curve, HitCurve, Item, item_of, Kind, length, List, map, map-append, map-id, Referenced, refl, row_served, rows_after, Scene, scene_after, Served, slice_get, Some, states-append, states_after, suc, sym, take, take-append-le, take_all, ℕ}
 use Rattle.std.proofs.lemmas.Simd.{map-map}
-use Rattle.xl_model.specs.declared.address.Kind.{Kind}
-use Rattle.xl_model.specs.declared.event.Event.{Event}
-use Rattle.xl_model.specs.declared.script.Area.{Area}
-use Rattle.xl_model.specs.declared.script.Item.{Item}
-use Rattle.xl_model.specs.declared.script.Item.TheVariants.{Command, Declared, Referenced}
-use Rattle.xl_model.specs.Items.{state_after}
-use Rattle.xl_model.specs.Scenes.{Served, Scene, rows_after, scene_after}
-use Rattle.xl_machine.specs.Served.{after_of}
-use Rattle.xl_lackey.specs.declared.skim.Access.{Access}
-use Rattle.xl_course.specs.Meanings.{states_after}
-use Rattle.xl_course.proofs.MeaningLemmas.{states-append}
-use Rattle.xl_course.proofs.ServedLemmas.{take_one}
-use Rattle.xl_serving.specs.Batches.{item_of}
-use Rattle.xl_serving.proofs.BatchLemmas.{any-number}
-use Rattle.xl_curve_model.specs.Curves.{HitCurve}
-use Rattle.xl_curve_model.specs.CurveRun.{charted_item}
 use Rattle.xl_chart.specs.Charts.{curve_item}
-use Rattle.xl_rack.specs.Batches.{access_served, row_served}
-use Rattle.xl_rack.specs.Beside.{each_curve, curve_served, curve_stepped}
-use Rattle.xl_curving.specs.Curving.{CurveScene, curved, curve_scene_after, curve_scene_of, curves_waited}
+use Rattle.xl_course.proofs.ServedLemmas.{take_one}
+use Rattle.xl_curve_model.specs.CurveRun.{charted_item}
+use Rattle.xl_machine.specs.Served.{after_of}
+use Rattle.xl_model.specs.Items.{state_after}
+use Rattle.xl_model.specs.declared.event.Event.{Event}
+use Rattle.xl_serving.proofs.BatchLemmas.{any-number}
 
 -- curves that are changed alike
 each-same : (f g : Served → HitCurve → HitCurve) (rows : List Served) (curves : List HitCurve) → ((v : Served) (c : HitCurve) → f v c ≡ g v c) → each_curve f rows curves ≡ each_curve g rows curves

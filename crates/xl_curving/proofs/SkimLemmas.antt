@@ -1,19 +1,7 @@
 -- Records of which the accesses are put off together.
-use Rattle.std.proofs.Common.{◌≡◌, refl, sym, ap, ◌∙◌, ℕ, List, [], ◌∷◌, ◌++◌, map}
-use Rattle.std.proofs.lemmas.List.{map-append}
-use Rattle.xl_model.specs.declared.address.Kind.{Kind}
-use Rattle.xl_model.specs.declared.script.Item.{Item}
-use Rattle.xl_model.specs.declared.script.Item.TheVariants.{Referenced}
-use Rattle.xl_model.specs.Courses.{Accesses, Trail}
-use Rattle.xl_lackey.specs.declared.skim.Access.{Access}
-use Rattle.xl_lackey.specs.Skims.{pair}
-use Rattle.xl_course.specs.Courses.{accesses_items, items_of_all}
-use Rattle.xl_course.specs.Meanings.{states_after}
-use Rattle.xl_course.specs.Serving.{Skimmed}
+use Rattle.xl_curving.proofs.Common.{◌++◌, ◌∙◌, ◌∷◌, ◌≡◌, [], Access, Accesses, accesses_items, ap, curve_scene_after, curved, curves_waited, CurveScene, Item, item_of, items_of_all, Kind, List, map, map-append, Referenced, refl, Skimmed, states-append, states_after, sym, Trail, ℕ}
 use Rattle.xl_course.specs.Sources.{accesses_of_all, Skims}
-use Rattle.xl_course.proofs.MeaningLemmas.{states-append}
-use Rattle.xl_serving.specs.Batches.{item_of}
-use Rattle.xl_curving.specs.Curving.{CurveScene, curved, curve_scene_after, curves_waited}
+use Rattle.xl_lackey.specs.Skims.{pair}
 use Rattle.xl_curving.proofs.SceneLemmas.{any-record}
 
 -- accesses as items, with this number

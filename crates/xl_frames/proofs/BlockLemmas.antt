@@ -1,9 +1,5 @@
 -- Blocks of free frames.
-use Rattle.std.proofs.Common.{ℕ, suc, ◌+◌, ◌-◌, ◌*◌, ◌/◌, ◌<◌, ◌≤◌, Bool, true, false, List, length, replicate, refl, sym, ◌∙◌, arith, inl, inr}
-use Rattle.std.proofs.lemmas.Bool.{cases_lt, false≢true}
-use Rattle.std.proofs.lemmas.List.{get_or-replicate, get_or_past}
-use Rattle.std.proofs.Math.Nat.{mul-le-mul_right, suc-mul, mul_comm, div-add-mod}
-use Rattle.xl_frames.specs.Pool.{IsFree, IsLowest, HasNone}
+use Rattle.xl_frames.proofs.Common.{◌*◌, ◌+◌, ◌-◌, ◌/◌, ◌<◌, ◌∙◌, ◌≤◌, arith, Bool, cases_lt, div-add-mod, false, false≢true, get_or-replicate, get_or_past, HasNone, inl, inr, IsFree, IsLowest, length, List, mul-le-mul_right, mul_comm, refl, replicate, suc, suc-mul, sym, true, ℕ}
 
 -- ---- a block of a size
 

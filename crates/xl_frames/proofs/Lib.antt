@@ -1,3 +1,4 @@
+mod Common
 mod BlockLemmas
 pub mod MarkLemmas
 mod SetLemmas

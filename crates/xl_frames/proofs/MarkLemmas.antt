@@ -1,8 +1,5 @@
 -- What callers use: what a marked pool is at each frame, and blocks of one frame, which serve as numbers.
-use Rattle.std.proofs.Common.{◌≡◌, ℕ, suc, ◌+◌, ◌-◌, ◌*◌, ◌<◌, ◌≤◌, Bool, true, false, List, ◌++◌, length, get_or, set, take, drop, replicate, sym, ◌∙◌, ap, arith}
-use Rattle.std.proofs.lemmas.Bool.{false_from_ne_true}
-use Rattle.std.proofs.lemmas.List.{length-append, length-take, length-drop, length-replicate, get_or-take, get_or-drop, get_or-replicate, get_or_append_left, get_or-append_right, set_split}
-use Rattle.xl_frames.specs.Pool.{IsFree, IsLowest, IsLowestNumber, HasNone, marked}
+use Rattle.xl_frames.proofs.Common.{◌*◌, ◌++◌, ◌+◌, ◌-◌, ◌<◌, ◌∙◌, ◌≡◌, ◌≤◌, ap, arith, Bool, drop, false, false_from_ne_true, get_or, get_or-append_right, get_or-drop, get_or-replicate, get_or-take, get_or_append_left, HasNone, IsFree, IsLowest, IsLowestNumber, length, length-append, length-drop, length-replicate, length-take, List, marked, replicate, set, set_split, suc, sym, take, true, ℕ}
 
 pub length-marked : (pool : List Bool) (first count : ℕ) (v : Bool) → first + count ≤ length pool → length (marked pool first count v) ≡ length pool
 length-marked pool first count v l =

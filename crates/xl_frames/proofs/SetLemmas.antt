@@ -1,15 +1,9 @@
 -- What a call leaves in the sets of the frames, of the blocks and of the parts.
-use Rattle.std.proofs.Common.{◌≡◌, ℕ, ◌+◌, ◌*◌, ◌/◌, ◌^◌, ◌<◌, ◌≤◌, Option, Some, None, Bool, true, false, List, length, get_or, set, replicate, refl, sym, ◌∙◌, ap, subst, arith, inl, inr, ◌⊎◌}
-use Rattle.std.proofs.lemmas.Bool.{cases_lt, cases_eq, false≢true}
-use Rattle.std.proofs.lemmas.List.{ext_get_or, get_or_past, get_or-replicate, length-replicate, length-set, get_or-set_same, get_or-set_other}
-use Rattle.std.proofs.Math.Nat.{mul-le-mul_right, add-mul}
-use Rattle.std.specs.Prelude.{IfSome}
-use Rattle.xl_numbers.specs.Free as numbers
-use Rattle.xl_numbers.specs.Free.{AreMarked, AreFree}
-use Rattle.xl_frames.specs.Pool.{IsFree, IsLowest, HasNone, marked}
+use Rattle.xl_frames.proofs.Common.{◌*◌, ◌+◌, ◌/◌, ◌<◌, ◌^◌, ◌∙◌, ◌≡◌, ◌≤◌, ◌⊎◌, add-mul, ap, AreFree, AreMarked, arith, Bool, cases_eq, cases_lt, ext_get_or, false, false≢true, get_or, get_or-replicate, get_or-set_other, get_or-set_same, get_or_past, HasNone, IfSome, inl, inr, IsFree, IsLowest, length, length-replicate, length-set, List, marked, mul-le-mul_right, None, Option, refl, replicate, set, Some, subst, sym, true, ℕ}
+use Rattle.xl_frames.proofs.BlockLemmas.{block_below, block_fits, free_all, free_fits, one_more_block}
+use Rattle.xl_frames.proofs.MarkLemmas.{length-marked, marked_above, marked_below, marked_inside}
 use Rattle.xl_frames.specs.Blocks.{AreBlocks, IsKept, IsSettled}
-use Rattle.xl_frames.proofs.BlockLemmas.{one_more_block, free_fits, free_all, block_below, block_fits}
-use Rattle.xl_frames.proofs.MarkLemmas.{length-marked, marked_inside, marked_below, marked_above}
+use Rattle.xl_numbers.specs.Free as numbers
 
 -- flags that are marked are those of the definition
 pub marked_is : (old new : List Bool) (first count : ℕ) (v : Bool) → first + count ≤ length old → AreMarked old new first count v → new ≡ marked old first count v

@@ -1,35 +1,13 @@
 -- What is promised of harts, by what they keep.
-use Rattle.std.proofs.Common.{◌≡◌, refl, sym, ◌∙◌, ap, subst, ℕ, zero, suc, ◌+◌, ◌-◌, ◌≤◌, Bool, true, false, List, [], ◌∷◌, length, get_or, replicate, Option, None, Some, arith}
-use Rattle.std.proofs.lemmas.Bool.Decides.{nat_tests}
-use Rattle.std.proofs.Math.ListN.{length-replicate}
-use Rattle.xl_model.specs.declared.address.Kind.{Kind}
-use Rattle.xl_model.specs.declared.address.Mode.TheVariants as mode
-use Rattle.xl_hart_model.specs.declared.hart.HartEvent.{HartEvent}
-use Rattle.xl_hart_model.specs.declared.hart.HartSpec.{HartSpec}
-use Rattle.xl_model.specs.declared.leaf.Leaf.{Leaf}
-use Rattle.xl_model.specs.declared.leaf.Reply.TheVariants as reply
-use Rattle.xl_model.specs.Addresses.{allows, is_canonical, page_of, pages_of}
-use Rattle.xl_model.specs.Frames.{lowest}
-use Rattle.xl_hart_model.specs.Harts.{Hart, HartsState, shared_row, opening_hart, hart_at, kept_leaves, queue_of, leaf_seen, hart_reply, longest, opening_harts, after_hart_event, after_hart_events}
-use Rattle.xl_model.specs.Mapping.{covers, holds_frames, leaf_at_page, reply_by, reply_where, flat}
-use Rattle.xl_hart_model.specs.Requests.{older}
+use Rattle.xl_hart_laws.proofs.Common.{◌+◌, ◌-◌, ◌∙◌, ◌∷◌, ◌≡◌, ◌≤◌, [], after_hart_event, after_hart_events, allows, ap, arith, array_hit, Bool, covers, false, find-In, find-passes, first_found, flat, frame-shared, get_or, Hart, hart_at, hart_reply, HartEvent, HartSpec, HartsState, holds-meets, holds_frames, In, In-any, InSets, is_canonical, IsAnswer, IsCoherent, IsFrameKept, IsHart, IsHartSpec, IsKept, IsLowest, IsOlderReply, IsOutOfReach, IsOwned, kept_leaves, Kind, Leaf, leaf_at_page, leaf_seen, length, length-replicate, List, longest, lowest, lowest-is-lowest, nat_tests, None, older, opening_hart, opening_harts, opening_shape, Option, page_of, pages_of, queue_of, refl, replicate, reply_by, reply_where, shared_row, Some, subst, suc, sym, true, zero, ℕ}
 use Rattle.xl_model.specs.RowRun.{opening}
-use Rattle.xl_model.specs.Shapes.{opening_shape}
-use Rattle.xl_model.specs.Tlb.{array_hit, first_found}
-use Rattle.xl_model_lemmas.specs.Fresh.{InSets}
-use Rattle.xl_model_lemmas.specs.Lowest.{IsAnswer, IsLowest}
-use Rattle.xl_model_lemmas.specs.Members.{In}
 use Rattle.xl_model_lemmas.proofs.CoverLemmas.{covered-is}
 use Rattle.xl_model_lemmas.proofs.HitLemmas.{hit-is}
-use Rattle.xl_model_lemmas.proofs.LowestLemmas.{lowest-is-lowest}
-use Rattle.xl_model_lemmas.proofs.MemberLemmas.{find-In, find-passes, In-any}
-use Rattle.xl_model_lemmas.proofs.PlaceLemmas.{frame-shared, holds-meets}
-use Rattle.xl_hart_laws.specs.Histories.{IsOwned}
-use Rattle.xl_hart_laws.specs.Kept.{IsHartSpec, IsHart, IsKept}
-use Rattle.xl_hart_laws.specs.Laws.{IsOlderReply, IsOutOfReach, IsFrameKept, IsCoherent}
-use Rattle.xl_hart_laws.proofs.HistoryLemmas.{older-mapping, older-taken, older-owned}
 use Rattle.xl_hart_laws.proofs.HartLemmas.{length-least}
+use Rattle.xl_hart_laws.proofs.HistoryLemmas.{older-mapping, older-owned, older-taken}
 use Rattle.xl_hart_laws.proofs.KeptLemmas.{kept-after, opening-hart}
+use Rattle.xl_model.specs.declared.address.Mode.TheVariants as mode
+use Rattle.xl_model.specs.declared.leaf.Reply.TheVariants as reply
 
 -- a hart's reply, by the leaf that it sees
 reply-is : (h : Hart) (leaves others : List Leaf) (va : ℕ) (kind : Kind) → leaf_seen h (page_of mode.Sv39 va) leaves ≡ leaf_at_page h.space (page_of mode.Sv39 va) others

@@ -1,32 +1,10 @@
 -- Commands of harts that no refusal stops: their changes are sound, and the table makes them.
-use Rattle.std.proofs.Common.{◌≡◌, refl, subst, ℕ, Bool, true, false, not, ◌&&◌, List, [], ◌∷◌, Option, None, Some}
-use Rattle.std.specs.List.{list_any}
-use Rattle.xl_model.specs.declared.address.Mode.TheVariants as mode
-use Rattle.xl_model.specs.declared.address.Order.{Order}
-use Rattle.xl_model.specs.declared.event.Event.{Event}
-use Rattle.xl_model.specs.declared.event.Event.TheVariants as event
+use Rattle.xl_hart_laws.proofs.Common.{◌&&◌, ◌∷◌, ◌≡◌, [], Bool, brought, Chained, Change, change_of, change_rule, changed, Cuckoo, Event, false, finds_place, first_refusal, hart_change, hart_refusal, hart_rule, HartRefusal, HartSpec, HartsState, has-place, HasPlace, held_leaves, In-left, Insert, insert_at, is_full, IsAnswer, IsFree, IsSound, IsTable, kept_leaves, Leaf, List, list_any, lowest, lowest-is-lowest, narrowed, no-overlap, None, not, of_mapping, Option, or-first, or-second, Order, page-block, page_of, pages_of, Perm, Protect, Radix, refl, refused_unless, Relocate, Remove, rule, Runs, Shape, shape_after, shared_row, Some, sound-of, subst, table_after, table_made, TableState, true, verdict, widened, ℕ}
+use Rattle.xl_model.specs.Room.{has_room}
 use Rattle.xl_model.specs.declared.event.Refusal.{Refusal}
 use Rattle.xl_hart_model.specs.declared.hart.HartEvent.TheVariants as step
-use Rattle.xl_hart_model.specs.declared.hart.HartRefusal.{HartRefusal}
-use Rattle.xl_hart_model.specs.declared.hart.HartSpec.{HartSpec}
-use Rattle.xl_model.specs.declared.leaf.Leaf.{Leaf}
-use Rattle.xl_model.specs.declared.perm.Perm.{Perm}
-use Rattle.xl_model.specs.Addresses.{page_of, pages_of}
-use Rattle.xl_model.specs.Changes.{Change, Insert, Remove, Protect, Relocate, changed}
-use Rattle.xl_model.specs.Frames.{lowest}
-use Rattle.xl_hart_model.specs.Harts.{HartsState, shared_row, kept_leaves, hart_rule, hart_change, first_refusal, refused_unless, of_mapping, is_full, change_rule, hart_refusal}
-use Rattle.xl_hart_model.specs.Requests.{held_leaves}
-use Rattle.xl_model.specs.Room.{has_room}
-use Rattle.xl_model.specs.Rules.{insert_at, rule, change_of}
-use Rattle.xl_model.specs.Shapes.{Shape, Radix, Chained, Cuckoo, Runs, brought, widened, narrowed, shape_after}
-use Rattle.xl_model.specs.Structures.{TableState, verdict, finds_place, table_made, table_after}
-use Rattle.xl_model_lemmas.specs.Lowest.{IsAnswer, IsFree}
-use Rattle.xl_model_lemmas.specs.Mappings.{IsSound}
-use Rattle.xl_model_lemmas.proofs.LowestLemmas.{lowest-is-lowest}
-use Rattle.xl_model_lemmas.proofs.MemberLemmas.{In-left}
-use Rattle.xl_model_lemmas.proofs.PlaceLemmas.{page-block}
-use Rattle.xl_model_lemmas.proofs.RuleLemmas.{HasPlace, has-place, no-overlap, or-first, or-second, sound-of}
-use Rattle.xl_hart_laws.specs.Kept.{IsTable}
+use Rattle.xl_model.specs.declared.address.Mode.TheVariants as mode
+use Rattle.xl_model.specs.declared.event.Event.TheVariants as event
 
 pub and_first : (a b : Bool) → (a && b) ≡ true → a ≡ true
 and_first true b h = refl

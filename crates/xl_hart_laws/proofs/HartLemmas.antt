@@ -1,10 +1,5 @@
 -- Lists of harts: facts of each, and the longest queue.
-use Rattle.std.proofs.Common.{◌≡◌, refl, sym, ◌∙◌, ap, ℕ, zero, suc, ◌+◌, ◌-◌, ◌<◌, ◌≤◌, max, Bool, true, false, not, List, [], ◌∷◌, length, map, take, get_or, set, arith}
-use Rattle.std.proofs.Math.Nat.{le-max_left, le-max_right, max-le}
-use Rattle.std.specs.List.{list_any}
-use Rattle.std.proofs.lemmas.Bool.Decides.{nat_tests}
-use Rattle.xl_hart_model.specs.declared.hart.HartSpec.{HartSpec}
-use Rattle.xl_hart_model.specs.Harts.{Hart, hart_asked, is_full, longest}
+use Rattle.xl_hart_laws.proofs.Common.{◌+◌, ◌-◌, ◌<◌, ◌∙◌, ◌∷◌, ◌≡◌, ◌≤◌, [], ap, arith, Bool, false, get_or, Hart, hart_asked, HartSpec, is_full, le-max_left, le-max_right, length, List, list_any, longest, map, max, max-le, nat_tests, not, refl, set, suc, sym, take, true, zero, ℕ}
 
 pub each-set : (P : Hart → Type 0) (d x : Hart) (hs : List Hart) (i : ℕ) → ((n : ℕ) → P (get_or hs n d)) → P x → (n : ℕ) → P (get_or (set hs i x) n d)
 each-set P d x [] i all p n = all n

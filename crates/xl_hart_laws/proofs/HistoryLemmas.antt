@@ -1,19 +1,6 @@
 -- Histories: older mappings, what they are, and whose frames they hold.
-use Rattle.std.proofs.Common.{◌≡◌, refl, sym, ap, subst, ℕ, zero, suc, ◌<◌, ◌≤◌, true, List, [], ◌∷◌, ◌++◌, length, take, get_or, Option, None, Some, ◌⊎◌, inl, inr, arith}
-use Rattle.xl_model.specs.declared.address.Order.{Order}
-use Rattle.xl_hart_model.specs.declared.hart.Request.{Request}
-use Rattle.xl_model.specs.declared.leaf.Leaf.{Leaf}
-use Rattle.xl_model.specs.Changes.{Change, with_new, without_old, changed}
-use Rattle.xl_model.specs.Mapping.{holds_frames}
-use Rattle.xl_hart_model.specs.Requests.{request_of, undone, older, with_held, held_leaves}
-use Rattle.xl_model.specs.Rows.{Row}
-use Rattle.xl_model_lemmas.specs.Mappings.{IsMapping, IsSound}
-use Rattle.xl_model_lemmas.specs.Members.{In}
-use Rattle.xl_model_lemmas.proofs.InsertionLemmas.{with-In, without-In}
-use Rattle.xl_model_lemmas.proofs.MemberLemmas.{In-left, In-right, In-append}
-use Rattle.xl_model_lemmas.proofs.RuleLemmas.{kept-sound}
-use Rattle.xl_hart_laws.specs.Histories.{IsTold, IsHistory, IsOwned}
-use Rattle.xl_hart_laws.proofs.UndoLemmas.{change-undone, change-told}
+use Rattle.xl_hart_laws.proofs.Common.{◌++◌, ◌<◌, ◌∷◌, ◌≡◌, ◌≤◌, ◌⊎◌, [], ap, arith, Change, changed, get_or, held_leaves, holds_frames, In, In-append, In-left, In-right, inl, inr, IsHistory, IsMapping, IsOwned, IsSound, IsTold, kept-sound, Leaf, length, List, None, older, Option, Order, refl, Request, request_of, Row, Some, subst, suc, sym, take, true, undone, with-In, with_held, with_new, without-In, without_old, zero, ℕ}
+use Rattle.xl_hart_laws.proofs.UndoLemmas.{change-told, change-undone}
 
 -- the history after a change
 pub history-changed : (row : Row) (requests : List Request) (leaves : List Leaf) (c : Change) → IsMapping row leaves → IsSound row leaves c → IsHistory row requests leaves

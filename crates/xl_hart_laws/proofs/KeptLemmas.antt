@@ -1,46 +1,17 @@
 -- What harts keep, after each event.
-use Rattle.std.proofs.Common.{◌≡◌, refl, sym, ◌∙◌, ap, subst, ℕ, suc, ◌+◌, ◌-◌, ◌<◌, ◌≤◌, ◌==◌, Bool, true, false, not, List, ◌∷◌, ◌++◌, length, take, get_or, set, nat_lt, Option, None, Some, inl, inr, arith}
-use Rattle.std.specs.List.{list_any}
-use Rattle.std.proofs.Math.ListN.{length-set}
+use Rattle.xl_hart_laws.proofs.Common.{◌++◌, ◌+◌, ◌-◌, ◌<◌, ◌==◌, ◌∙◌, ◌∷◌, ◌≡◌, ◌≤◌, accessed_by, after_hart_event, after_hart_refusal, ap, arith, array_fenced, array_walked, Bool, Change, change_rule, changed, covers, current_hart, Event, false, find-In, get_or, Hart, hart_accessed, hart_asked, hart_at, hart_change, hart_fenced, hart_hit, hart_refusal, hart_replied, hart_rule, hart_served, hart_switched, hart_walked, HartEvent, HartRefusal, HartSpec, HartsState, held_leaves, holds-meets, holds_frames, In, inl, inr, Insert, InSets, is_equal, is_full, IsFree, IsHart, IsHartSpec, IsHistory, IsKept, IsOfOlder, kept_leaves, Kind, Leaf, leaf_at_page, length, length-set, level_of, List, list_any, longest, mapping_changed, nat_lt, nat_tests, None, not, older, oldest, opening_hart, Option, own_served, owners, pages_of, Protect, refl, Relocate, Remove, Request, request_of, request_taken, rule, set, shared_row, Some, subst, suc, sym, table_made, table_walked, TableState, take, TlbArray, true, undone, unless-true, with_taken, ℕ}
 use Rattle.std.proofs.lemmas.List.{length-map}
-use Rattle.std.proofs.lemmas.Bool.Decides.{nat_tests}
-use Rattle.xl_model.specs.declared.address.Kind.{Kind}
-use Rattle.xl_model.specs.declared.event.Event.{Event}
-use Rattle.xl_model.specs.declared.event.Event.TheVariants as event
-use Rattle.xl_hart_model.specs.declared.hart.HartEvent.{HartEvent}
-use Rattle.xl_hart_model.specs.declared.hart.HartEvent.TheVariants as step
-use Rattle.xl_hart_model.specs.declared.hart.HartRefusal.{HartRefusal}
-use Rattle.xl_hart_model.specs.declared.hart.HartSpec.{HartSpec}
-use Rattle.xl_hart_model.specs.declared.hart.Request.{Request}
-use Rattle.xl_model.specs.declared.leaf.Leaf.{Leaf}
 use Rattle.xl_model.specs.declared.leaf.Reply.{Reply}
-use Rattle.xl_model.specs.declared.perm.Perm.{Perm}
-use Rattle.xl_model.specs.Addresses.{pages_of, level_of}
-use Rattle.xl_model.specs.Base.{same_bit}
-use Rattle.xl_model.specs.Changes.{Change, Insert, Remove, Protect, Relocate, changed}
-use Rattle.xl_hart_model.specs.Harts.{Hart, HartsState, shared_row, opening_hart, hart_at, current_hart, kept_leaves, hart_hit, array_walked, hart_walked, hart_replied, accessed_by, hart_accessed, hart_rule, hart_change, change_rule, hart_refusal, hart_asked, mapping_changed, hart_switched, is_equal, array_fenced, oldest, hart_fenced, longest, with_taken, request_taken, is_full, own_served, hart_served, after_hart_refusal, after_hart_event}
-use Rattle.xl_model.specs.Mapping.{covers, holds_frames, leaf_at_page}
-use Rattle.xl_hart_model.specs.Requests.{request_of, undone, older, held_leaves}
-use Rattle.xl_model.specs.Ranges.{same_perm}
-use Rattle.xl_model.specs.Rules.{rule}
-use Rattle.xl_model.specs.Structures.{TableState, table_made, table_walked}
-use Rattle.xl_model.specs.Tlb.{TlbArray, array_touched, array_filled, filled_where, takes_order}
-use Rattle.xl_model_lemmas.specs.Fresh.{InSets}
-use Rattle.xl_model_lemmas.specs.Lowest.{IsFree}
-use Rattle.xl_model_lemmas.specs.Members.{In}
-use Rattle.xl_model_lemmas.proofs.MemberLemmas.{find-In}
-use Rattle.xl_model_lemmas.proofs.PlaceLemmas.{holds-meets}
-use Rattle.xl_model_lemmas.proofs.PoolLemmas.{no-leaf}
-use Rattle.xl_model_lemmas.proofs.RuleLemmas.{unless-true}
-use Rattle.xl_hart_laws.specs.Histories.{IsHistory, owners}
-use Rattle.xl_hart_laws.specs.Kept.{IsHartSpec, IsOfOlder, IsHart, IsKept}
-use Rattle.xl_hart_laws.proofs.HistoryLemmas.{history-changed, older-changed, history-taken, older-taken, older-mapping, older-last, undone-In}
-use Rattle.xl_hart_laws.proofs.OwnerLemmas.{owners_by, inserted, owners-append, owners-after, owners-taken, none-owned}
-use Rattle.xl_hart_laws.proofs.HartLemmas.{below-full, each-set, each-map, below-longest, longest-set, longest-same, longest-asked, length-least}
-use Rattle.xl_hart_laws.proofs.CommandLemmas.{IsAllowed, rule-allows, rule-none, change-none, room-none, full-none, second-none, refused-true, change-made, made-table}
-use Rattle.xl_model_lemmas.proofs.FreshArrayLemmas.{touched-spec, filled-spec, purged-sets, touched-sets, filled-sets, opening-sets}
-use Rattle.xl_model_lemmas.proofs.SameLemmas.{bit-same, perm-same}
+use Rattle.xl_model_lemmas.proofs.FreshArrayLemmas.{filled-sets, filled-spec, opening-sets, purged-sets, touched-sets, touched-spec}
 use Rattle.xl_model_lemmas.proofs.OnceLemmas.{own-number}
+use Rattle.xl_model_lemmas.proofs.PoolLemmas.{no-leaf}
+use Rattle.xl_model_lemmas.proofs.SameLemmas.{perm-same}
+use Rattle.xl_hart_laws.proofs.CommandLemmas.{change-made, change-none, full-none, IsAllowed, made-table, refused-true, room-none, rule-allows, rule-none, second-none}
+use Rattle.xl_hart_laws.proofs.HartLemmas.{below-full, below-longest, each-map, each-set, length-least, longest-asked, longest-same, longest-set}
+use Rattle.xl_hart_laws.proofs.HistoryLemmas.{history-changed, history-taken, older-changed, older-last, older-mapping, older-taken, undone-In}
+use Rattle.xl_hart_laws.proofs.OwnerLemmas.{inserted, none-owned, owners-after, owners-append, owners-taken, owners_by}
+use Rattle.xl_hart_model.specs.declared.hart.HartEvent.TheVariants as step
+use Rattle.xl_model.specs.declared.event.Event.TheVariants as event
 
 pub walked-spec : (found : Option Leaf) (a : TlbArray) → (array_walked found a).spec ≡ a.spec
 walked-spec None a = refl

@@ -1,21 +1,6 @@
 -- How many leaves hold a frame.
-use Rattle.std.proofs.Common.{◌≡◌, refl, ℕ, zero, suc, ◌+◌, ◌≤◌, ◌==◌, Bool, true, false, List, [], ◌∷◌, ◌++◌, length, get_or, take, nat_lt, Option, None, Some, inl, inr, arith}
-use Rattle.std.specs.List.{list_any}
-use Rattle.std.proofs.lemmas.Bool.Decides.{nat_tests}
-use Rattle.xl_hart_model.specs.declared.hart.Request.{Request}
-use Rattle.xl_model.specs.declared.leaf.Leaf.{Leaf}
-use Rattle.xl_model.specs.Base.{one_if}
-use Rattle.xl_model.specs.Changes.{Change, Insert, Remove, Protect, Relocate, old_leaf, new_leaf, with_perm, at_page, with_new, without_old, changed}
-use Rattle.xl_model.specs.Mapping.{holds_frames, leaf_key, leaf_named, with_leaf, without_leaf}
-use Rattle.xl_hart_model.specs.Requests.{request_of, with_held, held_leaves}
-use Rattle.xl_model.specs.Rows.{Row}
-use Rattle.xl_model_lemmas.specs.Mappings.{IsMapping, IsSound}
-use Rattle.xl_model_lemmas.specs.Members.{In}
-use Rattle.xl_model_lemmas.proofs.InsertionLemmas.{without-other}
-use Rattle.xl_hart_laws.specs.Histories.{owners}
+use Rattle.xl_hart_laws.proofs.Common.{◌++◌, ◌+◌, ◌==◌, ◌∷◌, ◌≡◌, ◌≤◌, [], arith, at_page, Bool, Change, changed, false, get_or, held_leaves, holds_frames, In, inl, inr, Insert, IsMapping, IsSound, Leaf, leaf_key, leaf_named, length, List, list_any, nat_lt, nat_tests, new_leaf, None, old-In, old_leaf, one_if, Option, owners, Protect, put-back, refl, Relocate, Remove, Request, request_of, Row, Some, suc, take, true, with_held, with_leaf, with_new, with_perm, without-other, without_leaf, without_old, zero, ℕ}
 use Rattle.xl_hart_laws.proofs.UndoLemmas.{new-apart}
-use Rattle.xl_model_lemmas.proofs.PoolChangeLemmas.{old-In}
-use Rattle.xl_model_lemmas.proofs.SortedLemmas.{put-back}
 
 -- of one leaf, if there is one
 abbrev pub owners_by : ℕ → Option Leaf → ℕ

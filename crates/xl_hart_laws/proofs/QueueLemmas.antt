@@ -1,23 +1,11 @@
 -- The queues of harts, as parts of one list.
-use Rattle.std.proofs.Common.{◌≡◌, refl, sym, ◌∙◌, ap, subst, ℕ, zero, suc, ◌+◌, ◌-◌, ◌<◌, ◌≤◌, Bool, true, false, List, [], ◌∷◌, length, map, take, get_or, set, max, nat_lt, nat_le, None, Some, arith}
-use Rattle.std.proofs.lemmas.Bool.Decides.{nat_tests}
-use Rattle.std.proofs.Math.Nat.{max-eq_left, max-eq_right}
-use Rattle.xl_model.specs.declared.address.Kind.{Kind}
-use Rattle.xl_model.specs.declared.event.Event.{Event}
-use Rattle.xl_model.specs.declared.event.Event.TheVariants as event
+use Rattle.xl_hart_laws.proofs.Common.{◌+◌, ◌-◌, ◌<◌, ◌∙◌, ◌∷◌, ◌≡◌, ◌≤◌, [], after_hart_event, after_hart_events, ap, AreQueues, arith, Bool, Change, change_of, ComesIntoQueue, Event, false, get_or, Hart, hart_asked, hart_at, hart_change, hart_fenced, hart_refusal, hart_served, HartEvent, HartSpec, HartsState, IsHartSpec, IsKept, Kind, length, List, longest, map, mapping_changed, max, max-eq_left, max-eq_right, nat_le, nat_lt, nat_tests, None, oldest, opening_hart, opening_harts, queue_of, refl, request_of, request_taken, set, Some, subst, suc, sym, take, TakesOldest, true, zero, ℕ}
 use Rattle.xl_model.specs.declared.event.Scope.{Scope}
-use Rattle.xl_hart_model.specs.declared.hart.HartEvent.{HartEvent}
-use Rattle.xl_hart_model.specs.declared.hart.HartEvent.TheVariants as step
-use Rattle.xl_hart_model.specs.declared.hart.HartSpec.{HartSpec}
-use Rattle.xl_model.specs.Changes.{Change}
-use Rattle.xl_hart_model.specs.Harts.{Hart, HartsState, hart_at, hart_asked, hart_change, hart_refusal, hart_fenced, hart_served, longest, mapping_changed, oldest, opening_hart, opening_harts, queue_of, request_taken, after_hart_event, after_hart_events}
-use Rattle.xl_hart_model.specs.Requests.{request_of}
-use Rattle.xl_model.specs.Rules.{change_of}
-use Rattle.xl_hart_laws.specs.Kept.{IsHartSpec, IsKept}
-use Rattle.xl_hart_laws.specs.Laws.{ComesIntoQueue, TakesOldest, AreQueues}
-use Rattle.xl_hart_laws.proofs.CommandLemmas.{first-none, second-none, refused-true}
-use Rattle.xl_hart_laws.proofs.HartLemmas.{below-longest, length-least}
 use Rattle.xl_hart_laws.proofs.CoherenceLemmas.{events-kept, opening-kept}
+use Rattle.xl_hart_laws.proofs.CommandLemmas.{first-none, refused-true, second-none}
+use Rattle.xl_hart_laws.proofs.HartLemmas.{below-longest, length-least}
+use Rattle.xl_hart_model.specs.declared.hart.HartEvent.TheVariants as step
+use Rattle.xl_model.specs.declared.event.Event.TheVariants as event
 
 -- an event that is no change
 pub no-access : (s : HartsState) (va : ℕ) (k : Kind) (c : Change) → hart_change s (event.Access va k) ≡ Some c → ⊥

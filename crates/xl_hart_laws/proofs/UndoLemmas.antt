@@ -1,22 +1,7 @@
 -- A request undone: the mapping is the one before its command.
-use Rattle.std.proofs.Common.{◌≡◌, refl, sym, ◌∙◌, ap, subst, ℕ, ◌+◌, ◌*◌, ◌^◌, ◌==◌, Bool, true, false, List, Option, None, Some, inl, inr, arith}
-use Rattle.std.proofs.lemmas.Bool.Decides.{nat_tests}
-use Rattle.xl_model.specs.declared.address.Order.{Order}
-use Rattle.xl_model.specs.declared.leaf.Leaf.{Leaf}
-use Rattle.xl_model.specs.declared.perm.Perm.{Perm}
-use Rattle.xl_model.specs.Changes.{Change, Insert, Remove, Protect, Relocate, old_leaf, new_leaf, with_perm, at_page, with_new, without_old, changed}
-use Rattle.xl_model.specs.Mapping.{leaf_key, leaf_named, with_leaf, without_leaf}
-use Rattle.xl_hart_model.specs.Requests.{request_of, undone}
-use Rattle.xl_model.specs.Rows.{Row}
-use Rattle.xl_model_lemmas.specs.Mappings.{IsMapping, IsSound}
-use Rattle.xl_model_lemmas.specs.Members.{In, IsSorted}
-use Rattle.xl_model_lemmas.proofs.ChangeLemmas.{first-small, place-small, other-key}
-use Rattle.xl_model_lemmas.proofs.InsertionLemmas.{with-In, In-with, stays-with, sorted-with, sorted-without, without-In, without-other, In-without, same-place}
-use Rattle.xl_model_lemmas.proofs.MappingLemmas.{named-In, named-is}
-use Rattle.xl_model_lemmas.proofs.PlaceLemmas.{named-space}
-use Rattle.xl_model_lemmas.proofs.SortedLemmas.{same-sorted, put-back, took-back}
-use Rattle.xl_hart_laws.specs.Histories.{IsTold}
-use Rattle.xl_model_lemmas.proofs.PoolChangeLemmas.{old-In, new-In}
+use Rattle.xl_hart_laws.proofs.Common.{◌*◌, ◌+◌, ◌==◌, ◌^◌, ◌∙◌, ◌≡◌, ap, at_page, Change, changed, In, Insert, IsMapping, IsSorted, IsSound, IsTold, Leaf, leaf_key, leaf_named, List, named-space, new-In, new_leaf, None, old-In, old_leaf, Option, Order, Perm, Protect, put-back, refl, Relocate, Remove, request_of, Row, Some, sorted-without, subst, sym, took-back, undone, with_new, with_perm, without-In, without-other, without_leaf, without_old, ℕ}
+use Rattle.xl_model_lemmas.proofs.ChangeLemmas.{first-small, other-key, place-small}
+use Rattle.xl_model_lemmas.proofs.MappingLemmas.{named-is}
 
 pub sorted-old : (old : Option Leaf) (xs : List Leaf) → IsSorted xs → IsSorted (without_old old xs)
 sorted-old None xs s = s

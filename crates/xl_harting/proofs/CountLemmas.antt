@@ -1,12 +1,6 @@
 -- The lines of harts, one by one.
-use Rattle.std.proofs.Common.{◌≡◌, ℕ, zero, suc, ◌+◌, ◌<◌, Bool, true, false, List, [], ◌∷◌, ◌++◌, length, take, drop, ap, sym, ◌∙◌, subst, arith, append_assoc}
-use Rattle.std.specs.Prelude.{Option, slice_index_or}
+use Rattle.xl_harting.proofs.Common.{◌++◌, ◌+◌, ◌<◌, ◌∙◌, ◌∷◌, ◌≡◌, [], ap, append_assoc, arith, Bool, counts_lines, drop, false, Hart, hart_counts_line, length, List, sink_cut, sink_then, SinkAfter, SinkMeaning, slice_index_or, subst, suc, sym, take, true, zero, ℕ}
 use Rattle.std.proofs.lemmas.List.{append-nil, take-append-drop}
-use Rattle.xl_outside.specs.Sinks.{SinkMeaning, SinkAfter}
-use Rattle.xl_outside.proofs.SinkLemmas.{sink_then, sink_cut}
-use Rattle.xl_hart_model.specs.Harts.{Hart}
-use Rattle.xl_hart_report.specs.Lines.{hart_counts_line}
-use Rattle.xl_harting.specs.Harting.{counts_lines}
 
 lines-more : (n i : ℕ) (harts : List Hart) (none : Hart) → i < length harts
     → counts_lines n (take (suc i) harts) ≡ counts_lines n (take i harts) ++ hart_counts_line (n + i) (slice_index_or harts i none).counts

@@ -1,17 +1,12 @@
 -- The events of a command, and what an access is answered.
-use Rattle.std.proofs.Common.{◌≡◌, ℕ, List, [], ◌∷◌, refl}
-use Rattle.xl_lackey.specs.declared.skim.Access.{Access}
-use Rattle.xl_model.specs.declared.address.Kind.{Kind}
-use Rattle.xl_model.specs.declared.leaf.Reply.{Reply}
-use Rattle.xl_model.specs.Rules.{rule, change_of}
-use Rattle.xl_hart_model.specs.declared.hart.HartOutcome.TheVariants as outcome
-use Rattle.xl_hart_model.specs.Harts.{HartsState, after_hart_event, current_hart, hart_change, hart_outcome, hart_refusal, hart_reply, hart_rule}
+use Rattle.xl_harting.proofs.Common.{◌∷◌, ◌≡◌, [], access_of, accesses_after, after_hart_event, current_hart, events_of, hart_change, hart_outcome, hart_refusal, hart_reply, hart_rule, HartCommand, harts_form, HartsState, List, refl, Reply, ℕ}
 use Rattle.xl_hart_model.specs.declared.hart.HartEvent.{HartEvent}
-use Rattle.xl_hart_script.specs.declared.command.HartCommand.{HartCommand}
-use Rattle.xl_hart_script.specs.declared.command.HartCommand.TheVariants as command
 use Rattle.xl_harts.specs.Events.{accesses_served}
-use Rattle.xl_paired.specs.Pairs.{accesses_after}
-use Rattle.xl_harting.specs.Harting.{access_of, events_of, harts_form}
+use Rattle.xl_lackey.specs.declared.skim.Access.{Access}
+use Rattle.xl_model.specs.Rules.{change_of, rule}
+use Rattle.xl_model.specs.declared.address.Kind.{Kind}
+use Rattle.xl_hart_model.specs.declared.hart.HartOutcome.TheVariants as outcome
+use Rattle.xl_hart_script.specs.declared.command.HartCommand.TheVariants as command
 
 -- an access is replied to
 pub access_outcome : (va : ℕ) (kind : Kind) (s : HartsState) → hart_outcome (access_of va kind) s ≡ outcome.Replied (hart_reply (current_hart s) s.table.leaves va kind)

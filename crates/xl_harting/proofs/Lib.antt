@@ -1,3 +1,4 @@
+mod Common
 mod ScriptLemmas
 mod EventLemmas
 mod CountLemmas

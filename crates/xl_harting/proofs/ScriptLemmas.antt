@@ -1,12 +1,7 @@
 -- The commands of a script's steps.
-use Rattle.std.proofs.Common.{List, [], ◌∷◌, map}
-use Rattle.std.specs.Prelude.{All}
-use Rattle.std.proofs.lemmas.List.Elements.{All-nil, All-cons, All-head, All-tail}
-use Rattle.xl_hart_script.specs.declared.command.HartCommand.{HartCommand}
-use Rattle.xl_hart_script.specs.declared.command.HartCommand.TheVariants as command
-use Rattle.xl_hart_script.specs.Scripts.{IsReady}
+use Rattle.xl_harting.proofs.Common.{◌∷◌, [], All, All-cons, All-head, All-nil, All-tail, HartCommand, IsReady, List, map, step_of}
 use Rattle.xl_course.specs.Courses.{commands_of}
-use Rattle.xl_harting.specs.Harting.{step_of}
+use Rattle.xl_hart_script.specs.declared.command.HartCommand.TheVariants as command
 
 -- what holds of a script's commands holds of those of its steps
 pub ready_steps : (cs : List HartCommand) → All IsReady cs → All IsReady (commands_of (map step_of cs))

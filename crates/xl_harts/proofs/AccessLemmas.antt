@@ -1,40 +1,15 @@
 -- An access of harts, against the definitions.
-use Rattle.std.proofs.Common.{◌≡◌, refl, sym, ◌∙◌, ap, subst, ℕ, ◌+◌, ◌-◌, ◌%◌, ◌^◌, ◌<◌, ◌≤◌, Bool, true, false, List, ◌++◌, set, Option, None, Some, IfSome, arith}
-use Rattle.std.proofs.lemmas.Bool.Decides.{nat_tests}
-use Rattle.xl_model.specs.declared.address.Kind.{Kind}
+use Rattle.xl_harts.proofs.Common.{◌%◌, ◌++◌, ◌+◌, ◌-◌, ◌<◌, ◌^◌, ◌∙◌, ◌≡◌, ◌≤◌, accessed-kept, accessed_by, after_hart_event, after_own, allows, ap, arith, array_hit, array_touched, array_walked, Bool, change_of, count_hit, count_miss, covers, current_hart, false, find-In, find-passes, first_found, Hart, hart_accessed, hart_after, hart_at, hart_change, hart_filled, hart_hit, hart_refusal, hart_replied, hart_reply, hart_rule, hart_served, HartSpec, HartsState, HasSmallReplies, held_leaves, IfSome, is_canonical, IsAccess, IsFit, IsHarts, IsHartSpec, IsKept, IsLeafOf, IsMapping, IsPoolOf, IsReached, IsSeen, IsServed, IsWalk, IsWalked, Kind, Leaf, leaf_at_page, List, nat_tests, None, older-mapping, Option, page_of, pages_of, plus, refl, Reply, reply_by, reply_where, rule, set, shared_row, Some, subst, sym, table_looked, table_walked, TableState, TlbArray, true, Walk, walk_answer, ℕ}
+use Rattle.std.specs.Prelude.{if◌then◌else◌}
+use Rattle.xl_hart_model.specs.declared.hart.HartCounts.{HartCounts}
+use Rattle.xl_model.specs.Tally.{IsSmall}
+use Rattle.xl_model.specs.Walks.{walked}
+use Rattle.xl_model_lemmas.proofs.HitLemmas.{hit-is}
+use Rattle.xl_tlb.specs.Answers.{IsPageWord}
+use Rattle.xl_harts.proofs.RefusalLemmas.{leaf-fit}
 use Rattle.xl_model.specs.declared.address.Mode.TheVariants as mode
 use Rattle.xl_model.specs.declared.event.Event.TheVariants as event
-use Rattle.xl_hart_model.specs.declared.hart.HartCounts.{HartCounts}
-use Rattle.xl_hart_model.specs.declared.hart.HartSpec.{HartSpec}
-use Rattle.xl_model.specs.declared.leaf.Leaf.{Leaf}
-use Rattle.xl_model.specs.declared.leaf.Reply.{Reply}
 use Rattle.xl_model.specs.declared.leaf.Reply.TheVariants as reply
-use Rattle.xl_model.specs.declared.work.Walk.{Walk}
-use Rattle.std.specs.Prelude.{if◌then◌else◌}
-use Rattle.xl_model.specs.Addresses.{allows, is_canonical, page_of, pages_of}
-use Rattle.xl_model.specs.Base.{plus}
-use Rattle.xl_hart_model.specs.Tally.{count_hit, count_miss}
-use Rattle.xl_hart_model.specs.Harts.{Hart, HartsState, shared_row, current_hart, hart_at, hart_reply, hart_replied, hart_hit, array_walked, accessed_by, hart_accessed, hart_rule, hart_change, hart_refusal, hart_served, after_hart_event}
-use Rattle.xl_model.specs.Mapping.{covers, leaf_at_page, reply_by, reply_where}
-use Rattle.xl_model.specs.Tally.{IsSmall}
-use Rattle.xl_model.specs.Rules.{rule, change_of}
-use Rattle.xl_model.specs.Structures.{TableState, IsWalk, walk_answer, table_walked}
-use Rattle.xl_model.specs.Tlb.{TlbArray, array_hit, array_touched, first_found}
-use Rattle.xl_hart_model.specs.Requests.{held_leaves}
-use Rattle.xl_model_lemmas.specs.Pools.{IsPoolOf}
-use Rattle.xl_tlb.specs.Answers.{IsPageWord}
-use Rattle.xl_hart_laws.proofs.KeptLemmas.{accessed-kept}
-use Rattle.xl_model.specs.Walks.{walked}
-use Rattle.xl_model_lemmas.specs.Mappings.{IsLeafOf, IsMapping}
-use Rattle.xl_model_lemmas.proofs.HitLemmas.{hit-is}
-use Rattle.xl_model_lemmas.proofs.MemberLemmas.{find-In, find-passes}
-use Rattle.xl_tlb.specs.Arrays.{IsFit}
-use Rattle.xl_hart_laws.specs.Kept.{IsHartSpec, IsKept}
-use Rattle.xl_hart_laws.proofs.HistoryLemmas.{older-mapping}
-use Rattle.xl_harts.specs.Looks.{IsReached, IsSeen, IsAccess, IsWalked, hart_after, hart_filled, table_looked}
-use Rattle.xl_harts.specs.Views.{IsServed, IsHarts, after_own}
-use Rattle.xl_harts.specs.Events.{HasSmallReplies}
-use Rattle.xl_harts.proofs.RefusalLemmas.{leaf-fit}
 
 -- a leaf of some mapping that covers the page
 pub reached : (spec : HartSpec) (space page : ℕ) (x : Leaf) → IsHartSpec spec → IsLeafOf (shared_row spec) x → covers space page x ≡ true → IsReached page x

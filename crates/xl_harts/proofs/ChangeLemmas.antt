@@ -1,46 +1,10 @@
 -- A command that changes the mapping, where nothing refuses it: the state after it, and what harts keep.
-use Rattle.std.proofs.Common.{◌≡◌, refl, sym, ◌∙◌, ap, subst, ℕ, ◌+◌, ◌<◌, ◌≤◌, ◌^◌, Bool, true, false, List, [], ◌∷◌, ◌++◌, map, length, is_some, Option, None, Some, Err, arith}
-use Rattle.xl_model.specs.declared.address.Mode.TheVariants as mode
-use Rattle.xl_model.specs.declared.address.Order.{Order}
-use Rattle.xl_model.specs.declared.event.Event.{Event}
-use Rattle.xl_model.specs.declared.event.Event.TheVariants as event
-use Rattle.xl_hart_model.specs.declared.hart.Request.{Request}
-use Rattle.xl_model.specs.declared.leaf.Leaf.{Leaf}
-use Rattle.xl_model.specs.declared.perm.Perm.{Perm}
+use Rattle.xl_harts.proofs.Common.{◌++◌, ◌+◌, ◌<◌, ◌^◌, ◌∙◌, ◌∷◌, ◌≡◌, ◌≤◌, [], after_hart_event, after_own, AllShort, answer_by, ap, arith, Bool, brought, Change, change-made, change-none, changed, changed-kept, covers, Err, Event, false, find-In, finds_place, full-none, Hart, hart_asked, hart_change, hart_rule, hart_served, HartSpec, HartsState, has_room, HasNone, held_leaves, In, Insert, inserted, is_leaf, is_some, IsAllowed, IsBlock, IsHarts, IsKept, IsLeafOf, IsLowest, IsMapping, IsNamed, IsNewLeaf, IsNewPlace, IsPoolOf, IsTable, kept_leaves, le-max_left, le-max_right, Leaf, leaf_at, leaf_at_page, leaf_named, length, List, longest, lowest-none, lowest-some, Made, made-leaves, map, mapping_changed, marked, named_rule, no-access, no-fence, no-switch, Node, None, not-full, older-mapping, Option, or-first, or-second, Order, owners, owners-after, owners_by, page_of, pages_of, Perm, plus, pool-stays, pool-with, Protect, Radix, refl, refusal_of, Remove, Request, request_of, room-none, rule, rule-allows, rule-none, Shape, shared_row, Some, state_of, subst, sym, table_after, table_answer, TableState, there_rule, true, unless-true, verdict, ℕ}
 use Rattle.xl_model.specs.declared.work.Refused.{Refused}
-use Rattle.xl_model.specs.Addresses.{page_of, pages_of}
-use Rattle.xl_model.specs.Base.{plus}
-use Rattle.xl_model.specs.Changes.{Change, Insert, Remove, Protect, IsNamed, changed}
-use Rattle.xl_hart_model.specs.Harts.{Hart, HartsState, shared_row, kept_leaves, hart_rule, hart_change, hart_asked, mapping_changed, longest, hart_served, after_hart_event}
-use Rattle.xl_model.specs.Mapping.{is_leaf, covers, leaf_at_page, leaf_named}
-use Rattle.xl_hart_model.specs.Requests.{request_of, held_leaves}
-use Rattle.xl_model.specs.Room.{has_room}
-use Rattle.xl_model.specs.Rules.{there_rule, named_rule, rule, change_of}
-use Rattle.xl_model.specs.Shapes.{Shape, Radix, brought}
-use Rattle.xl_model.specs.Nodes.{Node}
-use Rattle.std.proofs.Math.Nat.{le-max_left, le-max_right}
-use Rattle.xl_model.specs.declared.address.Kind.{Kind}
-use Rattle.xl_model.specs.declared.event.Scope.{Scope}
-use Rattle.xl_model.specs.Structures.{IsBlock, TableState, Made, table_answer, table_after, verdict, answer_by, finds_place}
-use Rattle.xl_model_lemmas.specs.Mappings.{IsMapping, IsLeafOf, IsNewLeaf, IsNewPlace}
-use Rattle.xl_model_lemmas.specs.Members.{In}
-use Rattle.xl_model_lemmas.specs.Pools.{IsPoolOf}
 use Rattle.xl_model_lemmas.proofs.CoverLemmas.{named-by}
-use Rattle.xl_model_lemmas.proofs.MemberLemmas.{find-In}
-use Rattle.xl_model_lemmas.proofs.RuleLemmas.{or-first, or-second, unless-true}
-use Rattle.xl_hart_laws.specs.Histories.{owners}
-use Rattle.xl_hart_laws.specs.Kept.{IsKept, IsTable}
-use Rattle.xl_hart_laws.proofs.HistoryLemmas.{older-mapping}
-use Rattle.xl_hart_laws.proofs.OwnerLemmas.{owners_by, inserted, owners-after}
-use Rattle.xl_hart_laws.proofs.CommandLemmas.{IsAllowed, rule-allows, rule-none, change-none, room-none, full-none, change-made, made-leaves}
-use Rattle.xl_hart_laws.proofs.KeptLemmas.{changed-kept, not-full}
-use Rattle.xl_hart_laws.proofs.FramePoolLemmas.{pool-stays, pool-with}
-use Rattle.xl_frames.specs.Pool.{HasNone, IsLowest, marked}
-use Rattle.xl_model_lemmas.proofs.PoolLemmas.{lowest-some, lowest-none}
-use Rattle.xl_harts.specs.Views.{refusal_of, after_own, leaf_at, state_of, AllShort, IsHarts}
 use Rattle.xl_harts.proofs.RefusalLemmas.{map-at, map-change, table-limits}
-use Rattle.xl_hart_model.specs.declared.hart.HartSpec.{HartSpec}
-use Rattle.xl_hart_laws.proofs.QueueLemmas.{no-access, no-switch, no-fence}
+use Rattle.xl_model.specs.declared.address.Mode.TheVariants as mode
+use Rattle.xl_model.specs.declared.event.Event.TheVariants as event
 
 -- a radix table never refuses a change for which it has room
 pub never-refused : (c : Change) (t : TableState) (r : Refused) (levels spaces : ℕ) (nodes : List (Option Node)) → t.shape ≡ Radix levels spaces nodes → has_room c t.leaves t.shape ≡ true → Err r ≡ table_answer c t → ⊥

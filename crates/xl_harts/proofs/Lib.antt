@@ -1,3 +1,4 @@
+mod Common
 mod QueueLemmas
 mod RefusalLemmas
 mod ChangeLemmas

@@ -1,17 +1,7 @@
 -- Harts that are opened.
-use Rattle.std.proofs.Common.{◌≡◌, refl, sym, subst, ℕ, Bool, true, false, List, [], ◌∷◌, replicate}
-use Rattle.std.proofs.Math.ListN.{length-replicate, get_or-replicate}
-use Rattle.xl_hart_model.specs.declared.hart.HartSpec.{HartSpec}
-use Rattle.xl_hart_model.specs.declared.hart.Request.{Request}
-use Rattle.xl_hart_model.specs.Tally.{no_refusals}
-use Rattle.xl_hart_model.specs.Harts.{Hart, HartsState, kept_leaves, opening_hart, opening_harts}
+use Rattle.xl_harts.proofs.Common.{◌∷◌, ◌≡◌, [], Bool, false, Hart, HartSpec, HartsState, IsHarts, IsHartSpec, IsPoolOf, kept_leaves, List, no_refusals, opening-kept, opening_hart, opening_harts, opening_table, refl, replicate, Request, state_of, subst, sym, TableState, true, ℕ}
+use Rattle.std.proofs.Math.ListN.{get_or-replicate, length-replicate}
 use Rattle.xl_model.specs.RowRun.{opening}
-use Rattle.xl_model.specs.Structures.{TableState}
-use Rattle.xl_model_lemmas.specs.Pools.{IsPoolOf}
-use Rattle.xl_radix_walk.specs.Row.{opening_table}
-use Rattle.xl_hart_laws.specs.Kept.{IsHartSpec}
-use Rattle.xl_hart_laws.proofs.CoherenceLemmas.{opening-kept}
-use Rattle.xl_harts.specs.Views.{state_of, IsHarts}
 
 pub opening-is : (spec : HartSpec) (table : TableState) (requests : List Request) (harts : List Hart) → table ≡ opening_table 3 spec.nodes spec.spaces (0 ∷ 0 ∷ 0 ∷ 0 ∷ []) → requests ≡ [] → harts ≡ replicate spec.harts (opening_hart spec)
     → state_of spec table requests harts 0 0 no_refusals ≡ opening_harts spec

@@ -1,12 +1,6 @@
 -- Full queues: the longest queue has all requests.
-use Rattle.std.proofs.Common.{◌≡◌, refl, sym, ◌∙◌, ap, ℕ, ◌-◌, ◌<◌, ◌≤◌, ◌==◌, ◌||◌, max, Bool, true, false, not, List, [], ◌∷◌, length, arith}
-use Rattle.std.proofs.Math.Nat.{le-max_left, le-max_right, max-le}
-use Rattle.std.proofs.lemmas.Bool.Decides.{nat_tests}
-use Rattle.std.specs.List.{list_any}
+use Rattle.xl_harts.proofs.Common.{◌-◌, ◌<◌, ◌==◌, ◌||◌, ◌∙◌, ◌∷◌, ◌≡◌, ◌≤◌, [], ap, arith, Bool, false, Hart, HartSpec, HartsState, is_full, IsKept, le-max_left, le-max_right, length, List, list_any, longest, max, max-le, nat_tests, not, refl, refused_unless, sym, true, ℕ}
 use Rattle.xl_hart_model.specs.declared.hart.HartRefusal.TheVariants as why
-use Rattle.xl_hart_model.specs.declared.hart.HartSpec.{HartSpec}
-use Rattle.xl_hart_model.specs.Harts.{Hart, HartsState, is_full, longest, refused_unless}
-use Rattle.xl_hart_laws.specs.Kept.{IsKept}
 
 -- two queues, no longer than a full one
 full-of-two : (a b q : ℕ) → a ≤ q → b ≤ q → ((a == q) || (b == q)) ≡ (max a b == q)

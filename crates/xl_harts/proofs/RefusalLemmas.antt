@@ -1,39 +1,15 @@
 -- The refusals of harts, by the questions in turn, and what the table may be asked.
-use Rattle.std.proofs.Common.{◌≡◌, refl, ap, subst, ℕ, zero, suc, ◌+◌, ◌-◌, ◌*◌, ◌%◌, ◌^◌, ◌<◌, ◌≤◌, Bool, true, false, not, ◌&&◌, List, [], ◌∷◌, Option, None, Some, Result, Ok, Err, IsErrAnd, length, get_or, arith}
-use Rattle.std.specs.List.{list_any}
-use Rattle.xl_model.specs.declared.address.Mode.TheVariants as mode
-use Rattle.xl_model.specs.declared.address.Order.{Order}
-use Rattle.xl_model.specs.declared.address.Order.TheVariants as order
-use Rattle.xl_model.specs.declared.event.Event.{Event}
-use Rattle.xl_model.specs.declared.event.Event.TheVariants as event
-use Rattle.xl_model.specs.declared.event.Refusal.{Refusal}
-use Rattle.xl_model.specs.declared.event.Refusal.TheVariants as refused
-use Rattle.xl_hart_model.specs.declared.hart.HartRefusal.TheVariants as why
-use Rattle.xl_hart_model.specs.declared.hart.HartSpec.{HartSpec}
-use Rattle.xl_model.specs.declared.leaf.Leaf.{Leaf}
-use Rattle.xl_model.specs.declared.perm.Perm.{Perm}
-use Rattle.xl_model.specs.Addresses.{is_aligned, page_of, pages_of}
-use Rattle.xl_model.specs.Changes.{Change, Insert, Remove, Protect, Relocate}
+use Rattle.xl_harts.proofs.Common.{◌%◌, ◌&&◌, ◌*◌, ◌+◌, ◌-◌, ◌<◌, ◌^◌, ◌∷◌, ◌≡◌, ◌≤◌, [], and_first, ap, arith, Bool, Chained, Change, change_of, change_rule, Cuckoo, Err, Event, false, first_refusal, frames_rule, free-of, get_or, hart_change, hart_refusal, hart_rule, HartSpec, HartsState, has-place, has_room, HasNone, HasPlace, Insert, is_aligned, is_full, IsBlock, IsErrAnd, IsFit, IsFree, IsHartSpec, IsLeafFor, IsLeafOf, IsPage, IsPoolOf, IsTable, kept_leaves, Leaf, leaf_at, leaf_nodes_missing, length, List, list_any, lowest-none, None, not, Ok, Option, or-first, or-second, Order, overlap_rule, page_limit, page_of, pages_of, Perm, place_rule, Protect, Radix, refl, Refusal, refusal_of, refused_unless, Relocate, Remove, Result, rule, Runs, Shape, shared_row, Some, spaces_of, subst, suc, there_rule, true, zero, ℕ}
 use Rattle.xl_model.specs.Frames.{lowest}
-use Rattle.xl_hart_model.specs.Harts.{HartsState, shared_row, kept_leaves, hart_rule, hart_change, first_refusal, refused_unless, is_full, change_rule, hart_refusal}
-use Rattle.xl_model.specs.Nodes.{leaf_nodes_missing}
-use Rattle.xl_model.specs.Room.{has_room}
-use Rattle.xl_model.specs.Rules.{place_rule, there_rule, overlap_rule, frames_rule, rule, change_of}
-use Rattle.xl_model.specs.Shapes.{Shape, Radix, Chained, Cuckoo, Runs}
-use Rattle.xl_model.specs.Structures.{IsBlock, IsLeafFor, IsPage, spaces_of, page_limit}
-use Rattle.xl_model_lemmas.specs.Mappings.{IsLeafOf}
-use Rattle.xl_model_lemmas.specs.Pools.{IsPoolOf}
+use Rattle.xl_model_lemmas.proofs.LowestLemmas.{lowest-is-lowest}
 use Rattle.xl_model_lemmas.proofs.OrderLemmas.{pages-some}
 use Rattle.xl_model_lemmas.proofs.PlaceLemmas.{page-block}
-use Rattle.xl_model_lemmas.proofs.PoolLemmas.{free-of, lowest-none}
-use Rattle.xl_model_lemmas.proofs.LowestLemmas.{lowest-is-lowest}
 use Rattle.xl_model_lemmas.specs.Lowest.{IsAnswer}
-use Rattle.xl_model_lemmas.proofs.RuleLemmas.{HasPlace, has-place, or-first, or-second}
-use Rattle.xl_frames.specs.Pool.{IsFree, HasNone}
-use Rattle.xl_hart_laws.specs.Kept.{IsHartSpec, IsTable}
-use Rattle.xl_tlb.specs.Arrays.{IsFit}
-use Rattle.xl_harts.specs.Views.{refusal_of, leaf_at}
-use Rattle.xl_hart_laws.proofs.CommandLemmas.{and_first}
+use Rattle.xl_hart_model.specs.declared.hart.HartRefusal.TheVariants as why
+use Rattle.xl_model.specs.declared.address.Mode.TheVariants as mode
+use Rattle.xl_model.specs.declared.address.Order.TheVariants as order
+use Rattle.xl_model.specs.declared.event.Event.TheVariants as event
+use Rattle.xl_model.specs.declared.event.Refusal.TheVariants as refused
 
 -- the spaces and pages of the shared table
 pub table-limits : (spec : HartSpec) (shape : Shape) → IsTable spec shape → (spaces_of shape ≡ spec.spaces) × (page_limit shape ≡ 2 ^ 27)

@@ -1,21 +1,9 @@
 -- Accesses of the current hart, one after another.
-use Rattle.std.proofs.Common.{◌≡◌, refl, sym, ◌∙◌, ap, subst, ℕ, Bool, List, [], ◌∷◌, set}
-use Rattle.std.proofs.lemmas.List.{get_or-set_same, set-get_or, set-set}
-use Rattle.xl_lackey.specs.declared.skim.Access.{Access}
+use Rattle.xl_harts.proofs.Common.{◌∙◌, ◌∷◌, ◌≡◌, [], Access, accessed-kept, accesses_served, after_own, ap, AreServed, array_hit, Bool, current_hart, get_or-set_same, Hart, hart_after, hart_reply, HartsState, is_canonical, IsAccess, IsCurrent, IsHarts, IsKept, IsServed, last_reply, List, opening_hart, page_of, refl, Reply, set, set-get_or, set-set, subst, sym, table_looked, TableState, ℕ}
+use Rattle.xl_harts.proofs.AccessLemmas.{access-after, access-event, access-harts, hart-served}
 use Rattle.xl_model.specs.declared.address.Mode.TheVariants as mode
 use Rattle.xl_model.specs.declared.event.Event.TheVariants as event
-use Rattle.xl_model.specs.declared.leaf.Reply.{Reply}
 use Rattle.xl_model.specs.declared.leaf.Reply.TheVariants as reply
-use Rattle.xl_model.specs.Addresses.{is_canonical, page_of}
-use Rattle.xl_model.specs.Structures.{TableState}
-use Rattle.xl_model.specs.Tlb.{array_hit}
-use Rattle.xl_hart_model.specs.Harts.{Hart, HartsState, opening_hart, current_hart, hart_reply}
-use Rattle.xl_hart_laws.specs.Kept.{IsKept}
-use Rattle.xl_hart_laws.proofs.KeptLemmas.{accessed-kept}
-use Rattle.xl_harts.specs.Events.{AreServed, accesses_served, last_reply}
-use Rattle.xl_harts.specs.Looks.{IsAccess, hart_after, table_looked}
-use Rattle.xl_harts.specs.Views.{IsCurrent, IsHarts, IsServed, after_own}
-use Rattle.xl_harts.proofs.AccessLemmas.{access-after, access-event, access-harts, hart-served}
 
 -- some accesses are served: those that are left lead from a state to where all of them lead from another
 pub record IsOnTheWay (all left : List Access) (s : HartsState) (r : Reply) (table : TableState) (h : Hart) : Type 0 where

@@ -1,29 +1,12 @@
 -- One event of harts, against the definitions.
-use Rattle.std.proofs.Common.{◌≡◌, refl, sym, ◌∙◌, ap, subst, ℕ, zero, suc, ◌+◌, ◌*◌, ◌^◌, ◌<◌, ◌≤◌, true, false, List, [], ◌∷◌, ◌++◌, length, map, take, drop, get_or, nat_lt, Option, None, Some, arith}
-use Rattle.std.proofs.lemmas.Bool.Decides.{nat_tests}
-use Rattle.std.proofs.lemmas.List.{length-map}
-use Rattle.xl_model.specs.declared.address.Kind.{Kind}
-use Rattle.xl_model.specs.declared.address.Order.{Order}
-use Rattle.xl_model.specs.declared.event.Event.TheVariants as event
-use Rattle.xl_model.specs.declared.event.Refusal.{Refusal}
-use Rattle.xl_model.specs.declared.event.Refusal.TheVariants as refused
+use Rattle.xl_harts.proofs.Common.{◌*◌, ◌++◌, ◌+◌, ◌<◌, ◌^◌, ◌∙◌, ◌∷◌, ◌≡◌, ◌≤◌, [], after_hart_event, after_own, ap, arith, change_of, current_hart, drop, false, frames_in, get_or, Hart, hart_asked, hart_at, hart_change, hart_outcome, hart_refusal, hart_reply, hart_rule, hart_served, hart_switched, HartSpec, HartsState, held_leaves, IsKept, Kind, le-max_left, le-max_right, Leaf, length, length-map, List, longest, map, nat_lt, nat_tests, None, Option, Order, outcome_of, Perm, refl, Refusal, refusal_of, refused_by, Request, rule, Some, subst, suc, sym, take, true, unless, waiting_in, with_held, zero, ℕ}
 use Rattle.xl_hart_model.specs.declared.hart.HartEvent.{HartEvent}
+use Rattle.xl_hart_model.specs.declared.hart.HartRefusal.{HartRefusal}
 use Rattle.xl_hart_model.specs.declared.hart.HartEvent.TheVariants as step
 use Rattle.xl_hart_model.specs.declared.hart.HartOutcome.TheVariants as outcome
-use Rattle.xl_hart_model.specs.declared.hart.HartRefusal.{HartRefusal}
 use Rattle.xl_hart_model.specs.declared.hart.HartRefusal.TheVariants as why
-use Rattle.xl_model.specs.declared.perm.Perm.{Perm}
-use Rattle.xl_hart_model.specs.declared.hart.HartSpec.{HartSpec}
-use Rattle.xl_hart_model.specs.Tally.{frames_in}
-use Rattle.xl_hart_model.specs.Harts.{Hart, HartsState, current_hart, hart_at, hart_asked, hart_switched, hart_reply, hart_rule, hart_change, hart_refusal, hart_served, longest, waiting_in, after_hart_event, hart_outcome}
-use Rattle.xl_hart_model.specs.Requests.{held_leaves, with_held}
-use Rattle.xl_model.specs.Rules.{unless, rule, change_of}
-use Rattle.xl_hart_model.specs.declared.hart.Request.{Request}
-use Rattle.xl_model.specs.declared.leaf.Leaf.{Leaf}
-use Rattle.xl_hart_laws.specs.Kept.{IsKept}
-use Rattle.std.proofs.Math.Nat.{le-max_left, le-max_right}
-use Rattle.xl_harts.specs.Events.{outcome_of, refused_by}
-use Rattle.xl_harts.specs.Views.{refusal_of, after_own}
+use Rattle.xl_model.specs.declared.event.Event.TheVariants as event
+use Rattle.xl_model.specs.declared.event.Refusal.TheVariants as refused
 
 -- what refuses a choice of a hart, and a take
 pub hart-bad : (s : HartsState) (n : ℕ) → length s.harts ≤ n → hart_refusal s (step.Hart n) ≡ Some why.BadHart

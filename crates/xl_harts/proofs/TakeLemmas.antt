@@ -1,29 +1,10 @@
 -- A request that a hart takes: what it was, and what comes free.
-use Rattle.std.proofs.Common.{◌≡◌, refl, sym, ◌∙◌, ap, subst, ℕ, zero, suc, ◌+◌, ◌-◌, ◌<◌, ◌≤◌, Bool, true, false, List, [], ◌∷◌, ◌++◌, length, take, get_or, set, nat_lt, Option, None, Some, IfSome, arith}
-use Rattle.std.proofs.lemmas.Bool.Decides.{nat_tests}
-use Rattle.xl_hart_model.specs.declared.hart.HartEvent.TheVariants as step
-use Rattle.xl_hart_model.specs.declared.hart.Request.{Request}
-use Rattle.xl_model.specs.declared.leaf.Leaf.{Leaf}
-use Rattle.xl_model.specs.Changes.{with_new, without_old}
-use Rattle.xl_hart_model.specs.Harts.{Hart, HartsState, shared_row, opening_hart, hart_at, kept_leaves, hart_refusal, oldest, hart_fenced, longest, request_taken, hart_served, after_hart_event}
-use Rattle.xl_hart_model.specs.Requests.{undone, older, with_held, held_leaves}
-use Rattle.xl_model_lemmas.specs.Mappings.{IsLeafOf}
-use Rattle.xl_model_lemmas.specs.Members.{In}
-use Rattle.xl_model_lemmas.specs.Pools.{IsPoolOf}
-use Rattle.xl_model_lemmas.proofs.InsertionLemmas.{In-with}
-use Rattle.xl_hart_laws.specs.Histories.{owners}
-use Rattle.xl_hart_laws.specs.Kept.{IsKept}
-use Rattle.xl_hart_laws.proofs.HistoryLemmas.{older-mapping, older-last}
-use Rattle.xl_hart_laws.proofs.OwnerLemmas.{owners-append, owners-oldest}
+use Rattle.xl_harts.proofs.Common.{◌++◌, ◌+◌, ◌-◌, ◌<◌, ◌∙◌, ◌∷◌, ◌≡◌, ◌≤◌, [], after-take, after_hart_event, ap, arith, Bool, false, first-none, get_or, Hart, hart_at, hart_fenced, hart_refusal, HartsState, held_leaves, IfSome, In, IsFit, IsHarts, IsKept, IsLeafOf, IsPoolOf, kept_leaves, Leaf, length, List, longest, nat_lt, nat_tests, None, older, older-last, older-mapping, oldest, opening_hart, Option, owners, owners-append, owners-oldest, pool-stays, pool-without, refl, refused-true, Request, request-kept, request_taken, set, shared_row, Some, subst, suc, sym, take, take-all, take-some, true, undone, with_held, with_new, without_old, ℕ}
 use Rattle.xl_hart_laws.proofs.HartLemmas.{longest-less, longest-set}
-use Rattle.xl_hart_laws.proofs.CommandLemmas.{first-none, second-none, refused-true}
-use Rattle.xl_hart_laws.proofs.FramePoolLemmas.{pool-stays, pool-without}
-use Rattle.xl_hart_laws.proofs.KeptLemmas.{request-kept}
-use Rattle.xl_tlb.specs.Arrays.{IsFit}
-use Rattle.xl_harts.specs.Views.{IsHarts}
+use Rattle.xl_model_lemmas.proofs.InsertionLemmas.{In-with}
 use Rattle.xl_harts.proofs.RefusalLemmas.{leaf-fit}
-use Rattle.xl_harts.specs.Pools.{given_back, pool_after, LeafFits, Fits, nothing, last_of, settled_by, settled}
-use Rattle.xl_hart_laws.proofs.QueueLemmas.{after-take, take-some, take-all}
+use Rattle.xl_harts.specs.Pools.{Fits, given_back, last_of, LeafFits, nothing, pool_after, settled, settled_by}
+use Rattle.xl_hart_model.specs.declared.hart.HartEvent.TheVariants as step
 
 -- a take that nothing refuses
 pub take-hart : (s : HartsState) (n : ℕ) → hart_refusal s (step.Take n) ≡ None → n < length s.harts

@@ -1,15 +1,10 @@
 -- One slot under a tag: the tag is held where the slot is in use.
-use Rattle.std.proofs.Common.{◌≡◌, refl, ap, ◌∙◌, ℕ, true, false, List, [], ◌∷◌, slice_index, Result, Ok, Err, OnOk, arith}
-use Rattle.xl_model.specs.declared.work.Full.{Full}
-use Rattle.xl_model.specs.Chains.{has_tag}
-use Rattle.xl_chain.specs.Held.{Held, ChainState, tags_of}
+use Rattle.xl_hashed.proofs.Common.{◌∙◌, ◌∷◌, ◌≡◌, [], absent-values, ap, arith, ChainState, Err, false, has_tag, Held, inserted-put, IsPut, List, Ok, One, OnOk, refl, Result, slice_index, tags_of, true, values_under, word_at, ℕ}
 use Rattle.xl_chain.specs.Kept.{IsInserted}
-use Rattle.xl_tagged.specs.Forms.{One, values_under, word_at}
+use Rattle.xl_model.specs.declared.work.Full.{Full}
+use Rattle.xl_tagged.proofs.StateLemmas.{held-in}
 use Rattle.xl_tagged.specs.Groups.{AreInUse}
 use Rattle.xl_tagged.specs.Tagged.{AreSized}
-use Rattle.xl_tagged.specs.Steps.{IsPut}
-use Rattle.xl_tagged.proofs.StepLemmas.{absent-values, inserted-put}
-use Rattle.xl_tagged.proofs.StateLemmas.{held-in}
 
 pub put-one : (tag word : ℕ) (r : Result (Unit {0}) Full) (old new : ChainState) → OnOk r (IsInserted tag (word ∷ []) old new) → has_tag (tags_of old.held) tag ≡ false → AreSized One old.held
     → OnOk r (IsPut One tag 0 word old new)

@@ -1,8 +1,5 @@
 -- Where the accesses of a reference stand in their list.
-use Rattle.std.proofs.Common.{◌≡◌, ℕ, ◌+◌, ◌*◌, ◌/◌, ◌≤◌, ◌<◌, List, [], ◌∷◌, ◌++◌, length, suc, zero, refl, ap, arith, ◌∙◌, sym}
-use Rattle.std.specs.Prelude.{None, Some, slice_get}
-use Rattle.xl_model.specs.declared.address.Kind.{Kind}
-use Rattle.xl_lackey.specs.Accesses.{starts, places, each, borders}
+use Rattle.xl_lackey.proofs.Common.{◌*◌, ◌++◌, ◌+◌, ◌/◌, ◌<◌, ◌∙◌, ◌∷◌, ◌≡◌, ◌≤◌, [], ap, arith, borders, each, Kind, length, List, None, places, refl, slice_get, Some, starts, suc, sym, zero, ℕ}
 
 get-starts : (kind : Kind) (n page i : ℕ) → i < n → slice_get (each kind (starts n page)) i ≡ Some ((page + i) * 4096, kind)
 get-starts kind zero page i h = absurd (omega arith)

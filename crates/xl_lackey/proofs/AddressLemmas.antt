@@ -1,19 +1,10 @@
 -- Addresses and sizes from the left, one digit at a time.
-use Rattle.std.proofs.Common.{◌≡◌, ℕ, ◌+◌, ◌*◌, ◌^◌, ◌≤◌, ◌<◌, Bool, true, false, ◌&&◌, List, [], ◌∷◌, ◌++◌, length, suc, zero, take, drop, refl, ap, ap₂, arith, ◌∙◌, sym, inl, inr}
-use native.Mathlib.Numerals.{unary_clauses}
-use Rattle.std.specs.Prelude.{◌==◌, nat_le, nat_lt, ◌⊎◌, if◌then◌else◌, Option, None, Some}
-use Rattle.std.specs.Option.{option_map, option_and_then}
-use Rattle.std.proofs.Math.Nat.{pow-le-pow_right, eq-or-lt_of_le}
+use Rattle.xl_lackey.proofs.Common.{if◌then◌else◌, ◌&&◌, ◌*◌, ◌++◌, ◌+◌, ◌<◌, ◌==◌, ◌^◌, ◌∙◌, ◌∷◌, ◌≡◌, ◌≤◌, ◌⊎◌, [], address_in, ap, ap₂, arith, before, Bool, cases_lt, drop, false, front, hex_digit, hex_value, in_front, inl, inr, le-ltb, length, length-take-le, List, lt-ltb, nat_le, nat_lt, nat_tests, None, number_in, Option, option_and_then, option_map, parted, refl, same_Some, Some, suc, sym, take, take-append-drop, true, with_rest, zero, ℕ}
+use Rattle.std.proofs.Math.Nat.{eq-or-lt_of_le, pow-le-pow_right}
 use Rattle.std.specs.Char.{digit_value}
-use Rattle.std.proofs.lemmas.Bool.{cases_lt, lt-ltb, le-ltb}
-use Rattle.std.proofs.lemmas.Bool.Decides.{nat_tests}
-use Rattle.xl_text.specs.Numbers.{number_in}
-use Rattle.xl_text.proofs.DigitLemmas.{number_after, none_read, digit_read, no_digit}
-use Rattle.std.proofs.lemmas.List.{length-take-le, take-append-drop}
-use Rattle.std.proofs.lemmas.Option.{same_Some}
+use Rattle.xl_text.proofs.DigitLemmas.{digit_read, no_digit, none_read, number_after}
+use native.Mathlib.Numerals.{unary_clauses}
 use Rattle.xl_lackey.proofs.ByteLemmas.{differs}
-use Rattle.xl_lackey.specs.Digits.{hex_digit, hex_value}
-use Rattle.xl_lackey.specs.Lines.{front, parted, in_front, before, with_rest, address_in}
 
 -- a digit read is a digit of base 16
 digit_is : (b : ℕ) → hex_digit b ≡ (if nat_lt (digit_value b) 16 then Some (digit_value b) else None)

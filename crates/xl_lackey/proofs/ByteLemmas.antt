@@ -1,7 +1,5 @@
 -- Bytes that are told apart.
-use Rattle.std.proofs.Common.{◌≡◌, ℕ, false, sym, ap, ◌∙◌, inl, inr}
-use Rattle.std.specs.Prelude.{◌==◌}
-use Rattle.std.proofs.lemmas.Bool.Decides.{eqb_tells}
+use Rattle.xl_lackey.proofs.Common.{◌==◌, ◌∙◌, ◌≡◌, ap, eqb_tells, false, inl, inr, sym, ℕ}
 
 -- a byte that a function takes elsewhere is another byte
 pub differs : {A : Type 0} (f : ℕ → A) (b k : ℕ) (x y : A) → f b ≡ x → f k ≡ y → (x ≡ y → ⊥) → (b == k) ≡ false

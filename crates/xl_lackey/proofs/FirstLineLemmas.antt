@@ -1,15 +1,7 @@
 -- The records of a text whose first line has Lackey's own form.
-use Rattle.std.proofs.Common.{◌≡◌, refl, sym, ap, ◌∙◌, ℕ, true, List, [], ◌∷◌, ◌++◌, drop, append-nil}
-use Rattle.std.specs.Prelude.{Some}
-use Rattle.xl_text.specs.Texts.{lines_by, lines_of}
-use Rattle.xl_lackey.specs.declared.reference.Letter.{Letter}
-use Rattle.xl_lackey.specs.declared.line.Verdict.TheVariants.{Found}
-use Rattle.xl_lackey.specs.Answers.{with_record}
-use Rattle.xl_lackey.specs.Lines.{address_in, size_in, fits}
-use Rattle.xl_lackey.specs.Stream.{next_line, records}
-use Rattle.xl_lackey.specs.Usual.{usual_front}
+use Rattle.xl_lackey.proofs.Common.{◌++◌, ◌∙◌, ◌∷◌, ◌≡◌, [], address_in, ap, append-nil, drop, fits, Found, Letter, lines_by, lines_of, List, next_line, records, refl, size_in, Some, sym, true, usual_front, with_record, ℕ}
 use Rattle.xl_lackey.proofs.OwnFormLemmas.{own_line}
-use Rattle.xl_lackey.proofs.SplitLemmas.{IsFirst, first_is, records_step}
+use Rattle.xl_lackey.proofs.SplitLemmas.{first_is, IsFirst, records_step}
 
 pub first_record : (n : ℕ) (l : Letter) (text u rest : List ℕ) (addr size count : ℕ) → address_in text ≡ Some (addr, u) → size_in u ≡ Some (size, count)
     → drop count u ≡ 10 ∷ rest → fits addr size ≡ true

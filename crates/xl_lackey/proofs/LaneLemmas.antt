@@ -1,13 +1,7 @@
 -- Eight bytes side by side, as lanes.
-use Rattle.std.proofs.Common.{◌≡◌, ℕ, zero, suc, ◌+◌, ◌*◌, ◌<◌, Bool, true, false, List, [], ◌∷◌, map, length, replicate, refl, sym, ap, ap₂, subst, bit_and, ◌^◌, ◌%◌, arith, ◌∙◌, w8, Fits}
-use Rattle.std.specs.Prelude.{Option, None, Some, ◌==◌, ◌||◌, nat_le, if◌then◌else◌}
-use Rattle.std.specs.Option.{option_and_then}
-use Rattle.std.proofs.lemmas.Bool.Decides.{nat_tests}
-use lib.Lanes.{number_l, zip2, sel_l, top, Each1}
-use Rattle.std.proofs.lemmas.Nat.{and_block}
+use Rattle.xl_lackey.proofs.Common.{if◌then◌else◌, ◌%◌, ◌*◌, ◌+◌, ◌<◌, ◌==◌, ◌^◌, ◌||◌, ◌∙◌, ◌∷◌, ◌≡◌, [], ap, ap₂, arith, bit_and, Bool, Each1, false, Fits, hex_digit, hex_value, is_below, lane_value, length, less, List, map, nat_le, nat_tests, None, number_l, number_of, Option, option_and_then, plus, refl, replicate, sel_l, Some, subst, suc, sym, top, true, w8, zero, zip2, ℕ}
 use Rattle.std.proofs.lemmas.Grind.{and_high_numeral}
-use Rattle.xl_lackey.specs.Digits.{hex_digit, hex_value}
-use Rattle.xl_lackey.specs.Lanes.{lane_value, less, plus, is_below, number_of}
+use Rattle.std.proofs.lemmas.Nat.{and_block}
 use Rattle.xl_lackey.proofs.TableLemmas.{both_hold}
 
 -- a fact of any eight elements is one of a list of eight

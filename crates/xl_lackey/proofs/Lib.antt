@@ -1,3 +1,4 @@
+mod Common
 mod AccessLemmas
 pub mod AddressLemmas
 mod ByteLemmas

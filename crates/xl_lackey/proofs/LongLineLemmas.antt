@@ -1,15 +1,5 @@
 -- A line that no newline ends yet, and how much of it tells what it is.
-use Rattle.std.proofs.Common.{◌≡◌, ℕ, ◌-◌, ◌<◌, Bool, true, false, List, [], ◌∷◌, ◌++◌, length, take, suc, zero, refl, ap, arith, ◌∙◌, sym, inl, inr, length-append}
-use Rattle.std.specs.Prelude.{Option, None, Some, ◌==◌, nat_lt, if◌then◌else◌, slice_index}
-use Rattle.std.specs.Option.{option_map}
-use Rattle.std.proofs.lemmas.Bool.{cases_lt}
-use Rattle.std.proofs.lemmas.List.{length-take-le, take_all}
-use Rattle.std.proofs.lemmas.Bool.Decides.{nat_tests}
-use Rattle.xl_text.specs.Texts.{is_blank, in_first, lines_by, lines_of, ended_lines}
-use Rattle.xl_lackey.specs.declared.line.Verdict.{Verdict}
-use Rattle.xl_lackey.specs.declared.line.Verdict.TheVariants.{Skipped, Bad}
-use Rattle.xl_lackey.specs.Lines.{parted, in_front, judge, of_text, of_words, after, is_remark}
-use Rattle.xl_lackey.specs.Stream.{records, with_verdict, next_line}
+use Rattle.xl_lackey.proofs.Common.{if◌then◌else◌, ◌++◌, ◌-◌, ◌<◌, ◌==◌, ◌∙◌, ◌∷◌, ◌≡◌, [], after, ap, arith, Bad, Bool, cases_lt, ended_lines, false, in_first, in_front, inl, inr, is_blank, is_remark, judge, length, length-append, length-take-le, lines_by, lines_of, List, nat_lt, nat_tests, next_line, None, of_text, of_words, Option, option_map, parted, records, refl, Skipped, slice_index, Some, suc, sym, take, take_all, true, Verdict, with_verdict, zero, ℕ}
 
 -- a line without a newline, at the front of other lines
 abbrev joined : Bool → List ℕ → List (List ℕ) → List (List ℕ)

@@ -1,15 +1,8 @@
 -- Lines with short addresses and sizes, by fixed places.
-use Rattle.std.proofs.Common.{◌≡◌, ℕ, ◌+◌, ◌*◌, ◌^◌, ◌<◌, ◌≤◌, true, false, List, ◌∷◌, ◌++◌, length, length-append, length-drop, take, drop, get_or, slice_index, refl, sym, ap, ◌∙◌, arith}
-use Rattle.std.specs.Prelude.{Some, ◌==◌}
-use Rattle.std.proofs.lemmas.Bool.Decides.{nat_tests}
-use Rattle.std.proofs.lemmas.List.{take_more, drop_more}
-use Rattle.xl_lackey.specs.declared.line.Verdict.TheVariants.{Found}
-use Rattle.xl_lackey.specs.Digits.{hex_digit, hex_value}
-use Rattle.xl_lackey.specs.Lines.{address_in, size_in, fits}
+use Rattle.xl_lackey.proofs.Common.{◌*◌, ◌++◌, ◌+◌, ◌<◌, ◌==◌, ◌^◌, ◌∙◌, ◌∷◌, ◌≡◌, ◌≤◌, address_in, ap, arith, drop, drop_more, false, fits, Found, get_or, hex_digit, hex_value, length, length-append, length-drop, List, nat_tests, refl, size_in, slice_index, Some, sym, take, take_more, true, usual_front, ℕ}
+use Rattle.xl_lackey.proofs.AddressLemmas.{after_first, hex_at, hex_more}
+use Rattle.xl_lackey.proofs.OwnFormLemmas.{front_length, own_at}
 use Rattle.xl_lackey.specs.Nears.{IsNumbers}
-use Rattle.xl_lackey.specs.Usual.{usual_front}
-use Rattle.xl_lackey.proofs.OwnFormLemmas.{own_at, front_length}
-use Rattle.xl_lackey.proofs.AddressLemmas.{hex_at, after_first, hex_more}
 
 comma_read : (value count b : ℕ) (rest : List ℕ) → b ≡ 44 → 1 ≤ count → hex_at value count (b ∷ rest) ≡ Some (value, rest)
 comma_read value count b rest e l =

@@ -1,22 +1,8 @@
 -- A line in Lackey's own form is the first of its text, and is the record that its parts give.
-use Rattle.std.proofs.Common.{◌≡◌, ℕ, zero, suc, ◌+◌, ◌-◌, ◌*◌, ◌<◌, ◌≤◌, Bool, true, false, List, [], ◌∷◌, ◌++◌, length, length-append, take, drop, refl, ap, ap₂, arith, ◌∙◌, sym, subst, inl, inr}
-use Rattle.std.specs.Prelude.{Option, None, Some, ◌==◌, nat_le, nat_lt, ◌&&◌, if◌then◌else◌, slice_index}
-use Rattle.std.specs.Option.{option_map, option_and_then}
-use Rattle.std.proofs.Math.Seq.{drop-length, drop-append-add}
-use Rattle.std.proofs.lemmas.List.{append_assoc, drop-drop, drop_more}
-use Rattle.std.proofs.lemmas.Bool.Decides.{nat_tests, eqb_tells}
-use Rattle.xl_text.specs.Texts.{is_blank, without_return}
-use Rattle.xl_lackey.specs.declared.reference.Letter.{Letter}
-use Rattle.xl_lackey.specs.declared.reference.Letter.TheVariants as letter
-use Rattle.xl_lackey.specs.declared.line.Verdict.{Verdict}
-use Rattle.xl_lackey.specs.declared.line.Verdict.TheVariants.{Found, Bad}
-use Rattle.xl_lackey.specs.Digits.{hex_digit, hex_value}
-use Rattle.xl_text.specs.Numbers.{address_of, number_in}
-use Rattle.xl_lackey.specs.Lines.{front, after, is_digit, decimal_value, parted, in_front, with_rest, before, address_in, is_size, size_in, fits, of_end, of_size, of_address, of_text, judge}
-use Rattle.std.proofs.lemmas.Option.{same_Some}
-use Rattle.xl_lackey.proofs.ByteLemmas.{differs}
+use Rattle.xl_lackey.proofs.Common.{if◌then◌else◌, ◌&&◌, ◌*◌, ◌++◌, ◌+◌, ◌-◌, ◌<◌, ◌==◌, ◌∙◌, ◌∷◌, ◌≡◌, ◌≤◌, [], address_in, address_of, after, ap, append_assoc, ap₂, arith, Bad, before, Bool, decimal_value, drop, drop-append-add, drop-drop, drop-length, drop_more, eqb_tells, false, fits, Found, front, hex_digit, hex_value, in_front, inl, inr, is_blank, is_digit, is_size, judge, judged, judged_line, length, length-append, Letter, List, nat_le, nat_lt, nat_tests, None, number_in, of_address, of_end, of_size, of_text, Option, option_and_then, option_map, parted, refl, same_Some, size_in, slice_index, Some, subst, suc, sym, take, true, usual_front, Verdict, with_rest, without_return, zero, ℕ}
 use Rattle.xl_lackey.proofs.AddressLemmas.{digit_and_rest, number_is}
-use Rattle.xl_lackey.specs.Usual.{usual_front, judged, judged_line}
+use Rattle.xl_lackey.proofs.ByteLemmas.{differs}
+use Rattle.xl_lackey.specs.declared.reference.Letter.TheVariants as letter
 
 -- no byte of a list is this one
 abbrev avoids : ℕ → List ℕ → Bool

@@ -1,30 +1,10 @@
 -- Lines whose pages are kept: what the bytes of a page tell of a line that has the same.
-use Rattle.std.proofs.Common.{◌≡◌, ℕ, ◌+◌, ◌*◌, ◌/◌, ◌^◌, ◌<◌, ◌≤◌, false, List, [], ◌∷◌, ◌++◌, length, length-append, length-drop, take, drop, get_or, slice_index, refl, sym, ap, ap₂, subst, ◌∙◌, arith, inl, inr}
-use Rattle.std.specs.Prelude.{Option, Some, IfSome, codes, ◌⊎◌}
-use Rattle.std.specs.List.{All}
-use Rattle.std.specs.Option.{option_and_then}
-use Rattle.std.proofs.Math.Seq.{take-add, take-append-add, drop-append-add}
-use Rattle.std.proofs.lemmas.List.{take-take, take-append-drop, length-take-le, append_assoc, drop-take, get_or-drop, get_or-take, take_more}
-use Rattle.std.proofs.lemmas.Option.{same_Some}
-use Rattle.std.proofs.lemmas.List.Elements.{All-from_recursion, All-head, All-tail, All-take, All-drop}
-use lib.Lanes.{number_l}
-use Rattle.xl_model.specs.declared.address.Kind.{Kind}
-use Rattle.xl_model.specs.declared.address.Kind.TheVariants.{Fetch}
-use Rattle.xl_lackey.specs.declared.reference.Letter.{Letter}
-use Rattle.xl_lackey.specs.declared.reference.Letter.TheVariants as letter
-use Rattle.xl_lackey.specs.declared.line.Verdict.TheVariants.{Found}
-use Rattle.xl_lackey.specs.Accesses.{accesses_at, borders, places}
-use Rattle.xl_lackey.specs.Digits.{hex_digit, hex_value}
-use Rattle.xl_lackey.specs.Lines.{size_in}
-use Rattle.xl_lackey.specs.declared.pages.Page.{Page}
-use Rattle.xl_lackey.specs.Pages.{IsBeginning, IsPage, two_bytes}
-use Rattle.xl_lackey.specs.Scans.{IsFirstLine}
-use Rattle.xl_lackey.specs.Skims.{IsRecordLine}
-use Rattle.xl_lackey.specs.Usual.{usual_front, first_kind, is_modify}
+use Rattle.xl_lackey.proofs.Common.{◌*◌, ◌++◌, ◌+◌, ◌/◌, ◌<◌, ◌^◌, ◌∙◌, ◌∷◌, ◌≡◌, ◌≤◌, ◌⊎◌, [], accesses_at, All, All-drop, All-from_recursion, All-head, All-tail, All-take, ap, append_assoc, ap₂, arith, borders, codes, drop, drop-append-add, drop-take, false, Fetch, first_kind, Found, get_or, get_or-drop, get_or-take, hex_digit, hex_value, IfSome, inl, inr, is_modify, IsBeginning, IsFirstLine, IsPage, IsRecordLine, Kind, length, length-append, length-drop, length-take-le, Letter, List, number_l, Option, option_and_then, Page, places, refl, same_Some, size_in, slice_index, Some, subst, sym, take, take-add, take-append-add, take-append-drop, take-take, take_more, two_bytes, usual_front, ℕ}
 use Rattle.xl_lackey.proofs.AddressLemmas.{digit_and_rest}
 use Rattle.xl_lackey.proofs.NearLineLemmas.{comma_at, numbers_at}
 use Rattle.xl_lackey.proofs.OwnFormLemmas.{front_length}
 use Rattle.xl_lackey.proofs.TableLemmas.{digit_bound}
+use Rattle.xl_lackey.specs.declared.reference.Letter.TheVariants as letter
 
 abbrev pub IsByte : ℕ → Type 0
 IsByte b = b < 256

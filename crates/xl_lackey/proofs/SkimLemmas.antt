@@ -1,18 +1,6 @@
 -- Records taken one after another.
-use Rattle.std.proofs.Common.{◌≡◌, refl, sym, ap, ap₂, subst, ◌∙◌, ℕ, ◌+◌, ◌%◌, ◌^◌, ◌<◌, ◌≤◌, List, [], ◌∷◌, ◌++◌, length, map, take, drop, set, append_assoc, append-nil, arith, length-append, length-drop, length-set}
-use Rattle.std.specs.Prelude.{None}
-use Rattle.std.proofs.lemmas.List.{map-append, drop-drop, take_more_set, take-set-le}
-use Rattle.xl_model.specs.declared.address.Kind.{Kind}
-use Rattle.xl_text.specs.Texts.{lines_by, lines_of}
-use Rattle.xl_lackey.specs.declared.skim.Access.{Access}
-use Rattle.xl_lackey.specs.declared.skim.Skim.{Skim}
-use Rattle.xl_lackey.specs.declared.line.Verdict.{Verdict}
-use Rattle.xl_lackey.specs.declared.line.Verdict.TheVariants.{Skipped, Found, Bad}
-use Rattle.xl_lackey.specs.Scans.{IsFirstLine}
-use Rattle.xl_lackey.specs.Skims.{pair, accesses_in, skims_both, IsSure, all_accesses, HasAccesses, IsRecordLine, Taken, Takes, Skims, Skimmed, skim_at, with_records}
-use Rattle.xl_lackey.specs.Answers.{with_record}
-use Rattle.xl_lackey.specs.Stream.{Record, Left, State, next_line, records}
-use Rattle.xl_lackey.proofs.SplitLemmas.{IsFirst, first_is, on_from, records_step}
+use Rattle.xl_lackey.proofs.Common.{◌%◌, ◌++◌, ◌+◌, ◌<◌, ◌^◌, ◌∙◌, ◌∷◌, ◌≡◌, ◌≤◌, [], Access, accesses_in, all_accesses, ap, append-nil, append_assoc, ap₂, arith, Bad, drop, drop-drop, Found, HasAccesses, IsFirstLine, IsRecordLine, IsSure, Kind, Left, length, length-append, length-drop, length-set, lines_by, lines_of, List, map, map-append, next_line, None, pair, Record, records, refl, set, Skim, skim_at, Skimmed, Skims, skims_both, Skipped, State, subst, sym, take, take-set-le, take_more_set, Taken, Takes, Verdict, with_record, with_records, ℕ}
+use Rattle.xl_lackey.proofs.SplitLemmas.{first_is, IsFirst, on_from, records_step}
 use Rattle.xl_lackey.proofs.StepLemmas.{left_passed}
 
 -- no record was taken

@@ -1,16 +1,6 @@
 -- A text and the first line that a newline ends in it.
-use Rattle.std.proofs.Common.{◌≡◌, ◌≢◌, ℕ, ◌+◌, ◌<◌, Bool, true, false, List, [], ◌∷◌, ◌++◌, length, take, drop, suc, zero, refl, ap, arith, ◌∙◌, sym, subst}
-use Rattle.std.specs.Prelude.{Option, None, Some, ◌==◌, if◌then◌else◌, slice_index}
-use Rattle.std.specs.Option.{option_map}
-use Rattle.memchr.specs.Find.{IsFirstByte, is_byte}
-use Rattle.xl_text.specs.Texts.{in_first, lines_by, ended_lines}
-use Rattle.xl_lackey.specs.declared.line.Verdict.{Verdict}
-use Rattle.xl_lackey.specs.declared.line.Verdict.TheVariants.{Skipped, Found, Bad}
-use Rattle.xl_lackey.specs.Lines.{parted, in_front, judge}
-use Rattle.std.proofs.lemmas.Option.{same_Some}
-use Rattle.xl_lackey.specs.Usual.{judged, judged_line}
-use Rattle.xl_lackey.specs.Stream.{records, with_verdict, first_due, of_due, next_line, Left}
-use Rattle.std.proofs.lemmas.List.{append-nil, drop-drop}
+use Rattle.xl_lackey.proofs.Common.{if◌then◌else◌, ◌++◌, ◌+◌, ◌<◌, ◌==◌, ◌∙◌, ◌∷◌, ◌≡◌, ◌≢◌, [], ap, append-nil, arith, Bad, Bool, drop, drop-drop, ended_lines, false, first_due, Found, in_first, in_front, judge, judged, judged_line, Left, length, lines_by, List, next_line, None, of_due, Option, option_map, parted, records, refl, same_Some, Skipped, slice_index, Some, subst, suc, sym, take, true, Verdict, with_verdict, zero, ℕ}
+use Rattle.memchr.specs.Find.{is_byte, IsFirstByte}
 use Rattle.xl_lackey.proofs.LongLineLemmas.{none_ended}
 
 -- the first line that a newline ends, and what follows it, put into a text's lines

@@ -1,20 +1,9 @@
 -- What the steps of a reader do to what is left for it.
-use Rattle.std.proofs.Common.{◌≡◌, ℕ, ◌+◌, ◌-◌, ◌≤◌, ◌<◌, Bool, true, false, List, [], ◌++◌, length, take, drop, min, ap, ap₂, arith, ◌∙◌, sym, subst, inl, inr}
-use Rattle.std.specs.Prelude.{Option, None, Some}
-use Rattle.std.proofs.lemmas.Bool.{cases_lt}
-use Rattle.std.proofs.Math.Seq.{take-append-add}
-use Rattle.std.proofs.lemmas.List.{append-nil, take-take, take_all, drop-take, drop_all, take-append-le, length-append, length-take, length-take-le, length-drop}
-use Rattle.std.specs.List.{copy_within}
-use Rattle.xl_text.specs.Texts.{lines_of, lines_by}
+use Rattle.xl_lackey.proofs.Common.{◌++◌, ◌+◌, ◌-◌, ◌<◌, ◌∙◌, ◌≡◌, ◌≤◌, [], Answers, ap, append-nil, ap₂, arith, Bad, Bool, cases_lt, copy_within, drop, drop-take, drop_all, due, Ends, false, Gives, inl, inr, judge, Left, left, left_by, length, length-append, length-drop, length-take, length-take-le, lines_by, lines_of, List, MayCome, min, next_line, None, Option, parted, Record, records, Refuses, Skipped, Some, State, subst, sym, take, take-append-add, take-append-le, take-take, take_all, true, unless_bad, Verdict, with_record, with_verdict, ℕ}
+use Rattle.xl_lackey.proofs.LongLineLemmas.{last_line, let_go, none_ended, parted_take}
 use Rattle.xl_lackey.specs.declared.fault.Fault.{Fault}
-use Rattle.xl_lackey.specs.declared.line.Verdict.{Verdict}
-use Rattle.xl_lackey.specs.declared.line.Verdict.TheVariants.{Skipped, Bad}
 use Rattle.xl_lackey.specs.declared.next.Next.{Next}
 use Rattle.xl_lackey.specs.declared.next.Next.TheVariants as answer
-use Rattle.xl_lackey.specs.Lines.{parted, judge}
-use Rattle.xl_lackey.specs.Stream.{State, Record, Left, left, left_by, unless_bad, due, MayCome, records, with_verdict, next_line}
-use Rattle.xl_lackey.specs.Answers.{Answers, Gives, Ends, Refuses, with_record}
-use Rattle.xl_lackey.proofs.LongLineLemmas.{last_line, let_go, none_ended, parted_take}
 
 take_short : (m n : ℕ) (l : List ℕ) → m < n → take (min n m) l ≡ take m (take n l)
 take_short m n l h = let e : min n m ≡ m = omega arith in rw e (sym (take-take m n l (omega arith)))

@@ -1,8 +1,5 @@
 -- The table of hexadecimal digits says what the rule of digits says.
-use Rattle.std.proofs.Common.{◌≡◌, ℕ, zero, suc, ◌+◌, ◌<◌, ◌≤◌, Bool, true, false, List, [], ◌∷◌, length, get_or, refl, ap, arith, ◌∙◌}
-use Rattle.std.specs.Prelude.{Option, None, Some, IfSome, ◌==◌, if◌then◌else◌}
-use Rattle.std.proofs.lemmas.Bool.Decides.{nat_tests}
-use Rattle.xl_lackey.specs.Digits.{hex_digit, digit_or_4096}
+use Rattle.xl_lackey.proofs.Common.{if◌then◌else◌, ◌+◌, ◌<◌, ◌==◌, ◌∙◌, ◌∷◌, ◌≡◌, ◌≤◌, [], ap, arith, Bool, digit_or_4096, false, get_or, hex_digit, IfSome, length, List, nat_tests, None, Option, refl, Some, suc, true, zero, ℕ}
 use Rattle.xl_lackey.specs.declared.digits.TheConstants.{HEX_DIGITS}
 
 -- values of the bytes from one on

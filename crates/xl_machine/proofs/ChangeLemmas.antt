@@ -1,32 +1,10 @@
 -- A change of a mapping that no rule refuses: what a machine keeps and comes to, by the table's answer.
-use Rattle.std.proofs.Common.{◌≡◌, ℕ, ◌+◌, ◌-◌, Bool, List, length, None, Some, Ok, Err, refl, sym, ◌∙◌, ap, arith}
-use Rattle.xl_model.specs.declared.address.Kind.{Kind}
-use Rattle.xl_model.specs.declared.leaf.Leaf.{Leaf}
-use Rattle.xl_model.specs.declared.event.Event.{Event}
-use Rattle.xl_model.specs.declared.event.Event.TheVariants as event
-use Rattle.xl_model.specs.declared.event.Scope.{Scope}
-use Rattle.xl_model.specs.declared.event.Outcome.TheVariants as outcome
-use Rattle.xl_model.specs.declared.row.Counts.{Counts}
-use Rattle.xl_model.specs.declared.work.Work.{Work}
-use Rattle.xl_model.specs.declared.work.Refused.{Refused}
+use Rattle.xl_machine.proofs.Common.{◌+◌, ◌-◌, ◌∙◌, ◌≡◌, after_by, after_event, after_of, answer_by, ap, arith, arrays_after, ArraysFresh, Bool, Change, change_of, changed, changed-fresh, changed_by, count_accepted, count_invalidated, count_refusal, count_work, Counts, counts_of, counts_refused, done, done_counts, Err, Event, IsPoolOf, IsRowFor, IsServed, IsSound, kept-sound, Kind, Leaf, leaves_in, length, List, Made, None, NoPlace, NoSpace, Ok, old_leaf, outcome_by, outcome_of, refl, refusal_of, Refused, Row, RowState, rule, Scope, Served, served, Some, sound-of, state_of, sym, table_after, table_answer, table_made, TableState, TlbArray, TlbState, Verdict, verdict, Work, ℕ}
 use Rattle.xl_model.specs.declared.work.NoRoom.{NoRoom}
-use Rattle.xl_model.specs.declared.work.NoRoom.TheVariants as why
-use Rattle.xl_model.specs.Rows.{Row}
-use Rattle.xl_model.specs.Changes.{Change, old_leaf, changed}
-use Rattle.xl_model.specs.Rules.{rule, change_of}
-use Rattle.xl_model.specs.Structures.{TableState, Verdict, Made, NoSpace, NoPlace, verdict, answer_by, after_by, table_made, table_answer, table_after}
-use Rattle.xl_model.specs.Tlb.{TlbArray, leaves_in}
-use Rattle.xl_model.specs.Tally.{count_accepted, count_invalidated, count_work, count_refusal}
-use Rattle.xl_model.specs.RowRun.{RowState, arrays_after, changed_by, outcome_by, refusal_of, counts_refused, served as done, after_event, outcome_of}
-use Rattle.xl_model_lemmas.specs.Fresh.{ArraysFresh}
-use Rattle.xl_model_lemmas.specs.Mappings.{IsSound}
-use Rattle.xl_model_lemmas.proofs.RuleLemmas.{kept-sound, sound-of}
-use Rattle.xl_model_lemmas.proofs.FreshArrayLemmas.{changed-fresh}
 use Rattle.xl_model_lemmas.proofs.LimitLemmas.{limits-changed, loads-changed}
-use Rattle.xl_tlb.specs.Tlbs.{TlbState}
-use Rattle.xl_model_lemmas.specs.Pools.{IsPoolOf}
-use Rattle.xl_model.specs.Scenes.{Served}
-use Rattle.xl_machine.specs.Served.{counts_of, state_of, served, after_of, done_counts, IsRowFor, IsServed}
+use Rattle.xl_model.specs.declared.event.Event.TheVariants as event
+use Rattle.xl_model.specs.declared.event.Outcome.TheVariants as outcome
+use Rattle.xl_model.specs.declared.work.NoRoom.TheVariants as why
 
 -- an event that is no change
 no-access : (row : Row) (leaves : List Leaf) (va : ℕ) (k : Kind) (c : Change) → change_of row leaves (event.Access va k) ≡ Some c → ⊥

@@ -1,30 +1,7 @@
 -- What a command that no rule refuses has shown: its change, the leaf that it names, the place that it takes.
-use Rattle.std.proofs.Common.{◌≡◌, ℕ, Bool, true, false, List, None, Some, refl, arith}
-use Rattle.xl_model.specs.declared.address.Order.{Order}
-use Rattle.xl_model.specs.declared.perm.Perm.{Perm}
-use Rattle.xl_model.specs.declared.leaf.Leaf.{Leaf}
-use Rattle.xl_model.specs.declared.event.Event.TheVariants as event
-use Rattle.xl_model.specs.Addresses.{page_of, pages_of}
-use Rattle.xl_model.specs.Mapping.{covers, is_leaf, leaf_at_page, leaf_named}
-use Rattle.xl_model.specs.Frames.{lowest}
-use Rattle.xl_model.specs.Rows.{Row}
-use Rattle.xl_model.specs.Changes.{Change, Insert, Remove, Protect, Relocate}
-use Rattle.xl_model.specs.Rules.{rule, change_of, there_rule, named_rule, frames_rule}
-use Rattle.xl_model.specs.Structures.{TableState, IsBlock, IsLeafFor}
-use Rattle.xl_model_lemmas.specs.Members.{In}
-use Rattle.xl_model_lemmas.specs.Mappings.{IsMapping, IsLeafOf, IsNewLeaf, IsNewPlace}
-use Rattle.xl_model_lemmas.proofs.MemberLemmas.{find-In}
-use Rattle.xl_model_lemmas.proofs.RuleLemmas.{or-first, or-second, unless-true, sound-of}
-use Rattle.xl_model_lemmas.proofs.CoverLemmas.{named-by}
+use Rattle.xl_machine.proofs.Common.{◌≡◌, arith, arrays_after, Bool, Change, change_of, changed, covers, false, find-In, frames_rule, In, Insert, is_leaf, IsBlock, IsLeafFor, IsLeafOf, IsMapping, IsNewLeaf, IsNewPlace, IsPoolOf, IsRowFor, Leaf, leaf_at_page, leaf_named, List, lowest, marked, named-by, named_rule, None, old_leaf, or-first, or-second, Order, page_of, pages_of, Perm, pool-taken, Protect, refl, Relocate, Remove, Row, rule, Some, sound-of, stays-changed, TableState, there_rule, tlb_purged, TlbState, true, unless-true, ℕ}
 use Rattle.xl_model.specs.declared.row.Purge.{Purge}
-use Rattle.xl_model.specs.Changes.{changed, old_leaf}
-use Rattle.xl_model.specs.RowRun.{arrays_after}
-use Rattle.xl_frames.specs.Pool.{marked}
-use Rattle.xl_model_lemmas.specs.Pools.{IsPoolOf}
-use Rattle.xl_model_lemmas.proofs.ChangeLemmas.{stays-changed}
-use Rattle.xl_model_lemmas.proofs.PoolChangeLemmas.{pool-taken}
-use Rattle.xl_tlb.specs.Tlbs.{TlbState, tlb_purged}
-use Rattle.xl_machine.specs.Served.{IsRowFor}
+use Rattle.xl_model.specs.declared.event.Event.TheVariants as event
 
 -- the change that each command is
 pub unmap-is : (row : Row) (leaves : List Leaf) (space va : ℕ) (o : Order) → change_of row leaves (event.Unmap space va o) ≡ Some (Remove space (page_of row.mode va) o)

@@ -1,26 +1,9 @@
 -- A fence of a machine, and a change of its space.
-use Rattle.std.proofs.Common.{length, ◌≡◌, refl, sym, ◌∙◌, ap, subst, ℕ, ◌+◌, ◌-◌, ◌<◌, Bool, true, nat_lt, List, None, arith}
-use Rattle.std.proofs.lemmas.Bool.Decides.{nat_tests}
-use Rattle.xl_model.specs.declared.event.Event.TheVariants as event
+use Rattle.xl_machine.proofs.Common.{◌+◌, ◌-◌, ◌<◌, ◌∙◌, ◌≡◌, after_event, after_of, ap, arith, arrays_without, Bool, count_accepted, count_fence, count_invalidated, Counts, done, fence_answer, fence_counts, fence_rule, fenced, InLimits, IsRowFor, IsServed, leaves_in, length, List, nat_lt, nat_tests, None, or-first, page_of, reach_of, reaches_leaf, refl, Row, RowState, rule, rule_of, Scope, Served, served, state_of, subst, sym, table_fenced, TableState, tlb_fenced, TlbState, true, unless-true, without-fresh, ℕ}
 use Rattle.xl_model.specs.declared.event.Reach.{Reach}
-use Rattle.xl_model.specs.declared.event.Scope.{Scope}
-use Rattle.xl_model.specs.declared.event.Scope.TheVariants as scope
-use Rattle.xl_model.specs.declared.row.Counts.{Counts}
-use Rattle.xl_model.specs.Addresses.{page_of}
-use Rattle.xl_model.specs.Rows.{Row}
-use Rattle.xl_model.specs.Rules.{rule, fence_rule}
-use Rattle.xl_model.specs.RowRun.{RowState, reach_of, fenced, served as done, after_event}
-use Rattle.xl_model.specs.Structures.{TableState, fence_answer, table_fenced}
-use Rattle.xl_model.specs.Tally.{count_accepted, count_fence, count_invalidated}
-use Rattle.xl_model.specs.Tlb.{leaves_in, arrays_without, reaches_leaf}
-use Rattle.xl_model_lemmas.proofs.FreshArrayLemmas.{without-fresh}
-use Rattle.xl_model_lemmas.proofs.RuleLemmas.{or-first, unless-true}
-use Rattle.xl_tlb.specs.Arrays.{InLimits}
-use Rattle.xl_tlb.specs.Tlbs.{TlbState, tlb_fenced}
-use Rattle.xl_machine.specs.Rules.{rule_of}
-use Rattle.xl_model.specs.Scenes.{Served}
-use Rattle.xl_machine.specs.Served.{state_of, served, after_of, fence_counts, IsRowFor, IsServed}
 use Rattle.xl_machine.proofs.Accesses.{page_small}
+use Rattle.xl_model.specs.declared.event.Event.TheVariants as event
+use Rattle.xl_model.specs.declared.event.Scope.TheVariants as scope
 
 -- a space that no rule refuses
 space-in : (space : ℕ) (v : Served) → rule_of (event.Space space) v ≡ None → space < v.row.spaces

@@ -1,31 +1,10 @@
 -- A command that changes the leaf that it names: what is known of it, and what it comes to by the table's answer.
-use Rattle.std.proofs.Common.{◌≡◌, ℕ, ◌+◌, Bool, List, length, None, Some, Ok, Err, ◌∙◌, ap}
-use Rattle.xl_model.specs.declared.address.Order.{Order}
-use Rattle.xl_model.specs.declared.perm.Perm.{Perm}
-use Rattle.xl_model.specs.declared.leaf.Leaf.{Leaf}
-use Rattle.xl_model.specs.declared.event.Event.{Event}
+use Rattle.xl_machine.proofs.Common.{◌+◌, ◌∙◌, ◌≡◌, after_of, ap, arrays_after, Bool, Change, change_of, changed, Counts, counts_refused, done_counts, Err, Event, IsChange, IsFit, IsLeafOf, IsPoolOf, IsServed, Leaf, leaf_at_page, leaves_in, length, List, None, Ok, old_leaf, Order, outcome_of, page_of, Perm, Protect, Refusal, refusal_of, Refused, Relocate, Remove, Row, rule, served, Some, state_of, TableState, tlb_purged, TlbState, Work, ℕ}
+use Rattle.xl_machine.proofs.Accesses.{leaf_fit}
+use Rattle.xl_machine.proofs.ChangeLemmas.{done-answer, done-kept, done-state, refused-answer, refused-kept, refused-state}
+use Rattle.xl_machine.proofs.CommandLemmas.{move-is, old-named, old-valid, protect-is, purged-is, there-move, there-protect, there-unmap, unmap-is}
 use Rattle.xl_model.specs.declared.event.Event.TheVariants as event
 use Rattle.xl_model.specs.declared.event.Outcome.TheVariants as outcome
-use Rattle.xl_model.specs.declared.event.Refusal.{Refusal}
-use Rattle.xl_model.specs.declared.row.Counts.{Counts}
-use Rattle.xl_model.specs.declared.work.Work.{Work}
-use Rattle.xl_model.specs.declared.work.Refused.{Refused}
-use Rattle.xl_model.specs.Addresses.{page_of}
-use Rattle.xl_model.specs.Mapping.{leaf_at_page}
-use Rattle.xl_model.specs.Rows.{Row}
-use Rattle.xl_model.specs.Changes.{Change, Remove, Protect, Relocate, changed, old_leaf}
-use Rattle.xl_model.specs.Rules.{rule, change_of}
-use Rattle.xl_model.specs.RowRun.{arrays_after, counts_refused, refusal_of, outcome_of}
-use Rattle.xl_model.specs.Structures.{TableState, IsChange}
-use Rattle.xl_model.specs.Tlb.{leaves_in}
-use Rattle.xl_model_lemmas.specs.Mappings.{IsLeafOf}
-use Rattle.xl_model_lemmas.specs.Pools.{IsPoolOf}
-use Rattle.xl_tlb.specs.Arrays.{IsFit}
-use Rattle.xl_tlb.specs.Tlbs.{TlbState, tlb_purged}
-use Rattle.xl_machine.specs.Served.{state_of, served, after_of, done_counts, IsServed}
-use Rattle.xl_machine.proofs.Accesses.{leaf_fit}
-use Rattle.xl_machine.proofs.ChangeLemmas.{done-kept, refused-kept, done-state, done-answer, refused-answer, refused-state}
-use Rattle.xl_machine.proofs.CommandLemmas.{unmap-is, protect-is, move-is, there-unmap, there-protect, there-move, old-named, old-valid, purged-is}
 
 -- What is known of such a command where no rule refuses it: its change, and the leaf as it is.
 pub record IsNamedChange (row : Row) (table : TableState) (e : Event) (c : Change) (old : Leaf) : Type 0 where

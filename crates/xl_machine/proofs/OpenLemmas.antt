@@ -1,26 +1,13 @@
 -- A machine that is opened.
-use Rattle.std.proofs.Common.{◌≡◌, refl, ℕ, zero, suc, ◌+◌, ◌*◌, ◌^◌, ◌≤◌, ◌==◌, ◌||◌, ◌&&◌, Bool, true, false, nat_le, List, [], ◌∷◌, length, arith}
-use Rattle.std.specs.Prelude.{replicate}
-use Rattle.std.specs.List.{list_all}
+use Rattle.xl_machine.proofs.Common.{◌&&◌, ◌*◌, ◌+◌, ◌==◌, ◌^◌, ◌||◌, ◌∷◌, ◌≡◌, ◌≤◌, [], AreSpecs, arith, Bool, Counts, false, is_array, is_width, is_within, IsMapping, IsRising, IsRow, IsRowFor, IsServed, IsSpec, length, levels_of, levels_rise, levels_rise_from, List, Mode, nat_le, nat_tests, no_counts, NoneBelow, opened, opening, opening-fresh, page_limit, refl, replicate, Row, served, spaces_of, suc, TableState, tlb_opening, TlbState, true, zero, ℕ}
+use Rattle.std.proofs.lemmas.List.{get_or-replicate, length-replicate}
 use Rattle.std.specs.Cmp.{first_so, second_so}
-use Rattle.std.proofs.lemmas.Bool.Decides.{nat_tests}
-use Rattle.std.proofs.lemmas.List.{length-replicate, get_or-replicate}
-use Rattle.xl_model.specs.declared.address.Mode.{Mode}
-use Rattle.xl_model.specs.declared.address.Mode.TheVariants as mode
-use Rattle.xl_model.specs.declared.row.Counts.{Counts}
-use Rattle.xl_model.specs.declared.row.Table.{Table}
-use Rattle.xl_model.specs.declared.row.Table.TheVariants as table
-use Rattle.xl_model.specs.declared.row.TlbSpec.{TlbSpec}
-use Rattle.xl_model.specs.Addresses.{levels_of}
-use Rattle.xl_model.specs.Rows.{Row, IsRow, is_array, is_width, is_within, levels_rise, levels_rise_from}
-use Rattle.xl_model.specs.RowRun.{opening}
+use Rattle.std.specs.List.{list_all}
 use Rattle.xl_model.specs.Shapes.{opening_shape}
-use Rattle.xl_model.specs.Structures.{TableState, spaces_of, page_limit}
-use Rattle.xl_model.specs.Tally.{no_counts}
-use Rattle.xl_model_lemmas.specs.Mappings.{IsMapping}
-use Rattle.xl_model_lemmas.proofs.FreshArrayLemmas.{opening-fresh}
-use Rattle.xl_tlb.specs.Tlbs.{NoneBelow, IsRising, IsSpec, AreSpecs, TlbState, tlb_opening}
-use Rattle.xl_machine.specs.Served.{served, opened, IsRowFor, IsServed}
+use Rattle.xl_model.specs.declared.row.Table.{Table}
+use Rattle.xl_model.specs.declared.row.TlbSpec.{TlbSpec}
+use Rattle.xl_model.specs.declared.address.Mode.TheVariants as mode
+use Rattle.xl_model.specs.declared.row.Table.TheVariants as table
 
 -- levels that rise by one at most rise
 none-below : (low level : ℕ) (specs : List TlbSpec) → low ≤ level → NoneBelow level specs → NoneBelow low specs

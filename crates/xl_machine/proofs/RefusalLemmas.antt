@@ -1,27 +1,11 @@
 -- The refusals of a machine, by its questions in turn.
-use Rattle.std.proofs.Common.{◌≡◌, refl, subst, ℕ, zero, suc, ◌+◌, ◌-◌, ◌*◌, ◌^◌, ◌<◌, ◌≤◌, Bool, true, false, List, [], ◌∷◌, length, Option, None, Some, Result, Ok, Err, IsErrAnd, ap, arith, slice_index_or}
-use Rattle.xl_model.specs.declared.address.Order.{Order}
-use Rattle.xl_model.specs.declared.perm.Perm.{Perm}
-use Rattle.xl_model.specs.declared.leaf.Leaf.{Leaf}
-use Rattle.xl_model.specs.declared.event.Event.TheVariants as event
-use Rattle.xl_model.specs.declared.event.Refusal.{Refusal}
-use Rattle.xl_model.specs.declared.event.Refusal.TheVariants as refused
-use Rattle.xl_model.specs.Addresses.{is_aligned, page_of, pages_of, levels_of}
-use Rattle.xl_model.specs.Frames.{lowest}
-use Rattle.xl_model.specs.Rows.{Row}
-use Rattle.xl_model.specs.Rules.{rule, place_rule, overlap_rule, frames_rule}
-use Rattle.xl_model.specs.Structures.{TableState, IsBlock}
-use Rattle.xl_model_lemmas.specs.Lowest.{IsAnswer}
-use Rattle.xl_model_lemmas.specs.Pools.{IsPoolOf as IsPool}
+use Rattle.xl_machine.proofs.Common.{◌*◌, ◌+◌, ◌-◌, ◌<◌, ◌^◌, ◌∷◌, ◌≡◌, ◌≤◌, [], ap, arith, Bool, Err, false, frames_rule, free-of, HasNone, is_aligned, IsBlock, IsErrAnd, IsFree, IsPoolOf as IsPool, IsPoolOf, IsRowFor, Leaf, length, levels_of, List, lowest, lowest-none, None, Ok, Option, Order, overlap_rule, page_of, pages_of, Perm, place_rule, refl, Refusal, Result, Row, rule, rule_of, Served, slice_index_or, Some, subst, suc, TableState, there_of, true, zero, ℕ}
 use Rattle.xl_model_lemmas.proofs.LowestLemmas.{lowest-is-lowest}
 use Rattle.xl_model_lemmas.proofs.OrderLemmas.{pages-some}
 use Rattle.xl_model_lemmas.proofs.PlaceLemmas.{page-block}
-use Rattle.xl_model_lemmas.proofs.PoolLemmas.{free-of, lowest-none}
-use Rattle.xl_frames.specs.Pool.{IsFree, HasNone}
-use Rattle.xl_machine.specs.Rules.{rule_of, there_of}
-use Rattle.xl_model.specs.Scenes.{Served}
-use Rattle.xl_machine.specs.Served.{IsRowFor}
-use Rattle.xl_model_lemmas.specs.Pools.{IsPoolOf}
+use Rattle.xl_model_lemmas.specs.Lowest.{IsAnswer}
+use Rattle.xl_model.specs.declared.event.Event.TheVariants as event
+use Rattle.xl_model.specs.declared.event.Refusal.TheVariants as refused
 
 -- a block that is free in the pool is free of leaves, so that there is a lowest one
 pub has-frames : (frames : ℕ) (o : Order) (leaves : List Leaf) (pool : List Bool) → IsPoolOf frames leaves pool

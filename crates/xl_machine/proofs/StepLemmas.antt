@@ -1,24 +1,8 @@
 -- One event of a machine.
-use Rattle.std.proofs.Common.{◌≡◌, refl, sym, subst, ℕ, nat_lt, Option, None, Some}
-use Rattle.xl_model.specs.declared.address.Kind.{Kind}
-use Rattle.xl_model.specs.declared.address.Order.{Order}
-use Rattle.xl_model.specs.declared.perm.Perm.{Perm}
-use Rattle.xl_model.specs.declared.event.Event.{Event}
+use Rattle.xl_machine.proofs.Common.{◌≡◌, after_event, after_of, count_refusal, Counts, Event, fence_rule, Kind, nat_lt, None, Option, Order, outcome_of, Perm, refl, Refusal, refused_by, reply_to, Row, rule, rule_of, Scope, Served, served, Some, subst, sym, TableState, TlbState, unless, ℕ}
 use Rattle.xl_model.specs.declared.event.Event.TheVariants as event
-use Rattle.xl_model.specs.declared.event.Scope.{Scope}
 use Rattle.xl_model.specs.declared.event.Outcome.TheVariants as outcome
-use Rattle.xl_model.specs.declared.event.Refusal.{Refusal}
 use Rattle.xl_model.specs.declared.event.Refusal.TheVariants as refused
-use Rattle.xl_model.specs.declared.row.Counts.{Counts}
-use Rattle.xl_model.specs.Rows.{Row}
-use Rattle.xl_model.specs.Rules.{rule, unless, fence_rule}
-use Rattle.xl_model.specs.RowRun.{reply_to, outcome_of, after_event}
-use Rattle.xl_model.specs.Structures.{TableState}
-use Rattle.xl_model.specs.Tally.{count_refusal}
-use Rattle.xl_tlb.specs.Tlbs.{TlbState}
-use Rattle.xl_machine.specs.Rules.{rule_of}
-use Rattle.xl_model.specs.Scenes.{Served}
-use Rattle.xl_machine.specs.Served.{served, after_of, refused_by}
 
 -- an event that a rule refuses
 pub refused-outcome : (e : Event) (v : Served) (r : Refusal) → rule_of e v ≡ Some r → outcome.Refused r ≡ outcome_of v.row e v.state

@@ -1,11 +1,6 @@
 -- Lines that are made one after another.
-use Rattle.std.proofs.Common.{◌≡◌, refl, ap, ℕ, zero, suc, ◌+◌, ◌-◌, ◌*◌, ◌<◌, List, ◌++◌, length, length-append, arith}
-use Rattle.rand_pcg.specs.Lcg.{Lcg}
-use Rattle.xl_model.specs.Lines.{hex_digits}
-use Rattle.xl_lackey.specs.declared.reference.Letter.{Letter}
+use Rattle.xl_made.proofs.Common.{◌*◌, ◌++◌, ◌+◌, ◌-◌, ◌<◌, ◌≡◌, address_of, after, ap, arith, hex_digits, Lcg, length, length-append, Letter, letter_of, List, record_line, record_lines, refl, size_of, size_text, suc, usual_front, with_unmap, with_unmaps, word, zero, ℕ}
 use Rattle.xl_lackey.specs.declared.reference.Letter.TheVariants as letter
-use Rattle.xl_lackey.specs.Usual.{usual_front}
-use Rattle.xl_made.specs.Made.{word, after, letter_of, size_of, size_text, address_of, record_line, record_lines, with_unmap, with_unmaps}
 
 -- every line has 14 bytes
 line_by : (l : Letter) (address size : ℕ) → length (usual_front l ++ hex_digits 8 address ++ size_text size) ≡ 14

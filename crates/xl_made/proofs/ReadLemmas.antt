@@ -1,28 +1,20 @@
 -- What the lines of made records are read as.
-use Rattle.std.proofs.Common.{◌≡◌, refl, sym, ap, ◌∙◌, ℕ, zero, suc, ◌+◌, ◌*◌, ◌/◌, ◌%◌, ◌^◌, ◌-◌, ◌<◌, ◌≤◌, Bool, true, false, nat_lt, List, [], ◌∷◌, ◌++◌, length, length-append, ◌⊎◌, inl, inr, subst, arith}
-use Rattle.std.specs.Prelude.{Some, if◌then◌else◌, map}
+use Rattle.xl_made.proofs.Common.{◌%◌, ◌*◌, ◌++◌, ◌+◌, ◌-◌, ◌/◌, ◌<◌, ◌^◌, ◌∙◌, ◌∷◌, ◌≡◌, ◌≤◌, ◌⊎◌, [], accesses_in, accesses_near, address_of, after, ap, arith, Bool, false, first_kind, Follows, hex_digits, hex_glyph, inl, inr, is_modify, IsFirst, IsFirstOf, Lcg, length, length-append, Letter, letter_of, List, nat_lt, page_of, pair, record_line, record_lines, record_of_word, refl, size_of, size_text, subst, suc, sym, Takes, takes_more, TakesFirst, true, usual_front, word, zero, ℕ}
 use Rattle.std.proofs.lemmas.Bool.Decides.{nat_tests}
-use Rattle.xl_model.specs.Lines.{hex_digits, hex_glyph}
-use Rattle.xl_model.specs.declared.address.Kind.{Kind}
-use Rattle.xl_lackey.specs.declared.reference.Letter.{Letter}
-use Rattle.xl_lackey.specs.declared.reference.Letter.TheVariants as letter
-use Rattle.xl_lackey.specs.declared.skim.Access.{Access}
+use Rattle.std.specs.Prelude.{if◌then◌else◌, map, Some}
+use Rattle.xl_lackey.proofs.AddressLemmas.{hex_more}
+use Rattle.xl_lackey.proofs.FirstLineLemmas.{first_record}
+use Rattle.xl_lackey.proofs.NearLineLemmas.{comma_at, near_fits}
 use Rattle.xl_lackey.specs.Accesses.{accesses_at, borders, starts}
 use Rattle.xl_lackey.specs.Answers.{with_record}
 use Rattle.xl_lackey.specs.Digits.{hex_digit, hex_value}
 use Rattle.xl_lackey.specs.Lines.{address_in}
-use Rattle.xl_lackey.specs.Skims.{pair, accesses_in, accesses_near, Takes}
 use Rattle.xl_lackey.specs.Stream.{next_line, records}
-use Rattle.xl_lackey.specs.Usual.{first_kind, is_modify, usual_front}
-use Rattle.xl_lackey.proofs.AddressLemmas.{hex_more}
-use Rattle.xl_lackey.proofs.NearLineLemmas.{comma_at, near_fits}
-use Rattle.xl_lackey.proofs.FirstLineLemmas.{first_record}
-use Rattle.xl_lackey.proofs.SkimLemmas.{takes_more}
-use Rattle.rand_pcg.specs.Lcg.{Lcg}
+use Rattle.xl_lackey.specs.declared.skim.Access.{Access}
+use Rattle.xl_model.specs.declared.address.Kind.{Kind}
 use Rattle.xl_text.specs.Texts.{lines_of}
-use Rattle.xl_made.specs.Made.{word, after, letter_of, size_of, size_text, page_of, address_of, record_line, record_lines}
-use Rattle.xl_made.specs.Taken.{IsFirst, IsFirstOf, record_of_word, Follows, TakesFirst}
-use Rattle.xl_made.proofs.MadeLemmas.{line_made, line-length}
+use Rattle.xl_made.proofs.MadeLemmas.{line-length, line_made}
+use Rattle.xl_lackey.specs.declared.reference.Letter.TheVariants as letter
 
 -- digits that are written are read
 glyph_read : (d : ℕ) → d < 16 → hex_digit (hex_glyph d) ≡ Some d

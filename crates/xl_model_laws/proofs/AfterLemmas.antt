@@ -1,12 +1,6 @@
 -- The shape of a table after a change, table by table.
-use Rattle.std.proofs.Common.{◌≡◌, refl, ap, ℕ, true, List, Option, None, Some, arith}
-use Rattle.std.proofs.lemmas.Bool.Decides.{nat_tests}
-use Rattle.xl_model.specs.declared.leaf.Leaf.{Leaf}
-use Rattle.xl_model.specs.Changes.{Change, old_leaf, changed}
-use Rattle.xl_model.specs.Nodes.{Node, only_needed}
-use Rattle.xl_model.specs.Shapes.{Radix, Chained, Cuckoo, Runs, CuckooWays, CuckooRules, brought, ways_brought, ways_taken, widened, narrowed, shape_after}
-use Rattle.xl_model.specs.Room.{room_for}
-use Rattle.xl_model_laws.proofs.FreshNodeLemmas.{wide, HasPath}
+use Rattle.xl_model_laws.proofs.Common.{◌≡◌, ap, arith, brought, Chained, Change, changed, Cuckoo, CuckooRules, CuckooWays, Leaf, List, narrowed, nat_tests, Node, None, old_leaf, only_needed, Option, Radix, refl, room_for, Runs, shape_after, Some, true, ways_brought, ways_taken, widened, ℕ}
+use Rattle.xl_model_laws.proofs.FreshNodeLemmas.{HasPath, wide}
 
 radix-widened : (leaf : Option Leaf) (levels spaces : ℕ) (nodes : List (Option Node)) → widened leaf (Radix levels spaces nodes) ≡ Radix levels spaces (wide levels leaf nodes)
 unfolding wide

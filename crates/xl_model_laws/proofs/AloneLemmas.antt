@@ -1,18 +1,6 @@
 -- An access in a row and in the row with the arrays alone that serve its kind: they are taken out before or after.
-use Rattle.std.proofs.Common.{◌≡◌, refl, sym, ◌∙◌, ap, arith, ℕ, ◌+◌, Bool, true, false, cond, ◌&&◌, List, [], ◌∷◌, map, Option, None, Some, nat_lt}
-use Rattle.std.specs.Prelude.{count_by}
-use Rattle.std.proofs.lemmas.List.Sums.{sum_by-cons}
-use Rattle.xl_model.specs.declared.address.Kind.{Kind}
-use Rattle.xl_model.specs.declared.leaf.Leaf.{Leaf}
-use Rattle.xl_model.specs.declared.leaf.Reply.{Reply}
+use Rattle.xl_model_laws.proofs.Common.{◌&&◌, ◌+◌, ◌∙◌, ◌∷◌, ◌≡◌, [], accessed, alone, AnAccessNeedsItsArraysAlone, Answer, answer_of, answered_by, ap, arith, array_filled, array_hit, array_touched, arrays_filled, arrays_for, arrays_hit, asked, at_places, Bool, cond, count_by, count_fills, count_look, count_reply, count_walk, counted, counts_for, false, filled_below, filled_for, filled_where, fills_array, hits_at, is_canonical, Kind, Leaf, leaf_at_page, List, looked, looked_by, looked_where, map, misses_at, nat_lt, None, one_more_where, Option, page_of, refl, Reply, reply_to, RowState, serves_kind, Some, sum_by-cons, sym, table_walked, takes_leaf, takes_order, TlbArray, touched_or, true, walk_filled, walk_made, where_taken, ℕ}
 use Rattle.xl_model.specs.declared.leaf.Reply.TheVariants as reply
-use Rattle.xl_model.specs.Addresses.{is_canonical, page_of}
-use Rattle.xl_model.specs.Mapping.{leaf_at_page}
-use Rattle.xl_model.specs.Structures.{table_walked}
-use Rattle.xl_model.specs.Tally.{one_more_where, counted, count_reply, count_walk, count_fills, count_look}
-use Rattle.xl_model.specs.Tlb.{TlbArray, where_taken, array_hit, array_touched, filled_where, array_filled, serves_kind, asked, Answer, answered_by, answer_of, hits_at, misses_at, filled_below, touched_or, arrays_hit, fills_array, filled_for, arrays_filled, takes_leaf, takes_order}
-use Rattle.xl_model.specs.RowRun.{RowState, walk_filled, walk_made, looked_by, looked, looked_where, reply_to, accessed}
-use Rattle.xl_model_laws.specs.Kinds.{arrays_for, at_places, counts_for, alone, AnAccessNeedsItsArraysAlone}
 
 module _ (k : Kind) where
   -- touches and fills change no array's spec

@@ -1,29 +1,10 @@
 -- A row has no hits and no misses beyond those of its arrays.
-use Rattle.std.proofs.Common.{◌≡◌, refl, sym, subst, ap, ◌∙◌, ℕ, zero, suc, ◌≤◌, Bool, true, false, List, [], ◌∷◌, map, length, Option, None, Some, Result, Ok, Err, slice_index_or, arith}
-use Rattle.xl_model.specs.declared.address.Kind.{Kind}
-use Rattle.xl_model.specs.declared.leaf.Leaf.{Leaf}
-use Rattle.xl_model.specs.declared.leaf.Reply.{Reply}
-use Rattle.xl_model.specs.declared.leaf.Reply.TheVariants as reply
-use Rattle.xl_model.specs.declared.event.Event.{Event}
-use Rattle.xl_model.specs.declared.event.Event.TheVariants as event
-use Rattle.xl_model.specs.declared.event.Refusal.{Refusal}
-use Rattle.xl_model.specs.declared.row.Counts.{Counts}
+use Rattle.xl_model_laws.proofs.Common.{◌∙◌, ◌∷◌, ◌≡◌, ◌≤◌, [], accessed, after_event, after_rule, Answer, answer_of, ap, arith, array_without, arrays_after, arrays_filled, arrays_hit, arrays_without, asked, Bool, Change, change_of, changed_by, changed_where, count_accepted, count_fence, count_fills, count_invalidated, count_look, count_refusal, count_reply, count_walk, count_work, counted, Counts, counts_refused, Err, Event, false, fenced, filled_below, filled_for, hits_at, is_canonical, is_purged, IsZeroBeyond, Kind, Leaf, leaf_at_page, length, List, looked, looked_by, looked_where, map, misses_at, no_counts, None, NoRoom, NothingIsCountedBeyondTheArrays, Ok, old_leaf, opening, opening_array, opening_arrays, Option, page_of, reach_of, reaches_leaf, refl, Refusal, Refused, Reply, reply_to, Result, Row, RowState, rule, served, slice_index_or, Some, subst, suc, sym, table_answer, TlbArray, touched_or, true, walk_filled, walk_made, Work, zero, ℕ}
 use Rattle.xl_model.specs.declared.row.Purge.{Purge}
-use Rattle.xl_model.specs.declared.work.NoRoom.{NoRoom}
-use Rattle.xl_model.specs.declared.work.NoRoom.TheVariants as why
-use Rattle.xl_model.specs.declared.work.Refused.{Refused}
-use Rattle.xl_model.specs.declared.work.Work.{Work}
-use Rattle.xl_model.specs.Addresses.{is_canonical, page_of}
-use Rattle.xl_model.specs.Mapping.{leaf_at_page}
-use Rattle.xl_model.specs.Rows.{Row}
-use Rattle.xl_model.specs.Changes.{Change, old_leaf}
-use Rattle.xl_model.specs.Rules.{rule, change_of}
-use Rattle.xl_model.specs.Structures.{table_answer}
-use Rattle.xl_model.specs.Tally.{counted, no_counts, count_refusal, count_reply, count_walk, count_fills, count_look, count_work, count_accepted, count_invalidated, count_fence}
-use Rattle.xl_model.specs.Tlb.{TlbArray, Answer, answer_of, asked, filled_below, touched_or, arrays_hit, filled_for, arrays_filled, array_without, arrays_without, is_purged, reaches_leaf, opening_array, opening_arrays, hits_at, misses_at}
-use Rattle.xl_model.specs.RowRun.{RowState, opening, walk_filled, walk_made, looked_by, looked, looked_where, reply_to, accessed, arrays_after, counts_refused, changed_by, changed_where, reach_of, fenced, served, after_rule, after_event}
-use Rattle.xl_model_laws.specs.Runs.{IsZeroBeyond, NothingIsCountedBeyondTheArrays}
 use Rattle.xl_model_laws.proofs.RunLemmas.{Keeps, run-keeps}
+use Rattle.xl_model.specs.declared.event.Event.TheVariants as event
+use Rattle.xl_model.specs.declared.leaf.Reply.TheVariants as reply
+use Rattle.xl_model.specs.declared.work.NoRoom.TheVariants as why
 
 -- lists of arrays keep their length
 mapped-length : {A B : Type 0} → (f : A → B) (xs : List A) → length (map f xs) ≡ length xs

@@ -1,14 +1,7 @@
 -- A refused attempt of a cuckoo table leaves the entries of every way, and so every section.
-use Rattle.std.proofs.Common.{◌≡◌, refl, false, List, Some, map}
-use Rattle.xl_model.specs.declared.address.Order.{Order}
-use Rattle.xl_model.specs.declared.address.Order.TheVariants as order
-use Rattle.xl_model.specs.declared.leaf.Leaf.{Leaf}
-use Rattle.xl_model.specs.declared.way.Moves.{Moves}
-use Rattle.xl_model.specs.Ways.{WayShape}
-use Rattle.xl_model.specs.Placing.{Placing, Placed, AtCap}
-use Rattle.xl_model.specs.Shapes.{CuckooRules, CuckooWays, ways_of, with_ways, leaf_entry, placed_leaf, ways_placed, ways_brought, is_placed}
-use Rattle.xl_model_lemmas.specs.Sections.{entries_of}
+use Rattle.xl_model_laws.proofs.Common.{◌≡◌, AtCap, CuckooRules, CuckooWays, entries_of, false, is_placed, Leaf, leaf_entry, List, map, Moves, Order, Placed, placed_leaf, Placing, refl, Some, ways_brought, ways_of, ways_placed, WayShape, with_ways}
 use Rattle.xl_model_laws.proofs.WayLemmas.{a_refusal_keeps_every_word}
+use Rattle.xl_model.specs.declared.address.Order.TheVariants as order
 
 -- the ways of each order have the same entries
 SameEntries : CuckooWays → CuckooWays → Type 0

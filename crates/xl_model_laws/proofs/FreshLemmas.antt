@@ -1,48 +1,18 @@
 -- Nothing is stale: what every event keeps of arrays and caches.
-use Rattle.std.proofs.Common.{◌≡◌, refl, sym, subst, ℕ, zero, suc, ◌+◌, ◌-◌, ◌*◌, ◌<◌, ◌≤◌, Bool, true, false, not, List, [], ◌∷◌, length, Option, None, Some, arith}
-use Rattle.std.specs.Prelude.{find, is_some}
-use Rattle.xl_model.specs.declared.address.Kind.{Kind}
-use Rattle.xl_model.specs.declared.address.Mode.{Mode}
-use Rattle.xl_model.specs.declared.leaf.Leaf.{Leaf}
-use Rattle.xl_model.specs.declared.leaf.Range.{Range}
-use Rattle.xl_model.specs.declared.event.Event.{Event}
+use Rattle.xl_model_laws.proofs.Common.{◌*◌, ◌+◌, ◌-◌, ◌<◌, ◌∷◌, ◌≡◌, ◌≤◌, [], accessed, after_by, after_event, after_rule, Answer, answer_by, answer_of, arith, ArraysFresh, Bool, brought, Caches, caches_fenced, caches_purged, CachesFresh, Chained, Change, change_of, changed, changed_by, changed_where, count_look, covers, Cuckoo, CuckooRules, CuckooWays, empty_caches, Event, false, fenced, fills_m2, find, find-In, finds_place, has_leaves, has_room, holds_page, In, in_nodes, is_canonical, is_page_section, is_some, IsFound, IsMapping, IsSound, kept-sound, Kind, Leaf, leaf_at_page, length, level-low, level_of, levels_of, List, looked, looked_by, looked_where, Made, Mode, NoCaches, Node, NodeCaches, None, NoPlace, NoSpace, not, Numbered, old_leaf, only_needed, opening, opening_caches, opening_nodes, opening_shape, Option, Order, page_of, pages_of, purged_at, Radix, Range, range_walk_by, RangeCache, ranges_of, reach_of, reaches_leaf, reaches_range, reaches_space, refl, Refusal, Row, RowState, rule, Runs, same_order, section_caches, section_of_page, SectionCaches, served, Shape, shape_after, Some, sound-of, start_level, subst, suc, sym, Table, table_after, table_answer, table_fenced, table_made, table_walked, TableState, TagsFresh, true, Verdict, verdict, walk_filled, walk_made, walked, ways_brought, ways_taken, widened, zero, ℕ}
 use Rattle.xl_model.specs.declared.event.Reach.{Reach}
-use Rattle.xl_model.specs.declared.event.Refusal.{Refusal}
-use Rattle.xl_model.specs.declared.row.Table.{Table}
-use Rattle.xl_model.specs.Addresses.{levels_of, level_of, pages_of, is_canonical, page_of, same_order}
-use Rattle.xl_model.specs.Mapping.{covers, leaf_at_page}
-use Rattle.xl_model.specs.Rows.{Row}
-use Rattle.xl_model.specs.Changes.{Change, old_leaf, changed}
-use Rattle.xl_model.specs.Rules.{rule, change_of}
-use Rattle.xl_model.specs.Nodes.{Node, in_nodes, only_needed, opening_nodes}
-use Rattle.xl_model.specs.Ranges.{ranges_of, holds_page}
-use Rattle.xl_model.specs.Shapes.{Shape, Radix, Chained, Cuckoo, Runs, CuckooWays, CuckooRules, brought, ways_brought, ways_taken, widened, shape_after, opening_shape}
-use Rattle.xl_model.specs.Room.{has_room}
-use Rattle.xl_model.specs.Caches.{Caches, NodeCaches, SectionCaches, RangeCache, NoCaches, Numbered, empty_caches, section_caches, opening_caches, caches_purged, caches_fenced, reaches_space, reaches_range}
-use Rattle.xl_model.specs.Walks.{section_of_page, range_walk_by, walked, start_level, is_page_section, fills_m2}
-use Rattle.xl_model.specs.Structures.{answer_by, TableState, Verdict, Made, NoSpace, NoPlace, finds_place, verdict, table_made, table_answer, table_after, after_by, table_walked, table_fenced}
-use Rattle.xl_model.specs.Tally.{count_look}
-use Rattle.xl_model.specs.Tlb.{Answer, answer_of, reaches_leaf}
-use Rattle.xl_model.specs.RowRun.{RowState, opening, walk_filled, walk_made, looked_by, looked, looked_where, accessed, purged_at, changed_by, changed_where, fenced, reach_of, served, after_rule, after_event}
-use Rattle.xl_model_lemmas.specs.Members.{In}
-use Rattle.xl_model_lemmas.specs.Mappings.{IsMapping, IsFound, IsSound}
-use Rattle.xl_model_lemmas.proofs.OrderLemmas.{level-low}
-use Rattle.xl_model_lemmas.proofs.MemberLemmas.{find-In}
-use Rattle.xl_model_lemmas.proofs.RuleLemmas.{sound-of, kept-sound}
-use Rattle.xl_model_lemmas.specs.Fresh.{has_leaves, ArraysFresh, TagsFresh, CachesFresh}
-use Rattle.xl_model_laws.specs.Fresh.{NothingIsStale}
-use Rattle.xl_model_laws.proofs.RunLemmas.{Keeps, run-keeps}
-use Rattle.xl_model_laws.proofs.LeafLemmas.{opening-mapping}
-use Rattle.xl_model_lemmas.proofs.FreshArrayLemmas.{hit-fresh, filled-fresh, without-fresh, changed-fresh, opening-fresh}
-use Rattle.xl_model_laws.proofs.FreshNodeLemmas.{NodesFull, wide, full-after, tags-after, tags-fenced, tags-walked, same-length, without-few}
-use Rattle.xl_model_lemmas.proofs.FreshSectionLemmas.{section-some, section-walked, section-fenced, section-after, section-refused}
-use Rattle.xl_model_laws.proofs.CapLemmas.{refused-same}
-use Rattle.xl_model_laws.proofs.AfterLemmas.{radix-after, cuckoo-after, runs-after, chained-after, path-room}
-use Rattle.xl_model_laws.proofs.TableRunLemmas.{made-room, caps-placed}
 use Rattle.xl_model_lemmas.proofs.CoverLemmas.{found-leaf}
-use Rattle.xl_model_laws.proofs.FreshRangeLemmas.{ranges-fresh, range-filled, range-touched, range-fenced, range-after}
+use Rattle.xl_model_lemmas.proofs.FreshArrayLemmas.{changed-fresh, filled-fresh, hit-fresh, opening-fresh, without-fresh}
+use Rattle.xl_model_lemmas.proofs.FreshSectionLemmas.{section-after, section-fenced, section-refused, section-some, section-walked}
+use Rattle.xl_model_laws.proofs.AfterLemmas.{chained-after, cuckoo-after, path-room, radix-after, runs-after}
+use Rattle.xl_model_laws.proofs.CapLemmas.{refused-same}
+use Rattle.xl_model_laws.proofs.FreshNodeLemmas.{full-after, NodesFull, same-length, tags-after, tags-fenced, tags-walked, wide, without-few}
+use Rattle.xl_model_laws.proofs.FreshRangeLemmas.{range-after, range-fenced, range-filled, range-touched, ranges-fresh}
+use Rattle.xl_model_laws.proofs.LeafLemmas.{opening-mapping}
+use Rattle.xl_model_laws.proofs.RunLemmas.{Keeps, run-keeps}
+use Rattle.xl_model_laws.proofs.TableRunLemmas.{caps-placed, made-room}
+use Rattle.xl_model_laws.specs.Fresh.{NothingIsStale}
 use Rattle.xl_model.specs.declared.address.Mode.TheVariants as mode
-use Rattle.xl_model.specs.declared.address.Order.{Order}
 use Rattle.xl_model.specs.declared.address.Order.TheVariants as order
 use Rattle.xl_model.specs.declared.event.Event.TheVariants as event
 use Rattle.xl_model.specs.declared.row.Table.TheVariants as table

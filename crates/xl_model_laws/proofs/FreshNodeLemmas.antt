@@ -1,28 +1,7 @@
 -- Node tags: every node that the mapping needs has a number, and a cached tag has that of its node.
-use Rattle.std.proofs.Common.{◌≡◌, refl, sym, ap, ◌∙◌, subst, ℕ, suc, ◌+◌, ◌-◌, ◌<◌, ◌≤◌, Bool, true, false, not, cond, List, [], ◌∷◌, length, Option, None, Some, ◌⊎◌, inl, inr, slice_index_or, nat_lt, nat_le, ◌==◌, ◌&&◌, ◌||◌, arith}
-use Rattle.std.specs.List.{list_any, position_from}
-use Rattle.std.proofs.lemmas.Bool.Decides.{nat_tests}
-use Rattle.std.specs.Cmp.{second_so}
-use Rattle.std.proofs.lemmas.Bool.{not-false}
-use Rattle.xl_model.specs.declared.address.Order.{Order}
-use Rattle.xl_model.specs.declared.leaf.Leaf.{Leaf}
-use Rattle.xl_model.specs.Addresses.{level_of}
-use Rattle.xl_model.specs.Mapping.{leaf_named}
-use Rattle.xl_model.specs.Changes.{Change, Insert, Remove, Protect, Relocate, new_leaf, changed, with_perm}
-use Rattle.xl_model.specs.Nodes.{up, Node, node_at, is_below, is_under, in_nodes, number_of, free_count, with_path, with_leaf_nodes, leaf_nodes_missing, is_needed, only_needed}
-use Rattle.xl_model.specs.Shapes.{brought}
-use Rattle.xl_model.specs.Caches.{Cached, Numbered, without_items, all_without}
-use Rattle.xl_model.specs.Walks.{is_tag, numbered, node_cache_after, node_caches_after, with_touch, with_fill}
-use Rattle.xl_model.specs.Base.{number_or_0}
-use Rattle.xl_model_lemmas.specs.Members.{In}
-use Rattle.xl_model_lemmas.proofs.MemberLemmas.{any-In, In-any}
-use Rattle.xl_model_lemmas.proofs.MappingLemmas.{named-In}
+use Rattle.xl_model_laws.proofs.Common.{◌&&◌, ◌+◌, ◌-◌, ◌<◌, ◌==◌, ◌||◌, ◌∙◌, ◌∷◌, ◌≡◌, ◌≤◌, ◌⊎◌, [], all_without, any-In, ap, arith, Bool, brought, Cached, Change, changed, changed-In, cond, false, free_count, In, In-any, in_nodes, inl, inr, Insert, is_below, is_needed, is_tag, is_under, IsFound, Leaf, leaf_named, leaf_nodes_missing, length, level_of, LevelFresh, List, list_any, named-In, nat_le, nat_lt, nat_tests, new_leaf, newest-In, Node, node_at, node_cache_after, node_caches_after, None, not, not-false, number_of, number_or_0, Numbered, numbered, only_needed, Option, Order, position_from, Protect, purged-In, refl, Relocate, Remove, second_so, slice_index_or, Some, subst, suc, sym, TagFresh, TagsFresh, touched-In, true, up, with_fill, with_leaf_nodes, with_path, with_perm, with_touch, without_items, ℕ}
 use Rattle.xl_model_lemmas.proofs.EndLemmas.{covered-under}
-use Rattle.xl_model_lemmas.proofs.ChangeLemmas.{changed-In}
-use Rattle.xl_model_lemmas.specs.Mappings.{IsFound}
-use Rattle.xl_model_lemmas.specs.Fresh.{TagFresh, LevelFresh, TagsFresh}
-use Rattle.xl_model_lemmas.proofs.RecencyLemmas.{touched-In, newest-In, purged-In}
-use Rattle.xl_model_laws.proofs.NumberLemmas.{position-none, position-at, path-at, path-has, path-puts, kept-at, kept-has}
+use Rattle.xl_model_laws.proofs.NumberLemmas.{kept-at, kept-has, path-at, path-has, path-puts, position-at, position-none}
 
 -- every node below the root that the mapping needs is there
 pub record NodesFull (levels : ℕ) (leaves : List Leaf) (nodes : List (Option Node)) : Type 0 where

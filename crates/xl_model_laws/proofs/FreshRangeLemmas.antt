@@ -1,24 +1,7 @@
 -- Cached ranges: each page of a maximal run is covered, and a change takes the ranges of the old leaf.
-use Rattle.std.proofs.Common.{◌≡◌, refl, sym, ◌∙◌, subst, ℕ, ◌+◌, ◌-◌, ◌*◌, ◌<◌, ◌≤◌, Bool, true, false, cond, List, [], ◌∷◌, Option, None, Some, inl, inr, nat_lt, arith}
-use Rattle.std.proofs.lemmas.Bool.Decides.{nat_tests}
-use Rattle.xl_model.specs.declared.address.Order.{Order}
-use Rattle.xl_model.specs.declared.address.Order.TheVariants as order
-use Rattle.xl_model.specs.declared.leaf.Leaf.{Leaf}
-use Rattle.xl_model.specs.declared.leaf.Range.{Range}
-use Rattle.xl_model.specs.Addresses.{pages_of}
-use Rattle.xl_model.specs.Mapping.{covers}
-use Rattle.xl_model.specs.Rows.{Row}
-use Rattle.xl_model.specs.Changes.{Change, old_leaf, changed}
-use Rattle.xl_model.specs.Ranges.{range_of_leaf, goes_into, joined, ranges_of, holds_page}
-use Rattle.xl_model.specs.Caches.{Cached, without_items, holds_first}
-use Rattle.xl_model.specs.Walks.{with_range, with_touch}
-use Rattle.xl_model_lemmas.specs.Members.{In}
-use Rattle.xl_model_lemmas.specs.Mappings.{IsMapping, IsSound}
-use Rattle.xl_model_lemmas.proofs.ChangeLemmas.{stays-changed}
-use Rattle.xl_model_lemmas.proofs.OrderLemmas.{orders-same}
+use Rattle.xl_model_laws.proofs.Common.{◌*◌, ◌+◌, ◌-◌, ◌<◌, ◌∙◌, ◌∷◌, ◌≡◌, ◌≤◌, [], arith, Bool, Cached, Change, changed, cond, covers, false, goes_into, holds_first, holds_page, In, inl, inr, IsMapping, IsSound, joined, Leaf, List, nat_lt, nat_tests, newest-In, None, old_leaf, Option, Order, orders-same, PageCovered, pages_of, purged-In, Range, range_of_leaf, RangeFresh, ranges_of, RangesFresh, refl, Row, Some, stays-changed, subst, sym, touched-In, true, with_range, with_touch, without_items, ℕ}
 use Rattle.xl_model.proofs.PermLemmas.{perms-same}
-use Rattle.xl_model_lemmas.specs.Fresh.{PageCovered, RangeFresh, RangesFresh}
-use Rattle.xl_model_lemmas.proofs.RecencyLemmas.{touched-In, newest-In, purged-In}
+use Rattle.xl_model.specs.declared.address.Order.TheVariants as order
 
 -- what goes into a range is of its kind
 pub record Joins (leaf : Leaf) (r : Range) : Type 0 where

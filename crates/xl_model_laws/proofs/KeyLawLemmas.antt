@@ -1,48 +1,18 @@
 -- Each leaf of a cuckoo row has its key in one way of its order. Entries are counted by every test, and leaves by the
 -- test of their entries: at each change the two numbers stay the same.
-use Rattle.std.proofs.Common.{◌≡◌, refl, sym, ap, ◌∙◌, subst, ℕ, zero, suc, ◌+◌, ◌*◌, ◌/◌, ◌^◌, ◌<◌, ◌≤◌, Bool, true, false, cond, not, ◌&&◌, List, [], length, map, Option, None, Some, ◌==◌, arith, nat_le}
-use Rattle.std.specs.List.{list_any, list_all}
+use Rattle.xl_model_laws.proofs.Common.{◌&&◌, ◌*◌, ◌+◌, ◌/◌, ◌<◌, ◌==◌, ◌^◌, ◌∙◌, ◌≡◌, ◌≤◌, [], any-In, ap, arith, at_page, AtCap, Bool, brought, Chained, Change, changed, cond, Cuckoo, CuckooRules, CuckooWays, entries-same, entries_in, Entry, eq-eqb, false, finds_place, first-low, first-small, first_so, has_key, In, In-any, Insert, insertion-adds, insertion-count, is_placed, is_table, is_width, is_within, IsMapping, IsNewPlace, IsSound, Leaf, leaf_entry, leaf_key, leaf_named, leaf_word, length, levels_of, List, list_all, list_any, lists-length, map, Mode, named-In, named-is, narrowed, nat_le, nat_tests, None, not, old_leaf, one_if, opening_shape, opening_way, opening_ways, Option, Order, order-same, orders-same, other-key, pages_of, Perm, place-small, Placed, placed_leaf, Placing, Protect, Radix, refl, Relocate, Remove, reworded, Row, run, Runs, same_order, second_so, Shape, shape_after, Some, subst, suc, sym, Table, tally, true, ways-reworded, ways-without, ways_brought, ways_of, ways_placed, ways_taken, WayShape, widened, with_leaf, with_new, with_perm, with_ways, with_word, without_entry, without_leaf, without_old, zero, ℕ}
 use Rattle.std.proofs.lemmas.List.{length-map}
-use Rattle.std.proofs.lemmas.Bool.Decides.{nat_tests}
-use Rattle.std.proofs.lemmas.Bool.{eq-eqb}
-use Rattle.xl_model.specs.declared.address.Mode.{Mode}
-use Rattle.xl_model.specs.declared.address.Mode.TheVariants as mode
-use Rattle.xl_model.specs.declared.address.Order.{Order}
-use Rattle.xl_model.specs.declared.address.Order.TheVariants as order
-use Rattle.xl_model.specs.declared.perm.Perm.{Perm}
-use Rattle.xl_model.specs.declared.leaf.Leaf.{Leaf}
-use Rattle.xl_model.specs.declared.row.Table.{Table}
-use Rattle.xl_model.specs.declared.row.Table.TheVariants as table
-use Rattle.xl_model.specs.declared.way.Entry.{Entry}
-use Rattle.xl_model.specs.Addresses.{levels_of, pages_of, same_order}
-use Rattle.xl_model.specs.Base.{one_if}
-use Rattle.xl_model.specs.Words.{leaf_word}
-use Rattle.xl_model.specs.Mapping.{leaf_key, leaf_named, with_leaf, without_leaf}
-use Rattle.xl_model.specs.Rows.{Row, is_table, is_within, is_width}
-use Rattle.xl_model.specs.Changes.{Change, Insert, Remove, Protect, Relocate, old_leaf, with_perm, at_page, changed, with_new, without_old}
-use Rattle.xl_model.specs.Ways.{WayShape, has_key, with_word, without_entry, reworded, opening_way}
-use Rattle.xl_model.specs.Placing.{Placing, Placed, AtCap}
-use Rattle.xl_model.specs.Shapes.{Shape, Radix, Chained, Cuckoo, Runs, CuckooRules, CuckooWays, ways_of, with_ways, leaf_entry, brought, placed_leaf, ways_placed, is_placed, ways_brought, ways_taken, widened, narrowed, shape_after, opening_ways, opening_shape}
-use Rattle.xl_model.specs.Structures.{finds_place}
-use Rattle.xl_model_lemmas.specs.Members.{In}
-use Rattle.xl_model_lemmas.specs.Mappings.{IsMapping, IsNewPlace, IsSound}
-use Rattle.xl_model_lemmas.specs.Sections.{tally, entries_in}
-use Rattle.xl_model_lemmas.proofs.MemberLemmas.{In-any, any-In}
 use Rattle.xl_model_lemmas.proofs.InsertionLemmas.{same-place, without-In, without-other}
-use Rattle.xl_model_lemmas.proofs.OrderLemmas.{orders-same, order-same}
-use Rattle.xl_model_lemmas.proofs.MappingLemmas.{named-In, named-is}
-use Rattle.xl_model_lemmas.proofs.PlaceLemmas.{named-space, named-order}
-use Rattle.xl_model_lemmas.proofs.ChangeLemmas.{other-key, first-small, place-small, first-low}
-use Rattle.xl_model_lemmas.proofs.TallyLemmas.{tally-any, tally-each, tally-only, tally-most}
-use Rattle.xl_model_lemmas.proofs.LeafTallyLemmas.{sorted-once, tally-with, tally-less}
-use Rattle.xl_model_lemmas.proofs.WayTallyLemmas.{ways-without, ways-reworded}
-use Rattle.xl_model_lemmas.proofs.PlacingLemmas.{entries-same, insertion-adds, insertion-count, lists-length}
-use Rattle.xl_model_laws.specs.Keys.{AreEntriesOf, HasEntries, EachLeafHasItsKey}
+use Rattle.xl_model_lemmas.proofs.LeafTallyLemmas.{sorted-once, tally-less, tally-with}
+use Rattle.xl_model_lemmas.proofs.PlaceLemmas.{named-order, named-space}
+use Rattle.xl_model_lemmas.proofs.TallyLemmas.{tally-any, tally-each, tally-most, tally-only}
 use Rattle.xl_model_laws.proofs.AfterLemmas.{cuckoo-after}
 use Rattle.xl_model_laws.proofs.CapLemmas.{refused-same}
 use Rattle.xl_model_laws.proofs.TableRunLemmas.{run-holds}
-use Rattle.std.specs.Cmp.{first_so, second_so}
-use Rattle.xl_model.specs.Items.{run}
+use Rattle.xl_model_laws.specs.Keys.{AreEntriesOf, EachLeafHasItsKey, HasEntries}
+use Rattle.xl_model.specs.declared.address.Mode.TheVariants as mode
+use Rattle.xl_model.specs.declared.address.Order.TheVariants as order
+use Rattle.xl_model.specs.declared.row.Table.TheVariants as table
 
 -- the ways of an order, where those of an order are others
 ways-with : (o p : Order) (ways : List WayShape) (ws : CuckooWays) → ways_of o (with_ways p ways ws) ≡ cond (same_order p o) ways (ways_of o ws)

@@ -1,22 +1,9 @@
 -- Arrays that serve two kinds of access alike are looked up alike for both, and those that serve others stay.
-use Rattle.std.proofs.Common.{◌≡◌, refl, sym, ◌∙◌, ap, subst, ℕ, zero, suc, ◌+◌, Bool, true, false, cond, ◌&&◌, not, List, [], ◌∷◌, map, Option, None, Some, is_some, inl, inr, nat_le, nat_lt, slice_get, slice_index_or}
-use Rattle.std.specs.Prelude.{count_by}
-use Rattle.std.proofs.lemmas.List.Sums.{sum_by-cons}
-use Rattle.xl_model.specs.declared.address.Kind.{Kind}
-use Rattle.xl_model.specs.declared.address.Kind.TheVariants as kind
-use Rattle.xl_model.specs.declared.leaf.Leaf.{Leaf}
-use Rattle.xl_model.specs.declared.leaf.Reply.{Reply}
-use Rattle.xl_model.specs.declared.leaf.Reply.TheVariants as reply
-use Rattle.xl_model.specs.declared.row.Counts.{Counts}
+use Rattle.xl_model_laws.proofs.Common.{◌&&◌, ◌+◌, ◌∙◌, ◌∷◌, ◌≡◌, [], accessed, AnArrayForOthersStays, Answer, answer_of, answered_by, ap, array_filled, array_hit, arrays_filled, arrays_hit, ArraysForAllTakeNoNoteOfKinds, asked, AStoreLooksUpAsALoad, Bool, cond, count_by, count_fills, count_look, count_reply, count_walk, counted, Counts, false, filled_below, filled_for, fills_array, hits_at, In, inl, inr, is_canonical, is_looked, is_some, Kind, Leaf, leaf_at_page, List, looked, looked_by, looked_where, map, misses_at, nat_le, nat_lt, None, not, one_more_where, Option, page_of, refl, Reply, reply_to, RowState, serves_as, serves_kind, slice_get, slice_index_or, Some, StaysAt, subst, suc, sum_by-cons, sym, takes_leaf, takes_order, TlbArray, touched_or, true, walk_filled, walk_made, where_taken, zero, ℕ}
 use Rattle.xl_model.specs.declared.row.Serves.{Serves}
+use Rattle.xl_model.specs.declared.address.Kind.TheVariants as kind
+use Rattle.xl_model.specs.declared.leaf.Reply.TheVariants as reply
 use Rattle.xl_model.specs.declared.row.Serves.TheVariants as serves
-use Rattle.xl_model.specs.Addresses.{is_canonical, page_of}
-use Rattle.xl_model.specs.Mapping.{leaf_at_page}
-use Rattle.xl_model.specs.Tally.{one_more_where, counted, count_reply, count_walk, count_fills, count_look}
-use Rattle.xl_model.specs.Tlb.{TlbArray, where_taken, array_hit, array_filled, serves_as, serves_kind, asked, Answer, answered_by, answer_of, is_looked, hits_at, misses_at, filled_below, touched_or, arrays_hit, fills_array, filled_for, arrays_filled, takes_leaf, takes_order}
-use Rattle.xl_model.specs.RowRun.{RowState, walk_filled, walk_made, looked_by, looked, looked_where, reply_to, accessed}
-use Rattle.xl_model_lemmas.specs.Members.{In}
-use Rattle.xl_model_laws.specs.Kinds.{ArraysForAllTakeNoNoteOfKinds, AStoreLooksUpAsALoad, StaysAt, AnArrayForOthersStays}
 
 -- ---- arrays that serve two kinds alike
 

@@ -1,25 +1,8 @@
 -- The leaves after an event.
-use Rattle.std.proofs.Common.{◌≡◌, refl, sym, ap, subst, ℕ, Bool, true, false, List, Option, None, Some, Result, Ok, Err}
-use Rattle.xl_model.specs.declared.address.Kind.{Kind}
-use Rattle.xl_model.specs.declared.leaf.Leaf.{Leaf}
-use Rattle.xl_model.specs.declared.event.Event.{Event}
-use Rattle.xl_model.specs.declared.event.Event.TheVariants as event
-use Rattle.xl_model.specs.declared.event.Refusal.{Refusal}
-use Rattle.xl_model.specs.declared.work.Refused.{Refused}
-use Rattle.xl_model.specs.declared.work.Work.{Work}
-use Rattle.xl_model.specs.Addresses.{is_canonical, page_of}
-use Rattle.xl_model.specs.Mapping.{leaf_at_page}
-use Rattle.xl_model.specs.Rows.{Row}
-use Rattle.xl_model.specs.Changes.{Change, changed}
-use Rattle.xl_model.specs.Rules.{rule}
-use Rattle.xl_model.specs.Structures.{TableState, Verdict, Made, NoSpace, NoPlace, verdict, table_made, table_answer, table_after, after_by, table_walked, table_fenced}
-use Rattle.xl_model.specs.Tlb.{Answer, answer_of}
-use Rattle.xl_model.specs.RowRun.{RowState, opening, walk_filled, looked_by, looked, looked_where, reply_to, accessed, changed_by, changed_where, fenced, served, after_rule, after_event, outcome_of}
-use Rattle.xl_model_lemmas.specs.Mappings.{IsMapping}
-use Rattle.xl_model_lemmas.proofs.RuleLemmas.{kept-changed}
+use Rattle.xl_model_laws.proofs.Common.{◌≡◌, accessed, after_by, after_event, after_rule, Answer, answer_of, ap, AReplyIsByTheMapping, Bool, Change, changed, changed_by, changed_where, Err, Event, false, fenced, is_canonical, IsMapping, kept-changed, Kind, Leaf, leaf_at_page, List, looked, looked_by, looked_where, Made, None, NoPlace, NoSpace, Ok, opening, Option, outcome_of, page_of, refl, Refusal, Refused, reply_to, Result, Row, RowState, rule, served, Some, subst, sym, table_after, table_answer, table_fenced, table_made, table_walked, TableState, TheLeavesAreAMapping, TheLowestIsTheLeast, true, Verdict, verdict, walk_filled, Work, ℕ}
 use Rattle.xl_model_lemmas.proofs.LowestLemmas.{lowest-is-lowest}
-use Rattle.xl_model_laws.specs.Runs.{TheLeavesAreAMapping, AReplyIsByTheMapping, TheLowestIsTheLeast}
 use Rattle.xl_model_laws.proofs.RunLemmas.{Keeps, run-keeps}
+use Rattle.xl_model.specs.declared.event.Event.TheVariants as event
 
 pub filled-leaves : (kind : Kind) (found : Option Leaf) (s : RowState) → (walk_filled kind found s).table ≡ s.table
 filled-leaves kind None s = refl

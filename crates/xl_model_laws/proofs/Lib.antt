@@ -1,3 +1,4 @@
+mod Common
 mod RefusalLemmas
 mod RunLemmas
 mod LeafLemmas

@@ -1,12 +1,8 @@
 -- What a table takes stays the same, at each call and in every run.
-use Rattle.std.proofs.Common.{◌∙◌, refl}
-use Rattle.xl_model.specs.Addresses.{levels_of}
-use Rattle.xl_model.specs.RowRun.{opening}
-use Rattle.xl_model.specs.Shapes.{Shape, widened, shape_after, opening_shape}
+use Rattle.xl_model_laws.proofs.Common.{◌∙◌, levels_of, limits-changed, limits-fenced, limits-walked, opening, opening_shape, refl, Shape, shape-same, shape_after, widened, widened-same}
 use Rattle.xl_model_lemmas.specs.Limits.{SameLimits}
-use Rattle.xl_model_lemmas.proofs.LimitLemmas.{widened-same, shape-same, limits-changed, limits-walked, limits-fenced}
-use Rattle.xl_model_laws.specs.Limits.{EachCallKeepsTheLimits, TheLimitsStay}
 use Rattle.xl_model_laws.proofs.ShapeLemmas.{run-shape}
+use Rattle.xl_model_laws.specs.Limits.{EachCallKeepsTheLimits, TheLimitsStay}
 
 pub each_call_keeps_the_limits : EachCallKeepsTheLimits
 each_call_keeps_the_limits t = (λ c. limits-changed c t, λ space page. limits-walked space page t, λ to. limits-fenced to t)

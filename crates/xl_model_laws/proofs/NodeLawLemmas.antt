@@ -1,17 +1,7 @@
 -- The nodes with numbers are exactly those that the mapping needs, at every change.
-use Rattle.std.proofs.Common.{◌≡◌, refl, sym, ap, ◌∙◌, subst, ℕ, zero, suc, ◌+◌, ◌-◌, ◌<◌, ◌≤◌, Bool, true, false, cond, List, [], ◌∷◌, ◌++◌, map, Option, None, Some, ◌⊎◌, inl, inr, slice_index_or, ◌==◌, ◌||◌, arith}
-use Rattle.std.specs.Prelude.{replicate}
-use Rattle.std.specs.List.{list_any, position_from}
-use Rattle.std.proofs.lemmas.Bool.Decides.{nat_tests}
-use Rattle.xl_model.specs.declared.leaf.Leaf.{Leaf}
-use Rattle.xl_model.specs.Addresses.{level_of}
-use Rattle.xl_model.specs.Changes.{Change, changed}
-use Rattle.xl_model.specs.Nodes.{up, Node, is_below, in_nodes, is_under, number_of, put_first, unless_there, with_node, with_path, with_leaf_nodes, is_needed, kept_node, only_needed, roots, opening_nodes}
-use Rattle.xl_model.specs.Shapes.{brought}
-use Rattle.xl_model_lemmas.proofs.MemberLemmas.{any-In}
-use Rattle.xl_model_laws.proofs.NumberLemmas.{position-none, is-new, kept-at}
-use Rattle.xl_model_laws.proofs.FreshNodeLemmas.{NodesFull, wide, HasPath, wide-at, full-after, node-by}
-use Rattle.xl_model_laws.specs.Nodes.{root_of, IsNodeOf, AreNumbered}
+use Rattle.xl_model_laws.proofs.Common.{◌++◌, ◌+◌, ◌-◌, ◌<◌, ◌==◌, ◌||◌, ◌∙◌, ◌∷◌, ◌≡◌, ◌≤◌, ◌⊎◌, [], any-In, ap, AreNumbered, arith, Bool, brought, Change, changed, cond, false, in_nodes, inl, inr, is_below, is_needed, is_under, IsNodeOf, kept_node, Leaf, level_of, List, list_any, map, nat_tests, Node, None, number_of, only_needed, opening_nodes, Option, position_from, put_first, refl, replicate, root_of, roots, slice_index_or, Some, subst, suc, sym, true, unless_there, up, with_leaf_nodes, with_node, with_path, zero, ℕ}
+use Rattle.xl_model_laws.proofs.FreshNodeLemmas.{full-after, HasPath, node-by, NodesFull, wide, wide-at}
+use Rattle.xl_model_laws.proofs.NumberLemmas.{is-new, kept-at, position-none}
 
 -- a node at a number, and the tests that it passes
 pub at-any : (p : Option Node → Bool) (x : Node) (nodes : List (Option Node)) (n : ℕ) → slice_index_or nodes n None ≡ Some x → p (Some x) ≡ true → list_any p nodes ≡ true

@@ -1,29 +1,12 @@
 -- A radix table's numbers in every run, and its room.
-use Rattle.std.proofs.Common.{◌≡◌, refl, sym, ap, ◌∙◌, subst, ℕ, zero, suc, ◌+◌, ◌-◌, ◌<◌, ◌≤◌, Bool, true, false, List, [], ◌∷◌, ◌++◌, length, Option, None, Some, ◌⊎◌, inl, inr, nat_le, slice_index_or, ◌==◌, ◌&&◌, ◌||◌, length-append, arith, nat_lt}
-use Rattle.std.specs.List.{list_any, position_from}
-use Rattle.std.proofs.lemmas.Bool.Decides.{nat_tests}
-use Rattle.std.proofs.lemmas.Bool.{eq-eqb}
-use Rattle.xl_model.specs.declared.address.Mode.{Mode}
-use Rattle.xl_model.specs.declared.address.Mode.TheVariants as mode
-use Rattle.xl_model.specs.declared.leaf.Leaf.{Leaf}
-use Rattle.xl_model.specs.declared.row.Table.{Table}
-use Rattle.xl_model.specs.declared.row.Table.TheVariants as table
-use Rattle.xl_model.specs.Addresses.{levels_of, level_of}
-use Rattle.xl_model.specs.Rows.{Row}
-use Rattle.xl_model.specs.Changes.{Change, changed}
-use Rattle.xl_model.specs.Nodes.{up, Node, is_below, in_nodes, is_under, number_of, one_unless, missing, free_count, leaf_nodes_missing}
-use Rattle.xl_model.specs.Shapes.{Shape, Radix, Chained, Cuckoo, Runs, CuckooRules, CuckooWays, brought, widened, narrowed, shape_after, opening_shape}
-use Rattle.xl_model.specs.Room.{has_room, room_for}
-use Rattle.xl_model.specs.Structures.{finds_place}
-use Rattle.xl_model.specs.Items.{run}
-use Rattle.xl_model_lemmas.specs.Members.{In, Once}
-use Rattle.xl_model_lemmas.proofs.MemberLemmas.{In-left, In-right, In-append}
-use Rattle.xl_model_lemmas.proofs.OnceLemmas.{same-by, once-append}
-use Rattle.xl_model_laws.proofs.NumberLemmas.{position-none, position-any}
-use Rattle.xl_model_laws.specs.Nodes.{IsNodeOf, AreNumbered, HasNumbers, TheNodesAreTheMappings, AreNodesOf, RoomIsForAllNodes}
-use Rattle.xl_model_laws.proofs.AfterLemmas.{radix-after, path-room}
+use Rattle.xl_model_laws.proofs.Common.{◌&&◌, ◌++◌, ◌+◌, ◌-◌, ◌<◌, ◌==◌, ◌||◌, ◌∙◌, ◌∷◌, ◌≡◌, ◌≤◌, ◌⊎◌, [], ap, AreNodesOf, AreNumbered, arith, Bool, brought, Chained, Change, changed, Cuckoo, CuckooRules, CuckooWays, eq-eqb, false, finds_place, free_count, has_room, HasNumbers, In, In-append, In-left, In-right, in_nodes, inl, inr, is_below, is_under, IsNodeOf, Leaf, leaf_nodes_missing, length, length-append, level_of, levels_of, List, list_any, missing, Mode, narrowed, nat_le, nat_lt, nat_tests, Node, None, number_of, Once, one_unless, opening_shape, Option, position_from, Radix, refl, room_for, RoomIsForAllNodes, Row, run, Runs, Shape, shape_after, slice_index_or, Some, subst, suc, sym, Table, TheNodesAreTheMappings, true, up, widened, zero, ℕ}
+use Rattle.xl_model_lemmas.proofs.OnceLemmas.{once-append, same-by}
+use Rattle.xl_model_laws.proofs.AfterLemmas.{path-room, radix-after}
+use Rattle.xl_model_laws.proofs.NodeLawLemmas.{any-at, at-any, below-is, numbered-after, numbered-opening, NumberedOnce}
+use Rattle.xl_model_laws.proofs.NumberLemmas.{position-any, position-none}
 use Rattle.xl_model_laws.proofs.TableRunLemmas.{run-holds}
-use Rattle.xl_model_laws.proofs.NodeLawLemmas.{NumberedOnce, at-any, any-at, below-is, numbered-after, numbered-opening}
+use Rattle.xl_model.specs.declared.address.Mode.TheVariants as mode
+use Rattle.xl_model.specs.declared.row.Table.TheVariants as table
 
 -- a radix table has levels
 abbrev HasLevels : Shape → Type 0

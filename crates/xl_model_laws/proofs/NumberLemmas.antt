@@ -1,10 +1,6 @@
 -- Numbers of nodes: what a new node and a change of the mapping leave of them.
-use Rattle.std.proofs.Common.{◌≡◌, refl, subst, ℕ, zero, suc, ◌+◌, ◌-◌, ◌<◌, ◌≤◌, Bool, true, false, cond, List, [], ◌∷◌, Option, None, Some, map, slice_index_or, nat_le, ◌==◌, ◌||◌, arith}
-use Rattle.std.specs.List.{list_any, position_from}
-use Rattle.std.proofs.lemmas.Bool.Decides.{nat_tests}
+use Rattle.xl_model_laws.proofs.Common.{◌+◌, ◌-◌, ◌<◌, ◌==◌, ◌||◌, ◌∷◌, ◌≡◌, ◌≤◌, [], arith, Bool, cond, false, free_count, in_nodes, is_below, is_needed, kept_node, Leaf, List, list_any, map, missing, nat_le, nat_tests, Node, None, number_of, one_unless, Option, position_from, put_first, refl, slice_index_or, Some, subst, suc, true, unless_there, up, with_node, with_path, zero, ℕ}
 use Rattle.std.proofs.Math.Bool.{or-true}
-use Rattle.xl_model.specs.declared.leaf.Leaf.{Leaf}
-use Rattle.xl_model.specs.Nodes.{up, Node, is_below, in_nodes, number_of, put_first, unless_there, with_node, with_path, one_unless, missing, free_count, is_needed, kept_node}
 
 -- a test that a free number doesn't pass
 pub put-at : (x y : Node) (nodes : List (Option Node)) (n : ℕ) → slice_index_or nodes n None ≡ Some y → slice_index_or (put_first x nodes) n None ≡ Some y

@@ -1,31 +1,9 @@
 -- The reads that a row counts are the loads of its table.
-use Rattle.std.proofs.Common.{◌≡◌, refl, sym, ap, ◌∙◌, ℕ, Bool, true, false, Option, None, Some, Result, Ok, Err}
-use Rattle.xl_model.specs.declared.address.Kind.{Kind}
-use Rattle.xl_model.specs.declared.leaf.Leaf.{Leaf}
-use Rattle.xl_model.specs.declared.leaf.Reply.{Reply}
-use Rattle.xl_model.specs.declared.leaf.Reply.TheVariants as reply
-use Rattle.xl_model.specs.declared.event.Event.{Event}
-use Rattle.xl_model.specs.declared.event.Event.TheVariants as event
-use Rattle.xl_model.specs.declared.event.Refusal.{Refusal}
-use Rattle.xl_model.specs.declared.row.Counts.{Counts}
-use Rattle.xl_model.specs.declared.work.NoRoom.{NoRoom}
-use Rattle.xl_model.specs.declared.work.NoRoom.TheVariants as why
-use Rattle.xl_model.specs.declared.work.Refused.{Refused}
-use Rattle.xl_model.specs.declared.work.Work.{Work}
-use Rattle.xl_model.specs.Addresses.{is_canonical, page_of}
-use Rattle.xl_model.specs.Base.{plus}
-use Rattle.xl_model.specs.Mapping.{leaf_at_page}
-use Rattle.xl_model.specs.Rows.{Row}
-use Rattle.xl_model.specs.Changes.{Change}
-use Rattle.xl_model.specs.Rules.{rule, change_of}
-use Rattle.xl_model.specs.Walks.{walked}
-use Rattle.xl_model.specs.Structures.{TableState, Verdict, Made, NoSpace, NoPlace, verdict, table_made, table_answer, table_after, after_by, table_walked, table_fenced}
-use Rattle.xl_model.specs.Tally.{no_counts, count_refusal, count_reply, count_walk, count_fills, count_look, count_work, count_accepted, count_invalidated, count_fence}
-use Rattle.xl_model.specs.Tlb.{Answer, answer_of}
-use Rattle.xl_model.specs.RowRun.{RowState, opening, walk_filled, walk_made, looked_by, looked, looked_where, reply_to, accessed, counts_refused, changed_by, changed_where, fenced, served, after_rule, after_event}
-use Rattle.xl_model_laws.specs.Runs.{TheReadsAreTheLoads}
+use Rattle.xl_model_laws.proofs.Common.{◌∙◌, ◌≡◌, accessed, after_event, after_rule, Answer, answer_of, ap, Bool, Change, change_of, changed_by, changed_where, count_accepted, count_fence, count_fills, count_invalidated, count_look, count_refusal, count_reply, count_walk, count_work, Counts, counts_refused, Err, Event, false, fenced, is_canonical, Kind, Leaf, leaf_at_page, loads-by, looked, looked_by, looked_where, no_counts, None, NoRoom, Ok, opening, Option, page_of, plus, refl, Refusal, Refused, Reply, reply_to, Result, Row, RowState, rule, served, Some, sym, table_after, table_answer, table_fenced, table_walked, TheReadsAreTheLoads, true, verdict, walk_filled, walk_made, walked, Work, ℕ}
 use Rattle.xl_model_laws.proofs.RunLemmas.{Keeps, run-keeps}
-use Rattle.xl_model_lemmas.proofs.LimitLemmas.{loads-by}
+use Rattle.xl_model.specs.declared.event.Event.TheVariants as event
+use Rattle.xl_model.specs.declared.leaf.Reply.TheVariants as reply
+use Rattle.xl_model.specs.declared.work.NoRoom.TheVariants as why
 
 AreLoads : RowState → Type 0
 AreLoads s = s.counts.reads ≡ s.table.loads

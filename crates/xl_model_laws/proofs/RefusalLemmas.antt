@@ -1,29 +1,11 @@
 -- A refusal leaves nothing but its count: a step commutes with one refusal more.
-use Rattle.std.proofs.Common.{◌≡◌, refl, subst, sym, ap, ◌∙◌, ℕ, zero, suc, Bool, true, false, List, [], ◌∷◌, Option, None, Some, Result, Ok, Err}
-use Rattle.xl_model.specs.declared.address.Kind.{Kind}
-use Rattle.xl_model.specs.declared.event.Event.{Event}
+use Rattle.xl_model_laws.proofs.Common.{◌∙◌, ◌∷◌, ◌≡◌, [], accessed, after_event, after_rule, Answer, answer_by, answer_of, ap, Bool, Change, change_of, changed_by, changed_outcome, changed_where, count_accepted, count_fence, count_fills, count_invalidated, count_look, count_refusal, count_reply, count_walk, count_work, Counts, counts_refused, Err, Event, false, fenced, is_canonical, Kind, Leaf, leaf_at_page, List, looked, looked_by, looked_where, Made, None, NoPlace, NoRoom, NoSpace, Ok, one_more_at, Option, outcome_after_rule, outcome_by, outcome_of, page_of, refl, Refusal, refusal_place, Refused, Reply, reply_to, Result, Row, RowState, rule, served, served_outcome, Some, subst, suc, sym, table_after, table_answer, true, Verdict, verdict, walk_filled, walk_made, Work, zero, ℕ}
+use Rattle.xl_model_laws.specs.Refusals.{after_events, ARefusalLeavesNothing, leaves_nothing, outcomes_of, with_refusal}
 use Rattle.xl_model.specs.declared.event.Event.TheVariants as event
 use Rattle.xl_model.specs.declared.event.Outcome.TheVariants as outcome
-use Rattle.xl_model.specs.declared.event.Refusal.{Refusal}
 use Rattle.xl_model.specs.declared.event.Refusal.TheVariants as refused
-use Rattle.xl_model.specs.declared.leaf.Leaf.{Leaf}
-use Rattle.xl_model.specs.declared.leaf.Reply.{Reply}
 use Rattle.xl_model.specs.declared.leaf.Reply.TheVariants as reply
-use Rattle.xl_model.specs.declared.row.Counts.{Counts}
-use Rattle.xl_model.specs.declared.work.NoRoom.{NoRoom}
 use Rattle.xl_model.specs.declared.work.NoRoom.TheVariants as why
-use Rattle.xl_model.specs.declared.work.Refused.{Refused}
-use Rattle.xl_model.specs.declared.work.Work.{Work}
-use Rattle.xl_model.specs.Addresses.{is_canonical, page_of}
-use Rattle.xl_model.specs.Mapping.{leaf_at_page}
-use Rattle.xl_model.specs.Rows.{Row}
-use Rattle.xl_model.specs.Changes.{Change}
-use Rattle.xl_model.specs.Rules.{rule, change_of}
-use Rattle.xl_model.specs.Structures.{Verdict, Made, NoSpace, NoPlace, verdict, table_answer, answer_by, table_after}
-use Rattle.xl_model.specs.Tally.{refusal_place, one_more_at, count_refusal, count_reply, count_walk, count_fills, count_look, count_work, count_accepted, count_invalidated, count_fence}
-use Rattle.xl_model.specs.Tlb.{Answer, answer_of}
-use Rattle.xl_model.specs.RowRun.{RowState, walk_filled, walk_made, looked_by, looked, looked_where, reply_to, accessed, changed_by, changed_where, changed_outcome, outcome_by, counts_refused, fenced, served, after_rule, after_event, served_outcome, outcome_after_rule, outcome_of}
-use Rattle.xl_model_laws.specs.Refusals.{with_refusal, after_events, outcomes_of, leaves_nothing, ARefusalLeavesNothing}
 
 one_more_commutes : (i j : ℕ) (xs : List ℕ) → one_more_at i (one_more_at j xs) ≡ one_more_at j (one_more_at i xs)
 one_more_commutes i j [] = refl

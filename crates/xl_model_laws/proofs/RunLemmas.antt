@@ -1,13 +1,8 @@
 -- What every event keeps, every run keeps.
-use Rattle.std.proofs.Common.{ℕ, List, [], ◌∷◌, Option, None, Some}
-use Rattle.xl_model.specs.declared.event.Event.{Event}
+use Rattle.xl_model_laws.proofs.Common.{◌∷◌, [], after_event, again_where, area_wanted, areas_after, demanded, Event, Item, List, map_of, None, opening, Option, outcome_of, referenced, Row, RowState, run, Some, state_after, states_after, ℕ}
 use Rattle.xl_model.specs.declared.event.Outcome.{Outcome}
-use Rattle.xl_model.specs.Rows.{Row}
-use Rattle.xl_model.specs.RowRun.{RowState, opening, after_event, outcome_of}
-use Rattle.xl_model.specs.declared.script.Item.{Item}
-use Rattle.xl_model.specs.declared.script.Item.TheVariants.{Command, Declared, Referenced}
 use Rattle.xl_model.specs.declared.script.Area.{Area}
-use Rattle.xl_model.specs.Items.{again_where, demanded, map_of, area_wanted, referenced, areas_after, state_after, states_after, run}
+use Rattle.xl_model.specs.declared.script.Item.TheVariants.{Command, Declared, Referenced}
 use Rattle.xl_model.specs.declared.event.Event.TheVariants as event
 use Rattle.xl_model.specs.declared.event.Outcome.TheVariants as outcome
 

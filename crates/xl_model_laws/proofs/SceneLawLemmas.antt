@@ -1,8 +1,8 @@
 -- Laws of all rows together.
-use Rattle.std.proofs.Common.{ap}
+use Rattle.xl_model_laws.proofs.Common.{ap}
 use Rattle.xl_model.specs.Scenes.{Live}
-use Rattle.xl_model_lemmas.proofs.SceneLemmas.{lives-append, lives-told, scene-is, told-append, rows-run}
-use Rattle.xl_model_laws.specs.Scenes.{ItemsMayBeServedInParts, TheToldTextOnlyGrows, WhatIsToldFirstStandsFirst, TellingChangesNoRow, EachRowRunsByItself}
+use Rattle.xl_model_lemmas.proofs.SceneLemmas.{lives-append, lives-told, rows-run, scene-is, told-append}
+use Rattle.xl_model_laws.specs.Scenes.{EachRowRunsByItself, ItemsMayBeServedInParts, TellingChangesNoRow, TheToldTextOnlyGrows, WhatIsToldFirstStandsFirst}
 
 pub items_may_be_served_in_parts : ItemsMayBeServedInParts
 items_may_be_served_in_parts = lives-append

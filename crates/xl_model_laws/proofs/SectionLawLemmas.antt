@@ -1,5 +1,5 @@
 -- The sections that room in a cuckoo table counts.
-use Rattle.xl_model_lemmas.proofs.SectionLemmas.{keys-In, In-keys, keys-once}
+use Rattle.xl_model_lemmas.proofs.SectionLemmas.{In-keys, keys-In, keys-once}
 use Rattle.xl_model_laws.specs.Sections.{SectionsAreCountedOnce}
 
 pub sections_are_counted_once : SectionsAreCountedOnce

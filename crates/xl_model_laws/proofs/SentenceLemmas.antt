@@ -1,14 +1,7 @@
 -- Maximal runs, and the lowest free number.
-use Rattle.std.proofs.Common.{◌≡◌, refl, sym, ap, ◌∙◌, subst, ℕ, zero, suc, ◌+◌, ◌-◌, ◌<◌, ◌≤◌, true, false, cond, List, [], ◌∷◌, length, Option, None, Some, ◌==◌, ◌&&◌, arith}
-use Rattle.xl_model.specs.declared.address.Order.{Order}
-use Rattle.xl_model.specs.declared.perm.Perm.{Perm}
-use Rattle.xl_model.specs.declared.leaf.Leaf.{Leaf}
-use Rattle.xl_model.specs.declared.leaf.Range.{Range}
-use Rattle.xl_model.specs.Addresses.{pages_of, same_order}
-use Rattle.xl_model.specs.Nodes.{Node}
-use Rattle.xl_model.specs.Ranges.{same_perm, range_of_leaf, goes_into, joined, ranges_of}
-use Rattle.xl_model_laws.specs.Sentences.{AreConsecutive, IsRun, AreRuns, runs_on, NoneRunsOn, TheRangesAreMaximalRuns, ANodeTakesTheLowestNumber}
+use Rattle.xl_model_laws.proofs.Common.{◌&&◌, ◌+◌, ◌-◌, ◌<◌, ◌==◌, ◌∙◌, ◌∷◌, ◌≡◌, ◌≤◌, [], ap, arith, cond, false, goes_into, joined, Leaf, length, List, Node, None, Option, Order, pages_of, Perm, Range, range_of_leaf, ranges_of, refl, same_order, same_perm, Some, subst, suc, sym, true, zero, ℕ}
 use Rattle.xl_model_laws.proofs.FreshRangeLemmas.{Joins, joins}
+use Rattle.xl_model_laws.specs.Sentences.{ANodeTakesTheLowestNumber, AreConsecutive, AreRuns, IsRun, NoneRunsOn, runs_on, TheRangesAreMaximalRuns}
 
 -- a run looked at from a range of the same kind
 same-kind : (a b : Range) (start frame pages : ℕ) (xs : List Leaf) → a.space ≡ b.space → a.order ≡ b.order → a.perm ≡ b.perm

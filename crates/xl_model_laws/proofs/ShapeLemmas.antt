@@ -1,21 +1,6 @@
 -- What a shape keeps at every change, it keeps in every run.
-use Rattle.std.proofs.Common.{◌≡◌, refl, sym, ap, subst, ℕ, Bool, true, false, List, Option, None, Some}
-use Rattle.xl_model.specs.declared.address.Kind.{Kind}
-use Rattle.xl_model.specs.declared.leaf.Leaf.{Leaf}
-use Rattle.xl_model.specs.declared.event.Event.{Event}
-use Rattle.xl_model.specs.declared.event.Refusal.{Refusal}
-use Rattle.xl_model.specs.Addresses.{levels_of, is_canonical, page_of}
-use Rattle.xl_model.specs.Mapping.{leaf_at_page}
-use Rattle.xl_model.specs.Rows.{Row}
-use Rattle.xl_model.specs.Changes.{Change}
-use Rattle.xl_model.specs.Rules.{rule, change_of}
-use Rattle.xl_model.specs.Shapes.{Shape, brought, widened, shape_after, opening_shape}
-use Rattle.xl_model.specs.Structures.{TableState, Verdict, Made, NoSpace, NoPlace, verdict, table_made, table_answer, table_after, after_by, table_walked, table_fenced}
-use Rattle.xl_model.specs.Tlb.{Answer, answer_of}
-use Rattle.xl_model.specs.RowRun.{RowState, opening, looked_by, looked, looked_where, accessed, changed_where, fenced, served, after_rule, after_event}
-use Rattle.xl_model.specs.declared.script.Item.{Item}
-use Rattle.xl_model.specs.Items.{run}
-use Rattle.xl_model_laws.proofs.LeafLemmas.{filled-leaves, changed-table}
+use Rattle.xl_model_laws.proofs.Common.{◌≡◌, accessed, after_by, after_event, after_rule, Answer, answer_of, ap, Bool, brought, Change, change_of, changed_where, Event, false, fenced, is_canonical, Item, Kind, Leaf, leaf_at_page, levels_of, List, looked, looked_by, looked_where, Made, None, NoPlace, NoSpace, opening, opening_shape, Option, page_of, refl, Refusal, Row, RowState, rule, run, served, Shape, shape_after, Some, subst, sym, table_after, table_answer, table_fenced, table_made, table_walked, TableState, true, Verdict, verdict, widened, ℕ}
+use Rattle.xl_model_laws.proofs.LeafLemmas.{changed-table, filled-leaves}
 use Rattle.xl_model_laws.proofs.RunLemmas.{Keeps, run-keeps}
 use Rattle.xl_model.specs.declared.event.Event.TheVariants as event
 

@@ -1,9 +1,6 @@
 -- Slots of a growing way: the slot before is a function of the slot after, so keys apart stay apart.
-use Rattle.std.proofs.Common.{zero-add, ◌≡◌, refl, sym, subst, ℕ, Bool, true, false, cond, ◌&&◌, ◌<◌, ◌+◌, ◌%◌, ◌^◌, nat_lt, ◌==◌, arith}
-use Rattle.std.proofs.lemmas.Bool.Decides.{nat_tests}
+use Rattle.xl_model_laws.proofs.Common.{◌%◌, ◌&&◌, ◌+◌, ◌<◌, ◌==◌, ◌^◌, ◌≡◌, arith, begun_regs, Bool, cond, false, nat_lt, nat_tests, refl, regs_after, slot_at, slots_left, subst, sym, true, WayRegs, zero-add, ℕ}
 use Rattle.std.proofs.Math.Pow.{mod-mod-pow}
-use Rattle.xl_model.specs.declared.way.WayRegs.{WayRegs}
-use Rattle.xl_model.specs.Ways.{slot_at, slots_left, begun_regs, regs_after}
 
 low-bits : (h s : ℕ) → h % 2 ^ (s + 1) % 2 ^ s ≡ h % 2 ^ s
 low-bits h s = let e : s + 1 ≡ 1 + s = omega arith in

@@ -1,25 +1,9 @@
 -- What the leaves and the shape of a table keep at every change, they keep in every run.
-use Rattle.std.proofs.Common.{◌≡◌, sym, subst, refl, true, false, Bool, List, [], Option, None, Some}
-use Rattle.xl_model.specs.declared.address.Kind.{Kind}
-use Rattle.xl_model.specs.declared.leaf.Leaf.{Leaf}
-use Rattle.xl_model.specs.declared.event.Event.{Event}
-use Rattle.xl_model.specs.declared.event.Event.TheVariants as event
-use Rattle.xl_model.specs.declared.event.Refusal.{Refusal}
-use Rattle.xl_model.specs.declared.script.Item.{Item}
-use Rattle.xl_model.specs.Addresses.{levels_of}
-use Rattle.xl_model.specs.Rows.{Row}
-use Rattle.xl_model.specs.Changes.{Change, changed}
-use Rattle.xl_model.specs.Rules.{rule, change_of}
-use Rattle.xl_model.specs.Shapes.{Shape, brought, widened, shape_after, opening_shape}
-use Rattle.xl_model.specs.Room.{has_room}
-use Rattle.xl_model.specs.Structures.{TableState, Verdict, Made, NoSpace, NoPlace, finds_place, verdict_by, verdict, table_made, table_answer, table_after, after_by, table_fenced}
-use Rattle.xl_model.specs.RowRun.{RowState, opening, accessed, changed_where, fenced, served, after_rule, after_event}
-use Rattle.xl_model.specs.Items.{run}
-use Rattle.xl_model_lemmas.specs.Mappings.{IsMapping, IsSound}
-use Rattle.xl_model_lemmas.proofs.RuleLemmas.{sound-of, kept-sound}
+use Rattle.xl_model_laws.proofs.Common.{◌≡◌, [], accessed, after_by, after_event, after_rule, Bool, brought, Change, change_of, changed, changed_where, Event, false, fenced, finds_place, has_room, IsMapping, IsSound, Item, kept-sound, Kind, Leaf, levels_of, List, Made, None, NoPlace, NoSpace, opening, opening_shape, Option, refl, Refusal, Row, RowState, rule, run, served, Shape, shape_after, Some, sound-of, subst, sym, table_after, table_answer, table_fenced, table_made, TableState, true, Verdict, verdict, verdict_by, widened}
 use Rattle.xl_model_laws.proofs.LeafLemmas.{accessed-leaves, changed-table, opening-mapping}
-use Rattle.xl_model_laws.proofs.ShapeLemmas.{accessed-shape}
 use Rattle.xl_model_laws.proofs.RunLemmas.{run-keeps}
+use Rattle.xl_model_laws.proofs.ShapeLemmas.{accessed-shape}
+use Rattle.xl_model.specs.declared.event.Event.TheVariants as event
 
 -- what a verdict says
 pub made-room : (room placed : Bool) → verdict_by room placed ≡ Made → room ≡ true

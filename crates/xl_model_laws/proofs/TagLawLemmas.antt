@@ -1,25 +1,10 @@
 -- The tags of a table of chains are exactly those of its leaves, at every change.
-use Rattle.std.proofs.Common.{◌≡◌, refl, sym, ap, ◌∙◌, subst, ℕ, Bool, true, false, cond, List, [], ◌∷◌, Option, None, Some, ◌⊎◌, inl, inr, nat_lt, ◌==◌}
-use Rattle.std.specs.Prelude.{filter}
-use Rattle.std.specs.List.{list_any}
-use Rattle.std.proofs.lemmas.Bool.{eqb-true, eq-eqb}
-use Rattle.xl_model.specs.declared.leaf.Leaf.{Leaf}
-use Rattle.xl_model.specs.declared.row.Table.{Table}
-use Rattle.xl_model.specs.declared.row.Table.TheVariants as table
-use Rattle.xl_model.specs.Addresses.{levels_of}
-use Rattle.xl_model.specs.Rows.{Row}
-use Rattle.xl_model.specs.Changes.{Change, changed}
-use Rattle.xl_model.specs.Chains.{leaf_tag, tag_of, bucket_of, has_tag, in_front_of_bucket, with_tag, only_used_tags}
-use Rattle.xl_model.specs.Shapes.{CuckooRules, CuckooWays, Shape, Radix, Chained, Cuckoo, Runs, brought, widened, narrowed, shape_after, opening_shape}
-use Rattle.xl_model.specs.Structures.{finds_place}
-use Rattle.xl_model.specs.Nodes.{Node}
-use Rattle.xl_model_lemmas.specs.Members.{In, Once}
-use Rattle.xl_model_lemmas.proofs.MemberLemmas.{In-any, any-In, filter-In, filter-passes, In-filter}
-use Rattle.xl_model_lemmas.proofs.ChangeLemmas.{changed-In}
+use Rattle.xl_model_laws.proofs.Common.{◌==◌, ◌∙◌, ◌∷◌, ◌≡◌, ◌⊎◌, [], any-In, ap, Bool, brought, Chained, Change, changed, changed-In, cond, Cuckoo, CuckooRules, CuckooWays, eq-eqb, eqb-true, false, filter, filter-In, filter-passes, finds_place, In, In-any, In-filter, inl, inr, Leaf, levels_of, List, list_any, narrowed, nat_lt, Node, None, Once, opening_shape, Option, Radix, refl, Row, run, Runs, Shape, shape_after, Some, subst, sym, Table, true, widened, ℕ}
+use Rattle.xl_model.specs.Chains.{bucket_of, has_tag, in_front_of_bucket, leaf_tag, only_used_tags, tag_of, with_tag}
 use Rattle.xl_model_laws.proofs.FreshNodeLemmas.{new-brought}
-use Rattle.xl_model.specs.Items.{run}
-use Rattle.xl_model_laws.specs.Tags.{AreTagsOf, HasTags, TheTagsAreTheLeaves, HasTagsWith, RoomIsForAllTags}
-use Rattle.xl_model_laws.proofs.TableRunLemmas.{TableKeeps, run-holds}
+use Rattle.xl_model_laws.proofs.TableRunLemmas.{run-holds, TableKeeps}
+use Rattle.xl_model_laws.specs.Tags.{AreTagsOf, HasTags, HasTagsWith, RoomIsForAllTags, TheTagsAreTheLeaves}
+use Rattle.xl_model.specs.declared.row.Table.TheVariants as table
 
 -- a tag put in front of its bucket
 front-In : (b tag t : ℕ) (tags : List ℕ) → In t (in_front_of_bucket b tag tags) → (t ≡ tag) ⊎ In t tags

@@ -1,24 +1,8 @@
 -- What each step of a way keeps, every insertion and every change of a cuckoo table keeps in each way, and so every run.
-use Rattle.std.proofs.Common.{◌≡◌, refl, sym, subst, ℕ, zero, suc, Bool, true, false, cond, List, [], ◌∷◌, ◌++◌, Option, None, Some, inl, inr, ◌&&◌, not, ◌≤◌, ◌+◌, min, arith, map, length, slice_set}
-use Rattle.xl_model.specs.declared.address.Order.{Order}
-use Rattle.xl_model.specs.declared.address.Order.TheVariants as order
-use Rattle.xl_model.specs.declared.leaf.Leaf.{Leaf}
-use Rattle.xl_model.specs.declared.row.Table.{Table}
-use Rattle.xl_model.specs.declared.row.Table.TheVariants as table
-use Rattle.xl_model.specs.declared.script.Item.{Item}
-use Rattle.xl_model.specs.declared.way.Entry.{Entry}
-use Rattle.xl_model.specs.declared.way.Moves.{Moves}
-use Rattle.xl_model.specs.Addresses.{levels_of}
-use Rattle.xl_model.specs.Words.{leaf_word}
-use Rattle.xl_model.specs.Changes.{Change, Insert, Remove, Protect, Relocate, old_leaf}
-use Rattle.xl_model.specs.Ways.{WayShape, occupant, swapped, with_word, without_entry, slots_left, advanced, begun, opening_way}
-use Rattle.xl_model.specs.Placing.{way_at, put_in, next_way, start_way, Attempt, Stands, Fails, Displaced, by_occupant, attempt, to_grow, Candidate, growing_now, forced, forced_moves, Placing, Placed, AtCap, after_attempt, with_growth, growths_left, placing, place, no_moves, settled_way, begins, begun_if_full, settled, after_placing, insertion}
-use Rattle.xl_model.specs.Shapes.{CuckooRules, CuckooWays, Shape, Radix, Chained, Cuckoo, Runs, ways_of, with_ways, leaf_entry, brought, placed_leaf, ways_placed, ways_brought, ways_taken, widened, narrowed, shape_after, opening_ways, opening_shape}
-use Rattle.xl_model.specs.Rows.{Row}
-use Rattle.xl_model.specs.Items.{run}
-use Rattle.xl_model_lemmas.proofs.MemberLemmas.{map-In}
-use Rattle.xl_model_laws.specs.Cuckoo.{EachWay, ShapeEach}
+use Rattle.xl_model_laws.proofs.Common.{◌&&◌, ◌++◌, ◌+◌, ◌∷◌, ◌≡◌, ◌≤◌, [], advanced, after_attempt, after_placing, arith, AtCap, Attempt, attempt, begins, begun, begun_if_full, Bool, brought, by_occupant, Candidate, Chained, Change, cond, Cuckoo, CuckooRules, CuckooWays, Displaced, EachWay, Entry, Fails, false, forced, forced_moves, growing_now, growths_left, inl, inr, Insert, insertion, Item, Leaf, leaf_entry, leaf_word, length, levels_of, List, map, map-In, min, Moves, narrowed, next_way, no_moves, None, not, occupant, old_leaf, opening_shape, opening_way, opening_ways, Option, Order, place, Placed, placed_leaf, Placing, placing, Protect, put_in, Radix, refl, Relocate, Remove, Row, run, Runs, settled, settled_way, Shape, shape_after, ShapeEach, slice_set, slots_left, Some, Stands, start_way, subst, suc, swapped, sym, Table, to_grow, true, way_at, ways_brought, ways_of, ways_placed, ways_taken, WayShape, widened, with_growth, with_ways, with_word, without_entry, zero, ℕ}
 use Rattle.xl_model_laws.proofs.ShapeLemmas.{run-shape}
+use Rattle.xl_model.specs.declared.address.Order.TheVariants as order
+use Rattle.xl_model.specs.declared.row.Table.TheVariants as table
 
 pub record WayKeeps (P : WayShape → Type 0) : Type 0 where
   pub opened : (start cap number : ℕ) → P (opening_way start cap number)

@@ -1,24 +1,10 @@
 -- Two keys of one way never have one slot, and a refused insertion keeps every key and word.
-use Rattle.std.proofs.Common.{◌≡◌, refl, sym, ap, ◌∙◌, subst, ℕ, zero, suc, Bool, true, false, cond, List, [], Option, None, Some, ◌≤◌, ◌+◌, ◌==◌, arith, map, length, slice_set, ◌<◌, ◌-◌, ◌^◌}
-use Rattle.std.specs.Prelude.{find}
-use Rattle.std.proofs.lemmas.Bool.Decides.{nat_tests}
-use Rattle.std.proofs.lemmas.Nat.{pow_pos}
+use Rattle.xl_model_laws.proofs.Common.{◌+◌, ◌-◌, ◌<◌, ◌==◌, ◌^◌, ◌∙◌, ◌≡◌, ◌≤◌, [], advanced, after_attempt, after_placing, ap, ARefusalKeepsEveryWord, arith, AtCap, Attempt, attempt, begun, begun_regs, Bool, Candidate, cond, entries_of, Entry, eq-eqb, Fails, false, find, find-passes, forced, forced-entries, forced_moves, growths_left, HasPointer, insertion, IsPointer, KeysHaveTheirSlots, length, List, map, MigratingMovesNoEntry, Moves, nat_tests, no_moves, None, occupant, one_if, opening_way, Option, place, Placed, Placing, placing, refl, regs_after, reworded, slice_set, slot, slot_at, slots_left, SlotsApart, Some, Stands, stands_at, start_way, subst, suc, swapped, sym, tally, tally-le, tally-none, tally-out, tally-reworded, tally-same, tally-with_entry, tally-without_key, ThePointerIsBelowTheSlots, to_grow, true, way_at, WayRegs, WayShape, with_entry, with_growth, with_word, without_entry, without_occupant, zero, ℕ}
 use Rattle.std.proofs.Math.Seq.{map-set_same}
-use Rattle.std.proofs.lemmas.Bool.{eq-eqb}
-use Rattle.xl_model.specs.declared.way.Entry.{Entry}
-use Rattle.xl_model.specs.declared.way.Moves.{Moves}
-use Rattle.xl_model.specs.declared.way.WayRegs.{WayRegs}
+use Rattle.std.proofs.lemmas.Nat.{pow_pos}
 use Rattle.xl_model.specs.Hashes.{way_hash}
-use Rattle.xl_model.specs.Ways.{WayShape, slot_at, slot, occupant, with_entry, without_occupant, swapped, with_word, reworded, without_entry, slots_left, begun_regs, regs_after, advanced, begun, opening_way}
-use Rattle.xl_model.specs.Base.{one_if}
-use Rattle.xl_model.specs.Placing.{way_at, start_way, Attempt, Stands, Fails, attempt, to_grow, Candidate, forced, forced_moves, Placing, Placed, AtCap, after_attempt, with_growth, growths_left, placing, place, no_moves, after_placing, insertion}
-use Rattle.xl_model_lemmas.proofs.MemberLemmas.{find-passes}
-use Rattle.xl_model_laws.specs.Cuckoo.{stands_at, SlotsApart, KeysHaveTheirSlots, IsPointer, HasPointer, ThePointerIsBelowTheSlots, ARefusalKeepsEveryWord, MigratingMovesNoEntry}
-use Rattle.xl_model_lemmas.specs.Sections.{entries_of, tally}
-use Rattle.xl_model_lemmas.proofs.PlacingLemmas.{forced-entries}
-use Rattle.xl_model_laws.proofs.SlotLemmas.{before_slot, slot-back, begun-slot}
-use Rattle.xl_model_lemmas.proofs.WayTallyLemmas.{tally-le, tally-same, tally-with_entry, tally-without_key, tally-out, tally-none, tally-reworded}
-use Rattle.xl_model_laws.proofs.WayKeepLemmas.{WayKeeps, run-each}
+use Rattle.xl_model_laws.proofs.SlotLemmas.{before_slot, begun-slot, slot-back}
+use Rattle.xl_model_laws.proofs.WayKeepLemmas.{run-each, WayKeeps}
 
 -- keys of one slot
 same-slot : (r : WayRegs) (number : ℕ) (x y : Entry) → x.key ≡ y.key → slot r number x.key ≡ slot r number y.key

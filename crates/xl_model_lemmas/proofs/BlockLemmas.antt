@@ -1,16 +1,7 @@
 -- Whether a block is met, by what counts for its sections alone. For `meets` of the tables of chains and of the cuckoo row.
-use Rattle.std.proofs.Common.{◌≡◌, ap, ◌∙◌, ℕ, ◌+◌, ◌*◌, ◌/◌, ◌^◌, ◌<◌, true, false, ◌&&◌, ◌||◌, List, nat_lt, nat_le, ◌==◌, refl, arith}
-use Rattle.std.specs.Prelude.{find, is_some}
-use Rattle.std.specs.List.{list_any}
-use Rattle.std.proofs.lemmas.Bool.Decides.{nat_tests}
-use Rattle.xl_model.specs.declared.address.Order.{Order}
+use Rattle.xl_model_lemmas.proofs.Common.{◌&&◌, ◌*◌, ◌+◌, ◌/◌, ◌<◌, ◌==◌, ◌^◌, ◌||◌, ◌∙◌, ◌≡◌, ap, arith, counts_at, covers, false, find, In, is_some, IsAligned, Leaf, List, list_any, meets_block, nat_le, nat_lt, nat_tests, of_order, Order, pages_of, refl, true, ℕ}
+use Rattle.xl_model_lemmas.proofs.SameLemmas.{any-each, any-find, any-or, same-tests}
 use Rattle.xl_model.specs.declared.address.Order.TheVariants as order
-use Rattle.xl_model.specs.declared.leaf.Leaf.{Leaf}
-use Rattle.xl_model.specs.Addresses.{pages_of}
-use Rattle.xl_model.specs.Mapping.{covers, meets_block}
-use Rattle.xl_model_lemmas.specs.Members.{In}
-use Rattle.xl_model_lemmas.specs.Sections.{counts_at, of_order, IsAligned}
-use Rattle.xl_model_lemmas.proofs.SameLemmas.{same-tests, any-each, any-or, any-find}
 
 -- a 1 GiB block overlaps what lies in its section
 pub meets-g1 : (space first e : ℕ) (x : Leaf) → space < 64 → first < 2 ^ 45 → first ≡ e * 262144 → IsAligned x → meets_block space first order.G1 x ≡ counts_at order.G1 (space * 2 ^ 45 + first / 262144) x

@@ -1,10 +1,5 @@
 -- An item put in front of its bucket: the members, the tags, and the chains of the buckets. For chains in words too.
-use Rattle.std.proofs.Common.{◌≡◌, refl, ap, ℕ, suc, true, false, cond, List, [], ◌∷◌, map, length, nat_lt, ◌==◌, ◌⊎◌, inl, inr, arith}
-use Rattle.std.specs.Prelude.{filter}
-use Rattle.std.proofs.lemmas.Bool.Decides.{nat_tests}
-use Rattle.xl_model.specs.Chains.{bucket_of, chain_of, in_front_of_bucket}
-use Rattle.xl_model_lemmas.specs.Members.{In}
-use Rattle.xl_model_lemmas.specs.Buckets.{in_front_by}
+use Rattle.xl_model_lemmas.proofs.Common.{◌==◌, ◌∷◌, ◌≡◌, ◌⊎◌, [], ap, arith, bucket_of, chain_of, cond, false, filter, In, in_front_by, in_front_of_bucket, inl, inr, length, List, map, nat_lt, nat_tests, refl, suc, true, ℕ}
 
 module _ {A : Type 0} (tag : A → ℕ) (n : ℕ) where
   -- members

@@ -1,23 +1,12 @@
 -- Which leaves a change leaves as they were: all but the old one.
-use Rattle.std.proofs.Common.{◌≡◌, refl, sym, ◌∙◌, subst, ℕ, true, false, List, Option, None, Some, ◌⊎◌, inl, inr, ◌<◌, ◌≤◌, ◌+◌, ◌*◌, ◌^◌, arith}
-use Rattle.std.proofs.lemmas.Bool.Decides.{nat_tests}
-use Rattle.xl_model.specs.declared.address.Mode.{Mode}
-use Rattle.xl_model.specs.declared.address.Mode.TheVariants as mode
-use Rattle.xl_model.specs.declared.address.Order.{Order}
-use Rattle.xl_model.specs.declared.address.Order.TheVariants as order
-use Rattle.xl_model.specs.declared.perm.Perm.{Perm}
-use Rattle.xl_model.specs.declared.leaf.Leaf.{Leaf}
-use Rattle.xl_model.specs.Addresses.{levels_of, pages_of}
-use Rattle.xl_model.specs.Mapping.{meets_block, leaf_key, meets_any, leaf_named, without_leaf}
-use Rattle.xl_model.specs.Rows.{Row}
-use Rattle.xl_model.specs.Changes.{Change, Insert, Remove, Protect, Relocate, old_leaf, new_leaf, changed, with_new, without_old, with_perm, at_page}
-use Rattle.xl_model_lemmas.specs.Members.{In}
-use Rattle.xl_model_lemmas.specs.Mappings.{IsLeafOf, IsMapping, IsNewPlace, IsSound}
-use Rattle.xl_model_lemmas.proofs.MemberLemmas.{any-false}
-use Rattle.xl_model_lemmas.proofs.InsertionLemmas.{with-In, stays-with, without-In, In-without, same-place}
+use Rattle.xl_model_lemmas.proofs.Common.{◌*◌, ◌+◌, ◌<◌, ◌^◌, ◌∙◌, ◌≡◌, ◌≤◌, ◌⊎◌, arith, at_page, Change, changed, false, In, inl, inr, Insert, IsLeafOf, IsMapping, IsNewPlace, IsSound, Leaf, leaf_key, leaf_named, levels_of, List, meets_any, meets_block, Mode, nat_tests, new_leaf, None, old_leaf, Option, Order, pages_of, Perm, Protect, refl, Relocate, Remove, Row, Some, subst, sym, true, with_new, with_perm, without_leaf, without_old, ℕ}
+use Rattle.xl_model_lemmas.proofs.InsertionLemmas.{In-without, same-place, stays-with, with-In, without-In}
 use Rattle.xl_model_lemmas.proofs.MappingLemmas.{named-In, named-is}
-use Rattle.xl_model_lemmas.proofs.PlaceLemmas.{named-space}
+use Rattle.xl_model_lemmas.proofs.MemberLemmas.{any-false}
 use Rattle.xl_model_lemmas.proofs.OrderLemmas.{pages-some}
+use Rattle.xl_model_lemmas.proofs.PlaceLemmas.{named-space}
+use Rattle.xl_model.specs.declared.address.Mode.TheVariants as mode
+use Rattle.xl_model.specs.declared.address.Order.TheVariants as order
 
 -- a page of a mode is below 2^45
 pub page-low : (m : Mode) (o : Order) (page : ℕ) → page + pages_of o ≤ 2 ^ (9 * levels_of m) → page < 2 ^ 45

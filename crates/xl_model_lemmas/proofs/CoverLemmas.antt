@@ -1,16 +1,8 @@
 -- The one leaf that covers a page, and the one that a name names. For the machine too.
-use Rattle.std.proofs.Common.{◌≡◌, sym, ◌∙◌, subst, ℕ, true, List, Some, arith}
-use Rattle.std.proofs.lemmas.Bool.Decides.{nat_tests}
-use Rattle.xl_model.specs.declared.address.Order.{Order}
-use Rattle.xl_model.specs.declared.leaf.Leaf.{Leaf}
-use Rattle.xl_model.specs.Mapping.{covers, is_leaf, leaf_at_page, leaf_named}
-use Rattle.xl_model.specs.Rows.{Row}
-use Rattle.xl_model_lemmas.specs.Members.{In}
-use Rattle.xl_model_lemmas.specs.Mappings.{IsMapping, IsFound}
-use Rattle.xl_model_lemmas.proofs.MemberLemmas.{find-In, find-passes, find-only, In-any}
+use Rattle.xl_model_lemmas.proofs.Common.{◌∙◌, ◌≡◌, arith, covers, In, is_leaf, IsFound, IsMapping, IsNamed, Leaf, leaf_at_page, leaf_named, List, nat_tests, Order, Row, Some, subst, sym, true, ℕ}
 use Rattle.xl_model_lemmas.proofs.InsertionLemmas.{same-place}
+use Rattle.xl_model_lemmas.proofs.MemberLemmas.{find-In, find-only, find-passes, In-any}
 use Rattle.xl_model_lemmas.proofs.PlaceLemmas.{named-key}
-use Rattle.xl_model.specs.Changes.{IsNamed}
 use Rattle.xl_model_lemmas.proofs.SameLemmas.{any-find}
 
 -- two leaves of a mapping that cover a page are one

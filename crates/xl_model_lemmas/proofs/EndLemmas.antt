@@ -1,19 +1,9 @@
 -- Slots of a page, and where the nodes of a covered page end.
-use Rattle.std.proofs.Common.{◌≡◌, refl, sym, ap, ◌∙◌, subst, ℕ, zero, suc, ◌+◌, ◌-◌, ◌*◌, ◌/◌, ◌<◌, ◌≤◌, Bool, true, false, cond, List, ◌⊎◌, inl, inr, nat_lt, arith}
-use Rattle.std.specs.List.{list_any}
-use Rattle.std.proofs.lemmas.Bool.Decides.{nat_tests}
-use Rattle.xl_model.specs.declared.address.Order.{Order}
-use Rattle.xl_model.specs.declared.address.Order.TheVariants as order
-use Rattle.xl_model.specs.declared.leaf.Leaf.{Leaf}
-use Rattle.xl_model.specs.Addresses.{level_of, pages_of}
-use Rattle.xl_model.specs.Mapping.{covers}
-use Rattle.xl_model.specs.Nodes.{up, is_under, in_nodes}
-use Rattle.xl_model.specs.Rows.{Row}
-use Rattle.xl_model.specs.Walks.{end_level}
-use Rattle.xl_model_lemmas.specs.Members.{In}
-use Rattle.xl_model_lemmas.specs.Mappings.{IsMapping}
+use Rattle.xl_model_lemmas.proofs.Common.{◌*◌, ◌+◌, ◌-◌, ◌/◌, ◌<◌, ◌∙◌, ◌≡◌, ◌≤◌, ◌⊎◌, ap, arith, Bool, cond, covers, end_level, false, In, inl, inr, IsMapping, Leaf, level_of, List, list_any, nat_lt, nat_tests, Order, pages_of, refl, Row, subst, suc, sym, true, zero, ℕ}
+use Rattle.xl_model.specs.Nodes.{in_nodes, is_under, up}
 use Rattle.xl_model_lemmas.proofs.MemberLemmas.{any-In, In-any}
 use Rattle.xl_model_lemmas.proofs.PlaceLemmas.{first-covered}
+use Rattle.xl_model.specs.declared.address.Order.TheVariants as order
 
 -- a leaf that covers a page is under each slot of the page above its level
 up-one : (e first page : ℕ) → first ≡ e * 512 → first ≤ page → page < first + 512 → page / 512 ≡ first / 512

@@ -1,13 +1,6 @@
 -- Entries that read as leaves: their number, their tags and members, one more in front of its bucket, some less, and
 -- each changed. For the hashed table and the cuckoo row.
-use Rattle.std.proofs.Common.{◌≡◌, refl, sym, ap, ◌∙◌, subst, ℕ, suc, Bool, true, false, cond, List, [], ◌∷◌, map, length, nat_lt, Option, Some, inl, inr}
-use Rattle.std.specs.Prelude.{filter}
-use Rattle.xl_model.specs.declared.leaf.Leaf.{Leaf}
-use Rattle.xl_model.specs.Chains.{bucket_of, leaf_tag}
-use Rattle.xl_model_lemmas.specs.Members.{In}
-use Rattle.xl_model_lemmas.specs.Buckets.{in_front_by}
-use Rattle.xl_model_lemmas.specs.Kept.{in_front}
-use Rattle.xl_model_lemmas.specs.Entries.{with_some, leaves_read, IsRead, AreRead}
+use Rattle.xl_model_lemmas.proofs.Common.{◌∙◌, ◌∷◌, ◌≡◌, [], ap, AreRead, Bool, bucket_of, cond, false, filter, In, in_front, in_front_by, inl, inr, IsRead, Leaf, leaf_tag, leaves_read, length, List, map, nat_lt, Option, refl, Some, subst, suc, sym, true, with_some, ℕ}
 use Rattle.xl_model_lemmas.proofs.BucketLemmas.{by-In}
 
 module _ {A : Type 0} (read : A → Option Leaf) (tag : A → ℕ) where

@@ -1,25 +1,11 @@
 -- Leaves of TLB arrays: touched, filled, purged.
-use Rattle.std.proofs.Common.{◌≡◌, refl, sym, ◌∙◌, subst, ℕ, zero, suc, Bool, true, false, cond, ◌&&◌, List, [], ◌∷◌, Option, None, Some, ◌⊎◌, inl, inr, map, slice_set, nat_lt}
-use Rattle.std.specs.Prelude.{replicate}
-use Rattle.std.proofs.lemmas.Bool.{eq-eqb}
-use Rattle.xl_model.specs.declared.address.Kind.{Kind}
-use Rattle.xl_model.specs.declared.address.Order.{Order}
-use Rattle.xl_model.specs.declared.leaf.Leaf.{Leaf}
+use Rattle.xl_model_lemmas.proofs.Common.{◌&&◌, ◌∙◌, ◌∷◌, ◌≡◌, ◌⊎◌, [], Answer, answer_of, array_filled, array_touched, array_without, arrays_after, arrays_filled, arrays_hit, arrays_without, ArraysFresh, asked, Bool, Change, changed, cond, covers_as, eq-eqb, false, filled_below, filled_for, filled_where, Held, In, inl, inr, InSets, is_purged, IsMapping, IsSound, Kind, Leaf, List, map, nat_lt, None, old_leaf, opening_array, opening_arrays, Option, Order, purged, refl, replicate, Row, same_order, serves_kind, set_at, set_number, slice_set, Some, subst, suc, sym, takes_order, TlbArray, touched, touched_or, true, with_newest, zero, ℕ}
 use Rattle.xl_model.specs.declared.row.Purge.{Purge}
-use Rattle.xl_model.specs.declared.row.Purge.TheVariants as purge
 use Rattle.xl_model.specs.declared.row.TlbSpec.{TlbSpec}
-use Rattle.xl_model.specs.Addresses.{same_order}
-use Rattle.xl_model.specs.Recency.{touched, with_newest, purged}
-use Rattle.xl_model.specs.Rows.{Row}
-use Rattle.xl_model.specs.Changes.{Change, old_leaf, changed}
-use Rattle.xl_model.specs.Tlb.{TlbArray, set_number, set_at, takes_order, covers_as, array_touched, filled_where, array_filled, serves_kind, asked, Answer, answer_of, filled_below, touched_or, arrays_hit, filled_for, arrays_filled, is_purged, array_without, arrays_without, opening_array, opening_arrays}
-use Rattle.xl_model.specs.RowRun.{arrays_after}
-use Rattle.xl_model_lemmas.specs.Members.{In}
-use Rattle.xl_model_lemmas.specs.Mappings.{IsMapping, IsSound}
-use Rattle.xl_model_lemmas.proofs.RecencyLemmas.{touched-In, newest-In, purged-In}
 use Rattle.xl_model_lemmas.proofs.ChangeLemmas.{stays-changed}
-use Rattle.xl_model_lemmas.specs.Fresh.{InSets, Held, ArraysFresh}
-use Rattle.xl_model_lemmas.proofs.HitLemmas.{get-In, answer-held}
+use Rattle.xl_model_lemmas.proofs.HitLemmas.{answer-held, get-In}
+use Rattle.xl_model_lemmas.proofs.RecencyLemmas.{newest-In, purged-In, touched-In}
+use Rattle.xl_model.specs.declared.row.Purge.TheVariants as purge
 
 -- sets
 pub set-In : (leaf : Leaf) (sets : List (List Leaf)) (i : ℕ) (v : List Leaf) → InSets leaf (slice_set sets i v) → In leaf v ⊎ InSets leaf sets

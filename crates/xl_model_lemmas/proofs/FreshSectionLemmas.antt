@@ -1,28 +1,11 @@
 -- Cached sections: filled as they are, and out where their bits or their way change.
-use Rattle.std.proofs.Common.{◌≡◌, refl, sym, ap, ◌∙◌, subst, ℕ, ◌+◌, ◌*◌, ◌/◌, ◌<◌, ◌≤◌, Bool, true, false, ◌&&◌, ◌||◌, List, [], ◌∷◌, Option, None, Some, inl, inr, map, arith}
-use Rattle.std.specs.List.{list_any}
-use Rattle.std.proofs.lemmas.Bool.Decides.{nat_tests}
-use Rattle.std.specs.Cmp.{first_so, second_so}
-use Rattle.std.proofs.lemmas.Bool.{not-false}
-use Rattle.xl_model.specs.declared.address.Order.{Order}
-use Rattle.xl_model.specs.declared.address.Order.TheVariants as order
-use Rattle.xl_model.specs.declared.leaf.Leaf.{Leaf}
-use Rattle.xl_model.specs.declared.way.Entry.{Entry}
-use Rattle.xl_model.specs.Addresses.{level_of, pages_of, same_order}
-use Rattle.xl_model.specs.Mapping.{covers}
-use Rattle.xl_model.specs.Ways.{WayShape, has_key}
-use Rattle.xl_model.specs.Placing.{is_held, holder_from}
-use Rattle.xl_model.specs.Sections.{Section, section_key, section_of, counts_for, holds_order, same_way, same_section}
-use Rattle.xl_model.specs.Shapes.{CuckooWays, ways_of}
-use Rattle.xl_model.specs.Caches.{Cached, without_items, has_changed}
-use Rattle.xl_model.specs.Walks.{is_page_section, section_of_page, section_after}
-use Rattle.xl_model_lemmas.specs.Sections.{entries_of}
-use Rattle.xl_model_lemmas.specs.Mappings.{IsFound}
-use Rattle.xl_model_lemmas.specs.Fresh.{has_leaves, SectionFresh, SectionsFresh}
+use Rattle.xl_model_lemmas.proofs.Common.{◌&&◌, ◌*◌, ◌+◌, ◌/◌, ◌<◌, ◌||◌, ◌∙◌, ◌∷◌, ◌≡◌, ◌≤◌, [], ap, arith, Bool, counts_for, covers, CuckooWays, entries_of, Entry, false, first_so, has_key, has_leaves, holder_from, holds_order, inl, inr, is_held, is_page_section, IsFound, Leaf, level_of, List, list_any, map, nat_tests, None, not-false, Option, Order, pages_of, refl, same_order, same_section, same_way, second_so, Section, section_after, section_key, section_of, section_of_page, SectionFresh, SectionsFresh, Some, subst, sym, true, ways_of, WayShape, ℕ}
+use Rattle.xl_model.proofs.PermLemmas.{bits-same}
+use Rattle.xl_model.specs.Caches.{Cached, has_changed, without_items}
 use Rattle.xl_model_lemmas.proofs.MemberLemmas.{In-any}
 use Rattle.xl_model_lemmas.proofs.OrderLemmas.{order-same}
-use Rattle.xl_model.proofs.PermLemmas.{bits-same}
-use Rattle.xl_model_lemmas.proofs.RecencyLemmas.{touched-In, newest-In, purged-In}
+use Rattle.xl_model_lemmas.proofs.RecencyLemmas.{newest-In, purged-In, touched-In}
+use Rattle.xl_model.specs.declared.address.Order.TheVariants as order
 
 ways-same : (a b : Option ℕ) → same_way a b ≡ true → a ≡ b
 ways-same None None h = refl

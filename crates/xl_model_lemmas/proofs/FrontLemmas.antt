@@ -1,16 +1,11 @@
 -- A new leaf among kept leaves: before the first of a bucket that is not lower.
-use Rattle.std.proofs.Common.{◌≡◌, refl, sym, subst, ℕ, suc, length, true, false, cond, List, [], ◌∷◌, ◌⊎◌, inl, inr, nat_lt}
-use Rattle.xl_model.specs.declared.leaf.Leaf.{Leaf}
-use Rattle.xl_model.specs.Mapping.{meets_block, leaf_key, with_leaf}
-use Rattle.xl_model.specs.Chains.{bucket_of, leaf_tag}
-use Rattle.xl_model_lemmas.specs.Members.{In}
-use Rattle.xl_model_lemmas.proofs.MemberLemmas.{any-false, In-all, all-In}
-use Rattle.xl_model_lemmas.proofs.InsertionLemmas.{with-In, In-with, stays-with, sorted-with}
-use Rattle.xl_model_lemmas.specs.Kept.{IsPlaced, IsApart, IsKept, mapping_of, in_front}
-use Rattle.xl_model_lemmas.proofs.SortedLemmas.{same-sorted}
+use Rattle.xl_model_lemmas.proofs.Common.{◌∷◌, ◌≡◌, ◌⊎◌, [], bucket_of, cond, false, In, in_front, inl, inr, IsApart, IsKept, IsPlaced, Leaf, leaf_key, leaf_tag, length, List, mapping_of, meets_block, nat_lt, refl, subst, suc, sym, true, with_leaf, ℕ}
+use Rattle.xl_model_lemmas.proofs.BucketLemmas.{by-In, In-by, length-by, stays-by}
+use Rattle.xl_model_lemmas.proofs.InsertionLemmas.{In-with, sorted-with, stays-with, with-In}
+use Rattle.xl_model_lemmas.proofs.KeptLemmas.{In-mapping, key-apart, mapping-In, mapping-sorted, meets-sym}
+use Rattle.xl_model_lemmas.proofs.MemberLemmas.{all-In, any-false, In-all}
 use Rattle.xl_model_lemmas.proofs.SameLemmas.{none-any}
-use Rattle.xl_model_lemmas.proofs.KeptLemmas.{meets-sym, key-apart, mapping-sorted, mapping-In, In-mapping}
-use Rattle.xl_model_lemmas.proofs.BucketLemmas.{by-In, In-by, stays-by, length-by}
+use Rattle.xl_model_lemmas.proofs.SortedLemmas.{same-sorted}
 
 -- members of the list with a new leaf
 pub front-In : (b : ℕ) (z x : Leaf) (xs : List Leaf) → In z (in_front b x xs) → (z ≡ x) ⊎ In z xs

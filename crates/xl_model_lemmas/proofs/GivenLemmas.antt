@@ -1,18 +1,11 @@
 -- Kept leaves with another permission for the one of a name.
-use Rattle.std.proofs.Common.{◌≡◌, refl, sym, ap, ◌∙◌, subst, ℕ, suc, length, Bool, true, false, List, [], ◌∷◌, map, inl, inr}
-use Rattle.std.proofs.lemmas.Bool.{false_from_ne_true}
-use Rattle.xl_model.specs.declared.address.Order.{Order}
-use Rattle.xl_model.specs.declared.perm.Perm.{Perm}
-use Rattle.xl_model.specs.declared.leaf.Leaf.{Leaf}
-use Rattle.xl_model.specs.Mapping.{meets_block, is_leaf, leaf_key, with_leaf, without_leaf}
-use Rattle.xl_model_lemmas.specs.Members.{In}
-use Rattle.xl_model_lemmas.proofs.MemberLemmas.{any-false, map-In, In-map, In-all, all-In}
-use Rattle.xl_model_lemmas.proofs.InsertionLemmas.{with-In, In-with, stays-with, sorted-with, sorted-without, without-In, without-other, In-without}
+use Rattle.xl_model_lemmas.proofs.Common.{◌∙◌, ◌∷◌, ◌≡◌, [], ap, Bool, false, false_from_ne_true, In, inl, inr, is_leaf, IsApart, IsKept, IsPlaced, Leaf, leaf_key, length, List, map, mapping_of, meets_block, Order, Perm, protected_where, refl, subst, suc, sym, true, with_leaf, with_perm_named, without_leaf, ℕ}
+use Rattle.xl_model_lemmas.proofs.InsertionLemmas.{In-with, In-without, sorted-with, sorted-without, stays-with, with-In, without-In, without-other}
+use Rattle.xl_model_lemmas.proofs.KeptLemmas.{In-mapping, mapping-In, mapping-sorted}
+use Rattle.xl_model_lemmas.proofs.MemberLemmas.{all-In, any-false, In-all, In-map, map-In}
 use Rattle.xl_model_lemmas.proofs.PlaceLemmas.{named-key}
-use Rattle.xl_model_lemmas.specs.Kept.{IsPlaced, IsApart, IsKept, mapping_of, protected_where, with_perm_named}
-use Rattle.xl_model_lemmas.proofs.SortedLemmas.{same-sorted}
 use Rattle.xl_model_lemmas.proofs.SameLemmas.{none-any}
-use Rattle.xl_model_lemmas.proofs.KeptLemmas.{mapping-sorted, mapping-In, In-mapping}
+use Rattle.xl_model_lemmas.proofs.SortedLemmas.{same-sorted}
 use Rattle.xl_model_lemmas.proofs.WithoutLemmas.{named-same, other-key}
 
 -- another permission

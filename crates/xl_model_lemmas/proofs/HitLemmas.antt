@@ -1,17 +1,7 @@
 -- A leaf with which the arrays answer is held by one of them, and covers the page. For the machine too.
-use Rattle.std.proofs.Common.{◌≡◌, refl, subst, ℕ, zero, suc, Bool, true, false, List, [], ◌∷◌, Option, None, Some, inl, inr, slice_index_or}
-use Rattle.std.specs.Prelude.{find}
-use Rattle.std.specs.Cmp.{second_so}
-use Rattle.xl_model.specs.declared.address.Kind.{Kind}
-use Rattle.xl_model.specs.declared.address.Order.{Order}
-use Rattle.xl_model.specs.declared.address.Order.TheVariants as order
-use Rattle.xl_model.specs.declared.leaf.Leaf.{Leaf}
-use Rattle.xl_model.specs.Addresses.{same_order}
-use Rattle.xl_model.specs.Mapping.{covers}
-use Rattle.xl_model.specs.Tlb.{TlbArray, set_number, set_at, where_taken, takes_order, covers_as, found_as, first_found, array_hit, serves_kind, asked, Answer, answered_by, answer_of}
-use Rattle.xl_model_lemmas.specs.Members.{In}
-use Rattle.xl_model_lemmas.specs.Fresh.{InSets, Held}
+use Rattle.xl_model_lemmas.proofs.Common.{◌∷◌, ◌≡◌, [], Answer, answer_of, answered_by, array_hit, asked, Bool, covers, covers_as, false, find, first_found, found_as, Held, In, inl, inr, InSets, Kind, Leaf, List, None, Option, Order, refl, same_order, second_so, serves_kind, set_at, set_number, slice_index_or, Some, subst, suc, takes_order, TlbArray, true, where_taken, zero, ℕ}
 use Rattle.xl_model_lemmas.proofs.MemberLemmas.{find-In, find-passes}
+use Rattle.xl_model.specs.declared.address.Order.TheVariants as order
 
 pub get-In : (leaf : Leaf) (sets : List (List Leaf)) (i : ℕ) → In leaf (slice_index_or sets i []) → InSets leaf sets
 get-In leaf [] i h = absurd h

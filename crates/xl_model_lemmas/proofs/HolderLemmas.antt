@@ -1,20 +1,10 @@
 -- A key that an insertion does not bring and does not displace stays in its way, and no way comes or goes. For the
 -- cuckoo table, and for the purge of cached sections in its row.
-use Rattle.std.proofs.Common.{◌≡◌, refl, sym, ap, ◌∙◌, subst, ℕ, zero, suc, ◌+◌, true, false, cond, not, List, [], ◌∷◌, ◌++◌, length, ◌==◌, slice_set, Option, None, Some, inl, arith}
-use Rattle.std.proofs.lemmas.Bool.Decides.{nat_tests}
-use Rattle.std.proofs.Math.Seq.{map-set_same}
-use Rattle.std.proofs.lemmas.List.{length-map}
-use Rattle.xl_model.specs.declared.way.Entry.{Entry}
-use Rattle.xl_model.specs.declared.way.Moves.{Moves}
-use Rattle.xl_model.specs.Base.{one_if}
-use Rattle.xl_model.specs.Ways.{WayShape, has_key, occupant, swapped, opening_way}
-use Rattle.xl_model.specs.Placing.{way_at, put_in, next_way, start_way, Attempt, Stands, Fails, Displaced, by_occupant, attempt, to_grow, Candidate, forced, forced_moves, Placing, Placed, AtCap, after_attempt, with_growth, growths_left, placing, place, no_moves, settled, after_placing, insertion, is_held, holder_from}
-use Rattle.xl_model_lemmas.specs.Members.{In}
-use Rattle.xl_model_lemmas.specs.Sections.{tally, entries_of}
-use Rattle.xl_model_lemmas.proofs.MemberLemmas.{In-left, In-right}
-use Rattle.xl_model_lemmas.proofs.TallyLemmas.{tally-any}
+use Rattle.xl_model_lemmas.proofs.Common.{◌++◌, ◌+◌, ◌==◌, ◌∙◌, ◌∷◌, ◌≡◌, [], after_attempt, after_placing, ap, arith, AtCap, Attempt, attempt, by_occupant, Candidate, cond, Displaced, entries_of, Entry, Fails, false, forced, forced_moves, growths_left, has_key, holder_from, In, inl, insertion, is_held, length, length-map, List, map-set_same, Moves, nat_tests, next_way, no_moves, None, not, occupant, one_if, opening_way, Option, place, Placed, Placing, placing, put_in, refl, settled, slice_set, Some, Stands, start_way, subst, suc, swapped, sym, tally, to_grow, true, way_at, WayShape, with_growth, zero, ℕ}
 use Rattle.xl_model_lemmas.proofs.FreshSectionLemmas.{holder-same}
-use Rattle.xl_model_lemmas.proofs.PlacingLemmas.{one_of, swapped-adds, set-length, forced-entries, settled-entries}
+use Rattle.xl_model_lemmas.proofs.MemberLemmas.{In-left, In-right}
+use Rattle.xl_model_lemmas.proofs.PlacingLemmas.{forced-entries, one_of, set-length, settled-entries, swapped-adds}
+use Rattle.xl_model_lemmas.proofs.TallyLemmas.{tally-any}
 
 -- a key that isn't this one
 abbrev pub Other : ℕ → ℕ → Type 0

@@ -1,10 +1,5 @@
 -- A leaf put into a sorted list of leaves, and one taken out.
-use Rattle.std.proofs.Common.{◌≡◌, refl, sym, ap, ◌∙◌, subst, ℕ, Bool, true, false, cond, List, [], ◌∷◌, ◌⊎◌, inl, inr, ◌<◌, ◌+◌, ◌*◌, ◌^◌, nat_lt, ◌==◌, arith}
-use Rattle.std.specs.Prelude.{filter}
-use Rattle.std.proofs.lemmas.Bool.Decides.{nat_tests}
-use Rattle.xl_model.specs.declared.leaf.Leaf.{Leaf}
-use Rattle.xl_model.specs.Mapping.{leaf_key, with_leaf, without_leaf}
-use Rattle.xl_model_lemmas.specs.Members.{In, AllAbove, IsSorted}
+use Rattle.xl_model_lemmas.proofs.Common.{◌*◌, ◌+◌, ◌<◌, ◌==◌, ◌^◌, ◌∙◌, ◌∷◌, ◌≡◌, ◌⊎◌, [], AllAbove, ap, arith, Bool, cond, false, filter, In, inl, inr, IsSorted, Leaf, leaf_key, List, nat_lt, nat_tests, refl, subst, sym, true, with_leaf, without_leaf, ℕ}
 use Rattle.xl_model_lemmas.proofs.MemberLemmas.{filter-In, filter-passes, In-filter}
 
 -- the tests of a list with one leaf more, taken one by one

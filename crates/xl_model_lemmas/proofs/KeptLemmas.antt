@@ -1,16 +1,9 @@
 -- Kept leaves: those of the mapping, at places of their own.
-use Rattle.std.proofs.Common.{◌≡◌, refl, sym, ◌∙◌, subst, Bool, true, false, cond, List, [], ◌∷◌, inl, inr, ◌<◌, ◌^◌, arith}
-use Rattle.std.specs.Prelude.{filter}
-use Rattle.std.proofs.lemmas.Bool.Decides.{nat_tests}
-use Rattle.xl_model.specs.declared.leaf.Leaf.{Leaf}
-use Rattle.xl_model.specs.Addresses.{pages_of}
-use Rattle.xl_model.specs.Mapping.{meets_block, leaf_key, with_leaf}
-use Rattle.xl_model_lemmas.specs.Members.{In, IsSorted}
-use Rattle.xl_model_lemmas.proofs.MemberLemmas.{any-false, filter-In, In-all, all-tail, all-In}
-use Rattle.xl_model_lemmas.proofs.SameLemmas.{none-any, both}
-use Rattle.xl_model_lemmas.proofs.InsertionLemmas.{with-In, In-with, stays-with, sorted-with}
+use Rattle.xl_model_lemmas.proofs.Common.{◌<◌, ◌^◌, ◌∙◌, ◌∷◌, ◌≡◌, [], arith, Bool, cond, false, filter, In, inl, inr, IsApart, IsKept, IsPlaced, IsSorted, Leaf, leaf_key, List, mapping_of, meets_block, nat_tests, pages_of, refl, subst, sym, true, with_leaf}
+use Rattle.xl_model_lemmas.proofs.InsertionLemmas.{In-with, sorted-with, stays-with, with-In}
+use Rattle.xl_model_lemmas.proofs.MemberLemmas.{all-In, all-tail, any-false, filter-In, In-all}
 use Rattle.xl_model_lemmas.proofs.OrderLemmas.{pages-some}
-use Rattle.xl_model_lemmas.specs.Kept.{IsPlaced, IsApart, IsKept, mapping_of}
+use Rattle.xl_model_lemmas.proofs.SameLemmas.{both, none-any}
 
 pub meets-sym : (x y : Leaf) → meets_block x.space x.first x.order y ≡ false → meets_block y.space y.first y.order x ≡ false
 meets-sym x y h = grind (arith, nat_tests)

@@ -1,12 +1,5 @@
 -- How many leaves of a mapping pass a test: with a leaf more, and with one less.
-use Rattle.std.proofs.Common.{◌≡◌, refl, ap, ◌∙◌, ◌+◌, ◌<◌, Bool, true, false, not, cond, ◌&&◌, List, [], ◌∷◌, inl, inr, ◌==◌, nat_lt, arith}
-use Rattle.std.proofs.lemmas.Bool.Decides.{nat_tests}
-use Rattle.std.proofs.lemmas.Bool.{eq-eqb}
-use Rattle.xl_model.specs.declared.leaf.Leaf.{Leaf}
-use Rattle.xl_model.specs.Base.{one_if}
-use Rattle.xl_model.specs.Mapping.{leaf_key, with_leaf, without_leaf}
-use Rattle.xl_model_lemmas.specs.Members.{In, Once, IsSorted}
-use Rattle.xl_model_lemmas.specs.Sections.{tally}
+use Rattle.xl_model_lemmas.proofs.Common.{◌&&◌, ◌+◌, ◌<◌, ◌==◌, ◌∙◌, ◌∷◌, ◌≡◌, [], ap, arith, Bool, cond, eq-eqb, false, In, inl, inr, IsSorted, Leaf, leaf_key, List, nat_lt, nat_tests, not, Once, one_if, refl, tally, true, with_leaf, without_leaf}
 use Rattle.xl_model_lemmas.proofs.InsertionLemmas.{above-In, same-place}
 use Rattle.xl_model_lemmas.proofs.TallyLemmas.{tally-filter, tally-only}
 

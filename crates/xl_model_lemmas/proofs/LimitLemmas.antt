@@ -1,13 +1,10 @@
 -- A table takes the same spaces and pages after each call, and only a walk counts loads. For the machine too.
-use Rattle.std.proofs.Common.{◌≡◌, ◌∙◌, sym, subst, ℕ, refl, List, Option, None, Some, Result, ◌<◌}
+use Rattle.xl_model_lemmas.proofs.Common.{◌<◌, ◌∙◌, ◌≡◌, brought, Chained, Change, Cuckoo, Leaf, List, narrowed, None, Option, Radix, refl, Result, Runs, Shape, shape_after, Some, subst, sym, widened, ℕ}
+use Rattle.xl_model.specs.Structures.{after_by, IsChange, IsFence, IsPage, IsWalk, Made, NoPlace, NoSpace, table_after, table_fenced, table_made, table_walked, TableState, Verdict, verdict}
 use Rattle.xl_model.specs.declared.event.Reach.{Reach}
-use Rattle.xl_model.specs.declared.leaf.Leaf.{Leaf}
 use Rattle.xl_model.specs.declared.work.Refused.{Refused}
 use Rattle.xl_model.specs.declared.work.Walk.{Walk}
 use Rattle.xl_model.specs.declared.work.Work.{Work}
-use Rattle.xl_model.specs.Changes.{Change}
-use Rattle.xl_model.specs.Shapes.{Shape, Radix, Chained, Cuckoo, Runs, brought, widened, narrowed, shape_after}
-use Rattle.xl_model.specs.Structures.{TableState, Verdict, Made, NoSpace, NoPlace, IsPage, IsChange, IsWalk, IsFence, after_by, verdict, table_made, table_after, table_walked, table_fenced}
 use Rattle.xl_model_lemmas.specs.Limits.{SameLimits}
 
 pub widened-same : (o : Option Leaf) (s : Shape) → SameLimits s (widened o s)

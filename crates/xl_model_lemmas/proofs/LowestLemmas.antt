@@ -1,17 +1,7 @@
 -- The least free candidate is the lowest free block.
-use Rattle.std.proofs.Common.{◌≡◌, refl, sym, ◌∙◌, subst, ℕ, zero, suc, true, false, not, List, [], ◌∷◌, Option, None, Some, map, inl, inr, ◌&&◌, ◌<◌, ◌≤◌, ◌+◌, ◌-◌, ◌*◌, ◌/◌, min, nat_le, arith}
-use Rattle.std.specs.Prelude.{filter}
-use Rattle.std.specs.List.{list_any}
-use Rattle.std.proofs.lemmas.Bool.Decides.{nat_tests}
-use Rattle.xl_model.specs.declared.address.Order.{Order}
-use Rattle.xl_model.specs.declared.address.Order.TheVariants as order
-use Rattle.xl_model.specs.declared.leaf.Leaf.{Leaf}
-use Rattle.xl_model.specs.Addresses.{pages_of}
-use Rattle.xl_model.specs.Mapping.{holds_frames}
-use Rattle.xl_model.specs.Frames.{is_free_block, behind, lesser, least, lowest}
-use Rattle.xl_model_lemmas.specs.Members.{In}
-use Rattle.xl_model_lemmas.specs.Lowest.{IsFree, IsAnswer}
+use Rattle.xl_model_lemmas.proofs.Common.{◌&&◌, ◌*◌, ◌+◌, ◌-◌, ◌/◌, ◌<◌, ◌∙◌, ◌∷◌, ◌≡◌, ◌≤◌, [], arith, behind, false, filter, holds_frames, In, inl, inr, is_free_block, IsAnswer, IsFreeOf as IsFree, Leaf, least, lesser, List, list_any, lowest, map, min, nat_le, nat_tests, None, not, Option, Order, pages_of, refl, Some, subst, suc, sym, true, zero, ℕ}
 use Rattle.xl_model_lemmas.proofs.MemberLemmas.{any-false, any-In, filter-In, filter-passes, In-filter, In-map, map-In}
+use Rattle.xl_model.specs.declared.address.Order.TheVariants as order
 
 -- the least of a list is a member, and no member is less
 IsLeast : Option ℕ → List ℕ → Type 0

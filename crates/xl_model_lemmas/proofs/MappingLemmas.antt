@@ -1,18 +1,8 @@
 -- What every mapping keeps, at each of the four changes of a leaf.
-use Rattle.std.proofs.Common.{◌≡◌, refl, sym, ap, ◌∙◌, subst, ℕ, Bool, true, false, List, Option, None, Some, inl, inr, ◌≤◌, ◌+◌, ◌*◌, ◌^◌}
-use Rattle.xl_model.specs.declared.address.Order.{Order}
-use Rattle.xl_model.specs.declared.perm.Perm.{Perm}
-use Rattle.xl_model.specs.declared.leaf.Leaf.{Leaf}
-use Rattle.xl_model.specs.Addresses.{levels_of, pages_of}
-use Rattle.xl_model.specs.Mapping.{meets_block, holds_frames, is_leaf, leaf_key, meets_any, leaf_named, with_leaf, without_leaf}
-use Rattle.xl_model.specs.Rows.{Row}
-use Rattle.xl_model.specs.Changes.{Insert, Remove, Protect, Relocate, changed, with_new, without_old, with_perm, at_page}
-use Rattle.xl_model_lemmas.specs.Members.{In}
-use Rattle.xl_model_lemmas.specs.Mappings.{IsLeafOf, IsMapping}
-use Rattle.xl_model_lemmas.specs.Lowest.{IsFree}
-use Rattle.xl_model_lemmas.proofs.MemberLemmas.{find-In, find-passes, any-false}
-use Rattle.xl_model_lemmas.proofs.InsertionLemmas.{with-In, sorted-with, sorted-without, without-In, without-other}
-use Rattle.xl_model_lemmas.proofs.PlaceLemmas.{covers-meets, meets-covers, holds-meets, frame-shared, named-space, named-order}
+use Rattle.xl_model_lemmas.proofs.Common.{◌*◌, ◌+◌, ◌^◌, ◌∙◌, ◌≡◌, ◌≤◌, ap, at_page, Bool, changed, false, holds_frames, In, inl, inr, Insert, is_leaf, IsFreeOf as IsFree, IsLeafOf, IsMapping, Leaf, leaf_key, leaf_named, levels_of, List, meets_any, meets_block, None, Option, Order, pages_of, Perm, Protect, refl, Relocate, Remove, Row, Some, subst, sym, true, with_leaf, with_new, with_perm, without_leaf, without_old, ℕ}
+use Rattle.xl_model_lemmas.proofs.InsertionLemmas.{sorted-with, sorted-without, with-In, without-In, without-other}
+use Rattle.xl_model_lemmas.proofs.MemberLemmas.{any-false, find-In, find-passes}
+use Rattle.xl_model_lemmas.proofs.PlaceLemmas.{covers-meets, frame-shared, holds-meets, meets-covers, named-order, named-space}
 
 -- a leaf that overlaps no other and holds no other's frame
 pub kept-with : (row : Row) (x : Leaf) (xs : List Leaf) → IsMapping row xs → IsLeafOf row x

@@ -1,10 +1,6 @@
 -- The levels and sizes of the three orders of leaves.
-use Rattle.std.proofs.Common.{◌≡◌, true, ◌<◌, ◌≤◌, refl, arith}
-use Rattle.std.proofs.lemmas.Bool.{eq-eqb}
-use Rattle.std.proofs.lemmas.Bool.Decides.{nat_tests}
-use Rattle.xl_model.specs.declared.address.Order.{Order}
+use Rattle.xl_model_lemmas.proofs.Common.{◌<◌, ◌≡◌, ◌≤◌, arith, eq-eqb, level_of, nat_tests, Order, pages_of, refl, same_order, true}
 use Rattle.xl_model.specs.declared.address.Order.TheVariants as order
-use Rattle.xl_model.specs.Addresses.{level_of, pages_of, same_order}
 
 pub level-low : (o : Order) → level_of o ≤ 2
 level-low order.K4 = omega arith

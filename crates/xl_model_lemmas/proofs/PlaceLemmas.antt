@@ -1,14 +1,8 @@
 -- Places in pages and frames: leaves that share one, and blocks that a command names.
-use Rattle.std.proofs.Common.{◌≡◌, refl, ℕ, true, false, ◌<◌, ◌≤◌, ◌+◌, ◌*◌, ◌/◌, ◌%◌, ◌^◌, nat_le, arith}
-use Rattle.std.proofs.lemmas.Bool.Decides.{nat_tests}
-use Rattle.xl_model.specs.declared.address.Mode.{Mode}
-use Rattle.xl_model.specs.declared.address.Mode.TheVariants as mode
-use Rattle.xl_model.specs.declared.address.Order.{Order}
-use Rattle.xl_model.specs.declared.address.Order.TheVariants as order
-use Rattle.xl_model.specs.declared.leaf.Leaf.{Leaf}
-use Rattle.xl_model.specs.Addresses.{levels_of, pages_of, page_of, is_aligned, level_of}
-use Rattle.xl_model.specs.Mapping.{covers, meets_block, holds_frames, is_leaf, leaf_key}
+use Rattle.xl_model_lemmas.proofs.Common.{◌%◌, ◌*◌, ◌+◌, ◌/◌, ◌<◌, ◌^◌, ◌≡◌, ◌≤◌, arith, covers, false, holds_frames, is_aligned, is_leaf, Leaf, leaf_key, level_of, levels_of, meets_block, Mode, nat_le, nat_tests, Order, page_of, pages_of, refl, true, ℕ}
 use Rattle.xl_model_lemmas.proofs.OrderLemmas.{pages-some, same-level}
+use Rattle.xl_model.specs.declared.address.Mode.TheVariants as mode
+use Rattle.xl_model.specs.declared.address.Order.TheVariants as order
 
 -- a leaf covers its first page
 pub first-covered : (x : Leaf) → covers x.space x.first x ≡ true

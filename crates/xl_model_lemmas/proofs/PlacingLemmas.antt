@@ -1,15 +1,6 @@
 -- An insertion that is placed adds one entry and keeps every other, and no insertion changes how many ways there are.
 -- For the cuckoo table and its row.
-use Rattle.std.proofs.Common.{◌≡◌, refl, sym, ap, ◌∙◌, subst, ℕ, zero, suc, ◌+◌, ◌%◌, ◌<◌, Bool, true, false, cond, List, [], ◌∷◌, ◌++◌, length, map, ◌==◌, min, slice_set, Option, None, Some, arith}
-use Rattle.std.specs.Prelude.{find}
-use Rattle.std.proofs.lemmas.Bool.Decides.{nat_tests}
-use Rattle.std.proofs.Math.Seq.{map-set_same}
-use Rattle.xl_model.specs.declared.way.Entry.{Entry}
-use Rattle.xl_model.specs.declared.way.Moves.{Moves}
-use Rattle.xl_model.specs.Base.{one_if}
-use Rattle.xl_model.specs.Ways.{WayShape, slot, occupant, with_entry, without_key, without_occupant, swapped, advanced, begun, opening_way, slots_left}
-use Rattle.xl_model.specs.Placing.{way_at, put_in, next_way, start_way, Attempt, Stands, Fails, Displaced, by_occupant, attempt, to_grow, Candidate, forced, forced_moves, Placing, Placed, AtCap, after_attempt, with_growth, growths_left, placing, place, no_moves, settled_way, begins, begun_if_full, settled, after_placing, insertion}
-use Rattle.xl_model_lemmas.specs.Sections.{tally, entries_of, entries_in}
+use Rattle.xl_model_lemmas.proofs.Common.{◌%◌, ◌++◌, ◌+◌, ◌<◌, ◌==◌, ◌∙◌, ◌∷◌, ◌≡◌, [], advanced, after_attempt, after_placing, ap, arith, AtCap, Attempt, attempt, begins, begun, begun_if_full, Bool, by_occupant, Candidate, cond, Displaced, entries_in, entries_of, Entry, Fails, false, find, forced, forced_moves, growths_left, insertion, length, List, map, map-set_same, min, Moves, nat_tests, next_way, no_moves, None, occupant, one_if, opening_way, Option, place, Placed, Placing, placing, put_in, refl, settled, settled_way, slice_set, slot, slots_left, Some, Stands, start_way, subst, suc, swapped, sym, tally, to_grow, true, way_at, WayShape, with_entry, with_growth, without_key, without_occupant, zero, ℕ}
 use Rattle.xl_model_lemmas.proofs.MemberLemmas.{find-passes}
 use Rattle.xl_model_lemmas.proofs.TallyLemmas.{tally-append}
 use Rattle.xl_model_lemmas.proofs.WayTallyLemmas.{tally-with_entry}

@@ -1,27 +1,13 @@
 -- A pool of frames through each change: a block is taken for a new leaf, given back for one that goes, and a leaf
 -- that moves or gets another permission keeps its frames. For the machine.
-use Rattle.std.proofs.Common.{◌≡◌, refl, sym, ap, ◌∙◌, subst, ℕ, ◌+◌, ◌<◌, ◌≤◌, Bool, true, false, not, ◌&&◌, List, length, Some, inl, inr, slice_index_or, nat_lt, arith}
-use Rattle.std.specs.List.{list_any}
-use Rattle.std.proofs.lemmas.Bool.Decides.{nat_tests}
-use Rattle.xl_model.specs.declared.address.Order.{Order}
-use Rattle.xl_model.specs.declared.perm.Perm.{Perm}
-use Rattle.xl_model.specs.declared.leaf.Leaf.{Leaf}
-use Rattle.xl_model.specs.Addresses.{pages_of}
-use Rattle.xl_model.specs.Mapping.{holds_frames, leaf_key, leaf_named, with_leaf, without_leaf}
-use Rattle.xl_model.specs.Changes.{Change, Insert, Remove, Protect, Relocate, old_leaf, new_leaf, with_perm, at_page, without_old, changed}
-use Rattle.xl_model.specs.Rows.{Row}
-use Rattle.xl_model_lemmas.specs.Members.{In}
-use Rattle.xl_model_lemmas.specs.Mappings.{IsMapping, IsNewPlace, IsSound}
-use Rattle.xl_model_lemmas.specs.Lowest.{IsFree as IsFreeOf}
-use Rattle.xl_model_lemmas.specs.Pools.{IsPoolOf}
-use Rattle.xl_model_lemmas.proofs.MemberLemmas.{any-false, any-In, In-any}
-use Rattle.xl_model_lemmas.proofs.SameLemmas.{same-tests, none-any}
-use Rattle.xl_model_lemmas.proofs.InsertionLemmas.{with-In, In-with, without-In, without-other, In-without, same-place}
+use Rattle.xl_model_lemmas.proofs.Common.{◌&&◌, ◌+◌, ◌<◌, ◌∙◌, ◌≡◌, ◌≤◌, ap, arith, at_page, Bool, Change, changed, false, holds_frames, In, inl, inr, Insert, IsFree, IsFreeOf, IsMapping, IsNewPlace, IsPoolOf, IsSound, Leaf, leaf_key, leaf_named, length, List, list_any, marked, nat_lt, nat_tests, new_leaf, not, old_leaf, Order, pages_of, Perm, Protect, refl, Relocate, Remove, Row, slice_index_or, Some, subst, sym, true, with_leaf, with_perm, without_leaf, without_old, ℕ}
+use Rattle.xl_frames.proofs.MarkLemmas.{length-marked, marked_above, marked_below, marked_inside}
+use Rattle.xl_model_lemmas.proofs.ChangeLemmas.{changed-In, stays-changed}
+use Rattle.xl_model_lemmas.proofs.InsertionLemmas.{In-with, In-without, same-place, with-In, without-In, without-other}
 use Rattle.xl_model_lemmas.proofs.MappingLemmas.{named-In}
-use Rattle.xl_model_lemmas.proofs.ChangeLemmas.{stays-changed, changed-In}
+use Rattle.xl_model_lemmas.proofs.MemberLemmas.{any-false, any-In, In-any}
 use Rattle.xl_model_lemmas.proofs.PoolLemmas.{no-leaf}
-use Rattle.xl_frames.specs.Pool.{IsFree, marked}
-use Rattle.xl_frames.proofs.MarkLemmas.{length-marked, marked_inside, marked_below, marked_above}
+use Rattle.xl_model_lemmas.proofs.SameLemmas.{none-any, same-tests}
 
 -- a block that is taken for a leaf
 taken-each : (leaf : Leaf) (leaves : List Leaf) (f : ℕ) → IsFreeOf (pages_of leaf.order) leaf.frame leaves → leaf.frame ≤ f → f < leaf.frame + pages_of leaf.order

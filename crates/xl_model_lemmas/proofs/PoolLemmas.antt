@@ -1,19 +1,8 @@
 -- The lowest free block of a pool is the lowest block that no leaf holds. For the machine.
-use Rattle.std.proofs.Common.{◌≡◌, refl, sym, ap, ◌∙◌, subst, ℕ, ◌+◌, ◌*◌, ◌<◌, ◌≤◌, Bool, true, false, not, List, length, Option, None, Some, slice_index_or, nat_le, arith}
-use Rattle.std.specs.List.{list_any}
-use Rattle.std.proofs.lemmas.Bool.Decides.{nat_tests}
-use Rattle.xl_model.specs.declared.address.Order.{Order}
-use Rattle.xl_model.specs.declared.leaf.Leaf.{Leaf}
-use Rattle.xl_model.specs.Addresses.{pages_of}
-use Rattle.xl_model.specs.Mapping.{holds_frames}
-use Rattle.xl_model.specs.Frames.{lowest}
-use Rattle.xl_model_lemmas.specs.Members.{In}
-use Rattle.xl_model_lemmas.specs.Lowest.{IsFree as IsFreeOf, IsAnswer}
-use Rattle.xl_model_lemmas.proofs.MemberLemmas.{any-In, In-any}
+use Rattle.xl_model_lemmas.proofs.Common.{◌*◌, ◌+◌, ◌<◌, ◌∙◌, ◌≡◌, ◌≤◌, ap, arith, Bool, false, HasNone, holds_frames, In, IsAnswer, IsFree, IsFreeOf, IsLowest, IsPoolOf, Leaf, length, List, list_any, lowest, nat_le, nat_tests, None, not, Option, Order, pages_of, refl, slice_index_or, Some, subst, sym, true, ℕ}
 use Rattle.xl_model_lemmas.proofs.LowestLemmas.{lowest-is-lowest}
+use Rattle.xl_model_lemmas.proofs.MemberLemmas.{any-In, In-any}
 use Rattle.xl_model_lemmas.proofs.OrderLemmas.{pages-some}
-use Rattle.xl_frames.specs.Pool.{IsFree, IsLowest, HasNone}
-use Rattle.xl_model_lemmas.specs.Pools.{IsPoolOf}
 
 -- a leaf that holds a frame of a block holds some frame of it
 shared : (at size : ℕ) (x : Leaf) → 0 < size → 0 < pages_of x.order → holds_frames at size x ≡ true → (f : ℕ) × (at ≤ f) × (f < at + size) × (holds_frames f 1 x ≡ true)

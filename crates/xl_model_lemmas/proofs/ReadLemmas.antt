@@ -1,19 +1,11 @@
 -- What is read of kept leaves is what their mapping says: blocks that are met, the leaf of a page, the leaf of a name.
-use Rattle.std.proofs.Common.{◌≡◌, refl, ap, ℕ, true, false, List, Option, None, Some}
-use Rattle.std.specs.Prelude.{find, is_some}
-use Rattle.std.specs.List.{list_any}
-use Rattle.xl_model.specs.declared.address.Order.{Order}
-use Rattle.xl_model.specs.declared.leaf.Leaf.{Leaf}
-use Rattle.xl_model.specs.Mapping.{meets_block, covers, is_leaf, meets_any, leaf_at_page, leaf_named}
-use Rattle.xl_model.specs.Changes.{IsNamed}
-use Rattle.xl_model_lemmas.specs.Members.{In}
-use Rattle.xl_model_lemmas.specs.Kept.{IsKept, mapping_of}
-use Rattle.xl_model_lemmas.proofs.MemberLemmas.{any-false}
-use Rattle.xl_model_lemmas.proofs.SameLemmas.{any-same, find-same, both}
-use Rattle.xl_model_lemmas.proofs.MappingLemmas.{named-In, named-is}
-use Rattle.xl_model_lemmas.proofs.PlaceLemmas.{covers-meets}
-use Rattle.xl_model_lemmas.proofs.KeptLemmas.{kept-same, mapping-In, In-mapping}
+use Rattle.xl_model_lemmas.proofs.Common.{◌≡◌, ap, covers, false, find, In, is_leaf, is_some, IsKept, IsNamed, Leaf, leaf_at_page, leaf_named, List, list_any, mapping_of, meets_any, meets_block, None, Option, Order, refl, Some, true, ℕ}
 use Rattle.xl_model_lemmas.proofs.FrontLemmas.{IsNew}
+use Rattle.xl_model_lemmas.proofs.KeptLemmas.{In-mapping, kept-same, mapping-In}
+use Rattle.xl_model_lemmas.proofs.MappingLemmas.{named-In, named-is}
+use Rattle.xl_model_lemmas.proofs.MemberLemmas.{any-false}
+use Rattle.xl_model_lemmas.proofs.PlaceLemmas.{covers-meets}
+use Rattle.xl_model_lemmas.proofs.SameLemmas.{any-same, both, find-same}
 use Rattle.xl_model_lemmas.proofs.WithoutLemmas.{named-same}
 
 pub meets-mapping : (s f : ℕ) (o : Order) (xs : List Leaf) → IsKept xs → list_any (meets_block s f o) xs ≡ meets_any s f o (mapping_of xs)

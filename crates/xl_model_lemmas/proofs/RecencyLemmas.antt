@@ -1,10 +1,8 @@
 -- Recency lists: what is in them after a touch, a fill and a purge; and each of these under `map`, for lists
 -- of words that are seen as lists of leaves, nodes, sections or ranges (the TLB and the walk caches).
-use Rattle.std.proofs.Common.{◌≡◌, ℕ, Bool, true, false, not, cond, List, [], ◌∷◌, map, find, Option, Some, None, ◌⊎◌, inl, inr, refl, sym, ◌∙◌, ap, subst}
-use Rattle.std.proofs.lemmas.List.{take-map}
-use Rattle.xl_model.specs.Recency.{without_first, in_front, touched, with_newest, purged}
-use Rattle.xl_model_lemmas.specs.Members.{In}
-use Rattle.xl_model_lemmas.proofs.MemberLemmas.{find-In, take-In, filter-In, filter-passes}
+use Rattle.xl_model_lemmas.proofs.Common.{◌∙◌, ◌∷◌, ◌≡◌, ◌⊎◌, [], ap, Bool, cond, false, find, In, inl, inr, List, map, None, not, Option, purged, refl, Some, subst, sym, take-map, touched, true, with_newest, without_first, ℕ}
+use Rattle.xl_model.specs.Recency.{in_front}
+use Rattle.xl_model_lemmas.proofs.MemberLemmas.{filter-In, filter-passes, find-In, take-In}
 
 without-first-In : {A : Type 0} (p : A → Bool) (x : A) (xs : List A) → In x (without_first p xs) → In x xs
 without-first-In p x [] i = i

@@ -1,26 +1,12 @@
 -- What a command that no refusal stops has shown of its leaf.
-use Rattle.std.proofs.Common.{◌≡◌, refl, subst, ℕ, Bool, true, false, List, [], ◌∷◌, Option, None, Some, ◌<◌, nat_lt, arith}
-use Rattle.std.specs.List.{list_all}
-use Rattle.std.proofs.lemmas.Bool.Decides.{nat_tests}
-use Rattle.std.proofs.lemmas.Bool.{not-true}
-use Rattle.std.specs.Cmp.{first_so, second_so}
-use Rattle.xl_model.specs.declared.address.Order.{Order}
-use Rattle.xl_model.specs.declared.perm.Perm.{Perm}
-use Rattle.xl_model.specs.declared.leaf.Leaf.{Leaf}
+use Rattle.xl_model_lemmas.proofs.Common.{◌<◌, ◌∷◌, ◌≡◌, [], arith, Bool, Change, changed, false, first_so, Insert, is_aligned, is_canonical, IsAnswer, IsMapping, IsNewPlace, IsSound, Leaf, List, list_all, lowest, meets_any, nat_lt, nat_tests, None, not-true, Option, Order, page_of, pages_of, Perm, Protect, refl, Relocate, Remove, Row, second_so, Some, subst, true, ℕ}
+use Rattle.xl_model.specs.Rules.{change_of, insert_at, or_else, overlap_rule, place_rule, rule, unless}
 use Rattle.xl_model.specs.declared.event.Event.{Event}
-use Rattle.xl_model.specs.declared.event.Event.TheVariants as event
 use Rattle.xl_model.specs.declared.event.Refusal.{Refusal}
-use Rattle.xl_model.specs.Addresses.{pages_of, page_of, is_canonical, is_aligned}
-use Rattle.xl_model.specs.Mapping.{meets_any}
-use Rattle.xl_model.specs.Frames.{lowest}
-use Rattle.xl_model.specs.Rows.{Row}
-use Rattle.xl_model.specs.Changes.{Change, Insert, Remove, Protect, Relocate, changed}
-use Rattle.xl_model.specs.Rules.{or_else, unless, place_rule, overlap_rule, rule, change_of, insert_at}
-use Rattle.xl_model_lemmas.specs.Mappings.{IsMapping, IsNewPlace, IsSound}
-use Rattle.xl_model_lemmas.specs.Lowest.{IsAnswer}
 use Rattle.xl_model_lemmas.proofs.LowestLemmas.{lowest-is-lowest}
+use Rattle.xl_model_lemmas.proofs.MappingLemmas.{kept-inserted, kept-protected, kept-relocated, kept-removed}
 use Rattle.xl_model_lemmas.proofs.PlaceLemmas.{page-block}
-use Rattle.xl_model_lemmas.proofs.MappingLemmas.{kept-inserted, kept-removed, kept-protected, kept-relocated}
+use Rattle.xl_model.specs.declared.event.Event.TheVariants as event
 
 pub or-first : (a b : Option Refusal) → or_else a b ≡ None → a ≡ None
 or-first None b h = refl

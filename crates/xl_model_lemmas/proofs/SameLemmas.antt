@@ -1,13 +1,7 @@
 -- Tests that agree, and lists with the same members: what one finds or passes, the other does.
-use Rattle.std.proofs.Common.{◌≡◌, refl, sym, ap, ◌∙◌, Bool, true, false, cond, List, [], ◌∷◌, Option, None, Some, ◌||◌, inl, inr, ℕ, ◌<◌, nat_lt, arith, ◌≤◌}
-use Rattle.std.specs.Prelude.{find, is_some}
-use Rattle.std.specs.List.{list_any}
-use Rattle.xl_model_lemmas.specs.Members.{In}
-use Rattle.xl_model_lemmas.proofs.MemberLemmas.{find-In, find-passes, find-None, find-only, any-false, any-In}
-use Rattle.std.proofs.lemmas.Bool.Decides.{nat_tests}
-use Rattle.xl_model.specs.Base.{same_bit}
-use Rattle.xl_model.specs.declared.perm.Perm.{Perm}
+use Rattle.xl_model_lemmas.proofs.Common.{◌<◌, ◌||◌, ◌∙◌, ◌∷◌, ◌≡◌, ◌≤◌, [], ap, arith, Bool, cond, false, find, In, inl, inr, is_some, List, list_any, nat_lt, nat_tests, None, Option, Perm, refl, same_bit, Some, sym, true, ℕ}
 use Rattle.xl_model.specs.Ranges.{same_perm}
+use Rattle.xl_model_lemmas.proofs.MemberLemmas.{any-false, any-In, find-In, find-None, find-only, find-passes}
 
 -- a test passes some member of both or of neither
 pub any-same : {A : Type 0} (p : A → Bool) (xs ys : List A) → ((z : A) → In z xs → In z ys) → ((z : A) → In z ys → In z xs) → list_any p xs ≡ list_any p ys

@@ -1,14 +1,11 @@
 -- Items served in parts: what is served and what is told are those of the parts one after another, for one row
 -- after another too. For the loops that serve, and their laws.
-use Rattle.std.proofs.Common.{◌≡◌, refl, sym, ap, ◌∙◌, ℕ, Bool, false, List, [], ◌∷◌, ◌++◌, append_assoc}
-use Rattle.std.proofs.lemmas.List.{append-nil}
+use Rattle.xl_model_lemmas.proofs.Common.{◌++◌, ◌∙◌, ◌∷◌, ◌≡◌, [], ap, append-nil, append_assoc, Bool, false, List, opening, refl, Row, sym, ℕ}
+use Rattle.xl_model.specs.Items.{areas_after, run, state_after, states_after}
+use Rattle.xl_model.specs.Scenes.{item_lines, lines_where, Live, live_after, lives_after, opened, opening_scene, rows_after, rows_lines, Scene, scene_after, scenes_after, Served, told_by, untold}
 use Rattle.xl_model.specs.declared.script.Area.{Area}
 use Rattle.xl_model.specs.declared.script.Item.{Item}
-use Rattle.xl_model.specs.Rows.{Row}
-use Rattle.xl_model.specs.RowRun.{opening}
-use Rattle.xl_model.specs.Items.{areas_after, state_after, states_after, run}
-use Rattle.xl_model.specs.Scenes.{Served, Scene, Live, rows_after, scene_after, rows_lines, item_lines, lines_where, live_after, lives_after, opened, opening_scene, untold, told_by, scenes_after}
-use Rattle.xl_model_lemmas.specs.Scenes.{rows_by, ran_by}
+use Rattle.xl_model_lemmas.specs.Scenes.{ran_by, rows_by}
 
 -- one list of items after another
 pub lives-append : (answers : Bool) (xs ys : List Item) (l : Live) → lives_after answers (xs ++ ys) l ≡ lives_after answers ys (lives_after answers xs l)

@@ -1,23 +1,12 @@
 -- The leaf of a page is the one found under one of three tags. For the hashed table and the cuckoo row.
-use Rattle.std.proofs.Common.{◌≡◌, refl, sym, ap, ◌∙◌, subst, ℕ, ◌+◌, ◌*◌, ◌/◌, ◌^◌, ◌<◌, ◌≤◌, ◌==◌, true, false, cond, List, Option, None, Some, arith}
-use Rattle.std.specs.Prelude.{find}
-use Rattle.std.proofs.lemmas.Bool.Decides.{nat_tests}
-use Rattle.xl_model.specs.declared.address.Order.{Order}
-use Rattle.xl_model.specs.declared.address.Order.TheVariants as order
-use Rattle.xl_model.specs.declared.leaf.Leaf.{Leaf}
-use Rattle.xl_model.specs.Addresses.{pages_of, same_order}
-use Rattle.xl_model.specs.Mapping.{covers, leaf_at_page}
-use Rattle.xl_model.specs.Chains.{tag_of, leaf_tag}
-use Rattle.xl_model_lemmas.specs.Members.{In}
-use Rattle.xl_model_lemmas.specs.Kept.{IsKept, mapping_of}
-use Rattle.xl_model_lemmas.specs.Sections.{IsAligned}
-use Rattle.xl_model_lemmas.specs.Entries.{leaves_read, AreRead, read_of, read_under, or_leaf, read_at}
-use Rattle.xl_model_lemmas.proofs.MemberLemmas.{find-In, find-passes, find-None, find-only}
-use Rattle.xl_model_lemmas.proofs.OrderLemmas.{orders-same, order-same}
-use Rattle.xl_model_lemmas.proofs.PlaceLemmas.{covers-meets}
+use Rattle.xl_model_lemmas.proofs.Common.{◌*◌, ◌+◌, ◌/◌, ◌<◌, ◌==◌, ◌^◌, ◌∙◌, ◌≡◌, ◌≤◌, ap, AreRead, arith, cond, covers, false, find, In, IsAligned, IsKept, Leaf, leaf_at_page, leaf_tag, leaves_read, List, mapping_of, nat_tests, None, Option, or_leaf, Order, pages_of, read_at, read_of, read_under, refl, same_order, Some, subst, sym, tag_of, true, ℕ}
+use Rattle.xl_model_lemmas.proofs.EntryLemmas.{In-read, read-In}
 use Rattle.xl_model_lemmas.proofs.KeptLemmas.{kept-same}
+use Rattle.xl_model_lemmas.proofs.MemberLemmas.{find-In, find-None, find-only, find-passes}
+use Rattle.xl_model_lemmas.proofs.OrderLemmas.{order-same, orders-same}
+use Rattle.xl_model_lemmas.proofs.PlaceLemmas.{covers-meets}
 use Rattle.xl_model_lemmas.proofs.ReadLemmas.{leaf-at-mapping}
-use Rattle.xl_model_lemmas.proofs.EntryLemmas.{read-In, In-read}
+use Rattle.xl_model.specs.declared.address.Order.TheVariants as order
 
 -- a leaf of the tag under which a page is sought covers the page
 record Lies (s page space first : ℕ) (o p : Order) : Type 0 where

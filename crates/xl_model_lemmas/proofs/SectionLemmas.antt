@@ -1,20 +1,11 @@
 -- The keys of the sections that exist, and how many there are; the test of a section by its key. For the counts
 -- of leaves by section, which the tables of chains and the cuckoo row keep.
-use Rattle.std.proofs.Common.{◌≡◌, refl, sym, ap, ◌∙◌, subst, ℕ, suc, ◌+◌, ◌*◌, ◌/◌, ◌^◌, ◌<◌, ◌≤◌, Bool, true, false, cond, ◌&&◌, ◌||◌, List, [], ◌∷◌, length, nat_le, ◌==◌, inl, inr, ◌⊎◌, arith}
-use Rattle.std.specs.List.{list_any}
-use Rattle.std.proofs.lemmas.Bool.Decides.{nat_tests}
-use Rattle.xl_model.specs.declared.address.Order.{Order}
-use Rattle.xl_model.specs.declared.address.Order.TheVariants as order
-use Rattle.xl_model.specs.declared.leaf.Leaf.{Leaf}
-use Rattle.xl_model.specs.Addresses.{level_of, pages_of}
-use Rattle.xl_model.specs.Mapping.{leaf_key, with_leaf}
-use Rattle.xl_model.specs.Sections.{counts_for, section_key, with_key, section_keys, section_count}
-use Rattle.xl_model_lemmas.specs.Members.{In, Once}
-use Rattle.xl_model_lemmas.specs.Sections.{key_in, counts_at}
+use Rattle.xl_model_lemmas.proofs.Common.{◌&&◌, ◌*◌, ◌+◌, ◌/◌, ◌<◌, ◌==◌, ◌^◌, ◌||◌, ◌∙◌, ◌∷◌, ◌≡◌, ◌≤◌, ◌⊎◌, [], ap, arith, Bool, cond, counts_at, counts_for, false, In, inl, inr, key_in, Leaf, leaf_key, length, level_of, List, list_any, nat_le, nat_tests, Once, Order, pages_of, refl, section_count, section_key, section_keys, subst, suc, sym, true, with_key, with_leaf, ℕ}
+use Rattle.xl_model_lemmas.proofs.InsertionLemmas.{In-with, stays-with, with-In}
 use Rattle.xl_model_lemmas.proofs.MemberLemmas.{any-false}
-use Rattle.xl_model_lemmas.proofs.SameLemmas.{any-same}
 use Rattle.xl_model_lemmas.proofs.OnceLemmas.{once-same}
-use Rattle.xl_model_lemmas.proofs.InsertionLemmas.{with-In, In-with, stays-with}
+use Rattle.xl_model_lemmas.proofs.SameLemmas.{any-same}
+use Rattle.xl_model.specs.declared.address.Order.TheVariants as order
 
 -- a key put to a list of keys
 put-In : (key k : ℕ) (keys : List ℕ) → In k (with_key key keys) → (k ≡ key) ⊎ In k keys

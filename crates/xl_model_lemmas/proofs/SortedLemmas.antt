@@ -1,10 +1,6 @@
 -- A sorted list of leaves is known by its members; one leaf put in and another taken out, in either order.
-use Rattle.std.proofs.Common.{◌≡◌, refl, sym, ap, subst, ℕ, List, [], ◌∷◌, inl, inr, ◌<◌, ◌+◌, ◌*◌, ◌^◌, arith, true, false, ◌==◌}
-use Rattle.xl_model.specs.declared.leaf.Leaf.{Leaf}
-use Rattle.xl_model.specs.Mapping.{leaf_key, with_leaf, without_leaf}
-use Rattle.xl_model_lemmas.specs.Members.{In, AllAbove, IsSorted}
-use Rattle.xl_model_lemmas.proofs.InsertionLemmas.{above-In, with-In, In-with, stays-with, sorted-with, sorted-without, without-In, without-other, In-without, same-place}
-use Rattle.std.proofs.lemmas.Bool.Decides.{nat_tests}
+use Rattle.xl_model_lemmas.proofs.Common.{◌*◌, ◌+◌, ◌<◌, ◌==◌, ◌^◌, ◌∷◌, ◌≡◌, [], AllAbove, ap, arith, false, In, inl, inr, IsSorted, Leaf, leaf_key, List, nat_tests, refl, subst, sym, true, with_leaf, without_leaf, ℕ}
+use Rattle.xl_model_lemmas.proofs.InsertionLemmas.{above-In, In-with, In-without, same-place, sorted-with, sorted-without, stays-with, with-In, without-In, without-other}
 
 heads : (x y : Leaf) (xs ys : List Leaf) → AllAbove (leaf_key x) xs → AllAbove (leaf_key y) ys → In x (y ∷ ys) → In y (x ∷ xs) → x ≡ y
 heads x y xs ys above_x above_y (inl e) j = e

@@ -1,25 +1,13 @@
 -- Tags of kept leaves: each has its own, and how each call changes their list. For the tables of chains.
-use Rattle.std.proofs.Common.{◌≡◌, refl, sym, ap, ◌∙◌, subst, ℕ, suc, Bool, true, false, not, cond, List, [], ◌∷◌, map, length, inl, inr, ◌<◌, ◌+◌, ◌^◌, ◌==◌, arith, ◌⊎◌, ◌||◌}
-use Rattle.std.specs.Prelude.{filter}
-use Rattle.std.specs.List.{list_any}
-use Rattle.std.proofs.lemmas.Bool.Decides.{nat_tests}
-use Rattle.std.proofs.lemmas.Bool.{eqb-true, eq-eqb, false_from_ne_true}
-use Rattle.xl_model.specs.declared.address.Order.{Order}
-use Rattle.xl_model.specs.declared.perm.Perm.{Perm}
-use Rattle.xl_model.specs.declared.leaf.Leaf.{Leaf}
-use Rattle.xl_model.specs.Addresses.{pages_of}
-use Rattle.xl_model.specs.Mapping.{meets_block, is_leaf}
-use Rattle.xl_model.specs.Chains.{tag_of, leaf_tag, in_front_of_bucket, has_tag, with_tag, only_used_tags}
-use Rattle.xl_model_lemmas.specs.Members.{In}
-use Rattle.xl_model_lemmas.proofs.MemberLemmas.{In-any, map-In, filter-In, filter-passes, In-filter, all-In, any-In}
-use Rattle.xl_model_lemmas.specs.Kept.{IsPlaced, IsKept, mapping_of, in_front, without_named, protected_where, with_perm_named}
-use Rattle.xl_model_lemmas.proofs.SameLemmas.{both, none-any}
-use Rattle.xl_model_lemmas.proofs.KeptLemmas.{kept-same, mapping-In, In-mapping, kept-filter}
+use Rattle.xl_model_lemmas.proofs.Common.{◌+◌, ◌<◌, ◌==◌, ◌^◌, ◌||◌, ◌∙◌, ◌∷◌, ◌≡◌, ◌⊎◌, [], ap, arith, Bool, cond, eq-eqb, eqb-true, false, false_from_ne_true, filter, has_tag, In, in_front, in_front_of_bucket, inl, inr, is_leaf, IsKept, IsPlaced, Leaf, leaf_tag, length, List, list_any, map, mapping_of, meets_block, nat_tests, not, only_used_tags, Order, pages_of, Perm, protected_where, refl, subst, suc, sym, tag_of, true, with_perm_named, with_tag, without_named, ℕ}
 use Rattle.xl_model_lemmas.proofs.BucketLemmas.{tags-by}
 use Rattle.xl_model_lemmas.proofs.FrontLemmas.{IsNew}
-use Rattle.xl_model_lemmas.proofs.GivenLemmas.{given, perm-named-is, kept-protected}
+use Rattle.xl_model_lemmas.proofs.GivenLemmas.{given, kept-protected, perm-named-is}
+use Rattle.xl_model_lemmas.proofs.KeptLemmas.{In-mapping, kept-filter, kept-same, mapping-In}
+use Rattle.xl_model_lemmas.proofs.MemberLemmas.{all-In, any-In, filter-In, filter-passes, In-any, In-filter, map-In}
+use Rattle.xl_model_lemmas.proofs.PlaceLemmas.{named-first, named-order, named-space}
+use Rattle.xl_model_lemmas.proofs.SameLemmas.{both, none-any}
 use Rattle.xl_model.specs.declared.address.Order.TheVariants as order
-use Rattle.xl_model_lemmas.proofs.PlaceLemmas.{named-space, named-order, named-first}
 
 -- leaves of one tag share a page
 pub record Shares (s t f g : ℕ) (o p : Order) : Type 0 where

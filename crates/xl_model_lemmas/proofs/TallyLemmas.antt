@@ -1,23 +1,10 @@
 -- How many members pass a test: of two lists together, of a list with an item more in front of its bucket, and of
 -- kept leaves with one less or with another permission. For the counts of leaves by section.
-use Rattle.std.proofs.Common.{◌≡◌, refl, sym, ap, ◌∙◌, ℕ, ◌+◌, ◌≤◌, Bool, true, false, not, cond, List, [], ◌∷◌, ◌++◌, map, length, nat_lt, ◌==◌, ◌||◌, inl, inr, arith, ◌&&◌, subst}
-use Rattle.std.specs.List.{list_any}
-use Rattle.std.proofs.lemmas.Bool.Decides.{nat_tests}
-use Rattle.xl_model.specs.declared.address.Order.{Order}
-use Rattle.xl_model.specs.declared.perm.Perm.{Perm}
-use Rattle.xl_model.specs.declared.leaf.Leaf.{Leaf}
-use Rattle.xl_model.specs.Base.{one_if}
-use Rattle.xl_model.specs.Chains.{bucket_of}
-use Rattle.xl_model.specs.Mapping.{is_leaf}
-use Rattle.xl_model_lemmas.specs.Members.{In, Once}
-use Rattle.xl_model_lemmas.specs.Buckets.{in_front_by}
-use Rattle.xl_model_lemmas.specs.Kept.{IsKept, without_named, with_perm_named}
-use Rattle.xl_model_lemmas.specs.Sections.{tally}
-use Rattle.xl_model_lemmas.proofs.SameLemmas.{both}
+use Rattle.xl_model_lemmas.proofs.Common.{◌&&◌, ◌++◌, ◌+◌, ◌==◌, ◌||◌, ◌∙◌, ◌∷◌, ◌≡◌, ◌≤◌, [], ap, arith, Bool, bucket_of, cond, false, filter, In, in_front_by, inl, inr, is_leaf, IsKept, Leaf, length, List, list_any, map, nat_lt, nat_tests, not, Once, one_if, Order, Perm, refl, subst, sym, tally, true, with_perm_named, without_named, ℕ}
+use Rattle.xl_model_lemmas.proofs.GivenLemmas.{given, given-no, given-yes, perm-named-is}
 use Rattle.xl_model_lemmas.proofs.KeptLemmas.{kept-tail}
-use Rattle.xl_model_lemmas.proofs.WithoutLemmas.{named-same, without-yes, without-no, without-all, behind}
-use Rattle.xl_model_lemmas.proofs.GivenLemmas.{given, given-yes, given-no, perm-named-is}
-use Rattle.std.specs.Prelude.{filter}
+use Rattle.xl_model_lemmas.proofs.SameLemmas.{both}
+use Rattle.xl_model_lemmas.proofs.WithoutLemmas.{behind, named-same, without-all, without-no, without-yes}
 
 pub tally-short : {A : Type 0} (p : A → Bool) (xs : List A) → tally p xs ≤ length xs
 tally-short p [] = omega arith

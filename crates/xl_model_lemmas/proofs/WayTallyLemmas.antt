@@ -1,11 +1,5 @@
 -- How many entries of a way pass a test: with an entry more, without one, and with other words. For cuckoo tables.
-use Rattle.std.proofs.Common.{◌≡◌, refl, ap, ℕ, ◌+◌, ◌≤◌, Bool, true, false, cond, List, [], ◌∷◌, None, Some, ◌&&◌, ◌==◌, nat_lt, map, arith}
-use Rattle.std.specs.Prelude.{find}
-use Rattle.std.proofs.lemmas.Bool.Decides.{nat_tests}
-use Rattle.xl_model.specs.declared.way.Entry.{Entry}
-use Rattle.xl_model.specs.Base.{one_if}
-use Rattle.xl_model.specs.Ways.{WayShape, has_key, with_entry, without_key, without_entry, with_word, reworded}
-use Rattle.xl_model_lemmas.specs.Sections.{tally, entries_in}
+use Rattle.xl_model_lemmas.proofs.Common.{◌&&◌, ◌+◌, ◌==◌, ◌∷◌, ◌≡◌, ◌≤◌, [], ap, arith, Bool, cond, entries_in, Entry, false, find, has_key, List, map, nat_lt, nat_tests, None, one_if, refl, reworded, Some, tally, true, WayShape, with_entry, with_word, without_entry, without_key, ℕ}
 use Rattle.xl_model_lemmas.proofs.TallyLemmas.{tally-append, tally-map}
 
 pub tally-le : (p q : Entry → Bool) (xs : List Entry) → ((x : Entry) → p x ≡ true → q x ≡ true) → tally p xs ≤ tally q xs

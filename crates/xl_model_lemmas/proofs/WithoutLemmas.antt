@@ -1,18 +1,11 @@
 -- The kept leaf of a name, and the leaves without it.
-use Rattle.std.proofs.Common.{◌≡◌, refl, sym, ◌∙◌, subst, ℕ, Bool, true, false, not, List, [], ◌∷◌, ◌∷◌, ap, inl, cond, inr}
-use Rattle.std.specs.Prelude.{filter}
-use Rattle.std.proofs.lemmas.Bool.{not-true}
-use Rattle.xl_model.specs.declared.address.Order.{Order}
-use Rattle.xl_model.specs.declared.leaf.Leaf.{Leaf}
-use Rattle.xl_model.specs.Mapping.{is_leaf, leaf_key, without_leaf, meets_block}
-use Rattle.xl_model_lemmas.specs.Members.{In}
-use Rattle.xl_model_lemmas.proofs.MemberLemmas.{filter-In, filter-passes, In-filter, all-In, any-false}
-use Rattle.xl_model_lemmas.proofs.InsertionLemmas.{sorted-without, without-In, without-other, In-without, same-place}
+use Rattle.xl_model_lemmas.proofs.Common.{◌∙◌, ◌∷◌, ◌≡◌, [], ap, Bool, cond, false, filter, In, inl, inr, is_leaf, IsKept, IsPlaced, Leaf, leaf_key, List, mapping_of, meets_block, not, not-true, Order, refl, subst, sym, true, without_leaf, without_named, ℕ}
+use Rattle.xl_model_lemmas.proofs.InsertionLemmas.{In-without, same-place, sorted-without, without-In, without-other}
+use Rattle.xl_model_lemmas.proofs.KeptLemmas.{In-mapping, kept-filter, key-apart, mapping-In, mapping-sorted}
+use Rattle.xl_model_lemmas.proofs.MemberLemmas.{all-In, any-false, filter-In, filter-passes, In-filter}
 use Rattle.xl_model_lemmas.proofs.PlaceLemmas.{named-key}
-use Rattle.xl_model_lemmas.specs.Kept.{IsKept, mapping_of, without_named, IsPlaced}
-use Rattle.xl_model_lemmas.proofs.SortedLemmas.{same-sorted}
 use Rattle.xl_model_lemmas.proofs.SameLemmas.{both}
-use Rattle.xl_model_lemmas.proofs.KeptLemmas.{mapping-sorted, mapping-In, In-mapping, kept-filter, key-apart}
+use Rattle.xl_model_lemmas.proofs.SortedLemmas.{same-sorted}
 
 -- a leaf that has the named leaf's place is that leaf
 pub named-one : (s f : ℕ) (o : Order) (old z : Leaf) (xs : List Leaf) → IsKept xs → In old xs → is_leaf s f o old ≡ true → In z xs → leaf_key z ≡ leaf_key old → z ≡ old

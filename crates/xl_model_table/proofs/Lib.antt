@@ -1,3 +1,4 @@
+mod Common
 mod ScanLemmas
 mod TableLemmas
 mod MoveLemmas

@@ -1,30 +1,14 @@
 -- What a move answers and leaves, for a table of chains that keeps one leaf for each entry.
-use Rattle.std.proofs.Common.{◌≡◌, refl, sym, ap, ◌∙◌, subst, ℕ, true, false, List, map, length, None, Some, Result, Ok, Err, ◌<◌, ◌≤◌, nat_le, nat_lt, arith}
-use Rattle.std.specs.Prelude.{find, is_some}
-use Rattle.std.proofs.lemmas.Bool.Decides.{nat_tests}
-use Rattle.xl_model.specs.declared.address.Order.{Order}
-use Rattle.xl_model.specs.declared.leaf.Leaf.{Leaf}
-use Rattle.xl_model.specs.declared.work.Refused.{Refused}
-use Rattle.xl_model.specs.declared.work.Work.{Work}
-use Rattle.xl_model.specs.Mapping.{is_leaf, meets_any, leaf_named, with_leaf, without_leaf}
-use Rattle.xl_model.specs.Changes.{Change, Insert, Remove, Relocate, IsNamed, changed, at_page}
-use Rattle.xl_model.specs.Chains.{leaf_tag, with_tag, only_used_tags}
-use Rattle.xl_model.specs.Shapes.{Chained, widened, narrowed, shape_after}
-use Rattle.xl_model.specs.Room.{room_for, has_room}
-use Rattle.xl_model.specs.Structures.{TableState, IsBlock, IsChange, table_answer, table_after}
-use Rattle.xl_model_lemmas.specs.Members.{In}
-use Rattle.xl_model_lemmas.specs.Kept.{IsPlaced, IsKept, mapping_of, in_front, without_named, table_of}
-use Rattle.xl_model_lemmas.proofs.MemberLemmas.{find-only}
-use Rattle.xl_model_lemmas.proofs.SameLemmas.{both}
+use Rattle.xl_model_table.proofs.Common.{◌<◌, ◌∙◌, ◌≡◌, ◌≤◌, ap, arith, at_page, Chained, Change, changed, Err, false, find, has_room, in_front, Insert, is_leaf, IsBlock, IsChange, IsKept, IsNamed, IsNew, IsPlaced, kept-front, Leaf, leaf_named, leaf_tag, length, List, map, mapping-front, mapping-without, mapping_of, meets_any, Named, named-mapping, named-same, narrowed, nat_le, nat_lt, nat_tests, new-key, None, Ok, only_used_tags, Order, refl, Refused, Relocate, Remove, Result, room_for, shape_after, Some, stays-front, subst, sym, table_after, table_answer, table_of, TableState, true, used-without, widened, with-tag, with_leaf, with_tag, without_leaf, without_named, Work, ℕ}
+use Rattle.std.specs.Prelude.{is_some}
+use Rattle.xl_model_lemmas.proofs.KeptLemmas.{mapping-In, mapping-sorted}
 use Rattle.xl_model_lemmas.proofs.MappingLemmas.{named-In, named-is}
-use Rattle.xl_model_lemmas.proofs.PlaceLemmas.{named-space, named-order}
+use Rattle.xl_model_lemmas.proofs.MemberLemmas.{find-only}
+use Rattle.xl_model_lemmas.proofs.PlaceLemmas.{named-order, named-space}
+use Rattle.xl_model_lemmas.proofs.SameLemmas.{both}
 use Rattle.xl_model_lemmas.proofs.SortedLemmas.{with-without}
-use Rattle.xl_model_lemmas.proofs.KeptLemmas.{mapping-sorted, mapping-In}
-use Rattle.xl_model_lemmas.proofs.FrontLemmas.{IsNew, stays-front, kept-front, mapping-front, new-key}
-use Rattle.xl_model_lemmas.proofs.WithoutLemmas.{mapping-without, named-same}
-use Rattle.xl_model_lemmas.proofs.TagLemmas.{with-tag, used-without}
-use Rattle.xl_model_lemmas.proofs.ReadLemmas.{named-mapping, Named}
-use Rattle.xl_model_table.proofs.TableLemmas.{done, full, made, refused, has-room, no-room, inserted, not-inserted, removed, IsComing, coming}
+use Rattle.xl_model_lemmas.specs.Members.{In}
+use Rattle.xl_model_table.proofs.TableLemmas.{coming, done, full, has-room, inserted, IsComing, made, no-room, not-inserted, refused, removed}
 
 -- A leaf that moves: put at its new place, then taken out at its old one.
 pub record IsMoving (s f to : ℕ) (o : Order) (old : Leaf) (xs : List Leaf) : Type 0 where

@@ -1,13 +1,7 @@
 -- Loops over the kept leaves, one leaf at a step.
-use Rattle.std.proofs.Common.{◌≡◌, refl, sym, ap, ◌∙◌, ℕ, suc, Bool, true, false, List, [], ◌∷◌, ◌++◌, Some, map, take, drop, get_or, length, append_assoc, add-one, ◌<◌, ◌≤◌, ◌+◌, nat_lt, arith}
+use Rattle.xl_model_table.proofs.Common.{◌++◌, ◌+◌, ◌<◌, ◌∙◌, ◌∷◌, ◌≡◌, ◌≤◌, [], add-one, ap, append_assoc, arith, Bool, bucket_of, chain_of, drop, examined, false, find, get_or, in_front, Leaf, leaf_tag, length, List, map, nat_lt, nat_tests, refl, Some, suc, sym, take, take_more, true, ℕ}
 use Rattle.std.proofs.Math.Seq.{drop-cons}
-use Rattle.std.proofs.lemmas.List.{take_more}
-use Rattle.std.proofs.lemmas.Bool.Decides.{nat_tests}
-use Rattle.std.specs.Prelude.{find}
 use Rattle.std.proofs.lemmas.Bool.{eq-eqb, ne_eqb}
-use Rattle.xl_model.specs.declared.leaf.Leaf.{Leaf}
-use Rattle.xl_model.specs.Chains.{bucket_of, leaf_tag, chain_of, examined}
-use Rattle.xl_model_lemmas.specs.Kept.{in_front}
 
 pub drop-at : {A : Type 0} (xs : List A) (i : ℕ) (x : A) → i < length xs → x ≡ get_or xs i x → drop i xs ≡ x ∷ drop (i + 1) xs
 drop-at xs i x h e = rw add-one (drop-cons xs i x h ∙ ap (λ y. y ∷ drop (suc i) xs) (sym e))

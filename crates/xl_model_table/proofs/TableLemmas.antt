@@ -1,32 +1,14 @@
 -- What each change but a move answers and leaves, for a table of chains that keeps one leaf for each entry.
-use Rattle.std.proofs.Common.{◌≡◌, refl, sym, ap, ◌∙◌, subst, ℕ, suc, true, false, List, map, length, Option, None, Some, Result, Ok, Err, ◌<◌, ◌≤◌, ◌+◌, ◌^◌, nat_le, arith}
-use Rattle.std.proofs.lemmas.Bool.Decides.{nat_tests}
-use Rattle.xl_model.specs.declared.address.Order.{Order}
+use Rattle.xl_model_table.proofs.Common.{◌+◌, ◌<◌, ◌^◌, ◌∙◌, ◌≡◌, ◌≤◌, after_by, all-used, answer_by, ap, arith, brought, Chained, chains_reads, Change, changed, Err, false, fence_answer, finds_place, has_room, in_front, Insert, is-new, IsBlock, IsChange, IsFence, IsKept, IsNamed, IsNew, IsPlaced, IsWalk, kept-front, Leaf, leaf_at_page, leaf_tag, length, length-front, length-tags, List, Made, map, mapping-front, mapping-protected, mapping-without, mapping_of, meets_any, moves_made, Named, named-of, nat_le, nat_tests, None, Ok, only_used_tags, Option, Order, orders_tried, Protect, refl, Refused, Remove, Result, shape_after, Some, subst, suc, sym, table_after, table_answer, table_fenced, table_made, table_of, table_walked, TableState, true, used-protected, used-without, verdict, verdict_by, walk_answer, walked, with-tag, with_leaf, with_perm_named, with_tag, without_named, Work, work_of, ℕ}
 use Rattle.xl_model.specs.Addresses.{pages_of}
-use Rattle.xl_model.specs.declared.perm.Perm.{Perm}
-use Rattle.xl_model.specs.declared.leaf.Leaf.{Leaf}
-use Rattle.xl_model.specs.declared.event.Reach.{Reach}
-use Rattle.xl_model.specs.declared.work.Refused.{Refused}
-use Rattle.xl_model.specs.declared.work.Walk.{Walk}
-use Rattle.xl_model.specs.declared.work.Work.{Work}
-use Rattle.xl_model.specs.Mapping.{meets_any, leaf_at_page, with_leaf}
-use Rattle.xl_model.specs.Changes.{Change, Insert, Remove, Protect, IsNamed, changed}
-use Rattle.xl_model.specs.Chains.{leaf_tag, with_tag, only_used_tags}
 use Rattle.xl_model.specs.Base.{plus}
+use Rattle.xl_model.specs.Caches.{caches_fenced, caches_purged, NoCaches}
 use Rattle.xl_model.specs.Placing.{no_moves}
-use Rattle.xl_model.specs.Shapes.{Chained, brought, shape_after}
-use Rattle.xl_model.specs.Room.{has_room}
-use Rattle.xl_model.specs.Caches.{NoCaches, caches_purged, caches_fenced}
-use Rattle.xl_model.specs.Walks.{chains_reads, orders_tried, walked}
-use Rattle.xl_model.specs.Structures.{work_of, TableState, IsBlock, IsChange, IsWalk, IsFence, fence_answer, table_fenced, walk_answer, table_walked, Made, moves_made, finds_place, answer_by, after_by, verdict_by, verdict, table_made, table_answer, table_after}
-use Rattle.xl_model_lemmas.specs.Kept.{IsPlaced, IsKept, mapping_of, in_front, without_named, with_perm_named, table_of}
+use Rattle.xl_model.specs.declared.event.Reach.{Reach}
+use Rattle.xl_model.specs.declared.perm.Perm.{Perm}
+use Rattle.xl_model.specs.declared.work.Walk.{Walk}
 use Rattle.xl_model.specs.declared.address.Order.TheVariants as order
 use Rattle.xl_model.specs.declared.work.NoRoom.TheVariants as why
-use Rattle.xl_model_lemmas.proofs.FrontLemmas.{IsNew, length-front, kept-front, mapping-front}
-use Rattle.xl_model_lemmas.proofs.WithoutLemmas.{mapping-without}
-use Rattle.xl_model_lemmas.proofs.GivenLemmas.{mapping-protected}
-use Rattle.xl_model_lemmas.proofs.TagLemmas.{with-tag, length-tags, all-used, used-without, used-protected}
-use Rattle.xl_model_lemmas.proofs.ReadLemmas.{is-new, Named, named-of}
 
 -- a table with chains and without caches
 abbrev pub state : ℕ → ℕ → ℕ → List Leaf → List ℕ → TableState

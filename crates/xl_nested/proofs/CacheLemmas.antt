@@ -1,21 +1,7 @@
 -- The host after a look into its G cache.
-use Rattle.std.proofs.Common.{◌≡◌, refl, ap, ◌∙◌, subst, ℕ, ◌+◌, ◌-◌, ◌/◌, Bool, true, false, if◌then◌else◌, List, Option, None, Some, arith}
-use Rattle.std.specs.Prelude.{find}
-use Rattle.xl_model.specs.declared.address.Kind.{Kind}
-use Rattle.xl_model.specs.declared.leaf.Leaf.{Leaf}
-use Rattle.xl_model.specs.declared.leaf.Reply.TheVariants as reply
-use Rattle.xl_model.specs.declared.perm.Perm.{Perm}
-use Rattle.xl_model.specs.Addresses.{allows}
+use Rattle.xl_nested.proofs.Common.{if◌then◌else◌, ◌+◌, ◌-◌, ◌/◌, ◌∙◌, ◌≡◌, allows, ap, arith, Bool, Cached, covers_guest, end_level, false, find, frame_if, frame_of, frame_said, host_leaf, host_of, host_page, host_space, IsFound, IsPageWord, Kind, Leaf, leaf_at_page, List, None, Option, Perm, purged, refl, reply_by, small_leaf, Some, Stage, stage2, subst, touched, touched-none, translated, translated_by, true, with_found, with_loads, with_newest, with_touch, without_items, ℕ}
 use Rattle.xl_model.specs.Base.{plus}
-use Rattle.xl_model.specs.LeafWords.{small_leaf}
-use Rattle.xl_model.specs.Caches.{Cached, without_items}
-use Rattle.xl_model.specs.Mapping.{leaf_at_page, reply_by}
-use Rattle.xl_model.specs.Recency.{purged, touched, with_newest}
-use Rattle.xl_nested_model.specs.Stages.{Stage, covers_guest, frame_of, host_leaf, host_page, host_space, stage2, translated, translated_by, with_found, with_loads}
-use Rattle.xl_model.specs.Walks.{end_level, with_touch}
-use Rattle.xl_model_lemmas.proofs.RecencyLemmas.{touched-none}
-use Rattle.xl_nested.specs.Coding.{frame_if, frame_said, IsFound, IsPageWord}
-use Rattle.xl_nested.specs.Kept.{host_of}
+use Rattle.xl_model.specs.declared.leaf.Reply.TheVariants as reply
 
 abbrev of_width : ℕ → List Leaf → Cached Leaf
 of_width width items = record { width = width; items = items }

@@ -1,26 +1,7 @@
 -- What an item of the G cache says: one block of guest pages and one order, a frame and a permission.
-use Rattle.std.proofs.Common.{◌≡◌, refl, sym, ap, ◌∙◌, subst, ℕ, zero, suc, ◌+◌, ◌-◌, ◌*◌, ◌/◌, ◌%◌, ◌^◌, ◌<◌, ◌≤◌, ◌==◌, nat_le, nat_lt, Bool, true, false, ◌&&◌, ◌||◌, List, [], map, find, Option, None, Some, inl, inr, arith}
-use Rattle.std.proofs.lemmas.Bool.Decides.{nat_tests}
-use Rattle.xl_model.specs.declared.address.Order.{Order}
-use Rattle.xl_model.specs.declared.address.Order.TheVariants as order
-use Rattle.xl_model.specs.declared.leaf.Leaf.{Leaf}
-use Rattle.xl_model.specs.declared.perm.Perm.{Perm}
-use Rattle.xl_model.specs.Addresses.{level_of, order_at, pages_of, same_order}
-use Rattle.xl_model.specs.LeafWords.{perm_at, perm_code, small_leaf}
-use Rattle.xl_model.specs.Mapping.{covers, is_leaf}
-use Rattle.xl_model.specs.Recency.{purged, touched, with_newest}
+use Rattle.xl_nested.proofs.Common.{◌%◌, ◌&&◌, ◌*◌, ◌+◌, ◌-◌, ◌/◌, ◌<◌, ◌==◌, ◌^◌, ◌||◌, ◌∙◌, ◌≡◌, ◌≤◌, [], ap, AreSmall, arith, Block, block_leaf, Bool, covers, covers_guest, find, find-In, find-none, find-passes, find-some, has_tag, host_page, host_space, In, inl, inr, is_among, is_leaf, IsBlockOf, IsFoundBlock, IsKeepable, IsPageWord, IsPlace, Item, Leaf, leaf_of, level_of, List, map, nat_le, nat_lt, nat_tests, newest-In, newest-map, None, Option, Order, order_at, pages-some, pages_of, Perm, perm_at, perm_code, purged, purged-In, purged-map, refl, same-tests, same_order, small_leaf, Some, subst, suc, sym, tag_of, touched, touched-In, touched-map, true, with_newest, zero, ℕ}
 use Rattle.xl_model.proofs.CodeLemmas.{at-level, frame-back, perm-back}
-use Rattle.xl_model_lemmas.specs.Members.{In}
-use Rattle.xl_model_lemmas.proofs.MemberLemmas.{find-In, find-passes}
-use Rattle.xl_model_lemmas.proofs.RecencyLemmas.{find-none, find-some, newest-In, newest-map, purged-In, purged-map, touched-In, touched-map}
-use Rattle.xl_nested_model.specs.Stages.{covers_guest, host_page, host_space}
-use Rattle.xl_recency.specs.declared.item.Item.{Item}
-use Rattle.xl_nested.specs.Coding.{block_leaf, has_tag, is_among, leaf_of, tag_of, AreSmall, IsKeepable, IsPageWord}
-use Rattle.xl_nested.specs.Commands.{IsPlace}
-use Rattle.xl_nested.specs.declared.block.Block.{Block}
-use Rattle.xl_nested.specs.Fronts.{IsBlockOf, IsFoundBlock}
-use Rattle.xl_model_lemmas.proofs.OrderLemmas.{pages-some}
-use Rattle.xl_model_lemmas.proofs.SameLemmas.{same-tests}
+use Rattle.xl_model.specs.declared.address.Order.TheVariants as order
 
 -- a block covers the guest pages of its number
 block-covers : (o : Order) (block g : ℕ) → (block == g / pages_of o)

@@ -1,21 +1,9 @@
 -- What a command comes to, by its parts.
-use Rattle.std.proofs.Common.{◌≡◌, refl, sym, ap, ◌∙◌, subst, ℕ, ◌/◌, ◌%◌, ◌^◌, ◌<◌, Bool, true, false, not, ◌||◌, Option, None, Some, Result, Ok, Err, arith}
-use Rattle.std.proofs.lemmas.Bool.Decides.{nat_tests}
+use Rattle.xl_nested.proofs.Common.{◌%◌, ◌/◌, ◌<◌, ◌^◌, ◌||◌, ◌∙◌, ◌≡◌, after_nest_event, ap, arith, Bool, Change, counts_settled, Err, false, gaddr_rule, gmap_rule, gmapped, Guest, guest_map, gunmap_rule, gunmapped, Host, host_map, host_page, host_space, is_aligned, is_beyond, is_canonical, IsPlace, IsServed, IsSettled, map_rule, meets_any, nat_tests, nest_outcome, nest_rule, nest_served, NestRefusal, NestState, None, not, Ok, Option, Order, outcome_settled, page-block, page_of, pair_rule, Perm, refl, refused_if, Remove, Result, room_rule, Some, Stage, stage_after, subst, sym, true, unmap_rule, va_rule, vmap_rule, vmapped, vunmap_rule, vunmapped, ℕ}
 use Rattle.xl_model.specs.declared.address.Mode.TheVariants as mode
-use Rattle.xl_model.specs.declared.address.Order.{Order}
 use Rattle.xl_model.specs.declared.address.Order.TheVariants as order
 use Rattle.xl_nested_model.specs.declared.nest.NestEvent.TheVariants as event
-use Rattle.xl_nested_model.specs.declared.nest.NestRefusal.{NestRefusal}
 use Rattle.xl_nested_model.specs.declared.nest.NestRefusal.TheVariants as refused
-use Rattle.xl_model.specs.declared.perm.Perm.{Perm}
-use Rattle.xl_model.specs.Addresses.{is_aligned, is_canonical, page_of}
-use Rattle.xl_model.specs.Changes.{Change, Remove}
-use Rattle.xl_model.specs.Mapping.{meets_any}
-use Rattle.xl_nested_model.specs.Rules.{refused_if, is_beyond, room_rule, map_rule, unmap_rule, stage_after, guest_map, host_map, gmap_rule, gunmap_rule, vmap_rule, vunmap_rule, gmapped, gunmapped, vmapped, vunmapped}
-use Rattle.xl_nested_model.specs.Nested.{NestState, after_nest_event, nest_outcome, nest_rule, nest_served}
-use Rattle.xl_nested_model.specs.Stages.{Stage, Guest, Host, host_page, host_space}
-use Rattle.xl_model_lemmas.proofs.PlaceLemmas.{page-block}
-use Rattle.xl_nested.specs.Commands.{IsPlace, IsServed, IsSettled, counts_settled, gaddr_rule, outcome_settled, pair_rule, va_rule}
 
 -- the first refusals, whatever comes next
 two-some : (a b : Bool) (x y r : NestRefusal) (next : Option NestRefusal) → refused_if a x (refused_if b y None) ≡ Some r → refused_if a x (refused_if b y next) ≡ Some r

@@ -1,16 +1,6 @@
 -- The first two leaves of the G cache, by their blocks.
-use Rattle.std.proofs.Common.{◌≡◌, refl, sym, ap, ◌∙◌, subst, ℕ, ◌^◌, ◌<◌, nat_lt, Bool, true, false, List, [], ◌∷◌, find, Option, None, Some, inl, inr, arith}
-use Rattle.std.specs.Prelude.{IfSome}
-use Rattle.std.proofs.lemmas.Bool.Decides.{nat_tests}
-use Rattle.xl_model.specs.declared.leaf.Leaf.{Leaf}
-use Rattle.xl_model.specs.Recency.{in_front, touched, without_first}
-use Rattle.xl_model_lemmas.proofs.MemberLemmas.{find-passes}
-use Rattle.xl_model_lemmas.proofs.RecencyLemmas.{touched-none}
-use Rattle.xl_nested_model.specs.Stages.{covers_guest, host_page}
-use Rattle.xl_nested.specs.declared.block.Block.{Block}
+use Rattle.xl_nested.proofs.Common.{◌<◌, ◌^◌, ◌∙◌, ◌∷◌, ◌≡◌, [], ap, arith, Block, Bool, covers_guest, exchanged, false, find, find-passes, has_page, host_page, IfSome, in_front, in_order, inl, inr, IsBlockOf, IsFirst, IsFound, IsFoundBlock, IsFronts, IsKept, IsPageWord, IsPushed, IsSecond, IsSmallBlock, IsTouched, Leaf, List, nat_lt, nat_tests, None, Option, refl, Some, subst, sym, touched, touched-none, true, without_first, word_at, ℕ}
 use Rattle.xl_nested.specs.declared.front_cache.Fronts.{Fronts}
-use Rattle.xl_nested.specs.Coding.{IsFound, IsPageWord}
-use Rattle.xl_nested.specs.Fronts.{exchanged, has_page, in_order, word_at, IsBlockOf, IsFirst, IsFoundBlock, IsFronts, IsKept, IsPushed, IsSecond, IsSmallBlock, IsTouched}
 
 -- a block that has a page has some
 some-page : (b : Block) (g : ℕ) → has_page b g ≡ true → 0 < b.pages

@@ -1,32 +1,9 @@
 -- What the guest keeps, and what its leaves are.
-use Rattle.std.proofs.Common.{◌≡◌, refl, sym, ap, ◌∙◌, subst, ℕ, zero, suc, ◌+◌, ◌-◌, ◌^◌, ◌<◌, ◌≤◌, true, List, ◌++◌, length, Option, None, Some, inl, inr, arith}
-use Rattle.std.specs.Prelude.{replicate}
-use Rattle.std.proofs.lemmas.List.{length-append, length-replicate}
-use Rattle.std.proofs.lemmas.Bool.Decides.{nat_tests}
-use Rattle.xl_model.specs.declared.address.Order.{Order}
-use Rattle.xl_model.specs.declared.leaf.Leaf.{Leaf}
-use Rattle.xl_model.specs.declared.perm.Perm.{Perm}
-use Rattle.xl_model.specs.Addresses.{pages_of}
-use Rattle.xl_model.specs.Changes.{Change, Remove}
-use Rattle.xl_model.specs.Mapping.{covers, leaf_at_page}
-use Rattle.xl_nested_model.specs.Rules.{stage_after, guest_map}
-use Rattle.xl_model.specs.Nodes.{Node, up, roots, opening_nodes}
-use Rattle.xl_nested_model.specs.Stages.{Stage, nodes_in, opening_stage, with_loads}
-use Rattle.xl_model.specs.Structures.{IsBlock, IsLeafFor, IsPage}
-use Rattle.xl_model_lemmas.specs.Members.{In}
-use Rattle.xl_model_lemmas.proofs.ChangeLemmas.{changed-In}
-use Rattle.xl_model_lemmas.proofs.MemberLemmas.{find-In, find-passes}
-use Rattle.xl_model_lemmas.proofs.OrderLemmas.{pages-some}
-use Rattle.xl_model.specs.LeafWords.{small_leaf}
-use Rattle.xl_nested.specs.Commands.{IsPlace}
-use Rattle.xl_nested.specs.Kept.{IsGuest, IsStage}
-use Rattle.xl_nested.specs.declared.stage.Entry.{Entry}
-use Rattle.xl_nested.specs.declared.stage.Entry.TheVariants as entry
-use Rattle.xl_nested.specs.Walks.{IsAt, IsEntry, IsFor, IsReached, LeavesReach}
-use Rattle.xl_radix.proofs.NumberLemmas.{number-some}
+use Rattle.xl_nested.proofs.Common.{◌++◌, ◌+◌, ◌-◌, ◌<◌, ◌^◌, ◌∙◌, ◌≡◌, ◌≤◌, arith, Change, changed-In, covers, Entry, find-In, find-passes, guest_map, In, inl, inr, IsAt, IsBlock, IsEntry, IsFor, IsGuest, IsLeafFor, IsPage, IsPlace, IsReached, IsStage, Leaf, leaf_at_page, LeavesReach, length, length-append, length-replicate, List, nat_tests, Node, nodes_in, None, number-some, opening_nodes, opening_stage, Option, Order, pages-some, pages_of, Perm, refl, Remove, replicate, roots, small_leaf, Some, Stage, stage_after, subst, suc, sym, true, up, with_loads, ℕ}
+use Rattle.xl_radix.proofs.OpeningLemmas.{length-roots}
 use Rattle.xl_nested.proofs.ApartLemmas.{left-In}
 use Rattle.xl_nested.proofs.ShapeLemmas.{shape-like}
-use Rattle.xl_radix.proofs.OpeningLemmas.{length-roots}
+use Rattle.xl_nested.specs.declared.stage.Entry.TheVariants as entry
 
 pub opening-length : (spaces n : ℕ) → spaces ≤ n → length (opening_nodes 3 spaces n) ≡ n
 unfolding opening_nodes

@@ -1,19 +1,9 @@
 -- A list of leaves of one order is looked through for one tag.
-use Rattle.std.proofs.Common.{◌≡◌, refl, sym, ap, ◌∙◌, subst, ℕ, ◌%◌, Bool, true, false, List, [], ◌∷◌, find, Option, None, inl, inr, arith}
-use Rattle.std.proofs.lemmas.Bool.Decides.{nat_tests}
-use Rattle.xl_model.specs.declared.address.Order.{Order}
-use Rattle.xl_model.specs.declared.address.Order.TheVariants as order
-use Rattle.xl_model.specs.Addresses.{level_of}
-use Rattle.xl_model.specs.Caches.{Cached, empty_cache}
-use Rattle.xl_model.specs.Recency.{in_front, purged, touched, with_newest, without_first}
-use Rattle.xl_model_lemmas.specs.Members.{In}
-use Rattle.xl_model_lemmas.proofs.RecencyLemmas.{newest-In, purged-In, touched-In}
-use Rattle.xl_recency.specs.declared.item.Item.{Item}
+use Rattle.xl_nested.proofs.Common.{◌%◌, ◌∙◌, ◌∷◌, ◌≡◌, [], ap, arith, Bool, Cached, empty_cache, find, has_tag, In, in_front, inl, inr, is_among, IsHeld, Item, level_of, List, nat_tests, newest-In, None, Option, Order, purged, purged-In, refl, same-tests, subst, sym, tag_of, touched, touched-In, with_newest, without_first, ℕ}
 use Rattle.xl_recency.specs.Lists.{Touches}
 use Rattle.xl_nested.specs.declared.g_cache.Held.{Held}
+use Rattle.xl_model.specs.declared.address.Order.TheVariants as order
 use Rattle.xl_nested.specs.declared.g_cache.Held.TheVariants as held
-use Rattle.xl_nested.specs.Coding.{has_tag, is_among, tag_of, IsHeld}
-use Rattle.xl_model_lemmas.proofs.SameLemmas.{same-tests}
 
 -- of the three tags of a guest page an item of an order can have that of its order alone
 only-among : (g : ℕ) (o : Order) (i : Item) → i.tag % 3 ≡ level_of o → has_tag (tag_of g o) i ≡ is_among (tag_of g order.K4) (tag_of g order.M2) (tag_of g order.G1) i

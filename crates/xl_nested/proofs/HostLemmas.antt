@@ -1,42 +1,16 @@
 -- What the host keeps, and what its G cache answers.
-use Rattle.std.proofs.Common.{◌≡◌, refl, sym, subst, ℕ, ◌+◌, ◌*◌, ◌/◌, ◌^◌, ◌<◌, ◌≤◌, Bool, true, false, List, [], length, Option, None, Some, inl, inr, arith}
-use Rattle.std.specs.Prelude.{find, replicate}
-use Rattle.std.proofs.lemmas.List.{get_or-replicate, length-replicate}
-use Rattle.xl_model.specs.declared.address.Order.{Order}
-use Rattle.xl_model.specs.declared.address.Order.TheVariants as order
-use Rattle.xl_model.specs.declared.leaf.Leaf.{Leaf}
-use Rattle.xl_model.specs.declared.perm.Perm.{Perm}
-use Rattle.xl_model.specs.Addresses.{pages_of}
-use Rattle.xl_model.specs.Caches.{Cached, empty_cache, without_items}
-use Rattle.xl_model.specs.LeafWords.{small_leaf}
-use Rattle.xl_model.specs.Changes.{Insert, Remove, changed}
-use Rattle.xl_model.specs.Mapping.{is_leaf, leaf_at_page, leaf_named, meets_any}
-use Rattle.xl_nested_model.specs.declared.nest.NestRefusal.{NestRefusal}
-use Rattle.xl_nested_model.specs.declared.nest.NestRefusal.TheVariants as refused
-use Rattle.xl_nested_model.specs.Rules.{stage_after, host_map, map_rule, room_rule, unmap_rule, gmapped, gunmapped}
-use Rattle.xl_model.specs.Recency.{purged, touched, with_newest}
-use Rattle.xl_nested_model.specs.Stages.{Stage, covers_guest, host_leaf, host_page, host_space, opening_host, opening_stage, with_loads}
-use Rattle.xl_model.specs.Structures.{IsLeafFor}
+use Rattle.xl_nested.proofs.Common.{◌*◌, ◌+◌, ◌/◌, ◌<◌, ◌^◌, ◌≡◌, ◌≤◌, [], arith, Bool, Cached, changed, covers_guest, empty_cache, false, find, find-In, find-passes, get_or-replicate, gmapped, gunmapped, host_leaf, host_map, host_of, host_page, host_row, host_space, In, inl, inr, Insert, is_leaf, IsFor, IsFound, IsHost, IsKeepable, IsLeafFor, IsPlace, kept-inserted, kept-removed, Leaf, leaf_at_page, leaf_named, length, length-replicate, List, map_rule, meets_any, named-In, named-is, named-order, NestRefusal, newest-In, None, opening_host, opening_stage, Option, Order, pages-some, pages_of, Perm, purged, purged-In, refl, Remove, replicate, room_rule, small_leaf, Some, Stage, stage_after, stays-changed, subst, sym, touched, touched-In, true, unmap_rule, with_loads, with_newest, without_items, ℕ}
+use Rattle.xl_frames.specs.Pool.{HasNone, IsLowest, marked}
+use Rattle.xl_model_lemmas.proofs.CoverLemmas.{covered-is}
+use Rattle.xl_model_lemmas.proofs.PoolChangeLemmas.{pool-given, pool-removed, pool-taken}
+use Rattle.xl_model_lemmas.proofs.PoolLemmas.{free-of, lowest-none, lowest-some}
 use Rattle.xl_model_lemmas.specs.Lowest.{IsFree as IsFreeOf}
 use Rattle.xl_model_lemmas.specs.Mappings.{IsLeafOf, IsMapping, IsNewLeaf}
-use Rattle.xl_model_lemmas.specs.Members.{In}
 use Rattle.xl_model_lemmas.specs.Pools.{IsPoolOf}
-use Rattle.xl_model_lemmas.proofs.ChangeLemmas.{stays-changed}
-use Rattle.xl_model_lemmas.proofs.CoverLemmas.{covered-is}
-use Rattle.xl_model_lemmas.proofs.MappingLemmas.{kept-inserted, kept-removed, named-In, named-is}
-use Rattle.xl_model_lemmas.proofs.MemberLemmas.{find-In, find-passes}
-use Rattle.xl_model_lemmas.proofs.OrderLemmas.{pages-some}
-use Rattle.xl_model_lemmas.proofs.PlaceLemmas.{named-order}
-use Rattle.xl_model_lemmas.proofs.PoolChangeLemmas.{pool-taken, pool-given, pool-removed}
-use Rattle.xl_model_lemmas.proofs.PoolLemmas.{free-of, lowest-some, lowest-none}
-use Rattle.xl_model_lemmas.proofs.RecencyLemmas.{newest-In, purged-In, touched-In}
-use Rattle.xl_frames.specs.Pool.{HasNone, IsLowest, marked}
-use Rattle.xl_nested.specs.Coding.{IsFound, IsKeepable}
-use Rattle.xl_nested.specs.Commands.{IsPlace}
-use Rattle.xl_nested.specs.Kept.{IsHost, host_of, host_row}
-use Rattle.xl_nested.specs.Walks.{IsFor}
 use Rattle.xl_nested.proofs.CacheLemmas.{leaf-found, purged-as}
-use Rattle.xl_nested.proofs.GuestLemmas.{block-of, covers-for, found-In, found-covers, opening-stage, stage-stays}
+use Rattle.xl_nested.proofs.GuestLemmas.{block-of, covers-for, found-covers, found-In, opening-stage, stage-stays}
+use Rattle.xl_model.specs.declared.address.Order.TheVariants as order
+use Rattle.xl_nested_model.specs.declared.nest.NestRefusal.TheVariants as refused
 
 -- a host in which nothing is mapped
 no-leaves : (frames : ℕ) → IsMapping (host_row frames) []

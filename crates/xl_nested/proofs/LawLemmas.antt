@@ -1,25 +1,14 @@
 -- The laws of a reply.
-use Rattle.std.proofs.Common.{◌≡◌, refl, sym, ap, ◌∙◌, subst, ℕ, ◌+◌, ◌-◌, ◌<◌, ◌≤◌, Bool, true, false, List, [], ◌∷◌, Option, None, Some, if◌then◌else◌, arith}
-use Rattle.std.specs.List.{list_all}
-use Rattle.std.proofs.lemmas.Bool.Decides.{nat_tests}
-use Rattle.xl_model.specs.declared.address.Kind.{Kind}
+use Rattle.xl_nested.proofs.Common.{if◌then◌else◌, ◌+◌, ◌-◌, ◌<◌, ◌∙◌, ◌∷◌, ◌≡◌, ◌≤◌, [], allows, along, ap, arith, Bool, covers, false, flat, frame_of, Guest, guest_path, guest_reply, host_leaf, host_page, host_reply, host_space, is_canonical, is_loadable, Kind, Leaf, leaf_at_page, List, list_all, loaded_where, nat_tests, nest_accessed, nest_outcome, nest_rule, nested, NestEvent, NestReply, NestState, None, Option, page_of, pages_of, refl, reply_by, reply_if_canonical, reply_if_loadable, reply_where, Shape, Some, stage2, subst, sym, translated, true, walked_if, with_last, ℕ}
+use Rattle.xl_model.specs.declared.leaf.Reply.{Reply}
+use Rattle.xl_nested.proofs.GuestLemmas.{found-covers, found-In}
+use Rattle.xl_nested.proofs.WalkLemmas.{translated-leaves}
+use Rattle.xl_nested.specs.Laws.{composed, EventLaws, HaveSameTables, IsFrameOf, IsPlaced, ReplyLaws}
 use Rattle.xl_model.specs.declared.address.Kind.TheVariants as kinds
 use Rattle.xl_model.specs.declared.address.Mode.TheVariants as mode
-use Rattle.xl_model.specs.declared.leaf.Leaf.{Leaf}
-use Rattle.xl_model.specs.declared.leaf.Reply.{Reply}
 use Rattle.xl_model.specs.declared.leaf.Reply.TheVariants as replies
-use Rattle.xl_model.specs.Addresses.{allows, is_canonical, page_of, pages_of}
-use Rattle.xl_model.specs.Mapping.{covers, flat, leaf_at_page, reply_by, reply_where}
-use Rattle.xl_model.specs.Shapes.{Shape}
-use Rattle.xl_nested_model.specs.declared.nest.NestEvent.{NestEvent}
 use Rattle.xl_nested_model.specs.declared.nest.NestEvent.TheVariants as event
 use Rattle.xl_nested_model.specs.declared.nest.NestOutcome.TheVariants as outcome
-use Rattle.xl_nested_model.specs.declared.nest.NestReply.{NestReply}
-use Rattle.xl_nested_model.specs.Nested.{NestState, along, loaded_where, nest_accessed, nest_outcome, nest_rule, walked_if, with_last}
-use Rattle.xl_nested_model.specs.Stages.{Guest, frame_of, guest_path, guest_reply, host_leaf, host_page, host_reply, host_space, is_loadable, nested, reply_if_canonical, reply_if_loadable, stage2, translated}
-use Rattle.xl_nested.specs.Laws.{composed, EventLaws, HaveSameTables, IsFrameOf, IsPlaced, ReplyLaws}
-use Rattle.xl_nested.proofs.GuestLemmas.{found-In, found-covers}
-use Rattle.xl_nested.proofs.WalkLemmas.{translated-leaves}
 
 -- the composition
 composed-by : (b : Bool) (answer : Reply) (host : List Leaf) (kind : Kind) → reply_if_canonical b (guest_reply (frame_of (reply_where b answer)) host kind) ≡ guest_reply (frame_of (reply_where b answer)) host kind

@@ -1,3 +1,4 @@
+mod Common
 mod ApartLemmas
 mod EntryLemmas
 mod ShapeLemmas

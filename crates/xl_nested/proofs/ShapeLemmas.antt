@@ -1,13 +1,5 @@
 -- What a change of a table leaves of its limits and of how many node numbers it has.
-use Rattle.std.proofs.Common.{◌≡◌, refl, ap, ◌∙◌, ℕ, zero, suc, ◌+◌, ◌-◌, List, [], ◌∷◌, length, Option, None, Some}
-use Rattle.std.proofs.lemmas.List.{length-map}
-use Rattle.xl_model.specs.declared.leaf.Leaf.{Leaf}
-use Rattle.xl_model.specs.Addresses.{level_of}
-use Rattle.xl_model.specs.Changes.{Change, changed}
-use Rattle.xl_model.specs.Nodes.{Node, up, number_of, put_first, unless_there, with_node, with_path, with_leaf_nodes, only_needed, kept_node}
-use Rattle.xl_model.specs.Shapes.{Shape, Radix, Chained, Cuckoo, Runs, brought, widened, narrowed, shape_after}
-use Rattle.xl_nested_model.specs.Stages.{nodes_in}
-use Rattle.xl_model.specs.Structures.{spaces_of, page_limit}
+use Rattle.xl_nested.proofs.Common.{◌+◌, ◌-◌, ◌∙◌, ◌∷◌, ◌≡◌, [], ap, brought, Chained, Change, changed, Cuckoo, kept_node, Leaf, length, length-map, level_of, List, narrowed, Node, nodes_in, None, number_of, only_needed, Option, page_limit, put_first, Radix, refl, Runs, Shape, shape_after, Some, spaces_of, suc, unless_there, up, widened, with_leaf_nodes, with_node, with_path, zero, ℕ}
 
 put-length : (x : Node) (nodes : List (Option Node)) → length (put_first x nodes) ≡ length nodes
 put-length x [] = refl

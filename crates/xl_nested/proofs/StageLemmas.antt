@@ -1,21 +1,7 @@
 -- A stage by its table.
-use Rattle.std.proofs.Common.{◌≡◌, refl, sym, ap, ◌∙◌, subst, ℕ, zero, suc, ◌≤◌, false, List, Some, Result, Ok, Err, arith}
-use Rattle.std.specs.Prelude.{OnOk, OnErr, is_ok}
-use Rattle.xl_nested_model.specs.declared.nest.NestRefusal.{NestRefusal}
+use Rattle.xl_nested.proofs.Common.{◌∙◌, ◌≡◌, ◌≤◌, ap, AreApart, arith, changed, Err, false, Insert, is_ok, IsAsAdded, IsPage, IsServed, Leaf, List, meets_any, NestRefusal, number_of, Ok, OnErr, OnOk, refl, Result, room_rule, Shape, shape_after, Some, Stage, stage_after, stage_of, subst, sym, Table, up, with_leaf, WordsReadBack, ℕ}
 use Rattle.xl_model.specs.Room.{has_room}
-use Rattle.xl_model.specs.declared.leaf.Leaf.{Leaf}
-use Rattle.xl_model.specs.Changes.{Insert, changed}
-use Rattle.xl_model.specs.Mapping.{meets_any, with_leaf}
-use Rattle.xl_nested_model.specs.Rules.{room_rule, stage_after}
-use Rattle.xl_model.specs.Nodes.{up, number_of}
-use Rattle.xl_model.specs.Structures.{IsPage}
-use Rattle.xl_model.specs.Shapes.{Shape, shape_after}
-use Rattle.xl_nested_model.specs.Stages.{Stage}
 use Rattle.xl_radix.specs.Steps.{shape_of}
-use Rattle.xl_radix.specs.Table.{Table}
-use Rattle.xl_radix.specs.Walk.{WordsReadBack}
-use Rattle.xl_nested.specs.Commands.{IsAsAdded, IsServed}
-use Rattle.xl_nested.specs.Kept.{AreApart, stage_of}
 use Rattle.xl_nested.proofs.ApartLemmas.{apart-added}
 
 abbrev made : List Leaf → Shape → ℕ → Stage

@@ -1,28 +1,14 @@
 -- A walk through both stages, step by step.
-use Rattle.std.proofs.Common.{◌≡◌, refl, sym, ap, ◌∙◌, subst, ℕ, suc, ◌+◌, ◌-◌, ◌^◌, ◌<◌, ◌≤◌, Bool, true, false, List, ◌∷◌, Option, None, Some, if◌then◌else◌, arith}
-use Rattle.std.specs.List.{list_all}
-use Rattle.std.specs.Prelude.{find}
-use Rattle.xl_model.specs.declared.address.Mode.TheVariants as mode
-use Rattle.xl_model.specs.Addresses.{is_canonical, page_of}
-use Rattle.xl_model.specs.declared.address.Kind.{Kind}
-use Rattle.xl_model.specs.declared.address.Kind.TheVariants as kinds
-use Rattle.xl_model.specs.declared.leaf.Leaf.{Leaf}
+use Rattle.xl_nested.proofs.Common.{if◌then◌else◌, ◌+◌, ◌-◌, ◌<◌, ◌^◌, ◌∙◌, ◌∷◌, ◌≡◌, ◌≤◌, after_nest_event, along, ap, arith, Bool, covers_guest, false, find, flat, frame_of, frame_said, Guest, guest_frame, guest_path, guest_reply, Host, in_nodes, is_canonical, is_loadable, IsAt, IsEntry, Kind, last_level, Leaf, leaf_at_page, List, list_all, nest_accessed, nest_outcome, nest_rule, nest_served, nested, NestEvent, NestReply, NestState, nodes_in, None, number_of, Option, page_of, path_down, path_from, refl, reply_by, reply_from, reply_if_canonical, reply_if_loadable, small_leaf, Some, Stage, stage2, subst, suc, sym, translated, translated_by, true, up, walked_from, walked_if, with_last, with_loads, ℕ}
+use Rattle.xl_nested_model.specs.Tally.{count_nest_reply}
 use Rattle.xl_nested_model.specs.declared.nest.NestCounts.{NestCounts}
-use Rattle.xl_nested_model.specs.declared.nest.NestEvent.{NestEvent}
+use Rattle.xl_nested.proofs.CacheLemmas.{small-frame}
+use Rattle.xl_model.specs.declared.address.Kind.TheVariants as kinds
+use Rattle.xl_model.specs.declared.address.Mode.TheVariants as mode
 use Rattle.xl_nested_model.specs.declared.nest.NestEvent.TheVariants as event
 use Rattle.xl_nested_model.specs.declared.nest.NestOutcome.TheVariants as outcome
-use Rattle.xl_nested_model.specs.declared.nest.NestReply.{NestReply}
 use Rattle.xl_nested_model.specs.declared.nest.NestReply.TheVariants as nest
-use Rattle.xl_model.specs.Mapping.{flat, leaf_at_page, reply_by}
-use Rattle.xl_nested_model.specs.Nested.{NestState, after_nest_event, along, nest_accessed, nest_outcome, nest_rule, nest_served, walked_if, with_last}
-use Rattle.xl_nested_model.specs.Tally.{count_nest_reply}
-use Rattle.xl_model.specs.Nodes.{in_nodes, up, number_of}
-use Rattle.xl_nested_model.specs.Stages.{Stage, Guest, frame_of, guest_reply, is_loadable, nodes_in, path_from, reply_if_canonical, reply_if_loadable, stage2, translated, translated_by, covers_guest, guest_path, nested, Host, with_loads}
 use Rattle.xl_nested.specs.declared.stage.Entry.TheVariants as entry
-use Rattle.xl_nested.proofs.CacheLemmas.{small-frame}
-use Rattle.xl_nested.specs.Coding.{frame_said}
-use Rattle.xl_model.specs.LeafWords.{small_leaf}
-use Rattle.xl_nested.specs.Walks.{IsAt, IsEntry, guest_frame, last_level, path_down, reply_from, walked_from}
 
 -- the guest's node is translated and loaded
 abbrev pub stepped : ℕ → NestState → NestState

@@ -1,27 +1,25 @@
 -- What the commands of a script keep: all that they name lies in 64 bits, and a map at the host is for users.
-use Rattle.std.proofs.Common.{◌≡◌, ℕ, ◌+◌, ◌^◌, ◌≤◌, Bool, true, false, nat_le, nat_lt, List, [], ◌∷◌, length, Option, None, Some, is_some, Ok, Err, refl, subst, ◌&&◌}
-use Rattle.std.specs.Prelude.{All, Result, if◌then◌else◌}
+use Rattle.std.proofs.Common.{◌&&◌, ◌+◌, ◌^◌, ◌∷◌, ◌≡◌, ◌≤◌, [], Bool, Err, false, is_some, length, List, nat_le, nat_lt, None, Ok, Option, refl, Some, subst, true, ℕ}
+use Rattle.std.proofs.lemmas.List.Elements.{All-cons, All-nil}
 use Rattle.std.specs.List.{list_all}
-use Rattle.std.proofs.lemmas.Bool.{leb-true}
-use Rattle.std.proofs.lemmas.List.Elements.{All-nil, All-cons}
+use Rattle.std.specs.Prelude.{if◌then◌else◌, All, Result}
 use Rattle.xl_model.specs.declared.perm.Perm.{Perm}
 use Rattle.xl_nested_model.specs.declared.nest.Nest.{Nest}
-use Rattle.xl_script.specs.declared.fault.ScriptFault.TheVariants as fault
-use Rattle.xl_script.specs.Placing.{AreInMemory}
-use Rattle.xl_script.specs.Texts.{script_lines, words_of}
-use Rattle.xl_script.specs.Scripts.{Said, Reading, after, and_then, lines_read, text_read}
-use Rattle.xl_nested_script.specs.declared.command.Line.{Line}
-use Rattle.xl_nested_script.specs.declared.command.Line.TheVariants as line
-use Rattle.xl_nested_script.specs.declared.command.NestCommand.{NestCommand}
-use Rattle.xl_nested_script.specs.declared.command.NestCommand.TheVariants as command
-use Rattle.xl_nested_script.specs.declared.lines.Name.{Name}
-use Rattle.xl_nested_script.specs.declared.lines.Name.TheVariants as name
-use Rattle.xl_nested_script.specs.declared.reason.Reason.{Reason}
-use Rattle.xl_nested_script.specs.declared.reason.Reason.TheVariants as reason
-use Rattle.xl_nested_script.specs.Words.{◌>>=◌, address_in, count_in, last_count, number, order_in, perm_in, user_perm, user_perm_in}
-use Rattle.xl_nested_script.specs.Lines.{ends_of, gmap_line, gmap_words, gunmap_line, gunmap_words, head_line, in_turn, line_named, line_of, name_of, own_line, placed, run_line, vmap_line, vmap_words, vunmap_line, vunmap_words}
-use Rattle.xl_nested_script.specs.Scripts.{nest_said, said_by, HasUsers, IsReady}
 use Rattle.xl_script.proofs.ScriptLemmas.{in_memory}
+use Rattle.xl_script.specs.Scripts.{after, and_then, lines_read, Reading, Said, text_read}
+use Rattle.xl_script.specs.Texts.{script_lines, words_of}
+use Rattle.xl_nested_script.specs.Lines.{ends_of, gmap_line, gmap_words, gunmap_line, gunmap_words, head_line, in_turn, line_named, line_of, name_of, own_line, placed, run_line, vmap_line, vmap_words, vunmap_line, vunmap_words}
+use Rattle.xl_nested_script.specs.Scripts.{HasUsers, IsReady, nest_said, said_by}
+use Rattle.xl_nested_script.specs.Words.{◌>>=◌, address_in, count_in, last_count, number, order_in, perm_in, user_perm, user_perm_in}
+use Rattle.xl_nested_script.specs.declared.command.Line.{Line}
+use Rattle.xl_nested_script.specs.declared.command.NestCommand.{NestCommand}
+use Rattle.xl_nested_script.specs.declared.lines.Name.{Name}
+use Rattle.xl_nested_script.specs.declared.reason.Reason.{Reason}
+use Rattle.xl_script.specs.declared.fault.ScriptFault.TheVariants as fault
+use Rattle.xl_nested_script.specs.declared.command.Line.TheVariants as line
+use Rattle.xl_nested_script.specs.declared.command.NestCommand.TheVariants as command
+use Rattle.xl_nested_script.specs.declared.lines.Name.TheVariants as name
+use Rattle.xl_nested_script.specs.declared.reason.Reason.TheVariants as reason
 
 -- a reading after another keeps what each answer of the second does
 bind : {A B : Type 0} (P : Result B Reason → Type 0) → ((e : Reason) → P (Err e)) → (r : Result A Reason) (f : A → Result B Reason) → ((a : A) → r ≡ Ok a → P (f a)) → P (r >>= f)

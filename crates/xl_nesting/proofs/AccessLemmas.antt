@@ -1,8 +1,8 @@
 -- What an access leaves.
-use Rattle.std.proofs.Common.{◌≡◌, refl, ℕ}
+use Rattle.xl_nesting.proofs.Common.{◌≡◌, refl, ℕ}
 use Rattle.xl_model.specs.declared.address.Kind.{Kind}
+use Rattle.xl_nested_model.specs.Nested.{after_nest_event, nest_accessed, nest_rule, nest_served, NestState}
 use Rattle.xl_nested_model.specs.declared.nest.NestEvent.TheVariants as event
-use Rattle.xl_nested_model.specs.Nested.{NestState, after_nest_event, nest_accessed, nest_rule, nest_served}
 
 -- no rule refuses an access
 pub after_access : (va : ℕ) (kind : Kind) (s : NestState) → nest_accessed va kind s ≡ after_nest_event (event.Access va kind) s

@@ -1,15 +1,9 @@
 -- The steps of a script.
-use Rattle.std.proofs.Common.{◌≡◌, refl, ℕ, List, [], ◌∷◌, map}
-use Rattle.std.specs.Prelude.{All}
-use Rattle.std.proofs.lemmas.List.Elements.{All-nil, All-cons, All-head, All-tail}
-use Rattle.xl_nested_script.specs.declared.command.NestCommand.{NestCommand}
-use Rattle.xl_nested_script.specs.declared.command.NestCommand.TheVariants as command
-use Rattle.xl_nested_script.specs.Lines.{IsPlaced}
-use Rattle.xl_nested_script.specs.Scripts.{IsReady}
-use Rattle.xl_course.specs.declared.form.Step.TheVariants as steps
-use Rattle.xl_course.specs.Courses.{commands_of}
+use Rattle.xl_nesting.proofs.Common.{◌∷◌, ◌≡◌, [], All, All-cons, All-head, All-nil, All-tail, commands_of, events_of, IsPlaced, IsReady, List, map, refl, step_of, ℕ}
 use Rattle.xl_nested_model.specs.declared.nest.NestEvent.{NestEvent}
-use Rattle.xl_nesting.specs.Nesting.{events_of, step_of}
+use Rattle.xl_nested_script.specs.declared.command.NestCommand.{NestCommand}
+use Rattle.xl_course.specs.declared.form.Step.TheVariants as steps
+use Rattle.xl_nested_script.specs.declared.command.NestCommand.TheVariants as command
 
 pub own-step : (c : NestCommand) → ((n : ℕ) → c ≡ command.Run n → ⊥) → (c ≡ command.RunRest → ⊥) → step_of c ≡ steps.Own c
 own-step (command.Events first n) r s = refl

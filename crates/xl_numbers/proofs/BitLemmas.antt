@@ -1,9 +1,5 @@
 -- One bit of words.
-use Rattle.std.proofs.Common.{◌≡◌, ap, ◌∙◌, ℕ, zero, suc, ◌+◌, ◌*◌, ◌/◌, ◌%◌, ◌^◌, ◌<◌, List, [], ◌∷◌, length, slice_index, slice_set, w64, inl, inr, arith, length-set, get_or-set_same, get_or-set_other}
-use Rattle.std.specs.Int.{bit_at, trailing_zeros}
-use Rattle.std.proofs.lemmas.Bool.{cases_eq}
-use Rattle.std.proofs.lemmas.Nat.Bits.{bit_at-zero, bit_at-trailing_zeros}
-use Rattle.xl_numbers.specs.Bits.{bit_of, IsFirstWord, IsFirstBit, IsPut}
+use Rattle.xl_numbers.proofs.Common.{◌%◌, ◌*◌, ◌+◌, ◌/◌, ◌<◌, ◌^◌, ◌∙◌, ◌∷◌, ◌≡◌, [], ap, arith, bit_at, bit_at-trailing_zeros, bit_at-zero, bit_of, cases_eq, get_or-set_other, get_or-set_same, inl, inr, IsFirstBit, IsFirstWord, IsPut, length, length-set, List, slice_index, slice_set, suc, trailing_zeros, w64, zero, ℕ}
 
 -- a word that comes in the place of another, with one bit put
 pub put-word : (words : List ℕ) (k w bit : ℕ) → k / 64 < length words → bit_at w (k % 64) ≡ bit

@@ -1,13 +1,5 @@
 -- Bits as flags.
-use Rattle.std.proofs.Common.{◌≡◌, refl, sym, ap, ◌∙◌, inl, inr, ◌*◌, ◌%◌, ◌^◌, ℕ, zero, suc, ◌+◌, ◌-◌, ◌<◌, ◌≤◌, Bool, true, false, List, ◌∷◌, ◌++◌, length, replicate, slice_index, slice_index_or, slice_set, ◌/◌, ◌==◌, nat_lt, arith}
-use Rattle.std.proofs.lemmas.Bool.Decides.{nat_tests}
-use Rattle.std.specs.Prelude.{IsTrue, ◌↔◌}
-use Rattle.std.specs.Int.{bit_at}
-use Rattle.std.proofs.lemmas.Bool.{cases_lt, eqb-true, false≢true}
-use Rattle.std.proofs.lemmas.List.{set-get_or, ext_get_or, length-append, length-replicate, get_or_append_left, get_or-append_right, get_or-replicate}
-use Rattle.std.proofs.lemmas.Nat.Bits.{bit_at_ones, bit_at-zero}
-use Rattle.xl_numbers.specs.Bits.{bit_of, flags, IsStack, IsSet, IsFirstBit, IsPut, AreWords, AreOnes, IsAlike}
-use Rattle.xl_numbers.specs.Free.{IsLowest, HasNone, AreFree, AreMarked}
+use Rattle.xl_numbers.proofs.Common.{◌%◌, ◌*◌, ◌++◌, ◌+◌, ◌-◌, ◌/◌, ◌<◌, ◌==◌, ◌^◌, ◌↔◌, ◌∙◌, ◌∷◌, ◌≡◌, ◌≤◌, ap, AreFree, AreMarked, AreOnes, AreWords, arith, bit_at, bit_at-zero, bit_at_ones, bit_of, Bool, cases_lt, eqb-true, ext_get_or, false, false≢true, flags, get_or-append_right, get_or-replicate, get_or_append_left, HasNone, inl, inr, IsAlike, IsFirstBit, IsLowest, IsPut, IsSet, IsStack, IsTrue, length, length-append, length-replicate, List, nat_lt, nat_tests, refl, replicate, set-get_or, slice_index, slice_index_or, slice_set, suc, sym, true, zero, ℕ}
 use Rattle.xl_numbers.proofs.BitLemmas.{bit-none}
 
 pub length-flags : (bit : ℕ → ℕ) (n : ℕ) → length (flags bit n) ≡ n

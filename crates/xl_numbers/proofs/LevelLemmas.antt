@@ -1,11 +1,6 @@
 -- Words that tell which words below them are 0.
-use Rattle.std.proofs.Common.{◌≡◌, refl, sym, ap, subst, ◌∙◌, ℕ, ◌+◌, ◌-◌, ◌*◌, ◌/◌, ◌%◌, ◌^◌, ◌<◌, w64, Bool, true, false, ◌==◌, List, length, slice_index, inl, inr, arith}
-use Rattle.std.proofs.lemmas.Bool.Decides.{nat_tests}
-use Rattle.std.proofs.lemmas.Bool.{cases_eq, cases_lt}
+use Rattle.xl_numbers.proofs.Common.{◌%◌, ◌*◌, ◌+◌, ◌-◌, ◌/◌, ◌<◌, ◌==◌, ◌^◌, ◌∙◌, ◌≡◌, ap, AreOnes, AreWords, arith, bit_at, bit_at-lt, bit_at-trailing_ones, bit_at-zero, bit_at_ones, bit_of, Bool, cases_eq, cases_lt, false, inl, inr, IsAbove, IsFirstBit, IsFirstWord, IsPut, IsStack, IsWord, length, List, nat_tests, refl, slice_index, subst, sym, trailing_ones, true, w64, ℕ}
 use Rattle.std.proofs.Math.Nat.{mul-add}
-use Rattle.std.specs.Int.{bit_at, trailing_ones}
-use Rattle.std.proofs.lemmas.Nat.Bits.{bit_at-lt, bit_at-zero, bit_at_ones, bit_at-trailing_ones}
-use Rattle.xl_numbers.specs.Bits.{bit_of, IsAbove, IsStack, IsFirstWord, IsFirstBit, IsPut, IsWord, AreWords, AreOnes}
 use Rattle.xl_numbers.proofs.BitLemmas.{bit-none, bit-some, word-within}
 
 pub bit-low : (words : List ℕ) (k : ℕ) → bit_of words k < 2

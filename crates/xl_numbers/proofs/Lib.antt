@@ -1,3 +1,4 @@
+mod Common
 mod BitLemmas
 mod LevelLemmas
 pub mod FlagLemmas

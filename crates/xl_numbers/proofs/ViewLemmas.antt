@@ -1,12 +1,8 @@
 -- A set whose words stand in vectors, and the flags that callers see of it.
-use Rattle.std.proofs.Common.{◌≡◌, sym, ap, ◌∙◌, subst, ℕ, ◌+◌, ◌*◌, ◌<◌, ◌≤◌, ◌==◌, Bool, true, false, List, length, slice_index_or, slice_set, Option, Some, None, arith}
-use Rattle.std.specs.Prelude.{IsTrue, ◌↔◌, IfSome, IfNone}
-use Rattle.std.specs.declared.vec.Vec.{Vec}
+use Rattle.xl_numbers.proofs.Common.{◌*◌, ◌+◌, ◌<◌, ◌==◌, ◌↔◌, ◌∙◌, ◌≡◌, ◌≤◌, ap, AreFree, AreMarked, AreOnes, AreWords, arith, bit_of, Bool, false, flags, HasNone, IfNone, IfSome, IsAlike, IsFirstBit, IsLowest, IsPut, IsSet, IsStack, IsTrue, length, List, None, Option, slice_index_or, slice_set, Some, subst, sym, true, with_items_is, ℕ}
 use Rattle.std.specs.Vec.{with_items}
-use Rattle.std.proofs.lemmas.List.{with_items_is}
-use Rattle.xl_numbers.specs.Bits.{bit_of, flags, IsStack, IsSet, IsFirstBit, IsPut, AreWords, AreOnes, IsAlike}
-use Rattle.xl_numbers.specs.Free.{IsLowest, HasNone, AreFree, AreMarked}
-use Rattle.xl_numbers.proofs.FlagLemmas.{length-flags, flag-at, flag-past, flag-within, flag-set, free-put, free-lowest, free-none, first-small, set-put, set-words, marked-words, low-ones}
+use Rattle.std.specs.declared.vec.Vec.{Vec}
+use Rattle.xl_numbers.proofs.FlagLemmas.{first-small, flag-at, flag-past, flag-set, flag-within, free-lowest, free-none, free-put, length-flags, low-ones, marked-words, set-put, set-words}
 
 -- ---- what a call's number or words are in the set
 

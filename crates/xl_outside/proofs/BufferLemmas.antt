@@ -1,9 +1,5 @@
 -- What a buffer holds, behind what the sink below it took.
-use Rattle.std.proofs.Common.{◌≡◌, ℕ, Bool, true, false, List, [], take, drop, sym, ap, ◌∙◌}
-use Rattle.std.specs.Prelude.{Option}
-use Rattle.std.proofs.lemmas.List.{take-append-drop}
-use Rattle.xl_outside.specs.Sinks.{FlushedWhere, with_more}
-use Rattle.xl_outside.specs.Fronts.{with_none, with_more-twice}
+use Rattle.xl_outside.proofs.Common.{◌∙◌, ◌≡◌, [], ap, Bool, drop, false, FlushedWhere, List, Option, sym, take, take-append-drop, true, with_more, with_more-twice, with_none, ℕ}
 
 -- the sink below took some first bytes, and the others are held
 pub moved_on : (taken after : Option (List ℕ)) (held : List ℕ) (n : ℕ) → after ≡ with_more taken (take n held)

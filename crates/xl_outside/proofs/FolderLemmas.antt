@@ -1,7 +1,5 @@
 -- Calls on a folder, one after another.
-use Rattle.std.proofs.Common.{◌≡◌, ℕ, refl, ◌∙◌, inl, inr, arith}
-use Rattle.xl_outside.specs.Outside.{Counted}
-use Rattle.xl_outside.specs.Folders.{FolderMeaning, FolderAfter, ReadFate, Fine, ReadFailed, FileMissing, FateCounts}
+use Rattle.xl_outside.proofs.Common.{◌∙◌, ◌≡◌, arith, Counted, FateCounts, FileMissing, Fine, FolderAfter, FolderMeaning, inl, inr, ReadFailed, ReadFate, refl, ℕ}
 
 -- no call
 pub folder_same : {D : Type 0} (folder : FolderMeaning D) (a : D) → FolderAfter folder a a Fine

@@ -1,10 +1,5 @@
 -- What was read so far of a file that is told.
-use Rattle.std.proofs.Common.{◌≡◌, ℕ, ◌≤◌, ◌+◌, List, [], ◌++◌, length, take, drop, arith, ◌∙◌, sym, ap, subst, length-append, length-take}
-use Rattle.std.specs.Prelude.{Option, None, Some, Ok}
-use Rattle.std.specs.Option.{IfSome}
-use Rattle.std.proofs.lemmas.List.{take-take}
-use Rattle.xl_outside.specs.Folders.{Files, file_of, Tells}
-use Rattle.std.proofs.Math.Seq.{take-add}
+use Rattle.xl_outside.proofs.Common.{◌++◌, ◌+◌, ◌∙◌, ◌≡◌, ◌≤◌, [], ap, arith, drop, file_of, Files, IfSome, length, length-append, length-take, List, None, Ok, Option, Some, subst, sym, take, take-add, take-take, Tells, ℕ}
 
 -- nothing of a file that isn't there, and the first bytes of one that is
 abbrev pub IsFrontOf : Option (List ℕ) → List ℕ → Type 0

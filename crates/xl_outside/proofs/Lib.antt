@@ -1,3 +1,4 @@
+mod Common
 mod BufferLemmas
 pub mod FolderLemmas
 mod FrontLemmas

@@ -1,11 +1,5 @@
 -- Texts that are written to a sink, in parts and one after another.
-use Rattle.std.proofs.Common.{◌≡◌, ℕ, ◌+◌, ◌-◌, ◌≤◌, Bool, true, false, List, [], ◌++◌, length, take, drop, refl, sym, ap, subst, ◌∙◌, inl, inr, arith, append_assoc, length-append, length-drop}
-use Rattle.std.specs.Prelude.{Option, None, Some}
-use Rattle.std.proofs.lemmas.List.{take-append-le, take-append-drop, take_all, take_rest, append_cancel_left}
-use Rattle.std.proofs.Math.Seq.{take-add, take-append-add, take-append_seam}
-use Rattle.xl_outside.specs.Outside.{Counted}
-use Rattle.xl_outside.specs.Sinks.{Outside, SinkMeaning, SinkAfter, FlushAfter, SentAfter, IsFlushed, GoesOn, IsMore, Wrote, WroteFront, WriteCounts, with_more}
-use Rattle.xl_outside.specs.Fronts.{with_none, with_more-twice, more_none, more_then}
+use Rattle.xl_outside.proofs.Common.{◌++◌, ◌+◌, ◌-◌, ◌∙◌, ◌≡◌, ◌≤◌, [], ap, append_assoc, append_cancel_left, arith, Bool, Counted, drop, false, FlushAfter, GoesOn, inl, inr, IsFlushed, IsMore, length, length-append, length-drop, List, more_none, more_then, None, Option, Outside, refl, SentAfter, SinkAfter, SinkMeaning, Some, subst, sym, take, take-add, take-append-add, take-append-drop, take-append-le, take-append_seam, take_all, take_rest, true, with_more, with_more-twice, with_none, WriteCounts, Wrote, WroteFront, ℕ}
 
 -- the first `a`, and `n` of the rest as a slice of it is written
 take-on : (bs : List ℕ) (a n : ℕ) → take a bs ++ take n (take (length bs - a) (drop a bs)) ≡ take (a + n) bs

@@ -1,9 +1,6 @@
 -- Open files and the files of a folder.
-use Rattle.std.proofs.Common.{◌≡◌, ℕ, List, true, false, refl, sym, ap, ◌∙◌}
-use Rattle.std.specs.Prelude.{Option, None, Some}
-use Rattle.std.specs.Option.{IfSome}
-use Rattle.xl_outside.specs.Folders.{Files, file_of}
-use Rattle.xl_outside.specs.Streams.{StreamState, IsFileOf, IsNamed}
+use Rattle.xl_outside.proofs.Common.{◌∙◌, ◌≡◌, ap, false, file_of, Files, IfSome, List, None, Option, refl, Some, sym, true, ℕ}
+use Rattle.xl_outside.specs.Streams.{IsFileOf, IsNamed, StreamState}
 
 -- a file that is open, and was opened by this name, is the file of this name
 pub named_file : (files : Option Files) (state : Option StreamState) (name : List ℕ)

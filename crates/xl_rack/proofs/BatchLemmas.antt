@@ -1,32 +1,12 @@
 -- Accesses that are served by one row after another.
-use Rattle.std.proofs.Common.{◌≡◌, refl, sym, ap, ◌∙◌, subst, ℕ, suc, arith, List, [], ◌∷◌, ◌++◌, Option, None, Some}
-use Rattle.std.specs.Prelude.{map, take, drop}
-use Rattle.std.specs.List.{All}
+use Rattle.xl_rack.proofs.Common.{◌++◌, ◌∙◌, ◌∷◌, ◌≡◌, [], Access, access_served, accessed_by, after_of, All, All-append, All-cons, All-drop, All-take, ap, Area, area_for, arith, Command, demand_served, demanded, drop, EachServed, Event, form_named, IsFramed, IsNamed, Kind, List, map, map-append, map-id, None, Option, refl, Reply, reply_to, row_served, rows_after, scene-append, scene_after, scene_of, scenes_after, Served, served_of, Slot, slot_form, Some, state_after, subst, suc, sym, take, take-append-drop, waiting_served, wanted, ℕ}
 use Rattle.std.proofs.Math.Path.{fun_ext}
-use Rattle.std.proofs.lemmas.List.{map-append, map-id, take-append-drop}
 use Rattle.std.proofs.lemmas.Simd.{map-map}
-use Rattle.std.proofs.lemmas.List.Elements.{All-append, All-cons, All-drop, All-take}
-use Rattle.xl_model.specs.declared.address.Kind.{Kind}
-use Rattle.xl_model.specs.declared.event.Event.TheVariants as event
-use Rattle.xl_model.specs.declared.leaf.Reply.{Reply}
-use Rattle.xl_model.specs.declared.leaf.Reply.TheVariants as reply
-use Rattle.xl_model.specs.declared.script.Area.{Area}
-use Rattle.xl_model.specs.declared.script.Item.TheVariants.{Command}
-use Rattle.xl_model.specs.RowRun.{reply_to}
-use Rattle.xl_model.specs.Items.{area_for, wanted, demanded, state_after}
-use Rattle.xl_model.specs.Scenes.{Served, rows_after, scene_after, scenes_after}
-use Rattle.xl_machine.specs.Served.{accessed_by, after_of, IsFramed}
-use Rattle.xl_lackey.specs.declared.skim.Access.{Access}
-use Rattle.xl_serving.specs.declared.batch.WaitingEvent.{WaitingEvent}
 use Rattle.xl_serving.specs.Batches.{item_of, items_waiting}
-use Rattle.xl_model_lemmas.proofs.SceneLemmas.{scene-append}
-use Rattle.xl_model.specs.declared.event.Event.{Event}
-use Rattle.xl_serving.specs.Serving.{scene_of}
-use Rattle.xl_rack.specs.declared.slot.Slot.{Slot}
-use Rattle.xl_rack.specs.Forms.{form_named}
-use Rattle.xl_rack.specs.Slots.{served_of, slot_form, EachServed, IsNamed}
-use Rattle.xl_rack.specs.Batches.{demand_served, access_served, row_served, waiting_served}
+use Rattle.xl_serving.specs.declared.batch.WaitingEvent.{WaitingEvent}
 use Rattle.xl_rack.proofs.DemandLemmas.{access-space, referenced-is}
+use Rattle.xl_model.specs.declared.event.Event.TheVariants as event
+use Rattle.xl_model.specs.declared.leaf.Reply.TheVariants as reply
 
 -- what an access wants, by its reply
 wanted-alone : (answer : Reply) (area : Option Area) → (answer ≡ reply.Unmapped → ⊥) → wanted answer area ≡ None

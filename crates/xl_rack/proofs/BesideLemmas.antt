@@ -1,8 +1,6 @@
 -- Curves of which none is left.
-use Rattle.std.proofs.Common.{◌≡◌, refl, List, [], ◌∷◌, length, arith}
-use Rattle.xl_model.specs.Scenes.{Served}
+use Rattle.xl_rack.proofs.Common.{◌∷◌, ◌≡◌, [], arith, each_curve, length, List, refl, Served}
 use Rattle.xl_curve_model.specs.Curves.{HitCurve}
-use Rattle.xl_rack.specs.Beside.{each_curve}
 
 pub no-curves : (f : Served → HitCurve → HitCurve) (rows : List Served) (curves : List HitCurve) → length curves ≡ 0 → curves ≡ each_curve f rows curves
 no-curves f [] curves h = refl

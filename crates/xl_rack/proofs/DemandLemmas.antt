@@ -1,34 +1,16 @@
 -- An access that a row is served, and the events of its demand.
-use Rattle.std.proofs.Common.{◌≡◌, ℕ, Bool, true, false, List, [], ◌++◌, Option, None, Some, refl, sym, ◌∙◌, ap}
-use Rattle.std.specs.Prelude.{slice_get, IfSome}
-use Rattle.xl_model.specs.declared.address.Kind.{Kind}
-use Rattle.xl_model.specs.declared.event.Event.{Event}
-use Rattle.xl_model.specs.declared.event.Event.TheVariants as event
-use Rattle.xl_model.specs.declared.event.Outcome.{Outcome}
-use Rattle.xl_model.specs.declared.event.Outcome.TheVariants as outcome
-use Rattle.xl_model.specs.declared.leaf.Reply.{Reply}
-use Rattle.xl_model.specs.declared.script.Area.{Area}
-use Rattle.xl_model.specs.declared.script.Item.{Item}
-use Rattle.xl_model.specs.declared.script.Item.TheVariants.{Command, Declared, Referenced}
-use Rattle.xl_model.specs.declared.row.Row.{Row as RowFields}
-use Rattle.xl_model.specs.Lines.{answer_line, command_line}
-use Rattle.xl_model.specs.Rows.{Row, row_of}
-use Rattle.xl_model.specs.RowRun.{RowState, walk_filled, walk_made, looked_by, looked_where, looked, accessed, served as done, after_event, outcome_of, reply_to}
-use Rattle.xl_model.specs.Addresses.{is_canonical, page_of}
+use Rattle.xl_rack.proofs.Common.{◌++◌, ◌∙◌, ◌≡◌, [], access_line, accessed, after_event, after_of, answer_line, ap, Area, area_for, area_wanted, at_place, Bool, Command, command_line, Declared, demand_lines, demanded, done, Event, event_line, false, IfSome, is_canonical, Item, item_lines, Kind, Leaf, List, looked, looked_by, looked_where, map_of, None, Option, outcome_of, page_of, Referenced, referenced, refl, Reply, reply_to, Row, row_of, RowState, second_line, Served, served_after, ServedAt, SinkAfter, SinkMeaning, slice_get, Some, state_after, sym, true, walk_filled, walk_made, wanted, ℕ}
 use Rattle.xl_model.specs.Mapping.{leaf_at_page}
 use Rattle.xl_model.specs.Rules.{rule}
 use Rattle.xl_model.specs.Tally.{count_look}
 use Rattle.xl_model.specs.Tlb.{Answer, answer_of}
-use Rattle.xl_model.specs.declared.leaf.Leaf.{Leaf}
-use Rattle.xl_model.specs.Items.{area_for, wanted, area_wanted, map_of, again_where, demanded, referenced, state_after}
-use Rattle.xl_model.specs.Scenes.{Served, served_after, access_line, event_line, second_line, demand_lines, item_lines}
-use Rattle.xl_machine.specs.Served.{after_of}
-use Rattle.xl_outside.specs.Sinks.{SinkMeaning, SinkAfter}
-use Rattle.xl_rack.specs.Demands.{demand_after, again_after}
-use Rattle.xl_rack.specs.Places.{at_place}
+use Rattle.xl_model.specs.declared.event.Outcome.{Outcome}
+use Rattle.xl_model.specs.declared.row.Row.{Row as RowFields}
 use Rattle.xl_rack.proofs.PlaceLemmas.{get-at_place, some-of}
-use Rattle.xl_rack.specs.Served.{ServedAt}
-use Rattle.xl_rack.proofs.ServedAtLemmas.{told-at, as-at, none-at, then-at, cut-at}
+use Rattle.xl_rack.proofs.ServedAtLemmas.{as-at, cut-at, none-at, then-at, told-at}
+use Rattle.xl_rack.specs.Demands.{again_after, demand_after}
+use Rattle.xl_model.specs.declared.event.Event.TheVariants as event
+use Rattle.xl_model.specs.declared.event.Outcome.TheVariants as outcome
 
 -- a row in another state
 abbrev with_state : Served → RowState → Served

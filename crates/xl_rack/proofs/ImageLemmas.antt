@@ -1,11 +1,5 @@
 -- The images of the rows, one after another.
-use Rattle.std.proofs.Common.{◌≡◌, refl, sym, ap, ◌∙◌, subst, ℕ, zero, suc, ◌+◌, Bool, true, false, List, [], ◌∷◌, ◌++◌, take, drop, Option, Some, arith, append_assoc}
-use Rattle.std.specs.Prelude.{slice_get}
-use Rattle.std.proofs.lemmas.List.{take-append-drop, append-nil}
-use Rattle.xl_model.specs.Report.{image_lines, images_lines}
-use Rattle.xl_model.specs.Scenes.{Served}
-use Rattle.xl_outside.specs.Sinks.{SinkMeaning, SinkAfter}
-use Rattle.xl_outside.proofs.SinkLemmas.{sink_then, sink_cut}
+use Rattle.xl_rack.proofs.Common.{◌++◌, ◌+◌, ◌∙◌, ◌∷◌, ◌≡◌, [], ap, append-nil, append_assoc, arith, Bool, drop, false, image_lines, images_lines, List, refl, Served, sink_cut, sink_then, SinkAfter, SinkMeaning, slice_get, Some, subst, suc, sym, take, take-append-drop, true, zero, ℕ}
 
 -- the image of one row
 abbrev pub image_of : Served → List ℕ

@@ -1,3 +1,4 @@
+mod Common
 mod BatchLemmas
 mod BesideLemmas
 mod DemandLemmas

@@ -1,8 +1,5 @@
 -- Lines that are written where they are asked for, one after another.
-use Rattle.std.proofs.Common.{◌≡◌, ℕ, Bool, true, false, List, [], ◌++◌, Option, refl, sym, subst}
-use Rattle.xl_outside.specs.Sinks.{SinkMeaning, SinkAfter}
-use Rattle.xl_outside.proofs.SinkLemmas.{sink_same, sink_then, sink_cut}
-use Rattle.xl_rack.specs.Lines.{line_where}
+use Rattle.xl_rack.proofs.Common.{◌++◌, ◌≡◌, [], Bool, false, line_where, List, refl, sink_cut, sink_same, sink_then, SinkAfter, SinkMeaning, subst, sym, true, ℕ}
 
 line-more : (answers : Bool) (xs ys : List ℕ) → line_where answers (xs ++ ys) ≡ line_where answers xs ++ line_where answers ys
 line-more true xs ys = refl

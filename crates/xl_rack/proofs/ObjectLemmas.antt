@@ -1,17 +1,8 @@
 -- The objects of the rows, one after another.
-use Rattle.std.proofs.Common.{◌≡◌, refl, sym, ap, ◌∙◌, ℕ, ◌+◌, ◌<◌, List, [], ◌∷◌, ◌++◌, length, map, take}
-use Rattle.std.specs.Prelude.{slice_get, IfSome}
-use Rattle.std.proofs.lemmas.List.{append-nil}
-use Rattle.serde_json.specs.Data.{Data}
-use Rattle.serde_json.specs.View.{view}
+use Rattle.xl_rack.proofs.Common.{◌++◌, ◌+◌, ◌<◌, ◌∙◌, ◌∷◌, ◌≡◌, [], ap, append-nil, Counts, Data, IfSome, length, List, map, pushed, refl, Row, row_object, row_objects, Served, slice_get, sym, take, view, ℕ}
 use Rattle.serde_json.specs.declared.value.Value.{Value}
-use Rattle.xl_model.specs.Rows.{Row}
-use Rattle.xl_model.specs.declared.row.Counts.{Counts}
-use Rattle.xl_model.specs.Scenes.{Served}
-use Rattle.xl_report.specs.Json.{row_object, row_objects}
-use Rattle.xl_report.proofs.JsonLemmas.{pushed}
 use Rattle.xl_rack.proofs.PlaceLemmas.{some-of}
-use Rattle.xl_rack.proofs.RowsLemmas.{the-row, take_next}
+use Rattle.xl_rack.proofs.RowsLemmas.{take_next, the-row}
 
 last-object : (rows : List Served) (v : Served) → row_objects (rows ++ v ∷ []) ≡ row_objects rows ++ row_object v.row.name v.state.counts ∷ []
 last-object [] v = refl

@@ -1,8 +1,5 @@
 -- One row of several, changed.
-use Rattle.std.proofs.Common.{◌≡◌, refl, ap, subst, ℕ, zero, suc, List, [], ◌∷◌, length, Option, None, Some, arith}
-use Rattle.std.specs.Prelude.{slice_get, IfSome}
-use Rattle.xl_model.specs.Scenes.{Served}
-use Rattle.xl_rack.specs.Places.{at_place}
+use Rattle.xl_rack.proofs.Common.{◌∷◌, ◌≡◌, [], ap, arith, at_place, IfSome, length, List, None, Option, refl, Served, slice_get, Some, subst, suc, zero, ℕ}
 
 pub length-at_place : (f : Served → Served) (i : ℕ) (rows : List Served) → length (at_place f i rows) ≡ length rows
 length-at_place f i [] = refl

@@ -1,24 +1,7 @@
 -- Row after row.
-use Rattle.std.proofs.Common.{◌≡◌, refl, sym, ap, ◌∙◌, subst, ℕ, zero, suc, ◌+◌, ◌<◌, ◌≤◌, Bool, true, false, List, [], ◌∷◌, ◌++◌, length, take, drop, Option, Some, arith, append_assoc}
-use Rattle.std.specs.Prelude.{slice_get, IfSome}
-use Rattle.std.proofs.lemmas.List.{take-append-drop, take_all, drop_all, append-nil}
-use Rattle.xl_model.specs.declared.script.Area.{Area}
-use Rattle.xl_model.specs.declared.script.Item.{Item}
-use Rattle.xl_model.specs.Items.{areas_after}
-use Rattle.xl_model.specs.declared.row.Counts.{Counts}
-use Rattle.xl_model.specs.Lines.{row_line}
-use Rattle.xl_model.specs.Report.{row_lines}
-use Rattle.xl_model.specs.Rows.{Row}
-use Rattle.xl_model.specs.Scenes.{Served, scene_after, served_after, rows_after, rows_lines, item_lines, told_by}
-use Rattle.xl_outside.specs.Sinks.{SinkMeaning, SinkAfter}
-use Rattle.xl_outside.proofs.SinkLemmas.{sink_then, sink_cut}
-use Rattle.xl_serving.specs.Serving.{HasServed, SceneAfter, scene_of}
-use Rattle.xl_rack.specs.Places.{at_place}
+use Rattle.xl_rack.proofs.Common.{◌++◌, ◌+◌, ◌<◌, ◌∙◌, ◌∷◌, ◌≡◌, ◌≤◌, [], ap, append-nil, append_assoc, Area, areas_after, arith, at_place, Bool, Counts, drop, drop_all, false, HasServed, IfSome, Item, item_lines, length, line_where, lines-append, List, refl, Row, row_line, row_lines, rows_after, rows_lines, scene_after, scene_of, SceneAfter, Served, served_after, ServedAt, sink_cut, sink_then, SinkAfter, SinkMeaning, slice_get, Some, subst, suc, sym, take, take-append-drop, take_all, told_by, true, zero, ℕ}
+use Rattle.xl_rack.proofs.LineLemmas.{lines-cut, lines-none, lines-then}
 use Rattle.xl_rack.proofs.PlaceLemmas.{some-of}
-use Rattle.xl_rack.specs.Lines.{line_where}
-use Rattle.xl_rack.specs.Served.{ServedAt}
-use Rattle.xl_rack.proofs.LineLemmas.{lines-then, lines-cut, lines-none}
-use Rattle.xl_model_lemmas.proofs.SceneLemmas.{lines-append}
 
 -- the first rows were served
 abbrev pub partly : Item → List Area → List Served → ℕ → List Served

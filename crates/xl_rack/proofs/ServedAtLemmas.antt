@@ -1,13 +1,7 @@
 -- A row at a place that is served one thing after another.
-use Rattle.std.proofs.Common.{◌≡◌, ℕ, ◌<◌, length, Bool, true, false, List, [], ◌++◌, Option, Some, sym, ◌∙◌, ap, subst}
-use Rattle.std.specs.Prelude.{slice_get}
-use Rattle.xl_model.specs.Scenes.{Served}
-use Rattle.xl_outside.specs.Sinks.{SinkMeaning, SinkAfter}
-use Rattle.xl_rack.specs.Places.{at_place}
-use Rattle.xl_rack.proofs.PlaceLemmas.{length-at_place, get-at_place, at_place-at_place, same-at_place, kept-at_place, if-some, some-of}
-use Rattle.xl_rack.specs.Lines.{line_where}
-use Rattle.xl_rack.specs.Served.{RowsAfter, ServedAt}
-use Rattle.xl_rack.proofs.LineLemmas.{lines-then, lines-cut, lines-none}
+use Rattle.xl_rack.proofs.Common.{◌++◌, ◌<◌, ◌∙◌, ◌≡◌, [], ap, at_place, Bool, false, length, line_where, List, RowsAfter, Served, ServedAt, SinkAfter, SinkMeaning, slice_get, Some, subst, sym, true, ℕ}
+use Rattle.xl_rack.proofs.LineLemmas.{lines-cut, lines-none, lines-then}
+use Rattle.xl_rack.proofs.PlaceLemmas.{at_place-at_place, get-at_place, if-some, kept-at_place, length-at_place, same-at_place, some-of}
 
 -- two functions of the row at a place agree
 abbrev Agree : {A : Type 0} → List Served → ℕ → (Served → A) → (Served → A) → Type 0

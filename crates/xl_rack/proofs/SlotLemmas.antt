@@ -1,13 +1,5 @@
 -- The rows of slots, where one slot is served.
-use Rattle.std.proofs.Common.{◌≡◌, sym, ap, ◌∙◌, ℕ, zero, suc, ◌<◌, List, [], ◌∷◌, length, map, Some, arith}
-use Rattle.std.specs.List.{All}
-use Rattle.std.specs.Prelude.{slice_index_or, slice_set}
-use Rattle.std.proofs.lemmas.List.Elements.{All-set}
-use Rattle.xl_model.specs.Scenes.{Served}
-use Rattle.xl_rack.specs.declared.slot.Slot.{Slot}
-use Rattle.xl_rack.specs.Places.{at_place}
-use Rattle.xl_rack.specs.Forms.{form_named}
-use Rattle.xl_rack.specs.Slots.{served_of, slot_form, IsNamed}
+use Rattle.xl_rack.proofs.Common.{◌<◌, ◌∙◌, ◌∷◌, ◌≡◌, [], All, All-set, ap, arith, at_place, form_named, IsNamed, length, List, map, Served, served_of, slice_index_or, slice_set, Slot, slot_form, Some, suc, sym, zero, ℕ}
 
 pub map-set : (f : Served → Served) (slots : List Slot) (i : ℕ) (d new : Slot) → i < length slots → served_of new ≡ f (served_of (slice_index_or slots i d))
     → map served_of (slice_set slots i new) ≡ at_place f i (map served_of slots)

@@ -1,14 +1,6 @@
 -- The lines of a radix table's words, node by node.
-use Rattle.std.proofs.Common.{◌≡◌, refl, sym, ap, ◌∙◌, subst, ℕ, zero, suc, ◌+◌, ◌-◌, ◌≤◌, Bool, true, false, List, [], ◌∷◌, ◌++◌, length, take, drop, Option, None, Some, arith, append_assoc}
-use Rattle.std.specs.Prelude.{slice_index_or, is_some, IfSome}
-use Rattle.std.proofs.lemmas.List.{take_all, append-nil}
-use Rattle.xl_model.specs.declared.leaf.Leaf.{Leaf}
+use Rattle.xl_rack.proofs.Common.{◌++◌, ◌+◌, ◌-◌, ◌∙◌, ◌∷◌, ◌≡◌, ◌≤◌, [], ap, append-nil, append_assoc, arith, Bool, drop, false, IfSome, image, image_from, image_line, is_some, Leaf, length, List, None, Option, refl, sink_cut, sink_same, sink_then, SinkAfter, SinkMeaning, slice_index_or, Some, subst, suc, sym, take, take_all, true, unless_zero, Word, word_lines, word_of, words_from, zero, ℕ}
 use Rattle.xl_model.specs.Nodes.{Node}
-use Rattle.xl_model.specs.Image.{Word, word_of, unless_zero, words_from, image_from, image}
-use Rattle.xl_model.specs.Lines.{image_line}
-use Rattle.xl_model.specs.Report.{word_lines}
-use Rattle.xl_outside.specs.Sinks.{SinkMeaning, SinkAfter}
-use Rattle.xl_outside.proofs.SinkLemmas.{sink_same, sink_then, sink_cut}
 
 unless-append : (n i w : ℕ) (xs ys : List Word) → unless_zero n i w (xs ++ ys) ≡ unless_zero n i w xs ++ ys
 unless-append n i zero xs ys = refl

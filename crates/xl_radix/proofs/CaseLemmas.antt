@@ -1,6 +1,5 @@
 -- How two numbers lie.
-use Rattle.std.proofs.Common.{ℕ, suc, ◌≡◌, ◌<◌, ◌≤◌, ◌==◌, true, false, nat_lt, ◌⊎◌, refl, arith}
-use Rattle.std.proofs.lemmas.Bool.Decides.{nat_tests}
+use Rattle.xl_radix.proofs.Common.{◌<◌, ◌==◌, ◌≡◌, ◌≤◌, ◌⊎◌, arith, false, nat_lt, nat_tests, refl, suc, true, ℕ}
 
 pub split-le : (a b : ℕ) → a ≤ b → (a ≡ b) ⊎ (a < b)
 split-le a b h = grind arith

@@ -1,10 +1,5 @@
 -- The words of a node that aren't 0.
-use Rattle.std.proofs.Common.{ℕ, zero, suc, ◌≡◌, ◌≢◌, ◌+◌, ◌-◌, ◌*◌, ◌<◌, ◌≤◌, ◌==◌, true, false, ◌⊎◌, inl, inr, List, [], ◌∷◌, length, slice_index, slice_set, Option, refl, ap, sym, ◌∙◌, subst, arith}
-use Rattle.std.proofs.lemmas.Bool.{cases_lt, eqb-true, eqb-false}
-use Rattle.std.proofs.lemmas.Bool.Decides.{nat_tests}
-use Rattle.std.proofs.lemmas.List.{get_or-set_same, get_or-set_other, length-set}
-use Rattle.xl_model.specs.Nodes.{Node}
-use Rattle.xl_radix.specs.Table.{one_if_filled, filled, IsCounted}
+use Rattle.xl_radix.proofs.Common.{◌*◌, ◌+◌, ◌-◌, ◌<◌, ◌==◌, ◌∙◌, ◌∷◌, ◌≡◌, ◌≢◌, ◌≤◌, ◌⊎◌, [], ap, arith, cases_lt, eqb-false, eqb-true, false, filled, get_or-set_other, get_or-set_same, inl, inr, IsCounted, length, length-set, List, nat_tests, Node, one_if_filled, Option, refl, slice_index, slice_set, subst, suc, sym, true, zero, ℕ}
 use Rattle.xl_radix.proofs.CaseLemmas.{split-less}
 
 one-le : (w : ℕ) → one_if_filled w ≤ 1

@@ -1,25 +1,10 @@
 -- Where a walk stops, and what it says of the mapping.
-use Rattle.std.proofs.Common.{ℕ, suc, ◌≡◌, ◌*◌, ◌<◌, ◌≤◌, true, false, ◌⊎◌, inl, inr, List, Option, Some, None, refl, ap, sym, ◌∙◌, subst, arith}
-use Rattle.std.proofs.lemmas.Bool.{cases_lt}
-use Rattle.std.specs.List.{list_any}
-use Rattle.xl_model.specs.declared.address.Order.{Order}
-use Rattle.xl_model.specs.declared.leaf.Leaf.{Leaf}
-use Rattle.xl_model.specs.Addresses.{level_of, pages_of}
-use Rattle.xl_model.specs.Mapping.{leaf_at_page, covers, meets_any, meets_block}
-use Rattle.xl_model.specs.Words.{leaf_word, pointer_word}
-use Rattle.xl_model.specs.Nodes.{up, Node, number_of}
-use Rattle.xl_model_lemmas.specs.Members.{In}
-use Rattle.xl_model_lemmas.proofs.MemberLemmas.{find-only, In-any}
-use Rattle.xl_model_lemmas.proofs.EndLemmas.{up-from}
-use Rattle.xl_model.specs.Image.{leaf_in, entry, word_at}
-use Rattle.xl_radix.specs.Table.{IsRadixMapping, IsImage, IsExact, IsStore}
-use Rattle.xl_radix.specs.Steps.{Stands, IsEnd}
+use Rattle.xl_radix.proofs.Common.{◌*◌, ◌<◌, ◌∙◌, ◌≡◌, ◌≤◌, ◌⊎◌, ap, arith, cases_lt, covers, entry, false, find-only, In, In-any, inl, inr, IsEnd, IsExact, IsImage, IsRadixMapping, IsStore, Leaf, leaf_at_page, leaf_in, leaf_word, level-low, level_of, List, list_any, meets_any, meets_block, Node, None, number_of, Option, Order, pages_of, pointer_word, refl, Some, Stands, subst, suc, sym, true, up, up-from, word_at, ℕ}
 use Rattle.xl_radix.proofs.CaseLemmas.{split-le}
-use Rattle.xl_radix.proofs.ListLemmas.{find-nothing, any-nothing}
+use Rattle.xl_radix.proofs.ListLemmas.{any-nothing, find-nothing}
+use Rattle.xl_radix.proofs.MeetLemmas.{covered, covering, meets, Met, met, Overlap}
 use Rattle.xl_radix.proofs.NumberLemmas.{number-some}
-use Rattle.xl_model_lemmas.proofs.OrderLemmas.{level-low}
-use Rattle.xl_radix.proofs.MeetLemmas.{Overlap, Met, met, meets, covered, covering}
-use Rattle.xl_radix.proofs.SlotLemmas.{At, Under, leaf-in-some, leaf-in-none, in-nodes, in-nodes-leaf}
+use Rattle.xl_radix.proofs.SlotLemmas.{At, in-nodes, in-nodes-leaf, leaf-in-none, leaf-in-some, Under}
 
 -- What holds between calls.
 pub record IsTable (top spaces : ℕ) (leaves : List Leaf) (nodes : List (Option Node)) (words : List ℕ) (used : List ℕ) : Type 0 where

@@ -1,11 +1,6 @@
 -- The words of a table that are not 0 are the image of its leaves and its nodes.
-use Rattle.std.proofs.Common.{ℕ, zero, suc, ◌≡◌, ◌+◌, ◌*◌, ◌/◌, ◌%◌, ◌<◌, ◌≤◌, List, [], ◌∷◌, ◌++◌, length, drop, slice_index, slice_index_or, Option, Some, None, refl, ap, ◌∙◌, arith}
-use Rattle.std.proofs.lemmas.List.{get_or-drop, length-drop}
-use Rattle.xl_model.specs.declared.leaf.Leaf.{Leaf}
-use Rattle.xl_model.specs.Nodes.{Node}
-use Rattle.xl_model.specs.Image.{Word, unless_zero, words_from, image_from, image, word_of}
+use Rattle.xl_radix.proofs.Common.{◌%◌, ◌*◌, ◌++◌, ◌+◌, ◌/◌, ◌<◌, ◌∙◌, ◌∷◌, ◌≡◌, ◌≤◌, [], ap, arith, drop, get_or-drop, image, image_from, IsImage, Leaf, length, length-drop, List, Node, None, Option, refl, slice_index, slice_index_or, Some, suc, unless_zero, Word, word_of, words_from, zero, ℕ}
 use Rattle.xl_radix.specs.Filled.{filled_from, filled_words}
-use Rattle.xl_radix.specs.Table.{IsImage}
 
 unless-append : (n i w : ℕ) (xs ys : List Word) → unless_zero n i w (xs ++ ys) ≡ unless_zero n i w xs ++ ys
 unless-append n i zero xs ys = refl

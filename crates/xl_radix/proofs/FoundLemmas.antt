@@ -1,27 +1,10 @@
 -- What a leaf that covers a page says of the walk.
-use Rattle.std.proofs.Common.{ℕ, suc, ◌≡◌, ◌-◌, ◌/◌, ◌<◌, ◌≤◌, true, inr, List, Option, Some, None, refl, ap, sym, ◌∙◌, arith}
-use Rattle.std.specs.Prelude.{IfSome}
-use Rattle.std.proofs.lemmas.Bool.{eq-eqb, false_from_ne_true}
-use Rattle.xl_model.specs.declared.address.Order.{Order}
-use Rattle.xl_model.specs.declared.address.Order.TheVariants as order
-use Rattle.xl_model.specs.declared.leaf.Leaf.{Leaf}
-use Rattle.xl_model.specs.Addresses.{level_of, same_order}
-use Rattle.xl_model.specs.Changes.{IsNamed}
-use Rattle.xl_model.specs.Mapping.{covers, is_leaf, leaf_at_page, leaf_named}
-use Rattle.xl_model.specs.Nodes.{up}
-use Rattle.xl_model.specs.Walks.{end_level}
-use Rattle.xl_model_lemmas.specs.Members.{In}
-use Rattle.xl_model_lemmas.proofs.MemberLemmas.{find-In, find-passes}
-use Rattle.xl_model_lemmas.proofs.OrderLemmas.{level-low, order-same}
-use Rattle.xl_model_lemmas.proofs.EndLemmas.{up-from, end-is}
-use Rattle.xl_pte.specs.declared.word.Pte.TheVariants as pte
-use Rattle.xl_radix.specs.ReadBack.{order_of, leaf_said}
-use Rattle.xl_radix.specs.Table.{IsRadixMapping}
-use Rattle.xl_radix.proofs.ListLemmas.{found-some}
-use Rattle.xl_radix.proofs.MeetLemmas.{covered}
-use Rattle.xl_radix.proofs.SlotLemmas.{Under, in-nodes, in-nodes-leaf}
-use Rattle.xl_radix.proofs.ReadBackLemmas.{said-leaf}
+use Rattle.xl_radix.proofs.Common.{◌-◌, ◌/◌, ◌<◌, ◌∙◌, ◌≡◌, ◌≤◌, ap, arith, covers, end-is, end_level, eq-eqb, false_from_ne_true, find-In, find-passes, IfSome, In, inr, is_leaf, IsNamed, IsRadixMapping, Leaf, leaf_at_page, leaf_said, level-low, level_of, List, None, Option, order-same, order_of, refl, Some, suc, sym, true, up, up-from, ℕ}
 use Rattle.xl_model_lemmas.proofs.CoverLemmas.{found-named}
+use Rattle.xl_radix.proofs.MeetLemmas.{covered}
+use Rattle.xl_radix.proofs.ReadBackLemmas.{said-leaf}
+use Rattle.xl_radix.proofs.SlotLemmas.{in-nodes, in-nodes-leaf, Under}
+use Rattle.xl_pte.specs.declared.word.Pte.TheVariants as pte
 
 pub record Covering (s page : ℕ) (x : Leaf) (leaves : List Leaf) : Type 0 where
   pub there : In x leaves

@@ -1,13 +1,8 @@
 -- The free numbers beside the nodes by number.
-use Rattle.std.proofs.Common.{ℕ, zero, suc, ◌≡◌, ◌+◌, ◌-◌, ◌<◌, ◌≤◌, Bool, true, false, List, [], ◌∷◌, ◌++◌, map, replicate, length, slice_index_or, slice_set, Option, Some, None, refl, ap, sym, ◌∙◌, subst, arith}
-use Rattle.std.specs.List.{position_from, position}
-use Rattle.std.specs.Prelude.{is_none}
-use Rattle.std.proofs.lemmas.Iterator.Adapters.{position_from-zero}
-use Rattle.xl_model.specs.Nodes.{Node, put_first, free_count, roots, opening_nodes}
-use Rattle.xl_numbers.specs.Free.{IsLowest, HasNone}
+use Rattle.xl_radix.proofs.Common.{◌++◌, ◌+◌, ◌-◌, ◌<◌, ◌∙◌, ◌∷◌, ◌≡◌, ◌≤◌, [], ap, arith, Bool, false, free_count, IfNone, IfSome, is_none, length, List, map, Node, None, opening_nodes, Option, position, position_from, position_from-zero, put_first, refl, replicate, roots, slice_index_or, slice_set, Some, subst, suc, sym, true, zero, ℕ}
+use Rattle.xl_numbers.specs.Free.{HasNone, IsLowest}
 use Rattle.xl_radix.proofs.NumberLemmas.{free-none}
-use Rattle.xl_radix.proofs.OpeningLemmas.{opening-count, none-node}
-use Rattle.std.specs.Prelude.{IfSome, IfNone}
+use Rattle.xl_radix.proofs.OpeningLemmas.{none-node, opening-count}
 
 pub length-free : (nodes : List (Option Node)) → length (map is_none nodes) ≡ length nodes
 length-free [] = refl

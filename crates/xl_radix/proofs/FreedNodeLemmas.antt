@@ -1,21 +1,10 @@
 -- An empty node is given back.
-use Rattle.std.proofs.Common.{ℕ, suc, ◌≡◌, ◌≢◌, ◌+◌, ◌-◌, ◌*◌, ◌/◌, ◌%◌, ◌<◌, ◌≤◌, ◌==◌, true, false, ◌⊎◌, inl, inr, List, length, slice_index, slice_index_or, slice_set, Option, Some, None, refl, ap, sym, ◌∙◌, subst, arith}
-use Rattle.std.proofs.lemmas.Bool.Decides.{nat_tests}
-use Rattle.std.proofs.lemmas.List.{get_or-set_same, get_or-set_other, length-set}
-use Rattle.std.proofs.lemmas.Option.{same_Some}
-use Rattle.std.proofs.lemmas.Bool.{false≢true}
-use Rattle.xl_model.specs.declared.leaf.Leaf.{Leaf}
-use Rattle.xl_model.specs.Addresses.{level_of}
-use Rattle.xl_model.specs.Nodes.{up, Node, is_below, in_nodes, number_of}
-use Rattle.xl_model_lemmas.specs.Members.{In}
-use Rattle.xl_model.specs.Image.{leaf_in, entry, word_at, word_of}
-use Rattle.xl_radix.specs.Table.{IsImage, IsNearly, IsRooted}
-use Rattle.xl_radix.specs.Steps.{Stands}
+use Rattle.xl_radix.proofs.Common.{◌%◌, ◌*◌, ◌+◌, ◌-◌, ◌/◌, ◌<◌, ◌==◌, ◌∙◌, ◌≡◌, ◌≢◌, ◌≤◌, ◌⊎◌, ap, arith, entry, false, false≢true, get_or-set_other, get_or-set_same, In, in_nodes, inl, inr, is_below, IsImage, IsNearly, IsRooted, Leaf, leaf_in, length, length-set, level_of, List, nat_tests, Node, None, number_of, Option, refl, same_Some, slice_index, slice_index_or, slice_set, Some, Stands, subst, suc, sym, true, up, word_at, word_of, ℕ}
 use Rattle.xl_radix.proofs.CaseLemmas.{split-le}
-use Rattle.xl_radix.proofs.NumberLemmas.{node-in, number-some, number-there, number-set-any, is-below, below-is, Is}
-use Rattle.xl_radix.proofs.SlotLemmas.{At, Under, leaf-in-some, leaf-in-none, in-nodes, in-nodes-leaf}
-use Rattle.xl_radix.proofs.EndLemmas.{word-none, none-word}
-use Rattle.xl_radix.proofs.MadeNodeLemmas.{new_node, new-below, not-below, places, stands-is, stored-same}
+use Rattle.xl_radix.proofs.EndLemmas.{none-word, word-none}
+use Rattle.xl_radix.proofs.MadeNodeLemmas.{new-below, new_node, not-below, places, stands-is, stored-same}
+use Rattle.xl_radix.proofs.NumberLemmas.{below-is, Is, node-in, number-set-any, number-some, number-there}
+use Rattle.xl_radix.proofs.SlotLemmas.{At, in-nodes, in-nodes-leaf, leaf-in-none, leaf-in-some, Under}
 
 -- Node k is below slot (s, l + 1, q), and its words are 0.
 pub record IsEmpty (s l q k : ℕ) (nodes : List (Option Node)) (words : List ℕ) : Type 0 where

@@ -1,9 +1,7 @@
 -- Words of which only the first are kept.
-use Rattle.std.proofs.Common.{◌≡◌, sym, ap, ◌∙◌, ℕ, ◌+◌, ◌-◌, ◌<◌, ◌≤◌, List, [], ◌++◌, length, take, set, arith, append_assoc, length-append}
-use Rattle.std.specs.Prelude.{replicate, slice_index}
-use Rattle.std.proofs.lemmas.List.{take_all, length-replicate, get_or_append_left, get_or-replicate, replicate-append-replicate, set-append_left}
+use Rattle.xl_radix.proofs.Common.{◌++◌, ◌+◌, ◌-◌, ◌<◌, ◌∙◌, ◌≡◌, ◌≤◌, [], ap, append_assoc, arith, get_or-replicate, get_or_append_left, length, length-append, length-replicate, List, replicate, replicate-append-replicate, slice_set as set, set-append_left, slice_index, sym, take, take_all, ℕ}
 use Rattle.std.proofs.Math.Seq.{get_or-append_right}
-use Rattle.xl_radix.specs.Lazy.{padded, IsFront}
+use Rattle.xl_radix.specs.Lazy.{IsFront, padded}
 
 pub length_padded : (size : ℕ) (kept : List ℕ) → length kept ≤ size → length (padded size kept) ≡ size
 unfolding padded

@@ -1,3 +1,4 @@
+mod Common
 mod CaseLemmas
 mod ListLemmas
 pub mod NumberLemmas

@@ -1,14 +1,6 @@
 -- What a test finds in a list, also with one leaf more.
-use Rattle.std.proofs.Common.{◌≡◌, Bool, true, false, cond, inl, inr, List, [], ◌∷◌, Some, None, refl, ap, sym, ◌∙◌}
-use Rattle.std.specs.Prelude.{is_some}
-use Rattle.std.specs.List.{find, list_any}
-use Rattle.std.proofs.lemmas.Bool.{false≢true}
-use Rattle.xl_model.specs.declared.leaf.Leaf.{Leaf}
-use Rattle.xl_model.specs.Mapping.{with_leaf, leaf_key}
-use Rattle.xl_model_lemmas.specs.Members.{In}
-use Rattle.xl_model_lemmas.proofs.MemberLemmas.{find-In, find-passes, find-None, find-only, any-In}
-use Rattle.xl_model_lemmas.proofs.InsertionLemmas.{with-In, In-with}
-use Rattle.xl_radix.proofs.CaseLemmas.{Same, Before, After, lies}
+use Rattle.xl_radix.proofs.Common.{◌∙◌, ◌∷◌, ◌≡◌, [], any-In, ap, Bool, cond, false, false≢true, find, find-In, find-None, find-only, find-passes, In, In-with, inl, inr, is_some, Leaf, leaf_key, List, list_any, None, refl, Some, sym, true, with-In, with_leaf}
+use Rattle.xl_radix.proofs.CaseLemmas.{After, Before, lies, Same}
 
 pub find-nothing : (p : Leaf → Bool) (xs : List Leaf) → ((y : Leaf) → In y xs → p y ≡ true → ⊥) → find p xs ≡ None
 find-nothing p xs not =

@@ -1,32 +1,12 @@
 -- What the table's questions answer.
-use Rattle.std.proofs.Common.{slice_index, ℕ, zero, suc, ◌≡◌, ◌≢◌, ◌+◌, ◌-◌, ◌*◌, ◌%◌, ◌^◌, ◌<◌, ◌≤◌, ◌==◌, Bool, true, false, not, nat_le, ◌⊎◌, inl, inr, List, Option, Some, None, refl, sym, ◌∙◌, arith}
-use Rattle.std.proofs.lemmas.Bool.Decides.{nat_tests}
-use Rattle.xl_model.specs.declared.address.Order.{Order}
-use Rattle.xl_model.specs.declared.address.Order.TheVariants as order
-use Rattle.xl_model.specs.declared.leaf.Leaf.{Leaf}
-use Rattle.xl_model.specs.Addresses.{level_of, pages_of}
-use Rattle.xl_model.specs.Changes.{Insert}
-use Rattle.xl_model.specs.Mapping.{leaf_at_page, meets_any, meets_block}
-use Rattle.xl_model.specs.Nodes.{up, Node, number_of, free_count, missing, leaf_nodes_missing}
-use Rattle.xl_model.specs.Room.{has_room}
-use Rattle.xl_model.specs.Shapes.{Radix}
-use Rattle.xl_model.specs.Structures.{IsBlock, IsLeafFor}
-use Rattle.xl_model_lemmas.specs.Members.{In}
-use Rattle.xl_pte.specs.Decode.{decode_of}
-use Rattle.xl_pte.specs.declared.word.Pte.{Pte}
-use Rattle.xl_model_lemmas.proofs.MemberLemmas.{any-false}
-use Rattle.xl_model_lemmas.proofs.OrderLemmas.{pages-some}
-use Rattle.xl_model.specs.Image.{leaf_in}
-use Rattle.xl_radix.specs.ReadBack.{order_of, leaf_said}
-use Rattle.xl_radix.specs.Table.{Table, IsNew, IsStore}
-use Rattle.xl_radix.specs.Steps.{IsEnd, shape_of}
-use Rattle.xl_radix.proofs.UpLemmas.{up-top}
-use Rattle.xl_radix.proofs.MeetLemmas.{Met, meets}
-use Rattle.xl_radix.proofs.SlotLemmas.{pointer-low}
-use Rattle.xl_radix.proofs.EndLemmas.{IsTable, found-at, found-none, no-leaf-meets, a-leaf-meets}
+use Rattle.xl_radix.proofs.Common.{◌%◌, ◌*◌, ◌+◌, ◌-◌, ◌<◌, ◌==◌, ◌^◌, ◌∙◌, ◌≡◌, ◌≢◌, ◌≤◌, ◌⊎◌, aligned-frame, any-false, arith, Bool, decode_of, false, free_count, has_room, In, inl, inr, Insert, IsBlock, IsEnd, IsLeafFor, IsNew, IsStore, Leaf, leaf_at_page, leaf_in, leaf_nodes_missing, leaf_said, level_of, List, meets_any, meets_block, missing, nat_le, nat_tests, Node, None, not, number_of, Option, Order, order_of, pages-some, pages_of, Pte, Radix, refl, shape_of, slice_index, Some, suc, sym, Table, true, up, zero, ℕ}
+use Rattle.xl_radix.proofs.EndLemmas.{a-leaf-meets, found-at, found-none, IsTable, no-leaf-meets}
+use Rattle.xl_radix.proofs.MeetLemmas.{meets, Met}
 use Rattle.xl_radix.proofs.ReadBackLemmas.{said-is}
-use Rattle.xl_radix.proofs.StepLemmas.{read-word, read-says}
-use Rattle.xl_model_lemmas.proofs.PlaceLemmas.{aligned-frame}
+use Rattle.xl_radix.proofs.SlotLemmas.{pointer-low}
+use Rattle.xl_radix.proofs.StepLemmas.{read-says, read-word}
+use Rattle.xl_radix.proofs.UpLemmas.{up-top}
+use Rattle.xl_model.specs.declared.address.Order.TheVariants as order
 
 -- Where the walk of a page stops, the slot has the page's leaf, or the page has none.
 pub at-page : (top spaces s page l n : ℕ) (leaves : List Leaf) (nodes : List (Option Node)) (words used : List ℕ) → IsTable top spaces leaves nodes words used → IsEnd top s page 0 l n nodes → leaf_in s l (up l page) leaves ≡ leaf_at_page s page leaves

@@ -1,19 +1,7 @@
 -- A node is made below an empty slot.
-use Rattle.std.proofs.Common.{ℕ, suc, ◌≡◌, ◌≢◌, ◌+◌, ◌-◌, ◌*◌, ◌/◌, ◌%◌, ◌<◌, ◌≤◌, ◌==◌, true, false, ◌⊎◌, inl, inr, List, length, slice_index, slice_index_or, slice_set, Option, Some, None, refl, ap, sym, ◌∙◌, subst, arith}
-use Rattle.std.proofs.lemmas.Bool.{cases_eq}
-use Rattle.std.proofs.lemmas.Bool.Decides.{nat_tests}
-use Rattle.std.proofs.lemmas.List.{get_or-set_same, get_or-set_other, length-set}
-use Rattle.std.proofs.lemmas.Option.{same_Some}
-use Rattle.xl_model.specs.declared.leaf.Leaf.{Leaf}
-use Rattle.xl_model.specs.Addresses.{level_of}
-use Rattle.xl_model.specs.Words.{pointer_word}
-use Rattle.xl_model.specs.Nodes.{up, Node, is_below, in_nodes, number_of}
-use Rattle.xl_model_lemmas.specs.Members.{In}
-use Rattle.xl_model.specs.Image.{leaf_in, entry, word_at, word_of}
-use Rattle.xl_radix.specs.Table.{IsImage, IsNearly, IsRooted}
-use Rattle.xl_radix.specs.Steps.{Stands}
-use Rattle.xl_radix.proofs.NumberLemmas.{number-some, number-none, number-there, number-set-other, number-only, below-some, is-below, below-is, Is}
-use Rattle.xl_radix.proofs.SlotLemmas.{At, leaf-in-some, in-nodes}
+use Rattle.xl_radix.proofs.Common.{◌%◌, ◌*◌, ◌+◌, ◌-◌, ◌/◌, ◌<◌, ◌==◌, ◌∙◌, ◌≡◌, ◌≢◌, ◌≤◌, ◌⊎◌, ap, arith, cases_eq, entry, false, get_or-set_other, get_or-set_same, In, in_nodes, inl, inr, is_below, IsImage, IsNearly, IsRooted, Leaf, leaf_in, length, length-set, level_of, List, nat_tests, Node, None, number_of, Option, pointer_word, refl, same_Some, slice_index, slice_index_or, slice_set, Some, Stands, subst, suc, sym, true, up, word_at, word_of, ℕ}
+use Rattle.xl_radix.proofs.NumberLemmas.{below-is, below-some, Is, is-below, number-none, number-only, number-set-other, number-some, number-there}
+use Rattle.xl_radix.proofs.SlotLemmas.{At, in-nodes, leaf-in-some}
 
 -- The node below slot (s, l + 1, q).
 abbrev pub new_node : ℕ → ℕ → ℕ → Node

@@ -1,14 +1,7 @@
 -- Blocks of pages that meet.
-use Rattle.std.proofs.Common.{ℕ, ◌≡◌, ◌+◌, ◌*◌, ◌≤◌, ◌==◌, Bool, true, false, ◌&&◌, nat_lt, nat_le, ◌⊎◌, inl, inr, refl, sym, arith}
-use Rattle.std.proofs.lemmas.Bool.Decides.{nat_tests}
-use Rattle.std.proofs.lemmas.Bool.{eqb-true, eq-eqb}
-use Rattle.xl_model.specs.declared.address.Order.{Order}
-use Rattle.xl_model.specs.declared.address.Order.TheVariants as order
-use Rattle.xl_model.specs.declared.leaf.Leaf.{Leaf}
-use Rattle.xl_model.specs.Addresses.{level_of, pages_of}
-use Rattle.xl_model.specs.Mapping.{meets_block, covers}
-use Rattle.xl_model.specs.Nodes.{up}
+use Rattle.xl_radix.proofs.Common.{◌&&◌, ◌*◌, ◌+◌, ◌==◌, ◌≡◌, ◌≤◌, ◌⊎◌, arith, Bool, covers, eq-eqb, eqb-true, false, inl, inr, Leaf, level_of, meets_block, nat_le, nat_lt, nat_tests, Order, pages_of, refl, sym, true, up, ℕ}
 use Rattle.xl_radix.proofs.UpLemmas.{covers-up, up-covers}
+use Rattle.xl_model.specs.declared.address.Order.TheVariants as order
 
 abbrev pub Overlap : ℕ → ℕ → ℕ → ℕ → Type 0
 Overlap l first m page = ((l ≤ m) × (up m first ≡ up m page)) ⊎ ((m ≤ l) × (up l first ≡ up l page))

@@ -1,13 +1,5 @@
 -- Numbers of nodes, by look-ups at a place.
-use Rattle.std.proofs.Common.{ℕ, zero, suc, ◌≡◌, ◌+◌, ◌<◌, ◌≤◌, Bool, true, false, cond, inl, inr, List, [], ◌∷◌, length, slice_index_or, slice_set, Option, Some, None, refl, ap, sym, ◌∙◌, arith}
-use Rattle.std.proofs.lemmas.Bool.{cases_lt}
-use Rattle.std.proofs.lemmas.List.{get_or_past}
-use Rattle.std.specs.List.{list_any, position_from, position}
-use Rattle.std.specs.Prelude.{is_none, is_some}
-use Rattle.std.proofs.lemmas.Iterator.Adapters.{position_from-zero}
-use Rattle.std.proofs.lemmas.Bool.Decides.{nat_tests}
-use Rattle.std.proofs.lemmas.Option.{same_Some}
-use Rattle.xl_model.specs.Nodes.{Node, is_below, number_of, put_first, free_count}
+use Rattle.xl_radix.proofs.Common.{◌+◌, ◌<◌, ◌∙◌, ◌∷◌, ◌≡◌, ◌≤◌, [], ap, arith, Bool, cases_lt, cond, false, free_count, get_or_past, inl, inr, is_below, is_none, is_some, length, List, list_any, nat_tests, Node, None, number_of, Option, position, position_from, position_from-zero, put_first, refl, same_Some, slice_index_or, slice_set, Some, suc, sym, true, zero, ℕ}
 
 pub position-some : (p : Option Node → Bool) (xs : List (Option Node)) (b n : ℕ) → position_from p b xs ≡ Some n → (k : ℕ) × (n ≡ b + k) × (k < length xs) × (p (slice_index_or xs k None) ≡ true)
 position-some p [] b n h = cc

@@ -1,17 +1,10 @@
 -- A table that is opened.
-use Rattle.std.proofs.Common.{ℕ, zero, suc, ◌≡◌, ◌+◌, ◌-◌, ◌*◌, ◌<◌, ◌≤◌, Bool, true, false, inl, inr, List, [], ◌∷◌, ◌++◌, length, replicate, slice_index, slice_index_or, Option, Some, None, refl, ap, sym, ◌∙◌, subst, append_assoc, length-append, arith}
-use Rattle.std.proofs.lemmas.Bool.{cases_lt}
-use Rattle.std.proofs.lemmas.List.{get_or-replicate, get_or_past, length-replicate}
-use Rattle.std.proofs.lemmas.Option.{same_Some}
-use Rattle.xl_model.specs.Nodes.{Node, is_below, in_nodes, number_of, free_count, roots, opening_nodes}
-use Rattle.xl_model.specs.Image.{leaf_in, word_of}
-use Rattle.xl_radix.specs.ReadBack.{read_back}
-use Rattle.xl_radix.specs.Table.{filled, IsImage, IsExact, IsCounted, IsStore}
-use Rattle.xl_radix.proofs.NumberLemmas.{number-some, below-some, is-below}
-use Rattle.xl_radix.proofs.EndLemmas.{none-word}
-use Rattle.xl_radix.proofs.ReadBackLemmas.{reads-back}
-use Rattle.xl_radix.proofs.CountLemmas.{filled-nothing}
+use Rattle.xl_radix.proofs.Common.{◌*◌, ◌++◌, ◌+◌, ◌-◌, ◌<◌, ◌∙◌, ◌∷◌, ◌≡◌, ◌≤◌, [], ap, append_assoc, arith, Bool, cases_lt, false, filled, free_count, get_or-replicate, get_or_past, in_nodes, inl, inr, is_below, IsCounted, IsExact, IsImage, IsStore, leaf_in, length, length-append, length-replicate, List, Node, None, number_of, opening_nodes, Option, read_back, refl, replicate, roots, same_Some, slice_index_or, Some, subst, suc, sym, true, word_of, zero, ℕ}
 use Rattle.xl_numbers.proofs.FlagLemmas.{zero-word}
+use Rattle.xl_radix.proofs.CountLemmas.{filled-nothing}
+use Rattle.xl_radix.proofs.EndLemmas.{none-word}
+use Rattle.xl_radix.proofs.NumberLemmas.{below-some, is-below, number-some}
+use Rattle.xl_radix.proofs.ReadBackLemmas.{reads-back}
 
 abbrev pub none-node : Option Node
 none-node = None

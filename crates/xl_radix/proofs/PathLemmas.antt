@@ -1,9 +1,5 @@
 -- The nodes of a page's path.
-use Rattle.std.proofs.Common.{ℕ, zero, suc, ◌≡◌, ◌+◌, ◌-◌, ◌<◌, ◌≤◌, ◌⊎◌, inl, inr, List, Option, Some, None, refl, ap, ◌∙◌, arith}
-use Rattle.xl_model.specs.declared.leaf.Leaf.{Leaf}
-use Rattle.xl_model.specs.Nodes.{up, Node, number_of, put_first, unless_there, with_node, with_path, one_unless, missing}
-use Rattle.xl_radix.specs.Table.{IsImage, IsStore}
-use Rattle.xl_radix.specs.Steps.{Stands, IsEnd}
+use Rattle.xl_radix.proofs.Common.{◌+◌, ◌-◌, ◌<◌, ◌∙◌, ◌≡◌, ◌≤◌, ◌⊎◌, ap, arith, inl, inr, IsEnd, IsImage, IsStore, Leaf, List, missing, Node, None, number_of, one_unless, Option, put_first, refl, Some, Stands, suc, unless_there, up, with_node, with_path, zero, ℕ}
 use Rattle.xl_radix.proofs.NumberLemmas.{number-some}
 use Rattle.xl_radix.proofs.PlacedLeafLemmas.{above}
 

@@ -1,34 +1,15 @@
 -- A leaf changes its permission: it leaves its slot, and comes back.
-use Rattle.std.proofs.Common.{ℕ, zero, suc, ◌≡◌, ◌+◌, ◌-◌, ◌*◌, ◌%◌, ◌^◌, ◌<◌, ◌≤◌, inl, inr, List, [], ◌∷◌, length, slice_index, slice_index_or, slice_set, Option, Some, None, refl, ap, sym, ◌∙◌, subst, arith}
-use Rattle.std.specs.Prelude.{is_some, true}
-use Rattle.xl_model.specs.declared.leaf.Leaf.{Leaf}
+use Rattle.xl_radix.proofs.Common.{◌%◌, ◌*◌, ◌+◌, ◌-◌, ◌<◌, ◌^◌, ◌∙◌, ◌∷◌, ◌≡◌, ◌≤◌, [], ap, arith, changed, false≢true, In, inl, inr, is_some, IsEnd, IsExact, IsNamed, IsNew, IsRadixMapping, IsReady, IsStore, Leaf, leaf_at_page, leaf_in, leaf_named, leaf_word, length, level-low, level_of, List, named-first, named-In, named-is, named-order, named-space, Node, None, number_of, only_needed, Option, Order, Protect, Radix, read_back, refl, shape_after, slice_index, slice_index_or, slice_set, Some, Stands, subst, suc, sym, true, up, with_leaf, without_leaf, zero, ℕ}
 use Rattle.xl_model.specs.declared.perm.Perm.{Perm}
-use Rattle.xl_model.specs.Addresses.{level_of}
-use Rattle.xl_model.specs.Mapping.{with_leaf, without_leaf, leaf_named, leaf_at_page}
-use Rattle.xl_model.specs.Words.{leaf_word}
-use Rattle.xl_model.specs.Nodes.{up, Node, number_of, only_needed}
-use Rattle.xl_model_lemmas.specs.Members.{In}
-use Rattle.xl_model_lemmas.proofs.MappingLemmas.{named-In}
-use Rattle.std.proofs.lemmas.Bool.{false≢true}
-use Rattle.xl_model.specs.declared.address.Order.{Order}
-use Rattle.xl_model.specs.Changes.{Protect, IsNamed, changed}
-use Rattle.xl_model.specs.Shapes.{Radix, shape_after}
-use Rattle.xl_model_lemmas.proofs.MappingLemmas.{named-is}
-use Rattle.xl_model_lemmas.proofs.PlaceLemmas.{named-space, named-first, named-order}
-use Rattle.xl_model_lemmas.proofs.OrderLemmas.{level-low}
 use Rattle.xl_radix.proofs.CaseLemmas.{split-le}
-use Rattle.xl_radix.proofs.ShapeLemmas.{all-needed}
-use Rattle.xl_radix.proofs.TakingLemmas.{named-needs}
-use Rattle.xl_model.specs.Image.{leaf_in}
-use Rattle.xl_radix.specs.ReadBack.{read_back}
-use Rattle.xl_radix.specs.Table.{IsNew, IsRadixMapping, IsExact, IsStore}
-use Rattle.xl_radix.specs.Steps.{Stands, IsReady, IsEnd}
-use Rattle.xl_radix.proofs.SlotLemmas.{stands-word}
-use Rattle.xl_radix.proofs.EndLemmas.{not-both, found-at}
+use Rattle.xl_radix.proofs.EndLemmas.{found-at, not-both}
 use Rattle.xl_radix.proofs.ReadBackLemmas.{own-slot}
-use Rattle.xl_radix.proofs.StepLemmas.{put-step, stands-in}
 use Rattle.xl_radix.proofs.RemovalLemmas.{clear-step, Named, named}
-use Rattle.xl_radix.proofs.TakenLeafLemmas.{without-in, unplaced-leaf-same}
+use Rattle.xl_radix.proofs.ShapeLemmas.{all-needed}
+use Rattle.xl_radix.proofs.SlotLemmas.{stands-word}
+use Rattle.xl_radix.proofs.StepLemmas.{put-step, stands-in}
+use Rattle.xl_radix.proofs.TakenLeafLemmas.{unplaced-leaf-same, without-in}
+use Rattle.xl_radix.proofs.TakingLemmas.{named-needs}
 
 set-twice : (xs : List ℕ) (p a b : ℕ) → slice_set (slice_set xs p a) p b ≡ slice_set xs p b
 set-twice [] p a b = refl

@@ -1,22 +1,10 @@
 -- A leaf comes to its slot.
-use Rattle.std.proofs.Common.{ℕ, zero, suc, ◌≡◌, ◌≢◌, ◌+◌, ◌*◌, ◌%◌, ◌^◌, ◌<◌, ◌≤◌, true, false, ◌⊎◌, inl, inr, List, length, slice_index, slice_index_or, slice_set, Option, Some, None, refl, ap, sym, ◌∙◌, subst, arith}
-use Rattle.std.proofs.lemmas.Bool.{cases_lt}
-use Rattle.std.proofs.lemmas.List.{get_or-set_same, get_or-set_other, length-set}
-use Rattle.xl_model.specs.declared.leaf.Leaf.{Leaf}
-use Rattle.xl_model.specs.Addresses.{level_of}
-use Rattle.xl_model.specs.Mapping.{with_leaf, leaf_key}
-use Rattle.xl_model.specs.Words.{leaf_word}
-use Rattle.xl_model.specs.Nodes.{up, Node, is_below, in_nodes, number_of}
-use Rattle.xl_model_lemmas.specs.Members.{In}
-use Rattle.xl_model_lemmas.proofs.InsertionLemmas.{with-In, In-with, stays-with, sorted-with}
-use Rattle.xl_model.specs.Image.{is_slot, leaf_in, word_at, word_of}
-use Rattle.xl_radix.specs.Table.{IsNew, IsRadixLeaf, IsRadixMapping, IsImage, IsNearly, IsExact}
-use Rattle.xl_radix.specs.Steps.{Stands, IsReady}
+use Rattle.xl_radix.proofs.Common.{◌%◌, ◌*◌, ◌+◌, ◌<◌, ◌^◌, ◌∙◌, ◌≡◌, ◌≢◌, ◌≤◌, ◌⊎◌, ap, arith, cases_lt, false, In, In-with, in_nodes, inl, inr, is_below, is_slot, IsExact, IsImage, IsNearly, IsNew, IsRadixLeaf, IsRadixMapping, IsReady, Leaf, leaf_in, leaf_key, leaf_word, length, length-set, level_of, List, Node, None, number_of, Option, refl, slice_index, slice_index_or, slice_set, Some, sorted-with, Stands, stays-with, subst, suc, sym, true, up, with-In, with_leaf, word_at, word_of, zero, ℕ}
 use Rattle.xl_radix.proofs.CaseLemmas.{split-less}
 use Rattle.xl_radix.proofs.ListLemmas.{find-with, find-with-other}
-use Rattle.xl_radix.proofs.NumberLemmas.{number-some, number-there, is-below}
-use Rattle.xl_radix.proofs.SlotLemmas.{At, Under, slot-at, at-slot, leaf-in-none, in-nodes, in-nodes-leaf}
 use Rattle.xl_radix.proofs.MadeNodeLemmas.{IsSame, stored-same}
+use Rattle.xl_radix.proofs.NumberLemmas.{number-some, number-there}
+use Rattle.xl_radix.proofs.SlotLemmas.{At, at-slot, in-nodes, in-nodes-leaf, leaf-in-none, slot-at, Under}
 
 pub no-key : (top spaces : ℕ) (x : Leaf) (leaves : List Leaf) → IsRadixMapping top spaces leaves → IsNew top spaces x leaves → (y : Leaf) → In y leaves → leaf_key x ≡ leaf_key y → ⊥
 no-key top spaces x leaves m new y i e =

@@ -1,25 +1,10 @@
 -- The words of a table read back as its leaves.
-use Rattle.std.proofs.Common.{ℕ, zero, suc, ◌≡◌, ◌+◌, ◌*◌, ◌/◌, ◌%◌, ◌<◌, ◌≤◌, true, ◌⊎◌, inl, inr, List, length, slice_index_or, Option, Some, None, refl, ap, sym, ◌∙◌, subst, arith}
-use Rattle.std.proofs.lemmas.Bool.{cases_lt}
-use Rattle.xl_model.specs.declared.address.Order.{Order}
-use Rattle.xl_model.specs.declared.address.Order.TheVariants as order
-use Rattle.xl_model.specs.declared.leaf.Leaf.{Leaf}
-use Rattle.xl_model.specs.Addresses.{level_of, pages_of}
-use Rattle.xl_model.specs.Changes.{with_new}
-use Rattle.xl_model.specs.Mapping.{with_leaf, leaf_key}
-use Rattle.xl_model.specs.Nodes.{up, Node, is_below, in_nodes, number_of}
-use Rattle.xl_model_lemmas.specs.Members.{In, IsSorted}
-use Rattle.xl_pte.specs.declared.word.Pte.{Pte}
-use Rattle.xl_pte.specs.declared.word.Pte.TheVariants as pte
-use Rattle.xl_model_lemmas.proofs.InsertionLemmas.{with-In, In-with, stays-with, sorted-with, same-place}
-use Rattle.xl_model.specs.Image.{leaf_in, word_of}
-use Rattle.xl_radix.specs.ReadBack.{order_of, leaf_said, leaf_by, leaf_here, read_to, read_back}
-use Rattle.xl_radix.specs.Table.{IsRadixMapping, IsImage}
+use Rattle.xl_radix.proofs.Common.{◌%◌, ◌*◌, ◌+◌, ◌/◌, ◌<◌, ◌∙◌, ◌≡◌, ◌≤◌, ◌⊎◌, ap, arith, cases_lt, In, In-with, in_nodes, inl, inr, is_below, IsImage, IsRadixMapping, IsSorted, Leaf, leaf_by, leaf_here, leaf_in, leaf_key, leaf_said, length, level-low, level_of, List, Node, None, number_of, Option, Order, order_of, pages_of, Pte, read_back, read_to, refl, same-place, same-sorted, slice_index_or, Some, sorted-with, stays-with, subst, suc, sym, true, up, with-In, with_leaf, with_new, word_of, zero, ℕ}
 use Rattle.xl_radix.proofs.CaseLemmas.{split-less}
-use Rattle.xl_model_lemmas.proofs.SortedLemmas.{same-sorted}
-use Rattle.xl_radix.proofs.NumberLemmas.{number-some, below-some, Is}
-use Rattle.xl_model_lemmas.proofs.OrderLemmas.{level-low}
-use Rattle.xl_radix.proofs.SlotLemmas.{At, Says, says, leaf-in-some, leaf-in-none, in-nodes}
+use Rattle.xl_radix.proofs.NumberLemmas.{below-some, Is, number-some}
+use Rattle.xl_radix.proofs.SlotLemmas.{At, in-nodes, leaf-in-none, leaf-in-some, Says, says}
+use Rattle.xl_model.specs.declared.address.Order.TheVariants as order
+use Rattle.xl_pte.specs.declared.word.Pte.TheVariants as pte
 
 order-of-level : (o : Order) → order_of (level_of o) ≡ Some o
 order-of-level order.K4 = refl

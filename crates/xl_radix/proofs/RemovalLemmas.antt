@@ -1,32 +1,14 @@
 -- Steps of a removal.
-use Rattle.std.proofs.Common.{ℕ, zero, suc, ◌≡◌, ◌≢◌, ◌+◌, ◌-◌, ◌*◌, ◌%◌, ◌<◌, ◌≤◌, true, ◌⊎◌, inl, inr, List, [], ◌∷◌, length, slice_index, slice_index_or, slice_set, Option, Some, None, refl, ap, sym, ◌∙◌, subst, arith}
-use Rattle.std.specs.Prelude.{is_some}
-use Rattle.std.proofs.lemmas.Bool.{cases_lt, false≢true}
-use Rattle.std.proofs.lemmas.Grind.{get_or_default_zero}
-use Rattle.std.proofs.lemmas.List.{length-set}
-use Rattle.xl_model.specs.declared.address.Order.{Order}
-use Rattle.xl_model.specs.declared.leaf.Leaf.{Leaf}
-use Rattle.xl_model.specs.Addresses.{level_of}
-use Rattle.xl_model.specs.Changes.{IsNamed}
-use Rattle.xl_model.specs.Mapping.{without_leaf, leaf_named}
-use Rattle.xl_model.specs.Words.{leaf_word, pointer_word}
-use Rattle.xl_model.specs.Nodes.{up, Node, is_below, number_of, free_count}
-use Rattle.xl_model_lemmas.specs.Members.{In}
-use Rattle.xl_model_lemmas.proofs.MappingLemmas.{named-In, named-is}
-use Rattle.xl_model_lemmas.proofs.PlaceLemmas.{named-space, named-first, named-order}
-use Rattle.xl_model.specs.Image.{leaf_in, word_at}
-use Rattle.xl_radix.specs.ReadBack.{read_back}
-use Rattle.xl_radix.specs.Table.{filled, IsNearly, IsExact, IsCounted, IsStore}
-use Rattle.xl_radix.specs.Steps.{Stands, IsTaken}
-use Rattle.xl_radix.proofs.NumberLemmas.{node-in, number-only, below-some, below-is}
-use Rattle.xl_radix.proofs.SlotLemmas.{stands-word}
-use Rattle.xl_radix.proofs.EndLemmas.{not-both}
-use Rattle.xl_radix.proofs.MadeNodeLemmas.{new_node}
-use Rattle.xl_radix.proofs.ReadBackLemmas.{reads-back, own-slot}
+use Rattle.xl_radix.proofs.Common.{◌%◌, ◌*◌, ◌+◌, ◌-◌, ◌<◌, ◌∙◌, ◌∷◌, ◌≡◌, ◌≢◌, ◌≤◌, ◌⊎◌, [], ap, arith, cases_lt, false≢true, filled, free_count, get_or_default_zero, In, inl, inr, is_below, is_some, IsCounted, IsExact, IsNamed, IsNearly, IsStore, IsTaken, Leaf, leaf_in, leaf_named, leaf_word, length, length-set, level_of, List, named-first, named-In, named-is, named-order, named-space, Node, None, number_of, Option, Order, pointer_word, read_back, refl, slice_index, slice_index_or, slice_set, Some, Stands, subst, suc, sym, true, up, without_leaf, word_at, zero, ℕ}
 use Rattle.xl_radix.proofs.CountLemmas.{counted-less, filled-zeros}
+use Rattle.xl_radix.proofs.EndLemmas.{not-both}
+use Rattle.xl_radix.proofs.FreedNodeLemmas.{freed, freed-at, freed-nearly, freed-rooted, freed_nodes, freed_words, IsEmpty, node-is}
+use Rattle.xl_radix.proofs.MadeNodeLemmas.{new_node}
+use Rattle.xl_radix.proofs.NumberLemmas.{below-is, below-some, node-in, number-only}
+use Rattle.xl_radix.proofs.ReadBackLemmas.{own-slot, reads-back}
+use Rattle.xl_radix.proofs.SlotLemmas.{stands-word}
 use Rattle.xl_radix.proofs.StepLemmas.{recounted}
 use Rattle.xl_radix.proofs.TakenLeafLemmas.{IsHeld, unplaced, unplaced-mapping, unplaced-nearly, unplaced_words}
-use Rattle.xl_radix.proofs.FreedNodeLemmas.{IsEmpty, node-is, freed, freed-at, freed-rooted, freed-nearly, freed_nodes, freed_words}
 
 -- The leaf that a name names.
 pub record Named (s f l : ℕ) (x : Leaf) (leaves : List Leaf) : Type 0 where

@@ -1,15 +1,6 @@
 -- The shape after a leaf was added: each node is one that the leaves need, so none is dropped.
-use Rattle.std.proofs.Common.{ℕ, suc, ◌≡◌, ◌+◌, ◌==◌, true, List, [], ◌∷◌, map, length, Option, None, Some, slice_index_or, ◌⊎◌, inl, inr, refl, ap, sym, subst, arith}
-use Rattle.std.proofs.lemmas.Bool.Decides.{nat_tests}
-use Rattle.std.proofs.lemmas.Bool.{eq-eqb}
+use Rattle.xl_radix.proofs.Common.{◌+◌, ◌==◌, ◌∷◌, ◌≡◌, ◌⊎◌, [], ap, arith, changed, eq-eqb, free_count, in_nodes, inl, inr, Insert, is_below, is_needed, IsExact, IsLess, kept_node, Leaf, length, List, map, nat_tests, Node, None, only_needed, Option, Radix, refl, shape_after, slice_index_or, Some, subst, suc, sym, true, with_leaf, with_leaf_nodes, ℕ}
 use Rattle.std.proofs.Math.Bool.{or-true}
-use Rattle.xl_model.specs.declared.leaf.Leaf.{Leaf}
-use Rattle.xl_model.specs.Mapping.{with_leaf}
-use Rattle.xl_model.specs.Changes.{Insert, changed}
-use Rattle.xl_model.specs.Nodes.{Node, is_below, in_nodes, is_needed, kept_node, only_needed, with_leaf_nodes, free_count}
-use Rattle.xl_model.specs.Shapes.{Radix, shape_after}
-use Rattle.xl_radix.specs.Table.{IsExact}
-use Rattle.xl_radix.specs.Steps.{IsLess}
 
 pub own-slot : (node : Node) → is_below node.space (node.level + 1) node.prefix (Some node) ≡ true
 own-slot node = rw (eq-eqb node.space node.space refl, eq-eqb (node.level + 1) (node.level + 1) refl, eq-eqb node.prefix node.prefix refl) refl

@@ -1,31 +1,10 @@
 -- A leaf moves: its new place is free, its old name stays beside the new leaf, and the order in which the two
 -- come and go doesn't matter.
-use Rattle.std.proofs.Common.{ℕ, zero, suc, ◌≡◌, ◌+◌, ◌*◌, ◌/◌, ◌%◌, ◌^◌, ◌<◌, ◌≤◌, inl, inr, true, false, List, Option, Some, None, refl, ap, sym, ◌∙◌, subst, arith}
-use Rattle.std.specs.Prelude.{is_some}
-use Rattle.std.proofs.lemmas.Bool.{false≢true}
-use Rattle.std.proofs.lemmas.Bool.Decides.{nat_tests}
-use Rattle.xl_model.specs.declared.address.Order.{Order}
-use Rattle.xl_model.specs.declared.address.Order.TheVariants as order
-use Rattle.xl_model.specs.declared.leaf.Leaf.{Leaf}
-use Rattle.xl_model.specs.Addresses.{level_of, pages_of}
-use Rattle.xl_model.specs.Changes.{Insert, Remove, Relocate, IsNamed, changed}
-use Rattle.xl_model.specs.Mapping.{with_leaf, without_leaf, leaf_key, leaf_at_page, leaf_named, is_leaf, meets_any, meets_block}
-use Rattle.xl_model.specs.Nodes.{Node, with_leaf_nodes, only_needed, free_count}
-use Rattle.xl_model.specs.Room.{has_room}
-use Rattle.xl_model.specs.Shapes.{Radix, brought, shape_after}
-use Rattle.xl_model.specs.Structures.{IsBlock}
-use Rattle.xl_model_lemmas.specs.Members.{In, IsSorted}
-use Rattle.xl_model_lemmas.proofs.InsertionLemmas.{with-In, In-with, stays-with, sorted-with, sorted-without, without-In, without-other, In-without}
-use Rattle.xl_model_lemmas.proofs.MappingLemmas.{named-In, named-is}
-use Rattle.xl_model_lemmas.proofs.MemberLemmas.{any-false}
-use Rattle.xl_model_lemmas.proofs.OrderLemmas.{pages-some}
-use Rattle.xl_model_lemmas.proofs.PlaceLemmas.{named-space, named-first, named-order}
-use Rattle.xl_model_lemmas.proofs.SortedLemmas.{with-without}
-use Rattle.xl_radix.specs.Table.{Table, IsRadixMapping, IsStore}
-use Rattle.xl_radix.specs.Steps.{shape_of, IsLess, IsMove, IsMade}
-use Rattle.xl_radix.proofs.ListLemmas.{found-some}
+use Rattle.xl_radix.proofs.Common.{◌%◌, ◌*◌, ◌+◌, ◌/◌, ◌<◌, ◌^◌, ◌∙◌, ◌≡◌, ◌≤◌, any-false, ap, arith, brought, changed, false, false≢true, free_count, has_room, In, Insert, is_leaf, is_some, IsBlock, IsLess, IsMade, IsMove, IsNamed, IsRadixMapping, IsStore, Leaf, leaf_at_page, leaf_key, leaf_named, level_of, List, meets_any, meets_block, named-first, named-In, named-is, named-order, named-space, nat_tests, Node, None, only_needed, Option, Order, pages-some, pages_of, Radix, refl, Relocate, Remove, shape_after, shape_of, Some, stays-with, subst, suc, sym, Table, true, with-without, with_leaf, with_leaf_nodes, without_leaf, zero, ℕ}
 use Rattle.xl_radix.proofs.EndLemmas.{found-at}
+use Rattle.xl_radix.proofs.ListLemmas.{found-some}
 use Rattle.xl_radix.proofs.ReadBackLemmas.{own-slot}
+use Rattle.xl_model.specs.declared.address.Order.TheVariants as order
 
 -- A leaf that is named covers the page that names it.
 pub named-page-is : (top spaces s f : ℕ) (o : Order) (x : Leaf) (leaves : List Leaf) → IsRadixMapping top spaces leaves → leaf_named s f o leaves ≡ Some x → leaf_at_page s f leaves ≡ Some x

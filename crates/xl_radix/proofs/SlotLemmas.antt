@@ -1,20 +1,8 @@
 -- What the slots of a table say.
-use Rattle.std.proofs.Common.{ℕ, zero, suc, ◌≡◌, ◌+◌, ◌*◌, ◌%◌, ◌^◌, ◌<◌, ◌≤◌, true, List, length, slice_index, Option, Some, None, refl, ap, ◌∙◌, subst, arith}
-use Rattle.std.proofs.lemmas.Bool.Decides.{nat_tests}
-use Rattle.xl_model.specs.declared.leaf.Leaf.{Leaf}
-use Rattle.xl_model.specs.Addresses.{level_of}
-use Rattle.xl_model.specs.Words.{leaf_word, pointer_word}
-use Rattle.xl_model.specs.Nodes.{up, Node, is_under, in_nodes, number_of}
-use Rattle.xl_model_lemmas.specs.Members.{In}
-use Rattle.xl_pte.specs.Decode.{decode_of}
-use Rattle.xl_pte.specs.declared.word.Pte.{Pte}
-use Rattle.xl_pte.specs.declared.word.Pte.TheVariants as pte
+use Rattle.xl_radix.proofs.Common.{◌%◌, ◌*◌, ◌+◌, ◌<◌, ◌^◌, ◌∙◌, ◌≡◌, ◌≤◌, any-In, ap, arith, decode_of, entry, find-In, find-None, find-passes, In, In-any, in_nodes, is_slot, is_under, IsImage, IsRadixMapping, Leaf, leaf_in, leaf_word, length, level_of, List, nat_tests, Node, None, number_of, Option, pointer_word, Pte, refl, slice_index, Some, Stands, subst, suc, true, up, word_at, word_of, zero, ℕ}
 use Rattle.xl_pte.proofs.BitLemmas.{decode-made-leaf, decode-made-pointer}
-use Rattle.xl_model_lemmas.proofs.MemberLemmas.{find-In, find-passes, find-None, any-In, In-any}
-use Rattle.xl_model.specs.Image.{is_slot, leaf_in, entry, word_at, word_of}
-use Rattle.xl_radix.specs.Table.{IsRadixMapping, IsImage}
-use Rattle.xl_radix.specs.Steps.{Stands}
-use Rattle.xl_radix.proofs.NumberLemmas.{node-in, number-some, below-some, Is}
+use Rattle.xl_radix.proofs.NumberLemmas.{below-some, Is, node-in, number-some}
+use Rattle.xl_pte.specs.declared.word.Pte.TheVariants as pte
 
 -- A leaf at a slot.
 pub record At (space l block : ℕ) (leaf : Leaf) : Type 0 where

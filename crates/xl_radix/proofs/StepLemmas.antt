@@ -1,29 +1,13 @@
 -- Steps of the table's functions.
-use Rattle.std.proofs.Common.{ℕ, zero, suc, ◌≡◌, ◌≢◌, ◌+◌, ◌-◌, ◌*◌, ◌%◌, ◌<◌, ◌≤◌, ◌⊎◌, inl, inr, List, length, slice_index, slice_index_or, slice_set, Option, Some, None, refl, ap, sym, ◌∙◌, subst, arith}
-use Rattle.std.proofs.lemmas.Grind.{get_or_default_zero}
-use Rattle.std.proofs.lemmas.List.{length-set}
-use Rattle.xl_model.specs.declared.leaf.Leaf.{Leaf}
-use Rattle.xl_model.specs.Addresses.{level_of}
-use Rattle.xl_model.specs.Mapping.{with_leaf}
-use Rattle.xl_model.specs.Words.{pointer_word, leaf_word}
-use Rattle.xl_model.specs.Nodes.{up, Node, number_of, free_count}
-use Rattle.xl_model_lemmas.specs.Members.{In}
-use Rattle.xl_pte.specs.Decode.{decode_of}
-use Rattle.xl_pte.specs.declared.word.Pte.{Pte}
-use Rattle.xl_pte.specs.declared.word.Pte.TheVariants as pte
-use Rattle.xl_model.specs.Image.{leaf_in, word_at}
-use Rattle.xl_radix.specs.ReadBack.{read_back}
-use Rattle.std.specs.List.{position}
-use Rattle.std.specs.Prelude.{is_none}
-use Rattle.xl_radix.specs.Table.{filled, IsNew, IsRadixMapping, IsNearly, IsExact, IsCounted, IsStore}
-use Rattle.xl_radix.specs.Steps.{Stands, IsEnd, IsReady}
-use Rattle.xl_radix.proofs.NumberLemmas.{node-in, below-some, free-none, number-some}
-use Rattle.xl_radix.proofs.SlotLemmas.{At, Under, Says, says, stands-word, pointer-low, leaf-in-some, in-nodes-leaf}
-use Rattle.xl_radix.proofs.EndLemmas.{not-both, word-none, none-word}
-use Rattle.xl_radix.proofs.MadeNodeLemmas.{IsSpot, new_node, made_nodes, made_words, made, made-stands, made-empty, made-rooted, made-nearly}
-use Rattle.xl_radix.proofs.PlacedLeafLemmas.{placed, placed-mapping, placed-exact, placed_words}
-use Rattle.xl_radix.proofs.ReadBackLemmas.{reads-back}
+use Rattle.xl_radix.proofs.Common.{◌%◌, ◌*◌, ◌+◌, ◌-◌, ◌<◌, ◌∙◌, ◌≡◌, ◌≢◌, ◌≤◌, ◌⊎◌, ap, arith, decode_of, filled, free_count, get_or_default_zero, In, inl, inr, is_none, IsCounted, IsEnd, IsExact, IsNearly, IsNew, IsRadixMapping, IsReady, IsStore, Leaf, leaf_in, leaf_word, length, length-set, level_of, List, Node, None, number_of, Option, pointer_word, position, Pte, read_back, refl, slice_index, slice_index_or, slice_set, Some, Stands, subst, suc, sym, up, with_leaf, word_at, zero, ℕ}
 use Rattle.xl_radix.proofs.CountLemmas.{counted-more, filled-le}
+use Rattle.xl_radix.proofs.EndLemmas.{none-word, not-both, word-none}
+use Rattle.xl_radix.proofs.MadeNodeLemmas.{IsSpot, made, made-empty, made-nearly, made-rooted, made-stands, made_nodes, made_words, new_node}
+use Rattle.xl_radix.proofs.NumberLemmas.{below-some, free-none, node-in, number-some}
+use Rattle.xl_radix.proofs.PlacedLeafLemmas.{placed, placed-exact, placed-mapping, placed_words}
+use Rattle.xl_radix.proofs.ReadBackLemmas.{reads-back}
+use Rattle.xl_radix.proofs.SlotLemmas.{At, in-nodes-leaf, leaf-in-some, pointer-low, Says, says, stands-word, Under}
+use Rattle.xl_pte.specs.declared.word.Pte.TheVariants as pte
 
 -- The word that was read, in the node that is at a page, is that of the slot.
 pub read-word : (top spaces s page l n i w : ℕ) (leaves : List Leaf) (nodes : List (Option Node)) (words used : List ℕ) → IsStore top spaces leaves nodes words used → Stands s page l n nodes → i ≡ up l page % 512 → w ≡ slice_index words (n * 512 + i) → w ≡ word_at leaves nodes s l (up l page)

@@ -1,24 +1,10 @@
 -- A leaf leaves its slot.
-use Rattle.std.proofs.Common.{ℕ, suc, ◌≡◌, ◌≢◌, ◌+◌, ◌*◌, ◌%◌, ◌^◌, ◌<◌, ◌≤◌, ◌==◌, Bool, true, false, cond, if◌then◌else◌, ◌⊎◌, inl, inr, List, [], ◌∷◌, length, slice_index, slice_index_or, slice_set, Option, Some, None, refl, ap, sym, ◌∙◌, subst, arith}
-use Rattle.std.specs.List.{find, filter}
-use Rattle.std.proofs.lemmas.Bool.{cases_lt}
-use Rattle.std.proofs.lemmas.Bool.Decides.{nat_tests}
-use Rattle.std.proofs.lemmas.List.{get_or-set_same, get_or-set_other, length-set}
-use Rattle.xl_model.specs.declared.leaf.Leaf.{Leaf}
-use Rattle.xl_model.specs.Addresses.{level_of}
-use Rattle.xl_model.specs.Mapping.{without_leaf, leaf_key}
-use Rattle.xl_model.specs.Nodes.{up, Node, is_below, in_nodes, number_of}
-use Rattle.xl_model_lemmas.specs.Members.{In}
-use Rattle.xl_model_lemmas.proofs.InsertionLemmas.{without-In, without-other, In-without, sorted-without, same-place}
-use Rattle.xl_model.specs.Image.{is_slot, leaf_in, word_at, word_of}
-use Rattle.xl_radix.specs.Table.{IsRadixMapping, IsImage, IsNearly, IsExact}
-use Rattle.xl_radix.specs.Steps.{Stands}
-use Rattle.xl_radix.proofs.ListLemmas.{find-nothing}
-use Rattle.xl_radix.proofs.NumberLemmas.{is-below}
-use Rattle.xl_radix.proofs.SlotLemmas.{At, Under, slot-at, in-nodes, in-nodes-leaf}
-use Rattle.xl_radix.proofs.MadeNodeLemmas.{stored-same}
+use Rattle.xl_radix.proofs.Common.{if◌then◌else◌, ◌%◌, ◌*◌, ◌+◌, ◌<◌, ◌==◌, ◌^◌, ◌∙◌, ◌∷◌, ◌≡◌, ◌≢◌, ◌≤◌, ◌⊎◌, [], ap, arith, Bool, cases_lt, cond, false, filter, find, In, In-without, in_nodes, inl, inr, is_slot, IsExact, IsImage, IsNearly, IsRadixMapping, Leaf, leaf_in, leaf_key, length, length-set, level_of, List, nat_tests, Node, None, number_of, Option, refl, same-place, slice_index, slice_index_or, slice_set, Some, sorted-without, Stands, subst, sym, true, up, without-In, without-other, without_leaf, word_of, ℕ}
 use Rattle.xl_radix.proofs.EndLemmas.{none-word}
-use Rattle.xl_radix.proofs.PlacedLeafLemmas.{same-word, own-at, not-slot}
+use Rattle.xl_radix.proofs.ListLemmas.{find-nothing}
+use Rattle.xl_radix.proofs.MadeNodeLemmas.{stored-same}
+use Rattle.xl_radix.proofs.PlacedLeafLemmas.{not-slot, own-at, same-word}
+use Rattle.xl_radix.proofs.SlotLemmas.{At, in-nodes, in-nodes-leaf, slot-at, Under}
 
 -- the test that a removal keeps a leaf by
 abbrev pub stays : ℕ → ℕ → Leaf → Bool

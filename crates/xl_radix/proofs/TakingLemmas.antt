@@ -1,29 +1,13 @@
 -- A leaf is taken out, and the empty nodes above it.
-use Rattle.std.proofs.Common.{ℕ, zero, suc, ◌≡◌, ◌≢◌, ◌+◌, ◌-◌, ◌*◌, ◌<◌, ◌≤◌, ◌==◌, Bool, true, false, ◌⊎◌, inl, inr, List, [], ◌∷◌, map, length, slice_index, slice_index_or, Option, Some, None, refl, ap, sym, ◌∙◌, subst, arith}
-use Rattle.std.proofs.lemmas.Bool.{false≢true, false_from_ne_true}
-use Rattle.std.proofs.lemmas.Bool.Decides.{nat_tests}
-use Rattle.xl_model.specs.declared.address.Order.{Order}
-use Rattle.xl_model.specs.declared.leaf.Leaf.{Leaf}
-use Rattle.xl_model.specs.Addresses.{level_of}
-use Rattle.xl_model.specs.Changes.{Remove, IsNamed, changed, without_old}
-use Rattle.xl_model.specs.Mapping.{without_leaf, leaf_named}
-use Rattle.xl_model.specs.Nodes.{up, Node, is_below, in_nodes, number_of, free_count, is_needed, kept_node, only_needed}
-use Rattle.std.specs.Prelude.{is_some}
-use Rattle.xl_model.specs.Shapes.{Radix, shape_after}
-use Rattle.xl_model_lemmas.proofs.MappingLemmas.{named-is}
-use Rattle.xl_model_lemmas.proofs.PlaceLemmas.{named-space, named-first}
-use Rattle.xl_model_lemmas.proofs.InsertionLemmas.{without-In}
-use Rattle.xl_model.specs.Image.{is_slot, leaf_in}
-use Rattle.xl_radix.specs.Table.{IsNearly, IsExact, IsStore}
-use Rattle.xl_radix.specs.Steps.{Stands, IsLess, IsTaken}
-use Rattle.xl_radix.proofs.ListLemmas.{find-nothing}
-use Rattle.xl_radix.proofs.NumberLemmas.{node-in, below-some, number-some}
-use Rattle.xl_radix.proofs.SlotLemmas.{slot-at, in-nodes, leaf-in-none}
-use Rattle.xl_radix.proofs.MadeNodeLemmas.{new_node}
+use Rattle.xl_radix.proofs.Common.{◌*◌, ◌+◌, ◌-◌, ◌<◌, ◌==◌, ◌∙◌, ◌∷◌, ◌≡◌, ◌≢◌, ◌≤◌, ◌⊎◌, [], ap, arith, Bool, changed, false, false_from_ne_true, false≢true, free_count, in_nodes, inl, inr, is_below, is_needed, is_slot, is_some, IsExact, IsLess, IsNamed, IsNearly, IsStore, IsTaken, kept_node, Leaf, leaf_in, leaf_named, length, level_of, List, map, named-first, named-is, named-space, nat_tests, Node, None, number_of, only_needed, Option, Order, Radix, refl, Remove, shape_after, slice_index, slice_index_or, Some, Stands, subst, suc, sym, true, up, without-In, without_leaf, without_old, zero, ℕ}
 use Rattle.xl_radix.proofs.CountLemmas.{filled-some}
-use Rattle.xl_radix.proofs.FreedNodeLemmas.{node-is, filled-needed, kept-nearly}
+use Rattle.xl_radix.proofs.FreedNodeLemmas.{filled-needed, kept-nearly, node-is}
+use Rattle.xl_radix.proofs.ListLemmas.{find-nothing}
+use Rattle.xl_radix.proofs.MadeNodeLemmas.{new_node}
+use Rattle.xl_radix.proofs.NumberLemmas.{below-some, node-in, number-some}
 use Rattle.xl_radix.proofs.RemovalLemmas.{Named, named}
 use Rattle.xl_radix.proofs.ShapeLemmas.{kept-one, own-slot}
+use Rattle.xl_radix.proofs.SlotLemmas.{in-nodes, leaf-in-none, slot-at}
 
 -- A named leaf needs the nodes above it.
 pub named-needs : (s f l : ℕ) (o : Order) (leaves : List Leaf) → IsNamed s f o leaves → level_of o < l → in_nodes s l (up l f) leaves ≡ true

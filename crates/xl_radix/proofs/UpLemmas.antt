@@ -1,10 +1,6 @@
 -- Pages and the blocks in which they lie.
-use Rattle.std.proofs.Common.{ℕ, zero, suc, ◌≡◌, ◌+◌, ◌*◌, ◌/◌, ◌^◌, ◌<◌, ◌≤◌, true, ◌&&◌, nat_lt, nat_le, arith}
-use Rattle.std.proofs.lemmas.Bool.Decides.{nat_tests}
-use Rattle.xl_model.specs.declared.address.Order.{Order}
+use Rattle.xl_radix.proofs.Common.{◌&&◌, ◌*◌, ◌+◌, ◌/◌, ◌<◌, ◌^◌, ◌≡◌, ◌≤◌, arith, level_of, nat_le, nat_lt, nat_tests, Order, pages_of, suc, true, up, zero, ℕ}
 use Rattle.xl_model.specs.declared.address.Order.TheVariants as order
-use Rattle.xl_model.specs.Addresses.{level_of, pages_of}
-use Rattle.xl_model.specs.Nodes.{up}
 
 pub up-shift : (l page : ℕ) → l < 5 → page / 2 ^ (9 * l) ≡ up l page
 up-shift zero page h = omega arith

@@ -1,27 +1,13 @@
 -- The manual's walk over the words of a table.
-use Rattle.std.proofs.Common.{ℕ, zero, suc, ◌≡◌, ◌+◌, ◌-◌, ◌*◌, ◌/◌, ◌%◌, ◌<◌, Bool, true, nat_le, if◌then◌else◌, ◌⊎◌, inl, inr, List, length, slice_index, Option, Some, None, refl, sym, ◌∙◌, subst, arith}
-use Rattle.std.proofs.lemmas.Bool.Decides.{nat_tests}
-use Rattle.std.proofs.lemmas.Bool.{false_from_ne_true}
-use Rattle.xl_model.specs.declared.leaf.Leaf.{Leaf}
-use Rattle.xl_model.specs.Addresses.{level_of}
-use Rattle.xl_model.specs.Mapping.{leaf_at_page}
-use Rattle.xl_model.specs.Nodes.{up, Node, in_nodes, number_of}
-use Rattle.xl_model.specs.Walks.{end_level}
-use Rattle.xl_model_lemmas.specs.Members.{In}
-use Rattle.xl_pte.specs.Decode.{decode_of}
-use Rattle.xl_pte.specs.declared.word.Pte.{Pte}
-use Rattle.xl_pte.specs.declared.word.Pte.TheVariants as pte
-use Rattle.xl_model_lemmas.proofs.EndLemmas.{up-from, end-is}
-use Rattle.xl_radix.specs.declared.walk_end.WalkEnd.{WalkEnd}
-use Rattle.xl_model.specs.Image.{leaf_in}
-use Rattle.xl_radix.specs.Steps.{Stands}
-use Rattle.xl_radix.specs.Walk.{place_of, end_at, reading, radix_back, walk_end, LeavesSaid, WordsReadBack}
-use Rattle.xl_radix.proofs.NumberLemmas.{number-some, number-only}
-use Rattle.xl_radix.proofs.SlotLemmas.{Under, Says, says, stands-word, pointer-low, leaf-in-some, in-nodes-leaf}
+use Rattle.xl_radix.proofs.Common.{if◌then◌else◌, ◌%◌, ◌*◌, ◌+◌, ◌-◌, ◌/◌, ◌<◌, ◌∙◌, ◌≡◌, ◌⊎◌, arith, Bool, decode_of, end-is, end_level, false_from_ne_true, In, in_nodes, inl, inr, IsStore, Leaf, leaf_at_page, leaf_in, length, level_of, List, nat_le, nat_tests, Node, None, number_of, Option, Pte, refl, slice_index, Some, Stands, subst, suc, sym, true, up, up-from, zero, ℕ}
+use Rattle.xl_radix.proofs.EndLemmas.{found-at, found-none, IsTable, seen-low}
 use Rattle.xl_radix.proofs.FilledLemmas.{words-image}
 use Rattle.xl_radix.proofs.FoundLemmas.{leaf-ends, leaf-said}
-use Rattle.xl_radix.specs.Table.{IsStore}
-use Rattle.xl_radix.proofs.EndLemmas.{IsTable, seen-low, found-at, found-none}
+use Rattle.xl_radix.proofs.NumberLemmas.{number-only, number-some}
+use Rattle.xl_radix.proofs.SlotLemmas.{in-nodes-leaf, leaf-in-some, pointer-low, Says, says, stands-word, Under}
+use Rattle.xl_radix.specs.Walk.{end_at, LeavesSaid, place_of, radix_back, reading, walk_end, WordsReadBack}
+use Rattle.xl_radix.specs.declared.walk_end.WalkEnd.{WalkEnd}
+use Rattle.xl_pte.specs.declared.word.Pte.TheVariants as pte
 
 -- Where a slot of a node that is at a page is empty, the mapping's nodes end.
 end-here : (top spaces s page l n : ℕ) (leaves : List Leaf) (nodes : List (Option Node)) (words used : List ℕ) → IsTable top spaces leaves nodes words used → l < top → Stands s page l n nodes → leaf_in s l (up l page) leaves ≡ None → number_of s l (up l page) nodes ≡ None → end_level (top - 1) 0 s page leaves ≡ l

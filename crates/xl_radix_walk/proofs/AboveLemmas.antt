@@ -1,12 +1,5 @@
 -- Walk caches above others of width 0.
-use Rattle.std.proofs.Common.{ℕ, zero, suc, ◌≡◌, ◌+◌, ◌≤◌, ◌==◌, true, false, ◌&&◌, nat_lt, nat_le, if◌then◌else◌, List, [], ◌∷◌, length, Option, None, refl, sym, ap, ◌∙◌, subst, arith}
-use Rattle.std.proofs.lemmas.Bool.Decides.{nat_tests}
-use Rattle.xl_model.specs.Nodes.{Node}
-use Rattle.xl_model.specs.Caches.{Cached, Numbered, empty_cache}
-use Rattle.xl_model.specs.Walks.{start_level, node_caches_after}
-use Rattle.xl_model.specs.declared.event.Reach.{Reach}
-use Rattle.xl_recency.specs.declared.item.Item.{Item}
-use Rattle.xl_radix_walk.specs.Row.{above_off, caches_in, AreNumbered, AreOff, filled_caches, FillsNone, purged_caches, entries_of, fenced_caches}
+use Rattle.xl_radix_walk.proofs.Common.{if◌then◌else◌, ◌&&◌, ◌+◌, ◌==◌, ◌∙◌, ◌∷◌, ◌≡◌, ◌≤◌, [], above_off, ap, AreNumbered, AreOff, arith, Cached, caches_in, empty_cache, entries_of, false, fenced_caches, filled_caches, FillsNone, Item, length, List, nat_le, nat_lt, nat_tests, Node, node_caches_after, None, Numbered, Option, purged_caches, Reach, refl, start_level, subst, suc, sym, true, zero, ℕ}
 
 pub length-above : (n : ℕ) (cs : List (Cached Item)) → length (above_off n cs) ≡ n + length cs
 length-above zero cs = omega arith

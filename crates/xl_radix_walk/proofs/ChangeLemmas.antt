@@ -1,25 +1,12 @@
 -- A change of a row: the tags of the nodes that were given back leave the caches, and no others.
-use Rattle.std.proofs.Common.{ℕ, ◌≡◌, ◌-◌, true, false, List, Option, None, Some, Ok, Err, refl, ap, sym, ◌∙◌, subst, arith}
-use Rattle.xl_model.specs.declared.leaf.Leaf.{Leaf}
-use Rattle.xl_model.specs.declared.work.NoRoom.TheVariants as why
-use Rattle.xl_model.specs.declared.work.Work.{Work}
-use Rattle.xl_model.specs.Addresses.{level_of}
-use Rattle.xl_model.specs.Changes.{Change, Insert, changed}
-use Rattle.xl_model.specs.Mapping.{with_leaf}
-use Rattle.xl_model.specs.Nodes.{Node, free_count, only_needed, with_leaf_nodes}
-use Rattle.xl_model.specs.Caches.{Cached, caches_purged}
+use Rattle.xl_radix_walk.proofs.Common.{◌-◌, ◌∙◌, ◌≡◌, ap, AreNumbered, arith, brought, Cached, caches_purged, Change, changed, entries_of, Err, false, finds_place, free_count, has_room, Insert, IsChange, IsMade, IsRow, Item, Leaf, level_of, List, moves_made, narrowed, Node, None, Ok, only_needed, Option, purged_caches, Radix, refl, refused_for, row_of, row_table, shape_after, shape_of, Some, subst, sym, Table, table_after, table_answer, table_made, true, verdict, widened, with_brought, with_leaf, with_leaf_nodes, work_of, ℕ}
 use Rattle.xl_model.specs.Placing.{no_moves}
-use Rattle.xl_model.specs.Room.{has_room}
-use Rattle.xl_model.specs.Shapes.{Radix, brought, widened, narrowed, shape_after}
-use Rattle.xl_model.specs.Structures.{IsChange, moves_made, finds_place, verdict, table_made, table_answer, table_after, work_of}
-use Rattle.xl_recency.specs.declared.item.Item.{Item}
-use Rattle.xl_radix.specs.Table.{Table}
-use Rattle.xl_radix.specs.Steps.{IsMade, shape_of, with_brought}
-use Rattle.xl_radix.proofs.ShapeLemmas.{less-same, count-same}
+use Rattle.xl_model.specs.declared.work.Work.{Work}
+use Rattle.xl_radix.proofs.ShapeLemmas.{count-same, less-same}
 use Rattle.xl_radix.proofs.TakingLemmas.{less-none}
-use Rattle.xl_radix_walk.specs.Row.{AreNumbered, IsRow, refused_for, row_of, row_table, purged_caches, entries_of}
 use Rattle.xl_radix_walk.proofs.KeptLemmas.{numbered-path}
-use Rattle.xl_radix_walk.proofs.PurgeLemmas.{purged-in, numbered-purged, entries-in, purged-length}
+use Rattle.xl_radix_walk.proofs.PurgeLemmas.{entries-in, numbered-purged, purged-in, purged-length}
+use Rattle.xl_model.specs.declared.work.NoRoom.TheVariants as why
 
 -- The nodes that the new leaf lacked leave each tag its number.
 numbered-brought : (top : ℕ) (b : Option Leaf) (nodes : List (Option Node)) (cs : List (Cached Item)) → AreNumbered 0 nodes cs → AreNumbered 0 (with_brought top b nodes) cs

@@ -1,20 +1,7 @@
 -- A walk of a table's own words.
-use Rattle.std.proofs.Common.{ℕ, zero, suc, ◌≡◌, ◌+◌, ◌-◌, ◌%◌, ◌^◌, ◌<◌, ◌≤◌, true, false, if◌then◌else◌, ◌⊎◌, inl, inr, List, [], slice_index, Option, Some, None, refl, ap, sym, ◌∙◌, subst, arith}
-use Rattle.xl_model.specs.declared.leaf.Leaf.{Leaf}
-use Rattle.xl_model.specs.Base.{plus}
-use Rattle.xl_model.specs.Mapping.{leaf_at_page}
-use Rattle.xl_model.specs.Nodes.{up, Node, number_of}
-use Rattle.xl_model.specs.Walks.{end_level}
-use Rattle.xl_phys.specs.Lines.{counted}
-use Rattle.xl_pte.specs.Decode.{decode_of}
-use Rattle.xl_pte.specs.declared.word.Pte.{Pte}
+use Rattle.xl_radix_walk.proofs.Common.{if◌then◌else◌, ◌%◌, ◌+◌, ◌-◌, ◌<◌, ◌^◌, ◌∙◌, ◌≡◌, ◌≤◌, ◌⊎◌, [], ap, arith, counted, decode_of, end_at, end_level, end_of, entered, entering, false, inl, inr, is_there, IsPath, Leaf, leaf_at_page, List, loaded_times, Node, None, number_of, Option, place_of, plus, Pte, radix_back, radix_path, reading, refl, slice_index, Some, subst, suc, sym, Table, true, up, walk_end, WordsReadBack, zero, ℕ}
 use Rattle.xl_pte.specs.declared.word.Pte.TheVariants as pte
 use Rattle.xl_radix.specs.declared.walk_end.WalkEnd.TheVariants as end
-use Rattle.xl_radix.specs.Table.{Table}
-use Rattle.xl_radix.specs.Walk.{place_of, is_there, end_at, reading, radix_back, walk_end, WordsReadBack}
-use Rattle.xl_radix.specs.Walk.{end_of}
-use Rattle.xl_radix_walk.specs.Path.{entered, entering, radix_path, loaded_times}
-use Rattle.xl_radix_walk.specs.Row.{IsPath}
 
 -- the loads of a walk
 pub loads-are : (n : ℕ) (t : Table) → loaded_times (λ (r : Table). record r { loads = counted r.loads }) (suc n) t ≡ record t { loads = plus t.loads (suc n) }

@@ -1,14 +1,5 @@
 -- Fences on walk caches.
-use Rattle.std.proofs.Common.{ℕ, suc, ◌≡◌, ◌+◌, ◌-◌, ◌/◌, Bool, true, false, not, if◌then◌else◌, List, [], ◌∷◌, map, length, Option, refl, ap, subst, arith}
-use Rattle.xl_model.specs.declared.event.Reach.{Reach}
-use Rattle.xl_model.specs.Nodes.{Node}
-use Rattle.xl_model.specs.Caches.{Cached, Numbered, all_without, reaches_space, caches_fenced}
-use Rattle.xl_model.specs.Recency.{purged}
-use Rattle.xl_model.specs.Structures.{IsFence, fence_answer, table_fenced}
-use Rattle.xl_model_lemmas.proofs.MemberLemmas.{filter-In}
-use Rattle.xl_recency.specs.declared.item.Item.{Item}
-use Rattle.xl_radix.specs.Table.{Table}
-use Rattle.xl_radix_walk.specs.Row.{numbered_in, caches_in, AreNumbered, is_fenced, fenced_caches, entries_of, IsRow, row_of, row_table}
+use Rattle.xl_radix_walk.proofs.Common.{if◌then◌else◌, ◌+◌, ◌-◌, ◌/◌, ◌∷◌, ◌≡◌, [], all_without, ap, AreNumbered, arith, Bool, Cached, caches_fenced, caches_in, entries_of, false, fence_answer, fenced_caches, filter-In, is_fenced, IsFence, IsRow, Item, length, List, map, Node, not, Numbered, numbered_in, Option, purged, Reach, reaches_space, refl, row_of, row_table, subst, suc, Table, table_fenced, true, ℕ}
 use Rattle.xl_radix_walk.proofs.PurgeLemmas.{entries-in}
 
 fenced-map : (level : ℕ) (to : Reach) (xs : List Item) → map (numbered_in level) (purged (is_fenced to) xs) ≡ purged (λ e. reaches_space to e.node.space) (map (numbered_in level) xs)

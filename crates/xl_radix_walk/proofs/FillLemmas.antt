@@ -1,16 +1,5 @@
 -- Fills of walk caches.
-use Rattle.std.proofs.Common.{ℕ, zero, suc, ◌≡◌, ◌+◌, ◌-◌, ◌*◌, ◌/◌, ◌%◌, ◌^◌, ◌<◌, ◌≤◌, ◌==◌, Bool, true, false, ◌&&◌, nat_lt, nat_le, if◌then◌else◌, inl, inr, List, [], ◌∷◌, map, take, length, slice_index, Option, Some, None, refl, ap, arith}
-use Rattle.std.proofs.lemmas.Bool.Decides.{nat_tests}
-use Rattle.xl_model.specs.declared.leaf.Leaf.{Leaf}
-use Rattle.xl_model.specs.Addresses.{level_of}
-use Rattle.xl_model.specs.Nodes.{up, Node, number_of}
-use Rattle.xl_model.specs.Caches.{Cached, Numbered}
-use Rattle.xl_model.specs.Walks.{numbered, with_fill, node_cache_after, node_caches_after}
-use Rattle.xl_model_lemmas.specs.Members.{In}
-use Rattle.xl_model_lemmas.proofs.MemberLemmas.{take-In}
-use Rattle.xl_recency.specs.declared.item.Item.{Item}
-use Rattle.xl_radix_walk.specs.Row.{tag_at, item_at, numbered_in, cache_in, caches_in, AreNumbered, filled_one, filled_caches, IsPath}
-use Rattle.xl_radix.proofs.UpLemmas.{up-le}
+use Rattle.xl_radix_walk.proofs.Common.{if◌then◌else◌, ◌%◌, ◌&&◌, ◌*◌, ◌+◌, ◌-◌, ◌/◌, ◌<◌, ◌==◌, ◌^◌, ◌∷◌, ◌≡◌, ◌≤◌, [], ap, AreNumbered, arith, Bool, cache_in, Cached, caches_in, false, filled_caches, filled_one, In, inl, inr, IsPath, Item, item_at, Leaf, length, level_of, List, map, nat_le, nat_lt, nat_tests, Node, node_cache_after, node_caches_after, None, number_of, Numbered, numbered, numbered_in, Option, refl, slice_index, Some, suc, tag_at, take, take-In, true, up, up-le, with_fill, zero, ℕ}
 
 map-take : (f : Item → Numbered) (n : ℕ) (xs : List Item) → map f (take n xs) ≡ take n (map f xs)
 map-take f zero xs = refl

@@ -1,10 +1,5 @@
 -- The walk of a page from the root of its space.
-use Rattle.std.proofs.Common.{◌≡◌, sym, subst, ℕ, suc, ◌-◌, ◌^◌, ◌<◌, Some, arith}
-use Rattle.xl_model.specs.Nodes.{up, number_of}
-use Rattle.xl_model.specs.Structures.{IsPage}
-use Rattle.xl_radix.specs.Steps.{shape_of}
-use Rattle.xl_radix.specs.Table.{Table}
-use Rattle.xl_radix.specs.Walk.{WordsReadBack}
+use Rattle.xl_radix_walk.proofs.Common.{◌-◌, ◌<◌, ◌^◌, ◌≡◌, arith, IsPage, number_of, shape_of, Some, subst, suc, sym, Table, up, WordsReadBack, ℕ}
 use Rattle.xl_radix_walk.proofs.RowLemmas.{page-low, root-at}
 
 module _ (top space page : ℕ) (t : Table) (back : WordsReadBack top t.spaces t.leaves t.nodes t.words) where

@@ -1,11 +1,5 @@
 -- New nodes leave each node its number.
-use Rattle.std.proofs.Common.{ℕ, zero, suc, ◌≡◌, ◌+◌, ◌-◌, ◌/◌, ◌%◌, Bool, true, false, cond, List, [], ◌∷◌, Option, Some, None, refl, ap, sym, ◌∙◌, subst, arith}
-use Rattle.std.specs.List.{position_from}
-use Rattle.xl_model.specs.Nodes.{up, Node, is_below, number_of, put_first, unless_there, with_node, with_path}
-use Rattle.xl_model.specs.Caches.{Cached}
-use Rattle.xl_recency.specs.declared.item.Item.{Item}
-use Rattle.xl_radix.proofs.NumberLemmas.{below-is}
-use Rattle.xl_radix_walk.specs.Row.{AreNumbered}
+use Rattle.xl_radix_walk.proofs.Common.{◌%◌, ◌+◌, ◌-◌, ◌/◌, ◌∙◌, ◌∷◌, ◌≡◌, [], ap, AreNumbered, arith, below-is, Bool, Cached, cond, false, is_below, Item, List, Node, None, number_of, Option, position_from, put_first, refl, Some, subst, suc, sym, true, unless_there, up, with_node, with_path, zero, ℕ}
 
 put-other : (p : Option Node → Bool) (x : Node) (xs : List (Option Node)) (b : ℕ) → p None ≡ false → p (Some x) ≡ false → position_from p b (put_first x xs) ≡ position_from p b xs
 put-other p x [] b e f = refl

@@ -1,17 +1,6 @@
 -- Looks into walk caches.
-use Rattle.std.proofs.Common.{ℕ, zero, suc, ◌≡◌, ◌+◌, ◌*◌, ◌/◌, ◌%◌, ◌^◌, ◌<◌, ◌≤◌, ◌==◌, Bool, true, false, cond, ◌&&◌, ◌||◌, ◌⊎◌, inl, inr, List, [], ◌∷◌, map, find, Option, Some, None, refl, sym, ◌∙◌, subst, arith}
-use Rattle.std.specs.List.{list_any}
-use Rattle.std.proofs.lemmas.Bool.Decides.{nat_tests}
+use Rattle.xl_radix_walk.proofs.Common.{◌%◌, ◌&&◌, ◌*◌, ◌+◌, ◌/◌, ◌<◌, ◌==◌, ◌^◌, ◌||◌, ◌∙◌, ◌∷◌, ◌≡◌, ◌≤◌, ◌⊎◌, [], AreNumbered, arith, Bool, Cached, caches_in, cond, false, find, find-In, find-passes, has_tag, In, in_front, inl, inr, is_tag, Item, List, list_any, map, nat_tests, Node, node_caches_after, None, number_of, Numbered, numbered_in, Option, refl, Some, start_level, subst, suc, sym, tag_at, touched, true, up, up-le, without_first, ℕ}
 use Rattle.std.proofs.lemmas.Bool.{eq-eqb}
-use Rattle.xl_model.specs.Nodes.{up, Node, number_of}
-use Rattle.xl_model.specs.Caches.{Cached, Numbered}
-use Rattle.xl_model.specs.Recency.{touched, without_first, in_front}
-use Rattle.xl_model.specs.Walks.{is_tag, start_level, node_caches_after}
-use Rattle.xl_model_lemmas.specs.Members.{In}
-use Rattle.xl_model_lemmas.proofs.MemberLemmas.{find-In, find-passes}
-use Rattle.xl_recency.specs.declared.item.Item.{Item}
-use Rattle.xl_radix_walk.specs.Row.{tag_at, has_tag, numbered_in, caches_in, AreNumbered}
-use Rattle.xl_radix.proofs.UpLemmas.{up-le}
 
 -- lists under a map
 any-map : (p : Numbered → Bool) (q : Item → Bool) (f : Item → Numbered) (xs : List Item) → ((x : Item) → p (f x) ≡ q x) → list_any p (map f xs) ≡ list_any q xs

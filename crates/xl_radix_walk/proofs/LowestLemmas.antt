@@ -1,29 +1,8 @@
 -- A look at the cache of level 0 alone, and a walk from there.
-use Rattle.std.proofs.Common.{ℕ, suc, ◌≡◌, ◌+◌, ◌-◌, ◌<◌, ◌^◌, Bool, true, false, cond, ◌||◌, nat_lt, List, [], ◌∷◌, find, length, Option, None, Some, refl, sym, ap, ◌∙◌, subst, arith}
-use Rattle.std.specs.List.{list_any}
-use Rattle.std.specs.Prelude.{IfNone, IfSome}
-use Rattle.xl_model.specs.declared.address.Kind.{Kind}
-use Rattle.xl_model.specs.declared.leaf.Leaf.{Leaf}
-use Rattle.xl_model.specs.Base.{one_if}
-use Rattle.xl_model.specs.LeafWords.{small_leaf}
-use Rattle.xl_model.specs.Mapping.{leaf_at_page}
-use Rattle.xl_model.specs.Nodes.{up, Node}
-use Rattle.xl_model.specs.Caches.{Cached, Numbered, NodeCaches}
-use Rattle.xl_model.specs.Recency.{touched, without_first}
-use Rattle.xl_model.specs.Shapes.{Radix}
-use Rattle.xl_model.specs.Structures.{IsAllowedWalk, IsPage, IsSameWalk}
-use Rattle.xl_model.specs.Walks.{is_tag, start_level, with_touch, node_cache_after, node_caches_after, end_level, radix_walk_from, Walked, walked}
-use Rattle.xl_radix.specs.Steps.{shape_of}
-use Rattle.xl_radix.specs.Table.{Table}
-use Rattle.xl_radix.specs.Walk.{WordsReadBack}
-use Rattle.xl_recency.specs.declared.item.Item.{Item}
-use Rattle.xl_recency.specs.Lists.{Touches}
-use Rattle.xl_radix_walk.specs.declared.caches.Start.{Start}
-use Rattle.xl_radix_walk.specs.Quick.{IsAllowed}
-use Rattle.xl_radix_walk.specs.Row.{caches_in, has_tag, tag_at, IsLowest, IsRow, IsStraight, row_of, row_table}
-use Rattle.xl_radix_walk.proofs.LookLemmas.{above-same, hit, start-from, touched-none}
+use Rattle.xl_radix_walk.proofs.Common.{◌+◌, ◌-◌, ◌<◌, ◌^◌, ◌||◌, ◌∙◌, ◌∷◌, ◌≡◌, [], ap, arith, Bool, Cached, caches_in, cond, end_level, false, find, has_tag, IfNone, IfSome, is_tag, IsAllowed, IsAllowedWalk, IsLowest, IsPage, IsRow, IsSameWalk, IsStraight, Item, Kind, Leaf, leaf_at_page, length, List, list_any, nat_lt, Node, node_cache_after, node_caches_after, NodeCaches, None, Numbered, one_if, Option, Radix, radix_walk_from, refl, row_of, row_table, shape_of, small_leaf, Some, Start, start_level, subst, suc, sym, Table, tag_at, touched, Touches, true, up, Walked, walked, with_touch, without_first, WordsReadBack, ℕ}
 use Rattle.xl_radix_walk.proofs.AboveLemmas.{fills-lowest}
-use Rattle.xl_radix_walk.proofs.RowLemmas.{IsStart, is-start, length-in, page-low, root-at}
+use Rattle.xl_radix_walk.proofs.LookLemmas.{above-same, hit, start-from, touched-none}
+use Rattle.xl_radix_walk.proofs.RowLemmas.{is-start, IsStart, length-in, page-low, root-at}
 use Rattle.xl_radix_walk.proofs.WalkedLemmas.{row-from, straight-walked}
 
 -- what a touch does to a list that was touched

@@ -1,13 +1,5 @@
 -- A row at its opening.
-use Rattle.std.proofs.Common.{ℕ, zero, suc, ◌≡◌, ◌+◌, ◌-◌, ◌<◌, ◌≤◌, Bool, true, false, ◌&&◌, List, [], ◌∷◌, map, take, drop, length, slice_index, Option, refl, ap, arith}
-use Rattle.std.specs.List.{list_all}
-use Rattle.std.proofs.lemmas.List.{length-map}
-use Rattle.xl_model.specs.Caches.{Cached, Numbered, empty_cache, empty_caches, opening_caches}
-use Rattle.xl_model.specs.Nodes.{Node, opening_nodes}
-use Rattle.xl_model.specs.Shapes.{opening_shape}
-use Rattle.xl_recency.specs.declared.item.Item.{Item}
-use Rattle.xl_radix.specs.Table.{Table}
-use Rattle.xl_radix_walk.specs.Row.{caches_in, AreNumbered, IsRow, row_of, row_table, opening_table}
+use Rattle.xl_radix_walk.proofs.Common.{◌&&◌, ◌+◌, ◌-◌, ◌<◌, ◌∷◌, ◌≡◌, ◌≤◌, [], ap, AreNumbered, arith, Bool, Cached, caches_in, drop, empty_cache, empty_caches, false, IsRow, Item, length, length-map, List, list_all, map, Node, Numbered, opening_caches, opening_nodes, opening_shape, opening_table, Option, refl, row_of, row_table, slice_index, suc, Table, take, true, zero, ℕ}
 
 both : (b c : Bool) → (b && c) ≡ true → (b ≡ true) × (c ≡ true)
 both true c h = (refl, h)

@@ -1,15 +1,6 @@
 -- The precise purge of walk caches.
-use Rattle.std.proofs.Common.{ℕ, zero, suc, ◌≡◌, ◌+◌, ◌/◌, ◌%◌, Bool, true, false, not, is_some, if◌then◌else◌, ◌⊎◌, inl, inr, List, [], ◌∷◌, map, length, slice_index_or, Option, Some, None, refl, ap, sym, ◌∙◌}
-use Rattle.std.specs.List.{position_from}
-use Rattle.xl_model.specs.declared.leaf.Leaf.{Leaf}
-use Rattle.xl_model.specs.Nodes.{Node, is_below, number_of, is_needed, kept_node, only_needed}
-use Rattle.xl_model.specs.Caches.{Cached, Numbered, all_without, items_in}
-use Rattle.xl_model.specs.Recency.{purged}
-use Rattle.xl_model_lemmas.specs.Members.{In}
-use Rattle.xl_recency.specs.declared.item.Item.{Item}
-use Rattle.xl_radix.proofs.NumberLemmas.{number-some, below-some, below-is}
+use Rattle.xl_radix_walk.proofs.Common.{if◌then◌else◌, ◌%◌, ◌+◌, ◌/◌, ◌∙◌, ◌∷◌, ◌≡◌, ◌⊎◌, [], all_without, AllNumbered, ap, AreNumbered, below-is, below-some, Bool, Cached, caches_in, entries_of, false, In, inl, inr, is_below, is_gone, is_needed, is_some, Item, items_in, kept_node, Leaf, length, List, map, Node, None, not, number-some, number_of, Numbered, numbered_in, only_needed, Option, position_from, purged, purged_caches, refl, slice_index_or, Some, suc, sym, true, zero, ℕ}
 use Rattle.xl_radix.proofs.FreedNodeLemmas.{node-is}
-use Rattle.xl_radix_walk.specs.Row.{numbered_in, caches_in, AllNumbered, AreNumbered, is_gone, purged_caches, entries_of}
 
 -- Where each tag's number is its node's, no tag leaves.
 pub none-gone : (level : ℕ) (nodes : List (Option Node)) (cs : List (Cached Item)) → AreNumbered level nodes cs → purged_caches nodes cs ≡ cs

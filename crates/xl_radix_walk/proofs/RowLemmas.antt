@@ -1,22 +1,6 @@
 -- A walk of a row.
-use Rattle.std.proofs.Common.{ℕ, suc, ◌≡◌, ◌+◌, ◌-◌, ◌*◌, ◌<◌, ◌≤◌, ◌^◌, nat_lt, is_some, List, [], ◌∷◌, length, Option, zero, Some, None, refl, ap, sym, ◌∙◌, subst, arith}
-use Rattle.std.specs.Prelude.{IfSome, IfNone}
-use Rattle.std.proofs.lemmas.Bool.Decides.{nat_tests}
-use Rattle.xl_model.specs.declared.leaf.Leaf.{Leaf}
-use Rattle.xl_model.specs.Mapping.{leaf_at_page}
-use Rattle.xl_model.specs.Nodes.{up, Node, number_of}
-use Rattle.xl_model.specs.Caches.{Cached, Numbered}
-use Rattle.xl_model.specs.Walks.{start_level, end_level, node_caches_after}
-use Rattle.xl_model.specs.Walks.{walked}
-use Rattle.xl_model.specs.Base.{one_if, plus}
-use Rattle.xl_model.specs.Structures.{walk_answer, table_walked}
-use Rattle.xl_radix.specs.declared.walk_end.WalkEnd.{WalkEnd}
-use Rattle.xl_radix.specs.Table.{Table}
-use Rattle.xl_recency.specs.declared.item.Item.{Item}
-use Rattle.xl_radix.specs.Walk.{walk_end, WordsReadBack}
-use Rattle.xl_radix_walk.specs.declared.caches.Start.{Start}
-use Rattle.xl_radix_walk.specs.Row.{caches_in, AreNumbered, filled_by, leaf_told, start_or, IsPath, IsRow, row_of, row_table}
-use Rattle.xl_radix_walk.proofs.FillLemmas.{filled, numbered-filled, filled-length}
+use Rattle.xl_radix_walk.proofs.Common.{◌*◌, ◌+◌, ◌-◌, ◌<◌, ◌^◌, ◌∙◌, ◌∷◌, ◌≡◌, ◌≤◌, [], ap, AreNumbered, arith, Cached, caches_in, end_level, filled_by, IfNone, IfSome, is_some, IsPath, IsRow, Item, Leaf, leaf_at_page, leaf_told, length, List, nat_lt, nat_tests, Node, node_caches_after, None, number_of, Numbered, one_if, Option, plus, refl, row_of, row_table, Some, Start, start_level, start_or, subst, suc, sym, Table, table_walked, up, walk_answer, walk_end, walked, WalkEnd, WordsReadBack, zero, ℕ}
+use Rattle.xl_radix_walk.proofs.FillLemmas.{filled, filled-length, numbered-filled}
 
 pub length-in : (level : ℕ) (cs : List (Cached Item)) → length (caches_in level cs) ≡ length cs
 length-in level [] = refl

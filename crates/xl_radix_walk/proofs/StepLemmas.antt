@@ -1,15 +1,8 @@
 -- What a word says is a step of the walk.
-use Rattle.std.proofs.Common.{◌≡◌, refl, sym, ap, ◌∙◌, subst, ℕ, zero, suc, ◌+◌, length, ◌-◌, ◌*◌, ◌/◌, ◌%◌, ◌^◌, ◌<◌, Bool, true, false, cond, List, [], ◌∷◌, Option, None, Some, slice_index, ◌==◌, arith}
-use Rattle.std.proofs.lemmas.Bool.Decides.{nat_tests}
+use Rattle.xl_radix_walk.proofs.Common.{◌%◌, ◌*◌, ◌+◌, ◌-◌, ◌/◌, ◌<◌, ◌==◌, ◌^◌, ◌∙◌, ◌∷◌, ◌≡◌, [], ap, arith, bit, Bool, cond, decode_of, end_at, entered, entering, false, GoesTo, is_there, IsStep, IsWord, leaf_at, length, List, nat_tests, None, Option, place_of, pointer_at, ppn_of, Pte, radix_back, radix_path, reading, refl, says, slice_index, Some, step_of, subst, suc, sym, true, WalkEnd, word_in, zero, ℕ}
 use Rattle.xl_model.specs.declared.perm.Perm.{Perm}
-use Rattle.xl_pte.specs.Decode.{decode_of, says, pointer_at, leaf_at, bit, ppn_of}
-use Rattle.xl_pte.specs.declared.word.Pte.{Pte}
 use Rattle.xl_pte.specs.declared.word.Pte.TheVariants as pte
-use Rattle.xl_radix.specs.declared.walk_end.WalkEnd.{WalkEnd}
 use Rattle.xl_radix.specs.declared.walk_end.WalkEnd.TheVariants as end
-use Rattle.xl_radix.specs.Walk.{place_of, is_there, end_at, reading, radix_back}
-use Rattle.xl_phys.specs.Lines.{IsWord}
-use Rattle.xl_radix_walk.specs.Path.{entered, entering, radix_path, word_in, step_of, GoesTo, IsStep}
 
 -- a walk by what its first word says
 back_by : Option Pte → List ℕ → ℕ → ℕ → WalkEnd

@@ -1,15 +1,9 @@
 -- Steps of the quick walk.
-use Rattle.std.proofs.Common.{◌≡◌, refl, sym, ap, ◌∙◌, subst, ℕ, zero, suc, ◌+◌, ◌-◌, ◌/◌, ◌^◌, ◌<◌, ◌≤◌, List, [], ◌∷◌, ◌++◌, length, take, slice_index, slice_set, arith, append_assoc, append-nil}
+use Rattle.xl_radix_walk.proofs.Common.{◌++◌, ◌+◌, ◌-◌, ◌/◌, ◌<◌, ◌^◌, ◌∙◌, ◌∷◌, ◌≡◌, ◌≤◌, [], ap, append-nil, append_assoc, arith, decode_of, EndsAt, Enters, HasWord, IfSome, length, List, None, Option, perm_at, place_of, Points, radix_back, radix_path, refl, SaysSmall, slice_index, slice_set, Some, subst, suc, sym, take, zero, ℕ}
 use Rattle.std.proofs.lemmas.Grind.{take-set_at}
-use Rattle.std.specs.Prelude.{Option, None, Some, IfSome}
-use Rattle.xl_model.specs.LeafWords.{perm_at}
-use Rattle.xl_pte.specs.Decode.{decode_of, SaysSmall}
+use Rattle.xl_radix_walk.proofs.StepLemmas.{path-none}
 use Rattle.xl_pte.specs.declared.word.Pte.TheVariants as pte
 use Rattle.xl_radix.specs.declared.walk_end.WalkEnd.TheVariants as end
-use Rattle.xl_radix.specs.Walk.{place_of, radix_back}
-use Rattle.xl_radix_walk.specs.Path.{radix_path}
-use Rattle.xl_radix_walk.specs.Quick.{Points, HasWord, EndsAt, Enters}
-use Rattle.xl_radix_walk.proofs.StepLemmas.{path-none}
 
 pub steps-on : (words : List ℕ) (level node page word next : ℕ) → 0 < level → HasWord words level node page word → Points word next
     → radix_back words level node page ≡ radix_back words (level - 1) next page

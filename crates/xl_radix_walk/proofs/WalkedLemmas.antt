@@ -1,29 +1,9 @@
 -- A walk of a row from one of a page's nodes.
-use Rattle.std.proofs.Common.{ℕ, suc, ◌≡◌, ◌+◌, ◌-◌, ◌*◌, ◌/◌, ◌%◌, ◌^◌, ◌<◌, ◌≤◌, is_some, List, [], length, take, slice_index, Option, Some, None, false, refl, ap, sym, subst, ◌∙◌, arith}
-use Rattle.std.proofs.lemmas.List.{get_or-take}
-use Rattle.std.specs.Prelude.{IfSome}
-use Rattle.xl_model.specs.declared.address.Kind.{Kind}
-use Rattle.xl_model.specs.declared.address.Order.TheVariants as order
-use Rattle.xl_model.specs.Addresses.{level_of}
-use Rattle.xl_model.specs.LeafWords.{perm_at, small_leaf}
-use Rattle.xl_model.specs.Base.{one_if, plus}
-use Rattle.xl_model.specs.declared.leaf.Leaf.{Leaf}
-use Rattle.xl_model.specs.Mapping.{leaf_at_page}
-use Rattle.xl_model.specs.Nodes.{up, number_of}
-use Rattle.xl_model.specs.Structures.{IsAllowedWalk, IsPage, IsWalk}
-use Rattle.xl_model.specs.Walks.{start_level, end_level, node_caches_after}
-use Rattle.xl_model.specs.Caches.{Cached}
-use Rattle.xl_radix.specs.Steps.{shape_of}
-use Rattle.xl_radix.specs.Table.{Table}
-use Rattle.xl_radix.specs.Walk.{walk_end, WordsReadBack}
-use Rattle.xl_recency.specs.declared.item.Item.{Item}
-use Rattle.xl_radix_walk.specs.Path.{radix_path}
-use Rattle.xl_radix_walk.specs.Quick.{Enters, Finds, IsAllowed}
-use Rattle.xl_radix_walk.specs.declared.caches.Start.{Start}
-use Rattle.xl_radix_walk.specs.Row.{caches_in, AreNumbered, AreOff, leaf_told, filled_by, filled_caches, start_or, FillsNone, IsPath, IsRow, IsStraight, IsWalked, row_of, row_table}
-use Rattle.xl_radix_walk.proofs.AboveLemmas.{are-looked, are-filled}
+use Rattle.xl_radix_walk.proofs.Common.{◌%◌, ◌*◌, ◌+◌, ◌-◌, ◌/◌, ◌<◌, ◌^◌, ◌∙◌, ◌≡◌, ◌≤◌, [], ap, AreNumbered, AreOff, arith, Cached, caches_in, end_level, Enters, false, filled_by, filled_caches, FillsNone, Finds, get_or-take, IfSome, is_some, IsAllowed, IsAllowedWalk, IsPage, IsPath, IsRow, IsStraight, IsWalk, IsWalked, Item, Kind, Leaf, leaf_at_page, leaf_told, length, level_of, List, node_caches_after, None, number_of, one_if, Option, perm_at, plus, radix_path, refl, row_of, row_table, shape_of, slice_index, small_leaf, Some, Start, start_level, start_or, subst, suc, sym, Table, take, up, walk_end, WordsReadBack, ℕ}
+use Rattle.xl_radix_walk.proofs.AboveLemmas.{are-filled, are-looked}
 use Rattle.xl_radix_walk.proofs.DescentLemmas.{walk-path}
-use Rattle.xl_radix_walk.proofs.RowLemmas.{IsStart, WalkedRow, is-start, page-low, root-at, leaf-told, row-walked, row-answer}
+use Rattle.xl_radix_walk.proofs.RowLemmas.{is-start, IsStart, leaf-told, page-low, root-at, row-answer, row-walked, WalkedRow}
+use Rattle.xl_model.specs.declared.address.Order.TheVariants as order
 
 pub straight-found : (top start node space page word : ℕ) (t new : Table) → WordsReadBack top t.spaces t.leaves t.nodes t.words → number_of space (suc start) (up (suc start) page) t.nodes ≡ Some node
     → Finds t.words start node page word → new ≡ record t { loads = (t.loads + (start + 1)) % 2 ^ 64 } → IsStraight top start space page (small_leaf space page word) t new

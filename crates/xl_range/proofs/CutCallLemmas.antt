@@ -1,22 +1,11 @@
 -- The calls that cut a leaf out of a held range make the cut list, and what they ask for.
-use Rattle.std.proofs.Common.{◌≡◌, refl, sym, ap, ◌∙◌, subst, ℕ, zero, suc, ◌+◌, ◌-◌, ◌<◌, ◌≤◌, Bool, true, false, List, [], ◌∷◌, length, inl, inr, ◌==◌, nat_le, nat_lt, arith}
-use Rattle.std.proofs.lemmas.Bool.Decides.{nat_tests}
-use Rattle.std.specs.List.{list_any}
-use Rattle.xl_model.specs.declared.address.Order.{Order}
-use Rattle.xl_model.specs.declared.leaf.Range.{Range}
-use Rattle.xl_model.specs.Addresses.{pages_of}
-use Rattle.xl_model.specs.Ranges.{range_key, end_key}
-use Rattle.xl_model_lemmas.specs.Members.{In}
-use Rattle.xl_range.specs.HeldRanges.{IsHeld, pages_before, pages_behind, part_behind, before_on, behind_on, some_if, IsLeafIn, cut}
-use Rattle.xl_range.proofs.TouchLemmas.{some-pages}
+use Rattle.xl_range.proofs.Common.{◌+◌, ◌-◌, ◌<◌, ◌==◌, ◌∙◌, ◌∷◌, ◌≡◌, ◌≤◌, [], ap, arith, before_on, behind_on, Bool, cut, end_key, false, has_key, In, inl, inr, IsApart, IsHeld, IsInside, IsLeafIn, keeping, kept_behind, kept_cut, length, List, list_any, nat_le, nat_lt, nat_tests, Order, pages_before, pages_behind, pages_of, part_behind, Range, range_key, refl, resized, some_if, subst, suc, sym, TreapView, true, with-length, with_range, without_range, zero, ℕ}
+use Rattle.xl_range.proofs.CutCountLemmas.{cut-count}
+use Rattle.xl_range.proofs.CutLemmas.{head-cut, held-cut, next-cut, own-key}
+use Rattle.xl_range.proofs.HoldLemmas.{apart-held, apart-resized, fit-range, key-there, with-front}
 use Rattle.xl_range.proofs.JoinLemmas.{In-key, In-range}
 use Rattle.xl_range.proofs.LeafInLemmas.{Sizes, sizes}
-use Rattle.xl_range.proofs.CutLemmas.{head-cut, next-cut, held-cut, own-key}
-use Rattle.xl_range.proofs.CutCountLemmas.{cut-count}
-use Rattle.xl_treap.specs.Treaps.{TreapView, keeping, with_range, without_range, resized, has_key, IsApart}
-use Rattle.xl_range.specs.Cuts.{kept_cut, kept_behind, IsInside}
-use Rattle.xl_range.proofs.HoldLemmas.{fit-range, apart-held, with-front, key-there, apart-resized}
-use Rattle.xl_treap.proofs.KeptLemmas.{with-length}
+use Rattle.xl_range.proofs.TouchLemmas.{some-pages}
 
 behind-cons : (n : ℕ) (x r : Range) (rs : List Range) → range_key r < range_key x → kept_behind n x (r ∷ rs) ≡ r ∷ kept_behind n x rs
 behind-cons zero x r rs less = refl

@@ -1,11 +1,5 @@
 -- For the table of ranges: how many ranges are left where a leaf is cut out of one, and where a range is put among them.
-use Rattle.std.proofs.Common.{◌≡◌, refl, ap, ℕ, zero, suc, ◌+◌, ◌≤◌, true, false, cond, List, [], ◌∷◌, length, inl, inr, ◌==◌, nat_lt, arith}
-use Rattle.std.proofs.lemmas.Bool.Decides.{nat_tests}
-use Rattle.xl_model.specs.declared.address.Order.{Order}
-use Rattle.xl_model.specs.declared.leaf.Range.{Range}
-use Rattle.xl_model.specs.Ranges.{range_key}
-use Rattle.xl_model_lemmas.specs.Members.{In}
-use Rattle.xl_range.specs.HeldRanges.{touches, grown, glue, join, pages_before, pages_behind, part_behind, before_on, behind_on, pieces, some_if, cut}
+use Rattle.xl_range.proofs.Common.{◌+◌, ◌==◌, ◌∷◌, ◌≡◌, ◌≤◌, [], ap, arith, before_on, behind_on, cond, cut, false, glue, grown, In, inl, inr, join, length, List, nat_lt, nat_tests, Order, pages_before, pages_behind, part_behind, pieces, Range, range_key, refl, some_if, suc, touches, true, zero, ℕ}
 
 pieces-count : (n m : ℕ) (r x : Range) (rs : List Range) → length (before_on n r (behind_on m x rs)) ≡ length rs + (some_if n + some_if m)
 pieces-count zero zero r x rs = omega arith

@@ -1,19 +1,11 @@
 -- For the table of ranges: a leaf cut out of maximal ranges leaves maximal ranges, of the other leaves.
-use Rattle.std.proofs.Common.{◌≡◌, refl, sym, ap, ◌∙◌, subst, ℕ, zero, suc, ◌+◌, ◌*◌, ◌^◌, ◌<◌, ◌≤◌, true, false, List, [], ◌∷◌, filter, inl, inr, ◌==◌, arith}
-use Rattle.std.proofs.lemmas.Bool.Decides.{nat_tests}
-use Rattle.xl_model.specs.declared.address.Order.{Order}
-use Rattle.xl_model.specs.declared.leaf.Range.{Range}
-use Rattle.xl_model.specs.Addresses.{pages_of}
-use Rattle.xl_model.specs.Mapping.{without_leaf}
-use Rattle.xl_model.specs.Ranges.{range_key, end_key}
-use Rattle.xl_model_lemmas.specs.Members.{In}
-use Rattle.xl_range.specs.HeldRanges.{run_on, first_leaf, leaves_in, spread, touches, Stops, IsRange, IsHeld, pages_before, pages_behind, part_behind, before_on, behind_on, pieces, IsLeafIn, cut}
-use Rattle.xl_range.proofs.RunLemmas.{leaves-is}
-use Rattle.xl_range.proofs.TouchLemmas.{touch, touch-key, some-pages, not-touching}
+use Rattle.xl_range.proofs.Common.{◌*◌, ◌+◌, ◌<◌, ◌==◌, ◌^◌, ◌∙◌, ◌∷◌, ◌≡◌, ◌≤◌, [], ap, arith, before_on, behind_on, cut, end_key, false, filter, first_leaf, In, inl, inr, IsHeld, IsLeafIn, IsRange, leaves_in, List, nat_tests, Order, pages_before, pages_behind, pages_of, part_behind, pieces, Range, range_key, refl, run_on, spread, Stops, subst, suc, sym, touches, true, without_leaf, zero, ℕ}
 use Rattle.xl_range.proofs.JoinLemmas.{In-key}
 use Rattle.xl_range.proofs.LeafInLemmas.{Sizes, sizes}
-use Rattle.xl_range.proofs.PieceLemmas.{stays, filter-below, head-spread}
-use Rattle.xl_range.proofs.LeftLemmas.{stops-far, head-held}
+use Rattle.xl_range.proofs.LeftLemmas.{head-held, stops-far}
+use Rattle.xl_range.proofs.PieceLemmas.{filter-below, head-spread, stays}
+use Rattle.xl_range.proofs.RunLemmas.{leaves-is}
+use Rattle.xl_range.proofs.TouchLemmas.{not-touching, some-pages, touch, touch-key}
 
 -- What is known of a range in its place.
 pub record AtHead (low : ℕ) (r : Range) (rs : List Range) : Type 0 where

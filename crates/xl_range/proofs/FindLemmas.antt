@@ -1,23 +1,11 @@
 -- What is found in held ranges: the range of a page and its leaf, and the range of a leaf that is there.
-use Rattle.std.proofs.Common.{◌≡◌, refl, sym, ap, ◌∙◌, subst, ℕ, ◌+◌, ◌-◌, ◌*◌, ◌/◌, ◌^◌, ◌<◌, ◌≤◌, true, false, is_some, List, [], ◌∷◌, Option, None, Some, inl, inr, find, arith}
-use Rattle.std.proofs.lemmas.Bool.Decides.{nat_tests}
-use Rattle.xl_model.specs.declared.address.Order.{Order}
-use Rattle.xl_model.specs.declared.address.Order.TheVariants as order
-use Rattle.xl_model.specs.declared.leaf.Range.{Range}
-use Rattle.xl_model.specs.Addresses.{pages_of}
-use Rattle.xl_model.specs.Ranges.{range_key, end_key, holds_page}
-use Rattle.xl_model_lemmas.specs.Members.{In}
-use Rattle.xl_range.specs.HeldRanges.{first_leaf, spread, IsHeld, IsLeafIn, leaf_in, leaf_by}
-use Rattle.xl_model.specs.Mapping.{leaf_at_page, leaf_named}
-use Rattle.xl_model.specs.Changes.{IsNamed}
-use Rattle.xl_model_lemmas.proofs.MemberLemmas.{find-In, find-passes}
-use Rattle.xl_range.proofs.JoinLemmas.{In-key, In-range}
-use Rattle.xl_range.proofs.TouchLemmas.{leap}
-use Rattle.xl_range.proofs.LeafInLemmas.{sizes, named-in, holds-first}
-use Rattle.xl_range.proofs.PageRangeLemmas.{find-spread}
-use Rattle.xl_treap.specs.Treaps.{IsFit}
-use Rattle.xl_range.specs.Rows.{IsAt, IsFresh, HasLeaf}
+use Rattle.xl_range.proofs.Common.{◌*◌, ◌+◌, ◌-◌, ◌/◌, ◌<◌, ◌^◌, ◌∙◌, ◌∷◌, ◌≡◌, ◌≤◌, [], ap, arith, end_key, false, find, find-In, find-passes, first_leaf, HasLeaf, holds_page, In, inl, inr, is_some, IsAt, IsFit, IsFresh, IsHeld, IsLeafIn, IsNamed, leaf_at_page, leaf_by, leaf_in, leaf_named, List, nat_tests, None, Option, Order, pages_of, Range, range_key, refl, Some, spread, subst, sym, true, ℕ}
 use Rattle.xl_range.proofs.HoldLemmas.{fit-range}
+use Rattle.xl_range.proofs.JoinLemmas.{In-key, In-range}
+use Rattle.xl_range.proofs.LeafInLemmas.{holds-first, named-in, sizes}
+use Rattle.xl_range.proofs.PageRangeLemmas.{find-spread}
+use Rattle.xl_range.proofs.TouchLemmas.{leap}
+use Rattle.xl_model.specs.declared.address.Order.TheVariants as order
 
 pub at-page : (space page : ℕ) (r : Range) → IsFit r → holds_page space page r ≡ true → IsAt page r
 at-page space page r fit h = record { fit = fit; from = grind (arith, nat_tests); below = grind (arith, nat_tests) }

@@ -1,26 +1,10 @@
 -- Nothing stale: what is cached is fresh after each change, less what the change purges.
-use Rattle.std.proofs.Common.{◌≡◌, refl, sym, ap, ◌∙◌, subst, ℕ, ◌+◌, ◌-◌, ◌*◌, ◌/◌, ◌^◌, ◌<◌, ◌≤◌, Bool, true, false, cond, List, [], ◌∷◌, filter, find, Option, None, Some, ◌==◌, ◌&&◌, nat_le, nat_lt, arith}
-use Rattle.std.proofs.lemmas.Bool.Decides.{nat_tests}
-use Rattle.xl_model.specs.declared.address.Order.{Order}
-use Rattle.xl_model.specs.declared.address.Order.TheVariants as order
-use Rattle.xl_model.specs.declared.perm.Perm.{Perm}
-use Rattle.xl_model.specs.declared.leaf.Leaf.{Leaf}
-use Rattle.xl_model.specs.declared.leaf.Range.{Range}
-use Rattle.xl_model.specs.Addresses.{pages_of}
-use Rattle.xl_model.specs.Mapping.{covers, leaf_at_page, leaf_key, leaf_named, with_leaf, without_leaf}
-use Rattle.xl_model.specs.Changes.{Insert, Remove, Protect, Relocate, changed}
-use Rattle.xl_model.specs.Ranges.{holds_page, range_of_leaf}
-use Rattle.xl_model.specs.Recency.{purged}
-use Rattle.xl_model.specs.Caches.{Cached, holds_first, without_items}
-use Rattle.xl_range.specs.HeldRanges.{spread, IsHeld, IsClear, cut, leaf_in}
-use Rattle.xl_model_lemmas.proofs.MemberLemmas.{find-In, find-passes}
-use Rattle.xl_model_lemmas.proofs.RecencyLemmas.{purged-In}
-use Rattle.xl_treap.specs.Treaps.{TreapView, keeping, IsFit}
-use Rattle.xl_range.specs.Rows.{AllFresh, IsTable, HasLeaf}
-use Rattle.xl_range.proofs.SpreadLeafLemmas.{clear-key, clear-covers}
+use Rattle.xl_range.proofs.Common.{◌&&◌, ◌*◌, ◌+◌, ◌-◌, ◌/◌, ◌<◌, ◌==◌, ◌^◌, ◌∙◌, ◌∷◌, ◌≡◌, ◌≤◌, [], AllFresh, ap, arith, Bool, Cached, changed, cond, covers, cut, false, filter, find, find-In, find-passes, HasLeaf, holds_first, holds_page, Insert, IsClear, IsFit, IsHeld, IsTable, keeping, Leaf, leaf_at_page, leaf_in, leaf_key, leaf_named, List, nat_le, nat_lt, nat_tests, None, Option, Order, pages_of, Perm, Protect, purged, purged-In, Range, range_of_leaf, refl, Relocate, Remove, Some, spread, subst, sym, TreapView, true, with_leaf, without_items, without_leaf, ℕ}
 use Rattle.xl_range.proofs.LeafChangeLemmas.{finds-with, remove-changed}
+use Rattle.xl_range.proofs.MoveStepLemmas.{given-leaves, is-that, IsMoving, IsThat, moved-leaves}
+use Rattle.xl_range.proofs.SpreadLeafLemmas.{clear-covers, clear-key}
 use Rattle.xl_range.proofs.StepLemmas.{CanPutLeaf, cut-can, cut-ranges}
-use Rattle.xl_range.proofs.MoveStepLemmas.{IsMoving, IsThat, is-that, moved-leaves, given-leaves}
+use Rattle.xl_model.specs.declared.address.Order.TheVariants as order
 
 -- A leaf put in where no leaf is.
 put-fresh : (leaf : Leaf) (rs items : List Range) → IsHeld 0 rs → IsClear (range_of_leaf leaf) rs → AllFresh (spread rs) items → AllFresh (with_leaf leaf (spread rs)) items

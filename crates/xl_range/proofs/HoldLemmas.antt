@@ -1,14 +1,7 @@
 -- What a treap can hold: maximal ranges lie apart; how many ranges its calls leave; the held keys.
-use Rattle.std.proofs.Common.{◌≡◌, refl, ap, subst, ℕ, suc, ◌+◌, ◌<◌, ◌≤◌, Bool, true, false, cond, List, [], ◌∷◌, length, inl, inr, ◌==◌, ◌||◌, nat_lt, arith}
-use Rattle.std.proofs.lemmas.Bool.Decides.{nat_tests}
-use Rattle.std.specs.List.{list_any}
-use Rattle.xl_model.specs.declared.leaf.Range.{Range}
-use Rattle.xl_model.specs.Ranges.{range_key, end_key}
-use Rattle.xl_model_lemmas.specs.Members.{In}
-use Rattle.xl_range.specs.HeldRanges.{IsRange, IsHeld}
-use Rattle.xl_range.proofs.JoinLemmas.{lower, In-key}
+use Rattle.xl_range.proofs.Common.{◌+◌, ◌<◌, ◌==◌, ◌||◌, ◌∷◌, ◌≡◌, ◌≤◌, [], ap, arith, Bool, cond, end_key, false, has_key, In, inl, inr, IsApart, IsFit, IsHeld, IsRange, length, List, list_any, nat_lt, nat_tests, Range, range_key, refl, resized, subst, suc, true, with_range, without_range, ℕ}
+use Rattle.xl_range.proofs.JoinLemmas.{In-key, lower}
 use Rattle.xl_range.proofs.TouchLemmas.{some-pages}
-use Rattle.xl_treap.specs.Treaps.{with_range, without_range, resized, has_key, IsFit, IsApart}
 
 pub fit-range : (r : Range) → IsRange r → IsFit r
 fit-range r is = record { some = some-pages r is; space_in = is.space_in; pages_in = is.pages_in; frames_in = is.frames_in }

@@ -1,11 +1,6 @@
 -- For the table of ranges: a range put among maximal ranges leaves maximal ranges.
-use Rattle.std.proofs.Common.{◌≡◌, refl, subst, ℕ, ◌<◌, ◌≤◌, true, false, cond, List, [], ◌∷◌, ◌⊎◌, inl, inr, nat_lt, arith, sym}
-use Rattle.std.proofs.lemmas.Bool.Decides.{nat_tests}
-use Rattle.xl_model.specs.declared.leaf.Range.{Range}
-use Rattle.xl_model.specs.Ranges.{range_key, end_key}
-use Rattle.xl_model_lemmas.specs.Members.{In}
-use Rattle.xl_range.specs.HeldRanges.{touches, Stops, IsRange, IsHeld, IsClear, grown, glue, join}
-use Rattle.xl_range.proofs.TouchLemmas.{Touch, touch, touch-key, stops-grown, grown-range, some-pages}
+use Rattle.xl_range.proofs.Common.{◌<◌, ◌∷◌, ◌≡◌, ◌≤◌, ◌⊎◌, [], arith, cond, end_key, false, glue, grown, In, inl, inr, IsClear, IsHeld, IsRange, join, List, nat_lt, nat_tests, Range, range_key, refl, Stops, subst, sym, touches, true, ℕ}
+use Rattle.xl_range.proofs.TouchLemmas.{grown-range, some-pages, stops-grown, Touch, touch, touch-key}
 
 pub In-key : (low : ℕ) (r : Range) (rs : List Range) → IsHeld low rs → In r rs → low ≤ range_key r
 In-key low r [] h i = absurd i

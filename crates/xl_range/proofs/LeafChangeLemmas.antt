@@ -1,21 +1,6 @@
 -- What the four changes leave of a sorted list of leaves, and whether a table of ranges has room for that.
-use Rattle.std.proofs.Common.{◌≡◌, refl, sym, ap, ◌∙◌, subst, ℕ, ◌≤◌, Bool, true, false, cond, List, [], ◌∷◌, length, find, Option, None, Some, inl, inr, ◌==◌, ◌&&◌, nat_le, nat_lt, arith}
-use Rattle.std.proofs.lemmas.Bool.Decides.{nat_tests}
-use Rattle.xl_model.specs.declared.address.Order.{Order}
-use Rattle.xl_model.specs.declared.perm.Perm.{Perm}
-use Rattle.xl_model.specs.declared.leaf.Leaf.{Leaf}
-use Rattle.xl_model.specs.Mapping.{covers, leaf_at_page, leaf_key, leaf_named, is_leaf, with_leaf, without_leaf}
-use Rattle.xl_model.specs.Changes.{Change, Insert, Remove, Protect, Relocate, IsNamed, changed, with_both, with_new, without_old, with_perm, at_page}
-use Rattle.xl_model.specs.Ranges.{ranges_of}
-use Rattle.xl_model.specs.Room.{has_room, room_for}
-use Rattle.xl_model.specs.Shapes.{Runs, brought}
-use Rattle.xl_model_lemmas.specs.Members.{In, IsSorted}
-use Rattle.xl_model_lemmas.proofs.MemberLemmas.{find-In, In-any}
-use Rattle.xl_model_lemmas.proofs.SameLemmas.{any-find}
-use Rattle.xl_model_lemmas.proofs.PlaceLemmas.{named-space, named-first}
-use Rattle.xl_model_lemmas.proofs.MappingLemmas.{named-is}
-use Rattle.xl_model_lemmas.proofs.InsertionLemmas.{with-In, In-with, stays-with, sorted-with, sorted-without, without-In, without-other, In-without, same-place}
-use Rattle.xl_model_lemmas.proofs.SortedLemmas.{same-sorted}
+use Rattle.xl_range.proofs.Common.{◌&&◌, ◌==◌, ◌∙◌, ◌∷◌, ◌≡◌, ◌≤◌, [], any-find, ap, arith, at_page, Bool, brought, Change, changed, cond, false, find, has_room, In, In-any, inl, inr, Insert, is_leaf, IsNamed, Leaf, leaf_key, leaf_named, length, List, named-first, named-is, named-space, nat_le, nat_lt, nat_tests, None, Option, Order, Perm, Protect, ranges_of, refl, Relocate, Remove, room_for, Runs, Some, sym, true, with_both, with_leaf, with_new, with_perm, without_leaf, without_old, ℕ}
+use Rattle.xl_model_lemmas.proofs.InsertionLemmas.{In-with}
 
 -- A test that a new leaf doesn't pass finds what it found.
 pub finds-with : (p : Leaf → Bool) (x : Leaf) (xs : List Leaf) → p x ≡ false → ((z : Leaf) → In z xs → leaf_key z ≡ leaf_key x → ⊥) → find p (with_leaf x xs) ≡ find p xs

@@ -1,18 +1,7 @@
 -- For the table of ranges: the held range that a named leaf stands in, and how many pages of it lie before and behind the leaf.
-use Rattle.std.proofs.Common.{◌≡◌, refl, sym, ap, ◌∙◌, subst, ℕ, zero, suc, ◌+◌, ◌-◌, ◌*◌, ◌^◌, ◌<◌, ◌≤◌, true, false, cond, List, [], ◌∷◌, Some, ◌⊎◌, inl, inr, find, arith}
-use Rattle.std.proofs.lemmas.Bool.Decides.{nat_tests}
-use Rattle.xl_model.specs.declared.address.Order.{Order}
-use Rattle.xl_model.specs.declared.leaf.Leaf.{Leaf}
-use Rattle.xl_model.specs.declared.leaf.Range.{Range}
-use Rattle.xl_model.specs.Addresses.{pages_of}
-use Rattle.xl_model.specs.Mapping.{leaf_key, is_leaf}
-use Rattle.xl_model.specs.Ranges.{end_key, holds_page}
-use Rattle.xl_model_lemmas.specs.Members.{In}
-use Rattle.xl_range.specs.HeldRanges.{next_leaf, run_on, first_leaf, leaves_in, spread, IsHeld, pages_before, pages_behind, part_behind, IsLeafIn}
-use Rattle.xl_model_lemmas.proofs.OrderLemmas.{pages-some}
-use Rattle.xl_model_lemmas.proofs.PlaceLemmas.{named-space, named-first, named-order}
+use Rattle.xl_range.proofs.Common.{◌*◌, ◌+◌, ◌-◌, ◌<◌, ◌^◌, ◌∙◌, ◌∷◌, ◌≡◌, ◌≤◌, ◌⊎◌, [], ap, arith, cond, end_key, false, find, first_leaf, holds_page, In, inl, inr, is_leaf, IsHeld, IsLeafIn, Leaf, leaf_key, leaves_in, List, named-first, named-order, named-space, nat_tests, next_leaf, Order, pages-some, pages_before, pages_behind, pages_of, part_behind, Range, refl, run_on, Some, spread, subst, suc, sym, true, zero, ℕ}
 use Rattle.xl_range.proofs.RunLemmas.{leaves-is}
-use Rattle.xl_range.proofs.TouchLemmas.{leap, leap-none, leap-next}
+use Rattle.xl_range.proofs.TouchLemmas.{leap, leap-next, leap-none}
 
 -- Where a named leaf is among n leaves from one on.
 pub record InRun (space first : ℕ) (o : Order) (n : ℕ) (l x : Leaf) : Type 0 where

@@ -1,13 +1,8 @@
 -- For the table of ranges: what is left of a range without a leaf of it are maximal ranges.
-use Rattle.std.proofs.Common.{◌≡◌, refl, sym, ◌∙◌, subst, ℕ, zero, suc, ◌+◌, ◌*◌, ◌<◌, ◌≤◌, List, [], ◌∷◌, arith}
-use Rattle.xl_model.specs.declared.address.Order.{Order}
-use Rattle.xl_model.specs.declared.leaf.Range.{Range}
-use Rattle.xl_model.specs.Addresses.{pages_of}
-use Rattle.xl_model.specs.Ranges.{range_key, end_key}
-use Rattle.xl_range.specs.HeldRanges.{touches, Stops, IsRange, IsHeld, pages_before, pages_behind, part_behind, before_on, behind_on, IsLeafIn}
-use Rattle.xl_range.proofs.TouchLemmas.{touch, touch-key, not-touching}
+use Rattle.xl_range.proofs.Common.{◌*◌, ◌+◌, ◌<◌, ◌∙◌, ◌∷◌, ◌≡◌, ◌≤◌, [], arith, before_on, behind_on, end_key, IsHeld, IsLeafIn, IsRange, List, Order, pages_before, pages_behind, pages_of, part_behind, Range, range_key, refl, Stops, subst, suc, sym, touches, zero, ℕ}
 use Rattle.xl_range.proofs.JoinLemmas.{lower}
 use Rattle.xl_range.proofs.LeafInLemmas.{Sizes, sizes}
+use Rattle.xl_range.proofs.TouchLemmas.{not-touching, touch, touch-key}
 
 pub stops-far : (low : ℕ) (y : Range) (rs : List Range) → end_key y < low → IsHeld low rs → Stops y rs
 stops-far low y [] less h = tt

@@ -1,3 +1,4 @@
+mod Common
 pub mod HoldLemmas
 pub mod NeighbourLemmas
 pub mod PutLemmas

@@ -1,18 +1,8 @@
 -- Whether a leaf meets a block, by the last range that begins below the block's end.
-use Rattle.std.proofs.Common.{◌≡◌, refl, sym, ap, ◌∙◌, ℕ, ◌+◌, ◌^◌, ◌<◌, ◌≤◌, Bool, true, false, cond, List, [], ◌∷◌, Option, None, Some, ◌==◌, ◌&&◌, ◌||◌, nat_lt, arith}
-use Rattle.std.proofs.lemmas.Bool.Decides.{nat_tests}
-use Rattle.std.specs.List.{list_any}
-use Rattle.xl_model.specs.declared.address.Order.{Order}
-use Rattle.xl_model.specs.declared.leaf.Range.{Range}
-use Rattle.xl_model.specs.Addresses.{pages_of}
-use Rattle.xl_model.specs.Mapping.{meets_any}
-use Rattle.xl_model.specs.Ranges.{range_key, end_key}
-use Rattle.xl_range.specs.HeldRanges.{spread, IsRange, IsHeld, meets_range}
-use Rattle.xl_range.proofs.TouchLemmas.{some-pages}
+use Rattle.xl_range.proofs.Common.{◌&&◌, ◌+◌, ◌<◌, ◌==◌, ◌^◌, ◌||◌, ◌∙◌, ◌∷◌, ◌≡◌, ◌≤◌, [], ap, arith, Bool, cond, end_key, false, IsHeld, IsRange, key_at, last_below, last_or, List, list_any, meets_any, meets_range, meets_where, nat_lt, nat_tests, None, of_space, Option, Order, pages_of, Range, range_key, refl, Some, spread, sym, true, ℕ}
 use Rattle.xl_range.proofs.MeetRangeLemmas.{any-spread}
-use Rattle.xl_treap.specs.Treaps.{last_below, of_space, last_or, key_at}
-use Rattle.xl_range.specs.Rows.{meets_where}
-use Rattle.xl_range.proofs.NeighbourLemmas.{IsPrev, last-prev, by-option}
+use Rattle.xl_range.proofs.NeighbourLemmas.{by-option, IsPrev, last-prev}
+use Rattle.xl_range.proofs.TouchLemmas.{some-pages}
 
 pub or-false : (a b : Bool) → b ≡ false → (a || b) ≡ a
 or-false true b h = refl

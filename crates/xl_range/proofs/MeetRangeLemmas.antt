@@ -1,17 +1,6 @@
 -- For the table of ranges: a leaf of held ranges meets a block where one of the ranges does, and what none meets lies apart from them.
-use Rattle.std.proofs.Common.{◌≡◌, refl, sym, ap, ◌∙◌, ℕ, zero, suc, ◌+◌, ◌*◌, ◌^◌, ◌<◌, ◌≤◌, Bool, true, false, List, [], ◌∷◌, ◌⊎◌, inl, inr, ◌==◌, ◌&&◌, ◌||◌, nat_le, nat_lt, arith}
-use Rattle.std.proofs.lemmas.Bool.Decides.{nat_tests}
-use Rattle.std.specs.List.{list_any}
-use Rattle.xl_model.specs.declared.address.Order.{Order}
-use Rattle.xl_model.specs.declared.leaf.Leaf.{Leaf}
-use Rattle.xl_model.specs.declared.leaf.Range.{Range}
-use Rattle.xl_model.specs.Addresses.{pages_of}
-use Rattle.xl_model.specs.Mapping.{meets_block, meets_any}
-use Rattle.xl_model.specs.Ranges.{range_key, range_of_leaf, end_key}
-use Rattle.xl_range.specs.HeldRanges.{next_leaf, run_on, first_leaf, spread, IsRange, IsHeld, IsClear, meets_range}
-use Rattle.xl_model_lemmas.proofs.OrderLemmas.{pages-some}
+use Rattle.xl_range.proofs.Common.{◌&&◌, ◌*◌, ◌+◌, ◌<◌, ◌==◌, ◌^◌, ◌||◌, ◌∙◌, ◌∷◌, ◌≡◌, ◌≤◌, ◌⊎◌, [], ap, arith, Bool, end_key, false, first_leaf, inl, inr, IsClear, IsHeld, IsRange, Leaf, List, list_any, meets_any, meets_block, meets_range, nat_le, nat_lt, nat_tests, next_leaf, Order, pages-some, pages_of, Range, range_key, range_of_leaf, refl, run_on, same-tests, spread, suc, sym, true, zero, ℕ}
 use Rattle.xl_range.proofs.RunLemmas.{leaves-is}
-use Rattle.xl_model_lemmas.proofs.SameLemmas.{same-tests}
 
 or-three : (a b c : Bool) → (a || (b || c)) ≡ ((a || b) || c)
 or-three true b c = refl

@@ -1,32 +1,11 @@
 -- Protect and Relocate as two steps, and what stands where the second step has no room.
-use Rattle.std.proofs.Common.{◌≡◌, refl, sym, ap, ◌∙◌, subst, ℕ, ◌+◌, ◌*◌, ◌^◌, ◌<◌, ◌≤◌, Bool, true, false, is_some, List, length, Some, ◌&&◌, nat_le, arith}
-use Rattle.std.proofs.lemmas.Bool.Decides.{nat_tests}
-use Rattle.xl_model.specs.declared.address.Order.{Order}
-use Rattle.xl_model.specs.declared.perm.Perm.{Perm}
-use Rattle.xl_model.specs.declared.leaf.Leaf.{Leaf}
-use Rattle.xl_model.specs.declared.leaf.Range.{Range}
-use Rattle.xl_model.specs.Addresses.{pages_of}
-use Rattle.xl_model.specs.Mapping.{leaf_key, leaf_named, meets_any, meets_block, is_leaf, with_leaf, without_leaf}
-use Rattle.xl_model.specs.Changes.{Protect, Relocate, IsNamed, changed}
-use Rattle.xl_model.specs.Ranges.{range_of_leaf, ranges_of}
-use Rattle.xl_model.specs.Room.{has_room}
-use Rattle.xl_model.specs.Shapes.{Runs}
-use Rattle.xl_model.specs.Structures.{IsBlock}
-use Rattle.xl_model_lemmas.specs.Members.{In}
-use Rattle.xl_range.specs.HeldRanges.{spread, IsRange, IsHeld, IsClear, join, cut, leaf_in}
-use Rattle.xl_model_lemmas.proofs.MemberLemmas.{In-any}
-use Rattle.xl_model_lemmas.proofs.PlaceLemmas.{named-space, named-first, named-order}
-use Rattle.xl_model_lemmas.proofs.MappingLemmas.{named-In, named-is}
-use Rattle.xl_model_lemmas.proofs.OrderLemmas.{pages-some}
-use Rattle.xl_range.proofs.MeetRangeLemmas.{clear-any}
-use Rattle.xl_model_lemmas.proofs.SortedLemmas.{with-without, put-back, took-back}
-use Rattle.xl_treap.specs.Treaps.{TreapView, keeping}
-use Rattle.xl_range.specs.Rows.{IsTable, IsDone, HasRanges, HasLeaf}
+use Rattle.xl_range.proofs.Common.{◌&&◌, ◌*◌, ◌+◌, ◌<◌, ◌^◌, ◌∙◌, ◌≡◌, ◌≤◌, ap, arith, Bool, changed, cut, false, has_room, HasLeaf, HasRanges, In, In-any, is_leaf, is_some, IsBlock, IsClear, IsDone, IsHeld, IsNamed, IsRange, IsTable, join, keeping, Leaf, leaf_in, leaf_key, leaf_named, length, List, meets_any, meets_block, named-first, named-In, named-is, named-order, named-space, nat_le, nat_tests, Order, pages-some, pages_of, Perm, Protect, Range, range_of_leaf, ranges_of, refl, Relocate, Runs, same-bools, Some, spread, subst, sym, TreapView, true, with_leaf, without_leaf, ℕ}
+use Rattle.xl_model_lemmas.proofs.SortedLemmas.{put-back, took-back, with-without}
 use Rattle.xl_range.proofs.FindLemmas.{named-range}
-use Rattle.xl_range.proofs.SpreadLeafLemmas.{sorted-spread, clear-key}
-use Rattle.xl_range.proofs.LeafChangeLemmas.{new-named, still-named, protect-changed, relocate-changed, protect-room, relocate-room}
-use Rattle.xl_range.proofs.StepLemmas.{AreRanges, join-ranges, cut-ranges, same-ranges, has-ranges, kept-is, CanPutLeaf, cut-can}
-use Rattle.xl_model_lemmas.proofs.SameLemmas.{both as same-bools}
+use Rattle.xl_range.proofs.LeafChangeLemmas.{new-named, protect-changed, protect-room, relocate-changed, relocate-room, still-named}
+use Rattle.xl_range.proofs.MeetRangeLemmas.{clear-any}
+use Rattle.xl_range.proofs.SpreadLeafLemmas.{clear-key, sorted-spread}
+use Rattle.xl_range.proofs.StepLemmas.{AreRanges, CanPutLeaf, cut-can, cut-ranges, has-ranges, join-ranges, kept-is, same-ranges}
 
 -- The leaf of a range that is named is of its space and order, and its first page is the name's.
 pub record IsThat (space first : ℕ) (o : Order) (x : Leaf) : Type 0 where

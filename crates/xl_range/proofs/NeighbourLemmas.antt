@@ -1,12 +1,5 @@
 -- The neighbours of a range among held ranges: where they stand, and what putting a range among them asks for.
-use Rattle.std.proofs.Common.{◌≡◌, refl, sym, ◌∙◌, subst, ℕ, ◌^◌, ◌<◌, ◌≤◌, Bool, true, false, cond, List, [], ◌∷◌, Option, None, Some, ◌==◌, ◌||◌, nat_lt, arith}
-use Rattle.std.proofs.lemmas.Bool.Decides.{nat_tests}
-use Rattle.std.specs.List.{list_any}
-use Rattle.xl_model.specs.declared.leaf.Range.{Range}
-use Rattle.xl_model.specs.Ranges.{range_key, end_key}
-use Rattle.xl_range.specs.HeldRanges.{touches, IsRange, IsHeld}
-use Rattle.xl_treap.specs.Treaps.{without_range, last_below, first_from, of_space, last_or, has_key}
-use Rattle.xl_range.specs.Puts.{next_of, prev_of, next_where, prev_where, range_taken, kept_taken, IsThere, pages_with}
+use Rattle.xl_range.proofs.Common.{◌<◌, ◌==◌, ◌^◌, ◌||◌, ◌∙◌, ◌∷◌, ◌≡◌, ◌≤◌, [], arith, Bool, cond, end_key, false, first_from, has_key, IsHeld, IsRange, IsThere, kept_taken, last_below, last_or, List, list_any, nat_lt, nat_tests, next_of, next_where, None, of_space, Option, pages_with, prev_of, prev_where, Range, range_key, range_taken, refl, Some, subst, sym, touches, true, without_range, ℕ}
 
 -- a neighbour that touches is of the range's space
 pub next-space : (x r : Range) → next_where (of_space x.space (Some r)) x ≡ next_where (Some r) x

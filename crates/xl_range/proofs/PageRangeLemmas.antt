@@ -1,16 +1,7 @@
 -- For the table of ranges: the leaf that covers a page, by the held range that holds it.
-use Rattle.std.proofs.Common.{◌≡◌, refl, sym, ap, ◌∙◌, subst, ℕ, zero, suc, ◌+◌, ◌-◌, ◌*◌, ◌/◌, ◌<◌, ◌≤◌, Bool, true, false, cond, List, [], ◌∷◌, Some, find, ◌==◌, ◌&&◌, nat_le, nat_lt, arith}
-use Rattle.std.proofs.lemmas.Bool.Decides.{nat_tests}
-use Rattle.xl_model.specs.declared.address.Order.{Order}
-use Rattle.xl_model.specs.declared.address.Order.TheVariants as order
-use Rattle.xl_model.specs.declared.leaf.Leaf.{Leaf}
-use Rattle.xl_model.specs.declared.leaf.Range.{Range}
-use Rattle.xl_model.specs.Addresses.{pages_of}
-use Rattle.xl_model.specs.Mapping.{covers}
-use Rattle.xl_model.specs.Ranges.{holds_page, end_key}
-use Rattle.xl_range.specs.HeldRanges.{next_leaf, run_on, first_leaf, spread, IsHeld, leaf_in, leaf_by}
-use Rattle.xl_model_lemmas.proofs.OrderLemmas.{pages-some}
+use Rattle.xl_range.proofs.Common.{◌&&◌, ◌*◌, ◌+◌, ◌-◌, ◌/◌, ◌<◌, ◌==◌, ◌∙◌, ◌∷◌, ◌≡◌, ◌≤◌, [], ap, arith, Bool, cond, covers, end_key, false, find, first_leaf, holds_page, IsHeld, Leaf, leaf_by, leaf_in, List, nat_le, nat_lt, nat_tests, next_leaf, Order, pages-some, pages_of, Range, refl, run_on, Some, spread, subst, suc, sym, true, zero, ℕ}
 use Rattle.xl_range.proofs.RunLemmas.{leaves-is}
+use Rattle.xl_model.specs.declared.address.Order.TheVariants as order
 
 -- The leaf `skip` pages on.
 unfoldable leaf_off : ℕ → Leaf → Leaf

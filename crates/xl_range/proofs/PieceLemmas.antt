@@ -1,17 +1,8 @@
 -- For the table of ranges: what is left of a range without a leaf of it has the range's other leaves.
-use Rattle.std.proofs.Common.{◌≡◌, refl, sym, ap, ◌∙◌, subst, ℕ, zero, suc, ◌+◌, ◌*◌, ◌/◌, ◌^◌, ◌<◌, ◌≤◌, Bool, true, false, cond, List, [], ◌∷◌, filter, ◌==◌, arith}
-use Rattle.std.proofs.lemmas.Bool.Decides.{nat_tests}
-use Rattle.xl_model.specs.declared.address.Order.{Order}
-use Rattle.xl_model.specs.declared.leaf.Leaf.{Leaf}
-use Rattle.xl_model.specs.declared.leaf.Range.{Range}
-use Rattle.xl_model.specs.Addresses.{pages_of}
-use Rattle.xl_model.specs.Mapping.{leaf_key}
-use Rattle.xl_model.specs.Ranges.{end_key}
-use Rattle.xl_range.specs.HeldRanges.{next_leaf, run_on, first_leaf, leaves_in, spread, IsRange, IsHeld, pages_before, pages_behind, part_behind, before_on, behind_on, IsLeafIn}
-use Rattle.xl_model_lemmas.proofs.OrderLemmas.{pages-some}
+use Rattle.xl_range.proofs.Common.{◌*◌, ◌+◌, ◌/◌, ◌<◌, ◌==◌, ◌^◌, ◌∙◌, ◌∷◌, ◌≡◌, ◌≤◌, [], ap, arith, before_on, behind_on, Bool, cond, end_key, false, filter, first_leaf, IsHeld, IsLeafIn, IsRange, Leaf, leaf_key, leaves_in, List, nat_tests, next_leaf, Order, pages-some, pages_before, pages_behind, pages_of, part_behind, Range, refl, run_on, spread, subst, suc, sym, true, zero, ℕ}
+use Rattle.xl_range.proofs.LeafInLemmas.{leap-key, next-of-leap, Sizes, sizes}
 use Rattle.xl_range.proofs.RunLemmas.{count-is}
 use Rattle.xl_range.proofs.TouchLemmas.{leap, run-add, some-pages}
-use Rattle.xl_range.proofs.LeafInLemmas.{Sizes, sizes, next-of-leap, leap-key}
 
 -- A leaf has another key.
 unfoldable pub stays : ℕ → Leaf → Bool

@@ -1,17 +1,10 @@
 -- The calls that put a range among its neighbours make the joined list.
-use Rattle.std.proofs.Common.{◌≡◌, refl, sym, ap, ◌∙◌, subst, ℕ, suc, ◌+◌, ◌<◌, ◌≤◌, Bool, true, false, cond, List, [], ◌∷◌, length, Option, None, Some, inl, inr, ◌==◌, nat_le, nat_lt, arith}
-use Rattle.std.proofs.lemmas.Bool.Decides.{nat_tests}
-use Rattle.xl_model.specs.declared.leaf.Range.{Range}
-use Rattle.xl_model.specs.Ranges.{range_key, end_key}
-use Rattle.xl_range.specs.HeldRanges.{touches, IsRange, IsHeld, IsClear, grown, glue, join}
-use Rattle.xl_range.proofs.TouchLemmas.{Touch, touch, touch-key, grown-touches, some-pages, not-touching}
-use Rattle.xl_range.proofs.JoinLemmas.{held-behind, held-join}
-use Rattle.xl_treap.specs.Treaps.{with_range, without_range, resized, last_below, first_from, of_space, last_or, IsApart}
-use Rattle.xl_range.specs.Puts.{next_of, prev_of, next_where, prev_where, range_taken, kept_taken, kept_put, put_by, IsThere, one_if}
-use Rattle.xl_range.proofs.HoldLemmas.{with-front, length-without, apart-held}
-use Rattle.xl_range.proofs.NeighbourLemmas.{next-space, prev-space, IsNext, first-next, IsPrev, last-prev, by-option, next-there, CanPut, can-put}
-use Rattle.xl_treap.proofs.KeptLemmas.{with-length, resized-length}
+use Rattle.xl_range.proofs.Common.{◌+◌, ◌<◌, ◌==◌, ◌∙◌, ◌∷◌, ◌≡◌, ◌≤◌, [], ap, arith, Bool, cond, end_key, false, first_from, glue, grown, inl, inr, IsApart, IsClear, IsHeld, IsRange, IsThere, join, kept_put, kept_taken, last_below, last_or, length, List, nat_le, nat_lt, nat_tests, next_of, next_where, None, of_space, one_if, Option, prev_of, prev_where, put_by, Range, range_key, range_taken, refl, resized, resized-length, Some, subst, suc, sym, touches, true, with-length, with_range, without_range, ℕ}
 use Rattle.xl_range.proofs.CutLemmas.{own-key}
+use Rattle.xl_range.proofs.HoldLemmas.{apart-held, length-without, with-front}
+use Rattle.xl_range.proofs.JoinLemmas.{held-behind, held-join}
+use Rattle.xl_range.proofs.NeighbourLemmas.{by-option, can-put, CanPut, first-next, IsNext, IsPrev, last-prev, next-space, next-there, prev-space}
+use Rattle.xl_range.proofs.TouchLemmas.{grown-touches, not-touching, some-pages, Touch, touch, touch-key}
 
 -- neighbours after a first range
 pub Past : Range → Option Range → Type 0

@@ -1,30 +1,15 @@
 -- What a change, a walk and a fence of the table come to.
-use Rattle.std.proofs.Common.{◌≡◌, refl, sym, ap, ◌∙◌, subst, ℕ, ◌-◌, ◌≤◌, Bool, true, false, List, length, Option, None, Some, Result, Ok, Err, arith}
-use Rattle.xl_model.specs.declared.address.Order.{Order}
-use Rattle.xl_model.specs.declared.perm.Perm.{Perm}
-use Rattle.xl_model.specs.declared.leaf.Leaf.{Leaf}
-use Rattle.xl_model.specs.declared.leaf.Range.{Range}
-use Rattle.xl_model.specs.declared.work.NoRoom.TheVariants as why
+use Rattle.xl_range.proofs.Common.{◌-◌, ◌∙◌, ◌≡◌, ◌≤◌, after_by, AllFresh, answer_by, ap, arith, Bool, brought, Cached, caches_purged, Change, changed, entries_in, Err, false, finds_place, has_room, HasRanges, holds_first, holds_page, Insert, IsBlock, IsChange, IsDone, IsHeld, IsLeafFor, IsNamed, IsRow, IsTable, keeping, Leaf, leaf_in, length, List, Made, meets_any, moves_made, narrowed, None, NoSpace, Ok, old_leaf, Option, Order, Perm, Protect, purged, Range, RangeCache, ranges_of, refl, Relocate, Remove, Result, row_of, Runs, Shape, shape_after, Some, spread, subst, sym, table_after, table_answer, table_made, TableState, TreapView, true, Verdict, verdict, widened, without_items, work_of, ℕ}
+use Rattle.xl_model.specs.Placing.{no_moves}
 use Rattle.xl_model.specs.declared.work.Refused.{Refused}
 use Rattle.xl_model.specs.declared.work.Work.{Work}
-use Rattle.xl_model.specs.Mapping.{meets_any}
-use Rattle.xl_model.specs.Changes.{Change, Insert, Remove, Protect, Relocate, IsNamed, changed, old_leaf}
-use Rattle.xl_model.specs.Placing.{no_moves}
-use Rattle.xl_model.specs.Ranges.{holds_page, ranges_of}
-use Rattle.xl_model.specs.Recency.{purged}
-use Rattle.xl_model.specs.Room.{has_room}
-use Rattle.xl_model.specs.Shapes.{Shape, Runs, brought, widened, narrowed, shape_after}
-use Rattle.xl_model.specs.Caches.{Cached, RangeCache, without_items, holds_first, caches_purged, entries_in}
-use Rattle.xl_model.specs.Structures.{TableState, IsBlock, IsLeafFor, IsChange, Verdict, verdict, Made, NoSpace, moves_made, finds_place, work_of, table_made, answer_by, after_by, table_answer, table_after}
-use Rattle.xl_range.specs.HeldRanges.{spread, IsHeld, leaf_in}
-use Rattle.xl_range.proofs.RunLemmas.{ranges-spread}
-use Rattle.xl_treap.specs.Treaps.{TreapView, keeping}
-use Rattle.xl_range.specs.Rows.{AllFresh, IsTable, IsRow, IsDone, HasRanges, row_of}
 use Rattle.xl_range.proofs.FindLemmas.{IsNamedIn, named-range}
+use Rattle.xl_range.proofs.FreshLemmas.{first-purged, insert-fresh, none-purged, protect-fresh, relocate-fresh, remove-fresh}
 use Rattle.xl_range.proofs.LeafChangeLemmas.{room-few}
-use Rattle.xl_range.proofs.StepLemmas.{insert-clear}
 use Rattle.xl_range.proofs.MoveStepLemmas.{IsMoving, moving}
-use Rattle.xl_range.proofs.FreshLemmas.{insert-fresh, remove-fresh, protect-fresh, relocate-fresh, first-purged, none-purged}
+use Rattle.xl_range.proofs.RunLemmas.{ranges-spread}
+use Rattle.xl_range.proofs.StepLemmas.{insert-clear}
+use Rattle.xl_model.specs.declared.work.NoRoom.TheVariants as why
 
 finds-any : (n : ℕ) (o : Option Leaf) → finds_place o (Runs n) ≡ true
 finds-any n None = refl

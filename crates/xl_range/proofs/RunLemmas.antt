@@ -1,17 +1,6 @@
 -- For the table of ranges: maximal ranges are the ranges of their leaves.
-use Rattle.std.proofs.Common.{◌≡◌, refl, sym, ap, ◌∙◌, subst, ℕ, zero, suc, ◌+◌, ◌*◌, ◌/◌, Bool, true, false, List, [], ◌∷◌, arith}
-use Rattle.std.proofs.lemmas.Bool.Decides.{nat_tests}
-use Rattle.xl_model.specs.declared.address.Order.{Order}
+use Rattle.xl_range.proofs.Common.{◌*◌, ◌+◌, ◌/◌, ◌∙◌, ◌∷◌, ◌≡◌, [], ap, arith, begins, end_key, false, first_leaf, goes_into, IsHeld, IsRange, joined, Leaf, leaves_in, List, nat_tests, next_leaf, Order, order-same, pages_of, perm-same, Range, range_from, range_of_leaf, ranges_of, refl, run_on, same_order, same_perm, spread, Stops, subst, suc, sym, true, zero, ℕ}
 use Rattle.xl_model.specs.declared.address.Order.TheVariants as order
-use Rattle.xl_model.specs.declared.perm.Perm.{Perm}
-use Rattle.xl_model.specs.declared.leaf.Leaf.{Leaf}
-use Rattle.xl_model.specs.declared.leaf.Range.{Range}
-use Rattle.xl_model.specs.Addresses.{pages_of, same_order}
-use Rattle.xl_model.specs.Base.{same_bit}
-use Rattle.xl_model.specs.Ranges.{same_perm, range_of_leaf, goes_into, joined, ranges_of, end_key}
-use Rattle.xl_range.specs.HeldRanges.{next_leaf, run_on, first_leaf, leaves_in, spread, range_from, begins, Stops, IsRange, IsHeld}
-use Rattle.xl_model_lemmas.proofs.OrderLemmas.{order-same}
-use Rattle.xl_model_lemmas.proofs.SameLemmas.{bit-same, perm-same}
 
 -- a leaf goes into a range of its kind that begins after it
 pub goes-next : (n : ℕ) (l : Leaf) → goes_into l (range_from n (next_leaf l)) ≡ true

@@ -1,16 +1,7 @@
 -- The leaves of held ranges: where they stand, that they are sorted, and that they lie apart from what is clear of the ranges.
-use Rattle.std.proofs.Common.{◌≡◌, refl, sym, subst, ℕ, zero, suc, ◌+◌, ◌*◌, ◌<◌, ◌≤◌, true, false, List, [], ◌∷◌, ◌⊎◌, inl, inr, arith}
-use Rattle.std.proofs.lemmas.Bool.Decides.{nat_tests}
-use Rattle.xl_model.specs.declared.leaf.Leaf.{Leaf}
-use Rattle.xl_model.specs.declared.leaf.Range.{Range}
-use Rattle.xl_model.specs.Addresses.{pages_of}
-use Rattle.xl_model.specs.Mapping.{leaf_key, covers}
-use Rattle.xl_model.specs.Ranges.{range_key, end_key, range_of_leaf}
-use Rattle.xl_model_lemmas.specs.Members.{In, AllAbove, IsSorted}
-use Rattle.xl_range.specs.HeldRanges.{next_leaf, run_on, first_leaf, leaves_in, spread, IsHeld, IsClear}
-use Rattle.xl_model_lemmas.proofs.OrderLemmas.{pages-some}
-use Rattle.xl_range.proofs.RunLemmas.{leaves-is}
+use Rattle.xl_range.proofs.Common.{◌*◌, ◌+◌, ◌<◌, ◌∷◌, ◌≡◌, ◌≤◌, ◌⊎◌, [], AllAbove, arith, covers, end_key, false, first_leaf, In, inl, inr, IsClear, IsHeld, IsSorted, Leaf, leaf_key, leaves_in, List, nat_tests, next_leaf, pages-some, pages_of, Range, range_key, range_of_leaf, refl, run_on, spread, subst, suc, sym, true, zero, ℕ}
 use Rattle.xl_range.proofs.JoinLemmas.{In-key}
+use Rattle.xl_range.proofs.RunLemmas.{leaves-is}
 
 -- A leaf is within these keys, in this space.
 pub record StandsIn (space low high : ℕ) (z : Leaf) : Type 0 where

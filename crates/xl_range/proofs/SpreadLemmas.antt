@@ -1,16 +1,8 @@
 -- For the table of ranges: the leaves of maximal ranges with a range of one leaf more are their leaves with that leaf.
-use Rattle.std.proofs.Common.{◌≡◌, refl, sym, ap, ◌∙◌, ℕ, zero, suc, ◌+◌, ◌*◌, ◌<◌, ◌≤◌, true, false, cond, List, [], ◌∷◌, ◌==◌, nat_lt, arith}
-use Rattle.std.proofs.lemmas.Bool.Decides.{nat_tests}
-use Rattle.xl_model.specs.declared.leaf.Leaf.{Leaf}
-use Rattle.xl_model.specs.declared.leaf.Range.{Range}
-use Rattle.xl_model.specs.Addresses.{pages_of}
-use Rattle.xl_model.specs.Mapping.{leaf_key, with_leaf}
-use Rattle.xl_model.specs.Ranges.{range_key, range_of_leaf, end_key}
-use Rattle.xl_range.specs.HeldRanges.{next_leaf, run_on, first_leaf, leaves_in, spread, touches, IsRange, IsHeld, IsClear, grown, glue, join}
-use Rattle.xl_model_lemmas.proofs.OrderLemmas.{pages-some}
-use Rattle.xl_range.proofs.RunLemmas.{leaves-is, count-is}
-use Rattle.xl_range.proofs.TouchLemmas.{Touch, touch, touch-key, grown-range, run-grown, some-pages}
-use Rattle.xl_range.proofs.JoinLemmas.{held-behind, clear-ends}
+use Rattle.xl_range.proofs.Common.{◌*◌, ◌+◌, ◌<◌, ◌==◌, ◌∙◌, ◌∷◌, ◌≡◌, ◌≤◌, [], ap, arith, cond, end_key, false, first_leaf, glue, grown, IsClear, IsHeld, IsRange, join, Leaf, leaf_key, leaves_in, List, nat_lt, nat_tests, next_leaf, pages-some, pages_of, Range, range_key, range_of_leaf, refl, run_on, spread, suc, sym, touches, true, with_leaf, zero, ℕ}
+use Rattle.xl_range.proofs.JoinLemmas.{clear-ends, held-behind}
+use Rattle.xl_range.proofs.RunLemmas.{count-is, leaves-is}
+use Rattle.xl_range.proofs.TouchLemmas.{grown-range, run-grown, some-pages, Touch, touch, touch-key}
 
 pub with-run : (n : ℕ) (l a : Leaf) (rest : List Leaf) → leaf_key a + n * pages_of a.order ≤ leaf_key l → with_leaf l (run_on n a rest) ≡ run_on n a (with_leaf l rest)
 with-run zero l a rest h = refl

@@ -1,30 +1,16 @@
 -- What the calls of a change ask for, and what they come to: the leaves of the ranges that are held then.
-use Rattle.std.proofs.Common.{◌≡◌, sym, ap, ◌∙◌, subst, ℕ, zero, suc, ◌+◌, ◌*◌, ◌^◌, ◌<◌, ◌≤◌, Bool, true, false, List, [], ◌∷◌, length, inl, inr, nat_le, arith}
-use Rattle.xl_model.specs.declared.address.Order.{Order}
-use Rattle.xl_model.specs.declared.perm.Perm.{Perm}
-use Rattle.xl_model.specs.declared.leaf.Leaf.{Leaf}
-use Rattle.xl_model.specs.declared.leaf.Range.{Range}
-use Rattle.xl_model.specs.Addresses.{pages_of}
-use Rattle.xl_model.specs.Mapping.{meets_any, with_leaf, without_leaf}
-use Rattle.xl_model.specs.Changes.{Insert, Remove, changed}
-use Rattle.xl_model.specs.Ranges.{range_key, end_key, range_of_leaf, ranges_of}
-use Rattle.xl_model.specs.Shapes.{Runs}
-use Rattle.xl_model.specs.Structures.{IsLeafFor}
-use Rattle.xl_model_lemmas.specs.Members.{In}
-use Rattle.xl_range.specs.HeldRanges.{first_leaf, spread, IsRange, IsHeld, IsClear, join, pages_before, pages_behind, part_behind, before_on, behind_on, some_if, IsLeafIn, cut, leaf_in}
-use Rattle.xl_range.proofs.RunLemmas.{ranges-spread}
-use Rattle.xl_range.proofs.TouchLemmas.{leap, some-pages}
-use Rattle.xl_range.proofs.JoinLemmas.{In-key, In-range, held-join}
-use Rattle.xl_range.proofs.SpreadLemmas.{spread-join}
-use Rattle.xl_range.proofs.LeafInLemmas.{Sizes, sizes}
-use Rattle.xl_range.proofs.CutLemmas.{AtHead, head-cut, next-cut, cut-spread, held-cut}
+use Rattle.xl_range.proofs.Common.{◌*◌, ◌+◌, ◌<◌, ◌^◌, ◌∙◌, ◌∷◌, ◌≡◌, ◌≤◌, [], ap, arith, before_on, behind_on, Bool, changed, cut, end_key, false, first_leaf, HasLeaf, HasRanges, In, inl, inr, Insert, IsAt, IsClear, IsDone, IsHeld, IsLeafFor, IsLeafIn, IsRange, IsTable, join, keeping, Leaf, leaf_in, length, List, meets_any, nat_le, Order, pages_before, pages_behind, pages_of, part_behind, Perm, Range, range_key, range_of_leaf, ranges_of, Remove, Runs, some_if, spread, subst, suc, sym, TreapView, true, with_leaf, without_leaf, zero, ℕ}
 use Rattle.xl_range.proofs.CutCountLemmas.{cut-count}
-use Rattle.xl_range.proofs.MeetRangeLemmas.{clear-any}
-use Rattle.xl_treap.specs.Treaps.{TreapView, keeping}
-use Rattle.xl_range.specs.Rows.{IsAt, IsTable, IsDone, HasRanges, HasLeaf}
-use Rattle.xl_range.proofs.HoldLemmas.{fit-range}
+use Rattle.xl_range.proofs.CutLemmas.{AtHead, cut-spread, head-cut, held-cut, next-cut}
 use Rattle.xl_range.proofs.FindLemmas.{leaf-in-is}
-use Rattle.xl_range.proofs.LeafChangeLemmas.{insert-changed, remove-changed, insert-room, remove-room}
+use Rattle.xl_range.proofs.HoldLemmas.{fit-range}
+use Rattle.xl_range.proofs.JoinLemmas.{held-join, In-key, In-range}
+use Rattle.xl_range.proofs.LeafChangeLemmas.{insert-changed, insert-room, remove-changed, remove-room}
+use Rattle.xl_range.proofs.LeafInLemmas.{Sizes, sizes}
+use Rattle.xl_range.proofs.MeetRangeLemmas.{clear-any}
+use Rattle.xl_range.proofs.RunLemmas.{ranges-spread}
+use Rattle.xl_range.proofs.SpreadLemmas.{spread-join}
+use Rattle.xl_range.proofs.TouchLemmas.{leap, some-pages}
 
 -- the pages of the leaf are free after the cut
 clear-high : (low : ℕ) (x : Range) (rs : List Range) → end_key x ≤ low → IsHeld low rs → IsClear x rs

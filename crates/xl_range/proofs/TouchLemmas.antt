@@ -1,15 +1,7 @@
 -- For the table of ranges: what ranges that touch share, and the leaves of both.
-use Rattle.std.proofs.Common.{◌≡◌, refl, sym, ap, ◌∙◌, subst, ℕ, zero, suc, ◌+◌, ◌*◌, ◌<◌, true, false, List, [], ◌∷◌, arith}
-use Rattle.std.proofs.lemmas.Bool.Decides.{nat_tests}
-use Rattle.xl_model.specs.declared.address.Order.{Order}
-use Rattle.xl_model.specs.declared.leaf.Leaf.{Leaf}
-use Rattle.xl_model.specs.declared.leaf.Range.{Range}
-use Rattle.xl_model.specs.Addresses.{pages_of}
-use Rattle.xl_model.specs.Ranges.{range_key, end_key}
-use Rattle.xl_range.specs.HeldRanges.{next_leaf, run_on, first_leaf, leaves_in, begins, touches, Stops, IsRange, grown}
-use Rattle.xl_model_lemmas.proofs.OrderLemmas.{pages-some, orders-same}
+use Rattle.xl_range.proofs.Common.{◌*◌, ◌+◌, ◌<◌, ◌∙◌, ◌∷◌, ◌≡◌, [], ap, arith, begins, end_key, false, first_leaf, grown, IsRange, Leaf, leaves_in, List, nat_tests, next_leaf, Order, orders-same, pages-some, pages_of, Range, range_key, refl, run_on, Stops, subst, suc, sym, touches, true, zero, ℕ}
 use Rattle.xl_model.proofs.PermLemmas.{perms-same}
-use Rattle.xl_range.proofs.RunLemmas.{leaves-is, count-is}
+use Rattle.xl_range.proofs.RunLemmas.{count-is, leaves-is}
 
 -- What ranges that touch share.
 pub record Touch (r q : Range) : Type 0 where

@@ -1,28 +1,14 @@
 -- A walk and a fence of the table: what they keep, answer and leave.
-use Rattle.std.proofs.Common.{◌≡◌, ◌⊎◌, refl, sym, ap, ◌∙◌, subst, ℕ, ◌+◌, ◌%◌, ◌^◌, ◌<◌, Bool, true, List, length, find, Option, None, Some, inl, inr, arith}
-use Rattle.std.proofs.lemmas.Bool.Decides.{nat_tests}
-use Rattle.xl_model.specs.declared.leaf.Leaf.{Leaf}
-use Rattle.xl_model.specs.declared.leaf.Range.{Range}
+use Rattle.xl_range.proofs.Common.{◌%◌, ◌+◌, ◌<◌, ◌^◌, ◌∙◌, ◌≡◌, ◌⊎◌, ap, arith, Bool, Cached, caches_fenced, fence_answer, find, find-In, find-passes, holds_page, In, inl, inr, IsAt, IsFence, IsFit, IsFresh, IsRow, IsTable, IsWalk, Leaf, leaf_at_page, leaf_by, leaf_in, length, List, nat_tests, newest-In, None, Option, purged, purged-In, Range, range_reads, RangeCache, ranges_of, reaches_range, refl, row_of, Some, spread, subst, sym, table_fenced, table_walked, TableState, touched-In, touched-none, TreapView, true, walk_answer, without_items, ℕ}
+use Rattle.xl_model.specs.Base.{plus}
+use Rattle.xl_model.specs.Walks.{range_walk_by, walked, with_fill, with_range, with_touch}
 use Rattle.xl_model.specs.declared.event.Reach.{Reach}
 use Rattle.xl_model.specs.declared.work.Walk.{Walk}
-use Rattle.xl_model.specs.Mapping.{leaf_at_page}
-use Rattle.xl_model.specs.Base.{plus}
-use Rattle.xl_model.specs.Ranges.{holds_page, range_reads, ranges_of}
-use Rattle.xl_model.specs.Recency.{purged}
-use Rattle.xl_model.specs.Caches.{Cached, RangeCache, without_items, caches_fenced, reaches_range}
-use Rattle.xl_model.specs.Walks.{with_touch, with_fill, with_range, walked, range_walk_by}
-use Rattle.xl_model.specs.Structures.{TableState, IsWalk, IsFence, walk_answer, table_walked, fence_answer, table_fenced}
-use Rattle.xl_model_lemmas.specs.Members.{In}
-use Rattle.xl_range.specs.HeldRanges.{spread, leaf_in, leaf_by}
-use Rattle.xl_model_lemmas.proofs.MemberLemmas.{find-In, find-passes}
-use Rattle.xl_model_lemmas.proofs.RecencyLemmas.{touched-In, newest-In, purged-In, touched-none}
-use Rattle.xl_range.proofs.RunLemmas.{ranges-spread}
-use Rattle.xl_range.proofs.JoinLemmas.{In-range}
 use Rattle.xl_tlb.specs.RangeCoding.{IsKeepable}
-use Rattle.xl_treap.specs.Treaps.{TreapView, IsFit}
-use Rattle.xl_range.specs.Rows.{IsAt, IsFresh, IsTable, IsRow, row_of}
+use Rattle.xl_range.proofs.FindLemmas.{at-page, held-fresh, leaf-found}
 use Rattle.xl_range.proofs.HoldLemmas.{fit-range}
-use Rattle.xl_range.proofs.FindLemmas.{at-page, leaf-found, held-fresh}
+use Rattle.xl_range.proofs.JoinLemmas.{In-range}
+use Rattle.xl_range.proofs.RunLemmas.{ranges-spread}
 
 -- A walk of the row: what it keeps, returns and leaves.
 pub record IsRowWalk (space page n : ℕ) (t new : TreapView) (k left : Cached Range) (result : Walk) : Type 0 where

@@ -1,6 +1,5 @@
 -- Items that go back by one place, one after another.
-use Rattle.std.proofs.Common.{◌≡◌, refl, ap, ℕ, zero, suc, ◌-◌, ◌<◌, ◌≤◌, List, [], ◌∷◌, length, get_or, set, arith}
-use Rattle.std.specs.List.{remove}
+use Rattle.xl_recency.proofs.Common.{◌-◌, ◌<◌, ◌∷◌, ◌≡◌, ◌≤◌, [], ap, arith, get_or, length, List, refl, remove, set, suc, zero, ℕ}
 
 module _ {A : Type 0} where
   -- the items without the one at `at`, where the items from `place` on up to it moved back by one

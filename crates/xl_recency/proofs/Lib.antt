@@ -1,3 +1,4 @@
+mod Common
 mod FrontLemmas
 mod ScanLemmas
 mod TotalLemmas

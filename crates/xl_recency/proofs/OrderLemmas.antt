@@ -1,9 +1,5 @@
 -- Places by stamp: each keeps its order when others go, and a place with a new greatest stamp comes first.
-use Rattle.std.proofs.Common.{◌≡◌, ℕ, zero, suc, ◌<◌, ◌≤◌, Bool, true, false, List, [], ◌∷◌, ◌++◌, length, get_or, set, map, filter, refl, sym, ◌∙◌, ap, arith, inl, inr, ◌⊎◌}
-use Rattle.std.proofs.lemmas.Bool.{cases_lt, cases_eq, cases_Bool, lt-ltb, le-ltb}
-use Rattle.xl_recency.specs.declared.item.Item.{Item}
-use Rattle.xl_recency.specs.declared.stamped.Place.{Place}
-use Rattle.xl_recency.specs.Stamps.{with_place, by_stamp, item_of, Each, Apart}
+use Rattle.xl_recency.proofs.Common.{◌++◌, ◌<◌, ◌∙◌, ◌∷◌, ◌≡◌, ◌≤◌, ◌⊎◌, [], ap, Apart, arith, Bool, by_stamp, cases_Bool, cases_eq, cases_lt, Each, false, filter, get_or, inl, inr, Item, item_of, le-ltb, length, List, lt-ltb, map, Place, refl, set, suc, sym, true, with_place, zero, ℕ}
 
 -- ---- what holds of each place
 

@@ -1,13 +1,7 @@
 -- Stamps numbered anew by their ranks keep their order.
-use Rattle.std.proofs.Common.{◌≡◌, ℕ, ◌+◌, ◌-◌, ◌<◌, ◌≤◌, cond, leb, ltb, List, [], ◌∷◌, ◌++◌, length, get_or, set, take, drop, map, zero-add, refl, sym, ◌∙◌, ap, arith, inl, inr, ◌⊎◌}
-use Rattle.std.proofs.lemmas.Bool.{cases_lt, cases_eq, lt-ltb, le-ltb, le-leb, lt-leb}
-use Rattle.std.proofs.lemmas.List.{length-map, length-take, length-drop, length-append, get_or-append_right, get_or-drop, get_or_default}
-use Rattle.std.proofs.lemmas.List.Edits.{map_over_more}
+use Rattle.xl_recency.proofs.Common.{◌++◌, ◌+◌, ◌-◌, ◌<◌, ◌∙◌, ◌∷◌, ◌≡◌, ◌≤◌, ◌⊎◌, [], ap, Apart, AreStamps, arith, by_stamp, cases_eq, cases_lt, cond, drop, Each, get_or, get_or-append_right, get_or-drop, get_or_default, inl, inr, Item, item_of, le-leb, le-ltb, leb, length, length-append, length-drop, length-map, length-take, List, lt-leb, lt-ltb, ltb, map, map_over_more, newest_first, Place, rank_of, refl, renumbered, set, sym, take, with_place, zero-add, ℕ}
 use Rattle.std.proofs.lemmas.List.Sums.{sum_by-cons}
-use Rattle.xl_recency.specs.declared.item.Item.{Item}
-use Rattle.xl_recency.specs.declared.stamped.Place.{Place}
-use Rattle.xl_recency.specs.Stamps.{with_place, by_stamp, item_of, newest_first, Each, Apart, AreStamps, rank_of, renumbered}
-use Rattle.xl_recency.proofs.OrderLemmas.{each_mono, each_by_stamp, In}
+use Rattle.xl_recency.proofs.OrderLemmas.{each_by_stamp, each_mono, In}
 
 rank_skip : (y : Place) (ys : List Place) (s : ℕ) → s < y.stamp → rank_of (y ∷ ys) s ≡ rank_of ys s
 rank_skip y ys s l = sum_by-cons (λ (x : Place). cond (leb x.stamp s) 1 0) y ys ∙ rw (lt-leb y.stamp s l) (zero-add (rank_of ys s))

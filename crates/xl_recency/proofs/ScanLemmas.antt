@@ -1,10 +1,5 @@
 -- A scan that stops at the first item that meets a test, against `find`, `touched` and `purged`.
-use Rattle.std.proofs.Common.{◌≡◌, ℕ, zero, suc, ◌+◌, inl, inr, ◌<◌, Bool, true, false, List, [], ◌∷◌, length, get_or, find, take, Some, None, refl, sym, subst, ◌∙◌, ◌≤◌, ap, arith}
-use Rattle.std.specs.List.{remove}
-use Rattle.std.proofs.lemmas.Bool.{cases_lt}
-use Rattle.std.proofs.lemmas.List.{get_or-take, get_or_read, length-take-le}
-use Rattle.xl_model.specs.Recency.{without_first, touched}
-use Rattle.xl_recency.specs.Lists.{IsTest, IsFirst, AllFail, FailBefore}
+use Rattle.xl_recency.proofs.Common.{◌+◌, ◌<◌, ◌∙◌, ◌∷◌, ◌≡◌, ◌≤◌, [], AllFail, ap, arith, Bool, cases_lt, FailBefore, false, find, get_or, get_or-take, get_or_read, inl, inr, IsFirst, IsTest, length, length-take-le, List, None, refl, remove, Some, subst, suc, sym, take, touched, true, without_first, zero, ℕ}
 
 module _ {A : Type 0} (q : A → Bool) where
   pub find_at : (xs : List A) (at : ℕ) (d : A) → at < length xs → ((k : ℕ) → k < at → q (get_or xs k d) ≡ false) → q (get_or xs at d) ≡ true

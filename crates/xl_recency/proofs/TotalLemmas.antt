@@ -1,9 +1,5 @@
 -- The items of all sets, when one set changes.
-use Rattle.std.proofs.Common.{◌≡◌, ℕ, zero, suc, ◌+◌, ◌<◌, ◌++◌, Bool, List, [], ◌∷◌, length, get_or, set, map, take, drop, ap, sym, ◌∙◌, arith}
-use Rattle.std.proofs.lemmas.List.{get_or_default}
-use Rattle.std.proofs.lemmas.List.Edits.{map_over_more}
-use Rattle.xl_model.specs.Recency.{purged}
-use Rattle.xl_recency.specs.Lists.{items_in, Purges, PurgesIn}
+use Rattle.xl_recency.proofs.Common.{◌++◌, ◌+◌, ◌<◌, ◌∙◌, ◌∷◌, ◌≡◌, [], ap, arith, Bool, drop, get_or, get_or_default, items_in, length, List, map, map_over_more, purged, Purges, PurgesIn, set, suc, sym, take, zero, ℕ}
 
 pub items_in-set : {A : Type 0} (sets : List (List A)) (i n : ℕ) (d new : List A) → i < length sets
     → n + length new ≡ length (get_or sets i d) → n + items_in (set sets i new) ≡ items_in sets

@@ -1,13 +1,6 @@
 -- What a new greatest stamp does to the list, and which places are the newest that meets a test and the oldest.
-use Rattle.std.proofs.Common.{◌≡◌, ℕ, zero, suc, ◌+◌, ◌-◌, ◌<◌, ◌≤◌, Bool, true, false, not, eqb, List, [], ◌∷◌, ◌++◌, length, get_or, set, take, drop, map, find, filter, Some, None, refl, sym, ◌∙◌, ap, arith, inl, inr, ◌⊎◌}
-use Rattle.std.proofs.lemmas.Bool.{le-ltb, eq-eqb, ne_eqb}
-use Rattle.std.proofs.lemmas.List.{map-append, length-append, length-map, length-take, take_at, drop_at, take_all, drop_all, get_or_default, take_more_set, drop_more, drop-set-lt, append_assoc}
-use Rattle.xl_model.specs.Recency.{without_first, touched, with_newest, purged}
-use Rattle.xl_recency.specs.Lists.{IsTest}
-use Rattle.xl_recency.specs.declared.item.Item.{Item}
-use Rattle.xl_recency.specs.declared.stamped.Place.{Place}
-use Rattle.xl_recency.specs.Stamps.{with_place, by_stamp, item_of, newest_first, Each, Apart, AreStamps, IsNewest, NoneMeets}
-use Rattle.xl_recency.proofs.OrderLemmas.{each_mono, each_all, each_at, each_by_stamp, each_set, each_push, In, in_at, in_by_stamp, each_in, Sorted, sorted, with_greatest, length-by_stamp, filter_all, by_stamp-filter, map-filter, filter_without, filter_with}
+use Rattle.xl_recency.proofs.Common.{◌++◌, ◌+◌, ◌-◌, ◌<◌, ◌∙◌, ◌∷◌, ◌≡◌, ◌≤◌, ◌⊎◌, [], ap, Apart, append_assoc, AreStamps, arith, Bool, by_stamp, drop, drop-set-lt, drop_all, drop_at, drop_more, Each, eq-eqb, eqb, false, filter, find, get_or, get_or_default, inl, inr, IsNewest, IsTest, Item, item_of, le-ltb, length, length-append, length-map, length-take, List, map, map-append, ne_eqb, newest_first, None, NoneMeets, not, Place, purged, refl, set, Some, suc, sym, take, take_all, take_at, take_more_set, touched, true, with_newest, with_place, without_first, zero, ℕ}
+use Rattle.xl_recency.proofs.OrderLemmas.{by_stamp-filter, each_all, each_at, each_by_stamp, each_in, each_mono, each_push, each_set, filter_all, filter_with, filter_without, In, in_at, in_by_stamp, length-by_stamp, map-filter, Sorted, sorted, with_greatest}
 use Rattle.xl_recency.proofs.ScanLemmas.{find_none, without_none}
 
 -- whether a place has another stamp

@@ -1,5 +1,5 @@
 -- The widths of recency lists, one after another.
-use Rattle.std.proofs.Common.{◌≡◌, ℕ, arith}
+use Rattle.xl_recency.proofs.Common.{◌≡◌, arith, ℕ}
 use Rattle.xl_recency.specs.Widths.{IsWidth}
 
 -- A width that is none of the others is 64.

@@ -1,7 +1,5 @@
 -- One array more.
-use Rattle.std.proofs.Common.{◌≡◌, refl, ℕ, suc, ◌<◌, ◌+◌, ◌-◌, List, ◌∷◌, ◌++◌, length, drop, slice_index, add-one, arith, drop-cons}
-use Rattle.std.specs.Prelude.{codes, decimal}
-use Rattle.xl_model.specs.Lines.{with_more_arrays}
+use Rattle.xl_report.proofs.Common.{◌++◌, ◌+◌, ◌-◌, ◌<◌, ◌∷◌, ◌≡◌, add-one, arith, codes, decimal, drop, drop-cons, length, List, refl, slice_index, suc, with_more_arrays, ℕ}
 
 pub next_array : (line hits misses : List ℕ) (n i : ℕ) → i < n → i < length hits → i < length misses
     → with_more_arrays line (n - i) (drop i hits) (drop i misses)

@@ -1,17 +1,12 @@
 -- Rows as JSON.
-use Rattle.std.proofs.Common.{◌≡◌, refl, ap, ◌∙◌, ℕ, zero, suc, ◌+◌, ◌-◌, ◌/◌, ◌%◌, ◌<◌, Bool, true, false, ◌||◌, List, [], ◌∷◌, ◌++◌, length, map, drop, slice_index, get_or, inl, inr, add-one, arith, drop-cons}
-use Rattle.std.specs.Str.{IsAscii, IsUtf8}
-use Rattle.std.proofs.lemmas.Str.{IsUtf8-from_ascii, IsUtf8-append, IsUtf8-nil}
-use Rattle.std.proofs.lemmas.Bool.{cases_lt, lt-ltb, le-ltb}
-use Rattle.serde_json.specs.Data.{Data, object, no_members}
-use Rattle.serde_json.specs.View.{view, items_of}
-use Rattle.serde_json.specs.declared.value.Value.{Value}
+use Rattle.xl_report.proofs.Common.{◌%◌, ◌++◌, ◌+◌, ◌-◌, ◌/◌, ◌<◌, ◌||◌, ◌∙◌, ◌∷◌, ◌≡◌, [], add-one, amount, ap, arith, Bool, change_members, Data, drop, drop-cons, false, get_or, hex_digits, hex_glyph, inl, inr, IsAscii, IsUtf8, items_of, length, List, map, named_members, no_members, object, objects_of, pair, pairs, refl, row_object, row_objects, slice_index, suc, true, verdict_members, view, walk_members, zero, ℕ}
+use Rattle.std.proofs.lemmas.Bool.{cases_lt, le-ltb, lt-ltb}
+use Rattle.std.proofs.lemmas.Str.{IsUtf8-append, IsUtf8-from_ascii, IsUtf8-nil}
 use Rattle.serde_json.specs.Written.{has_float, items_have_float}
+use Rattle.serde_json.specs.declared.value.Value.{Value}
+use Rattle.xl_model.specs.Scenes.{Served}
 use Rattle.xl_model.specs.declared.row.Counts.{Counts}
 use Rattle.xl_model.specs.declared.row.Row.{Row}
-use Rattle.xl_model.specs.Lines.{hex_digits, hex_glyph}
-use Rattle.xl_model.specs.Scenes.{Served}
-use Rattle.xl_report.specs.Json.{amount, pair, pairs, row_object, row_objects, objects_of, verdict_members, walk_members, change_members, named_members}
 
 -- the members, put one after another, are in order
 pub members_in_order : (name : List ℕ) (c : Counts) → object (named_members name c (change_members c (walk_members c (verdict_members c no_members)))) ≡ row_object name c

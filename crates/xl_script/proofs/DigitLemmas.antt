@@ -1,16 +1,10 @@
 -- Numbers read from the front, one digit after another, up to a limit.
-use Rattle.std.proofs.Common.{◌≡◌, ℕ, ◌+◌, ◌*◌, ◌^◌, ◌≤◌, ◌<◌, Bool, true, false, if◌then◌else◌, nat_lt, List, [], ◌∷◌, length, drop, Option, Some, None, refl, ap, sym, ◌∙◌, arith, add-one, get_or, inl, inr, nat_le}
-use Rattle.std.specs.Option.{option_map}
-use Rattle.std.specs.Prelude.{IfSome}
-use Rattle.std.specs.Char.{digit_value, is_digit}
-use Rattle.std.proofs.Math.Nat.{pow-zero, pow-suc, one-le-pow, le-mul_of_pos_right, pow-le-pow_right}
-use Rattle.std.proofs.lemmas.Bool.{ltb-true, le-ltb, lt-ltb, le-leb, cases_lt}
-use Rattle.std.proofs.lemmas.Nat.{mul-add-lt}
-use Rattle.std.proofs.lemmas.List.{drop_all}
+use Rattle.xl_script.proofs.Common.{if◌then◌else◌, ◌*◌, ◌+◌, ◌<◌, ◌^◌, ◌∙◌, ◌∷◌, ◌≡◌, ◌≤◌, [], add-one, address_of, ap, arith, below, Bool, cases_lt, digit_read, drop, drop_all, false, get_or, IfSome, inl, inr, le-leb, le-ltb, length, List, lt-ltb, ltb-true, nat_le, nat_lt, no_digit, None, number_after, number_in, Option, refl, Some, sym, true, ℕ}
+use Rattle.std.proofs.Math.Nat.{le-mul_of_pos_right, one-le-pow, pow-le-pow_right, pow-suc, pow-zero}
 use Rattle.std.proofs.Math.Seq.{drop-cons}
-use Rattle.xl_text.specs.Numbers.{number_in, address_of}
-use Rattle.xl_text.proofs.DigitLemmas.{number_after, digit_read, no_digit}
-use Rattle.xl_script.specs.Numbers.{below}
+use Rattle.std.proofs.lemmas.Nat.{mul-add-lt}
+use Rattle.std.specs.Char.{digit_value, is_digit}
+use Rattle.std.specs.Option.{option_map}
 
 large_stays : (limit n p : ℕ) (o : Option ℕ) → 0 < p → limit ≤ n → below limit (option_map (λ v. n * p + v) o) ≡ None
 large_stays limit n p None some large = refl

@@ -1,9 +1,8 @@
 -- Laws of permissions.
-use Rattle.std.proofs.Common.{◌≡◌, ℕ, ◌≤◌, ◌<◌, Bool, true, false, not, ◌&&◌, ◌||◌, List, [], ◌∷◌, length, get_or, Option, Some, None, refl, ap, sym, ◌∙◌, subst, arith}
-use Rattle.std.specs.Prelude.{IfSome, IfNone, IsTrue}
+use Rattle.xl_script.proofs.Common.{◌&&◌, ◌<◌, ◌||◌, ◌∙◌, ◌∷◌, ◌≡◌, ◌≤◌, [], ap, arith, Bool, false, get_or, IfNone, IfSome, IsTrue, length, List, None, not, Option, refl, Some, subst, sym, true, ℕ}
 use Rattle.std.proofs.Props.{props}
 use Rattle.xl_model.specs.declared.perm.Perm.{Perm}
-use Rattle.xl_script.specs.Words.{flag, perm_with, of_flags, perm_of}
+use Rattle.xl_script.specs.Words.{flag, of_flags, perm_of, perm_with}
 
 one_proof : (b : Bool) (k l : b ≡ true) → k ≡ l
 one_proof b = hlevel props

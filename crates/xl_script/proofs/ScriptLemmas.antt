@@ -1,21 +1,13 @@
 -- A text is read to its end, and what a run's script keeps.
-use Rattle.std.proofs.Common.{◌≡◌, ℕ, ◌+◌, ◌^◌, ◌≤◌, true, false, nat_le, nat_lt, List, [], ◌∷◌, length, drop, None, Some, Ok, Err, ap, sym, refl, arith, ◌∙◌, subst, cond, ◌&&◌}
-use Rattle.std.specs.Prelude.{All, Result, count_by, if◌then◌else◌}
-use Rattle.std.specs.List.{list_all}
-use Rattle.std.proofs.lemmas.Bool.{leb-true, ltb-true}
-use Rattle.std.proofs.lemmas.List.{append-nil}
-use Rattle.std.proofs.lemmas.List.Elements.{All-nil, All-cons}
-use Rattle.std.proofs.lemmas.List.Sums.{sum_by-cons}
+use Rattle.xl_script.proofs.Common.{if◌then◌else◌, ◌&&◌, ◌+◌, ◌^◌, ◌∙◌, ◌∷◌, ◌≡◌, ◌≤◌, [], after, All, and_then, ap, append-nil, arith, cond, count_by, counted, drop, Err, false, leb-true, length, lines_read, List, list_all, ltb-true, nat_le, nat_lt, None, numbered, Ok, plain_said, Reading, refl, Result, Said, script_lines, Some, subst, sum_by-cons, sym, text_read, true, words_of, ℕ}
+use Rattle.std.proofs.lemmas.List.Elements.{All-cons, All-nil}
 use Rattle.xl_model.specs.declared.script.Command.{Command}
-use Rattle.xl_script.specs.declared.fault.ScriptFault.TheVariants as fault
+use Rattle.xl_script.proofs.TextLemmas.{no_lines}
+use Rattle.xl_script.specs.Commands.{◌>>=◌, command_of, named, placed}
+use Rattle.xl_script.specs.Placing.{AreInMemory, ends_of, is_area, IsPlaced}
 use Rattle.xl_script.specs.declared.fault.Reason.{Reason}
 use Rattle.xl_script.specs.declared.fault.Reason.TheVariants.{PastTheEnd, TooManyAreas}
-use Rattle.xl_script.specs.Texts.{script_lines, words_of}
-use Rattle.xl_script.specs.Scripts.{Said, Reading, after, and_then, lines_read, text_read}
-use Rattle.xl_script.specs.Commands.{◌>>=◌, named, placed, command_of}
-use Rattle.xl_script.specs.Placing.{ends_of, AreInMemory, IsPlaced, is_area}
-use Rattle.xl_script.specs.Plain.{counted, numbered, plain_said}
-use Rattle.xl_script.proofs.TextLemmas.{no_lines}
+use Rattle.xl_script.specs.declared.fault.ScriptFault.TheVariants as fault
 
 -- commands before those of an end of the text
 pub at_end : {S C : Type 0} (said : S → List (List ℕ) → Said S C) (s : S) (number at : ℕ) (text : List ℕ) (items : List C) (whole : Reading S C)

@@ -1,13 +1,7 @@
 -- Laws of lines and words.
-use Rattle.std.proofs.Common.{◌≡◌, ℕ, suc, ◌+◌, ◌-◌, ◌≤◌, ◌<◌, ◌==◌, Bool, true, false, not, cond, if◌then◌else◌, List, [], ◌∷◌, length, take, drop, refl, ap, ap₂, sym, ◌∙◌, map, arith, one-add, add-one, add-zero, get_or, length-drop, length-take, Option, None, Some}
-use Rattle.std.specs.List.{position, position_or_len, slice_range}
-use Rattle.memchr.specs.Find.{IsFirstByte}
-use Rattle.std.proofs.lemmas.Bool.{ne_eqb, eqb-true}
+use Rattle.xl_script.proofs.Common.{if◌then◌else◌, ◌+◌, ◌-◌, ◌<◌, ◌==◌, ◌∙◌, ◌∷◌, ◌≡◌, ◌≤◌, [], add-one, add-zero, ap, ap₂, arith, Bool, cond, drop, drop-drop, drop_all, eqb-true, false, get_or, get_or-drop, IsFirstByte, length, length-drop, length-take, List, map, ne_eqb, None, not, one-add, onto, Option, pieces, position, position_or_len, prefix_len-le-length, prefix_len_is, prefix_len_stops, refl, script_lines, slice_range, Some, suc, sym, take, take-take, to_newline, true, up_to_comment, words_of, ℕ}
 use Rattle.std.proofs.lemmas.Bool.Decides.{nat_tests}
-use Rattle.std.proofs.lemmas.List.Sums.{prefix_len-le-length, prefix_len_is, prefix_len_stops}
-use Rattle.std.proofs.lemmas.List.{take-take, drop-drop, drop_all, get_or-drop}
-use Rattle.xl_text.specs.Texts.{is_blank, in_first, lines_of, without_return}
-use Rattle.xl_script.specs.Texts.{script_lines, to_newline, onto, pieces, up_to_comment, words_of}
+use Rattle.xl_text.specs.Texts.{in_first, is_blank, lines_of, without_return}
 
 -- a place is within the list
 pub place_within : {X : Type 0} (p : X → Bool) (xs : List X) → position_or_len p xs ≤ length xs

@@ -1,14 +1,6 @@
 -- The number of keys is the number of sections.
-use Rattle.std.proofs.Common.{◌≡◌, refl, sym, ap, ◌∙◌, subst, ℕ, zero, suc, ◌≤◌, true, false, not, List, length, ◌==◌, Option, None, Some, arith}
-use Rattle.std.specs.Prelude.{find}
-use Rattle.std.proofs.lemmas.List.{length-map}
-use Rattle.std.proofs.lemmas.Bool.Decides.{nat_tests}
-use Rattle.xl_model.specs.declared.address.Order.{Order}
-use Rattle.xl_model.specs.declared.leaf.Leaf.{Leaf}
+use Rattle.xl_sections.proofs.Common.{◌==◌, ◌∙◌, ◌≡◌, ◌≤◌, ap, AreCounts, arith, Count, count_of, false, find, find-In, find-None, find-passes, In, In-map, IsTied, keys_of, Leaf, length, length-map, List, map-In, nat_tests, None, not, number_of, Option, Order, refl, Some, subst, suc, sym, true, word_of, zero, ℕ}
 use Rattle.xl_model.specs.Sections.{section_count}
-use Rattle.xl_model_lemmas.specs.Members.{In}
-use Rattle.xl_model_lemmas.proofs.MemberLemmas.{find-In, find-passes, find-None, map-In, In-map}
-use Rattle.xl_sections.specs.Counted.{word_of, Count, count_of, number_of, keys_of, AreCounts, IsTied}
 use Rattle.xl_model_lemmas.proofs.SectionLemmas.{count-keys, count-short}
 use Rattle.xl_sections.proofs.WordLemmas.{any-is}
 

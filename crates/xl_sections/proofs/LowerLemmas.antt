@@ -1,16 +1,6 @@
 -- A count that is lowered, in a list of entries.
-use Rattle.std.proofs.Common.{◌≡◌, refl, sym, ap, ◌∙◌, subst, ℕ, suc, ◌+◌, ◌-◌, ◌<◌, Bool, true, false, cond, not, List, [], ◌∷◌, map, length, ◌==◌, Some, inl, inr, arith}
-use Rattle.std.specs.Prelude.{find, filter}
-use Rattle.std.proofs.lemmas.List.{length-map}
-use Rattle.std.proofs.lemmas.Bool.Decides.{nat_tests}
-use Rattle.xl_model.specs.Chains.{has_tag}
-use Rattle.xl_model_lemmas.specs.Members.{In, Once}
-use Rattle.xl_model_lemmas.proofs.MemberLemmas.{map-In, In-map, In-any, filter-In}
-use Rattle.xl_chain.specs.declared.shape.ChainShape.{ChainShape}
-use Rattle.xl_chain.specs.Held.{Held, ChainState, has, first_value, tags_of, with_value, without_tag}
-use Rattle.xl_sections.specs.Counted.{Count, CountState, count_of, number_of, keys_of}
-use Rattle.xl_sections.specs.Raised.{count_in, counts_of, AreKept, IsLowered}
-use Rattle.xl_sections.proofs.RaiseLemmas.{IsFoundAt, here-count, same-test, renewed, counts-renewed, count-renewed, keys-In}
+use Rattle.xl_sections.proofs.Common.{◌+◌, ◌-◌, ◌<◌, ◌==◌, ◌∙◌, ◌∷◌, ◌≡◌, [], ap, AreKept, arith, Bool, ChainShape, ChainState, cond, Count, count_in, count_of, counts_of, CountState, false, filter, filter-In, find, first_value, has, has_tag, Held, In, In-any, In-map, inl, inr, IsLowered, keys_of, length, length-map, List, map, map-In, nat_tests, not, number_of, Once, refl, Some, subst, suc, sym, tags_of, true, with_value, without_tag, ℕ}
+use Rattle.xl_sections.proofs.RaiseLemmas.{count-renewed, counts-renewed, here-count, IsFoundAt, keys-In, renewed, same-test}
 
 abbrev pub seen_of : ChainState → CountState
 seen_of c = record { room = c.shape.entries; counts = counts_of c.held }

@@ -1,14 +1,9 @@
 -- Whether a block is met, by the words of its sections.
-use Rattle.std.proofs.Common.{◌≡◌, ap, ◌∙◌, ℕ, ◌+◌, ◌*◌, ◌/◌, ◌^◌, ◌<◌, not, ◌||◌, List, length, ◌==◌}
-use Rattle.std.specs.List.{list_any}
-use Rattle.xl_model.specs.declared.address.Order.TheVariants as order
-use Rattle.xl_model.specs.declared.leaf.Leaf.{Leaf}
+use Rattle.xl_sections.proofs.Common.{◌*◌, ◌+◌, ◌/◌, ◌<◌, ◌==◌, ◌^◌, ◌||◌, ◌∙◌, ◌≡◌, ap, In, IsAligned, Leaf, length, List, list_any, not, of_order, part, word_of, ℕ}
 use Rattle.xl_model.specs.Mapping.{meets_block}
-use Rattle.xl_model_lemmas.specs.Members.{In}
-use Rattle.xl_model_lemmas.specs.Sections.{of_order, IsAligned}
 use Rattle.xl_model_lemmas.proofs.BlockLemmas.{any-large, any-middle}
-use Rattle.xl_sections.specs.Counted.{word_of, part}
 use Rattle.xl_sections.proofs.WordLemmas.{any-is, bit-is}
+use Rattle.xl_model.specs.declared.address.Order.TheVariants as order
 
 pub meets-large : (space first e : ℕ) (leaves : List Leaf) → space < 64 → first < 2 ^ 45 → first ≡ e * 262144 → ((x : Leaf) → In x leaves → IsAligned x)
     → list_any (meets_block space first order.G1) leaves ≡ not (word_of order.G1 (space * 2 ^ 45 + first / 262144) leaves == 0)

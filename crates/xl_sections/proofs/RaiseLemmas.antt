@@ -1,18 +1,7 @@
 -- A count that is raised, in a list of entries.
-use Rattle.std.proofs.Common.{◌≡◌, refl, sym, ap, ◌∙◌, subst, ℕ, suc, ◌+◌, ◌<◌, true, false, cond, List, [], ◌∷◌, map, length, slice_set, nat_lt, ◌==◌, Option, None, Some, inl, inr, arith}
-use Rattle.std.specs.Prelude.{find}
-use Rattle.std.proofs.lemmas.List.{length-map}
-use Rattle.std.proofs.lemmas.Bool.Decides.{nat_tests}
-use Rattle.xl_model.specs.Chains.{bucket_of, has_tag}
-use Rattle.xl_model_lemmas.specs.Members.{In, Once}
-use Rattle.xl_model_lemmas.proofs.MemberLemmas.{find-In, find-passes, find-None, map-In, In-map}
+use Rattle.xl_sections.proofs.Common.{◌+◌, ◌<◌, ◌==◌, ◌∙◌, ◌∷◌, ◌≡◌, [], ap, AreCounts, AreKept, arith, bucket_of, ChainShape, ChainState, cond, Count, count_in, count_of, counts_of, false, find, find-In, find-None, find-passes, first_value, found_of, has, has_tag, Held, held_with, In, In-map, in_front_of, inl, inr, is_entry, IsInserted, IsRaised, keys_of, length, length-map, List, map, map-In, nat_lt, nat_tests, None, number_in, number_of, Once, Option, refl, slice_set, Some, subst, suc, sym, tags_of, true, with_value, ℕ}
 use Rattle.xl_model_lemmas.proofs.BucketLemmas.{by-In, length-by}
 use Rattle.xl_chain.specs.declared.shape.Seek.TheVariants as seek
-use Rattle.xl_chain.specs.Held.{Held, ChainState, has, held_with, found_of, first_value, tags_of, in_front_of, is_entry, with_value}
-use Rattle.xl_chain.specs.declared.shape.ChainShape.{ChainShape}
-use Rattle.xl_chain.specs.Kept.{IsInserted}
-use Rattle.xl_sections.specs.Counted.{Count, count_of, number_of, keys_of, AreCounts}
-use Rattle.xl_sections.specs.Raised.{number_in, count_in, counts_of, AreKept, IsRaised}
 
 pub count-held : (key : ℕ) (hs : List Held) → count_of key (counts_of hs) ≡ number_in (found_of (held_with key hs))
 unfolding count_of held_with

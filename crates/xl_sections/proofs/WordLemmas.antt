@@ -1,15 +1,9 @@
 -- What a section's word tells.
-use Rattle.std.proofs.Common.{◌≡◌, refl, sym, ap, ◌∙◌, ℕ, ◌+◌, ◌*◌, ◌^◌, ◌<◌, Bool, true, false, cond, not, ◌&&◌, ◌||◌, List, [], ◌∷◌, length, ◌==◌, arith}
-use Rattle.std.specs.List.{list_any}
-use Rattle.std.proofs.lemmas.Bool.Decides.{nat_tests}
-use Rattle.xl_model.specs.declared.address.Order.{Order}
-use Rattle.xl_model.specs.declared.address.Order.TheVariants as order
-use Rattle.xl_model.specs.declared.leaf.Leaf.{Leaf}
+use Rattle.xl_sections.proofs.Common.{◌&&◌, ◌*◌, ◌+◌, ◌<◌, ◌==◌, ◌^◌, ◌||◌, ◌∙◌, ◌∷◌, ◌≡◌, [], ap, arith, Bool, cond, counts_at, false, Leaf, length, List, list_any, nat_tests, not, of_order, Order, part, refl, sym, tally, true, unit, word_of, ℕ}
 use Rattle.xl_model.specs.Addresses.{same_order}
 use Rattle.xl_model.specs.Base.{one_if}
-use Rattle.xl_model_lemmas.specs.Sections.{counts_at, of_order, tally}
-use Rattle.xl_model_lemmas.proofs.TallyLemmas.{tally-short, tally-any}
-use Rattle.xl_sections.specs.Counted.{unit, word_of, part}
+use Rattle.xl_model_lemmas.proofs.TallyLemmas.{tally-any, tally-short}
+use Rattle.xl_model.specs.declared.address.Order.TheVariants as order
 
 pub parts-are : (a b c : ℕ) → a < 2 ^ 22 → b < 2 ^ 22 → (part order.K4 (a + (b * 2 ^ 22 + c * 2 ^ 44)) ≡ a) × (part order.M2 (a + (b * 2 ^ 22 + c * 2 ^ 44)) ≡ b) × (part order.G1 (a + (b * 2 ^ 22 + c * 2 ^ 44)) ≡ c)
 parts-are a b c h k = (omega arith, omega arith, omega arith)

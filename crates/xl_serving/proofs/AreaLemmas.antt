@@ -1,16 +1,6 @@
 -- Areas that a script declares.
-use Rattle.std.proofs.Common.{◌≡◌, refl, sym, ap, subst, ℕ, Bool, true, false, List, [], ◌∷◌, ◌++◌}
-use Rattle.std.specs.Prelude.{Option}
-use Rattle.xl_model.specs.declared.script.Area.{Area}
-use Rattle.xl_model.specs.declared.script.Command.{Command}
+use Rattle.xl_serving.proofs.Common.{◌++◌, ◌∷◌, ◌≡◌, [], ap, Area, Bool, Command, Declared, false, HasServed, is_area, item_lines, List, refl, rows_after, rows_lines, scene_after, scene_of, scenes_after, Served, sink_same, SinkAfter, SinkMeaning, state_after, subst, sym, scenes_told as told_by, true, ℕ}
 use Rattle.xl_model.specs.declared.script.Command.TheVariants as command
-use Rattle.xl_model.specs.declared.script.Item.TheVariants.{Declared}
-use Rattle.xl_model.specs.Items.{state_after}
-use Rattle.xl_model.specs.Scenes.{Served, rows_after, rows_lines, item_lines, scene_after, scenes_after, told_by}
-use Rattle.xl_script.specs.Placing.{is_area}
-use Rattle.xl_outside.specs.Sinks.{SinkMeaning, SinkAfter}
-use Rattle.xl_outside.proofs.SinkLemmas.{sink_same}
-use Rattle.xl_serving.specs.Serving.{HasServed, scene_of}
 
 declared_rows : (area : Area) (areas : List Area) (rows : List Served) → rows_after (Declared area) areas rows ≡ rows
 unfolding state_after

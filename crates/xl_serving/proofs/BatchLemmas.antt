@@ -1,18 +1,6 @@
 -- What waits: an access more, or an event more.
-use Rattle.std.proofs.Common.{◌≡◌, refl, sym, ap, ◌∙◌, ℕ, ◌+◌, ◌≤◌, List, [], ◌∷◌, ◌++◌, length, take, arith}
-use Rattle.std.specs.Prelude.{map, drop}
-use Rattle.std.proofs.lemmas.List.{append_assoc, map-append, take_all, drop_all, take-append-le, drop-append-le, length-drop}
-use Rattle.std.proofs.lemmas.List.Sums.{sum_by-cons}
-use Rattle.xl_model.specs.declared.address.Kind.{Kind}
-use Rattle.xl_model.specs.declared.script.Area.{Area}
-use Rattle.xl_model.specs.declared.script.Item.{Item}
-use Rattle.xl_model.specs.declared.script.Item.TheVariants.{Command, Referenced}
-use Rattle.xl_model.specs.Items.{state_after}
-use Rattle.xl_model.specs.Scenes.{Served, Scene, rows_after, scene_after, scenes_after}
-use Rattle.xl_model_lemmas.proofs.SceneLemmas.{scene-append}
-use Rattle.xl_lackey.specs.declared.skim.Access.{Access}
-use Rattle.xl_serving.specs.declared.batch.WaitingEvent.{WaitingEvent}
-use Rattle.xl_serving.specs.Batches.{item_of, items_waiting, gaps}
+use Rattle.xl_serving.proofs.Common.{◌++◌, ◌+◌, ◌∙◌, ◌∷◌, ◌≡◌, ◌≤◌, [], Access, ap, append_assoc, Area, arith, drop, drop-append-le, drop_all, gaps, Item, item_of, items_waiting, Kind, length, length-drop, List, map, map-append, Referenced, refl, rows_after, Scene, scene-append, scene_after, scenes_after, Served, state_after, sum_by-cons, sym, take, take-append-le, take_all, WaitingEvent, ℕ}
+use Rattle.xl_model.specs.declared.script.Item.TheVariants.{Command}
 
 -- the number of an access's record changes no row
 any-rows : (n m va : ℕ) (k : Kind) (areas : List Area) (rows : List Served) → rows_after (Referenced n va k) areas rows ≡ rows_after (Referenced m va k) areas rows

@@ -1,19 +1,8 @@
 -- The end of a report, and a run from its start.
-use Rattle.std.proofs.Common.{◌≡◌, ℕ, Bool, true, List, [], ◌++◌, refl, sym, ap, ◌∙◌, subst, inl}
-use Rattle.std.specs.Prelude.{Option, Result, Ok, Err}
-use Rattle.xl_model.specs.declared.fault.InputFault.{InputFault}
-use Rattle.xl_model.specs.Scenes.{Served}
-use Rattle.xl_model.specs.Courses.{Trail}
-use Rattle.xl_outside.specs.Sinks.{SinkMeaning}
-use Rattle.xl_outside.specs.Fronts.{with_none}
-use Rattle.xl_outside.proofs.SinkLemmas.{sink_cut}
-use Rattle.xl_course.specs.declared.stop.Stop.{Stop}
-use Rattle.xl_course.specs.declared.stop.Stop.TheVariants as why
+use Rattle.xl_serving.proofs.Common.{◌++◌, ◌∙◌, ◌≡◌, [], Account, account_by, account_from, ap, AskedPlain, Bool, EndAfter, Ends, EndsAs, Err, faulted, Finds, inl, InputFault, List, Ok, Option, refl, Result, rows_by, rows_from, Served, sink_cut, SinkMeaning, Start, Stop, subst, sym, Trail, true, ℕ}
 use Rattle.xl_course.specs.Stops.{is_all_put, StopsOpening}
-use Rattle.xl_course.specs.Accounts.{Account, EndAfter, Ends, EndsAs, faulted}
-use Rattle.xl_words.specs.Words.{AskedPlain}
-use Rattle.xl_serving.specs.Inputs.{Finds}
-use Rattle.xl_serving.specs.Plain.{Start, account_from, rows_from, account_by, rows_by}
+use Rattle.xl_outside.specs.Fronts.{with_none}
+use Rattle.xl_course.specs.declared.stop.Stop.TheVariants as why
 
 -- the end of a report stopped in its rows
 pub end_cut : {K : Type 0} (sink : SinkMeaning K) (json : Bool) (xs ys : List ℕ) (a b : K) (stop : Stop)

@@ -1,21 +1,13 @@
 -- What the reading of a file says of its text.
-use Rattle.std.proofs.Common.{◌≡◌, ℕ, ◌+◌, ◌<◌, Bool, List, [], length, take, refl, ap, sym, ◌∙◌, subst, arith, length-take, inl, inr}
-use Rattle.std.specs.Prelude.{Option, None, Some, Result, Ok, Err, nat_lt, if◌then◌else◌}
+use Rattle.xl_serving.proofs.Common.{if◌then◌else◌, ◌+◌, ◌<◌, ◌∙◌, ◌≡◌, [], ap, arith, Bool, cases_lt, Command, commands_said, config_fault, Err, Finds, inl, InputFault, inr, length, length-take, List, lt-ltb, nat_lt, None, Ok, Option, refl, Result, rows_said, said_by, said_in, script_fault, Some, Stop, subst, sym, take, take_all, TellsWhole, ℕ}
 use Rattle.std.specs.declared.alloc.Global.{Global}
 use Rattle.std.specs.declared.vec.Vec.{Vec}
-use Rattle.std.proofs.lemmas.Bool.{cases_lt, lt-ltb}
-use Rattle.std.proofs.lemmas.List.{take_all}
-use Rattle.xl_model.specs.declared.fault.InputFault.{InputFault}
-use Rattle.xl_model.specs.declared.script.Command.{Command}
 use Rattle.xl_config.specs.Config.{config, config_by, document_of}
-use Rattle.xl_outside.specs.Whole.{TellsWhole}
+use Rattle.xl_script.specs.Plain.{commands_in, plain_said, script_of}
+use Rattle.xl_script.specs.Scripts.{lines_read, text_read}
+use Rattle.xl_script.specs.Texts.{script_lines}
 use Rattle.xl_script.specs.declared.fault.ScriptFault.{ScriptFault}
 use Rattle.xl_script.specs.declared.fault.ScriptFault.TheVariants as script
-use Rattle.xl_script.specs.Texts.{script_lines}
-use Rattle.xl_script.specs.Scripts.{text_read, lines_read}
-use Rattle.xl_script.specs.Plain.{plain_said, commands_in, script_of}
-use Rattle.xl_course.specs.declared.stop.Stop.{Stop}
-use Rattle.xl_serving.specs.Inputs.{config_fault, script_fault, said_by, said_in, rows_said, commands_said, Finds}
 
 pub longer : (limit : ℕ) (text : List ℕ) → limit < length text → limit < length (take (limit + 1) text)
 longer limit text h = let e = length-take (limit + 1) text in grind arith

@@ -1,9 +1,7 @@
 -- What the items of a command are, one by one.
-use Rattle.std.proofs.Common.{◌≡◌, sym, ap, ◌∙◌, refl, ℕ, zero, suc, ◌+◌, ◌<◌, length, arith}
-use Rattle.std.specs.Prelude.{Some, slice_get}
+use Rattle.xl_serving.proofs.Common.{◌+◌, ◌<◌, ◌∙◌, ◌≡◌, ap, arith, events_from, length, refl, slice_get, Some, suc, sym, zero, ℕ}
 use Rattle.xl_model.specs.declared.event.Event.{Event}
 use Rattle.xl_model.specs.declared.script.Item.TheVariants.{Command}
-use Rattle.xl_model.specs.Courses.{events_from}
 
 nth_event : (at : ℕ → Event) (from n i : ℕ) → i < n → slice_get (events_from at from n) i ≡ Some (Command (at (from + i)))
 nth_event at from zero i h = absurd (omega arith)

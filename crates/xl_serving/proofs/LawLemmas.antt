@@ -1,15 +1,7 @@
 -- The account of the plain form, in the words of the report.
-use Rattle.std.proofs.Common.{◌≡◌, sym, ap, ◌∙◌, ℕ, false, List, ◌++◌, append-nil}
-use Rattle.std.specs.Prelude.{Option}
-use Rattle.xl_model.specs.declared.fault.InputFault.{InputFault}
-use Rattle.xl_model.specs.Scenes.{Scene, lives_after, opening_scene, told_by as scenes_told, untold}
-use Rattle.xl_model.specs.Report.{report, tail}
-use Rattle.xl_model_lemmas.proofs.SceneLemmas.{scene-is}
-use Rattle.xl_course.specs.Meanings.{states_after, told_by}
-use Rattle.xl_course.specs.Accounts.{last_where}
-use Rattle.xl_serving.specs.Plain.{plain, end_text}
-use Rattle.xl_serving.specs.Laws.{TheTextIsTheReport, AFaultEndsTheText}
+use Rattle.xl_serving.proofs.Common.{◌++◌, ◌∙◌, ◌≡◌, ap, append-nil, end_text, false, InputFault, last_where, List, lives_after, opening_scene, Option, plain, report, Scene, scene-is, scenes_told, states_after, sym, tail, told_by, untold, ℕ}
 use Rattle.xl_serving.proofs.PlainLemmas.{scenes-states, told-plain}
+use Rattle.xl_serving.specs.Laws.{AFaultEndsTheText, TheTextIsTheReport}
 
 pub the_text_is_the_report : TheTextIsTheReport
 unfolding report tail

@@ -1,3 +1,4 @@
+mod Common
 mod PieceLemmas
 mod RecordLemmas
 mod SkimLemmas

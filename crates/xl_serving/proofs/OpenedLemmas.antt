@@ -1,11 +1,6 @@
 -- Rows that are opened one after another.
-use Rattle.std.proofs.Common.{◌≡◌, ℕ, suc, ◌+◌, ◌<◌, ◌≤◌, List, [], ◌∷◌, ◌++◌, length, map, refl, ap, sym, ◌∙◌, subst, arith, length-append}
-use Rattle.std.specs.Prelude.{All}
-use Rattle.std.proofs.lemmas.List.Elements.{All-get_or, All-drop}
-use Rattle.xl_model.specs.declared.row.Row.{Row as RowFields}
-use Rattle.xl_model.specs.Rows.{Row, row_of}
+use Rattle.xl_serving.proofs.Common.{◌++◌, ◌+◌, ◌<◌, ◌∙◌, ◌∷◌, ◌≡◌, ◌≤◌, [], All, All-drop, All-get_or, ap, arith, length, length-append, List, map, opened, refl, Row, row_of, RowFields, Served, subst, suc, sym, ℕ}
 use Rattle.xl_model.specs.RowRun.{opening}
-use Rattle.xl_model.specs.Scenes.{Served, opened}
 
 opened_more : (xs : List RowFields) (x : RowFields) → opened (map row_of (xs ++ x ∷ [])) ≡ opened (map row_of xs) ++ opened (row_of x ∷ [])
 opened_more [] x = refl

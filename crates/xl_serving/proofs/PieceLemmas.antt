@@ -1,17 +1,6 @@
 -- What is left of a file when its next piece was fed, and where it ends.
-use Rattle.std.proofs.Common.{◌≡◌, ℕ, ◌+◌, ◌≤◌, ◌<◌, ◌⊎◌, Bool, true, false, List, [], ◌++◌, length, take, drop, refl, ap, arith, ◌∙◌, sym, inl, inr, append_assoc, length-take}
-use Rattle.std.specs.Prelude.{Option, None, Some, nat_lt, if◌then◌else◌}
-use Rattle.std.proofs.lemmas.Bool.{cases_lt, false≢true}
-use Rattle.std.proofs.lemmas.Bool.Decides.{nat_tests}
-use Rattle.std.proofs.lemmas.List.{drop-drop, drop-take, drop_all, take-take, take-append-drop}
-use Rattle.xl_model.specs.declared.fault.InputFault.TheVariants.{TraceTooLong}
-use Rattle.xl_model.specs.Courses.{at_end}
-use Rattle.xl_lackey.specs.Stream.{State, Left, left, due, left_by, unless_bad}
-use Rattle.xl_text.specs.Texts.{lines_by}
+use Rattle.xl_serving.proofs.Common.{if◌then◌else◌, ◌++◌, ◌+◌, ◌<◌, ◌∙◌, ◌≡◌, ◌≤◌, ◌⊎◌, [], ahead, ap, append_assoc, arith, at_end, at_first, Bool, cases_lt, drop, drop-drop, drop-take, drop_all, due, EndsBy, false, false≢true, Feeds, FeedsOf, Fills, HasMore, inl, inr, IsFedFrom, IsWithin, KeepsLeft, Left, left, left_by, left_of, length, length-take, limit, lines_by, List, nat_lt, nat_tests, None, Option, Progress, refl, Some, State, sym, take, take-append-drop, take-take, TraceTooLong, trail, true, unless_bad, ℕ}
 use Rattle.xl_course.specs.declared.stop.Stop.TheVariants as why
-use Rattle.xl_course.specs.Sources.{EndsBy}
-use Rattle.xl_serving.specs.Traces.{trail, Progress, limit, ahead, at_first, left_of}
-use Rattle.xl_serving.specs.Tapes.{IsWithin, IsFedFrom, KeepsLeft, Fills, Feeds, FeedsOf, HasMore}
 
 -- a file past the limit, and one within it
 pub long : (file : List ℕ) (p : Progress) → limit < length file → ahead file p ≡ trail p.number (due p.reader (drop p.at (take limit file))) (Some TraceTooLong)

@@ -1,32 +1,11 @@
 -- The plain form: scenes and what is told, as any form's.
-use Rattle.std.proofs.Common.{◌≡◌, refl, sym, ap, subst, ◌∙◌, ℕ, zero, suc, ◌+◌, ◌<◌, ◌≤◌, Bool, true, false, cond, List, [], ◌∷◌, ◌++◌, length, arith, ◌⊎◌, inl, inr}
-use Rattle.std.specs.Prelude.{Option, Some, Result, slice_get, count_by, All}
-use Rattle.std.proofs.lemmas.List.{length-append}
-use Rattle.std.proofs.lemmas.List.Sums.{sum_by-cons}
-use Rattle.std.proofs.lemmas.List.Elements.{All-nil, All-cons, All-head, All-tail, All-same}
-use Rattle.xl_model.specs.declared.address.Kind.{Kind}
-use Rattle.xl_model.specs.declared.script.Area.{Area}
-use Rattle.xl_model.specs.declared.script.Command.{Command}
-use Rattle.xl_model.specs.declared.script.Command.TheVariants as command
-use Rattle.xl_model.specs.declared.script.Item.{Item}
-use Rattle.xl_model.specs.declared.script.Item.TheVariants as item
-use Rattle.xl_model.specs.Scenes.{Served as Row, Scene, scene_after, scenes_after, told_by as scenes_told}
-use Rattle.xl_model.specs.Courses.{Accesses, Trail, events_from, accesses_items as scene_accesses}
-use Rattle.xl_model_lemmas.proofs.SceneLemmas.{told-append}
-use Rattle.xl_outside.specs.Sinks.{SinkMeaning, SinkAfter}
-use Rattle.xl_course.specs.declared.form.Step.{Step}
-use Rattle.xl_course.specs.declared.form.Step.TheVariants as step
-use Rattle.xl_course.specs.declared.stop.Stop.{Stop}
-use Rattle.xl_course.specs.Meanings.{lines_where, states_after, told_by}
-use Rattle.xl_course.specs.Courses.{commands_of, course, items_of_all, items_of as record_items}
-use Rattle.xl_course.specs.Accounts.{account, Ends}
-use Rattle.xl_words.specs.Words.{AskedPlain}
+use Rattle.xl_serving.proofs.Common.{◌++◌, ◌+◌, ◌<◌, ◌∙◌, ◌∷◌, ◌≡◌, ◌≤◌, ◌⊎◌, [], Accesses, account, account_from, All, All-cons, All-head, All-nil, All-same, All-tail, ap, Area, arith, AskedPlain, Backlog, Bool, Command, commands_of, cond, count_by, count_of, course, end_text, Ends, event_at, events_from, false, HasServed, inl, inr, is_area, IsPlaced, Item, items_of, items_of_all, Kind, length, length-append, lines_where, List, Option, plain, record_items, refl, Result, Served as Row, rows_from, Scene, accesses_items as scene_accesses, scene_after, scene_items, scene_of, scenes_after, scenes_told, SinkAfter, SinkMeaning, slice_get, Some, start_of, states_after, step_of, steps_of, Stop, subst, suc, sum_by-cons, sym, told-append, told_by, Trail, true, waited, waits, WaitsMore, with_area, zero, ℕ}
 use Rattle.xl_course.specs.Serving.{HasServed as Served, Skimmed}
-use Rattle.xl_script.specs.Placing.{is_area, IsPlaced}
-use Rattle.xl_serving.specs.Plain.{plain, step_of, steps_of, items_of, with_area, end_text, start_of, account_from, rows_from}
-use Rattle.xl_serving.specs.Serving.{HasServed, scene_of, event_at, count_of}
+use Rattle.xl_course.specs.declared.form.Step.{Step}
 use Rattle.xl_serving.proofs.AreaLemmas.{served_area}
-use Rattle.xl_serving.specs.Batches.{Backlog, waits, waited, WaitsMore, items_of_all as scene_items}
+use Rattle.xl_course.specs.declared.form.Step.TheVariants as step
+use Rattle.xl_model.specs.declared.script.Command.TheVariants as command
+use Rattle.xl_model.specs.declared.script.Item.TheVariants as item
 
 pub scenes-states : (items : List Item) (s : Scene) → scenes_after items s ≡ states_after plain items s
 scenes-states [] s = refl

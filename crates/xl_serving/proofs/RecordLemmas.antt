@@ -1,21 +1,10 @@
 -- What the reader's answer says of the records that are left.
-use Rattle.std.proofs.Common.{◌≡◌, ℕ, ◌+◌, ◌%◌, ◌^◌, ◌≤◌, ◌<◌, Bool, true, false, List, [], ◌∷◌, ◌++◌, length, take, drop, refl, ap, arith, ◌∙◌, sym, inl, inr}
-use Rattle.std.specs.Prelude.{Option, None, Some, Ok}
-use Rattle.std.proofs.lemmas.Bool.{cases_lt, false_from_ne_true, false≢true}
-use Rattle.std.proofs.lemmas.List.{drop_all}
-use Rattle.xl_model.specs.declared.fault.InputFault.{InputFault}
-use Rattle.xl_model.specs.declared.fault.InputFault.TheVariants.{TraceTooLong, TraceLine}
-use Rattle.xl_model.specs.Courses.{Accesses, Trail, at_end}
+use Rattle.xl_serving.proofs.Common.{◌%◌, ◌++◌, ◌+◌, ◌<◌, ◌^◌, ◌∙◌, ◌∷◌, ◌≡◌, ◌≤◌, [], Accesses, accesses_of, ahead, Answered, ap, arith, at_end, Bool, cases_lt, drop, drop_all, due, EndsBy, false, false_from_ne_true, false≢true, fault_of, inl, InputFault, inr, IsFedFrom, IsUnfed, IsWithin, KeepsLeft, Left, left, left_by, left_of, length, limit, List, MayCome, next_number, None, numbered, Ok, Option, Progress, Record, refl, Some, State, sym, take, TraceLine, TraceTooLong, Trail, trail, true, with_record, with_records, ℕ}
+use Rattle.xl_lackey.specs.Answers.{Ends, Gives, record_of, Refuses}
 use Rattle.xl_lackey.specs.declared.fault.Fault.{Fault}
 use Rattle.xl_lackey.specs.declared.reference.Reference.{Reference}
-use Rattle.xl_lackey.specs.Skims.{with_records}
-use Rattle.xl_lackey.specs.Stream.{Record, Left, State, left, left_by, due, MayCome}
-use Rattle.xl_lackey.specs.Answers.{Gives, Ends, Refuses, record_of}
-use Rattle.xl_course.specs.declared.stop.Stop.TheVariants as why
-use Rattle.xl_course.specs.Sources.{EndsBy, Gives as Answered}
-use Rattle.xl_serving.specs.Traces.{trail, Progress, limit, ahead, left_of, next_number, numbered, fault_of, accesses_of, with_record}
-use Rattle.xl_serving.specs.Tapes.{IsUnfed, IsWithin, IsFedFrom, KeepsLeft}
 use Rattle.xl_serving.proofs.PieceLemmas.{long, short}
+use Rattle.xl_course.specs.declared.stop.Stop.TheVariants as why
 
 -- a file past the limit isn't at its end
 unfinished : (file : List ℕ) (p : Progress) → IsWithin file p → limit < length file → p.reader.finished ≡ false

@@ -1,21 +1,6 @@
 -- Records of one access alone that a trace gives together: what is left of the trace, and what the rows are served.
-use Rattle.std.proofs.Common.{◌≡◌, refl, sym, ap, ◌∙◌, ℕ, suc, ◌+◌, ◌%◌, ◌^◌, ◌<◌, ◌≤◌, true, List, [], ◌∷◌, ◌++◌, length, map, append-nil, length-append, arith}
-use Rattle.std.specs.Prelude.{Option, None, Some}
-use Rattle.xl_model.specs.declared.address.Kind.{Kind}
-use Rattle.xl_model.specs.declared.script.Item.{Item}
-use Rattle.xl_model.specs.declared.script.Item.TheVariants.{Referenced}
-use Rattle.xl_model.specs.Courses.{Accesses, Trail, accesses_items}
-use Rattle.xl_model.specs.Scenes.{Scene, scene_after, scenes_after}
-use Rattle.xl_model_lemmas.proofs.SceneLemmas.{scene-append}
-use Rattle.xl_lackey.specs.declared.skim.Access.{Access}
-use Rattle.xl_lackey.specs.Skims.{pair, accesses_in, all_accesses, Takes as TakesLines, Skimmed, with_records}
-use Rattle.xl_lackey.specs.Stream.{Record, Left, left, records}
-use Rattle.xl_text.specs.Texts.{lines_of}
-use Rattle.xl_course.specs.Sources.{accesses_of_all, Skims}
-use Rattle.xl_serving.specs.Tapes.{IsUnfed, IsWithin, IsFedFrom}
-use Rattle.xl_serving.specs.Traces.{Progress, MadeProgress, left_of, made_left, trail, numbered, next_number}
-use Rattle.xl_serving.specs.declared.batch.WaitingEvent.{WaitingEvent}
-use Rattle.xl_serving.specs.Batches.{item_of, items_waiting, gaps, items_of_all, WaitsMore}
+use Rattle.xl_serving.proofs.Common.{◌%◌, ◌++◌, ◌+◌, ◌<◌, ◌^◌, ◌∙◌, ◌∷◌, ◌≡◌, ◌≤◌, [], Access, Accesses, accesses_in, accesses_items, accesses_of_all, all_accesses, ap, append-nil, arith, gaps, IsFedFrom, IsUnfed, IsWithin, Item, item_of, scene_items as items_of_all, items_waiting, Kind, Left, left, left_of, length, length-append, lines_of, List, made_left, MadeProgress, map, next_number, None, numbered, Option, pair, Progress, Record, records, Referenced, refl, Scene, scene-append, scene_after, scenes_after, Skims, Some, suc, sym, TakesLines, Trail, trail, true, WaitingEvent, WaitsMore, with_records, ℕ}
+use Rattle.xl_lackey.specs.Skims.{Skimmed}
 use Rattle.xl_serving.proofs.BatchLemmas.{any-number, items-more}
 use Rattle.xl_serving.proofs.RecordLemmas.{gives_all, same_within, trail_on, with_numbered}
 

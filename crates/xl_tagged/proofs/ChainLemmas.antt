@@ -1,14 +1,6 @@
 -- What each call of chains makes of the values under tags.
-use Rattle.std.proofs.Common.{◌≡◌, refl, sym, ap, ◌∙◌, ℕ, Bool, true, false, cond, not, ◌||◌, List, [], ◌∷◌, map, slice_set, nat_lt, ◌==◌, Option, None, Some, inl, inr, arith}
-use Rattle.std.specs.Prelude.{find, filter}
-use Rattle.std.proofs.lemmas.Bool.Decides.{nat_tests}
-use Rattle.xl_model.specs.Chains.{bucket_of, has_tag}
-use Rattle.xl_model_lemmas.specs.Members.{In}
-use Rattle.xl_model_lemmas.proofs.MemberLemmas.{find-In, find-passes}
-use Rattle.xl_chain.specs.Lines.{AreSingle}
+use Rattle.xl_tagged.proofs.Common.{◌==◌, ◌||◌, ◌∙◌, ◌∷◌, ◌≡◌, [], ap, AreSingle, arith, Bool, bucket_of, cond, false, filter, find, find-In, find-passes, first_value, found_of, has, has_tag, Held, held_with, In, in_front_of, inl, inr, is_entry, List, map, nat_lt, nat_tests, None, not, Option, refl, slice_set, Some, sym, tags_of, true, values_by, values_under, with_value, without_tag, ℕ}
 use Rattle.xl_chain.specs.declared.shape.Seek.TheVariants as seek
-use Rattle.xl_chain.specs.Held.{Held, tags_of, has, held_with, found_of, first_value, in_front_of, without_tag, is_entry, with_value}
-use Rattle.xl_tagged.specs.Forms.{values_by, values_under}
 
 -- the values under a tag, entry by entry
 pub values-none : (t : ℕ) → values_under [] t ≡ []

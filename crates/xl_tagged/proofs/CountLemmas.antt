@@ -1,36 +1,12 @@
 -- Counts of smaller leaves by section, as leaves come and go; and that there is room for them.
-use Rattle.std.proofs.Common.{◌≡◌, refl, sym, ap, ◌∙◌, subst, ℕ, zero, suc, ◌+◌, ◌*◌, ◌/◌, ◌%◌, ◌^◌, ◌<◌, ◌≤◌, Bool, true, false, cond, not, ◌&&◌, List, [], ◌∷◌, ◌++◌, map, length, ◌==◌, nat_le, Option, None, Some, inl, inr, length-append, arith}
-use Rattle.std.specs.List.{list_any}
-use Rattle.std.proofs.lemmas.List.{length-map}
-use Rattle.std.proofs.lemmas.Bool.Decides.{nat_tests}
-use Rattle.xl_model.specs.declared.address.Order.{Order}
-use Rattle.xl_model.specs.declared.address.Order.TheVariants as order
-use Rattle.xl_model.specs.declared.leaf.Leaf.{Leaf}
-use Rattle.xl_model.specs.declared.perm.Perm.{Perm}
-use Rattle.xl_model.specs.Addresses.{level_of, pages_of, same_order, order_at}
-use Rattle.xl_model.specs.Base.{one_if}
-use Rattle.xl_model.specs.Chains.{leaf_tag}
-use Rattle.xl_model.specs.Mapping.{leaf_key, with_leaf, without_leaf}
-use Rattle.xl_model_lemmas.specs.Entries.{with_some}
-use Rattle.xl_model_lemmas.specs.Kept.{mapping_of}
-use Rattle.xl_model_lemmas.specs.Members.{In, IsSorted}
-use Rattle.xl_model_lemmas.specs.Sections.{counts_at, of_order, key_in, tally, IsAligned}
-use Rattle.xl_model.proofs.CodeLemmas.{at-level}
-use Rattle.xl_model_lemmas.proofs.MemberLemmas.{any-In, In-map}
-use Rattle.xl_model_lemmas.proofs.OnceLemmas.{once-short}
-use Rattle.xl_model_lemmas.proofs.InsertionLemmas.{without-other}
-use Rattle.xl_model_lemmas.proofs.LeafTallyLemmas.{tally-with, tally-less}
-use Rattle.xl_model_lemmas.proofs.TallyLemmas.{tally-short}
-use Rattle.xl_pte.specs.ReadBack.{MadeWordsReadBack}
-use Rattle.xl_sections.specs.Counted.{unit, Count, count_of, keys_of, CountState, AreCounts}
+use Rattle.xl_tagged.proofs.Common.{◌%◌, ◌&&◌, ◌*◌, ◌++◌, ◌+◌, ◌/◌, ◌<◌, ◌==◌, ◌^◌, ◌∙◌, ◌∷◌, ◌≡◌, ◌≤◌, [], any-In, ap, AreHeld, arith, at-level, Bool, cond, counts_at, false, Form, group_of, HasRoom, In, In-map, inl, inr, is_smaller, IsAligned, IsCounted, IsFit, IsIn, IsLess, IsMore, IsSorted, key_in, Leaf, leaf_in, leaf_key, leaf_tag, leaves_in, leaves_under, length, length-append, length-map, level_of, List, list_any, MadeWordsReadBack, map, mapping_of, nat_le, nat_tests, None, not, of_order, once-short, One, one_if, Option, Order, order_at, pages_of, Perm, refl, same_order, Sixteen, smaller_word, Some, subst, suc, sym, tally, tally-short, true, with_leaf, with_some, without-other, without_leaf, word_at, zero, ℕ}
+use Rattle.xl_model_lemmas.proofs.LeafTallyLemmas.{tally-less, tally-with}
 use Rattle.xl_sections.proofs.KeyLemmas.{counted}
-use Rattle.xl_tagged.specs.Forms.{Form, One, Sixteen, group_of, word_at}
-use Rattle.xl_tagged.specs.Slots.{leaf_in, leaves_in, leaves_under}
-use Rattle.xl_tagged.specs.Counted.{is_smaller, smaller_word, IsCounted, IsMore, IsLess, HasRoom, IsIn}
-use Rattle.xl_tagged.specs.Tagged.{IsFit, AreHeld}
+use Rattle.xl_sections.specs.Counted.{AreCounts, Count, count_of, CountState, keys_of, unit}
+use Rattle.xl_tagged.proofs.FindLemmas.{lies-any, lies_in}
 use Rattle.xl_tagged.proofs.PlaceLemmas.{HasParts, tag-parts}
-use Rattle.xl_tagged.proofs.SlotLemmas.{with-short, known-leaves}
-use Rattle.xl_tagged.proofs.FindLemmas.{lies_in, lies-any}
+use Rattle.xl_tagged.proofs.SlotLemmas.{known-leaves, with-short}
+use Rattle.xl_model.specs.declared.address.Order.TheVariants as order
 
 -- what a leaf adds to the word of a section
 abbrev pub adds : Order → ℕ → Leaf → ℕ

@@ -1,34 +1,10 @@
 -- What walks and looks find: the leaf of a page, the loads of its search, and whether a block is met.
-use Rattle.std.proofs.Common.{◌≡◌, refl, sym, ap, ◌∙◌, subst, ℕ, ◌+◌, ◌*◌, ◌/◌, ◌^◌, ◌<◌, ◌≤◌, Bool, true, false, cond, not, ◌&&◌, ◌||◌, List, ◌==◌, Option, None, Some, inl, inr, arith}
-use Rattle.std.specs.Prelude.{find, is_some}
-use Rattle.std.specs.List.{list_any}
-use Rattle.std.proofs.lemmas.Bool.Decides.{nat_tests}
-use Rattle.xl_model.specs.declared.address.Order.{Order}
-use Rattle.xl_model.specs.declared.address.Order.TheVariants as order
-use Rattle.xl_model.specs.declared.leaf.Leaf.{Leaf}
-use Rattle.xl_model.specs.Addresses.{level_of, pages_of, same_order}
-use Rattle.xl_model.specs.Chains.{tag_of, leaf_tag}
-use Rattle.xl_model.specs.Changes.{IsNamed}
-use Rattle.xl_model.specs.Mapping.{covers, meets_block, is_leaf, leaf_at_page, leaf_named, meets_any}
-use Rattle.xl_model.specs.Walks.{chain_reads, chains_reads, orders_tried}
-use Rattle.xl_model.specs.Words.{leaf_word}
-use Rattle.xl_model_lemmas.specs.Members.{In}
-use Rattle.xl_model_lemmas.specs.Sections.{counts_at, of_order, tally, IsAligned}
-use Rattle.xl_model_lemmas.specs.Entries.{or_leaf}
-use Rattle.xl_model_lemmas.proofs.MemberLemmas.{find-In, find-passes, find-only, In-any}
-use Rattle.xl_model_lemmas.proofs.SameLemmas.{same-tests, any-each, any-or, any-find, none-any}
-use Rattle.xl_model_lemmas.proofs.OrderLemmas.{orders-same, order-same, pages-some}
-use Rattle.xl_model_lemmas.proofs.PlaceLemmas.{covers-meets}
-use Rattle.xl_model_lemmas.proofs.SearchLemmas.{only, only-first}
-use Rattle.xl_model_lemmas.proofs.TallyLemmas.{tally-any}
+use Rattle.xl_tagged.proofs.Common.{◌&&◌, ◌*◌, ◌+◌, ◌/◌, ◌<◌, ◌==◌, ◌^◌, ◌||◌, ◌∙◌, ◌≡◌, ◌≤◌, any-each, any-find, any-or, ap, AreHeld, arith, Bool, chain_reads, chains_reads, cond, counts_at, covers, covers-meets, false, find, find-In, find-only, find-passes, first_found, Form, found_from, found_in, group_of, In, In-any, inl, inr, is_smaller, is_some, IsAligned, IsAt, Leaf, leaf_at_page, leaf_read, leaf_tag, leaf_word, level_of, List, list_any, loads_by, MadeWordsReadBack, meets_any, meets_block, nat_tests, None, none-any, not, of_order, Option, or_leaf, Order, order-same, orders-same, orders_tried, pages-some, pages_of, refl, same-tests, same_order, slot_of, smaller_word, Some, subst, sym, tag_of, tally, tally-any, true, word_at, ℕ}
 use Rattle.xl_model_lemmas.proofs.BlockLemmas.{meets-g1, meets-m2}
-use Rattle.xl_pte.specs.ReadBack.{MadeWordsReadBack}
-use Rattle.xl_tagged.specs.Forms.{Form, group_of, slot_of, word_at}
-use Rattle.xl_tagged.specs.Slots.{leaf_read, found_in, first_found, found_from, loads_by}
-use Rattle.xl_tagged.specs.Counted.{is_smaller, smaller_word}
-use Rattle.xl_tagged.specs.Tagged.{IsAt, AreHeld}
-use Rattle.xl_tagged.proofs.PlaceLemmas.{slot-low, covers-at, at-covers, covered-number}
-use Rattle.xl_tagged.proofs.SlotLemmas.{none-read, read-leaf, leaf-some}
+use Rattle.xl_model_lemmas.proofs.SearchLemmas.{only, only-first}
+use Rattle.xl_tagged.proofs.PlaceLemmas.{at-covers, covered-number, covers-at, slot-low}
+use Rattle.xl_tagged.proofs.SlotLemmas.{leaf-some, none-read, read-leaf}
+use Rattle.xl_model.specs.declared.address.Order.TheVariants as order
 
 module _ (back : MadeWordsReadBack) (f : Form) (s page : ℕ) (values : ℕ → List ℕ) (tags : List ℕ) (leaves : List Leaf) (space_in : s < 64) (page_in : page < 2 ^ 45)
     (h : AreHeld f values tags leaves) where

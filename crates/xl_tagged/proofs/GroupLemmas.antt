@@ -1,19 +1,10 @@
 -- What every change of a table's chains finds.
-use Rattle.std.proofs.Common.{◌≡◌, sym, ap, ◌∙◌, ℕ, ◌/◌, ◌^◌, ◌≤◌, false, List, length, Result, Ok, Err, OnErr, arith}
-use Rattle.xl_model.specs.declared.address.Order.{Order}
-use Rattle.xl_model.specs.declared.leaf.Leaf.{Leaf}
+use Rattle.xl_tagged.proofs.Common.{◌/◌, ◌^◌, ◌∙◌, ◌≡◌, ◌≤◌, ap, arith, ChainState, Err, false, Form, has_tag, Held, IsTagged, Leaf, length, List, MadeWordsReadBack, most_tags, Ok, One, OnErr, Order, pages_of, Result, Sixteen, slot_of, SmallerState, sym, tags_of, values_under, word_at, ℕ}
 use Rattle.xl_model.specs.declared.work.Full.{Full}
-use Rattle.xl_model.specs.Addresses.{pages_of}
-use Rattle.xl_model.specs.Chains.{has_tag}
-use Rattle.xl_pte.specs.ReadBack.{MadeWordsReadBack}
-use Rattle.xl_chain.specs.Held.{Held, ChainState, tags_of}
-use Rattle.xl_tagged.specs.Forms.{Form, One, Sixteen, most_tags, slot_of, values_under, word_at}
-use Rattle.xl_tagged.specs.Counted.{SmallerState}
-use Rattle.xl_tagged.specs.Groups.{IsWhole, IsReady, IsFull, word_for}
-use Rattle.xl_tagged.specs.Tagged.{IsTagged}
 use Rattle.xl_tagged.proofs.PlaceLemmas.{slot-low}
 use Rattle.xl_tagged.proofs.SlotLemmas.{leaf-some}
 use Rattle.xl_tagged.proofs.WholeLemmas.{IsNamedLeaf, named-word}
+use Rattle.xl_tagged.specs.Groups.{IsFull, IsReady, IsWhole, word_for}
 
 -- the chains of a whole table
 pub ready : MadeWordsReadBack → (f : Form) (keeps : List Held → Type 0) (c : ChainState) (s : SmallerState) → IsWhole f keeps c s → IsReady f keeps c

@@ -1,21 +1,7 @@
 -- What is held after a word is put into a slot, and after a slot is emptied: leaves that come, go, and get another
 -- permission.
-use Rattle.std.proofs.Common.{◌≡◌, refl, sym, ap, ◌∙◌, subst, ℕ, ◌/◌, ◌<◌, true, false, List, ◌==◌, inl, inr, ◌⊎◌, arith}
-use Rattle.std.proofs.lemmas.Bool.Decides.{nat_tests}
-use Rattle.xl_model.specs.declared.leaf.Leaf.{Leaf}
-use Rattle.xl_model.specs.declared.perm.Perm.{Perm}
-use Rattle.xl_model.specs.Addresses.{pages_of}
-use Rattle.xl_model.specs.Chains.{leaf_tag}
-use Rattle.xl_model.specs.Mapping.{meets_block, leaf_key, with_leaf, without_leaf}
-use Rattle.xl_model.specs.Words.{leaf_word}
-use Rattle.xl_model_lemmas.specs.Members.{In, IsSorted}
-use Rattle.xl_model_lemmas.proofs.InsertionLemmas.{with-In, In-with, stays-with, sorted-with, sorted-without, without-In, without-other, In-without, same-place}
-use Rattle.xl_model_lemmas.proofs.KeptLemmas.{meets-sym, place-meets}
-use Rattle.xl_model_lemmas.proofs.SameLemmas.{both}
-use Rattle.xl_tagged.specs.Forms.{Form, group_of, slot_of, word_at}
-use Rattle.xl_tagged.specs.Tagged.{IsFit, IsAt, AreHeld}
-use Rattle.xl_tagged.specs.Steps.{IsWritten}
-use Rattle.xl_tagged.proofs.PlaceLemmas.{slot-low, at-one, place-key}
+use Rattle.xl_tagged.proofs.Common.{◌/◌, ◌<◌, ◌==◌, ◌∙◌, ◌≡◌, ◌⊎◌, ap, AreHeld, arith, both, false, Form, group_of, In, In-with, In-without, inl, inr, IsAt, IsFit, IsSorted, IsWritten, Leaf, leaf_key, leaf_tag, leaf_word, List, meets-sym, meets_block, nat_tests, pages_of, Perm, place-meets, refl, same-place, slot_of, sorted-with, sorted-without, stays-with, subst, sym, true, with-In, with_leaf, without-In, without-other, without_leaf, word_at, ℕ}
+use Rattle.xl_tagged.proofs.PlaceLemmas.{at-one, place-key, slot-low}
 
 -- a place is this one or another
 place-or : (t i tag slot : ℕ) → ((t ≡ tag) × (i ≡ slot)) ⊎ (t ≡ tag → i ≡ slot → ⊥)

@@ -1,17 +1,7 @@
 -- Places of leaves: a leaf's slot under its tag is that of each page that it covers, and of no other leaf's.
-use Rattle.std.proofs.Common.{◌≡◌, sym, ap, ◌∙◌, ℕ, ◌+◌, ◌*◌, ◌/◌, ◌%◌, ◌^◌, ◌<◌, ◌≤◌, true, arith}
-use Rattle.std.proofs.lemmas.Bool.Decides.{nat_tests}
-use Rattle.xl_model.specs.declared.address.Order.{Order}
-use Rattle.xl_model.specs.declared.address.Order.TheVariants as order
-use Rattle.xl_model.specs.declared.leaf.Leaf.{Leaf}
-use Rattle.xl_model.specs.Addresses.{level_of, pages_of}
-use Rattle.xl_model.specs.Chains.{tag_of, leaf_tag}
-use Rattle.xl_model.specs.Mapping.{covers, leaf_key}
-use Rattle.xl_model_lemmas.specs.Sections.{IsAligned}
-use Rattle.xl_model_lemmas.proofs.OrderLemmas.{level-low, same-level}
-use Rattle.xl_tagged.specs.Forms.{Form, One, Sixteen, group_of, slot_of}
-use Rattle.xl_tagged.specs.Tagged.{IsAt}
+use Rattle.xl_tagged.proofs.Common.{◌%◌, ◌*◌, ◌+◌, ◌/◌, ◌<◌, ◌^◌, ◌∙◌, ◌≡◌, ◌≤◌, ap, arith, covers, Form, group_of, IsAligned, IsAt, Leaf, leaf_key, leaf_tag, level-low, level_of, nat_tests, One, Order, pages_of, same-level, Sixteen, slot_of, sym, tag_of, true, ℕ}
 use Rattle.xl_model_lemmas.proofs.SectionLemmas.{small-block}
+use Rattle.xl_model.specs.declared.address.Order.TheVariants as order
 
 -- a number in its group
 pub group-low : (f : Form) (n : ℕ) → n < 2 ^ 45 → n / group_of f < 2 ^ 45

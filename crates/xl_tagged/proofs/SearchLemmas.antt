@@ -1,18 +1,8 @@
 -- What a search for a page's tag tells of the word in its slot, and the loads that it makes.
-use Rattle.std.proofs.Common.{◌≡◌, sym, ap, ◌∙◌, ℕ, ◌+◌, ◌/◌, ◌%◌, ◌^◌, true, false, List, slice_index, arith}
-use Rattle.xl_model.specs.declared.address.Order.{Order}
-use Rattle.xl_model.specs.Addresses.{pages_of}
-use Rattle.xl_model.specs.Base.{one_if, plus}
-use Rattle.xl_model.specs.Chains.{tag_of, has_tag, chain_of, bucket_of, examined}
-use Rattle.xl_model.specs.Walks.{chain_reads}
-use Rattle.xl_chain.specs.Lines.{AreSingle}
-use Rattle.xl_chain.specs.declared.shape.Seek.TheVariants as seek
-use Rattle.xl_chain.specs.Held.{Held, ChainState, tags_of, held_with, found_of, value_of, loads_after}
-use Rattle.xl_tagged.specs.Forms.{One, Sixteen, slot_of, values_under, word_at}
-use Rattle.xl_tagged.specs.Slots.{order_loads}
-use Rattle.xl_tagged.specs.Steps.{word_found}
+use Rattle.xl_tagged.proofs.Common.{◌%◌, ◌+◌, ◌/◌, ◌^◌, ◌∙◌, ◌≡◌, ap, AreSingle, arith, bucket_of, chain_of, chain_reads, ChainState, examined, false, found_of, has_tag, Held, held_with, List, loads_after, One, one_if, Order, order_loads, pages_of, plus, Sixteen, slice_index, slot_of, sym, tag_of, tags_of, true, value_of, values_under, word_at, word_found, ℕ}
 use Rattle.xl_tagged.proofs.ChainLemmas.{found-under}
-use Rattle.xl_tagged.proofs.StepLemmas.{word-first, value-under, absent-values}
+use Rattle.xl_tagged.proofs.StepLemmas.{absent-values, value-under, word-first}
+use Rattle.xl_chain.specs.declared.shape.Seek.TheVariants as seek
 
 -- there is one slot
 pub slot-one : (o : Order) (page : ℕ) → 0 ≡ slot_of One o page

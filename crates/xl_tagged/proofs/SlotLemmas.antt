@@ -1,32 +1,10 @@
 -- Leaves are read back from their slots, and what is held under tags is known by its leaves.
-use Rattle.std.proofs.Common.{◌≡◌, refl, sym, ap, ◌∙◌, subst, ℕ, zero, suc, ◌+◌, ◌*◌, ◌/◌, ◌%◌, ◌^◌, ◌<◌, true, false, List, [], ◌∷◌, length, ◌==◌, Option, None, Some, inl, inr, ◌⊎◌, ◌≤◌, arith}
-use Rattle.std.specs.Prelude.{IfSome, IfNone}
-use Rattle.std.proofs.lemmas.Bool.Decides.{nat_tests}
-use Rattle.xl_model.specs.declared.address.Order.{Order}
-use Rattle.xl_model.specs.declared.address.Order.TheVariants as order
-use Rattle.xl_model.specs.declared.leaf.Leaf.{Leaf}
-use Rattle.xl_model.specs.declared.perm.Perm.{Perm}
-use Rattle.xl_model.specs.Addresses.{level_of, pages_of, order_at}
-use Rattle.xl_model.specs.Chains.{leaf_tag}
-use Rattle.xl_model.specs.Mapping.{leaf_key, with_leaf}
-use Rattle.xl_model.specs.Words.{leaf_word}
-use Rattle.xl_model_lemmas.specs.Members.{In}
-use Rattle.xl_model_lemmas.specs.Entries.{with_some}
-use Rattle.xl_model_lemmas.specs.Kept.{mapping_of}
-use Rattle.xl_model.proofs.CodeLemmas.{at-level}
-use Rattle.xl_model_lemmas.proofs.OrderLemmas.{level-low}
-use Rattle.xl_model_lemmas.proofs.MemberLemmas.{In-left, In-right, In-append}
-use Rattle.xl_model_lemmas.proofs.InsertionLemmas.{In-with, stays-with, same-place}
-use Rattle.xl_model_lemmas.proofs.KeptLemmas.{mapping-sorted, mapping-In}
-use Rattle.xl_model_lemmas.proofs.SortedLemmas.{same-sorted}
-use Rattle.xl_pte.specs.Decode.{decode_of, SaysSmall, SaysNone}
+use Rattle.xl_tagged.proofs.Common.{◌%◌, ◌*◌, ◌+◌, ◌/◌, ◌<◌, ◌==◌, ◌^◌, ◌∙◌, ◌∷◌, ◌≡◌, ◌≤◌, ◌⊎◌, [], ap, AreHeld, arith, at-level, false, Form, group_of, IfNone, IfSome, In, In-append, In-left, In-right, In-with, inl, inr, IsAt, IsFit, Leaf, leaf_in, leaf_key, leaf_read, leaf_said, leaf_tag, leaf_word, leaves_in, leaves_under, length, level-low, level_of, List, MadeWordsReadBack, mapping-In, mapping-sorted, mapping_of, nat_tests, None, Option, Order, order_at, pages_of, Perm, refl, same-place, same-sorted, slot_of, small_told, Some, stays-with, subst, suc, sym, true, with_leaf, with_some, word_at, zero, ℕ}
+use Rattle.xl_pte.specs.Decode.{decode_of, SaysNone, SaysSmall}
 use Rattle.xl_pte.specs.declared.word.Pte.{Pte}
+use Rattle.xl_tagged.proofs.PlaceLemmas.{at-one, group-back, HasParts, IsSamePlace, number-back, slot-low, tag-parts}
+use Rattle.xl_model.specs.declared.address.Order.TheVariants as order
 use Rattle.xl_pte.specs.declared.word.Pte.TheVariants as pte
-use Rattle.xl_pte.specs.ReadBack.{MadeWordsReadBack}
-use Rattle.xl_tagged.specs.Forms.{Form, group_of, slot_of, word_at}
-use Rattle.xl_tagged.specs.Slots.{leaf_said, leaf_read, small_told, leaf_in, leaves_in, leaves_under}
-use Rattle.xl_tagged.specs.Tagged.{IsFit, IsAt, AreHeld}
-use Rattle.xl_tagged.proofs.PlaceLemmas.{slot-low, group-back, number-back, HasParts, tag-parts, IsSamePlace, at-one}
 
 -- no leaf is read from 0
 pub none-read : (space : ℕ) (o : Order) (n : ℕ) → leaf_read space o n 0 ≡ None

@@ -1,34 +1,10 @@
 -- What each change answers and leaves, for a table of chains.
-use Rattle.std.proofs.Common.{◌≡◌, refl, sym, ap, ◌∙◌, subst, ℕ, suc, ◌<◌, ◌≤◌, true, false, cond, not, List, [], ◌∷◌, length, ◌==◌, nat_le, nat_lt, Option, None, Some, Result, Ok, Err, inl, inr, arith}
-use Rattle.std.specs.Prelude.{filter, is_some}
-use Rattle.std.specs.List.{list_any}
-use Rattle.std.proofs.lemmas.Bool.Decides.{nat_tests}
-use Rattle.std.proofs.lemmas.Bool.{eq-eqb, eqb-true}
-use Rattle.xl_model.specs.declared.address.Order.{Order}
-use Rattle.xl_model.specs.declared.perm.Perm.{Perm}
-use Rattle.xl_model.specs.declared.leaf.Leaf.{Leaf}
-use Rattle.xl_model.specs.declared.work.Refused.{Refused}
-use Rattle.xl_model.specs.declared.work.Work.{Work}
-use Rattle.xl_model.specs.declared.work.NoRoom.TheVariants as why
-use Rattle.xl_model.specs.Mapping.{is_leaf, leaf_key, leaf_named, with_leaf, without_leaf}
-use Rattle.xl_model.specs.Changes.{Change, Insert, Remove, Protect, Relocate, changed, at_page, with_new, without_old, with_perm}
-use Rattle.xl_model.specs.Chains.{leaf_tag, bucket_of, in_front_of_bucket, has_tag, with_tag, only_used_tags}
-use Rattle.xl_model.specs.Placing.{no_moves}
-use Rattle.xl_model.specs.Shapes.{Chained, brought, shape_after, widened, narrowed}
-use Rattle.xl_model.specs.Room.{room_for, has_room}
-use Rattle.xl_model.specs.Caches.{caches_purged}
-use Rattle.xl_model.specs.Structures.{work_of, TableState, IsChange, Made, moves_made, finds_place, answer_by, after_by, verdict_by, verdict, table_made, table_answer, table_after}
-use Rattle.xl_model_lemmas.specs.Members.{In, IsSorted}
+use Rattle.xl_tagged.proofs.Common.{◌<◌, ◌==◌, ◌∙◌, ◌∷◌, ◌≡◌, ◌≤◌, [], after_by, answer_by, any-In, ap, arith, at_page, both, bucket_of, by-In, caches_purged, chained, Change, changed, cond, eq-eqb, eqb-true, Err, false, filter, find-only, finds_place, Form, group_of, has_tag, In, In-any, In-by, In-with, in_front_of_bucket, inl, inr, Insert, is_leaf, is_some, IsChange, IsSorted, Leaf, leaf_key, leaf_named, leaf_tag, length, length-by, List, list_any, Made, moves_made, named-key, nat_le, nat_lt, nat_tests, no_moves, None, none-any, not, Ok, only_used_tags, Option, Order, Perm, Protect, refl, Refused, Relocate, Remove, Result, same-place, Some, sorted-with, stays-by, stays-with, subst, suc, sym, table_after, table_answer, table_made, TableState, true, verdict, verdict_by, with-without, with_leaf, with_new, with_perm, with_tag, without_leaf, without_old, Work, work_of, ℕ}
+use Rattle.xl_model.specs.Room.{has_room, room_for}
+use Rattle.xl_model.specs.Shapes.{brought, Chained, narrowed, shape_after, widened}
 use Rattle.xl_model_lemmas.specs.Buckets.{in_front_by}
-use Rattle.xl_model_lemmas.proofs.BucketLemmas.{by-In, In-by, stays-by, length-by}
-use Rattle.xl_model_lemmas.proofs.MemberLemmas.{In-any, any-In, find-only}
-use Rattle.xl_model_lemmas.proofs.SameLemmas.{none-any, both}
-use Rattle.xl_model_lemmas.proofs.SortedLemmas.{with-without}
-use Rattle.xl_model_lemmas.proofs.InsertionLemmas.{In-with, stays-with, sorted-with, same-place}
-use Rattle.xl_model_lemmas.proofs.PlaceLemmas.{named-key}
-use Rattle.xl_tagged.specs.Forms.{Form, group_of}
-use Rattle.xl_tagged.specs.Slots.{chained}
 use Rattle.xl_tagged.proofs.HeldLemmas.{IsTagWith}
+use Rattle.xl_model.specs.declared.work.NoRoom.TheVariants as why
 
 abbrev pub done : Result Work Refused
 done = Ok (work_of no_moves 0)

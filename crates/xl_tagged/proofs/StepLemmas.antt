@@ -1,27 +1,9 @@
 -- What calls of chains make of slots: an entry that comes, one whose value is set, and one that goes.
-use Rattle.std.proofs.Common.{◌≡◌, refl, sym, ap, ◌∙◌, subst, ℕ, suc, ◌+◌, ◌<◌, ◌≤◌, Bool, true, false, cond, not, ◌||◌, List, [], ◌∷◌, map, length, slice_set, slice_index, ◌==◌, Option, None, Some, inl, inr, arith}
-use Rattle.std.specs.Prelude.{find, filter}
-use Rattle.std.specs.List.{list_any}
-use Rattle.std.proofs.lemmas.List.{length-map, length-set, get_or-set_same, get_or-set_other}
-use Rattle.std.proofs.lemmas.Bool.Decides.{nat_tests}
-use Rattle.std.proofs.lemmas.Bool.{eq-eqb, eqb-true, ne_eqb}
-use Rattle.xl_model.specs.Chains.{has_tag, with_tag}
-use Rattle.xl_model_lemmas.specs.Members.{In}
-use Rattle.xl_model_lemmas.proofs.BucketLemmas.{tags-by, length-by}
-use Rattle.xl_model_lemmas.proofs.MemberLemmas.{find-only, In-any, In-map, filter-In, filter-passes}
-use Rattle.xl_model_lemmas.proofs.SameLemmas.{both}
-use Rattle.xl_chain.specs.declared.shape.Seek.TheVariants as seek
-use Rattle.xl_chain.specs.Lines.{AreSingle}
+use Rattle.xl_tagged.proofs.Common.{◌+◌, ◌<◌, ◌==◌, ◌||◌, ◌∙◌, ◌∷◌, ◌≡◌, ◌≤◌, [], ap, AreSingle, AreSized, arith, before, Bool, both, ChainState, cond, eq-eqb, eqb-true, false, filter, filter-In, filter-passes, find, find-only, first_value, Form, found_of, given_word, group_of, has, has_tag, Held, held_with, In, In-any, In-map, in_front_of, inl, inr, is_entry, IsPut, IsSet, IsTaken, length, length-by, length-map, length-set, List, list_any, map, nat_tests, ne_eqb, None, not, Option, own-number, Perm, refl, slice_index, slice_set, Some, subst, suc, sym, tags-by, tags_of, true, value_in, value_of, values_by, values_under, with_tag, with_value, without_tag, word_at, word_found, ℕ}
+use Rattle.xl_chain.proofs.PlaceLemmas.{set-other, set-same}
 use Rattle.xl_chain.specs.Kept.{IsInserted}
-use Rattle.xl_chain.specs.Held.{Held, ChainState, tags_of, has, held_with, found_of, first_value, in_front_of, without_tag, is_entry, with_value, value_of, value_in}
-use Rattle.xl_tagged.specs.Forms.{Form, group_of, before, values_by, values_under, word_at}
-use Rattle.xl_tagged.specs.Tagged.{AreSized}
-use Rattle.xl_model.specs.declared.perm.Perm.{Perm}
-use Rattle.xl_tagged.specs.Steps.{IsPut, IsSet, IsTaken, word_found, given_word}
-use Rattle.xl_tagged.proofs.ChainLemmas.{values-none, values-cons, values-front, IsUnderTag, same-entry, set-by, values-without, tags-set, tags-without}
-use Rattle.xl_tagged.proofs.StateLemmas.{with-absent, tag-with}
-use Rattle.xl_chain.proofs.PlaceLemmas.{set-same, set-other}
-use Rattle.xl_model_lemmas.proofs.OnceLemmas.{own-number}
+use Rattle.xl_tagged.proofs.ChainLemmas.{IsUnderTag, same-entry, set-by, tags-set, tags-without, values-cons, values-front, values-none, values-without}
+use Rattle.xl_tagged.proofs.StateLemmas.{tag-with, with-absent}
 pub use Rattle.xl_sections.proofs.RaiseLemmas.{absent-key as not-held}
 
 -- a tag that isn't held has no values

@@ -1,51 +1,18 @@
 -- A table of chains as a whole, through each of its calls.
-use Rattle.std.proofs.Common.{◌≡◌, refl, sym, ap, ◌∙◌, subst, ℕ, ◌+◌, ◌*◌, ◌/◌, ◌%◌, ◌^◌, ◌<◌, ◌≤◌, Bool, true, false, not, ◌||◌, List, [], length, slice_index, ◌==◌, Option, None, Some, Result, Ok, inl, inr, arith}
-use Rattle.std.specs.Prelude.{find, is_some}
-use Rattle.std.proofs.lemmas.List.{length-map}
-use Rattle.std.proofs.lemmas.Bool.Decides.{nat_tests}
-use Rattle.std.proofs.lemmas.Bool.{eq-eqb, eqb-true}
-use Rattle.xl_model.specs.declared.address.Order.{Order}
-use Rattle.xl_model.specs.declared.address.Order.TheVariants as order
-use Rattle.xl_model.specs.declared.event.Reach.{Reach}
-use Rattle.xl_model.specs.declared.perm.Perm.{Perm}
-use Rattle.xl_model.specs.declared.leaf.Leaf.{Leaf}
-use Rattle.xl_model.specs.declared.work.Refused.{Refused}
-use Rattle.xl_model.specs.declared.work.Walk.{Walk}
-use Rattle.xl_model.specs.declared.work.Work.{Work}
-use Rattle.xl_model.specs.Addresses.{level_of, pages_of}
-use Rattle.xl_model.specs.Base.{plus}
-use Rattle.xl_model.specs.Caches.{caches_fenced}
-use Rattle.xl_model.specs.Chains.{tag_of, leaf_tag, has_tag, with_tag, only_used_tags}
-use Rattle.xl_model.specs.Changes.{Change, Insert, Remove, Protect, IsNamed}
-use Rattle.xl_model.specs.Mapping.{covers, meets_block, is_leaf, leaf_key, leaf_named, leaf_at_page, meets_any, with_leaf, without_leaf}
-use Rattle.xl_model.specs.Placing.{no_moves}
-use Rattle.xl_model.specs.Structures.{work_of, TableState, IsBlock, IsPage, IsLeafFor, IsChange, IsWalk, IsFence, fence_answer, table_fenced, walk_answer, table_walked}
-use Rattle.xl_model.specs.Walks.{walked, chains_reads, orders_tried}
-use Rattle.xl_model.specs.Words.{bit_if, leaf_word}
-use Rattle.xl_model_lemmas.specs.Entries.{or_leaf}
-use Rattle.xl_model_lemmas.specs.Members.{In}
-use Rattle.xl_model_lemmas.specs.Sections.{IsAligned}
-use Rattle.xl_model_lemmas.proofs.InsertionLemmas.{with-In, without-In}
-use Rattle.xl_model_lemmas.proofs.MappingLemmas.{named-In, named-is}
-use Rattle.xl_model_lemmas.proofs.MemberLemmas.{In-any, any-false, filter-In, filter-passes, In-filter}
-use Rattle.xl_model_lemmas.proofs.PlaceLemmas.{named-space, named-first, named-order, aligned-frame}
-use Rattle.xl_model_lemmas.proofs.SameLemmas.{both}
-use Rattle.xl_model_lemmas.proofs.TagLemmas.{named-tag}
-use Rattle.xl_pte.specs.ReadBack.{MadeWordsReadBack}
+use Rattle.xl_tagged.proofs.Common.{◌%◌, ◌*◌, ◌+◌, ◌/◌, ◌<◌, ◌==◌, ◌^◌, ◌||◌, ◌∙◌, ◌≡◌, ◌≤◌, [], aligned-frame, any-false, any_smaller, ap, AreCounted, AreHeld, AreIn, AreLess, AreMore, arith, before, bit_if, Bool, both, caches_fenced, chained, chains_reads, ChainState, Change, covers, eq-eqb, eqb-true, false, fence_answer, filter-In, filter-passes, find, first_found, Form, found_from, found_in, given_word, group_of, has_tag, HaveRoom, Held, held_leaves, In, In-any, In-filter, inl, inr, Insert, is_leaf, is_some, IsAligned, IsAt, IsBlock, IsChange, IsFence, IsFit, IsIn, IsLeafFor, IsLess, IsNamed, IsPage, IsPut, IsSameTable, IsSet, IsTagged, IsTaken, IsWalk, IsWritten, Leaf, leaf_at_page, leaf_key, leaf_named, leaf_read, leaf_tag, leaf_word, length, length-map, level_of, List, loaded_more, MadeWordsReadBack, meets_any, meets_block, named-first, named-order, named-space, nat_tests, no_moves, None, NoneLarge, not, Ok, only_used_tags, Option, or_leaf, Order, orders_tried, pages_of, Perm, plus, Protect, refl, Refused, Remove, Result, slice_index, slot_of, smaller_word, SmallerState, Some, subst, sym, table_fenced, table_in, table_walked, TableState, tag_of, tags_of, true, values_under, walk_answer, walk_loads, walked, with-In, with_leaf, with_tag, without-In, without_leaf, word_at, Work, work_of, ℕ}
 use Rattle.xl_chain.specs.declared.shape.ChainShape.{ChainShape}
-use Rattle.xl_chain.specs.Held.{ChainState, Held, tags_of}
-use Rattle.xl_tagged.specs.Forms.{Form, group_of, before, slot_of, values_under, word_at}
-use Rattle.xl_tagged.specs.Slots.{leaf_read, held_leaves, chained, table_in, found_in, first_found, walk_loads, loaded_more, found_from, NoneLarge}
-use Rattle.xl_tagged.specs.Counted.{smaller_word, SmallerState, AreCounted, HaveRoom, AreIn, IsIn, AreMore, IsLess, AreLess, any_smaller}
-use Rattle.xl_tagged.specs.Tagged.{IsFit, IsAt, AreHeld, IsTagged}
-use Rattle.xl_tagged.specs.Steps.{IsSameTable, IsWritten, IsPut, IsSet, IsTaken, given_word}
-use Rattle.xl_tagged.proofs.PlaceLemmas.{slot-low, at-one, place-key}
-use Rattle.xl_tagged.proofs.SlotLemmas.{read-leaf, leaf-some, known-leaves}
+use Rattle.xl_model.specs.declared.event.Reach.{Reach}
+use Rattle.xl_model.specs.declared.work.Walk.{Walk}
+use Rattle.xl_model_lemmas.proofs.MappingLemmas.{named-In, named-is}
+use Rattle.xl_model_lemmas.proofs.TagLemmas.{named-tag}
 use Rattle.xl_tagged.proofs.ChainLemmas.{values-none}
-use Rattle.xl_tagged.proofs.HeldLemmas.{IsTagWith, IsTagWithout, IsWithout, put-held, take-held, with-new, new-keys, without-old, with-given}
-use Rattle.xl_tagged.proofs.FindLemmas.{at-page, loads-are, none-other, meets-is, from-only, from-is, page-found, found-from}
-use Rattle.xl_tagged.proofs.CountLemmas.{counted-with, counted-less, counted-given, has-room, is-in, counted-none}
-use Rattle.xl_tagged.proofs.StateLemmas.{done, no_table, tag-with, used-all, used-but, inserted, full-up, removed, protected, IsMove, IsMoving, at_to, used-with, is-move}
+use Rattle.xl_tagged.proofs.CountLemmas.{counted-given, counted-less, counted-none, counted-with, has-room, is-in}
+use Rattle.xl_tagged.proofs.FindLemmas.{at-page, found-from, from-is, from-only, loads-are, meets-is, none-other, page-found}
+use Rattle.xl_tagged.proofs.HeldLemmas.{IsTagWith, IsTagWithout, IsWithout, new-keys, put-held, take-held, with-given, with-new, without-old}
+use Rattle.xl_tagged.proofs.PlaceLemmas.{at-one, place-key, slot-low}
+use Rattle.xl_tagged.proofs.SlotLemmas.{known-leaves, leaf-some, read-leaf}
+use Rattle.xl_tagged.proofs.StateLemmas.{at_to, done, full-up, inserted, is-move, IsMove, IsMoving, no_table, protected, removed, tag-with, used-all, used-but, used-with}
+use Rattle.xl_model.specs.declared.address.Order.TheVariants as order
 
 -- what a change leaves of the chains and counts, and its answer
 pub record IsStep (f : Form) (c : Change) (old new : ChainState) (t : SmallerState) (r : Result Work Refused) : Type 0 where

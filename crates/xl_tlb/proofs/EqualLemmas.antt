@@ -1,14 +1,5 @@
 -- The item that keeps a leaf in all its parts.
-use Rattle.std.proofs.Common.{◌≡◌, ◌/◌, ◌==◌, ◌<◌, Bool, true, false, ◌&&◌, refl, ap}
-use Rattle.xl_model.specs.LeafWords.{perm_at}
-use Rattle.xl_model.specs.Ranges.{same_perm}
-use Rattle.xl_model.specs.Tlb.{set_number}
-use Rattle.xl_model.specs.declared.leaf.Leaf.{Leaf}
-use Rattle.xl_model.specs.declared.row.TlbSpec.{TlbSpec}
-use Rattle.xl_recency.specs.declared.item.Item.{Item}
-use Rattle.xl_tlb.specs.Arrays.{IsFit}
-use Rattle.xl_tlb.specs.Coding.{has_tag, leaf_of, tag_of}
-use Rattle.xl_tlb.specs.Equal.{is_equal, keeps_leaf}
+use Rattle.xl_tlb.proofs.Common.{◌&&◌, ◌/◌, ◌<◌, ◌==◌, ◌≡◌, ap, Bool, false, has_tag, is_equal, IsFit, Item, keeps_leaf, Leaf, leaf_of, perm_at, refl, same_perm, set_number, tag_of, TlbSpec, true}
 use Rattle.xl_tlb.proofs.DropLemmas.{tag_there}
 use Rattle.xl_tlb.proofs.TagLemmas.{same_leaf}
 

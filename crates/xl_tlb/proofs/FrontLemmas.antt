@@ -1,21 +1,8 @@
 -- A look that a leaf of the first array answers.
-use Rattle.std.proofs.Common.{◌≡◌, ℕ, zero, suc, ◌^◌, ◌<◌, ◌≤◌, ◌*◌, ◌/◌, ◌%◌, ◌&&◌, Bool, true, false, List, [], ◌∷◌, map, find, take, length, get_or, set, count_by, nat_le, nat_lt, Option, None, Some, is_some, not, refl, sym, ◌∙◌, ap, subst, arith}
-use Rattle.std.proofs.lemmas.Bool.Decides.{nat_tests}
-use Rattle.std.proofs.lemmas.List.{set-get_or, get_or-set_same}
-use Rattle.xl_model.specs.declared.address.Kind.{Kind}
-use Rattle.xl_model.specs.declared.address.Order.TheVariants as order
-use Rattle.xl_model.specs.declared.leaf.Leaf.{Leaf}
-use Rattle.xl_model.specs.declared.row.TlbSpec.{TlbSpec}
-use Rattle.xl_model.specs.Base.{plus}
-use Rattle.xl_model.specs.Recency.{touched, with_newest, without_first}
-use Rattle.xl_model.specs.Tally.{counted, one_more_where}
-use Rattle.xl_model.specs.Tlb.{TlbArray, Answer, answer_of, serves_kind, array_hit, array_touched, array_filled, filled_where, filled_below, filled_for, covers_as, found_as, set_at, where_taken, set_number, takes_order, hits_at, misses_at, fills_array}
-use Rattle.xl_tlb.specs.Fronts.{IsTouch, IsFirstHit, FirstHit, IsFirstLeaf, FirstLeaf, IsSecondHit, SecondHit, IsFrontHit, IsFront, Front}
-use Rattle.xl_model.specs.LeafWords.{small_leaf}
-use Rattle.xl_tlb.specs.Hits.{word_touched}
-use Rattle.xl_tlb.specs.Tlbs.{spec_of, NoneBelow, ServesAlone, hits_up_to, misses_up_to, IsRising, tlb_of, tlb_looked, Told, told, leaf_told, looked_arrays, looked_by}
-use Rattle.xl_tlb.proofs.LevelLemmas.{first_told as first_one, first_arrays, spec_touched, spec_filled, with_one, more_told, more_arrays, not_filled, and_false}
+use Rattle.xl_tlb.proofs.Common.{◌%◌, ◌&&◌, ◌*◌, ◌/◌, ◌<◌, ◌^◌, ◌∙◌, ◌∷◌, ◌≡◌, ◌≤◌, [], Answer, answer_of, ap, arith, array_filled, array_hit, array_touched, Bool, count_by, counted, covers_as, false, filled_below, filled_for, filled_where, fills_array, find, FirstHit, FirstLeaf, found_as, Front, get_or, get_or-set_same, hits_at, hits_up_to, is_some, IsFirstHit, IsFirstLeaf, IsFront, IsFrontHit, IsRising, IsSecondHit, IsTouch, Kind, Leaf, leaf_told, length, List, looked_arrays, looked_by, map, misses_at, misses_up_to, nat_le, nat_lt, nat_tests, None, NoneBelow, not, one_more_where, Option, plus, refl, SecondHit, serves_kind, ServesAlone, set, set-get_or, set_at, set_number, small_leaf, Some, spec_of, subst, suc, sym, take, takes_order, tlb_looked, tlb_of, TlbArray, TlbSpec, Told, told, touched, true, where_taken, with_newest, without_first, word_touched, zero, ℕ}
+use Rattle.xl_tlb.proofs.LevelLemmas.{and_false, first_arrays, first_told as first_one, more_arrays, more_told, not_filled, spec_filled, spec_touched, with_one}
 use Rattle.xl_tlb.proofs.TlbLemmas.{answers_all, look_after, serves_all, specs_filled}
+use Rattle.xl_model.specs.declared.address.Order.TheVariants as order
 
 -- what was touched stands in front, and a touch of it moves nothing
 meets : (p : Leaf → Bool) (xs : List Leaf) (x : Leaf) → find p xs ≡ Some x → p x ≡ true

@@ -1,21 +1,8 @@
 -- How many leaves an array holds after a touch and after a fill, and a purge of none.
-use Rattle.std.proofs.Common.{◌≡◌, refl, sym, ap, ◌∙◌, ℕ, zero, suc, ◌+◌, ◌<◌, Bool, true, false, List, [], ◌∷◌, length, map, take, drop, find, get_or, set, replicate, Option, None, Some, arith}
-use Rattle.std.specs.Prelude.{option_to_list, is_none}
-use Rattle.std.proofs.lemmas.List.{length-map}
-use Rattle.std.specs.Option.{IfSome, IfNone}
-use Rattle.xl_model.specs.declared.address.Order.{Order}
-use Rattle.xl_model.specs.declared.address.Order.TheVariants as order
-use Rattle.xl_model.specs.declared.leaf.Leaf.{Leaf}
-use Rattle.xl_model.specs.Base.{one_if}
-use Rattle.xl_model.specs.Recency.{without_first, in_front, touched, with_newest, purged}
-use Rattle.xl_model.specs.Tlb.{TlbArray, array_hit, array_touched, array_without, found_as, leaves_in_sets, set_number, takes_order, where_taken}
-use Rattle.xl_recency.specs.declared.item.Item.{Item}
-use Rattle.xl_recency.specs.Lists.{items_in}
-use Rattle.xl_tlb.specs.declared.coding.Hit.{Hit}
-use Rattle.xl_tlb.specs.Hits.{hit_touched, leaf_hit, word_touched}
-use Rattle.xl_tlb.specs.Coding.{leaves_of}
-use Rattle.xl_model.specs.LeafWords.{leaf_with}
+use Rattle.xl_tlb.proofs.Common.{◌+◌, ◌<◌, ◌∙◌, ◌∷◌, ◌≡◌, [], ap, arith, array_hit, array_touched, array_without, Bool, drop, false, find, found_as, get_or, Hit, hit_touched, IfNone, IfSome, in_front, Item, items_in, Leaf, leaf_hit, leaf_with, leaves_in_sets, leaves_of, length, length-map, List, map, None, one_if, Option, Order, purged, refl, replicate, set, set_number, Some, suc, sym, take, takes_order, TlbArray, touched, true, where_taken, with_newest, without_first, word_touched, zero, ℕ}
+use Rattle.std.specs.Prelude.{is_none, option_to_list}
 use Rattle.xl_tlb.proofs.DropLemmas.{counted_items}
+use Rattle.xl_model.specs.declared.address.Order.TheVariants as order
 
 pub none_held : (n : ℕ) → leaves_in_sets (replicate n []) ≡ 0
 none_held zero = refl

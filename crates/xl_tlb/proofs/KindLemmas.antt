@@ -1,15 +1,7 @@
 -- Where all arrays serve all accesses, the kind of an access says nothing.
-use Rattle.std.proofs.Common.{◌≡◌, ℕ, ◌+◌, ◌&&◌, Bool, List, [], ◌∷◌, map, count_by, cond, nat_le, nat_lt, is_some, not, Option, None, Some, refl, sym, ◌∙◌, ap}
-use Rattle.xl_model.specs.declared.address.Kind.{Kind}
-use Rattle.xl_model.specs.declared.leaf.Leaf.{Leaf}
-use Rattle.xl_model.specs.declared.row.Serves.TheVariants as serves
-use Rattle.xl_model.specs.Base.{plus}
-use Rattle.xl_model.specs.Tally.{counted, one_more_where}
-use Rattle.xl_model.specs.Tlb.{TlbArray, Answer, answer_of, answered_by, asked, serves_kind, array_hit, array_filled, arrays_filled, arrays_hit, filled_below, filled_for, fills_array, hits_at, is_looked, misses_at, takes_leaf, takes_order, touched_or}
-use Rattle.xl_tlb.specs.Answers.{IsLooked}
-use Rattle.xl_tlb.specs.Paths.{AllServe}
-use Rattle.xl_tlb.specs.Tlbs.{TlbState, tlb_of, spec_of, fills_told, leaf_told, looked_arrays, looked_by, tlb_filled, tlb_looked}
+use Rattle.xl_tlb.proofs.Common.{◌&&◌, ◌+◌, ◌∙◌, ◌∷◌, ◌≡◌, [], AllServe, Answer, answer_of, answered_by, ap, array_filled, array_hit, arrays_filled, arrays_hit, asked, Bool, cond, count_by, counted, filled_below, filled_for, fills_array, fills_told, hits_at, is_looked, is_some, IsLooked, Kind, Leaf, leaf_told, List, looked_arrays, looked_by, map, misses_at, nat_le, nat_lt, None, not, one_more_where, Option, plus, refl, serves_kind, Some, spec_of, sym, takes_leaf, takes_order, tlb_filled, tlb_looked, tlb_of, TlbArray, TlbState, touched_or, ℕ}
 use Rattle.xl_tlb.proofs.TlbLemmas.{asked_all, count_first, serves_all}
+use Rattle.xl_model.specs.declared.row.Serves.TheVariants as serves
 
 module _ (p q : TlbArray → Bool) (same : (a : TlbArray) → a.spec.serves ≡ serves.All → p a ≡ q a) where
   same_counted : (arrays : List TlbArray) (ns : List ℕ) → AllServe (map spec_of arrays) → counted p arrays ns ≡ counted q arrays ns

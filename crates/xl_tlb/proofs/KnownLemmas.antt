@@ -1,15 +1,6 @@
 -- What is known of pages after one was kept or forgotten.
-use Rattle.std.proofs.Common.{◌≡◌, ◌≢◌, ℕ, zero, suc, ◌*◌, ◌%◌, ◌==◌, ◌<◌, ◌+◌, Bool, true, false, List, [], ◌∷◌, get_or, set, length, refl, ◌∙◌, ap, subst, arith}
-use Rattle.std.proofs.lemmas.Bool.Decides.{nat_tests}
-use Rattle.std.proofs.lemmas.List.{get_or-set_other}
+use Rattle.xl_tlb.proofs.Common.{◌%◌, ◌*◌, ◌+◌, ◌<◌, ◌==◌, ◌∙◌, ◌∷◌, ◌≡◌, ◌≢◌, [], ap, arith, Bool, false, FrontsStay, get_or, get_or-set_other, IsFront, IsKey, IsSought, Knows, length, List, nat_tests, Newest, no_key, refl, set, Sought, subst, suc, tag_of, TlbArray, true, zero, ℕ}
 use Rattle.xl_model.specs.declared.address.Order.TheVariants as order
-use Rattle.xl_model.specs.Tlb.{TlbArray}
-use Rattle.xl_tlb.specs.Coding.{tag_of}
-use Rattle.xl_tlb.specs.declared.newest.Newest.{Newest}
-use Rattle.xl_tlb.specs.Fronts.{IsFront, FrontsStay}
-use Rattle.xl_tlb.specs.declared.sought.Sought.{Sought}
-use Rattle.xl_tlb.specs.Known.{Knows, IsKey, no_key}
-use Rattle.xl_tlb.specs.Sought.{IsSought}
 
 -- no page has the key that stands where none is known
 pub not_a_key : (space page : ℕ) → IsKey no_key space page → ⊥

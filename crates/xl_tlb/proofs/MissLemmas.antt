@@ -1,14 +1,7 @@
 -- A look that no array answers.
-use Rattle.std.proofs.Common.{◌≡◌, ℕ, true, List, [], ◌∷◌, length, get_or, set, Option, None, refl, sym, ◌∙◌, ap, arith}
-use Rattle.xl_model.specs.declared.address.Kind.{Kind}
-use Rattle.xl_model.specs.declared.row.Serves.TheVariants as serves
-use Rattle.xl_model.specs.Base.{plus}
-use Rattle.xl_model.specs.Tally.{counted}
-use Rattle.xl_model.specs.Tlb.{TlbArray, Answer, answer_of, array_hit, hits_at, misses_at}
-use Rattle.xl_tlb.specs.Answers.{IsNowhere}
-use Rattle.xl_tlb.specs.Fronts.{AllMiss, AreMissed}
-use Rattle.xl_tlb.specs.Tlbs.{tlb_of, told, leaf_told, looked_arrays, tlb_looked}
+use Rattle.xl_tlb.proofs.Common.{◌∙◌, ◌∷◌, ◌≡◌, [], AllMiss, Answer, answer_of, ap, AreMissed, arith, array_hit, counted, get_or, hits_at, IsNowhere, Kind, leaf_told, length, List, looked_arrays, misses_at, None, Option, plus, refl, set, sym, tlb_looked, tlb_of, TlbArray, told, true, ℕ}
 use Rattle.xl_tlb.proofs.TlbLemmas.{asked_all, look_missed, serves_all}
+use Rattle.xl_model.specs.declared.row.Serves.TheVariants as serves
 
 module _ (kind : Kind) (space page : ℕ) where
   no_answer : (arrays : List TlbArray) → AllMiss space page arrays → answer_of kind arrays space page ≡ None

@@ -1,11 +1,5 @@
 -- The word of a page of a leaf.
-use Rattle.std.proofs.Common.{◌≡◌, ℕ, ◌+◌, ◌-◌, ◌*◌, ◌/◌, ◌%◌, ◌^◌, ◌<◌, refl, arith}
-use Rattle.xl_model.specs.declared.address.Kind.{Kind}
-use Rattle.xl_model.specs.declared.address.Order.{Order}
-use Rattle.xl_model.specs.Addresses.{pages_of}
-use Rattle.xl_model.specs.LeafWords.{leaf_with, perm_at, small_leaf}
-use Rattle.xl_tlb.specs.Answers.{IsPageWord, IsSmallWord, IsWord}
-use Rattle.xl_tlb.specs.Tlbs.{TlbState}
+use Rattle.xl_tlb.proofs.Common.{◌%◌, ◌*◌, ◌+◌, ◌-◌, ◌/◌, ◌<◌, ◌^◌, ◌≡◌, arith, IsPageWord, IsSmallWord, IsWord, Kind, leaf_with, Order, pages_of, perm_at, refl, small_leaf, TlbState, ℕ}
 
 -- a permission is four bits, and a frame stands above them
 same_perm : (word behind : ℕ) → perm_at ((word + behind * 16) % 2 ^ 64) ≡ perm_at word

@@ -1,16 +1,9 @@
 -- Ranges that come back from their items, and lists of items as lists of ranges.
-use Rattle.std.proofs.Common.{◌≡◌, ℕ, ◌+◌, ◌*◌, ◌/◌, ◌%◌, ◌^◌, ◌<◌, Bool, List, map, find, Option, Some, None, refl, sym, ◌∙◌, ap, arith}
-use Rattle.xl_model.specs.declared.address.Order.{Order}
-use Rattle.xl_model.specs.declared.address.Order.TheVariants as order
-use Rattle.xl_model.specs.declared.leaf.Range.{Range}
-use Rattle.xl_model.specs.Addresses.{level_of, order_at}
-use Rattle.xl_model.specs.Recency.{touched, with_newest, purged}
-use Rattle.xl_model.specs.Caches.{Cached, without_items}
-use Rattle.xl_model.specs.Walks.{with_touch, with_fill}
+use Rattle.xl_tlb.proofs.Common.{◌%◌, ◌*◌, ◌+◌, ◌/◌, ◌<◌, ◌^◌, ◌∙◌, ◌≡◌, ap, arith, Bool, Cached, find, frame-back, level_of, List, map, None, Option, Order, order_at, perm-back, purged, Range, refl, Some, sym, touched, with_fill, with_newest, with_touch, without_items, ℕ}
+use Rattle.xl_tlb.proofs.MapLemmas.{find_none, find_some, newest_map, purged_map, touched_map}
+use Rattle.xl_tlb.specs.RangeCoding.{IsKeepable, item_of_range, range_kept, range_of, ranges_of}
 use Rattle.xl_tlb.specs.declared.range_coding.RangeItem.{RangeItem}
-use Rattle.xl_tlb.specs.RangeCoding.{IsKeepable, item_of_range, range_of, range_kept, ranges_of}
-use Rattle.xl_model.proofs.CodeLemmas.{perm-back, frame-back}
-use Rattle.xl_tlb.proofs.MapLemmas.{newest_map, touched_map, purged_map, find_some, find_none}
+use Rattle.xl_model.specs.declared.address.Order.TheVariants as order
 
 level_back : (pages : ℕ) (o : Order) → (order_at ((pages * 4 + level_of o) % 4) ≡ o) × ((pages * 4 + level_of o) / 4 ≡ pages)
 level_back pages order.K4 = (ap order_at {x = (pages * 4 + 0) % 4} {y = 0} (omega arith), omega arith)

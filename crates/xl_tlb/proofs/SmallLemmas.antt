@@ -1,19 +1,7 @@
 -- Arrays that hold leaves of 4 KiB alone.
-use Rattle.std.proofs.Common.{◌≡◌, refl, sym, ap, ◌∙◌, ℕ, zero, suc, Bool, true, false, List, [], ◌∷◌, map, find, get_or, Option, None, Some, subst}
-use Rattle.std.specs.List.{All}
-use Rattle.std.specs.Prelude.{replicate}
-use Rattle.std.specs.Option.{IfSome, IfNone}
-use Rattle.std.proofs.lemmas.List.Elements.{All-nil, All-cons, All-head, All-tail, All-take, All-filter, All-set, All-replicate}
-use Rattle.xl_model.specs.declared.address.Order.{Order}
+use Rattle.xl_tlb.proofs.Common.{◌∙◌, ◌∷◌, ◌≡◌, [], All, ap, array_filled, array_hit, array_touched, array_without, Bool, covers_as, false, filled_where, find, first_found, found_as, get_or, Hit, hit_touched, IfNone, IfSome, in_front, IsSmall, Leaf, leaf_hit, leaf_with, List, map, None, Option, Order, purged, refl, replicate, same_order, set_at, set_number, Some, subst, suc, sym, takes_order, TlbArray, touched, true, where_taken, with_newest, without_first, word_touched, zero, ℕ}
+use Rattle.std.proofs.lemmas.List.Elements.{All-cons, All-filter, All-head, All-nil, All-replicate, All-set, All-tail, All-take}
 use Rattle.xl_model.specs.declared.address.Order.TheVariants as order
-use Rattle.xl_model.specs.declared.leaf.Leaf.{Leaf}
-use Rattle.xl_model.specs.Addresses.{same_order}
-use Rattle.xl_model.specs.Recency.{without_first, in_front, touched, with_newest, purged}
-use Rattle.xl_model.specs.Tlb.{TlbArray, covers_as, found_as, where_taken, takes_order, set_at, set_number, first_found, array_hit, array_touched, array_filled, filled_where, array_without}
-use Rattle.xl_tlb.specs.declared.coding.Hit.{Hit}
-use Rattle.xl_tlb.specs.Held.{IsSmall}
-use Rattle.xl_model.specs.LeafWords.{leaf_with}
-use Rattle.xl_tlb.specs.Hits.{hit_touched, leaf_hit, word_touched}
 
 -- the leaves of one set
 pub smalls-at : (sets : List (List Leaf)) (i : ℕ) → All (All IsSmall) sets → All IsSmall (get_or sets i [])

@@ -1,17 +1,9 @@
 -- What stays known of an array that was touched or filled with a tag.
-use Rattle.std.proofs.Common.{ℕ, Bool, Option, refl, sym, ◌∙◌, ap}
-use Rattle.xl_model.specs.declared.address.Order.{Order}
-use Rattle.xl_model.specs.declared.address.Order.TheVariants as order
-use Rattle.xl_model.specs.declared.row.TlbSpec.{TlbSpec}
-use Rattle.xl_model.specs.LeafWords.{small_leaf}
-use Rattle.xl_model.specs.Tlb.{TlbArray, leaves_in_sets}
-use Rattle.xl_tlb.specs.declared.sought.Sought.{Sought}
-use Rattle.xl_tlb.specs.Held.{Counts, IsKnown}
-use Rattle.xl_tlb.specs.Sought.{IsTouched, IsFilled}
-use Rattle.xl_tlb.specs.Tlbs.{spec_of}
+use Rattle.xl_tlb.proofs.Common.{◌∙◌, ap, Bool, Counts, IsFilled, IsKnown, IsTouched, leaves_in_sets, Option, Order, refl, small_leaf, Sought, spec_of, sym, TlbArray, TlbSpec, ℕ}
 use Rattle.xl_tlb.proofs.HeldLemmas.{word-held}
 use Rattle.xl_tlb.proofs.LevelLemmas.{spec_filled, spec_word}
 use Rattle.xl_tlb.proofs.SmallLemmas.{filled-small, word-small}
+use Rattle.xl_model.specs.declared.address.Order.TheVariants as order
 
 pub known_touched : (held : ℕ) (large : Bool) (spec : TlbSpec) (o : Order) (s : Sought) (word : Option ℕ) (a b : TlbArray) → IsTouched o s a word b → IsKnown held large spec a → IsKnown held large spec b
 known_touched held large spec o s word a b is known = record {

@@ -1,21 +1,9 @@
 -- Leaves in front that stay there where one set of the first array changes.
-use Rattle.std.proofs.Common.{◌≡◌, ◌≢◌, ℕ, ◌*◌, ◌/◌, ◌%◌, ◌&&◌, Bool, true, false, nat_lt, cond, List, [], ◌∷◌, map, find, get_or, Option, None, Some, refl, sym, ◌∙◌, ap, subst, arith}
-use Rattle.std.proofs.lemmas.List.{get_or-set_other}
+use Rattle.xl_tlb.proofs.Common.{◌%◌, ◌&&◌, ◌*◌, ◌/◌, ◌∙◌, ◌∷◌, ◌≡◌, ◌≢◌, [], Answer, answer_of, ap, arith, array_filled, array_touched, arrays_filled, arrays_hit, asked, Bool, cond, covers_as, false, filled_below, filled_for, filled_where, find, Front, FrontsStay, get_or, get_or-set_other, HasEights, IsFront, IsFrontHit, Kind, Leaf, leaf_told, leaf_with, List, looked_arrays, map, mod-mod_of_dvd, nat_lt, None, Option, Order, pages_of, refl, serves_kind, ServesAlone, set_at, set_number, small_leaf, Some, spec_of, subst, sym, takes_order, tlb_filled, tlb_looked, TlbArray, TlbSpec, TlbState, touched, true, where_taken, with_set, ℕ}
 use Rattle.std.proofs.lemmas.Nat.Gcd.{dvd_of_mod-eq-zero}
-use Rattle.std.proofs.Math.Nat.{mod-mod_of_dvd}
-use Rattle.xl_model.specs.declared.address.Kind.{Kind}
-use Rattle.xl_model.specs.declared.address.Order.{Order}
-use Rattle.xl_model.specs.declared.address.Order.TheVariants as order
-use Rattle.xl_model.specs.declared.leaf.Leaf.{Leaf}
-use Rattle.xl_model.specs.declared.row.TlbSpec.{TlbSpec}
-use Rattle.xl_model.specs.Addresses.{pages_of}
-use Rattle.xl_model.specs.Recency.{touched}
-use Rattle.xl_model.specs.Tlb.{TlbArray, Answer, answer_of, asked, serves_kind, filled_for, array_touched, array_filled, arrays_hit, arrays_filled, filled_where, filled_below, with_set, covers_as, set_at, where_taken, set_number, takes_order}
-use Rattle.xl_model.specs.LeafWords.{leaf_with, small_leaf}
-use Rattle.xl_tlb.specs.Fronts.{IsFrontHit, IsFront, Front, HasEights, FrontsStay}
-use Rattle.xl_tlb.specs.Tlbs.{TlbState, spec_of, ServesAlone, leaf_told, looked_arrays, tlb_looked, tlb_filled}
 use Rattle.xl_tlb.proofs.FillLemmas.{hit_set}
-use Rattle.xl_tlb.proofs.TlbLemmas.{specs_hit, specs_filled}
+use Rattle.xl_tlb.proofs.TlbLemmas.{specs_filled, specs_hit}
+use Rattle.xl_model.specs.declared.address.Order.TheVariants as order
 
 -- an array that is another but for one set
 record OtherSets (k : ℕ) (a b : TlbArray) : Type 0 where

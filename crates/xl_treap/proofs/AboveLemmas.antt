@@ -1,11 +1,5 @@
 -- Which key is above which.
-use Rattle.std.proofs.Common.{◌≡◌, ℕ, true, false, inl, inr, arith, ◌∷◌, sym, subst}
-use Rattle.std.proofs.lemmas.Bool.Decides.{nat_tests}
-use Rattle.xl_model.specs.declared.leaf.Range.{Range}
-use Rattle.xl_model.specs.Ranges.{range_key, is_above}
-use Rattle.xl_model_lemmas.specs.Members.{In}
-use Rattle.xl_model_lemmas.proofs.MemberLemmas.{In-append}
-use Rattle.xl_treap.specs.Trees.{Tree, Tip, Bin, ranges, Over}
+use Rattle.xl_treap.proofs.Common.{◌∷◌, ◌≡◌, arith, Bin, false, In, In-append, inl, inr, is_above, nat_tests, Over, Range, range_key, ranges, subst, sym, Tip, Tree, true, ℕ}
 
 pub above-not : (a b : ℕ) → is_above a b ≡ true → (a ≡ b → ⊥) → is_above b a ≡ false
 above-not a b h n = grind (arith, nat_tests)

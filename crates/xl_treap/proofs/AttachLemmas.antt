@@ -1,15 +1,9 @@
 -- A tree is hung under the end of a way.
-use Rattle.std.proofs.Common.{◌≡◌, refl, sym, ap, ◌∙◌, subst, ℕ, zero, suc, ◌+◌, ◌-◌, ◌*◌, ◌<◌, ◌≤◌, true, false, cond, nat_lt, ◌==◌, List, length, slice_index, ◌⊎◌, inl, inr, arith}
-use Rattle.std.proofs.lemmas.Bool.Decides.{nat_tests}
-use Rattle.xl_model.specs.declared.leaf.Range.{Range}
-use Rattle.xl_model.specs.Ranges.{range_key, end_key}
-use Rattle.xl_treap.specs.Trees.{Tree, Tip, Bin, IsAt, InOrder, down, graft}
-use Rattle.xl_treap.specs.Steps.{IsAttached, IsLined, SameLine, Each, Off, SameOff, Keeps, IsEmpty, parent_at, IsHung}
+use Rattle.xl_treap.proofs.Common.{◌*◌, ◌+◌, ◌-◌, ◌<◌, ◌==◌, ◌∙◌, ◌≡◌, ◌≤◌, ◌⊎◌, ap, arith, Bin, cond, down, Each, end_key, false, graft, inl, InOrder, inr, IsAt, IsAttached, IsEmpty, IsHung, IsLined, Keeps, length, List, nat_lt, nat_tests, Off, parent_at, pick-no, pick-yes, Range, range_key, refl, SameLine, SameOff, slice_index, subst, suc, sym, Tip, Tree, true, zero, ℕ}
+use Rattle.xl_treap.proofs.FrameLemmas.{at-keeps, Hung, hung-high, hung-low, off-key, with_child}
+use Rattle.xl_treap.proofs.GraftLemmas.{graft-next, lift, off-down}
 use Rattle.xl_treap.proofs.OrderLemmas.{side}
-use Rattle.xl_treap.proofs.WayLemmas.{child, down-next, order-down, at-there}
-use Rattle.xl_treap.proofs.FrameLemmas.{at-keeps, off-key, with_child, Hung, hung-low, hung-high}
-use Rattle.xl_treap.proofs.GraftLemmas.{lift, off-down, graft-next}
-use Rattle.xl_model_lemmas.proofs.SameLemmas.{pick-yes, pick-no}
+use Rattle.xl_treap.proofs.WayLemmas.{at-there, child, down-next, order-down}
 
 pub same-or-not : (m n : ℕ) → (m ≡ n) ⊎ (m ≡ n → ⊥)
 same-or-not m n = elim (m == n) as (λ b. (m == n) ≡ b → (m ≡ n) ⊎ (m ≡ n → ⊥)) [

@@ -1,22 +1,10 @@
 -- The words of a treap tell what it holds.
-use Rattle.std.proofs.Common.{◌≡◌, refl, sym, ap, ◌∙◌, subst, ℕ, zero, suc, ◌+◌, ◌*◌, ◌/◌, ◌^◌, ◌<◌, ◌≤◌, List, [], ◌∷◌, length, slice_index, replicate, length-append, find, Option, inl, inr, arith}
-use Rattle.std.proofs.lemmas.List.{get_or-replicate, length-replicate}
-use Rattle.xl_model.specs.declared.leaf.Range.{Range}
-use Rattle.xl_model.specs.Ranges.{holds_page, range_reads}
-use Rattle.xl_model_lemmas.specs.Members.{In, Once}
-use Rattle.xl_model_lemmas.proofs.MemberLemmas.{In-append}
-use Rattle.xl_model_lemmas.proofs.OnceLemmas.{once-more}
-use Rattle.xl_treap.specs.Treaps.{key_at}
-use Rattle.xl_treap.specs.declared.own_search.Reached.{Reached}
-use Rattle.xl_treap.specs.Lines.{range_of_link}
-use Rattle.xl_treap.specs.Back.{Searched, ended, end_of, search_from}
-use Rattle.xl_treap.specs.Trees.{Tree, Tip, ranges, found, tree_at}
-use Rattle.xl_treap.specs.Steps.{IsEmpty, IsReached}
-use Rattle.xl_treap.specs.Kept.{IsTreap, IsKept, WordsReadBack, seen_in, upto}
+use Rattle.xl_treap.proofs.Common.{◌*◌, ◌+◌, ◌/◌, ◌<◌, ◌^◌, ◌∙◌, ◌∷◌, ◌≡◌, ◌≤◌, [], ap, arith, end_of, ended, find, found, get_or-replicate, holds_page, In, In-append, inl, inr, IsEmpty, IsKept, IsReached, IsTreap, key_at, length, length-append, length-replicate, List, Once, once-more, Option, Range, range_of_link, range_reads, ranges, refl, replicate, search_from, Searched, seen_in, slice_index, subst, suc, sym, Tip, Tree, tree_at, upto, WordsReadBack, zero, ℕ}
+use Rattle.xl_treap.proofs.FoundLemmas.{found-is, seek-tree}
+use Rattle.xl_treap.proofs.KeptLemmas.{stands-treap}
 use Rattle.xl_treap.proofs.OrderLemmas.{order-apart}
 use Rattle.xl_treap.proofs.ReadLemmas.{examined-reads}
-use Rattle.xl_treap.proofs.FoundLemmas.{seek-tree, found-is}
-use Rattle.xl_treap.proofs.KeptLemmas.{stands-treap}
+use Rattle.xl_treap.specs.declared.own_search.Reached.{Reached}
 
 -- a search of the words finds what is held, by as many loads as there are ranges to read
 pub search-kept : (words : List ℕ) (root nodes space page : ℕ) (free : List ℕ) (t : Tree) → IsTreap words root nodes free t → page < 2 ^ 52

@@ -1,16 +1,8 @@
 -- The ranges beside a key's place.
-use Rattle.std.proofs.Common.{◌≡◌, refl, sym, ap, ◌∙◌, ℕ, ◌+◌, ◌-◌, ◌*◌, ◌<◌, ◌≤◌, true, false, cond, nat_lt, List, [], ◌∷◌, ◌++◌, length, slice_index, Option, None, Some, inl, inr, arith}
-use Rattle.xl_model.specs.declared.leaf.Range.{Range}
-use Rattle.xl_model.specs.Ranges.{range_key}
-use Rattle.xl_model_lemmas.specs.Members.{In}
-use Rattle.xl_treap.specs.declared.beside.Beside.{Beside}
-use Rattle.xl_treap.specs.Treaps.{last_or, last_below, first_from}
-use Rattle.xl_treap.specs.Lines.{left_at, right_at, range_of_link}
-use Rattle.xl_treap.specs.Trees.{Tree, Tip, Bin, ranges, tree_at}
-use Rattle.xl_treap.specs.Steps.{IsTree, AreBeside}
+use Rattle.xl_treap.proofs.Common.{◌*◌, ◌++◌, ◌+◌, ◌-◌, ◌<◌, ◌∙◌, ◌∷◌, ◌≡◌, ◌≤◌, [], ap, AreBeside, arith, Bin, cond, false, first_from, In, inl, inr, IsTree, last_below, last_or, left_at, length, List, nat_lt, None, Option, pick-no, pick-yes, Range, range_key, range_of_link, ranges, refl, right_at, slice_index, Some, sym, Tip, Tree, tree_at, true, ℕ}
 use Rattle.xl_treap.proofs.FoundLemmas.{tree-is}
-use Rattle.xl_treap.proofs.UnderLemmas.{Stands, IsTop, stands-tree, tip-of, top-of}
-use Rattle.xl_model_lemmas.proofs.SameLemmas.{pick-yes, pick-no}
+use Rattle.xl_treap.proofs.UnderLemmas.{IsTop, Stands, stands-tree, tip-of, top-of}
+use Rattle.xl_treap.specs.declared.beside.Beside.{Beside}
 
 -- what the first says, or else the second
 abbrev pub or_else : Option Range → Option Range → Option Range

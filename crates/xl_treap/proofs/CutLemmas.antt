@@ -1,12 +1,8 @@
 -- A tree is parted at a key, from the end of the key's way up.
-use Rattle.std.proofs.Common.{◌≡◌, refl, sym, ap, ◌∙◌, subst, ℕ, suc, ◌+◌, ◌-◌, ◌*◌, ◌^◌, ◌<◌, ◌≤◌, Bool, true, false, cond, nat_lt, List, length, slice_index, inl, inr, arith}
-use Rattle.xl_model.specs.Ranges.{range_key, end_key, is_above}
-use Rattle.xl_treap.specs.Trees.{Tree, Tip, Bin, IsAt, InOrder, Over, IsHeap, down, cut_low, cut_high}
-use Rattle.xl_treap.specs.Steps.{SameLine, Each, Off, IsCut, CanPart, TopOver, IsHung}
+use Rattle.xl_treap.proofs.Common.{◌*◌, ◌+◌, ◌-◌, ◌<◌, ◌^◌, ◌∙◌, ◌≡◌, ◌≤◌, ap, arith, Bin, CanPart, cond, cut_high, cut_low, down, Each, end_key, false, inl, InOrder, inr, is_above, IsAt, IsCut, IsHeap, IsHung, length, List, nat_lt, Off, Over, pick-no, pick-yes, range_key, refl, SameLine, slice_index, subst, suc, sym, Tip, TopOver, Tree, true, ℕ}
 use Rattle.xl_treap.proofs.AboveLemmas.{above-total, over-chain}
-use Rattle.xl_treap.proofs.WayLemmas.{child, down-next, order-down, heap-down, at-there}
-use Rattle.xl_treap.proofs.FrameLemmas.{each-map, at-keeps, frame, off-key, linked-line, linked-three, Hung, hung-low, hung-high}
-use Rattle.xl_model_lemmas.proofs.SameLemmas.{pick-yes, pick-no}
+use Rattle.xl_treap.proofs.FrameLemmas.{at-keeps, each-map, frame, Hung, hung-high, hung-low, linked-line, linked-three, off-key}
+use Rattle.xl_treap.proofs.WayLemmas.{at-there, child, down-next, heap-down, order-down}
 
 -- what each of a tree's nodes is, each node of its two parts is
 pub each-cut : (P : ℕ → Type 0) (k : ℕ) (t : Tree) → Each P t → Each P (cut_low k t) × Each P (cut_high k t)

@@ -1,20 +1,10 @@
 -- What a search of a tree's words finds.
-use Rattle.std.proofs.Common.{◌≡◌, refl, sym, ap, ◌∙◌, subst, ℕ, zero, suc, ◌+◌, ◌-◌, ◌*◌, ◌^◌, ◌<◌, ◌≤◌, Bool, true, false, cond, nat_lt, List, [], ◌∷◌, ◌++◌, length, find, Option, None, Some, inl, inr, arith}
-use Rattle.std.proofs.lemmas.Bool.Decides.{nat_tests}
-use Rattle.xl_model.specs.declared.leaf.Range.{Range}
-use Rattle.xl_model.specs.Ranges.{range_key, end_key, holds_page}
-use Rattle.xl_model_lemmas.specs.Members.{In}
-use Rattle.xl_treap.specs.declared.along.Search.TheVariants as search_end
-use Rattle.xl_treap.specs.declared.along.Visit.{Visit}
-use Rattle.xl_treap.specs.declared.along.Visit.TheVariants as visit
-use Rattle.xl_treap.specs.Treaps.{IsFit, key_at}
-use Rattle.xl_treap.specs.Lines.{left_at, right_at, IsNode}
-use Rattle.xl_treap.specs.Back.{Searched, ended, end_of, loaded_before, visit_of, visited, search_from}
-use Rattle.xl_treap.specs.Trees.{Tree, Tip, Bin, ranges, found, examined, tree_at, tree_by, IsAt, InOrder}
-use Rattle.xl_treap.proofs.WordLemmas.{said-back, node-said}
+use Rattle.xl_treap.proofs.Common.{◌*◌, ◌++◌, ◌+◌, ◌-◌, ◌<◌, ◌^◌, ◌∙◌, ◌∷◌, ◌≡◌, ◌≤◌, [], ap, arith, Bin, Bool, cond, end_key, end_of, ended, examined, false, find, found, holds_page, In, inl, InOrder, inr, IsAt, IsFit, IsNode, key_at, left_at, length, List, loaded_before, nat_lt, nat_tests, None, Option, pick-no, pick-yes, Range, range_key, ranges, refl, right_at, search_from, Searched, Some, subst, suc, sym, Tip, Tree, tree_at, tree_by, true, Visit, visit_of, visited, zero, ℕ}
+use Rattle.xl_treap.proofs.OrderLemmas.{order-In, side, sizes}
 use Rattle.xl_treap.proofs.SeekLemmas.{from-none, from-visit}
-use Rattle.xl_treap.proofs.OrderLemmas.{side, sizes, order-In}
-use Rattle.xl_model_lemmas.proofs.SameLemmas.{pick-yes, pick-no}
+use Rattle.xl_treap.proofs.WordLemmas.{node-said, said-back}
+use Rattle.xl_treap.specs.declared.along.Search.TheVariants as search_end
+use Rattle.xl_treap.specs.declared.along.Visit.TheVariants as visit
 
 pub none-at : (d : ℕ) (words : List ℕ) → tree_at d words 0 ≡ Tip
 none-at zero words = refl

@@ -1,12 +1,6 @@
 -- Trees whose words stay where others change.
-use Rattle.std.proofs.Common.{◌≡◌, refl, sym, ap, ◌∙◌, subst, ℕ, suc, ◌+◌, ◌*◌, ◌/◌, ◌%◌, ◌^◌, ◌<◌, ◌≤◌, cond, nat_lt, List, length, slice_index, ◌⊎◌, inl, inr, arith}
-use Rattle.xl_model.specs.declared.leaf.Range.{Range}
-use Rattle.xl_model.specs.Ranges.{range_key, end_key}
-use Rattle.xl_treap.specs.Lines.{left_at, right_at, IsNode}
-use Rattle.xl_treap.specs.Trees.{Tree, Tip, Bin, IsAt, InOrder}
-use Rattle.xl_treap.specs.Steps.{IsLinked, SameLine, Each, Off, SameOff, Keeps, IsHung}
+use Rattle.xl_treap.proofs.Common.{◌%◌, ◌*◌, ◌+◌, ◌/◌, ◌<◌, ◌^◌, ◌∙◌, ◌≡◌, ◌≤◌, ◌⊎◌, ap, arith, Bin, cond, Each, end_key, inl, InOrder, inr, IsAt, IsHung, IsLinked, IsNode, Keeps, left_at, length, List, nat_lt, Off, pick-no, pick-yes, Range, range_key, refl, right_at, SameLine, SameOff, slice_index, subst, suc, sym, Tip, Tree, ℕ}
 use Rattle.xl_treap.proofs.OrderLemmas.{order-le}
-use Rattle.xl_model_lemmas.proofs.SameLemmas.{pick-yes, pick-no}
 
 pub each-map : (P Q : ℕ → Type 0) (t : Tree) → ((m : ℕ) → P m → Q m) → Each P t → Each Q t
 each-map P Q Tip f e = tt

@@ -1,17 +1,7 @@
 -- Another tree so many steps down a way: the ranges, the priorities and the words of the whole.
-use Rattle.std.proofs.Common.{◌≡◌, refl, sym, ap, ◌∙◌, subst, ℕ, zero, suc, ◌/◌, ◌%◌, ◌^◌, ◌<◌, ◌≤◌, Bool, true, false, cond, nat_lt, ◌==◌, List, [], ◌∷◌, ◌++◌, append_assoc, inl, inr, arith}
-use Rattle.std.proofs.lemmas.Bool.Decides.{nat_tests}
-use Rattle.xl_model.specs.declared.leaf.Range.{Range}
-use Rattle.xl_model.specs.Ranges.{range_key, end_key}
-use Rattle.xl_model_lemmas.specs.Members.{In}
-use Rattle.xl_model_lemmas.proofs.MemberLemmas.{In-left, In-right}
-use Rattle.xl_treap.specs.Treaps.{with_range, without_range, resized}
-use Rattle.xl_treap.specs.Lines.{left_at, right_at}
-use Rattle.xl_treap.specs.Trees.{Tree, Tip, Bin, ranges, IsAt, InOrder, Over, IsHeap, down, graft, cut_low, cut_high}
-use Rattle.xl_treap.specs.Steps.{SameLine, Each, Off, SameOff}
-use Rattle.xl_treap.proofs.OrderLemmas.{side, order-In}
-use Rattle.xl_treap.proofs.FrameLemmas.{each-map, each-off, at-keeps, frame, off-key, node-same, with_child}
-use Rattle.xl_model_lemmas.proofs.SameLemmas.{pick-yes, pick-no}
+use Rattle.xl_treap.proofs.Common.{◌%◌, ◌++◌, ◌/◌, ◌<◌, ◌==◌, ◌^◌, ◌∙◌, ◌∷◌, ◌≡◌, ◌≤◌, [], ap, append_assoc, arith, Bin, Bool, cond, cut_high, cut_low, down, Each, end_key, false, graft, In, In-left, In-right, inl, InOrder, inr, IsAt, IsHeap, left_at, List, nat_lt, nat_tests, Off, Over, pick-no, pick-yes, Range, range_key, ranges, refl, resized, right_at, SameLine, SameOff, subst, suc, sym, Tip, Tree, true, with_range, without_range, zero, ℕ}
+use Rattle.xl_treap.proofs.FrameLemmas.{at-keeps, each-map, each-off, frame, node-same, off-key, with_child}
+use Rattle.xl_treap.proofs.OrderLemmas.{order-In, side}
 
 pub down-In : (y : Range) (t : Tree) (k d : ℕ) → In y (ranges (down t k d)) → In y (ranges t)
 down-In y t k zero i = i

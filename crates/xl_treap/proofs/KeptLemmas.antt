@@ -1,16 +1,7 @@
 -- What a treap keeps after a change of its words.
-use Rattle.std.proofs.Common.{◌≡◌, refl, sym, ap, ◌∙◌, subst, ℕ, suc, ◌+◌, ◌*◌, ◌^◌, ◌≤◌, true, false, cond, nat_lt, ◌==◌, List, [], ◌∷◌, ◌++◌, length, length-append, inl, inr, arith}
-use Rattle.xl_model.specs.declared.leaf.Range.{Range}
-use Rattle.xl_model.specs.Ranges.{range_key}
-use Rattle.xl_model_lemmas.specs.Members.{In, Once}
-use Rattle.xl_model_lemmas.proofs.MemberLemmas.{In-left, In-right, In-append}
-use Rattle.xl_model_lemmas.proofs.OnceLemmas.{once-last, once-more}
-use Rattle.xl_treap.specs.Treaps.{TreapView, IsApart, with_range, resized}
-use Rattle.xl_treap.specs.Trees.{Tree, ranges, tree_at}
-use Rattle.xl_treap.specs.Steps.{IsTree, IsEmpty, IsMade, CanPut}
-use Rattle.xl_treap.specs.Kept.{IsTreap, IsKept, seen_in}
-use Rattle.xl_treap.proofs.OrderLemmas.{order-apart}
+use Rattle.xl_treap.proofs.Common.{◌*◌, ◌++◌, ◌+◌, ◌==◌, ◌^◌, ◌∙◌, ◌∷◌, ◌≡◌, ◌≤◌, [], ap, arith, CanPut, cond, false, In, In-append, In-left, In-right, inl, inr, IsApart, IsEmpty, IsKept, IsMade, IsTreap, IsTree, length, length-append, List, nat_lt, Once, once-last, once-more, Range, range_key, ranges, refl, resized, seen_in, subst, suc, sym, TreapView, Tree, tree_at, true, with_range, ℕ}
 use Rattle.xl_treap.proofs.FoundLemmas.{tree-is}
+use Rattle.xl_treap.proofs.OrderLemmas.{order-apart}
 
 -- a treap of these words and free nodes that holds these ranges
 pub record Holds (words : List ℕ) (root nodes : ℕ) (free : List ℕ) (held : List Range) : Type 0 where

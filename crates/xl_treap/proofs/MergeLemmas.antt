@@ -1,14 +1,8 @@
 -- Two trees are made one.
-use Rattle.std.proofs.Common.{◌≡◌, refl, sym, ap, ◌∙◌, subst, ℕ, suc, ◌+◌, ◌-◌, ◌*◌, ◌<◌, ◌≤◌, Bool, true, false, cond, List, [], ◌∷◌, ◌++◌, length, slice_index, slice_set, get_or-set_other, get_or-set_same, length-set, append_assoc, inl, inr, arith}
-use Rattle.xl_model.specs.declared.leaf.Range.{Range}
-use Rattle.xl_model.specs.Ranges.{range_key, end_key, is_above}
-use Rattle.xl_treap.specs.Lines.{left_at, right_at}
-use Rattle.xl_treap.specs.Trees.{Tree, Tip, Bin, ranges, IsAt, InOrder, IsHeap, Over, down, merge, merge_into}
-use Rattle.xl_treap.specs.Steps.{Each, Keeps, Half}
-use Rattle.xl_treap.proofs.OrderLemmas.{side, sizes, Within, order-of, of-order, order-le, order-wider}
+use Rattle.xl_treap.proofs.Common.{◌*◌, ◌++◌, ◌+◌, ◌-◌, ◌<◌, ◌∙◌, ◌∷◌, ◌≡◌, ◌≤◌, [], ap, append_assoc, arith, Bin, Bool, cond, down, Each, end_key, false, get_or-set_other, get_or-set_same, Half, inl, InOrder, inr, is_above, IsAt, IsHeap, Keeps, left_at, length, length-set, List, merge, merge_into, Over, pick-no, pick-yes, Range, range_key, ranges, refl, right_at, slice_index, slice_set, subst, suc, sym, Tip, Tree, true, ℕ}
 use Rattle.xl_treap.proofs.AboveLemmas.{above-total, over-chain}
-use Rattle.xl_treap.proofs.WayLemmas.{child, down-next, at-there, none-left}
-use Rattle.xl_model_lemmas.proofs.SameLemmas.{pick-yes, pick-no}
+use Rattle.xl_treap.proofs.OrderLemmas.{of-order, order-le, order-of, order-wider, side, sizes, Within}
+use Rattle.xl_treap.proofs.WayLemmas.{at-there, child, down-next, none-left}
 
 pub merge-none : (a : Tree) → merge a Tip ≡ a
 merge-none Tip = refl

@@ -1,11 +1,5 @@
 -- Ranges in order, as lists and as trees.
-use Rattle.std.proofs.Common.{◌≡◌, refl, sym, subst, ℕ, suc, ◌+◌, ◌^◌, ◌<◌, ◌≤◌, true, false, cond, nat_lt, List, [], ◌∷◌, ◌++◌, length, ◌⊎◌, inl, inr, length-append, arith}
-use Rattle.std.proofs.lemmas.Bool.Decides.{nat_tests}
-use Rattle.xl_model.specs.declared.leaf.Range.{Range}
-use Rattle.xl_model.specs.Ranges.{range_key, end_key}
-use Rattle.xl_model_lemmas.specs.Members.{In}
-use Rattle.xl_treap.specs.Treaps.{IsFit, IsApart}
-use Rattle.xl_treap.specs.Trees.{Tree, Tip, Bin, ranges, InOrder}
+use Rattle.xl_treap.proofs.Common.{◌++◌, ◌+◌, ◌<◌, ◌^◌, ◌∷◌, ◌≡◌, ◌≤◌, ◌⊎◌, [], arith, Bin, end_key, false, In, inl, InOrder, inr, IsApart, IsFit, length, length-append, List, nat_lt, nat_tests, Range, range_key, ranges, refl, subst, suc, sym, Tip, Tree, true, ℕ}
 
 -- which of two numbers is the lesser
 pub side : (m n : ℕ) → (m < n) ⊎ (n ≤ m)

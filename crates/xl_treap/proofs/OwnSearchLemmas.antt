@@ -1,11 +1,6 @@
 -- The search for the node whose pages hold a key.
-use Rattle.std.proofs.Common.{◌≡◌, refl, sym, ap, ◌∙◌, ℕ, suc, ◌+◌, ◌-◌, ◌*◌, ◌%◌, ◌^◌, ◌<◌, ◌≤◌, List, length, slice_index, Some, arith}
-use Rattle.xl_model.specs.Ranges.{range_key}
-use Rattle.xl_treap.specs.Lines.{left_at, right_at}
-use Rattle.xl_treap.specs.Trees.{Tree, Tip, Bin, ranges, found, examined}
-use Rattle.xl_treap.specs.Steps.{IsTree, IsReached}
-use Rattle.xl_treap.proofs.UnderLemmas.{Stands, IsTop, stands-tree, tip-of, top-of}
-use Rattle.xl_model_lemmas.proofs.SameLemmas.{pick-yes, pick-no}
+use Rattle.xl_treap.proofs.Common.{◌%◌, ◌*◌, ◌+◌, ◌-◌, ◌<◌, ◌^◌, ◌∙◌, ◌≡◌, ◌≤◌, ap, arith, Bin, examined, found, IsReached, IsTree, left_at, length, List, pick-no, pick-yes, range_key, ranges, refl, right_at, slice_index, Some, suc, sym, Tip, Tree, ℕ}
+use Rattle.xl_treap.proofs.UnderLemmas.{IsTop, Stands, stands-tree, tip-of, top-of}
 
 -- a link reached by `loads` nodes: the tree under it decides, with the other nodes to examine
 pub record IsLeft (words : List ℕ) (t : Tree) (k loads at : ℕ) : Type 0 where

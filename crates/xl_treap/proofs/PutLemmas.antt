@@ -1,22 +1,12 @@
 -- A range is put into a tree.
-use Rattle.std.proofs.Common.{◌≡◌, refl, sym, ap, ◌∙◌, subst, ℕ, zero, suc, ◌+◌, ◌-◌, ◌*◌, ◌^◌, ◌<◌, ◌≤◌, true, false, cond, nat_lt, List, [], ◌∷◌, length, slice_index, slice_set, get_or-set_other, get_or-set_same, length-set, inl, inr, arith}
-use Rattle.xl_model.specs.declared.leaf.Range.{Range}
-use Rattle.xl_model.specs.Ranges.{range_key, end_key, is_above}
-use Rattle.xl_model_lemmas.specs.Members.{In}
-use Rattle.xl_model_lemmas.proofs.MemberLemmas.{In-right}
-use Rattle.xl_treap.specs.declared.parting.Parts.{Parts}
-use Rattle.xl_treap.specs.Treaps.{IsFit, IsApart, with_range}
-use Rattle.xl_treap.specs.Lines.{IsNode}
-use Rattle.xl_treap.specs.Trees.{Tree, Tip, Bin, ranges, IsAt, InOrder, IsHeap, Over, down, graft, cut_low, cut_high}
-use Rattle.xl_treap.specs.Steps.{IsAttached, IsLinked, IsLined, SameLine, Each, Off, SameOff, TopOver, IsWay, IsMade, CanPart, CanPut, IsParted, parent_at}
-use Rattle.xl_treap.proofs.OrderLemmas.{side, apart-within, within-In, order-apart, fit-end}
+use Rattle.xl_treap.proofs.Common.{◌*◌, ◌+◌, ◌-◌, ◌<◌, ◌^◌, ◌∙◌, ◌∷◌, ◌≡◌, ◌≤◌, [], ap, arith, Bin, CanPart, CanPut, cond, cut_high, cut_low, down, Each, end_key, false, get_or-set_other, get_or-set_same, graft, In, In-right, inl, InOrder, inr, is_above, IsApart, IsAt, IsAttached, IsFit, IsHeap, IsLined, IsLinked, IsMade, IsNode, IsParted, IsWay, length, length-set, List, nat_lt, Off, Over, parent_at, Parts, pick-no, pick-yes, Range, range_key, ranges, refl, SameLine, SameOff, slice_index, slice_set, subst, suc, sym, Tip, TopOver, Tree, true, with_range, zero, ℕ}
 use Rattle.xl_treap.proofs.AboveLemmas.{above-chain}
-use Rattle.xl_treap.proofs.WayLemmas.{child, down-next, order-down, heap-down}
-use Rattle.xl_treap.proofs.FrameLemmas.{each-map, at-keeps, frame, node-same, linked-line, linked-three, with_child}
+use Rattle.xl_treap.proofs.AttachLemmas.{Attached, attached, IsParent, lined-line, off-child, off-empty, parent-there, same-or-not, top-each}
 use Rattle.xl_treap.proofs.CutLemmas.{each-cut}
-use Rattle.xl_treap.proofs.GraftLemmas.{down-In, each-down, graft-with, cut-with, heap-graft, over-cut, heap-cut, graft-next}
-use Rattle.xl_treap.proofs.AttachLemmas.{same-or-not, top-each, off-child, Attached, IsParent, attached, parent-there, off-empty, lined-line}
-use Rattle.xl_model_lemmas.proofs.SameLemmas.{pick-yes, pick-no}
+use Rattle.xl_treap.proofs.FrameLemmas.{at-keeps, each-map, frame, linked-line, linked-three, node-same, with_child}
+use Rattle.xl_treap.proofs.GraftLemmas.{cut-with, down-In, each-down, graft-next, graft-with, heap-cut, heap-graft, over-cut}
+use Rattle.xl_treap.proofs.OrderLemmas.{apart-within, fit-end, order-apart, side, within-In}
+use Rattle.xl_treap.proofs.WayLemmas.{child, down-next, heap-down, order-down}
 
 with-In : (x : Range) (xs : List Range) → In x (with_range x xs)
 with-In x [] = inl refl

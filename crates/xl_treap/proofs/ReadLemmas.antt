@@ -1,18 +1,9 @@
 -- The nodes that a search of a tree examines are the ranges that it reads: it needs only the order of the keys and that
 -- of the priorities.
-use Rattle.std.proofs.Common.{◌≡◌, refl, sym, ap, ◌∙◌, subst, ℕ, suc, ◌+◌, ◌-◌, ◌<◌, ◌≤◌, Bool, true, false, not, ◌&&◌, ◌||◌, List, [], ◌∷◌, ◌++◌, inl, inr, arith}
-use Rattle.std.specs.List.{list_all}
-use Rattle.std.proofs.lemmas.Bool.Decides.{nat_tests}
-use Rattle.xl_model.specs.declared.leaf.Range.{Range}
+use Rattle.xl_treap.proofs.Common.{◌&&◌, ◌++◌, ◌+◌, ◌-◌, ◌<◌, ◌||◌, ◌∙◌, ◌∷◌, ◌≡◌, ◌≤◌, [], ap, arith, Bin, Bool, end_key, examined, false, In, In-append, In-right, inl, InOrder, inr, is_above, is_between, is_read, IsHeap, key_at, List, list_all, nat_tests, not, pick-no, pick-yes, Range, range_key, range_reads, ranges, reads_among, refl, subst, suc, sym, Tip, Tree, true, ℕ}
 use Rattle.xl_model.specs.Base.{one_if}
-use Rattle.xl_model.specs.Ranges.{range_key, end_key, is_above, is_between, is_read, reads_among, range_reads}
-use Rattle.xl_model_lemmas.specs.Members.{In}
-use Rattle.xl_model_lemmas.proofs.MemberLemmas.{In-right, In-append}
-use Rattle.xl_treap.specs.Treaps.{key_at}
-use Rattle.xl_treap.specs.Trees.{Tree, Tip, Bin, ranges, examined, InOrder, IsHeap}
-use Rattle.xl_treap.proofs.OrderLemmas.{side, Lies, order-In}
 use Rattle.xl_treap.proofs.AboveLemmas.{above-not, over-In}
-use Rattle.xl_model_lemmas.proofs.SameLemmas.{pick-yes, pick-no}
+use Rattle.xl_treap.proofs.OrderLemmas.{Lies, order-In, side}
 
 all-true : (p : Range → Bool) (xs : List Range) → ((z : Range) → In z xs → p z ≡ true) → list_all p xs ≡ true
 all-true p [] h = refl

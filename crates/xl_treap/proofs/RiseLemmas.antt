@@ -1,14 +1,9 @@
 -- A tree to come is linked from the end of its way up.
-use Rattle.std.proofs.Common.{◌≡◌, refl, sym, ◌∙◌, subst, ℕ, zero, suc, ◌+◌, ◌-◌, ◌*◌, ◌<◌, ◌≤◌, Bool, true, false, cond, nat_lt, List, length, slice_index, inl, inr, arith}
-use Rattle.xl_model.specs.declared.leaf.Range.{Range}
-use Rattle.xl_model.specs.Ranges.{range_key, end_key}
-use Rattle.xl_treap.specs.Trees.{Tree, Tip, Bin, Pair, IsAt, InOrder, down, merge}
-use Rattle.xl_treap.specs.Steps.{Off, Keeps, Half, CanMerge, CanRise, IsSpine, SameOff, SameBut, IsHung}
+use Rattle.xl_treap.proofs.Common.{◌*◌, ◌+◌, ◌-◌, ◌<◌, ◌∙◌, ◌≡◌, ◌≤◌, arith, Bin, Bool, CanMerge, CanRise, cond, down, end_key, false, Half, inl, InOrder, inr, IsAt, IsHung, IsSpine, Keeps, length, List, merge, nat_lt, Off, Pair, pick-no, pick-yes, Range, range_key, refl, SameBut, SameOff, slice_index, subst, suc, sym, Tip, Tree, true, zero, ℕ}
+use Rattle.xl_treap.proofs.FrameLemmas.{at-keeps, Hung, hung-high, hung-low, linked-three, off-key, with_child}
+use Rattle.xl_treap.proofs.MergeLemmas.{merge-keeps, merge-order}
 use Rattle.xl_treap.proofs.OrderLemmas.{side}
 use Rattle.xl_treap.proofs.WayLemmas.{child, down-next, order-down}
-use Rattle.xl_treap.proofs.MergeLemmas.{merge-keeps, merge-order}
-use Rattle.xl_treap.proofs.FrameLemmas.{at-keeps, off-key, linked-three, with_child, Hung, hung-low, hung-high}
-use Rattle.xl_model_lemmas.proofs.SameLemmas.{pick-yes, pick-no}
 
 keeps-down : (words : List ℕ) (t : Tree) (k d : ℕ) → Keeps words t → Keeps words (down t k d)
 keeps-down words t k zero h = h

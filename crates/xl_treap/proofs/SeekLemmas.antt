@@ -1,9 +1,7 @@
 -- The steps of a search.
-use Rattle.std.proofs.Common.{◌≡◌, refl, sym, ap, ◌∙◌, subst, ℕ, zero, suc, ◌+◌, ◌-◌, ◌<◌, List, add-zero, arith}
+use Rattle.xl_treap.proofs.Common.{◌+◌, ◌-◌, ◌<◌, ◌∙◌, ◌≡◌, add-zero, ap, arith, ended, List, loaded_before, loaded_times, refl, search_from, Searched, subst, suc, sym, Visit, visit_of, visited, zero, ℕ}
 use Rattle.xl_treap.specs.declared.along.Search.{Search}
 use Rattle.xl_treap.specs.declared.along.Search.TheVariants as search_end
-use Rattle.xl_treap.specs.declared.along.Visit.{Visit}
-use Rattle.xl_treap.specs.Back.{Searched, ended, loaded_before, visit_of, visited, search_from, loaded_times}
 
 pub from-none : (left : ℕ) (words : List ℕ) (key : ℕ) → search_from left words 0 key ≡ ended 0 search_end.Absent
 unfolding search_from

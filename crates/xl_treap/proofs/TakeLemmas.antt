@@ -1,22 +1,12 @@
 -- A range is taken out of a tree, or gets other pages.
-use Rattle.std.proofs.Common.{◌≡◌, refl, sym, ap, ◌∙◌, subst, ℕ, zero, suc, ◌+◌, ◌-◌, ◌*◌, ◌/◌, ◌%◌, ◌^◌, ◌<◌, ◌≤◌, Bool, true, false, cond, nat_lt, ◌==◌, List, [], ◌∷◌, ◌++◌, length, slice_index, ◌⊎◌, inl, inr, arith}
-use Rattle.std.specs.List.{list_any}
-use Rattle.std.proofs.lemmas.Bool.Decides.{nat_tests}
-use Rattle.xl_model.specs.declared.leaf.Range.{Range}
-use Rattle.xl_model.specs.Ranges.{range_key, end_key}
-use Rattle.xl_model_lemmas.specs.Members.{In}
-use Rattle.xl_model_lemmas.proofs.MemberLemmas.{In-left, In-right, In-append, any-In}
-use Rattle.xl_treap.specs.Treaps.{IsApart, has_key, without_range, resized}
-use Rattle.xl_treap.specs.Lines.{node_word, left_at, right_at}
-use Rattle.xl_treap.specs.Trees.{Tree, Tip, Bin, ranges, tree_at, IsAt, InOrder, IsHeap, Over, down, graft, merge}
-use Rattle.xl_treap.specs.Steps.{IsAttached, IsSized, SameLine, Each, Off, SameOff, Keeps, IsWay, IsRisen, CanTake, IsTaken, CanMerge, IsResized, parent_at}
-use Rattle.xl_treap.proofs.OrderLemmas.{apart-within, within-In, order-apart, order-In, order-wider, fit-end, sizes}
+use Rattle.xl_treap.proofs.Common.{◌%◌, ◌*◌, ◌++◌, ◌+◌, ◌-◌, ◌/◌, ◌<◌, ◌==◌, ◌^◌, ◌∙◌, ◌∷◌, ◌≡◌, ◌≤◌, ◌⊎◌, [], any-In, ap, arith, Bin, Bool, CanMerge, CanTake, cond, down, Each, end_key, false, graft, has_key, In, In-append, In-left, In-right, inl, InOrder, inr, IsApart, IsAt, IsAttached, IsHeap, IsResized, IsRisen, IsSized, IsTaken, IsWay, Keeps, left_at, length, List, list_any, merge, nat_lt, nat_tests, node_word, Off, Over, parent_at, Range, range_key, ranges, refl, resized, right_at, SameLine, SameOff, slice_index, subst, suc, sym, Tip, Tree, tree_at, true, without_range, zero, ℕ}
+use Rattle.xl_treap.proofs.AttachLemmas.{Attached, attached, IsParent, off-child, off-empty, parent-there}
 use Rattle.xl_treap.proofs.FoundLemmas.{tree-is}
-use Rattle.xl_treap.proofs.WayLemmas.{child, down-next, order-down, heap-down, at-there}
-use Rattle.xl_treap.proofs.FrameLemmas.{each-map, at-keeps, frame, off-key, linked-three}
-use Rattle.xl_treap.proofs.MergeLemmas.{merge-ranges, merge-over, merge-heap, merge-each}
-use Rattle.xl_treap.proofs.GraftLemmas.{Has, alike, without-before, resized-before, graft-without, graft-resized, heap-graft, lift}
-use Rattle.xl_treap.proofs.AttachLemmas.{off-child, Attached, IsParent, attached, parent-there, off-empty}
+use Rattle.xl_treap.proofs.FrameLemmas.{at-keeps, each-map, frame, linked-three, off-key}
+use Rattle.xl_treap.proofs.GraftLemmas.{alike, graft-resized, graft-without, Has, heap-graft, lift, resized-before, without-before}
+use Rattle.xl_treap.proofs.MergeLemmas.{merge-each, merge-heap, merge-over, merge-ranges}
+use Rattle.xl_treap.proofs.OrderLemmas.{apart-within, fit-end, order-apart, order-In, order-wider, sizes, within-In}
+use Rattle.xl_treap.proofs.WayLemmas.{at-there, child, down-next, heap-down, order-down}
 
 -- lists without a range
 pub without-apart : (low k : ℕ) (xs : List Range) → IsApart low xs → IsApart low (without_range k xs)

@@ -1,13 +1,6 @@
 -- What stands under a link.
-use Rattle.std.proofs.Common.{◌≡◌, refl, ap, ◌∙◌, subst, ℕ, suc, ◌+◌, ◌-◌, ◌^◌, ◌<◌, List, length, Some, arith}
-use Rattle.xl_model.specs.declared.leaf.Range.{Range}
-use Rattle.xl_model.specs.Ranges.{range_key, end_key}
-use Rattle.xl_model_lemmas.specs.Members.{In}
-use Rattle.xl_treap.specs.Treaps.{IsFit}
-use Rattle.xl_treap.specs.Lines.{left_at, right_at, range_of_link, IsNode}
-use Rattle.xl_treap.specs.Trees.{Tree, Tip, Bin, ranges, IsAt, InOrder}
-use Rattle.xl_treap.specs.Steps.{IsTree}
-use Rattle.xl_treap.proofs.OrderLemmas.{sizes, order-apart, order-In}
+use Rattle.xl_treap.proofs.Common.{◌+◌, ◌-◌, ◌<◌, ◌^◌, ◌∙◌, ◌≡◌, ap, arith, Bin, end_key, In, InOrder, IsAt, IsFit, IsNode, IsTree, left_at, length, List, Range, range_key, range_of_link, ranges, refl, right_at, Some, subst, suc, Tip, Tree, ℕ}
+use Rattle.xl_treap.proofs.OrderLemmas.{order-apart, order-In, sizes}
 use Rattle.xl_treap.proofs.WordLemmas.{node-said}
 
 -- a tree is in the words from a link on, in order

@@ -1,11 +1,6 @@
 -- Ways down a tree in words.
-use Rattle.std.proofs.Common.{◌≡◌, refl, sym, ap, ◌∙◌, subst, ℕ, zero, suc, ◌+◌, ◌-◌, ◌*◌, ◌<◌, ◌≤◌, Bool, true, false, cond, nat_lt, List, length, slice_index, slice_set, inl, inr, get_or-set_other, get_or-set_same, length-set, arith}
-use Rattle.xl_model.specs.Ranges.{range_key, end_key}
-use Rattle.xl_treap.specs.Lines.{left_at, right_at}
-use Rattle.xl_treap.specs.Trees.{Tree, Tip, Bin, ranges, IsAt, InOrder, IsHeap, down}
-use Rattle.xl_treap.specs.Steps.{step_at}
-use Rattle.xl_treap.proofs.OrderLemmas.{sizes, side}
-use Rattle.xl_model_lemmas.proofs.SameLemmas.{pick-yes, pick-no}
+use Rattle.xl_treap.proofs.Common.{◌*◌, ◌+◌, ◌-◌, ◌<◌, ◌∙◌, ◌≡◌, ◌≤◌, ap, arith, Bin, Bool, cond, down, end_key, false, get_or-set_other, get_or-set_same, inl, InOrder, inr, IsAt, IsHeap, left_at, length, length-set, List, nat_lt, pick-no, pick-yes, range_key, ranges, refl, right_at, slice_index, slice_set, step_at, subst, suc, sym, Tip, Tree, true, zero, ℕ}
+use Rattle.xl_treap.proofs.OrderLemmas.{side, sizes}
 
 pub at-there : (words : List ℕ) (at : ℕ) (t : Tree) → IsAt words at t → 0 < at → 4 * (at - 1) + 4 ≤ length words
 at-there words at Tip i h = absurd (omega arith)

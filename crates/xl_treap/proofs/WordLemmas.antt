@@ -1,16 +1,12 @@
 -- The words of a node, and the range that they say.
-use Rattle.std.proofs.Common.{◌≡◌, refl, ap, ◌∙◌, ℕ, ◌+◌, ◌*◌, ◌/◌, ◌%◌, ◌^◌, ◌<◌, ◌≤◌, Bool, true, false, List, Option, Some, arith}
-use Rattle.xl_model.specs.declared.address.Order.{Order}
-use Rattle.xl_model.specs.declared.address.Order.TheVariants as order
-use Rattle.xl_model.specs.declared.leaf.Range.{Range}
-use Rattle.xl_model.specs.declared.perm.Perm.{Perm}
+use Rattle.xl_treap.proofs.Common.{◌%◌, ◌*◌, ◌+◌, ◌/◌, ◌<◌, ◌^◌, ◌∙◌, ◌≡◌, ◌≤◌, ap, arith, Bool, false, IsFit, IsNode, List, node_word, Option, order_said, Range, range_by, range_key, range_of_node, range_said, range_under, refl, Some, true, ℕ}
 use Rattle.xl_model.specs.Addresses.{level_of}
 use Rattle.xl_model.specs.Words.{bit_if, leaf_word}
-use Rattle.xl_model.specs.Ranges.{range_key}
-use Rattle.xl_pte.specs.Decode.{decode_of}
+use Rattle.xl_model.specs.declared.address.Order.{Order}
+use Rattle.xl_model.specs.declared.perm.Perm.{Perm}
 use Rattle.xl_pte.proofs.BitLemmas.{decode-made-leaf}
-use Rattle.xl_treap.specs.Treaps.{IsFit}
-use Rattle.xl_treap.specs.Lines.{order_said, range_by, range_under, range_said, range_of_node, node_word, IsNode}
+use Rattle.xl_pte.specs.Decode.{decode_of}
+use Rattle.xl_model.specs.declared.address.Order.TheVariants as order
 
 bits-small : (r w x u : Bool) → bit_if r 2 + (bit_if w 4 + (bit_if x 8 + bit_if u 16)) ≤ 30
 bits-small r w x u =

@@ -1,13 +1,7 @@
 -- A way's fields after its slots were lent out and changed.
-use Rattle.std.proofs.Common.{◌≡◌, refl, sym, ap, ◌∙◌, subst, ℕ, ◌<◌, List, length, set}
-use Rattle.std.specs.Vec.{with_items}
-use Rattle.std.proofs.lemmas.List.{with_items_is, length-set}
-use Rattle.xl_model.specs.declared.way.Entry.{Entry}
-use Rattle.xl_model.specs.Ways.{WayShape, slot, swapped}
-use Rattle.xl_way.specs.declared.way.Way.TheInside.{Inside}
-use Rattle.xl_way.specs.Slots.{WayState, entries_of}
-use Rattle.xl_way.specs.Kept.{IsKept}
+use Rattle.xl_way.proofs.Common.{◌<◌, ◌∙◌, ◌≡◌, ap, entries_of, Entry, IsKept, length, length-set, List, refl, set, slot, subst, swapped, sym, WayShape, WayState, with_items, with_items_is, ℕ}
 use Rattle.xl_way.proofs.WayLemmas.{slot-inside, swap-is, way_of}
+use Rattle.xl_way.specs.declared.way.Way.TheInside.{Inside}
 
 -- what a way is, by its fields
 abbrev pub state_of : Inside → WayState

@@ -1,12 +1,5 @@
 -- Slots of keys as a way grows: which key moves when a slot is migrated, and that its new slot is empty.
-use Rattle.std.proofs.Common.{◌≡◌, refl, sym, ap, ◌∙◌, ℕ, zero, suc, ◌+◌, ◌-◌, ◌*◌, ◌/◌, ◌%◌, ◌^◌, ◌<◌, ◌≤◌, Bool, true, false, cond, ◌&&◌, ◌==◌, nat_lt, ◌⊎◌, inl, inr, eq-eqb, arith}
-use Rattle.std.proofs.Math.Pow.{pow_mono}
-use Rattle.std.proofs.lemmas.Nat.{mod-pow-add, pow_pos}
-use Rattle.std.proofs.lemmas.Bool.Decides.{nat_tests}
-use Rattle.xl_model.specs.declared.way.WayRegs.{WayRegs}
-use Rattle.xl_model.specs.Ways.{slot_at, slots_left, begun_regs, regs_after}
-use Rattle.xl_way.specs.Words.{slots_of}
-use Rattle.xl_way.specs.Kept.{AreRegs, reach}
+use Rattle.xl_way.proofs.Common.{◌%◌, ◌&&◌, ◌*◌, ◌+◌, ◌-◌, ◌/◌, ◌<◌, ◌==◌, ◌^◌, ◌∙◌, ◌≡◌, ◌≤◌, ◌⊎◌, ap, AreRegs, arith, begun_regs, Bool, cond, eq-eqb, false, inl, inr, mod-pow-add, nat_lt, nat_tests, pow_mono, pow_pos, reach, refl, regs_after, slot_at, slots_left, slots_of, suc, sym, true, WayRegs, zero, ℕ}
 
 -- the slot by the number that a hash's low bits are, and by that which one bit more gives
 abbrev pub slot_by : Bool → ℕ → ℕ → ℕ → ℕ

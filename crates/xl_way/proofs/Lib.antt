@@ -1,3 +1,4 @@
+mod Common
 mod SlotLemmas
 mod GrowthLemmas
 pub mod WayLemmas

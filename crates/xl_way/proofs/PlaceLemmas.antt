@@ -1,10 +1,5 @@
 -- A key's slot by what is kept beside a number and registers.
-use Rattle.std.proofs.Common.{◌≡◌, refl, ap, ◌∙◌, ℕ, ◌+◌, ◌*◌, ◌%◌, ◌^◌, ◌<◌, ◌≤◌, true, false, cond, ◌&&◌, nat_lt, arith}
-use Rattle.std.proofs.lemmas.Bool.Decides.{nat_tests}
-use Rattle.xl_model.specs.declared.way.WayRegs.{WayRegs}
-use Rattle.xl_model.specs.Hashes.{mix, way_hash}
-use Rattle.xl_model.specs.Ways.{slot, slot_at}
-use Rattle.xl_way.specs.Kept.{IsReady}
+use Rattle.xl_way.proofs.Common.{◌%◌, ◌&&◌, ◌*◌, ◌+◌, ◌<◌, ◌^◌, ◌∙◌, ◌≡◌, ◌≤◌, ap, arith, cond, false, IsReady, mix, nat_lt, nat_tests, refl, slot, slot_at, true, way_hash, WayRegs, ℕ}
 
 hash-is : (number key : ℕ) (r : WayRegs) (salt mask wide hash : ℕ) → IsReady number r salt mask wide → hash ≡ mix ((key + salt) % 2 ^ 64) → hash ≡ way_hash number key
 unfolding way_hash

@@ -1,14 +1,5 @@
 -- What an array of slots holds: an entry put into a slot, and what is found by a key or by its slot.
-use Rattle.std.proofs.Common.{◌≡◌, refl, sym, ap, ◌∙◌, subst, ℕ, zero, suc, ◌<◌, ◌≤◌, Bool, true, false, cond, ◌&&◌, not, List, [], ◌∷◌, length, set, replicate, None, Some, ◌==◌, nat_lt, arith}
-use Rattle.std.specs.Prelude.{find}
-use Rattle.std.proofs.lemmas.List.{set-get_or, get_or-set_same, get_or-set_other, length-set}
-use Rattle.std.proofs.lemmas.Bool.Decides.{nat_tests}
-use Rattle.xl_model.specs.declared.way.Entry.{Entry}
-use Rattle.xl_model.specs.declared.way.WayRegs.{WayRegs}
-use Rattle.xl_model.specs.Ways.{slot, with_entry, without_key}
-use Rattle.xl_way.specs.Slots.{no_entry, cell, put, entries_of}
-use Rattle.xl_way.specs.Cells.{passing}
-use Rattle.xl_way.specs.Kept.{ArePlaced}
+use Rattle.xl_way.proofs.Common.{◌&&◌, ◌<◌, ◌==◌, ◌∙◌, ◌∷◌, ◌≡◌, ◌≤◌, [], ap, ArePlaced, arith, Bool, cell, cond, entries_of, Entry, false, find, get_or-set_other, get_or-set_same, length, length-set, List, nat_lt, nat_tests, no_entry, None, not, passing, put, refl, replicate, set, set-get_or, slot, Some, subst, suc, sym, true, WayRegs, with_entry, without_key, zero, ℕ}
 
 -- two entries of two keys may come in either order
 pub with-with : (x y : Entry) (es : List Entry) → (x.key ≡ y.key → ⊥) → with_entry x (with_entry y es) ≡ with_entry y (with_entry x es)

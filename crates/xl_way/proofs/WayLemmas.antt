@@ -1,22 +1,8 @@
 -- What a way keeps, through each of its changes, over its number, cap, registers and slots.
-use Rattle.std.proofs.Common.{◌≡◌, refl, sym, ap, ◌∙◌, subst, ℕ, ◌+◌, ◌^◌, ◌<◌, ◌≤◌, Bool, true, false, cond, ◌&&◌, not, List, [], ◌∷◌, length, set, replicate, Option, None, Some, ◌==◌, eq-eqb, map, nat_lt, arith}
-use Rattle.std.specs.Prelude.{find, is_some}
-use Rattle.std.proofs.Math.Pow.{pow_mono}
-use Rattle.std.proofs.lemmas.Nat.{pow_pos}
-use Rattle.std.proofs.lemmas.List.{set-get_or, get_or-set_same, get_or-set_other, length-set, get_or-replicate, length-replicate}
-use Rattle.std.proofs.lemmas.Bool.Decides.{nat_tests}
-use Rattle.xl_model.specs.declared.way.Entry.{Entry}
-use Rattle.xl_model.specs.declared.way.WayRegs.{WayRegs}
-use Rattle.xl_model.specs.Hashes.{way_hash}
-use Rattle.xl_model.specs.Ways.{WayShape, slot, has_key, occupant, with_entry, without_key, without_occupant, swapped, with_word, reworded, without_entry, begun_regs, regs_after}
-use Rattle.xl_model.specs.Placing.{is_held}
+use Rattle.xl_way.proofs.Common.{◌&&◌, ◌+◌, ◌<◌, ◌==◌, ◌^◌, ◌∙◌, ◌∷◌, ◌≡◌, ◌≤◌, [], ap, ArePlaced, arith, begun_regs, Bool, cell, cond, entries_of, Entry, eq-eqb, false, find, get_or-replicate, get_or-set_other, get_or-set_same, has_key, is_held, is_some, IsKept, kept_of, length, length-replicate, length-set, List, map, moved, nat_lt, nat_tests, no_entry, None, not, occupant, Option, passing, pow_mono, pow_pos, reach, refl, regs_after, replicate, reworded, set, set-get_or, slot, slots_of, Some, subst, swapped, sym, true, way_hash, WayRegs, WayShape, with_entry, with_word, without_entry, without_key, without_occupant, word_in, word_of, ℕ}
 use Rattle.xl_model_lemmas.proofs.SameLemmas.{any-find}
-use Rattle.xl_way.specs.Slots.{no_entry, cell, entries_of, word_in, word_of}
-use Rattle.xl_way.specs.Words.{slots_of}
-use Rattle.xl_way.specs.Cells.{passing, kept_of, moved}
-use Rattle.xl_way.specs.Kept.{ArePlaced, IsKept, reach}
-use Rattle.xl_way.proofs.GrowthLemmas.{slot-reach, slot-stays, slot-empty, slot-within, slot-begun, after-regs, begun-are, reach-there}
-use Rattle.xl_way.proofs.SlotLemmas.{others, entries-set, find-at, split-at, others-none, alone-at, without-with, length-with, few-entries, entries-empty}
+use Rattle.xl_way.proofs.GrowthLemmas.{after-regs, begun-are, reach-there, slot-begun, slot-empty, slot-reach, slot-stays, slot-within}
+use Rattle.xl_way.proofs.SlotLemmas.{alone-at, entries-empty, entries-set, few-entries, find-at, length-with, others, others-none, split-at, without-with}
 
 -- a way of these parts
 abbrev pub way_of : ℕ → ℕ → WayRegs → List Entry → WayShape

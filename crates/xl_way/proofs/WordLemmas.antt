@@ -1,22 +1,10 @@
 -- The words of a way: where the words of a slot stand, and what a look at them finds.
-use Rattle.std.proofs.Common.{◌≡◌, refl, sym, ap, ◌∙◌, ℕ, zero, suc, ◌+◌, ◌*◌, ◌/◌, ◌^◌, ◌<◌, ◌≤◌, Bool, true, false, cond, ◌&&◌, not, List, [], ◌∷◌, ◌++◌, length, get_or, None, Some, ◌==◌, nat_lt, inl, inr, eq-eqb, length-append, arith}
-use Rattle.std.specs.Prelude.{find, slice_index}
-use Rattle.std.proofs.lemmas.List.{get_or_append_left, get_or-append-add}
-use Rattle.std.proofs.lemmas.Bool.Decides.{nat_tests}
+use Rattle.xl_way.proofs.Common.{◌&&◌, ◌*◌, ◌++◌, ◌+◌, ◌/◌, ◌<◌, ◌==◌, ◌^◌, ◌∙◌, ◌∷◌, ◌≡◌, ◌≤◌, [], ap, AreApart, ArePlaced, arith, Bool, cell, cond, entries_of, Entry, eq-eqb, false, find, found_in, get_or, get_or-append-add, get_or_append_left, inl, inr, IsKept, IsLine, kept_of, length, length-append, List, look_of, nat_lt, nat_tests, no_entry, None, not, or_empty, passing, refl, slice_index, slot, slot_back, slot_says, slot_words, slots_of, Some, standing, suc, sym, true, WayRegs, WayShape, word_in, word_of, words_of, WordsReadBack, zero, ℕ}
 use Rattle.std.proofs.Math.Nat.{pow-suc}
-use Rattle.xl_model.specs.declared.way.Entry.{Entry}
-use Rattle.xl_model.specs.declared.way.WayRegs.{WayRegs}
-use Rattle.xl_model.specs.Ways.{WayShape, slot}
-use Rattle.xl_model_lemmas.specs.Members.{In}
 use Rattle.xl_model_lemmas.specs.Buckets.{gather}
-use Rattle.xl_phys.specs.Lines.{IsLine}
-use Rattle.xl_way.specs.Slots.{no_entry, cell, entries_of, word_in, word_of}
-use Rattle.xl_way.specs.Words.{slots_of, or_empty, standing, slot_words, words_of}
-use Rattle.xl_way.specs.Back.{found_in, slot_says, slot_back, look_of}
-use Rattle.xl_way.specs.Cells.{passing, kept_of}
-use Rattle.xl_way.specs.Kept.{ArePlaced, IsKept, WordsReadBack, AreApart}
+use Rattle.xl_model_lemmas.specs.Members.{In}
 use Rattle.xl_way.proofs.SlotLemmas.{find-at}
-use Rattle.xl_way.proofs.WayLemmas.{way_of, slot-inside, word-is}
+use Rattle.xl_way.proofs.WayLemmas.{slot-inside, way_of, word-is}
 
 -- pairs of words, one after another
 pair-length : (f : ℕ → List ℕ) → ((i : ℕ) → length (f i) ≡ 2) → (n : ℕ) → length (gather f n) ≡ 2 * n

@@ -1,6 +1,5 @@
-use Rattle.std.proofs.Common.{◌≡◌, ◌∙◌, sym, ap, slice_set}
+use Rattle.xl_areas.proofs.Common.{◌∙◌, ◌≡◌, ap, slice_set, sym, with_later}
 use Rattle.std.proofs.lemmas.List.Edits.{map_over_more}
-use Rattle.xl_areas.specs.Bounds.{with_later}
 use Rattle.xl_areas.proofs.bounds.add_later.Goals as goal
 
 pub loop-bound-preserved : goal.loop-bound-preserved

@@ -1,5 +1,4 @@
-use Rattle.std.proofs.Common.{◌≡◌, ◌++◌, map, take, drop}
-use Rattle.xl_areas.specs.Bounds.{with_later}
+use Rattle.xl_areas.proofs.Common.{◌++◌, ◌≡◌, drop, map, take, with_later}
 use Rattle.xl_areas.proofs.bounds.add_later.Given as goal
 
 abbrev pub invariant-loop-bound : goal.invariant-loop-bound

@@ -1,5 +1,5 @@
-use Rattle.std.proofs.Common.{◌≡◌, ◌∙◌, sym, suc, ◌-◌, None, arith}
-use Rattle.xl_areas.proofs.CountLemmas.{answer-none, answer-last}
+use Rattle.xl_areas.proofs.Common.{◌-◌, ◌∙◌, ◌≡◌, arith, None, suc, sym}
+use Rattle.xl_areas.proofs.CountLemmas.{answer-last, answer-none}
 use Rattle.xl_areas.proofs.bounds.answer.Goals as goal
 
 pub returns-then-count-eq0 : goal.returns-then-count-eq0

@@ -1,6 +1,6 @@
-use Rattle.std.proofs.Common.{rules, of_calls, nat_le}
+use Rattle.xl_areas.proofs.Common.{nat_le, of_calls, rules}
 use Rattle.std.proofs.lemmas.Fn.{always_returns_same}
-use Rattle.xl_areas.proofs.CountLemmas.{parted, count-is}
+use Rattle.xl_areas.proofs.CountLemmas.{count-is, parted}
 use Rattle.xl_areas.proofs.bounds.count.Goals as goal
 
 pub returns-clause-value : goal.returns-clause-value

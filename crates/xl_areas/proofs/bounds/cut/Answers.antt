@@ -1,6 +1,4 @@
-use Rattle.std.proofs.Common.{◌≡◌, ◌∙◌, ap, subst, cond, None, is_ok}
-use Rattle.std.specs.List.{insert}
-use Rattle.xl_areas.specs.Bounds.{answer_at, count_to, cut_at}
+use Rattle.xl_areas.proofs.Common.{◌∙◌, ◌≡◌, answer_at, ap, cond, count_to, cut_at, insert, is_ok, None, subst}
 use Rattle.xl_areas.proofs.CutLemmas.{cut-inserts}
 use Rattle.xl_areas.proofs.bounds.cut.Goals as goal
 

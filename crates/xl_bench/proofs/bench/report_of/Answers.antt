@@ -1,14 +1,14 @@
-use Rattle.std.proofs.Common.{◌≡◌, ◌∙◌, sym, subst}
-use Rattle.std.specs.Prelude.{Option, map, string_bytes}
-use Rattle.xl_course.specs.Accounts.{Ends}
+use Rattle.std.proofs.Common.{◌∙◌, ◌≡◌, subst, sym}
+use Rattle.std.specs.Prelude.{map, Option, string_bytes}
 use Rattle.xl_course.proofs.ToldLemmas.{told_one}
-use Rattle.xl_words.specs.Words.{Asked, curve_of, plain_of}
-use Rattle.xl_serving.specs.Plain.{plain_account, plain_rows}
+use Rattle.xl_course.specs.Accounts.{Ends}
 use Rattle.xl_curving.specs.Curving.{curve_account, curve_rows}
-use Rattle.xl_bench.specs.contracts.machines.Machines.{the_view}
-use Rattle.xl_bench.specs.Accounts.{account_of, asked_account, asked_machines, machines_left}
+use Rattle.xl_serving.specs.Plain.{plain_account, plain_rows}
+use Rattle.xl_words.specs.Words.{Asked, curve_of, plain_of}
 use Rattle.xl_bench.proofs.MachineLemmas.{rows_left}
 use Rattle.xl_bench.proofs.WordLemmas.{few_sets, words_refused}
+use Rattle.xl_bench.specs.Accounts.{account_of, asked_account, asked_machines, machines_left}
+use Rattle.xl_bench.specs.contracts.machines.Machines.{the_view}
 use Rattle.xl_bench.proofs.bench.report_of.Goals as goal
 
 pub report-requires-in-Ok-Curve-clause-some : goal.report-requires-in-Ok-Curve-clause-some

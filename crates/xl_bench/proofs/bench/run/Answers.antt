@@ -1,8 +1,8 @@
-use Rattle.std.proofs.Common.{map, ◌≡◌}
+use Rattle.std.proofs.Common.{◌≡◌, map}
 use Rattle.std.specs.Prelude.{string_bytes}
-use Rattle.xl_course.specs.Accounts.{EndsAs, Ends, Says}
-use Rattle.xl_course.proofs.ToldLemmas.{told_one}
 use Rattle.xl_course.proofs.MessageLemmas.{run_says}
+use Rattle.xl_course.proofs.ToldLemmas.{told_one}
+use Rattle.xl_course.specs.Accounts.{Ends, EndsAs, Says}
 use Rattle.xl_bench.specs.Accounts.{account_of, machines_left}
 use Rattle.xl_bench.proofs.bench.run.Goals as goal
 

@@ -1,5 +1,5 @@
-use Rattle.std.proofs.Common.{refl, ◌+◌, ◌-◌, arith}
-use Rattle.xl_chain.proofs.PlaceLemmas.{base_past, base-by}
+use Rattle.xl_chain.proofs.Common.{◌+◌, ◌-◌, arith, refl}
+use Rattle.xl_chain.proofs.PlaceLemmas.{base-by, base_past}
 use Rattle.xl_chain.proofs.own.led_to.Goals as goal
 
 pub returns : goal.returns

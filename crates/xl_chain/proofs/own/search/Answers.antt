@@ -1,9 +1,6 @@
-use Rattle.std.proofs.Common.{◌≡◌, refl, sym, ap, subst, ℕ, ◌+◌, ◌-◌, slice_index, arith}
-use Rattle.xl_chain.specs.declared.shape.Seek.{Seek}
-use Rattle.xl_chain.specs.Back.{Searched, ended, search_back}
-use Rattle.xl_chain.specs.Kept.{IsLinked}
+use Rattle.xl_chain.proofs.Common.{◌+◌, ◌-◌, ◌≡◌, ap, arith, ended, IsLinked, refl, search_back, Searched, Seek, slice_index, subst, sym, ℕ}
+use Rattle.xl_chain.proofs.OwnLemmas.{led, own-goes, own-here}
 use Rattle.xl_chain.proofs.SearchLemmas.{back-head, exit-none, said-end}
-use Rattle.xl_chain.proofs.OwnLemmas.{led, own-here, own-goes}
 use Rattle.xl_chain.proofs.own.search.Goals as goal
 
 said-loads : (x : Searched) (n : ℕ) (r : Seek) → x ≡ ended n r → n ≡ x.loads

@@ -1,6 +1,4 @@
-use Rattle.std.proofs.Common.{◌≡◌, ◌<◌, ◌≤◌, ◌+◌, ◌-◌}
-use Rattle.xl_chain.specs.Back.{search_from, search_back, loaded_before}
-use Rattle.xl_chain.specs.Kept.{IsLinked}
+use Rattle.xl_chain.proofs.Common.{◌+◌, ◌-◌, ◌<◌, ◌≡◌, ◌≤◌, IsLinked, loaded_before, search_back, search_from}
 use Rattle.xl_chain.proofs.own.search.Given as goal
 
 abbrev pub invariant-along : goal.invariant-along

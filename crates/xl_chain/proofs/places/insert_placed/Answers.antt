@@ -1,6 +1,5 @@
-use Rattle.std.proofs.Common.{◌≡◌, ◌∙◌, subst, ℕ, Option, lit<}
-use Rattle.xl_chain.specs.Places.{told, moved}
-use Rattle.xl_chain.proofs.IndexLemmas.{still-held, index-more}
+use Rattle.xl_chain.proofs.Common.{◌∙◌, ◌≡◌, lit<, moved, Option, subst, told, ℕ}
+use Rattle.xl_chain.proofs.IndexLemmas.{index-more, still-held}
 use Rattle.xl_chain.proofs.places.insert_placed.Goals as goal
 
 pub insert-requires-2 : goal.insert-requires-2

@@ -1,8 +1,4 @@
-use Rattle.std.proofs.Common.{◌≡◌, sym, ap, ◌∙◌, false, None}
-use Rattle.std.specs.Prelude.{is_some}
-use Rattle.xl_model.specs.Chains.{has_tag}
-use Rattle.xl_chain.specs.Held.{tags_of}
-use Rattle.xl_chain.specs.Places.{told}
+use Rattle.xl_chain.proofs.Common.{◌∙◌, ◌≡◌, ap, false, has_tag, is_some, None, sym, tags_of, told}
 use Rattle.xl_chain.proofs.IndexLemmas.{none-found}
 use Rattle.xl_chain.proofs.places.look_placed.Goals as goal
 

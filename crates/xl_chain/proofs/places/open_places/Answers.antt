@@ -1,5 +1,4 @@
-use Rattle.std.proofs.Common.{ap, ◌∙◌}
-use Rattle.xl_chain.specs.declared.shape.ChainShape.{ChainShape}
+use Rattle.xl_chain.proofs.Common.{◌∙◌, ap, ChainShape}
 use Rattle.xl_chain.proofs.IndexLemmas.{index-none}
 use Rattle.xl_chain.proofs.places.open_places.Goals as goal
 

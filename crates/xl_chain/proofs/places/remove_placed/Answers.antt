@@ -1,6 +1,5 @@
-use Rattle.std.proofs.Common.{◌≡◌, sym, ◌∙◌, subst, ℕ, Option, Some, lit<}
-use Rattle.xl_chain.specs.Places.{place_at, told, moved}
-use Rattle.xl_chain.proofs.IndexLemmas.{still-held, index-less}
+use Rattle.xl_chain.proofs.Common.{◌∙◌, ◌≡◌, lit<, moved, Option, place_at, Some, subst, sym, told, ℕ}
+use Rattle.xl_chain.proofs.IndexLemmas.{index-less, still-held}
 use Rattle.xl_chain.proofs.places.remove_placed.Goals as goal
 
 pub remove-requires : goal.remove-requires

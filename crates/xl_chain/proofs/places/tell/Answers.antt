@@ -1,8 +1,4 @@
-use Rattle.std.proofs.Common.{sym, ap, ◌∙◌, lit<, arith}
-use Rattle.std.proofs.lemmas.Bool.Decides.{nat_tests}
-use Rattle.xl_model_lemmas.proofs.MemberLemmas.{In-any}
-use Rattle.xl_chain.specs.Held.{held_with, found_of, is_entry}
-use Rattle.xl_chain.specs.Places.{place_found, told, moved}
+use Rattle.xl_chain.proofs.Common.{◌∙◌, ap, arith, found_of, held_with, In-any, is_entry, lit<, moved, nat_tests, place_found, sym, told}
 use Rattle.xl_chain.proofs.IndexLemmas.{found-entry, told-set}
 use Rattle.xl_chain.proofs.places.tell.Goals as goal
 

@@ -1,5 +1,5 @@
 use Rattle.xl_model.specs.Items.{map_of}
-use Rattle.xl_chart.proofs.ItemLemmas.{event_served, demand_served, not_demanded}
+use Rattle.xl_chart.proofs.ItemLemmas.{demand_served, event_served, not_demanded}
 use Rattle.xl_chart.proofs.item.demand_beside.Goals as goal
 
 pub returns-in-Some : goal.returns-in-Some

@@ -1,4 +1,4 @@
-use Rattle.xl_chart.proofs.ItemLemmas.{event_served, command_served, declared_served, referenced_served}
+use Rattle.xl_chart.proofs.ItemLemmas.{command_served, declared_served, event_served, referenced_served}
 use Rattle.xl_chart.proofs.item.serve_beside.Goals as goal
 
 pub returns-in-Command : goal.returns-in-Command

@@ -1,8 +1,4 @@
-use Rattle.std.proofs.Common.{◌≡◌, ap, ◌∙◌, ℕ, suc, true, ◌+◌, ◌<◌, List, [], ◌∷◌, slice_index, slice_set, arith}
-use Rattle.std.proofs.lemmas.List.{get_or-replicate}
-use Rattle.xl_clustered.specs.Blocks.{IsNewBlock}
-use Rattle.xl_tagged.proofs.StepLemmas.{len-set}
-use Rattle.xl_chain.proofs.PlaceLemmas.{set-same, set-other}
+use Rattle.xl_clustered.proofs.Common.{◌+◌, ◌<◌, ◌∙◌, ◌∷◌, ◌≡◌, [], ap, arith, get_or-replicate, IsNewBlock, len-set, List, set-other, set-same, slice_index, slice_set, suc, true, ℕ}
 use Rattle.xl_clustered.proofs.block.new_block.Goals as goal
 
 front : List ℕ

@@ -1,6 +1,4 @@
-use Rattle.std.proofs.Common.{ap, ◌∙◌, lit<, arith}
-use Rattle.std.specs.List.{list_any}
-use Rattle.xl_chain.specs.Held.{is_entry}
+use Rattle.xl_clustered.proofs.Common.{◌∙◌, ap, arith, is_entry, list_any, lit<}
 use Rattle.xl_clustered.proofs.BlockLemmas.{any-set}
 use Rattle.xl_clustered.proofs.block.rewrite.Goals as goal
 

@@ -1,12 +1,6 @@
-use Rattle.std.proofs.Common.{◌≡◌, sym, ap, ◌∙◌, subst, ◌<◌, lit<, arith}
-use Rattle.xl_chain.specs.Held.{ChainState, held_with, found_of}
+use Rattle.xl_clustered.proofs.Common.{◌<◌, ◌∙◌, ◌≡◌, absent-word, ap, arith, ChainState, entry-held, found-under, found_of, given_word, held_with, IsSet, lit<, not-held, Sixteen, slot-value, subst, sym, values_under, word_at}
+use Rattle.xl_clustered.proofs.BlockLemmas.{found-count, give-count, given-some, IsWrote, wrote, wrote-blocks, wrote-set}
 use Rattle.xl_chain.specs.declared.shape.Seek.TheVariants as seek
-use Rattle.xl_tagged.specs.Forms.{Sixteen, values_under, word_at}
-use Rattle.xl_tagged.specs.Steps.{IsSet, given_word}
-use Rattle.xl_tagged.proofs.ChainLemmas.{found-under}
-use Rattle.xl_tagged.proofs.StepLemmas.{entry-held, not-held}
-use Rattle.xl_tagged.proofs.SearchLemmas.{absent-word, slot-value}
-use Rattle.xl_clustered.proofs.BlockLemmas.{IsWrote, wrote, found-count, wrote-set, wrote-blocks, give-count, given-some}
 use Rattle.xl_clustered.proofs.slots.give.Goals as goal
 
 pub value-word-requires : goal.value-word-requires

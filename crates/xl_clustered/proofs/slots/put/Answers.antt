@@ -1,14 +1,8 @@
-use Rattle.std.proofs.Common.{◌≡◌, sym, ◌∙◌, ◌+◌, false, lit<, arith}
-use Rattle.xl_chain.specs.Held.{ChainState, held_with, found_of, tags_of}
-use Rattle.xl_chain.specs.declared.shape.Seek.TheVariants as seek
-use Rattle.xl_model.specs.Chains.{has_tag}
-use Rattle.xl_tagged.specs.Forms.{values_under}
-use Rattle.xl_tagged.proofs.ChainLemmas.{IsUnderTag, found-under}
-use Rattle.xl_tagged.proofs.StepLemmas.{entry-held, tag-held, not-held}
-use Rattle.xl_clustered.specs.Blocks.{used_in}
-use Rattle.xl_clustered.proofs.UsedLemmas.{used-low}
-use Rattle.xl_clustered.proofs.BlockLemmas.{IsWrote, wrote, slots_of, found-count, wrote-put, wrote-blocks, put-count, new-put, new-blocks}
+use Rattle.xl_clustered.proofs.Common.{◌+◌, ◌∙◌, ◌≡◌, arith, ChainState, entry-held, false, found-under, found_of, has_tag, held_with, IsUnderTag, lit<, not-held, sym, tag-held, tags_of, used_in, values_under}
 use Rattle.xl_tagged.proofs.GroupLemmas.{full-of}
+use Rattle.xl_clustered.proofs.BlockLemmas.{found-count, IsWrote, new-blocks, new-put, put-count, slots_of, wrote, wrote-blocks, wrote-put}
+use Rattle.xl_clustered.proofs.UsedLemmas.{used-low}
+use Rattle.xl_chain.specs.declared.shape.Seek.TheVariants as seek
 use Rattle.xl_clustered.proofs.slots.put.Goals as goal
 
 pub overflow_add-value : goal.overflow_add-value

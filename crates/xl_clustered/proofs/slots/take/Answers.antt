@@ -1,13 +1,6 @@
-use Rattle.std.proofs.Common.{◌≡◌, sym, ◌∙◌, ◌-◌, ◌<◌, ◌≤◌, lit<, arith}
-use Rattle.xl_chain.specs.Held.{ChainState, held_with, found_of}
+use Rattle.xl_clustered.proofs.Common.{◌-◌, ◌<◌, ◌∙◌, ◌≡◌, ◌≤◌, absent-word, arith, ChainState, entry-held, found-under, found_of, held_with, IsTaken, lit<, not-held, Sixteen, sym, tag-held, used_in, values_under}
+use Rattle.xl_clustered.proofs.BlockLemmas.{found-count, gone-blocks, gone-taken, IsWrote, slots_of, take-count, wrote, wrote-blocks, wrote-taken}
 use Rattle.xl_chain.specs.declared.shape.Seek.TheVariants as seek
-use Rattle.xl_tagged.specs.Forms.{Sixteen, values_under}
-use Rattle.xl_tagged.specs.Steps.{IsTaken}
-use Rattle.xl_tagged.proofs.ChainLemmas.{found-under}
-use Rattle.xl_tagged.proofs.StepLemmas.{entry-held, tag-held, not-held}
-use Rattle.xl_clustered.specs.Blocks.{used_in}
-use Rattle.xl_tagged.proofs.SearchLemmas.{absent-word}
-use Rattle.xl_clustered.proofs.BlockLemmas.{IsWrote, wrote, slots_of, found-count, wrote-blocks, wrote-taken, take-count, gone-taken, gone-blocks}
 use Rattle.xl_clustered.proofs.slots.take.Goals as goal
 
 pub rewrite-requires-clause-held : goal.rewrite-requires-clause-held

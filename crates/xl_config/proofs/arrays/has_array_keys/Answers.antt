@@ -1,6 +1,5 @@
-use Rattle.std.proofs.Common.{◌∙◌}
+use Rattle.xl_config.proofs.Common.{◌∙◌, is_array_key}
 use Rattle.xl_config.proofs.ItemLemmas.{known_view}
-use Rattle.xl_config.specs.Arrays.{is_array_key}
 use Rattle.xl_config.proofs.arrays.has_array_keys.Goals as goal
 
 pub returns : goal.returns

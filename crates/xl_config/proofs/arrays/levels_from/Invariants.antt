@@ -1,5 +1,4 @@
-use Rattle.std.proofs.Common.{◌≡◌, drop}
-use Rattle.xl_model.specs.Rows.{levels_rise_from}
+use Rattle.xl_config.proofs.Common.{◌≡◌, drop, levels_rise_from}
 use Rattle.xl_config.proofs.arrays.levels_from.Given as goal
 
 abbrev pub invariant-loop-spec : goal.invariant-loop-spec

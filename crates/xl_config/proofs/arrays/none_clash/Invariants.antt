@@ -1,5 +1,4 @@
-use Rattle.std.proofs.Common.{◌≡◌, ◌-◌, drop, length}
-use Rattle.xl_model.specs.Rows.{none_clash}
+use Rattle.xl_config.proofs.Common.{◌-◌, ◌≡◌, drop, length, none_clash}
 use Rattle.xl_config.proofs.arrays.none_clash.Given as goal
 
 abbrev pub invariant-loop-i : goal.invariant-loop-i

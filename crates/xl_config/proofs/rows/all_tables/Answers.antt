@@ -1,4 +1,4 @@
-use Rattle.std.proofs.Common.{◌∙◌}
+use Rattle.xl_config.proofs.Common.{◌∙◌}
 use Rattle.xl_config.proofs.ItemLemmas.{tables_view}
 use Rattle.xl_config.proofs.rows.all_tables.Goals as goal
 

@@ -1,4 +1,4 @@
-use Rattle.toml.specs.View.{table_view}
+use Rattle.xl_config.proofs.Common.{table_view}
 use Rattle.xl_config.proofs.DocumentLemmas.{document_is}
 use Rattle.xl_config.proofs.rows.document.Goals as goal
 

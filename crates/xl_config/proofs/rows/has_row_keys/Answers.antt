@@ -1,6 +1,5 @@
-use Rattle.std.proofs.Common.{◌∙◌}
+use Rattle.xl_config.proofs.Common.{◌∙◌, is_known}
 use Rattle.xl_config.proofs.ItemLemmas.{known_view}
-use Rattle.xl_config.specs.Tables.{is_known}
 use Rattle.xl_config.proofs.rows.has_row_keys.Goals as goal
 
 pub returns : goal.returns

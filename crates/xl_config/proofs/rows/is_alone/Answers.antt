@@ -1,6 +1,5 @@
-use Rattle.std.proofs.Common.{◌∙◌}
+use Rattle.xl_config.proofs.Common.{◌∙◌, is_top_key}
 use Rattle.xl_config.proofs.ItemLemmas.{known_view}
-use Rattle.xl_config.specs.Rows.{is_top_key}
 use Rattle.xl_config.proofs.rows.is_alone.Goals as goal
 
 pub returns : goal.returns

@@ -1,4 +1,4 @@
-use Rattle.std.proofs.Common.{◌∙◌}
+use Rattle.xl_config.proofs.Common.{◌∙◌}
 use Rattle.xl_config.proofs.ItemLemmas.{names_view}
 use Rattle.xl_config.proofs.rows.is_taken.Goals as goal
 

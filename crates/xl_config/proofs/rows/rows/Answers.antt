@@ -1,6 +1,4 @@
-use Rattle.std.proofs.Common.{map}
-use Rattle.toml.specs.View.{array_view}
-use Rattle.xl_model.specs.Rows.{row_of}
+use Rattle.xl_config.proofs.Common.{array_view, map, row_of}
 use Rattle.xl_config.proofs.FitLemmas.{rows_fit}
 use Rattle.xl_config.proofs.rows.rows.Goals as goal
 

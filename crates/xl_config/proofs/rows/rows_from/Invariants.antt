@@ -1,7 +1,4 @@
-use Rattle.std.proofs.Common.{◌≡◌, ◌≤◌, ◌+◌, [], drop, length, map}
-use Rattle.toml.specs.View.{items_view}
-use Rattle.xl_model.specs.Rows.{row_of}
-use Rattle.xl_config.specs.Rows.{rows_from}
+use Rattle.xl_config.proofs.Common.{◌+◌, ◌≡◌, ◌≤◌, [], drop, items_view, length, map, row_of, rows_from}
 use Rattle.xl_config.proofs.rows.rows_from.Given as goal
 
 abbrev pub invariant-loop-value : goal.invariant-loop-value

@@ -1,11 +1,6 @@
-use Rattle.std.proofs.Common.{subst}
-use Rattle.std.specs.Prelude.{Err, None}
-use Rattle.xl_outside.proofs.SinkLemmas.{goes_then}
-use Rattle.xl_course.specs.Courses.{course, ended}
-use Rattle.xl_course.specs.Serving.{Reached, Serves}
-use Rattle.xl_course.specs.Accounts.{EndAfter}
-use Rattle.xl_course.proofs.ToldLemmas.{told_one, is_err_by}
-use Rattle.xl_course.proofs.EndLemmas.{serve_ends, report_done, end_goes}
+use Rattle.xl_course.proofs.Common.{course, EndAfter, ended, Err, goes_then, None, Reached, Serves, subst}
+use Rattle.xl_course.proofs.EndLemmas.{end_goes, report_done, serve_ends}
+use Rattle.xl_course.proofs.ToldLemmas.{is_err_by, told_one}
 use Rattle.xl_course.proofs.running.replay.Goals as goal
 
 pub returns-in_err-serve-clause-told : goal.returns-in_err-serve-clause-told

@@ -1,9 +1,6 @@
-use Rattle.xl_outside.specs.Folders.{Files}
-use Rattle.xl_course.specs.Meanings.{states_after}
-use Rattle.xl_course.specs.Courses.{course}
-use Rattle.xl_course.specs.Accounts.{account, Ends}
-use Rattle.xl_course.proofs.ToldLemmas.{told_one}
+use Rattle.xl_course.proofs.Common.{account, course, Ends, Files, states_after}
 use Rattle.xl_course.proofs.FlushLemmas.{end_then, goes_flushed}
+use Rattle.xl_course.proofs.ToldLemmas.{told_one}
 use Rattle.xl_course.proofs.running.report.Goals as goal
 
 pub returns-clause-told : goal.returns-clause-told

@@ -1,9 +1,6 @@
-use Rattle.std.specs.Prelude.{eqb, not}
-use Rattle.std.proofs.Common.{◌∙◌, sym, arith}
-use Rattle.std.proofs.lemmas.Bool.Decides.{nat_tests}
-use Rattle.xl_lackey.specs.Accesses.{accesses}
-use Rattle.xl_course.proofs.ServedLemmas.{served_next, served_lost, served_all}
-use Rattle.xl_course.proofs.ItemLemmas.{nth_item, items_end, few_items}
+use Rattle.xl_course.proofs.Common.{◌∙◌, accesses, arith, eqb, nat_tests, not, sym}
+use Rattle.xl_course.proofs.ItemLemmas.{few_items, items_end, nth_item}
+use Rattle.xl_course.proofs.ServedLemmas.{served_all, served_lost, served_next}
 use Rattle.xl_course.proofs.serving.serve_accesses.Goals as goal
 
 pub returns-in_default-clause-served : goal.returns-in_default-clause-served

@@ -1,8 +1,4 @@
-use Rattle.std.specs.Prelude.{eqb, not}
-use Rattle.std.proofs.Common.{List, take, true}
-use Rattle.xl_lackey.specs.Accesses.{accesses}
-use Rattle.xl_course.specs.Courses.{accesses_items}
-use Rattle.xl_course.specs.Serving.{HasServed}
+use Rattle.xl_course.proofs.Common.{accesses, accesses_items, eqb, HasServed, List, not, take, true}
 use Rattle.xl_course.proofs.serving.serve_accesses.Given as goal
 
 abbrev pub invariant-loop-i : goal.invariant-loop-i

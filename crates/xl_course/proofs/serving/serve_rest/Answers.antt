@@ -1,17 +1,8 @@
-use Rattle.std.specs.Prelude.{eqb, not}
-use Rattle.std.proofs.Common.{Bool, sym, true, false, ◌∙◌, ap, subst}
-use Rattle.std.specs.Prelude.{Result, Ok, Option}
-use Rattle.xl_outside.specs.Sinks.{GoesOn}
-use Rattle.xl_outside.proofs.SinkLemmas.{goes_same, goes_then}
-use Rattle.xl_outside.proofs.FolderLemmas.{folder_then, folder_same}
-use Rattle.xl_course.specs.declared.source.Numbered.{Numbered}
-use Rattle.xl_course.specs.declared.stop.Stop.{Stop}
-use Rattle.xl_course.specs.declared.stop.Stop.TheVariants as why
-use Rattle.xl_course.specs.Sources.{Gives}
-use Rattle.xl_course.specs.Courses.{ran_all}
-use Rattle.xl_course.proofs.ToldLemmas.{told_all, told_then, is_err_by}
-use Rattle.xl_course.proofs.CourseLemmas.{all_steps, underway_none, going_on, going_lost, going_ends, going_stops, going_skims_all, lost-any}
+use Rattle.xl_course.proofs.Common.{◌∙◌, ap, Bool, eqb, false, folder_same, folder_then, Gives, goes_same, goes_then, GoesOn, not, Numbered, Ok, Option, ran_all, Result, Stop, subst, sym, true}
+use Rattle.xl_course.proofs.CourseLemmas.{all_steps, going_ends, going_lost, going_on, going_skims_all, going_stops, lost-any, underway_none}
 use Rattle.xl_course.proofs.EndLemmas.{put_still}
+use Rattle.xl_course.proofs.ToldLemmas.{is_err_by, told_all, told_then}
+use Rattle.xl_course.specs.declared.stop.Stop.TheVariants as why
 use Rattle.xl_course.proofs.serving.serve_rest.Goals as goal
 
 pub records-init : goal.records-init

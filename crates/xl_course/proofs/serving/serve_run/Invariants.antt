@@ -1,9 +1,4 @@
-use Rattle.std.specs.Prelude.{eqb, not}
-use Rattle.std.proofs.Common.{List, true}
-use Rattle.std.specs.Option.{IfSome}
-use Rattle.xl_outside.specs.Folders.{FolderAfter, Fine}
-use Rattle.xl_outside.specs.Sinks.{GoesOn}
-use Rattle.xl_course.specs.Courses.{ran}
+use Rattle.xl_course.proofs.Common.{eqb, Fine, FolderAfter, GoesOn, IfSome, List, not, ran, true}
 use Rattle.xl_course.proofs.CourseLemmas.{Underway}
 use Rattle.xl_course.proofs.serving.serve_run.Given as goal
 

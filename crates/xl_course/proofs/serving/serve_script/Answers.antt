@@ -1,13 +1,6 @@
-use Rattle.std.specs.Prelude.{eqb, not}
-use Rattle.std.proofs.Common.{true, ◌+◌, ◌≤◌, length, arith, Ok, Err}
-use Rattle.std.specs.Prelude.{drop, None}
-use Rattle.std.proofs.lemmas.Bool.Decides.{nat_tests}
-use Rattle.xl_outside.proofs.SinkLemmas.{goes_same, goes_then}
-use Rattle.xl_outside.proofs.FolderLemmas.{folder_then, folder_same}
-use Rattle.xl_course.specs.Courses.{commands_of, course, course_by, ran_all, ended}
-use Rattle.xl_course.specs.Serving.{ServesPart}
-use Rattle.xl_course.proofs.ToldLemmas.{told_all, told_then, is_err_by}
-use Rattle.xl_course.proofs.CourseLemmas.{through_none, through_by, through_rest, stop_any, next-left}
+use Rattle.xl_course.proofs.Common.{◌+◌, ◌≤◌, arith, commands_of, course, course_by, drop, ended, eqb, Err, folder_same, folder_then, goes_same, goes_then, length, nat_tests, None, not, Ok, ran_all, ServesPart, true}
+use Rattle.xl_course.proofs.CourseLemmas.{next-left, stop_any, through_by, through_none, through_rest}
+use Rattle.xl_course.proofs.ToldLemmas.{is_err_by, told_all, told_then}
 use Rattle.xl_course.proofs.serving.serve_script.Goals as goal
 
 pub loop-i-init : goal.loop-i-init

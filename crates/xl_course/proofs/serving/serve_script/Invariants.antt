@@ -1,10 +1,4 @@
-use Rattle.std.specs.Prelude.{eqb, not}
-use Rattle.std.proofs.Common.{true}
-use Rattle.std.specs.Prelude.{drop}
-use Rattle.std.specs.Option.{IfSome}
-use Rattle.xl_outside.specs.Folders.{FolderAfter, Fine}
-use Rattle.xl_outside.specs.Sinks.{GoesOn}
-use Rattle.xl_course.specs.Courses.{commands_of, course}
+use Rattle.xl_course.proofs.Common.{commands_of, course, drop, eqb, Fine, FolderAfter, GoesOn, IfSome, not, true}
 use Rattle.xl_course.proofs.CourseLemmas.{Through}
 use Rattle.xl_course.proofs.serving.serve_script.Given as goal
 

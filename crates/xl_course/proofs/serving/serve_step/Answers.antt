@@ -1,6 +1,6 @@
-use Rattle.std.specs.Prelude.{eqb, not}
-use Rattle.xl_course.proofs.ToldLemmas.{told_all}
+use Rattle.xl_course.proofs.Common.{eqb, not}
 use Rattle.xl_course.proofs.CourseLemmas.{part_items, part_lost}
+use Rattle.xl_course.proofs.ToldLemmas.{told_all}
 use Rattle.xl_course.proofs.serving.serve_step.Goals as goal
 
 pub returns-in-Run-clause-told : goal.returns-in-Run-clause-told

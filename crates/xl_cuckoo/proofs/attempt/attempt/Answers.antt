@@ -1,14 +1,6 @@
-use Rattle.std.proofs.Common.{◌≡◌, refl, sym, ap, ◌∙◌, subst, ℕ, ◌+◌, ◌-◌, ◌<◌, List, [], ◌∷◌, ◌++◌, length, map, Option, None, Some, length-append, arith}
-use Rattle.std.specs.Prelude.{IfSome}
-use Rattle.std.proofs.lemmas.List.{map-append}
-use Rattle.xl_model.specs.declared.way.Entry.{Entry}
-use Rattle.xl_model.specs.Ways.{occupant}
-use Rattle.xl_model.specs.Placing.{Displaced, Fails, attempt, next_way}
-use Rattle.xl_way.specs.Slots.{WayState}
+use Rattle.xl_cuckoo.proofs.Common.{◌++◌, ◌+◌, ◌-◌, ◌<◌, ◌∙◌, ◌∷◌, ◌≡◌, [], ap, arith, attempt, Displaced, displaced, Entry, Fails, IfSome, key_of, keys_in_hand, length, length-append, List, map, map-append, next_way, None, occupant, Option, put_at, refl, shapes, Some, state_at, subst, sym, undone, WayState, ℕ}
+use Rattle.xl_cuckoo.proofs.KickLemmas.{attempt-fails, attempt-free, attempt-step, keys-more, put-length, taken-back}
 use Rattle.xl_cuckoo.specs.declared.moved.Moved.{Moved}
-use Rattle.xl_cuckoo.specs.State.{state_at, put_at, shapes}
-use Rattle.xl_cuckoo.specs.Undo.{displaced, undone, key_of, keys_in_hand}
-use Rattle.xl_cuckoo.proofs.KickLemmas.{attempt-step, attempt-free, attempt-fails, taken-back, keys-more, put-length}
 use Rattle.xl_cuckoo.proofs.attempt.attempt.Goals as goal
 
 pub kicks-init : goal.kicks-init

@@ -1,7 +1,4 @@
-use Rattle.std.proofs.Common.{◌≡◌, ◌-◌, ◌<◌, [], length, map}
-use Rattle.xl_model.specs.Placing.{attempt}
-use Rattle.xl_cuckoo.specs.State.{shapes}
-use Rattle.xl_cuckoo.specs.Undo.{displaced, undone, key_of, keys_in_hand}
+use Rattle.xl_cuckoo.proofs.Common.{◌-◌, ◌<◌, ◌≡◌, [], attempt, displaced, key_of, keys_in_hand, length, map, shapes, undone}
 use Rattle.xl_cuckoo.proofs.attempt.attempt.Given as goal
 
 abbrev pub invariant-kicks : goal.invariant-kicks

@@ -1,11 +1,5 @@
-use Rattle.std.proofs.Common.{◌≡◌, sym, ap, ◌∙◌, subst, ℕ, ◌+◌, ◌-◌, ◌<◌, List, length, map, take, get_or, Option, arith}
-use Rattle.std.proofs.Math.Seq.{take-length}
-use Rattle.xl_model.specs.declared.way.Entry.{Entry}
-use Rattle.xl_model.specs.Ways.{occupant}
-use Rattle.xl_way.specs.Slots.{WayState}
-use Rattle.xl_cuckoo.specs.State.{state_at, put_at}
-use Rattle.xl_cuckoo.specs.Undo.{previous_way, in_hand, undone, key_of, keys_in_hand}
-use Rattle.xl_cuckoo.proofs.KickLemmas.{undone-step, key-told, map-length, put-length, hand-full}
+use Rattle.xl_cuckoo.proofs.Common.{◌+◌, ◌-◌, ◌<◌, ◌∙◌, ◌≡◌, ap, arith, Entry, get_or, in_hand, key_of, keys_in_hand, length, List, map, occupant, Option, previous_way, put_at, state_at, subst, sym, take, take-length, undone, WayState, ℕ}
+use Rattle.xl_cuckoo.proofs.KickLemmas.{hand-full, key-told, map-length, put-length, undone-step}
 use Rattle.xl_cuckoo.proofs.attempt.undo.Goals as goal
 
 pub back-init : goal.back-init

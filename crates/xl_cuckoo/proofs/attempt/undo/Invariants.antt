@@ -1,5 +1,4 @@
-use Rattle.std.proofs.Common.{◌≡◌, ◌-◌, ◌<◌, length, map, take}
-use Rattle.xl_cuckoo.specs.Undo.{undone, key_of, keys_in_hand}
+use Rattle.xl_cuckoo.proofs.Common.{◌-◌, ◌<◌, ◌≡◌, key_of, keys_in_hand, length, map, take, undone}
 use Rattle.xl_cuckoo.proofs.attempt.undo.Given as goal
 
 abbrev pub invariant-back : goal.invariant-back

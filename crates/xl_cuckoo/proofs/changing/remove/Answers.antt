@@ -1,6 +1,5 @@
-use Rattle.std.proofs.Common.{sym, ◌∙◌}
-use Rattle.xl_cuckoo.specs.State.{shapes}
-use Rattle.xl_cuckoo.proofs.KeyLemmas.{some-held, held-at, cleared-is}
+use Rattle.xl_cuckoo.proofs.Common.{◌∙◌, shapes, sym}
+use Rattle.xl_cuckoo.proofs.KeyLemmas.{cleared-is, held-at, some-held}
 use Rattle.xl_cuckoo.proofs.changing.remove.Goals as goal
 
 pub clear_at-requires-clause-held : goal.clear_at-requires-clause-held

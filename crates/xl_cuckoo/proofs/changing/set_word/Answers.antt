@@ -1,6 +1,5 @@
-use Rattle.std.proofs.Common.{sym, ◌∙◌}
-use Rattle.xl_cuckoo.specs.State.{shapes}
-use Rattle.xl_cuckoo.proofs.KeyLemmas.{some-held, held-at, reworded-is}
+use Rattle.xl_cuckoo.proofs.Common.{◌∙◌, shapes, sym}
+use Rattle.xl_cuckoo.proofs.KeyLemmas.{held-at, reworded-is, some-held}
 use Rattle.xl_cuckoo.proofs.changing.set_word.Goals as goal
 
 pub set_word_at-requires-clause-held : goal.set_word_at-requires-clause-held

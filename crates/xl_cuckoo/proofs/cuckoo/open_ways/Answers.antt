@@ -1,10 +1,5 @@
-use Rattle.std.proofs.Common.{◌≡◌, sym, ap, ◌∙◌, ℕ, ◌+◌, true, not, List, [], ◌∷◌, ◌++◌, cond, arith}
+use Rattle.xl_cuckoo.proofs.Common.{◌++◌, ◌+◌, ◌∙◌, ◌∷◌, ◌≡◌, [], ap, arith, cond, List, map-append, not, opening_way, opening_ways, shapes, sym, true, WayShape, WayState, ℕ}
 use Rattle.std.specs.Result.{is_ok}
-use Rattle.std.proofs.lemmas.List.{map-append}
-use Rattle.xl_model.specs.Ways.{WayShape, opening_way}
-use Rattle.xl_model.specs.Shapes.{opening_ways}
-use Rattle.xl_way.specs.Slots.{WayState}
-use Rattle.xl_cuckoo.specs.State.{shapes}
 use Rattle.xl_cuckoo.proofs.TableLemmas.{opening-more}
 use Rattle.xl_cuckoo.proofs.cuckoo.open_ways.Goals as goal
 

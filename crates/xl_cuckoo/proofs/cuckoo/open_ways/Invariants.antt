@@ -1,6 +1,4 @@
-use Rattle.std.proofs.Common.{◌≡◌}
-use Rattle.xl_model.specs.Shapes.{opening_ways}
-use Rattle.xl_cuckoo.specs.State.{shapes}
+use Rattle.xl_cuckoo.proofs.Common.{◌≡◌, opening_ways, shapes}
 use Rattle.xl_cuckoo.proofs.cuckoo.open_ways.Given as goal
 
 abbrev pub invariant-ways : goal.invariant-ways

@@ -1,7 +1,4 @@
-use Rattle.std.proofs.Common.{◌≡◌, drop}
-use Rattle.xl_model.specs.Placing.{smaller, to_grow}
-use Rattle.xl_cuckoo.specs.State.{shapes}
-use Rattle.xl_cuckoo.specs.Growth.{candidate_in}
+use Rattle.xl_cuckoo.proofs.Common.{◌≡◌, candidate_in, drop, shapes, smaller, to_grow}
 use Rattle.xl_cuckoo.proofs.growing.to_grow.Given as goal
 
 abbrev pub invariant-ways : goal.invariant-ways

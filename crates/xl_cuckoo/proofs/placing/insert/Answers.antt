@@ -1,13 +1,6 @@
-use Rattle.std.proofs.Common.{sym, ap, ◌∙◌, ◌<◌, length, List, map, arith}
-use Rattle.xl_model.specs.declared.way.Moves.{Moves}
-use Rattle.xl_model.specs.Ways.{WayShape}
-use Rattle.xl_model.specs.Placing.{Placing, Placed, settled_moves, after_placing, insertion}
-use Rattle.xl_model_lemmas.proofs.PlacingLemmas.{insertion-adds}
-use Rattle.xl_way.specs.Slots.{WayState}
-use Rattle.xl_cuckoo.specs.State.{shapes}
-use Rattle.xl_cuckoo.specs.Undo.{displaced}
+use Rattle.xl_cuckoo.proofs.Common.{◌<◌, ◌∙◌, after_placing, ap, arith, displaced, insertion, insertion-adds, length, List, map, Moves, Placed, Placing, settled_moves, shapes, sym, WayShape, WayState}
+use Rattle.xl_cuckoo.proofs.KeyLemmas.{once-added, once-same}
 use Rattle.xl_cuckoo.proofs.KickLemmas.{map-length}
-use Rattle.xl_cuckoo.proofs.KeyLemmas.{once-same, once-added}
 use Rattle.xl_cuckoo.proofs.placing.insert.Goals as goal
 
 pub returns-in-Ok-clause-ok : goal.returns-in-Ok-clause-ok

@@ -1,5 +1,4 @@
-use Rattle.std.proofs.Common.{refl}
-use Rattle.xl_model.specs.Placing.{place}
+use Rattle.xl_cuckoo.proofs.Common.{place, refl}
 use Rattle.xl_cuckoo.proofs.placing.place.Goals as goal
 
 pub attempts-init : goal.attempts-init

@@ -1,7 +1,4 @@
-use Rattle.std.proofs.Common.{◌≡◌}
-use Rattle.xl_model.specs.Placing.{growths_left, placing, place}
-use Rattle.xl_cuckoo.specs.State.{shapes}
-use Rattle.xl_cuckoo.specs.Table.{SameEntries}
+use Rattle.xl_cuckoo.proofs.Common.{◌≡◌, growths_left, place, placing, SameEntries, shapes}
 use Rattle.xl_cuckoo.proofs.placing.place.Given as goal
 
 abbrev pub invariant-attempts : goal.invariant-attempts

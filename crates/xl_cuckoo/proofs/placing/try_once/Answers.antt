@@ -1,12 +1,6 @@
-use Rattle.std.proofs.Common.{◌≡◌, sym, ap, ◌∙◌, ℕ, length, map, List}
-use Rattle.xl_model.specs.declared.way.Moves.{Moves}
-use Rattle.xl_model.specs.Placing.{Displaced, Stands, Fails, Placed}
-use Rattle.xl_cuckoo.specs.State.{shapes}
-use Rattle.xl_cuckoo.specs.Undo.{displaced}
-use Rattle.xl_cuckoo.specs.Growth.{candidate_of, candidate_in}
-use Rattle.xl_cuckoo.specs.Steps.{with_kicks}
+use Rattle.xl_cuckoo.proofs.Common.{◌∙◌, ◌≡◌, ap, candidate_in, candidate_of, Displaced, displaced, Fails, length, List, map, Moves, Placed, shapes, Stands, sym, with_kicks, ℕ}
 use Rattle.xl_cuckoo.proofs.KickLemmas.{map-length}
-use Rattle.xl_cuckoo.proofs.StepLemmas.{stands-now, attempt-is, capped-is, grown-is, grows-here}
+use Rattle.xl_cuckoo.proofs.StepLemmas.{attempt-is, capped-is, grown-is, grows-here, stands-now}
 use Rattle.xl_cuckoo.proofs.placing.try_once.Goals as goal
 
 pub returns-then-attempt : goal.returns-then-attempt

@@ -1,7 +1,4 @@
-use Rattle.std.proofs.Common.{sym, ap, ◌∙◌, ◌+◌, cond, Some, drop, Option, ℕ}
-use Rattle.std.specs.Prelude.{is_some}
-use Rattle.xl_model.specs.Placing.{holder_from}
-use Rattle.xl_cuckoo.specs.State.{shapes}
+use Rattle.xl_cuckoo.proofs.Common.{◌+◌, ◌∙◌, ap, cond, drop, holder_from, is_some, Option, shapes, Some, sym, ℕ}
 use Rattle.xl_cuckoo.proofs.LoopLemmas.{holder-here}
 use Rattle.xl_cuckoo.proofs.reading.holder.Goals as goal
 

@@ -1,6 +1,4 @@
-use Rattle.std.proofs.Common.{◌≡◌, drop}
-use Rattle.xl_model.specs.Placing.{holder_from}
-use Rattle.xl_cuckoo.specs.State.{shapes}
+use Rattle.xl_cuckoo.proofs.Common.{◌≡◌, drop, holder_from, shapes}
 use Rattle.xl_cuckoo.proofs.reading.holder.Given as goal
 
 abbrev pub invariant-loop-at : goal.invariant-loop-at

@@ -1,5 +1,5 @@
-use Rattle.std.proofs.Common.{sym, ◌∙◌, Some, None}
-use Rattle.xl_cuckoo.proofs.LoopLemmas.{value-here, value-end}
+use Rattle.xl_cuckoo.proofs.Common.{◌∙◌, None, Some, sym}
+use Rattle.xl_cuckoo.proofs.LoopLemmas.{value-end, value-here}
 use Rattle.xl_cuckoo.proofs.reading.value.Goals as goal
 
 pub returns-in-Some : goal.returns-in-Some

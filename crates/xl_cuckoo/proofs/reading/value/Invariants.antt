@@ -1,6 +1,4 @@
-use Rattle.std.proofs.Common.{◌≡◌, drop}
-use Rattle.xl_cuckoo.specs.State.{shapes}
-use Rattle.xl_cuckoo.specs.Table.{value_of}
+use Rattle.xl_cuckoo.proofs.Common.{◌≡◌, drop, shapes, value_of}
 use Rattle.xl_cuckoo.proofs.reading.value.Given as goal
 
 abbrev pub invariant-loop-way : goal.invariant-loop-way

@@ -1,10 +1,5 @@
-use Rattle.std.proofs.Common.{◌≡◌, sym, ap, ◌∙◌, ℕ, ◌+◌, ◌<◌, length, drop, List, arith}
-use Rattle.xl_model.specs.Base.{plus, one_if}
-use Rattle.xl_model.specs.Ways.{WayShape}
-use Rattle.xl_model.specs.Placing.{begins, total}
-use Rattle.xl_way.specs.Slots.{WayState}
-use Rattle.xl_cuckoo.specs.State.{state_at, shapes, with_begun}
-use Rattle.xl_cuckoo.proofs.LoopLemmas.{total-next, written-more, state-same}
+use Rattle.xl_cuckoo.proofs.Common.{◌+◌, ◌<◌, ◌∙◌, ◌≡◌, ap, arith, begins, drop, length, List, one_if, plus, shapes, state_at, sym, total, WayShape, WayState, with_begun, ℕ}
+use Rattle.xl_cuckoo.proofs.LoopLemmas.{state-same, total-next, written-more}
 use Rattle.xl_cuckoo.proofs.settling.begin_each.Goals as goal
 
 pub ways-preserved : goal.ways-preserved

@@ -1,7 +1,4 @@
-use Rattle.std.proofs.Common.{◌≡◌, ◌++◌, map, take, drop}
-use Rattle.xl_model.specs.Base.{plus, one_if}
-use Rattle.xl_model.specs.Placing.{begins, total}
-use Rattle.xl_cuckoo.specs.State.{shapes, with_begun}
+use Rattle.xl_cuckoo.proofs.Common.{◌++◌, ◌≡◌, begins, drop, map, one_if, plus, shapes, take, total, with_begun}
 use Rattle.xl_cuckoo.proofs.settling.begin_each.Given as goal
 
 abbrev pub invariant-ways : goal.invariant-ways

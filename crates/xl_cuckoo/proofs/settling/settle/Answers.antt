@@ -1,10 +1,4 @@
-use Rattle.std.proofs.Common.{ap, ◌∙◌, ℕ, map, List}
-use Rattle.xl_model.specs.declared.way.Moves.{Moves}
-use Rattle.xl_model.specs.Base.{plus, one_if}
-use Rattle.xl_model.specs.Ways.{WayShape}
-use Rattle.xl_model.specs.Placing.{begins, begun_if_full, settled_way, settled, settled_moves, total}
-use Rattle.xl_way.specs.Slots.{WayState}
-use Rattle.xl_cuckoo.specs.State.{shapes}
+use Rattle.xl_cuckoo.proofs.Common.{◌∙◌, ap, begins, begun_if_full, List, map, Moves, one_if, plus, settled, settled_moves, settled_way, shapes, total, WayShape, WayState, ℕ}
 use Rattle.xl_cuckoo.proofs.LoopLemmas.{shapes-map}
 use Rattle.xl_cuckoo.proofs.settling.settle.Goals as goal
 

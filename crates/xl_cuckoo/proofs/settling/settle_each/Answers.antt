@@ -1,9 +1,5 @@
-use Rattle.std.proofs.Common.{◌≡◌, sym, ap, ◌∙◌, ℕ, ◌+◌, ◌<◌, length, drop, List, arith}
-use Rattle.xl_model.specs.Base.{plus}
-use Rattle.xl_model.specs.Placing.{slots_settled, total}
-use Rattle.xl_way.specs.Slots.{WayState}
-use Rattle.xl_cuckoo.specs.State.{state_at, shapes, with_settled}
-use Rattle.xl_cuckoo.proofs.LoopLemmas.{total-next, written-more, state-same}
+use Rattle.xl_cuckoo.proofs.Common.{◌+◌, ◌<◌, ◌∙◌, ◌≡◌, ap, arith, drop, length, List, plus, shapes, slots_settled, state_at, sym, total, WayState, with_settled, ℕ}
+use Rattle.xl_cuckoo.proofs.LoopLemmas.{state-same, total-next, written-more}
 use Rattle.xl_cuckoo.proofs.settling.settle_each.Goals as goal
 
 pub ways-preserved : goal.ways-preserved

@@ -1,7 +1,4 @@
-use Rattle.std.proofs.Common.{◌≡◌, ◌++◌, map, take, drop}
-use Rattle.xl_model.specs.Base.{plus}
-use Rattle.xl_model.specs.Placing.{slots_settled, total}
-use Rattle.xl_cuckoo.specs.State.{shapes, with_settled}
+use Rattle.xl_cuckoo.proofs.Common.{◌++◌, ◌≡◌, drop, map, plus, shapes, slots_settled, take, total, with_settled}
 use Rattle.xl_cuckoo.proofs.settling.settle_each.Given as goal
 
 abbrev pub invariant-ways : goal.invariant-ways

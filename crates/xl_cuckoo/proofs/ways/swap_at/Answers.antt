@@ -1,7 +1,4 @@
-use Rattle.std.proofs.Common.{sym, ap, ◌∙◌, get_or, length, refl}
-use Rattle.std.proofs.lemmas.List.{get_or_read_under}
-use Rattle.xl_way.specs.Slots.{WayState}
-use Rattle.xl_cuckoo.specs.State.{no_way}
+use Rattle.xl_cuckoo.proofs.Common.{◌∙◌, ap, get_or, get_or_read_under, length, no_way, refl, sym, WayState}
 use Rattle.xl_cuckoo.proofs.KickLemmas.{back-is}
 use Rattle.xl_cuckoo.proofs.ways.swap_at.Goals as goal
 

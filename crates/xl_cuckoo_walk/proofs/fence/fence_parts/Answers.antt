@@ -1,6 +1,4 @@
-use Rattle.std.proofs.Common.{sym, subst, ◌+◌}
-use Rattle.xl_model.specs.Structures.{IsFence}
-use Rattle.xl_cuckoo_walk.specs.Parts.{RowParts, IsRow, row_state}
+use Rattle.xl_cuckoo_walk.proofs.Common.{◌+◌, IsFence, IsRow, row_state, RowParts, subst, sym}
 use Rattle.xl_cuckoo_walk.proofs.FenceLemmas.{FencedRow, row-fenced}
 use Rattle.xl_cuckoo_walk.proofs.fence.fence_parts.Given.{Over}
 use Rattle.xl_cuckoo_walk.proofs.fence.fence_parts.Goals as goal

@@ -1,9 +1,7 @@
-use Rattle.std.proofs.Common.{◌≡◌, sym, ◌∙◌, subst, ◌<◌, length, lit<}
-use Rattle.xl_cuckoo_walk.specs.Parts.{RowParts, table_of}
-use Rattle.xl_cuckoo_walk.specs.Changes.{with_put_in, IsPut, IsRefused}
-use Rattle.xl_cuckoo_walk.proofs.EnterLemmas.{refused-full, key-free, roomy-middle, roomy-large, put-entered, put-refused}
-use Rattle.xl_cuckoo_walk.proofs.NamedLemmas.{word-some}
+use Rattle.xl_cuckoo_walk.proofs.Common.{◌<◌, ◌∙◌, ◌≡◌, IsPut, IsRefused, length, lit<, RowParts, subst, sym, table_of, with_put_in}
+use Rattle.xl_cuckoo_walk.proofs.EnterLemmas.{key-free, put-entered, put-refused, refused-full, roomy-large, roomy-middle}
 use Rattle.xl_cuckoo_walk.proofs.HoldLemmas.{fit-leaf, free-now}
+use Rattle.xl_cuckoo_walk.proofs.NamedLemmas.{word-some}
 use Rattle.xl_cuckoo_walk.proofs.insert.enter.Goals as goal
 
 pub has_room-requires : goal.has_room-requires

@@ -1,8 +1,6 @@
-use Rattle.std.proofs.Common.{sym, subst, ◌≤◌, length, lit<}
-use Rattle.xl_model.specs.Changes.{Insert}
-use Rattle.xl_cuckoo_walk.specs.Parts.{RowParts}
-use Rattle.xl_cuckoo_walk.proofs.HoldLemmas.{fit-leaf, few-m2, few-g1}
-use Rattle.xl_cuckoo_walk.proofs.StepLemmas.{less-cached, counted-row, inserted-by}
+use Rattle.xl_cuckoo_walk.proofs.Common.{◌≤◌, Insert, length, lit<, RowParts, subst, sym}
+use Rattle.xl_cuckoo_walk.proofs.HoldLemmas.{few-g1, few-m2, fit-leaf}
+use Rattle.xl_cuckoo_walk.proofs.StepLemmas.{counted-row, inserted-by, less-cached}
 use Rattle.xl_cuckoo_walk.proofs.insert.insert_leaf.Goals as goal
 
 pub refresh_leaf-requires : goal.refresh_leaf-requires

@@ -1,8 +1,5 @@
-use Rattle.std.proofs.Common.{lit<, sym, ap, ◌∙◌, ◌||◌}
-use Rattle.std.specs.Prelude.{is_some}
-use Rattle.xl_cuckoo_walk.specs.Parts.{ways_in}
-use Rattle.xl_cuckoo_walk.specs.Looks.{looked_from}
-use Rattle.xl_cuckoo_walk.proofs.LookLemmas.{block-parts, block-met}
+use Rattle.xl_cuckoo_walk.proofs.Common.{◌||◌, ◌∙◌, ap, is_some, lit<, looked_from, sym, ways_in}
+use Rattle.xl_cuckoo_walk.proofs.LookLemmas.{block-met, block-parts}
 use Rattle.xl_cuckoo_walk.proofs.look.is_met.Goals as goal
 
 pub has_smaller-requires : goal.has_smaller-requires

@@ -1,4 +1,4 @@
-use Rattle.std.proofs.Common.{lit<, ◌∙◌}
+use Rattle.xl_cuckoo_walk.proofs.Common.{◌∙◌, lit<}
 use Rattle.xl_cuckoo_walk.proofs.LookLemmas.{leaf-found}
 use Rattle.xl_cuckoo_walk.proofs.WalkLemmas.{page-of}
 use Rattle.xl_cuckoo_walk.proofs.look.leaf_of_page.Goals as goal

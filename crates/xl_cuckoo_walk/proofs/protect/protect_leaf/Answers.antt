@@ -1,14 +1,7 @@
-use Rattle.std.proofs.Common.{◌≡◌, refl, sym, ap, ◌∙◌, subst, ◌<◌, ◌/◌, ◌%◌, ◌^◌, lit<, None, Some, Ok}
-use Rattle.std.specs.Prelude.{IsSome}
-use Rattle.xl_model.specs.Changes.{Protect}
-use Rattle.xl_model.specs.Shapes.{ways_of}
-use Rattle.xl_model.specs.Structures.{IsChange}
-use Rattle.xl_model.specs.Words.{leaf_word}
-use Rattle.xl_cuckoo.specs.Table.{value_of}
-use Rattle.xl_cuckoo_walk.specs.Parts.{ways_in, row_state, table_of}
+use Rattle.xl_cuckoo_walk.proofs.Common.{◌%◌, ◌/◌, ◌<◌, ◌^◌, ◌∙◌, ◌≡◌, ap, IsChange, IsSome, leaf_word, lit<, None, Ok, Protect, refl, row_state, Some, subst, sym, table_of, value_of, ways_in, ways_of}
 use Rattle.xl_cuckoo_walk.proofs.ChangeLemmas.{ways-table}
 use Rattle.xl_cuckoo_walk.proofs.GiveLemmas.{GivenRow, row-given}
-use Rattle.xl_cuckoo_walk.proofs.NamedLemmas.{NamedLeaf, named-leaf, word-some}
+use Rattle.xl_cuckoo_walk.proofs.NamedLemmas.{named-leaf, NamedLeaf, word-some}
 use Rattle.xl_cuckoo_walk.proofs.protect.protect_leaf.Given.{Over}
 use Rattle.xl_cuckoo_walk.proofs.protect.protect_leaf.Goals as goal
 

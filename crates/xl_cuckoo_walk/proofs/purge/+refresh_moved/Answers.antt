@@ -1,8 +1,5 @@
-use Rattle.std.proofs.Common.{sym, ap, ◌∙◌, ◌+◌}
-use Rattle.xl_model.specs.Recency.{purged}
+use Rattle.xl_cuckoo_walk.proofs.Common.{◌+◌, ◌∙◌, ap, is_old, key_told, keys_from, new_word, purged, refreshed, sym}
 use Rattle.xl_cuckoo.specs.Undo.{told}
-use Rattle.xl_cuckoo_walk.specs.Coding.{is_old}
-use Rattle.xl_cuckoo_walk.specs.Plans.{new_word, refreshed, keys_from, key_told}
 use Rattle.xl_cuckoo_walk.proofs.PurgeLemmas.{told-none, told-some}
 use Rattle.xl_cuckoo_walk.proofs.purge.+refresh_moved.Goals as goal
 

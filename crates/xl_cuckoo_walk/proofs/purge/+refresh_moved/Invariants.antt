@@ -1,4 +1,4 @@
-use Rattle.std.proofs.Common.{◌-◌}
+use Rattle.xl_cuckoo_walk.proofs.Common.{◌-◌}
 use Rattle.xl_cuckoo_walk.proofs.purge.+refresh_moved.Given as goal
 
 abbrev pub decreases-refresh_moved : goal.decreases-refresh_moved

@@ -1,11 +1,9 @@
-use Rattle.std.proofs.Common.{◌≡◌, sym, ◌∙◌, subst, ◌≤◌, length, lit<, None, Some}
-use Rattle.xl_model.specs.Changes.{Relocate}
-use Rattle.xl_cuckoo_walk.specs.Parts.{RowParts}
-use Rattle.xl_cuckoo_walk.proofs.NamedLemmas.{NamedLeaf, named-leaf}
-use Rattle.xl_cuckoo_walk.proofs.HoldLemmas.{few-m2, few-g1}
+use Rattle.xl_cuckoo_walk.proofs.Common.{◌∙◌, ◌≡◌, ◌≤◌, length, lit<, None, Relocate, RowParts, Some, subst, sym}
+use Rattle.xl_cuckoo_walk.proofs.HoldLemmas.{few-g1, few-m2}
 use Rattle.xl_cuckoo_walk.proofs.LookLemmas.{block-parts}
-use Rattle.xl_cuckoo_walk.proofs.RelocateLemmas.{named-found, named-page, found-leaf, valid-new, free-new, moved-refused, holds-between, named-between, moved-by}
-use Rattle.xl_cuckoo_walk.proofs.StepLemmas.{less-cached, counted-row}
+use Rattle.xl_cuckoo_walk.proofs.NamedLemmas.{named-leaf, NamedLeaf}
+use Rattle.xl_cuckoo_walk.proofs.RelocateLemmas.{found-leaf, free-new, holds-between, moved-by, moved-refused, named-between, named-found, named-page, valid-new}
+use Rattle.xl_cuckoo_walk.proofs.StepLemmas.{counted-row, less-cached}
 use Rattle.xl_cuckoo_walk.proofs.relocate.relocate_leaf.Goals as goal
 
 pub leaf_of_page-requires : goal.leaf_of_page-requires

@@ -1,8 +1,6 @@
-use Rattle.std.proofs.Common.{◌≡◌, sym, subst, lit<}
-use Rattle.xl_cuckoo_walk.specs.Parts.{RowParts}
-use Rattle.xl_cuckoo_walk.specs.Changes.{without_key_in}
-use Rattle.xl_cuckoo_walk.proofs.NamedLemmas.{NamedLeaf, named-held}
-use Rattle.xl_cuckoo_walk.proofs.LeaveLemmas.{named-value, shared-middle, shared-large, taken-left}
+use Rattle.xl_cuckoo_walk.proofs.Common.{◌≡◌, lit<, RowParts, subst, sym, without_key_in}
+use Rattle.xl_cuckoo_walk.proofs.LeaveLemmas.{named-value, shared-large, shared-middle, taken-left}
+use Rattle.xl_cuckoo_walk.proofs.NamedLemmas.{named-held, NamedLeaf}
 use Rattle.xl_cuckoo_walk.proofs.remove.leave.Goals as goal
 
 pub section-requires-clause-space_in : goal.section-requires-clause-space_in

@@ -1,11 +1,7 @@
-use Rattle.std.proofs.Common.{ap, ◌-◌, lit<}
-use Rattle.xl_model.specs.declared.work.Work.{Work}
-use Rattle.xl_model.specs.Changes.{Remove}
-use Rattle.xl_model.specs.Placing.{no_moves}
-use Rattle.xl_cuckoo_walk.specs.Parts.{row_state}
-use Rattle.xl_cuckoo_walk.proofs.NamedLemmas.{NamedLeaf, named-leaf}
-use Rattle.xl_cuckoo_walk.proofs.HoldLemmas.{row-holds, few-m2, few-g1}
-use Rattle.xl_cuckoo_walk.proofs.StepLemmas.{less-cached, counted-row, removed-by}
+use Rattle.xl_cuckoo_walk.proofs.Common.{◌-◌, ap, lit<, no_moves, Remove, row_state, Work}
+use Rattle.xl_cuckoo_walk.proofs.HoldLemmas.{few-g1, few-m2, row-holds}
+use Rattle.xl_cuckoo_walk.proofs.NamedLemmas.{named-leaf, NamedLeaf}
+use Rattle.xl_cuckoo_walk.proofs.StepLemmas.{counted-row, less-cached, removed-by}
 use Rattle.xl_cuckoo_walk.proofs.remove.remove_leaf.Goals as goal
 
 pub leave-requires : goal.leave-requires

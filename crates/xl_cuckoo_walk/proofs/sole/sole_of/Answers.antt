@@ -1,4 +1,4 @@
-use Rattle.xl_cuckoo_walk.proofs.SoleLemmas.{small-plans, middle-plans}
+use Rattle.xl_cuckoo_walk.proofs.SoleLemmas.{middle-plans, small-plans}
 use Rattle.xl_cuckoo_walk.proofs.sole.sole_of.Goals as goal
 
 pub returns-then-large-eq1 : goal.returns-then-large-eq1

@@ -1,20 +1,7 @@
-use Rattle.std.proofs.Common.{◌≡◌, refl, sym, ap, ◌∙◌, subst, ℕ, ◌+◌, ◌*◌, ◌/◌, ◌^◌, Option, None, Some, lit<}
-use Rattle.std.specs.Prelude.{find, is_some}
-use Rattle.xl_model.specs.declared.address.Order.{Order}
-use Rattle.xl_model.specs.declared.address.Order.TheVariants as order
-use Rattle.xl_model.specs.declared.leaf.Leaf.{Leaf}
-use Rattle.xl_model.specs.Base.{one_if}
-use Rattle.xl_model.specs.Addresses.{pages_of}
-use Rattle.xl_model.specs.Shapes.{ways_of}
-use Rattle.xl_model.specs.Walks.{fills_m2}
-use Rattle.xl_model.specs.Structures.{IsWalk}
-use Rattle.xl_model_lemmas.specs.Entries.{or_leaf}
-use Rattle.xl_cuckoo_walk.specs.declared.plan.Plan.{Plan}
-use Rattle.xl_cuckoo_walk.specs.Coding.{has_tag, word_of_item, hit_of}
-use Rattle.xl_cuckoo_walk.specs.Parts.{RowParts, ways_in, IsRow, row_state}
-use Rattle.xl_cuckoo_walk.specs.Plans.{plan_of, value_by, probed, leaf_said_by, touched_in, new_word, filled}
-use Rattle.xl_cuckoo_walk.proofs.WalkLemmas.{page-of, middle_key, large_key, filled-same, IsWalked, steps-walked, plan-inside}
+use Rattle.xl_cuckoo_walk.proofs.Common.{◌*◌, ◌+◌, ◌/◌, ◌^◌, ◌∙◌, ◌≡◌, ap, filled, fills_m2, find, has_tag, hit_of, is_some, IsRow, IsWalk, Leaf, leaf_said_by, lit<, new_word, None, one_if, Option, or_leaf, Order, pages_of, Plan, plan_of, probed, refl, row_state, RowParts, Some, subst, sym, touched_in, value_by, ways_in, ways_of, word_of_item, ℕ}
+use Rattle.xl_cuckoo_walk.proofs.WalkLemmas.{filled-same, IsWalked, large_key, middle_key, page-of, plan-inside, steps-walked}
 use Rattle.xl_cuckoo_walk.proofs.walk.walk_behind.Given.{Over}
+use Rattle.xl_model.specs.declared.address.Order.TheVariants as order
 use Rattle.xl_cuckoo_walk.proofs.walk.walk_behind.Goals as goal
 
 pub section-middle_key-requires-clause-space_in : goal.section-middle_key-requires-clause-space_in

@@ -1,10 +1,6 @@
-use Rattle.std.proofs.Common.{sym, subst, lit<}
-use Rattle.xl_model.specs.Structures.{IsWalk}
-use Rattle.xl_tagged.specs.Slots.{small_told}
-use Rattle.xl_cuckoo_walk.specs.Known.{IsFrontIf}
-use Rattle.xl_cuckoo_walk.specs.Parts.{RowParts, IsRow, row_state}
-use Rattle.xl_cuckoo_walk.proofs.WalkLemmas.{page-of, middle_key, large_key, IsWalked}
-use Rattle.xl_cuckoo_walk.proofs.SoleLemmas.{small-walked, middle-walked, middle-inside}
+use Rattle.xl_cuckoo_walk.proofs.Common.{IsFrontIf, IsRow, IsWalk, lit<, row_state, RowParts, small_told, subst, sym}
+use Rattle.xl_cuckoo_walk.proofs.SoleLemmas.{middle-inside, middle-walked, small-walked}
+use Rattle.xl_cuckoo_walk.proofs.WalkLemmas.{IsWalked, large_key, middle_key, page-of}
 use Rattle.xl_cuckoo_walk.proofs.walk.walk_page.Given.{Over}
 use Rattle.xl_cuckoo_walk.proofs.walk.walk_page.Goals as goal
 

@@ -1,7 +1,5 @@
-use Rattle.std.proofs.Common.{◌≡◌, ◌<◌, ◌+◌, ◌%◌, ◌^◌, length, get_or, sym, ◌∙◌, arith}
-use Rattle.std.proofs.lemmas.List.{length-set, take_all}
-use Rattle.xl_curve.specs.Views.{hits_below}
-use Rattle.xl_curve.proofs.CurveLemmas.{one_more, filled_more}
+use Rattle.xl_curve.proofs.Common.{◌%◌, ◌+◌, ◌<◌, ◌^◌, ◌∙◌, ◌≡◌, arith, get_or, hits_below, length, length-set, sym, take_all}
+use Rattle.xl_curve.proofs.CurveLemmas.{filled_more, one_more}
 use Rattle.xl_curve.proofs.curve.totals.Goals as goal
 
 pub loop-at-preserved : goal.loop-at-preserved

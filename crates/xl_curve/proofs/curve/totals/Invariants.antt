@@ -1,6 +1,4 @@
-use Rattle.std.proofs.Common.{◌≡◌, length, map, take}
-use Rattle.std.specs.List.{range_with_len}
-use Rattle.xl_curve.specs.Views.{hits_below}
+use Rattle.xl_curve.proofs.Common.{◌≡◌, hits_below, length, map, range_with_len, take}
 use Rattle.xl_curve.proofs.curve.totals.Given as goal
 
 abbrev pub invariant-loop-at : goal.invariant-loop-at

@@ -1,8 +1,5 @@
-use Rattle.std.proofs.Common.{◌≡◌, length, sym, ◌∙◌, ap, arith}
-use Rattle.std.proofs.lemmas.List.{length-map, take_all}
-use Rattle.xl_curve.specs.Places.{leaf_in, place_of, places_of, shifted}
-use Rattle.xl_curve_model.specs.Curves.{same_leaf}
-use Rattle.xl_curve.proofs.KernelLemmas.{front_places, all_give_way, last_goes}
+use Rattle.xl_curve.proofs.Common.{◌∙◌, ◌≡◌, ap, arith, leaf_in, length, length-map, place_of, places_of, same_leaf, shifted, sym, take_all}
+use Rattle.xl_curve.proofs.KernelLemmas.{all_give_way, front_places, last_goes}
 use Rattle.xl_curve.proofs.kernel.bring_in_front.Goals as goal
 
 pub returns-in-Some-clause-moved : goal.returns-in-Some-clause-moved

@@ -1,8 +1,5 @@
-use Rattle.std.proofs.Common.{◌<◌, length, get_or, sym, ◌∙◌, ap, arith}
-use Rattle.xl_curve.specs.declared.place.Place.{Place}
-use Rattle.xl_curve.specs.Places.{leaf_in, places_of}
-use Rattle.xl_curve_model.specs.Curves.{same_leaf}
-use Rattle.xl_curve.proofs.KernelLemmas.{read, solid_place, vacant_place, front_places, hole_filled, hole_distance, own_closed}
+use Rattle.xl_curve.proofs.Common.{◌<◌, ◌∙◌, ap, arith, get_or, leaf_in, length, Place, places_of, same_leaf, sym}
+use Rattle.xl_curve.proofs.KernelLemmas.{front_places, hole_distance, hole_filled, own_closed, read, solid_place, vacant_place}
 use Rattle.xl_curve.proofs.kernel.close_gap.Goals as goal
 
 pub returns-then-is_hole-clause-moved : goal.returns-then-is_hole-clause-moved

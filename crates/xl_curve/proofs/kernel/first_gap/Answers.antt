@@ -1,7 +1,5 @@
-use Rattle.std.proofs.Common.{◌≤◌, ◌<◌, ℕ, get_or, sym, ◌∙◌, arith}
-use Rattle.xl_curve.specs.Places.{IsOther, gap, leaf_in, mark_of, places_of}
-use Rattle.xl_curve_model.specs.Curves.{same_leaf}
-use Rattle.xl_curve.proofs.KernelLemmas.{others_passed, further_none}
+use Rattle.xl_curve.proofs.Common.{◌<◌, ◌∙◌, ◌≤◌, arith, gap, get_or, IsOther, leaf_in, mark_of, places_of, same_leaf, sym, ℕ}
+use Rattle.xl_curve.proofs.KernelLemmas.{further_none, others_passed}
 use Rattle.xl_curve.proofs.kernel.first_gap.Goals as goal
 
 pub returns-clause-place : goal.returns-clause-place

@@ -1,5 +1,4 @@
-use Rattle.std.proofs.Common.{ℕ, ◌<◌, ◌≤◌, get_or}
-use Rattle.xl_curve.specs.Places.{IsOther}
+use Rattle.xl_curve.proofs.Common.{◌<◌, ◌≤◌, get_or, IsOther, ℕ}
 use Rattle.xl_curve.proofs.kernel.first_marked.Given as goal
 
 abbrev pub invariant-loop-at : goal.invariant-loop-at

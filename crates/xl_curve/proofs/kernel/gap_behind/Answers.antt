@@ -1,9 +1,5 @@
-use Rattle.std.proofs.Common.{◌≡◌, ◌<◌, true, false, None, length, get_or, sym, ◌∙◌, ap, arith}
-use Rattle.std.proofs.lemmas.List.{length-map}
-use Rattle.xl_curve.specs.declared.place.Place.{Place}
-use Rattle.xl_curve.specs.Places.{gives_way, leaf_in, place_of, places_of}
-use Rattle.xl_curve_model.specs.Curves.{same_leaf}
-use Rattle.xl_curve.proofs.KernelLemmas.{read, pass_gap, gap_found, no_gap}
+use Rattle.xl_curve.proofs.Common.{◌<◌, ◌∙◌, ◌≡◌, ap, arith, false, get_or, gives_way, leaf_in, length, length-map, None, Place, place_of, places_of, same_leaf, sym, true}
+use Rattle.xl_curve.proofs.KernelLemmas.{gap_found, no_gap, pass_gap, read}
 use Rattle.xl_curve.proofs.kernel.gap_behind.Goals as goal
 
 pub returns-then-not-gives_way-clause-place : goal.returns-then-not-gives_way-clause-place

@@ -1,6 +1,4 @@
-use Rattle.std.proofs.Common.{◌≡◌, drop}
-use Rattle.xl_curve.specs.Places.{further, gap, leaf_in, places_of}
-use Rattle.xl_curve_model.specs.Curves.{same_leaf}
+use Rattle.xl_curve.proofs.Common.{◌≡◌, drop, further, gap, leaf_in, places_of, same_leaf}
 use Rattle.xl_curve.proofs.kernel.gap_behind.Given as goal
 
 abbrev pub invariant-loop-at : goal.invariant-loop-at

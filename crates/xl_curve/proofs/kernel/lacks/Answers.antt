@@ -1,6 +1,4 @@
-use Rattle.std.proofs.Common.{◌≡◌, ◌<◌, ℕ, length, get_or, arith}
-use Rattle.std.proofs.lemmas.Bool.Decides.{nat_tests}
-use Rattle.xl_curve.specs.Places.{IsOther, mark_of}
+use Rattle.xl_curve.proofs.Common.{◌<◌, ◌≡◌, arith, get_or, IsOther, length, mark_of, nat_tests, ℕ}
 use Rattle.xl_curve.proofs.KernelLemmas.{none_named}
 use Rattle.xl_curve.proofs.kernel.lacks.Goals as goal
 

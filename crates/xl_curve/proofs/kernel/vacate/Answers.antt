@@ -1,9 +1,5 @@
-use Rattle.std.proofs.Common.{◌≡◌, ◌<◌, ◌≤◌, true, false, None, length, get_or, refl, sym, ◌∙◌, arith}
-use Rattle.std.proofs.lemmas.List.{length-map}
-use Rattle.xl_curve.specs.declared.place.Place.{Place}
-use Rattle.xl_curve.specs.Places.{is_vacant, leaf_in, place_of, places_of}
-use Rattle.xl_curve_model.specs.Curves.{same_leaf}
-use Rattle.xl_curve.proofs.KernelLemmas.{read, is_other, other_place, pass_places, pass_distance, left, left_at, none_left, none_at, solid_place, hole_written, mark_written}
+use Rattle.xl_curve.proofs.Common.{◌<◌, ◌∙◌, ◌≡◌, ◌≤◌, arith, false, get_or, is_vacant, leaf_in, length, length-map, None, Place, place_of, places_of, refl, same_leaf, sym, true}
+use Rattle.xl_curve.proofs.KernelLemmas.{hole_written, is_other, left, left_at, mark_written, none_at, none_left, other_place, pass_distance, pass_places, read, solid_place}
 use Rattle.xl_curve.proofs.kernel.vacate.Goals as goal
 
 pub loop-at-init : goal.loop-at-init

@@ -1,6 +1,4 @@
-use Rattle.std.proofs.Common.{◌≡◌, ◌++◌, take, drop}
-use Rattle.xl_curve.specs.Places.{AreMarks, distance, further, leaf_in, places_of, vacated}
-use Rattle.xl_curve_model.specs.Curves.{same_leaf}
+use Rattle.xl_curve.proofs.Common.{◌++◌, ◌≡◌, AreMarks, distance, drop, further, leaf_in, places_of, same_leaf, take, vacated}
 use Rattle.xl_curve.proofs.kernel.vacate.Given as goal
 
 abbrev pub invariant-loop-at : goal.invariant-loop-at

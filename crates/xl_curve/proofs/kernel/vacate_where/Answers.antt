@@ -1,8 +1,5 @@
-use Rattle.std.proofs.Common.{◌≡◌, ◌≤◌, ◌<◌, length, refl, ◌∙◌, arith}
-use Rattle.std.proofs.lemmas.List.{length-map, length-set}
-use Rattle.xl_curve.specs.declared.place.Place.{Place}
-use Rattle.xl_curve.specs.Places.{place_of, place_without, places_of}
-use Rattle.xl_curve.proofs.KernelLemmas.{mark_written, purged_more, thinned_more, all_purged}
+use Rattle.xl_curve.proofs.Common.{◌<◌, ◌∙◌, ◌≡◌, ◌≤◌, arith, length, length-map, length-set, Place, place_of, place_without, places_of, refl}
+use Rattle.xl_curve.proofs.KernelLemmas.{all_purged, mark_written, purged_more, thinned_more}
 use Rattle.xl_curve.proofs.kernel.vacate_where.Goals as goal
 
 pub loop-at-init : goal.loop-at-init

@@ -1,7 +1,4 @@
-use Rattle.std.proofs.Common.{◌≡◌, ◌++◌, length, map, take, drop}
-use Rattle.std.specs.Fn.{FnReturnsAt}
-use Rattle.xl_curve.specs.Places.{AreMarks, IsThinned, place_without, places_of}
-use Rattle.xl_recency.specs.Lists.{IsTest}
+use Rattle.xl_curve.proofs.Common.{◌++◌, ◌≡◌, AreMarks, drop, FnReturnsAt, IsTest, IsThinned, length, map, place_without, places_of, take}
 use Rattle.xl_curve.proofs.kernel.vacate_where.Given as goal
 
 abbrev pub invariant-loop-at : goal.invariant-loop-at

@@ -1,6 +1,6 @@
-use Rattle.std.proofs.Common.{refl, sym, ◌∙◌, ap}
+use Rattle.xl_curve.proofs.Common.{◌∙◌, ap, refl, sym}
 use Rattle.std.proofs.lemmas.Fn.{says_at}
-use Rattle.xl_curve.proofs.KernelLemmas.{vacant_place, without_hole, without_met, without_kept}
+use Rattle.xl_curve.proofs.KernelLemmas.{vacant_place, without_hole, without_kept, without_met}
 use Rattle.xl_curve.proofs.kernel.without.Goals as goal
 
 pub returns-then-is_hole-clause-without : goal.returns-then-is_hole-clause-without

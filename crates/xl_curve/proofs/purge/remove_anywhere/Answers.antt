@@ -1,9 +1,6 @@
-use Rattle.std.proofs.Common.{◌∙◌, ap}
-use Rattle.xl_model.specs.declared.address.Order.TheVariants as order
-use Rattle.xl_tlb.specs.Arrays.{covers_anywhere, covers_anywhere_as}
-use Rattle.xl_curve.specs.Views.{removed}
+use Rattle.xl_curve.proofs.Common.{◌∙◌, ap, covers_anywhere, covers_anywhere_as, each_order, removed}
 use Rattle.xl_curve.proofs.SetLemmas.{removed_in_turn}
-use Rattle.xl_tlb.proofs.DropLemmas.{each_order}
+use Rattle.xl_model.specs.declared.address.Order.TheVariants as order
 use Rattle.xl_curve.proofs.purge.remove_anywhere.Goals as goal
 
 pub returns : goal.returns

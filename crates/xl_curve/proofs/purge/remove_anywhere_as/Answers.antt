@@ -1,4 +1,4 @@
-use Rattle.xl_tlb.specs.Arrays.{covers_anywhere_as}
+use Rattle.xl_curve.proofs.Common.{covers_anywhere_as}
 use Rattle.xl_curve.proofs.SetLemmas.{anywhere_removed, removed_kept}
 use Rattle.xl_curve.proofs.purge.remove_anywhere_as.Goals as goal
 

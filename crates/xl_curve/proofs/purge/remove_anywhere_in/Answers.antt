@@ -1,5 +1,4 @@
-use Rattle.std.proofs.Common.{rules}
-use Rattle.xl_tlb.specs.Arrays.{covers_anywhere_as}
+use Rattle.xl_curve.proofs.Common.{covers_anywhere_as, rules}
 use Rattle.xl_curve.proofs.purge.remove_anywhere_in.Goals as goal
 
 pub returns : goal.returns

@@ -1,4 +1,4 @@
-use Rattle.xl_model.specs.Tlb.{covers_as}
+use Rattle.xl_curve.proofs.Common.{covers_as}
 use Rattle.xl_curve.proofs.SetLemmas.{covering_removed, removed_kept}
 use Rattle.xl_curve.proofs.purge.remove_as.Goals as goal
 

@@ -1,5 +1,4 @@
-use Rattle.std.proofs.Common.{rules}
-use Rattle.xl_model.specs.Tlb.{covers_as}
+use Rattle.xl_curve.proofs.Common.{covers_as, rules}
 use Rattle.xl_curve.proofs.purge.remove_covering_in.Goals as goal
 
 pub returns : goal.returns

@@ -1,5 +1,4 @@
-use Rattle.std.proofs.Common.{rules}
-use Rattle.xl_model.specs.Mapping.{is_leaf}
+use Rattle.xl_curve.proofs.Common.{is_leaf, rules}
 use Rattle.xl_curve.proofs.SetLemmas.{none_removed}
 use Rattle.xl_curve.proofs.purge.remove_named_in.Goals as goal
 

@@ -1,10 +1,6 @@
-use Rattle.std.proofs.Common.{◌∙◌, ap}
-use Rattle.xl_model.specs.declared.address.Order.TheVariants as order
-use Rattle.xl_model.specs.Mapping.{covers}
-use Rattle.xl_model.specs.Tlb.{covers_as}
-use Rattle.xl_curve.specs.Views.{removed}
+use Rattle.xl_curve.proofs.Common.{◌∙◌, ap, covers, covers_as, each_order, removed}
 use Rattle.xl_curve.proofs.SetLemmas.{removed_in_turn}
-use Rattle.xl_tlb.proofs.DropLemmas.{each_order}
+use Rattle.xl_model.specs.declared.address.Order.TheVariants as order
 use Rattle.xl_curve.proofs.purge.remove_page.Goals as goal
 
 pub returns : goal.returns

@@ -1,8 +1,4 @@
-use Rattle.std.proofs.Common.{◌≡◌, ◌<◌, List, Option, length, map, get_or, set, ◌∙◌, ap, arith}
-use Rattle.std.proofs.lemmas.List.{get_or_default}
-use Rattle.xl_model.specs.declared.leaf.Leaf.{Leaf}
-use Rattle.std.proofs.lemmas.List.Edits.{map_over_more}
-use Rattle.xl_curve.specs.Places.{place_without}
+use Rattle.xl_curve.proofs.Common.{◌<◌, ◌∙◌, ◌≡◌, ap, arith, get_or, get_or_default, Leaf, length, List, map, map_over_more, Option, place_without, set}
 use Rattle.xl_curve.proofs.SetLemmas.{thinned_kept}
 use Rattle.xl_curve.proofs.sets.remove_from_each.Goals as goal
 

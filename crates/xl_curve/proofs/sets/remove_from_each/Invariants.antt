@@ -1,8 +1,4 @@
-use Rattle.std.proofs.Common.{◌≡◌, ◌++◌, map, take, drop}
-use Rattle.std.specs.Fn.{FnReturnsAt}
-use Rattle.xl_curve.specs.Places.{place_without}
-use Rattle.xl_curve.specs.Views.{IsCurve}
-use Rattle.xl_recency.specs.Lists.{IsTest}
+use Rattle.xl_curve.proofs.Common.{◌++◌, ◌≡◌, drop, FnReturnsAt, IsCurve, IsTest, map, place_without, take}
 use Rattle.xl_curve.proofs.sets.remove_from_each.Given as goal
 
 abbrev pub invariant-loop-stack : goal.invariant-loop-stack

@@ -1,4 +1,4 @@
-use Rattle.std.proofs.Common.{◌≡◌, ◌≤◌, ◌+◌, ◌*◌, length, drop}
+use Rattle.std.proofs.Common.{◌*◌, ◌+◌, ◌≡◌, ◌≤◌, drop, length}
 use Rattle.xl_model.specs.Lines.{with_rest}
 use Rattle.xl_curve_line.proofs.line.rest.Given as goal
 

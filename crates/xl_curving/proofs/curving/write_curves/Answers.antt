@@ -1,6 +1,4 @@
-use Rattle.std.proofs.Common.{◌+◌, ◌<◌, ◌≤◌, length, arith, true, false, inr}
-use Rattle.std.proofs.lemmas.Bool.Decides.{nat_tests}
-use Rattle.xl_model.specs.Rows.{row_of}
+use Rattle.xl_curving.proofs.Common.{◌+◌, ◌<◌, ◌≤◌, arith, false, inr, length, nat_tests, row_of, true}
 use Rattle.xl_curving.proofs.LineLemmas.{line-written, lines-cut, lines-written, nth-is}
 use Rattle.xl_curving.proofs.curving.write_curves.Goals as goal
 

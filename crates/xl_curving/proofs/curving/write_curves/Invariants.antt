@@ -1,6 +1,4 @@
-use Rattle.std.proofs.Common.{true, take}
-use Rattle.xl_outside.specs.Sinks.{SinkAfter}
-use Rattle.xl_curving.specs.Curving.{curve_lines}
+use Rattle.xl_curving.proofs.Common.{curve_lines, SinkAfter, take, true}
 use Rattle.xl_curving.proofs.curving.write_curves.Given as goal
 
 abbrev pub invariant-loop-i : goal.invariant-loop-i

@@ -1,12 +1,5 @@
-use Rattle.std.proofs.Common.{◌≡◌, refl, subst}
-use Rattle.std.specs.Prelude.{Ok, Err, IfSome}
-use Rattle.xl_course.specs.Accounts.{Ends}
-use Rattle.xl_course.proofs.ToldLemmas.{told_one, told_then, is_err_by}
-use Rattle.xl_words.specs.Words.{AskedPlain, plain_of}
-use Rattle.xl_serving.specs.Inputs.{Finds, trail_for}
-use Rattle.xl_serving.specs.Plain.{start_of, rows_by, rows_from, plain_start}
+use Rattle.xl_curving.proofs.Common.{◌≡◌, AskedPlain, curves_by, curves_from, Ends, Err, Finds, IfSome, is_err_by, Ok, plain_of, plain_start, refl, rows_by, rows_from, start_of, subst, told_one, told_then, trail_for}
 use Rattle.xl_serving.proofs.EndLemmas.{stopped_ends}
-use Rattle.xl_curving.specs.Curving.{curves_by, curves_from}
 use Rattle.xl_curving.proofs.EndLemmas.{started}
 use Rattle.xl_curving.proofs.running.report.Goals as goal
 

@@ -1,14 +1,5 @@
-use Rattle.std.proofs.Common.{◌≡◌, false}
-use Rattle.xl_course.specs.Meanings.{states_after}
-use Rattle.xl_course.specs.Courses.{course}
-use Rattle.xl_course.specs.Accounts.{account, Ends}
-use Rattle.xl_course.proofs.ToldLemmas.{told_one}
-use Rattle.xl_words.specs.Words.{plain_of}
-use Rattle.xl_serving.specs.Inputs.{trail_for}
-use Rattle.xl_serving.specs.Plain.{steps_of}
-use Rattle.xl_serving.proofs.PlainLemmas.{can-script}
-use Rattle.xl_curving.specs.Curving.{curved, curve_scene_of, curves_text, curves_waited}
-use Rattle.xl_curving.proofs.EndLemmas.{fresh, course-ends}
+use Rattle.xl_curving.proofs.Common.{◌≡◌, account, can-script, course, curve_scene_of, curved, curves_text, curves_waited, Ends, false, plain_of, states_after, steps_of, told_one, trail_for}
+use Rattle.xl_curving.proofs.EndLemmas.{course-ends, fresh}
 use Rattle.xl_curving.proofs.running.report_from.Goals as goal
 
 pub report-requires-clause-can : goal.report-requires-clause-can

@@ -1,7 +1,6 @@
-use Rattle.std.proofs.Common.{rules, sym, ◌∙◌}
-use Rattle.std.proofs.lemmas.Bool.{false≢true}
-use Rattle.xl_frames.proofs.SetLemmas.{settled_left, past_none, as_free}
-use Rattle.xl_frames.proofs.blocks.settle.Goals.{else-block-count-via-then-block-count+else-are_free, else-block-count-via-else-block-count}
+use Rattle.xl_frames.proofs.Common.{◌∙◌, false≢true, rules, sym}
+use Rattle.xl_frames.proofs.SetLemmas.{as_free, past_none, settled_left}
+use Rattle.xl_frames.proofs.blocks.settle.Goals.{else-block-count-via-else-block-count, else-block-count-via-then-block-count+else-are_free}
 use Rattle.xl_frames.proofs.blocks.settle.Goals as goal
 
 pub returns-else-block-count : goal.returns-else-block-count

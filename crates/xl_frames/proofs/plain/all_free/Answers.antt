@@ -1,4 +1,4 @@
-use Rattle.std.proofs.Common.{◌≡◌, ℕ, ◌+◌, ◌-◌, false, get_or, ◌∙◌, ap, arith, rules}
+use Rattle.xl_frames.proofs.Common.{◌+◌, ◌-◌, ◌∙◌, ◌≡◌, ap, arith, false, get_or, rules, ℕ}
 use Rattle.xl_frames.proofs.plain.all_free.Goals as goal
 
 pub returns : goal.returns

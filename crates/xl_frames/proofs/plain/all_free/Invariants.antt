@@ -1,5 +1,4 @@
-use Rattle.std.proofs.Common.{◌≡◌, ℕ, ◌+◌, ◌<◌, true, false}
-use Rattle.std.specs.Prelude.{slice_index_or}
+use Rattle.xl_frames.proofs.Common.{◌+◌, ◌<◌, ◌≡◌, false, get_or as slice_index_or, true, ℕ}
 use Rattle.xl_frames.proofs.plain.all_free.Given as goal
 
 abbrev pub invariant-loop-i : goal.invariant-loop-i

@@ -1,4 +1,4 @@
-use Rattle.std.proofs.Common.{length}
+use Rattle.xl_frames.proofs.Common.{length}
 use Rattle.xl_frames.proofs.BlockLemmas.{block_fits, lowest_found}
 use Rattle.xl_frames.proofs.plain.lowest.Goals as goal
 

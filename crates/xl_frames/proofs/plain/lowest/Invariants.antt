@@ -1,5 +1,4 @@
-use Rattle.std.proofs.Common.{ℕ, ◌*◌, ◌<◌}
-use Rattle.xl_frames.specs.Pool.{IsFree}
+use Rattle.xl_frames.proofs.Common.{◌*◌, ◌<◌, IsFree, ℕ}
 use Rattle.xl_frames.proofs.plain.lowest.Given as goal
 
 abbrev pub invariant-loop-block : goal.invariant-loop-block

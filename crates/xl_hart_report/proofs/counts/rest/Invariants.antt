@@ -1,4 +1,4 @@
-use Rattle.std.proofs.Common.{◌≡◌, ◌≤◌, ◌+◌, ◌*◌, length, drop}
+use Rattle.std.proofs.Common.{◌*◌, ◌+◌, ◌≡◌, ◌≤◌, drop, length}
 use Rattle.xl_model.specs.Lines.{with_rest}
 use Rattle.xl_hart_report.proofs.counts.rest.Given as goal
 

@@ -1,8 +1,8 @@
-use Rattle.std.proofs.Common.{sym, ap, ◌∙◌, Option}
+use Rattle.std.proofs.Common.{◌∙◌, ap, Option, sym}
 use Rattle.xl_hart_model.specs.declared.hart.HartSpec.{HartSpec}
 use Rattle.xl_script.specs.Scripts.{text_read}
-use Rattle.xl_hart_script.specs.Scripts.{harts_said}
 use Rattle.xl_hart_script.proofs.ReadyLemmas.{script-keeps}
+use Rattle.xl_hart_script.specs.Scripts.{harts_said}
 use Rattle.xl_hart_script.proofs.script.parse_harts.Goals as goal
 
 pub invariant_of-result : goal.invariant_of-result

@@ -1,7 +1,6 @@
-use Rattle.std.proofs.Common.{◌<◌, length, arith}
+use Rattle.xl_harting.proofs.Common.{◌<◌, arith, length, opening_hart}
 use Rattle.std.proofs.lemmas.Bool.Decides.{nat_tests}
-use Rattle.xl_hart_model.specs.Harts.{opening_hart}
-use Rattle.xl_harting.proofs.CountLemmas.{lines_next, lines_lost}
+use Rattle.xl_harting.proofs.CountLemmas.{lines_lost, lines_next}
 use Rattle.xl_harting.proofs.ending.write_each.Goals as goal
 
 pub returns-in-Err : goal.returns-in-Err

@@ -1,6 +1,4 @@
-use Rattle.std.proofs.Common.{true, take}
-use Rattle.xl_outside.specs.Sinks.{SinkAfter}
-use Rattle.xl_harting.specs.Harting.{counts_lines}
+use Rattle.xl_harting.proofs.Common.{counts_lines, SinkAfter, take, true}
 use Rattle.xl_harting.proofs.ending.write_each.Given as goal
 
 abbrev pub invariant-loop-hart : goal.invariant-loop-hart

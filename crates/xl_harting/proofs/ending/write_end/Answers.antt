@@ -1,8 +1,4 @@
-use Rattle.std.specs.Prelude.{is_ok}
-use Rattle.xl_outside.proofs.SinkLemmas.{sink_then}
-use Rattle.xl_hart_model.specs.Harts.{all_counts}
-use Rattle.xl_hart_report.specs.Lines.{all_counts_line}
-use Rattle.xl_harting.specs.Harting.{counts_lines}
+use Rattle.xl_harting.proofs.Common.{all_counts, all_counts_line, counts_lines, is_ok, sink_then}
 use Rattle.xl_harting.proofs.ending.write_end.Goals as goal
 
 pub returns-in-Ok : goal.returns-in-Ok

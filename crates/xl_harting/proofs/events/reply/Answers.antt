@@ -1,5 +1,4 @@
-use Rattle.std.proofs.Common.{◌∙◌, sym, subst}
-use Rattle.xl_model.specs.declared.leaf.Reply.{Reply}
+use Rattle.xl_harting.proofs.Common.{◌∙◌, Reply, subst, sym}
 use Rattle.xl_model.specs.Tally.{IsSmall}
 use Rattle.xl_harting.proofs.EventLemmas.{access_outcome, replied}
 use Rattle.xl_harting.proofs.events.reply.Goals as goal

@@ -1,4 +1,4 @@
-use Rattle.std.proofs.Common.{◌∙◌}
+use Rattle.xl_harting.proofs.Common.{◌∙◌}
 use Rattle.xl_harting.proofs.EventLemmas.{accesses-served}
 use Rattle.xl_harting.proofs.events.serve_accesses.Goals as goal
 

@@ -1,5 +1,4 @@
-use Rattle.xl_paired.proofs.PairLemmas.{served_more}
-use Rattle.xl_harting.specs.Harting.{event_at, harts_form}
+use Rattle.xl_harting.proofs.Common.{event_at, harts_form, served_more}
 use Rattle.xl_harting.proofs.events.serve_events.Goals as goal
 
 pub loop-i-preserved : goal.loop-i-preserved

@@ -1,7 +1,4 @@
-use Rattle.std.proofs.Common.{◌≡◌, map}
-use Rattle.xl_course.specs.Meanings.{states_after}
-use Rattle.xl_paired.specs.Pairs.{Command, events_from, meaning_of}
-use Rattle.xl_harting.specs.Harting.{event_at, harts_form}
+use Rattle.xl_harting.proofs.Common.{◌≡◌, Command, event_at, events_from, harts_form, map, meaning_of, states_after}
 use Rattle.xl_harting.proofs.events.serve_events.Given as goal
 
 abbrev pub invariant-loop-i : goal.invariant-loop-i

@@ -1,13 +1,5 @@
-use Rattle.std.proofs.Common.{◌≡◌}
-use Rattle.std.specs.Prelude.{Some, Ok, Err}
-use Rattle.xl_course.specs.Accounts.{Ends}
-use Rattle.xl_course.proofs.ToldLemmas.{told_one, told_then, is_err_by}
-use Rattle.xl_hart_script.specs.Scripts.{HartText, harts_script_of}
+use Rattle.xl_harting.proofs.Common.{◌≡◌, account_from, Ends, Err, Finds, harts_account, harts_form, harts_left, harts_script_of, HartText, is_err_by, Ok, script_in, served_ends, Some, state_from, stopped_ends, told_one, told_then, trail_in}
 use Rattle.xl_words.specs.Words.{pair_of}
-use Rattle.xl_serving.specs.Inputs.{Finds, trail_in}
-use Rattle.xl_paired.specs.Pairs.{account_from, state_from, script_in}
-use Rattle.xl_paired.proofs.PairLemmas.{served_ends, stopped_ends}
-use Rattle.xl_harting.specs.Harting.{harts_form, harts_account, harts_left}
 use Rattle.xl_harting.proofs.running.report.Goals as goal
 
 pub returns-clause-told : goal.returns-clause-told

@@ -1,15 +1,7 @@
-use Rattle.std.proofs.Common.{◌≡◌, ◌∙◌, ap, false}
-use Rattle.std.specs.Prelude.{Some, Ok}
+use Rattle.xl_harting.proofs.Common.{◌∙◌, ◌≡◌, account, ap, course_ends, course_of, Ends, false, harts_form, meaning_of, Ok, Some, states_after, told_one, trail_in}
 use Rattle.xl_outside.specs.Folders.{file_of}
-use Rattle.xl_course.specs.Meanings.{states_after}
-use Rattle.xl_course.specs.Accounts.{account, Ends}
-use Rattle.xl_course.proofs.ToldLemmas.{told_one}
-use Rattle.xl_serving.specs.Inputs.{trail_in}
-use Rattle.xl_serving.specs.Traces.{trail_of, left_of}
 use Rattle.xl_serving.specs.Tapes.{IsFedFrom}
-use Rattle.xl_paired.specs.Pairs.{meaning_of, course_of}
-use Rattle.xl_paired.proofs.PairLemmas.{course_ends}
-use Rattle.xl_harting.specs.Harting.{harts_form}
+use Rattle.xl_serving.specs.Traces.{left_of, trail_of}
 use Rattle.xl_harting.proofs.running.report_orders.Goals as goal
 
 pub returns-clause-told : goal.returns-clause-told

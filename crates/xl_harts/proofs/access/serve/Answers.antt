@@ -1,7 +1,6 @@
-use Rattle.std.proofs.Common.{◌∙◌, sym, arith}
-use Rattle.xl_radix_walk.specs.Row.{row_table}
+use Rattle.xl_harts.proofs.Common.{◌∙◌, arith, row_table, sym}
+use Rattle.xl_harts.proofs.AccessLemmas.{access-refused, access-seen, access-walked, seen-valid}
 use Rattle.xl_harts.proofs.RefusalLemmas.{page-small}
-use Rattle.xl_harts.proofs.AccessLemmas.{seen-valid, access-refused, access-seen, access-walked}
 use Rattle.xl_harts.proofs.access.serve.Goals as goal
 
 pub returns-then-not-canonical : goal.returns-then-not-canonical

@@ -1,8 +1,6 @@
-use Rattle.std.proofs.Common.{◌≡◌, ◌+◌, ◌<◌, List, ◌∷◌, subst, length, drop, get_or, drop-cons, add-one, arith}
-use Rattle.xl_lackey.specs.declared.skim.Access.{Access}
-use Rattle.xl_model.specs.declared.address.Kind.TheVariants as kinds
-use Rattle.xl_radix_walk.specs.Row.{row_table}
+use Rattle.xl_harts.proofs.Common.{◌+◌, ◌<◌, ◌∷◌, ◌≡◌, Access, add-one, arith, drop, drop-cons, get_or, length, List, row_table, subst}
 use Rattle.xl_harts.proofs.ServeLemmas.{IsOnTheWay, served-now, way-goes-on}
+use Rattle.xl_model.specs.declared.address.Kind.TheVariants as kinds
 use Rattle.xl_harts.proofs.access.serve_each.Goals as goal
 
 pub serve-last-requires : goal.serve-last-requires

@@ -1,7 +1,4 @@
-use Rattle.std.proofs.Common.{drop}
-use Rattle.xl_hart_model.specs.Harts.{HartsState}
-use Rattle.xl_radix_walk.specs.Row.{row_table}
-use Rattle.xl_harts.specs.Views.{IsCurrent}
+use Rattle.xl_harts.proofs.Common.{drop, HartsState, IsCurrent, row_table}
 use Rattle.xl_harts.proofs.ServeLemmas.{IsOnTheWay}
 use Rattle.xl_harts.proofs.access.serve_each.Given as goal
 

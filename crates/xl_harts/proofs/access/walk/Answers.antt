@@ -1,10 +1,8 @@
-use Rattle.std.proofs.Common.{refl, sym, Some, arith}
+use Rattle.xl_harts.proofs.Common.{arith, refl, row_table, Some, sym, Walk}
 use Rattle.xl_model.specs.LeafWords.{small_leaf}
-use Rattle.xl_model.specs.declared.work.Walk.{Walk}
-use Rattle.xl_radix_walk.specs.Row.{row_table}
 use Rattle.xl_tlb.proofs.PageLemmas.{small_says}
+use Rattle.xl_harts.proofs.AccessLemmas.{found-fit, found-reached, found-valid, walk-leaf, walked-by}
 use Rattle.xl_harts.proofs.RefusalLemmas.{page-here, page-small}
-use Rattle.xl_harts.proofs.AccessLemmas.{found-valid, walk-leaf, walked-by, found-fit, found-reached}
 use Rattle.xl_harts.proofs.access.walk.Goals as goal
 
 pub quick_walk-requires : goal.quick_walk-requires

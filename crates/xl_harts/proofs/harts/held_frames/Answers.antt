@@ -1,7 +1,4 @@
-use Rattle.std.proofs.Common.{List, ap, arith}
-use Rattle.xl_hart_model.specs.declared.hart.Request.{Request}
-use Rattle.xl_hart_model.specs.Tally.{frames_in}
-use Rattle.xl_hart_model.specs.Requests.{held_leaves}
+use Rattle.xl_harts.proofs.Common.{ap, arith, frames_in, held_leaves, List, Request}
 use Rattle.xl_harts.proofs.StepLemmas.{held-append}
 use Rattle.xl_harts.proofs.harts.held_frames.Goals as goal
 

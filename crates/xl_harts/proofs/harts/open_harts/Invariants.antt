@@ -1,5 +1,4 @@
-use Rattle.std.proofs.Common.{◌≡◌, replicate}
-use Rattle.xl_hart_model.specs.Harts.{opening_hart}
+use Rattle.xl_harts.proofs.Common.{◌≡◌, opening_hart, replicate}
 use Rattle.xl_harts.proofs.harts.open_harts.Given as goal
 
 abbrev pub invariant-opened : goal.invariant-opened

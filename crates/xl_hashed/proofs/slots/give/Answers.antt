@@ -1,10 +1,6 @@
-use Rattle.std.proofs.Common.{◌≡◌, sym, ap, ◌∙◌, subst, lit<, arith}
+use Rattle.xl_hashed.proofs.Common.{◌∙◌, ◌≡◌, ap, arith, ChainState, entry-held, given_word, IsSet, lit<, not-held, One, set-slot, subst, sym, values_under, word-first, word_at, word_found}
 use Rattle.xl_model_lemmas.proofs.SameLemmas.{both}
-use Rattle.xl_chain.specs.Held.{ChainState}
-use Rattle.xl_tagged.specs.Forms.{One, values_under, word_at}
-use Rattle.xl_tagged.specs.Steps.{IsSet, word_found, given_word}
-use Rattle.xl_tagged.proofs.ChainLemmas.{IsUnderTag, found-under}
-use Rattle.xl_tagged.proofs.StepLemmas.{word-first, entry-held, not-held, set-slot}
+use Rattle.xl_tagged.proofs.ChainLemmas.{found-under, IsUnderTag}
 use Rattle.xl_hashed.proofs.slots.give.Goals as goal
 
 pub set_value-requires : goal.set_value-requires

@@ -1,6 +1,4 @@
-use Rattle.std.proofs.Common.{arith}
-use Rattle.xl_tagged.specs.Forms.{One}
-use Rattle.xl_tagged.proofs.StepLemmas.{removed-taken}
+use Rattle.xl_hashed.proofs.Common.{arith, One, removed-taken}
 use Rattle.xl_hashed.proofs.slots.take.Goals as goal
 
 pub returns : goal.returns

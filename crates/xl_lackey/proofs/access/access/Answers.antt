@@ -1,4 +1,4 @@
-use Rattle.std.proofs.Common.{arith, sym}
+use Rattle.xl_lackey.proofs.Common.{arith, sym}
 use Rattle.xl_lackey.proofs.AccessLemmas.{get_later, get_none}
 use Rattle.xl_lackey.proofs.access.access.Goals as goal
 

@@ -1,5 +1,4 @@
-use Rattle.std.proofs.Common.{arith, ◌∙◌}
-use Rattle.xl_model.specs.declared.address.Kind.TheVariants.{Load, Store}
+use Rattle.xl_lackey.proofs.Common.{◌∙◌, arith, Load, Store}
 use Rattle.xl_lackey.proofs.AccessLemmas.{get_first_going, get_second_going}
 use Rattle.xl_lackey.proofs.access.nth_access.Goals as goal
 

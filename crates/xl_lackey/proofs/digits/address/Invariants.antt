@@ -1,5 +1,4 @@
-use Rattle.std.proofs.Common.{◌≡◌, ◌≤◌, ◌<◌, ◌^◌, drop}
-use Rattle.xl_lackey.specs.Lines.{address_in}
+use Rattle.xl_lackey.proofs.Common.{◌<◌, ◌^◌, ◌≡◌, ◌≤◌, address_in, drop}
 use Rattle.xl_lackey.proofs.AddressLemmas.{hex_at}
 use Rattle.xl_lackey.proofs.digits.address.Given as goal
 

@@ -1,6 +1,4 @@
-use Rattle.std.proofs.Common.{◌≡◌, ℕ, bit_and, replicate, ap, ap₂, sym, ◌∙◌, arith}
-use Rattle.std.proofs.lemmas.Bool.Decides.{nat_tests}
-use lib.Lanes.{number_l}
+use Rattle.xl_lackey.proofs.Common.{◌∙◌, ◌≡◌, ap, ap₂, arith, bit_and, nat_tests, number_l, replicate, sym, ℕ}
 use Rattle.xl_lackey.proofs.LaneLemmas.{halves_clear}
 use Rattle.xl_lackey.proofs.digits.are_digits.Goals as goal
 

@@ -1,6 +1,4 @@
-use Rattle.std.proofs.Common.{◌≡◌, drop}
-use Rattle.xl_text.specs.Texts.{is_blank}
-use Rattle.xl_lackey.specs.Lines.{after}
+use Rattle.xl_lackey.proofs.Common.{◌≡◌, after, drop, is_blank}
 use Rattle.xl_lackey.proofs.digits.count_blanks.Given as goal
 
 abbrev pub invariant-loop-at : goal.invariant-loop-at

@@ -1,4 +1,4 @@
-use Rattle.std.proofs.Common.{arith}
+use Rattle.xl_lackey.proofs.Common.{arith}
 use Rattle.xl_lackey.proofs.AddressLemmas.{decimal_small}
 use Rattle.xl_lackey.proofs.digits.decimal.Goals as goal
 

@@ -1,5 +1,4 @@
-use Rattle.std.proofs.Common.{◌≡◌, ◌≤◌, ◌<◌, ◌+◌, ◌^◌, drop, length}
-use Rattle.xl_lackey.specs.Lines.{front, is_digit, decimal_value}
+use Rattle.xl_lackey.proofs.Common.{◌+◌, ◌<◌, ◌^◌, ◌≡◌, ◌≤◌, decimal_value, drop, front, is_digit, length}
 use Rattle.xl_lackey.proofs.digits.decimal.Given as goal
 
 abbrev pub invariant-loop-at : goal.invariant-loop-at

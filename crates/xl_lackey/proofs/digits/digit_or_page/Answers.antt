@@ -1,5 +1,5 @@
-use Rattle.std.proofs.Common.{arith}
-use Rattle.xl_lackey.proofs.TableLemmas.{table_value, digit_most}
+use Rattle.xl_lackey.proofs.Common.{arith}
+use Rattle.xl_lackey.proofs.TableLemmas.{digit_most, table_value}
 use Rattle.xl_lackey.proofs.digits.digit_or_page.Goals as goal
 
 pub returns-clause-value : goal.returns-clause-value

@@ -1,8 +1,5 @@
-use Rattle.std.proofs.Common.{take, ap, sym, subst, ◌∙◌, w8, ◌<◌, ℕ, List}
-use lib.Lanes.{Each1}
+use Rattle.xl_lackey.proofs.Common.{◌<◌, ◌∙◌, ap, Each1, List, number_of, Some, subst, sym, take, w8, ℕ}
 use Rattle.std.proofs.lemmas.Simd.{chunk-fits}
-use Rattle.std.specs.Prelude.{Some}
-use Rattle.xl_lackey.specs.Lanes.{number_of}
 use Rattle.xl_lackey.proofs.LaneLemmas.{lanes_number}
 use Rattle.xl_lackey.proofs.digits.eight_digits.Goals as goal
 

@@ -1,5 +1,4 @@
-use Rattle.std.proofs.Common.{◌<◌, ◌≤◌, arith}
-use Rattle.std.proofs.lemmas.Bool.Decides.{nat_tests}
+use Rattle.xl_lackey.proofs.Common.{◌<◌, ◌≤◌, arith, nat_tests}
 use Rattle.xl_lackey.proofs.TableLemmas.{digit_read, digit_refused}
 use Rattle.xl_lackey.proofs.digits.hex_digit.Goals as goal
 

@@ -1,4 +1,4 @@
-use Rattle.std.proofs.Common.{◌+◌, ◌*◌, arith}
+use Rattle.xl_lackey.proofs.Common.{◌*◌, ◌+◌, arith}
 use Rattle.xl_lackey.proofs.NearLineLemmas.{comma_at, digit_more}
 use Rattle.xl_lackey.proofs.digits.near_address.Goals as goal
 

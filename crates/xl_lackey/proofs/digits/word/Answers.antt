@@ -1,4 +1,4 @@
-use Rattle.std.proofs.Common.{arith}
+use Rattle.xl_lackey.proofs.Common.{arith}
 use Rattle.xl_lackey.proofs.LaneLemmas.{word_small}
 use Rattle.xl_lackey.proofs.digits.word.Goals as goal
 

@@ -1,6 +1,4 @@
-use Rattle.std.proofs.Common.{arith}
-use Rattle.std.proofs.lemmas.List.Elements.{All-from_get_or, All-set}
-use Rattle.xl_lackey.specs.Pages.{IsPage}
+use Rattle.xl_lackey.proofs.Common.{All-from_get_or, All-set, arith, IsPage}
 use Rattle.xl_lackey.proofs.PageLemmas.{IsByte, page_kept}
 use Rattle.xl_lackey.proofs.pages.keep_page.Goals as goal
 

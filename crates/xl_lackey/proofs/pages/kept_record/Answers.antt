@@ -1,11 +1,4 @@
-use Rattle.std.proofs.Common.{◌≡◌, ◌+◌, ◌-◌, ℕ, [], ◌∷◌, inl, inr, refl, sym, ◌∙◌, subst, get_or, arith}
-use Rattle.std.proofs.lemmas.List.{take_rest}
-use Rattle.std.proofs.lemmas.List.Elements.{All-from_get_or, All-get_or}
-use Rattle.xl_model.specs.declared.address.Kind.TheVariants.{Fetch}
-use Rattle.xl_lackey.specs.declared.pages.Page.{Page}
-use Rattle.xl_lackey.specs.declared.skim.Access.{Access}
-use Rattle.xl_lackey.specs.Pages.{IsPage}
-use Rattle.xl_lackey.specs.Skims.{IsRecordLine}
+use Rattle.xl_lackey.proofs.Common.{◌+◌, ◌-◌, ◌∙◌, ◌∷◌, ◌≡◌, [], Access, All-from_get_or, All-get_or, arith, Fetch, get_or, inl, inr, IsPage, IsRecordLine, Page, refl, subst, sym, take_rest, ℕ}
 use Rattle.xl_lackey.proofs.PageLemmas.{IsByte, kept_line}
 use Rattle.xl_lackey.proofs.pages.kept_record.Goals as goal
 

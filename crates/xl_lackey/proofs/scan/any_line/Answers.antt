@@ -1,6 +1,5 @@
-use Rattle.std.proofs.Common.{sym, ap, ◌∙◌, ◌+◌, drop, arith}
-use Rattle.std.specs.Prelude.{Some}
-use Rattle.xl_lackey.proofs.SplitLemmas.{line_some, line_none}
+use Rattle.xl_lackey.proofs.Common.{◌+◌, ◌∙◌, ap, arith, drop, Some, sym}
+use Rattle.xl_lackey.proofs.SplitLemmas.{line_none, line_some}
 use Rattle.xl_lackey.proofs.scan.any_line.Goals as goal
 
 pub returns-in-Some-clause-some : goal.returns-in-Some-clause-some

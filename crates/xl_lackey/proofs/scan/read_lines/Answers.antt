@@ -1,9 +1,5 @@
-use Rattle.std.proofs.Common.{◌≡◌, ◌+◌, drop, arith, sym, ap, ◌∙◌, refl, length-drop}
-use Rattle.std.specs.Prelude.{None}
-use Rattle.xl_text.specs.Texts.{ended_lines}
-use Rattle.xl_lackey.specs.Lines.{parted}
-use Rattle.xl_lackey.specs.Stream.{first_due, next_line}
-use Rattle.xl_lackey.proofs.SplitLemmas.{IsFirst, first_is, none_is, due_step, records_step, due_found, ended_none, on_from}
+use Rattle.xl_lackey.proofs.Common.{◌+◌, ◌∙◌, ◌≡◌, ap, arith, drop, ended_lines, first_due, length-drop, next_line, None, parted, refl, sym}
+use Rattle.xl_lackey.proofs.SplitLemmas.{due_found, due_step, ended_none, first_is, IsFirst, none_is, on_from, records_step}
 use Rattle.xl_lackey.proofs.scan.read_lines.Goals as goal
 
 pub loop-count-preserved : goal.loop-count-preserved

@@ -1,6 +1,4 @@
-use Rattle.std.proofs.Common.{◌≡◌, ◌≤◌, ◌-◌, ◌++◌, Bool, List, ℕ, drop, length}
-use Rattle.xl_text.specs.Texts.{lines_by, ended_lines}
-use Rattle.xl_lackey.specs.Stream.{first_due, records}
+use Rattle.xl_lackey.proofs.Common.{◌++◌, ◌-◌, ◌≡◌, ◌≤◌, Bool, drop, ended_lines, first_due, length, lines_by, List, records, ℕ}
 use Rattle.xl_lackey.proofs.scan.read_lines.Given as goal
 
 abbrev pub invariant-loop-count : goal.invariant-loop-count

@@ -1,4 +1,4 @@
-use Rattle.xl_model.specs.declared.address.Kind.TheVariants.{Store}
+use Rattle.xl_lackey.proofs.Common.{Store}
 use Rattle.xl_lackey.proofs.SkimLemmas.{put_both, put_first}
 use Rattle.xl_lackey.proofs.skim.put_near.Goals as goal
 

@@ -1,8 +1,5 @@
-use Rattle.std.proofs.Common.{◌≡◌, ◌+◌, ◌-◌, ◌<◌, [], ◌∷◌, ◌++◌, List, ℕ, length, length-set, length-take, take, set, ap, sym, subst, ◌∙◌, arith}
-use Rattle.std.proofs.lemmas.List.{take_rest, take_more_set}
-use Rattle.xl_lackey.specs.declared.skim.Access.{Access}
-use Rattle.xl_lackey.specs.Skims.{IsRecordLine, IsSure, Skims, skim_at}
-use Rattle.xl_lackey.proofs.SkimLemmas.{skim_none, skim_more, sure_less}
+use Rattle.xl_lackey.proofs.Common.{◌++◌, ◌+◌, ◌-◌, ◌<◌, ◌∙◌, ◌∷◌, ◌≡◌, [], Access, ap, arith, IsRecordLine, IsSure, length, length-set, length-take, List, set, skim_at, Skims, subst, sym, take, take_more_set, take_rest, ℕ}
+use Rattle.xl_lackey.proofs.SkimLemmas.{skim_more, skim_none, sure_less}
 use Rattle.xl_lackey.proofs.skim.skim_kept.Goals as goal
 
 pub kept-init : goal.kept-init

@@ -1,5 +1,4 @@
-use Rattle.std.proofs.Common.{◌≡◌, ◌+◌, ◌-◌, ◌≤◌, length, take}
-use Rattle.xl_lackey.specs.Skims.{batch_size, IsSure, Runs}
+use Rattle.xl_lackey.proofs.Common.{◌+◌, ◌-◌, ◌≡◌, ◌≤◌, batch_size, IsSure, length, Runs, take}
 use Rattle.xl_lackey.proofs.skim.skim_kept.Given as goal
 
 abbrev pub invariant-kept : goal.invariant-kept

@@ -1,7 +1,4 @@
-use Rattle.std.proofs.Common.{List, ℕ, ap, subst, arith}
-use Rattle.std.proofs.lemmas.List.{take_rest}
-use Rattle.xl_lackey.specs.declared.skim.Skim.{Skim}
-use Rattle.xl_lackey.specs.Skims.{Skims}
+use Rattle.xl_lackey.proofs.Common.{ap, arith, List, Skim, Skims, subst, take_rest, ℕ}
 use Rattle.xl_lackey.proofs.SkimLemmas.{skim_start, skim_then}
 use Rattle.xl_lackey.proofs.skim.skim_lines.Goals as goal
 

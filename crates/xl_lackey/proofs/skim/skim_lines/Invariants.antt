@@ -1,5 +1,4 @@
-use Rattle.std.proofs.Common.{◌-◌, ◌≤◌}
-use Rattle.xl_lackey.specs.Skims.{Skims}
+use Rattle.xl_lackey.proofs.Common.{◌-◌, ◌≤◌, Skims}
 use Rattle.xl_lackey.proofs.skim.skim_lines.Given as goal
 
 abbrev pub invariant-skim : goal.invariant-skim

@@ -1,8 +1,5 @@
-use Rattle.std.proofs.Common.{◌+◌, List, ℕ, length-drop, take, sym, subst, ◌∙◌, arith}
-use Rattle.std.proofs.lemmas.List.{take_rest}
-use Rattle.xl_lackey.specs.declared.skim.Access.{Access}
-use Rattle.xl_lackey.specs.Skims.{IsRecordLine, Skims, read_of, skim_at}
-use Rattle.xl_lackey.proofs.SkimLemmas.{skim_none, skim_more}
+use Rattle.xl_lackey.proofs.Common.{◌+◌, ◌∙◌, Access, arith, IsRecordLine, length-drop, List, read_of, skim_at, Skims, subst, sym, take, take_rest, ℕ}
+use Rattle.xl_lackey.proofs.SkimLemmas.{skim_more, skim_none}
 use Rattle.xl_lackey.proofs.skim.skim_plain.Goals as goal
 
 pub plain-init : goal.plain-init

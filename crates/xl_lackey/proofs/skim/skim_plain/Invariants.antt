@@ -1,5 +1,4 @@
-use Rattle.std.proofs.Common.{◌≡◌, ◌-◌, ◌≤◌, length, take}
-use Rattle.xl_lackey.specs.Skims.{batch_size, Runs}
+use Rattle.xl_lackey.proofs.Common.{◌-◌, ◌≡◌, ◌≤◌, batch_size, length, Runs, take}
 use Rattle.xl_lackey.proofs.skim.skim_plain.Given as goal
 
 abbrev pub invariant-plain : goal.invariant-plain

@@ -1,6 +1,4 @@
-use Rattle.std.proofs.Common.{List, ℕ, subst, arith}
-use Rattle.std.proofs.lemmas.List.{take_rest}
-use Rattle.xl_lackey.specs.Skims.{Skims, skim_at}
+use Rattle.xl_lackey.proofs.Common.{arith, List, skim_at, Skims, subst, take_rest, ℕ}
 use Rattle.xl_lackey.proofs.SkimLemmas.{skim_then}
 use Rattle.xl_lackey.proofs.skim.skim_some.Goals as goal
 

@@ -1,6 +1,4 @@
-use Rattle.std.proofs.Common.{◌+◌, sym, subst}
-use Rattle.xl_lackey.specs.declared.line.Verdict.TheVariants.{Found}
-use Rattle.xl_lackey.specs.Scans.{IsFirstLine}
+use Rattle.xl_lackey.proofs.Common.{◌+◌, Found, IsFirstLine, subst, sym}
 use Rattle.xl_lackey.proofs.usual.near_line.Goals as goal
 
 pub returns : goal.returns

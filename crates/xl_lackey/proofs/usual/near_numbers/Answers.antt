@@ -1,5 +1,5 @@
-use Rattle.std.proofs.Common.{◌+◌, refl, arith}
-use Rattle.xl_lackey.proofs.NearLineLemmas.{numbers_at, comma_at}
+use Rattle.xl_lackey.proofs.Common.{◌+◌, arith, refl}
+use Rattle.xl_lackey.proofs.NearLineLemmas.{comma_at, numbers_at}
 use Rattle.xl_lackey.proofs.usual.near_numbers.Goals as goal
 
 pub returns-then-stays_in_page-clause-numbers : goal.returns-then-stays_in_page-clause-numbers

@@ -1,5 +1,4 @@
-use Rattle.std.proofs.Common.{◌+◌, ◌-◌, arith}
-use Rattle.std.proofs.lemmas.List.{take_rest}
+use Rattle.xl_lackey.proofs.Common.{◌+◌, ◌-◌, arith, take_rest}
 use Rattle.xl_lackey.proofs.NearLineLemmas.{numbers_at}
 use Rattle.xl_lackey.proofs.usual.other_numbers.Goals as goal
 

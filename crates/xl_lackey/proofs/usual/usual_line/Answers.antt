@@ -1,5 +1,4 @@
-use Rattle.std.proofs.lemmas.List.{take_rest}
-use Rattle.std.proofs.Common.{rules, ◌+◌, sym}
+use Rattle.xl_lackey.proofs.Common.{◌+◌, rules, sym, take_rest}
 use Rattle.xl_lackey.proofs.OwnFormLemmas.{own_at}
 use Rattle.xl_lackey.proofs.usual.usual_line.Goals as goal
 

@@ -1,6 +1,4 @@
-use Rattle.std.proofs.Common.{◌≡◌, ◌∙◌, ◌+◌, ◌-◌, ◌/◌, ℕ, List, ap, sym, arith}
-use Rattle.rand_pcg.specs.Lcg.{Lcg}
-use Rattle.xl_made.specs.Made.{word, after, with_unmap, with_unmaps}
+use Rattle.xl_made.proofs.Common.{◌+◌, ◌-◌, ◌/◌, ◌∙◌, ◌≡◌, after, ap, arith, Lcg, List, sym, with_unmap, with_unmaps, word, ℕ}
 use Rattle.xl_made.proofs.MadeLemmas.{next_unmap}
 use Rattle.xl_made.proofs.script.made_script.Goals as goal
 

@@ -1,5 +1,4 @@
-use Rattle.std.proofs.Common.{◌≡◌, ◌-◌, ◌/◌}
-use Rattle.xl_made.specs.Made.{made_script, with_unmaps}
+use Rattle.xl_made.proofs.Common.{◌-◌, ◌/◌, ◌≡◌, made_script, with_unmaps}
 use Rattle.xl_made.proofs.script.made_script.Given as goal
 
 abbrev pub invariant-loop : goal.invariant-loop

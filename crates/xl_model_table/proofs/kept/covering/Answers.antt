@@ -1,6 +1,4 @@
-use Rattle.std.proofs.Common.{◌∙◌, sym, ap, find, arith}
-use Rattle.std.proofs.lemmas.List.{drop_all}
-use Rattle.xl_model.specs.Mapping.{covers}
+use Rattle.xl_model_table.proofs.Common.{◌∙◌, ap, arith, covers, drop_all, find, sym}
 use Rattle.xl_model_table.proofs.ScanLemmas.{find-here, find-past}
 use Rattle.xl_model_table.proofs.kept.covering.Goals as goal
 

@@ -1,5 +1,4 @@
-use Rattle.std.proofs.Common.{◌≡◌, find, drop}
-use Rattle.xl_model.specs.Mapping.{covers}
+use Rattle.xl_model_table.proofs.Common.{◌≡◌, covers, drop, find}
 use Rattle.xl_model_table.proofs.kept.covering.Given as goal
 
 abbrev pub invariant-loop-leaf : goal.invariant-loop-leaf

@@ -1,7 +1,5 @@
-use Rattle.std.proofs.Common.{◌∙◌, sym, ap, ◌++◌, map, take, set, append-nil, arith}
-use Rattle.std.proofs.lemmas.List.{drop_all, take_all}
+use Rattle.xl_model_table.proofs.Common.{◌++◌, ◌∙◌, ap, append-nil, arith, drop_all, given, map, perm-named-is, set, sym, take, take_all}
 use Rattle.std.proofs.lemmas.List.Edits.{map_over_more}
-use Rattle.xl_model_lemmas.proofs.GivenLemmas.{given, perm-named-is}
 use Rattle.xl_model_table.proofs.kept.give_perm.Goals as goal
 
 pub loop-leaf-preserved : goal.loop-leaf-preserved

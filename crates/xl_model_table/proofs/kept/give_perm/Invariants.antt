@@ -1,5 +1,4 @@
-use Rattle.std.proofs.Common.{◌≡◌, ◌++◌, map, take, drop}
-use Rattle.xl_model_lemmas.proofs.GivenLemmas.{given}
+use Rattle.xl_model_table.proofs.Common.{◌++◌, ◌≡◌, drop, given, map, take}
 use Rattle.xl_model_table.proofs.kept.give_perm.Given as goal
 
 abbrev pub invariant-loop-leaf : goal.invariant-loop-leaf

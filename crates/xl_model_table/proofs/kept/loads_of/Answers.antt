@@ -1,8 +1,7 @@
-use Rattle.std.proofs.Common.{◌≡◌, ◌∙◌, ℕ, ◌+◌, ◌≤◌, suc, ap, drop, arith}
-use Rattle.std.proofs.lemmas.List.{drop_all}
-use Rattle.xl_model_table.proofs.ScanLemmas.{searched, searched-here, searched-more, searched-other, searched-none}
+use Rattle.xl_model_table.proofs.Common.{◌+◌, ◌∙◌, ◌≡◌, ◌≤◌, ap, arith, drop, drop_all, suc, ℕ}
+use Rattle.xl_model_table.proofs.ScanLemmas.{searched, searched-here, searched-more, searched-none, searched-other}
+use Rattle.xl_model_table.proofs.kept.loads_of.Goals.{else-bucket_of-bucket, then-bucket_of-bucket+else-other-tag}
 use Rattle.xl_model_table.proofs.kept.loads_of.Goals as goal
-use Rattle.xl_model_table.proofs.kept.loads_of.Goals.{then-bucket_of-bucket+else-other-tag, else-bucket_of-bucket}
 
 sum-one : (m k n : ℕ) → m + k ≡ 1 + n → k ≡ 1 → m + 1 ≡ 1 + n
 sum-one m k n e f = omega arith

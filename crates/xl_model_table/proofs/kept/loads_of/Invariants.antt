@@ -1,4 +1,4 @@
-use Rattle.std.proofs.Common.{◌≡◌, ◌+◌, ◌≤◌, drop}
+use Rattle.xl_model_table.proofs.Common.{◌+◌, ◌≡◌, ◌≤◌, drop}
 use Rattle.xl_model_table.proofs.ScanLemmas.{searched}
 use Rattle.xl_model_table.proofs.kept.loads_of.Given as goal
 

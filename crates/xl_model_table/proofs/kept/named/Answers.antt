@@ -1,6 +1,4 @@
-use Rattle.std.proofs.Common.{◌∙◌, sym, ap, find, arith}
-use Rattle.std.proofs.lemmas.List.{drop_all}
-use Rattle.xl_model.specs.Mapping.{is_leaf}
+use Rattle.xl_model_table.proofs.Common.{◌∙◌, ap, arith, drop_all, find, is_leaf, sym}
 use Rattle.xl_model_table.proofs.ScanLemmas.{find-here, find-past}
 use Rattle.xl_model_table.proofs.kept.named.Goals as goal
 

@@ -1,5 +1,4 @@
-use Rattle.std.proofs.Common.{◌≡◌, find, drop}
-use Rattle.xl_model.specs.Mapping.{is_leaf}
+use Rattle.xl_model_table.proofs.Common.{◌≡◌, drop, find, is_leaf}
 use Rattle.xl_model_table.proofs.kept.named.Given as goal
 
 abbrev pub invariant-loop-leaf : goal.invariant-loop-leaf

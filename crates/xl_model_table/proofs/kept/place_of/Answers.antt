@@ -1,8 +1,5 @@
-use Rattle.std.proofs.Common.{◌≡◌, ◌∙◌, sym, ap, ◌++◌, ◌∷◌, [], take, drop, length, arith}
-use Rattle.std.proofs.lemmas.List.{drop_all, take_all}
-use Rattle.xl_model.specs.Chains.{bucket_of}
-use Rattle.xl_model_lemmas.specs.Kept.{in_front}
-use Rattle.xl_model_table.proofs.ScanLemmas.{place-here, place-past, front-none}
+use Rattle.xl_model_table.proofs.Common.{◌++◌, ◌∙◌, ◌∷◌, ◌≡◌, [], ap, arith, bucket_of, drop, drop_all, in_front, length, sym, take, take_all}
+use Rattle.xl_model_table.proofs.ScanLemmas.{front-none, place-here, place-past}
 use Rattle.xl_model_table.proofs.kept.place_of.Goals as goal
 
 pub returns-then-bucket-bucket_of-clause-place : goal.returns-then-bucket-bucket_of-clause-place

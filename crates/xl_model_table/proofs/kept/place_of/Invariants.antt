@@ -1,5 +1,4 @@
-use Rattle.std.proofs.Common.{◌≡◌, ◌++◌, take, drop}
-use Rattle.xl_model_lemmas.specs.Kept.{in_front}
+use Rattle.xl_model_table.proofs.Common.{◌++◌, ◌≡◌, drop, in_front, take}
 use Rattle.xl_model_table.proofs.kept.place_of.Given as goal
 
 abbrev pub invariant-loop-i : goal.invariant-loop-i

@@ -1,7 +1,5 @@
-use Rattle.std.proofs.Common.{rules, not}
+use Rattle.xl_model_table.proofs.Common.{is_leaf, not, rules, without_named}
 use Rattle.std.proofs.lemmas.Fn.{filter_same}
-use Rattle.xl_model.specs.Mapping.{is_leaf}
-use Rattle.xl_model_lemmas.specs.Kept.{without_named}
 use Rattle.xl_model_table.proofs.kept.take_out.Goals as goal
 
 pub returns-clause-items : goal.returns-clause-items

@@ -1,4 +1,4 @@
-use Rattle.std.proofs.Common.{refl, inl, inr}
+use Rattle.xl_nested.proofs.Common.{inl, inr, refl}
 use Rattle.xl_nested.proofs.front_cache.keep_large.Goals as goal
 
 pub returns-then-block-gt1 : goal.returns-then-block-gt1

@@ -1,5 +1,4 @@
-use Rattle.std.proofs.Common.{ap, sym, ◌∙◌, Bool}
-use Rattle.xl_nested.specs.Fronts.{in_order}
+use Rattle.xl_nested.proofs.Common.{◌∙◌, ap, Bool, in_order, sym}
 use Rattle.xl_nested.proofs.front_cache.settle.Goals as goal
 
 pub returns-then-fronts-clause-items : goal.returns-then-fronts-clause-items

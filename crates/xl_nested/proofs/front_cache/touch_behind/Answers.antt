@@ -1,4 +1,4 @@
-use Rattle.std.proofs.Common.{sym}
+use Rattle.xl_nested.proofs.Common.{sym}
 use Rattle.xl_nested.proofs.FrontLemmas.{found-page, hit, missed, pushed-fronts}
 use Rattle.xl_nested.proofs.front_cache.touch_behind.Goals as goal
 

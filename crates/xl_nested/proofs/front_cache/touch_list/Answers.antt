@@ -1,5 +1,4 @@
-use Rattle.std.proofs.Common.{◌≡◌, ap, ◌∙◌, Bool, false}
-use Rattle.xl_nested.specs.Fronts.{in_order}
+use Rattle.xl_nested.proofs.Common.{◌∙◌, ◌≡◌, ap, Bool, false, in_order}
 use Rattle.xl_nested.proofs.FrontLemmas.{found-page, hit, kept-fronts, missed, unknown-straight}
 use Rattle.xl_nested.proofs.front_cache.touch_list.Goals as goal
 

@@ -1,5 +1,4 @@
-use Rattle.std.proofs.Common.{◌≤◌, ◌-◌, ◌^◌, ℕ, ap, arith}
-use Rattle.xl_model.specs.Addresses.{pages_of}
+use Rattle.xl_nested.proofs.Common.{◌-◌, ◌^◌, ◌≤◌, ap, arith, pages_of, ℕ}
 use Rattle.xl_nested.proofs.CodingLemmas.{few-pages, item-block}
 use Rattle.xl_nested.proofs.g_cache.block_of.Goals as goal
 

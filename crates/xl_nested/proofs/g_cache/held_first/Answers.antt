@@ -1,5 +1,5 @@
-use Rattle.std.proofs.Common.{rules}
-use Rattle.xl_nested.proofs.HeldLemmas.{opened_off, opened_nothing}
+use Rattle.xl_nested.proofs.Common.{rules}
+use Rattle.xl_nested.proofs.HeldLemmas.{opened_nothing, opened_off}
 use Rattle.xl_nested.proofs.g_cache.held_first.Goals as goal
 
 pub returns-then-width-eq0 : goal.returns-then-width-eq0

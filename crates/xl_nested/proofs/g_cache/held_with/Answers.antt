@@ -1,6 +1,6 @@
-use Rattle.xl_nested.specs.declared.g_cache.Held.TheVariants as held
-use Rattle.xl_nested.specs.Coding.{IsHeld}
+use Rattle.xl_nested.proofs.Common.{IsHeld}
 use Rattle.xl_nested.proofs.HeldLemmas.{first_filled, off_filled}
+use Rattle.xl_nested.specs.declared.g_cache.Held.TheVariants as held
 use Rattle.xl_nested.proofs.g_cache.held_with.Goals as goal
 
 pub returns-in-Off : goal.returns-in-Off

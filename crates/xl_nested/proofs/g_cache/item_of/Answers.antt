@@ -1,4 +1,4 @@
-use Rattle.std.proofs.Common.{◌+◌, ◌*◌, ℕ, ap}
+use Rattle.xl_nested.proofs.Common.{◌*◌, ◌+◌, ap, ℕ}
 use Rattle.xl_nested.proofs.CodingLemmas.{kept-back}
 use Rattle.xl_nested.proofs.g_cache.item_of.Goals as goal
 

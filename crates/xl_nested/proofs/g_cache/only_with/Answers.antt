@@ -1,5 +1,4 @@
-use Rattle.std.proofs.Common.{arith}
-use Rattle.std.proofs.lemmas.Bool.Decides.{nat_tests}
+use Rattle.xl_nested.proofs.Common.{arith, nat_tests}
 use Rattle.xl_nested.proofs.HeldLemmas.{more_same}
 use Rattle.xl_nested.proofs.g_cache.only_with.Goals as goal
 

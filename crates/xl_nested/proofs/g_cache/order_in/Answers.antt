@@ -1,6 +1,6 @@
-use Rattle.xl_nested.specs.declared.g_cache.Held.TheVariants as held
-use Rattle.xl_nested.specs.Coding.{IsHeld}
+use Rattle.xl_nested.proofs.Common.{IsHeld}
 use Rattle.xl_nested.proofs.CodingLemmas.{order-known}
+use Rattle.xl_nested.specs.declared.g_cache.Held.TheVariants as held
 use Rattle.xl_nested.proofs.g_cache.order_in.Goals as goal
 
 pub returns-in-Only : goal.returns-in-Only

@@ -1,6 +1,6 @@
-use Rattle.xl_nested.specs.declared.g_cache.Held.TheVariants as held
-use Rattle.xl_nested.specs.Coding.{IsHeld}
+use Rattle.xl_nested.proofs.Common.{IsHeld}
 use Rattle.xl_nested.proofs.HeldLemmas.{touches_none, touches_only}
+use Rattle.xl_nested.specs.declared.g_cache.Held.TheVariants as held
 use Rattle.xl_nested.proofs.g_cache.touch_page.Goals as goal
 
 pub returns-in-Off-clause-touched : goal.returns-in-Off-clause-touched

@@ -1,4 +1,4 @@
-use Rattle.std.proofs.Common.{◌+◌, ◌-◌, ◌*◌, ℕ, ap}
+use Rattle.xl_nested.proofs.Common.{◌*◌, ◌+◌, ◌-◌, ap, ℕ}
 use Rattle.xl_nested.proofs.CodingLemmas.{leaf-says}
 use Rattle.xl_nested.proofs.leaf.word_in.Goals as goal
 

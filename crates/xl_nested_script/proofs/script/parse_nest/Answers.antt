@@ -1,8 +1,8 @@
-use Rattle.std.proofs.Common.{sym, ap, ◌∙◌, Option}
+use Rattle.std.proofs.Common.{◌∙◌, ap, Option, sym}
 use Rattle.xl_nested_model.specs.declared.nest.Nest.{Nest}
 use Rattle.xl_script.specs.Scripts.{text_read}
-use Rattle.xl_nested_script.specs.Scripts.{nest_said}
 use Rattle.xl_nested_script.proofs.ReadyLemmas.{script-keeps}
+use Rattle.xl_nested_script.specs.Scripts.{nest_said}
 use Rattle.xl_nested_script.proofs.script.parse_nest.Goals as goal
 
 pub invariant_of-result : goal.invariant_of-result

@@ -1,6 +1,4 @@
-use Rattle.std.proofs.Common.{◌≡◌, drop}
-use Rattle.xl_paired.specs.Pairs.{accesses_after}
-use Rattle.xl_nesting.specs.Nesting.{nested_form}
+use Rattle.xl_nesting.proofs.Common.{◌≡◌, accesses_after, drop, nested_form}
 use Rattle.xl_nesting.proofs.events.serve_accesses.Given as goal
 
 abbrev pub invariant-loop-access : goal.invariant-loop-access

@@ -1,5 +1,4 @@
-use Rattle.xl_paired.proofs.PairLemmas.{served_more}
-use Rattle.xl_nesting.specs.Nesting.{event_at, nested_form}
+use Rattle.xl_nesting.proofs.Common.{event_at, nested_form, served_more}
 use Rattle.xl_nesting.proofs.events.serve_events.Goals as goal
 
 pub loop-i-preserved : goal.loop-i-preserved

@@ -1,7 +1,4 @@
-use Rattle.std.proofs.Common.{◌≡◌, map}
-use Rattle.xl_course.specs.Meanings.{states_after}
-use Rattle.xl_paired.specs.Pairs.{Command, events_from, meaning_of}
-use Rattle.xl_nesting.specs.Nesting.{event_at, nested_form}
+use Rattle.xl_nesting.proofs.Common.{◌≡◌, Command, event_at, events_from, map, meaning_of, nested_form, states_after}
 use Rattle.xl_nesting.proofs.events.serve_events.Given as goal
 
 abbrev pub invariant-loop-i : goal.invariant-loop-i

@@ -1,13 +1,5 @@
-use Rattle.std.proofs.Common.{◌≡◌}
-use Rattle.std.specs.Prelude.{Some, Ok, Err}
-use Rattle.xl_nested_script.specs.Scripts.{nest_script_of}
-use Rattle.xl_course.specs.Accounts.{Ends}
-use Rattle.xl_course.proofs.ToldLemmas.{told_one, told_then, is_err_by}
-use Rattle.xl_serving.specs.Inputs.{Finds, trail_in}
-use Rattle.xl_paired.specs.Pairs.{account_from, script_in, state_from}
-use Rattle.xl_paired.proofs.PairLemmas.{served_ends, stopped_ends}
+use Rattle.xl_nesting.proofs.Common.{◌≡◌, account_from, Ends, Err, Finds, is_err_by, nest_script_of, nested_form, Ok, script_in, served_ends, Some, state_from, stopped_ends, told_one, told_then, trail_in}
 use Rattle.xl_words.specs.Words.{pair_of}
-use Rattle.xl_nesting.specs.Nesting.{nested_form}
 use Rattle.xl_nesting.specs.Accounts.{nested_account, nested_left}
 use Rattle.xl_nesting.proofs.running.report.Goals as goal
 

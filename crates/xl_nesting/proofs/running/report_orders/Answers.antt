@@ -1,18 +1,9 @@
-use Rattle.std.proofs.Common.{◌≡◌, ℕ, List, ap, map, ◌∙◌, false}
-use Rattle.std.specs.Prelude.{Some, Ok}
-use Rattle.xl_outside.specs.Folders.{file_of}
+use Rattle.xl_nesting.proofs.Common.{◌∙◌, ◌≡◌, account, ap, counts_text, course, course_ends, Ends, false, is_err_by, List, map, meaning_of, nested_form, Ok, Some, states_after, step_of, told_one, trail_in, ℕ}
 use Rattle.xl_outside.proofs.SinkLemmas.{goes_same}
-use Rattle.xl_course.specs.declared.stop.Stop.TheVariants as why
-use Rattle.xl_course.specs.Meanings.{states_after}
-use Rattle.xl_course.specs.Courses.{course}
-use Rattle.xl_course.specs.Accounts.{account, Ends}
-use Rattle.xl_course.proofs.ToldLemmas.{told_one, is_err_by}
-use Rattle.xl_serving.specs.Inputs.{trail_in}
+use Rattle.xl_outside.specs.Folders.{file_of}
 use Rattle.xl_serving.specs.Tapes.{IsFedFrom}
 use Rattle.xl_serving.specs.Traces.{left_of, trail_of}
-use Rattle.xl_paired.specs.Pairs.{meaning_of}
-use Rattle.xl_paired.proofs.PairLemmas.{course_ends}
-use Rattle.xl_nesting.specs.Nesting.{counts_text, nested_form, step_of}
+use Rattle.xl_course.specs.declared.stop.Stop.TheVariants as why
 use Rattle.xl_nesting.proofs.running.report_orders.Goals as goal
 
 pub returns-in_err-source-clause-goes_on : goal.returns-in_err-source-clause-goes_on

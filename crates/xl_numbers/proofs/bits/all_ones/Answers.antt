@@ -1,5 +1,5 @@
-use Rattle.std.proofs.Common.{rules, arith}
-use Rattle.xl_numbers.proofs.LevelLemmas.{ones-none, ones-all}
+use Rattle.xl_numbers.proofs.Common.{arith, rules}
+use Rattle.xl_numbers.proofs.LevelLemmas.{ones-all, ones-none}
 use Rattle.xl_numbers.proofs.bits.all_ones.Goals as goal
 
 pub returns-then-words-first : goal.returns-then-words-first

@@ -1,4 +1,4 @@
-use Rattle.std.proofs.Common.{◌≡◌, ℕ, ◌+◌, ◌-◌, ◌^◌, ◌<◌, slice_index}
+use Rattle.xl_numbers.proofs.Common.{◌+◌, ◌-◌, ◌<◌, ◌^◌, ◌≡◌, slice_index, ℕ}
 use Rattle.xl_numbers.proofs.bits.all_ones.Given as goal
 
 abbrev pub invariant-loop-i : goal.invariant-loop-i

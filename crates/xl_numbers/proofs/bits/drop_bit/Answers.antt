@@ -1,5 +1,4 @@
-use Rattle.std.proofs.Common.{◌/◌, ◌%◌, slice_index, w64, arith}
-use Rattle.std.proofs.lemmas.Nat.Bits.{bit_at_clear_same, bit_at_clear_other}
+use Rattle.xl_numbers.proofs.Common.{◌%◌, ◌/◌, arith, bit_at_clear_other, bit_at_clear_same, slice_index, w64}
 use Rattle.xl_numbers.proofs.BitLemmas.{put-word}
 use Rattle.xl_numbers.proofs.bits.drop_bit.Goals as goal
 

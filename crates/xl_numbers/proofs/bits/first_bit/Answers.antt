@@ -1,4 +1,4 @@
-use Rattle.std.proofs.Common.{rules}
+use Rattle.xl_numbers.proofs.Common.{rules}
 use Rattle.xl_numbers.proofs.BitLemmas.{first-bit}
 use Rattle.xl_numbers.proofs.bits.first_bit.Goals as goal
 

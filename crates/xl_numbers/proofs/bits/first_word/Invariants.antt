@@ -1,4 +1,4 @@
-use Rattle.std.proofs.Common.{◌≡◌, ℕ, ◌<◌, slice_index}
+use Rattle.xl_numbers.proofs.Common.{◌<◌, ◌≡◌, slice_index, ℕ}
 use Rattle.xl_numbers.proofs.bits.first_word.Given as goal
 
 abbrev pub invariant-loop-at : goal.invariant-loop-at

@@ -1,4 +1,4 @@
-use Rattle.std.proofs.Common.{refl, rules}
+use Rattle.xl_numbers.proofs.Common.{refl, rules}
 use Rattle.xl_numbers.proofs.LevelLemmas.{stack-group, stack-no-group}
 use Rattle.xl_numbers.proofs.bits.put_group.Goals as goal
 

@@ -1,7 +1,6 @@
-use Rattle.std.proofs.Common.{◌≡◌, ◌+◌, ◌*◌, sym, subst, rules}
-use Rattle.xl_numbers.specs.Bits.{AreWords}
+use Rattle.xl_numbers.proofs.Common.{◌*◌, ◌+◌, ◌≡◌, AreWords, rules, subst, sym}
 use Rattle.xl_numbers.proofs.LevelLemmas.{part-one, parts-more}
-use Rattle.xl_numbers.proofs.bits.put_parts.Goals.{then-this-eq64, else-this-eq64}
+use Rattle.xl_numbers.proofs.bits.put_parts.Goals.{else-this-eq64, then-this-eq64}
 use Rattle.xl_numbers.proofs.bits.put_parts.Goals as goal
 
 pub loop-i-preserved : goal.loop-i-preserved

@@ -1,5 +1,4 @@
-use Rattle.std.proofs.Common.{◌*◌}
-use Rattle.xl_numbers.specs.Bits.{IsStack, AreWords}
+use Rattle.xl_numbers.proofs.Common.{◌*◌, AreWords, IsStack}
 use Rattle.xl_numbers.proofs.bits.put_parts.Given as goal
 
 abbrev pub invariant-loop-i : goal.invariant-loop-i

@@ -1,5 +1,5 @@
-use Rattle.std.proofs.Common.{rules}
-use Rattle.xl_numbers.proofs.LevelLemmas.{stack-some, stack-emptied, stack-left, word-none, word-some}
+use Rattle.xl_numbers.proofs.Common.{rules}
+use Rattle.xl_numbers.proofs.LevelLemmas.{stack-emptied, stack-left, stack-some, word-none, word-some}
 use Rattle.xl_numbers.proofs.bits.put_word.Goals as goal
 
 pub returns-then-word-ne0-clause-stack : goal.returns-then-word-ne0-clause-stack

@@ -1,4 +1,4 @@
-use Rattle.std.proofs.Common.{◌*◌, ◌/◌, ◌%◌, ◌≡◌, rules, arith}
+use Rattle.xl_numbers.proofs.Common.{◌%◌, ◌*◌, ◌/◌, ◌≡◌, arith, rules}
 use Rattle.xl_numbers.proofs.LevelLemmas.{words-as}
 use Rattle.xl_numbers.proofs.bits.put_words.Goals as goal
 

@@ -1,5 +1,4 @@
-use Rattle.std.proofs.Common.{◌/◌, ◌%◌, slice_index, w64, arith}
-use Rattle.std.proofs.lemmas.Nat.Bits.{bit_at_set_same, bit_at_set_other}
+use Rattle.xl_numbers.proofs.Common.{◌%◌, ◌/◌, arith, bit_at_set_other, bit_at_set_same, slice_index, w64}
 use Rattle.xl_numbers.proofs.BitLemmas.{put-word}
 use Rattle.xl_numbers.proofs.bits.raise_bit.Goals as goal
 

@@ -1,5 +1,4 @@
-use Rattle.std.proofs.Common.{◌^◌, ◌-◌, sym, subst}
-use Rattle.xl_numbers.specs.Bits.{IsAlike}
+use Rattle.xl_numbers.proofs.Common.{◌-◌, ◌^◌, IsAlike, subst, sym}
 use Rattle.xl_numbers.proofs.FlagLemmas.{alike-ones, alike-zero}
 use Rattle.xl_numbers.proofs.bits.word_of.Goals as goal
 

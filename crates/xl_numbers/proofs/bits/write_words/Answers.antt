@@ -1,4 +1,4 @@
-use Rattle.xl_numbers.proofs.LevelLemmas.{words-none, words-more}
+use Rattle.xl_numbers.proofs.LevelLemmas.{words-more, words-none}
 use Rattle.xl_numbers.proofs.bits.write_words.Goals as goal
 
 pub loop-i-init : goal.loop-i-init

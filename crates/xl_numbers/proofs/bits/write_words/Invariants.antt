@@ -1,4 +1,4 @@
-use Rattle.xl_numbers.specs.Bits.{AreWords}
+use Rattle.xl_numbers.proofs.Common.{AreWords}
 use Rattle.xl_numbers.proofs.bits.write_words.Given as goal
 
 abbrev pub invariant-loop-i : goal.invariant-loop-i

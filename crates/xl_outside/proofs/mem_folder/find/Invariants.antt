@@ -1,5 +1,4 @@
-use Rattle.std.proofs.Common.{◌≡◌, drop}
-use Rattle.xl_outside.specs.Folders.{file_of}
+use Rattle.xl_outside.proofs.Common.{◌≡◌, drop, file_of}
 use Rattle.xl_outside.specs.Memory.{told}
 use Rattle.xl_outside.proofs.mem_folder.find.Given as goal
 

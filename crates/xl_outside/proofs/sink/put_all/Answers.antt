@@ -1,5 +1,5 @@
-use Rattle.std.proofs.Common.{◌≡◌, ◌+◌, ◌-◌, ◌≤◌, ◌∙◌, true, inl, arith, length, take, drop, subst}
-use Rattle.xl_outside.proofs.SinkLemmas.{written_on, length-rest, goes_then, put_goes, put_stops}
+use Rattle.xl_outside.proofs.Common.{◌+◌, ◌-◌, ◌∙◌, ◌≡◌, ◌≤◌, arith, drop, inl, length, subst, take, true}
+use Rattle.xl_outside.proofs.SinkLemmas.{goes_then, length-rest, put_goes, put_stops, written_on}
 use Rattle.xl_outside.proofs.sink.put_all.Goals as goal
 
 pub loop-done-preserved : goal.loop-done-preserved

@@ -1,5 +1,4 @@
-use Rattle.std.proofs.Common.{◌≡◌, ◌≤◌, ◌-◌, ℕ, true, length, take}
-use Rattle.xl_outside.specs.Sinks.{with_more, GoesOn}
+use Rattle.xl_outside.proofs.Common.{◌-◌, ◌≡◌, ◌≤◌, GoesOn, length, take, true, with_more, ℕ}
 use Rattle.xl_outside.proofs.sink.put_all.Given as goal
 
 abbrev pub invariant-loop-done : goal.invariant-loop-done

@@ -1,5 +1,5 @@
-use Rattle.std.specs.Prelude.{is_ok}
-use Rattle.xl_outside.proofs.SinkLemmas.{sent_flushed, sent_cut}
+use Rattle.xl_outside.proofs.Common.{is_ok}
+use Rattle.xl_outside.proofs.SinkLemmas.{sent_cut, sent_flushed}
 use Rattle.xl_outside.proofs.sink.send_all.Goals as goal
 
 pub returns-in-Ok : goal.returns-in-Ok

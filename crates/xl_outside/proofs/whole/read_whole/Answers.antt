@@ -1,6 +1,6 @@
-use Rattle.std.proofs.Common.{arith}
-use Rattle.xl_outside.proofs.FrontLemmas.{more_read}
+use Rattle.xl_outside.proofs.Common.{arith}
 use Rattle.xl_outside.proofs.FolderLemmas.{folder_then}
+use Rattle.xl_outside.proofs.FrontLemmas.{more_read}
 use Rattle.xl_outside.proofs.whole.read_whole.Goals as goal
 
 pub loop-buf-preserved : goal.loop-buf-preserved

@@ -1,7 +1,5 @@
-use Rattle.std.proofs.Common.{◌≤◌, ◌+◌, ◌-◌}
-use Rattle.std.specs.Option.{IfSome}
+use Rattle.xl_outside.proofs.Common.{◌+◌, ◌-◌, ◌≤◌, file_of, Fine, FolderAfter, IfSome}
 use Rattle.std.specs.Vec.{vec_len}
-use Rattle.xl_outside.specs.Folders.{file_of, FolderAfter, Fine}
 use Rattle.xl_outside.proofs.FrontLemmas.{IsFrontOf}
 use Rattle.xl_outside.proofs.whole.read_whole.Given as goal
 

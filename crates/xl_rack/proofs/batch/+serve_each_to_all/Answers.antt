@@ -1,7 +1,4 @@
-use Rattle.std.proofs.Common.{sym, ap, List}
-use Rattle.std.proofs.lemmas.List.{nil_from_length}
-use Rattle.xl_lackey.specs.declared.skim.Access.{Access}
-use Rattle.xl_rack.specs.Batches.{row_served}
+use Rattle.xl_rack.proofs.Common.{Access, ap, List, nil_from_length, row_served, sym}
 use Rattle.xl_rack.proofs.BatchLemmas.{each-same, each-stays, each-then}
 use Rattle.xl_rack.proofs.batch.+serve_each_to_all.Goals as goal
 

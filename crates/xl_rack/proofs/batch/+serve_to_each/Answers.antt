@@ -1,4 +1,4 @@
-use Rattle.std.proofs.Common.{refl}
+use Rattle.xl_rack.proofs.Common.{refl}
 use Rattle.xl_rack.proofs.BatchLemmas.{each-first}
 use Rattle.xl_rack.proofs.batch.+serve_to_each.Goals as goal
 

@@ -1,4 +1,4 @@
-use Rattle.std.proofs.Common.{length}
+use Rattle.xl_rack.proofs.Common.{length}
 use Rattle.xl_rack.proofs.batch.+step_each.Given as goal
 
 abbrev pub decreases-step_each : goal.decreases-step_each

@@ -1,5 +1,4 @@
-use Rattle.std.proofs.Common.{◌≡◌, drop}
-use Rattle.xl_rack.specs.Batches.{row_served}
+use Rattle.xl_rack.proofs.Common.{◌≡◌, drop, row_served}
 use Rattle.xl_rack.proofs.batch.serve_each.Given as goal
 
 abbrev pub invariant-loop-access : goal.invariant-loop-access

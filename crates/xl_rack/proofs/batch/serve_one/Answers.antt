@@ -1,5 +1,5 @@
-use Rattle.std.proofs.Common.{◌∙◌}
-use Rattle.xl_rack.proofs.BatchLemmas.{access-demands, access-alone, framed-alone}
+use Rattle.xl_rack.proofs.Common.{◌∙◌}
+use Rattle.xl_rack.proofs.BatchLemmas.{access-alone, access-demands, framed-alone}
 use Rattle.xl_rack.proofs.batch.serve_one.Goals as goal
 
 pub returns-then-access_at_once : goal.returns-then-access_at_once

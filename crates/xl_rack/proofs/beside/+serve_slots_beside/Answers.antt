@@ -1,7 +1,4 @@
-use Rattle.std.proofs.Common.{[]}
-use Rattle.std.specs.Prelude.{map}
-use Rattle.xl_rack.specs.Beside.{curve_served}
-use Rattle.xl_rack.specs.Slots.{served_of}
+use Rattle.xl_rack.proofs.Common.{[], curve_served, map, served_of}
 use Rattle.xl_rack.proofs.BatchLemmas.{each-first, waiting-stays}
 use Rattle.xl_rack.proofs.BesideLemmas.{no-curves}
 use Rattle.xl_rack.proofs.beside.+serve_slots_beside.Goals as goal

@@ -1,4 +1,4 @@
-use Rattle.std.proofs.Common.{length}
+use Rattle.xl_rack.proofs.Common.{length}
 use Rattle.xl_rack.proofs.beside.+serve_slots_beside.Given as goal
 
 abbrev pub decreases-serve_slots_beside : goal.decreases-serve_slots_beside

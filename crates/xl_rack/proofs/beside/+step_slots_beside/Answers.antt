@@ -1,7 +1,4 @@
-use Rattle.std.proofs.Common.{refl}
-use Rattle.std.specs.Prelude.{map}
-use Rattle.xl_rack.specs.Beside.{curve_stepped}
-use Rattle.xl_rack.specs.Slots.{served_of}
+use Rattle.xl_rack.proofs.Common.{curve_stepped, map, refl, served_of}
 use Rattle.xl_rack.proofs.BatchLemmas.{each-first}
 use Rattle.xl_rack.proofs.BesideLemmas.{no-curves}
 use Rattle.xl_rack.proofs.beside.+step_slots_beside.Goals as goal

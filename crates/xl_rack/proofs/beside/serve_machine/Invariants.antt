@@ -1,6 +1,4 @@
-use Rattle.std.proofs.Common.{◌≡◌, drop}
-use Rattle.xl_rack.specs.Batches.{row_served}
-use Rattle.xl_rack.specs.Beside.{curve_served}
+use Rattle.xl_rack.proofs.Common.{◌≡◌, curve_served, drop, row_served}
 use Rattle.xl_rack.proofs.beside.serve_machine.Given as goal
 
 abbrev pub invariant-loop-access : goal.invariant-loop-access

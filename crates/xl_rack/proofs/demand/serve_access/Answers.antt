@@ -1,7 +1,6 @@
-use Rattle.std.proofs.Common.{is_ok}
-use Rattle.xl_machine.specs.Served.{accessed_by}
+use Rattle.xl_rack.proofs.Common.{accessed_by, is_ok}
+use Rattle.xl_rack.proofs.DemandLemmas.{access-cut, access-served}
 use Rattle.xl_rack.proofs.ServedAtLemmas.{still-there}
-use Rattle.xl_rack.proofs.DemandLemmas.{access-served, access-cut}
 use Rattle.xl_rack.proofs.demand.serve_access.Goals as goal
 
 pub serve_demand-requires : goal.serve_demand-requires

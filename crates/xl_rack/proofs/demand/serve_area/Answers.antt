@@ -1,7 +1,6 @@
-use Rattle.std.proofs.Common.{refl, is_ok, Some}
-use Rattle.xl_machine.specs.Served.{after_of}
+use Rattle.xl_rack.proofs.Common.{after_of, is_ok, refl, Some}
+use Rattle.xl_rack.proofs.DemandLemmas.{demand-cut, demand-served}
 use Rattle.xl_rack.proofs.ServedAtLemmas.{still-there}
-use Rattle.xl_rack.proofs.DemandLemmas.{demand-served, demand-cut}
 use Rattle.xl_rack.proofs.demand.serve_area.Goals as goal
 
 pub serve_again-requires : goal.serve_again-requires

@@ -1,7 +1,6 @@
-use Rattle.std.proofs.Common.{true, false}
-use Rattle.xl_machine.specs.Served.{after_of}
-use Rattle.xl_rack.proofs.ServedAtLemmas.{still-there}
+use Rattle.xl_rack.proofs.Common.{after_of, false, true}
 use Rattle.xl_rack.proofs.DemandLemmas.{command-told}
+use Rattle.xl_rack.proofs.ServedAtLemmas.{still-there}
 use Rattle.xl_rack.proofs.demand.serve_command.Goals as goal
 
 pub row-requires : goal.row-requires

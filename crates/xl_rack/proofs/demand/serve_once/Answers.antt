@@ -1,7 +1,6 @@
-use Rattle.std.proofs.Common.{true, false}
-use Rattle.xl_machine.specs.Served.{accessed_by}
-use Rattle.xl_rack.proofs.ServedAtLemmas.{still-there}
+use Rattle.xl_rack.proofs.Common.{accessed_by, false, true}
 use Rattle.xl_rack.proofs.DemandLemmas.{access-line-told}
+use Rattle.xl_rack.proofs.ServedAtLemmas.{still-there}
 use Rattle.xl_rack.proofs.demand.serve_once.Goals as goal
 
 pub row-requires : goal.row-requires

@@ -1,5 +1,4 @@
-use Rattle.std.proofs.Common.{◌+◌, true, false}
-use Rattle.xl_rack.specs.Forms.{served_behind}
+use Rattle.xl_rack.proofs.Common.{◌+◌, false, served_behind, true}
 use Rattle.xl_rack.proofs.ImageLemmas.{image-written, images-cut}
 use Rattle.xl_rack.proofs.image.write_images.Goals as goal
 

@@ -1,6 +1,4 @@
-use Rattle.std.proofs.Common.{true, take}
-use Rattle.xl_model.specs.Report.{images_lines}
-use Rattle.xl_outside.specs.Sinks.{SinkAfter}
+use Rattle.xl_rack.proofs.Common.{images_lines, SinkAfter, take, true}
 use Rattle.xl_rack.proofs.image.write_images.Given as goal
 
 abbrev pub invariant-loop-i : goal.invariant-loop-i

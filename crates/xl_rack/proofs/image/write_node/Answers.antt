@@ -1,9 +1,7 @@
-use Rattle.std.proofs.Common.{◌≡◌, ◌+◌, arith, ◌∙◌, true, false}
-use Rattle.std.specs.Prelude.{slice_index_or, None}
-use Rattle.xl_model.specs.Image.{word_of}
-use Rattle.xl_rack.proofs.WordLemmas.{word-written, word-passed, node-cut}
+use Rattle.xl_rack.proofs.Common.{◌+◌, ◌∙◌, ◌≡◌, arith, false, None, slice_index_or, true, word_of}
+use Rattle.xl_rack.proofs.WordLemmas.{node-cut, word-passed, word-written}
+use Rattle.xl_rack.proofs.image.write_node.Goals.{else-word-ne0, then-word-ne0+in-Ok}
 use Rattle.xl_rack.proofs.image.write_node.Goals as goal
-use Rattle.xl_rack.proofs.image.write_node.Goals.{then-word-ne0+in-Ok, else-word-ne0}
 
 pub returns-in-Err : goal.returns-in-Err
 returns-in-Err g c =

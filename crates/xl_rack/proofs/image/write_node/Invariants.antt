@@ -1,4 +1,4 @@
-use Rattle.std.specs.Prelude.{true, None, slice_index_or}
+use Rattle.xl_rack.proofs.Common.{None, slice_index_or, true}
 use Rattle.xl_rack.proofs.WordLemmas.{NodeLines}
 use Rattle.xl_rack.proofs.image.write_node.Given as goal
 

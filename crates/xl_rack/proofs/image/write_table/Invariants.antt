@@ -1,4 +1,4 @@
-use Rattle.std.specs.Prelude.{true}
+use Rattle.xl_rack.proofs.Common.{true}
 use Rattle.xl_rack.proofs.WordLemmas.{TableLines}
 use Rattle.xl_rack.proofs.image.write_table.Given as goal
 

@@ -1,9 +1,5 @@
-use Rattle.std.proofs.Common.{◌<◌, List, length, take, ap, ◌∙◌, arith}
-use Rattle.serde_json.specs.Data.{Data}
-use Rattle.serde_json.specs.View.{items_of}
+use Rattle.xl_rack.proofs.Common.{◌<◌, ◌∙◌, ap, arith, Data, items_of, length, List, row_of, rows-plain, take}
 use Rattle.serde_json.specs.Written.{items_have_float}
-use Rattle.xl_model.specs.Rows.{row_of}
-use Rattle.xl_report.proofs.JsonLemmas.{rows-plain}
 use Rattle.xl_rack.proofs.ObjectLemmas.{object-pushed}
 use Rattle.xl_rack.proofs.object.rows_json.Goals as goal
 

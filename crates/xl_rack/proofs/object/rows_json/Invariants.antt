@@ -1,6 +1,4 @@
-use Rattle.std.proofs.Common.{◌≡◌, map, take}
-use Rattle.serde_json.specs.View.{view}
-use Rattle.xl_report.specs.Json.{row_objects}
+use Rattle.xl_rack.proofs.Common.{◌≡◌, map, row_objects, take, view}
 use Rattle.xl_rack.proofs.object.rows_json.Given as goal
 
 abbrev pub invariant-loop-i : goal.invariant-loop-i

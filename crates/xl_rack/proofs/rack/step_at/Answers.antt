@@ -1,6 +1,4 @@
-use Rattle.std.proofs.Common.{ap}
-use Rattle.xl_model.specs.Scenes.{Served}
-use Rattle.xl_machine.specs.Served.{after_of}
+use Rattle.xl_rack.proofs.Common.{after_of, ap, Served}
 use Rattle.xl_rack.proofs.SlotLemmas.{map-set, named-set}
 use Rattle.xl_rack.proofs.rack.step_at.Goals as goal
 

@@ -1,4 +1,4 @@
-use Rattle.std.proofs.Common.{true, false}
+use Rattle.xl_rack.proofs.Common.{false, true}
 use Rattle.xl_rack.proofs.DemandLemmas.{command-served, declared-served}
 use Rattle.xl_rack.proofs.rows.serve_item.Goals as goal
 

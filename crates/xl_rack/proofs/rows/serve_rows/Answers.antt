@@ -1,6 +1,5 @@
-use Rattle.std.proofs.Common.{◌≡◌, ◌<◌, ◌≤◌, length, arith, ◌∙◌, ap, List}
-use Rattle.xl_model.specs.Scenes.{Served}
-use Rattle.xl_rack.proofs.RowsLemmas.{length-partly, one-more, row-lost, all-served}
+use Rattle.xl_rack.proofs.Common.{◌<◌, ◌∙◌, ◌≡◌, ◌≤◌, ap, arith, length, List, Served}
+use Rattle.xl_rack.proofs.RowsLemmas.{all-served, length-partly, one-more, row-lost}
 use Rattle.xl_rack.proofs.rows.serve_rows.Goals as goal
 
 pub serve_item-requires : goal.serve_item-requires

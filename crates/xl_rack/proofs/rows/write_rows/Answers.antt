@@ -1,5 +1,4 @@
-use Rattle.std.proofs.Common.{◌<◌, ◌+◌, length, arith, true, false}
-use Rattle.xl_model.specs.Rows.{row_of}
+use Rattle.xl_rack.proofs.Common.{◌+◌, ◌<◌, arith, false, length, row_of, true}
 use Rattle.xl_rack.proofs.RowsLemmas.{row-written, rows-cut}
 use Rattle.xl_rack.proofs.rows.write_rows.Goals as goal
 

@@ -1,6 +1,4 @@
-use Rattle.std.proofs.Common.{true, take}
-use Rattle.xl_model.specs.Report.{row_lines}
-use Rattle.xl_outside.specs.Sinks.{SinkAfter}
+use Rattle.xl_rack.proofs.Common.{row_lines, SinkAfter, take, true}
 use Rattle.xl_rack.proofs.rows.write_rows.Given as goal
 
 abbrev pub invariant-loop-i : goal.invariant-loop-i

@@ -1,11 +1,5 @@
-use Rattle.std.proofs.Common.{◌≡◌, refl, ◌∙◌, ℕ, []}
+use Rattle.xl_rack.proofs.Common.{◌∙◌, ◌≡◌, [], chained, opening, opening_caches, opening_shape, refl, Row, row_of, Sixteen, ℕ}
 use Rattle.xl_model.specs.declared.row.Table.TheVariants as table
-use Rattle.xl_model.specs.RowRun.{opening}
-use Rattle.xl_model.specs.Rows.{Row, row_of}
-use Rattle.xl_model.specs.Caches.{opening_caches}
-use Rattle.xl_model.specs.Shapes.{opening_shape}
-use Rattle.xl_tagged.specs.Forms.{Sixteen}
-use Rattle.xl_tagged.specs.Slots.{chained}
 use Rattle.xl_rack.proofs.slot.open_clustered.Goals as goal
 
 opens-as : (row : Row) (buckets blocks : ℕ) → row.table ≡ table.Clustered buckets blocks → chained Sixteen buckets blocks 0 [] [] ≡ (opening row).table

@@ -1,11 +1,6 @@
-use Rattle.std.proofs.Common.{◌≡◌, refl, ◌∙◌, subst, ℕ, List}
-use Rattle.xl_model.specs.declared.row.Table.TheVariants as table
-use Rattle.xl_model.specs.RowRun.{opening}
-use Rattle.xl_model.specs.Rows.{Row, row_of}
-use Rattle.xl_model.specs.Caches.{opening_caches}
-use Rattle.xl_model.specs.Shapes.{opening_shape}
+use Rattle.xl_rack.proofs.Common.{◌∙◌, ◌≡◌, IsCuckoo, List, opening, opening_caches, opening_shape, refl, Row, row_of, subst, ℕ}
 use Rattle.xl_cuckoo_walk.specs.Openings.{opening_table}
-use Rattle.xl_rack.specs.Forms.{IsCuckoo}
+use Rattle.xl_model.specs.declared.row.Table.TheVariants as table
 use Rattle.xl_rack.proofs.slot.open_cuckoo.Goals as goal
 
 opens-as : (row : Row) (count ways start cap threshold limit migrate few many : ℕ) (widths : List ℕ) → IsCuckoo count row.table

@@ -1,11 +1,5 @@
-use Rattle.std.proofs.Common.{◌≡◌, refl, ◌∙◌, ℕ, []}
+use Rattle.xl_rack.proofs.Common.{◌∙◌, ◌≡◌, [], chained, One, opening, opening_caches, opening_shape, refl, Row, row_of, ℕ}
 use Rattle.xl_model.specs.declared.row.Table.TheVariants as table
-use Rattle.xl_model.specs.RowRun.{opening}
-use Rattle.xl_model.specs.Rows.{Row, row_of}
-use Rattle.xl_model.specs.Caches.{opening_caches}
-use Rattle.xl_model.specs.Shapes.{opening_shape}
-use Rattle.xl_tagged.specs.Forms.{One}
-use Rattle.xl_tagged.specs.Slots.{chained}
 use Rattle.xl_rack.proofs.slot.open_hashed.Goals as goal
 
 opens-as : (row : Row) (buckets entries : ℕ) → row.table ≡ table.Hashed buckets entries → chained One buckets entries 0 [] [] ≡ (opening row).table

@@ -1,9 +1,6 @@
-use Rattle.std.proofs.Common.{◌≡◌, refl, ◌∙◌, ℕ, List}
-use Rattle.xl_model.specs.declared.row.Table.TheVariants as table
-use Rattle.xl_model.specs.Addresses.{levels_of}
-use Rattle.xl_model.specs.RowRun.{opening}
-use Rattle.xl_model.specs.Rows.{Row, row_of}
+use Rattle.xl_rack.proofs.Common.{◌∙◌, ◌≡◌, levels_of, List, opening, refl, Row, row_of, ℕ}
 use Rattle.xl_radix_walk.specs.Row.{opening_table}
+use Rattle.xl_model.specs.declared.row.Table.TheVariants as table
 use Rattle.xl_rack.proofs.slot.open_radix.Goals as goal
 
 opens-as : (levels : ℕ) (row : Row) (frames : ℕ) (widths : List ℕ) → levels_of row.mode ≡ levels → row.table ≡ table.Radix frames widths

@@ -1,10 +1,6 @@
-use Rattle.std.proofs.Common.{◌≡◌, refl, ◌∙◌, ℕ}
-use Rattle.xl_model.specs.declared.row.Table.TheVariants as table
-use Rattle.xl_model.specs.RowRun.{opening}
-use Rattle.xl_model.specs.Rows.{Row, row_of}
-use Rattle.xl_model.specs.Caches.{opening_caches}
-use Rattle.xl_model.specs.Shapes.{opening_shape}
+use Rattle.xl_rack.proofs.Common.{◌∙◌, ◌≡◌, opening, opening_caches, opening_shape, refl, Row, row_of, ℕ}
 use Rattle.xl_range.specs.Rows.{opening_table}
+use Rattle.xl_model.specs.declared.row.Table.TheVariants as table
 use Rattle.xl_rack.proofs.slot.open_ranges.Goals as goal
 
 opens-as : (row : Row) (ranges width : ℕ) → row.table ≡ table.Range ranges width → opening_table ranges width ≡ (opening row).table

@@ -1,6 +1,4 @@
-use Rattle.std.proofs.Common.{◌≡◌, ◌+◌, length, find, Some, None, sym, ◌∙◌, arith}
-use Rattle.xl_model.specs.Recency.{touched}
-use Rattle.xl_radix_walk.specs.Row.{has_tag, tag_at}
+use Rattle.xl_radix_walk.proofs.Common.{◌+◌, ◌∙◌, ◌≡◌, arith, find, has_tag, length, None, Some, sym, tag_at, touched}
 use Rattle.xl_radix_walk.proofs.LookLemmas.{Hit, hit, Miss, miss}
 use Rattle.xl_radix_walk.proofs.caches.+look.Goals as goal
 

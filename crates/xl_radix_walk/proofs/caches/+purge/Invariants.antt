@@ -1,4 +1,4 @@
-use Rattle.std.proofs.Common.{length}
+use Rattle.xl_radix_walk.proofs.Common.{length}
 use Rattle.xl_radix_walk.proofs.caches.+purge.Given as goal
 
 abbrev pub decreases-purge : goal.decreases-purge

@@ -1,5 +1,4 @@
-use Rattle.std.proofs.Common.{◌+◌, arith}
-use Rattle.xl_radix.proofs.UpLemmas.{up-le}
+use Rattle.xl_radix_walk.proofs.Common.{◌+◌, arith, up-le}
 use Rattle.xl_radix_walk.proofs.caches.tag_of.Goals as goal
 
 pub overflow_add-result : goal.overflow_add-result

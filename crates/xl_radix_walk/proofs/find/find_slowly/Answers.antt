@@ -1,4 +1,4 @@
-use Rattle.std.proofs.Common.{◌-◌, ◌<◌, lit<, rules}
+use Rattle.xl_radix_walk.proofs.Common.{◌-◌, ◌<◌, lit<, rules}
 use Rattle.xl_radix_walk.proofs.FindLemmas.{page-small, root-level, root-number}
 use Rattle.xl_radix_walk.proofs.find.find_slowly.Goals as goal
 

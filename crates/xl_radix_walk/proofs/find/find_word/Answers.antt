@@ -1,4 +1,4 @@
-use Rattle.std.proofs.Common.{◌-◌, ◌<◌, lit<}
+use Rattle.xl_radix_walk.proofs.Common.{◌-◌, ◌<◌, lit<}
 use Rattle.xl_radix_walk.proofs.FindLemmas.{root-level, root-number}
 use Rattle.xl_radix_walk.proofs.find.find_word.Goals as goal
 

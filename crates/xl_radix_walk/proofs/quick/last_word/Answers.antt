@@ -1,6 +1,5 @@
-use Rattle.std.proofs.Common.{ℕ, List, ◌-◌, ◌++◌, take, ap, ◌∙◌, arith}
-use Rattle.xl_radix_walk.specs.Path.{radix_path}
-use Rattle.xl_radix_walk.proofs.StraightLemmas.{steps-on, ends-if, enters-on, entered-more, enters-if}
+use Rattle.xl_radix_walk.proofs.Common.{◌++◌, ◌-◌, ◌∙◌, ap, arith, List, radix_path, take, ℕ}
+use Rattle.xl_radix_walk.proofs.StraightLemmas.{ends-if, entered-more, enters-if, enters-on, steps-on}
 use Rattle.xl_radix_walk.proofs.quick.last_word.Goals as goal
 
 pub down-preserved : goal.down-preserved

@@ -1,7 +1,4 @@
-use Rattle.std.proofs.Common.{◌≡◌, ◌≤◌, ◌<◌, ◌-◌, ◌^◌, ◌++◌, List, take, ℕ}
-use Rattle.xl_radix.specs.Walk.{radix_back}
-use Rattle.xl_radix_walk.specs.Path.{radix_path}
-use Rattle.xl_radix_walk.specs.Quick.{AreFirst}
+use Rattle.xl_radix_walk.proofs.Common.{◌++◌, ◌-◌, ◌<◌, ◌^◌, ◌≡◌, ◌≤◌, AreFirst, List, radix_back, radix_path, take, ℕ}
 use Rattle.xl_radix_walk.proofs.quick.last_word.Given as goal
 
 abbrev pub invariant-down : goal.invariant-down

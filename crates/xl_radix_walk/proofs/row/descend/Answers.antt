@@ -1,8 +1,5 @@
-use Rattle.std.proofs.Common.{suc, ◌≡◌, ◌+◌, ◌-◌, ap, ◌∙◌, arith}
-use Rattle.xl_model.specs.Walks.{end_level}
-use Rattle.xl_radix.proofs.NumberLemmas.{number-some}
-use Rattle.xl_radix.specs.Walk.{end_of}
-use Rattle.xl_radix_walk.proofs.DescentLemmas.{loads-are, end-at-level, walk-path}
+use Rattle.xl_radix_walk.proofs.Common.{◌+◌, ◌-◌, ◌∙◌, ◌≡◌, ap, arith, end_level, end_of, number-some, suc}
+use Rattle.xl_radix_walk.proofs.DescentLemmas.{end-at-level, loads-are, walk-path}
 use Rattle.xl_radix_walk.proofs.row.descend.Goals as goal
 
 pub walk-requires-clause-node : goal.walk-requires-clause-node

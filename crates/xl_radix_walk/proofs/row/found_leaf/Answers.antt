@@ -1,5 +1,4 @@
-use Rattle.std.proofs.Common.{arith}
-use Rattle.xl_radix.proofs.UpLemmas.{up-le}
+use Rattle.xl_radix_walk.proofs.Common.{arith, up-le}
 use Rattle.xl_radix_walk.proofs.row.found_leaf.Goals as goal
 
 pub leaf_of-requires : goal.leaf_of-requires

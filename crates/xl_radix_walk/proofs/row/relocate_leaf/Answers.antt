@@ -1,7 +1,5 @@
-use Rattle.std.proofs.Common.{◌≤◌, length, lit<, sym, arith}
-use Rattle.xl_model.specs.Changes.{Relocate}
-use Rattle.xl_radix.specs.Steps.{IsMade}
-use Rattle.xl_radix_walk.proofs.ChangeLemmas.{none-left, MadeRow, row-made, row-refused}
+use Rattle.xl_radix_walk.proofs.Common.{◌≤◌, arith, IsMade, length, lit<, Relocate, sym}
+use Rattle.xl_radix_walk.proofs.ChangeLemmas.{MadeRow, none-left, row-made, row-refused}
 use Rattle.xl_radix_walk.proofs.row.relocate_leaf.Goals as goal
 
 pub settle-requires : goal.settle-requires

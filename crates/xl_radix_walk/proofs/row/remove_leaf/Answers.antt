@@ -1,8 +1,5 @@
-use Rattle.std.proofs.Common.{◌≤◌, length, lit<, refl, arith}
-use Rattle.xl_model.specs.Changes.{Remove}
-use Rattle.xl_model.specs.Room.{has_room}
-use Rattle.xl_radix.specs.Steps.{IsMade}
-use Rattle.xl_radix_walk.proofs.ChangeLemmas.{none-left, MadeRow, row-made}
+use Rattle.xl_radix_walk.proofs.Common.{◌≤◌, arith, has_room, IsMade, length, lit<, refl, Remove}
+use Rattle.xl_radix_walk.proofs.ChangeLemmas.{MadeRow, none-left, row-made}
 use Rattle.xl_radix_walk.proofs.row.remove_leaf.Goals as goal
 
 pub settle-requires : goal.settle-requires

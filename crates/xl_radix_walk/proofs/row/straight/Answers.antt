@@ -1,6 +1,4 @@
-use Rattle.std.proofs.Common.{suc, arith}
-use Rattle.xl_model.specs.LeafWords.{small_leaf}
-use Rattle.xl_radix.proofs.NumberLemmas.{number-some}
+use Rattle.xl_radix_walk.proofs.Common.{arith, number-some, small_leaf, suc}
 use Rattle.xl_radix_walk.proofs.WalkedLemmas.{straight-found, straight-path}
 use Rattle.xl_radix_walk.proofs.row.straight.Goals as goal
 

@@ -1,4 +1,4 @@
-use Rattle.xl_model.specs.LeafWords.{small_leaf}
+use Rattle.xl_radix_walk.proofs.Common.{small_leaf}
 use Rattle.xl_radix_walk.proofs.WalkedLemmas.{filling-walked}
 use Rattle.xl_radix_walk.proofs.row.straight_filling.Goals as goal
 

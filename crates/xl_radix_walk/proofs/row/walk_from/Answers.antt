@@ -1,4 +1,4 @@
-use Rattle.xl_model.specs.LeafWords.{small_leaf}
+use Rattle.xl_radix_walk.proofs.Common.{small_leaf}
 use Rattle.xl_radix_walk.proofs.WalkedLemmas.{straight-walked}
 use Rattle.xl_radix_walk.proofs.row.walk_from.Goals as goal
 

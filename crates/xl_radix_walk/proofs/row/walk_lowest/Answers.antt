@@ -1,4 +1,4 @@
-use Rattle.xl_radix_walk.proofs.LowestLemmas.{walk-some, walk-none}
+use Rattle.xl_radix_walk.proofs.LowestLemmas.{walk-none, walk-some}
 use Rattle.xl_radix_walk.proofs.RowLemmas.{page-low}
 use Rattle.xl_radix_walk.proofs.row.walk_lowest.Goals as goal
 

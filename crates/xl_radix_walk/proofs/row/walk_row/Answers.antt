@@ -1,10 +1,7 @@
-use Rattle.std.proofs.Common.{◌≤◌, None, Some, length, lit<, subst, arith}
+use Rattle.xl_radix_walk.proofs.Common.{◌≤◌, arith, IsWalked, length, lit<, None, Some, Start, subst, walk_told}
 use Rattle.xl_model.specs.declared.work.Walk.{Walk}
-use Rattle.xl_model.specs.Structures.{walk_told}
-use Rattle.xl_radix_walk.specs.declared.caches.Start.{Start}
-use Rattle.xl_radix_walk.specs.Row.{IsWalked}
-use Rattle.xl_radix_walk.proofs.RowLemmas.{IsStart, is-start, page-low, root-at}
-use Rattle.xl_radix_walk.proofs.WalkedLemmas.{WalkedFrom, row-from}
+use Rattle.xl_radix_walk.proofs.RowLemmas.{is-start, IsStart, page-low, root-at}
+use Rattle.xl_radix_walk.proofs.WalkedLemmas.{row-from, WalkedFrom}
 use Rattle.xl_radix_walk.proofs.row.walk_row.Goals as goal
 
 pub look-requires-clause-page : goal.look-requires-clause-page

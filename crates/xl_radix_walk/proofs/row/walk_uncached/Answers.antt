@@ -1,4 +1,4 @@
-use Rattle.std.proofs.Common.{lit<}
+use Rattle.xl_radix_walk.proofs.Common.{lit<}
 use Rattle.xl_radix_walk.proofs.WalkedLemmas.{uncached-start, uncached-walk}
 use Rattle.xl_radix_walk.proofs.row.walk_uncached.Goals as goal
 

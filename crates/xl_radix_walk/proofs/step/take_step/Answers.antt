@@ -1,7 +1,5 @@
-use Rattle.std.proofs.Common.{ℕ, ◌+◌, ◌*◌, sym, ap}
-use Rattle.std.specs.Prelude.{None, Some}
-use Rattle.xl_pte.specs.Decode.{decode_of}
-use Rattle.xl_radix_walk.proofs.StepLemmas.{is_step, word-there, word-gone}
+use Rattle.xl_radix_walk.proofs.Common.{◌*◌, ◌+◌, ap, decode_of, None, Some, sym, ℕ}
+use Rattle.xl_radix_walk.proofs.StepLemmas.{is_step, word-gone, word-there}
 use Rattle.xl_radix_walk.proofs.step.take_step.Goals as goal
 
 pub returns-in-None-clause-is_step : goal.returns-in-None-clause-is_step

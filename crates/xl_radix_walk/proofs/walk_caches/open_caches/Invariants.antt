@@ -1,5 +1,4 @@
-use Rattle.std.proofs.Common.{◌≡◌, map, take}
-use Rattle.xl_model.specs.Caches.{empty_cache}
+use Rattle.xl_radix_walk.proofs.Common.{◌≡◌, empty_cache, map, take}
 use Rattle.xl_radix_walk.proofs.walk_caches.open_caches.Given as goal
 
 abbrev pub invariant-opened : goal.invariant-opened

@@ -1,6 +1,4 @@
-use Rattle.std.proofs.Common.{◌≡◌, ◌≤◌, ◌<◌, ◌+◌, ◌-◌, ◌^◌, ◌++◌, length}
-use Rattle.xl_radix.specs.Walk.{radix_back}
-use Rattle.xl_radix_walk.specs.Path.{radix_path, loaded_times}
+use Rattle.xl_radix_walk.proofs.Common.{◌++◌, ◌+◌, ◌-◌, ◌<◌, ◌^◌, ◌≡◌, ◌≤◌, length, loaded_times, radix_back, radix_path}
 use Rattle.xl_radix_walk.proofs.walker.walk.Given as goal
 
 abbrev pub invariant-loop-end : goal.invariant-loop-end

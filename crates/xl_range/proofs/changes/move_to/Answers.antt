@@ -1,8 +1,6 @@
-use Rattle.std.proofs.Common.{◌∙◌, sym, subst, Bool}
-use Rattle.xl_model.specs.Changes.{Relocate}
-use Rattle.xl_range.specs.Rows.{IsDone}
+use Rattle.xl_range.proofs.Common.{◌∙◌, Bool, IsDone, Relocate, subst, sym}
+use Rattle.xl_range.proofs.MoveStepLemmas.{back-room, has-both, HasBoth, IsMoving, move-done, move-undone, moving, no-both}
 use Rattle.xl_range.proofs.StepLemmas.{leaf-at}
-use Rattle.xl_range.proofs.MoveStepLemmas.{IsMoving, moving, HasBoth, has-both, no-both, move-done, move-undone, back-room}
 use Rattle.xl_range.proofs.changes.move_to.Goals as goal
 
 pub leaf_in-old-requires : goal.leaf_in-old-requires

@@ -1,8 +1,6 @@
-use Rattle.std.proofs.Common.{◌∙◌, sym, subst, Bool}
-use Rattle.xl_model.specs.Changes.{Protect}
-use Rattle.xl_range.specs.Rows.{IsDone}
-use Rattle.xl_range.proofs.StepLemmas.{cut-can, cut-room, leaf-at}
+use Rattle.xl_range.proofs.Common.{◌∙◌, Bool, IsDone, Protect, subst, sym}
 use Rattle.xl_range.proofs.MoveStepLemmas.{protect-done, protect-undone}
+use Rattle.xl_range.proofs.StepLemmas.{cut-can, cut-room, leaf-at}
 use Rattle.xl_range.proofs.changes.set_perm.Goals as goal
 
 pub leaf_in-old-requires : goal.leaf_in-old-requires

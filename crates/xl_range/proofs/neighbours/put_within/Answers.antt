@@ -1,10 +1,5 @@
-use Rattle.std.proofs.Common.{◌≡◌, ◌∙◌, ◌+◌, ◌≤◌, ap, sym, length, List, arith}
-use Rattle.xl_model.specs.declared.leaf.Range.{Range}
-use Rattle.xl_model.specs.Ranges.{range_of_leaf}
-use Rattle.xl_range.specs.HeldRanges.{join}
-use Rattle.xl_treap.specs.Treaps.{keeping}
-use Rattle.xl_range.specs.Puts.{put_by, one_if}
-use Rattle.xl_range.proofs.PutLemmas.{IsReady, ready-beside, test-is, few-test}
+use Rattle.xl_range.proofs.Common.{◌+◌, ◌∙◌, ◌≡◌, ◌≤◌, ap, arith, join, keeping, length, List, one_if, put_by, Range, range_of_leaf, sym}
+use Rattle.xl_range.proofs.PutLemmas.{few-test, IsReady, ready-beside, test-is}
 use Rattle.xl_range.proofs.neighbours.put_within.Goals as goal
 
 pub returns-then-not-has_room-clause-test : goal.returns-then-not-has_room-clause-test

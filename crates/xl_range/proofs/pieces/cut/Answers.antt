@@ -1,9 +1,5 @@
-use Rattle.std.proofs.Common.{◌≡◌, ◌∙◌, ◌+◌, ◌-◌, ◌≤◌, ap, sym, subst, length, List, arith}
-use Rattle.xl_model.specs.declared.leaf.Range.{Range}
-use Rattle.xl_range.specs.HeldRanges.{cut}
-use Rattle.xl_treap.specs.Treaps.{TreapView, keeping, IsApart}
-use Rattle.xl_range.specs.Cuts.{kept_behind}
-use Rattle.xl_range.proofs.CutCallLemmas.{CanCut, can-cut, put-calls}
+use Rattle.xl_range.proofs.Common.{◌+◌, ◌-◌, ◌∙◌, ◌≡◌, ◌≤◌, ap, arith, cut, IsApart, keeping, kept_behind, length, List, Range, subst, sym, TreapView}
+use Rattle.xl_range.proofs.CutCallLemmas.{can-cut, CanCut, put-calls}
 use Rattle.xl_range.proofs.pieces.cut.Goals as goal
 
 pub overflow_add-end : goal.overflow_add-end

@@ -1,7 +1,6 @@
-use Rattle.std.proofs.Common.{◌∙◌, ◌+◌, ◌-◌, ◌≤◌, ℕ, ap, sym, refl, length, arith}
-use Rattle.xl_range.specs.HeldRanges.{cut}
+use Rattle.xl_range.proofs.Common.{◌+◌, ◌-◌, ◌∙◌, ◌≤◌, ap, arith, cut, length, refl, sym, ℕ}
+use Rattle.xl_range.proofs.CutCallLemmas.{can-cut, CanCut, test-cut}
 use Rattle.xl_range.proofs.PutLemmas.{few-test}
-use Rattle.xl_range.proofs.CutCallLemmas.{CanCut, can-cut, test-cut}
 use Rattle.xl_range.proofs.pieces.cut_within.Goals as goal
 
 pub overflow_add-behind : goal.overflow_add-behind

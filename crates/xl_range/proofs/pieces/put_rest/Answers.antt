@@ -1,4 +1,4 @@
-use Rattle.std.proofs.Common.{arith}
+use Rattle.xl_range.proofs.Common.{arith}
 use Rattle.xl_range.proofs.CutCallLemmas.{behind-room}
 use Rattle.xl_range.proofs.pieces.put_rest.Goals as goal
 

@@ -1,5 +1,5 @@
-use Rattle.std.proofs.Common.{◌∙◌, sym}
-use Rattle.xl_range.proofs.FindLemmas.{named-range, found-range, no-range}
+use Rattle.xl_range.proofs.Common.{◌∙◌, sym}
+use Rattle.xl_range.proofs.FindLemmas.{found-range, named-range, no-range}
 use Rattle.xl_range.proofs.pieces.range_with.Goals as goal
 
 pub find-requires-clause-space_in : goal.find-requires-clause-space_in

@@ -1,6 +1,4 @@
-use Rattle.std.proofs.Common.{◌<◌, ◌≤◌, take, ◌∙◌, sym, length, arith}
-use Rattle.std.proofs.lemmas.List.{get_or-take, length-take-le, take_all, take-append-le}
-use Rattle.std.specs.Fn.{FnReturnsAt}
+use Rattle.xl_recency.proofs.Common.{◌<◌, ◌∙◌, ◌≤◌, arith, FnReturnsAt, get_or-take, length, length-take-le, sym, take, take-append-le, take_all}
 use Rattle.xl_recency.proofs.ScanLemmas.{found, moved, none_found, none_moved, scanned_first, scanned_none}
 use Rattle.xl_recency.proofs.kernel.bring_at.Goals as goal
 

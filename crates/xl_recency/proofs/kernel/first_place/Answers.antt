@@ -1,8 +1,4 @@
-use Rattle.std.proofs.Common.{◌≡◌, true, false, subst, inl, inr, arith}
-use Rattle.std.proofs.lemmas.Bool.{cases_lt}
-use Rattle.std.proofs.lemmas.Fn.{says_at}
-use Rattle.std.proofs.lemmas.List.{get_or_read}
-use Rattle.std.specs.Fn.{FnReturnsAt}
+use Rattle.xl_recency.proofs.Common.{◌≡◌, arith, cases_lt, false, FnReturnsAt, get_or_read, inl, inr, says_at, subst, true}
 use Rattle.xl_recency.proofs.kernel.first_place.Goals as goal
 
 pub returns-then-test-clause-some : goal.returns-then-test-clause-some

@@ -1,5 +1,4 @@
-use Rattle.std.proofs.Common.{ℕ, ◌<◌, false, get_or}
-use Rattle.std.specs.Fn.{FnReturnsAt}
+use Rattle.xl_recency.proofs.Common.{◌<◌, false, FnReturnsAt, get_or, ℕ}
 use Rattle.xl_recency.proofs.kernel.first_place.Given as goal
 
 abbrev pub invariant-loop-i : goal.invariant-loop-i

@@ -1,6 +1,4 @@
-use Rattle.std.specs.Fn.{FnReturnsAt}
-use Rattle.std.proofs.Common.{arith}
-use Rattle.std.proofs.lemmas.Fn.{says_at}
+use Rattle.xl_recency.proofs.Common.{arith, FnReturnsAt, says_at}
 use Rattle.xl_recency.proofs.ScanLemmas.{fail_more, fail_past, first_at}
 use Rattle.xl_recency.proofs.kernel.is_first_at.Goals as goal
 

@@ -1,8 +1,6 @@
-use Rattle.std.proofs.Common.{not, refl, sym, ◌∙◌, ap, arith}
-use Rattle.std.proofs.lemmas.Fn.{says_at}
-use Rattle.std.proofs.lemmas.List.Filters.{FiltersInPlace-more_no, FiltersInPlace-more_set}
+use Rattle.xl_recency.proofs.Common.{◌∙◌, ap, arith, FiltersInPlace-more_no, FiltersInPlace-more_set, not, refl, says_at, sym}
+use Rattle.xl_recency.proofs.kernel.keep_failing.Goals.{else-not-test, then-not-test}
 use Rattle.xl_recency.proofs.kernel.keep_failing.Goals as goal
-use Rattle.xl_recency.proofs.kernel.keep_failing.Goals.{then-not-test, else-not-test}
 
 pub loop-i-preserved : goal.loop-i-preserved
 loop-i-preserved g c = record {

@@ -1,7 +1,4 @@
-use Rattle.std.proofs.Common.{◌≤◌, not}
-use Rattle.std.specs.Fn.{FnReturnsAt}
-use Rattle.std.proofs.lemmas.List.Filters.{FiltersInPlace}
-use Rattle.xl_recency.specs.Lists.{IsTest}
+use Rattle.xl_recency.proofs.Common.{◌≤◌, FiltersInPlace, FnReturnsAt, IsTest, not}
 use Rattle.xl_recency.proofs.kernel.keep_failing.Given as goal
 
 abbrev pub invariant-loop-i : goal.invariant-loop-i

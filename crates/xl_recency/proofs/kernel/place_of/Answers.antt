@@ -1,7 +1,7 @@
-use Rattle.std.proofs.Common.{◌≤◌, length, arith}
-use Rattle.xl_recency.proofs.ScanLemmas.{first_within, first_behind, none_within}
+use Rattle.xl_recency.proofs.Common.{◌≤◌, arith, length}
+use Rattle.xl_recency.proofs.ScanLemmas.{first_behind, first_within, none_within}
+use Rattle.xl_recency.proofs.kernel.place_of.Goals.{else-this-le8, then-this-le8}
 use Rattle.xl_recency.proofs.kernel.place_of.Goals as goal
-use Rattle.xl_recency.proofs.kernel.place_of.Goals.{then-this-le8, else-this-le8}
 
 pub returns-in-Some-clause-some : goal.returns-in-Some-clause-some
 returns-in-Some-clause-some g c =

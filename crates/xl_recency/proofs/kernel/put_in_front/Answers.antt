@@ -1,6 +1,6 @@
-use Rattle.std.proofs.Common.{◌<◌, sym, arith}
+use Rattle.xl_recency.proofs.Common.{◌<◌, arith, sym}
 use Rattle.std.proofs.lemmas.Bool.Decides.{nat_tests}
-use Rattle.xl_recency.proofs.FrontLemmas.{spread-none, spread-back}
+use Rattle.xl_recency.proofs.FrontLemmas.{spread-back, spread-none}
 use Rattle.xl_recency.proofs.kernel.put_in_front.Goals as goal
 
 pub loop-place-init : goal.loop-place-init

@@ -1,4 +1,4 @@
-use Rattle.std.proofs.Common.{◌≡◌, ◌≤◌}
+use Rattle.xl_recency.proofs.Common.{◌≡◌, ◌≤◌}
 use Rattle.xl_recency.proofs.FrontLemmas.{spread}
 use Rattle.xl_recency.proofs.kernel.put_in_front.Given as goal
 

@@ -1,5 +1,5 @@
-use Rattle.std.proofs.Common.{◌∙◌}
-use Rattle.xl_recency.proofs.ScanLemmas.{found, moved, stays, none_found, none_moved}
+use Rattle.xl_recency.proofs.Common.{◌∙◌}
+use Rattle.xl_recency.proofs.ScanLemmas.{found, moved, none_found, none_moved, stays}
 use Rattle.xl_recency.proofs.kernel.touch_at.Goals as goal
 
 pub returns-then-at-eq0 : goal.returns-then-at-eq0

@@ -1,5 +1,4 @@
-use Rattle.std.proofs.Common.{rules, arith}
-use Rattle.std.specs.Fn.{FnReturnsAt}
+use Rattle.xl_recency.proofs.Common.{arith, FnReturnsAt, rules}
 use Rattle.xl_recency.proofs.ScanLemmas.{fail_all, none_found, none_moved}
 use Rattle.xl_recency.proofs.kernel.touch_behind.Goals as goal
 

@@ -1,6 +1,5 @@
-use Rattle.std.proofs.Common.{rules, arith}
-use Rattle.std.specs.Fn.{FnReturnsAt}
-use Rattle.xl_recency.proofs.ScanLemmas.{fail_none, fail_all, none_found, none_moved}
+use Rattle.xl_recency.proofs.Common.{arith, FnReturnsAt, rules}
+use Rattle.xl_recency.proofs.ScanLemmas.{fail_all, fail_none, none_found, none_moved}
 use Rattle.xl_recency.proofs.kernel.touch_first.Goals as goal
 
 pub is_first_at-requires : goal.is_first_at-requires

@@ -1,5 +1,4 @@
-use Rattle.std.proofs.Common.{◌<◌, length, arith}
-use Rattle.xl_model.specs.Recency.{purged}
+use Rattle.xl_recency.proofs.Common.{◌<◌, arith, length, purged}
 use Rattle.xl_recency.proofs.TotalLemmas.{items_in-set, mapped_more}
 use Rattle.xl_recency.proofs.sets.remove_from_each.Goals as goal
 

@@ -1,7 +1,4 @@
-use Rattle.std.proofs.Common.{◌≡◌, ◌+◌, ◌*◌, ◌≤◌, ◌++◌, map, take, drop}
-use Rattle.std.specs.Fn.{FnReturnsAt}
-use Rattle.xl_model.specs.Recency.{purged}
-use Rattle.xl_recency.specs.Lists.{IsTest, items_in}
+use Rattle.xl_recency.proofs.Common.{◌*◌, ◌++◌, ◌+◌, ◌≡◌, ◌≤◌, drop, FnReturnsAt, IsTest, items_in, map, purged, take}
 use Rattle.xl_recency.proofs.sets.remove_from_each.Given as goal
 
 abbrev pub invariant-loop-ways : goal.invariant-loop-ways

@@ -1,5 +1,4 @@
-use Rattle.std.proofs.Common.{◌≡◌, ◌<◌, length, drop, arith}
-use Rattle.std.proofs.lemmas.List.{length-take, length-drop}
+use Rattle.xl_recency.proofs.Common.{◌<◌, ◌≡◌, arith, drop, length, length-drop, length-take}
 use Rattle.xl_recency.proofs.TouchLemmas.{free_step}
 use Rattle.xl_recency.proofs.stamped.fill_place.Goals as goal
 

@@ -1,12 +1,7 @@
-use Rattle.std.proofs.Common.{◌≡◌, ◌<◌, not, length, get_or, refl, sym, ◌∙◌, ap, arith}
-use Rattle.std.proofs.lemmas.Fn.{says_at}
-use Rattle.std.proofs.lemmas.List.Filters.{FiltersInPlace-all, FiltersInPlace-more_no, FiltersInPlace-more_set}
-use Rattle.std.proofs.lemmas.List.{get_or_default}
-use Rattle.xl_recency.specs.declared.stamped.Place.{Place}
-use Rattle.xl_recency.specs.Stamps.{newest_first}
-use Rattle.xl_recency.proofs.TouchLemmas.{no_place, purged_step, stamps_skip, stamps_keep}
+use Rattle.xl_recency.proofs.Common.{◌<◌, ◌∙◌, ◌≡◌, ap, arith, FiltersInPlace-all, FiltersInPlace-more_no, FiltersInPlace-more_set, get_or, get_or_default, length, newest_first, not, Place, refl, says_at, sym}
+use Rattle.xl_recency.proofs.TouchLemmas.{no_place, purged_step, stamps_keep, stamps_skip}
+use Rattle.xl_recency.proofs.stamped.keep_places.Goals.{else-not-test, then-not-test}
 use Rattle.xl_recency.proofs.stamped.keep_places.Goals as goal
-use Rattle.xl_recency.proofs.stamped.keep_places.Goals.{then-not-test, else-not-test}
 
 pub loop-i-preserved : goal.loop-i-preserved
 loop-i-preserved g c =

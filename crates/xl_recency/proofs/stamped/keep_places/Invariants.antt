@@ -1,8 +1,4 @@
-use Rattle.std.proofs.Common.{ℕ, ◌≤◌, not, ◌++◌, take, drop}
-use Rattle.std.specs.Fn.{FnReturnsAt}
-use Rattle.std.proofs.lemmas.List.Filters.{FiltersInPlace}
-use Rattle.xl_recency.specs.Lists.{IsTest}
-use Rattle.xl_recency.specs.Stamps.{AreStamps}
+use Rattle.xl_recency.proofs.Common.{◌++◌, ◌≤◌, AreStamps, drop, FiltersInPlace, FnReturnsAt, IsTest, not, take, ℕ}
 use Rattle.xl_recency.proofs.stamped.keep_places.Given as goal
 
 abbrev pub invariant-loop-i : goal.invariant-loop-i

@@ -1,5 +1,4 @@
-use Rattle.std.proofs.Common.{◌++◌, drop, arith}
-use Rattle.std.proofs.lemmas.List.{length-take, length-append}
+use Rattle.xl_recency.proofs.Common.{◌++◌, arith, drop, length-append, length-take}
 use Rattle.xl_recency.proofs.TouchLemmas.{kept_count}
 use Rattle.xl_recency.proofs.stamped.keep_used.Goals as goal
 

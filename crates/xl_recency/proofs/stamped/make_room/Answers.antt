@@ -1,5 +1,4 @@
-use Rattle.std.proofs.Common.{◌∙◌, ap}
-use Rattle.xl_recency.specs.Stamps.{newest_first}
+use Rattle.xl_recency.proofs.Common.{◌∙◌, ap, newest_first}
 use Rattle.xl_recency.proofs.RankLemmas.{renumbered_same, stamps_renumbered}
 use Rattle.xl_recency.proofs.stamped.make_room.Goals as goal
 

@@ -1,6 +1,4 @@
-use Rattle.std.proofs.Common.{◌<◌, length}
-use Rattle.std.specs.Fn.{FnReturnsAt}
-use Rattle.xl_recency.specs.Stamps.{IsNewest}
+use Rattle.xl_recency.proofs.Common.{◌<◌, FnReturnsAt, IsNewest, length}
 use Rattle.xl_recency.proofs.stamped.newest_from.Given as goal
 
 abbrev pub invariant-loop-i : goal.invariant-loop-i

@@ -1,4 +1,4 @@
-use Rattle.std.proofs.Common.{ℕ, ◌<◌, ◌≤◌, length, get_or}
+use Rattle.xl_recency.proofs.Common.{◌<◌, ◌≤◌, get_or, length, ℕ}
 use Rattle.xl_recency.proofs.stamped.oldest.Given as goal
 
 abbrev pub invariant-loop-i : goal.invariant-loop-i

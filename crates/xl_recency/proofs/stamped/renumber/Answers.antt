@@ -1,7 +1,4 @@
-use Rattle.std.proofs.Common.{◌≡◌, ◌<◌, length, set, ◌∙◌, ap, inl, inr, arith}
-use Rattle.std.proofs.lemmas.Bool.{cases_lt}
-use Rattle.std.proofs.lemmas.List.{length-set, get_or-set_same, get_or-set_other, get_or_default}
-use Rattle.xl_recency.specs.Stamps.{rank_of}
+use Rattle.xl_recency.proofs.Common.{◌<◌, ◌∙◌, ◌≡◌, ap, arith, cases_lt, get_or-set_other, get_or-set_same, get_or_default, inl, inr, length, length-set, rank_of, set}
 use Rattle.xl_recency.proofs.RankLemmas.{renumbered_more}
 use Rattle.xl_recency.proofs.stamped.renumber.Goals as goal
 

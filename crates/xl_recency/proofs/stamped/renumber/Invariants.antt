@@ -1,5 +1,4 @@
-use Rattle.std.proofs.Common.{◌≡◌, ℕ, ◌<◌, ◌++◌, length, get_or, map, take, drop}
-use Rattle.xl_recency.specs.Stamps.{rank_of, renumbered}
+use Rattle.xl_recency.proofs.Common.{◌++◌, ◌<◌, ◌≡◌, drop, get_or, length, map, rank_of, renumbered, take, ℕ}
 use Rattle.xl_recency.proofs.stamped.renumber.Given as goal
 
 -- the first ranks are those of the stamps in the first places

@@ -1,4 +1,4 @@
-use Rattle.std.proofs.Common.{arith}
+use Rattle.xl_recency.proofs.Common.{arith}
 use Rattle.xl_recency.proofs.TouchLemmas.{full_step, stamps_set}
 use Rattle.xl_recency.proofs.stamped.replace_oldest.Goals as goal
 

@@ -1,6 +1,5 @@
-use Rattle.std.proofs.Common.{find, ◌∙◌, ap, arith}
-use Rattle.xl_model.specs.Recency.{touched}
-use Rattle.xl_recency.proofs.TouchLemmas.{touch_step, touch_none, stamps_set}
+use Rattle.xl_recency.proofs.Common.{◌∙◌, ap, arith, find, touched}
+use Rattle.xl_recency.proofs.TouchLemmas.{stamps_set, touch_none, touch_step}
 use Rattle.xl_recency.proofs.stamped.touch_newest.Goals as goal
 
 pub returns-in-Some : goal.returns-in-Some

@@ -1,5 +1,4 @@
-use Rattle.std.proofs.Common.{◌≡◌, ◌++◌, length, drop}
-use Rattle.xl_model.specs.Lines.{hex_digits}
+use Rattle.xl_report.proofs.Common.{◌++◌, ◌≡◌, drop, hex_digits, length}
 use Rattle.xl_report.proofs.line.hex_text.Given as goal
 
 abbrev pub invariant-loop-i : goal.invariant-loop-i

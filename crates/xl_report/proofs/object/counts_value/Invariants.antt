@@ -1,6 +1,4 @@
-use Rattle.std.proofs.Common.{◌≡◌, ◌++◌, map, drop}
-use Rattle.serde_json.specs.View.{view}
-use Rattle.xl_report.specs.Json.{amount}
+use Rattle.xl_report.proofs.Common.{◌++◌, ◌≡◌, amount, drop, map, view}
 use Rattle.xl_report.proofs.object.counts_value.Given as goal
 
 abbrev pub invariant-loop-count : goal.invariant-loop-count

@@ -1,5 +1,4 @@
-use Rattle.std.proofs.Common.{sym, subst}
-use Rattle.std.specs.Str.{IsUtf8}
+use Rattle.xl_report.proofs.Common.{IsUtf8, subst, sym}
 use Rattle.xl_report.proofs.JsonLemmas.{digits-are_text}
 use Rattle.xl_report.proofs.object.hex_value.Goals as goal
 

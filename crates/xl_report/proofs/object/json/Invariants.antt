@@ -1,6 +1,4 @@
-use Rattle.std.proofs.Common.{◌≡◌, ◌++◌, map, drop}
-use Rattle.serde_json.specs.View.{view}
-use Rattle.xl_report.specs.Json.{objects_of}
+use Rattle.xl_report.proofs.Common.{◌++◌, ◌≡◌, drop, map, objects_of, view}
 use Rattle.xl_report.proofs.object.json.Given as goal
 
 abbrev pub invariant-loop-i : goal.invariant-loop-i

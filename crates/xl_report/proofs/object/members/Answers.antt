@@ -1,7 +1,4 @@
-use Rattle.std.proofs.Common.{ap, ◌∙◌}
-use Rattle.serde_json.specs.Data.{Members, object}
-use Rattle.serde_json.specs.View.{members_view}
-use Rattle.xl_report.specs.Json.{verdict_members, walk_members, change_members, named_members}
+use Rattle.xl_report.proofs.Common.{◌∙◌, ap, change_members, Members, members_view, named_members, object, verdict_members, walk_members}
 use Rattle.xl_report.proofs.JsonLemmas.{members_in_order}
 use Rattle.xl_report.proofs.object.members.Goals as goal
 

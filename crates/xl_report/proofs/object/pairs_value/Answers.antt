@@ -1,7 +1,4 @@
-use Rattle.std.proofs.Common.{◌+◌, ◌-◌, List, ◌++◌, map, drop, ap, sym, ◌∙◌, arith}
-use Rattle.serde_json.specs.Data.{Data}
-use Rattle.serde_json.specs.View.{view}
-use Rattle.xl_report.specs.Json.{pairs}
+use Rattle.xl_report.proofs.Common.{◌++◌, ◌+◌, ◌-◌, ◌∙◌, ap, arith, Data, drop, List, map, pairs, sym, view}
 use Rattle.xl_report.proofs.JsonLemmas.{next_pair, pushed}
 use Rattle.xl_report.proofs.object.pairs_value.Goals as goal
 

@@ -1,6 +1,4 @@
-use Rattle.std.proofs.Common.{◌≡◌, ◌++◌, ◌-◌, map, drop}
-use Rattle.serde_json.specs.View.{view}
-use Rattle.xl_report.specs.Json.{pairs}
+use Rattle.xl_report.proofs.Common.{◌++◌, ◌-◌, ◌≡◌, drop, map, pairs, view}
 use Rattle.xl_report.proofs.object.pairs_value.Given as goal
 
 abbrev pub invariant-loop-i : goal.invariant-loop-i

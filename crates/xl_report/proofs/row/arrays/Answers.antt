@@ -1,5 +1,4 @@
-use Rattle.std.proofs.Common.{◌≡◌, sym, ap, length-append, ◌∙◌, ◌+◌, length, arith}
-use Rattle.std.specs.Prelude.{codes}
+use Rattle.xl_report.proofs.Common.{◌+◌, ◌∙◌, ◌≡◌, ap, arith, codes, length, length-append, sym}
 use Rattle.xl_report.proofs.ArrayLemmas.{next_array}
 use Rattle.xl_report.proofs.row.arrays.Goals as goal
 

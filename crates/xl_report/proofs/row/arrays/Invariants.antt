@@ -1,5 +1,4 @@
-use Rattle.std.proofs.Common.{◌≡◌, ◌≤◌, ◌+◌, ◌-◌, ◌*◌, length, drop}
-use Rattle.xl_model.specs.Lines.{with_arrays, with_more_arrays}
+use Rattle.xl_report.proofs.Common.{◌*◌, ◌+◌, ◌-◌, ◌≡◌, ◌≤◌, drop, length, with_arrays, with_more_arrays}
 use Rattle.xl_report.proofs.row.arrays.Given as goal
 
 abbrev pub invariant-loop-i : goal.invariant-loop-i

@@ -1,5 +1,4 @@
-use Rattle.std.proofs.Common.{◌≡◌, ◌≤◌, ◌+◌, ◌*◌, length, drop}
-use Rattle.xl_model.specs.Lines.{with_rest}
+use Rattle.xl_report.proofs.Common.{◌*◌, ◌+◌, ◌≡◌, ◌≤◌, drop, length, with_rest}
 use Rattle.xl_report.proofs.row.rest.Given as goal
 
 abbrev pub invariant-loop-number : goal.invariant-loop-number

@@ -1,5 +1,4 @@
-use Rattle.std.proofs.Common.{ℕ, List, ◌+◌, length, ap, ◌∙◌}
-use Rattle.memchr.specs.Find.{is_byte}
+use Rattle.xl_script.proofs.Common.{◌+◌, ◌∙◌, ap, is_byte, length, List, ℕ}
 use Rattle.memchr.proofs.lemmas.CallerLemmas.{length-places}
 use Rattle.xl_script.proofs.form.count_lines.Goals as goal
 

@@ -1,7 +1,4 @@
-use Rattle.std.proofs.Common.{◌≡◌, length, nat_lt, false}
-use Rattle.std.proofs.lemmas.Bool.{le-ltb}
-use Rattle.xl_script.specs.Texts.{script_lines}
-use Rattle.xl_script.specs.Scripts.{text_read, lines_read}
+use Rattle.xl_script.proofs.Common.{◌≡◌, false, le-ltb, length, lines_read, nat_lt, script_lines, text_read}
 use Rattle.xl_script.proofs.ScriptLemmas.{at_end}
 use Rattle.xl_script.proofs.form.read_text.Goals as goal
 

@@ -1,6 +1,4 @@
-use Rattle.std.proofs.Common.{◌≡◌, ◌≤◌, ◌+◌, ◌-◌, drop, length}
-use Rattle.xl_script.specs.Texts.{script_lines}
-use Rattle.xl_script.specs.Scripts.{after, lines_read}
+use Rattle.xl_script.proofs.Common.{◌+◌, ◌-◌, ◌≡◌, ◌≤◌, after, drop, length, lines_read, script_lines}
 use Rattle.xl_script.proofs.form.read_text.Given as goal
 
 -- the commands so far and the lines left read as the whole text does

@@ -1,6 +1,4 @@
-use Rattle.std.proofs.Common.{◌∙◌, ap, rules}
-use Rattle.xl_text.specs.Numbers.{address_of}
-use Rattle.xl_script.specs.Numbers.{hexadecimal_of}
+use Rattle.xl_script.proofs.Common.{◌∙◌, address_of, ap, hexadecimal_of, rules}
 use Rattle.xl_script.proofs.DigitLemmas.{address_read}
 use Rattle.xl_script.proofs.number.hexadecimal.Goals as goal
 

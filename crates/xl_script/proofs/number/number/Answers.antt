@@ -1,6 +1,4 @@
-use Rattle.std.proofs.Common.{◌∙◌, sym, ap, drop, arith, ◌^◌, ◌+◌}
-use Rattle.xl_script.specs.Numbers.{below}
-use Rattle.xl_text.proofs.DigitLemmas.{number_after, none_read}
+use Rattle.xl_script.proofs.Common.{◌+◌, ◌^◌, ◌∙◌, ap, arith, below, drop, none_read, number_after, sym}
 use Rattle.xl_script.proofs.DigitLemmas.{all_read, next_digit, refused}
 use Rattle.xl_script.proofs.number.number.Goals as goal
 

@@ -1,6 +1,4 @@
-use Rattle.std.proofs.Common.{◌≡◌, drop, ◌<◌, ◌^◌}
-use Rattle.xl_text.specs.Numbers.{number_in}
-use Rattle.xl_text.proofs.DigitLemmas.{number_after}
+use Rattle.xl_script.proofs.Common.{◌<◌, ◌^◌, ◌≡◌, drop, number_after, number_in}
 use Rattle.xl_script.proofs.number.number.Given as goal
 
 abbrev pub invariant-loop-digit : goal.invariant-loop-digit

@@ -1,6 +1,4 @@
-use Rattle.std.proofs.Common.{◌∙◌, ap, sym, ℕ}
-use Rattle.xl_script.specs.Scripts.{text_read}
-use Rattle.xl_script.specs.Plain.{plain_said}
+use Rattle.xl_script.proofs.Common.{◌∙◌, ap, plain_said, sym, text_read, ℕ}
 use Rattle.xl_script.proofs.ScriptLemmas.{script_keeps}
 use Rattle.xl_script.proofs.script.parse.Goals as goal
 

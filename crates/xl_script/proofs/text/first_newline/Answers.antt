@@ -1,4 +1,4 @@
-use Rattle.memchr.specs.Find.{is_byte}
+use Rattle.xl_script.proofs.Common.{is_byte}
 use Rattle.xl_script.proofs.TextLemmas.{first_place}
 use Rattle.xl_script.proofs.text.first_newline.Goals as goal
 

@@ -1,4 +1,4 @@
-use Rattle.std.proofs.lemmas.List.{take_rest}
+use Rattle.xl_script.proofs.Common.{take_rest}
 use Rattle.xl_script.proofs.TextLemmas.{line_found, line_last}
 use Rattle.xl_script.proofs.text.line.Goals as goal
 

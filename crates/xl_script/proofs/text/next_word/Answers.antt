@@ -1,7 +1,6 @@
-use Rattle.std.proofs.Common.{◌∙◌, sym, rules}
-use Rattle.std.proofs.lemmas.List.{take_rest}
-use Rattle.xl_script.proofs.TextLemmas.{empty_line, comment_first, word_first}
-use Rattle.xl_script.proofs.text.next_word.Goals.{then-is_empty-via-then-is_empty, then-is_empty-via-else-is_empty+then-line-eq35}
+use Rattle.xl_script.proofs.Common.{◌∙◌, rules, sym, take_rest}
+use Rattle.xl_script.proofs.TextLemmas.{comment_first, empty_line, word_first}
+use Rattle.xl_script.proofs.text.next_word.Goals.{then-is_empty-via-else-is_empty+then-line-eq35, then-is_empty-via-then-is_empty}
 use Rattle.xl_script.proofs.text.next_word.Goals as goal
 
 pub returns-then-is_empty-clause-none : goal.returns-then-is_empty-clause-none

@@ -1,5 +1,5 @@
-use Rattle.std.proofs.lemmas.List.{take_rest}
-use Rattle.xl_script.proofs.TextLemmas.{skip_blanks, blanks_end}
+use Rattle.xl_script.proofs.Common.{take_rest}
+use Rattle.xl_script.proofs.TextLemmas.{blanks_end, skip_blanks}
 use Rattle.xl_script.proofs.text.without_blanks.Goals as goal
 
 pub returns-clause-same : goal.returns-clause-same

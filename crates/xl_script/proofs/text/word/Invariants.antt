@@ -1,5 +1,4 @@
-use Rattle.std.proofs.Common.{◌≡◌, ◌-◌, slice_get}
-use Rattle.xl_script.specs.Texts.{words_of}
+use Rattle.xl_script.proofs.Common.{◌-◌, ◌≡◌, slice_get, words_of}
 use Rattle.xl_script.proofs.text.word.Given as goal
 
 abbrev pub invariant-loop : goal.invariant-loop

@@ -1,7 +1,4 @@
-use Rattle.std.proofs.Common.{ℕ, List, subst}
-use Rattle.std.specs.Prelude.{true, codes, is_ok}
-use Rattle.xl_outside.specs.Sinks.{SinkAfter}
-use Rattle.xl_outside.proofs.SinkLemmas.{sink_then}
+use Rattle.xl_serving.proofs.Common.{codes, is_ok, List, sink_then, SinkAfter, subst, true, ℕ}
 use Rattle.xl_serving.proofs.ending.put_line.Goals as goal
 
 pub returns-in-Ok : goal.returns-in-Ok

@@ -1,7 +1,4 @@
-use Rattle.std.specs.Prelude.{true, false}
-use Rattle.xl_model.specs.Report.{images_where}
-use Rattle.xl_outside.proofs.SinkLemmas.{sink_then}
-use Rattle.xl_serving.specs.Plain.{rows_text}
+use Rattle.xl_serving.proofs.Common.{false, images_where, rows_text, sink_then, true}
 use Rattle.xl_serving.proofs.EndLemmas.{end_cut}
 use Rattle.xl_serving.proofs.ending.write_end.Goals as goal
 

@@ -1,8 +1,5 @@
-use Rattle.std.proofs.Common.{◌≡◌, ◌∷◌, [], ◌++◌, List, length, sym, ap, ◌∙◌, append_assoc, arith}
-use Rattle.std.specs.Vec.Iter.{into_iter_items}
-use Rattle.xl_model.specs.declared.row.Row.{Row as RowFields}
-use Rattle.xl_model.specs.Rows.{IsRow}
-use Rattle.xl_serving.proofs.OpenedLemmas.{next_keeps, next_few, next_opened}
+use Rattle.xl_serving.proofs.Common.{◌++◌, ◌∙◌, ◌∷◌, ◌≡◌, [], ap, append_assoc, arith, into_iter_items, IsRow, length, List, RowFields, sym}
+use Rattle.xl_serving.proofs.OpenedLemmas.{next_few, next_keeps, next_opened}
 use Rattle.xl_serving.proofs.opening.add_all.Goals as goal
 
 pub add-requires-clause-row : goal.add-requires-clause-row

@@ -1,7 +1,4 @@
-use Rattle.std.proofs.Common.{◌≡◌, ◌++◌, length, map}
-use Rattle.std.specs.Vec.Iter.{into_iter_items, into_iter_len}
-use Rattle.xl_model.specs.Rows.{row_of}
-use Rattle.xl_model.specs.Scenes.{opened}
+use Rattle.xl_serving.proofs.Common.{◌++◌, ◌≡◌, into_iter_items, into_iter_len, length, map, opened, row_of}
 use Rattle.xl_serving.proofs.opening.add_all.Given as goal
 
 abbrev pub invariant-loop-design : goal.invariant-loop-design

@@ -1,9 +1,5 @@
-use Rattle.std.specs.Prelude.{Ok}
-use Rattle.xl_outside.specs.Folders.{file_of}
-use Rattle.xl_outside.specs.Whole.{TellsWhole}
-use Rattle.xl_serving.specs.Inputs.{Finds, said_in, commands_said}
-use Rattle.xl_course.proofs.ToldLemmas.{told_one}
-use Rattle.xl_serving.proofs.InputLemmas.{finds_text, commands_cut}
+use Rattle.xl_serving.proofs.Common.{commands_said, file_of, Finds, Ok, said_in, TellsWhole, told_one}
+use Rattle.xl_serving.proofs.InputLemmas.{commands_cut, finds_text}
 use Rattle.xl_serving.proofs.opening.read_commands.Goals as goal
 
 pub returns-clause-told : goal.returns-clause-told

@@ -1,9 +1,4 @@
-use Rattle.std.specs.Prelude.{Ok, map}
-use Rattle.xl_model.specs.Rows.{row_of}
-use Rattle.xl_outside.specs.Folders.{file_of}
-use Rattle.xl_outside.specs.Whole.{TellsWhole}
-use Rattle.xl_serving.specs.Inputs.{Finds, rows_said, rows_in}
-use Rattle.xl_course.proofs.ToldLemmas.{told_one}
+use Rattle.xl_serving.proofs.Common.{file_of, Finds, map, Ok, row_of, rows_in, rows_said, TellsWhole, told_one}
 use Rattle.xl_serving.proofs.InputLemmas.{finds_text, rows_cut}
 use Rattle.xl_serving.proofs.opening.read_config.Goals as goal
 

@@ -1,6 +1,4 @@
-use Rattle.std.proofs.Common.{subst}
-use Rattle.xl_serving.specs.Inputs.{Finds}
-use Rattle.xl_course.proofs.ToldLemmas.{told_all}
+use Rattle.xl_serving.proofs.Common.{Finds, subst, told_all}
 use Rattle.xl_serving.proofs.InputLemmas.{none_said}
 use Rattle.xl_serving.proofs.opening.read_script.Goals as goal
 

@@ -1,10 +1,4 @@
-use Rattle.std.proofs.Common.{◌≡◌, refl}
-use Rattle.std.specs.Prelude.{Ok, Err}
-use Rattle.xl_course.specs.Accounts.{Ends}
-use Rattle.xl_course.proofs.ToldLemmas.{told_one, told_then, is_err_by}
-use Rattle.xl_words.specs.Words.{plain_of}
-use Rattle.xl_serving.specs.Inputs.{Finds, trail_for}
-use Rattle.xl_serving.specs.Plain.{start_of, account_by, account_from, rows_from, plain_start, plain_account, plain_rows}
+use Rattle.xl_serving.proofs.Common.{◌≡◌, account_by, account_from, Ends, Err, Finds, is_err_by, Ok, plain_account, plain_of, plain_rows, plain_start, refl, rows_from, start_of, told_one, told_then, trail_for}
 use Rattle.xl_serving.proofs.EndLemmas.{started_ends, stopped_ends}
 use Rattle.xl_serving.proofs.running.report.Goals as goal
 

@@ -1,14 +1,5 @@
-use Rattle.std.proofs.Common.{◌≡◌}
-use Rattle.xl_course.specs.Meanings.{states_after}
-use Rattle.xl_course.specs.Courses.{course}
-use Rattle.xl_course.specs.Accounts.{account, Ends}
-use Rattle.xl_course.proofs.ToldLemmas.{told_one}
-use Rattle.xl_words.specs.Words.{plain_of}
-use Rattle.xl_serving.specs.Inputs.{trail_for}
-use Rattle.xl_serving.specs.Serving.{scene_of}
-use Rattle.xl_serving.specs.Batches.{waited}
-use Rattle.xl_serving.specs.Plain.{plain, end_text, steps_of}
-use Rattle.xl_serving.proofs.PlainLemmas.{can-script, fresh, course-ends}
+use Rattle.xl_serving.proofs.Common.{◌≡◌, account, course, end_text, Ends, plain, plain_of, scene_of, states_after, steps_of, told_one, trail_for, waited}
+use Rattle.xl_serving.proofs.PlainLemmas.{can-script, course-ends, fresh}
 use Rattle.xl_serving.proofs.running.report_from.Goals as goal
 
 pub report-requires-clause-can : goal.report-requires-clause-can

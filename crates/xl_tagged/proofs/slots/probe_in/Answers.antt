@@ -1,13 +1,8 @@
-use Rattle.std.proofs.Common.{◌≡◌, sym, ap, ◌∙◌, ◌+◌, false, lit<, arith}
-use Rattle.xl_chain.specs.Held.{ChainState, held_with, found_of, tags_of}
-use Rattle.xl_chain.specs.declared.shape.Seek.TheVariants as seek
-use Rattle.xl_model.specs.Chains.{has_tag}
+use Rattle.xl_tagged.proofs.Common.{◌+◌, ◌∙◌, ◌≡◌, ap, arith, ChainState, false, found_of, has_tag, held_with, is_entry, list_any, lit<, loaded_more, sym, tags_of, value_of}
 use Rattle.xl_tagged.proofs.ChainLemmas.{found-under}
-use Rattle.xl_tagged.proofs.StepLemmas.{entry-held, tag-held, not-held}
-use Rattle.xl_tagged.proofs.SearchLemmas.{absent-word, slot-value, loads-found, loads-absent}
-use Rattle.xl_tagged.specs.Slots.{loaded_more}
-use Rattle.std.specs.List.{list_any}
-use Rattle.xl_chain.specs.Held.{is_entry, value_of}
+use Rattle.xl_tagged.proofs.SearchLemmas.{absent-word, loads-absent, loads-found, slot-value}
+use Rattle.xl_tagged.proofs.StepLemmas.{entry-held, not-held, tag-held}
+use Rattle.xl_chain.specs.declared.shape.Seek.TheVariants as seek
 use Rattle.xl_tagged.proofs.slots.probe_in.Goals as goal
 
 pub load_value-requires : goal.load_value-requires

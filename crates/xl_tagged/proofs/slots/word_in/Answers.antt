@@ -1,9 +1,8 @@
-use Rattle.std.proofs.Common.{◌≡◌, sym, ◌∙◌, lit<, arith}
-use Rattle.xl_chain.specs.Held.{ChainState, held_with, found_of}
-use Rattle.xl_chain.specs.declared.shape.Seek.TheVariants as seek
+use Rattle.xl_tagged.proofs.Common.{◌∙◌, ◌≡◌, arith, ChainState, found_of, held_with, lit<, sym}
 use Rattle.xl_tagged.proofs.ChainLemmas.{found-under}
-use Rattle.xl_tagged.proofs.StepLemmas.{entry-held, not-held}
 use Rattle.xl_tagged.proofs.SearchLemmas.{absent-word, slot-value}
+use Rattle.xl_tagged.proofs.StepLemmas.{entry-held, not-held}
+use Rattle.xl_chain.specs.declared.shape.Seek.TheVariants as seek
 use Rattle.xl_tagged.proofs.slots.word_in.Goals as goal
 
 pub value-requires : goal.value-requires

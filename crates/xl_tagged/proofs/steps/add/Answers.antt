@@ -1,12 +1,7 @@
-use Rattle.std.proofs.Common.{sym, ap, subst, refl, Err}
-use Rattle.xl_model.specs.Changes.{Insert}
-use Rattle.xl_model.specs.Structures.{IsChange}
-use Rattle.xl_chain.specs.Held.{ChainState}
-use Rattle.xl_tagged.specs.Forms.{Form, slot_of}
-use Rattle.xl_tagged.specs.Slots.{table_in}
-use Rattle.xl_tagged.proofs.StateLemmas.{done, no_table}
-use Rattle.xl_tagged.proofs.WholeLemmas.{IsStep, answered, new-slot, insert-room, insert-step, insert-refused}
+use Rattle.xl_tagged.proofs.Common.{ap, ChainState, Err, Form, Insert, IsChange, refl, slot_of, subst, sym, table_in}
 use Rattle.xl_tagged.proofs.GroupLemmas.{ready}
+use Rattle.xl_tagged.proofs.StateLemmas.{done, no_table}
+use Rattle.xl_tagged.proofs.WholeLemmas.{answered, insert-refused, insert-room, insert-step, IsStep, new-slot}
 use Rattle.xl_tagged.proofs.steps.add.Goals as goal
 
 pub put-requires-clause-ready : goal.put-requires-clause-ready

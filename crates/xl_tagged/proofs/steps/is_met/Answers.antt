@@ -1,8 +1,4 @@
-use Rattle.std.proofs.Common.{sym, ap, ◌∙◌, subst, ◌||◌}
-use Rattle.std.specs.Prelude.{is_some}
-use Rattle.xl_chain.specs.Held.{ChainState}
-use Rattle.xl_tagged.specs.Forms.{Form, values_under}
-use Rattle.xl_tagged.specs.Slots.{found_from, NoneLarge}
+use Rattle.xl_tagged.proofs.Common.{◌||◌, ◌∙◌, ap, ChainState, Form, found_from, is_some, NoneLarge, subst, sym, values_under}
 use Rattle.xl_tagged.proofs.WholeLemmas.{block-low, meets-step, none-large}
 use Rattle.xl_tagged.proofs.steps.is_met.Goals as goal
 

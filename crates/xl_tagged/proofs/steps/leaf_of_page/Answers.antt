@@ -1,7 +1,4 @@
-use Rattle.std.proofs.Common.{sym, ◌∙◌, subst}
-use Rattle.xl_chain.specs.Held.{ChainState}
-use Rattle.xl_tagged.specs.Forms.{Form, values_under}
-use Rattle.xl_tagged.specs.Slots.{NoneLarge}
+use Rattle.xl_tagged.proofs.Common.{◌∙◌, ChainState, Form, NoneLarge, subst, sym, values_under}
 use Rattle.xl_tagged.proofs.WholeLemmas.{leaf-step, none-large}
 use Rattle.xl_tagged.proofs.steps.leaf_of_page.Goals as goal
 

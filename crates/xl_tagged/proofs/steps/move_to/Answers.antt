@@ -1,7 +1,5 @@
-use Rattle.std.proofs.Common.{◌≡◌, sym, ◌∙◌, None, Some}
-use Rattle.xl_chain.specs.Held.{ChainState}
-use Rattle.xl_tagged.specs.Forms.{Form}
-use Rattle.xl_tagged.proofs.WholeLemmas.{IsNamedLeaf, named-leaf, named-low, named-found, moving-leaf, CanMove}
+use Rattle.xl_tagged.proofs.Common.{◌∙◌, ◌≡◌, ChainState, Form, None, Some, sym}
+use Rattle.xl_tagged.proofs.WholeLemmas.{CanMove, IsNamedLeaf, moving-leaf, named-found, named-leaf, named-low}
 use Rattle.xl_tagged.proofs.steps.move_to.Goals as goal
 
 pub look-requires-clause-page_in : goal.look-requires-clause-page_in

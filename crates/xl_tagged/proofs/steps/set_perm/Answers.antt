@@ -1,9 +1,7 @@
-use Rattle.xl_model.specs.Changes.{Protect}
-use Rattle.xl_chain.specs.Held.{ChainState}
-use Rattle.xl_tagged.specs.Forms.{Form}
+use Rattle.xl_tagged.proofs.Common.{ChainState, Form, Protect}
+use Rattle.xl_tagged.proofs.GroupLemmas.{named-used, ready}
 use Rattle.xl_tagged.proofs.StateLemmas.{done}
-use Rattle.xl_tagged.proofs.WholeLemmas.{IsStep, answered, IsNamedLeaf, named-leaf, named-low, protect-step}
-use Rattle.xl_tagged.proofs.GroupLemmas.{ready, named-used}
+use Rattle.xl_tagged.proofs.WholeLemmas.{answered, IsNamedLeaf, IsStep, named-leaf, named-low, protect-step}
 use Rattle.xl_tagged.proofs.steps.set_perm.Goals as goal
 
 pub give-requires-clause-place : goal.give-requires-clause-place

@@ -1,9 +1,7 @@
-use Rattle.xl_model.specs.Changes.{Remove}
-use Rattle.xl_chain.specs.Held.{ChainState}
-use Rattle.xl_tagged.specs.Forms.{Form}
+use Rattle.xl_tagged.proofs.Common.{ChainState, Form, Remove}
+use Rattle.xl_tagged.proofs.GroupLemmas.{named-used, ready}
 use Rattle.xl_tagged.proofs.StateLemmas.{done}
-use Rattle.xl_tagged.proofs.WholeLemmas.{IsStep, answered, IsNamedLeaf, named-leaf, named-low, remove-in, remove-step}
-use Rattle.xl_tagged.proofs.GroupLemmas.{ready, named-used}
+use Rattle.xl_tagged.proofs.WholeLemmas.{answered, IsNamedLeaf, IsStep, named-leaf, named-low, remove-in, remove-step}
 use Rattle.xl_tagged.proofs.steps.take_out.Goals as goal
 
 pub take-requires-clause-place : goal.take-requires-clause-place

@@ -1,7 +1,4 @@
-use Rattle.std.proofs.Common.{refl, sym, subst}
-use Rattle.xl_chain.specs.Held.{ChainState}
-use Rattle.xl_tagged.specs.Forms.{Form, values_under}
-use Rattle.xl_tagged.specs.Slots.{first_found}
+use Rattle.xl_tagged.proofs.Common.{ChainState, first_found, Form, refl, subst, sym, values_under}
 use Rattle.xl_tagged.proofs.WholeLemmas.{walk-step}
 use Rattle.xl_tagged.proofs.steps.walk_page.Goals as goal
 

@@ -1,4 +1,4 @@
-use Rattle.std.proofs.Common.{refl}
+use Rattle.xl_tlb.proofs.Common.{refl}
 use Rattle.xl_tlb.proofs.PageLemmas.{page_says}
 use Rattle.xl_tlb.proofs.coding.page_word.Goals as goal
 

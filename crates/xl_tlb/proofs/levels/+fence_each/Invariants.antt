@@ -1,4 +1,4 @@
-use Rattle.std.proofs.Common.{length}
+use Rattle.xl_tlb.proofs.Common.{length}
 use Rattle.xl_tlb.proofs.levels.+fence_each.Given as goal
 
 abbrev pub decreases-fence_each : goal.decreases-fence_each

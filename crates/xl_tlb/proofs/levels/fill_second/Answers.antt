@@ -1,8 +1,5 @@
-use Rattle.xl_model.specs.declared.address.Kind.{Kind}
-use Rattle.xl_model.specs.Tlb.{TlbArray, serves_kind}
-use Rattle.xl_tlb.specs.Tlbs.{spec_of, IsAlone}
+use Rattle.xl_tlb.proofs.Common.{◌∙◌, ◌∷◌, ◌≡◌, IsAlone, Kind, List, map, serves_kind, spec_of, sym, TlbArray, true}
 use Rattle.xl_tlb.proofs.TlbLemmas.{fill_none, filled_first, serves_all}
-use Rattle.std.proofs.Common.{◌≡◌, true, List, ◌∷◌, map, sym, ◌∙◌}
 use Rattle.xl_tlb.proofs.levels.fill_second.Goals as goal
 
 served : (kind : Kind) (a : TlbArray) (rest : List TlbArray) → IsAlone (map spec_of (a ∷ rest)) → serves_kind kind a ≡ true

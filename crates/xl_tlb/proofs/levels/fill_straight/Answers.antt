@@ -1,5 +1,4 @@
-use Rattle.std.proofs.Common.{◌∷◌, map}
-use Rattle.xl_tlb.specs.Tlbs.{spec_of, IsStraight}
+use Rattle.xl_tlb.proofs.Common.{◌∷◌, IsStraight, map, spec_of}
 use Rattle.xl_tlb.proofs.FrontLemmas.{filled_front}
 use Rattle.xl_tlb.proofs.TlbLemmas.{filled_first, serves_all}
 use Rattle.xl_tlb.proofs.levels.fill_straight.Goals as goal

@@ -1,4 +1,4 @@
-use Rattle.std.proofs.Common.{length}
+use Rattle.xl_tlb.proofs.Common.{length}
 use Rattle.xl_tlb.proofs.look.+count_level.Given as goal
 
 abbrev pub decreases-count_level : goal.decreases-count_level

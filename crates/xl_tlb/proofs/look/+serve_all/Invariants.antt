@@ -1,4 +1,4 @@
-use Rattle.std.proofs.Common.{length}
+use Rattle.xl_tlb.proofs.Common.{length}
 use Rattle.xl_tlb.proofs.look.+serve_all.Given as goal
 
 abbrev pub decreases-serve_all : goal.decreases-serve_all

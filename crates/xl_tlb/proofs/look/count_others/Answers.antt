@@ -1,4 +1,4 @@
-use Rattle.std.proofs.Common.{sym}
+use Rattle.xl_tlb.proofs.Common.{sym}
 use Rattle.xl_tlb.proofs.FrontLemmas.{level_hits, level_misses}
 use Rattle.xl_tlb.proofs.look.count_others.Goals as goal
 

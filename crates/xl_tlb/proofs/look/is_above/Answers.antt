@@ -1,6 +1,4 @@
-use Rattle.std.proofs.Common.{◌∷◌, map, arith}
-use Rattle.std.proofs.lemmas.Bool.Decides.{nat_tests}
-use Rattle.xl_tlb.specs.Tlbs.{spec_of, IsRising}
+use Rattle.xl_tlb.proofs.Common.{◌∷◌, arith, IsRising, map, nat_tests, spec_of}
 use Rattle.xl_tlb.proofs.FrontLemmas.{first_above}
 use Rattle.xl_tlb.proofs.look.is_above.Goals as goal
 

@@ -1,11 +1,5 @@
-use Rattle.std.proofs.Common.{◌≡◌, ℕ, List, ◌∷◌, map, Option, None, Some}
-use Rattle.std.specs.Option.{IfSome, IfNone}
+use Rattle.xl_tlb.proofs.Common.{◌∷◌, ◌≡◌, array_hit, first_found, FirstLeaf, FirstMisses, found_as, Hit, hit_leaf, hit_touched, IfNone, IfSome, IsFirstLeaf, leaf_hit, List, map, None, Option, ServesAlone, Some, spec_of, TlbArray, ℕ}
 use Rattle.xl_model.specs.declared.address.Order.TheVariants as order
-use Rattle.xl_model.specs.Tlb.{TlbArray, array_hit, first_found, found_as}
-use Rattle.xl_tlb.specs.declared.coding.Hit.{Hit}
-use Rattle.xl_tlb.specs.Fronts.{FirstMisses, IsFirstLeaf, FirstLeaf}
-use Rattle.xl_tlb.specs.Hits.{hit_leaf, hit_touched, leaf_hit}
-use Rattle.xl_tlb.specs.Tlbs.{spec_of, ServesAlone}
 use Rattle.xl_tlb.proofs.look.look_first_above.Goals as goal
 
 -- without a leaf of 4 KiB an array hits where it has a larger one

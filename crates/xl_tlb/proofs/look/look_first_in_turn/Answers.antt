@@ -1,7 +1,5 @@
-use Rattle.std.proofs.Common.{◌∷◌, map}
-use Rattle.xl_model.specs.LeafWords.{small_leaf}
-use Rattle.xl_tlb.specs.Tlbs.{IsRising, spec_of}
-use Rattle.xl_tlb.proofs.LevelLemmas.{first_told, first_arrays}
+use Rattle.xl_tlb.proofs.Common.{◌∷◌, IsRising, map, small_leaf, spec_of}
+use Rattle.xl_tlb.proofs.LevelLemmas.{first_arrays, first_told}
 use Rattle.xl_tlb.proofs.look.look_first_in_turn.Goals as goal
 
 pub returns-clause-found : goal.returns-clause-found

@@ -1,6 +1,4 @@
-use Rattle.std.proofs.Common.{◌∷◌, map}
-use Rattle.xl_tlb.specs.Fronts.{FirstHit, SecondHit}
-use Rattle.xl_tlb.specs.Tlbs.{spec_of, IsAlone}
+use Rattle.xl_tlb.proofs.Common.{◌∷◌, FirstHit, IsAlone, map, SecondHit, spec_of}
 use Rattle.xl_tlb.proofs.look.touch_second.Goals as goal
 
 pub returns : goal.returns

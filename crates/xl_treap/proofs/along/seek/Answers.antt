@@ -1,8 +1,7 @@
-use Rattle.std.proofs.Common.{◌≡◌, refl, ap, ◌∙◌, ◌+◌, ◌-◌, None, Some, arith}
-use Rattle.xl_treap.specs.declared.along.Visit.TheVariants as visit
+use Rattle.xl_treap.proofs.Common.{◌+◌, ◌-◌, ◌∙◌, ◌≡◌, ap, arith, None, refl, search_from, Some}
+use Rattle.xl_treap.proofs.SeekLemmas.{exit-long, exit-none, loaded-more, more-loads, none-before, rest-visit, said-bus, said-end}
 use Rattle.xl_treap.specs.declared.along.Search.TheVariants as search_end
-use Rattle.xl_treap.specs.Back.{search_from}
-use Rattle.xl_treap.proofs.SeekLemmas.{exit-none, exit-long, rest-visit, said-end, said-bus, more-loads, none-before, loaded-more}
+use Rattle.xl_treap.specs.declared.along.Visit.TheVariants as visit
 use Rattle.xl_treap.proofs.along.seek.Goals as goal
 
 pub along-init : goal.along-init

@@ -1,5 +1,4 @@
-use Rattle.std.proofs.Common.{◌≡◌, ◌-◌}
-use Rattle.xl_treap.specs.Back.{search_from, loaded_before, loaded_times}
+use Rattle.xl_treap.proofs.Common.{◌-◌, ◌≡◌, loaded_before, loaded_times, search_from}
 use Rattle.xl_treap.proofs.along.seek.Given as goal
 
 abbrev pub invariant-along : goal.invariant-along

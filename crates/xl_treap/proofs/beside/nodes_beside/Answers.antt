@@ -1,5 +1,5 @@
-use Rattle.std.proofs.Common.{arith}
-use Rattle.xl_treap.proofs.BesideLemmas.{between-start, between-end, between-there, between-below, between-above, less-left, less-right}
+use Rattle.xl_treap.proofs.Common.{arith}
+use Rattle.xl_treap.proofs.BesideLemmas.{between-above, between-below, between-end, between-start, between-there, less-left, less-right}
 use Rattle.xl_treap.proofs.beside.nodes_beside.Goals as goal
 
 pub down-init : goal.down-init

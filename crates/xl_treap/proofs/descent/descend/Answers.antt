@@ -1,6 +1,5 @@
-use Rattle.std.proofs.Common.{◌≡◌, subst, sym, ℕ, ◌+◌, length, slice_set, inl, arith}
-use Rattle.xl_treap.specs.Trees.{down}
-use Rattle.xl_treap.proofs.WayLemmas.{IsUpTo, at-there, none-left, up-to-more}
+use Rattle.xl_treap.proofs.Common.{◌+◌, ◌≡◌, arith, down, inl, length, slice_set, subst, sym, ℕ}
+use Rattle.xl_treap.proofs.WayLemmas.{at-there, IsUpTo, none-left, up-to-more}
 use Rattle.xl_treap.proofs.descent.descend.Goals as goal
 
 pub bounds-words-node : goal.bounds-words-node

@@ -1,5 +1,5 @@
-use Rattle.std.proofs.Common.{length, arith}
-use Rattle.xl_treap.proofs.TakeLemmas.{take-some, take-there, resize-made}
+use Rattle.xl_treap.proofs.Common.{arith, length}
+use Rattle.xl_treap.proofs.TakeLemmas.{resize-made, take-some, take-there}
 use Rattle.xl_treap.proofs.joining.give_pages.Goals as goal
 
 pub overflow_sub-way : goal.overflow_sub-way

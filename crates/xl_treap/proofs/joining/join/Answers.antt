@@ -1,4 +1,4 @@
-use Rattle.std.proofs.Common.{length}
+use Rattle.xl_treap.proofs.Common.{length}
 use Rattle.xl_treap.proofs.RiseLemmas.{can-rise}
 use Rattle.xl_treap.proofs.joining.join.Goals as goal
 

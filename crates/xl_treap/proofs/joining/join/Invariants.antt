@@ -1,4 +1,4 @@
-use Rattle.xl_treap.specs.Trees.{merge}
+use Rattle.xl_treap.proofs.Common.{merge}
 use Rattle.xl_treap.proofs.joining.join.Given as goal
 
 abbrev pub ghost-merge_down : goal.ghost-merge_down

@@ -1,8 +1,7 @@
-use Rattle.std.proofs.Common.{◌≡◌, ◌∙◌, sym, subst, ℕ, ◌+◌, List, length, slice_set, arith}
-use Rattle.xl_treap.specs.Trees.{merge}
-use Rattle.xl_treap.proofs.MergeLemmas.{IsMerging, merged-low, merged-high, merged-end, merging-there, merging-low, merging-high}
+use Rattle.xl_treap.proofs.Common.{◌+◌, ◌∙◌, ◌≡◌, arith, length, List, merge, slice_set, subst, sym, ℕ}
+use Rattle.xl_treap.proofs.MergeLemmas.{IsMerging, merged-end, merged-high, merged-low, merging-high, merging-low, merging-there}
+use Rattle.xl_treap.proofs.joining.merge_down.Goals.{else-is_above, then-is_above}
 use Rattle.xl_treap.proofs.joining.merge_down.Goals as goal
-use Rattle.xl_treap.proofs.joining.merge_down.Goals.{then-is_above, else-is_above}
 
 pub returns-then-low-eq0 : goal.returns-then-low-eq0
 returns-then-low-eq0 g c = record {

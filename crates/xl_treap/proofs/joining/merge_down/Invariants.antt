@@ -1,4 +1,4 @@
-use Rattle.xl_treap.specs.Trees.{merge}
+use Rattle.xl_treap.proofs.Common.{merge}
 use Rattle.xl_treap.proofs.MergeLemmas.{IsMerging}
 use Rattle.xl_treap.proofs.joining.merge_down.Given as goal
 

@@ -1,5 +1,5 @@
-use Rattle.std.proofs.Common.{refl, arith}
-use Rattle.xl_treap.proofs.RiseLemmas.{rise-there, rise-some, rise-one}
+use Rattle.xl_treap.proofs.Common.{arith, refl}
+use Rattle.xl_treap.proofs.RiseLemmas.{rise-one, rise-some, rise-there}
 use Rattle.xl_treap.proofs.joining.rise.Goals as goal
 
 pub loop-depth-init : goal.loop-depth-init

@@ -1,6 +1,4 @@
-use Rattle.std.proofs.Common.{◌≤◌}
-use Rattle.xl_treap.specs.Trees.{IsAt, down}
-use Rattle.xl_treap.specs.Steps.{SameBut}
+use Rattle.xl_treap.proofs.Common.{◌≤◌, down, IsAt, SameBut}
 use Rattle.xl_treap.proofs.joining.rise.Given as goal
 
 abbrev pub invariant-loop-depth : goal.invariant-loop-depth

@@ -1,8 +1,5 @@
-use Rattle.std.proofs.Common.{refl, sym, subst, ℕ, ◌-◌, ◌*◌, ◌≤◌, length, arith}
-use Rattle.xl_treap.specs.Lines.{left_at, right_at}
-use Rattle.xl_treap.specs.Trees.{tree_at, merge}
-use Rattle.xl_treap.specs.Steps.{CanTake, CanMerge, IsRisen, IsAttached}
-use Rattle.xl_treap.proofs.TakeLemmas.{take-some, take-there, take-pair, take-room, take-made}
+use Rattle.xl_treap.proofs.Common.{◌*◌, ◌-◌, ◌≤◌, arith, CanMerge, CanTake, IsAttached, IsRisen, left_at, length, merge, refl, right_at, subst, sym, tree_at, ℕ}
+use Rattle.xl_treap.proofs.TakeLemmas.{take-made, take-pair, take-room, take-some, take-there}
 use Rattle.xl_treap.proofs.joining.take_out.Goals as goal
 
 pub overflow_sub-node : goal.overflow_sub-node

@@ -1,5 +1,4 @@
-use Rattle.std.proofs.Common.{length}
-use Rattle.xl_treap.specs.Trees.{tree_at}
+use Rattle.xl_treap.proofs.Common.{length, tree_at}
 use Rattle.xl_treap.proofs.joining.take_out.Given as goal
 
 abbrev pub ghost-descend : goal.ghost-descend

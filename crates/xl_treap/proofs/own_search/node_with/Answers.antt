@@ -1,5 +1,5 @@
-use Rattle.std.proofs.Common.{◌+◌, ◌-◌, ◌*◌, arith}
-use Rattle.xl_treap.proofs.OwnSearchLemmas.{left-start, left-end, left-there, left-less, left-below, left-above, left-here}
+use Rattle.xl_treap.proofs.Common.{◌*◌, ◌+◌, ◌-◌, arith}
+use Rattle.xl_treap.proofs.OwnSearchLemmas.{left-above, left-below, left-end, left-here, left-less, left-start, left-there}
 use Rattle.xl_treap.proofs.own_search.node_with.Goals as goal
 
 pub down-init : goal.down-init

@@ -1,5 +1,4 @@
-use Rattle.std.proofs.Common.{◌-◌, length}
-use Rattle.xl_treap.specs.Trees.{ranges}
+use Rattle.xl_treap.proofs.Common.{◌-◌, length, ranges}
 use Rattle.xl_treap.proofs.OwnSearchLemmas.{IsLeft}
 use Rattle.xl_treap.proofs.own_search.node_with.Given as goal
 

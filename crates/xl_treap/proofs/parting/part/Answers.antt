@@ -1,10 +1,7 @@
-use Rattle.std.proofs.Common.{◌∙◌, sym, subst, ℕ, ◌-◌, ◌≤◌, List, slice_index, arith}
-use Rattle.xl_treap.specs.declared.parting.Parts.{Parts}
-use Rattle.xl_treap.specs.Trees.{Over, down}
-use Rattle.xl_treap.specs.Steps.{IsCut}
-use Rattle.xl_treap.proofs.CutLemmas.{cut-none, part-there, part-stop, part-over, part-below, part-above}
+use Rattle.xl_treap.proofs.Common.{◌-◌, ◌∙◌, ◌≤◌, arith, down, IsCut, List, Over, Parts, slice_index, subst, sym, ℕ}
+use Rattle.xl_treap.proofs.CutLemmas.{cut-none, part-above, part-below, part-over, part-stop, part-there}
+use Rattle.xl_treap.proofs.parting.part.Goals.{else-own-key, then-own-key}
 use Rattle.xl_treap.proofs.parting.part.Goals as goal
-use Rattle.xl_treap.proofs.parting.part.Goals.{then-own-key, else-own-key}
 
 pub loop-parts-init : goal.loop-parts-init
 loop-parts-init g c =

@@ -1,6 +1,4 @@
-use Rattle.std.proofs.Common.{◌≤◌}
-use Rattle.xl_treap.specs.Trees.{Over, down}
-use Rattle.xl_treap.specs.Steps.{IsCut}
+use Rattle.xl_treap.proofs.Common.{◌≤◌, down, IsCut, Over}
 use Rattle.xl_treap.proofs.parting.part.Given as goal
 
 abbrev pub invariant-loop-parts : goal.invariant-loop-parts

@@ -1,6 +1,5 @@
-use Rattle.std.proofs.Common.{sym, subst, ℕ, ◌+◌, ◌*◌, ◌≤◌, length, arith}
-use Rattle.xl_treap.specs.Steps.{CanPart, IsWay, IsParted, IsAttached, parent_at}
-use Rattle.xl_treap.proofs.PutLemmas.{put-fit, put-at, put-part, put-room, put-made}
+use Rattle.xl_treap.proofs.Common.{◌*◌, ◌+◌, ◌≤◌, arith, CanPart, IsAttached, IsParted, IsWay, length, parent_at, subst, sym, ℕ}
+use Rattle.xl_treap.proofs.PutLemmas.{put-at, put-fit, put-made, put-part, put-room}
 use Rattle.xl_treap.proofs.parting.put_in.Goals as goal
 
 pub key_of-key-requires : goal.key_of-key-requires

@@ -1,6 +1,4 @@
-use Rattle.std.proofs.Common.{◌≡◌, ◌≤◌}
-use Rattle.std.specs.Vec.{vec_capacity}
-use Rattle.xl_treap.specs.Kept.{upto}
+use Rattle.xl_treap.proofs.Common.{◌≡◌, ◌≤◌, upto, vec_capacity}
 use Rattle.xl_treap.proofs.treap.numbers.Given as goal
 
 abbrev pub invariant-loop-i : goal.invariant-loop-i

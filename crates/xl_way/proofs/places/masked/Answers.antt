@@ -1,6 +1,4 @@
-use Rattle.std.proofs.Common.{◌∙◌, ap}
-use Rattle.std.specs.Prelude.{bit_and}
-use Rattle.std.proofs.lemmas.Nat.{and_mask}
+use Rattle.xl_way.proofs.Common.{◌∙◌, and_mask, ap, bit_and}
 use Rattle.xl_way.proofs.places.masked.Goals as goal
 
 pub returns : goal.returns

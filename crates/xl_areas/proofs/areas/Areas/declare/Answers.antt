@@ -1,9 +1,6 @@
-use Rattle.std.proofs.Common.{◌≡◌, ◌∙◌, sym, ap, subst, ◌<◌, ◌++◌, List, [], ◌∷◌, length, map, ◌+◌, None, cond, is_ok, arith}
+use Rattle.xl_areas.proofs.Common.{◌++◌, ◌+◌, ◌<◌, ◌∙◌, ◌∷◌, ◌≡◌, [], ap, Area, AreRising, arith, cond, cut_at, is_ok, IsIndex, key_at, length, length-map, List, map, None, subst, sym, with_items_is, with_later}
 use Rattle.std.specs.Vec.{with_items}
-use Rattle.std.proofs.lemmas.List.{length-map, with_items_is}
-use Rattle.xl_model.specs.declared.script.Area.{Area}
-use Rattle.xl_areas.specs.Bounds.{key_at, cut_at, with_later, AreRising, IsIndex}
-use Rattle.xl_areas.proofs.CutLemmas.{cut-rises, cut-length}
+use Rattle.xl_areas.proofs.CutLemmas.{cut-length, cut-rises}
 use Rattle.xl_areas.proofs.IndexLemmas.{more-index}
 use Rattle.xl_areas.proofs.areas.Areas.declare.Goals as goal
 

@@ -1,6 +1,4 @@
-use Rattle.std.proofs.Common.{◌∙◌, ap, find, ◌/◌, None, arith}
-use Rattle.xl_model.specs.Items.{in_area}
-use Rattle.xl_areas.specs.Bounds.{key_at, answer_at}
+use Rattle.xl_areas.proofs.Common.{◌/◌, ◌∙◌, answer_at, ap, arith, find, in_area, key_at, None}
 use Rattle.xl_areas.proofs.IndexLemmas.{index-finds}
 use Rattle.xl_areas.proofs.areas.Areas.find.Goals as goal
 

@@ -1,7 +1,4 @@
-use Rattle.std.proofs.Common.{◌≡◌, sym, ap, ◌∙◌, subst, ℕ, List, slice_index, Some}
-use Rattle.xl_chain.specs.Steps.{Leads}
-use Rattle.xl_chain.specs.Held.{ChainState, held_with, found_of}
-use Rattle.xl_chain.specs.Places.{place_at, IsPlace, found_by}
+use Rattle.xl_chain.proofs.Common.{◌∙◌, ◌≡◌, ap, ChainState, found_by, found_of, held_with, IsPlace, Leads, List, place_at, slice_index, Some, subst, sym, ℕ}
 use Rattle.xl_chain.proofs.SpotLemmas.{found-at, leads-at}
 use Rattle.xl_chain.proofs.entries.Entries.look_at.Goals as goal
 

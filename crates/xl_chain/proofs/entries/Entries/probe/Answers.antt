@@ -1,8 +1,5 @@
-use Rattle.std.proofs.Common.{sym, ap, ◌∙◌, subst, ℕ, List}
+use Rattle.xl_chain.proofs.Common.{◌∙◌, ap, AreLinked, chain_back, chain_loads, ChainState, found_of, held_with, List, loads_after, Searched, seen_in, subst, sym, ℕ}
 use Rattle.xl_model.specs.Base.{plus}
-use Rattle.xl_chain.specs.Back.{Searched, chain_back, chain_loads}
-use Rattle.xl_chain.specs.Held.{ChainState, held_with, found_of, loads_after, seen_in}
-use Rattle.xl_chain.specs.Kept.{AreLinked}
 use Rattle.xl_chain.proofs.FindLemmas.{search-held}
 use Rattle.xl_chain.proofs.OwnLemmas.{are-linked}
 use Rattle.xl_chain.proofs.entries.Entries.probe.Goals as goal

@@ -1,8 +1,4 @@
-use Rattle.std.proofs.Common.{◌≡◌, sym, ap, ◌∙◌, subst, ℕ, true, None, Some, lit<}
-use Rattle.xl_model.specs.Chains.{has_tag}
-use Rattle.xl_chain.specs.Steps.{tag_place}
-use Rattle.xl_chain.specs.Held.{ChainState, tags_of}
-use Rattle.xl_chain.specs.Places.{place_at}
+use Rattle.xl_chain.proofs.Common.{◌∙◌, ◌≡◌, ap, ChainState, has_tag, lit<, None, place_at, Some, subst, sym, tag_place, tags_of, true, ℕ}
 use Rattle.xl_chain.proofs.RemovalLemmas.{found-place}
 use Rattle.xl_chain.proofs.entries.Entries.remove.Goals as goal
 

@@ -1,15 +1,7 @@
-use Rattle.std.proofs.Common.{◌≡◌, refl, sym, ap, ◌∙◌, subst, ℕ, ◌+◌, List, [], ◌∷◌, ◌++◌, length, Some, arith}
-use Rattle.std.specs.Vec.{with_items}
-use Rattle.std.proofs.Math.ListN.{length-set}
-use Rattle.std.proofs.lemmas.List.{with_items_is}
-use Rattle.xl_model.specs.Chains.{bucket_of}
-use Rattle.xl_chain.specs.Steps.{IsPast, Leads}
-use Rattle.xl_chain.specs.Held.{ChainState, held_of, seen_in}
-use Rattle.xl_chain.specs.Kept.{IsTable}
-use Rattle.xl_chain.specs.Places.{place_at, IsPlace, IsTaken}
-use Rattle.xl_chain.proofs.RemovalLemmas.{Removed, gone}
-use Rattle.xl_chain.proofs.SpotLemmas.{leads-at, one-held}
+use Rattle.xl_chain.proofs.Common.{◌++◌, ◌+◌, ◌∙◌, ◌∷◌, ◌≡◌, [], ap, arith, bucket_of, ChainState, held_of, IsPast, IsPlace, IsTable, IsTaken, Leads, length, length-set, List, place_at, refl, seen_in, Some, subst, sym, with_items, with_items_is, ℕ}
 use Rattle.xl_chain.proofs.MovedLemmas.{taken}
+use Rattle.xl_chain.proofs.RemovalLemmas.{gone, Removed}
+use Rattle.xl_chain.proofs.SpotLemmas.{leads-at, one-held}
 use Rattle.xl_chain.proofs.entries.Entries.remove_at.Goals as goal
 
 pub unlink-entry-requires-clause-leads : goal.unlink-entry-requires-clause-leads

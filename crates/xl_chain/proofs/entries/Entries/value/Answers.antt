@@ -1,13 +1,7 @@
-use Rattle.std.proofs.Common.{◌≡◌, refl, sym, ap, ◌∙◌, subst, ℕ, ◌+◌, ◌*◌, ◌<◌, true, List, length, slice_index, arith}
-use Rattle.std.proofs.lemmas.List.{get_or_read_under}
-use Rattle.xl_chain.specs.declared.shape.ChainShape.{ChainShape}
-use Rattle.std.specs.List.{list_any}
-use Rattle.xl_chain.specs.Layout.{place_of_value}
-use Rattle.xl_chain.specs.Held.{ChainState, is_entry, value_of}
-use Rattle.xl_chain.specs.Kept.{IsTable}
+use Rattle.xl_chain.proofs.Common.{◌*◌, ◌+◌, ◌<◌, ◌∙◌, ◌≡◌, ap, arith, ChainShape, ChainState, get_or_read_under, is_entry, IsTable, length, List, list_any, place_of_value, refl, slice_index, subst, sym, true, value_of, ℕ}
+use Rattle.xl_chain.proofs.LineLemmas.{value-read}
 use Rattle.xl_chain.proofs.PlaceLemmas.{base_past}
 use Rattle.xl_chain.proofs.ValueLemmas.{held-inside, place-in}
-use Rattle.xl_chain.proofs.LineLemmas.{value-read}
 use Rattle.xl_chain.proofs.entries.Entries.value.Goals as goal
 
 pub value_at-requires-clause-entry : goal.value_at-requires-clause-entry

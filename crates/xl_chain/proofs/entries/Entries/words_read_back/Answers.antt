@@ -1,10 +1,5 @@
-use Rattle.std.proofs.Common.{◌≡◌, subst, ℕ}
-use Rattle.std.specs.Prelude.{is_some}
-use Rattle.xl_model.specs.Chains.{has_tag}
-use Rattle.xl_chain.specs.Held.{ChainState, tags_of}
-use Rattle.xl_chain.specs.Lines.{WordsReadBack, AreSingle}
-use Rattle.xl_chain.specs.Places.{place_at}
-use Rattle.xl_chain.proofs.LineLemmas.{read-back, held-single}
+use Rattle.xl_chain.proofs.Common.{◌≡◌, AreSingle, ChainState, has_tag, is_some, place_at, subst, tags_of, WordsReadBack, ℕ}
+use Rattle.xl_chain.proofs.LineLemmas.{held-single, read-back}
 use Rattle.xl_chain.proofs.SpotLemmas.{placed-held}
 use Rattle.xl_chain.proofs.entries.Entries.words_read_back.Goals as goal
 

@@ -1,4 +1,4 @@
-use Rattle.std.proofs.Common.{◌<◌, sym, subst}
+use Rattle.xl_clustered.proofs.Common.{◌<◌, subst, sym}
 use Rattle.xl_clustered.proofs.BlockLemmas.{word-some}
 use Rattle.xl_clustered.proofs.clustered.SixteensGrouping.put.Goals as goal
 

@@ -1,7 +1,4 @@
-use Rattle.std.proofs.Common.{sym, ap, ◌∙◌, length, map}
-use Rattle.xl_model.specs.Base.{plus}
-use Rattle.xl_cuckoo.specs.Undo.{displaced}
-use Rattle.xl_cuckoo.specs.Table.{CuckooState, loaded}
+use Rattle.xl_cuckoo.proofs.Common.{◌∙◌, ap, CuckooState, displaced, length, loaded, map, plus, sym}
 use Rattle.xl_cuckoo.proofs.TableLemmas.{state_of}
 use Rattle.xl_cuckoo.proofs.cuckoo.Cuckoo.count_probe.Goals as goal
 

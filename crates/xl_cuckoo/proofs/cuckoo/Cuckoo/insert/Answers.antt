@@ -1,10 +1,4 @@
-use Rattle.std.proofs.Common.{◌≡◌, refl, sym, ap, ◌∙◌, subst, List, length, OnOk, IfErr}
-use Rattle.xl_model.specs.declared.way.Entry.{Entry}
-use Rattle.xl_model.specs.Ways.{WayShape}
-use Rattle.xl_model.specs.Placing.{AtCap, insertion}
-use Rattle.xl_way.specs.Slots.{WayState}
-use Rattle.xl_cuckoo.specs.State.{shapes}
-use Rattle.xl_cuckoo.specs.Table.{CuckooState, IsTable, AddsEntry, inserted}
+use Rattle.xl_cuckoo.proofs.Common.{◌∙◌, ◌≡◌, AddsEntry, ap, AtCap, CuckooState, Entry, IfErr, inserted, insertion, IsTable, length, List, OnOk, refl, shapes, subst, sym, WayShape, WayState}
 use Rattle.xl_cuckoo.proofs.KickLemmas.{map-length}
 use Rattle.xl_cuckoo.proofs.TableLemmas.{items-back, table-with}
 use Rattle.xl_cuckoo.proofs.cuckoo.Cuckoo.insert.Goals as goal

@@ -1,4 +1,4 @@
-use Rattle.xl_cuckoo.specs.State.{shapes}
+use Rattle.xl_cuckoo.proofs.Common.{shapes}
 use Rattle.xl_cuckoo.proofs.TableLemmas.{opening-table}
 use Rattle.xl_cuckoo.proofs.cuckoo.Cuckoo.open.Goals as goal
 

@@ -1,14 +1,7 @@
-use Rattle.std.proofs.Common.{◌≡◌, sym, ap, ◌∙◌, subst, List, map}
-use Rattle.std.proofs.lemmas.List.{length-map}
-use Rattle.std.specs.Vec.{with_items}
-use Rattle.xl_model.specs.Ways.{WayShape, without_entry}
-use Rattle.xl_way.specs.Slots.{WayState}
-use Rattle.xl_cuckoo.specs.State.{shapes, changed_by}
-use Rattle.xl_cuckoo.specs.Undo.{displaced}
-use Rattle.xl_cuckoo.specs.Table.{CuckooState, IsTable}
-use Rattle.xl_cuckoo.proofs.LoopLemmas.{shapes-map}
+use Rattle.xl_cuckoo.proofs.Common.{◌∙◌, ◌≡◌, ap, changed_by, CuckooState, displaced, IsTable, length-map, List, map, shapes, subst, sym, WayShape, WayState, with_items, without_entry}
 use Rattle.xl_cuckoo.proofs.KeyLemmas.{once-cleared}
-use Rattle.xl_cuckoo.proofs.TableLemmas.{items-back, state_of, changed-state, table-with}
+use Rattle.xl_cuckoo.proofs.LoopLemmas.{shapes-map}
+use Rattle.xl_cuckoo.proofs.TableLemmas.{changed-state, items-back, state_of, table-with}
 use Rattle.xl_cuckoo.proofs.cuckoo.Cuckoo.remove.Goals as goal
 
 pub invariant_of-self : goal.invariant_of-self

@@ -1,4 +1,4 @@
-use Rattle.xl_cuckoo_walk.specs.Coding.{is_reached}
+use Rattle.xl_cuckoo_walk.proofs.Common.{is_reached}
 use Rattle.xl_cuckoo_walk.proofs.CacheLemmas.{known_purged}
 use Rattle.xl_cuckoo_walk.proofs.cache.Sections.fence.Goals as goal
 

@@ -1,4 +1,4 @@
-use Rattle.xl_cuckoo_walk.specs.Coding.{is_old}
+use Rattle.xl_cuckoo_walk.proofs.Common.{is_old}
 use Rattle.xl_cuckoo_walk.proofs.CacheLemmas.{known_purged}
 use Rattle.xl_cuckoo_walk.proofs.cache.Sections.refresh.Goals as goal
 

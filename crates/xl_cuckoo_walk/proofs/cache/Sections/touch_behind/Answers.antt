@@ -1,5 +1,4 @@
-use Rattle.std.proofs.Common.{sym, subst}
-use Rattle.xl_cuckoo_walk.specs.Known.{IsKnown}
+use Rattle.xl_cuckoo_walk.proofs.Common.{IsKnown, subst, sym}
 use Rattle.xl_cuckoo_walk.proofs.CacheLemmas.{known_touched}
 use Rattle.xl_cuckoo_walk.proofs.cache.Sections.touch_behind.Goals as goal
 

@@ -1,8 +1,5 @@
-use Rattle.std.proofs.Common.{◌≡◌, refl, ap, subst, sym, ◌∙◌, length, get_or, rules}
-use Rattle.xl_model.specs.Shapes.{opening_ways}
-use Rattle.xl_cuckoo.specs.Table.{opening}
-use Rattle.xl_cuckoo_walk.specs.Parts.{IsRow, row_state}
-use Rattle.xl_cuckoo_walk.proofs.OpenLemmas.{row-opened, state-opened, two-widths, opened}
+use Rattle.xl_cuckoo_walk.proofs.Common.{◌∙◌, ◌≡◌, ap, get_or, IsRow, length, opening, opening_ways, refl, row_state, rules, subst, sym}
+use Rattle.xl_cuckoo_walk.proofs.OpenLemmas.{opened, row-opened, state-opened, two-widths}
 use Rattle.xl_cuckoo_walk.proofs.row.CuckooRow.open.Given.{Over}
 use Rattle.xl_cuckoo_walk.proofs.row.CuckooRow.open.Goals as goal
 

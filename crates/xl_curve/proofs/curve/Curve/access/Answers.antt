@@ -1,5 +1,4 @@
-use Rattle.std.proofs.Common.{◌≡◌, ◌<◌, length, ap, arith}
-use Rattle.xl_curve.specs.Views.{set_of}
+use Rattle.xl_curve.proofs.Common.{◌<◌, ◌≡◌, ap, arith, length, set_of}
 use Rattle.xl_curve.proofs.CurveLemmas.{accessed_by, accessed_kept, written}
 use Rattle.xl_curve.proofs.curve.Curve.access.Goals as goal
 

@@ -1,4 +1,4 @@
-use Rattle.std.proofs.Common.{◌∙◌}
+use Rattle.xl_curve.proofs.Common.{◌∙◌}
 use Rattle.xl_curve.proofs.CurveLemmas.{all_hits_told}
 use Rattle.xl_curve.proofs.curve.Curve.all_hits.Goals as goal
 

@@ -1,5 +1,4 @@
-use Rattle.std.proofs.Common.{◌≡◌, length, ap, arith}
-use Rattle.xl_model.specs.Mapping.{covers}
+use Rattle.xl_curve.proofs.Common.{◌≡◌, ap, arith, covers, length}
 use Rattle.xl_curve.proofs.CurveLemmas.{purged_by, purged_kept}
 use Rattle.xl_curve.proofs.curve.Curve.drop_page.Goals as goal
 

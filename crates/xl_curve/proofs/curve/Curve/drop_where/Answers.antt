@@ -1,4 +1,4 @@
-use Rattle.std.proofs.Common.{◌≡◌, length, ap, arith}
+use Rattle.xl_curve.proofs.Common.{◌≡◌, ap, arith, length}
 use Rattle.xl_curve.proofs.CurveLemmas.{purged_by, written}
 use Rattle.xl_curve.proofs.curve.Curve.drop_where.Goals as goal
 

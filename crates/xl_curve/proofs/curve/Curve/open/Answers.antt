@@ -1,5 +1,5 @@
-use Rattle.std.proofs.Common.{◌≡◌, arith}
-use Rattle.xl_curve.proofs.CurveLemmas.{opened_curve, holes_held}
+use Rattle.xl_curve.proofs.Common.{◌≡◌, arith}
+use Rattle.xl_curve.proofs.CurveLemmas.{holes_held, opened_curve}
 use Rattle.xl_curve.proofs.curve.Curve.open.Goals as goal
 
 pub returns : goal.returns

@@ -1,4 +1,4 @@
-use Rattle.std.proofs.Common.{◌≡◌, None, replicate}
+use Rattle.xl_curve.proofs.Common.{◌≡◌, None, replicate}
 use Rattle.xl_curve.proofs.curve.Curve.open.Given as goal
 
 abbrev pub invariant-opened : goal.invariant-opened

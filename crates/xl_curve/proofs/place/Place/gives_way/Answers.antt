@@ -1,6 +1,4 @@
-use Rattle.std.proofs.Common.{not, sym, ◌∙◌, ap}
-use Rattle.xl_curve.specs.Places.{leaf_in}
-use Rattle.xl_curve_model.specs.Curves.{same_leaf}
+use Rattle.xl_curve.proofs.Common.{◌∙◌, ap, leaf_in, not, same_leaf, sym}
 use Rattle.xl_curve.proofs.KernelLemmas.{hole_stays, solid_gives}
 use Rattle.xl_curve.proofs.place.Place.gives_way.Goals as goal
 

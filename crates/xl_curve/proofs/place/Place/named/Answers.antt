@@ -1,5 +1,4 @@
-use Rattle.std.proofs.Common.{◌+◌, ◌*◌, ap}
-use Rattle.xl_curve.specs.declared.place.Place.{Place}
+use Rattle.xl_curve.proofs.Common.{◌*◌, ◌+◌, ap, Place}
 use Rattle.xl_curve.proofs.PlaceLemmas.{named_place}
 use Rattle.xl_curve.proofs.place.Place.named.Goals as goal
 

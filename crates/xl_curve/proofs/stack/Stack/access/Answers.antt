@@ -1,7 +1,4 @@
-use Rattle.std.proofs.Common.{◌≡◌, length, arith}
-use Rattle.std.proofs.lemmas.List.{length-map}
-use Rattle.xl_curve_model.specs.Curves.{same_leaf}
-use Rattle.xl_curve.specs.Places.{leaf_in, place_of, places_of}
+use Rattle.xl_curve.proofs.Common.{◌≡◌, arith, leaf_in, length, length-map, place_of, places_of, same_leaf}
 use Rattle.xl_curve.proofs.KernelLemmas.{some_below}
 use Rattle.xl_curve.proofs.stack.Stack.access.Goals as goal
 

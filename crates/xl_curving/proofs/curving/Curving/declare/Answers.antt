@@ -1,8 +1,4 @@
-use Rattle.std.proofs.Common.{◌∙◌, ap, List}
-use Rattle.xl_model.specs.declared.script.Area.{Area}
-use Rattle.xl_model.specs.declared.script.Item.TheVariants.{Declared}
-use Rattle.xl_lackey.specs.declared.skim.Access.{Access}
-use Rattle.xl_curving.specs.Curving.{curve_scene_after, curve_scene_of, curves_waited}
+use Rattle.xl_curving.proofs.Common.{◌∙◌, Access, ap, Area, curve_scene_after, curve_scene_of, curves_waited, Declared, List}
 use Rattle.xl_curving.proofs.SceneLemmas.{declared}
 use Rattle.xl_curving.proofs.curving.Curving.declare.Goals as goal
 

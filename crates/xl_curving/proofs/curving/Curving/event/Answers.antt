@@ -1,8 +1,4 @@
-use Rattle.std.proofs.Common.{◌≡◌, ◌∙◌, ap, List, length, arith}
-use Rattle.xl_model.specs.Scenes.{Served}
-use Rattle.xl_curve_model.specs.Curves.{HitCurve}
-use Rattle.xl_rack.specs.Beside.{curve_stepped, each_curve}
-use Rattle.xl_curving.specs.Curving.{curve_scene_of}
+use Rattle.xl_curving.proofs.Common.{◌∙◌, ◌≡◌, ap, arith, curve_scene_of, curve_stepped, each_curve, HitCurve, length, List, Served}
 use Rattle.xl_curving.proofs.SceneLemmas.{stepped, written}
 use Rattle.xl_curving.proofs.curving.Curving.event.Goals as goal
 

@@ -1,14 +1,5 @@
-use Rattle.std.proofs.Common.{◌<◌, ◌≤◌, ◌∙◌, ap, List, arith}
-use Rattle.std.proofs.lemmas.Bool.Decides.{nat_tests}
-use Rattle.std.proofs.lemmas.List.{take_all}
-use Rattle.xl_model.specs.declared.script.Item.{Item}
-use Rattle.xl_model.specs.declared.script.Item.TheVariants.{Command}
-use Rattle.xl_model.specs.Courses.{events_from}
-use Rattle.xl_lackey.specs.declared.skim.Access.{Access}
-use Rattle.xl_course.specs.Meanings.{states_after}
-use Rattle.xl_serving.specs.Serving.{event_at, count_of}
-use Rattle.xl_serving.proofs.ItemLemmas.{the_nth_event, length-events}
-use Rattle.xl_curving.specs.Curving.{curved, curve_scene_of, curves_waited}
+use Rattle.xl_curving.proofs.Common.{◌<◌, ◌∙◌, ◌≤◌, Access, ap, arith, Command, count_of, curve_scene_of, curved, curves_waited, event_at, events_from, Item, List, nat_tests, states_after, take_all}
+use Rattle.xl_serving.proofs.ItemLemmas.{length-events, the_nth_event}
 use Rattle.xl_curving.proofs.SceneLemmas.{next-item}
 use Rattle.xl_curving.proofs.curving.Curving.events.Goals as goal
 

@@ -1,8 +1,4 @@
-use Rattle.std.proofs.Common.{◌≡◌, [], take}
-use Rattle.xl_model.specs.Courses.{events_from}
-use Rattle.xl_course.specs.Meanings.{states_after}
-use Rattle.xl_serving.specs.Serving.{event_at, count_of}
-use Rattle.xl_curving.specs.Curving.{curved, curve_scene_of, curves_waited}
+use Rattle.xl_curving.proofs.Common.{◌≡◌, [], count_of, curve_scene_of, curved, curves_waited, event_at, events_from, states_after, take}
 use Rattle.xl_curving.proofs.curving.Curving.events.Given as goal
 
 abbrev pub invariant-loop-i : goal.invariant-loop-i

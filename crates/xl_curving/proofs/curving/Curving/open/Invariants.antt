@@ -1,5 +1,4 @@
-use Rattle.std.proofs.Common.{◌≡◌, replicate}
-use Rattle.xl_curve_model.specs.Curves.{opening_curve}
+use Rattle.xl_curving.proofs.Common.{◌≡◌, opening_curve, replicate}
 use Rattle.xl_curving.proofs.curving.Curving.open.Given as goal
 
 abbrev pub invariant-opened : goal.invariant-opened

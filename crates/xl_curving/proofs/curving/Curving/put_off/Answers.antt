@@ -1,7 +1,4 @@
-use Rattle.std.proofs.Common.{◌∙◌, ap, List}
-use Rattle.xl_model.specs.declared.script.Item.TheVariants.{Referenced}
-use Rattle.xl_lackey.specs.declared.skim.Access.{Access}
-use Rattle.xl_curving.specs.Curving.{curve_scene_after, curve_scene_of, curves_waited}
+use Rattle.xl_curving.proofs.Common.{◌∙◌, Access, ap, curve_scene_after, curve_scene_of, curves_waited, List, Referenced}
 use Rattle.xl_curving.proofs.SceneLemmas.{put-off}
 use Rattle.xl_curving.proofs.curving.Curving.put_off.Goals as goal
 

@@ -1,9 +1,4 @@
-use Rattle.std.proofs.Common.{◌≡◌, ◌∙◌, ap, List, length, map, arith}
-use Rattle.xl_model.specs.Scenes.{Served}
-use Rattle.xl_curve_model.specs.Curves.{HitCurve}
-use Rattle.xl_rack.specs.Batches.{row_served}
-use Rattle.xl_rack.specs.Beside.{curve_served, each_curve}
-use Rattle.xl_curving.specs.Curving.{curve_scene_of}
+use Rattle.xl_curving.proofs.Common.{◌∙◌, ◌≡◌, ap, arith, curve_scene_of, curve_served, each_curve, HitCurve, length, List, map, row_served, Served}
 use Rattle.xl_curving.proofs.SceneLemmas.{by-row, written}
 use Rattle.xl_curving.proofs.curving.Curving.settle.Goals as goal
 

@@ -1,5 +1,5 @@
+use Rattle.xl_curving.proofs.Common.{can-area, can-events, events-items, placed, room}
 use Rattle.xl_serving.proofs.AreaLemmas.{no_area}
-use Rattle.xl_serving.proofs.PlainLemmas.{can-area, can-events, events-items, placed, room}
 use Rattle.xl_curving.proofs.EndLemmas.{served}
 use Rattle.xl_curving.proofs.curving.CurvingFormRack.command.Goals as goal
 

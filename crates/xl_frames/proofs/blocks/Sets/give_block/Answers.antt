@@ -1,4 +1,4 @@
-use Rattle.std.proofs.Common.{arith}
+use Rattle.xl_frames.proofs.Common.{arith}
 use Rattle.xl_frames.proofs.SetLemmas.{block_given}
 use Rattle.xl_frames.proofs.blocks.Sets.give_block.Goals as goal
 

@@ -1,5 +1,5 @@
-use Rattle.std.proofs.Common.{true}
-use Rattle.xl_frames.proofs.SetLemmas.{marked_none, marked_more}
+use Rattle.xl_frames.proofs.Common.{true}
+use Rattle.xl_frames.proofs.SetLemmas.{marked_more, marked_none}
 use Rattle.xl_frames.proofs.blocks.Sets.give_each.Goals as goal
 
 pub loop-i-init : goal.loop-i-init

@@ -1,5 +1,4 @@
-use Rattle.std.proofs.Common.{true}
-use Rattle.xl_numbers.specs.Free.{AreMarked}
+use Rattle.xl_frames.proofs.Common.{AreMarked, true}
 use Rattle.xl_frames.proofs.blocks.Sets.give_each.Given as goal
 
 abbrev pub invariant-loop-i : goal.invariant-loop-i

@@ -1,6 +1,4 @@
-use Rattle.std.proofs.Common.{◌+◌, ◌≤◌, ◌∙◌, ap, sym, subst, true, Bool, List, length}
-use Rattle.xl_model.specs.Addresses.{pages_of}
-use Rattle.xl_frames.specs.Pool.{marked}
+use Rattle.xl_frames.proofs.Common.{◌+◌, ◌∙◌, ◌≤◌, ap, Bool, length, List, marked, pages_of, subst, sym, true}
 use Rattle.xl_frames.proofs.SetLemmas.{marked_is}
 use Rattle.xl_frames.proofs.pool.Frames.give.Goals as goal
 

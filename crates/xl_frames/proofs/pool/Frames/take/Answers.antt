@@ -1,7 +1,4 @@
-use Rattle.std.proofs.Common.{◌≡◌, subst, false, Bool, List}
-use Rattle.std.specs.Prelude.{IfSome}
-use Rattle.xl_model.specs.Addresses.{pages_of}
-use Rattle.xl_frames.specs.Pool.{marked}
+use Rattle.xl_frames.proofs.Common.{◌≡◌, Bool, false, IfSome, List, marked, pages_of, subst}
 use Rattle.xl_frames.proofs.SetLemmas.{taken_marked}
 use Rattle.xl_frames.proofs.pool.Frames.take.Goals as goal
 

@@ -1,10 +1,4 @@
-use Rattle.std.specs.Prelude.{[]}
-use Rattle.std.proofs.Common.{refl}
-use Rattle.std.proofs.lemmas.List.Elements.{All-tail}
-use Rattle.xl_hart_script.specs.Scripts.{IsReady}
-use Rattle.xl_paired.specs.Pairs.{events_from}
-use Rattle.xl_paired.proofs.PairLemmas.{served_commands}
-use Rattle.xl_harting.specs.Harting.{event_at, harts_form}
+use Rattle.xl_harting.proofs.Common.{[], All-tail, event_at, events_from, harts_form, IsReady, refl, served_commands}
 use Rattle.xl_harting.proofs.EventLemmas.{no_events}
 use Rattle.xl_harting.proofs.form.HartingFormHarts.command.Goals as goal
 

@@ -1,5 +1,5 @@
+use Rattle.xl_harting.proofs.Common.{harts_form}
 use Rattle.xl_paired.proofs.SkimLemmas.{skimmed}
-use Rattle.xl_harting.specs.Harting.{harts_form}
 use Rattle.xl_harting.proofs.form.HartingFormHarts.skim.Goals as goal
 
 pub returns-clause-skims : goal.returns-clause-skims

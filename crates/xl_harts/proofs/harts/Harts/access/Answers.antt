@@ -1,4 +1,4 @@
-use Rattle.std.proofs.Common.{◌∙◌}
+use Rattle.xl_harts.proofs.Common.{◌∙◌}
 use Rattle.xl_harts.proofs.AccessLemmas.{access-event}
 use Rattle.xl_harts.proofs.harts.Harts.access.Goals as goal
 

@@ -1,9 +1,5 @@
-use Rattle.std.proofs.Common.{◌∙◌, refl}
-use Rattle.xl_hart_model.specs.Harts.{HartsState, opening_hart}
-use Rattle.xl_radix_walk.specs.Row.{row_table}
-use Rattle.xl_harts.specs.Events.{AreServed}
-use Rattle.xl_harts.specs.Views.{state_of, IsCurrent}
-use Rattle.xl_harts.proofs.ServeLemmas.{served-placed, served-harts}
+use Rattle.xl_harts.proofs.Common.{◌∙◌, AreServed, HartsState, IsCurrent, opening_hart, refl, row_table, state_of}
+use Rattle.xl_harts.proofs.ServeLemmas.{served-harts, served-placed}
 use Rattle.xl_harts.proofs.StepLemmas.{same-place}
 use Rattle.xl_harts.proofs.harts.Harts.access_each.Goals as goal
 

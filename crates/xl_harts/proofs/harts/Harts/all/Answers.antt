@@ -1,6 +1,4 @@
-use Rattle.xl_hart_model.specs.Harts.{HartsState}
-use Rattle.xl_radix_walk.specs.Row.{row_table}
-use Rattle.xl_harts.specs.Views.{state_of}
+use Rattle.xl_harts.proofs.Common.{HartsState, row_table, state_of}
 use Rattle.xl_harts.proofs.StepLemmas.{waiting-few}
 use Rattle.xl_harts.proofs.harts.Harts.all.Goals as goal
 

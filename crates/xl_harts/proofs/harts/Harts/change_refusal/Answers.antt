@@ -1,11 +1,7 @@
-use Rattle.std.proofs.Common.{true, sym, ◌∙◌, subst}
+use Rattle.xl_harts.proofs.Common.{◌∙◌, HartsState, IsTable, page_of, Remove, subst, sym, true}
+use Rattle.xl_harts.proofs.RefusalLemmas.{by-change, by-room, by-rule, protect-as-unmap, room-removed, unmap-change}
 use Rattle.xl_model.specs.declared.address.Mode.TheVariants as mode
 use Rattle.xl_model.specs.declared.event.Event.TheVariants as event
-use Rattle.xl_model.specs.Addresses.{page_of}
-use Rattle.xl_model.specs.Changes.{Remove}
-use Rattle.xl_hart_model.specs.Harts.{HartsState}
-use Rattle.xl_hart_laws.specs.Kept.{IsTable}
-use Rattle.xl_harts.proofs.RefusalLemmas.{by-rule, by-change, by-room, unmap-change, room-removed, protect-as-unmap}
 use Rattle.xl_harts.proofs.harts.Harts.change_refusal.Goals as goal
 
 pub returns-in-Some-clause-refused : goal.returns-in-Some-clause-refused

@@ -1,7 +1,7 @@
-use Rattle.std.proofs.Common.{◌≤◌, ◌<◌, length, ◌∙◌, arith}
+use Rattle.xl_harts.proofs.Common.{◌<◌, ◌∙◌, ◌≤◌, arith, length}
+use Rattle.xl_harts.proofs.StepLemmas.{hart-after, hart-bad, hart-done, hart-good, refused-after, refused-outcome}
 use Rattle.xl_hart_model.specs.declared.hart.HartEvent.TheVariants as step
 use Rattle.xl_hart_model.specs.declared.hart.HartRefusal.TheVariants as why
-use Rattle.xl_harts.proofs.StepLemmas.{hart-bad, hart-good, hart-done, hart-after, refused-outcome, refused-after}
 use Rattle.xl_harts.proofs.harts.Harts.choose_or_refuse.Goals as goal
 
 pub returns-then-hart-len-clause-outcome : goal.returns-then-hart-len-clause-outcome

@@ -1,8 +1,7 @@
-use Rattle.std.proofs.Common.{sym, ◌∙◌, ap}
-use Rattle.xl_model.specs.declared.leaf.Reply.{Reply}
-use Rattle.xl_hart_model.specs.declared.hart.HartOutcome.TheVariants as outcome
+use Rattle.xl_harts.proofs.Common.{◌∙◌, ap, Reply, sym}
 use Rattle.xl_harts.proofs.AccessLemmas.{access-event}
 use Rattle.xl_harts.proofs.StepLemmas.{access-done}
+use Rattle.xl_hart_model.specs.declared.hart.HartOutcome.TheVariants as outcome
 use Rattle.xl_harts.proofs.harts.Harts.command.Goals as goal
 
 pub returns-in-Access-clause-outcome : goal.returns-in-Access-clause-outcome

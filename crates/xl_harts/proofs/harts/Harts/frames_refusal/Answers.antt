@@ -1,7 +1,4 @@
-use Rattle.std.proofs.Common.{sym}
-use Rattle.xl_hart_model.specs.Harts.{kept_leaves}
-use Rattle.xl_radix_walk.specs.Row.{row_table}
-use Rattle.xl_harts.specs.Views.{state_of}
+use Rattle.xl_harts.proofs.Common.{kept_leaves, row_table, state_of, sym}
 use Rattle.xl_harts.proofs.RefusalLemmas.{has-frames, no-frames}
 use Rattle.xl_harts.proofs.harts.Harts.frames_refusal.Goals as goal
 

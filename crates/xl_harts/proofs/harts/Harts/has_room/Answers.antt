@@ -1,11 +1,6 @@
-use Rattle.std.proofs.Common.{◌≡◌, ◌<◌, ◌∙◌, None, arith}
-use Rattle.xl_model.specs.declared.address.Mode.TheVariants as mode
-use Rattle.xl_model.specs.Addresses.{page_of}
-use Rattle.xl_hart_model.specs.Harts.{shared_row}
-use Rattle.xl_model.specs.Rules.{overlap_rule}
-use Rattle.xl_model_lemmas.proofs.RuleLemmas.{no-overlap}
-use Rattle.xl_radix_walk.specs.Row.{row_table}
+use Rattle.xl_harts.proofs.Common.{◌<◌, ◌∙◌, ◌≡◌, arith, no-overlap, None, overlap_rule, page_of, row_table, shared_row}
 use Rattle.xl_harts.proofs.RefusalLemmas.{block-in, leaf-in-block, same-room}
+use Rattle.xl_model.specs.declared.address.Mode.TheVariants as mode
 use Rattle.xl_harts.proofs.harts.Harts.has_room.Goals as goal
 
 pub has_room-requires : goal.has_room-requires

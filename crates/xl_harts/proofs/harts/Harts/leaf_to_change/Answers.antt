@@ -1,6 +1,4 @@
-use Rattle.std.proofs.Common.{◌≡◌, [], ◌∷◌, None, Some, ap}
-use Rattle.xl_hart_model.specs.Harts.{HartsState, shared_row}
-use Rattle.xl_model.specs.Rules.{place_rule}
+use Rattle.xl_harts.proofs.Common.{◌∷◌, ◌≡◌, [], ap, HartsState, None, place_rule, shared_row, Some}
 use Rattle.xl_harts.proofs.RefusalLemmas.{place-of, unmap-place, unmap-there}
 use Rattle.xl_harts.proofs.harts.Harts.leaf_to_change.Goals as goal
 

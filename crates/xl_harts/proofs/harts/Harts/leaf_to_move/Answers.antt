@@ -1,7 +1,5 @@
-use Rattle.std.proofs.Common.{◌≡◌, [], ◌∷◌, None, Some, sym, ◌∙◌, ap}
-use Rattle.xl_hart_model.specs.Harts.{HartsState, shared_row}
-use Rattle.xl_model.specs.Rules.{place_rule}
-use Rattle.xl_harts.proofs.RefusalLemmas.{place-of, is-error, move-place, move-there, move-overlap}
+use Rattle.xl_harts.proofs.Common.{◌∙◌, ◌∷◌, ◌≡◌, [], ap, HartsState, None, place_rule, shared_row, Some, sym}
+use Rattle.xl_harts.proofs.RefusalLemmas.{is-error, move-overlap, move-place, move-there, place-of}
 use Rattle.xl_harts.proofs.harts.Harts.leaf_to_move.Goals as goal
 
 pub returns-in-Some-clause-refused : goal.returns-in-Some-clause-refused

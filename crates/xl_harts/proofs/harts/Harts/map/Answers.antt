@@ -1,14 +1,8 @@
-use Rattle.std.proofs.Common.{◌≡◌, None, Some, refl, ◌∙◌, ap}
-use Rattle.circular_buffer.specs.Buffer.{Buffer}
-use Rattle.xl_model.specs.declared.event.Event.TheVariants as event
-use Rattle.xl_hart_model.specs.declared.hart.Request.{Request}
-use Rattle.xl_model.specs.Changes.{Insert}
-use Rattle.xl_hart_model.specs.Harts.{HartsState}
-use Rattle.xl_radix_walk.specs.Row.{row_table}
-use Rattle.xl_harts.specs.Views.{state_of, refusal_of, leaf_at}
+use Rattle.xl_harts.proofs.Common.{◌∙◌, ◌≡◌, ap, Buffer, HartsState, Insert, leaf_at, None, refl, refusal_of, Request, row_table, Some, state_of}
+use Rattle.xl_harts.proofs.ChangeLemmas.{all-short, change-room, harts-after, map-finds, map-new, map-told, pool-mapped, queue-room, state-after}
 use Rattle.xl_harts.proofs.RefusalLemmas.{leaf-in}
-use Rattle.xl_harts.proofs.ChangeLemmas.{map-finds, map-told, map-new, pool-mapped, change-room, queue-room, all-short, harts-after, state-after}
 use Rattle.xl_harts.proofs.StepLemmas.{written}
+use Rattle.xl_model.specs.declared.event.Event.TheVariants as event
 use Rattle.xl_harts.proofs.harts.Harts.map.Goals as goal
 
 pub unreachable-requires : goal.unreachable-requires

@@ -1,7 +1,7 @@
-use Rattle.std.proofs.Common.{sym, ◌∙◌}
-use Rattle.xl_model.specs.declared.event.Event.TheVariants as event
+use Rattle.xl_harts.proofs.Common.{◌∙◌, sym}
+use Rattle.xl_harts.proofs.StepLemmas.{map-done, refused-after, refused-outcome}
 use Rattle.xl_hart_model.specs.declared.hart.HartEvent.TheVariants as step
-use Rattle.xl_harts.proofs.StepLemmas.{map-done, refused-outcome, refused-after}
+use Rattle.xl_model.specs.declared.event.Event.TheVariants as event
 use Rattle.xl_harts.proofs.harts.Harts.map_or_refuse.Goals as goal
 
 pub returns-in-Some-clause-outcome : goal.returns-in-Some-clause-outcome

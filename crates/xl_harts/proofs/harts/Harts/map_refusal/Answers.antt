@@ -1,9 +1,6 @@
-use Rattle.std.proofs.Common.{◌≡◌, None, true, false, sym, ◌∙◌}
+use Rattle.xl_harts.proofs.Common.{◌∙◌, ◌≡◌, false, hart_rule, Insert, leaf_at, None, sym, true}
+use Rattle.xl_harts.proofs.RefusalLemmas.{by-change, by-room, by-rule, map-at, map-change, map-placed}
 use Rattle.xl_model.specs.declared.event.Event.TheVariants as event
-use Rattle.xl_hart_model.specs.Harts.{hart_rule}
-use Rattle.xl_model.specs.Changes.{Insert}
-use Rattle.xl_harts.specs.Views.{leaf_at}
-use Rattle.xl_harts.proofs.RefusalLemmas.{map-placed, by-rule, by-change, by-room, map-at, map-change}
 use Rattle.xl_harts.proofs.harts.Harts.map_refusal.Goals as goal
 
 pub returns-in-Some : goal.returns-in-Some

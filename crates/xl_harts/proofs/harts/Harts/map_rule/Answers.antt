@@ -1,6 +1,5 @@
-use Rattle.std.proofs.Common.{[], ◌∷◌, None, Some, sym, ◌∙◌, ap}
-use Rattle.xl_hart_model.specs.Harts.{HartsState}
-use Rattle.xl_harts.proofs.RefusalLemmas.{place-of, map-place, map-overlap, map-frames}
+use Rattle.xl_harts.proofs.Common.{◌∙◌, ◌∷◌, [], ap, HartsState, None, Some, sym}
+use Rattle.xl_harts.proofs.RefusalLemmas.{map-frames, map-overlap, map-place, place-of}
 use Rattle.xl_harts.proofs.harts.Harts.map_rule.Goals as goal
 
 pub returns-in-Some : goal.returns-in-Some

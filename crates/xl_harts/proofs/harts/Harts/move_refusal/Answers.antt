@@ -1,9 +1,7 @@
-use Rattle.std.proofs.Common.{sym, ◌∙◌}
+use Rattle.xl_harts.proofs.Common.{◌∙◌, page_of, Relocate, sym}
+use Rattle.xl_harts.proofs.RefusalLemmas.{by-change, by-rule, move-change}
 use Rattle.xl_model.specs.declared.address.Mode.TheVariants as mode
 use Rattle.xl_model.specs.declared.event.Event.TheVariants as event
-use Rattle.xl_model.specs.Addresses.{page_of}
-use Rattle.xl_model.specs.Changes.{Relocate}
-use Rattle.xl_harts.proofs.RefusalLemmas.{by-rule, by-change, move-change}
 use Rattle.xl_harts.proofs.harts.Harts.move_refusal.Goals as goal
 
 pub returns-in-Some-clause-refused : goal.returns-in-Some-clause-refused

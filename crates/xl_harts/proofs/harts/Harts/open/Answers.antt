@@ -1,8 +1,5 @@
-use Rattle.std.proofs.Common.{ap}
-use Rattle.circular_buffer.specs.Buffer.{Buffer}
-use Rattle.xl_hart_model.specs.declared.hart.Request.{Request}
-use Rattle.xl_radix_walk.specs.Row.{row_table}
-use Rattle.xl_harts.proofs.OpenLemmas.{opening-is, opening-harts}
+use Rattle.xl_harts.proofs.Common.{ap, Buffer, Request, row_table}
+use Rattle.xl_harts.proofs.OpenLemmas.{opening-harts, opening-is}
 use Rattle.xl_harts.proofs.harts.Harts.open.Goals as goal
 
 pub invariant_of-result : goal.invariant_of-result

@@ -1,7 +1,7 @@
-use Rattle.std.proofs.Common.{◌∙◌}
-use Rattle.xl_model.specs.declared.event.Event.TheVariants as event
+use Rattle.xl_harts.proofs.Common.{◌∙◌}
+use Rattle.xl_harts.proofs.StepLemmas.{protect-done, refused-after, refused-outcome}
 use Rattle.xl_hart_model.specs.declared.hart.HartEvent.TheVariants as step
-use Rattle.xl_harts.proofs.StepLemmas.{protect-done, refused-outcome, refused-after}
+use Rattle.xl_model.specs.declared.event.Event.TheVariants as event
 use Rattle.xl_harts.proofs.harts.Harts.protect_or_refuse.Goals as goal
 
 pub protect-requires-clause-ruled : goal.protect-requires-clause-ruled

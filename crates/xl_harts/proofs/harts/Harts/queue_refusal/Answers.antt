@@ -1,6 +1,4 @@
-use Rattle.std.proofs.Common.{true, false, sym, ◌∙◌}
-use Rattle.xl_harts.specs.Views.{state_of}
-use Rattle.xl_radix_walk.specs.Row.{row_table}
+use Rattle.xl_harts.proofs.Common.{◌∙◌, false, row_table, state_of, sym, true}
 use Rattle.xl_harts.proofs.QueueLemmas.{refused-by-full}
 use Rattle.xl_harts.proofs.harts.Harts.queue_refusal.Goals as goal
 

@@ -1,17 +1,9 @@
-use Rattle.std.proofs.Common.{◌≡◌, None, Some, is_some, refl, ◌∙◌, ap}
-use Rattle.circular_buffer.specs.Buffer.{Buffer}
+use Rattle.xl_harts.proofs.Common.{◌∙◌, ◌≡◌, ap, Buffer, HartsState, is_some, None, page_of, refl, refusal_of, Relocate, Request, row_table, rule-none, Some, state_of}
+use Rattle.xl_harts.proofs.ChangeLemmas.{all-short, block-for, change-allowed, change-room, harts-after, old-named, pool-changed, queue-room, state-after, there-move}
+use Rattle.xl_harts.proofs.RefusalLemmas.{move-change}
+use Rattle.xl_harts.proofs.StepLemmas.{written}
 use Rattle.xl_model.specs.declared.address.Mode.TheVariants as mode
 use Rattle.xl_model.specs.declared.event.Event.TheVariants as event
-use Rattle.xl_hart_model.specs.declared.hart.Request.{Request}
-use Rattle.xl_model.specs.Addresses.{page_of}
-use Rattle.xl_model.specs.Changes.{Relocate}
-use Rattle.xl_hart_model.specs.Harts.{HartsState}
-use Rattle.xl_hart_laws.proofs.CommandLemmas.{rule-none}
-use Rattle.xl_radix_walk.specs.Row.{row_table}
-use Rattle.xl_harts.specs.Views.{state_of, refusal_of}
-use Rattle.xl_harts.proofs.RefusalLemmas.{move-change}
-use Rattle.xl_harts.proofs.ChangeLemmas.{there-move, old-named, change-room, change-allowed, block-for, queue-room, all-short, pool-changed, harts-after, state-after}
-use Rattle.xl_harts.proofs.StepLemmas.{written}
 use Rattle.xl_harts.proofs.harts.Harts.relocate.Goals as goal
 
 pub relocate-requires-clause-there : goal.relocate-requires-clause-there

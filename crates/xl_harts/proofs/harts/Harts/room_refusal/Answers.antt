@@ -1,15 +1,8 @@
-use Rattle.std.proofs.Common.{◌≡◌, None, true, false, sym, ◌∙◌, subst, arith}
+use Rattle.xl_harts.proofs.Common.{◌∙◌, ◌≡◌, arith, false, hart_rule, HartsState, has_room, None, page_of, Relocate, row_table, rule-allows, state_of, subst, sym, true}
+use Rattle.xl_harts.proofs.ChangeLemmas.{block-for, named-there, there-move}
+use Rattle.xl_harts.proofs.RefusalLemmas.{by-room, move-change}
 use Rattle.xl_model.specs.declared.address.Mode.TheVariants as mode
 use Rattle.xl_model.specs.declared.event.Event.TheVariants as event
-use Rattle.xl_model.specs.Addresses.{page_of}
-use Rattle.xl_model.specs.Changes.{Relocate}
-use Rattle.xl_hart_model.specs.Harts.{HartsState, hart_rule}
-use Rattle.xl_model.specs.Room.{has_room}
-use Rattle.xl_radix_walk.specs.Row.{row_table}
-use Rattle.xl_hart_laws.proofs.CommandLemmas.{rule-allows}
-use Rattle.xl_harts.specs.Views.{state_of}
-use Rattle.xl_harts.proofs.RefusalLemmas.{by-room, move-change}
-use Rattle.xl_harts.proofs.ChangeLemmas.{block-for, named-there, there-move}
 use Rattle.xl_harts.proofs.harts.Harts.room_refusal.Goals as goal
 
 pub has_room_to-requires : goal.has_room_to-requires

@@ -1,9 +1,4 @@
-use Rattle.std.proofs.Common.{◌≡◌, ◌<◌, ◌∙◌, sym, subst, ap, set}
-use Rattle.xl_hart_model.specs.Harts.{Hart, HartsState, opening_hart, current_hart}
-use Rattle.xl_radix_walk.specs.Row.{row_table}
-use Rattle.xl_hart_laws.proofs.KeptLemmas.{switched-kept}
-use Rattle.xl_harts.specs.Views.{state_of, IsHarts}
-use Rattle.xl_model.specs.Base.{plus}
+use Rattle.xl_harts.proofs.Common.{◌<◌, ◌∙◌, ◌≡◌, ap, current_hart, Hart, HartsState, IsHarts, opening_hart, plus, row_table, set, state_of, subst, switched-kept, sym}
 use Rattle.xl_harts.proofs.StepLemmas.{same-place}
 use Rattle.xl_harts.proofs.harts.Harts.switch.Goals as goal
 

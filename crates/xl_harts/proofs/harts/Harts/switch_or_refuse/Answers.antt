@@ -1,9 +1,8 @@
-use Rattle.std.proofs.Common.{None, Some, ◌∙◌, ap}
-use Rattle.xl_model.specs.declared.event.Event.TheVariants as event
+use Rattle.xl_harts.proofs.Common.{◌∙◌, ap, HartsState, None, Some}
+use Rattle.xl_harts.proofs.StepLemmas.{refused-after, refused-outcome, space-after, space-done, space-none, space-refused, space-told}
 use Rattle.xl_hart_model.specs.declared.hart.HartEvent.TheVariants as step
 use Rattle.xl_hart_model.specs.declared.hart.HartRefusal.TheVariants as why
-use Rattle.xl_hart_model.specs.Harts.{HartsState}
-use Rattle.xl_harts.proofs.StepLemmas.{space-told, space-refused, space-none, space-after, space-done, refused-outcome, refused-after}
+use Rattle.xl_model.specs.declared.event.Event.TheVariants as event
 use Rattle.xl_harts.proofs.harts.Harts.switch_or_refuse.Goals as goal
 
 pub returns-in-Some-clause-outcome : goal.returns-in-Some-clause-outcome

@@ -1,6 +1,6 @@
-use Rattle.std.proofs.Common.{sym, ◌∙◌}
+use Rattle.xl_harts.proofs.Common.{◌∙◌, sym}
+use Rattle.xl_harts.proofs.StepLemmas.{refused-after, refused-outcome, take-done}
 use Rattle.xl_hart_model.specs.declared.hart.HartEvent.TheVariants as step
-use Rattle.xl_harts.proofs.StepLemmas.{take-done, refused-outcome, refused-after}
 use Rattle.xl_harts.proofs.harts.Harts.take_or_refuse.Goals as goal
 
 pub returns-in-Some-clause-outcome : goal.returns-in-Some-clause-outcome

@@ -1,8 +1,5 @@
-use Rattle.std.proofs.Common.{◌≡◌, ◌≤◌, ◌<◌, length, sym, ◌∙◌, ap, arith}
-use Rattle.xl_hart_model.specs.Harts.{Hart, HartsState, hart_at, opening_hart}
-use Rattle.xl_radix_walk.specs.Row.{row_table}
-use Rattle.xl_harts.specs.Views.{state_of}
-use Rattle.xl_harts.proofs.StepLemmas.{take-bad, take-nothing, take-none, same-place}
+use Rattle.xl_harts.proofs.Common.{◌<◌, ◌∙◌, ◌≡◌, ◌≤◌, ap, arith, Hart, hart_at, HartsState, length, opening_hart, row_table, state_of, sym}
+use Rattle.xl_harts.proofs.StepLemmas.{same-place, take-bad, take-none, take-nothing}
 use Rattle.xl_harts.proofs.harts.Harts.take_refusal.Goals as goal
 
 pub returns-then-hart-len : goal.returns-then-hart-len

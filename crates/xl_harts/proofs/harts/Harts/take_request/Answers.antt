@@ -1,13 +1,7 @@
-use Rattle.std.proofs.Common.{◌≡◌, ℕ, ◌<◌, ◌∙◌, List, length, take, set, None, ap, arith}
-use Rattle.circular_buffer.specs.Buffer.{Buffer}
-use Rattle.xl_hart_model.specs.declared.hart.HartEvent.TheVariants as step
-use Rattle.xl_hart_model.specs.declared.hart.Request.{Request}
-use Rattle.xl_hart_model.specs.Harts.{Hart, HartsState, opening_hart, hart_at, hart_refusal, hart_fenced, longest, oldest}
-use Rattle.xl_radix_walk.specs.Row.{row_table}
-use Rattle.xl_harts.specs.Views.{state_of}
+use Rattle.xl_harts.proofs.Common.{◌<◌, ◌∙◌, ◌≡◌, ap, arith, Buffer, Hart, hart_at, hart_fenced, hart_refusal, HartsState, length, List, longest, None, oldest, opening_hart, Request, row_table, set, state_of, take, take-some, ℕ}
 use Rattle.xl_harts.proofs.StepLemmas.{same-place}
-use Rattle.xl_harts.proofs.TakeLemmas.{take-hart, take-near, oldest-fit, before-fits, taken-harts, taken-after}
-use Rattle.xl_hart_laws.proofs.QueueLemmas.{take-some}
+use Rattle.xl_harts.proofs.TakeLemmas.{before-fits, oldest-fit, take-hart, take-near, taken-after, taken-harts}
+use Rattle.xl_hart_model.specs.declared.hart.HartEvent.TheVariants as step
 use Rattle.xl_harts.proofs.harts.Harts.take_request.Goals as goal
 
 pub index-requires : goal.index-requires

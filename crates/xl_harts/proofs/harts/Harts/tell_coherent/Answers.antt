@@ -1,7 +1,4 @@
-use Rattle.std.proofs.Common.{subst}
-use Rattle.xl_hart_model.specs.Harts.{HartsState}
-use Rattle.xl_hart_laws.specs.Kept.{IsKept}
-use Rattle.xl_hart_laws.proofs.CoherenceLemmas.{coherent}
+use Rattle.xl_harts.proofs.Common.{coherent, HartsState, IsKept, subst}
 use Rattle.xl_harts.proofs.AccessLemmas.{replies-small}
 use Rattle.xl_harts.proofs.harts.Harts.tell_coherent.Goals as goal
 

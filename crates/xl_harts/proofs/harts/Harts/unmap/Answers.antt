@@ -1,17 +1,9 @@
-use Rattle.std.proofs.Common.{◌≡◌, None, Some, is_some, refl, ◌∙◌, ap}
-use Rattle.circular_buffer.specs.Buffer.{Buffer}
+use Rattle.xl_harts.proofs.Common.{◌∙◌, ◌≡◌, ap, Buffer, HartsState, is_some, None, page_of, refl, refusal_of, Remove, Request, row_table, rule-none, Some, state_of}
+use Rattle.xl_harts.proofs.ChangeLemmas.{all-short, harts-after, old-named, pool-changed, queue-room, state-after, there-unmap}
+use Rattle.xl_harts.proofs.RefusalLemmas.{unmap-change}
+use Rattle.xl_harts.proofs.StepLemmas.{written}
 use Rattle.xl_model.specs.declared.address.Mode.TheVariants as mode
 use Rattle.xl_model.specs.declared.event.Event.TheVariants as event
-use Rattle.xl_hart_model.specs.declared.hart.Request.{Request}
-use Rattle.xl_model.specs.Addresses.{page_of}
-use Rattle.xl_model.specs.Changes.{Remove}
-use Rattle.xl_hart_model.specs.Harts.{HartsState}
-use Rattle.xl_hart_laws.proofs.CommandLemmas.{rule-none}
-use Rattle.xl_radix_walk.specs.Row.{row_table}
-use Rattle.xl_harts.specs.Views.{state_of, refusal_of}
-use Rattle.xl_harts.proofs.RefusalLemmas.{unmap-change}
-use Rattle.xl_harts.proofs.ChangeLemmas.{there-unmap, old-named, queue-room, all-short, pool-changed, harts-after, state-after}
-use Rattle.xl_harts.proofs.StepLemmas.{written}
 use Rattle.xl_harts.proofs.harts.Harts.unmap.Goals as goal
 
 pub remove-requires : goal.remove-requires

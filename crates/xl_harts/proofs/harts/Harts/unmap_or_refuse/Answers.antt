@@ -1,7 +1,7 @@
-use Rattle.std.proofs.Common.{◌∙◌}
-use Rattle.xl_model.specs.declared.event.Event.TheVariants as event
+use Rattle.xl_harts.proofs.Common.{◌∙◌}
+use Rattle.xl_harts.proofs.StepLemmas.{refused-after, refused-outcome, unmap-done}
 use Rattle.xl_hart_model.specs.declared.hart.HartEvent.TheVariants as step
-use Rattle.xl_harts.proofs.StepLemmas.{unmap-done, refused-outcome, refused-after}
+use Rattle.xl_model.specs.declared.event.Event.TheVariants as event
 use Rattle.xl_harts.proofs.harts.Harts.unmap_or_refuse.Goals as goal
 
 pub returns-in-Ok-clause-outcome : goal.returns-in-Ok-clause-outcome

@@ -1,8 +1,4 @@
-use Rattle.std.proofs.Common.{sym, ap, ◌∙◌}
-use Rattle.xl_model.specs.Chains.{has_tag, tag_of}
-use Rattle.xl_chain.specs.Held.{tags_of}
-use Rattle.xl_tagged.specs.Forms.{One, values_under, word_at}
-use Rattle.xl_tagged.proofs.SearchLemmas.{slot-one}
+use Rattle.xl_hashed.proofs.Common.{◌∙◌, ap, has_tag, One, slot-one, sym, tag_of, tags_of, values_under, word_at}
 use Rattle.xl_hashed.proofs.OneLemmas.{held-one}
 use Rattle.xl_hashed.proofs.hashed.SingleGrouping.give.Goals as goal
 

@@ -1,8 +1,4 @@
-use Rattle.std.proofs.Common.{ap, ◌∙◌}
-use Rattle.xl_model.specs.Chains.{has_tag, leaf_tag}
-use Rattle.xl_chain.specs.Held.{tags_of}
-use Rattle.xl_tagged.specs.Forms.{One, values_under, word_at}
-use Rattle.xl_tagged.proofs.SearchLemmas.{slot-one}
+use Rattle.xl_hashed.proofs.Common.{◌∙◌, ap, has_tag, leaf_tag, One, slot-one, tags_of, values_under, word_at}
 use Rattle.xl_hashed.proofs.OneLemmas.{absent-one}
 use Rattle.xl_hashed.proofs.hashed.SingleGrouping.put.Goals as goal
 

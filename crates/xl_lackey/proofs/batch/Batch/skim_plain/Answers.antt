@@ -1,6 +1,4 @@
-use Rattle.std.proofs.Common.{List, ap, subst, take}
-use Rattle.xl_lackey.specs.declared.skim.Access.{Access}
-use Rattle.xl_lackey.specs.Skims.{Gathered, Skims, skim_at}
+use Rattle.xl_lackey.proofs.Common.{Access, ap, Gathered, List, skim_at, Skims, subst, take}
 use Rattle.xl_lackey.proofs.batch.Batch.skim_plain.Goals as goal
 
 pub returns-clause-runs : goal.returns-clause-runs

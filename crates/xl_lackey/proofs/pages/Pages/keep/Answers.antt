@@ -1,7 +1,4 @@
-use Rattle.std.proofs.Common.{◌≡◌, ◌/◌, ◌<◌, ◌≤◌, ◌^◌, length, length-append, take, ap, sym, ◌∙◌, arith}
-use Rattle.std.specs.Prelude.{Some}
-use Rattle.xl_lackey.specs.Digits.{hex_value}
-use Rattle.xl_lackey.specs.Usual.{usual_front}
+use Rattle.xl_lackey.proofs.Common.{◌/◌, ◌<◌, ◌^◌, ◌∙◌, ◌≡◌, ◌≤◌, ap, arith, hex_value, length, length-append, Some, sym, take, usual_front}
 use Rattle.xl_lackey.proofs.OwnFormLemmas.{front_length}
 use Rattle.xl_lackey.proofs.PageLemmas.{hex_less, line_begins}
 use Rattle.xl_lackey.proofs.pages.Pages.keep.Goals as goal

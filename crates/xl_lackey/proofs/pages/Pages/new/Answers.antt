@@ -1,5 +1,4 @@
-use Rattle.std.proofs.lemmas.List.Elements.{All-replicate}
-use Rattle.xl_lackey.specs.Pages.{IsPage}
+use Rattle.xl_lackey.proofs.Common.{All-replicate, IsPage}
 use Rattle.xl_lackey.proofs.PageLemmas.{first_of_eight, first_of_ten}
 use Rattle.xl_lackey.proofs.pages.Pages.new.Goals as goal
 

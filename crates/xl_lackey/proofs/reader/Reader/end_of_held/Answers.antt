@@ -1,6 +1,5 @@
-use Rattle.std.proofs.Common.{ap, ◌∙◌, sym, arith, length, length-take}
-use Rattle.xl_lackey.specs.Stream.{State}
-use Rattle.xl_lackey.proofs.StepLemmas.{left_kept, due_none}
+use Rattle.xl_lackey.proofs.Common.{◌∙◌, ap, arith, length, length-take, State, sym}
+use Rattle.xl_lackey.proofs.StepLemmas.{due_none, left_kept}
 use Rattle.xl_lackey.proofs.reader.Reader.end_of_held.Goals as goal
 
 pub returns-else-is_finished-clause-answers : goal.returns-else-is_finished-clause-answers

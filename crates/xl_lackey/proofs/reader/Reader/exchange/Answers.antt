@@ -1,6 +1,4 @@
-use Rattle.std.proofs.Common.{◌≡◌, ◌++◌, ◌+◌, ◌-◌, ◌∙◌, List, ℕ, length, take, drop, ap, append_assoc, arith}
-use Rattle.xl_text.specs.Texts.{lines_by}
-use Rattle.xl_lackey.specs.Stream.{State, left_by, unless_bad}
+use Rattle.xl_lackey.proofs.Common.{◌++◌, ◌+◌, ◌-◌, ◌∙◌, ◌≡◌, ap, append_assoc, arith, drop, left_by, length, lines_by, List, State, take, unless_bad, ℕ}
 use Rattle.xl_lackey.proofs.StepLemmas.{part_length, put_after}
 use Rattle.xl_lackey.proofs.reader.Reader.exchange.Goals as goal
 

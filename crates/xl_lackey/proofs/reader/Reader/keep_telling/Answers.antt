@@ -1,4 +1,4 @@
-use Rattle.std.proofs.Common.{refl}
+use Rattle.xl_lackey.proofs.Common.{refl}
 use Rattle.xl_lackey.proofs.StepLemmas.{take_part}
 use Rattle.xl_lackey.proofs.reader.Reader.keep_telling.Goals as goal
 

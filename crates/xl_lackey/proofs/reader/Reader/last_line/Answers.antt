@@ -1,8 +1,5 @@
-use Rattle.std.proofs.Common.{ap, ◌∙◌, sym, arith, length, refl}
-use Rattle.xl_lackey.specs.declared.line.Verdict.TheVariants.{Found}
-use Rattle.xl_lackey.specs.Lines.{judge}
-use Rattle.xl_lackey.specs.Stream.{next_line}
-use Rattle.xl_lackey.proofs.StepLemmas.{last_skipped, last_found, last_bad, emptied}
+use Rattle.xl_lackey.proofs.Common.{◌∙◌, ap, arith, Found, judge, length, next_line, refl, sym}
+use Rattle.xl_lackey.proofs.StepLemmas.{emptied, last_bad, last_found, last_skipped}
 use Rattle.xl_lackey.proofs.reader.Reader.last_line.Goals as goal
 
 pub returns-in-Skipped-clause-answers : goal.returns-in-Skipped-clause-answers

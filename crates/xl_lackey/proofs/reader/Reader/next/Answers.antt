@@ -1,7 +1,5 @@
-use Rattle.std.proofs.Common.{Bool, ap, ◌∙◌, sym, arith, length, length-drop}
-use Rattle.xl_lackey.specs.declared.line.Verdict.{Verdict}
-use Rattle.xl_lackey.specs.Stream.{State, with_verdict, left_by}
-use Rattle.xl_lackey.proofs.StepLemmas.{left_passed, answers_on}
+use Rattle.xl_lackey.proofs.Common.{◌∙◌, ap, arith, Bool, left_by, length, length-drop, State, sym, Verdict, with_verdict}
+use Rattle.xl_lackey.proofs.StepLemmas.{answers_on, left_passed}
 use Rattle.xl_lackey.proofs.reader.Reader.next.Goals as goal
 
 pub returns-in-Skipped-clause-answers : goal.returns-in-Skipped-clause-answers

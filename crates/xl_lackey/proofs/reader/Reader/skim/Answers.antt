@@ -1,6 +1,4 @@
-use Rattle.std.proofs.Common.{◌≡◌, ◌+◌, ◌-◌, List, ℕ, take, drop, ap, sym, ◌∙◌, arith}
-use Rattle.std.proofs.lemmas.List.{drop-take}
-use Rattle.xl_lackey.specs.Stream.{State}
+use Rattle.xl_lackey.proofs.Common.{◌+◌, ◌-◌, ◌∙◌, ◌≡◌, ap, arith, drop, drop-take, List, State, sym, take, ℕ}
 use Rattle.xl_lackey.proofs.SkimLemmas.{skimmed, skimmed_none}
 use Rattle.xl_lackey.proofs.reader.Reader.skim.Goals as goal
 

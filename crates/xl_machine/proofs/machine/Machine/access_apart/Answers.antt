@@ -1,6 +1,4 @@
-use Rattle.std.proofs.Common.{◌∙◌}
-use Rattle.xl_model.specs.Rows.{row_of}
-use Rattle.xl_machine.specs.Served.{HasPage}
+use Rattle.xl_machine.proofs.Common.{◌∙◌, HasPage, row_of}
 use Rattle.xl_machine.proofs.Accesses.{bare_after, has_page}
 use Rattle.xl_machine.proofs.machine.Machine.access_apart.Goals as goal
 

@@ -1,8 +1,5 @@
-use Rattle.std.proofs.Common.{arith}
-use Rattle.xl_model.specs.LeafWords.{small_leaf}
-use Rattle.xl_model.specs.Rows.{row_of}
-use Rattle.xl_machine.specs.Served.{HasPage}
-use Rattle.xl_machine.proofs.Accesses.{page_in, has_page, told_leaf, missed_kept, walked_reached, small_framed, same_kept, same_access_left}
+use Rattle.xl_machine.proofs.Common.{arith, HasPage, row_of, small_leaf}
+use Rattle.xl_machine.proofs.Accesses.{has_page, missed_kept, page_in, same_access_left, same_kept, small_framed, told_leaf, walked_reached}
 use Rattle.xl_machine.proofs.machine.Machine.access_at_once.Goals as goal
 
 pub walk_allowed-requires : goal.walk_allowed-requires

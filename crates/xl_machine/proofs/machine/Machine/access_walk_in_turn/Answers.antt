@@ -1,6 +1,5 @@
-use Rattle.std.proofs.Common.{None, Some, refl, sym, ◌∙◌}
-use Rattle.xl_model.specs.LeafWords.{small_leaf}
-use Rattle.xl_machine.proofs.Accesses.{page_small, page_in, told_leaf, told_hits, missed_kept, walked_kept, walked_reached, small_replied, walked_fit, walked_answer, small_answer}
+use Rattle.xl_machine.proofs.Common.{◌∙◌, None, refl, small_leaf, Some, sym}
+use Rattle.xl_machine.proofs.Accesses.{missed_kept, page_in, page_small, small_answer, small_replied, told_hits, told_leaf, walked_answer, walked_fit, walked_kept, walked_reached}
 use Rattle.xl_machine.proofs.machine.Machine.access_walk_in_turn.Goals as goal
 
 pub quick_walk-requires : goal.quick_walk-requires

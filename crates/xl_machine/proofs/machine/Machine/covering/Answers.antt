@@ -1,7 +1,4 @@
-use Rattle.std.proofs.Common.{◌≡◌, None, Some, Option}
-use Rattle.std.specs.Prelude.{IfSome}
-use Rattle.xl_model.specs.declared.leaf.Leaf.{Leaf}
-use Rattle.xl_tlb.specs.Arrays.{IsFit}
+use Rattle.xl_machine.proofs.Common.{◌≡◌, IfSome, IsFit, Leaf, None, Option, Some}
 use Rattle.xl_machine.proofs.Accesses.{page_in, walked_fit}
 use Rattle.xl_machine.proofs.machine.Machine.covering.Goals as goal
 

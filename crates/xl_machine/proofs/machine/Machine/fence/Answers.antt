@@ -1,10 +1,6 @@
-use Rattle.std.proofs.Common.{◌≡◌, None, ap}
+use Rattle.xl_machine.proofs.Common.{◌≡◌, ap, None, row_of, rule_of, Served, served}
+use Rattle.xl_machine.proofs.FenceLemmas.{fenced-is, fenced-kept, reach-in}
 use Rattle.xl_model.specs.declared.event.Event.TheVariants as event
-use Rattle.xl_model.specs.Rows.{row_of}
-use Rattle.xl_machine.specs.Rules.{rule_of}
-use Rattle.xl_model.specs.Scenes.{Served}
-use Rattle.xl_machine.specs.Served.{served}
-use Rattle.xl_machine.proofs.FenceLemmas.{reach-in, fenced-kept, fenced-is}
 use Rattle.xl_machine.proofs.machine.Machine.fence.Goals as goal
 
 pub fence-leaves-requires : goal.fence-leaves-requires

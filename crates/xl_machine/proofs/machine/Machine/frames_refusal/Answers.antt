@@ -1,5 +1,4 @@
-use Rattle.std.proofs.Common.{sym}
-use Rattle.xl_model.specs.Rows.{row_of}
+use Rattle.xl_machine.proofs.Common.{row_of, sym}
 use Rattle.xl_machine.proofs.RefusalLemmas.{has-frames, no-frames}
 use Rattle.xl_machine.proofs.machine.Machine.frames_refusal.Goals as goal
 

@@ -1,5 +1,4 @@
-use Rattle.std.proofs.Common.{◌<◌, arith}
-use Rattle.xl_model.specs.Rows.{row_of}
+use Rattle.xl_machine.proofs.Common.{◌<◌, arith, row_of}
 use Rattle.xl_machine.proofs.Accesses.{page_small}
 use Rattle.xl_machine.proofs.machine.Machine.leaf_named.Goals as goal
 

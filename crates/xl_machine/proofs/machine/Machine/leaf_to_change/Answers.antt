@@ -1,7 +1,4 @@
-use Rattle.std.proofs.Common.{◌≡◌, [], ◌∷◌, None, Some, ap}
-use Rattle.xl_model.specs.Rows.{row_of}
-use Rattle.xl_model.specs.Rules.{place_rule}
-use Rattle.xl_model.specs.Scenes.{Served}
+use Rattle.xl_machine.proofs.Common.{◌∷◌, ◌≡◌, [], ap, None, place_rule, row_of, Served, Some}
 use Rattle.xl_machine.proofs.RefusalLemmas.{place-of, unmap-place, unmap-there}
 use Rattle.xl_machine.proofs.machine.Machine.leaf_to_change.Goals as goal
 

@@ -1,8 +1,5 @@
-use Rattle.std.proofs.Common.{◌≡◌, [], ◌∷◌, None, Some, sym, ◌∙◌, ap}
-use Rattle.xl_model.specs.Rows.{row_of}
-use Rattle.xl_model.specs.Rules.{place_rule}
-use Rattle.xl_model.specs.Scenes.{Served}
-use Rattle.xl_machine.proofs.RefusalLemmas.{place-of, is-error, move-place, move-there, move-overlap}
+use Rattle.xl_machine.proofs.Common.{◌∙◌, ◌∷◌, ◌≡◌, [], ap, None, place_rule, row_of, Served, Some, sym}
+use Rattle.xl_machine.proofs.RefusalLemmas.{is-error, move-overlap, move-place, move-there, place-of}
 use Rattle.xl_machine.proofs.machine.Machine.leaf_to_move.Goals as goal
 
 pub returns-in-Some-clause-refused : goal.returns-in-Some-clause-refused

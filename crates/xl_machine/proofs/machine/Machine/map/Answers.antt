@@ -1,18 +1,8 @@
-use Rattle.std.proofs.Common.{◌≡◌, None, Some, refl, ◌∙◌, ap, arith}
+use Rattle.xl_machine.proofs.Common.{◌∙◌, ◌≡◌, ap, arith, Insert, IsNewLeaf, Leaf, lowest, lowest-none, lowest-some, None, page_of, pages_of, pool-given, refl, Refusal, row_of, rule, Some}
+use Rattle.xl_machine.proofs.ChangeLemmas.{done-answer, done-kept, done-state, refused-answer, refused-kept, refused-state}
+use Rattle.xl_machine.proofs.CommandLemmas.{has-frames, leaf-for, leaf-map, map-is, pool-mapped}
 use Rattle.xl_model.specs.declared.event.Event.TheVariants as event
 use Rattle.xl_model.specs.declared.event.Outcome.TheVariants as outcome
-use Rattle.xl_model.specs.declared.event.Refusal.{Refusal}
-use Rattle.xl_model.specs.declared.leaf.Leaf.{Leaf}
-use Rattle.xl_model.specs.Addresses.{page_of, pages_of}
-use Rattle.xl_model.specs.Frames.{lowest}
-use Rattle.xl_model.specs.Changes.{Insert}
-use Rattle.xl_model.specs.Rows.{row_of}
-use Rattle.xl_model.specs.Rules.{rule}
-use Rattle.xl_model_lemmas.specs.Mappings.{IsNewLeaf}
-use Rattle.xl_model_lemmas.proofs.PoolLemmas.{lowest-some, lowest-none}
-use Rattle.xl_model_lemmas.proofs.PoolChangeLemmas.{pool-given}
-use Rattle.xl_machine.proofs.CommandLemmas.{map-is, has-frames, leaf-map, leaf-for, pool-mapped}
-use Rattle.xl_machine.proofs.ChangeLemmas.{done-kept, refused-kept, done-state, done-answer, refused-answer, refused-state}
 use Rattle.xl_machine.proofs.machine.Machine.map.Goals as goal
 
 pub unreachable-requires : goal.unreachable-requires

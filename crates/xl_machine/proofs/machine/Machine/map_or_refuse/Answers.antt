@@ -1,6 +1,6 @@
-use Rattle.std.proofs.Common.{sym, ◌∙◌}
+use Rattle.xl_machine.proofs.Common.{◌∙◌, sym}
+use Rattle.xl_machine.proofs.StepLemmas.{refused-after, refused-outcome}
 use Rattle.xl_model.specs.declared.event.Event.TheVariants as event
-use Rattle.xl_machine.proofs.StepLemmas.{refused-outcome, refused-after}
 use Rattle.xl_machine.proofs.machine.Machine.map_or_refuse.Goals as goal
 
 pub map-requires : goal.map-requires

@@ -1,7 +1,5 @@
-use Rattle.std.proofs.Common.{◌≡◌, [], ◌∷◌, None, Some, sym, ◌∙◌, ap}
-use Rattle.xl_model.specs.Rows.{row_of}
-use Rattle.xl_model.specs.Scenes.{Served}
-use Rattle.xl_machine.proofs.RefusalLemmas.{place-of, map-place, map-overlap, map-frames}
+use Rattle.xl_machine.proofs.Common.{◌∙◌, ◌∷◌, ◌≡◌, [], ap, None, row_of, Served, Some, sym}
+use Rattle.xl_machine.proofs.RefusalLemmas.{map-frames, map-overlap, map-place, place-of}
 use Rattle.xl_machine.proofs.machine.Machine.map_refusal.Goals as goal
 
 pub returns-in-Some : goal.returns-in-Some

@@ -1,6 +1,6 @@
-use Rattle.std.proofs.Common.{◌∙◌}
+use Rattle.xl_machine.proofs.Common.{◌∙◌}
+use Rattle.xl_machine.proofs.StepLemmas.{refused-after, refused-outcome}
 use Rattle.xl_model.specs.declared.event.Event.TheVariants as event
-use Rattle.xl_machine.proofs.StepLemmas.{refused-outcome, refused-after}
 use Rattle.xl_machine.proofs.machine.Machine.move_or_refuse.Goals as goal
 
 pub returns-in-Err-clause-outcome : goal.returns-in-Err-clause-outcome

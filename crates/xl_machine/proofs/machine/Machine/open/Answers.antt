@@ -1,5 +1,5 @@
-use Rattle.xl_model.specs.Rows.{row_of}
-use Rattle.xl_machine.proofs.OpenLemmas.{rising, specs-of, opening-kept, opening-is}
+use Rattle.xl_machine.proofs.Common.{row_of}
+use Rattle.xl_machine.proofs.OpenLemmas.{opening-is, opening-kept, rising, specs-of}
 use Rattle.xl_machine.proofs.machine.Machine.open.Goals as goal
 
 pub open-requires-2-clause-specs : goal.open-requires-2-clause-specs

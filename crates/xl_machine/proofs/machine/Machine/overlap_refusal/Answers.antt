@@ -1,5 +1,4 @@
-use Rattle.std.proofs.Common.{◌<◌}
-use Rattle.xl_model.specs.Rows.{row_of}
+use Rattle.xl_machine.proofs.Common.{◌<◌, row_of}
 use Rattle.xl_machine.proofs.RefusalLemmas.{block-in}
 use Rattle.xl_machine.proofs.machine.Machine.overlap_refusal.Goals as goal
 

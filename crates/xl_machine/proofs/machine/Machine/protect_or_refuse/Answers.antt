@@ -1,6 +1,6 @@
-use Rattle.std.proofs.Common.{◌∙◌}
+use Rattle.xl_machine.proofs.Common.{◌∙◌}
+use Rattle.xl_machine.proofs.StepLemmas.{protect-rule, refused-after, refused-outcome}
 use Rattle.xl_model.specs.declared.event.Event.TheVariants as event
-use Rattle.xl_machine.proofs.StepLemmas.{protect-rule, refused-outcome, refused-after}
 use Rattle.xl_machine.proofs.machine.Machine.protect_or_refuse.Goals as goal
 
 pub protect-requires-clause-ruled : goal.protect-requires-clause-ruled

@@ -1,6 +1,4 @@
-use Rattle.std.proofs.Common.{length}
-use Rattle.xl_model.specs.Rows.{row_of}
-use Rattle.xl_machine.specs.Served.{state_of}
+use Rattle.xl_machine.proofs.Common.{length, row_of, state_of}
 use Rattle.xl_machine.proofs.Accesses.{refused_after, refused_reply}
 use Rattle.xl_machine.proofs.machine.Machine.refuse_address.Goals as goal
 

@@ -1,4 +1,4 @@
-use Rattle.xl_model.specs.Rows.{row_of}
+use Rattle.xl_machine.proofs.Common.{row_of}
 use Rattle.xl_machine.proofs.StepLemmas.{refusal-counted}
 use Rattle.xl_machine.proofs.machine.Machine.refuse_event.Goals as goal
 

@@ -1,11 +1,6 @@
-use Rattle.std.proofs.Common.{is_some, Option, ap}
-use Rattle.xl_model.specs.declared.leaf.Leaf.{Leaf}
-use Rattle.xl_model.specs.Addresses.{page_of}
-use Rattle.xl_model.specs.Rows.{row_of}
-use Rattle.xl_model_lemmas.proofs.PoolChangeLemmas.{pool-relocated}
+use Rattle.xl_machine.proofs.Common.{ap, is_some, Leaf, new-place, Option, page_of, pool-relocated, row_of}
 use Rattle.xl_machine.proofs.CommandLemmas.{block-for}
-use Rattle.xl_machine.proofs.NamedChanges.{move-known, made-kept, unmade-kept, made-answer, made-state, unmade-answer, unmade-state}
-use Rattle.xl_model_lemmas.proofs.RuleLemmas.{new-place}
+use Rattle.xl_machine.proofs.NamedChanges.{made-answer, made-kept, made-state, move-known, unmade-answer, unmade-kept, unmade-state}
 use Rattle.xl_machine.proofs.machine.Machine.relocate.Goals as goal
 
 pub relocate-requires-clause-there : goal.relocate-requires-clause-there

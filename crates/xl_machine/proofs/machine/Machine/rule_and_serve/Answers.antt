@@ -1,7 +1,6 @@
-use Rattle.std.proofs.Common.{ap, ◌∙◌}
-use Rattle.xl_model.specs.declared.event.Outcome.TheVariants as outcome
-use Rattle.xl_model.specs.declared.leaf.Reply.{Reply}
+use Rattle.xl_machine.proofs.Common.{◌∙◌, ap, Reply}
 use Rattle.xl_machine.proofs.StepLemmas.{access-outcome}
+use Rattle.xl_model.specs.declared.event.Outcome.TheVariants as outcome
 use Rattle.xl_machine.proofs.machine.Machine.rule_and_serve.Goals as goal
 
 pub returns-in-Access-clause-outcome : goal.returns-in-Access-clause-outcome

@@ -1,9 +1,6 @@
-use Rattle.std.proofs.Common.{◌≡◌, None}
+use Rattle.xl_machine.proofs.Common.{◌≡◌, None, row_of, rule_of, served}
+use Rattle.xl_machine.proofs.FenceLemmas.{switched-is, switched-kept}
 use Rattle.xl_model.specs.declared.event.Event.TheVariants as event
-use Rattle.xl_model.specs.Rows.{row_of}
-use Rattle.xl_machine.specs.Rules.{rule_of}
-use Rattle.xl_machine.specs.Served.{served}
-use Rattle.xl_machine.proofs.FenceLemmas.{switched-kept, switched-is}
 use Rattle.xl_machine.proofs.machine.Machine.switch.Goals as goal
 
 pub invariant_of-self : goal.invariant_of-self

@@ -1,8 +1,6 @@
-use Rattle.std.proofs.Common.{◌∙◌, ap}
+use Rattle.xl_machine.proofs.Common.{◌∙◌, ap, row_of, Served}
+use Rattle.xl_machine.proofs.StepLemmas.{refused-after, refused-outcome, space-outcome, space-rule}
 use Rattle.xl_model.specs.declared.event.Event.TheVariants as event
-use Rattle.xl_model.specs.Rows.{row_of}
-use Rattle.xl_model.specs.Scenes.{Served}
-use Rattle.xl_machine.proofs.StepLemmas.{space-rule, space-outcome, refused-outcome, refused-after}
 use Rattle.xl_machine.proofs.machine.Machine.switch_or_refuse.Goals as goal
 
 pub switch-requires : goal.switch-requires

@@ -1,9 +1,5 @@
-use Rattle.std.proofs.Common.{is_some, Option, ap, arith}
-use Rattle.xl_model.specs.declared.leaf.Leaf.{Leaf}
-use Rattle.xl_model.specs.Addresses.{page_of}
-use Rattle.xl_model.specs.Rows.{row_of}
-use Rattle.xl_model_lemmas.proofs.PoolChangeLemmas.{pool-removed}
-use Rattle.xl_machine.proofs.NamedChanges.{unmap-known, made-kept, unmade-kept, made-answer, made-state, unmade-answer, unmade-state}
+use Rattle.xl_machine.proofs.Common.{ap, arith, is_some, Leaf, Option, page_of, pool-removed, row_of}
+use Rattle.xl_machine.proofs.NamedChanges.{made-answer, made-kept, made-state, unmade-answer, unmade-kept, unmade-state, unmap-known}
 use Rattle.xl_machine.proofs.machine.Machine.unmap.Goals as goal
 
 pub remove-requires : goal.remove-requires

@@ -1,7 +1,5 @@
-use Rattle.std.proofs.Common.{arith}
-use Rattle.xl_model.specs.declared.leaf.Leaf.{Leaf}
-use Rattle.xl_model.specs.LeafWords.{small_leaf}
-use Rattle.xl_machine.proofs.Accesses.{page_small, page_in, told_leaf, walked_kept, walked_reached, small_answer, allowed_reply, same_kept, same_walk_left}
+use Rattle.xl_machine.proofs.Common.{arith, Leaf, small_leaf}
+use Rattle.xl_machine.proofs.Accesses.{allowed_reply, page_in, page_small, same_kept, same_walk_left, small_answer, told_leaf, walked_kept, walked_reached}
 use Rattle.xl_machine.proofs.machine.Machine.walk_at_once.Goals as goal
 
 pub walk_allowed-requires : goal.walk_allowed-requires

@@ -1,8 +1,5 @@
-use Rattle.std.proofs.Common.{◌≡◌, ℕ, ◌+◌, ◌*◌, ◌%◌, ◌^◌, ◌<◌, nat_lt, arith}
-use Rattle.std.proofs.lemmas.Bool.Decides.{nat_tests}
-use Rattle.xl_model.specs.declared.address.Mode.{Mode}
+use Rattle.xl_machine.proofs.Common.{◌%◌, ◌*◌, ◌+◌, ◌<◌, ◌^◌, ◌≡◌, arith, is_canonical, levels_of, Mode, nat_lt, nat_tests, ℕ}
 use Rattle.xl_model.specs.declared.address.Mode.TheVariants as mode
-use Rattle.xl_model.specs.Addresses.{is_canonical, levels_of}
 use Rattle.xl_machine.proofs.span.Span.canonical.Goals as goal
 
 in-halves : (m : Mode) (half both va : ℕ) → half ≡ 2 ^ (9 * levels_of m + 11) → both ≡ 2 ^ (9 * levels_of m + 12) → va < 2 ^ 64 → nat_lt ((va + half) % 2 ^ 64) both ≡ is_canonical m va

@@ -1,6 +1,5 @@
-use Rattle.std.proofs.Common.{◌/◌, ◌*◌}
+use Rattle.xl_machine.proofs.Common.{◌*◌, ◌/◌, levels_of, page_of}
 use Rattle.std.proofs.lemmas.Nat.{and_mask}
-use Rattle.xl_model.specs.Addresses.{page_of, levels_of}
 use Rattle.xl_machine.proofs.span.Span.page_of.Goals as goal
 
 pub returns : goal.returns

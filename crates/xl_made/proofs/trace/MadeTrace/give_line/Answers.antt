@@ -1,7 +1,5 @@
-use Rattle.std.proofs.Common.{◌≡◌, ◌<◌, ◌++◌, ◌-◌, ◌+◌, List, ℕ, length, take, ap, sym, ◌∙◌, append_assoc, arith}
-use Rattle.rand_pcg.specs.Lcg.{Lcg}
-use Rattle.xl_made.specs.Made.{word, after, record_line, record_lines}
-use Rattle.xl_made.proofs.MadeLemmas.{line_made, line-length, lines-length}
+use Rattle.xl_made.proofs.Common.{◌++◌, ◌+◌, ◌-◌, ◌<◌, ◌∙◌, ◌≡◌, after, ap, append_assoc, arith, Lcg, length, List, record_line, record_lines, sym, take, word, ℕ}
+use Rattle.xl_made.proofs.MadeLemmas.{line-length, line_made, lines-length}
 use Rattle.xl_made.proofs.trace.MadeTrace.give_line.Goals as goal
 
 pub returns-clause-given : goal.returns-clause-given

@@ -1,4 +1,4 @@
-use Rattle.std.proofs.Common.{◌<◌, ap, arith}
+use Rattle.xl_made.proofs.Common.{◌<◌, ap, arith}
 use Rattle.xl_made.proofs.ReadLemmas.{first_given}
 use Rattle.xl_made.proofs.trace.MadeTrace.next.Goals as goal
 

@@ -1,4 +1,4 @@
-use Rattle.std.proofs.Common.{List, ℕ, length, refl, ap, arith}
+use Rattle.xl_made.proofs.Common.{ap, arith, length, List, refl, ℕ}
 use Rattle.xl_made.proofs.MadeLemmas.{lines-length}
 use Rattle.xl_made.proofs.trace.MadeTrace.piece.Goals as goal
 

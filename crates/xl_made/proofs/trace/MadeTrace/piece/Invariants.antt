@@ -1,4 +1,4 @@
-use Rattle.std.proofs.Common.{◌≡◌, ◌≤◌, ◌-◌, ◌*◌, ◌++◌, length, take}
+use Rattle.xl_made.proofs.Common.{◌*◌, ◌++◌, ◌-◌, ◌≡◌, ◌≤◌, length, take}
 use Rattle.xl_made.proofs.trace.MadeTrace.piece.Given as goal
 
 abbrev pub invariant-loop-i : goal.invariant-loop-i

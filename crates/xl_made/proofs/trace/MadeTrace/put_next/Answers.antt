@@ -1,6 +1,4 @@
-use Rattle.std.proofs.Common.{◌<◌, ap, refl, arith}
-use Rattle.xl_made.specs.Made.{letter_of, address_of, size_of}
-use Rattle.xl_made.specs.Taken.{IsFirstOf}
+use Rattle.xl_made.proofs.Common.{◌<◌, address_of, ap, arith, IsFirstOf, letter_of, refl, size_of}
 use Rattle.xl_made.proofs.ReadLemmas.{first_given}
 use Rattle.xl_made.proofs.trace.MadeTrace.put_next.Goals as goal
 

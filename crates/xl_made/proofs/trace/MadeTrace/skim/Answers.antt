@@ -1,5 +1,4 @@
-use Rattle.std.proofs.Common.{refl, arith}
-use Rattle.xl_lackey.proofs.SkimLemmas.{takes_none}
+use Rattle.xl_made.proofs.Common.{arith, refl, takes_none}
 use Rattle.xl_made.proofs.ReadLemmas.{takes_first}
 use Rattle.xl_made.proofs.trace.MadeTrace.skim.Goals as goal
 

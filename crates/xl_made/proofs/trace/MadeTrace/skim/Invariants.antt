@@ -1,5 +1,4 @@
-use Rattle.std.proofs.Common.{◌-◌, ℕ, ◌<◌, ◌≤◌, ◌^◌, length}
-use Rattle.xl_lackey.specs.Skims.{Takes}
+use Rattle.xl_made.proofs.Common.{◌-◌, ◌<◌, ◌^◌, ◌≤◌, length, Takes, ℕ}
 use Rattle.xl_made.proofs.trace.MadeTrace.skim.Given as goal
 
 abbrev pub invariant-loop-taken : goal.invariant-loop-taken

@@ -1,9 +1,5 @@
-use Rattle.std.proofs.Common.{◌≡◌, ◌∙◌, sym, ap, subst, ◌<◌, ◌≤◌, length, arith}
-use Rattle.std.specs.List.{insert}
-use Rattle.std.specs.Vec.{vec_len}
-use Rattle.xl_model_lemmas.specs.Kept.{IsKept, in_front}
-use Rattle.xl_model_lemmas.proofs.FrontLemmas.{kept-front}
-use Rattle.xl_model_table.proofs.TableLemmas.{IsComing, coming, insert-made, insert-refused}
+use Rattle.xl_model_table.proofs.Common.{◌<◌, ◌∙◌, ◌≡◌, ◌≤◌, ap, arith, in_front, insert, IsKept, kept-front, length, subst, sym, vec_len}
+use Rattle.xl_model_table.proofs.TableLemmas.{coming, insert-made, insert-refused, IsComing}
 use Rattle.xl_model_table.proofs.plain.PlainTable.add.Goals as goal
 
 pub place_of-place-requires-clause-new : goal.place_of-place-requires-clause-new

@@ -1,6 +1,4 @@
-use Rattle.std.proofs.Common.{◌∙◌, ap, find}
-use Rattle.xl_model.specs.Mapping.{covers, leaf_at_page}
-use Rattle.xl_model_lemmas.proofs.ReadLemmas.{leaf-at-mapping}
+use Rattle.xl_model_table.proofs.Common.{◌∙◌, ap, covers, find, leaf-at-mapping, leaf_at_page}
 use Rattle.xl_model_table.proofs.plain.PlainTableStructure.leaf_at.Goals as goal
 
 pub returns : goal.returns

@@ -1,7 +1,4 @@
-use Rattle.std.proofs.Common.{◌∙◌, ap}
-use Rattle.std.specs.List.{list_any}
-use Rattle.xl_model.specs.Mapping.{meets_block, meets_any}
-use Rattle.xl_model_lemmas.proofs.ReadLemmas.{meets-mapping}
+use Rattle.xl_model_table.proofs.Common.{◌∙◌, ap, list_any, meets-mapping, meets_any, meets_block}
 use Rattle.xl_model_table.proofs.plain.PlainTableStructure.meets.Goals as goal
 
 pub returns : goal.returns

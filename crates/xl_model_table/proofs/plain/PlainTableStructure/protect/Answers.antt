@@ -1,8 +1,4 @@
-use Rattle.std.proofs.Common.{◌≡◌, ◌∙◌, sym, ap, subst, length}
-use Rattle.std.proofs.lemmas.List.{with_items_is}
-use Rattle.std.specs.Vec.{with_items}
-use Rattle.xl_model_lemmas.specs.Kept.{IsKept, with_perm_named}
-use Rattle.xl_model_lemmas.proofs.GivenLemmas.{kept-protected, length-protected}
+use Rattle.xl_model_table.proofs.Common.{◌∙◌, ◌≡◌, ap, IsKept, kept-protected, length, length-protected, subst, sym, with_items, with_items_is, with_perm_named}
 use Rattle.xl_model_table.proofs.TableLemmas.{protect-made}
 use Rattle.xl_model_table.proofs.plain.PlainTableStructure.protect.Goals as goal
 

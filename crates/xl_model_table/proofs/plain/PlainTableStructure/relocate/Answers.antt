@@ -1,5 +1,4 @@
-use Rattle.std.proofs.Common.{◌∙◌, sym, ap, find}
-use Rattle.xl_model.specs.Mapping.{is_leaf}
+use Rattle.xl_model_table.proofs.Common.{◌∙◌, ap, find, is_leaf, sym}
 use Rattle.xl_model_table.proofs.MoveLemmas.{IsMovable, movable, no-leaf}
 use Rattle.xl_model_table.proofs.plain.PlainTableStructure.relocate.Goals as goal
 

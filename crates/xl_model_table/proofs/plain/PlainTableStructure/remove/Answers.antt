@@ -1,6 +1,4 @@
-use Rattle.std.proofs.Common.{sym, subst, arith}
-use Rattle.xl_model_lemmas.specs.Kept.{IsKept}
-use Rattle.xl_model_lemmas.proofs.WithoutLemmas.{kept-without}
+use Rattle.xl_model_table.proofs.Common.{arith, IsKept, kept-without, subst, sym}
 use Rattle.xl_model_table.proofs.TableLemmas.{remove-made}
 use Rattle.xl_model_table.proofs.plain.PlainTableStructure.remove.Goals as goal
 

@@ -1,6 +1,4 @@
-use Rattle.std.proofs.Common.{◌≡◌, ◌∙◌, refl, ap, map}
-use Rattle.xl_model.specs.Chains.{leaf_tag}
-use Rattle.xl_model.specs.Walks.{chains_reads, orders_tried}
+use Rattle.xl_model_table.proofs.Common.{◌∙◌, ◌≡◌, ap, chains_reads, leaf_tag, map, orders_tried, refl}
 use Rattle.xl_model_table.proofs.TableLemmas.{walk-made}
 use Rattle.xl_model_table.proofs.plain.PlainTableStructure.walk.Goals as goal
 

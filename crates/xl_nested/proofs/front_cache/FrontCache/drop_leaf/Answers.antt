@@ -1,8 +1,4 @@
-use Rattle.std.proofs.Common.{List}
-use Rattle.xl_model.specs.declared.leaf.Leaf.{Leaf}
-use Rattle.xl_model.specs.Mapping.{is_leaf}
-use Rattle.xl_model.specs.Recency.{purged}
-use Rattle.xl_nested_model.specs.Stages.{host_page, host_space}
+use Rattle.xl_nested.proofs.Common.{host_page, host_space, is_leaf, Leaf, List, purged}
 use Rattle.xl_nested.proofs.FrontLemmas.{changed-seen}
 use Rattle.xl_nested.proofs.front_cache.FrontCache.drop_leaf.Goals as goal
 

@@ -1,6 +1,4 @@
-use Rattle.std.proofs.Common.{List}
-use Rattle.xl_model.specs.declared.leaf.Leaf.{Leaf}
-use Rattle.xl_model.specs.Recency.{with_newest}
+use Rattle.xl_nested.proofs.Common.{Leaf, List, with_newest}
 use Rattle.xl_nested.proofs.FrontLemmas.{changed-seen}
 use Rattle.xl_nested.proofs.front_cache.FrontCache.fill.Goals as goal
 

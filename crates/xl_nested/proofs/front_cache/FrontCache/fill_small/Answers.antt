@@ -1,8 +1,4 @@
-use Rattle.std.proofs.Common.{List}
-use Rattle.xl_model.specs.declared.leaf.Leaf.{Leaf}
-use Rattle.xl_model.specs.LeafWords.{small_leaf}
-use Rattle.xl_model.specs.Recency.{with_newest}
-use Rattle.xl_nested_model.specs.Stages.{host_page, host_space}
+use Rattle.xl_nested.proofs.Common.{host_page, host_space, Leaf, List, small_leaf, with_newest}
 use Rattle.xl_nested.proofs.FrontLemmas.{changed-seen}
 use Rattle.xl_nested.proofs.front_cache.FrontCache.fill_small.Goals as goal
 

@@ -1,4 +1,4 @@
-use Rattle.std.proofs.Common.{refl}
+use Rattle.xl_nested.proofs.Common.{refl}
 use Rattle.xl_nested.proofs.front_cache.Fronts.behind.Goals as goal
 
 pub returns : goal.returns

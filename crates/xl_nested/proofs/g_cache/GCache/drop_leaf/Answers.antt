@@ -1,7 +1,7 @@
-use Rattle.xl_nested.specs.Coding.{has_tag}
+use Rattle.xl_nested.proofs.Common.{has_tag}
 use Rattle.xl_nested.proofs.CodingLemmas.{purged-leaves, purged-small}
-use Rattle.xl_nested.proofs.HeldLemmas.{held-purged}
 use Rattle.xl_nested.proofs.GuestLemmas.{first-low}
+use Rattle.xl_nested.proofs.HeldLemmas.{held-purged}
 use Rattle.xl_nested.proofs.g_cache.GCache.drop_leaf.Goals as goal
 
 pub tag_of-requires : goal.tag_of-requires

@@ -1,4 +1,4 @@
-use Rattle.std.proofs.Common.{sym}
+use Rattle.xl_nested.proofs.Common.{sym}
 use Rattle.xl_nested.proofs.CodingLemmas.{block-found, found-covers, found-in, found-leaf, found-nothing, found-small, no-block, touched-leaves, touched-small}
 use Rattle.xl_nested.proofs.HeldLemmas.{held-touched}
 use Rattle.xl_nested.proofs.g_cache.GCache.touch.Goals as goal

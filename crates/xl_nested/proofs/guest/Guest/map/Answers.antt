@@ -1,8 +1,4 @@
-use Rattle.std.proofs.Common.{◌≡◌, false, Some, sym, ◌∙◌}
-use Rattle.xl_model.specs.Mapping.{meets_any}
-use Rattle.xl_nested_model.specs.Rules.{guest_map, map_rule, room_rule, stage_after, vmapped}
-use Rattle.xl_nested_model.specs.Stages.{Guest, Stage}
-use Rattle.xl_nested.specs.Kept.{IsGuest}
+use Rattle.xl_nested.proofs.Common.{◌∙◌, ◌≡◌, false, Guest, guest_map, IsGuest, map_rule, meets_any, room_rule, Some, Stage, stage_after, sym, vmapped}
 use Rattle.xl_nested.proofs.CommandLemmas.{guest-mapped-is, map-rule-free, served-in, served-kept}
 use Rattle.xl_nested.proofs.GuestLemmas.{guest-mapped}
 use Rattle.xl_nested.proofs.guest.Guest.map.Goals as goal

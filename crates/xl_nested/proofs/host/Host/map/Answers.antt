@@ -1,6 +1,4 @@
-use Rattle.std.proofs.Common.{◌≡◌, refl, sym, ◌∙◌, false}
-use Rattle.xl_model.specs.Mapping.{meets_any}
-use Rattle.xl_nested_model.specs.Stages.{host_page, host_space}
+use Rattle.xl_nested.proofs.Common.{◌∙◌, ◌≡◌, false, host_page, host_space, meets_any, refl, sym}
 use Rattle.xl_nested.proofs.GuestLemmas.{block-of}
 use Rattle.xl_nested.proofs.HostLemmas.{given-kept, leaf-for, map-done, map-undone, mapped-kept, no-frames, place-in}
 use Rattle.xl_nested.proofs.host.Host.map.Goals as goal

@@ -1,4 +1,4 @@
-use Rattle.std.proofs.Common.{◌∙◌}
+use Rattle.xl_nested.proofs.Common.{◌∙◌}
 use Rattle.xl_nested.proofs.CacheLemmas.{frame-none, frame-some}
 use Rattle.xl_nested.proofs.host.Host.translate.Goals as goal
 

@@ -1,6 +1,4 @@
-use Rattle.std.proofs.Common.{◌≡◌, sym, Some}
-use Rattle.xl_model.specs.Mapping.{leaf_named}
-use Rattle.xl_nested_model.specs.Stages.{host_page, host_space}
+use Rattle.xl_nested.proofs.Common.{◌≡◌, host_page, host_space, leaf_named, Some, sym}
 use Rattle.xl_nested.proofs.HostLemmas.{old-frames, unmap-done, unmapped-kept}
 use Rattle.xl_nested.proofs.host.Host.unmap.Goals as goal
 

@@ -1,8 +1,4 @@
-use Rattle.std.proofs.Common.{◌≡◌, ◌<◌, ◌^◌, sym, refl, Some, arith}
-use Rattle.xl_model.specs.declared.leaf.Leaf.{Leaf}
-use Rattle.xl_model.specs.LeafWords.{small_leaf}
-use Rattle.xl_model.specs.Mapping.{leaf_at_page}
-use Rattle.xl_nested_model.specs.Stages.{host_page, host_space}
+use Rattle.xl_nested.proofs.Common.{◌<◌, ◌^◌, ◌≡◌, arith, host_page, host_space, Leaf, leaf_at_page, refl, small_leaf, Some, sym}
 use Rattle.xl_nested.proofs.CacheLemmas.{filled-as, leaf-by, leaf-found, miss-after, small-says}
 use Rattle.xl_nested.proofs.GuestLemmas.{found-In}
 use Rattle.xl_nested.proofs.HostLemmas.{filled-kept, small-low}

@@ -1,5 +1,4 @@
-use Rattle.std.proofs.Common.{sym, refl, None, Some}
-use Rattle.xl_nested_model.specs.Stages.{host_page}
+use Rattle.xl_nested.proofs.Common.{host_page, None, refl, Some, sym}
 use Rattle.xl_nested.proofs.CacheLemmas.{filled-as, leaf-by, leaf-found, miss-after, nothing-found}
 use Rattle.xl_nested.proofs.GuestLemmas.{found-In}
 use Rattle.xl_nested.proofs.HostLemmas.{filled-kept, keepable, loaded-kept, walked-for}

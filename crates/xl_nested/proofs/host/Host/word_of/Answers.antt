@@ -1,9 +1,4 @@
-use Rattle.std.proofs.Common.{◌≡◌, ap, ◌∙◌, find, None}
-use Rattle.xl_model.specs.declared.leaf.Leaf.{Leaf}
-use Rattle.xl_model.specs.Caches.{Cached}
-use Rattle.xl_nested_model.specs.Stages.{covers_guest, host_page, translated}
-use Rattle.xl_model_lemmas.proofs.RecencyLemmas.{touched-none}
-use Rattle.xl_nested.specs.Kept.{host_of}
+use Rattle.xl_nested.proofs.Common.{◌∙◌, ◌≡◌, ap, Cached, covers_guest, find, host_of, host_page, Leaf, None, touched-none, translated}
 use Rattle.xl_nested.proofs.CacheLemmas.{found-none, hit-after, untouched-as}
 use Rattle.xl_nested.proofs.HostLemmas.{cached-word, touched-kept}
 use Rattle.xl_nested.proofs.host.Host.word_of.Goals as goal

@@ -1,5 +1,4 @@
-use Rattle.std.proofs.Common.{◌∙◌}
-use Rattle.xl_nested_model.specs.Nested.{NestState}
+use Rattle.xl_nested.proofs.Common.{◌∙◌, NestState}
 use Rattle.xl_nested.proofs.LawLemmas.{reply-laws}
 use Rattle.xl_nested.proofs.WalkLemmas.{accessed-is}
 use Rattle.xl_nested.proofs.nested.Nested.access.Goals as goal

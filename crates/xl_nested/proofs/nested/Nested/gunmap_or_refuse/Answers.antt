@@ -1,4 +1,4 @@
-use Rattle.xl_nested_model.specs.Nested.{NestState}
+use Rattle.xl_nested.proofs.Common.{NestState}
 use Rattle.xl_nested.proofs.CommandLemmas.{gunmap-settled}
 use Rattle.xl_nested.proofs.nested.Nested.gunmap_or_refuse.Goals as goal
 

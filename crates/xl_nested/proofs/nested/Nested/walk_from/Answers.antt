@@ -1,9 +1,6 @@
-use Rattle.std.proofs.Common.{◌≡◌, ◌+◌, sym, ◌∙◌, Some}
-use Rattle.xl_model.specs.declared.address.Kind.TheVariants as kinds
-use Rattle.xl_nested_model.specs.Nested.{NestState}
-use Rattle.xl_nested_model.specs.Stages.{stage2}
-use Rattle.xl_nested.specs.Walks.{IsAt, reply_from, walked_from}
+use Rattle.xl_nested.proofs.Common.{◌+◌, ◌∙◌, ◌≡◌, IsAt, NestState, reply_from, Some, stage2, sym, walked_from}
 use Rattle.xl_nested.proofs.WalkLemmas.{leaf-after, leaf-reply, missing-after, missing-reply, next-after, next-at, next-reply, nothing-after, nothing-reply, small-after, small-reply}
+use Rattle.xl_model.specs.declared.address.Kind.TheVariants as kinds
 use Rattle.xl_nested.proofs.nested.Nested.walk_from.Goals as goal
 
 pub returns-in_default-clause-reply : goal.returns-in_default-clause-reply

@@ -1,5 +1,4 @@
-use Rattle.std.proofs.Common.{◌≡◌}
-use Rattle.xl_nested.specs.Walks.{IsAt, reply_from, walked_from}
+use Rattle.xl_nested.proofs.Common.{◌≡◌, IsAt, reply_from, walked_from}
 use Rattle.xl_nested.proofs.nested.Nested.walk_from.Given as goal
 
 abbrev pub invariant-down : goal.invariant-down

@@ -1,9 +1,4 @@
-use Rattle.std.proofs.Common.{[], refl}
-use Rattle.std.proofs.lemmas.List.Elements.{All-tail}
-use Rattle.xl_nested_script.specs.Lines.{IsPlaced}
-use Rattle.xl_paired.specs.Pairs.{events_from}
-use Rattle.xl_paired.proofs.PairLemmas.{served_commands}
-use Rattle.xl_nesting.specs.Nesting.{event_at, nested_form}
+use Rattle.xl_nesting.proofs.Common.{[], All-tail, event_at, events_from, IsPlaced, nested_form, refl, served_commands}
 use Rattle.xl_nesting.proofs.ScriptLemmas.{no-events}
 use Rattle.xl_nesting.proofs.form.NestingFormNested.command.Goals as goal
 

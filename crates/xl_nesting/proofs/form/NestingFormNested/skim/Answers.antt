@@ -1,5 +1,5 @@
+use Rattle.xl_nesting.proofs.Common.{nested_form}
 use Rattle.xl_paired.proofs.SkimLemmas.{skimmed}
-use Rattle.xl_nesting.specs.Nesting.{nested_form}
 use Rattle.xl_nesting.proofs.form.NestingFormNested.skim.Goals as goal
 
 pub returns-clause-skims : goal.returns-clause-skims

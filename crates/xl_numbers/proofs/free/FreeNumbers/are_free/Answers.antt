@@ -1,5 +1,5 @@
-use Rattle.std.proofs.Common.{◌+◌, arith}
-use Rattle.xl_numbers.proofs.ViewLemmas.{words-count, free-seen}
+use Rattle.xl_numbers.proofs.Common.{◌+◌, arith}
+use Rattle.xl_numbers.proofs.ViewLemmas.{free-seen, words-count}
 use Rattle.xl_numbers.proofs.free.FreeNumbers.are_free.Goals as goal
 
 pub all_ones-requires : goal.all_ones-requires

@@ -1,5 +1,4 @@
-use Rattle.std.proofs.Common.{sym, ap, ◌∙◌, Bool, List, length}
-use Rattle.xl_numbers.specs.Bits.{bit_of}
+use Rattle.xl_numbers.proofs.Common.{◌∙◌, ap, bit_of, Bool, length, List, sym}
 use Rattle.xl_numbers.proofs.FlagLemmas.{length-flags}
 use Rattle.xl_numbers.proofs.free.FreeNumbers.count.Goals as goal
 

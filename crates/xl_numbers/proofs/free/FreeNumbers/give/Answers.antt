@@ -1,5 +1,5 @@
-use Rattle.std.proofs.Common.{ap, length, ◌∙◌, arith}
-use Rattle.xl_numbers.proofs.ViewLemmas.{below-count, put-seen, put-kept}
+use Rattle.xl_numbers.proofs.Common.{◌∙◌, ap, arith, length}
+use Rattle.xl_numbers.proofs.ViewLemmas.{below-count, put-kept, put-seen}
 use Rattle.xl_numbers.proofs.free.FreeNumbers.give.Goals as goal
 
 pub put_number-requires-clause-within : goal.put_number-requires-clause-within

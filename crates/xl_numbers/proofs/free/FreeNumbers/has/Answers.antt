@@ -1,4 +1,4 @@
-use Rattle.std.proofs.Common.{◌<◌, ◌∙◌, rules}
+use Rattle.xl_numbers.proofs.Common.{◌<◌, ◌∙◌, rules}
 use Rattle.xl_numbers.proofs.ViewLemmas.{bit-seen, past-seen}
 use Rattle.xl_numbers.proofs.free.FreeNumbers.has.Goals as goal
 

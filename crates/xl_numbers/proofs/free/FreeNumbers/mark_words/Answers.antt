@@ -1,5 +1,5 @@
-use Rattle.std.proofs.Common.{ap, length, ◌+◌, ◌∙◌, arith}
-use Rattle.xl_numbers.proofs.ViewLemmas.{words-count, words-seen, words-kept}
+use Rattle.xl_numbers.proofs.Common.{◌+◌, ◌∙◌, ap, arith, length}
+use Rattle.xl_numbers.proofs.ViewLemmas.{words-count, words-kept, words-seen}
 use Rattle.xl_numbers.proofs.free.FreeNumbers.mark_words.Goals as goal
 
 pub put_words-requires-clause-within : goal.put_words-requires-clause-within

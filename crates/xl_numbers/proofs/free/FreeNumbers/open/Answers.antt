@@ -1,5 +1,4 @@
-use Rattle.std.proofs.Common.{◌*◌, ◌/◌, ap, ◌∙◌, subst, Bool, true, false, List, replicate, slice_set, arith}
-use Rattle.xl_numbers.specs.Free.{AreMarked}
+use Rattle.xl_numbers.proofs.Common.{◌*◌, ◌/◌, ◌∙◌, ap, AreMarked, arith, Bool, false, List, replicate, slice_set, subst, true}
 use Rattle.xl_numbers.proofs.FlagLemmas.{first-free, more-free}
 use Rattle.xl_numbers.proofs.free.FreeNumbers.open.Goals as goal
 

@@ -1,4 +1,4 @@
-use Rattle.std.proofs.Common.{◌≡◌, ◌-◌, ◌++◌, true, false, replicate}
+use Rattle.xl_numbers.proofs.Common.{◌++◌, ◌-◌, ◌≡◌, false, replicate, true}
 use Rattle.xl_numbers.proofs.free.FreeNumbers.open.Given as goal
 
 abbrev pub invariant-given : goal.invariant-given

@@ -1,5 +1,5 @@
-use Rattle.std.proofs.Common.{ap, length, ◌∙◌, arith}
-use Rattle.xl_numbers.proofs.ViewLemmas.{free-within, free-set, put-seen, put-kept}
+use Rattle.xl_numbers.proofs.Common.{◌∙◌, ap, arith, length}
+use Rattle.xl_numbers.proofs.ViewLemmas.{free-set, free-within, put-kept, put-seen}
 use Rattle.xl_numbers.proofs.free.FreeNumbers.take_out.Goals as goal
 
 pub drop_number-requires-clause-within : goal.drop_number-requires-clause-within

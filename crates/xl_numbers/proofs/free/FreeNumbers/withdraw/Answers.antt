@@ -1,4 +1,4 @@
-use Rattle.std.proofs.Common.{sym, ◌∙◌}
+use Rattle.xl_numbers.proofs.Common.{◌∙◌, sym}
 use Rattle.xl_numbers.proofs.FlagLemmas.{set-kept}
 use Rattle.xl_numbers.proofs.free.FreeNumbers.withdraw.Goals as goal
 

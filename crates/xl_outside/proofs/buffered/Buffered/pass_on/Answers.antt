@@ -1,7 +1,6 @@
-use Rattle.std.proofs.Common.{rules, ◌≡◌, ◌+◌, ◌-◌, ◌≤◌, ◌<◌, ◌∙◌, true, inl, arith, length, take, subst, ap, length-drop}
-use Rattle.xl_outside.specs.Sinks.{with_more}
-use Rattle.xl_outside.proofs.SinkLemmas.{goes_then, put_goes, put_stops}
+use Rattle.xl_outside.proofs.Common.{◌+◌, ◌-◌, ◌<◌, ◌∙◌, ◌≡◌, ◌≤◌, ap, arith, inl, length, length-drop, rules, subst, take, true, with_more}
 use Rattle.xl_outside.proofs.BufferLemmas.{moved_on}
+use Rattle.xl_outside.proofs.SinkLemmas.{goes_then, put_goes, put_stops}
 use Rattle.xl_outside.proofs.buffered.Buffered.pass_on.Goals as goal
 
 pub returns-in-Ok-eq0-clause-goes_on : goal.returns-in-Ok-eq0-clause-goes_on

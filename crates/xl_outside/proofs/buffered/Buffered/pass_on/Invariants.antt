@@ -1,5 +1,4 @@
-use Rattle.std.proofs.Common.{◌≡◌, ◌+◌, ℕ, length, true}
-use Rattle.xl_outside.specs.Sinks.{GoesOn, with_more}
+use Rattle.xl_outside.proofs.Common.{◌+◌, ◌≡◌, GoesOn, length, true, with_more, ℕ}
 use Rattle.xl_outside.proofs.buffered.Buffered.pass_on.Given as goal
 
 abbrev pub invariant-loop-self : goal.invariant-loop-self

@@ -1,8 +1,6 @@
-use Rattle.std.proofs.Common.{◌≡◌, ◌+◌, ◌∙◌, length, subst, ap, arith}
-use Rattle.std.specs.Prelude.{is_ok}
-use Rattle.xl_outside.specs.Sinks.{with_more}
-use Rattle.xl_outside.proofs.SinkLemmas.{goes_then}
+use Rattle.xl_outside.proofs.Common.{◌+◌, ◌∙◌, ◌≡◌, ap, arith, is_ok, length, subst, with_more}
 use Rattle.xl_outside.proofs.BufferLemmas.{flushed_none}
+use Rattle.xl_outside.proofs.SinkLemmas.{goes_then}
 use Rattle.xl_outside.proofs.buffered.BufferedSink.flush.Goals as goal
 
 pub returns : goal.returns

@@ -1,4 +1,4 @@
-use Rattle.std.proofs.Common.{rules, take}
+use Rattle.xl_outside.proofs.Common.{rules, take}
 use Rattle.xl_outside.proofs.mem_sink.MemSinkSink.put.Goals as goal
 
 pub returns-clause-leaves : goal.returns-clause-leaves

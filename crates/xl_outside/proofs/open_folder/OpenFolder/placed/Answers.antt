@@ -1,4 +1,4 @@
-use Rattle.std.proofs.Common.{rules}
+use Rattle.xl_outside.proofs.Common.{rules}
 use Rattle.xl_outside.proofs.StreamLemmas.{named_file}
 use Rattle.xl_outside.proofs.open_folder.OpenFolder.placed.Goals as goal
 

@@ -1,4 +1,4 @@
-use Rattle.std.proofs.Common.{◌∙◌, sym}
+use Rattle.xl_outside.proofs.Common.{◌∙◌, sym}
 use Rattle.xl_outside.proofs.open_folder.OpenFolder.read.Goals as goal
 
 pub placed-requires : goal.placed-requires

@@ -1,6 +1,4 @@
-use Rattle.std.proofs.Common.{arith}
-use Rattle.std.proofs.lemmas.List.Elements.{All-push}
-use Rattle.xl_rack.specs.Slots.{IsNamed}
+use Rattle.xl_rack.proofs.Common.{All-push, arith, IsNamed}
 use Rattle.xl_rack.proofs.rack.Rack.add.Goals as goal
 
 pub invariant_of-self : goal.invariant_of-self

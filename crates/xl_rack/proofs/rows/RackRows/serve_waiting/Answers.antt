@@ -1,5 +1,4 @@
-use Rattle.std.proofs.Common.{◌∙◌, ap}
-use Rattle.xl_serving.specs.Serving.{scene_of}
+use Rattle.xl_rack.proofs.Common.{◌∙◌, ap, scene_of}
 use Rattle.xl_rack.proofs.BatchLemmas.{waiting-by-row}
 use Rattle.xl_rack.proofs.rows.RackRows.serve_waiting.Goals as goal
 

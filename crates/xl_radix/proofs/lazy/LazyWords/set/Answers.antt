@@ -1,4 +1,4 @@
-use Rattle.std.proofs.Common.{refl, ap, ◌∙◌, set, List, ℕ, length-set}
+use Rattle.xl_radix.proofs.Common.{◌∙◌, ap, length-set, List, refl, slice_set as set, ℕ}
 use Rattle.xl_radix.proofs.LazyLemmas.{set_kept}
 use Rattle.xl_radix.proofs.lazy.LazyWords.set.Goals as goal
 

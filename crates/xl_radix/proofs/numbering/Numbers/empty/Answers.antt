@@ -1,4 +1,4 @@
-use Rattle.std.proofs.Common.{◌≡◌, arith}
+use Rattle.xl_radix.proofs.Common.{◌≡◌, arith}
 use Rattle.xl_radix.proofs.FreeLemmas.{all-free}
 use Rattle.xl_radix.proofs.numbering.Numbers.empty.Goals as goal
 

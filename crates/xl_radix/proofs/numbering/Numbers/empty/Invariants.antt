@@ -1,4 +1,4 @@
-use Rattle.std.proofs.Common.{◌≡◌, replicate, None}
+use Rattle.xl_radix.proofs.Common.{◌≡◌, None, replicate}
 use Rattle.xl_radix.proofs.numbering.Numbers.empty.Given as goal
 
 abbrev pub invariant-free : goal.invariant-free

@@ -1,4 +1,4 @@
-use Rattle.std.proofs.Common.{true, None, refl, ◌∙◌}
+use Rattle.xl_radix.proofs.Common.{◌∙◌, None, refl, true}
 use Rattle.xl_radix.proofs.FreeLemmas.{put-free}
 use Rattle.xl_radix.proofs.numbering.Numbers.give.Goals as goal
 

@@ -1,6 +1,4 @@
-use Rattle.std.proofs.Common.{◌+◌, ◌∙◌, ap}
-use Rattle.std.specs.List.{list_any}
-use Rattle.xl_model.specs.Nodes.{is_below}
+use Rattle.xl_radix.proofs.Common.{◌+◌, ◌∙◌, ap, is_below, list_any}
 use Rattle.xl_radix.proofs.NumberLemmas.{any_number}
 use Rattle.xl_radix.proofs.numbering.Numbers.has_node.Goals as goal
 

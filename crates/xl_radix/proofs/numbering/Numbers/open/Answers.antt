@@ -1,4 +1,4 @@
-use Rattle.std.proofs.Common.{arith}
+use Rattle.xl_radix.proofs.Common.{arith}
 use Rattle.xl_radix.proofs.FreeLemmas.{opened, root-taken}
 use Rattle.xl_radix.proofs.numbering.Numbers.open.Goals as goal
 

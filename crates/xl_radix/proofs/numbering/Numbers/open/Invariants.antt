@@ -1,5 +1,4 @@
-use Rattle.std.proofs.Common.{◌≡◌, ◌≤◌}
-use Rattle.xl_model.specs.Nodes.{opening_nodes}
+use Rattle.xl_radix.proofs.Common.{◌≡◌, ◌≤◌, opening_nodes}
 use Rattle.xl_radix.proofs.numbering.Numbers.open.Given as goal
 
 abbrev pub invariant-roots : goal.invariant-roots

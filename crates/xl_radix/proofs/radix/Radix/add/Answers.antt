@@ -1,6 +1,4 @@
-use Rattle.std.proofs.Common.{ℕ, ◌≡◌, ◌≤◌, ◌<◌, ◌-◌, nat_le, true, false, sym, refl, arith}
-use Rattle.std.proofs.lemmas.Bool.Decides.{nat_tests}
-use Rattle.xl_radix.specs.Table.{Table}
+use Rattle.xl_radix.proofs.Common.{◌-◌, ◌<◌, ◌≡◌, ◌≤◌, arith, false, nat_le, nat_tests, refl, sym, Table, true, ℕ}
 use Rattle.xl_radix.proofs.LookLemmas.{room-is}
 use Rattle.xl_radix.proofs.ShapeLemmas.{shape-added}
 use Rattle.xl_radix.proofs.radix.Radix.add.Goals as goal

@@ -1,5 +1,4 @@
-use Rattle.std.proofs.Common.{ℕ, ◌≡◌, ◌-◌, nat_le, sym, refl}
-use Rattle.xl_radix.specs.Table.{Table}
+use Rattle.xl_radix.proofs.Common.{◌-◌, ◌≡◌, nat_le, refl, sym, Table, ℕ}
 use Rattle.xl_radix.proofs.LookLemmas.{room-is}
 use Rattle.xl_radix.proofs.radix.Radix.has_room.Goals as goal
 

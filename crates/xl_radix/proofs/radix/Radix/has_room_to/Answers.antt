@@ -1,4 +1,4 @@
-use Rattle.std.proofs.Common.{◌∙◌}
+use Rattle.xl_radix.proofs.Common.{◌∙◌}
 use Rattle.xl_radix.proofs.ShiftLemmas.{room-moved}
 use Rattle.xl_radix.proofs.radix.Radix.has_room_to.Goals as goal
 

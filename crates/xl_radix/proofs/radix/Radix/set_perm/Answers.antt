@@ -1,6 +1,6 @@
-use Rattle.std.proofs.Common.{refl}
+use Rattle.xl_radix.proofs.Common.{refl}
 use Rattle.xl_radix.proofs.PermLemmas.{shape-protected}
-use Rattle.xl_radix.proofs.ShapeLemmas.{less-same, count-same}
+use Rattle.xl_radix.proofs.ShapeLemmas.{count-same, less-same}
 use Rattle.xl_radix.proofs.radix.Radix.set_perm.Goals as goal
 
 pub returns-clause-made : goal.returns-clause-made

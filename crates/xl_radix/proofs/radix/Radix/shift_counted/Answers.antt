@@ -1,4 +1,4 @@
-use Rattle.std.proofs.Common.{◌∙◌}
+use Rattle.xl_radix.proofs.Common.{◌∙◌}
 use Rattle.std.proofs.lemmas.Result.{err_from_is_err_and}
 use Rattle.xl_radix.proofs.ShiftLemmas.{room-moved, shifted}
 use Rattle.xl_radix.proofs.radix.Radix.shift_counted.Goals as goal

@@ -1,4 +1,4 @@
-use Rattle.std.proofs.Common.{refl, sym, ◌∙◌}
+use Rattle.xl_radix.proofs.Common.{◌∙◌, refl, sym}
 use Rattle.xl_radix.proofs.TakingLemmas.{removed-is, shape-removed}
 use Rattle.xl_radix.proofs.radix.Radix.take_out_counted.Goals as goal
 

@@ -1,8 +1,6 @@
-use Rattle.std.proofs.Common.{◌≡◌, ◌-◌, None, slice_index, lit<, arith}
-use Rattle.xl_model.specs.Nodes.{up}
-use Rattle.xl_model.specs.Image.{leaf_in}
+use Rattle.xl_radix.proofs.Common.{◌-◌, ◌≡◌, arith, leaf_in, lit<, None, slice_index, up}
 use Rattle.xl_radix.proofs.StepLemmas.{stands-in}
-use Rattle.xl_radix.proofs.TakingLemmas.{named-needs, empty-without, still-nearly, stays, is-zero, not-zero}
+use Rattle.xl_radix.proofs.TakingLemmas.{empty-without, is-zero, named-needs, not-zero, stays, still-nearly}
 use Rattle.xl_radix.proofs.store.Store.+take_leaf_below.Goals as goal
 
 pub node_below-node-requires : goal.node_below-node-requires

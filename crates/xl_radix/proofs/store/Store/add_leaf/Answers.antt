@@ -1,5 +1,4 @@
-use Rattle.std.proofs.Common.{sym, lit<, arith}
-use Rattle.xl_model.specs.Nodes.{with_leaf_nodes}
+use Rattle.xl_radix.proofs.Common.{arith, lit<, sym, with_leaf_nodes}
 use Rattle.xl_radix.proofs.PlacedLeafLemmas.{nearly-start}
 use Rattle.xl_radix.proofs.StepLemmas.{end-ready}
 use Rattle.xl_radix.proofs.store.Store.add_leaf.Goals as goal

@@ -1,6 +1,4 @@
-use Rattle.std.proofs.Common.{ℕ, ◌≡◌, ◌%◌, refl, ap, ◌∙◌}
-use Rattle.xl_model.specs.Addresses.{level_of}
-use Rattle.xl_model.specs.Nodes.{up}
+use Rattle.xl_radix.proofs.Common.{◌%◌, ◌∙◌, ◌≡◌, ap, level_of, refl, up, ℕ}
 use Rattle.xl_radix.proofs.RemovalLemmas.{clear-step}
 use Rattle.xl_radix.proofs.store.Store.clear_leaf.Goals as goal
 

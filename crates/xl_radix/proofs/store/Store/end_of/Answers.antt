@@ -1,10 +1,7 @@
-use Rattle.std.proofs.Common.{◌≡◌, sym, subst, inl, inr, arith}
-use Rattle.xl_model.specs.Nodes.{up}
-use Rattle.xl_pte.specs.declared.word.Pte.{Pte}
-use Rattle.xl_radix.specs.ReadBack.{read_back}
-use Rattle.xl_radix.proofs.SlotLemmas.{Says}
-use Rattle.xl_radix.proofs.StepLemmas.{read-says, next-stands, stops}
+use Rattle.xl_radix.proofs.Common.{◌≡◌, arith, inl, inr, Pte, read_back, subst, sym, up}
 use Rattle.xl_radix.proofs.PathLemmas.{ended}
+use Rattle.xl_radix.proofs.SlotLemmas.{Says}
+use Rattle.xl_radix.proofs.StepLemmas.{next-stands, read-says, stops}
 use Rattle.xl_radix.proofs.store.Store.end_of.Goals as goal
 
 pub down-preserved : goal.down-preserved

@@ -1,5 +1,4 @@
-use Rattle.std.proofs.Common.{◌≤◌, ◌<◌}
-use Rattle.xl_radix.specs.Steps.{Stands}
+use Rattle.xl_radix.proofs.Common.{◌<◌, ◌≤◌, Stands}
 use Rattle.xl_radix.proofs.store.Store.end_of.Given as goal
 
 abbrev pub decreases-down : goal.decreases-down

@@ -1,5 +1,4 @@
-use Rattle.std.proofs.Common.{◌%◌, refl}
-use Rattle.xl_model.specs.Nodes.{up}
+use Rattle.xl_radix.proofs.Common.{◌%◌, refl, up}
 use Rattle.xl_radix.proofs.RemovalLemmas.{release-step}
 use Rattle.xl_radix.proofs.store.Store.free_node.Goals as goal
 

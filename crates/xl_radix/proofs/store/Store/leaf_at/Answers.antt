@@ -1,6 +1,6 @@
-use Rattle.std.proofs.Common.{arith}
-use Rattle.xl_radix.proofs.UpLemmas.{up-low}
+use Rattle.xl_radix.proofs.Common.{arith}
 use Rattle.xl_radix.proofs.LookLemmas.{look-is}
+use Rattle.xl_radix.proofs.UpLemmas.{up-low}
 use Rattle.xl_radix.proofs.store.Store.leaf_at.Goals as goal
 
 pub returns : goal.returns

@@ -1,8 +1,7 @@
-use Rattle.std.proofs.Common.{ℕ, ◌≡◌, ◌-◌, Some, slice_set, refl, ap, sym, ◌∙◌, arith}
-use Rattle.xl_model.specs.Nodes.{Node, up}
-use Rattle.xl_radix.proofs.NumberLemmas.{lowest-is, put-lowest, put-first-count}
-use Rattle.xl_radix.proofs.StepLemmas.{made-step-at, count-fits, stands-in}
+use Rattle.xl_radix.proofs.Common.{◌-◌, ◌∙◌, ◌≡◌, ap, arith, Node, refl, slice_set, Some, sym, up, ℕ}
 use Rattle.xl_radix.proofs.FreeLemmas.{not-none}
+use Rattle.xl_radix.proofs.NumberLemmas.{lowest-is, put-first-count, put-lowest}
+use Rattle.xl_radix.proofs.StepLemmas.{count-fits, made-step-at, stands-in}
 use Rattle.xl_radix.proofs.store.Store.make_node.Goals as goal
 
 abbrev named : ℕ → ℕ → ℕ → Node

@@ -1,5 +1,4 @@
-use Rattle.std.proofs.Common.{◌-◌, ap, sym, ◌∙◌, arith}
-use Rattle.xl_model.specs.Nodes.{with_path}
+use Rattle.xl_radix.proofs.Common.{◌-◌, ◌∙◌, ap, arith, sym, with_path}
 use Rattle.xl_radix.proofs.PathLemmas.{path-step}
 use Rattle.xl_radix.proofs.store.Store.make_path.Goals as goal
 

@@ -1,7 +1,4 @@
-use Rattle.std.proofs.Common.{◌≡◌, ◌≤◌, ◌<◌, ◌+◌, ◌-◌}
-use Rattle.xl_model.specs.Nodes.{free_count, with_path}
-use Rattle.xl_radix.specs.Table.{IsNearly}
-use Rattle.xl_radix.specs.Steps.{IsReady}
+use Rattle.xl_radix.proofs.Common.{◌+◌, ◌-◌, ◌<◌, ◌≡◌, ◌≤◌, free_count, IsNearly, IsReady, with_path}
 use Rattle.xl_radix.proofs.store.Store.make_path.Given as goal
 
 abbrev pub decreases-down : goal.decreases-down

@@ -1,6 +1,5 @@
-use Rattle.std.proofs.Common.{lit<, arith}
-use Rattle.xl_radix.proofs.LookLemmas.{met-word, block-first}
-use Rattle.xl_model_lemmas.proofs.OrderLemmas.{level-low}
+use Rattle.xl_radix.proofs.Common.{arith, level-low, lit<}
+use Rattle.xl_radix.proofs.LookLemmas.{block-first, met-word}
 use Rattle.xl_radix.proofs.store.Store.meets.Goals as goal
 
 pub end_of-node-requires : goal.end_of-node-requires

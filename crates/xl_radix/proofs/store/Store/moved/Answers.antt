@@ -1,10 +1,6 @@
-use Rattle.std.proofs.Common.{◌≡◌, lit<, sym, subst, ◌∙◌}
-use Rattle.std.proofs.lemmas.Option.{same_Some}
-use Rattle.xl_model.specs.declared.leaf.Leaf.{Leaf}
-use Rattle.xl_radix.specs.Steps.{IsMove}
-use Rattle.xl_radix.specs.ReadBack.{read_back}
+use Rattle.xl_radix.proofs.Common.{◌∙◌, ◌≡◌, IsMove, Leaf, lit<, read_back, same_Some, subst, sym}
 use Rattle.xl_radix.proofs.PermLemmas.{named-page}
-use Rattle.xl_radix.proofs.ShiftLemmas.{named-at-page, at_block, moves}
+use Rattle.xl_radix.proofs.ShiftLemmas.{at_block, moves, named-at-page}
 use Rattle.xl_radix.proofs.store.Store.moved.Goals as goal
 
 pub leaf_at-requires : goal.leaf_at-requires

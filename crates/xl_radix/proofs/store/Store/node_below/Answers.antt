@@ -1,9 +1,6 @@
-use Rattle.std.proofs.Common.{sym, subst, arith}
-use Rattle.xl_model.specs.Nodes.{up}
-use Rattle.xl_pte.specs.declared.word.Pte.{Pte}
-use Rattle.xl_radix.specs.ReadBack.{read_back}
-use Rattle.xl_radix.proofs.SlotLemmas.{Says, pointer-low}
-use Rattle.xl_radix.proofs.StepLemmas.{read-says, next-stands, stops}
+use Rattle.xl_radix.proofs.Common.{arith, Pte, read_back, subst, sym, up}
+use Rattle.xl_radix.proofs.SlotLemmas.{pointer-low, Says}
+use Rattle.xl_radix.proofs.StepLemmas.{next-stands, read-says, stops}
 use Rattle.xl_radix.proofs.store.Store.node_below.Goals as goal
 
 pub unreachable-requires : goal.unreachable-requires

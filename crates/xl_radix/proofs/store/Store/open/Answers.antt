@@ -1,5 +1,5 @@
-use Rattle.std.proofs.Common.{arith}
-use Rattle.xl_radix.proofs.OpeningLemmas.{opening-store, opening-back, opening-exact, opening-count}
+use Rattle.xl_radix.proofs.Common.{arith}
+use Rattle.xl_radix.proofs.OpeningLemmas.{opening-back, opening-count, opening-exact, opening-store}
 use Rattle.xl_radix.proofs.store.Store.open.Goals as goal
 
 pub invariant_of-result : goal.invariant_of-result

@@ -1,11 +1,4 @@
-use Rattle.std.proofs.Common.{◌≡◌, Some, lit<, ap, sym, subst, ◌∙◌, arith}
-use Rattle.std.proofs.lemmas.Option.{same_Some}
-use Rattle.xl_model.specs.declared.leaf.Leaf.{Leaf}
-use Rattle.xl_model.specs.Addresses.{level_of}
-use Rattle.xl_model.specs.Mapping.{leaf_named}
-use Rattle.xl_model_lemmas.proofs.OrderLemmas.{level-low}
-use Rattle.xl_radix.specs.Steps.{Stands}
-use Rattle.xl_radix.specs.ReadBack.{read_back}
+use Rattle.xl_radix.proofs.Common.{◌∙◌, ◌≡◌, ap, arith, Leaf, leaf_named, level-low, level_of, lit<, read_back, same_Some, Some, Stands, subst, sym}
 use Rattle.xl_radix.proofs.PermLemmas.{found-named, named-page, protected-is}
 use Rattle.xl_radix.proofs.store.Store.set_perm.Goals as goal
 

@@ -1,6 +1,5 @@
-use Rattle.std.proofs.Common.{◌-◌, lit<, arith}
-use Rattle.xl_model_lemmas.proofs.OrderLemmas.{level-low}
-use Rattle.xl_radix.proofs.TakingLemmas.{named-stands, taken-only, nearly-exact, small-of}
+use Rattle.xl_radix.proofs.Common.{◌-◌, arith, level-low, lit<}
+use Rattle.xl_radix.proofs.TakingLemmas.{named-stands, nearly-exact, small-of, taken-only}
 use Rattle.xl_radix.proofs.store.Store.take_leaf.Goals as goal
 
 pub take_leaf_below-given-requires : goal.take_leaf_below-given-requires

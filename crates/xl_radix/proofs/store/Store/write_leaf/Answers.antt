@@ -1,7 +1,5 @@
-use Rattle.std.proofs.Common.{ℕ, ◌≡◌, ◌%◌, ap, ◌∙◌, arith}
-use Rattle.xl_model.specs.Addresses.{level_of}
-use Rattle.xl_model.specs.Nodes.{up}
-use Rattle.xl_radix.proofs.StepLemmas.{put-step, count-fits, stands-in}
+use Rattle.xl_radix.proofs.Common.{◌%◌, ◌∙◌, ◌≡◌, ap, arith, level_of, up, ℕ}
+use Rattle.xl_radix.proofs.StepLemmas.{count-fits, put-step, stands-in}
 use Rattle.xl_radix.proofs.store.Store.write_leaf.Goals as goal
 
 pub overflow_add-index_mut : goal.overflow_add-index_mut

@@ -1,7 +1,5 @@
-use Rattle.std.proofs.Common.{ℕ, ◌≡◌, ◌%◌, ap, ◌∙◌, arith}
-use Rattle.xl_model.specs.Addresses.{level_of}
-use Rattle.xl_model.specs.Nodes.{up}
-use Rattle.xl_radix.proofs.PermLemmas.{perm-step, node-low, frame-low}
+use Rattle.xl_radix.proofs.Common.{◌%◌, ◌∙◌, ◌≡◌, ap, arith, level_of, up, ℕ}
+use Rattle.xl_radix.proofs.PermLemmas.{frame-low, node-low, perm-step}
 use Rattle.xl_radix.proofs.store.Store.write_perm.Goals as goal
 
 pub invariant_of-self : goal.invariant_of-self

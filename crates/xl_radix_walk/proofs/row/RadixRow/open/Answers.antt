@@ -1,7 +1,5 @@
-use Rattle.std.proofs.Common.{◌≡◌, ◌-◌, length, take, arith}
-use Rattle.std.proofs.lemmas.List.{length-take}
-use Rattle.xl_model.specs.Rows.{is_width}
-use Rattle.xl_radix_walk.proofs.OpeningLemmas.{all-taken, opening-row, opening-is}
+use Rattle.xl_radix_walk.proofs.Common.{◌-◌, ◌≡◌, arith, is_width, length, length-take, take}
+use Rattle.xl_radix_walk.proofs.OpeningLemmas.{all-taken, opening-is, opening-row}
 use Rattle.xl_radix_walk.proofs.row.RadixRow.open.Goals as goal
 
 pub open-requires-2 : goal.open-requires-2

@@ -1,6 +1,5 @@
-use Rattle.std.proofs.Common.{◌≡◌, [], sym, ◌∙◌}
-use Rattle.xl_radix_walk.specs.Row.{above_off}
-use Rattle.xl_radix_walk.proofs.AboveLemmas.{none-kept, are-off}
+use Rattle.xl_radix_walk.proofs.Common.{◌∙◌, ◌≡◌, [], above_off, sym}
+use Rattle.xl_radix_walk.proofs.AboveLemmas.{are-off, none-kept}
 use Rattle.xl_radix_walk.proofs.walk_caches.WalkCaches.are_off.Goals as goal
 
 pub returns : goal.returns

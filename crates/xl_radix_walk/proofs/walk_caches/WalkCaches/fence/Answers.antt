@@ -1,8 +1,5 @@
-use Rattle.std.proofs.Common.{◌≡◌, ◌+◌, length, sym, ap, ◌∙◌, arith}
-use Rattle.std.specs.Vec.{with_items}
-use Rattle.std.proofs.lemmas.List.{with_items_is}
-use Rattle.xl_radix_walk.specs.Row.{above_off, entries_of}
-use Rattle.xl_radix_walk.proofs.AboveLemmas.{length-above, fenced-above, entries-above}
+use Rattle.xl_radix_walk.proofs.Common.{◌+◌, ◌∙◌, ◌≡◌, above_off, ap, arith, entries_of, length, sym, with_items, with_items_is}
+use Rattle.xl_radix_walk.proofs.AboveLemmas.{entries-above, fenced-above, length-above}
 use Rattle.xl_radix_walk.proofs.walk_caches.WalkCaches.fence.Goals as goal
 
 pub fence_caches-requires : goal.fence_caches-requires

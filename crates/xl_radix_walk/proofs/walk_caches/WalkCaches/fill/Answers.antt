@@ -1,8 +1,5 @@
-use Rattle.std.proofs.Common.{◌≡◌, ◌+◌, length, sym, ap, ◌∙◌, arith}
-use Rattle.std.specs.Vec.{with_items}
-use Rattle.std.proofs.lemmas.List.{with_items_is}
-use Rattle.xl_radix_walk.specs.Row.{above_off}
-use Rattle.xl_radix_walk.proofs.AboveLemmas.{length-above, filled-above}
+use Rattle.xl_radix_walk.proofs.Common.{◌+◌, ◌∙◌, ◌≡◌, above_off, ap, arith, length, sym, with_items, with_items_is}
+use Rattle.xl_radix_walk.proofs.AboveLemmas.{filled-above, length-above}
 use Rattle.xl_radix_walk.proofs.walk_caches.WalkCaches.fill.Goals as goal
 
 pub fill-requires-clause-levels : goal.fill-requires-clause-levels

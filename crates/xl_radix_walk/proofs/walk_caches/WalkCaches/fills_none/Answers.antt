@@ -1,5 +1,4 @@
-use Rattle.std.proofs.Common.{◌≤◌, arith}
-use Rattle.std.proofs.lemmas.Bool.Decides.{nat_tests}
+use Rattle.xl_radix_walk.proofs.Common.{◌≤◌, arith, nat_tests}
 use Rattle.xl_radix_walk.proofs.AboveLemmas.{fills-none}
 use Rattle.xl_radix_walk.proofs.walk_caches.WalkCaches.fills_none.Goals as goal
 

@@ -1,8 +1,5 @@
-use Rattle.std.proofs.Common.{ℕ, ◌≡◌, ◌+◌, [], length, sym, ap, ◌∙◌, arith}
-use Rattle.std.specs.Vec.{with_items}
-use Rattle.std.proofs.lemmas.List.{with_items_is}
-use Rattle.xl_radix_walk.specs.Row.{above_off}
-use Rattle.xl_radix_walk.proofs.AboveLemmas.{none-kept, off-looked, length-above, start-above, after-above, numbered-inside, numbered-above}
+use Rattle.xl_radix_walk.proofs.Common.{◌+◌, ◌∙◌, ◌≡◌, [], above_off, ap, arith, length, sym, with_items, with_items_is, ℕ}
+use Rattle.xl_radix_walk.proofs.AboveLemmas.{after-above, length-above, none-kept, numbered-above, numbered-inside, off-looked, start-above}
 use Rattle.xl_radix_walk.proofs.walk_caches.WalkCaches.look.Goals as goal
 
 pub returns-then-is_empty-clause-none : goal.returns-then-is_empty-clause-none

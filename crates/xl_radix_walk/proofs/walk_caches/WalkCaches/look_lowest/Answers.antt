@@ -1,10 +1,4 @@
-use Rattle.std.proofs.Common.{◌≡◌, ◌∷◌, ◌∙◌, None, Some, length, ap, sym, arith}
-use Rattle.std.specs.Vec.{with_items}
-use Rattle.std.proofs.lemmas.List.{with_items_is}
-use Rattle.xl_model.specs.Caches.{Cached}
-use Rattle.xl_recency.specs.declared.item.Item.{Item}
-use Rattle.xl_recency.specs.Lists.{Touches}
-use Rattle.xl_radix_walk.specs.Row.{above_off, has_tag, tag_at}
+use Rattle.xl_radix_walk.proofs.Common.{◌∙◌, ◌∷◌, ◌≡◌, above_off, ap, arith, Cached, has_tag, Item, length, None, Some, sym, tag_at, Touches, with_items, with_items_is}
 use Rattle.xl_radix_walk.proofs.LowestLemmas.{looked-lowest, not-lowest}
 use Rattle.xl_radix_walk.proofs.walk_caches.WalkCaches.look_lowest.Goals as goal
 

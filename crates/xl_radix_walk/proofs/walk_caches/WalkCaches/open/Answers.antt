@@ -1,6 +1,5 @@
-use Rattle.std.proofs.Common.{◌-◌, length, drop}
-use Rattle.xl_model.specs.Rows.{is_width}
-use Rattle.xl_radix_walk.proofs.OpeningLemmas.{all-taken, all-dropped}
+use Rattle.xl_radix_walk.proofs.Common.{◌-◌, drop, is_width, length}
+use Rattle.xl_radix_walk.proofs.OpeningLemmas.{all-dropped, all-taken}
 use Rattle.xl_radix_walk.proofs.walk_caches.WalkCaches.open.Goals as goal
 
 pub open_caches-requires : goal.open_caches-requires

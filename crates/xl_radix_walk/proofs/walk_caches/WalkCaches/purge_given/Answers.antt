@@ -1,8 +1,5 @@
-use Rattle.std.proofs.Common.{◌≡◌, ◌+◌, ◌≤◌, length, lit<, sym, ap, ◌∙◌, arith}
-use Rattle.std.specs.Vec.{with_items}
-use Rattle.std.proofs.lemmas.List.{with_items_is}
-use Rattle.xl_radix_walk.specs.Row.{above_off, entries_of}
-use Rattle.xl_radix_walk.proofs.AboveLemmas.{length-above, purged-above, entries-above}
+use Rattle.xl_radix_walk.proofs.Common.{◌+◌, ◌∙◌, ◌≡◌, ◌≤◌, above_off, ap, arith, entries_of, length, lit<, sym, with_items, with_items_is}
+use Rattle.xl_radix_walk.proofs.AboveLemmas.{entries-above, length-above, purged-above}
 use Rattle.xl_radix_walk.proofs.PurgeLemmas.{none-gone}
 use Rattle.xl_radix_walk.proofs.walk_caches.WalkCaches.purge_given.Goals as goal
 

@@ -1,9 +1,4 @@
-use Rattle.std.proofs.Common.{◌≡◌, refl, ℕ, []}
-use Rattle.xl_model.specs.declared.leaf.Range.{Range}
-use Rattle.xl_model.specs.Caches.{Cached, empty_cache}
-use Rattle.xl_range.specs.HeldRanges.{spread}
-use Rattle.xl_treap.specs.Treaps.{TreapView}
-use Rattle.xl_range.specs.Rows.{row_of, opening_table}
+use Rattle.xl_range.proofs.Common.{◌≡◌, [], Cached, empty_cache, opening_table, Range, refl, row_of, spread, TreapView, ℕ}
 use Rattle.xl_range.proofs.ranges.Ranges.open.Goals as goal
 
 opens-as : (n width : ℕ) (t : TreapView) (k : Cached Range) → t.kept ≡ [] → t.loads ≡ 0 → k ≡ empty_cache width → row_of n t k ≡ opening_table n width

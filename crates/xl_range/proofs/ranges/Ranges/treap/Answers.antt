@@ -1,8 +1,5 @@
-use Rattle.std.proofs.Common.{◌∙◌, ap, sym}
-use Rattle.xl_model.specs.Ranges.{ranges_of}
-use Rattle.xl_range.specs.HeldRanges.{spread}
+use Rattle.xl_range.proofs.Common.{◌∙◌, ap, ranges_of, RowState, spread, sym}
 use Rattle.xl_range.proofs.RunLemmas.{ranges-spread}
-use Rattle.xl_range.specs.Rows.{RowState}
 use Rattle.xl_range.proofs.ranges.Ranges.treap.Goals as goal
 
 pub returns-clause-kept : goal.returns-clause-kept

@@ -1,8 +1,6 @@
-use Rattle.std.proofs.Common.{ap, ◌∙◌, sym, refl, Some, None}
-use Rattle.xl_range.specs.HeldRanges.{leaf_in}
-use Rattle.xl_range.specs.Rows.{row_table}
+use Rattle.xl_range.proofs.Common.{◌∙◌, ap, leaf_in, None, refl, row_table, Some, sym}
 use Rattle.xl_range.proofs.FindLemmas.{found-at}
-use Rattle.xl_range.proofs.WalkLemmas.{hit-at, hit-walk, miss-walk, none-of, keepable, seen-walk, leaf-walk}
+use Rattle.xl_range.proofs.WalkLemmas.{hit-at, hit-walk, keepable, leaf-walk, miss-walk, none-of, seen-walk}
 use Rattle.xl_range.proofs.ranges.Ranges.walk_behind.Goals as goal
 
 pub leaf_in-requires : goal.leaf_in-requires

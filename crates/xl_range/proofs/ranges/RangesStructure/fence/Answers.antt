@@ -1,5 +1,4 @@
-use Rattle.std.proofs.Common.{ap}
-use Rattle.xl_range.specs.Rows.{row_table}
+use Rattle.xl_range.proofs.Common.{ap, row_table}
 use Rattle.xl_range.proofs.WalkLemmas.{fence-made, seen-fence}
 use Rattle.xl_range.proofs.ranges.RangesStructure.fence.Goals as goal
 

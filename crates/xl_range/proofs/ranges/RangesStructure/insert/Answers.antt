@@ -1,7 +1,5 @@
-use Rattle.std.proofs.Common.{ap, Ok, Err}
-use Rattle.xl_model.specs.Changes.{Insert}
-use Rattle.xl_range.specs.Rows.{row_table}
-use Rattle.xl_range.proofs.RowLemmas.{insert-made, change-refused, seen-change, seen-leaf, seen-free}
+use Rattle.xl_range.proofs.Common.{ap, Err, Insert, Ok, row_table}
+use Rattle.xl_range.proofs.RowLemmas.{change-refused, insert-made, seen-change, seen-free, seen-leaf}
 use Rattle.xl_range.proofs.ranges.RangesStructure.insert.Goals as goal
 
 pub returns-then-not-add : goal.returns-then-not-add

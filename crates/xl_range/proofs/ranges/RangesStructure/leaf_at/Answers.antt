@@ -1,8 +1,4 @@
-use Rattle.std.proofs.Common.{◌∙◌, ap, sym, Some}
-use Rattle.xl_model.specs.Mapping.{leaf_at_page}
-use Rattle.xl_model.specs.Structures.{TableState}
-use Rattle.xl_range.specs.HeldRanges.{leaf_by}
-use Rattle.xl_range.specs.Rows.{row_table}
+use Rattle.xl_range.proofs.Common.{◌∙◌, ap, leaf_at_page, leaf_by, row_table, Some, sym, TableState}
 use Rattle.xl_range.proofs.FindLemmas.{found-at, leaf-found}
 use Rattle.xl_range.proofs.ranges.RangesStructure.leaf_at.Goals as goal
 

@@ -1,9 +1,4 @@
-use Rattle.std.proofs.Common.{◌≤◌, ◌+◌, ◌^◌, ◌∙◌, ap, sym, arith}
-use Rattle.xl_model.specs.Addresses.{pages_of}
-use Rattle.xl_model.specs.Mapping.{meets_any}
-use Rattle.xl_model.specs.Structures.{TableState}
-use Rattle.xl_treap.specs.Treaps.{of_space, last_below, key_at}
-use Rattle.xl_range.specs.Rows.{row_table, meets_where}
+use Rattle.xl_range.proofs.Common.{◌+◌, ◌^◌, ◌∙◌, ◌≤◌, ap, arith, key_at, last_below, meets_any, meets_where, of_space, pages_of, row_table, sym, TableState}
 use Rattle.xl_range.proofs.MeetLemmas.{meets-is}
 use Rattle.xl_range.proofs.RowLemmas.{seen-block}
 use Rattle.xl_range.proofs.ranges.RangesStructure.meets.Goals as goal

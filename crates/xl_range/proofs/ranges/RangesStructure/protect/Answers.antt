@@ -1,7 +1,5 @@
-use Rattle.std.proofs.Common.{ap, Ok, Err}
-use Rattle.xl_model.specs.Changes.{Protect}
-use Rattle.xl_range.specs.Rows.{row_table}
-use Rattle.xl_range.proofs.RowLemmas.{protect-made, change-refused, seen-change, seen-named}
+use Rattle.xl_range.proofs.Common.{ap, Err, Ok, Protect, row_table}
+use Rattle.xl_range.proofs.RowLemmas.{change-refused, protect-made, seen-change, seen-named}
 use Rattle.xl_range.proofs.ranges.RangesStructure.protect.Goals as goal
 
 pub returns-then-not-set_perm : goal.returns-then-not-set_perm

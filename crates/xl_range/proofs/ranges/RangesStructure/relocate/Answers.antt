@@ -1,7 +1,5 @@
-use Rattle.std.proofs.Common.{ap, Ok, Err}
-use Rattle.xl_model.specs.Changes.{Relocate}
-use Rattle.xl_range.specs.Rows.{row_table}
-use Rattle.xl_range.proofs.RowLemmas.{relocate-made, change-refused, seen-change, seen-named, seen-block, seen-free}
+use Rattle.xl_range.proofs.Common.{ap, Err, Ok, Relocate, row_table}
+use Rattle.xl_range.proofs.RowLemmas.{change-refused, relocate-made, seen-block, seen-change, seen-free, seen-named}
 use Rattle.xl_range.proofs.ranges.RangesStructure.relocate.Goals as goal
 
 pub returns-then-not-move_to : goal.returns-then-not-move_to

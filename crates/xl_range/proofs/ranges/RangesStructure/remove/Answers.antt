@@ -1,7 +1,5 @@
-use Rattle.std.proofs.Common.{ap, Ok, Err}
-use Rattle.xl_model.specs.Changes.{Remove}
-use Rattle.xl_range.specs.Rows.{row_table}
-use Rattle.xl_range.proofs.RowLemmas.{remove-made, change-refused, seen-change, seen-named}
+use Rattle.xl_range.proofs.Common.{ap, Err, Ok, Remove, row_table}
+use Rattle.xl_range.proofs.RowLemmas.{change-refused, remove-made, seen-change, seen-named}
 use Rattle.xl_range.proofs.ranges.RangesStructure.remove.Goals as goal
 
 pub returns-then-not-take_out : goal.returns-then-not-take_out

@@ -1,5 +1,4 @@
-use Rattle.std.proofs.Common.{ap, sym}
-use Rattle.xl_range.specs.Rows.{row_table}
+use Rattle.xl_range.proofs.Common.{ap, row_table, sym}
 use Rattle.xl_range.proofs.WalkLemmas.{hit-at, hit-walk, still-walk}
 use Rattle.xl_range.proofs.ranges.RangesStructure.walk.Goals as goal
 

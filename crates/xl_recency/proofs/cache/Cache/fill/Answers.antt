@@ -1,6 +1,6 @@
-use Rattle.std.proofs.Common.{refl}
+use Rattle.xl_recency.proofs.Common.{refl}
+use Rattle.xl_recency.proofs.cache.Cache.fill.Goals.{in-W0, in-W1, in-W12, in-W16, in-W2, in-W32, in-W4, in-W6, in-W64, in-W8}
 use Rattle.xl_recency.proofs.cache.Cache.fill.Goals as goal
-use Rattle.xl_recency.proofs.cache.Cache.fill.Goals.{in-W0, in-W1, in-W2, in-W4, in-W6, in-W8, in-W12, in-W16, in-W32, in-W64}
 
 pub returns-clause-filled : goal.returns-clause-filled
 returns-clause-filled g c =

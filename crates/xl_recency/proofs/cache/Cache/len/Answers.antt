@@ -1,4 +1,4 @@
-use Rattle.std.proofs.Common.{refl, arith}
+use Rattle.xl_recency.proofs.Common.{arith, refl}
 use Rattle.xl_recency.proofs.cache.Cache.len.Goals as goal
 
 pub returns-in-W0-clause-value : goal.returns-in-W0-clause-value

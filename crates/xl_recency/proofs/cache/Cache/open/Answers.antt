@@ -1,7 +1,7 @@
-use Rattle.std.proofs.Common.{rules, ◌≡◌, [], refl}
+use Rattle.xl_recency.proofs.Common.{◌≡◌, [], refl, rules}
 use Rattle.xl_recency.proofs.WidthLemmas.{last_width}
+use Rattle.xl_recency.proofs.cache.Cache.open.Goals.{in-0, in-1+in_ok-open-in-1, in-12+in_ok-open-in-12, in-16+in_ok-open-in-16, in-2+in_ok-open-in-2, in-32+in_ok-open-in-32, in-4+in_ok-open-in-4, in-6+in_ok-open-in-6, in-8+in_ok-open-in-8, in_default+in_ok-open-in_default}
 use Rattle.xl_recency.proofs.cache.Cache.open.Goals as goal
-use Rattle.xl_recency.proofs.cache.Cache.open.Goals.{in-0, in-1+in_ok-open-in-1, in-2+in_ok-open-in-2, in-4+in_ok-open-in-4, in-6+in_ok-open-in-6, in-8+in_ok-open-in-8, in-12+in_ok-open-in-12, in-16+in_ok-open-in-16, in-32+in_ok-open-in-32, in_default+in_ok-open-in_default}
 
 pub returns-clause-empty : goal.returns-clause-empty
 returns-clause-empty g c =

@@ -1,4 +1,4 @@
-use Rattle.std.proofs.Common.{◌≡◌, [], replicate}
+use Rattle.xl_recency.proofs.Common.{◌≡◌, [], replicate}
 use Rattle.xl_recency.proofs.sets.Sets.open.Given as goal
 
 abbrev pub invariant-opened : goal.invariant-opened

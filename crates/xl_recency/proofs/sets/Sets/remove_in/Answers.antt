@@ -1,5 +1,5 @@
-use Rattle.std.proofs.Common.{◌≡◌, ◌+◌, ◌<◌, length, get_or, ap, ◌∙◌, arith}
-use Rattle.xl_recency.proofs.TotalLemmas.{purged_in, items_in-set}
+use Rattle.xl_recency.proofs.Common.{◌+◌, ◌<◌, ◌∙◌, ◌≡◌, ap, arith, get_or, length}
+use Rattle.xl_recency.proofs.TotalLemmas.{items_in-set, purged_in}
 use Rattle.xl_recency.proofs.sets.Sets.remove_in.Goals as goal
 
 pub returns-clause-kept : goal.returns-clause-kept

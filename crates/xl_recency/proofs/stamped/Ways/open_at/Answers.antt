@@ -1,5 +1,5 @@
-use Rattle.std.proofs.Common.{◌-◌, arith}
-use Rattle.xl_recency.proofs.TouchLemmas.{no_stamps, no_items}
+use Rattle.xl_recency.proofs.Common.{◌-◌, arith}
+use Rattle.xl_recency.proofs.TouchLemmas.{no_items, no_stamps}
 use Rattle.xl_recency.proofs.stamped.Ways.open_at.Goals as goal
 
 pub invariant_of-result : goal.invariant_of-result

@@ -1,8 +1,4 @@
-use Rattle.std.proofs.Common.{◌∙◌, ap}
-use Rattle.xl_model.specs.declared.script.Item.TheVariants.{Referenced}
-use Rattle.xl_model.specs.Scenes.{scene_after}
-use Rattle.xl_serving.specs.Batches.{Backlog, waited}
-use Rattle.xl_serving.specs.Serving.{scene_of}
+use Rattle.xl_serving.proofs.Common.{◌∙◌, ap, Backlog, Referenced, scene_after, scene_of, waited}
 use Rattle.xl_serving.proofs.BatchLemmas.{access-waits}
 use Rattle.xl_serving.proofs.batch.Waiting.put_off.Goals as goal
 

@@ -1,9 +1,5 @@
-use Rattle.std.proofs.Common.{◌≡◌, ◌+◌, ◌-◌, ◌∙◌, ap, length, arith}
+use Rattle.xl_serving.proofs.Common.{◌+◌, ◌-◌, ◌∙◌, ◌≡◌, ap, arith, Backlog, gaps, length, scene_after, scene_of, waited, WaitingEvent}
 use Rattle.xl_model.specs.declared.script.Item.TheVariants.{Command}
-use Rattle.xl_model.specs.Scenes.{scene_after}
-use Rattle.xl_serving.specs.declared.batch.WaitingEvent.{WaitingEvent}
-use Rattle.xl_serving.specs.Batches.{Backlog, gaps, waited}
-use Rattle.xl_serving.specs.Serving.{scene_of}
 use Rattle.xl_serving.proofs.BatchLemmas.{event-waits}
 use Rattle.xl_serving.proofs.batch.Waiting.put_off_event.Goals as goal
 

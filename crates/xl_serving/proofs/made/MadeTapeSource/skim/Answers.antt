@@ -1,5 +1,5 @@
-use Rattle.std.proofs.Common.{rules, refl, arith}
-use Rattle.xl_serving.proofs.SkimLemmas.{skims-made, no-fewer}
+use Rattle.xl_serving.proofs.Common.{arith, refl, rules}
+use Rattle.xl_serving.proofs.SkimLemmas.{no-fewer, skims-made}
 use Rattle.xl_serving.proofs.made.MadeTapeSource.skim.Goals as goal
 
 pub returns-clause-skims : goal.returns-clause-skims

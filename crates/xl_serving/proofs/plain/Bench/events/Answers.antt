@@ -1,8 +1,6 @@
-use Rattle.std.proofs.Common.{◌<◌, ◌≤◌, ◌∙◌, arith}
-use Rattle.std.proofs.lemmas.Bool.Decides.{nat_tests}
-use Rattle.xl_course.proofs.ServedLemmas.{served_next, served_lost, served_all}
-use Rattle.xl_serving.specs.Serving.{event_at, count_of}
-use Rattle.xl_serving.proofs.ItemLemmas.{the_nth_event, length-events}
+use Rattle.xl_serving.proofs.Common.{◌<◌, ◌∙◌, ◌≤◌, arith, count_of, event_at, nat_tests}
+use Rattle.xl_course.proofs.ServedLemmas.{served_all, served_lost, served_next}
+use Rattle.xl_serving.proofs.ItemLemmas.{length-events, the_nth_event}
 use Rattle.xl_serving.proofs.plain.Bench.events.Goals as goal
 
 pub returns-in-Err-clause-served : goal.returns-in-Err-clause-served

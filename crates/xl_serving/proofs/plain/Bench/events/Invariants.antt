@@ -1,9 +1,5 @@
-use Rattle.std.proofs.Common.{◌≡◌, take, true}
-use Rattle.xl_model.specs.Courses.{events_from}
+use Rattle.xl_serving.proofs.Common.{◌≡◌, count_of, event_at, events_from, plain, scene_of, take, true, waited}
 use Rattle.xl_course.specs.Serving.{HasServed}
-use Rattle.xl_serving.specs.Batches.{waited}
-use Rattle.xl_serving.specs.Plain.{plain}
-use Rattle.xl_serving.specs.Serving.{scene_of, event_at, count_of}
 use Rattle.xl_serving.proofs.plain.Bench.events.Given as goal
 
 abbrev pub invariant-loop-i : goal.invariant-loop-i

@@ -1,4 +1,4 @@
-use Rattle.std.proofs.Common.{◌∙◌, sym}
+use Rattle.xl_serving.proofs.Common.{◌∙◌, sym}
 use Rattle.xl_serving.proofs.PlainLemmas.{length-steps}
 use Rattle.xl_serving.proofs.plain.PlainOrdersOrders.len.Goals as goal
 

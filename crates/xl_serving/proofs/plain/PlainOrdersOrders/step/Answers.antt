@@ -1,7 +1,4 @@
-use Rattle.std.proofs.Common.{◌∙◌, ap, arith}
-use Rattle.std.specs.Prelude.{Some}
-use Rattle.xl_model.specs.declared.script.Command.{Command}
-use Rattle.xl_serving.specs.Plain.{step_of}
+use Rattle.xl_serving.proofs.Common.{◌∙◌, ap, arith, Command, Some, step_of}
 use Rattle.xl_serving.proofs.PlainLemmas.{length-steps, nth-step, own-step}
 use Rattle.xl_serving.proofs.plain.PlainOrdersOrders.step.Goals as goal
 

@@ -1,11 +1,6 @@
-use Rattle.xl_model.specs.declared.fault.InputFault.TheVariants.{TraceTooLong}
-use Rattle.xl_outside.specs.Folders.{file_of}
-use Rattle.xl_course.specs.declared.stop.Stop.TheVariants as why
-use Rattle.xl_serving.specs.Traces.{limit, left_of}
-use Rattle.xl_serving.specs.Tapes.{IsFedFrom, HasMore}
-use Rattle.xl_course.specs.Sources.{EndsBy}
-use Rattle.xl_course.proofs.ToldLemmas.{told_one}
+use Rattle.xl_serving.proofs.Common.{EndsBy, file_of, HasMore, IsFedFrom, left_of, limit, told_one, TraceTooLong}
 use Rattle.xl_serving.proofs.PieceLemmas.{too_long}
+use Rattle.xl_course.specs.declared.stop.Stop.TheVariants as why
 use Rattle.xl_serving.proofs.tape.Tape.end_at_limit.Goals as goal
 
 pub returns-then-more-clause-told : goal.returns-then-more-clause-told

@@ -1,7 +1,5 @@
-use Rattle.std.proofs.Common.{◌≤◌}
+use Rattle.xl_serving.proofs.Common.{◌≤◌, file_of, Fine, FolderAfter, IsFedFrom, size_of, to_come}
 use Rattle.std.specs.Option.{IfSome}
-use Rattle.xl_outside.specs.Folders.{file_of, FolderAfter, Fine}
-use Rattle.xl_serving.specs.Tapes.{IsFedFrom, to_come, size_of}
 use Rattle.xl_serving.proofs.RecordLemmas.{Still}
 use Rattle.xl_serving.proofs.tape.Tape.next.Given as goal
 

@@ -1,6 +1,4 @@
-use Rattle.xl_outside.specs.Folders.{file_of}
-use Rattle.xl_serving.specs.Tapes.{IsFedFrom, FeedsOf, Fills}
-use Rattle.xl_course.proofs.ToldLemmas.{told_one}
+use Rattle.xl_serving.proofs.Common.{FeedsOf, file_of, Fills, IsFedFrom, told_one}
 use Rattle.xl_serving.proofs.PieceLemmas.{fills_on, fills_to_end}
 use Rattle.xl_serving.proofs.tape.Tape.next_piece.Goals as goal
 

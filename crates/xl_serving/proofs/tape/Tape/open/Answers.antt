@@ -1,7 +1,4 @@
-use Rattle.std.proofs.Common.{sym, subst, refl, ◌≡◌}
-use Rattle.xl_lackey.specs.Stream.{State}
-use Rattle.xl_serving.specs.Traces.{trail_of, left_of}
-use Rattle.xl_serving.specs.Tapes.{IsFedFrom}
+use Rattle.xl_serving.proofs.Common.{◌≡◌, IsFedFrom, left_of, refl, State, subst, sym, trail_of}
 use Rattle.xl_serving.proofs.PieceLemmas.{fed_first}
 use Rattle.xl_serving.proofs.tape.Tape.open.Goals as goal
 

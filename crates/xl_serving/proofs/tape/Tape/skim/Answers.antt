@@ -1,6 +1,5 @@
-use Rattle.std.proofs.Common.{rules, subst, sym, refl}
-use Rattle.xl_serving.specs.Tapes.{IsFedFrom}
-use Rattle.xl_serving.proofs.SkimLemmas.{skims-file, no-fewer}
+use Rattle.xl_serving.proofs.Common.{IsFedFrom, refl, rules, subst, sym}
+use Rattle.xl_serving.proofs.SkimLemmas.{no-fewer, skims-file}
 use Rattle.xl_serving.proofs.tape.Tape.skim.Goals as goal
 
 pub returns-clause-skims : goal.returns-clause-skims

@@ -1,5 +1,4 @@
-use Rattle.std.specs.Prelude.{None}
-use Rattle.xl_model.specs.Courses.{at_end}
+use Rattle.xl_serving.proofs.Common.{at_end, None}
 use Rattle.xl_serving.proofs.SkimLemmas.{skims-none}
 use Rattle.xl_serving.proofs.trace.NoTraceSource.skim.Goals as goal
 

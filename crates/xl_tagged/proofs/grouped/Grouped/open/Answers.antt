@@ -1,7 +1,4 @@
-use Rattle.std.proofs.Common.{sym, ap, ◌∙◌, [], ◌^◌, ◌≤◌, arith}
-use Rattle.xl_chain.specs.Held.{ChainState}
-use Rattle.xl_tagged.specs.Forms.{Form}
-use Rattle.xl_tagged.specs.Slots.{chained}
+use Rattle.xl_tagged.proofs.Common.{◌^◌, ◌∙◌, ◌≤◌, [], ap, arith, chained, ChainState, Form, sym}
 use Rattle.xl_tagged.proofs.GroupLemmas.{most-low}
 use Rattle.xl_tagged.proofs.WholeLemmas.{open-step}
 use Rattle.xl_tagged.proofs.grouped.Grouped.open.Goals as goal

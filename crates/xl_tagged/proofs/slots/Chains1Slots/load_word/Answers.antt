@@ -1,6 +1,4 @@
-use Rattle.std.proofs.Common.{ap, ◌∙◌}
-use Rattle.xl_chain.specs.Held.{ChainState}
-use Rattle.xl_tagged.specs.Steps.{word_found}
+use Rattle.xl_tagged.proofs.Common.{◌∙◌, ap, ChainState, word_found}
 use Rattle.xl_tagged.proofs.SearchLemmas.{found-one, loads-one}
 use Rattle.xl_tagged.proofs.slots.Chains1Slots.load_word.Goals as goal
 

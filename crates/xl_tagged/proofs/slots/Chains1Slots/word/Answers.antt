@@ -1,5 +1,4 @@
-use Rattle.std.proofs.Common.{ap, ◌∙◌}
-use Rattle.xl_tagged.specs.Steps.{word_found}
+use Rattle.xl_tagged.proofs.Common.{◌∙◌, ap, word_found}
 use Rattle.xl_tagged.proofs.SearchLemmas.{found-one}
 use Rattle.xl_tagged.proofs.slots.Chains1Slots.word.Goals as goal
 

@@ -1,10 +1,6 @@
-use Rattle.std.proofs.Common.{◌≡◌, ◌∙◌, ap, sym, arith}
-use Rattle.std.proofs.lemmas.Bool.Decides.{nat_tests}
-use Rattle.xl_model.specs.Tlb.{reaches_leaf, leaves_in_sets}
-use Rattle.xl_tlb.specs.Any.{array_in}
-use Rattle.xl_tlb.proofs.SmallLemmas.{purged-small}
+use Rattle.xl_tlb.proofs.Common.{◌∙◌, ◌≡◌, ap, arith, array_in, leaves_in_sets, nat_tests, reaches_leaf, spec_of, sym}
 use Rattle.xl_tlb.proofs.HeldLemmas.{none-leaves}
-use Rattle.xl_tlb.specs.Tlbs.{spec_of}
+use Rattle.xl_tlb.proofs.SmallLemmas.{purged-small}
 use Rattle.xl_tlb.proofs.any.AnyArray.fence.Goals as goal
 
 pub invariant_of-self : goal.invariant_of-self

@@ -1,10 +1,6 @@
-use Rattle.xl_model.specs.Tlb.{leaves_in_sets}
-use Rattle.xl_tlb.specs.Any.{array_in}
-use Rattle.xl_tlb.specs.Hits.{leaf_hit}
-use Rattle.xl_tlb.proofs.SmallLemmas.{filled-small}
-use Rattle.std.proofs.Common.{ap, sym, ◌∙◌}
-use Rattle.xl_tlb.specs.Tlbs.{spec_of}
+use Rattle.xl_tlb.proofs.Common.{◌∙◌, ap, array_in, leaf_hit, leaves_in_sets, spec_of, sym}
 use Rattle.xl_tlb.proofs.LevelLemmas.{spec_filled}
+use Rattle.xl_tlb.proofs.SmallLemmas.{filled-small}
 use Rattle.xl_tlb.proofs.any.AnyArray.fill_hit.Goals as goal
 
 pub invariant_of-self : goal.invariant_of-self

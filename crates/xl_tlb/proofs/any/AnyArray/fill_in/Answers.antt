@@ -1,5 +1,4 @@
-use Rattle.xl_model.specs.Tlb.{leaves_in_sets}
-use Rattle.xl_tlb.specs.Any.{array_in}
+use Rattle.xl_tlb.proofs.Common.{array_in, leaves_in_sets}
 use Rattle.xl_tlb.proofs.SoughtLemmas.{known_filled}
 use Rattle.xl_tlb.proofs.any.AnyArray.fill_in.Goals as goal
 

@@ -1,4 +1,4 @@
-use Rattle.xl_tlb.specs.Any.{array_in}
+use Rattle.xl_tlb.proofs.Common.{array_in}
 use Rattle.xl_tlb.proofs.SmallLemmas.{hit-small}
 use Rattle.xl_tlb.proofs.any.AnyArray.has_large.Goals as goal
 

@@ -1,7 +1,4 @@
-use Rattle.std.proofs.Common.{◌≡◌, arith}
-use Rattle.std.proofs.lemmas.Bool.Decides.{nat_tests}
-use Rattle.xl_model.specs.Tlb.{leaves_in_sets}
-use Rattle.xl_tlb.specs.Any.{array_in}
+use Rattle.xl_tlb.proofs.Common.{◌≡◌, arith, array_in, leaves_in_sets, nat_tests}
 use Rattle.xl_tlb.proofs.HeldLemmas.{empty-misses}
 use Rattle.xl_tlb.proofs.any.AnyArray.is_empty.Goals as goal
 

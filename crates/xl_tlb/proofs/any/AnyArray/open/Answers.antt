@@ -1,6 +1,4 @@
-use Rattle.std.proofs.Common.{ap, sym, ◌∙◌}
-use Rattle.xl_model.specs.Tlb.{TlbArray, leaves_in_sets}
-use Rattle.xl_tlb.specs.Tlbs.{spec_of}
+use Rattle.xl_tlb.proofs.Common.{◌∙◌, ap, leaves_in_sets, spec_of, sym, TlbArray}
 use Rattle.xl_tlb.proofs.HeldLemmas.{none_held}
 use Rattle.xl_tlb.proofs.SmallLemmas.{opened-small}
 use Rattle.xl_tlb.proofs.any.AnyArray.open.Goals as goal

@@ -1,4 +1,4 @@
-use Rattle.xl_tlb.specs.Any.{array_in}
+use Rattle.xl_tlb.proofs.Common.{array_in}
 use Rattle.xl_tlb.proofs.SoughtLemmas.{known_touched}
 use Rattle.xl_tlb.proofs.any.AnyArray.touch_in.Goals as goal
 

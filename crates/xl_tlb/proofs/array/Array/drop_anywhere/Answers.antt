@@ -1,8 +1,6 @@
-use Rattle.std.proofs.Common.{◌∙◌, ap}
-use Rattle.xl_model.specs.declared.address.Order.TheVariants as order
-use Rattle.xl_tlb.specs.Arrays.{covers_anywhere, covers_anywhere_as}
-use Rattle.xl_model.specs.Tlb.{TlbArray, array_without}
+use Rattle.xl_tlb.proofs.Common.{◌∙◌, ap, array_without, covers_anywhere, covers_anywhere_as, TlbArray}
 use Rattle.xl_tlb.proofs.DropLemmas.{array_in_turn, each_order}
+use Rattle.xl_model.specs.declared.address.Order.TheVariants as order
 use Rattle.xl_tlb.proofs.array.Array.drop_anywhere.Goals as goal
 
 pub returns-clause-array : goal.returns-clause-array

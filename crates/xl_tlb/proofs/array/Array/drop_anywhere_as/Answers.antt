@@ -1,7 +1,6 @@
-use Rattle.xl_tlb.specs.Arrays.{covers_anywhere_as}
-use Rattle.xl_tlb.specs.Coding.{has_block, tag_of}
+use Rattle.xl_tlb.proofs.Common.{covers_anywhere_as, has_block, tag_of}
+use Rattle.xl_tlb.proofs.DropLemmas.{block_there, drop_array, drop_kept, drop_there, left_over}
 use Rattle.xl_tlb.proofs.TagLemmas.{same_block}
-use Rattle.xl_tlb.proofs.DropLemmas.{drop_array, drop_kept, drop_there, left_over, block_there}
 use Rattle.xl_tlb.proofs.array.Array.drop_anywhere_as.Goals as goal
 
 pub invariant_of-self : goal.invariant_of-self

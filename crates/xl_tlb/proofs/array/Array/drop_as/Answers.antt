@@ -1,7 +1,6 @@
-use Rattle.xl_model.specs.Tlb.{covers_as}
-use Rattle.xl_tlb.specs.Coding.{has_tag, tag_of}
-use Rattle.xl_tlb.proofs.TagLemmas.{same_tag}
+use Rattle.xl_tlb.proofs.Common.{covers_as, has_tag, tag_of}
 use Rattle.xl_tlb.proofs.DropLemmas.{drop_array, drop_kept, drop_there, left_over, tag_there}
+use Rattle.xl_tlb.proofs.TagLemmas.{same_tag}
 use Rattle.xl_tlb.proofs.array.Array.drop_as.Goals as goal
 
 pub invariant_of-self : goal.invariant_of-self

@@ -1,7 +1,6 @@
-use Rattle.xl_tlb.specs.Equal.{is_equal, keeps_leaf}
-use Rattle.xl_tlb.specs.Coding.{tag_of}
-use Rattle.xl_tlb.proofs.EqualLemmas.{same_kept, kept_there}
+use Rattle.xl_tlb.proofs.Common.{is_equal, keeps_leaf, tag_of}
 use Rattle.xl_tlb.proofs.DropLemmas.{drop_array, drop_kept, drop_there, left_over}
+use Rattle.xl_tlb.proofs.EqualLemmas.{kept_there, same_kept}
 use Rattle.xl_tlb.proofs.array.Array.drop_equal.Goals as goal
 
 pub invariant_of-self : goal.invariant_of-self

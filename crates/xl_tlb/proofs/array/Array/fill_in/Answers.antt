@@ -1,13 +1,7 @@
-use Rattle.std.proofs.Common.{◌≡◌, ◌<◌, true, length, map, refl, sym, subst, ap, ◌∙◌}
-use Rattle.xl_model.specs.declared.address.Order.{Order}
-use Rattle.xl_model.specs.LeafWords.{leaf_with}
-use Rattle.xl_model.specs.Tlb.{takes_order, array_filled, set_number}
-use Rattle.xl_recency.specs.declared.item.Item.{Item}
-use Rattle.xl_tlb.specs.Coding.{leaves_of}
-use Rattle.xl_tlb.specs.Fronts.{IsFrontHit}
+use Rattle.xl_tlb.proofs.Common.{◌<◌, ◌∙◌, ◌≡◌, ap, array_filled, IsFrontHit, Item, leaf_with, leaves_of, length, map, Order, refl, set_number, subst, sym, takes_order, true}
+use Rattle.xl_tlb.proofs.FillLemmas.{fill_kept, filled, hit_back, hit_set}
 use Rattle.xl_tlb.proofs.FrontLemmas.{fill_front}
 use Rattle.xl_tlb.proofs.HeldLemmas.{filled-held}
-use Rattle.xl_tlb.proofs.FillLemmas.{hit_back, hit_set, filled, fill_kept}
 use Rattle.xl_tlb.proofs.LookLemmas.{array_of}
 use Rattle.xl_tlb.proofs.SetLemmas.{below_sets}
 use Rattle.xl_tlb.proofs.array.Array.fill_in.Goals as goal

@@ -1,5 +1,4 @@
-use Rattle.std.proofs.Common.{sym, ap, ◌∙◌}
-use Rattle.std.specs.Prelude.{is_some}
+use Rattle.xl_tlb.proofs.Common.{◌∙◌, ap, is_some, sym}
 use Rattle.xl_tlb.proofs.SmallLemmas.{hit-small}
 use Rattle.xl_tlb.proofs.array.Array.hits.Goals as goal
 

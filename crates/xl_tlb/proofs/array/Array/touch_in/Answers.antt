@@ -1,6 +1,5 @@
-use Rattle.std.proofs.Common.{◌≡◌, ◌<◌, true}
-use Rattle.xl_model.specs.Tlb.{set_number, takes_order}
-use Rattle.xl_tlb.proofs.LookLemmas.{look_found, look_none, look_moved, look_stays, same_array, touch_kept}
+use Rattle.xl_tlb.proofs.Common.{◌<◌, ◌≡◌, set_number, takes_order, true}
+use Rattle.xl_tlb.proofs.LookLemmas.{look_found, look_moved, look_none, look_stays, same_array, touch_kept}
 use Rattle.xl_tlb.proofs.SetLemmas.{below_sets}
 use Rattle.xl_tlb.proofs.array.Array.touch_in.Goals as goal
 

@@ -1,6 +1,5 @@
-use Rattle.std.proofs.Common.{◌≡◌, ◌++◌, length, take, drop, sym, ◌∙◌, ap}
-use Rattle.xl_model.specs.Tlb.{reaches_leaf}
-use Rattle.xl_tlb.proofs.TlbLemmas.{written, purge_kept, fence_after}
+use Rattle.xl_tlb.proofs.Common.{◌++◌, ◌∙◌, ◌≡◌, ap, drop, length, reaches_leaf, sym, take}
+use Rattle.xl_tlb.proofs.TlbLemmas.{fence_after, purge_kept, written}
 use Rattle.xl_tlb.proofs.levels.Levels.fence.Goals as goal
 
 pub invariant_of-self : goal.invariant_of-self

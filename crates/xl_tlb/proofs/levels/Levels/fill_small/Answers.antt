@@ -1,6 +1,5 @@
-use Rattle.std.proofs.Common.{◌≡◌, ◌++◌, length, take, drop, sym, ◌∙◌, ap}
-use Rattle.xl_model.specs.LeafWords.{small_leaf}
-use Rattle.xl_tlb.proofs.TlbLemmas.{written, fill_kept, fill_after}
+use Rattle.xl_tlb.proofs.Common.{◌++◌, ◌∙◌, ◌≡◌, ap, drop, length, small_leaf, sym, take}
+use Rattle.xl_tlb.proofs.TlbLemmas.{fill_after, fill_kept, written}
 use Rattle.xl_tlb.proofs.levels.Levels.fill_small.Goals as goal
 
 pub invariant_of-self : goal.invariant_of-self

@@ -1,8 +1,6 @@
-use Rattle.std.proofs.Common.{◌≡◌, ◌++◌, length, take, drop, sym, ◌∙◌, ap}
-use Rattle.xl_model.specs.LeafWords.{small_leaf}
-use Rattle.xl_tlb.specs.Fronts.{IsFirstHit}
-use Rattle.xl_tlb.proofs.FrontLemmas.{first_leaf, first_told, first_after, first_front, first_looked}
-use Rattle.xl_tlb.proofs.TlbLemmas.{written, look_kept}
+use Rattle.xl_tlb.proofs.Common.{◌++◌, ◌∙◌, ◌≡◌, ap, drop, IsFirstHit, length, small_leaf, sym, take}
+use Rattle.xl_tlb.proofs.FrontLemmas.{first_after, first_front, first_leaf, first_looked, first_told}
+use Rattle.xl_tlb.proofs.TlbLemmas.{look_kept, written}
 use Rattle.xl_tlb.proofs.levels.Levels.hit_first.Goals as goal
 
 pub invariant_of-self-2 : goal.invariant_of-self-2

@@ -1,5 +1,5 @@
-use Rattle.xl_model.specs.LeafWords.{small_leaf}
-use Rattle.xl_tlb.proofs.FrontLemmas.{front_first, first_leaf, first_after}
+use Rattle.xl_tlb.proofs.Common.{small_leaf}
+use Rattle.xl_tlb.proofs.FrontLemmas.{first_after, first_leaf, front_first}
 use Rattle.xl_tlb.proofs.levels.Levels.hit_in_front.Goals as goal
 
 pub returns-clause-after : goal.returns-clause-after

@@ -1,7 +1,6 @@
-use Rattle.std.proofs.Common.{◌≡◌, ◌++◌, length, take, drop, sym, ◌∙◌, ap}
-use Rattle.xl_tlb.specs.Fronts.{IsSecondHit}
-use Rattle.xl_tlb.proofs.FrontLemmas.{second_told, second_after, second_front, second_looked}
-use Rattle.xl_tlb.proofs.TlbLemmas.{written, look_kept}
+use Rattle.xl_tlb.proofs.Common.{◌++◌, ◌∙◌, ◌≡◌, ap, drop, IsSecondHit, length, sym, take}
+use Rattle.xl_tlb.proofs.FrontLemmas.{second_after, second_front, second_looked, second_told}
+use Rattle.xl_tlb.proofs.TlbLemmas.{look_kept, written}
 use Rattle.xl_tlb.proofs.levels.Levels.hit_second.Goals as goal
 
 pub invariant_of-self : goal.invariant_of-self

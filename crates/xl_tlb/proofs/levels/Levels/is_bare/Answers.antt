@@ -1,5 +1,5 @@
-use Rattle.std.proofs.Common.{rules}
-use Rattle.xl_tlb.proofs.TlbLemmas.{none_there, look_empty, fill_empty}
+use Rattle.xl_tlb.proofs.Common.{rules}
+use Rattle.xl_tlb.proofs.TlbLemmas.{fill_empty, look_empty, none_there}
 use Rattle.xl_tlb.proofs.levels.Levels.is_bare.Goals as goal
 
 pub returns-clause-looked : goal.returns-clause-looked

@@ -1,6 +1,4 @@
-use Rattle.std.proofs.Common.{◌≡◌, length, arith}
-use Rattle.std.proofs.lemmas.Bool.Decides.{nat_tests}
-use Rattle.xl_tlb.specs.Fronts.{AreMissed}
+use Rattle.xl_tlb.proofs.Common.{◌≡◌, AreMissed, arith, length, nat_tests}
 use Rattle.xl_tlb.proofs.MissLemmas.{miss_one, miss_two, missed_after}
 use Rattle.xl_tlb.proofs.levels.Levels.miss.Goals as goal
 

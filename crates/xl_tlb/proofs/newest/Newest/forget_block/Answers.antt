@@ -1,9 +1,7 @@
-use Rattle.std.proofs.Common.{◌%◌, set, refl}
-use Rattle.xl_tlb.specs.declared.newest.Newest.{Newest}
-use Rattle.xl_tlb.specs.Known.{no_key}
+use Rattle.xl_tlb.proofs.Common.{◌%◌, Newest, no_key, refl, set}
 use Rattle.xl_tlb.proofs.KnownLemmas.{forgot_one}
+use Rattle.xl_tlb.proofs.newest.Newest.forget_block.Goals.{else-not-eights, then-not-eights}
 use Rattle.xl_tlb.proofs.newest.Newest.forget_block.Goals as goal
-use Rattle.xl_tlb.proofs.newest.Newest.forget_block.Goals.{then-not-eights, else-not-eights}
 
 pub returns : goal.returns
 returns c = λ old new known stay.

@@ -1,4 +1,4 @@
-use Rattle.std.proofs.Common.{rules}
+use Rattle.xl_tlb.proofs.Common.{rules}
 use Rattle.xl_tlb.proofs.KnownLemmas.{kept_one}
 use Rattle.xl_tlb.proofs.newest.Newest.keep.Goals as goal
 

@@ -1,5 +1,4 @@
-use Rattle.std.proofs.Common.{◌%◌, ℕ, subst}
-use Rattle.xl_tlb.specs.Known.{IsKey}
+use Rattle.xl_tlb.proofs.Common.{◌%◌, IsKey, subst, ℕ}
 use Rattle.xl_tlb.proofs.KnownLemmas.{all_none, not_a_key}
 use Rattle.xl_tlb.proofs.newest.Newest.none.Goals as goal
 

@@ -1,7 +1,5 @@
-use Rattle.std.proofs.Common.{◌≡◌, ◌≤◌, ◌%◌, ◌-◌, ◌^◌, ◌*◌, ℕ, bit_and, arith}
-use Rattle.std.proofs.lemmas.Bool.Decides.{nat_tests}
+use Rattle.xl_tlb.proofs.Common.{◌%◌, ◌*◌, ◌-◌, ◌^◌, ◌≡◌, ◌≤◌, arith, bit_and, nat_tests, pow-le-pow_right, ℕ}
 use Rattle.std.proofs.lemmas.Nat.{and_mask, trailing_le}
-use Rattle.std.proofs.Math.Nat.{pow-le-pow_right}
 use Rattle.std.specs.Int.Count.{count_trailing_zeros}
 use Rattle.xl_tlb.proofs.places.Places.of.Goals as goal
 

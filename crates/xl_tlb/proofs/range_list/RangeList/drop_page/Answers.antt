@@ -1,6 +1,4 @@
-use Rattle.std.proofs.Common.{◌∙◌, ap}
-use Rattle.xl_model.specs.Ranges.{holds_page}
-use Rattle.xl_model.specs.Caches.{without_items}
+use Rattle.xl_tlb.proofs.Common.{◌∙◌, ap, holds_page, without_items}
 use Rattle.xl_tlb.proofs.RangeLemmas.{ranges_dropped}
 use Rattle.xl_tlb.proofs.range_list.RangeList.drop_page.Goals as goal
 

@@ -1,5 +1,4 @@
-use Rattle.std.proofs.Common.{◌∙◌, ap}
-use Rattle.xl_model.specs.Caches.{without_items, reaches_range}
+use Rattle.xl_tlb.proofs.Common.{◌∙◌, ap, reaches_range, without_items}
 use Rattle.xl_tlb.proofs.RangeLemmas.{ranges_dropped}
 use Rattle.xl_tlb.proofs.range_list.RangeList.drop_reach.Goals as goal
 

@@ -1,6 +1,4 @@
-use Rattle.std.proofs.Common.{◌∙◌, ap}
-use Rattle.xl_model.specs.Recency.{with_newest}
-use Rattle.xl_model.specs.Walks.{with_fill}
+use Rattle.xl_tlb.proofs.Common.{◌∙◌, ap, with_fill, with_newest}
 use Rattle.xl_tlb.proofs.RangeLemmas.{range_filled}
 use Rattle.xl_tlb.proofs.range_list.RangeList.fill.Goals as goal
 

@@ -1,9 +1,5 @@
-use Rattle.std.proofs.Common.{◌≡◌, ◌∙◌, ap, sym, None, Some, find}
-use Rattle.xl_model.specs.declared.leaf.Range.{Range}
-use Rattle.xl_model.specs.Ranges.{holds_page}
-use Rattle.xl_model.specs.Caches.{Cached}
-use Rattle.xl_model.specs.Walks.{with_touch}
-use Rattle.xl_tlb.proofs.RangeLemmas.{range_touched, range_found}
+use Rattle.xl_tlb.proofs.Common.{◌∙◌, ◌≡◌, ap, Cached, find, holds_page, None, Range, Some, sym, with_touch}
+use Rattle.xl_tlb.proofs.RangeLemmas.{range_found, range_touched}
 use Rattle.xl_tlb.proofs.range_list.RangeList.look.Goals as goal
 
 pub returns-in_default-clause-found : goal.returns-in_default-clause-found

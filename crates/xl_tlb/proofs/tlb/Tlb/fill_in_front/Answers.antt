@@ -1,8 +1,7 @@
-use Rattle.std.proofs.Common.{true, ◌≡◌, ◌%◌, ◌∙◌}
-use Rattle.xl_model.specs.declared.address.Kind.TheVariants as kind
-use Rattle.xl_tlb.specs.Fronts.{FrontsStay}
+use Rattle.xl_tlb.proofs.Common.{◌%◌, ◌∙◌, ◌≡◌, FrontsStay, true}
 use Rattle.xl_tlb.proofs.KindLemmas.{same_filled}
 use Rattle.xl_tlb.proofs.StayLemmas.{small_fill_stays}
+use Rattle.xl_model.specs.declared.address.Kind.TheVariants as kind
 use Rattle.xl_tlb.proofs.tlb.Tlb.fill_in_front.Goals as goal
 
 pub invariant_of-self : goal.invariant_of-self

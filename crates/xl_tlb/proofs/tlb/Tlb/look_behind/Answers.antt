@@ -1,5 +1,5 @@
-use Rattle.xl_model.specs.declared.address.Kind.TheVariants as kind
 use Rattle.xl_tlb.proofs.KindLemmas.{same_look}
+use Rattle.xl_model.specs.declared.address.Kind.TheVariants as kind
 use Rattle.xl_tlb.proofs.tlb.Tlb.look_behind.Goals as goal
 
 pub returns : goal.returns

@@ -1,5 +1,4 @@
-use Rattle.std.proofs.Common.{true, ◌≡◌, ◌%◌}
-use Rattle.xl_tlb.specs.Fronts.{FrontsStay}
+use Rattle.xl_tlb.proofs.Common.{◌%◌, ◌≡◌, FrontsStay, true}
 use Rattle.xl_tlb.proofs.PageLemmas.{small_word}
 use Rattle.xl_tlb.proofs.StayLemmas.{small_stays}
 use Rattle.xl_tlb.proofs.tlb.Tlb.search.Goals as goal

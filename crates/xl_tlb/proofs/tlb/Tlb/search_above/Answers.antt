@@ -1,6 +1,4 @@
-use Rattle.std.proofs.Common.{true, ◌≡◌, ◌%◌}
-use Rattle.xl_tlb.specs.Fronts.{FrontsStay}
-use Rattle.xl_tlb.specs.Hits.{leaf_hit}
+use Rattle.xl_tlb.proofs.Common.{◌%◌, ◌≡◌, FrontsStay, leaf_hit, true}
 use Rattle.xl_tlb.proofs.StayLemmas.{look_stays}
 use Rattle.xl_tlb.proofs.tlb.Tlb.search_above.Goals as goal
 

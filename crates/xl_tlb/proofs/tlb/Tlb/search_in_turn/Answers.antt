@@ -1,6 +1,4 @@
-use Rattle.std.proofs.Common.{true, ◌≡◌, ◌%◌}
-use Rattle.xl_model.specs.LeafWords.{small_leaf}
-use Rattle.xl_tlb.specs.Fronts.{FrontsStay}
+use Rattle.xl_tlb.proofs.Common.{◌%◌, ◌≡◌, FrontsStay, small_leaf, true}
 use Rattle.xl_tlb.proofs.PageLemmas.{small_says}
 use Rattle.xl_tlb.proofs.StayLemmas.{small_stays}
 use Rattle.xl_tlb.proofs.tlb.Tlb.search_in_turn.Goals as goal

@@ -1,10 +1,4 @@
-use Rattle.std.proofs.Common.{◌≡◌, sym, ap, ◌∙◌, subst, ℕ, List, length, arith}
-use Rattle.std.specs.Vec.{with_items}
-use Rattle.std.proofs.lemmas.List.{with_items_is}
-use Rattle.xl_treap.specs.Treaps.{TreapState, IsApart, keeping, with_range}
-use Rattle.xl_treap.specs.Trees.{ranges, tree_at}
-use Rattle.xl_treap.specs.Steps.{CanPut, IsMade}
-use Rattle.xl_treap.specs.Kept.{IsTreap}
+use Rattle.xl_treap.proofs.Common.{◌∙◌, ◌≡◌, ap, arith, CanPut, IsApart, IsMade, IsTreap, keeping, length, List, ranges, subst, sym, TreapState, tree_at, with_items, with_items_is, with_range, ℕ}
 use Rattle.xl_treap.proofs.KeptLemmas.{can-put, held-more, kept-after, seen-after}
 use Rattle.xl_treap.proofs.treap.Treap.insert.Goals as goal
 

@@ -1,9 +1,4 @@
-use Rattle.std.proofs.Common.{ap, ◌∙◌, subst, ℕ, List, length, find, ◌/◌}
-use Rattle.xl_model.specs.Ranges.{holds_page, range_reads}
-use Rattle.xl_treap.specs.Treaps.{TreapState}
-use Rattle.xl_treap.specs.Lines.{range_of_link}
-use Rattle.xl_treap.specs.Trees.{tree_at}
-use Rattle.xl_treap.specs.Steps.{IsReached}
+use Rattle.xl_treap.proofs.Common.{◌/◌, ◌∙◌, ap, find, holds_page, IsReached, length, List, range_of_link, range_reads, subst, TreapState, tree_at, ℕ}
 use Rattle.xl_treap.proofs.BackLemmas.{reached-kept}
 use Rattle.xl_treap.proofs.treap.Treap.look.Goals as goal
 

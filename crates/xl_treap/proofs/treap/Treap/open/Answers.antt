@@ -1,5 +1,4 @@
-use Rattle.std.proofs.Common.{ap, ◌∙◌, length}
-use Rattle.std.proofs.lemmas.List.{length-replicate}
+use Rattle.xl_treap.proofs.Common.{◌∙◌, ap, length, length-replicate}
 use Rattle.xl_treap.proofs.BackLemmas.{opened}
 use Rattle.xl_treap.proofs.treap.Treap.open.Goals as goal
 

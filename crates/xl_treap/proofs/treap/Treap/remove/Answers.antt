@@ -1,12 +1,6 @@
-use Rattle.std.proofs.Common.{◌≡◌, sym, ap, ◌∙◌, subst, ℕ, true, ◌++◌, ◌∷◌, [], List, length, arith}
-use Rattle.std.specs.List.{list_any}
-use Rattle.std.specs.Vec.{with_items}
-use Rattle.std.proofs.lemmas.List.{with_items_is}
-use Rattle.xl_treap.specs.Treaps.{TreapState, keeping, key_at, without_range, has_key}
-use Rattle.xl_treap.specs.Trees.{ranges, tree_at}
-use Rattle.xl_treap.specs.Steps.{IsTaken}
+use Rattle.xl_treap.proofs.Common.{◌++◌, ◌∙◌, ◌∷◌, ◌≡◌, [], ap, arith, has_key, IsTaken, keeping, key_at, length, List, list_any, ranges, subst, sym, TreapState, tree_at, true, with_items, with_items_is, without_range, ℕ}
+use Rattle.xl_treap.proofs.KeptLemmas.{held-less, Holds, kept-after, seen-after}
 use Rattle.xl_treap.proofs.TakeLemmas.{has-held, held-small, without-length}
-use Rattle.xl_treap.proofs.KeptLemmas.{Holds, held-less, kept-after, seen-after}
 use Rattle.xl_treap.proofs.treap.Treap.remove.Goals as goal
 
 pub key_of-key-requires : goal.key_of-key-requires

@@ -1,12 +1,6 @@
-use Rattle.std.proofs.Common.{◌≡◌, sym, ap, ◌∙◌, subst, ℕ, true, List, length}
-use Rattle.std.specs.List.{list_any}
-use Rattle.std.specs.Vec.{with_items}
-use Rattle.std.proofs.lemmas.List.{with_items_is}
-use Rattle.xl_treap.specs.Treaps.{TreapState, keeping, key_at, resized, has_key}
-use Rattle.xl_treap.specs.Trees.{ranges, tree_at}
-use Rattle.xl_treap.specs.Steps.{IsResized}
+use Rattle.xl_treap.proofs.Common.{◌∙◌, ◌≡◌, ap, has_key, IsResized, keeping, key_at, length, List, list_any, ranges, resized, subst, sym, TreapState, tree_at, true, with_items, with_items_is, ℕ}
+use Rattle.xl_treap.proofs.KeptLemmas.{held-same, kept-after, resized-length, seen-after}
 use Rattle.xl_treap.proofs.TakeLemmas.{held-small}
-use Rattle.xl_treap.proofs.KeptLemmas.{held-same, resized-length, kept-after, seen-after}
 use Rattle.xl_treap.proofs.treap.Treap.resize.Goals as goal
 
 pub key_of-key-requires : goal.key_of-key-requires

@@ -1,6 +1,4 @@
-use Rattle.std.proofs.Common.{subst, length}
-use Rattle.xl_treap.specs.Treaps.{TreapState}
-use Rattle.xl_treap.specs.Kept.{WordsReadBack}
+use Rattle.xl_treap.proofs.Common.{length, subst, TreapState, WordsReadBack}
 use Rattle.xl_treap.proofs.BackLemmas.{read-back}
 use Rattle.xl_treap.proofs.treap.Treap.words_read_back.Goals as goal
 

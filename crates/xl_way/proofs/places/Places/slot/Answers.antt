@@ -1,7 +1,5 @@
-use Rattle.std.proofs.Common.{◌∙◌, ap, ◌+◌}
-use Rattle.xl_model.specs.Ways.{slot}
-use Rattle.xl_way.specs.Slots.{PlacesState}
-use Rattle.xl_way.proofs.PlaceLemmas.{slot-twice, slot-once}
+use Rattle.xl_way.proofs.Common.{◌+◌, ◌∙◌, ap, PlacesState, slot}
+use Rattle.xl_way.proofs.PlaceLemmas.{slot-once, slot-twice}
 use Rattle.xl_way.proofs.places.Places.slot.Goals as goal
 
 pub returns-then-index-self : goal.returns-then-index-self

@@ -1,8 +1,4 @@
-use Rattle.std.proofs.Common.{◌≡◌, sym, ap, ◌∙◌, subst, ◌<◌, false}
-use Rattle.xl_model.specs.declared.way.WayRegs.{WayRegs}
-use Rattle.xl_model.specs.Ways.{begun, begun_regs}
-use Rattle.xl_way.specs.Slots.{WayState, PlacesState, entries_of}
-use Rattle.xl_way.specs.Kept.{IsKept}
+use Rattle.xl_way.proofs.Common.{◌<◌, ◌∙◌, ◌≡◌, ap, begun, begun_regs, entries_of, false, IsKept, PlacesState, subst, sym, WayRegs, WayState}
 use Rattle.xl_way.proofs.WayLemmas.{kept-begun, way_of}
 use Rattle.xl_way.proofs.way.Way.begin_growth.Goals as goal
 

@@ -1,11 +1,6 @@
-use Rattle.std.proofs.Common.{◌≡◌, refl, sym, ap, ◌∙◌, subst, ◌-◌, true, List, length, arith}
-use Rattle.xl_model.specs.declared.way.Entry.{Entry}
-use Rattle.xl_model.specs.Ways.{without_entry}
-use Rattle.xl_model.specs.Placing.{is_held}
-use Rattle.xl_way.specs.Slots.{WayState, no_entry, entries_of}
-use Rattle.xl_way.specs.Kept.{IsKept}
-use Rattle.xl_way.proofs.WayLemmas.{slot-inside, held-is, clear-is, kept-set, way_of}
+use Rattle.xl_way.proofs.Common.{◌-◌, ◌∙◌, ◌≡◌, ap, arith, entries_of, Entry, is_held, IsKept, length, List, no_entry, refl, subst, sym, true, WayState, without_entry}
 use Rattle.xl_way.proofs.FieldLemmas.{items-set}
+use Rattle.xl_way.proofs.WayLemmas.{clear-is, held-is, kept-set, slot-inside, way_of}
 use Rattle.xl_way.proofs.way.Way.clear.Goals as goal
 
 pub exchange-requires : goal.exchange-requires

@@ -1,8 +1,4 @@
-use Rattle.std.proofs.Common.{◌≡◌, refl, sym, ap, ◌∙◌, ℕ, List, [], ◌∷◌, length, None, arith}
-use Rattle.std.proofs.lemmas.Bool.Decides.{nat_tests}
-use Rattle.xl_model.specs.declared.way.Entry.{Entry}
-use Rattle.xl_way.specs.Slots.{WayState, cell, entries_of, word_in, word_of}
-use Rattle.xl_way.specs.Cells.{kept_of}
+use Rattle.xl_way.proofs.Common.{◌∙◌, ◌∷◌, ◌≡◌, [], ap, arith, cell, entries_of, Entry, kept_of, length, List, nat_tests, None, refl, sym, WayState, word_in, word_of, ℕ}
 use Rattle.xl_way.proofs.WayLemmas.{slot-inside, word-is}
 use Rattle.xl_way.proofs.way.Way.get.Goals as goal
 

@@ -1,9 +1,5 @@
-use Rattle.std.proofs.Common.{◌≡◌, refl, sym, ap, ◌∙◌, ◌<◌, List, length, None, Some, true, false, cond, ◌==◌, arith}
-use Rattle.std.proofs.lemmas.Bool.Decides.{nat_tests}
-use Rattle.xl_model.specs.declared.way.Entry.{Entry}
-use Rattle.xl_model.specs.Ways.{occupant}
-use Rattle.xl_way.specs.Slots.{WayState, cell}
-use Rattle.xl_way.proofs.WayLemmas.{slot-inside, occupant-is, standing_in}
+use Rattle.xl_way.proofs.Common.{◌<◌, ◌==◌, ◌∙◌, ◌≡◌, ap, arith, cell, cond, Entry, false, length, List, nat_tests, None, occupant, refl, Some, sym, true, WayState}
+use Rattle.xl_way.proofs.WayLemmas.{occupant-is, slot-inside, standing_in}
 use Rattle.xl_way.proofs.way.Way.is_free.Goals as goal
 
 pub is_empty-requires : goal.is_empty-requires

@@ -1,8 +1,5 @@
-use Rattle.std.proofs.Common.{sym, ap, ◌∙◌, ◌<◌, ◌^◌, arith}
-use Rattle.xl_model.specs.declared.way.WayRegs.{WayRegs}
-use Rattle.xl_model.specs.Ways.{slots_left, advanced}
-use Rattle.xl_way.specs.Slots.{WayState}
-use Rattle.xl_way.proofs.GrowthLemmas.{after-none, after-more, after-growing}
+use Rattle.xl_way.proofs.Common.{◌<◌, ◌^◌, ◌∙◌, advanced, ap, arith, slots_left, sym, WayRegs, WayState}
+use Rattle.xl_way.proofs.GrowthLemmas.{after-growing, after-more, after-none}
 use Rattle.xl_way.proofs.way.Way.migrate.Goals as goal
 
 pub slots-init : goal.slots-init

@@ -1,5 +1,4 @@
-use Rattle.std.proofs.Common.{◌≡◌}
-use Rattle.xl_model.specs.Ways.{advanced}
+use Rattle.xl_way.proofs.Common.{◌≡◌, advanced}
 use Rattle.xl_way.proofs.way.Way.migrate.Given as goal
 
 abbrev pub invariant-slots : goal.invariant-slots

@@ -1,12 +1,6 @@
-use Rattle.std.proofs.Common.{◌≡◌, sym, ap, ◌∙◌, subst, ℕ, true, List, length, arith}
-use Rattle.xl_model.specs.declared.way.Entry.{Entry}
-use Rattle.xl_model.specs.declared.way.WayRegs.{WayRegs}
-use Rattle.xl_model.specs.Ways.{advanced, regs_after}
-use Rattle.xl_way.specs.Slots.{WayState, PlacesState, entries_of}
-use Rattle.xl_way.specs.Cells.{moved}
-use Rattle.xl_way.specs.Kept.{IsKept, reach}
-use Rattle.xl_way.proofs.WayLemmas.{migrate-is, reach-in, way_of}
+use Rattle.xl_way.proofs.Common.{◌∙◌, ◌≡◌, advanced, ap, arith, entries_of, Entry, IsKept, length, List, moved, PlacesState, reach, regs_after, subst, sym, true, WayRegs, WayState, ℕ}
 use Rattle.xl_way.proofs.FieldLemmas.{items-now}
+use Rattle.xl_way.proofs.WayLemmas.{migrate-is, reach-in, way_of}
 use Rattle.xl_way.proofs.way.Way.migrate_one.Goals as goal
 
 pub migrate_slot-requires-clause-room : goal.migrate_slot-requires-clause-room

@@ -1,9 +1,4 @@
-use Rattle.std.proofs.Common.{◌≡◌, sym, ap, ◌∙◌, subst, List, false, replicate}
-use Rattle.xl_model.specs.declared.way.Entry.{Entry}
-use Rattle.xl_model.specs.Ways.{opening_way}
-use Rattle.xl_way.specs.Slots.{PlacesState, no_entry, entries_of}
-use Rattle.xl_way.specs.Kept.{IsKept}
-use Rattle.xl_way.specs.Words.{slots_of}
+use Rattle.xl_way.proofs.Common.{◌∙◌, ◌≡◌, ap, entries_of, Entry, false, IsKept, List, no_entry, opening_way, PlacesState, replicate, slots_of, subst, sym}
 use Rattle.xl_way.proofs.SlotLemmas.{entries-empty}
 use Rattle.xl_way.proofs.WayLemmas.{kept-open, way_of}
 use Rattle.xl_way.proofs.way.Way.open.Goals as goal

@@ -1,11 +1,7 @@
-use Rattle.std.proofs.Common.{◌≡◌, refl, sym, ap, ◌∙◌, ℕ, Option, None, Some}
-use Rattle.xl_model.specs.declared.way.WayRegs.{WayRegs}
+use Rattle.xl_way.proofs.Common.{◌∙◌, ◌≡◌, ap, look_of, None, Option, refl, slot_back, Some, sym, WayRegs, WayState, word_of, words_of, ℕ}
+use Rattle.xl_way.proofs.WordLemmas.{look-is}
 use Rattle.xl_way.specs.declared.found.Look.{Look}
 use Rattle.xl_way.specs.declared.found.Look.TheVariants.{Found}
-use Rattle.xl_way.specs.Slots.{WayState, word_of}
-use Rattle.xl_way.specs.Words.{words_of}
-use Rattle.xl_way.specs.Back.{slot_back, look_of}
-use Rattle.xl_way.proofs.WordLemmas.{look-is}
 use Rattle.xl_way.proofs.way.Way.probe.Goals as goal
 
 found-some : (l : Look) (word : ℕ) (o : Option ℕ) → l ≡ Found word → l ≡ look_of o → Some word ≡ o

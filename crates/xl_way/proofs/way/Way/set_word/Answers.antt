@@ -1,11 +1,6 @@
-use Rattle.std.proofs.Common.{◌≡◌, refl, sym, ap, ◌∙◌, subst, true, List, arith}
-use Rattle.xl_model.specs.declared.way.Entry.{Entry}
-use Rattle.xl_model.specs.Ways.{WayShape, with_word}
-use Rattle.xl_model.specs.Placing.{is_held}
-use Rattle.xl_way.specs.Slots.{WayState, entries_of}
-use Rattle.xl_way.specs.Kept.{IsKept}
-use Rattle.xl_way.proofs.WayLemmas.{held-is, reword-is, kept-set, way_of}
+use Rattle.xl_way.proofs.Common.{◌∙◌, ◌≡◌, ap, arith, entries_of, Entry, is_held, IsKept, List, refl, subst, sym, true, WayShape, WayState, with_word}
 use Rattle.xl_way.proofs.FieldLemmas.{inside-now, items-set}
+use Rattle.xl_way.proofs.WayLemmas.{held-is, kept-set, reword-is, way_of}
 use Rattle.xl_way.proofs.way.Way.set_word.Goals as goal
 
 pub exchange-requires : goal.exchange-requires

@@ -1,11 +1,6 @@
-use Rattle.std.proofs.Common.{◌≡◌, refl, sym, ap, ◌∙◌, subst, ◌+◌, ◌<◌, List, set, None, arith}
-use Rattle.std.specs.Vec.{with_items}
-use Rattle.xl_model.specs.declared.way.Entry.{Entry}
-use Rattle.xl_model.specs.Ways.{occupant, swapped}
-use Rattle.xl_way.specs.Slots.{WayState, cell, entries_of}
-use Rattle.xl_way.specs.Kept.{IsKept}
-use Rattle.xl_way.proofs.WayLemmas.{few-used, occupant-is, standing_in, some-word, kept-set, swap-back, swap-more, way_of}
+use Rattle.xl_way.proofs.Common.{◌+◌, ◌<◌, ◌∙◌, ◌≡◌, ap, arith, cell, entries_of, Entry, IsKept, List, None, occupant, refl, set, subst, swapped, sym, WayState, with_items}
 use Rattle.xl_way.proofs.FieldLemmas.{inside-now, items-set, swapped-now}
+use Rattle.xl_way.proofs.WayLemmas.{few-used, kept-set, occupant-is, some-word, standing_in, swap-back, swap-more, way_of}
 use Rattle.xl_way.proofs.way.Way.swap.Goals as goal
 
 pub exchange-left-requires : goal.exchange-left-requires

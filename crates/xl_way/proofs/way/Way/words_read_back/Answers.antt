@@ -1,7 +1,5 @@
-use Rattle.std.proofs.Common.{subst}
-use Rattle.xl_way.specs.Slots.{WayState}
-use Rattle.xl_way.specs.Kept.{WordsReadBack, AreApart}
-use Rattle.xl_way.proofs.WordLemmas.{read-back, are-apart}
+use Rattle.xl_way.proofs.Common.{AreApart, subst, WayState, WordsReadBack}
+use Rattle.xl_way.proofs.WordLemmas.{are-apart, read-back}
 use Rattle.xl_way.proofs.way.Way.words_read_back.Goals as goal
 
 pub returns-clause-words : goal.returns-clause-words

@@ -1,9 +1,4 @@
-use Rattle.std.proofs.Common.{◌≡◌, sym, subst, ℕ, ◌+◌, ◌*◌, ◌<◌, ◌≤◌, List, [], ◌∷◌, length, Option, None, Some}
-use Rattle.std.specs.Prelude.{IfSome, IfNone}
-use Rattle.xl_phys.specs.Lines.{IsLine}
-use Rattle.xl_model.specs.declared.way.Entry.{Entry}
-use Rattle.xl_way.specs.Slots.{WayState, cell, entries_of}
-use Rattle.xl_way.specs.Words.{words_of}
+use Rattle.xl_way.proofs.Common.{◌*◌, ◌+◌, ◌<◌, ◌∷◌, ◌≡◌, ◌≤◌, [], cell, entries_of, Entry, IfNone, IfSome, IsLine, length, List, None, Option, Some, subst, sym, WayState, words_of, ℕ}
 use Rattle.xl_way.proofs.WayLemmas.{way_of}
 use Rattle.xl_way.proofs.WordLemmas.{line-is, line-none}
 use Rattle.xl_way.proofs.way.WayBus.load.Goals as goal

@@ -1,0 +1,84 @@
+-- The names that this crate's proofs import from elsewhere, passed on from one place. Declares nothing.
+pub use Rattle.std.proofs.Common.{◌%◌, ◌&&◌, ◌*◌, ◌++◌, ◌+◌, ◌-◌, ◌/◌, ◌<◌, ◌==◌, ◌^◌, ◌||◌, ◌∙◌, ◌∷◌, ◌≡◌, ◌≤◌, ◌⊎◌, [], ap, arith, Bool, cond, drop, Err, false, get_or, inl, inr, length, List, lit<, map, nat_le, None, not, Ok, Option, refl, Result, rules, Some, subst, suc, sym, true, zero, ℕ}
+pub use Rattle.std.proofs.lemmas.Bool.Decides.{nat_tests}
+pub use Rattle.std.proofs.lemmas.List.{length-map}
+pub use Rattle.std.specs.List.{list_any}
+pub use Rattle.std.specs.Prelude.{find, is_some, IsSome, slice_get, slice_index}
+pub use Rattle.xl_cuckoo.proofs.KeyLemmas.{no-value, once-added, once-cleared, once-reworded, once-same}
+pub use Rattle.xl_cuckoo.specs.Table.{AddsEntry, AreOnce, CuckooState, inserted, opening, SameEntries, value_of}
+pub use Rattle.xl_model.specs.Addresses.{level_of, pages_of, same_order}
+pub use Rattle.xl_model.specs.Base.{one_if, plus, same_bit}
+pub use Rattle.xl_model.specs.Caches.{Cached, empty_cache, has_changed, reaches_space, SectionCaches, without_items}
+unfoldable pub use Rattle.xl_model.specs.Caches.{caches_fenced, caches_purged}
+pub use Rattle.xl_model.specs.Chains.{leaf_tag, tag_of}
+pub use Rattle.xl_model.specs.Changes.{at_page, Change, Insert, IsNamed, old_leaf, Protect, Relocate, Remove, with_new, with_perm, without_old}
+unfoldable pub use Rattle.xl_model.specs.Changes.{changed, with_both}
+pub use Rattle.xl_model.specs.Mapping.{covers, is_leaf, leaf_key, meets_block, with_leaf, without_leaf}
+unfoldable pub use Rattle.xl_model.specs.Mapping.{leaf_at_page, leaf_named, meets_any}
+pub use Rattle.xl_model.specs.Placing.{AtCap, Displaced, holder_from, insertion, is_held, no_moves, Placed, way_at}
+pub use Rattle.xl_model.specs.Recency.{purged, touched, with_newest, without_first}
+pub use Rattle.xl_model.specs.Room.{room_for}
+unfoldable pub use Rattle.xl_model.specs.Room.{has_room}
+pub use Rattle.xl_model.specs.Sections.{counts_for, holds, holds_order, is_section, same_section, same_way, Section, section_count, section_key, section_keys, way_where}
+unfoldable pub use Rattle.xl_model.specs.Sections.{section_of}
+pub use Rattle.xl_model.specs.Shapes.{brought, Cuckoo, CuckooRules, CuckooWays, is_placed, leaf_entry, moves_of, narrowed, opening_ways, placed_leaf, Shape, ways_of, ways_placed, ways_taken, widened, with_ways}
+unfoldable pub use Rattle.xl_model.specs.Shapes.{shape_after}
+pub use Rattle.xl_model.specs.Structures.{after_by, answer_by, finds_place, IsBlock, IsChange, IsFence, IsLeafFor, IsPage, IsWalk, Made, moves_made, NoPlace, NoSpace, TableState, Verdict, verdict_by, work_of}
+unfoldable pub use Rattle.xl_model.specs.Structures.{fence_answer, table_after, table_answer, table_fenced, table_made, table_walked, verdict, walk_answer}
+pub use Rattle.xl_model.specs.Walks.{fills_m2, is_page_section, leaves_possible, probes, section_after, section_of_page, way_known}
+unfoldable pub use Rattle.xl_model.specs.Walks.{walked}
+pub use Rattle.xl_model.specs.Ways.{has_key, reworded, WayShape, without_key}
+unfoldable pub use Rattle.xl_model.specs.Ways.{with_word, without_entry}
+unfoldable pub use Rattle.xl_model.specs.Words.{leaf_word}
+pub use Rattle.xl_model.specs.declared.address.Order.{Order}
+pub use Rattle.xl_model.specs.declared.leaf.Leaf.{Leaf}
+pub use Rattle.xl_model.specs.declared.perm.Perm.{Perm}
+pub use Rattle.xl_model.specs.declared.way.Entry.{Entry}
+pub use Rattle.xl_model.specs.declared.way.Moves.{Moves}
+pub use Rattle.xl_model.specs.declared.work.Refused.{Refused}
+pub use Rattle.xl_model.specs.declared.work.Work.{Work}
+pub use Rattle.xl_model_lemmas.proofs.FreshSectionLemmas.{by-fields, section-after, section-fenced, section-refused, section-some, section-walked, sections-same}
+pub use Rattle.xl_model_lemmas.proofs.InsertionLemmas.{stays-with, without-In, without-other}
+pub use Rattle.xl_model_lemmas.proofs.MappingLemmas.{named-In, named-is}
+pub use Rattle.xl_model_lemmas.proofs.MemberLemmas.{any-false, any-In, find-In, find-None, find-only, find-passes, In-any, In-append, In-left, In-map, In-right, map-In}
+pub use Rattle.xl_model_lemmas.proofs.OrderLemmas.{level-low, order-same, orders-same, pages-some, same-level}
+pub use Rattle.xl_model_lemmas.proofs.PlaceLemmas.{aligned-frame, covers-meets, first-covered, named-first, named-order, named-space}
+pub use Rattle.xl_model_lemmas.proofs.RecencyLemmas.{find-none, find-some, newest-map, purged-map, touched-map, touched-none}
+pub use Rattle.xl_model_lemmas.proofs.SameLemmas.{any-each, both, none-any, same-tests}
+pub use Rattle.xl_model_lemmas.proofs.SearchLemmas.{only, only-first}
+pub use Rattle.xl_model_lemmas.proofs.SectionLemmas.{count-with, counts-same, In-keys, keys-In, keys-once, small-block}
+pub use Rattle.xl_model_lemmas.proofs.TallyLemmas.{tally-any}
+pub use Rattle.xl_model_lemmas.proofs.WayTallyLemmas.{tally-same, ways-reworded, ways-without}
+pub use Rattle.xl_model_lemmas.specs.Entries.{or_leaf}
+pub use Rattle.xl_model_lemmas.specs.Fresh.{has_leaves, SectionFresh, SectionsFresh}
+pub use Rattle.xl_model_lemmas.specs.Kept.{IsPlaced}
+unfoldable pub use Rattle.xl_model_lemmas.specs.Kept.{mapping_of}
+pub use Rattle.xl_model_lemmas.specs.Members.{AllAbove, In, IsSorted}
+pub use Rattle.xl_model_lemmas.specs.Sections.{counts_at, entries_in, entries_of, IsAligned, key_in, of_order, tally}
+pub use Rattle.xl_pte.specs.ReadBack.{MadeWordsReadBack}
+pub use Rattle.xl_recency.specs.declared.item.Item.{Item}
+pub use Rattle.xl_sections.proofs.KeyLemmas.{keys-count}
+pub use Rattle.xl_sections.proofs.WordLemmas.{any-is, parts-are, word-cons}
+pub use Rattle.xl_sections.specs.Counted.{AreCounts, Count, CountState, IsTied, part, unit}
+unfoldable pub use Rattle.xl_sections.specs.Counted.{count_of}
+pub use Rattle.xl_sections.specs.Noted.{HasPlace, IsDropped, IsNoted, IsRoomy, IsShared}
+pub use Rattle.xl_tagged.proofs.FindLemmas.{at-page, either, found-from, found-is, from-is, meets-is, page-found}
+pub use Rattle.xl_tagged.proofs.HeldLemmas.{IsTagWith, IsTagWithout, new-keys, put-held, take-held, with-given, with-new, without-old}
+pub use Rattle.xl_tagged.proofs.SlotLemmas.{known-leaves, leaf-some, none-read}
+pub use Rattle.xl_tagged.proofs.WholeLemmas.{frame-back, frame-fits, low}
+pub use Rattle.xl_tagged.specs.Forms.{One, slot_of, word_at}
+pub use Rattle.xl_tagged.specs.Slots.{found_from, found_in, leaf_read, small_told}
+unfoldable pub use Rattle.xl_tagged.specs.Slots.{leaves_under}
+pub use Rattle.xl_tagged.specs.Steps.{given_word, IsWritten}
+pub use Rattle.xl_tagged.specs.Tagged.{AreHeld, IsFit}
+pub use Rattle.xl_way.specs.Slots.{word_in}
+unfoldable pub use Rattle.xl_way.specs.Slots.{word_of}
+pub use Rattle.xl_cuckoo_walk.specs.Changes.{AreTied, compared, fits_by, has_fit, HoldsLeaves, IsCapped, IsEntered, IsLeft, IsPut, IsRefused, keys_if, keys_moved, page_key, StaysBeside, with_put_in, with_word_in, without_key_in}
+pub use Rattle.xl_cuckoo_walk.specs.Coding.{bit_in, code_of, has_tag, hit_of, is_old, is_reached, section_by, section_in, sections_in, way_by, word_by, word_of_item}
+pub use Rattle.xl_cuckoo_walk.specs.Known.{IsFrontIf, IsKnown, word_known}
+pub use Rattle.xl_cuckoo_walk.specs.Looks.{counts_smaller, looked, looked_from}
+pub use Rattle.xl_cuckoo_walk.specs.Parts.{AreKeys, IsRow, order_tags, RowParts, rules_in, SameRules, table_of, ways_at, ways_in, with_table, word_list}
+unfoldable pub use Rattle.xl_cuckoo_walk.specs.Parts.{leaves_in, row_state, tags_in, values_in}
+pub use Rattle.xl_cuckoo_walk.specs.Plans.{filled, is_counted, IsIn, key_told, loads_by, newest_in, own_section, plan_at, plan_by, probed, refreshed, touched_in, value_by, way_told}
+unfoldable pub use Rattle.xl_cuckoo_walk.specs.Plans.{keys_from, leaf_said_by, new_word, plan_of}
+pub use Rattle.xl_cuckoo_walk.specs.declared.plan.Plan.{Plan}

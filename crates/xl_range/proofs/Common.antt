@@ -1,0 +1,38 @@
+-- The names that this crate's proofs import from elsewhere, passed on from one place. Declares nothing.
+pub use Rattle.std.proofs.Common.{◌%◌, ◌&&◌, ◌*◌, ◌+◌, ◌-◌, ◌/◌, ◌<◌, ◌==◌, ◌^◌, ◌||◌, ◌∙◌, ◌∷◌, ◌≡◌, ◌≤◌, ◌⊎◌, [], ap, arith, Bool, cond, Err, false, filter, find, inl, inr, is_some, length, List, nat_le, nat_lt, None, Ok, Option, refl, Result, Some, subst, suc, sym, true, zero, ℕ}
+pub use Rattle.std.proofs.lemmas.Bool.Decides.{nat_tests}
+pub use Rattle.std.specs.List.{list_any}
+pub use Rattle.xl_model.specs.Addresses.{pages_of, same_order}
+pub use Rattle.xl_model.specs.Caches.{Cached, empty_cache, entries_in, holds_first, RangeCache, reaches_range, without_items}
+unfoldable pub use Rattle.xl_model.specs.Caches.{caches_fenced, caches_purged}
+pub use Rattle.xl_model.specs.Changes.{at_page, Change, Insert, IsNamed, old_leaf, Protect, Relocate, Remove, with_new, with_perm, without_old}
+unfoldable pub use Rattle.xl_model.specs.Changes.{changed, with_both}
+pub use Rattle.xl_model.specs.Mapping.{covers, is_leaf, leaf_key, meets_block, with_leaf}
+unfoldable pub use Rattle.xl_model.specs.Mapping.{leaf_at_page, leaf_named, meets_any, without_leaf}
+pub use Rattle.xl_model.specs.Ranges.{end_key, goes_into, holds_page, joined, range_key, range_of_leaf, range_reads, same_perm}
+unfoldable pub use Rattle.xl_model.specs.Ranges.{ranges_of}
+pub use Rattle.xl_model.specs.Recency.{purged}
+pub use Rattle.xl_model.specs.Room.{room_for}
+unfoldable pub use Rattle.xl_model.specs.Room.{has_room}
+pub use Rattle.xl_model.specs.Shapes.{brought, narrowed, Runs, Shape, widened}
+unfoldable pub use Rattle.xl_model.specs.Shapes.{shape_after}
+pub use Rattle.xl_model.specs.Structures.{after_by, answer_by, finds_place, IsBlock, IsChange, IsFence, IsLeafFor, IsWalk, Made, moves_made, NoSpace, TableState, Verdict, work_of}
+unfoldable pub use Rattle.xl_model.specs.Structures.{fence_answer, table_after, table_answer, table_fenced, table_made, table_walked, verdict, walk_answer}
+pub use Rattle.xl_model.specs.declared.address.Order.{Order}
+pub use Rattle.xl_model.specs.declared.leaf.Leaf.{Leaf}
+pub use Rattle.xl_model.specs.declared.leaf.Range.{Range}
+pub use Rattle.xl_model.specs.declared.perm.Perm.{Perm}
+pub use Rattle.xl_model_lemmas.proofs.MappingLemmas.{named-In, named-is}
+pub use Rattle.xl_model_lemmas.proofs.MemberLemmas.{find-In, find-passes, In-any}
+pub use Rattle.xl_model_lemmas.proofs.OrderLemmas.{order-same, orders-same, pages-some}
+pub use Rattle.xl_model_lemmas.proofs.PlaceLemmas.{named-first, named-order, named-space}
+pub use Rattle.xl_model_lemmas.proofs.RecencyLemmas.{newest-In, purged-In, touched-In, touched-none}
+pub use Rattle.xl_model_lemmas.proofs.SameLemmas.{any-find, perm-same, both as same-bools, same-tests}
+pub use Rattle.xl_model_lemmas.specs.Members.{AllAbove, In, IsSorted}
+pub use Rattle.xl_treap.proofs.KeptLemmas.{resized-length, with-length}
+pub use Rattle.xl_treap.specs.Treaps.{first_from, has_key, IsApart, IsFit, keeping, key_at, last_below, last_or, of_space, resized, TreapView, with_range, without_range}
+pub use Rattle.xl_range.specs.Cuts.{IsInside, kept_behind, kept_cut}
+pub use Rattle.xl_range.specs.HeldRanges.{before_on, begins, behind_on, first_leaf, glue, grown, IsClear, IsHeld, IsLeafIn, IsRange, leaf_by, leaf_in, leaves_in, next_leaf, pages_before, pages_behind, part_behind, pieces, range_from, run_on, some_if, Stops, touches}
+unfoldable pub use Rattle.xl_range.specs.HeldRanges.{cut, join, meets_range, spread}
+pub use Rattle.xl_range.specs.Puts.{IsThere, kept_put, kept_taken, next_of, next_where, one_if, pages_with, prev_of, prev_where, put_by, range_taken}
+pub use Rattle.xl_range.specs.Rows.{AllFresh, HasLeaf, HasRanges, IsAt, IsDone, IsFresh, IsRow, IsTable, meets_where, opening_table, row_of, row_table, RowState}
