@@ -247,7 +247,21 @@ impl<const LEVELS: usize> Radix<LEVELS> {
         self.store.word(node as usize, index as usize)
     }
 
-    /// The first of the words, of which each node number has 512: behind them all are 0.
+    /// Word `index` of node number `node`, by one load.
+    #[inline(always)]
+    pub fn load_word(&mut self, node: u32, index: u32) -> u64
+        requires node { node < length self.old.nodes }
+        requires index { index < 512 }
+        ensures word { result ≡ slice_index self.old.words (node * 512 + index) }
+        ensures after { self.new ≡ record self.old { loads = (self.old.loads + 1) % 2 ^ 64 } }
+    {
+        let word = self.store.word(node as usize, index as usize);
+        self.loads = self.loads.wrapping_add(1);
+        word
+    }
+
+    /// The first of the words, of which each node number has 512: behind them all are 0. Reading them makes no
+    /// load: who reads them as loads counts them by `count_loads`.
     #[inline]
     pub fn front(&self) -> &[u64]
         ensures front { IsFront result.now self.entry.now.words }
@@ -258,7 +272,9 @@ impl<const LEVELS: usize> Radix<LEVELS> {
         self.store.front()
     }
 
-    /// Counts so many loads, which were made by reading the words at once.
+    /// Counts so many loads, which the caller made by reading words of `front`: a walk that reads them all at
+    /// once counts them once, where it is known how many they were. Nothing shows that they were made; the
+    /// contract of the walk says how many there are.
     pub fn count_loads(&mut self, loads: u64)
         ensures { self.new ≡ record self.old { loads = (self.old.loads + loads) % 2 ^ 64 } }
     {
