@@ -5,6 +5,7 @@ use Rattle.xl_model.specs.declared.address.Mode.TheVariants as mode
 use Rattle.xl_model.specs.declared.address.Order.TheVariants as order
 use Rattle.xl_model.specs.declared.address.Kind.TheVariants as kind
 use Rattle.xl_model.specs.declared.event.Event.TheVariants as event
+use Rattle.xl_model.specs.declared.leaf.Leaf.{Leaf}
 use Rattle.xl_model.specs.declared.event.Scope.TheVariants as scope
 use Rattle.xl_model.specs.declared.perm.Perm.{Perm}
 use Rattle.xl_model.specs.declared.row.Purge.TheVariants as purge
@@ -372,3 +373,7 @@ a_demand_area_items =
     (Referenced 6 8192 kind.Load) ∷
     (Referenced 7 4096 kind.Load) ∷
     (Referenced 8 8192 kind.Load) ∷ []
+
+-- Page 1 of space 0 in frame 0, with a permission.
+abbrev pub page_1 : Perm → Leaf
+page_1 perm = record { space = 0; first = 1; order = order.K4; frame = 0; perm = perm }

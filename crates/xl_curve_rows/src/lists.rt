@@ -1,7 +1,9 @@
 //! Rows with one set or a few, whose curves were worked out by two other programs.
 
-ghost use Rattle.std.specs.Prelude.{◌≡◌, ◌∷◌, replicate};
-ghost use Rattle.xl_curve_rows.specs.CurveRows.{figures, three_pages_twice_row, three_pages_twice_items, a_removed_leaf_leaves_a_hole_row, a_removed_leaf_leaves_a_hole_items, a_hole_above_the_touched_place_row, a_hole_above_the_touched_place_items, a_hole_below_the_touched_place_row, a_hole_below_the_touched_place_items, a_hole_at_the_touched_place_row, a_hole_at_the_touched_place_items, two_holes_row, two_holes_items, several_sets_row, several_sets_items, large_leaves_row, large_leaves_items, a_purge_by_space_row, a_purge_by_space_items, a_purge_of_all_row, a_purge_of_all_items, a_protect_and_a_move_row, a_protect_and_a_move_items, fences_row, fences_items, refused_commands_row, refused_commands_items, denied_and_absent_row, denied_and_absent_items, a_demand_area_row, a_demand_area_items};
+ghost use Rattle.std.specs.Prelude.{◌≡◌, [], ◌∷◌, codes, replicate};
+ghost use Rattle.xl_curve_model.specs.Curves.{curve_accessed, opening_curve};
+ghost use Rattle.xl_curve_model.specs.CurveLines.{curve_line};
+ghost use Rattle.xl_curve_rows.specs.CurveRows.{figures, page_1, perm_r__u, perm_rw_u, three_pages_twice_row, three_pages_twice_items, a_removed_leaf_leaves_a_hole_row, a_removed_leaf_leaves_a_hole_items, a_hole_above_the_touched_place_row, a_hole_above_the_touched_place_items, a_hole_below_the_touched_place_row, a_hole_below_the_touched_place_items, a_hole_at_the_touched_place_row, a_hole_at_the_touched_place_items, two_holes_row, two_holes_items, several_sets_row, several_sets_items, large_leaves_row, large_leaves_items, a_purge_by_space_row, a_purge_by_space_items, a_purge_of_all_row, a_purge_of_all_items, a_protect_and_a_move_row, a_protect_and_a_move_items, fences_row, fences_items, refused_commands_row, refused_commands_items, denied_and_absent_row, denied_and_absent_items, a_demand_area_row, a_demand_area_items};
 ghost use Rattle.xl_curve_model.specs.CurveRun.{curve_of_run};
 
 /// Three pages, twice over: below width 3 each has left before it comes again.
@@ -108,4 +110,18 @@ pub fn denied_and_absent()
 pub fn a_demand_area()
     ensures { figures (curve_of_run a_demand_area_row 2 a_demand_area_items)
         ≡ 12 ∷ 3 ∷ replicate 63 4 }
+{}
+
+/// A leaf that differs in its permission alone is another leaf. It is filled beside the first, which width 1 then no longer
+/// has, and each other width still holds. Worked out by hand.
+#[tactic(auto, unfolding(xl_curve_model::specs::CurveComputing::computing_curves))]
+pub fn a_leaf_of_another_permission()
+    ensures { figures (curve_accessed (page_1 perm_r__u) (curve_accessed (page_1 perm_rw_u) (curve_accessed (page_1 perm_r__u) (opening_curve 1))))
+        ≡ 3 ∷ 0 ∷ replicate 63 1 }
+{}
+
+/// The line of a curve: the row's name, the sets, the look-ups, and the hits of each width.
+#[tactic(auto, unfolding(xl_curve_model::specs::CurveComputing::computing_curves))]
+pub fn the_line_of_a_curve()
+    ensures { curve_line (codes "a") 4 3 (1 ∷ 20 ∷ []) ≡ codes "a curve sets=4 lookups=3 hits=1,20\n" }
 {}

@@ -666,3 +666,39 @@ room_comes_before_the_queue_told = record {
       ∷ [];
   all = record { accepted = 2; refused = 0 ∷ 0 ∷ 0 ∷ 0 ∷ 0 ∷ 0 ∷ 0 ∷ 3 ∷ 0 ∷ 3 ∷ 0 ∷ 0 ∷ []; waiting = 1; held = 0 };
 }
+
+-- One set of eight ways. Pages 1 to 8 are read, and page 1 again: eight misses of 3 loads each, and a hit. Page 9 takes the place
+-- of page 2, which is the oldest, and so page 2 misses. Frames 0 to 7, 0, 8 and 1 are 37 frames of 4096 bytes. The nine maps wait.
+abbrev pub nine_leaves_in_eight_ways_spec : HartSpec
+nine_leaves_in_eight_ways_spec = record { harts = 1; queue = 16; frames = 16; nodes = 16; spaces = 1; sets = 1 }
+
+-- What is served.
+abbrev pub nine_leaves_in_eight_ways_events : List HartEvent
+nine_leaves_in_eight_ways_events =
+    (step.Own (event.Map 0 4096 order.K4 perm_rw_u)) ∷
+    (step.Own (event.Map 0 8192 order.K4 perm_rw_u)) ∷
+    (step.Own (event.Map 0 12288 order.K4 perm_rw_u)) ∷
+    (step.Own (event.Map 0 16384 order.K4 perm_rw_u)) ∷
+    (step.Own (event.Map 0 20480 order.K4 perm_rw_u)) ∷
+    (step.Own (event.Map 0 24576 order.K4 perm_rw_u)) ∷
+    (step.Own (event.Map 0 28672 order.K4 perm_rw_u)) ∷
+    (step.Own (event.Map 0 32768 order.K4 perm_rw_u)) ∷
+    (step.Own (event.Map 0 36864 order.K4 perm_rw_u)) ∷
+    (step.Own (event.Access 4096 kind.Load)) ∷
+    (step.Own (event.Access 8192 kind.Load)) ∷
+    (step.Own (event.Access 12288 kind.Load)) ∷
+    (step.Own (event.Access 16384 kind.Load)) ∷
+    (step.Own (event.Access 20480 kind.Load)) ∷
+    (step.Own (event.Access 24576 kind.Load)) ∷
+    (step.Own (event.Access 28672 kind.Load)) ∷
+    (step.Own (event.Access 32768 kind.Load)) ∷
+    (step.Own (event.Access 4096 kind.Load)) ∷
+    (step.Own (event.Access 36864 kind.Load)) ∷
+    (step.Own (event.Access 8192 kind.Load)) ∷ []
+
+-- What is counted.
+abbrev pub nine_leaves_in_eight_ways_told : Told
+nine_leaves_in_eight_ways_told = record {
+  harts = (record no_hart_counts { accesses = 11; ok = 11; hits = 1; misses = 10; reads = 30; pasum = 151552 }) ∷ [];
+  all = record { accepted = 9; refused = no_refusals; waiting = 9; held = 0 };
+}

@@ -15,3 +15,4 @@ pub mod ByHandChains
 pub mod ByHandWays
 pub mod ByHandCommands
 pub mod ByHandDetails
+pub mod ByHandEdges

@@ -7,6 +7,7 @@ pub mod by_hand_arrays;
 pub mod by_hand_chains;
 pub mod by_hand_commands;
 pub mod by_hand_details;
+pub mod by_hand_edges;
 pub mod by_hand_nodes;
 pub mod by_hand_purges;
 pub mod by_hand_ranges;

@@ -1,6 +1,9 @@
 //! Commands, and their refusals in order.
 
-ghost use Rattle.std.specs.Prelude.{◌≡◌};
+ghost use Rattle.std.specs.Prelude.{◌≡◌, None, Some};
+ghost use Rattle.xl_model.specs.declared.address.Kind.TheVariants as kind;
+ghost use Rattle.xl_nested_model.specs.declared.nest.NestReply.TheVariants as nest;
+ghost use Rattle.xl_nested_model.specs.Stages.{nest_code_of};
 ghost use Rattle.xl_nested_rows.specs.Row.{counts_of, outcomes_of};
 ghost use Rattle.xl_nested_rows.specs.Commands.{six_refusals_row, the_first_refusal_of_a_gmap_row, the_first_refusal_of_a_vmap_row, the_first_refusal_of_an_unmap_row, four_host_nodes_take_1g_alone_row, nodes_are_given_back_row};
 
@@ -45,4 +48,13 @@ pub fn four_host_nodes_take_1g_alone()
 pub fn nodes_are_given_back()
     ensures outcomes { outcomes_of nodes_are_given_back_row ≡ nodes_are_given_back_row.outcomes }
     ensures counts { counts_of nodes_are_given_back_row ≡ nodes_are_given_back_row.counts }
+{}
+
+/// The codes of the manual: page faults are 12, 13 and 15, guest-page faults 20, 21 and 23.
+#[tactic(auto, unfolding(xl_model::specs::Computing::computing, xl_nested_model::specs::Computing::nested_computing))]
+pub fn codes_of_faults()
+    ensures fetch { (nest_code_of nest.PageFault kind.Fetch ≡ Some 12) × (nest_code_of nest.GuestFault kind.Fetch ≡ Some 20) }
+    ensures load { (nest_code_of nest.PageFault kind.Load ≡ Some 13) × (nest_code_of nest.GuestFault kind.Load ≡ Some 21) }
+    ensures store { (nest_code_of nest.PageFault kind.Store ≡ Some 15) × (nest_code_of nest.GuestFault kind.Store ≡ Some 23) }
+    ensures served { nest_code_of (nest.Frame 0) kind.Load ≡ None }
 {}

@@ -248,7 +248,21 @@ impl<const LEVELS: usize> Radix<LEVELS> {
         self.store.word(node as usize, index as usize)
     }
 
-    /// The first of the words, of which each node number has 512: after them all are 0.
+    /// Word `index` of node number `node`, by one load.
+    #[inline(always)]
+    pub fn load_word(&mut self, node: u32, index: u32) -> u64
+        requires node { node < length self.old.nodes }
+        requires index { index < 512 }
+        ensures word { result ≡ slice_index self.old.words (node * 512 + index) }
+        ensures after { self.new ≡ record self.old { loads = (self.old.loads + 1) % 2 ^ 64 } }
+    {
+        let word = self.store.word(node as usize, index as usize);
+        self.loads = self.loads.wrapping_add(1);
+        word
+    }
+
+    /// The first of the words, of which each node number has 512: after them all are 0. Reading them
+    /// counts no load: a caller who reads them as loads counts them by `count_loads`.
     #[inline]
     pub fn front(&self) -> &[u64]
         ensures front { IsFront result.now self.entry.now.words }
@@ -259,7 +273,9 @@ impl<const LEVELS: usize> Radix<LEVELS> {
         self.store.front()
     }
 
-    /// Counts `loads` loads, which were made by reading the words at once.
+    /// Counts `loads` loads, which the caller made by reading words of `front`: a walk that reads
+    /// several words counts them once, where their number is known. No clause says that they were
+    /// made; the contract of the walk says how many there are.
     pub fn count_loads(&mut self, loads: u64)
         ensures { self.new ≡ record self.old { loads = (self.old.loads + loads) % 2 ^ 64 } }
     {

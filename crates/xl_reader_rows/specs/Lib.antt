@@ -1,0 +1,4 @@
+pub mod Computing
+pub mod Traces
+pub mod Scripts
+pub mod Configs
