@@ -1,4 +1,4 @@
--- A scan that stops at the first item that meets a test, against `find`, `touched` and `purged`.
+-- A scan that stops at the first item that passes a test, against `find`, `touched` and `purged`.
 use Rattle.xl_recency.proofs.Common.{◌+◌, ◌<◌, ◌∙◌, ◌∷◌, ◌≡◌, ◌≤◌, [], AllFail, ap, arith, Bool, cases_lt, FailBefore, false, find, get_or, get_or-take, get_or_read, inl, inr, IsFirst, IsTest, length, length-take-le, List, None, refl, remove, Some, subst, suc, sym, take, touched, true, without_first, zero, ℕ}
 
 module _ {A : Type 0} (q : A → Bool) where

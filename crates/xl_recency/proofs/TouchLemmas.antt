@@ -1,4 +1,5 @@
--- What a new greatest stamp does to the list, and which places are the newest that meets a test and the oldest.
+-- What a new greatest stamp does to the list, and which places are the newest that passes a test
+-- and the oldest.
 use Rattle.xl_recency.proofs.Common.{◌++◌, ◌+◌, ◌-◌, ◌<◌, ◌∙◌, ◌∷◌, ◌≡◌, ◌≤◌, ◌⊎◌, [], ap, Apart, append_assoc, AreStamps, arith, Bool, by_stamp, drop, drop-set-lt, drop_all, drop_at, drop_more, Each, eq-eqb, eqb, false, filter, find, get_or, get_or_default, inl, inr, IsNewest, IsTest, Item, item_of, le-ltb, length, length-append, length-map, length-take, List, map, map-append, ne_eqb, newest_first, None, NoneMeets, not, Place, purged, refl, set, Some, suc, sym, take, take_all, take_at, take_more_set, touched, true, with_newest, with_place, without_first, zero, ℕ}
 use Rattle.xl_recency.proofs.OrderLemmas.{by_stamp-filter, each_all, each_at, each_by_stamp, each_in, each_mono, each_push, each_set, filter_all, filter_with, filter_without, In, in_at, in_by_stamp, length-by_stamp, map-filter, Sorted, sorted, with_greatest}
 use Rattle.xl_recency.proofs.ScanLemmas.{find_none, without_none}

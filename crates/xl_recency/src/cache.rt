@@ -63,22 +63,22 @@ macro_rules! at_width {
 impl<T: Copy> Cache<T> {
     /// An empty list of the width. Stored inline; never allocates. `blank` fills unused slots;
     /// contracts never see it.
-    pub fn open(alloc: Global, width: u8, blank: T) -> Result<Cache<T>, NoMemory>
+    pub fn open(_alloc: Global, width: u8, blank: T) -> Result<Cache<T>, NoMemory>
         requires { IsWidth width }
         ensures ok { IsOk result }
         ensures empty { IfOk result (λ cache. cache ≡ empty_cache width) }
     {
         let slots = match width {
             0 => Slots::W0,
-            1 => Slots::W1(Ways::open(alloc, blank)?),
-            2 => Slots::W2(Ways::open(alloc, blank)?),
-            4 => Slots::W4(Ways::open(alloc, blank)?),
-            6 => Slots::W6(Ways::open(alloc, blank)?),
-            8 => Slots::W8(Ways::open(alloc, blank)?),
-            12 => Slots::W12(Ways::open(alloc, blank)?),
-            16 => Slots::W16(Ways::open(alloc, blank)?),
-            32 => Slots::W32(Ways::open(alloc, blank)?),
-            _ => Slots::W64(Ways::open(alloc, blank)?),
+            1 => Slots::W1(Ways::empty(blank)),
+            2 => Slots::W2(Ways::empty(blank)),
+            4 => Slots::W4(Ways::empty(blank)),
+            6 => Slots::W6(Ways::empty(blank)),
+            8 => Slots::W8(Ways::empty(blank)),
+            12 => Slots::W12(Ways::empty(blank)),
+            16 => Slots::W16(Ways::empty(blank)),
+            32 => Slots::W32(Ways::empty(blank)),
+            _ => Slots::W64(Ways::empty(blank)),
         };
         Ok(Cache { slots })
     }
@@ -100,7 +100,8 @@ impl<T: Copy> Cache<T> {
             Touches q self.old.items self.new.items result }
         ensures width { self.new.width ≡ self.old.width }
     {
-        at_width!(&mut self.slots, ways => ways.touch(test), None)
+        let kept = &test;
+        at_width!(&mut self.slots, ways => ways.touch_by(kept), None)
     }
 
     /// Puts the item in front, and returns the item evicted: `Some` where the list was full. At
@@ -121,6 +122,7 @@ impl<T: Copy> Cache<T> {
         ensures most { result ≤ 64 }
         ensures width { self.new.width ≡ self.old.width }
     {
-        at_width!(&mut self.slots, ways => ways.remove_where(test), 0)
+        let kept = &test;
+        at_width!(&mut self.slots, ways => ways.remove(kept), 0)
     }
 }

@@ -34,10 +34,17 @@ impl<T: Copy, const W: usize> Ways<T, W> {
         ensures ok { IsOk result }
         ensures empty { IfOk result (λ ways. ways ≡ []) }
     {
-        Ok(Ways {
+        Ok(Ways::empty(blank))
+    }
+
+    /// What `open` gives.
+    pub(crate) fn empty(blank: T) -> Ways<T, W>
+        ensures { result ≡ [] }
+    {
+        Ways {
             len: 0,
             slots: [blank; W],
-        })
+        }
     }
 
     /// How many items the list holds.
@@ -56,11 +63,21 @@ impl<T: Copy, const W: usize> Ways<T, W> {
         requires { P.IsAlwaysCallable test }
         ensures { (q : _) → IsTest (FnReturnsAt P.Fn test) q → Touches q self.old self.new result }
     {
+        self.touch_by(&test)
+    }
+
+    /// What `touch` does, by a test that is kept.
+    #[inline(always)]
+    pub(crate) fn touch_by<P: Fn(&T) -> bool>(&mut self, test: &P) -> Option<T>
+        requires { P.IsAlwaysCallable test.now }
+        ensures { (q : _) → IsTest (FnReturnsAt P.Fn test.now) q →
+            Touches q self.old self.new result }
+    {
         if W <= 16 {
-            return touch_first(&mut self.slots, self.len, &test);
+            return touch_first(&mut self.slots, self.len, test);
         }
-        let place = place_of(&self.slots, self.len, &test);
-        touch_at(&mut self.slots[..self.len], place, &test)
+        let place = place_of(&self.slots, self.len, test);
+        touch_at(&mut self.slots[..self.len], place, test)
     }
 
     /// The newest item that passes the test.
