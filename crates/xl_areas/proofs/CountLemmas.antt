@@ -1,4 +1,4 @@
--- How many bounds lie at or below a key, and which of them answers.
+-- How many bounds lie at or below a key, and which area serves it.
 use Rattle.xl_areas.proofs.Common.{◌<◌, ◌∷◌, ◌≡◌, ◌≤◌, [], AllWithin, answer_at, ap, Area, AreRising, arith, Bound, cond, count_to, false, length, List, nat_le, nat_tests, Option, refl, slice_index_or, suc, true, zero, ℕ}
 
 -- the bounds from a place on are at or above the ones before

@@ -1,4 +1,4 @@
--- The index of no areas, and of one area more; and what it answers.
+-- The index of no areas, and of one area more; and the area that serves a key.
 use Rattle.xl_areas.proofs.Common.{◌&&◌, ◌*◌, ◌++◌, ◌+◌, ◌<◌, ◌==◌, ◌^◌, ◌∙◌, ◌∷◌, ◌≡◌, ◌≤◌, [], All, answer_at, ap, Area, arith, Bool, Bound, cond, cut_at, false, find, has_key, in_area, IsIndex, IsPlaced, key_at, length, length-append, length-map, List, map, nat_le, nat_lt, nat_tests, None, or_later, refl, Some, suc, sym, true, with_later, zero, ℕ}
 use Rattle.xl_areas.proofs.CutLemmas.{cut-answers, cut-bound, cut-keeps, cut-length, cut-rises}
 use Rattle.xl_areas.proofs.LaterLemmas.{later-answers, later-rises}

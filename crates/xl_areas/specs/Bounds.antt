@@ -1,4 +1,4 @@
--- An index of areas: keys in rising order, between which one area answers or none.
+-- An index of areas: keys in rising order, between which one area serves or none.
 use Rattle.std.specs.Prelude.{ℕ, suc, ◌≡◌, ◌+◌, ◌*◌, ◌^◌, ◌<◌, ◌≤◌, Bool, ◌&&◌, cond, nat_le, nat_lt, List, [], ◌∷◌, ⊤, length, find, Option, None, Some}
 use Rattle.std.specs.List.{All}
 use Rattle.xl_model.specs.declared.script.Area.{Area}

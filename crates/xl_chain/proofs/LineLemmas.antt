@@ -1,4 +1,4 @@
--- What the words tell of what is held.
+-- What the words say of what is held.
 use Rattle.xl_chain.proofs.Common.{◌*◌, ◌++◌, ◌+◌, ◌-◌, ◌<◌, ◌==◌, ◌∙◌, ◌∷◌, ◌≡◌, ◌≤◌, [], any-In, ap, Apart, append-nil, AreLines, AreSingle, arith, base_at, Bool, bucket_of, chain_in, ChainShape, cond, entry_of, false, filter, filter-append, find, find-In, find-only, find-passes, gather, has, Held, held_at, held_in, held_of, held_with, IfSome, In, In-any, in_bucket, inl, inr, is_entry, IsChain, IsOwn, IsTable, length, List, list_any, map, map-In, nat_tests, next_in, None, place_of_value, refl, run, Searched, slice_index, Some, subst, suc, sym, tag_in, true, value_in, value_of, values_in, WordsReadBack, zero, ℕ}
 use Rattle.xl_chain.proofs.FindLemmas.{search-held}
 use Rattle.xl_chain.proofs.FrontLemmas.{are-placed}

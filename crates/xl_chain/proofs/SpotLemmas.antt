@@ -1,4 +1,4 @@
--- Where the word stands that leads to a tag's entry.
+-- The place of the word that leads to a tag's entry.
 use Rattle.xl_chain.proofs.Common.{◌+◌, ◌<◌, ◌==◌, ◌∙◌, ◌∷◌, ◌≡◌, [], ap, arith, base_at, bucket_of, chain_in, ChainShape, cond, false, find, find-only, found_by, found_of, has, has_tag, Held, held_in, held_of, held_with, In, inl, inr, is_some, IsChain, IsTable, Leads, length, List, nat_tests, next_in, None, Option, place_from, refl, slice_index, Some, suc, sym, tag_in, tags_of, true, values_in, ℕ}
 use Rattle.xl_chain.proofs.FrontLemmas.{absent, chain-short, held-In}
 use Rattle.xl_chain.proofs.LineLemmas.{held-single}

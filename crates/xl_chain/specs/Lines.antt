@@ -1,4 +1,4 @@
--- What chains hold, as it stands in their words.
+-- What chains hold, by their words.
 use Rattle.std.specs.Prelude.{ℕ, ◌≡◌, ◌+◌, ◌*◌, ◌<◌, ◌==◌, List, length, map, filter, true, slice_index}
 use Rattle.std.specs.List.{list_any}
 use Rattle.xl_model.specs.Chains.{bucket_of}

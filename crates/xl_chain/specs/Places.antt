@@ -1,4 +1,4 @@
--- Where the word stands that leads to a tag's entry, and an index that tells it.
+-- The place of the word that leads to a tag's entry, and an index of these places.
 use Rattle.std.specs.Prelude.{ℕ, zero, suc, ◌≡◌, ◌+◌, ◌==◌, nat_lt, if◌then◌else◌, List, length, slice_index, Option, None, Some}
 use Rattle.xl_model.specs.Chains.{bucket_of}
 use Rattle.xl_chain.specs.declared.shape.ChainShape.{ChainShape}

@@ -1,4 +1,4 @@
--- What a command that is done takes from a curve, told without the mapping.
+-- What a command that is done removes from a curve, without the mapping.
 use Rattle.xl_model.specs.declared.address.Mode.{Mode}
 use Rattle.xl_model.specs.declared.event.Event.{Event}
 use Rattle.xl_model.specs.declared.event.Event.TheVariants as event

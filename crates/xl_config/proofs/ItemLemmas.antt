@@ -1,4 +1,4 @@
--- Toml's items and members beside the lists that they stand for.
+-- Toml's items and members beside their lists.
 use Rattle.xl_config.proofs.Common.{◌&&◌, ◌||◌, ◌∷◌, ◌≡◌, [], all_tables, ap, as_table, Bool, bytes_eq, count_items, Global, is_some, items_view, length, List, list_all, list_any, map, members_view, names_of, only_known, refl, row_of, String, string_bytes, suc, view, ℕ}
 use Rattle.std.specs.Map.{keys_of}
 use Rattle.toml.specs.declared.value.Value.{Value}

@@ -1,4 +1,4 @@
--- What serving leaves of the state and of the sink that is told.
+-- The state and the sink after serving.
 use Rattle.std.specs.Prelude.{◌≡◌, ℕ, Bool, true, false, List, ◌++◌, length, Option, Some, Result, Ok, Err, OnOk}
 use Rattle.xl_model.specs.Courses.{Accesses, Trail}
 use Rattle.xl_outside.specs.Sinks.{SinkMeaning, SinkAfter}

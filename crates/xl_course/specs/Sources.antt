@@ -1,4 +1,4 @@
--- What a source of records answers, by what is left of it.
+-- The result of a source of records, by what is left of it.
 use Rattle.std.specs.Prelude.{◌≡◌, ℕ, List, [], ◌∷◌, ◌++◌, length, map, Option, None, Some, Result, Ok, Err}
 use Rattle.xl_model.specs.declared.address.Kind.{Kind}
 use Rattle.xl_model.specs.Courses.{Accesses, Trail, at_end}

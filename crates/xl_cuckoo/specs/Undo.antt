@@ -1,4 +1,5 @@
--- Displacements undone: at each step back the entry in hand goes into the way before, and what stands there is in hand.
+-- Displacements undone: at each step back the entry in hand goes into the way before, and what was
+-- there is in hand.
 use Rattle.std.specs.Prelude.{ℕ, zero, suc, ◌+◌, ◌-◌, ◌%◌, List, [], ◌∷◌, ◌++◌, length, Option, None, Some}
 use Rattle.xl_model.specs.declared.way.Entry.{Entry}
 use Rattle.xl_model.specs.Ways.{occupant}

@@ -1,4 +1,4 @@
--- A row that is opened: nothing stands in its ways, no section is counted, and none is cached.
+-- A row that is opened: nothing is in its ways, no section is counted, and none is cached.
 use Rattle.xl_cuckoo_walk.proofs.Common.{◌%◌, ◌+◌, ◌/◌, ◌^◌, ◌∷◌, ◌≡◌, ◌≤◌, [], ap, AreCounts, AreHeld, arith, Count, count_of, CountState, CuckooState, CuckooWays, empty_cache, entries_in, find, get_or, has_key, In, inl, IsRow, IsTied, leaves_in, leaves_under, length, List, mapping_of, None, One, opening, opening_ways, Order, refl, row_state, RowParts, slice_index, subst, suc, sym, tags_in, tally, value_of, values_in, ways_at, ways_in, ways_of, WayShape, word_in, word_of as word_kept, word_list, zero, ℕ}
 use Rattle.xl_cuckoo.proofs.TableLemmas.{opening-entries, opening-length}
 use Rattle.xl_sections.specs.Counted.{word_of}

@@ -1,4 +1,4 @@
--- The purge of a few keys is the definition's purge of all sections that a change makes untrue.
+-- The purge of a few keys is the definition's purge of all sections that a change makes stale.
 use Rattle.xl_cuckoo_walk.proofs.Common.{◌%◌, ◌&&◌, ◌++◌, ◌+◌, ◌/◌, ◌<◌, ◌==◌, ◌^◌, ◌||◌, ◌∙◌, ◌∷◌, ◌≡◌, ◌⊎◌, [], ap, arith, Bool, Cached, Count, CuckooWays, Displaced, drop, false, has_changed, In, In-map, inl, inr, is_old, IsPlaced, IsSorted, IsTied, Item, key_told, keys_from, Leaf, List, map, nat_tests, new_word, None, not, Option, Order, purged, refl, refreshed, same_bit, same_section, same_way, Section, section-after, section_by, section_in, section_key, section_of, sections-same, sections_in, SectionsFresh, slice_get, Some, subst, suc, sym, true, way_by, ways_of, without_items, zero, ℕ}
 use Rattle.xl_cuckoo_walk.proofs.BitLemmas.{written-is}
 

@@ -1,4 +1,4 @@
--- A leaf that moves: it comes to its new place, and then goes from its old one.
+-- A leaf that moves: it is put at its new place, and then removed from its old one.
 use Rattle.xl_cuckoo_walk.proofs.Common.{◌%◌, ◌&&◌, ◌*◌, ◌++◌, ◌+◌, ◌/◌, ◌<◌, ◌^◌, ◌∙◌, ◌∷◌, ◌≡◌, ◌≤◌, [], ap, at_page, Bool, Cached, Change, changed, compared, covers, covers-meets, Cuckoo, CuckooRules, CuckooWays, Err, false, find, find-None, find-only, first-covered, frame-fits, has_room, HoldsLeaves, In, In-left, In-right, Insert, is_leaf, is_some, IsBlock, IsChange, IsEntered, IsFit, IsLeafFor, IsLeft, IsPage, IsRefused, IsRow, keys_from, keys_if, keys_moved, Leaf, leaf_at_page, leaf_entry, leaf_key, leaf_named, leaf_word, leaves_in, List, MadeWordsReadBack, map, meets_any, Moves, named-is, nat_le, None, Option, Order, page_key, plus, refl, Refused, Relocate, room_for, row_state, RowParts, rules_in, same_order, Section, section_count, sections_in, Some, stays-with, StaysBeside, subst, sym, table_of, TableState, true, ways_in, ways_of, ways_taken, with_both, with_leaf, with_new, with_ways, without_entry, without_leaf, without_old, ℕ}
 use Rattle.xl_model_lemmas.proofs.SortedLemmas.{with-without}
 use Rattle.xl_cuckoo_walk.proofs.ComparedLemmas.{compared-row, compared-twice, ComparedRow, WordsStay}

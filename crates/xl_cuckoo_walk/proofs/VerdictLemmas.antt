@@ -1,4 +1,4 @@
--- What a change of a row comes to by the definitions, by each verdict.
+-- The result of a change of a row by the definitions, by each verdict.
 use Rattle.xl_cuckoo_walk.proofs.Common.{◌&&◌, ◌-◌, ◌∙◌, ◌≡◌, after_by, answer_by, ap, AtCap, brought, Cached, caches_purged, Change, changed, Cuckoo, CuckooRules, CuckooWays, Displaced, Err, false, finds_place, has_changed, has_room, Insert, is_placed, IsChange, Leaf, leaf_entry, leaf_named, leaf_word, List, Made, map, Moves, moves_made, moves_of, narrowed, nat_le, no_moves, None, NoPlace, NoSpace, Ok, old_leaf, Option, Order, Perm, Placed, placed_leaf, Protect, refl, Refused, Remove, Result, room_for, Section, section_count, SectionCaches, Shape, shape_after, Some, subst, sym, table_after, table_answer, table_made, TableState, true, Verdict, verdict, verdict_by, ways_of, ways_placed, ways_taken, WayShape, widened, with_both, with_leaf, with_new, with_perm, with_ways, with_word, without_entry, without_items, without_leaf, without_old, Work, work_of, ℕ}
 use Rattle.xl_model.specs.Caches.{entries_in}
 use Rattle.xl_model.specs.declared.address.Order.TheVariants as order

@@ -130,7 +130,7 @@ accessed_curve stacks counts lookups leaf inside bounded =
     (point_at (with_front (set_of (length stacks) leaf) leaf stacks) (counted (distance (same_leaf leaf) (get_or stacks (set_of (length stacks) leaf) [])) counts))
     1 64 (λ w l m. accessed_point stacks counts leaf w (omega arith) inside bounded)))
 
--- The same, by what each step tells.
+-- The same, by the result of each step.
 pub accessed_by : (stacks new : List (List (Option Leaf))) (counts more : List ℕ) (lookups set : ℕ) (leaf : Leaf) (o : Option ℕ)
     → set ≡ set_of (length stacks) leaf → set < length stacks → new ≡ with_front set leaf stacks
     → o ≡ distance (same_leaf leaf) (get_or stacks set []) → IfSome o (λ d. d < length counts) → more ≡ counted o counts
@@ -166,7 +166,7 @@ lists_purged q w (s ∷ stacks) =
     ap (λ (xs : List Leaf). xs ∷ map (purged q) (map (held w) stacks)) (sym (purged_held q w s))
     ∙ ap (λ (xs : List (List Leaf)). held w (map (place_without q) s) ∷ xs) (lists_purged q w stacks)
 
--- The leaves that meet a test leave holes in each list of places.
+-- The leaves that pass a test leave holes in each list of places.
 pub purged_curve : (stacks new : List (List (Option Leaf))) (counts : List ℕ) (lookups : ℕ) (q : Leaf → Bool) → new ≡ map (map (place_without q)) stacks
     → curve_of new counts lookups ≡ curve_without q (curve_of stacks counts lookups)
 unfolding curve_of curve_without

@@ -33,7 +33,7 @@ read ps at d l = get_or-map place_of ps at d None l
 
 -- ---- a place is vacated
 
--- What stands in the place is kept by a search for another item.
+-- What is in the place is kept by a search for another item.
 abbrev pub is_other : {A : Type 0} → (A → Bool) → Option A → Bool
 is_other q None = true
 is_other q (Some x) = not (q x)
@@ -239,7 +239,7 @@ module _ {A : Type 0} (x : A) (xs ys : List A) (n : ℕ) (same : length xs ≡ n
   pub front_dropped : drop (n + 1) (x ∷ xs ++ ys) ≡ ys
   front_dropped = let e : n + 1 ≡ suc n = omega arith in ap (λ (k : ℕ). drop k (x ∷ xs ++ ys)) e ∙ ap (λ (k : ℕ). drop k (xs ++ ys)) (sym same) ∙ drop-append_seam xs ys
 
--- The first place that is a hole is filled, and behind it the leaf leaves a hole.
+-- The first place that is a hole is filled, and after it the leaf leaves a hole.
 pub hole_filled : (q : Leaf → Bool) (leaf : Leaf) (old front new : List (Option Leaf)) (at : ℕ)
     → gap q old ≡ Some at → get_or old at None ≡ None
     → front ≡ Some leaf ∷ take at old ++ drop (suc at) old
@@ -326,7 +326,7 @@ module _ (marks : List ℕ) (places : List Place) (are : AreMarks marks places) 
       ∙ ap (λ (ms : List ℕ). map mark_of (take at places) ++ ms) (drop-map mark_of (suc at) places)
       ∙ sym (map-append mark_of (take at places) (drop (suc at) places)))
 
--- ---- what meets a test leaves a hole
+-- ---- what passes a test leaves a hole
 
 -- one place more is purged
 pub purged_more : (f : Option Leaf → Option Leaf) (ps ls : List Place) (at : ℕ) (p d : Place) → at < length ls → length ls ≡ length ps

@@ -25,7 +25,7 @@ solid leaf p fit t =
     let n : p.tag < 18446744073709551615 = omega (arith, fit.page_in, fit.space_in) in
     grind (arith, nat_tests)
 
--- one number tells space, first page and order
+-- one number has space, first page and order
 pub same_tag : (a b : ℕ) → (b == a) ≡ ((b / 3 % 64 == a / 3 % 64) && ((b / 3 / 64 == a / 3 / 64) && (b % 3 == a % 3)))
 same_tag a b = both _ _ (λ t. grind (arith, nat_tests)) (λ t. grind (arith, nat_tests))
 

@@ -95,7 +95,7 @@ front_kept stacks new k leaf q kept l e aligned is =
     (all_taken (is_placed (length stacks) k) 64 (shifted q leaf (get_or stacks k []))
     (all_shifted (is_placed (length stacks) k) refl q leaf (get_or stacks k []) (own_set (length stacks) k leaf e aligned) (kept.placed k))))
 
--- The leaves that meet a test are removed.
+-- The leaves that pass a test are removed.
 pub removed_kept : (stacks new : List (List (Option Leaf))) (q : Leaf → Bool) → IsCurve stacks → new ≡ removed q stacks → IsCurve new
 removed_kept stacks new q kept is = rw is (record {
   some = rw (length-map stacks (map (place_without q))) kept.some;
@@ -133,7 +133,8 @@ one_there {A} f d (x ∷ xs) zero h = ap (λ (zs : List A). f x ∷ zs) (none_th
 one_there {A} f d (x ∷ xs) (suc k) h =
     rw (h zero (λ e. absurd (omega arith))) (ap (λ (zs : List A). x ∷ zs) (one_there f d xs k (λ j n. h (suc j) (λ e. n (omega arith)))))
 
--- Where all leaves that meet a test have one set, a removal that looks at that set removes them from all.
+-- Where all leaves that pass a test have one set, a removal that looks at that set removes them
+-- from all.
 removed_there : (stacks new : List (List (Option Leaf))) (k : ℕ) (q : Leaf → Bool) → IsCurve stacks
     → ((x : Leaf) → x.first % pages_of x.order ≡ 0 → q x ≡ true → set_of (length stacks) x ≡ k)
     → new ≡ with_removed q k stacks → new ≡ removed q stacks
@@ -185,7 +186,7 @@ pub anywhere_removed : (stacks new : List (List (Option Leaf))) (k page : ℕ) (
 anywhere_removed stacks new k page o kept e is =
     removed_there stacks new k (λ x. covers_as x.space page o x) kept (λ x aligned t. covering_set (length stacks) k x.space page o x e aligned t) is
 
--- Nothing is removed from a set where no leaf meets the test.
+-- Nothing is removed from a set where no leaf passes the test.
 pub none_removed : (stacks : List (List (Option Leaf))) (k : ℕ) (d : List (Option Leaf)) (q : Leaf → Bool) → k < length stacks
     → map (place_without q) (get_or stacks k d) ≡ get_or stacks k d → IsRemovedIn q k stacks stacks
 none_removed stacks k d q l same =

@@ -69,14 +69,15 @@ held (suc n) [] = []
 held (suc n) (None ∷ places) = held n places
 held (suc n) (Some x ∷ places) = x ∷ held n places
 
--- The first item that meets the test leaves a hole.
+-- The first item that passes the test leaves a hole.
 abbrev pub vacated : {A : Type 0} → (A → Bool) → List (Option A) → List (Option A)
 vacated q [] = []
 vacated q (None ∷ places) = None ∷ vacated q places
 vacated q (Some x ∷ places) = if q x then (None ∷ places) else (Some x ∷ vacated q places)
 
--- An item comes to the front. Each item gives way to the one before it, as far as the first that meets the test, which
--- goes, or as far as the first hole, which is filled; then the item that meets the test leaves a hole further behind.
+-- An item moves to the front. Each item gives way to the one before it, as far as the first that
+-- passes the test, which is removed, or as far as the first hole, which is filled; then the item
+-- that passes the test leaves a hole further back.
 abbrev pub shifted : {A : Type 0} → (A → Bool) → A → List (Option A) → List (Option A)
 shifted q x [] = Some x ∷ []
 shifted q x (None ∷ places) = Some x ∷ vacated q places
@@ -87,7 +88,7 @@ abbrev pub further : ℕ → Option ℕ → Option ℕ
 further n None = None
 further n (Some d) = Some (n + d)
 
--- A place gives way to an item that comes to the front: it has an item, and that fails the test.
+-- A place gives way to an item that moves to the front: it has an item, and that fails the test.
 abbrev pub gives_way : {A : Type 0} → (A → Bool) → Option A → Bool
 gives_way q None = false
 gives_way q (Some x) = not (q x)
@@ -98,7 +99,8 @@ gap q [] = None
 gap q (None ∷ places) = Some 0
 gap q (Some x ∷ places) = if q x then Some 0 else further 1 (gap q places)
 
--- The stack distance of an item: the number of places in front of the first one whose item meets the test.
+-- The stack distance of an item: the number of places in front of the first one whose item passes
+-- the test.
 abbrev pub distance : {A : Type 0} → (A → Bool) → List (Option A) → Option ℕ
 distance q [] = None
 distance q (None ∷ places) = further 1 (distance q places)
@@ -117,7 +119,7 @@ abbrev pub hole_where : {A : Type 0} → Bool → A → Option A
 hole_where true x = None
 hole_where false x = Some x
 
--- A place without an item that meets the test.
+-- A place without an item that passes the test.
 abbrev pub place_without : {A : Type 0} → (A → Bool) → Option A → Option A
 place_without q None = None
 place_without q (Some x) = hole_where (q x) x

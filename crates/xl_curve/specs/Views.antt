@@ -36,15 +36,15 @@ set_of sets leaf = leaf.first / pages_of leaf.order % sets
 abbrev pub with_front : ℕ → Leaf → List (List (Option Leaf)) → List (List (Option Leaf))
 with_front set leaf stacks = slice_set stacks set (take 64 (shifted (same_leaf leaf) leaf (slice_index_or stacks set [])))
 
--- The leaves of one set that meet a test leave holes, and the other sets stay.
+-- The leaves of one set that pass a test leave holes, and the other sets stay.
 abbrev pub with_removed : (Leaf → Bool) → ℕ → List (List (Option Leaf)) → List (List (Option Leaf))
 with_removed q set stacks = slice_set stacks set (map (place_without q) (slice_index_or stacks set []))
 
--- Some lists are those, with the leaves of one set removed that meet a test.
+-- Some lists are those, with the leaves of one set removed that pass a test.
 pub record IsRemovedIn (q : Leaf → Bool) (set : ℕ) (old new : List (List (Option Leaf))) : Type 0 where
   pub is : new ≡ with_removed q set old
 
--- The leaves that meet a test leave holes in every set.
+-- The leaves that pass a test leave holes in every set.
 abbrev pub removed : (Leaf → Bool) → List (List (Option Leaf)) → List (List (Option Leaf))
 removed q stacks = map (map (place_without q)) stacks
 

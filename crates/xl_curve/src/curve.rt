@@ -21,7 +21,7 @@ use xl_model::{Leaf, NoMemory};
 #[derive(Drop)]
 pub struct Curve {
     pub(crate) stacks: Vec<Stack>,
-    /// How often each stack distance was met.
+    /// How many accesses had each stack distance.
     counts: [u64; WIDEST],
     lookups: u64,
 }
@@ -116,7 +116,7 @@ impl Curve {
         self.lookups = self.lookups.wrapping_add(1);
     }
 
-    /// Removes the leaves that meet the test from every array.
+    /// Removes the leaves that pass the test from every array.
     pub fn drop_where<P: Fn(&Leaf) -> bool>(&mut self, test: P)
         requires { P.IsAlwaysCallable test }
         ensures { (q : _) → IsTest (FnReturnsAt P.Fn test) q → self.new ≡ curve_without q self.old }

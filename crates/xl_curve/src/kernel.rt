@@ -35,7 +35,7 @@ fn first_marked(marks: &[u8; WIDEST], mark: u8) -> u8
     first
 }
 
-/// Whether no place has the leaf of a name, where that is soon told: neither its mark nor a hole's is there.
+/// Whether no place has the leaf of a name, by marks alone: neither its mark nor a hole's is there.
 #[inline(always)]
 pub(crate) fn lacks(marks: &[u8; WIDEST], _places: &[Place; WIDEST], named: Place) -> bool
     requires { AreMarks marks.now _places.now }
@@ -62,7 +62,8 @@ fn gap_behind(places: &[Place; WIDEST], from: usize, leaf: Place) -> Option<usiz
     None
 }
 
-/// The first place that is a hole or has the leaf. Marks tell most of the places in front of it apart.
+/// The first place that is a hole or has the leaf. Marks rule out most of the places in front of
+/// it.
 #[inline(always)]
 fn first_gap(marks: &[u8; WIDEST], places: &[Place; WIDEST], leaf: Place) -> Option<usize>
     requires solid { is_vacant leaf ≡ false }
@@ -74,7 +75,7 @@ fn first_gap(marks: &[u8; WIDEST], places: &[Place; WIDEST], leaf: Place) -> Opt
     gap_behind(places, from as usize, leaf)
 }
 
-/// Makes a hole of the place of a leaf, if it is at `from` or behind. Gives where it was.
+/// Makes a hole of the place of a leaf, if it is at `from` or after it. Returns where it was.
 fn vacate(
     marks: &mut [u8; WIDEST],
     places: &mut [Place; WIDEST],
@@ -172,7 +173,7 @@ pub(crate) fn bring_in_front(
     }
 }
 
-/// The place without its leaf, where that meets the test.
+/// The place without its leaf, where that passes the test.
 fn without<P: Fn(&Leaf) -> bool>(place: Place, test: &P) -> Place
     requires { P.IsAlwaysCallable test.now }
     ensures without { (q : _) → IsTest (FnReturnsAt P.Fn test.now) q →
@@ -188,7 +189,7 @@ fn without<P: Fn(&Leaf) -> bool>(place: Place, test: &P) -> Place
     place
 }
 
-/// Makes a hole of each place whose leaf meets the test.
+/// Makes a hole of each place whose leaf passes the test.
 pub(crate) fn vacate_where<P: Fn(&Leaf) -> bool>(
     marks: &mut [u8; WIDEST],
     places: &mut [Place; WIDEST],

@@ -98,8 +98,9 @@ impl Place {
         self.tag == u64::MAX
     }
 
-    /// The mark of the place, a byte that tells most leaves apart, so that many places are looked at together. By
-    /// a prime the marks of neighbouring pages differ, also where they are every so many pages.
+    /// The mark of the place, a byte in which most leaves differ, so that many places are looked at
+    /// together. By a prime the marks of neighbouring pages differ, also of pages at regular
+    /// distances.
     #[inline(always)]
     pub fn mark(self) -> u8
         ensures { result ≡ mark_of self }
@@ -133,7 +134,8 @@ impl Place {
         other.tag == self.tag && are_same_words(self.word, other.word)
     }
 
-    /// Whether the place gives way to a leaf that comes to the front: it is no hole, and has another leaf.
+    /// Whether the place gives way to a leaf that moves to the front: it is no hole, and has
+    /// another leaf.
     #[inline(always)]
     pub fn gives_way(self, leaf: Place) -> bool
         ensures { result ≡ gives_way_to (same_leaf (leaf_kept leaf)) (place_of self) }

@@ -42,7 +42,7 @@ pub(crate) fn access_in(stacks: &mut [Stack], set: usize, leaf: Place) -> Option
     stack.access(leaf)
 }
 
-/// Removes the leaves of one set that meet the test.
+/// Removes the leaves of one set that pass the test.
 pub(crate) fn remove_in<P: Fn(&Leaf) -> bool>(stacks: &mut [Stack], set: usize, test: P)
     requires set { set < length stacks.old }
     requires test { P.IsAlwaysCallable test }
@@ -53,7 +53,7 @@ pub(crate) fn remove_in<P: Fn(&Leaf) -> bool>(stacks: &mut [Stack], set: usize, 
     stack.remove_where(&test);
 }
 
-/// Removes the leaves of every set that meet the test.
+/// Removes the leaves of every set that pass the test.
 pub(crate) fn remove_from_each<P: Fn(&Leaf) -> bool>(stacks: &mut [Stack], test: &P)
     requires { P.IsAlwaysCallable test.now }
     ensures removed { (q : _) → IsTest (FnReturnsAt P.Fn test.now) q →

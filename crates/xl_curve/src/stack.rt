@@ -56,7 +56,7 @@ impl Stack {
         bring_in_front(&mut self.marks, &mut self.places, leaf)
     }
 
-    /// Whether no place has the leaf of this space, first page and order, as its mark soon tells.
+    /// Whether no place has the leaf of this space, first page and order, by marks alone.
     #[inline(always)]
     pub fn lacks(&self, space: u16, first: u64, order: Order) -> bool
         ensures { result ≡ true → map (place_without (is_leaf space first order)) self.now ≡ self.now }
@@ -67,7 +67,7 @@ impl Stack {
         }
     }
 
-    /// Removes the leaves that meet the test. They leave holes.
+    /// Removes the leaves that pass the test. They leave holes.
     pub fn remove_where<P: Fn(&Leaf) -> bool>(&mut self, test: &P)
         requires { P.IsAlwaysCallable test.now }
         ensures removed { (q : _) → IsTest (FnReturnsAt P.Fn test.now) q →

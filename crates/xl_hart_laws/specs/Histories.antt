@@ -1,4 +1,4 @@
--- What requests tell of the mapping, and of the frames that leaves hold.
+-- What requests say of the mapping, and of the frames that leaves hold.
 use Rattle.std.specs.Prelude.{ℕ, ◌≡◌, ◌+◌, true, List, [], ◌∷◌, Some}
 use Rattle.xl_hart_model.specs.declared.hart.Request.{Request}
 use Rattle.xl_model.specs.declared.leaf.Leaf.{Leaf}

@@ -1,5 +1,5 @@
--- Requests of remote fences (TLB shootdowns): each tells what a command did to the mapping, so that it can be undone.
--- Lists of requests stand newest first.
+-- Requests of remote fences (TLB shootdowns): each says what a command did to the mapping, so that
+-- it can be undone. Lists of requests are newest first.
 use Rattle.std.specs.Prelude.{ℕ, zero, suc, List, [], ◌∷◌, Option, None, Some}
 use Rattle.xl_hart_model.specs.declared.hart.Request.{Request}
 use Rattle.xl_model.specs.declared.leaf.Leaf.{Leaf}

@@ -1,4 +1,4 @@
--- Events of harts, and what they come to, by another program.
+-- Events of harts, and the counts after them, by another program.
 use Rattle.std.specs.Prelude.{true, false, List, [], ◌∷◌, map}
 use Rattle.std.proofs.Common.{refl}
 use Rattle.xl_model.specs.declared.address.Kind.TheVariants as kind

@@ -1,4 +1,4 @@
--- The events of a command, and what an access is answered.
+-- The events of a command, and the outcome of an access.
 use Rattle.xl_harting.proofs.Common.{◌∷◌, ◌≡◌, [], access_of, accesses_after, after_hart_event, current_hart, events_of, hart_change, hart_outcome, hart_refusal, hart_reply, hart_rule, HartCommand, harts_form, HartsState, List, refl, Reply, ℕ}
 use Rattle.xl_hart_model.specs.declared.hart.HartEvent.{HartEvent}
 use Rattle.xl_harts.specs.Events.{accesses_served}

@@ -1,4 +1,5 @@
--- Harts as a form of the program: the items of its commands, what they do and tell, and what a run is to write.
+-- Harts as a form of the program: the items of its commands, what they do, their lines, and what a
+-- run is to write.
 use Rattle.std.specs.Prelude.{ℕ, ◌+◌, List, [], ◌∷◌, ◌++◌, map, Option, Some}
 use Rattle.xl_model.specs.declared.address.Kind.{Kind}
 use Rattle.xl_model.specs.declared.event.Event.{Event}

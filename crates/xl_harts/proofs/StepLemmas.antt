@@ -94,7 +94,7 @@ pub access-done : (s : HartsState) (va : ℕ) (kind : Kind) → outcome.Replied 
 unfolding hart_outcome hart_refusal hart_rule rule hart_change change_of
 access-done s va kind = refl
 
--- an element of a list, whatever stands behind its end
+-- an element of a list, whatever is after its end
 pub same-place : {A : Type 0} (xs : List A) (i : ℕ) (d e : A) → i < length xs → get_or xs i d ≡ get_or xs i e
 same-place [] i d e h = absurd (omega arith)
 same-place (x ∷ xs) zero d e h = refl
@@ -114,7 +114,7 @@ written len items now new e l n =
     let c : len ≡ length items = sym l ∙ ap (λ (hs : List Hart). length hs) e in
     rw (a, c) (whole (map hart_asked items) items b)
 
--- frames that are held back, and requests that wait
+-- frames that are held back, and requests in queues
 frames-held : (before after : Option Leaf) (xs : List Leaf) → frames_in (with_held before after xs) ≡ frames_in (with_held before after []) + frames_in xs
 frames-held (Some x) None xs = omega arith
 frames-held (Some x) (Some y) xs = omega arith

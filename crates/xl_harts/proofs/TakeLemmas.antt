@@ -11,7 +11,7 @@ pub take-hart : (s : HartsState) (n : ℕ) → hart_refusal s (step.Take n) ≡ 
 unfolding hart_refusal
 take-hart s n ruled = let t : nat_lt n (length s.harts) ≡ true = refused-true _ _ (first-none _ _ ruled) in grind (arith, nat_tests)
 
--- the leaf before a request stood in a mapping
+-- the leaf before a request was in a mapping
 pub before-valid : (s : HartsState) → IsKept s → (i : ℕ) → i < length s.requests → (x : Leaf) → (get_or s.requests i nothing).before ≡ Some x → IsLeafOf (shared_row s.spec) x
 before-valid s kept i below x e =
     let r : Request = get_or s.requests i nothing in
@@ -42,7 +42,7 @@ module _ (s : HartsState) (kept : IsKept s) (n : ℕ) (x : Hart) (less : (hart_a
   pub few : longest (set s.harts n x) ≤ length s.requests
   few = let a = longest-set (opening_hart s.spec) x s.harts n no_more in let b = kept.longest_is in omega arith
 
--- the pool after a request is let go
+-- the pool after a request is dropped
 given : (frames : ℕ) (before after : Option Leaf) (leaves rest all : List Leaf) (pool : List Bool) → ((f : ℕ) → owners f all ≡ owners f (with_held before after []) + owners f rest)
     → ((f : ℕ) → owners f all ≤ 1) → LeafFits before pool → length pool ≡ frames → IsPoolOf frames all pool → IsPoolOf frames rest (given_back before after pool)
 given frames (Some x) None leaves rest all pool count alone fits size tie =

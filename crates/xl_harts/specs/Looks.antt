@@ -13,7 +13,8 @@ use Rattle.xl_model.specs.Tally.{IsSmall}
 use Rattle.xl_model.specs.Tlb.{array_hit}
 use Rattle.xl_tlb.specs.Answers.{IsPageWord}
 
--- The array holds a leaf that covers the page, which comes to the front; the word says the page's frame in it.
+-- The array holds a leaf that covers the page, which moves to the front; the word says the page's
+-- frame in it.
 pub record IsSeen (page word : ℕ) (old new : Hart) : Type 0 where
   pub leaf : Leaf
   pub found : array_hit old.array old.space page ≡ Some leaf
@@ -29,7 +30,8 @@ pub record IsUnseen (page : ℕ) (old new : Hart) : Type 0 where
 abbrev pub hart_filled : Option Leaf → ℕ → Hart → Hart
 hart_filled found loads h = record h { array = array_walked found h.array; counts = count_miss loads h.counts }
 
--- A leaf that a page was found in: it doesn't begin behind the page, and the frame of the page is small.
+-- A leaf that a page was found in: its first page is at or below the page, and the frame of the
+-- page is small.
 pub record IsReached (page : ℕ) (leaf : Leaf) : Type 0 where
   pub from : leaf.first ≤ page
   pub small : leaf.frame + (page - leaf.first) < 2 ^ 52

@@ -11,7 +11,7 @@ given_back (Some leaf) None pool = marked pool leaf.frame (pages_of leaf.order) 
 given_back (Some leaf) (Some after) pool = pool
 given_back None after pool = pool
 
--- The pool after a request is let go.
+-- The pool after a request is dropped.
 abbrev pub pool_after : Request → List Bool → List Bool
 pool_after r pool = given_back r.before r.after pool
 
@@ -24,7 +24,7 @@ LeafFits (Some leaf) pool = leaf.frame + pages_of leaf.order ≤ length pool
 abbrev pub Fits : Request → List Bool → Type 0
 Fits r pool = LeafFits r.before pool
 
--- A request that tells nothing.
+-- A request without a leaf.
 abbrev pub nothing : Request
 nothing = record { before = None; after = None }
 
@@ -37,11 +37,11 @@ pub record IsSettling (longest : ℕ) (requests : List Request) (pool : List Boo
   pub near : length requests ≤ longest + 1
   pub fits : Fits (last_of requests) pool
 
--- The pool after the oldest request is let go, if it is.
+-- The pool after the oldest request is dropped, if it is.
 abbrev pub settled_by : Bool → List Request → List Bool → List Bool
 settled_by true requests pool = pool_after (last_of requests) pool
 settled_by false requests pool = pool
 
--- The pool after the oldest request is let go, where no queue has it any more.
+-- The pool after the oldest request is dropped, where no queue has it any more.
 abbrev pub settled : ℕ → List Request → List Bool → List Bool
 settled longest requests pool = settled_by (nat_lt longest (length requests)) requests pool

@@ -37,8 +37,8 @@ pub record IsHarts (s : HartsState) (capacity : ℕ) (pool : List Bool) : Type 0
   pub pool_is : IsPoolOf s.spec.frames (kept_leaves s) pool
   pub room : capacity ≡ s.spec.queue
 
--- A hart may be served by a table: its space is one of the table's, the table holds a mapping, and each leaf of the
--- hart's array is one that stood in a mapping.
+-- A hart may be served by a table: its space is one of the table's, the table holds a mapping, and
+-- each leaf of the hart's array is one that was in a mapping.
 pub record IsServed (spec : HartSpec) (table : TableState) (h : Hart) : Type 0 where
   pub spec_is : IsHartSpec spec
   pub table_is : IsTable spec table.shape

@@ -84,9 +84,9 @@ fn serve(table: &mut RadixRow<3>, hart: &mut Hart, va: u64, kind: Kind) -> Reply
     }
 }
 
-/// Serves accesses of a hart, one after another, and gives the reply to the last one; `Unmapped`
-/// where there is none. All accesses are served by this one call: so the look, which is long, stands
-/// in line.
+/// Serves accesses of a hart, one after another, and returns the reply to the last one; `Unmapped`
+/// where there is none. All accesses are served by this one call, so that the look, which is long,
+/// is inlined.
 #[inline(never)]
 fn serve_each(table: &mut RadixRow<3>, hart: &mut Hart, accesses: &[Access]) -> Reply
     requires { (s : HartsState) × IsCurrent s (row_table 3 table.old) hart.old }

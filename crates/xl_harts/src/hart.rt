@@ -14,7 +14,7 @@ use xl_hart_model::{HartCounts, HartSpec, Request};
 use xl_model::{Leaf, NoMemory, Order, Reply, Serves, TlbSpec};
 use xl_tlb::{Array, Hit, page_word};
 
-/// A hart: its current space, its TLB array, how many requests stand in its queue, and its counts.
+/// A hart: its current space, its TLB array, how many requests are in its queue, and its counts.
 #[derive(Drop)]
 pub(crate) struct Hart {
     space: u16,
@@ -91,7 +91,7 @@ impl Hart {
         self.space
     }
 
-    /// How many requests stand in the queue.
+    /// How many requests are in the queue.
     pub fn waiting(&self) -> usize
         ensures { result ≡ self.now.waiting }
     {
@@ -118,7 +118,7 @@ impl Hart {
         Some(page_word(page, hit))
     }
 
-    /// Fills the array with the leaf of 4 KiB with this word, which a walk of so many loads found.
+    /// Fills the array with the leaf of 4 KiB with this word, which a walk of `loads` loads found.
     pub fn fill_small(&mut self, page: u64, word: u64, loads: u64)
         requires space { self.old.space < 64 }
         requires page { page < 2 ^ 52 }
@@ -130,7 +130,7 @@ impl Hart {
         self.counts.miss(loads);
     }
 
-    /// Fills the array with what a walk of so many loads found.
+    /// Fills the array with what a walk of `loads` loads found.
     pub fn fill(&mut self, found: Option<Leaf>, loads: u64)
         requires { IfSome found IsFit }
         ensures { self.new ≡ hart_filled found loads self.old }

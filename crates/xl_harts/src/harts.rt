@@ -1,4 +1,4 @@
-//! Harts, and what they tell.
+//! Harts, and their accessors.
 
 ghost use Rattle.std.specs.Prelude.{◌≡◌, ◌<◌, ◌≤◌, ◌*◌, ◌^◌, [], replicate, length, IfOk};
 ghost use Rattle.xl_hart_laws.specs.Kept.{IsHartSpec};
@@ -15,8 +15,8 @@ use xl_hart_model::{AllCounts, HartCounts, HartSpec, Request};
 use xl_model::NoMemory;
 use xl_radix_walk::RadixRow;
 
-/// Harts over one table. The requests that some hart has still to take stand in one ring, newest first,
-/// for a request comes into every queue at once. Contracts see the state of the definitions.
+/// Harts over one table. The requests that some hart has still to take are in one ring, newest
+/// first, for a request enters every queue at once. Contracts see the state of the definitions.
 #[derive(Drop)]
 pub struct Harts {
     pub(crate) spec: HartSpec,
@@ -59,7 +59,7 @@ fn open_harts(alloc: Global, spec: &HartSpec) -> Result<Vec<Hart>, NoMemory>
     Ok(harts)
 }
 
-/// How many requests stand in all queues.
+/// How many requests are in all queues.
 fn waiting(harts: &[Hart]) -> u64
     requires { waiting_in harts.now < 2 ^ 64 }
     ensures { result ≡ waiting_in harts.now }

@@ -1,5 +1,5 @@
-//! The requests that some hart has still to take. A request comes into every queue at once; so one list
-//! of them serves all harts, and a queue is so many of the newest.
+//! The requests that some hart has still to take. A request enters every queue at once; so one list
+//! of them serves all harts, and a queue is the newest of it.
 
 ghost use Rattle.std.specs.Prelude.{◌≡◌, ◌<◌, ◌∷◌, map, length};
 ghost use Rattle.circular_buffer.specs.Buffer.{buffer};

@@ -78,11 +78,11 @@ fn is_named(leaf: Leaf, space: u16, first: u64, order: Order) -> bool
 }
 
 impl Harts {
-    /// The leaf that covers the page of an address, where it is the one that is named.
+    /// The leaf that covers the page of an address, where it is the leaf that the command names.
     ///
     /// # Errors
     ///
-    /// `Unmapped` where no leaf covers the page, `WrongSize` where another one does.
+    /// `Unmapped` where no leaf covers the page, `WrongSize` where a leaf of another order does.
     fn leaf_named(&self, space: u16, va: u64, order: Order) -> Result<Leaf, Refusal>
         requires { space < self.now.spec.spaces }
         ensures refused { IfErr result (λ r. there_rule (shared_row self.now.spec)
@@ -99,7 +99,7 @@ impl Harts {
         }
     }
 
-    /// The refusal of a block that a leaf meets.
+    /// The refusal of a block that overlaps a leaf.
     fn overlap_refusal(&self, space: u16, va: u64, order: Order) -> Option<Refusal>
         requires space { space < self.now.spec.spaces }
         requires aligned { is_aligned order va ≡ true }
@@ -174,7 +174,7 @@ impl Harts {
         Ok(leaf)
     }
 
-    /// Whether the table has room for a leaf at the block, which no leaf meets.
+    /// Whether the table has room for a leaf at the block, which overlaps no leaf.
     fn has_room(&self, space: u16, va: u64, order: Order) -> bool
         requires space { space < self.now.spec.spaces }
         requires aligned { is_aligned order va ≡ true }
@@ -214,7 +214,7 @@ impl Harts {
     ) -> Option<HartRefusal>
         ensures { result ≡ refusal_of (event.Map space va order perm) self.now }
     {
-        // A look at a field brings in what the type keeps.
+        // Reading a field brings in the type's invariant.
         let _spec = &self.spec;
         if let Some(refusal) = self.map_rule(space, va, order, perm) {
             return Some(HartRefusal::Mapping(refusal));
@@ -243,7 +243,7 @@ impl Harts {
         ensures protect { (perm : PermBits) → refusal_of (event.Protect space va order perm)
             self.now ≡ refusal_of (event.Unmap space va order) self.now }
     {
-        // A look at a field brings in what the type keeps.
+        // Reading a field brings in the type's invariant.
         let _spec = &self.spec;
         match self.leaf_to_change(space, va, order) {
             Ok(leaf) => match self.queue_refusal() {

@@ -15,10 +15,10 @@ use xl_hart_model::{HartEvent, HartOutcome, HartRefusal};
 use xl_model::{Event, Order, Perm};
 
 impl Harts {
-    /// Serves an event: an access is replied to, a command is done, or refused for the first reason
-    /// that holds. Before it and after it harts are coherent: each reply to one is of a mapping that its
-    /// queue leads back to, no map takes a frame that an array reaches, and each frame answered is in the
-    /// mapping or held back. A frame that is answered is below 2^52.
+    /// Serves an event: an access has a reply, a command is done, or refused for the first reason
+    /// that holds. Before it and after it harts are coherent: each reply to one is of a mapping
+    /// that its queue leads back to, no map takes a frame that an array reaches, and the frame of
+    /// each reply is in the mapping or held back. A frame in a reply is below 2^52.
     #[inline(always)]
     pub fn step(&mut self, event: HartEvent) -> HartOutcome
         requires { IsServable event }
@@ -40,7 +40,7 @@ impl Harts {
         ensures coherent { IsCoherent self.now }
         ensures small { HasSmallReplies self.now }
     {
-        // A look at a field brings in what the type keeps.
+        // Reading a field brings in the type's invariant.
         let _requests = &self.requests;
     }
 

@@ -1,4 +1,4 @@
--- Where the accesses of a reference stand in their list.
+-- Where the accesses of a reference are in their list.
 use Rattle.xl_lackey.proofs.Common.{◌*◌, ◌++◌, ◌+◌, ◌/◌, ◌<◌, ◌∙◌, ◌∷◌, ◌≡◌, ◌≤◌, [], ap, arith, borders, each, Kind, length, List, None, places, refl, slice_get, Some, starts, suc, sym, zero, ℕ}
 
 get-starts : (kind : Kind) (n page i : ℕ) → i < n → slice_get (each kind (starts n page)) i ≡ Some ((page + i) * 4096, kind)

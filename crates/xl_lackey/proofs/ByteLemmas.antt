@@ -1,4 +1,4 @@
--- Bytes that are told apart.
+-- Bytes that differ.
 use Rattle.xl_lackey.proofs.Common.{◌==◌, ◌∙◌, ◌≡◌, ap, eqb_tells, false, inl, inr, sym, ℕ}
 
 -- a byte that a function takes elsewhere is another byte

@@ -1,4 +1,4 @@
--- A line that no newline ends yet, and how much of it tells what it is.
+-- A line that no newline ends yet, and how much of it decides what it is.
 use Rattle.xl_lackey.proofs.Common.{if◌then◌else◌, ◌++◌, ◌-◌, ◌<◌, ◌==◌, ◌∙◌, ◌∷◌, ◌≡◌, [], after, ap, arith, Bad, Bool, cases_lt, ended_lines, false, in_first, in_front, inl, inr, is_blank, is_remark, judge, length, length-append, length-take-le, lines_by, lines_of, List, nat_lt, nat_tests, next_line, None, of_text, of_words, Option, option_map, parted, records, refl, Skipped, slice_index, Some, suc, sym, take, take_all, true, Verdict, with_verdict, zero, ℕ}
 
 -- a line without a newline, at the front of other lines

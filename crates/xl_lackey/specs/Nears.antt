@@ -1,4 +1,4 @@
--- What stands behind the letter of a line in Lackey's own form.
+-- What is after the letter of a line in Lackey's own form.
 use Rattle.std.specs.Prelude.{ℕ, ◌+◌, ◌<◌, ◌≤◌, List, ◌++◌}
 use Rattle.xl_lackey.specs.declared.reference.Letter.{Letter}
 use Rattle.xl_lackey.specs.declared.usual.Numbers.{Numbers}

@@ -1,4 +1,4 @@
--- The records of a trace, read from its bytes, and what a reader of it stands at.
+-- The records of a trace, read from its bytes, and the state of a reader.
 use Rattle.std.specs.Prelude.{◌≡◌, ℕ, ◌+◌, ◌%◌, ◌^◌, Bool, true, false, List, [], ◌∷◌, ◌++◌, Option, None, Some}
 use Rattle.xl_text.specs.Texts.{lines_of, ended_lines, lines_by}
 use Rattle.xl_lackey.specs.declared.reference.Letter.{Letter}

@@ -1,4 +1,5 @@
--- A change of a mapping that no rule refuses: what a machine keeps and comes to, by the table's answer.
+-- A change of a mapping that no rule refuses: what a machine keeps and its state after, by the
+-- table's answer.
 use Rattle.xl_machine.proofs.Common.{◌+◌, ◌-◌, ◌∙◌, ◌≡◌, after_by, after_event, after_of, answer_by, ap, arith, arrays_after, ArraysFresh, Bool, Change, change_of, changed, changed-fresh, changed_by, count_accepted, count_invalidated, count_refusal, count_work, Counts, counts_of, counts_refused, done, done_counts, Err, Event, IsPoolOf, IsRowFor, IsServed, IsSound, kept-sound, Kind, Leaf, leaves_in, length, List, Made, None, NoPlace, NoSpace, Ok, old_leaf, outcome_by, outcome_of, refl, refusal_of, Refused, Row, RowState, rule, Scope, Served, served, Some, sound-of, state_of, sym, table_after, table_answer, table_made, TableState, TlbArray, TlbState, Verdict, verdict, Work, ℕ}
 use Rattle.xl_model.specs.declared.work.NoRoom.{NoRoom}
 use Rattle.xl_model_lemmas.proofs.LimitLemmas.{limits-changed, loads-changed}

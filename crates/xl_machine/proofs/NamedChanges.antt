@@ -1,4 +1,5 @@
--- A command that changes the leaf that it names: what is known of it, and what it comes to by the table's answer.
+-- A command that changes the leaf that it names: what is known of it, and the state after it by the
+-- table's answer.
 use Rattle.xl_machine.proofs.Common.{◌+◌, ◌∙◌, ◌≡◌, after_of, ap, arrays_after, Bool, Change, change_of, changed, Counts, counts_refused, done_counts, Err, Event, IsChange, IsFit, IsLeafOf, IsPoolOf, IsServed, Leaf, leaf_at_page, leaves_in, length, List, None, Ok, old_leaf, Order, outcome_of, page_of, Perm, Protect, Refusal, refusal_of, Refused, Relocate, Remove, Row, rule, served, Some, state_of, TableState, tlb_purged, TlbState, Work, ℕ}
 use Rattle.xl_machine.proofs.Accesses.{leaf_fit}
 use Rattle.xl_machine.proofs.ChangeLemmas.{done-answer, done-kept, done-state, refused-answer, refused-kept, refused-state}

@@ -1,5 +1,5 @@
--- The lowest free block of data frames. There is a candidate at frame 0 and one behind each leaf: the
--- least of them that is free is the least free block of all, which a law says.
+-- The lowest free block of data frames. There is a candidate at frame 0 and one after each leaf:
+-- the least of them that is free is the least free block of all, which a law says.
 use Rattle.std.specs.Prelude.{ℕ, ◌+◌, ◌-◌, ◌*◌, ◌/◌, min, Bool, ◌&&◌, not, nat_le, List, [], ◌∷◌, filter, map, Option, None, Some}
 use Rattle.std.specs.List.{list_any}
 use Rattle.xl_model.specs.declared.address.Order.{Order}

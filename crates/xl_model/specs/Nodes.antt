@@ -1,5 +1,5 @@
--- The nodes of a radix table and their numbers (RISC-V Privileged manual, the walk). A node of level l
--- has 512 slots; the slot at which a page stands there leads to level l - 1 or is the page's leaf.
+-- The nodes of a radix table and their numbers (RISC-V Privileged manual, the walk). A node of
+-- level l has 512 slots; the slot of a page leads to level l - 1 or is the page's leaf.
 use Rattle.std.specs.Prelude.{ℕ, zero, suc, ◌+◌, ◌-◌, ◌/◌, ◌==◌, Bool, false, ◌&&◌, ◌||◌, nat_lt, if◌then◌else◌, List, [], ◌∷◌, ◌++◌, map, replicate, Option, None, Some}
 use Rattle.std.specs.List.{list_any, position_from}
 use Rattle.xl_model.specs.declared.leaf.Leaf.{Leaf}

@@ -1,4 +1,4 @@
--- The report: the lines told while the items are served, then the rows, then the images.
+-- The report: the lines written while the items are served, then the rows, then the images.
 use Rattle.std.specs.Prelude.{ℕ, Bool, true, false, List, [], ◌∷◌, ◌++◌}
 use Rattle.xl_model.specs.declared.leaf.Leaf.{Leaf}
 use Rattle.xl_model.specs.declared.script.Item.{Item}

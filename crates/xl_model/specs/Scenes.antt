@@ -1,5 +1,6 @@
--- All rows together. Each item, with the events of its demand, is served whole by one row after another;
--- and the text that is told meanwhile: the lines of accesses and commands in the order served.
+-- All rows together. Each item, with the events of its demand, is served whole by one row after
+-- another; and the text that is written meanwhile: the lines of accesses and commands in the order
+-- served.
 use Rattle.std.specs.Prelude.{ℕ, Bool, true, false, List, [], ◌∷◌, ◌++◌, Option, None, Some}
 use Rattle.xl_model.specs.declared.address.Kind.{Kind}
 use Rattle.xl_model.specs.declared.event.Event.{Event}

@@ -1,7 +1,7 @@
--- Sections of a cuckoo row: what the 2 MiB and 1 GiB stretches of the spaces hold (the cuckoo walk caches
--- of Skarlatos and others, 2020). A 2 MiB section tells whether it holds 4 KiB leaves or is a 2 MiB leaf;
--- a 1 GiB section whether it holds leaves of each size or is a 1 GiB leaf. One that is a leaf also tells
--- the way in which that leaf's key stands.
+-- Sections of a cuckoo row: what the 2 MiB and 1 GiB stretches of the spaces hold (the cuckoo walk
+-- caches of Skarlatos and others, 2020). A 2 MiB section says whether it holds 4 KiB leaves or is a
+-- 2 MiB leaf; a 1 GiB section whether it holds leaves of each size or is a 1 GiB leaf. One that is
+-- a leaf also has the way of that leaf's key.
 use Rattle.std.specs.Prelude.{ℕ, ◌+◌, ◌*◌, ◌/◌, ◌^◌, ◌==◌, Bool, true, false, ◌&&◌, nat_le, if◌then◌else◌, List, [], ◌∷◌, length, Option, None, Some}
 use Rattle.std.specs.List.{list_any}
 use Rattle.xl_model.specs.declared.address.Order.{Order}

@@ -1,4 +1,5 @@
--- One way of an elastic cuckoo table (Skarlatos and others, 2020): its registers, and where a key stands.
+-- One way of an elastic cuckoo table (Skarlatos and others, 2020): its registers, and the slot of a
+-- key.
 use Rattle.std.specs.Prelude.{ℕ, ◌+◌, ◌-◌, ◌%◌, ◌^◌, ◌==◌, Bool, true, false, ◌&&◌, nat_lt, if◌then◌else◌, List, [], ◌∷◌, find, map, Option, None, Some}
 use Rattle.xl_model.specs.declared.way.Entry.{Entry}
 use Rattle.xl_model.specs.declared.way.WayRegs.{WayRegs}

@@ -1,4 +1,4 @@
--- The keys of a cuckoo row: in its ways stand exactly those of its leaves.
+-- The keys of a cuckoo row: its ways have exactly those of its leaves.
 use Rattle.std.specs.Prelude.{ℕ, ◌≡◌, ◌≤◌, List}
 use Rattle.xl_model.specs.declared.address.Order.{Order}
 use Rattle.xl_model.specs.declared.leaf.Leaf.{Leaf}

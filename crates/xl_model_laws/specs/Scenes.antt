@@ -1,4 +1,4 @@
--- What holds of all rows together: items served in parts, and what is told meanwhile.
+-- What holds of all rows together: items served in parts, and the lines written meanwhile.
 use Rattle.std.specs.Prelude.{◌≡◌, Bool, List, ◌++◌}
 use Rattle.xl_model.specs.declared.script.Item.{Item}
 use Rattle.xl_model.specs.Rows.{Row}

@@ -1,5 +1,4 @@
--- Definitions that compute, and the sentences that they stand for: maximal runs, and the lowest
--- free number.
+-- Definitions that compute, and the sentences above them: maximal runs, and the lowest free number.
 use Rattle.std.specs.Prelude.{ℕ, ◌≡◌, ◌+◌, ◌-◌, ◌<◌, ◌≤◌, ◌==◌, ◌&&◌, Bool, false, List, [], ◌∷◌, ◌++◌, length, slice_set, slice_index_or, Option, None, Some}
 use Rattle.xl_model.specs.declared.leaf.Leaf.{Leaf}
 use Rattle.xl_model.specs.declared.leaf.Range.{Range}

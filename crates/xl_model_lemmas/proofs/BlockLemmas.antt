@@ -1,4 +1,5 @@
--- Whether a block is met, by what counts for its sections alone. For `meets` of the tables of chains and of the cuckoo row.
+-- Whether a block overlaps a leaf, by what counts for its sections alone. For `meets` of the tables
+-- of chains and of the cuckoo row.
 use Rattle.xl_model_lemmas.proofs.Common.{◌&&◌, ◌*◌, ◌+◌, ◌/◌, ◌<◌, ◌==◌, ◌^◌, ◌||◌, ◌∙◌, ◌≡◌, ap, arith, counts_at, covers, false, find, In, is_some, IsAligned, Leaf, List, list_any, meets_block, nat_le, nat_lt, nat_tests, of_order, Order, pages_of, refl, true, ℕ}
 use Rattle.xl_model_lemmas.proofs.SameLemmas.{any-each, any-find, any-or, same-tests}
 use Rattle.xl_model.specs.declared.address.Order.TheVariants as order

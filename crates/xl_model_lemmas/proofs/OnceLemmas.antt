@@ -1,5 +1,5 @@
--- Lists in which no member stands twice: by their members alone it is known which is the shorter. For lists of free
--- places too.
+-- Lists in which no member occurs twice: by their members alone it is known which is the shorter.
+-- For lists of free places too.
 use Rattle.xl_model_lemmas.proofs.Common.{◌++◌, ◌==◌, ◌∙◌, ◌∷◌, ◌≡◌, ◌≤◌, [], ap, arith, Bool, cond, false, In, inl, inr, length, List, nat_tests, Once, refl, subst, suc, sym, true, ℕ}
 use Rattle.xl_model_lemmas.proofs.MemberLemmas.{In-append, In-left}
 

@@ -1,4 +1,5 @@
--- What is read of kept leaves is what their mapping says: blocks that are met, the leaf of a page, the leaf of a name.
+-- What is read of kept leaves is what their mapping says: blocks that overlap, the leaf of a page,
+-- the leaf of a name.
 use Rattle.xl_model_lemmas.proofs.Common.{◌≡◌, ap, covers, false, find, In, is_leaf, is_some, IsKept, IsNamed, Leaf, leaf_at_page, leaf_named, List, list_any, mapping_of, meets_any, meets_block, None, Option, Order, refl, Some, true, ℕ}
 use Rattle.xl_model_lemmas.proofs.FrontLemmas.{IsNew}
 use Rattle.xl_model_lemmas.proofs.KeptLemmas.{In-mapping, kept-same, mapping-In}

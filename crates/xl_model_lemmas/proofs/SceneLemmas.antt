@@ -1,5 +1,5 @@
--- Items served in parts: what is served and what is told are those of the parts one after another, for one row
--- after another too. For the loops that serve, and their laws.
+-- Items served in parts: what is served and written are those of the parts one after another, for
+-- one row after another too. For the loops that serve, and their laws.
 use Rattle.xl_model_lemmas.proofs.Common.{◌++◌, ◌∙◌, ◌∷◌, ◌≡◌, [], ap, append-nil, append_assoc, Bool, false, List, opening, refl, Row, sym, ℕ}
 use Rattle.xl_model.specs.Items.{areas_after, run, state_after, states_after}
 use Rattle.xl_model.specs.Scenes.{item_lines, lines_where, Live, live_after, lives_after, opened, opening_scene, rows_after, rows_lines, Scene, scene_after, scenes_after, Served, told_by, untold}

@@ -1,4 +1,4 @@
--- Entries of a table, each of which reads as a leaf and stands under that leaf's tag.
+-- Entries of a table, each of which reads as a leaf and is under that leaf's tag.
 use Rattle.std.specs.Prelude.{ℕ, ◌≡◌, ◌==◌, List, [], ◌∷◌, find, Option, None, Some}
 use Rattle.xl_model.specs.declared.leaf.Leaf.{Leaf}
 use Rattle.xl_model.specs.declared.address.Order.TheVariants as order

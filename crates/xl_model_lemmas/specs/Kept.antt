@@ -1,5 +1,5 @@
 -- The leaves that a table of chains keeps, one for each entry: bucket by bucket, newest first in
--- each bucket. What its calls make of them, and the table that they come to.
+-- each bucket. The leaves after its calls, and their table.
 use Rattle.std.specs.Prelude.{ℕ, ◌^◌, ◌<◌, ◌≡◌, Bool, false, not, if◌then◌else◌, List, [], ◌∷◌, filter, map}
 use Rattle.std.specs.List.{list_any, All}
 use Rattle.xl_model.specs.declared.address.Order.{Order}

@@ -1,5 +1,5 @@
--- Details that no other row tells apart, each worked out by hand: a set of more than two, user pages, arrays of one level,
--- fences inside large leaves, sections of 1 GiB, ranges of several spaces.
+-- Details that no other row shows, each worked out by hand: a set of more than two, user pages,
+-- arrays of one level, fences inside large leaves, sections of 1 GiB, ranges of several spaces.
 use Rattle.std.specs.Prelude.{true, false, List, [], ◌∷◌}
 use Rattle.xl_model.specs.declared.address.Order.TheVariants as order
 use Rattle.xl_model.specs.declared.address.Kind.TheVariants as kind

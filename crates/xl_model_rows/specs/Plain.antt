@@ -1,4 +1,4 @@
--- The row that most reports begin with, and words for what stands in many of them.
+-- The row that most reports begin with, and words for what is in many of them.
 use Rattle.std.specs.Prelude.{true, false, List, [], ◌∷◌, codes}
 use Rattle.std.proofs.Common.{refl}
 use Rattle.xl_model.specs.declared.address.Mode.TheVariants as mode

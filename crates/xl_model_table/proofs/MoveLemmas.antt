@@ -1,4 +1,4 @@
--- What a move answers and leaves, for a table of chains that keeps one leaf for each entry.
+-- The result of a move, for a table of chains that keeps one leaf for each entry.
 use Rattle.xl_model_table.proofs.Common.{◌<◌, ◌∙◌, ◌≡◌, ◌≤◌, ap, arith, at_page, Chained, Change, changed, Err, false, find, has_room, in_front, Insert, is_leaf, IsBlock, IsChange, IsKept, IsNamed, IsNew, IsPlaced, kept-front, Leaf, leaf_named, leaf_tag, length, List, map, mapping-front, mapping-without, mapping_of, meets_any, Named, named-mapping, named-same, narrowed, nat_le, nat_lt, nat_tests, new-key, None, Ok, only_used_tags, Order, refl, Refused, Relocate, Remove, Result, room_for, shape_after, Some, stays-front, subst, sym, table_after, table_answer, table_of, TableState, true, used-without, widened, with-tag, with_leaf, with_tag, without_leaf, without_named, Work, ℕ}
 use Rattle.std.specs.Prelude.{is_some}
 use Rattle.xl_model_lemmas.proofs.KeptLemmas.{mapping-In, mapping-sorted}

@@ -103,7 +103,7 @@ small-kept g i t =
     let first : host_page (g * 1) ≡ host_page g / 1 * 1 = omega arith in
     rw (a, b, space, first) refl
 
--- how far a guest page is behind the first of its block
+-- how far a guest page is from the first of its block
 behind-first : (o : Order) (block g : ℕ) → (block == g / pages_of o) ≡ true → host_page g - host_page (block * pages_of o) ≡ g % pages_of o
 behind-first order.K4 block g t = let e : block ≡ g / 1 = grind (arith, nat_tests) in omega arith
 behind-first order.M2 block g t = let e : block ≡ g / 512 = grind (arith, nat_tests) in omega arith

@@ -66,7 +66,7 @@ module _ (f : Fronts) (leaves : List Leaf) (is : IsFronts f leaves) (none : f.fi
   pub unknown-any : (new : List Leaf) → IsFronts f new
   unknown-any new = unknown f new is.first_small is.second_small none second-unknown unknown-straight
 
--- the newest of those that meet a test is the first, or the second
+-- the newest of those that pass a test is the first, or the second
 module _ (p : Leaf → Bool) where
   find-first : (x : Leaf) (rest : List Leaf) → p x ≡ true → find p (x ∷ rest) ≡ Some x
   find-first x rest e = rw e refl

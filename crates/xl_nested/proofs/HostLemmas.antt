@@ -167,7 +167,7 @@ module _ {stage : Stage} {pool : List Bool} {cache : Cached Leaf} (is : IsHost s
     given-size : length (marked (marked pool at (pages_of o) false) at (pages_of o) true) ≡ length pool
     given-size = (pool-given (length pool) at (pages_of o) stage.leaves pool is.pool_is low.fits low.is_free).size
 
-    -- what the map comes to
+    -- the result of the map
     pub map-done : (hits : ℕ) (new : Stage) (taken : List Bool) → room_rule (Some (Insert (record { space = host_space g; first = host_page g; order = o; frame = at; perm = perm }))) stage ≡ None
         → new ≡ stage_after (Some (Insert (record { space = host_space g; first = host_page g; order = o; frame = at; perm = perm }))) stage → taken ≡ marked pool at (pages_of o) false
         → (map_rule (host_space g) (host_page g) o (host_map g o perm (host_of stage pool cache hits)) stage ≡ None) × (host_of new taken cache hits ≡ gmapped g o perm (host_of stage pool cache hits))
@@ -218,7 +218,7 @@ module _ {stage : Stage} {pool : List Bool} {cache : Cached Leaf} (is : IsHost s
             absurd (cc));
       }
 
-  -- what the unmap comes to
+  -- the result of the unmap
   pub unmap-done : (g : ℕ) (o : Order) (old : Leaf) (hits : ℕ) (new : Stage) (given : List Bool) (left : Cached Leaf) → leaf_named (host_space g) (host_page g) o stage.leaves ≡ Some old
       → new ≡ stage_after (Some (Remove (host_space g) (host_page g) o)) stage → given ≡ marked pool old.frame (pages_of o) true
       → left.width ≡ cache.width → left.items ≡ purged (is_leaf (host_space g) (host_page g) o) cache.items

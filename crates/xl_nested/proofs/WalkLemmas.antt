@@ -57,7 +57,7 @@ module _ (level node page : ℕ) (kind : Kind) (s : NestState) (at : IsAt level 
     unfolding reply_from
     on-reply = rw (path-first level node page s.guest at, there) refl
 
-    -- the walk goes on
+    -- the walk continues
     pub next-after : (next : ℕ) → IsEntry level page (entry.Node next) s.guest.stage → walked_from (level - 1) page kind (stepped (s.guest.base + node) s) ≡ walked_from level page kind s
     unfolding walked_from
     next-after next is =

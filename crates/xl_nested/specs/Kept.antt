@@ -24,7 +24,7 @@ stage_of t = record { leaves = t.leaves; shape = Radix 3 t.spaces t.nodes; loads
 abbrev pub AreApart : List Leaf → Type 0
 AreApart leaves = (x y : Leaf) (page : ℕ) → In x leaves → In y leaves → covers x.space page x ≡ true → covers x.space page y ≡ true → x ≡ y
 
--- A stage of so many spaces, each of 2^27 pages.
+-- A stage of `spaces` spaces, each of 2^27 pages.
 pub record IsStage (spaces : ℕ) (stage : Stage) : Type 0 where
   pub spaces_are : spaces_of stage.shape ≡ spaces
   pub pages_are : page_limit stage.shape ≡ 2 ^ 27
@@ -36,7 +36,7 @@ pub record IsGuest (base : ℕ) (stage : Stage) : Type 0 where
   pub low_nodes : base + length (nodes_in stage.shape) ≤ 2 ^ 29
   pub low_frames : (x : Leaf) → In x stage.leaves → x.frame + pages_of x.order ≤ 2 ^ 29
 
--- A row with so many frames, whose rules for a mapping are the host's.
+-- A row with this number of frames, whose rules for a mapping are the host's.
 abbrev pub host_row : ℕ → Row
 host_row frames = record {
   name = [];

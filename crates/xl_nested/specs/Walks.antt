@@ -37,7 +37,7 @@ entry_said level block (pte.Leaf frame perm) = entry_by (leaf_said 0 block (orde
 entry_said level block pte.Reserved = entry.Nothing
 entry_said level block pte.Misaligned = entry.Nothing
 
--- What a word of a level says at a page of space 0. A leaf of 4 KiB may be told by its word.
+-- What a word of a level says at a page of space 0. A leaf of 4 KiB may be given by its word.
 abbrev pub IsSaid : ℕ → ℕ → ℕ → Entry → Type 0
 IsSaid level page word (entry.Node next) = entry.Node next ≡ entry_said level (up level page) (decode_of word level)
 IsSaid level page word (entry.Small small) = (level ≡ 0) × SaysSmall word small

@@ -55,7 +55,7 @@ fn pair_refusal(va: u64, gaddr: u64, order: Order) -> Option<NestRefusal>
     None
 }
 
-/// Maps at the host, or answers the first refusal that holds.
+/// Maps at the host, or returns the first refusal that holds.
 fn gmap(host: &mut Host, gaddr: u64, order: Order, perm: Perm) -> Result<(), NestRefusal>
     ensures { IsServed (gmap_rule gaddr order perm host.old)
         result host.old (gmapped (gaddr / 4096) order perm host.old) host.new }
@@ -66,7 +66,7 @@ fn gmap(host: &mut Host, gaddr: u64, order: Order, perm: Perm) -> Result<(), Nes
     host.map(gaddr / 4096, order, perm)
 }
 
-/// Unmaps at the host, or answers the first refusal that holds.
+/// Unmaps at the host, or returns the first refusal that holds.
 fn gunmap(host: &mut Host, gaddr: u64, order: Order) -> Result<(), NestRefusal>
     ensures { IsServed (gunmap_rule gaddr order host.old)
         result host.old (gunmapped (gaddr / 4096) order host.old) host.new }
@@ -77,7 +77,7 @@ fn gunmap(host: &mut Host, gaddr: u64, order: Order) -> Result<(), NestRefusal>
     host.unmap(gaddr / 4096, order)
 }
 
-/// Maps at the guest, or answers the first refusal that holds.
+/// Maps at the guest, or returns the first refusal that holds.
 fn vmap(guest: &mut Guest, va: u64, order: Order, gaddr: u64, perm: Perm) -> Result<(), NestRefusal>
     ensures { IsServed (vmap_rule va order gaddr perm guest.old)
         result guest.old (vmapped (page_number mode.Sv39 va) order (gaddr / 4096) perm guest.old)
@@ -89,7 +89,7 @@ fn vmap(guest: &mut Guest, va: u64, order: Order, gaddr: u64, perm: Perm) -> Res
     guest.map(page_of(Mode::Sv39, va), order, gaddr / 4096, perm)
 }
 
-/// Unmaps at the guest, or answers the first refusal that holds.
+/// Unmaps at the guest, or returns the first refusal that holds.
 fn vunmap(guest: &mut Guest, va: u64, order: Order) -> Result<(), NestRefusal>
     ensures { IsServed (vunmap_rule va order guest.old)
         result guest.old (vunmapped (page_number mode.Sv39 va) order guest.old) guest.new }

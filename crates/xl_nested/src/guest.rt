@@ -84,7 +84,7 @@ impl Guest {
     ///
     /// # Errors
     ///
-    /// `Overlap` where a leaf meets the block, else `NoTable` where the table has no room.
+    /// `Overlap` where the block overlaps a leaf, else `NoTable` where the table has no room.
     pub fn map(&mut self, page: u64, order: Order, to: u64, perm: Perm) -> Result<(), NestRefusal>
         requires page { IsPlace page order (2 ^ 27) }
         requires frames { IsPlace to order (2 ^ 29) }

@@ -129,8 +129,8 @@ impl Host {
         }
     }
 
-    /// The word of a guest page that no leaf of the G cache covers, by a walk. A leaf found fills the
-    /// cache. A leaf of 4 KiB is answered and kept by its word.
+    /// The word of a guest page that no leaf of the G cache covers, by a walk. A leaf found fills
+    /// the cache. A leaf of 4 KiB is returned and kept by its word.
     #[inline(never)]
     fn walk(&mut self, guest_page: u64) -> Option<u64>
         requires page { guest_page < 2 ^ 29 }
@@ -172,8 +172,8 @@ impl Host {
     ///
     /// # Errors
     ///
-    /// `Overlap` where a leaf meets the block, else `NoFrames` where no block of frames is free, else
-    /// `NoTable` where the table has no room.
+    /// `Overlap` where the block overlaps a leaf, else `NoFrames` where no block of frames is free,
+    /// else `NoTable` where the table has no room.
     pub fn map(&mut self, guest_page: u64, order: Order, perm: Perm) -> Result<(), NestRefusal>
         requires { IsPlace guest_page order (2 ^ 29) }
         ensures { IsServed (map_rule (host_space guest_page) (host_page guest_page) order

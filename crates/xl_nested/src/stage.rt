@@ -83,8 +83,8 @@ fn said(word: u64, level: usize, page: u64) -> Entry
     entry_of(decode(word, level), block_of(page, level), level)
 }
 
-/// What the word of a page of space 0 says at a level. A test each tells a pointer, which most words above level
-/// 0 are, and a leaf of level 0.
+/// What the word of a page of space 0 says at a level. One test each finds a pointer, which most
+/// words above level 0 are, and a leaf of level 0.
 #[inline(always)]
 fn judged(word: u64, level: usize, page: u64) -> Entry
     requires level { level < 3 }
@@ -102,7 +102,7 @@ fn judged(word: u64, level: usize, page: u64) -> Entry
 }
 
 impl Stage {
-    /// A table without leaves, with a root for each of so many spaces.
+    /// A table without leaves, with a root for each of `spaces` spaces.
     pub fn open(alloc: Global, spaces: u16, nodes: u32) -> Result<Stage, NoMemory>
         requires spaces { (1 ≤ spaces) × (spaces ≤ 64) }
         requires nodes { (spaces ≤ nodes) × (nodes ≤ 16384) }
@@ -173,8 +173,8 @@ impl Stage {
         find_leaf(&mut self.table, space, page)
     }
 
-    /// The word of the leaf of 4 KiB that covers a page, by a walk from the root of its space. None says
-    /// nothing.
+    /// The word of the leaf of 4 KiB that covers a page, by a walk from the root of its space.
+    /// `None`: not taken.
     #[inline(always)]
     pub fn walk_small(&mut self, space: u16, page: u64) -> Option<u64>
         requires { IsPage self.old.shape space page }

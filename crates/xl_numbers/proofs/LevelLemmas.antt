@@ -1,4 +1,4 @@
--- Words that tell which words below them are 0.
+-- Words that say which words below them are 0.
 use Rattle.xl_numbers.proofs.Common.{◌%◌, ◌*◌, ◌+◌, ◌-◌, ◌/◌, ◌<◌, ◌==◌, ◌^◌, ◌∙◌, ◌≡◌, ap, AreOnes, AreWords, arith, bit_at, bit_at-lt, bit_at-trailing_ones, bit_at-zero, bit_at_ones, bit_of, Bool, cases_eq, cases_lt, false, inl, inr, IsAbove, IsFirstBit, IsFirstWord, IsPut, IsStack, IsWord, length, List, nat_tests, refl, slice_index, subst, sym, trailing_ones, true, w64, ℕ}
 use Rattle.std.proofs.Math.Nat.{mul-add}
 use Rattle.xl_numbers.proofs.BitLemmas.{bit-none, bit-some, word-within}

@@ -1,4 +1,4 @@
--- A set whose words stand in vectors, and the flags that callers see of it.
+-- A set whose words are in vectors, and the flags that callers see of it.
 use Rattle.xl_numbers.proofs.Common.{◌*◌, ◌+◌, ◌<◌, ◌==◌, ◌↔◌, ◌∙◌, ◌≡◌, ◌≤◌, ap, AreFree, AreMarked, AreOnes, AreWords, arith, bit_of, Bool, false, flags, HasNone, IfNone, IfSome, IsAlike, IsFirstBit, IsLowest, IsPut, IsSet, IsStack, IsTrue, length, List, None, Option, slice_index_or, slice_set, Some, subst, sym, true, with_items_is, ℕ}
 use Rattle.std.specs.Vec.{with_items}
 use Rattle.std.specs.declared.vec.Vec.{Vec}

@@ -1,4 +1,4 @@
--- Sets of numbers as words of 64 bits, and words above them that tell which of them are 0.
+-- Sets of numbers as words of 64 bits, and words above them that say which of them are 0.
 use Rattle.std.specs.Prelude.{ℕ, zero, suc, ◌≡◌, ◌+◌, ◌*◌, ◌/◌, ◌%◌, ◌^◌, ◌<◌, ◌≤◌, ◌==◌, Bool, List, [], ◌∷◌, length, slice_index}
 use Rattle.std.specs.Int.{bit_at}
 

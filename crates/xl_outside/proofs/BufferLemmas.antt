@@ -1,4 +1,4 @@
--- What a buffer holds, behind what the sink below it took.
+-- What a buffer holds, after what the sink below it took.
 use Rattle.xl_outside.proofs.Common.{◌∙◌, ◌≡◌, [], ap, Bool, drop, false, FlushedWhere, List, Option, sym, take, take-append-drop, true, with_more, with_more-twice, with_none, ℕ}
 
 -- the sink below took some first bytes, and the others are held

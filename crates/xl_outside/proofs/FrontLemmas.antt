@@ -1,4 +1,4 @@
--- What was read so far of a file that is told.
+-- What was read so far of a file that is known.
 use Rattle.xl_outside.proofs.Common.{◌++◌, ◌+◌, ◌∙◌, ◌≡◌, ◌≤◌, [], ap, arith, drop, file_of, Files, IfSome, length, length-append, length-take, List, None, Ok, Option, Some, subst, sym, take, take-add, take-take, Tells, ℕ}
 
 -- nothing of a file that isn't there, and the first bytes of one that is

@@ -1,4 +1,4 @@
--- What a whole file, read up to a limit, comes to.
+-- The result for a whole file, read up to a limit.
 use Rattle.std.specs.Prelude.{◌≡◌, ℕ, ◌+◌, List, take, Option, None, Some, Result, Ok, Err}
 use Rattle.std.specs.declared.alloc.Global.{Global}
 use Rattle.std.specs.declared.vec.Vec.{Vec}

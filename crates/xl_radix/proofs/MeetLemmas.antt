@@ -1,4 +1,4 @@
--- Blocks of pages that meet.
+-- Blocks of pages that overlap.
 use Rattle.xl_radix.proofs.Common.{◌&&◌, ◌*◌, ◌+◌, ◌==◌, ◌≡◌, ◌≤◌, ◌⊎◌, arith, Bool, covers, eq-eqb, eqb-true, false, inl, inr, Leaf, level_of, meets_block, nat_le, nat_lt, nat_tests, Order, pages_of, refl, sym, true, up, ℕ}
 use Rattle.xl_radix.proofs.UpLemmas.{covers-up, up-covers}
 use Rattle.xl_model.specs.declared.address.Order.TheVariants as order

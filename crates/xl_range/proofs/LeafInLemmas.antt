@@ -1,4 +1,5 @@
--- For the table of ranges: the held range that a named leaf stands in, and how many pages of it lie before and behind the leaf.
+-- For the table of ranges: the held range of a named leaf, and how many pages of it lie before and
+-- after the leaf.
 use Rattle.xl_range.proofs.Common.{◌*◌, ◌+◌, ◌-◌, ◌<◌, ◌^◌, ◌∙◌, ◌∷◌, ◌≡◌, ◌≤◌, ◌⊎◌, [], ap, arith, cond, end_key, false, find, first_leaf, holds_page, In, inl, inr, is_leaf, IsHeld, IsLeafIn, Leaf, leaf_key, leaves_in, List, named-first, named-order, named-space, nat_tests, next_leaf, Order, pages-some, pages_before, pages_behind, pages_of, part_behind, Range, refl, run_on, Some, spread, subst, suc, sym, true, zero, ℕ}
 use Rattle.xl_range.proofs.RunLemmas.{leaves-is}
 use Rattle.xl_range.proofs.TouchLemmas.{leap, leap-next, leap-none}

@@ -1,4 +1,4 @@
--- Whether a leaf meets a block, by the last range that begins below the block's end.
+-- Whether a leaf overlaps a block, by the last range that begins below the block's end.
 use Rattle.xl_range.proofs.Common.{◌&&◌, ◌+◌, ◌<◌, ◌==◌, ◌^◌, ◌||◌, ◌∙◌, ◌∷◌, ◌≡◌, ◌≤◌, [], ap, arith, Bool, cond, end_key, false, IsHeld, IsRange, key_at, last_below, last_or, List, list_any, meets_any, meets_range, meets_where, nat_lt, nat_tests, None, of_space, Option, Order, pages_of, Range, range_key, refl, Some, spread, sym, true, ℕ}
 use Rattle.xl_range.proofs.MeetRangeLemmas.{any-spread}
 use Rattle.xl_range.proofs.NeighbourLemmas.{by-option, IsPrev, last-prev}

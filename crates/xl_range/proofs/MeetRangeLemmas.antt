@@ -1,4 +1,5 @@
--- For the table of ranges: a leaf of held ranges meets a block where one of the ranges does, and what none meets lies apart from them.
+-- For the table of ranges: a leaf of held ranges overlaps a block where one of the ranges does, and
+-- what overlaps none lies apart from them.
 use Rattle.xl_range.proofs.Common.{◌&&◌, ◌*◌, ◌+◌, ◌<◌, ◌==◌, ◌^◌, ◌||◌, ◌∙◌, ◌∷◌, ◌≡◌, ◌≤◌, ◌⊎◌, [], ap, arith, Bool, end_key, false, first_leaf, inl, inr, IsClear, IsHeld, IsRange, Leaf, List, list_any, meets_any, meets_block, meets_range, nat_le, nat_lt, nat_tests, next_leaf, Order, pages-some, pages_of, Range, range_key, range_of_leaf, refl, run_on, same-tests, spread, suc, sym, true, zero, ℕ}
 use Rattle.xl_range.proofs.RunLemmas.{leaves-is}
 

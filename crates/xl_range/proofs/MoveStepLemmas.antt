@@ -1,4 +1,4 @@
--- Protect and Relocate as two steps, and what stands where the second step has no room.
+-- Protect and Relocate as two steps, and the state where the second step has no room.
 use Rattle.xl_range.proofs.Common.{◌&&◌, ◌*◌, ◌+◌, ◌<◌, ◌^◌, ◌∙◌, ◌≡◌, ◌≤◌, ap, arith, Bool, changed, cut, false, has_room, HasLeaf, HasRanges, In, In-any, is_leaf, is_some, IsBlock, IsClear, IsDone, IsHeld, IsNamed, IsRange, IsTable, join, keeping, Leaf, leaf_in, leaf_key, leaf_named, length, List, meets_any, meets_block, named-first, named-In, named-is, named-order, named-space, nat_le, nat_tests, Order, pages-some, pages_of, Perm, Protect, Range, range_of_leaf, ranges_of, refl, Relocate, Runs, same-bools, Some, spread, subst, sym, TreapView, true, with_leaf, without_leaf, ℕ}
 use Rattle.xl_model_lemmas.proofs.SortedLemmas.{put-back, took-back, with-without}
 use Rattle.xl_range.proofs.FindLemmas.{named-range}

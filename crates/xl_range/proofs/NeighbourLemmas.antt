@@ -1,4 +1,5 @@
--- The neighbours of a range among held ranges: where they stand, and what putting a range among them asks for.
+-- The neighbours of a range among held ranges: where they are, and what putting a range among them
+-- requires.
 use Rattle.xl_range.proofs.Common.{◌<◌, ◌==◌, ◌^◌, ◌||◌, ◌∙◌, ◌∷◌, ◌≡◌, ◌≤◌, [], arith, Bool, cond, end_key, false, first_from, has_key, IsHeld, IsRange, IsThere, kept_taken, last_below, last_or, List, list_any, nat_lt, nat_tests, next_of, next_where, None, of_space, Option, pages_with, prev_of, prev_where, Range, range_key, range_taken, refl, Some, subst, sym, touches, true, without_range, ℕ}
 
 -- a neighbour that touches is of the range's space

@@ -1,4 +1,4 @@
--- What a change, a walk and a fence of the table come to.
+-- The results of a change, a walk and a fence of the table.
 use Rattle.xl_range.proofs.Common.{◌-◌, ◌∙◌, ◌≡◌, ◌≤◌, after_by, AllFresh, answer_by, ap, arith, Bool, brought, Cached, caches_purged, Change, changed, entries_in, Err, false, finds_place, has_room, HasRanges, holds_first, holds_page, Insert, IsBlock, IsChange, IsDone, IsHeld, IsLeafFor, IsNamed, IsRow, IsTable, keeping, Leaf, leaf_in, length, List, Made, meets_any, moves_made, narrowed, None, NoSpace, Ok, old_leaf, Option, Order, Perm, Protect, purged, Range, RangeCache, ranges_of, refl, Relocate, Remove, Result, row_of, Runs, Shape, shape_after, Some, spread, subst, sym, table_after, table_answer, table_made, TableState, TreapView, true, Verdict, verdict, widened, without_items, work_of, ℕ}
 use Rattle.xl_model.specs.Placing.{no_moves}
 use Rattle.xl_model.specs.declared.work.Refused.{Refused}

@@ -1,4 +1,5 @@
--- The leaves of held ranges: where they stand, that they are sorted, and that they lie apart from what is clear of the ranges.
+-- The leaves of held ranges: where they are, that they are sorted, and that they lie apart from
+-- what is clear of the ranges.
 use Rattle.xl_range.proofs.Common.{◌*◌, ◌+◌, ◌<◌, ◌∷◌, ◌≡◌, ◌≤◌, ◌⊎◌, [], AllAbove, arith, covers, end_key, false, first_leaf, In, inl, inr, IsClear, IsHeld, IsSorted, Leaf, leaf_key, leaves_in, List, nat_tests, next_leaf, pages-some, pages_of, Range, range_key, range_of_leaf, refl, run_on, spread, subst, suc, sym, true, zero, ℕ}
 use Rattle.xl_range.proofs.JoinLemmas.{In-key}
 use Rattle.xl_range.proofs.RunLemmas.{leaves-is}

@@ -1,4 +1,5 @@
--- What the calls of a change ask for, and what they come to: the leaves of the ranges that are held then.
+-- What the calls of a change require, and their results: the leaves of the ranges that are held
+-- then.
 use Rattle.xl_range.proofs.Common.{◌*◌, ◌+◌, ◌<◌, ◌^◌, ◌∙◌, ◌∷◌, ◌≡◌, ◌≤◌, [], ap, arith, before_on, behind_on, Bool, changed, cut, end_key, false, first_leaf, HasLeaf, HasRanges, In, inl, inr, Insert, IsAt, IsClear, IsDone, IsHeld, IsLeafFor, IsLeafIn, IsRange, IsTable, join, keeping, Leaf, leaf_in, length, List, meets_any, nat_le, Order, pages_before, pages_behind, pages_of, part_behind, Perm, Range, range_key, range_of_leaf, ranges_of, Remove, Runs, some_if, spread, subst, suc, sym, TreapView, true, with_leaf, without_leaf, zero, ℕ}
 use Rattle.xl_range.proofs.CutCountLemmas.{cut-count}
 use Rattle.xl_range.proofs.CutLemmas.{AtHead, cut-spread, head-cut, held-cut, next-cut}

@@ -1,5 +1,5 @@
--- For the table of ranges: the maximal ranges that it holds, the leaves that they stand for, a range put
--- among them, and a leaf cut out of one.
+-- For the table of ranges: the maximal ranges that it holds, their leaves, a range put among them,
+-- and a leaf cut out of one.
 use Rattle.std.specs.Prelude.{ℕ, zero, suc, ◌+◌, ◌-◌, ◌*◌, ◌/◌, ◌^◌, ◌<◌, ◌≤◌, ◌≡◌, ◌⊎◌, ◌==◌, Bool, false, ◌&&◌, nat_lt, if◌then◌else◌, List, [], ◌∷◌, Option, None, Some}
 use Rattle.xl_model.specs.declared.leaf.Leaf.{Leaf}
 use Rattle.xl_model.specs.declared.leaf.Range.{Range}

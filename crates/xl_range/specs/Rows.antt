@@ -1,4 +1,5 @@
--- A table of ranges as the layers above see it, what its type keeps, and what its changes come to.
+-- A table of ranges as the layers above see it, what its type keeps, and the results of its
+-- changes.
 use Rattle.std.specs.Prelude.{ℕ, ◌+◌, ◌^◌, ◌<◌, ◌≤◌, ◌≡◌, Bool, true, false, nat_lt, List, [], length, Option, None, Some}
 use Rattle.xl_model.specs.declared.address.Order.{Order}
 use Rattle.xl_model.specs.declared.leaf.Leaf.{Leaf}

@@ -1,4 +1,4 @@
--- Whether a block is met, by the words of its sections.
+-- Whether a block overlaps a leaf, by the words of its sections.
 use Rattle.xl_sections.proofs.Common.{◌*◌, ◌+◌, ◌/◌, ◌<◌, ◌==◌, ◌^◌, ◌||◌, ◌∙◌, ◌≡◌, ap, In, IsAligned, Leaf, length, List, list_any, not, of_order, part, word_of, ℕ}
 use Rattle.xl_model.specs.Mapping.{meets_block}
 use Rattle.xl_model_lemmas.proofs.BlockLemmas.{any-large, any-middle}

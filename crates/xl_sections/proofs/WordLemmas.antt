@@ -1,4 +1,4 @@
--- What a section's word tells.
+-- What a section's word says.
 use Rattle.xl_sections.proofs.Common.{◌&&◌, ◌*◌, ◌+◌, ◌<◌, ◌==◌, ◌^◌, ◌||◌, ◌∙◌, ◌∷◌, ◌≡◌, [], ap, arith, Bool, cond, counts_at, false, Leaf, length, List, list_any, nat_tests, not, of_order, Order, part, refl, sym, tally, true, unit, word_of, ℕ}
 use Rattle.xl_model.specs.Addresses.{same_order}
 use Rattle.xl_model.specs.Base.{one_if}

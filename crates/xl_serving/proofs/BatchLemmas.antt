@@ -1,4 +1,4 @@
--- What waits: an access more, or an event more.
+-- The queue: an access more, or an event more.
 use Rattle.xl_serving.proofs.Common.{◌++◌, ◌+◌, ◌∙◌, ◌∷◌, ◌≡◌, ◌≤◌, [], Access, ap, append_assoc, Area, arith, drop, drop-append-le, drop_all, gaps, Item, item_of, items_waiting, Kind, length, length-drop, List, map, map-append, Referenced, refl, rows_after, Scene, scene-append, scene_after, scenes_after, Served, state_after, sum_by-cons, sym, take, take-append-le, take_all, WaitingEvent, ℕ}
 use Rattle.xl_model.specs.declared.script.Item.TheVariants.{Command}
 

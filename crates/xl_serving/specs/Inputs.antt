@@ -1,4 +1,4 @@
--- What the files that the words name come to: the rows, the commands and the records of a run.
+-- The files that the words name: the rows, the commands and the records of a run.
 use Rattle.std.specs.Prelude.{◌≡◌, ℕ, List, [], Option, None, Some, Result, Ok, Err}
 use Rattle.xl_model.specs.declared.fault.InputFault.{InputFault}
 use Rattle.xl_model.specs.declared.fault.InputFault.TheVariants as fault

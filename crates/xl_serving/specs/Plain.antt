@@ -1,4 +1,4 @@
--- The plain form: the items of its commands, what they do and tell, and what a run is to write.
+-- The plain form: the items of its commands, what they do, their lines, and what a run is to write.
 use Rattle.std.specs.Prelude.{ℕ, Bool, true, false, List, [], ◌∷◌, ◌++◌, Result, Ok, Err}
 use Rattle.xl_model.specs.declared.script.Area.{Area}
 use Rattle.xl_model.specs.declared.script.Command.{Command}

@@ -1,4 +1,4 @@
--- What serving rows leaves of them and of the sink that is told, and the events of a command.
+-- Rows and the sink after serving, and the events of a command.
 use Rattle.std.specs.Prelude.{◌≡◌, ℕ, Bool, true, false, List, Option}
 use Rattle.xl_model.specs.declared.event.Event.{Event}
 use Rattle.xl_model.specs.declared.event.Event.TheVariants as event

@@ -1,4 +1,4 @@
--- What a trace that is read while it is replayed answers, by what is left of it.
+-- The results of a trace that is read while it is replayed, by what is left of it.
 use Rattle.std.specs.Prelude.{◌≡◌, ℕ, ◌+◌, ◌-◌, ◌≤◌, ◌⊎◌, Bool, true, false, List, [], ◌++◌, length, take, drop, nat_lt, Option, None, Some, Result, Ok, Err}
 use Rattle.xl_lackey.specs.Stream.{State, left}
 use Rattle.xl_outside.specs.declared.folder.Unread.{Unread}

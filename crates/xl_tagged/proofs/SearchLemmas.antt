@@ -1,4 +1,4 @@
--- What a search for a page's tag tells of the word in its slot, and the loads that it makes.
+-- What a search for a page's tag says of the word in its slot, and the loads that it makes.
 use Rattle.xl_tagged.proofs.Common.{◌%◌, ◌+◌, ◌/◌, ◌^◌, ◌∙◌, ◌≡◌, ap, AreSingle, arith, bucket_of, chain_of, chain_reads, ChainState, examined, false, found_of, has_tag, Held, held_with, List, loads_after, One, one_if, Order, order_loads, pages_of, plus, Sixteen, slice_index, slot_of, sym, tag_of, tags_of, true, value_of, values_under, word_at, word_found, ℕ}
 use Rattle.xl_tagged.proofs.ChainLemmas.{found-under}
 use Rattle.xl_tagged.proofs.StepLemmas.{absent-values, value-under, word-first}

@@ -1,4 +1,4 @@
--- The two forms in which chains hold leaves under tags, and what stands under a tag.
+-- The two forms in which chains hold leaves under tags, and what is under a tag.
 use Rattle.std.specs.Prelude.{ℕ, ◌+◌, ◌/◌, ◌%◌, ◌^◌, List, [], slice_index, Option, None, Some}
 use Rattle.xl_model.specs.declared.address.Order.{Order}
 use Rattle.xl_model.specs.Addresses.{pages_of}

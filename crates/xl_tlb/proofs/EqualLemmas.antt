@@ -12,7 +12,7 @@ and_first : (a b : Bool) → (a && b) ≡ true → a ≡ true
 and_first true b h = refl
 and_first false b h = h
 
--- it stands in the set of the leaf
+-- it is in the set of the leaf
 pub kept_there : (spec : TlbSpec) (x : Leaf) → x.space < 64 → (i : Item) → keeps_leaf (tag_of x.space x.first x.order) x.frame x.perm i ≡ true
     → set_number spec (leaf_of i).order (leaf_of i).first ≡ set_number spec x.order x.first
 kept_there spec x small i t = tag_there spec x.space x.first x.order small i (and_first (has_tag (tag_of x.space x.first x.order) i) _ t)

@@ -4,7 +4,7 @@ use Rattle.xl_tlb.proofs.LevelLemmas.{and_false, first_arrays, first_told as fir
 use Rattle.xl_tlb.proofs.TlbLemmas.{answers_all, look_after, serves_all, specs_filled}
 use Rattle.xl_model.specs.declared.address.Order.TheVariants as order
 
--- what was touched stands in front, and a touch of it moves nothing
+-- what was touched is in front, and a touch of it moves nothing
 meets : (p : Leaf → Bool) (xs : List Leaf) (x : Leaf) → find p xs ≡ Some x → p x ≡ true
 meets p [] x e = cc
 meets p (y ∷ xs) x e = go (p y) refl (λ h. meets p xs x h)
@@ -126,7 +126,7 @@ module _ (kind : Kind) (space page : ℕ) (leaf : Leaf) where
   pub first_told : (arrays new : List TlbArray) → IsFirstLeaf space page leaf arrays new → Some leaf ≡ leaf_told (answer_of kind arrays space page)
   first_told _ _ (FirstLeaf a new rest found moved alone) = rw (← answers_all kind a space page (Some leaf) alone.0 found) refl
 
-  -- what the first array answers
+  -- the hit of the first array
   abbrev first_answer : TlbArray → Answer
   first_answer a = record { leaf = leaf; level = a.spec.level }
 
@@ -163,7 +163,7 @@ module _ (kind : Kind) (space page : ℕ) (leaf : Leaf) where
       ∙ ap (λ (z : List ℕ). tlb_of (looked_arrays kind (Some x) space page (a ∷ rest)) (counted (hits_at kind (Some x) space page) (a ∷ rest) hits) z fills) m
       ∙ ap (λ (n : ℕ). tlb_of (looked_arrays kind (Some x) space page (a ∷ rest)) (counted (hits_at kind (Some x) space page) (a ∷ rest) hits) (counted (misses_at kind (Some x) space page) (a ∷ rest) misses) n) same)
 
--- a leaf of 4 KiB that is filled stands in front
+-- a leaf of 4 KiB that is filled is in front
 small_covers : (space page word : ℕ) → covers_as space page order.K4 (small_leaf space page word) ≡ true
 small_covers space page word = grind (arith, nat_tests)
 
@@ -197,7 +197,7 @@ unfolding array_filled
 fill_front space page word a within some takes =
     subst (λ (b : Bool). IsFrontHit space page word (filled_where b (small_leaf space page word) a)) (sym takes) (fill_taken space page word a within some takes)
 
--- a leaf of the second array answers
+-- a leaf of the second array hits
 less : (x y : ℕ) → suc x ≤ y → (nat_lt x y ≡ true) × (nat_le x y ≡ true)
 less x y l = (grind (arith, nat_tests), grind (arith, nat_tests))
 
@@ -229,7 +229,7 @@ module _ (kind : Kind) (space page word : ℕ) where
   second_one b rest found alone =
       first_one kind b rest space page (small_leaf space page word) (answers_all kind b space page (Some (small_leaf space page word)) alone.0 found) (none_lower b.spec.level (map spec_of rest) alone.1)
 
-  -- what such a look tells
+  -- the result of such a look
   second_is : (a b : TlbArray) (rest : List TlbArray) → None ≡ array_hit a space page → takes_order a.spec order.K4 ≡ true → ServesAlone a.spec (map spec_of (b ∷ rest))
       → Some (small_leaf space page word) ≡ array_hit b space page → ServesAlone b.spec (map spec_of rest)
       → Some (record { leaf = small_leaf space page word; level = b.spec.level; fills = 1 }) ≡ told kind (answer_of kind (a ∷ b ∷ rest) space page) (a ∷ b ∷ rest)

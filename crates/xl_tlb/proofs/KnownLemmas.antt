@@ -2,7 +2,7 @@
 use Rattle.xl_tlb.proofs.Common.{◌%◌, ◌*◌, ◌+◌, ◌<◌, ◌==◌, ◌∙◌, ◌∷◌, ◌≡◌, ◌≢◌, [], ap, arith, Bool, false, FrontsStay, get_or, get_or-set_other, IsFront, IsKey, IsSought, Knows, length, List, nat_tests, Newest, no_key, refl, set, Sought, subst, suc, tag_of, TlbArray, true, zero, ℕ}
 use Rattle.xl_model.specs.declared.address.Order.TheVariants as order
 
--- no page has the key that stands where none is known
+-- no page has the key of an empty slot
 pub not_a_key : (space page : ℕ) → IsKey no_key space page → ⊥
 unfolding tag_of
 not_a_key space page key = absurd (omega (arith, key.space_in, key.page_in, key.is_tag))

@@ -1,7 +1,7 @@
 -- The word of a page of a leaf.
 use Rattle.xl_tlb.proofs.Common.{◌%◌, ◌*◌, ◌+◌, ◌-◌, ◌/◌, ◌<◌, ◌^◌, ◌≡◌, arith, IsPageWord, IsSmallWord, IsWord, Kind, leaf_with, Order, pages_of, perm_at, refl, small_leaf, TlbState, ℕ}
 
--- a permission is four bits, and a frame stands above them
+-- a permission is four bits, and a frame is above them
 same_perm : (word behind : ℕ) → perm_at ((word + behind * 16) % 2 ^ 64) ≡ perm_at word
 unfolding perm_at
 same_perm word behind =

@@ -16,35 +16,36 @@ pub record IsPageWord (page word : ℕ) (leaf : Leaf) : Type 0 where
   pub frame : leaf.frame + (page - leaf.first) < 2 ^ 60 → word / 16 ≡ leaf.frame + (page - leaf.first)
   pub perm : perm_at word ≡ leaf.perm
 
--- A leaf answers an access of this kind, and the word says the page of it.
+-- A leaf is hit by an access of this kind, and the word says the page of it.
 pub record IsWord (k : Kind) (space page word : ℕ) (old new : TlbState) : Type 0 where
   pub leaf : Leaf
   pub found : Some leaf ≡ leaf_told (answer_of k old.arrays space page)
   pub says : IsPageWord page word leaf
   pub after : new ≡ tlb_looked k space page old
 
--- What was hit is the leaf that answers an access of this kind.
+-- What was hit is the leaf for an access of this kind.
 pub record IsHit (k : Kind) (space page : ℕ) (hit : Hit) (old new : TlbState) : Type 0 where
   pub found : Some (leaf_hit space page hit) ≡ leaf_told (answer_of k old.arrays space page)
   pub after : new ≡ tlb_looked k space page old
 
--- A leaf of 4 KiB with this word answers an access of this kind, and no array is filled with it.
+-- A leaf of 4 KiB with this word is hit by an access of this kind, and no array is filled with it.
 pub record IsFirstTold (k : Kind) (space page word : ℕ) (arrays : List TlbArray) : Type 0 where
   pub level : ℕ
   pub told : Some (record { leaf = small_leaf space page word; level = level; fills = 0 }) ≡ told_at k space page arrays
 
--- A leaf of 4 KiB with this word answers an access of this kind, and is the newest of its set of the first array then.
+-- A leaf of 4 KiB with this word is hit by an access of this kind, and is the newest of its set of
+-- the first array then.
 pub record IsSmallWord (k : Kind) (space page word : ℕ) (old new : TlbState) : Type 0 where
   pub found : Some (small_leaf space page word) ≡ leaf_told (answer_of k old.arrays space page)
   pub after : new ≡ tlb_looked k space page old
   pub front : IsFront space page word new.arrays
 
--- No array answers an access of this kind.
+-- An access of this kind misses all arrays.
 pub record IsNowhere (k : Kind) (space page : ℕ) (old new : TlbState) : Type 0 where
   pub found : None ≡ leaf_told (answer_of k old.arrays space page)
   pub after : new ≡ tlb_looked k space page old
 
--- What a look tells: the word of a leaf that answers, or that none does.
+-- The result of a look: the word of the leaf that is hit, or none.
 abbrev pub IsLooked : Kind → ℕ → ℕ → Option ℕ → TlbState → TlbState → Type 0
 IsLooked k space page (Some word) old new = IsWord k space page word old new
 IsLooked k space page None old new = IsNowhere k space page old new

@@ -6,7 +6,7 @@ use Rattle.xl_model.specs.declared.leaf.Leaf.{Leaf}
 use Rattle.xl_model.specs.declared.row.TlbSpec.{TlbSpec}
 use Rattle.xl_model.specs.Tlb.{TlbArray, leaves_in_sets}
 
--- The count is this number; the greatest count there is tells nothing.
+-- The count is this number; the greatest count there is says nothing of it.
 abbrev pub Counts : ℕ → ℕ → Type 0
 Counts held n = held < 2 ^ 64 - 1 → n ≡ held
 

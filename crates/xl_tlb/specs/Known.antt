@@ -6,7 +6,7 @@ use Rattle.xl_tlb.specs.Coding.{tag_of}
 use Rattle.xl_tlb.specs.Fronts.{IsFront}
 use Rattle.xl_tlb.specs.declared.newest.Newest.{Newest}
 
--- What stands where no page is known.
+-- Empty slot; no tag has this value.
 abbrev pub no_key : ℕ
 no_key = 18446744073709551615
 
@@ -16,6 +16,7 @@ pub record IsKey (key space page : ℕ) : Type 0 where
   pub page_in : page < 2 ^ 52
   pub is_tag : key ≡ tag_of space page order.K4
 
--- A page's place is its last three bits. Each page whose key stands there is answered by the leaf with the word beside the key, and that is the newest of its set.
+-- A page's slot is its last three bits. Each page whose key is there hits the leaf with the word
+-- beside the key, and that is the newest of its set.
 abbrev pub Knows : Newest → List TlbArray → Type 0
 Knows n arrays = (space page : ℕ) → IsKey (slice_index_or n.keys (page % 8) no_key) space page → IsFront space page (slice_index_or n.words (page % 8) 0) arrays

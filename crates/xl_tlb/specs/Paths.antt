@@ -17,13 +17,14 @@ abbrev pub AllServe : List TlbSpec → Type 0
 AllServe [] = Unit {0}
 AllServe (s ∷ specs) = (s.serves ≡ serves.All) × AllServe specs
 
--- There are so many arrays, all common ones, and the sets of the first are a multiple of eight.
+-- There are `n` arrays, all common ones, and the sets of the first are a multiple of eight.
 pub record AreCommon (n : ℕ) (specs : List TlbSpec) : Type 0 where
   pub count : length specs ≡ n
   pub common : AllCommon specs
   pub eights : IsByEight specs
 
--- The first two arrays may be looked at straight, and all serve all accesses; and where a number of common arrays is told, they are all that.
+-- The first two arrays may be looked at straight, and all serve all accesses; and where a number of
+-- common arrays is given, they are all that.
 pub record IsReady (n : ℕ) (specs : List TlbSpec) : Type 0 where
   pub straight : IsStraight specs
   pub all : AllServe specs

@@ -18,13 +18,14 @@ pub record IsSought (o : Order) (s : Sought) : Type 0 where
   pub page_in : s.page < 2 ^ 52
   pub tagged : s.tag ≡ tag_of s.space s.page o
 
--- It stands in this set, if it does, of an array that takes leaves of the order.
+-- The leaf is in this set, if it is held, of an array that takes leaves of the order.
 pub record IsAt (o : Order) (set : ℕ) (s : Sought) (spec : TlbSpec) : Type 0 where
   pub sought : IsSought o s
   pub takes : takes_order spec o ≡ true
   pub set_is : set ≡ set_number spec o s.page
 
--- The word is of the newest leaf of the order that covers the page, which comes to the front of its set; without a word there is none, and nothing changes.
+-- The word is of the newest leaf of the order that covers the page, which moves to the front of its
+-- set; without a word there is none, and nothing changes.
 pub record IsTouched (o : Order) (s : Sought) (a : TlbArray) (word : Option ℕ) (new : TlbArray) : Type 0 where
   pub found : word_leaf s.space s.page o word ≡ found_as a s.space s.page o
   pub some : IfSome word (λ w. new ≡ word_touched s.space s.page o w a)

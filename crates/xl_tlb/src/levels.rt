@@ -27,8 +27,7 @@ use std::alloc::Global;
 use std::marker::Model;
 use xl_model::{Kind, Leaf, NoMemory, Order, Purge, Reach, TlbSpec};
 
-/// What a look for a leaf of 4 KiB told: the leaf's word; or that no array answers; or nothing, and then
-/// nothing changed.
+/// The leaf's word; or a miss of all arrays; or unknown: fast path not taken, state unchanged.
 #[derive(Clone, Copy)]
 pub(crate) enum Answered {
     Word { word: u64 },
@@ -94,7 +93,8 @@ fn fill_each(arrays: &mut [AnyArray], kind: Kind, space: u16, page: u64, hit: Hi
     others
 }
 
-/// Fills the arrays behind the first with the leaf of 4 KiB that is sought: how many do.
+/// Fills the arrays after the first with the leaf of 4 KiB that is sought. Returns how many were
+/// filled.
 #[inline(always)]
 #[tactic(auto, using(crate::proofs::TlbLemmas::count_first))]
 fn fill_second<const COMMON: usize>(
@@ -230,8 +230,8 @@ impl Levels {
         self.path
     }
 
-    /// Does what `look` does, where the leaf of 4 KiB that is sought stands in the first array, and gives the
-    /// leaf's word: it is the newest of its set then. None elsewhere; then nothing changes.
+    /// Like `look`, where the first array holds the leaf of 4 KiB that is sought, which is the
+    /// newest of its set then: its word. `None`: not taken; nothing changes.
     #[inline(always)]
     pub fn hit_first<const COMMON: usize>(&mut self, _kind: Kind, sought: Sought) -> Option<u64>
         requires sought { IsSought order_of.K4 sought }
@@ -248,9 +248,9 @@ impl Levels {
         Some(word)
     }
 
-    /// Does what `look` does, where the first array misses the page and the leaf that is sought stands in the
-    /// second one, and gives its word: the first array is filled with it. So too where no array answers and the
-    /// second one never held a larger leaf.
+    /// Like `look`, where the first array misses the page and the second one holds the leaf sought:
+    /// its word; the first array is filled with it. So too where no array hits and the second one
+    /// never held a larger leaf.
     #[inline(always)]
     pub fn hit_second<const COMMON: usize>(&mut self, _kind: Kind, sought: Sought) -> Answered
         requires sought { IsSought order_of.K4 sought }
@@ -284,8 +284,8 @@ impl Levels {
         has_large(&self.arrays)
     }
 
-    /// Does what `look` does, where the first array has no leaf of 4 KiB of the page, and a larger one. None
-    /// where it misses the page; then nothing changes.
+    /// Like `look`, where the first array has no leaf of 4 KiB of the page, and a larger one.
+    /// `None` where it misses the page; then nothing changes.
     #[inline(always)]
     pub fn hit_above<const COMMON: usize>(
         &mut self,
@@ -322,8 +322,7 @@ impl Levels {
         }
     }
 
-    /// Looks for a page that the newest leaf of a set of the first array answers, with this word: that
-    /// counts a hit there, and moves nothing.
+    /// Hit on the newest entry of a set of the first array: counts the hit, order unchanged.
     #[inline]
     pub fn hit_in_front(&mut self, _kind: Kind, _space: u16, _page: u64, _word: u64)
         requires { IsFront _space _page _word self.old.arrays }
@@ -333,9 +332,9 @@ impl Levels {
         self.hits[0] = self.hits[0].wrapping_add(1);
     }
 
-    /// Looks for the page in the levels in turn, and gives what was hit. Touches the array that hits,
-    /// and fills those of lower levels that hold the leaf's order. None where no array hits. Where it is
-    /// told that the first array misses, that isn't asked.
+    /// General lookup, level by level: returns what was hit, touches the array that hits, and fills
+    /// those of lower levels that hold the leaf's order. `None` where no array hits. `missed`: skip
+    /// the first array.
     #[inline]
     pub fn look(&mut self, kind: Kind, missed: bool, space: u16, page: u64) -> Option<Hit>
         requires missed { missed ≡ true → FirstMisses space page self.old.arrays }
@@ -368,8 +367,8 @@ impl Levels {
         }
     }
 
-    /// Does what `look` does, where the first array has the leaf of 4 KiB that is sought, and gives its word. None
-    /// where it hasn't; then nothing changes.
+    /// Like `look`, where the first array holds the leaf of 4 KiB that is sought: its word. `None`
+    /// where it doesn't; then nothing changes.
     #[inline(always)]
     pub fn hit_in_turn(&mut self, kind: Kind, sought: Sought) -> Option<u64>
         requires { IsSought order_of.K4 sought }

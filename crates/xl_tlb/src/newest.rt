@@ -1,4 +1,4 @@
-//! Pages that the newest leaves of the first array answered of late.
+//! Memo of pages that hit the newest leaf of their set in the first array.
 
 ghost use Rattle.std.specs.Prelude.{true, ◌≡◌, ◌<◌, ◌^◌, ◌+◌, ◌*◌, ◌%◌, List, IfSome};
 ghost use Rattle.xl_model.specs.Tlb.{TlbArray};
@@ -17,7 +17,7 @@ pub(crate) struct Newest {
     words: [u64; 8],
 }
 
-/// What stands where no page is known: it is no page's tag.
+/// Empty slot; no tag has this value.
 const NONE: u64 = u64::MAX;
 
 impl Newest {
@@ -54,7 +54,7 @@ impl Newest {
         self.keys[place] = NONE;
     }
 
-    /// The word of the leaf that answers the page, where that is known.
+    /// The word of the leaf that the page hits, where the memo has it.
     #[inline]
     pub fn word(&self, sought: Sought) -> Option<u64>
         requires { IsSought order.K4 sought }
@@ -68,7 +68,7 @@ impl Newest {
         None
     }
 
-    /// Keeps the word of the leaf that answers the page, where leaves of its set came or moved.
+    /// Keeps the word of the leaf that the page hits, after leaves of its set moved.
     #[inline]
     pub fn renew(&mut self, eights: bool, sought: Sought, word: u64)
         requires { IsSought order.K4 sought }
@@ -80,7 +80,7 @@ impl Newest {
         self.keep(sought, word);
     }
 
-    /// Keeps the word of the leaf that answers the page.
+    /// Keeps the word of the leaf that the page hits.
     #[inline]
     fn keep(&mut self, sought: Sought, word: u64)
         requires { IsSought order.K4 sought }

@@ -1,4 +1,4 @@
-//! Where the leaves of an array stand.
+//! Where the leaves of an array are.
 
 ghost use Rattle.std.specs.Prelude.{true, ◌≡◌, ◌<◌, ◌%◌, ◌^◌};
 ghost use Rattle.xl_model.specs.Tlb.{serves_as, set_number, takes_order};
@@ -88,7 +88,7 @@ impl Places {
     pub fn sets_are_few(&self)
         ensures { self.now.sets < 2 ^ 32 }
     {
-        // A look at a field brings in what the type keeps.
+        // Reading a field brings in the type's invariant.
         let _sets = self.spec.sets;
     }
 

@@ -18,7 +18,7 @@ pub(crate) struct RangeItem {
     pub(crate) more: u64,
 }
 
-/// What stands in places of a list that hold nothing.
+/// Fills unused slots of a list.
 pub(crate) const BLANK: RangeItem = RangeItem {
     tag: 0,
     word: 0,

@@ -58,7 +58,7 @@ fn drop_reached(cache: &mut Cache<RangeItem>, reach: Reach) -> u64
 }
 
 impl RangeList {
-    /// An empty list of the width. It stands in the value itself, so memory is never wanting.
+    /// An empty list of the width. Stored inline; never allocates.
     pub fn open(alloc: Global, width: u8) -> Result<RangeList, NoMemory>
         requires { IsWidth width }
         ensures ok { IsOk result }

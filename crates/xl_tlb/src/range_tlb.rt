@@ -57,7 +57,7 @@ fn is_in(range: &Range, space: u16, page: u64) -> bool
 }
 
 impl RangeTlb {
-    /// An empty TLB of the width. It stands in the value itself, so memory is never wanting.
+    /// An empty TLB of the width. Stored inline; never allocates.
     pub fn open(alloc: Global, width: u8) -> Result<RangeTlb, NoMemory>
         requires { IsWidth width }
         ensures ok { IsOk result }

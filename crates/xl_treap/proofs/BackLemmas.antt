@@ -1,4 +1,4 @@
--- The words of a treap tell what it holds.
+-- The words of a treap say what it holds.
 use Rattle.xl_treap.proofs.Common.{◌*◌, ◌+◌, ◌/◌, ◌<◌, ◌^◌, ◌∙◌, ◌∷◌, ◌≡◌, ◌≤◌, [], ap, arith, end_of, ended, find, found, get_or-replicate, holds_page, In, In-append, inl, inr, IsEmpty, IsKept, IsReached, IsTreap, key_at, length, length-append, length-replicate, List, Once, once-more, Option, Range, range_of_link, range_reads, ranges, refl, replicate, search_from, Searched, seen_in, slice_index, subst, suc, sym, Tip, Tree, tree_at, upto, WordsReadBack, zero, ℕ}
 use Rattle.xl_treap.proofs.FoundLemmas.{found-is, seek-tree}
 use Rattle.xl_treap.proofs.KeptLemmas.{stands-treap}

@@ -1,4 +1,4 @@
--- Another tree so many steps down a way: the ranges, the priorities and the words of the whole.
+-- Another tree n steps down a path: the ranges, the priorities and the words of the whole.
 use Rattle.xl_treap.proofs.Common.{◌%◌, ◌++◌, ◌/◌, ◌<◌, ◌==◌, ◌^◌, ◌∙◌, ◌∷◌, ◌≡◌, ◌≤◌, [], ap, append_assoc, arith, Bin, Bool, cond, cut_high, cut_low, down, Each, end_key, false, graft, In, In-left, In-right, inl, InOrder, inr, IsAt, IsHeap, left_at, List, nat_lt, nat_tests, Off, Over, pick-no, pick-yes, Range, range_key, ranges, refl, resized, right_at, SameLine, SameOff, subst, suc, sym, Tip, Tree, true, with_range, without_range, zero, ℕ}
 use Rattle.xl_treap.proofs.FrameLemmas.{at-keeps, each-map, each-off, frame, node-same, off-key, with_child}
 use Rattle.xl_treap.proofs.OrderLemmas.{order-In, side}

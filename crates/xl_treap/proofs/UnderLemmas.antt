@@ -1,4 +1,4 @@
--- What stands under a link.
+-- What is under a link.
 use Rattle.xl_treap.proofs.Common.{◌+◌, ◌-◌, ◌<◌, ◌^◌, ◌∙◌, ◌≡◌, ap, arith, Bin, end_key, In, InOrder, IsAt, IsFit, IsNode, IsTree, left_at, length, List, Range, range_key, range_of_link, ranges, refl, right_at, Some, subst, suc, Tip, Tree, ℕ}
 use Rattle.xl_treap.proofs.OrderLemmas.{order-apart, order-In, sizes}
 use Rattle.xl_treap.proofs.WordLemmas.{node-said}

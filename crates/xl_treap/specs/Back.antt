@@ -1,4 +1,4 @@
--- What a search of a treap comes to, read from the words, and its loads.
+-- The result of a search of a treap, read from the words, and its loads.
 use Rattle.std.specs.Prelude.{ℕ, zero, suc, ◌+◌, ◌-◌, ◌*◌, nat_lt, if◌then◌else◌, List, length, slice_index, Option, None, Some}
 use Rattle.xl_model.specs.declared.leaf.Range.{Range}
 use Rattle.xl_treap.specs.declared.along.Search.{Search}

@@ -1,4 +1,4 @@
--- Trees of ranges, how they stand in words, and how they are changed. Their keys rise from left to right, and the
+-- Trees of ranges, their words, and their changes. Their keys rise from left to right, and the
 -- priorities of their keys rise downwards.
 use Rattle.std.specs.Prelude.{ℕ, zero, suc, ◌≡◌, ◌-◌, ◌≤◌, true, nat_lt, if◌then◌else◌, List, [], ◌∷◌, ◌++◌, Option, None, Some}
 use Rattle.xl_model.specs.declared.leaf.Range.{Range}
