@@ -1,39 +1,40 @@
 -- A command that is done purges the leaf that it names.
-use Rattle.std.proofs.Common.{◌&&◌, ◌==◌, ◌∙◌, ◌∷◌, ◌≡◌, ◌⊎◌, [], ap, arith, Bool, Err, false, find, inl, inr, List, None, Ok, Option, refl, Result, Some, sym, true, ℕ}
+use Rattle.std.proofs.Common.{◌≡◌, ℕ, ◌==◌, ◌&&◌, Bool, true, false, List, [], ◌∷◌, find, Option, None, Some, Result, Ok, Err, ◌⊎◌, inl, inr, refl, sym, ◌∙◌, ap, arith}
 use Rattle.std.proofs.lemmas.Bool.Decides.{nat_tests}
 use Rattle.std.specs.Cmp.{first_so, second_so}
-use Rattle.xl_curve.specs.Tests.{purges}
-use Rattle.xl_curve_model.specs.CurveRun.{curve_after, curve_followed, curve_looked_where, curve_purged, old_of, unless_refused}
-use Rattle.xl_curve_model.specs.Curves.{curve_without, HitCurve}
-use Rattle.xl_model.specs.Addresses.{is_canonical, page_of, same_order}
-use Rattle.xl_model.specs.Changes.{Change}
-use Rattle.xl_model.specs.Frames.{lowest}
-use Rattle.xl_model.specs.Mapping.{covers, is_leaf, leaf_at_page, leaf_named}
-use Rattle.xl_model.specs.RowRun.{changed_outcome, outcome_after_rule, outcome_by, outcome_of, reach_of, refusal_of, RowState, served_outcome}
-use Rattle.xl_model.specs.Rows.{Row}
-use Rattle.xl_model.specs.Rules.{change_of, insert_at, named_rule, or_else, overlap_rule, place_rule, rule, there_rule, unless}
-use Rattle.xl_model.specs.Structures.{table_answer}
-use Rattle.xl_model.specs.Tlb.{is_purged, reaches_leaf}
 use Rattle.xl_model.specs.declared.address.Kind.{Kind}
 use Rattle.xl_model.specs.declared.address.Order.{Order}
 use Rattle.xl_model.specs.declared.event.Event.{Event}
+use Rattle.xl_model.specs.declared.event.Event.TheVariants as event
 use Rattle.xl_model.specs.declared.event.Outcome.{Outcome}
+use Rattle.xl_model.specs.declared.event.Outcome.TheVariants as outcome
 use Rattle.xl_model.specs.declared.event.Refusal.{Refusal}
+use Rattle.xl_model.specs.declared.event.Refusal.TheVariants as refused
 use Rattle.xl_model.specs.declared.event.Scope.{Scope}
+use Rattle.xl_model.specs.declared.event.Scope.TheVariants as scope
 use Rattle.xl_model.specs.declared.leaf.Leaf.{Leaf}
-use Rattle.xl_model.specs.declared.row.Purge.{Purge}
 use Rattle.xl_model.specs.declared.work.Refused.{Refused}
 use Rattle.xl_model.specs.declared.work.Work.{Work}
+use Rattle.xl_model.specs.declared.row.Purge.{Purge}
+use Rattle.xl_model.specs.declared.row.Purge.TheVariants as purge
+use Rattle.xl_model.specs.Addresses.{is_canonical, page_of, same_order}
+use Rattle.xl_model.specs.Changes.{Change}
+use Rattle.xl_curve_model.specs.Curves.{HitCurve, curve_accessed, curve_without}
+use Rattle.xl_curve_model.specs.CurveRun.{curve_looked, curve_looked_where, curve_purged, old_of, curve_followed, unless_refused, curve_after}
+use Rattle.xl_model.specs.Mapping.{covers, is_leaf, leaf_at_page, leaf_named}
+use Rattle.xl_model.specs.RowRun.{RowState, outcome_of, outcome_after_rule, served_outcome, outcome_by, changed_outcome, reply_to, refusal_of, reach_of}
+use Rattle.xl_model.specs.Scenes.{Served}
+use Rattle.xl_model.specs.Structures.{table_answer}
+use Rattle.xl_model.specs.Rows.{Row}
+use Rattle.xl_model.specs.Rules.{or_else, unless, place_rule, named_rule, there_rule, overlap_rule, insert_at, rule, change_of}
+use Rattle.xl_model.specs.Frames.{lowest}
+use Rattle.xl_model.specs.Tlb.{is_purged, reaches_leaf}
+use Rattle.xl_model_lemmas.specs.Members.{In}
 use Rattle.xl_model_lemmas.proofs.MemberLemmas.{find-In, find-None, find-passes}
 use Rattle.xl_model_lemmas.proofs.OrderLemmas.{orders-same}
-use Rattle.xl_model_lemmas.proofs.RuleLemmas.{or-first, or-second}
-use Rattle.xl_model_lemmas.specs.Members.{In}
-use Rattle.xl_chart.specs.Follows.{followed, page_reach}
-use Rattle.xl_model.specs.declared.event.Event.TheVariants as event
-use Rattle.xl_model.specs.declared.event.Outcome.TheVariants as outcome
-use Rattle.xl_model.specs.declared.event.Refusal.TheVariants as refused
-use Rattle.xl_model.specs.declared.event.Scope.TheVariants as scope
-use Rattle.xl_model.specs.declared.row.Purge.TheVariants as purge
+use Rattle.xl_curve.specs.Tests.{purges}
+use Rattle.xl_chart.specs.Follows.{page_reach, followed}
+use Rattle.xl_model_lemmas.proofs.RuleLemmas.{or-second, or-first}
 
 -- a purge of a leaf is one by its name
 purged-named : (p : Purge) (old : Leaf) (space first : ℕ) (o : Order) → is_leaf space first o old ≡ true → is_purged p old ≡ purges p space first o
@@ -158,3 +159,23 @@ pub access_followed : (row : Row) (va : ℕ) (kind : Kind) (s : RowState) (c : H
     → curve_looked_where (is_canonical row.mode va) (leaf_at_page s.space (page_of row.mode va) s.table.leaves) c ≡ curve_after row (event.Access va kind) s c
 unfolding curve_after outcome_of rule
 access_followed row va kind s c = refl
+
+-- The same, where the leaf is known.
+pub found_followed : (row : Row) (va : ℕ) (kind : Kind) (s : RowState) (c : HitCurve) (leaf : Leaf) → is_canonical row.mode va ≡ true
+    → leaf_at_page s.space (page_of row.mode va) s.table.leaves ≡ Some leaf → curve_accessed leaf c ≡ curve_after row (event.Access va kind) s c
+found_followed row va kind s c leaf canonical is = sym (ap (λ (b : Bool). curve_looked_where b (leaf_at_page s.space (page_of row.mode va) s.table.leaves) c) canonical
+    ∙ ap (λ (o : Option Leaf). curve_looked o c) is) ∙ access_followed row va kind s c
+
+-- The outcome of an access is its reply.
+pub reply_outcome : (row : Row) (va : ℕ) (kind : Kind) (s : RowState) → outcome.Replied (reply_to row s va kind) ≡ outcome_of row (event.Access va kind) s
+unfolding outcome_of rule
+reply_outcome row va kind s = refl
+
+-- The same, looked for in another state of the row that has the same leaves.
+pub same_followed : (v w : Served) (va : ℕ) (kind : Kind) (c : HitCurve) → w.row ≡ v.row → w.state.space ≡ v.state.space → w.state.table.leaves ≡ v.state.table.leaves
+    → curve_looked_where (is_canonical w.row.mode va) (leaf_at_page w.state.space (page_of w.row.mode va) w.state.table.leaves) c ≡ curve_after v.row (event.Access va kind) v.state c
+same_followed v w va kind c r s l =
+    ap (λ (x : Row). curve_looked_where (is_canonical x.mode va) (leaf_at_page w.state.space (page_of x.mode va) w.state.table.leaves) c) r
+    ∙ ap (λ (n : ℕ). curve_looked_where (is_canonical v.row.mode va) (leaf_at_page n (page_of v.row.mode va) w.state.table.leaves) c) s
+    ∙ ap (λ (xs : List Leaf). curve_looked_where (is_canonical v.row.mode va) (leaf_at_page v.state.space (page_of v.row.mode va) xs) c) l
+    ∙ access_followed v.row va kind v.state c

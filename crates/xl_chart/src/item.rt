@@ -6,7 +6,7 @@ ghost use Rattle.xl_curve_model.specs.CurveRun.{charted_again, charted_demand};
 ghost use Rattle.xl_model.specs.Items.{area_for};
 ghost use Rattle.xl_model.specs.Scenes.{served_after};
 
-use crate::beside::step_beside;
+use crate::beside::{access_both, step_beside};
 use xl_areas::{Areas, map_for};
 use xl_curve::Curve;
 use xl_machine::Machine;
@@ -73,8 +73,8 @@ fn access_beside<S: Structure>(
 {
     let space = machine.space();
     let access = Event::Access { va, kind };
-    let outcome = step_beside(machine, curve, access);
-    let area = area_wanted(areas, outcome, space, va);
+    let reply = access_both(machine, curve, va, kind);
+    let area = area_wanted(areas, Outcome::Replied(reply), space, va);
     demand_beside(machine, curve, area, va, access);
 }
 

@@ -1,6 +1,5 @@
 -- What a change of one set's list of places is for the points of all widths.
-use Rattle.xl_curve.proofs.Common.{◌%◌, ◌++◌, ◌+◌, ◌-◌, ◌<◌, ◌^◌, ◌∙◌, ◌∷◌, ◌≡◌, ◌≤◌, [], ap, arith, array_filled, Bool, counted, curve_accessed, curve_missed, curve_of, curve_without, distance, drop, false, find, found_same, get_or, get_or-map, held, HitCurve, hits_at, hits_below, hits_of, IfSome, is_some, IsCurve, Leaf, length, length-map, length-set, List, looked_for, map, map-set, nat_lt, nat_tests, None, opening_curve, opening_point, Option, Order, pages_of, place_without, Point, point_accessed, point_at, point_without, purged, range_with_len, refl, removed, replicate, same_leaf, set, set_of, shifted, Some, spec_of_width, subst, suc, sum, sym, take, take-append-le, take-set-le, take_all, take_more_set, takes_order, touched, true, with_front, with_newest, zero, ℕ}
-use Rattle.std.proofs.lemmas.List.FromFn.{get_or-map-range_with_len, map-range_with_len_more}
+use Rattle.xl_curve.proofs.Common.{◌%◌, ◌++◌, ◌+◌, ◌-◌, ◌<◌, ◌^◌, ◌∙◌, ◌∷◌, ◌≡◌, ◌≤◌, [], ap, arith, array_filled, Bool, counted, curve_accessed, curve_missed, curve_of, curve_without, distance, drop, false, find, found_same, get_or, get_or-map, get_or-map-range_with_len, held, HitCurve, hits_at, hits_below, hits_of, IfSome, is_some, IsCurve, Leaf, length, length-map, length-set, List, looked_for, map, map-range_with_len_more, map-set, nat_lt, nat_tests, None, opening_curve, opening_point, Option, Order, pages_of, place_without, Point, point_accessed, point_at, point_without, purged, range_with_len, refl, removed, replicate, same_leaf, set, set_of, shifted, Some, spec_of_width, subst, suc, sum, sym, take, take-append-le, take-set-le, take_all, take_more_set, takes_order, touched, true, with_front, with_newest, zero, ℕ}
 use Rattle.std.proofs.lemmas.List.Sums.{sum_by-cons, sum_by_more}
 use Rattle.xl_model.specs.Base.{plus}
 use Rattle.xl_curve.proofs.SetLemmas.{front_kept, removed_kept}

@@ -1,7 +1,8 @@
 -- The steps of the loops over places.
-use Rattle.xl_curve.proofs.Common.{◌++◌, ◌+◌, ◌-◌, ◌<◌, ◌==◌, ◌∙◌, ◌∷◌, ◌≡◌, ◌≤◌, [], ap, append_assoc, AreMarks, arith, Bool, distance, drop, drop-map, drop-set, drop_all, drop_more, false, first_so, further, gap, get_or, get_or-map, get_or_default, gives_way, IfSome, is_leaf, is_vacant, IsNamed, IsOther, Leaf, leaf_in, length, length-map, length-take-le, List, list_all, map, map-append, map-set, map_over_more, mark_of, mark_unless, nat_tests, None, not, Option, Order, Place, place_of, place_without, places_of, refl, remove, same_leaf, same_words, second_so, set, shifted, Some, suc, sym, take, take-append-drop, take-map, take-set, take_all, take_at, take_more, true, vacated, zero, ℕ}
+use Rattle.xl_curve.proofs.Common.{◌++◌, ◌+◌, ◌-◌, ◌<◌, ◌==◌, ◌∙◌, ◌∷◌, ◌≡◌, ◌≢◌, ◌≤◌, [], ap, append_assoc, AreMarks, AreThinned, arith, Bool, distance, drop, drop-set, drop_all, drop_more, false, first_so, further, gap, get_or, get_or-map, get_or-set_other, get_or-set_same, get_or_default, gives_way, IfSome, in_turn, is_leaf, is_vacant, IsFirst, IsGap, IsNamed, IsNeither, IsSameOrHole, IsStack, Leaf, leaf_in, length, length-map, length-take-le, List, map, map-set, map_over_more, mark_of, mark_unless, nat_tests, None, not, Option, Order, Place, place_of, place_without, places_of, refl, same_leaf, same_words, set, shifted, Some, suc, sym, take, take-append-drop, take-set, take_all, take_at, take_more, true, vacated, zero, ℕ}
 use Rattle.std.proofs.Math.Seq.{drop-append_seam}
 use Rattle.xl_curve.proofs.PlaceLemmas.{same_parts}
+use Rattle.xl_curve.proofs.RankLemmas.{at_first, held_at, turn_at, turn_length}
 
 append_nil : {A : Type 0} (xs : List A) → xs ++ [] ≡ xs
 append_nil [] = refl
@@ -77,6 +78,17 @@ module _ {A : Type 0} (q : A → Bool) where
       ap (λ (xs : List (Option A)). further at (distance q xs)) (drop_more ps at None l)
       ∙ ap (further at) (distance_past (get_or ps at None) (drop (at + 1) ps) e)
       ∙ further_more at (distance q (drop (at + 1) ps))
+
+  pub pass_all : (ps : List (Option A)) (n from to : ℕ) → from + n ≡ to → to ≤ length ps
+      → ((k : ℕ) → from ≤ k → k < to → is_other q (get_or ps k None) ≡ true)
+      → (take from ps ++ vacated q (drop from ps) ≡ take to ps ++ vacated q (drop to ps)) × (further from (distance q (drop from ps)) ≡ further to (distance q (drop to ps)))
+  pass_all ps zero from to e l other =
+      let same : from ≡ to = omega arith in
+      (ap (λ (k : ℕ). take k ps ++ vacated q (drop k ps)) same, ap (λ (k : ℕ). further k (distance q (drop k ps))) same)
+  pass_all ps (suc n) from to e l other =
+      let more = pass_all ps n (from + 1) to (omega arith) l (λ k a b. other k (omega arith) b) in
+      let o = other from (omega arith) (omega arith) in
+      (pass_places ps from (omega arith) o ∙ more.0, pass_distance ps from (omega arith) o ∙ more.1)
 
   pub left : (ps : List (Option A)) (at : ℕ) (x : A) → at < length ps → get_or ps at None ≡ Some x → q x ≡ true
       → set ps at None ≡ take at ps ++ vacated q (drop at ps)
@@ -188,24 +200,24 @@ module _ {A : Type 0} (q : A → Bool) where
           let m = more n (some_suc (gap q ps) n (rw t at f)) i in
           rw t (ap (λ (xs : List (Option A)). Some x ∷ xs) m.0, ap (further 1) m.1 ∙ further_suc (suc n) (distance q (drop (suc n) ps)))
 
-  -- As far as its own place.
-  abbrev pub OwnClosed : A → List (Option A) → ℕ → Type 0
-  OwnClosed x ps at = (shifted q x ps ≡ Some x ∷ take at ps ++ drop (suc at) ps) × (distance q ps ≡ Some at)
+  -- As far as its own place, which has an item that meets the test.
+  abbrev pub OwnClosed : A → List (Option A) → ℕ → A → Type 0
+  OwnClosed x ps at z = (shifted q x ps ≡ Some x ∷ take at ps ++ drop (suc at) ps) × (distance q ps ≡ Some at) × (q z ≡ true)
 
-  pub own_closed : (x : A) (ps : List (Option A)) (at : ℕ) (z : A) → gap q ps ≡ Some at → get_or ps at None ≡ Some z → OwnClosed x ps at
+  pub own_closed : (x : A) (ps : List (Option A)) (at : ℕ) (z : A) → gap q ps ≡ Some at → get_or ps at None ≡ Some z → OwnClosed x ps at z
   own_closed x [] at z e h = absurd (cc)
   own_closed x (None ∷ ps) zero z e h = absurd (cc)
   own_closed x (None ∷ ps) (suc at) z e h = let k : 0 ≡ suc at = cc in absurd (omega arith)
   own_closed x (Some y ∷ ps) at z e h = go (q y) refl at e h (λ k. own_closed y ps k z)
     where
       go : (b : Bool) → q y ≡ b → (n : ℕ) → gap q (Some y ∷ ps) ≡ Some n → get_or (Some y ∷ ps) n None ≡ Some z
-          → ((k : ℕ) → gap q ps ≡ Some k → get_or ps k None ≡ Some z → OwnClosed y ps k) → OwnClosed x (Some y ∷ ps) n
-      go true t zero f i more = rw t (refl, refl)
+          → ((k : ℕ) → gap q ps ≡ Some k → get_or ps k None ≡ Some z → OwnClosed y ps k z) → OwnClosed x (Some y ∷ ps) n z
+      go true t zero f i more = let s : z ≡ y = cc in let own : q z ≡ true = ap q s ∙ t in rw t (refl, refl, own)
       go true t (suc n) f i more = let g : Some 0 ≡ Some (suc n) = rw t at f in let k : 0 ≡ suc n = cc in absurd (omega arith)
       go false t zero f i more = absurd (never_zero (gap q ps) (rw t at f))
       go false t (suc n) f i more =
           let m = more n (some_suc (gap q ps) n (rw t at f)) i in
-          rw t (ap (λ (xs : List (Option A)). Some x ∷ xs) m.0, ap (further 1) m.1 ∙ ap (λ (k : ℕ). Some k) (omega arith))
+          rw t (ap (λ (xs : List (Option A)). Some x ∷ xs) m.0, ap (further 1) m.1 ∙ ap (λ (k : ℕ). Some k) (omega arith), m.2)
 
   -- There is no hole, and the item is in no place.
   pub all_give_way : (x : A) (ps : List (Option A)) → gap q ps ≡ None → (shifted q x ps ≡ Some x ∷ ps) × (distance q ps ≡ None)
@@ -221,16 +233,6 @@ module _ {A : Type 0} (q : A → Bool) where
           rw t (ap (λ (xs : List (Option A)). Some x ∷ xs) m.0, ap (further 1) m.1)
 
 -- ---- places move on
-
--- The places after a leaf was put in front, over the one at `at`.
-pub front_places : (ps : List Place) (at : ℕ) (leaf : Place) → is_vacant leaf ≡ false
-    → places_of (leaf ∷ remove ps at) ≡ Some (leaf_in leaf) ∷ take at (places_of ps) ++ drop (suc at) (places_of ps)
-front_places ps at leaf solid =
-    ap (λ (o : Option Leaf). o ∷ places_of (remove ps at)) (solid_place leaf solid)
-    ∙ ap (λ (xs : List (Option Leaf)). Some (leaf_in leaf) ∷ xs)
-    (map-append place_of (take at ps) (drop (suc at) ps)
-    ∙ ap (λ (xs : List (Option Leaf)). xs ++ places_of (drop (suc at) ps)) (sym (take-map place_of at ps))
-    ∙ ap (λ (xs : List (Option Leaf)). take at (places_of ps) ++ xs) (sym (drop-map place_of (suc at) ps)))
 
 module _ {A : Type 0} (x : A) (xs ys : List A) (n : ℕ) (same : length xs ≡ n) where
   pub front_taken : take (n + 1) (x ∷ xs ++ ys) ≡ x ∷ xs
@@ -264,6 +266,15 @@ hole_distance q leaf old front at e h f =
     ∙ ap (λ (k : ℕ). further k (distance q (drop (suc at) old))) (omega arith)
     ∙ sym (hole_closed q leaf old at e h).1
 
+-- A slot that was found for a rank is the first of its own.
+pub first_own : (rank slot : ℕ) (ranks : List ℕ) → IsFirst rank slot ranks → IsFirst (get_or ranks slot 0) slot ranks
+first_own rank slot ranks f = record { is = refl; others = λ k m h. f.others k m (h ∙ f.is) }
+
+pub gap_there : (q : Leaf → Bool) (rank slot : ℕ) (ranks : List ℕ) (slots : List Place) → slot < 64 → rank < 64 → IsFirst rank slot ranks
+    → gap q (in_turn ranks (places_of slots)) ≡ Some rank → IsGap q slot ranks slots
+gap_there q rank slot ranks slots within below f g =
+    record { within = within; below = omega (arith, f.is); first = first_own rank slot ranks f; is = g ∙ ap (λ (k : ℕ). Some k) (sym f.is) }
+
 -- There is no gap, and the last place goes.
 pub last_goes : (q : Leaf → Bool) (leaf : Leaf) (old new : List (Option Leaf)) (n : ℕ) → length old ≡ n → 0 < n → gap q old ≡ None
     → new ≡ Some leaf ∷ take (n - 1) old ++ drop (suc (n - 1)) old → new ≡ take n (shifted q leaf old)
@@ -276,17 +287,32 @@ last_goes q leaf old new n same some e f =
 
 -- ---- marks
 
--- A place with another mark than a leaf's and a hole's gives way to the leaf.
-other_gives : (leaf p : Place) → is_vacant leaf ≡ false → IsOther (mark_of leaf) (mark_of p) → gives_way (same_leaf (leaf_in leaf)) (place_of p) ≡ true
-other_gives leaf p solid other = go (is_vacant p) (same_leaf (leaf_in leaf) (leaf_in p)) refl refl
+-- A place with another mark than a leaf's has another leaf.
+marked_other : (leaf p : Place) → is_vacant leaf ≡ false → is_vacant p ≡ false → mark_of p ≢ mark_of leaf → same_leaf (leaf_in leaf) (leaf_in p) ≡ false
+marked_other leaf p solid filled other = go (same_leaf (leaf_in leaf) (leaf_in p)) refl
   where
-    go : (v s : Bool) → is_vacant p ≡ v → same_leaf (leaf_in leaf) (leaf_in p) ≡ s → gives_way (same_leaf (leaf_in leaf)) (place_of p) ≡ true
-    go true s e f = absurd (other.1 (ap (λ (b : Bool). mark_unless b p.tag) e))
-    go false false e f = rw (solid_place p e, f) refl
-    go false true e f =
+    go : (s : Bool) → same_leaf (leaf_in leaf) (leaf_in p) ≡ s → same_leaf (leaf_in leaf) (leaf_in p) ≡ false
+    go false f = f
+    go true f =
         let t : (p.tag == leaf.tag) ≡ true = first_so (p.tag == leaf.tag) (same_words leaf.word p.word) (sym (same_parts leaf p) ∙ f) in
         let same : p.tag ≡ leaf.tag = grind (arith, nat_tests) in
-        absurd (other.0 (ap (λ (b : Bool). mark_unless b p.tag) e ∙ ap (λ (n : ℕ). mark_unless false n) same ∙ sym (ap (λ (b : Bool). mark_unless b leaf.tag) solid)))
+        absurd (other (ap (λ (b : Bool). mark_unless b p.tag) filled ∙ ap (λ (n : ℕ). mark_unless false n) same ∙ sym (ap (λ (b : Bool). mark_unless b leaf.tag) solid)))
+
+-- A place with another mark than a leaf's and a hole's gives way to the leaf.
+other_gives : (leaf p : Place) → is_vacant leaf ≡ false → IsNeither (mark_of leaf) 255 (mark_of p) → gives_way (same_leaf (leaf_in leaf)) (place_of p) ≡ true
+other_gives leaf p solid other = go (is_vacant p) refl
+  where
+    go : (v : Bool) → is_vacant p ≡ v → gives_way (same_leaf (leaf_in leaf)) (place_of p) ≡ true
+    go true e = absurd (other.1 (ap (λ (b : Bool). mark_unless b p.tag) e))
+    go false e = rw (solid_place p e, marked_other leaf p solid e other.0) refl
+
+-- One with another mark than the leaf's is passed.
+other_passed : (leaf p : Place) → is_vacant leaf ≡ false → mark_of p ≢ mark_of leaf → is_other (same_leaf (leaf_in leaf)) (place_of p) ≡ true
+other_passed leaf p solid other = go (is_vacant p) refl
+  where
+    go : (v : Bool) → is_vacant p ≡ v → is_other (same_leaf (leaf_in leaf)) (place_of p) ≡ true
+    go true e = rw (vacant_place p e) refl
+    go false e = rw (solid_place p e, marked_other leaf p solid e other) refl
 
 -- Places that give way are passed.
 pass_gaps : {A : Type 0} (q : A → Bool) (ps : List (Option A)) (n from to : ℕ) → from + n ≡ to → to ≤ length ps
@@ -301,30 +327,58 @@ module _ (marks : List ℕ) (places : List Place) (are : AreMarks marks places) 
   mark_read : (k : ℕ) (d : Place) → k < length places → get_or marks k 0 ≡ mark_of (get_or places k d)
   mark_read k d l = ap (λ (ms : List ℕ). get_or ms k 0) are ∙ get_or-map mark_of places k d 0 l
 
-  -- Places with other marks are passed.
-  pub others_passed : (leaf : Place) (from to : ℕ) → is_vacant leaf ≡ false → from ≤ to → to ≤ length places
-      → ((k : ℕ) → from ≤ k → k < to → IsOther (mark_of leaf) (get_or marks k 0))
-      → further from (gap (same_leaf (leaf_in leaf)) (drop from (places_of places))) ≡ further to (gap (same_leaf (leaf_in leaf)) (drop to (places_of places)))
-  others_passed leaf from to solid l m others =
-      pass_gaps (same_leaf (leaf_in leaf)) (places_of places) (to - from) from to (omega arith) (rw (length-map places place_of) m)
-      (λ k a b.
-      let d : Place = record { tag = 0; word = 0 } in
-      let inside : k < length places = omega arith in
-      let other : IsOther (mark_of leaf) (mark_of (get_or places k d)) = rw (mark_read k d inside) at (others k a b) in
-      rw (read places k d inside) (other_gives leaf (get_or places k d) solid other))
-
   pub mark_written : (at mark : ℕ) (p : Place) → mark ≡ mark_of p → AreMarks (set marks at mark) (set places at p)
   mark_written at mark p is =
       ap (λ (m : ℕ). set marks at m) is ∙ ap (λ (ms : List ℕ). set ms at (mark_of p)) are ∙ sym (map-set mark_of places at p)
 
-  pub marks_moved : (at mark : ℕ) (p : Place) → mark ≡ mark_of p → AreMarks (mark ∷ remove marks at) (p ∷ remove places at)
-  marks_moved at mark p is =
-      ap (λ (m : ℕ). m ∷ remove marks at) is
-      ∙ ap (λ (ms : List ℕ). mark_of p ∷ remove ms at) are
-      ∙ ap (λ (ms : List ℕ). mark_of p ∷ ms)
-      (ap (λ (ms : List ℕ). ms ++ drop (suc at) (map mark_of places)) (take-map mark_of at places)
-      ∙ ap (λ (ms : List ℕ). map mark_of (take at places) ++ ms) (drop-map mark_of (suc at) places)
-      ∙ sym (map-append mark_of (take at places) (drop (suc at) places)))
+module _ (marks ranks : List ℕ) (slots : List Place) (kept : IsStack marks ranks slots) (r64 : length ranks ≡ 64) (s64 : length slots ≡ 64) where
+  abbrev all : List (Option Leaf)
+  all = in_turn ranks (places_of slots)
+
+  p64 : length (places_of slots) ≡ 64
+  p64 = length-map slots place_of ∙ s64
+
+  -- What is at the rank of a slot.
+  pub at_slot : (rank slot : ℕ) (d : Place) → rank < 64 → slot < 64 → IsFirst rank slot ranks → get_or all rank None ≡ place_of (get_or slots slot d)
+  at_slot rank slot d l m f =
+      turn_at ranks (places_of slots) rank l ∙ at_first rank slot ranks (places_of slots) (omega (arith, p64)) (omega arith) f ∙ read slots slot d (omega arith)
+
+  -- What holds of the slots of these ranks holds of the places there.
+  held_from : (t : Option Leaf → Bool) (from to : ℕ) → to ≤ 64
+      → ((s : ℕ) (d : Place) → s < 64 → from ≤ get_or ranks s 0 → get_or ranks s 0 < to → t (place_of (get_or slots s d)) ≡ true)
+      → (k : ℕ) → from ≤ k → k < to → t (get_or all k None) ≡ true
+  held_from t from to small each k a b =
+      let h = kept.ranked k (omega arith) in
+      rw (turn_at ranks (places_of slots) k (omega arith))
+      (held_at t k h.slot ranks (places_of slots) (omega (arith, p64)) (omega (arith, h.within)) h.is
+      (λ s l is.
+      let d : Place = record { tag = 0; word = 0 } in
+      rw (read slots s d (omega arith)) (each s d (omega arith) (omega arith) (omega arith))))
+
+  -- Places with other marks than a leaf's and a hole's are passed on the way to the gap.
+  pub gaps_passed : (leaf : Place) (from to : ℕ) → is_vacant leaf ≡ false → from ≤ to → to ≤ 64
+      → ((s : ℕ) → s < 64 → from ≤ get_or ranks s 0 → get_or ranks s 0 < to → IsNeither (mark_of leaf) 255 (get_or marks s 0))
+      → further from (gap (same_leaf (leaf_in leaf)) (drop from all)) ≡ further to (gap (same_leaf (leaf_in leaf)) (drop to all))
+  gaps_passed leaf from to solid l m others =
+      pass_gaps (same_leaf (leaf_in leaf)) all (to - from) from to (omega arith) (omega (arith, turn_length ranks (places_of slots)))
+      (held_from (gives_way (same_leaf (leaf_in leaf))) from to m
+      (λ s d n a b.
+      let inside : s < length slots = omega arith in
+      let other : IsNeither (mark_of leaf) 255 (mark_of (get_or slots s d)) = rw (mark_read marks slots kept.marked s d inside) at (others s n a b) in
+      other_gives leaf (get_or slots s d) solid other))
+
+  -- Places with other marks than a leaf's are passed on the way to the leaf.
+  pub places_passed : (leaf : Place) (from to : ℕ) → is_vacant leaf ≡ false → from ≤ to → to ≤ 64
+      → ((s : ℕ) → s < 64 → from ≤ get_or ranks s 0 → get_or ranks s 0 < to → get_or marks s 0 ≢ mark_of leaf)
+      → (take from all ++ vacated (same_leaf (leaf_in leaf)) (drop from all) ≡ take to all ++ vacated (same_leaf (leaf_in leaf)) (drop to all))
+      × (further from (distance (same_leaf (leaf_in leaf)) (drop from all)) ≡ further to (distance (same_leaf (leaf_in leaf)) (drop to all)))
+  places_passed leaf from to solid l m others =
+      pass_all (same_leaf (leaf_in leaf)) all (to - from) from to (omega arith) (omega (arith, turn_length ranks (places_of slots)))
+      (held_from (is_other (same_leaf (leaf_in leaf))) from to m
+      (λ s d n a b.
+      let inside : s < length slots = omega arith in
+      let other : mark_of (get_or slots s d) ≢ mark_of leaf = rw (mark_read marks slots kept.marked s d inside) at (others s n a b) in
+      other_passed leaf (get_or slots s d) solid other))
 
 -- ---- what passes a test leaves a hole
 
@@ -340,23 +394,17 @@ purged_more f ps ls at p d l same so is =
     ∙ ap (set (places_of ls) at) (is ∙ ap f (sym r))
     ∙ map_over_more f (places_of ps) (places_of ls) at o m so (get_or_default (places_of ls) at None o (rw (length-map ls place_of) l))
 
-all_set : {A : Type 0} (t : A → Bool) (xs : List A) (i : ℕ) (x : A) → list_all t xs ≡ true → t x ≡ true → list_all t (set xs i x) ≡ true
-all_set t [] i x h e = refl
-all_set t (y ∷ xs) zero x h e = rw e (second_so (t y) (list_all t xs) h)
-all_set t (y ∷ xs) (suc i) x h e = rw (first_so (t y) (list_all t xs) h) (all_set t xs i x (second_so (t y) (list_all t xs) h) e)
-
-all_read : {A : Type 0} (t : A → Bool) (xs : List A) (i : ℕ) (d : A) → i < length xs → list_all t xs ≡ true → t (get_or xs i d) ≡ true
-all_read t [] i d l h = absurd (omega arith)
-all_read t (y ∷ xs) zero d l h = first_so (t y) (list_all t xs) h
-all_read t (y ∷ xs) (suc i) d l h = all_read t xs i d (omega arith) (second_so (t y) (list_all t xs) h)
-
--- one place more is as it was, or a hole
-pub thinned_more : (t : Option Leaf → Bool) (ls : List Place) (at : ℕ) (p d : Place) → at < length ls → list_all t (places_of ls) ≡ true
-    → (t (place_of (get_or ls at d)) ≡ true → t (place_of p) ≡ true) → list_all t (places_of (set ls at p)) ≡ true
-thinned_more t ls at p d l h goes =
-    let m : at < length (places_of ls) = rw (length-map ls place_of) l in
-    rw (map-set place_of ls at p)
-    (all_set t (places_of ls) at (place_of p) h (goes (rw (← read ls at d l) (all_read t (places_of ls) at None m h))))
+-- one slot more is as it was, or a hole
+pub thinned_more : (old : List (Option Leaf)) (ls : List Place) (at : ℕ) (p d : Place) → at < length ls → AreThinned old (places_of ls)
+    → IsSameOrHole (place_of (get_or ls at d)) (place_of p) → AreThinned old (places_of (set ls at p))
+thinned_more old ls at p d l thinned goes = λ s t hole held. rw (map-set place_of ls at p) (go s (s == at) refl t hole held)
+  where
+    go : (s : ℕ) (b : Bool) → (s == at) ≡ b → IsSameOrHole (get_or old s None) (get_or (set (places_of ls) at (place_of p)) s None)
+    go s true e = λ t hole held.
+        let is : s ≡ at = grind (arith, nat_tests) in
+        rw (is, get_or-set_same (places_of ls) at (place_of p) None (rw (length-map ls place_of) l))
+        (goes t hole (rw (← read ls at d l, ← is) (thinned s t hole held)))
+    go s false e = let n : s ≢ at = grind (arith, nat_tests) in rw (get_or-set_other (places_of ls) at s (place_of p) None n) (thinned s)
 
 -- ---- the distance
 
@@ -392,8 +440,8 @@ without_met q p hole vacant solid t = rw (vacant_place hole vacant, solid_place 
 pub without_kept : (q : Leaf → Bool) (p : Place) → is_vacant p ≡ false → q (leaf_in p) ≡ false → place_of p ≡ place_without q (place_of p)
 without_kept q p solid f = rw (solid_place p solid, f) refl
 
--- A place with another mark than a name's and a hole's has another leaf than the name's.
-unnamed : (space first : ℕ) (o : Order) (named p : Place) → IsNamed space first o named → IsOther (mark_of named) (mark_of p)
+-- A place with another mark than a name's has another leaf than the name's.
+unnamed : (space first : ℕ) (o : Order) (named p : Place) → IsNamed space first o named → mark_of p ≢ mark_of named
     → place_without (is_leaf space first o) (place_of p) ≡ place_of p
 unnamed space first o named p n other = go (is_vacant p) (p.tag == named.tag) refl refl
   where
@@ -402,14 +450,14 @@ unnamed space first o named p n other = go (is_vacant p) (p.tag == named.tag) re
     go false false e f = sym (without_kept (is_leaf space first o) p e (n.named p ∙ f))
     go false true e f =
         let same : p.tag ≡ named.tag = grind (arith, nat_tests) in
-        absurd (other.0 (ap (λ (b : Bool). mark_unless b p.tag) e ∙ ap (λ (k : ℕ). mark_unless false k) same ∙ sym (ap (λ (b : Bool). mark_unless b named.tag) n.solid)))
+        absurd (other (ap (λ (b : Bool). mark_unless b p.tag) e ∙ ap (λ (k : ℕ). mark_unless false k) same ∙ sym (ap (λ (b : Bool). mark_unless b named.tag) n.solid)))
 
 -- Where all marks are other ones, no leaf of the name is removed.
 pub none_named : (space first : ℕ) (o : Order) (named : Place) (marks : List ℕ) (places : List Place) → IsNamed space first o named → AreMarks marks places
-    → ((k : ℕ) → k < length places → IsOther (mark_of named) (get_or marks k 0)) → map (place_without (is_leaf space first o)) (places_of places) ≡ places_of places
+    → ((k : ℕ) → k < length places → get_or marks k 0 ≢ mark_of named) → map (place_without (is_leaf space first o)) (places_of places) ≡ places_of places
 none_named space first o named marks places n are others = go places (λ k l. rw are at (others k l))
   where
-    go : (ps : List Place) → ((k : ℕ) → k < length ps → IsOther (mark_of named) (get_or (map mark_of ps) k 0)) → map (place_without (is_leaf space first o)) (places_of ps) ≡ places_of ps
+    go : (ps : List Place) → ((k : ℕ) → k < length ps → get_or (map mark_of ps) k 0 ≢ mark_of named) → map (place_without (is_leaf space first o)) (places_of ps) ≡ places_of ps
     go [] h = refl
     go (p ∷ ps) h =
         ap (λ (x : Option Leaf). x ∷ map (place_without (is_leaf space first o)) (places_of ps)) (unnamed space first o named p n (h zero (omega arith)))

@@ -1,6 +1,6 @@
 -- A recency list with holes: one list of places that represents the lists of all widths.
-use Rattle.std.specs.Prelude.{◌≡◌, ◌≢◌, ℕ, zero, suc, ◌+◌, ◌/◌, ◌%◌, ◌==◌, Bool, ◌&&◌, true, false, not, if◌then◌else◌, List, [], ◌∷◌, map, Option, None, Some}
-use Rattle.std.specs.List.{list_all}
+use Rattle.std.specs.Prelude.{◌≡◌, ◌≢◌, ℕ, zero, suc, ◌+◌, ◌/◌, ◌%◌, ◌==◌, ◌<◌, nat_lt, Bool, ◌&&◌, true, false, not, if◌then◌else◌, List, [], ◌∷◌, map, slice_index_or, Option, None, Some}
+use Rattle.std.specs.List.{list_all, range_with_len}
 use Rattle.xl_model.specs.declared.address.Order.{Order}
 use Rattle.xl_model.specs.declared.leaf.Leaf.{Leaf}
 use Rattle.xl_model.specs.Addresses.{order_at}
@@ -53,9 +53,43 @@ mark_of p = mark_unless (is_vacant p) p.tag
 abbrev pub AreMarks : List ℕ → List Place → Type 0
 AreMarks marks places = marks ≡ map mark_of places
 
--- A mark is neither this one nor a hole's.
-abbrev pub IsOther : ℕ → ℕ → Type 0
-IsOther mark other = (other ≢ mark) × (other ≢ 255)
+-- A mark is neither of these two.
+abbrev pub IsNeither : ℕ → ℕ → ℕ → Type 0
+IsNeither mark other here = (here ≢ mark) × (here ≢ other)
+
+-- This is the first slot of a rank.
+pub record IsFirst (rank slot : ℕ) (ranks : List ℕ) : Type 0 where
+  pub is : slice_index_or ranks slot 0 ≡ rank
+  pub others : (k : ℕ) → k < slot → slice_index_or ranks k 0 ≢ rank
+
+-- A slot has this rank.
+pub record HasRank (ranks : List ℕ) (rank : ℕ) : Type 0 where
+  pub slot : ℕ
+  pub within : slot < 64
+  pub is : slice_index_or ranks slot 0 ≡ rank
+
+-- Each rank below 64 is that of a slot.
+abbrev pub AreRanks : List ℕ → Type 0
+AreRanks ranks = (rank : ℕ) → rank < 64 → HasRank ranks rank
+
+-- The marks and ranks of some slots.
+pub record IsStack (marks ranks : List ℕ) (slots : List Place) : Type 0 where
+  pub marked : AreMarks marks slots
+  pub ranked : AreRanks ranks
+
+-- A rank after the slot of this rank came to the front: those in front of it moved on by one.
+abbrev pub moved : ℕ → ℕ → ℕ
+moved rank here = if here == rank then 0 else (if nat_lt here rank then here + 1 else here)
+
+-- What is kept at a rank, where these are the ranks of some places.
+abbrev pub at_rank : {A : Type 0} → ℕ → List ℕ → List (Option A) → Option A
+at_rank k [] places = None
+at_rank k (rank ∷ ranks) [] = None
+at_rank k (rank ∷ ranks) (place ∷ places) = if rank == k then place else at_rank k ranks places
+
+-- 64 places by their ranks.
+unfoldable pub in_turn : {A : Type 0} → List ℕ → List (Option A) → List (Option A)
+in_turn ranks places = map (λ k. at_rank k ranks places) (range_with_len 0 64)
 
 -- A place's leaf has this space, first page and order: those of its tag.
 pub record IsNamed (space first : ℕ) (order : Order) (p : Place) : Type 0 where
@@ -99,6 +133,13 @@ gap q [] = None
 gap q (None ∷ places) = Some 0
 gap q (Some x ∷ places) = if q x then Some 0 else further 1 (gap q places)
 
+-- The first place that is a hole or has the item is in this slot.
+pub record IsGap (q : Leaf → Bool) (slot : ℕ) (ranks : List ℕ) (slots : List Place) : Type 0 where
+  pub within : slot < 64
+  pub below : slice_index_or ranks slot 0 < 64
+  pub first : IsFirst (slice_index_or ranks slot 0) slot ranks
+  pub is : gap q (in_turn ranks (places_of slots)) ≡ Some (slice_index_or ranks slot 0)
+
 -- The stack distance of an item: the number of places in front of the first one whose item passes
 -- the test.
 abbrev pub distance : {A : Type 0} → (A → Bool) → List (Option A) → Option ℕ
@@ -109,6 +150,10 @@ distance q (Some x ∷ places) = if q x then Some 0 else further 1 (distance q p
 -- A place is as it was, or a hole: what holds of it and of a hole still does.
 abbrev pub IsSameOrHole : {A : Type 0} → Option A → Option A → Type 0
 IsSameOrHole {A} old new = (t : Option A → Bool) → t None ≡ true → t old ≡ true → t new ≡ true
+
+-- Each of some slots is as it was, or a hole.
+abbrev pub AreThinned : {A : Type 0} → List (Option A) → List (Option A) → Type 0
+AreThinned {A} old new = (slot : ℕ) → IsSameOrHole (slice_index_or old slot None) (slice_index_or new slot None)
 
 -- Each place is as it was, or a hole: what holds of each place and of a hole still does.
 abbrev pub IsThinned : {A : Type 0} → List (Option A) → List (Option A) → Type 0

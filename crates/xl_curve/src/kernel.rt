@@ -1,9 +1,9 @@
 //! The work on slices of places.
 
-ghost use Rattle.std.specs.Prelude.{◌≡◌, ℕ, ◌<◌, ◌≤◌, ◌++◌, ◌∷◌, true, false, Some, take, drop, length, map, slice_index, IfSome};
+ghost use Rattle.std.specs.Prelude.{◌≡◌, ◌≢◌, ℕ, ◌<◌, ◌≤◌, ◌++◌, ◌∷◌, true, false, Some, take, drop, length, map, slice_index, IfNone, IfSome};
 ghost use Rattle.std.specs.Fn.{FnReturnsAt};
 ghost use Rattle.std.specs.List.{remove};
-ghost use Rattle.xl_curve.specs.Places.{AreMarks, IsNamed, IsOther, IsSameOrHole, IsThinned, distance, further, gap, is_vacant, leaf_in, place_of, place_without, places_of, shifted, vacated};
+ghost use Rattle.xl_curve.specs.Places.{AreMarks, AreRanks, AreThinned, IsFirst, IsGap, IsNamed, IsNeither, IsSameOrHole, IsStack, distance, further, gap, in_turn, is_vacant, leaf_in, moved, place_of, place_without, places_of, shifted, vacated};
 ghost use Rattle.xl_curve_model.specs.Curves.{same_leaf};
 ghost use Rattle.xl_model.specs.Mapping.{is_leaf};
 ghost use Rattle.xl_model.specs.declared.address.Order.{Order};
@@ -15,138 +15,215 @@ use xl_model::Leaf;
 /// How many places there are: the greatest width.
 pub(crate) const WIDEST: usize = 64;
 
-/// The first place that has this mark or a hole's, or 64 where none has. All marks are looked at: a loop without a
-/// way out is done sixteen marks at a time.
+/// Each slot's own number as its rank.
+pub(crate) fn ranks_in_turn() -> [u8; WIDEST]
+    ensures { AreRanks result }
+{
+    let mut ranks = [0; WIDEST];
+    for slot in 0..64 {
+        ranks[slot as usize] = slot;
+    }
+    ranks
+}
+
+/// The first slot of a byte, or 64 where none has it. All are looked at: a loop without a way out is done sixteen
+/// slots at a time.
 #[inline(always)]
-fn first_marked(marks: &[u8; WIDEST], mark: u8) -> u8
-    ensures passed { (k : ℕ) → k < result → IsOther mark (slice_index marks.now k) }
+fn first_of(bytes: &[u8; WIDEST], byte: u8) -> u8
+    ensures passed { (k : ℕ) → k < result → slice_index bytes.now k ≢ byte }
     ensures within { result ≤ 64 }
+    ensures there { result < 64 → slice_index bytes.now result ≡ byte }
 {
     let mut first: u8 = 64;
-    for at in 0..64 {
-        let here = marks[at as usize];
-        let place = if here == mark || here == HOLE_MARK {
-            at
+    for slot in 0..64 {
+        let here = if bytes[slot as usize] == byte {
+            slot
         } else {
             64
         };
-        first = if place < first { place } else { first };
+        first = if here < first { here } else { first };
     }
     first
 }
 
-/// Whether no place has the leaf of a name, by marks alone: neither its mark nor a hole's is there.
+/// The slot of a rank.
 #[inline(always)]
-pub(crate) fn lacks(marks: &[u8; WIDEST], _places: &[Place; WIDEST], named: Place) -> bool
-    requires { AreMarks marks.now _places.now }
-    ensures { (space first : ℕ) (o : Order) → IsNamed space first o named → result ≡ true
-        → map (place_without (is_leaf space first o)) (places_of _places.now)
-        ≡ places_of _places.now }
+fn slot_at(ranks: &[u8; WIDEST], rank: u8) -> usize
+    requires ranks { AreRanks ranks.now }
+    requires rank { rank < 64 }
+    ensures within { result < 64 }
+    ensures first { IsFirst rank result ranks.now }
 {
-    first_marked(marks, named.mark()) == 64
+    first_of(ranks, rank) as usize
 }
 
-/// The first place from `from` on that is a hole or has the leaf.
+/// The least rank from `from` on of a slot that has one of two marks, or 64 where none has.
 #[inline(always)]
-fn gap_behind(places: &[Place; WIDEST], from: usize, leaf: Place) -> Option<usize>
-    requires { from ≤ 64 }
-    ensures place { result ≡
-        further from (gap (same_leaf (leaf_in leaf)) (drop from (places_of places.now))) }
-    ensures within { IfSome result (λ at. at < 64) }
+fn first_marked(marks: &[u8; WIDEST], ranks: &[u8; WIDEST], mark: u8, other: u8, from: u8) -> u8
+    requires from { from ≤ 64 }
+    ensures passed { (slot : ℕ) → slot < 64 → from ≤ slice_index ranks.now slot →
+        slice_index ranks.now slot < result → IsNeither mark other (slice_index marks.now slot) }
+    ensures within { (from ≤ result) × (result ≤ 64) }
 {
-    for at in from..WIDEST {
-        if !places[at].gives_way(leaf) {
-            return Some(at);
+    let mut least: u8 = 64;
+    for slot in 0..WIDEST {
+        let rank = ranks[slot];
+        let here = marks[slot];
+        let rank = if (here == mark || here == other) && rank >= from {
+            rank
+        } else {
+            64
+        };
+        least = if rank < least { rank } else { least };
+    }
+    least
+}
+
+/// Whether no slot has the leaf of a name, where that is soon told: none has its mark.
+#[inline(always)]
+pub(crate) fn lacks(marks: &[u8; WIDEST], _slots: &[Place; WIDEST], named: Place) -> bool
+    requires { AreMarks marks.now _slots.now }
+    ensures { (space first : ℕ) (o : Order) → IsNamed space first o named → result ≡ true
+        → map (place_without (is_leaf space first o)) (places_of _slots.now)
+        ≡ places_of _slots.now }
+{
+    first_of(marks, named.mark()) == 64
+}
+
+/// A rank after the slot of this rank came to the front: those in front of it moved on by one.
+#[inline(always)]
+fn rank_after(rank: u8, here: u8) -> u8
+    requires { rank < 64 }
+    ensures { result ≡ moved rank here }
+{
+    if here == rank {
+        0
+    } else if here < rank {
+        here + 1
+    } else {
+        here
+    }
+}
+
+/// The slot of this rank comes to the front.
+#[inline(always)]
+fn move_to_front(ranks: &mut [u8; WIDEST], rank: u8)
+    requires { rank < 64 }
+    ensures { ranks.new ≡ map (moved rank) ranks.old }
+{
+    for slot in 0..WIDEST {
+        ranks[slot] = rank_after(rank, ranks[slot]);
+    }
+}
+
+/// The slot of the first place that is a hole or has the leaf. Marks tell most of the places apart.
+#[inline(always)]
+fn first_gap(
+    marks: &[u8; WIDEST],
+    ranks: &[u8; WIDEST],
+    slots: &[Place; WIDEST],
+    leaf: Place,
+) -> Option<usize>
+    requires solid { is_vacant leaf ≡ false }
+    requires kept { IsStack marks.now ranks.now slots.now }
+    ensures some { IfSome result (λ slot.
+        IsGap (same_leaf (leaf_in leaf)) slot ranks.now slots.now) }
+    ensures none { IfNone result
+        (gap (same_leaf (leaf_in leaf)) (in_turn ranks.now (places_of slots.now)) ≡ None) }
+{
+    let mark = leaf.mark();
+    let mut rank = first_marked(marks, ranks, mark, HOLE_MARK, 0);
+    'marked: while rank < 64 {
+        let slot = slot_at(ranks, rank);
+        if !slots[slot].gives_way(leaf) {
+            return Some(slot);
         }
+        rank = first_marked(marks, ranks, mark, HOLE_MARK, rank + 1);
     }
     None
-}
-
-/// The first place that is a hole or has the leaf. Marks rule out most of the places in front of
-/// it.
-#[inline(always)]
-fn first_gap(marks: &[u8; WIDEST], places: &[Place; WIDEST], leaf: Place) -> Option<usize>
-    requires solid { is_vacant leaf ≡ false }
-    requires marks { AreMarks marks.now places.now }
-    ensures place { result ≡ gap (same_leaf (leaf_in leaf)) (places_of places.now) }
-    ensures within { IfSome result (λ at. at < 64) }
-{
-    let from = first_marked(marks, leaf.mark());
-    gap_behind(places, from as usize, leaf)
 }
 
 /// Makes a hole of the place of a leaf, if it is at `from` or after it. Returns where it was.
 fn vacate(
     marks: &mut [u8; WIDEST],
-    places: &mut [Place; WIDEST],
-    from: usize,
+    ranks: &[u8; WIDEST],
+    slots: &mut [Place; WIDEST],
+    from: u8,
     leaf: Place,
 ) -> Option<usize>
     requires from { from ≤ 64 }
     requires solid { is_vacant leaf ≡ false }
-    requires marks { AreMarks marks.old places.old }
-    ensures places { places_of places.new ≡ take from (places_of places.old)
-        ++ vacated (same_leaf (leaf_in leaf)) (drop from (places_of places.old)) }
-    ensures distance { result ≡
-        further from (distance (same_leaf (leaf_in leaf)) (drop from (places_of places.old))) }
-    ensures marks { AreMarks marks.new places.new }
+    requires kept { IsStack marks.old ranks.now slots.old }
+    ensures places { in_turn ranks.now (places_of slots.new)
+        ≡ take from (in_turn ranks.now (places_of slots.old)) ++ vacated
+        (same_leaf (leaf_in leaf)) (drop from (in_turn ranks.now (places_of slots.old))) }
+    ensures distance { result ≡ further from (distance (same_leaf (leaf_in leaf))
+        (drop from (in_turn ranks.now (places_of slots.old)))) }
+    ensures kept { IsStack marks.new ranks.now slots.new }
 {
-    for at in from..WIDEST {
-        if leaf.is_same(places[at]) {
-            places[at] = HOLE;
-            marks[at] = HOLE_MARK;
-            return Some(at);
+    let mark = leaf.mark();
+    let mut rank = first_marked(marks, ranks, mark, mark, from);
+    'marked: while rank < 64 {
+        let slot = slot_at(ranks, rank);
+        if leaf.is_same(slots[slot]) {
+            slots[slot] = HOLE;
+            marks[slot] = HOLE_MARK;
+            return Some(rank as usize);
         }
+        rank = first_marked(marks, ranks, mark, mark, rank + 1);
     }
     None
 }
 
-/// Puts an item in front. The items in front of `at` move on by one, over the one at `at`.
+/// Puts a leaf into a slot, and in front.
 #[inline(always)]
-fn put_in_front<T: Copy>(items: &mut [T], at: usize, item: T)
-    requires { at < length items.old }
-    ensures { items.new ≡ item ∷ remove items.old at }
+fn fill(
+    marks: &mut [u8; WIDEST],
+    ranks: &mut [u8; WIDEST],
+    slots: &mut [Place; WIDEST],
+    slot: usize,
+    leaf: Place,
+)
+    requires slot { IsFirst (slice_index ranks.old slot) slot ranks.old }
+    requires within { (slot < 64) × (slice_index ranks.old slot < 64) }
+    requires solid { is_vacant leaf ≡ false }
+    requires kept { IsStack marks.old ranks.old slots.old }
+    ensures places { in_turn ranks.new (places_of slots.new) ≡ Some (leaf_in leaf)
+        ∷ remove (in_turn ranks.old (places_of slots.old)) (slice_index ranks.old slot) }
+    ensures kept { IsStack marks.new ranks.new slots.new }
 {
-    items.copy_within(0..at, 1);
-    items[0] = item;
+    let rank = ranks[slot];
+    marks[slot] = leaf.mark();
+    slots[slot] = leaf;
+    move_to_front(ranks, rank);
 }
 
-/// Puts a leaf in front, and its mark. The places in front of `at` move on by one, over the one at `at`.
-#[inline(always)]
-fn put_leaf_in_front(marks: &mut [u8; WIDEST], places: &mut [Place; WIDEST], at: usize, leaf: Place)
-    requires within { at < 64 }
-    requires marks { AreMarks marks.old places.old }
-    ensures places { places.new ≡ leaf ∷ remove places.old at }
-    ensures marks { AreMarks marks.new places.new }
-{
-    put_in_front(marks, at, leaf.mark());
-    put_in_front(places, at, leaf);
-}
-
-/// Puts a leaf in front, where the first place that is a hole or has the leaf is at `at`. Behind a hole the
+/// Puts a leaf in front, where the first place that is a hole or has the leaf is in this slot. Behind a hole the
 /// leaf leaves one where it was. Gives the distance at which it was.
 #[inline(always)]
 fn close_gap(
     marks: &mut [u8; WIDEST],
-    places: &mut [Place; WIDEST],
-    at: usize,
+    ranks: &mut [u8; WIDEST],
+    slots: &mut [Place; WIDEST],
+    slot: usize,
     leaf: Place,
 ) -> Option<usize>
-    requires within { at < 64 }
     requires solid { is_vacant leaf ≡ false }
-    requires gap { gap (same_leaf (leaf_in leaf)) (places_of places.old) ≡ Some at }
-    requires marks { AreMarks marks.old places.old }
-    ensures moved { places_of places.new ≡
-        shifted (same_leaf (leaf_in leaf)) (leaf_in leaf) (places_of places.old) }
-    ensures distance { result ≡ distance (same_leaf (leaf_in leaf)) (places_of places.old) }
-    ensures marks { AreMarks marks.new places.new }
+    requires gap { IsGap (same_leaf (leaf_in leaf)) slot ranks.old slots.old }
+    requires kept { IsStack marks.old ranks.old slots.old }
+    ensures moved { in_turn ranks.new (places_of slots.new) ≡ shifted (same_leaf (leaf_in leaf))
+        (leaf_in leaf) (in_turn ranks.old (places_of slots.old)) }
+    ensures distance { result ≡
+        distance (same_leaf (leaf_in leaf)) (in_turn ranks.old (places_of slots.old)) }
+    ensures kept { IsStack marks.new ranks.new slots.new }
 {
-    let here = places[at];
-    put_leaf_in_front(marks, places, at, leaf);
-    if here.is_hole() {
-        return vacate(marks, places, at + 1, leaf);
+    let rank = ranks[slot];
+    if slots[slot].is_hole() {
+        fill(marks, ranks, slots, slot, leaf);
+        return vacate(marks, ranks, slots, rank + 1, leaf);
     }
-    Some(at)
+    move_to_front(ranks, rank);
+    Some(rank as usize)
 }
 
 /// Puts a leaf in front, and gives the distance at which it was. The last place gives way, where none is a
@@ -154,20 +231,23 @@ fn close_gap(
 #[inline(always)]
 pub(crate) fn bring_in_front(
     marks: &mut [u8; WIDEST],
-    places: &mut [Place; WIDEST],
+    ranks: &mut [u8; WIDEST],
+    slots: &mut [Place; WIDEST],
     leaf: Place,
 ) -> Option<usize>
     requires solid { is_vacant leaf ≡ false }
-    requires marks { AreMarks marks.old places.old }
-    ensures moved { places_of places.new ≡
-        take 64 (shifted (same_leaf (leaf_in leaf)) (leaf_in leaf) (places_of places.old)) }
-    ensures distance { result ≡ distance (same_leaf (leaf_in leaf)) (places_of places.old) }
-    ensures marks { AreMarks marks.new places.new }
+    requires kept { IsStack marks.old ranks.old slots.old }
+    ensures moved { in_turn ranks.new (places_of slots.new) ≡ take 64 (shifted
+        (same_leaf (leaf_in leaf)) (leaf_in leaf) (in_turn ranks.old (places_of slots.old))) }
+    ensures distance { result ≡
+        distance (same_leaf (leaf_in leaf)) (in_turn ranks.old (places_of slots.old)) }
+    ensures kept { IsStack marks.new ranks.new slots.new }
 {
-    match first_gap(marks, places, leaf) {
-        Some(at) => close_gap(marks, places, at, leaf),
+    match first_gap(marks, ranks, slots, leaf) {
+        Some(slot) => close_gap(marks, ranks, slots, slot, leaf),
         None => {
-            put_leaf_in_front(marks, places, WIDEST - 1, leaf);
+            let last = slot_at(ranks, 63);
+            fill(marks, ranks, slots, last, leaf);
             None
         }
     }
@@ -192,19 +272,19 @@ fn without<P: Fn(&Leaf) -> bool>(place: Place, test: &P) -> Place
 /// Makes a hole of each place whose leaf passes the test.
 pub(crate) fn vacate_where<P: Fn(&Leaf) -> bool>(
     marks: &mut [u8; WIDEST],
-    places: &mut [Place; WIDEST],
+    slots: &mut [Place; WIDEST],
     test: &P,
 )
     requires test { P.IsAlwaysCallable test.now }
-    requires marks { AreMarks marks.old places.old }
+    requires marks { AreMarks marks.old slots.old }
     ensures purged { (q : _) → IsTest (FnReturnsAt P.Fn test.now) q →
-        places_of places.new ≡ map (place_without q) (places_of places.old) }
-    ensures thinned { IsThinned (places_of places.old) (places_of places.new) }
-    ensures marks { AreMarks marks.new places.new }
+        places_of slots.new ≡ map (place_without q) (places_of slots.old) }
+    ensures thinned { AreThinned (places_of slots.old) (places_of slots.new) }
+    ensures marks { AreMarks marks.new slots.new }
 {
     for at in 0..WIDEST {
-        let place = without(places[at], test);
-        places[at] = place;
+        let place = without(slots[at], test);
+        slots[at] = place;
         marks[at] = place.mark();
     }
 }

@@ -7,28 +7,30 @@ ghost use Rattle.xl_curve_model.specs.Curves.{same_leaf};
 ghost use Rattle.xl_model.specs.Mapping.{is_leaf};
 ghost use Rattle.xl_recency.specs.Lists.{IsTest};
 
-use crate::kernel::{WIDEST, bring_in_front, lacks, vacate_where};
+use crate::kernel::{WIDEST, bring_in_front, lacks, ranks_in_turn, vacate_where};
 use crate::place::{HOLE, HOLE_MARK, Place};
 use std::marker::Model;
 use xl_model::{Leaf, Order};
 
-/// A recency list of 64 places, of which some are holes. Contracts see what each place has, the newest first.
+/// A recency list of 64 places, of which some are holes. Contracts see what each place has, the newest first. What a
+/// place has is kept in a slot, whose rank says which place it is.
 #[derive(Drop)]
 pub(crate) struct Stack {
     marks: [u8; WIDEST],
-    places: [Place; WIDEST],
+    ranks: [u8; WIDEST],
+    slots: [Place; WIDEST],
 }
 
 impl Model for Stack {
     ghost use Rattle.std.specs.Prelude.{List, Option};
     ghost use Rattle.xl_model.specs.declared.leaf.Leaf.{Leaf};
-    ghost use Rattle.xl_curve.specs.Places.{AreMarks, places_of};
+    ghost use Rattle.xl_curve.specs.Places.{IsStack, in_turn, places_of};
 
     ghost Value = { List (Option Leaf) };
 
-    ghost view = { λ s. places_of s.places };
+    ghost view = { λ s. in_turn s.ranks (places_of s.slots) };
 
-    ghost invariant = { λ s. AreMarks s.marks s.places };
+    ghost invariant = { λ s. IsStack s.marks s.ranks s.slots };
 }
 
 impl Stack {
@@ -39,7 +41,8 @@ impl Stack {
     {
         Stack {
             marks: [HOLE_MARK; WIDEST],
-            places: [HOLE; WIDEST],
+            ranks: ranks_in_turn(),
+            slots: [HOLE; WIDEST],
         }
     }
 
@@ -53,7 +56,7 @@ impl Stack {
         ensures distance { result ≡ distance (same_leaf (leaf_in leaf)) self.old }
         ensures below { IfSome result (λ d. d < 64) }
     {
-        bring_in_front(&mut self.marks, &mut self.places, leaf)
+        bring_in_front(&mut self.marks, &mut self.ranks, &mut self.slots, leaf)
     }
 
     /// Whether no place has the leaf of this space, first page and order, by marks alone.
@@ -62,7 +65,7 @@ impl Stack {
         ensures { result ≡ true → map (place_without (is_leaf space first order)) self.now ≡ self.now }
     {
         match Place::named(space, first, order) {
-            Some(named) => lacks(&self.marks, &self.places, named),
+            Some(named) => lacks(&self.marks, &self.slots, named),
             None => false,
         }
     }
@@ -74,6 +77,6 @@ impl Stack {
             self.new ≡ map (place_without q) self.old }
         ensures thinned { IsThinned self.old self.new }
     {
-        vacate_where(&mut self.marks, &mut self.places, test);
+        vacate_where(&mut self.marks, &mut self.slots, test);
     }
 }

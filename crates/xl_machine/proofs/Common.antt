@@ -50,4 +50,4 @@ pub use Rattle.xl_tlb.specs.Arrays.{InLimits, IsFit}
 pub use Rattle.xl_tlb.specs.Tlbs.{AreSpecs, IsRising, IsSpec, leaf_told, looked_arrays, NoneBelow, TlbState}
 unfoldable pub use Rattle.xl_tlb.specs.Tlbs.{tlb_fenced, tlb_filled, tlb_looked, tlb_opening, tlb_purged}
 pub use Rattle.xl_machine.specs.Rules.{rule_of, there_of}
-pub use Rattle.xl_machine.specs.Served.{accessed_by, after_of, counts_of, done_counts, fence_counts, HasPage, IsFramed, IsReply, IsRowFor, IsSameAccess, IsSameWalked, IsServed, opened, refused_by, served, state_of, walked_by}
+pub use Rattle.xl_machine.specs.Served.{accessed_by, after_of, counts_of, done_counts, fence_counts, HasPage, IsFound, IsReply, IsRowFor, IsSameAccess, IsSameWalked, IsServed, opened, refused_by, served, state_of, walked_by}

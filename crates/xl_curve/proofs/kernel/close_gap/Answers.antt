@@ -1,44 +1,61 @@
-use Rattle.xl_curve.proofs.Common.{◌<◌, ◌∙◌, ap, arith, get_or, leaf_in, length, Place, places_of, same_leaf, sym}
-use Rattle.xl_curve.proofs.KernelLemmas.{front_places, hole_distance, hole_filled, own_closed, read, solid_place, vacant_place}
+use Rattle.xl_curve.proofs.Common.{◌∙◌, ◌∷◌, ◌≡◌, ap, get_or, in_turn, leaf_in, leaf_same, map, moved, Place, places_of, remove, same_leaf, Some, sym}
+use Rattle.xl_curve.proofs.KernelLemmas.{at_slot, hole_distance, hole_filled, own_closed, solid_place, vacant_place}
+use Rattle.xl_curve.proofs.RankLemmas.{ranks_moved, turn_at, turn_moved}
 use Rattle.xl_curve.proofs.kernel.close_gap.Goals as goal
 
 pub returns-then-is_hole-clause-moved : goal.returns-then-is_hole-clause-moved
 returns-then-is_hole-clause-moved c =
-    let ps = c.args.places.now in
-    let at = c.args.at in
-    let d : Place = record { tag = 0; word = 0 } in
-    let inside : at < length ps = omega arith in
-    let front = ap (λ (xs : _). places_of xs) c.put_leaf_in_front.ensures.places ∙ front_places ps at c.args.leaf c.requires.solid in
-    let hole = read ps at d inside ∙ vacant_place (get_or ps at d) (sym c.is_hole.ensures ∙ c.if-is_hole.true) in
-    hole_filled (same_leaf (leaf_in c.args.leaf)) (leaf_in c.args.leaf) (places_of ps) (places_of c.put_leaf_in_front.new.places) (places_of c.vacate.new.places) at
-    c.requires.gap hole front c.vacate.ensures.places
+    let ps = c.args.slots.now in
+    let ranks = c.args.ranks.now in
+    let g = c.requires.gap in
+    let here : Place = get_or ps c.args.slot (record { tag = 0; word = 0 }) in
+    let hole = at_slot c.args.marks.now ranks ps c.requires.kept c.told-ranks c.told-slots (get_or ranks c.args.slot 0) c.args.slot _ g.below g.within g.first
+    ∙ vacant_place here (sym c.is_hole.ensures ∙ c.if-is_hole.true) in
+    hole_filled (same_leaf (leaf_in c.args.leaf)) (leaf_in c.args.leaf) (in_turn ranks (places_of ps)) (in_turn c.fill.new.ranks (places_of c.fill.new.slots))
+    (in_turn c.fill.new.ranks (places_of c.vacate.new.slots)) (get_or ranks c.args.slot 0) g.is hole c.fill.ensures.places c.vacate.ensures.places
 
 pub returns-then-is_hole-clause-distance : goal.returns-then-is_hole-clause-distance
 returns-then-is_hole-clause-distance c =
-    let ps = c.args.places.now in
-    let at = c.args.at in
-    let d : Place = record { tag = 0; word = 0 } in
-    let inside : at < length ps = omega arith in
-    let front = ap (λ (xs : _). places_of xs) c.put_leaf_in_front.ensures.places ∙ front_places ps at c.args.leaf c.requires.solid in
-    let hole = read ps at d inside ∙ vacant_place (get_or ps at d) (sym c.is_hole.ensures ∙ c.if-is_hole.true) in
+    let ps = c.args.slots.now in
+    let ranks = c.args.ranks.now in
+    let g = c.requires.gap in
+    let here : Place = get_or ps c.args.slot (record { tag = 0; word = 0 }) in
+    let hole = at_slot c.args.marks.now ranks ps c.requires.kept c.told-ranks c.told-slots (get_or ranks c.args.slot 0) c.args.slot _ g.below g.within g.first
+    ∙ vacant_place here (sym c.is_hole.ensures ∙ c.if-is_hole.true) in
     c.vacate.ensures.distance
-    ∙ hole_distance (same_leaf (leaf_in c.args.leaf)) (leaf_in c.args.leaf) (places_of ps) (places_of c.put_leaf_in_front.new.places) at c.requires.gap hole front
+    ∙ hole_distance (same_leaf (leaf_in c.args.leaf)) (leaf_in c.args.leaf) (in_turn ranks (places_of ps)) (in_turn c.fill.new.ranks (places_of c.fill.new.slots))
+    (get_or ranks c.args.slot 0) g.is hole c.fill.ensures.places
 
 pub returns-clause-moved : goal.returns-clause-moved
 returns-clause-moved c =
-    let ps = c.args.places.now in
-    let at = c.args.at in
-    let d : Place = record { tag = 0; word = 0 } in
-    let inside : at < length ps = omega arith in
-    let own = read ps at d inside ∙ solid_place (get_or ps at d) (sym c.is_hole.ensures ∙ c.if-is_hole.false) in
-    ap (λ (xs : _). places_of xs) c.put_leaf_in_front.ensures.places ∙ front_places ps at c.args.leaf c.requires.solid
-    ∙ sym (own_closed (same_leaf (leaf_in c.args.leaf)) (leaf_in c.args.leaf) (places_of ps) at (leaf_in (get_or ps at d)) c.requires.gap own).0
+    let ps = c.args.slots.now in
+    let ranks = c.args.ranks.now in
+    let rank = get_or ranks c.args.slot 0 in
+    let g = c.requires.gap in
+    let all = in_turn ranks (places_of ps) in
+    let here : Place = get_or ps c.args.slot (record { tag = 0; word = 0 }) in
+    let own = at_slot c.args.marks.now ranks ps c.requires.kept c.told-ranks c.told-slots rank c.args.slot _ g.below g.within g.first
+    ∙ solid_place here (sym c.is_hole.ensures ∙ c.if-is_hole.false) in
+    let closed = own_closed (same_leaf (leaf_in c.args.leaf)) (leaf_in c.args.leaf) all rank (leaf_in here) g.is own in
+    ap (λ (rs : _). in_turn rs (places_of ps)) c.move_to_front.ensures
+    ∙ turn_moved rank ranks (places_of ps) g.below
+    ∙ ap (λ (o : _). o ∷ remove all rank) (sym (turn_at ranks (places_of ps) rank g.below) ∙ own ∙ ap (λ (x : _). Some x) (leaf_same (leaf_in c.args.leaf) (leaf_in here) closed.2))
+    ∙ sym closed.0
 
 pub returns-clause-distance : goal.returns-clause-distance
 returns-clause-distance c =
-    let ps = c.args.places.now in
-    let at = c.args.at in
-    let d : Place = record { tag = 0; word = 0 } in
-    let inside : at < length ps = omega arith in
-    let own = read ps at d inside ∙ solid_place (get_or ps at d) (sym c.is_hole.ensures ∙ c.if-is_hole.false) in
-    sym (own_closed (same_leaf (leaf_in c.args.leaf)) (leaf_in c.args.leaf) (places_of ps) at (leaf_in (get_or ps at d)) c.requires.gap own).1
+    let ps = c.args.slots.now in
+    let ranks = c.args.ranks.now in
+    let rank = get_or ranks c.args.slot 0 in
+    let g = c.requires.gap in
+    let here : Place = get_or ps c.args.slot (record { tag = 0; word = 0 }) in
+    let own = at_slot c.args.marks.now ranks ps c.requires.kept c.told-ranks c.told-slots rank c.args.slot _ g.below g.within g.first
+    ∙ solid_place here (sym c.is_hole.ensures ∙ c.if-is_hole.false) in
+    sym (own_closed (same_leaf (leaf_in c.args.leaf)) (leaf_in c.args.leaf) (in_turn ranks (places_of ps)) rank (leaf_in here) g.is own).1
+
+pub returns-clause-kept : goal.returns-clause-kept
+returns-clause-kept c =
+    let ranks = c.args.ranks.now in
+    let rank = get_or ranks c.args.slot 0 in
+    let moved_is : c.move_to_front.new.ranks ≡ map (moved rank) ranks = c.move_to_front.ensures in
+    record { marked = c.requires.kept.marked; ranked = rw moved_is (ranks_moved rank ranks c.requires.gap.below c.told-ranks c.requires.kept.ranked) }

@@ -1,65 +1,94 @@
-use Rattle.xl_curve.proofs.Common.{◌<◌, ◌∙◌, ◌≡◌, ◌≤◌, arith, false, get_or, is_vacant, leaf_in, length, length-map, None, Place, place_of, places_of, refl, same_leaf, sym, true}
-use Rattle.xl_curve.proofs.KernelLemmas.{hole_written, is_other, left, left_at, mark_written, none_at, none_left, other_place, pass_distance, pass_places, read, solid_place}
+use Rattle.xl_curve.proofs.Common.{◌+◌, ◌<◌, ◌∙◌, ◌≡◌, ◌≤◌, ap, arith, false, get_or, in_turn, is_vacant, IsStack, leaf_in, length, length-map, None, Place, place_of, places_of, refl, same_leaf, sym, true}
+use Rattle.xl_curve.proofs.KernelLemmas.{at_slot, hole_written, is_other, left, left_at, mark_written, none_at, none_left, other_place, pass_distance, pass_places, places_passed, solid_place}
+use Rattle.xl_curve.proofs.RankLemmas.{turn_length, turn_set}
 use Rattle.xl_curve.proofs.kernel.vacate.Goals as goal
 
-pub loop-at-init : goal.loop-at-init
-loop-at-init c = record { same = refl; marks = c.requires.marks; passed = refl; far = refl }
+pub marked-init : goal.marked-init
+marked-init c =
+    let looked = c.first_marked-rank in
+    let passed = places_passed c.args.marks.now c.args.ranks.now c.args.slots.now c.requires.kept c.told-ranks c.told-slots c.args.leaf c.args.from looked.result c.requires.solid looked.ensures.within.0 looked.ensures.within.1
+    (λ s l a b. rw c.mark-mark.ensures at ((looked.ensures.passed s l a b).0)) in
+    record { within = looked.ensures.within.1; same = refl; kept = c.requires.kept; passed = passed.0; far = passed.1 }
 
 pub returns-then-is_same-clause-places : goal.returns-then-is_same-clause-places
 returns-then-is_same-clause-places c =
-    let ps = c.args.places.now in
-    let at = c.loop-at.at in
-    let here : Place = get_or ps at (record { tag = 0; word = 0 }) in
-    let l : at < length ps = omega arith in
-    let t : true ≡ same_leaf (leaf_in c.args.leaf) (leaf_in here) = rw c.loop-at.invariant.same at (sym c.if-is_same.true ∙ c.is_same.ensures.same) in
-    let tag : here.tag ≡ c.args.leaf.tag = rw c.loop-at.invariant.same at (c.is_same.ensures.tag c.if-is_same.true) in
+    let q = same_leaf (leaf_in c.args.leaf) in
+    let ps = c.args.slots.now in
+    let ranks = c.args.ranks.now in
+    let rank = c.marked.rank in
+    let slot = c.slot_at-slot.result in
+    let found = c.slot_at-slot.ensures in
+    let here : Place = get_or ps slot (record { tag = 0; word = 0 }) in
+    let l : rank < 64 = c.marked-test.true in
+    let t : true ≡ q (leaf_in here) = rw c.marked.invariant.same at (sym c.if-is_same.true ∙ c.is_same.ensures.same) in
+    let tag : here.tag ≡ c.args.leaf.tag = rw c.marked.invariant.same at (c.is_same.ensures.tag c.if-is_same.true) in
     let solid : is_vacant here ≡ false = rw tag c.requires.solid in
-    rw c.loop-at.invariant.same
-    (hole_written ps at (record { tag = 18446744073709551615; word = 0 }) refl
-    ∙ left (same_leaf (leaf_in c.args.leaf)) (places_of ps) at (leaf_in here) (rw (length-map ps place_of) l) (read ps at _ l ∙ solid_place here solid) (sym t)
-    ∙ sym c.loop-at.invariant.passed)
+    rw c.marked.invariant.same
+    (ap (in_turn ranks) (hole_written ps slot (record { tag = 18446744073709551615; word = 0 }) refl)
+    ∙ turn_set rank slot None ranks (places_of ps) c.told-ranks (length-map ps place_of ∙ c.told-slots) found.within l found.first
+    ∙ left q (in_turn ranks (places_of ps)) rank (leaf_in here) (omega (arith, turn_length ranks (places_of ps)))
+    (at_slot c.args.marks.now ranks ps c.requires.kept c.told-ranks c.told-slots rank slot _ l found.within found.first ∙ solid_place here solid) (sym t)
+    ∙ sym c.marked.invariant.passed)
 
 pub returns-then-is_same-clause-distance : goal.returns-then-is_same-clause-distance
 returns-then-is_same-clause-distance c =
-    let ps = c.args.places.now in
-    let at = c.loop-at.at in
-    let here : Place = get_or ps at (record { tag = 0; word = 0 }) in
-    let l : at < length ps = omega arith in
-    let t : true ≡ same_leaf (leaf_in c.args.leaf) (leaf_in here) = rw c.loop-at.invariant.same at (sym c.if-is_same.true ∙ c.is_same.ensures.same) in
-    let tag : here.tag ≡ c.args.leaf.tag = rw c.loop-at.invariant.same at (c.is_same.ensures.tag c.if-is_same.true) in
+    let q = same_leaf (leaf_in c.args.leaf) in
+    let ps = c.args.slots.now in
+    let ranks = c.args.ranks.now in
+    let rank = c.marked.rank in
+    let slot = c.slot_at-slot.result in
+    let found = c.slot_at-slot.ensures in
+    let here : Place = get_or ps slot (record { tag = 0; word = 0 }) in
+    let l : rank < 64 = c.marked-test.true in
+    let t : true ≡ q (leaf_in here) = rw c.marked.invariant.same at (sym c.if-is_same.true ∙ c.is_same.ensures.same) in
+    let tag : here.tag ≡ c.args.leaf.tag = rw c.marked.invariant.same at (c.is_same.ensures.tag c.if-is_same.true) in
     let solid : is_vacant here ≡ false = rw tag c.requires.solid in
-    left_at (same_leaf (leaf_in c.args.leaf)) (places_of ps) at (leaf_in here) (rw (length-map ps place_of) l) (read ps at _ l ∙ solid_place here solid) (sym t)
-    ∙ sym c.loop-at.invariant.far
+    left_at q (in_turn ranks (places_of ps)) rank (leaf_in here) (omega (arith, turn_length ranks (places_of ps)))
+    (at_slot c.args.marks.now ranks ps c.requires.kept c.told-ranks c.told-slots rank slot _ l found.within found.first ∙ solid_place here solid) (sym t)
+    ∙ sym c.marked.invariant.far
 
-pub returns-then-is_same-clause-marks : goal.returns-then-is_same-clause-marks
-returns-then-is_same-clause-marks c =
-    mark_written c.loop-at.marks c.loop-at.places c.loop-at.invariant.marks c.loop-at.at 255 (record { tag = 18446744073709551615; word = 0 }) refl
-
-pub loop-at-preserved : goal.loop-at-preserved
-loop-at-preserved c =
-    let ps = c.args.places.now in
-    let at = c.loop-at.at in
-    let here : Place = get_or ps at (record { tag = 0; word = 0 }) in
-    let l : at < length ps = omega arith in
-    let m : at < length (places_of ps) = rw (length-map ps place_of) l in
-    let f : false ≡ same_leaf (leaf_in c.args.leaf) (leaf_in here) = rw c.loop-at.invariant.same at (sym c.if-is_same.false ∙ c.is_same.ensures.same) in
-    let o : is_other (same_leaf (leaf_in c.args.leaf)) (get_or (places_of ps) at None) ≡ true =
-    rw (read ps at (record { tag = 0; word = 0 }) l) (other_place (same_leaf (leaf_in c.args.leaf)) here (sym f)) in
+pub returns-then-is_same-clause-kept : goal.returns-then-is_same-clause-kept
+returns-then-is_same-clause-kept c =
     record {
-      same = c.loop-at.invariant.same;
-      marks = c.loop-at.invariant.marks;
-      passed = c.loop-at.invariant.passed ∙ pass_places (same_leaf (leaf_in c.args.leaf)) (places_of ps) at m o;
-      far = c.loop-at.invariant.far ∙ pass_distance (same_leaf (leaf_in c.args.leaf)) (places_of ps) at m o;
+      marked = mark_written c.marked.marks c.marked.slots c.marked.invariant.kept.marked c.slot_at-slot.result 255 (record { tag = 18446744073709551615; word = 0 }) refl;
+      ranked = c.requires.kept.ranked;
+    }
+
+pub marked-preserved : goal.marked-preserved
+marked-preserved c =
+    let q = same_leaf (leaf_in c.args.leaf) in
+    let ps = c.args.slots.now in
+    let ranks = c.args.ranks.now in
+    let rank = c.marked.rank in
+    let slot = c.slot_at-slot.result in
+    let found = c.slot_at-slot.ensures in
+    let looked = c.first_marked-rank-in-marked in
+    let all = in_turn ranks (places_of ps) in
+    let here : Place = get_or ps slot (record { tag = 0; word = 0 }) in
+    let l : rank < 64 = c.marked-test.true in
+    let m : rank < length all = omega (arith, turn_length ranks (places_of ps)) in
+    let f : false ≡ q (leaf_in here) = rw c.marked.invariant.same at (sym c.if-is_same.false ∙ c.is_same.ensures.same) in
+    let o : is_other q (get_or all rank None) ≡ true =
+    ap (is_other q) (at_slot c.args.marks.now ranks ps c.requires.kept c.told-ranks c.told-slots rank slot _ l found.within found.first) ∙ other_place q here (sym f) in
+    let kept : IsStack c.marked.marks ranks ps = rw c.marked.invariant.same at c.marked.invariant.kept in
+    let passed = places_passed c.marked.marks ranks ps kept c.told-ranks c.told-slots c.args.leaf (rank + 1) looked.result c.requires.solid looked.ensures.within.0 looked.ensures.within.1
+    (λ s n a b. rw c.mark-mark.ensures at ((looked.ensures.passed s n a b).0)) in
+    record {
+      within = looked.ensures.within.1;
+      same = c.marked.invariant.same;
+      kept = c.marked.invariant.kept;
+      passed = c.marked.invariant.passed ∙ pass_places q all rank m o ∙ passed.0;
+      far = c.marked.invariant.far ∙ pass_distance q all rank m o ∙ passed.1;
     }
 
 pub returns-clause-places : goal.returns-clause-places
 returns-clause-places c =
-    let ps = c.args.places.now in
-    let l : length ps ≤ c.loop-at.at = omega arith in
-    rw c.loop-at.invariant.same (none_left (same_leaf (leaf_in c.args.leaf)) (places_of ps) c.loop-at.at (rw (length-map ps place_of) l) ∙ sym c.loop-at.invariant.passed)
+    let all = in_turn c.args.ranks.now (places_of c.args.slots.now) in
+    let l : length all ≤ c.marked.rank = omega (arith, turn_length c.args.ranks.now (places_of c.args.slots.now), c.marked-test.false) in
+    rw c.marked.invariant.same (none_left (same_leaf (leaf_in c.args.leaf)) all c.marked.rank l ∙ sym c.marked.invariant.passed)
 
 pub returns-clause-distance : goal.returns-clause-distance
 returns-clause-distance c =
-    let ps = c.args.places.now in
-    let l : length ps ≤ c.loop-at.at = omega arith in
-    none_at (same_leaf (leaf_in c.args.leaf)) (places_of ps) c.loop-at.at (rw (length-map ps place_of) l) ∙ sym c.loop-at.invariant.far
+    let all = in_turn c.args.ranks.now (places_of c.args.slots.now) in
+    let l : length all ≤ c.marked.rank = omega (arith, turn_length c.args.ranks.now (places_of c.args.slots.now), c.marked-test.false) in
+    none_at (same_leaf (leaf_in c.args.leaf)) all c.marked.rank l ∙ sym c.marked.invariant.far
