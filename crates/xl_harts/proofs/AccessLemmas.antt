@@ -1,5 +1,5 @@
 -- An access of harts, against the definitions.
-use Rattle.xl_harts.proofs.Common.{◌%◌, ◌++◌, ◌+◌, ◌-◌, ◌<◌, ◌^◌, ◌∙◌, ◌≡◌, ◌≤◌, accessed-kept, accessed_by, after_hart_event, after_own, allows, ap, arith, array_hit, array_touched, array_walked, Bool, change_of, count_hit, count_miss, covers, current_hart, false, find-In, find-passes, first_found, Hart, hart_accessed, hart_after, hart_at, hart_change, hart_filled, hart_hit, hart_refusal, hart_replied, hart_reply, hart_rule, hart_served, HartSpec, HartsState, HasSmallReplies, held_leaves, IfSome, is_canonical, IsAccess, IsFit, IsHarts, IsHartSpec, IsKept, IsLeafOf, IsMapping, IsPoolOf, IsReached, IsSeen, IsServed, IsWalk, IsWalked, Kind, Leaf, leaf_at_page, List, nat_tests, None, older-mapping, Option, page_of, pages_of, plus, refl, Reply, reply_by, reply_where, rule, set, shared_row, Some, subst, sym, table_looked, table_walked, TableState, TlbArray, true, Walk, walk_answer, ℕ}
+use Rattle.xl_harts.proofs.Common.{◌%◌, ◌++◌, ◌+◌, ◌-◌, ◌<◌, ◌^◌, ◌∙◌, ◌≡◌, ◌≤◌, accessed-kept, accessed_by, after_hart_event, after_own, allows, ap, arith, array_hit, array_touched, array_walked, Bool, change_of, count_hit, count_miss, covers, current_hart, false, find-In, find-passes, first_found, Hart, hart_accessed, hart_after, hart_at, hart_change, hart_filled, hart_hit, hart_refusal, hart_replied, hart_reply, hart_rule, hart_served, HartSpec, HartsState, HasSmallReplies, held_leaves, IfSome, is_canonical, IsAccess, IsFit, IsHarts, IsHartSpec, IsKept, IsLeafOf, IsMapping, IsPoolOf, IsReached, IsSameWalk, IsSeen, IsServed, IsWalk, IsWalked, Kind, Leaf, leaf_at_page, List, nat_tests, None, older-mapping, Option, page_of, pages_of, plus, refl, Reply, reply_by, reply_where, rule, set, shared_row, Some, subst, sym, table_looked, table_walked, TableState, TlbArray, true, Walk, walk_answer, ℕ}
 use Rattle.std.specs.Prelude.{if◌then◌else◌}
 use Rattle.xl_hart_model.specs.declared.hart.HartCounts.{HartCounts}
 use Rattle.xl_model.specs.Tally.{IsSmall}
@@ -191,3 +191,22 @@ reply-small spec table h served va kind =
 
 pub replies-small : (s : HartsState) → IsKept s → HasSmallReplies s
 replies-small s kept n va kind = reply-small s.spec s.table (hart_at n s) (hart-served s kept n) va kind
+
+-- a walk that was tried in vain leaves the table as it is for the page
+pub same-served : (spec : HartSpec) (t new : TableState) (h : Hart) (space page : ℕ) → IsServed spec t h → IsSameWalk space page t new → IsServed spec new h
+same-served spec t new h space page served same = record {
+  spec_is = served.spec_is;
+  table_is = rw same.shape served.table_is;
+  mapping = rw same.leaves served.mapping;
+  space_in = served.space_in;
+  valid = served.valid;
+}
+
+pub walked-same : (va page : ℕ) (kind : Kind) (r : Reply) (t same after : TableState) (old new : Hart) → IsSameWalk old.space page t same → IsWalked va page kind r same after old new
+    → IsWalked va page kind r t after old new
+unfolding table_walked
+walked-same va page kind r t same after old new s walked = record {
+  reply_is = rw s.leaves at walked.reply_is;
+  hart_is = rw (s.walked_is, s.leaves) at walked.hart_is;
+  table_is = walked.table_is ∙ rw (s.walked_is, s.leaves, s.shape, s.loads) refl;
+}

@@ -27,6 +27,7 @@ pub use Rattle.xl_model.specs.Addresses.{allows, is_aligned, is_canonical, pages
 unfoldable pub use Rattle.xl_model.specs.Addresses.{page_of}
 pub use Rattle.xl_model.specs.Base.{plus}
 pub use Rattle.xl_model.specs.Changes.{Change, changed, Insert, IsNamed, Protect, Relocate, Remove, with_new, without_old}
+pub use Rattle.xl_model.specs.LeafWords.{small_leaf}
 pub use Rattle.xl_model.specs.Mapping.{covers, is_leaf, leaf_named, reply_by, reply_where}
 unfoldable pub use Rattle.xl_model.specs.Mapping.{leaf_at_page}
 pub use Rattle.xl_model.specs.Nodes.{Node}
@@ -35,7 +36,7 @@ unfoldable pub use Rattle.xl_model.specs.Room.{has_room}
 pub use Rattle.xl_model.specs.Rules.{frames_rule, named_rule, overlap_rule, place_rule, there_rule, unless}
 unfoldable pub use Rattle.xl_model.specs.Rules.{change_of, rule}
 pub use Rattle.xl_model.specs.Shapes.{brought, Chained, Cuckoo, Radix, Runs, Shape}
-pub use Rattle.xl_model.specs.Structures.{answer_by, finds_place, IsBlock, IsLeafFor, IsPage, IsWalk, Made, page_limit, spaces_of, table_after, TableState}
+pub use Rattle.xl_model.specs.Structures.{answer_by, finds_place, IsBlock, IsLeafFor, IsPage, IsSameWalk, IsWalk, Made, page_limit, spaces_of, table_after, TableState}
 unfoldable pub use Rattle.xl_model.specs.Structures.{table_answer, table_walked, verdict, walk_answer}
 pub use Rattle.xl_model.specs.Tlb.{array_hit, array_touched, first_found, TlbArray}
 pub use Rattle.xl_model.specs.declared.address.Kind.{Kind}
@@ -53,6 +54,7 @@ pub use Rattle.xl_model_lemmas.specs.Mappings.{IsLeafOf, IsMapping, IsNewLeaf, I
 pub use Rattle.xl_model_lemmas.specs.Members.{In}
 pub use Rattle.xl_model_lemmas.specs.Pools.{IsPoolOf}
 pub use Rattle.xl_radix_walk.specs.Row.{opening_table, row_table}
+pub use Rattle.xl_tlb.proofs.PageLemmas.{small_says}
 pub use Rattle.xl_tlb.specs.Arrays.{IsFit}
 pub use Rattle.xl_harts.specs.Events.{accesses_served, AreServed, HasSmallReplies, last_reply, outcome_of, refused_by}
 pub use Rattle.xl_harts.specs.Looks.{hart_after, hart_filled, IsAccess, IsReached, IsSeen, IsWalked, table_looked}

@@ -34,9 +34,9 @@ fn reply_of_found(found: Option<Leaf>, page: u64, kind: Kind) -> Reply
     }
 }
 
-/// Replies to an access of a page that the hart's array has not, by a walk.
+/// Replies to an access of a page that the hart's array has not, by a walk, whatever that ends with.
 #[inline(never)]
-fn walk(table: &mut RadixRow<3>, hart: &mut Hart, va: u64, page: u64, kind: Kind) -> Reply
+fn walk_any(table: &mut RadixRow<3>, hart: &mut Hart, va: u64, page: u64, kind: Kind) -> Reply
     requires served { (spec : HartSpec) × IsServed spec (row_table 3 table.old) hart.old }
     requires page { page ≡ page_number mode.Sv39 va }
     ensures { IsWalked va page kind result (row_table 3 table.old) (row_table 3 table.new) hart.old
@@ -59,6 +59,29 @@ fn walk(table: &mut RadixRow<3>, hart: &mut Hart, va: u64, page: u64, kind: Kind
             hart.reply(reply, va);
             reply
         }
+    }
+}
+
+/// Replies to an access of a page that the hart's array has not, by a walk. Mostly the page's leaf is one of 4 KiB
+/// that allows the access.
+#[inline(never)]
+fn walk(table: &mut RadixRow<3>, hart: &mut Hart, va: u64, page: u64, kind: Kind) -> Reply
+    requires served { (spec : HartSpec) × IsServed spec (row_table 3 table.old) hart.old }
+    requires page { page ≡ page_number mode.Sv39 va }
+    ensures { IsWalked va page kind result (row_table 3 table.old) (row_table 3 table.new) hart.old
+        hart.new }
+{
+    let before = table.loads();
+    let space = hart.space();
+    match table.walk_allowed(space, page, kind, false) {
+        Some(word) => {
+            let loads = table.loads().wrapping_sub(before);
+            hart.fill_small(page, word, loads);
+            let reply = reply_of_word(word, kind);
+            hart.reply(reply, va);
+            reply
+        }
+        None => walk_any(table, hart, va, page, kind),
     }
 }
 

@@ -208,7 +208,9 @@ impl Stage {
         ensures after { self.new ≡ with_loads 1 self.old }
     {
         self.table.words_read_back();
-        let word = self.table.load_word(node as u32, index_of(page, level) as u32);
+        let word = self
+            .table
+            .load_word(node as u32, index_of(page, level) as u32);
         judged(word, level, page)
     }
 }

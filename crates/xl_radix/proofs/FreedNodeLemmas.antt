@@ -89,8 +89,8 @@ freed-same top s page l k n m i leaves nodes words image at no-leaf empty h g =
     elim (freed-at s l (up (suc l) page) k m nodes words empty) [
       | inl e ↦ rw e.1 (own e.0)
       | inr e ↦ rw e.1 (stored-same top s page (suc l) n 0 m i leaves leaves nodes (freed_nodes k nodes) words image at h g
-      (none-word s (suc l) (up (suc l) page) leaves (freed_nodes k nodes) no-leaf (freed-number-same top s l (up (suc l) page) k leaves nodes words image empty))
-      (λ a b c other. freed-word s l (up (suc l) page) k a b c leaves nodes words empty (not-below s l (up (suc l) page) a b c other)))
+          (none-word s (suc l) (up (suc l) page) leaves (freed_nodes k nodes) no-leaf (freed-number-same top s l (up (suc l) page) k leaves nodes words image empty))
+          (λ a b c other. freed-word s l (up (suc l) page) k a b c leaves nodes words empty (not-below s l (up (suc l) page) a b c other)))
     ]
   where
     stand : (node : Node) × (slice_index_or nodes n None ≡ Some node) × Is s (suc (suc l)) (up (suc (suc l)) page) node
