@@ -1,5 +1,6 @@
 """Runs of a program of this product under limits, and the configurations that the checks have in common."""
 
+import os
 import resource
 import subprocess
 import sys
@@ -8,6 +9,7 @@ from pathlib import Path
 from typing import NamedTuple
 
 ALL = ("4k", "2m", "1g")
+PATIENCE = int(os.environ.get("PATIENCE", 1))  # how many times as long as else a run may take, on a busy machine
 TABLES = {
     "radix": {"table_frames": 64},
     "hashed": {"buckets": 64, "entries": 4096},
@@ -63,10 +65,10 @@ def children_seconds():
 
 
 def run(words, limit=60, **options):
-    """Runs a program to its end, or for `limit` seconds; answers its status, its bytes and its processor time."""
+    """Runs a program to its end, or for `limit` seconds times PATIENCE; answers its status, its bytes and its processor time."""
     options = {"stdout": subprocess.PIPE, "stderr": subprocess.PIPE, "stdin": subprocess.DEVNULL} | options
     before = children_seconds()
-    done = subprocess.run(words, timeout=limit, **options)
+    done = subprocess.run(words, timeout=limit * PATIENCE, **options)
     return Done(done.returncode, done.stdout or b"", done.stderr or b"", children_seconds() - before)
 
 
@@ -94,6 +96,11 @@ class Place:
         """The words of a run of the form `nested` or `harts` with files of these texts."""
         files = ["--script", self.write("script", script), "--trace", self.write("trace", trace)]
         return [self.program, form, *files, *more]
+
+    def curve_words(self, sets, *texts):
+        """The words of a run of the form `curve` with files of these texts, as of `words`."""
+        program, *words = self.words(*texts)
+        return [program, "curve", "--sets", str(sets), *words]
 
 
 class Tally:
