@@ -65,7 +65,7 @@ def children_seconds():
 
 
 def run(words, limit=60, **options):
-    """Runs a program to its end, or for `limit` seconds times PATIENCE; answers its status, its bytes and its processor time."""
+    """Runs a program to its end, or for `limit` seconds times PATIENCE; gives its status, bytes and processor time."""
     options = {"stdout": subprocess.PIPE, "stderr": subprocess.PIPE, "stdin": subprocess.DEVNULL} | options
     before = children_seconds()
     done = subprocess.run(words, timeout=limit * PATIENCE, **options)
