@@ -10,6 +10,11 @@ sys.path.append(str(TOP / "tools/checks"))
 from runs import ALL, array, row, run  # noqa: E402
 
 TWO_LEVELS = [array(1, 16, 4, *ALL), array(2, 64, 8, *ALL)]
+# One first array for all accesses, and one for fetches and one for data, over the same second array.
+FIRST_LEVELS = {
+    "joint": [array(1, 16, 4, *ALL), array(2, 128, 8, *ALL)],
+    "split": [array(1, 16, 4, *ALL) | {"serves": kind} for kind in ("fetch", "data")] + [array(2, 128, 8, *ALL)],
+}
 TIMED_TABLES = {
     "radix": {"table_frames": 64, "walk_caches": [16, 4]},
     "hashed": {"buckets": 4096, "entries": 8192},
@@ -20,8 +25,8 @@ TIMED_TABLES = {
 }
 
 
-def timed_row(table):
-    return row(table, table, frames=8192, spaces=2, tlb=TWO_LEVELS, **TIMED_TABLES[table])
+def timed_row(table, tlb=TWO_LEVELS):
+    return row(table, table, frames=8192, spaces=2, tlb=tlb, **TIMED_TABLES[table])
 
 
 def made_trace(records, rng, pages=4096):

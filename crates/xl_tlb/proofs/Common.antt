@@ -1,5 +1,5 @@
 -- The names that this crate's proofs import from elsewhere, passed on from one place. Declares nothing.
-pub use Rattle.std.proofs.Common.{◌%◌, ◌&&◌, ◌*◌, ◌++◌, ◌+◌, ◌-◌, ◌/◌, ◌<◌, ◌==◌, ◌^◌, ◌||◌, ◌∙◌, ◌∷◌, ◌≡◌, ◌≢◌, ◌≤◌, [], ap, arith, bit_and, Bool, cond, count_by, drop, false, find, get_or, is_some, length, List, map, nat_le, nat_lt, None, not, Option, refl, replicate, rules, set, Some, subst, suc, sym, take, true, zero, ℕ}
+pub use Rattle.std.proofs.Common.{◌%◌, ◌&&◌, ◌*◌, ◌++◌, ◌+◌, ◌-◌, ◌/◌, ◌<◌, ◌==◌, ◌^◌, ◌||◌, ◌∙◌, ◌∷◌, ◌≡◌, ◌≢◌, ◌≤◌, ◌⊎◌, [], ap, arith, bit_and, Bool, cond, count_by, drop, false, find, get_or, inl, inr, is_some, length, List, map, nat_le, nat_lt, None, not, Option, refl, replicate, rules, set, Some, subst, suc, sym, take, true, zero, ℕ}
 pub use Rattle.std.proofs.Math.ListN.{get_or-map}
 pub use Rattle.std.proofs.Math.Nat.{mod-lt, mod-mod_of_dvd, pow-le-pow_right}
 pub use Rattle.std.proofs.lemmas.Bool.Decides.{nat_tests}
@@ -18,12 +18,15 @@ pub use Rattle.xl_model.specs.Ranges.{holds_page, same_perm}
 pub use Rattle.xl_model.specs.Recency.{in_front, purged, touched, with_newest, without_first}
 pub use Rattle.xl_model.specs.Tally.{counted, one_more_where}
 pub use Rattle.xl_model.specs.Tlb.{Answer, answer_of, answered_by, array_without, asked, covers_as, filled_below, filled_for, filled_where, fills_array, first_found, found_as, hits_at, is_looked, is_purged, leaves_in_sets, misses_at, opening_array, reaches_leaf, serves_as, serves_kind, set_at, set_number, takes_leaf, takes_order, TlbArray, touched_or, where_taken, with_set}
-unfoldable pub use Rattle.xl_model.specs.Tlb.{array_filled, array_hit, array_touched, arrays_filled, arrays_hit, arrays_without}
+unfoldable pub use Rattle.xl_model.specs.Tlb.{array_filled, array_hit, array_touched, arrays_filled, arrays_hit, arrays_without, opening_arrays}
 pub use Rattle.xl_model.specs.Walks.{with_fill, with_touch}
 pub use Rattle.xl_model.specs.declared.address.Kind.{Kind}
 pub use Rattle.xl_model.specs.declared.address.Order.{Order}
+pub use Rattle.xl_model.specs.declared.event.Reach.{Reach}
 pub use Rattle.xl_model.specs.declared.leaf.Leaf.{Leaf}
 pub use Rattle.xl_model.specs.declared.leaf.Range.{Range}
+pub use Rattle.xl_model.specs.declared.row.Purge.{Purge}
+pub use Rattle.xl_model.specs.declared.row.Serves.{Serves}
 pub use Rattle.xl_model.specs.declared.row.TlbSpec.{TlbSpec}
 pub use Rattle.xl_recency.specs.Lists.{items_in}
 pub use Rattle.xl_recency.specs.declared.item.Item.{Item}
@@ -40,8 +43,9 @@ pub use Rattle.xl_tlb.specs.Hits.{hit_leaf, hit_touched, leaf_hit, word_touched}
 pub use Rattle.xl_tlb.specs.Known.{IsKey, Knows, no_key}
 pub use Rattle.xl_tlb.specs.Paths.{AllServe, IsPath, IsTlb}
 pub use Rattle.xl_tlb.specs.Sought.{IsFill, IsFilled, IsSought, IsTouched}
+pub use Rattle.xl_tlb.specs.Splits.{alone, AreSplit, AreThree, as_all, AtFetch, AtKind, AtLoad, AtStore, first_for, first_of_kind, IsEither, IsKept, IsPairFill, IsPairLook, IsSplit, IsSplitFill, IsSplitLook, IsSplitWord}
 pub use Rattle.xl_tlb.specs.Tlbs.{bumped_where, fills_told, hits_up_to, IsAlone, IsRising, IsStraight, leaf_told, looked_arrays, looked_by, misses_up_to, NoneBelow, ServesAlone, spec_of, tlb_of, TlbState, Told, told}
-unfoldable pub use Rattle.xl_tlb.specs.Tlbs.{tlb_fenced, tlb_filled, tlb_looked, tlb_purged}
+unfoldable pub use Rattle.xl_tlb.specs.Tlbs.{tlb_fenced, tlb_filled, tlb_looked, tlb_opening, tlb_purged}
 pub use Rattle.xl_tlb.specs.declared.coding.Hit.{Hit}
 pub use Rattle.xl_tlb.specs.declared.newest.Newest.{Newest}
 pub use Rattle.xl_tlb.specs.declared.sought.Sought.{Sought}

@@ -68,6 +68,10 @@ module _ (space page word : ℕ) where
       ap (λ (z : List (List Leaf)). record a { sets = z }) (sym (set-get_or a.sets (set_number a.spec order.K4 page) []) ∙ ap (λ (z : List Leaf). set a.sets (set_number a.spec order.K4 page) z) (sym hit.stays)) in
       FirstHit a a rest (record { found = hit.found; moved = same }) alone
 
+-- there is one
+pub front_there : (space page word : ℕ) (arrays : List TlbArray) → IsFront space page word arrays → 0 < length arrays
+front_there space page word _ (Front a rest hit alone) = omega arith
+
 pub array_found : (a : TlbArray) (space page : ℕ) (leaf : Leaf) → Some leaf ≡ found_as a space page order.K4 → Some leaf ≡ array_hit a space page
 unfolding array_hit
 array_found a space page leaf e = rw (← e) refl

@@ -1,13 +1,14 @@
 //! The arrays of a row in levels.
 
-ghost use Rattle.std.specs.Prelude.{ℕ, true, false, ◌==◌, ◌≡◌, ◌<◌, ◌≤◌, ◌^◌, ◌+◌, ◌*◌, length, map, count_by, slice_index_or, None, IfOk, IfSome, IfNone};
+ghost use Rattle.std.specs.Prelude.{ℕ, true, false, ◌==◌, ◌≡◌, ◌<◌, ◌≤◌, ◌^◌, ◌+◌, ◌*◌, [], length, map, count_by, slice_index_or, None, IfOk, IfSome, IfNone};
 ghost use Rattle.xl_model.specs.declared.address.Kind.{Kind as KindOf};
 ghost use Rattle.xl_model.specs.declared.leaf.Leaf.{Leaf};
 ghost use Rattle.xl_model.specs.Base.{one_if};
 ghost use Rattle.xl_model.specs.Tlb.{answer_of, leaves_in, takes_leaf, takes_order, filled_for, array_without, is_purged, reaches_leaf};
 ghost use Rattle.xl_model.specs.declared.address.Order.TheVariants as order_of;
 ghost use Rattle.xl_tlb.specs.Arrays.{IsFit, InLimits};
-ghost use Rattle.xl_tlb.specs.Answers.{IsAnswered, IsHit, IsNowhere, IsSmallWord};
+ghost use Rattle.xl_tlb.specs.Answers.{IsAnswered, IsHit, IsNowhere, IsSmallWord, IsWord};
+ghost use Rattle.xl_tlb.specs.Splits.{AreSplit, IsSplitAnswer, IsSplitFilled, first_for, first_of_kind};
 ghost use Rattle.xl_tlb.specs.Fronts.{IsFront, AreMissed, FirstMisses, HasEights, IsFirstMiss};
 ghost use Rattle.xl_model.specs.LeafWords.{small_leaf};
 ghost use Rattle.xl_tlb.specs.Paths.{AllCommon, AreCommon, IsPath, IsReady};
@@ -21,6 +22,7 @@ use crate::look::{
     are_common, count_behind, first_and_rest, has_eights, has_large, is_straight, look_first,
     look_first_above, look_first_in_turn, look_in, look_second, serve_all,
 };
+use crate::pair::{Seen, fill_split, look_split};
 use crate::sought::Sought;
 use arrayvec::ArrayVec;
 use std::alloc::Global;
@@ -166,6 +168,30 @@ fn path_of(arrays: &[AnyArray]) -> Path
     }
 }
 
+/// Whether fetches and data have a first array each over one for both, in this order, all three common ones.
+fn are_split(arrays: &[AnyArray]) -> bool
+    ensures { result ≡ true → AreSplit (map spec_of arrays.now) }
+{
+    let [fetches, data, second] = arrays else {
+        return false;
+    };
+    let apart = fetches.serves_fetches() && data.serves_data() && second.serves_all();
+    let rising = fetches.level() < second.level() && data.level() < second.level();
+    let small = fetches.takes_small() && data.takes_small() && second.takes_small();
+    apart && rising && small && are_common(arrays) && fetches.has_eights() && data.has_eights()
+}
+
+/// The number of the first array of accesses of this kind, where fetches and data have one each.
+#[inline(always)]
+fn first_of(kind: Kind) -> usize
+    ensures { result ≡ first_of_kind kind }
+{
+    match kind {
+        Kind::Fetch => 0,
+        Kind::Load | Kind::Store => 1,
+    }
+}
+
 /// Purges each array: how many items left.
 #[tactic(auto, unfolding(xl_model::specs::Tlb::leaves_in))]
 fn purge_each(arrays: &mut [AnyArray], purge: Purge, leaf: Leaf) -> u64
@@ -220,6 +246,26 @@ impl Levels {
             misses: [0; 6],
             fills: 0,
         })
+    }
+
+    /// No arrays, and counts of 0.
+    pub fn none(alloc: Global) -> Levels
+        ensures { result ≡ tlb_opening [] }
+    {
+        Levels {
+            path: Path::InTurn,
+            arrays: Vec::new(alloc),
+            hits: [0; 6],
+            misses: [0; 6],
+            fills: 0,
+        }
+    }
+
+    /// Whether fetches and data have a first array each over one for both.
+    pub fn are_split(&self) -> bool
+        ensures { result ≡ true → AreSplit (map spec_of self.now.arrays) }
+    {
+        are_split(&self.arrays)
     }
 
     /// How a leaf of 4 KiB is looked for.
@@ -330,6 +376,58 @@ impl Levels {
         ensures stays { self.new.arrays ≡ self.old.arrays }
     {
         self.hits[0] = self.hits[0].wrapping_add(1);
+    }
+
+    /// Does what `hit_in_front` does, of the first array of accesses of this kind.
+    #[inline(always)]
+    pub fn hit_front_of(&mut self, kind: Kind, _space: u16, _page: u64, _word: u64)
+        requires split { AreSplit (map spec_of self.old.arrays) }
+        requires front { IsFront _space _page _word (first_for kind self.old.arrays) }
+        ensures looked { IsWord kind _space _page _word self.old self.new }
+        ensures stays { self.new.arrays ≡ self.old.arrays }
+    {
+        let first = first_of(kind);
+        self.hits[first] = self.hits[first].wrapping_add(1);
+    }
+
+    /// Does what `look` does for a leaf of 4 KiB, where fetches and data have a first array each, and gives its word: it is
+    /// the newest of its set of the first array then. Unknown where a larger leaf may answer; then nothing changes.
+    #[inline(always)]
+    pub fn look_split(&mut self, kind: Kind, sought: Sought) -> Answered
+        requires sought { IsSought order_of.K4 sought }
+        requires split { AreSplit (map spec_of self.old.arrays) }
+        ensures { IsSplitAnswer kind sought.space sought.page result self.old self.new }
+    {
+        let first = first_of(kind);
+        match look_split(&mut self.arrays, kind, sought) {
+            Seen::First { word } => {
+                self.hits[first] = self.hits[first].wrapping_add(1);
+                Answered::Word { word }
+            }
+            Seen::Second { word } => {
+                self.misses[first] = self.misses[first].wrapping_add(1);
+                self.hits[2] = self.hits[2].wrapping_add(1);
+                self.fills = self.fills.wrapping_add(1);
+                Answered::Word { word }
+            }
+            Seen::Nowhere => {
+                self.misses[first] = self.misses[first].wrapping_add(1);
+                self.misses[2] = self.misses[2].wrapping_add(1);
+                Answered::Nowhere
+            }
+            Seen::Unknown => Answered::Unknown,
+        }
+    }
+
+    /// Does what `fill_small` does, where fetches and data have a first array each.
+    #[inline(always)]
+    pub fn fill_split(&mut self, kind: Kind, sought: Sought, word: u64)
+        requires sought { IsSought order_of.K4 sought }
+        requires split { AreSplit (map spec_of self.old.arrays) }
+        ensures { IsSplitFilled kind sought.space sought.page word self.old self.new }
+    {
+        fill_split(&mut self.arrays, kind, sought, word);
+        self.fills = self.fills.wrapping_add(2);
     }
 
     /// General lookup, level by level: returns what was hit, touches the array that hits, and fills

@@ -70,6 +70,26 @@ impl Places {
         }
     }
 
+    /// Whether the array serves fetches alone.
+    pub fn serve_fetches(&self) -> bool
+        ensures { result ≡ true → self.now.serves ≡ serves_of.Fetch }
+    {
+        match self.spec.serves {
+            Serves::Fetch => true,
+            Serves::All | Serves::Data => false,
+        }
+    }
+
+    /// Whether the array serves data alone.
+    pub fn serve_data(&self) -> bool
+        ensures { result ≡ true → self.now.serves ≡ serves_of.Data }
+    {
+        match self.spec.serves {
+            Serves::Data => true,
+            Serves::All | Serves::Fetch => false,
+        }
+    }
+
     /// Whether the array has four or eight ways, and finds its sets by a mask.
     pub fn are_common(&self) -> bool
         ensures { result ≡ true → IsCommon self.now }

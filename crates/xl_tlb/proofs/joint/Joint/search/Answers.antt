@@ -1,7 +1,7 @@
 use Rattle.xl_tlb.proofs.Common.{◌%◌, ◌≡◌, FrontsStay, true}
 use Rattle.xl_tlb.proofs.PageLemmas.{small_word}
 use Rattle.xl_tlb.proofs.StayLemmas.{small_stays}
-use Rattle.xl_tlb.proofs.tlb.Tlb.search.Goals as goal
+use Rattle.xl_tlb.proofs.joint.Joint.search.Goals as goal
 
 pub invariant_of-self : goal.invariant_of-self
 invariant_of-self g c =

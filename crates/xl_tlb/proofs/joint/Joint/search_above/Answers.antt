@@ -1,6 +1,6 @@
 use Rattle.xl_tlb.proofs.Common.{◌%◌, ◌≡◌, FrontsStay, leaf_hit, true}
 use Rattle.xl_tlb.proofs.StayLemmas.{look_stays}
-use Rattle.xl_tlb.proofs.tlb.Tlb.search_above.Goals as goal
+use Rattle.xl_tlb.proofs.joint.Joint.search_above.Goals as goal
 
 pub invariant_of-self : goal.invariant_of-self
 invariant_of-self g c =

@@ -1,7 +1,7 @@
 use Rattle.xl_tlb.proofs.Common.{◌%◌, ◌∙◌, ◌≡◌, ap, FrontsStay, Knows, List, subst, sym, TlbArray, TlbState, true}
 use Rattle.xl_tlb.proofs.PageLemmas.{small_word}
 use Rattle.xl_tlb.proofs.StayLemmas.{look_none, small_stays}
-use Rattle.xl_tlb.proofs.tlb.Tlb.search_second.Goals as goal
+use Rattle.xl_tlb.proofs.joint.Joint.search_second.Goals as goal
 
 pub invariant_of-self : goal.invariant_of-self
 invariant_of-self g c =

@@ -1,7 +1,7 @@
 use Rattle.xl_tlb.proofs.Common.{◌%◌, ◌≡◌, FrontsStay, small_leaf, true}
 use Rattle.xl_tlb.proofs.PageLemmas.{small_says}
 use Rattle.xl_tlb.proofs.StayLemmas.{small_stays}
-use Rattle.xl_tlb.proofs.tlb.Tlb.search_in_turn.Goals as goal
+use Rattle.xl_tlb.proofs.joint.Joint.search_in_turn.Goals as goal
 
 pub invariant_of-self : goal.invariant_of-self
 invariant_of-self c =

@@ -1,0 +1,23 @@
+use Rattle.xl_tlb.proofs.Common.{◌∙◌, ◌∷◌, ◌≡◌, ap, AreSplit, AtFetch, IsPairFill, map, spec_of}
+use Rattle.xl_tlb.proofs.SplitLemmas.{at_data, no_more}
+use Rattle.xl_tlb.proofs.pair.fill_split.Goals as goal
+
+pub returns-in-Fetch : goal.returns-in-Fetch
+returns-in-Fetch c =
+    let f = c.first_and_rest-fetches.result.0.now in
+    let d = c.first_and_rest-data.result.0.now in
+    let s = c.first_and_rest-second.result.0.now in
+    let rest = c.first_and_rest-second.result.1.now in
+    let e : c.args.arrays.now ≡ f ∷ d ∷ s ∷ rest = c.first_and_rest-fetches.ensures.parts.0 ∙ ap (λ z. f ∷ z) (c.first_and_rest-data.ensures.parts.0 ∙ ap (λ z. d ∷ z) c.first_and_rest-second.ensures.parts.0) in
+    let split : AreSplit (map spec_of (f ∷ d ∷ s ∷ rest)) = rw e at c.requires.split in
+    rw (c.in-Fetch.is, e, no_more f d s rest split) (AtFetch f d s c.fill_pair.new.first c.fill_pair.new.second c.fill_pair.ensures)
+
+pub returns-in-Load : goal.returns-in-Load
+returns-in-Load c =
+    let f = c.first_and_rest-fetches.result.0.now in
+    let d = c.first_and_rest-data.result.0.now in
+    let s = c.first_and_rest-second.result.0.now in
+    let rest = c.first_and_rest-second.result.1.now in
+    let e : c.args.arrays.now ≡ f ∷ d ∷ s ∷ rest = c.first_and_rest-fetches.ensures.parts.0 ∙ ap (λ z. f ∷ z) (c.first_and_rest-data.ensures.parts.0 ∙ ap (λ z. d ∷ z) c.first_and_rest-second.ensures.parts.0) in
+    let split : AreSplit (map spec_of (f ∷ d ∷ s ∷ rest)) = rw e at c.requires.split in
+    rw (e, no_more f d s rest split) (at_data (IsPairFill c.args.sought.space c.args.sought.page c.args.word) c.args.kind f d s c.fill_pair-in-Load.new.first c.fill_pair-in-Load.new.second c.in-Load.is c.fill_pair-in-Load.ensures)
