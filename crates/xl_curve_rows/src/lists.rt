@@ -116,12 +116,14 @@ pub fn a_demand_area()
 /// has, and each other width still holds. Worked out by hand.
 #[tactic(auto, unfolding(xl_curve_model::specs::CurveComputing::computing_curves))]
 pub fn a_leaf_of_another_permission()
-    ensures { figures (curve_accessed (page_1 perm_r__u) (curve_accessed (page_1 perm_rw_u) (curve_accessed (page_1 perm_r__u) (opening_curve 1))))
+    ensures { figures (curve_accessed (page_1 perm_r__u)
+        (curve_accessed (page_1 perm_rw_u) (curve_accessed (page_1 perm_r__u) (opening_curve 1))))
         ≡ 3 ∷ 0 ∷ replicate 63 1 }
 {}
 
 /// The line of a curve: the row's name, the sets, the look-ups, and the hits of each width.
 #[tactic(auto, unfolding(xl_curve_model::specs::CurveComputing::computing_curves))]
 pub fn the_line_of_a_curve()
-    ensures { curve_line (codes "a") 4 3 (1 ∷ 20 ∷ []) ≡ codes "a curve sets=4 lookups=3 hits=1,20\n" }
+    ensures { curve_line (codes "a") 4 3 (1 ∷ 20 ∷ [])
+        ≡ codes "a curve sets=4 lookups=3 hits=1,20\n" }
 {}

@@ -129,5 +129,6 @@ pub fn room_comes_before_the_queue()
 /// A set of eight ways keeps eight leaves, and the ninth takes the oldest one's place. Worked out by hand.
 #[tactic(auto, unfolding(xl_hart_model::specs::Computing::hart_computing))]
 pub fn nine_leaves_in_eight_ways()
-    ensures { told nine_leaves_in_eight_ways_spec nine_leaves_in_eight_ways_events ≡ nine_leaves_in_eight_ways_told }
+    ensures { told nine_leaves_in_eight_ways_spec nine_leaves_in_eight_ways_events
+        ≡ nine_leaves_in_eight_ways_told }
 {}

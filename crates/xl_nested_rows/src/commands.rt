@@ -53,8 +53,11 @@ pub fn nodes_are_given_back()
 /// The codes of the manual: page faults are 12, 13 and 15, guest-page faults 20, 21 and 23.
 #[tactic(auto, unfolding(xl_model::specs::Computing::computing, xl_nested_model::specs::Computing::nested_computing))]
 pub fn codes_of_faults()
-    ensures fetch { (nest_code_of nest.PageFault kind.Fetch ≡ Some 12) × (nest_code_of nest.GuestFault kind.Fetch ≡ Some 20) }
-    ensures load { (nest_code_of nest.PageFault kind.Load ≡ Some 13) × (nest_code_of nest.GuestFault kind.Load ≡ Some 21) }
-    ensures store { (nest_code_of nest.PageFault kind.Store ≡ Some 15) × (nest_code_of nest.GuestFault kind.Store ≡ Some 23) }
+    ensures fetch { (nest_code_of nest.PageFault kind.Fetch ≡ Some 12)
+        × (nest_code_of nest.GuestFault kind.Fetch ≡ Some 20) }
+    ensures load { (nest_code_of nest.PageFault kind.Load ≡ Some 13)
+        × (nest_code_of nest.GuestFault kind.Load ≡ Some 21) }
+    ensures store { (nest_code_of nest.PageFault kind.Store ≡ Some 15)
+        × (nest_code_of nest.GuestFault kind.Store ≡ Some 23) }
     ensures served { nest_code_of (nest.Frame 0) kind.Load ≡ None }
 {}

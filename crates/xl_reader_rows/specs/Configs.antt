@@ -67,7 +67,7 @@ array_keys =
     (number (codes "width") 8
     (member (codes "orders") (array (item (string (codes "4k")) no_items)) no_members)))
 
--- So many tables with these keys.
+-- Tables with these keys.
 abbrev pub tables : List Members → Items
 tables [] = no_items
 tables (ms ∷ rest) = item (table ms) (tables rest)
@@ -138,3 +138,19 @@ abbrev pub sixteen_names : List (List ℕ)
 sixteen_names =
     codes "a" ∷ codes "b" ∷ codes "c" ∷ codes "d" ∷ codes "e" ∷ codes "f" ∷ codes "g" ∷ codes "h"
     ∷ codes "i" ∷ codes "j" ∷ codes "k" ∷ codes "l" ∷ codes "m" ∷ codes "n" ∷ codes "o" ∷ codes "p" ∷ []
+
+-- The key and the rule that a row with these arrays breaks, if it breaks one.
+abbrev pub broken_with : List Members → Option (ℕ × ℕ)
+broken_with arrays = broken_by (row_with_arrays arrays ∷ [])
+
+-- An array of this level.
+abbrev pub at_level : ℕ → Members
+at_level level = with_number (codes "level") level array_keys
+
+-- An array of this number of sets, of this width.
+abbrev pub of_size : ℕ → ℕ → Members
+of_size sets width = with_number (codes "width") width (with_number (codes "sets") sets array_keys)
+
+-- A row of a cuckoo table with this cap.
+abbrev pub capped_at : ℕ → Members
+capped_at bits = with_number (codes "cap_bits") bits cuckoo_row

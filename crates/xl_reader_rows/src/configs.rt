@@ -1,7 +1,7 @@
 //! Keys of a configuration: each at, below and above its limits.
 
 ghost use Rattle.std.specs.Prelude.{◌≡◌, [], ◌∷◌, ◌++◌, codes, replicate, None, Some};
-ghost use Rattle.xl_reader_rows.specs.Configs.{array_keys, array_of_order, array_of_orders, broken_at, broken_by, broken_in_array, clustered_row, cuckoo_row, hashed_row, radix_row, range_row, row_with_arrays, rows_named, six_arrays, sixteen_names, with_number, with_serves};
+ghost use Rattle.xl_reader_rows.specs.Configs.{array_keys, array_of_order, array_of_orders, at_level, broken_at, broken_by, broken_in_array, broken_with, capped_at, clustered_row, cuckoo_row, hashed_row, of_size, radix_row, range_row, row_with_arrays, rows_named, six_arrays, sixteen_names, with_serves};
 
 /// From 1 to 4,194,304 data frames.
 #[tactic(auto, unfolding(crate::specs::Computing::reading))]
@@ -79,8 +79,8 @@ pub fn ways()
 #[tactic(auto, unfolding(crate::specs::Computing::reading))]
 pub fn start_bits()
     ensures least { broken_at cuckoo_row (codes "start_bits") 0 ≡ None }
-    ensures most { broken_at (with_number (codes "cap_bits") 18 cuckoo_row) (codes "start_bits") 18 ≡ None }
-    ensures above { broken_at (with_number (codes "cap_bits") 18 cuckoo_row) (codes "start_bits") 19 ≡ Some (13, 3) }
+    ensures most { broken_at (capped_at 18) (codes "start_bits") 18 ≡ None }
+    ensures above { broken_at (capped_at 18) (codes "start_bits") 19 ≡ Some (13, 3) }
 {}
 
 /// Ways grow to from as many slots as they begin with, which are 2^7, to 2^18.
@@ -152,15 +152,16 @@ pub fn level()
     ensures below { broken_in_array (codes "level") 0 ≡ Some (22, 3) }
     ensures least { broken_in_array (codes "level") 1 ≡ None }
     ensures begins { broken_in_array (codes "level") 2 ≡ Some (22, 5) }
-    ensures most { broken_by (row_with_arrays (array_keys ∷ with_number (codes "level") 2 array_keys ∷ with_number (codes "level") 3 array_keys ∷ []) ∷ []) ≡ None }
-    ensures skips { broken_by (row_with_arrays (array_keys ∷ with_number (codes "level") 3 array_keys ∷ []) ∷ []) ≡ Some (22, 5) }
+    ensures most { broken_with (array_keys ∷ at_level 2 ∷ at_level 3 ∷ []) ≡ None }
+    ensures skips { broken_with (array_keys ∷ at_level 3 ∷ []) ≡ Some (22, 5) }
     ensures above { broken_in_array (codes "level") 4 ≡ Some (22, 3) }
 {}
 
 /// Levels that fall disagree.
 #[tactic(auto, unfolding(crate::specs::Computing::reading))]
 pub fn falling_levels()
-    ensures is { broken_by (row_with_arrays (array_of_order 1 (codes "4k") ∷ array_of_order 2 (codes "4k") ∷ array_of_order 1 (codes "2m") ∷ []) ∷ []) ≡ Some (22, 5) }
+    ensures is { broken_with (array_of_order 1 (codes "4k") ∷ array_of_order 2 (codes "4k")
+        ∷ array_of_order 1 (codes "2m") ∷ []) ≡ Some (22, 5) }
 {}
 
 /// From 1 to 16,384 sets. The number of sets is read before what the array serves.
@@ -168,16 +169,16 @@ pub fn falling_levels()
 pub fn sets()
     ensures below { broken_in_array (codes "sets") 0 ≡ Some (22, 3) }
     ensures least { broken_in_array (codes "sets") 1 ≡ None }
-    ensures most { broken_by (row_with_arrays (with_number (codes "width") 1 (with_number (codes "sets") 16384 array_keys) ∷ []) ∷ []) ≡ None }
-    ensures above { broken_by (row_with_arrays (with_serves 3 (with_number (codes "width") 1 (with_number (codes "sets") 16385 array_keys)) ∷ []) ∷ []) ≡ Some (22, 3) }
-    ensures serves { broken_by (row_with_arrays (with_serves 3 array_keys ∷ []) ∷ []) ≡ Some (22, 2) }
+    ensures most { broken_with (of_size 16384 1 ∷ []) ≡ None }
+    ensures above { broken_with (with_serves 3 (of_size 16385 1) ∷ []) ≡ Some (22, 3) }
+    ensures serves { broken_with (with_serves 3 array_keys ∷ []) ≡ Some (22, 2) }
 {}
 
 /// At most 16,384 leaves: 6 times 2,731 is two more.
 #[tactic(auto, unfolding(crate::specs::Computing::reading))]
 pub fn leaves_of_an_array()
     ensures most { broken_in_array (codes "sets") 2048 ≡ None }
-    ensures above { broken_by (row_with_arrays (with_number (codes "width") 6 (with_number (codes "sets") 2731 array_keys) ∷ []) ∷ []) ≡ Some (22, 3) }
+    ensures above { broken_with (of_size 2731 6 ∷ []) ≡ Some (22, 3) }
 {}
 
 /// A width is one of nine.
@@ -194,9 +195,9 @@ pub fn width()
 /// An array has some order, and at most six arrays stand in a row.
 #[tactic(auto, unfolding(crate::specs::Computing::reading))]
 pub fn arrays()
-    ensures no_order { broken_by (row_with_arrays (array_of_orders 1 [] ∷ []) ∷ []) ≡ Some (22, 3) }
+    ensures no_order { broken_with (array_of_orders 1 [] ∷ []) ≡ Some (22, 3) }
     ensures six { broken_by (row_with_arrays six_arrays ∷ []) ≡ None }
-    ensures seven { broken_by (row_with_arrays (six_arrays ++ array_of_order 3 (codes "4k") ∷ []) ∷ []) ≡ Some (22, 3) }
+    ensures seven { broken_with (six_arrays ++ array_of_order 3 (codes "4k") ∷ []) ≡ Some (22, 3) }
 {}
 
 /// A name has from 1 to 16 bytes.

@@ -24,7 +24,8 @@ pub fn counts()
     ensures below { Refuses (codes "map 0 0 4k r--u 0") 3 }
     ensures least { Reads (codes "map 0 0 4k r--u 1") (command.Map 0 0 order.K4 perm_r__u 1) }
     ensures none { Reads (codes "map 0 0 4k r--u") (command.Map 0 0 order.K4 perm_r__u 1) }
-    ensures most { Reads (codes "map 0 0 4k r--u 1048576") (command.Map 0 0 order.K4 perm_r__u 1048576) }
+    ensures most { Reads (codes "map 0 0 4k r--u 1048576")
+        (command.Map 0 0 order.K4 perm_r__u 1048576) }
     ensures above { Refuses (codes "map 0 0 4k r--u 1048577") 3 }
 {}
 
@@ -43,14 +44,16 @@ pub fn runs()
 pub fn pages_of_areas()
     ensures below { Refuses (codes "demand 0 0 0 4k r--u") 3 }
     ensures least { Reads (codes "demand 0 0 1 4k r--u") (command.Demand (page_area 0 1 order.K4)) }
-    ensures most { Reads (codes "demand 0 0 35184372088832 4k r--u") (command.Demand (page_area 0 35184372088832 order.K4)) }
+    ensures most { Reads (codes "demand 0 0 35184372088832 4k r--u")
+        (command.Demand (page_area 0 35184372088832 order.K4)) }
     ensures above { Refuses (codes "demand 0 0 35184372088833 4k r--u") 3 }
 {}
 
 /// An area begins at a multiple of its pages' size, and has a whole number of them.
 #[tactic(auto, unfolding(crate::specs::Computing::reading))]
 pub fn whole_areas()
-    ensures whole { Reads (codes "demand 0 200000 512 2m r--u") (command.Demand (page_area 512 512 order.M2)) }
+    ensures whole { Reads (codes "demand 0 200000 512 2m r--u")
+        (command.Demand (page_area 512 512 order.M2)) }
     ensures longer { Refuses (codes "demand 0 200000 513 2m r--u") 6 }
     ensures elsewhere { Refuses (codes "demand 0 1000 512 2m r--u") 6 }
 {}
@@ -58,14 +61,16 @@ pub fn whole_areas()
 /// A script declares at most 256 areas.
 #[tactic(auto, unfolding(crate::specs::Computing::reading))]
 pub fn areas()
-    ensures most { plain_said 255 (words_of (codes "demand 0 0 1 4k r--u")) ≡ Ok (256, Some (command.Demand (page_area 0 1 order.K4))) }
+    ensures most { plain_said 255 (words_of (codes "demand 0 0 1 4k r--u"))
+        ≡ Ok (256, Some (command.Demand (page_area 0 1 order.K4))) }
     ensures above { plain_said 256 (words_of (codes "demand 0 0 1 4k r--u")) ≡ Err 7 }
 {}
 
 /// A block may end at the last address of 64 bits, and none behind it.
 #[tactic(auto, unfolding(crate::specs::Computing::reading))]
 pub fn the_last_block()
-    ensures last { Reads (codes "map 0 fffffffffffff000 4k r--u") (command.Map 0 18446744073709547520 order.K4 perm_r__u 1) }
+    ensures last { Reads (codes "map 0 fffffffffffff000 4k r--u")
+        (command.Map 0 18446744073709547520 order.K4 perm_r__u 1) }
     ensures behind { Refuses (codes "map 0 fffffffffffff000 4k r--u 2") 6 }
     ensures moved { Refuses (codes "move 0 0 fffffffffffff000 4k 2") 6 }
 {}
@@ -77,7 +82,8 @@ pub fn addresses()
     ensures prefix { Reads (codes "fence addr 0x10") (command.Fence (scope.Addr 16)) }
     ensures capital { Refuses (codes "fence addr 0X10") 3 }
     ensures alone { Refuses (codes "fence addr 0x") 3 }
-    ensures most { Reads (codes "fence addr 0xffffffffffffffff") (command.Fence (scope.Addr 18446744073709551615)) }
+    ensures most { Reads (codes "fence addr 0xffffffffffffffff")
+        (command.Fence (scope.Addr 18446744073709551615)) }
     ensures above { Refuses (codes "fence addr 00000000000000001") 3 }
 {}
 
@@ -85,7 +91,8 @@ pub fn addresses()
 #[tactic(auto, unfolding(crate::specs::Computing::reading))]
 pub fn sizes_and_permissions()
     ensures size { Refuses (codes "map 0 0 8k r--u") 4 }
-    ensures execute { Reads (codes "map 0 40000000 1g --xu") (command.Map 0 1073741824 order.G1 perm___xu 1) }
+    ensures execute { Reads (codes "map 0 40000000 1g --xu")
+        (command.Map 0 1073741824 order.G1 perm___xu 1) }
     ensures write { Refuses (codes "map 0 0 4k -w-u") 5 }
     ensures nothing { Refuses (codes "map 0 0 4k ---u") 5 }
     ensures longer { Refuses (codes "map 0 0 4k r--u-") 5 }
@@ -101,7 +108,8 @@ pub fn words()
     ensures nowhere { Refuses (codes "fence nowhere 1 2") 1 }
 {}
 
-/// A comment begins at the line's beginning or behind a blank; one carriage return at the end is dropped.
+/// A comment begins at the line's beginning or after a blank; one carriage return at the end is
+/// dropped.
 #[tactic(auto, unfolding(crate::specs::Computing::reading))]
 pub fn comments()
     ensures behind { Reads (codes "space 1 # 2") (command.Space 1) }

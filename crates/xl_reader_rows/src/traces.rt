@@ -82,11 +82,13 @@ pub fn long_lines()
     ensures remark { Skips (long_remark 300) }
 {}
 
-/// A record has an access in each page that it touches; a modify loads them all, and then stores them.
+/// A record has an access in each page that it touches; a modify loads them all, and then stores
+/// them.
 #[tactic(auto, unfolding(crate::specs::Computing::reading))]
 pub fn accesses()
     ensures one { accesses_at letter.L (places 4095 1) ≡ (4095, Load) ∷ [] }
     ensures none { accesses_at letter.L (places 4096 0) ≡ (4096, Load) ∷ [] }
     ensures two { accesses_at letter.L (places 4095 2) ≡ (4095, Load) ∷ (4096, Load) ∷ [] }
-    ensures modify { accesses_at letter.M (places 4095 2) ≡ (4095, Load) ∷ (4096, Load) ∷ (4095, Store) ∷ (4096, Store) ∷ [] }
+    ensures modify { accesses_at letter.M (places 4095 2)
+        ≡ (4095, Load) ∷ (4096, Load) ∷ (4095, Store) ∷ (4096, Store) ∷ [] }
 {}
