@@ -1,5 +1,5 @@
--- Items that go back by one place, one after another.
-use Rattle.xl_recency.proofs.Common.{◌-◌, ◌<◌, ◌∷◌, ◌≡◌, ◌≤◌, [], ap, arith, get_or, length, List, refl, remove, set, suc, zero, ℕ}
+-- Items that go back by one place, one after another, and an item that is put in front of them.
+use Rattle.xl_recency.proofs.Common.{◌+◌, ◌-◌, ◌<◌, ◌∙◌, ◌∷◌, ◌≡◌, ◌≤◌, [], ap, arith, drop, drop_all, Fills, get_or, length, length-take-le, List, None, refl, remove, set, Some, suc, sym, take, take-take, take_all, zero, ℕ}
 
 module _ {A : Type 0} where
   -- the items without the one at `at`, where the items from `place` on up to it moved back by one
@@ -45,3 +45,46 @@ module _ {A : Type 0} where
       one-less (suc at) (x ∷ xs) h = ap suc (one-less at xs (omega arith))
   spread-length (suc place) zero (x ∷ xs) h k = absurd (omega arith)
   spread-length (suc place) (suc at) (x ∷ xs) h k = ap suc (spread-length place at xs (omega arith) (omega arith))
+
+  take-remove : (n at : ℕ) (xs : List A) → n ≤ at → take n (remove xs at) ≡ take n xs
+  take-remove zero at xs h = refl
+  take-remove (suc n) zero xs h = absurd (omega arith)
+  take-remove (suc n) (suc at) [] h = refl
+  take-remove (suc n) (suc at) (x ∷ xs) h = ap (λ (ys : List A). x ∷ ys) (take-remove n at xs (omega arith))
+
+  -- an item in front of a list of this width, in place of one that isn't in front of its last
+  pub put-within : (width at : ℕ) (item : A) (xs : List A) → 0 < width → width ≤ at + 1 → take width (item ∷ remove xs at) ≡ item ∷ take (width - 1) xs
+  put-within zero at item xs some h = absurd (omega arith)
+  put-within (suc n) at item xs some h =
+      let e : suc n - 1 ≡ n = omega arith in
+      rw e (ap (λ (ys : List A). item ∷ ys) (take-remove n at xs (omega arith)))
+
+  -- the list that isn't full, of the first `len` slots, when an item is put in front of it
+  pub filled-more : (width len : ℕ) (item : A) (xs ys : List A) → len < width → width ≤ length xs
+      → take width ys ≡ item ∷ take (width - 1) xs → Fills width item (take len xs) (take (len + 1) ys) None
+  filled-more zero len item xs ys less fits put = absurd (omega arith)
+  filled-more (suc n) len item xs ys less fits put =
+      let e : suc n - 1 ≡ n = omega arith in
+      let few : length (take len xs) ≤ n = rw (length-take-le len xs (omega arith)) (omega arith) in
+      let plus : len + 1 ≡ suc len = omega arith in
+      record {
+        list = rw plus (sym (take-take (suc len) (suc n) ys (omega arith)) ∙ ap (take (suc len)) (rw e at put)
+            ∙ ap (λ (zs : List A). item ∷ zs) (take-take len n xs (omega arith) ∙ sym (take_all n (take len xs) few)));
+        left = sym (drop_all n (take len xs) few);
+      }
+
+  -- the full list, when an item is put in front of it and its last one is evicted
+  pub filled-full : (width : ℕ) (item d : A) (xs ys : List A) → 0 < width → width ≤ length xs
+      → take width ys ≡ item ∷ take (width - 1) xs → Fills width item (take width xs) (take width ys) (Some (get_or xs (width - 1) d))
+  filled-full zero item d xs ys some fits put = absurd (omega arith)
+  filled-full (suc n) item d xs ys some fits put =
+      let e : suc n - 1 ≡ n = omega arith in
+      record {
+        list = (rw e at put) ∙ ap (λ (zs : List A). item ∷ zs) (sym (take-take n (suc n) xs (omega arith)));
+        left = rw e (last-one n d xs fits);
+      }
+    where
+      last-one : (n : ℕ) (d : A) (xs : List A) → suc n ≤ length xs → get_or xs n d ∷ [] ≡ drop n (take (suc n) xs)
+      last-one n d [] h = absurd (omega arith)
+      last-one zero d (x ∷ xs) h = refl
+      last-one (suc n) d (x ∷ xs) h = last-one n d xs (omega arith)

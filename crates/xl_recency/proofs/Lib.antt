@@ -5,4 +5,3 @@ mod TotalLemmas
 mod OrderLemmas
 mod TouchLemmas
 mod RankLemmas
-mod WidthLemmas

@@ -122,5 +122,5 @@ module _ {A : Type 0} (answers : A → Bool → Type 0) (xs : List A) where
     before = λ k d b. before.fails k d b (omega arith);
   }
 
-  pub fail_all : (len end : ℕ) (fits : len ≤ length xs) → length xs ≤ end → FailBefore answers xs end → AllFail answers (take len xs)
-  fail_all len end fits past before = scanned_none answers xs len fits len (omega arith) (λ k d b. before.fails k d (omega arith) (omega arith))
+  pub fail_all : (len end : ℕ) (fits : len ≤ length xs) → len ≤ end → FailBefore answers xs end → AllFail answers (take len xs)
+  fail_all len end fits few before = scanned_none answers xs len fits len (omega arith) (λ k d b. before.fails k d (omega arith) (omega arith))

@@ -6,58 +6,31 @@ ghost use Rattle.xl_model.specs.Caches.{empty_cache};
 ghost use Rattle.xl_recency.specs.Lists.{IsTest, Touches, Fills, Purges};
 ghost use Rattle.xl_recency.specs.Widths.{IsWidth};
 
-use crate::ways::Ways;
+use crate::kernel::{fill_slots, keep_failing, touch_slots};
 use std::alloc::Global;
 use std::marker::Model;
 use xl_model::NoMemory;
 
-/// The list of each width.
-#[derive(Drop)]
-enum Slots<T> {
-    W0,
-    W1(Ways<T, 1>),
-    W2(Ways<T, 2>),
-    W4(Ways<T, 4>),
-    W6(Ways<T, 6>),
-    W8(Ways<T, 8>),
-    W12(Ways<T, 12>),
-    W16(Ways<T, 16>),
-    W32(Ways<T, 32>),
-    W64(Ways<T, 64>),
-}
-
-/// A recency list of a width from 0 to 64. Contracts see the width and the list, newest first.
+/// A recency list of a width from 0 to 64, in the first of 64 slots. Contracts see the width and
+/// the list, newest first.
 #[derive(Drop)]
 pub struct Cache<T> {
-    slots: Slots<T>,
+    width: usize,
+    len: usize,
+    slots: [T; 64],
 }
 
 impl<T> Model for Cache<T> {
+    ghost use Rattle.std.specs.Prelude.{take, ◌≤◌};
     ghost use Rattle.xl_model.specs.Caches.{Cached};
 
     ghost Value = { Cached T };
 
-    ghost use Rattle.xl_recency.specs.Widths.{cached_in};
+    ghost use Rattle.xl_recency.specs.Widths.{cached};
 
-    ghost view = { λ c. cached_in c.slots };
-}
+    ghost view = { λ c. cached c.width (take c.len c.slots) };
 
-/// `$some` with the list of the cache's width, or `$none` at width 0.
-macro_rules! at_width {
-    ($slots:expr, $ways:ident => $some:expr, $none:expr) => {
-        match $slots {
-            Slots::W0 => $none,
-            Slots::W1($ways) => $some,
-            Slots::W2($ways) => $some,
-            Slots::W4($ways) => $some,
-            Slots::W6($ways) => $some,
-            Slots::W8($ways) => $some,
-            Slots::W12($ways) => $some,
-            Slots::W16($ways) => $some,
-            Slots::W32($ways) => $some,
-            Slots::W64($ways) => $some,
-        }
-    };
+    ghost invariant = { λ c. (c.len ≤ c.width) × (c.width ≤ 64) };
 }
 
 impl<T: Copy> Cache<T> {
@@ -68,19 +41,11 @@ impl<T: Copy> Cache<T> {
         ensures ok { IsOk result }
         ensures empty { IfOk result (λ cache. cache ≡ empty_cache width) }
     {
-        let slots = match width {
-            0 => Slots::W0,
-            1 => Slots::W1(Ways::empty(blank)),
-            2 => Slots::W2(Ways::empty(blank)),
-            4 => Slots::W4(Ways::empty(blank)),
-            6 => Slots::W6(Ways::empty(blank)),
-            8 => Slots::W8(Ways::empty(blank)),
-            12 => Slots::W12(Ways::empty(blank)),
-            16 => Slots::W16(Ways::empty(blank)),
-            32 => Slots::W32(Ways::empty(blank)),
-            _ => Slots::W64(Ways::empty(blank)),
-        };
-        Ok(Cache { slots })
+        Ok(Cache {
+            width: width as usize,
+            len: 0,
+            slots: [blank; 64],
+        })
     }
 
     /// How many items the list holds.
@@ -89,7 +54,8 @@ impl<T: Copy> Cache<T> {
         ensures few { result ≤ self.now.width }
         ensures width { self.now.width ≤ 64 }
     {
-        at_width!(&self.slots, ways => ways.len(), 0)
+        let items: &[T] = &self.slots[..self.len];
+        items.len()
     }
 
     /// Moves the newest item that passes the test to the front, and returns it. `None` where none
@@ -100,8 +66,7 @@ impl<T: Copy> Cache<T> {
             Touches q self.old.items self.new.items result }
         ensures width { self.new.width ≡ self.old.width }
     {
-        let kept = &test;
-        at_width!(&mut self.slots, ways => ways.touch_by(kept), None)
+        touch_slots(&mut self.slots, self.len, &test)
     }
 
     /// Puts the item in front, and returns the item evicted: `Some` where the list was full. At
@@ -110,7 +75,10 @@ impl<T: Copy> Cache<T> {
         ensures filled { Fills self.old.width item self.old.items self.new.items result }
         ensures width { self.new.width ≡ self.old.width }
     {
-        at_width!(&mut self.slots, ways => ways.fill(item), Some(item))
+        if self.width == 0 {
+            return Some(item);
+        }
+        fill_slots(&mut self.slots, &mut self.len, self.width, item)
     }
 
     /// Removes the items that pass the test; the others stay in order. Returns how many it removed.
@@ -122,7 +90,8 @@ impl<T: Copy> Cache<T> {
         ensures most { result ≤ 64 }
         ensures width { self.new.width ≡ self.old.width }
     {
-        let kept = &test;
-        at_width!(&mut self.slots, ways => ways.remove(kept), 0)
+        let before = self.len;
+        self.len = keep_failing(&mut self.slots[..before], &test);
+        (before - self.len) as u64
     }
 }

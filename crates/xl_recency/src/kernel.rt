@@ -1,16 +1,16 @@
 //! The work on slices.
 
-ghost use Rattle.std.specs.Prelude.{true, false, ◌≡◌, ◌∷◌, ◌<◌, ◌≤◌, ◌+◌, length, take, find, IfSome, IfNone};
+ghost use Rattle.std.specs.Prelude.{true, false, ◌≡◌, ◌∷◌, ◌<◌, ◌≤◌, ◌+◌, ◌-◌, length, take, find, IfSome, IfNone};
 ghost use Rattle.std.specs.List.{remove};
 ghost use Rattle.std.specs.Fn.{FnReturnsAt};
 ghost use Rattle.xl_model.specs.Recency.{purged};
-ghost use Rattle.xl_recency.specs.Lists.{IsTest, IsFirst, AllFail, FailBefore, Touches};
+ghost use Rattle.xl_recency.specs.Lists.{IsTest, IsFirst, AllFail, FailBefore, Touches, Fills};
 
 /// Puts the item in front, in place of the one at `at`. From the last place on: so no item is
 /// carried, and LLVM makes one move of the loop: where the place is known when the program is
 /// built, a few loads and stores.
 #[inline(always)]
-pub(crate) fn put_in_front<T: Copy>(items: &mut [T], at: usize, item: T)
+fn put_in_front<T: Copy>(items: &mut [T], at: usize, item: T)
     requires { at < length items.old }
     ensures { items.new ≡ item ∷ remove items.old at }
 {
@@ -22,8 +22,48 @@ pub(crate) fn put_in_front<T: Copy>(items: &mut [T], at: usize, item: T)
     items[0] = item;
 }
 
+/// Puts the item in front of the first `width` slots, of which the last is lost. All of these slots
+/// are moved, unused ones too, and of a short list in many slots sixteen: a move of a fixed length
+/// costs less.
+#[inline(always)]
+fn put_within<const W: usize, T: Copy>(slots: &mut [T; W], width: usize, item: T)
+    requires some { 0 < width }
+    requires fits { width ≤ W }
+    ensures { take width slots.new ≡ item ∷ take (width - 1) slots.old }
+{
+    if W > 16 && width <= 16 {
+        put_in_front(slots, 15, item);
+    } else {
+        put_in_front(slots, width - 1, item);
+    }
+}
+
+/// Puts the item in front of the first `len` slots, which hold a list of this width, and returns
+/// the item evicted: `Some` where the list was full.
+#[inline(always)]
+pub(crate) fn fill_slots<const W: usize, T: Copy>(
+    slots: &mut [T; W],
+    len: &mut usize,
+    width: usize,
+    item: T,
+) -> Option<T>
+    requires some { 0 < width }
+    requires fits { width ≤ W }
+    requires few { len.old ≤ width }
+    ensures filled { Fills width item (take len.old slots.old) (take len.new slots.new) result }
+    ensures few { len.new ≤ width }
+{
+    let last = slots[width - 1];
+    put_within(slots, width, item);
+    if *len < width {
+        *len += 1;
+        return None;
+    }
+    Some(last)
+}
+
 /// The place of the first item that passes the test.
-pub(crate) fn first_place<T, P: Fn(&T) -> bool>(items: &[T], test: &P) -> Option<usize>
+fn first_place<T, P: Fn(&T) -> bool>(items: &[T], test: &P) -> Option<usize>
     requires { P.IsAlwaysCallable test.now }
     ensures within { IfSome result (λ at. at < length items.now) }
     ensures some { IfSome result (IsFirst (FnReturnsAt P.Fn test.now) items.now) }
@@ -77,7 +117,7 @@ pub(crate) fn keep_failing<T: Copy, P: Fn(&T) -> bool>(items: &mut [T], test: &P
 }
 
 /// Moves the item at `at`, the first that passes the test, to the front. At place 0 nothing moves.
-pub(crate) fn touch_at<T: Copy, P: Fn(&T) -> bool>(
+fn touch_at<T: Copy, P: Fn(&T) -> bool>(
     items: &mut [T],
     place: Option<usize>,
     _test: &P,
@@ -149,22 +189,22 @@ macro_rules! ways_out {
 }
 
 /// Moves the first of the first `len` items that passes the test to the front, where there are at
-/// most sixteen slots. All slots are looked at, unused ones too. Those past the eighth are in a
-/// function of their own, so that lists of few slots stay small enough to be inlined.
+/// most sixteen. Eight or sixteen slots are looked at, unused ones too. Those past the eighth are
+/// in a function of their own, so that lists of few slots stay small enough to be inlined.
 #[inline(always)]
-pub(crate) fn touch_first<const W: usize, T: Copy, P: Fn(&T) -> bool>(
+fn touch_first<const W: usize, T: Copy, P: Fn(&T) -> bool>(
     slots: &mut [T; W],
     len: usize,
     test: &P,
 ) -> Option<T>
-    requires few { W ≤ 16 }
+    requires few { len ≤ 16 }
     requires fits { len ≤ W }
     requires test { P.IsAlwaysCallable test.now }
     ensures { (q : _) → IsTest (FnReturnsAt P.Fn test.now) q →
         Touches q (take len slots.old) (take len slots.new) result }
 {
     ways_out!(slots len test: 0 1 2 3 4 5 6 7);
-    if W <= 8 {
+    if W <= 8 || (W > 16 && len <= 8) {
         return None;
     }
     touch_behind(slots, len, test)
@@ -177,7 +217,7 @@ fn touch_behind<const W: usize, T: Copy, P: Fn(&T) -> bool>(
     len: usize,
     test: &P,
 ) -> Option<T>
-    requires few { W ≤ 16 }
+    requires few { len ≤ 16 }
     requires fits { len ≤ W }
     requires test { P.IsAlwaysCallable test.now }
     requires before { FailBefore (FnReturnsAt P.Fn test.now) slots.old 8 }
@@ -186,6 +226,25 @@ fn touch_behind<const W: usize, T: Copy, P: Fn(&T) -> bool>(
 {
     ways_out!(slots len test: 8 9 10 11 12 13 14 15);
     None
+}
+
+/// Moves the first of the first `len` items that passes the test to the front.
+#[inline(always)]
+pub(crate) fn touch_slots<const W: usize, T: Copy, P: Fn(&T) -> bool>(
+    slots: &mut [T; W],
+    len: usize,
+    test: &P,
+) -> Option<T>
+    requires fits { len ≤ W }
+    requires test { P.IsAlwaysCallable test.now }
+    ensures { (q : _) → IsTest (FnReturnsAt P.Fn test.now) q →
+        Touches q (take len slots.old) (take len slots.new) result }
+{
+    if W <= 16 || len <= 16 {
+        return touch_first(slots, len, test);
+    }
+    let place = place_of(slots, len, test);
+    touch_at(&mut slots[..len], place, test)
 }
 
 /// The first item that passes the test, where its place is known.

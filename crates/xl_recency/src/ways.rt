@@ -4,7 +4,7 @@ ghost use Rattle.std.specs.Prelude.{◌≡◌, ◌+◌, ◌<◌, ◌≤◌, [], 
 ghost use Rattle.std.specs.Fn.{FnReturnsAt};
 ghost use Rattle.xl_recency.specs.Lists.{IsTest, Touches, Fills, Purges};
 
-use crate::kernel::{item_at, keep_failing, place_of, put_in_front, touch_at, touch_first};
+use crate::kernel::{fill_slots, item_at, keep_failing, place_of, touch_slots};
 use std::alloc::Global;
 use std::marker::Model;
 use xl_model::NoMemory;
@@ -34,17 +34,10 @@ impl<T: Copy, const W: usize> Ways<T, W> {
         ensures ok { IsOk result }
         ensures empty { IfOk result (λ ways. ways ≡ []) }
     {
-        Ok(Ways::empty(blank))
-    }
-
-    /// What `open` gives.
-    pub(crate) fn empty(blank: T) -> Ways<T, W>
-        ensures { result ≡ [] }
-    {
-        Ways {
+        Ok(Ways {
             len: 0,
             slots: [blank; W],
-        }
+        })
     }
 
     /// How many items the list holds.
@@ -63,21 +56,7 @@ impl<T: Copy, const W: usize> Ways<T, W> {
         requires { P.IsAlwaysCallable test }
         ensures { (q : _) → IsTest (FnReturnsAt P.Fn test) q → Touches q self.old self.new result }
     {
-        self.touch_by(&test)
-    }
-
-    /// What `touch` does, by a test that is kept.
-    #[inline(always)]
-    pub(crate) fn touch_by<P: Fn(&T) -> bool>(&mut self, test: &P) -> Option<T>
-        requires { P.IsAlwaysCallable test.now }
-        ensures { (q : _) → IsTest (FnReturnsAt P.Fn test.now) q →
-            Touches q self.old self.new result }
-    {
-        if W <= 16 {
-            return touch_first(&mut self.slots, self.len, test);
-        }
-        let place = place_of(&self.slots, self.len, test);
-        touch_at(&mut self.slots[..self.len], place, test)
+        touch_slots(&mut self.slots, self.len, &test)
     }
 
     /// The newest item that passes the test.
@@ -89,20 +68,13 @@ impl<T: Copy, const W: usize> Ways<T, W> {
         item_at(&self.slots[..self.len], place, &test)
     }
 
-    /// Inserts the item in front, and returns the item evicted: `Some` where the list was full. All
-    /// slots are moved, unused ones too: a move of a fixed length costs less.
+    /// Inserts the item in front, and returns the item evicted: `Some` where the list was full.
     #[inline(always)]
     pub fn fill(&mut self, item: T) -> Option<T>
         requires { 0 < W }
         ensures { Fills W item self.old self.new result }
     {
-        let last = self.slots[W - 1];
-        put_in_front(&mut self.slots, W - 1, item);
-        if self.len < W {
-            self.len += 1;
-            return None;
-        }
-        Some(last)
+        fill_slots(&mut self.slots, &mut self.len, W, item)
     }
 
     /// Removes the items that pass the test; the others stay in order. Returns how many it removed.
