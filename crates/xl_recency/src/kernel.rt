@@ -189,8 +189,9 @@ macro_rules! ways_out {
 }
 
 /// Moves the first of the first `len` items that passes the test to the front, where there are at
-/// most sixteen. Eight or sixteen slots are looked at, unused ones too. Those past the eighth are
-/// in a function of their own, so that lists of few slots stay small enough to be inlined.
+/// most sixteen. Eight or sixteen slots are looked at, unused ones too, four in each function, since
+/// eight ways out of one are dear to prove. Those past the eighth are out of line, so that lists of
+/// few slots stay small enough to be inlined.
 #[inline(always)]
 fn touch_first<const W: usize, T: Copy, P: Fn(&T) -> bool>(
     slots: &mut [T; W],
@@ -203,16 +204,34 @@ fn touch_first<const W: usize, T: Copy, P: Fn(&T) -> bool>(
     ensures { (q : _) → IsTest (FnReturnsAt P.Fn test.now) q →
         Touches q (take len slots.old) (take len slots.new) result }
 {
-    ways_out!(slots len test: 0 1 2 3 4 5 6 7);
+    ways_out!(slots len test: 0 1 2 3);
+    touch_from_4(slots, len, test)
+}
+
+/// Like `touch_first`, where none of the first four slots passes the test.
+#[inline(always)]
+fn touch_from_4<const W: usize, T: Copy, P: Fn(&T) -> bool>(
+    slots: &mut [T; W],
+    len: usize,
+    test: &P,
+) -> Option<T>
+    requires few { len ≤ 16 }
+    requires fits { len ≤ W }
+    requires test { P.IsAlwaysCallable test.now }
+    requires before { FailBefore (FnReturnsAt P.Fn test.now) slots.old 4 }
+    ensures { (q : _) → IsTest (FnReturnsAt P.Fn test.now) q →
+        Touches q (take len slots.old) (take len slots.new) result }
+{
+    ways_out!(slots len test: 4 5 6 7);
     if W <= 8 || (W > 16 && len <= 8) {
         return None;
     }
-    touch_behind(slots, len, test)
+    touch_from_8(slots, len, test)
 }
 
 /// Like `touch_first`, where none of the first eight slots passes the test.
 #[inline]
-fn touch_behind<const W: usize, T: Copy, P: Fn(&T) -> bool>(
+fn touch_from_8<const W: usize, T: Copy, P: Fn(&T) -> bool>(
     slots: &mut [T; W],
     len: usize,
     test: &P,
@@ -224,7 +243,25 @@ fn touch_behind<const W: usize, T: Copy, P: Fn(&T) -> bool>(
     ensures { (q : _) → IsTest (FnReturnsAt P.Fn test.now) q →
         Touches q (take len slots.old) (take len slots.new) result }
 {
-    ways_out!(slots len test: 8 9 10 11 12 13 14 15);
+    ways_out!(slots len test: 8 9 10 11);
+    touch_from_12(slots, len, test)
+}
+
+/// Like `touch_first`, where none of the first twelve slots passes the test.
+#[inline(always)]
+fn touch_from_12<const W: usize, T: Copy, P: Fn(&T) -> bool>(
+    slots: &mut [T; W],
+    len: usize,
+    test: &P,
+) -> Option<T>
+    requires few { len ≤ 16 }
+    requires fits { len ≤ W }
+    requires test { P.IsAlwaysCallable test.now }
+    requires before { FailBefore (FnReturnsAt P.Fn test.now) slots.old 12 }
+    ensures { (q : _) → IsTest (FnReturnsAt P.Fn test.now) q →
+        Touches q (take len slots.old) (take len slots.new) result }
+{
+    ways_out!(slots len test: 12 13 14 15);
     None
 }
 

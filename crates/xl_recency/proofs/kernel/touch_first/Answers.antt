@@ -1,5 +1,5 @@
-use Rattle.xl_recency.proofs.Common.{arith, FnReturnsAt, rules}
-use Rattle.xl_recency.proofs.ScanLemmas.{fail_all, fail_none, none_found, none_moved}
+use Rattle.xl_recency.proofs.Common.{FnReturnsAt, rules}
+use Rattle.xl_recency.proofs.ScanLemmas.{fail_none}
 use Rattle.xl_recency.proofs.kernel.touch_first.Goals as goal
 
 pub is_first_at-requires : goal.is_first_at-requires
@@ -17,22 +17,5 @@ bring_at-requires-then-is_first_at-3 g c = (search rules, (c.requires.fits, (c.i
 pub bring_at-requires-then-is_first_at-4 : goal.bring_at-requires-then-is_first_at-4
 bring_at-requires-then-is_first_at-4 g c = (search rules, (c.requires.fits, (c.is_first_at-4.ensures.within c.if-is_first_at-4.true, c.is_first_at-4.ensures.yes c.if-is_first_at-4.true)))
 
-pub bring_at-requires-then-is_first_at-5 : goal.bring_at-requires-then-is_first_at-5
-bring_at-requires-then-is_first_at-5 g c = (search rules, (c.requires.fits, (c.is_first_at-5.ensures.within c.if-is_first_at-5.true, c.is_first_at-5.ensures.yes c.if-is_first_at-5.true)))
-
-pub bring_at-requires-then-is_first_at-6 : goal.bring_at-requires-then-is_first_at-6
-bring_at-requires-then-is_first_at-6 g c = (search rules, (c.requires.fits, (c.is_first_at-6.ensures.within c.if-is_first_at-6.true, c.is_first_at-6.ensures.yes c.if-is_first_at-6.true)))
-
-pub bring_at-requires-then-is_first_at-7 : goal.bring_at-requires-then-is_first_at-7
-bring_at-requires-then-is_first_at-7 g c = (search rules, (c.requires.fits, (c.is_first_at-7.ensures.within c.if-is_first_at-7.true, c.is_first_at-7.ensures.yes c.if-is_first_at-7.true)))
-
-pub bring_at-requires-then-is_first_at-8 : goal.bring_at-requires-then-is_first_at-8
-bring_at-requires-then-is_first_at-8 g c = (search rules, (c.requires.fits, (c.is_first_at-8.ensures.within c.if-is_first_at-8.true, c.is_first_at-8.ensures.yes c.if-is_first_at-8.true)))
-
-pub returns-then-this-le8 : goal.returns-then-this-le8
-returns-then-this-le8 g c =
-    let none = fail_all (FnReturnsAt g.P.Fn c.args.test.now) c.args.slots.now c.args.len 8 (omega arith) (omega arith) (c.is_first_at-8.ensures.no c.if-is_first_at-8.false) in
-    λ q test. record { found = none_found _ q test _ none; moved = none_moved _ q test _ none }
-
-pub touch_behind-requires : goal.touch_behind-requires
-touch_behind-requires g c = (search rules, (c.requires.few, (c.requires.fits, (c.requires.test, c.is_first_at-8.ensures.no c.if-is_first_at-8.false))))
+pub touch_from_4-requires : goal.touch_from_4-requires
+touch_from_4-requires g c = (search rules, (c.requires.few, (c.requires.fits, (c.requires.test, c.is_first_at-4.ensures.no c.if-is_first_at-4.false))))

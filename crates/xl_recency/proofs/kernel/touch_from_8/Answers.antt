@@ -1,0 +1,17 @@
+use Rattle.xl_recency.proofs.Common.{rules}
+use Rattle.xl_recency.proofs.kernel.touch_from_8.Goals as goal
+
+pub bring_at-requires : goal.bring_at-requires
+bring_at-requires g c = (search rules, (c.requires.fits, (c.is_first_at.ensures.within c.if-is_first_at.true, c.is_first_at.ensures.yes c.if-is_first_at.true)))
+
+pub bring_at-requires-then-is_first_at-2 : goal.bring_at-requires-then-is_first_at-2
+bring_at-requires-then-is_first_at-2 g c = (search rules, (c.requires.fits, (c.is_first_at-2.ensures.within c.if-is_first_at-2.true, c.is_first_at-2.ensures.yes c.if-is_first_at-2.true)))
+
+pub bring_at-requires-then-is_first_at-3 : goal.bring_at-requires-then-is_first_at-3
+bring_at-requires-then-is_first_at-3 g c = (search rules, (c.requires.fits, (c.is_first_at-3.ensures.within c.if-is_first_at-3.true, c.is_first_at-3.ensures.yes c.if-is_first_at-3.true)))
+
+pub bring_at-requires-then-is_first_at-4 : goal.bring_at-requires-then-is_first_at-4
+bring_at-requires-then-is_first_at-4 g c = (search rules, (c.requires.fits, (c.is_first_at-4.ensures.within c.if-is_first_at-4.true, c.is_first_at-4.ensures.yes c.if-is_first_at-4.true)))
+
+pub touch_from_12-requires : goal.touch_from_12-requires
+touch_from_12-requires g c = (search rules, (c.requires.few, (c.requires.fits, (c.requires.test, c.is_first_at-4.ensures.no c.if-is_first_at-4.false))))
