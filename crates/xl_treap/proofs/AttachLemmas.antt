@@ -1,9 +1,9 @@
 -- A tree is hung under the end of a way.
-use Rattle.xl_treap.proofs.Common.{◌*◌, ◌+◌, ◌-◌, ◌<◌, ◌==◌, ◌∙◌, ◌≡◌, ◌≤◌, ◌⊎◌, ap, arith, Bin, cond, down, Each, end_key, false, graft, inl, InOrder, inr, IsAt, IsAttached, IsEmpty, IsHung, IsLined, Keeps, length, List, nat_lt, nat_tests, Off, parent_at, pick-no, pick-yes, Range, range_key, refl, SameLine, SameOff, slice_index, subst, suc, sym, Tip, Tree, true, zero, ℕ}
-use Rattle.xl_treap.proofs.FrameLemmas.{at-keeps, Hung, hung-high, hung-low, off-key, with_child}
+use Rattle.xl_treap.proofs.Common.{◌*◌, ◌+◌, ◌-◌, ◌<◌, ◌==◌, ◌∙◌, ◌≡◌, ◌≤◌, ◌⊎◌, ap, arith, beyond, Bin, child, down, Each, end_key, false, graft, inl, InOrder, inr, IsAt, IsAttached, IsEmpty, IsHung, IsLined, Keeps, length, List, nat_tests, Off, on_side, parent_at, Range, range_key, refl, SameLine, SameOff, Side, side_at, side_in, slice_index, subst, suc, sym, Tip, toward, Tree, true, with_child, zero, ℕ}
+use Rattle.xl_treap.proofs.FrameLemmas.{at-keeps, Hung, hung, hung-side, off-side}
 use Rattle.xl_treap.proofs.GraftLemmas.{graft-next, lift, off-down}
-use Rattle.xl_treap.proofs.OrderLemmas.{side}
-use Rattle.xl_treap.proofs.WayLemmas.{at-there, child, down-next, order-down}
+use Rattle.xl_treap.proofs.SideLemmas.{at-side}
+use Rattle.xl_treap.proofs.WayLemmas.{at-there, down-next, order-down}
 
 pub same-or-not : (m n : ℕ) → (m ≡ n) ⊎ (m ≡ n → ⊥)
 same-or-not m n = elim (m == n) as (λ b. (m == n) ≡ b → (m ≡ n) ⊎ (m ≡ n → ⊥)) [
@@ -17,30 +17,24 @@ top-each P words at Tip i h e = absurd (omega arith)
 top-each P words at (Bin n x l r) i h e = let m : n ≡ at - 1 = let q = i.0 in omega arith in subst P m e.0
 
 -- and no node under itself
-pub off-child : (words : List ℕ) (at k low high : ℕ) (t : Tree) → IsAt words at t → 0 < at → InOrder low high t → Off (at - 1) (child k t)
-off-child words at k low high Tip i h o = tt
-off-child words at k low high (Bin n x l r) i h o =
+pub off-child : (words : List ℕ) (at low high : ℕ) (side : Side) (t : Tree) → IsAt words at t → 0 < at → InOrder low high t → Off (at - 1) (child side t)
+off-child words at low high side Tip i h o = tt
+off-child words at low high side (Bin n x l r) i h o =
     let m : n ≡ at - 1 = let q = i.0 in omega arith in
-    let keep = at-keeps words at (Bin n x l r) i in
-    let some = o.0.some in
-    let N : ℕ → Type 0 = λ z. Off z (child k (Bin n x l r)) in
-    subst N m (elim (nat_lt (range_key x) k) as (λ c. Off n (cond c r l)) [
-      | true ↦ off-key words n (range_key x) (end_key x) high r i.1.key_is keep.2 o.2 (inl (omega arith))
-      | false ↦ off-key words n (range_key x) low (range_key x) l i.1.key_is keep.1 o.1 (inr (omega arith))
-    ])
+    let N : ℕ → Type 0 = λ z. Off z (on_side side l r) in
+    subst N m (off-side words n low high x l r (at-keeps words at (Bin n x l r) i) o side)
 
-hung-under : (base w new : List ℕ) (low high k p b : ℕ) (q s : Tree) → IsAt base (suc p) q → InOrder low high q → SameOff (child k q) base w
-    → IsHung w new p k b → IsAt w b s → Off p s → Hung base new k p q s
+hung-under : (base w new : List ℕ) (low high k p b : ℕ) (q s : Tree) → IsAt base (suc p) q → InOrder low high q → SameOff (child (toward k q) q) base w
+    → IsHung w new p (side_in w p k) b → IsAt w b s → Off p s → Hung base new (toward k q) p q s
 hung-under base w new low high k p b Tip s i o so link u off = absurd (omega arith)
 hung-under base w new low high k p b (Bin n x l r) s i o so link u off =
     let m : n ≡ p = let e = i.0 in omega arith in
-    let G : ℕ → Type 0 = λ p. IsHung w new p k b → Off p s → Hung base new k p (Bin n x l r) s in
+    let c : Side = side_at (range_key x) k in
     let keep = at-keeps base (suc p) (Bin n x l r) i in
-    let O : Tree → Type 0 = λ t. SameOff t base w in
-    subst G m (λ link off. elim (side (range_key x) k) [
-      | inl lt ↦ hung-low base w new low high k n b x l r s keep o link u off lt (subst O (pick-yes (range_key x) k r l lt) so) i.2
-      | inr ge ↦ hung-high base w new low high k n b x l r s keep o link u off ge (subst O (pick-no (range_key x) k r l ge) so) i.3
-    ]) link off
+    let G : ℕ → Type 0 = λ p. IsHung w new p (side_in w p k) b → Off p s → Hung base new c p (Bin n x l r) s in
+    let L : Side → Type 0 = λ z. IsHung w new n z b in
+    subst G m (λ link off. hung base w new low high c n b x l r s keep o so (subst L (hung-side base w new low high c n b x l r s keep o so k) link) u off
+    (at-side (beyond c) base (suc p) n x l r i)) link off
 
 -- what is after a tree was attached `depth` steps down a way
 pub record Attached (base new : List ℕ) (t : Tree) (k depth : ℕ) (s : Tree) (root : ℕ) : Type 0 where
@@ -68,11 +62,11 @@ attached base w new path low high root result k (suc d) at t s i o parent so u a
         let e : suc p - 1 ≡ p = omega arith in
         let P : ℕ → Type 0 = λ z. Off z s in
         let O : Tree → Type 0 = λ z. SameOff z base w in
-        let hung : Hung base new k p (down t k d) s = hung-under base w new b.0 b.1 k p at (down t k d) s h.0 b.2 (subst O (down-next t k d) so) a.0 u (subst P e h.2) in
+        let hung : Hung base new (toward k (down t k d)) p (down t k d) s = hung-under base w new b.0 b.1 k p at (down t k d) s h.0 b.2 (subst O (down-next t k d) so) a.0 u (subst P e h.2) in
         let R : ℕ → Type 0 = λ z. IsAt new z (graft t k (suc d) s) in
         let T : Tree → Type 0 = λ z. IsAt new root z in
         record {
-          here = subst R (sym a.1) (subst T (graft-next t s k d) (lift base new low high root (suc p) k d t (with_child k (down t k d) s) i o h.0 hung.off hung.here));
+          here = subst R (sym a.1) (subst T (graft-next t s k d) (lift base new low high root (suc p) k d t (with_child (toward k (down t k d)) (down t k d) s) i o h.0 hung.off hung.here));
           off = off-down t k d base new hung.off;
         }
 

@@ -1,6 +1,7 @@
 -- The ranges beside a key's place.
-use Rattle.xl_treap.proofs.Common.{◌*◌, ◌++◌, ◌+◌, ◌-◌, ◌<◌, ◌∙◌, ◌∷◌, ◌≡◌, ◌≤◌, [], ap, AreBeside, arith, Bin, cond, false, first_from, In, inl, inr, IsTree, last_below, last_or, left_at, length, List, nat_lt, None, Option, pick-no, pick-yes, Range, range_key, range_of_link, ranges, refl, right_at, slice_index, Some, sym, Tip, Tree, tree_at, true, ℕ}
+use Rattle.xl_treap.proofs.Common.{◌*◌, ◌++◌, ◌+◌, ◌-◌, ◌<◌, ◌∙◌, ◌∷◌, ◌≡◌, ◌≤◌, [], ap, AreBeside, arith, Bin, cond, false, first_from, High, In, inl, inr, IsTree, last_below, last_or, length, link_at, List, Low, nat_lt, None, on_side, Option, pick-no, pick-yes, Range, range_key, range_of_link, ranges, refl, Side, slice_index, Some, sym, Tip, Tree, tree_at, true, ℕ}
 use Rattle.xl_treap.proofs.FoundLemmas.{tree-is}
+use Rattle.xl_treap.proofs.SideLemmas.{on-either}
 use Rattle.xl_treap.proofs.UnderLemmas.{IsTop, Stands, stands-tree, tip-of, top-of}
 use Rattle.xl_treap.specs.declared.beside.Beside.{Beside}
 
@@ -93,11 +94,11 @@ module _ {words : List ℕ} {t : Tree} {k at : ℕ} {found : Beside} (b : IsBetw
       let n = under-is words t next s h (omega arith) in
       omega arith
 
-  pub less-left : ranges_under words t (left_at words (at - 1)) < ranges_under words t at
-  less-left = less-under (left_at words (at - 1)) top.low top.low_stands (let z = top.size_is in omega arith)
-
-  pub less-right : ranges_under words t (right_at words (at - 1)) < ranges_under words t at
-  less-right = less-under (right_at words (at - 1)) top.high top.high_stands (let z = top.size_is in omega arith)
+  pub less-side : (s : Side) → ranges_under words t (link_at s words (at - 1)) < ranges_under words t at
+  less-side s =
+      let z = top.size_is in
+      less-under (link_at s words (at - 1)) (on_side s top.low top.high) (top.under s)
+      (on-either (λ q. length (ranges q) < length (ranges b.under)) s top.low top.high (omega arith) (omega arith))
 
   -- continues to one of the trees under the node
   between-next : (next : ℕ) (s : Tree) (met : Beside) → Stands words next s → length (ranges s) < length (ranges b.under) → 4 * met.before ≤ length words → 4 * met.from ≤ length words
@@ -116,23 +117,23 @@ module _ {words : List ℕ} {t : Tree} {k at : ℕ} {found : Beside} (b : IsBetw
         from_is = b.from_is ∙ ap (λ z. or_else (first_from k (ranges z)) (range_of_link words found.from)) top.is ∙ first;
       }
 
-  pub between-below : slice_index words (4 * (at - 1)) < k → IsBetween words t k (right_at words (at - 1)) (record found { before = at })
+  pub between-below : slice_index words (4 * (at - 1)) < k → IsBetween words t k (link_at High words (at - 1)) (record found { before = at })
   between-below lt =
       let x = top.range in let e = top.node.key_is in let h = top.node.there in let z = top.size_is in
       let l = ranges top.low in let r = ranges top.high in
       let less : range_key x < k = omega arith in
       let lower : (y : Range) → In y l → range_key y < k = (λ y i. let a = top.lower y i in omega arith) in
-      between-next (right_at words (at - 1)) top.high (record found { before = at }) top.high_stands (omega arith) (omega arith) b.from_in
+      between-next (link_at High words (at - 1)) top.high (record found { before = at }) (top.under High) (omega arith) (omega arith) b.from_in
       (ap (λ q. or_else q (range_of_link words found.before)) (last-here k l x r lower less) ∙ or-last x (last_below k r) (range_of_link words found.before)
       ∙ ap (or_else (last_below k r)) (sym top.said))
       (ap (λ q. or_else q (range_of_link words found.from)) (first-behind k l x r lower less))
 
-  pub between-above : k ≤ slice_index words (4 * (at - 1)) → IsBetween words t k (left_at words (at - 1)) (record found { from = at })
+  pub between-above : k ≤ slice_index words (4 * (at - 1)) → IsBetween words t k (link_at Low words (at - 1)) (record found { from = at })
   between-above ge =
       let x = top.range in let e = top.node.key_is in let h = top.node.there in let z = top.size_is in
       let l = ranges top.low in let r = ranges top.high in
       let more : k ≤ range_key x = omega arith in
-      between-next (left_at words (at - 1)) top.low (record found { from = at }) top.low_stands (omega arith) b.before_in (omega arith)
+      between-next (link_at Low words (at - 1)) top.low (record found { from = at }) (top.under Low) (omega arith) b.before_in (omega arith)
       (ap (λ q. or_else q (range_of_link words found.before)) (last-before k l x r more))
       (ap (λ q. or_else q (range_of_link words found.from)) (first-here k l x r more) ∙ or-twice x (first_from k l) (range_of_link words found.from)
       ∙ ap (or_else (first_from k l)) (sym top.said))

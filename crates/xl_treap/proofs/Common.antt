@@ -14,10 +14,12 @@ pub use Rattle.xl_model_lemmas.specs.Members.{In, Once}
 pub use Rattle.xl_treap.specs.Back.{end_of, ended, loaded_before, loaded_times, Searched, visit_of, visited}
 unfoldable pub use Rattle.xl_treap.specs.Back.{search_from}
 pub use Rattle.xl_treap.specs.Kept.{IsKept, IsTreap, seen_in, upto, WordsReadBack}
-pub use Rattle.xl_treap.specs.Lines.{IsNode, left_at, order_said, range_by, range_of_link, range_of_node, range_under, right_at}
+pub use Rattle.xl_treap.specs.Lines.{beyond, IsNode, link_at, on_side, order_said, range_by, range_of_link, range_of_node, range_under, side_at, side_in}
 unfoldable pub use Rattle.xl_treap.specs.Lines.{node_word, range_said}
 pub use Rattle.xl_treap.specs.Steps.{AreBeside, CanMerge, CanPart, CanPut, CanRise, CanTake, Each, Half, IsAttached, IsCut, IsEmpty, IsHung, IsLined, IsLinked, IsMade, IsParted, IsReached, IsResized, IsRisen, IsSized, IsSpine, IsTaken, IsTree, IsWay, Keeps, Off, parent_at, SameBut, SameLine, SameOff, step_at, TopOver}
 pub use Rattle.xl_treap.specs.Treaps.{first_from, has_key, IsApart, IsFit, keeping, key_at, last_below, last_or, resized, TreapState, TreapView, with_range, without_range}
-pub use Rattle.xl_treap.specs.Trees.{Bin, cut_high, cut_low, down, examined, found, graft, InOrder, IsAt, IsHeap, merge, merge_into, Over, Pair, ranges, Tip, Tree, tree_at, tree_by}
+pub use Rattle.xl_treap.specs.Trees.{Bin, child, cut, cut_by, down, Every, examined, found, graft, InOrder, IsAt, IsHeap, merge, merge_into, Over, Pair, ranges, Tip, toward, Tree, tree_at, tree_by, with_child}
 pub use Rattle.xl_treap.specs.declared.along.Visit.{Visit}
+pub use Rattle.xl_treap.specs.declared.node.Side.{Side}
+pub use Rattle.xl_treap.specs.declared.node.Side.TheVariants.{High, Low}
 pub use Rattle.xl_treap.specs.declared.parting.Parts.{Parts}

@@ -1,77 +1,61 @@
 -- A tree is parted at a key, from the end of the key's way up.
-use Rattle.xl_treap.proofs.Common.{◌*◌, ◌+◌, ◌-◌, ◌<◌, ◌^◌, ◌∙◌, ◌≡◌, ◌≤◌, ap, arith, Bin, CanPart, cond, cut_high, cut_low, down, Each, end_key, false, inl, InOrder, inr, is_above, IsAt, IsCut, IsHeap, IsHung, length, List, nat_lt, Off, Over, pick-no, pick-yes, range_key, refl, SameLine, slice_index, subst, suc, sym, Tip, TopOver, Tree, true, ℕ}
+use Rattle.xl_treap.proofs.Common.{◌*◌, ◌+◌, ◌-◌, ◌<◌, ◌^◌, ◌∙◌, ◌≡◌, ◌≤◌, ap, arith, beyond, Bin, CanPart, child, cut, cut_by, down, Every, false, High, InOrder, is_above, IsAt, IsCut, IsHeap, IsHung, length, List, Low, Off, on_side, Over, Range, range_key, refl, SameLine, Side, side_at, side_in, slice_index, subst, suc, sym, Tip, TopOver, toward, Tree, true, with_child, ℕ}
 use Rattle.xl_treap.proofs.AboveLemmas.{above-total, over-chain}
-use Rattle.xl_treap.proofs.FrameLemmas.{at-keeps, each-map, frame, Hung, hung-high, hung-low, linked-line, linked-three, off-key}
-use Rattle.xl_treap.proofs.WayLemmas.{at-there, child, down-next, heap-down, order-down}
+use Rattle.xl_treap.proofs.FrameLemmas.{at-keeps, each-map, frame, Hung, hung, linked-line, linked-three, off-side}
+use Rattle.xl_treap.proofs.SideLemmas.{at-side}
+use Rattle.xl_treap.proofs.WayLemmas.{at-there, down-next, heap-down, order-down}
 
 -- what each of a tree's nodes is, each node of its two parts is
-pub each-cut : (P : ℕ → Type 0) (k : ℕ) (t : Tree) → Each P t → Each P (cut_low k t) × Each P (cut_high k t)
-each-cut P k Tip e = (tt, tt)
-each-cut P k (Bin m x l r) (e, a, b) = elim (nat_lt (range_key x) k) as (λ c. Each P (cond c (Bin m x l (cut_low k r)) (cut_low k l)) × Each P (cond c (cut_high k r) (Bin m x (cut_high k l) r))) [
-  | true ↦ let u = each-cut P k r b in ((e, a, u.0), u.1)
-  | false ↦ let u = each-cut P k l a in (u.0, (e, u.1, b))
-]
+pub every-cut : (P : ℕ → Range → Type 0) (s : Side) (k : ℕ) (t : Tree) → Every P t → Every P (cut s k t)
+every-cut P s k Tip e = tt
+every-cut P s k (Bin m x l r) (e, a, b) = go s (side_at (range_key x) k) (cut s k l) (cut s k r) (every-cut P s k l a) (every-cut P s k r b)
+  where
+    go : (s c : Side) (u v : Tree) → Every P u → Every P v → Every P (cut_by s c m x l r u v)
+    go Low Low u v f g = f
+    go Low High u v f g = (e, a, g)
+    go High Low u v f g = (e, f, b)
+    go High High u v f g = g
 
--- one node on the way up goes to the lower part
-pub cut-below : (old w new : List ℕ) (at k bound top low high : ℕ) (t : Tree) → IsAt old at t → 0 < at → InOrder bound top t → IsCut old w low high k (child k t)
-    → slice_index w (4 * (at - 1)) < k → IsHung w new (at - 1) k low → IsCut old new at high k t
-cut-below old w new at k bound top low high Tip i some o c lt link = absurd (omega arith)
-cut-below old w new at k bound top low high (Bin n x l r) i some o c lt link =
+-- and a key that is above each of a tree's is above each of its parts'
+pub over-cut : (y : ℕ) (s : Side) (k : ℕ) (t : Tree) → Over y t → Over y (cut s k t)
+over-cut y s k t o = every-cut (λ m x. is_above y (range_key x) ≡ true) s k t o
+
+-- one node on the way up goes to the part on the other side of it than the key
+pub cut-more : (old w new : List ℕ) (at k bound top low high : ℕ) (t : Tree) (c : Side) → IsAt old at t → 0 < at → InOrder bound top t → IsCut old w low high k (child (toward k t) t)
+    → side_in w (at - 1) k ≡ c → IsHung w new (at - 1) c (on_side (beyond c) low high) → IsCut old new (on_side c low at) (on_side c at high) k t
+cut-more old w new at k bound top low high Tip c i some o parts e link = absurd (omega arith)
+cut-more old w new at k bound top low high (Bin n x l r) c i some o parts e link =
     let m : at - 1 ≡ n = let e = i.0 in omega arith in
     let z : 4 * n + 0 ≡ 4 * n = omega arith in
-    let own : slice_index w (4 * n) ≡ range_key x = ap (slice_index w) (sym z) ∙ c.but.kept n 0 (omega arith) ∙ ap (slice_index old) z ∙ i.1.key_is in
-    let N : ℕ → Type 0 = λ a. slice_index w (4 * a) < k in
-    let K : ℕ → Type 0 = λ a. a < k in
-    let less : range_key x < k = subst K own (subst N m lt) in
-    let L : ℕ → Type 0 = λ a. IsHung w new a k low in
-    let lk : IsHung w new n k low = subst L m link in
-    let e : child k (Bin n x l r) ≡ r = pick-yes (range_key x) k r l less in
-    let C : Tree → Type 0 = λ s. IsCut old w low high k s in
-    let d : IsCut old w low high k r = subst C e c in
+    let own : slice_index w (4 * n) ≡ range_key x = ap (slice_index w) (sym z) ∙ parts.but.kept n 0 (omega arith) ∙ ap (slice_index old) z ∙ i.1.key_is in
+    let N : ℕ → Type 0 = λ a. side_in w a k ≡ c in
+    let K : ℕ → Type 0 = λ a. side_at a k ≡ c in
+    let is : side_at (range_key x) k ≡ c = subst K own (subst N m e) in
+    let L : ℕ → Type 0 = λ a. IsHung w new a c (on_side (beyond c) low high) in
+    let lk : IsHung w new n c (on_side (beyond c) low high) = subst L m link in
+    let C : Side → Type 0 = λ s. IsCut old w low high k (on_side s l r) in
+    let d : IsCut old w low high k (on_side c l r) = subst C is parts in
     let keep = at-keeps old at (Bin n x l r) i in
-    let fit = o.0.some in
-    let off-r : Off n r = off-key old n (range_key x) (end_key x) top r i.1.key_is keep.2 o.2 (inl (omega arith)) in
-    let h : Hung old new k n (Bin n x l r) (cut_low k r) =
-    hung-low old w new bound top k n low x l r (cut_low k r) keep o lk d.lows (each-cut (λ m. m ≡ n → ⊥) k r off-r).0 less d.but.off i.2 in
-    let A : ℕ → Type 0 = λ a. IsAt new a (cut_low k (Bin n x l r)) in
-    let T : Tree → Type 0 = λ s. IsAt new (suc n) s in
-    let H : Tree → Type 0 = λ s. IsAt new high s in
+    let off : (s : Side) → Off n (cut s k (on_side c l r)) = (λ s. every-cut (λ m y. m ≡ n → ⊥) s k (on_side c l r) (off-side old n bound top x l r keep o c)) in
+    let h : Hung old new c n (Bin n x l r) (cut (beyond c) k (on_side c l r)) =
+    hung old w new bound top c n (on_side (beyond c) low high) x l r (cut (beyond c) k (on_side c l r)) keep o d.but.off lk (d.parts (beyond c)) (off (beyond c))
+    (at-side (beyond c) old at n x l r i) in
+    let A : ℕ → Type 0 = λ a. IsAt new a (with_child c (Bin n x l r) (cut (beyond c) k (on_side c l r))) in
+    let stay : IsAt new (on_side c low high) (cut c k (on_side c l r)) =
+    frame w new (on_side c low high) (cut c k (on_side c l r)) lk.len
+    (each-map (λ m. m ≡ n → ⊥) (SameLine w new) (cut c k (on_side c l r)) (λ m ne. linked-line w new n _ _ m lk ne) (off c)) (d.parts c) in
     record {
-      lows = subst A (sym i.0) (subst T (pick-yes (range_key x) k _ _ less ∙ sym (pick-yes (range_key x) k (Bin n x l (cut_low k r)) (cut_low k l) less)) h.here);
-      highs = subst H (sym (pick-yes (range_key x) k (cut_high k r) (Bin n x (cut_high k l) r) less))
-          (frame w new high (cut_high k r) lk.len (each-map (λ m. m ≡ n → ⊥) (SameLine w new) (cut_high k r) (λ m ne. linked-line w new n _ _ m lk ne) (each-cut (λ m. m ≡ n → ⊥) k r off-r).1) d.highs);
+      parts = λ s. let T : Side → Type 0 = λ z. IsAt new (on_side s (on_side c low at) (on_side c at high)) (cut_by s z n x l r (cut s k l) (cut s k r)) in
+          subst T (sym is) (go c s (subst A (sym i.0) h.here) stay);
       but = record { off = h.off; kept = λ m j q. linked-three w new n _ _ lk m j q ∙ d.but.kept m j q };
     }
-
--- one node on the way up goes to the upper part
-pub cut-above : (old w new : List ℕ) (at k bound top low high : ℕ) (t : Tree) → IsAt old at t → 0 < at → InOrder bound top t → IsCut old w low high k (child k t)
-    → k ≤ slice_index w (4 * (at - 1)) → IsHung w new (at - 1) k high → IsCut old new low at k t
-cut-above old w new at k bound top low high Tip i some o c ge link = absurd (omega arith)
-cut-above old w new at k bound top low high (Bin n x l r) i some o c ge link =
-    let m : at - 1 ≡ n = let e = i.0 in omega arith in
-    let z : 4 * n + 0 ≡ 4 * n = omega arith in
-    let own : slice_index w (4 * n) ≡ range_key x = ap (slice_index w) (sym z) ∙ c.but.kept n 0 (omega arith) ∙ ap (slice_index old) z ∙ i.1.key_is in
-    let N : ℕ → Type 0 = λ a. k ≤ slice_index w (4 * a) in
-    let K : ℕ → Type 0 = λ a. k ≤ a in
-    let more : k ≤ range_key x = subst K own (subst N m ge) in
-    let L : ℕ → Type 0 = λ a. IsHung w new a k high in
-    let lk : IsHung w new n k high = subst L m link in
-    let e : child k (Bin n x l r) ≡ l = pick-no (range_key x) k r l more in
-    let C : Tree → Type 0 = λ s. IsCut old w low high k s in
-    let d : IsCut old w low high k l = subst C e c in
-    let keep = at-keeps old at (Bin n x l r) i in
-    let off-l : Off n l = off-key old n (range_key x) bound (range_key x) l i.1.key_is keep.1 o.1 (inr (omega arith)) in
-    let h : Hung old new k n (Bin n x l r) (cut_high k l) =
-    hung-high old w new bound top k n high x l r (cut_high k l) keep o lk d.highs (each-cut (λ m. m ≡ n → ⊥) k l off-l).1 more d.but.off i.3 in
-    let A : ℕ → Type 0 = λ a. IsAt new a (cut_high k (Bin n x l r)) in
-    let T : Tree → Type 0 = λ s. IsAt new (suc n) s in
-    let H : Tree → Type 0 = λ s. IsAt new low s in
-    record {
-      highs = subst A (sym i.0) (subst T (pick-no (range_key x) k _ _ more ∙ sym (pick-no (range_key x) k (cut_high k r) (Bin n x (cut_high k l) r) more)) h.here);
-      lows = subst H (sym (pick-no (range_key x) k (Bin n x l (cut_low k r)) (cut_low k l) more))
-          (frame w new low (cut_low k l) lk.len (each-map (λ m. m ≡ n → ⊥) (SameLine w new) (cut_low k l) (λ m ne. linked-line w new n _ _ m lk ne) (each-cut (λ m. m ≡ n → ⊥) k l off-l).0) d.lows);
-      but = record { off = h.off; kept = λ m j q. linked-three w new n _ _ lk m j q ∙ d.but.kept m j q };
-    }
+  where
+    go : (c s : Side) → IsAt new at (with_child c (Bin n x l r) (cut (beyond c) k (on_side c l r))) → IsAt new (on_side c low high) (cut c k (on_side c l r))
+        → IsAt new (on_side s (on_side c low at) (on_side c at high)) (cut_by s c n x l r (cut s k l) (cut s k r))
+    go Low Low a b = b
+    go Low High a b = a
+    go High Low a b = a
+    go High High a b = b
 
 -- the key of a node on the way, in words of which only links changed
 pub own-key : (old w : List ℕ) (at : ℕ) (t : Tree) → IsAt old at t → 0 < at → ((m j : ℕ) → j < 3 → slice_index w (4 * m + j) ≡ slice_index old (4 * m + j))
@@ -107,12 +91,15 @@ cut-none words k t i =
     let C : Tree → Type 0 = λ s. IsCut words words 0 0 k s × Over k s in
     subst C (sym (tip-of words t i)) (
       record {
-        lows = refl;
-        highs = refl;
+        parts = λ s. none s;
         but = record { off = record { len = refl; same = λ m o j l. refl }; kept = λ m j l. refl };
       },
       tt,
     )
+  where
+    none : (s : Side) → IsAt words (on_side s 0 0) Tip
+    none Low = refl
+    none High = refl
 
 -- One node of a way on which a tree is parted.
 module _ (old w path : List ℕ) (t : Tree) (k depth d low high : ℕ) (can : CanPart old path t k depth) (up : 0 < d) (le : d ≤ depth)
@@ -143,23 +130,17 @@ module _ (old w path : List ℕ) (t : Tree) (k depth d low high : ℕ) (can : Ca
       let K : ℕ → Type 0 = λ a. is_above a k ≡ false in
       over-tree old (slice_index path (d - 1)) k (down t k (d - 1)) top top-some (heap-down t k (d - 1) can.heap) (subst K own h)
 
-  under : IsCut old w low high k (child k (down t k (d - 1)))
+  under : IsCut old w low high k (child (toward k (down t k (d - 1))) (down t k (d - 1)))
   under =
       let m : d ≡ suc (d - 1) = omega arith in
       let D : ℕ → Type 0 = λ a. IsCut old w low high k (down t k a) in
       let T : Tree → Type 0 = λ s. IsCut old w low high k s in
       subst T (down-next t k (d - 1)) (subst D m cut)
 
-  pub part-below : (new : List ℕ) → slice_index w (4 * (slice_index path (d - 1) - 1)) < k
-      → IsHung w new (slice_index path (d - 1) - 1) k low
-      → IsCut old new (slice_index path (d - 1)) high k (down t k (d - 1))
-  part-below new lt link =
+  pub part-more : (new : List ℕ) (c : Side) → side_in w (slice_index path (d - 1) - 1) k ≡ c
+      → IsHung w new (slice_index path (d - 1) - 1) (side_in w (slice_index path (d - 1) - 1) k) (on_side (beyond c) low high)
+      → IsCut old new (on_side c low (slice_index path (d - 1))) (on_side c (slice_index path (d - 1)) high) k (down t k (d - 1))
+  part-more new c e link =
       let o = order-down t k (d - 1) 0 (2 ^ 58) can.order in
-      cut-below old w new (slice_index path (d - 1)) k o.0 o.1 low high (down t k (d - 1)) top top-some o.2 under lt link
-
-  pub part-above : (new : List ℕ) → k ≤ slice_index w (4 * (slice_index path (d - 1) - 1))
-      → IsHung w new (slice_index path (d - 1) - 1) k high
-      → IsCut old new low (slice_index path (d - 1)) k (down t k (d - 1))
-  part-above new ge link =
-      let o = order-down t k (d - 1) 0 (2 ^ 58) can.order in
-      cut-above old w new (slice_index path (d - 1)) k o.0 o.1 low high (down t k (d - 1)) top top-some o.2 under ge link
+      let L : Side → Type 0 = λ z. IsHung w new (slice_index path (d - 1) - 1) z (on_side (beyond c) low high) in
+      cut-more old w new (slice_index path (d - 1)) k o.0 o.1 low high (down t k (d - 1)) c top top-some o.2 under e (subst L e link)

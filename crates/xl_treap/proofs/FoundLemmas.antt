@@ -1,5 +1,5 @@
 -- What a search of a tree's words finds.
-use Rattle.xl_treap.proofs.Common.{◌*◌, ◌++◌, ◌+◌, ◌-◌, ◌<◌, ◌^◌, ◌∙◌, ◌∷◌, ◌≡◌, ◌≤◌, [], ap, arith, Bin, Bool, cond, end_key, end_of, ended, examined, false, find, found, holds_page, In, inl, InOrder, inr, IsAt, IsFit, IsNode, key_at, left_at, length, List, loaded_before, nat_lt, nat_tests, None, Option, pick-no, pick-yes, Range, range_key, ranges, refl, right_at, search_from, Searched, Some, subst, suc, sym, Tip, Tree, tree_at, tree_by, true, Visit, visit_of, visited, zero, ℕ}
+use Rattle.xl_treap.proofs.Common.{◌*◌, ◌++◌, ◌+◌, ◌-◌, ◌<◌, ◌^◌, ◌∙◌, ◌∷◌, ◌≡◌, ◌≤◌, [], ap, arith, Bin, Bool, cond, end_key, end_of, ended, examined, false, find, found, High, holds_page, In, inl, InOrder, inr, IsAt, IsFit, IsNode, key_at, length, link_at, List, loaded_before, Low, nat_lt, nat_tests, None, Option, pick-no, pick-yes, Range, range_key, ranges, refl, search_from, Searched, Some, subst, suc, sym, Tip, Tree, tree_at, tree_by, true, Visit, visit_of, visited, zero, ℕ}
 use Rattle.xl_treap.proofs.OrderLemmas.{order-In, side, sizes}
 use Rattle.xl_treap.proofs.SeekLemmas.{from-none, from-visit}
 use Rattle.xl_treap.proofs.WordLemmas.{node-said, said-back}
@@ -18,12 +18,12 @@ tree-is low high (suc d) words at (Bin n x l r) (e, i, a, b) (f, p, q) h =
     let s = sizes n x l r in
     let P : ℕ → Type 0 = λ a. tree_at (suc d) words a ≡ Bin n x l r in
     subst P (sym e)
-    (ap (λ (o : Option Range). tree_by n o (tree_at d words (left_at words n)) (tree_at d words (right_at words n))) (node-said words n x i f)
-    ∙ ap (λ (t : Tree). Bin n x t (tree_at d words (right_at words n))) (tree-is low (range_key x) d words (left_at words n) l a p (omega arith))
-    ∙ ap (λ (t : Tree). Bin n x l t) (tree-is (end_key x) high d words (right_at words n) r b q (omega arith)))
+    (ap (λ (o : Option Range). tree_by n o (tree_at d words (link_at Low words n)) (tree_at d words (link_at High words n))) (node-said words n x i f)
+    ∙ ap (λ (t : Tree). Bin n x t (tree_at d words (link_at High words n))) (tree-is low (range_key x) d words (link_at Low words n) l a p (omega arith))
+    ∙ ap (λ (t : Tree). Bin n x l t) (tree-is (end_key x) high d words (link_at High words n) r b q (omega arith)))
 
 visit-is : (words : List ℕ) (n : ℕ) (x : Range) (k : ℕ) → IsNode words n x → IsFit x
-    → visit_of words n k ≡ cond (nat_lt k (range_key x)) (visit.Goes (left_at words n)) (cond (nat_lt (k - range_key x) x.pages) (visit.Here (Some x)) (visit.Goes (right_at words n)))
+    → visit_of words n k ≡ cond (nat_lt k (range_key x)) (visit.Goes (link_at Low words n)) (cond (nat_lt (k - range_key x) x.pages) (visit.Here (Some x)) (visit.Goes (link_at High words n)))
 visit-is words n x k i f = pick-no (length words) (4 * n + 4) _ _ i.there ∙ rw (i.key_is, i.pages_is, i.word_is, said-back x f) refl
 
 one-more : (x : Searched) (n : ℕ) (o : Option Range) → x ≡ ended n (end_of o) → loaded_before 1 x ≡ ended (suc n) (end_of o)
@@ -38,16 +38,16 @@ seek-tree low high zero words at (Bin n x l r) k i o h = absurd (omega (arith, s
 seek-tree low high (suc left) words at (Bin n x l r) k (e, i, a, b) (f, p, q) h =
     let s = sizes n x l r in
     let on : ℕ → Searched = λ next. search_from left words next k in
-    let c = seek-tree low (range_key x) left words (left_at words n) l k a p (omega arith) in
-    let d = seek-tree (end_key x) high left words (right_at words n) r k b q (omega arith) in
+    let c = seek-tree low (range_key x) left words (link_at Low words n) l k a p (omega arith) in
+    let d = seek-tree (end_key x) high left words (link_at High words n) r k b q (omega arith) in
     let P : ℕ → Type 0 = λ a. search_from (suc left) words a k ≡ ended (examined (Bin n x l r) k) (end_of (found (Bin n x l r) k)) in
     subst P (sym e)
     (from-visit left words n k ∙ ap (λ (v : Visit). visited v on) (visit-is words n x k i f)
     ∙ by (nat_lt k (range_key x)) (nat_lt (k - range_key x) x.pages) (one-more _ _ _ c) (one-more _ _ _ d))
   where
-    by : (b c : Bool) → loaded_before 1 (search_from left words (left_at words n) k) ≡ ended (suc (examined l k)) (end_of (found l k))
-        → loaded_before 1 (search_from left words (right_at words n) k) ≡ ended (suc (examined r k)) (end_of (found r k))
-        → visited (cond b (visit.Goes (left_at words n)) (cond c (visit.Here (Some x)) (visit.Goes (right_at words n)))) (λ next. search_from left words next k)
+    by : (b c : Bool) → loaded_before 1 (search_from left words (link_at Low words n) k) ≡ ended (suc (examined l k)) (end_of (found l k))
+        → loaded_before 1 (search_from left words (link_at High words n) k) ≡ ended (suc (examined r k)) (end_of (found r k))
+        → visited (cond b (visit.Goes (link_at Low words n)) (cond c (visit.Here (Some x)) (visit.Goes (link_at High words n)))) (λ next. search_from left words next k)
         ≡ ended (cond b (suc (examined l k)) (cond c 1 (suc (examined r k)))) (end_of (cond b (found l k) (cond c (Some x) (found r k))))
     by true c u v = u
     by false true u v = refl

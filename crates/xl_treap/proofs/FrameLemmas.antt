@@ -1,6 +1,7 @@
 -- Trees whose words stay where others change.
-use Rattle.xl_treap.proofs.Common.{◌%◌, ◌*◌, ◌+◌, ◌/◌, ◌<◌, ◌^◌, ◌∙◌, ◌≡◌, ◌≤◌, ◌⊎◌, ap, arith, Bin, cond, Each, end_key, inl, InOrder, inr, IsAt, IsHung, IsLinked, IsNode, Keeps, left_at, length, List, nat_lt, Off, pick-no, pick-yes, Range, range_key, refl, right_at, SameLine, SameOff, slice_index, subst, suc, sym, Tip, Tree, ℕ}
+use Rattle.xl_treap.proofs.Common.{◌%◌, ◌*◌, ◌+◌, ◌/◌, ◌<◌, ◌^◌, ◌∙◌, ◌≡◌, ◌≤◌, ◌⊎◌, ap, arith, beyond, Bin, Each, end_key, High, inl, InOrder, inr, IsAt, IsHung, IsLinked, IsNode, Keeps, length, link_at, List, Low, Off, on_side, Range, range_key, SameLine, SameOff, Side, side_at, side_in, slice_index, subst, suc, sym, Tip, Tree, with_child, ℕ}
 use Rattle.xl_treap.proofs.OrderLemmas.{order-le}
+use Rattle.xl_treap.proofs.SideLemmas.{at-with, hung-links, on-either}
 
 pub each-map : (P Q : ℕ → Type 0) (t : Tree) → ((m : ℕ) → P m → Q m) → Each P t → Each Q t
 each-map P Q Tip f e = tt
@@ -12,7 +13,7 @@ each-both P Q (Bin m x l r) (e, a, b) (f, c, d) = ((e, f), each-both P Q l a c, 
 
 pub at-keeps : (words : List ℕ) (at : ℕ) (t : Tree) → IsAt words at t → Keeps words t
 at-keeps words at Tip i = tt
-at-keeps words at (Bin n x l r) (e, i, a, b) = (i, at-keeps words (left_at words n) l a, at-keeps words (right_at words n) r b)
+at-keeps words at (Bin n x l r) (e, i, a, b) = (i, at-keeps words (link_at Low words n) l a, at-keeps words (link_at High words n) r b)
 
 pub line-chain : (a b c : List ℕ) (m : ℕ) → SameLine a b m → SameLine b c m → SameLine a c m
 line-chain a b c m h k = λ j l. k j l ∙ h j l
@@ -36,8 +37,8 @@ frame old new at (Bin n x l r) len (s, p, q) (e, i, a, b) =
     let R : ℕ → Type 0 = λ z. IsAt new (z / 2 ^ 32) r in (
       e,
       node-same old new n x len (λ j h. s j (omega arith)) i,
-      subst L (sym link) (frame old new (left_at old n) l len p a),
-      subst R (sym link) (frame old new (right_at old n) r len q b),
+      subst L (sym link) (frame old new (link_at Low old n) l len p a),
+      subst R (sym link) (frame old new (link_at High old n) r len q b),
     )
 
 -- a node whose key lies outside a tree's keys is none of it
@@ -65,84 +66,63 @@ each-off words low high down up (Bin m x l r) s (i, a, b) (f, p, q) k o side =
       each-off words (end_key x) high down up r s b q k o (elim side [ inl le ↦ inl le | inr le ↦ inr (omega arith) ]),
     )
 
-pub linked-line : (old new : List ℕ) (n left right m : ℕ) → IsLinked old new n left right → (m ≡ n → ⊥) → SameLine old new m
-linked-line old new n left right m h ne = λ j l. h.others (4 * m + j) (λ q. ne (omega arith))
+pub linked-line : (old new : List ℕ) (n low high m : ℕ) → IsLinked old new n low high → (m ≡ n → ⊥) → SameLine old new m
+linked-line old new n low high m h ne = λ j l. h.others (4 * m + j) (λ q. ne (omega arith))
 
-pub linked-three : (old new : List ℕ) (n left right : ℕ) → IsLinked old new n left right → (m j : ℕ) → j < 3 → slice_index new (4 * m + j) ≡ slice_index old (4 * m + j)
-linked-three old new n left right h m j l = h.others (4 * m + j) (λ q. omega arith)
+pub linked-three : (old new : List ℕ) (n low high : ℕ) → IsLinked old new n low high → (m j : ℕ) → j < 3 → slice_index new (4 * m + j) ≡ slice_index old (4 * m + j)
+linked-three old new n low high h m j l = h.others (4 * m + j) (λ q. omega arith)
 
--- the top of a tree with another tree on the side of a key
-abbrev pub with_child : ℕ → Tree → Tree → Tree
-with_child k Tip s = s
-with_child k (Bin n x l r) s = cond (nat_lt (range_key x) k) (Bin n x l s) (Bin n x s r)
+-- a node is none of the trees under it, and neither of these has a node of the other
+pub off-side : (words : List ℕ) (n low high : ℕ) (x : Range) (l r : Tree) → Keeps words (Bin n x l r) → InOrder low high (Bin n x l r) → (s : Side) → Off n (on_side s l r)
+off-side words n low high x l r keep o s =
+    let some = o.0.some in
+    on-either (Off n) s l r (off-key words n (range_key x) low (range_key x) l keep.0.key_is keep.1 o.1 (inr (omega arith)))
+    (off-key words n (range_key x) (end_key x) high r keep.0.key_is keep.2 o.2 (inl (omega arith)))
 
--- What is after a tree was hung under a node: the node's tree so far, `base` its words before what
--- is under it changed, and `old` before the hanging.
-pub record Hung (base new : List ℕ) (k : ℕ) (p : ℕ) (t s : Tree) : Type 0 where
-  pub here : IsAt new (suc p) (with_child k t s)
+pub apart-sides : (words : List ℕ) (n low high : ℕ) (x : Range) (l r : Tree) → Keeps words (Bin n x l r) → InOrder low high (Bin n x l r) → (s : Side)
+    → Each (λ m. Off m (on_side s l r)) (on_side (beyond s) l r)
+apart-sides words n low high x l r keep o Low =
+    let some = o.0.some in each-off words (end_key x) high low (range_key x) r l keep.2 o.2 keep.1 o.1 (inr (omega arith))
+apart-sides words n low high x l r keep o High =
+    let some = o.0.some in each-off words low (range_key x) (end_key x) high l r keep.1 o.1 keep.2 o.2 (inl (omega arith))
+
+-- What is after a tree was hung on a side of a node: the node's tree so far, `base` its words before
+-- what is under it changed, and `old` before the hanging.
+pub record Hung (base new : List ℕ) (s : Side) (p : ℕ) (t u : Tree) : Type 0 where
+  pub here : IsAt new (suc p) (with_child s t u)
   pub off : SameOff t base new
 
-module _ (base old new : List ℕ) (low high k p b : ℕ) (x : Range) (l r s : Tree)
+module _ (base old new : List ℕ) (low high : ℕ) (s : Side) (p b : ℕ) (x : Range) (l r u : Tree)
     (keeps : Keeps base (Bin p x l r)) (order : InOrder low high (Bin p x l r))
-    (link : IsHung old new p k b) (under : IsAt old b s) (off-p : Off p s) where
-  off-low : Off p l
-  off-low = off-key base p (range_key x) low (range_key x) l keeps.0.key_is keeps.1 order.1 (inr (omega arith))
+    (so : SameOff (on_side s l r) base old) where
+  line : SameLine base old p
+  line = so.same p (off-side base p low high x l r keeps order s)
 
-  off-high : Off p r
-  off-high = let some = order.0.some in off-key base p (range_key x) (end_key x) high r keeps.0.key_is keeps.2 order.2 (inl (omega arith))
+  node : IsNode old p x
+  node = node-same base old p x so.len (λ j h. line j (omega arith)) keeps.0
 
-  node-old : SameLine base old p → length old ≡ length base → IsNode old p x
-  node-old so len = node-same base old p x len (λ j h. so j (omega arith)) keeps.0
+  -- the side of a key is what it was
+  pub hung-side : (k : ℕ) → side_in old p k ≡ side_at (range_key x) k
+  hung-side k = ap (λ z. side_at z k) node.key_is
 
-  node-new : IsNode old p x → IsNode new p x
-  node-new i = node-same old new p x link.len (λ j h. linked-three old new p _ _ link p j h) i
-
-  pub hung-low : range_key x < k → SameOff r base old → IsAt base (left_at base p) l → Hung base new k p (Bin p x l r) s
-  hung-low lt so a =
-      let some = order.0.some in
-      let line : SameLine base old p = so.same p off-high in
-      let key : IsNode old p x = node-old line so.len in
-      let left : left_at new p ≡ left_at base p =
-      link.left_is ∙ ap (λ z. cond (nat_lt z k) (left_at old p) b) key.key_is ∙ pick-yes (range_key x) k _ _ lt ∙ ap (λ z. z % 2 ^ 32) (line 3 (omega arith)) in
-      let right : right_at new p ≡ b = link.right_is ∙ ap (λ z. cond (nat_lt z k) b (right_at old p)) key.key_is ∙ pick-yes (range_key x) k _ _ lt in
-      let apart : Each (λ m. Off m r) l = each-off base low (range_key x) (end_key x) high l r keeps.1 order.1 keeps.2 order.2 (inl (omega arith)) in
-      let stay : Each (SameLine base new) l =
-      each-map (λ m. Off m r × (m ≡ p → ⊥)) (SameLine base new) l
+  pub hung : IsHung old new p s b → IsAt old b u → Off p u → IsAt base (link_at (beyond s) base p) (on_side (beyond s) l r) → Hung base new s p (Bin p x l r) u
+  hung link under off-p a =
+      let links = hung-links s old new p b link in
+      let far : link_at (beyond s) new p ≡ link_at (beyond s) base p = links.1 ∙ ap (λ z. on_side (beyond s) (z % 2 ^ 32) (z / 2 ^ 32)) (line 3 (omega arith)) in
+      let stay : Each (SameLine base new) (on_side (beyond s) l r) =
+      each-map (λ m. Off m (on_side s l r) × (m ≡ p → ⊥)) (SameLine base new) (on_side (beyond s) l r)
       (λ m h. line-chain base old new m (so.same m h.0) (linked-line old new p _ _ m link h.1))
-      (each-both (λ m. Off m r) (λ m. m ≡ p → ⊥) l apart off-low) in
-      let L : ℕ → Type 0 = λ z. IsAt new z l in
-      let R : ℕ → Type 0 = λ z. IsAt new z s in
-      let T : Tree → Type 0 = λ t. IsAt new (suc p) t in
+      (each-both (λ m. Off m (on_side s l r)) (λ m. m ≡ p → ⊥) (on_side (beyond s) l r)
+      (apart-sides base p low high x l r keeps order s) (off-side base p low high x l r keeps order (beyond s))) in
+      let N : ℕ → Type 0 = λ z. IsAt new z u in
+      let F : ℕ → Type 0 = λ z. IsAt new z (on_side (beyond s) l r) in
       record {
-        here = subst T (sym (pick-yes (range_key x) k (Bin p x l s) (Bin p x s r) lt))
-            (refl, node-new key, subst L (sym left) (frame base new (left_at base p) l (link.len ∙ so.len) stay a), subst R (sym right) (frame old new b s link.len (each-map (λ m. m ≡ p → ⊥) (SameLine old new) s (λ m ne. linked-line old new p _ _ m link ne) off-p) under));
+        here = at-with s new p x l r u
+            (node-same old new p x link.len (λ j h. linked-three old new p _ _ link p j h) node)
+            (subst N (sym links.0) (frame old new b u link.len (each-map (λ m. m ≡ p → ⊥) (SameLine old new) u (λ m ne. linked-line old new p _ _ m link ne) off-p) under))
+            (subst F (sym far) (frame base new (link_at (beyond s) base p) (on_side (beyond s) l r) (link.len ∙ so.len) stay a));
         off = record {
           len = link.len ∙ so.len;
-          same = λ m o. line-chain base old new m (so.same m o.2) (linked-line old new p _ _ m link (λ e. o.0 (sym e)));
-        };
-      }
-
-  pub hung-high : k ≤ range_key x → SameOff l base old → IsAt base (right_at base p) r → Hung base new k p (Bin p x l r) s
-  hung-high ge so a =
-      let some = order.0.some in
-      let line : SameLine base old p = so.same p off-low in
-      let key : IsNode old p x = node-old line so.len in
-      let right : right_at new p ≡ right_at base p =
-      link.right_is ∙ ap (λ z. cond (nat_lt z k) b (right_at old p)) key.key_is ∙ pick-no (range_key x) k _ _ ge ∙ ap (λ z. z / 2 ^ 32) (line 3 (omega arith)) in
-      let left : left_at new p ≡ b = link.left_is ∙ ap (λ z. cond (nat_lt z k) (left_at old p) b) key.key_is ∙ pick-no (range_key x) k _ _ ge in
-      let apart : Each (λ m. Off m l) r = each-off base (end_key x) high low (range_key x) r l keeps.2 order.2 keeps.1 order.1 (inr (omega arith)) in
-      let stay : Each (SameLine base new) r =
-      each-map (λ m. Off m l × (m ≡ p → ⊥)) (SameLine base new) r
-      (λ m h. line-chain base old new m (so.same m h.0) (linked-line old new p _ _ m link h.1))
-      (each-both (λ m. Off m l) (λ m. m ≡ p → ⊥) r apart off-high) in
-      let L : ℕ → Type 0 = λ z. IsAt new z s in
-      let R : ℕ → Type 0 = λ z. IsAt new z r in
-      let T : Tree → Type 0 = λ t. IsAt new (suc p) t in
-      record {
-        here = subst T (sym (pick-no (range_key x) k (Bin p x l s) (Bin p x s r) ge))
-            (refl, node-new key, subst L (sym left) (frame old new b s link.len (each-map (λ m. m ≡ p → ⊥) (SameLine old new) s (λ m ne. linked-line old new p _ _ m link ne) off-p) under), subst R (sym right) (frame base new (right_at base p) r (link.len ∙ so.len) stay a));
-        off = record {
-          len = link.len ∙ so.len;
-          same = λ m o. line-chain base old new m (so.same m o.1) (linked-line old new p _ _ m link (λ e. o.0 (sym e)));
+          same = λ m o. line-chain base old new m (so.same m (on-either (Off m) s l r o.1 o.2)) (linked-line old new p _ _ m link (λ e. o.0 (sym e)));
         };
       }

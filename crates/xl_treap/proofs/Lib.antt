@@ -1,4 +1,5 @@
 mod Common
+mod SideLemmas
 pub mod WordLemmas
 pub mod SeekLemmas
 pub mod OrderLemmas

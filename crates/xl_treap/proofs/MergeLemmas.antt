@@ -1,8 +1,9 @@
 -- Two trees are made one.
-use Rattle.xl_treap.proofs.Common.{◌*◌, ◌++◌, ◌+◌, ◌-◌, ◌<◌, ◌∙◌, ◌∷◌, ◌≡◌, ◌≤◌, [], ap, append_assoc, arith, Bin, Bool, cond, down, Each, end_key, false, get_or-set_other, get_or-set_same, Half, inl, InOrder, inr, is_above, IsAt, IsHeap, Keeps, left_at, length, length-set, List, merge, merge_into, Over, pick-no, pick-yes, Range, range_key, ranges, refl, right_at, slice_index, slice_set, subst, suc, sym, Tip, Tree, true, ℕ}
+use Rattle.xl_treap.proofs.Common.{◌*◌, ◌++◌, ◌+◌, ◌-◌, ◌<◌, ◌∙◌, ◌∷◌, ◌≡◌, ◌≤◌, [], ap, append_assoc, arith, beyond, Bin, Bool, child, cond, down, end_key, Every, false, get_or-set_other, get_or-set_same, Half, High, inl, InOrder, inr, is_above, IsAt, IsHeap, length, length-set, link_at, List, Low, merge, merge_into, on_side, Over, Range, range_key, ranges, refl, side_at, slice_index, slice_set, subst, suc, sym, Tip, toward, Tree, true, ℕ}
 use Rattle.xl_treap.proofs.AboveLemmas.{above-total, over-chain}
 use Rattle.xl_treap.proofs.OrderLemmas.{of-order, order-le, order-of, order-wider, side, sizes, Within}
-use Rattle.xl_treap.proofs.WayLemmas.{at-there, child, down-next, none-left}
+use Rattle.xl_treap.proofs.SideLemmas.{side-high, side-low}
+use Rattle.xl_treap.proofs.WayLemmas.{at-there, down-next, none-left}
 
 pub merge-none : (a : Tree) → merge a Tip ≡ a
 merge-none Tip = refl
@@ -24,17 +25,22 @@ pub merge-ranges : (a b : Tree) → ranges (merge a b) ≡ ranges a ++ ranges b
 merge-ranges Tip b = refl
 merge-ranges (Bin n x l r) b = into-ranges n x l r b (λ z. merge-ranges r z)
 
-into-over : (k n : ℕ) (x : Range) (l r b : Tree) → ((z : Tree) → Over k r → Over k z → Over k (merge r z)) → Over k (Bin n x l r) → Over k b → Over k (merge_into n x l r (λ z. merge r z) b)
-into-over k n x l r Tip f o p = o
-into-over k n x l r (Bin m y c d) f o p =
-    elim (is_above (range_key x) (range_key y)) as (λ t. Over k (cond t (Bin n x l (merge r (Bin m y c d))) (Bin m y (merge_into n x l r (λ z. merge r z) c) d))) [
-      | true ↦ (o.0, o.1, f (Bin m y c d) o.2 p)
-      | false ↦ (p.0, into-over k n x l r c f o p.1, p.2)
+into-every : (P : ℕ → Range → Type 0) (n : ℕ) (x : Range) (l r b : Tree) → ((z : Tree) → Every P r → Every P z → Every P (merge r z)) → Every P (Bin n x l r) → Every P b
+    → Every P (merge_into n x l r (λ z. merge r z) b)
+into-every P n x l r Tip f h g = h
+into-every P n x l r (Bin m y c d) f h g =
+    elim (is_above (range_key x) (range_key y)) as (λ t. Every P (cond t (Bin n x l (merge r (Bin m y c d))) (Bin m y (merge_into n x l r (λ z. merge r z) c) d))) [
+      | true ↦ (h.0, h.1, f (Bin m y c d) h.2 g)
+      | false ↦ (g.0, into-every P n x l r c f h g.1, g.2)
     ]
 
+pub merge-every : (P : ℕ → Range → Type 0) (a b : Tree) → Every P a → Every P b → Every P (merge a b)
+merge-every P Tip b h g = g
+merge-every P (Bin n x l r) b h g = into-every P n x l r b (λ z q s. merge-every P r z q s) h g
+
+-- a key that is above each of two trees is above each of both
 pub merge-over : (k : ℕ) (a b : Tree) → Over k a → Over k b → Over k (merge a b)
-merge-over k Tip b o p = p
-merge-over k (Bin n x l r) b o p = into-over k n x l r b (λ z q s. merge-over k r z q s) o p
+merge-over k a b o p = merge-every (λ m y. is_above k (range_key y) ≡ true) a b o p
 
 into-heap : (n : ℕ) (x : Range) (l r b : Tree) → ((z : Tree) → IsHeap r → IsHeap z → IsHeap (merge r z)) → IsHeap (Bin n x l r) → IsHeap b → IsHeap (merge_into n x l r (λ z. merge r z) b)
 into-heap n x l r Tip f h g = h
@@ -43,37 +49,12 @@ into-heap n x l r (Bin m y c d) f h g =
       | true ↦ λ e. (h.0, merge-over (range_key x) r (Bin m y c d) h.1 (e, over-chain (range_key x) (range_key y) c e g.0, over-chain (range_key x) (range_key y) d e g.1), h.2, f (Bin m y c d) h.3 g)
       | false ↦ λ e.
           let a : is_above (range_key y) (range_key x) ≡ true = above-total (range_key x) (range_key y) e in
-          (into-over (range_key y) n x l r c (λ z q s. merge-over (range_key y) r z q s) (a, over-chain (range_key y) (range_key x) l a h.0, over-chain (range_key y) (range_key x) r a h.1) g.0, g.1, into-heap n x l r c f h g.2, g.3)
+          (merge-over (range_key y) (Bin n x l r) c (a, over-chain (range_key y) (range_key x) l a h.0, over-chain (range_key y) (range_key x) r a h.1) g.0, g.1, into-heap n x l r c f h g.2, g.3)
     ] refl
 
 pub merge-heap : (a b : Tree) → IsHeap a → IsHeap b → IsHeap (merge a b)
 merge-heap Tip b h g = g
 merge-heap (Bin n x l r) b h g = into-heap n x l r b (λ z q s. merge-heap r z q s) h g
-
-into-each : (P : ℕ → Type 0) (n : ℕ) (x : Range) (l r b : Tree) → ((z : Tree) → Each P r → Each P z → Each P (merge r z)) → Each P (Bin n x l r) → Each P b → Each P (merge_into n x l r (λ z. merge r z) b)
-into-each P n x l r Tip f h g = h
-into-each P n x l r (Bin m y c d) f h g =
-    elim (is_above (range_key x) (range_key y)) as (λ t. Each P (cond t (Bin n x l (merge r (Bin m y c d))) (Bin m y (merge_into n x l r (λ z. merge r z) c) d))) [
-      | true ↦ (h.0, h.1, f (Bin m y c d) h.2 g)
-      | false ↦ (g.0, into-each P n x l r c f h g.1, g.2)
-    ]
-
-pub merge-each : (P : ℕ → Type 0) (a b : Tree) → Each P a → Each P b → Each P (merge a b)
-merge-each P Tip b h g = g
-merge-each P (Bin n x l r) b h g = into-each P n x l r b (λ z q s. merge-each P r z q s) h g
-
-into-keeps : (words : List ℕ) (n : ℕ) (x : Range) (l r b : Tree) → ((z : Tree) → Keeps words r → Keeps words z → Keeps words (merge r z)) → Keeps words (Bin n x l r) → Keeps words b
-    → Keeps words (merge_into n x l r (λ z. merge r z) b)
-into-keeps words n x l r Tip f h g = h
-into-keeps words n x l r (Bin m y c d) f h g =
-    elim (is_above (range_key x) (range_key y)) as (λ t. Keeps words (cond t (Bin n x l (merge r (Bin m y c d))) (Bin m y (merge_into n x l r (λ z. merge r z) c) d))) [
-      | true ↦ (h.0, h.1, f (Bin m y c d) h.2 g)
-      | false ↦ (g.0, into-keeps words n x l r c f h g.1, g.2)
-    ]
-
-pub merge-keeps : (words : List ℕ) (a b : Tree) → Keeps words a → Keeps words b → Keeps words (merge a b)
-merge-keeps words Tip b h g = g
-merge-keeps words (Bin n x l r) b h g = into-keeps words n x l r b (λ z q s. merge-keeps words r z q s) h g
 
 within-append : (low mid next high : ℕ) (xs ys : List Range) → Within low mid xs → Within next high ys → mid ≤ next → Within low high (xs ++ ys)
 within-append low mid next high [] [] a b h = omega arith
@@ -139,7 +120,7 @@ more-nodes words path t k depth at u less here i h = elim (side i depth) [
 merging-step : (words path : List ℕ) (t : Tree) (k depth low high : ℕ) (a b : Tree) (top : ℕ) → IsAt words low a → IsAt words high b → down t k depth ≡ merge a b → InOrder 0 k a → InOrder (suc k) top b
     → depth + (length (ranges a) + length (ranges b)) ≤ length path → ((i : ℕ) → i < depth → Half words (slice_index path i) k (down t k i)) → 0 < low → 0 < high → depth < length path → (above : Bool)
     → is_above (slice_index words (4 * (low - 1))) (slice_index words (4 * (high - 1))) ≡ above
-    → cond above (IsMerging words (slice_set path depth low) t k (depth + 1) (right_at words (low - 1)) high) (IsMerging words (slice_set path depth high) t k (depth + 1) low (left_at words (high - 1)))
+    → cond above (IsMerging words (slice_set path depth low) t k (depth + 1) (link_at High words (low - 1)) high) (IsMerging words (slice_set path depth high) t k (depth + 1) low (link_at Low words (high - 1)))
 merging-step words path t k depth low high Tip b top i j e o p few nodes sl sh less above q = absurd (omega arith)
 merging-step words path t k depth low high (Bin n x l r) Tip top i j e o p few nodes sl sh less above q = absurd (omega arith)
 merging-step words path t k depth low high (Bin n x l r) (Bin m y c d) top i j e o p few nodes sl sh less above q =
@@ -150,18 +131,18 @@ merging-step words path t k depth low high (Bin n x l r) (Bin m y c d) top i j e
     let K : ℕ → Type 0 = λ z. is_above z (slice_index words (4 * m)) ≡ above in
     let L : ℕ → Type 0 = λ z. is_above (range_key x) z ≡ above in
     let s : is_above (range_key x) (range_key y) ≡ above = subst L j.1.key_is (subst K i.1.key_is (subst M hm (subst N ln q))) in
-    let x-low : range_key x < k = let w = order-le (end_key x) k r o.2 in let some = o.0.some in omega arith in
-    let y-high : k ≤ range_key y = let w = order-le (suc k) (range_key y) c p.1 in omega arith in
+    let x-side : side_at (range_key x) k ≡ High = side-high (range_key x) k (let w = order-le (end_key x) k r o.2 in let some = o.0.some in omega arith) in
+    let y-side : side_at (range_key y) k ≡ Low = side-low (range_key y) k (let w = order-le (suc k) (range_key y) c p.1 in omega arith) in
     let nx : suc depth ≡ depth + 1 = omega arith in
-    go above s ln hm x-low y-high nx
+    go above s ln hm x-side y-side nx
   where
-    go : (above : Bool) → is_above (range_key x) (range_key y) ≡ above → low - 1 ≡ n → high - 1 ≡ m → range_key x < k → k ≤ range_key y → suc depth ≡ depth + 1
-        → cond above (IsMerging words (slice_set path depth low) t k (depth + 1) (right_at words (low - 1)) high) (IsMerging words (slice_set path depth high) t k (depth + 1) low (left_at words (high - 1)))
-    go true s ln hm x-low y-high nx =
+    go : (above : Bool) → is_above (range_key x) (range_key y) ≡ above → low - 1 ≡ n → high - 1 ≡ m → side_at (range_key x) k ≡ High → side_at (range_key y) k ≡ Low → suc depth ≡ depth + 1
+        → cond above (IsMerging words (slice_set path depth low) t k (depth + 1) (link_at High words (low - 1)) high) (IsMerging words (slice_set path depth high) t k (depth + 1) low (link_at Low words (high - 1)))
+    go true s ln hm x-side y-side nx =
         let here : down t k depth ≡ Bin n x l (merge r (Bin m y c d)) = e ∙ ap (λ z. cond z (Bin n x l (merge r (Bin m y c d))) (Bin m y (merge_into n x l r (λ z. merge r z) c) d)) s in
         let next : down t k (depth + 1) ≡ merge r (Bin m y c d) =
-        ap (down t k) (sym nx) ∙ down-next t k depth ∙ ap (child k) here ∙ pick-yes (range_key x) k (merge r (Bin m y c d)) l x-low in
-        let R : ℕ → Type 0 = λ z. IsAt words (right_at words z) r in
+        ap (down t k) (sym nx) ∙ down-next t k depth ∙ ap (λ z. child (toward k z) z) here ∙ ap (λ z. on_side z l (merge r (Bin m y c d))) x-side in
+        let R : ℕ → Type 0 = λ z. IsAt words (link_at High words z) r in
         let H : Tree → Type 0 = λ z. Half words low k z in
         record {
           first = r;
@@ -172,13 +153,13 @@ merging-step words path t k depth low high (Bin n x l r) (Bin m y c d) top i j e
           low_order = order-wider (end_key x) k 0 k r o.2 (omega arith) (omega arith);
           high_order = (top, p);
           few = (let z = length-set path depth low in omega (arith, sizes n x l r));
-          nodes = more-nodes words path t k depth low nodes less (subst H (sym here) (i.0, i.1, (λ h. i.2), (λ h. absurd (omega arith))));
+          nodes = more-nodes words path t k depth low nodes less (subst H (sym here) (i.0, i.1, subst (λ z. IsAt words (link_at (beyond z) words n) (on_side (beyond z) l (merge r (Bin m y c d)))) (sym x-side) i.2));
         }
-    go false s ln hm x-low y-high nx =
+    go false s ln hm x-side y-side nx =
         let here : down t k depth ≡ Bin m y (merge (Bin n x l r) c) d = e ∙ ap (λ z. cond z (Bin n x l (merge r (Bin m y c d))) (Bin m y (merge_into n x l r (λ z. merge r z) c) d)) s in
         let next : down t k (depth + 1) ≡ merge (Bin n x l r) c =
-        ap (down t k) (sym nx) ∙ down-next t k depth ∙ ap (child k) here ∙ pick-no (range_key y) k d (merge (Bin n x l r) c) y-high in
-        let R : ℕ → Type 0 = λ z. IsAt words (left_at words z) c in
+        ap (down t k) (sym nx) ∙ down-next t k depth ∙ ap (λ z. child (toward k z) z) here ∙ ap (λ z. on_side z (merge (Bin n x l r) c) d) y-side in
+        let R : ℕ → Type 0 = λ z. IsAt words (link_at Low words z) c in
         let H : Tree → Type 0 = λ z. Half words high k z in
         record {
           first = Bin n x l r;
@@ -189,15 +170,11 @@ merging-step words path t k depth low high (Bin n x l r) (Bin m y c d) top i j e
           low_order = o;
           high_order = (range_key y, p.1);
           few = (let z = length-set path depth high in omega (arith, sizes m y c d));
-          nodes = more-nodes words path t k depth high nodes less (subst H (sym here) (j.0, j.1, (λ h. absurd (omega arith)), (λ h. j.3)));
+          nodes = more-nodes words path t k depth high nodes less (subst H (sym here) (j.0, j.1, subst (λ z. IsAt words (link_at (beyond z) words m) (on_side (beyond z) (merge (Bin n x l r) c) d)) (sym y-side) j.3));
         }
 
-pub merging-low : (words path : List ℕ) (t : Tree) (k depth low high : ℕ) → IsMerging words path t k depth low high → 0 < low → 0 < high → depth < length path
-    → is_above (slice_index words (4 * (low - 1))) (slice_index words (4 * (high - 1))) ≡ true → IsMerging words (slice_set path depth low) t k (depth + 1) (right_at words (low - 1)) high
-merging-low words path t k depth low high m a b less above =
-    merging-step words path t k depth low high m.first m.second m.high_order.0 m.low_at m.high_at m.rest m.low_order m.high_order.1 m.few m.nodes a b less true above
-
-pub merging-high : (words path : List ℕ) (t : Tree) (k depth low high : ℕ) → IsMerging words path t k depth low high → 0 < low → 0 < high → depth < length path
-    → is_above (slice_index words (4 * (low - 1))) (slice_index words (4 * (high - 1))) ≡ false → IsMerging words (slice_set path depth high) t k (depth + 1) low (left_at words (high - 1))
-merging-high words path t k depth low high m a b less above =
-    merging-step words path t k depth low high m.first m.second m.high_order.0 m.low_at m.high_at m.rest m.low_order m.high_order.1 m.few m.nodes a b less false above
+pub merging-next : (words path : List ℕ) (t : Tree) (k depth low high : ℕ) → IsMerging words path t k depth low high → 0 < low → 0 < high → depth < length path → (above : Bool)
+    → is_above (slice_index words (4 * (low - 1))) (slice_index words (4 * (high - 1))) ≡ above
+    → cond above (IsMerging words (slice_set path depth low) t k (depth + 1) (link_at High words (low - 1)) high) (IsMerging words (slice_set path depth high) t k (depth + 1) low (link_at Low words (high - 1)))
+merging-next words path t k depth low high m a b less above q =
+    merging-step words path t k depth low high m.first m.second m.high_order.0 m.low_at m.high_at m.rest m.low_order m.high_order.1 m.few m.nodes a b less above q

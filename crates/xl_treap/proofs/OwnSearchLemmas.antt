@@ -1,5 +1,5 @@
 -- The search for the node whose pages hold a key.
-use Rattle.xl_treap.proofs.Common.{◌%◌, ◌*◌, ◌+◌, ◌-◌, ◌<◌, ◌^◌, ◌∙◌, ◌≡◌, ◌≤◌, ap, arith, Bin, examined, found, IsReached, IsTree, left_at, length, List, pick-no, pick-yes, range_key, ranges, refl, right_at, slice_index, Some, suc, sym, Tip, Tree, ℕ}
+use Rattle.xl_treap.proofs.Common.{◌%◌, ◌*◌, ◌+◌, ◌-◌, ◌<◌, ◌^◌, ◌∙◌, ◌≡◌, ◌≤◌, ap, arith, Bin, examined, found, High, IsReached, IsTree, length, link_at, List, Low, pick-no, pick-yes, range_key, ranges, refl, slice_index, Some, suc, sym, Tip, Tree, ℕ}
 use Rattle.xl_treap.proofs.UnderLemmas.{IsTop, Stands, stands-tree, tip-of, top-of}
 
 -- a link reached by `loads` nodes: the tree under it decides, with the other nodes to examine
@@ -61,20 +61,20 @@ module _ {words : List ℕ} {t : Tree} {k loads at : ℕ} (b : IsLeft words t k 
       let p = b.loads_is in
       record { small = fits; under = s; stands = stands; few = omega arith; found_is = b.found_is ∙ ap (λ z. found z k) top.is ∙ found_is; loads_is = omega arith }
 
-  pub left-below : k < slice_index words (4 * (at - 1)) → IsLeft words t k (loads + 1) (left_at words (at - 1))
+  pub left-below : k < slice_index words (4 * (at - 1)) → IsLeft words t k (loads + 1) (link_at Low words (at - 1))
   left-below lt =
       let e = top.node.key_is in let z = top.size_is in
       let below : k < range_key top.range = omega arith in
-      left-next (left_at words (at - 1)) top.low (omega arith) top.low_stands (omega arith) (pick-yes k (range_key top.range) _ _ below) (pick-yes k (range_key top.range) _ _ below)
+      left-next (link_at Low words (at - 1)) top.low (omega arith) (top.under Low) (omega arith) (pick-yes k (range_key top.range) _ _ below) (pick-yes k (range_key top.range) _ _ below)
 
   pub left-above : slice_index words (4 * (at - 1) + 3) < 2 ^ 64 → k < 2 ^ 58 → slice_index words (4 * (at - 1)) ≤ k
-      → slice_index words (4 * (at - 1) + 1) ≤ (k + (2 ^ 64 - slice_index words (4 * (at - 1)))) % 2 ^ 64 → IsLeft words t k (loads + 1) (right_at words (at - 1))
+      → slice_index words (4 * (at - 1) + 1) ≤ (k + (2 ^ 64 - slice_index words (4 * (at - 1)))) % 2 ^ 64 → IsLeft words t k (loads + 1) (link_at High words (at - 1))
   left-above fits key ge far =
       let w = wrap-far k (slice_index words (4 * (at - 1))) (slice_index words (4 * (at - 1) + 1)) small key ge far in
       let e = top.node.key_is in let p = top.node.pages_is in let z = top.size_is in
       let from : range_key top.range ≤ k = omega arith in
       let behind : top.range.pages ≤ k - range_key top.range = omega arith in
-      left-next (right_at words (at - 1)) top.high (omega arith) top.high_stands (omega arith)
+      left-next (link_at High words (at - 1)) top.high (omega arith) (top.under High) (omega arith)
       (pick-no k (range_key top.range) _ _ from ∙ pick-no (k - range_key top.range) top.range.pages _ _ behind)
       (pick-no k (range_key top.range) _ _ from ∙ pick-no (k - range_key top.range) top.range.pages _ _ behind)
 

@@ -1,12 +1,12 @@
 -- A range is put into a tree.
-use Rattle.xl_treap.proofs.Common.{◌*◌, ◌+◌, ◌-◌, ◌<◌, ◌^◌, ◌∙◌, ◌∷◌, ◌≡◌, ◌≤◌, [], ap, arith, Bin, CanPart, CanPut, cond, cut_high, cut_low, down, Each, end_key, false, get_or-set_other, get_or-set_same, graft, In, In-right, inl, InOrder, inr, is_above, IsApart, IsAt, IsAttached, IsFit, IsHeap, IsLined, IsLinked, IsMade, IsNode, IsParted, IsWay, length, length-set, List, nat_lt, Off, Over, parent_at, Parts, pick-no, pick-yes, Range, range_key, ranges, refl, SameLine, SameOff, slice_index, slice_set, subst, suc, sym, Tip, TopOver, Tree, true, with_range, zero, ℕ}
+use Rattle.xl_treap.proofs.Common.{◌*◌, ◌+◌, ◌-◌, ◌<◌, ◌^◌, ◌∙◌, ◌∷◌, ◌≡◌, ◌≤◌, [], ap, arith, Bin, CanPart, CanPut, child, cond, cut, down, Each, end_key, false, get_or-set_other, get_or-set_same, graft, High, In, In-right, inl, InOrder, inr, is_above, IsApart, IsAt, IsAttached, IsFit, IsHeap, IsLined, IsLinked, IsMade, IsNode, IsParted, IsWay, length, length-set, List, Low, nat_lt, Off, Over, parent_at, Parts, pick-no, pick-yes, Range, range_key, ranges, refl, SameLine, SameOff, Side, side_at, slice_index, slice_set, subst, suc, sym, Tip, TopOver, toward, Tree, true, with_child, with_range, zero, ℕ}
 use Rattle.xl_treap.proofs.AboveLemmas.{above-chain}
 use Rattle.xl_treap.proofs.AttachLemmas.{Attached, attached, IsParent, lined-line, off-child, off-empty, parent-there, same-or-not, top-each}
-use Rattle.xl_treap.proofs.CutLemmas.{each-cut}
-use Rattle.xl_treap.proofs.FrameLemmas.{at-keeps, each-map, frame, linked-line, linked-three, node-same, with_child}
-use Rattle.xl_treap.proofs.GraftLemmas.{cut-with, down-In, each-down, graft-next, graft-with, heap-cut, heap-graft, over-cut}
+use Rattle.xl_treap.proofs.CutLemmas.{every-cut, over-cut}
+use Rattle.xl_treap.proofs.FrameLemmas.{at-keeps, each-map, frame, linked-line, linked-three, node-same}
+use Rattle.xl_treap.proofs.GraftLemmas.{cut-with, down-In, graft-next, graft-with, heap-cut, heap-graft, heap-with}
 use Rattle.xl_treap.proofs.OrderLemmas.{apart-within, fit-end, order-apart, side, within-In}
-use Rattle.xl_treap.proofs.WayLemmas.{child, down-next, heap-down, order-down}
+use Rattle.xl_treap.proofs.WayLemmas.{down-next, every-down, heap-down, order-down}
 
 with-In : (x : Range) (xs : List Range) → In x (with_range x xs)
 with-In x [] = inl refl
@@ -78,11 +78,11 @@ module _ (w0 w1 : List ℕ) (root nodes : ℕ) (t : Tree) (n : ℕ) (x : Range) 
         under = down t (range_key x) parts.depth
 
         off-under : Off n under
-        off-under = each-down (λ m. m ≡ n → ⊥) t (range_key x) parts.depth off
+        off-under = every-down (λ m y. m ≡ n → ⊥) t (range_key x) parts.depth off
 
         module _ (w3 : List ℕ) (linked : IsLinked w2 w3 n parts.low parts.high) where
           abbrev made : Tree
-          made = Bin n x (cut_low (range_key x) under) (cut_high (range_key x) under)
+          made = Bin n x (cut Low (range_key x) under) (cut High (range_key x) under)
 
           node-three : IsNode w3 n x
           node-three =
@@ -94,12 +94,12 @@ module _ (w0 w1 : List ℕ) (root nodes : ℕ) (t : Tree) (n : ℕ) (x : Range) 
 
           made-at : IsAt w3 (n + 1) made
           made-at =
-              let L : ℕ → Type 0 = λ z. IsAt w3 z (cut_low (range_key x) under) in
-              let H : ℕ → Type 0 = λ z. IsAt w3 z (cut_high (range_key x) under) in (
+              let L : ℕ → Type 0 = λ z. IsAt w3 z (cut Low (range_key x) under) in
+              let H : ℕ → Type 0 = λ z. IsAt w3 z (cut High (range_key x) under) in (
                 omega arith,
                 node-three,
-                subst L (sym linked.left_is) (frame w2 w3 parts.low (cut_low (range_key x) under) linked.len (stays (cut_low (range_key x) under) (each-cut (λ m. m ≡ n → ⊥) (range_key x) under off-under).0) parted.cut.lows),
-                subst H (sym linked.right_is) (frame w2 w3 parts.high (cut_high (range_key x) under) linked.len (stays (cut_high (range_key x) under) (each-cut (λ m. m ≡ n → ⊥) (range_key x) under off-under).1) parted.cut.highs),
+                subst L (sym linked.low_is) (frame w2 w3 parts.low (cut Low (range_key x) under) linked.len (stays (cut Low (range_key x) under) (every-cut (λ m y. m ≡ n → ⊥) Low (range_key x) under off-under)) (parted.cut.parts Low)),
+                subst H (sym linked.high_is) (frame w2 w3 parts.high (cut High (range_key x) under) linked.len (stays (cut High (range_key x) under) (every-cut (λ m y. m ≡ n → ⊥) High (range_key x) under off-under)) (parted.cut.parts High)),
               )
 
           -- the words before the parting, but with the new node's links
@@ -145,16 +145,17 @@ module _ (w0 w1 : List ℕ) (root nodes : ℕ) (t : Tree) (n : ℕ) (x : Range) 
               let less : d < depth = let a = parted.short in omega arith in
               let a = way.nodes d less in
               let b = way.some d less in
-              let off-d : Off n (down t (range_key x) d) = each-down (λ m. m ≡ n → ⊥) t (range_key x) d off in
+              let off-d : Off n (down t (range_key x) d) = every-down (λ m y. m ≡ n → ⊥) t (range_key x) d off in
               let o = order-down t (range_key x) d 0 (2 ^ 58) order in
-              let c : Off (slice_index path d - 1) (child (range_key x) (down t (range_key x) d)) = off-child w1 (slice_index path d) (range_key x) o.0 o.1 (down t (range_key x) d) a b o.2 in
+              let side : Side = toward (range_key x) (down t (range_key x) d) in
+              let c : Off (slice_index path d - 1) (child side (down t (range_key x) d)) = off-child w1 (slice_index path d) o.0 o.1 side (down t (range_key x) d) a b o.2 in
               let P : ℕ → Type 0 = λ z. Off (slice_index path d - 1) (down t (range_key x) z) in
               let T : Tree → Type 0 = λ z. Off (slice_index path d - 1) z in
               let f : Off (slice_index path d - 1) under = subst P (sym e) (subst T (sym (down-next t (range_key x) d)) c) in
               let ne : slice_index path d - 1 ≡ n → ⊥ = top-each (λ m. m ≡ n → ⊥) w1 (slice_index path d) (down t (range_key x) d) a b off-d in (
                 base-at (slice_index path d) (down t (range_key x) d) off-d a,
                 b,
-                (λ q. ne (sym q), (each-cut (λ m. m ≡ slice_index path d - 1 → ⊥) (range_key x) under f).0, (each-cut (λ m. m ≡ slice_index path d - 1 → ⊥) (range_key x) under f).1),
+                (λ q. ne (sym q), (every-cut (λ m y. m ≡ slice_index path d - 1 → ⊥) Low (range_key x) under f), (every-cut (λ m y. m ≡ slice_index path d - 1 → ⊥) High (range_key x) under f)),
               )
 
           pub put-room : 4 * parent_at path parts.depth ≤ length w3
@@ -171,25 +172,22 @@ module _ (w0 w1 : List ℕ) (root nodes : ℕ) (t : Tree) (n : ℕ) (x : Range) 
           made-heap : IsHeap made
           made-heap =
               let h : IsHeap under = heap-down t (range_key x) parts.depth can.stands.heap in (
-                (over-cut (range_key x) (range_key x) under parted.place.over).0,
-                (over-cut (range_key x) (range_key x) under parted.place.over).1,
-                (heap-cut (range_key x) under h).0,
-                (heap-cut (range_key x) under h).1,
+                over-cut (range_key x) Low (range_key x) under parted.place.over,
+                over-cut (range_key x) High (range_key x) under parted.place.over,
+                heap-cut Low (range_key x) under h,
+                heap-cut High (range_key x) under h,
               )
 
           made-over : (y : ℕ) → is_above y (range_key x) ≡ true → Over y under → Over y made
-          made-over y a o = (a, (over-cut y (range_key x) under o).0, (over-cut y (range_key x) under o).1)
+          made-over y a o = (a, over-cut y Low (range_key x) under o, over-cut y High (range_key x) under o)
 
 -- under a node that is above a key, a tree with that key at its top
-heap-child : (k : ℕ) (q s : Tree) → IsHeap q → IsHeap s → TopOver k q → ((y : ℕ) → is_above y k ≡ true → Over y (child k q) → Over y s)
-    → IsHeap (with_child k q s) × ((y : ℕ) → Over y q → Over y (with_child k q s))
+heap-child : (k : ℕ) (q s : Tree) → IsHeap q → IsHeap s → TopOver k q → ((y : ℕ) → is_above y k ≡ true → Over y (child (toward k q) q) → Over y s)
+    → IsHeap (with_child (toward k q) q s) × ((y : ℕ) → Over y q → Over y (with_child (toward k q) q s))
 heap-child k Tip s h g p f = absurd p
-heap-child k (Bin n x l r) s (o, p, a, b) g above f =
-    elim (nat_lt (range_key x) k) as (λ c. ((y : ℕ) → is_above y k ≡ true → Over y (cond c r l) → Over y s)
-    → IsHeap (cond c (Bin n x l s) (Bin n x s r)) × ((y : ℕ) → Over y (Bin n x l r) → Over y (cond c (Bin n x l s) (Bin n x s r)))) [
-      | true ↦ λ f. ((o, f (range_key x) above p, a, g), λ y q. (q.0, q.1, f y (above-chain y (range_key x) k q.0 above) q.2))
-      | false ↦ λ f. ((f (range_key x) above o, p, g, b), λ y q. (q.0, f y (above-chain y (range_key x) k q.0 above) q.1, q.2))
-    ] f
+heap-child k (Bin n x l r) s h g above f =
+    heap-with (side_at (range_key x) k) n x l r s h g
+    (λ y e. f y (elim e [ inl q ↦ let P : ℕ → Type 0 = λ z. is_above z k ≡ true in subst P q above | inr a ↦ above-chain y (range_key x) k a above ]))
 
 heap-place : (t s : Tree) (k depth : ℕ) → IsHeap t → IsHeap s → ((d : ℕ) → depth ≡ suc d → TopOver k (down t k d))
     → ((y : ℕ) → is_above y k ≡ true → Over y (down t k depth) → Over y s) → IsHeap (graft t k depth s)
@@ -198,7 +196,7 @@ heap-place t s k (suc d) h g stop f =
     let F : Tree → Type 0 = λ z. (y : ℕ) → is_above y k ≡ true → Over y z → Over y s in
     let c = heap-child k (down t k d) s (heap-down t k d h) g (stop d refl) (subst F (down-next t k d) f) in
     let G : Tree → Type 0 = λ z. IsHeap z in
-    subst G (graft-next t s k d) (heap-graft t (with_child k (down t k d) s) k d h c.0 c.1).0
+    subst G (graft-next t s k d) (heap-graft t (with_child (toward k (down t k d)) (down t k d) s) k d h c.0 c.1).0
 
 -- what a range was put into
 pub put-made : (w0 w1 w2 w3 w4 path : List ℕ) (root nodes n depth at result : ℕ) (t : Tree) (x : Range) (parts : Parts) → (can : CanPut w0 root nodes t n x)
@@ -208,7 +206,7 @@ pub put-made : (w0 w1 w2 w3 w4 path : List ℕ) (root nodes n depth at result : 
 put-made w0 w1 w2 w3 w4 path root nodes n depth at result t x parts can lined way parted linked a =
     let k : ℕ = range_key x in
     let und : Tree = down t k parts.depth in
-    let mad : Tree = Bin n x (cut_low k und) (cut_high k und) in
+    let mad : Tree = Bin n x (cut Low k und) (cut High k und) in
     let bas : List ℕ = slice_set w1 (4 * n + 3) (slice_index w3 (4 * n + 3)) in
     let ord : InOrder 0 (2 ^ 58) t = order-apart t can.stands.apart in
     let done : Attached bas w4 t k parts.depth mad result =

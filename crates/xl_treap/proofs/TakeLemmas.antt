@@ -1,12 +1,13 @@
 -- A range is taken out of a tree, or gets other pages.
-use Rattle.xl_treap.proofs.Common.{◌%◌, ◌*◌, ◌++◌, ◌+◌, ◌-◌, ◌/◌, ◌<◌, ◌==◌, ◌^◌, ◌∙◌, ◌∷◌, ◌≡◌, ◌≤◌, ◌⊎◌, [], any-In, ap, arith, Bin, Bool, CanMerge, CanTake, cond, down, Each, end_key, false, graft, has_key, In, In-append, In-left, In-right, inl, InOrder, inr, IsApart, IsAt, IsAttached, IsHeap, IsResized, IsRisen, IsSized, IsTaken, IsWay, Keeps, left_at, length, List, list_any, merge, nat_lt, nat_tests, node_word, Off, Over, parent_at, Range, range_key, ranges, refl, resized, right_at, SameLine, SameOff, slice_index, subst, suc, sym, Tip, Tree, tree_at, true, without_range, zero, ℕ}
+use Rattle.xl_treap.proofs.Common.{◌%◌, ◌*◌, ◌++◌, ◌+◌, ◌-◌, ◌/◌, ◌<◌, ◌==◌, ◌^◌, ◌∙◌, ◌∷◌, ◌≡◌, ◌≤◌, ◌⊎◌, [], any-In, ap, arith, Bin, CanMerge, CanTake, child, cond, down, Each, end_key, false, graft, has_key, High, In, In-append, In-left, In-right, inl, InOrder, inr, IsApart, IsAt, IsAttached, IsHeap, IsResized, IsRisen, IsSized, IsTaken, IsWay, Keeps, length, link_at, List, list_any, Low, merge, nat_tests, node_word, Off, on_side, Over, parent_at, Range, range_key, ranges, refl, resized, SameLine, SameOff, Side, side_at, slice_index, subst, suc, sym, Tip, toward, Tree, tree_at, true, without_range, zero, ℕ}
 use Rattle.xl_treap.proofs.AttachLemmas.{Attached, attached, IsParent, off-child, off-empty, parent-there}
 use Rattle.xl_treap.proofs.FoundLemmas.{tree-is}
-use Rattle.xl_treap.proofs.FrameLemmas.{at-keeps, each-map, frame, linked-three, off-key}
+use Rattle.xl_treap.proofs.FrameLemmas.{at-keeps, each-map, frame, linked-three, off-side}
 use Rattle.xl_treap.proofs.GraftLemmas.{alike, graft-resized, graft-without, Has, heap-graft, lift, resized-before, without-before}
-use Rattle.xl_treap.proofs.MergeLemmas.{merge-each, merge-heap, merge-over, merge-ranges}
-use Rattle.xl_treap.proofs.OrderLemmas.{apart-within, fit-end, order-apart, order-In, order-wider, sizes, within-In}
-use Rattle.xl_treap.proofs.WayLemmas.{at-there, child, down-next, heap-down, order-down}
+use Rattle.xl_treap.proofs.MergeLemmas.{merge-every, merge-heap, merge-over, merge-ranges}
+use Rattle.xl_treap.proofs.OrderLemmas.{apart-within, fit-end, order-apart, order-In, order-wider, side, sizes, within-In}
+use Rattle.xl_treap.proofs.SideLemmas.{at-side, on-either, order-side, side-high, side-low}
+use Rattle.xl_treap.proofs.WayLemmas.{at-there, down-next, heap-down, order-down}
 
 -- lists without a range
 pub without-apart : (low k : ℕ) (xs : List Range) → IsApart low xs → IsApart low (without_range k xs)
@@ -69,7 +70,8 @@ off-miss words n k (Bin m x l r) e (i, a, b) f = (
 )
 
 -- a range that is held is under the end of its key's way
-has-child : (words : List ℕ) (at k low high : ℕ) (t : Tree) → IsAt words at t → InOrder low high t → (slice_index words (4 * (at - 1)) ≡ k → ⊥) → Has k (ranges t) → Has k (ranges (child k t))
+has-child : (words : List ℕ) (at k low high : ℕ) (t : Tree) → IsAt words at t → InOrder low high t → (slice_index words (4 * (at - 1)) ≡ k → ⊥) → Has k (ranges t)
+    → Has k (ranges (child (toward k t) t))
 has-child words at k low high Tip i o ne h = h
 has-child words at k low high (Bin n x l r) i o ne (y, j, e) =
     let m : n ≡ at - 1 = let z = i.0 in omega arith in
@@ -77,22 +79,23 @@ has-child words at k low high (Bin n x l r) i o ne (y, j, e) =
     let M : n ≡ at - 1 → slice_index words (4 * n) ≡ k → ⊥ = (λ q. subst N (sym q) ne) in
     let other : range_key x ≡ k → ⊥ = (λ q. M m (i.1.key_is ∙ q)) in
     let some = o.0.some in
-    elim (nat_lt (range_key x) k) as (λ c. nat_lt (range_key x) k ≡ c → Has k (ranges (cond c r l))) [
-      | true ↦ λ t. elim (In-append y (ranges l) (x ∷ ranges r) j) [
-        | inl a ↦ let w = order-In low (range_key x) y l o.1 a in let p = w.to_high in let s = w.fit.some in let lt : range_key x < k = grind (arith, nat_tests) in absurd (omega arith)
+    let R : Side → Type 0 = λ c. Has k (ranges (on_side c l r)) in
+    elim (side (range_key x) k) [
+      | inl lt ↦ subst R (sym (side-high (range_key x) k lt)) (elim (In-append y (ranges l) (x ∷ ranges r) j) [
+        | inl a ↦ let w = order-In low (range_key x) y l o.1 a in let p = w.to_high in let s = w.fit.some in absurd (omega arith)
         | inr b ↦ elim b [
           | inl q ↦ absurd (other (sym (ap (λ (w : Range). range_key w) q) ∙ e))
           | inr b ↦ (y, b, e)
         ]
-      ]
-      | false ↦ λ t. elim (In-append y (ranges l) (x ∷ ranges r) j) [
+      ])
+      | inr ge ↦ subst R (sym (side-low (range_key x) k ge)) (elim (In-append y (ranges l) (x ∷ ranges r) j) [
         | inl a ↦ (y, a, e)
         | inr b ↦ elim b [
           | inl q ↦ absurd (other (sym (ap (λ (w : Range). range_key w) q) ∙ e))
-          | inr b ↦ let w = order-In (end_key x) high y r o.2 b in let p = w.from_low in let ge : k ≤ range_key x = grind (arith, nat_tests) in absurd (omega arith)
+          | inr b ↦ let w = order-In (end_key x) high y r o.2 b in let p = w.from_low in absurd (omega arith)
         ]
-      ]
-    ] refl
+      ])
+    ]
 
 has-down : (words path : List ℕ) (t : Tree) (k depth at low high : ℕ) → IsWay words path t k depth at → InOrder low high t → Has k (ranges t) → (d : ℕ) → d ≤ depth → Has k (ranges (down t k d))
 has-down words path t k depth at low high way o h zero le = h
@@ -182,7 +185,7 @@ module _ (w0 path : List ℕ) (root nodes : ℕ) (t : Tree) (k depth at : ℕ) (
       let P : ℕ → Type 0 = λ z. Off (slice_index path d - 1) (down t k z) in
       let T : Tree → Type 0 = λ z. Off (slice_index path d - 1) z in
       subst T take-key.is (subst P (sym e) (subst T (sym (down-next t k d))
-      (off-child w0 (slice_index path d) k o.0 o.1 (down t k d) (way.nodes d less) (way.some d less) o.2)))
+      (off-child w0 (slice_index path d) o.0 o.1 (toward k (down t k d)) (down t k d) (way.nodes d less) (way.some d less) o.2)))
 
   top-few : length (ranges (Bin node range low high)) ≤ nodes
   top-few =
@@ -192,42 +195,38 @@ module _ (w0 path : List ℕ) (root nodes : ℕ) (t : Tree) (k depth at : ℕ) (
       shorter : (t : Tree) (d : ℕ) → length (ranges (down t k d)) ≤ length (ranges t)
       shorter t zero = omega arith
       shorter Tip (suc d) = omega arith
-      shorter (Bin n x l r) (suc d) = by (nat_lt (range_key x) k) (shorter l d) (shorter r d)
-        where
-          by : (c : Bool) → length (ranges (down l k d)) ≤ length (ranges l) → length (ranges (down r k d)) ≤ length (ranges r) → length (ranges (cond c (down r k d) (down l k d))) ≤ length (ranges (Bin n x l r))
-          by true u v = omega (arith, sizes n x l r)
-          by false u v = omega (arith, sizes n x l r)
+      shorter (Bin n x l r) (suc d) =
+          let c : Side = side_at (range_key x) k in
+          let a = shorter (on_side c l r) d in
+          let b = on-either (λ z. length (ranges z) ≤ length (ranges (Bin n x l r))) c l r (omega (arith, sizes n x l r)) (omega (arith, sizes n x l r)) in
+          omega arith
 
       fewer : (d : ℕ) → length (ranges (down t k d)) ≤ nodes
       fewer d = let a = shorter t d in let b = can.few in omega arith
 
-  low-is : tree_at nodes w0 (left_at w0 (at - 1)) ≡ low
-  low-is =
+  under-is : (s : Side) → tree_at nodes w0 (link_at s w0 (at - 1)) ≡ on_side s low high
+  under-is s =
       let m : node ≡ at - 1 = let z = take-key.link in omega arith in
-      let N : ℕ → Type 0 = λ z. tree_at nodes w0 (left_at w0 z) ≡ low in
+      let N : ℕ → Type 0 = λ z. tree_at nodes w0 (link_at s w0 z) ≡ on_side s low high in
       let o = top-order in
-      subst N m (tree-is o.0 (range_key range) nodes w0 (left_at w0 node) low top-at.2 o.2.1 (let f = top-few in omega (arith, sizes node range low high)))
-
-  high-is : tree_at nodes w0 (right_at w0 (at - 1)) ≡ high
-  high-is =
-      let m : node ≡ at - 1 = let z = take-key.link in omega arith in
-      let N : ℕ → Type 0 = λ z. tree_at nodes w0 (right_at w0 z) ≡ high in
-      let o = top-order in
-      subst N m (tree-is (end_key range) o.1 nodes w0 (right_at w0 node) high top-at.3 o.2.2 (let f = top-few in omega (arith, sizes node range low high)))
+      let b = order-side s o.0 o.1 node range low high o.2 in
+      let f = top-few in
+      let few = on-either (λ z. length (ranges z) ≤ nodes) s low high (omega (arith, sizes node range low high)) (omega (arith, sizes node range low high)) in
+      subst N m (tree-is b.0 b.1 nodes w0 (link_at s w0 node) (on_side s low high) (at-side s w0 at node range low high top-at) b.2 few)
 
   -- the two trees under the node can be made one
-  pub take-pair : CanMerge w0 (left_at w0 (at - 1)) (right_at w0 (at - 1)) nodes (record { low = tree_at nodes w0 (left_at w0 (at - 1)); high = tree_at nodes w0 (right_at w0 (at - 1)); key = k })
+  pub take-pair : CanMerge w0 (link_at Low w0 (at - 1)) (link_at High w0 (at - 1)) nodes (record { low = tree_at nodes w0 (link_at Low w0 (at - 1)); high = tree_at nodes w0 (link_at High w0 (at - 1)); key = k })
   take-pair =
       let m : node ≡ at - 1 = let z = take-key.link in omega arith in
       let o = top-order in
       let some = o.2.0.some in
       let e = take-key.key in
-      let L : ℕ → Type 0 = λ z. IsAt w0 (left_at w0 z) low in
-      let R : ℕ → Type 0 = λ z. IsAt w0 (right_at w0 z) high in
-      let C : Tree → Tree → Type 0 = λ a b. CanMerge w0 (left_at w0 (at - 1)) (right_at w0 (at - 1)) nodes (record { low = a; high = b; key = k }) in
+      let L : ℕ → Type 0 = λ z. IsAt w0 (link_at Low w0 z) low in
+      let R : ℕ → Type 0 = λ z. IsAt w0 (link_at High w0 z) high in
+      let C : Tree → Tree → Type 0 = λ a b. CanMerge w0 (link_at Low w0 (at - 1)) (link_at High w0 (at - 1)) nodes (record { low = a; high = b; key = k }) in
       let A : Tree → Type 0 = λ a. C a high in
-      let B : Tree → Type 0 = λ b. C (tree_at nodes w0 (left_at w0 (at - 1))) b in
-      subst B (sym high-is) (subst A (sym low-is) (record {
+      let B : Tree → Type 0 = λ b. C (tree_at nodes w0 (link_at Low w0 (at - 1))) b in
+      subst B (sym (under-is High)) (subst A (sym (under-is Low)) (record {
         low_at = subst L m top-at.2;
         high_at = subst R m top-at.3;
         low_order = order-wider o.0 (range_key range) 0 k low o.2.1 (omega arith) (omega arith);
@@ -235,26 +234,26 @@ module _ (w0 path : List ℕ) (root nodes : ℕ) (t : Tree) (k depth at : ℕ) (
         few = (let f = top-few in omega (arith, sizes node range low high));
       }))
 
-  module _ (w1 : List ℕ) (top : ℕ) (risen : IsRisen w0 w1 (merge (tree_at nodes w0 (left_at w0 (at - 1))) (tree_at nodes w0 (right_at w0 (at - 1)))) top) where
+  module _ (w1 : List ℕ) (top : ℕ) (risen : IsRisen w0 w1 (merge (tree_at nodes w0 (link_at Low w0 (at - 1))) (tree_at nodes w0 (link_at High w0 (at - 1)))) top) where
     both : IsRisen w0 w1 (merge low high) top
     both =
-        let A : Tree → Type 0 = λ a. IsRisen w0 w1 (merge a (tree_at nodes w0 (right_at w0 (at - 1)))) top in
+        let A : Tree → Type 0 = λ a. IsRisen w0 w1 (merge a (tree_at nodes w0 (link_at High w0 (at - 1)))) top in
         let B : Tree → Type 0 = λ b. IsRisen w0 w1 (merge low b) top in
-        subst B high-is (subst A low-is risen)
+        subst B (under-is High) (subst A (under-is Low) risen)
 
     under-off : SameOff (down t k depth) w0 w1
     under-off =
         let T : Tree → Type 0 = λ z. SameOff z w0 w1 in
         subst T (sym take-key.is) (record {
           len = both.but.off.len;
-          same = λ m o. both.but.off.same m (merge-each (λ z. z ≡ m → ⊥) low high o.1 o.2);
+          same = λ m o. both.but.off.same m (merge-every (λ z y. z ≡ m → ⊥) low high o.1 o.2);
         })
 
     take-parent : IsParent w0 path t k depth (merge low high)
     take-parent = λ d e.
         let less : d < depth = omega arith in
         let o = parent-off d e in
-        (way.nodes d less, way.some d less, merge-each (λ z. z ≡ slice_index path d - 1 → ⊥) low high o.1 o.2)
+        (way.nodes d less, way.some d less, merge-every (λ z y. z ≡ slice_index path d - 1 → ⊥) low high o.1 o.2)
 
     pub take-room : 4 * parent_at path depth ≤ length w1
     take-room = parent-there w0 w1 path t (merge low high) k depth take-parent both.but.off.len
@@ -353,8 +352,7 @@ module _ (w0 path : List ℕ) (root nodes : ℕ) (t : Tree) (k depth at : ℕ) (
         let some = o.2.0.some in
         let there = top-at.1.there in
         let len = sized-node.len in
-        let off-low : Off node low = off-key w0 node (range_key range) o.0 (range_key range) low top-at.1.key_is keep.1 o.2.1 (inr (omega arith)) in
-        let off-high : Off node high = off-key w0 node (range_key range) (end_key range) o.1 high top-at.1.key_is keep.2 o.2.2 (inl (omega arith)) in
+        let off = off-side w0 node o.0 o.1 range low high keep o.2 in
         let link : slice_index w1 (4 * node + 3) ≡ slice_index w0 (4 * node + 3) = sized-node.others (4 * node + 3) (λ q. omega arith) in
         let L : ℕ → Type 0 = λ z. IsAt w1 (z % 2 ^ 32) low in
         let R : ℕ → Type 0 = λ z. IsAt w1 (z / 2 ^ 32) high in (
@@ -365,8 +363,8 @@ module _ (w0 path : List ℕ) (root nodes : ℕ) (t : Tree) (k depth at : ℕ) (
             pages_is = sized-node.is;
             word_is = sized-node.others (4 * node + 2) (λ q. omega arith) ∙ top-at.1.word_is ∙ sym same-word;
           },
-          subst L (sym link) (frame w0 w1 (left_at w0 node) low len (stays low off-low) top-at.2),
-          subst R (sym link) (frame w0 w1 (right_at w0 node) high len (stays high off-high) top-at.3),
+          subst L (sym link) (frame w0 w1 (link_at Low w0 node) low len (stays low (off Low)) top-at.2),
+          subst R (sym link) (frame w0 w1 (link_at High w0 node) high len (stays high (off High)) top-at.3),
         )
 
     changed-off : SameOff (down t k depth) w0 w1

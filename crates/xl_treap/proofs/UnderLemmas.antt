@@ -1,6 +1,7 @@
 -- What is under a link.
-use Rattle.xl_treap.proofs.Common.{◌+◌, ◌-◌, ◌<◌, ◌^◌, ◌∙◌, ◌≡◌, ap, arith, Bin, end_key, In, InOrder, IsAt, IsFit, IsNode, IsTree, left_at, length, List, Range, range_key, range_of_link, ranges, refl, right_at, Some, subst, suc, Tip, Tree, ℕ}
+use Rattle.xl_treap.proofs.Common.{◌+◌, ◌-◌, ◌<◌, ◌^◌, ◌∙◌, ◌≡◌, ap, arith, Bin, High, In, InOrder, IsAt, IsFit, IsNode, IsTree, length, link_at, List, Low, on_side, Range, range_key, range_of_link, ranges, refl, Side, Some, subst, suc, Tip, Tree, ℕ}
 use Rattle.xl_treap.proofs.OrderLemmas.{order-apart, order-In, sizes}
+use Rattle.xl_treap.proofs.SideLemmas.{at-side, order-side}
 use Rattle.xl_treap.proofs.WordLemmas.{node-said}
 
 -- a tree is in the words from a link on, in order
@@ -26,8 +27,7 @@ pub record IsTop (words : List ℕ) (at : ℕ) (s : Tree) : Type 0 where
   pub said : range_of_link words at ≡ Some range
   pub size_is : length (ranges s) ≡ length (ranges low) + suc (length (ranges high))
   pub lower : (z : Range) → In z (ranges low) → range_key z < range_key range
-  pub low_stands : Stands words (left_at words (at - 1)) low
-  pub high_stands : Stands words (right_at words (at - 1)) high
+  pub under : (s : Side) → Stands words (link_at s words (at - 1)) (on_side s low high)
 
 pub top-of : (words : List ℕ) (at : ℕ) (s : Tree) → Stands words at s → 0 < at → IsTop words at s
 top-of words at Tip h some = absurd (let e : at ≡ 0 = h.here in omega arith)
@@ -37,7 +37,7 @@ top-of words at (Bin n x l r) h some =
     let high = h.order.1 in
     let o = h.order.2 in
     let m : n ≡ at - 1 = let e = i.0 in omega arith in
-    let P : ℕ → Type 0 = λ z. (Bin n x l r ≡ Bin z x l r) × IsNode words z x × IsAt words (left_at words z) l × IsAt words (right_at words z) r in
+    let P : ℕ → Type 0 = λ z. (Bin n x l r ≡ Bin z x l r) × IsNode words z x × IsAt words (link_at Low words z) l × IsAt words (link_at High words z) r in
     let p : P (at - 1) = subst P m (refl, i.1, i.2, i.3) in
     let e : at ≡ suc (at - 1) = omega arith in
     record {
@@ -50,6 +50,5 @@ top-of words at (Bin n x l r) h some =
       said = ap (range_of_link words) e ∙ node-said words (at - 1) x p.1 o.0;
       size_is = sizes n x l r;
       lower = λ z j. (let a = order-In low (range_key x) z l o.1 j in let b = a.to_high in let c = a.fit.some in omega arith);
-      low_stands = record { here = p.2; order = (low, range_key x, o.1) };
-      high_stands = record { here = p.3; order = (end_key x, high, o.2) };
+      under = λ s. record { here = at-side s words (suc (at - 1)) (at - 1) x l r (refl, p.1, p.2, p.3); order = order-side s low high (at - 1) x l r o };
     }

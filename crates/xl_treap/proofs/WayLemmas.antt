@@ -1,44 +1,30 @@
 -- Ways down a tree in words.
-use Rattle.xl_treap.proofs.Common.{◌*◌, ◌+◌, ◌-◌, ◌<◌, ◌∙◌, ◌≡◌, ◌≤◌, ap, arith, Bin, Bool, cond, down, end_key, false, get_or-set_other, get_or-set_same, inl, InOrder, inr, IsAt, IsHeap, left_at, length, length-set, List, nat_lt, pick-no, pick-yes, range_key, ranges, refl, right_at, slice_index, slice_set, step_at, subst, suc, sym, Tip, Tree, true, zero, ℕ}
+use Rattle.xl_treap.proofs.Common.{◌*◌, ◌+◌, ◌-◌, ◌<◌, ◌∙◌, ◌≡◌, ◌≤◌, arith, Bin, child, down, Every, get_or-set_other, get_or-set_same, inl, InOrder, inr, IsAt, IsHeap, length, length-set, link_at, List, on_side, Range, range_key, ranges, refl, Side, side_at, slice_index, slice_set, step_at, subst, suc, sym, Tip, toward, Tree, zero, ℕ}
 use Rattle.xl_treap.proofs.OrderLemmas.{side, sizes}
+use Rattle.xl_treap.proofs.SideLemmas.{at-side, on-either, order-side}
 
 pub at-there : (words : List ℕ) (at : ℕ) (t : Tree) → IsAt words at t → 0 < at → 4 * (at - 1) + 4 ≤ length words
 at-there words at Tip i h = absurd (omega arith)
 at-there words at (Bin n x l r) (e, i, a, b) h = let c = i.there in omega arith
 
--- the tree under a tree's top, on the side of a key
-abbrev pub child : ℕ → Tree → Tree
-child k Tip = Tip
-child k (Bin n x l r) = cond (nat_lt (range_key x) k) r l
-
-pub down-next : (t : Tree) (k d : ℕ) → down t k (suc d) ≡ child k (down t k d)
+pub down-next : (t : Tree) (k d : ℕ) → down t k (suc d) ≡ child (toward k (down t k d)) (down t k d)
 down-next Tip k zero = refl
 down-next Tip k (suc d) = refl
 down-next (Bin n x l r) k zero = refl
-down-next (Bin n x l r) k (suc d) = elim (side (range_key x) k) [
-  | inl lt ↦ pick-yes (range_key x) k _ _ lt ∙ down-next r k d ∙ ap (child k) (sym (pick-yes (range_key x) k (down r k d) (down l k d) lt))
-  | inr ge ↦ pick-no (range_key x) k _ _ ge ∙ down-next l k d ∙ ap (child k) (sym (pick-no (range_key x) k (down r k d) (down l k d) ge))
-]
+down-next (Bin n x l r) k (suc d) = down-next (on_side (side_at (range_key x) k) l r) k d
 
-pub step-child : (words : List ℕ) (at : ℕ) (t : Tree) (k : ℕ) → IsAt words at t → 0 < at → IsAt words (step_at words (at - 1) k) (child k t)
+pub step-child : (words : List ℕ) (at : ℕ) (t : Tree) (k : ℕ) → IsAt words at t → 0 < at → IsAt words (step_at words (at - 1) k) (child (toward k t) t)
 step-child words at Tip k i h = absurd (omega arith)
-step-child words at (Bin n x l r) k (e, i, a, b) h =
-    let m : n ≡ at - 1 = omega arith in
-    let P : ℕ → Type 0 = λ z. IsAt words (step_at words z k) (child k (Bin n x l r)) in
-    let Q : ℕ → Type 0 = λ z. IsAt words (cond (nat_lt z k) (right_at words n) (left_at words n)) (child k (Bin n x l r)) in
-    subst P m (subst Q (sym i.key_is) (by (nat_lt (range_key x) k)))
-  where
-    by : (c : Bool) → IsAt words (cond c (right_at words n) (left_at words n)) (cond c r l)
-    by true = b
-    by false = a
+step-child words at (Bin n x l r) k i h =
+    let m : n ≡ at - 1 = let e = i.0 in omega arith in
+    let P : ℕ → Type 0 = λ z. IsAt words (step_at words z k) (on_side (side_at (range_key x) k) l r) in
+    let Q : ℕ → Type 0 = λ z. IsAt words (link_at (side_at z k) words n) (on_side (side_at (range_key x) k) l r) in
+    subst P m (subst Q (sym i.1.key_is) (at-side (side_at (range_key x) k) words at n x l r i))
 
-pub child-less : (words : List ℕ) (at : ℕ) (t : Tree) (k : ℕ) → IsAt words at t → 0 < at → length (ranges (child k t)) < length (ranges t)
-child-less words at Tip k i h = absurd (omega arith)
-child-less words at (Bin n x l r) k i h = by (nat_lt (range_key x) k)
-  where
-    by : (c : Bool) → length (ranges (cond c r l)) < length (ranges (Bin n x l r))
-    by true = omega (arith, sizes n x l r)
-    by false = omega (arith, sizes n x l r)
+pub child-less : (words : List ℕ) (at : ℕ) (t : Tree) (s : Side) → IsAt words at t → 0 < at → length (ranges (child s t)) < length (ranges t)
+child-less words at Tip s i h = absurd (omega arith)
+child-less words at (Bin n x l r) s i h =
+    on-either (λ z. length (ranges z) < length (ranges (Bin n x l r))) s l r (omega (arith, sizes n x l r)) (omega (arith, sizes n x l r))
 
 -- a tree without ranges has no node
 pub none-left : (words : List ℕ) (at : ℕ) (t : Tree) → IsAt words at t → length (ranges t) ≡ 0 → at ≡ 0
@@ -56,13 +42,13 @@ pub record IsUpTo (words path : List ℕ) (t : Tree) (k depth at : ℕ) : Type 0
 pub up-to-more : (words path : List ℕ) (t : Tree) (k depth at : ℕ) → IsUpTo words path t k depth at → 0 < at → (slice_index words (4 * (at - 1)) ≡ k → ⊥) → depth < length path
     → IsUpTo words (slice_set path depth at) t k (depth + 1) (step_at words (at - 1) k)
 up-to-more words path t k depth at u some unlike less =
-    let e : down t k (suc depth) ≡ child k (down t k depth) = down-next t k depth in
+    let e : down t k (suc depth) ≡ child (toward k (down t k depth)) (down t k depth) = down-next t k depth in
     let m : suc depth ≡ depth + 1 = omega arith in
     let D : ℕ → Type 0 = λ d. IsAt words (step_at words (at - 1) k) (down t k d) in
     let T : Tree → Type 0 = λ s. IsAt words (step_at words (at - 1) k) s in
     let L : ℕ → Type 0 = λ d. length (ranges (down t k d)) < length (ranges (down t k depth)) in
     let S : Tree → Type 0 = λ s. length (ranges s) < length (ranges (down t k depth)) in
-    let less-left : length (ranges (down t k (depth + 1))) < length (ranges (down t k depth)) = subst L m (subst S (sym e) (child-less words at (down t k depth) k u.here some)) in
+    let less-left : length (ranges (down t k (depth + 1))) < length (ranges (down t k depth)) = subst L m (subst S (sym e) (child-less words at (down t k depth) (toward k (down t k depth)) u.here some)) in
     let f = u.few in
     record {
       here = subst D m (subst T (sym e) (step-child words at (down t k depth) k u.here some));
@@ -100,18 +86,19 @@ up-to-more words path t k depth at u some unlike less =
 pub order-down : (t : Tree) (k d low high : ℕ) → InOrder low high t → (a : ℕ) × (b : ℕ) × InOrder a b (down t k d)
 order-down t k zero low high o = (low, high, o)
 order-down Tip k (suc d) low high o = (low, high, o)
-order-down (Bin n x l r) k (suc d) low high (f, p, q) = by (nat_lt (range_key x) k) (order-down r k d (end_key x) high q) (order-down l k d low (range_key x) p)
-  where
-    by : (c : Bool) → (a : ℕ) × (b : ℕ) × InOrder a b (down r k d) → (a : ℕ) × (b : ℕ) × InOrder a b (down l k d)
-        → (a : ℕ) × (b : ℕ) × InOrder a b (cond c (down r k d) (down l k d))
-    by true u v = u
-    by false u v = v
+order-down (Bin n x l r) k (suc d) low high o =
+    let b = order-side (side_at (range_key x) k) low high n x l r o in
+    order-down (on_side (side_at (range_key x) k) l r) k d b.0 b.1 b.2
 
 pub heap-down : (t : Tree) (k d : ℕ) → IsHeap t → IsHeap (down t k d)
 heap-down t k zero h = h
 heap-down Tip k (suc d) h = h
-heap-down (Bin n x l r) k (suc d) (o, p, a, b) = by (nat_lt (range_key x) k) (heap-down r k d b) (heap-down l k d a)
-  where
-    by : (c : Bool) → IsHeap (down r k d) → IsHeap (down l k d) → IsHeap (cond c (down r k d) (down l k d))
-    by true u v = u
-    by false u v = v
+heap-down (Bin n x l r) k (suc d) h =
+    heap-down (on_side (side_at (range_key x) k) l r) k d (on-either IsHeap (side_at (range_key x) k) l r h.2 h.3)
+
+-- and each of its nodes is one of the tree's
+pub every-down : (P : ℕ → Range → Type 0) (t : Tree) (k d : ℕ) → Every P t → Every P (down t k d)
+every-down P t k zero e = e
+every-down P Tip k (suc d) e = e
+every-down P (Bin n x l r) k (suc d) e =
+    every-down P (on_side (side_at (range_key x) k) l r) k d (on-either (Every P) (side_at (range_key x) k) l r e.1 e.2)

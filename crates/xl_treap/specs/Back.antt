@@ -6,7 +6,8 @@ use Rattle.xl_treap.specs.declared.along.Search.TheVariants as search_end
 use Rattle.xl_treap.specs.declared.along.Visit.{Visit}
 use Rattle.xl_treap.specs.declared.along.Visit.TheVariants as visit
 use Rattle.xl_treap.specs.Treaps.{key_at}
-use Rattle.xl_treap.specs.Lines.{range_of_node, left_at, right_at}
+use Rattle.xl_treap.specs.declared.node.Side.TheVariants.{Low, High}
+use Rattle.xl_treap.specs.Lines.{range_of_node, link_at}
 
 -- a bus after n loads
 abbrev pub loaded_times : {A : Type 0} → (A → A) → ℕ → A → A
@@ -38,10 +39,10 @@ visit_of words n key =
     if nat_lt (length words) (4 * n + 4)
     then visit.Gone
     else (if nat_lt key (slice_index words (4 * n))
-    then visit.Goes (left_at words n)
+    then visit.Goes (link_at Low words n)
     else (if nat_lt (key - slice_index words (4 * n)) (slice_index words (4 * n + 1))
     then visit.Here (range_of_node words n)
-    else visit.Goes (right_at words n)))
+    else visit.Goes (link_at High words n)))
 
 -- the search from a node on, by what the node says
 abbrev pub visited : Visit → (ℕ → Searched) → Searched

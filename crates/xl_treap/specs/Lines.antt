@@ -1,6 +1,6 @@
 -- The words of a node, a line of four: its range's key, its pages, the word of its frame, permission and order, and
 -- the links to the nodes below it. A link is a node's number plus one, or 0.
-use Rattle.std.specs.Prelude.{ℕ, zero, suc, ◌≡◌, ◌+◌, ◌*◌, ◌/◌, ◌%◌, ◌^◌, ◌≤◌, List, length, slice_index, Option, None, Some}
+use Rattle.std.specs.Prelude.{ℕ, zero, suc, ◌≡◌, ◌+◌, ◌*◌, ◌/◌, ◌%◌, ◌^◌, ◌≤◌, nat_lt, if◌then◌else◌, List, length, slice_index, Option, None, Some}
 use Rattle.xl_model.specs.declared.address.Order.{Order}
 use Rattle.xl_model.specs.declared.address.Order.TheVariants as order
 use Rattle.xl_model.specs.declared.leaf.Range.{Range}
@@ -10,6 +10,8 @@ use Rattle.xl_model.specs.Ranges.{range_key}
 use Rattle.xl_pte.specs.declared.word.Pte.{Pte}
 use Rattle.xl_pte.specs.declared.word.Pte.TheVariants.{Invalid, Pointer, Leaf, Reserved, Misaligned}
 use Rattle.xl_pte.specs.Decode.{decode_of}
+use Rattle.xl_treap.specs.declared.node.Side.{Side}
+use Rattle.xl_treap.specs.declared.node.Side.TheVariants.{Low, High}
 
 -- the word of a range's frame, permission and order: a leaf's word, and the order's number from bit
 -- 62 on
@@ -46,13 +48,28 @@ abbrev pub range_of_node : List ℕ → ℕ → Option Range
 range_of_node words n =
     range_said (slice_index words (4 * n)) (slice_index words (4 * n + 1)) (slice_index words (4 * n + 2))
 
--- a node's link to the keys below its own
-abbrev pub left_at : List ℕ → ℕ → ℕ
-left_at words n = slice_index words (4 * n + 3) % 2 ^ 32
+-- the other side of a node
+abbrev pub beyond : Side → Side
+beyond Low = High
+beyond High = Low
 
--- a node's link to the keys above its own
-abbrev pub right_at : List ℕ → ℕ → ℕ
-right_at words n = slice_index words (4 * n + 3) / 2 ^ 32
+-- the one on a side of a node, of the two on its low and on its high side
+abbrev pub on_side : {A : Type 0} → Side → A → A → A
+on_side Low low high = low
+on_side High low high = high
+
+-- the side of a node with the first key on which the place of the second is: that of the keys below
+-- its own, or that of the keys above it
+abbrev pub side_at : ℕ → ℕ → Side
+side_at own k = if nat_lt own k then High else Low
+
+-- a node's link on a side
+abbrev pub link_at : Side → List ℕ → ℕ → ℕ
+link_at s words n = on_side s (slice_index words (4 * n + 3) % 2 ^ 32) (slice_index words (4 * n + 3) / 2 ^ 32)
+
+-- the side of a node on which the place of a key is
+abbrev pub side_in : List ℕ → ℕ → ℕ → Side
+side_in words n k = side_at (slice_index words (4 * n)) k
 
 -- the words of a node say this range
 pub record IsNode (words : List ℕ) (n : ℕ) (x : Range) : Type 0 where

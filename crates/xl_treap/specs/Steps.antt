@@ -4,18 +4,20 @@ use Rattle.std.specs.List.{list_any}
 use Rattle.xl_model.specs.declared.leaf.Range.{Range}
 use Rattle.xl_model.specs.Ranges.{range_key, is_above}
 use Rattle.xl_treap.specs.Treaps.{IsApart, with_range, without_range, resized, last_below, first_from, has_key}
-use Rattle.xl_treap.specs.Lines.{node_word, left_at, right_at, range_of_link, IsNode}
+use Rattle.xl_treap.specs.Lines.{node_word, beyond, on_side, side_at, side_in, link_at, range_of_link, IsNode}
+use Rattle.xl_treap.specs.declared.node.Side.{Side}
+use Rattle.xl_treap.specs.declared.node.Side.TheVariants.{Low, High}
 use Rattle.xl_treap.specs.declared.parting.Parts.{Parts}
 use Rattle.xl_treap.specs.declared.beside.Beside.{Beside}
 use Rattle.xl_treap.specs.declared.own_search.Reached.{Reached}
-use Rattle.xl_treap.specs.Trees.{Tree, Tip, Bin, Pair, ranges, found, examined, IsAt, IsHeap, InOrder, Over, down, cut_low, cut_high}
+use Rattle.xl_treap.specs.Trees.{Tree, Tip, Bin, Pair, ranges, found, examined, IsAt, IsHeap, InOrder, Every, Over, down, cut}
 
 -- a node has these links, and no other word changed
-pub record IsLinked (old new : List ℕ) (n left right : ℕ) : Type 0 where
+pub record IsLinked (old new : List ℕ) (n low high : ℕ) : Type 0 where
   pub len : length new ≡ length old
   pub others : (i : ℕ) → (i ≡ 4 * n + 3 → ⊥) → slice_index new i ≡ slice_index old i
-  pub left_is : left_at new n ≡ left
-  pub right_is : right_at new n ≡ right
+  pub low_is : link_at Low new n ≡ low
+  pub high_is : link_at High new n ≡ high
 
 -- a node says this range, and no other word changed
 pub record IsLined (old new : List ℕ) (n : ℕ) (x : Range) : Type 0 where
@@ -33,19 +35,12 @@ pub record IsSized (old new : List ℕ) (n pages : ℕ) : Type 0 where
 
 -- a node's link towards the place of a key
 abbrev pub step_at : List ℕ → ℕ → ℕ → ℕ
-step_at words n k = if nat_lt (slice_index words (4 * n)) k then right_at words n else left_at words n
+step_at words n k = link_at (side_in words n k) words n
 
--- a node's left link, where another one is hung on the side of a key
-abbrev pub hung_left : List ℕ → ℕ → ℕ → ℕ → ℕ
-hung_left words n k at = if nat_lt (slice_index words (4 * n)) k then left_at words n else at
-
--- a node's right link, where another one is hung on the side of a key
-abbrev pub hung_right : List ℕ → ℕ → ℕ → ℕ → ℕ
-hung_right words n k at = if nat_lt (slice_index words (4 * n)) k then at else right_at words n
-
--- a node's link towards the place of a key is another one now, and no other word changed
-abbrev pub IsHung : List ℕ → List ℕ → ℕ → ℕ → ℕ → Type 0
-IsHung old new n k at = IsLinked old new n (hung_left old n k at) (hung_right old n k at)
+-- a node's link on a side is another one now, the one on the other side stays, and no other word
+-- changed
+abbrev pub IsHung : List ℕ → List ℕ → ℕ → Side → ℕ → Type 0
+IsHung old new n s at = IsLinked old new n (on_side s at (link_at Low old n)) (on_side s (link_at High old n) at)
 
 -- the words of a node all stay
 abbrev pub SameLine : List ℕ → List ℕ → ℕ → Type 0
@@ -53,8 +48,7 @@ SameLine old new m = (j : ℕ) → j < 4 → slice_index new (4 * m + j) ≡ sli
 
 -- each number of a tree's nodes is so
 abbrev pub Each : (ℕ → Type 0) → Tree → Type 0
-Each P Tip = Unit {0}
-Each P (Bin m x l r) = P m × Each P l × Each P r
+Each P t = Every (λ n x. P n) t
 
 -- a number is no node of a tree
 abbrev pub Off : ℕ → Tree → Type 0
@@ -72,8 +66,7 @@ pub record SameBut (t : Tree) (old new : List ℕ) : Type 0 where
 
 -- the words of a tree's nodes say its ranges
 abbrev pub Keeps : List ℕ → Tree → Type 0
-Keeps words Tip = Unit {0}
-Keeps words (Bin n x l r) = IsNode words n x × Keeps words l × Keeps words r
+Keeps words t = Every (IsNode words) t
 
 -- The way down to a key: the links on it, to nodes of other keys, and the one at its end, which is
 -- none or that of the key's node.
@@ -87,8 +80,7 @@ pub record IsWay (words path : List ℕ) (t : Tree) (k depth at : ℕ) : Type 0 
 
 -- A tree is cut at a key: its parts have the links `low` and `high`.
 pub record IsCut (old new : List ℕ) (low high k : ℕ) (t : Tree) : Type 0 where
-  pub lows : IsAt new low (cut_low k t)
-  pub highs : IsAt new high (cut_high k t)
+  pub parts : (s : Side) → IsAt new (on_side s low high) (cut s k t)
   pub but : SameBut t old new
 
 -- a tree's top is above a key
@@ -106,7 +98,8 @@ pub record IsPlace (t : Tree) (k depth : ℕ) : Type 0 where
 abbrev pub Half : List ℕ → ℕ → ℕ → Tree → Type 0
 Half words p k Tip = ⊥
 Half words p k (Bin n x l r) =
-    (p ≡ suc n) × IsNode words n x × (range_key x < k → IsAt words (left_at words n) l) × (k ≤ range_key x → IsAt words (right_at words n) r)
+    (p ≡ suc n) × IsNode words n x
+    × IsAt words (link_at (beyond (side_at (range_key x) k)) words n) (on_side (beyond (side_at (range_key x) k)) l r)
 
 -- the way down to a key in a tree to come
 pub record IsSpine (words path : List ℕ) (t : Tree) (k depth at : ℕ) : Type 0 where
@@ -145,7 +138,7 @@ parent_at path (suc d) = slice_index path d
 -- a link below a parent, on the side of a key, or the root where there is no parent
 abbrev pub IsAttached : List ℕ → List ℕ → ℕ → ℕ → ℕ → ℕ → ℕ → Type 0
 IsAttached old new root result zero k at = (new ≡ old) × (result ≡ at)
-IsAttached old new root result (suc p) k at = IsHung old new p k at × (result ≡ root)
+IsAttached old new root result (suc p) k at = IsHung old new p (side_in old p k) at × (result ≡ root)
 
 -- a way that ends at none of the tree's keys
 pub record CanPart (words path : List ℕ) (t : Tree) (k depth : ℕ) : Type 0 where

@@ -28,8 +28,8 @@ pub(crate) enum Visit {
     Goes(u32),
 }
 
-/// Loads a node. Which way a search goes can't be predicted, so both links are there before one is
-/// chosen, and LLVM needs no branch for the choice.
+/// Loads a node. The side on which a search continues can't be predicted, so both links are there
+/// before one is chosen, and LLVM needs no branch for the choice.
 pub(crate) fn examine<B: Bus>(bus: &mut B, node: u32, key: u64) -> Visit
     ensures visit { result ≡ visit_of (B.words bus.old) node key }
     ensures bus { bus.new ≡ B.loaded bus.old }

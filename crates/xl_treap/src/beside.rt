@@ -3,7 +3,7 @@
 ghost use Rattle.xl_treap.specs.Trees.{Tree};
 ghost use Rattle.xl_treap.specs.Steps.{IsTree, AreBeside};
 
-use crate::node::{left_of, right_of};
+use crate::node::{Side, link_of};
 
 /// Links to the last node below a key and to the first one from it on, 0 where there is none.
 #[derive(Clone, Copy)]
@@ -24,10 +24,10 @@ pub(crate) fn nodes_beside(words: &[u64], root: u32, key: u64) -> Beside
         let node = at - 1;
         if words[4 * node as usize] < key {
             found.before = at;
-            at = right_of(words, node);
+            at = link_of(words, node, Side::High);
         } else {
             found.from = at;
-            at = left_of(words, node);
+            at = link_of(words, node, Side::Low);
         }
     }
     found

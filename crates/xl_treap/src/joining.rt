@@ -5,7 +5,7 @@ ghost use Rattle.xl_treap.specs.Trees.{Tree, Pair, merge};
 ghost use Rattle.xl_treap.specs.Steps.{CanMerge, IsSpine, CanRise, IsRisen, CanTake, IsTaken, CanResize, IsResized};
 
 use crate::descent::{Way, attach, descend, parent_of};
-use crate::node::{hang, is_above, left_of, right_of, set_pages};
+use crate::node::{Side, hang, is_above, link_of, set_pages};
 
 /// Goes down two trees, of which the second lies after the first and the key between them, along
 /// the nodes of one tree of both.
@@ -27,10 +27,10 @@ pub(crate) fn merge_down(words: &[u64], path: &mut [u32], low: u32, high: u32) -
         let (first, second) = (low - 1, high - 1);
         if is_above(words[4 * first as usize], words[4 * second as usize]) {
             path[depth] = low;
-            low = right_of(words, first);
+            low = link_of(words, first, Side::High);
         } else {
             path[depth] = high;
-            high = left_of(words, second);
+            high = link_of(words, second, Side::Low);
         }
     }
     Way {
@@ -84,7 +84,10 @@ pub(crate) fn take_out(words: &mut [u64], path: &mut [u32], root: u32, key: u64)
     let way = descend(words, path, root, key);
     let node = way.at - 1;
     let parent = parent_of(path, way.depth);
-    let (low, high) = (left_of(words, node), right_of(words, node));
+    let (low, high) = (
+        link_of(words, node, Side::Low),
+        link_of(words, node, Side::High),
+    );
     let at = join(words, path, low, high, key);
     let root = attach(words, root, parent, key, at);
     set_pages(words, node, 0);

@@ -4,7 +4,7 @@ ghost use Rattle.std.specs.Prelude.{◌≡◌, ◌<◌, ◌+◌, ◌*◌, ◌^�
 ghost use Rattle.xl_model.specs.Addresses.{level_of};
 ghost use Rattle.xl_model.specs.Ranges.{is_above as above};
 ghost use Rattle.xl_treap.specs.Treaps.{key_at};
-ghost use Rattle.xl_treap.specs.Lines.{order_said, range_said, node_word, left_at, right_at};
+ghost use Rattle.xl_treap.specs.Lines.{order_said, range_said, node_word, side_in, link_at};
 ghost use Rattle.xl_treap.specs.Steps.{IsLinked, IsLined, IsSized, IsHung, step_at};
 
 use xl_model::{Order, Range, mix};
@@ -83,20 +83,35 @@ pub(crate) fn word_of(range: Range) -> u64
     leaf_word(range.frame, range.perm) + order_bits(range.order)
 }
 
-/// A node's link to the keys below its own.
-pub(crate) fn left_of(words: &[u64], node: u32) -> u32
-    requires { 4 * node + 4 ≤ length words.now }
-    ensures { result ≡ left_at words.now node }
-{
-    (words[4 * node as usize + 3] % (1 << 32)) as u32
+/// A side of a node: that of the keys below its own, or that of the keys above it.
+#[derive(Clone, Copy)]
+pub(crate) enum Side {
+    Low,
+    High,
 }
 
-/// A node's link to the keys above its own.
-pub(crate) fn right_of(words: &[u64], node: u32) -> u32
+/// A node's link on a side.
+pub(crate) fn link_of(words: &[u64], node: u32, side: Side) -> u32
     requires { 4 * node + 4 ≤ length words.now }
-    ensures { result ≡ right_at words.now node }
+    ensures { result ≡ link_at side words.now node }
 {
-    (words[4 * node as usize + 3] >> 32) as u32
+    let links = words[4 * node as usize + 3];
+    match side {
+        Side::Low => (links % (1 << 32)) as u32,
+        Side::High => (links >> 32) as u32,
+    }
+}
+
+/// The side of a node on which the place of a key is.
+fn side_of(words: &[u64], node: u32, key: u64) -> Side
+    requires { 4 * node + 4 ≤ length words.now }
+    ensures { result ≡ side_in words.now node key }
+{
+    if words[4 * node as usize] < key {
+        Side::High
+    } else {
+        Side::Low
+    }
 }
 
 /// One step down from a node towards the place of a key.
@@ -104,32 +119,29 @@ pub(crate) fn step_of(words: &[u64], node: u32, key: u64) -> u32
     requires { 4 * node + 4 ≤ length words.now }
     ensures { result ≡ step_at words.now node key }
 {
-    if words[4 * node as usize] < key {
-        right_of(words, node)
-    } else {
-        left_of(words, node)
-    }
+    link_of(words, node, side_of(words, node, key))
 }
 
 /// Gives a node its two links.
-pub(crate) fn set_links(words: &mut [u64], node: u32, left: u32, right: u32)
+pub(crate) fn set_links(words: &mut [u64], node: u32, low: u32, high: u32)
     requires { 4 * node + 4 ≤ length words.old }
-    ensures { IsLinked words.old words.new node left right }
+    ensures { IsLinked words.old words.new node low high }
 {
-    words[4 * node as usize + 3] = right as u64 * (1 << 32) + left as u64;
+    words[4 * node as usize + 3] = high as u64 * (1 << 32) + low as u64;
 }
 
 /// Puts the link `at` in place of a node's link towards the place of a key.
 pub(crate) fn hang(words: &mut [u64], node: u32, key: u64, at: u32)
     requires { 4 * node + 4 ≤ length words.old }
-    ensures { IsHung words.old words.new node key at }
+    ensures { IsHung words.old words.new node (side_in words.old node key) at }
 {
-    if words[4 * node as usize] < key {
-        let left = left_of(words, node);
-        set_links(words, node, left, at);
-    } else {
-        let right = right_of(words, node);
-        set_links(words, node, at, right);
+    let (low, high) = (
+        link_of(words, node, Side::Low),
+        link_of(words, node, Side::High),
+    );
+    match side_of(words, node, key) {
+        Side::Low => set_links(words, node, at, high),
+        Side::High => set_links(words, node, low, at),
     }
 }
 

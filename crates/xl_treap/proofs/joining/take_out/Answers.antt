@@ -1,4 +1,4 @@
-use Rattle.xl_treap.proofs.Common.{◌*◌, ◌-◌, ◌≤◌, arith, CanMerge, CanTake, IsAttached, IsRisen, left_at, length, merge, refl, right_at, subst, sym, tree_at, ℕ}
+use Rattle.xl_treap.proofs.Common.{◌*◌, ◌-◌, ◌≤◌, arith, CanMerge, CanTake, High, IsAttached, IsRisen, length, link_at, Low, merge, refl, subst, sym, tree_at, ℕ}
 use Rattle.xl_treap.proofs.TakeLemmas.{take-made, take-pair, take-room, take-some, take-there}
 use Rattle.xl_treap.proofs.joining.take_out.Goals as goal
 
@@ -7,13 +7,13 @@ overflow_sub-node g c =
     let a = c.args in let w = c.descend-way.result in
     let h = take-some a.words.now c.descend-way.new.path a.root (length a.path.now) g.tree a.key w.depth w.at c.requires c.descend-way.ensures in omega (arith, h)
 
-pub left_of-low-requires : goal.left_of-low-requires
-left_of-low-requires g c =
+pub link_of-low-requires : goal.link_of-low-requires
+link_of-low-requires g c =
     let a = c.args in let w = c.descend-way.result in
     take-there a.words.now c.descend-way.new.path a.root (length a.path.now) g.tree a.key w.depth w.at c.requires c.descend-way.ensures
 
-pub right_of-high-requires : goal.right_of-high-requires
-right_of-high-requires g c =
+pub link_of-high-requires : goal.link_of-high-requires
+link_of-high-requires g c =
     let a = c.args in let w = c.descend-way.result in
     take-there a.words.now c.descend-way.new.path a.root (length a.path.now) g.tree a.key w.depth w.at c.requires c.descend-way.ensures
 
@@ -24,9 +24,9 @@ join-at-requires g c =
     let T : ℕ → Type 0 = λ n. CanTake W a.root n g.tree a.key in
     let can = subst T (sym c.descend-way.auto.path) c.requires in
     let p = take-pair W c.descend-way.new.path a.root N g.tree a.key w.depth w.at can c.descend-way.ensures in
-    let L : ℕ → Type 0 = λ l. CanMerge W l (right_at W (w.at - 1)) N (record { low = tree_at N W l; high = tree_at N W (right_at W (w.at - 1)); key = a.key }) in
-    let R : ℕ → Type 0 = λ r. CanMerge W c.left_of-low.result r N (record { low = tree_at N W c.left_of-low.result; high = tree_at N W r; key = a.key }) in
-    (subst R (sym c.right_of-high.ensures) (subst L (sym c.left_of-low.ensures) p), refl)
+    let L : ℕ → Type 0 = λ l. CanMerge W l (link_at High W (w.at - 1)) N (record { low = tree_at N W l; high = tree_at N W (link_at High W (w.at - 1)); key = a.key }) in
+    let R : ℕ → Type 0 = λ r. CanMerge W c.link_of-low.result r N (record { low = tree_at N W c.link_of-low.result; high = tree_at N W r; key = a.key }) in
+    (subst R (sym c.link_of-high.ensures) (subst L (sym c.link_of-low.ensures) p), refl)
 
 pub attach-root-requires : goal.attach-root-requires
 attach-root-requires g c =
@@ -34,9 +34,9 @@ attach-root-requires g c =
     let N = length c.descend-way.new.path in
     let T : ℕ → Type 0 = λ n. CanTake W a.root n g.tree a.key in
     let can = subst T (sym c.descend-way.auto.path) c.requires in
-    let L : ℕ → Type 0 = λ l. IsRisen W c.join-at.new.words (merge (tree_at N W l) (tree_at N W c.right_of-high.result)) c.join-at.result in
-    let R : ℕ → Type 0 = λ r. IsRisen W c.join-at.new.words (merge (tree_at N W (left_at W (w.at - 1))) (tree_at N W r)) c.join-at.result in
-    let risen = subst R c.right_of-high.ensures (subst L c.left_of-low.ensures c.join-at.ensures) in
+    let L : ℕ → Type 0 = λ l. IsRisen W c.join-at.new.words (merge (tree_at N W l) (tree_at N W c.link_of-high.result)) c.join-at.result in
+    let R : ℕ → Type 0 = λ r. IsRisen W c.join-at.new.words (merge (tree_at N W (link_at Low W (w.at - 1))) (tree_at N W r)) c.join-at.result in
+    let risen = subst R c.link_of-high.ensures (subst L c.link_of-low.ensures c.join-at.ensures) in
     let P : ℕ → Type 0 = λ p. 4 * p ≤ length c.join-at.new.words in
     subst P (sym c.parent_of-parent.ensures)
     (take-room W c.descend-way.new.path a.root N g.tree a.key w.depth w.at can c.descend-way.ensures c.join-at.new.words c.join-at.result risen)
@@ -53,9 +53,9 @@ returns g c =
     let N = length c.descend-way.new.path in
     let T : ℕ → Type 0 = λ n. CanTake W a.root n g.tree a.key in
     let can = subst T (sym c.descend-way.auto.path) c.requires in
-    let L : ℕ → Type 0 = λ l. IsRisen W c.join-at.new.words (merge (tree_at N W l) (tree_at N W c.right_of-high.result)) c.join-at.result in
-    let R : ℕ → Type 0 = λ r. IsRisen W c.join-at.new.words (merge (tree_at N W (left_at W (w.at - 1))) (tree_at N W r)) c.join-at.result in
-    let risen = subst R c.right_of-high.ensures (subst L c.left_of-low.ensures c.join-at.ensures) in
+    let L : ℕ → Type 0 = λ l. IsRisen W c.join-at.new.words (merge (tree_at N W l) (tree_at N W c.link_of-high.result)) c.join-at.result in
+    let R : ℕ → Type 0 = λ r. IsRisen W c.join-at.new.words (merge (tree_at N W (link_at Low W (w.at - 1))) (tree_at N W r)) c.join-at.result in
+    let risen = subst R c.link_of-high.ensures (subst L c.link_of-low.ensures c.join-at.ensures) in
     let P : ℕ → Type 0 = λ p. IsAttached c.join-at.new.words c.attach-root.new.words a.root c.attach-root.result p a.key c.join-at.result in
     take-made W c.descend-way.new.path a.root N g.tree a.key w.depth w.at can c.descend-way.ensures c.join-at.new.words c.join-at.result risen
     c.attach-root.new.words c.set_pages.new.words c.attach-root.result (subst P c.parent_of-parent.ensures c.attach-root.ensures) c.set_pages.ensures

@@ -1,5 +1,6 @@
-use Rattle.xl_treap.proofs.Common.{◌-◌, ◌∙◌, ◌≤◌, arith, down, IsCut, List, Over, Parts, slice_index, subst, sym, ℕ}
-use Rattle.xl_treap.proofs.CutLemmas.{cut-none, part-above, part-below, part-over, part-stop, part-there}
+use Rattle.xl_treap.proofs.Common.{◌-◌, ◌∙◌, ◌≤◌, arith, down, High, IsCut, List, Low, Over, Parts, slice_index, subst, sym, ℕ}
+use Rattle.xl_treap.proofs.CutLemmas.{cut-none, part-more, part-over, part-stop, part-there}
+use Rattle.xl_treap.proofs.SideLemmas.{side-high, side-low}
 use Rattle.xl_treap.proofs.parting.part.Goals.{else-own-key, then-own-key}
 use Rattle.xl_treap.proofs.parting.part.Goals as goal
 
@@ -43,15 +44,16 @@ loop-parts-preserved g c =
     let k = c.args.key in
     let over = part-over old c.loop-parts.words c.args.path.now g.tree k c.args.depth p.depth p.low p.high c.requires c.loop-parts-test.true i.short i.cut (sym c.is_above.ensures ∙ c.if-is_above.false) in
     let short : p.depth - 1 ≤ c.args.depth = omega arith in
+    let more = part-more old c.loop-parts.words c.args.path.now g.tree k c.args.depth p.depth p.low p.high c.requires c.loop-parts-test.true i.short i.cut in
     let C : List ℕ → Parts → Type 0 = λ ws q. (q.depth - 1 ≤ c.args.depth) × IsCut old ws q.low q.high k (down g.tree k (q.depth - 1)) × Over k (down g.tree k (q.depth - 1)) in
     let done : C c.if-own-key.words c.if-own-key.parts = (elim c.if-own-key.branch [
       | then-own-key w ↦
-          let cut = part-below old c.loop-parts.words c.args.path.now g.tree k c.args.depth p.depth p.low p.high c.requires c.loop-parts-test.true i.short i.cut w.hang.new.words w.if-own-key.true w.hang.ensures in
+          let cut = more w.hang.new.words High (side-high _ k w.if-own-key.true) w.hang.ensures in
           let W : List ℕ → Type 0 = λ ws. C ws (record p { low = slice_index c.args.path.now (p.depth - 1) }) in
           let P : Parts → Type 0 = λ q. C c.if-own-key.words q in
           subst P (sym w.parts-is) (subst W (sym w.words-is) (short, cut, over))
       | else-own-key w ↦
-          let cut = part-above old c.loop-parts.words c.args.path.now g.tree k c.args.depth p.depth p.low p.high c.requires c.loop-parts-test.true i.short i.cut w.hang-else-own-key.new.words w.if-own-key.false w.hang-else-own-key.ensures in
+          let cut = more w.hang-else-own-key.new.words Low (side-low _ k w.if-own-key.false) w.hang-else-own-key.ensures in
           let W : List ℕ → Type 0 = λ ws. C ws (record p { high = slice_index c.args.path.now (p.depth - 1) }) in
           let P : Parts → Type 0 = λ q. C c.if-own-key.words q in
           subst P (sym w.parts-is) (subst W (sym w.words-is) (short, cut, over))
