@@ -1,9 +1,11 @@
 -- What a parse of a simple command says of the words.
-use Rattle.std.proofs.Common.{◌≡◌, ℕ, List, [], ◌∷◌, true, refl, ap, subst, ◌∙◌, inl, inr}
-use Rattle.std.specs.Prelude.{◌⊎◌, Option, Err}
+use Rattle.std.proofs.Common.{◌≡◌, ℕ, List, [], ◌∷◌, true, refl, ap, subst, sym, ◌∙◌, inl, inr}
+use Rattle.std.specs.Prelude.{◌⊎◌, Option, Result, Ok, Err}
 use Rattle.clap.specs.Faults.{fault_of, is_simple_and_free}
 use Rattle.clap.specs.Simple.{App, is_simple, matches_of}
 use Rattle.clap.specs.Walk.{Row}
+use Rattle.clap.specs.Words.{found_of, rows_of}
+use Rattle.clap.specs.declared.parser.matches.ArgMatches.{ArgMatches}
 use Rattle.clap.specs.Kinds.{Kinds, IsAmong}
 use Rattle.clap.specs.declared.error.kind.ErrorKind.{ErrorKind}
 use Rattle.clap.specs.declared.error.kind.ErrorKind.TheVariants as kind
@@ -57,3 +59,13 @@ pub refused_by : {W A : Type 0} (of : W → A) (in' : List Row → Option A) (f 
     → Asks of (Err f) (read_by a in' words)
 refused_by of in' f c a words e h =
     subst (λ (b : App). Asks of (Err f) (read_by b in' words)) e (refused of f (fault_of c words) (matches_of c words) (in' (matches_of c words)) h)
+
+-- where the command has matches, what they ask for is asked for
+matched : {W A : Type 0} (of : W → A) (kinds : Kinds) (got : Option A) (r : Result W WordsFault) → kinds ≡ [] → Asks of r got → Asks of r (read_where kinds got)
+matched of kinds got r e h = subst (λ (ks : Kinds). Asks of r (read_where ks got)) (sym e) h
+
+pub matched_by : {W A : Type 0} (of : W → A) (in' : List Row → Option A) (r : Result W WordsFault) (m : ArgMatches) (c a : App) (words : List (List ℕ)) → c ≡ a
+    → Matches (fault_of c words) (matches_of c words) (Ok m) → Asks of r (in' (rows_of (found_of m))) → Asks of r (read_by a in' words)
+matched_by of in' r m c a words e h asks =
+    subst (λ (b : App). Asks of r (read_by b in' words)) e (matched of (fault_of c words) (in' (matches_of c words)) r h.0
+    (subst (λ (rows : List Row). Asks of r (in' rows)) h.1 asks))

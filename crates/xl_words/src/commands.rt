@@ -1,53 +1,48 @@
 //! The command of each form, by `clap`.
 
 ghost use Rattle.std.specs.Prelude.{◌≡◌, IfOk, false};
-ghost use Rattle.clap.specs.Words.{app_of, rule_of, with_rule};
+ghost use Rattle.clap.specs.Words.{App, Rule, app_of, rule_of, with_rule};
 ghost use Rattle.xl_words.specs.Words.{option_rule, needed_rule, number_rule, sets_rule, flag_rule, app, file_app, pair_app, curve_app};
 
 use clap::{Arg, ArgAction, Command};
 use std::alloc::{AllocError, Global};
 
 /// The command of the plain form.
-#[tactic(auto, unfolding(crate::specs::Words::app))]
 pub(crate) fn command<'a>(alloc: Global) -> Result<Command<'a>, AllocError>
     ensures { IfOk result (λ c. app_of c ≡ app) }
 {
-    let command = file_command(alloc)?;
-    let command = add(command, numbered(alloc, "make"))?;
-    let command = add(command, flag(alloc, "answers"))?;
-    let command = add(command, flag(alloc, "image"))?;
+    let command = file_command(alloc);
+    let command = add(command, numbered(alloc, "make"));
+    let command = add(command, flag(alloc, "answers"));
+    let command = add(command, flag(alloc, "image"));
     add(command, flag(alloc, "json"))
 }
 
 /// The command with the options that name a file.
-#[tactic(auto, unfolding(crate::specs::Words::file_app))]
 fn file_command<'a>(alloc: Global) -> Result<Command<'a>, AllocError>
     ensures { IfOk result (λ c. app_of c ≡ file_app) }
 {
-    let command = Command::new(alloc, "xlate");
-    let command = add(command, needed(alloc, "config"))?;
-    let command = add(command, option(alloc, "script"))?;
+    let command = Ok(Command::new(alloc, "xlate"));
+    let command = add(command, needed(alloc, "config"));
+    let command = add(command, option(alloc, "script"));
     add(command, option(alloc, "trace"))
 }
 
 /// The command of the forms `nested` and `harts`.
-#[tactic(auto, unfolding(crate::specs::Words::pair_app))]
 pub(crate) fn pair_command<'a>(alloc: Global) -> Result<Command<'a>, AllocError>
     ensures { IfOk result (λ c. app_of c ≡ pair_app) }
 {
-    let command = Command::new(alloc, "xlate");
-    let command = add(command, needed(alloc, "script"))?;
-    let command = add(command, needed(alloc, "trace"))?;
+    let command = Ok(Command::new(alloc, "xlate"));
+    let command = add(command, needed(alloc, "script"));
+    let command = add(command, needed(alloc, "trace"));
     add(command, flag(alloc, "answers"))
 }
 
 /// The command of the form `curve`.
-#[tactic(auto, unfolding(crate::specs::Words::curve_app))]
 pub(crate) fn curve_command<'a>(alloc: Global) -> Result<Command<'a>, AllocError>
     ensures { IfOk result (λ c. app_of c ≡ curve_app) }
 {
-    let command = file_command(alloc)?;
-    add(command, counted(alloc, "sets"))
+    add(file_command(alloc), counted(alloc, "sets"))
 }
 
 /// An option that has a value.
@@ -90,10 +85,17 @@ fn flag<'a>(alloc: Global, name: &'a str) -> Arg<'a>
     Arg::new(alloc, name).long(name).action(ArgAction::SetTrue)
 }
 
-/// The command with one argument more.
-fn add<'a>(command: Command<'a>, arg: Arg<'a>) -> Result<Command<'a>, AllocError>
+/// The command with one argument more; where there is no memory, none.
+fn add<'a>(
+    command: Result<Command<'a>, AllocError>,
+    arg: Arg<'a>,
+) -> Result<Command<'a>, AllocError>
     requires { arg.global ≡ false }
-    ensures { IfOk result (λ c. app_of c ≡ with_rule (app_of command.entry) (rule_of arg.entry)) }
+    ensures { (app : App) → (rule : Rule) → IfOk command.entry (λ c. app_of c ≡ app)
+        → rule_of arg.entry ≡ rule → IfOk result (λ c. app_of c ≡ with_rule app rule) }
 {
-    command.arg(arg)
+    match command {
+        Ok(command) => command.arg(arg),
+        Err(error) => Err(error),
+    }
 }

@@ -1,6 +1,6 @@
 //! The words, by the command of their form.
 
-ghost use Rattle.std.specs.Prelude.{◌≡◌, ◌≤◌, [], true, length, drop, map, option_map, string_bytes, codes};
+ghost use Rattle.std.specs.Prelude.{◌≡◌, ◌≤◌, [], Some, true, length, drop, map, option_map, string_bytes, codes};
 ghost use Rattle.clap.specs.Words.{app_of, rows_of, found_of, first_of, fault_of, matches_of, is_simple, is_simple_and_free};
 ghost use Rattle.xl_words.specs.Words.{number_of, made_by, sets_by, app, pair_app, curve_app, is_on, plain_with, plain_in, pair_in, curve_in, read_by, form_of, form_named, asked, plain_of, pair_of, curve_of, asked_of, Asks, Matches};
 ghost use Rattle.xl_words.specs.declared.words.WordsFault.TheVariants as why;
@@ -15,7 +15,7 @@ use thiserror::Error;
 /// trace; for how many records script and trace are made, where they are; whether a line is wanted
 /// for each access and command; whether the words of radix tables are; and whether the rows are
 /// wanted as JSON.
-#[derive(Clone, Copy, Debug, PartialEq, Eq)]
+#[derive(Clone, Copy)]
 pub struct Plain<'a> {
     pub config: &'a str,
     pub script: Option<&'a str>,
@@ -28,7 +28,7 @@ pub struct Plain<'a> {
 
 /// What the words of the forms `nested` and `harts` ask for: the names of the script and the trace,
 /// and whether a line is wanted for each access.
-#[derive(Clone, Copy, Debug, PartialEq, Eq)]
+#[derive(Clone, Copy)]
 pub struct Pair<'a> {
     pub script: &'a str,
     pub trace: &'a str,
@@ -37,7 +37,7 @@ pub struct Pair<'a> {
 
 /// What the words of the form `curve` ask for: how many sets the array of each curve has, and the
 /// names of the configuration, the script and the trace.
-#[derive(Clone, Copy, Debug, PartialEq, Eq)]
+#[derive(Clone, Copy)]
 pub struct CurveWords<'a> {
     pub sets: u32,
     pub config: &'a str,
@@ -46,7 +46,7 @@ pub struct CurveWords<'a> {
 }
 
 /// What the words ask for, in each form of the program.
-#[derive(Clone, Copy, Debug, PartialEq, Eq)]
+#[derive(Clone, Copy)]
 pub enum Words<'a> {
     Plain(Plain<'a>),
     Nested(Pair<'a>),
@@ -55,7 +55,7 @@ pub enum Words<'a> {
 }
 
 /// The forms of the program.
-#[derive(Clone, Copy, Debug, PartialEq, Eq)]
+#[derive(Clone, Copy)]
 pub enum Form {
     Plain,
     Nested,
@@ -152,12 +152,20 @@ fn read_pair<'a>(alloc: Global, words: &'a [String]) -> Result<Pair<'a>, WordsFa
     ensures { Asks pair_of result (read_by pair_app pair_in (map string_bytes words.entry.now)) }
 {
     match matches(pair_command(alloc)?, words) {
-        Ok(matches) => Ok(Pair {
-            script: value(&matches, "script").unwrap_or(""),
-            trace: value(&matches, "trace").unwrap_or(""),
-            answers: is_on(value(&matches, "answers")),
-        }),
+        Ok(matches) => Ok(pair_matched(&matches)),
         Err(fault) => Err(fault),
+    }
+}
+
+/// What is asked for by some matches of the forms `nested` and `harts`. The command has none
+/// without both files.
+fn pair_matched<'a>(matches: &ArgMatches<'a>) -> Pair<'a>
+    ensures { Some (pair_of result) ≡ pair_in (rows_of (found_of matches.now)) }
+{
+    Pair {
+        script: value(matches, "script").unwrap_or(""),
+        trace: value(matches, "trace").unwrap_or(""),
+        answers: is_on(value(matches, "answers")),
     }
 }
 
