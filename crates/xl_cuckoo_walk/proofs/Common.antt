@@ -44,7 +44,7 @@ pub use Rattle.xl_model_lemmas.proofs.MemberLemmas.{any-false, any-In, find-In, 
 pub use Rattle.xl_model_lemmas.proofs.OrderLemmas.{level-low, order-same, orders-same, pages-some, same-level}
 pub use Rattle.xl_model_lemmas.proofs.PlaceLemmas.{aligned-frame, covers-meets, first-covered, named-first, named-order, named-space}
 pub use Rattle.xl_model_lemmas.proofs.RecencyLemmas.{find-none, find-some, newest-map, purged-map, touched-map, touched-none}
-pub use Rattle.xl_model_lemmas.proofs.SameLemmas.{any-each, both, none-any, same-tests}
+pub use Rattle.xl_model_lemmas.proofs.SameLemmas.{any-each, bit-same, both, none-any, same-tests}
 pub use Rattle.xl_model_lemmas.proofs.SearchLemmas.{only, only-first}
 pub use Rattle.xl_model_lemmas.proofs.SectionLemmas.{count-with, counts-same, In-keys, keys-In, keys-once, small-block}
 pub use Rattle.xl_model_lemmas.proofs.TallyLemmas.{tally-any}
@@ -73,11 +73,11 @@ pub use Rattle.xl_tagged.specs.Steps.{given_word, IsWritten}
 pub use Rattle.xl_tagged.specs.Tagged.{AreHeld, IsFit}
 pub use Rattle.xl_way.specs.Slots.{word_in}
 unfoldable pub use Rattle.xl_way.specs.Slots.{word_of}
-pub use Rattle.xl_cuckoo_walk.specs.Changes.{AreTied, compared, fits_by, has_fit, HoldsLeaves, IsCapped, IsEntered, IsLeft, IsPut, IsRefused, keys_if, keys_moved, page_key, StaysBeside, with_put_in, with_word_in, without_key_in}
+pub use Rattle.xl_cuckoo_walk.specs.Changes.{compared, fits_by, has_fit, IsCapped, IsEntered, IsLeft, IsPut, IsRefused, keys_if, keys_moved, page_key, page_keys, size_compared, StaysBeside, with_put_in, with_word_in, without_key_in, word_of_key}
 pub use Rattle.xl_cuckoo_walk.specs.Coding.{bit_in, code_of, has_tag, hit_of, is_old, is_reached, section_by, section_in, sections_in, way_by, word_by, word_of_item}
 pub use Rattle.xl_cuckoo_walk.specs.Known.{IsFrontIf, IsKnown, word_known}
-pub use Rattle.xl_cuckoo_walk.specs.Looks.{counts_smaller, looked, looked_from}
-pub use Rattle.xl_cuckoo_walk.specs.Parts.{AreKeys, IsRow, order_tags, RowParts, rules_in, SameRules, table_of, ways_at, ways_in, with_table, word_list}
+pub use Rattle.xl_cuckoo_walk.specs.Looks.{counts_smaller, first_from, looked, looked_from}
+pub use Rattle.xl_cuckoo_walk.specs.Parts.{AreFresh, AreKeys, AreTied, by_size, counts_of, HoldsLeaves, IsRow, Large, loads_in, Middle, order_at, order_of, order_tags, parts_by, RowParts, rules_by, rules_in, rules_of, Size, size_in, SizeParts, table_at, table_of, TableRules, Tables, ways_at, ways_in, with_counts, with_table, with_table_at, word_list}
 unfoldable pub use Rattle.xl_cuckoo_walk.specs.Parts.{leaves_in, row_state, tags_in, values_in}
 pub use Rattle.xl_cuckoo_walk.specs.Plans.{filled, is_counted, IsIn, key_told, loads_by, newest_in, own_section, plan_at, plan_by, probed, refreshed, touched_in, value_by, way_told}
 unfoldable pub use Rattle.xl_cuckoo_walk.specs.Plans.{keys_from, leaf_said_by, new_word, plan_of}

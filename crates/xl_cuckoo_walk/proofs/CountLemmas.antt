@@ -10,24 +10,20 @@ use Rattle.xl_model.specs.declared.address.Order.TheVariants as order
 abbrev pub Apart : Leaf → List Leaf → Type 0
 Apart x xs = (z : Leaf) → In z xs → leaf_key z ≡ leaf_key x → ⊥
 
-pub word-with : (size : Order) (k : ℕ) (x : Leaf) (xs : List Leaf) → Apart x xs → word_of size k (with_leaf x xs) ≡ word_of size k (x ∷ xs)
+words-each : (size : Order) (k : ℕ) (xs ys : List Leaf) → ((o : Order) → tally (of_order size k o) xs ≡ tally (of_order size k o) ys) → word_of size k xs ≡ word_of size k ys
 unfolding word_of
-word-with size k x xs apart =
-    let q : Order → ℕ = λ o. tally (of_order size k o) (x ∷ xs) in
-    let h : (o : Order) → tally (of_order size k o) (with_leaf x xs) ≡ q o = λ o. tally-with (of_order size k o) x xs apart in
-    ap (λ n. n + (tally (of_order size k order.M2) (with_leaf x xs) * 2 ^ 22 + tally (of_order size k order.G1) (with_leaf x xs) * 2 ^ 44)) (h order.K4)
-    ∙ ap (λ n. q order.K4 + (n * 2 ^ 22 + tally (of_order size k order.G1) (with_leaf x xs) * 2 ^ 44)) (h order.M2)
-    ∙ ap (λ n. q order.K4 + (q order.M2 * 2 ^ 22 + n * 2 ^ 44)) (h order.G1)
-
-pub word-less : (size : Order) (k : ℕ) (x : Leaf) (xs : List Leaf) → IsSorted xs → In x xs → word_of size k xs ≡ word_of size k (x ∷ without_leaf x.space x.first xs)
-unfolding word_of
-word-less size k x xs sorted i =
-    let rest : List Leaf = without_leaf x.space x.first xs in
-    let q : Order → ℕ = λ o. tally (of_order size k o) (x ∷ rest) in
-    let h : (o : Order) → tally (of_order size k o) xs ≡ q o = λ o. let e = tally-less (of_order size k o) x xs sorted i in omega arith in
+words-each size k xs ys h =
+    let q : Order → ℕ = λ o. tally (of_order size k o) ys in
     ap (λ n. n + (tally (of_order size k order.M2) xs * 2 ^ 22 + tally (of_order size k order.G1) xs * 2 ^ 44)) (h order.K4)
     ∙ ap (λ n. q order.K4 + (n * 2 ^ 22 + tally (of_order size k order.G1) xs * 2 ^ 44)) (h order.M2)
     ∙ ap (λ n. q order.K4 + (q order.M2 * 2 ^ 22 + n * 2 ^ 44)) (h order.G1)
+
+pub word-with : (size : Order) (k : ℕ) (x : Leaf) (xs : List Leaf) → Apart x xs → word_of size k (with_leaf x xs) ≡ word_of size k (x ∷ xs)
+word-with size k x xs apart = words-each size k (with_leaf x xs) (x ∷ xs) (λ o. tally-with (of_order size k o) x xs apart)
+
+pub word-less : (size : Order) (k : ℕ) (x : Leaf) (xs : List Leaf) → IsSorted xs → In x xs → word_of size k xs ≡ word_of size k (x ∷ without_leaf x.space x.first xs)
+word-less size k x xs sorted i =
+    words-each size k xs (x ∷ without_leaf x.space x.first xs) (λ o. let e = tally-less (of_order size k o) x xs sorted i in omega arith)
 
 -- a leaf comes
 pub tied-with : (size : Order) (x : Leaf) (xs : List Leaf) (old new : CountState) → Apart x xs → IsTied size xs old.counts → IsNoted size x old new → IsTied size (with_leaf x xs) new.counts

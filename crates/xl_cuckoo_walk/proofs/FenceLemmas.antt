@@ -1,6 +1,8 @@
 -- Fences on cached sections.
-use Rattle.xl_cuckoo_walk.proofs.Common.{◌+◌, ◌-◌, ◌∙◌, ◌≡◌, ap, arith, Cached, caches_fenced, fence_answer, is_reached, IsFence, IsRow, Item, Leaf, leaves_in, length, length-map, List, Order, purged, purged-map, reaches_space, refl, row_state, RowParts, Section, section-fenced, section_in, sections_in, SectionsFresh, subst, sym, table_fenced, ways_in, WayShape, without_items, ℕ}
+use Rattle.xl_cuckoo_walk.proofs.Common.{◌+◌, ◌-◌, ◌∙◌, ◌≡◌, ap, arith, Cached, caches_fenced, fence_answer, is_reached, IsFence, IsRow, Item, Large, Leaf, leaves_in, length, length-map, List, Middle, Order, order_of, purged, purged-map, reaches_space, refl, row_state, RowParts, Section, section-fenced, section_in, sections_in, SectionsFresh, size_in, subst, sym, table_fenced, ways_in, ways_of, WayShape, without_items, ℕ}
 use Rattle.xl_model.specs.declared.event.Reach.{Reach}
+use Rattle.xl_cuckoo_walk.proofs.HoldLemmas.{holds-with-caches, with_caches}
+use Rattle.xl_cuckoo_walk.proofs.IndexLemmas.{each-size}
 use Rattle.xl_model.specs.declared.address.Order.TheVariants as order
 
 -- the sections that a fence leaves, and how many it takes
@@ -30,33 +32,23 @@ pub record FencedRow (to : Reach) (p after : RowParts) (left : ℕ) : Type 0 whe
   pub fence : IsFence to (row_state p) left (row_state after)
 
 pub row-fenced : (to : Reach) (p : RowParts) (m2 g1 : Cached Item) (a b : ℕ) → IsRow p
-    → m2 ≡ record p.middle_cache { items = purged (is_reached to) p.middle_cache.items } → a + length m2.items ≡ length p.middle_cache.items
-    → g1 ≡ record p.large_cache { items = purged (is_reached to) p.large_cache.items } → b + length g1.items ≡ length p.large_cache.items
-    → FencedRow to p (record p { middle_cache = m2; large_cache = g1 }) (a + b)
+    → m2 ≡ record p.middle.cache { items = purged (is_reached to) p.middle.cache.items } → a + length m2.items ≡ length p.middle.cache.items
+    → g1 ≡ record p.large.cache { items = purged (is_reached to) p.large.cache.items } → b + length g1.items ≡ length p.large.cache.items
+    → FencedRow to p (with_caches m2 g1 p) (a + b)
 unfolding row_state fence_answer table_fenced caches_fenced
 row-fenced to p m2 g1 a b r e n f m =
-    let x : IsFenced to p.middle_cache m2 a = fenced to p.middle_cache m2 a e n in
-    let y : IsFenced to p.large_cache g1 b = fenced to p.large_cache g1 b f m in
+    let x : IsFenced to p.middle.cache m2 a = fenced to p.middle.cache m2 a e n in
+    let y : IsFenced to p.large.cache g1 b = fenced to p.large.cache g1 b f m in
     record {
       row = record {
-        held = r.held;
-        keys = r.keys;
-        once = r.once;
-        same_m2 = r.same_m2;
-        same_g1 = r.same_g1;
-        few = r.few;
-        middle_are = r.middle_are;
-        large_are = r.large_are;
-        middle_within = r.middle_within;
-        large_within = r.large_within;
-        middle_tied = r.middle_tied;
-        large_tied = r.large_tied;
-        middle_fresh = fresh to order.M2 (leaves_in (ways_in p)) p.m2.ways p.middle_cache m2 a x r.middle_fresh;
-        large_fresh = fresh to order.G1 (leaves_in (ways_in p)) p.g1.ways p.large_cache g1 b y r.large_fresh;
+        holds = holds-with-caches m2 g1 p (leaves_in (ways_in p)) r.holds;
+        fresh = each-size (λ z. SectionsFresh (order_of z) (leaves_in (ways_in p)) (ways_of (order_of z) (ways_in p)) (sections_in (size_in z (with_caches m2 g1 p)).cache))
+            (fresh to order.M2 (leaves_in (ways_in p)) p.tables.m2.ways p.middle.cache m2 a x (r.fresh Middle))
+            (fresh to order.G1 (leaves_in (ways_in p)) p.tables.g1.ways p.large.cache g1 b y (r.fresh Large));
       };
       fence = record {
-        answer = both-left a b (length (without_items (λ s. reaches_space to s.space) (sections_in p.middle_cache)).items) (length (without_items (λ s. reaches_space to s.space) (sections_in p.large_cache)).items)
-            (length (sections_in p.middle_cache).items) (length (sections_in p.large_cache).items) x.count y.count;
+        answer = both-left a b (length (without_items (λ s. reaches_space to s.space) (sections_in p.middle.cache)).items) (length (without_items (λ s. reaches_space to s.space) (sections_in p.large.cache)).items)
+            (length (sections_in p.middle.cache).items) (length (sections_in p.large.cache).items) x.count y.count;
         after = rw (x.sections, y.sections) refl;
       };
     }

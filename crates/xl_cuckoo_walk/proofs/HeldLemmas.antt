@@ -1,76 +1,28 @@
 -- What the ways hold under tags when those of one order change.
-use Rattle.xl_cuckoo_walk.proofs.Common.{◌%◌, ◌&&◌, ◌*◌, ◌++◌, ◌+◌, ◌/◌, ◌<◌, ◌==◌, ◌^◌, ◌∙◌, ◌∷◌, ◌≡◌, ◌≤◌, ◌⊎◌, [], AddsEntry, ap, AreKeys, AreOnce, arith, Bool, cond, CuckooWays, entries_in, Entry, false, has_key, In, In-append, In-left, In-right, inl, inr, IsTagWith, IsTagWithout, IsWritten, level_of, List, map, map-In, nat_tests, no-value, One, one_if, Order, order-same, order_tags, orders-same, refl, reworded, same-level, same-tests, same_order, slice_index, subst, suc, sym, tags_in, tally, tally-same, true, value_of, values_in, ways-reworded, ways-without, ways_at, ways_of, WayShape, with_ways, with_word, without_entry, word_at, word_list, zero, ℕ}
-use Rattle.xl_cuckoo_walk.proofs.HolderLemmas.{level-ways}
+use Rattle.xl_cuckoo_walk.proofs.Common.{◌%◌, ◌&&◌, ◌*◌, ◌++◌, ◌+◌, ◌/◌, ◌<◌, ◌==◌, ◌^◌, ◌∙◌, ◌∷◌, ◌≡◌, ◌≤◌, ◌⊎◌, [], AddsEntry, ap, AreKeys, AreOnce, arith, Bool, cond, CuckooWays, entries_in, Entry, false, has_key, In, In-append, In-left, In-right, inl, inr, IsTagWith, IsTagWithout, IsWritten, level_of, List, map, map-In, nat_tests, no-value, None, One, one_if, Option, Order, order-same, order_at, order_tags, refl, reworded, same-level, same-tests, same_order, slice_index, Some, subst, suc, sym, tags_in, tally, tally-same, true, value_of, values_in, ways-reworded, ways-without, ways_at, ways_of, WayShape, with_ways, with_word, without_entry, word_at, word_list, zero, ℕ}
+use Rattle.xl_cuckoo_walk.proofs.HolderLemmas.{tag-level, tag_with, values-before}
+use Rattle.xl_cuckoo_walk.proofs.IndexLemmas.{each-way, with-same}
 use Rattle.xl_cuckoo_walk.proofs.ValueLemmas.{tag-tally, tag_is, tally-tag, value-out}
 use Rattle.xl_model.specs.declared.address.Order.TheVariants as order
 
--- the ways of an order, and those of others
-pub with-same : (o : Order) (after : List WayShape) (ws : CuckooWays) → ways_of o (with_ways o after ws) ≡ after
-with-same order.K4 after ws = refl
-with-same order.M2 after ws = refl
-with-same order.G1 after ws = refl
-
-pub with-other : (q o : Order) (after : List WayShape) (ws : CuckooWays) → same_order q o ≡ false → ways_of q (with_ways o after ws) ≡ ways_of q ws
-with-other order.K4 order.K4 after ws h = absurd (cc)
-with-other order.K4 order.M2 after ws h = refl
-with-other order.K4 order.G1 after ws h = refl
-with-other order.M2 order.K4 after ws h = refl
-with-other order.M2 order.M2 after ws h = absurd (cc)
-with-other order.M2 order.G1 after ws h = refl
-with-other order.G1 order.K4 after ws h = refl
-with-other order.G1 order.M2 after ws h = refl
-with-other order.G1 order.G1 after ws h = absurd (cc)
-
-at-own : (o : Order) (after : List WayShape) (ws : CuckooWays) → ways_at (level_of o) (with_ways o after ws) ≡ after
-at-own order.K4 after ws = refl
-at-own order.M2 after ws = refl
-at-own order.G1 after ws = refl
-
-at-other : (n : ℕ) (o : Order) (after : List WayShape) (ws : CuckooWays) → (n ≡ level_of o → ⊥) → ways_at n (with_ways o after ws) ≡ ways_at n ws
-at-other zero order.K4 after ws h = absurd (h refl)
-at-other zero order.M2 after ws h = refl
-at-other zero order.G1 after ws h = refl
-at-other (suc zero) order.K4 after ws h = refl
-at-other (suc zero) order.M2 after ws h = absurd (h refl)
-at-other (suc zero) order.G1 after ws h = refl
-at-other (suc (suc zero)) order.K4 after ws h = refl
-at-other (suc (suc zero)) order.M2 after ws h = refl
-at-other (suc (suc zero)) order.G1 after ws h = absurd (h refl)
-at-other (suc (suc (suc n))) order.K4 after ws h = refl
-at-other (suc (suc (suc n))) order.M2 after ws h = refl
-at-other (suc (suc (suc n))) order.G1 after ws h = refl
-
--- the tag of an order's key
-abbrev pub tag_with : Order → ℕ → ℕ
-tag_with o key = level_of o * 2 ^ 60 + key
-
-tag-level : (o : Order) (key : ℕ) → key < 2 ^ 60 → tag_with o key / 2 ^ 60 ≡ level_of o
-tag-level order.K4 key h = omega arith
-tag-level order.M2 key h = omega arith
-tag-level order.G1 key h = omega arith
-
-tag-key : (o : Order) (key : ℕ) → key < 2 ^ 60 → tag_with o key % 2 ^ 60 ≡ key
-tag-key order.K4 key h = omega arith
-tag-key order.M2 key h = omega arith
-tag-key order.G1 key h = omega arith
-
 pub values-own : (o : Order) (key : ℕ) (after : List WayShape) (ws : CuckooWays) → key < 2 ^ 60 → values_in (with_ways o after ws) (tag_with o key) ≡ word_list (value_of key after)
-unfolding values_in
-values-own o key after ws low =
-    ap (λ n. word_list (value_of n (ways_at (tag_with o key / 2 ^ 60) (with_ways o after ws)))) (tag-key o key low)
-    ∙ ap (λ n. word_list (value_of key (ways_at n (with_ways o after ws)))) (tag-level o key low)
-    ∙ ap (λ us. word_list (value_of key us)) (at-own o after ws)
+values-own o key after ws low = values-before o key (with_ways o after ws) low ∙ ap (λ us. word_list (value_of key us)) (with-same o after ws)
 
-pub values-before : (o : Order) (key : ℕ) (ws : CuckooWays) → key < 2 ^ 60 → values_in ws (tag_with o key) ≡ word_list (value_of key (ways_of o ws))
-unfolding values_in
-values-before o key ws low =
-    ap (λ n. word_list (value_of n (ways_at (tag_with o key / 2 ^ 60) ws))) (tag-key o key low)
-    ∙ ap (λ n. word_list (value_of key (ways_at n ws))) (tag-level o key low)
-    ∙ ap (λ us. word_list (value_of key us)) (level-ways o ws)
+level-back : (n : ℕ) (o : Order) → order_at n ≡ Some o → n ≡ level_of o
+level-back zero o e = let q : order.K4 ≡ o = cc in ap level_of q
+level-back (suc zero) o e = let q : order.M2 ≡ o = cc in ap level_of q
+level-back (suc (suc zero)) o e = let q : order.G1 ≡ o = cc in ap level_of q
+level-back (suc (suc (suc n))) o e = absurd (cc)
+
+at-other : (q : Option Order) (o : Order) (after : List WayShape) (ws : CuckooWays) → (q ≡ Some o → ⊥) → ways_at q (with_ways o after ws) ≡ ways_at q ws
+at-other None o after ws h = refl
+at-other (Some q) o after ws h =
+    each-way (λ s w. (s ≡ o → ⊥) → w ≡ ways_of s ws) o after ws (λ n. absurd (n refl)) (λ s e n. refl) q (λ e. h (ap Some e))
 
 values-other : (t : ℕ) (o : Order) (after : List WayShape) (ws : CuckooWays) → (t / 2 ^ 60 ≡ level_of o → ⊥) → values_in (with_ways o after ws) t ≡ values_in ws t
 unfolding values_in
-values-other t o after ws h = ap (λ us. word_list (value_of (t % 2 ^ 60) us)) (at-other (t / 2 ^ 60) o after ws h)
+values-other t o after ws h =
+    ap (λ us. word_list (value_of (t % 2 ^ 60) us)) (at-other (order_at (t / 2 ^ 60)) o after ws (λ e. h (level-back (t / 2 ^ 60) o e)))
 
 -- where the words of all other keys stay
 pub record StaysBut (key : ℕ) (old new : List WayShape) : Type 0 where
@@ -123,30 +75,17 @@ tags-from t ws i = elim (In-append t (order_tags order.K4 ws.k4) (order_tags ord
 tags-by : (t : ℕ) (o : Order) (after : List WayShape) (ws : CuckooWays) → In t (tags_in (with_ways o after ws)) → In t (order_tags o after) ⊎ ((q : Order) × (same_order q o ≡ false) × In t (order_tags q (ways_of q ws)))
 tags-by t o after ws i =
     let found = tags-from t (with_ways o after ws) i in
-    let q : Order = found.0 in
-    elim (same_order q o) as (λ b. same_order q o ≡ b → In t (order_tags o after) ⊎ ((q : Order) × (same_order q o ≡ false) × In t (order_tags q (ways_of q ws)))) [
-      | true ↦ λ e.
-          let is : q ≡ o = orders-same q o e in
-          let j : In t (order_tags o (ways_of o (with_ways o after ws))) = subst (λ p. In t (order_tags p (ways_of p (with_ways o after ws)))) is found.1 in
-          inl (subst (λ us. In t (order_tags o us)) (with-same o after ws) j)
-      | false ↦ λ e. inr (q, e, subst (λ us. In t (order_tags q us)) (with-other q o after ws e) found.1)
-    ] refl
+    each-way (λ q w. In t (order_tags q w) → In t (order_tags o after) ⊎ ((s : Order) × (same_order s o ≡ false) × In t (order_tags s (ways_of s ws)))) o after ws
+    (λ j. inl j) (λ q e j. inr (q, e, j)) found.0 found.1
 
 tags-own : (t : ℕ) (o : Order) (after : List WayShape) (ws : CuckooWays) → In t (order_tags o after) → In t (tags_in (with_ways o after ws))
 tags-own t o after ws i = tags-to o t (with_ways o after ws) (subst (λ us. In t (order_tags o us)) (sym (with-same o after ws)) i)
-
-tags-rest : (t : ℕ) (q o : Order) (after : List WayShape) (ws : CuckooWays) → same_order q o ≡ false → In t (order_tags q (ways_of q ws)) → In t (tags_in (with_ways o after ws))
-tags-rest t q o after ws e i = tags-to q t (with_ways o after ws) (subst (λ us. In t (order_tags q us)) (sym (with-other q o after ws e)) i)
 
 -- an order's tags stay or not, and all others stay
 tags-map : (t : ℕ) (o : Order) (after : List WayShape) (ws : CuckooWays) → (In t (order_tags o (ways_of o ws)) → In t (order_tags o after)) → In t (tags_in ws) → In t (tags_in (with_ways o after ws))
 tags-map t o after ws f i =
     let found = tags-from t ws i in
-    let q : Order = found.0 in
-    elim (same_order q o) as (λ b. same_order q o ≡ b → In t (tags_in (with_ways o after ws))) [
-      | true ↦ λ e. tags-own t o after ws (f (subst (λ p. In t (order_tags p (ways_of p ws))) (orders-same q o e) found.1))
-      | false ↦ λ e. tags-rest t q o after ws e found.1
-    ] refl
+    tags-to found.0 t (with_ways o after ws) (each-way (λ q w. In t (order_tags q (ways_of q ws)) → In t (order_tags q w)) o after ws f (λ q e j. j) found.0 found.1)
 
 -- an entry comes
 pub tag-with : (o : Order) (x : Entry) (after : List WayShape) (ws : CuckooWays) → AddsEntry x (ways_of o ws) after → IsTagWith (tag_with o x.key) (tags_in ws) (tags_in (with_ways o after ws))

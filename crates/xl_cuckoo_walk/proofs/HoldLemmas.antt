@@ -1,83 +1,88 @@
 -- Tables and counts that hold leaves: when a leaf comes and when one goes.
-use Rattle.xl_cuckoo_walk.proofs.Common.{◌%◌, ◌&&◌, ◌*◌, ◌+◌, ◌<◌, ◌^◌, ◌∙◌, ◌≡◌, ◌≤◌, AddsEntry, aligned-frame, any-false, any-In, ap, AreHeld, AreKeys, AreOnce, AreTied, arith, Bool, counts_at, CountState, CuckooState, CuckooWays, Displaced, entries_in, Entry, false, has_fit, has_key, HoldsLeaves, In, In-any, In-keys, inserted, insertion, IsDropped, IsEntered, IsFit, IsLeafFor, IsLeft, IsNoted, IsPlaced, IsRoomy, IsRow, IsTied, keys-count, keys-In, keys-once, Leaf, leaf_entry, leaves_in, length, length-map, level_of, List, low, MadeWordsReadBack, map, meets_any, meets_block, Moves, nat_le, nat_tests, new-keys, None, once-added, once-cleared, One, one_if, Order, page_key, Placed, refl, row_state, RowParts, rules_in, SameRules, section_count, section_keys, sections_in, SectionsFresh, StaysBeside, subst, sym, table_of, tags_in, tally, true, value_of, values_in, ways-without, ways_in, ways_of, WayShape, with_leaf, with_table, with_ways, without-In, without_entry, without_leaf}
+use Rattle.xl_cuckoo_walk.proofs.Common.{◌<◌, ◌^◌, ◌∙◌, ◌≡◌, ◌≤◌, AddsEntry, aligned-frame, any-false, any-In, ap, AreFresh, AreHeld, AreKeys, AreOnce, AreTied, arith, Bool, Cached, counts_at, counts_of, CountState, CuckooState, CuckooWays, Displaced, entries_in, Entry, false, has_fit, has_key, HoldsLeaves, In, In-any, In-keys, inserted, insertion, IsDropped, IsEntered, IsFit, IsLeafFor, IsLeft, IsNoted, IsPlaced, IsRoomy, IsRow, IsTied, Item, keys-count, keys-In, keys-once, Large, Leaf, leaf_entry, leaves_in, length, length-map, level_of, List, low, MadeWordsReadBack, map, meets_any, meets_block, Middle, Moves, nat_le, nat_tests, new-keys, None, once-added, once-cleared, One, one_if, Order, order_of, page_key, Placed, plus, refl, row_state, RowParts, rules_by, rules_in, rules_of, section_count, section_keys, Size, size_in, StaysBeside, subst, sym, table_of, TableRules, Tables, tags_in, tally, true, value_of, values_in, ways-without, ways_in, ways_of, WayShape, with_counts, with_leaf, with_table, with_table_at, with_ways, without-In, without_entry, without_leaf, ℕ}
 use Rattle.xl_model_lemmas.proofs.OnceLemmas.{once-short}
-use Rattle.xl_cuckoo_walk.proofs.BitLemmas.{and-first, and-second}
-use Rattle.xl_cuckoo_walk.proofs.ChangeLemmas.{each-way, few-with, IsTableFor, rules-g1, rules-m2, ways-table, with-ways-in}
+use Rattle.xl_cuckoo_walk.proofs.IndexLemmas.{each-size, each-table, each-way, table-now, ways-table, with-ways-in}
 use Rattle.xl_cuckoo_walk.proofs.CountLemmas.{Apart, fits-is, place-is, roomy-is, tied-less, tied-with}
-use Rattle.xl_cuckoo_walk.proofs.RowLemmas.{free-value, held-known, key-low, leaves-known, put-leaf, take-leaf}
+use Rattle.xl_cuckoo_walk.proofs.RowLemmas.{free-value, key-low, leaves-known, put-leaf, take-leaf}
 use Rattle.xl_cuckoo_walk.proofs.ValueLemmas.{In-tally, tally-In}
 use Rattle.xl_model.specs.declared.address.Order.TheVariants as order
 
--- a row holds its leaves, and with fresh caches what holds leaves is a row
-pub row-holds : (p : RowParts) → IsRow p → HoldsLeaves p (leaves_in (ways_in p))
-row-holds p r = record {
-  held = r.held;
-  keys = r.keys;
-  once = r.once;
-  same_m2 = r.same_m2;
-  same_g1 = r.same_g1;
-  few = r.few;
-  middle = record { are = r.middle_are; within = r.middle_within; tied = r.middle_tied };
-  large = record { are = r.large_are; within = r.large_within; tied = r.large_tied };
+-- with fresh caches what holds leaves is a row
+pub holds-row : MadeWordsReadBack → (p : RowParts) (leaves : List Leaf) → HoldsLeaves p leaves → AreFresh p leaves → IsRow p
+holds-row back p leaves h fresh =
+    let is : leaves ≡ leaves_in (ways_in p) = sym (leaves-known back (ways_in p) leaves h.held) in
+    record { holds = subst (HoldsLeaves p) is h; fresh = subst (AreFresh p) is fresh }
+
+-- the parts with other cached sections hold what they held
+abbrev pub with_caches : Cached Item → Cached Item → RowParts → RowParts
+with_caches middle large p = record p { middle = record p.middle { cache = middle }; large = record p.large { cache = large } }
+
+pub holds-with-caches : (middle large : Cached Item) (p : RowParts) (leaves : List Leaf) → HoldsLeaves p leaves → HoldsLeaves (with_caches middle large p) leaves
+holds-with-caches middle large p leaves h = record {
+  held = h.held;
+  keys = h.keys;
+  once = h.once;
+  rules = h.rules;
+  few = h.few;
+  tied = each-size (λ z. AreTied (order_of z) leaves (counts_of (with_caches middle large p) z)) (h.tied Middle) (h.tied Large);
 }
 
-pub holds-row : MadeWordsReadBack → (p : RowParts) (leaves : List Leaf) → HoldsLeaves p leaves
-    → SectionsFresh order.M2 leaves p.m2.ways (sections_in p.middle_cache) → SectionsFresh order.G1 leaves p.g1.ways (sections_in p.large_cache) → IsRow p
-holds-row back p leaves h a b =
-    let ls : leaves_in (ways_in p) ≡ leaves = leaves-known back (ways_in p) leaves h.held in
-    record {
-      held = held-known back (ways_in p) leaves h.held;
-      keys = h.keys;
-      once = h.once;
-      same_m2 = h.same_m2;
-      same_g1 = h.same_g1;
-      few = h.few;
-      middle_are = h.middle.are;
-      large_are = h.large.are;
-      middle_within = h.middle.within;
-      large_within = h.large.within;
-      middle_tied = subst (λ xs. IsTied order.M2 xs p.middle.counts) (sym ls) h.middle.tied;
-      large_tied = subst (λ xs. IsTied order.G1 xs p.large.counts) (sym ls) h.large.tied;
-      middle_fresh = subst (λ xs. SectionsFresh order.M2 xs p.m2.ways (sections_in p.middle_cache)) (sym ls) a;
-      large_fresh = subst (λ xs. SectionsFresh order.G1 xs p.g1.ways (sections_in p.large_cache)) (sym ls) b;
-    }
-
 -- the parts with another table of an order, and other counts
-abbrev pub parts_now : Order → CuckooState → CountState → CountState → RowParts → RowParts
-parts_now o t middle large p = record (with_table o t p) { middle = middle; large = large }
+abbrev pub parts_now : Order → CuckooState → (Size → CountState) → RowParts → RowParts
+parts_now o t counts p = with_counts counts (with_table o t p)
 
-pub holds-changed : (p : RowParts) (before : List Leaf) → HoldsLeaves p before → (o : Order) (t : CuckooState) (leaves : List Leaf) → IsTableFor p o t leaves
-    → (middle large : CountState) → AreTied order.M2 leaves middle → AreTied order.G1 leaves large → HoldsLeaves (parts_now o t middle large p) leaves
-holds-changed p before h o t leaves is middle large a b =
-    let e : ways_in (with_table o t p) ≡ with_ways o t.ways (ways_in p) = with-ways-in o t p in
-    record {
-      held = subst (λ w. AreHeld One (values_in w) (tags_in w) leaves) (sym e) is.held;
-      keys = subst AreKeys (sym e) (each-way (λ w. (x : Entry) → In x (entries_in w) → x.key < 2 ^ 60) o t.ways (ways_in p) is.keys h.keys);
-      once = subst (λ (w : CuckooWays). (q : Order) → AreOnce (ways_of q w)) (sym e) (each-way AreOnce o t.ways (ways_in p) is.once h.once);
-      same_m2 = rules-m2 o t p h.same_m2 is.rules;
-      same_g1 = rules-g1 o t p h.same_g1 is.rules;
-      few = few-with o t p h.few is.rules;
-      middle = a;
-      large = b;
-    }
+-- a table that an order may have beside the others
+pub record IsTableFor (p : RowParts) (o : Order) (t : CuckooState) (leaves : List Leaf) : Type 0 where
+  pub held : AreHeld One (values_in (with_ways o t.ways (ways_in p))) (tags_in (with_ways o t.ways (ways_in p))) leaves
+  pub keys : (e : Entry) → In e (entries_in t.ways) → e.key < 2 ^ 60
+  pub once : AreOnce t.ways
+  pub rules : rules_of t ≡ rules_of (table_of o p)
 
-table-now : (o : Order) (t : CuckooState) (middle large : CountState) (p : RowParts) → table_of o (parts_now o t middle large p) ≡ t
-table-now order.K4 t middle large p = refl
-table-now order.M2 t middle large p = refl
-table-now order.G1 t middle large p = refl
+module _ (p : RowParts) (h : HoldsLeaves p (leaves_in (ways_in p))) (o : Order) where
+  rules-now : (t : CuckooState) → rules_of t ≡ rules_of (table_of o p) → (q : Order) → rules_of (table_of q (with_table o t p)) ≡ rules_of p.tables.k4
+  rules-now t same = each-table (λ q u. rules_of u ≡ rules_of p.tables.k4) o t p.tables (same ∙ h.rules o) (λ q e. h.rules q)
 
-pub beside-now : (o : Order) (t : CuckooState) (middle large : CountState) (p : RowParts) → SameRules (table_of o p) t → t.loads ≡ (table_of o p).loads → middle.room ≡ p.middle.room → large.room ≡ p.large.room
-    → StaysBeside p (parts_now o t middle large p)
-beside-now order.K4 t middle large p s l a b = record { rules = rw (s.threshold, s.kick_limit, s.migrate, a, b) refl; loads = rw l refl; middle_cache = refl; large_cache = refl }
-beside-now order.M2 t middle large p s l a b = record { rules = rw (a, b) refl; loads = rw l refl; middle_cache = refl; large_cache = refl }
-beside-now order.G1 t middle large p s l a b = record { rules = rw (a, b) refl; loads = rw l refl; middle_cache = refl; large_cache = refl }
+  pub holds-changed : (t : CuckooState) (leaves : List Leaf) → IsTableFor p o t leaves → (counts : Size → CountState)
+      → ((z : Size) → AreTied (order_of z) leaves (counts z)) → HoldsLeaves (parts_now o t counts p) leaves
+  holds-changed t leaves is counts tied =
+      let e : ways_in (with_table o t p) ≡ with_ways o t.ways (ways_in p) = with-ways-in o t p in
+      let rules : (q : Order) → rules_of (table_of q (with_table o t p)) ≡ rules_of p.tables.k4 = rules-now t is.rules in
+      record {
+        held = subst (λ w. AreHeld One (values_in w) (tags_in w) leaves) (sym e) is.held;
+        keys = subst AreKeys (sym e) (each-way (λ q w. (x : Entry) → In x (entries_in w) → x.key < 2 ^ 60) o t.ways (ways_in p) is.keys (λ q n. h.keys q));
+        once = subst (λ (w : CuckooWays). (q : Order) → AreOnce (ways_of q w)) (sym e) (each-way (λ q w. AreOnce w) o t.ways (ways_in p) is.once (λ q n. h.once q));
+        rules = λ q. rules q ∙ sym (rules order.K4);
+        few = subst (λ (r : TableRules). r.width ≤ 4) (sym (rules order.K4)) h.few;
+        tied = each-size (λ z. AreTied (order_of z) leaves (counts_of (parts_now o t counts p) z)) (tied Middle) (tied Large);
+      }
 
--- an insertion into a table is one by the rules of the row
-pub by-rules : (o : Order) (p : RowParts) (before : List Leaf) → HoldsLeaves p before → (x : Entry)
-    → insertion (rules_in p).kick_limit (rules_in p).migrate (rules_in p).threshold (ways_of o (ways_in p)) x ≡ inserted (table_of o p) x
-by-rules order.K4 p before h x = refl
-by-rules order.M2 p before h x = let s = h.same_m2 in rw (s.threshold, s.kick_limit, s.migrate) refl
-by-rules order.G1 p before h x = let s = h.same_g1 in rw (s.threshold, s.kick_limit, s.migrate) refl
+  pub beside-now : (t : CuckooState) → rules_of t ≡ rules_of (table_of o p) → t.loads ≡ (table_of o p).loads → (counts : Size → CountState)
+      → ((z : Size) → (counts z).room ≡ (counts_of p z).room) → StaysBeside p (parts_now o t counts p)
+  beside-now t same loads counts room =
+      let ts : Tables = with_table_at o t p.tables in
+      let each-loads : (q : Order) → (table_of q (with_table o t p)).loads ≡ (table_of q p).loads = each-table (λ q u. u.loads ≡ (table_of q p).loads) o t p.tables loads (λ q e. refl) in
+      record {
+        rules = ap (λ r. rules_by r (counts Middle).room (counts Large).room) (rules-now t same order.K4)
+            ∙ ap (λ n. rules_by (rules_of p.tables.k4) n (counts Large).room) (room Middle)
+            ∙ ap (rules_by (rules_of p.tables.k4) p.middle.counts.room) (room Large);
+        loads = ap (λ n. plus (plus n ts.m2.loads) ts.g1.loads) (each-loads order.K4)
+            ∙ ap (λ n. plus (plus p.tables.k4.loads n) ts.g1.loads) (each-loads order.M2)
+            ∙ ap (plus (plus p.tables.k4.loads p.tables.m2.loads)) (each-loads order.G1);
+        cache = each-size (λ z. (size_in z (parts_now o t counts p)).cache ≡ (size_in z p).cache) refl refl;
+      }
+
+  -- a key that some entry has
+  pub low-key : (key : ℕ) → 1 ≤ tally (has_key key) (entries_in (ways_of o (ways_in p))) → key < 2 ^ 60
+  low-key key some =
+      let d = In-tally (has_key key) (entries_in (ways_of o (ways_in p))) some in
+      let k : d.0.key ≡ key = (let q = d.2 in grind (arith, nat_tests)) in
+      subst (λ n. n < 2 ^ 60) k (h.keys o d.0 d.1)
+
+  -- an insertion into a table is one by the rules of the row
+  pub by-rules : (x : Entry) → insertion (rules_in p).kick_limit (rules_in p).migrate (rules_in p).threshold (ways_of o (ways_in p)) x ≡ inserted (table_of o p) x
+  by-rules x =
+      ap (λ (r : TableRules). insertion r.kick_limit r.migrate r.threshold (ways_of o (ways_in p)) x) (sym (h.rules o))
+      ∙ ap (λ ws. insertion (table_of o p).kick_limit (table_of o p).migrate (table_of o p).threshold ws x) (sym (ways-table o p))
 
 pub fit-leaf : (p : RowParts) (x : Leaf) → IsLeafFor (row_state p).shape x → IsFit x
 unfolding row_state
@@ -97,7 +102,11 @@ pub entry-key : (x : Leaf) → (leaf_entry x).key ≡ page_key x.order x.space x
 entry-key x = omega arith
 
 -- a leaf comes
-module _ (back : MadeWordsReadBack) (p : RowParts) (leaves : List Leaf) (h : HoldsLeaves p leaves) (x : Leaf) (fit : IsFit x) (free : meets_any x.space x.first x.order leaves ≡ false) where
+module _ (back : MadeWordsReadBack) (p : RowParts) (h : HoldsLeaves p (leaves_in (ways_in p))) (x : Leaf) (fit : IsFit x)
+    (free : meets_any x.space x.first x.order (leaves_in (ways_in p)) ≡ false) where
+  abbrev leaves : List Leaf
+  leaves = leaves_in (ways_in p)
+
   free-of : (y : Leaf) → In y leaves → meets_block x.space x.first x.order y ≡ false
   unfolding meets_any
   free-of y i = any-false (meets_block x.space x.first x.order) y leaves free i
@@ -154,12 +163,10 @@ module _ (back : MadeWordsReadBack) (p : RowParts) (leaves : List Leaf) (h : Hol
             let a = adds (has_key e.key) in
             let z : one_if (has_key e.key (leaf_entry x)) ≡ 0 = ap one_if f in
             let t = there in
-            let d = In-tally (has_key e.key) (entries_in (ways_of x.order (ways_in p))) (omega arith) in
-            let k : d.0.key ≡ e.key = (let q = d.2 in grind (arith, nat_tests)) in
-            subst (λ n. n < 2 ^ 60) k (h.keys x.order d.0 d.1)
+            low-key p h x.order e.key (omega arith)
 
-    same-rules : SameRules (table_of x.order p) table
-    same-rules = record { threshold = refl; kick_limit = refl; migrate = refl; width = width }
+    same-rules : rules_of table ≡ rules_of (table_of x.order p)
+    same-rules = ap (λ n. record (rules_of (table_of x.order p)) { width = n }) width
 
     is-table : IsTableFor p x.order table (with_leaf x leaves)
     is-table = record {
@@ -170,32 +177,17 @@ module _ (back : MadeWordsReadBack) (p : RowParts) (leaves : List Leaf) (h : Hol
     }
 
     -- what holds the leaves with it
-    pub holds-with : has_fit order.M2 x p.middle ≡ true → has_fit order.G1 x p.large ≡ true → (middle large : CountState) → IsNoted order.M2 x p.middle middle → IsNoted order.G1 x p.large large
-        → HoldsLeaves (parts_now x.order table middle large p) (with_leaf x leaves)
-    holds-with f g middle large a b =
-        holds-changed p leaves h x.order table (with_leaf x leaves) is-table middle large (noted order.M2 p.middle middle h.middle f a) (noted order.G1 p.large large h.large g b)
-
--- a leaf that came
-pub entered : MadeWordsReadBack → (p : RowParts) → IsRow p → (x : Leaf) → IsFit x → meets_any x.space x.first x.order (leaves_in (ways_in p)) ≡ false
-    → (has_fit order.M2 x p.middle && has_fit order.G1 x p.large) ≡ true → (after : List WayShape) (moved : List Displaced) (m : Moves) → inserted (table_of x.order p) (leaf_entry x) ≡ Placed after moved m
-    → AddsEntry (leaf_entry x) (table_of x.order p).ways after → length after ≡ length (table_of x.order p).ways
-    → (middle large : CountState) → IsNoted order.M2 x p.middle middle → IsNoted order.G1 x p.large large
-    → IsEntered x p (parts_now x.order (record (table_of x.order p) { ways = after; moved = moved }) middle large p) m
-entered back p r x fit free fits after moved m placed added width middle large a b =
-    let leaves : List Leaf = leaves_in (ways_in p) in
-    let h : HoldsLeaves p leaves = row-holds p r in
-    let f : has_fit order.M2 x p.middle ≡ true = and-first (has_fit order.M2 x p.middle) (has_fit order.G1 x p.large) fits in
-    let g : has_fit order.G1 x p.large ≡ true = and-second (has_fit order.M2 x p.middle) (has_fit order.G1 x p.large) fits in
-    let t : CuckooState = record (table_of x.order p) { ways = after; moved = moved } in
-    let is : table_of x.order (parts_now x.order t middle large p) ≡ t = table-now x.order t middle large p in
-    record {
-      holds = holds-with back p leaves h x fit free after moved m placed added width f g middle large a b;
-      beside = beside-now x.order t middle large p (record { threshold = refl; kick_limit = refl; migrate = refl; width = width }) refl a.room b.room;
-      middle_room = sym (room-leaf back p leaves h x fit free order.M2 p.middle h.middle) ∙ f;
-      large_room = sym (room-leaf back p leaves h x fit free order.G1 p.large h.large) ∙ g;
-      ways = with-ways-in x.order t p ∙ ap (λ (u : CuckooState). with_ways x.order u.ways (ways_in p)) (sym is);
-      placed = by-rules x.order p leaves h (leaf_entry x) ∙ placed ∙ ap (λ (u : CuckooState). Placed u.ways u.moved m) (sym is);
-    }
+    pub entered : ((z : Size) → has_fit (order_of z) x (counts_of p z) ≡ true) → (counts : Size → CountState)
+        → ((z : Size) → IsNoted (order_of z) x (counts_of p z) (counts z)) → IsEntered x p (parts_now x.order table counts p) m
+    entered fits counts notes =
+        let is : table_of x.order (parts_now x.order table counts p) ≡ table = table-now x.order table p.tables in
+        record {
+          holds = holds-changed p h x.order table (with_leaf x leaves) is-table counts (λ z. noted (order_of z) (counts_of p z) (counts z) (h.tied z) (fits z) (notes z));
+          beside = beside-now p h x.order table same-rules refl counts (λ z. (notes z).room);
+          room = λ z. sym (room-leaf (order_of z) (counts_of p z) (h.tied z)) ∙ fits z;
+          ways = with-ways-in x.order table p ∙ ap (λ (u : CuckooState). with_ways x.order u.ways (ways_in p)) (sym is);
+          placed = by-rules p h x.order (leaf_entry x) ∙ placed ∙ ap (λ (u : CuckooState). Placed u.ways u.moved m) (sym is);
+        }
 
 -- without a leaf there are no more sections
 fewer : (size : Order) (x : Leaf) (xs : List Leaf) → section_count size (without_leaf x.space x.first xs) ≤ section_count size xs
@@ -206,15 +198,18 @@ fewer size x xs =
     In-keys size k xs (In-any (counts_at size k) found.0 xs (without-In found.0 x.space x.first xs found.1) found.2))
 
 -- a leaf that went
-module _ (back : MadeWordsReadBack) (p : RowParts) (leaves : List Leaf) (h : HoldsLeaves p leaves) (x : Leaf) (there : In x leaves) where
+module _ (back : MadeWordsReadBack) (p : RowParts) (h : HoldsLeaves p (leaves_in (ways_in p))) (x : Leaf) (there : In x (leaves_in (ways_in p))) where
+  abbrev all_leaves : List Leaf
+  all_leaves = leaves_in (ways_in p)
+
   abbrev gone : CuckooState
   gone = record (table_of x.order p) { ways = map (without_entry (leaf_entry x).key) (table_of x.order p).ways }
 
   abbrev rest : List Leaf
-  rest = without_leaf x.space x.first leaves
+  rest = without_leaf x.space x.first all_leaves
 
-  out-rules : SameRules (table_of x.order p) gone
-  out-rules = record { threshold = refl; kick_limit = refl; migrate = refl; width = length-map (table_of x.order p).ways (without_entry (leaf_entry x).key) }
+  out-rules : rules_of gone ≡ rules_of (table_of x.order p)
+  out-rules = ap (λ n. record (rules_of (table_of x.order p)) { width = n }) (length-map (table_of x.order p).ways (without_entry (leaf_entry x).key))
 
   same-ways : map (without_entry (leaf_entry x).key) (ways_of x.order (ways_in p)) ≡ gone.ways
   same-ways = ap (λ ws. map (without_entry (leaf_entry x).key) ws) (sym (ways-table x.order p))
@@ -224,61 +219,41 @@ module _ (back : MadeWordsReadBack) (p : RowParts) (leaves : List Leaf) (h : Hol
       let own : has_key e.key e ≡ true = grind (arith, nat_tests) in
       let a = tally-In (has_key e.key) e (entries_in (map (without_entry (leaf_entry x).key) (ways_of x.order (ways_in p)))) i own in
       let w = ways-without (has_key e.key) (leaf_entry x).key (ways_of x.order (ways_in p)) (h.once x.order (leaf_entry x).key) in
-      let d = In-tally (has_key e.key) (entries_in (ways_of x.order (ways_in p))) (omega arith) in
-      let k : d.0.key ≡ e.key = (let q = d.2 in grind (arith, nat_tests)) in
-      subst (λ n. n < 2 ^ 60) k (h.keys x.order d.0 d.1)
+      low-key p h x.order e.key (omega arith)
 
   is-gone : IsTableFor p x.order gone rest
   is-gone =
       let P : List WayShape → Type 0 = λ ws. AreHeld One (values_in (with_ways x.order ws (ways_in p))) (tags_in (with_ways x.order ws (ways_in p))) rest in
       let K : List WayShape → Type 0 = λ ws. (e : Entry) → In e (entries_in ws) → e.key < 2 ^ 60 in
       record {
-        held = subst P same-ways (take-leaf back (ways_in p) leaves h.held h.once x there h.keys);
+        held = subst P same-ways (take-leaf back (ways_in p) all_leaves h.held h.once x there h.keys);
         keys = subst K same-ways keys-out;
         once = subst AreOnce same-ways (once-cleared (leaf_entry x).key (ways_of x.order (ways_in p)) (h.once x.order));
         rules = out-rules;
       }
 
-  dropped : (size : Order) (c d : CountState) → AreTied size leaves c → IsDropped size x.space x.first x.order c d → AreTied size rest d
+  dropped : (size : Order) (c d : CountState) → AreTied size all_leaves c → IsDropped size x.space x.first x.order c d → AreTied size rest d
   dropped size c d t n =
-      let tied : IsTied size rest d.counts = tied-less size x leaves c d h.held.sorted there t.tied n in
+      let tied : IsTied size rest d.counts = tied-less size x all_leaves c d h.held.sorted there t.tied n in
       record {
         are = n.are;
-        within = (let a = keys-count size rest d.counts n.are tied in let b = keys-count size leaves c.counts t.are t.tied in
-            let l = fewer size x leaves in let r = n.room in let w = t.within in omega arith);
+        within = (let a = keys-count size rest d.counts n.are tied in let b = keys-count size all_leaves c.counts t.are t.tied in
+            let l = fewer size x all_leaves in let r = n.room in let w = t.within in omega arith);
         tied = tied;
       }
 
-  holds-without : (middle large : CountState) → IsDropped order.M2 x.space x.first x.order p.middle middle → IsDropped order.G1 x.space x.first x.order p.large large
-      → HoldsLeaves (parts_now x.order gone middle large p) rest
-  holds-without middle large a b = holds-changed p leaves h x.order gone rest is-gone middle large (dropped order.M2 p.middle middle h.middle a) (dropped order.G1 p.large large h.large b)
-
   -- a leaf that went, by its own name
-  pub left-leaf : leaves_in (ways_in p) ≡ leaves → (middle large : CountState) → IsDropped order.M2 x.space x.first x.order p.middle middle → IsDropped order.G1 x.space x.first x.order p.large large
-      → IsLeft x.space x.first x.order p (parts_now x.order gone middle large p)
-  left-leaf same middle large a b = record {
-    holds = subst (λ ls. HoldsLeaves (parts_now x.order gone middle large p) (without_leaf x.space x.first ls)) (sym same) (holds-without middle large a b);
-    beside = beside-now x.order gone middle large p out-rules refl a.room b.room;
+  pub left-leaf : (counts : Size → CountState) → ((z : Size) → IsDropped (order_of z) x.space x.first x.order (counts_of p z) (counts z))
+      → IsLeft x.space x.first x.order p (parts_now x.order gone counts p)
+  left-leaf counts drops = record {
+    holds = holds-changed p h x.order gone rest is-gone counts (λ z. dropped (order_of z) (counts_of p z) (counts z) (h.tied z) (drops z));
+    beside = beside-now p h x.order gone out-rules refl counts (λ z. (drops z).room);
     ways = with-ways-in x.order gone p
         ∙ ap (λ ws. with_ways x.order (map (without_entry (leaf_entry x).key) ws) (ways_in p)) (ways-table x.order p)
         ∙ ap (λ k. with_ways x.order (map (without_entry k) (ways_of x.order (ways_in p))) (ways_in p)) (entry-key x);
-    moved = λ q. moved-now x.order q middle large;
+    moved = each-table (λ q u. u.moved ≡ (table_of q p).moved) x.order gone p.tables refl (λ q e. refl);
   }
-    where
-      moved-now : (o q : Order) (m l : CountState) → (table_of q (parts_now o (record (table_of o p) { ways = map (without_entry (leaf_entry x).key) (table_of o p).ways }) m l p)).moved ≡ (table_of q p).moved
-      moved-now order.K4 order.K4 m l = refl
-      moved-now order.K4 order.M2 m l = refl
-      moved-now order.K4 order.G1 m l = refl
-      moved-now order.M2 order.K4 m l = refl
-      moved-now order.M2 order.M2 m l = refl
-      moved-now order.M2 order.G1 m l = refl
-      moved-now order.G1 order.K4 m l = refl
-      moved-now order.G1 order.M2 m l = refl
-      moved-now order.G1 order.G1 m l = refl
 
 -- as many ways as the row has
-pub few-m2 : (p : RowParts) (leaves : List Leaf) → HoldsLeaves p leaves → length p.m2.ways ≤ 4
-few-m2 p leaves h = let f = h.few in let w = h.same_m2.width in omega arith
-
-pub few-g1 : (p : RowParts) (leaves : List Leaf) → HoldsLeaves p leaves → length p.g1.ways ≤ 4
-few-g1 p leaves h = let f = h.few in let w = h.same_g1.width in omega arith
+pub few-ways : (p : RowParts) (leaves : List Leaf) → HoldsLeaves p leaves → (o : Order) → length (table_of o p).ways ≤ 4
+few-ways p all h o = subst (λ (r : TableRules). r.width ≤ 4) (sym (h.rules o)) h.few

@@ -1,8 +1,9 @@
 -- The way that holds a key, and the word under a tag.
-use Rattle.xl_cuckoo_walk.proofs.Common.{◌%◌, ◌*◌, ◌+◌, ◌/◌, ◌<◌, ◌^◌, ◌∙◌, ◌∷◌, ◌≡◌, [], ap, arith, Bool, cond, CuckooWays, false, found_in, holder_from, is_held, is_some, leaf_read, leaf_said_by, length, level_of, List, None, none-read, One, Option, Order, pages_of, refl, slice_index, slot_of, Some, suc, sym, tag_of, true, value_of, values_in, way_at, ways_at, ways_of, WayShape, word_at, word_list, word_of, ℕ}
+use Rattle.xl_cuckoo_walk.proofs.Common.{◌%◌, ◌*◌, ◌+◌, ◌/◌, ◌<◌, ◌^◌, ◌∙◌, ◌∷◌, ◌≡◌, [], ap, arith, Bool, cond, CuckooWays, false, found_in, holder_from, is_held, is_some, leaf_read, leaf_said_by, length, level_of, List, None, none-read, One, Option, Order, order_at, pages_of, refl, slice_index, slot_of, Some, suc, sym, tag_of, true, value_of, values_in, way_at, ways_at, ways_of, WayShape, word_at, word_list, word_of, ℕ}
 use Rattle.std.specs.Option.{option_or}
 use Rattle.xl_cuckoo.proofs.LoopLemmas.{value-first}
 use Rattle.xl_way.proofs.WayLemmas.{held_by}
+use Rattle.xl_cuckoo_walk.proofs.IndexLemmas.{level-order}
 use Rattle.xl_model.specs.declared.address.Order.TheVariants as order
 
 -- the way that holds a key
@@ -37,24 +38,33 @@ holder i (w ∷ ways) key h = go (is_held w key) (word_of key w.entries) refl re
         }
     go false (Some n) t u e rest = let z : false ≡ true = sym t ∙ e ∙ ap (λ (q : Option ℕ). is_some q) u in absurd (cc)
 
--- the word under the tag of a page
-pub level-ways : (o : Order) (ws : CuckooWays) → ways_at (level_of o) ws ≡ ways_of o ws
-level-ways order.K4 ws = refl
-level-ways order.M2 ws = refl
-level-ways order.G1 ws = refl
+-- the tag of an order's key
+abbrev pub tag_with : Order → ℕ → ℕ
+tag_with o key = level_of o * 2 ^ 60 + key
 
-tag-parts : (o : Order) (s page : ℕ) → s < 64 → page < 2 ^ 45 → (tag_of 1 s o page / 2 ^ 60 ≡ level_of o) × (tag_of 1 s o page % 2 ^ 60 ≡ s * 2 ^ 45 + page / pages_of o)
-tag-parts order.K4 s page a b = (omega arith, omega arith)
-tag-parts order.M2 s page a b = (omega arith, omega arith)
-tag-parts order.G1 s page a b = (omega arith, omega arith)
+pub tag-level : (o : Order) (key : ℕ) → key < 2 ^ 60 → tag_with o key / 2 ^ 60 ≡ level_of o
+tag-level o key h = omega arith
+
+tag-key : (o : Order) (key : ℕ) → key < 2 ^ 60 → tag_with o key % 2 ^ 60 ≡ key
+tag-key o key h = omega arith
+
+pub values-before : (o : Order) (key : ℕ) (ws : CuckooWays) → key < 2 ^ 60 → values_in ws (tag_with o key) ≡ word_list (value_of key (ways_of o ws))
+unfolding values_in
+values-before o key ws low =
+    ap (λ n. word_list (value_of n (ways_at (order_at (tag_with o key / 2 ^ 60)) ws))) (tag-key o key low)
+    ∙ ap (λ n. word_list (value_of key (ways_at (order_at n) ws))) (tag-level o key low)
+    ∙ ap (λ q. word_list (value_of key (ways_at q ws))) (level-order o)
+
+-- the word under the tag of a page
+page-low : (o : Order) (s page : ℕ) → s < 64 → page < 2 ^ 45 → s * 2 ^ 45 + page / pages_of o < 2 ^ 60
+page-low order.K4 s page a b = omega arith
+page-low order.M2 s page a b = omega arith
+page-low order.G1 s page a b = omega arith
 
 pub values-at : (o : Order) (s page : ℕ) (ws : CuckooWays) → s < 64 → page < 2 ^ 45 → values_in ws (tag_of 1 s o page) ≡ word_list (value_of (s * 2 ^ 45 + page / pages_of o) (ways_of o ws))
-unfolding values_in
 values-at o s page ws a b =
-    let t = tag-parts o s page a b in
-    ap (λ n. word_list (value_of n (ways_at (tag_of 1 s o page / 2 ^ 60) ws))) t.1
-    ∙ ap (λ n. word_list (value_of (s * 2 ^ 45 + page / pages_of o) (ways_at n ws))) t.0
-    ∙ ap (λ us. word_list (value_of (s * 2 ^ 45 + page / pages_of o) us)) (level-ways o ws)
+    ap (λ n. values_in ws (tag_with o (s * 2 ^ 45 + n))) (let e : page / pages_of o / 1 ≡ page / pages_of o = omega arith in e)
+    ∙ values-before o (s * 2 ^ 45 + page / pages_of o) ws (page-low o s page a b)
 
 slot-zero : (n : ℕ) → 0 + n % 1 ≡ 0
 slot-zero n = omega arith

@@ -11,7 +11,7 @@ pub mod RowLemmas
 pub mod CountLemmas
 pub mod PurgeLemmas
 pub mod FenceLemmas
-pub mod ChangeLemmas
+pub mod IndexLemmas
 pub mod HoldLemmas
 pub mod WordsLemmas
 pub mod ComparedLemmas

@@ -1,6 +1,5 @@
 -- The leaf of a name, and the word that its key has.
 use Rattle.xl_cuckoo_walk.proofs.Common.{◌*◌, ◌+◌, ◌/◌, ◌<◌, ◌^◌, ◌∙◌, ◌≡◌, ap, arith, false, HoldsLeaves, In, is_leaf, is_some, IsNamed, IsRow, IsSome, Leaf, leaf_entry, leaf_named, leaf_word, leaves_in, MadeWordsReadBack, named-first, named-In, named-is, named-order, named-space, None, Option, Order, pages_of, Perm, refl, row_state, RowParts, slice_index, Some, subst, sym, true, value_of, ways_in, ways_of, word_list, ℕ}
-use Rattle.xl_cuckoo_walk.proofs.HoldLemmas.{row-holds}
 use Rattle.xl_cuckoo_walk.proofs.RowLemmas.{leaf-value, some-value}
 
 -- the leaf of a name, and the word that its key has
@@ -55,7 +54,7 @@ named-held back p r space first o h = go (leaf_named space first o (leaves_in (w
 
 pub named-leaf : MadeWordsReadBack → (p : RowParts) → IsRow p → (space first : ℕ) (o : Order) → IsNamed space first o (row_state p).leaves → NamedLeaf p space first o
 unfolding row_state
-named-leaf back p r space first o h = named-held back p (row-holds p r) space first o h
+named-leaf back p r space first o h = named-held back p r.holds space first o h
 
 -- what holds of the leaf's place holds of the name, and back
 pub by-name : (P : ℕ → ℕ → Order → Type 0) (p : RowParts) (space first : ℕ) (o : Order) (n : NamedLeaf p space first o) → P n.leaf.space n.leaf.first n.leaf.order → P space first o

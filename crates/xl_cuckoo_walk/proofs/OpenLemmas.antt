@@ -1,6 +1,7 @@
 -- A row that is opened: nothing is in its ways, no section is counted, and none is cached.
-use Rattle.xl_cuckoo_walk.proofs.Common.{◌%◌, ◌+◌, ◌/◌, ◌^◌, ◌∷◌, ◌≡◌, ◌≤◌, [], ap, AreCounts, AreHeld, arith, Count, count_of, CountState, CuckooState, CuckooWays, empty_cache, entries_in, find, get_or, has_key, In, inl, IsRow, IsTied, leaves_in, leaves_under, length, List, mapping_of, None, One, opening, opening_ways, Order, refl, row_state, RowParts, slice_index, subst, suc, sym, tags_in, tally, value_of, values_in, ways_at, ways_in, ways_of, WayShape, word_in, word_of as word_kept, word_list, zero, ℕ}
+use Rattle.xl_cuckoo_walk.proofs.Common.{◌%◌, ◌+◌, ◌/◌, ◌^◌, ◌∷◌, ◌≡◌, ◌≤◌, [], ap, AreCounts, AreHeld, AreTied, arith, Count, count_of, counts_of, CountState, CuckooState, CuckooWays, empty_cache, entries_in, find, get_or, has_key, In, inl, IsRow, IsTied, leaves_in, leaves_under, length, List, mapping_of, None, One, opening, opening_ways, Option, Order, order_at, order_of, parts_by, refl, row_state, RowParts, rules_of, sections_in, SectionsFresh, size_in, slice_index, Some, subst, sym, table_of, tags_in, tally, value_of, values_in, ways_at, ways_in, ways_of, WayShape, word_in, word_of as word_kept, word_list, ℕ}
 use Rattle.xl_cuckoo.proofs.TableLemmas.{opening-entries, opening-length}
+use Rattle.xl_cuckoo_walk.proofs.IndexLemmas.{each, each-size}
 use Rattle.xl_sections.specs.Counted.{word_of}
 use Rattle.xl_cuckoo_walk.specs.Openings.{opening_table}
 use Rattle.xl_model.specs.declared.address.Order.TheVariants as order
@@ -23,13 +24,11 @@ value-none key ways none = ap (λ es. word_in (find (has_key key) es)) none
 
 values-none : (ws : CuckooWays) → AreEmpty ws → (tag : ℕ) → values_in ws tag ≡ []
 unfolding values_in
-values-none ws none tag = ap word_list (at_level (tag / 2 ^ 60))
+values-none ws none tag = ap word_list (at_level (order_at (tag / 2 ^ 60)))
   where
-    at_level : (n : ℕ) → value_of (tag % 2 ^ 60) (ways_at n ws) ≡ None
-    at_level zero = value-none (tag % 2 ^ 60) ws.k4 (none order.K4)
-    at_level (suc zero) = value-none (tag % 2 ^ 60) ws.m2 (none order.M2)
-    at_level (suc (suc zero)) = value-none (tag % 2 ^ 60) ws.g1 (none order.G1)
-    at_level (suc (suc (suc n))) = value-none (tag % 2 ^ 60) [] refl
+    at_level : (q : Option Order) → value_of (tag % 2 ^ 60) (ways_at q ws) ≡ None
+    at_level None = value-none (tag % 2 ^ 60) [] refl
+    at_level (Some o) = value-none (tag % 2 ^ 60) (ways_of o ws) (none o)
 
 nothing-held : (values : ℕ → List ℕ) → ((tag : ℕ) → values tag ≡ []) → AreHeld One values [] []
 nothing-held values none = record {
@@ -55,37 +54,34 @@ tied-none size counts none key = ap (λ cs. count_of key cs) none
 -- the parts of a row that is opened
 abbrev pub opened : CuckooState → CountState → CountState → ℕ → ℕ → RowParts
 opened table middle large a b =
-    record { k4 = table; m2 = table; g1 = table; middle = middle; large = large; middle_cache = empty_cache a; large_cache = empty_cache b }
+    parts_by table table table middle large (empty_cache a) (empty_cache b)
 
 module _ (threshold limit migrate start cap count : ℕ) (middle large : CountState) (a b : ℕ) (no_middle : middle.counts ≡ []) (no_large : large.counts ≡ []) where
   abbrev pub parts : RowParts
   parts = opened (opening threshold limit migrate (opening_ways start cap 0 count)) middle large a b
 
   empty : AreEmpty (ways_in parts)
-  empty order.K4 = opening-entries start cap 0 count
-  empty order.M2 = opening-entries start cap 0 count
-  empty order.G1 = opening-entries start cap 0 count
+  empty = each (λ o. entries_in (ways_of o (ways_in parts)) ≡ []) (opening-entries start cap 0 count) (opening-entries start cap 0 count) (opening-entries start cap 0 count)
+
+  tied : (size : Order) (c : CountState) → c.counts ≡ [] → AreTied size (leaves_in (ways_in parts)) c
+  tied size c none = record {
+    are = subst AreCounts (sym none) (record { once = tt; some = λ c i. absurd i });
+    within = (let n : length c.counts ≡ 0 = ap (λ (cs : List Count). length cs) none in omega arith);
+    tied = subst (λ xs. IsTied size xs c.counts) (sym (leaves-none (ways_in parts) empty)) (tied-none size c.counts none);
+  }
 
   pub row-opened : count ≤ 4 → IsRow parts
   row-opened few = record {
-    held = held-none (ways_in parts) empty;
-    keys = λ o e i. absurd (subst (λ es. In e es) (empty o) i);
-    once = λ o key. let n : tally (has_key key) (entries_in (ways_of o (ways_in parts))) ≡ 0 = ap (λ es. tally (has_key key) es) (empty o) in omega arith;
-    same_m2 = record { threshold = refl; kick_limit = refl; migrate = refl; width = refl };
-    same_g1 = record { threshold = refl; kick_limit = refl; migrate = refl; width = refl };
-    few = (let n = opening-length start cap 0 count in omega arith);
-    middle_are = counts-none middle.counts no_middle;
-    large_are = counts-none large.counts no_large;
-    middle_within = (let n : length middle.counts ≡ 0 = ap (λ (cs : List Count). length cs) no_middle in omega arith);
-    large_within = (let n : length large.counts ≡ 0 = ap (λ (cs : List Count). length cs) no_large in omega arith);
-    middle_tied = subst (λ xs. IsTied order.M2 xs middle.counts) (sym (leaves-none (ways_in parts) empty)) (tied-none order.M2 middle.counts no_middle);
-    large_tied = subst (λ xs. IsTied order.G1 xs large.counts) (sym (leaves-none (ways_in parts) empty)) (tied-none order.G1 large.counts no_large);
-    middle_fresh = λ s i. absurd i;
-    large_fresh = λ s i. absurd i;
+    holds = record {
+      held = held-none (ways_in parts) empty;
+      keys = λ o e i. absurd (subst (λ es. In e es) (empty o) i);
+      once = λ o key. let n : tally (has_key key) (entries_in (ways_of o (ways_in parts))) ≡ 0 = ap (λ es. tally (has_key key) es) (empty o) in omega arith;
+      rules = each (λ o. rules_of (table_of o parts) ≡ rules_of parts.tables.k4) refl refl refl;
+      few = (let n = opening-length start cap 0 count in omega arith);
+      tied = each-size (λ z. AreTied (order_of z) (leaves_in (ways_in parts)) (counts_of parts z)) (tied order.M2 middle no_middle) (tied order.G1 large no_large);
+    };
+    fresh = each-size (λ z. SectionsFresh (order_of z) (leaves_in (ways_in parts)) (ways_of (order_of z) (ways_in parts)) (sections_in (size_in z parts).cache)) (λ s i. absurd i) (λ s i. absurd i);
   }
-    where
-      counts-none : (counts : List Count) → counts ≡ [] → AreCounts counts
-      counts-none counts none = subst AreCounts (sym none) (record { once = tt; some = λ c i. absurd i })
 
   pub state-opened : (few many : ℕ) (widths : List ℕ) → middle.room ≡ few → large.room ≡ many → widths ≡ a ∷ b ∷ []
       → row_state parts ≡ opening_table count start cap (record { threshold = threshold; kick_limit = limit; migrate = migrate; sections_2m = few; sections_1g = many }) widths

@@ -1,5 +1,5 @@
 -- The purge of a few keys is the definition's purge of all sections that a change makes stale.
-use Rattle.xl_cuckoo_walk.proofs.Common.{◌%◌, ◌&&◌, ◌++◌, ◌+◌, ◌/◌, ◌<◌, ◌==◌, ◌^◌, ◌||◌, ◌∙◌, ◌∷◌, ◌≡◌, ◌⊎◌, [], ap, arith, Bool, Cached, Count, CuckooWays, Displaced, drop, false, has_changed, In, In-map, inl, inr, is_old, IsPlaced, IsSorted, IsTied, Item, key_told, keys_from, Leaf, List, map, nat_tests, new_word, None, not, Option, Order, purged, refl, refreshed, same_bit, same_section, same_way, Section, section-after, section_by, section_in, section_key, section_of, sections-same, sections_in, SectionsFresh, slice_get, Some, subst, suc, sym, true, way_by, ways_of, without_items, zero, ℕ}
+use Rattle.xl_cuckoo_walk.proofs.Common.{◌%◌, ◌&&◌, ◌++◌, ◌+◌, ◌/◌, ◌<◌, ◌==◌, ◌^◌, ◌||◌, ◌∙◌, ◌∷◌, ◌≡◌, [], ap, arith, bit-same, Bool, both, Cached, Count, CuckooWays, Displaced, drop, false, has_changed, In, In-any, In-map, inl, inr, is_old, IsPlaced, IsSorted, IsTied, Item, key_told, keys_from, Leaf, List, list_any, map, nat_tests, new_word, None, not, Option, Order, purged, refl, refreshed, same_section, same_way, Section, section-after, section_by, section_in, section_key, section_of, sections-same, sections_in, SectionsFresh, slice_get, Some, subst, suc, sym, true, way_by, ways_of, without_items, zero, ℕ}
 use Rattle.xl_cuckoo_walk.proofs.BitLemmas.{written-is}
 
 -- one cut of several tests
@@ -41,63 +41,24 @@ purged-map p q (x ∷ xs) h =
     go true false e f g r = let z : true ≡ false = sym e ∙ g ∙ f in absurd (cc)
     go false true e f g r = let z : true ≡ false = sym f ∙ sym g ∙ e in absurd (cc)
 
--- what a key of the list says of an item, and what none of them says
-old-other : (k word : ℕ) (i : Item) → (i.tag == k) ≡ false → is_old k word i ≡ false
-old-other k word i e = ap (λ b. b && not (i.word == word)) e
+-- an item leaves where its tag is a key of the list, and its word is another
+absorbed : (a b : Bool) → (b || (a && b)) ≡ b
+absorbed a true = refl
+absorbed true false = refl
+absorbed false false = refl
 
-old-none : (word : ℕ → ℕ) (keys : List ℕ) (i : Item) → is_old i.tag (word i.tag) i ≡ false → old-any word keys i ≡ false
+old-any-is : (word : ℕ → ℕ) (keys : List ℕ) (i : Item) → old-any word keys i ≡ (list_any (λ k. i.tag == k) keys && is_old i.tag (word i.tag) i)
 unfolding old-any
-old-none word [] i n = refl
-old-none word (k ∷ ks) i n =
-    let on : old-any word ks i ≡ false = old-none word ks i n in
-    let first : is_old k (word k) i ≡ false =
-    elim (i.tag == k) as (λ b. (i.tag == k) ≡ b → is_old k (word k) i ≡ false) [
-      | true ↦ λ e. let q : i.tag ≡ k = grind (arith, nat_tests) in ap (λ t. is_old t (word t) i) (sym q) ∙ n
-      | false ↦ λ e. old-other k (word k) i e
-    ] refl in
-    ap (λ b. b || old-any word ks i) first ∙ on
-
-any-here : (word : ℕ → ℕ) (keys : List ℕ) (i : Item) → In i.tag keys → old-any word keys i ≡ is_old i.tag (word i.tag) i
-unfolding old-any
-any-here word [] i j = absurd j
-any-here word (k ∷ ks) i (inl q) = go (is_old i.tag (word i.tag) i) refl
-  where
-    here : is_old k (word k) i ≡ is_old i.tag (word i.tag) i
-    here = ap (λ t. is_old t (word t) i) (sym q)
-
-    go : (b : Bool) → is_old i.tag (word i.tag) i ≡ b → (is_old k (word k) i || old-any word ks i) ≡ is_old i.tag (word i.tag) i
-    go true e = ap (λ c. c || old-any word ks i) (here ∙ e) ∙ sym e
-    go false e = ap (λ c. c || old-any word ks i) (here ∙ e) ∙ old-none word ks i e ∙ sym e
-any-here word (k ∷ ks) i (inr j) =
-    let on : old-any word ks i ≡ is_old i.tag (word i.tag) i = any-here word ks i j in
-    elim (i.tag == k) as (λ b. (i.tag == k) ≡ b → (is_old k (word k) i || old-any word ks i) ≡ is_old i.tag (word i.tag) i) [
-      | true ↦ λ e. let q : i.tag ≡ k = grind (arith, nat_tests) in
-          ap (λ c. c || old-any word ks i) (ap (λ t. is_old t (word t) i) (sym q)) ∙ ap (λ c. is_old i.tag (word i.tag) i || c) on ∙ twice (is_old i.tag (word i.tag) i)
-      | false ↦ λ e. ap (λ c. c || old-any word ks i) (old-other k (word k) i e) ∙ on
-    ] refl
-  where
-    twice : (b : Bool) → (b || b) ≡ b
-    twice true = refl
-    twice false = refl
-
-any-not : (word : ℕ → ℕ) (keys : List ℕ) (i : Item) → (In i.tag keys → ⊥) → old-any word keys i ≡ false
-unfolding old-any
-any-not word [] i n = refl
-any-not word (k ∷ ks) i n =
-    elim (i.tag == k) as (λ b. (i.tag == k) ≡ b → (is_old k (word k) i || old-any word ks i) ≡ false) [
-      | true ↦ λ e. absurd (n (inl (grind (arith, nat_tests))))
-      | false ↦ λ e. ap (λ c. c || old-any word ks i) (old-other k (word k) i e) ∙ any-not word ks i (λ j. n (inr j))
-    ] refl
-
-In-or-not : (k : ℕ) (ks : List ℕ) → In k ks ⊎ (In k ks → ⊥)
-In-or-not k [] = inr (λ i. i)
-In-or-not k (m ∷ ks) =
-    elim (k == m) as (λ b. (k == m) ≡ b → In k (m ∷ ks) ⊎ (In k (m ∷ ks) → ⊥)) [
-      | true ↦ λ e. inl (inl (grind (arith, nat_tests)))
-      | false ↦ λ e. elim (In-or-not k ks) [
-        | inl i ↦ inl (inr i)
-        | inr n ↦ inr (λ i. elim i [ inl q ↦ absurd (grind (arith, nat_tests)) | inr j ↦ n j ])
-      ]
+old-any-is word [] i = refl
+old-any-is word (k ∷ ks) i =
+    let any : Bool = list_any (λ k. i.tag == k) ks in
+    let old : Bool = is_old i.tag (word i.tag) i in
+    let other : Bool = not (i.word == word k) in
+    ap (λ b. is_old k (word k) i || b) (old-any-is word ks i)
+    ∙ elim (i.tag == k) as (λ b. (i.tag == k) ≡ b → ((b && other) || (any && old)) ≡ ((b || any) && old)) [
+      | true ↦ λ e. let q : k ≡ i.tag = grind (arith, nat_tests) in
+          ap (λ b. b || (any && old)) (ap (λ b. b && other) (sym e) ∙ ap (λ t. is_old t (word t) i) q) ∙ absorbed any old
+      | false ↦ λ e. refl
     ] refl
 
 -- a word of a section is known by the section
@@ -122,16 +83,12 @@ word-inj tag v w e =
     let d : v / 8 ≡ w / 8 = way-inj (v / 8) (w / 8) (ap (λ (s : Section). s.way) e) in
     omega arith
 
-bit-self : (b : Bool) → same_bit b b ≡ true
-bit-self true = refl
-bit-self false = refl
-
 way-self : (w : Option ℕ) → same_way w w ≡ true
 way-self None = refl
 way-self (Some n) = grind (arith, nat_tests)
 
 section-self : (s : Section) → same_section s s ≡ true
-section-self s = rw (bit-self s.has_k4, bit-self s.has_m2, bit-self s.has_g1, way-self s.way) refl
+section-self s = rw (bit-same s.has_k4, bit-same s.has_m2, bit-same s.has_g1, way-self s.way) refl
 
 -- the code's test of an item is the definition's test of its section
 changed-is : (i : Item) (word : ℕ) (old new : Section) → section_in i ≡ old → section_by i.tag word ≡ new → is_old i.tag word i ≡ not (same_section old new)
@@ -187,14 +144,18 @@ module _ (size : Order) (before after : List Leaf) (ws now : CuckooWays) (old ne
       let s : N ≡ O = sym (after-is i.tag) ∙ ap (section_by i.tag) (same i.tag out) ∙ before-is i.tag in
       ap not (ap (same_section O) s ∙ section-self O)
 
+  here : (i : Item) → In i c.items → (b : Bool) → list_any (λ k. i.tag == k) keys ≡ b → (list_any (λ k. i.tag == k) keys && is_old i.tag (word i.tag) i) ≡ is_changed (section_in i)
+  here i j true e = ap (λ b. b && is_old i.tag (word i.tag) i) e ∙ exact i j
+  here i j false e =
+      let own : (i.tag == i.tag) ≡ true = grind (arith, nat_tests) in
+      ap (λ b. b && is_old i.tag (word i.tag) i) e ∙ sym (stays i (λ k. both (list_any (λ k. i.tag == k) keys) (In-any (λ k. i.tag == k) i.tag keys k own) e))
+
   -- what the code leaves in a cache is what the definition leaves
   pub purge-is : sections_in (refreshed word keys c) ≡ without_items is_changed (sections_in c)
   purge-is =
       ap sections_in (refreshed-any word keys c)
-      ∙ ap (λ xs. record { width = c.width; items = xs }) (purged-map (old-any word keys) is_changed c.items (λ i j. elim (In-or-not i.tag keys) [
-        | inl k ↦ any-here word keys i k ∙ exact i j
-        | inr n ↦ any-not word keys i n ∙ sym (stays i n)
-      ]))
+      ∙ ap (λ xs. record { width = c.width; items = xs })
+      (purged-map (old-any word keys) is_changed c.items (λ i j. old-any-is word keys i ∙ here i j (list_any (λ k. i.tag == k) keys) refl))
 
   pub fresh-now : SectionsFresh size after (ways_of size now) (sections_in (refreshed word keys c))
   fresh-now = subst (λ u. SectionsFresh size after (ways_of size now) u) (sym purge-is) (section-after size before ws after now (sections_in c) fresh)

@@ -1,9 +1,9 @@
 -- A leaf that moves: it is put at its new place, and then removed from its old one.
-use Rattle.xl_cuckoo_walk.proofs.Common.{◌%◌, ◌&&◌, ◌*◌, ◌++◌, ◌+◌, ◌/◌, ◌<◌, ◌^◌, ◌∙◌, ◌∷◌, ◌≡◌, ◌≤◌, [], ap, at_page, Bool, Cached, Change, changed, compared, covers, covers-meets, Cuckoo, CuckooRules, CuckooWays, Err, false, find, find-None, find-only, first-covered, frame-fits, has_room, HoldsLeaves, In, In-left, In-right, Insert, is_leaf, is_some, IsBlock, IsChange, IsEntered, IsFit, IsLeafFor, IsLeft, IsPage, IsRefused, IsRow, keys_from, keys_if, keys_moved, Leaf, leaf_at_page, leaf_entry, leaf_key, leaf_named, leaf_word, leaves_in, List, MadeWordsReadBack, map, meets_any, Moves, named-is, nat_le, None, Option, Order, page_key, plus, refl, Refused, Relocate, room_for, row_state, RowParts, rules_in, same_order, Section, section_count, sections_in, Some, stays-with, StaysBeside, subst, sym, table_of, TableState, true, ways_in, ways_of, ways_taken, with_both, with_leaf, with_new, with_ways, without_entry, without_leaf, without_old, ℕ}
+use Rattle.xl_cuckoo_walk.proofs.Common.{◌&&◌, ◌*◌, ◌++◌, ◌+◌, ◌<◌, ◌^◌, ◌∙◌, ◌≡◌, ap, at_page, Bool, Cached, Change, changed, compared, covers, covers-meets, Cuckoo, CuckooRules, CuckooWays, Err, false, find, find-None, find-only, first-covered, frame-fits, has_room, HoldsLeaves, In, In-left, In-right, Insert, is_leaf, is_some, IsBlock, IsChange, IsEntered, IsFit, IsLeafFor, IsLeft, IsNamed, IsPage, IsRefused, IsRow, keys_from, keys_if, keys_moved, Leaf, leaf_at_page, leaf_entry, leaf_key, leaf_named, leaf_word, leaves_in, List, loads_in, MadeWordsReadBack, map, meets_any, Moves, named-is, nat_le, None, Option, Order, order_of, page_key, page_keys, refl, Refused, Relocate, room_for, row_state, RowParts, rules_in, same_order, Section, section_count, sections_in, Size, Some, stays-with, StaysBeside, subst, sym, table_of, TableState, true, ways_in, ways_of, ways_taken, with_both, with_leaf, with_new, with_ways, without_entry, without_leaf, without_old, ℕ}
 use Rattle.xl_model_lemmas.proofs.SortedLemmas.{with-without}
-use Rattle.xl_cuckoo_walk.proofs.ComparedLemmas.{compared-row, compared-twice, ComparedRow, WordsStay}
-use Rattle.xl_cuckoo_walk.proofs.HoldLemmas.{apart-leaf, fit-leaf, free-now, row-holds}
-use Rattle.xl_cuckoo_walk.proofs.NamedLemmas.{by-name, named-held, NamedLeaf, to-name}
+use Rattle.xl_cuckoo_walk.proofs.ComparedLemmas.{both_keys, compared-row, compared-twice, ComparedRow, WordsStay}
+use Rattle.xl_cuckoo_walk.proofs.HoldLemmas.{apart-leaf, fit-leaf, free-now}
+use Rattle.xl_cuckoo_walk.proofs.NamedLemmas.{by-name, named-held, named-leaf, NamedLeaf, to-name}
 use Rattle.xl_cuckoo_walk.proofs.RowLemmas.{leaves-known}
 use Rattle.xl_cuckoo_walk.proofs.StepLemmas.{answered, entered-room, keys_entered, SteppedRow, words-entered, words-left}
 use Rattle.xl_cuckoo_walk.proofs.VerdictLemmas.{made, made_answer, refused-same, room-both, state_made}
@@ -15,7 +15,7 @@ unfolding leaf_at_page row_state
 named-found p r space first o n =
     let x : Leaf = n.leaf in
     let own : covers space first x ≡ true = by-name (λ s f w. covers s f x ≡ true) p space first o n (first-covered x) in
-    find-only (covers space first) x (leaves_in (ways_in p)) n.there own (λ y i c. sym (r.held.apart x y n.there i (covers-meets space first x y own c)))
+    find-only (covers space first) x (leaves_in (ways_in p)) n.there own (λ y i c. sym (r.holds.held.apart x y n.there i (covers-meets space first x y own c)))
 
 pub named-page : (p : RowParts) (space first : ℕ) (o : Order) → NamedLeaf p space first o → IsPage (row_state p).shape space first
 unfolding row_state
@@ -25,8 +25,10 @@ named-page p space first o n = record { space_in = n.space_in; page_in = n.page_
 pub same-leaf : (p : RowParts) (r : IsRow p) (space first : ℕ) (o : Order) (n : NamedLeaf p space first o) (found : Option Leaf) (old : Leaf) → found ≡ leaf_at_page space first (row_state p).leaves → found ≡ Some old → n.leaf ≡ old
 same-leaf p r space first o n found old e f = let s : Some n.leaf ≡ Some old = sym (named-found p r space first o n) ∙ sym e ∙ f in cc
 
-abbrev pub found-leaf : (p : RowParts) (r : IsRow p) (space first : ℕ) (o : Order) (n : NamedLeaf p space first o) (found : Option Leaf) (old : Leaf) → found ≡ leaf_at_page space first (row_state p).leaves → found ≡ Some old → NamedLeaf p space first o
-found-leaf p r space first o n found old e f =
+abbrev pub found-leaf : MadeWordsReadBack → (p : RowParts) (r : IsRow p) (space first : ℕ) (o : Order) → IsNamed space first o (row_state p).leaves → (found : Option Leaf) (old : Leaf)
+    → found ≡ leaf_at_page space first (row_state p).leaves → found ≡ Some old → NamedLeaf p space first o
+found-leaf back p r space first o named found old e f =
+    let n : NamedLeaf p space first o = named-leaf back p r space first o named in
     let s : n.leaf ≡ old = same-leaf p r space first o n found old e f in
     record {
       leaf = old;
@@ -70,11 +72,8 @@ module _ (back : MadeWordsReadBack) (p : RowParts) (r : IsRow p) (space first to
   abbrev command : Change
   command = Relocate space first to o
 
-  held : HoldsLeaves p leaves
-  held = row-holds p r
-
   fit-old : IsFit n.leaf
-  fit-old = r.held.fit n.leaf n.there
+  fit-old = r.holds.held.fit n.leaf n.there
 
   pub valid-new : IsLeafFor (row_state p).shape new
   valid-new =
@@ -92,7 +91,7 @@ module _ (back : MadeWordsReadBack) (p : RowParts) (r : IsRow p) (space first to
   fit = fit-leaf p new valid-new
 
   apart : (z : Leaf) → In z leaves → leaf_key z ≡ leaf_key new → ⊥
-  apart = apart-leaf back p leaves held new fit (free-now p new free-new)
+  apart = apart-leaf back p r.holds new fit (free-now p new free-new)
 
   -- it is refused
   pub moved-refused : (q : RowParts) (w : Refused) → IsRefused new p q w → IsChange command (row_state p) (Err w) (row_state q)
@@ -135,7 +134,7 @@ module _ (back : MadeWordsReadBack) (p : RowParts) (r : IsRow p) (space first to
       old-place e = apart n.leaf n.there (sym e)
 
       swapped : without_leaf n.leaf.space n.leaf.first (with_leaf new leaves) ≡ after
-      swapped = sym (with-without n.leaf.space n.leaf.first new leaves held.held.sorted old-place apart)
+      swapped = sym (with-without n.leaf.space n.leaf.first new leaves r.holds.held.sorted old-place apart)
 
       left-leaves : without_leaf space first (leaves_in (ways_in q)) ≡ after
       left-leaves = ap (without_leaf space first) between ∙ by-name (λ s f w. without_leaf s f (with_leaf new leaves) ≡ after) p space first o n swapped
@@ -144,12 +143,7 @@ module _ (back : MadeWordsReadBack) (p : RowParts) (r : IsRow p) (space first to
       holds = subst (HoldsLeaves last) left-leaves left.holds
 
       beside : StaysBeside p last
-      beside = record {
-        rules = left.beside.rules ∙ is.beside.rules;
-        loads = left.beside.loads ∙ is.beside.loads;
-        middle_cache = left.beside.middle_cache ∙ is.beside.middle_cache;
-        large_cache = left.beside.large_cache ∙ is.beside.large_cache;
-      }
+      beside = record { rules = left.beside.rules ∙ is.beside.rules; loads = left.beside.loads ∙ is.beside.loads; cache = λ z. left.beside.cache z ∙ is.beside.cache z }
 
       ways : ways_in last ≡ now
       ways =
@@ -157,55 +151,44 @@ module _ (back : MadeWordsReadBack) (p : RowParts) (r : IsRow p) (space first to
           left.ways ∙ ap (N (page_key o space first) o) is.ways ∙ ap (λ k. N k o came) (sym n.key_is) ∙ ap (λ w. N (leaf_entry n.leaf).key w came) (sym n.order_is)
 
       -- the keys of the sections that the move may change
-      abbrev keys : Order → List ℕ
-      keys size = (keys_moved size o last ++ page_key size space to ∷ []) ++ page_key size space first ∷ []
+      abbrev keys_there : Size → List ℕ
+      keys_there = both_keys (keys_moved o last) (page_keys space to)
 
-      keys-same : (size : Order) → keys_entered size new q ≡ keys_moved size o last ++ page_key size space to ∷ []
-      keys-same size =
-          by-name (λ s f w. keys_entered size new q ≡ keys_moved size w q ++ page_key size s to ∷ []) p space first o n refl
-          ∙ ap (λ ds. keys_if (same_order size o) (keys_from 0 ds) ++ page_key size space to ∷ []) (sym (left.moved size))
+      abbrev keys : Size → List ℕ
+      keys = both_keys keys_there (page_keys space first)
 
-      n2 : NamedLeaf q space first o
-      n2 = named-held back q holds-between space first o named-between
+      keys-same : (z : Size) → keys_entered new q z ≡ keys_there z
+      keys-same z =
+          by-name (λ s f w. keys_entered new q z ≡ both_keys (keys_moved w q) (page_keys s to) z) p space first o n refl
+          ∙ ap (λ ds. keys_if (same_order (order_of z) o) (keys_from 0 ds) ++ page_keys space to z) (sym (left.moved o))
 
-      words : WordsStay (keys order.M2) (keys order.G1) p last
-      words =
-          let a = words-entered back p q r new fit (free-now p new free-new) m is in
-          let b = words-left q last (leaves_in (ways_in q)) holds-between space first o n2 n2.there left left.holds in
-          record {
-            m2 = λ key out.
-                b.m2 key (λ i. out (In-right key (keys_moved order.M2 o last ++ page_key order.M2 space to ∷ []) (page_key order.M2 space first ∷ []) i))
-                ∙ a.m2 key (λ i. out (In-left key (keys_moved order.M2 o last ++ page_key order.M2 space to ∷ []) (page_key order.M2 space first ∷ []) (subst (In key) (keys-same order.M2) i)));
-            g1 = λ key out.
-                b.g1 key (λ i. out (In-right key (keys_moved order.G1 o last ++ page_key order.G1 space to ∷ []) (page_key order.G1 space first ∷ []) i))
-                ∙ a.g1 key (λ i. out (In-left key (keys_moved order.G1 o last ++ page_key order.G1 space to ∷ []) (page_key order.G1 space first ∷ []) (subst (In key) (keys-same order.G1) i)));
-          }
+      words : WordsStay keys p last
+      words z key out =
+          let named : NamedLeaf q space first o = named-held back q holds-between space first o named-between in
+          words-left q last holds-between space first o named left z key (λ i. out (In-right key (keys_there z) (page_keys space first z) i))
+          ∙ words-entered back p q r.holds new fit (free-now p new free-new) m is z key
+          (λ i. out (In-left key (keys_there z) (page_keys space first z) (subst (In key) (keys-same z) i)))
 
-      moved-row : SteppedRow command p (compared (keys order.M2) (keys order.G1) last) m
+      moved-row : SteppedRow command p (compared keys last) m
       unfolding row_state changed
       moved-row =
-          let c : ComparedRow p (compared (keys order.M2) (keys order.G1) last) after now = compared-row back p last r after holds beside (keys order.M2) (keys order.G1) words now ways in
-          let m2 : Cached Section = sections_in p.middle_cache in
-          let g1 : Cached Section = sections_in p.large_cache in
-          let loads : ℕ = plus (plus p.k4.loads p.m2.loads) p.g1.loads in
-          let F : Option Leaf → TableState = λ d. state_made (rules_in p) leaves (ways_in p) m2 g1 loads (with_new (at_page to d) (without_old d leaves)) (ways_taken command d came) in
+          let c : ComparedRow p (compared keys last) after now = compared-row p last r after holds beside keys words back now ways in
+          let m2 : Cached Section = sections_in p.middle.cache in
+          let g1 : Cached Section = sections_in p.large.cache in
+          let F : Option Leaf → TableState = λ d. state_made (rules_in p) leaves (ways_in p) m2 g1 (loads_in p.tables) (with_new (at_page to d) (without_old d leaves)) (ways_taken command d came) in
           let C : TableState → Type 0 = λ t. IsChange command (row_state p) (made_answer m2 g1 m t) t in
           let whole : C (F (leaf_named space first o leaves)) =
-          made command (rules_in p) leaves (ways_in p) m2 g1 loads new (table_of new.order q).ways (table_of new.order q).moved m (ap (at_page to) n.named)
+          made command (rules_in p) leaves (ways_in p) m2 g1 (loads_in p.tables) new (table_of new.order q).ways (table_of new.order q).moved m (ap (at_page to) n.named)
           (room-moved (rules_in p) (ways_in p) leaves space first to o n.leaf n.named ∙ entered-room p q new m is) is.placed in
           record {
             row = c.row;
             fewer = c.items;
-            changes = answered command p (compared (keys order.M2) (keys order.G1) last) m (state_made (rules_in p) leaves (ways_in p) m2 g1 loads after now) c.state (subst C (ap F n.named) whole);
+            changes = answered command p (compared keys last) m (state_made (rules_in p) leaves (ways_in p) m2 g1 (loads_in p.tables) after now) c.state (subst C (ap F n.named) whole);
           }
 
       -- what the code makes of it
-      pub moved-by : (one two end : RowParts) → one ≡ compared (keys_moved order.M2 o last) (keys_moved order.G1 o last) last → two ≡ compared (page_key order.M2 space to ∷ []) (page_key order.G1 space to ∷ []) one
-          → end ≡ compared (page_key order.M2 space first ∷ []) (page_key order.G1 space first ∷ []) two → SteppedRow command p end m
+      pub moved-by : (one two end : RowParts) → one ≡ compared (keys_moved o last) last → two ≡ compared (page_keys space to) one
+          → end ≡ compared (page_keys space first) two → SteppedRow command p end m
       moved-by one two end e f h =
-          let a : List ℕ = page_key order.M2 space to ∷ [] in
-          let b : List ℕ = page_key order.G1 space to ∷ [] in
-          let u : List ℕ = page_key order.M2 space first ∷ [] in
-          let v : List ℕ = page_key order.G1 space first ∷ [] in
-          let mid : two ≡ compared (keys_moved order.M2 o last ++ a) (keys_moved order.G1 o last ++ b) last = f ∙ ap (compared a b) e ∙ compared-twice (keys_moved order.M2 o last) (keys_moved order.G1 o last) a b last in
-          subst (λ z. SteppedRow command p z m) (sym (h ∙ ap (compared u v) mid ∙ compared-twice (keys_moved order.M2 o last ++ a) (keys_moved order.G1 o last ++ b) u v last)) moved-row
+          let mid : two ≡ compared keys_there last = f ∙ ap (compared (page_keys space to)) e ∙ compared-twice (keys_moved o last) (page_keys space to) last in
+          subst (λ z. SteppedRow command p z m) (sym (h ∙ ap (compared (page_keys space first)) mid ∙ compared-twice keys_there (page_keys space first) last)) moved-row

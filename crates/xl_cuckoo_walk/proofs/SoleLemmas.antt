@@ -1,12 +1,13 @@
 -- A walk of a page of which the sections in front leave one order alone.
-use Rattle.xl_cuckoo_walk.proofs.Common.{◌%◌, ◌*◌, ◌+◌, ◌-◌, ◌/◌, ◌<◌, ◌==◌, ◌^◌, ◌∙◌, ◌≡◌, ap, arith, Bool, Cached, CuckooState, false, filled, fills_m2, find, has_tag, hit_of, is_some, IsFrontIf, IsIn, IsRow, Item, Leaf, leaf_said_by, MadeWordsReadBack, nat_tests, new_word, None, Option, or_leaf, Order, pages_of, Plan, plan_of, probed, refl, RowParts, Some, subst, suc, sym, touched_in, true, value_by, way_by, ways_in, ways_of, word_of_item, ℕ}
-use Rattle.xl_cuckoo_walk.proofs.WalkLemmas.{IsWalked, large_key, middle_key, plan-inside, steps-walked}
-use Rattle.xl_cuckoo_walk.specs.Soles.{ArePlans}
+use Rattle.xl_cuckoo_walk.proofs.Common.{◌%◌, ◌-◌, ◌/◌, ◌<◌, ◌==◌, ◌^◌, ◌∙◌, ◌≡◌, ap, arith, Bool, by_size, Cached, CuckooState, false, filled, find, first_from, has_tag, hit_of, IsFrontIf, IsIn, IsRow, Item, Large, Leaf, leaf_said_by, List, MadeWordsReadBack, Middle, nat_tests, None, Option, or_leaf, Order, order_of, page_key, parts_by, Plan, plan_of, probed, refl, RowParts, Size, size_in, Some, subst, suc, sym, Tables, touched_in, true, value_by, way_by, ways_in, ways_of, WayShape, with_table, word_of_item, ℕ}
+use Rattle.xl_cuckoo_walk.proofs.IndexLemmas.{each, each-size}
+use Rattle.xl_cuckoo_walk.proofs.WalkLemmas.{cache_walked, fills_size, IsWalked, plan-inside, said_in, steps-walked}
+use Rattle.xl_cuckoo_walk.specs.Soles.{ArePlans, plans_by}
 use Rattle.xl_model.specs.declared.address.Order.TheVariants as order
 use Rattle.xl_cuckoo_walk.specs.declared.plan.Plan.TheVariants as plan
 
 -- how the orders are probed
-pub small-plans : (middle large : ℕ) → middle % 8 ≡ 1 → large % 2 ≡ 1 → ArePlans middle large plan.Every plan.Skip plan.Skip
+pub small-plans : (middle large : ℕ) → middle % 8 ≡ 1 → large % 2 ≡ 1 → ArePlans (by_size middle large) (plans_by plan.Every plan.Skip plan.Skip)
 unfolding plan_of
 small-plans middle large a b =
     let t : (middle % 2 == 1) ≡ true = grind (arith, nat_tests) in
@@ -14,15 +15,13 @@ small-plans middle large a b =
     let v : (middle / 2 % 2 == 1) ≡ false = grind (arith, nat_tests) in
     let w : (middle / 4 % 2 == 1) ≡ false = grind (arith, nat_tests) in
     record {
-      middle_some = omega arith;
-      large_some = omega arith;
-      k4_is = λ m l. rw (t, u) refl;
-      m2_is = λ m l. rw v refl;
-      g1_is = λ m l. rw w refl;
+      some = each-size (λ z. 0 < by_size middle large z) (omega arith) (omega arith);
+      are = each (λ o. (m l : ℕ) → plans_by plan.Every plan.Skip plan.Skip o ≡ plan_of o (hit_of m (Some middle)) (hit_of l (Some large)))
+          (λ m l. rw (t, u) refl) (λ m l. rw v refl) (λ m l. rw w refl);
     }
 
 pub middle-plans : (middle large : ℕ) → middle % 8 ≡ 2 → large / 2 % 2 ≡ 1 → (middle / 8 ≡ 0 → ⊥)
-    → ArePlans middle large plan.Skip (plan.At (middle / 8 - 1)) plan.Skip
+    → ArePlans (by_size middle large) (plans_by plan.Skip (plan.At (middle / 8 - 1)) plan.Skip)
 unfolding plan_of
 middle-plans middle large a b some =
     let t : (middle % 2 == 1) ≡ false = grind (arith, nat_tests) in
@@ -31,11 +30,9 @@ middle-plans middle large a b some =
     let w : (middle / 4 % 2 == 1) ≡ false = grind (arith, nat_tests) in
     let told : way_by (middle / 8) ≡ Some (middle / 8 - 1) = ap way_by {x = middle / 8} {y = suc (middle / 8 - 1)} (omega arith) in
     record {
-      middle_some = omega arith;
-      large_some = omega arith;
-      k4_is = λ m l. rw t refl;
-      m2_is = λ m l. rw (v, u, told) refl;
-      g1_is = λ m l. rw w refl;
+      some = each-size (λ z. 0 < by_size middle large z) (omega arith) (omega arith);
+      are = each (λ o. (m l : ℕ) → plans_by plan.Skip (plan.At (middle / 8 - 1)) plan.Skip o ≡ plan_of o (hit_of m (Some middle)) (hit_of l (Some large)))
+          (λ m l. rw t refl) (λ m l. rw (v, u, told) refl) (λ m l. rw w refl);
     }
 
 -- what is in front is found, and stays
@@ -50,78 +47,57 @@ or-none : (o : Option Leaf) → o ≡ or_leaf o None
 or-none None = refl
 or-none (Some x) = refl
 
-said-none : (o : Order) (s page : ℕ) → None ≡ leaf_said_by o s page None
-unfolding leaf_said_by
-said-none o s page = refl
+-- what the code knows of both sections
+pub both-fronts : (p : RowParts) (s page k2 k1 w2 w1 : ℕ) → k2 ≡ page_key order.M2 s page → k1 ≡ page_key order.G1 s page → IsFrontIf k2 w2 p.middle.cache.items → IsFrontIf k1 w1 p.large.cache.items
+    → (z : Size) → IsFrontIf (page_key (order_of z) s page) (by_size w2 w1 z) (size_in z p).cache.items
+both-fronts p s page k2 k1 w2 w1 e f a b =
+    each-size (λ z. IsFrontIf (page_key (order_of z) s page) (by_size w2 w1 z) (size_in z p).cache.items)
+    (subst (λ k. IsFrontIf k w2 p.middle.cache.items) e a) (subst (λ k. IsFrontIf k w1 p.large.cache.items) f b)
 
-abbrev plans : Plan → Plan → Plan → Order → Plan
-plans a b c order.K4 = a
-plans a b c order.M2 = b
-plans a b c order.G1 = c
-
-abbrev leaves : Option Leaf → Option Leaf → Option Leaf → Order → Option Leaf
-leaves a b c order.K4 = a
-leaves a b c order.M2 = b
-leaves a b c order.G1 = c
-
-each : (P : Order → Type 0) → P order.K4 → P order.M2 → P order.G1 → (o : Order) → P o
-each P a b c order.K4 = a
-each P a b c order.M2 = b
-each P a b c order.G1 = c
-
-module _ (back : MadeWordsReadBack) (p : RowParts) (r : IsRow p) (s page : ℕ) (space_in : s < 64) (page_in : page < 2 ^ 45) (w2 w1 : ℕ)
-    (middle_front : IsFrontIf (middle_key s page) w2 p.middle_cache.items) (large_front : IsFrontIf (large_key s page) w1 p.large_cache.items) where
-  abbrev saying : Plan → Plan → Plan → Order → Option Leaf
-  saying a b c o = leaf_said_by o s page (value_by (plans a b c o) (s * 2 ^ 45 + page / pages_of o) (ways_of o (ways_in p)))
+module _ (back : MadeWordsReadBack) (p : RowParts) (r : IsRow p) (s page : ℕ) (space_in : s < 64) (page_in : page < 2 ^ 45) (words : Size → ℕ)
+    (front : (z : Size) → IsFrontIf (page_key (order_of z) s page) (words z) (size_in z p).cache.items) where
+  in-front : (plans : Order → Plan) → ArePlans words plans → (z : Size)
+      → (Some (words z) ≡ word_of_item (find (has_tag (page_key (order_of z) s page)) (size_in z p).cache.items)) × (touched_in (page_key (order_of z) s page) (size_in z p).cache ≡ (size_in z p).cache)
+  in-front plans are z = fronted (page_key (order_of z) s page) (words z) (size_in z p).cache (are.some z) (front z)
 
   -- probes by what is in front are a walk
-  probed-walked : (a b c : Plan) → ArePlans w2 w1 a b c → (x y z found : Option Leaf) → x ≡ saying a b c order.K4 → y ≡ saying a b c order.M2 → z ≡ saying a b c order.G1
-      → found ≡ or_leaf x (or_leaf y z) → IsWalked p s page found 2 (record p { k4 = probed a p.k4; m2 = probed b p.m2; g1 = probed c p.g1 })
-  probed-walked a b c are x y z found x-is y-is z-is is =
-      let k2 : ℕ = middle_key s page in
-      let k1 : ℕ = large_key s page in
-      let f2 = fronted k2 w2 p.middle_cache are.middle_some middle_front in
-      let f1 = fronted k1 w1 p.large_cache are.large_some large_front in
-      let F2 : Cached Item = filled (fills_m2 found) (Some w2) k2 (new_word order.M2 k2 p.middle.counts (probed b p.m2).ways) (touched_in k2 p.middle_cache) in
-      let F1 : Cached Item = filled (is_some found) (Some w1) k1 (new_word order.G1 k1 p.large.counts (probed c p.g1).ways) (touched_in k1 p.large_cache) in
-      let e2 : F2 ≡ p.middle_cache = not-filled (fills_m2 found) w2 k2 _ (touched_in k2 p.middle_cache) ∙ f2.1 in
-      let e1 : F1 ≡ p.large_cache = not-filled (is_some found) w1 k1 _ (touched_in k1 p.large_cache) ∙ f1.1 in
-      let T : Cached Item → Cached Item → RowParts = λ u v. record p { k4 = probed a p.k4; m2 = probed b p.m2; g1 = probed c p.g1; middle_cache = u; large_cache = v } in
-      steps-walked back p r s page space_in page_in found 2 (record p { k4 = probed a p.k4; m2 = probed b p.m2; g1 = probed c p.g1 })
+  probed-walked : (plans : Order → Plan) → ArePlans words plans → (found : Option Leaf) → found ≡ first_from order.K4 (said_in p s page plans)
+      → IsWalked p s page found 2 (record p { tables = record { k4 = probed (plans order.K4) p.tables.k4; m2 = probed (plans order.M2) p.tables.m2; g1 = probed (plans order.G1) p.tables.g1 } })
+  probed-walked plans are found is =
+      let ts : Tables = record { k4 = probed (plans order.K4) p.tables.k4; m2 = probed (plans order.M2) p.tables.m2; g1 = probed (plans order.G1) p.tables.g1 } in
+      let hits : Size → Option ℕ = λ z. Some (words z) in
+      let stays : (z : Size) (ways : List WayShape) → cache_walked p s page found hits z ways ≡ (size_in z p).cache =
+      λ z ways. not-filled (fills_size z found) (words z) (page_key (order_of z) s page) _ (touched_in (page_key (order_of z) s page) (size_in z p).cache) ∙ (in-front plans are z).1 in
+      let T : Cached Item → Cached Item → RowParts = λ u v. parts_by ts.k4 ts.m2 ts.g1 p.middle.counts p.large.counts u v in
+      steps-walked back p r s page space_in page_in found 2 (record p { tables = ts })
       (record {
-        middle = Some w2;
-        large = Some w1;
-        plans = plans a b c;
-        leaves = leaves x y z;
-        middle_is = f2.0;
-        large_is = f1.0;
-        plans_are = each (λ o. plans a b c o ≡ plan_of o (hit_of k2 (Some w2)) (hit_of k1 (Some w1))) (are.k4_is k2 k1) (are.m2_is k2 k1) (are.g1_is k2 k1);
-        leaves_are = each (λ o. leaves x y z o ≡ saying a b c o) x-is y-is z-is;
+        words = hits;
+        plans = plans;
+        words_are = λ z. (in-front plans are z).0;
+        plans_are = λ o. are.are o (page_key order.M2 s page) (page_key order.G1 s page);
         found_is = is;
         hits_are = refl;
-        after_is = sym (ap (λ u. T u F1) e2 ∙ ap (T p.middle_cache) e1);
+        after_is = sym (ap (λ u. T u (cache_walked p s page found hits Large ts.g1.ways)) (stays Middle ts.m2.ways) ∙ ap (T p.middle.cache) (stays Large ts.g1.ways));
       })
 
   -- of a page of 4 KiB
-  pub small-walked : ArePlans w2 w1 plan.Every plan.Skip plan.Skip → (leaf : Option Leaf) (t : CuckooState)
-      → leaf ≡ leaf_said_by order.K4 s page (value_by plan.Every (s * 2 ^ 45 + page / pages_of order.K4) p.k4.ways) → t ≡ probed plan.Every p.k4
-      → IsWalked p s page leaf 2 (record p { k4 = t })
+  pub small-walked : ArePlans words (plans_by plan.Every plan.Skip plan.Skip) → (leaf : Option Leaf) (t : CuckooState)
+      → leaf ≡ leaf_said_by order.K4 s page (value_by plan.Every (page_key order.K4 s page) p.tables.k4.ways) → t ≡ probed plan.Every p.tables.k4
+      → IsWalked p s page leaf 2 (with_table order.K4 t p)
+  unfolding leaf_said_by
   small-walked are leaf t is after =
-      subst (λ u. IsWalked p s page leaf 2 (record p { k4 = u })) (sym after)
-      (probed-walked plan.Every plan.Skip plan.Skip are leaf None None leaf is (said-none order.M2 s page) (said-none order.G1 s page) (or-none leaf))
+      subst (λ u. IsWalked p s page leaf 2 (with_table order.K4 u p)) (sym after) (probed-walked (plans_by plan.Every plan.Skip plan.Skip) are leaf (or-none leaf ∙ ap (λ o. or_leaf o None) is))
 
   -- of a leaf of 2 MiB
-  pub middle-walked : (way : ℕ) → ArePlans w2 w1 plan.Skip (plan.At way) plan.Skip → (leaf : Option Leaf) (t : CuckooState)
-      → leaf ≡ leaf_said_by order.M2 s page (value_by (plan.At way) (s * 2 ^ 45 + page / pages_of order.M2) p.m2.ways) → t ≡ probed (plan.At way) p.m2
-      → IsWalked p s page leaf 2 (record p { m2 = t })
+  pub middle-walked : (way : ℕ) → ArePlans words (plans_by plan.Skip (plan.At way) plan.Skip) → (leaf : Option Leaf) (t : CuckooState)
+      → leaf ≡ leaf_said_by order.M2 s page (value_by (plan.At way) (page_key order.M2 s page) p.tables.m2.ways) → t ≡ probed (plan.At way) p.tables.m2
+      → IsWalked p s page leaf 2 (with_table order.M2 t p)
+  unfolding leaf_said_by
   middle-walked way are leaf t is after =
-      subst (λ u. IsWalked p s page leaf 2 (record p { m2 = u })) (sym after)
-      (probed-walked plan.Skip (plan.At way) plan.Skip are None leaf None leaf (said-none order.K4 s page) is (said-none order.G1 s page) (or-none leaf))
+      subst (λ u. IsWalked p s page leaf 2 (with_table order.M2 u p)) (sym after) (probed-walked (plans_by plan.Skip (plan.At way) plan.Skip) are leaf (or-none leaf ∙ ap (λ o. or_leaf o None) is))
 
   -- the way of a leaf of 2 MiB is there
-  pub middle-inside : (way : ℕ) → ArePlans w2 w1 plan.Skip (plan.At way) plan.Skip → IsIn (plan.At way) (ways_of order.M2 (ways_in p))
+  pub middle-inside : (way : ℕ) → ArePlans words (plans_by plan.Skip (plan.At way) plan.Skip) → IsIn (plan.At way) (ways_of order.M2 (ways_in p))
   middle-inside way are =
-      plan-inside back p r s page space_in page_in order.M2 (plan.At way) (Some w2) (Some w1)
-      (fronted (middle_key s page) w2 p.middle_cache are.middle_some middle_front).0
-      (fronted (large_key s page) w1 p.large_cache are.large_some large_front).0
-      (are.m2_is (middle_key s page) (large_key s page))
+      plan-inside back p r s page space_in page_in order.M2 (plan.At way) (λ z. Some (words z)) (λ z. (in-front (plans_by plan.Skip (plan.At way) plan.Skip) are z).0)
+      (are.are order.M2 (page_key order.M2 s page) (page_key order.G1 s page))

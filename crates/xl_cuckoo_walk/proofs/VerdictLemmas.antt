@@ -46,13 +46,11 @@ module _ (c : Change) (rules : CuckooRules) (leaves : List Leaf) (ws : CuckooWay
       }
 
   -- it is made, with the precise purge
-  pub made : (x : Leaf) (after : List WayShape) (moved : List Displaced) (m : Moves) → brought c leaves ≡ Some x → has_room c leaves shape ≡ true → placed_leaf rules ws x ≡ Placed after moved m →
-      let t = state_made rules leaves ws m2 g1 loads (changed c leaves) (ways_taken c (old_leaf c leaves) (with_ways x.order after ws)) in
+  made-by : (now : CuckooWays) (m : Moves) → verdict c before ≡ Made → widened (brought c leaves) shape ≡ Cuckoo rules now → moves_made (brought c leaves) shape ≡ m →
+      let t = state_made rules leaves ws m2 g1 loads (changed c leaves) (ways_taken c (old_leaf c leaves) now) in
       IsChange c before (made_answer m2 g1 m t) t
-  unfolding table_after table_answer verdict table_made shape_after caches_purged
-  made x after moved m b h p =
-      let v : verdict_by (has_room c leaves shape) (finds_place (brought c leaves) shape) ≡ Made =
-      ap (λ k. verdict_by k (finds_place (brought c leaves) shape)) h ∙ ap (λ o. verdict_by true (finds_place o shape)) b ∙ ap (λ q. verdict_by true (is_placed q)) p in
+  unfolding table_after table_answer table_made shape_after caches_purged
+  made-by now m v w n =
       let F : Shape → TableState = λ s. record {
         leaves = changed c leaves;
         shape = narrowed c leaves s;
@@ -61,28 +59,25 @@ module _ (c : Change) (rules : CuckooRules) (leaves : List Leaf) (ws : CuckooWay
       } in
       let W : Moves → Shape → Result Work Refused = λ n s. Ok (work_of n (entries_in (SectionCaches m2 g1) - entries_in (F s).caches)) in
       record {
-        answer = sym (ap (λ u. answer_by u c before) v ∙ ap (λ o. W (moves_made o shape) (widened o shape)) b ∙ ap (λ q. W (moves_of q) (Cuckoo rules (with_ways x.order (ways_placed q) ws))) p);
-        after = sym (ap (λ u. after_by u c before) v ∙ ap (λ o. F (widened o shape)) b ∙ ap (λ q. F (Cuckoo rules (with_ways x.order (ways_placed q) ws))) p);
+        answer = sym (ap (λ u. answer_by u c before) v ∙ ap (λ k. W k (widened (brought c leaves) shape)) n ∙ ap (W m) w);
+        after = sym (ap (λ u. after_by u c before) v ∙ ap F w);
       }
+
+  pub made : (x : Leaf) (after : List WayShape) (moved : List Displaced) (m : Moves) → brought c leaves ≡ Some x → has_room c leaves shape ≡ true → placed_leaf rules ws x ≡ Placed after moved m →
+      let t = state_made rules leaves ws m2 g1 loads (changed c leaves) (ways_taken c (old_leaf c leaves) (with_ways x.order after ws)) in
+      IsChange c before (made_answer m2 g1 m t) t
+  unfolding verdict
+  made x after moved m b h p =
+      made-by (with_ways x.order after ws) m
+      (ap (λ k. verdict_by k (finds_place (brought c leaves) shape)) h ∙ ap (λ o. verdict_by true (finds_place o shape)) b ∙ ap (λ q. verdict_by true (is_placed q)) p)
+      (ap (λ o. widened o shape) b ∙ ap (λ q. Cuckoo rules (with_ways x.order (ways_placed q) ws)) p) (ap (λ o. moves_made o shape) b ∙ ap moves_of p)
 
   -- no leaf comes, so nothing refuses it
   pub taken : brought c leaves ≡ None →
       let t = state_made rules leaves ws m2 g1 loads (changed c leaves) (ways_taken c (old_leaf c leaves) ws) in
       IsChange c before (made_answer m2 g1 no_moves t) t
-  unfolding table_after table_answer verdict has_room table_made shape_after caches_purged
-  taken b =
-      let v : verdict_by (has_room c leaves shape) (finds_place (brought c leaves) shape) ≡ Made = ap (λ o. verdict_by (room_for o c leaves shape) (finds_place o shape)) b in
-      let F : Shape → TableState = λ s. record {
-        leaves = changed c leaves;
-        shape = narrowed c leaves s;
-        caches = caches_purged c leaves shape (narrowed c leaves s) (SectionCaches m2 g1);
-        loads = loads;
-      } in
-      let W : Moves → Shape → Result Work Refused = λ n s. Ok (work_of n (entries_in (SectionCaches m2 g1) - entries_in (F s).caches)) in
-      record {
-        answer = sym (ap (λ u. answer_by u c before) v ∙ ap (λ o. W (moves_made o shape) (widened o shape)) b);
-        after = sym (ap (λ u. after_by u c before) v ∙ ap (λ o. F (widened o shape)) b);
-      }
+  unfolding verdict has_room
+  taken b = made-by ws no_moves (ap (λ o. verdict_by (room_for o c leaves shape) (finds_place o shape)) b) (ap (λ o. widened o shape) b) (ap (λ o. moves_made o shape) b)
 
 -- a leaf that comes, alone or from another place, is refused for the same reasons
 pub refused-same : (c : Change) (x : Leaf) (t n : TableState) (r : Refused) → brought c t.leaves ≡ Some x → has_room c t.leaves t.shape ≡ has_room (Insert x) t.leaves t.shape → IsChange (Insert x) t (Err r) n → IsChange c t (Err r) n

@@ -1,9 +1,11 @@
 -- A walk, step by step, is the definition's.
-use Rattle.xl_cuckoo_walk.proofs.Common.{◌%◌, ◌*◌, ◌+◌, ◌/◌, ◌<◌, ◌^◌, ◌∙◌, ◌≡◌, ◌≤◌, ap, arith, Bool, Cached, Count, covers, CuckooState, CuckooWays, false, filled, fills_m2, find, find-In, find-none, find-passes, find-some, has_leaves, has_tag, hit_of, In, is_page_section, is_section, is_some, IsIn, IsPage, IsPlaced, IsRow, IsWalk, Item, Leaf, leaf_at_page, leaf_said_by, leaves_in, length, level-low, level_of, List, loads_by, MadeWordsReadBack, map, new_word, newest-map, None, not, one_if, only, only-first, Option, or_leaf, Order, page-found, pages_of, Plan, plan_of, plus, probed, probes, refl, row_state, RowParts, same_order, Section, section-some, section-walked, section_after, section_by, section_in, section_of_page, SectionCaches, sections_in, SectionsFresh, small-block, Some, subst, sym, table_walked, TableState, touched-map, touched-none, touched_in, true, value_by, walk_answer, walked, ways_in, ways_of, with_newest, word_of_item, ℕ}
+use Rattle.xl_cuckoo_walk.proofs.Common.{◌%◌, ◌*◌, ◌+◌, ◌/◌, ◌<◌, ◌^◌, ◌∙◌, ◌≡◌, ◌≤◌, ap, AreTied, arith, Bool, by_size, Cached, Count, counts_of, covers, CuckooState, CuckooWays, false, filled, fills_m2, find, find-In, find-passes, first_from, has_leaves, has_tag, hit_of, In, is_page_section, is_section, is_some, IsIn, IsPage, IsPlaced, IsRow, IsWalk, Item, Large, Leaf, leaf_at_page, leaf_said_by, leaves_in, length, level-low, level_of, List, loads_by, loads_in, MadeWordsReadBack, map, Middle, new_word, newest-map, None, not, one_if, only, only-first, Option, Order, order_of, page-found, page_key, pages_of, parts_by, Plan, plan_of, plus, probed, probes, refl, row_state, RowParts, rules_of, same_order, Section, section-some, section-walked, section_after, section_by, section_in, section_of_page, SectionCaches, sections_in, SectionsFresh, Size, size_in, small-block, Some, subst, sym, table_of, table_walked, TableRules, TableState, touched, touched-map, touched-none, touched_in, true, value_by, walk_answer, walked, ways_in, ways_of, WayShape, with_newest, word_of_item, ℕ}
 use Rattle.xl_model.specs.declared.work.Walk.{Walk}
 use Rattle.xl_model_lemmas.specs.Mappings.{IsFound}
 use Rattle.xl_cuckoo_walk.proofs.BitLemmas.{written-is}
 use Rattle.xl_cuckoo_walk.proofs.CodeLemmas.{hit-is, tag-same}
+use Rattle.xl_cuckoo_walk.proofs.HoldLemmas.{few-ways}
+use Rattle.xl_cuckoo_walk.proofs.IndexLemmas.{each, each-size, ways-table}
 use Rattle.xl_cuckoo_walk.proofs.PlanLemmas.{AreHits, hit-fresh, IsPlanned, planned}
 use Rattle.xl_model.specs.declared.address.Order.TheVariants as order
 use Rattle.xl_cuckoo_walk.specs.declared.plan.Plan.TheVariants as plan
@@ -13,37 +15,27 @@ cache-after : (size : Order) (s page : ℕ) (leaves : List Leaf) (ws : CuckooWay
     → section_by (s * 2 ^ 45 + page / pages_of size) word ≡ section_of_page size s page leaves ws
     → sections_in (filled fills (word_of_item (find (has_tag (s * 2 ^ 45 + page / pages_of size)) c.items)) (s * 2 ^ 45 + page / pages_of size) word (touched_in (s * 2 ^ 45 + page / pages_of size) c))
     ≡ section_after size s page leaves ws fills (find (is_page_section size s page) (sections_in c).items) (sections_in c)
-cache-after size s page leaves ws fills word c h e = go (find (has_tag tag) c.items) refl fills
+cache-after size s page leaves ws fills word c h e =
+    go (find (has_tag tag) c.items) refl fills ∙ ap (λ q. section_after size s page leaves ws fills q (sections_in c)) (hit-is s (page / pages_of size) (small-block size page h) c.items)
   where
     tag : ℕ
     tag = s * 2 ^ 45 + page / pages_of size
 
-    test : Section → Bool
-    test = is_section s (page / pages_of size)
-
-    same : (i : Item) → has_tag tag i ≡ test (section_in i)
-    same = tag-same s (page / pages_of size) (small-block size page h)
-
-    with : List Item → Cached Section
-    with items = record { width = c.width; items = map section_in items }
-
     mine : List Section → Cached Section
     mine items = record { width = c.width; items = items }
 
+    moved : map section_in (touched (has_tag tag) c.items) ≡ touched (is_section s (page / pages_of size)) (map section_in c.items)
+    moved = sym (touched-map section_in (is_section s (page / pages_of size)) (has_tag tag) (tag-same s (page / pages_of size) (small-block size page h)) c.items)
+
     go : (o : Option Item) → find (has_tag tag) c.items ≡ o → (f : Bool)
-        → sections_in (filled f (word_of_item o) tag word (touched_in tag c)) ≡ section_after size s page leaves ws f (find test (map section_in c.items)) (sections_in c)
-    go None w false = ap with (touched-none (has_tag tag) c.items w) ∙ sym (ap (λ q. section_after size s page leaves ws false q (sections_in c)) (find-none section_in test (has_tag tag) same c.items w))
+        → sections_in (filled f (word_of_item o) tag word (touched_in tag c)) ≡ section_after size s page leaves ws f (hit_of tag (word_of_item o)) (sections_in c)
+    go None w false = ap (λ items. mine (map section_in items)) (touched-none (has_tag tag) c.items w)
     go None w true =
-        ap (λ items. with (with_newest c.width (record { tag = tag; word = word }) items)) (touched-none (has_tag tag) c.items w)
+        ap (λ items. mine (map section_in (with_newest c.width (record { tag = tag; word = word }) items))) (touched-none (has_tag tag) c.items w)
         ∙ ap mine (sym (newest-map section_in c.width (record { tag = tag; word = word }) c.items))
         ∙ ap (λ z. mine (with_newest c.width z (map section_in c.items))) e
-        ∙ sym (ap (λ q. section_after size s page leaves ws true q (sections_in c)) (find-none section_in test (has_tag tag) same c.items w))
-    go (Some i) w false =
-        ap mine (sym (touched-map section_in test (has_tag tag) same c.items))
-        ∙ sym (ap (λ q. section_after size s page leaves ws false q (sections_in c)) (find-some section_in test (has_tag tag) same c.items i w))
-    go (Some i) w true =
-        ap mine (sym (touched-map section_in test (has_tag tag) same c.items))
-        ∙ sym (ap (λ q. section_after size s page leaves ws true q (sections_in c)) (find-some section_in test (has_tag tag) same c.items i w))
+    go (Some i) w false = ap mine moved
+    go (Some i) w true = ap mine moved
 
 -- the loads of a probe
 probed-same : (p : Plan) (t : CuckooState) → probed p t ≡ record t { loads = (probed p t).loads }
@@ -64,43 +56,45 @@ pub page-of : (p : RowParts) (s page : ℕ) → IsPage (row_state p).shape s pag
 unfolding row_state
 page-of p s page h = (h.space_in, h.page_in)
 
--- the keys of a page's sections
-abbrev pub middle_key : ℕ → ℕ → ℕ
-middle_key s page = s * 2 ^ 45 + page / pages_of order.M2
+-- a walk fills the cache of a size
+abbrev pub fills_size : Size → Option Leaf → Bool
+fills_size Middle found = fills_m2 found
+fills_size Large found = is_some found
 
-abbrev pub large_key : ℕ → ℕ → ℕ
-large_key s page = s * 2 ^ 45 + page / pages_of order.G1
+-- the cached sections of a page, by the words that were found
+abbrev pub hit_in : ℕ → ℕ → (Size → Option ℕ) → Size → Option Section
+hit_in s page words z = hit_of (page_key (order_of z) s page) (words z)
+
+abbrev pub plan_in : ℕ → ℕ → (Size → Option ℕ) → Order → Plan
+plan_in s page words o = plan_of o (hit_in s page words Middle) (hit_in s page words Large)
+
+abbrev pub hits_in : ℕ → ℕ → (Size → Option ℕ) → ℕ
+hits_in s page words = one_if (is_some (hit_in s page words Middle)) + one_if (is_some (hit_in s page words Large))
+
+-- the leaf that probes as planned find
+abbrev pub said_in : RowParts → ℕ → ℕ → (Order → Plan) → Order → Option Leaf
+said_in p s page plans o = leaf_said_by o s page (value_by (plans o) (page_key o s page) (ways_of o (ways_in p)))
+
+-- the parts after a walk
+abbrev pub cache_walked : RowParts → ℕ → ℕ → Option Leaf → (Size → Option ℕ) → Size → List WayShape → Cached Item
+cache_walked p s page found words z ways =
+    filled (fills_size z found) (words z) (page_key (order_of z) s page) (new_word (order_of z) (page_key (order_of z) s page) (counts_of p z).counts ways)
+    (touched_in (page_key (order_of z) s page) (size_in z p).cache)
+
+abbrev pub steps_after : RowParts → ℕ → ℕ → (Order → Plan) → Option Leaf → (Size → Option ℕ) → RowParts
+steps_after p s page plans found words =
+    parts_by (probed (plans order.K4) p.tables.k4) (probed (plans order.M2) p.tables.m2) (probed (plans order.G1) p.tables.g1) p.middle.counts p.large.counts
+    (cache_walked p s page found words Middle (probed (plans order.M2) p.tables.m2).ways) (cache_walked p s page found words Large (probed (plans order.G1) p.tables.g1).ways)
 
 -- the steps of a walk, as the code makes them
 pub record Steps (p : RowParts) (s page : ℕ) (found : Option Leaf) (hits : ℕ) (after : RowParts) : Type 0 where
-  pub middle : Option ℕ
-  pub large : Option ℕ
+  pub words : Size → Option ℕ
   pub plans : Order → Plan
-  pub leaves : Order → Option Leaf
-  pub middle_is : middle ≡ word_of_item (find (has_tag (middle_key s page)) p.middle_cache.items)
-  pub large_is : large ≡ word_of_item (find (has_tag (large_key s page)) p.large_cache.items)
-  pub plans_are : (o : Order) → plans o ≡ plan_of o (hit_of (middle_key s page) middle) (hit_of (large_key s page) large)
-  pub leaves_are : (o : Order) → leaves o ≡ leaf_said_by o s page (value_by (plans o) (s * 2 ^ 45 + page / pages_of o) (ways_of o (ways_in p)))
-  pub found_is : found ≡ or_leaf (leaves order.K4) (or_leaf (leaves order.M2) (leaves order.G1))
-  pub hits_are : hits ≡ one_if (is_some (hit_of (middle_key s page) middle)) + one_if (is_some (hit_of (large_key s page) large))
-  pub after_is : after ≡ record p {
-    k4 = probed (plans order.K4) p.k4;
-    m2 = probed (plans order.M2) p.m2;
-    g1 = probed (plans order.G1) p.g1;
-    middle_cache = filled (fills_m2 found) middle (middle_key s page)
-        (new_word order.M2 (middle_key s page) p.middle.counts (probed (plans order.M2) p.m2).ways) (touched_in (middle_key s page) p.middle_cache);
-    large_cache = filled (is_some found) large (large_key s page)
-        (new_word order.G1 (large_key s page) p.large.counts (probed (plans order.G1) p.g1).ways) (touched_in (large_key s page) p.large_cache);
-  }
-
-abbrev steps_after : RowParts → ℕ → ℕ → Plan → Plan → Plan → Option Leaf → Option ℕ → Option ℕ → RowParts
-steps_after p s page p4 p2 p1 found middle large = record p {
-  k4 = probed p4 p.k4;
-  m2 = probed p2 p.m2;
-  g1 = probed p1 p.g1;
-  middle_cache = filled (fills_m2 found) middle (middle_key s page) (new_word order.M2 (middle_key s page) p.middle.counts (probed p2 p.m2).ways) (touched_in (middle_key s page) p.middle_cache);
-  large_cache = filled (is_some found) large (large_key s page) (new_word order.G1 (large_key s page) p.large.counts (probed p1 p.g1).ways) (touched_in (large_key s page) p.large_cache);
-}
+  pub words_are : (z : Size) → words z ≡ word_of_item (find (has_tag (page_key (order_of z) s page)) (size_in z p).cache.items)
+  pub plans_are : (o : Order) → plans o ≡ plan_in s page words o
+  pub found_is : found ≡ first_from order.K4 (said_in p s page plans)
+  pub hits_are : hits ≡ hits_in s page words
+  pub after_is : after ≡ steps_after p s page plans found words
 
 -- the row after a walk, and the walk's result
 pub record IsWalked (p : RowParts) (s page : ℕ) (found : Option Leaf) (hits : ℕ) (after : RowParts) : Type 0 where
@@ -114,216 +108,171 @@ module _ (back : MadeWordsReadBack) (p : RowParts) (r : IsRow p) (s page : ℕ) 
   abbrev leaves : List Leaf
   leaves = leaves_in (ways_in p)
 
-  abbrev k2 : ℕ
-  k2 = middle_key s page
+  -- the words of the page's cached sections, and these sections
+  abbrev words : Size → Option ℕ
+  words z = word_of_item (find (has_tag (page_key (order_of z) s page)) (size_in z p).cache.items)
 
-  abbrev k1 : ℕ
-  k1 = large_key s page
-
-  abbrev w2 : Option ℕ
-  w2 = word_of_item (find (has_tag (middle_key s page)) p.middle_cache.items)
-
-  abbrev w1 : Option ℕ
-  w1 = word_of_item (find (has_tag (large_key s page)) p.large_cache.items)
-
-  abbrev h2 : Option Section
-  h2 = hit_of k2 w2
-
-  abbrev h1 : Option Section
-  h1 = hit_of k1 w1
+  abbrev hit : Size → Option Section
+  hit z = find (is_page_section (order_of z) s page) (sections_in (size_in z p).cache).items
 
   placed : (x : Leaf) → In x leaves → IsPlaced x
-  placed x i = (r.held.fit x i).aligned.placed
+  placed x i = (r.holds.held.fit x i).aligned.placed
 
-  abbrev hit2 : Option Section
-  hit2 = find (is_page_section order.M2 s page) (sections_in p.middle_cache).items
+  hit-found : (z : Size) → hit_in s page words z ≡ hit z
+  hit-found z = hit-is s (page / pages_of (order_of z)) (small-block (order_of z) page page_in) (size_in z p).cache.items
 
-  abbrev hit1 : Option Section
-  hit1 = find (is_page_section order.G1 s page) (sections_in p.large_cache).items
+  hits : (z : Size) → AreHits (order_of z) s page leaves ws (hit_in s page words z)
+  hits z = subst (λ h. AreHits (order_of z) s page leaves ws h) (sym (hit-found z)) (hit-fresh (order_of z) s page leaves ws (sections_in (size_in z p).cache) (r.fresh z))
 
-  h2-is : h2 ≡ hit2
-  h2-is = hit-is s (page / 512) (small-block order.M2 page page_in) p.middle_cache.items
-
-  h1-is : h1 ≡ hit1
-  h1-is = hit-is s (page / 262144) (small-block order.G1 page page_in) p.large_cache.items
-
-  pub planned-at : (o : Order) → IsPlanned back ws leaves r.held s page space_in page_in o h2 h1
-  planned-at o = planned back ws leaves r.held s page space_in page_in o h2 h1
-      (subst (λ h. AreHits order.M2 s page leaves ws h) (sym h2-is) (hit-fresh order.M2 s page leaves ws (sections_in p.middle_cache) r.middle_fresh))
-      (subst (λ h. AreHits order.G1 s page leaves ws h) (sym h1-is) (hit-fresh order.G1 s page leaves ws (sections_in p.large_cache) r.large_fresh))
+  pub planned-at : (o : Order) → IsPlanned back ws leaves r.holds.held s page space_in page_in o (hit_in s page words Middle) (hit_in s page words Large)
+  planned-at o = planned back ws leaves r.holds.held s page space_in page_in o (hit_in s page words Middle) (hit_in s page words Large) (hits Middle) (hits Large)
 
   abbrev L : Option Leaf
   L = leaf_at_page s page leaves
 
   abbrev P : Order → Plan
-  P o = plan_of o h2 h1
+  P o = plan_in s page words o
 
-  found-at : or_leaf (leaf_said_by order.K4 s page (value_by (P order.K4) (s * 2 ^ 45 + page / pages_of order.K4) p.k4.ways))
-      (or_leaf (leaf_said_by order.M2 s page (value_by (P order.M2) (s * 2 ^ 45 + page / pages_of order.M2) p.m2.ways))
-      (leaf_said_by order.G1 s page (value_by (P order.G1) (s * 2 ^ 45 + page / pages_of order.G1) p.g1.ways)))
-      ≡ L
+  found-at : first_from order.K4 (said_in p s page P) ≡ L
   found-at =
       let F : Option Leaf = find (covers s page) leaves in
-      let x4 = (planned-at order.K4).found in
-      let x2 = (planned-at order.M2).found in
-      let x1 = (planned-at order.G1).found in
-      ap (λ q. or_leaf q (or_leaf (leaf_said_by order.M2 s page (value_by (P order.M2) (s * 2 ^ 45 + page / pages_of order.M2) p.m2.ways)) (leaf_said_by order.G1 s page (value_by (P order.G1) (s * 2 ^ 45 + page / pages_of order.G1) p.g1.ways)))) x4
-      ∙ ap (λ q. or_leaf (only order.K4 F) (or_leaf q (leaf_said_by order.G1 s page (value_by (P order.G1) (s * 2 ^ 45 + page / pages_of order.G1) p.g1.ways)))) x2
-      ∙ ap (λ q. or_leaf (only order.K4 F) (or_leaf (only order.M2 F) q)) x1
-      ∙ only-first F ∙ sym (page-found s page leaves)
+      let each-found : said_in p s page P ≡ (λ o. only o F) = λ i o. (planned-at o).found i in
+      ap (first_from order.K4) each-found ∙ only-first F ∙ sym (page-found s page leaves)
 
   -- the caches
-  after-middle : (fills : Bool) → sections_in (filled fills w2 k2 (new_word order.M2 k2 p.middle.counts p.m2.ways) (touched_in k2 p.middle_cache)) ≡ section_after order.M2 s page leaves ws fills hit2 (sections_in p.middle_cache)
-  after-middle fills = cache-after order.M2 s page leaves ws fills (new_word order.M2 k2 p.middle.counts p.m2.ways) p.middle_cache page_in
-      (written-is order.M2 s (page / 512) leaves p.middle.counts p.m2.ways (small-block order.M2 page page_in) r.held.sorted placed r.middle_tied)
+  abbrev cache : Size → Cached Item
+  cache z = cache_walked p s page L words z (ways_of (order_of z) ws)
 
-  after-large : (fills : Bool) → sections_in (filled fills w1 k1 (new_word order.G1 k1 p.large.counts p.g1.ways) (touched_in k1 p.large_cache)) ≡ section_after order.G1 s page leaves ws fills hit1 (sections_in p.large_cache)
-  after-large fills = cache-after order.G1 s page leaves ws fills (new_word order.G1 k1 p.large.counts p.g1.ways) p.large_cache page_in
-      (written-is order.G1 s (page / 262144) leaves p.large.counts p.g1.ways (small-block order.G1 page page_in) r.held.sorted placed r.large_tied)
+  after-size : (z : Size) → sections_in (cache z) ≡ section_after (order_of z) s page leaves ws (fills_size z L) (hit z) (sections_in (size_in z p).cache)
+  after-size z =
+      let size : Order = order_of z in
+      cache-after size s page leaves ws (fills_size z L) (new_word size (page_key size s page) (counts_of p z).counts (ways_of size ws)) (size_in z p).cache page_in
+      (written-is size s (page / pages_of size) leaves (counts_of p z).counts (ways_of size ws) (small-block size page page_in) r.holds.held.sorted placed (r.holds.tied z).tied)
 
   is-found : (x : Leaf) → L ≡ Some x → IsFound s page leaves x
   is-found x e =
       let w : find (covers s page) leaves ≡ Some x = sym (page-found s page leaves) ∙ e in
       let i : In x leaves = find-In (covers s page) x leaves w in
-      record { member = i; covers_page = find-passes (covers s page) x leaves w; aligned = (r.held.fit x i).aligned.aligned }
+      record { member = i; covers_page = find-passes (covers s page) x leaves w; aligned = (r.holds.held.fit x i).aligned.aligned }
 
-  some-middle : (f : Option Leaf) → L ≡ f → fills_m2 f ≡ true → has_leaves (section_of_page order.M2 s page leaves ws) ≡ true
-  some-middle None e t = absurd (cc)
-  some-middle (Some x) e t = section-some order.M2 s page leaves ws x (is-found x e) (low x.order t)
+  some-leaves : (z : Size) (f : Option Leaf) → L ≡ f → fills_size z f ≡ true → has_leaves (section_of_page (order_of z) s page leaves ws) ≡ true
+  some-leaves Middle None e t = absurd (cc)
+  some-leaves Middle (Some x) e t = section-some order.M2 s page leaves ws x (is-found x e) (low x.order t)
     where
       low : (o : Order) → not (same_order o order.G1) ≡ true → level_of o ≤ 1
       low order.K4 h = omega arith
       low order.M2 h = omega arith
       low order.G1 h = absurd (cc)
+  some-leaves Large None e t = absurd (cc)
+  some-leaves Large (Some x) e t = section-some order.G1 s page leaves ws x (is-found x e) (level-low x.order)
 
-  some-large : (f : Option Leaf) → L ≡ f → is_some f ≡ true → has_leaves (section_of_page order.G1 s page leaves ws) ≡ true
-  some-large None e t = absurd (cc)
-  some-large (Some x) e t = section-some order.G1 s page leaves ws x (is-found x e) (level-low x.order)
-
-  abbrev cache2 : Cached Item
-  cache2 = filled (fills_m2 L) w2 k2 (new_word order.M2 k2 p.middle.counts p.m2.ways) (touched_in k2 p.middle_cache)
-
-  abbrev cache1 : Cached Item
-  cache1 = filled (is_some L) w1 k1 (new_word order.G1 k1 p.large.counts p.g1.ways) (touched_in k1 p.large_cache)
+  fresh-size : (z : Size) → SectionsFresh (order_of z) leaves (ways_of (order_of z) ws) (sections_in (cache z))
+  fresh-size z =
+      subst (λ u. SectionsFresh (order_of z) leaves (ways_of (order_of z) ws) u) (sym (after-size z))
+      (section-walked (order_of z) s page leaves ws (fills_size z L) (hit z) (sections_in (size_in z p).cache) (some-leaves z L refl) (r.fresh z))
 
   -- the loads
   abbrev D : ℕ
-  D = length p.k4.ways
+  D = length p.tables.k4.ways
 
-  reads-are : plus (plus (probed (P order.K4) p.k4).loads (probed (P order.M2) p.m2).loads) (probed (P order.G1) p.g1).loads
-      ≡ plus (plus (plus p.k4.loads p.m2.loads) p.g1.loads) (probes D hit2 hit1 order.K4 + (probes D hit2 hit1 order.M2 + probes D hit2 hit1 order.G1))
-  reads-are =
-      let T : ℕ = plus (plus p.k4.loads p.m2.loads) p.g1.loads in
-      let l4 = (planned-at order.K4).loads in
-      let l2 : loads_by (P order.M2) (length p.m2.ways) ≡ probes D h2 h1 order.M2 = (planned-at order.M2).loads ∙ ap (λ n. probes n h2 h1 order.M2) r.same_m2.width in
-      let l1 : loads_by (P order.G1) (length p.g1.ways) ≡ probes D h2 h1 order.G1 = (planned-at order.G1).loads ∙ ap (λ n. probes n h2 h1 order.G1) r.same_g1.width in
-      sum-loads (probed (P order.K4) p.k4).loads (probed (P order.M2) p.m2).loads (probed (P order.G1) p.g1).loads p.k4.loads p.m2.loads p.g1.loads
-      (loads_by (P order.K4) D) (loads_by (P order.M2) (length p.m2.ways)) (loads_by (P order.G1) (length p.g1.ways))
-      (loads-of (P order.K4) p.k4) (loads-of (P order.M2) p.m2) (loads-of (P order.G1) p.g1)
-      ∙ ap (λ n. plus T (n + (loads_by (P order.M2) (length p.m2.ways) + loads_by (P order.G1) (length p.g1.ways)))) l4
-      ∙ ap (λ n. plus T (probes D h2 h1 order.K4 + (n + loads_by (P order.G1) (length p.g1.ways)))) l2
-      ∙ ap (λ n. plus T (probes D h2 h1 order.K4 + (probes D h2 h1 order.M2 + n))) l1
-      ∙ ap (λ h. plus T (probes D h h1 order.K4 + (probes D h h1 order.M2 + probes D h h1 order.G1))) h2-is
-      ∙ ap (λ h. plus T (probes D hit2 h order.K4 + (probes D hit2 h order.M2 + probes D hit2 h order.G1))) h1-is
+  abbrev probes_at : Order → ℕ
+  probes_at o = probes D (hit Middle) (hit Large) o
+
+  abbrev loads_at : Order → ℕ
+  loads_at o = (probed (P o) (table_of o p)).loads
+
+  loads-are : (o : Order) → loads_at o % 2 ^ 64 ≡ ((table_of o p).loads + probes_at o) % 2 ^ 64
+  loads-are o =
+      let width : length (ways_of o ws) ≡ D = ap length (sym (ways-table o p)) ∙ ap (λ (u : TableRules). u.width) (r.holds.rules o) in
+      loads-of (P o) (table_of o p)
+      ∙ ap (λ n. ((table_of o p).loads + n) % 2 ^ 64)
+      (ap (λ us. loads_by (P o) (length us)) (ways-table o p) ∙ (planned-at o).loads ∙ ap (λ n. probes n (hit_in s page words Middle) (hit_in s page words Large) o) width
+      ∙ ap (λ h. probes D h (hit_in s page words Large) o) (hit-found Middle) ∙ ap (λ h. probes D (hit Middle) h o) (hit-found Large))
 
   -- the row with these loads and caches
-  abbrev read_parts : ℕ → ℕ → ℕ → RowParts
-  read_parts x y z = record p {
-    k4 = record p.k4 { loads = x };
-    m2 = record p.m2 { loads = y };
-    g1 = record p.g1 { loads = z };
-    middle_cache = cache2;
-    large_cache = cache1;
-  }
-
-  state-at : (x y z : ℕ) → plus (plus x y) z ≡ plus (plus (plus p.k4.loads p.m2.loads) p.g1.loads) (probes D hit2 hit1 order.K4 + (probes D hit2 hit1 order.M2 + probes D hit2 hit1 order.G1))
-      → row_state (read_parts x y z) ≡ table_walked s page (row_state p)
-  unfolding row_state table_walked walked
-  state-at x y z e =
-      let T : Cached Section → Cached Section → ℕ → TableState = λ u v l. record (row_state p) { caches = SectionCaches u v; loads = l } in
-      ap (λ u. T u (sections_in cache1) (plus (plus x y) z)) (after-middle (fills_m2 L))
-      ∙ ap (λ v. T (section_after order.M2 s page leaves ws (fills_m2 L) hit2 (sections_in p.middle_cache)) v (plus (plus x y) z)) (after-large (is_some L))
-      ∙ ap (T (section_after order.M2 s page leaves ws (fills_m2 L) hit2 (sections_in p.middle_cache)) (section_after order.G1 s page leaves ws (is_some L) hit1 (sections_in p.large_cache))) e
-
-  row-at : (x y z : ℕ) → IsRow (read_parts x y z)
-  row-at x y z = record {
-    held = r.held;
-    keys = r.keys;
-    once = r.once;
-    same_m2 = record { threshold = r.same_m2.threshold; kick_limit = r.same_m2.kick_limit; migrate = r.same_m2.migrate; width = r.same_m2.width };
-    same_g1 = record { threshold = r.same_g1.threshold; kick_limit = r.same_g1.kick_limit; migrate = r.same_g1.migrate; width = r.same_g1.width };
-    few = r.few;
-    middle_are = r.middle_are;
-    large_are = r.large_are;
-    middle_within = r.middle_within;
-    large_within = r.large_within;
-    middle_tied = r.middle_tied;
-    large_tied = r.large_tied;
-    middle_fresh = subst (λ u. SectionsFresh order.M2 leaves p.m2.ways u) (sym (after-middle (fills_m2 L)))
-        (section-walked order.M2 s page leaves ws (fills_m2 L) hit2 (sections_in p.middle_cache) (some-middle L refl) r.middle_fresh);
-    large_fresh = subst (λ u. SectionsFresh order.G1 leaves p.g1.ways u) (sym (after-large (is_some L)))
-        (section-walked order.G1 s page leaves ws (is_some L) hit1 (sections_in p.large_cache) (some-large L refl) r.large_fresh);
-  }
-
-  answer-at : record { leaf = L; cache_hits = one_if (is_some h2) + one_if (is_some h1) } ≡ walk_answer s page (row_state p)
-  unfolding row_state walk_answer walked
-  answer-at =
-      let T : Option Section → Option Section → Walk = λ u v. record { leaf = L; cache_hits = one_if (is_some u) + one_if (is_some v) } in
-      ap (λ u. T u h1) h2-is ∙ ap (T hit2) h1-is
-
   abbrev read_now : RowParts
-  read_now = read_parts (probed (P order.K4) p.k4).loads (probed (P order.M2) p.m2).loads (probed (P order.G1) p.g1).loads
+  read_now = parts_by (record p.tables.k4 { loads = loads_at order.K4 }) (record p.tables.m2 { loads = loads_at order.M2 }) (record p.tables.g1 { loads = loads_at order.G1 })
+      p.middle.counts p.large.counts (cache Middle) (cache Large)
 
-  walked-at : IsWalked p s page L (one_if (is_some h2) + one_if (is_some h1)) read_now
-  walked-at = record {
-    row = row-at (probed (P order.K4) p.k4).loads (probed (P order.M2) p.m2).loads (probed (P order.G1) p.g1).loads;
-    walks = record {
-      answer = answer-at;
-      after = state-at (probed (P order.K4) p.k4).loads (probed (P order.M2) p.m2).loads (probed (P order.G1) p.g1).loads reads-are;
+  state-now : row_state read_now ≡ table_walked s page (row_state p)
+  unfolding row_state table_walked walked
+  state-now =
+      let T : Cached Section → Cached Section → ℕ → TableState = λ u v l. record (row_state p) { caches = SectionCaches u v; loads = l } in
+      let S : Size → Cached Section = λ z. section_after (order_of z) s page leaves ws (fills_size z L) (hit z) (sections_in (size_in z p).cache) in
+      let n : ℕ = loads_in read_now.tables in
+      ap (λ u. T u (sections_in (cache Large)) n) (after-size Middle)
+      ∙ ap (λ v. T (S Middle) v n) (after-size Large)
+      ∙ ap (T (S Middle) (S Large))
+      (sum-loads (loads_at order.K4) (loads_at order.M2) (loads_at order.G1) p.tables.k4.loads p.tables.m2.loads p.tables.g1.loads
+      (probes_at order.K4) (probes_at order.M2) (probes_at order.G1) (loads-are order.K4) (loads-are order.M2) (loads-are order.G1))
+
+  row-now : IsRow read_now
+  row-now = record {
+    holds = record {
+      held = r.holds.held;
+      keys = r.holds.keys;
+      once = r.holds.once;
+      rules = each (λ o. rules_of (table_of o read_now) ≡ rules_of read_now.tables.k4) (r.holds.rules order.K4) (r.holds.rules order.M2) (r.holds.rules order.G1);
+      few = r.holds.few;
+      tied = each-size (λ z. AreTied (order_of z) leaves (counts_of read_now z)) (r.holds.tied Middle) (r.holds.tied Large);
     };
+    fresh = each-size (λ z. SectionsFresh (order_of z) leaves (ways_of (order_of z) ws) (sections_in (size_in z read_now).cache)) (fresh-size Middle) (fresh-size Large);
   }
 
-  after-now : steps_after p s page (P order.K4) (P order.M2) (P order.G1) L w2 w1 ≡ read_now
+  answer-now : record { leaf = L; cache_hits = hits_in s page words } ≡ walk_answer s page (row_state p)
+  unfolding row_state walk_answer walked
+  answer-now =
+      let T : Option Section → Option Section → Walk = λ u v. record { leaf = L; cache_hits = one_if (is_some u) + one_if (is_some v) } in
+      ap (λ u. T u (hit_in s page words Large)) (hit-found Middle) ∙ ap (T (hit Middle)) (hit-found Large)
+
+  after-now : steps_after p s page P L words ≡ read_now
   after-now =
-      let T : CuckooState → CuckooState → CuckooState → RowParts = λ a b c. record p {
-        k4 = a;
-        m2 = b;
-        g1 = c;
-        middle_cache = filled (fills_m2 L) w2 k2 (new_word order.M2 k2 p.middle.counts b.ways) (touched_in k2 p.middle_cache);
-        large_cache = filled (is_some L) w1 k1 (new_word order.G1 k1 p.large.counts c.ways) (touched_in k1 p.large_cache);
-      } in
-      ap (λ a. T a (probed (P order.M2) p.m2) (probed (P order.G1) p.g1)) (probed-same (P order.K4) p.k4)
-      ∙ ap (λ b. T (record p.k4 { loads = (probed (P order.K4) p.k4).loads }) b (probed (P order.G1) p.g1)) (probed-same (P order.M2) p.m2)
-      ∙ ap (λ c. T (record p.k4 { loads = (probed (P order.K4) p.k4).loads }) (record p.m2 { loads = (probed (P order.M2) p.m2).loads }) c) (probed-same (P order.G1) p.g1)
+      let T : CuckooState → CuckooState → CuckooState → RowParts = λ a b c.
+      parts_by a b c p.middle.counts p.large.counts (cache_walked p s page L words Middle b.ways) (cache_walked p s page L words Large c.ways) in
+      ap (λ a. T a (probed (P order.M2) p.tables.m2) (probed (P order.G1) p.tables.g1)) (probed-same (P order.K4) p.tables.k4)
+      ∙ ap (λ b. T (record p.tables.k4 { loads = loads_at order.K4 }) b (probed (P order.G1) p.tables.g1)) (probed-same (P order.M2) p.tables.m2)
+      ∙ ap (T (record p.tables.k4 { loads = loads_at order.K4 }) (record p.tables.m2 { loads = loads_at order.M2 })) (probed-same (P order.G1) p.tables.g1)
 
   -- the steps are a walk
   pub steps-walked : (found : Option Leaf) (hits : ℕ) (after : RowParts) → Steps p s page found hits after → IsWalked p s page found hits after
   steps-walked found hits after st =
-      let e2 : st.middle ≡ w2 = st.middle_is in
-      let e1 : st.large ≡ w1 = st.large_is in
-      let plan : (o : Order) → st.plans o ≡ P o = λ o. st.plans_are o ∙ ap (λ w. plan_of o (hit_of k2 w) (hit_of k1 st.large)) e2 ∙ ap (λ w. plan_of o h2 (hit_of k1 w)) e1 in
-      let said : (o : Order) → st.leaves o ≡ leaf_said_by o s page (value_by (P o) (s * 2 ^ 45 + page / pages_of o) (ways_of o ws)) =
-      λ o. st.leaves_are o ∙ ap (λ q. leaf_said_by o s page (value_by q (s * 2 ^ 45 + page / pages_of o) (ways_of o ws))) (plan o) in
-      let f : found ≡ L = st.found_is ∙ ap (λ q. or_leaf q (or_leaf (st.leaves order.M2) (st.leaves order.G1))) (said order.K4)
-      ∙ ap (λ q. or_leaf (leaf_said_by order.K4 s page (value_by (P order.K4) (s * 2 ^ 45 + page / pages_of order.K4) p.k4.ways)) (or_leaf q (st.leaves order.G1))) (said order.M2)
-      ∙ ap (λ q. or_leaf (leaf_said_by order.K4 s page (value_by (P order.K4) (s * 2 ^ 45 + page / pages_of order.K4) p.k4.ways)) (or_leaf (leaf_said_by order.M2 s page (value_by (P order.M2) (s * 2 ^ 45 + page / pages_of order.M2) p.m2.ways)) q)) (said order.G1)
-      ∙ found-at in
-      let eh : hits ≡ one_if (is_some h2) + one_if (is_some h1) = st.hits_are ∙ ap (λ w. one_if (is_some (hit_of k2 w)) + one_if (is_some (hit_of k1 st.large))) e2 ∙ ap (λ w. one_if (is_some h2) + one_if (is_some (hit_of k1 w))) e1 in
-      let a : after ≡ read_now = st.after_is
-      ∙ ap (λ q. steps_after p s page q (st.plans order.M2) (st.plans order.G1) found st.middle st.large) (plan order.K4)
-      ∙ ap (λ q. steps_after p s page (P order.K4) q (st.plans order.G1) found st.middle st.large) (plan order.M2)
-      ∙ ap (λ q. steps_after p s page (P order.K4) (P order.M2) q found st.middle st.large) (plan order.G1)
-      ∙ ap (λ q. steps_after p s page (P order.K4) (P order.M2) (P order.G1) q st.middle st.large) f
-      ∙ ap (λ w. steps_after p s page (P order.K4) (P order.M2) (P order.G1) L w st.large) e2
-      ∙ ap (λ w. steps_after p s page (P order.K4) (P order.M2) (P order.G1) L w2 w) e1
-      ∙ after-now in
-      subst (λ t. IsWalked p s page found hits t) (sym a) (subst (λ t. IsWalked p s page t hits read_now) (sym f) (subst (λ t. IsWalked p s page L t read_now) (sym eh) walked-at))
+      let e : st.words ≡ words = λ i z. st.words_are z i in
+      let plan : (o : Order) → st.plans o ≡ P o = λ o. st.plans_are o ∙ ap (λ u. plan_in s page u o) e in
+      let plans : st.plans ≡ P = λ i o. plan o i in
+      let f : found ≡ L = st.found_is ∙ ap (λ q. first_from order.K4 (said_in p s page q)) plans ∙ found-at in
+      let n : hits ≡ hits_in s page words = st.hits_are ∙ ap (hits_in s page) e in
+      let a : after ≡ read_now = st.after_is ∙ ap (λ q. steps_after p s page q found st.words) plans ∙ ap (λ q. steps_after p s page P q st.words) f
+      ∙ ap (steps_after p s page P L) e ∙ after-now in
+      let now : IsWalked p s page L (hits_in s page words) read_now = record { row = row-now; walks = record { answer = answer-now; after = state-now } } in
+      subst (λ t. IsWalked p s page found hits t) (sym a) (subst (λ t. IsWalked p s page t hits read_now) (sym f) (subst (λ t. IsWalked p s page L t read_now) (sym n) now))
 
   -- a way that a plan names is there
-  pub plan-inside : (o : Order) (q : Plan) (middle large : Option ℕ) → middle ≡ w2 → large ≡ w1 → q ≡ plan_of o (hit_of k2 middle) (hit_of k1 large) → IsIn q (ways_of o ws)
-  plan-inside o q middle large e2 e1 e =
-      let is : q ≡ P o = e ∙ ap (λ w. plan_of o (hit_of k2 w) (hit_of k1 large)) e2 ∙ ap (λ w. plan_of o h2 (hit_of k1 w)) e1 in
-      subst (λ u. IsIn u (ways_of o ws)) (sym is) (planned-at o).inside
+  pub plan-inside : (o : Order) (q : Plan) (found : Size → Option ℕ) → ((z : Size) → found z ≡ words z) → q ≡ plan_in s page found o → IsIn q (ways_of o ws)
+  plan-inside o q found are is =
+      let e : found ≡ words = λ i z. are z i in
+      subst (λ u. IsIn u (ways_of o ws)) (sym (is ∙ ap (λ u. plan_in s page u o) e)) (planned-at o).inside
+
+-- a probed table has as many ways
+pub few-probed : (p q : RowParts) → q ≡ p → IsRow p → (o : Order) (plan : Plan) (t : CuckooState) → t ≡ probed plan (table_of o q) → length t.ways ≤ 4
+few-probed p q e r o plan t is =
+    let row : IsRow q = subst IsRow (sym e) r in
+    let few : length (table_of o q).ways ≤ 4 = few-ways q (leaves_in (ways_in q)) row.holds o in
+    subst (λ (u : CuckooState). length u.ways ≤ 4) (sym (is ∙ probed-same plan (table_of o q))) few
+
+-- a probe as planned by the words that the code found may be made
+pub probe-ready : MadeWordsReadBack → (p q : RowParts) → q ≡ p → IsRow p → (s page : ℕ) → IsPage (row_state p).shape s page → {words : Size → Option ℕ}
+    → ((z : Size) → words z ≡ word_of_item (find (has_tag (page_key (order_of z) s page)) (size_in z q).cache.items)) → (o : Order) (plan : Plan) → plan ≡ plan_in s page words o
+    → IsIn plan (ways_of o (ways_in q)) × ((s < 64) × (page < 2 ^ 45))
+probe-ready back p q e r s page at {words} are o plan is =
+    let in_page = page-of p s page at in
+    (plan-inside back q (subst IsRow (sym e) r) s page in_page.0 in_page.1 o plan words are is, in_page)
+
+pub found-words : (p : RowParts) (s page k2 k1 : ℕ) (w2 w1 : Option ℕ) → k2 ≡ page_key order.M2 s page → k1 ≡ page_key order.G1 s page
+    → w2 ≡ word_of_item (find (has_tag k2) p.middle.cache.items) → w1 ≡ word_of_item (find (has_tag k1) p.large.cache.items)
+    → (z : Size) → by_size w2 w1 z ≡ word_of_item (find (has_tag (page_key (order_of z) s page)) (size_in z p).cache.items)
+found-words p s page k2 k1 w2 w1 e f a b =
+    each-size (λ z. by_size w2 w1 z ≡ word_of_item (find (has_tag (page_key (order_of z) s page)) (size_in z p).cache.items))
+    (a ∙ ap (λ n. word_of_item (find (has_tag n) p.middle.cache.items)) e) (b ∙ ap (λ n. word_of_item (find (has_tag n) p.large.cache.items)) f)
 
 -- a cache as the code fills it
 pub filled-same : (size : Order) (fills fills' : Bool) (hit : Option ℕ) (key key' : ℕ) (counts : List Count) (t t' : CuckooState) (c now new : Cached Item)

@@ -1,10 +1,10 @@
 -- The words of sections that a leaf's coming or going leaves as they are.
-use Rattle.xl_cuckoo_walk.proofs.Common.{◌&&◌, ◌++◌, ◌+◌, ◌==◌, ◌||◌, ◌∙◌, ◌∷◌, ◌≡◌, [], ap, arith, Bool, cond, Count, count_of, counts_at, CuckooRules, CuckooWays, Displaced, Entry, false, has_key, holder_from, In, In-left, In-map, In-right, inl, is_held, IsSorted, IsTied, key_in, keys_from, keys_if, Leaf, leaf_entry, level_of, List, list_any, map, Moves, nat_le, nat_tests, new_word, not, Option, Order, orders-same, page_key, part, Placed, placed_leaf, refl, same_order, Some, subst, sym, true, unit, way_where, ways_of, WayShape, with_leaf, with_ways, without_entry, without_key, without_leaf, word-cons, word_by, ℕ}
+use Rattle.xl_cuckoo_walk.proofs.Common.{◌&&◌, ◌++◌, ◌+◌, ◌==◌, ◌||◌, ◌∙◌, ◌∷◌, ◌≡◌, [], ap, arith, Bool, cond, Count, count_of, counts_at, CuckooRules, CuckooWays, Displaced, Entry, false, has_key, holder_from, In, In-left, In-map, In-right, inl, is_held, IsSorted, IsTied, key_in, keys_from, keys_if, Leaf, leaf_entry, level_of, List, list_any, map, Moves, nat_le, nat_tests, new_word, not, Option, Order, order-same, page_key, part, Placed, placed_leaf, refl, same_order, Some, subst, sym, true, unit, way_where, ways_of, WayShape, with_leaf, with_ways, without_entry, without_key, without_leaf, word-cons, word_by, ℕ}
 use Rattle.xl_model_lemmas.proofs.HolderLemmas.{insertion-stays}
 use Rattle.xl_sections.specs.Counted.{word_of}
 use Rattle.xl_cuckoo_walk.proofs.CountLemmas.{Apart, word-less, word-with}
-use Rattle.xl_cuckoo_walk.proofs.HeldLemmas.{with-other, with-same}
 use Rattle.xl_cuckoo_walk.proofs.HoldLemmas.{entry-key}
+use Rattle.xl_cuckoo_walk.proofs.IndexLemmas.{each-way}
 use Rattle.xl_model.specs.declared.address.Order.TheVariants as order
 
 -- the word of a section by its count and the holder of its key
@@ -34,14 +34,6 @@ word-out : (size : Order) (key : ℕ) (x : Leaf) (xs : List Leaf) → (key ≡ k
 word-out size key x xs other =
     word-cons size key x xs ∙ ap (λ b. word_of size key xs + cond b (unit x.order) 0) (not-counted size key x other) ∙ (let z : word_of size key xs + 0 ≡ word_of size key xs = omega arith in z)
 
--- where the ways of an order change, those of this size change or not
-pub ways-by : (P : List WayShape → Type 0) (size o : Order) (after : List WayShape) (ws : CuckooWays) → (same_order size o ≡ true → size ≡ o → P after) → P (ways_of size ws) → P (ways_of size (with_ways o after ws))
-ways-by P size o after ws new old =
-    elim (same_order size o) as (λ b. same_order size o ≡ b → P (ways_of size (with_ways o after ws))) [
-      | true ↦ λ e. subst (λ m. P (ways_of m (with_ways o after ws))) (sym (orders-same size o e)) (subst P (sym (with-same o after ws)) (new e (orders-same size o e)))
-      | false ↦ λ e. subst P (sym (with-other size o after ws e)) old
-    ] refl
-
 -- a leaf came
 module _ (rules : CuckooRules) (ws : CuckooWays) (leaves : List Leaf) (x : Leaf) (after : List WayShape) (moved : List Displaced) (m : Moves)
     (apart : Apart x leaves) (placed : placed_leaf rules ws x ≡ Placed after moved m) where
@@ -54,19 +46,19 @@ module _ (rules : CuckooRules) (ws : CuckooWays) (leaves : List Leaf) (x : Leaf)
   words-with size old new tied tied_now key out =
       word-same size key old new (ways_of size ws) (ways_of size (with_ways x.order after ws))
       (tied_now key ∙ word-with size key x leaves apart ∙ word-out size key x leaves own ∙ sym (tied key))
-      (ways-by (λ us. holder_from 0 us key ≡ holder_from 0 (ways_of size ws) key) size x.order after ws moves refl)
+      (each-way (λ q w. (In key (keys_put q) → ⊥) → holder_from 0 w key ≡ holder_from 0 (ways_of q ws) key) x.order after ws stays (λ q e n. refl) size out)
     where
       own : key ≡ key_in size x → ⊥
       own e = out (In-right key (keys_if (same_order size x.order) (keys_from 0 moved)) (key_in size x ∷ []) (inl e))
 
-      moves : same_order size x.order ≡ true → size ≡ x.order → holder_from 0 after key ≡ holder_from 0 (ways_of size ws) key
-      moves t e =
-          let other : (leaf_entry x).key ≡ key → ⊥ = λ k. own (sym k ∙ entry-key x ∙ ap (λ s. key_in s x) (sym e)) in
+      stays : (In key (keys_put x.order) → ⊥) → holder_from 0 after key ≡ holder_from 0 (ways_of x.order ws) key
+      stays n =
+          let keys : List ℕ = keys_if (same_order x.order x.order) (keys_from 0 moved) in
+          let other : (leaf_entry x).key ≡ key → ⊥ = λ k. n (In-right key keys (key_in x.order x ∷ []) (inl (sym k ∙ entry-key x))) in
           let none : (d : Displaced) → In d moved → d.key ≡ key → ⊥ = λ d i k.
-          out (In-left key (keys_if (same_order size x.order) (keys_from 0 moved)) (key_in size x ∷ [])
-          (subst (λ b. In key (keys_if b (keys_from 0 moved))) (sym t) (subst (λ n. In n (map (λ (c : Displaced). c.key) moved)) k (In-map (λ (c : Displaced). c.key) d moved i)))) in
+          n (In-left key keys (key_in x.order x ∷ []) (subst (λ b. In key (keys_if b (keys_from 0 moved))) (sym (order-same x.order))
+          (subst (λ n. In n (map (λ (c : Displaced). c.key) moved)) k (In-map (λ (c : Displaced). c.key) d moved i)))) in
           (insertion-stays key rules.kick_limit rules.migrate rules.threshold (ways_of x.order ws) after (leaf_entry x) moved m other none placed).1
-          ∙ ap (λ s. holder_from 0 (ways_of s ws) key) (sym e)
 
 -- a key went
 any-left : (k key : ℕ) (es : List Entry) → (key ≡ k → ⊥) → list_any (has_key key) (without_key k es) ≡ list_any (has_key key) es
@@ -98,5 +90,5 @@ words-less size ws leaves x sorted there old new tied tied_now key out =
     let own : key ≡ key_in size x → ⊥ = λ e. out (inl e) in
     word-same size key old new (ways_of size ws) (ways_of size (with_ways x.order after ws))
     (tied_now key ∙ sym (word-out size key x (without_leaf x.space x.first leaves) own) ∙ sym (word-less size key x leaves sorted there) ∙ sym (tied key))
-    (ways-by (λ us. holder_from 0 us key ≡ holder_from 0 (ways_of size ws) key) size x.order after ws
-    (λ t e. holder-left 0 (page_key x.order x.space x.first) key (ways_of x.order ws) (λ k. own (k ∙ ap (λ s. key_in s x) (sym e))) ∙ ap (λ s. holder_from 0 (ways_of s ws) key) (sym e)) refl)
+    (each-way (λ q w. (key ≡ key_in q x → ⊥) → holder_from 0 w key ≡ holder_from 0 (ways_of q ws) key) x.order after ws
+    (λ n. holder-left 0 (page_key x.order x.space x.first) key (ways_of x.order ws) n) (λ q e n. refl) size own)

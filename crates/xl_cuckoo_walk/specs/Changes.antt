@@ -1,13 +1,11 @@
 -- What a change does to the parts of a row before cached sections are compared, and what the comparison does.
-use Rattle.std.specs.Prelude.{ℕ, ◌≡◌, ◌+◌, ◌*◌, ◌/◌, ◌^◌, ◌≤◌, ◌==◌, not, nat_le, Bool, true, false, ◌||◌, List, [], map, length, Err}
+use Rattle.std.specs.Prelude.{ℕ, ◌≡◌, ◌+◌, ◌*◌, ◌/◌, ◌^◌, ◌≤◌, ◌==◌, not, nat_le, Bool, true, false, ◌||◌, List, [], ◌∷◌, map, length, Err}
 use Rattle.xl_model.specs.declared.address.Order.{Order}
-use Rattle.xl_model.specs.declared.address.Order.TheVariants as order
 use Rattle.xl_model.specs.declared.leaf.Leaf.{Leaf}
 use Rattle.xl_model.specs.declared.way.Entry.{Entry}
 use Rattle.xl_model.specs.declared.way.Moves.{Moves}
 use Rattle.xl_model.specs.declared.work.Refused.{Refused}
 use Rattle.xl_model.specs.Addresses.{level_of, pages_of, same_order}
-use Rattle.xl_model.specs.Base.{plus}
 use Rattle.xl_model.specs.Changes.{Insert}
 use Rattle.xl_model.specs.Mapping.{with_leaf, without_leaf}
 use Rattle.xl_model.specs.Placing.{Placed, AtCap}
@@ -16,11 +14,9 @@ use Rattle.xl_model.specs.Shapes.{ways_of, with_ways, placed_leaf}
 use Rattle.xl_model.specs.Structures.{IsChange}
 use Rattle.xl_model.specs.Ways.{with_word, without_entry}
 use Rattle.xl_model_lemmas.specs.Sections.{key_in}
-use Rattle.xl_sections.specs.Counted.{CountState, count_of, AreCounts, IsTied}
-use Rattle.xl_tagged.specs.Forms.{One}
-use Rattle.xl_tagged.specs.Tagged.{AreHeld}
+use Rattle.xl_sections.specs.Counted.{CountState, count_of}
 use Rattle.xl_cuckoo.specs.Table.{CuckooState, inserted, SameEntries, AddsEntry, AreOnce}
-use Rattle.xl_cuckoo_walk.specs.Parts.{RowParts, ways_in, values_in, tags_in, leaves_in, rules_in, row_state, SameRules, AreKeys, IsRow, table_of, with_table}
+use Rattle.xl_cuckoo_walk.specs.Parts.{RowParts, Size, Middle, Large, order_of, SizeParts, size_in, counts_of, HoldsLeaves, IsRow, ways_in, leaves_in, rules_in, loads_in, row_state, table_of, with_table}
 use Rattle.xl_cuckoo_walk.specs.Plans.{new_word, refreshed, keys_from}
 
 -- The parts with another word for a key of an order.
@@ -63,49 +59,39 @@ keys_if false keys = []
 abbrev pub page_key : Order → ℕ → ℕ → ℕ
 page_key size space page = space * 2 ^ 45 + page / pages_of size
 
+-- The keys of the sections of a page, of each size.
+abbrev pub page_keys : ℕ → ℕ → Size → List ℕ
+page_keys space page z = page_key (order_of z) space page ∷ []
+
 -- The keys that the last insertion into the table of an order displaced, where sections of this
 -- size have their ways.
-abbrev pub keys_moved : Order → Order → RowParts → List ℕ
-keys_moved size o p = keys_if (same_order size o) (keys_from 0 (table_of size p).moved)
+abbrev pub keys_moved : Order → RowParts → Size → List ℕ
+keys_moved o p z = keys_if (same_order (order_of z) o) (keys_from 0 (table_of o p).moved)
 
--- The parts after the cached sections of these keys, of 2 MiB and of 1 GiB, are compared with what
--- they are now.
-abbrev pub compared : List ℕ → List ℕ → RowParts → RowParts
-compared middle large p = record p {
-  middle_cache = refreshed (λ key. new_word order.M2 key p.middle.counts p.m2.ways) middle p.middle_cache;
-  large_cache = refreshed (λ key. new_word order.G1 key p.large.counts p.g1.ways) large p.large_cache;
-}
+-- The word of the section of a key.
+abbrev pub word_of_key : Size → RowParts → ℕ → ℕ
+word_of_key z p key = new_word (order_of z) key (counts_of p z).counts (ways_of (order_of z) (ways_in p))
 
--- The counts of the sections of a size are those of these leaves.
-pub record AreTied (size : Order) (leaves : List Leaf) (c : CountState) : Type 0 where
-  pub are : AreCounts c.counts
-  pub within : length c.counts ≤ c.room
-  pub tied : IsTied size leaves c.counts
+-- What is kept of a size after its cached sections of these keys are compared with what they are
+-- now.
+abbrev pub size_compared : Size → List ℕ → RowParts → SizeParts
+size_compared z keys p = record (size_in z p) { cache = refreshed (word_of_key z p) keys (size_in z p).cache }
 
--- The tables and counts hold these leaves, whatever is cached.
-pub record HoldsLeaves (p : RowParts) (leaves : List Leaf) : Type 0 where
-  pub held : AreHeld One (values_in (ways_in p)) (tags_in (ways_in p)) leaves
-  pub keys : AreKeys (ways_in p)
-  pub once : (o : Order) → AreOnce (ways_of o (ways_in p))
-  pub same_m2 : SameRules p.k4 p.m2
-  pub same_g1 : SameRules p.k4 p.g1
-  pub few : length p.k4.ways ≤ 4
-  pub middle : AreTied order.M2 leaves p.middle
-  pub large : AreTied order.G1 leaves p.large
+-- The parts after the cached sections of these keys of each size are compared.
+abbrev pub compared : (Size → List ℕ) → RowParts → RowParts
+compared keys p = record p { middle = size_compared Middle (keys Middle) p; large = size_compared Large (keys Large) p }
 
 -- The rules, the loads and the cached sections stay.
 pub record StaysBeside (old new : RowParts) : Type 0 where
   pub rules : rules_in new ≡ rules_in old
-  pub loads : plus (plus new.k4.loads new.m2.loads) new.g1.loads ≡ plus (plus old.k4.loads old.m2.loads) old.g1.loads
-  pub middle_cache : new.middle_cache ≡ old.middle_cache
-  pub large_cache : new.large_cache ≡ old.large_cache
+  pub loads : loads_in new.tables ≡ loads_in old.tables
+  pub cache : (z : Size) → (size_in z new).cache ≡ (size_in z old).cache
 
 -- A leaf came, and its insertion found a place.
 pub record IsEntered (x : Leaf) (old new : RowParts) (m : Moves) : Type 0 where
   pub holds : HoldsLeaves new (with_leaf x (leaves_in (ways_in old)))
   pub beside : StaysBeside old new
-  pub middle_room : nat_le (section_count order.M2 (with_leaf x (leaves_in (ways_in old)))) old.middle.room ≡ true
-  pub large_room : nat_le (section_count order.G1 (with_leaf x (leaves_in (ways_in old)))) old.large.room ≡ true
+  pub room : (z : Size) → nat_le (section_count (order_of z) (with_leaf x (leaves_in (ways_in old)))) (counts_of old z).room ≡ true
   pub ways : ways_in new ≡ with_ways x.order (table_of x.order new).ways (ways_in old)
   pub placed : placed_leaf (rules_in old) (ways_in old) x ≡ Placed (table_of x.order new).ways (table_of x.order new).moved m
 

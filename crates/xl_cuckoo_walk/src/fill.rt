@@ -14,6 +14,15 @@ use xl_cuckoo::Cuckoo;
 use xl_model::{Leaf, Order};
 use xl_sections::{Counts, parts};
 
+/// The section of a page that a walk sought in the cache of its size: its key, and its word if it
+/// was cached.
+#[derive(Clone, Copy)]
+pub(crate) struct Sought {
+    pub(crate) size: Order,
+    pub(crate) key: u64,
+    pub(crate) hit: Option<u64>,
+}
+
 /// The way that holds a key, where the section keeps it.
 fn way_if<const D: usize>(table: &Cuckoo<D>, key: u64, told: bool) -> Option<u64>
     requires { length table.now.ways ≤ 4 }
@@ -60,21 +69,20 @@ fn fill<const D: usize>(
     cache.put_newest(key, word_for(size, key, counts, table));
 }
 
-/// Puts the section of a key in front, where the walk fills and the cache didn't have it.
+/// Puts the section that was sought in front, where the walk fills and the cache didn't have it.
 #[inline(always)]
 pub(crate) fn fill_if<const D: usize>(
     cache: &mut Sections,
     fills: bool,
-    hit: Option<u64>,
-    size: Order,
-    key: u64,
+    sought: Sought,
     counts: &Counts,
     table: &Cuckoo<D>,
 )
     requires { length table.now.ways ≤ 4 }
-    ensures { cache.new
-        ≡ filled fills hit key (new_word size key counts.now.counts table.now.ways) cache.old }
+    ensures { cache.new ≡ filled fills sought.hit sought.key
+        (new_word sought.size sought.key counts.now.counts table.now.ways) cache.old }
 {
+    let Sought { size, key, hit } = sought;
     if fills && hit.is_none() && cache.is_kept() {
         fill(cache, size, key, counts, table);
     }

@@ -37,7 +37,8 @@ fn has_room<const D: usize>(parts: &Parts<D>, leaf: Leaf) -> bool
     requires space_in { leaf.space < 64 }
     requires page_in { leaf.first < 2 ^ 45 }
     ensures { result
-        ≡ (has_fit order.M2 leaf parts.now.middle && has_fit order.G1 leaf parts.now.large) }
+        ≡ (has_fit order.M2 leaf parts.now.middle.counts
+        && has_fit order.G1 leaf parts.now.large.counts) }
 {
     fits(&parts.middle, Order::M2, leaf) && fits(&parts.large, Order::G1, leaf)
 }

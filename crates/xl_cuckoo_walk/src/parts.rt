@@ -19,17 +19,9 @@ pub(crate) struct Parts<const D: usize> {
 }
 
 impl<const D: usize> Model for Parts<D> {
-    ghost use Rattle.xl_cuckoo_walk.specs.Parts.{RowParts};
+    ghost use Rattle.xl_cuckoo_walk.specs.Parts.{RowParts, parts_by};
 
     ghost Value = { RowParts };
 
-    ghost view = { λ p. record {
-      k4 = p.k4;
-      m2 = p.m2;
-      g1 = p.g1;
-      middle = p.middle;
-      large = p.large;
-      middle_cache = p.middle_cache;
-      large_cache = p.large_cache;
-    } };
+    ghost view = { λ p. parts_by p.k4 p.m2 p.g1 p.middle p.large p.middle_cache p.large_cache };
 }

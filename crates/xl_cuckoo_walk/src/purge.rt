@@ -2,9 +2,8 @@
 
 ghost use Rattle.std.specs.Prelude.{◌≡◌, ◌≤◌, ◌<◌, ◌+◌, ◌*◌, ◌/◌, ◌^◌, ◌∷◌, [], length};
 ghost use Rattle.xl_model.specs.Addresses.{pages_of};
-ghost use Rattle.xl_model.specs.declared.address.Order.TheVariants as order_is;
 ghost use Rattle.xl_cuckoo_walk.specs.Plans.{new_word, refreshed, keys_from};
-ghost use Rattle.xl_cuckoo_walk.specs.Changes.{page_key, keys_moved, compared};
+ghost use Rattle.xl_cuckoo_walk.specs.Changes.{page_keys, keys_moved, compared};
 
 use crate::cache::Sections;
 use crate::fill::word_for;
@@ -58,12 +57,11 @@ pub(crate) fn refresh_own<const D: usize>(
 
 /// Compares the sections of a leaf's pages, of both sizes.
 pub(crate) fn refresh_leaf<const D: usize>(parts: &mut Parts<D>, space: u16, first: u64)
-    requires middle { length parts.old.m2.ways ≤ 4 }
-    requires large { length parts.old.g1.ways ≤ 4 }
+    requires middle { length parts.old.tables.m2.ways ≤ 4 }
+    requires large { length parts.old.tables.g1.ways ≤ 4 }
     requires space_in { space < 64 }
     requires page_in { first < 2 ^ 45 }
-    ensures { parts.new ≡ compared (page_key order_is.M2 space first ∷ [])
-        (page_key order_is.G1 space first ∷ []) parts.old }
+    ensures { parts.new ≡ compared (page_keys space first) parts.old }
 {
     refresh_own(
         &mut parts.middle_cache,
@@ -86,10 +84,9 @@ pub(crate) fn refresh_leaf<const D: usize>(parts: &mut Parts<D>, space: u16, fir
 /// Compares the sections that are leaves of this order which the last insertion of one displaced:
 /// they are in other ways now.
 pub(crate) fn refresh_displaced<const D: usize>(parts: &mut Parts<D>, order: Order)
-    requires middle { length parts.old.m2.ways ≤ 4 }
-    requires large { length parts.old.g1.ways ≤ 4 }
-    ensures { parts.new ≡ compared (keys_moved order_is.M2 order parts.old)
-        (keys_moved order_is.G1 order parts.old) parts.old }
+    requires middle { length parts.old.tables.m2.ways ≤ 4 }
+    requires large { length parts.old.tables.g1.ways ≤ 4 }
+    ensures { parts.new ≡ compared (keys_moved order parts.old) parts.old }
 {
     match order {
         Order::K4 => (),

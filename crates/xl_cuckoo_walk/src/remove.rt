@@ -3,8 +3,8 @@
 ghost use Rattle.std.specs.Prelude.{◌≡◌};
 ghost use Rattle.xl_model.specs.Changes.{Remove, IsNamed};
 ghost use Rattle.xl_model.specs.Structures.{IsChange};
-ghost use Rattle.xl_cuckoo_walk.specs.Parts.{IsRow, row_state, ways_in, leaves_in};
-ghost use Rattle.xl_cuckoo_walk.specs.Changes.{HoldsLeaves, IsLeft};
+ghost use Rattle.xl_cuckoo_walk.specs.Parts.{IsRow, HoldsLeaves, row_state, ways_in, leaves_in};
+ghost use Rattle.xl_cuckoo_walk.specs.Changes.{IsLeft};
 
 use crate::parts::Parts;
 use crate::purge::refresh_leaf;

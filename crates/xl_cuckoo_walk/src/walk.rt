@@ -5,7 +5,7 @@ ghost use Rattle.xl_model.specs.Structures.{IsPage, IsWalk, IsQuickWalk, walk_to
 ghost use Rattle.xl_tagged.specs.Slots.{small_told};
 ghost use Rattle.xl_cuckoo_walk.specs.Parts.{IsRow, row_state};
 
-use crate::fill::{fill_if, fills_middle, one_hit};
+use crate::fill::{Sought, fill_if, fills_middle, one_hit};
 use crate::parts::Parts;
 use crate::plan::{Hits, Plan, planned};
 use crate::probe::{probe_next, probe_order, probe_small};
@@ -91,18 +91,22 @@ fn walk_behind<const D: usize>(parts: &mut Parts<D>, space: u16, page: u64) -> W
     fill_if(
         &mut parts.middle_cache,
         fills_middle(leaf),
-        middle,
-        Order::M2,
-        middle_key,
+        Sought {
+            size: Order::M2,
+            key: middle_key,
+            hit: middle,
+        },
         &parts.middle,
         &parts.m2,
     );
     fill_if(
         &mut parts.large_cache,
         leaf.is_some(),
-        large,
-        Order::G1,
-        large_key,
+        Sought {
+            size: Order::G1,
+            key: large_key,
+            hit: large,
+        },
         &parts.large,
         &parts.g1,
     );

@@ -34,7 +34,7 @@ pub(crate) fn no_place(full: WayAtCap) -> Refused
 /// How many sections are cached.
 pub(crate) fn cached<const D: usize>(parts: &Parts<D>) -> u64
     ensures is { result
-        ≡ length parts.now.middle_cache.items + length parts.now.large_cache.items }
+        ≡ length parts.now.middle.cache.items + length parts.now.large.cache.items }
     ensures few { result ≤ 128 }
 {
     (parts.middle_cache.len() + parts.large_cache.len()) as u64

@@ -1,5 +1,5 @@
-use Rattle.xl_cuckoo_walk.proofs.Common.{◌<◌, ◌∙◌, ◌≡◌, IsPut, IsRefused, length, lit<, RowParts, subst, sym, table_of, with_put_in}
-use Rattle.xl_cuckoo_walk.proofs.EnterLemmas.{key-free, put-entered, put-refused, refused-full, roomy-large, roomy-middle}
+use Rattle.xl_cuckoo_walk.proofs.Common.{◌<◌, ◌∙◌, ◌≡◌, IsPut, IsRefused, Large, length, lit<, Middle, parts_by, RowParts, subst, sym, table_of, with_put_in}
+use Rattle.xl_cuckoo_walk.proofs.EnterLemmas.{counted-now, key-free, put-entered, put-refused, refused-full, roomy-now}
 use Rattle.xl_cuckoo_walk.proofs.HoldLemmas.{fit-leaf, free-now}
 use Rattle.xl_cuckoo_walk.proofs.NamedLemmas.{word-some}
 use Rattle.xl_cuckoo_walk.proofs.insert.enter.Goals as goal
@@ -15,11 +15,10 @@ returns-then-not-has_room-clause-refused g c =
     subst (λ r. IsRefused a.leaf a.parts.now a.parts.now r) (sym c.full_table.ensures)
     (refused-full c.words_read_back.ensures a.parts.now c.requires.whole a.leaf (fit-leaf a.parts.now a.leaf c.requires.valid) (free-now a.parts.now a.leaf c.requires.free) (sym c.has_room.ensures ∙ c.if-not-has_room.true))
 
-pub section-key-requires-clause-space_in : goal.section-key-requires-clause-space_in
-section-key-requires-clause-space_in g c = (fit-leaf c.args.parts.now c.args.leaf c.requires.valid).aligned.placed.space_in
-
-pub section-key-requires-clause-page_in : goal.section-key-requires-clause-page_in
-section-key-requires-clause-page_in g c = (fit-leaf c.args.parts.now c.args.leaf c.requires.valid).aligned.placed.page_in
+pub section-key-requires : goal.section-key-requires
+section-key-requires g c =
+    let at = (fit-leaf c.args.parts.now c.args.leaf c.requires.valid).aligned.placed in
+    record { space_in = at.space_in; page_in = at.page_in }
 
 pub put-requires : goal.put-requires
 put-requires g c =
@@ -28,20 +27,36 @@ put-requires g c =
     let positive : 0 < c.leaf_word.result = subst (λ n. 0 < n) (sym c.leaf_word.ensures) (word-some a.leaf.frame a.leaf.perm) in
     (lit< tt, (absent, positive))
 
+pub count-requires-clause-are : goal.count-requires-clause-are
+count-requires-clause-are g c =
+    let a = c.args in
+    let s = c.parts.inside in
+    counted-now c.words_read_back.ensures a.parts.now c.requires.whole a.leaf (fit-leaf a.parts.now a.leaf c.requires.valid) (free-now a.parts.now a.leaf c.requires.free) Middle
+    (parts_by s.k4 s.m2 s.g1 s.middle s.large s.middle_cache s.large_cache)
+    (subst (λ z. z ≡ with_put_in a.leaf.order (table_of a.leaf.order z) a.parts.now) (sym c.parts.view_is) c.put.ensures.same)
+
 pub count-requires-clause-roomy : goal.count-requires-clause-roomy
 count-requires-clause-roomy g c =
     let a = c.args in
     let s = c.parts.inside in
-    let q : RowParts = record { k4 = s.k4; m2 = s.m2; g1 = s.g1; middle = s.middle; large = s.large; middle_cache = s.middle_cache; large_cache = s.large_cache } in
-    roomy-middle c.words_read_back.ensures a.parts.now c.requires.whole a.leaf (fit-leaf a.parts.now a.leaf c.requires.valid) (free-now a.parts.now a.leaf c.requires.free) q
+    roomy-now c.words_read_back.ensures a.parts.now c.requires.whole a.leaf (fit-leaf a.parts.now a.leaf c.requires.valid) (free-now a.parts.now a.leaf c.requires.free) Middle
+    (parts_by s.k4 s.m2 s.g1 s.middle s.large s.middle_cache s.large_cache)
     (subst (λ z. z ≡ with_put_in a.leaf.order (table_of a.leaf.order z) a.parts.now) (sym c.parts.view_is) c.put.ensures.same) (sym c.has_room.ensures ∙ c.if-not-has_room.false)
+
+pub count-requires-in-Ok-clause-are : goal.count-requires-in-Ok-clause-are
+count-requires-in-Ok-clause-are g c =
+    let a = c.args in
+    let s = c.parts.inside in
+    counted-now c.words_read_back.ensures a.parts.now c.requires.whole a.leaf (fit-leaf a.parts.now a.leaf c.requires.valid) (free-now a.parts.now a.leaf c.requires.free) Large
+    (parts_by s.k4 s.m2 s.g1 s.middle s.large s.middle_cache s.large_cache)
+    (subst (λ z. z ≡ with_put_in a.leaf.order (table_of a.leaf.order z) a.parts.now) (sym c.parts.view_is) c.put.ensures.same)
 
 pub count-requires-in-Ok-clause-roomy : goal.count-requires-in-Ok-clause-roomy
 count-requires-in-Ok-clause-roomy g c =
     let a = c.args in
     let s = c.parts.inside in
-    let q : RowParts = record { k4 = s.k4; m2 = s.m2; g1 = s.g1; middle = s.middle; large = s.large; middle_cache = s.middle_cache; large_cache = s.large_cache } in
-    roomy-large c.words_read_back.ensures a.parts.now c.requires.whole a.leaf (fit-leaf a.parts.now a.leaf c.requires.valid) (free-now a.parts.now a.leaf c.requires.free) q
+    roomy-now c.words_read_back.ensures a.parts.now c.requires.whole a.leaf (fit-leaf a.parts.now a.leaf c.requires.valid) (free-now a.parts.now a.leaf c.requires.free) Large
+    (parts_by s.k4 s.m2 s.g1 s.middle s.large s.middle_cache s.large_cache)
     (subst (λ z. z ≡ with_put_in a.leaf.order (table_of a.leaf.order z) a.parts.now) (sym c.parts.view_is) c.put.ensures.same) (sym c.has_room.ensures ∙ c.if-not-has_room.false)
 
 pub returns-in-Err-clause-refused : goal.returns-in-Err-clause-refused
@@ -55,7 +70,7 @@ pub returns-in-Ok-clause-made : goal.returns-in-Ok-clause-made
 returns-in-Ok-clause-made g c =
     let a = c.args in
     let s = c.parts.inside in
-    let q : RowParts = record { k4 = s.k4; m2 = s.m2; g1 = s.g1; middle = s.middle; large = s.large; middle_cache = s.middle_cache; large_cache = s.large_cache } in
+    let q : RowParts = parts_by s.k4 s.m2 s.g1 s.middle s.large s.middle_cache s.large_cache in
     put-entered c.words_read_back.ensures a.parts.now c.requires.whole a.leaf (fit-leaf a.parts.now a.leaf c.requires.valid) (free-now a.parts.now a.leaf c.requires.free) q c.in-Ok.moves
     c.section-key.result c.leaf_word.result c.section-key.ensures c.leaf_word.ensures (sym c.has_room.ensures ∙ c.if-not-has_room.false)
     (subst (λ z. IsPut a.leaf.order (record { key = c.section-key.result; word = c.leaf_word.result }) a.parts.now z c.in-Ok.moves) (sym c.parts.view_is) c.in-Ok.ensures.ok)

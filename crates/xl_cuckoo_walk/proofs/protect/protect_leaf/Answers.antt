@@ -1,19 +1,15 @@
 use Rattle.xl_cuckoo_walk.proofs.Common.{◌%◌, ◌/◌, ◌<◌, ◌^◌, ◌∙◌, ◌≡◌, ap, IsChange, IsSome, leaf_word, lit<, None, Ok, Protect, refl, row_state, Some, subst, sym, table_of, value_of, ways_in, ways_of}
-use Rattle.xl_cuckoo_walk.proofs.ChangeLemmas.{ways-table}
+use Rattle.xl_cuckoo_walk.proofs.IndexLemmas.{ways-table}
 use Rattle.xl_cuckoo_walk.proofs.GiveLemmas.{GivenRow, row-given}
 use Rattle.xl_cuckoo_walk.proofs.NamedLemmas.{named-leaf, NamedLeaf, word-some}
 use Rattle.xl_cuckoo_walk.proofs.protect.protect_leaf.Given.{Over}
 use Rattle.xl_cuckoo_walk.proofs.protect.protect_leaf.Goals as goal
 
-pub section-key-requires-clause-space_in : goal.section-key-requires-clause-space_in
-section-key-requires-clause-space_in g c =
+pub section-key-requires : goal.section-key-requires
+section-key-requires g c =
     let a = c.args in
-    (named-leaf c.words_read_back.ensures a.parts.now c.requires.whole a.space a.first a.order c.requires.named).space_in
-
-pub section-key-requires-clause-page_in : goal.section-key-requires-clause-page_in
-section-key-requires-clause-page_in g c =
-    let a = c.args in
-    (named-leaf c.words_read_back.ensures a.parts.now c.requires.whole a.space a.first a.order c.requires.named).page_in
+    let n = named-leaf c.words_read_back.ensures a.parts.now c.requires.whole a.space a.first a.order c.requires.named in
+    record { space_in = n.space_in; page_in = n.page_in }
 
 pub unreachable-requires : goal.unreachable-requires
 unreachable-requires g c =

@@ -1,10 +1,10 @@
-use Rattle.xl_cuckoo_walk.proofs.Common.{◌∙◌, ◌≡◌, ap, get_or, IsRow, length, opening, opening_ways, refl, row_state, rules, subst, sym}
+use Rattle.xl_cuckoo_walk.proofs.Common.{◌∙◌, ◌≡◌, ap, get_or, IsRow, length, opening, opening_ways, parts_by, refl, row_state, rules, subst, sym}
 use Rattle.xl_cuckoo_walk.proofs.OpenLemmas.{opened, row-opened, state-opened, two-widths}
 use Rattle.xl_cuckoo_walk.proofs.row.CuckooRow.open.Given.{Over}
 use Rattle.xl_cuckoo_walk.proofs.row.CuckooRow.open.Goals as goal
 
 parts-opened : (g : Over) (c : goal.In_ok-large_cache g) →
-    record { k4 = c.in_ok-k4.k4; m2 = c.in_ok-m2.m2; g1 = c.in_ok-g1.g1; middle = c.in_ok-middle.middle; large = c.in_ok-large.large; middle_cache = c.in_ok-middle_cache.middle_cache; large_cache = c.in_ok-large_cache.large_cache }
+    parts_by c.in_ok-k4.k4 c.in_ok-m2.m2 c.in_ok-g1.g1 c.in_ok-middle.middle c.in_ok-large.large c.in_ok-middle_cache.middle_cache c.in_ok-large_cache.large_cache
     ≡ opened (opening c.args.threshold c.args.kick_limit c.args.migrate (opening_ways c.args.start_bits c.args.cap_bits 0 g.row.D)) c.in_ok-middle.middle c.in_ok-large.large (get_or c.args.caches 0 0) (get_or c.args.caches 1 0)
 parts-opened g c = rw (c.in_ok-k4.ensures, c.in_ok-m2.ensures, c.in_ok-g1.ensures, c.in_ok-middle_cache.ensures.empty, c.in_ok-large_cache.ensures.empty) refl
 
