@@ -3,7 +3,7 @@ pub use Rattle.std.proofs.Common.{◌++◌, ◌+◌, ◌-◌, ◌/◌, ◌<◌, 
 pub use Rattle.std.proofs.lemmas.Bool.Decides.{nat_tests}
 pub use Rattle.std.proofs.lemmas.List.{drop_all, drop_more, take-append-drop, take_all}
 pub use Rattle.std.specs.Option.{IfSome}
-pub use Rattle.std.specs.Prelude.{drop, eqb, Err, max, None, not, Ok, OnOk, Option, option_map, Result, slice_get, Some}
+pub use Rattle.std.specs.Prelude.{drop, eqb, Err, max, None, not, Ok, Option, option_map, Result, slice_get, Some}
 pub use Rattle.xl_lackey.specs.Accesses.{accesses, accesses_at, borders, each, places, starts}
 pub use Rattle.xl_model.specs.declared.fault.InputFault.{InputFault}
 pub use Rattle.xl_outside.proofs.FolderLemmas.{folder_same, folder_then}
@@ -15,6 +15,6 @@ pub use Rattle.xl_course.specs.Courses.{accesses_items, at_last, before, command
 pub use Rattle.xl_course.specs.Meanings.{joined, lines_where, Meaning, states_after, tellings, told_by}
 pub use Rattle.xl_course.specs.Serving.{HasServed, Reached, Serves, ServesPart, Skimmed, StateAfter}
 pub use Rattle.xl_course.specs.Sources.{found_of, Gives}
-pub use Rattle.xl_course.specs.Stops.{FolderLeft, is_all_put, status_by, stop_fate, StopsSource}
+pub use Rattle.xl_course.specs.Stops.{FolderLeft, is_all_put, status_by, stop_fate, StopsServing, StopsSource}
 pub use Rattle.xl_course.specs.declared.source.Numbered.{Numbered}
 pub use Rattle.xl_course.specs.declared.stop.Stop.{Stop}

@@ -1,5 +1,5 @@
 -- What the steps of a run say of its account.
-use Rattle.xl_course.proofs.Common.{◌++◌, ◌+◌, ◌-◌, ◌∙◌, ◌≡◌, ◌≤◌, Account, account, ap, append-nil, arith, before, Bool, Course, EndAfter, ended, Ends, Err, false, front_of_more, goes_same, GoesOn, InputFault, inr, is_all_put, joined, last_where, length, length-append, List, Meaning, None, Ok, OnOk, Option, Reached, refl, Result, Serves, sink_then, SinkAfter, SinkMeaning, Some, states_after, Stop, StopsSource, subst, sym, tellings, text_of, told_by, true, with_more, WroteFront, ℕ}
+use Rattle.xl_course.proofs.Common.{◌++◌, ◌+◌, ◌-◌, ◌∙◌, ◌≡◌, ◌≤◌, Account, account, ap, append-nil, arith, before, Bool, Course, EndAfter, ended, Ends, Err, false, front_of_more, goes_same, GoesOn, InputFault, inr, is_all_put, joined, last_where, length, length-append, List, Meaning, None, Ok, Option, Reached, refl, Result, Serves, sink_then, SinkAfter, SinkMeaning, Some, states_after, Stop, StopsServing, StopsSource, subst, sym, tellings, text_of, told_by, true, with_more, WroteFront, ℕ}
 use Rattle.xl_course.proofs.MeaningLemmas.{tellings-append, told-append}
 use Rattle.xl_course.specs.declared.stop.Stop.TheVariants as why
 
@@ -76,6 +76,12 @@ module _ {K C I S : Type 0} (m : Meaning C I S) (sink : SinkMeaning K) (answers 
       sink_then sink (told_by m answers x.done p) (last (states_after m x.done p)) k l n all x.served.writes
       (subst (λ (t : S). SinkAfter sink (last t) l n all) x.served.state_is y)
 
+  -- all was served, and what is held of the state
+  pub all_held : (holds : S → Type 0) (c : Course I) (p q : S) (k l : K) → Reached m sink answers c (ended None) p q k l
+      → holds q → holds (states_after m c.items p)
+  all_held holds c p q k l x h =
+      subst (λ (d : Course I). holds (states_after m d.items p)) (sym (whole-is c x.done None x.split)) (subst holds x.served.state_is h)
+
   pub report_written : (holds : S → Type 0) (c : Course I) (p q : S) (k l n : K) → Reached m sink answers c (ended None) p q k l
       → SinkAfter sink (last q) l n true → holds q → Ends (Ok tt) (Of c p) sink.roomy (sink.taken k) (sink.taken n) k n (holds (states_after m c.items p))
   report_written holds c p q k l n x y h =
@@ -109,7 +115,7 @@ module _ {K C I S : Type 0} (m : Meaning C I S) (sink : SinkMeaning K) (answers 
 
   -- the end of the report was written, or not to its end
   pub report_done : (holds : S → Type 0) (c : Course I) (p q : S) (k l n : K) (r : Result (Unit {0}) Stop) → Reached m sink answers c (ended None) p q k l
-      → EndAfter sink late (last q) l n r → OnOk r (holds q) → Ends r (Of c p) sink.roomy (sink.taken k) (sink.taken n) k n (holds (states_after m c.items p))
+      → EndAfter sink late (last q) l n r → holds q → Ends r (Of c p) sink.roomy (sink.taken k) (sink.taken n) k n (holds (states_after m c.items p))
   report_done holds c p q k l n (Ok u) x y h = report_written holds c p q k l n x y h
   report_done holds c p q k l n (Err stop) x y h = report_cut c p q k l n stop _ x y
 
@@ -128,3 +134,15 @@ put_still (why.Input f) h = refl
 put_still why.ReadFault h = refl
 put_still why.WriteFault h = absurd h
 put_still why.NoMemory h = absurd h
+
+-- NoMemory ends a report only where its end is made in memory
+pub late_of : {K : Type 0} (sink : SinkMeaning K) (late : Bool) (text : List ℕ) (a b : K) (r : Result (Unit {0}) Stop)
+    → EndAfter sink late text a b r → r ≡ Err why.NoMemory → late ≡ true
+late_of sink late text a b r x e = (subst (EndAfter sink late text a b) e x).0
+
+-- and serving never
+pub served_still : (stop : Stop) → StopsServing stop → (r : Result (Unit {0}) Stop) → r ≡ Err stop → r ≡ Err why.NoMemory → ⊥
+served_still why.NoMemory h r e f = h
+served_still (why.Input g) h r e f = cc
+served_still why.ReadFault h r e f = cc
+served_still why.WriteFault h r e f = cc

@@ -145,3 +145,16 @@ module _ {D : Type 0} (folder : FolderMeaning D) (old new : D) where
       by_kind : FlushKind sink b c end after → FolderLeft folder old new (status_by after)
       by_kind (inl (p, q, r)) = subst (λ (z : Result (Unit {0}) Stop). FolderLeft folder old new (status_by z)) (p ∙ sym r) (left_by end x)
       by_kind (inr (t, whole, y, is)) = subst (λ (z : Result (Unit {0}) Stop). FolderLeft folder old new (status_by z)) (sym is) (left_whole whole end x)
+
+-- a flush that fails is a failed put, so NoMemory is from before the flush
+unflushed : (whole : Bool) (end : Result (Unit {0}) Stop) → end_flushed whole end ≡ Err why.NoMemory → end ≡ Err why.NoMemory
+unflushed true end h = h
+unflushed false end h = cc
+
+pub no_memory_before : {K : Type 0} (sink : SinkMeaning K) (b c : K) (end after : Result (Unit {0}) Stop)
+    → FlushesEnd sink b c end after → after ≡ Err why.NoMemory → end ≡ Err why.NoMemory
+no_memory_before sink b c end after h e = by_kind (flush_kind sink b c end after h)
+  where
+    by_kind : FlushKind sink b c end after → end ≡ Err why.NoMemory
+    by_kind (inl (p, q, r)) = p ∙ sym r ∙ e
+    by_kind (inr (t, whole, y, is)) = unflushed whole end (sym is ∙ e)

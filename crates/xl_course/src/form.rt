@@ -1,6 +1,6 @@
 //! What a form of the program serves, and how.
 
-ghost use Rattle.std.specs.Prelude.{◌≡◌, ℕ, ◌<◌, ◌≤◌, Bool, List, [], ◌∷◌, length, slice_get, Some, is_ok, OnOk};
+ghost use Rattle.std.specs.Prelude.{◌≡◌, ℕ, ◌<◌, ◌≤◌, Bool, List, [], ◌∷◌, length, slice_get, Some, is_ok};
 ghost use Rattle.xl_outside.specs.Folders.{Files};
 ghost use Rattle.xl_course.specs.declared.form.Step.{Step};
 ghost use Rattle.xl_course.specs.Meanings.{Meaning};
@@ -137,5 +137,5 @@ pub trait Form<R>: Sized {
     fn finish<K: Sink>(&mut self, rack: &mut R, end: Self::End, out: &mut K) -> Result<(), Stop>
         ensures written { EndAfter K.sink (late end)
             (last end (state self.old rack.old)) out.old out.new result }
-        ensures holds { OnOk result (holds rack.new (state self.old rack.old)) };
+        ensures holds { holds rack.new (state self.old rack.old) };
 }

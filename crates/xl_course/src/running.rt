@@ -1,6 +1,6 @@
 //! A script that is served over a trace, and the end of the report after it.
 
-ghost use Rattle.std.specs.Prelude.{◌≡◌, IfErr, IfSome};
+ghost use Rattle.std.specs.Prelude.{◌≡◌, Err, IfErr, IfSome, true};
 ghost use Rattle.xl_outside.specs.Folders.{FolderAfter, fate_by};
 ghost use Rattle.xl_outside.specs.Sinks.{GoesOn, IsFlushed};
 ghost use Rattle.xl_course.specs.Meanings.{states_after};
@@ -43,6 +43,11 @@ fn replay<
         (fate_by stop_fate result) }
     ensures goes_on { GoesOn (is_all_put result) (K.sink.outside out.old) (K.sink.outside out.new) }
     ensures met { IfErr result StopsRun }
+    ensures early { result ≡ Err Stop.NoMemory → (D.late (C.end orders.now) ≡ true)
+        × IfSome (F.folder.files folder.old) (λ fs. T.stands source.old fs
+        → D.holds rack.new (states_after D.meaning
+        (course D.meaning (C.steps orders.now) (T.left source.old fs)).items
+        (D.state form.old rack.old))) }
 {
     serve(form, rack, orders, source, folder, out)?;
     form.finish(rack, orders.end(), out)
@@ -64,7 +69,8 @@ fn flushed<K: Sink>(out: &mut K, end: Result<(), Stop>) -> Result<(), Stop>
 
 /// Serves a script over a trace, writes the end of the report, and flushes. What is written is the
 /// account of the script's course over what is left of the source, from the form's state on. At Ok
-/// the rack holds the state after that course.
+/// the rack holds the state after that course. For want of memory it ends only where the end of the
+/// report is made in memory, and then the rack holds that state too.
 pub fn report<
     R,
     D: Form<R>,
@@ -95,6 +101,11 @@ pub fn report<
         (status_by result) }
     ensures goes_on { GoesOn (is_all_put result) (K.sink.outside out.old) (K.sink.outside out.new) }
     ensures met { IfErr result StopsRun }
+    ensures early { result ≡ Err Stop.NoMemory → (D.late (C.end orders.now) ≡ true)
+        × IfSome (F.folder.files folder.old) (λ fs. T.stands source.old fs
+        → D.holds rack.new (states_after D.meaning
+        (course D.meaning (C.steps orders.now) (T.left source.old fs)).items
+        (D.state form.old rack.old))) }
 {
     let end = replay(form, rack, orders, source, folder, out);
     flushed(out, end)

@@ -41,7 +41,7 @@ pub use Rattle.xl_text.specs.Texts.{lines_by, lines_of}
 pub use Rattle.xl_words.specs.Words.{AskedPlain, plain_of}
 pub use Rattle.xl_serving.specs.Batches.{Backlog, gaps, item_of, items_waiting, items_of_all as scene_items, waited, waits, WaitsMore}
 pub use Rattle.xl_serving.specs.Inputs.{commands_said, config_fault, Finds, rows_in, rows_said, said_by, said_in, script_fault, trail_for}
-pub use Rattle.xl_serving.specs.Plain.{account_by, account_from, end_text, items_of, plain, plain_account, plain_rows, plain_start, rows_by, rows_from, rows_text, Start, start_of, step_of, steps_of, with_area}
+pub use Rattle.xl_serving.specs.Plain.{account_by, account_from, AreOpened, end_text, items_of, plain, plain_account, plain_rows, plain_start, rows_by, rows_from, rows_text, Start, start_of, step_of, steps_of, with_area}
 pub use Rattle.xl_serving.specs.Serving.{count_of, event_at, HasServed, scene_of}
 pub use Rattle.xl_serving.specs.Tapes.{Feeds, FeedsOf, Fills, HasMore, IsFedFrom, IsUnfed, IsWithin, KeepsLeft, size_of, to_come}
 pub use Rattle.xl_serving.specs.Traces.{accesses_of, ahead, at_first, fault_of, left_of, limit, made_left, MadeProgress, next_number, numbered, Progress, trail, trail_of, with_record}

@@ -1,5 +1,5 @@
 -- The end of a report, and a run from its start.
-use Rattle.xl_serving.proofs.Common.{◌++◌, ◌∙◌, ◌≡◌, [], Account, account_by, account_from, ap, AskedPlain, Bool, EndAfter, Ends, EndsAs, Err, faulted, Finds, inl, InputFault, List, Ok, Option, refl, Result, rows_by, rows_from, Served, sink_cut, SinkMeaning, Start, Stop, subst, sym, Trail, true, ℕ}
+use Rattle.xl_serving.proofs.Common.{◌++◌, ◌∙◌, ◌≡◌, ◌⊎◌, [], Account, account_by, account_from, ap, AreOpened, AskedPlain, Bool, EndAfter, Ends, EndsAs, Err, faulted, Finds, inl, InputFault, inr, List, Ok, Option, refl, Result, rows_by, rows_from, Served, sink_cut, SinkMeaning, Start, Stop, subst, sym, Trail, true, ℕ}
 use Rattle.xl_course.specs.Stops.{is_all_put, StopsOpening}
 use Rattle.xl_outside.specs.Fronts.{with_none}
 use Rattle.xl_course.specs.declared.stop.Stop.TheVariants as why
@@ -18,6 +18,14 @@ pub started_ends : {K : Type 0} (roomy : K → ℕ → Type 0) (a : AskedPlain) 
     → Ends r (account_by a t by) roomy before after old new (rows ≡ rows_by t by)
 started_ends roomy a t start by r before after old new rows e x =
     subst (λ (z : Result Start InputFault). Ends r (account_by a t z) roomy before after old new (rows ≡ rows_by t z)) (sym e) x
+
+pub started_rows : (t : Trail) (start : Start) (by : Result Start InputFault) (rows : List Served) → by ≡ Ok start → rows ≡ rows_from t start → rows ≡ rows_by t by
+started_rows t start by rows e x = subst (λ (z : Result Start InputFault). rows ≡ rows_by t z) (sym e) x
+
+-- there is no memory: the rows are as opened, or some other fact holds
+pub opened_or : {P Q : Type 0} (rows left : List Served) → AreOpened rows → (P → Q) → (left ≡ rows) ⊎ P → AreOpened left ⊎ Q
+opened_or rows left h f (inl e) = inl (subst AreOpened (sym e) h)
+opened_or rows left h f (inr p) = inr (f p)
 
 -- what comes before anything is written, no put has failed
 pub none_failed : (stop : Stop) → StopsOpening stop → is_all_put {A = Unit {0}} (Err stop) ≡ true

@@ -169,3 +169,10 @@ pub course-ends : {K : Type 0} (roomy : K → ℕ → Type 0) (a : AskedPlain) (
 course-ends roomy a rows left cs t u s r before after old new e f x =
     subst (λ (v : Trail). Ends r (account_from a v (start_of rows cs)) roomy before after old new (left ≡ rows_from v (start_of rows cs))) f
     (subst (λ (z : Scene). Ends r (account plain a.answers (end_text a.json a.image) a.json (course plain (steps_of cs) t) z) roomy before after old new (left ≡ (states_after plain (course plain (steps_of cs) t).items z).rows)) e x)
+
+-- and the rows that it leaves
+pub course-rows : (rows left : List Row) (cs : List Command) (t u : Trail) (s : Scene) → s ≡ scene_of rows [] → t ≡ u
+    → left ≡ (states_after plain (course plain (steps_of cs) t).items s).rows → left ≡ rows_from u (start_of rows cs)
+course-rows rows left cs t u s e f x =
+    subst (λ (v : Trail). left ≡ rows_from v (start_of rows cs)) f
+    (subst (λ (z : Scene). left ≡ (states_after plain (course plain (steps_of cs) t).items z).rows) e x)

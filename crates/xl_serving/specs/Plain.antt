@@ -1,5 +1,5 @@
 -- The plain form: the items of its commands, what they do, their lines, and what a run is to write.
-use Rattle.std.specs.Prelude.{ℕ, Bool, true, false, List, [], ◌∷◌, ◌++◌, Result, Ok, Err}
+use Rattle.std.specs.Prelude.{◌≡◌, ℕ, Bool, true, false, List, [], ◌∷◌, ◌++◌, Result, Ok, Err}
 use Rattle.xl_model.specs.declared.script.Area.{Area}
 use Rattle.xl_model.specs.declared.script.Command.{Command}
 use Rattle.xl_model.specs.declared.script.Command.TheVariants as command
@@ -71,6 +71,10 @@ pub record Start : Type 0 where
 -- The start from these rows, with nothing declared, and these commands.
 abbrev pub start_of : List Served → List Command → Start
 start_of rows commands = record { scene = scene_of rows []; steps = steps_of commands }
+
+-- Each of these rows is in its opening state.
+abbrev pub AreOpened : List Served → Type 0
+AreOpened rows = (designs : List Row) × (rows ≡ opened designs)
 
 -- The start from the rows of a configuration, each in its opening state, and the commands of a
 -- script; or the fault of the first of these that has one.

@@ -1,5 +1,5 @@
 -- Rows and the sink after serving, and the events of a command.
-use Rattle.std.specs.Prelude.{◌≡◌, ℕ, Bool, true, false, List, Option}
+use Rattle.std.specs.Prelude.{◌≡◌, ℕ, Bool, true, false, List}
 use Rattle.xl_model.specs.declared.event.Event.{Event}
 use Rattle.xl_model.specs.declared.event.Event.TheVariants as event
 use Rattle.xl_model.specs.declared.script.Command.{Command}

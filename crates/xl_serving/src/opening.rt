@@ -8,7 +8,7 @@ ghost use Rattle.xl_outside.specs.Folders.{file_of, FolderAfter, fate_by, Fine};
 ghost use Rattle.xl_words.specs.Words.{plain_of};
 ghost use Rattle.xl_course.specs.Stops.{stop_fate, StopsOpening};
 ghost use Rattle.xl_serving.specs.Inputs.{Finds, said_in, rows_said, commands_said, rows_in, commands_in, commands_for};
-ghost use Rattle.xl_serving.specs.Plain.{start_of, started};
+ghost use Rattle.xl_serving.specs.Plain.{start_of, started, AreOpened};
 
 use crate::rows::Rows;
 use crate::stop::{config_stop, script_stop};
@@ -31,8 +31,8 @@ const MOST_COMMANDS: usize = 1_048_576;
 ///
 /// # Errors
 ///
-/// What is wrong with a file, or that a read failed, or that there is no memory; then nothing is
-/// said of the rows.
+/// What is wrong with a file, or that a read failed, or that there is no memory; then rows may have
+/// been opened.
 pub fn open<R: Rows, F: Folder>(
     alloc: Global,
     words: &Plain<'_>,
@@ -46,6 +46,7 @@ pub fn open<R: Rows, F: Folder>(
     ensures leaves { FolderAfter F.folder folder.old folder.new
         (fate_by stop_fate result) }
     ensures before { IfErr result StopsOpening }
+    ensures opening { AreOpened (R.rows rows.new) }
 {
     let designs = read_config(alloc, folder, words.config)?;
     let script = script_for(alloc, folder, words)?;
@@ -53,12 +54,13 @@ pub fn open<R: Rows, F: Folder>(
     Ok(script)
 }
 
-/// Opens rows, one after another. Where there is no memory for one, nothing is said of the rows.
+/// Opens rows, one after another, up to one for which there is no memory.
 fn add_all<R: Rows>(alloc: Global, rows: &mut R, designs: Vec<Row>) -> Result<(), NoMemory>
     requires none { R.rows rows.old ≡ [] }
     requires fit { All IsRow (map row_of designs.items) }
     requires few { length designs.items ≤ 16 }
-    ensures { OnOk result (R.rows rows.new ≡ opened (map row_of designs.items)) }
+    ensures all { OnOk result (R.rows rows.new ≡ opened (map row_of designs.items)) }
+    ensures opening { AreOpened (R.rows rows.new) }
 {
     for design in designs {
         rows.add(alloc, design)?;

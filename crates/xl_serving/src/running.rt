@@ -1,13 +1,13 @@
 //! A run of the plain form: the report of the rows of a configuration over a script and a trace.
 
-ghost use Rattle.std.specs.Prelude.{◌≡◌, [], IfErr, IfSome};
+ghost use Rattle.std.specs.Prelude.{◌≡◌, ◌⊎◌, [], Err, IfErr, IfSome, true};
 ghost use Rattle.xl_outside.specs.Folders.{Files};
 ghost use Rattle.xl_outside.specs.Sinks.{GoesOn, IsFlushed};
 ghost use Rattle.xl_course.specs.Stops.{status_by, FolderLeft, is_all_put, StopsRun};
 ghost use Rattle.xl_course.specs.Accounts.{Ends};
 ghost use Rattle.xl_words.specs.Words.{plain_of};
 ghost use Rattle.xl_serving.specs.Inputs.{trail_for};
-ghost use Rattle.xl_serving.specs.Plain.{start_of, account_from, rows_from, plain_account, plain_rows};
+ghost use Rattle.xl_serving.specs.Plain.{start_of, account_from, rows_from, plain_account, plain_rows, AreOpened};
 
 use crate::made::MadeTape;
 use crate::opening::open;
@@ -40,6 +40,9 @@ pub fn report<R: Rows, F: Folder, K: Sink>(
         (status_by result) }
     ensures goes_on { GoesOn (is_all_put result) (K.sink.outside out.old) (K.sink.outside out.new) }
     ensures met { IfErr result StopsRun }
+    ensures early { result ≡ Err Stop.NoMemory → AreOpened (R.rows rows.new)
+        ⊎ ((words.now.json ≡ true) × IfSome (F.folder.files folder.old) (λ fs.
+        R.rows rows.new ≡ plain_rows (plain_of words.now) fs)) }
 {
     let script = open(alloc, words, folder, rows)?;
     let orders = PlainOrders {
@@ -73,6 +76,10 @@ fn report_orders<R: Rows, F: Folder, K: Sink>(
         (status_by result) }
     ensures goes_on { GoesOn (is_all_put result) (K.sink.outside out.old) (K.sink.outside out.new) }
     ensures met { IfErr result StopsRun }
+    ensures early { result ≡ Err Stop.NoMemory → (R.rows rows.new ≡ R.rows rows.old)
+        ⊎ ((orders.now.words.now.json ≡ true) × IfSome (F.folder.files folder.old) (λ fs.
+        R.rows rows.new ≡ rows_from (trail_for (plain_of orders.now.words.now) fs)
+        (start_of (R.rows rows.old) orders.now.script.now))) }
 {
     match orders.words.made {
         Some(records) => {
@@ -113,6 +120,10 @@ fn report_from<R: Rows, T: Source, F: Folder, K: Sink>(
         (status_by result) }
     ensures goes_on { GoesOn (is_all_put result) (K.sink.outside out.old) (K.sink.outside out.new) }
     ensures met { IfErr result StopsRun }
+    ensures early { result ≡ Err Stop.NoMemory → (R.rows rows.new ≡ R.rows rows.old)
+        ⊎ ((orders.now.words.now.json ≡ true) × IfSome (F.folder.files folder.old) (λ fs.
+        R.rows rows.new ≡ rows_from (trail_for (plain_of orders.now.words.now) fs)
+        (start_of (R.rows rows.old) orders.now.script.now))) }
 {
     orders.script.fits();
     let mut bench = Bench::open(alloc)?;

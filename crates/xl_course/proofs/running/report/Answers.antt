@@ -1,5 +1,5 @@
 use Rattle.xl_course.proofs.Common.{account, course, Ends, Files, states_after}
-use Rattle.xl_course.proofs.FlushLemmas.{end_then, goes_flushed}
+use Rattle.xl_course.proofs.FlushLemmas.{end_then, goes_flushed, no_memory_before}
 use Rattle.xl_course.proofs.ToldLemmas.{told_one}
 use Rattle.xl_course.proofs.running.report.Goals as goal
 
@@ -19,3 +19,7 @@ pub returns-clause-goes_on : goal.returns-clause-goes_on
 returns-clause-goes_on g c =
     goes_flushed g.K.Sink.sink c.args.out.now c.replay-end.new.out c.flushed.new.out c.replay-end.result c.flushed.result
     c.flushed.ensures c.replay-end.ensures.goes_on
+
+pub returns-clause-early : goal.returns-clause-early
+returns-clause-early g c e =
+    c.replay-end.ensures.early (no_memory_before g.K.Sink.sink c.replay-end.new.out c.flushed.new.out c.replay-end.result c.flushed.result c.flushed.ensures e)

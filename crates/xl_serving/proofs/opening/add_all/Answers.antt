@@ -1,4 +1,4 @@
-use Rattle.xl_serving.proofs.Common.{◌++◌, ◌∙◌, ◌∷◌, ◌≡◌, [], ap, append_assoc, arith, into_iter_items, IsRow, length, List, RowFields, sym}
+use Rattle.xl_serving.proofs.Common.{◌++◌, ◌∙◌, ◌∷◌, ◌≡◌, [], ap, append_assoc, arith, into_iter_items, IsRow, length, List, map, row_of, RowFields, sym}
 use Rattle.xl_serving.proofs.OpenedLemmas.{next_few, next_keeps, next_opened}
 use Rattle.xl_serving.proofs.opening.add_all.Goals as goal
 
@@ -24,3 +24,10 @@ loop-design-preserved g c =
           let short = ap (λ (z : List RowFields). length z) steps in
           omega arith,
     )
+
+pub returns-in_err-add-clause-opening : goal.returns-in_err-add-clause-opening
+returns-in_err-add-clause-opening g c =
+    (map row_of c.loop-design.yielded, c.in_err-add.ensures.none ∙ c.loop-design.invariant.1)
+
+pub returns-clause-opening : goal.returns-clause-opening
+returns-clause-opening g c = (map row_of c.loop-design.yielded, c.loop-design.invariant.1)

@@ -1,5 +1,5 @@
-use Rattle.xl_serving.proofs.Common.{◌≡◌, account_by, account_from, Ends, Err, Finds, is_err_by, Ok, plain_account, plain_of, plain_rows, plain_start, refl, rows_from, start_of, told_one, told_then, trail_for}
-use Rattle.xl_serving.proofs.EndLemmas.{started_ends, stopped_ends}
+use Rattle.xl_serving.proofs.Common.{◌≡◌, account_by, account_from, Ends, Err, Finds, inl, is_err_by, Ok, plain_account, plain_of, plain_rows, plain_start, refl, rows_from, start_of, told_one, told_then, trail_for}
+use Rattle.xl_serving.proofs.EndLemmas.{opened_or, started_ends, started_rows, stopped_ends}
 use Rattle.xl_serving.proofs.running.report.Goals as goal
 
 pub returns-clause-told : goal.returns-clause-told
@@ -31,3 +31,24 @@ returns-in_err-script-clause-told g c =
     (told_one (g.F.Folder.folder.files c.args.folder.now) (λ fs. Finds (start_of opened) (Err stop) (plain_start a fs)) _
     c.in_err-script.ensures.told
     (λ fs h. stopped_ends g.K.Sink.sink.roomy (start_of opened) (account_by a (trail_for a fs)) (plain_start a fs) stop (g.K.Sink.sink.outside out).written out _ (λ f. refl) c.in_err-script.ensures.before h))
+
+pub returns-clause-early : goal.returns-clause-early
+returns-clause-early g c e =
+    let a = plain_of c.args.words.now in
+    let opened = g.R.Rows.rows c.open.new.rows in
+    let script = c.in_ok-script.script in
+    let left = g.R.Rows.rows c.report_orders.new.rows in
+    opened_or opened left c.in_ok-script.ensures.opening
+    (λ p. (
+      p.0,
+      told_then (g.F.Folder.folder.files c.args.folder.now) (g.F.Folder.folder.files c.open.new.folder)
+          (λ fs. Finds (start_of opened) (Ok script) (plain_start a fs))
+          (λ fs. left ≡ rows_from (trail_for a fs) (start_of opened script))
+          (λ fs. left ≡ plain_rows a fs)
+          c.in_ok-script.ensures.leaves.keeps c.in_ok-script.ensures.told p.1
+          (λ fs h k. started_rows (trail_for a fs) (start_of opened script) (plain_start a fs) left h k),
+    ))
+    (c.report_orders.ensures.early e)
+
+pub returns-in_err-script-clause-early : goal.returns-in_err-script-clause-early
+returns-in_err-script-clause-early g c e = inl c.in_err-script.ensures.opening

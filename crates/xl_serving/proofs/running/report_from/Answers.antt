@@ -1,5 +1,5 @@
-use Rattle.xl_serving.proofs.Common.{◌≡◌, account, course, end_text, Ends, plain, plain_of, scene_of, states_after, steps_of, told_one, trail_for, waited}
-use Rattle.xl_serving.proofs.PlainLemmas.{can-script, course-ends, fresh}
+use Rattle.xl_serving.proofs.Common.{◌≡◌, account, course, end_text, Ends, inl, inr, plain, plain_of, refl, scene_of, states_after, steps_of, told_one, trail_for, waited}
+use Rattle.xl_serving.proofs.PlainLemmas.{can-script, course-ends, course-rows, fresh}
 use Rattle.xl_serving.proofs.running.report_from.Goals as goal
 
 pub report-requires-clause-can : goal.report-requires-clause-can
@@ -26,3 +26,24 @@ returns-clause-told g c =
     c.report.ensures.told
     (λ fs h. course-ends roomy a rows left cs (trail fs) (trail_for a fs) state c.report.result before after out new
     (fresh bench.waiting rows bench.areas c.in_ok-bench.ensures.idle c.in_ok-bench.ensures.areas) (c.requires.unread fs).1 (h (c.requires.unread fs).0))
+
+pub returns-clause-early : goal.returns-clause-early
+returns-clause-early g c e =
+    let a = plain_of c.args.orders.now.words.now in
+    let cs = c.args.orders.now.script.now in
+    let bench = c.in_ok-bench.bench in
+    let rows = g.R.Rows.rows c.args.rows.now in
+    let left = g.R.Rows.rows c.report.new.rack in
+    let state = waited bench.waiting (scene_of rows bench.areas) in
+    let trail = g.T.Source.left c.args.source.now in
+    let h = c.report.ensures.early e in
+    inr (
+      h.0,
+      told_one (g.F.Folder.folder.files c.args.folder.now)
+          (λ fs. g.T.Source.stands c.args.source.now fs → left ≡ (states_after plain (course plain (steps_of cs) (trail fs)).items state).rows) _ h.1
+          (λ fs k. course-rows rows left cs (trail fs) (trail_for a fs) state
+          (fresh bench.waiting rows bench.areas c.in_ok-bench.ensures.idle c.in_ok-bench.ensures.areas) (c.requires.unread fs).1 (k (c.requires.unread fs).0)),
+    )
+
+pub returns-in_err-bench-clause-early : goal.returns-in_err-bench-clause-early
+returns-in_err-bench-clause-early g c e = inl refl
