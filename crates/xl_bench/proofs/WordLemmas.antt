@@ -1,14 +1,10 @@
 -- Words that are refused, and the number of sets of a curve.
-use Rattle.std.proofs.Common.{◌<◌, ◌∙◌, ◌∷◌, ◌≡◌, ◌≤◌, [], ap, arith, Bool, false, List, refl, sym, true, ℕ}
-use Rattle.std.specs.Prelude.{if◌then◌else◌, codes, drop, Err, None, Option, option_map, Some, unwrap_or}
+use Rattle.xl_bench.proofs.Common.{if◌then◌else◌, ◌<◌, ◌∙◌, ◌∷◌, ◌≡◌, ◌≤◌, [], ap, arith, Asked, asked, asked_as, asked_of, AskedCurve, AskedPair, AskedPlain, Asks, Bool, codes, curve_app, curve_in, curve_with, Curved, drop, Err, false, form_of, Hartly, List, Nestedly, None, number_of, Option, option_map, Plainly, read_where, refl, SaysOfWords, sets_by, Some, status_at, sym, true, unwrap_or, ℕ}
 use Rattle.std.specs.Str.Parse.{digits_value, without_leading_plus}
 use Rattle.clap.proofs.ValueTestLemmas.{accepts-Accepts}
 use Rattle.clap.specs.ValueTests.{is_unsigned_in}
 use Rattle.clap.specs.Words.{fault_of, first_of, Kinds, matches_of, Row}
-use Rattle.xl_course.specs.Accounts.{SaysOfWords}
-use Rattle.xl_course.specs.Stops.{status_at}
 use Rattle.xl_serving.specs.Inputs.{of_words_fault}
-use Rattle.xl_words.specs.Words.{Asked, asked, asked_as, asked_of, AskedCurve, AskedPair, AskedPlain, Asks, curve_app, curve_in, curve_with, Curved, form_of, Hartly, Nestedly, number_of, Plainly, read_where, sets_by}
 use Rattle.xl_words.specs.declared.words.Form.{Form}
 use Rattle.xl_words.specs.declared.words.WordsFault.{WordsFault}
 use Rattle.clap.specs.declared.builder.value_parser.ValueParser.TheVariants as parser

@@ -1,5 +1,5 @@
 -- What a run of the program is to write, by the form that its words ask for.
-use Rattle.std.specs.Prelude.{ℕ, List, Option, None, Some}
+use Rattle.std.specs.Prelude.{ℕ, Bool, false, List, Option, None, Some}
 use Rattle.xl_model.specs.declared.fault.InputFault.TheVariants as fault
 use Rattle.xl_outside.specs.Folders.{Files}
 use Rattle.xl_course.specs.Accounts.{Account, faulted}
@@ -34,3 +34,11 @@ account_of words files = asked_account (asked words) files
 -- The machines that such a run leaves.
 unfoldable pub machines_left : List (List ℕ) → Files → MachineStates
 machines_left words files = asked_machines (asked words) files
+
+-- Whether the end of the report that is asked for is made in memory.
+abbrev pub is_asked_late : Option Asked → Bool
+is_asked_late None = false
+is_asked_late (Some (Plainly a)) = a.json
+is_asked_late (Some (Nestedly a)) = false
+is_asked_late (Some (Hartly a)) = false
+is_asked_late (Some (Curved a)) = false

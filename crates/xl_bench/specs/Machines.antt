@@ -1,6 +1,7 @@
 -- The machines of a run, by what each holds.
-use Rattle.std.specs.Prelude.{List, [], Option, None}
+use Rattle.std.specs.Prelude.{◌≡◌, List, [], Option, None}
 use Rattle.xl_model.specs.Scenes.{Served}
+use Rattle.xl_serving.specs.Plain.{AreOpened}
 use Rattle.xl_nested_model.specs.Nested.{NestState}
 use Rattle.xl_hart_model.specs.Harts.{HartsState}
 
@@ -14,3 +15,7 @@ pub record MachineStates : Type 0 where
 -- None was opened.
 abbrev pub no_machines : MachineStates
 no_machines = record { rows = []; nested = None; harts = None }
+
+-- None has served an event: each row is in its opening state, and no other machine was left.
+abbrev pub IsUnserved : MachineStates → Type 0
+IsUnserved m = AreOpened m.rows × (m.nested ≡ None) × (m.harts ≡ None)

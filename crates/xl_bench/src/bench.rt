@@ -1,12 +1,12 @@
 //! A run of the program, in the form that its words ask for.
 
-ghost use Rattle.std.specs.Prelude.{◌≡◌, IfSome, length, map, option_map, string_bytes};
+ghost use Rattle.std.specs.Prelude.{◌≡◌, ◌⊎◌, Err, IfSome, true, length, map, option_map, string_bytes};
 ghost use Rattle.xl_outside.specs.Sinks.{GoesOn, IsFlushed};
 ghost use Rattle.xl_words.specs.Words.{asked};
 ghost use Rattle.xl_course.specs.Stops.{status_by, FolderLeft, is_all_put, is_status_put};
 ghost use Rattle.xl_course.specs.Accounts.{text_of, Answers, SaysOfWords, Completes, Ends, message_of, Says};
-ghost use Rattle.xl_bench.specs.Accounts.{account_of, machines_left};
-ghost use Rattle.xl_bench.specs.Machines.{no_machines};
+ghost use Rattle.xl_bench.specs.Accounts.{account_of, machines_left, is_asked_late};
+ghost use Rattle.xl_bench.specs.Machines.{no_machines, IsUnserved};
 
 use crate::machines::Machines;
 use std::alloc::Global;
@@ -20,8 +20,8 @@ use xl_words::{Words, read};
 /// `err` says why. The words are the program's name and those after it: `--config F [--script F]
 /// [--trace F] [--make N] [--answers] [--image] [--json]`, or `curve --sets N --config F [--script
 /// F] [--trace F]`, or `nested` or `harts` with `--script F --trace F [--answers]`. All memory is
-/// taken before the first event, but for the text of the rows as JSON. At status Ok the machines
-/// are as the run leaves them.
+/// taken before the first event, but for the text of the rows as JSON: at status NoMemory nothing
+/// was served, or that text alone is missing. At status Ok the machines are as the run leaves them.
 pub fn run<F: Folder, K: Sink, E: Sink>(
     alloc: Global,
     words: &Vec<String>,
@@ -38,6 +38,10 @@ pub fn run<F: Folder, K: Sink, E: Sink>(
         (K.sink.outside out.old).written (K.sink.outside out.new).written) }
     ensures served { IfSome (F.folder.files folder.old) (λ fs. result ≡ Status.Ok
         → machines.new ≡ machines_left (map string_bytes words.now.items) fs) }
+    ensures early { result ≡ Status.NoMemory → IsUnserved machines.new
+        ⊎ ((is_asked_late (asked (map string_bytes words.now.items)) ≡ true)
+        × IfSome (F.folder.files folder.old) (λ fs.
+        machines.new ≡ machines_left (map string_bytes words.now.items) fs)) }
     ensures usage { SaysOfWords result (asked (map string_bytes words.now.items)) }
     ensures leaves { FolderLeft F.folder folder.old folder.new result }
     ensures goes_on { GoesOn (is_status_put result)
@@ -70,6 +74,10 @@ fn report_of<F: Folder, K: Sink>(
         K.sink.roomy (K.sink.outside out.old).written (K.sink.outside out.new).written
         out.old out.new
         (machines.new ≡ machines_left (map string_bytes words.now.items) fs)) }
+    ensures early { result ≡ Err Stop.NoMemory → IsUnserved machines.new
+        ⊎ ((is_asked_late (asked (map string_bytes words.now.items)) ≡ true)
+        × IfSome (F.folder.files folder.old) (λ fs.
+        machines.new ≡ machines_left (map string_bytes words.now.items) fs)) }
     ensures usage { SaysOfWords (status_by result) (asked (map string_bytes words.now.items)) }
     ensures leaves { FolderLeft F.folder folder.old folder.new
         (status_by result) }

@@ -26,7 +26,7 @@ pub use Rattle.xl_rack.specs.Beside.{curve_served, curve_stepped, each_curve}
 pub use Rattle.xl_serving.proofs.PlainLemmas.{can-area, can-events, can-script, events-items, placed, room}
 pub use Rattle.xl_serving.specs.Batches.{item_of}
 pub use Rattle.xl_serving.specs.Inputs.{Finds, trail_for}
-pub use Rattle.xl_serving.specs.Plain.{plain, plain_start, rows_by, rows_from, Start, start_of, steps_of}
+pub use Rattle.xl_serving.specs.Plain.{AreOpened, plain, plain_start, rows_by, rows_from, Start, start_of, steps_of}
 pub use Rattle.xl_serving.specs.Serving.{count_of, event_at, scene_of}
 pub use Rattle.xl_words.specs.Words.{AskedPlain, plain_of}
 pub use Rattle.xl_curving.specs.Curving.{curve_lines, curve_scene_after, curve_scene_of, curved, curves_by, curves_from, curves_text, curves_waited, CurveScene, with_curves}

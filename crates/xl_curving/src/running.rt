@@ -1,13 +1,13 @@
 //! A run of the form: the curves of the rows of a configuration over a script and a trace.
 
-ghost use Rattle.std.specs.Prelude.{◌≡◌, ◌<◌, ◌≤◌, [], None, IfErr, IfSome};
+ghost use Rattle.std.specs.Prelude.{◌≡◌, ◌<◌, ◌≤◌, [], None, Err, IfErr, IfSome};
 ghost use Rattle.xl_outside.specs.Folders.{Files};
 ghost use Rattle.xl_outside.specs.Sinks.{GoesOn, IsFlushed};
 ghost use Rattle.xl_course.specs.Stops.{status_by, FolderLeft, is_all_put, StopsRun};
 ghost use Rattle.xl_course.specs.Accounts.{Ends};
 ghost use Rattle.xl_words.specs.Words.{curve_of, plain_of};
 ghost use Rattle.xl_serving.specs.Inputs.{trail_for};
-ghost use Rattle.xl_serving.specs.Plain.{start_of, rows_from};
+ghost use Rattle.xl_serving.specs.Plain.{start_of, rows_from, AreOpened};
 ghost use Rattle.xl_curving.specs.Curving.{curve_account, curve_rows, curves_from, plain_words};
 
 use crate::curving::Curving;
@@ -57,6 +57,7 @@ pub fn report<F: Folder, K: Sink>(
         (status_by result) }
     ensures goes_on { GoesOn (is_all_put result) (K.sink.outside out.old) (K.sink.outside out.new) }
     ensures met { IfErr result StopsRun }
+    ensures early { result ≡ Err Stop.NoMemory → AreOpened rows.new }
 {
     let plain = plain_words(words);
     let script = open(alloc, &plain, folder, rows)?;
@@ -97,6 +98,7 @@ fn report_orders<F: Folder, K: Sink>(
         (status_by result) }
     ensures goes_on { GoesOn (is_all_put result) (K.sink.outside out.old) (K.sink.outside out.new) }
     ensures met { IfErr result StopsRun }
+    ensures early { result ≡ Err Stop.NoMemory → rows.new ≡ rows.old }
 {
     match orders.plain.words.trace {
         Some(name) => {
@@ -133,6 +135,7 @@ fn report_from<T: Source, F: Folder, K: Sink>(
         (status_by result) }
     ensures goes_on { GoesOn (is_all_put result) (K.sink.outside out.old) (K.sink.outside out.new) }
     ensures met { IfErr result StopsRun }
+    ensures early { result ≡ Err Stop.NoMemory → rows.new ≡ rows.old }
 {
     orders.plain.script.fits();
     let mut form = Curving::open(alloc, orders.sets, rows.len())?;

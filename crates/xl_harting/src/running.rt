@@ -1,6 +1,6 @@
 //! A run of harts: the report of a script over a trace.
 
-ghost use Rattle.std.specs.Prelude.{◌≡◌, Some, IfErr, IfSome};
+ghost use Rattle.std.specs.Prelude.{◌≡◌, Some, Err, IfErr, IfSome};
 ghost use Rattle.xl_outside.specs.Sinks.{GoesOn, IsFlushed};
 ghost use Rattle.xl_course.specs.Stops.{status_by, FolderLeft, is_all_put, StopsRun};
 ghost use Rattle.xl_course.specs.Accounts.{Ends};
@@ -42,6 +42,7 @@ pub fn report<F: Folder, K: Sink>(
         (status_by result) }
     ensures goes_on { GoesOn (is_all_put result) (K.sink.outside out.old) (K.sink.outside out.new) }
     ensures met { IfErr result StopsRun }
+    ensures early { result ≡ Err Stop.NoMemory → harts.new ≡ harts.old }
 {
     let script = read_script::<HartParser, F>(alloc, folder, words.script)?;
     let orders = HartOrders {
@@ -73,6 +74,7 @@ fn report_orders<F: Folder, K: Sink>(
         (status_by result) }
     ensures goes_on { GoesOn (is_all_put result) (K.sink.outside out.old) (K.sink.outside out.new) }
     ensures met { IfErr result StopsRun }
+    ensures early { result ≡ Err Stop.NoMemory → harts.new ≡ harts.old }
 {
     orders.fit();
     let mut source = TraceFile::open(alloc, trace)?;

@@ -1,5 +1,5 @@
 -- The names that this crate's proofs import from elsewhere, passed on from one place. Declares nothing.
-pub use Rattle.std.proofs.Common.{◌∙◌, ◌∷◌, ◌≡◌, [], ap, drop, false, List, map, refl, ℕ}
+pub use Rattle.std.proofs.Common.{◌∙◌, ◌∷◌, ◌≡◌, [], ap, drop, false, List, map, refl, true, ℕ}
 pub use Rattle.std.proofs.lemmas.List.Elements.{All-cons, All-head, All-nil, All-tail}
 pub use Rattle.std.specs.Prelude.{All, Err, Ok, Some}
 pub use Rattle.xl_course.proofs.ToldLemmas.{is_err_by, told_one, told_then}

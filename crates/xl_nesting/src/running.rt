@@ -1,6 +1,6 @@
 //! A run of the form: the report of a script over a trace.
 
-ghost use Rattle.std.specs.Prelude.{◌≡◌, Some, IfErr, IfSome};
+ghost use Rattle.std.specs.Prelude.{◌≡◌, Some, Err, IfErr, IfSome};
 ghost use Rattle.xl_outside.specs.Sinks.{GoesOn, IsFlushed};
 ghost use Rattle.xl_course.specs.Stops.{status_by, FolderLeft, is_all_put, StopsRun};
 ghost use Rattle.xl_course.specs.Accounts.{Ends};
@@ -43,6 +43,7 @@ pub fn report<F: Folder, K: Sink>(
         (status_by result) }
     ensures goes_on { GoesOn (is_all_put result) (K.sink.outside out.old) (K.sink.outside out.new) }
     ensures met { IfErr result StopsRun }
+    ensures early { result ≡ Err Stop.NoMemory → nested.new ≡ nested.old }
 {
     let script = read_script::<NestParser, F>(alloc, folder, words.script)?;
     let orders = NestOrders {
@@ -74,6 +75,7 @@ fn report_orders<F: Folder, K: Sink>(
         (status_by result) }
     ensures goes_on { GoesOn (is_all_put result) (K.sink.outside out.old) (K.sink.outside out.new) }
     ensures met { IfErr result StopsRun }
+    ensures early { result ≡ Err Stop.NoMemory → nested.new ≡ nested.old }
 {
     orders.fit();
     let mut machine = Nested::open(alloc, orders.script.nest())?;

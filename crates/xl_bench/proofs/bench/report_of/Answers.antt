@@ -1,13 +1,7 @@
-use Rattle.std.proofs.Common.{◌∙◌, ◌≡◌, subst, sym}
-use Rattle.std.specs.Prelude.{map, Option, string_bytes}
-use Rattle.xl_course.proofs.ToldLemmas.{told_one}
-use Rattle.xl_course.specs.Accounts.{Ends}
+use Rattle.xl_bench.proofs.Common.{◌∙◌, ◌≡◌, ◌⊎◌, account_of, Asked, asked_account, asked_machines, curve_of, Ends, IfSome, inl, is_asked_late, IsUnserved, machines_left, map, Option, plain_account, plain_of, plain_rows, string_bytes, subst, sym, told_one, true}
 use Rattle.xl_curving.specs.Curving.{curve_account, curve_rows}
-use Rattle.xl_serving.specs.Plain.{plain_account, plain_rows}
-use Rattle.xl_words.specs.Words.{Asked, curve_of, plain_of}
-use Rattle.xl_bench.proofs.MachineLemmas.{rows_left}
+use Rattle.xl_bench.proofs.MachineLemmas.{harts_unserved, nested_unserved, none_unserved, rows_early, rows_left, rows_unserved}
 use Rattle.xl_bench.proofs.WordLemmas.{few_sets, words_refused}
-use Rattle.xl_bench.specs.Accounts.{account_of, asked_account, asked_machines, machines_left}
 use Rattle.xl_bench.specs.contracts.machines.Machines.{the_view}
 use Rattle.xl_bench.proofs.bench.report_of.Goals as goal
 
@@ -46,3 +40,28 @@ returns-in-Ok-Curve-clause-told g c =
 pub returns-in-Err-clause-usage : goal.returns-in-Err-clause-usage
 returns-in-Err-clause-usage g c =
     rw c.words_stop.ensures (words_refused c.in-Err.fault _ (rw c.as_slice.ensures.value at c.in-Err.ensures))
+
+pub returns-in-Ok-Plain-clause-early : goal.returns-in-Ok-Plain-clause-early
+unfolding machines_left
+returns-in-Ok-Plain-clause-early g c e =
+    let a = plain_of c.in-Ok-Plain.words in
+    let files = g.F.Folder.folder.files c.args.folder.now in
+    let left = record (the_view c.machines.inside) { rows = c.report.new.rows } in
+    subst (λ (z : Option Asked). IsUnserved left ⊎ ((is_asked_late z ≡ true) × IfSome files (λ fs. left ≡ asked_machines z fs)))
+    (sym (rw (c.as_slice.ensures.value, c.in-Ok-Plain.field-0-is) at c.in-Ok-Plain.ensures))
+    (rows_early (the_view c.machines.inside) c.report.new.rows (a.json ≡ true) files (plain_rows a) (c.machines.view_is ∙ c.requires.none) (c.report.ensures.early e))
+
+pub returns-in-Ok-Curve-clause-early : goal.returns-in-Ok-Curve-clause-early
+returns-in-Ok-Curve-clause-early g c e =
+    inl (rows_unserved (the_view c.machines.inside) c.report-in-Ok-Curve.new.rows (c.machines.view_is ∙ c.requires.none) (c.report-in-Ok-Curve.ensures.early e))
+
+pub returns-in-Ok-Nested-clause-early : goal.returns-in-Ok-Nested-clause-early
+returns-in-Ok-Nested-clause-early g c e =
+    inl (nested_unserved (the_view c.machines.inside) c.report-in-Ok-Nested.new.nested (c.machines.view_is ∙ c.requires.none) (c.report-in-Ok-Nested.ensures.early e))
+
+pub returns-in-Ok-Harts-clause-early : goal.returns-in-Ok-Harts-clause-early
+returns-in-Ok-Harts-clause-early g c e =
+    inl (harts_unserved (the_view c.machines.inside) c.report-in-Ok-Harts.new.harts (c.machines.view_is ∙ c.requires.none) (c.report-in-Ok-Harts.ensures.early e))
+
+pub returns-in-Err-clause-early : goal.returns-in-Err-clause-early
+returns-in-Err-clause-early g c e = inl (none_unserved c.args.machines.now c.requires.none)

@@ -1,9 +1,6 @@
-use Rattle.std.proofs.Common.{◌≡◌, map}
-use Rattle.std.specs.Prelude.{string_bytes}
+use Rattle.xl_bench.proofs.Common.{◌∙◌, ◌≡◌, account_of, Ends, EndsAs, machines_left, map, Says, string_bytes, sym, told_one}
 use Rattle.xl_course.proofs.MessageLemmas.{run_says}
-use Rattle.xl_course.proofs.ToldLemmas.{told_one}
-use Rattle.xl_course.specs.Accounts.{Ends, EndsAs, Says}
-use Rattle.xl_bench.specs.Accounts.{account_of, machines_left}
+use Rattle.xl_bench.proofs.MachineLemmas.{no_memory_by}
 use Rattle.xl_bench.proofs.bench.run.Goals as goal
 
 pub returns-clause-said : goal.returns-clause-said
@@ -18,3 +15,7 @@ returns-clause-said g c =
     (told_one files (λ fs. Ends end (account_of words fs) g.K.Sink.sink.roomy before after c.args.out.now c.report_of-end.new.out (c.report_of-end.new.machines ≡ machines_left words fs))
     (λ fs. EndsAs end (account_of words fs) before after) c.report_of-end.ensures.told (λ fs h. h.as_said))
     c.tell.ensures)
+
+pub returns-clause-early : goal.returns-clause-early
+returns-clause-early g c e =
+    c.report_of-end.ensures.early (no_memory_by c.report_of-end.result (sym c.of.ensures ∙ e))

@@ -1,4 +1,4 @@
-use Rattle.xl_curving.proofs.Common.{◌≡◌, AskedPlain, curves_by, curves_from, Ends, Err, Finds, IfSome, is_err_by, Ok, plain_of, plain_start, refl, rows_by, rows_from, start_of, subst, told_one, told_then, trail_for}
+use Rattle.xl_curving.proofs.Common.{◌≡◌, AreOpened, AskedPlain, curves_by, curves_from, Ends, Err, Finds, IfSome, is_err_by, Ok, plain_of, plain_start, refl, rows_by, rows_from, start_of, subst, sym, told_one, told_then, trail_for}
 use Rattle.xl_serving.proofs.EndLemmas.{stopped_ends}
 use Rattle.xl_curving.proofs.EndLemmas.{started}
 use Rattle.xl_curving.proofs.running.report.Goals as goal
@@ -40,3 +40,6 @@ returns-in_err-script-clause-told g c =
     (told_one (g.F.Folder.folder.files c.args.folder.now) (λ fs. Finds (start_of opened) (Err stop) (plain_start p fs)) _
     c.in_err-script.ensures.told
     (λ fs h. stopped_ends roomy (start_of opened) (curves_by sets (trail_for p fs)) (plain_start p fs) stop written out _ (λ f. refl) c.in_err-script.ensures.before h)))
+
+pub returns-clause-early : goal.returns-clause-early
+returns-clause-early g c e = subst AreOpened (sym (c.report_orders.ensures.early e)) c.in_ok-script.ensures.opening

@@ -1,4 +1,4 @@
-use Rattle.xl_curving.proofs.Common.{◌≡◌, account, can-script, course, curve_scene_of, curved, curves_text, curves_waited, Ends, false, plain_of, states_after, steps_of, told_one, trail_for}
+use Rattle.xl_curving.proofs.Common.{◌≡◌, account, can-script, course, curve_scene_of, curved, curves_text, curves_waited, Ends, false, plain_of, states_after, steps_of, told_one, trail_for, true}
 use Rattle.xl_curving.proofs.EndLemmas.{course-ends, fresh}
 use Rattle.xl_curving.proofs.running.report_from.Goals as goal
 
@@ -28,3 +28,6 @@ returns-clause-told g c =
     (λ fs h. course-ends roomy sets rows left cs (trail fs) (trail_for a fs) state c.report.result before after out new
     (fresh form.waiting.items rows form.areas form.curves.items sets c.len.result c.in_ok-form.ensures.idle c.in_ok-form.ensures.areas c.len.ensures c.in_ok-form.ensures.curves)
     (c.requires.unread fs).1 (h (c.requires.unread fs).0))
+
+pub returns-clause-early : goal.returns-clause-early
+returns-clause-early g c e = let never : false ≡ true = (c.report.ensures.early e).0 in cc

@@ -1,4 +1,4 @@
-use Rattle.xl_harting.proofs.Common.{◌∙◌, ◌≡◌, account, ap, course_ends, course_of, Ends, false, harts_form, meaning_of, Ok, Some, states_after, told_one, trail_in}
+use Rattle.xl_harting.proofs.Common.{◌∙◌, ◌≡◌, account, ap, course_ends, course_of, Ends, false, harts_form, meaning_of, Ok, Some, states_after, told_one, trail_in, true}
 use Rattle.xl_outside.specs.Folders.{file_of}
 use Rattle.xl_serving.specs.Tapes.{IsFedFrom}
 use Rattle.xl_serving.specs.Traces.{left_of, trail_of}
@@ -27,3 +27,6 @@ returns-clause-told g c =
     (c.in_ok-machine.ensures ∙ ap (λ spec. harts_form.opens (record { spec = spec; commands = script.commands })) c.spec.ensures.value)
     ((c.in_ok-source.ensures.unread (file_of fs name)).1 ∙ ap (λ n. trail_of (file_of fs n)) c.in_ok-source.ensures.name)
     (h (c.in_ok-source.ensures.unread (file_of fs name)).0))
+
+pub returns-clause-early : goal.returns-clause-early
+returns-clause-early g c e = let never : false ≡ true = (c.report-end.ensures.early e).0 in cc

@@ -1,4 +1,4 @@
-use Rattle.xl_nesting.proofs.Common.{◌∙◌, ◌≡◌, account, ap, counts_text, course, course_ends, Ends, false, is_err_by, List, map, meaning_of, nested_form, Ok, Some, states_after, step_of, told_one, trail_in, ℕ}
+use Rattle.xl_nesting.proofs.Common.{◌∙◌, ◌≡◌, account, ap, counts_text, course, course_ends, Ends, false, is_err_by, List, map, meaning_of, nested_form, Ok, Some, states_after, step_of, told_one, trail_in, true, ℕ}
 use Rattle.xl_outside.proofs.SinkLemmas.{goes_same}
 use Rattle.xl_outside.specs.Folders.{file_of}
 use Rattle.xl_serving.specs.Tapes.{IsFedFrom}
@@ -32,3 +32,6 @@ returns-clause-told g c =
     let unread = c.in_ok-source.ensures.unread (file_of fs source.name.now) in
     course_ends nested_form a.answers roomy (trail_in (Some name) fs) (Ok text) text (left_of (file_of fs source.name.now) source.tape) opened c.report-end.new.rack c.report-end.result before after out new
     (rw c.nest.ensures.value at c.in_ok-machine.ensures) (unread.1 ∙ ap (λ (n : List ℕ). trail_of (file_of fs n)) c.in_ok-source.ensures.name) (h unread.0))
+
+pub returns-clause-early : goal.returns-clause-early
+returns-clause-early g c e = let never : false ≡ true = (c.report-end.ensures.early e).0 in cc
