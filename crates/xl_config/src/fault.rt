@@ -8,7 +8,7 @@ use std::error::Error;
 use std::fmt;
 
 /// Why a text has no rows.
-#[derive(Clone, Copy, Debug, PartialEq, Eq)]
+#[derive(Clone, Copy, Debug)]
 pub enum ConfigFault {
     /// The text has more than 65,536 bytes.
     TooLong,
@@ -53,7 +53,7 @@ impl fmt::Display for ConfigFault {
 impl Error for ConfigFault {}
 
 /// A rule that a key may break.
-#[derive(Clone, Copy, Debug, PartialEq, Eq)]
+#[derive(Clone, Copy)]
 pub(crate) enum Rule {
     Missing,
     WrongType,
@@ -78,7 +78,7 @@ impl Rule {
 }
 
 /// A key that breaks a rule, and its row.
-#[derive(Clone, Copy, Debug, PartialEq, Eq)]
+#[derive(Clone, Copy)]
 pub(crate) struct KeyFault {
     pub(crate) row: u32,
     pub(crate) key: u8,

@@ -26,7 +26,7 @@ use xl_script::Script;
 use xl_words::Plain;
 
 /// How the rows are wanted at the end: as JSON, and with images.
-#[derive(Clone, Copy, Debug)]
+#[derive(Clone, Copy)]
 pub struct End {
     pub json: bool,
     pub image: bool,
