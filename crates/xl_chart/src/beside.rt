@@ -12,7 +12,8 @@ use xl_curve::Curve;
 use xl_machine::Machine;
 use xl_model::{Event, Kind, Outcome, Reply, Structure};
 
-/// Serves an access by a machine, and the curve looks for its leaf: mostly that of the machine's own walk.
+/// Serves an access by a machine, and the curve looks for its leaf: mostly that of the machine's
+/// own walk.
 #[inline(always)]
 pub(crate) fn access_both<S: Structure>(
     machine: &mut Machine<S>,

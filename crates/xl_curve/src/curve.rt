@@ -16,8 +16,8 @@ use std::alloc::Global;
 use std::marker::Model;
 use xl_model::{Leaf, NoMemory};
 
-/// The hits of arrays of each width from 1 to 64, found in one pass. Contracts see an array for each width, with
-/// its sets' lists and its hits.
+/// The hits of arrays of each width from 1 to 64, found in one pass. Contracts see an array for
+/// each width, with its sets' lists and its hits.
 #[derive(Drop)]
 pub struct Curve {
     pub(crate) stacks: Vec<Stack>,
@@ -96,8 +96,9 @@ impl Curve {
         })
     }
 
-    /// Looks for a leaf that covers the page of an access. An array that holds it is hit and touches it; else
-    /// the leaf is filled. In line wherever it is called, so that a leaf is not put into memory on its way.
+    /// Looks for a leaf that covers the page of an access. An array that holds it is hit and
+    /// touches it; else the leaf is filled. In line wherever it is called, so that a leaf is not
+    /// put into memory on its way.
     #[inline(always)]
     pub fn access(&mut self, leaf: Leaf)
         requires { IsFit leaf }

@@ -26,8 +26,8 @@ pub(crate) fn ranks_in_turn() -> [u8; WIDEST]
     ranks
 }
 
-/// The first slot of a byte, or 64 where none has it. All are looked at: a loop without a way out is done sixteen
-/// slots at a time.
+/// The first slot of a byte, or 64 where none has it. All are looked at: a loop without a way out
+/// is done sixteen slots at a time.
 #[inline(always)]
 fn first_of(bytes: &[u8; WIDEST], byte: u8) -> u8
     ensures passed { (k : ℕ) → k < result → slice_index bytes.now k ≢ byte }
@@ -198,8 +198,8 @@ fn fill(
     move_to_front(ranks, rank);
 }
 
-/// Puts a leaf in front, where the first place that is a hole or has the leaf is in this slot. Behind a hole the
-/// leaf leaves one where it was. Gives the distance at which it was.
+/// Puts a leaf in front, where the first place that is a hole or has the leaf is in this slot.
+/// Behind a hole the leaf leaves one where it was. Gives the distance at which it was.
 #[inline(always)]
 fn close_gap(
     marks: &mut [u8; WIDEST],
@@ -226,8 +226,8 @@ fn close_gap(
     Some(rank as usize)
 }
 
-/// Puts a leaf in front, and gives the distance at which it was. The last place gives way, where none is a
-/// hole and none has the leaf.
+/// Puts a leaf in front, and gives the distance at which it was. The last place gives way, where
+/// none is a hole and none has the leaf.
 #[inline(always)]
 pub(crate) fn bring_in_front(
     marks: &mut [u8; WIDEST],

@@ -9,8 +9,8 @@ ghost use Rattle.xl_model.specs.Ranges.{same_perm};
 
 use xl_model::{Leaf, Order, Perm, perm_code, perm_of};
 
-/// A leaf in two words, or a hole. The tag has the leaf's space, first page and order, the word its frame and
-/// permission. No leaf has the hole's tag.
+/// A leaf in two words, or a hole. The tag has the leaf's space, first page and order, the word its
+/// frame and permission. No leaf has the hole's tag.
 #[derive(Clone, Copy, Debug, PartialEq, Eq)]
 pub(crate) struct Place {
     tag: u64,

@@ -12,8 +12,8 @@ use crate::place::{HOLE, HOLE_MARK, Place};
 use std::marker::Model;
 use xl_model::{Leaf, Order};
 
-/// A recency list of 64 places, of which some are holes. Contracts see what each place has, the newest first. What a
-/// place has is kept in a slot, whose rank says which place it is.
+/// A recency list of 64 places, of which some are holes. Contracts see what each place has, the
+/// newest first. What a place has is kept in a slot, whose rank says which place it is.
 #[derive(Drop)]
 pub(crate) struct Stack {
     marks: [u8; WIDEST],
@@ -46,8 +46,8 @@ impl Stack {
         }
     }
 
-    /// Puts a leaf in front, and gives the distance at which it was. The last place gives way, where none is a
-    /// hole and none has the leaf.
+    /// Puts a leaf in front, and gives the distance at which it was. The last place gives way,
+    /// where none is a hole and none has the leaf.
     #[inline(always)]
     pub fn access(&mut self, leaf: Place) -> Option<usize>
         requires { is_vacant leaf ≡ false }

@@ -112,8 +112,8 @@ pub fn a_demand_area()
         ≡ 12 ∷ 3 ∷ replicate 63 4 }
 {}
 
-/// A leaf that differs in its permission alone is another leaf. It is filled beside the first, which width 1 then no longer
-/// has, and each other width still holds. Worked out by hand.
+/// A leaf that differs in its permission alone is another leaf. It is filled beside the first,
+/// which width 1 then no longer has, and each other width still holds. Worked out by hand.
 #[tactic(auto, unfolding(xl_curve_model::specs::CurveComputing::computing_curves))]
 pub fn a_leaf_of_another_permission()
     ensures { figures (curve_accessed (page_1 perm_r__u)

@@ -126,7 +126,8 @@ pub fn room_comes_before_the_queue()
     ensures { told room_comes_before_the_queue_spec room_comes_before_the_queue_events ≡ room_comes_before_the_queue_told }
 {}
 
-/// A set of eight ways keeps eight leaves, and the ninth takes the oldest one's place. Worked out by hand.
+/// A set of eight ways keeps eight leaves, and the ninth takes the oldest one's place. Worked out
+/// by hand.
 #[tactic(auto, unfolding(xl_hart_model::specs::Computing::hart_computing))]
 pub fn nine_leaves_in_eight_ways()
     ensures { told nine_leaves_in_eight_ways_spec nine_leaves_in_eight_ways_events

@@ -34,7 +34,8 @@ fn reply_of_found(found: Option<Leaf>, page: u64, kind: Kind) -> Reply
     }
 }
 
-/// Replies to an access of a page that the hart's array has not, by a walk, whatever that ends with.
+/// Replies to an access of a page that the hart's array has not, by a walk, whatever that ends
+/// with.
 #[inline(never)]
 fn walk_any(table: &mut RadixRow<3>, hart: &mut Hart, va: u64, page: u64, kind: Kind) -> Reply
     requires served { (spec : HartSpec) × IsServed spec (row_table 3 table.old) hart.old }
@@ -62,8 +63,8 @@ fn walk_any(table: &mut RadixRow<3>, hart: &mut Hart, va: u64, page: u64, kind: 
     }
 }
 
-/// Replies to an access of a page that the hart's array has not, by a walk. Mostly the page's leaf is one of 4 KiB
-/// that allows the access.
+/// Replies to an access of a page that the hart's array has not, by a walk. Mostly the page's leaf
+/// is one of 4 KiB that allows the access.
 #[inline(never)]
 fn walk(table: &mut RadixRow<3>, hart: &mut Hart, va: u64, page: u64, kind: Kind) -> Reply
     requires served { (spec : HartSpec) × IsServed spec (row_table 3 table.old) hart.old }
@@ -125,8 +126,8 @@ fn serve_each(table: &mut RadixRow<3>, hart: &mut Hart, accesses: &[Access]) -> 
 
 impl Harts {
     /// Serves accesses of the current hart, one after another, and gives the reply to the last one;
-    /// `Unmapped` where there is none. No access makes another hart the current one, so it is looked
-    /// up once.
+    /// `Unmapped` where there is none. No access makes another hart the current one, so it is
+    /// looked up once.
     fn access_each(&mut self, accesses: &[Access]) -> Reply
         ensures reply { result ≡ last_reply reply.Unmapped accesses.now self.old }
         ensures after { self.new ≡ accesses_served accesses.now self.old }

@@ -1,5 +1,5 @@
-//! Several harts over one Sv39 radix table. Each has a TLB array of its own, and takes the requests of
-//! remote fences (TLB shootdowns) in its own time.
+//! Several harts over one Sv39 radix table. Each has a TLB array of its own, and takes the requests
+//! of remote fences (TLB shootdowns) in its own time.
 #![tactic(auto)]
 
 mod access;

@@ -207,9 +207,9 @@ const FEW: u64 = 4;
 /// How many lines are read whether their pages are kept or not, after few lines of kept pages.
 const PLAIN: u64 = 32;
 
-/// How many lines are read whether their pages are kept or not, after `kept` lines of kept pages, at
-/// most `most` in all: one, or many where those are few, since a branch on which line's page is kept
-/// is then predicted badly.
+/// How many lines are read whether their pages are kept or not, after `kept` lines of kept pages,
+/// at most `most` in all: one, or many where those are few, since a branch on which line's page is
+/// kept is then predicted badly.
 #[inline(always)]
 fn plain_lines(kept: u64, most: u64) -> u64
     requires { kept ≤ most }
@@ -219,8 +219,8 @@ fn plain_lines(kept: u64, most: u64) -> u64
     lines.min(most - kept)
 }
 
-/// Reads the first lines of a text, `most` at most: those whose pages are kept, and some after them.
-/// The page of the first of these is kept from then on.
+/// Reads the first lines of a text, `most` at most: those whose pages are kept, and some after
+/// them. The page of the first of these is kept from then on.
 #[inline(always)]
 fn skim_some(text: &[u8], before: u64, into: &mut Batch, most: u64, pages: &mut Pages) -> Skim
     ensures skims { Skims before text.now into.old.items into.new.items result }

@@ -3,8 +3,8 @@
 ghost use Rattle.std.specs.Prelude.{◌≡◌, ℕ, ◌<◌, ◌^◌, true, false, IfSome, IfNone};
 ghost use Rattle.xl_nested.specs.Fronts.{has_page, word_at as word_of_page, IsSmallBlock};
 
-/// The guest pages of a leaf of the host: the first, how many there are, and the word of the first, its frame
-/// times 16 and the leaf's permission. Without pages it is the block of no leaf.
+/// The guest pages of a leaf of the host: the first, how many there are, and the word of the first,
+/// its frame times 16 and the leaf's permission. Without pages it is the block of no leaf.
 #[derive(Clone, Copy)]
 pub(crate) struct Block {
     pub first: u64,

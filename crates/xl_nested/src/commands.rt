@@ -118,8 +118,8 @@ fn settle(counts: &mut NestCounts, served: Result<(), NestRefusal>) -> NestOutco
 }
 
 impl Nested {
-    /// Serves an event: an access has a reply, a command is done or refused for the first reason that
-    /// holds.
+    /// Serves an event: an access has a reply, a command is done or refused for the first reason
+    /// that holds.
     pub fn step(&mut self, event: NestEvent) -> NestOutcome
         ensures outcome { result ≡ nest_outcome event self.old }
         ensures after { self.new ≡ after_nest_event event self.old }

@@ -17,8 +17,8 @@ use std::alloc::Global;
 use std::marker::Model;
 use xl_model::{Leaf, NoMemory, Order};
 
-/// The blocks of the first two leaves of a list, as far as they are known, and whether the second of them is the
-/// newest: then the list has still to be brought into order.
+/// The blocks of the first two leaves of a list, as far as they are known, and whether the second
+/// of them is the newest: then the list has still to be brought into order.
 #[derive(Clone, Copy)]
 pub(crate) struct Fronts {
     first: Block,
@@ -26,9 +26,9 @@ pub(crate) struct Fronts {
     swapped: bool,
 }
 
-/// The G cache. Nodes of a guest that lie in one large leaf, and the leaf of the access itself, take turns in front:
-/// such leaves are found by their blocks, and no list is looked through. Contracts see the width and the leaves,
-/// newest first.
+/// The G cache. Nodes of a guest that lie in one large leaf, and the leaf of the access itself,
+/// take turns in front: such leaves are found by their blocks, and no list is looked through.
+/// Contracts see the width and the leaves, newest first.
 #[derive(Drop)]
 pub(crate) struct FrontCache {
     fronts: Fronts,
@@ -75,7 +75,8 @@ impl Fronts {
     }
 }
 
-/// The newest leaf has this block. It is kept where it is a large one: a list of leaves of 4 KiB is looked through.
+/// The newest leaf has this block. It is kept where it is a large one: a list of leaves of 4 KiB is
+/// looked through.
 #[inline(always)]
 fn keep_large(fronts: &mut Fronts, block: Block)
     ensures { IsKept block fronts.old fronts.new }
@@ -189,8 +190,8 @@ impl FrontCache {
         Ok(FrontCache { fronts, cache })
     }
 
-    /// Touches the newest leaf that covers a guest page, and gives the page's word: its frame times 16,
-    /// and the leaf's permission. None where no leaf covers the page.
+    /// Touches the newest leaf that covers a guest page, and gives the page's word: its frame times
+    /// 16, and the leaf's permission. None where no leaf covers the page.
     #[inline(always)]
     pub fn touch(&mut self, guest_page: u64) -> Option<u64>
         requires { guest_page < 2 ^ 29 }

@@ -35,7 +35,8 @@ pub(crate) enum Held {
     Several,
 }
 
-/// A recency list of leaves of the host's table. Contracts see its width and the leaves, newest first.
+/// A recency list of leaves of the host's table. Contracts see its width and the leaves, newest
+/// first.
 #[derive(Drop)]
 pub(crate) struct GCache {
     held: Held,
@@ -111,7 +112,8 @@ fn block_of(item: Item, order: Order, guest_page: u64) -> Block
     }
 }
 
-/// The order of the leaf of an item that is in a list. Where all are of one order, it need not be asked.
+/// The order of the leaf of an item that is in a list. Where all are of one order, it need not be
+/// asked.
 #[inline(always)]
 fn order_in(held: Held, item: Item) -> Order
     ensures { (list : Cached Item) → IsHeld held list → In item list.items →
@@ -266,8 +268,8 @@ impl GCache {
         Ok(GCache { held, list })
     }
 
-    /// Touches the newest leaf that covers a guest page, and gives the block of the leaf. None where no leaf
-    /// covers the page.
+    /// Touches the newest leaf that covers a guest page, and gives the block of the leaf. None
+    /// where no leaf covers the page.
     #[inline(always)]
     pub fn touch(&mut self, guest_page: u64) -> Option<Block>
         requires { guest_page < 2 ^ 29 }

@@ -19,8 +19,8 @@ use xl_model::{Kind, Leaf, NoMemory, Order, Perm};
 use xl_nested_model::NestRefusal;
 use xl_radix::Radix;
 
-/// The host's table, its frames, and the G cache of the table's leaves, with the cache's hits. Contracts
-/// see all of it but which frames are free, which follows from the leaves.
+/// The host's table, its frames, and the G cache of the table's leaves, with the cache's hits.
+/// Contracts see all of it but which frames are free, which follows from the leaves.
 #[derive(Drop)]
 pub(crate) struct Host {
     stage: Stage,
@@ -204,8 +204,8 @@ impl Host {
         }
     }
 
-    /// Takes out the leaf of this first guest page and order, from the G cache too, and gives its frames
-    /// back.
+    /// Takes out the leaf of this first guest page and order, from the G cache too, and gives its
+    /// frames back.
     ///
     /// # Errors
     ///

@@ -1,5 +1,5 @@
-//! Two-stage translation: a guest with Sv39 tables, the VS-stage, over a host with Sv39x4 tables, the
-//! G-stage (RISC-V Privileged manual, hypervisor extension).
+//! Two-stage translation: a guest with Sv39 tables, the VS-stage, over a host with Sv39x4 tables,
+//! the G-stage (RISC-V Privileged manual, hypervisor extension).
 #![tactic(auto)]
 
 mod block;

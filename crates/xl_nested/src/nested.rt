@@ -120,8 +120,8 @@ impl Nested {
         self.walk_from(2, root, page, kind)
     }
 
-    /// The walk of a page from its node of a level down: the node's guest page is translated, and the
-    /// page's word is loaded.
+    /// The walk of a page from its node of a level down: the node's guest page is translated, and
+    /// the page's word is loaded.
     fn walk_from(&mut self, start: usize, node: u64, page: u64, kind: Kind) -> NestReply
         requires { IsAt start node page self.old.guest }
         ensures reply { result ≡ reply_from start page kind self.old }
@@ -147,7 +147,8 @@ impl Nested {
         }
     }
 
-    /// The end of a walk at the guest's leaf: where the leaf allows the access, its guest page is translated.
+    /// The end of a walk at the guest's leaf: where the leaf allows the access, its guest page is
+    /// translated.
     #[inline(always)]
     fn reach(&mut self, guest_page: Option<u64>, kind: Kind) -> NestReply
         requires { IfSome guest_page (λ page. page < 2 ^ 29) }

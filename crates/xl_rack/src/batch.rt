@@ -28,7 +28,7 @@ fn serve_demand<S: Structure>(machine: &mut Machine<S>, va: u64, kind: Kind, are
     }
 }
 
-/// Serves an access, with the events of its demand. BARE: no TLB is expected; CACHED: the row
+/// Serves an access, with the events of its demand. NO_TLB: no TLB is expected; CACHED: the row
 /// caches level-0 nodes.
 #[inline(always)]
 fn serve_one<S: Structure, const BARE: bool, const CACHED: bool>(

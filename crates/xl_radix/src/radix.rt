@@ -261,8 +261,8 @@ impl<const LEVELS: usize> Radix<LEVELS> {
         word
     }
 
-    /// The first of the words, of which each node number has 512: after them all are 0. Reading them
-    /// counts no load: a caller who reads them as loads counts them by `count_loads`.
+    /// The first of the words, of which each node number has 512: after them all are 0. Reading
+    /// them counts no load: a caller who reads them as loads counts them by `count_loads`.
     #[inline]
     pub fn front(&self) -> &[u64]
         ensures front { IsFront result.now self.entry.now.words }

@@ -1,7 +1,8 @@
 //! The arrays of a row, unless fetches and data have a first array each (`split`).
 //!
-//! Two common arrays that serve all accesses are looked at in line (`Path::Pair`), one such array likewise; the first two of
-//! other rows straight, where each is alone in its level; all others in turn.
+//! Two common arrays that serve all accesses are looked at in line (`Path::Pair`), one such array
+//! likewise; the first two of other rows straight, where each is alone in its level; all others in
+//! turn.
 
 ghost use Rattle.std.specs.Prelude.{◌≡◌, ◌==◌, ◌<◌, ◌≤◌, ◌^◌, ◌+◌, ℕ, true, length, map, slice_index_or, Some, IfOk, IfSome, IfNone};
 ghost use Rattle.xl_model.specs.declared.address.Kind.{Kind as KindOf};
@@ -27,7 +28,8 @@ use std::alloc::Global;
 use std::marker::Model;
 use xl_model::{Kind, Leaf, NoMemory, Order, Purge, Reach, TlbSpec};
 
-/// The kind of accesses for which arrays are asked that serve all: there no other kind does otherwise.
+/// The kind of accesses for which arrays are asked that serve all: there no other kind does
+/// otherwise.
 const ANY: Kind = Kind::Load;
 
 /// The arrays of a row in levels, with their counts; plus a memo of pages that hit the newest leaf
@@ -60,8 +62,8 @@ impl Joint {
         }
     }
 
-    /// The word of a page that was answered of late by a leaf of 4 KiB that is still the newest of its set of the first
-    /// array: it is answered so again. None elsewhere; then nothing changes.
+    /// The word of a page that was answered of late by a leaf of 4 KiB that is still the newest of
+    /// its set of the first array: it is answered so again. None elsewhere; then nothing changes.
     #[inline(always)]
     pub fn look_newest(&mut self, kind: Kind, sought: Sought) -> Option<u64>
         requires { IsSought order_of.K4 sought }
@@ -214,8 +216,8 @@ impl Joint {
         Some(page_word(page, hit))
     }
 
-    /// Puts a leaf that a walk found, made by an access of this kind, into the arrays of every level that serve such
-    /// accesses and hold its order.
+    /// Puts a leaf that a walk found, made by an access of this kind, into the arrays of every
+    /// level that serve such accesses and hold its order.
     #[inline(always)]
     pub fn fill(&mut self, kind: Kind, leaf: Leaf)
         requires { IsFit leaf }
@@ -276,7 +278,8 @@ impl Joint {
         self.newest.forget_block(eights, block_of(hit.order, page));
     }
 
-    /// Removes what a purge takes in all levels at a change of this leaf, and gives how many leaves left.
+    /// Removes what a purge takes in all levels at a change of this leaf, and gives how many leaves
+    /// left.
     pub fn purge(&mut self, purge: Purge, leaf: Leaf) -> u64
         requires { IsFit leaf }
         ensures left { result + leaves_in self.new.arrays ≡ leaves_in self.old.arrays }

@@ -42,13 +42,14 @@ pub(crate) enum Answered {
 pub(crate) enum Path {
     /// In all levels in turn.
     InTurn,
-    /// Straight in the first two arrays: they take such leaves, and each is alone in its level. All arrays serve all
-    /// accesses.
+    /// Straight in the first two arrays: they take such leaves, and each is alone in its level. All
+    /// arrays serve all accesses.
     Straight,
-    /// So and all in line, in the one array that there is: a common one, whose sets are a multiple of eight.
-    Single,
-    /// So and all in line, in the two arrays that there are: common ones, and the sets of the first are a multiple
+    /// So and all in line, in the one array that there is: a common one, whose sets are a multiple
     /// of eight.
+    Single,
+    /// So and all in line, in the two arrays that there are: common ones, and the sets of the first
+    /// are a multiple of eight.
     Pair,
 }
 
@@ -73,7 +74,8 @@ impl Model for Levels {
     ghost invariant = { λ t. IsTlb t.path (tlb_of t.arrays.items t.hits t.misses t.fills) };
 }
 
-/// Fills each array that serves the access and takes the order of a leaf that was hit elsewhere: how many do.
+/// Fills each array that serves the access and takes the order of a leaf that was hit elsewhere:
+/// how many do.
 #[tactic(auto, using(crate::proofs::TlbLemmas::count_first))]
 fn fill_each(arrays: &mut [AnyArray], kind: Kind, space: u16, page: u64, hit: Hit) -> u64
     requires space { space < 64 }
@@ -127,7 +129,8 @@ fn fill_second<const COMMON: usize>(
     fill_each(others, kind, sought.space, sought.page, hit) + 1
 }
 
-/// Fills the arrays with the leaf of 4 KiB that is sought: how many do. It is in front of the first then.
+/// Fills the arrays with the leaf of 4 KiB that is sought: how many do. It is in front of the first
+/// then.
 #[inline(always)]
 #[tactic(auto, using(crate::proofs::TlbLemmas::count_first))]
 fn fill_straight<const COMMON: usize>(
@@ -168,7 +171,8 @@ fn path_of(arrays: &[AnyArray]) -> Path
     }
 }
 
-/// Whether fetches and data have a first array each over one for both, in this order, all three common ones.
+/// Whether fetches and data have a first array each over one for both, in this order, all three
+/// common ones.
 fn are_split(arrays: &[AnyArray]) -> bool
     ensures { result ≡ true → AreSplit (map spec_of arrays.now) }
 {
@@ -223,8 +227,8 @@ fn fence_each(arrays: &mut [AnyArray], reach: Reach) -> u64
 }
 
 impl Levels {
-    /// The arrays of these specs, all empty, and counts of 0. `NoMemory` where the allocator has none
-    /// for the sets; then all is given back.
+    /// The arrays of these specs, all empty, and counts of 0. `NoMemory` where the allocator has
+    /// none for the sets; then all is given back.
     #[tactic(auto, unfolding(xl_model::specs::Tlb::opening_arrays, crate::specs::Tlbs::tlb_opening))]
     pub fn open(alloc: Global, specs: &ArrayVec<TlbSpec, 6>) -> Result<Levels, NoMemory>
         requires specs { AreSpecs specs.now.items }
@@ -319,8 +323,8 @@ impl Levels {
         }
     }
 
-    /// Whether the first array may hold leaves above 4 KiB. Where it can't, and has none of 4 KiB of a page, it
-    /// misses the page.
+    /// Whether the first array may hold leaves above 4 KiB. Where it can't, and has none of 4 KiB
+    /// of a page, it misses the page.
     #[inline(always)]
     pub fn has_large(&self) -> bool
         requires { 0 < length self.now.arrays }
@@ -354,8 +358,8 @@ impl Levels {
         Some(hit)
     }
 
-    /// Looks for a page in one or two arrays that don't answer it: that counts a miss of each, and changes
-    /// nothing else.
+    /// Looks for a page in one or two arrays that don't answer it: that counts a miss of each, and
+    /// changes nothing else.
     #[inline(always)]
     fn miss<const COMMON: usize>(&mut self, _kind: Kind, _space: u16, _page: u64)
         requires missed { AreMissed _space _page self.old.arrays }
@@ -378,7 +382,7 @@ impl Levels {
         self.hits[0] = self.hits[0].wrapping_add(1);
     }
 
-    /// Does what `hit_in_front` does, of the first array of accesses of this kind.
+    /// Like `hit_in_front`, of the first array of accesses of this kind.
     #[inline(always)]
     pub fn hit_front_of(&mut self, kind: Kind, _space: u16, _page: u64, _word: u64)
         requires split { AreSplit (map spec_of self.old.arrays) }
@@ -390,8 +394,9 @@ impl Levels {
         self.hits[first] = self.hits[first].wrapping_add(1);
     }
 
-    /// Does what `look` does for a leaf of 4 KiB, where fetches and data have a first array each, and gives its word: it is
-    /// the newest of its set of the first array then. Unknown where a larger leaf may answer; then nothing changes.
+    /// Does what `look` does for a leaf of 4 KiB, where fetches and data have a first array each,
+    /// and gives its word: it is the newest of its set of the first array then. Unknown where a
+    /// larger leaf may answer; then nothing changes.
     #[inline(always)]
     pub fn look_split(&mut self, kind: Kind, sought: Sought) -> Answered
         requires sought { IsSought order_of.K4 sought }
@@ -419,7 +424,7 @@ impl Levels {
         }
     }
 
-    /// Does what `fill_small` does, where fetches and data have a first array each.
+    /// Like `fill_small`, where fetches and data have a first array each.
     #[inline(always)]
     pub fn fill_split(&mut self, kind: Kind, sought: Sought, word: u64)
         requires sought { IsSought order_of.K4 sought }
@@ -486,7 +491,8 @@ impl Levels {
         Some(word)
     }
 
-    /// Puts a leaf that a walk found into the arrays of every level that serve the access and hold its order.
+    /// Puts a leaf that a walk found into the arrays of every level that serve the access and hold
+    /// its order.
     pub fn fill(&mut self, kind: Kind, space: u16, page: u64, hit: Hit)
         requires space { space < 64 }
         requires page { page < 2 ^ 52 }
@@ -499,8 +505,9 @@ impl Levels {
         self.fills = self.fills.wrapping_add(fills);
     }
 
-    /// Puts the leaf of 4 KiB that is sought into the arrays of every level that serve the access and hold such
-    /// leaves. It is the newest of its set of the first array then, and that alone in its level.
+    /// Puts the leaf of 4 KiB that is sought into the arrays of every level that serve the access
+    /// and hold such leaves. It is the newest of its set of the first array then, and that alone in
+    /// its level.
     #[inline(always)]
     pub fn fill_small<const COMMON: usize>(&mut self, kind: Kind, sought: Sought, word: u64)
         requires sought { IsSought order_of.K4 sought }
@@ -513,7 +520,8 @@ impl Levels {
         self.fills = self.fills.wrapping_add(fills);
     }
 
-    /// Removes what a purge takes in all levels at a change of this leaf, and gives how many leaves left.
+    /// Removes what a purge takes in all levels at a change of this leaf, and gives how many leaves
+    /// left.
     pub fn purge(&mut self, purge: Purge, leaf: Leaf) -> u64
         requires { IsFit leaf }
         ensures left { result + leaves_in self.new.arrays ≡ leaves_in self.old.arrays }

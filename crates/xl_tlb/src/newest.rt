@@ -10,7 +10,8 @@ ghost use Rattle.xl_model.specs.declared.address.Order.TheVariants as order;
 use crate::sought::Sought;
 
 /// For eight pages at most, the words of the leaves that answer them: each is the newest of its set
-/// of the first array. A page's place is its number's last three bits, and its key the tag of its leaf.
+/// of the first array. A page's place is its number's last three bits, and its key the tag of its
+/// leaf.
 #[derive(Clone, Copy, Debug)]
 pub(crate) struct Newest {
     keys: [u64; 8],
@@ -39,9 +40,9 @@ impl Newest {
         self.keys = [NONE; 8];
     }
 
-    /// What may have lost its front is not known from now on, where leaves of one set came or moved: that
-    /// of the block with this number. Where the sets are a multiple of eight, the pages of the set have
-    /// the block's last three bits, and so one place.
+    /// What may have lost its front is not known from now on, where leaves of one set came or
+    /// moved: that of the block with this number. Where the sets are a multiple of eight, the pages
+    /// of the set have the block's last three bits, and so one place.
     #[inline]
     pub fn forget_block(&mut self, eights: bool, block: u64)
         ensures { (old new : List TlbArray) → Knows self.old old

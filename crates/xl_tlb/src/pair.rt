@@ -1,5 +1,5 @@
-//! A look and a fill of two common arrays, a first one and a second one of a higher level; and the two of three that serve
-//! an access, where fetches and data have a first array each.
+//! A look and a fill of two common arrays, a first one and a second one of a higher level; and the
+//! two of three that serve an access, where fetches and data have a first array each.
 
 ghost use Rattle.std.specs.Prelude.{ℕ, ◌≡◌, true, map};
 ghost use Rattle.xl_model.specs.declared.address.Order.TheVariants as order_of;
@@ -12,8 +12,8 @@ use crate::look::first_and_rest;
 use crate::sought::Sought;
 use xl_model::{Kind, Order};
 
-/// What a look for a leaf of 4 KiB in two arrays told: the leaf's word, and which array answers; or that none does; or
-/// nothing, and then nothing changed.
+/// What a look for a leaf of 4 KiB in two arrays told: the leaf's word, and which array answers; or
+/// that none does; or nothing, and then nothing changed.
 #[derive(Clone, Copy)]
 pub(crate) enum Seen {
     First { word: u64 },
@@ -22,8 +22,9 @@ pub(crate) enum Seen {
     Unknown,
 }
 
-/// Looks for the leaf of 4 KiB that is sought in both arrays, and touches the first one that has it. Where that is the second,
-/// the first is filled. Unknown where a larger leaf may answer; then nothing changes.
+/// Looks for the leaf of 4 KiB that is sought in both arrays, and touches the first one that has
+/// it. Where that is the second, the first is filled. Unknown where a larger leaf may answer; then
+/// nothing changes.
 #[inline(always)]
 fn look_pair(first: &mut AnyArray, second: &mut AnyArray, sought: Sought) -> Seen
     requires sought { IsSought order_of.K4 sought }
@@ -63,7 +64,7 @@ fn fill_pair(first: &mut AnyArray, second: &mut AnyArray, sought: Sought, word: 
     second.fill_in::<2>(place, sought, word);
 }
 
-/// Does what `look_pair` does, with the two arrays that serve an access of this kind.
+/// Like `look_pair`, with the two arrays that serve an access of this kind.
 #[inline(always)]
 pub(crate) fn look_split(arrays: &mut [AnyArray], kind: Kind, sought: Sought) -> Seen
     requires sought { IsSought order_of.K4 sought }
@@ -79,7 +80,7 @@ pub(crate) fn look_split(arrays: &mut [AnyArray], kind: Kind, sought: Sought) ->
     }
 }
 
-/// Does what `fill_pair` does, with the two arrays that serve an access of this kind.
+/// Like `fill_pair`, with the two arrays that serve an access of this kind.
 #[inline(always)]
 pub(crate) fn fill_split(arrays: &mut [AnyArray], kind: Kind, sought: Sought, word: u64)
     requires sought { IsSought order_of.K4 sought }

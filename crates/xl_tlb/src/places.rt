@@ -9,8 +9,8 @@ ghost use Rattle.xl_tlb.specs.Arrays.{HasMask, IsCommon};
 use std::marker::Model;
 use xl_model::{Kind, Order, Serves, TlbSpec, remainder};
 
-/// The spec of an array, with what the set of a page takes of it, so that it isn't computed at each look.
-/// Contracts see the spec.
+/// The spec of an array, with what the set of a page takes of it, so that it isn't computed at each
+/// look. Contracts see the spec.
 #[derive(Drop)]
 pub(crate) struct Places {
     spec: TlbSpec,

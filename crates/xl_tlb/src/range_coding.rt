@@ -64,9 +64,9 @@ pub(crate) fn range_of(item: &RangeItem) -> Range
     }
 }
 
-/// Whether the item's range holds the page of the space. On which side of the page a range begins can't be
-/// foretold, so that is not asked: before a range's first page the difference wraps, and is more than any
-/// number of pages.
+/// Whether the item's range holds the page of the space. On which side of the page a range begins
+/// can't be foretold, so that is not asked: before a range's first page the difference wraps, and
+/// is more than any number of pages.
 #[tactic(auto, unfolding(crate::specs::RangeCoding::range_of))]
 pub(crate) fn holds(item: &RangeItem, space: u16, page: u64) -> bool
     ensures { result ≡ holds_page space page (range_in item.now) }

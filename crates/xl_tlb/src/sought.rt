@@ -6,8 +6,8 @@ ghost use Rattle.xl_tlb.specs.Sought.{IsSought};
 use crate::coding::tag_of;
 use xl_model::Order;
 
-/// A page of a space that is looked for, with the tag of its leaf of an order, so that all arrays are asked
-/// with one tag.
+/// A page of a space that is looked for, with the tag of its leaf of an order, so that all arrays
+/// are asked with one tag.
 #[derive(Clone, Copy)]
 pub(crate) struct Sought {
     pub space: u16,

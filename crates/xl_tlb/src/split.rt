@@ -1,7 +1,8 @@
 //! The arrays of a row whose fetches and data have a first array each over one for both.
 //!
-//! All three are common arrays. A look asks the pages that are known of the first array of its kind, then that array and the
-//! second one, in line. Where a leaf above 4 KiB may answer, it looks in turn.
+//! All three are common arrays. A look asks the pages that are known of the first array of its
+//! kind, then that array and the second one, in line. Where a leaf above 4 KiB may answer, it looks
+//! in turn.
 
 ghost use Rattle.std.specs.Prelude.{◌≡◌, ◌==◌, ◌<◌, ◌^◌, ◌+◌, false, length, map};
 ghost use Rattle.xl_model.specs.declared.address.Order.TheVariants as order_of;
@@ -22,7 +23,8 @@ use crate::sought::Sought;
 use std::marker::Model;
 use xl_model::{Kind, Leaf, Order, Purge, Reach};
 
-/// The arrays with their counts; and for each first array which pages its newest leaves answered of late.
+/// The arrays with their counts; and for each first array which pages its newest leaves answered of
+/// late.
 #[derive(Drop)]
 pub(crate) struct Split {
     levels: Levels,
@@ -54,8 +56,8 @@ impl Split {
         }
     }
 
-    /// Looks for the page whose leaf of 4 KiB is sought, for an access of this kind, and gives its word, as `look` of `Tlb`
-    /// does.
+    /// Looks for the page whose leaf of 4 KiB is sought, for an access of this kind, and gives its
+    /// word, as `look` of `Tlb` does.
     #[inline(always)]
     pub fn look(&mut self, kind: Kind, sought: Sought) -> Option<u64>
         requires { IsSought order_of.K4 sought }
@@ -80,7 +82,7 @@ impl Split {
         self.search(kind, sought.space, sought.page, sought.tag)
     }
 
-    /// Does what `look` does, for a page of which nothing is known, and keeps what it finds.
+    /// Like `look`, for a page of which nothing is known, and keeps what it finds.
     #[inline(never)]
     fn search(&mut self, kind: Kind, space: u16, page: u64, tag: u64) -> Option<u64>
         requires { IsKey tag space page }
@@ -103,7 +105,7 @@ impl Split {
         }
     }
 
-    /// Does what `look` does, by a look at all arrays in turn.
+    /// Like `look`, by a look at all arrays in turn.
     #[inline(never)]
     fn look_in_turn(&mut self, kind: Kind, space: u16, page: u64) -> Option<u64>
         requires space { space < 64 }
@@ -118,7 +120,8 @@ impl Split {
         Some(page_word(page, hit))
     }
 
-    /// Puts a leaf that a walk found into the arrays that serve accesses of this kind and hold its order.
+    /// Puts a leaf that a walk found into the arrays that serve accesses of this kind and hold its
+    /// order.
     pub fn fill(&mut self, kind: Kind, leaf: Leaf)
         requires { IsFit leaf }
         ensures { self.new ≡ tlb_filled kind leaf self.old }
@@ -158,7 +161,8 @@ impl Split {
         self.levels.fill(kind, space, page, hit);
     }
 
-    /// Removes what a purge takes in all arrays at a change of this leaf, and gives how many leaves left.
+    /// Removes what a purge takes in all arrays at a change of this leaf, and gives how many leaves
+    /// left.
     pub fn purge(&mut self, purge: Purge, leaf: Leaf) -> u64
         requires { IsFit leaf }
         ensures left { result + leaves_in self.new.arrays ≡ leaves_in self.old.arrays }

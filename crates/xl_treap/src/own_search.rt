@@ -14,8 +14,8 @@ pub(crate) struct Reached {
 
 /// The node whose pages hold a key. Before a node's first page the distance to it wraps, and is
 /// more than any node's pages; so one comparison says whether they hold the key. The side
-/// on which a search continues can't be predicted, so both links are there before one is chosen, and
-/// LLVM needs no branch for the choice.
+/// on which a search continues can't be predicted, so both links are there before one is chosen,
+/// and LLVM needs no branch for the choice.
 pub(crate) fn node_with(words: &[u64], root: u32, key: u64) -> Reached
     ghost tree: { Tree }
     requires stands { IsTree words.now root tree }
