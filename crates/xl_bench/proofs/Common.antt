@@ -2,7 +2,7 @@
 pub use Rattle.std.proofs.Common.{◌<◌, ◌∙◌, ◌∷◌, ◌≡◌, ◌≤◌, ◌⊎◌, [], ap, arith, Bool, false, inl, inr, List, map, refl, subst, sym, true, ℕ}
 pub use Rattle.std.specs.Option.{IfSome}
 pub use Rattle.std.specs.Prelude.{if◌then◌else◌, codes, drop, Err, None, Ok, OnOk, Option, option_map, Result, Some, string_bytes, unwrap_or}
-pub use Rattle.xl_course.proofs.ToldLemmas.{told_one}
+pub use Rattle.xl_course.proofs.KnownLemmas.{known_one}
 pub use Rattle.xl_course.specs.Accounts.{Account, Ends, EndsAs, Says, SaysOfWords}
 pub use Rattle.xl_course.specs.Stops.{status_at, status_by}
 pub use Rattle.xl_serving.specs.Plain.{AreOpened, plain_account, plain_rows}

@@ -1,5 +1,5 @@
 -- What a form that serves rows leaves of the machines.
-use Rattle.xl_bench.proofs.Common.{◌∙◌, ◌≡◌, ◌⊎◌, [], Account, AreOpened, Ends, Err, IfSome, inl, inr, IsUnserved, List, MachineStates, no_machines, Ok, OnOk, Option, refl, Result, status_by, subst, sym, told_one, ℕ}
+use Rattle.xl_bench.proofs.Common.{◌∙◌, ◌≡◌, ◌⊎◌, [], Account, AreOpened, Ends, Err, IfSome, inl, inr, IsUnserved, List, MachineStates, no_machines, Ok, OnOk, Option, refl, Result, status_by, subst, sym, known_one, ℕ}
 use Rattle.xl_course.specs.declared.stop.Stop.{Stop}
 use Rattle.xl_hart_model.specs.Harts.{HartsState}
 use Rattle.xl_model.specs.Scenes.{Served}
@@ -43,7 +43,7 @@ pub rows_early : (m : MachineStates) (rows : List Served) (json : Type 0) (files
     → IsUnserved (record m { rows = rows }) ⊎ (json × IfSome files (λ fs. record m { rows = rows } ≡ record no_machines { rows = left fs }))
 rows_early m rows json files left e (inl h) = inl (rows_unserved m rows e h)
 rows_early m rows json files left e (inr h) =
-    inr (h.0, told_one files (λ fs. rows ≡ left fs) _ h.1 (λ fs k. rw (e, k) refl))
+    inr (h.0, known_one files (λ fs. rows ≡ left fs) _ h.1 (λ fs k. rw (e, k) refl))
 
 -- the status of NoMemory is of it alone
 pub no_memory_by : (r : Result (Unit {0}) Stop) → status_by r ≡ status.NoMemory → r ≡ Err why.NoMemory

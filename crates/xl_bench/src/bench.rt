@@ -1,7 +1,7 @@
 //! A run of the program, in the form that its words ask for.
 
 ghost use Rattle.std.specs.Prelude.{◌≡◌, ◌⊎◌, Err, IfSome, true, length, map, option_map, string_bytes};
-ghost use Rattle.xl_outside.specs.Sinks.{GoesOn, IsFlushed};
+ghost use Rattle.xl_outside.specs.Sinks.{Proceeds, IsFlushed};
 ghost use Rattle.xl_words.specs.Words.{asked};
 ghost use Rattle.xl_course.specs.Stops.{status_by, FolderLeft, is_all_put, is_status_put};
 ghost use Rattle.xl_course.specs.Accounts.{text_of, Answers, SaysOfWords, Completes, Ends, message_of, Says};
@@ -10,7 +10,7 @@ ghost use Rattle.xl_bench.specs.Machines.{no_machines, IsUnserved};
 
 use crate::machines::Machines;
 use std::alloc::Global;
-use xl_course::{Status, Stop, tell};
+use xl_course::{Status, Stop, report_end};
 use xl_outside::{Folder, Sink};
 use xl_serving::words_stop;
 use xl_words::{Words, read};
@@ -33,7 +33,7 @@ pub fn run<F: Folder, K: Sink, E: Sink>(
     requires none { machines.old ≡ no_machines }
     requires out_flushed { IsFlushed K.sink out.old }
     requires err_flushed { IsFlushed E.sink err.old }
-    ensures told { IfSome (F.folder.files folder.old) (λ fs. Answers result
+    ensures known { IfSome (F.folder.files folder.old) (λ fs. Answers result
         (account_of (map string_bytes words.now.items) fs)
         (K.sink.outside out.old).written (K.sink.outside out.new).written) }
     ensures served { IfSome (F.folder.files folder.old) (λ fs. result ≡ Status.Ok
@@ -44,7 +44,7 @@ pub fn run<F: Folder, K: Sink, E: Sink>(
         machines.new ≡ machines_left (map string_bytes words.now.items) fs)) }
     ensures usage { SaysOfWords result (asked (map string_bytes words.now.items)) }
     ensures leaves { FolderLeft F.folder folder.old folder.new result }
-    ensures goes_on { GoesOn (is_status_put result)
+    ensures proceeds { Proceeds (is_status_put result)
         (K.sink.outside out.old) (K.sink.outside out.new) }
     ensures said { IfSome (message_of result
         (option_map (account_of (map string_bytes words.now.items)) (F.folder.files folder.old)))
@@ -54,7 +54,7 @@ pub fn run<F: Folder, K: Sink, E: Sink>(
         → Completes result (account_of (map string_bytes words.now.items) fs)) }
 {
     let end = report_of(alloc, words, folder, out, machines);
-    tell(err, end);
+    report_end(err, end);
     Status::of(end)
 }
 
@@ -69,7 +69,7 @@ fn report_of<F: Folder, K: Sink>(
 ) -> Result<(), Stop>
     requires none { machines.old ≡ no_machines }
     requires flushed { IsFlushed K.sink out.old }
-    ensures told { IfSome (F.folder.files folder.old) (λ fs. Ends result
+    ensures known { IfSome (F.folder.files folder.old) (λ fs. Ends result
         (account_of (map string_bytes words.now.items) fs)
         K.sink.roomy (K.sink.outside out.old).written (K.sink.outside out.new).written
         out.old out.new
@@ -81,7 +81,7 @@ fn report_of<F: Folder, K: Sink>(
     ensures usage { SaysOfWords (status_by result) (asked (map string_bytes words.now.items)) }
     ensures leaves { FolderLeft F.folder folder.old folder.new
         (status_by result) }
-    ensures goes_on { GoesOn (is_all_put result) (K.sink.outside out.old) (K.sink.outside out.new) }
+    ensures proceeds { Proceeds (is_all_put result) (K.sink.outside out.old) (K.sink.outside out.new) }
 {
     match read(alloc, words.as_slice()) {
         Ok(Words::Plain(words)) => xl_serving::report(

@@ -23,7 +23,7 @@ pub use Rattle.xl_chain.specs.Kept.{Apart, AreLinked, Filled, IsChain, IsFront, 
 pub use Rattle.xl_chain.specs.Layout.{base_at, IsShape, line_at, most_entries, place_of_value}
 pub use Rattle.xl_chain.specs.Lines.{AreLines, AreSingle, IsOwn, WordsReadBack}
 unfoldable pub use Rattle.xl_chain.specs.Lines.{in_bucket}
-pub use Rattle.xl_chain.specs.Places.{found_by, IsFirst, IsIndex, IsPlace, IsTaken, moved, place_at, place_found, placed, set_place, tag_by, tag_led, told}
+pub use Rattle.xl_chain.specs.Places.{found_by, IsFirst, IsIndex, IsPlace, IsTaken, moved, place_at, place_found, placed, set_place, tag_by, tag_led, known}
 pub use Rattle.xl_chain.specs.Steps.{IsPast, IsStepOf, Leads, tag_place}
 pub use Rattle.xl_chain.specs.declared.along.Visit.{Visit}
 pub use Rattle.xl_chain.specs.declared.shape.ChainShape.{ChainShape}

@@ -1,5 +1,5 @@
 -- The places in an index, as it and the chains change.
-use Rattle.xl_chain.proofs.Common.{◌+◌, ◌<◌, ◌==◌, ◌∙◌, ◌∷◌, ◌≡◌, [], ap, AreSingle, arith, bucket_of, ChainState, cond, entry_of, false, find, find-In, find-passes, first_value, found_of, has, has_tag, Held, held_with, In, in_front_of, inl, inr, is_some, IsFirst, IsIndex, IsInserted, IsTaken, length, length-by, List, map, moved, nat_lt, nat_tests, None, not, Option, place_at, place_found, placed, refl, set_place, slice_set, Some, sym, tag_led, tags_of, told, true, unequal, with_value, without_tag, WordsReadBack, ℕ}
+use Rattle.xl_chain.proofs.Common.{◌+◌, ◌<◌, ◌==◌, ◌∙◌, ◌∷◌, ◌≡◌, [], ap, AreSingle, arith, bucket_of, ChainState, cond, entry_of, false, find, find-In, find-passes, first_value, found_of, has, has_tag, Held, held_with, In, in_front_of, inl, inr, is_some, IsFirst, IsIndex, IsInserted, IsTaken, length, length-by, List, map, moved, nat_lt, nat_tests, None, not, Option, place_at, place_found, placed, refl, set_place, slice_set, Some, sym, tag_led, tags_of, known, true, unequal, with_value, without_tag, WordsReadBack, ℕ}
 use Rattle.xl_chain.proofs.FindLemmas.{has_found}
 use Rattle.xl_chain.proofs.FrontLemmas.{absent}
 use Rattle.xl_chain.proofs.MovedLemmas.{moved-same, placed-same}
@@ -58,8 +58,8 @@ same-some : (o : Option Held) → is_some (place_found (found_of o)) ≡ is_some
 same-some None = refl
 same-some (Some h) = refl
 
-pub told-held : (c : ChainState) (t : ℕ) → is_some (told c t) ≡ has_tag (tags_of c.held) t
-told-held c t = same-some (held_with t c.held) ∙ has_found t c.held
+pub known-held : (c : ChainState) (t : ℕ) → is_some (known c t) ≡ has_tag (tags_of c.held) t
+known-held c t = same-some (held_with t c.held) ∙ has_found t c.held
 
 pub moved-some : (x : Option ℕ) (p t : ℕ) (f : ℕ → Option ℕ) → is_some (moved x p f t) ≡ is_some (f t)
 moved-some None p t f = refl
@@ -86,10 +86,10 @@ found-entry t e v hs k =
     ] refl k
 
 -- a place written anew
-pub told-set : (c : ChainState) (tag e v p t : ℕ) → WordsReadBack c → AreSingle c.held → found_of (held_with tag c.held) ≡ seek.Found e v
-    → place_found (found_of (held_with t (map (with_value e 0 p) c.held))) ≡ moved (Some tag) p (told c) t
+pub known-set : (c : ChainState) (tag e v p t : ℕ) → WordsReadBack c → AreSingle c.held → found_of (held_with tag c.held) ≡ seek.Found e v
+    → place_found (found_of (held_with t (map (with_value e 0 p) c.held))) ≡ moved (Some tag) p (known c) t
 unfolding held_with
-told-set c tag e v p t words single found =
+known-set c tag e v p t words single found =
     let here = found-entry tag e v c.held found in
     ap (λ o. place_found (found_of o)) (with-set e 0 p t c.held)
     ∙ elim (find (has t) c.held) as (λ o. find (has t) c.held ≡ o → place_found (found_of (set_in e 0 p o)) ≡ cond (tag == t) (set_place p (place_found (found_of o))) (place_found (found_of o))) [
@@ -119,13 +119,13 @@ told-set c tag e v p t words single found =
 
 -- the index after a removal: it has the place of the entry after, and the tag no more
 pub index-less : (c d i j k : ChainState) (tag p : ℕ) → IsIndex c i → IsTaken tag p c d → length d.held + 1 ≡ length c.held → d.shape ≡ c.shape
-    → ((t : ℕ) → told j t ≡ moved (tag_led d p) p (told i) t) → length j.held ≡ length i.held → j.shape ≡ i.shape
+    → ((t : ℕ) → known j t ≡ moved (tag_led d p) p (known i) t) → length j.held ≡ length i.held → j.shape ≡ i.shape
     → k.held ≡ without_tag tag j.held → length k.held + 1 ≡ length j.held → k.shape ≡ j.shape → IsIndex d k
-index-less c d i j k tag p index taken fewer shape tells count-j shape-j less count-k shape-k = record {
+index-less c d i j k tag p index taken fewer shape says count-j shape-j less count-k shape-k = record {
   each = λ t.
       ap (λ hs. place_found (found_of (held_with t hs))) less ∙ ap (λ o. place_found (found_of o)) (with-less tag t j.held)
-      ∙ elim (tag == t) as (λ b. place_found (found_of (cond b None (held_with t j.held))) ≡ cond b None (told j t)) [ true ↦ refl | false ↦ refl ]
-      ∙ placed-same tag t None (told j) (moved (tag_led d p) p (place_at c)) (tells t ∙ moved-same (tag_led d p) p t (told i) (place_at c) (index.each t))
+      ∙ elim (tag == t) as (λ b. place_found (found_of (cond b None (held_with t j.held))) ≡ cond b None (known j t)) [ true ↦ refl | false ↦ refl ]
+      ∙ placed-same tag t None (known j) (moved (tag_led d p) p (place_at c)) (says t ∙ moved-same (tag_led d p) p t (known i) (place_at c) (index.each t))
       ∙ sym (taken.places t);
   count = (let n = index.count in omega arith);
   room = ap (λ s. s.entries) (shape-k ∙ shape-j) ∙ index.room ∙ sym (ap (λ s. s.entries) shape);
@@ -134,17 +134,17 @@ index-less c d i j k tag p index taken fewer shape tells count-j shape-j less co
 -- the index after an insertion: it has the new place of the entry that was in front, and the new
 -- tag
 pub index-more : (c d i j k : ChainState) (tag n head : ℕ) (values : List ℕ) → IsIndex c i → IsInserted tag values c d → IsFirst tag n c d → head ≡ bucket_of c.shape.buckets tag
-    → ((t : ℕ) → told j t ≡ moved (tag_led c head) n (told i) t) → length j.held ≡ length i.held → j.shape ≡ i.shape
+    → ((t : ℕ) → known j t ≡ moved (tag_led c head) n (known i) t) → length j.held ≡ length i.held → j.shape ≡ i.shape
     → has_tag (tags_of j.held) tag ≡ false → IsInserted tag (head ∷ []) j k → IsIndex d k
-index-more c d i j k tag n head values index inserted first is tells count-j shape-j none more =
+index-more c d i j k tag n head values index inserted first is says count-j shape-j none more =
     let x : Held = record { entry = more.held.0; tag = tag; values = head ∷ [] } in
     let y : Held = record { entry = inserted.held.0; tag = tag; values = values } in
     record {
       each = λ t.
           ap (λ hs. place_found (found_of (held_with t hs))) more.held.3
           ∙ ap (λ o. place_found (found_of o)) (with-front j.shape.buckets t x j.held (λ h l e. absent tag j.held h none l e))
-          ∙ elim (tag == t) as (λ b. place_found (found_of (cond b (Some x) (held_with t j.held))) ≡ cond b (Some head) (told j t)) [ true ↦ refl | false ↦ refl ]
-          ∙ placed-same tag t (Some head) (told j) (moved (tag_led c head) n (place_at c)) (tells t ∙ moved-same (tag_led c head) n t (told i) (place_at c) (index.each t))
+          ∙ elim (tag == t) as (λ b. place_found (found_of (cond b (Some x) (held_with t j.held))) ≡ cond b (Some head) (known j t)) [ true ↦ refl | false ↦ refl ]
+          ∙ placed-same tag t (Some head) (known j) (moved (tag_led c head) n (place_at c)) (says t ∙ moved-same (tag_led c head) n t (known i) (place_at c) (index.each t))
           ∙ ap (λ b. placed tag (Some b) (moved (tag_led c b) n (place_at c)) t) is
           ∙ sym (first t);
       count = (let m = index.count in
@@ -169,6 +169,6 @@ index-none c i none empty room places = record {
 
 -- a tag whose place changed is held in the index as it is in the chains
 pub still-held : (c i j : ChainState) (x : Option ℕ) (p tag : ℕ) → IsIndex c i → ((t : ℕ) → is_some (place_at c t) ≡ has_tag (tags_of c.held) t)
-    → ((t : ℕ) → told j t ≡ moved x p (told i) t) → has_tag (tags_of j.held) tag ≡ has_tag (tags_of c.held) tag
-still-held c i j x p tag index places tells =
-    sym (told-held j tag) ∙ ap is_some (tells tag) ∙ moved-some x p tag (told i) ∙ ap is_some (index.each tag) ∙ places tag
+    → ((t : ℕ) → known j t ≡ moved x p (known i) t) → has_tag (tags_of j.held) tag ≡ has_tag (tags_of c.held) tag
+still-held c i j x p tag index places says =
+    sym (known-held j tag) ∙ ap is_some (says tag) ∙ moved-some x p tag (known i) ∙ ap is_some (index.each tag) ∙ places tag

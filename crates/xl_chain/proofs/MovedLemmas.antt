@@ -26,34 +26,34 @@ abbrev first_in : ChainShape → List ℕ → List ℕ → Option ℕ
 first_in s words [] = None
 first_in s words (e ∷ es) = Some (tag_in s words e)
 
-abbrev behind_in : ChainShape → List ℕ → ℕ → List ℕ → Option ℕ
-behind_in s words tag [] = None
-behind_in s words tag (e ∷ es) = cond (tag_in s words e == tag) (first_in s words es) (behind_in s words tag es)
+abbrev following_in : ChainShape → List ℕ → ℕ → List ℕ → Option ℕ
+following_in s words tag [] = None
+following_in s words tag (e ∷ es) = cond (tag_in s words e == tag) (first_in s words es) (following_in s words tag es)
 
 first-In : (s : ChainShape) (words : List ℕ) (x : ℕ) (es : List ℕ) → first_in s words es ≡ Some x → (y : ℕ) × In y es × (tag_in s words y ≡ x)
 first-In s words x [] h = absurd (cc)
 first-In s words x (e ∷ es) h = (e, inl refl, cc)
 
-behind-In : (s : ChainShape) (words : List ℕ) (tag x : ℕ) (es : List ℕ) → behind_in s words tag es ≡ Some x → (y : ℕ) × In y es × (tag_in s words y ≡ x)
-behind-In s words tag x [] h = absurd (cc)
-behind-In s words tag x (e ∷ es) h =
-    elim (tag_in s words e == tag) as (λ b. cond b (first_in s words es) (behind_in s words tag es) ≡ Some x → (y : ℕ) × In y (e ∷ es) × (tag_in s words y ≡ x)) [
+following-In : (s : ChainShape) (words : List ℕ) (tag x : ℕ) (es : List ℕ) → following_in s words tag es ≡ Some x → (y : ℕ) × In y es × (tag_in s words y ≡ x)
+following-In s words tag x [] h = absurd (cc)
+following-In s words tag x (e ∷ es) h =
+    elim (tag_in s words e == tag) as (λ b. cond b (first_in s words es) (following_in s words tag es) ≡ Some x → (y : ℕ) × In y (e ∷ es) × (tag_in s words y ≡ x)) [
       | true ↦ λ k. let r = first-In s words x es k in (r.0, inr r.1, r.2)
-      | false ↦ λ k. let r = behind-In s words tag x es k in (r.0, inr r.1, r.2)
+      | false ↦ λ k. let r = following-In s words tag x es k in (r.0, inr r.1, r.2)
     ] h
 
 led-first : (s : ChainShape) (words : List ℕ) (at : ℕ) (es : List ℕ) → IsChain (next_in s words) at es → ((e : ℕ) → In e es → e < s.entries) → tag_by s words at ≡ first_in s words es
 led-first s words at [] h inside = ap (tag_by s words) h
 led-first s words at (e ∷ es) (is, rest) inside = ap (tag_by s words) is ∙ pick-yes e s.entries (Some (tag_in s words e)) None (inside e (inl refl))
 
-led-behind : (s : ChainShape) (words : List ℕ) (tag p q r : ℕ) (es : List ℕ) → IsChain (next_in s words) (slice_index words p) es → ((e : ℕ) → In e es → e < s.entries)
-    → place_in s words tag p es ≡ Some q → slice_index words q ≡ suc r → tag_by s words (next_in s words r) ≡ behind_in s words tag es
-led-behind s words tag p q r [] h inside w l = absurd (cc)
-led-behind s words tag p q r (e ∷ es) (is, rest) inside w l =
-    elim (tag_in s words e == tag) as (λ b. cond b (Some p) (place_in s words tag (base_at s e + 1) es) ≡ Some q → tag_by s words (next_in s words r) ≡ cond b (first_in s words es) (behind_in s words tag es)) [
+led-following : (s : ChainShape) (words : List ℕ) (tag p q r : ℕ) (es : List ℕ) → IsChain (next_in s words) (slice_index words p) es → ((e : ℕ) → In e es → e < s.entries)
+    → place_in s words tag p es ≡ Some q → slice_index words q ≡ suc r → tag_by s words (next_in s words r) ≡ following_in s words tag es
+led-following s words tag p q r [] h inside w l = absurd (cc)
+led-following s words tag p q r (e ∷ es) (is, rest) inside w l =
+    elim (tag_in s words e == tag) as (λ b. cond b (Some p) (place_in s words tag (base_at s e + 1) es) ≡ Some q → tag_by s words (next_in s words r) ≡ cond b (first_in s words es) (following_in s words tag es)) [
       | true ↦ λ k. let f : q ≡ p = cc in let g : r ≡ e = (let u : slice_index words q ≡ slice_index words p = ap (slice_index words) f in omega arith) in
           ap (λ x. tag_by s words (next_in s words x)) g ∙ led-first s words (next_in s words e) es rest (λ x i. inside x (inr i))
-      | false ↦ λ k. led-behind s words tag (base_at s e + 1) q r es rest (λ x i. inside x (inr i)) k l
+      | false ↦ λ k. led-following s words tag (base_at s e + 1) q r es rest (λ x i. inside x (inr i)) k l
     ] w
 
 -- places along a chain
@@ -78,14 +78,14 @@ place-first s words t p n (e ∷ es) =
     ]
 
 place-gone : (s : ChainShape) (words : List ℕ) (tag t p q : ℕ) (es : List ℕ) → Apart (tag_in s words) es → place_in s words tag p es ≡ Some q
-    → place_in s words t p (left_in s words tag es) ≡ placed tag None (moved (behind_in s words tag es) q (λ u. place_in s words u p es)) t
+    → place_in s words t p (left_in s words tag es) ≡ placed tag None (moved (following_in s words tag es) q (λ u. place_in s words u p es)) t
 place-gone s words tag t p q [] a w = absurd (cc)
 place-gone s words tag t p q (e ∷ es) (first, others) w =
     let f : ℕ → Option ℕ = λ u. place_in s words u p (e ∷ es) in
     let g : ℕ → Option ℕ = λ u. place_in s words u (base_at s e + 1) es in
     let skip : (tag_in s words e ≡ t → ⊥) → f t ≡ g t = (λ n. ap (λ c. cond c (Some p) (g t)) (unequal (tag_in s words e) t n)) in
     elim (tag_in s words e == tag) as (λ b. (tag_in s words e == tag) ≡ b → cond b (Some p) (g tag) ≡ Some q
-    → place_in s words t p (cond (not b) (e ∷ left_in s words tag es) (left_in s words tag es)) ≡ placed tag None (moved (cond b (first_in s words es) (behind_in s words tag es)) q f) t) [
+    → place_in s words t p (cond (not b) (e ∷ left_in s words tag es) (left_in s words tag es)) ≡ placed tag None (moved (cond b (first_in s words es) (following_in s words tag es)) q f) t) [
       | true ↦ λ b k.
           let is : tag_in s words e ≡ tag = grind (arith, nat_tests) in
           let at : p ≡ q = cc in
@@ -97,17 +97,17 @@ place-gone s words tag t p q (e ∷ es) (first, others) w =
           ] refl
       | false ↦ λ b k.
           elim (tag_in s words e == t) as (λ c. (tag_in s words e == t) ≡ c
-          → cond c (Some p) (place_in s words t (base_at s e + 1) (left_in s words tag es)) ≡ placed tag None (moved (behind_in s words tag es) q f) t) [
+          → cond c (Some p) (place_in s words t (base_at s e + 1) (left_in s words tag es)) ≡ placed tag None (moved (following_in s words tag es) q f) t) [
             | true ↦ λ c.
                 let is : tag_in s words e ≡ t = grind (arith, nat_tests) in
-                sym (placed-other tag t None (moved (behind_in s words tag es) q f) (λ z. let h : tag_in s words e ≡ tag = is ∙ sym z in grind (arith, nat_tests))
-                ∙ moved-other (behind_in s words tag es) q t f (λ y h z. let r = behind-In s words tag y es h in first r.0 r.1 (r.2 ∙ z ∙ sym is))
+                sym (placed-other tag t None (moved (following_in s words tag es) q f) (λ z. let h : tag_in s words e ≡ tag = is ∙ sym z in grind (arith, nat_tests))
+                ∙ moved-other (following_in s words tag es) q t f (λ y h z. let r = following-In s words tag y es h in first r.0 r.1 (r.2 ∙ z ∙ sym is))
                 ∙ ap (λ d. cond d (Some p) (g t)) c)
             | false ↦ λ c.
                 let n : tag_in s words e ≡ t → ⊥ = (λ z. grind (arith, nat_tests)) in
                 place-gone s words tag t (base_at s e + 1) q es others k
-                ∙ placed-same tag t None (moved (behind_in s words tag es) q g) (moved (behind_in s words tag es) q f)
-                (moved-same (behind_in s words tag es) q t g f (sym (skip n)))
+                ∙ placed-same tag t None (moved (following_in s words tag es) q g) (moved (following_in s words tag es) q f)
+                (moved-same (following_in s words tag es) q t g f (sym (skip n)))
           ] refl
     ] refl w
 
@@ -162,8 +162,8 @@ gone-places s old new free tag p r t i found past g =
     let b_in : b < s.buckets = some_bucket s old free i tag in
     let place : place_in s old tag b es ≡ Some p = sym (place-read s old free i tag) ∙ found in
     let set : IsSet old new p (next_in s old r) = is-set old new p (next_in s old r) past.there past.now in
-    let led : tag_by s new (slice_index new p) ≡ behind_in s old tag es =
-    ap (tag_by s new) set.here ∙ tag-by-same s old new (next_in s old r) g.tags ∙ led-behind s old tag b p r es (i.chains b b_in) (λ x j. i.inside b x b_in j) place past.led in
+    let led : tag_by s new (slice_index new p) ≡ following_in s old tag es =
+    ap (tag_by s new) set.here ∙ tag-by-same s old new (next_in s old r) g.tags ∙ led-following s old tag b p r es (i.chains b b_in) (λ x j. i.inside b x b_in j) place past.led in
     let now : spot s new t ≡ place_in s old t a (chain_in s new a) = place-read s new (free ++ r ∷ []) g.table t ∙ place-same s old new t a (chain_in s new a) (λ x j. g.tags x) in
     let before : spot s old t ≡ place_in s old t a (chain_in s old a) = place-read s old free i t in
     let F : ℕ → Option ℕ = λ u. place_in s old u b es in
@@ -171,12 +171,12 @@ gone-places s old new free tag p r t i found past g =
       | true ↦ λ d. let q : a ≡ b = grind (arith, nat_tests) in
           now ∙ ap (λ k. place_in s old t k (chain_in s new k)) q ∙ ap (place_in s old t b) g.here
           ∙ place-gone s old tag t b p es (i.apart b b_in) place
-          ∙ placed-same tag t None (moved (behind_in s old tag es) p F) (moved (behind_in s old tag es) p (spot s old))
-          (moved-same (behind_in s old tag es) p t F (spot s old) (sym (before ∙ ap (λ k. place_in s old t k (chain_in s old k)) q)))
+          ∙ placed-same tag t None (moved (following_in s old tag es) p F) (moved (following_in s old tag es) p (spot s old))
+          (moved-same (following_in s old tag es) p t F (spot s old) (sym (before ∙ ap (λ k. place_in s old t k (chain_in s old k)) q)))
           ∙ ap (λ o. placed tag None (moved o p (spot s old)) t) (sym led)
       | false ↦ λ d. let o : a ≡ b → ⊥ = λ z. grind (arith, nat_tests) in
           now ∙ ap (place_in s old t a) (g.elsewhere a a_in o) ∙ sym before
-          ∙ sym (elsewhere s old free tag t p None (tag_by s new (slice_index new p)) i o (λ y h. behind-In s old tag y es (sym led ∙ h)))
+          ∙ sym (elsewhere s old free tag t p None (tag_by s new (slice_index new p)) i o (λ y h. following-In s old tag y es (sym led ∙ h)))
     ] refl
 
 -- a value that is set leaves all places

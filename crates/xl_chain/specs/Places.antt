@@ -65,12 +65,12 @@ place_found seek.OutOfBus = None
 place_found seek.TooLong = None
 
 -- the place that an index has for a tag
-abbrev pub told : ChainState → ℕ → Option ℕ
-told places tag = place_found (found_of (held_with tag places.held))
+abbrev pub known : ChainState → ℕ → Option ℕ
+known places tag = place_found (found_of (held_with tag places.held))
 
 -- an index has the place of each tag in chains, and room for as many
 pub record IsIndex (c places : ChainState) : Type 0 where
-  pub each : (t : ℕ) → told places t ≡ place_at c t
+  pub each : (t : ℕ) → known places t ≡ place_at c t
   pub count : length places.held ≡ length c.held
   pub room : places.shape.entries ≡ c.shape.entries
 

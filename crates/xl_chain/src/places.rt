@@ -5,7 +5,7 @@ ghost use Rattle.std.specs.Prelude.{ℕ, ◌≡◌, ◌<◌, ◌+◌, ◌*◌, �
 ghost use Rattle.xl_model.specs.Chains.{has_tag};
 ghost use Rattle.xl_chain.specs.Held.{ChainState, tags_of, held_with, found_of, without_tag};
 ghost use Rattle.xl_chain.specs.Kept.{IsInserted};
-ghost use Rattle.xl_chain.specs.Places.{told, moved, IsIndex, IsIndexed};
+ghost use Rattle.xl_chain.specs.Places.{known, moved, IsIndex, IsIndexed};
 
 use crate::entries::Entries;
 use crate::shape::Seek;
@@ -33,8 +33,8 @@ pub(crate) fn open_places<const V: usize>(
 
 /// The place that the index has for a tag.
 #[inline(never)]
-fn place_told(places: &Entries<1>, tag: u64) -> Option<usize>
-    ensures { result ≡ told places.now tag }
+fn place_known(places: &Entries<1>, tag: u64) -> Option<usize>
+    ensures { result ≡ known places.now tag }
 {
     match places.look(tag) {
         Seek::Found { value, .. } => Some(value as usize),
@@ -53,15 +53,15 @@ pub(crate) fn look_placed<const V: usize>(
     ensures { result ≡ found_of (held_with tag entries.now.held) }
 {
     entries.words_read_back();
-    match place_told(places, tag) {
+    match place_known(places, tag) {
         None => Seek::Absent,
         Some(place) => entries.look_at(place),
     }
 }
 
 /// Writes another place of a tag into the index, where there is a tag and the index has it.
-fn tell(places: &mut Entries<1>, tag: Option<u64>, place: usize)
-    ensures told { (t : ℕ) → told places.new t ≡ moved tag place (told places.old) t }
+fn set_place(places: &mut Entries<1>, tag: Option<u64>, place: usize)
+    ensures known { (t : ℕ) → known places.new t ≡ moved tag place (known places.old) t }
     ensures count { length places.new.held ≡ length places.old.held }
     ensures shape { places.new.shape ≡ places.old.shape }
 {
@@ -90,12 +90,12 @@ pub(crate) fn remove_placed<const V: usize>(
     ensures index { IsIndex entries.new places.new }
 {
     entries.words_read_back();
-    match place_told(places, tag) {
+    match place_known(places, tag) {
         None => unreachable!(),
         Some(place) => {
             entries.remove_at(place);
-            let behind = entries.tag_led(place);
-            tell(places, behind, place);
+            let following = entries.tag_led(place);
+            set_place(places, following, place);
             places.remove(tag);
         }
     }
@@ -121,7 +121,7 @@ pub(crate) fn insert_placed<const V: usize>(
     let head = entries.head(tag);
     let first = entries.tag_led(head);
     let next = entries.insert(tag, values)?;
-    tell(places, first, next);
+    set_place(places, first, next);
     match places.insert(tag, [head as u64]) {
         Ok(_) => Ok(()),
         Err(_) => unreachable!(),

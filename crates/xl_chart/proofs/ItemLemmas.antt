@@ -66,9 +66,9 @@ pub access_served : (va : ℕ) (kind : Kind) (areas : List Area) (o : Outcome) (
     → o ≡ outcome_of v.row (event.Access va kind) v.state → space ≡ v.state.space → area ≡ wanted_by o (area_for space va areas)
     → IsServedBeside (λ row. charted_event row (event.Access va kind)) v c w d → IsServedBeside (λ row. charted_demand area row va (event.Access va kind)) w d x b
     → IsServedBeside (λ row. charted_access row va kind areas) v c x b
-access_served va kind areas o space area v w x c d b told here asked first second =
+access_served va kind areas o space area v w x c d b known here asked first second =
     let area_is : area ≡ area_wanted v.row va kind areas v.state =
-    asked ∙ ap (λ (k : Outcome). wanted_by k (area_for space va areas)) told ∙ ap (λ (n : ℕ). wanted_by (outcome_of v.row (event.Access va kind) v.state) (area_for n va areas)) here
+    asked ∙ ap (λ (k : Outcome). wanted_by k (area_for space va areas)) known ∙ ap (λ (n : ℕ). wanted_by (outcome_of v.row (event.Access va kind) v.state) (area_for n va areas)) here
     ∙ access_outcome v.row va kind v.state (area_for v.state.space va areas) in
     let r : IsServedBeside (λ row p. charted_demand area row va (event.Access va kind) (charted_event row (event.Access va kind) p)) v c x b =
     in_turn (λ row. charted_event row (event.Access va kind)) (λ row. charted_demand area row va (event.Access va kind)) v w x c d b first second in

@@ -142,7 +142,7 @@ fn one_array(row: u32, table: &Table) -> Result<TlbSpec, KeyFault>
     let level = small(row, 22, "level", 1, 3, table)?;
     let sets = number(row, 22, "sets", 1, 16_384, table)?;
     let width = width_at(row, table)?;
-    let bare = TlbSpec {
+    let blank = TlbSpec {
         level,
         sets,
         width,
@@ -151,7 +151,7 @@ fn one_array(row: u32, table: &Table) -> Result<TlbSpec, KeyFault>
         g1: false,
         serves: Serves::All,
     };
-    let spec = orders(row, table, bare)?;
+    let spec = orders(row, table, blank)?;
     let serves = serves(row, table)?;
     if u64::from(sets) * u64::from(width) > 16_384 {
         return Err(KeyFault {

@@ -2,7 +2,7 @@
 use Rattle.xl_course.proofs.Common.{◌++◌, ◌+◌, ◌-◌, ◌<◌, ◌∙◌, ◌∷◌, ◌≡◌, ◌≤◌, [], ap, append_assoc, arith, at_last, before, Bool, Course, course, course_by, drop, drop_all, drop_more, ended, Err, false, finish, found_of, Gives, HasServed, InputFault, items_of, items_of_all, length, List, Meaning, None, Numbered, Ok, Option, ran, ran_all, Reached, refl, Result, Serves, ServesPart, SinkMeaning, Skimmed, slice_get, Some, states_after, Stop, subst, suc, sym, true, zero, ℕ}
 use Rattle.std.proofs.lemmas.Option.{get_or_from_slice_get, slice_get_within}
 use Rattle.xl_model.specs.Courses.{Accesses, at_end, Trail}
-use Rattle.xl_course.proofs.ServedLemmas.{served-untold, served_cut, served_none, served_on}
+use Rattle.xl_course.proofs.ServedLemmas.{served-unprinted, served_cut, served_none, served_on}
 use Rattle.xl_course.specs.declared.form.Step.{Step}
 use Rattle.xl_course.specs.declared.stop.Stop.TheVariants as why
 
@@ -35,12 +35,12 @@ left_by rules t next = rules t.records t.fault next
 -- left
 pub record Underway {K C I S : Type 0} (m : Meaning C I S) (sink : SinkMeaning K) (answers : Bool) (after : Type 0) (by now : (Trail → Course I) → Course I) (p q : S) (k l : K) : Type 0 where
   pub serves : (next : Trail → Course I) → Reached m sink answers (by next) (now next) p q k l
-  pub stands_still : after
+  pub still_reads : after
 
 -- how far a script came
 pub record Through {K C I S : Type 0} (m : Meaning C I S) (sink : SinkMeaning K) (answers : Bool) (after : Type 0) (whole left : Course I) (p q : S) (k l : K) : Type 0 where
   pub reached : Reached m sink answers whole left p q k l
-  pub stands_still : after
+  pub still_reads : after
 
 -- a rule of records that are taken first
 abbrev Takes : {C I S : Type 0} → Meaning C I S → Rules I → Rules I → List Accesses → Type 0
@@ -116,7 +116,7 @@ module _ {K C I S : Type 0} (m : Meaning C I S) (sink : SinkMeaning K) (answers 
         ap (λ (v : Trail). left_by now v next) f.1 ∙ steps.first (found_of r) u.records u.fault next in
         reached_on (by next) (left_by now t next) (left_by later u next) p q s k l n (g.serves next)
         (record { done = items; split = e; served = x });
-    stands_still = f.0;
+    still_reads = f.0;
   }
 
   -- a put failed in the midst of a record
@@ -131,12 +131,12 @@ module _ {K C I S : Type 0} (m : Meaning C I S) (sink : SinkMeaning K) (answers 
         lost_on (by next) (left_by now t next) p q s k l n (g.serves next)
         (subst (λ (zs : List I). Has zs q s l n false) (sym (ap (λ (z : Course I). z.items) e))
         (served_cut m sink answers items (left_by later u next).items q s l n x));
-    stands_still = tt;
+    still_reads = tt;
   }
 
   -- nothing was served yet
   pub underway_none : (after : Type 0) (rules : Rules I) (t : Trail) (p : S) (k : K) → after → On after (left_by rules t) (left_by rules t) p p k k
-  underway_none after rules t p k s = record { serves = λ next. reached_none (left_by rules t next) p k; stands_still = s }
+  underway_none after rules t p k s = record { serves = λ next. reached_none (left_by rules t next) p k; still_reads = s }
 
   -- the trace has ended
   pub going_ends : {A : Type 0} (mid after : Type 0) (by : (Trail → Course I) → Course I) (now later : Rules I) (t u : Trail) (p q : S) (k l : K) (v : A)
@@ -146,13 +146,13 @@ module _ {K C I S : Type 0} (m : Meaning C I S) (sink : SinkMeaning K) (answers 
     serves = λ next.
         let e : left_by now t next ≡ next u = ap (λ (w : Trail). left_by now w next) f.1 ∙ steps.last None next ∙ ap next (sym f.2) in
         subst (λ (c : Course I). Comes (by next) c p q k l) e (g.serves next);
-    stands_still = f.0;
+    still_reads = f.0;
   }
 
   -- as many records were served as were to be
   pub going_full : {A : Type 0} (mid : Type 0) (by : (Trail → Course I) → Course I) (t : Trail) (p q : S) (k l : K) (v : A)
       → On mid by (left_by (ran m 0) t) p q k l → ServesPart m sink answers mid by t p q k l (Ok v)
-  going_full mid by t p q k l v g = record { serves = g.serves; stands_still = g.stands_still }
+  going_full mid by t p q k l v g = record { serves = g.serves; still_reads = g.still_reads }
 
   ends_at : (mid : Type 0) (by : (Trail → Course I) → Course I) (now later : Rules I) (t : Trail) (p q : S) (k l : K) (e : Option InputFault) (next : Trail → Course I)
       → Steps m now later → On mid by (left_by now t) p q k l → t ≡ at_end e → at_last e next ≡ ended e → Comes (by next) (ended e) p q k l
@@ -166,9 +166,9 @@ module _ {K C I S : Type 0} (m : Meaning C I S) (sink : SinkMeaning K) (answers 
   going_stops A mid after by now later t u p q k l why.WriteFault steps g f = absurd f
   going_stops A mid after by now later t u p q k l why.NoMemory steps g f = absurd f
   going_stops A mid after by now later t u p q k l why.ReadFault steps g f =
-      record { serves = λ next. record { left = left_by now t next; reached = g.serves next }; stands_still = tt }
+      record { serves = λ next. record { left = left_by now t next; reached = g.serves next }; still_reads = tt }
   going_stops A mid after by now later t u p q k l (why.Input fault) steps g f =
-      record { serves = λ next. ends_at mid by now later t p q k l (Some fault) next steps g f refl; stands_still = tt }
+      record { serves = λ next. ends_at mid by now later t p q k l (Some fault) next steps g f refl; still_reads = tt }
 
   -- a step, and then what continues
   part_then : {A : Type 0} (after : Type 0) (a : Course I) (by : (Trail → Course I) → Course I) (next : Trail → Course I) (u : Trail) (p q s : S) (k l n : K) (r : Result A Stop)
@@ -178,15 +178,15 @@ module _ {K C I S : Type 0} (m : Meaning C I S) (sink : SinkMeaning K) (answers 
   -- a command was served: the trace stays
   pub part_items : {A : Type 0} (after : Type 0) (xs : List I) (t : Trail) (p q : S) (k l : K) (v : A) → after → Has xs p q k l true
       → ServesPart m sink answers after (λ next. before xs (next t)) t p q k l (Ok v)
-  part_items after xs t p q k l v s x = record { serves = λ next. reached_items xs (next t) p q k l x; stands_still = s }
+  part_items after xs t p q k l v s x = record { serves = λ next. reached_items xs (next t) p q k l x; still_reads = s }
 
   -- a put failed in a command
   pub part_lost : (A : Type 0) (after : Type 0) (xs : List I) (t : Trail) (p q : S) (k l : K) → Has xs p q k l false
       → ServesPart {A = A} m sink answers after (λ next. before xs (next t)) t p q k l (Err why.WriteFault)
-  part_lost A after xs t p q k l x = record { serves = λ next. served_cut m sink answers xs (next t).items p q k l x; stands_still = tt }
+  part_lost A after xs t p q k l x = record { serves = λ next. served_cut m sink answers xs (next t).items p q k l x; still_reads = tt }
 
   pub through_none : (after : Type 0) (c : Course I) (p : S) (k : K) → after → Through m sink answers after c c p p k k
-  through_none after c p k s = record { reached = reached_none c p k; stands_still = s }
+  through_none after c p k s = record { reached = reached_none c p k; still_reads = s }
 
   course-left : (cs : List (Step C)) (i : ℕ) (c : Step C) (t : Trail) → slice_get cs i ≡ Some c → course m (drop i cs) t ≡ course_by m c t (course m (drop (i + 1) cs))
   course-left cs i c t h = ap (λ (ds : List (Step C)). course m ds t) (steps-left cs i c h)
@@ -222,14 +222,14 @@ pub lost-any : {K C I S : Type 0} {m : Meaning C I S} {sink : SinkMeaning K} (an
     → HasServed m sink answers xs p q k l false → HasServed m sink answers xs p r k l false
 lost-any answers xs p q r k l x = record { state_is = tt; writes = x.writes }
 
-pub skimmed-none : {C I S : Type 0} (m : Meaning C I S) (stands : Type 0) (t : Trail) (p : S) → stands → Skimmed m stands t t p p 0
-skimmed-none m stands t p h = record { stands_still = h; taken = []; split = refl; follow = refl; many = refl }
+pub skimmed-none : {C I S : Type 0} (m : Meaning C I S) (reads_from : Type 0) (t : Trail) (p : S) → reads_from → Skimmed m reads_from t t p p 0
+skimmed-none m reads_from t p h = record { still_reads = h; taken = []; split = refl; follow = refl; many = refl }
 
-module _ {K C I S : Type 0} (m : Meaning C I S) (sink : SinkMeaning K) (stands : Type 0) (t u : Trail) (q s : S) (count : ℕ)
-    (k : Skimmed m stands t u q s count) (out : K) where
+module _ {K C I S : Type 0} (m : Meaning C I S) (sink : SinkMeaning K) (reads_from : Type 0) (t u : Trail) (q s : S) (count : ℕ)
+    (k : Skimmed m reads_from t u q s count) (out : K) where
   -- where lines are written, nothing is skimmed
   served-skimmed : (answers : Bool) → (answers ≡ true → count ≡ 0) → HasServed m sink answers (items_of_all m k.taken) q s out out true
-  served-skimmed false idle = served-untold m sink (items_of_all m k.taken) q s out k.follow
+  served-skimmed false idle = served-unprinted m sink (items_of_all m k.taken) q s out k.follow
   served-skimmed true idle =
       let none : k.taken ≡ [] = nothing k.taken (k.many ∙ idle refl) in
       let same : s ≡ q = k.follow ∙ ap (λ (rs : List Accesses). states_after m (items_of_all m rs) q) none in
@@ -242,7 +242,7 @@ module _ {K C I S : Type 0} (m : Meaning C I S) (sink : SinkMeaning K) (stands :
   -- the records that were skimmed are served when the form has taken them
   going_skims : (answers : Bool) (mid : Type 0) (by : (Trail → Course I) → Course I) (now later : Rules I) (p : S) (first : K) → Takes m now later k.taken → (answers ≡ true → count ≡ 0)
       → Underway m sink answers mid by (left_by now t) p q first out
-      → Underway m sink answers stands by (left_by later u) p s first out
+      → Underway m sink answers reads_from by (left_by later u) p s first out
   going_skims answers mid by now later p first takes idle g = record {
     serves = λ next.
         reached_on m sink answers (by next) (left_by now t next) (left_by later u next) p q s first out out (g.serves next)
@@ -251,15 +251,15 @@ module _ {K C I S : Type 0} (m : Meaning C I S) (sink : SinkMeaning K) (stands :
           split = ap (λ (v : Trail). left_by now v next) k.split ∙ takes u.records u.fault next;
           served = served-skimmed answers idle;
         });
-    stands_still = k.stands_still;
+    still_reads = k.still_reads;
   }
 
   pub going_skims_all : (answers : Bool) (mid : Type 0) (by : (Trail → Course I) → Course I) (p : S) (first : K) → (answers ≡ true → count ≡ 0)
       → Underway m sink answers mid by (left_by (ran_all m) t) p q first out
-      → Underway m sink answers stands by (left_by (ran_all m) u) p s first out
+      → Underway m sink answers reads_from by (left_by (ran_all m) u) p s first out
   going_skims_all answers mid by p first idle g = going_skims answers mid by (ran_all m) (ran_all m) p first (all-taken m k.taken) idle g
 
   pub going_skims_run : (n : ℕ) (answers : Bool) (mid : Type 0) (by : (Trail → Course I) → Course I) (p : S) (first : K) → (answers ≡ true → count ≡ 0) → count ≤ n
       → Underway m sink answers mid by (left_by (ran m n) t) p q first out
-      → Underway m sink answers stands by (left_by (ran m (n - count)) u) p s first out
+      → Underway m sink answers reads_from by (left_by (ran m (n - count)) u) p s first out
   going_skims_run n answers mid by p first idle h g = going_skims answers mid by (ran m n) (ran m (n - count)) p first (run-taken m n count k.taken k.many h) idle g

@@ -1,6 +1,6 @@
 -- What the steps of a run say of its account.
-use Rattle.xl_course.proofs.Common.{◌++◌, ◌+◌, ◌-◌, ◌∙◌, ◌≡◌, ◌≤◌, Account, account, ap, append-nil, arith, before, Bool, Course, EndAfter, ended, Ends, Err, false, front_of_more, goes_same, GoesOn, InputFault, inr, is_all_put, joined, last_where, length, length-append, List, Meaning, None, Ok, Option, Reached, refl, Result, Serves, sink_then, SinkAfter, SinkMeaning, Some, states_after, Stop, StopsServing, StopsSource, subst, sym, tellings, text_of, told_by, true, with_more, WroteFront, ℕ}
-use Rattle.xl_course.proofs.MeaningLemmas.{tellings-append, told-append}
+use Rattle.xl_course.proofs.Common.{◌++◌, ◌+◌, ◌-◌, ◌∙◌, ◌≡◌, ◌≤◌, Account, account, ap, append-nil, arith, before, Bool, Course, EndAfter, ended, Ends, Err, false, front_of_more, proceeds_same, Proceeds, InputFault, inr, is_all_put, joined, last_where, length, length-append, List, Meaning, None, Ok, Option, Reached, refl, Result, Serves, sink_then, SinkAfter, SinkMeaning, Some, states_after, Stop, StopsServing, StopsSource, subst, sym, printings, text_of, printed_by, true, with_more, WroteFront, ℕ}
+use Rattle.xl_course.proofs.MeaningLemmas.{printings-append, printed-append}
 use Rattle.xl_course.specs.declared.stop.Stop.TheVariants as why
 
 -- a course of which all items were served
@@ -11,11 +11,11 @@ whole-is : {I : Type 0} (c : Course I) (xs : List I) (f : Option InputFault) →
 whole-is {I} c xs f h = h ∙ ap (λ (ys : List I). whole ys f) (append-nil xs)
 
 -- what was written is the front of the text
-pub front_text : (a : Account) (before after : Option (List ℕ)) → WroteFront before (joined a.told) after → WroteFront before (text_of a) after
-front_text a before after h = front_of_more before after (joined a.told) (last_where a.fault a.last) h
+pub front_text : (a : Account) (before after : Option (List ℕ)) → WroteFront before (joined a.lines) after → WroteFront before (text_of a) after
+front_text a before after h = front_of_more before after (joined a.lines) (last_where a.fault a.last) h
 
-fits_text : (a : Account) → length (joined a.told) ≤ length (text_of a)
-fits_text a = let e = length-append (joined a.told) (last_where a.fault a.last) in omega arith
+fits_text : (a : Account) → length (joined a.lines) ≤ length (text_of a)
+fits_text a = let e = length-append (joined a.lines) (last_where a.fault a.last) in omega arith
 
 module _ {K C I S : Type 0} (m : Meaning C I S) (sink : SinkMeaning K) (answers : Bool) (last : S → List ℕ) (late : Bool) where
   -- the account of a course
@@ -23,11 +23,11 @@ module _ {K C I S : Type 0} (m : Meaning C I S) (sink : SinkMeaning K) (answers 
   Of c p = account m answers last late c p
 
   -- the text of some first items fits where the text of all does
-  fits_done : (done left items : List I) (p : S) → items ≡ done ++ left → length (told_by m answers done p) ≤ length (told_by m answers items p)
+  fits_done : (done left items : List I) (p : S) → items ≡ done ++ left → length (printed_by m answers done p) ≤ length (printed_by m answers items p)
   fits_done done left items p h =
-      let e : length (told_by m answers items p) ≡ length (told_by m answers done p) + length (told_by m answers left (states_after m done p)) =
-      ap (λ (xs : List I). length (told_by m answers xs p)) h ∙ ap (λ (t : List ℕ). length t) (told-append m answers done left p)
-      ∙ length-append (told_by m answers done p) (told_by m answers left (states_after m done p)) in
+      let e : length (printed_by m answers items p) ≡ length (printed_by m answers done p) + length (printed_by m answers left (states_after m done p)) =
+      ap (λ (xs : List I). length (printed_by m answers xs p)) h ∙ ap (λ (t : List ℕ). length t) (printed-append m answers done left p)
+      ∙ length-append (printed_by m answers done p) (printed_by m answers left (states_after m done p)) in
       omega arith
 
   -- serving stopped
@@ -38,7 +38,7 @@ module _ {K C I S : Type 0} (m : Meaning C I S) (sink : SinkMeaning K) (answers 
     as_said = front_text (Of c p) (sink.taken k) (sink.taken l) x.writes.took;
     room = λ room h n.
         let f = fits_text (Of c p) in
-        let calm = x.writes.calm room h (omega arith) in (calm.0, (room - length (told_by m answers c.items p), calm.1));
+        let calm = x.writes.calm room h (omega arith) in (calm.0, (room - length (printed_by m answers c.items p), calm.1));
     served = tt;
   }
   serve_ends c p q k l why.ReadFault left x =
@@ -46,26 +46,26 @@ module _ {K C I S : Type 0} (m : Meaning C I S) (sink : SinkMeaning K) (answers 
       let split = ap (λ (z : Course I). z.items) x.reached.split in
       record {
         as_said = record {
-          done = tellings m answers done p;
-          left = tellings m answers x.left.items (states_after m done p);
-          split = ap (λ (xs : List I). tellings m answers xs p) split ∙ tellings-append m answers done x.left.items p;
+          done = printings m answers done p;
+          left = printings m answers x.left.items (states_after m done p);
+          split = ap (λ (xs : List I). printings m answers xs p) split ∙ printings-append m answers done x.left.items p;
           wrote = x.reached.served.writes.took;
         };
         room = λ room h n.
             let f = fits_text (Of c p) in
             let e = fits_done done x.left.items c.items p split in
-            (refl, (room - length (told_by m answers done p), (x.reached.served.writes.calm room h (omega arith)).1));
+            (refl, (room - length (printed_by m answers done p), (x.reached.served.writes.calm room h (omega arith)).1));
         served = tt;
       }
   serve_ends c p q k l why.NoMemory left x = absurd x
   serve_ends c p q k l (why.Input f) left x =
-      let e : text_of (Of (whole x.done (Some f)) p) ≡ told_by m answers x.done p = append-nil (told_by m answers x.done p) in
+      let e : text_of (Of (whole x.done (Some f)) p) ≡ printed_by m answers x.done p = append-nil (printed_by m answers x.done p) in
       subst (λ (z : Course I). Ends (Err (why.Input f)) (Of z p) sink.roomy (sink.taken k) (sink.taken l) k l left) (sym (whole-is c x.done (Some f) x.split))
       (record {
         as_said = (refl, x.served.writes.took ∙ ap (with_more (sink.taken k)) (sym e));
         room = λ room h n.
             let size = ap (λ (t : List ℕ). length t) e in
-            (refl, (room - length (told_by m answers x.done p), (x.served.writes.calm room h (omega (arith, size))).1));
+            (refl, (room - length (printed_by m answers x.done p), (x.served.writes.calm room h (omega (arith, size))).1));
         served = tt;
       })
 
@@ -73,7 +73,7 @@ module _ {K C I S : Type 0} (m : Meaning C I S) (sink : SinkMeaning K) (answers 
   text_then : (c : Course I) (p q : S) (k l n : K) (all : Bool) (x : Reached m sink answers c (ended None) p q k l)
       → SinkAfter sink (last q) l n all → SinkAfter sink (text_of (Of (whole x.done None) p)) k n all
   text_then c p q k l n all x y =
-      sink_then sink (told_by m answers x.done p) (last (states_after m x.done p)) k l n all x.served.writes
+      sink_then sink (printed_by m answers x.done p) (last (states_after m x.done p)) k l n all x.served.writes
       (subst (λ (t : S). SinkAfter sink (last t) l n all) x.served.state_is y)
 
   -- all was served, and what is held of the state
@@ -106,10 +106,10 @@ module _ {K C I S : Type 0} (m : Meaning C I S) (sink : SinkMeaning K) (answers 
       (record {
         as_said = inr (y.0, refl, ap sink.taken y.1 ∙ x.served.writes.took);
         room = λ room h n.
-            let told = told_by m answers x.done p in
-            let size = length-append told (last (states_after m x.done p)) in
+            let known = printed_by m answers x.done p in
+            let size = length-append known (last (states_after m x.done p)) in
             let calm = x.served.writes.calm room h (omega (arith, size)) in
-            (refl, (room - length told, subst (λ (d : K). sink.roomy d (room - length told)) (sym y.1) calm.1));
+            (refl, (room - length known, subst (λ (d : K). sink.roomy d (room - length known)) (sym y.1) calm.1));
         served = tt;
       })
 
@@ -120,13 +120,13 @@ module _ {K C I S : Type 0} (m : Meaning C I S) (sink : SinkMeaning K) (answers 
   report_done holds c p q k l n (Err stop) x y h = report_cut c p q k l n stop _ x y
 
 -- and so the sink continues
-pub end_goes : {K : Type 0} (sink : SinkMeaning K) (late : Bool) (text : List ℕ) (a b : K) (r : Result (Unit {0}) Stop)
-    → EndAfter sink late text a b r → GoesOn (is_all_put r) (sink.outside a) (sink.outside b)
-end_goes sink late text a b (Ok u) x = x.goes_on
-end_goes sink late text a b (Err why.WriteFault) x = x.goes_on
-end_goes sink late text a b (Err why.ReadFault) x = absurd x
-end_goes sink late text a b (Err (why.Input f)) x = absurd x
-end_goes sink late text a b (Err why.NoMemory) x = subst (λ k. GoesOn true (sink.outside a) (sink.outside k)) (sym x.1) (goes_same (sink.outside a))
+pub end_proceeds : {K : Type 0} (sink : SinkMeaning K) (late : Bool) (text : List ℕ) (a b : K) (r : Result (Unit {0}) Stop)
+    → EndAfter sink late text a b r → Proceeds (is_all_put r) (sink.outside a) (sink.outside b)
+end_proceeds sink late text a b (Ok u) x = x.proceeds
+end_proceeds sink late text a b (Err why.WriteFault) x = x.proceeds
+end_proceeds sink late text a b (Err why.ReadFault) x = absurd x
+end_proceeds sink late text a b (Err (why.Input f)) x = absurd x
+end_proceeds sink late text a b (Err why.NoMemory) x = subst (λ k. Proceeds true (sink.outside a) (sink.outside k)) (sym x.1) (proceeds_same (sink.outside a))
 
 -- where a source stops, no put has failed
 pub put_still : (stop : Stop) → StopsSource stop → is_all_put {A = Unit {0}} (Err stop) ≡ true

@@ -1,5 +1,5 @@
 -- What a flush makes of the end of a run.
-use Rattle.xl_course.proofs.Common.{◌∙◌, ◌≡◌, ◌⊎◌, Account, ap, arith, Bool, end_flushed, Ends, EndsAs, Err, false, fate_by, FileMissing, Fine, FlushAfter, FlushesEnd, folder_then, FolderAfter, FolderLeft, FolderMeaning, front_of_more, front_written, goes_then, GoesOn, inl, inr, is_all_put, IsFlushed, IsMore, joined, length, List, Ok, Option, Outside, ReadFailed, refl, Result, SinkMeaning, status_by, Stop, stop_fate, subst, sym, take_all, text_of, true, with_more, WroteFront, ℕ}
+use Rattle.xl_course.proofs.Common.{◌∙◌, ◌≡◌, ◌⊎◌, Account, ap, arith, Bool, end_flushed, Ends, EndsAs, Err, false, fate_by, FileMissing, Fine, FlushAfter, FlushesEnd, folder_then, FolderAfter, FolderLeft, FolderMeaning, front_of_more, front_written, proceeds_then, Proceeds, inl, inr, is_all_put, IsFlushed, IsMore, joined, length, List, Ok, Option, Outside, ReadFailed, refl, Result, SinkMeaning, status_by, Stop, stop_fate, subst, sym, take_all, text_of, true, with_more, WroteFront, ℕ}
 use Rattle.xl_outside.specs.Fronts.{with_none}
 use Rattle.xl_course.proofs.EndLemmas.{front_text}
 use Rattle.xl_course.proofs.MeaningLemmas.{joined-append}
@@ -21,12 +21,12 @@ ends_front (Err why.ReadFault) w b a h =
     front_text w b a
     (subst (λ (t : List ℕ). WroteFront b t a) (sym all) (front_of_more b a (joined h.done) (joined h.left) (whole_front b a (joined h.done) h.wrote)))
 ends_front (Err why.NoMemory) w b a (inl h) = (0, omega arith, h ∙ with_none b)
-ends_front (Err why.NoMemory) w b a (inr h) = front_text w b a (whole_front b a (joined w.told) h.2)
+ends_front (Err why.NoMemory) w b a (inr h) = front_text w b a (whole_front b a (joined w.known) h.2)
 
 module _ {K : Type 0} (sink : SinkMeaning K) (w : Account) (a b : K) (rows : Type 0)
     (e : IsFlushed sink a) where
   -- a put failed, and the sink is as it was then
-  cut_ends : Ends (Err why.WriteFault) w sink.roomy (sink.taken a) (sink.taken b) a b rows → GoesOn false (sink.outside a) (sink.outside b) → IsMore (sink.outside b).written (sink.taken b)
+  cut_ends : Ends (Err why.WriteFault) w sink.roomy (sink.taken a) (sink.taken b) a b rows → Proceeds false (sink.outside a) (sink.outside b) → IsMore (sink.outside b).written (sink.taken b)
       → Ends (Err why.WriteFault) w sink.roomy (sink.outside a).written (sink.outside b).written a b rows
   cut_ends x goes law = record {
     as_said = front_written (sink.outside a).written (sink.taken b) (sink.outside b).written (text_of w) (subst (λ (t : Option (List ℕ)). WroteFront t (text_of w) (sink.taken b)) (sym e) x.as_said) goes.stays law;
@@ -35,7 +35,7 @@ module _ {K : Type 0} (sink : SinkMeaning K) (w : Account) (a b : K) (rows : Typ
   }
 
   -- the sink was flushed, or a put failed in that
-  pub flush_ends : (end : Result (Unit {0}) Stop) (c : K) (whole : Bool) → Ends end w sink.roomy (sink.taken a) (sink.taken b) a b rows → GoesOn true (sink.outside a) (sink.outside b)
+  pub flush_ends : (end : Result (Unit {0}) Stop) (c : K) (whole : Bool) → Ends end w sink.roomy (sink.taken a) (sink.taken b) a b rows → Proceeds true (sink.outside a) (sink.outside b)
       → FlushAfter sink b c whole → IsMore (sink.outside c).written (sink.taken c)
       → Ends (end_flushed whole end) w sink.roomy (sink.outside a).written (sink.outside c).written a c rows
   flush_ends end c true x goes y law = record {
@@ -47,7 +47,7 @@ module _ {K : Type 0} (sink : SinkMeaning K) (w : Account) (a b : K) (rows : Typ
       let front = subst (λ (t : Option (List ℕ)). WroteFront t (text_of w) (sink.taken c)) (sym e)
       (subst (λ (t : Option (List ℕ)). WroteFront (sink.taken a) (text_of w) t) (sym y.keeps) (ends_front end w (sink.taken a) (sink.taken b) x.as_said)) in
       record {
-        as_said = front_written (sink.outside a).written (sink.taken c) (sink.outside c).written (text_of w) front (goes_then false (sink.outside a) (sink.outside b) (sink.outside c) goes y.goes_on).stays law;
+        as_said = front_written (sink.outside a).written (sink.taken c) (sink.outside c).written (text_of w) front (proceeds_then false (sink.outside a) (sink.outside b) (sink.outside c) goes y.proceeds).stays law;
         room = λ room h n. let left = (x.room room h n).1 in let calm = y.calm left.0 left.1 in (calm.0, (left.0, calm.1));
         served = tt;
       }
@@ -69,39 +69,39 @@ flush_kind sink b c (Err why.NoMemory) after h = inr (refl, h.0, h.1, h.2)
 -- the end of a run and the flush after it, where there is one
 module _ {K : Type 0} (sink : SinkMeaning K) (w : Account) (a b c : K) (rows : Type 0)
     (e : IsFlushed sink a) (law : IsMore (sink.outside c).written (sink.taken c)) where
-  end_by : (end after : Result (Unit {0}) Stop) → Ends end w sink.roomy (sink.taken a) (sink.taken b) a b rows → GoesOn (is_all_put end) (sink.outside a) (sink.outside b)
+  end_by : (end after : Result (Unit {0}) Stop) → Ends end w sink.roomy (sink.taken a) (sink.taken b) a b rows → Proceeds (is_all_put end) (sink.outside a) (sink.outside b)
       → FlushKind sink b c end after → Ends after w sink.roomy (sink.outside a).written (sink.outside c).written a c rows
   end_by end after x goes (inl (p, q, r)) =
       subst (λ (z : Result (Unit {0}) Stop). Ends z w sink.roomy (sink.outside a).written (sink.outside c).written a c rows) (sym r)
       (subst (λ (d : K). Ends (Err why.WriteFault) w sink.roomy (sink.outside a).written (sink.outside d).written a d rows) (sym q)
       (cut_ends sink w a b rows e
       (subst (λ (z : Result (Unit {0}) Stop). Ends z w sink.roomy (sink.taken a) (sink.taken b) a b rows) p x)
-      (subst (λ (z : Result (Unit {0}) Stop). GoesOn (is_all_put z) (sink.outside a) (sink.outside b)) p goes)
+      (subst (λ (z : Result (Unit {0}) Stop). Proceeds (is_all_put z) (sink.outside a) (sink.outside b)) p goes)
       (subst (λ (d : K). IsMore (sink.outside d).written (sink.taken d)) q law)))
   end_by end after x goes (inr (t, whole, y, is)) =
       subst (λ (z : Result (Unit {0}) Stop). Ends z w sink.roomy (sink.outside a).written (sink.outside c).written a c rows) (sym is)
-      (flush_ends sink w a b rows e end c whole x (subst (λ (z : Bool). GoesOn z (sink.outside a) (sink.outside b)) t goes) y law)
+      (flush_ends sink w a b rows e end c whole x (subst (λ (z : Bool). Proceeds z (sink.outside a) (sink.outside b)) t goes) y law)
 
-  pub end_then : (end after : Result (Unit {0}) Stop) → FlushesEnd sink b c end after → GoesOn (is_all_put end) (sink.outside a) (sink.outside b)
+  pub end_then : (end after : Result (Unit {0}) Stop) → FlushesEnd sink b c end after → Proceeds (is_all_put end) (sink.outside a) (sink.outside b)
       → Ends end w sink.roomy (sink.taken a) (sink.taken b) a b rows → Ends after w sink.roomy (sink.outside a).written (sink.outside c).written a c rows
   end_then end after h goes x = end_by end after x goes (flush_kind sink b c end after h)
 
-goes_whole : (whole : Bool) (end : Result (Unit {0}) Stop) (o p : Outside) → is_all_put end ≡ true → GoesOn whole o p → GoesOn (is_all_put (end_flushed whole end)) o p
-goes_whole true end o p t h = subst (λ (z : Bool). GoesOn z o p) (sym t) h
-goes_whole false end o p t h = h
+proceeds_whole : (whole : Bool) (end : Result (Unit {0}) Stop) (o p : Outside) → is_all_put end ≡ true → Proceeds whole o p → Proceeds (is_all_put (end_flushed whole end)) o p
+proceeds_whole true end o p t h = subst (λ (z : Bool). Proceeds z o p) (sym t) h
+proceeds_whole false end o p t h = h
 
 -- what becomes of the sink outside, and of the folder
 module _ {K : Type 0} (sink : SinkMeaning K) (a b c : K) (end after : Result (Unit {0}) Stop) where
-  goes_by : GoesOn (is_all_put end) (sink.outside a) (sink.outside b) → FlushKind sink b c end after → GoesOn (is_all_put after) (sink.outside a) (sink.outside c)
-  goes_by goes (inl (p, q, r)) =
-      subst (λ (z : Result (Unit {0}) Stop). GoesOn (is_all_put z) (sink.outside a) (sink.outside c)) (p ∙ sym r) (subst (λ (d : K). GoesOn (is_all_put end) (sink.outside a) (sink.outside d)) (sym q) goes)
-  goes_by goes (inr (t, whole, y, is)) =
-      subst (λ (z : Result (Unit {0}) Stop). GoesOn (is_all_put z) (sink.outside a) (sink.outside c)) (sym is)
-      (goes_whole whole end (sink.outside a) (sink.outside c) t
-      (goes_then whole (sink.outside a) (sink.outside b) (sink.outside c) (subst (λ (z : Bool). GoesOn z (sink.outside a) (sink.outside b)) t goes) y.goes_on))
+  proceeds_by : Proceeds (is_all_put end) (sink.outside a) (sink.outside b) → FlushKind sink b c end after → Proceeds (is_all_put after) (sink.outside a) (sink.outside c)
+  proceeds_by goes (inl (p, q, r)) =
+      subst (λ (z : Result (Unit {0}) Stop). Proceeds (is_all_put z) (sink.outside a) (sink.outside c)) (p ∙ sym r) (subst (λ (d : K). Proceeds (is_all_put end) (sink.outside a) (sink.outside d)) (sym q) goes)
+  proceeds_by goes (inr (t, whole, y, is)) =
+      subst (λ (z : Result (Unit {0}) Stop). Proceeds (is_all_put z) (sink.outside a) (sink.outside c)) (sym is)
+      (proceeds_whole whole end (sink.outside a) (sink.outside c) t
+      (proceeds_then whole (sink.outside a) (sink.outside b) (sink.outside c) (subst (λ (z : Bool). Proceeds z (sink.outside a) (sink.outside b)) t goes) y.proceeds))
 
-  pub goes_flushed : FlushesEnd sink b c end after → GoesOn (is_all_put end) (sink.outside a) (sink.outside b) → GoesOn (is_all_put after) (sink.outside a) (sink.outside c)
-  goes_flushed h goes = goes_by goes (flush_kind sink b c end after h)
+  pub proceeds_flushed : FlushesEnd sink b c end after → Proceeds (is_all_put end) (sink.outside a) (sink.outside b) → Proceeds (is_all_put after) (sink.outside a) (sink.outside c)
+  proceeds_flushed h goes = proceeds_by goes (flush_kind sink b c end after h)
 
 module _ {D : Type 0} (folder : FolderMeaning D) (old new : D) where
   -- how a run leaves the folder, by the status of its end

@@ -1,5 +1,5 @@
 mod Common
-pub mod ToldLemmas
+pub mod KnownLemmas
 pub mod MeaningLemmas
 pub mod ServedLemmas
 mod ItemLemmas

@@ -8,23 +8,23 @@ use Rattle.xl_course.specs.declared.stop.Stop.TheVariants as why
 module _ (P : List ℕ → Type 0) (fs : Option Files) (e : Files → Account) where
   fault_says : (f : InputFault) (b a : Option (List ℕ)) → IfSome fs (λ file. EndsWith (Some f) (e file) b a) → P (message_at (why.Input f))
       → IfSome (option_map (λ (w : Account). fault_message w.fault) (option_map e fs)) P
-  fault_says f b a told says = if_some fs told
+  fault_says f b a known says = if_some fs known
     where
       if_some : (gs : Option Files) → IfSome gs (λ file. EndsWith (Some f) (e file) b a) → IfSome (option_map (λ (w : Account). fault_message w.fault) (option_map e gs)) P
-      if_some None told = tt
-      if_some (Some file) told = subst (λ (x : Option InputFault). P (fault_message x)) (sym told.0) says
+      if_some None known = tt
+      if_some (Some file) known = subst (λ (x : Option InputFault). P (fault_message x)) (sym known.0) says
 
   pub run_says : (end : Result (Unit {0}) Stop) (b a : Option (List ℕ)) → IfSome fs (λ file. EndsAs end (e file) b a) → P (message_by end) → IfSome (message_of (status_by end) (option_map e fs)) P
-  run_says (Ok u) b a told says = says
-  run_says (Err why.ReadFault) b a told says = says
-  run_says (Err why.WriteFault) b a told says = says
-  run_says (Err why.NoMemory) b a told says = says
-  run_says (Err (why.Input fault.Words)) b a told says = says
-  run_says (Err (why.Input fault.NoFile)) b a told says = says
-  run_says (Err (why.Input fault.ConfigTooLong)) b a told says = fault_says fault.ConfigTooLong b a told says
-  run_says (Err (why.Input fault.ConfigNotToml)) b a told says = fault_says fault.ConfigNotToml b a told says
-  run_says (Err (why.Input (fault.ConfigKey row key rule))) b a told says = fault_says (fault.ConfigKey row key rule) b a told says
-  run_says (Err (why.Input fault.ScriptTooLong)) b a told says = fault_says fault.ScriptTooLong b a told says
-  run_says (Err (why.Input (fault.ScriptLine line reason))) b a told says = fault_says (fault.ScriptLine line reason) b a told says
-  run_says (Err (why.Input fault.TraceTooLong)) b a told says = fault_says fault.TraceTooLong b a told says
-  run_says (Err (why.Input (fault.TraceLine line reason))) b a told says = fault_says (fault.TraceLine line reason) b a told says
+  run_says (Ok u) b a known says = says
+  run_says (Err why.ReadFault) b a known says = says
+  run_says (Err why.WriteFault) b a known says = says
+  run_says (Err why.NoMemory) b a known says = says
+  run_says (Err (why.Input fault.Words)) b a known says = says
+  run_says (Err (why.Input fault.NoFile)) b a known says = says
+  run_says (Err (why.Input fault.ConfigTooLong)) b a known says = fault_says fault.ConfigTooLong b a known says
+  run_says (Err (why.Input fault.ConfigNotToml)) b a known says = fault_says fault.ConfigNotToml b a known says
+  run_says (Err (why.Input (fault.ConfigKey row key rule))) b a known says = fault_says (fault.ConfigKey row key rule) b a known says
+  run_says (Err (why.Input fault.ScriptTooLong)) b a known says = fault_says fault.ScriptTooLong b a known says
+  run_says (Err (why.Input (fault.ScriptLine line reason))) b a known says = fault_says (fault.ScriptLine line reason) b a known says
+  run_says (Err (why.Input fault.TraceTooLong)) b a known says = fault_says fault.TraceTooLong b a known says
+  run_says (Err (why.Input (fault.TraceLine line reason))) b a known says = fault_says (fault.TraceLine line reason) b a known says

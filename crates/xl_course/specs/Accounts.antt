@@ -9,14 +9,14 @@ use Rattle.xl_course.specs.declared.status.Status.{Status}
 use Rattle.xl_course.specs.declared.status.Status.TheVariants as status
 use Rattle.xl_course.specs.Stops.{is_all_put, status_with}
 use Rattle.xl_course.specs.Messages.{message_at}
-use Rattle.xl_course.specs.Meanings.{Meaning, states_after, tellings, joined}
+use Rattle.xl_course.specs.Meanings.{Meaning, states_after, printings, joined}
 use Rattle.xl_course.specs.Courses.{Course}
 
 -- What a run is to write: the lines of each item, in the order served; after them the end of the
 -- report, where no fault of the input ends the run before; and that fault. `late` says that the end
 -- of the report is made in memory before it is put.
 pub record Account : Type 0 where
-  pub told : List (List ℕ)
+  pub lines : List (List ℕ)
   pub last : List ℕ
   pub fault : Option InputFault
   pub late : Bool
@@ -28,16 +28,16 @@ last_where (Some fault) last = []
 
 -- The text of a run: all that is written to its end.
 abbrev pub text_of : Account → List ℕ
-text_of a = joined a.told ++ last_where a.fault a.last
+text_of a = joined a.lines ++ last_where a.fault a.last
 
 -- A fault of the words, the configuration or the script: nothing is written.
 abbrev pub faulted : InputFault → Account
-faulted fault = record { told = []; last = []; fault = Some fault; late = false }
+faulted fault = record { lines = []; last = []; fault = Some fault; late = false }
 
 -- The account of a course that is served from a state on. `last` gives the end of the report.
 abbrev pub account : {C I S : Type 0} → Meaning C I S → Bool → (S → List ℕ) → Bool → Course I → S → Account
 account m answers last late c s = record {
-  told = tellings m answers c.items s;
+  lines = printings m answers c.items s;
   last = last (states_after m c.items s);
   fault = c.fault;
   late = late;
@@ -47,7 +47,7 @@ account m answers last late c s = record {
 pub record WroteItems (a : Account) (before after : Option (List ℕ)) : Type 0 where
   pub done : List (List ℕ)
   pub left : List (List ℕ)
-  pub split : a.told ≡ done ++ left
+  pub split : a.lines ≡ done ++ left
   pub wrote : after ≡ with_more before (joined done)
 
 -- The run ends as its account says: with that fault or none, and all of its text is written.
@@ -58,7 +58,7 @@ EndsWith f a before after = (a.fault ≡ f) × (after ≡ with_more before (text
 -- all lines before it.
 abbrev pub WroteNoEnd : Account → Option (List ℕ) → Option (List ℕ) → Type 0
 WroteNoEnd a before after =
-    (after ≡ before) ⊎ ((a.late ≡ true) × (a.fault ≡ None) × (after ≡ with_more before (joined a.told)))
+    (after ≡ before) ⊎ ((a.late ≡ true) × (a.fault ≡ None) × (after ≡ with_more before (joined a.lines)))
 
 -- What the end of a run says of its account, and of the output before and after it.
 abbrev pub EndsAs : Result (Unit {0}) Stop → Account → Option (List ℕ) → Option (List ℕ) → Type 0

@@ -4,7 +4,7 @@ use Rattle.xl_model.specs.Courses.{Accesses, Trail}
 use Rattle.xl_outside.specs.Sinks.{SinkMeaning, SinkAfter}
 use Rattle.xl_course.specs.declared.stop.Stop.{Stop}
 use Rattle.xl_course.specs.declared.stop.Stop.TheVariants as why
-use Rattle.xl_course.specs.Meanings.{Meaning, states_after, told_by}
+use Rattle.xl_course.specs.Meanings.{Meaning, states_after, printed_by}
 use Rattle.xl_course.specs.Courses.{Course, before, ended, items_of_all}
 
 -- The state is that after the items; where a put failed, nothing is said of it.
@@ -15,7 +15,7 @@ StateAfter m false items s t = Unit {0}
 -- These items were served, and their lines were written: whole, or up to a put that failed.
 pub record HasServed {K C I S : Type 0} (m : Meaning C I S) (sink : SinkMeaning K) (answers : Bool) (items : List I) (p q : S) (k l : K) (whole : Bool) : Type 0 where
   pub state_is : StateAfter m whole items p q
-  pub writes : SinkAfter sink (told_by m answers items p) k l whole
+  pub writes : SinkAfter sink (printed_by m answers items p) k l whole
 
 -- Of this course some items were served with their lines written, and that course is left.
 pub record Reached {K C I S : Type 0} (m : Meaning C I S) (sink : SinkMeaning K) (answers : Bool) (all left : Course I) (p q : S) (k l : K) : Type 0 where
@@ -38,15 +38,15 @@ Serves m sink answers all left p q k l (Err why.ReadFault) = ReachedSome m sink 
 Serves m sink answers all left p q k l (Err why.NoMemory) = ⊥
 
 -- What a call returns that serves a part of a script: `by` gives the course of that part, and of
--- what continues after it; `stands` says that the trace was fed from its files alone.
-pub record ServesPart {K C I S A : Type 0} (m : Meaning C I S) (sink : SinkMeaning K) (answers : Bool) (stands : Type 0) (by : (Trail → Course I) → Course I) (u : Trail) (p q : S) (k l : K) (r : Result A Stop) : Type 0 where
+-- what continues after it; `reads_from` says that the trace was fed from its files alone.
+pub record ServesPart {K C I S A : Type 0} (m : Meaning C I S) (sink : SinkMeaning K) (answers : Bool) (reads_from : Type 0) (by : (Trail → Course I) → Course I) (u : Trail) (p q : S) (k l : K) (r : Result A Stop) : Type 0 where
   pub serves : (next : Trail → Course I) → Serves m sink answers (by next) (next u) p q k l r
-  pub stands_still : OnOk r stands
+  pub still_reads : OnOk r reads_from
 
 -- `count` records were the first of what was left, the rest of it is left, and the state is that
 -- after their items.
-pub record Skimmed {C I S : Type 0} (m : Meaning C I S) (stands : Type 0) (t u : Trail) (p q : S) (count : ℕ) : Type 0 where
-  pub stands_still : stands
+pub record Skimmed {C I S : Type 0} (m : Meaning C I S) (reads_from : Type 0) (t u : Trail) (p q : S) (count : ℕ) : Type 0 where
+  pub still_reads : reads_from
   pub taken : List Accesses
   pub split : t ≡ record u { records = taken ++ u.records }
   pub follow : q ≡ states_after m (items_of_all m taken) p

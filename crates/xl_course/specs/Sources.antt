@@ -21,11 +21,11 @@ EndsBy why.WriteFault t = ⊥
 EndsBy why.NoMemory t = ⊥
 
 -- What a source returns that is asked for a record, by what is left of it before and after;
--- `stands` says that it is fed from its files alone still.
+-- `reads_from` says that it is fed from its files alone still.
 abbrev pub Gives : Type 0 → Trail → Trail → Result (Option Numbered) Stop → Type 0
-Gives stands t u (Ok None) = stands × (t ≡ at_end None) × (u ≡ at_end None)
-Gives stands t u (Ok (Some r)) = stands × (t ≡ record u { records = found_of r ∷ u.records })
-Gives stands t u (Err stop) = EndsBy stop t
+Gives reads_from t u (Ok None) = reads_from × (t ≡ at_end None) × (u ≡ at_end None)
+Gives reads_from t u (Ok (Some r)) = reads_from × (t ≡ record u { records = found_of r ∷ u.records })
+Gives reads_from t u (Err stop) = EndsBy stop t
 
 -- The accesses of some records, one record after another.
 abbrev pub accesses_of_all : List Accesses → List (ℕ × Kind)
@@ -34,8 +34,8 @@ accesses_of_all (r ∷ rs) = r.accesses ++ accesses_of_all rs
 
 -- `count` records were the first of what was left, and the rest of it is left; their accesses
 -- follow those that were there before.
-pub record Skims (stands : Type 0) (t u : Trail) (before after : List Access) (count : ℕ) : Type 0 where
-  pub stands_still : stands
+pub record Skims (reads_from : Type 0) (t u : Trail) (before after : List Access) (count : ℕ) : Type 0 where
+  pub still_reads : reads_from
   pub taken : List Accesses
   pub got : List Access
   pub split : t ≡ record u { records = taken ++ u.records }

@@ -98,41 +98,41 @@ is_all_put (Err why.WriteFault) = false
 is_all_put (Err why.NoMemory) = true
 
 -- A fault that is found while a file is read; a fault of the words is none.
-abbrev pub IsMet : InputFault → Type 0
-IsMet fault.Words = ⊥
-IsMet fault.ConfigTooLong = Unit {0}
-IsMet fault.ConfigNotToml = Unit {0}
-IsMet (fault.ConfigKey row key rule) = Unit {0}
-IsMet fault.ScriptTooLong = Unit {0}
-IsMet (fault.ScriptLine line reason) = Unit {0}
-IsMet fault.TraceTooLong = Unit {0}
-IsMet (fault.TraceLine line reason) = Unit {0}
-IsMet fault.NoFile = Unit {0}
+abbrev pub IsCause : InputFault → Type 0
+IsCause fault.Words = ⊥
+IsCause fault.ConfigTooLong = Unit {0}
+IsCause fault.ConfigNotToml = Unit {0}
+IsCause (fault.ConfigKey row key rule) = Unit {0}
+IsCause fault.ScriptTooLong = Unit {0}
+IsCause (fault.ScriptLine line reason) = Unit {0}
+IsCause fault.TraceTooLong = Unit {0}
+IsCause (fault.TraceLine line reason) = Unit {0}
+IsCause fault.NoFile = Unit {0}
 
 -- A source stops at a fault found in reading, or at a failed read.
 abbrev pub StopsSource : Stop → Type 0
-StopsSource (why.Input fault) = IsMet fault
+StopsSource (why.Input fault) = IsCause fault
 StopsSource why.ReadFault = Unit {0}
 StopsSource why.WriteFault = ⊥
 StopsSource why.NoMemory = ⊥
 
 -- Serving takes no memory: it stops at a fault found in reading, or at a failed read or write.
 abbrev pub StopsServing : Stop → Type 0
-StopsServing (why.Input fault) = IsMet fault
+StopsServing (why.Input fault) = IsCause fault
 StopsServing why.ReadFault = Unit {0}
 StopsServing why.WriteFault = Unit {0}
 StopsServing why.NoMemory = ⊥
 
 -- A run stops before anything is written: not at a failed write.
 abbrev pub StopsOpening : Stop → Type 0
-StopsOpening (why.Input fault) = IsMet fault
+StopsOpening (why.Input fault) = IsCause fault
 StopsOpening why.ReadFault = Unit {0}
 StopsOpening why.WriteFault = ⊥
 StopsOpening why.NoMemory = Unit {0}
 
 -- A run stops at something found in it, and not at its words.
 abbrev pub StopsRun : Stop → Type 0
-StopsRun (why.Input fault) = IsMet fault
+StopsRun (why.Input fault) = IsCause fault
 StopsRun why.ReadFault = Unit {0}
 StopsRun why.WriteFault = Unit {0}
 StopsRun why.NoMemory = Unit {0}

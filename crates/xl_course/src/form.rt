@@ -125,8 +125,8 @@ pub trait Form<R>: Sized {
     /// Serves the accesses of the next records, of `most` at most and perhaps none, of which no
     /// line is written. Returns of how many records.
     fn skim<T: Source>(&mut self, rack: &mut R, source: &mut T, most: u64) -> u64
-        ensures skims { (fs : Files) → T.stands source.old fs
-            → Skimmed meaning (T.stands source.new fs) (T.left source.old fs) (T.left source.new fs)
+        ensures skims { (fs : Files) → T.reads_from source.old fs
+            → Skimmed meaning (T.reads_from source.new fs) (T.left source.old fs) (T.left source.new fs)
             (state self.old rack.old) (state self.new rack.new) result }
         ensures few { result ≤ most }
         ensures no_more { T.size source.new ≤ T.size source.old }

@@ -10,7 +10,7 @@ mod status;
 mod stop;
 
 pub use form::{Form, Orders, Step};
-pub use running::{report, tell};
+pub use running::{report, report_end};
 pub use serving::serve;
 pub use source::{Numbered, Source};
 pub use status::Status;

@@ -2,7 +2,7 @@
 
 ghost use Rattle.std.specs.Prelude.{◌≡◌, Err, IfErr, IfSome, true};
 ghost use Rattle.xl_outside.specs.Folders.{FolderAfter, fate_by};
-ghost use Rattle.xl_outside.specs.Sinks.{GoesOn, IsFlushed};
+ghost use Rattle.xl_outside.specs.Sinks.{Proceeds, IsFlushed};
 ghost use Rattle.xl_course.specs.Meanings.{states_after};
 ghost use Rattle.xl_course.specs.Courses.{commands_of, course};
 ghost use Rattle.xl_course.specs.Stops.{status_by, FolderLeft, is_all_put, stop_fate, StopsRun};
@@ -31,7 +31,7 @@ fn replay<
     out: &mut K,
 ) -> Result<(), Stop>
     requires { D.can form.old rack.old (commands_of (C.steps orders.now)) }
-    ensures told { IfSome (F.folder.files folder.old) (λ fs. T.stands source.old fs
+    ensures known { IfSome (F.folder.files folder.old) (λ fs. T.reads_from source.old fs
         → Ends result (account D.meaning (C.answers orders.now) (D.last (C.end orders.now))
         (D.late (C.end orders.now))
         (course D.meaning (C.steps orders.now) (T.left source.old fs)) (D.state form.old rack.old))
@@ -41,10 +41,10 @@ fn replay<
         (D.state form.old rack.old)))) }
     ensures leaves { FolderAfter F.folder folder.old folder.new
         (fate_by stop_fate result) }
-    ensures goes_on { GoesOn (is_all_put result) (K.sink.outside out.old) (K.sink.outside out.new) }
-    ensures met { IfErr result StopsRun }
+    ensures proceeds { Proceeds (is_all_put result) (K.sink.outside out.old) (K.sink.outside out.new) }
+    ensures caused { IfErr result StopsRun }
     ensures early { result ≡ Err Stop.NoMemory → (D.late (C.end orders.now) ≡ true)
-        × IfSome (F.folder.files folder.old) (λ fs. T.stands source.old fs
+        × IfSome (F.folder.files folder.old) (λ fs. T.reads_from source.old fs
         → D.holds rack.new (states_after D.meaning
         (course D.meaning (C.steps orders.now) (T.left source.old fs)).items
         (D.state form.old rack.old))) }
@@ -88,7 +88,7 @@ pub fn report<
 ) -> Result<(), Stop>
     requires can { D.can form.old rack.old (commands_of (C.steps orders.now)) }
     requires flushed { IsFlushed K.sink out.old }
-    ensures told { IfSome (F.folder.files folder.old) (λ fs. T.stands source.old fs
+    ensures known { IfSome (F.folder.files folder.old) (λ fs. T.reads_from source.old fs
         → Ends result (account D.meaning (C.answers orders.now) (D.last (C.end orders.now))
         (D.late (C.end orders.now))
         (course D.meaning (C.steps orders.now) (T.left source.old fs)) (D.state form.old rack.old))
@@ -99,10 +99,10 @@ pub fn report<
         (D.state form.old rack.old)))) }
     ensures leaves { FolderLeft F.folder folder.old folder.new
         (status_by result) }
-    ensures goes_on { GoesOn (is_all_put result) (K.sink.outside out.old) (K.sink.outside out.new) }
-    ensures met { IfErr result StopsRun }
+    ensures proceeds { Proceeds (is_all_put result) (K.sink.outside out.old) (K.sink.outside out.new) }
+    ensures caused { IfErr result StopsRun }
     ensures early { result ≡ Err Stop.NoMemory → (D.late (C.end orders.now) ≡ true)
-        × IfSome (F.folder.files folder.old) (λ fs. T.stands source.old fs
+        × IfSome (F.folder.files folder.old) (λ fs. T.reads_from source.old fs
         → D.holds rack.new (states_after D.meaning
         (course D.meaning (C.steps orders.now) (T.left source.old fs)).items
         (D.state form.old rack.old))) }
@@ -112,7 +112,7 @@ pub fn report<
 }
 
 /// Says why the run stops. Where that can't be said, it isn't.
-pub fn tell<E: Sink>(err: &mut E, end: Result<(), Stop>)
+pub fn report_end<E: Sink>(err: &mut E, end: Result<(), Stop>)
     requires { IsFlushed E.sink err.old }
     ensures { Says E.sink (message_by end) err.old err.new }
 {

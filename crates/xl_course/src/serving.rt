@@ -3,7 +3,7 @@
 ghost use Rattle.std.specs.Prelude.{◌≡◌, ◌≤◌, ◌∷◌, [], List, IfErr, IfSome, is_ok, true};
 ghost use Rattle.xl_model.specs.Courses.{Trail};
 ghost use Rattle.xl_outside.specs.Folders.{Files, FolderAfter, fate_by};
-ghost use Rattle.xl_outside.specs.Sinks.{GoesOn};
+ghost use Rattle.xl_outside.specs.Sinks.{Proceeds};
 ghost use Rattle.xl_course.specs.declared.form.Step.{Step};
 ghost use Rattle.xl_course.specs.Sources.{found_of};
 ghost use Rattle.xl_course.specs.Courses.{commands_of, items_of, ran, ran_all, course_by, course, ended};
@@ -33,14 +33,14 @@ pub fn serve<
     out: &mut K,
 ) -> Result<(), Stop>
     requires { D.can form.old rack.old (commands_of (C.steps orders.now)) }
-    ensures told { IfSome (F.folder.files folder.old) (λ fs. T.stands source.old fs
+    ensures known { IfSome (F.folder.files folder.old) (λ fs. T.reads_from source.old fs
         → Serves D.meaning K.sink (C.answers orders.now)
         (course D.meaning (C.steps orders.now) (T.left source.old fs)) (ended None)
         (D.state form.old rack.old) (D.state form.new rack.new) out.old out.new result) }
     ensures leaves { FolderAfter F.folder folder.old folder.new
         (fate_by stop_fate result) }
-    ensures goes_on { GoesOn (is_all_put result) (K.sink.outside out.old) (K.sink.outside out.new) }
-    ensures met { IfErr result StopsServing }
+    ensures proceeds { Proceeds (is_all_put result) (K.sink.outside out.old) (K.sink.outside out.new) }
+    ensures caused { IfErr result StopsServing }
 {
     if orders.answers() {
         return serve_script::<R, D, C, T, F, K, true>(form, rack, orders, source, folder, out);
@@ -66,14 +66,14 @@ fn serve_script<
     out: &mut K,
 ) -> Result<(), Stop>
     requires { D.can form.old rack.old (commands_of (C.steps orders.now)) }
-    ensures told { IfSome (F.folder.files folder.old) (λ fs. T.stands source.old fs
+    ensures known { IfSome (F.folder.files folder.old) (λ fs. T.reads_from source.old fs
         → Serves D.meaning K.sink ANSWERS
         (course D.meaning (C.steps orders.now) (T.left source.old fs)) (ended None)
         (D.state form.old rack.old) (D.state form.new rack.new) out.old out.new result) }
     ensures leaves { FolderAfter F.folder folder.old folder.new
         (fate_by stop_fate result) }
-    ensures goes_on { GoesOn (is_all_put result) (K.sink.outside out.old) (K.sink.outside out.new) }
-    ensures met { IfErr result StopsServing }
+    ensures proceeds { Proceeds (is_all_put result) (K.sink.outside out.old) (K.sink.outside out.new) }
+    ensures caused { IfErr result StopsServing }
 {
     for i in 0..orders.len() {
         serve_step::<R, D, T, F, K, ANSWERS>(form, rack, orders.step(i), source, folder, out)?;
@@ -92,14 +92,14 @@ fn serve_step<R, D: Form<R>, T: Source, F: Folder, K: Sink, const ANSWERS: bool>
 ) -> Result<(), Stop>
     requires { (rest : List (Step D.Command))
         × D.can form.old rack.old (commands_of (step ∷ rest)) }
-    ensures told { IfSome (F.folder.files folder.old) (λ fs. T.stands source.old fs
-        → ServesPart D.meaning K.sink ANSWERS (T.stands source.new fs)
+    ensures known { IfSome (F.folder.files folder.old) (λ fs. T.reads_from source.old fs
+        → ServesPart D.meaning K.sink ANSWERS (T.reads_from source.new fs)
         (course_by D.meaning step (T.left source.old fs)) (T.left source.new fs)
         (D.state form.old rack.old) (D.state form.new rack.new) out.old out.new result) }
     ensures leaves { FolderAfter F.folder folder.old folder.new
         (fate_by stop_fate result) }
-    ensures goes_on { GoesOn (is_all_put result) (K.sink.outside out.old) (K.sink.outside out.new) }
-    ensures met { IfErr result StopsServing }
+    ensures proceeds { Proceeds (is_all_put result) (K.sink.outside out.old) (K.sink.outside out.new) }
+    ensures caused { IfErr result StopsServing }
     ensures can { (rest : List (Step D.Command))
         → D.can form.old rack.old (commands_of (step ∷ rest))
         → D.can form.new rack.new (commands_of rest) }
@@ -122,8 +122,8 @@ fn skim<R, D: Form<R>, T: Source, const ANSWERS: bool>(
     source: &mut T,
     most: u64,
 ) -> u64
-    ensures skims { (fs : Files) → T.stands source.old fs
-        → Skimmed D.meaning (T.stands source.new fs) (T.left source.old fs) (T.left source.new fs)
+    ensures skims { (fs : Files) → T.reads_from source.old fs
+        → Skimmed D.meaning (T.reads_from source.new fs) (T.left source.old fs) (T.left source.new fs)
         (D.state form.old rack.old) (D.state form.new rack.new) result }
     ensures none { ANSWERS ≡ true → result ≡ 0 }
     ensures few { result ≤ most }
@@ -145,15 +145,15 @@ fn serve_rest<R, D: Form<R>, T: Source, F: Folder, K: Sink, const ANSWERS: bool>
     folder: &mut F,
     out: &mut K,
 ) -> Result<(), Stop>
-    ensures told { IfSome (F.folder.files folder.old) (λ fs. T.stands source.old fs
-        → ServesPart D.meaning K.sink ANSWERS (T.stands source.new fs)
+    ensures known { IfSome (F.folder.files folder.old) (λ fs. T.reads_from source.old fs
+        → ServesPart D.meaning K.sink ANSWERS (T.reads_from source.new fs)
         (ran_all D.meaning (T.left source.old fs).records (T.left source.old fs).fault)
         (T.left source.new fs)
         (D.state form.old rack.old) (D.state form.new rack.new) out.old out.new result) }
     ensures leaves { FolderAfter F.folder folder.old folder.new
         (fate_by stop_fate result) }
-    ensures goes_on { GoesOn (is_all_put result) (K.sink.outside out.old) (K.sink.outside out.new) }
-    ensures met { IfErr result StopsServing }
+    ensures proceeds { Proceeds (is_all_put result) (K.sink.outside out.old) (K.sink.outside out.new) }
+    ensures caused { IfErr result StopsServing }
     ensures can { (commands : List D.Command)
         → D.can form.old rack.old commands → D.can form.new rack.new commands }
 {
@@ -176,15 +176,15 @@ fn serve_run<R, D: Form<R>, T: Source, F: Folder, K: Sink, const ANSWERS: bool>(
     out: &mut K,
     n: u64,
 ) -> Result<(), Stop>
-    ensures told { IfSome (F.folder.files folder.old) (λ fs. T.stands source.old fs
-        → ServesPart D.meaning K.sink ANSWERS (T.stands source.new fs)
+    ensures known { IfSome (F.folder.files folder.old) (λ fs. T.reads_from source.old fs
+        → ServesPart D.meaning K.sink ANSWERS (T.reads_from source.new fs)
         (ran D.meaning n (T.left source.old fs).records (T.left source.old fs).fault)
         (T.left source.new fs)
         (D.state form.old rack.old) (D.state form.new rack.new) out.old out.new result) }
     ensures leaves { FolderAfter F.folder folder.old folder.new
         (fate_by stop_fate result) }
-    ensures goes_on { GoesOn (is_all_put result) (K.sink.outside out.old) (K.sink.outside out.new) }
-    ensures met { IfErr result StopsServing }
+    ensures proceeds { Proceeds (is_all_put result) (K.sink.outside out.old) (K.sink.outside out.new) }
+    ensures caused { IfErr result StopsServing }
     ensures can { (commands : List D.Command)
         → D.can form.old rack.old commands → D.can form.new rack.new commands }
 {

@@ -23,26 +23,26 @@ pub trait Source: Sized {
     ghost left: { Self → Files → Trail };
 
     /// It was fed from these files alone.
-    ghost stands: { Self → Files → Type 0 };
+    ghost reads_from: { Self → Files → Type 0 };
 
     /// How much is left at most, whatever the files.
     ghost size: { Self → ℕ };
 
     /// The next record, or None at the end.
     fn next<F: Folder>(&mut self, folder: &mut F) -> Result<Option<Numbered>, Stop>
-        ensures told { IfSome (F.folder.files folder.old) (λ fs. stands self.old fs
-            → Gives (stands self.new fs) (left self.old fs) (left self.new fs) result) }
+        ensures known { IfSome (F.folder.files folder.old) (λ fs. reads_from self.old fs
+            → Gives (reads_from self.new fs) (left self.old fs) (left self.new fs) result) }
         ensures leaves { FolderAfter F.folder folder.old folder.new
             (fate_by stop_fate result) }
-        ensures met { IfErr result StopsSource }
+        ensures caused { IfErr result StopsSource }
         ensures shrinks { IfOk result (λ r. IsSome r → size self.new < size self.old) };
 
     /// Takes the next records that are held, `most` at most, while each is in Lackey's own form and
     /// its bytes lie in one page; appends their accesses, while there is room. Returns how many
     /// were taken, perhaps none.
     fn skim(&mut self, into: &mut Batch, most: u64) -> u64
-        ensures skims { (fs : Files) → stands self.old fs
-            → Skims (stands self.new fs) (left self.old fs) (left self.new fs)
+        ensures skims { (fs : Files) → reads_from self.old fs
+            → Skims (reads_from self.new fs) (left self.old fs) (left self.new fs)
             into.old.items into.new.items result }
         ensures few { result ≤ most }
         ensures no_more { size self.new ≤ size self.old }

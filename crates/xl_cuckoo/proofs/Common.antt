@@ -7,7 +7,7 @@ pub use Rattle.std.specs.Option.{option_or}
 pub use Rattle.std.specs.Prelude.{find, IfSome, is_some, IsSome}
 pub use Rattle.std.specs.Vec.{with_items}
 pub use Rattle.xl_model.specs.Base.{one_if, plus}
-pub use Rattle.xl_model.specs.Placing.{after_attempt, after_placing, AtCap, Attempt, begins, begun_if_full, by_occupant, Candidate, candidate, Displaced, Fails, forced_moves, growths_left, holder_from, is_held, next_way, Placed, Placing, put_in, settled_moves, settled_way, slots_settled, smaller, Stands, start_way, to_grow, total, way_at, with_growth}
+pub use Rattle.xl_model.specs.Placing.{after_attempt, after_placing, AtCap, Attempt, begins, begun_if_full, by_occupant, Candidate, candidate, Displaced, Fails, forced_moves, growths_left, holder_from, is_held, next_way, Placed, Placing, put_in, settled_moves, settled_way, slots_settled, smaller, Succeeds, start_way, to_grow, total, way_at, with_growth}
 unfoldable pub use Rattle.xl_model.specs.Placing.{attempt, forced, insertion, place, placing, settled}
 pub use Rattle.xl_model.specs.Shapes.{opening_ways}
 pub use Rattle.xl_model.specs.Ways.{has_key, occupant, reworded, slots_left, swapped, WayShape, without_key}

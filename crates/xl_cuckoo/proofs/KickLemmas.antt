@@ -1,6 +1,6 @@
 -- An entry put into a way and what was there put back; an attempt step by step; and displacements
 -- undone.
-use Rattle.xl_cuckoo.proofs.Common.{◌++◌, ◌+◌, ◌<◌, ◌∙◌, ◌∷◌, ◌≡◌, ◌≤◌, [], ap, arith, Attempt, attempt, by_occupant, Displaced, Entry, Fails, get_or, get_or-append_seam, get_or-set_same, IfSome, in_hand, keys_in_hand, length, length-append, length-set, length-take-le, List, map, map-set, next_way, no_way, None, occupant, Option, previous_way, put_at, put_in, refl, set, set-get_or, set-set, shapes, Some, Stands, state_at, suc, swapped, sym, take, take-append_seam, take-suc, undone, way_at, WayShape, WayState, with_swapped, zero, ℕ}
+use Rattle.xl_cuckoo.proofs.Common.{◌++◌, ◌+◌, ◌<◌, ◌∙◌, ◌∷◌, ◌≡◌, ◌≤◌, [], ap, arith, Attempt, attempt, by_occupant, Displaced, Entry, Fails, get_or, get_or-append_seam, get_or-set_same, IfSome, in_hand, keys_in_hand, length, length-append, length-set, length-take-le, List, map, map-set, next_way, no_way, None, occupant, Option, previous_way, put_at, put_in, refl, set, set-get_or, set-set, shapes, Some, Succeeds, state_at, suc, swapped, sym, take, take-append_seam, take-suc, undone, way_at, WayShape, WayState, with_swapped, zero, ℕ}
 
 pub map-length : {A B : Type 0} (f : A → B) (xs : List A) → length (map f xs) ≡ length xs
 map-length f [] = refl
@@ -92,16 +92,16 @@ same-last xs ys a b l e = (
 )
 
 -- where the keys in hand are the first of these, the one in hand at present is the last of them
-pub key-told : (n : ℕ) (ws : List WayState) (at : ℕ) (hand : Entry) (keys : List ℕ) → n < length keys → keys_in_hand (n + 1) ws at hand ≡ take (n + 1) keys
+pub key-known : (n : ℕ) (ws : List WayState) (at : ℕ) (hand : Entry) (keys : List ℕ) → n < length keys → keys_in_hand (n + 1) ws at hand ≡ take (n + 1) keys
     → (keys_in_hand n (put_at ws (previous_way (length ws) at) hand) (previous_way (length ws) at) (in_hand (occupant (state_at ws (previous_way (length ws) at)).shape hand.key) hand) ≡ take n keys)
     × (hand.key ≡ get_or keys n 0)
-key-told n ws at hand keys within told =
+key-known n ws at hand keys within known =
     let w = previous_way (length ws) at in
     let left = in_hand (occupant (state_at ws w).shape hand.key) hand in
     let more : n + 1 ≡ suc n = omega arith in
     same-last (keys_in_hand n (put_at ws w hand) w left) (take n keys) hand.key (get_or keys n 0)
     (keys-length n (put_at ws w hand) w left ∙ sym (length-take-le n keys (omega (arith, within))))
-    (sym (keys-step n ws at hand) ∙ told ∙ ap (λ (m : ℕ). take m keys) more ∙ take-suc keys n 0 within)
+    (sym (keys-step n ws at hand) ∙ known ∙ ap (λ (m : ℕ). take m keys) more ∙ take-suc keys n 0 within)
 
 -- an attempt, step by step
 pub attempt-step : (left : ℕ) (ws vs : List WayState) (at : ℕ) (hand e : Entry) (moved : List Displaced) → occupant (state_at ws at).shape hand.key ≡ Some e → vs ≡ put_at ws at hand
@@ -115,12 +115,12 @@ attempt-step left ws vs at hand e moved taken is =
     let s : put_in (shapes ws) at hand ≡ shapes vs = sym (shapes-put ws at hand) ∙ ap shapes (sym is) in
     let on : Entry → Attempt = λ d. attempt left (put_in (shapes ws) at hand) (next_way (length (shapes ws)) at) d (moved ++ record { key = d.key; way = next_way (length (shapes ws)) at } ∷ []) in
     ap (λ (m : ℕ). attempt m (shapes ws) at hand moved) l
-    ∙ ap (λ (p : Option Entry). by_occupant p (Stands (put_in (shapes ws) at hand) moved) on) o
+    ∙ ap (λ (p : Option Entry). by_occupant p (Succeeds (put_in (shapes ws) at hand) moved) on) o
     ∙ ap (λ (m : ℕ). attempt left (put_in (shapes ws) at hand) (next_way m at) e (moved ++ record { key = e.key; way = next_way m at } ∷ [])) n
     ∙ ap (λ (us : List WayShape). attempt left us (next_way (length ws) at) e (moved ++ record { key = e.key; way = next_way (length ws) at } ∷ [])) s
 
 pub attempt-free : (left : ℕ) (ws vs : List WayState) (at : ℕ) (hand : Entry) (moved : List Displaced) → occupant (state_at ws at).shape hand.key ≡ None → vs ≡ put_at ws at hand
-    → attempt left (shapes ws) at hand moved ≡ Stands (shapes vs) moved
+    → attempt left (shapes ws) at hand moved ≡ Succeeds (shapes vs) moved
 unfolding attempt
 attempt-free left ws vs at hand moved free is = go left
   where
@@ -130,17 +130,17 @@ attempt-free left ws vs at hand moved free is = go left
     s : put_in (shapes ws) at hand ≡ shapes vs
     s = sym (shapes-put ws at hand) ∙ ap shapes (sym is)
 
-    go : (n : ℕ) → attempt n (shapes ws) at hand moved ≡ Stands (shapes vs) moved
-    go zero = ap (λ (p : Option Entry). by_occupant p (Stands (put_in (shapes ws) at hand) moved) (λ e. Fails)) o ∙ ap (λ (us : List WayShape). Stands us moved) s
+    go : (n : ℕ) → attempt n (shapes ws) at hand moved ≡ Succeeds (shapes vs) moved
+    go zero = ap (λ (p : Option Entry). by_occupant p (Succeeds (put_in (shapes ws) at hand) moved) (λ e. Fails)) o ∙ ap (λ (us : List WayShape). Succeeds us moved) s
     go (suc n) =
-        ap (λ (p : Option Entry). by_occupant p (Stands (put_in (shapes ws) at hand) moved)
+        ap (λ (p : Option Entry). by_occupant p (Succeeds (put_in (shapes ws) at hand) moved)
         (λ d. attempt n (put_in (shapes ws) at hand) (next_way (length (shapes ws)) at) d (moved ++ record { key = d.key; way = next_way (length (shapes ws)) at } ∷ []))) o
-        ∙ ap (λ (us : List WayShape). Stands us moved) s
+        ∙ ap (λ (us : List WayShape). Succeeds us moved) s
 
 pub attempt-fails : (ws : List WayState) (at : ℕ) (hand e : Entry) (moved : List Displaced) → occupant (state_at ws at).shape hand.key ≡ Some e → attempt 0 (shapes ws) at hand moved ≡ Fails
 unfolding attempt
 attempt-fails ws at hand e moved taken =
-    ap (λ (p : Option Entry). by_occupant p (Stands (put_in (shapes ws) at hand) moved) (λ d. Fails))
+    ap (λ (p : Option Entry). by_occupant p (Succeeds (put_in (shapes ws) at hand) moved) (λ d. Fails))
     (ap (λ (w : WayShape). occupant w hand.key) (shape-at ws at) ∙ taken)
 
 -- what is in hand is an entry

@@ -1,5 +1,5 @@
 -- One attempt and the growth that follows it, in the definition of placing.
-use Rattle.xl_cuckoo.proofs.Common.{◌+◌, ◌<◌, ◌==◌, ◌∙◌, ◌∷◌, ◌≡◌, ◌⊎◌, [], advanced, after_attempt, ap, arith, AtCap, Attempt, attempt, begun, Bool, Candidate, candidate, cond, Displaced, entries_of, Entry, Fails, false, forced, forced-entries, forced_moves, growths_left, inl, inr, IsCapped, IsGrown, length, List, map, map-set, map-set_same, Moves, nat_le, nat_lt, nat_tests, None, opening_way, Option, Placed, placing, refl, SameEntries, set, shapes, slots_left, smaller, Some, Stands, start_way, state_at, subst, suc, sym, to_grow, true, way_at, WayShape, WayState, with_forced, with_growth, with_kicks, with_undone, zero, ℕ}
+use Rattle.xl_cuckoo.proofs.Common.{◌+◌, ◌<◌, ◌==◌, ◌∙◌, ◌∷◌, ◌≡◌, ◌⊎◌, [], advanced, after_attempt, ap, arith, AtCap, Attempt, attempt, begun, Bool, Candidate, candidate, cond, Displaced, entries_of, Entry, Fails, false, forced, forced-entries, forced_moves, growths_left, inl, inr, IsCapped, IsGrown, length, List, map, map-set, map-set_same, Moves, nat_le, nat_lt, nat_tests, None, opening_way, Option, Placed, placing, refl, SameEntries, set, shapes, slots_left, smaller, Some, Succeeds, start_way, state_at, subst, suc, sym, to_grow, true, way_at, WayShape, WayState, with_forced, with_growth, with_kicks, with_undone, zero, ℕ}
 use Rattle.xl_cuckoo.proofs.KickLemmas.{map-length, shape-at}
 
 -- the result of the attempts of an entry
@@ -10,11 +10,11 @@ tried limit ws x = attempt limit ws (start_way (length ws) x.key) x []
 abbrev pub grown_at : List WayShape → ℕ → List WayShape
 grown_at ws i = set ws i (forced (way_at ws i))
 
-pub stands-now : (limit : ℕ) (ws vs : List WayShape) (x : Entry) (m : Moves) (moved : List Displaced) → tried limit ws x ≡ Stands vs moved
+pub succeeds-now : (limit : ℕ) (ws vs : List WayShape) (x : Entry) (m : Moves) (moved : List Displaced) → tried limit ws x ≡ Succeeds vs moved
     → (room : ℕ) → placing room limit ws x m ≡ Placed vs moved (with_kicks (length moved) m)
 unfolding placing
-stands-now limit ws vs x m moved e zero = ap (λ (a : Attempt). after_attempt a limit m (λ n. AtCap ws n)) e
-stands-now limit ws vs x m moved e (suc room) =
+succeeds-now limit ws vs x m moved e zero = ap (λ (a : Attempt). after_attempt a limit m (λ n. AtCap ws n)) e
+succeeds-now limit ws vs x m moved e (suc room) =
     ap (λ (a : Attempt). after_attempt a limit m (λ n. with_growth (to_grow 0 ws) (AtCap ws n) (λ i. placing room limit (grown_at ws i) x (forced_moves (way_at ws i) n)))) e
 
 pub capped-now : (limit : ℕ) (ws : List WayShape) (x : Entry) (m : Moves) → tried limit ws x ≡ Fails → to_grow 0 ws ≡ None

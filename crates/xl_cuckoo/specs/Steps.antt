@@ -31,6 +31,6 @@ pub record IsGrown (limit : ℕ) (x : Entry) (m : Moves) (old new : List WayShap
 
 -- What a step does to the ways, and what it says of placing the entry.
 abbrev pub StepIs : ℕ → Entry → Moves → List WayShape → List WayShape → List Displaced → Step → Type 0
-StepIs limit x m old new moved (step.Stands after) = (room : ℕ) → placing room limit old x m ≡ Placed new moved after
+StepIs limit x m old new moved (step.Succeeds after) = (room : ℕ) → placing room limit old x m ≡ Placed new moved after
 StepIs limit x m old new moved (step.Capped after) = IsCapped limit x m old new moved after
 StepIs limit x m old new moved (step.Grown after) = IsGrown limit x m old new after

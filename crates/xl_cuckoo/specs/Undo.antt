@@ -13,9 +13,9 @@ abbrev pub displaced : Moved → Displaced
 displaced m = record { key = m.key; way = m.way }
 
 -- What the log has of a displaced key, if there is one.
-abbrev pub told : Option Moved → Option Displaced
-told None = None
-told (Some m) = Some (displaced m)
+abbrev pub known : Option Moved → Option Displaced
+known None = None
+known (Some m) = Some (displaced m)
 
 -- The way before this one, round all ways.
 abbrev pub previous_way : ℕ → ℕ → ℕ

@@ -1,7 +1,7 @@
 //! An attempt to place an entry, with its displacements, and their undoing.
 
 ghost use Rattle.std.specs.Prelude.{◌≡◌, ◌<◌, ◌≤◌, true, false, [], length, map, slice_index_or, Option};
-ghost use Rattle.xl_model.specs.Placing.{attempt as attempt_by, Stands, Fails};
+ghost use Rattle.xl_model.specs.Placing.{attempt as attempt_by, Succeeds, Fails};
 ghost use Rattle.xl_cuckoo.specs.State.{shapes};
 ghost use Rattle.xl_cuckoo.specs.Undo.{displaced, undone, in_hand, key_of, keys_in_hand};
 
@@ -37,7 +37,7 @@ pub(crate) fn undo(ways: &mut [Way], moved: &[Moved], at: usize, hand: Entry)
     requires within { at < length ways.old }
     requires few { length ways.old ≤ 4 }
     requires full { 0 < hand.word }
-    requires told { keys_in_hand (length moved.now) ways.old at hand ≡ map key_of moved.now }
+    requires known { keys_in_hand (length moved.now) ways.old at hand ≡ map key_of moved.now }
     ensures { ways.new ≡ undone (length moved.now) ways.old at hand }
 {
     let mut at = at;
@@ -71,8 +71,8 @@ pub(crate) fn attempt(
     requires limit { limit ≤ 64 }
     requires full { 0 < entry.word }
     requires none { moved.old.items ≡ [] }
-    ensures stands { result ≡ true → attempt_by limit (shapes ways.old) start entry []
-        ≡ Stands (shapes ways.new) (map displaced moved.new.items) }
+    ensures succeeds { result ≡ true → attempt_by limit (shapes ways.old) start entry []
+        ≡ Succeeds (shapes ways.new) (map displaced moved.new.items) }
     ensures fails { result ≡ false → attempt_by limit (shapes ways.old) start entry [] ≡ Fails }
     ensures back { result ≡ false → ways.new ≡ ways.old }
 {

@@ -6,7 +6,7 @@ ghost use Rattle.xl_model.specs.Placing.{Placed, AtCap, way_at, holder_from};
 ghost use Rattle.xl_model.specs.Shapes.{opening_ways};
 ghost use Rattle.xl_way.specs.Slots.{word_of};
 ghost use Rattle.xl_cuckoo.specs.State.{shapes};
-ghost use Rattle.xl_cuckoo.specs.Undo.{told};
+ghost use Rattle.xl_cuckoo.specs.Undo.{known};
 ghost use Rattle.xl_cuckoo.specs.Table.{value_of, loaded, inserted, opening, SameEntries, AddsEntry, AreOnce};
 
 use crate::changing::{remove, set_word};
@@ -156,7 +156,7 @@ impl<const D: usize> Cuckoo<D> {
     /// the way to which it went. `None` past the last one, and where the last insertion was refused
     /// or there was none.
     pub fn moved(&self, i: usize) -> Option<Moved>
-        ensures is { told result ≡ slice_get self.now.moved i }
+        ensures is { known result ≡ slice_get self.now.moved i }
         ensures few { IfSome result (λ moved. i < 64) }
     {
         if i < self.moved.len() {
@@ -257,7 +257,7 @@ impl<const D: usize> Cuckoo<D> {
     }
 
     /// What the type keeps: no key occurs twice, and the ways are as many as the type says.
-    pub fn keys_stand_once(&self)
+    pub fn keys_are_single(&self)
         ensures once { AreOnce self.now.ways }
         ensures width { length self.now.ways ≡ D }
     {

@@ -26,7 +26,7 @@ pub(crate) struct Rules {
 
 /// The result of an attempt, with the growth that followed it, and all that was done so far.
 enum Step {
-    Stands(Moves),
+    Succeeds(Moves),
     Grown(Moves),
     Capped(Moves),
 }
@@ -79,7 +79,7 @@ fn try_once(
     moved.clear();
     let start = start(ways.len(), entry.key);
     if attempt(ways, limit, start, entry, moved) {
-        return Step::Stands(count_kicks(moves, moved.len() as u64));
+        return Step::Succeeds(count_kicks(moves, moved.len() as u64));
     }
     let failed = count_undone(moves, limit as u64);
     match to_grow(ways) {
@@ -118,7 +118,7 @@ fn place(
     };
     'attempts: loop {
         match try_once(ways, limit, entry, moved, moves) {
-            Step::Stands(after) => return Ok(after),
+            Step::Succeeds(after) => return Ok(after),
             Step::Capped(after) => return Err(WayAtCap { moves: after }),
             Step::Grown(after) => moves = after,
         }

@@ -67,7 +67,7 @@ pub use Rattle.xl_tagged.proofs.HeldLemmas.{IsTagWith, IsTagWithout, new-keys, p
 pub use Rattle.xl_tagged.proofs.SlotLemmas.{known-leaves, leaf-some, none-read}
 pub use Rattle.xl_tagged.proofs.WholeLemmas.{frame-back, frame-fits, low}
 pub use Rattle.xl_tagged.specs.Forms.{One, slot_of, word_at}
-pub use Rattle.xl_tagged.specs.Slots.{found_from, found_in, leaf_read, small_told}
+pub use Rattle.xl_tagged.specs.Slots.{found_from, found_in, leaf_read, small_known}
 unfoldable pub use Rattle.xl_tagged.specs.Slots.{leaves_under}
 pub use Rattle.xl_tagged.specs.Steps.{given_word, IsWritten}
 pub use Rattle.xl_tagged.specs.Tagged.{AreHeld, IsFit}
@@ -78,7 +78,7 @@ pub use Rattle.xl_cuckoo_walk.specs.Coding.{bit_in, code_of, has_tag, hit_of, is
 pub use Rattle.xl_cuckoo_walk.specs.Known.{IsFrontIf, IsKnown, word_known}
 pub use Rattle.xl_cuckoo_walk.specs.Looks.{counts_smaller, first_from, looked, looked_from}
 pub use Rattle.xl_cuckoo_walk.specs.Parts.{AreFresh, AreKeys, AreTied, by_size, counts_of, HoldsLeaves, IsRow, Large, loads_in, Middle, order_at, order_of, order_tags, parts_by, RowParts, rules_by, rules_in, rules_of, Size, size_in, SizeParts, table_at, table_of, TableRules, Tables, ways_at, ways_in, with_counts, with_table, with_table_at, word_list}
-unfoldable pub use Rattle.xl_cuckoo_walk.specs.Parts.{leaves_in, row_state, tags_in, values_in}
-pub use Rattle.xl_cuckoo_walk.specs.Plans.{filled, is_counted, IsIn, key_told, loads_by, newest_in, own_section, plan_at, plan_by, probed, refreshed, touched_in, value_by, way_told}
+unfoldable pub use Rattle.xl_cuckoo_walk.specs.Parts.{leaves_of_ways, row_state, tags_in, values_in}
+pub use Rattle.xl_cuckoo_walk.specs.Plans.{filled, is_counted, IsIn, key_known, loads_by, newest_in, own_section, plan_at, plan_by, probed, refreshed, touched_in, value_by, way_found}
 unfoldable pub use Rattle.xl_cuckoo_walk.specs.Plans.{keys_from, leaf_said_by, new_word, plan_of}
 pub use Rattle.xl_cuckoo_walk.specs.declared.plan.Plan.{Plan}

@@ -1,5 +1,5 @@
 -- The row after a change whose sections were compared.
-use Rattle.xl_cuckoo_walk.proofs.Common.{◌++◌, ◌+◌, ◌∙◌, ◌∷◌, ◌≡◌, ◌≤◌, [], ap, AreFresh, arith, Bool, Cached, compared, counts_of, Cuckoo, CuckooRules, CuckooWays, false, has_changed, HoldsLeaves, In, is_old, IsPlaced, IsRow, Item, Large, Leaf, leaves_in, length, length-map, List, loads_in, MadeWordsReadBack, Middle, order_of, purged, refl, refreshed, row_state, RowParts, rules_in, Section, section_in, SectionCaches, sections_in, SectionsFresh, Size, size_in, StaysBeside, subst, suc, sym, TableState, true, ways_in, ways_of, without_items, word_of_key, ℕ}
+use Rattle.xl_cuckoo_walk.proofs.Common.{◌++◌, ◌+◌, ◌∙◌, ◌∷◌, ◌≡◌, ◌≤◌, [], ap, AreFresh, arith, Bool, Cached, compared, counts_of, Cuckoo, CuckooRules, CuckooWays, false, has_changed, HoldsLeaves, In, is_old, IsPlaced, IsRow, Item, Large, Leaf, leaves_of_ways, length, length-map, List, loads_in, MadeWordsReadBack, Middle, order_of, purged, refl, refreshed, row_state, RowParts, rules_in, Section, section_in, SectionCaches, sections_in, SectionsFresh, Size, size_in, StaysBeside, subst, suc, sym, TableState, true, ways_in, ways_of, without_items, word_of_key, ℕ}
 use Rattle.xl_cuckoo_walk.proofs.HoldLemmas.{holds-row, holds-with-caches, with_caches}
 use Rattle.xl_cuckoo_walk.proofs.IndexLemmas.{each-size}
 use Rattle.xl_cuckoo_walk.proofs.PurgeLemmas.{fresh-now, purge-is, refreshed-append}
@@ -46,7 +46,7 @@ refreshed-short word (k ∷ ks) c =
 -- the parts that are compared
 module _ (p q : RowParts) (r : IsRow p) (leaves : List Leaf) (h : HoldsLeaves q leaves) (beside : StaysBeside p q) (keys : Size → List ℕ) (stay : WordsStay keys p q) where
   abbrev before : List Leaf
-  before = leaves_in (ways_in p)
+  before = leaves_of_ways (ways_in p)
 
   placed : (x : Leaf) → In x before → IsPlaced x
   placed x i = (r.holds.held.fit x i).aligned.placed

@@ -1,5 +1,5 @@
 -- A leaf that comes: it is counted where it found a place; and where it is refused, what was forced to grow stays.
-use Rattle.xl_cuckoo_walk.proofs.Common.{◌%◌, ◌&&◌, ◌*◌, ◌++◌, ◌+◌, ◌/◌, ◌^◌, ◌∙◌, ◌≡◌, ◌≤◌, ap, AreCounts, AreFresh, AreHeld, AtCap, Bool, by_size, counts_of, CountState, Cuckoo, CuckooRules, CuckooState, CuckooWays, Displaced, entries_in, entries_of, Entry, Err, false, has_fit, has_room, HoldsLeaves, In, Insert, inserted, IsCapped, IsChange, IsEntered, IsFit, IsNoted, IsPut, IsRefused, IsRoomy, IsRow, Large, Leaf, leaf_entry, leaf_word, leaves_in, length, level_of, List, loads_in, MadeWordsReadBack, map, meets_any, Middle, Moves, nat_le, no_moves, None, once-same, One, Option, Order, order_at, order_of, order_tags, page_key, refl, row_state, RowParts, rules_in, rules_of, SameEntries, section-refused, section_count, sections_in, SectionsFresh, Size, size_in, SizeParts, Some, StaysBeside, subst, sym, table_of, TableState, tags_in, true, value_of, values_in, ways_at, ways_in, ways_of, WayShape, with_counts, with_leaf, with_put_in, with_table, with_ways, word_list, word_of, work_of, ℕ}
+use Rattle.xl_cuckoo_walk.proofs.Common.{◌%◌, ◌&&◌, ◌*◌, ◌++◌, ◌+◌, ◌/◌, ◌^◌, ◌∙◌, ◌≡◌, ◌≤◌, ap, AreCounts, AreFresh, AreHeld, AtCap, Bool, by_size, counts_of, CountState, Cuckoo, CuckooRules, CuckooState, CuckooWays, Displaced, entries_in, entries_of, Entry, Err, false, has_fit, has_room, HoldsLeaves, In, Insert, inserted, IsCapped, IsChange, IsEntered, IsFit, IsNoted, IsPut, IsRefused, IsRoomy, IsRow, Large, Leaf, leaf_entry, leaf_word, leaves_of_ways, length, level_of, List, loads_in, MadeWordsReadBack, map, meets_any, Middle, Moves, nat_le, no_moves, None, once-same, One, Option, Order, order_at, order_of, order_tags, page_key, refl, row_state, RowParts, rules_in, rules_of, SameEntries, section-refused, section_count, sections_in, SectionsFresh, Size, size_in, SizeParts, Some, StaysBeside, subst, sym, table_of, TableState, tags_in, true, value_of, values_in, ways_at, ways_in, ways_of, WayShape, with_counts, with_leaf, with_put_in, with_table, with_ways, word_list, word_of, work_of, ℕ}
 use Rattle.xl_model_lemmas.proofs.PlacingLemmas.{entries-same}
 use Rattle.xl_cuckoo_walk.proofs.BitLemmas.{and-first, and-second}
 use Rattle.xl_cuckoo_walk.proofs.IndexLemmas.{each-size, each-way, size-stays, ways-table, with-ways-in}
@@ -32,9 +32,9 @@ tags-same o after ws e =
     ∙ ap (λ ts. order_tags order.K4 ws.k4 ++ (order_tags order.M2 ws.m2 ++ ts)) (same order.G1)
 
 -- a leaf that is refused
-module _ (back : MadeWordsReadBack) (p : RowParts) (r : IsRow p) (x : Leaf) (fit : IsFit x) (free : meets_any x.space x.first x.order (leaves_in (ways_in p)) ≡ false) where
+module _ (back : MadeWordsReadBack) (p : RowParts) (r : IsRow p) (x : Leaf) (fit : IsFit x) (free : meets_any x.space x.first x.order (leaves_of_ways (ways_in p)) ≡ false) where
   abbrev leaves : List Leaf
-  leaves = leaves_in (ways_in p)
+  leaves = leaves_of_ways (ways_in p)
 
   abbrev room : Bool
   room = has_fit order.M2 x p.middle.counts && has_fit order.G1 x p.large.counts

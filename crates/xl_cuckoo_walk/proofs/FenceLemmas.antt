@@ -1,5 +1,5 @@
 -- Fences on cached sections.
-use Rattle.xl_cuckoo_walk.proofs.Common.{◌+◌, ◌-◌, ◌∙◌, ◌≡◌, ap, arith, Cached, caches_fenced, fence_answer, is_reached, IsFence, IsRow, Item, Large, Leaf, leaves_in, length, length-map, List, Middle, Order, order_of, purged, purged-map, reaches_space, refl, row_state, RowParts, Section, section-fenced, section_in, sections_in, SectionsFresh, size_in, subst, sym, table_fenced, ways_in, ways_of, WayShape, without_items, ℕ}
+use Rattle.xl_cuckoo_walk.proofs.Common.{◌+◌, ◌-◌, ◌∙◌, ◌≡◌, ap, arith, Cached, caches_fenced, fence_answer, is_reached, IsFence, IsRow, Item, Large, Leaf, leaves_of_ways, length, length-map, List, Middle, Order, order_of, purged, purged-map, reaches_space, refl, row_state, RowParts, Section, section-fenced, section_in, sections_in, SectionsFresh, size_in, subst, sym, table_fenced, ways_in, ways_of, WayShape, without_items, ℕ}
 use Rattle.xl_model.specs.declared.event.Reach.{Reach}
 use Rattle.xl_cuckoo_walk.proofs.HoldLemmas.{holds-with-caches, with_caches}
 use Rattle.xl_cuckoo_walk.proofs.IndexLemmas.{each-size}
@@ -41,10 +41,10 @@ row-fenced to p m2 g1 a b r e n f m =
     let y : IsFenced to p.large.cache g1 b = fenced to p.large.cache g1 b f m in
     record {
       row = record {
-        holds = holds-with-caches m2 g1 p (leaves_in (ways_in p)) r.holds;
-        fresh = each-size (λ z. SectionsFresh (order_of z) (leaves_in (ways_in p)) (ways_of (order_of z) (ways_in p)) (sections_in (size_in z (with_caches m2 g1 p)).cache))
-            (fresh to order.M2 (leaves_in (ways_in p)) p.tables.m2.ways p.middle.cache m2 a x (r.fresh Middle))
-            (fresh to order.G1 (leaves_in (ways_in p)) p.tables.g1.ways p.large.cache g1 b y (r.fresh Large));
+        holds = holds-with-caches m2 g1 p (leaves_of_ways (ways_in p)) r.holds;
+        fresh = each-size (λ z. SectionsFresh (order_of z) (leaves_of_ways (ways_in p)) (ways_of (order_of z) (ways_in p)) (sections_in (size_in z (with_caches m2 g1 p)).cache))
+            (fresh to order.M2 (leaves_of_ways (ways_in p)) p.tables.m2.ways p.middle.cache m2 a x (r.fresh Middle))
+            (fresh to order.G1 (leaves_of_ways (ways_in p)) p.tables.g1.ways p.large.cache g1 b y (r.fresh Large));
       };
       fence = record {
         answer = both-left a b (length (without_items (λ s. reaches_space to s.space) (sections_in p.middle.cache)).items) (length (without_items (λ s. reaches_space to s.space) (sections_in p.large.cache)).items)

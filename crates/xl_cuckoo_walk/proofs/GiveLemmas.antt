@@ -1,5 +1,5 @@
 -- A leaf of the row gets another permission.
-use Rattle.xl_cuckoo_walk.proofs.Common.{◌+◌, ◌-◌, ◌==◌, ◌||◌, ◌∙◌, ◌∷◌, ◌≡◌, ◌≤◌, [], ap, AreTied, arith, Bool, Cached, Change, cond, Count, count_of, counts_of, CuckooState, CuckooWays, entries_in, Entry, false, frame-back, given_word, has_key, holder_from, is_held, IsChange, IsRow, Leaf, leaf_entry, leaf_word, leaves_in, length, length-map, List, list_any, loads_in, MadeWordsReadBack, map, nat_tests, no_moves, Ok, once-reworded, Order, order_of, page_key, Perm, Protect, refl, reworded, row_state, RowParts, rules_in, rules_of, Section, sections_in, Size, SizeParts, Some, StaysBeside, subst, sym, table_of, tally, tally-same, true, value_of, ways-reworded, ways_in, ways_of, WayShape, with_leaf, with_table, with_ways, with_word, with_word_in, without_leaf, work_of, ℕ}
+use Rattle.xl_cuckoo_walk.proofs.Common.{◌+◌, ◌-◌, ◌==◌, ◌||◌, ◌∙◌, ◌∷◌, ◌≡◌, ◌≤◌, [], ap, AreTied, arith, Bool, Cached, Change, cond, Count, count_of, counts_of, CuckooState, CuckooWays, entries_in, Entry, false, frame-back, given_word, has_key, holder_from, is_held, IsChange, IsRow, Leaf, leaf_entry, leaf_word, leaves_of_ways, length, length-map, List, list_any, loads_in, MadeWordsReadBack, map, nat_tests, no_moves, Ok, once-reworded, Order, order_of, page_key, Perm, Protect, refl, reworded, row_state, RowParts, rules_in, rules_of, Section, sections_in, Size, SizeParts, Some, StaysBeside, subst, sym, table_of, tally, tally-same, true, value_of, ways-reworded, ways_in, ways_of, WayShape, with_leaf, with_table, with_ways, with_word, with_word_in, without_leaf, work_of, ℕ}
 use Rattle.xl_cuckoo_walk.proofs.IndexLemmas.{each-way, size-stays, ways-table, with-ways-in}
 use Rattle.xl_cuckoo_walk.proofs.ComparedLemmas.{compared-row, ComparedRow, WordsStay}
 use Rattle.xl_cuckoo_walk.proofs.CountLemmas.{tied-given}
@@ -45,7 +45,7 @@ module _ (back : MadeWordsReadBack) (p : RowParts) (r : IsRow p) (space first : 
   ws = ways_in p
 
   abbrev leaves : List Leaf
-  leaves = leaves_in ws
+  leaves = leaves_of_ways ws
 
   abbrev key : ℕ
   key = (leaf_entry x).key

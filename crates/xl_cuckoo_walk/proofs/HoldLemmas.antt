@@ -1,5 +1,5 @@
 -- Tables and counts that hold leaves: when a leaf comes and when one goes.
-use Rattle.xl_cuckoo_walk.proofs.Common.{◌<◌, ◌^◌, ◌∙◌, ◌≡◌, ◌≤◌, AddsEntry, aligned-frame, any-false, any-In, ap, AreFresh, AreHeld, AreKeys, AreOnce, AreTied, arith, Bool, Cached, counts_at, counts_of, CountState, CuckooState, CuckooWays, Displaced, entries_in, Entry, false, has_fit, has_key, HoldsLeaves, In, In-any, In-keys, inserted, insertion, IsDropped, IsEntered, IsFit, IsLeafFor, IsLeft, IsNoted, IsPlaced, IsRoomy, IsRow, IsTied, Item, keys-count, keys-In, keys-once, Large, Leaf, leaf_entry, leaves_in, length, length-map, level_of, List, low, MadeWordsReadBack, map, meets_any, meets_block, Middle, Moves, nat_le, nat_tests, new-keys, None, once-added, once-cleared, One, one_if, Order, order_of, page_key, Placed, plus, refl, row_state, RowParts, rules_by, rules_in, rules_of, section_count, section_keys, Size, size_in, StaysBeside, subst, sym, table_of, TableRules, Tables, tags_in, tally, true, value_of, values_in, ways-without, ways_in, ways_of, WayShape, with_counts, with_leaf, with_table, with_table_at, with_ways, without-In, without_entry, without_leaf, ℕ}
+use Rattle.xl_cuckoo_walk.proofs.Common.{◌<◌, ◌^◌, ◌∙◌, ◌≡◌, ◌≤◌, AddsEntry, aligned-frame, any-false, any-In, ap, AreFresh, AreHeld, AreKeys, AreOnce, AreTied, arith, Bool, Cached, counts_at, counts_of, CountState, CuckooState, CuckooWays, Displaced, entries_in, Entry, false, has_fit, has_key, HoldsLeaves, In, In-any, In-keys, inserted, insertion, IsDropped, IsEntered, IsFit, IsLeafFor, IsLeft, IsNoted, IsPlaced, IsRoomy, IsRow, IsTied, Item, keys-count, keys-In, keys-once, Large, Leaf, leaf_entry, leaves_of_ways, length, length-map, level_of, List, low, MadeWordsReadBack, map, meets_any, meets_block, Middle, Moves, nat_le, nat_tests, new-keys, None, once-added, once-cleared, One, one_if, Order, order_of, page_key, Placed, plus, refl, row_state, RowParts, rules_by, rules_in, rules_of, section_count, section_keys, Size, size_in, StaysBeside, subst, sym, table_of, TableRules, Tables, tags_in, tally, true, value_of, values_in, ways-without, ways_in, ways_of, WayShape, with_counts, with_leaf, with_table, with_table_at, with_ways, without-In, without_entry, without_leaf, ℕ}
 use Rattle.xl_model_lemmas.proofs.OnceLemmas.{once-short}
 use Rattle.xl_cuckoo_walk.proofs.IndexLemmas.{each-size, each-table, each-way, table-now, ways-table, with-ways-in}
 use Rattle.xl_cuckoo_walk.proofs.CountLemmas.{Apart, fits-is, place-is, roomy-is, tied-less, tied-with}
@@ -10,7 +10,7 @@ use Rattle.xl_model.specs.declared.address.Order.TheVariants as order
 -- with fresh caches what holds leaves is a row
 pub holds-row : MadeWordsReadBack → (p : RowParts) (leaves : List Leaf) → HoldsLeaves p leaves → AreFresh p leaves → IsRow p
 holds-row back p leaves h fresh =
-    let is : leaves ≡ leaves_in (ways_in p) = sym (leaves-known back (ways_in p) leaves h.held) in
+    let is : leaves ≡ leaves_of_ways (ways_in p) = sym (leaves-known back (ways_in p) leaves h.held) in
     record { holds = subst (HoldsLeaves p) is h; fresh = subst (AreFresh p) is fresh }
 
 -- the parts with other cached sections hold what they held
@@ -38,7 +38,7 @@ pub record IsTableFor (p : RowParts) (o : Order) (t : CuckooState) (leaves : Lis
   pub once : AreOnce t.ways
   pub rules : rules_of t ≡ rules_of (table_of o p)
 
-module _ (p : RowParts) (h : HoldsLeaves p (leaves_in (ways_in p))) (o : Order) where
+module _ (p : RowParts) (h : HoldsLeaves p (leaves_of_ways (ways_in p))) (o : Order) where
   rules-now : (t : CuckooState) → rules_of t ≡ rules_of (table_of o p) → (q : Order) → rules_of (table_of q (with_table o t p)) ≡ rules_of p.tables.k4
   rules-now t same = each-table (λ q u. rules_of u ≡ rules_of p.tables.k4) o t p.tables (same ∙ h.rules o) (λ q e. h.rules q)
 
@@ -93,7 +93,7 @@ fit-leaf p x v = record {
 }
 
 -- a leaf that overlaps none of the row's
-pub free-now : (p : RowParts) (x : Leaf) → meets_any x.space x.first x.order (row_state p).leaves ≡ false → meets_any x.space x.first x.order (leaves_in (ways_in p)) ≡ false
+pub free-now : (p : RowParts) (x : Leaf) → meets_any x.space x.first x.order (row_state p).leaves ≡ false → meets_any x.space x.first x.order (leaves_of_ways (ways_in p)) ≡ false
 unfolding row_state
 free-now p x free = free
 
@@ -102,10 +102,10 @@ pub entry-key : (x : Leaf) → (leaf_entry x).key ≡ page_key x.order x.space x
 entry-key x = omega arith
 
 -- a leaf comes
-module _ (back : MadeWordsReadBack) (p : RowParts) (h : HoldsLeaves p (leaves_in (ways_in p))) (x : Leaf) (fit : IsFit x)
-    (free : meets_any x.space x.first x.order (leaves_in (ways_in p)) ≡ false) where
+module _ (back : MadeWordsReadBack) (p : RowParts) (h : HoldsLeaves p (leaves_of_ways (ways_in p))) (x : Leaf) (fit : IsFit x)
+    (free : meets_any x.space x.first x.order (leaves_of_ways (ways_in p)) ≡ false) where
   abbrev leaves : List Leaf
-  leaves = leaves_in (ways_in p)
+  leaves = leaves_of_ways (ways_in p)
 
   free-of : (y : Leaf) → In y leaves → meets_block x.space x.first x.order y ≡ false
   unfolding meets_any
@@ -198,9 +198,9 @@ fewer size x xs =
     In-keys size k xs (In-any (counts_at size k) found.0 xs (without-In found.0 x.space x.first xs found.1) found.2))
 
 -- a leaf that went
-module _ (back : MadeWordsReadBack) (p : RowParts) (h : HoldsLeaves p (leaves_in (ways_in p))) (x : Leaf) (there : In x (leaves_in (ways_in p))) where
+module _ (back : MadeWordsReadBack) (p : RowParts) (h : HoldsLeaves p (leaves_of_ways (ways_in p))) (x : Leaf) (there : In x (leaves_of_ways (ways_in p))) where
   abbrev all_leaves : List Leaf
-  all_leaves = leaves_in (ways_in p)
+  all_leaves = leaves_of_ways (ways_in p)
 
   abbrev gone : CuckooState
   gone = record (table_of x.order p) { ways = map (without_entry (leaf_entry x).key) (table_of x.order p).ways }

@@ -1,14 +1,14 @@
 -- A leaf that goes: it is counted no longer.
-use Rattle.xl_cuckoo_walk.proofs.Common.{◌∙◌, ◌≡◌, ap, AreTied, by_size, counts_of, CountState, CuckooState, HoldsLeaves, IsDropped, IsLeft, IsShared, IsSome, Leaf, leaf_word, leaves_in, List, MadeWordsReadBack, map, Order, order_of, page_key, refl, RowParts, Size, size_in, SizeParts, Some, subst, sym, table_of, value_of, ways_in, with_counts, without_entry, without_key_in, ℕ}
+use Rattle.xl_cuckoo_walk.proofs.Common.{◌∙◌, ◌≡◌, ap, AreTied, by_size, counts_of, CountState, CuckooState, HoldsLeaves, IsDropped, IsLeft, IsShared, IsSome, Leaf, leaf_word, leaves_of_ways, List, MadeWordsReadBack, map, Order, order_of, page_key, refl, RowParts, Size, size_in, SizeParts, Some, subst, sym, table_of, value_of, ways_in, with_counts, without_entry, without_key_in, ℕ}
 use Rattle.xl_cuckoo_walk.proofs.CountLemmas.{shared-is}
 use Rattle.xl_cuckoo_walk.proofs.HoldLemmas.{entry-key, left-leaf}
 use Rattle.xl_cuckoo_walk.proofs.IndexLemmas.{each-size, size-stays, ways-table}
 use Rattle.xl_cuckoo_walk.proofs.NamedLemmas.{by-name, NamedLeaf}
 use Rattle.xl_model.specs.declared.address.Order.TheVariants as order
 
-module _ (back : MadeWordsReadBack) (p : RowParts) (h : HoldsLeaves p (leaves_in (ways_in p))) (space first : ℕ) (o : Order) (n : NamedLeaf p space first o) where
+module _ (back : MadeWordsReadBack) (p : RowParts) (h : HoldsLeaves p (leaves_of_ways (ways_in p))) (space first : ℕ) (o : Order) (n : NamedLeaf p space first o) where
   abbrev leaves : List Leaf
-  leaves = leaves_in (ways_in p)
+  leaves = leaves_of_ways (ways_in p)
 
   pub named-value : (key : ℕ) → key ≡ page_key o space first → IsSome (value_of key (table_of o p).ways)
   named-value key k =

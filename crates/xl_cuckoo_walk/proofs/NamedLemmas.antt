@@ -1,12 +1,12 @@
 -- The leaf of a name, and the word that its key has.
-use Rattle.xl_cuckoo_walk.proofs.Common.{◌*◌, ◌+◌, ◌/◌, ◌<◌, ◌^◌, ◌∙◌, ◌≡◌, ap, arith, false, HoldsLeaves, In, is_leaf, is_some, IsNamed, IsRow, IsSome, Leaf, leaf_entry, leaf_named, leaf_word, leaves_in, MadeWordsReadBack, named-first, named-In, named-is, named-order, named-space, None, Option, Order, pages_of, Perm, refl, row_state, RowParts, slice_index, Some, subst, sym, true, value_of, ways_in, ways_of, word_list, ℕ}
+use Rattle.xl_cuckoo_walk.proofs.Common.{◌*◌, ◌+◌, ◌/◌, ◌<◌, ◌^◌, ◌∙◌, ◌≡◌, ap, arith, false, HoldsLeaves, In, is_leaf, is_some, IsNamed, IsRow, IsSome, Leaf, leaf_entry, leaf_named, leaf_word, leaves_of_ways, MadeWordsReadBack, named-first, named-In, named-is, named-order, named-space, None, Option, Order, pages_of, Perm, refl, row_state, RowParts, slice_index, Some, subst, sym, true, value_of, ways_in, ways_of, word_list, ℕ}
 use Rattle.xl_cuckoo_walk.proofs.RowLemmas.{leaf-value, some-value}
 
 -- the leaf of a name, and the word that its key has
 pub record NamedLeaf (p : RowParts) (space first : ℕ) (o : Order) : Type 0 where
   pub leaf : Leaf
-  pub named : leaf_named space first o (leaves_in (ways_in p)) ≡ Some leaf
-  pub there : In leaf (leaves_in (ways_in p))
+  pub named : leaf_named space first o (leaves_of_ways (ways_in p)) ≡ Some leaf
+  pub there : In leaf (leaves_of_ways (ways_in p))
   pub space_is : leaf.space ≡ space
   pub first_is : leaf.first ≡ first
   pub order_is : leaf.order ≡ o
@@ -20,14 +20,14 @@ one-word : (v : Option ℕ) (w : ℕ) → IsSome v → slice_index (word_list v)
 one-word None w h e = absurd (cc)
 one-word (Some n) w h e = ap Some e
 
-pub named-held : MadeWordsReadBack → (p : RowParts) → HoldsLeaves p (leaves_in (ways_in p)) → (space first : ℕ) (o : Order) → IsNamed space first o (leaves_in (ways_in p)) → NamedLeaf p space first o
-named-held back p r space first o h = go (leaf_named space first o (leaves_in (ways_in p))) refl h
+pub named-held : MadeWordsReadBack → (p : RowParts) → HoldsLeaves p (leaves_of_ways (ways_in p)) → (space first : ℕ) (o : Order) → IsNamed space first o (leaves_of_ways (ways_in p)) → NamedLeaf p space first o
+named-held back p r space first o h = go (leaf_named space first o (leaves_of_ways (ways_in p))) refl h
   where
-    go : (q : Option Leaf) → leaf_named space first o (leaves_in (ways_in p)) ≡ q → is_some (leaf_named space first o (leaves_in (ways_in p))) ≡ true → NamedLeaf p space first o
+    go : (q : Option Leaf) → leaf_named space first o (leaves_of_ways (ways_in p)) ≡ q → is_some (leaf_named space first o (leaves_of_ways (ways_in p))) ≡ true → NamedLeaf p space first o
     go None e k = let z : false ≡ true = sym (ap (λ (q : Option Leaf). is_some q) e) ∙ k in absurd (cc)
     go (Some x) e k =
-        let is : is_leaf space first o x ≡ true = named-is space first o x (leaves_in (ways_in p)) e in
-        let i : In x (leaves_in (ways_in p)) = named-In space first o x (leaves_in (ways_in p)) e in
+        let is : is_leaf space first o x ≡ true = named-is space first o x (leaves_of_ways (ways_in p)) e in
+        let i : In x (leaves_of_ways (ways_in p)) = named-In space first o x (leaves_of_ways (ways_in p)) e in
         let fit = r.held.fit x i in
         let sp : x.space ≡ space = named-space space first o x is in
         let fi : x.first ≡ first = named-first space first o x is in
@@ -37,7 +37,7 @@ named-held back p r space first o h = go (leaf_named space first o (leaves_in (w
         ∙ ap (λ s. s * 2 ^ 45 + x.first / pages_of x.order) sp ∙ ap (λ f. space * 2 ^ 45 + f / pages_of x.order) fi ∙ ap (λ m. space * 2 ^ 45 + first / pages_of m) od in
         let own : value_of (leaf_entry x).key (ways_of x.order (ways_in p)) ≡ Some (leaf_word x.frame x.perm) =
         one-word (value_of (leaf_entry x).key (ways_of x.order (ways_in p))) (leaf_word x.frame x.perm)
-        (some-value back (ways_in p) (leaves_in (ways_in p)) r.held r.once x i) (leaf-value back (ways_in p) (leaves_in (ways_in p)) r.held r.once x i) in
+        (some-value back (ways_in p) (leaves_of_ways (ways_in p)) r.held r.once x i) (leaf-value back (ways_in p) (leaves_of_ways (ways_in p)) r.held r.once x i) in
         record {
           leaf = x;
           named = e;

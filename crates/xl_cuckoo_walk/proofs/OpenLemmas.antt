@@ -1,5 +1,5 @@
 -- A row that is opened: nothing is in its ways, no section is counted, and none is cached.
-use Rattle.xl_cuckoo_walk.proofs.Common.{◌%◌, ◌+◌, ◌/◌, ◌^◌, ◌∷◌, ◌≡◌, ◌≤◌, [], ap, AreCounts, AreHeld, AreTied, arith, Count, count_of, counts_of, CountState, CuckooState, CuckooWays, empty_cache, entries_in, find, get_or, has_key, In, inl, IsRow, IsTied, leaves_in, leaves_under, length, List, mapping_of, None, One, opening, opening_ways, Option, Order, order_at, order_of, parts_by, refl, row_state, RowParts, rules_of, sections_in, SectionsFresh, size_in, slice_index, Some, subst, sym, table_of, tags_in, tally, value_of, values_in, ways_at, ways_in, ways_of, WayShape, word_in, word_of as word_kept, word_list, ℕ}
+use Rattle.xl_cuckoo_walk.proofs.Common.{◌%◌, ◌+◌, ◌/◌, ◌^◌, ◌∷◌, ◌≡◌, ◌≤◌, [], ap, AreCounts, AreHeld, AreTied, arith, Count, count_of, counts_of, CountState, CuckooState, CuckooWays, empty_cache, entries_in, find, get_or, has_key, In, inl, IsRow, IsTied, leaves_of_ways, leaves_under, length, List, mapping_of, None, One, opening, opening_ways, Option, Order, order_at, order_of, parts_by, refl, row_state, RowParts, rules_of, sections_in, SectionsFresh, size_in, slice_index, Some, subst, sym, table_of, tags_in, tally, value_of, values_in, ways_at, ways_in, ways_of, WayShape, word_in, word_of as word_kept, word_list, ℕ}
 use Rattle.xl_cuckoo.proofs.TableLemmas.{opening-entries, opening-length}
 use Rattle.xl_cuckoo_walk.proofs.IndexLemmas.{each, each-size}
 use Rattle.xl_sections.specs.Counted.{word_of}
@@ -14,8 +14,8 @@ tags-none : (ws : CuckooWays) → AreEmpty ws → tags_in ws ≡ []
 unfolding tags_in
 tags-none ws none = rw (none order.K4, none order.M2, none order.G1) refl
 
-leaves-none : (ws : CuckooWays) → AreEmpty ws → leaves_in ws ≡ []
-unfolding leaves_in leaves_under mapping_of
+leaves-none : (ws : CuckooWays) → AreEmpty ws → leaves_of_ways ws ≡ []
+unfolding leaves_of_ways leaves_under mapping_of
 leaves-none ws none = ap (λ ts. mapping_of (leaves_under One (values_in ws) ts)) (tags-none ws none)
 
 value-none : (key : ℕ) (ways : List WayShape) → entries_in ways ≡ [] → value_of key ways ≡ None
@@ -41,7 +41,7 @@ nothing-held values none = record {
   apart = λ x y i. absurd i;
 }
 
-held-none : (ws : CuckooWays) → AreEmpty ws → AreHeld One (values_in ws) (tags_in ws) (leaves_in ws)
+held-none : (ws : CuckooWays) → AreEmpty ws → AreHeld One (values_in ws) (tags_in ws) (leaves_of_ways ws)
 held-none ws none =
     let h : AreHeld One (values_in ws) [] [] = nothing-held (values_in ws) (values-none ws none) in
     let k : AreHeld One (values_in ws) (tags_in ws) [] = subst (λ ts. AreHeld One (values_in ws) ts []) (sym (tags-none ws none)) h in
@@ -63,7 +63,7 @@ module _ (threshold limit migrate start cap count : ℕ) (middle large : CountSt
   empty : AreEmpty (ways_in parts)
   empty = each (λ o. entries_in (ways_of o (ways_in parts)) ≡ []) (opening-entries start cap 0 count) (opening-entries start cap 0 count) (opening-entries start cap 0 count)
 
-  tied : (size : Order) (c : CountState) → c.counts ≡ [] → AreTied size (leaves_in (ways_in parts)) c
+  tied : (size : Order) (c : CountState) → c.counts ≡ [] → AreTied size (leaves_of_ways (ways_in parts)) c
   tied size c none = record {
     are = subst AreCounts (sym none) (record { once = tt; some = λ c i. absurd i });
     within = (let n : length c.counts ≡ 0 = ap (λ (cs : List Count). length cs) none in omega arith);
@@ -78,9 +78,9 @@ module _ (threshold limit migrate start cap count : ℕ) (middle large : CountSt
       once = λ o key. let n : tally (has_key key) (entries_in (ways_of o (ways_in parts))) ≡ 0 = ap (λ es. tally (has_key key) es) (empty o) in omega arith;
       rules = each (λ o. rules_of (table_of o parts) ≡ rules_of parts.tables.k4) refl refl refl;
       few = (let n = opening-length start cap 0 count in omega arith);
-      tied = each-size (λ z. AreTied (order_of z) (leaves_in (ways_in parts)) (counts_of parts z)) (tied order.M2 middle no_middle) (tied order.G1 large no_large);
+      tied = each-size (λ z. AreTied (order_of z) (leaves_of_ways (ways_in parts)) (counts_of parts z)) (tied order.M2 middle no_middle) (tied order.G1 large no_large);
     };
-    fresh = each-size (λ z. SectionsFresh (order_of z) (leaves_in (ways_in parts)) (ways_of (order_of z) (ways_in parts)) (sections_in (size_in z parts).cache)) (λ s i. absurd i) (λ s i. absurd i);
+    fresh = each-size (λ z. SectionsFresh (order_of z) (leaves_of_ways (ways_in parts)) (ways_of (order_of z) (ways_in parts)) (sections_in (size_in z parts).cache)) (λ s i. absurd i) (λ s i. absurd i);
   }
 
   pub state-opened : (few many : ℕ) (widths : List ℕ) → middle.room ≡ few → large.room ≡ many → widths ≡ a ∷ b ∷ []

@@ -1,5 +1,5 @@
 -- The purge of a few keys is the definition's purge of all sections that a change makes stale.
-use Rattle.xl_cuckoo_walk.proofs.Common.{◌%◌, ◌&&◌, ◌++◌, ◌+◌, ◌/◌, ◌<◌, ◌==◌, ◌^◌, ◌||◌, ◌∙◌, ◌∷◌, ◌≡◌, [], ap, arith, bit-same, Bool, both, Cached, Count, CuckooWays, Displaced, drop, false, has_changed, In, In-any, In-map, inl, inr, is_old, IsPlaced, IsSorted, IsTied, Item, key_told, keys_from, Leaf, List, list_any, map, nat_tests, new_word, None, not, Option, Order, purged, refl, refreshed, same_section, same_way, Section, section-after, section_by, section_in, section_key, section_of, sections-same, sections_in, SectionsFresh, slice_get, Some, subst, suc, sym, true, way_by, ways_of, without_items, zero, ℕ}
+use Rattle.xl_cuckoo_walk.proofs.Common.{◌%◌, ◌&&◌, ◌++◌, ◌+◌, ◌/◌, ◌<◌, ◌==◌, ◌^◌, ◌||◌, ◌∙◌, ◌∷◌, ◌≡◌, [], ap, arith, bit-same, Bool, both, Cached, Count, CuckooWays, Displaced, drop, false, has_changed, In, In-any, In-map, inl, inr, is_old, IsPlaced, IsSorted, IsTied, Item, key_known, keys_from, Leaf, List, list_any, map, nat_tests, new_word, None, not, Option, Order, purged, refl, refreshed, same_section, same_way, Section, section-after, section_by, section_in, section_key, section_of, sections-same, sections_in, SectionsFresh, slice_get, Some, subst, suc, sym, true, way_by, ways_of, without_items, zero, ℕ}
 use Rattle.xl_cuckoo_walk.proofs.BitLemmas.{written-is}
 
 -- one cut of several tests
@@ -166,18 +166,18 @@ refreshed-append word [] ls c = refl
 refreshed-append word (k ∷ ks) ls c = refreshed-append word ks ls (record c { items = purged (is_old k (word k)) c.items })
 
 -- the logged keys, one by one
-pub told-none : (moved : List Displaced) (at : ℕ) → key_told (slice_get moved at) ≡ None → keys_from at moved ≡ []
+pub known-none : (moved : List Displaced) (at : ℕ) → key_known (slice_get moved at) ≡ None → keys_from at moved ≡ []
 unfolding keys_from
-told-none [] zero e = refl
-told-none [] (suc at) e = refl
-told-none (d ∷ ds) zero e = absurd (cc)
-told-none (d ∷ ds) (suc at) e = told-none ds at e
+known-none [] zero e = refl
+known-none [] (suc at) e = refl
+known-none (d ∷ ds) zero e = absurd (cc)
+known-none (d ∷ ds) (suc at) e = known-none ds at e
 
-pub told-some : (moved : List Displaced) (at key : ℕ) → key_told (slice_get moved at) ≡ Some key → keys_from at moved ≡ key ∷ keys_from (at + 1) moved
+pub known-some : (moved : List Displaced) (at key : ℕ) → key_known (slice_get moved at) ≡ Some key → keys_from at moved ≡ key ∷ keys_from (at + 1) moved
 unfolding keys_from
-told-some [] zero key e = absurd (cc)
-told-some [] (suc at) key e = absurd (cc)
-told-some (d ∷ ds) zero key e = let k : d.key ≡ key = cc in ap (λ n. n ∷ map (λ (d : Displaced). d.key) ds) k
-told-some (d ∷ ds) (suc at) key e =
+known-some [] zero key e = absurd (cc)
+known-some [] (suc at) key e = absurd (cc)
+known-some (d ∷ ds) zero key e = let k : d.key ≡ key = cc in ap (λ n. n ∷ map (λ (d : Displaced). d.key) ds) k
+known-some (d ∷ ds) (suc at) key e =
     let n : suc at + 1 ≡ suc (at + 1) = omega arith in
-    told-some ds at key e ∙ ap (λ m. key ∷ drop m (map (λ (d : Displaced). d.key) (d ∷ ds))) (sym n)
+    known-some ds at key e ∙ ap (λ m. key ∷ drop m (map (λ (d : Displaced). d.key) (d ∷ ds))) (sym n)

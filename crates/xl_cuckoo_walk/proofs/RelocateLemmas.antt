@@ -1,5 +1,5 @@
 -- A leaf that moves: it is put at its new place, and then removed from its old one.
-use Rattle.xl_cuckoo_walk.proofs.Common.{◌&&◌, ◌*◌, ◌++◌, ◌+◌, ◌<◌, ◌^◌, ◌∙◌, ◌≡◌, ap, at_page, Bool, Cached, Change, changed, compared, covers, covers-meets, Cuckoo, CuckooRules, CuckooWays, Err, false, find, find-None, find-only, first-covered, frame-fits, has_room, HoldsLeaves, In, In-left, In-right, Insert, is_leaf, is_some, IsBlock, IsChange, IsEntered, IsFit, IsLeafFor, IsLeft, IsNamed, IsPage, IsRefused, IsRow, keys_from, keys_if, keys_moved, Leaf, leaf_at_page, leaf_entry, leaf_key, leaf_named, leaf_word, leaves_in, List, loads_in, MadeWordsReadBack, map, meets_any, Moves, named-is, nat_le, None, Option, Order, order_of, page_key, page_keys, refl, Refused, Relocate, room_for, row_state, RowParts, rules_in, same_order, Section, section_count, sections_in, Size, Some, stays-with, StaysBeside, subst, sym, table_of, TableState, true, ways_in, ways_of, ways_taken, with_both, with_leaf, with_new, with_ways, without_entry, without_leaf, without_old, ℕ}
+use Rattle.xl_cuckoo_walk.proofs.Common.{◌&&◌, ◌*◌, ◌++◌, ◌+◌, ◌<◌, ◌^◌, ◌∙◌, ◌≡◌, ap, at_page, Bool, Cached, Change, changed, compared, covers, covers-meets, Cuckoo, CuckooRules, CuckooWays, Err, false, find, find-None, find-only, first-covered, frame-fits, has_room, HoldsLeaves, In, In-left, In-right, Insert, is_leaf, is_some, IsBlock, IsChange, IsEntered, IsFit, IsLeafFor, IsLeft, IsNamed, IsPage, IsRefused, IsRow, keys_from, keys_if, keys_moved, Leaf, leaf_at_page, leaf_entry, leaf_key, leaf_named, leaf_word, leaves_of_ways, List, loads_in, MadeWordsReadBack, map, meets_any, Moves, named-is, nat_le, None, Option, Order, order_of, page_key, page_keys, refl, Refused, Relocate, room_for, row_state, RowParts, rules_in, same_order, Section, section_count, sections_in, Size, Some, stays-with, StaysBeside, subst, sym, table_of, TableState, true, ways_in, ways_of, ways_taken, with_both, with_leaf, with_new, with_ways, without_entry, without_leaf, without_old, ℕ}
 use Rattle.xl_model_lemmas.proofs.SortedLemmas.{with-without}
 use Rattle.xl_cuckoo_walk.proofs.ComparedLemmas.{both_keys, compared-row, compared-twice, ComparedRow, WordsStay}
 use Rattle.xl_cuckoo_walk.proofs.HoldLemmas.{apart-leaf, fit-leaf, free-now}
@@ -15,7 +15,7 @@ unfolding leaf_at_page row_state
 named-found p r space first o n =
     let x : Leaf = n.leaf in
     let own : covers space first x ≡ true = by-name (λ s f w. covers s f x ≡ true) p space first o n (first-covered x) in
-    find-only (covers space first) x (leaves_in (ways_in p)) n.there own (λ y i c. sym (r.holds.held.apart x y n.there i (covers-meets space first x y own c)))
+    find-only (covers space first) x (leaves_of_ways (ways_in p)) n.there own (λ y i c. sym (r.holds.held.apart x y n.there i (covers-meets space first x y own c)))
 
 pub named-page : (p : RowParts) (space first : ℕ) (o : Order) → NamedLeaf p space first o → IsPage (row_state p).shape space first
 unfolding row_state
@@ -32,8 +32,8 @@ found-leaf back p r space first o named found old e f =
     let s : n.leaf ≡ old = same-leaf p r space first o n found old e f in
     record {
       leaf = old;
-      named = subst (λ x. leaf_named space first o (leaves_in (ways_in p)) ≡ Some x) s n.named;
-      there = subst (λ x. In x (leaves_in (ways_in p))) s n.there;
+      named = subst (λ x. leaf_named space first o (leaves_of_ways (ways_in p)) ≡ Some x) s n.named;
+      there = subst (λ x. In x (leaves_of_ways (ways_in p))) s n.there;
       space_is = ap (λ (x : Leaf). x.space) (sym s) ∙ n.space_is;
       first_is = ap (λ (x : Leaf). x.first) (sym s) ∙ n.first_is;
       order_is = ap (λ (x : Leaf). x.order) (sym s) ∙ n.order_is;
@@ -64,7 +64,7 @@ room-moved rules ws leaves space first to o x named =
 module _ (back : MadeWordsReadBack) (p : RowParts) (r : IsRow p) (space first to : ℕ) (o : Order) (n : NamedLeaf p space first o)
     (block : IsBlock (row_state p).shape space to o) (free : meets_any space to o (row_state p).leaves ≡ false) where
   abbrev leaves : List Leaf
-  leaves = leaves_in (ways_in p)
+  leaves = leaves_of_ways (ways_in p)
 
   abbrev pub new : Leaf
   new = record n.leaf { first = to }
@@ -99,17 +99,17 @@ module _ (back : MadeWordsReadBack) (p : RowParts) (r : IsRow p) (space first to
   moved-refused q w is = refused-same command new (row_state p) (row_state q) w (ap (at_page to) n.named) (room-moved (rules_in p) (ways_in p) leaves space first to o n.leaf n.named) is.changes
 
   module _ (q : RowParts) (m : Moves) (is : IsEntered new p q m) where
-    between : leaves_in (ways_in q) ≡ with_leaf new leaves
+    between : leaves_of_ways (ways_in q) ≡ with_leaf new leaves
     between = leaves-known back (ways_in q) (with_leaf new leaves) is.holds.held
 
-    pub holds-between : HoldsLeaves q (leaves_in (ways_in q))
+    pub holds-between : HoldsLeaves q (leaves_of_ways (ways_in q))
     holds-between = subst (HoldsLeaves q) (sym between) is.holds
 
     still : In n.leaf (with_leaf new leaves)
     still = stays-with n.leaf new leaves n.there (apart n.leaf n.there)
 
     -- the old leaf has its name still
-    pub named-between : is_some (leaf_named space first o (leaves_in (ways_in q))) ≡ true
+    pub named-between : is_some (leaf_named space first o (leaves_of_ways (ways_in q))) ≡ true
     unfolding leaf_named
     named-between = ap (λ xs. is_some (find (is_leaf space first o) xs)) between ∙ go (find (is_leaf space first o) (with_leaf new leaves)) refl
       where
@@ -136,7 +136,7 @@ module _ (back : MadeWordsReadBack) (p : RowParts) (r : IsRow p) (space first to
       swapped : without_leaf n.leaf.space n.leaf.first (with_leaf new leaves) ≡ after
       swapped = sym (with-without n.leaf.space n.leaf.first new leaves r.holds.held.sorted old-place apart)
 
-      left-leaves : without_leaf space first (leaves_in (ways_in q)) ≡ after
+      left-leaves : without_leaf space first (leaves_of_ways (ways_in q)) ≡ after
       left-leaves = ap (without_leaf space first) between ∙ by-name (λ s f w. without_leaf s f (with_leaf new leaves) ≡ after) p space first o n swapped
 
       holds : HoldsLeaves last after

@@ -1,5 +1,5 @@
 -- The leaves of the row when a leaf comes, goes, or gets another permission.
-use Rattle.xl_cuckoo_walk.proofs.Common.{◌%◌, ◌*◌, ◌+◌, ◌/◌, ◌<◌, ◌^◌, ◌∙◌, ◌≡◌, AddsEntry, ap, AreHeld, AreKeys, AreOnce, arith, both, CuckooWays, entries_in, Entry, false, find, find-In, find-passes, has_key, In, In-map, IsFit, IsPlaced, IsSome, known-leaves, Leaf, leaf-some, leaf_entry, leaf_tag, leaf_word, leaves_in, level_of, List, MadeWordsReadBack, map, meets_block, nat_tests, None, once-added, once-cleared, once-reworded, One, Option, Order, order_tags, pages_of, Perm, put-held, refl, slice_index, slot_of, Some, subst, sym, tags_in, take-held, value_of, values_in, ways_of, WayShape, with-given, with-new, with_leaf, with_ways, with_word, without-old, without_entry, without_leaf, word_in, word_list, word_of, ℕ}
+use Rattle.xl_cuckoo_walk.proofs.Common.{◌%◌, ◌*◌, ◌+◌, ◌/◌, ◌<◌, ◌^◌, ◌∙◌, ◌≡◌, AddsEntry, ap, AreHeld, AreKeys, AreOnce, arith, both, CuckooWays, entries_in, Entry, false, find, find-In, find-passes, has_key, In, In-map, IsFit, IsPlaced, IsSome, known-leaves, Leaf, leaf-some, leaf_entry, leaf_tag, leaf_word, leaves_of_ways, level_of, List, MadeWordsReadBack, map, meets_block, nat_tests, None, once-added, once-cleared, once-reworded, One, Option, Order, order_tags, pages_of, Perm, put-held, refl, slice_index, slot_of, Some, subst, sym, tags_in, take-held, value_of, values_in, ways_of, WayShape, with-given, with-new, with_leaf, with_ways, with_word, without-old, without_entry, without_leaf, word_in, word_list, word_of, ℕ}
 use Rattle.xl_model_lemmas.proofs.TagLemmas.{tag-meets}
 use Rattle.xl_cuckoo_walk.proofs.HeldLemmas.{tag-reworded, tag-with, tag-without, tags-to, written}
 use Rattle.xl_cuckoo_walk.proofs.HolderLemmas.{tag_with, values-before}
@@ -108,6 +108,6 @@ module _ (back : MadeWordsReadBack) (ws : CuckooWays) (leaves : List Leaf) (held
       (with-given One (values_in ws) (tags_in ws) perm x leaves held i)
 
 -- what the ways hold then are those leaves
-pub leaves-known : MadeWordsReadBack → (ws : CuckooWays) (leaves : List Leaf) → AreHeld One (values_in ws) (tags_in ws) leaves → leaves_in ws ≡ leaves
-unfolding leaves_in
+pub leaves-known : MadeWordsReadBack → (ws : CuckooWays) (leaves : List Leaf) → AreHeld One (values_in ws) (tags_in ws) leaves → leaves_of_ways ws ≡ leaves
+unfolding leaves_of_ways
 leaves-known back ws leaves held = known-leaves back One (values_in ws) (tags_in ws) leaves held

@@ -28,11 +28,11 @@ middle-plans middle large a b some =
     let u : (large / 2 % 2 == 1) ≡ true = grind (arith, nat_tests) in
     let v : (middle / 2 % 2 == 1) ≡ true = grind (arith, nat_tests) in
     let w : (middle / 4 % 2 == 1) ≡ false = grind (arith, nat_tests) in
-    let told : way_by (middle / 8) ≡ Some (middle / 8 - 1) = ap way_by {x = middle / 8} {y = suc (middle / 8 - 1)} (omega arith) in
+    let known : way_by (middle / 8) ≡ Some (middle / 8 - 1) = ap way_by {x = middle / 8} {y = suc (middle / 8 - 1)} (omega arith) in
     record {
       some = each-size (λ z. 0 < by_size middle large z) (omega arith) (omega arith);
       are = each (λ o. (m l : ℕ) → plans_by plan.Skip (plan.At (middle / 8 - 1)) plan.Skip o ≡ plan_of o (hit_of m (Some middle)) (hit_of l (Some large)))
-          (λ m l. rw t refl) (λ m l. rw (v, u, told) refl) (λ m l. rw w refl);
+          (λ m l. rw t refl) (λ m l. rw (v, u, known) refl) (λ m l. rw w refl);
     }
 
 -- what is in front is found, and stays

@@ -1,5 +1,5 @@
 -- A row after a leaf came or went, with the sections compared that may have changed.
-use Rattle.xl_cuckoo_walk.proofs.Common.{◌&&◌, ◌+◌, ◌-◌, ◌∙◌, ◌∷◌, ◌≡◌, ◌≤◌, [], ap, arith, Cached, Change, changed, compared, counts_of, Cuckoo, CuckooState, CuckooWays, false, has_room, HoldsLeaves, In, Insert, IsChange, IsEntered, IsFit, IsLeafFor, IsLeft, IsNamed, IsRow, IsTied, keys_moved, Large, Leaf, leaf_entry, leaves_in, length, List, loads_in, MadeWordsReadBack, map, meets_any, Middle, Moves, nat_le, new_word, no_moves, Ok, Order, order_of, page_key, page_keys, refl, Refused, Remove, Result, row_state, RowParts, rules_in, Section, section_count, sections_in, Size, subst, sym, table_of, TableState, true, ways_in, ways_of, with_leaf, with_ways, without_entry, without_leaf, word_of_key, Work, work_of, ℕ}
+use Rattle.xl_cuckoo_walk.proofs.Common.{◌&&◌, ◌+◌, ◌-◌, ◌∙◌, ◌∷◌, ◌≡◌, ◌≤◌, [], ap, arith, Cached, Change, changed, compared, counts_of, Cuckoo, CuckooState, CuckooWays, false, has_room, HoldsLeaves, In, Insert, IsChange, IsEntered, IsFit, IsLeafFor, IsLeft, IsNamed, IsRow, IsTied, keys_moved, Large, Leaf, leaf_entry, leaves_of_ways, length, List, loads_in, MadeWordsReadBack, map, meets_any, Middle, Moves, nat_le, new_word, no_moves, Ok, Order, order_of, page_key, page_keys, refl, Refused, Remove, Result, row_state, RowParts, rules_in, Section, section_count, sections_in, Size, subst, sym, table_of, TableState, true, ways_in, ways_of, with_leaf, with_ways, without_entry, without_leaf, word_of_key, Work, work_of, ℕ}
 use Rattle.xl_cuckoo_walk.proofs.ComparedLemmas.{both_keys, cached-items, compared-row, compared-twice, ComparedRow, WordsStay}
 use Rattle.xl_cuckoo_walk.proofs.HoldLemmas.{apart-leaf, entry-key, fit-leaf, free-now}
 use Rattle.xl_cuckoo_walk.proofs.NamedLemmas.{by-name, named-leaf, NamedLeaf}
@@ -33,10 +33,10 @@ answered c p after m t is change =
     }
 
 -- the words of sections that a leaf's going leaves
-pub words-left : (p q : RowParts) → HoldsLeaves p (leaves_in (ways_in p)) → (space first : ℕ) (o : Order) → NamedLeaf p space first o → IsLeft space first o p q → WordsStay (page_keys space first) p q
+pub words-left : (p q : RowParts) → HoldsLeaves p (leaves_of_ways (ways_in p)) → (space first : ℕ) (o : Order) → NamedLeaf p space first o → IsLeft space first o p q → WordsStay (page_keys space first) p q
 words-left p q h space first o n left z key out =
     let size : Order = order_of z in
-    let leaves : List Leaf = leaves_in (ways_in p) in
+    let leaves : List Leaf = leaves_of_ways (ways_in p) in
     let W : ℕ → ℕ → Order → Type 0 = λ s f w. IsTied size (without_leaf s f leaves) (counts_of q z).counts → (In key (page_key size s f ∷ []) → ⊥)
     → new_word size key (counts_of q z).counts (ways_of size (with_ways w (map (without_entry (page_key w s f)) (ways_of w (ways_in p))) (ways_in p))) ≡ word_of_key z p key in
     ap (λ ws. new_word size key (counts_of q z).counts (ways_of size ws)) left.ways
@@ -48,7 +48,7 @@ pub removed-row : MadeWordsReadBack → (p q : RowParts) → IsRow p → (space 
     → SteppedRow (Remove space first o) p (compared (page_keys space first) q) no_moves
 unfolding row_state
 removed-row back p q r space first o n left =
-    let leaves : List Leaf = leaves_in (ways_in p) in
+    let leaves : List Leaf = leaves_of_ways (ways_in p) in
     let after : RowParts = compared (page_keys space first) q in
     let now : CuckooWays = with_ways o (map (without_entry (page_key o space first)) (ways_of o (ways_in p))) (ways_in p) in
     let is : ComparedRow p after (without_leaf space first leaves) now =
@@ -68,26 +68,26 @@ abbrev pub keys_entered : Leaf → RowParts → Size → List ℕ
 keys_entered x q = both_keys (keys_moved x.order q) (page_keys x.space x.first)
 
 -- the words of sections that a leaf's coming leaves
-pub words-entered : MadeWordsReadBack → (p q : RowParts) → HoldsLeaves p (leaves_in (ways_in p)) → (x : Leaf) → IsFit x → meets_any x.space x.first x.order (leaves_in (ways_in p)) ≡ false → (m : Moves) → IsEntered x p q m
+pub words-entered : MadeWordsReadBack → (p q : RowParts) → HoldsLeaves p (leaves_of_ways (ways_in p)) → (x : Leaf) → IsFit x → meets_any x.space x.first x.order (leaves_of_ways (ways_in p)) ≡ false → (m : Moves) → IsEntered x p q m
     → WordsStay (keys_entered x q) p q
 words-entered back p q h x fit free m is z key out =
     let t : CuckooState = table_of x.order q in
     ap (λ ws. new_word (order_of z) key (counts_of q z).counts (ways_of (order_of z) ws)) is.ways
-    ∙ words-with (rules_in p) (ways_in p) (leaves_in (ways_in p)) x t.ways t.moved m (apart-leaf back p h x fit free) is.placed (order_of z) (counts_of p z).counts (counts_of q z).counts
+    ∙ words-with (rules_in p) (ways_in p) (leaves_of_ways (ways_in p)) x t.ways t.moved m (apart-leaf back p h x fit free) is.placed (order_of z) (counts_of p z).counts (counts_of q z).counts
     (h.tied z).tied (is.holds.tied z).tied key out
 
 -- room for a leaf that came
-pub entered-room : (p q : RowParts) (x : Leaf) (m : Moves) → IsEntered x p q m → has_room (Insert x) (leaves_in (ways_in p)) (Cuckoo (rules_in p) (ways_in p)) ≡ true
+pub entered-room : (p q : RowParts) (x : Leaf) (m : Moves) → IsEntered x p q m → has_room (Insert x) (leaves_of_ways (ways_in p)) (Cuckoo (rules_in p) (ways_in p)) ≡ true
 entered-room p q x m is =
-    room-both (rules_in p) (leaves_in (ways_in p)) (ways_in p) x
-    ∙ ap (λ b. b && nat_le (section_count order.G1 (with_leaf x (leaves_in (ways_in p)))) p.large.counts.room) (is.room Middle) ∙ is.room Large
+    room-both (rules_in p) (leaves_of_ways (ways_in p)) (ways_in p) x
+    ∙ ap (λ b. b && nat_le (section_count order.G1 (with_leaf x (leaves_of_ways (ways_in p)))) p.large.counts.room) (is.room Middle) ∙ is.room Large
 
 -- a leaf came
-pub inserted-row : MadeWordsReadBack → (p q : RowParts) → IsRow p → (x : Leaf) → IsFit x → meets_any x.space x.first x.order (leaves_in (ways_in p)) ≡ false → (m : Moves) → IsEntered x p q m
+pub inserted-row : MadeWordsReadBack → (p q : RowParts) → IsRow p → (x : Leaf) → IsFit x → meets_any x.space x.first x.order (leaves_of_ways (ways_in p)) ≡ false → (m : Moves) → IsEntered x p q m
     → SteppedRow (Insert x) p (compared (keys_entered x q) q) m
 unfolding row_state changed
 inserted-row back p q r x fit free m is =
-    let leaves : List Leaf = leaves_in (ways_in p) in
+    let leaves : List Leaf = leaves_of_ways (ways_in p) in
     let after : RowParts = compared (keys_entered x q) q in
     let now : CuckooWays = with_ways x.order (table_of x.order q).ways (ways_in p) in
     let row : ComparedRow p after (with_leaf x leaves) now =

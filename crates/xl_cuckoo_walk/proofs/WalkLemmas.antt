@@ -1,5 +1,5 @@
 -- A walk, step by step, is the definition's.
-use Rattle.xl_cuckoo_walk.proofs.Common.{◌%◌, ◌*◌, ◌+◌, ◌/◌, ◌<◌, ◌^◌, ◌∙◌, ◌≡◌, ◌≤◌, ap, AreTied, arith, Bool, by_size, Cached, Count, counts_of, covers, CuckooState, CuckooWays, false, filled, fills_m2, find, find-In, find-passes, first_from, has_leaves, has_tag, hit_of, In, is_page_section, is_section, is_some, IsIn, IsPage, IsPlaced, IsRow, IsWalk, Item, Large, Leaf, leaf_at_page, leaf_said_by, leaves_in, length, level-low, level_of, List, loads_by, loads_in, MadeWordsReadBack, map, Middle, new_word, newest-map, None, not, one_if, only, only-first, Option, Order, order_of, page-found, page_key, pages_of, parts_by, Plan, plan_of, plus, probed, probes, refl, row_state, RowParts, rules_of, same_order, Section, section-some, section-walked, section_after, section_by, section_in, section_of_page, SectionCaches, sections_in, SectionsFresh, Size, size_in, small-block, Some, subst, sym, table_of, table_walked, TableRules, TableState, touched, touched-map, touched-none, touched_in, true, value_by, walk_answer, walked, ways_in, ways_of, WayShape, with_newest, word_of_item, ℕ}
+use Rattle.xl_cuckoo_walk.proofs.Common.{◌%◌, ◌*◌, ◌+◌, ◌/◌, ◌<◌, ◌^◌, ◌∙◌, ◌≡◌, ◌≤◌, ap, AreTied, arith, Bool, by_size, Cached, Count, counts_of, covers, CuckooState, CuckooWays, false, filled, fills_m2, find, find-In, find-passes, first_from, has_leaves, has_tag, hit_of, In, is_page_section, is_section, is_some, IsIn, IsPage, IsPlaced, IsRow, IsWalk, Item, Large, Leaf, leaf_at_page, leaf_said_by, leaves_of_ways, length, level-low, level_of, List, loads_by, loads_in, MadeWordsReadBack, map, Middle, new_word, newest-map, None, not, one_if, only, only-first, Option, Order, order_of, page-found, page_key, pages_of, parts_by, Plan, plan_of, plus, probed, probes, refl, row_state, RowParts, rules_of, same_order, Section, section-some, section-walked, section_after, section_by, section_in, section_of_page, SectionCaches, sections_in, SectionsFresh, Size, size_in, small-block, Some, subst, sym, table_of, table_walked, TableRules, TableState, touched, touched-map, touched-none, touched_in, true, value_by, walk_answer, walked, ways_in, ways_of, WayShape, with_newest, word_of_item, ℕ}
 use Rattle.xl_model.specs.declared.work.Walk.{Walk}
 use Rattle.xl_model_lemmas.specs.Mappings.{IsFound}
 use Rattle.xl_cuckoo_walk.proofs.BitLemmas.{written-is}
@@ -106,7 +106,7 @@ module _ (back : MadeWordsReadBack) (p : RowParts) (r : IsRow p) (s page : ℕ) 
   ws = ways_in p
 
   abbrev leaves : List Leaf
-  leaves = leaves_in (ways_in p)
+  leaves = leaves_of_ways (ways_in p)
 
   -- the words of the page's cached sections, and these sections
   abbrev words : Size → Option ℕ
@@ -256,7 +256,7 @@ module _ (back : MadeWordsReadBack) (p : RowParts) (r : IsRow p) (s page : ℕ) 
 pub few-probed : (p q : RowParts) → q ≡ p → IsRow p → (o : Order) (plan : Plan) (t : CuckooState) → t ≡ probed plan (table_of o q) → length t.ways ≤ 4
 few-probed p q e r o plan t is =
     let row : IsRow q = subst IsRow (sym e) r in
-    let few : length (table_of o q).ways ≤ 4 = few-ways q (leaves_in (ways_in q)) row.holds o in
+    let few : length (table_of o q).ways ≤ 4 = few-ways q (leaves_of_ways (ways_in q)) row.holds o in
     subst (λ (u : CuckooState). length u.ways ≤ 4) (sym (is ∙ probed-same plan (table_of o q))) few
 
 -- a probe as planned by the words that the code found may be made

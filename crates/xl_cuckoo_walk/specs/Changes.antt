@@ -16,7 +16,7 @@ use Rattle.xl_model.specs.Ways.{with_word, without_entry}
 use Rattle.xl_model_lemmas.specs.Sections.{key_in}
 use Rattle.xl_sections.specs.Counted.{CountState, count_of}
 use Rattle.xl_cuckoo.specs.Table.{CuckooState, inserted, SameEntries, AddsEntry, AreOnce}
-use Rattle.xl_cuckoo_walk.specs.Parts.{RowParts, Size, Middle, Large, order_of, SizeParts, size_in, counts_of, HoldsLeaves, IsRow, ways_in, leaves_in, rules_in, loads_in, row_state, table_of, with_table}
+use Rattle.xl_cuckoo_walk.specs.Parts.{RowParts, Size, Middle, Large, order_of, SizeParts, size_in, counts_of, HoldsLeaves, IsRow, ways_in, leaves_of_ways, rules_in, loads_in, row_state, table_of, with_table}
 use Rattle.xl_cuckoo_walk.specs.Plans.{new_word, refreshed, keys_from}
 
 -- The parts with another word for a key of an order.
@@ -89,9 +89,9 @@ pub record StaysBeside (old new : RowParts) : Type 0 where
 
 -- A leaf came, and its insertion found a place.
 pub record IsEntered (x : Leaf) (old new : RowParts) (m : Moves) : Type 0 where
-  pub holds : HoldsLeaves new (with_leaf x (leaves_in (ways_in old)))
+  pub holds : HoldsLeaves new (with_leaf x (leaves_of_ways (ways_in old)))
   pub beside : StaysBeside old new
-  pub room : (z : Size) → nat_le (section_count (order_of z) (with_leaf x (leaves_in (ways_in old)))) (counts_of old z).room ≡ true
+  pub room : (z : Size) → nat_le (section_count (order_of z) (with_leaf x (leaves_of_ways (ways_in old)))) (counts_of old z).room ≡ true
   pub ways : ways_in new ≡ with_ways x.order (table_of x.order new).ways (ways_in old)
   pub placed : placed_leaf (rules_in old) (ways_in old) x ≡ Placed (table_of x.order new).ways (table_of x.order new).moved m
 
@@ -102,7 +102,7 @@ pub record IsRefused (x : Leaf) (old new : RowParts) (r : Refused) : Type 0 wher
 
 -- A leaf went.
 pub record IsLeft (space first : ℕ) (o : Order) (old new : RowParts) : Type 0 where
-  pub holds : HoldsLeaves new (without_leaf space first (leaves_in (ways_in old)))
+  pub holds : HoldsLeaves new (without_leaf space first (leaves_of_ways (ways_in old)))
   pub beside : StaysBeside old new
   pub ways : ways_in new ≡ with_ways o (map (without_entry (page_key o space first)) (ways_of o (ways_in old))) (ways_in old)
   pub moved : (q : Order) → (table_of q new).moved ≡ (table_of q old).moved

@@ -132,8 +132,8 @@ unfoldable pub tags_in : CuckooWays → List ℕ
 tags_in ws = order_tags order.K4 ws.k4 ++ (order_tags order.M2 ws.m2 ++ order_tags order.G1 ws.g1)
 
 -- The leaves that the ways hold.
-unfoldable pub leaves_in : CuckooWays → List Leaf
-leaves_in ws = mapping_of (leaves_under One (values_in ws) (tags_in ws))
+unfoldable pub leaves_of_ways : CuckooWays → List Leaf
+leaves_of_ways ws = mapping_of (leaves_under One (values_in ws) (tags_in ws))
 
 -- The rules of a table, and how many ways it has.
 pub record TableRules : Type 0 where
@@ -162,7 +162,7 @@ loads_in ts = plus (plus ts.k4.loads ts.m2.loads) ts.g1.loads
 -- The table of the parts.
 unfoldable pub row_state : RowParts → TableState
 row_state p = record {
-  leaves = leaves_in (ways_in p);
+  leaves = leaves_of_ways (ways_in p);
   shape = Cuckoo (rules_in p) (ways_in p);
   caches = SectionCaches (sections_in p.middle.cache) (sections_in p.large.cache);
   loads = loads_in p.tables;
@@ -195,5 +195,5 @@ AreFresh p leaves =
 
 -- What a row keeps of its leaves.
 pub record IsRow (p : RowParts) : Type 0 where
-  pub holds : HoldsLeaves p (leaves_in (ways_in p))
-  pub fresh : AreFresh p (leaves_in (ways_in p))
+  pub holds : HoldsLeaves p (leaves_of_ways (ways_in p))
+  pub fresh : AreFresh p (leaves_of_ways (ways_in p))

@@ -26,9 +26,9 @@ plan_at None = plan.Every
 plan_at (Some way) = plan.At way
 
 -- The way in a cached section.
-abbrev pub way_told : Option Section → Option ℕ
-way_told None = None
-way_told (Some s) = s.way
+abbrev pub way_found : Option Section → Option ℕ
+way_found None = None
+way_found (Some s) = s.way
 
 -- The cached section that says the way of a leaf of an order: that of the order's own size.
 abbrev pub own_section : Order → Option Section → Option Section → Option Section
@@ -45,7 +45,7 @@ plan_by true true way = plan_at way
 
 -- How an order is probed, by the cached sections of the page.
 unfoldable pub plan_of : Order → Option Section → Option Section → Plan
-plan_of o m2 g1 = plan_by (leaves_possible m2 o && leaves_possible g1 o) (way_known o m2 g1) (way_told (own_section o m2 g1))
+plan_of o m2 g1 = plan_by (leaves_possible m2 o && leaves_possible g1 o) (way_known o m2 g1) (way_found (own_section o m2 g1))
 
 -- What a probe as planned finds.
 abbrev pub value_by : Plan → ℕ → List WayShape → Option ℕ
@@ -114,6 +114,6 @@ unfoldable pub keys_from : ℕ → List Displaced → List ℕ
 keys_from at moved = drop at (map (λ d. d.key) moved)
 
 -- The key of a logged displacement, if there is one.
-abbrev pub key_told : Option Displaced → Option ℕ
-key_told None = None
-key_told (Some d) = Some d.key
+abbrev pub key_known : Option Displaced → Option ℕ
+key_known None = None
+key_known (Some d) = Some d.key

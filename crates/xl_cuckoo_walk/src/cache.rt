@@ -100,12 +100,12 @@ impl Sections {
         if self.tag == tag && self.word != 0 {
             return Some(self.word);
         }
-        self.touch_behind(tag)
+        self.touch_next(tag)
     }
 
     /// Looks through the list.
     #[inline(never)]
-    fn touch_behind(&mut self, tag: u64) -> Option<u64>
+    fn touch_next(&mut self, tag: u64) -> Option<u64>
         ensures found { result ≡ word_of_item (find (has_tag tag) self.old.items) }
         ensures moved { self.new ≡ touched_in tag self.old }
     {

@@ -24,12 +24,12 @@ pub(crate) struct Sought {
 }
 
 /// The way that holds a key, where the section keeps it.
-fn way_if<const D: usize>(table: &Cuckoo<D>, key: u64, told: bool) -> Option<u64>
+fn way_if<const D: usize>(table: &Cuckoo<D>, key: u64, known: bool) -> Option<u64>
     requires { length table.now.ways ≤ 4 }
-    ensures is { result ≡ way_where told (holder_from 0 table.now.ways key) }
+    ensures is { result ≡ way_where known (holder_from 0 table.now.ways key) }
     ensures small { IfSome result (λ w. w < 4) }
 {
-    if told { table.way_of(key) } else { None }
+    if known { table.way_of(key) } else { None }
 }
 
 /// The word of the section of a key, by the counts of its leaves and the way of its own leaf.

@@ -3,7 +3,7 @@
 ghost use Rattle.std.specs.Prelude.{◌≡◌, ◌/◌, true};
 ghost use Rattle.xl_model.specs.Walks.{leaves_possible, is_leaf_section};
 ghost use Rattle.xl_cuckoo_walk.specs.Coding.{bit_in, way_by, hit_of};
-ghost use Rattle.xl_cuckoo_walk.specs.Plans.{plan_of, plan_by, way_told};
+ghost use Rattle.xl_cuckoo_walk.specs.Plans.{plan_of, plan_by, way_found};
 
 use xl_model::Order;
 
@@ -61,7 +61,7 @@ fn is_possible(hit: Option<u64>, order: Order) -> bool
 #[inline(always)]
 fn plan_by_own(hit: Option<u64>, order: Order) -> Plan
     ensures { (tag : _) →
-        result ≡ plan_by true (is_leaf_section order (hit_of tag hit)) (way_told (hit_of tag hit)) }
+        result ≡ plan_by true (is_leaf_section order (hit_of tag hit)) (way_found (hit_of tag hit)) }
 {
     match hit {
         None => Plan::Every,

@@ -4,7 +4,7 @@ ghost use Rattle.std.specs.Prelude.{◌≡◌, ◌+◌, ◌*◌, ◌/◌, ◌^�
 ghost use Rattle.xl_model.specs.Addresses.{pages_of};
 ghost use Rattle.xl_model.specs.declared.address.Order.TheVariants as order_is;
 ghost use Rattle.xl_model_lemmas.specs.Entries.{or_leaf};
-ghost use Rattle.xl_tagged.specs.Slots.{small_told};
+ghost use Rattle.xl_tagged.specs.Slots.{small_known};
 ghost use Rattle.xl_cuckoo_walk.specs.declared.plan.Plan.TheVariants as plan_is;
 ghost use Rattle.xl_cuckoo_walk.specs.Plans.{IsIn, value_by, probed, leaf_said_by};
 
@@ -71,7 +71,7 @@ pub(crate) fn probe_small<const D: usize>(
 ) -> Option<u64>
     requires space_in { space < 64 }
     requires page_in { page < 2 ^ 45 }
-    ensures found { small_told space page result ≡ leaf_said_by order_is.K4 space page
+    ensures found { small_known space page result ≡ leaf_said_by order_is.K4 space page
         (value_by plan_is.Every (space * 2 ^ 45 + page / pages_of order_is.K4) table.old.ways) }
     ensures after { table.new ≡ probed plan_is.Every table.old }
 {

@@ -3,7 +3,7 @@
 ghost use Rattle.std.specs.Prelude.{◌≡◌};
 ghost use Rattle.xl_model.specs.Changes.{Remove, IsNamed};
 ghost use Rattle.xl_model.specs.Structures.{IsChange};
-ghost use Rattle.xl_cuckoo_walk.specs.Parts.{IsRow, HoldsLeaves, row_state, ways_in, leaves_in};
+ghost use Rattle.xl_cuckoo_walk.specs.Parts.{IsRow, HoldsLeaves, row_state, ways_in, leaves_of_ways};
 ghost use Rattle.xl_cuckoo_walk.specs.Changes.{IsLeft};
 
 use crate::parts::Parts;
@@ -17,8 +17,8 @@ use xl_sections::{drop_leaf, section};
 /// Takes a leaf out of the table of its order, and counts it no longer. The caches stay as they
 /// are.
 pub(crate) fn leave<const D: usize>(parts: &mut Parts<D>, space: u16, first: u64, order: Order)
-    requires holds { HoldsLeaves parts.old (leaves_in (ways_in parts.old)) }
-    requires named { IsNamed space first order (leaves_in (ways_in parts.old)) }
+    requires holds { HoldsLeaves parts.old (leaves_of_ways (ways_in parts.old)) }
+    requires named { IsNamed space first order (leaves_of_ways (ways_in parts.old)) }
     ensures { IsLeft space first order parts.old parts.new }
 {
     words_read_back();

@@ -1,8 +1,8 @@
 //! The walk.
 
 ghost use Rattle.std.specs.Prelude.{◌≡◌};
-ghost use Rattle.xl_model.specs.Structures.{IsPage, IsWalk, IsQuickWalk, walk_told};
-ghost use Rattle.xl_tagged.specs.Slots.{small_told};
+ghost use Rattle.xl_model.specs.Structures.{IsPage, IsWalk, IsQuickWalk, walk_of_quick};
+ghost use Rattle.xl_tagged.specs.Slots.{small_known};
 ghost use Rattle.xl_cuckoo_walk.specs.Parts.{IsRow, row_state};
 
 use crate::fill::{Sought, fill_if, fills_middle, one_hit};
@@ -17,8 +17,8 @@ use xl_sections::section;
 /// The walk of a page whose sections are both cached, that found this leaf of 4 KiB or none.
 #[inline(always)]
 fn small_walk(_space: u16, _page: u64, found: Option<u64>) -> QuickWalk
-    ensures { walk_told _space _page result
-        ≡ record { leaf = small_told _space _page found; cache_hits = 2 } }
+    ensures { walk_of_quick _space _page result
+        ≡ record { leaf = small_known _space _page found; cache_hits = 2 } }
 {
     match found {
         Some(word) => QuickWalk::Small {
@@ -63,14 +63,14 @@ pub(crate) fn walk_page<const D: usize>(parts: &mut Parts<D>, space: u16, page: 
             }
         }
         Sole::Unknown => QuickWalk::Any {
-            walk: walk_behind(parts, space, page),
+            walk: walk_next(parts, space, page),
         },
     }
 }
 
 /// The walk of any page: the cached sections of the page say which orders are possible, and in
 /// which way a large leaf is; the possible orders are probed, and sections are cached that weren't.
-fn walk_behind<const D: usize>(parts: &mut Parts<D>, space: u16, page: u64) -> Walk
+fn walk_next<const D: usize>(parts: &mut Parts<D>, space: u16, page: u64) -> Walk
     requires whole { IsRow parts.old }
     requires page { IsPage (row_state parts.old).shape space page }
     ensures whole { IsRow parts.new }

@@ -191,10 +191,10 @@ hits_of_points : (stacks : List (List (Option Leaf))) (counts : List ℕ)
     → map hits_of (map (point_at stacks counts) (range_with_len 1 64)) ≡ map (hits_below counts) (range_with_len 1 64)
 hits_of_points stacks counts = each_width hits_of (point_at stacks counts) (hits_below counts) 1 64 (λ w l m. refl)
 
-pub all_hits_told : (stacks : List (List (Option Leaf))) (counts : List ℕ) (lookups : ℕ)
+pub all_hits_known : (stacks : List (List (Option Leaf))) (counts : List ℕ) (lookups : ℕ)
     → map (hits_below counts) (range_with_len 1 64) ≡ map hits_of (curve_of stacks counts lookups).points
 unfolding curve_of
-all_hits_told stacks counts lookups = sym (hits_of_points stacks counts)
+all_hits_known stacks counts lookups = sym (hits_of_points stacks counts)
 
 -- One count more.
 pub one_more : (counts : List ℕ) (at total : ℕ) → at < length counts → total ≡ hits_below counts at
@@ -209,16 +209,16 @@ filled_more f xs at y l filled is =
     ∙ ap (λ (n : ℕ). map f (range_with_len 1 at) ++ n ∷ []) is
     ∙ sym (map-range_with_len_more f 1 at (at + 1) (omega arith))
 
-pub hits_told : (stacks : List (List (Option Leaf))) (counts : List ℕ) (lookups width : ℕ) → 0 < width → width ≤ 64
+pub hits_known : (stacks : List (List (Option Leaf))) (counts : List ℕ) (lookups width : ℕ) → 0 < width → width ≤ 64
     → sum (take width counts) % 2 ^ 64 ≡ hits_at width (curve_of stacks counts lookups)
 unfolding curve_of hits_at
-hits_told stacks counts lookups width some few =
+hits_known stacks counts lookups width some few =
     sym (ap (λ (xs : List ℕ). get_or xs (width - 1) 0) (hits_of_points stacks counts)
     ∙ get_or-map-range_with_len (λ w. sum (take w counts) % 2 ^ 64) 1 64 (width - 1) width 0 (omega arith) (omega arith))
 
-pub lookups_told : (stacks : List (List (Option Leaf))) (counts : List ℕ) (lookups : ℕ) → lookups ≡ (curve_of stacks counts lookups).lookups
+pub lookups_known : (stacks : List (List (Option Leaf))) (counts : List ℕ) (lookups : ℕ) → lookups ≡ (curve_of stacks counts lookups).lookups
 unfolding curve_of
-lookups_told stacks counts lookups = refl
+lookups_known stacks counts lookups = refl
 
 -- ---- an empty curve
 

@@ -141,8 +141,8 @@ module _ {A : Type 0} where
 
   module _ (rank : ℕ) (ranks : List ℕ) (places : List (Option A)) (l : rank < 64) where
     -- a place behind the front
-    behind : (k : ℕ) → suc k < 64 → at_rank (back rank (suc k)) ranks places ≡ get_or (remove (in_turn ranks places) rank) k None
-    behind k m = go (nat_lt k rank) refl
+    following : (k : ℕ) → suc k < 64 → at_rank (back rank (suc k)) ranks places ≡ get_or (remove (in_turn ranks places) rank) k None
+    following k m = go (nat_lt k rank) refl
       where
         taken : length (take rank (in_turn ranks places)) ≡ rank
         taken = length-take-le rank (in_turn ranks places) (omega (arith, turn_length ranks places))
@@ -175,7 +175,7 @@ module _ {A : Type 0} where
       where
         each : (i : ℕ) → i < 64 → at_rank (back rank i) ranks places ≡ get_or (at_rank rank ranks places ∷ remove (in_turn ranks places) rank) i None
         each zero c = refl
-        each (suc i) c = behind i c
+        each (suc i) c = following i c
 
   -- The place of a slot is filled, and comes in front.
   pub turn_filled : (rank slot : ℕ) (o : Option A) (ranks : List ℕ) (places : List (Option A)) → length ranks ≡ 64 → length places ≡ 64 → slot < 64 → rank < 64

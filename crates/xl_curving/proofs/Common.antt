@@ -4,10 +4,10 @@ pub use Rattle.std.proofs.lemmas.Bool.Decides.{nat_tests}
 pub use Rattle.std.proofs.lemmas.List.{map-append, map-id, take-append-le, take_all}
 pub use Rattle.std.specs.Prelude.{Err, IfSome, None, Ok, Option, Result, slice_get, slice_index_or, Some}
 pub use Rattle.xl_course.proofs.MeaningLemmas.{states-append}
-pub use Rattle.xl_course.proofs.ToldLemmas.{is_err_by, told_one, told_then}
+pub use Rattle.xl_course.proofs.KnownLemmas.{is_err_by, known_one, known_then}
 pub use Rattle.xl_course.specs.Accounts.{account, Ends}
 pub use Rattle.xl_course.specs.Courses.{accesses_items, at_last, before, Course, course, course_by, finish, items_of as items_in, items_of_all, ran, ran_all}
-pub use Rattle.xl_course.specs.Meanings.{states_after, told_by}
+pub use Rattle.xl_course.specs.Meanings.{states_after, printed_by}
 pub use Rattle.xl_course.specs.Serving.{HasServed, Skimmed}
 pub use Rattle.xl_curve_model.specs.Curves.{HitCurve, opening_curve}
 pub use Rattle.xl_lackey.specs.declared.skim.Access.{Access}
@@ -29,4 +29,4 @@ pub use Rattle.xl_serving.specs.Inputs.{Finds, trail_for}
 pub use Rattle.xl_serving.specs.Plain.{AreOpened, plain, plain_start, rows_by, rows_from, Start, start_of, steps_of}
 pub use Rattle.xl_serving.specs.Serving.{count_of, event_at, scene_of}
 pub use Rattle.xl_words.specs.Words.{AskedPlain, plain_of}
-pub use Rattle.xl_curving.specs.Curving.{curve_lines, curve_scene_after, curve_scene_of, curved, curves_by, curves_from, curves_text, curves_waited, CurveScene, with_curves}
+pub use Rattle.xl_curving.specs.Curving.{curve_lines, curve_scene_after, curve_scene_of, curved, curves_by, curves_from, curves_text, curves_drained, CurveScene, with_curves}

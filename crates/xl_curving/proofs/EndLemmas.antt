@@ -1,5 +1,5 @@
 -- A run from its start: its course is that of the plain form, and the rows are what that leaves.
-use Rattle.xl_curving.proofs.Common.{◌∙◌, ◌∷◌, ◌≡◌, [], Access, Accesses, account, ap, Area, at_end, at_last, before, Bool, Course, course, course_by, curve_scene_after, curve_scene_of, curved, curves_by, curves_from, curves_text, curves_waited, CurveScene, Ends, false, finish, HasServed, HitCurve, Item, items_in, length, List, None, Ok, opening_curve, Option, plain, ran, ran_all, refl, replicate, Result, rows_by, rows_from, Scene, scene_of, Served, sink_same, SinkAfter, SinkMeaning, Some, Start, start_of, states_after, steps_of, subst, suc, sym, told_by, Trail, true, with_curves, zero, ℕ}
+use Rattle.xl_curving.proofs.Common.{◌∙◌, ◌∷◌, ◌≡◌, [], Access, Accesses, account, ap, Area, at_end, at_last, before, Bool, Course, course, course_by, curve_scene_after, curve_scene_of, curved, curves_by, curves_from, curves_text, curves_drained, CurveScene, Ends, false, finish, HasServed, HitCurve, Item, items_in, length, List, None, Ok, opening_curve, Option, plain, ran, ran_all, refl, replicate, Result, rows_by, rows_from, Scene, scene_of, Served, sink_same, SinkAfter, SinkMeaning, Some, Start, start_of, states_after, steps_of, subst, suc, sym, printed_by, Trail, true, with_curves, zero, ℕ}
 use Rattle.xl_course.specs.declared.form.Step.{Step}
 use Rattle.xl_course.specs.declared.stop.Stop.{Stop}
 use Rattle.xl_model.specs.declared.fault.InputFault.{InputFault}
@@ -7,25 +7,25 @@ use Rattle.xl_model.specs.declared.script.Command.{Command}
 use Rattle.xl_course.specs.declared.form.Step.TheVariants as step
 
 -- no lines
-told-nothing : (answers : Bool) (items : List Item) (s : CurveScene) → told_by curved answers items s ≡ []
-told-nothing true [] s = refl
-told-nothing false [] s = refl
-told-nothing true (i ∷ items) s = told-nothing true items (curve_scene_after i s)
-told-nothing false (i ∷ items) s = told-nothing false items (curve_scene_after i s)
+known-nothing : (answers : Bool) (items : List Item) (s : CurveScene) → printed_by curved answers items s ≡ []
+known-nothing true [] s = refl
+known-nothing false [] s = refl
+known-nothing true (i ∷ items) s = known-nothing true items (curve_scene_after i s)
+known-nothing false (i ∷ items) s = known-nothing false items (curve_scene_after i s)
 
 -- items were served
 pub served : {K : Type 0} (sink : SinkMeaning K) (answers : Bool) (items : List Item) (p q : CurveScene) (k : K)
     → q ≡ states_after curved items p → HasServed curved sink answers items p q k k true
 served sink answers items p q k e = record {
   state_is = e;
-  writes = subst (λ (text : List ℕ). SinkAfter sink text k k true) (sym (told-nothing answers items p)) (sink_same sink k);
+  writes = subst (λ (text : List ℕ). SinkAfter sink text k k true) (sym (known-nothing answers items p)) (sink_same sink k);
 }
 
 -- the state of a form with an empty queue and no declared area
-pub fresh : (waiting : List Access) (rows : List Served) (areas : List Area) (curves : List HitCurve) (sets count : ℕ) → waiting ≡ [] → areas ≡ [] → count ≡ length rows
-    → curves ≡ replicate count (opening_curve sets) → curves_waited waiting (curve_scene_of rows areas curves) ≡ with_curves sets (scene_of rows [])
-fresh waiting rows areas curves sets count idle none many e =
-    ap (λ (xs : List Access). curves_waited xs (curve_scene_of rows areas curves)) idle
+pub fresh : (batch : List Access) (rows : List Served) (areas : List Area) (curves : List HitCurve) (sets count : ℕ) → batch ≡ [] → areas ≡ [] → count ≡ length rows
+    → curves ≡ replicate count (opening_curve sets) → curves_drained batch (curve_scene_of rows areas curves) ≡ with_curves sets (scene_of rows [])
+fresh batch rows areas curves sets count idle none many e =
+    ap (λ (xs : List Access). curves_drained xs (curve_scene_of rows areas curves)) idle
     ∙ ap (λ (xs : List Area). curve_scene_of rows xs curves) none
     ∙ ap (curve_scene_of rows []) (e ∙ ap (λ (n : ℕ). replicate n (opening_curve sets)) many)
 

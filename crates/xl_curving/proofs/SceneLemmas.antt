@@ -1,5 +1,5 @@
 -- Rows with their curves: what they are served row by row is what they are served item by item.
-use Rattle.xl_curving.proofs.Common.{◌++◌, ◌+◌, ◌∙◌, ◌∷◌, ◌≡◌, [], Access, access_served, ap, Area, arith, Command, curve_scene_after, curve_scene_of, curve_served, curve_stepped, curved, curves_waited, CurveScene, Declared, drop, each_curve, HitCurve, Item, item_of, Kind, length, List, map, map-append, map-id, Referenced, refl, row_served, rows_after, Scene, scene_after, Served, slice_get, Some, states-append, states_after, suc, sym, take, take-append-le, take_all, ℕ}
+use Rattle.xl_curving.proofs.Common.{◌++◌, ◌+◌, ◌∙◌, ◌∷◌, ◌≡◌, [], Access, access_served, ap, Area, arith, Command, curve_scene_after, curve_scene_of, curve_served, curve_stepped, curved, curves_drained, CurveScene, Declared, drop, each_curve, HitCurve, Item, item_of, Kind, length, List, map, map-append, map-id, Referenced, refl, row_served, rows_after, Scene, scene_after, Served, slice_get, Some, states-append, states_after, suc, sym, take, take-append-le, take_all, ℕ}
 use Rattle.std.proofs.lemmas.Simd.{map-map}
 use Rattle.xl_chart.specs.Charts.{curve_item}
 use Rattle.xl_course.proofs.ServedLemmas.{take_one}
@@ -88,7 +88,7 @@ in-turn a accesses areas (r ∷ rows) (c ∷ curves) =
 
 -- all accesses by the first row, then by the next
 pub by-row : (accesses : List Access) (areas : List Area) (rows : List Served) (curves : List HitCurve)
-    → curve_scene_of (map (row_served accesses areas) rows) areas (each_curve (curve_served accesses areas) rows curves) ≡ curves_waited accesses (curve_scene_of rows areas curves)
+    → curve_scene_of (map (row_served accesses areas) rows) areas (each_curve (curve_served accesses areas) rows curves) ≡ curves_drained accesses (curve_scene_of rows areas curves)
 by-row [] areas rows curves =
     ap (λ (z : List Served). curve_scene_of z areas (each_curve (curve_served [] areas) rows curves)) (map-id rows)
     ∙ ap (curve_scene_of rows areas) (each-stays (curve_served [] areas) rows curves (λ v c. refl))
@@ -98,7 +98,7 @@ by-row (a ∷ accesses) areas rows curves =
     ap (λ (z : List Served). curve_scene_of z areas (each_curve (curve_served (a ∷ accesses) areas) rows curves)) (sym (map-map (row_served accesses areas) (access_served a.va a.kind areas) rows))
     ∙ ap (curve_scene_of (map (row_served accesses areas) served) areas) (in-turn a accesses areas rows curves)
     ∙ by-row accesses areas served followed
-    ∙ ap (curves_waited accesses) (accessed a areas rows curves)
+    ∙ ap (curves_drained accesses) (accessed a areas rows curves)
 
 -- the number of an access's record changes nothing
 any-curve : (n m va : ℕ) (k : Kind) (areas : List Area) (v : Served) (c : HitCurve) → curve_item (Referenced n va k) areas v c ≡ curve_item (Referenced m va k) areas v c
@@ -112,11 +112,11 @@ any-record n m va k s =
     (each-same (curve_item (Referenced n va k) s.scene.areas) (curve_item (Referenced m va k) s.scene.areas) s.scene.rows s.curves (any-curve n m va k s.scene.areas))
 
 -- one access more in the queue
-pub put-off : (accesses : List Access) (a : Access) (number : ℕ) (s : CurveScene) → curves_waited (accesses ++ a ∷ []) s ≡ curve_scene_after (Referenced number a.va a.kind) (curves_waited accesses s)
+pub put-off : (accesses : List Access) (a : Access) (number : ℕ) (s : CurveScene) → curves_drained (accesses ++ a ∷ []) s ≡ curve_scene_after (Referenced number a.va a.kind) (curves_drained accesses s)
 put-off accesses a number s =
     ap (λ (items : List Item). states_after curved items s) (map-append item_of accesses (a ∷ []))
     ∙ states-append curved (map item_of accesses) (item_of a ∷ []) s
-    ∙ any-record 0 number a.va a.kind (curves_waited accesses s)
+    ∙ any-record 0 number a.va a.kind (curves_drained accesses s)
 
 -- the next of some items
 pub next-item : (xs : List Item) (i : ℕ) (x : Item) (s t u : CurveScene) → slice_get xs i ≡ Some x → t ≡ states_after curved (take i xs) s → u ≡ curve_scene_after x t

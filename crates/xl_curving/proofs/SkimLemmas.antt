@@ -1,5 +1,5 @@
 -- Records of which the accesses are put off together.
-use Rattle.xl_curving.proofs.Common.{◌++◌, ◌∙◌, ◌∷◌, ◌≡◌, [], Access, Accesses, accesses_items, ap, curve_scene_after, curved, curves_waited, CurveScene, Item, item_of, items_of_all, Kind, List, map, map-append, Referenced, refl, Skimmed, states-append, states_after, sym, Trail, ℕ}
+use Rattle.xl_curving.proofs.Common.{◌++◌, ◌∙◌, ◌∷◌, ◌≡◌, [], Access, Accesses, accesses_items, ap, curve_scene_after, curved, curves_drained, CurveScene, Item, item_of, items_of_all, Kind, List, map, map-append, Referenced, refl, Skimmed, states-append, states_after, sym, Trail, ℕ}
 use Rattle.xl_course.specs.Sources.{accesses_of_all, Skims}
 use Rattle.xl_lackey.specs.Skims.{pair}
 use Rattle.xl_curving.proofs.SceneLemmas.{any-record}
@@ -27,23 +27,23 @@ all-records (r ∷ rs) s =
     ∙ sym (states-append curved xs (items-with 0 (accesses_of_all rs)) s)
     ∙ sym (ap (λ (items : List Item). states_after curved items s) (items-append 0 r.accesses (accesses_of_all rs)))
 
-items-waiting : (got : List Access) → items-with 0 (map pair got) ≡ map item_of got
-items-waiting [] = refl
-items-waiting (a ∷ got) = ap (λ (zs : List Item). item_of a ∷ zs) (items-waiting got)
+items-batch : (got : List Access) → items-with 0 (map pair got) ≡ map item_of got
+items-batch [] = refl
+items-batch (a ∷ got) = ap (λ (zs : List Item). item_of a ∷ zs) (items-batch got)
 
 -- what a trace skims into the queue
-pub skimmed : (stands : Type 0) (t u : Trail) (before after : List Access) (count : ℕ) (s : CurveScene) → Skims stands t u before after count
-    → Skimmed curved stands t u (curves_waited before s) (curves_waited after s) count
-skimmed stands t u before after count s k =
-    let p = curves_waited before s in
+pub skimmed : (reads_from : Type 0) (t u : Trail) (before after : List Access) (count : ℕ) (s : CurveScene) → Skims reads_from t u before after count
+    → Skimmed curved reads_from t u (curves_drained before s) (curves_drained after s) count
+skimmed reads_from t u before after count s k =
+    let p = curves_drained before s in
     record {
-      stands_still = k.stands_still;
+      still_reads = k.still_reads;
       taken = k.taken;
       split = k.split;
       follow =
-          ap (λ (xs : List Access). curves_waited xs s) k.follow
+          ap (λ (xs : List Access). curves_drained xs s) k.follow
           ∙ ap (λ (items : List Item). states_after curved items s) (map-append item_of before k.got)
           ∙ states-append curved (map item_of before) (map item_of k.got) s
-          ∙ sym (all-records k.taken p ∙ ap (λ (xs : List (ℕ × Kind)). states_after curved (items-with 0 xs) p) k.each ∙ ap (λ (items : List Item). states_after curved items p) (items-waiting k.got));
+          ∙ sym (all-records k.taken p ∙ ap (λ (xs : List (ℕ × Kind)). states_after curved (items-with 0 xs) p) k.each ∙ ap (λ (items : List Item). states_after curved items p) (items-batch k.got));
       many = k.many;
     }

@@ -47,8 +47,8 @@ abbrev pub curve_scene_of : List Served → List Area → List HitCurve → Curv
 curve_scene_of rows areas curves = record { scene = scene_of rows areas; curves = curves }
 
 -- The same after queued accesses.
-abbrev pub curves_waited : List Access → CurveScene → CurveScene
-curves_waited accesses s = states_after curved (map item_of accesses) s
+abbrev pub curves_drained : List Access → CurveScene → CurveScene
+curves_drained accesses s = states_after curved (map item_of accesses) s
 
 -- The line of each row's curve.
 abbrev pub curve_lines : ℕ → List Served → List HitCurve → List ℕ

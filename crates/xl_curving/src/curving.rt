@@ -10,7 +10,7 @@ ghost use Rattle.xl_script.specs.Placing.{IsPlaced, is_area};
 ghost use Rattle.xl_course.specs.Meanings.{states_after};
 ghost use Rattle.xl_lackey.specs.Skims.{batch_size};
 ghost use Rattle.xl_serving.specs.Serving.{count_of, event_at};
-ghost use Rattle.xl_curving.specs.Curving.{CurveScene, curve_lines, curve_scene_after, curve_scene_of, curved, curves_text, curves_waited};
+ghost use Rattle.xl_curving.specs.Curving.{CurveScene, curve_lines, curve_scene_after, curve_scene_of, curved, curves_text, curves_drained};
 
 use std::alloc::Global;
 use xl_areas::Areas;
@@ -29,7 +29,7 @@ use xl_serving::{count, nth_event};
 pub struct Curving {
     areas: Areas,
     curves: Vec<Curve>,
-    waiting: Batch,
+    batch: Batch,
 }
 
 impl Form<Rack> for Curving {
@@ -43,7 +43,7 @@ impl Form<Rack> for Curving {
 
     ghost meaning = { curved };
 
-    ghost state = { λ f rack. curves_waited f.waiting.items
+    ghost state = { λ f rack. curves_drained f.batch.items
         (curve_scene_of rack f.areas f.curves.items) };
 
     ghost can = { λ f _ cs. (length f.areas + count_by is_area cs ≤ 256) × All IsPlaced cs };
@@ -83,11 +83,11 @@ impl Form<Rack> for Curving {
 
     #[inline(always)]
     fn skim<T: Source>(&mut self, _rack: &mut Rack, source: &mut T, most: u64) -> u64 {
-        source.skim(&mut self.waiting, most)
+        source.skim(&mut self.batch, most)
     }
 
     fn finish<K: Sink>(&mut self, rack: &mut Rack, sets: u32, out: &mut K) -> Result<(), Stop> {
-        self.settle(rack);
+        self.drain(rack);
         match write_curves(rack, self.curves.as_slice(), sets, out) {
             Ok(()) => Ok(()),
             Err(_) => Err(Stop::WriteFault),
@@ -106,7 +106,7 @@ impl Curving {
         requires most { sets ≤ 256 }
         ensures areas { IfOk result (λ f. f.areas ≡ []) }
         ensures curves { IfOk result (λ f. f.curves.items ≡ replicate rows (opening_curve sets)) }
-        ensures idle { IfOk result (λ f. f.waiting.items ≡ []) }
+        ensures idle { IfOk result (λ f. f.batch.items ≡ []) }
     {
         let mut curves = Vec::with_capacity(alloc, rows)?;
         'opened: for _ in 0..rows {
@@ -118,80 +118,80 @@ impl Curving {
         Ok(Curving {
             areas: Areas::open(alloc)?,
             curves,
-            waiting: Batch::new(),
+            batch: Batch::new(),
         })
     }
 
     /// Flushes the queue.
     #[inline(never)]
-    fn settle(&mut self, rack: &mut Rack)
+    fn drain(&mut self, rack: &mut Rack)
         ensures served { curve_scene_of rack.new self.new.areas self.new.curves.items
-            ≡ curves_waited self.old.waiting.items
+            ≡ curves_drained self.old.batch.items
             (curve_scene_of rack.old self.old.areas self.old.curves.items) }
-        ensures none { self.new.waiting.items ≡ [] }
+        ensures none { self.new.batch.items ≡ [] }
         ensures areas { self.new.areas ≡ self.old.areas }
     {
         rack.serve_beside(
             self.curves.as_mut_slice(),
-            self.waiting.as_slice(),
+            self.batch.as_slice(),
             &self.areas,
         );
-        self.waiting.clear();
+        self.batch.clear();
     }
 
     /// Queues an access. Where there is no room, the queue is flushed first.
     #[inline(always)]
     fn put_off(&mut self, rack: &mut Rack, access: Access)
-        ensures served { (number : ℕ) → curves_waited self.new.waiting.items
+        ensures served { (number : ℕ) → curves_drained self.new.batch.items
             (curve_scene_of rack.new self.new.areas self.new.curves.items)
             ≡ curve_scene_after (item.Referenced number access.va access.kind)
-            (curves_waited self.old.waiting.items
+            (curves_drained self.old.batch.items
             (curve_scene_of rack.old self.old.areas self.old.curves.items)) }
         ensures areas { self.new.areas ≡ self.old.areas }
     {
         self.make_room(rack);
-        self.waiting.push(access);
+        self.batch.push(access);
     }
 
     /// Flushes the queue where there is no room for one access more.
     #[inline(always)]
     fn make_room(&mut self, rack: &mut Rack)
-        ensures same { curves_waited self.new.waiting.items
+        ensures same { curves_drained self.new.batch.items
             (curve_scene_of rack.new self.new.areas self.new.curves.items)
-            ≡ curves_waited self.old.waiting.items
+            ≡ curves_drained self.old.batch.items
             (curve_scene_of rack.old self.old.areas self.old.curves.items) }
-        ensures room { length self.new.waiting.items < batch_size }
+        ensures room { length self.new.batch.items < batch_size }
         ensures areas { self.new.areas ≡ self.old.areas }
     {
-        if self.waiting.is_full() {
-            self.settle(rack);
+        if self.batch.is_full() {
+            self.drain(rack);
         }
     }
 
     /// Declares an area, after a flush of the queue.
     fn declare(&mut self, rack: &mut Rack, area: Area)
         requires { length self.old.areas < 256 }
-        ensures served { curves_waited self.new.waiting.items
+        ensures served { curves_drained self.new.batch.items
             (curve_scene_of rack.new self.new.areas self.new.curves.items)
-            ≡ curve_scene_after (item.Declared area) (curves_waited self.old.waiting.items
+            ≡ curve_scene_after (item.Declared area) (curves_drained self.old.batch.items
             (curve_scene_of rack.old self.old.areas self.old.curves.items)) }
         ensures areas { self.new.areas ≡ self.old.areas ++ area ∷ [] }
     {
-        self.settle(rack);
+        self.drain(rack);
         self.areas.declare(area);
     }
 
     /// Serves the events of a command, in rising number, after a flush of the queue.
     fn events(&mut self, rack: &mut Rack, command: Command)
         requires { IsPlaced command }
-        ensures served { curves_waited self.new.waiting.items
+        ensures served { curves_drained self.new.batch.items
             (curve_scene_of rack.new self.new.areas self.new.curves.items)
             ≡ states_after curved (events_from (event_at command) 0 (count_of command))
-            (curves_waited self.old.waiting.items
+            (curves_drained self.old.batch.items
             (curve_scene_of rack.old self.old.areas self.old.curves.items)) }
         ensures areas { self.new.areas ≡ self.old.areas }
     {
-        self.settle(rack);
+        self.drain(rack);
         for i in 0..count(command) {
             self.event(rack, nth_event(command, i));
         }
@@ -199,11 +199,11 @@ impl Curving {
 
     /// Serves an event of a command.
     fn event(&mut self, rack: &mut Rack, event: Event)
-        requires { self.old.waiting.items ≡ [] }
+        requires { self.old.batch.items ≡ [] }
         ensures served { curve_scene_of rack.new self.new.areas self.new.curves.items
             ≡ curve_scene_after (item.Command event)
             (curve_scene_of rack.old self.old.areas self.old.curves.items) }
-        ensures none { self.new.waiting.items ≡ [] }
+        ensures none { self.new.batch.items ≡ [] }
         ensures areas { self.new.areas ≡ self.old.areas }
     {
         rack.step_beside(self.curves.as_mut_slice(), event);

@@ -2,7 +2,7 @@
 
 ghost use Rattle.std.specs.Prelude.{◌≡◌, ◌<◌, ◌≤◌, [], None, Err, IfErr, IfSome};
 ghost use Rattle.xl_outside.specs.Folders.{Files};
-ghost use Rattle.xl_outside.specs.Sinks.{GoesOn, IsFlushed};
+ghost use Rattle.xl_outside.specs.Sinks.{Proceeds, IsFlushed};
 ghost use Rattle.xl_course.specs.Stops.{status_by, FolderLeft, is_all_put, StopsRun};
 ghost use Rattle.xl_course.specs.Accounts.{Ends};
 ghost use Rattle.xl_words.specs.Words.{curve_of, plain_of};
@@ -48,15 +48,15 @@ pub fn report<F: Folder, K: Sink>(
     requires most { words.now.sets ≤ 256 }
     requires none { rows.old ≡ [] }
     requires flushed { IsFlushed K.sink out.old }
-    ensures told { IfSome (F.folder.files folder.old) (λ fs.
+    ensures known { IfSome (F.folder.files folder.old) (λ fs.
         Ends result (curve_account (curve_of words.now) fs)
         K.sink.roomy (K.sink.outside out.old).written (K.sink.outside out.new).written
         out.old out.new
         (rows.new ≡ curve_rows (curve_of words.now) fs)) }
     ensures leaves { FolderLeft F.folder folder.old folder.new
         (status_by result) }
-    ensures goes_on { GoesOn (is_all_put result) (K.sink.outside out.old) (K.sink.outside out.new) }
-    ensures met { IfErr result StopsRun }
+    ensures proceeds { Proceeds (is_all_put result) (K.sink.outside out.old) (K.sink.outside out.new) }
+    ensures caused { IfErr result StopsRun }
     ensures early { result ≡ Err Stop.NoMemory → AreOpened rows.new }
 {
     let plain = plain_words(words);
@@ -86,7 +86,7 @@ fn report_orders<F: Folder, K: Sink>(
     requires most { orders.now.sets ≤ 256 }
     requires unmade { (plain_of orders.now.plain.words.now).made ≡ None }
     requires flushed { IsFlushed K.sink out.old }
-    ensures told { IfSome (F.folder.files folder.old) (λ fs.
+    ensures known { IfSome (F.folder.files folder.old) (λ fs.
         Ends result (curves_from orders.now.sets
         (trail_for (plain_of orders.now.plain.words.now) fs)
         (start_of rows.old orders.now.plain.script.now))
@@ -96,8 +96,8 @@ fn report_orders<F: Folder, K: Sink>(
         (start_of rows.old orders.now.plain.script.now))) }
     ensures leaves { FolderLeft F.folder folder.old folder.new
         (status_by result) }
-    ensures goes_on { GoesOn (is_all_put result) (K.sink.outside out.old) (K.sink.outside out.new) }
-    ensures met { IfErr result StopsRun }
+    ensures proceeds { Proceeds (is_all_put result) (K.sink.outside out.old) (K.sink.outside out.new) }
+    ensures caused { IfErr result StopsRun }
     ensures early { result ≡ Err Stop.NoMemory → rows.new ≡ rows.old }
 {
     match orders.plain.words.trace {
@@ -121,9 +121,9 @@ fn report_from<T: Source, F: Folder, K: Sink>(
     requires some { 0 < orders.now.sets }
     requires most { orders.now.sets ≤ 256 }
     requires flushed { IsFlushed K.sink out.old }
-    requires unread { (fs : Files) → T.stands source.old fs
+    requires unread { (fs : Files) → T.reads_from source.old fs
         × (T.left source.old fs ≡ trail_for (plain_of orders.now.plain.words.now) fs) }
-    ensures told { IfSome (F.folder.files folder.old) (λ fs.
+    ensures known { IfSome (F.folder.files folder.old) (λ fs.
         Ends result (curves_from orders.now.sets
         (trail_for (plain_of orders.now.plain.words.now) fs)
         (start_of rows.old orders.now.plain.script.now))
@@ -133,8 +133,8 @@ fn report_from<T: Source, F: Folder, K: Sink>(
         (start_of rows.old orders.now.plain.script.now))) }
     ensures leaves { FolderLeft F.folder folder.old folder.new
         (status_by result) }
-    ensures goes_on { GoesOn (is_all_put result) (K.sink.outside out.old) (K.sink.outside out.new) }
-    ensures met { IfErr result StopsRun }
+    ensures proceeds { Proceeds (is_all_put result) (K.sink.outside out.old) (K.sink.outside out.new) }
+    ensures caused { IfErr result StopsRun }
     ensures early { result ≡ Err Stop.NoMemory → rows.new ≡ rows.old }
 {
     orders.plain.script.fits();

@@ -2,7 +2,7 @@
 use Rattle.xl_frames.proofs.Common.{◌*◌, ◌+◌, ◌/◌, ◌<◌, ◌^◌, ◌∙◌, ◌≡◌, ◌≤◌, ◌⊎◌, add-mul, ap, AreFree, AreMarked, arith, Bool, cases_eq, cases_lt, ext_get_or, false, false≢true, get_or, get_or-replicate, get_or-set_other, get_or-set_same, get_or_past, HasNone, IfSome, inl, inr, IsFree, IsLowest, length, length-replicate, length-set, List, marked, mul-le-mul_right, None, Option, refl, replicate, set, Some, subst, sym, true, ℕ}
 use Rattle.xl_frames.proofs.BlockLemmas.{block_below, block_fits, free_all, free_fits, one_more_block}
 use Rattle.xl_frames.proofs.MarkLemmas.{length-marked, marked_above, marked_below, marked_inside}
-use Rattle.xl_frames.specs.Blocks.{AreBlocks, IsKept, IsSettled}
+use Rattle.xl_frames.specs.Blocks.{AreBlocks, IsKept, IsBlockJoined}
 use Rattle.xl_numbers.specs.Free as numbers
 
 -- flags that are marked are those of the definition
@@ -92,7 +92,7 @@ part_taken size pool pool' blocks blocks' block first count a some from to m e =
 
 -- frames of one block freed, and its flag settled
 pub part_freed : (size : ℕ) (pool pool' blocks blocks' : List Bool) (block first count : ℕ) → AreBlocks size pool blocks
-    → block * size ≤ first → first + count ≤ block * size + size → AreMarked pool pool' first count true → IsSettled size pool' blocks blocks' block → AreBlocks size pool' blocks'
+    → block * size ≤ first → first + count ≤ block * size + size → AreMarked pool pool' first count true → IsBlockJoined size pool' blocks blocks' block → AreBlocks size pool' blocks'
 part_freed size pool pool' blocks blocks' block first count a from to m s = record {
   count = s.len ∙ a.count ∙ ap (λ n. n / size) (sym m.len);
   flagged = λ b set_. elim (cases_eq b block) [
@@ -177,7 +177,7 @@ blocks_free pool blocks part a f = record {
   each = λ b l u. a.every b (record { each = λ k from to. f.each k (omega arith) (omega arith) });
 }
 
-pub part_settled : (pool blocks old new : List Bool) (part : ℕ) → AreBlocks 512 pool blocks → IsSettled 512 blocks old new part → IsSettled 262144 pool old new part
+pub part_settled : (pool blocks old new : List Bool) (part : ℕ) → AreBlocks 512 pool blocks → IsBlockJoined 512 blocks old new part → IsBlockJoined 262144 pool old new part
 part_settled pool blocks old new part a s = record {
   len = s.len;
   others = s.others;
@@ -197,7 +197,7 @@ all_blocks size n pos = record {
 }
 
 -- the flag of a block is set, or left
-pub settled_set : (pool old new : List Bool) (b : ℕ) → b < length old → IsFree pool (b * 512) 512 → new ≡ set old b true → IsSettled 512 pool old new b
+pub settled_set : (pool old new : List Bool) (b : ℕ) → b < length old → IsFree pool (b * 512) 512 → new ≡ set old b true → IsBlockJoined 512 pool old new b
 settled_set pool old new b l f e = record {
   len = ap length e ∙ length-set old b true;
   others = λ i other. ap (λ (xs : List Bool). get_or xs i false) e ∙ get_or-set_other old b i true false other;
@@ -205,7 +205,7 @@ settled_set pool old new b l f e = record {
   every = λ q. rw e (get_or-set_same old b true false l);
 }
 
-pub settled_left : (pool old : List Bool) (b : ℕ) → (IsFree pool (b * 512) 512 → ⊥) → IsSettled 512 pool old old b
+pub settled_left : (pool old : List Bool) (b : ℕ) → (IsFree pool (b * 512) 512 → ⊥) → IsBlockJoined 512 pool old old b
 settled_left pool old b none = record {
   len = refl;
   others = λ i other. refl;
@@ -254,7 +254,7 @@ module _ {frames blocks parts frames' blocks' parts' : List Bool} (i : IsKept fr
       (run_marked 512 frames frames' blocks blocks' b 1 false (omega arith) i.blocks_are m (marked_one blocks blocks' b false l f))
       (part_taken 262144 frames frames' parts parts' (b / 512) (b * 512) 512 i.parts_are (omega arith) (omega arith) (omega arith) m g)
 
-  pub frame_given : (k : ℕ) → k < length frames → frames' ≡ set frames k true → IsSettled 512 frames' blocks blocks' (k / 512) → IsSettled 512 blocks' parts parts' (k / 262144)
+  pub frame_given : (k : ℕ) → k < length frames → frames' ≡ set frames k true → IsBlockJoined 512 frames' blocks blocks' (k / 512) → IsBlockJoined 512 blocks' parts parts' (k / 262144)
       → IsKept frames' blocks' parts'
   frame_given k l e f g =
       let m = marked_one frames frames' k true l e in
@@ -262,7 +262,7 @@ module _ {frames blocks parts frames' blocks' parts' : List Bool} (i : IsKept fr
       kept k 1 true m b
       (part_freed 262144 frames frames' parts parts' (k / 262144) k 1 i.parts_are (omega arith) (omega arith) m (part_settled frames' blocks' parts parts' (k / 262144) b g))
 
-  pub block_given : (b : ℕ) → b < length blocks → AreMarked frames frames' (64 * (b * 8)) (64 * 8) true → blocks' ≡ set blocks b true → IsSettled 512 blocks' parts parts' (b / 512)
+  pub block_given : (b : ℕ) → b < length blocks → AreMarked frames frames' (64 * (b * 8)) (64 * 8) true → blocks' ≡ set blocks b true → IsBlockJoined 512 blocks' parts parts' (b / 512)
       → IsKept frames' blocks' parts'
   block_given b l n f g =
       let m : AreMarked frames frames' (b * 512) 512 true = marked_at frames frames' _ _ (b * 512) 512 true (omega arith) refl n in

@@ -17,7 +17,7 @@ pub record IsKept (frames blocks parts : List Bool) : Type 0 where
   pub parts_are : AreBlocks 262144 frames parts
 
 -- One block's flag is set now where all its frames are free; else no flag changes.
-pub record IsSettled (size : ℕ) (pool old new : List Bool) (block : ℕ) : Type 0 where
+pub record IsBlockJoined (size : ℕ) (pool old new : List Bool) (block : ℕ) : Type 0 where
   pub len : length new ≡ length old
   pub others : (b : ℕ) → (b ≡ block → ⊥) → slice_index_or new b false ≡ slice_index_or old b false
   pub flagged : slice_index_or new block false ≡ true → (slice_index_or old block false ≡ true) ⊎ IsFree pool (block * size) size

@@ -6,7 +6,7 @@ ghost use Rattle.std.specs.Bool.{OnTrue, OnFalse};
 ghost use Rattle.xl_model.specs.Addresses.{pages_of};
 ghost use Rattle.xl_numbers.specs.Free.{AreMarked};
 ghost use Rattle.xl_frames.specs.Pool.{IsFree, HasNone};
-ghost use Rattle.xl_frames.specs.Blocks.{IsKept, IsSettled, IsTaken};
+ghost use Rattle.xl_frames.specs.Blocks.{IsKept, IsBlockJoined, IsTaken};
 
 use xl_model::Order;
 use xl_numbers::FreeNumbers;
@@ -22,10 +22,10 @@ pub(crate) struct Sets {
 
 /// Puts a block of 512 numbers into the set of such blocks where all its numbers are free.
 #[inline(always)]
-fn settle(numbers: &FreeNumbers, blocks: &mut FreeNumbers, block: usize)
+fn join_block(numbers: &FreeNumbers, blocks: &mut FreeNumbers, block: usize)
     requires limit { length numbers.now ≤ 2 ^ 22 }
     requires count { length blocks.old ≡ length numbers.now / 512 }
-    ensures { IsSettled 512 numbers.now blocks.old blocks.new block }
+    ensures { IsBlockJoined 512 numbers.now blocks.old blocks.new block }
 {
     if block < blocks.count() && numbers.are_free(block * 8, 8) {
         blocks.give(block);
@@ -95,8 +95,8 @@ impl Sets {
         ensures { AreMarked self.old.frames self.new.frames frame 1 true }
     {
         self.frames.give(frame);
-        settle(&self.frames, &mut self.blocks, frame / 512);
-        settle(&self.blocks, &mut self.parts, frame / 262_144);
+        join_block(&self.frames, &mut self.blocks, frame / 512);
+        join_block(&self.blocks, &mut self.parts, frame / 262_144);
     }
 
     /// Gives a block of 512 frames back.
@@ -106,7 +106,7 @@ impl Sets {
     {
         self.frames.mark_words(block * 8, 8, true);
         self.blocks.give(block);
-        settle(&self.blocks, &mut self.parts, block / 512);
+        join_block(&self.blocks, &mut self.parts, block / 512);
     }
 
     /// Gives a part of 2^18 frames back.

@@ -21,8 +21,8 @@ new-leaf : (s : HartsState) (space va : ℕ) (o : Order) (perm : Perm) (at : Opt
     → insert_at space (page_of mode.Sv39 va) o (record { space = space; first = page_of mode.Sv39 va; order = o; frame = 0; perm = perm }) at ≡ Some c
     → IsAllowed s c
 unfolding hart_rule
-new-leaf s space va o perm None c ruled is told = absurd (cc)
-new-leaf s space va o perm (Some at) c ruled is told =
+new-leaf s space va o perm None c ruled is known = absurd (cc)
+new-leaf s space va o perm (Some at) c ruled is known =
     let place : HasPlace (shared_row s.spec) space o (va ∷ []) = has-place (shared_row s.spec) space o (va ∷ []) (or-first _ _ ruled) in
     let block = page-block mode.Sv39 o va (and_first _ _ place.all_aligned) in
     let leaf : Leaf = record { space = space; first = page_of mode.Sv39 va; order = o; frame = at; perm = perm } in
@@ -42,19 +42,19 @@ new-leaf s space va o perm (Some at) c ruled is told =
 
 other : (s : HartsState) (e : Event) (c : Change) → rule (shared_row s.spec) s.table.leaves e ≡ None → change_of (shared_row s.spec) s.table.leaves e ≡ Some c
     → ((x : Leaf) → c ≡ Insert x → ⊥) → IsAllowed s c
-other s e c ruled told none = record { sound = sound-of (shared_row s.spec) s.table.leaves e c ruled told; free = λ x k. absurd (none x k) }
+other s e c ruled known none = record { sound = sound-of (shared_row s.spec) s.table.leaves e c ruled known; free = λ x k. absurd (none x k) }
 
 -- a command that no rule stops
 pub rule-allows : (s : HartsState) (e : Event) (c : Change) → hart_rule s e ≡ None → hart_change s e ≡ Some c → IsAllowed s c
 unfolding hart_rule hart_change change_of
-rule-allows s (event.Access va kind) c ruled told = absurd (cc)
-rule-allows s (event.Map space va o perm) c ruled told =
-    new-leaf s space va o perm (lowest s.spec.frames o (kept_leaves s)) c ruled (lowest-is-lowest s.spec.frames o (kept_leaves s)) told
-rule-allows s (event.Unmap space va o) c ruled told = other s (event.Unmap space va o) c ruled told (λ x k. let f : Remove space (page_of mode.Sv39 va) o ≡ c = (cc) in absurd (cc))
-rule-allows s (event.Protect space va o perm) c ruled told = other s (event.Protect space va o perm) c ruled told (λ x k. let f : Protect space (page_of mode.Sv39 va) o perm ≡ c = (cc) in absurd (cc))
-rule-allows s (event.Move space from to o) c ruled told = other s (event.Move space from to o) c ruled told (λ x k. let f : Relocate space (page_of mode.Sv39 from) (page_of mode.Sv39 to) o ≡ c = (cc) in absurd (cc))
-rule-allows s (event.Space space) c ruled told = absurd (cc)
-rule-allows s (event.Fence to) c ruled told = absurd (cc)
+rule-allows s (event.Access va kind) c ruled known = absurd (cc)
+rule-allows s (event.Map space va o perm) c ruled known =
+    new-leaf s space va o perm (lowest s.spec.frames o (kept_leaves s)) c ruled (lowest-is-lowest s.spec.frames o (kept_leaves s)) known
+rule-allows s (event.Unmap space va o) c ruled known = other s (event.Unmap space va o) c ruled known (λ x k. let f : Remove space (page_of mode.Sv39 va) o ≡ c = (cc) in absurd (cc))
+rule-allows s (event.Protect space va o perm) c ruled known = other s (event.Protect space va o perm) c ruled known (λ x k. let f : Protect space (page_of mode.Sv39 va) o perm ≡ c = (cc) in absurd (cc))
+rule-allows s (event.Move space from to o) c ruled known = other s (event.Move space from to o) c ruled known (λ x k. let f : Relocate space (page_of mode.Sv39 from) (page_of mode.Sv39 to) o ≡ c = (cc) in absurd (cc))
+rule-allows s (event.Space space) c ruled known = absurd (cc)
+rule-allows s (event.Fence to) c ruled known = absurd (cc)
 
 -- the refusals in turn
 pub first-none : (a b : Option HartRefusal) → first_refusal a b ≡ None → a ≡ None
@@ -79,7 +79,7 @@ rule-none s e h = mapping-none (hart_rule s e) (first-none _ _ h)
 
 pub change-none : (s : HartsState) (e : Event) (c : Change) → hart_refusal s (step.Own e) ≡ None → hart_change s e ≡ Some c → change_rule (Some c) s ≡ None
 unfolding hart_refusal
-change-none s e c h told = let k : change_rule (hart_change s e) s ≡ None = second-none (of_mapping (hart_rule s e)) _ h in rw told at k
+change-none s e c h known = let k : change_rule (hart_change s e) s ≡ None = second-none (of_mapping (hart_rule s e)) _ h in rw known at k
 
 pub room-none : (s : HartsState) (c : Change) → change_rule (Some c) s ≡ None → has_room c s.table.leaves s.table.shape ≡ true
 room-none s c h = refused-true _ _ (first-none _ _ h)

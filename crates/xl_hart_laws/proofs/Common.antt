@@ -42,6 +42,6 @@ pub use Rattle.xl_model_lemmas.specs.Fresh.{InSets}
 pub use Rattle.xl_model_lemmas.specs.Lowest.{IsAnswer, IsFree, IsLowest}
 pub use Rattle.xl_model_lemmas.specs.Mappings.{IsMapping, IsSound}
 pub use Rattle.xl_model_lemmas.specs.Members.{In, IsSorted}
-pub use Rattle.xl_hart_laws.specs.Histories.{IsHistory, IsOwned, IsTold, owners}
+pub use Rattle.xl_hart_laws.specs.Histories.{IsHistory, IsOwned, IsKnown, owners}
 pub use Rattle.xl_hart_laws.specs.Kept.{IsHart, IsHartSpec, IsKept, IsOfOlder, IsTable}
 pub use Rattle.xl_hart_laws.specs.Laws.{AreQueues, ComesIntoQueue, IsCoherent, IsFrameKept, IsOlderReply, IsOutOfReach, TakesOldest}

@@ -1,13 +1,13 @@
 -- Histories: older mappings, what they are, and whose frames they hold.
-use Rattle.xl_hart_laws.proofs.Common.{◌++◌, ◌<◌, ◌∷◌, ◌≡◌, ◌≤◌, ◌⊎◌, [], ap, arith, Change, changed, get_or, held_leaves, holds_frames, In, In-append, In-left, In-right, inl, inr, IsHistory, IsMapping, IsOwned, IsSound, IsTold, kept-sound, Leaf, length, List, None, older, Option, Order, refl, Request, request_of, Row, Some, subst, suc, sym, take, true, undone, with-In, with_held, with_new, without-In, without_old, zero, ℕ}
-use Rattle.xl_hart_laws.proofs.UndoLemmas.{change-told, change-undone}
+use Rattle.xl_hart_laws.proofs.Common.{◌++◌, ◌<◌, ◌∷◌, ◌≡◌, ◌≤◌, ◌⊎◌, [], ap, arith, Change, changed, get_or, held_leaves, holds_frames, In, In-append, In-left, In-right, inl, inr, IsHistory, IsMapping, IsOwned, IsSound, IsKnown, kept-sound, Leaf, length, List, None, older, Option, Order, refl, Request, request_of, Row, Some, subst, suc, sym, take, true, undone, with-In, with_held, with_new, without-In, without_old, zero, ℕ}
+use Rattle.xl_hart_laws.proofs.UndoLemmas.{change-known, change-undone}
 
 -- the history after a change
 pub history-changed : (row : Row) (requests : List Request) (leaves : List Leaf) (c : Change) → IsMapping row leaves → IsSound row leaves c → IsHistory row requests leaves
     → IsHistory row (request_of c leaves ∷ requests) (changed c leaves)
 history-changed row requests leaves c m s h =
     let P : List Leaf → Type 0 = λ xs. IsHistory row requests xs in
-    (kept-sound row leaves c m s, change-told leaves c, subst P (sym (change-undone row leaves c m s)) h)
+    (kept-sound row leaves c m s, change-known leaves c, subst P (sym (change-undone row leaves c m s)) h)
 
 -- a change is undone first
 pub older-changed : (row : Row) (requests : List Request) (leaves : List Leaf) (c : Change) (i : ℕ) → IsMapping row leaves → IsSound row leaves c
@@ -73,9 +73,9 @@ same-holds frame x y o f h =
     let R : Order → Type 0 = λ q. P q y.frame in
     subst R (sym o) b
 
-owned-by : (frame : ℕ) (r : Request) (requests : List Request) (leaves : List Leaf) → IsTold r leaves → IsOwned frame (undone r leaves ++ held_leaves requests)
+owned-by : (frame : ℕ) (r : Request) (requests : List Request) (leaves : List Leaf) → IsKnown r leaves → IsOwned frame (undone r leaves ++ held_leaves requests)
     → IsOwned frame (leaves ++ held_leaves (r ∷ requests))
-owned-by frame r requests leaves told o =
+owned-by frame r requests leaves known o =
     elim (In-append o.leaf (undone r leaves) (held_leaves requests) o.member) [
       | inl i ↦ elim (undone-In r.before r.after leaves o.leaf i) [
         | inl e ↦ go r.after refl e
@@ -91,8 +91,8 @@ owned-by frame r requests leaves told o =
     go : (after : Option Leaf) → r.after ≡ after → r.before ≡ Some o.leaf → IsOwned frame (leaves ++ held_leaves (r ∷ requests))
     go (Some y) a b = record {
       leaf = y;
-      member = In-left y leaves (held_leaves (r ∷ requests)) (told.there y a);
-      holds = same-holds frame o.leaf y (told.same_order o.leaf y b a) (told.same_frame o.leaf y b a) o.holds;
+      member = In-left y leaves (held_leaves (r ∷ requests)) (known.there y a);
+      holds = same-holds frame o.leaf y (known.same_order o.leaf y b a) (known.same_frame o.leaf y b a) o.holds;
     }
     go None a b =
         let P : Option Leaf → Option Leaf → Type 0 = λ p q. In o.leaf (with_held p q (held_leaves requests)) in
@@ -110,5 +110,5 @@ pub older-owned : (row : Row) (frame i : ℕ) (requests : List Request) (leaves 
     → holds_frames frame 1 x ≡ true → IsOwned frame (leaves ++ held_leaves requests)
 older-owned row frame zero requests leaves x h i t = record { leaf = x; member = In-left x leaves (held_leaves requests) i; holds = t }
 older-owned row frame (suc n) [] leaves x h i t = record { leaf = x; member = In-left x leaves [] i; holds = t }
-older-owned row frame (suc n) (r ∷ requests) leaves x (m, told, h) i t =
-    owned-by frame r requests leaves told (older-owned row frame n requests (undone r leaves) x h i t)
+older-owned row frame (suc n) (r ∷ requests) leaves x (m, known, h) i t =
+    owned-by frame r requests leaves known (older-owned row frame n requests (undone r leaves) x h i t)

@@ -290,8 +290,8 @@ module _ (s : HartsState) (kept : IsKept s) where
   }
 
   change-kept : (e : Event) (o : Option Change) → hart_change s e ≡ o → hart_refusal s (step.Own e) ≡ None → IsKept (mapping_changed o s)
-  change-kept e None told ruled = kept
-  change-kept e (Some c) told ruled = changed-kept c (rule-allows s e c (rule-none s e ruled) told) (change-none s e c ruled told)
+  change-kept e None known ruled = kept
+  change-kept e (Some c) known ruled = changed-kept c (rule-allows s e c (rule-none s e ruled) known) (change-none s e c ruled known)
 
   space-in : (space : ℕ) → hart_rule s (event.Space space) ≡ None → space < s.spec.spaces
   unfolding hart_rule rule

@@ -1,5 +1,5 @@
 -- A request undone: the mapping is the one before its command.
-use Rattle.xl_hart_laws.proofs.Common.{◌*◌, ◌+◌, ◌==◌, ◌^◌, ◌∙◌, ◌≡◌, ap, at_page, Change, changed, In, Insert, IsMapping, IsSorted, IsSound, IsTold, Leaf, leaf_key, leaf_named, List, named-space, new-In, new_leaf, None, old-In, old_leaf, Option, Order, Perm, Protect, put-back, refl, Relocate, Remove, request_of, Row, Some, sorted-without, subst, sym, took-back, undone, with_new, with_perm, without-In, without-other, without_leaf, without_old, ℕ}
+use Rattle.xl_hart_laws.proofs.Common.{◌*◌, ◌+◌, ◌==◌, ◌^◌, ◌∙◌, ◌≡◌, ap, at_page, Change, changed, In, Insert, IsMapping, IsSorted, IsSound, IsKnown, Leaf, leaf_key, leaf_named, List, named-space, new-In, new_leaf, None, old-In, old_leaf, Option, Order, Perm, Protect, put-back, refl, Relocate, Remove, request_of, Row, Some, sorted-without, subst, sym, took-back, undone, with_new, with_perm, without-In, without-other, without_leaf, without_old, ℕ}
 use Rattle.xl_model_lemmas.proofs.ChangeLemmas.{first-small, other-key, place-small}
 use Rattle.xl_model_lemmas.proofs.MappingLemmas.{named-is}
 
@@ -70,8 +70,8 @@ frames-same (Remove space first o) leaves x y e f = absurd (cc)
 frames-same (Protect space first o perm) leaves x y e f = perm-same perm (leaf_named space first o leaves) x y e f
 frames-same (Relocate space first to o) leaves x y e f = page-same to (leaf_named space first o leaves) x y e f
 
-pub change-told : (leaves : List Leaf) (c : Change) → IsTold (request_of c leaves) (changed c leaves)
-change-told leaves c = record {
+pub change-known : (leaves : List Leaf) (c : Change) → IsKnown (request_of c leaves) (changed c leaves)
+change-known leaves c = record {
   there = new-In c leaves;
   same_order = λ x y e f. (frames-same c leaves x y e f).0;
   same_frame = λ x y e f. (frames-same c leaves x y e f).1;

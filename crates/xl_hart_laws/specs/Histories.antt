@@ -11,7 +11,7 @@ use Rattle.xl_model_lemmas.specs.Members.{In}
 
 -- A request fits the mapping after its command: the leaf after is there; where there is a leaf
 -- before too, it held the same frames.
-pub record IsTold (r : Request) (leaves : List Leaf) : Type 0 where
+pub record IsKnown (r : Request) (leaves : List Leaf) : Type 0 where
   pub there : (x : Leaf) → r.after ≡ Some x → In x leaves
   pub same_order : (x y : Leaf) → r.before ≡ Some x → r.after ≡ Some y → y.order ≡ x.order
   pub same_frame : (x y : Leaf) → r.before ≡ Some x → r.after ≡ Some y → y.frame ≡ x.frame
@@ -19,7 +19,7 @@ pub record IsTold (r : Request) (leaves : List Leaf) : Type 0 where
 -- With the newest requests undone, however many, there is a mapping that the next request fits.
 abbrev pub IsHistory : Row → List Request → List Leaf → Type 0
 IsHistory row [] leaves = IsMapping row leaves
-IsHistory row (r ∷ requests) leaves = IsMapping row leaves × IsTold r leaves × IsHistory row requests (undone r leaves)
+IsHistory row (r ∷ requests) leaves = IsMapping row leaves × IsKnown r leaves × IsHistory row requests (undone r leaves)
 
 -- How many of some leaves hold a frame.
 abbrev pub owners : ℕ → List Leaf → ℕ

@@ -7,7 +7,7 @@ use Rattle.xl_hart_model.specs.declared.hart.HartEvent.{HartEvent}
 use Rattle.xl_hart_model.specs.declared.hart.HartEvent.TheVariants as step
 use Rattle.xl_hart_model.specs.declared.hart.HartSpec.{HartSpec}
 use Rattle.xl_hart_model.specs.Tally.{no_hart_counts, no_refusals}
-use Rattle.xl_hart_rows.specs.Rows.{Told, perm_r__u, perm_rw_u}
+use Rattle.xl_hart_rows.specs.Rows.{Figures, perm_r__u, perm_rw_u}
 
 -- Eight harts read a page that is then unmapped, and take in rising order: each loses its entry,
 -- and the last one frees the frame.
@@ -55,8 +55,8 @@ eight_harts_in_turn_events =
     (step.Own (event.Access 8200 kind.Load)) ∷ []
 
 -- What is counted.
-abbrev pub eight_harts_in_turn_told : Told
-eight_harts_in_turn_told = record {
+abbrev pub eight_harts_in_turn_figures : Figures
+eight_harts_in_turn_figures = record {
   harts =
       (record no_hart_counts { accesses = 1; ok = 1; misses = 1; reads = 3; taken = 2; invalidated = 1; pasum = 8 })
       ∷ (record no_hart_counts { accesses = 1; ok = 1; misses = 1; reads = 3; taken = 2; invalidated = 1; pasum = 8 })
@@ -106,8 +106,8 @@ eight_harts_in_falling_order_events =
     (step.Own (event.Access 8200 kind.Load)) ∷ []
 
 -- What is counted.
-abbrev pub eight_harts_in_falling_order_told : Told
-eight_harts_in_falling_order_told = record {
+abbrev pub eight_harts_in_falling_order_figures : Figures
+eight_harts_in_falling_order_figures = record {
   harts =
       (record no_hart_counts { taken = 2 })
       ∷ (record no_hart_counts { taken = 2 })
@@ -142,8 +142,8 @@ a_full_queue_events =
     (step.Own (event.Unmap 0 12288 order.K4)) ∷ []
 
 -- What is counted.
-abbrev pub a_full_queue_told : Told
-a_full_queue_told = record {
+abbrev pub a_full_queue_figures : Figures
+a_full_queue_figures = record {
   harts =
       (record no_hart_counts { taken = 1 })
       ∷ (record no_hart_counts { taken = 1 })
@@ -170,8 +170,8 @@ an_empty_queue_events =
     (step.Take 0) ∷ []
 
 -- What is counted.
-abbrev pub an_empty_queue_told : Told
-an_empty_queue_told = record {
+abbrev pub an_empty_queue_figures : Figures
+an_empty_queue_figures = record {
   harts =
       (record no_hart_counts { taken = 2 })
       ∷ (record no_hart_counts { taken = 2 })
@@ -199,8 +199,8 @@ no_such_hart_events =
     (step.Take 1) ∷ []
 
 -- What is counted.
-abbrev pub no_such_hart_told : Told
-no_such_hart_told = record {
+abbrev pub no_such_hart_figures : Figures
+no_such_hart_figures = record {
   harts =
       (no_hart_counts)
       ∷ (record no_hart_counts { accesses = 1; ok = 1; misses = 1; reads = 3; taken = 1 })
@@ -234,8 +234,8 @@ a_block_of_4k_held_back_events =
     (step.Own (event.Access 8192 kind.Load)) ∷ []
 
 -- What is counted.
-abbrev pub a_block_of_4k_held_back_told : Told
-a_block_of_4k_held_back_told = record {
+abbrev pub a_block_of_4k_held_back_figures : Figures
+a_block_of_4k_held_back_figures = record {
   harts =
       (record no_hart_counts { accesses = 1; ok = 1; misses = 1; reads = 3; taken = 2; invalidated = 1 })
       ∷ (record no_hart_counts { accesses = 4; ok = 3; unmapped = 1; hits = 1; misses = 3; reads = 9; taken = 2; invalidated = 1 })
@@ -269,8 +269,8 @@ a_block_of_2m_held_back_events =
     (step.Own (event.Access 4194304 kind.Load)) ∷ []
 
 -- What is counted.
-abbrev pub a_block_of_2m_held_back_told : Told
-a_block_of_2m_held_back_told = record {
+abbrev pub a_block_of_2m_held_back_figures : Figures
+a_block_of_2m_held_back_figures = record {
   harts =
       (record no_hart_counts { accesses = 1; ok = 1; misses = 1; reads = 2; taken = 2; invalidated = 1 })
       ∷ (record no_hart_counts { accesses = 4; ok = 3; unmapped = 1; hits = 1; misses = 3; reads = 6; taken = 2; invalidated = 1 })
@@ -304,8 +304,8 @@ a_block_of_1g_held_back_events =
     (step.Own (event.Access 2147483648 kind.Load)) ∷ []
 
 -- What is counted.
-abbrev pub a_block_of_1g_held_back_told : Told
-a_block_of_1g_held_back_told = record {
+abbrev pub a_block_of_1g_held_back_figures : Figures
+a_block_of_1g_held_back_figures = record {
   harts =
       (record no_hart_counts { accesses = 1; ok = 1; misses = 1; reads = 1; taken = 2; invalidated = 1 })
       ∷ (record no_hart_counts { accesses = 4; ok = 3; unmapped = 1; hits = 1; misses = 3; reads = 3; taken = 2; invalidated = 1 })
@@ -334,8 +334,8 @@ a_protect_seen_old_and_new_events =
     (step.Own (event.Access 4120 kind.Store)) ∷ []
 
 -- What is counted.
-abbrev pub a_protect_seen_old_and_new_told : Told
-a_protect_seen_old_and_new_told = record {
+abbrev pub a_protect_seen_old_and_new_figures : Figures
+a_protect_seen_old_and_new_figures = record {
   harts =
       (record no_hart_counts { accesses = 4; ok = 3; denied = 1; hits = 2; misses = 2; reads = 6; taken = 2; invalidated = 1; pasum = 24 })
       ∷ (record no_hart_counts { accesses = 1; denied = 1; misses = 1; reads = 3 })
@@ -366,8 +366,8 @@ a_move_seen_old_and_new_events =
     (step.Own (event.Access 20496 kind.Load)) ∷ []
 
 -- What is counted.
-abbrev pub a_move_seen_old_and_new_told : Told
-a_move_seen_old_and_new_told = record {
+abbrev pub a_move_seen_old_and_new_figures : Figures
+a_move_seen_old_and_new_figures = record {
   harts =
       (record no_hart_counts { accesses = 5; ok = 4; unmapped = 1; hits = 2; misses = 3; reads = 9; taken = 2; invalidated = 1; pasum = 32 })
       ∷ (record no_hart_counts { accesses = 2; ok = 1; unmapped = 1; misses = 2; reads = 6; pasum = 8 })
@@ -393,8 +393,8 @@ denied_in_the_mapping_events =
     (step.Own (event.Access 4096 kind.Load)) ∷ []
 
 -- What is counted.
-abbrev pub denied_in_the_mapping_told : Told
-denied_in_the_mapping_told = record {
+abbrev pub denied_in_the_mapping_figures : Figures
+denied_in_the_mapping_figures = record {
   harts =
       (record no_hart_counts { accesses = 5; ok = 4; denied = 1; hits = 3; misses = 2; reads = 6; taken = 2; invalidated = 1 })
       ∷ [];
@@ -420,8 +420,8 @@ denied_by_an_older_leaf_events =
     (step.Own (event.Access 4112 kind.Store)) ∷ []
 
 -- What is counted.
-abbrev pub denied_by_an_older_leaf_told : Told
-denied_by_an_older_leaf_told = record {
+abbrev pub denied_by_an_older_leaf_figures : Figures
+denied_by_an_older_leaf_figures = record {
   harts =
       (record no_hart_counts { accesses = 3; ok = 2; denied = 1; hits = 1; misses = 2; reads = 6; taken = 2; invalidated = 1; pasum = 16 })
       ∷ (record no_hart_counts { accesses = 1; ok = 1; misses = 1; reads = 3; pasum = 8 })
@@ -450,8 +450,8 @@ a_space_of_one_hart_events =
     (step.Own (event.Access 4120 kind.Load)) ∷ []
 
 -- What is counted.
-abbrev pub a_space_of_one_hart_told : Told
-a_space_of_one_hart_told = record {
+abbrev pub a_space_of_one_hart_figures : Figures
+a_space_of_one_hart_figures = record {
   harts =
       (record no_hart_counts { accesses = 3; ok = 2; unmapped = 1; hits = 1; misses = 2; reads = 4; pasum = 16 })
       ∷ (record no_hart_counts { accesses = 1; unmapped = 1; misses = 1; reads = 1; taken = 1 })
@@ -479,8 +479,8 @@ another_frame_stays_events =
     (step.Own (event.Access 4112 kind.Load)) ∷ []
 
 -- What is counted.
-abbrev pub another_frame_stays_told : Told
-another_frame_stays_told = record {
+abbrev pub another_frame_stays_figures : Figures
+another_frame_stays_figures = record {
   harts =
       (record no_hart_counts { accesses = 3; ok = 2; unmapped = 1; hits = 1; misses = 2; reads = 4; taken = 4; invalidated = 1; pasum = 8200 })
       ∷ [];
@@ -505,8 +505,8 @@ another_permission_stays_events =
     (step.Own (event.Access 4112 kind.Store)) ∷ []
 
 -- What is counted.
-abbrev pub another_permission_stays_told : Told
-another_permission_stays_told = record {
+abbrev pub another_permission_stays_figures : Figures
+another_permission_stays_figures = record {
   harts =
       (record no_hart_counts { accesses = 3; ok = 3; hits = 1; misses = 2; reads = 6; taken = 3; invalidated = 1; pasum = 24 })
       ∷ [];
@@ -543,8 +543,8 @@ frames_held_of_two_blocks_events =
     (step.Own (event.Access 8192 kind.Load)) ∷ []
 
 -- What is counted.
-abbrev pub frames_held_of_two_blocks_told : Told
-frames_held_of_two_blocks_told = record {
+abbrev pub frames_held_of_two_blocks_figures : Figures
+frames_held_of_two_blocks_figures = record {
   harts =
       (record no_hart_counts { accesses = 2; ok = 1; unmapped = 1; misses = 2; reads = 4; taken = 4; pasum = 2097152 })
       ∷ (record no_hart_counts { taken = 5 })
@@ -587,8 +587,8 @@ eight_harts_in_mixed_order_events =
     (step.Own (event.Access 8200 kind.Load)) ∷ []
 
 -- What is counted.
-abbrev pub eight_harts_in_mixed_order_told : Told
-eight_harts_in_mixed_order_told = record {
+abbrev pub eight_harts_in_mixed_order_figures : Figures
+eight_harts_in_mixed_order_figures = record {
   harts =
       (record no_hart_counts { taken = 2 })
       ∷ (record no_hart_counts { taken = 2 })
@@ -632,8 +632,8 @@ refusals_in_their_order_events =
     (step.Take 0) ∷ []
 
 -- What is counted.
-abbrev pub refusals_in_their_order_told : Told
-refusals_in_their_order_told = record {
+abbrev pub refusals_in_their_order_figures : Figures
+refusals_in_their_order_figures = record {
   harts =
       (record no_hart_counts { taken = 3 })
       ∷ [];
@@ -659,8 +659,8 @@ room_comes_before_the_queue_events =
     (step.Own (event.Map 0 8192 order.K4 perm_rw_u)) ∷ []
 
 -- What is counted.
-abbrev pub room_comes_before_the_queue_told : Told
-room_comes_before_the_queue_told = record {
+abbrev pub room_comes_before_the_queue_figures : Figures
+room_comes_before_the_queue_figures = record {
   harts =
       (record no_hart_counts { taken = 1 })
       ∷ [];
@@ -697,8 +697,8 @@ nine_leaves_in_eight_ways_events =
     (step.Own (event.Access 8192 kind.Load)) ∷ []
 
 -- What is counted.
-abbrev pub nine_leaves_in_eight_ways_told : Told
-nine_leaves_in_eight_ways_told = record {
+abbrev pub nine_leaves_in_eight_ways_figures : Figures
+nine_leaves_in_eight_ways_figures = record {
   harts = (record no_hart_counts { accesses = 11; ok = 11; hits = 1; misses = 10; reads = 30; pasum = 151552 }) ∷ [];
   all = record { accepted = 9; refused = no_refusals; waiting = 9; held = 0 };
 }

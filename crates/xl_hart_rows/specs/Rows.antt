@@ -22,17 +22,17 @@ abbrev pub perm_rw_u : Perm
 perm_rw_u = record { r = true; w = true; x = false; u = true; legal = refl }
 
 -- The counts of harts after some events: of each, and of all together.
-pub record Told : Type 0 where
+pub record Figures : Type 0 where
   pub harts : List HartCounts
   pub all : AllCounts
 
 -- The counts of harts in a state.
-abbrev pub told_of : HartsState → Told
-told_of s = record { harts = map (λ h. h.counts) s.harts; all = all_counts s }
+abbrev pub figures_of : HartsState → Figures
+figures_of s = record { harts = map (λ h. h.counts) s.harts; all = all_counts s }
 
 -- The counts of harts after some events from the opening on.
-abbrev pub told : HartSpec → List HartEvent → Told
-told spec events = told_of (after_hart_events events (opening_harts spec))
+abbrev pub figures : HartSpec → List HartEvent → Figures
+figures spec events = figures_of (after_hart_events events (opening_harts spec))
 
 -- Two harts, of which one reads by an older mapping.
 abbrev pub an_older_mapping_spec : HartSpec
@@ -57,8 +57,8 @@ an_older_mapping_events =
     (step.Own (event.Map 0 12288 order.K4 perm_rw_u)) ∷ []
 
 -- The counts after that.
-abbrev pub an_older_mapping_told : Told
-an_older_mapping_told = record {
+abbrev pub an_older_mapping_figures : Figures
+an_older_mapping_figures = record {
   harts =
       (record { accesses = 1; ok = 1; unmapped = 0; denied = 0; not_canonical = 0; hits = 0; misses = 1; reads = 3; taken = 2; invalidated = 1; pasum = 8 })
       ∷ (record { accesses = 3; ok = 2; unmapped = 1; denied = 0; not_canonical = 0; hits = 1; misses = 2; reads = 6; taken = 2; invalidated = 1; pasum = 16 })
@@ -82,8 +82,8 @@ a_frame_held_back_events =
     (step.Own (event.Access 4096 kind.Load)) ∷ []
 
 -- The counts after that.
-abbrev pub a_frame_held_back_told : Told
-a_frame_held_back_told = record {
+abbrev pub a_frame_held_back_figures : Figures
+a_frame_held_back_figures = record {
   harts = (record no_hart_counts { accesses = 1; ok = 1; misses = 1; reads = 3; taken = 2 }) ∷ [];
   all = record { accepted = 3; refused = 0 ∷ 0 ∷ 0 ∷ 0 ∷ 0 ∷ 0 ∷ 1 ∷ 0 ∷ 0 ∷ 0 ∷ 0 ∷ 0 ∷ []; waiting = 1; held = 0 };
 }

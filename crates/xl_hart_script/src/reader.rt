@@ -2,7 +2,7 @@
 
 ghost use Rattle.std.specs.Prelude.{◌≡◌, None, IfSome};
 ghost use Rattle.xl_hart_laws.specs.Kept.{IsHartSpec};
-ghost use Rattle.xl_script.specs.Scripts.{Hears};
+ghost use Rattle.xl_script.specs.Scripts.{Follows};
 ghost use Rattle.xl_script.specs.Texts.{words_of};
 ghost use Rattle.xl_hart_script.specs.Scripts.{harts_said};
 
@@ -54,7 +54,7 @@ impl Form for Reader {
     ghost said = { harts_said };
 
     fn read_line(&mut self, line: &[u8]) -> Result<Option<HartCommand>, u8>
-        ensures { Hears result self.new (harts_said self.old (words_of line.now)) }
+        ensures { Follows result self.new (harts_said self.old (words_of line.now)) }
     {
         let Some(first) = first_word(line) else {
             return Ok(None);

@@ -2,7 +2,7 @@
 pub use Rattle.std.proofs.Common.{◌++◌, ◌+◌, ◌<◌, ◌∙◌, ◌∷◌, ◌≡◌, [], ap, append_assoc, arith, Bool, drop, false, length, List, map, refl, subst, suc, sym, take, true, zero, ℕ}
 pub use Rattle.std.proofs.lemmas.List.Elements.{All-cons, All-head, All-nil, All-tail}
 pub use Rattle.std.specs.Prelude.{All, Err, is_ok, Ok, slice_index_or, Some}
-pub use Rattle.xl_course.proofs.ToldLemmas.{is_err_by, told_one, told_then}
+pub use Rattle.xl_course.proofs.KnownLemmas.{is_err_by, known_one, known_then}
 pub use Rattle.xl_course.specs.Accounts.{account, Ends}
 pub use Rattle.xl_course.specs.Meanings.{states_after}
 pub use Rattle.xl_hart_model.specs.Harts.{after_hart_event, all_counts, current_hart, Hart, hart_reply, HartsState, opening_hart}

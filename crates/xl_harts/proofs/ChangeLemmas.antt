@@ -93,18 +93,18 @@ all-short s kept =
     let c = kept.spec_is.short_queue in
     short-by s.harts 64 (omega arith) (omega arith)
 
-module _ (s : HartsState) (kept : IsKept s) (e : Event) (c : Change) (ruled : refusal_of e s ≡ None) (told : hart_change s e ≡ Some c) where
+module _ (s : HartsState) (kept : IsKept s) (e : Event) (c : Change) (ruled : refusal_of e s ≡ None) (known : hart_change s e ≡ Some c) where
   pub change-allowed : IsAllowed s c
-  change-allowed = rule-allows s e c (rule-none s e ruled) told
+  change-allowed = rule-allows s e c (rule-none s e ruled) known
 
   pub change-room : has_room c s.table.leaves s.table.shape ≡ true
-  change-room = room-none s c (change-none s e c ruled told)
+  change-room = room-none s c (change-none s e c ruled known)
 
   pub queue-room : length s.requests < s.spec.queue
-  queue-room = not-full s kept (full-none s c (change-none s e c ruled told))
+  queue-room = not-full s kept (full-none s c (change-none s e c ruled known))
 
   pub change-kept : IsKept (mapping_changed (Some c) s)
-  change-kept = changed-kept s kept c change-allowed (change-none s e c ruled told)
+  change-kept = changed-kept s kept c change-allowed (change-none s e c ruled known)
 
   leaves-after : (table_after c s.table).leaves ≡ changed c s.table.leaves
   leaves-after = ap (λ (t : TableState). t.leaves) (change-made s.spec c s.table kept.table_is change-room) ∙ made-leaves c s.table
@@ -125,7 +125,7 @@ module _ (s : HartsState) (kept : IsKept s) (e : Event) (c : Change) (ruled : re
     changed-is = rw (is_table, are_requests, is_request, are_harts) refl
 
     pub state-after : state_of s.spec t requests harts s.current (plus s.accepted 1) s.refused ≡ after_own e s
-    state-after = changed-is ∙ sym (after-change s e c ruled told)
+    state-after = changed-is ∙ sym (after-change s e c ruled known)
 
     pub harts-after : (capacity : ℕ) (pool : List Bool) → capacity ≡ s.spec.queue → IsPoolOf s.spec.frames (kept_leaves (mapping_changed (Some c) s)) pool
         → IsHarts (state_of s.spec t requests harts s.current (plus s.accepted 1) s.refused) capacity pool
@@ -142,17 +142,17 @@ module _ (s : HartsState) (kept : IsKept s) (space va : ℕ) (o : Order) (perm :
       let k : Some low.0 ≡ None = sym low.1 ∙ lowest-none s.spec.frames o (kept_leaves s) pool tie none in
       cc
 
-  pub map-told : (at : ℕ) → IsLowest pool (pages_of o) at → hart_change s (event.Map space va o perm) ≡ Some (Insert (leaf_at space va o at perm))
-  map-told at low = map-change s space va o perm at (lowest-some s.spec.frames o (kept_leaves s) pool at tie low)
+  pub map-known : (at : ℕ) → IsLowest pool (pages_of o) at → hart_change s (event.Map space va o perm) ≡ Some (Insert (leaf_at space va o at perm))
+  map-known at low = map-change s space va o perm at (lowest-some s.spec.frames o (kept_leaves s) pool at tie low)
 
   module _ (at : ℕ) (low : IsLowest pool (pages_of o) at) where
     pub map-new : IsNewLeaf (shared_row s.spec) s.table.leaves (leaf_at space va o at perm)
-    map-new = (change-allowed s kept (event.Map space va o perm) (Insert (leaf_at space va o at perm)) ruled (map-told at low)).sound
+    map-new = (change-allowed s kept (event.Map space va o perm) (Insert (leaf_at space va o at perm)) ruled (map-known at low)).sound
 
     pub pool-mapped : IsPoolOf s.spec.frames (kept_leaves (mapping_changed (Some (Insert (leaf_at space va o at perm))) s)) (marked pool at (pages_of o) false)
     pool-mapped =
         pool-with s.spec.frames (leaf_at space va o at perm) (kept_leaves s) (kept_leaves (mapping_changed (Some (Insert (leaf_at space va o at perm))) s)) pool map-new.valid.frames_in tie
-        (owners-change s kept (event.Map space va o perm) (Insert (leaf_at space va o at perm)) ruled (map-told at low))
+        (owners-change s kept (event.Map space va o perm) (Insert (leaf_at space va o at perm)) ruled (map-known at low))
 
 -- a new place is a block of the table
 pub block-for : (spec : HartSpec) (shape : Shape) (leaves : List Leaf) (space to : ℕ) (o : Order) → IsTable spec shape → IsNewPlace (shared_row spec) leaves space to o → IsBlock shape space to o

@@ -208,7 +208,7 @@ module _ (s : HartsState) where
 
   pub by-change : (e : Event) (c : Change) → hart_rule s e ≡ None → hart_change s e ≡ Some c → refusal_of e s ≡ change_rule (Some c) s
   unfolding hart_refusal
-  by-change e c ruled told = rw (ruled, told) refl
+  by-change e c ruled known = rw (ruled, known) refl
 
   pub by-room : (c : Change) (b : Bool) → has_room c s.table.leaves s.table.shape ≡ b → change_rule (Some c) s ≡ first_refusal (refused_unless b (why.Mapping refused.NoTable)) (refused_unless (not (list_any (is_full s.spec) s.harts)) why.QueueFull)
   by-room c b e = rw e refl
@@ -216,7 +216,7 @@ module _ (s : HartsState) where
 -- an answer of a place by a spec is that by the harts of the spec
 pub place-of : (spec : HartSpec) (v : HartsState) (space : ℕ) (o : Order) (addresses : List ℕ) (p q : Option Refusal) → spec ≡ v.spec → p ≡ place_rule (shared_row spec) space o addresses → p ≡ q
     → place_rule (shared_row v.spec) space o addresses ≡ q
-place-of spec v space o addresses p q e is told = let R : HartSpec → Type 0 = λ r. place_rule (shared_row r) space o addresses ≡ q in subst R e (rw (← is) told)
+place-of spec v space o addresses p q e is known = let R : HartSpec → Type 0 = λ r. place_rule (shared_row r) space o addresses ≡ q in subst R e (rw (← is) known)
 
 -- what a map has shown that no rule stops
 pub record MapPlace (s : HartsState) (space va : ℕ) (o : Order) : Type 0 where

@@ -33,8 +33,8 @@ take-none s n h w =
     rw (t, u) refl
 
 -- a space
-pub space-told : (spec : HartSpec) (v : HartsState) (space : ℕ) (p q : Option Refusal) → spec ≡ v.spec → p ≡ unless (nat_lt space spec.spaces) refused.BadSpace → p ≡ q → unless (nat_lt space v.spec.spaces) refused.BadSpace ≡ q
-space-told spec v space p q e is told = let R : HartSpec → Type 0 = λ r. unless (nat_lt space r.spaces) refused.BadSpace ≡ q in subst R e (rw (← is) told)
+pub space-known : (spec : HartSpec) (v : HartsState) (space : ℕ) (p q : Option Refusal) → spec ≡ v.spec → p ≡ unless (nat_lt space spec.spaces) refused.BadSpace → p ≡ q → unless (nat_lt space v.spec.spaces) refused.BadSpace ≡ q
+space-known spec v space p q e is known = let R : HartSpec → Type 0 = λ r. unless (nat_lt space r.spaces) refused.BadSpace ≡ q in subst R e (rw (← is) known)
 
 pub space-refused : (s : HartsState) (space : ℕ) (r : Refusal) → unless (nat_lt space s.spec.spaces) refused.BadSpace ≡ Some r → refusal_of (event.Space space) s ≡ Some (why.Mapping r)
 unfolding hart_refusal hart_rule rule

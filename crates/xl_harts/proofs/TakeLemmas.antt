@@ -3,7 +3,7 @@ use Rattle.xl_harts.proofs.Common.{◌++◌, ◌+◌, ◌-◌, ◌<◌, ◌∙�
 use Rattle.xl_hart_laws.proofs.HartLemmas.{longest-less, longest-set}
 use Rattle.xl_model_lemmas.proofs.InsertionLemmas.{In-with}
 use Rattle.xl_harts.proofs.RefusalLemmas.{leaf-fit}
-use Rattle.xl_harts.specs.Pools.{Fits, given_back, last_of, LeafFits, nothing, pool_after, settled, settled_by}
+use Rattle.xl_harts.specs.Pools.{Fits, given_back, last_of, LeafFits, nothing, pool_after, released, settled_by}
 use Rattle.xl_hart_model.specs.declared.hart.HartEvent.TheVariants as step
 
 -- a take that nothing refuses
@@ -50,9 +50,9 @@ given frames (Some x) None leaves rest all pool count alone fits size tie =
 given frames (Some x) (Some y) leaves rest all pool count alone fits size tie = pool-stays frames all rest pool (λ f. let a = count f in omega arith) tie
 given frames None after leaves rest all pool count alone fits size tie = pool-stays frames all rest pool (λ f. let a = count f in omega arith) tie
 
-pub pool-settled : (s : HartsState) → IsKept s → (pool : List Bool) → IsPoolOf s.spec.frames (kept_leaves s) pool → (k : ℕ) → length s.requests ≤ k + 1
-    → IsPoolOf s.spec.frames (s.table.leaves ++ held_leaves (take k s.requests)) (settled k s.requests pool)
-pool-settled s kept pool tie k near = go (nat_lt k (length s.requests)) refl
+pub pool-released : (s : HartsState) → IsKept s → (pool : List Bool) → IsPoolOf s.spec.frames (kept_leaves s) pool → (k : ℕ) → length s.requests ≤ k + 1
+    → IsPoolOf s.spec.frames (s.table.leaves ++ held_leaves (take k s.requests)) (released k s.requests pool)
+pool-released s kept pool tie k near = go (nat_lt k (length s.requests)) refl
   where
     go : (b : Bool) → nat_lt k (length s.requests) ≡ b → IsPoolOf s.spec.frames (s.table.leaves ++ held_leaves (take k s.requests)) (settled_by b s.requests pool)
     go true t =
@@ -96,13 +96,13 @@ module _ (s : HartsState) (kept : IsKept s) (n : ℕ) (ruled : hart_refusal s (s
   pub taken-after : record s { harts = set s.harts n x; requests = requests } ≡ after_hart_event (step.Take n) s
   taken-after = taken-is ∙ sym (after-take s n ruled)
 
-  pub taken-harts : (capacity : ℕ) → capacity ≡ s.spec.queue → (pool after : List Bool) → IsPoolOf s.spec.frames (kept_leaves s) pool → after ≡ settled (longest (set s.harts n x)) s.requests pool
+  pub taken-harts : (capacity : ℕ) → capacity ≡ s.spec.queue → (pool after : List Bool) → IsPoolOf s.spec.frames (kept_leaves s) pool → after ≡ released (longest (set s.harts n x)) s.requests pool
       → IsHarts (record s { harts = set s.harts n x; requests = requests }) capacity after
   taken-harts capacity room pool after tie settles =
       let P : HartsState → Type 0 = λ v. IsKept v in
       let far : length s.requests ≤ longest (set s.harts n x) + 1 = rw is (take-near s kept n ruled) in
       record {
         kept = subst P (sym taken-is) (request-kept s kept n (take-some s n ruled));
-        pool_is = rw (are, settles) (pool-settled s kept pool tie (longest (set s.harts n x)) far);
+        pool_is = rw (are, settles) (pool-released s kept pool tie (longest (set s.harts n x)) far);
         room = room;
       }

@@ -33,7 +33,7 @@ abbrev pub last_of : List Request → Request
 last_of requests = slice_index_or requests (length requests - 1) nothing
 
 -- The longest queue has all requests, or all but the oldest; and what that holds back is inside the pool.
-pub record IsSettling (longest : ℕ) (requests : List Request) (pool : List Bool) : Type 0 where
+pub record IsReleasing (longest : ℕ) (requests : List Request) (pool : List Bool) : Type 0 where
   pub near : length requests ≤ longest + 1
   pub fits : Fits (last_of requests) pool
 
@@ -43,5 +43,5 @@ settled_by true requests pool = pool_after (last_of requests) pool
 settled_by false requests pool = pool
 
 -- The pool after the oldest request is dropped, where no queue has it any more.
-abbrev pub settled : ℕ → List Request → List Bool → List Bool
-settled longest requests pool = settled_by (nat_lt longest (length requests)) requests pool
+abbrev pub released : ℕ → List Request → List Bool → List Bool
+released longest requests pool = settled_by (nat_lt longest (length requests)) requests pool

@@ -143,7 +143,7 @@ impl Harts {
         ensures stays { IsCoherent self.new }
     {
         self.access_each(accesses);
-        self.tell_coherent();
+        self.note_coherence();
     }
 
     /// Serves an access of the current hart.

@@ -28,15 +28,15 @@ impl Harts {
         ensures stays { IsCoherent self.new }
         ensures small { HasSmallReplies self.old }
     {
-        self.tell_coherent();
+        self.note_coherence();
         let outcome = self.serve(event);
-        self.tell_coherent();
+        self.note_coherence();
         outcome
     }
 
     /// Harts are coherent, and their replies are small.
     #[inline(always)]
-    pub(crate) fn tell_coherent(&self)
+    pub(crate) fn note_coherence(&self)
         ensures coherent { IsCoherent self.now }
         ensures small { HasSmallReplies self.now }
     {

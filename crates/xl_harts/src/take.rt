@@ -5,7 +5,7 @@ ghost use Rattle.circular_buffer.specs.Buffer.{buffer};
 ghost use Rattle.xl_model.specs.Addresses.{pages_of};
 ghost use Rattle.xl_hart_model.specs.Harts.{after_hart_event, hart_refusal, oldest};
 ghost use Rattle.xl_hart_model.specs.declared.hart.HartEvent.TheVariants as step;
-ghost use Rattle.xl_harts.specs.Pools.{Fits, IsSettling, pool_after, settled};
+ghost use Rattle.xl_harts.specs.Pools.{Fits, IsReleasing, pool_after, released};
 
 use crate::hart::Hart;
 use crate::harts::Harts;
@@ -40,11 +40,11 @@ fn give_back(frames: &mut Frames, request: Request)
 
 /// Lets go of the oldest request where no queue has it any more, and gives back the frames that it
 /// held back.
-fn settle(requests: &mut HeapCircularBuffer<Request>, frames: &mut Frames, longest: usize)
-    requires { IsSettling longest requests.old.items frames.old }
+fn release_oldest(requests: &mut HeapCircularBuffer<Request>, frames: &mut Frames, longest: usize)
+    requires { IsReleasing longest requests.old.items frames.old }
     ensures requests { requests.new ≡ buffer (take longest requests.old.items)
         requests.old.capacity }
-    ensures frames { frames.new ≡ settled longest requests.old.items frames.old }
+    ensures frames { frames.new ≡ released longest requests.old.items frames.old }
 {
     if longest < requests.len() {
         if let Some(request) = requests.pop_back() {
@@ -61,7 +61,7 @@ impl Harts {
     {
         let request = oldest_of(&self.requests, &self.harts[hart as usize]);
         self.harts[hart as usize].fence(request);
-        settle(
+        release_oldest(
             &mut self.requests,
             &mut self.frames,
             longest_of(&self.harts),

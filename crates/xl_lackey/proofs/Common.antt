@@ -20,14 +20,14 @@ pub use Rattle.xl_lackey.specs.Digits.{digit_or_4096, hex_digit, hex_value}
 pub use Rattle.xl_lackey.specs.Lanes.{is_below, lane_value, less, number_of, plus}
 pub use Rattle.xl_lackey.specs.Lines.{address_in, after, before, decimal_value, fits, front, in_front, is_digit, is_remark, is_size, of_address, of_end, of_size, of_text, of_words, parted, size_in, with_rest}
 unfoldable pub use Rattle.xl_lackey.specs.Lines.{judge}
-pub use Rattle.xl_lackey.specs.Pages.{IsBeginning, IsPage, two_bytes}
+pub use Rattle.xl_lackey.specs.PrefixCache.{IsBeginning, IsPrefix, two_bytes}
 pub use Rattle.xl_lackey.specs.Scans.{IsFirstLine}
 pub use Rattle.xl_lackey.specs.Skims.{accesses_in, all_accesses, batch_size, Gathered, HasAccesses, IsRecordLine, IsSure, pair, read_of, Runs, skim_at, Skimmed, Skims, skims_both, Taken, Takes, with_records}
 pub use Rattle.xl_lackey.specs.Stream.{due, first_due, Left, left, left_by, MayCome, next_line, of_due, Record, records, State, unless_bad, with_verdict}
 pub use Rattle.xl_lackey.specs.Usual.{first_kind, is_modify, judged, judged_line, usual_front}
 pub use Rattle.xl_lackey.specs.declared.line.Verdict.{Verdict}
 pub use Rattle.xl_lackey.specs.declared.line.Verdict.TheVariants.{Bad, Found, Skipped}
-pub use Rattle.xl_lackey.specs.declared.pages.Page.{Page}
+pub use Rattle.xl_lackey.specs.declared.prefixes.Prefix.{Prefix}
 pub use Rattle.xl_lackey.specs.declared.reference.Letter.{Letter}
 pub use Rattle.xl_lackey.specs.declared.skim.Access.{Access}
 pub use Rattle.xl_lackey.specs.declared.skim.Skim.{Skim}

@@ -46,25 +46,25 @@ none_ended [] h = refl
 none_ended (b ∷ bs) h = lines_joined false (b ∷ bs) [] h (omega arith)
 
 -- a line of more than 257 bytes is judged by its first three
-told_by : ℕ → ℕ → ℕ → Verdict
-told_by a b c = if is_remark (a ∷ b ∷ c ∷ []) then Skipped else Bad 6
+known_by : ℕ → ℕ → ℕ → Verdict
+known_by a b c = if is_remark (a ∷ b ∷ c ∷ []) then Skipped else Bad 6
 
-long_text : (a b c : ℕ) (ys : List ℕ) → 253 < length ys → of_text (a ∷ b ∷ c ∷ ys) ≡ told_by a b c
-unfolding told_by
+long_text : (a b c : ℕ) (ys : List ℕ) → 253 < length ys → of_text (a ∷ b ∷ c ∷ ys) ≡ known_by a b c
+unfolding known_by
 long_text a b c ys h =
     let e : nat_lt 256 (length (a ∷ b ∷ c ∷ ys)) ≡ true = grind (arith, nat_tests) in
     ap (λ (t : Bool). if is_remark (a ∷ b ∷ c ∷ []) then Skipped else if t then Bad 6 else of_words (after is_blank (a ∷ b ∷ c ∷ ys))) e
 
-cut_long : (a b c : ℕ) (xs : List ℕ) → 254 < length xs → of_text (take (length (a ∷ b ∷ c ∷ xs) - 1) (a ∷ b ∷ c ∷ xs)) ≡ told_by a b c
+cut_long : (a b c : ℕ) (xs : List ℕ) → 254 < length xs → of_text (take (length (a ∷ b ∷ c ∷ xs) - 1) (a ∷ b ∷ c ∷ xs)) ≡ known_by a b c
 cut_long a b c xs h =
     let e : length (a ∷ b ∷ c ∷ xs) - 1 ≡ suc (suc (suc (length xs - 1))) = omega arith in
     let k : 253 < length (take (length xs - 1) xs) = omega (arith, length-take-le (length xs - 1) xs (omega arith)) in
     rw e (long_text a b c (take (length xs - 1) xs) k)
 
-judge_long : (a b c : ℕ) (xs : List ℕ) → 254 < length xs → judge (a ∷ b ∷ c ∷ xs) ≡ told_by a b c
+judge_long : (a b c : ℕ) (xs : List ℕ) → 254 < length xs → judge (a ∷ b ∷ c ∷ xs) ≡ known_by a b c
 unfolding judge
 judge_long a b c xs h =
-    elim (slice_index (a ∷ b ∷ c ∷ xs) (length (a ∷ b ∷ c ∷ xs) - 1) == 13) as (λ t. of_text (if t then take (length (a ∷ b ∷ c ∷ xs) - 1) (a ∷ b ∷ c ∷ xs) else (a ∷ b ∷ c ∷ xs)) ≡ told_by a b c)
+    elim (slice_index (a ∷ b ∷ c ∷ xs) (length (a ∷ b ∷ c ∷ xs) - 1) == 13) as (λ t. of_text (if t then take (length (a ∷ b ∷ c ∷ xs) - 1) (a ∷ b ∷ c ∷ xs) else (a ∷ b ∷ c ∷ xs)) ≡ known_by a b c)
     [ true ↦ cut_long a b c xs h | false ↦ long_text a b c xs (omega arith) ]
 
 -- so all but its first bytes can be dropped

@@ -1,5 +1,5 @@
 -- Lines whose pages are kept: what the bytes of a page say of a line that has the same.
-use Rattle.xl_lackey.proofs.Common.{◌*◌, ◌++◌, ◌+◌, ◌/◌, ◌<◌, ◌^◌, ◌∙◌, ◌∷◌, ◌≡◌, ◌≤◌, ◌⊎◌, [], accesses_at, All, All-drop, All-from_recursion, All-head, All-tail, All-take, ap, append_assoc, ap₂, arith, borders, codes, drop, drop-append-add, drop-take, false, Fetch, first_kind, Found, get_or, get_or-drop, get_or-take, hex_digit, hex_value, IfSome, inl, inr, is_modify, IsBeginning, IsFirstLine, IsPage, IsRecordLine, Kind, length, length-append, length-drop, length-take-le, Letter, List, number_l, Option, option_and_then, Page, places, refl, same_Some, size_in, slice_index, Some, subst, sym, take, take-add, take-append-add, take-append-drop, take-take, take_more, two_bytes, usual_front, ℕ}
+use Rattle.xl_lackey.proofs.Common.{◌*◌, ◌++◌, ◌+◌, ◌/◌, ◌<◌, ◌^◌, ◌∙◌, ◌∷◌, ◌≡◌, ◌≤◌, ◌⊎◌, [], accesses_at, All, All-drop, All-from_recursion, All-head, All-tail, All-take, ap, append_assoc, ap₂, arith, borders, codes, drop, drop-append-add, drop-take, false, Fetch, first_kind, Found, get_or, get_or-drop, get_or-take, hex_digit, hex_value, IfSome, inl, inr, is_modify, IsBeginning, IsFirstLine, IsPrefix, IsRecordLine, Kind, length, length-append, length-drop, length-take-le, Letter, List, number_l, Option, option_and_then, Prefix, places, refl, same_Some, size_in, slice_index, Some, subst, sym, take, take-add, take-append-add, take-append-drop, take-take, take_more, two_bytes, usual_front, ℕ}
 use Rattle.xl_lackey.proofs.AddressLemmas.{digit_and_rest}
 use Rattle.xl_lackey.proofs.NearLineLemmas.{comma_at, numbers_at}
 use Rattle.xl_lackey.proofs.OwnFormLemmas.{front_length}
@@ -52,7 +52,7 @@ begins_same extra text head few long many p q word front =
     ∙ ap₂ (λ (xs ys : List ℕ). xs ++ ys) (front_same extra text head few (omega (arith, long)) (omega (arith, many)) p q front) last
     ∙ take-append-drop extra head
 
-pub kept_begins : (extra : ℕ) (kept : Page) (text : List ℕ) (is : IsPage extra kept) → extra ≤ 2 → 8 + extra ≤ length text → All IsByte text
+pub kept_begins : (extra : ℕ) (kept : Prefix) (text : List ℕ) (is : IsPrefix extra kept) → extra ≤ 2 → 8 + extra ≤ length text → All IsByte text
     → kept.word ≡ number_l 256 (take 8 (drop extra text)) → (extra ≡ 0) ⊎ (kept.front ≡ two_bytes text) → IsBeginning extra (take (8 + extra) text) kept.kind is.page
 kept_begins extra kept text is few long bytes word front =
     let b = is.begins in
@@ -63,7 +63,7 @@ kept_begins extra kept text is few long bytes word front =
 
 -- a page as it is kept
 pub page_kept : (extra : ℕ) (text : List ℕ) (kind : Kind) (page word front : ℕ) → 8 + extra ≤ length text → All IsByte text → IsBeginning extra (take (8 + extra) text) kind page
-    → word ≡ number_l 256 (take 8 (drop extra text)) → front ≡ two_bytes text → IsPage extra (record { word = word; front = front; addr = page * 4096; kind = kind })
+    → word ≡ number_l 256 (take 8 (drop extra text)) → front ≡ two_bytes text → IsPrefix extra (record { word = word; front = front; addr = page * 4096; kind = kind })
 page_kept extra text kind page word front long bytes b w f = record {
   head = take (8 + extra) text;
   page = page;
@@ -114,7 +114,7 @@ line_begins extra text numbers l kind page e long value small first sole = recor
 }
 
 -- the first page of all, of addresses of eight digits and of ten
-pub first_of_eight : IsPage 0 (record { word = 3472328296226627657; front = 8265; addr = 0; kind = Fetch })
+pub first_of_eight : IsPrefix 0 (record { word = 3472328296226627657; front = 8265; addr = 0; kind = Fetch })
 first_of_eight = record {
   head = codes "I  00000";
   page = 0;
@@ -125,7 +125,7 @@ first_of_eight = record {
   addr = refl;
 }
 
-pub first_of_ten : IsPage 2 (record { word = 3472328296227680288; front = 8265; addr = 0; kind = Fetch })
+pub first_of_ten : IsPrefix 2 (record { word = 3472328296227680288; front = 8265; addr = 0; kind = Fetch })
 first_of_ten = record {
   head = codes "I  0000000";
   page = 0;
@@ -145,7 +145,7 @@ sole_access letter.S kind addr size k m h = rw (h, k) refl
 sole_access letter.M kind addr size k m h = cc
 
 -- the line that a page and three digits give
-pub kept_line : (extra : ℕ) (text low_text size_text : List ℕ) (kept : Page) (at above size digits : ℕ) (is : IsPage extra kept) → extra ≤ 2 → 17 ≤ length text
+pub kept_line : (extra : ℕ) (text low_text size_text : List ℕ) (kept : Prefix) (at above size digits : ℕ) (is : IsPrefix extra kept) → extra ≤ 2 → 17 ≤ length text
     → All IsByte text → kept.word ≡ number_l 256 (take 8 (drop extra text)) → (extra ≡ 0) ⊎ (kept.front ≡ two_bytes text)
     → low_text ≡ drop (8 + extra) text → (at < 4096 → (v : ℕ) → hex_value v (take 3 low_text) ≡ Some (v * 4096 + at)) → slice_index text (11 + extra) ≡ 44
     → size_text ≡ drop (12 + extra) text → Some (size, digits) ≡ size_in size_text → size ≡ above + 1 → at + above < 4096 → size < 100 → digits ≤ 2
@@ -161,7 +161,7 @@ kept_line extra text low_text size_text kept at above size digits is few long by
     let l = b.letter in
     let whole : text ≡ usual_front l ++ numbers =
     sym (take-append-drop (8 + extra) text) ∙ ap (λ (xs : List ℕ). xs ++ rest) b.parts ∙ append_assoc (usual_front l) b.high rest in
-    let behind : (n : ℕ) → drop (3 + n) text ≡ drop n numbers =
+    let following : (n : ℕ) → drop (3 + n) text ≡ drop n numbers =
     λ n. ap (drop (3 + n)) whole ∙ ap (λ (k : ℕ). drop (k + n) (usual_front l ++ numbers)) (sym (front_length l)) ∙ drop-append-add (usual_front l) numbers n in
     let count : length b.high + 3 ≡ 8 + extra = omega (arith, b.many) in
     let first : take (8 + extra) numbers ≡ b.high ++ take 3 rest = ap (λ (k : ℕ). take k numbers) (sym count) ∙ take-append-add b.high rest 3 in
@@ -170,9 +170,9 @@ kept_line extra text low_text size_text kept at above size digits is few long by
     let size_numbers : length numbers ≡ length b.high + length rest = length-append b.high rest in
     let enough : 14 ≤ length numbers = omega (arith, size_numbers, b.many, long, length-drop (8 + extra) text) in
     let at_comma : get_or numbers (8 + extra) 0 ≡ 44 =
-    ap (λ (xs : List ℕ). get_or xs (8 + extra) 0) (sym (behind 0)) ∙ get_or-drop 3 text (8 + extra) 0 ∙ ap (λ (k : ℕ). get_or text k 0) (omega arith) ∙ comma in
+    ap (λ (xs : List ℕ). get_or xs (8 + extra) 0) (sym (following 0)) ∙ get_or-drop 3 text (8 + extra) 0 ∙ ap (λ (k : ℕ). get_or text k 0) (omega arith) ∙ comma in
     let address = comma_at numbers addr (8 + extra) value (omega (arith, size_numbers, b.many, long, length-drop (8 + extra) text)) (omega arith) (omega (arith, few)) at_comma in
-    let tail : size_text ≡ drop (8 + extra + 1) numbers = size_is ∙ ap (λ (k : ℕ). drop k text) (omega arith) ∙ behind (8 + extra + 1) in
+    let tail : size_text ≡ drop (8 + extra + 1) numbers = size_is ∙ ap (λ (k : ℕ). drop k text) (omega arith) ∙ following (8 + extra + 1) in
     let found = numbers_at numbers size_text addr (8 + extra) size above digits enough tail (omega (arith, few)) some little d
     (omega (arith, b.small, small)) address sizes newline in
     let as_text : IsFirstLine text (8 + extra + digits + 5) (Found l addr (above + 1)) =

@@ -69,13 +69,13 @@ pub skim_then : (n : ℕ) (text : List ℕ) (xs ys zs : List Access) (s t : Skim
     → Skims n text xs zs (skims_both s t)
 unfolding taken_both
 skim_then n text xs ys zs s t k m =
-    let behind : drop t.used (drop s.used text) ≡ drop (s.used + t.used) text = drop-drop t.used s.used text in record {
+    let following : drop t.used (drop s.used text) ≡ drop (s.used + t.used) text = drop-drop t.used s.used text in record {
       within = omega (arith, k.within, m.within, length-drop s.used text);
       of = taken_both xs ys zs s.taken t.taken k.of m.of;
       reads = λ last rest.
           k.reads last rest ∙ ap (with_records k.of.taken) (m.reads last rest)
           ∙ with_both k.of.taken m.of.taken (records t.lines (lines_by last (drop t.used (drop s.used text) ++ rest)))
-          ∙ ap (λ (bs : List ℕ). with_records (k.of.taken ++ m.of.taken) (records t.lines (lines_by last (bs ++ rest)))) behind;
+          ∙ ap (λ (bs : List ℕ). with_records (k.of.taken ++ m.of.taken) (records t.lines (lines_by last (bs ++ rest)))) following;
     }
 
 -- a reader that skims what it holds

@@ -24,7 +24,7 @@ pub record Gives (r : Record) (old new : State) : Type 0 where
 
 -- What is left stays, no line that ends is held, and there is room for more bytes: no more are held
 -- than before, and at most 258.
-pub record Waits (old new : State) : Type 0 where
+pub record StaysSame (old new : State) : Type 0 where
   pub reads : (last : Bool) (rest : List ℕ) → left_by last new rest ≡ left_by last old rest
   pub none : due new [] ≡ ([], None)
   pub unfinished : new.finished ≡ false
@@ -49,6 +49,6 @@ pub record Refuses (fault : Fault) (old new : State) : Type 0 where
 -- What each answer says.
 abbrev pub Answers : Next → State → State → Type 0
 Answers (Found r) old new = Gives (record_of r) old new
-Answers More old new = Waits old new
+Answers More old new = StaysSame old new
 Answers End old new = Ends old new
 Answers (BadLine n why) old new = Refuses (record { line = n; reason = why }) old new

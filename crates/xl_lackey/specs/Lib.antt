@@ -4,7 +4,7 @@ pub mod Digits
 pub mod Lanes
 pub mod Lines
 pub mod Nears
-pub mod Pages
+pub mod PrefixCache
 pub mod Scans
 pub mod Skims
 pub mod Stream

@@ -87,5 +87,5 @@ MayCome true s rest = s.finished ≡ true → rest ≡ []
 MayCome false s rest = s.finished ≡ false
 
 -- The input hasn't ended, no bad line was returned, and each whole line held is skipped.
-abbrev pub IsWaiting : State → Type 0
-IsWaiting s = (s.finished ≡ false) × (s.bad ≡ None) × ((first_due s.lines (ended_lines s.held)).1 ≡ Skipped)
+abbrev pub NeedsMore : State → Type 0
+NeedsMore s = (s.finished ≡ false) × (s.bad ≡ None) × ((first_due s.lines (ended_lines s.held)).1 ≡ Skipped)

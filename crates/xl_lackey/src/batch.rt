@@ -3,7 +3,7 @@
 ghost use Rattle.std.specs.Prelude.{◌≡◌, ◌==◌, ◌+◌, ◌-◌, ◌<◌, ◌≤◌, ◌++◌, ◌∷◌, [], length, slice_set};
 ghost use Rattle.xl_lackey.specs.Skims.{batch_size, IsSure, Runs};
 
-use crate::pages::Pages;
+use crate::prefixes::PrefixCache;
 use crate::skim::{Access, Run, skim_kept, skim_plain};
 use std::marker::Model;
 
@@ -90,14 +90,14 @@ impl Batch {
     /// Reads the first lines of a text, `most` at most, while their pages are kept, and appends
     /// their accesses.
     #[inline(always)]
-    pub(crate) fn skim_kept(&mut self, text: &[u8], most: u64, pages: &Pages) -> Run
+    pub(crate) fn skim_kept(&mut self, text: &[u8], most: u64, prefixes: &PrefixCache) -> Run
         requires { IsSure most (length text.now) self.old.items }
         ensures runs { Runs text.now self.old.items self.new.items result }
         ensures few { result.taken ≤ most }
         ensures sure { IsSure (most - result.taken) (length text.now - result.used) self.new.items }
     {
         let len = self.len;
-        let run = skim_kept(text, &mut self.slots, len, most, pages);
+        let run = skim_kept(text, &mut self.slots, len, most, prefixes);
         self.len = len + run.taken as usize;
         run
     }

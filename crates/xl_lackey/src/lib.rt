@@ -7,7 +7,7 @@ mod digits;
 mod fault;
 mod line;
 mod next;
-mod pages;
+mod prefixes;
 mod reader;
 mod reference;
 mod scan;

@@ -2,7 +2,7 @@
 
 ghost use Rattle.std.specs.Prelude.{◌≡◌, ◌≢◌, ◌↔◌, ℕ, ◌+◌, ◌-◌, ◌<◌, ◌≤◌, ◌++◌, [], List, Bool, true, false, length, take, drop, Option, Some, None, IfOk};
 ghost use Rattle.xl_lackey.specs.Lines.{parted};
-ghost use Rattle.xl_lackey.specs.Stream.{fresh, left, left_by, records_of, IsWaiting};
+ghost use Rattle.xl_lackey.specs.Stream.{fresh, left, left_by, records_of, NeedsMore};
 ghost use Rattle.xl_lackey.specs.Answers.{Answers};
 ghost use Rattle.xl_lackey.specs.Skims.{Skimmed};
 
@@ -10,7 +10,7 @@ use crate::batch::Batch;
 use crate::fault::Fault;
 use crate::line::{Verdict, judge};
 use crate::next::Next;
-use crate::pages::Pages;
+use crate::prefixes::PrefixCache;
 use crate::reference::Reference;
 use crate::scan::read_lines;
 use crate::skim::skim_lines;
@@ -23,7 +23,7 @@ use xl_model::NoMemory;
 const ROOM: usize = 65536;
 
 /// Bytes kept of an over-long line: the longest good one, a carriage return, and one more.
-const TELLING: usize = 258;
+const KEPT_BYTES: usize = 258;
 
 /// A reader of a trace, which is fed the trace's bytes in pieces.
 #[derive(Drop)]
@@ -34,7 +34,7 @@ pub struct Reader {
     lines: u64,
     finished: bool,
     bad: Option<Fault>,
-    pages: Pages,
+    prefixes: PrefixCache,
 }
 
 impl Model for Reader {
@@ -70,7 +70,7 @@ impl Reader {
             lines: 0,
             finished: false,
             bad: None,
-            pages: Pages::new(),
+            prefixes: PrefixCache::new(),
         })
     }
 
@@ -91,7 +91,7 @@ impl Reader {
     {
         let held = self.end - self.start;
         shift(self.buf.as_mut_slice(), self.start, self.end);
-        put_behind(self.buf.as_mut_slice(), held, piece);
+        put_following(self.buf.as_mut_slice(), held, piece);
         self.start = 0;
         self.end = held + piece.len();
     }
@@ -112,7 +112,7 @@ impl Reader {
         ensures size { length piece.new.items ≡ 65536 }
     {
         let held = self.end - self.start;
-        put_behind(piece.as_mut_slice(), 0, self.held());
+        put_following(piece.as_mut_slice(), 0, self.held());
         swap(&mut self.buf, piece);
         self.start = 0;
         self.end = held + count;
@@ -129,7 +129,7 @@ impl Reader {
     /// The next record, or why there is none now.
     pub fn next(&mut self) -> Next
         ensures answers { Answers result self.old self.new }
-        ensures more { (result ≡ Next.More) ↔ IsWaiting self.old }
+        ensures more { (result ≡ Next.More) ↔ NeedsMore self.old }
     {
         if let Some(fault) = self.bad_line() {
             return Next::BadLine {
@@ -163,7 +163,7 @@ impl Reader {
             return 0;
         };
         let text = &self.buf.as_slice()[self.start..self.end];
-        let skim = skim_lines(text, self.lines, into, most, &mut self.pages);
+        let skim = skim_lines(text, self.lines, into, most, &mut self.prefixes);
         self.pass(skim.used, skim.lines);
         skim.taken
     }
@@ -178,7 +178,7 @@ impl Reader {
         if self.is_finished() {
             self.last_line()
         } else {
-            self.keep_telling();
+            self.truncate();
             Next::More
         }
     }
@@ -245,10 +245,10 @@ impl Reader {
     }
 
     /// Truncates an over-long line to what judging it needs.
-    fn keep_telling(&mut self)
+    fn truncate(&mut self)
         ensures { self.new ≡ record self.old { held = take 258 self.old.held } }
     {
-        self.end = self.end.min(self.start + TELLING);
+        self.end = self.end.min(self.start + KEPT_BYTES);
     }
 
     fn refuse(&mut self, line: u64, reason: u8) -> Next
@@ -271,7 +271,7 @@ fn shift(buf: &mut [u8], start: usize, end: usize)
 }
 
 /// Writes bytes after the first `held`, over those that were there.
-fn put_behind(buf: &mut [u8], held: usize, bytes: &[u8])
+fn put_following(buf: &mut [u8], held: usize, bytes: &[u8])
     requires { held + length bytes.now ≤ length buf.old }
     ensures { buf.new ≡ take held buf.old ++ bytes.now ++ drop (held + length bytes.now) buf.old }
 {

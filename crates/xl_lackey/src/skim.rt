@@ -4,7 +4,7 @@ ghost use Rattle.std.specs.Prelude.{◌≡◌, ◌+◌, ◌-◌, ◌^◌, ◌<�
 ghost use Rattle.xl_lackey.specs.Skims.{batch_size, read_of, accesses_near, skims_both, HasRoom, IsRecordLine, IsSure, Runs, Skims};
 
 use crate::batch::{Batch, ROOM, put};
-use crate::pages::Pages;
+use crate::prefixes::PrefixCache;
 use crate::usual::{NEAR, front_of, near_numbers};
 use xl_model::Kind;
 
@@ -135,7 +135,7 @@ pub(crate) fn skim_kept(
     slots: &mut [Access],
     len: usize,
     most: u64,
-    pages: &Pages,
+    prefixes: &PrefixCache,
 ) -> Run
     requires places { length slots.old ≡ batch_size }
     requires len { len ≤ batch_size }
@@ -149,7 +149,7 @@ pub(crate) fn skim_kept(
     let mut used = 0;
     let mut taken = 0;
     'kept: while taken < most {
-        let Some((count, access)) = pages.record(&text[used..]) else {
+        let Some((count, access)) = prefixes.record(&text[used..]) else {
             break;
         };
         put(slots, len + taken as usize, access);
@@ -222,12 +222,12 @@ fn plain_lines(kept: u64, most: u64) -> u64
 /// Reads the first lines of a text, `most` at most: those whose pages are kept, and some after
 /// them. The page of the first of these is kept from then on.
 #[inline(always)]
-fn skim_some(text: &[u8], before: u64, into: &mut Batch, most: u64, pages: &mut Pages) -> Skim
+fn skim_some(text: &[u8], before: u64, into: &mut Batch, most: u64, prefixes: &mut PrefixCache) -> Skim
     ensures skims { Skims before text.now into.old.items into.new.items result }
     ensures few { result.taken ≤ most }
 {
     let sure = sure_records(text.len(), into, most);
-    let run = into.skim_kept(text, sure, pages);
+    let run = into.skim_kept(text, sure, prefixes);
     let kept = Skim {
         used: run.used,
         lines: before.wrapping_add(run.taken),
@@ -237,7 +237,7 @@ fn skim_some(text: &[u8], before: u64, into: &mut Batch, most: u64, pages: &mut 
         return kept;
     }
     let rest = &text[kept.used..];
-    pages.keep(rest);
+    prefixes.keep(rest);
     let new = into.skim_plain(rest, plain_lines(run.taken, most));
     kept.then(Skim {
         used: new.used,
@@ -254,7 +254,7 @@ pub(crate) fn skim_lines(
     before: u64,
     into: &mut Batch,
     most: u64,
-    pages: &mut Pages,
+    prefixes: &mut PrefixCache,
 ) -> Skim
     ensures skims { Skims before text.now into.old.items into.new.items result }
     ensures few { result.taken ≤ most }
@@ -270,7 +270,7 @@ pub(crate) fn skim_lines(
             skim.lines,
             into,
             most - skim.taken,
-            pages,
+            prefixes,
         );
         skim = skim.then(more);
         if more.taken == 0 {

@@ -114,35 +114,35 @@ fn other_numbers(text: &[u8], eight: u64) -> Option<Numbers>
 /// How a line begins: its first three bytes, of which the first counts least, the letter among
 /// them, the kind of its first access, and whether it is a modify, so that a store follows.
 #[derive(Clone, Copy)]
-pub(crate) struct Front {
+pub(crate) struct LinePrefix {
     three: u32,
     letter: Letter,
     pub(crate) kind: Kind,
     pub(crate) is_modify: bool,
 }
 
-const FETCH: Front = Front {
+const FETCH: LinePrefix = LinePrefix {
     three: b'I' as u32 + b' ' as u32 * 256 + b' ' as u32 * 65536,
     letter: Letter::I,
     kind: Kind::Fetch,
     is_modify: false,
 };
 
-const LOAD: Front = Front {
+const LOAD: LinePrefix = LinePrefix {
     three: b' ' as u32 + b'L' as u32 * 256 + b' ' as u32 * 65536,
     letter: Letter::L,
     kind: Kind::Load,
     is_modify: false,
 };
 
-const STORE: Front = Front {
+const STORE: LinePrefix = LinePrefix {
     three: b' ' as u32 + b'S' as u32 * 256 + b' ' as u32 * 65536,
     letter: Letter::S,
     kind: Kind::Store,
     is_modify: false,
 };
 
-const MODIFY: Front = Front {
+const MODIFY: LinePrefix = LinePrefix {
     three: b' ' as u32 + b'M' as u32 * 256 + b' ' as u32 * 65536,
     letter: Letter::M,
     kind: Kind::Load,
@@ -150,11 +150,11 @@ const MODIFY: Front = Front {
 };
 
 /// Prefix table by letter mod 8 (branch-free); unused slots hold FETCH.
-const FRONTS: [Front; 8] = [FETCH, FETCH, FETCH, STORE, LOAD, MODIFY, FETCH, FETCH];
+const FRONTS: [LinePrefix; 8] = [FETCH, FETCH, FETCH, STORE, LOAD, MODIFY, FETCH, FETCH];
 
 /// The letter of a record with the blanks around it, as Lackey writes them, and what follows them.
 #[inline(always)]
-pub(crate) fn front_of(text: &[u8]) -> Option<(&'static Front, &[u8])>
+pub(crate) fn front_of(text: &[u8]) -> Option<(&'static LinePrefix, &[u8])>
     requires { 4 ≤ length text.now }
     ensures front { IfSome result (λ r. text.entry.now ≡ usual_front r.0.now.letter ++ r.1.now) }
     ensures kind { IfSome result (λ r. r.0.now.kind ≡ first_kind r.0.now.letter) }

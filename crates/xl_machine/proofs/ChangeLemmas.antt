@@ -1,6 +1,6 @@
 -- A change of a mapping that no rule refuses: what a machine keeps and its state after, by the
 -- table's answer.
-use Rattle.xl_machine.proofs.Common.{◌+◌, ◌-◌, ◌∙◌, ◌≡◌, after_by, after_event, after_of, answer_by, ap, arith, arrays_after, ArraysFresh, Bool, Change, change_of, changed, changed-fresh, changed_by, count_accepted, count_invalidated, count_refusal, count_work, Counts, counts_of, counts_refused, done, done_counts, Err, Event, IsPoolOf, IsRowFor, IsServed, IsSound, kept-sound, Kind, Leaf, leaves_in, length, List, Made, None, NoPlace, NoSpace, Ok, old_leaf, outcome_by, outcome_of, refl, refusal_of, Refused, Row, RowState, rule, Scope, Served, served, Some, sound-of, state_of, sym, table_after, table_answer, table_made, TableState, TlbArray, TlbState, Verdict, verdict, Work, ℕ}
+use Rattle.xl_machine.proofs.Common.{◌+◌, ◌-◌, ◌∙◌, ◌≡◌, after_by, after_event, after_of, answer_by, ap, arith, arrays_after, ArraysFresh, Bool, Change, change_of, changed, changed-fresh, changed_by, count_accepted, count_invalidated, count_refusal, count_work, Counts, counts_of, counts_refused, done, done_counts, Err, Event, IsPoolOf, IsRowFor, IsServed, IsSound, kept-sound, Kind, Leaf, leaf_count, length, List, Made, None, NoPlace, NoSpace, Ok, old_leaf, outcome_by, outcome_of, refl, refusal_of, Refused, Row, RowState, rule, Scope, Served, served, Some, sound-of, state_of, sym, table_after, table_answer, table_made, TableState, TlbArray, TlbState, Verdict, verdict, Work, ℕ}
 use Rattle.xl_model.specs.declared.work.NoRoom.{NoRoom}
 use Rattle.xl_model_lemmas.proofs.LimitLemmas.{limits-changed, loads-changed}
 use Rattle.xl_model.specs.declared.event.Event.TheVariants as event
@@ -108,19 +108,19 @@ module _ (row : Row) (e : Event) (c : Change) (table : TableState) (ruled : rule
     abbrev purged : List TlbArray
     purged = arrays_after row.purge (old_leaf c table.leaves) tlb.arrays
 
-    done-by : (work : Work) (left : ℕ) → left + leaves_in purged ≡ leaves_in tlb.arrays
+    done-by : (work : Work) (left : ℕ) → left + leaf_count purged ≡ leaf_count tlb.arrays
         → changed_by (Ok work) row c (state_of (length row.tlb) table current tlb counts) ≡ state_of (length row.tlb) (table_after c table) current (record tlb { arrays = purged }) (done_counts work left counts)
     unfolding count_accepted count_invalidated count_work
     done-by work left e =
-        let n : leaves_in tlb.arrays - leaves_in purged ≡ left = omega (arith, e) in
+        let n : leaf_count tlb.arrays - leaf_count purged ≡ left = omega (arith, e) in
         let loads : (table_after c table).loads ≡ table.loads = loads-changed c table in
         rw (n, loads) refl
 
     pub done-state : (work : Work) (left : ℕ) (new : TableState) (next : TlbState) → Ok work ≡ table_answer c table → new ≡ table_after c table → next ≡ record tlb { arrays = purged }
-        → left + leaves_in next.arrays ≡ leaves_in tlb.arrays
+        → left + leaf_count next.arrays ≡ leaf_count tlb.arrays
         → served row new current next (done_counts work left counts) ≡ after_of e (served row table current tlb counts)
     done-state work left new next a n p m =
-        let k : left + leaves_in purged ≡ leaves_in tlb.arrays = rw p at m in
+        let k : left + leaf_count purged ≡ leaf_count tlb.arrays = rw p at m in
         rw (n, p) (ap (λ (s : RowState). let v : Served = record { row = row; state = s } in v) (sym (event-is row e c (state_of (length row.tlb) table current tlb counts) ruled is ∙ rw (← a) (done-by work left k))))
 
     pub done-answer : (work : Work) → Ok work ≡ table_answer c table → outcome.Done ≡ outcome_of row e (state_of (length row.tlb) table current tlb counts)

@@ -21,7 +21,7 @@ pub use Rattle.xl_model.specs.Structures.{after_by, answer_by, fence_answer, IsB
 unfoldable pub use Rattle.xl_model.specs.Structures.{table_after, table_answer, table_fenced, table_made, table_walked, walk_answer}
 pub use Rattle.xl_model.specs.Tally.{IsSmall}
 unfoldable pub use Rattle.xl_model.specs.Tally.{count_accepted, count_fence, count_fills, count_invalidated, count_look, count_refusal, count_reply, count_walk, count_work, no_counts}
-pub use Rattle.xl_model.specs.Tlb.{Answer, answer_of, arrays_without, asked, covers_as, first_found, found_as, leaves_in, reaches_leaf, serves_kind, set_at, takes_order, TlbArray}
+pub use Rattle.xl_model.specs.Tlb.{Answer, answer_of, arrays_without, asked, covers_as, first_found, found_as, leaf_count, reaches_leaf, serves_kind, set_at, takes_order, TlbArray}
 unfoldable pub use Rattle.xl_model.specs.Tlb.{array_hit}
 pub use Rattle.xl_model.specs.declared.address.Kind.{Kind}
 pub use Rattle.xl_model.specs.declared.address.Mode.{Mode}
@@ -47,7 +47,7 @@ pub use Rattle.xl_model_lemmas.specs.Mappings.{IsLeafOf, IsMapping, IsNewLeaf, I
 pub use Rattle.xl_model_lemmas.specs.Members.{In}
 pub use Rattle.xl_model_lemmas.specs.Pools.{IsPoolOf}
 pub use Rattle.xl_tlb.specs.Arrays.{InLimits, IsFit}
-pub use Rattle.xl_tlb.specs.Tlbs.{AreSpecs, IsRising, IsSpec, leaf_told, looked_arrays, NoneBelow, TlbState}
+pub use Rattle.xl_tlb.specs.Tlbs.{AreSpecs, IsRising, IsSpec, leaf_replied, looked_arrays, NoneBelow, TlbState}
 unfoldable pub use Rattle.xl_tlb.specs.Tlbs.{tlb_fenced, tlb_filled, tlb_looked, tlb_opening, tlb_purged}
 pub use Rattle.xl_machine.specs.Rules.{rule_of, there_of}
 pub use Rattle.xl_machine.specs.Served.{accessed_by, after_of, counts_of, done_counts, fence_counts, HasPage, IsFound, IsReply, IsRowFor, IsSameAccess, IsSameWalked, IsServed, opened, refused_by, served, state_of, walked_by}

@@ -1,5 +1,5 @@
 -- A fence of a machine, and a change of its space.
-use Rattle.xl_machine.proofs.Common.{◌+◌, ◌-◌, ◌<◌, ◌∙◌, ◌≡◌, after_event, after_of, ap, arith, arrays_without, Bool, count_accepted, count_fence, count_invalidated, Counts, done, fence_answer, fence_counts, fence_rule, fenced, InLimits, IsRowFor, IsServed, leaves_in, length, List, nat_lt, nat_tests, None, or-first, page_of, reach_of, reaches_leaf, refl, Row, RowState, rule, rule_of, Scope, Served, served, state_of, subst, sym, table_fenced, TableState, tlb_fenced, TlbState, true, unless-true, without-fresh, ℕ}
+use Rattle.xl_machine.proofs.Common.{◌+◌, ◌-◌, ◌<◌, ◌∙◌, ◌≡◌, after_event, after_of, ap, arith, arrays_without, Bool, count_accepted, count_fence, count_invalidated, Counts, done, fence_answer, fence_counts, fence_rule, fenced, InLimits, IsRowFor, IsServed, leaf_count, length, List, nat_lt, nat_tests, None, or-first, page_of, reach_of, reaches_leaf, refl, Row, RowState, rule, rule_of, Scope, Served, served, state_of, subst, sym, table_fenced, TableState, tlb_fenced, TlbState, true, unless-true, without-fresh, ℕ}
 use Rattle.xl_model.specs.declared.event.Reach.{Reach}
 use Rattle.xl_machine.proofs.Accesses.{page_small}
 use Rattle.xl_model.specs.declared.event.Event.TheVariants as event
@@ -57,11 +57,11 @@ pub fenced-kept : (row : Row) (table new : TableState) (space : ℕ) (tlb next :
     → new ≡ table_fenced to table → next ≡ tlb_fenced to tlb → IsServed row new space next pool
 fenced-kept row table new space tlb next pool to kept n t = rw (n, t) (kept-by row table space tlb pool to kept)
 
-state-by : {n : ℕ} (table : TableState) (space : ℕ) (tlb : TlbState) (counts : Counts) (to : Reach) (left : ℕ) → left + leaves_in (tlb_fenced to tlb).arrays ≡ leaves_in tlb.arrays
+state-by : {n : ℕ} (table : TableState) (space : ℕ) (tlb : TlbState) (counts : Counts) (to : Reach) (left : ℕ) → left + leaf_count (tlb_fenced to tlb).arrays ≡ leaf_count tlb.arrays
     → fenced to (state_of n table space tlb counts) ≡ state_of n (table_fenced to table) space (tlb_fenced to tlb) (fence_counts (fence_answer to table) left counts)
 unfolding fenced table_fenced tlb_fenced count_accepted count_fence count_invalidated
 state-by table space tlb counts to left e =
-    let n : leaves_in tlb.arrays - leaves_in (arrays_without (reaches_leaf to) tlb.arrays) ≡ left = omega (arith, e) in
+    let n : leaf_count tlb.arrays - leaf_count (arrays_without (reaches_leaf to) tlb.arrays) ≡ left = omega (arith, e) in
     rw n refl
 
 event-is : (row : Row) (s : Scope) (state : RowState) → rule row state.table.leaves (event.Fence s) ≡ None → after_event row (event.Fence s) state ≡ fenced (reach_of row s) state
@@ -70,9 +70,9 @@ event-is row s state ruled = rw ruled refl
 
 pub fenced-is : (row : Row) (table new : TableState) (space : ℕ) (tlb next : TlbState) (counts : Counts) (s : Scope) (entries left : ℕ)
     → rule_of (event.Fence s) (served row table space tlb counts) ≡ None → entries ≡ fence_answer (reach_of row s) table → new ≡ table_fenced (reach_of row s) table
-    → next ≡ tlb_fenced (reach_of row s) tlb → left + leaves_in next.arrays ≡ leaves_in tlb.arrays
+    → next ≡ tlb_fenced (reach_of row s) tlb → left + leaf_count next.arrays ≡ leaf_count tlb.arrays
     → served row new space next (fence_counts entries left counts) ≡ after_of (event.Fence s) (served row table space tlb counts)
 fenced-is row table new space tlb next counts s entries left ruled e n t l =
-    let k : left + leaves_in (tlb_fenced (reach_of row s) tlb).arrays ≡ leaves_in tlb.arrays = rw t at l in
+    let k : left + leaf_count (tlb_fenced (reach_of row s) tlb).arrays ≡ leaf_count tlb.arrays = rw t at l in
     rw (e, n, t) (ap (λ (x : RowState). let v : Served = record { row = row; state = x } in v)
     (sym (event-is row s (state_of (length row.tlb) table space tlb counts) ruled ∙ state-by table space tlb counts (reach_of row s) left k)))

@@ -1,6 +1,6 @@
 -- A command that changes the leaf that it names: what is known of it, and the state after it by the
 -- table's answer.
-use Rattle.xl_machine.proofs.Common.{◌+◌, ◌∙◌, ◌≡◌, after_of, ap, arrays_after, Bool, Change, change_of, changed, Counts, counts_refused, done_counts, Err, Event, IsChange, IsFit, IsLeafOf, IsPoolOf, IsServed, Leaf, leaf_at_page, leaves_in, length, List, None, Ok, old_leaf, Order, outcome_of, page_of, Perm, Protect, Refusal, refusal_of, Refused, Relocate, Remove, Row, rule, served, Some, state_of, TableState, tlb_purged, TlbState, Work, ℕ}
+use Rattle.xl_machine.proofs.Common.{◌+◌, ◌∙◌, ◌≡◌, after_of, ap, arrays_after, Bool, Change, change_of, changed, Counts, counts_refused, done_counts, Err, Event, IsChange, IsFit, IsLeafOf, IsPoolOf, IsServed, Leaf, leaf_at_page, leaf_count, length, List, None, Ok, old_leaf, Order, outcome_of, page_of, Perm, Protect, Refusal, refusal_of, Refused, Relocate, Remove, Row, rule, served, Some, state_of, TableState, tlb_purged, TlbState, Work, ℕ}
 use Rattle.xl_machine.proofs.Accesses.{leaf_fit}
 use Rattle.xl_machine.proofs.ChangeLemmas.{done-answer, done-kept, done-state, refused-answer, refused-kept, refused-state}
 use Rattle.xl_machine.proofs.CommandLemmas.{move-is, old-named, old-valid, protect-is, purged-is, there-move, there-protect, there-unmap, unmap-is}
@@ -57,7 +57,7 @@ module _ {row : Row} {table : TableState} {e : Event} {c : Change} {old : Leaf} 
     pub made-answer : {work : Work} {new : TableState} → IsChange c table (Ok work) new → outcome.Done ≡ outcome_of row e (state_of (length row.tlb) table current tlb counts)
     made-answer {work} changes = done-answer row e c table known.ruled known.is current tlb counts work changes.answer
 
-    pub made-state : {work : Work} {new : TableState} {next : TlbState} (left : ℕ) → IsChange c table (Ok work) new → next ≡ tlb_purged row.purge old tlb → left + leaves_in next.arrays ≡ leaves_in tlb.arrays
+    pub made-state : {work : Work} {new : TableState} {next : TlbState} (left : ℕ) → IsChange c table (Ok work) new → next ≡ tlb_purged row.purge old tlb → left + leaf_count next.arrays ≡ leaf_count tlb.arrays
         → served row new current next (done_counts work left counts) ≡ after_of e (served row table current tlb counts)
     made-state {work} {new} {next} left changes n m =
         done-state row e c table known.ruled known.is current tlb counts work left new next changes.answer changes.after (purged tlb next n) m

@@ -59,7 +59,7 @@ is-error (Err d) e h = ap Err h
 -- an answer of a place by a row is that by the machine of the row
 pub place-of : (row : Row) (v : Served) (space : ℕ) (o : Order) (addresses : List ℕ) (p q : Option Refusal) → row ≡ v.row → p ≡ place_rule row space o addresses → p ≡ q
     → place_rule v.row space o addresses ≡ q
-place-of row v space o addresses p q e is told = let R : Row → Type 0 = λ r. place_rule r space o addresses ≡ q in subst R e (rw (← is) told)
+place-of row v space o addresses p q e is replied = let R : Row → Type 0 = λ r. place_rule r space o addresses ≡ q in subst R e (rw (← is) replied)
 
 module _ (v : Served) (space : ℕ) (o : Order) where
   -- a map

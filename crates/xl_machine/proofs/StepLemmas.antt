@@ -23,13 +23,13 @@ pub protect-rule : (v : Served) (space va : ℕ) (o : Order) (perm : Perm) → r
 unfolding rule
 protect-rule v space va o perm = refl
 
-pub space-rule : (row : Row) (v : Served) (space : ℕ) (told : Option Refusal) → row ≡ v.row → told ≡ unless (nat_lt space row.spaces) refused.BadSpace → rule_of (event.Space space) v ≡ told
+pub space-rule : (row : Row) (v : Served) (space : ℕ) (replied : Option Refusal) → row ≡ v.row → replied ≡ unless (nat_lt space row.spaces) refused.BadSpace → rule_of (event.Space space) v ≡ replied
 unfolding rule
-space-rule row v space told e is = let P : Row → Type 0 = λ r. unless (nat_lt space r.spaces) refused.BadSpace ≡ told in subst P e (sym is)
+space-rule row v space replied e is = let P : Row → Type 0 = λ r. unless (nat_lt space r.spaces) refused.BadSpace ≡ replied in subst P e (sym is)
 
-pub fence-rule : (row : Row) (v : Served) (s : Scope) (told : Option Refusal) → row ≡ v.row → told ≡ fence_rule row s → rule_of (event.Fence s) v ≡ told
+pub fence-rule : (row : Row) (v : Served) (s : Scope) (replied : Option Refusal) → row ≡ v.row → replied ≡ fence_rule row s → rule_of (event.Fence s) v ≡ replied
 unfolding rule
-fence-rule row v s told e is = let P : Row → Type 0 = λ r. fence_rule r s ≡ told in subst P e (sym is)
+fence-rule row v s replied e is = let P : Row → Type 0 = λ r. fence_rule r s ≡ replied in subst P e (sym is)
 
 -- an event that none refuses
 pub access-outcome : (va : ℕ) (kind : Kind) (v : Served) → outcome.Replied (reply_to v.row v.state va kind) ≡ outcome_of v.row (event.Access va kind) v.state

@@ -12,8 +12,8 @@ abbrev pub is_free_block : ℕ → ℕ → List Leaf → ℕ → Bool
 is_free_block frames size leaves at = nat_le (at + size) frames && not (list_any (holds_frames at size) leaves)
 
 -- the first multiple of the size that isn't before the leaf's end
-abbrev pub behind : ℕ → Leaf → ℕ
-behind size leaf = (leaf.frame + pages_of leaf.order + (size - 1)) / size * size
+abbrev pub following : ℕ → Leaf → ℕ
+following size leaf = (leaf.frame + pages_of leaf.order + (size - 1)) / size * size
 
 -- The lesser of a number and another, if there is another.
 abbrev pub lesser : ℕ → Option ℕ → Option ℕ
@@ -28,4 +28,4 @@ least (x ∷ xs) = lesser x (least xs)
 -- The lowest free block of frames for a leaf of this order; none where no block is free.
 unfoldable pub lowest : ℕ → Order → List Leaf → Option ℕ
 lowest frames order leaves =
-    least (filter (is_free_block frames (pages_of order) leaves) (0 ∷ map (behind (pages_of order)) leaves))
+    least (filter (is_free_block frames (pages_of order) leaves) (0 ∷ map (following (pages_of order)) leaves))

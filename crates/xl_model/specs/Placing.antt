@@ -31,7 +31,7 @@ next_way count at = (at + 1) % count
 
 -- An attempt succeeds, with what it displaced, or fails.
 pub data Attempt : Type 0 where
-  Stands : (ways : List WayShape) → (moved : List Displaced) → Attempt
+  Succeeds : (ways : List WayShape) → (moved : List Displaced) → Attempt
   Fails : Attempt
 
 -- What follows where the slot is empty, and where an entry is in it.
@@ -43,9 +43,9 @@ by_occupant (Some e) free taken = taken e
 -- displaced entry goes to the next way, while displacements are left; then the attempt fails.
 unfoldable pub attempt : ℕ → List WayShape → ℕ → Entry → List Displaced → Attempt
 attempt zero ways at hand moved =
-    by_occupant (occupant (way_at ways at) hand.key) (Stands (put_in ways at hand) moved) (λ e. Fails)
+    by_occupant (occupant (way_at ways at) hand.key) (Succeeds (put_in ways at hand) moved) (λ e. Fails)
 attempt (suc left) ways at hand moved =
-    by_occupant (occupant (way_at ways at) hand.key) (Stands (put_in ways at hand) moved)
+    by_occupant (occupant (way_at ways at) hand.key) (Succeeds (put_in ways at hand) moved)
     (λ e. attempt left (put_in ways at hand) (next_way (length ways) at) e
     (moved ++ record { key = e.key; way = next_way (length ways) at } ∷ []))
 
@@ -97,7 +97,7 @@ pub data Placing : Type 0 where
 
 -- The kicks of a failed attempt count as kicks and as undone; the ways are as before it.
 abbrev pub after_attempt : Attempt → ℕ → Moves → (Moves → Placing) → Placing
-after_attempt (Stands ways moved) limit m failed = Placed ways moved (record m { kicks = plus m.kicks (length moved) })
+after_attempt (Succeeds ways moved) limit m failed = Placed ways moved (record m { kicks = plus m.kicks (length moved) })
 after_attempt Fails limit m failed = failed (record m { kicks = plus m.kicks limit; undone = plus m.undone limit })
 
 -- What follows where a way may grow, and where none may.

@@ -6,7 +6,7 @@ use Rattle.xl_model.specs.Rows.{Row}
 use Rattle.xl_model.specs.Shapes.{Shape, Radix, Chained, Cuckoo, Runs}
 use Rattle.xl_model.specs.Image.{Word, image}
 use Rattle.xl_model.specs.Lines.{row_line, image_line}
-use Rattle.xl_model.specs.Scenes.{Served, Scene, Live, lives_after, opening_scene, untold}
+use Rattle.xl_model.specs.Scenes.{Served, Scene, Live, lives_after, opening_scene, unprinted}
 
 -- What a report is asked for beside the rows: a line for each access and command, and the words of
 -- each radix table.
@@ -48,8 +48,8 @@ tail flags s = row_lines s.rows ++ images_where flags.images s.rows
 
 -- The lines so far, and the end of the report after them.
 abbrev pub reported : Flags → Live → List ℕ
-reported flags l = l.told ++ tail flags l.scene
+reported flags l = l.printed ++ tail flags l.scene
 
 -- The report of some rows over some items.
 unfoldable pub report : Flags → List Row → List Item → List ℕ
-report flags rows items = reported flags (lives_after flags.answers items (untold (opening_scene rows)))
+report flags rows items = reported flags (lives_after flags.answers items (unprinted (opening_scene rows)))

@@ -28,7 +28,7 @@ use Rattle.xl_model.specs.Shapes.{opening_shape}
 use Rattle.xl_model.specs.Caches.{opening_caches}
 use Rattle.xl_model.specs.Walks.{walked}
 use Rattle.xl_model.specs.Structures.{TableState, table_answer, table_after, table_walked, fence_answer, table_fenced}
-use Rattle.xl_model.specs.Tlb.{TlbArray, Answer, answer_of, arrays_hit, fills_array, arrays_filled, takes_leaf, is_purged, reaches_leaf, arrays_without, leaves_in, opening_arrays}
+use Rattle.xl_model.specs.Tlb.{TlbArray, Answer, answer_of, arrays_hit, fills_array, arrays_filled, takes_leaf, is_purged, reaches_leaf, arrays_without, leaf_count, opening_arrays}
 use Rattle.xl_model.specs.Tally.{no_counts, count_refusal, count_reply, count_walk, count_fills, count_look, count_work, count_accepted, count_invalidated, count_fence}
 
 -- The state of a row: its table, the current space, its TLB arrays and its counts.
@@ -123,7 +123,7 @@ abbrev pub changed_by : Result Work Refused → Row → Change → RowState → 
 changed_by (Ok work) row c s = record s {
   table = table_after c s.table;
   arrays = purged_at row c s;
-  counts = count_accepted (count_invalidated (leaves_in s.arrays - leaves_in (purged_at row c s)) (count_work work s.counts));
+  counts = count_accepted (count_invalidated (leaf_count s.arrays - leaf_count (purged_at row c s)) (count_work work s.counts));
 }
 changed_by (Err r) row c s = record s {
   table = table_after c s.table;
@@ -158,7 +158,7 @@ fenced to s = record s {
   table = table_fenced to s.table;
   arrays = arrays_without (reaches_leaf to) s.arrays;
   counts = count_fence (count_accepted (count_invalidated
-      (leaves_in s.arrays - leaves_in (arrays_without (reaches_leaf to) s.arrays))
+      (leaf_count s.arrays - leaf_count (arrays_without (reaches_leaf to) s.arrays))
       (count_invalidated (fence_answer to s.table) s.counts)));
 }
 

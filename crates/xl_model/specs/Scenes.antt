@@ -79,12 +79,12 @@ lines_where false item s = []
 -- The scene, and the text so far.
 pub record Live : Type 0 where
   pub scene : Scene
-  pub told : List ℕ
+  pub printed : List ℕ
 
 -- One step: an item is served, and its lines are written where they are asked for.
 abbrev pub live_after : Bool → Item → Live → Live
 live_after answers item l =
-    record { scene = scene_after item l.scene; told = l.told ++ lines_where answers item l.scene }
+    record { scene = scene_after item l.scene; printed = l.printed ++ lines_where answers item l.scene }
 
 -- Some items are served, one after another.
 abbrev pub lives_after : Bool → List Item → Live → Live
@@ -101,13 +101,13 @@ abbrev pub opening_scene : List Row → Scene
 opening_scene rows = record { rows = opened rows; areas = [] }
 
 -- A scene before any line.
-abbrev pub untold : Scene → Live
-untold s = record { scene = s; told = [] }
+abbrev pub unprinted : Scene → Live
+unprinted s = record { scene = s; printed = [] }
 
 -- The text of some items from a scene on.
-abbrev pub told_by : Bool → List Item → Scene → List ℕ
-told_by answers items s = (lives_after answers items (untold s)).told
+abbrev pub printed_by : Bool → List Item → Scene → List ℕ
+printed_by answers items s = (lives_after answers items (unprinted s)).printed
 
 -- The scene after some items.
 abbrev pub scenes_after : List Item → Scene → Scene
-scenes_after items s = (lives_after false items (untold s)).scene
+scenes_after items s = (lives_after false items (unprinted s)).scene

@@ -135,13 +135,13 @@ pub record IsWalk (space page : ℕ) (old : TableState) (result : Walk) (new : T
   pub after : new ≡ table_walked space page old
 
 -- The walk of a page by the result of a quick walk.
-abbrev pub walk_told : ℕ → ℕ → QuickWalk → Walk
-walk_told space page (quick.Small word cache_hits) = record { leaf = Some (small_leaf space page word); cache_hits = cache_hits }
-walk_told space page (quick.Any walk) = walk
+abbrev pub walk_of_quick : ℕ → ℕ → QuickWalk → Walk
+walk_of_quick space page (quick.Small word cache_hits) = record { leaf = Some (small_leaf space page word); cache_hits = cache_hits }
+walk_of_quick space page (quick.Any walk) = walk
 
 -- The same, where a leaf of 4 KiB may be returned as its word.
 abbrev pub IsQuickWalk : ℕ → ℕ → TableState → QuickWalk → TableState → Type 0
-IsQuickWalk space page old result new = IsWalk space page old (walk_told space page result) new
+IsQuickWalk space page old result new = IsWalk space page old (walk_of_quick space page result) new
 
 -- A walk as the definitions have it, which began at a node that a cache held, or else at the root,
 -- and found a leaf of 4 KiB that has this word and allows an access of this kind.

@@ -188,9 +188,9 @@ leaves_in_sets [] = 0
 leaves_in_sets (s ∷ sets) = length s + leaves_in_sets sets
 
 -- how many leaves the arrays hold
-unfoldable pub leaves_in : List TlbArray → ℕ
-leaves_in [] = 0
-leaves_in (a ∷ arrays) = leaves_in_sets a.sets + leaves_in arrays
+unfoldable pub leaf_count : List TlbArray → ℕ
+leaf_count [] = 0
+leaf_count (a ∷ arrays) = leaves_in_sets a.sets + leaf_count arrays
 
 -- An array whose sets are empty.
 abbrev pub opening_array : TlbSpec → TlbArray

@@ -2,7 +2,7 @@
 
 ghost use Rattle.std.specs.Prelude.{◌≡◌};
 ghost use Rattle.xl_model.specs.Placing.{no_moves};
-ghost use Rattle.xl_model.specs.Structures.{walk_told, work_of};
+ghost use Rattle.xl_model.specs.Structures.{walk_of_quick, work_of};
 
 use crate::leaf::Leaf;
 use std::alloc::AllocError;
@@ -86,7 +86,7 @@ impl QuickWalk {
     /// The walk of the page in this result.
     #[inline(always)]
     pub fn whole(self, space: u16, page: u64) -> Walk
-        ensures { result ≡ walk_told space page self }
+        ensures { result ≡ walk_of_quick space page self }
     {
         match self {
             QuickWalk::Small { word, cache_hits } => Walk {

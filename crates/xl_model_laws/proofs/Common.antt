@@ -18,7 +18,7 @@ pub use Rattle.xl_model.specs.Mapping.{covers, leaf_key, leaf_named, with_leaf, 
 unfoldable pub use Rattle.xl_model.specs.Mapping.{leaf_at_page}
 pub use Rattle.xl_model.specs.Nodes.{free_count, is_below, is_needed, is_under, kept_node, missing, Node, node_at, one_unless, put_first, roots, unless_there, up, with_path}
 unfoldable pub use Rattle.xl_model.specs.Nodes.{in_nodes, leaf_nodes_missing, number_of, only_needed, opening_nodes, with_leaf_nodes, with_node}
-pub use Rattle.xl_model.specs.Placing.{after_attempt, after_placing, AtCap, Attempt, begins, begun_if_full, by_occupant, Candidate, Displaced, Fails, forced_moves, growing_now, growths_left, next_way, no_moves, Placed, Placing, put_in, settled_way, Stands, start_way, to_grow, way_at, with_growth}
+pub use Rattle.xl_model.specs.Placing.{after_attempt, after_placing, AtCap, Attempt, begins, begun_if_full, by_occupant, Candidate, Displaced, Fails, forced_moves, growing_now, growths_left, next_way, no_moves, Placed, Placing, put_in, settled_way, Succeeds, start_way, to_grow, way_at, with_growth}
 unfoldable pub use Rattle.xl_model.specs.Placing.{attempt, forced, insertion, place, placing, settled}
 pub use Rattle.xl_model.specs.Ranges.{goes_into, holds_page, joined, range_of_leaf, same_perm}
 unfoldable pub use Rattle.xl_model.specs.Ranges.{ranges_of}
@@ -73,7 +73,7 @@ pub use Rattle.xl_model_lemmas.specs.Fresh.{ArraysFresh, CachesFresh, has_leaves
 pub use Rattle.xl_model_lemmas.specs.Mappings.{IsFound, IsMapping, IsNewPlace, IsSound}
 pub use Rattle.xl_model_lemmas.specs.Members.{In, Once}
 pub use Rattle.xl_model_lemmas.specs.Sections.{entries_in, entries_of, tally}
-pub use Rattle.xl_model_laws.specs.Cuckoo.{ARefusalKeepsEveryWord, EachWay, HasPointer, IsPointer, KeysHaveTheirSlots, MigratingMovesNoEntry, ShapeEach, SlotsApart, stands_at, ThePointerIsBelowTheSlots}
+pub use Rattle.xl_model_laws.specs.Cuckoo.{ARefusalKeepsEveryWord, EachWay, HasPointer, IsPointer, KeysHaveTheirSlots, MigratingMovesNoEntry, ShapeEach, SlotsApart, is_at, ThePointerIsBelowTheSlots}
 pub use Rattle.xl_model_laws.specs.Kinds.{alone, AnAccessNeedsItsArraysAlone, AnArrayForOthersStays, arrays_for, ArraysForAllTakeNoNoteOfKinds, AStoreLooksUpAsALoad, at_places, counts_for, StaysAt}
 pub use Rattle.xl_model_laws.specs.Nodes.{AreNodesOf, AreNumbered, HasNumbers, IsNodeOf, RoomIsForAllNodes, root_of, TheNodesAreTheMappings}
 pub use Rattle.xl_model_laws.specs.Runs.{AReplyIsByTheMapping, IsZeroBeyond, NothingIsCountedBeyondTheArrays, TheLeavesAreAMapping, TheLowestIsTheLeast, TheReadsAreTheLoads}

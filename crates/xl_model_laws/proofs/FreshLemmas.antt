@@ -274,10 +274,10 @@ fenced-kept row to s k =
 served-kept : (row : Row) (e : Event) (s : RowState) → rule row s.table.leaves e ≡ None → Kept row s → Kept row (served row e s)
 unfolding served
 served-kept row (event.Access va kind) s ruled k = accessed-kept row va kind s k
-served-kept row (event.Map space va o perm) s ruled k = changed-kept row (change_of row s.table.leaves (event.Map space va o perm)) s (λ c told. sound-of row s.table.leaves (event.Map space va o perm) c ruled told) k
-served-kept row (event.Unmap space va o) s ruled k = changed-kept row (change_of row s.table.leaves (event.Unmap space va o)) s (λ c told. sound-of row s.table.leaves (event.Unmap space va o) c ruled told) k
-served-kept row (event.Protect space va o perm) s ruled k = changed-kept row (change_of row s.table.leaves (event.Protect space va o perm)) s (λ c told. sound-of row s.table.leaves (event.Protect space va o perm) c ruled told) k
-served-kept row (event.Move space from to o) s ruled k = changed-kept row (change_of row s.table.leaves (event.Move space from to o)) s (λ c told. sound-of row s.table.leaves (event.Move space from to o) c ruled told) k
+served-kept row (event.Map space va o perm) s ruled k = changed-kept row (change_of row s.table.leaves (event.Map space va o perm)) s (λ c known. sound-of row s.table.leaves (event.Map space va o perm) c ruled known) k
+served-kept row (event.Unmap space va o) s ruled k = changed-kept row (change_of row s.table.leaves (event.Unmap space va o)) s (λ c known. sound-of row s.table.leaves (event.Unmap space va o) c ruled known) k
+served-kept row (event.Protect space va o perm) s ruled k = changed-kept row (change_of row s.table.leaves (event.Protect space va o perm)) s (λ c known. sound-of row s.table.leaves (event.Protect space va o perm) c ruled known) k
+served-kept row (event.Move space from to o) s ruled k = changed-kept row (change_of row s.table.leaves (event.Move space from to o)) s (λ c known. sound-of row s.table.leaves (event.Move space from to o) c ruled known) k
 served-kept row (event.Space space) s ruled k = record { mapping = k.mapping; arrays = k.arrays; caches = k.caches; full = k.full }
 served-kept row (event.Fence to) s ruled k = fenced-kept row (reach_of row to) s k
 

@@ -44,10 +44,10 @@ changed-keeps row (Some c) s m new =
 served-keeps : (row : Row) (e : Event) (s : RowState) → IsMapping row s.table.leaves → rule row s.table.leaves e ≡ None → IsMapping row (served row e s).table.leaves
 unfolding served fenced table_fenced
 served-keeps row (event.Access va k) s m ruled = subst (IsMapping row) (sym (accessed-leaves row va k s)) m
-served-keeps row (event.Map space va o perm) s m ruled = changed-keeps row _ s m (λ c told. kept-changed row s.table.leaves (event.Map space va o perm) c m ruled told)
-served-keeps row (event.Unmap space va o) s m ruled = changed-keeps row _ s m (λ c told. kept-changed row s.table.leaves (event.Unmap space va o) c m ruled told)
-served-keeps row (event.Protect space va o perm) s m ruled = changed-keeps row _ s m (λ c told. kept-changed row s.table.leaves (event.Protect space va o perm) c m ruled told)
-served-keeps row (event.Move space from to o) s m ruled = changed-keeps row _ s m (λ c told. kept-changed row s.table.leaves (event.Move space from to o) c m ruled told)
+served-keeps row (event.Map space va o perm) s m ruled = changed-keeps row _ s m (λ c known. kept-changed row s.table.leaves (event.Map space va o perm) c m ruled known)
+served-keeps row (event.Unmap space va o) s m ruled = changed-keeps row _ s m (λ c known. kept-changed row s.table.leaves (event.Unmap space va o) c m ruled known)
+served-keeps row (event.Protect space va o perm) s m ruled = changed-keeps row _ s m (λ c known. kept-changed row s.table.leaves (event.Protect space va o perm) c m ruled known)
+served-keeps row (event.Move space from to o) s m ruled = changed-keeps row _ s m (λ c known. kept-changed row s.table.leaves (event.Move space from to o) c m ruled known)
 served-keeps row (event.Space space) s m ruled = m
 served-keeps row (event.Fence to) s m ruled = m
 

@@ -129,44 +129,44 @@ change_refused : (row : Row) (c : Change) (s : RowState) (r : Refusal) (v : Verd
     → outcome_by (answer_by v c s.table) ≡ outcome.Refused r → leaves_nothing r ≡ true
     → changed_by (answer_by v c s.table) row c s ≡ with_refusal r s
 unfolding table_after
-change_refused row c s r NoSpace is told small =
+change_refused row c s r NoSpace is known small =
     let e : refused.NoTable ≡ r = cc in
     rw (is, ← e) refl
-change_refused row c s r NoPlace is told small =
+change_refused row c s r NoPlace is known small =
     let e : refused.WayAtCap ≡ r = cc in
     let P : Refusal → Type 0 = λ q. leaves_nothing q ≡ true in
     let no : false ≡ true = subst P (sym e) small in
     absurd (cc)
-change_refused row c s r Made is told small = absurd (cc)
+change_refused row c s r Made is known small = absurd (cc)
 
 changed_refused : (row : Row) (c : Option Change) (s : RowState) (r : Refusal) → changed_outcome c s ≡ outcome.Refused r
     → leaves_nothing r ≡ true → changed_where c row s ≡ with_refusal r s
 unfolding table_answer
-changed_refused row None s r told small = absurd (cc)
-changed_refused row (Some c) s r told small = change_refused row c s r (verdict c s.table) refl told small
+changed_refused row None s r known small = absurd (cc)
+changed_refused row (Some c) s r known small = change_refused row c s r (verdict c s.table) refl known small
 
 served_refused : (row : Row) (e : Event) (s : RowState) (r : Refusal) → served_outcome row e s ≡ outcome.Refused r
     → leaves_nothing r ≡ true → served row e s ≡ with_refusal r s
 unfolding served
-served_refused row (event.Access va k) s r told small = absurd (cc)
-served_refused row (event.Map space va o perm) s r told small = changed_refused row (change_of row s.table.leaves (event.Map space va o perm)) s r told small
-served_refused row (event.Unmap space va o) s r told small = changed_refused row (change_of row s.table.leaves (event.Unmap space va o)) s r told small
-served_refused row (event.Protect space va o perm) s r told small = changed_refused row (change_of row s.table.leaves (event.Protect space va o perm)) s r told small
-served_refused row (event.Move space from to o) s r told small = changed_refused row (change_of row s.table.leaves (event.Move space from to o)) s r told small
-served_refused row (event.Space space) s r told small = absurd (cc)
-served_refused row (event.Fence to) s r told small = absurd (cc)
+served_refused row (event.Access va k) s r known small = absurd (cc)
+served_refused row (event.Map space va o perm) s r known small = changed_refused row (change_of row s.table.leaves (event.Map space va o perm)) s r known small
+served_refused row (event.Unmap space va o) s r known small = changed_refused row (change_of row s.table.leaves (event.Unmap space va o)) s r known small
+served_refused row (event.Protect space va o perm) s r known small = changed_refused row (change_of row s.table.leaves (event.Protect space va o perm)) s r known small
+served_refused row (event.Move space from to o) s r known small = changed_refused row (change_of row s.table.leaves (event.Move space from to o)) s r known small
+served_refused row (event.Space space) s r known small = absurd (cc)
+served_refused row (event.Fence to) s r known small = absurd (cc)
 
 rule_refused : (row : Row) (e : Event) (s : RowState) (r : Refusal) (q : Option Refusal) → outcome_after_rule q row e s ≡ outcome.Refused r
     → leaves_nothing r ≡ true → after_rule q row e s ≡ with_refusal r s
-rule_refused row e s r (Some q) told small = let same : q ≡ r = cc in rw same refl
-rule_refused row e s r None told small = served_refused row e s r told small
+rule_refused row e s r (Some q) known small = let same : q ≡ r = cc in rw same refl
+rule_refused row e s r None known small = served_refused row e s r known small
 
 pub refused_state : (row : Row) (e : Event) (s : RowState) (r : Refusal) → outcome_of row e s ≡ outcome.Refused r
     → leaves_nothing r ≡ true → after_event row e s ≡ with_refusal r s
 unfolding after_event outcome_of
-refused_state row e s r told small = rule_refused row e s r (rule row s.table.leaves e) told small
+refused_state row e s r known small = rule_refused row e s r (rule row s.table.leaves e) known small
 
 pub a_refusal_leaves_nothing : ARefusalLeavesNothing
-a_refusal_leaves_nothing row s e r further told small =
-    let is : after_event row e s ≡ with_refusal r s = refused_state row e s r told small in
+a_refusal_leaves_nothing row s e r further known small =
+    let is : after_event row e s ≡ with_refusal r s = refused_state row e s r known small in
     (ap (outcomes_of row further) is ∙ same_outcomes r row further s, ap (after_events row further) is ∙ events_commute r row further s)

@@ -57,10 +57,10 @@ module _ (row : Row) (P : List Leaf → Shape → Type 0) (keeps : TableKeeps ro
   served-holds : (e : Event) (s : RowState) → rule row s.table.leaves e ≡ None → Holds row P s.table → Holds row P (served row e s).table
   unfolding served fenced table_fenced
   served-holds (event.Access va kind) s ruled h = accessed-holds va kind s h
-  served-holds (event.Map space va o perm) s ruled h = changed-holds (change_of row s.table.leaves (event.Map space va o perm)) s (λ c told. sound-of row s.table.leaves (event.Map space va o perm) c ruled told) h
-  served-holds (event.Unmap space va o) s ruled h = changed-holds (change_of row s.table.leaves (event.Unmap space va o)) s (λ c told. sound-of row s.table.leaves (event.Unmap space va o) c ruled told) h
-  served-holds (event.Protect space va o perm) s ruled h = changed-holds (change_of row s.table.leaves (event.Protect space va o perm)) s (λ c told. sound-of row s.table.leaves (event.Protect space va o perm) c ruled told) h
-  served-holds (event.Move space from to o) s ruled h = changed-holds (change_of row s.table.leaves (event.Move space from to o)) s (λ c told. sound-of row s.table.leaves (event.Move space from to o) c ruled told) h
+  served-holds (event.Map space va o perm) s ruled h = changed-holds (change_of row s.table.leaves (event.Map space va o perm)) s (λ c known. sound-of row s.table.leaves (event.Map space va o perm) c ruled known) h
+  served-holds (event.Unmap space va o) s ruled h = changed-holds (change_of row s.table.leaves (event.Unmap space va o)) s (λ c known. sound-of row s.table.leaves (event.Unmap space va o) c ruled known) h
+  served-holds (event.Protect space va o perm) s ruled h = changed-holds (change_of row s.table.leaves (event.Protect space va o perm)) s (λ c known. sound-of row s.table.leaves (event.Protect space va o perm) c ruled known) h
+  served-holds (event.Move space from to o) s ruled h = changed-holds (change_of row s.table.leaves (event.Move space from to o)) s (λ c known. sound-of row s.table.leaves (event.Move space from to o) c ruled known) h
   served-holds (event.Space space) s ruled h = h
   served-holds (event.Fence to) s ruled h = record { mapping = h.mapping; holds = h.holds }
 

@@ -1,5 +1,5 @@
 -- What each step of a way keeps, every insertion and every change of a cuckoo table keeps in each way, and so every run.
-use Rattle.xl_model_laws.proofs.Common.{◌&&◌, ◌++◌, ◌+◌, ◌∷◌, ◌≡◌, ◌≤◌, [], advanced, after_attempt, after_placing, arith, AtCap, Attempt, attempt, begins, begun, begun_if_full, Bool, brought, by_occupant, Candidate, Chained, Change, cond, Cuckoo, CuckooRules, CuckooWays, Displaced, EachWay, Entry, Fails, false, forced, forced_moves, growing_now, growths_left, inl, inr, Insert, insertion, Item, Leaf, leaf_entry, leaf_word, length, levels_of, List, map, map-In, min, Moves, narrowed, next_way, no_moves, None, not, occupant, old_leaf, opening_shape, opening_way, opening_ways, Option, Order, place, Placed, placed_leaf, Placing, placing, Protect, put_in, Radix, refl, Relocate, Remove, Row, run, Runs, settled, settled_way, Shape, shape_after, ShapeEach, slice_set, slots_left, Some, Stands, start_way, subst, suc, swapped, sym, Table, to_grow, true, way_at, ways_brought, ways_of, ways_placed, ways_taken, WayShape, widened, with_growth, with_ways, with_word, without_entry, zero, ℕ}
+use Rattle.xl_model_laws.proofs.Common.{◌&&◌, ◌++◌, ◌+◌, ◌∷◌, ◌≡◌, ◌≤◌, [], advanced, after_attempt, after_placing, arith, AtCap, Attempt, attempt, begins, begun, begun_if_full, Bool, brought, by_occupant, Candidate, Chained, Change, cond, Cuckoo, CuckooRules, CuckooWays, Displaced, EachWay, Entry, Fails, false, forced, forced_moves, growing_now, growths_left, inl, inr, Insert, insertion, Item, Leaf, leaf_entry, leaf_word, length, levels_of, List, map, map-In, min, Moves, narrowed, next_way, no_moves, None, not, occupant, old_leaf, opening_shape, opening_way, opening_ways, Option, Order, place, Placed, placed_leaf, Placing, placing, Protect, put_in, Radix, refl, Relocate, Remove, Row, run, Runs, settled, settled_way, Shape, shape_after, ShapeEach, slice_set, slots_left, Some, Succeeds, start_way, subst, suc, swapped, sym, Table, to_grow, true, way_at, ways_brought, ways_of, ways_placed, ways_taken, WayShape, widened, with_growth, with_ways, with_word, without_entry, zero, ℕ}
 use Rattle.xl_model_laws.proofs.ShapeLemmas.{run-shape}
 use Rattle.xl_model.specs.declared.address.Order.TheVariants as order
 use Rattle.xl_model.specs.declared.row.Table.TheVariants as table
@@ -43,14 +43,14 @@ module _ (P : WayShape → Type 0) (keeps : WayKeeps P) where
       subst P (sym found.2) (keeps found.0 (h found.0 found.1))
 
   abbrev pub AttemptKeeps : Attempt → Type 0
-  AttemptKeeps (Stands ways moved) = EachWay P ways
+  AttemptKeeps (Succeeds ways moved) = EachWay P ways
   AttemptKeeps Fails = Unit {0}
 
   attempt-kept : (left : ℕ) (ways : List WayShape) (at : ℕ) (hand : Entry) (moved : List Displaced) → EachWay P ways → AttemptKeeps (attempt left ways at hand moved)
   unfolding attempt
   attempt-kept zero ways at hand moved h = go (occupant (way_at ways at) hand.key)
     where
-      go : (o : Option Entry) → AttemptKeeps (by_occupant o (Stands (put_in ways at hand) moved) (λ e. Fails))
+      go : (o : Option Entry) → AttemptKeeps (by_occupant o (Succeeds (put_in ways at hand) moved) (λ e. Fails))
       go None = set-kept ways at (swapped (way_at ways at) hand) h (keeps.swapped_in (way_at ways at) hand (get-kept ways at h))
       go (Some e) = tt
   attempt-kept (suc left) ways at hand moved h =
@@ -60,7 +60,7 @@ module _ (P : WayShape → Type 0) (keeps : WayKeeps P) where
     where
       go : (o : Option Entry)
           → ((e : Entry) → AttemptKeeps (attempt left (put_in ways at hand) (next_way (length ways) at) e (moved ++ record { key = e.key; way = next_way (length ways) at } ∷ [])))
-          → AttemptKeeps (by_occupant o (Stands (put_in ways at hand) moved)
+          → AttemptKeeps (by_occupant o (Succeeds (put_in ways at hand) moved)
           (λ e. attempt left (put_in ways at hand) (next_way (length ways) at) e (moved ++ record { key = e.key; way = next_way (length ways) at } ∷ [])))
       go None next = set-kept ways at (swapped (way_at ways at) hand) h (keeps.swapped_in (way_at ways at) hand (get-kept ways at h))
       go (Some e) next = next e
@@ -81,7 +81,7 @@ module _ (P : WayShape → Type 0) (keeps : WayKeeps P) where
   PlacingKeeps (AtCap ways m) = EachWay P ways
 
   after-kept : (a : Attempt) (limit : ℕ) (m : Moves) (failed : Moves → Placing) → AttemptKeeps a → ((n : Moves) → PlacingKeeps (failed n)) → PlacingKeeps (after_attempt a limit m failed)
-  after-kept (Stands ways moved) limit m failed h next = h
+  after-kept (Succeeds ways moved) limit m failed h next = h
   after-kept Fails limit m failed h next = next _
 
   placing-kept : (room limit : ℕ) (ways : List WayShape) (x : Entry) (m : Moves) → EachWay P ways → PlacingKeeps (placing room limit ways x m)

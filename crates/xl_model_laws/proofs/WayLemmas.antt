@@ -1,5 +1,5 @@
 -- Two keys of one way never have one slot, and a refused insertion keeps every key and word.
-use Rattle.xl_model_laws.proofs.Common.{◌+◌, ◌-◌, ◌<◌, ◌==◌, ◌^◌, ◌∙◌, ◌≡◌, ◌≤◌, [], advanced, after_attempt, after_placing, ap, ARefusalKeepsEveryWord, arith, AtCap, Attempt, attempt, begun, begun_regs, Bool, Candidate, cond, entries_of, Entry, eq-eqb, Fails, false, find, find-passes, forced, forced-entries, forced_moves, growths_left, HasPointer, insertion, IsPointer, KeysHaveTheirSlots, length, List, map, MigratingMovesNoEntry, Moves, nat_tests, no_moves, None, occupant, one_if, opening_way, Option, place, Placed, Placing, placing, refl, regs_after, reworded, slice_set, slot, slot_at, slots_left, SlotsApart, Some, Stands, stands_at, start_way, subst, suc, swapped, sym, tally, tally-le, tally-none, tally-out, tally-reworded, tally-same, tally-with_entry, tally-without_key, ThePointerIsBelowTheSlots, to_grow, true, way_at, WayRegs, WayShape, with_entry, with_growth, with_word, without_entry, without_occupant, zero, ℕ}
+use Rattle.xl_model_laws.proofs.Common.{◌+◌, ◌-◌, ◌<◌, ◌==◌, ◌^◌, ◌∙◌, ◌≡◌, ◌≤◌, [], advanced, after_attempt, after_placing, ap, ARefusalKeepsEveryWord, arith, AtCap, Attempt, attempt, begun, begun_regs, Bool, Candidate, cond, entries_of, Entry, eq-eqb, Fails, false, find, find-passes, forced, forced-entries, forced_moves, growths_left, HasPointer, insertion, IsPointer, KeysHaveTheirSlots, length, List, map, MigratingMovesNoEntry, Moves, nat_tests, no_moves, None, occupant, one_if, opening_way, Option, place, Placed, Placing, placing, refl, regs_after, reworded, slice_set, slot, slot_at, slots_left, SlotsApart, Some, Succeeds, is_at, start_way, subst, suc, swapped, sym, tally, tally-le, tally-none, tally-out, tally-reworded, tally-same, tally-with_entry, tally-without_key, ThePointerIsBelowTheSlots, to_grow, true, way_at, WayRegs, WayShape, with_entry, with_growth, with_word, without_entry, without_occupant, zero, ℕ}
 use Rattle.std.proofs.Math.Seq.{map-set_same}
 use Rattle.std.proofs.lemmas.Nat.{pow_pos}
 use Rattle.xl_model.specs.Hashes.{way_hash}
@@ -10,7 +10,7 @@ use Rattle.xl_model_laws.proofs.WayKeepLemmas.{run-each, WayKeeps}
 same-slot : (r : WayRegs) (number : ℕ) (x y : Entry) → x.key ≡ y.key → slot r number x.key ≡ slot r number y.key
 same-slot r number x y e = ap (slot r number) e
 
-same-test : (r : WayRegs) (number at : ℕ) (x y : Entry) → x.key ≡ y.key → stands_at r number at x ≡ stands_at r number at y
+same-test : (r : WayRegs) (number at : ℕ) (x y : Entry) → x.key ≡ y.key → is_at r number at x ≡ is_at r number at y
 same-test r number at x y e = let k : slot r number x.key ≡ slot r number y.key = same-slot r number x y e in rw k refl
 
 -- what is left of a list whose occupant of the new key's slot is out
@@ -34,40 +34,40 @@ pub swapped-apart : (w : WayShape) (x : Entry) → SlotsApart w → SlotsApart (
 unfolding swapped occupant
 swapped-apart w x h at =
     let out : List Entry = without_occupant (find (λ (e : Entry). slot w.regs w.number e.key == slot w.regs w.number x.key) w.entries) w.entries in
-    let sum : tally (stands_at w.regs w.number at) (with_entry x out) ≡ one_if (stands_at w.regs w.number at x) + tally (stands_at w.regs w.number at) out =
-    tally-with_entry (stands_at w.regs w.number at) x out in
-    rw sum (elim (slot w.regs w.number x.key == at) as (λ b. (slot w.regs w.number x.key == at) ≡ b → one_if b + tally (stands_at w.regs w.number at) out ≤ 1) [
+    let sum : tally (is_at w.regs w.number at) (with_entry x out) ≡ one_if (is_at w.regs w.number at x) + tally (is_at w.regs w.number at) out =
+    tally-with_entry (is_at w.regs w.number at) x out in
+    rw sum (elim (slot w.regs w.number x.key == at) as (λ b. (slot w.regs w.number x.key == at) ≡ b → one_if b + tally (is_at w.regs w.number at) out ≤ 1) [
       | true ↦ λ t.
           let e : slot w.regs w.number x.key ≡ at = grind (arith, nat_tests) in
-          let P : ℕ → Type 0 = λ i. tally (stands_at w.regs w.number i) out ≡ 0 in
-          let none : tally (stands_at w.regs w.number at) out ≡ 0 =
+          let P : ℕ → Type 0 = λ i. tally (is_at w.regs w.number i) out ≡ 0 in
+          let none : tally (is_at w.regs w.number at) out ≡ 0 =
           subst P e (left-at w.regs w.number x w.entries (find (λ (e : Entry). slot w.regs w.number e.key == slot w.regs w.number x.key) w.entries) refl (h (slot w.regs w.number x.key))) in
           omega arith
       | false ↦ λ t.
-          let a : tally (stands_at w.regs w.number at) out ≤ tally (stands_at w.regs w.number at) w.entries = out-le (stands_at w.regs w.number at) _ w.entries in
-          let b : tally (stands_at w.regs w.number at) w.entries ≤ 1 = h at in
+          let a : tally (is_at w.regs w.number at) out ≤ tally (is_at w.regs w.number at) w.entries = out-le (is_at w.regs w.number at) _ w.entries in
+          let b : tally (is_at w.regs w.number at) w.entries ≤ 1 = h at in
           omega arith
     ] refl)
 
 pub advanced-apart : (n : ℕ) (w : WayShape) → w.regs.growing ≡ true → SlotsApart w → SlotsApart (advanced n w)
 unfolding advanced slot
 advanced-apart n w growing h at =
-    let a : tally (stands_at (regs_after n w.regs) w.number at) w.entries ≤ tally (stands_at w.regs w.number (before_slot w.regs at)) w.entries =
-    tally-le (stands_at (regs_after n w.regs) w.number at) (stands_at w.regs w.number (before_slot w.regs at)) w.entries
+    let a : tally (is_at (regs_after n w.regs) w.number at) w.entries ≤ tally (is_at w.regs w.number (before_slot w.regs at)) w.entries =
+    tally-le (is_at (regs_after n w.regs) w.number at) (is_at w.regs w.number (before_slot w.regs at)) w.entries
     (λ x t.
     let e : slot_at (regs_after n w.regs) (way_hash w.number x.key) ≡ at = grind (arith, nat_tests) in
     let f : slot_at w.regs (way_hash w.number x.key) ≡ before_slot w.regs at = slot-back w.regs n (way_hash w.number x.key) at growing e in
     rw f (eq-eqb (before_slot w.regs at) (before_slot w.regs at) refl)) in
-    let b : tally (stands_at w.regs w.number (before_slot w.regs at)) w.entries ≤ 1 = h (before_slot w.regs at) in
+    let b : tally (is_at w.regs w.number (before_slot w.regs at)) w.entries ≤ 1 = h (before_slot w.regs at) in
     omega arith
 
 pub begun-apart : (w : WayShape) → w.regs.growing ≡ false → SlotsApart w → SlotsApart (begun w)
 unfolding begun slot
 begun-apart w still h at =
-    let a : tally (stands_at (begun_regs w.regs) w.number at) w.entries ≡ tally (stands_at w.regs w.number at) w.entries =
-    tally-same (stands_at (begun_regs w.regs) w.number at) (stands_at w.regs w.number at) w.entries
+    let a : tally (is_at (begun_regs w.regs) w.number at) w.entries ≡ tally (is_at w.regs w.number at) w.entries =
+    tally-same (is_at (begun_regs w.regs) w.number at) (is_at w.regs w.number at) w.entries
     (λ x. let e : slot_at (begun_regs w.regs) (way_hash w.number x.key) ≡ slot_at w.regs (way_hash w.number x.key) = begun-slot w.regs (way_hash w.number x.key) still in rw e refl) in
-    let b : tally (stands_at w.regs w.number at) w.entries ≤ 1 = h at in
+    let b : tally (is_at w.regs w.number at) w.entries ≤ 1 = h at in
     omega arith
 
 pub opening-apart : (s cap number : ℕ) → SlotsApart (opening_way s cap number)
@@ -77,16 +77,16 @@ opening-apart s cap number at = omega arith
 pub reworded-apart : (key word : ℕ) (w : WayShape) → SlotsApart w → SlotsApart (with_word key word w)
 unfolding with_word
 reworded-apart key word w h at =
-    let a : tally (stands_at w.regs w.number at) (map (reworded key word) w.entries) ≡ tally (stands_at w.regs w.number at) w.entries =
-    tally-reworded (stands_at w.regs w.number at) key word w.entries (λ x y e. same-test w.regs w.number at x y e) in
-    let b : tally (stands_at w.regs w.number at) w.entries ≤ 1 = h at in
+    let a : tally (is_at w.regs w.number at) (map (reworded key word) w.entries) ≡ tally (is_at w.regs w.number at) w.entries =
+    tally-reworded (is_at w.regs w.number at) key word w.entries (λ x y e. same-test w.regs w.number at x y e) in
+    let b : tally (is_at w.regs w.number at) w.entries ≤ 1 = h at in
     omega arith
 
 pub without-apart : (key : ℕ) (w : WayShape) → SlotsApart w → SlotsApart (without_entry key w)
 unfolding without_entry
 without-apart key w h at =
-    let a = tally-without_key (stands_at w.regs w.number at) key w.entries in
-    let b : tally (stands_at w.regs w.number at) w.entries ≤ 1 = h at in
+    let a = tally-without_key (is_at w.regs w.number at) key w.entries in
+    let b : tally (is_at w.regs w.number at) w.entries ≤ 1 = h at in
     omega arith
 
 -- the steps of a way keep its slots apart
@@ -136,7 +136,7 @@ AsBefore ways (AtCap after m) = map entries_of after ≡ map entries_of ways
 
 after-before : (ways : List WayShape) (a : Attempt) (limit : ℕ) (m : Moves) (failed : Moves → Placing) → ((n : Moves) → AsBefore ways (failed n)) → AsBefore ways (after_attempt a limit m failed)
 unfolding AsBefore
-after-before ways (Stands after moved) limit m failed next = tt
+after-before ways (Succeeds after moved) limit m failed next = tt
 after-before ways Fails limit m failed next = next _
 
 set-entries : (ways : List WayShape) (i : ℕ) → map entries_of (slice_set ways i (forced (way_at ways i))) ≡ map entries_of ways

@@ -13,12 +13,12 @@ use Rattle.xl_model_lemmas.specs.Members.{In}
 use Rattle.xl_model_lemmas.specs.Sections.{entries_of, tally}
 
 -- an entry is in this slot of a way
-abbrev pub stands_at : WayRegs → ℕ → ℕ → Entry → Bool
-stands_at r number at e = slot r number e.key == at
+abbrev pub is_at : WayRegs → ℕ → ℕ → Entry → Bool
+is_at r number at e = slot r number e.key == at
 
 -- no slot of the way has two keys
 abbrev pub SlotsApart : WayShape → Type 0
-SlotsApart w = (at : ℕ) → tally (stands_at w.regs w.number at) w.entries ≤ 1
+SlotsApart w = (at : ℕ) → tally (is_at w.regs w.number at) w.entries ≤ 1
 
 -- each of the ways is such
 abbrev pub EachWay : (WayShape → Type 0) → List WayShape → Type 0

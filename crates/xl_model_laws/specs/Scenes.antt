@@ -2,7 +2,7 @@
 use Rattle.std.specs.Prelude.{◌≡◌, Bool, List, ◌++◌}
 use Rattle.xl_model.specs.declared.script.Item.{Item}
 use Rattle.xl_model.specs.Rows.{Row}
-use Rattle.xl_model.specs.Scenes.{Live, Scene, lives_after, opening_scene, told_by, scenes_after}
+use Rattle.xl_model.specs.Scenes.{Live, Scene, lives_after, opening_scene, printed_by, scenes_after}
 use Rattle.xl_model_lemmas.specs.Scenes.{ran_by}
 
 -- Items may be served in two parts, one after the other.
@@ -12,20 +12,20 @@ ItemsMayBeServedInParts =
     → lives_after answers (xs ++ ys) l ≡ lives_after answers ys (lives_after answers xs l)
 
 -- Lines that were written stay: items add their lines after them, whatever they are.
-abbrev pub TheToldTextOnlyGrows : Type 0
-TheToldTextOnlyGrows =
+abbrev pub ThePrintedTextOnlyGrows : Type 0
+ThePrintedTextOnlyGrows =
     (answers : Bool) (items : List Item) (l : Live)
-    → (lives_after answers items l).told ≡ l.told ++ told_by answers items l.scene
+    → (lives_after answers items l).printed ≡ l.printed ++ printed_by answers items l.scene
 
 -- The lines of some items are the beginning of their lines with others after them.
-abbrev pub WhatIsToldFirstStandsFirst : Type 0
-WhatIsToldFirstStandsFirst =
+abbrev pub WhatIsPrintedFirstIsFirst : Type 0
+WhatIsPrintedFirstIsFirst =
     (answers : Bool) (xs ys : List Item) (s : Scene)
-    → told_by answers (xs ++ ys) s ≡ told_by answers xs s ++ told_by answers ys (scenes_after xs s)
+    → printed_by answers (xs ++ ys) s ≡ printed_by answers xs s ++ printed_by answers ys (scenes_after xs s)
 
 -- What is served does not depend on which lines are written.
-abbrev pub TellingChangesNoRow : Type 0
-TellingChangesNoRow =
+abbrev pub PrintingChangesNoRow : Type 0
+PrintingChangesNoRow =
     (answers : Bool) (items : List Item) (l : Live) → (lives_after answers items l).scene ≡ scenes_after items l.scene
 
 -- Rows that are served together end as each ends alone.

@@ -6,7 +6,7 @@ ghost use Rattle.xl_model_laws.specs.Fresh.{NothingIsStale};
 ghost use Rattle.xl_model_laws.specs.Refusals.{ARefusalLeavesNothing};
 ghost use Rattle.xl_model_laws.specs.Cuckoo.{KeysHaveTheirSlots, ThePointerIsBelowTheSlots, ARefusalKeepsEveryWord, MigratingMovesNoEntry};
 ghost use Rattle.xl_model_laws.specs.Sentences.{TheRangesAreMaximalRuns, ANodeTakesTheLowestNumber};
-ghost use Rattle.xl_model_laws.specs.Scenes.{ItemsMayBeServedInParts, TheToldTextOnlyGrows, WhatIsToldFirstStandsFirst, TellingChangesNoRow, EachRowRunsByItself};
+ghost use Rattle.xl_model_laws.specs.Scenes.{ItemsMayBeServedInParts, ThePrintedTextOnlyGrows, WhatIsPrintedFirstIsFirst, PrintingChangesNoRow, EachRowRunsByItself};
 ghost use Rattle.xl_model_laws.specs.Tags.{RoomIsForAllTags, TheTagsAreTheLeaves};
 ghost use Rattle.xl_model_laws.specs.Nodes.{TheNodesAreTheMappings, RoomIsForAllNodes};
 ghost use Rattle.xl_model_laws.specs.Keys.{EachLeafHasItsKey};
@@ -79,18 +79,18 @@ pub fn items_may_be_served_in_parts()
 {}
 
 /// Lines that were written stay, and items add their lines after them.
-pub fn the_told_text_only_grows()
-    ensures { TheToldTextOnlyGrows }
+pub fn the_printed_text_only_grows()
+    ensures { ThePrintedTextOnlyGrows }
 {}
 
 /// The lines of some items are the beginning of their lines with others after them.
-pub fn what_is_told_first_stands_first()
-    ensures { WhatIsToldFirstStandsFirst }
+pub fn what_is_printed_first_is_first()
+    ensures { WhatIsPrintedFirstIsFirst }
 {}
 
 /// What is served does not depend on which lines are written.
-pub fn telling_changes_no_row()
-    ensures { TellingChangesNoRow }
+pub fn printing_changes_no_row()
+    ensures { PrintingChangesNoRow }
 {}
 
 /// Rows that are served together end as each ends alone.

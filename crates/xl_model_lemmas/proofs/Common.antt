@@ -15,11 +15,11 @@ pub use Rattle.xl_model.specs.Chains.{bucket_of, has_tag, in_front_of_bucket, le
 unfoldable pub use Rattle.xl_model.specs.Chains.{chain_of, only_used_tags, with_tag}
 pub use Rattle.xl_model.specs.Changes.{at_page, Change, Insert, IsNamed, new_leaf, old_leaf, Protect, Relocate, Remove, with_new, with_perm, without_old}
 unfoldable pub use Rattle.xl_model.specs.Changes.{changed}
-pub use Rattle.xl_model.specs.Frames.{behind, is_free_block, least, lesser}
+pub use Rattle.xl_model.specs.Frames.{following, is_free_block, least, lesser}
 unfoldable pub use Rattle.xl_model.specs.Frames.{lowest}
 pub use Rattle.xl_model.specs.Mapping.{covers, holds_frames, is_leaf, leaf_key, meets_block, with_leaf}
 unfoldable pub use Rattle.xl_model.specs.Mapping.{leaf_at_page, leaf_named, meets_any, without_leaf}
-pub use Rattle.xl_model.specs.Placing.{after_attempt, after_placing, AtCap, Attempt, begins, begun_if_full, by_occupant, Candidate, Displaced, Fails, forced_moves, growths_left, holder_from, is_held, next_way, no_moves, Placed, Placing, put_in, settled_way, Stands, start_way, to_grow, way_at, with_growth}
+pub use Rattle.xl_model.specs.Placing.{after_attempt, after_placing, AtCap, Attempt, begins, begun_if_full, by_occupant, Candidate, Displaced, Fails, forced_moves, growths_left, holder_from, is_held, next_way, no_moves, Placed, Placing, put_in, settled_way, Succeeds, start_way, to_grow, way_at, with_growth}
 unfoldable pub use Rattle.xl_model.specs.Placing.{attempt, forced, insertion, place, placing, settled}
 pub use Rattle.xl_model.specs.Recency.{purged, touched, with_newest, without_first}
 pub use Rattle.xl_model.specs.RowRun.{arrays_after, opening}

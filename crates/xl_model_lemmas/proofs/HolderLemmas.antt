@@ -1,6 +1,6 @@
 -- A key that an insertion does not bring and does not displace stays in its way, and no way comes or goes. For the
 -- cuckoo table, and for the purge of cached sections in its row.
-use Rattle.xl_model_lemmas.proofs.Common.{◌++◌, ◌+◌, ◌==◌, ◌∙◌, ◌∷◌, ◌≡◌, [], after_attempt, after_placing, ap, arith, AtCap, Attempt, attempt, by_occupant, Candidate, cond, Displaced, entries_of, Entry, Fails, false, forced, forced_moves, growths_left, has_key, holder_from, In, inl, insertion, is_held, length, length-map, List, map-set_same, Moves, nat_tests, next_way, no_moves, None, not, occupant, one_if, opening_way, Option, place, Placed, Placing, placing, put_in, refl, settled, slice_set, Some, Stands, start_way, subst, suc, swapped, sym, tally, to_grow, true, way_at, WayShape, with_growth, zero, ℕ}
+use Rattle.xl_model_lemmas.proofs.Common.{◌++◌, ◌+◌, ◌==◌, ◌∙◌, ◌∷◌, ◌≡◌, [], after_attempt, after_placing, ap, arith, AtCap, Attempt, attempt, by_occupant, Candidate, cond, Displaced, entries_of, Entry, Fails, false, forced, forced_moves, growths_left, has_key, holder_from, In, inl, insertion, is_held, length, length-map, List, map-set_same, Moves, nat_tests, next_way, no_moves, None, not, occupant, one_if, opening_way, Option, place, Placed, Placing, placing, put_in, refl, settled, slice_set, Some, Succeeds, start_way, subst, suc, swapped, sym, tally, to_grow, true, way_at, WayShape, with_growth, zero, ℕ}
 use Rattle.xl_model_lemmas.proofs.FreshSectionLemmas.{holder-same}
 use Rattle.xl_model_lemmas.proofs.MemberLemmas.{In-left, In-right}
 use Rattle.xl_model_lemmas.proofs.PlacingLemmas.{forced-entries, one_of, set-length, settled-entries, swapped-adds}
@@ -36,23 +36,23 @@ holder-set key (w ∷ ways) zero v e i = ap (λ b. cond b (Some i) (holder_from 
 holder-set key (w ∷ ways) (suc at) v e i = ap (λ o. cond (is_held w key) (Some i) o) (holder-set key ways at v e (i + 1))
 
 -- what was displaced stays in the log
-Told : Displaced → Attempt → Type 0
-Told d (Stands ways moved) = In d moved
-Told d Fails = Unit {0}
+Known : Displaced → Attempt → Type 0
+Known d (Succeeds ways moved) = In d moved
+Known d Fails = Unit {0}
 
-moved-stays : (d : Displaced) (left : ℕ) (ways : List WayShape) (at : ℕ) (hand : Entry) (moved : List Displaced) → In d moved → Told d (attempt left ways at hand moved)
-unfolding attempt Told
+moved-stays : (d : Displaced) (left : ℕ) (ways : List WayShape) (at : ℕ) (hand : Entry) (moved : List Displaced) → In d moved → Known d (attempt left ways at hand moved)
+unfolding attempt Known
 moved-stays d zero ways at hand moved i = go (occupant (way_at ways at) hand.key)
   where
-    go : (o : Option Entry) → Told d (by_occupant o (Stands (put_in ways at hand) moved) (λ e. Fails))
+    go : (o : Option Entry) → Known d (by_occupant o (Succeeds (put_in ways at hand) moved) (λ e. Fails))
     go None = i
     go (Some e) = tt
 moved-stays d (suc left) ways at hand moved i =
     go (occupant (way_at ways at) hand.key)
     (λ e. moved-stays d left (put_in ways at hand) (next_way (length ways) at) e (moved ++ record { key = e.key; way = next_way (length ways) at } ∷ []) (In-left d moved (record { key = e.key; way = next_way (length ways) at } ∷ []) i))
   where
-    go : (o : Option Entry) → ((e : Entry) → Told d (attempt left (put_in ways at hand) (next_way (length ways) at) e (moved ++ record { key = e.key; way = next_way (length ways) at } ∷ [])))
-        → Told d (by_occupant o (Stands (put_in ways at hand) moved) (λ e. attempt left (put_in ways at hand) (next_way (length ways) at) e (moved ++ record { key = e.key; way = next_way (length ways) at } ∷ [])))
+    go : (o : Option Entry) → ((e : Entry) → Known d (attempt left (put_in ways at hand) (next_way (length ways) at) e (moved ++ record { key = e.key; way = next_way (length ways) at } ∷ [])))
+        → Known d (by_occupant o (Succeeds (put_in ways at hand) moved) (λ e. attempt left (put_in ways at hand) (next_way (length ways) at) e (moved ++ record { key = e.key; way = next_way (length ways) at } ∷ [])))
     go None next = i
     go (Some e) next = next e
 
@@ -61,20 +61,20 @@ abbrev pub NotIn : ℕ → List Displaced → Type 0
 NotIn key moved = (d : Displaced) → In d moved → Other key d.key
 
 Stay : ℕ → List WayShape → Attempt → Type 0
-Stay key ways (Stands after moved) = NotIn key moved → (length after ≡ length ways) × ((i : ℕ) → holder_from i after key ≡ holder_from i ways key)
+Stay key ways (Succeeds after moved) = NotIn key moved → (length after ≡ length ways) × ((i : ℕ) → holder_from i after key ≡ holder_from i ways key)
 Stay key ways Fails = Unit {0}
 
-through : (key : ℕ) (ways mid : List WayShape) (d : Displaced) (r : Attempt) → Told d r → length mid ≡ length ways
+through : (key : ℕ) (ways mid : List WayShape) (d : Displaced) (r : Attempt) → Known d r → length mid ≡ length ways
     → (Other key d.key → (i : ℕ) → holder_from i mid key ≡ holder_from i ways key) → (Other key d.key → Stay key mid r) → Stay key ways r
-unfolding Told Stay
-through key ways mid d (Stands after moved) t l h s = λ n. let o = n d t in let r = s o n in (r.0 ∙ l, λ i. r.1 i ∙ h o i)
+unfolding Known Stay
+through key ways mid d (Succeeds after moved) t l h s = λ n. let o = n d t in let r = s o n in (r.0 ∙ l, λ i. r.1 i ∙ h o i)
 through key ways mid d Fails t l h s = tt
 
 attempt-stays : (key left : ℕ) (ways : List WayShape) (at : ℕ) (hand : Entry) (moved : List Displaced) → Other key hand.key → Stay key ways (attempt left ways at hand moved)
 unfolding attempt Stay OtherOf
 attempt-stays key zero ways at hand moved h = go (occupant (way_at ways at) hand.key) refl
   where
-    go : (o : Option Entry) → occupant (way_at ways at) hand.key ≡ o → Stay key ways (by_occupant o (Stands (put_in ways at hand) moved) (λ e. Fails))
+    go : (o : Option Entry) → occupant (way_at ways at) hand.key ≡ o → Stay key ways (by_occupant o (Succeeds (put_in ways at hand) moved) (λ e. Fails))
     go None e = λ n. (set-length ways at (swapped (way_at ways at) hand), holder-set key ways at (swapped (way_at ways at) hand) (held-same key (way_at ways at) hand None e h tt))
     go (Some y) e = tt
 attempt-stays key (suc left) ways at hand moved h =
@@ -83,7 +83,7 @@ attempt-stays key (suc left) ways at hand moved h =
   where
     go : (o : Option Entry) → occupant (way_at ways at) hand.key ≡ o
         → ((e : Entry) → Other key e.key → Stay key (put_in ways at hand) (attempt left (put_in ways at hand) (next_way (length ways) at) e (moved ++ record { key = e.key; way = next_way (length ways) at } ∷ [])))
-        → Stay key ways (by_occupant o (Stands (put_in ways at hand) moved) (λ e. attempt left (put_in ways at hand) (next_way (length ways) at) e (moved ++ record { key = e.key; way = next_way (length ways) at } ∷ [])))
+        → Stay key ways (by_occupant o (Succeeds (put_in ways at hand) moved) (λ e. attempt left (put_in ways at hand) (next_way (length ways) at) e (moved ++ record { key = e.key; way = next_way (length ways) at } ∷ [])))
     go None e next = λ n. (set-length ways at (swapped (way_at ways at) hand), holder-set key ways at (swapped (way_at ways at) hand) (held-same key (way_at ways at) hand None e h tt))
     go (Some y) e next =
         let d : Displaced = record { key = y.key; way = next_way (length ways) at } in
@@ -99,7 +99,7 @@ PlacingStays key ways (AtCap after m) = Unit {0}
 
 after-stays : (key : ℕ) (ways : List WayShape) (a : Attempt) (limit : ℕ) (m : Moves) (failed : Moves → Placing) → Stay key ways a → ((k : Moves) → PlacingStays key ways (failed k)) → PlacingStays key ways (after_attempt a limit m failed)
 unfolding Stay PlacingStays
-after-stays key ways (Stands after moved) limit m failed h next = h
+after-stays key ways (Succeeds after moved) limit m failed h next = h
 after-stays key ways Fails limit m failed h next = next _
 
 grown-stays : (key : ℕ) (ways mid : List WayShape) (p : Placing) → length mid ≡ length ways → ((i : ℕ) → holder_from i mid key ≡ holder_from i ways key) → PlacingStays key mid p → PlacingStays key ways p
@@ -139,8 +139,8 @@ insertion-stays key limit most threshold ways after x moved m h n e = go (placin
     go : (q : Placing) → PlacingStays key ways q → after_placing most threshold q ≡ Placed after moved m → (length after ≡ length ways) × (holder_from 0 after key ≡ holder_from 0 ways key)
     go (Placed vs mv k) s t =
         let same : settled most threshold vs ≡ after = cc in
-        let told : mv ≡ moved = cc in
-        let r = s (subst (λ l. NotIn key l) (sym told) n) in (
+        let known : mv ≡ moved = cc in
+        let r = s (subst (λ l. NotIn key l) (sym known) n) in (
           ap (λ (us : List WayShape). length us) (sym same) ∙ settled-length vs ∙ r.0,
           ap (λ us. holder_from 0 us key) (sym same) ∙ holder-same 0 (settled most threshold vs) vs key (settled-entries most threshold vs) ∙ r.1 0,
         )

@@ -1,5 +1,5 @@
 -- The least free candidate is the lowest free block.
-use Rattle.xl_model_lemmas.proofs.Common.{◌&&◌, ◌*◌, ◌+◌, ◌-◌, ◌/◌, ◌<◌, ◌∙◌, ◌∷◌, ◌≡◌, ◌≤◌, [], arith, behind, false, filter, holds_frames, In, inl, inr, is_free_block, IsAnswer, IsFreeOf as IsFree, Leaf, least, lesser, List, list_any, lowest, map, min, nat_le, nat_tests, None, not, Option, Order, pages_of, refl, Some, subst, suc, sym, true, zero, ℕ}
+use Rattle.xl_model_lemmas.proofs.Common.{◌&&◌, ◌*◌, ◌+◌, ◌-◌, ◌/◌, ◌<◌, ◌∙◌, ◌∷◌, ◌≡◌, ◌≤◌, [], arith, following, false, filter, holds_frames, In, inl, inr, is_free_block, IsAnswer, IsFreeOf as IsFree, Leaf, least, lesser, List, list_any, lowest, map, min, nat_le, nat_tests, None, not, Option, Order, pages_of, refl, Some, subst, suc, sym, true, zero, ℕ}
 use Rattle.xl_model_lemmas.proofs.MemberLemmas.{any-false, any-In, filter-In, filter-passes, In-filter, In-map, map-In}
 use Rattle.xl_model.specs.declared.address.Order.TheVariants as order
 
@@ -28,13 +28,13 @@ least-is [] = λ y i. i
 least-is (x ∷ xs) = lesser-is x xs (least xs) (least-is xs)
 
 -- the end of a leaf that lies in the block before
-behind-is : (o : Order) (e n : ℕ) → e * pages_of o < n → n ≤ suc e * pages_of o → (n + (pages_of o - 1)) / pages_of o * pages_of o ≡ suc e * pages_of o
-behind-is order.K4 e n low high = omega arith
-behind-is order.M2 e n low high = omega arith
-behind-is order.G1 e n low high = omega arith
+following-is : (o : Order) (e n : ℕ) → e * pages_of o < n → n ≤ suc e * pages_of o → (n + (pages_of o - 1)) / pages_of o * pages_of o ≡ suc e * pages_of o
+following-is order.K4 e n low high = omega arith
+following-is order.M2 e n low high = omega arith
+following-is order.G1 e n low high = omega arith
 
-aligned-behind : (size : ℕ) (leaf : Leaf) → (e : ℕ) × (behind size leaf ≡ e * size)
-aligned-behind size leaf = ((leaf.frame + pages_of leaf.order + (size - 1)) / size, refl)
+aligned-following : (size : ℕ) (leaf : Leaf) → (e : ℕ) × (following size leaf ≡ e * size)
+aligned-following size leaf = ((leaf.frame + pages_of leaf.order + (size - 1)) / size, refl)
 
 suc-mul : (e size : ℕ) → suc e * size ≡ e * size + size
 suc-mul e size = omega arith
@@ -46,14 +46,14 @@ unmet : (at next size : ℕ) (x : Leaf) → next ≡ at + size → x.frame < at 
 unmet at next size x e low h = grind (arith, nat_tests)
 
 -- a leaf that overlaps a block and not the next ends at that next block's beginning or before
-ends-behind : (o : Order) (e : ℕ) (x : Leaf) → holds_frames (e * pages_of o) (pages_of o) x ≡ true
-    → holds_frames (suc e * pages_of o) (pages_of o) x ≡ false → behind (pages_of o) x ≡ suc e * pages_of o
-ends-behind o e x here next =
-    behind-is o e (x.frame + pages_of x.order) (met (e * pages_of o) (pages_of o) x here).1
+ends-following : (o : Order) (e : ℕ) (x : Leaf) → holds_frames (e * pages_of o) (pages_of o) x ≡ true
+    → holds_frames (suc e * pages_of o) (pages_of o) x ≡ false → following (pages_of o) x ≡ suc e * pages_of o
+ends-following o e x here next =
+    following-is o e (x.frame + pages_of x.order) (met (e * pages_of o) (pages_of o) x here).1
     (unmet (e * pages_of o) (suc e * pages_of o) (pages_of o) x (suc-mul e (pages_of o)) (met (e * pages_of o) (pages_of o) x here).0 next)
 
 abbrev candidates : ℕ → List Leaf → List ℕ
-candidates size leaves = 0 ∷ map (behind size) leaves
+candidates size leaves = 0 ∷ map (following size) leaves
 
 free-block : (frames size : ℕ) (leaves : List Leaf) (at : ℕ) → at + size ≤ frames → IsFree size at leaves → is_free_block frames size leaves at ≡ true
 free-block frames size leaves at fits free =
@@ -95,8 +95,8 @@ candidate-for frames o leaves (suc e) fits free =
           let low : lower.0 ≤ e * pages_of o = lower.2 in
           (lower.0, lower.1, omega arith)
       | false ↦ λ t. let found = any-In (holds_frames (e * pages_of o) (pages_of o)) leaves (block-taken frames (pages_of o) leaves (e * pages_of o) (omega arith) t) in
-          let ends : behind (pages_of o) found.0 ≡ suc e * pages_of o = ends-behind o e found.0 found.2 (free found.0 found.1) in
-          let member : In (behind (pages_of o) found.0) (candidates (pages_of o) leaves) = inr (In-map (behind (pages_of o)) found.0 leaves found.1) in
+          let ends : following (pages_of o) found.0 ≡ suc e * pages_of o = ends-following o e found.0 found.2 (free found.0 found.1) in
+          let member : In (following (pages_of o) found.0) (candidates (pages_of o) leaves) = inr (In-map (following (pages_of o)) found.0 leaves found.1) in
           let P : ℕ → Type 0 = λ k. In k (candidates (pages_of o) leaves) in (
             suc e * pages_of o,
             In-filter (is_free_block frames (pages_of o) leaves) (suc e * pages_of o) (candidates (pages_of o) leaves)
@@ -108,8 +108,8 @@ candidate-for frames o leaves (suc e) fits free =
 candidate-aligned : (size : ℕ) (leaves : List Leaf) (c : ℕ) → In c (candidates size leaves) → (e : ℕ) × (c ≡ e * size)
 candidate-aligned size leaves c (inl e) = (0, omega arith)
 candidate-aligned size leaves c (inr i) =
-    let found = map-In (behind size) c leaves i in
-    let there = aligned-behind size found.0 in
+    let found = map-In (following size) c leaves i in
+    let there = aligned-following size found.0 in
     (there.0, found.2 ∙ there.1)
 
 answer-is : (frames : ℕ) (o : Order) (leaves : List Leaf) (m : Option ℕ)

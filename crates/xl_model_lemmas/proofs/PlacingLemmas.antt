@@ -1,6 +1,6 @@
 -- An insertion that is placed adds one entry and keeps every other, and no insertion changes how many ways there are.
 -- For the cuckoo table and its row.
-use Rattle.xl_model_lemmas.proofs.Common.{◌%◌, ◌++◌, ◌+◌, ◌<◌, ◌==◌, ◌∙◌, ◌∷◌, ◌≡◌, [], advanced, after_attempt, after_placing, ap, arith, AtCap, Attempt, attempt, begins, begun, begun_if_full, Bool, by_occupant, Candidate, cond, Displaced, entries_in, entries_of, Entry, Fails, false, find, forced, forced_moves, growths_left, insertion, length, List, map, map-set_same, min, Moves, nat_tests, next_way, no_moves, None, occupant, one_if, opening_way, Option, place, Placed, Placing, placing, put_in, refl, settled, settled_way, slice_set, slot, slots_left, Some, Stands, start_way, subst, suc, swapped, sym, tally, to_grow, true, way_at, WayShape, with_entry, with_growth, without_key, without_occupant, zero, ℕ}
+use Rattle.xl_model_lemmas.proofs.Common.{◌%◌, ◌++◌, ◌+◌, ◌<◌, ◌==◌, ◌∙◌, ◌∷◌, ◌≡◌, [], advanced, after_attempt, after_placing, ap, arith, AtCap, Attempt, attempt, begins, begun, begun_if_full, Bool, by_occupant, Candidate, cond, Displaced, entries_in, entries_of, Entry, Fails, false, find, forced, forced_moves, growths_left, insertion, length, List, map, map-set_same, min, Moves, nat_tests, next_way, no_moves, None, occupant, one_if, opening_way, Option, place, Placed, Placing, placing, put_in, refl, settled, settled_way, slice_set, slot, slots_left, Some, Succeeds, start_way, subst, suc, swapped, sym, tally, to_grow, true, way_at, WayShape, with_entry, with_growth, without_key, without_occupant, zero, ℕ}
 use Rattle.xl_model_lemmas.proofs.MemberLemmas.{find-passes}
 use Rattle.xl_model_lemmas.proofs.TallyLemmas.{tally-append}
 use Rattle.xl_model_lemmas.proofs.WayTallyLemmas.{tally-with_entry}
@@ -74,14 +74,14 @@ next-in (suc n) at h = mod-less (at + 1) n
     mod-less a n = omega arith
 
 Adds : (Entry → Bool) → ℕ → Attempt → Type 0
-Adds p n (Stands ways moved) = tally_all p ways ≡ n
+Adds p n (Succeeds ways moved) = tally_all p ways ≡ n
 Adds p n Fails = Unit {0}
 
 attempt-adds : (p : Entry → Bool) (left : ℕ) (ways : List WayShape) (at : ℕ) (hand : Entry) (moved : List Displaced) → at < length ways → Adds p (one_if (p hand) + tally_all p ways) (attempt left ways at hand moved)
 unfolding attempt Adds
 attempt-adds p zero ways at hand moved l = go (occupant (way_at ways at) hand.key) refl
   where
-    go : (o : Option Entry) → occupant (way_at ways at) hand.key ≡ o → Adds p (one_if (p hand) + tally_all p ways) (by_occupant o (Stands (put_in ways at hand) moved) (λ e. Fails))
+    go : (o : Option Entry) → occupant (way_at ways at) hand.key ≡ o → Adds p (one_if (p hand) + tally_all p ways) (by_occupant o (Succeeds (put_in ways at hand) moved) (λ e. Fails))
     go None e = let a = put-adds p ways at hand None l e in omega arith
     go (Some y) e = tt
 attempt-adds p (suc left) ways at hand moved l =
@@ -91,7 +91,7 @@ attempt-adds p (suc left) ways at hand moved l =
   where
     go : (o : Option Entry) → occupant (way_at ways at) hand.key ≡ o
         → ((e : Entry) → Adds p (one_if (p e) + tally_all p (put_in ways at hand)) (attempt left (put_in ways at hand) (next_way (length ways) at) e (moved ++ record { key = e.key; way = next_way (length ways) at } ∷ [])))
-        → Adds p (one_if (p hand) + tally_all p ways) (by_occupant o (Stands (put_in ways at hand) moved)
+        → Adds p (one_if (p hand) + tally_all p ways) (by_occupant o (Succeeds (put_in ways at hand) moved)
         (λ e. attempt left (put_in ways at hand) (next_way (length ways) at) e (moved ++ record { key = e.key; way = next_way (length ways) at } ∷ [])))
     go None e next = let a = put-adds p ways at hand None l e in omega arith
     go (Some y) e next =
@@ -125,7 +125,7 @@ PlacingAdds p n (AtCap ways m) = Unit {0}
 
 after-adds : (p : Entry → Bool) (n : ℕ) (a : Attempt) (limit : ℕ) (m : Moves) (failed : Moves → Placing) → Adds p n a → ((k : Moves) → PlacingAdds p n (failed k)) → PlacingAdds p n (after_attempt a limit m failed)
 unfolding Adds PlacingAdds
-after-adds p n (Stands ways moved) limit m failed h next = h
+after-adds p n (Succeeds ways moved) limit m failed h next = h
 after-adds p n Fails limit m failed h next = next _
 
 start-in : (count key : ℕ) → 0 < count → start_way count key < count
@@ -180,7 +180,7 @@ ways_in (Placed ways moved m) = ways
 ways_in (AtCap ways m) = ways
 
 AttemptCounts : ℕ → Attempt → Type 0
-AttemptCounts n (Stands ways moved) = length ways ≡ n
+AttemptCounts n (Succeeds ways moved) = length ways ≡ n
 AttemptCounts n Fails = Unit {0}
 
 put-count : (ways : List WayShape) (at : ℕ) (hand : Entry) → length (put_in ways at hand) ≡ length ways
@@ -190,7 +190,7 @@ attempt-count : (left : ℕ) (ways : List WayShape) (at : ℕ) (hand : Entry) (m
 unfolding attempt AttemptCounts
 attempt-count zero ways at hand moved = go (occupant (way_at ways at) hand.key)
   where
-    go : (o : Option Entry) → AttemptCounts (length ways) (by_occupant o (Stands (put_in ways at hand) moved) (λ e. Fails))
+    go : (o : Option Entry) → AttemptCounts (length ways) (by_occupant o (Succeeds (put_in ways at hand) moved) (λ e. Fails))
     go None = put-count ways at hand
     go (Some e) = tt
 attempt-count (suc left) ways at hand moved =
@@ -200,7 +200,7 @@ attempt-count (suc left) ways at hand moved =
   where
     go : (o : Option Entry)
         → ((e : Entry) → AttemptCounts (length ways) (attempt left (put_in ways at hand) (next_way (length ways) at) e (moved ++ record { key = e.key; way = next_way (length ways) at } ∷ [])))
-        → AttemptCounts (length ways) (by_occupant o (Stands (put_in ways at hand) moved)
+        → AttemptCounts (length ways) (by_occupant o (Succeeds (put_in ways at hand) moved)
         (λ e. attempt left (put_in ways at hand) (next_way (length ways) at) e (moved ++ record { key = e.key; way = next_way (length ways) at } ∷ [])))
     go None next = put-count ways at hand
     go (Some e) next = next e
@@ -208,7 +208,7 @@ attempt-count (suc left) ways at hand moved =
 after-count : (n : ℕ) (a : Attempt) (limit : ℕ) (m : Moves) (failed : Moves → Placing) → AttemptCounts n a → ((k : Moves) → length (ways_in (failed k)) ≡ n)
     → length (ways_in (after_attempt a limit m failed)) ≡ n
 unfolding AttemptCounts
-after-count n (Stands ways moved) limit m failed h next = h
+after-count n (Succeeds ways moved) limit m failed h next = h
 after-count n Fails limit m failed h next = next _
 
 placing-count : (room limit : ℕ) (ways : List WayShape) (x : Entry) (m : Moves) → length (ways_in (placing room limit ways x m)) ≡ length ways

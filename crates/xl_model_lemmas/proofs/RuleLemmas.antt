@@ -45,8 +45,8 @@ new-leaf : (row : Row) (space va : ℕ) (o : Order) (perm : Perm) (leaves : List
     → insert_at space (page_of row.mode va) o (record { space = space; first = page_of row.mode va; order = o; frame = 0; perm = perm }) at ≡ Some c
     → IsSound row leaves c
 unfolding rule
-new-leaf row space va o perm leaves None c ruled is told = absurd (cc)
-new-leaf row space va o perm leaves (Some at) c ruled is told =
+new-leaf row space va o perm leaves None c ruled is known = absurd (cc)
+new-leaf row space va o perm leaves (Some at) c ruled is known =
     let place : HasPlace row space o (va ∷ []) = has-place row space o (va ∷ []) (or-first _ _ ruled) in
     let block = page-block row.mode o va (first_so _ _ place.all_aligned) in
     let leaf : Leaf = record { space = space; first = page_of row.mode va; order = o; frame = at; perm = perm } in
@@ -75,23 +75,23 @@ new-place row leaves space from to o ruled =
 pub sound-of : (row : Row) (leaves : List Leaf) (e : Event) (c : Change) → rule row leaves e ≡ None
     → change_of row leaves e ≡ Some c → IsSound row leaves c
 unfolding change_of
-sound-of row leaves (event.Access va k) c ruled told = absurd (cc)
-sound-of row leaves (event.Map space va o perm) c ruled told =
-    new-leaf row space va o perm leaves (lowest row.frames o leaves) c ruled (lowest-is-lowest row.frames o leaves) told
-sound-of row leaves (event.Unmap space va o) c ruled told =
+sound-of row leaves (event.Access va k) c ruled known = absurd (cc)
+sound-of row leaves (event.Map space va o perm) c ruled known =
+    new-leaf row space va o perm leaves (lowest row.frames o leaves) c ruled (lowest-is-lowest row.frames o leaves) known
+sound-of row leaves (event.Unmap space va o) c ruled known =
     let same : Remove space (page_of row.mode va) o ≡ c = cc in
     let P : Change → Type 0 = λ d. IsSound row leaves d in
     subst P same tt
-sound-of row leaves (event.Protect space va o perm) c ruled told =
+sound-of row leaves (event.Protect space va o perm) c ruled known =
     let same : Protect space (page_of row.mode va) o perm ≡ c = cc in
     let P : Change → Type 0 = λ d. IsSound row leaves d in
     subst P same tt
-sound-of row leaves (event.Move space from to o) c ruled told =
+sound-of row leaves (event.Move space from to o) c ruled known =
     let same : Relocate space (page_of row.mode from) (page_of row.mode to) o ≡ c = cc in
     let P : Change → Type 0 = λ d. IsSound row leaves d in
     subst P same (new-place row leaves space from to o ruled)
-sound-of row leaves (event.Space space) c ruled told = absurd (cc)
-sound-of row leaves (event.Fence to) c ruled told = absurd (cc)
+sound-of row leaves (event.Space space) c ruled known = absurd (cc)
+sound-of row leaves (event.Fence to) c ruled known = absurd (cc)
 
 -- a sound change leaves a mapping
 pub kept-sound : (row : Row) (leaves : List Leaf) (c : Change) → IsMapping row leaves → IsSound row leaves c → IsMapping row (changed c leaves)
@@ -103,4 +103,4 @@ kept-sound row leaves (Relocate space first to o) m s = kept-relocated row space
 -- a command that no refusal stops leaves a mapping
 pub kept-changed : (row : Row) (leaves : List Leaf) (e : Event) (c : Change) → IsMapping row leaves → rule row leaves e ≡ None
     → change_of row leaves e ≡ Some c → IsMapping row (changed c leaves)
-kept-changed row leaves e c m ruled told = kept-sound row leaves c m (sound-of row leaves e c ruled told)
+kept-changed row leaves e c m ruled known = kept-sound row leaves c m (sound-of row leaves e c ruled known)

@@ -2,7 +2,7 @@
 -- one row after another too. For the loops that serve, and their laws.
 use Rattle.xl_model_lemmas.proofs.Common.{◌++◌, ◌∙◌, ◌∷◌, ◌≡◌, [], ap, append-nil, append_assoc, Bool, false, List, opening, refl, Row, sym, ℕ}
 use Rattle.xl_model.specs.Items.{areas_after, run, state_after, states_after}
-use Rattle.xl_model.specs.Scenes.{item_lines, lines_where, Live, live_after, lives_after, opened, opening_scene, rows_after, rows_lines, Scene, scene_after, scenes_after, Served, told_by, untold}
+use Rattle.xl_model.specs.Scenes.{item_lines, lines_where, Live, live_after, lives_after, opened, opening_scene, rows_after, rows_lines, Scene, scene_after, scenes_after, Served, printed_by, unprinted}
 use Rattle.xl_model.specs.declared.script.Area.{Area}
 use Rattle.xl_model.specs.declared.script.Item.{Item}
 use Rattle.xl_model_lemmas.specs.Scenes.{ran_by, rows_by}
@@ -14,17 +14,17 @@ lives-append answers (x ∷ xs) ys l = lives-append answers xs ys (live_after an
 
 -- the text only grows, and what is served does not depend on it
 abbrev pub beyond : List ℕ → Live → Live
-beyond text l = record l { told = text ++ l.told }
+beyond text l = record l { printed = text ++ l.printed }
 
 pub lives-beyond : (answers : Bool) (xs : List Item) (text : List ℕ) (l : Live) → lives_after answers xs (beyond text l) ≡ beyond text (lives_after answers xs l)
 lives-beyond answers [] text l = refl
 lives-beyond answers (x ∷ xs) text l =
-    ap (λ (t : List ℕ). lives_after answers xs (record { scene = scene_after x l.scene; told = t })) (append_assoc text l.told (lines_where answers x l.scene))
+    ap (λ (t : List ℕ). lives_after answers xs (record { scene = scene_after x l.scene; printed = t })) (append_assoc text l.printed (lines_where answers x l.scene))
     ∙ lives-beyond answers xs text (live_after answers x l)
 
-pub lives-told : (answers : Bool) (xs : List Item) (l : Live) → lives_after answers xs l ≡ beyond l.told (lives_after answers xs (untold l.scene))
-lives-told answers xs l =
-    ap (λ (t : List ℕ). lives_after answers xs (record { scene = l.scene; told = t })) (sym (append-nil l.told)) ∙ lives-beyond answers xs l.told (untold l.scene)
+pub lives-printed : (answers : Bool) (xs : List Item) (l : Live) → lives_after answers xs l ≡ beyond l.printed (lives_after answers xs (unprinted l.scene))
+lives-printed answers xs l =
+    ap (λ (t : List ℕ). lives_after answers xs (record { scene = l.scene; printed = t })) (sym (append-nil l.printed)) ∙ lives-beyond answers xs l.printed (unprinted l.scene)
 
 -- what is served does not depend on whether lines are written
 same-scene : (a b : Bool) (xs : List Item) (l m : Live) → l.scene ≡ m.scene → (lives_after a xs l).scene ≡ (lives_after b xs m).scene
@@ -32,20 +32,20 @@ same-scene a b [] l m e = e
 same-scene a b (x ∷ xs) l m e = same-scene a b xs (live_after a x l) (live_after b x m) (ap (scene_after x) e)
 
 pub scene-is : (answers : Bool) (xs : List Item) (l : Live) → (lives_after answers xs l).scene ≡ scenes_after xs l.scene
-scene-is answers xs l = same-scene answers false xs l (untold l.scene) refl
+scene-is answers xs l = same-scene answers false xs l (unprinted l.scene) refl
 
 pub scene-append : (xs ys : List Item) (s : Scene) → scenes_after (xs ++ ys) s ≡ scenes_after ys (scenes_after xs s)
-scene-append xs ys s = ap (λ (l : Live). l.scene) (lives-append false xs ys (untold s)) ∙ scene-is false ys (lives_after false xs (untold s))
+scene-append xs ys s = ap (λ (l : Live). l.scene) (lives-append false xs ys (unprinted s)) ∙ scene-is false ys (lives_after false xs (unprinted s))
 
-pub told-append : (answers : Bool) (xs ys : List Item) (s : Scene) → told_by answers (xs ++ ys) s ≡ told_by answers xs s ++ told_by answers ys (scenes_after xs s)
-told-append answers xs ys s =
-    ap (λ (l : Live). l.told) (lives-append answers xs ys (untold s) ∙ lives-told answers ys (lives_after answers xs (untold s)))
-    ∙ ap (λ t. told_by answers xs s ++ told_by answers ys t) (scene-is answers xs (untold s))
+pub printed-append : (answers : Bool) (xs ys : List Item) (s : Scene) → printed_by answers (xs ++ ys) s ≡ printed_by answers xs s ++ printed_by answers ys (scenes_after xs s)
+printed-append answers xs ys s =
+    ap (λ (l : Live). l.printed) (lives-append answers xs ys (unprinted s) ∙ lives-printed answers ys (lives_after answers xs (unprinted s)))
+    ∙ ap (λ t. printed_by answers xs s ++ printed_by answers ys t) (scene-is answers xs (unprinted s))
 
 -- where no line is to be written, none is
-pub untold-stays : (xs : List Item) (l : Live) → (lives_after false xs l).told ≡ l.told
-untold-stays [] l = refl
-untold-stays (x ∷ xs) l = untold-stays xs (live_after false x l) ∙ append-nil l.told
+pub unprinted-stays : (xs : List Item) (l : Live) → (lives_after false xs l).printed ≡ l.printed
+unprinted-stays [] l = refl
+unprinted-stays (x ∷ xs) l = unprinted-stays xs (live_after false x l) ∙ append-nil l.printed
 
 -- one row after another
 pub rows-append : (item : Item) (areas : List Area) (xs ys : List Served) → rows_after item areas (xs ++ ys) ≡ rows_after item areas xs ++ rows_after item areas ys
@@ -80,4 +80,4 @@ opened-run items [] = refl
 opened-run items (row ∷ rows) = ap (λ (rest : List Served). record { row = row; state = states_after row items [] (opening row) } ∷ rest) (opened-run items rows)
 
 pub rows-run : (items : List Item) (rows : List Row) → (scenes_after items (opening_scene rows)).rows ≡ ran_by items rows
-rows-run items rows = rows-alone false items (untold (opening_scene rows)) ∙ opened-run items rows
+rows-run items rows = rows-alone false items (unprinted (opening_scene rows)) ∙ opened-run items rows

@@ -10,13 +10,13 @@ heads x y xs ys above_x above_y (inr i) (inr j) =
     let b : leaf_key x < leaf_key y = above-In (leaf_key x) y xs above_x j in
     absurd (omega arith)
 
-behind : (z x y : Leaf) (xs ys : List Leaf) → AllAbove (leaf_key x) xs → x ≡ y → In z xs → In z (y ∷ ys) → In z ys
-behind z x y xs ys above e i (inl f) =
+following : (z x y : Leaf) (xs ys : List Leaf) → AllAbove (leaf_key x) xs → x ≡ y → In z xs → In z (y ∷ ys) → In z ys
+following z x y xs ys above e i (inl f) =
     let a : leaf_key x < leaf_key z = above-In (leaf_key x) z xs above i in
     let b : leaf_key z ≡ leaf_key y = ap leaf_key f in
     let d : leaf_key x ≡ leaf_key y = ap leaf_key e in
     absurd (omega arith)
-behind z x y xs ys above e i (inr j) = j
+following z x y xs ys above e i (inr j) = j
 
 -- two sorted lists with the same members are one
 pub same-sorted : (xs ys : List Leaf) → IsSorted xs → IsSorted ys → ((z : Leaf) → In z xs → In z ys) → ((z : Leaf) → In z ys → In z xs) → xs ≡ ys
@@ -26,8 +26,8 @@ same-sorted (x ∷ xs) [] s t there back = absurd (there x (inl refl))
 same-sorted (x ∷ xs) (y ∷ ys) (above_x, rest_x) (above_y, rest_y) there back =
     let head : x ≡ y = heads x y xs ys above_x above_y (there x (inl refl)) (back y (inl refl)) in
     let tail : xs ≡ ys = same-sorted xs ys rest_x rest_y
-    (λ z i. behind z x y xs ys above_x head i (there z (inr i)))
-    (λ z i. behind z y x ys xs above_y (sym head) i (back z (inr i))) in
+    (λ z i. following z x y xs ys above_x head i (there z (inr i)))
+    (λ z i. following z y x ys xs above_y (sym head) i (back z (inr i))) in
     cc
 
 -- putting one leaf in and taking another out, in either order

@@ -4,7 +4,7 @@ use Rattle.xl_model_lemmas.proofs.Common.{◌&&◌, ◌++◌, ◌+◌, ◌==◌,
 use Rattle.xl_model_lemmas.proofs.GivenLemmas.{given, given-no, given-yes, perm-named-is}
 use Rattle.xl_model_lemmas.proofs.KeptLemmas.{kept-tail}
 use Rattle.xl_model_lemmas.proofs.SameLemmas.{both}
-use Rattle.xl_model_lemmas.proofs.WithoutLemmas.{behind, named-same, without-all, without-no, without-yes}
+use Rattle.xl_model_lemmas.proofs.WithoutLemmas.{following, named-same, without-all, without-no, without-yes}
 
 pub tally-short : {A : Type 0} (p : A → Bool) (xs : List A) → tally p xs ≤ length xs
 tally-short p [] = omega arith
@@ -57,7 +57,7 @@ tally-without p s f o old (x ∷ xs) k i named =
     elim (is_leaf s f o x) as (λ b. is_leaf s f o x ≡ b → one_if (p x) + tally p xs ≡ tally p (without_named s f o (x ∷ xs)) + one_if (p old)) [
       | true ↦ λ t.
           let e : x ≡ old = named-same s f o old x (x ∷ xs) k i named (inl refl) t in
-          let gone : without_named s f o (x ∷ xs) ≡ xs = without-yes s f o x xs t ∙ without-all s f o xs (behind s f o x xs k t) in
+          let gone : without_named s f o (x ∷ xs) ≡ xs = without-yes s f o x xs t ∙ without-all s f o xs (following s f o x xs k t) in
           ap (λ z. one_if (p z) + tally p xs) e ∙ turn (one_if (p old)) (tally p xs) ∙ ap (λ ys. tally p ys + one_if (p old)) (sym gone)
       | false ↦ λ t.
           let j : In old xs = elim i [ inl e ↦ absurd (both _ (ap (is_leaf s f o) (sym e) ∙ named) t) | inr l ↦ l ] in

@@ -63,8 +63,8 @@ without-all s f o [] n = without-none s f o
 without-all s f o (x ∷ xs) n = without-no s f o x xs (n x (inl refl)) ∙ ap (λ ys. x ∷ ys) (without-all s f o xs (λ y i. n y (inr i)))
 
 -- after a named leaf no other has the name
-pub behind : (s f : ℕ) (o : Order) (x : Leaf) (xs : List Leaf) → IsKept (x ∷ xs) → is_leaf s f o x ≡ true → (z : Leaf) → In z xs → is_leaf s f o z ≡ false
-behind s f o x xs k t z i =
+pub following : (s f : ℕ) (o : Order) (x : Leaf) (xs : List Leaf) → IsKept (x ∷ xs) → is_leaf s f o x ≡ true → (z : Leaf) → In z xs → is_leaf s f o z ≡ false
+following s f o x xs k t z i =
     elim (is_leaf s f o z) as (λ b. is_leaf s f o z ≡ b → b ≡ false) [
       | true ↦ λ u. absurd (key-apart x z (all-In IsPlaced x (x ∷ xs) k.placed (inl refl)) (all-In IsPlaced z (x ∷ xs) k.placed (inr i))
           (any-false (meets_block x.space x.first x.order) z xs k.apart.0 i) (named-key s f o z u ∙ sym (named-key s f o x t)))

@@ -23,12 +23,12 @@ denied_on_a_hit_items =
     (Referenced 2 4096 kind.Store) ∷ []
 
 -- The same with its answer lines.
-abbrev pub denied_on_a_hit_told_rows : List Row
-denied_on_a_hit_told_rows = (record plain_row { tlb = one_array }) ∷ []
+abbrev pub denied_on_a_hit_known_rows : List Row
+denied_on_a_hit_known_rows = (record plain_row { tlb = one_array }) ∷ []
 
 -- What is served then.
-abbrev pub denied_on_a_hit_told_items : List Item
-denied_on_a_hit_told_items =
+abbrev pub denied_on_a_hit_known_items : List Item
+denied_on_a_hit_known_items =
     (Command (event.Map 0 4096 order.K4 perm_r__u)) ∷
     (Referenced 1 4096 kind.Load) ∷
     (Referenced 2 4096 kind.Store) ∷ []

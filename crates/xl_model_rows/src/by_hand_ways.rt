@@ -10,77 +10,77 @@ ghost use Rattle.xl_model_rows.specs.ByHandWays.{below_the_rehash_pointer_row, b
 /// A key below the rehash pointer whose old and new slot differ, and one that collides with it.
 #[tactic(auto, unfolding(xl_model::specs::Computing::computing))]
 pub fn below_the_rehash_pointer()
-    ensures told { report rows_alone below_the_rehash_pointer_rows below_the_rehash_pointer_items ≡ codes "a accesses=2 ok=2 unmapped=0 denied=0 notcanonical=0 accepted=4 refused=0,0,0,0,0,0,0,0,0 walks=2 reads=12 wchits=0 fills=0 kicks=1 undone=0 migrated=2 growths=2 fences=0 invalidated=0 pasum=0000000000000000 tlb=-\n" }
+    ensures known { report rows_alone below_the_rehash_pointer_rows below_the_rehash_pointer_items ≡ codes "a accesses=2 ok=2 unmapped=0 denied=0 notcanonical=0 accepted=4 refused=0,0,0,0,0,0,0,0,0 walks=2 reads=12 wchits=0 fills=0 kicks=1 undone=0 migrated=2 growths=2 fences=0 invalidated=0 pasum=0000000000000000 tlb=-\n" }
     ensures standing { k4_ways (run below_the_rehash_pointer_row below_the_rehash_pointer_items).table.shape ≡ way_at 2 0 false (in_slot 1 1 ∷ in_slot 2 18 ∷ []) ∷ way_at 1 0 true (in_slot 1 3 ∷ in_slot 0 14 ∷ []) ∷ [] }
 {}
 
 /// The old slot of a migrated key is free.
 #[tactic(auto, unfolding(xl_model::specs::Computing::computing))]
 pub fn the_old_slot_is_free()
-    ensures told { report rows_alone the_old_slot_is_free_rows the_old_slot_is_free_items ≡ codes "a accesses=2 ok=2 unmapped=0 denied=0 notcanonical=0 accepted=4 refused=0,0,0,0,0,0,0,0,0 walks=2 reads=12 wchits=0 fills=0 kicks=0 undone=0 migrated=2 growths=1 fences=0 invalidated=0 pasum=0000000000003000 tlb=-\n" }
+    ensures known { report rows_alone the_old_slot_is_free_rows the_old_slot_is_free_items ≡ codes "a accesses=2 ok=2 unmapped=0 denied=0 notcanonical=0 accepted=4 refused=0,0,0,0,0,0,0,0,0 walks=2 reads=12 wchits=0 fills=0 kicks=0 undone=0 migrated=2 growths=1 fences=0 invalidated=0 pasum=0000000000003000 tlb=-\n" }
     ensures standing { k4_ways (run the_old_slot_is_free_row the_old_slot_is_free_items).table.shape ≡ way_at 2 0 false (in_slot 1 1 ∷ in_slot 0 6 ∷ in_slot 2 14 ∷ []) ∷ way_at 1 0 false (in_slot 1 3 ∷ []) ∷ [] }
 {}
 
 /// After a failed attempt the way with the least s grows, of several the lowest.
 #[tactic(auto, unfolding(xl_model::specs::Computing::computing))]
 pub fn which_way_grows()
-    ensures told { report rows_alone which_way_grows_rows which_way_grows_items ≡ codes "a accesses=0 ok=0 unmapped=0 denied=0 notcanonical=0 accepted=5 refused=0,0,0,0,0,0,0,0,0 walks=0 reads=0 wchits=0 fills=0 kicks=4 undone=3 migrated=3 growths=3 fences=0 invalidated=0 pasum=0000000000000000 tlb=-\n" }
+    ensures known { report rows_alone which_way_grows_rows which_way_grows_items ≡ codes "a accesses=0 ok=0 unmapped=0 denied=0 notcanonical=0 accepted=5 refused=0,0,0,0,0,0,0,0,0 walks=0 reads=0 wchits=0 fills=0 kicks=4 undone=3 migrated=3 growths=3 fences=0 invalidated=0 pasum=0000000000000000 tlb=-\n" }
     ensures standing { k4_ways (run which_way_grows_row which_way_grows_items).table.shape ≡ way_at 1 0 false (in_slot 0 2 ∷ []) ∷ way_at 1 0 false (in_slot 1 8 ∷ in_slot 0 10 ∷ []) ∷ way_at 1 0 false (in_slot 1 0 ∷ in_slot 0 1 ∷ []) ∷ [] }
 {}
 
 /// A forced growth ends one that has begun, and counts none.
 #[tactic(auto, unfolding(xl_model::specs::Computing::computing))]
 pub fn a_forced_growth_of_a_growing_way()
-    ensures told { report rows_alone a_forced_growth_of_a_growing_way_rows a_forced_growth_of_a_growing_way_items ≡ codes "a accesses=0 ok=0 unmapped=0 denied=0 notcanonical=0 accepted=5 refused=0,0,0,0,0,0,0,0,0 walks=0 reads=0 wchits=0 fills=0 kicks=1 undone=1 migrated=3 growths=2 fences=0 invalidated=0 pasum=0000000000000000 tlb=-\n" }
+    ensures known { report rows_alone a_forced_growth_of_a_growing_way_rows a_forced_growth_of_a_growing_way_items ≡ codes "a accesses=0 ok=0 unmapped=0 denied=0 notcanonical=0 accepted=5 refused=0,0,0,0,0,0,0,0,0 walks=0 reads=0 wchits=0 fills=0 kicks=1 undone=1 migrated=3 growths=2 fences=0 invalidated=0 pasum=0000000000000000 tlb=-\n" }
     ensures standing { k4_ways (run a_forced_growth_of_a_growing_way_row a_forced_growth_of_a_growing_way_items).table.shape ≡ way_at 2 0 false (in_slot 1 1 ∷ in_slot 0 6 ∷ in_slot 3 7 ∷ []) ∷ way_at 1 1 true (in_slot 0 0 ∷ in_slot 1 3 ∷ []) ∷ [] }
 {}
 
 /// Displaced keys continue to the next of three ways.
 #[tactic(auto, unfolding(xl_model::specs::Computing::computing))]
 pub fn kicks_in_three_ways()
-    ensures told { report rows_alone kicks_in_three_ways_rows kicks_in_three_ways_items ≡ codes "a accesses=3 ok=3 unmapped=0 denied=0 notcanonical=0 accepted=3 refused=0,0,0,0,0,0,0,0,0 walks=3 reads=27 wchits=0 fills=0 kicks=3 undone=0 migrated=0 growths=0 fences=0 invalidated=0 pasum=0000000000003000 tlb=-\n" }
+    ensures known { report rows_alone kicks_in_three_ways_rows kicks_in_three_ways_items ≡ codes "a accesses=3 ok=3 unmapped=0 denied=0 notcanonical=0 accepted=3 refused=0,0,0,0,0,0,0,0,0 walks=3 reads=27 wchits=0 fills=0 kicks=3 undone=0 migrated=0 growths=0 fences=0 invalidated=0 pasum=0000000000003000 tlb=-\n" }
     ensures standing { k4_ways (run kicks_in_three_ways_row kicks_in_three_ways_items).table.shape ≡ way_at 0 0 false (in_slot 0 3 ∷ []) ∷ way_at 0 0 false (in_slot 0 1 ∷ []) ∷ way_at 0 0 false (in_slot 0 5 ∷ []) ∷ [] }
 {}
 
 /// Displaced keys continue to the next of four ways.
 #[tactic(auto, unfolding(xl_model::specs::Computing::computing))]
 pub fn kicks_in_four_ways()
-    ensures told { report rows_alone kicks_in_four_ways_rows kicks_in_four_ways_items ≡ codes "a accesses=1 ok=1 unmapped=0 denied=0 notcanonical=0 accepted=4 refused=0,0,0,0,0,0,0,0,0 walks=1 reads=12 wchits=0 fills=0 kicks=6 undone=0 migrated=0 growths=0 fences=0 invalidated=0 pasum=0000000000000000 tlb=-\n" }
+    ensures known { report rows_alone kicks_in_four_ways_rows kicks_in_four_ways_items ≡ codes "a accesses=1 ok=1 unmapped=0 denied=0 notcanonical=0 accepted=4 refused=0,0,0,0,0,0,0,0,0 walks=1 reads=12 wchits=0 fills=0 kicks=6 undone=0 migrated=0 growths=0 fences=0 invalidated=0 pasum=0000000000000000 tlb=-\n" }
     ensures standing { k4_ways (run kicks_in_four_ways_row kicks_in_four_ways_items).table.shape ≡ way_at 0 0 false (in_slot 0 13 ∷ []) ∷ way_at 0 0 false (in_slot 0 6 ∷ []) ∷ way_at 0 0 false (in_slot 0 0 ∷ []) ∷ way_at 0 0 false (in_slot 0 14 ∷ []) ∷ [] }
 {}
 
 /// Growths, migrations and kicks before a refusal at the cap stay, and nothing else changes.
 #[tactic(auto, unfolding(xl_model::specs::Computing::computing))]
 pub fn growths_before_a_refusal_stay()
-    ensures told { report rows_alone growths_before_a_refusal_stay_rows growths_before_a_refusal_stay_items ≡ codes "a accesses=5 ok=4 unmapped=1 denied=0 notcanonical=0 accepted=3 refused=0,0,0,0,0,0,0,0,1 walks=5 reads=14 wchits=8 fills=0 kicks=3 undone=3 migrated=2 growths=2 fences=0 invalidated=0 pasum=0000000000003000 tlb=-\n" }
+    ensures known { report rows_alone growths_before_a_refusal_stay_rows growths_before_a_refusal_stay_items ≡ codes "a accesses=5 ok=4 unmapped=1 denied=0 notcanonical=0 accepted=3 refused=0,0,0,0,0,0,0,0,1 walks=5 reads=14 wchits=8 fills=0 kicks=3 undone=3 migrated=2 growths=2 fences=0 invalidated=0 pasum=0000000000003000 tlb=-\n" }
     ensures standing { k4_ways (run growths_before_a_refusal_stay_row growths_before_a_refusal_stay_items).table.shape ≡ way_at 1 0 false (in_slot 1 1 ∷ in_slot 0 6 ∷ []) ∷ way_at 1 0 false (in_slot 0 0 ∷ []) ∷ [] }
 {}
 
 /// A moved leaf's old key counts when a growth is judged.
 #[tactic(auto, unfolding(xl_model::specs::Computing::computing))]
 pub fn a_moved_key_still_counts()
-    ensures told { report rows_alone a_moved_key_still_counts_rows a_moved_key_still_counts_items ≡ codes "a accesses=0 ok=0 unmapped=0 denied=0 notcanonical=0 accepted=2 refused=0,0,0,0,0,0,0,0,0 walks=0 reads=0 wchits=0 fills=0 kicks=0 undone=0 migrated=0 growths=1 fences=0 invalidated=0 pasum=0000000000000000 tlb=-\n" }
+    ensures known { report rows_alone a_moved_key_still_counts_rows a_moved_key_still_counts_items ≡ codes "a accesses=0 ok=0 unmapped=0 denied=0 notcanonical=0 accepted=2 refused=0,0,0,0,0,0,0,0,0 walks=0 reads=0 wchits=0 fills=0 kicks=0 undone=0 migrated=0 growths=1 fences=0 invalidated=0 pasum=0000000000000000 tlb=-\n" }
     ensures standing { k4_ways (run a_moved_key_still_counts_row a_moved_key_still_counts_items).table.shape ≡ way_at 1 0 true (in_slot 1 1 ∷ []) ∷ way_at 1 0 false ([]) ∷ [] }
 {}
 
 /// The last slots of a growth may be fewer than are migrated at once.
 #[tactic(auto, unfolding(xl_model::specs::Computing::computing))]
 pub fn the_last_slots_of_a_growth()
-    ensures told { report rows_alone the_last_slots_of_a_growth_rows the_last_slots_of_a_growth_items ≡ codes "a accesses=0 ok=0 unmapped=0 denied=0 notcanonical=0 accepted=4 refused=0,0,0,0,0,0,0,0,0 walks=0 reads=0 wchits=0 fills=0 kicks=0 undone=0 migrated=4 growths=2 fences=0 invalidated=0 pasum=0000000000000000 tlb=-\n" }
+    ensures known { report rows_alone the_last_slots_of_a_growth_rows the_last_slots_of_a_growth_items ≡ codes "a accesses=0 ok=0 unmapped=0 denied=0 notcanonical=0 accepted=4 refused=0,0,0,0,0,0,0,0,0 walks=0 reads=0 wchits=0 fills=0 kicks=0 undone=0 migrated=4 growths=2 fences=0 invalidated=0 pasum=0000000000000000 tlb=-\n" }
     ensures standing { k4_ways (run the_last_slots_of_a_growth_row the_last_slots_of_a_growth_items).table.shape ≡ way_at 3 0 false (in_slot 1 1 ∷ in_slot 7 7 ∷ []) ∷ way_at 2 0 true (in_slot 2 2 ∷ in_slot 1 3 ∷ []) ∷ [] }
 {}
 
 /// A way may end a growth and begin the next at one insertion.
 #[tactic(auto, unfolding(xl_model::specs::Computing::computing))]
 pub fn a_growth_ends_and_the_next_begins()
-    ensures told { report rows_alone a_growth_ends_and_the_next_begins_rows a_growth_ends_and_the_next_begins_items ≡ codes "a accesses=0 ok=0 unmapped=0 denied=0 notcanonical=0 accepted=2 refused=0,0,0,0,0,0,0,0,0 walks=0 reads=0 wchits=0 fills=0 kicks=0 undone=0 migrated=1 growths=3 fences=0 invalidated=0 pasum=0000000000000000 tlb=-\n" }
+    ensures known { report rows_alone a_growth_ends_and_the_next_begins_rows a_growth_ends_and_the_next_begins_items ≡ codes "a accesses=0 ok=0 unmapped=0 denied=0 notcanonical=0 accepted=2 refused=0,0,0,0,0,0,0,0,0 walks=0 reads=0 wchits=0 fills=0 kicks=0 undone=0 migrated=1 growths=3 fences=0 invalidated=0 pasum=0000000000000000 tlb=-\n" }
     ensures standing { k4_ways (run a_growth_ends_and_the_next_begins_row a_growth_ends_and_the_next_begins_items).table.shape ≡ way_at 1 0 true (in_slot 1 1 ∷ []) ∷ way_at 0 0 true (in_slot 0 0 ∷ []) ∷ [] }
 {}
 
 /// An insertion of another order migrates nothing.
 #[tactic(auto, unfolding(xl_model::specs::Computing::computing))]
 pub fn each_order_has_ways_of_its_own()
-    ensures told { report rows_alone each_order_has_ways_of_its_own_rows each_order_has_ways_of_its_own_items ≡ codes "a accesses=0 ok=0 unmapped=0 denied=0 notcanonical=0 accepted=3 refused=0,0,0,0,0,0,0,0,0 walks=0 reads=0 wchits=0 fills=0 kicks=0 undone=0 migrated=1 growths=3 fences=0 invalidated=0 pasum=0000000000000000 tlb=-\n" }
+    ensures known { report rows_alone each_order_has_ways_of_its_own_rows each_order_has_ways_of_its_own_items ≡ codes "a accesses=0 ok=0 unmapped=0 denied=0 notcanonical=0 accepted=3 refused=0,0,0,0,0,0,0,0,0 walks=0 reads=0 wchits=0 fills=0 kicks=0 undone=0 migrated=1 growths=3 fences=0 invalidated=0 pasum=0000000000000000 tlb=-\n" }
     ensures standing { k4_ways (run each_order_has_ways_of_its_own_row each_order_has_ways_of_its_own_items).table.shape ≡ way_at 1 1 true (in_slot 1 1 ∷ []) ∷ way_at 1 0 true (in_slot 1 3 ∷ []) ∷ [] }
 {}
 
@@ -135,7 +135,7 @@ pub fn a_large_leaf_known_by_one_section()
 /// The same page of two spaces has two keys.
 #[tactic(auto, unfolding(xl_model::specs::Computing::computing))]
 pub fn keys_of_two_spaces()
-    ensures told { report rows_alone keys_of_two_spaces_rows keys_of_two_spaces_items ≡ codes "a accesses=2 ok=2 unmapped=0 denied=0 notcanonical=0 accepted=3 refused=0,0,0,0,0,0,0,0,0 walks=2 reads=12 wchits=0 fills=0 kicks=0 undone=0 migrated=0 growths=0 fences=0 invalidated=0 pasum=0000000000001000 tlb=-\n" }
+    ensures known { report rows_alone keys_of_two_spaces_rows keys_of_two_spaces_items ≡ codes "a accesses=2 ok=2 unmapped=0 denied=0 notcanonical=0 accepted=3 refused=0,0,0,0,0,0,0,0,0 walks=2 reads=12 wchits=0 fills=0 kicks=0 undone=0 migrated=0 growths=0 fences=0 invalidated=0 pasum=0000000000001000 tlb=-\n" }
     ensures standing { k4_ways (run keys_of_two_spaces_row keys_of_two_spaces_items).table.shape ≡ way_at 4 0 false (in_slot 1 1 ∷ []) ∷ way_at 4 0 false (in_slot 1 35184372088833 ∷ []) ∷ [] }
 {}
 

@@ -3,7 +3,7 @@
 ghost use Rattle.std.specs.Prelude.{◌≡◌, codes};
 ghost use Rattle.xl_model.specs.Report.{report};
 ghost use Rattle.xl_model_rows.specs.Plain.{rows_alone, with_answers};
-ghost use Rattle.xl_model_rows.specs.TlbRows.{denied_on_a_hit_rows, denied_on_a_hit_items, denied_on_a_hit_told_rows, denied_on_a_hit_told_items, a_protect_rows, a_protect_items, an_unmap_rows, an_unmap_items, spaces_and_fences_rows, spaces_and_fences_items, two_levels_rows, two_levels_items, purge_all_rows, purge_all_items, purge_page_rows, purge_page_items};
+ghost use Rattle.xl_model_rows.specs.TlbRows.{denied_on_a_hit_rows, denied_on_a_hit_items, denied_on_a_hit_known_rows, denied_on_a_hit_known_items, a_protect_rows, a_protect_items, an_unmap_rows, an_unmap_items, spaces_and_fences_rows, spaces_and_fences_items, two_levels_rows, two_levels_items, purge_all_rows, purge_all_items, purge_page_rows, purge_page_items};
 
 /// A store on a read-only leaf that hits.
 #[tactic(auto, unfolding(xl_model::specs::Computing::computing))]
@@ -13,8 +13,8 @@ pub fn denied_on_a_hit()
 
 /// The same with its answer lines.
 #[tactic(auto, unfolding(xl_model::specs::Computing::computing))]
-pub fn denied_on_a_hit_told()
-    ensures { report with_answers denied_on_a_hit_told_rows denied_on_a_hit_told_items ≡ codes "a cmd map ok\na 1 L 0 0000000000001000 ok 0000000000000000\na 2 S 0 0000000000001000 denied 15\na accesses=2 ok=1 unmapped=0 denied=1 notcanonical=0 accepted=1 refused=0,0,0,0,0,0,0,0,0 walks=1 reads=3 wchits=0 fills=1 kicks=0 undone=0 migrated=0 growths=0 fences=0 invalidated=0 pasum=0000000000000000 tlb=1/1\n" }
+pub fn denied_on_a_hit_known()
+    ensures { report with_answers denied_on_a_hit_known_rows denied_on_a_hit_known_items ≡ codes "a cmd map ok\na 1 L 0 0000000000001000 ok 0000000000000000\na 2 S 0 0000000000001000 denied 15\na accesses=2 ok=1 unmapped=0 denied=1 notcanonical=0 accepted=1 refused=0,0,0,0,0,0,0,0,0 walks=1 reads=3 wchits=0 fills=1 kicks=0 undone=0 migrated=0 growths=0 fences=0 invalidated=0 pasum=0000000000000000 tlb=1/1\n" }
 {}
 
 /// A protect purges the leaf.

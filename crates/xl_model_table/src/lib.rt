@@ -5,4 +5,4 @@
 mod kept;
 mod plain;
 
-pub use plain::PlainTable;
+pub use plain::ListTable;

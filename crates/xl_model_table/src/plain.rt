@@ -14,14 +14,14 @@ use xl_model::{Leaf, NoMemory, NoRoom, Order, Perm, Reach, Refused, Structure, W
 /// A hashed table whose chains are searched leaf by leaf in one list. Nothing is allocated after
 /// `open`.
 #[derive(Drop)]
-pub struct PlainTable {
+pub struct ListTable {
     leaves: Vec<Leaf>,
     buckets: u32,
     entries: u32,
     loads: u64,
 }
 
-impl Model for PlainTable {
+impl Model for ListTable {
     ghost use Rattle.xl_model.specs.Structures.{TableState};
 
     ghost Value = { TableState };
@@ -34,14 +34,14 @@ impl Model for PlainTable {
     ghost invariant = { λ p. IsPlain p.leaves p.buckets p.entries };
 }
 
-impl PlainTable {
+impl ListTable {
     /// An empty table with this many buckets, and with room for `entries` leaves.
-    pub fn open(alloc: Global, buckets: u32, entries: u32) -> Result<PlainTable, NoMemory>
+    pub fn open(alloc: Global, buckets: u32, entries: u32) -> Result<ListTable, NoMemory>
         requires buckets_in { (1 ≤ buckets) × (buckets ≤ 2 ^ 20) }
         requires entries_in { (1 ≤ entries) × (entries ≤ 2 ^ 20) }
         ensures { IfOk result (λ p. p ≡ table_of buckets entries 0 []) }
     {
-        Ok(PlainTable {
+        Ok(ListTable {
             leaves: Vec::with_capacity(alloc, entries as usize)?,
             buckets,
             entries,
@@ -69,7 +69,7 @@ impl PlainTable {
     }
 }
 
-impl Structure for PlainTable {
+impl Structure for ListTable {
     ghost table = { λ p. p };
 
     fn meets(&self, space: u16, first: u64, order: Order) -> bool {

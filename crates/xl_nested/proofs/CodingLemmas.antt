@@ -104,16 +104,16 @@ small-kept g i t =
     rw (a, b, space, first) refl
 
 -- how far a guest page is from the first of its block
-behind-first : (o : Order) (block g : ℕ) → (block == g / pages_of o) ≡ true → host_page g - host_page (block * pages_of o) ≡ g % pages_of o
-behind-first order.K4 block g t = let e : block ≡ g / 1 = grind (arith, nat_tests) in omega arith
-behind-first order.M2 block g t = let e : block ≡ g / 512 = grind (arith, nat_tests) in omega arith
-behind-first order.G1 block g t = let e : block ≡ g / 262144 = grind (arith, nat_tests) in omega arith
+following-first : (o : Order) (block g : ℕ) → (block == g / pages_of o) ≡ true → host_page g - host_page (block * pages_of o) ≡ g % pages_of o
+following-first order.K4 block g t = let e : block ≡ g / 1 = grind (arith, nat_tests) in omega arith
+following-first order.M2 block g t = let e : block ≡ g / 512 = grind (arith, nat_tests) in omega arith
+following-first order.G1 block g t = let e : block ≡ g / 262144 = grind (arith, nat_tests) in omega arith
 
 -- a permission is four bits, and the frame is above them
-same-perm : (word behind : ℕ) → perm_at (word + behind * 16) ≡ perm_at word
+same-perm : (word following : ℕ) → perm_at (word + following * 16) ≡ perm_at word
 unfolding perm_at
-same-perm word behind =
-    let n : ℕ = word + behind * 16 in
+same-perm word following =
+    let n : ℕ = word + following * 16 in
     let one : n % 2 ≡ word % 2 = omega arith in
     let two : n / 2 % 2 ≡ word / 2 % 2 = omega arith in
     let four : n / 4 % 2 ≡ word / 4 % 2 = omega arith in
@@ -121,16 +121,16 @@ same-perm word behind =
     rw (one, two, four, eight) refl
 
 -- the word of a page, by the item
-pub page-says : (i : Item) (g behind result : ℕ) → covers_guest g (leaf_of i) ≡ true → behind ≡ g % pages_of (order_at (i.tag % 3)) → result ≡ i.word + behind * 16
+pub page-says : (i : Item) (g following result : ℕ) → covers_guest g (leaf_of i) ≡ true → following ≡ g % pages_of (order_at (i.tag % 3)) → result ≡ i.word + following * 16
     → IsPageWord (host_page g) result (leaf_of i)
 unfolding leaf_of
-page-says i g behind result covers is e =
+page-says i g following result covers is e =
     let far : host_page g - host_page (i.tag / 3 * pages_of (order_at (i.tag % 3))) ≡ g % pages_of (order_at (i.tag % 3)) =
-    behind-first (order_at (i.tag % 3)) (i.tag / 3) g (block-covers (order_at (i.tag % 3)) (i.tag / 3) g ∙ covers) in
-    let there : (i.word + behind * 16) / 16 ≡ i.word / 16 + behind = omega arith in
+    following-first (order_at (i.tag % 3)) (i.tag / 3) g (block-covers (order_at (i.tag % 3)) (i.tag / 3) g ∙ covers) in
+    let there : (i.word + following * 16) / 16 ≡ i.word / 16 + following = omega arith in
     record {
       frame = ap (λ (n : ℕ). n / 16) e ∙ there ∙ ap (λ (n : ℕ). i.word / 16 + n) (is ∙ sym far);
-      perm = ap (λ (n : ℕ). perm_at n) e ∙ same-perm i.word behind;
+      perm = ap (λ (n : ℕ). perm_at n) e ∙ same-perm i.word following;
     }
 
 -- the block of an item's leaf begins at a multiple of its size
@@ -139,10 +139,10 @@ block-has order.K4 block g h first b f = let m : first ≡ block * 1 = omega ari
 block-has order.M2 block g h first b f = let m : first ≡ block * 512 = omega arith in same-tests _ _ (λ e. grind (arith, nat_tests)) (λ e. grind (arith, nat_tests))
 block-has order.G1 block g h first b f = let m : first ≡ block * 262144 = omega arith in same-tests _ _ (λ e. grind (arith, nat_tests)) (λ e. grind (arith, nat_tests))
 
-block-behind : (o : Order) (block g h first : ℕ) → block ≡ g / pages_of o → first ≡ g - g % pages_of o → (nat_le first h && nat_lt (h - first) (pages_of o)) ≡ true → h - first ≡ h % pages_of o
-block-behind order.K4 block g h first b f e = let m : first ≡ block * 1 = omega arith in grind (arith, nat_tests)
-block-behind order.M2 block g h first b f e = let m : first ≡ block * 512 = omega arith in grind (arith, nat_tests)
-block-behind order.G1 block g h first b f e = let m : first ≡ block * 262144 = omega arith in grind (arith, nat_tests)
+block-following : (o : Order) (block g h first : ℕ) → block ≡ g / pages_of o → first ≡ g - g % pages_of o → (nat_le first h && nat_lt (h - first) (pages_of o)) ≡ true → h - first ≡ h % pages_of o
+block-following order.K4 block g h first b f e = let m : first ≡ block * 1 = omega arith in grind (arith, nat_tests)
+block-following order.M2 block g h first b f e = let m : first ≡ block * 512 = omega arith in grind (arith, nat_tests)
+block-following order.G1 block g h first b f e = let m : first ≡ block * 262144 = omega arith in grind (arith, nat_tests)
 
 number-of : (o : Order) (block g : ℕ) → (block == g / pages_of o) ≡ true → block ≡ g / pages_of o
 number-of order.K4 block g e = grind (arith, nat_tests)
@@ -159,7 +159,7 @@ item-block i g first pages covers f p =
       some = pages-some (order_at (i.tag % 3));
       covers = λ h. sym (block-covers (order_at (i.tag % 3)) (i.tag / 3) h) ∙ block-has (order_at (i.tag % 3)) (i.tag / 3) g h first n f;
       says = λ h has. page-says i h (h - first) _ (sym (block-covers (order_at (i.tag % 3)) (i.tag / 3) h) ∙ block-has (order_at (i.tag % 3)) (i.tag / 3) g h first n f ∙ has)
-          (block-behind (order_at (i.tag % 3)) (i.tag / 3) g h first n f has) refl;
+          (block-following (order_at (i.tag % 3)) (i.tag / 3) g h first n f has) refl;
     })
 
 pub few-pages : (o : Order) → pages_of o ≤ 2 ^ 18

@@ -33,8 +33,8 @@ served-in f rule other (Err r) old after new then e g (is, same) = (e ∙ is, ap
 
 -- what holds before and after a command holds of what is left
 pub served-kept : {U A : Type 0} (P : A → Type 0) (rule : Option NestRefusal) (q : Result U NestRefusal) (old after new : A) → IsServed rule q old after new → P old → P after → P new
-served-kept P rule (Ok u) old after new (is, same) before behind = subst P (sym same) behind
-served-kept P rule (Err r) old after new (is, same) before behind = subst P (sym same) before
+served-kept P rule (Ok u) old after new (is, same) before following = subst P (sym same) following
+served-kept P rule (Err r) old after new (is, same) before following = subst P (sym same) before
 
 not-so : (b : Bool) → not b ≡ false → b ≡ true
 not-so true e = refl

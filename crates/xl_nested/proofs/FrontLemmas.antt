@@ -83,8 +83,8 @@ module _ (p : Leaf → Bool) where
   touched-found : (x : Leaf) (leaves : List Leaf) → find p leaves ≡ Some x → touched p leaves ≡ x ∷ without_first p leaves
   touched-found x leaves e = ap (λ (o : Option Leaf). in_front o (without_first p leaves)) e
 
-  without-behind : (x : Leaf) (rest : List Leaf) → p x ≡ false → without_first p (x ∷ rest) ≡ x ∷ without_first p rest
-  without-behind x rest e = rw e refl
+  without-following : (x : Leaf) (rest : List Leaf) → p x ≡ false → without_first p (x ∷ rest) ≡ x ∷ without_first p rest
+  without-following x rest e = rw e refl
 
 -- the leaf that a look finds, in front of the others
 record IsNewest (g : ℕ) (b : Block) (seen new : List Leaf) : Type 0 where
@@ -111,16 +111,16 @@ module _ (g : ℕ) (b c : Block) where
 
   by-second : (s : Bool) (leaves : List Leaf) → IsFirst b leaves → IsSecond c leaves → (0 < c.pages → 0 < b.pages) → has_page b g ≡ false → has_page c g ≡ true
       → IsNewest g c (in_order s leaves) (exchanged leaves)
-  by-second s [] first second beside behind has = let k : 0 < c.pages = some-page c g has in absurd (omega arith)
-  by-second s (x ∷ []) first second beside behind has = let k : 0 < c.pages = some-page c g has in absurd (omega arith)
-  by-second false (x ∷ (y ∷ rest)) first second beside behind has =
+  by-second s [] first second beside following has = let k : 0 < c.pages = some-page c g has in absurd (omega arith)
+  by-second s (x ∷ []) first second beside following has = let k : 0 < c.pages = some-page c g has in absurd (omega arith)
+  by-second false (x ∷ (y ∷ rest)) first second beside following has =
       let pos : 0 < c.pages = some-page c g has in
       let is : IsBlockOf c y = second pos in
       let other : IsBlockOf b x = first (beside pos) in
       let t : covers_guest g y ≡ true = is.covers g ∙ has in
-      let u : covers_guest g x ≡ false = other.covers g ∙ behind in
+      let u : covers_guest g x ≡ false = other.covers g ∙ following in
       record { leaf = y; block = is; found = find-second (covers_guest g) x y rest u t; moved = sym (touched-second (covers_guest g) x y rest u t) }
-  by-second true (x ∷ (y ∷ rest)) first second beside behind has =
+  by-second true (x ∷ (y ∷ rest)) first second beside following has =
       let is : IsBlockOf c y = second (some-page c g has) in
       let t : covers_guest g y ≡ true = is.covers g ∙ has in
       record { leaf = y; block = is; found = find-first (covers_guest g) y (x ∷ rest) t; moved = sym (touched-first (covers_guest g) y (x ∷ rest) t) }
@@ -155,8 +155,8 @@ module _ (g w : ℕ) (f : Fronts) (leaves : List Leaf) (is : IsFronts f leaves) 
       }
 
   pub second-touched : has_page f.first g ≡ false → has_page f.second g ≡ true → w ≡ word_at f.second g → IsTouched g (Some w) f (record f { swapped = true }) leaves leaves
-  second-touched behind has word =
-      let n : IsNewest g f.second (in_order f.swapped leaves) (exchanged leaves) = by-second g f.first f.second f.swapped leaves is.first_is is.second_is is.beside behind has in
+  second-touched following has word =
+      let n : IsNewest g f.second (in_order f.swapped leaves) (exchanged leaves) = by-second g f.first f.second f.swapped leaves is.first_is is.second_is is.beside following has in
       record {
         found = word-found f.second g w n.leaf _ n.found n.block has word;
         moved = n.moved;
@@ -191,8 +191,8 @@ module _ (f : Fronts) (leaves new : List Leaf) (is : IsFronts f leaves) (swapped
   swap-items =
       let pos : 0 < f.second.pages = is.known swapped in
       let has : has_page f.second f.second.first ≡ true = has-first f.second pos in
-      let behind : has_page f.first f.second.first ≡ false = apart-back f.first f.second f.second.first (is.apart f.second.first) has in
-      let n : IsNewest f.second.first f.second leaves (exchanged leaves) = by-second f.second.first f.first f.second false leaves is.first_is is.second_is is.beside behind has in
+      let following : has_page f.first f.second.first ≡ false = apart-back f.first f.second f.second.first (is.apart f.second.first) has in
+      let n : IsNewest f.second.first f.second leaves (exchanged leaves) = by-second f.second.first f.first f.second false leaves is.first_is is.second_is is.beside following has in
       moved ∙ sym n.moved
 
   pub swap-fronts : IsFronts (record { first = f.second; second = f.first; swapped = false }) new
@@ -277,27 +277,27 @@ module _ (g : ℕ) (b : Block) (f new_f : Fronts) (seen new : List Leaf) (is : I
   was-first c (x ∷ rest) was first = λ pos. subst (λ (k : Block). IsBlockOf k x) (sym (was pos)) (first (subst (λ (k : Block). 0 < k.pages) (was pos) pos))
 
   second-of : (c : Block) (leaves : List Leaf) → IsFirst c leaves → has_page c g ≡ false → (x : Leaf) → find (covers_guest g) leaves ≡ Some x → IsSecond c (x ∷ without_first (covers_guest g) leaves)
-  second-of c [] first behind x e = absurd (cc)
-  second-of c (z ∷ rest) first behind x e = go (nat_lt 0 c.pages) refl
+  second-of c [] first following x e = absurd (cc)
+  second-of c (z ∷ rest) first following x e = go (nat_lt 0 c.pages) refl
     where
       go : (t : Bool) → nat_lt 0 c.pages ≡ t → IsFirst c (without_first (covers_guest g) (z ∷ rest))
       go true h =
           let pos : 0 < c.pages = grind (arith, nat_tests) in
           let block : IsBlockOf c z = first pos in
-          let u : covers_guest g z ≡ false = block.covers g ∙ behind in
-          subst (λ (xs : List Leaf). IsFirst c xs) (sym (without-behind (covers_guest g) z rest u)) first
+          let u : covers_guest g z ≡ false = block.covers g ∙ following in
+          subst (λ (xs : List Leaf). IsFirst c xs) (sym (without-following (covers_guest g) z rest u)) first
       go false h = let none : c.pages ≡ 0 = grind (arith, nat_tests) in unknown-first c _ none
 
   pub pushed-fronts : IsPushed b f new_f → IsFronts new_f new
   pushed-fronts k =
       let s = block-some b (find (covers_guest g) seen) found in
       let block : IsBlockOf b s.0 = s.1.1 in
-      let behind : has_page new_f.second g ≡ false = k.apart g (found-page g b seen found) in
+      let following : has_page new_f.second g ≡ false = k.apart g (found-page g b seen found) in
       record {
         first_small = subst IsSmallBlock (sym k.first_is) small;
         second_small = k.second_small;
         first_is = subst (λ (c : Block). IsFirst c new) (sym k.first_is) first-of-new;
-        second_is = subst (λ (xs : List Leaf). IsSecond new_f.second xs) (sym (in-front s.0 s.1.0)) (second-of new_f.second seen (was-first new_f.second seen k.second_was is.first_is) behind s.0 s.1.0);
+        second_is = subst (λ (xs : List Leaf). IsSecond new_f.second xs) (sym (in-front s.0 s.1.0)) (second-of new_f.second seen (was-first new_f.second seen k.second_was is.first_is) following s.0 s.1.0);
         apart = λ n e. k.apart n (subst (λ (c : Block). has_page c n ≡ true) k.first_is e);
         beside = λ pos. subst (λ (c : Block). 0 < c.pages) (sym k.first_is) block.some;
         known = λ e. let z : true ≡ false = sym e ∙ k.straight in absurd (cc);

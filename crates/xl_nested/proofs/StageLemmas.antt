@@ -24,10 +24,10 @@ module _ {U E : Type 0} where
   pub added-served : {V : Type 0} (r : Result U E) (q : Result V NestRefusal) (x : Leaf) (t new : Table) → IsAsAdded r q → is_ok r ≡ has_room (Insert x) t.leaves (shape_of 3 t) → OnErr r (new ≡ t)
       → OnOk r (new.leaves ≡ with_leaf x t.leaves) → OnOk r (shape_of 3 new ≡ shape_after (Insert x) t.leaves (shape_of 3 t)) → new.loads ≡ t.loads
       → IsServed (room_rule (Some (Insert x)) (stage_of t)) q (stage_of t) (stage_after (Some (Insert x)) (stage_of t)) (stage_of new)
-  added-served (Ok u) (Ok v) x t new told room same a b d = (rw (← room) refl, added x t new a b d)
-  added-served (Ok u) (Err e) x t new told room same a b d = absurd told
-  added-served (Err e) (Ok v) x t new told room same a b d = absurd told
-  added-served (Err e) (Err f) x t new told room same a b d = (rw (← room, told) refl, ap stage_of same)
+  added-served (Ok u) (Ok v) x t new known room same a b d = (rw (← room) refl, added x t new a b d)
+  added-served (Ok u) (Err e) x t new known room same a b d = absurd known
+  added-served (Err e) (Ok v) x t new known room same a b d = absurd known
+  added-served (Err e) (Err f) x t new known room same a b d = (rw (← room, known) refl, ap stage_of same)
 
 -- the root of space 0 has number 0
 pub root-is : (page : ℕ) (t : Table) → WordsReadBack 3 t.spaces t.leaves t.nodes t.words → IsPage (shape_of 3 t) 0 page → number_of 0 3 (up 3 page) t.nodes ≡ Some 0

@@ -40,8 +40,8 @@ unfoldable pub leaf_of : Item → Leaf
 leaf_of i = block_leaf (order_at (i.tag % 3)) (i.tag / 3) i.word
 
 -- The leaves that a list keeps.
-abbrev pub leaves_in : Cached Item → Cached Leaf
-leaves_in c = record { width = c.width; items = map leaf_of c.items }
+abbrev pub cached_leaves : Cached Item → Cached Leaf
+cached_leaves c = record { width = c.width; items = map leaf_of c.items }
 
 -- A leaf that an item can keep.
 pub record IsKeepable (leaf : Leaf) : Type 0 where

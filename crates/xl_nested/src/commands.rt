@@ -101,7 +101,7 @@ fn vunmap(guest: &mut Guest, va: u64, order: Order) -> Result<(), NestRefusal>
 }
 
 /// Counts a command as done or refused, and gives its outcome.
-fn settle(counts: &mut NestCounts, served: Result<(), NestRefusal>) -> NestOutcome
+fn put_in_order(counts: &mut NestCounts, served: Result<(), NestRefusal>) -> NestOutcome
     ensures outcome { result ≡ outcome_settled served }
     ensures counts { counts.new ≡ counts_settled served counts.old }
 {
@@ -145,7 +145,7 @@ impl Nested {
         ensures { IsSettled (event.GMap gaddr order perm) result self.old self.new }
     {
         let served = gmap(&mut self.host, gaddr, order, perm);
-        settle(&mut self.counts, served)
+        put_in_order(&mut self.counts, served)
     }
 
     /// Serves an unmap at the host, or counts the first refusal that holds.
@@ -153,7 +153,7 @@ impl Nested {
         ensures { IsSettled (event.GUnmap gaddr order) result self.old self.new }
     {
         let served = gunmap(&mut self.host, gaddr, order);
-        settle(&mut self.counts, served)
+        put_in_order(&mut self.counts, served)
     }
 
     /// Serves a map at the guest, or counts the first refusal that holds.
@@ -161,7 +161,7 @@ impl Nested {
         ensures { IsSettled (event.VMap va order gaddr perm) result self.old self.new }
     {
         let served = vmap(&mut self.guest, va, order, gaddr, perm);
-        settle(&mut self.counts, served)
+        put_in_order(&mut self.counts, served)
     }
 
     /// Serves an unmap at the guest, or counts the first refusal that holds.
@@ -169,6 +169,6 @@ impl Nested {
         ensures { IsSettled (event.VUnmap va order) result self.old self.new }
     {
         let served = vunmap(&mut self.guest, va, order);
-        settle(&mut self.counts, served)
+        put_in_order(&mut self.counts, served)
     }
 }

@@ -62,7 +62,7 @@ impl Fronts {
 
     /// The newest leaf has this block; the one that was the first is the second.
     #[inline(always)]
-    fn behind(self, block: Block) -> Fronts
+    fn following(self, block: Block) -> Fronts
         requires block { IsSmallBlock block }
         requires first { IsSmallBlock self.first }
         ensures { IsPushed block self result }
@@ -106,7 +106,7 @@ fn swap(fronts: &mut Fronts, cache: &mut GCache)
 
 /// Brings the list into order.
 #[inline(always)]
-fn settle(fronts: &mut Fronts, cache: &mut GCache)
+fn put_in_order(fronts: &mut Fronts, cache: &mut GCache)
     requires { IsFronts fronts.old cache.old.items }
     ensures fronts { IsFronts fronts.new cache.new.items }
     ensures straight { fronts.new.swapped ≡ false }
@@ -127,7 +127,7 @@ fn forget_known(fronts: &mut Fronts, cache: &mut GCache)
     ensures items { cache.new.items ≡ in_order fronts.old.swapped cache.old.items }
     ensures width { cache.new.width ≡ cache.old.width }
 {
-    settle(fronts, cache);
+    put_in_order(fronts, cache);
     *fronts = Fronts::none();
 }
 
@@ -164,18 +164,18 @@ fn touch_list(fronts: &mut Fronts, cache: &mut GCache, guest_page: u64) -> Optio
 
 /// Touches in the list, where neither of the first two leaves covers the page.
 #[inline(never)]
-fn touch_behind(fronts: &mut Fronts, cache: &mut GCache, guest_page: u64) -> Option<u64>
+fn touch_next(fronts: &mut Fronts, cache: &mut GCache, guest_page: u64) -> Option<u64>
     requires page { guest_page < 2 ^ 29 }
     requires fronts { IsFronts fronts.old cache.old.items }
     ensures touched { IsTouched guest_page result fronts.old fronts.new
         cache.old.items cache.new.items }
     ensures width { cache.new.width ≡ cache.old.width }
 {
-    settle(fronts, cache);
+    put_in_order(fronts, cache);
     let Some(block) = cache.touch(guest_page) else {
         return None;
     };
-    *fronts = fronts.behind(block);
+    *fronts = fronts.following(block);
     Some(block.word_at(guest_page))
 }
 
@@ -212,7 +212,7 @@ impl FrontCache {
             self.fronts.swapped = true;
             return Some(word);
         }
-        touch_behind(&mut self.fronts, &mut self.cache, guest_page)
+        touch_next(&mut self.fronts, &mut self.cache, guest_page)
     }
 
     /// Fills the list with a leaf.

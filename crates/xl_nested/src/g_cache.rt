@@ -46,11 +46,11 @@ pub(crate) struct GCache {
 impl Model for GCache {
     ghost use Rattle.xl_model.specs.Caches.{Cached};
     ghost use Rattle.xl_model.specs.declared.leaf.Leaf.{Leaf};
-    ghost use Rattle.xl_nested.specs.Coding.{leaves_in, IsGCache};
+    ghost use Rattle.xl_nested.specs.Coding.{cached_leaves, IsGCache};
 
     ghost Value = { Cached Leaf };
 
-    ghost view = { λ c. leaves_in c.list };
+    ghost view = { λ c. cached_leaves c.list };
 
     ghost invariant = { λ c. IsGCache c.held c.list };
 }

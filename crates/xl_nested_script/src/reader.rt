@@ -2,7 +2,7 @@
 
 ghost use Rattle.std.specs.Prelude.{◌≡◌, None, IfSome};
 ghost use Rattle.xl_nested_model.specs.Nested.{IsNest};
-ghost use Rattle.xl_script.specs.Scripts.{Hears};
+ghost use Rattle.xl_script.specs.Scripts.{Follows};
 ghost use Rattle.xl_script.specs.Texts.{words_of};
 ghost use Rattle.xl_nested_script.specs.Scripts.{nest_said};
 
@@ -54,7 +54,7 @@ impl Form for Reader {
     ghost said = { nest_said };
 
     fn read_line(&mut self, line: &[u8]) -> Result<Option<NestCommand>, u8>
-        ensures { Hears result self.new (nest_said self.old (words_of line.now)) }
+        ensures { Follows result self.new (nest_said self.old (words_of line.now)) }
     {
         let Some(first) = first_word(line) else {
             return Ok(None);

@@ -2,7 +2,7 @@
 pub use Rattle.std.proofs.Common.{◌∙◌, ◌∷◌, ◌≡◌, [], ap, drop, false, List, map, refl, true, ℕ}
 pub use Rattle.std.proofs.lemmas.List.Elements.{All-cons, All-head, All-nil, All-tail}
 pub use Rattle.std.specs.Prelude.{All, Err, Ok, Some}
-pub use Rattle.xl_course.proofs.ToldLemmas.{is_err_by, told_one, told_then}
+pub use Rattle.xl_course.proofs.KnownLemmas.{is_err_by, known_one, known_then}
 pub use Rattle.xl_course.specs.Accounts.{account, Ends}
 pub use Rattle.xl_course.specs.Courses.{commands_of, course}
 pub use Rattle.xl_course.specs.Meanings.{states_after}

@@ -1,7 +1,7 @@
 //! A run of the form: the report of a script over a trace.
 
 ghost use Rattle.std.specs.Prelude.{◌≡◌, Some, Err, IfErr, IfSome};
-ghost use Rattle.xl_outside.specs.Sinks.{GoesOn, IsFlushed};
+ghost use Rattle.xl_outside.specs.Sinks.{Proceeds, IsFlushed};
 ghost use Rattle.xl_course.specs.Stops.{status_by, FolderLeft, is_all_put, StopsRun};
 ghost use Rattle.xl_course.specs.Accounts.{Ends};
 ghost use Rattle.xl_serving.specs.Inputs.{trail_in};
@@ -34,15 +34,15 @@ pub fn report<F: Folder, K: Sink>(
     nested: &mut Option<Nested>,
 ) -> Result<(), Stop>
     requires { IsFlushed K.sink out.old }
-    ensures told { IfSome (F.folder.files folder.old) (λ fs.
+    ensures known { IfSome (F.folder.files folder.old) (λ fs.
         Ends result (nested_account (pair_of words.now) fs)
         K.sink.roomy (K.sink.outside out.old).written (K.sink.outside out.new).written
         out.old out.new
         (nested.new ≡ nested_left (pair_of words.now) fs)) }
     ensures leaves { FolderLeft F.folder folder.old folder.new
         (status_by result) }
-    ensures goes_on { GoesOn (is_all_put result) (K.sink.outside out.old) (K.sink.outside out.new) }
-    ensures met { IfErr result StopsRun }
+    ensures proceeds { Proceeds (is_all_put result) (K.sink.outside out.old) (K.sink.outside out.new) }
+    ensures caused { IfErr result StopsRun }
     ensures early { result ≡ Err Stop.NoMemory → nested.new ≡ nested.old }
 {
     let script = read_script::<NestParser, F>(alloc, folder, words.script)?;
@@ -64,7 +64,7 @@ fn report_orders<F: Folder, K: Sink>(
     nested: &mut Option<Nested>,
 ) -> Result<(), Stop>
     requires { IsFlushed K.sink out.old }
-    ensures told { IfSome (F.folder.files folder.old) (λ fs.
+    ensures known { IfSome (F.folder.files folder.old) (λ fs.
         Ends result (account_from nested_form orders.now.answers (trail_in (Some trace.now) fs)
         orders.now.script.now)
         K.sink.roomy (K.sink.outside out.old).written (K.sink.outside out.new).written
@@ -73,8 +73,8 @@ fn report_orders<F: Folder, K: Sink>(
         orders.now.script.now))) }
     ensures leaves { FolderLeft F.folder folder.old folder.new
         (status_by result) }
-    ensures goes_on { GoesOn (is_all_put result) (K.sink.outside out.old) (K.sink.outside out.new) }
-    ensures met { IfErr result StopsRun }
+    ensures proceeds { Proceeds (is_all_put result) (K.sink.outside out.old) (K.sink.outside out.new) }
+    ensures caused { IfErr result StopsRun }
     ensures early { result ≡ Err Stop.NoMemory → nested.new ≡ nested.old }
 {
     orders.fit();

@@ -1,5 +1,5 @@
 -- What was read so far of a file that is known.
-use Rattle.xl_outside.proofs.Common.{◌++◌, ◌+◌, ◌∙◌, ◌≡◌, ◌≤◌, [], ap, arith, drop, file_of, Files, IfSome, length, length-append, length-take, List, None, Ok, Option, Some, subst, sym, take, take-add, take-take, Tells, ℕ}
+use Rattle.xl_outside.proofs.Common.{◌++◌, ◌+◌, ◌∙◌, ◌≡◌, ◌≤◌, [], ap, arith, drop, file_of, Files, IfSome, length, length-append, length-take, List, None, Ok, Option, Some, subst, sym, take, take-add, take-take, ReadsFile, ℕ}
 
 -- nothing of a file that isn't there, and the first bytes of one that is
 abbrev pub IsFrontOf : Option (List ℕ) → List ℕ → Type 0
@@ -8,7 +8,7 @@ IsFrontOf (Some file) bytes = bytes ≡ take (length bytes) file
 
 -- bytes that are read after a front make it longer
 pub front_more : (file : Option (List ℕ)) (xs : List ℕ) (n w : ℕ) (old new : List ℕ)
-    → IsFrontOf file xs → Tells file (length xs) (Ok n) old new → w ≤ n → n ≤ length new → IsFrontOf file (xs ++ take w new)
+    → IsFrontOf file xs → ReadsFile file (length xs) (Ok n) old new → w ≤ n → n ≤ length new → IsFrontOf file (xs ++ take w new)
 front_more None xs n w old new front tells h k = absurd tells
 front_more (Some file) xs n w old new front reads h k =
     let part : take w new ≡ take w (drop (length xs) file) =
@@ -20,11 +20,11 @@ front_more (Some file) xs n w old new front reads h k =
 -- the same, of the file of a name in a folder whose files are known
 pub more_read : (fs gs : Option Files) (name xs : List ℕ) (at n w : ℕ) (old new after : List ℕ) → gs ≡ fs
     → IfSome fs (λ f. IsFrontOf (file_of f name) xs) → at ≡ length xs
-    → IfSome gs (λ f. Tells (file_of f name) at (Ok n) old new)
+    → IfSome gs (λ f. ReadsFile (file_of f name) at (Ok n) old new)
     → w ≤ n → n ≤ length new → after ≡ xs ++ take w new → IfSome fs (λ f. IsFrontOf (file_of f name) after)
 more_read None gs name xs at n w old new after same front e tells h k a = tt
 more_read (Some f) gs name xs at n w old new after same front e tells h k a =
-    let T : Option Files → Type 0 = λ o. IfSome o (λ f. Tells (file_of f name) at (Ok n) old new) in
-    let U : ℕ → Type 0 = λ m. Tells (file_of f name) m (Ok n) old new in
-    let told = subst U e (subst T same tells) in
-    rw a (front_more (file_of f name) xs n w old new front told h k)
+    let T : Option Files → Type 0 = λ o. IfSome o (λ f. ReadsFile (file_of f name) at (Ok n) old new) in
+    let U : ℕ → Type 0 = λ m. ReadsFile (file_of f name) m (Ok n) old new in
+    let known = subst U e (subst T same tells) in
+    rw a (front_more (file_of f name) xs n w old new front known h k)

@@ -1,5 +1,5 @@
 -- Texts that are written to a sink, in parts and one after another.
-use Rattle.xl_outside.proofs.Common.{◌++◌, ◌+◌, ◌-◌, ◌∙◌, ◌≡◌, ◌≤◌, [], ap, append_assoc, append_cancel_left, arith, Bool, Counted, drop, false, FlushAfter, GoesOn, inl, inr, IsFlushed, IsMore, length, length-append, length-drop, List, more_none, more_then, None, Option, Outside, refl, SentAfter, SinkAfter, SinkMeaning, Some, subst, sym, take, take-add, take-append-add, take-append-drop, take-append-le, take-append_seam, take_all, take_rest, true, with_more, with_more-twice, with_none, WriteCounts, Wrote, WroteFront, ℕ}
+use Rattle.xl_outside.proofs.Common.{◌++◌, ◌+◌, ◌-◌, ◌∙◌, ◌≡◌, ◌≤◌, [], ap, append_assoc, append_cancel_left, arith, Bool, Counted, drop, false, FlushAfter, Proceeds, inl, inr, IsFlushed, IsMore, length, length-append, length-drop, List, more_none, more_then, None, Option, Outside, refl, SentAfter, SinkAfter, SinkMeaning, Some, subst, sym, take, take-add, take-append-add, take-append-drop, take-append-le, take-append_seam, take_all, take_rest, true, with_more, with_more-twice, with_none, WriteCounts, Wrote, WroteFront, ℕ}
 
 -- the first `a`, and `n` of the rest as a slice of it is written
 take-on : (bs : List ℕ) (a n : ℕ) → take a bs ++ take n (take (length bs - a) (drop a bs)) ≡ take (a + n) bs
@@ -18,14 +18,14 @@ written_on before now after bs a n h k =
     ∙ ap (with_more before) (take-on bs a n)
 
 -- a sink as it was
-pub goes_same : (o : Outside) → GoesOn true o o
-goes_same o = record { stays = more_none o.written; counts = refl }
+pub proceeds_same : (o : Outside) → Proceeds true o o
+proceeds_same o = record { stays = more_none o.written; counts = refl }
 
 -- nothing is put
 pub sink_same : {D : Type 0} (sink : SinkMeaning D) (a : D) → SinkAfter sink [] a a true
 sink_same sink a = record {
   took = with_none (sink.taken a);
-  goes_on = goes_same (sink.outside a);
+  proceeds = proceeds_same (sink.outside a);
   calm = λ room h k. (refl, subst (sink.roomy a) (let e : room ≡ room - 0 = omega arith in e) h);
 }
 
@@ -45,8 +45,8 @@ counts_then false a b c h (k, inl l) = (omega arith, inl (omega arith))
 counts_then false a b c h (k, inr l) = (omega arith, inr l)
 
 -- one call after another that went well
-pub goes_then : (whole : Bool) (a b c : Outside) → GoesOn true a b → GoesOn whole b c → GoesOn whole a c
-goes_then whole a b c h k = record {
+pub proceeds_then : (whole : Bool) (a b c : Outside) → Proceeds true a b → Proceeds whole b c → Proceeds whole a c
+proceeds_then whole a b c h k = record {
   stays = more_then a.written b.written c.written h.stays k.stays;
   counts = counts_then whole a.faults b.faults c.faults h.counts k.counts;
 }
@@ -56,7 +56,7 @@ pub sink_then : {D : Type 0} (sink : SinkMeaning D) (xs ys : List ℕ) (a b c : 
     → SinkAfter sink xs a b true → SinkAfter sink ys b c whole → SinkAfter sink (xs ++ ys) a c whole
 sink_then sink xs ys a b c whole x y = record {
   took = wrote_then whole (sink.taken a) (sink.taken b) (sink.taken c) xs ys x.took y.took;
-  goes_on = goes_then whole (sink.outside a) (sink.outside b) (sink.outside c) x.goes_on y.goes_on;
+  proceeds = proceeds_then whole (sink.outside a) (sink.outside b) (sink.outside c) x.proceeds y.proceeds;
   calm = λ room h k.
       let size : length (xs ++ ys) ≡ length xs + length ys = length-append xs ys in
       let s = x.calm room h (omega arith) in
@@ -76,19 +76,19 @@ pub sink_cut : {D : Type 0} (sink : SinkMeaning D) (xs ys : List ℕ) (a b : D)
     → SinkAfter sink xs a b false → SinkAfter sink (xs ++ ys) a b false
 sink_cut sink xs ys a b x = record {
   took = front_of_more (sink.taken a) (sink.taken b) xs ys x.took;
-  goes_on = x.goes_on;
+  proceeds = x.proceeds;
   calm = λ room h k.
       let size : length (xs ++ ys) ≡ length xs + length ys = length-append xs ys in
       let s = x.calm room h (omega arith) in absurd (let e : false ≡ true = s.0 in grind arith);
 }
 
 -- a put that took some, or had nothing to take
-pub put_goes : (a b : Outside) → IsMore a.written b.written → b.faults ≡ a.faults → GoesOn true a b
-put_goes a b h k = record { stays = h; counts = k }
+pub put_proceeds : (a b : Outside) → IsMore a.written b.written → b.faults ≡ a.faults → Proceeds true a b
+put_proceeds a b h k = record { stays = h; counts = k }
 
 -- a put that failed, or took nothing
-pub put_stops : (a b c : Outside) → GoesOn true a b → IsMore b.written c.written → Counted b.faults c.faults → GoesOn false a c
-put_stops a b c h k l = goes_then false a b c h (record { stays = k; counts = l })
+pub put_stops : (a b c : Outside) → Proceeds true a b → IsMore b.written c.written → Counted b.faults c.faults → Proceeds false a c
+put_stops a b c h k l = proceeds_then false a b c h (record { stays = k; counts = l })
 
 abbrev text_or : Option (List ℕ) → List ℕ
 text_or None = []
@@ -115,12 +115,12 @@ pub sent_flushed : {D : Type 0} (sink : SinkMeaning D) (text : List ℕ) (a b c 
     → IsMore (sink.outside c).written (sink.taken c) → SentAfter sink text a c whole
 sent_flushed sink text a b c true e x y l = record {
   wrote = y.flushed ∙ y.keeps ∙ x.took ∙ ap (λ (w : Option (List ℕ)). with_more w text) (sym e);
-  counts = (goes_then true (sink.outside a) (sink.outside b) (sink.outside c) x.goes_on y.goes_on).counts;
+  counts = (proceeds_then true (sink.outside a) (sink.outside b) (sink.outside c) x.proceeds y.proceeds).counts;
   calm = λ room h k. refl;
 }
 sent_flushed sink text a b c false e x y l =
     let front : WroteFront (sink.taken a) text (sink.taken c) = (length text, omega arith, y.keeps ∙ x.took ∙ ap (with_more (sink.taken a)) (sym (take_all (length text) text (omega arith)))) in
-    let goes = goes_then false (sink.outside a) (sink.outside b) (sink.outside c) x.goes_on y.goes_on in record {
+    let goes = proceeds_then false (sink.outside a) (sink.outside b) (sink.outside c) x.proceeds y.proceeds in record {
       wrote = front_written (sink.outside a).written (sink.taken c) (sink.outside c).written text (subst (λ (w : Option (List ℕ)). WroteFront w text (sink.taken c)) (sym e) front) goes.stays l;
       counts = goes.counts;
       calm = λ room h k. (y.calm (room - length text) (x.calm room h k).1).0;
@@ -131,7 +131,7 @@ pub sent_cut : {D : Type 0} (sink : SinkMeaning D) (text : List ℕ) (a b : D)
     → IsFlushed sink a → SinkAfter sink text a b false → IsMore (sink.outside b).written (sink.taken b)
     → SentAfter sink text a b false
 sent_cut sink text a b e x l = record {
-  wrote = front_written (sink.outside a).written (sink.taken b) (sink.outside b).written text (subst (λ (w : Option (List ℕ)). WroteFront w text (sink.taken b)) (sym e) x.took) x.goes_on.stays l;
-  counts = x.goes_on.counts;
+  wrote = front_written (sink.outside a).written (sink.taken b) (sink.outside b).written text (subst (λ (w : Option (List ℕ)). WroteFront w text (sink.taken b)) (sym e) x.took) x.proceeds.stays l;
+  counts = x.proceeds.counts;
   calm = λ room h k. (x.calm room h k).0;
 }

@@ -25,12 +25,12 @@ pub record Reads (file : List ℕ) (at n : ℕ) (old new : List ℕ) : Type 0 wh
 
 -- What a folder whose files are known may return: bytes of the file, or a failed read. A file that
 -- is there is never missing, and nothing is read of one that isn't.
-abbrev pub Tells : Option (List ℕ) → ℕ → Result ℕ Unread → List ℕ → List ℕ → Type 0
-Tells None at (Ok n) old new = ⊥
-Tells None at (Err e) old new = Unit {0}
-Tells (Some file) at (Ok n) old new = Reads file at n old new
-Tells (Some file) at (Err unread.Missing) old new = ⊥
-Tells (Some file) at (Err unread.Failed) old new = Unit {0}
+abbrev pub ReadsFile : Option (List ℕ) → ℕ → Result ℕ Unread → List ℕ → List ℕ → Type 0
+ReadsFile None at (Ok n) old new = ⊥
+ReadsFile None at (Err e) old new = Unit {0}
+ReadsFile (Some file) at (Ok n) old new = Reads file at n old new
+ReadsFile (Some file) at (Err unread.Missing) old new = ⊥
+ReadsFile (Some file) at (Err unread.Failed) old new = Unit {0}
 
 -- what became of calls on a folder: all were fine, or the last of them failed or asked for a file
 -- that isn't there

@@ -17,9 +17,9 @@ abbrev pub is_listed : List ℕ → ℕ → Bool
 is_listed failing number = list_any (λ n. n == number) failing
 
 -- the names and bytes of files
-abbrev pub told : List (String Global × Vec ℕ Global) → Files
-told [] = []
-told (f ∷ fs) = (string_bytes f.0, f.1.items) ∷ told fs
+abbrev pub known : List (String Global × Vec ℕ Global) → Files
+known [] = []
+known (f ∷ fs) = (string_bytes f.0, f.1.items) ∷ known fs
 
 -- a folder in memory: its files, the numbers of the calls that are to fail, the most bytes of a
 -- call, and how many calls, faults and absences there were
@@ -56,8 +56,8 @@ after_read s (Err Failed) = record s { calls = raised s.calls; failed = raised s
 after_read s (Err Missing) = record s { calls = raised s.calls; missed = raised s.missed }
 
 -- what a folder in memory means: its files are known
-abbrev pub told_folder : FolderMeaning FolderState
-told_folder = record { files = λ s. Some s.held; faults = λ s. s.failed; absences = λ s. s.missed; steady = NeverFails }
+abbrev pub known_folder : FolderMeaning FolderState
+known_folder = record { files = λ s. Some s.held; faults = λ s. s.failed; absences = λ s. s.missed; steady = NeverFails }
 
 -- a sink in memory: what was written, how many bytes it holds at most, the numbers of the puts that
 -- are to fail, the most bytes of a put, and how many puts of bytes and faults there were

@@ -64,7 +64,7 @@ WriteCounts false f g = Counted f g
 
 -- A sink continues outside: what was written stays, and a fault was counted exactly where a put
 -- failed.
-pub record GoesOn (whole : Bool) (before after : Outside) : Type 0 where
+pub record Proceeds (whole : Bool) (before after : Outside) : Type 0 where
   pub stays : IsMore before.written after.written
   pub counts : WriteCounts whole before.faults after.faults
 
@@ -72,7 +72,7 @@ pub record GoesOn (whole : Bool) (before after : Outside) : Type 0 where
 -- failed. Where the sink has room for the text, no put fails, and the rest of the room is left.
 pub record SinkAfter {D : Type 0} (sink : SinkMeaning D) (text : List ℕ) (old new : D) (whole : Bool) : Type 0 where
   pub took : Wrote whole (sink.taken old) text (sink.taken new)
-  pub goes_on : GoesOn whole (sink.outside old) (sink.outside new)
+  pub proceeds : Proceeds whole (sink.outside old) (sink.outside new)
   pub calm : (room : ℕ) → sink.roomy old room → length text ≤ room → (whole ≡ true) × sink.roomy new (room - length text)
 
 -- all that the sink took is written
@@ -88,7 +88,7 @@ FlushedWhere false written taken = Unit {0}
 pub record FlushAfter {D : Type 0} (sink : SinkMeaning D) (old new : D) (whole : Bool) : Type 0 where
   pub keeps : sink.taken new ≡ sink.taken old
   pub flushed : FlushedWhere whole (sink.outside new).written (sink.taken new)
-  pub goes_on : GoesOn whole (sink.outside old) (sink.outside new)
+  pub proceeds : Proceeds whole (sink.outside old) (sink.outside new)
   pub calm : (room : ℕ) → sink.roomy old room → (whole ≡ true) × sink.roomy new room
 
 -- What sending a text leaves of a sink that was flushed: the text is written whole, or its front up

@@ -14,10 +14,10 @@ stop_of Failed = stop.Failed
 
 -- A file that is there is read to its end, or its first `limit + 1` bytes are; it is never missing,
 -- and what isn't there is never read.
-abbrev pub TellsWhole : Option (List ℕ) → ℕ → Result (Vec ℕ Global) ReadStop → Type 0
-TellsWhole None limit (Ok bytes) = ⊥
-TellsWhole None limit (Err e) = Unit {0}
-TellsWhole (Some file) limit (Ok bytes) = bytes.items ≡ take (limit + 1) file
-TellsWhole (Some file) limit (Err stop.Missing) = ⊥
-TellsWhole (Some file) limit (Err stop.Failed) = Unit {0}
-TellsWhole (Some file) limit (Err stop.NoMemory) = Unit {0}
+abbrev pub ReadsWhole : Option (List ℕ) → ℕ → Result (Vec ℕ Global) ReadStop → Type 0
+ReadsWhole None limit (Ok bytes) = ⊥
+ReadsWhole None limit (Err e) = Unit {0}
+ReadsWhole (Some file) limit (Ok bytes) = bytes.items ≡ take (limit + 1) file
+ReadsWhole (Some file) limit (Err stop.Missing) = ⊥
+ReadsWhole (Some file) limit (Err stop.Failed) = Unit {0}
+ReadsWhole (Some file) limit (Err stop.NoMemory) = Unit {0}

@@ -1,7 +1,7 @@
 //! A sink that gathers what it takes.
 
 ghost use Rattle.std.specs.Prelude.{◌≡◌, ◌+◌, ◌≤◌, ℕ, [], length, drop, true, is_ok, IfOk, OnOk};
-ghost use Rattle.xl_outside.specs.Sinks.{GoesOn, IsMore, with_more};
+ghost use Rattle.xl_outside.specs.Sinks.{Proceeds, IsMore, with_more};
 ghost use Rattle.xl_outside.specs.Fronts.{fronts_held};
 
 use crate::sink::{Failed, Sink};
@@ -42,7 +42,7 @@ impl<K: Sink + Drop> Buffered<K> {
         ensures none { OnOk result (self.new.held.items ≡ []) }
         ensures kept { with_more (K.sink.taken self.new.to) self.new.held.items
             ≡ with_more (K.sink.taken self.old.to) self.old.held.items }
-        ensures goes_on { GoesOn (is_ok result)
+        ensures proceeds { Proceeds (is_ok result)
             (K.sink.outside self.old.to) (K.sink.outside self.new.to) }
         ensures calm { (room : ℕ) → K.sink.roomy self.old.to (length self.old.held.items + room)
             → (is_ok result ≡ true) × K.sink.roomy self.new.to room }

@@ -1,7 +1,7 @@
 //! A folder of files that are read in pieces.
 
 ghost use Rattle.std.specs.Prelude.{◌≡◌, ℕ, ◌+◌, ◌-◌, ◌^◌, ◌<◌, ◌≤◌, length, take, drop, Option, IfOk, IfSome};
-ghost use Rattle.xl_outside.specs.Folders.{FolderMeaning, file_of, Tells, FolderAfter, fate_by, unread_fate};
+ghost use Rattle.xl_outside.specs.Folders.{FolderMeaning, file_of, ReadsFile, FolderAfter, fate_by, unread_fate};
 
 use thiserror::Error;
 
@@ -25,8 +25,8 @@ pub trait Folder {
     /// how many: 0 for a buffer that isn't empty exactly where `at` is at or past the file's end.
     fn read_at(&mut self, name: &str, at: u64, buf: &mut [u8]) -> Result<usize, Unread>
         ensures count { IfOk result (λ n. n ≤ length buf.new) }
-        ensures told { IfSome (folder.files self.old)
-            (λ fs. Tells (file_of fs name.now) at result buf.old buf.new) }
+        ensures known { IfSome (folder.files self.old)
+            (λ fs. ReadsFile (file_of fs name.now) at result buf.old buf.new) }
         ensures leaves { FolderAfter folder self.old self.new
             (fate_by unread_fate result) };
 }

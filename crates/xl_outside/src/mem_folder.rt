@@ -1,8 +1,8 @@
 //! A folder in memory, which fails where it is asked to.
 
 ghost use Rattle.std.specs.Prelude.{◌≡◌, ℕ, ◌+◌, ◌-◌, ◌^◌, ◌<◌, ◌≤◌, min, length, take, drop, Option, Some, None, Ok, Err, if◌then◌else◌, IfOk, IfSome, option_copied, option_map};
-ghost use Rattle.xl_outside.specs.Folders.{Files, file_of, Tells, Reads, FolderAfter, fate_by, unread_fate};
-ghost use Rattle.xl_outside.specs.Memory.{FolderState, told, is_listed, part_of, opened_folder, told_folder, read_answer, after_read};
+ghost use Rattle.xl_outside.specs.Folders.{Files, file_of, ReadsFile, Reads, FolderAfter, fate_by, unread_fate};
+ghost use Rattle.xl_outside.specs.Memory.{FolderState, known, is_listed, part_of, opened_folder, known_folder, read_answer, after_read};
 
 use crate::folder::{Folder, Unread};
 use std::marker::Model;
@@ -23,12 +23,12 @@ pub struct MemFolder {
 
 impl Model for MemFolder {
     ghost use Rattle.std.specs.Prelude.{ℕ, ◌<◌};
-    ghost use Rattle.xl_outside.specs.Memory.{FolderState, told};
+    ghost use Rattle.xl_outside.specs.Memory.{FolderState, known};
 
     ghost Value = { FolderState };
 
     ghost view = { λ s. record {
-      held = told s.files.items;
+      held = known s.files.items;
       failing = s.failing.items;
       piece = s.piece;
       calls = s.calls;
@@ -43,7 +43,7 @@ impl MemFolder {
     /// Takes the files with their names. Where a name occurs twice, its first file is meant.
     pub fn open(files: Vec<(String, Vec<u8>)>, failing: Vec<u64>, piece: usize) -> MemFolder
         requires { 0 < piece }
-        ensures { result ≡ opened_folder (told files.items) failing.items piece }
+        ensures { result ≡ opened_folder (known files.items) failing.items piece }
     {
         MemFolder {
             files,
@@ -57,14 +57,14 @@ impl MemFolder {
 }
 
 impl Folder for MemFolder {
-    ghost folder = { told_folder };
+    ghost folder = { known_folder };
 
     fn read_at(&mut self, name: &str, at: u64, buf: &mut [u8]) -> Result<usize, Unread>
         ensures answer { result ≡ read_answer self.old name.now at (length buf.old) }
         ensures after { self.new ≡ after_read self.old result }
         ensures count { IfOk result (λ n. n ≤ length buf.new) }
-        ensures told { Tells (file_of self.old.held name.now) at result buf.old buf.new }
-        ensures leaves { FolderAfter told_folder self.old self.new (fate_by unread_fate result) }
+        ensures known { ReadsFile (file_of self.old.held name.now) at result buf.old buf.new }
+        ensures leaves { FolderAfter known_folder self.old self.new (fate_by unread_fate result) }
     {
         self.calls = self.calls.saturating_add(1);
         let answer = if self.failing.contains(&self.calls) {
@@ -83,7 +83,7 @@ impl Folder for MemFolder {
 
 /// The bytes of the first file of this name.
 fn find<'a>(files: &'a [(String, Vec<u8>)], name: &str) -> Option<&'a [u8]>
-    ensures { option_copied result ≡ file_of (told files.entry.now) name.now }
+    ensures { option_copied result ≡ file_of (known files.entry.now) name.now }
 {
     for (held, bytes) in files {
         if held.as_str() == name {
@@ -103,8 +103,8 @@ fn read_part(
 ) -> Result<usize, Unread>
     requires { 0 < piece }
     ensures answer { result
-        ≡ part_of (file_of (told files.now) name.now) at (length buf.old) piece }
-    ensures told { Tells (file_of (told files.now) name.now) at result buf.old buf.new }
+        ≡ part_of (file_of (known files.now) name.now) at (length buf.old) piece }
+    ensures known { ReadsFile (file_of (known files.now) name.now) at result buf.old buf.new }
 {
     let Some(file) = find(files, name) else {
         return Err(Unread::Missing);

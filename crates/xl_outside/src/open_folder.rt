@@ -2,7 +2,7 @@
 
 ghost use Rattle.std.specs.Prelude.{◌≡◌, ℕ, ◌+◌, ◌≤◌, length, Option, Some, Result, Err, IfOk, IfSome};
 ghost use Rattle.std.specs.Option.{ForSome};
-ghost use Rattle.xl_outside.specs.Folders.{Files, file_of, Tells};
+ghost use Rattle.xl_outside.specs.Folders.{Files, file_of, ReadsFile};
 ghost use Rattle.xl_outside.specs.Streams.{IsFileOf, Holds};
 
 use crate::folder::{Folder, Unread};
@@ -39,8 +39,8 @@ impl<O: Opener<S> + Drop, S: Stream + Drop> OpenFolder<O, S> {
     /// Reads from the last file, or else from the file of this name, which is then the last one.
     fn read(&mut self, name: &str, at: u64, buf: &mut [u8]) -> Result<usize, Unread>
         ensures count { IfOk result (λ n. n ≤ length buf.new) }
-        ensures told { IfSome (O.files self.old.opener)
-            (λ fs. Tells (file_of fs name.now) at result buf.old buf.new) }
+        ensures known { IfSome (O.files self.old.opener)
+            (λ fs. ReadsFile (file_of fs name.now) at result buf.old buf.new) }
         ensures opener { self.new.opener ≡ self.old.opener }
         ensures faults { self.new.faults ≡ self.old.faults }
         ensures absences { self.new.absences ≡ self.old.absences }

@@ -26,7 +26,7 @@ pub trait Stream {
     /// exactly at the file's end.
     fn read_on(&mut self, buf: &mut [u8]) -> io::Result<usize>
         ensures count { IfOk result (λ n. n ≤ length buf.new) }
-        ensures told { IfOk result (λ n. ReadsHere (state self.old) n buf.old buf.new) }
+        ensures known { IfOk result (λ n. ReadsHere (state self.old) n buf.old buf.new) }
         ensures moves { IfOk result
             (λ n. state self.new ≡ option_map (moved_on n) (state self.old)) };
 }
@@ -38,7 +38,7 @@ pub trait Opener<S: Stream> {
 
     /// Opens the file of this name at its front.
     fn open(&self, name: &str) -> Result<S, Unread>
-        ensures told { IfSome (files self.now)
+        ensures known { IfSome (files self.now)
             (λ fs. Opens result S.state name.now (file_of fs name.now)) }
         ensures front { IfOk result (λ s. ForSome (S.state s) (λ t. t.place ≡ 0)) };
 }
@@ -71,7 +71,7 @@ impl<S: Stream + Drop> Placed<S> {
     /// can be read from its front to its end.
     pub fn read_at(self, at: u64, buf: &mut [u8]) -> Result<(Placed<S>, usize), Unread>
         ensures count { IfOk result (λ r. r.1 ≤ length buf.new) }
-        ensures told { IfOk result (λ r.
+        ensures known { IfOk result (λ r.
             ReadsHere (option_map (sought at) (S.state self.stream)) r.1 buf.old buf.new) }
         ensures moves { IfOk result (λ r. S.state r.0.stream
             ≡ option_map (moved_on r.1) (option_map (sought at) (S.state self.stream))) }

@@ -4,7 +4,7 @@ ghost use Rattle.std.specs.Prelude.{◌≡◌, ℕ, ◌+◌, ◌-◌, ◌^◌, �
 ghost use Rattle.std.specs.Vec.{vec_len};
 ghost use Rattle.xl_outside.specs.Folders.{file_of, FolderAfter, fate_by, read_stop_fate};
 ghost use Rattle.xl_outside.specs.declared.whole.ReadStop.TheVariants as reason;
-ghost use Rattle.xl_outside.specs.Whole.{TellsWhole, stop_of};
+ghost use Rattle.xl_outside.specs.Whole.{ReadsWhole, stop_of};
 
 use crate::folder::{Folder, Unread};
 use std::alloc::{AllocError, Global};
@@ -52,8 +52,8 @@ pub fn read_whole<F: Folder>(
 ) -> Result<Vec<u8>, ReadStop>
     requires { limit < 2 ^ 63 }
     ensures size { IfOk result (λ bytes. vec_len bytes ≤ limit + 1) }
-    ensures told { IfSome (F.folder.files folder.old)
-        (λ fs. TellsWhole (file_of fs name.now) limit result) }
+    ensures known { IfSome (F.folder.files folder.old)
+        (λ fs. ReadsWhole (file_of fs name.now) limit result) }
     ensures leaves { FolderAfter F.folder folder.old folder.new
         (fate_by read_stop_fate result) }
 {

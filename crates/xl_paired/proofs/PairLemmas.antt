@@ -8,7 +8,7 @@ use Rattle.std.proofs.lemmas.List.{append-nil, take_all}
 use Rattle.xl_model.specs.declared.address.Kind.{Kind}
 use Rattle.xl_model.specs.declared.fault.InputFault.{InputFault}
 use Rattle.xl_model.specs.Courses.{Trail}
-use Rattle.xl_outside.specs.Whole.{TellsWhole}
+use Rattle.xl_outside.specs.Whole.{ReadsWhole}
 use Rattle.xl_outside.specs.Fronts.{with_none}
 use Rattle.xl_outside.specs.Sinks.{SinkMeaning, SinkAfter}
 use Rattle.xl_outside.proofs.SinkLemmas.{sink_same}
@@ -19,10 +19,10 @@ use Rattle.xl_script.specs.Scripts.{Said, Reading, lines_read, text_read}
 use Rattle.xl_course.specs.declared.stop.Stop.{Stop}
 use Rattle.xl_course.specs.declared.stop.Stop.TheVariants as why
 use Rattle.xl_course.specs.Stops.{is_all_put, StopsOpening}
-use Rattle.xl_course.specs.Meanings.{states_after, told_by}
+use Rattle.xl_course.specs.Meanings.{states_after, printed_by}
 use Rattle.xl_course.specs.Serving.{HasServed, Skimmed, StateAfter}
 use Rattle.xl_course.specs.Accounts.{account, Ends, EndsAs}
-use Rattle.xl_course.proofs.ServedLemmas.{served-untold}
+use Rattle.xl_course.proofs.ServedLemmas.{served-unprinted}
 use Rattle.xl_serving.specs.Inputs.{Finds, said_by, said_in, script_fault}
 use Rattle.xl_paired.specs.Pairs.{Command, Referenced, Pairing, events_from, meaning_of, course_of, script_said, account_from, state_from, account_by, left_by}
 use Rattle.xl_serving.proofs.InputLemmas.{longer}
@@ -43,7 +43,7 @@ module _ {S C : Type 0} (said : S → List (List ℕ) → Said S C) (start : S) 
 -- the file was read, and its text
 pub finds_text : {A B : Type 0} (view : A → B) (says : List ℕ → Result B ScriptFault) (file : Option (List ℕ)) (text : Vec ℕ Global) (bytes : List ℕ) (r : Result A Stop)
     → ((xs : List ℕ) → says (take 1048577 xs) ≡ says xs)
-    → TellsWhole file 1048576 (Ok text) → bytes ≡ text.items → Finds view r (script_said says bytes) → Finds view r (said_in (script_said says) file)
+    → ReadsWhole file 1048576 (Ok text) → bytes ≡ text.items → Finds view r (script_said says bytes) → Finds view r (said_in (script_said says) file)
 finds_text view says None text bytes r cut h b f = absurd h
 finds_text view says (Some file) text bytes r cut h b f =
     subst (Finds view r) (ap (said_by script_fault) (ap says (b ∙ h) ∙ cut file)) f
@@ -72,15 +72,15 @@ module _ {A C E S : Type 0} (p : Pairing A C E S) where
       ap (events_from at 0) one ∙ events-more at 0 i ∙ ap (λ (j : ℕ). events_from at 0 i ++ at j ∷ []) same in
       k ∙ ap (p.after (at i)) h ∙ sym (commanded-more (events_from at 0 i) (at i) s) ∙ ap (λ (es : List E). commanded es s) (sym more)
 
-  told-commands : (answers : Bool) (es : List E) (s : S) → told_by (meaning_of p) answers (map Command es) s ≡ []
-  told-commands true [] s = refl
-  told-commands false [] s = refl
-  told-commands true (e ∷ es) s = told-commands true es (p.after e s)
-  told-commands false (e ∷ es) s = told-commands false es (p.after e s)
+  printed-commands : (answers : Bool) (es : List E) (s : S) → printed_by (meaning_of p) answers (map Command es) s ≡ []
+  printed-commands true [] s = refl
+  printed-commands false [] s = refl
+  printed-commands true (e ∷ es) s = printed-commands true es (p.after e s)
+  printed-commands false (e ∷ es) s = printed-commands false es (p.after e s)
 
   -- no record was taken
-  pub skimmed_none : (stands : Type 0) (t : Trail) (s : S) → stands → Skimmed (meaning_of p) stands t t s s 0
-  skimmed_none stands t s h = record { stands_still = h; taken = []; split = refl; follow = refl; many = refl }
+  pub skimmed_none : (reads_from : Type 0) (t : Trail) (s : S) → reads_from → Skimmed (meaning_of p) reads_from t t s s 0
+  skimmed_none reads_from t s h = record { still_reads = h; taken = []; split = refl; follow = refl; many = refl }
 
   module _ {K : Type 0} (sink : SinkMeaning K) where
     -- events of commands were served, which have no lines
@@ -88,25 +88,25 @@ module _ {A C E S : Type 0} (p : Pairing A C E S) where
         → HasServed (meaning_of p) sink answers (map Command es) s t k k true
     served_commands answers es s t k e = record {
       state_is = e;
-      writes = subst (λ (text : List ℕ). SinkAfter sink text k k true) (sym (told-commands answers es s)) (sink_same sink k);
+      writes = subst (λ (text : List ℕ). SinkAfter sink text k k true) (sym (printed-commands answers es s)) (sink_same sink k);
     }
 
-    state-told : (whole : Bool) (number va : ℕ) (kind : Kind) (s t : S) → t ≡ p.after (p.access va kind) s → StateAfter (meaning_of p) whole (Referenced number va kind ∷ []) s t
-    state-told true number va kind s t h = h
-    state-told false number va kind s t h = tt
+    state-known : (whole : Bool) (number va : ℕ) (kind : Kind) (s t : S) → t ≡ p.after (p.access va kind) s → StateAfter (meaning_of p) whole (Referenced number va kind ∷ []) s t
+    state-known true number va kind s t h = h
+    state-known false number va kind s t h = tt
 
     -- an access was served, and its line put
-    pub served_told : (number va : ℕ) (kind : Kind) (s t : S) (k l : K) (whole : Bool) → t ≡ p.after (p.access va kind) s → SinkAfter sink (p.line number va kind s) k l whole
+    pub served_known : (number va : ℕ) (kind : Kind) (s t : S) (k l : K) (whole : Bool) → t ≡ p.after (p.access va kind) s → SinkAfter sink (p.line number va kind s) k l whole
         → HasServed (meaning_of p) sink true (Referenced number va kind ∷ []) s t k l whole
-    served_told number va kind s t k l whole h w = record {
-      state_is = state-told whole number va kind s t h;
+    served_known number va kind s t k l whole h w = record {
+      state_is = state-known whole number va kind s t h;
       writes = subst (λ (text : List ℕ). SinkAfter sink text k l whole) (sym (append-nil (p.line number va kind s))) w;
     }
 
     -- an access was served of which no line is wanted
     pub served_quietly : (number va : ℕ) (kind : Kind) (s t : S) (k : K) → t ≡ p.after (p.access va kind) s
         → HasServed (meaning_of p) sink false (Referenced number va kind ∷ []) s t k k true
-    served_quietly number va kind s t k h = served-untold (meaning_of p) sink (Referenced number va kind ∷ []) s t k h
+    served_quietly number va kind s t k h = served-unprinted (meaning_of p) sink (Referenced number va kind ∷ []) s t k h
 
 -- the steps of some commands
 pub length_steps : {C D : Type 0} (f : C → D) (cs : List C) → length (map f cs) ≡ length cs
@@ -144,7 +144,7 @@ module _ {K A C E S : Type 0} (p : Pairing A C E S) (answers : Bool) (roomy : K 
   stopped_as : {V : Type 0} (view : V → A) (stop : Stop) (out : Option (List ℕ)) → Finds view (Err stop) by → EndsAs (Err stop) (account_by p answers t by) out out
   stopped_as view (why.Input f) out h =
       subst (λ (z : Result A InputFault). EndsAs (Err (why.Input f)) (account_by p answers t z) out out) (sym h) (refl, with_none out)
-  stopped_as view why.ReadFault out h = record { done = []; left = (account_by p answers t by).told; split = refl; wrote = with_none out }
+  stopped_as view why.ReadFault out h = record { done = []; left = (account_by p answers t by).known; split = refl; wrote = with_none out }
   stopped_as view why.WriteFault out h = absurd h
   stopped_as view why.NoMemory out h = inl refl
 

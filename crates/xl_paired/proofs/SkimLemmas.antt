@@ -39,10 +39,10 @@ module _ {A C E S : Type 0} (p : Pairing A C E S) where
       ∙ sym (pairs-append r.accesses (accesses_of_all rs) s)
 
   -- the state after the accesses that were skimmed is that after their records' items
-  pub skimmed : (stands : Type 0) (t u : Trail) (before after : List Access) (count : ℕ) (s : S) → before ≡ [] → Skims stands t u before after count
-      → Skimmed (meaning_of p) stands t u s (accesses_after p after s) count
-  skimmed stands t u before after count s none k = record {
-    stands_still = k.stands_still;
+  pub skimmed : (reads_from : Type 0) (t u : Trail) (before after : List Access) (count : ℕ) (s : S) → before ≡ [] → Skims reads_from t u before after count
+      → Skimmed (meaning_of p) reads_from t u s (accesses_after p after s) count
+  skimmed reads_from t u before after count s none k = record {
+    still_reads = k.still_reads;
     taken = k.taken;
     split = k.split;
     follow =

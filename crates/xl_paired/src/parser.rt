@@ -48,7 +48,7 @@ pub fn read_script<P: Parser, F: Folder>(
     folder: &mut F,
     name: &str,
 ) -> Result<P::Script, Stop>
-    ensures told { IfSome (F.folder.files folder.old) (λ fs.
+    ensures known { IfSome (F.folder.files folder.old) (λ fs.
         Finds P.said result (script_in P.says name.now fs)) }
     ensures leaves { FolderAfter F.folder folder.old folder.new
         (fate_by stop_fate result) }

@@ -1,9 +1,9 @@
 -- Accesses that are served by one row after another.
-use Rattle.xl_rack.proofs.Common.{◌++◌, ◌∙◌, ◌∷◌, ◌≡◌, [], Access, access_served, accessed_by, after_of, All, All-append, All-cons, All-drop, All-take, ap, Area, area_for, arith, Command, demand_served, demanded, drop, EachServed, Event, form_named, IsFramed, IsNamed, Kind, List, map, map-append, map-id, None, Option, refl, Reply, reply_to, row_served, rows_after, scene-append, scene_after, scene_of, scenes_after, Served, served_of, Slot, slot_form, Some, state_after, subst, suc, sym, take, take-append-drop, waiting_served, wanted, ℕ}
+use Rattle.xl_rack.proofs.Common.{◌++◌, ◌∙◌, ◌∷◌, ◌≡◌, [], Access, access_served, accessed_by, after_of, All, All-append, All-cons, All-drop, All-take, ap, Area, area_for, arith, Command, demand_served, demanded, drop, EachServed, Event, form_named, IsFramed, IsNamed, Kind, List, map, map-append, map-id, None, Option, refl, Reply, reply_to, row_served, rows_after, scene-append, scene_after, scene_of, scenes_after, Served, served_of, Slot, slot_form, Some, state_after, subst, suc, sym, take, take-append-drop, batch_served, wanted, ℕ}
 use Rattle.std.proofs.Math.Path.{fun_ext}
 use Rattle.std.proofs.lemmas.Simd.{map-map}
-use Rattle.xl_serving.specs.Batches.{item_of, items_waiting}
-use Rattle.xl_serving.specs.declared.batch.WaitingEvent.{WaitingEvent}
+use Rattle.xl_serving.specs.Batches.{item_of, items_batched}
+use Rattle.xl_serving.specs.declared.batch.BatchedEvent.{BatchedEvent}
 use Rattle.xl_rack.proofs.DemandLemmas.{access-space, referenced-is}
 use Rattle.xl_model.specs.declared.event.Event.TheVariants as event
 use Rattle.xl_model.specs.declared.leaf.Reply.TheVariants as reply
@@ -73,29 +73,29 @@ unfolding scene_after
 scene-event e areas rows = ap (λ (z : List Served). scene_of z areas) (events-map e areas rows)
 
 -- All items by the first row, then by the next, leave the rows that each item by all rows leaves.
-pub waiting-by-row : (accesses : List Access) (events : List WaitingEvent) (areas : List Area) (rows : List Served)
-    → scene_of (map (waiting_served accesses events areas) rows) areas ≡ scenes_after (items_waiting accesses events) (scene_of rows areas)
-waiting-by-row accesses [] areas rows = row-by-row accesses areas rows
-waiting-by-row accesses (w ∷ events) areas rows =
+pub batched-by-row : (accesses : List Access) (events : List BatchedEvent) (areas : List Area) (rows : List Served)
+    → scene_of (map (batch_served accesses events areas) rows) areas ≡ scenes_after (items_batched accesses events) (scene_of rows areas)
+batched-by-row accesses [] areas rows = row-by-row accesses areas rows
+batched-by-row accesses (w ∷ events) areas rows =
     let front = take w.gap accesses in
     let rest = drop w.gap accesses in
     let mid = map (row_served front areas) rows in
     ap (λ (z : List Served). scene_of z areas)
-    (sym (ap (map (waiting_served rest events areas)) (map-map (after_of w.event) (row_served front areas) rows)
-    ∙ map-map (waiting_served rest events areas) (λ (v : Served). after_of w.event (row_served front areas v)) rows))
-    ∙ waiting-by-row rest events areas (map (after_of w.event) mid)
-    ∙ ap (scenes_after (items_waiting rest events)) (sym (scene-event w.event areas mid) ∙ ap (scene_after (Command w.event)) (row-by-row front areas rows))
-    ∙ sym (scene-append (map item_of front) (Command w.event ∷ items_waiting rest events) (scene_of rows areas))
+    (sym (ap (map (batch_served rest events areas)) (map-map (after_of w.event) (row_served front areas) rows)
+    ∙ map-map (batch_served rest events areas) (λ (v : Served). after_of w.event (row_served front areas v)) rows))
+    ∙ batched-by-row rest events areas (map (after_of w.event) mid)
+    ∙ ap (scenes_after (items_batched rest events)) (sym (scene-event w.event areas mid) ∙ ap (scene_after (Command w.event)) (row-by-row front areas rows))
+    ∙ sym (scene-append (map item_of front) (Command w.event ∷ items_batched rest events) (scene_of rows areas))
 
 row-stays : (accesses : List Access) (areas : List Area) (v : Served) → (row_served accesses areas v).row ≡ v.row
 row-stays [] areas v = refl
 row-stays (a ∷ accesses) areas v = row-stays accesses areas (access_served a.va a.kind areas v)
 
-pub waiting-stays : (accesses : List Access) (events : List WaitingEvent) (areas : List Area) (v : Served) → (waiting_served accesses events areas v).row ≡ v.row
-waiting-stays accesses [] areas v = row-stays accesses areas v
-waiting-stays accesses (w ∷ events) areas v =
+pub batched-stays : (accesses : List Access) (events : List BatchedEvent) (areas : List Area) (v : Served) → (batch_served accesses events areas v).row ≡ v.row
+batched-stays accesses [] areas v = row-stays accesses areas v
+batched-stays accesses (w ∷ events) areas v =
     let front = take w.gap accesses in
-    waiting-stays (drop w.gap accesses) events areas (after_of w.event (row_served front areas v)) ∙ row-stays front areas v
+    batched-stays (drop w.gap accesses) events areas (after_of w.event (row_served front areas v)) ∙ row-stays front areas v
 
 -- a slot stays of the form that its row names, where the row and the form stay
 named-row : (s t : Slot) → (served_of t).row ≡ (served_of s).row → slot_form t ≡ slot_form s → IsNamed s → IsNamed t
@@ -145,10 +145,10 @@ pub each-same : {f g : Served → Served} {slots one : List Slot} → EachServed
 each-same {slots = slots} {one = one} each same = subst (λ (h : Served → Served). EachServed h slots one) (fun_ext same) each
 
 -- accesses, then a command, and then what comes after them
-pub waiting-in-parts : {before behind : List Access} {events later : List WaitingEvent} {w : WaitingEvent} (accesses : List Access) (areas : List Area) (v : Served)
-    → events ≡ w ∷ later → before ≡ take w.gap accesses → behind ≡ drop w.gap accesses
-    → waiting_served behind later areas (after_of w.event (row_served before areas v)) ≡ waiting_served accesses events areas v
-waiting-in-parts {before} {behind} {events} {later} {w} accesses areas v events-are before-is behind-is =
-    ap (λ (xs : List Access). waiting_served xs later areas (after_of w.event (row_served before areas v))) behind-is
-    ∙ ap (λ (xs : List Access). waiting_served (drop w.gap accesses) later areas (after_of w.event (row_served xs areas v))) before-is
-    ∙ ap (λ (es : List WaitingEvent). waiting_served accesses es areas v) (sym events-are)
+pub batched-in-parts : {before following : List Access} {events later : List BatchedEvent} {w : BatchedEvent} (accesses : List Access) (areas : List Area) (v : Served)
+    → events ≡ w ∷ later → before ≡ take w.gap accesses → following ≡ drop w.gap accesses
+    → batch_served following later areas (after_of w.event (row_served before areas v)) ≡ batch_served accesses events areas v
+batched-in-parts {before} {following} {events} {later} {w} accesses areas v events-are before-is following-is =
+    ap (λ (xs : List Access). batch_served xs later areas (after_of w.event (row_served before areas v))) following-is
+    ∙ ap (λ (xs : List Access). batch_served (drop w.gap accesses) later areas (after_of w.event (row_served xs areas v))) before-is
+    ∙ ap (λ (es : List BatchedEvent). batch_served accesses es areas v) (sym events-are)

@@ -1,5 +1,5 @@
 -- Row after row.
-use Rattle.xl_rack.proofs.Common.{◌++◌, ◌+◌, ◌<◌, ◌∙◌, ◌∷◌, ◌≡◌, ◌≤◌, [], ap, append-nil, append_assoc, Area, areas_after, arith, at_place, Bool, Counts, drop, drop_all, false, HasServed, IfSome, Item, item_lines, length, line_where, lines-append, List, refl, Row, row_line, row_lines, rows_after, rows_lines, scene_after, scene_of, SceneAfter, Served, served_after, ServedAt, sink_cut, sink_then, SinkAfter, SinkMeaning, slice_get, Some, subst, suc, sym, take, take-append-drop, take_all, told_by, true, zero, ℕ}
+use Rattle.xl_rack.proofs.Common.{◌++◌, ◌+◌, ◌<◌, ◌∙◌, ◌∷◌, ◌≡◌, ◌≤◌, [], ap, append-nil, append_assoc, Area, areas_after, arith, at_place, Bool, Counts, drop, drop_all, false, HasServed, IfSome, Item, item_lines, length, line_where, lines-append, List, refl, Row, row_line, row_lines, rows_after, rows_lines, scene_after, scene_of, SceneAfter, Served, served_after, ServedAt, sink_cut, sink_then, SinkAfter, SinkMeaning, slice_get, Some, subst, suc, sym, take, take-append-drop, take_all, printed_by, true, zero, ℕ}
 use Rattle.xl_rack.proofs.LineLemmas.{lines-cut, lines-none, lines-then}
 use Rattle.xl_rack.proofs.PlaceLemmas.{some-of}
 
@@ -68,9 +68,9 @@ row-lines-next rows i v h =
     ap row_lines (take_next rows i v h) ∙ row-lines-append (take i rows) (v ∷ [])
     ∙ ap (λ (t : List ℕ). row_lines (take i rows) ++ t) (append-nil (row_line v.row.name v.state.counts))
 
-told-item : (answers : Bool) (item : Item) (areas : List Area) (rows : List Served) → line_where answers (rows_lines item areas rows) ≡ told_by answers (item ∷ []) (scene_of rows areas)
-told-item true item areas rows = refl
-told-item false item areas rows = refl
+known-item : (answers : Bool) (item : Item) (areas : List Area) (rows : List Served) → line_where answers (rows_lines item areas rows) ≡ printed_by answers (item ∷ []) (scene_of rows areas)
+known-item true item areas rows = refl
+known-item false item areas rows = refl
 
 scene-item : (whole : Bool) (item : Item) (areas : List Area) (p q : List Served) → (whole ≡ true → q ≡ rows_after item areas p) → areas_after item areas ≡ areas
     → SceneAfter whole (item ∷ []) (scene_of p areas) (scene_of q areas)
@@ -88,10 +88,10 @@ module _ {K : Type 0} (sink : SinkMeaning K) where
   nothing-yet answers item areas p k = record { rows_are = refl; writes = lines-none sink answers k }
 
   -- the lines of the row at the place
-  next-told : (answers : Bool) (item : Item) (areas : List Area) (i : ℕ) (p q r : List Served) (k l m : K) (whole : Bool) (v : Served) → slice_get p i ≡ Some v → i < length p
+  next-known : (answers : Bool) (item : Item) (areas : List Area) (i : ℕ) (p q r : List Served) (k l m : K) (whole : Bool) (v : Served) → slice_get p i ≡ Some v → i < length p
       → Going answers item areas i p q k l → ServedAt sink answers i (served_after item areas) (λ w. item_lines item areas w.row w.state) q r l m whole
       → SinkAfter sink (line_where answers (rows_lines item areas (take i p) ++ item_lines item areas v.row v.state)) k m whole
-  next-told answers item areas i p q r k l m whole v e h going x =
+  next-known answers item areas i p q r k l m whole v e h going x =
       let got : slice_get q i ≡ Some v = ap (λ (rows : List Served). slice_get rows i) going.rows_are ∙ get-partly item areas p i h ∙ e in
       lines-then sink answers (rows_lines item areas (take i p)) (item_lines item areas v.row v.state) k l m whole going.writes (some-of _ _ v x.writes got)
 
@@ -103,7 +103,7 @@ module _ {K : Type 0} (sink : SinkMeaning K) where
       let P : List ℕ → Type 0 = λ t. SinkAfter sink (line_where answers t) k m true in
       record {
         rows_are = x.rows_are ∙ ap (at_place (served_after item areas) i) going.rows_are ∙ next_place item areas p i h;
-        writes = subst P (sym (lines-next item areas p i v e)) (next-told answers item areas i p q r k l m true v e h going x);
+        writes = subst P (sym (lines-next item areas p i v e)) (next-known answers item areas i p q r k l m true v e h going x);
       }
 
   -- all rows were served
@@ -113,7 +113,7 @@ module _ {K : Type 0} (sink : SinkMeaning K) where
       let P : List ℕ → Type 0 = λ t. SinkAfter sink t k l true in
       record {
         scene_is = scene-item true item areas p q (λ w. going.rows_are ∙ partly_all item areas p i h) same;
-        writes = subst P (ap (λ (rows : List Served). line_where answers (rows_lines item areas rows)) (take_all i p h) ∙ told-item answers item areas p) going.writes;
+        writes = subst P (ap (λ (rows : List Served). line_where answers (rows_lines item areas rows)) (take_all i p h) ∙ known-item answers item areas p) going.writes;
       }
 
   -- a put failed at a row
@@ -123,13 +123,13 @@ module _ {K : Type 0} (sink : SinkMeaning K) where
   row-lost answers item areas i p q r k l m h same going x =
       let (v, e) = the-row p i h in
       let front : SinkAfter sink (line_where answers (rows_lines item areas (take i p) ++ item_lines item areas v.row v.state)) k m false =
-      next-told answers item areas i p q r k l m false v e h going x in
+      next-known answers item areas i p q r k l m false v e h going x in
       let P : List ℕ → Type 0 = λ t. SinkAfter sink (line_where answers t) k m false in
       let upto : SinkAfter sink (line_where answers (rows_lines item areas (take (i + 1) p))) k m false = subst P (sym (lines-next item areas p i v e)) front in
       let Q : List ℕ → Type 0 = λ t. SinkAfter sink t k m false in
       record {
         scene_is = tt;
-        writes = subst Q (ap (line_where answers) (sym (lines-parts item areas p (i + 1))) ∙ told-item answers item areas p)
+        writes = subst Q (ap (line_where answers) (sym (lines-parts item areas p (i + 1))) ∙ known-item answers item areas p)
             (lines-cut sink answers (rows_lines item areas (take (i + 1) p)) (rows_lines item areas (drop (i + 1) p)) k m upto);
       }
 

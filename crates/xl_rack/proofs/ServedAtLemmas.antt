@@ -25,12 +25,12 @@ still-there f i p q is h = let e : length q ≡ length p = ap (λ (rows : List S
 
 module _ {K : Type 0} (sink : SinkMeaning K) (answers : Bool) (i : ℕ) where
   -- the row was served, and this text was written
-  pub told-at : (f : Served → Served) (lines : Served → List ℕ) (p q : List Served) (k l : K) (whole : Bool) (text : List ℕ) → q ≡ at_place f i p
+  pub known-at : (f : Served → Served) (lines : Served → List ℕ) (p q : List Served) (k l : K) (whole : Bool) (text : List ℕ) → q ≡ at_place f i p
       → ((v : Served) → slice_get p i ≡ Some v → text ≡ line_where answers (lines v)) → SinkAfter sink text k l whole
       → ServedAt sink answers i f lines p q k l whole
-  told-at f lines p q k l whole text is same told = record {
+  known-at f lines p q k l whole text is same known = record {
     rows_are = rows-is whole f i p q is;
-    writes = if-some _ _ (λ v e. let P : List ℕ → Type 0 = λ t. SinkAfter sink t k l whole in subst P (same v e) told);
+    writes = if-some _ _ (λ v e. let P : List ℕ → Type 0 = λ t. SinkAfter sink t k l whole in subst P (same v e) known);
   }
 
   -- the same in other words

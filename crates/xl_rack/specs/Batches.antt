@@ -7,7 +7,7 @@ use Rattle.xl_model.specs.Items.{area_for, demanded, referenced}
 use Rattle.xl_model.specs.Scenes.{Served}
 use Rattle.xl_machine.specs.Served.{after_of}
 use Rattle.xl_lackey.specs.declared.skim.Access.{Access}
-use Rattle.xl_serving.specs.declared.batch.WaitingEvent.{WaitingEvent}
+use Rattle.xl_serving.specs.declared.batch.BatchedEvent.{BatchedEvent}
 
 -- A row after the demand of an access that was unmapped.
 abbrev pub demand_served : ℕ → Kind → List Area → Served → Served
@@ -24,7 +24,7 @@ row_served (a ∷ accesses) areas v = row_served accesses areas (access_served a
 
 -- A row after accesses with events among them: for each event the accesses of its gap and then its
 -- command, and at the end the accesses after the last event.
-abbrev pub waiting_served : List Access → List WaitingEvent → List Area → Served → Served
-waiting_served accesses [] areas v = row_served accesses areas v
-waiting_served accesses (w ∷ events) areas v =
-    waiting_served (drop w.gap accesses) events areas (after_of w.event (row_served (take w.gap accesses) areas v))
+abbrev pub batch_served : List Access → List BatchedEvent → List Area → Served → Served
+batch_served accesses [] areas v = row_served accesses areas v
+batch_served accesses (w ∷ events) areas v =
+    batch_served (drop w.gap accesses) events areas (after_of w.event (row_served (take w.gap accesses) areas v))

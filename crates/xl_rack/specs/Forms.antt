@@ -66,13 +66,13 @@ form_of (held.Cuckoo4 m) = CuckooForm4
 form_of (held.Range m) = RangeForm
 
 -- The row and the state of a machine that is handed out.
-abbrev pub served_behind : Held → Served
-served_behind (held.Sv39 m) = m.now
-served_behind (held.Sv48 m) = m.now
-served_behind (held.Sv57 m) = m.now
-served_behind (held.Hashed m) = m.now
-served_behind (held.Clustered m) = m.now
-served_behind (held.Cuckoo2 m) = m.now
-served_behind (held.Cuckoo3 m) = m.now
-served_behind (held.Cuckoo4 m) = m.now
-served_behind (held.Range m) = m.now
+abbrev pub served_following : Held → Served
+served_following (held.Sv39 m) = m.now
+served_following (held.Sv48 m) = m.now
+served_following (held.Sv57 m) = m.now
+served_following (held.Hashed m) = m.now
+served_following (held.Clustered m) = m.now
+served_following (held.Cuckoo2 m) = m.now
+served_following (held.Cuckoo3 m) = m.now
+served_following (held.Cuckoo4 m) = m.now
+served_following (held.Range m) = m.now

@@ -5,7 +5,7 @@ ghost use Rattle.std.specs.Prelude.{◌≡◌, ◌&&◌, ◌≤◌, length, nat_
 ghost use Rattle.std.specs.List.{list_any};
 ghost use Rattle.xl_machine.specs.Served.{after_of};
 ghost use Rattle.xl_serving.specs.Batches.{gaps};
-ghost use Rattle.xl_rack.specs.Batches.{demand_served, access_served, row_served, waiting_served};
+ghost use Rattle.xl_rack.specs.Batches.{demand_served, access_served, row_served, batch_served};
 ghost use Rattle.xl_rack.specs.Slots.{served_of, slot_form, has_no_arrays, EachServed};
 
 use crate::slot::{Slot, at_table};
@@ -13,7 +13,7 @@ use xl_areas::{Areas, map_for};
 use xl_lackey::Access;
 use xl_machine::Machine;
 use xl_model::{Event, Kind, Outcome, Reply, Structure};
-use xl_serving::WaitingEvent;
+use xl_serving::BatchedEvent;
 
 /// Serves the map that an area demands for an address, and where it is done, the access once more.
 #[inline(never)]
@@ -31,7 +31,7 @@ fn serve_demand<S: Structure>(machine: &mut Machine<S>, va: u64, kind: Kind, are
 /// Serves an access, with the events of its demand. NO_TLB: no TLB is expected; CACHED: the row
 /// caches level-0 nodes.
 #[inline(always)]
-fn serve_one<S: Structure, const BARE: bool, const CACHED: bool>(
+fn serve_one<S: Structure, const NO_TLB: bool, const CACHED: bool>(
     machine: &mut Machine<S>,
     va: u64,
     kind: Kind,
@@ -39,17 +39,17 @@ fn serve_one<S: Structure, const BARE: bool, const CACHED: bool>(
 )
     ensures { machine.new ≡ access_served va kind areas.now machine.old }
 {
-    if machine.access_at_once::<BARE, CACHED>(va, kind) {
+    if machine.access_at_once::<NO_TLB, CACHED>(va, kind) {
         return;
     }
-    if let Reply::Unmapped = machine.access_as::<BARE>(va, kind) {
+    if let Reply::Unmapped = machine.access_as::<NO_TLB>(va, kind) {
         serve_demand(machine, va, kind, areas);
     }
 }
 
 /// Serves accesses to a machine one after another.
 #[inline(never)]
-fn serve_each<S: Structure, const BARE: bool, const CACHED: bool>(
+fn serve_each<S: Structure, const NO_TLB: bool, const CACHED: bool>(
     machine: &mut Machine<S>,
     accesses: &[Access],
     areas: &Areas,
@@ -57,7 +57,7 @@ fn serve_each<S: Structure, const BARE: bool, const CACHED: bool>(
     ensures { machine.new ≡ row_served accesses.now areas.now machine.old }
 {
     for access in accesses {
-        serve_one::<S, BARE, CACHED>(machine, access.va, access.kind, areas);
+        serve_one::<S, NO_TLB, CACHED>(machine, access.va, access.kind, areas);
     }
 }
 
@@ -66,7 +66,7 @@ fn serve_each<S: Structure, const BARE: bool, const CACHED: bool>(
 fn serve_all<S: Structure>(machine: &mut Machine<S>, accesses: &[Access], areas: &Areas)
     ensures { machine.new ≡ row_served accesses.now areas.now machine.old }
 {
-    if !machine.is_bare() {
+    if !machine.lacks_tlb() {
         serve_each::<S, false, false>(machine, accesses, areas);
     } else if machine.caches_lowest() {
         serve_each::<S, true, true>(machine, accesses, areas);
@@ -79,27 +79,27 @@ fn serve_all<S: Structure>(machine: &mut Machine<S>, accesses: &[Access], areas:
 fn serve_machine<S: Structure>(
     machine: &mut Machine<S>,
     accesses: &[Access],
-    events: &[WaitingEvent],
+    events: &[BatchedEvent],
     areas: &Areas,
 )
     requires { gaps events.now ≤ length accesses.now }
-    ensures { machine.new ≡ waiting_served accesses.now events.now areas.now machine.old }
+    ensures { machine.new ≡ batch_served accesses.now events.now areas.now machine.old }
 {
-    let Some((waiting, later)) = events.split_first() else {
+    let Some((batched, later)) = events.split_first() else {
         serve_all(machine, accesses, areas);
         return;
     };
-    let (before, behind) = accesses.split_at(waiting.gap);
+    let (before, following) = accesses.split_at(batched.gap);
     serve_all(machine, before, areas);
-    let _outcome = machine.step(waiting.event);
-    serve_machine(machine, behind, later, areas);
+    let _outcome = machine.step(batched.event);
+    serve_machine(machine, following, later, areas);
 }
 
 /// Serves accesses to the machine of a slot, and the events among them.
-fn serve_slot(slot: &mut Slot, accesses: &[Access], events: &[WaitingEvent], areas: &Areas)
+fn serve_slot(slot: &mut Slot, accesses: &[Access], events: &[BatchedEvent], areas: &Areas)
     requires { gaps events.now ≤ length accesses.now }
     ensures served { served_of slot.new
-        ≡ waiting_served accesses.now events.now areas.now (served_of slot.old) }
+        ≡ batch_served accesses.now events.now areas.now (served_of slot.old) }
     ensures form { slot_form slot.new ≡ slot_form slot.old }
 {
     at_table!(slot, machine => serve_machine(machine, accesses, events, areas))
@@ -107,9 +107,9 @@ fn serve_slot(slot: &mut Slot, accesses: &[Access], events: &[WaitingEvent], are
 
 /// Serves accesses, and the events among them, to each slot in turn: all to the first, then to the
 /// next.
-fn serve_in_turn(slots: &mut [Slot], accesses: &[Access], events: &[WaitingEvent], areas: &Areas)
+fn serve_in_turn(slots: &mut [Slot], accesses: &[Access], events: &[BatchedEvent], areas: &Areas)
     requires { gaps events.now ≤ length accesses.now }
-    ensures { EachServed (waiting_served accesses.now events.now areas.now) slots.old slots.new }
+    ensures { EachServed (batch_served accesses.now events.now areas.now) slots.old slots.new }
 {
     let Some((first, rest)) = slots.split_first_mut() else {
         return;
@@ -165,34 +165,34 @@ pub(crate) fn step_each(slots: &mut [Slot], event: Event)
 fn serve_side_by_side(
     slots: &mut [Slot],
     accesses: &[Access],
-    events: &[WaitingEvent],
+    events: &[BatchedEvent],
     areas: &Areas,
 )
     requires { gaps events.now ≤ length accesses.now }
-    ensures { EachServed (waiting_served accesses.now events.now areas.now) slots.old slots.new }
+    ensures { EachServed (batch_served accesses.now events.now areas.now) slots.old slots.new }
 {
-    let Some((waiting, later)) = events.split_first() else {
+    let Some((batched, later)) = events.split_first() else {
         serve_each_to_all(slots, accesses, areas);
         return;
     };
-    let (before, behind) = accesses.split_at(waiting.gap);
+    let (before, following) = accesses.split_at(batched.gap);
     serve_each_to_all(slots, before, areas);
-    step_each(slots, waiting.event);
-    serve_side_by_side(slots, behind, later, areas);
+    step_each(slots, batched.event);
+    serve_side_by_side(slots, following, later, areas);
 }
 
 /// Whether a slot's machine has no arrays.
-fn is_bare(slot: &Slot) -> bool
+fn lacks_tlb(slot: &Slot) -> bool
     ensures { result ≡ has_no_arrays slot.now }
 {
-    at_table!(slot, machine => machine.is_bare())
+    at_table!(slot, machine => machine.lacks_tlb())
 }
 
 /// Whether the machine of one of these slots has no arrays.
-fn one_is_bare(slots: &[Slot]) -> bool
+fn one_lacks_tlb(slots: &[Slot]) -> bool
     ensures { result ≡ list_any has_no_arrays slots.now }
 {
-    slots.iter().any(|slot| is_bare(slot))
+    slots.iter().any(|slot| lacks_tlb(slot))
 }
 
 /// Whether these slots are served side by side: several, all with a TLB. Without a TLB a machine is
@@ -200,13 +200,13 @@ fn one_is_bare(slots: &[Slot]) -> bool
 fn has_company(slots: &[Slot]) -> bool
     ensures { result ≡ (nat_lt 1 (length slots.now) && not (list_any has_no_arrays slots.now)) }
 {
-    slots.len() > 1 && !one_is_bare(slots)
+    slots.len() > 1 && !one_lacks_tlb(slots)
 }
 
 /// Serves accesses, and the events among them, to some slots.
-fn serve_group(slots: &mut [Slot], accesses: &[Access], events: &[WaitingEvent], areas: &Areas)
+fn serve_group(slots: &mut [Slot], accesses: &[Access], events: &[BatchedEvent], areas: &Areas)
     requires { gaps events.now ≤ length accesses.now }
-    ensures { EachServed (waiting_served accesses.now events.now areas.now) slots.old slots.new }
+    ensures { EachServed (batch_served accesses.now events.now areas.now) slots.old slots.new }
 {
     if has_company(slots) {
         serve_side_by_side(slots, accesses, events, areas);
@@ -222,11 +222,11 @@ const SIDE_BY_SIDE: usize = 8;
 pub(crate) fn serve_slots(
     slots: &mut [Slot],
     accesses: &[Access],
-    events: &[WaitingEvent],
+    events: &[BatchedEvent],
     areas: &Areas,
 )
     requires { gaps events.now ≤ length accesses.now }
-    ensures { EachServed (waiting_served accesses.now events.now areas.now) slots.old slots.new }
+    ensures { EachServed (batch_served accesses.now events.now areas.now) slots.old slots.new }
 {
     if slots.is_empty() {
         return;

@@ -4,7 +4,7 @@ ghost use Rattle.std.specs.Prelude.{◌≡◌, ◌<◌, true, None, is_ok, is_so
 ghost use Rattle.xl_model.specs.Report.{image_lines, images_lines, word_lines};
 ghost use Rattle.xl_model.specs.Image.{image, words_from};
 ghost use Rattle.xl_outside.specs.Sinks.{SinkAfter};
-ghost use Rattle.xl_rack.specs.Forms.{served_behind};
+ghost use Rattle.xl_rack.specs.Forms.{served_following};
 
 use crate::held::Held;
 use crate::rack::Rack;
@@ -86,9 +86,9 @@ fn write_radix<const LEVELS: usize, K: Sink>(
 #[tactic(auto, unfolding(xl_cuckoo_walk::specs::Parts::row_state))]
 fn write_held<K: Sink>(out: &mut K, held: Held<'_>) -> Result<(), Failed>
     ensures { SinkAfter K.sink
-        (image_lines (served_behind held.entry).row.name
-        (served_behind held.entry).state.table.leaves
-        (served_behind held.entry).state.table.shape)
+        (image_lines (served_following held.entry).row.name
+        (served_following held.entry).state.table.leaves
+        (served_following held.entry).state.table.shape)
         out.old out.new (is_ok result) }
 {
     match held {

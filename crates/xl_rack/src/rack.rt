@@ -8,8 +8,8 @@ ghost use Rattle.xl_model.specs.Rows.{row_of, IsRow};
 ghost use Rattle.xl_model.specs.Scenes.{opened};
 ghost use Rattle.xl_model.specs.Tally.{IsSmall};
 ghost use Rattle.xl_serving.specs.Batches.{gaps};
-ghost use Rattle.xl_rack.specs.Forms.{form_named, form_of, served_behind};
-ghost use Rattle.xl_rack.specs.Batches.{row_served, waiting_served};
+ghost use Rattle.xl_rack.specs.Forms.{form_named, form_of, served_following};
+ghost use Rattle.xl_rack.specs.Batches.{row_served, batch_served};
 ghost use Rattle.xl_rack.specs.Beside.{curve_served, curve_stepped, each_curve};
 ghost use Rattle.xl_rack.specs.Places.{at_place};
 ghost use Rattle.xl_rack.specs.Slots.{served_of, IsNamed};
@@ -24,7 +24,7 @@ use xl_areas::Areas;
 use xl_curve::Curve;
 use xl_lackey::Access;
 use xl_model::{Counts, Event, Kind, NoMemory, Outcome, Reply, Row};
-use xl_serving::WaitingEvent;
+use xl_serving::BatchedEvent;
 
 /// The most rows of a rack.
 const MOST: usize = 16;
@@ -141,9 +141,9 @@ impl Rack {
 
     /// Serves accesses, with the events of their demands, and the events among them, by each
     /// machine in turn.
-    pub fn serve_waiting(&mut self, accesses: &[Access], events: &[WaitingEvent], areas: &Areas)
+    pub fn serve_batch(&mut self, accesses: &[Access], events: &[BatchedEvent], areas: &Areas)
         requires { gaps events.now ≤ length accesses.now }
-        ensures { self.new ≡ map (waiting_served accesses.now events.now areas.now) self.old }
+        ensures { self.new ≡ map (batch_served accesses.now events.now areas.now) self.old }
     {
         serve_slots(&mut self.slots, accesses, events, areas)
     }
@@ -195,7 +195,7 @@ impl Rack {
     /// The machine at a place, from 0.
     pub fn machine(&self, i: usize) -> Held<'_>
         requires { i < length self.now }
-        ensures served { slice_get self.entry.now i ≡ Some (served_behind result) }
+        ensures served { slice_get self.entry.now i ≡ Some (served_following result) }
         ensures form { IfSome (slice_get self.entry.now i)
             (λ v. form_named v.row ≡ Some (form_of result)) }
     {

@@ -18,7 +18,7 @@ use xl_lackey::Access;
 use xl_model::{Event, Item, NoMemory, Row};
 use xl_outside::{Failed, Sink};
 use xl_report::write_row;
-use xl_serving::{Rows, WaitingEvent};
+use xl_serving::{Rows, BatchedEvent};
 
 /// Serves an item to a row, where these areas were declared.
 #[inline(always)]
@@ -119,8 +119,8 @@ impl Rows for Rack {
         )
     }
 
-    fn serve_waiting(&mut self, accesses: &[Access], events: &[WaitingEvent], areas: &Areas) {
-        Rack::serve_waiting(self, accesses, events, areas)
+    fn serve_batch(&mut self, accesses: &[Access], events: &[BatchedEvent], areas: &Areas) {
+        Rack::serve_batch(self, accesses, events, areas)
     }
 
     fn write_rows<K: Sink>(&self, out: &mut K) -> Result<(), Failed> {

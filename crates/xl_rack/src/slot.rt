@@ -7,7 +7,7 @@ ghost use Rattle.xl_model.specs.Addresses.{levels_of};
 ghost use Rattle.xl_model.specs.RowRun.{outcome_of, reply_to};
 ghost use Rattle.xl_model.specs.Rows.{row_of, IsRow};
 ghost use Rattle.xl_model.specs.Tally.{IsSmall};
-ghost use Rattle.xl_rack.specs.Forms.{form_of, served_behind, IsCuckoo};
+ghost use Rattle.xl_rack.specs.Forms.{form_of, served_following, IsCuckoo};
 ghost use Rattle.xl_rack.specs.Slots.{served_of, slot_form, IsNamed};
 
 use crate::held::Held;
@@ -256,7 +256,7 @@ impl Slot {
 
     /// The machine.
     pub(crate) fn machine(&self) -> Held<'_>
-        ensures served { served_behind result ≡ served_of self.entry.now }
+        ensures served { served_following result ≡ served_of self.entry.now }
         ensures form { form_of result ≡ slot_form self.entry.now }
     {
         match self {

@@ -37,6 +37,6 @@ unfoldable pub use Rattle.xl_pte.specs.Decode.{decode_of}
 pub use Rattle.xl_pte.specs.declared.word.Pte.{Pte}
 pub use Rattle.xl_radix.specs.ReadBack.{leaf_by, leaf_said, order_of, read_to}
 unfoldable pub use Rattle.xl_radix.specs.ReadBack.{leaf_here, read_back}
-pub use Rattle.xl_radix.specs.Steps.{IsEnd, IsLess, IsMade, IsMove, IsReady, IsTaken, shape_of, Stands}
+pub use Rattle.xl_radix.specs.Steps.{IsEnd, IsLess, IsMade, IsMove, IsReady, IsTaken, shape_of, IsAtNode}
 pub use Rattle.xl_radix.specs.Table.{IsCounted, IsExact, IsImage, IsNearly, IsNew, IsRadixLeaf, IsRadixMapping, IsRooted, IsStore, one_if_filled, Table}
 unfoldable pub use Rattle.xl_radix.specs.Table.{filled}

@@ -1,5 +1,5 @@
 -- Where a walk stops, and what it says of the mapping.
-use Rattle.xl_radix.proofs.Common.{◌*◌, ◌<◌, ◌∙◌, ◌≡◌, ◌≤◌, ◌⊎◌, ap, arith, cases_lt, covers, entry, false, find-only, In, In-any, inl, inr, IsEnd, IsExact, IsImage, IsRadixMapping, IsStore, Leaf, leaf_at_page, leaf_in, leaf_word, level-low, level_of, List, list_any, meets_any, meets_block, Node, None, number_of, Option, Order, pages_of, pointer_word, refl, Some, Stands, subst, suc, sym, true, up, up-from, word_at, ℕ}
+use Rattle.xl_radix.proofs.Common.{◌*◌, ◌<◌, ◌∙◌, ◌≡◌, ◌≤◌, ◌⊎◌, ap, arith, cases_lt, covers, entry, false, find-only, In, In-any, inl, inr, IsEnd, IsExact, IsImage, IsRadixMapping, IsStore, Leaf, leaf_at_page, leaf_in, leaf_word, level-low, level_of, List, list_any, meets_any, meets_block, Node, None, number_of, Option, Order, pages_of, pointer_word, refl, Some, IsAtNode, subst, suc, sym, true, up, up-from, word_at, ℕ}
 use Rattle.xl_radix.proofs.CaseLemmas.{split-le}
 use Rattle.xl_radix.proofs.ListLemmas.{any-nothing, find-nothing}
 use Rattle.xl_radix.proofs.MeetLemmas.{covered, covering, meets, Met, met, Overlap}
@@ -20,9 +20,9 @@ seen-low top s l q leaves nodes words y image low e f i same h block =
     ]
 
 -- A leaf above the level of a node of the table doesn't hold the node's pages.
-pub none-high : (top spaces s page l n : ℕ) (leaves : List Leaf) (nodes : List (Option Node)) (y : Leaf) → 3 ≤ top → IsRadixMapping top spaces leaves → IsExact top leaves nodes → Stands s page l n nodes → In y leaves → y.space ≡ s → l < level_of y.order → up (level_of y.order) y.first ≡ up (level_of y.order) page → ⊥
+pub none-high : (top spaces s page l n : ℕ) (leaves : List Leaf) (nodes : List (Option Node)) (y : Leaf) → 3 ≤ top → IsRadixMapping top spaces leaves → IsExact top leaves nodes → IsAtNode s page l n nodes → In y leaves → y.space ≡ s → l < level_of y.order → up (level_of y.order) y.first ≡ up (level_of y.order) page → ⊥
 none-high top spaces s page l n leaves nodes y high m exact at i same h block =
-    elim (exact.needed s (suc l) (up (suc l) page) n at.stands) [
+    elim (exact.needed s (suc l) (up (suc l) page) n at.at_node) [
       | inl e ↦ let low = level-low y.order in absurd (omega (arith, e, low))
       | inr e ↦ other (in-nodes-leaf s (suc l) (up (suc l) page) leaves e)
     ]
@@ -39,7 +39,7 @@ none-high top spaces s page l n leaves nodes y high m exact at i same h block =
         omega (arith, g, lower, h)
 
 -- Where a slot has neither leaf nor node, no leaf overlaps its block or a block in it.
-pub none-overlaps : (top spaces s page l n m : ℕ) (leaves : List Leaf) (nodes : List (Option Node)) (words : List ℕ) (used : List ℕ) (y : Leaf) → IsTable top spaces leaves nodes words used → l < top → Stands s page l n nodes → leaf_in s l (up l page) leaves ≡ None → number_of s l (up l page) nodes ≡ None → m ≤ l → In y leaves → Met s page m y → ⊥
+pub none-overlaps : (top spaces s page l n m : ℕ) (leaves : List Leaf) (nodes : List (Option Node)) (words : List ℕ) (used : List ℕ) (y : Leaf) → IsTable top spaces leaves nodes words used → l < top → IsAtNode s page l n nodes → leaf_in s l (up l page) leaves ≡ None → number_of s l (up l page) nodes ≡ None → m ≤ l → In y leaves → Met s page m y → ⊥
 none-overlaps top spaces s page l n m leaves nodes words used y t low at e f h i g =
     elim (cases_lt l (level_of y.order)) [
       | inl above ↦ none-high top spaces s page l n leaves nodes y t.store.high t.store.mapping t.exact at i g.space_is above (high above g.overlap)
@@ -89,7 +89,7 @@ found-at top spaces s page l leaves x m e =
           | inr ge ↦ m.apart y x j i (c.0 ∙ sym same) ge (up-from (level_of y.order) (level_of x.order) y.first page c.1 ge ∙ sym block)
         ]
 
-pub found-none : (top spaces s page l n : ℕ) (leaves : List Leaf) (nodes : List (Option Node)) (words : List ℕ) (used : List ℕ) → IsTable top spaces leaves nodes words used → l < top → Stands s page l n nodes → leaf_in s l (up l page) leaves ≡ None → number_of s l (up l page) nodes ≡ None → leaf_at_page s page leaves ≡ None
+pub found-none : (top spaces s page l n : ℕ) (leaves : List Leaf) (nodes : List (Option Node)) (words : List ℕ) (used : List ℕ) → IsTable top spaces leaves nodes words used → l < top → IsAtNode s page l n nodes → leaf_in s l (up l page) leaves ≡ None → number_of s l (up l page) nodes ≡ None → leaf_at_page s page leaves ≡ None
 unfolding leaf_at_page
 found-none top spaces s page l n leaves nodes words used t low at e f =
     find-nothing (covers s page) leaves (λ y i g. none y i (covered s page y (t.store.mapping.proper y i).aligned g))

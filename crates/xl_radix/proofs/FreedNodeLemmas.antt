@@ -1,8 +1,8 @@
 -- An empty node is given back.
-use Rattle.xl_radix.proofs.Common.{◌%◌, ◌*◌, ◌+◌, ◌-◌, ◌/◌, ◌<◌, ◌==◌, ◌∙◌, ◌≡◌, ◌≢◌, ◌≤◌, ◌⊎◌, ap, arith, entry, false, false≢true, get_or-set_other, get_or-set_same, In, in_nodes, inl, inr, is_below, IsImage, IsNearly, IsRooted, Leaf, leaf_in, length, length-set, level_of, List, nat_tests, Node, None, number_of, Option, refl, same_Some, slice_index, slice_index_or, slice_set, Some, Stands, subst, suc, sym, true, up, word_at, word_of, ℕ}
+use Rattle.xl_radix.proofs.Common.{◌%◌, ◌*◌, ◌+◌, ◌-◌, ◌/◌, ◌<◌, ◌==◌, ◌∙◌, ◌≡◌, ◌≢◌, ◌≤◌, ◌⊎◌, ap, arith, entry, false, false≢true, get_or-set_other, get_or-set_same, In, in_nodes, inl, inr, is_below, IsImage, IsNearly, IsRooted, Leaf, leaf_in, length, length-set, level_of, List, nat_tests, Node, None, number_of, Option, refl, same_Some, slice_index, slice_index_or, slice_set, Some, IsAtNode, subst, suc, sym, true, up, word_at, word_of, ℕ}
 use Rattle.xl_radix.proofs.CaseLemmas.{split-le}
 use Rattle.xl_radix.proofs.EndLemmas.{none-word, word-none}
-use Rattle.xl_radix.proofs.MadeNodeLemmas.{new-below, new_node, not-below, places, stands-is, stored-same}
+use Rattle.xl_radix.proofs.MadeNodeLemmas.{new-below, new_node, not-below, places, at_node-is, stored-same}
 use Rattle.xl_radix.proofs.NumberLemmas.{below-is, Is, node-in, number-set-any, number-some, number-there}
 use Rattle.xl_radix.proofs.SlotLemmas.{At, in-nodes, in-nodes-leaf, leaf-in-none, leaf-in-some, Under}
 
@@ -83,7 +83,7 @@ freed-word s l q k a b c leaves nodes words empty f = ap (entry (leaf_in a b c l
 abbrev pub freed_words : ℕ → ℕ → List ℕ → List ℕ
 freed_words n index words = slice_set words (n * 512 + index) 0
 
-pub freed-same : (top s page l k n m i : ℕ) (leaves : List Leaf) (nodes : List (Option Node)) (words : List ℕ) → IsImage top leaves nodes words → Stands s page (suc l) n nodes → leaf_in s (suc l) (up (suc l) page) leaves ≡ None → IsEmpty s l (up (suc l) page) k nodes words → m < length nodes → i < 512 →
+pub freed-same : (top s page l k n m i : ℕ) (leaves : List Leaf) (nodes : List (Option Node)) (words : List ℕ) → IsImage top leaves nodes words → IsAtNode s page (suc l) n nodes → leaf_in s (suc l) (up (suc l) page) leaves ≡ None → IsEmpty s l (up (suc l) page) k nodes words → m < length nodes → i < 512 →
     slice_index (freed_words n (up (suc l) page % 512) words) (m * 512 + i) ≡ word_of leaves (freed_nodes k nodes) (slice_index_or (freed_nodes k nodes) m None) i
 freed-same top s page l k n m i leaves nodes words image at no-leaf empty h g =
     elim (freed-at s l (up (suc l) page) k m nodes words empty) [
@@ -93,8 +93,8 @@ freed-same top s page l k n m i leaves nodes words image at no-leaf empty h g =
           (λ a b c other. freed-word s l (up (suc l) page) k a b c leaves nodes words empty (not-below s l (up (suc l) page) a b c other)))
     ]
   where
-    stand : (node : Node) × (slice_index_or nodes n None ≡ Some node) × Is s (suc (suc l)) (up (suc (suc l)) page) node
-    stand = stands-is s page (suc l) n nodes at
+    there : (node : Node) × (slice_index_or nodes n None ≡ Some node) × Is s (suc (suc l)) (up (suc (suc l)) page) node
+    there = at_node-is s page (suc l) n nodes at
 
     levels : (a b : Node) → a ≡ b → a.level + 1 ≡ suc (suc l) → b.level ≡ l → ⊥
     levels a b e f g = let k : a.level ≡ b.level = ap (λ (v : Node). v.level) e in omega arith
@@ -102,10 +102,10 @@ freed-same top s page l k n m i leaves nodes words image at no-leaf empty h g =
     own : m ≡ k → slice_index (freed_words n (up (suc l) page % 512) words) (m * 512 + i) ≡ 0
     own e = get_or-set_other words (n * 512 + up (suc l) page % 512) (m * 512 + i) 0 0 (λ d. let p = places m n i (up (suc l) page % 512) g (omega arith) d in
         let a : slice_index_or nodes n None ≡ Some (new_node s l (up (suc l) page)) = subst (λ (v : ℕ). slice_index_or nodes v None ≡ Some (new_node s l (up (suc l) page))) (sym e ∙ p.0) empty.below in
-        let c : stand.0 ≡ new_node s l (up (suc l) page) = same_Some _ _ (sym stand.1 ∙ a) in
-        levels stand.0 (new_node s l (up (suc l) page)) c stand.2.level_is refl) ∙ ap (λ (v : ℕ). slice_index words (v * 512 + i)) e ∙ empty.zeros i g
+        let c : there.0 ≡ new_node s l (up (suc l) page) = same_Some _ _ (sym there.1 ∙ a) in
+        levels there.0 (new_node s l (up (suc l) page)) c there.2.level_is refl) ∙ ap (λ (v : ℕ). slice_index words (v * 512 + i)) e ∙ empty.zeros i g
 
-pub freed : (top s page l k n : ℕ) (leaves : List Leaf) (nodes : List (Option Node)) (words : List ℕ) → IsImage top leaves nodes words → suc l < top → Stands s page (suc l) n nodes → leaf_in s (suc l) (up (suc l) page) leaves ≡ None → IsEmpty s l (up (suc l) page) k nodes words → IsImage top leaves (freed_nodes k nodes) (freed_words n (up (suc l) page % 512) words)
+pub freed : (top s page l k n : ℕ) (leaves : List Leaf) (nodes : List (Option Node)) (words : List ℕ) → IsImage top leaves nodes words → suc l < top → IsAtNode s page (suc l) n nodes → leaf_in s (suc l) (up (suc l) page) leaves ≡ None → IsEmpty s l (up (suc l) page) k nodes words → IsImage top leaves (freed_nodes k nodes) (freed_words n (up (suc l) page % 512) words)
 freed top s page l k n leaves nodes words image low at no-leaf empty = record {
   size = length-set {A = ℕ} words (n * 512 + up (suc l) page % 512) 0 ∙ image.size ∙ ap (λ (v : ℕ). v * 512) (sym (length-set nodes k None));
   same = λ m i h g. freed-same top s page l k n m i leaves nodes words image at no-leaf empty (let e = length-set nodes k None in omega (arith, e, h)) g;

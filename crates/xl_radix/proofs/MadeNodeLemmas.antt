@@ -1,5 +1,5 @@
 -- A node is made below an empty slot.
-use Rattle.xl_radix.proofs.Common.{◌%◌, ◌*◌, ◌+◌, ◌-◌, ◌/◌, ◌<◌, ◌==◌, ◌∙◌, ◌≡◌, ◌≢◌, ◌≤◌, ◌⊎◌, ap, arith, cases_eq, entry, false, get_or-set_other, get_or-set_same, In, in_nodes, inl, inr, is_below, IsImage, IsNearly, IsRooted, Leaf, leaf_in, length, length-set, level_of, List, nat_tests, Node, None, number_of, Option, pointer_word, refl, same_Some, slice_index, slice_index_or, slice_set, Some, Stands, subst, suc, sym, true, up, word_at, word_of, ℕ}
+use Rattle.xl_radix.proofs.Common.{◌%◌, ◌*◌, ◌+◌, ◌-◌, ◌/◌, ◌<◌, ◌==◌, ◌∙◌, ◌≡◌, ◌≢◌, ◌≤◌, ◌⊎◌, ap, arith, cases_eq, entry, false, get_or-set_other, get_or-set_same, In, in_nodes, inl, inr, is_below, IsImage, IsNearly, IsRooted, Leaf, leaf_in, length, length-set, level_of, List, nat_tests, Node, None, number_of, Option, pointer_word, refl, same_Some, slice_index, slice_index_or, slice_set, Some, IsAtNode, subst, suc, sym, true, up, word_at, word_of, ℕ}
 use Rattle.xl_radix.proofs.NumberLemmas.{below-is, below-some, Is, is-below, number-none, number-only, number-set-other, number-some, number-there}
 use Rattle.xl_radix.proofs.SlotLemmas.{At, in-nodes, leaf-in-some}
 
@@ -120,8 +120,8 @@ abbrev pub made_words : ℕ → ℕ → ℕ → List ℕ → List ℕ
 made_words n index k words = slice_set words (n * 512 + index) (pointer_word k)
 
 -- what a node that is at a page is
-pub stands-is : (s page l n : ℕ) (nodes : List (Option Node)) → Stands s page l n nodes → (node : Node) × (slice_index_or nodes n None ≡ Some node) × Is s (suc l) (up (suc l) page) node
-stands-is s page l n nodes at = below-some s (suc l) (up (suc l) page) _ at.stands
+pub at_node-is : (s page l n : ℕ) (nodes : List (Option Node)) → IsAtNode s page l n nodes → (node : Node) × (slice_index_or nodes n None ≡ Some node) × Is s (suc l) (up (suc l) page) node
+at_node-is s page l n nodes at = below-some s (suc l) (up (suc l) page) _ at.at_node
 
 -- a slot's place is its own
 pub places : (n m i j : ℕ) → i < 512 → j < 512 → n * 512 + i ≡ m * 512 + j → (n ≡ m) × (i ≡ j)
@@ -129,27 +129,27 @@ places n m i j h g e = (omega arith, omega arith)
 
 -- The place of a page's word in the node that is there is no other slot's, and no place of a free
 -- number.
-pub other-slot : (s page l n m i : ℕ) (nodes : List (Option Node)) (node : Node) → Stands s page l n nodes → i < 512 → slice_index_or nodes m None ≡ Some node → ((node.space ≡ s) × (node.level ≡ l) × (node.prefix * 512 + i ≡ up l page) → ⊥) → m * 512 + i ≢ n * 512 + up l page % 512
+pub other-slot : (s page l n m i : ℕ) (nodes : List (Option Node)) (node : Node) → IsAtNode s page l n nodes → i < 512 → slice_index_or nodes m None ≡ Some node → ((node.space ≡ s) × (node.level ≡ l) × (node.prefix * 512 + i ≡ up l page) → ⊥) → m * 512 + i ≢ n * 512 + up l page % 512
 other-slot s page l n m i nodes node at g f not d =
-    let stand = stands-is s page l n nodes at in
+    let there = at_node-is s page l n nodes at in
     let p = places m n i (up l page % 512) g (omega arith) d in
     let a : slice_index_or nodes n None ≡ Some node = subst (λ (v : ℕ). slice_index_or nodes v None ≡ Some node) p.0 f in
-    let c : stand.0 ≡ node = same_Some _ _ (sym stand.1 ∙ a) in
-    let i1 : node.space ≡ s = sym (ap (λ (v : Node). v.space) c) ∙ stand.2.space_is in
-    let i2 : node.level + 1 ≡ suc l = sym (ap (λ (v : Node). v.level + 1) c) ∙ stand.2.level_is in
-    let i3 : node.prefix ≡ up l page / 512 = sym (ap (λ (v : Node). v.prefix) c) ∙ stand.2.prefix_is in
+    let c : there.0 ≡ node = same_Some _ _ (sym there.1 ∙ a) in
+    let i1 : node.space ≡ s = sym (ap (λ (v : Node). v.space) c) ∙ there.2.space_is in
+    let i2 : node.level + 1 ≡ suc l = sym (ap (λ (v : Node). v.level + 1) c) ∙ there.2.level_is in
+    let i3 : node.prefix ≡ up l page / 512 = sym (ap (λ (v : Node). v.prefix) c) ∙ there.2.prefix_is in
     not (i1, omega (arith, i2), omega (arith, i3, p.1))
 
-pub no-slot : (s page l n m i : ℕ) (nodes : List (Option Node)) → Stands s page l n nodes → i < 512 → slice_index_or nodes m None ≡ None → m * 512 + i ≢ n * 512 + up l page % 512
+pub no-slot : (s page l n m i : ℕ) (nodes : List (Option Node)) → IsAtNode s page l n nodes → i < 512 → slice_index_or nodes m None ≡ None → m * 512 + i ≢ n * 512 + up l page % 512
 no-slot s page l n m i nodes at g f d =
-    let stand = stands-is s page l n nodes at in
+    let there = at_node-is s page l n nodes at in
     let p = places m n i (up l page % 512) g (omega arith) d in
     let a : slice_index_or nodes n None ≡ None = subst (λ (v : ℕ). slice_index_or nodes v None ≡ None) p.0 f in
-    let b = stand.1 in cc
+    let b = there.1 in cc
 
 -- A word is written at a page's slot, in the node that stands there. Where that slot has this word afterwards, and each
 -- other slot has the word that it had, the words say what the slots have.
-pub stored-same : (top s page l n value m i : ℕ) (old new : List Leaf) (nodes after : List (Option Node)) (words : List ℕ) → IsImage top old nodes words → Stands s page l n nodes → m < length nodes → i < 512 → word_at new after s l (up l page) ≡ value
+pub stored-same : (top s page l n value m i : ℕ) (old new : List Leaf) (nodes after : List (Option Node)) (words : List ℕ) → IsImage top old nodes words → IsAtNode s page l n nodes → m < length nodes → i < 512 → word_at new after s l (up l page) ≡ value
     → ((a b c : ℕ) → (IsSame s l (up l page) a b c → ⊥) → word_at new after a b c ≡ word_at old nodes a b c)
     → slice_index (slice_set words (n * 512 + up l page % 512) value) (m * 512 + i) ≡ word_of new after (slice_index_or nodes m None) i
 stored-same top s page l n value m i old new nodes after words image at h g own others =
@@ -170,11 +170,11 @@ stored-same top s page l n value m i old new nodes after words image at h g own 
         let pre : node.prefix ≡ up (suc l) page = omega (arith, c) in
         let idx : i ≡ up l page % 512 = omega (arith, c) in
         let below : is_below s (suc l) (up (suc l) page) (slice_index_or nodes m None) ≡ true = rw f (is-below s (suc l) (up (suc l) page) node (record { space_is = e.0; level_is = omega (arith, e.1); prefix_is = pre })) in
-        let same : m ≡ n = image.apart s (suc l) (up (suc l) page) m n below at.stands in
+        let same : m ≡ n = image.apart s (suc l) (up (suc l) page) m n below at.at_node in
         let inside : n * 512 + up l page % 512 < length words = omega (arith, image.size, same) in
         rw (same, idx) (get_or-set_same words (n * 512 + up l page % 512) value 0 inside)
 
-pub made-same : (top s page l k n m i : ℕ) (leaves : List Leaf) (nodes : List (Option Node)) (words : List ℕ) → IsImage top leaves nodes words → suc l < top → Stands s page (suc l) n nodes → IsSpot s l (up (suc l) page) k leaves nodes → m < length nodes → i < 512 →
+pub made-same : (top s page l k n m i : ℕ) (leaves : List Leaf) (nodes : List (Option Node)) (words : List ℕ) → IsImage top leaves nodes words → suc l < top → IsAtNode s page (suc l) n nodes → IsSpot s l (up (suc l) page) k leaves nodes → m < length nodes → i < 512 →
     slice_index (made_words n (up (suc l) page % 512) k words) (m * 512 + i) ≡ word_of leaves (made_nodes s l (up (suc l) page) k nodes) (slice_index_or (made_nodes s l (up (suc l) page) k nodes) m None) i
 made-same top s page l k n m i leaves nodes words image low at spot h g =
     elim (made-at s l q k m leaves nodes spot) [
@@ -188,7 +188,7 @@ made-same top s page l k n m i leaves nodes words image low at spot h g =
     was-free : m ≡ k → slice_index_or nodes m None ≡ None
     was-free e = subst (λ (v : ℕ). slice_index_or nodes v None ≡ None) (sym e) spot.free
 
-pub made : (top s page l k n : ℕ) (leaves : List Leaf) (nodes : List (Option Node)) (words : List ℕ) → IsImage top leaves nodes words → suc l < top → Stands s page (suc l) n nodes → IsSpot s l (up (suc l) page) k leaves nodes → IsImage top leaves (made_nodes s l (up (suc l) page) k nodes) (made_words n (up (suc l) page % 512) k words)
+pub made : (top s page l k n : ℕ) (leaves : List Leaf) (nodes : List (Option Node)) (words : List ℕ) → IsImage top leaves nodes words → suc l < top → IsAtNode s page (suc l) n nodes → IsSpot s l (up (suc l) page) k leaves nodes → IsImage top leaves (made_nodes s l (up (suc l) page) k nodes) (made_words n (up (suc l) page % 512) k words)
 made top s page l k n leaves nodes words image low at spot = record {
   size = length-set words (n * 512 + up (suc l) page % 512) (pointer_word k) ∙ image.size ∙ ap (λ (v : ℕ). v * 512) (sym (length-set nodes k (Some (new_node s l q))));
   same = λ m i h g. made-same top s page l k n m i leaves nodes words image low at spot (let e = length-set nodes k (Some (new_node s l q)) in omega (arith, e, h)) g;
@@ -228,7 +228,7 @@ made top s page l k n leaves nodes words image low at spot = record {
     newly a b c e =
         let i = below-is a b c (new_node s l (up (suc l) page)) e in
         let b1 : suc l ≡ b = omega (arith, i.level_is) in
-        let parent : number_of s (suc (suc l)) (up (suc l) page / 512) nodes ≡ None → ⊥ = number-there s (suc (suc l)) (up (suc (suc l)) page) n nodes at.stands in
+        let parent : number_of s (suc (suc l)) (up (suc l) page / 512) nodes ≡ None → ⊥ = number-there s (suc (suc l)) (up (suc (suc l)) page) n nodes at.at_node in
         let keeps = made-keeps s l (up (suc l) page) k s (suc (suc l)) (up (suc l) page / 512) leaves nodes spot parent in
         inr (rw (← i.space_is, ← b1, ← i.prefix_is) keeps, omega (arith, b1))
 
@@ -240,9 +240,9 @@ made top s page l k n leaves nodes words image low at spot = record {
         ]
 
 -- The new node is at its page.
-pub made-stands : (s page l k : ℕ) (leaves : List Leaf) (nodes : List (Option Node)) → IsSpot s l (up (suc l) page) k leaves nodes → Stands s page l k (made_nodes s l (up (suc l) page) k nodes)
-made-stands s page l k leaves nodes spot = record {
-  stands = rw (get_or-set_same nodes k (Some (new_node s l (up (suc l) page))) None spot.within) (new-below s l (up (suc l) page));
+pub made-at_node : (s page l k : ℕ) (leaves : List Leaf) (nodes : List (Option Node)) → IsSpot s l (up (suc l) page) k leaves nodes → IsAtNode s page l k (made_nodes s l (up (suc l) page) k nodes)
+made-at_node s page l k leaves nodes spot = record {
+  at_node = rw (get_or-set_same nodes k (Some (new_node s l (up (suc l) page))) None spot.within) (new-below s l (up (suc l) page));
 }
 
 -- The roots stay, and all but the path's nodes are needed as before.

@@ -1,5 +1,5 @@
 -- The nodes of a page's path.
-use Rattle.xl_radix.proofs.Common.{◌+◌, ◌-◌, ◌<◌, ◌∙◌, ◌≡◌, ◌≤◌, ◌⊎◌, ap, arith, inl, inr, IsEnd, IsImage, IsStore, Leaf, List, missing, Node, None, number_of, one_unless, Option, put_first, refl, Some, Stands, suc, unless_there, up, with_node, with_path, zero, ℕ}
+use Rattle.xl_radix.proofs.Common.{◌+◌, ◌-◌, ◌<◌, ◌∙◌, ◌≡◌, ◌≤◌, ◌⊎◌, ap, arith, inl, inr, IsEnd, IsImage, IsStore, Leaf, List, missing, Node, None, number_of, one_unless, Option, put_first, refl, Some, IsAtNode, suc, unless_there, up, with_node, with_path, zero, ℕ}
 use Rattle.xl_radix.proofs.NumberLemmas.{number-some}
 use Rattle.xl_radix.proofs.PlacedLeafLemmas.{above}
 
@@ -35,7 +35,7 @@ path-step s page l j nodes h e =
     path-at s page l (j - l) (j - 1 - l) j nodes a b ∙ ap (with_path s page l (j - 1 - l)) (with-node-new s j (up j page) nodes e)
 
 -- The nodes above one that is at a page are there, and so a path begins below it.
-pub path-skip : (top s page l j n e : ℕ) (leaves : List Leaf) (nodes : List (Option Node)) (words : List ℕ) → IsImage top leaves nodes words → Stands s page j n nodes → l ≤ j → j + e < top → with_path s page l (j + e - l) nodes ≡ with_path s page l (j - l) nodes
+pub path-skip : (top s page l j n e : ℕ) (leaves : List Leaf) (nodes : List (Option Node)) (words : List ℕ) → IsImage top leaves nodes words → IsAtNode s page j n nodes → l ≤ j → j + e < top → with_path s page l (j + e - l) nodes ≡ with_path s page l (j - l) nodes
 path-skip top s page l j n zero leaves nodes words image at h low = let a : j + 0 ≡ j = omega arith in rw a refl
 path-skip top s page l j n (suc e) leaves nodes words image at h low =
     let a : j + suc e - l ≡ suc (j + e - l) = omega arith in
@@ -43,7 +43,7 @@ path-skip top s page l j n (suc e) leaves nodes words image at h low =
     let there = above top s page j n (j + suc e) leaves nodes words image at (omega arith) (omega arith) in
     path-at s page l (j + suc e - l) (j + e - l) (j + suc e) nodes a b ∙ ap (with_path s page l (j + e - l)) (with-node-old s (j + suc e) (up (j + suc e) page) nodes there) ∙ path-skip top s page l j n e leaves nodes words image at h (omega arith)
 
-pub missing-skip : (top s page l j n e : ℕ) (leaves : List Leaf) (nodes : List (Option Node)) (words : List ℕ) → IsImage top leaves nodes words → Stands s page j n nodes → l ≤ j → j + e < top → missing s page l (j + e - l) nodes ≡ missing s page l (j - l) nodes
+pub missing-skip : (top s page l j n e : ℕ) (leaves : List Leaf) (nodes : List (Option Node)) (words : List ℕ) → IsImage top leaves nodes words → IsAtNode s page j n nodes → l ≤ j → j + e < top → missing s page l (j + e - l) nodes ≡ missing s page l (j - l) nodes
 missing-skip top s page l j n zero leaves nodes words image at h low = let a : j + 0 ≡ j = omega arith in rw a refl
 missing-skip top s page l j n (suc e) leaves nodes words image at h low =
     let a : j + suc e - l ≡ suc (j + e - l) = omega arith in
@@ -81,13 +81,13 @@ missing-all s page l (suc d) nodes h =
     rw e (omega arith)
 
 -- Above where a walk stops, the path is there.
-pub path-is : (top s page l j n : ℕ) (leaves : List Leaf) (nodes : List (Option Node)) (words : List ℕ) → IsImage top leaves nodes words → Stands s page j n nodes → l ≤ j → j < top → with_path s page l (top - 1 - l) nodes ≡ with_path s page l (j - l) nodes
+pub path-is : (top s page l j n : ℕ) (leaves : List Leaf) (nodes : List (Option Node)) (words : List ℕ) → IsImage top leaves nodes words → IsAtNode s page j n nodes → l ≤ j → j < top → with_path s page l (top - 1 - l) nodes ≡ with_path s page l (j - l) nodes
 path-is top s page l j n leaves nodes words image at h low =
     let a : top - 1 - l ≡ j + (top - 1 - j) - l = omega arith in
     rw a (path-skip top s page l j n (top - 1 - j) leaves nodes words image at h (omega arith))
 
 -- What a path lacks is what lies below the place where the walk stops.
-pub lacks-is : (top s page l j n : ℕ) (leaves : List Leaf) (nodes : List (Option Node)) (words : List ℕ) → IsImage top leaves nodes words → Stands s page j n nodes → (j ≡ l) ⊎ (number_of s j (up j page) nodes ≡ None) → l ≤ j → j < top → missing s page l (top - 1 - l) nodes ≡ j - l
+pub lacks-is : (top s page l j n : ℕ) (leaves : List Leaf) (nodes : List (Option Node)) (words : List ℕ) → IsImage top leaves nodes words → IsAtNode s page j n nodes → (j ≡ l) ⊎ (number_of s j (up j page) nodes ≡ None) → l ≤ j → j < top → missing s page l (top - 1 - l) nodes ≡ j - l
 lacks-is top s page l j n leaves nodes words image at ends h low =
     let a : top - 1 - l ≡ j + (top - 1 - j) - l = omega arith in
     let b = missing-skip top s page l j n (top - 1 - j) leaves nodes words image at h (omega arith) in
@@ -97,7 +97,7 @@ lacks-is top s page l j n leaves nodes words image at ends h low =
     rest (inl e) = let d : j - l ≡ 0 = omega (arith, e) in rw d refl
     rest (inr e) = missing-all s page l (j - l) nodes (λ b g. absent-below top s page b j leaves nodes words image e (omega arith) low)
 
-pub ended : (top spaces s page l j n : ℕ) (leaves : List Leaf) (nodes : List (Option Node)) (words used : List ℕ) → IsStore top spaces leaves nodes words used → l ≤ j → j < top → Stands s page j n nodes → (j ≡ l) ⊎ (number_of s j (up j page) nodes ≡ None) → IsEnd top s page l j n nodes
+pub ended : (top spaces s page l j n : ℕ) (leaves : List Leaf) (nodes : List (Option Node)) (words used : List ℕ) → IsStore top spaces leaves nodes words used → l ≤ j → j < top → IsAtNode s page j n nodes → (j ≡ l) ⊎ (number_of s j (up j page) nodes ≡ None) → IsEnd top s page l j n nodes
 ended top spaces s page l j n leaves nodes words used store h low at ends = record {
   least_in = h;
   level_in = low;

@@ -1,13 +1,13 @@
 -- A leaf changes its permission: it leaves its slot, and comes back.
-use Rattle.xl_radix.proofs.Common.{◌%◌, ◌*◌, ◌+◌, ◌-◌, ◌<◌, ◌^◌, ◌∙◌, ◌∷◌, ◌≡◌, ◌≤◌, [], ap, arith, changed, false≢true, In, inl, inr, is_some, IsEnd, IsExact, IsNamed, IsNew, IsRadixMapping, IsReady, IsStore, Leaf, leaf_at_page, leaf_in, leaf_named, leaf_word, length, level-low, level_of, List, named-first, named-In, named-is, named-order, named-space, Node, None, number_of, only_needed, Option, Order, Protect, Radix, read_back, refl, shape_after, slice_index, slice_index_or, slice_set, Some, Stands, subst, suc, sym, true, up, with_leaf, without_leaf, zero, ℕ}
+use Rattle.xl_radix.proofs.Common.{◌%◌, ◌*◌, ◌+◌, ◌-◌, ◌<◌, ◌^◌, ◌∙◌, ◌∷◌, ◌≡◌, ◌≤◌, [], ap, arith, changed, false≢true, In, inl, inr, is_some, IsEnd, IsExact, IsNamed, IsNew, IsRadixMapping, IsReady, IsStore, Leaf, leaf_at_page, leaf_in, leaf_named, leaf_word, length, level-low, level_of, List, named-first, named-In, named-is, named-order, named-space, Node, None, number_of, only_needed, Option, Order, Protect, Radix, read_back, refl, shape_after, slice_index, slice_index_or, slice_set, Some, IsAtNode, subst, suc, sym, true, up, with_leaf, without_leaf, zero, ℕ}
 use Rattle.xl_model.specs.declared.perm.Perm.{Perm}
 use Rattle.xl_radix.proofs.CaseLemmas.{split-le}
 use Rattle.xl_radix.proofs.EndLemmas.{found-at, not-both}
 use Rattle.xl_radix.proofs.ReadBackLemmas.{own-slot}
 use Rattle.xl_radix.proofs.RemovalLemmas.{clear-step, Named, named}
 use Rattle.xl_radix.proofs.ShapeLemmas.{all-needed}
-use Rattle.xl_radix.proofs.SlotLemmas.{stands-word}
-use Rattle.xl_radix.proofs.StepLemmas.{put-step, stands-in}
+use Rattle.xl_radix.proofs.SlotLemmas.{at_node-word}
+use Rattle.xl_radix.proofs.StepLemmas.{put-step, at_node-in}
 use Rattle.xl_radix.proofs.TakenLeafLemmas.{unplaced-leaf-same, without-in}
 use Rattle.xl_radix.proofs.TakingLemmas.{named-needs}
 
@@ -37,11 +37,11 @@ new-perm top spaces x perm leaves m i = record {
   under = λ y j s h e. let r = without-in x leaves y j in r.1 (sym (m.apart x y i r.0 (sym s) h (sym e)));
 }
 
-pub perm-step : (top spaces n i : ℕ) (w : ℕ) (x : Leaf) (perm : Perm) (leaves : List Leaf) (nodes : List (Option Node)) (words used : List ℕ) → IsStore top spaces leaves nodes words used → IsExact top leaves nodes → leaf_named x.space x.first x.order leaves ≡ Some x → Stands x.space x.first (level_of x.order) n nodes →
+pub perm-step : (top spaces n i : ℕ) (w : ℕ) (x : Leaf) (perm : Perm) (leaves : List Leaf) (nodes : List (Option Node)) (words used : List ℕ) → IsStore top spaces leaves nodes words used → IsExact top leaves nodes → leaf_named x.space x.first x.order leaves ≡ Some x → IsAtNode x.space x.first (level_of x.order) n nodes →
     i ≡ up (level_of x.order) x.first % 512 → w ≡ leaf_word x.frame perm → PermStep top spaces x perm leaves nodes (slice_set words (n * 512 + i) w) used
 perm-step top spaces n i w x perm leaves nodes words used store exact name at ei ew =
     let there = named-In x.space x.first x.order x leaves name in
-    let r = stands-word top x.space x.first (level_of x.order) n leaves nodes words store.image at in
+    let r = at_node-word top x.space x.first (level_of x.order) n leaves nodes words store.image at in
     let inside : n < length used = let z = store.counted.places in let y = r.0 in omega arith in
     let u = slice_index used n in
     let is-named : is_some (leaf_named x.space x.first x.order leaves) ≡ true = rw name refl in
@@ -80,7 +80,7 @@ perm-step top spaces n i w x perm leaves nodes words used store exact name at ei
     own2 (x ∷ xs) (suc p) v e = own2 xs p v e
 
     low : level_of x.order < top
-    low = elim (store.image.closed x.space (suc (level_of x.order)) (up (suc (level_of x.order)) x.first) n at.stands) [ inl e ↦ omega arith | inr e ↦ let h = e.1 in omega arith ]
+    low = elim (store.image.closed x.space (suc (level_of x.order)) (up (suc (level_of x.order)) x.first) n at.at_node) [ inl e ↦ omega arith | inr e ↦ let h = e.1 in omega arith ]
 
     absent : leaf_in x.space (level_of x.order) (up (level_of x.order) x.first) leaves ≡ Some x → number_of x.space (level_of x.order) (up (level_of x.order) x.first) nodes ≡ None
     absent slot = elim (number_of x.space (level_of x.order) (up (level_of x.order) x.first) nodes) as (λ o. number_of x.space (level_of x.order) (up (level_of x.order) x.first) nodes ≡ o → o ≡ None) [
@@ -88,8 +88,8 @@ perm-step top spaces n i w x perm leaves nodes words used store exact name at ei
       | Some k ↦ λ e. absurd (not-both top spaces x.space (level_of x.order) (up (level_of x.order) x.first) k leaves nodes x (low) store.mapping exact slot e)
     ] refl
 
-pub node-low : (top spaces s page l n : ℕ) (leaves : List Leaf) (nodes : List (Option Node)) (words used : List ℕ) → IsStore top spaces leaves nodes words used → Stands s page l n nodes → n < 16384
-node-low top spaces s page l n leaves nodes words used store at = let h = stands-in s page l n nodes at in let k = store.rooted.small in omega arith
+pub node-low : (top spaces s page l n : ℕ) (leaves : List Leaf) (nodes : List (Option Node)) (words used : List ℕ) → IsStore top spaces leaves nodes words used → IsAtNode s page l n nodes → n < 16384
+node-low top spaces s page l n leaves nodes words used store at = let h = at_node-in s page l n nodes at in let k = store.rooted.small in omega arith
 
 pub frame-low : (top spaces : ℕ) (x : Leaf) (leaves : List Leaf) (nodes : List (Option Node)) (words used : List ℕ) → IsStore top spaces leaves nodes words used → leaf_named x.space x.first x.order leaves ≡ Some x → x.frame < 2 ^ 44
 frame-low top spaces x leaves nodes words used store name = (store.mapping.proper x (named-In x.space x.first x.order x leaves name)).frame_in
@@ -100,7 +100,7 @@ pub record Found (top s f : ℕ) (o : Order) (l n : ℕ) (r : Option Leaf) (leav
   pub is : leaf_named s f o leaves ≡ Some leaf
   pub at_page : r ≡ Some leaf
   pub own : leaf_named leaf.space leaf.first leaf.order leaves ≡ Some leaf
-  pub at : Stands leaf.space leaf.first (level_of leaf.order) n nodes
+  pub at : IsAtNode leaf.space leaf.first (level_of leaf.order) n nodes
 
 pub found-named : (top spaces s f l n : ℕ) (o : Order) (r : Option Leaf) (leaves : List Leaf) (nodes : List (Option Node)) (words used : List ℕ) → IsStore top spaces leaves nodes words used → IsNamed s f o leaves → IsEnd top s f (level_of o) l n nodes → r ≡ leaf_at_page s f leaves → Found top s f o l n r leaves nodes
 found-named top spaces s f l n o r leaves nodes words used store name end er =

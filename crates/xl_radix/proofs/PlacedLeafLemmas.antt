@@ -1,5 +1,5 @@
 -- A leaf is put into its slot.
-use Rattle.xl_radix.proofs.Common.{◌%◌, ◌*◌, ◌+◌, ◌<◌, ◌^◌, ◌∙◌, ◌≡◌, ◌≢◌, ◌≤◌, ◌⊎◌, ap, arith, cases_lt, false, In, In-with, in_nodes, inl, inr, is_below, is_slot, IsExact, IsImage, IsNearly, IsNew, IsRadixLeaf, IsRadixMapping, IsReady, Leaf, leaf_in, leaf_key, leaf_word, length, length-set, level_of, List, Node, None, number_of, Option, refl, slice_index, slice_index_or, slice_set, Some, sorted-with, Stands, stays-with, subst, suc, sym, true, up, with-In, with_leaf, word_at, word_of, zero, ℕ}
+use Rattle.xl_radix.proofs.Common.{◌%◌, ◌*◌, ◌+◌, ◌<◌, ◌^◌, ◌∙◌, ◌≡◌, ◌≢◌, ◌≤◌, ◌⊎◌, ap, arith, cases_lt, false, In, In-with, in_nodes, inl, inr, is_below, is_slot, IsExact, IsImage, IsNearly, IsNew, IsRadixLeaf, IsRadixMapping, IsReady, Leaf, leaf_in, leaf_key, leaf_word, length, length-set, level_of, List, Node, None, number_of, Option, refl, slice_index, slice_index_or, slice_set, Some, sorted-with, IsAtNode, stays-with, subst, suc, sym, true, up, with-In, with_leaf, word_at, word_of, zero, ℕ}
 use Rattle.xl_radix.proofs.CaseLemmas.{split-less}
 use Rattle.xl_radix.proofs.ListLemmas.{find-with, find-with-other}
 use Rattle.xl_radix.proofs.MadeNodeLemmas.{IsSame, stored-same}
@@ -42,7 +42,7 @@ unfolding word_at
 same-word s l q new leaves nodes e = rw e refl
 
 -- Above a node that is at a page, the page's nodes are there.
-pub above : (top s page l n b : ℕ) (leaves : List Leaf) (nodes : List (Option Node)) (words : List ℕ) → IsImage top leaves nodes words → Stands s page l n nodes → l < b → b ≤ top → number_of s b (up b page) nodes ≡ None → ⊥
+pub above : (top s page l n b : ℕ) (leaves : List Leaf) (nodes : List (Option Node)) (words : List ℕ) → IsImage top leaves nodes words → IsAtNode s page l n nodes → l < b → b ≤ top → number_of s b (up b page) nodes ≡ None → ⊥
 above top s page l n zero leaves nodes words image at h g e = omega arith
 above top s page l n (suc b) leaves nodes words image at h g e =
     next (split-less l b h) (λ k. above top s page l n b leaves nodes words image at k (omega arith))
@@ -57,7 +57,7 @@ above top s page l n (suc b) leaves nodes words image at h g e =
     ] refl
 
     next : (l ≡ b) ⊎ (l < b) → (l < b → number_of s b (up b page) nodes ≡ None → ⊥) → ⊥
-    next (inl f) there = number-there s (suc b) (up (suc b) page) n nodes (subst (λ (v : ℕ). is_below s (suc v) (up (suc v) page) (slice_index_or nodes n None) ≡ true) f at.stands) e
+    next (inl f) there = number-there s (suc b) (up (suc b) page) n nodes (subst (λ (v : ℕ). is_below s (suc v) (up (suc v) page) (slice_index_or nodes n None) ≡ true) f at.at_node) e
     next (inr f) there = up-from (there f)
 
 abbrev pub placed_words : Leaf → ℕ → List ℕ → List ℕ

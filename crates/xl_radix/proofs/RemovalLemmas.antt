@@ -1,12 +1,12 @@
 -- Steps of a removal.
-use Rattle.xl_radix.proofs.Common.{◌%◌, ◌*◌, ◌+◌, ◌-◌, ◌<◌, ◌∙◌, ◌∷◌, ◌≡◌, ◌≢◌, ◌≤◌, ◌⊎◌, [], ap, arith, cases_lt, false≢true, filled, free_count, get_or_default_zero, In, inl, inr, is_below, is_some, IsCounted, IsExact, IsNamed, IsNearly, IsStore, IsTaken, Leaf, leaf_in, leaf_named, leaf_word, length, length-set, level_of, List, named-first, named-In, named-is, named-order, named-space, Node, None, number_of, Option, Order, pointer_word, read_back, refl, slice_index, slice_index_or, slice_set, Some, Stands, subst, suc, sym, true, up, without_leaf, word_at, zero, ℕ}
+use Rattle.xl_radix.proofs.Common.{◌%◌, ◌*◌, ◌+◌, ◌-◌, ◌<◌, ◌∙◌, ◌∷◌, ◌≡◌, ◌≢◌, ◌≤◌, ◌⊎◌, [], ap, arith, cases_lt, false≢true, filled, free_count, get_or_default_zero, In, inl, inr, is_below, is_some, IsCounted, IsExact, IsNamed, IsNearly, IsStore, IsTaken, Leaf, leaf_in, leaf_named, leaf_word, length, length-set, level_of, List, named-first, named-In, named-is, named-order, named-space, Node, None, number_of, Option, Order, pointer_word, read_back, refl, slice_index, slice_index_or, slice_set, Some, IsAtNode, subst, suc, sym, true, up, without_leaf, word_at, zero, ℕ}
 use Rattle.xl_radix.proofs.CountLemmas.{counted-less, filled-zeros}
 use Rattle.xl_radix.proofs.EndLemmas.{not-both}
 use Rattle.xl_radix.proofs.FreedNodeLemmas.{freed, freed-at, freed-nearly, freed-rooted, freed_nodes, freed_words, IsEmpty, node-is}
 use Rattle.xl_radix.proofs.MadeNodeLemmas.{new_node}
 use Rattle.xl_radix.proofs.NumberLemmas.{below-is, below-some, node-in, number-only}
 use Rattle.xl_radix.proofs.ReadBackLemmas.{own-slot, reads-back}
-use Rattle.xl_radix.proofs.SlotLemmas.{stands-word}
+use Rattle.xl_radix.proofs.SlotLemmas.{at_node-word}
 use Rattle.xl_radix.proofs.StepLemmas.{recounted}
 use Rattle.xl_radix.proofs.TakenLeafLemmas.{IsHeld, unplaced, unplaced-mapping, unplaced-nearly, unplaced_words}
 
@@ -41,11 +41,11 @@ filled-count size n i u nodes words used c big h g f e =
       | inr ge ↦ absurd (f (filled-zeros words (n * 512) size i (subst (λ (v : ℕ). filled words (n * 512) v ≡ 0) (sym big) (let d = c.each n h in let z : u ≡ 0 = omega arith in sym d ∙ sym e ∙ z)) g))
     ]
 
-clear-core : (top spaces n : ℕ) (x : Leaf) (leaves : List Leaf) (nodes : List (Option Node)) (words used : List ℕ) → IsStore top spaces leaves nodes words used → IsExact top leaves nodes → In x leaves → Stands x.space x.first (level_of x.order) n nodes →
+clear-core : (top spaces n : ℕ) (x : Leaf) (leaves : List Leaf) (nodes : List (Option Node)) (words used : List ℕ) → IsStore top spaces leaves nodes words used → IsExact top leaves nodes → In x leaves → IsAtNode x.space x.first (level_of x.order) n nodes →
     ClearStep top spaces x.space x.first (level_of x.order) (slice_index used n) leaves nodes (unplaced_words x n words) (slice_set used n (slice_index used n - 1))
 clear-core top spaces n x leaves nodes words used store exact i at =
     let slot = own-slot top spaces leaves x store.mapping i in
-    let r = stands-word top x.space x.first (level_of x.order) n leaves nodes words store.image at in
+    let r = at_node-word top x.space x.first (level_of x.order) n leaves nodes words store.image at in
     let filled : slice_index words (n * 512 + up (level_of x.order) x.first % 512) ≢ 0 = λ e. leaf-filled x.space (level_of x.order) (up (level_of x.order) x.first) x leaves nodes slot (sym r.1 ∙ e) in
     let held : IsHeld x n leaves nodes = record { there = i; at = at; absent = absent slot } in
     let image = unplaced top spaces x n leaves nodes words store.mapping store.image held in
@@ -65,7 +65,7 @@ clear-core top spaces n x leaves nodes words used store exact i at =
     }
   where
     low : level_of x.order < top
-    low = elim (store.image.closed x.space (suc (level_of x.order)) (up (suc (level_of x.order)) x.first) n at.stands) [ inl e ↦ omega arith | inr e ↦ let h = e.1 in omega arith ]
+    low = elim (store.image.closed x.space (suc (level_of x.order)) (up (suc (level_of x.order)) x.first) n at.at_node) [ inl e ↦ omega arith | inr e ↦ let h = e.1 in omega arith ]
 
     absent : leaf_in x.space (level_of x.order) (up (level_of x.order) x.first) leaves ≡ Some x → number_of x.space (level_of x.order) (up (level_of x.order) x.first) nodes ≡ None
     absent slot = elim (number_of x.space (level_of x.order) (up (level_of x.order) x.first) nodes) as (λ o. number_of x.space (level_of x.order) (up (level_of x.order) x.first) nodes ≡ o → o ≡ None) [
@@ -73,7 +73,7 @@ clear-core top spaces n x leaves nodes words used store exact i at =
       | Some k ↦ λ e. absurd (not-both top spaces x.space (level_of x.order) (up (level_of x.order) x.first) k leaves nodes x low store.mapping exact slot e)
     ] refl
 
-pub clear-step : (top spaces s f n i u : ℕ) (o : Order) (leaves : List Leaf) (nodes : List (Option Node)) (words used : List ℕ) → IsStore top spaces leaves nodes words used → IsExact top leaves nodes → IsNamed s f o leaves → Stands s f (level_of o) n nodes → i ≡ up (level_of o) f % 512 → u ≡ slice_index_or used n u →
+pub clear-step : (top spaces s f n i u : ℕ) (o : Order) (leaves : List Leaf) (nodes : List (Option Node)) (words used : List ℕ) → IsStore top spaces leaves nodes words used → IsExact top leaves nodes → IsNamed s f o leaves → IsAtNode s f (level_of o) n nodes → i ≡ up (level_of o) f % 512 → u ≡ slice_index_or used n u →
     ClearStep top spaces s f (level_of o) u leaves nodes (slice_set words (n * 512 + i) 0) (slice_set used n (u - 1))
 clear-step top spaces s f n i u o leaves nodes words used store exact name at ei eu = step (named s f o leaves name)
   where
@@ -81,7 +81,7 @@ clear-step top spaces s f n i u o leaves nodes words used store exact name at ei
     count h = eu ∙ get_or_default_zero used n u (let z = store.counted.places in omega arith)
 
     inside : n < length nodes
-    inside = let b = below-some s (suc (level_of o)) (up (suc (level_of o)) f) _ at.stands in node-in n nodes b.0 b.1
+    inside = let b = below-some s (suc (level_of o)) (up (suc (level_of o)) f) _ at.at_node in node-in n nodes b.0 b.1
 
     step : (x : Leaf) × Named s f (level_of o) x leaves → ClearStep top spaces s f (level_of o) u leaves nodes (slice_set words (n * 512 + i) 0) (slice_set used n (u - 1))
     step r =
@@ -110,16 +110,16 @@ pointer-filled : (s l q k : ℕ) (leaves : List Leaf) (nodes : List (Option Node
 unfolding word_at pointer_word
 pointer-filled s l q k leaves nodes e f g = let h = rw (e, f) at g in omega (arith, h)
 
-release-core : (top spaces s page l n k : ℕ) (leaves : List Leaf) (nodes : List (Option Node)) (words used : List ℕ) → IsStore top spaces leaves nodes words used → suc l < top → Stands s page (suc l) n nodes → Stands s page l k nodes → leaf_in s (suc l) (up (suc l) page) leaves ≡ None → slice_index used k ≡ 0 →
+release-core : (top spaces s page l n k : ℕ) (leaves : List Leaf) (nodes : List (Option Node)) (words used : List ℕ) → IsStore top spaces leaves nodes words used → suc l < top → IsAtNode s page (suc l) n nodes → IsAtNode s page l k nodes → leaf_in s (suc l) (up (suc l) page) leaves ≡ None → slice_index used k ≡ 0 →
     ReleaseStep top spaces s page (suc l) (slice_index used n) leaves nodes (freed_nodes k nodes) (freed_words n (up (suc l) page % 512) words) (slice_set used n (slice_index used n - 1))
 release-core top spaces s page l n k leaves nodes words used store low at child no-leaf unused =
-    let b = below-some s (suc l) (up (suc l) page) _ child.stands in
+    let b = below-some s (suc l) (up (suc l) page) _ child.at_node in
     let named : slice_index_or nodes k None ≡ Some (new_node s l (up (suc l) page)) = b.1 ∙ ap Some (node-is s l (up (suc l) page) b.0 b.2) in
     let inside : k < length nodes = node-in k nodes (new_node s l (up (suc l) page)) named in
     let zeros = sym (store.counted.each k inside) ∙ unused in
     let empty : IsEmpty s l (up (suc l) page) k nodes words = record { below = named; zeros = λ i h. filled-zeros words (k * 512) 512 i zeros h } in
-    let r = stands-word top s page (suc l) n leaves nodes words store.image at in
-    let number = number-only s (suc l) (up (suc l) page) k nodes child.stands (λ m g. store.image.apart s (suc l) (up (suc l) page) m k g child.stands) in
+    let r = at_node-word top s page (suc l) n leaves nodes words store.image at in
+    let number = number-only s (suc l) (up (suc l) page) k nodes child.at_node (λ m g. store.image.apart s (suc l) (up (suc l) page) m k g child.at_node) in
     let filled : slice_index words (n * 512 + up (suc l) page % 512) ≢ 0 = λ e. pointer-filled s (suc l) (up (suc l) page) k leaves nodes no-leaf number (sym r.1 ∙ e) in
     let image = freed top s page l k n leaves nodes words store.image low at no-leaf empty in
     let len : length (freed_nodes k nodes) ≡ length nodes = length-set nodes k None in
@@ -156,12 +156,12 @@ release-core top spaces s page l n k leaves nodes words used store low at child 
         let f : l + 1 ≡ b = i.level_is in
         absurd (omega arith)
 
-pub release-step : (top spaces s page j n k i u : ℕ) (leaves : List Leaf) (nodes : List (Option Node)) (words used : List ℕ) → IsStore top spaces leaves nodes words used → 0 < j → j < top → Stands s page j n nodes → Stands s page (j - 1) k nodes → leaf_in s j (up j page) leaves ≡ None → slice_index used k ≡ 0 → i ≡ up j page % 512 → u ≡ slice_index_or used n u →
+pub release-step : (top spaces s page j n k i u : ℕ) (leaves : List Leaf) (nodes : List (Option Node)) (words used : List ℕ) → IsStore top spaces leaves nodes words used → 0 < j → j < top → IsAtNode s page j n nodes → IsAtNode s page (j - 1) k nodes → leaf_in s j (up j page) leaves ≡ None → slice_index used k ≡ 0 → i ≡ up j page % 512 → u ≡ slice_index_or used n u →
     ReleaseStep top spaces s page j u leaves nodes (slice_set nodes k None) (slice_set words (n * 512 + i) 0) (slice_set used n (u - 1))
 release-step top spaces s page zero n k i u leaves nodes words used store pos low at child no-leaf unused ei eu = absurd (omega arith)
 release-step top spaces s page (suc l) n k i u leaves nodes words used store pos low at child no-leaf unused ei eu =
     let h : suc l - 1 ≡ l = omega arith in
-    let b = below-some s (suc (suc l)) (up (suc (suc l)) page) _ at.stands in
+    let b = below-some s (suc (suc l)) (up (suc (suc l)) page) _ at.at_node in
     let inside : n < length used = let z = store.counted.places in let y = node-in n nodes b.0 b.1 in omega arith in
     let f : u ≡ slice_index used n = eu ∙ get_or_default_zero used n u inside in
     rw (ei, f) (release-core top spaces s page l n k leaves nodes words used store low at (rw h at child) no-leaf unused)

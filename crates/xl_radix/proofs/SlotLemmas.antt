@@ -1,5 +1,5 @@
 -- What the slots of a table say.
-use Rattle.xl_radix.proofs.Common.{◌%◌, ◌*◌, ◌+◌, ◌<◌, ◌^◌, ◌∙◌, ◌≡◌, ◌≤◌, any-In, ap, arith, decode_of, entry, find-In, find-None, find-passes, In, In-any, in_nodes, is_slot, is_under, IsImage, IsRadixMapping, Leaf, leaf_in, leaf_word, length, level_of, List, nat_tests, Node, None, number_of, Option, pointer_word, Pte, refl, slice_index, Some, Stands, subst, suc, true, up, word_at, word_of, zero, ℕ}
+use Rattle.xl_radix.proofs.Common.{◌%◌, ◌*◌, ◌+◌, ◌<◌, ◌^◌, ◌∙◌, ◌≡◌, ◌≤◌, any-In, ap, arith, decode_of, entry, find-In, find-None, find-passes, In, In-any, in_nodes, is_slot, is_under, IsImage, IsRadixMapping, Leaf, leaf_in, leaf_word, length, level_of, List, nat_tests, Node, None, number_of, Option, pointer_word, Pte, refl, slice_index, Some, IsAtNode, subst, suc, true, up, word_at, word_of, zero, ℕ}
 use Rattle.xl_pte.proofs.BitLemmas.{decode-made-leaf, decode-made-pointer}
 use Rattle.xl_radix.proofs.NumberLemmas.{below-some, Is, node-in, number-some}
 use Rattle.xl_pte.specs.declared.word.Pte.TheVariants as pte
@@ -100,9 +100,9 @@ says top spaces s l q leaves nodes m small =
         rw (decode-made-pointer n l high low) (e, f)
 
 -- The word of a page in the node of its level is that of its slot.
-pub stands-word : (top s page l n : ℕ) (leaves : List Leaf) (nodes : List (Option Node)) (words : List ℕ) → IsImage top leaves nodes words → Stands s page l n nodes → (n < length nodes) × (slice_index words (n * 512 + up l page % 512) ≡ word_at leaves nodes s l (up l page))
-stands-word top s page l n leaves nodes words image at =
-    let b = below-some s (suc l) (up (suc l) page) _ at.stands in
+pub at_node-word : (top s page l n : ℕ) (leaves : List Leaf) (nodes : List (Option Node)) (words : List ℕ) → IsImage top leaves nodes words → IsAtNode s page l n nodes → (n < length nodes) × (slice_index words (n * 512 + up l page % 512) ≡ word_at leaves nodes s l (up l page))
+at_node-word top s page l n leaves nodes words image at =
+    let b = below-some s (suc l) (up (suc l) page) _ at.at_node in
     let inside : n < length nodes = node-in n nodes b.0 b.1 in
     let same = image.same n (up l page % 512) inside (omega arith) in
     (inside, same ∙ ap (λ (o : Option Node). word_of leaves nodes o (up l page % 512)) b.1 ∙ named b.0 b.2)

@@ -1,31 +1,31 @@
 -- Steps of the table's functions.
-use Rattle.xl_radix.proofs.Common.{◌%◌, ◌*◌, ◌+◌, ◌-◌, ◌<◌, ◌∙◌, ◌≡◌, ◌≢◌, ◌≤◌, ◌⊎◌, ap, arith, decode_of, filled, free_count, get_or_default_zero, In, inl, inr, is_none, IsCounted, IsEnd, IsExact, IsNearly, IsNew, IsRadixMapping, IsReady, IsStore, Leaf, leaf_in, leaf_word, length, length-set, level_of, List, Node, None, number_of, Option, pointer_word, position, Pte, read_back, refl, slice_index, slice_index_or, slice_set, Some, Stands, subst, suc, sym, up, with_leaf, word_at, zero, ℕ}
+use Rattle.xl_radix.proofs.Common.{◌%◌, ◌*◌, ◌+◌, ◌-◌, ◌<◌, ◌∙◌, ◌≡◌, ◌≢◌, ◌≤◌, ◌⊎◌, ap, arith, decode_of, filled, free_count, get_or_default_zero, In, inl, inr, is_none, IsCounted, IsEnd, IsExact, IsNearly, IsNew, IsRadixMapping, IsReady, IsStore, Leaf, leaf_in, leaf_word, length, length-set, level_of, List, Node, None, number_of, Option, pointer_word, position, Pte, read_back, refl, slice_index, slice_index_or, slice_set, Some, IsAtNode, subst, suc, sym, up, with_leaf, word_at, zero, ℕ}
 use Rattle.xl_radix.proofs.CountLemmas.{counted-more, filled-le}
 use Rattle.xl_radix.proofs.EndLemmas.{none-word, not-both, word-none}
-use Rattle.xl_radix.proofs.MadeNodeLemmas.{IsSpot, made, made-empty, made-nearly, made-rooted, made-stands, made_nodes, made_words, new_node}
+use Rattle.xl_radix.proofs.MadeNodeLemmas.{IsSpot, made, made-empty, made-nearly, made-rooted, made-at_node, made_nodes, made_words, new_node}
 use Rattle.xl_radix.proofs.NumberLemmas.{below-some, free-none, node-in, number-some}
 use Rattle.xl_radix.proofs.PlacedLeafLemmas.{placed, placed-exact, placed-mapping, placed_words}
 use Rattle.xl_radix.proofs.ReadBackLemmas.{reads-back}
-use Rattle.xl_radix.proofs.SlotLemmas.{At, in-nodes-leaf, leaf-in-some, pointer-low, Says, says, stands-word, Under}
+use Rattle.xl_radix.proofs.SlotLemmas.{At, in-nodes-leaf, leaf-in-some, pointer-low, Says, says, at_node-word, Under}
 use Rattle.xl_pte.specs.declared.word.Pte.TheVariants as pte
 
 -- The word that was read, in the node that is at a page, is that of the slot.
-pub read-word : (top spaces s page l n i w : ℕ) (leaves : List Leaf) (nodes : List (Option Node)) (words used : List ℕ) → IsStore top spaces leaves nodes words used → Stands s page l n nodes → i ≡ up l page % 512 → w ≡ slice_index words (n * 512 + i) → w ≡ word_at leaves nodes s l (up l page)
+pub read-word : (top spaces s page l n i w : ℕ) (leaves : List Leaf) (nodes : List (Option Node)) (words used : List ℕ) → IsStore top spaces leaves nodes words used → IsAtNode s page l n nodes → i ≡ up l page % 512 → w ≡ slice_index words (n * 512 + i) → w ≡ word_at leaves nodes s l (up l page)
 read-word top spaces s page l n i w leaves nodes words used store at e f =
-    let r = stands-word top s page l n leaves nodes words store.image at in
+    let r = at_node-word top s page l n leaves nodes words store.image at in
     f ∙ ap (λ (v : ℕ). slice_index words (n * 512 + v)) e ∙ r.1
 
-pub read-says : (top spaces s page l n i w : ℕ) (leaves : List Leaf) (nodes : List (Option Node)) (words used : List ℕ) → IsStore top spaces leaves nodes words used → Stands s page l n nodes → l < top → i ≡ up l page % 512 → w ≡ slice_index words (n * 512 + i) →
+pub read-says : (top spaces s page l n i w : ℕ) (leaves : List Leaf) (nodes : List (Option Node)) (words used : List ℕ) → IsStore top spaces leaves nodes words used → IsAtNode s page l n nodes → l < top → i ≡ up l page % 512 → w ≡ slice_index words (n * 512 + i) →
     Says (decode_of w l) s l (up l page) leaves nodes
 read-says top spaces s page l n i w leaves nodes words used store at low e f =
     let g = read-word top spaces s page l n i w leaves nodes words used store at e f in
     subst (λ (v : ℕ). Says (decode_of v l) s l (up l page) leaves nodes) (sym g) (says top spaces s l (up l page) leaves nodes store.mapping store.rooted.small)
 
-pub next-stands : (s page l n : ℕ) (leaves : List Leaf) (nodes : List (Option Node)) → Says (pte.Pointer n) s l (up l page) leaves nodes → Stands s page (l - 1) n nodes
-next-stands s page zero n leaves nodes h = let low = pointer-low s zero page n nodes h.1 in absurd (omega arith)
-next-stands s page (suc l) n leaves nodes h =
+pub next-at_node : (s page l n : ℕ) (leaves : List Leaf) (nodes : List (Option Node)) → Says (pte.Pointer n) s l (up l page) leaves nodes → IsAtNode s page (l - 1) n nodes
+next-at_node s page zero n leaves nodes h = let low = pointer-low s zero page n nodes h.1 in absurd (omega arith)
+next-at_node s page (suc l) n leaves nodes h =
     let e : suc l - 1 ≡ l = omega arith in
-    rw e (record { stands = (number-some s (suc l) (up (suc l) page) n nodes h.1).1 })
+    rw e (record { at_node = (number-some s (suc l) (up (suc l) page) n nodes h.1).1 })
 
 pub stops : (top spaces s l q : ℕ) (w : Pte) (leaves : List Leaf) (nodes : List (Option Node)) → l < top → IsRadixMapping top spaces leaves → IsExact top leaves nodes → Says w s l q leaves nodes → ((n : ℕ) → w ≡ pte.Pointer n → ⊥) → number_of s l q nodes ≡ None
 stops top spaces s l q pte.Invalid leaves nodes low m exact h not = h.1
@@ -60,7 +60,7 @@ pub made-step : (top spaces s page l k n : ℕ) (leaves : List Leaf) (nodes : Li
 made-step top spaces s page l k n leaves nodes words used store low ready within free =
     let spot : IsSpot s l (up (suc l) page) k leaves nodes = record { within = within; free = free; empty = ready.empty; absent = ready.absent } in
     let image = made top s page l k n leaves nodes words store.image low ready.at spot in
-    let r = stands-word top s page (suc l) n leaves nodes words store.image ready.at in
+    let r = at_node-word top s page (suc l) n leaves nodes words store.image ready.at in
     let empty : slice_index words (n * 512 + up (suc l) page % 512) ≡ 0 = r.1 ∙ none-word s (suc l) (up (suc l) page) leaves nodes ready.empty ready.absent in
     let len : length (made_nodes s l (up (suc l) page) k nodes) ≡ length nodes = length-set nodes k (Some (new_node s l (up (suc l) page))) in
     let small : length (made_nodes s l (up (suc l) page) k nodes) ≤ 16384 = let z = store.rooted.small in omega arith in
@@ -78,7 +78,7 @@ made-step top spaces s page l k n leaves nodes words used store low ready within
         rooted = made-rooted top spaces s l (up (suc l) page) k leaves nodes store.rooted spot;
       };
       back = reads-back top spaces leaves (made_nodes s l (up (suc l) page) k nodes) (made_words n (up (suc l) page % 512) k words) store.high store.mapping image small;
-      ready = record { at = made-stands s page l k leaves nodes spot; empty = none.0; absent = none.1 };
+      ready = record { at = made-at_node s page l k leaves nodes spot; empty = none.0; absent = none.1 };
       nearly = λ i h g. made-nearly top s page i l k leaves nodes g (omega arith) spot;
     }
 
@@ -89,7 +89,7 @@ pub made-step-at : (top spaces s page j k n i w u : ℕ) (x : Node) (leaves : Li
 made-step-at top spaces s page zero k n i w u x leaves nodes words used store pos low ready within free ei ew ex eu = absurd (omega arith)
 made-step-at top spaces s page (suc l) k n i w u x leaves nodes words used store pos low ready within free ei ew ex eu =
     let h : suc l - 1 ≡ l = omega arith in
-    let r = stands-word top s page (suc l) n leaves nodes words store.image ready.at in
+    let r = at_node-word top s page (suc l) n leaves nodes words store.image ready.at in
     let inside : n < length used = let z = store.counted.places in let y = r.0 in omega arith in
     let f : u ≡ slice_index used n = eu ∙ get_or_default_zero used n u inside in
     rw (ei, ew, ex, f) (rw h (made-step top spaces s page l k n leaves nodes words used store low ready within free))
@@ -103,7 +103,7 @@ pub put-step : (top spaces n i w u : ℕ) (x : Leaf) (leaves : List Leaf) (nodes
     i ≡ up (level_of x.order) x.first % 512 → w ≡ leaf_word x.frame x.perm → u ≡ slice_index_or used n u →
     PutStep top spaces x leaves nodes (slice_set words (n * 512 + i) w) (slice_set used n (u + 1))
 put-step top spaces n i w u x leaves nodes words used store new ready ei ew eu =
-    let r = stands-word top x.space x.first (level_of x.order) n leaves nodes words store.image ready.at in
+    let r = at_node-word top x.space x.first (level_of x.order) n leaves nodes words store.image ready.at in
     let inside : n < length used = let z = store.counted.places in let y = r.0 in omega arith in
     let f : u ≡ slice_index used n = eu ∙ get_or_default_zero used n u inside in
     let image = placed top spaces x n leaves nodes words store.high store.mapping store.image new ready in
@@ -158,8 +158,8 @@ count-fits top spaces n u leaves nodes words used store h e =
     bounded : (size : ℕ) → u ≡ filled words (n * 512) size → u ≤ size
     bounded size e = let k = filled-le words (n * 512) size in omega arith
 
-pub stands-in : (s page l n : ℕ) (nodes : List (Option Node)) → Stands s page l n nodes → n < length nodes
-stands-in s page l n nodes at = let b = below-some s (suc l) (up (suc l) page) _ at.stands in node-in n nodes b.0 b.1
+pub at_node-in : (s page l n : ℕ) (nodes : List (Option Node)) → IsAtNode s page l n nodes → n < length nodes
+at_node-in s page l n nodes at = let b = below-some s (suc l) (up (suc l) page) _ at.at_node in node-in n nodes b.0 b.1
 
 pub some-free : (nodes : List (Option Node)) (r : Option ℕ) → r ≡ position is_none nodes → ((n : ℕ) → r ≡ Some n → ⊥) → 0 < free_count nodes → ⊥
 some-free nodes None e not h = free-none nodes (sym e) h

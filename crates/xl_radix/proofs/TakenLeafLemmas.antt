@@ -1,5 +1,5 @@
 -- A leaf leaves its slot.
-use Rattle.xl_radix.proofs.Common.{if◌then◌else◌, ◌%◌, ◌*◌, ◌+◌, ◌<◌, ◌==◌, ◌^◌, ◌∙◌, ◌∷◌, ◌≡◌, ◌≢◌, ◌≤◌, ◌⊎◌, [], ap, arith, Bool, cases_lt, cond, false, filter, find, In, In-without, in_nodes, inl, inr, is_slot, IsExact, IsImage, IsNearly, IsRadixMapping, Leaf, leaf_in, leaf_key, length, length-set, level_of, List, nat_tests, Node, None, number_of, Option, refl, same-place, slice_index, slice_index_or, slice_set, Some, sorted-without, Stands, subst, sym, true, up, without-In, without-other, without_leaf, word_of, ℕ}
+use Rattle.xl_radix.proofs.Common.{if◌then◌else◌, ◌%◌, ◌*◌, ◌+◌, ◌<◌, ◌==◌, ◌^◌, ◌∙◌, ◌∷◌, ◌≡◌, ◌≢◌, ◌≤◌, ◌⊎◌, [], ap, arith, Bool, cases_lt, cond, false, filter, find, In, In-without, in_nodes, inl, inr, is_slot, IsExact, IsImage, IsNearly, IsRadixMapping, Leaf, leaf_in, leaf_key, length, length-set, level_of, List, nat_tests, Node, None, number_of, Option, refl, same-place, slice_index, slice_index_or, slice_set, Some, sorted-without, IsAtNode, subst, sym, true, up, without-In, without-other, without_leaf, word_of, ℕ}
 use Rattle.xl_radix.proofs.EndLemmas.{none-word}
 use Rattle.xl_radix.proofs.ListLemmas.{find-nothing}
 use Rattle.xl_radix.proofs.MadeNodeLemmas.{stored-same}
@@ -61,7 +61,7 @@ unplaced-leaf-other top spaces s l q x leaves m i f =
 -- the leaf is in the table, at the node that is there, and no node is below its slot
 pub record IsHeld (x : Leaf) (n : ℕ) (leaves : List Leaf) (nodes : List (Option Node)) : Type 0 where
   pub there : In x leaves
-  pub at : Stands x.space x.first (level_of x.order) n nodes
+  pub at : IsAtNode x.space x.first (level_of x.order) n nodes
   pub absent : number_of x.space (level_of x.order) (up (level_of x.order) x.first) nodes ≡ None
 
 abbrev pub unplaced_words : Leaf → ℕ → List ℕ → List ℕ

@@ -1,5 +1,5 @@
 -- A leaf is taken out, and the empty nodes above it.
-use Rattle.xl_radix.proofs.Common.{◌*◌, ◌+◌, ◌-◌, ◌<◌, ◌==◌, ◌∙◌, ◌∷◌, ◌≡◌, ◌≢◌, ◌≤◌, ◌⊎◌, [], ap, arith, Bool, changed, false, false_from_ne_true, false≢true, free_count, in_nodes, inl, inr, is_below, is_needed, is_slot, is_some, IsExact, IsLess, IsNamed, IsNearly, IsStore, IsTaken, kept_node, Leaf, leaf_in, leaf_named, length, level_of, List, map, named-first, named-is, named-space, nat_tests, Node, None, number_of, only_needed, Option, Order, Radix, refl, Remove, shape_after, slice_index, slice_index_or, Some, Stands, subst, suc, sym, true, up, without-In, without_leaf, without_old, zero, ℕ}
+use Rattle.xl_radix.proofs.Common.{◌*◌, ◌+◌, ◌-◌, ◌<◌, ◌==◌, ◌∙◌, ◌∷◌, ◌≡◌, ◌≢◌, ◌≤◌, ◌⊎◌, [], ap, arith, Bool, changed, false, false_from_ne_true, false≢true, free_count, in_nodes, inl, inr, is_below, is_needed, is_slot, is_some, IsExact, IsLess, IsNamed, IsNearly, IsStore, IsTaken, kept_node, Leaf, leaf_in, leaf_named, length, level_of, List, map, named-first, named-is, named-space, nat_tests, Node, None, number_of, only_needed, Option, Order, Radix, refl, Remove, shape_after, slice_index, slice_index_or, Some, IsAtNode, subst, suc, sym, true, up, without-In, without_leaf, without_old, zero, ℕ}
 use Rattle.xl_radix.proofs.CountLemmas.{filled-some}
 use Rattle.xl_radix.proofs.FreedNodeLemmas.{filled-needed, kept-nearly, node-is}
 use Rattle.xl_radix.proofs.ListLemmas.{find-nothing}
@@ -31,16 +31,16 @@ not-zero b u e h = λ z. false≢true (sym h ∙ e ∙ zero-is u z)
     zero-is : (u : ℕ) → u ≡ 0 → (u == 0) ≡ true
     zero-is u z = grind (arith, nat_tests)
 
-still-core : (top spaces s page l k : ℕ) (leaves : List Leaf) (nodes : List (Option Node)) (words used : List ℕ) → IsStore top spaces leaves nodes words used → suc l < top → Stands s page l k nodes → slice_index used k ≢ 0 → IsNearly top s page l leaves nodes → IsNearly top s page (suc l) leaves nodes
+still-core : (top spaces s page l k : ℕ) (leaves : List Leaf) (nodes : List (Option Node)) (words used : List ℕ) → IsStore top spaces leaves nodes words used → suc l < top → IsAtNode s page l k nodes → slice_index used k ≢ 0 → IsNearly top s page l leaves nodes → IsNearly top s page (suc l) leaves nodes
 still-core top spaces s page l k leaves nodes words used store low at ne nearly =
-    let b = below-some s (suc l) (up (suc l) page) _ at.stands in
+    let b = below-some s (suc l) (up (suc l) page) _ at.at_node in
     let name : slice_index_or nodes k None ≡ Some (new_node s l (up (suc l) page)) = b.1 ∙ ap Some (node-is s l (up (suc l) page) b.0 b.2) in
     let inside : k < length nodes = node-in k nodes b.0 b.1 in
     let some = filled-some words (k * 512) 512 (λ z. ne (store.counted.each k inside ∙ z)) in
     kept-nearly top s page l k leaves nodes nearly (filled-needed top s page l k some.0 leaves nodes words store.image (omega arith) nearly name some.1 some.2)
 
 -- A node of the path that isn't empty is needed.
-pub still-nearly : (top spaces s page j k : ℕ) (leaves : List Leaf) (nodes : List (Option Node)) (words used : List ℕ) → IsStore top spaces leaves nodes words used → 0 < j → j < top → Stands s page (j - 1) k nodes → slice_index used k ≢ 0 → IsNearly top s page (j - 1) leaves nodes → IsNearly top s page j leaves nodes
+pub still-nearly : (top spaces s page j k : ℕ) (leaves : List Leaf) (nodes : List (Option Node)) (words used : List ℕ) → IsStore top spaces leaves nodes words used → 0 < j → j < top → IsAtNode s page (j - 1) k nodes → slice_index used k ≢ 0 → IsNearly top s page (j - 1) leaves nodes → IsNearly top s page j leaves nodes
 still-nearly top spaces s page zero k leaves nodes words used store pos low at ne nearly = absurd (omega arith)
 still-nearly top spaces s page (suc l) k leaves nodes words used store pos low at ne nearly =
     let h : suc l - 1 ≡ l = omega arith in
@@ -85,19 +85,19 @@ nearly-exact top spaces s page leaves nodes words used store nearly = record {
     needed a b c n h (inr (inr e)) = inl (high a b c n h e.1)
 
 -- A root is at each page.
-pub root-stands : (top spaces s page : ℕ) (leaves : List Leaf) (nodes : List (Option Node)) (words used : List ℕ) → IsStore top spaces leaves nodes words used → s < spaces → up top page ≡ 0 → Stands s page (top - 1) s nodes
-root-stands top spaces s page leaves nodes words used store h e =
+pub root-at_node : (top spaces s page : ℕ) (leaves : List Leaf) (nodes : List (Option Node)) (words used : List ℕ) → IsStore top spaces leaves nodes words used → s < spaces → up top page ≡ 0 → IsAtNode s page (top - 1) s nodes
+root-at_node top spaces s page leaves nodes words used store h e =
     let high = store.high in
     let t : suc (top - 1) ≡ top = omega arith in
-    record { stands = subst (λ (v : ℕ). is_below s v (up v page) (slice_index_or nodes s None) ≡ true) (sym t) (rw e (store.rooted.root s h)) }
+    record { at_node = subst (λ (v : ℕ). is_below s v (up v page) (slice_index_or nodes s None) ≡ true) (sym t) (rw e (store.rooted.root s h)) }
 
-pub named-stands : (top spaces s f : ℕ) (o : Order) (leaves : List Leaf) (nodes : List (Option Node)) (words used : List ℕ) → IsStore top spaces leaves nodes words used → IsNamed s f o leaves → Stands s f (top - 1) s nodes
-named-stands top spaces s f o leaves nodes words used store name = step (named s f o leaves name)
+pub named-at_node : (top spaces s f : ℕ) (o : Order) (leaves : List Leaf) (nodes : List (Option Node)) (words used : List ℕ) → IsStore top spaces leaves nodes words used → IsNamed s f o leaves → IsAtNode s f (top - 1) s nodes
+named-at_node top spaces s f o leaves nodes words used store name = step (named s f o leaves name)
   where
-    step : (x : Leaf) × Named s f (level_of o) x leaves → Stands s f (top - 1) s nodes
+    step : (x : Leaf) × Named s f (level_of o) x leaves → IsAtNode s f (top - 1) s nodes
     step r =
         let p = store.mapping.proper r.0 r.1.there in
-        root-stands top spaces s f leaves nodes words used store (subst (λ (v : ℕ). v < spaces) r.1.space_is p.space_in) (subst (λ (v : ℕ). up top v ≡ 0) r.1.first_is p.first_in)
+        root-at_node top spaces s f leaves nodes words used store (subst (λ (v : ℕ). v < spaces) r.1.space_is p.space_in) (subst (λ (v : ℕ). up top v ≡ 0) r.1.first_is p.first_in)
 
 -- The nodes after a removal are those that are needed.
 needed-cases : (top : ℕ) (leaves : List Leaf) (node : Node) → is_needed top leaves node ≡ true → (node.level + 1 ≡ top) ⊎ (in_nodes node.space (node.level + 1) node.prefix leaves ≡ true)
@@ -148,8 +148,8 @@ taken-only top spaces spaces' j given before leaves old new words used words' us
         f ∙ sym (ap (kept_node top leaves) e ∙ rw t refl)
 
 -- A node of the path at a level from which none was given back is yet.
-pub stays : (s page j h given n : ℕ) (a b : List (Option Node)) → IsTaken j given a b → j ≤ h → Stands s page h n a → Stands s page h n b
-stays s page j h given n a b taken low at = record { stands = taken.others s (suc h) (up (suc h) page) n (omega arith) at.stands }
+pub stays : (s page j h given n : ℕ) (a b : List (Option Node)) → IsTaken j given a b → j ≤ h → IsAtNode s page h n a → IsAtNode s page h n b
+stays s page j h given n a b taken low at = record { at_node = taken.others s (suc h) (up (suc h) page) n (omega arith) at.at_node }
 
 pub free-le : (nodes : List (Option Node)) → free_count nodes ≤ length nodes
 free-le [] = omega arith

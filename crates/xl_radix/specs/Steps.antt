@@ -11,8 +11,8 @@ use Rattle.xl_model.specs.Image.{leaf_in}
 use Rattle.xl_radix.specs.Table.{Table}
 
 -- The node of this number is the page's at this level.
-pub record Stands (space page level number : ℕ) (nodes : List (Option Node)) : Type 0 where
-  pub stands : is_below space (suc level) (up (suc level) page) (slice_index_or nodes number None) ≡ true
+pub record IsAtNode (space page level number : ℕ) (nodes : List (Option Node)) : Type 0 where
+  pub at_node : is_below space (suc level) (up (suc level) page) (slice_index_or nodes number None) ≡ true
 
 -- The walk of a page down to a level stops in this node of a level: at the level that was asked
 -- for, or above it where no node is below. So the path lacks the nodes from there down, and no
@@ -20,14 +20,14 @@ pub record Stands (space page level number : ℕ) (nodes : List (Option Node)) :
 pub record IsEnd (top space page least level number : ℕ) (nodes : List (Option Node)) : Type 0 where
   pub least_in : least ≤ level
   pub level_in : level < top
-  pub at : Stands space page level number nodes
+  pub at : IsAtNode space page level number nodes
   pub ends : (level ≡ least) ⊎ (number_of space level (up level page) nodes ≡ None)
   pub path : with_path space page least (top - 1 - least) nodes ≡ with_path space page least (level - least) nodes
   pub lacks : missing space page least (top - 1 - least) nodes ≡ level - least
 
 -- A node is at a page, and the page's slot in it is empty.
 pub record IsReady (space page level number : ℕ) (leaves : List Leaf) (nodes : List (Option Node)) : Type 0 where
-  pub at : Stands space page level number nodes
+  pub at : IsAtNode space page level number nodes
   pub empty : leaf_in space level (up level page) leaves ≡ None
   pub absent : number_of space level (up level page) nodes ≡ None
 

@@ -13,7 +13,7 @@ ghost use Rattle.xl_radix.specs.ReadBack.{order_of as level_order, leaf_said};
 ghost use Rattle.xl_radix.specs.Walk.{WordsReadBack};
 ghost use Rattle.xl_radix.specs.Table.{IsExact, IsNearly, IsNew};
 ghost use Rattle.xl_model.specs.Image.{leaf_in};
-ghost use Rattle.xl_radix.specs.Steps.{IsEnd, Stands, IsReady, IsTaken, IsLess, IsMove};
+ghost use Rattle.xl_radix.specs.Steps.{IsEnd, IsAtNode, IsReady, IsTaken, IsLess, IsMove};
 
 use crate::lazy::LazyWords;
 use crate::node::Node;
@@ -380,7 +380,7 @@ impl<const LEVELS: usize> Store<LEVELS> {
     fn clear_leaf(&mut self, space: u16, first: u64, order: Order, node: usize)
         requires exact { IsExact LEVELS self.old.leaves self.old.nodes }
         requires named { IsNamed space first order self.old.leaves }
-        requires at { Stands space first (level_of order) node self.old.nodes }
+        requires at { IsAtNode space first (level_of order) node self.old.nodes }
         ensures leaves { self.new.leaves ≡ without_leaf space first self.old.leaves }
         ensures nodes { self.new.nodes ≡ self.old.nodes }
         ensures spaces { self.new.spaces ≡ self.old.spaces }
@@ -396,7 +396,7 @@ impl<const LEVELS: usize> Store<LEVELS> {
     fn write_perm(&mut self, node: usize, old: Leaf, perm: Perm)
         requires exact { IsExact LEVELS self.old.leaves self.old.nodes }
         requires there { leaf_named old.space old.first old.order self.old.leaves ≡ Some old }
-        requires at { Stands old.space old.first (level_of old.order) node self.old.nodes }
+        requires at { IsAtNode old.space old.first (level_of old.order) node self.old.nodes }
         ensures leaves { self.new.leaves ≡ with_leaf (record old { perm = perm })
             (without_leaf old.space old.first self.old.leaves) }
         ensures nodes { self.new.nodes ≡ self.old.nodes }
@@ -462,8 +462,8 @@ impl<const LEVELS: usize> Store<LEVELS> {
     fn free_node(&mut self, space: u16, page: u64, above: Place, child: usize)
         requires low { 0 < above.level }
         requires high { above.level < LEVELS }
-        requires at { Stands space page above.level above.node self.old.nodes }
-        requires below { Stands space page (above.level - 1) child self.old.nodes }
+        requires at { IsAtNode space page above.level above.node self.old.nodes }
+        requires below { IsAtNode space page (above.level - 1) child self.old.nodes }
         requires empty { leaf_in space above.level (up above.level page) self.old.leaves ≡ None }
         requires unused { slice_index self.old.used child ≡ 0 }
         requires nearly { IsNearly LEVELS space page (above.level - 1) self.old.leaves
@@ -482,11 +482,11 @@ impl<const LEVELS: usize> Store<LEVELS> {
     /// The node below a slot that has one.
     fn node_below(&self, space: u16, page: u64, above: Place) -> usize
         requires exact { IsExact LEVELS self.now.leaves self.now.nodes }
-        requires at { Stands space page above.level above.node self.now.nodes }
+        requires at { IsAtNode space page above.level above.node self.now.nodes }
         requires high { above.level < LEVELS }
         requires needed { in_nodes space above.level (up above.level page) self.now.leaves ≡ true }
         ensures low { 0 < above.level }
-        ensures at { Stands space page (above.level - 1) result self.now.nodes }
+        ensures at { IsAtNode space page (above.level - 1) result self.now.nodes }
         ensures empty { leaf_in space above.level (up above.level page) self.now.leaves ≡ None }
     {
         let word = self
@@ -503,7 +503,7 @@ impl<const LEVELS: usize> Store<LEVELS> {
     fn take_leaf_below(&mut self, space: u16, first: u64, order: Order, from: Place) -> usize
         requires exact { IsExact LEVELS self.old.leaves self.old.nodes }
         requires named { IsNamed space first order self.old.leaves }
-        requires at { Stands space first from.level from.node self.old.nodes }
+        requires at { IsAtNode space first from.level from.node self.old.nodes }
         requires low { level_of order ≤ from.level }
         requires high { from.level < LEVELS }
         ensures leaves { self.new.leaves ≡ without_leaf space first self.old.leaves }

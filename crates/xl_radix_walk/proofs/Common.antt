@@ -20,7 +20,7 @@ unfoldable pub use Rattle.xl_model.specs.Room.{has_room}
 pub use Rattle.xl_model.specs.Rows.{is_width}
 pub use Rattle.xl_model.specs.Shapes.{brought, narrowed, Radix, widened}
 unfoldable pub use Rattle.xl_model.specs.Shapes.{opening_shape, shape_after}
-pub use Rattle.xl_model.specs.Structures.{finds_place, IsAllowedWalk, IsChange, IsFence, IsPage, IsSameWalk, IsWalk, moves_made, walk_told, work_of}
+pub use Rattle.xl_model.specs.Structures.{finds_place, IsAllowedWalk, IsChange, IsFence, IsPage, IsSameWalk, IsWalk, moves_made, walk_of_quick, work_of}
 unfoldable pub use Rattle.xl_model.specs.Structures.{fence_answer, table_after, table_answer, table_fenced, table_made, table_walked, verdict, walk_answer}
 pub use Rattle.xl_model.specs.Walks.{end_level, is_tag, node_cache_after, node_caches_after, numbered, radix_walk_from, start_level, Walked, with_fill, with_touch}
 unfoldable pub use Rattle.xl_model.specs.Walks.{walked}
@@ -45,5 +45,5 @@ pub use Rattle.xl_recency.specs.declared.item.Item.{Item}
 pub use Rattle.xl_radix_walk.specs.Path.{entered, entering, GoesTo, IsStep, loaded_times, step_of, word_in}
 unfoldable pub use Rattle.xl_radix_walk.specs.Path.{radix_path}
 pub use Rattle.xl_radix_walk.specs.Quick.{AreFirst, EndsAt, Enters, Finds, HasWord, IsAllowed, Points}
-pub use Rattle.xl_radix_walk.specs.Row.{above_off, AllNumbered, AreNumbered, AreOff, cache_in, caches_in, entries_of, fenced_caches, filled_by, filled_caches, filled_one, FillsNone, has_tag, is_fenced, is_gone, IsLowest, IsPath, IsRow, IsStraight, IsWalked, item_at, leaf_told, numbered_in, opening_table, purged_caches, refused_for, row_of, row_table, start_or, tag_at}
+pub use Rattle.xl_radix_walk.specs.Row.{above_off, AllNumbered, AreNumbered, AreOff, cache_in, caches_in, entries_of, fenced_caches, filled_by, filled_caches, filled_one, FillsNone, has_tag, is_fenced, is_gone, IsLowest, IsPath, IsRow, IsStraight, IsWalked, item_at, leaf_known, numbered_in, opening_table, purged_caches, refused_for, row_of, row_table, start_or, tag_at}
 pub use Rattle.xl_radix_walk.specs.declared.caches.Start.{Start}

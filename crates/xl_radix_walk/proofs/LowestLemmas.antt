@@ -42,13 +42,13 @@ same-from levels space page found leaves nodes (c ∷ cs) some e =
     let t = touched-again test c.items in
     let above : node_caches_after 1 0 None space page [] cs ≡ cs = above-same 1 0 space page cs (omega arith) in
     let held : list_any test (touched test c.items) ≡ true = t.any ∙ any in
-    (rw held refl, rw above (ap (λ (d : Cached Numbered). told (d ∷ node_caches_after 1 0 found space page nodes cs)) (once found (ap (λ (l : List Numbered). record c { items = l }) t.again))))
+    (rw held refl, rw above (ap (λ (d : Cached Numbered). known (d ∷ node_caches_after 1 0 found space page nodes cs)) (once found (ap (λ (l : List Numbered). record c { items = l }) t.again))))
   where
     test : Numbered → Bool
     test = is_tag space (up 1 page)
 
-    told : List (Cached Numbered) → Walked
-    told after = record { reads = 0 - end_level (levels - 1) 0 space page leaves + 1; cache_hits = one_if (nat_lt 0 (suc (length cs))); caches = NodeCaches after }
+    known : List (Cached Numbered) → Walked
+    known after = record { reads = 0 - end_level (levels - 1) 0 space page leaves + 1; cache_hits = one_if (nat_lt 0 (suc (length cs))); caches = NodeCaches after }
 
     any : list_any test c.items ≡ true
     any = elim (list_any test c.items) as (λ b. cond b 0 (start_level 1 space page cs) ≡ 0 → b ≡ true) [

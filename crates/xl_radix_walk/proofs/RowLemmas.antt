@@ -1,5 +1,5 @@
 -- A walk of a row.
-use Rattle.xl_radix_walk.proofs.Common.{◌*◌, ◌+◌, ◌-◌, ◌<◌, ◌^◌, ◌∙◌, ◌∷◌, ◌≡◌, ◌≤◌, [], ap, AreNumbered, arith, Cached, caches_in, end_level, filled_by, IfNone, IfSome, is_some, IsPath, IsRow, Item, Leaf, leaf_at_page, leaf_told, length, List, nat_lt, nat_tests, Node, node_caches_after, None, number_of, Numbered, one_if, Option, plus, refl, row_of, row_table, Some, Start, start_level, start_or, subst, suc, sym, Table, table_walked, up, walk_answer, walk_end, walked, WalkEnd, WordsReadBack, zero, ℕ}
+use Rattle.xl_radix_walk.proofs.Common.{◌*◌, ◌+◌, ◌-◌, ◌<◌, ◌^◌, ◌∙◌, ◌∷◌, ◌≡◌, ◌≤◌, [], ap, AreNumbered, arith, Cached, caches_in, end_level, filled_by, IfNone, IfSome, is_some, IsPath, IsRow, Item, Leaf, leaf_at_page, leaf_known, length, List, nat_lt, nat_tests, Node, node_caches_after, None, number_of, Numbered, one_if, Option, plus, refl, row_of, row_table, Some, Start, start_level, start_or, subst, suc, sym, Table, table_walked, up, walk_answer, walk_end, walked, WalkEnd, WordsReadBack, zero, ℕ}
 use Rattle.xl_radix_walk.proofs.FillLemmas.{filled, filled-length, numbered-filled}
 
 pub length-in : (level : ℕ) (cs : List (Cached Item)) → length (caches_in level cs) ≡ length cs
@@ -61,9 +61,9 @@ is-filled top spaces start space page path leaves nodes words cs old back h p e 
           }
     ] refl
 
-pub leaf-told : (top spaces space page : ℕ) (leaves : List Leaf) (nodes : List (Option Node)) (words : List ℕ) → WordsReadBack top spaces leaves nodes words → leaf_told space page (walk_end (leaf_at_page space page leaves) (end_level (top - 1) 0 space page leaves)) ≡ leaf_at_page space page leaves
-leaf-told top spaces space page leaves nodes words back =
-    elim (leaf_at_page space page leaves) as (λ o. leaf_at_page space page leaves ≡ o → leaf_told space page (walk_end o (end_level (top - 1) 0 space page leaves)) ≡ o) [
+pub leaf-known : (top spaces space page : ℕ) (leaves : List Leaf) (nodes : List (Option Node)) (words : List ℕ) → WordsReadBack top spaces leaves nodes words → leaf_known space page (walk_end (leaf_at_page space page leaves) (end_level (top - 1) 0 space page leaves)) ≡ leaf_at_page space page leaves
+leaf-known top spaces space page leaves nodes words back =
+    elim (leaf_at_page space page leaves) as (λ o. leaf_at_page space page leaves ≡ o → leaf_known space page (walk_end o (end_level (top - 1) 0 space page leaves)) ≡ o) [
       | None ↦ λ f. refl
       | Some x ↦ λ f. back.kept.said space page x f
     ] refl

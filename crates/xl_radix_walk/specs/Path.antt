@@ -42,7 +42,7 @@ word_in words level node page =
 -- The node that the walk enters next, or the walk's result.
 abbrev pub step_of : Option Pte → ℕ → Step
 step_of None level = step.Ends (end.OutOfBus level)
-step_of (Some (pte.Pointer node)) level = step.GoesOn node
+step_of (Some (pte.Pointer node)) level = step.Descends node
 step_of (Some pte.Invalid) level = step.Ends (end.Invalid level)
 step_of (Some (pte.Leaf frame perm)) level = step.Ends (end.Leaf level frame perm)
 step_of (Some pte.Reserved) level = step.Ends (end.Reserved level)
@@ -64,5 +64,5 @@ pub record EndsWith (words : List ℕ) (level node page : ℕ) (e : WalkEnd) : T
 
 -- The step is the one that the words say.
 abbrev pub IsStep : List ℕ → ℕ → ℕ → ℕ → Step → Type 0
-IsStep words level node page (step.GoesOn next) = GoesTo words level node page next
+IsStep words level node page (step.Descends next) = GoesTo words level node page next
 IsStep words level node page (step.Ends e) = EndsWith words level node page e

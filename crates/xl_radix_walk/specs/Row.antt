@@ -131,12 +131,12 @@ start_or levels space None = record { level = levels - 1; node = space }
 start_or levels space (Some s) = s
 
 -- The leaf that the end of a walk says.
-abbrev pub leaf_told : ℕ → ℕ → WalkEnd → Option Leaf
-leaf_told space page (end.Leaf level frame perm) = leaf_said space (up level page) (order_of level) (pte.Leaf frame perm)
-leaf_told space page (end.Invalid level) = None
-leaf_told space page (end.Reserved level) = None
-leaf_told space page (end.Misaligned level) = None
-leaf_told space page (end.OutOfBus level) = None
+abbrev pub leaf_known : ℕ → ℕ → WalkEnd → Option Leaf
+leaf_known space page (end.Leaf level frame perm) = leaf_said space (up level page) (order_of level) (pte.Leaf frame perm)
+leaf_known space page (end.Invalid level) = None
+leaf_known space page (end.Reserved level) = None
+leaf_known space page (end.Misaligned level) = None
+leaf_known space page (end.OutOfBus level) = None
 
 -- The caches after a walk: one that ended at a leaf fills them, another leaves them.
 abbrev pub filled_by : WalkEnd → ℕ → ℕ → ℕ → List ℕ → List (Cached Item) → List (Cached Item)

@@ -12,11 +12,11 @@ ghost use Rattle.xl_model.specs.LeafWords.{small_leaf};
 ghost use Rattle.xl_model.specs.Rows.{is_width};
 ghost use Rattle.xl_model.specs.Placing.{no_moves};
 ghost use Rattle.xl_model.specs.Walks.{end_level};
-ghost use Rattle.xl_model.specs.Structures.{IsBlock, IsLeafFor, IsPage, IsChange, IsQuickWalk, IsAllowedWalk, IsSameWalk, IsFence, walk_told, work_of};
+ghost use Rattle.xl_model.specs.Structures.{IsBlock, IsLeafFor, IsPage, IsChange, IsQuickWalk, IsAllowedWalk, IsSameWalk, IsFence, walk_of_quick, work_of};
 ghost use Rattle.xl_radix.specs.Walk.{walk_end};
 ghost use Rattle.xl_radix.specs.Steps.{shape_of};
 ghost use Rattle.xl_radix_walk.specs.Quick.{IsAllowed};
-ghost use Rattle.xl_radix_walk.specs.Row.{AreNumbered, entries_of, leaf_told, opening_table, purged_caches, refused_for, start_or, IsPath, IsRow, IsStraight, IsWalked, row_of, row_table};
+ghost use Rattle.xl_radix_walk.specs.Row.{AreNumbered, entries_of, leaf_known, opening_table, purged_caches, refused_for, start_or, IsPath, IsRow, IsStraight, IsWalked, row_of, row_table};
 ghost use Rattle.xl_radix.specs.Walk.{end_of};
 
 use crate::caches::Start;
@@ -96,7 +96,7 @@ pub(crate) fn descend<const LEVELS: usize>(
 pub(crate) fn found_leaf(space: u16, page: u64, end: WalkEnd) -> Option<Leaf>
     requires level { end_of end < 5 }
     requires page { page < 2 ^ 45 }
-    ensures { result ≡ leaf_told space page end }
+    ensures { result ≡ leaf_known space page end }
 {
     let WalkEnd::Leaf { level, frame, perm } = end else {
         return None;
@@ -271,8 +271,8 @@ fn walk_from<const LEVELS: usize>(
     requires node { number_of space (suc from.level) (up (suc from.level) page) radix.old.nodes ≡
         Some from.node }
     requires level { from.level < LEVELS }
-    ensures hits { (walk_told space page result).cache_hits ≡ cache_hits }
-    ensures walked { IsWalked LEVELS from.level space page (walk_told space page result).leaf
+    ensures hits { (walk_of_quick space page result).cache_hits ≡ cache_hits }
+    ensures walked { IsWalked LEVELS from.level space page (walk_of_quick space page result).leaf
         radix.old caches.old radix.new caches.new }
 {
     radix.words_read_back();
@@ -311,7 +311,7 @@ fn walk_row<const LEVELS: usize>(
 }
 
 /// The work of a change that freed `given` nodes: their entries leave the caches.
-fn settle<const LEVELS: usize>(radix: &Radix<LEVELS>, caches: &mut WalkCaches, given: usize) -> Work
+fn invalidate_freed<const LEVELS: usize>(radix: &Radix<LEVELS>, caches: &mut WalkCaches, given: usize) -> Work
     requires few { length caches.old ≤ 4 }
     requires none { given ≡ 0 → AreNumbered 0 radix.now.nodes caches.old }
     ensures caches { caches.new ≡ purged_caches radix.now.nodes caches.old }
@@ -348,7 +348,7 @@ fn insert_leaf<const LEVELS: usize>(
         result (row_table LEVELS (row_of radix.new caches.new)) }
 {
     match radix.add(leaf) {
-        Ok(()) => Ok(settle(radix, caches, 0)),
+        Ok(()) => Ok(invalidate_freed(radix, caches, 0)),
         Err(NoTable) => Err(no_table()),
     }
 }
@@ -369,7 +369,7 @@ fn remove_leaf<const LEVELS: usize>(
         result (row_table LEVELS (row_of radix.new caches.new)) }
 {
     let given = radix.take_out_counted(space, first, order);
-    Ok(settle(radix, caches, given))
+    Ok(invalidate_freed(radix, caches, given))
 }
 
 /// Gives a leaf another permission.
@@ -389,7 +389,7 @@ fn protect_leaf<const LEVELS: usize>(
         result (row_table LEVELS (row_of radix.new caches.new)) }
 {
     radix.set_perm(space, first, order, perm);
-    Ok(settle(radix, caches, 0))
+    Ok(invalidate_freed(radix, caches, 0))
 }
 
 /// Moves a leaf to a block that overlaps no other leaf.
@@ -411,7 +411,7 @@ fn relocate_leaf<const LEVELS: usize>(
         result (row_table LEVELS (row_of radix.new caches.new)) }
 {
     match radix.shift_counted(space, first, to, order) {
-        Ok(given) => Ok(settle(radix, caches, given)),
+        Ok(given) => Ok(invalidate_freed(radix, caches, given)),
         Err(NoTable) => Err(no_table()),
     }
 }

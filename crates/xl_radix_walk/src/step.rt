@@ -11,7 +11,7 @@ use xl_radix::{WalkEnd, index_of};
 
 /// The node that a walk enters next, one level down, or the walk's result.
 pub(crate) enum Step {
-    GoesOn(u64),
+    Descends(u64),
     Ends(WalkEnd),
 }
 
@@ -20,7 +20,7 @@ fn step_at(word: Pte, level: usize) -> Step
     ensures { result ≡ step_of (Some word) level }
 {
     match word {
-        Pte::Pointer { node } => Step::GoesOn(node),
+        Pte::Pointer { node } => Step::Descends(node),
         Pte::Invalid => Step::Ends(WalkEnd::Invalid { level }),
         Pte::Leaf { frame, perm } => Step::Ends(WalkEnd::Leaf { level, frame, perm }),
         Pte::Reserved => Step::Ends(WalkEnd::Reserved { level }),
@@ -35,7 +35,7 @@ fn judged(word: u64, level: usize) -> Step
 {
     if level > 0 {
         if let Some(next) = pointed(word) {
-            return Step::GoesOn(next);
+            return Step::Descends(next);
         }
     }
     step_at(decode(word, level), level)

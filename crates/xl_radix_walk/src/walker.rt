@@ -35,7 +35,7 @@ pub fn walk<B: Bus, const LEVELS: usize>(
     loop {
         match take_step(bus, level, at, page) {
             Step::Ends(end) => return end,
-            Step::GoesOn(next) => {
+            Step::Descends(next) => {
                 path.push(next);
                 at = next;
                 level -= 1;

@@ -31,8 +31,8 @@ pub use Rattle.xl_model_lemmas.proofs.SameLemmas.{any-find, perm-same, both as s
 pub use Rattle.xl_model_lemmas.specs.Members.{AllAbove, In, IsSorted}
 pub use Rattle.xl_treap.proofs.KeptLemmas.{resized-length, with-length}
 pub use Rattle.xl_treap.specs.Treaps.{first_from, has_key, IsApart, IsFit, keeping, key_at, last_below, last_or, of_space, resized, TreapView, with_range, without_range}
-pub use Rattle.xl_range.specs.Cuts.{IsInside, kept_behind, kept_cut}
-pub use Rattle.xl_range.specs.HeldRanges.{before_on, begins, behind_on, first_leaf, glue, grown, IsClear, IsHeld, IsLeafIn, IsRange, leaf_by, leaf_in, leaves_in, next_leaf, pages_before, pages_behind, part_behind, pieces, range_from, run_on, some_if, Stops, touches}
+pub use Rattle.xl_range.specs.Cuts.{IsInside, kept_following, kept_cut}
+pub use Rattle.xl_range.specs.HeldRanges.{before_on, begins, following_on, first_leaf, glue, grown, IsClear, IsHeld, IsLeafIn, IsRange, leaf_by, leaf_in, range_leaves, next_leaf, pages_before, pages_following, part_following, pieces, range_from, run_on, some_if, Stops, touches}
 unfoldable pub use Rattle.xl_range.specs.HeldRanges.{cut, join, meets_range, spread}
 pub use Rattle.xl_range.specs.Puts.{IsThere, kept_put, kept_taken, next_of, next_where, one_if, pages_with, prev_of, prev_where, put_by, range_taken}
 pub use Rattle.xl_range.specs.Rows.{AllFresh, HasLeaf, HasRanges, IsAt, IsDone, IsFresh, IsRow, IsTable, meets_where, opening_table, row_of, row_table, RowState}

@@ -1,5 +1,5 @@
 -- For the table of ranges: a leaf cut out of maximal ranges leaves maximal ranges, of the other leaves.
-use Rattle.xl_range.proofs.Common.{◌*◌, ◌+◌, ◌<◌, ◌==◌, ◌^◌, ◌∙◌, ◌∷◌, ◌≡◌, ◌≤◌, [], ap, arith, before_on, behind_on, cut, end_key, false, filter, first_leaf, In, inl, inr, IsHeld, IsLeafIn, IsRange, leaves_in, List, nat_tests, Order, pages_before, pages_behind, pages_of, part_behind, pieces, Range, range_key, refl, run_on, spread, Stops, subst, suc, sym, touches, true, without_leaf, zero, ℕ}
+use Rattle.xl_range.proofs.Common.{◌*◌, ◌+◌, ◌<◌, ◌==◌, ◌^◌, ◌∙◌, ◌∷◌, ◌≡◌, ◌≤◌, [], ap, arith, before_on, following_on, cut, end_key, false, filter, first_leaf, In, inl, inr, IsHeld, IsLeafIn, IsRange, range_leaves, List, nat_tests, Order, pages_before, pages_following, pages_of, part_following, pieces, Range, range_key, refl, run_on, spread, Stops, subst, suc, sym, touches, true, without_leaf, zero, ℕ}
 use Rattle.xl_range.proofs.JoinLemmas.{In-key}
 use Rattle.xl_range.proofs.LeafInLemmas.{Sizes, sizes}
 use Rattle.xl_range.proofs.LeftLemmas.{head-held, stops-far}
@@ -38,15 +38,15 @@ cut-spread space first o low r (y ∷ rs) i (above, is, stops, rest) (inr m) =
     let k : ℕ = space * 2 ^ 52 + first in
     let some : 0 < y.pages = some-pages y is in
     let key : end_key y ≤ range_key r = In-key (end_key y) r rs rest m in
-    let s : Sizes first o r i.before i.behind = sizes space first o r i in
+    let s : Sizes first o r i.before i.following = sizes space first o r i in
     let from = s.from in
     let same : r.space ≡ space = i.space_same in
     let n : ℕ = suc is.leaves.0 in
     let pages : y.pages ≡ n * pages_of y.order = is.leaves.1 in
-    let count : leaves_in y ≡ n = leaves-is y is in
+    let count : range_leaves y ≡ n = leaves-is y is in
     let tail : spread (cut first o r rs) ≡ filter (stays k) (spread rs) = cut-spread space first o (end_key y) r rs i rest m in
     ap spread (next-cut first o y r rs (omega arith))
-    ∙ ap (run_on (leaves_in y) (first_leaf y)) tail
+    ∙ ap (run_on (range_leaves y) (first_leaf y)) tail
     ∙ sym (ap (λ (j : ℕ). filter (stays k) (run_on j (first_leaf y) (spread rs))) count
     ∙ filter-below k n (first_leaf y) (spread rs) (omega arith)
     ∙ ap (λ (j : ℕ). run_on j (first_leaf y) (filter (stays k) (spread rs))) (sym count))
@@ -60,18 +60,18 @@ stops-cut space first o low y r (z ∷ rs) i le (above, is, next, rest) (inl e) 
     let apart : touches y r ≡ false = subst T (sym e) stops in
     let F : Range → Type 0 = λ w. Stops y (cut first o r (w ∷ rs)) in
     let S : List Range → Type 0 = λ ys. Stops y ys in
-    let s : Sizes first o r i.before i.behind = sizes space first o r i in
-    let held : IsHeld (range_key r) (before_on (pages_before first r) r (behind_on (pages_behind first o r) (part_behind first o r) rs)) = head-held space first o (range_key r) r rs i (omega arith) at.is at.stops at.rest in
+    let s : Sizes first o r i.before i.following = sizes space first o r i in
+    let held : IsHeld (range_key r) (before_on (pages_before first r) r (following_on (pages_following first o r) (part_following first o r) rs)) = head-held space first o (range_key r) r rs i (omega arith) at.is at.stops at.rest in
     let some : 0 < r.pages = some-pages r at.is in
     let key : low ≤ range_key r = at.above in
-    subst F e (subst S (sym (head-cut first o r rs)) (head-stops (pages_before first r) (pages_behind first o r) refl apart (omega arith) s at))
+    subst F e (subst S (sym (head-cut first o r rs)) (head-stops (pages_before first r) (pages_following first o r) refl apart (omega arith) s at))
   where
-    head-stops : (n m : ℕ) → n ≡ pages_before first r → touches y r ≡ false → end_key y ≤ range_key r → Sizes first o r i.before i.behind → AtHead low r rs → Stops y (before_on n r (behind_on m (part_behind first o r) rs))
+    head-stops : (n m : ℕ) → n ≡ pages_before first r → touches y r ≡ false → end_key y ≤ range_key r → Sizes first o r i.before i.following → AtHead low r rs → Stops y (before_on n r (following_on m (part_following first o r) rs))
     head-stops zero zero e apart le s at = let p = some-pages r at.is in stops-far (end_key r) y rs (omega arith) at.rest
     head-stops zero (suc m) e apart le s at =
         let from = s.from in
         let some = s.some in
-        not-touching y (part_behind first o r) (λ u. let f : end_key y ≡ range_key (part_behind first o r) = touch-key y (part_behind first o r) (touch y (part_behind first o r) u) in omega arith)
+        not-touching y (part_following first o r) (λ u. let f : end_key y ≡ range_key (part_following first o r) = touch-key y (part_following first o r) (touch y (part_following first o r) u) in omega arith)
     head-stops (suc n) m e apart le s at = apart
 stops-cut space first o low y r (z ∷ rs) i le (above, is, next, rest) (inr m) stops =
     let some : 0 < z.pages = some-pages z is in

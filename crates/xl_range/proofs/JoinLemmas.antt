@@ -17,9 +17,9 @@ lower low high [] le h = tt
 lower low high (r ∷ rs) le (above, is, stops, rest) = (omega arith, is, stops, rest)
 
 -- what begins after a range, and lies apart from it, begins after its end
-pub held-behind : (low : ℕ) (x : Range) (rs : List Range) → IsHeld low rs → IsClear x rs → range_key x ≤ low → IsHeld (end_key x) rs
-held-behind low x [] h clear le = tt
-held-behind low x (r ∷ rs) (above, is, stops, rest) (apart, clear) le = (elim apart [ inl a ↦ (let p : 0 < r.pages = some-pages r is in absurd (omega arith)) | inr b ↦ b ], is, stops, rest)
+pub held-following : (low : ℕ) (x : Range) (rs : List Range) → IsHeld low rs → IsClear x rs → range_key x ≤ low → IsHeld (end_key x) rs
+held-following low x [] h clear le = tt
+held-following low x (r ∷ rs) (above, is, stops, rest) (apart, clear) le = (elim apart [ inl a ↦ (let p : 0 < r.pages = some-pages r is in absurd (omega arith)) | inr b ↦ b ], is, stops, rest)
 
 pub held-glue : (low : ℕ) (x : Range) (rs : List Range) → low ≤ range_key x → IsRange x → IsHeld (end_key x) rs → IsHeld low (glue x rs)
 held-glue low x [] le is h = (le, is, tt, tt)
@@ -67,11 +67,11 @@ held-join low x (r ∷ rs) (above, also, stops, rest) le is (apart, clear) =
                 let f : end_key r ≡ range_key x = touch-key r x k in
                 let e : end_key (grown r x) ≡ end_key x = omega arith in
                 let P : ℕ → Type 0 = λ n. IsHeld n rs in
-                let behind : IsHeld (end_key x) rs = held-behind (end_key r) x rs rest clear (omega arith) in
-                held-glue low (grown r x) rs above (grown-range r x k also is) (subst P (sym e) behind)
+                let following : IsHeld (end_key x) rs = held-following (end_key r) x rs rest clear (omega arith) in
+                held-glue low (grown r x) rs above (grown-range r x k also is) (subst P (sym e) following)
             | false ↦ λ t. (above, also, stops-join r x rs stops t, held-join (end_key r) x rs rest ends is clear)
           ] refl
       | false ↦ λ l.
           let le_r : range_key x ≤ range_key r = grind (arith, nat_tests) in
-          held-glue low x (r ∷ rs) le is (held-behind (range_key r) x (r ∷ rs) (omega arith, also, stops, rest) (apart, clear) le_r)
+          held-glue low x (r ∷ rs) le is (held-following (range_key r) x (r ∷ rs) (omega arith, also, stops, rest) (apart, clear) le_r)
     ] refl

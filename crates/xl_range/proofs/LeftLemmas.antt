@@ -1,5 +1,5 @@
 -- For the table of ranges: what is left of a range without a leaf of it are maximal ranges.
-use Rattle.xl_range.proofs.Common.{◌*◌, ◌+◌, ◌<◌, ◌∙◌, ◌∷◌, ◌≡◌, ◌≤◌, [], arith, before_on, behind_on, end_key, IsHeld, IsLeafIn, IsRange, List, Order, pages_before, pages_behind, pages_of, part_behind, Range, range_key, refl, Stops, subst, suc, sym, touches, zero, ℕ}
+use Rattle.xl_range.proofs.Common.{◌*◌, ◌+◌, ◌<◌, ◌∙◌, ◌∷◌, ◌≡◌, ◌≤◌, [], arith, before_on, following_on, end_key, IsHeld, IsLeafIn, IsRange, List, Order, pages_before, pages_following, pages_of, part_following, Range, range_key, refl, Stops, subst, suc, sym, touches, zero, ℕ}
 use Rattle.xl_range.proofs.JoinLemmas.{lower}
 use Rattle.xl_range.proofs.LeafInLemmas.{Sizes, sizes}
 use Rattle.xl_range.proofs.TouchLemmas.{not-touching, touch, touch-key}
@@ -8,17 +8,17 @@ pub stops-far : (low : ℕ) (y : Range) (rs : List Range) → end_key y < low �
 stops-far low y [] less h = tt
 stops-far low y (s ∷ ss) less (above, is, stops, rest) = not-touching y s (λ u. let e : end_key y ≡ range_key s = touch-key y s (touch y s u) in omega arith)
 
-behind-touches : (r x s : Range) (end frame : ℕ) → x.space ≡ r.space → x.order ≡ r.order → x.perm ≡ r.perm → x.start + x.pages ≡ r.start + r.pages → x.frame + x.pages ≡ r.frame + r.pages → touches x s ≡ touches r s
-behind-touches r x s end frame a b c d e = rw (a, b, c, d, e) refl
+following-touches : (r x s : Range) (end frame : ℕ) → x.space ≡ r.space → x.order ≡ r.order → x.perm ≡ r.perm → x.start + x.pages ≡ r.start + r.pages → x.frame + x.pages ≡ r.frame + r.pages → touches x s ≡ touches r s
+following-touches r x s end frame a b c d e = rw (a, b, c, d, e) refl
 
 stops-same : (x r : Range) (rs : List Range) → ((s : Range) → touches x s ≡ touches r s) → Stops r rs → Stops x rs
 stops-same x r [] same h = tt
 stops-same x r (s ∷ ss) same h = same s ∙ h
 
-behind-held : (m b low : ℕ) (r x : Range) (rs : List Range) → m ≡ b * pages_of x.order → x.pages ≡ m → (0 < m → IsRange x) → (0 < m → Stops x rs) → low ≤ range_key x → range_key x + m ≡ end_key r → IsHeld (end_key r) rs
-    → IsHeld low (behind_on m x rs)
-behind-held zero b low r x rs h p is stops le ends rest = lower low (end_key r) rs (omega arith) rest
-behind-held (suc m) b low r x rs h p is stops le ends rest =
+following-held : (m b low : ℕ) (r x : Range) (rs : List Range) → m ≡ b * pages_of x.order → x.pages ≡ m → (0 < m → IsRange x) → (0 < m → Stops x rs) → low ≤ range_key x → range_key x + m ≡ end_key r → IsHeld (end_key r) rs
+    → IsHeld low (following_on m x rs)
+following-held zero b low r x rs h p is stops le ends rest = lower low (end_key r) rs (omega arith) rest
+following-held (suc m) b low r x rs h p is stops le ends rest =
     let e : end_key r ≡ end_key x = omega arith in
     let P : ℕ → Type 0 = λ k. IsHeld k rs in
     (le, is (omega arith), stops (omega arith), subst P e rest)
@@ -37,16 +37,16 @@ before-held (suc n) (suc a) low top r ys h is le above less held =
     } in
     (above, range, stops-far top y ys (omega arith) held, lower (end_key y) top ys (omega arith) held)
 
-behind-range : (space first : ℕ) (o : Order) (r : Range) (i : IsLeafIn space first o r) → IsRange r → 0 < pages_behind first o r → IsRange (part_behind first o r)
-behind-range space first o r i is some = by-count i.behind s.behind_is
+following-range : (space first : ℕ) (o : Order) (r : Range) (i : IsLeafIn space first o r) → IsRange r → 0 < pages_following first o r → IsRange (part_following first o r)
+following-range space first o r i is some = by-count i.following s.following_is
   where
-    s : Sizes first o r i.before i.behind
+    s : Sizes first o r i.before i.following
     s = sizes space first o r i
 
-    by-count : (b : ℕ) → pages_behind first o r ≡ b * pages_of o → IsRange (part_behind first o r)
+    by-count : (b : ℕ) → pages_following first o r ≡ b * pages_of o → IsRange (part_following first o r)
     by-count zero e = absurd (omega arith)
     by-count (suc b) e =
-        let P : Order → Type 0 = λ q. pages_behind first o r ≡ suc b * pages_of q in
+        let P : Order → Type 0 = λ q. pages_following first o r ≡ suc b * pages_of q in
         let Q : Order → Type 0 = λ q. (e : ℕ) × (first + pages_of o ≡ e * pages_of q) in
         let R : Order → Type 0 = λ q. r.start ≡ is.aligned.0 * pages_of q in
         let start : r.start ≡ is.aligned.0 * pages_of o = subst R i.order_same is.aligned.1 in
@@ -64,18 +64,18 @@ behind-range space first o r i is some = by-count i.behind s.behind_is
         mult e a p start first h k = omega arith
 
 pub head-held : (space first : ℕ) (o : Order) (low : ℕ) (r : Range) (rs : List Range) (i : IsLeafIn space first o r) → low ≤ range_key r → IsRange r → Stops r rs → IsHeld (end_key r) rs
-    → IsHeld low (before_on (pages_before first r) r (behind_on (pages_behind first o r) (part_behind first o r) rs))
+    → IsHeld low (before_on (pages_before first r) r (following_on (pages_following first o r) (part_following first o r) rs))
 head-held space first o low r rs i above is stops rest =
-    let s : Sizes first o r i.before i.behind = sizes space first o r i in
+    let s : Sizes first o r i.before i.following = sizes space first o r i in
     let from = s.from in
     let to = s.to in
     let some = s.some in
-    let x : Range = part_behind first o r in
+    let x : Range = part_following first o r in
     let P : Order → Type 0 = λ q. pages_before first r ≡ i.before * pages_of q in
-    let Q : Order → Type 0 = λ q. pages_behind first o r ≡ i.behind * pages_of q in
+    let Q : Order → Type 0 = λ q. pages_following first o r ≡ i.following * pages_of q in
     let ends : x.start + x.pages ≡ r.start + r.pages = omega arith in
     let frames : x.frame + x.pages ≡ r.frame + r.pages = omega arith in
-    let behind : IsHeld (range_key x) (behind_on (pages_behind first o r) x rs) =
-    behind-held (pages_behind first o r) i.behind (range_key x) r x rs (subst Q (sym i.order_same) s.behind_is) refl (behind-range space first o r i is)
-    (λ m. stops-same x r rs (λ z. behind-touches r x z 0 0 refl refl refl ends frames) stops) (omega arith) (omega arith) rest in
-    before-held (pages_before first r) i.before low (range_key x) r (behind_on (pages_behind first o r) x rs) (subst P (sym i.order_same) s.before_is) is (omega arith) above (omega arith) behind
+    let following : IsHeld (range_key x) (following_on (pages_following first o r) x rs) =
+    following-held (pages_following first o r) i.following (range_key x) r x rs (subst Q (sym i.order_same) s.following_is) refl (following-range space first o r i is)
+    (λ m. stops-same x r rs (λ z. following-touches r x z 0 0 refl refl refl ends frames) stops) (omega arith) (omega arith) rest in
+    before-held (pages_before first r) i.before low (range_key x) r (following_on (pages_following first o r) x rs) (subst P (sym i.order_same) s.before_is) is (omega arith) above (omega arith) following

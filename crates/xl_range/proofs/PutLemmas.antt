@@ -2,7 +2,7 @@
 use Rattle.xl_range.proofs.Common.{◌+◌, ◌<◌, ◌==◌, ◌∙◌, ◌∷◌, ◌≡◌, ◌≤◌, [], ap, arith, Bool, cond, end_key, false, first_from, glue, grown, inl, inr, IsApart, IsClear, IsHeld, IsRange, IsThere, join, kept_put, kept_taken, last_below, last_or, length, List, nat_le, nat_lt, nat_tests, next_of, next_where, None, of_space, one_if, Option, prev_of, prev_where, put_by, Range, range_key, range_taken, refl, resized, resized-length, Some, subst, suc, sym, touches, true, with-length, with_range, without_range, ℕ}
 use Rattle.xl_range.proofs.CutLemmas.{own-key}
 use Rattle.xl_range.proofs.HoldLemmas.{apart-held, length-without, with-front}
-use Rattle.xl_range.proofs.JoinLemmas.{held-behind, held-join}
+use Rattle.xl_range.proofs.JoinLemmas.{held-following, held-join}
 use Rattle.xl_range.proofs.NeighbourLemmas.{by-option, can-put, CanPut, first-next, IsNext, IsPrev, last-prev, next-space, next-there, prev-space}
 use Rattle.xl_range.proofs.TouchLemmas.{grown-touches, not-touching, some-pages, Touch, touch, touch-key}
 
@@ -97,7 +97,7 @@ put-join low x (r ∷ rs) (above, also, stops, rest) is (apart, clear) =
             | true ↦ λ u.
                 let h : Touch r x = touch r x u in
                 let f : end_key r ≡ k = touch-key r x h in
-                put-touch x r rs h r_some some (held-behind (end_key r) x rs rest clear (omega arith))
+                put-touch x r rs h r_some some (held-following (end_key r) x rs rest clear (omega arith))
             | false ↦ λ u. ap (λ (o : Option Range). put_by next o x (r ∷ rs)) (sym no_prev) ∙ cons
           ] refl in
           subst H (sym (prev-space x r)) body

@@ -1,5 +1,5 @@
 -- For the table of ranges: maximal ranges are the ranges of their leaves.
-use Rattle.xl_range.proofs.Common.{◌*◌, ◌+◌, ◌/◌, ◌∙◌, ◌∷◌, ◌≡◌, [], ap, arith, begins, end_key, false, first_leaf, goes_into, IsHeld, IsRange, joined, Leaf, leaves_in, List, nat_tests, next_leaf, Order, order-same, pages_of, perm-same, Range, range_from, range_of_leaf, ranges_of, refl, run_on, same_order, same_perm, spread, Stops, subst, suc, sym, true, zero, ℕ}
+use Rattle.xl_range.proofs.Common.{◌*◌, ◌+◌, ◌/◌, ◌∙◌, ◌∷◌, ◌≡◌, [], ap, arith, begins, end_key, false, first_leaf, goes_into, IsHeld, IsRange, joined, Leaf, range_leaves, List, nat_tests, next_leaf, Order, order-same, pages_of, perm-same, Range, range_from, range_of_leaf, ranges_of, refl, run_on, same_order, same_perm, spread, Stops, subst, suc, sym, true, zero, ℕ}
 use Rattle.xl_model.specs.declared.address.Order.TheVariants as order
 
 -- a leaf goes into a range of its kind that begins after it
@@ -46,7 +46,7 @@ count-is order.K4 n pages h = omega arith
 count-is order.M2 n pages h = omega arith
 count-is order.G1 n pages h = omega arith
 
-pub leaves-is : (r : Range) (h : IsRange r) → leaves_in r ≡ suc h.leaves.0
+pub leaves-is : (r : Range) (h : IsRange r) → range_leaves r ≡ suc h.leaves.0
 leaves-is r h = count-is r.order (suc h.leaves.0) r.pages h.leaves.1
 
 pub range-is : (r : Range) (n : ℕ) → r.pages ≡ n * pages_of r.order → range_from n (first_leaf r) ≡ r

@@ -1,20 +1,20 @@
 -- The leaves of held ranges: where they are, that they are sorted, and that they lie apart from
 -- what is clear of the ranges.
-use Rattle.xl_range.proofs.Common.{◌*◌, ◌+◌, ◌<◌, ◌∷◌, ◌≡◌, ◌≤◌, ◌⊎◌, [], AllAbove, arith, covers, end_key, false, first_leaf, In, inl, inr, IsClear, IsHeld, IsSorted, Leaf, leaf_key, leaves_in, List, nat_tests, next_leaf, pages-some, pages_of, Range, range_key, range_of_leaf, refl, run_on, spread, subst, suc, sym, true, zero, ℕ}
+use Rattle.xl_range.proofs.Common.{◌*◌, ◌+◌, ◌<◌, ◌∷◌, ◌≡◌, ◌≤◌, ◌⊎◌, [], AllAbove, arith, covers, end_key, false, first_leaf, In, inl, inr, IsClear, IsHeld, IsSorted, Leaf, leaf_key, range_leaves, List, nat_tests, next_leaf, pages-some, pages_of, Range, range_key, range_of_leaf, refl, run_on, spread, subst, suc, sym, true, zero, ℕ}
 use Rattle.xl_range.proofs.JoinLemmas.{In-key}
 use Rattle.xl_range.proofs.RunLemmas.{leaves-is}
 
 -- A leaf is within these keys, in this space.
-pub record StandsIn (space low high : ℕ) (z : Leaf) : Type 0 where
+pub record IsPlacedIn (space low high : ℕ) (z : Leaf) : Type 0 where
   pub space_same : z.space ≡ space
   pub from : low ≤ leaf_key z
   pub to : leaf_key z + pages_of z.order ≤ high
 
-run-In : (n : ℕ) (l z : Leaf) (rest : List Leaf) → In z (run_on n l rest) → StandsIn l.space (leaf_key l) (leaf_key l + n * pages_of l.order) z ⊎ In z rest
+run-In : (n : ℕ) (l z : Leaf) (rest : List Leaf) → In z (run_on n l rest) → IsPlacedIn l.space (leaf_key l) (leaf_key l + n * pages_of l.order) z ⊎ In z rest
 run-In zero l z rest i = inr i
 run-In (suc n) l z rest (inl e) =
     let p : ℕ = pages_of l.order in
-    let P : Leaf → Type 0 = λ y. StandsIn l.space (leaf_key l) (leaf_key l + suc n * p) y in
+    let P : Leaf → Type 0 = λ y. IsPlacedIn l.space (leaf_key l) (leaf_key l + suc n * p) y in
     inl (subst P (sym e) (record { space_same = refl; from = omega arith; to = omega arith }))
 run-In (suc n) l z rest (inr i) =
     let p : ℕ = pages_of l.order in
@@ -30,30 +30,30 @@ run-In (suc n) l z rest (inr i) =
 pub record OfRange (rs : List Range) (z : Leaf) : Type 0 where
   pub range : Range
   pub member : In range rs
-  pub stands : StandsIn range.space (range_key range) (end_key range) z
+  pub placed : IsPlacedIn range.space (range_key range) (end_key range) z
 
 pub spread-In : (low : ℕ) (rs : List Range) (z : Leaf) → IsHeld low rs → In z (spread rs) → OfRange rs z
 unfolding spread
 spread-In low [] z h i = absurd i
 spread-In low (r ∷ rs) z (above, is, stops, rest) i =
     let p : ℕ = pages_of r.order in
-    let count : leaves_in r ≡ suc is.leaves.0 = leaves-is r is in
+    let count : range_leaves r ≡ suc is.leaves.0 = leaves-is r is in
     let pages : r.pages ≡ suc is.leaves.0 * p = is.leaves.1 in
     let F : ℕ → Type 0 = λ n. In z (run_on n (first_leaf r) (spread rs)) in
     elim (run-In (suc is.leaves.0) (first_leaf r) z (spread rs) (subst F count i)) [
       | inl s ↦
           let from = s.from in
           let to = s.to in
-          record { range = r; member = inl refl; stands = record { space_same = s.space_same; from = omega arith; to = omega arith } }
+          record { range = r; member = inl refl; placed = record { space_same = s.space_same; from = omega arith; to = omega arith } }
       | inr j ↦
           let o : OfRange rs z = spread-In (end_key r) rs z rest j in
-          record { range = o.range; member = inr o.member; stands = o.stands }
+          record { range = o.range; member = inr o.member; placed = o.placed }
     ]
 
 spread-key : (low : ℕ) (rs : List Range) (z : Leaf) → IsHeld low rs → In z (spread rs) → low ≤ leaf_key z
 spread-key low rs z h i =
     let o : OfRange rs z = spread-In low rs z h i in
-    let a = o.stands.from in
+    let a = o.placed.from in
     let b = In-key low o.range rs h o.member in
     omega arith
 
@@ -90,22 +90,22 @@ clear-In x r (y ∷ rs) (apart, clear) (inr i) = clear-In x r rs clear i
 pub clear-key : (l z : Leaf) (rs : List Range) → IsHeld 0 rs → IsClear (range_of_leaf l) rs → In z (spread rs) → leaf_key z ≡ leaf_key l → ⊥
 clear-key l z rs h clear i e =
     let o : OfRange rs z = spread-In 0 rs z h i in
-    let a = o.stands.from in
-    let b = o.stands.to in
+    let a = o.placed.from in
+    let b = o.placed.to in
     let p : 0 < pages_of z.order = pages-some z.order in
     let q : 0 < pages_of l.order = pages-some l.order in
-    elim (clear-In (range_of_leaf l) o.range rs clear o.member) [ inl before ↦ absurd (omega arith) | inr behind ↦ absurd (omega arith) ]
+    elim (clear-In (range_of_leaf l) o.range rs clear o.member) [ inl before ↦ absurd (omega arith) | inr following ↦ absurd (omega arith) ]
 
 -- It covers no page that a leaf of the ranges covers.
 pub clear-covers : (space page : ℕ) (l z : Leaf) (rs : List Range) → IsHeld 0 rs → IsClear (range_of_leaf l) rs → In z (spread rs) → covers space page z ≡ true → covers space page l ≡ false
 clear-covers space page l z rs h clear i t =
     let o : OfRange rs z = spread-In 0 rs z h i in
-    let a = o.stands.from in
-    let b = o.stands.to in
+    let a = o.placed.from in
+    let b = o.placed.to in
     let zs : z.space ≡ space = grind (arith, nat_tests) in
     let zl : z.first ≤ page = grind (arith, nat_tests) in
     let zh : page < z.first + pages_of z.order = grind (arith, nat_tests) in
     elim (clear-In (range_of_leaf l) o.range rs clear o.member) [
       | inl before ↦ grind (arith, nat_tests)
-      | inr behind ↦ grind (arith, nat_tests)
+      | inr following ↦ grind (arith, nat_tests)
     ]

@@ -1,6 +1,6 @@
 -- For the table of ranges: the leaves of maximal ranges with a range of one leaf more are their leaves with that leaf.
-use Rattle.xl_range.proofs.Common.{◌*◌, ◌+◌, ◌<◌, ◌==◌, ◌∙◌, ◌∷◌, ◌≡◌, ◌≤◌, [], ap, arith, cond, end_key, false, first_leaf, glue, grown, IsClear, IsHeld, IsRange, join, Leaf, leaf_key, leaves_in, List, nat_lt, nat_tests, next_leaf, pages-some, pages_of, Range, range_key, range_of_leaf, refl, run_on, spread, suc, sym, touches, true, with_leaf, zero, ℕ}
-use Rattle.xl_range.proofs.JoinLemmas.{clear-ends, held-behind}
+use Rattle.xl_range.proofs.Common.{◌*◌, ◌+◌, ◌<◌, ◌==◌, ◌∙◌, ◌∷◌, ◌≡◌, ◌≤◌, [], ap, arith, cond, end_key, false, first_leaf, glue, grown, IsClear, IsHeld, IsRange, join, Leaf, leaf_key, range_leaves, List, nat_lt, nat_tests, next_leaf, pages-some, pages_of, Range, range_key, range_of_leaf, refl, run_on, spread, suc, sym, touches, true, with_leaf, zero, ℕ}
+use Rattle.xl_range.proofs.JoinLemmas.{clear-ends, held-following}
 use Rattle.xl_range.proofs.RunLemmas.{count-is, leaves-is}
 use Rattle.xl_range.proofs.TouchLemmas.{grown-range, run-grown, some-pages, Touch, touch, touch-key}
 
@@ -23,16 +23,16 @@ with-first low l (r ∷ rs) (above, is, stops, rest) less =
     let below : nat_lt (leaf_key l) (range_key r) ≡ true = grind (arith, nat_tests) in
     rw (leaves-is r is, other, below) refl
 
-pub spread-glue : (low : ℕ) (x : Range) (rs : List Range) → IsRange x → IsHeld low rs → spread (glue x rs) ≡ run_on (leaves_in x) (first_leaf x) (spread rs)
+pub spread-glue : (low : ℕ) (x : Range) (rs : List Range) → IsRange x → IsHeld low rs → spread (glue x rs) ≡ run_on (range_leaves x) (first_leaf x) (spread rs)
 unfolding spread
 spread-glue low x [] is h = refl
 spread-glue low x (q ∷ qs) is (above, also, stops, rest) =
-    elim (touches x q) as (λ b. touches x q ≡ b → spread (cond b (grown x q ∷ qs) (x ∷ q ∷ qs)) ≡ run_on (leaves_in x) (first_leaf x) (spread (q ∷ qs))) [
+    elim (touches x q) as (λ b. touches x q ≡ b → spread (cond b (grown x q ∷ qs) (x ∷ q ∷ qs)) ≡ run_on (range_leaves x) (first_leaf x) (spread (q ∷ qs))) [
       | true ↦ λ t. run-grown x q (spread qs) (touch x q t) is also
       | false ↦ λ t. refl
     ] refl
 
-one-leaf : (l : Leaf) (rest : List Leaf) → run_on (leaves_in (range_of_leaf l)) (first_leaf (range_of_leaf l)) rest ≡ l ∷ rest
+one-leaf : (l : Leaf) (rest : List Leaf) → run_on (range_leaves (range_of_leaf l)) (first_leaf (range_of_leaf l)) rest ≡ l ∷ rest
 one-leaf l rest = rw (count-is l.order 1 (pages_of l.order) (omega arith)) refl
 
 -- the leaves of maximal ranges with one leaf more
@@ -50,23 +50,23 @@ spread-join low l (r ∷ rs) (above, also, stops, rest) is (apart, clear) =
           let n : ℕ = suc also.leaves.0 in
           let pages : r.pages ≡ n * pages_of r.order = also.leaves.1 in
           let past : with_leaf l (run_on n (first_leaf r) (spread rs)) ≡ run_on n (first_leaf r) (with_leaf l (spread rs)) = with-run n l (first_leaf r) (spread rs) (omega arith) in
-          let count : leaves_in r ≡ n = leaves-is r also in
-          let goal : run_on (leaves_in r) (first_leaf r) (with_leaf l (spread rs)) ≡ with_leaf l (run_on (leaves_in r) (first_leaf r) (spread rs)) = rw count (sym past) in
+          let count : range_leaves r ≡ n = leaves-is r also in
+          let goal : run_on (range_leaves r) (first_leaf r) (with_leaf l (spread rs)) ≡ with_leaf l (run_on (range_leaves r) (first_leaf r) (spread rs)) = rw count (sym past) in
           elim (touches r x) as (λ b. touches r x ≡ b → spread (cond b (glue (grown r x) rs) (r ∷ join x rs)) ≡ with_leaf l (spread (r ∷ rs))) [
             | true ↦ λ t.
                 let k : Touch r x = touch r x t in
                 let f : end_key r ≡ range_key x = touch-key r x k in
                 let some : 0 < x.pages = some-pages x is in
-                let behind : IsHeld (end_key x) rs = held-behind (end_key r) x rs rest clear (omega arith) in
+                let following : IsHeld (end_key x) rs = held-following (end_key r) x rs rest clear (omega arith) in
                 spread-glue (end_key r) (grown r x) rs (grown-range r x k also is) rest
                 ∙ run-grown r x (spread rs) k also is
-                ∙ ap (λ (xs : List Leaf). run_on (leaves_in r) (first_leaf r) xs) (one-leaf l (spread rs) ∙ sym (with-first (end_key x) l rs behind (omega arith)))
+                ∙ ap (λ (xs : List Leaf). run_on (range_leaves r) (first_leaf r) xs) (one-leaf l (spread rs) ∙ sym (with-first (end_key x) l rs following (omega arith)))
                 ∙ goal
-            | false ↦ λ t. ap (λ (xs : List Leaf). run_on (leaves_in r) (first_leaf r) xs) (spread-join (end_key r) l rs rest is clear) ∙ goal
+            | false ↦ λ t. ap (λ (xs : List Leaf). run_on (range_leaves r) (first_leaf r) xs) (spread-join (end_key r) l rs rest is clear) ∙ goal
           ] refl
       | false ↦ λ lt.
           let le_r : range_key x ≤ range_key r = grind (arith, nat_tests) in
           let some : 0 < x.pages = some-pages x is in
-          let behind : IsHeld (end_key x) (r ∷ rs) = held-behind (range_key r) x (r ∷ rs) (omega arith, also, stops, rest) (apart, clear) le_r in
-          spread-glue low x (r ∷ rs) is (above, also, stops, rest) ∙ one-leaf l (spread (r ∷ rs)) ∙ sym (with-first (end_key x) l (r ∷ rs) behind (omega arith))
+          let following : IsHeld (end_key x) (r ∷ rs) = held-following (range_key r) x (r ∷ rs) (omega arith, also, stops, rest) (apart, clear) le_r in
+          spread-glue low x (r ∷ rs) is (above, also, stops, rest) ∙ one-leaf l (spread (r ∷ rs)) ∙ sym (with-first (end_key x) l (r ∷ rs) following (omega arith))
     ] refl

@@ -1,6 +1,6 @@
 -- What the calls of a change require, and their results: the leaves of the ranges that are held
 -- then.
-use Rattle.xl_range.proofs.Common.{◌*◌, ◌+◌, ◌<◌, ◌^◌, ◌∙◌, ◌∷◌, ◌≡◌, ◌≤◌, [], ap, arith, before_on, behind_on, Bool, changed, cut, end_key, false, first_leaf, HasLeaf, HasRanges, In, inl, inr, Insert, IsAt, IsClear, IsDone, IsHeld, IsLeafFor, IsLeafIn, IsRange, IsTable, join, keeping, Leaf, leaf_in, length, List, meets_any, nat_le, Order, pages_before, pages_behind, pages_of, part_behind, Perm, Range, range_key, range_of_leaf, ranges_of, Remove, Runs, some_if, spread, subst, suc, sym, TreapView, true, with_leaf, without_leaf, zero, ℕ}
+use Rattle.xl_range.proofs.Common.{◌*◌, ◌+◌, ◌<◌, ◌^◌, ◌∙◌, ◌∷◌, ◌≡◌, ◌≤◌, [], ap, arith, before_on, following_on, Bool, changed, cut, end_key, false, first_leaf, HasLeaf, HasRanges, In, inl, inr, Insert, IsAt, IsClear, IsDone, IsHeld, IsLeafFor, IsLeafIn, IsRange, IsTable, join, keeping, Leaf, leaf_in, length, List, meets_any, nat_le, Order, pages_before, pages_following, pages_of, part_following, Perm, Range, range_key, range_of_leaf, ranges_of, Remove, Runs, some_if, spread, subst, suc, sym, TreapView, true, with_leaf, without_leaf, zero, ℕ}
 use Rattle.xl_range.proofs.CutCountLemmas.{cut-count}
 use Rattle.xl_range.proofs.CutLemmas.{AtHead, cut-spread, head-cut, held-cut, next-cut}
 use Rattle.xl_range.proofs.FindLemmas.{leaf-in-is}
@@ -18,9 +18,9 @@ clear-high : (low : ℕ) (x : Range) (rs : List Range) → end_key x ≤ low →
 clear-high low x [] le h = tt
 clear-high low x (r ∷ rs) le (above, is, stops, rest) = (inr (omega arith), clear-high (end_key r) x rs (omega arith) rest)
 
-clear-behind : (m : ℕ) (x y : Range) (rs : List Range) → end_key x ≤ range_key y → IsClear x rs → IsClear x (behind_on m y rs)
-clear-behind zero x y rs le clear = clear
-clear-behind (suc m) x y rs le clear = (inr le, clear)
+clear-following : (m : ℕ) (x y : Range) (rs : List Range) → end_key x ≤ range_key y → IsClear x rs → IsClear x (following_on m y rs)
+clear-following zero x y rs le clear = clear
+clear-following (suc m) x y rs le clear = (inr le, clear)
 
 clear-before : (n : ℕ) (x r : Range) (rs : List Range) → range_key r + n ≤ range_key x → IsClear x rs → IsClear x (before_on n r rs)
 clear-before zero x r rs le clear = clear
@@ -34,17 +34,17 @@ clear-cut space first o low x r (y ∷ rs) i (above, is, stops, rest) (inl e) ke
     let at : AtHead low r rs = subst A (sym e) (record { above = above; is = is; stops = stops; rest = rest }) in
     let F : Range → Type 0 = λ z. IsClear x (cut first o r (z ∷ rs)) in
     let S : List Range → Type 0 = λ ys. IsClear x ys in
-    let s : Sizes first o r i.before i.behind = sizes space first o r i in
+    let s : Sizes first o r i.before i.following = sizes space first o r i in
     let from = s.from in
     let to = s.to in
     let same : r.space ≡ space = i.space_same in
     subst F e (subst S (sym (head-cut first o r rs))
-    (clear-before (pages_before first r) x r (behind_on (pages_behind first o r) (part_behind first o r) rs) (omega arith)
-    (clear-behind (pages_behind first o r) x (part_behind first o r) rs (omega arith) (clear-high (end_key r) x rs (omega arith) at.rest))))
+    (clear-before (pages_before first r) x r (following_on (pages_following first o r) (part_following first o r) rs) (omega arith)
+    (clear-following (pages_following first o r) x (part_following first o r) rs (omega arith) (clear-high (end_key r) x rs (omega arith) at.rest))))
 clear-cut space first o low x r (y ∷ rs) i (above, is, stops, rest) (inr m) key pages =
     let some : 0 < y.pages = some-pages y is in
     let at : end_key y ≤ range_key r = In-key (end_key y) r rs rest m in
-    let s : Sizes first o r i.before i.behind = sizes space first o r i in
+    let s : Sizes first o r i.before i.following = sizes space first o r i in
     let from = s.from in
     let same : r.space ≡ space = i.space_same in
     let S : List Range → Type 0 = λ ys. IsClear x ys in
@@ -79,7 +79,7 @@ same-ranges rs ys leaves a h e = sym a.ranges ∙ ap ranges_of (sym e) ∙ range
 -- The first page of a leaf is one of its range.
 pub leaf-at : (space first : ℕ) (o : Order) (r : Range) (rs : List Range) → IsHeld 0 rs → HasLeaf space first o rs r → IsAt first r
 leaf-at space first o r rs h k =
-    let s : Sizes first o r k.place.before k.place.behind = sizes space first o r k.place in
+    let s : Sizes first o r k.place.before k.place.following = sizes space first o r k.place in
     let to = s.to in
     let some = s.some in
     record { fit = fit-range r (In-range 0 r rs h k.member); from = s.from; below = omega arith }
@@ -88,10 +88,10 @@ leaf-at space first o r rs h k =
 part-range : (space first : ℕ) (o : Order) (r : Range) (perm : Perm) (i : IsLeafIn space first o r) → IsRange r → IsRange (range_of_leaf (record (leap i.before (first_leaf r)) { perm = perm }))
 unfolding leap
 part-range space first o r perm i is =
-    let C : Order → Type 0 = λ q. r.pages ≡ (i.before + suc i.behind) * pages_of q in
-    let count : r.pages ≡ (i.before + suc i.behind) * pages_of r.order = subst C (sym i.order_same) i.count in
+    let C : Order → Type 0 = λ q. r.pages ≡ (i.before + suc i.following) * pages_of q in
+    let count : r.pages ≡ (i.before + suc i.following) * pages_of r.order = subst C (sym i.order_same) i.count in
     let a : ℕ = i.before in
-    let b : ℕ = i.behind in
+    let b : ℕ = i.following in
     let p : ℕ = pages_of r.order in
     let all : r.pages ≡ a * p + (p + b * p) = count ∙ (omega arith) in
     let limit = is.pages_in in
@@ -143,7 +143,7 @@ cut-can space first o n t cutt r perm l whole k e is =
 pub cut-room : (space first : ℕ) (o : Order) (n : ℕ) (t : TreapView) (r : Range) → IsTable n t → HasLeaf space first o t.kept r → length (cut first o r t.kept) ≤ t.nodes
 cut-room space first o n t r whole k =
     let a = cut-count first o r t.kept k.member in
-    let b = most-if (pages_before first r) (pages_behind first o r) in
+    let b = most-if (pages_before first r) (pages_following first o r) in
     let d = whole.few in
     let e = whole.nodes in
     omega arith

@@ -1,5 +1,5 @@
 -- For the table of ranges: what ranges that touch share, and the leaves of both.
-use Rattle.xl_range.proofs.Common.{◌*◌, ◌+◌, ◌<◌, ◌∙◌, ◌∷◌, ◌≡◌, [], ap, arith, begins, end_key, false, first_leaf, grown, IsRange, Leaf, leaves_in, List, nat_tests, next_leaf, Order, orders-same, pages-some, pages_of, Range, range_key, refl, run_on, Stops, subst, suc, sym, touches, true, zero, ℕ}
+use Rattle.xl_range.proofs.Common.{◌*◌, ◌+◌, ◌<◌, ◌∙◌, ◌∷◌, ◌≡◌, [], ap, arith, begins, end_key, false, first_leaf, grown, IsRange, Leaf, range_leaves, List, nat_tests, next_leaf, Order, orders-same, pages-some, pages_of, Range, range_key, refl, run_on, Stops, subst, suc, sym, touches, true, zero, ℕ}
 use Rattle.xl_model.proofs.PermLemmas.{perms-same}
 use Rattle.xl_range.proofs.RunLemmas.{count-is, leaves-is}
 
@@ -93,11 +93,11 @@ grown-range x q t is also = record {
 
 -- the leaves of both
 pub run-grown : (x q : Range) (rest : List Leaf) → Touch x q → IsRange x → IsRange q
-    → run_on (leaves_in (grown x q)) (first_leaf x) rest ≡ run_on (leaves_in x) (first_leaf x) (run_on (leaves_in q) (first_leaf q) rest)
+    → run_on (range_leaves (grown x q)) (first_leaf x) rest ≡ run_on (range_leaves x) (first_leaf x) (run_on (range_leaves q) (first_leaf q) rest)
 run-grown x q rest t is also =
     let a : ℕ = is.leaves.0 in
     let b : ℕ = also.leaves.0 in
-    let e : leaves_in (grown x q) ≡ suc a + suc b = count-is x.order (suc (suc a + b)) (x.pages + q.pages) (grown-pages x q a b t is.leaves.1 also.leaves.1) ∙ (omega arith) in
+    let e : range_leaves (grown x q) ≡ suc a + suc b = count-is x.order (suc (suc a + b)) (x.pages + q.pages) (grown-pages x q a b t is.leaves.1 also.leaves.1) ∙ (omega arith) in
     rw (e, leaves-is x is, leaves-is q also) (run-add (suc a) (suc b) (first_leaf x) rest
     ∙ ap (λ (k : Leaf). run_on (suc a) (first_leaf x) (run_on (suc b) k rest)) (next-first x q (suc a) t is.leaves.1))
 

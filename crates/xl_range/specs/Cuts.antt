@@ -11,9 +11,9 @@ kept_cut zero k held = without_range k held
 kept_cut (suc n) k held = resized k (suc n) held
 
 -- The held ranges with what is left after a leaf, if that has pages.
-abbrev pub kept_behind : ℕ → Range → List Range → List Range
-kept_behind zero x held = held
-kept_behind (suc n) x held = with_range x held
+abbrev pub kept_following : ℕ → Range → List Range → List Range
+kept_following zero x held = held
+kept_following (suc n) x held = with_range x held
 
 -- A block of pages lies inside a range.
 pub record IsInside (first : ℕ) (o : Order) (r : Range) : Type 0 where

@@ -22,13 +22,13 @@ abbrev pub first_leaf : Range → Leaf
 first_leaf r = record { space = r.space; first = r.start; order = r.order; frame = r.frame; perm = r.perm }
 
 -- How many leaves a range has.
-abbrev pub leaves_in : Range → ℕ
-leaves_in r = r.pages / pages_of r.order
+abbrev pub range_leaves : Range → ℕ
+range_leaves r = r.pages / pages_of r.order
 
 -- The leaves of the held ranges.
 unfoldable pub spread : List Range → List Leaf
 spread [] = []
-spread (r ∷ rs) = run_on (leaves_in r) (first_leaf r) (spread rs)
+spread (r ∷ rs) = run_on (range_leaves r) (first_leaf r) (spread rs)
 
 -- A range of n leaves from this one on.
 abbrev pub range_from : ℕ → Leaf → Range
@@ -89,12 +89,12 @@ abbrev pub pages_before : ℕ → Range → ℕ
 pages_before first r = first - r.start
 
 -- How many pages of a range lie after a leaf of it.
-abbrev pub pages_behind : ℕ → Order → Range → ℕ
-pages_behind first o r = r.start + r.pages - (first + pages_of o)
+abbrev pub pages_following : ℕ → Order → Range → ℕ
+pages_following first o r = r.start + r.pages - (first + pages_of o)
 
 -- What is left of a range after a leaf of it.
-abbrev pub part_behind : ℕ → Order → Range → Range
-part_behind first o r = record r {
+abbrev pub part_following : ℕ → Order → Range → Range
+part_following first o r = record r {
   start = first + pages_of o;
   pages = r.start + r.pages - (first + pages_of o);
   frame = r.frame + (first + pages_of o - r.start);
@@ -106,24 +106,24 @@ before_on zero r rest = rest
 before_on (suc n) r rest = record r { pages = suc n } ∷ rest
 
 -- What is left of a range after a leaf, in front of others, where anything is left.
-abbrev pub behind_on : ℕ → Range → List Range → List Range
-behind_on zero x rest = rest
-behind_on (suc n) x rest = x ∷ rest
+abbrev pub following_on : ℕ → Range → List Range → List Range
+following_on zero x rest = rest
+following_on (suc n) x rest = x ∷ rest
 
 -- What is left of a range without a leaf of it, in front of others.
 abbrev pub pieces : ℕ → Order → Range → List Range → List Range
-pieces first o r rest = before_on (pages_before first r) r (behind_on (pages_behind first o r) (part_behind first o r) rest)
+pieces first o r rest = before_on (pages_before first r) r (following_on (pages_following first o r) (part_following first o r) rest)
 
 -- One range where it has pages, none where it has none.
 abbrev pub some_if : ℕ → ℕ
 some_if zero = 0
 some_if (suc n) = 1
 
--- A leaf is in a range, `before` leaves from its beginning and `behind` from its end.
+-- A leaf is in a range, `before` leaves from its beginning and `following` from its end.
 pub record IsLeafIn (space first : ℕ) (o : Order) (r : Range) : Type 0 where
   pub before : ℕ
-  pub behind : ℕ
-  pub count : r.pages ≡ (before + suc behind) * pages_of o
+  pub following : ℕ
+  pub count : r.pages ≡ (before + suc following) * pages_of o
   pub at : first ≡ r.start + before * pages_of o
   pub space_same : r.space ≡ space
   pub order_same : r.order ≡ o

@@ -100,7 +100,7 @@ fn take_next(treap: &mut Treap, range: Range, next: Option<Range>) -> Range
 }
 
 /// Adds the range's pages to the range before it, or puts the range in.
-fn put_behind(treap: &mut Treap, range: Range, prev: Option<Range>)
+fn put_following(treap: &mut Treap, range: Range, prev: Option<Range>)
     requires there { IsThere prev treap.old.seen.kept }
     requires small { pages_with prev range < 2 ^ 64 }
     requires apart { IsApart 0 (kept_put prev range treap.old.seen.kept) }
@@ -130,7 +130,7 @@ fn put(treap: &mut Treap, range: Range, next: Option<Range>, prev: Option<Range>
         keeping treap.old.seen (put_by next prev range treap.old.seen.kept) }
 {
     let range = take_next(treap, range, next);
-    put_behind(treap, range, prev);
+    put_following(treap, range, prev);
 }
 
 /// Whether adding and merging stays within `ranges`.

@@ -6,7 +6,7 @@ ghost use Rattle.xl_model.specs.Ranges.{range_key};
 ghost use Rattle.xl_model.specs.Changes.{IsNamed};
 ghost use Rattle.xl_model_lemmas.specs.Members.{In};
 ghost use Rattle.xl_range.specs.HeldRanges.{IsHeld, IsLeafIn, some_if, spread, leaf_in as leaf_of, cut as cut_from};
-ghost use Rattle.xl_range.specs.Cuts.{kept_cut, kept_behind};
+ghost use Rattle.xl_range.specs.Cuts.{kept_cut, kept_following};
 ghost use Rattle.xl_range.specs.Rows.{IsAt, HasLeaf};
 ghost use Rattle.xl_treap.specs.Treaps.{keeping, IsApart, has_key, resized};
 
@@ -59,11 +59,11 @@ fn cut_before(treap: &mut Treap, range: &Range, before: u64)
 
 /// Puts in what is left after a leaf, if that has pages.
 fn put_rest(treap: &mut Treap, rest: Range, pages: u64)
-    requires apart { IsApart 0 (kept_behind pages rest treap.old.seen.kept) }
-    requires room { length (kept_behind pages rest treap.old.seen.kept) ≤
+    requires apart { IsApart 0 (kept_following pages rest treap.old.seen.kept) }
+    requires room { length (kept_following pages rest treap.old.seen.kept) ≤
         treap.old.seen.nodes }
     ensures { treap.new.seen ≡
-        keeping treap.old.seen (kept_behind pages rest treap.old.seen.kept) }
+        keeping treap.old.seen (kept_following pages rest treap.old.seen.kept) }
 {
     if pages == 0 {
         return;
@@ -103,12 +103,12 @@ fn one_if(pages: u64) -> u64
     if pages == 0 { 0 } else { 1 }
 }
 
-/// Whether cutting a leaf out stays within `ranges`, where `before` and `behind` pages are left on
+/// Whether cutting a leaf out stays within `ranges`, where `before` and `following` pages are left on
 /// its sides.
-fn has_room_without(ranges: u32, held: u32, before: u64, behind: u64) -> bool
-    ensures { result ≡ nat_le (held + (some_if before + some_if behind)) (ranges + 1) }
+fn has_room_without(ranges: u32, held: u32, before: u64, following: u64) -> bool
+    ensures { result ≡ nat_le (held + (some_if before + some_if following)) (ranges + 1) }
 {
-    held as u64 + (one_if(before) + one_if(behind)) <= ranges as u64 + 1
+    held as u64 + (one_if(before) + one_if(following)) <= ranges as u64 + 1
 }
 
 /// Cuts a leaf out of the range that has it, if that stays within `ranges`. Returns whether it did.
@@ -130,8 +130,8 @@ pub(crate) fn cut_within(
     ensures same { result ≡ false → treap.new.seen ≡ treap.old.seen }
 {
     let before = first - range.start;
-    let behind = range.start + range.pages - (first + order.pages());
-    if !has_room_without(ranges, treap.len(), before, behind) {
+    let following = range.start + range.pages - (first + order.pages());
+    if !has_room_without(ranges, treap.len(), before, following) {
         return false;
     }
     cut(treap, range, first, order);

@@ -96,7 +96,7 @@ impl Ranges {
 
     /// A walk that looks through the whole range TLB, and then goes down the treap.
     #[inline(never)]
-    fn walk_behind(&mut self, space: u16, page: u64) -> Walk
+    fn walk_next(&mut self, space: u16, page: u64) -> Walk
         requires { IsPage (row_table self.old).shape space page }
         ensures { IsWalk space page (row_table self.old) result (row_table self.new) }
     {
@@ -180,7 +180,7 @@ impl Structure for Ranges {
                 cache_hits: 1,
             };
         }
-        let walk = self.walk_behind(space, page);
+        let walk = self.walk_next(space, page);
         let Some(leaf) = walk.leaf else {
             return walk;
         };

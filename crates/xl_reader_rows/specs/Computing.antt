@@ -1,7 +1,7 @@
 -- One word that opens every definition of the readers, for proofs that compute with them all.
 use Rattle.std.specs.Prelude.{⊤}
 use Rattle.xl_lackey.specs.Lines.{judge}
-use Rattle.xl_script.specs.Commands.{leaves_in, unmap_words, move_words, fence_by, demand_words, named, placed}
+use Rattle.xl_script.specs.Commands.{checked_leaves, unmap_words, move_words, fence_by, demand_words, named, placed}
 use Rattle.xl_script.specs.Numbers.{decimal_of, hexadecimal_of}
 use Rattle.xl_script.specs.Plain.{script_of}
 use Rattle.xl_script.specs.Scripts.{text_read}
@@ -13,5 +13,5 @@ use Rattle.xl_config.specs.Tables.{radix_in, hashed_in, clustered_in, cuckoo_in,
 
 -- Every definition is open.
 unfoldable pub reading : ⊤
-unfolding judge leaves_in unmap_words move_words fence_by demand_words named placed decimal_of hexadecimal_of script_of text_read script_lines words_of order_of array_in row_in elements_in rows_in radix_in hashed_in clustered_in cuckoo_in range_in
+unfolding judge checked_leaves unmap_words move_words fence_by demand_words named placed decimal_of hexadecimal_of script_of text_read script_lines words_of order_of array_in row_in elements_in rows_in radix_in hashed_in clustered_in cuckoo_in range_in
 reading = tt

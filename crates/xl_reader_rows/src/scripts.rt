@@ -71,7 +71,7 @@ pub fn areas()
 pub fn the_last_block()
     ensures last { Reads (codes "map 0 fffffffffffff000 4k r--u")
         (command.Map 0 18446744073709547520 order.K4 perm_r__u 1) }
-    ensures behind { Refuses (codes "map 0 fffffffffffff000 4k r--u 2") 6 }
+    ensures following { Refuses (codes "map 0 fffffffffffff000 4k r--u 2") 6 }
     ensures moved { Refuses (codes "move 0 0 fffffffffffff000 4k 2") 6 }
 {}
 
@@ -112,7 +112,7 @@ pub fn words()
 /// dropped.
 #[tactic(auto, unfolding(crate::specs::Computing::reading))]
 pub fn comments()
-    ensures behind { Reads (codes "space 1 # 2") (command.Space 1) }
+    ensures following { Reads (codes "space 1 # 2") (command.Space 1) }
     ensures within { Refuses (codes "space 1#") 3 }
     ensures blanks { Reads (codes " \t space\t1 ") (command.Space 1) }
     ensures carriage { Reads (codes "space 1\r\n") (command.Space 1) }

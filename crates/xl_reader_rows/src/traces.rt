@@ -51,7 +51,7 @@ pub fn sizes()
 pub fn the_last_byte()
     ensures last { Reads (codes " L ffffffffffffffff,1") letter.L 18446744073709551615 1 }
     ensures empty { Reads (codes " L ffffffffffffffff,0") letter.L 18446744073709551615 0 }
-    ensures behind { Refuses (codes " L ffffffffffffffff,2") 5 }
+    ensures following { Refuses (codes " L ffffffffffffffff,2") 5 }
     ensures first { Refuses (codes " L ffffffffffffffff,2 x") 4 }
 {}
 

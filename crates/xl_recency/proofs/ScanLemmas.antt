@@ -68,8 +68,8 @@ module _ {A : Type 0} (answers : A → Bool → Type 0) (xs : List A) (len end :
     before = λ k d b. subst (λ (x : A). answers x false) (same_item k d (omega arith)) (f.before k d b);
   }
 
-  pub first_behind : (at : ℕ) → len ≤ at → IsFirst answers (take end xs) at → AllFail answers (take len xs)
-  first_behind at l f = record {
+  pub first_following : (at : ℕ) → len ≤ at → IsFirst answers (take end xs) at → AllFail answers (take len xs)
+  first_following at l f = record {
     fails = λ k d b.
         let below : k < len = rw (length-take-le len xs fits) at b in
         subst (λ (x : A). answers x false) (same_item k d below) (f.before k d (omega arith));

@@ -51,8 +51,8 @@ abbrev pub one : List ℕ
 one = codes "1"
 
 -- SPACE ADDR ORDER PERM N, read from left to right.
-unfoldable pub leaves_in : List ℕ → List ℕ → List ℕ → List ℕ → List ℕ → Result Leaves Reason
-leaves_in space addr size perm n =
+unfoldable pub checked_leaves : List ℕ → List ℕ → List ℕ → List ℕ → List ℕ → Result Leaves Reason
+checked_leaves space addr size perm n =
     space_in space >>= (λ s.
     address_in addr >>= (λ va.
     order_in size >>= (λ o.
@@ -61,8 +61,8 @@ leaves_in space addr size perm n =
 
 -- SPACE ADDR ORDER PERM [N]
 abbrev pub leaves_of : List (List ℕ) → Result Leaves Reason
-leaves_of (space ∷ addr ∷ size ∷ perm ∷ []) = leaves_in space addr size perm one
-leaves_of (space ∷ addr ∷ size ∷ perm ∷ n ∷ []) = leaves_in space addr size perm n
+leaves_of (space ∷ addr ∷ size ∷ perm ∷ []) = checked_leaves space addr size perm one
+leaves_of (space ∷ addr ∷ size ∷ perm ∷ n ∷ []) = checked_leaves space addr size perm n
 leaves_of _ = Err reason.WordCount
 
 -- `map SPACE ADDR ORDER PERM [N]`

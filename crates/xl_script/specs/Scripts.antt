@@ -40,9 +40,9 @@ text_read said s text =
     if nat_lt 1048576 (length text) then Err fault.TooLong else lines_read said s 1 (script_lines text)
 
 -- What the reading of one line returns is what the line says.
-abbrev pub Hears : {S C : Type 0} → Result (Option C) ℕ → S → Said S C → Type 0
-Hears (Ok command) s said = said ≡ Ok (s, command)
-Hears (Err why) s said = said ≡ Err why
+abbrev pub Follows : {S C : Type 0} → Result (Option C) ℕ → S → Said S C → Type 0
+Follows (Ok command) s said = said ≡ Ok (s, command)
+Follows (Err why) s said = said ≡ Err why
 
 -- What a reading of a text returns is the text's result, but for want of memory; `view` gives its
 -- commands.

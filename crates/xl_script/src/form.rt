@@ -2,7 +2,7 @@
 
 ghost use Rattle.std.specs.Prelude.{◌≡◌, ◌<◌, ◌↔◌, ◌+◌, ◌==◌, count_by, ◌++◌, ◌∷◌, [], length, ℕ, List, OnOk, IfErr};
 ghost use Rattle.xl_script.specs.Texts.{words_of};
-ghost use Rattle.xl_script.specs.Scripts.{Said, Hears, Gives, Adds, text_read};
+ghost use Rattle.xl_script.specs.Scripts.{Said, Follows, Gives, Adds, text_read};
 
 use crate::fault::ScriptFault;
 use crate::text::line;
@@ -23,7 +23,7 @@ pub trait Form {
     /// The command of the next line; None where it has none. Else the number of the first reason
     /// for which it is bad.
     fn read_line(&mut self, line: &[u8]) -> Result<Option<Self::Command>, u8>
-        ensures { Hears result self.new (said self.old (words_of line.now)) };
+        ensures { Follows result self.new (said self.old (words_of line.now)) };
 }
 
 /// The number of lines of a text, at least, so that it has no more commands.

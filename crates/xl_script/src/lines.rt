@@ -3,7 +3,7 @@
 ghost use Rattle.std.specs.Prelude.{◌≡◌, ◌∷◌, [], ◌≤◌, ◌+◌, ◌*◌, ◌^◌, MatchResult, IfOk, nat_le};
 ghost use Rattle.xl_script.specs.Texts.{words_of};
 ghost use Rattle.xl_script.specs.Placing.{end_of, ends_of};
-ghost use Rattle.xl_script.specs.Commands.{number, space_in, address_in, order_in, perm_in, count_in, leaves_in, leaves_of, map_line, protect_line, unmap_words, unmap_line, move_words, move_line, space_line, fence_all, fence_space, fence_addr, fence_page, fence_by, fence_line, area_at, demand_words, demand_line, run_line, named, placed};
+ghost use Rattle.xl_script.specs.Commands.{number, space_in, address_in, order_in, perm_in, count_in, checked_leaves, leaves_of, map_line, protect_line, unmap_words, unmap_line, move_words, move_line, space_line, fence_all, fence_space, fence_addr, fence_page, fence_by, fence_line, area_at, demand_words, demand_line, run_line, named, placed};
 
 use crate::fault::Reason;
 use crate::number::{decimal, hexadecimal};
@@ -78,7 +78,7 @@ fn count(word: &[u8]) -> Result<u32, Reason>
 }
 
 /// Leaves, by their five words.
-#[tactic(auto, unfolding(crate::specs::Commands::leaves_in))]
+#[tactic(auto, unfolding(crate::specs::Commands::checked_leaves))]
 fn leaves_by(
     space_word: &[u8],
     addr: &[u8],
@@ -86,7 +86,7 @@ fn leaves_by(
     perm_word: &[u8],
     n: &[u8],
 ) -> Result<Leaves, Reason>
-    ensures { result ≡ leaves_in space_word.now addr.now size.now perm_word.now n.now }
+    ensures { result ≡ checked_leaves space_word.now addr.now size.now perm_word.now n.now }
 {
     Ok(Leaves {
         space: space(space_word)?,

@@ -3,7 +3,7 @@
 ghost use Rattle.std.specs.Prelude.{◌≡◌, ◌<◌, ◌≤◌, Result, Ok, Err};
 ghost use Rattle.xl_model.specs.declared.script.Command.{Command};
 ghost use Rattle.xl_script.specs.Texts.{words_of};
-ghost use Rattle.xl_script.specs.Scripts.{Hears};
+ghost use Rattle.xl_script.specs.Scripts.{Follows};
 ghost use Rattle.xl_script.specs.Plain.{plain_said, counted, counted_line, Counts};
 
 use crate::fault::Reason;
@@ -66,7 +66,7 @@ impl Form for Plain {
     ghost said = { plain_said };
 
     fn read_line(&mut self, line: &[u8]) -> Result<Option<Command>, u8>
-        ensures { Hears result self.new (plain_said self.old (words_of line.now)) }
+        ensures { Follows result self.new (plain_said self.old (words_of line.now)) }
     {
         let Some((first, rest)) = next_word(line) else {
             return Ok(None);

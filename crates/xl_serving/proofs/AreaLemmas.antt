@@ -1,5 +1,5 @@
 -- Areas that a script declares.
-use Rattle.xl_serving.proofs.Common.{◌++◌, ◌∷◌, ◌≡◌, [], ap, Area, Bool, Command, Declared, false, HasServed, is_area, item_lines, List, refl, rows_after, rows_lines, scene_after, scene_of, scenes_after, Served, sink_same, SinkAfter, SinkMeaning, state_after, subst, sym, scenes_told as told_by, true, ℕ}
+use Rattle.xl_serving.proofs.Common.{◌++◌, ◌∷◌, ◌≡◌, [], ap, Area, Bool, Command, Declared, false, HasServed, is_area, item_lines, List, refl, rows_after, rows_lines, scene_after, scene_of, scenes_after, Served, sink_same, SinkAfter, SinkMeaning, state_after, subst, sym, scenes_printed as printed_by, true, ℕ}
 use Rattle.xl_model.specs.declared.script.Command.TheVariants as command
 
 declared_rows : (area : Area) (areas : List Area) (rows : List Served) → rows_after (Declared area) areas rows ≡ rows
@@ -12,9 +12,9 @@ unfolding item_lines
 declared_lines area areas [] = refl
 declared_lines area areas (r ∷ rows) = declared_lines area areas rows
 
-declared_told : (answers : Bool) (area : Area) (areas : List Area) (rows : List Served) → told_by answers (Declared area ∷ []) (scene_of rows areas) ≡ []
-declared_told true area areas rows = declared_lines area areas rows
-declared_told false area areas rows = refl
+declared_printed : (answers : Bool) (area : Area) (areas : List Area) (rows : List Served) → printed_by answers (Declared area ∷ []) (scene_of rows areas) ≡ []
+declared_printed true area areas rows = declared_lines area areas rows
+declared_printed false area areas rows = refl
 
 declared_scene : (area : Area) (areas : List Area) (rows : List Served) → scene_of rows (areas ++ area ∷ []) ≡ scenes_after (Declared area ∷ []) (scene_of rows areas)
 unfolding scene_after
@@ -25,7 +25,7 @@ pub served_area : {K : Type 0} (sink : SinkMeaning K) (answers : Bool) (area : A
     → HasServed sink answers (Declared area ∷ []) (scene_of rows areas) (scene_of rows (areas ++ area ∷ [])) k k true
 served_area sink answers area areas rows k = record {
   scene_is = declared_scene area areas rows;
-  writes = subst (λ (text : List ℕ). SinkAfter sink text k k true) (sym (declared_told answers area areas rows)) (sink_same sink k);
+  writes = subst (λ (text : List ℕ). SinkAfter sink text k k true) (sym (declared_printed answers area areas rows)) (sink_same sink k);
 }
 
 -- a command that isn't a demand declares no area

@@ -39,7 +39,7 @@ stopped_as : {A B : Type 0} (view : A → B) (account : Result B InputFault → 
     → ((f : InputFault) → account (Err f) ≡ faulted f) → Finds view (Err stop) by → EndsAs (Err stop) (account by) out out
 stopped_as view account by (why.Input f) out faults h =
     subst (λ (a : Account). EndsAs (Err (why.Input f)) a out out) (sym (ap account h ∙ faults f)) (refl, with_none out)
-stopped_as view account by why.ReadFault out faults h = record { done = []; left = (account by).told; split = refl; wrote = with_none out }
+stopped_as view account by why.ReadFault out faults h = record { done = []; left = (account by).lines; split = refl; wrote = with_none out }
 stopped_as view account by why.WriteFault out faults h = absurd h
 stopped_as view account by why.NoMemory out faults h = inl refl
 

@@ -1,5 +1,5 @@
 -- What the reading of a file says of its text.
-use Rattle.xl_serving.proofs.Common.{if◌then◌else◌, ◌+◌, ◌<◌, ◌∙◌, ◌≡◌, [], ap, arith, Bool, cases_lt, Command, commands_said, config_fault, Err, Finds, inl, InputFault, inr, length, length-take, List, lt-ltb, nat_lt, None, Ok, Option, refl, Result, rows_said, said_by, said_in, script_fault, Some, Stop, subst, sym, take, take_all, TellsWhole, ℕ}
+use Rattle.xl_serving.proofs.Common.{if◌then◌else◌, ◌+◌, ◌<◌, ◌∙◌, ◌≡◌, [], ap, arith, Bool, cases_lt, Command, commands_said, config_fault, Err, Finds, inl, InputFault, inr, length, length-take, List, lt-ltb, nat_lt, None, Ok, Option, refl, Result, rows_said, said_by, said_in, script_fault, Some, Stop, subst, sym, take, take_all, ReadsWhole, ℕ}
 use Rattle.std.specs.declared.alloc.Global.{Global}
 use Rattle.std.specs.declared.vec.Vec.{Vec}
 use Rattle.xl_config.specs.Config.{config, config_by, document_of}
@@ -39,7 +39,7 @@ rows_cut text = ap (said_by config_fault) (config_cut text)
 -- the file was read, and its text
 pub finds_text : {A B : Type 0} (view : A → B) (says : List ℕ → Result B InputFault) (limit : ℕ) (file : Option (List ℕ)) (text : Vec ℕ Global) (bytes : List ℕ) (r : Result A Stop)
     → ((xs : List ℕ) → says (take (limit + 1) xs) ≡ says xs)
-    → TellsWhole file limit (Ok text) → bytes ≡ text.items → Finds view r (says bytes) → Finds view r (said_in says file)
+    → ReadsWhole file limit (Ok text) → bytes ≡ text.items → Finds view r (says bytes) → Finds view r (said_in says file)
 finds_text view says limit None text bytes r cut h b f = absurd h
 finds_text view says limit (Some file) text bytes r cut h b f =
     subst (Finds view r) (ap says (b ∙ h) ∙ cut file) f

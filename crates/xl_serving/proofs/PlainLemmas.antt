@@ -1,5 +1,5 @@
 -- The plain form: scenes and lines, as any form's.
-use Rattle.xl_serving.proofs.Common.{◌++◌, ◌+◌, ◌<◌, ◌∙◌, ◌∷◌, ◌≡◌, ◌≤◌, ◌⊎◌, [], Accesses, account, account_from, All, All-cons, All-head, All-nil, All-same, All-tail, ap, Area, arith, AskedPlain, Backlog, Bool, Command, commands_of, cond, count_by, count_of, course, end_text, Ends, event_at, events_from, false, HasServed, inl, inr, is_area, IsPlaced, Item, items_of, items_of_all, Kind, length, length-append, lines_where, List, Option, plain, record_items, refl, Result, Served as Row, rows_from, Scene, accesses_items as scene_accesses, scene_after, scene_items, scene_of, scenes_after, scenes_told, SinkAfter, SinkMeaning, slice_get, Some, start_of, states_after, step_of, steps_of, Stop, subst, suc, sum_by-cons, sym, told-append, told_by, Trail, true, waited, waits, WaitsMore, with_area, zero, ℕ}
+use Rattle.xl_serving.proofs.Common.{◌++◌, ◌+◌, ◌<◌, ◌∙◌, ◌∷◌, ◌≡◌, ◌≤◌, ◌⊎◌, [], Accesses, account, account_from, All, All-cons, All-head, All-nil, All-same, All-tail, ap, Area, arith, AskedPlain, Backlog, Bool, Command, commands_of, cond, count_by, count_of, course, end_text, Ends, event_at, events_from, false, HasServed, inl, inr, is_area, IsPlaced, Item, items_of, items_of_all, Kind, length, length-append, lines_where, List, Option, plain, record_items, refl, Result, Served as Row, rows_from, Scene, accesses_items as scene_accesses, scene_after, scene_items, scene_of, scenes_after, scenes_printed, SinkAfter, SinkMeaning, slice_get, Some, start_of, states_after, step_of, steps_of, Stop, subst, suc, sum_by-cons, sym, printed-append, printed_by, Trail, true, drained, deferred, BatchesMore, with_area, zero, ℕ}
 use Rattle.xl_course.specs.Serving.{HasServed as Served, Skimmed}
 use Rattle.xl_course.specs.declared.form.Step.{Step}
 use Rattle.xl_serving.proofs.AreaLemmas.{served_area}
@@ -11,27 +11,27 @@ pub scenes-states : (items : List Item) (s : Scene) → scenes_after items s ≡
 scenes-states [] s = refl
 scenes-states (i ∷ items) s = scenes-states items (scene_after i s)
 
-line-one : (answers : Bool) (i : Item) (s : Scene) → scenes_told answers (i ∷ []) s ≡ lines_where plain answers i s
+line-one : (answers : Bool) (i : Item) (s : Scene) → scenes_printed answers (i ∷ []) s ≡ lines_where plain answers i s
 line-one true i s = refl
 line-one false i s = refl
 
-pub told-plain : (answers : Bool) (items : List Item) (s : Scene) → scenes_told answers items s ≡ told_by plain answers items s
-told-plain answers [] s = refl
-told-plain answers (i ∷ items) s =
-    told-append answers (i ∷ []) items s
-    ∙ ap (λ (t : List ℕ). t ++ scenes_told answers items (scene_after i s)) (line-one answers i s)
-    ∙ ap (λ (t : List ℕ). lines_where plain answers i s ++ t) (told-plain answers items (scene_after i s))
+pub printed-plain : (answers : Bool) (items : List Item) (s : Scene) → scenes_printed answers items s ≡ printed_by plain answers items s
+printed-plain answers [] s = refl
+printed-plain answers (i ∷ items) s =
+    printed-append answers (i ∷ []) items s
+    ∙ ap (λ (t : List ℕ). t ++ scenes_printed answers items (scene_after i s)) (line-one answers i s)
+    ∙ ap (λ (t : List ℕ). lines_where plain answers i s ++ t) (printed-plain answers items (scene_after i s))
 
 -- what rows were served, the plain form was
 pub served-plain : {K : Type 0} (sink : SinkMeaning K) (answers : Bool) (items : List Item) (p q : Scene) (k l : K) (whole : Bool)
     → HasServed sink answers items p q k l whole → Served plain sink answers items p q k l whole
 served-plain sink answers items p q k l true x = record {
   state_is = x.scene_is ∙ scenes-states items p;
-  writes = subst (λ (t : List ℕ). SinkAfter sink t k l true) (told-plain answers items p) x.writes;
+  writes = subst (λ (t : List ℕ). SinkAfter sink t k l true) (printed-plain answers items p) x.writes;
 }
 served-plain sink answers items p q k l false x = record {
   state_is = tt;
-  writes = subst (λ (t : List ℕ). SinkAfter sink t k l false) (told-plain answers items p) x.writes;
+  writes = subst (λ (t : List ℕ). SinkAfter sink t k l false) (printed-plain answers items p) x.writes;
 }
 
 same-accesses : (number : ℕ) (xs : List (ℕ × Kind)) → scene_accesses number xs ≡ record_items plain (record { number = number; accesses = xs })
@@ -43,13 +43,13 @@ same-items [] = refl
 same-items (r ∷ rs) = ap (λ (xs : List Item). xs ++ scene_items rs) (same-accesses r.number r.accesses) ∙ ap (λ (xs : List Item). record_items plain r ++ xs) (same-items rs)
 
 -- what is queued more, was skimmed
-pub skimmed-plain : (stands : Type 0) (t u : Trail) (before after : Backlog) (count : ℕ) (s : Scene) → WaitsMore stands t u before after count
-    → Skimmed plain stands t u (waited before s) (waited after s) count
-skimmed-plain stands t u before after count s k = record {
-  stands_still = k.stands_still;
+pub skimmed-plain : (reads_from : Type 0) (t u : Trail) (before after : Backlog) (count : ℕ) (s : Scene) → BatchesMore reads_from t u before after count
+    → Skimmed plain reads_from t u (drained before s) (drained after s) count
+skimmed-plain reads_from t u before after count s k = record {
+  still_reads = k.still_reads;
   taken = k.taken;
   split = k.split;
-  follow = k.follow s ∙ scenes-states (scene_items k.taken) (waited before s) ∙ ap (λ (items : List Item). states_after plain items (waited before s)) (same-items k.taken);
+  follow = k.follow s ∙ scenes-states (scene_items k.taken) (drained before s) ∙ ap (λ (items : List Item). states_after plain items (drained before s)) (same-items k.taken);
   many = k.many;
 }
 
@@ -158,7 +158,7 @@ can-script areas cs e placed few =
     let none : length areas ≡ 0 = ap (λ (xs : List Area). length xs) e in (omega (arith, few_owned cs, few, none), placed_owned cs placed)
 
 -- the state of a bench with an empty queue and no declared area
-pub fresh : (w : Backlog) (rows : List Row) (areas : List Area) → waits w ≡ [] → areas ≡ [] → waited w (scene_of rows areas) ≡ scene_of rows []
+pub fresh : (w : Backlog) (rows : List Row) (areas : List Area) → deferred w ≡ [] → areas ≡ [] → drained w (scene_of rows areas) ≡ scene_of rows []
 fresh w rows areas idle none = ap (λ (items : List Item). scenes_after items (scene_of rows areas)) idle ∙ ap (scene_of rows) none
 
 -- a script was served over a trace, from a start on

@@ -1,5 +1,5 @@
 -- Records of one access alone that a trace gives together: what is left of the trace, and what the rows are served.
-use Rattle.xl_serving.proofs.Common.{◌%◌, ◌++◌, ◌+◌, ◌<◌, ◌^◌, ◌∙◌, ◌∷◌, ◌≡◌, ◌≤◌, [], Access, Accesses, accesses_in, accesses_items, accesses_of_all, all_accesses, ap, append-nil, arith, gaps, IsFedFrom, IsUnfed, IsWithin, Item, item_of, scene_items as items_of_all, items_waiting, Kind, Left, left, left_of, length, length-append, lines_of, List, made_left, MadeProgress, map, next_number, None, numbered, Option, pair, Progress, Record, records, Referenced, refl, Scene, scene-append, scene_after, scenes_after, Skims, Some, suc, sym, TakesLines, Trail, trail, true, WaitingEvent, WaitsMore, with_records, ℕ}
+use Rattle.xl_serving.proofs.Common.{◌%◌, ◌++◌, ◌+◌, ◌<◌, ◌^◌, ◌∙◌, ◌∷◌, ◌≡◌, ◌≤◌, [], Access, Accesses, accesses_in, accesses_items, accesses_of_all, all_accesses, ap, append-nil, arith, gaps, IsFedFrom, IsUnfed, IsWithin, Item, item_of, scene_items as items_of_all, items_batched, Kind, Left, left, left_of, length, length-append, lines_of, List, made_left, MadeProgress, map, next_number, None, numbered, Option, pair, Progress, Record, records, Referenced, refl, Scene, scene-append, scene_after, scenes_after, Skims, Some, suc, sym, TakesLines, Trail, trail, true, BatchedEvent, BatchesMore, with_records, ℕ}
 use Rattle.xl_lackey.specs.Skims.{Skimmed}
 use Rattle.xl_serving.proofs.BatchLemmas.{any-number, items-more}
 use Rattle.xl_serving.proofs.RecordLemmas.{gives_all, same_within, trail_on, with_numbered}
@@ -30,7 +30,7 @@ skims-unfed : (old new : Progress) (before after : List Access) (count : ℕ) �
 skims-unfed old new before after count k a u =
     let e = k.reads true [] (λ _. refl) in
     let none = none_taken k.of.taken (left old.reader []) (left new.reader []) e u.none in record {
-      stands_still = record {
+      still_reads = record {
         none = later_none k.of.taken (left old.reader []) (left new.reader []) e u.none none;
         unfinished = k.finished ∙ u.unfinished;
         first = a ∙ u.first;
@@ -50,7 +50,7 @@ number-on n m count rs e many = e ∙ ap (λ (k : ℕ). (n + k) % 2 ^ 64) (sym m
 skims-fed : (file : List ℕ) (old new : Progress) (before after : List Access) (count : ℕ) → old.number < 2 ^ 64 → Skimmed old.reader new.reader before after count → new.at ≡ old.at
     → new.number ≡ (old.number + count) % 2 ^ 64 → IsWithin file old → Skims (IsWithin file new) (left_of (Some file) old) (left_of (Some file) new) before after count
 skims-fed file old new before after count below k a m w = record {
-  stands_still = same_within file old new w a k.finished;
+  still_reads = same_within file old new w a k.finished;
   taken = numbered old.number k.of.taken;
   got = k.of.got;
   split = gives_all file k.of.taken old new w below k.reads a (number-on old.number new.number count k.of.taken m k.of.many);
@@ -74,7 +74,7 @@ skims-made old new before after count k m =
     let later : Left = records ((old.given + count) % 2 ^ 64) (lines_of new.rest) in
     let next : (number + length rs) % 2 ^ 64 ≡ next_number new.given = omega (arith, m, k.of.many) in
     record {
-      stands_still = tt;
+      still_reads = tt;
       taken = numbered number rs;
       got = k.of.got;
       split =
@@ -87,8 +87,8 @@ skims-made old new before after count k m =
       many = many-numbered number rs ∙ k.of.many;
     }
 
-pub skims-none : (stands : Type 0) (t : Trail) (xs : List Access) → stands → Skims stands t t xs xs 0
-skims-none stands t xs h = record { stands_still = h; taken = []; got = []; split = refl; follow = sym (append-nil xs); each = refl; many = refl }
+pub skims-none : (reads_from : Type 0) (t : Trail) (xs : List Access) → reads_from → Skims reads_from t t xs xs 0
+skims-none reads_from t xs h = record { still_reads = h; taken = []; got = []; split = refl; follow = sym (append-nil xs); each = refl; many = refl }
 
 -- the scene after some accesses, as items of any numbers
 abbrev item_with : ℕ → ℕ × Kind → Item
@@ -113,26 +113,26 @@ scene-all (r ∷ rs) s =
     ∙ sym (scene-append xs (accesses_items 0 (accesses_of_all rs)) s)
     ∙ sym (ap (λ (items : List Item). scenes_after items s) (items-append 0 r.accesses (accesses_of_all rs)))
 
-items-waited : (got : List Access) → accesses_items 0 (map pair got) ≡ map item_of got
-items-waited [] = refl
-items-waited (a ∷ got) = ap (λ (zs : List Item). item_of a ∷ zs) (items-waited got)
+items-drained : (got : List Access) → accesses_items 0 (map pair got) ≡ map item_of got
+items-drained [] = refl
+items-drained (a ∷ got) = ap (λ (zs : List Item). item_of a ∷ zs) (items-drained got)
 
 -- the scene after the accesses of some records
 scene-each : (rs : List Accesses) (got : List Access) (s : Scene) → accesses_of_all rs ≡ map pair got → scenes_after (map item_of got) s ≡ scenes_after (items_of_all rs) s
 scene-each rs got s e =
-    sym (scene-all rs s ∙ ap (λ (xs : List (ℕ × Kind)). scenes_after (accesses_items 0 xs) s) e ∙ ap (λ (items : List Item). scenes_after items s) (items-waited got))
+    sym (scene-all rs s ∙ ap (λ (xs : List (ℕ × Kind)). scenes_after (accesses_items 0 xs) s) e ∙ ap (λ (items : List Item). scenes_after items s) (items-drained got))
 
 -- what a trace skims into the queue
-pub waits-skimmed : (stands : Type 0) (t u : Trail) (before after : List Access) (events : List WaitingEvent) (count : ℕ) → gaps events ≤ length before → Skims stands t u before after count
-    → WaitsMore stands t u (record { accesses = before; events = events }) (record { accesses = after; events = events }) count
-waits-skimmed stands t u before after events count h k = record {
-  stands_still = k.stands_still;
+pub deferred-skimmed : (reads_from : Type 0) (t u : Trail) (before after : List Access) (events : List BatchedEvent) (count : ℕ) → gaps events ≤ length before → Skims reads_from t u before after count
+    → BatchesMore reads_from t u (record { accesses = before; events = events }) (record { accesses = after; events = events }) count
+deferred-skimmed reads_from t u before after events count h k = record {
+  still_reads = k.still_reads;
   taken = k.taken;
   split = k.split;
   follow = λ s.
-      ap (λ (xs : List Access). scenes_after (items_waiting xs events) s) k.follow
+      ap (λ (xs : List Access). scenes_after (items_batched xs events) s) k.follow
       ∙ ap (λ (items : List Item). scenes_after items s) (items-more before k.got events h)
-      ∙ scene-append (items_waiting before events) (map item_of k.got) s
-      ∙ scene-each k.taken k.got (scenes_after (items_waiting before events) s) k.each;
+      ∙ scene-append (items_batched before events) (map item_of k.got) s
+      ∙ scene-each k.taken k.got (scenes_after (items_batched before events) s) k.each;
   many = k.many;
 }

@@ -5,7 +5,7 @@ use Rattle.xl_model.specs.declared.script.Item.TheVariants.{Command, Referenced}
 use Rattle.xl_model.specs.Courses.{Accesses, Trail, accesses_items}
 use Rattle.xl_model.specs.Scenes.{Scene, scenes_after}
 use Rattle.xl_lackey.specs.declared.skim.Access.{Access}
-use Rattle.xl_serving.specs.declared.batch.WaitingEvent.{WaitingEvent}
+use Rattle.xl_serving.specs.declared.batch.BatchedEvent.{BatchedEvent}
 
 -- A queued access, as an item. No line of it is written, so the number of its record doesn't
 -- matter.
@@ -14,26 +14,26 @@ item_of a = Referenced 0 a.va a.kind
 
 -- The items of accesses with events among them: for each event the accesses of its gap and then its
 -- command, and at the end the accesses after the last event.
-abbrev pub items_waiting : List Access → List WaitingEvent → List Item
-items_waiting accesses [] = map item_of accesses
-items_waiting accesses (w ∷ events) = map item_of (take w.gap accesses) ++ Command w.event ∷ items_waiting (drop w.gap accesses) events
+abbrev pub items_batched : List Access → List BatchedEvent → List Item
+items_batched accesses [] = map item_of accesses
+items_batched accesses (w ∷ events) = map item_of (take w.gap accesses) ++ Command w.event ∷ items_batched (drop w.gap accesses) events
 
 -- How many accesses come before the last of some events.
-abbrev pub gaps : List WaitingEvent → ℕ
-gaps events = sum_by (λ (w : WaitingEvent). w.gap) events
+abbrev pub gaps : List BatchedEvent → ℕ
+gaps events = sum_by (λ (w : BatchedEvent). w.gap) events
 
 -- The queue: accesses, and events among them.
 pub record Backlog : Type 0 where
   pub accesses : List Access
-  pub events : List WaitingEvent
+  pub events : List BatchedEvent
 
 -- The items of the queue.
-abbrev pub waits : Backlog → List Item
-waits w = items_waiting w.accesses w.events
+abbrev pub deferred : Backlog → List Item
+deferred w = items_batched w.accesses w.events
 
 -- The scene after the queue.
-abbrev pub waited : Backlog → Scene → Scene
-waited w s = scenes_after (waits w) s
+abbrev pub drained : Backlog → Scene → Scene
+drained w s = scenes_after (deferred w) s
 
 -- The items of some records, one record after another.
 abbrev pub items_of_all : List Accesses → List Item
@@ -41,11 +41,11 @@ items_of_all [] = []
 items_of_all (r ∷ rs) = accesses_items r.number r.accesses ++ items_of_all rs
 
 -- `count` records were the first of what was left, and the rest of it is left; their items are
--- queued after those that were there. `stands` says that the trace is fed from its file alone
+-- queued after those that were there. `reads_from` says that the trace is fed from its file alone
 -- still.
-pub record WaitsMore (stands : Type 0) (t u : Trail) (before after : Backlog) (count : ℕ) : Type 0 where
-  pub stands_still : stands
+pub record BatchesMore (reads_from : Type 0) (t u : Trail) (before after : Backlog) (count : ℕ) : Type 0 where
+  pub still_reads : reads_from
   pub taken : List Accesses
   pub split : t ≡ record u { records = taken ++ u.records }
-  pub follow : (s : Scene) → waited after s ≡ scenes_after (items_of_all taken) (waited before s)
+  pub follow : (s : Scene) → drained after s ≡ scenes_after (items_of_all taken) (drained before s)
   pub many : length taken ≡ count

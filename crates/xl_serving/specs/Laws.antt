@@ -3,7 +3,7 @@ use Rattle.std.specs.Prelude.{◌≡◌, false, List, None, Some}
 use Rattle.xl_model.specs.declared.fault.InputFault.{InputFault}
 use Rattle.xl_model.specs.declared.script.Item.{Item}
 use Rattle.xl_model.specs.Rows.{Row}
-use Rattle.xl_model.specs.Scenes.{opening_scene, told_by}
+use Rattle.xl_model.specs.Scenes.{opening_scene, printed_by}
 use Rattle.xl_model.specs.Report.{Flags, report}
 use Rattle.xl_course.specs.Courses.{Course}
 use Rattle.xl_course.specs.Accounts.{Account, account, text_of}
@@ -24,4 +24,4 @@ TheTextIsTheReport =
 abbrev pub AFaultEndsTheText : Type 0
 AFaultEndsTheText =
     (c : Course Item) (fault : InputFault) (rows : List Row) (flags : Flags) → c.fault ≡ Some fault
-    → text_of (lines_account c rows flags) ≡ told_by flags.answers c.items (opening_scene rows)
+    → text_of (lines_account c rows flags) ≡ printed_by flags.answers c.items (opening_scene rows)

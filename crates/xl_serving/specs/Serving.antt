@@ -6,7 +6,7 @@ use Rattle.xl_model.specs.declared.script.Command.{Command}
 use Rattle.xl_model.specs.declared.script.Command.TheVariants as command
 use Rattle.xl_model.specs.declared.script.Item.{Item}
 use Rattle.xl_model.specs.declared.script.Area.{Area}
-use Rattle.xl_model.specs.Scenes.{Served, Scene, scenes_after, told_by}
+use Rattle.xl_model.specs.Scenes.{Served, Scene, scenes_after, printed_by}
 use Rattle.xl_model.specs.Courses.{block_address}
 use Rattle.xl_outside.specs.Sinks.{SinkMeaning, SinkAfter}
 
@@ -22,7 +22,7 @@ SceneAfter false items s t = Unit {0}
 -- These items were served, and their lines were written: whole, or up to a put that failed.
 pub record HasServed {K : Type 0} (sink : SinkMeaning K) (answers : Bool) (items : List Item) (p q : Scene) (k l : K) (whole : Bool) : Type 0 where
   pub scene_is : SceneAfter whole items p q
-  pub writes : SinkAfter sink (told_by answers items p) k l whole
+  pub writes : SinkAfter sink (printed_by answers items p) k l whole
 
 -- How many events a command is.
 abbrev pub count_of : Command → ℕ

@@ -7,7 +7,7 @@ ghost use Rattle.xl_model.specs.Scenes.{scene_after};
 ghost use Rattle.xl_outside.specs.Folders.{Files};
 ghost use Rattle.xl_lackey.specs.Skims.{batch_size};
 ghost use Rattle.xl_serving.specs.Serving.{scene_of};
-ghost use Rattle.xl_serving.specs.Batches.{waits, waited, WaitsMore};
+ghost use Rattle.xl_serving.specs.Batches.{deferred, drained, BatchesMore};
 
 use crate::rows::Rows;
 use arrayvec::ArrayVec;
@@ -19,15 +19,15 @@ use xl_model::Event;
 
 /// The event of a command, queued among accesses.
 #[derive(Clone, Copy)]
-pub struct WaitingEvent {
+pub struct BatchedEvent {
     /// How many of the accesses come between the event before it and this one.
     pub gap: usize,
     pub event: Event,
 }
 
-impl Default for WaitingEvent {
-    fn default() -> WaitingEvent {
-        WaitingEvent {
+impl Default for BatchedEvent {
+    fn default() -> BatchedEvent {
+        BatchedEvent {
             gap: 0,
             event: Event::Space { space: 0 },
         }
@@ -37,14 +37,14 @@ impl Default for WaitingEvent {
 /// The queue: accesses, and events of commands among them. A batch runs one row at a time, so that
 /// its code and its table stay in the processor's caches.
 #[derive(Drop)]
-pub(crate) struct Waiting {
+pub(crate) struct PlainBatch {
     accesses: Batch,
-    events: ArrayVec<WaitingEvent, 4>,
+    events: ArrayVec<BatchedEvent, 4>,
     /// How many of the accesses come before the last of the events.
     placed: usize,
 }
 
-impl Model for Waiting {
+impl Model for PlainBatch {
     ghost use Rattle.std.specs.Prelude.{◌≡◌, ◌≤◌, length};
     ghost use Rattle.xl_serving.specs.Batches.{Backlog, gaps};
 
@@ -56,12 +56,12 @@ impl Model for Waiting {
         × (gaps w.events.items ≤ length w.accesses.items) };
 }
 
-impl Waiting {
+impl PlainBatch {
     /// An empty queue.
-    pub(crate) fn new() -> Waiting
-        ensures { waits result ≡ [] }
+    pub(crate) fn new() -> PlainBatch
+        ensures { deferred result ≡ [] }
     {
-        Waiting {
+        PlainBatch {
             accesses: Batch::new(),
             events: ArrayVec::new(),
             placed: 0,
@@ -70,21 +70,21 @@ impl Waiting {
 
     /// Whether the queue is empty.
     pub(crate) fn is_idle(&self) -> bool
-        ensures { result ≡ true → waits self.now ≡ [] }
+        ensures { result ≡ true → deferred self.now ≡ [] }
     {
         self.accesses.is_empty() && self.events.is_empty()
     }
 
     /// Flushes the queue.
     #[inline(never)]
-    pub(crate) fn settle<R: Rows>(&mut self, rows: &mut R, areas: &Areas)
+    pub(crate) fn drain<R: Rows>(&mut self, rows: &mut R, areas: &Areas)
         ensures served { scene_of (R.rows rows.new) areas.now
-            ≡ waited self.old (scene_of (R.rows rows.old) areas.now) }
-        ensures none { waits self.new ≡ [] }
+            ≡ drained self.old (scene_of (R.rows rows.old) areas.now) }
+        ensures none { deferred self.new ≡ [] }
         ensures accesses { self.new.accesses ≡ [] }
         ensures events { self.new.events ≡ [] }
     {
-        rows.serve_waiting(self.accesses.as_slice(), self.events.as_slice(), areas);
+        rows.serve_batch(self.accesses.as_slice(), self.events.as_slice(), areas);
         self.accesses.clear();
         self.events.clear();
         self.placed = 0;
@@ -93,32 +93,32 @@ impl Waiting {
     /// Flushes the queue where there is no room for one access more.
     #[inline(always)]
     fn make_room<R: Rows>(&mut self, rows: &mut R, areas: &Areas)
-        ensures same { waited self.new (scene_of (R.rows rows.new) areas.now)
-            ≡ waited self.old (scene_of (R.rows rows.old) areas.now) }
+        ensures same { drained self.new (scene_of (R.rows rows.new) areas.now)
+            ≡ drained self.old (scene_of (R.rows rows.old) areas.now) }
         ensures room { length self.new.accesses < batch_size }
     {
         if self.accesses.is_full() {
-            self.settle(rows, areas);
+            self.drain(rows, areas);
         }
     }
 
     /// Flushes the queue where there is no room for one event more.
     fn make_room_for_event<R: Rows>(&mut self, rows: &mut R, areas: &Areas)
-        ensures same { waited self.new (scene_of (R.rows rows.new) areas.now)
-            ≡ waited self.old (scene_of (R.rows rows.old) areas.now) }
+        ensures same { drained self.new (scene_of (R.rows rows.new) areas.now)
+            ≡ drained self.old (scene_of (R.rows rows.old) areas.now) }
         ensures room { length self.new.events < 4 }
     {
         if self.events.is_full() {
-            self.settle(rows, areas);
+            self.drain(rows, areas);
         }
     }
 
     /// Queues an access.
     #[inline(always)]
     pub(crate) fn put_off<R: Rows>(&mut self, rows: &mut R, areas: &Areas, access: Access)
-        ensures { (number : ℕ) → waited self.new (scene_of (R.rows rows.new) areas.now)
+        ensures { (number : ℕ) → drained self.new (scene_of (R.rows rows.new) areas.now)
             ≡ scene_after (Referenced number access.va access.kind)
-            (waited self.old (scene_of (R.rows rows.old) areas.now)) }
+            (drained self.old (scene_of (R.rows rows.old) areas.now)) }
     {
         self.make_room(rows, areas);
         self.accesses.push(access);
@@ -127,20 +127,20 @@ impl Waiting {
     /// Queues an event of a command.
     #[inline(never)]
     pub(crate) fn put_off_event<R: Rows>(&mut self, rows: &mut R, areas: &Areas, event: Event)
-        ensures { waited self.new (scene_of (R.rows rows.new) areas.now)
-            ≡ scene_after (Command event) (waited self.old (scene_of (R.rows rows.old) areas.now)) }
+        ensures { drained self.new (scene_of (R.rows rows.new) areas.now)
+            ≡ scene_after (Command event) (drained self.old (scene_of (R.rows rows.old) areas.now)) }
     {
         self.make_room_for_event(rows, areas);
         let gap = self.accesses.len() - self.placed;
         self.placed += gap;
-        self.events.push(WaitingEvent { gap, event });
+        self.events.push(BatchedEvent { gap, event });
     }
 
     /// Queues the accesses of the next records, of `most` at most. Returns of how many.
     #[inline(always)]
     pub(crate) fn skim<T: Source>(&mut self, source: &mut T, most: u64) -> u64
-        ensures skims { (fs : Files) → T.stands source.old fs
-            → WaitsMore (T.stands source.new fs) (T.left source.old fs) (T.left source.new fs)
+        ensures skims { (fs : Files) → T.reads_from source.old fs
+            → BatchesMore (T.reads_from source.new fs) (T.left source.old fs) (T.left source.new fs)
             self.old self.new result }
         ensures few { result ≤ most }
         ensures no_more { T.size source.new ≤ T.size source.old }

@@ -15,7 +15,7 @@ mod stop;
 mod tape;
 mod trace;
 
-pub use batch::WaitingEvent;
+pub use batch::BatchedEvent;
 pub use ending::write_end;
 pub use events::{count, nth_event};
 pub use made::MadeTape;

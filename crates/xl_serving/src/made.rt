@@ -29,7 +29,7 @@ impl Model for MadeTape {
 impl Source for MadeTape {
     ghost left = { λ t _. made_left t };
 
-    ghost stands = { λ _ _. Unit {0} };
+    ghost reads_from = { λ _ _. Unit {0} };
 
     ghost size = { λ t. length t.rest };
 

@@ -40,7 +40,7 @@ pub fn open<R: Rows, F: Folder>(
     rows: &mut R,
 ) -> Result<Script, Stop>
     requires { R.rows rows.old ≡ [] }
-    ensures told { IfSome (F.folder.files folder.old) (λ fs.
+    ensures known { IfSome (F.folder.files folder.old) (λ fs.
         Finds (start_of (R.rows rows.new)) result (started (rows_in (plain_of words.now).config fs)
         (commands_for (plain_of words.now) fs))) }
     ensures leaves { FolderAfter F.folder folder.old folder.new
@@ -70,7 +70,7 @@ fn add_all<R: Rows>(alloc: Global, rows: &mut R, designs: Vec<Row>) -> Result<()
 
 /// Reads the configuration of this name, of at most 65,536 bytes.
 fn read_config<F: Folder>(alloc: Global, folder: &mut F, name: &str) -> Result<Vec<Row>, Stop>
-    ensures told { IfSome (F.folder.files folder.old) (λ fs.
+    ensures known { IfSome (F.folder.files folder.old) (λ fs.
         Finds (λ rows. map row_of rows.items) result (rows_in name.now fs)) }
     ensures leaves { FolderAfter F.folder folder.old folder.new
         (fate_by stop_fate result) }
@@ -98,7 +98,7 @@ fn rows_of(alloc: Global, text: &[u8]) -> Result<Vec<Row>, Stop>
 
 /// Makes the script or reads it, as the words ask for.
 fn script_for<F: Folder>(alloc: Global, folder: &mut F, words: &Plain<'_>) -> Result<Script, Stop>
-    ensures told { IfSome (F.folder.files folder.old) (λ fs.
+    ensures known { IfSome (F.folder.files folder.old) (λ fs.
         Finds (λ script. script) result (commands_for (plain_of words.now) fs)) }
     ensures leaves { FolderAfter F.folder folder.old folder.new
         (fate_by stop_fate result) }
@@ -123,7 +123,7 @@ fn made_commands(alloc: Global, records: u32) -> Result<Script, Stop>
 /// Reads the script of this name, of at most 1,048,576 bytes; where there is none, the script has
 /// no commands.
 fn read_script<F: Folder>(alloc: Global, folder: &mut F, name: Option<&str>) -> Result<Script, Stop>
-    ensures told { IfSome (F.folder.files folder.old) (λ fs.
+    ensures known { IfSome (F.folder.files folder.old) (λ fs.
         Finds (λ script. script) result (commands_in (option_map (λ s. s.now) name.entry) fs)) }
     ensures leaves { FolderAfter F.folder folder.old folder.new
         (fate_by stop_fate result) }
@@ -137,7 +137,7 @@ fn read_script<F: Folder>(alloc: Global, folder: &mut F, name: Option<&str>) -> 
 
 /// Reads the script of this name.
 fn read_commands<F: Folder>(alloc: Global, folder: &mut F, name: &str) -> Result<Script, Stop>
-    ensures told { IfSome (F.folder.files folder.old) (λ fs.
+    ensures known { IfSome (F.folder.files folder.old) (λ fs.
         Finds (λ script. script) result (said_in commands_said (file_of fs name.now))) }
     ensures leaves { FolderAfter F.folder folder.old folder.new
         (fate_by stop_fate result) }

@@ -8,11 +8,11 @@ ghost use Rattle.xl_model.specs.Scenes.{Scene};
 ghost use Rattle.xl_script.specs.Placing.{IsPlaced, is_area};
 ghost use Rattle.xl_course.specs.Serving.{HasServed};
 ghost use Rattle.xl_serving.specs.Serving.{scene_of, count_of, event_at};
-ghost use Rattle.xl_serving.specs.Batches.{waits, waited};
+ghost use Rattle.xl_serving.specs.Batches.{deferred, drained};
 ghost use Rattle.xl_words.specs.Words.{plain_of};
 ghost use Rattle.xl_serving.specs.Plain.{plain, end_text, end_of, steps_of, with_area};
 
-use crate::batch::Waiting;
+use crate::batch::PlainBatch;
 use crate::ending::write_end;
 use crate::events::{count, nth_event};
 use crate::rows::Rows;
@@ -80,7 +80,7 @@ impl Orders for PlainOrders<'_> {
 pub struct Bench {
     alloc: Global,
     areas: Areas,
-    waiting: Waiting,
+    batch: PlainBatch,
 }
 
 impl<R: Rows> Form<R> for Bench {
@@ -94,7 +94,7 @@ impl<R: Rows> Form<R> for Bench {
 
     ghost meaning = { plain };
 
-    ghost state = { λ b rows. waited b.waiting (scene_of (R.rows rows) b.areas) };
+    ghost state = { λ b rows. drained b.batch (scene_of (R.rows rows) b.areas) };
 
     ghost can = { λ b rows cs. (length b.areas + count_by is_area cs ≤ 256) × All IsPlaced cs };
 
@@ -133,17 +133,17 @@ impl<R: Rows> Form<R> for Bench {
             self.quiet(rows);
             return rows.access(number, access, &self.areas, answers, out);
         }
-        self.waiting.put_off(rows, &self.areas, access);
+        self.batch.put_off(rows, &self.areas, access);
         Ok(())
     }
 
     #[inline(always)]
     fn skim<T: Source>(&mut self, _rows: &mut R, source: &mut T, most: u64) -> u64 {
-        self.waiting.skim(source, most)
+        self.batch.skim(source, most)
     }
 
     fn finish<K: Sink>(&mut self, rows: &mut R, end: End, out: &mut K) -> Result<(), Stop> {
-        self.waiting.settle(rows, &self.areas);
+        self.batch.drain(rows, &self.areas);
         write_end(self.alloc, rows, end.json, end.image, out)
     }
 }
@@ -152,12 +152,12 @@ impl Bench {
     /// No areas, and an empty queue. All memory is taken here.
     pub fn open(alloc: Global) -> Result<Bench, NoMemory>
         ensures areas { IfOk result (λ b. b.areas ≡ []) }
-        ensures idle { IfOk result (λ b. waits b.waiting ≡ []) }
+        ensures idle { IfOk result (λ b. deferred b.batch ≡ []) }
     {
         Ok(Bench {
             alloc,
             areas: Areas::open(alloc)?,
-            waiting: Waiting::new(),
+            batch: PlainBatch::new(),
         })
     }
 
@@ -165,21 +165,21 @@ impl Bench {
     #[inline(always)]
     fn quiet<R: Rows>(&mut self, rows: &mut R)
         ensures served { scene_of (R.rows rows.new) self.new.areas
-            ≡ waited self.old.waiting (scene_of (R.rows rows.old) self.old.areas) }
-        ensures none { waits self.new.waiting ≡ [] }
+            ≡ drained self.old.batch (scene_of (R.rows rows.old) self.old.areas) }
+        ensures none { deferred self.new.batch ≡ [] }
         ensures areas { self.new.areas ≡ self.old.areas }
     {
-        if self.waiting.is_idle() {
+        if self.batch.is_idle() {
             return;
         }
-        self.waiting.settle(rows, &self.areas);
+        self.batch.drain(rows, &self.areas);
     }
 
     /// Declares an area, after a flush of the queue.
     fn declare<R: Rows>(&mut self, rows: &mut R, area: Area)
         requires { length self.old.areas < 256 }
-        ensures state { waited self.new.waiting (scene_of (R.rows rows.new) self.new.areas)
-            ≡ with_area area (waited self.old.waiting (scene_of (R.rows rows.old) self.old.areas)) }
+        ensures state { drained self.new.batch (scene_of (R.rows rows.new) self.new.areas)
+            ≡ with_area area (drained self.old.batch (scene_of (R.rows rows.old) self.old.areas)) }
         ensures areas { self.new.areas ≡ self.old.areas ++ area ∷ [] }
     {
         self.quiet(rows);
@@ -197,8 +197,8 @@ impl Bench {
         requires { IsPlaced command }
         ensures served { HasServed plain K.sink answers
             (events_from (event_at command) 0 (count_of command))
-            (waited self.old.waiting (scene_of (R.rows rows.old) self.old.areas))
-            (waited self.new.waiting (scene_of (R.rows rows.new) self.new.areas))
+            (drained self.old.batch (scene_of (R.rows rows.old) self.old.areas))
+            (drained self.new.batch (scene_of (R.rows rows.new) self.new.areas))
             out.old out.new (is_ok result) }
         ensures areas { self.new.areas ≡ self.old.areas }
     {
@@ -221,16 +221,16 @@ impl Bench {
         out: &mut K,
     ) -> Result<(), Failed>
         ensures served { HasServed plain K.sink answers (item.Command event ∷ [])
-            (waited self.old.waiting (scene_of (R.rows rows.old) self.old.areas))
-            (waited self.new.waiting (scene_of (R.rows rows.new) self.new.areas))
+            (drained self.old.batch (scene_of (R.rows rows.old) self.old.areas))
+            (drained self.new.batch (scene_of (R.rows rows.new) self.new.areas))
             out.old out.new (is_ok result) }
         ensures areas { self.new.areas ≡ self.old.areas }
     {
-        if answers || self.waiting.is_idle() {
+        if answers || self.batch.is_idle() {
             self.quiet(rows);
             return rows.command(event, &self.areas, answers, out);
         }
-        self.waiting.put_off_event(rows, &self.areas, event);
+        self.batch.put_off_event(rows, &self.areas, event);
         Ok(())
     }
 }

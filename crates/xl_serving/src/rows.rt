@@ -8,9 +8,9 @@ ghost use Rattle.xl_model.specs.Report.{row_lines, images_lines};
 ghost use Rattle.xl_outside.specs.Sinks.{SinkAfter};
 ghost use Rattle.xl_report.specs.Json.{row_objects, objects_text};
 ghost use Rattle.xl_serving.specs.Serving.{HasServed, scene_of};
-ghost use Rattle.xl_serving.specs.Batches.{gaps, items_waiting};
+ghost use Rattle.xl_serving.specs.Batches.{gaps, items_batched};
 
-use crate::batch::WaitingEvent;
+use crate::batch::BatchedEvent;
 use std::alloc::Global;
 use xl_areas::Areas;
 use xl_lackey::Access;
@@ -58,10 +58,10 @@ pub trait Rows: Sized {
 
     /// Serves accesses, with events among them, where these areas were declared, and writes no
     /// line.
-    fn serve_waiting(&mut self, accesses: &[Access], events: &[WaitingEvent], areas: &Areas)
+    fn serve_batch(&mut self, accesses: &[Access], events: &[BatchedEvent], areas: &Areas)
         requires { gaps events.now ≤ length accesses.now }
         ensures { scene_of (rows self.new) areas.now ≡ scenes_after
-            (items_waiting accesses.now events.now) (scene_of (rows self.old) areas.now) };
+            (items_batched accesses.now events.now) (scene_of (rows self.old) areas.now) };
 
     /// Writes a line for each row.
     fn write_rows<K: Sink>(&self, out: &mut K) -> Result<(), Failed>

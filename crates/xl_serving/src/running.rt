@@ -2,7 +2,7 @@
 
 ghost use Rattle.std.specs.Prelude.{◌≡◌, ◌⊎◌, [], Err, IfErr, IfSome, true};
 ghost use Rattle.xl_outside.specs.Folders.{Files};
-ghost use Rattle.xl_outside.specs.Sinks.{GoesOn, IsFlushed};
+ghost use Rattle.xl_outside.specs.Sinks.{Proceeds, IsFlushed};
 ghost use Rattle.xl_course.specs.Stops.{status_by, FolderLeft, is_all_put, StopsRun};
 ghost use Rattle.xl_course.specs.Accounts.{Ends};
 ghost use Rattle.xl_words.specs.Words.{plain_of};
@@ -31,15 +31,15 @@ pub fn report<R: Rows, F: Folder, K: Sink>(
 ) -> Result<(), Stop>
     requires none { R.rows rows.old ≡ [] }
     requires flushed { IsFlushed K.sink out.old }
-    ensures told { IfSome (F.folder.files folder.old) (λ fs.
+    ensures known { IfSome (F.folder.files folder.old) (λ fs.
         Ends result (plain_account (plain_of words.now) fs)
         K.sink.roomy (K.sink.outside out.old).written (K.sink.outside out.new).written
         out.old out.new
         (R.rows rows.new ≡ plain_rows (plain_of words.now) fs)) }
     ensures leaves { FolderLeft F.folder folder.old folder.new
         (status_by result) }
-    ensures goes_on { GoesOn (is_all_put result) (K.sink.outside out.old) (K.sink.outside out.new) }
-    ensures met { IfErr result StopsRun }
+    ensures proceeds { Proceeds (is_all_put result) (K.sink.outside out.old) (K.sink.outside out.new) }
+    ensures caused { IfErr result StopsRun }
     ensures early { result ≡ Err Stop.NoMemory → AreOpened (R.rows rows.new)
         ⊎ ((words.now.json ≡ true) × IfSome (F.folder.files folder.old) (λ fs.
         R.rows rows.new ≡ plain_rows (plain_of words.now) fs)) }
@@ -64,7 +64,7 @@ fn report_orders<R: Rows, F: Folder, K: Sink>(
     rows: &mut R,
 ) -> Result<(), Stop>
     requires flushed { IsFlushed K.sink out.old }
-    ensures told { IfSome (F.folder.files folder.old) (λ fs.
+    ensures known { IfSome (F.folder.files folder.old) (λ fs.
         Ends result (account_from (plain_of orders.now.words.now)
         (trail_for (plain_of orders.now.words.now) fs)
         (start_of (R.rows rows.old) orders.now.script.now))
@@ -74,8 +74,8 @@ fn report_orders<R: Rows, F: Folder, K: Sink>(
         (start_of (R.rows rows.old) orders.now.script.now))) }
     ensures leaves { FolderLeft F.folder folder.old folder.new
         (status_by result) }
-    ensures goes_on { GoesOn (is_all_put result) (K.sink.outside out.old) (K.sink.outside out.new) }
-    ensures met { IfErr result StopsRun }
+    ensures proceeds { Proceeds (is_all_put result) (K.sink.outside out.old) (K.sink.outside out.new) }
+    ensures caused { IfErr result StopsRun }
     ensures early { result ≡ Err Stop.NoMemory → (R.rows rows.new ≡ R.rows rows.old)
         ⊎ ((orders.now.words.now.json ≡ true) × IfSome (F.folder.files folder.old) (λ fs.
         R.rows rows.new ≡ rows_from (trail_for (plain_of orders.now.words.now) fs)
@@ -106,9 +106,9 @@ fn report_from<R: Rows, T: Source, F: Folder, K: Sink>(
     rows: &mut R,
 ) -> Result<(), Stop>
     requires flushed { IsFlushed K.sink out.old }
-    requires unread { (fs : Files) → T.stands source.old fs
+    requires unread { (fs : Files) → T.reads_from source.old fs
         × (T.left source.old fs ≡ trail_for (plain_of orders.now.words.now) fs) }
-    ensures told { IfSome (F.folder.files folder.old) (λ fs.
+    ensures known { IfSome (F.folder.files folder.old) (λ fs.
         Ends result (account_from (plain_of orders.now.words.now)
         (trail_for (plain_of orders.now.words.now) fs)
         (start_of (R.rows rows.old) orders.now.script.now))
@@ -118,8 +118,8 @@ fn report_from<R: Rows, T: Source, F: Folder, K: Sink>(
         (start_of (R.rows rows.old) orders.now.script.now))) }
     ensures leaves { FolderLeft F.folder folder.old folder.new
         (status_by result) }
-    ensures goes_on { GoesOn (is_all_put result) (K.sink.outside out.old) (K.sink.outside out.new) }
-    ensures met { IfErr result StopsRun }
+    ensures proceeds { Proceeds (is_all_put result) (K.sink.outside out.old) (K.sink.outside out.new) }
+    ensures caused { IfErr result StopsRun }
     ensures early { result ≡ Err Stop.NoMemory → (R.rows rows.new ≡ R.rows rows.old)
         ⊎ ((orders.now.words.now.json ≡ true) × IfSome (F.folder.files folder.old) (λ fs.
         R.rows rows.new ≡ rows_from (trail_for (plain_of orders.now.words.now) fs)

@@ -67,14 +67,14 @@ impl Tape {
         folder: &mut F,
         name: &str,
     ) -> Result<Option<Numbered>, Stop>
-        ensures told { IfSome (F.folder.files folder.old) (λ fs.
+        ensures known { IfSome (F.folder.files folder.old) (λ fs.
             IsFedFrom (file_of fs name.now) self.old
             → Gives (IsFedFrom (file_of fs name.now) self.new)
             (left_of (file_of fs name.now) self.old)
             (left_of (file_of fs name.now) self.new) result) }
         ensures leaves { FolderAfter F.folder folder.old folder.new
             (fate_by stop_fate result) }
-        ensures met { IfErr result StopsSource }
+        ensures caused { IfErr result StopsSource }
         ensures shrinks { IfOk result (λ r. IsSome r → size_of self.new < size_of self.old) }
     {
         'pieces: loop {
@@ -110,7 +110,7 @@ impl Tape {
         ensures answers { Answers result self.old.reader self.new.reader }
         ensures at { self.new.at ≡ self.old.at }
         ensures number { self.new.number ≡ self.old.number }
-        ensures waits { result ≡ Next.More →
+        ensures deferred { result ≡ Next.More →
             (self.old.reader.finished ≡ false) × (self.new.reader.finished ≡ false) }
     {
         self.reader.next()
@@ -132,12 +132,12 @@ impl Tape {
         requires unfinished { self.old.reader.finished ≡ false }
         requires room { length self.old.reader.held ≤ 258 }
         requires none { due self.old.reader [] ≡ ([], None) }
-        ensures told { IfSome (F.folder.files folder.old) (λ fs.
+        ensures known { IfSome (F.folder.files folder.old) (λ fs.
             IsFedFrom (file_of fs name.now) self.old
             → FillAnswers (file_of fs name.now) result self.old self.new) }
         ensures leaves { FolderAfter F.folder folder.old folder.new
             (fate_by stop_fate result) }
-        ensures met { IfErr result StopsSource }
+        ensures caused { IfErr result StopsSource }
         ensures less { OnOk result (to_come self.new < to_come self.old) }
         ensures no_more { OnOk result (size_of self.new ≤ size_of self.old) }
     {
@@ -153,12 +153,12 @@ impl Tape {
         requires unfinished { self.old.reader.finished ≡ false }
         requires none { due self.old.reader [] ≡ ([], None) }
         requires limit { self.old.at ≡ 2 ^ 34 }
-        ensures told { IfSome (F.folder.files folder.old) (λ fs.
+        ensures known { IfSome (F.folder.files folder.old) (λ fs.
             IsFedFrom (file_of fs name.now) self.old
             → FillAnswers (file_of fs name.now) result self.old self.new) }
         ensures leaves { FolderAfter F.folder folder.old folder.new
             (fate_by stop_fate result) }
-        ensures met { IfErr result StopsSource }
+        ensures caused { IfErr result StopsSource }
         ensures less { OnOk result (to_come self.new < to_come self.old) }
         ensures no_more { OnOk result (size_of self.new ≤ size_of self.old) }
     {
@@ -175,12 +175,12 @@ impl Tape {
         requires unfinished { self.old.reader.finished ≡ false }
         requires room { length self.old.reader.held ≤ 258 }
         requires below { self.old.at < 2 ^ 34 }
-        ensures told { IfSome (F.folder.files folder.old) (λ fs.
+        ensures known { IfSome (F.folder.files folder.old) (λ fs.
             IsFedFrom (file_of fs name.now) self.old
             → FillAnswers (file_of fs name.now) result self.old self.new) }
         ensures leaves { FolderAfter F.folder folder.old folder.new
             (fate_by stop_fate result) }
-        ensures met { IfErr result StopsSource }
+        ensures caused { IfErr result StopsSource }
         ensures less { OnOk result (to_come self.new < to_come self.old) }
         ensures no_more { OnOk result (size_of self.new ≤ size_of self.old) }
     {
@@ -196,7 +196,7 @@ impl Tape {
         requires unfinished { self.old.reader.finished ≡ false }
         requires room { length self.old.reader.held ≤ 258 }
         requires below { self.old.at < 2 ^ 34 }
-        ensures told { IfSome (F.folder.files folder.old) (λ fs.
+        ensures known { IfSome (F.folder.files folder.old) (λ fs.
             FeedAnswers (file_of fs name.now) self.old.at result self.old.reader self.new.reader) }
         ensures leaves { FolderAfter F.folder folder.old folder.new
             (fate_by unread_fate result) }
@@ -257,7 +257,7 @@ fn feed_from<F: Folder>(
     requires room { wanted + length reader.old.held ≤ 65536 }
     ensures count { IfOk result (λ n. n ≤ wanted) }
     ensures size { length buf.new.items ≡ 65536 }
-    ensures told { IfSome (F.folder.files folder.old) (λ fs.
+    ensures known { IfSome (F.folder.files folder.old) (λ fs.
         FeedAnswers (file_of fs name.now) at result reader.old reader.new) }
     ensures leaves { FolderAfter F.folder folder.old folder.new
         (fate_by unread_fate result) }
@@ -273,7 +273,7 @@ fn feed_from<F: Folder>(
 
 /// Whether a file has bytes from a place on.
 fn has_more<F: Folder>(folder: &mut F, name: &str, at: u64) -> Result<bool, Unread>
-    ensures told { IfSome (F.folder.files folder.old) (λ fs.
+    ensures known { IfSome (F.folder.files folder.old) (λ fs.
         MoreAnswers (file_of fs name.now) at result) }
     ensures leaves { FolderAfter F.folder folder.old folder.new
         (fate_by unread_fate result) }

@@ -36,7 +36,7 @@ impl<'a> TraceFile<'a> {
 impl Source for TraceFile<'_> {
     ghost left = { λ t fs. left_of (file_of fs t.name.now) t.tape };
 
-    ghost stands = { λ t fs. IsFedFrom (file_of fs t.name.now) t.tape };
+    ghost reads_from = { λ t fs. IsFedFrom (file_of fs t.name.now) t.tape };
 
     ghost size = { λ t. size_of t.tape };
 
@@ -58,7 +58,7 @@ pub struct NoTrace;
 impl Source for NoTrace {
     ghost left = { λ _ _. at_end None };
 
-    ghost stands = { λ _ _. Unit {0} };
+    ghost reads_from = { λ _ _. Unit {0} };
 
     ghost size = { λ _. 0 };
 

@@ -48,7 +48,7 @@ pub use Rattle.xl_pte.specs.ReadBack.{MadeWordsReadBack}
 pub use Rattle.xl_tagged.specs.Counted.{any_smaller, AreCounted, AreIn, AreLess, AreMore, HasRoom, HaveRoom, is_smaller, IsCounted, IsIn, IsLess, IsMore, smaller_word, SmallerState}
 pub use Rattle.xl_tagged.specs.Forms.{before, Form, group_of, most_tags, One, Sixteen, slot_of, values_by, word_at}
 unfoldable pub use Rattle.xl_tagged.specs.Forms.{values_under}
-pub use Rattle.xl_tagged.specs.Slots.{chained, first_found, found_from, found_in, held_leaves, leaf_read, leaf_said, loaded_more, loads_by, NoneLarge, order_loads, small_told, table_in, walk_loads}
-unfoldable pub use Rattle.xl_tagged.specs.Slots.{leaf_in, leaves_in, leaves_under}
+pub use Rattle.xl_tagged.specs.Slots.{chained, first_found, found_from, found_in, held_leaves, leaf_read, leaf_said, loaded_more, loads_by, NoneLarge, order_loads, small_known, table_in, walk_loads}
+unfoldable pub use Rattle.xl_tagged.specs.Slots.{leaf_in, slot_leaves, leaves_under}
 pub use Rattle.xl_tagged.specs.Steps.{given_word, IsPut, IsSameTable, IsSet, IsTaken, IsWritten, word_found}
 pub use Rattle.xl_tagged.specs.Tagged.{AreHeld, AreSized, IsAt, IsFit, IsTagged}

@@ -1,5 +1,5 @@
 -- Counts of smaller leaves by section, as leaves come and go; and that there is room for them.
-use Rattle.xl_tagged.proofs.Common.{◌%◌, ◌&&◌, ◌*◌, ◌++◌, ◌+◌, ◌/◌, ◌<◌, ◌==◌, ◌^◌, ◌∙◌, ◌∷◌, ◌≡◌, ◌≤◌, [], any-In, ap, AreHeld, arith, at-level, Bool, cond, counts_at, false, Form, group_of, HasRoom, In, In-map, inl, inr, is_smaller, IsAligned, IsCounted, IsFit, IsIn, IsLess, IsMore, IsSorted, key_in, Leaf, leaf_in, leaf_key, leaf_tag, leaves_in, leaves_under, length, length-append, length-map, level_of, List, list_any, MadeWordsReadBack, map, mapping_of, nat_le, nat_tests, None, not, of_order, once-short, One, one_if, Option, Order, order_at, pages_of, Perm, refl, same_order, Sixteen, smaller_word, Some, subst, suc, sym, tally, tally-short, true, with_leaf, with_some, without-other, without_leaf, word_at, zero, ℕ}
+use Rattle.xl_tagged.proofs.Common.{◌%◌, ◌&&◌, ◌*◌, ◌++◌, ◌+◌, ◌/◌, ◌<◌, ◌==◌, ◌^◌, ◌∙◌, ◌∷◌, ◌≡◌, ◌≤◌, [], any-In, ap, AreHeld, arith, at-level, Bool, cond, counts_at, false, Form, group_of, HasRoom, In, In-map, inl, inr, is_smaller, IsAligned, IsCounted, IsFit, IsIn, IsLess, IsMore, IsSorted, key_in, Leaf, leaf_in, leaf_key, leaf_tag, slot_leaves, leaves_under, length, length-append, length-map, level_of, List, list_any, MadeWordsReadBack, map, mapping_of, nat_le, nat_tests, None, not, of_order, once-short, One, one_if, Option, Order, order_at, pages_of, Perm, refl, same_order, Sixteen, smaller_word, Some, subst, suc, sym, tally, tally-short, true, with_leaf, with_some, without-other, without_leaf, word_at, zero, ℕ}
 use Rattle.xl_model_lemmas.proofs.LeafTallyLemmas.{tally-less, tally-with}
 use Rattle.xl_sections.proofs.KeyLemmas.{counted}
 use Rattle.xl_sections.specs.Counted.{AreCounts, Count, count_of, CountState, keys_of, unit}
@@ -180,10 +180,10 @@ some-short : (q : Option Leaf) (xs : List Leaf) → length (with_some q xs) ≤ 
 some-short None xs = omega arith
 some-short (Some x) xs = omega arith
 
-in-short : (f : Form) (values : ℕ → List ℕ) (tag n : ℕ) → length (leaves_in f values tag n) ≤ n
-unfolding leaves_in
+in-short : (f : Form) (values : ℕ → List ℕ) (tag n : ℕ) → length (slot_leaves f values tag n) ≤ n
+unfolding slot_leaves
 in-short f values tag zero = omega arith
-in-short f values tag (suc n) = let a = in-short f values tag n in let b = some-short (leaf_in f tag n (word_at f values tag n)) (leaves_in f values tag n) in omega arith
+in-short f values tag (suc n) = let a = in-short f values tag n in let b = some-short (leaf_in f tag n (word_at f values tag n)) (slot_leaves f values tag n) in omega arith
 
 group-few : (f : Form) → group_of f ≤ 16
 group-few One = omega arith
@@ -196,7 +196,7 @@ under-short f values (t ∷ ts) =
     let a = under-short f values ts in
     let b = in-short f values t (group_of f) in
     let c = group-few f in
-    let d : length (leaves_in f values t (group_of f) ++ leaves_under f values ts) ≡ length (leaves_in f values t (group_of f)) + length (leaves_under f values ts) = length-append (leaves_in f values t (group_of f)) (leaves_under f values ts) in
+    let d : length (slot_leaves f values t (group_of f) ++ leaves_under f values ts) ≡ length (slot_leaves f values t (group_of f)) + length (leaves_under f values ts) = length-append (slot_leaves f values t (group_of f)) (leaves_under f values ts) in
     omega arith
 
 pub leaves-short : MadeWordsReadBack → (f : Form) (values : ℕ → List ℕ) (tags : List ℕ) (xs : List Leaf) → AreHeld f values tags xs → length xs ≤ 16 * length tags

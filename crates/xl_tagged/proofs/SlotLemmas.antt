@@ -1,5 +1,5 @@
 -- Leaves are read back from their slots, and what is held under tags is known by its leaves.
-use Rattle.xl_tagged.proofs.Common.{◌%◌, ◌*◌, ◌+◌, ◌/◌, ◌<◌, ◌==◌, ◌^◌, ◌∙◌, ◌∷◌, ◌≡◌, ◌≤◌, ◌⊎◌, [], ap, AreHeld, arith, at-level, false, Form, group_of, IfNone, IfSome, In, In-append, In-left, In-right, In-with, inl, inr, IsAt, IsFit, Leaf, leaf_in, leaf_key, leaf_read, leaf_said, leaf_tag, leaf_word, leaves_in, leaves_under, length, level-low, level_of, List, MadeWordsReadBack, mapping-In, mapping-sorted, mapping_of, nat_tests, None, Option, Order, order_at, pages_of, Perm, refl, same-place, same-sorted, slot_of, small_told, Some, stays-with, subst, suc, sym, true, with_leaf, with_some, word_at, zero, ℕ}
+use Rattle.xl_tagged.proofs.Common.{◌%◌, ◌*◌, ◌+◌, ◌/◌, ◌<◌, ◌==◌, ◌^◌, ◌∙◌, ◌∷◌, ◌≡◌, ◌≤◌, ◌⊎◌, [], ap, AreHeld, arith, at-level, false, Form, group_of, IfNone, IfSome, In, In-append, In-left, In-right, In-with, inl, inr, IsAt, IsFit, Leaf, leaf_in, leaf_key, leaf_read, leaf_said, leaf_tag, leaf_word, slot_leaves, leaves_under, length, level-low, level_of, List, MadeWordsReadBack, mapping-In, mapping-sorted, mapping_of, nat_tests, None, Option, Order, order_at, pages_of, Perm, refl, same-place, same-sorted, slot_of, small_known, Some, stays-with, subst, suc, sym, true, with_leaf, with_some, word_at, zero, ℕ}
 use Rattle.xl_pte.specs.Decode.{decode_of, SaysNone, SaysSmall}
 use Rattle.xl_pte.specs.declared.word.Pte.{Pte}
 use Rattle.xl_tagged.proofs.PlaceLemmas.{at-one, group-back, HasParts, IsSamePlace, number-back, slot-low, tag-parts}
@@ -12,7 +12,7 @@ unfolding decode_of
 none-read space o n = refl
 
 -- the word of a page's leaf of 4 KiB, read
-pub small-read : (space page word : ℕ) (o : Option ℕ) → IfSome o (SaysSmall word) → IfNone o (SaysNone word) → small_told space page o ≡ leaf_read space order.K4 (page / pages_of order.K4) word
+pub small-read : (space page word : ℕ) (o : Option ℕ) → IfSome o (SaysSmall word) → IfNone o (SaysNone word) → small_known space page o ≡ leaf_read space order.K4 (page / pages_of order.K4) word
 small-read space page word (Some small) said none = sym (ap (leaf_said space order.K4 (page / pages_of order.K4)) said)
 small-read space page word None said none = go (decode_of word 0) none
   where
@@ -72,24 +72,24 @@ In-some : (q : Option Leaf) (x : Leaf) (xs : List Leaf) → In x xs → In x (wi
 In-some None x xs i = i
 In-some (Some y) x xs i = inr i
 
-slots-In : (f : Form) (values : ℕ → List ℕ) (tag n : ℕ) (x : Leaf) → In x (leaves_in f values tag n) → (i : ℕ) × (i < n) × (leaf_in f tag i (word_at f values tag i) ≡ Some x)
-unfolding leaves_in
+slots-In : (f : Form) (values : ℕ → List ℕ) (tag n : ℕ) (x : Leaf) → In x (slot_leaves f values tag n) → (i : ℕ) × (i < n) × (leaf_in f tag i (word_at f values tag i) ≡ Some x)
+unfolding slot_leaves
 slots-In f values tag zero x h = absurd h
-slots-In f values tag (suc n) x h = elim (some-In (leaf_in f tag n (word_at f values tag n)) x (leaves_in f values tag n) h) [
+slots-In f values tag (suc n) x h = elim (some-In (leaf_in f tag n (word_at f values tag n)) x (slot_leaves f values tag n) h) [
   | inl e ↦ (n, omega arith, e)
   | inr i ↦ let r = slots-In f values tag n x i in let l : r.0 < n = r.1 in (r.0, omega arith, r.2)
 ]
 
-In-slots : (f : Form) (values : ℕ → List ℕ) (tag n i : ℕ) (x : Leaf) → i < n → leaf_in f tag i (word_at f values tag i) ≡ Some x → In x (leaves_in f values tag n)
-unfolding leaves_in
+In-slots : (f : Form) (values : ℕ → List ℕ) (tag n i : ℕ) (x : Leaf) → i < n → leaf_in f tag i (word_at f values tag i) ≡ Some x → In x (slot_leaves f values tag n)
+unfolding slot_leaves
 In-slots f values tag zero i x h e = absurd (omega arith)
 In-slots f values tag (suc n) i x h e =
-    elim (i == n) as (λ b. (i == n) ≡ b → In x (with_some (leaf_in f tag n (word_at f values tag n)) (leaves_in f values tag n))) [
+    elim (i == n) as (λ b. (i == n) ≡ b → In x (with_some (leaf_in f tag n (word_at f values tag n)) (slot_leaves f values tag n))) [
       | true ↦ λ t.
           let same : i ≡ n = grind (arith, nat_tests) in
-          let P : Option Leaf → Type 0 = λ q. In x (with_some q (leaves_in f values tag n)) in
+          let P : Option Leaf → Type 0 = λ q. In x (with_some q (slot_leaves f values tag n)) in
           subst P (sym e ∙ ap (λ m. leaf_in f tag m (word_at f values tag m)) same) (inl refl)
-      | false ↦ λ t. let l : i < n = grind (arith, nat_tests) in In-some (leaf_in f tag n (word_at f values tag n)) x (leaves_in f values tag n) (In-slots f values tag n i x l e)
+      | false ↦ λ t. let l : i < n = grind (arith, nat_tests) in In-some (leaf_in f tag n (word_at f values tag n)) x (slot_leaves f values tag n) (In-slots f values tag n i x l e)
     ] refl
 
 record IsUnder (f : Form) (values : ℕ → List ℕ) (tags : List ℕ) (x : Leaf) : Type 0 where
@@ -102,7 +102,7 @@ record IsUnder (f : Form) (values : ℕ → List ℕ) (tags : List ℕ) (x : Lea
 under-In : (f : Form) (values : ℕ → List ℕ) (tags : List ℕ) (x : Leaf) → In x (leaves_under f values tags) → IsUnder f values tags x
 unfolding leaves_under
 under-In f values [] x h = absurd h
-under-In f values (t ∷ ts) x h = elim (In-append x (leaves_in f values t (group_of f)) (leaves_under f values ts) h) [
+under-In f values (t ∷ ts) x h = elim (In-append x (slot_leaves f values t (group_of f)) (leaves_under f values ts) h) [
   | inl i ↦ let r = slots-In f values t (group_of f) x i in record { tag = t; there = inl refl; slot = r.0; slot_in = r.1; says = r.2 }
   | inr i ↦ let r = under-In f values ts x i in record { tag = r.tag; there = inr r.there; slot = r.slot; slot_in = r.slot_in; says = r.says }
 ]
@@ -111,9 +111,9 @@ In-under : (f : Form) (values : ℕ → List ℕ) (tags : List ℕ) (tag i : ℕ
 unfolding leaves_under
 In-under f values [] tag i x h l e = absurd h
 In-under f values (t ∷ ts) tag i x (inl h) l e =
-    let P : ℕ → Type 0 = λ m. In x (leaves_in f values m (group_of f)) in
-    In-left x (leaves_in f values t (group_of f)) (leaves_under f values ts) (subst P h (In-slots f values tag (group_of f) i x l e))
-In-under f values (t ∷ ts) tag i x (inr h) l e = In-right x (leaves_in f values t (group_of f)) (leaves_under f values ts) (In-under f values ts tag i x h l e)
+    let P : ℕ → Type 0 = λ m. In x (slot_leaves f values m (group_of f)) in
+    In-left x (slot_leaves f values t (group_of f)) (leaves_under f values ts) (subst P h (In-slots f values tag (group_of f) i x l e))
+In-under f values (t ∷ ts) tag i x (inr h) l e = In-right x (slot_leaves f values t (group_of f)) (leaves_under f values ts) (In-under f values ts tag i x h l e)
 
 -- a list whose members have keys of their own, and its mapping
 In-own : (z : Leaf) (xs : List Leaf) → ((x y : Leaf) → In x xs → In y xs → leaf_key x ≡ leaf_key y → x ≡ y) → In z xs → In z (mapping_of xs)

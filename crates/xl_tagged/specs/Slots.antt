@@ -34,9 +34,9 @@ abbrev pub leaf_read : ℕ → Order → ℕ → ℕ → Option Leaf
 leaf_read space o n word = leaf_said space o n (decode_of word (level_of o))
 
 -- the leaf of 4 KiB of a page that has this word, if there is one
-abbrev pub small_told : ℕ → ℕ → Option ℕ → Option Leaf
-small_told space page None = None
-small_told space page (Some word) = Some (small_leaf space page word)
+abbrev pub small_known : ℕ → ℕ → Option ℕ → Option Leaf
+small_known space page None = None
+small_known space page (Some word) = Some (small_leaf space page word)
 
 -- the leaf of a slot: the tag has the order, the space and, with the slot, the number
 unfoldable pub leaf_in : Form → ℕ → ℕ → ℕ → Option Leaf
@@ -44,14 +44,14 @@ leaf_in f tag i word =
     leaf_read (tag / 2 ^ 45 % 2 ^ 15) (order_at (tag / 2 ^ 60)) (tag % 2 ^ 45 * group_of f + i) word
 
 -- the leaves in the first n slots under a tag
-unfoldable pub leaves_in : Form → (ℕ → List ℕ) → ℕ → ℕ → List Leaf
-leaves_in f values tag zero = []
-leaves_in f values tag (suc n) = with_some (leaf_in f tag n (word_at f values tag n)) (leaves_in f values tag n)
+unfoldable pub slot_leaves : Form → (ℕ → List ℕ) → ℕ → ℕ → List Leaf
+slot_leaves f values tag zero = []
+slot_leaves f values tag (suc n) = with_some (leaf_in f tag n (word_at f values tag n)) (slot_leaves f values tag n)
 
 -- the leaves under all tags
 unfoldable pub leaves_under : Form → (ℕ → List ℕ) → List ℕ → List Leaf
 leaves_under f values [] = []
-leaves_under f values (t ∷ ts) = leaves_in f values t (group_of f) ++ leaves_under f values ts
+leaves_under f values (t ∷ ts) = slot_leaves f values t (group_of f) ++ leaves_under f values ts
 
 -- the mapping of what chains hold
 abbrev pub held_leaves : Form → ChainState → List Leaf
@@ -119,8 +119,8 @@ large_loads f space page c =
     large_by (found_in f space page (values_under c.held) order.M2) (order_loads f space page c order.M2) (order_loads f space page c order.G1)
 
 -- what a walk without caches returns, where it finds this
-abbrev pub bare_walk : Option Leaf → Walk
-bare_walk leaf = record { leaf = leaf; cache_hits = 0 }
+abbrev pub walk_without_tlb : Option Leaf → Walk
+walk_without_tlb leaf = record { leaf = leaf; cache_hits = 0 }
 
 -- chains with n loads more
 abbrev pub loaded_more : ℕ → ChainState → ChainState

@@ -6,7 +6,7 @@ ghost use Rattle.xl_model.specs.Chains.{tag_of as tag_number};
 ghost use Rattle.xl_model.specs.Placing.{no_moves};
 ghost use Rattle.xl_model.specs.Structures.{work_of};
 ghost use Rattle.xl_model.specs.declared.work.NoRoom.TheVariants as why;
-ghost use Rattle.xl_tagged.specs.Slots.{leaf_said as said, leaf_read as read, small_told};
+ghost use Rattle.xl_tagged.specs.Slots.{leaf_said as said, leaf_read as read, small_known};
 ghost use Rattle.xl_model.specs.declared.address.Order.TheVariants as orders;
 ghost use Rattle.xl_tagged.specs.Steps.{given_word};
 
@@ -72,7 +72,7 @@ pub fn leaf_read(space: u16, order: Order, page: u64, word: u64) -> Option<Leaf>
 /// it; None where the word says none.
 #[inline(always)]
 pub fn small_read(_space: u16, _page: u64, word: u64) -> Option<u64>
-    ensures { small_told _space _page result
+    ensures { small_known _space _page result
         ≡ read _space orders.K4 (_page / pages_of orders.K4) word }
 {
     small_word(word)

@@ -2,9 +2,9 @@
 
 ghost use Rattle.std.specs.Prelude.{◌≡◌, ◌<◌, ◌^◌};
 ghost use Rattle.xl_model.specs.declared.address.Order.TheVariants as orders;
-ghost use Rattle.xl_model.specs.Structures.{walk_told};
+ghost use Rattle.xl_model.specs.Structures.{walk_of_quick};
 ghost use Rattle.xl_tagged.specs.Forms.{values_under};
-ghost use Rattle.xl_tagged.specs.Slots.{found_in, first_found, found_from, order_loads, large_loads, bare_walk, NoneLarge, walk_loads, loaded_more, small_told};
+ghost use Rattle.xl_tagged.specs.Slots.{found_in, first_found, found_from, order_loads, large_loads, walk_without_tlb, NoneLarge, walk_loads, loaded_more, small_known};
 
 use crate::place::{leaf_read, small_read};
 use crate::slots::Slots;
@@ -95,7 +95,7 @@ pub fn look_from<S: Slots>(
 fn probe_small<S: Slots>(slots: &mut S, space: u16, page: u64) -> Option<u64>
     requires space_in { space < 64 }
     requires page_in { page < 2 ^ 45 }
-    ensures leaf { small_told space page result ≡
+    ensures leaf { small_known space page result ≡
         found_in S.form space page (values_under (S.state slots.old).held) orders.K4 }
     ensures after { S.state slots.new ≡ loaded_more
         (order_loads S.form space page (S.state slots.old) orders.K4) (S.state slots.old) }
@@ -126,8 +126,8 @@ fn probe_large<S: Slots>(slots: &mut S, space: u16, page: u64) -> Option<Leaf>
 pub fn walk_all<S: Slots>(slots: &mut S, space: u16, page: u64) -> QuickWalk
     requires space_in { space < 64 }
     requires page_in { page < 2 ^ 45 }
-    ensures walk { walk_told space page result ≡
-        bare_walk (first_found S.form space page (values_under (S.state slots.old).held)) }
+    ensures walk { walk_of_quick space page result ≡
+        walk_without_tlb (first_found S.form space page (values_under (S.state slots.old).held)) }
     ensures after { S.state slots.new ≡
         loaded_more (walk_loads S.form space page (S.state slots.old)) (S.state slots.old) }
 {

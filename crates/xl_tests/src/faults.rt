@@ -4,7 +4,7 @@
 use std::alloc::{AllocError, Global};
 use std::process::Abort;
 use std::test::Fail;
-use xl_course::{Status, Stop, tell};
+use xl_course::{Status, Stop, report_end};
 use xl_model::InputFault;
 use xl_outside::{MemFolder, MemSink};
 use xl_rack::Rack;
@@ -163,7 +163,7 @@ fn a_read_that_fails_leaves_the_lines_before_it(rt: HostRuntime) -> Result<(), F
 fn each_put_that_fails_cuts_the_message(rt: HostRuntime) -> Result<(), Fail> {
     let alloc = rt.alloc();
     let bad = InputFault::ScriptLine { line: 1, reason: 1 };
-    for (put, told) in [
+    for (put, known) in [
         (1u64, ""),
         (2, "xlate: scr"),
         (3, "xlate: script line 1"),
@@ -171,8 +171,8 @@ fn each_put_that_fails_cuts_the_message(rt: HostRuntime) -> Result<(), Fail> {
         (5, "xlate: script line 1: reason 1\n"),
     ] {
         let mut err = MemSink::open(alloc, 100, vec![in alloc; put]?, PIECE)?;
-        tell(&mut err, Err(Stop::Input(bad)));
-        assert_eq!(rt; err.bytes(), told.as_bytes());
+        report_end(&mut err, Err(Stop::Input(bad)));
+        assert_eq!(rt; err.bytes(), known.as_bytes());
     }
     Ok(())
 }

@@ -8,7 +8,7 @@ use std::test::Fail;
 use xl_chain::{Seek, seek};
 use xl_hashed::Hashed;
 use xl_model::{Leaf, NoRoom, Order, Perm, Refused, Structure, Work};
-use xl_model_table::PlainTable;
+use xl_model_table::ListTable;
 
 /// Adds a leaf of one page of space 1, None where a leaf overlaps it.
 fn added<S: Structure>(table: &mut S, first: u64) -> Option<Result<Work, Refused>>
@@ -54,7 +54,7 @@ fn loads_of<S: Structure>(table: &mut S, page: u64) -> u64
 fn the_plain_table_reads_up_to_its_leaf_and_refuses_where_it_is_full(
     rt: HostRuntime,
 ) -> Result<(), Fail> {
-    let mut table = PlainTable::open(rt.alloc(), 1, 2)?;
+    let mut table = ListTable::open(rt.alloc(), 1, 2)?;
     assert_eq!(rt; added(&mut table, 30), Some(Ok(Work::none())));
     assert_eq!(rt; added(&mut table, 10), Some(Ok(Work::none())));
     assert_eq!(rt; added(&mut table, 10), None);

@@ -30,22 +30,22 @@ pub use Rattle.xl_model.specs.declared.row.Serves.{Serves}
 pub use Rattle.xl_model.specs.declared.row.TlbSpec.{TlbSpec}
 pub use Rattle.xl_recency.specs.Lists.{items_in}
 pub use Rattle.xl_recency.specs.declared.item.Item.{Item}
-pub use Rattle.xl_tlb.specs.Answers.{IsFirstTold, IsLooked, IsNowhere, IsPageWord, IsSmallWord, IsWord}
+pub use Rattle.xl_tlb.specs.Answers.{IsFirstReplied, IsLooked, IsNowhere, IsPageWord, IsSmallWord, IsWord}
 pub use Rattle.xl_tlb.specs.Any.{array_in}
 pub use Rattle.xl_tlb.specs.Arrays.{covers_anywhere, covers_anywhere_as, is_any, is_in_set, is_of_space, is_same, IsArray, IsFit}
 pub use Rattle.xl_tlb.specs.Coding.{has_block, has_space, has_tag, is_item, leaves_of}
 unfoldable pub use Rattle.xl_tlb.specs.Coding.{leaf_of, tag_of}
 pub use Rattle.xl_tlb.specs.Equal.{is_equal, keeps_leaf}
-pub use Rattle.xl_tlb.specs.Founds.{found_leaf, told_of}
+pub use Rattle.xl_tlb.specs.Founds.{found_leaf, replied_of}
 pub use Rattle.xl_tlb.specs.Fronts.{AllMiss, AreMissed, FirstHit, FirstLeaf, FirstMisses, Front, FrontsStay, HasEights, IsFirstHit, IsFirstLeaf, IsFirstMiss, IsFront, IsFrontHit, IsSecondHit, IsTouch, SecondHit}
 pub use Rattle.xl_tlb.specs.Held.{Counts, IsKnown, IsSmall}
 pub use Rattle.xl_tlb.specs.Hits.{hit_leaf, hit_touched, leaf_hit, word_touched}
 pub use Rattle.xl_tlb.specs.Known.{IsKey, Knows, no_key}
 pub use Rattle.xl_tlb.specs.Paths.{AllServe, IsPath, IsTlb}
-pub use Rattle.xl_tlb.specs.Sought.{IsFill, IsFilled, IsSought, IsTouched}
+pub use Rattle.xl_tlb.specs.Lookup.{IsFill, IsFilled, IsLookup, IsTouched}
 pub use Rattle.xl_tlb.specs.Splits.{alone, AreSplit, AreThree, as_all, AtFetch, AtKind, AtLoad, AtStore, first_for, first_of_kind, IsEither, IsKept, IsPairFill, IsPairLook, IsSplit, IsSplitFill, IsSplitLook, IsSplitWord}
-pub use Rattle.xl_tlb.specs.Tlbs.{bumped_where, fills_told, hits_up_to, IsAlone, IsRising, IsStraight, leaf_told, looked_arrays, looked_by, misses_up_to, NoneBelow, ServesAlone, spec_of, tlb_of, TlbState, Told, told}
+pub use Rattle.xl_tlb.specs.Tlbs.{bumped_where, fills_replied, hits_up_to, IsAlone, IsRising, IsStraight, leaf_replied, looked_arrays, looked_by, misses_up_to, NoneBelow, ServesAlone, spec_of, tlb_of, TlbState, Replied, replied}
 unfoldable pub use Rattle.xl_tlb.specs.Tlbs.{tlb_fenced, tlb_filled, tlb_looked, tlb_opening, tlb_purged}
 pub use Rattle.xl_tlb.specs.declared.coding.Hit.{Hit}
-pub use Rattle.xl_tlb.specs.declared.newest.Newest.{Newest}
-pub use Rattle.xl_tlb.specs.declared.sought.Sought.{Sought}
+pub use Rattle.xl_tlb.specs.declared.newest.MruPages.{MruPages}
+pub use Rattle.xl_tlb.specs.declared.lookup.Lookup.{Lookup}

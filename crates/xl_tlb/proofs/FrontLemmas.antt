@@ -1,6 +1,6 @@
 -- A look that a leaf of the first array answers.
-use Rattle.xl_tlb.proofs.Common.{◌%◌, ◌&&◌, ◌*◌, ◌/◌, ◌<◌, ◌^◌, ◌∙◌, ◌∷◌, ◌≡◌, ◌≤◌, [], Answer, answer_of, ap, arith, array_filled, array_hit, array_touched, Bool, count_by, counted, covers_as, false, filled_below, filled_for, filled_where, fills_array, find, FirstHit, FirstLeaf, found_as, Front, get_or, get_or-set_same, hits_at, hits_up_to, is_some, IsFirstHit, IsFirstLeaf, IsFront, IsFrontHit, IsRising, IsSecondHit, IsTouch, Kind, Leaf, leaf_told, length, List, looked_arrays, looked_by, map, misses_at, misses_up_to, nat_le, nat_lt, nat_tests, None, NoneBelow, not, one_more_where, Option, plus, refl, SecondHit, serves_kind, ServesAlone, set, set-get_or, set_at, set_number, small_leaf, Some, spec_of, subst, suc, sym, take, takes_order, tlb_looked, tlb_of, TlbArray, TlbSpec, Told, told, touched, true, where_taken, with_newest, without_first, word_touched, zero, ℕ}
-use Rattle.xl_tlb.proofs.LevelLemmas.{and_false, first_arrays, first_told as first_one, more_arrays, more_told, not_filled, spec_filled, spec_touched, with_one}
+use Rattle.xl_tlb.proofs.Common.{◌%◌, ◌&&◌, ◌*◌, ◌/◌, ◌<◌, ◌^◌, ◌∙◌, ◌∷◌, ◌≡◌, ◌≤◌, [], Answer, answer_of, ap, arith, array_filled, array_hit, array_touched, Bool, count_by, counted, covers_as, false, filled_below, filled_for, filled_where, fills_array, find, FirstHit, FirstLeaf, found_as, Front, get_or, get_or-set_same, hits_at, hits_up_to, is_some, IsFirstHit, IsFirstLeaf, IsFront, IsFrontHit, IsRising, IsSecondHit, IsTouch, Kind, Leaf, leaf_replied, length, List, looked_arrays, looked_by, map, misses_at, misses_up_to, nat_le, nat_lt, nat_tests, None, NoneBelow, not, one_more_where, Option, plus, refl, SecondHit, serves_kind, ServesAlone, set, set-get_or, set_at, set_number, small_leaf, Some, spec_of, subst, suc, sym, take, takes_order, tlb_looked, tlb_of, TlbArray, TlbSpec, Replied, replied, touched, true, where_taken, with_newest, without_first, word_touched, zero, ℕ}
+use Rattle.xl_tlb.proofs.LevelLemmas.{and_false, first_arrays, first_replied as first_one, more_arrays, more_replied, not_filled, spec_filled, spec_touched, with_one}
 use Rattle.xl_tlb.proofs.TlbLemmas.{answers_all, look_after, serves_all, specs_filled}
 use Rattle.xl_model.specs.declared.address.Order.TheVariants as order
 
@@ -127,8 +127,8 @@ pub first_leaf : (space page word : ℕ) (arrays new : List TlbArray) → IsFirs
 first_leaf space page word _ _ (FirstHit a new rest hit alone) = FirstLeaf a new rest (array_found a space page (small_leaf space page word) hit.found) hit.moved alone
 
 module _ (kind : Kind) (space page : ℕ) (leaf : Leaf) where
-  pub first_told : (arrays new : List TlbArray) → IsFirstLeaf space page leaf arrays new → Some leaf ≡ leaf_told (answer_of kind arrays space page)
-  first_told _ _ (FirstLeaf a new rest found moved alone) = rw (← answers_all kind a space page (Some leaf) alone.0 found) refl
+  pub first_replied : (arrays new : List TlbArray) → IsFirstLeaf space page leaf arrays new → Some leaf ≡ leaf_replied (answer_of kind arrays space page)
+  first_replied _ _ (FirstLeaf a new rest found moved alone) = rw (← answers_all kind a space page (Some leaf) alone.0 found) refl
 
   -- the hit of the first array
   abbrev first_answer : TlbArray → Answer
@@ -154,14 +154,14 @@ module _ (kind : Kind) (space page : ℕ) (leaf : Leaf) where
   unfolding tlb_looked
   first_after _ _ hits misses fills small (FirstLeaf a new rest found moved alone) =
       let x = first_answer a in
-      let told : answer_of kind (a ∷ rest) space page ≡ Some x = rw (← answers_all kind a space page (Some leaf) alone.0 found) refl in
-      let arrays_are : new ∷ rest ≡ looked_arrays kind (Some x) space page (a ∷ rest) = rw told at (first_arrays kind a rest space page leaf new (answers_all kind a space page (Some leaf) alone.0 found) moved) in
+      let replied : answer_of kind (a ∷ rest) space page ≡ Some x = rw (← answers_all kind a space page (Some leaf) alone.0 found) refl in
+      let arrays_are : new ∷ rest ≡ looked_arrays kind (Some x) space page (a ∷ rest) = rw replied at (first_arrays kind a rest space page leaf new (answers_all kind a space page (Some leaf) alone.0 found) moved) in
       let none : count_by (fills_array kind x.level x.leaf) (a ∷ rest) ≡ 0 = rw (not_filled kind a.spec.level leaf a (is_self a.spec.level).1) (no_fills kind x space page rest alone.1) in
       let same : fills ≡ plus fills (count_by (fills_array kind x.level x.leaf) (a ∷ rest)) = rw none (omega arith) in
       let h = first_hits a rest hits found alone in
       let m = first_misses a rest misses found alone in
       let P : Option Answer → Type 0 = λ o. tlb_of (new ∷ rest) (set hits 0 (plus (get_or hits 0 0) 1)) misses fills ≡ looked_by kind o space page (tlb_of (a ∷ rest) hits misses fills) in
-      subst P (sym told)
+      subst P (sym replied)
       (ap (λ (z : List TlbArray). tlb_of z (set hits 0 (plus (get_or hits 0 0) 1)) misses fills) arrays_are
       ∙ ap (λ (z : List ℕ). tlb_of (looked_arrays kind (Some x) space page (a ∷ rest)) z misses fills) h
       ∙ ap (λ (z : List ℕ). tlb_of (looked_arrays kind (Some x) space page (a ∷ rest)) (counted (hits_at kind (Some x) space page) (a ∷ rest) hits) z fills) m
@@ -229,27 +229,27 @@ module _ (kind : Kind) (space page word : ℕ) where
       rw miss (ap (λ (z : List ℕ). plus n 1 ∷ z) (first_misses kind space page (small_leaf space page word) b rest ns found alone))
 
   second_one : (b : TlbArray) (rest : List TlbArray) → Some (small_leaf space page word) ≡ array_hit b space page → ServesAlone b.spec (map spec_of rest)
-      → Some (record { leaf = small_leaf space page word; level = b.spec.level; fills = 0 }) ≡ told kind (answer_of kind (b ∷ rest) space page) (b ∷ rest)
+      → Some (record { leaf = small_leaf space page word; level = b.spec.level; fills = 0 }) ≡ replied kind (answer_of kind (b ∷ rest) space page) (b ∷ rest)
   second_one b rest found alone =
       first_one kind b rest space page (small_leaf space page word) (answers_all kind b space page (Some (small_leaf space page word)) alone.0 found) (none_lower b.spec.level (map spec_of rest) alone.1)
 
   -- the result of such a look
   second_is : (a b : TlbArray) (rest : List TlbArray) → None ≡ array_hit a space page → takes_order a.spec order.K4 ≡ true → ServesAlone a.spec (map spec_of (b ∷ rest))
       → Some (small_leaf space page word) ≡ array_hit b space page → ServesAlone b.spec (map spec_of rest)
-      → Some (record { leaf = small_leaf space page word; level = b.spec.level; fills = 1 }) ≡ told kind (answer_of kind (a ∷ b ∷ rest) space page) (a ∷ b ∷ rest)
+      → Some (record { leaf = small_leaf space page word; level = b.spec.level; fills = 1 }) ≡ replied kind (answer_of kind (a ∷ b ∷ rest) space page) (a ∷ b ∷ rest)
   second_is a b rest missed takes below found alone =
-      let f : Told = record { leaf = small_leaf space page word; level = b.spec.level; fills = 0 } in
+      let f : Replied = record { leaf = small_leaf space page word; level = b.spec.level; fills = 0 } in
       let fills : fills_array kind b.spec.level (small_leaf space page word) a ≡ true = rw (serves_all kind a below.0, (less a.spec.level b.spec.level below.1.0).0, takes) refl in
-      ap (λ (t : Bool). Some (with_one t f)) (sym fills) ∙ more_told kind a (b ∷ rest) space page f (answers_all kind a space page None below.0 missed) (second_one b rest found alone)
+      ap (λ (t : Bool). Some (with_one t f)) (sym fills) ∙ more_replied kind a (b ∷ rest) space page f (answers_all kind a space page None below.0 missed) (second_one b rest found alone)
 
-  pub second_told : (arrays new : List TlbArray) → IsSecondHit space page word arrays new → Some (small_leaf space page word) ≡ leaf_told (answer_of kind arrays space page)
-  second_told _ _ (SecondHit a new rest others missed takes alone hit filled front) =
-      rw (← answers_all kind a space page None alone.0 missed) (first_told kind space page (small_leaf space page word) rest others (first_leaf space page word rest others hit))
+  pub second_replied : (arrays new : List TlbArray) → IsSecondHit space page word arrays new → Some (small_leaf space page word) ≡ leaf_replied (answer_of kind arrays space page)
+  second_replied _ _ (SecondHit a new rest others missed takes alone hit filled front) =
+      rw (← answers_all kind a space page None alone.0 missed) (first_replied kind space page (small_leaf space page word) rest others (first_leaf space page word rest others hit))
 
   pub second_looked : (arrays new : List TlbArray) → IsSecondHit space page word arrays new → new ≡ looked_arrays kind (answer_of kind arrays space page) space page arrays
   second_looked _ _ (SecondHit a new _ _ missed takes alone (FirstHit b bnew rest touch apart) filled front) =
       let found = array_found b space page (small_leaf space page word) touch.found in
-      let f : Told = record { leaf = small_leaf space page word; level = b.spec.level; fills = 0 } in
+      let f : Replied = record { leaf = small_leaf space page word; level = b.spec.level; fills = 0 } in
       let n : new ≡ filled_below kind b.spec.level (small_leaf space page word) a = rw (serves_all kind a alone.0, (less a.spec.level b.spec.level alone.1.0).0) filled in
       more_arrays kind a (b ∷ rest) space page f new (bnew ∷ rest) (answers_all kind a space page None alone.0 missed) (second_one b rest found apart) n
       (first_looked kind space page (small_leaf space page word) (b ∷ rest) (bnew ∷ rest) (first_leaf space page word (b ∷ rest) (bnew ∷ rest) (FirstHit b bnew rest touch apart)))
@@ -268,10 +268,10 @@ module _ (kind : Kind) (space page word : ℕ) where
       let found = array_found b space page (small_leaf space page word) touch.found in
       let x = second_answer b in
       let arrays : List TlbArray = a ∷ b ∷ rest in
-      let told : answer_of kind arrays space page ≡ Some x =
+      let replied : answer_of kind arrays space page ≡ Some x =
       rw (← answers_all kind a space page None alone.0 missed, ← answers_all kind b space page (Some (small_leaf space page word)) apart.0 found) refl in
-      let h = second_hits a b rest hits missed found apart ∙ ap (λ (o : Option Answer). counted (hits_at kind o space page) arrays hits) (sym told) in
-      let m = second_misses a b rest misses missed found apart alone ∙ ap (λ (o : Option Answer). counted (misses_at kind o space page) arrays misses) (sym told) in
+      let h = second_hits a b rest hits missed found apart ∙ ap (λ (o : Option Answer). counted (hits_at kind o space page) arrays hits) (sym replied) in
+      let m = second_misses a b rest misses missed found apart alone ∙ ap (λ (o : Option Answer). counted (misses_at kind o space page) arrays misses) (sym replied) in
       look_after kind arrays (new ∷ bnew ∷ rest) hits misses (set hits 1 (plus (get_or hits 1 0) 1)) (set misses 0 (plus (get_or misses 0 0) 1)) fills space page
       (second_looked (a ∷ b ∷ rest) (new ∷ bnew ∷ rest) (SecondHit a new (b ∷ rest) (bnew ∷ rest) missed takes alone (FirstHit b bnew rest touch apart) filled front)) h m
       (record { leaf = small_leaf space page word; level = b.spec.level; fills = 1 })

@@ -1,5 +1,5 @@
 -- Where all arrays serve all accesses, the kind of an access says nothing.
-use Rattle.xl_tlb.proofs.Common.{◌&&◌, ◌+◌, ◌∙◌, ◌∷◌, ◌≡◌, [], AllServe, Answer, answer_of, answered_by, ap, array_filled, array_hit, arrays_filled, arrays_hit, asked, Bool, cond, count_by, counted, filled_below, filled_for, fills_array, fills_told, hits_at, is_looked, is_some, IsLooked, Kind, Leaf, leaf_told, List, looked_arrays, looked_by, map, misses_at, nat_le, nat_lt, None, not, one_more_where, Option, plus, refl, serves_kind, Some, spec_of, sym, takes_leaf, takes_order, tlb_filled, tlb_looked, tlb_of, TlbArray, TlbState, touched_or, ℕ}
+use Rattle.xl_tlb.proofs.Common.{◌&&◌, ◌+◌, ◌∙◌, ◌∷◌, ◌≡◌, [], AllServe, Answer, answer_of, answered_by, ap, array_filled, array_hit, arrays_filled, arrays_hit, asked, Bool, cond, count_by, counted, filled_below, filled_for, fills_array, fills_replied, hits_at, is_looked, is_some, IsLooked, Kind, Leaf, leaf_replied, List, looked_arrays, looked_by, map, misses_at, nat_le, nat_lt, None, not, one_more_where, Option, plus, refl, serves_kind, Some, spec_of, sym, takes_leaf, takes_order, tlb_filled, tlb_looked, tlb_of, TlbArray, TlbState, touched_or, ℕ}
 use Rattle.xl_tlb.proofs.TlbLemmas.{asked_all, count_first, serves_all}
 use Rattle.xl_model.specs.declared.row.Serves.TheVariants as serves
 
@@ -58,7 +58,7 @@ module _ (k j : Kind) where
     same_arrays None arrays all = refl
     same_arrays (Some x) arrays all = same_hit x arrays all
 
-    same_fills : (o : Option Answer) (arrays : List TlbArray) (n : ℕ) → AllServe (map spec_of arrays) → fills_told k o arrays n ≡ fills_told j o arrays n
+    same_fills : (o : Option Answer) (arrays : List TlbArray) (n : ℕ) → AllServe (map spec_of arrays) → fills_replied k o arrays n ≡ fills_replied j o arrays n
     same_fills None arrays n all = refl
     same_fills (Some x) arrays n all =
         ap (λ (m : ℕ). plus n m) (same_count (fills_array k x.level x.leaf) (fills_array j x.level x.leaf)
@@ -68,7 +68,7 @@ module _ (k j : Kind) where
     same_by o t all =
         let h : List ℕ = counted (hits_at k o space page) t.arrays t.hits in
         let m : List ℕ = counted (misses_at k o space page) t.arrays t.misses in
-        let n : ℕ = fills_told k o t.arrays t.fills in
+        let n : ℕ = fills_replied k o t.arrays t.fills in
         ap (λ (z : List TlbArray). tlb_of z h m n) (same_arrays o t.arrays all)
         ∙ ap (λ (z : List ℕ). tlb_of (looked_arrays j o space page t.arrays) z m n)
         (same_counted (hits_at k o space page) (hits_at j o space page) (λ a e. ap (λ (b : Bool). b && is_some (array_hit a space page)) (same_place o a e)) t.arrays t.hits all)
@@ -84,12 +84,12 @@ module _ (k j : Kind) where
     -- and so is a look
     pub same_look : (word : Option ℕ) (old new : TlbState) → AllServe (map spec_of old.arrays) → IsLooked k space page word old new → IsLooked j space page word old new
     same_look None old new all is = record {
-      found = is.found ∙ ap leaf_told (same_answer old.arrays all);
+      found = is.found ∙ ap leaf_replied (same_answer old.arrays all);
       after = is.after ∙ same_looked old all;
     }
     same_look (Some word) old new all is = record {
       leaf = is.leaf;
-      found = is.found ∙ ap leaf_told (same_answer old.arrays all);
+      found = is.found ∙ ap leaf_replied (same_answer old.arrays all);
       says = is.says;
       after = is.after ∙ same_looked old all;
     }

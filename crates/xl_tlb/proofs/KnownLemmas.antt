@@ -1,5 +1,5 @@
 -- What is known of pages after one was kept or forgotten.
-use Rattle.xl_tlb.proofs.Common.{◌%◌, ◌*◌, ◌+◌, ◌<◌, ◌==◌, ◌∙◌, ◌∷◌, ◌≡◌, ◌≢◌, [], ap, arith, Bool, false, FrontsStay, get_or, get_or-set_other, IsFront, IsKey, IsSought, Knows, length, List, nat_tests, Newest, no_key, refl, set, Sought, subst, suc, tag_of, TlbArray, true, zero, ℕ}
+use Rattle.xl_tlb.proofs.Common.{◌%◌, ◌*◌, ◌+◌, ◌<◌, ◌==◌, ◌∙◌, ◌∷◌, ◌≡◌, ◌≢◌, [], ap, arith, Bool, false, FrontsStay, get_or, get_or-set_other, IsFront, IsKey, IsLookup, Knows, length, List, nat_tests, MruPages, no_key, refl, set, Lookup, subst, suc, tag_of, TlbArray, true, zero, ℕ}
 use Rattle.xl_model.specs.declared.address.Order.TheVariants as order
 
 -- no page has the key of an empty slot
@@ -18,8 +18,8 @@ one_page key space page other of_other one two =
     (omega (arith, a, b, m, n), omega (arith, a, b, m, n))
 
 -- what is sought has the key of its page
-pub sought_key : (s : Sought) → IsSought order.K4 s → IsKey s.tag s.space s.page
-sought_key s is = record { space_in = is.space_in; page_in = is.page_in; is_tag = is.tagged }
+pub lookup_key : (s : Lookup) → IsLookup order.K4 s → IsKey s.tag s.space s.page
+lookup_key s is = record { space_in = is.space_in; page_in = is.page_in; is_tag = is.tagged }
 
 pub all_none : (k : ℕ) → get_or (no_key ∷ no_key ∷ no_key ∷ no_key ∷ no_key ∷ no_key ∷ no_key ∷ no_key ∷ []) k no_key ≡ no_key
 all_none zero = refl
@@ -44,7 +44,7 @@ value_there (x ∷ xs) zero n d l = refl
 value_there (x ∷ xs) (suc k) n d l = value_there xs k n d (omega arith)
 
 -- with the key and the word of a page at its place, that page and those elsewhere are known
-pub kept_one : (n : Newest) (s : Sought) (word : ℕ) (arrays : List TlbArray) → IsSought order.K4 s → length n.keys ≡ 8 → length n.words ≡ 8 → Knows n arrays → IsFront s.space s.page word arrays
+pub kept_one : (n : MruPages) (s : Lookup) (word : ℕ) (arrays : List TlbArray) → IsLookup order.K4 s → length n.keys ≡ 8 → length n.words ≡ 8 → Knows n arrays → IsFront s.space s.page word arrays
     → Knows (record n { keys = set n.keys (s.page % 8) s.tag; words = set n.words (s.page % 8) word }) arrays
 kept_one n s word arrays is keys words known front space page key = go (page % 8 == s.page % 8) refl
   where
@@ -52,7 +52,7 @@ kept_one n s word arrays is keys words known front space page key = go (page % 8
     go true t =
         let e : page % 8 ≡ s.page % 8 = grind (arith, nat_tests) in
         let k : get_or (set n.keys (s.page % 8) s.tag) (page % 8) no_key ≡ s.tag = rw e (value_there n.keys (s.page % 8) s.tag no_key (omega arith)) in
-        let one = one_page s.tag s.space s.page space page (sought_key s is) (subst (λ (z : ℕ). IsKey z space page) k key) in
+        let one = one_page s.tag s.space s.page space page (lookup_key s is) (subst (λ (z : ℕ). IsKey z space page) k key) in
         let w : get_or (set n.words (s.page % 8) word) (page % 8) 0 ≡ word = rw e (value_there n.words (s.page % 8) word 0 (omega arith)) in
         rw (w, ← one.0, ← one.1) front
     go false t =
@@ -62,7 +62,7 @@ kept_one n s word arrays is keys words known front space page key = go (page % 8
         rw w (known space page (subst (λ (z : ℕ). IsKey z space page) k key))
 
 -- without the key at one place, what stays in front elsewhere is known
-pub forgot_one : (n new : Newest) (place : ℕ) (old arrays : List TlbArray) → new.keys ≡ set n.keys place no_key → new.words ≡ n.words → Knows n old → FrontsStay place old arrays → Knows new arrays
+pub forgot_one : (n new : MruPages) (place : ℕ) (old arrays : List TlbArray) → new.keys ≡ set n.keys place no_key → new.words ≡ n.words → Knows n old → FrontsStay place old arrays → Knows new arrays
 forgot_one n new place old arrays keys words known stay space page key = go (page % 8 == place) refl
   where
     go : (b : Bool) → (page % 8 == place) ≡ b → IsFront space page (get_or new.words (page % 8) 0) arrays

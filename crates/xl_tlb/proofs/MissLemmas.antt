@@ -1,5 +1,5 @@
 -- A look that no array answers.
-use Rattle.xl_tlb.proofs.Common.{◌∙◌, ◌∷◌, ◌≡◌, [], AllMiss, Answer, answer_of, ap, AreMissed, arith, array_hit, counted, get_or, hits_at, IsNowhere, Kind, leaf_told, length, List, looked_arrays, misses_at, None, Option, plus, refl, set, sym, tlb_looked, tlb_of, TlbArray, told, true, ℕ}
+use Rattle.xl_tlb.proofs.Common.{◌∙◌, ◌∷◌, ◌≡◌, [], AllMiss, Answer, answer_of, ap, AreMissed, arith, array_hit, counted, get_or, hits_at, IsNowhere, Kind, leaf_replied, length, List, looked_arrays, misses_at, None, Option, plus, refl, set, sym, tlb_looked, tlb_of, TlbArray, replied, true, ℕ}
 use Rattle.xl_tlb.proofs.TlbLemmas.{asked_all, look_missed, serves_all}
 use Rattle.xl_model.specs.declared.row.Serves.TheVariants as serves
 
@@ -8,8 +8,8 @@ module _ (kind : Kind) (space page : ℕ) where
   no_answer [] m = refl
   no_answer (a ∷ rest) m = rw (asked_all kind a space page m.0.0, ← m.0.1) (no_answer rest m.1)
 
-  miss_told : (arrays : List TlbArray) → AllMiss space page arrays → None ≡ leaf_told (answer_of kind arrays space page)
-  miss_told arrays m = ap leaf_told (sym (no_answer arrays m))
+  miss_replied : (arrays : List TlbArray) → AllMiss space page arrays → None ≡ leaf_replied (answer_of kind arrays space page)
+  miss_replied arrays m = ap leaf_replied (sym (no_answer arrays m))
 
   no_hits : (arrays : List TlbArray) (ns : List ℕ) → AllMiss space page arrays → ns ≡ counted (hits_at kind None space page) arrays ns
   no_hits [] ns m = refl
@@ -24,7 +24,7 @@ module _ (kind : Kind) (space page : ℕ) where
       (ap (λ (o : Option Answer). looked_arrays kind o space page arrays) none)
       (no_hits arrays hits m ∙ ap (λ (o : Option Answer). counted (hits_at kind o space page) arrays hits) none)
       (e ∙ ap (λ (o : Option Answer). counted (misses_at kind o space page) arrays misses) none)
-      (ap (λ (o : Option Answer). told kind o arrays) none)
+      (ap (λ (o : Option Answer). replied kind o arrays) none)
 
   one_missed : (a : TlbArray) → (a.spec.serves ≡ serves.All) × (None ≡ array_hit a space page) → misses_at kind None space page a ≡ true
   one_missed a e = rw (serves_all kind a e.0, ← e.1) refl
@@ -47,6 +47,6 @@ module _ (kind : Kind) (space page : ℕ) where
   pub missed_after : (arrays : List TlbArray) (hits misses new : List ℕ) (fills : ℕ) → AreMissed space page arrays → new ≡ counted (misses_at kind None space page) arrays misses
       → IsNowhere kind space page (tlb_of arrays hits misses fills) (tlb_of arrays hits new fills)
   missed_after arrays hits misses new fills m e = record {
-    found = miss_told arrays m.missed;
+    found = miss_replied arrays m.missed;
     after = miss_after arrays hits misses new fills m.missed e;
   }

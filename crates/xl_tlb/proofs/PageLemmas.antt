@@ -2,21 +2,21 @@
 use Rattle.xl_tlb.proofs.Common.{◌%◌, ◌*◌, ◌+◌, ◌-◌, ◌/◌, ◌<◌, ◌^◌, ◌≡◌, arith, IsPageWord, IsSmallWord, IsWord, Kind, leaf_with, Order, pages_of, perm_at, refl, small_leaf, TlbState, ℕ}
 
 -- a permission is four bits, and a frame is above them
-same_perm : (word behind : ℕ) → perm_at ((word + behind * 16) % 2 ^ 64) ≡ perm_at word
+same_perm : (word following : ℕ) → perm_at ((word + following * 16) % 2 ^ 64) ≡ perm_at word
 unfolding perm_at
-same_perm word behind =
-    let n : ℕ = (word + behind * 16) % 2 ^ 64 in
+same_perm word following =
+    let n : ℕ = (word + following * 16) % 2 ^ 64 in
     let one : n % 2 ≡ word % 2 = omega arith in
     let two : n / 2 % 2 ≡ word / 2 % 2 = omega arith in
     let four : n / 4 % 2 ≡ word / 4 % 2 = omega arith in
     let eight : n / 8 % 2 ≡ word / 8 % 2 = omega arith in
     rw (one, two, four, eight) refl
 
-pub page_says : (space page word behind result : ℕ) (o : Order) → behind ≡ page - page / pages_of o * pages_of o → result ≡ (word + behind * 16) % 2 ^ 64
+pub page_says : (space page word following result : ℕ) (o : Order) → following ≡ page - page / pages_of o * pages_of o → result ≡ (word + following * 16) % 2 ^ 64
     → IsPageWord page result (leaf_with space page o word)
-page_says space page word behind result o is e =
-    let there : word / 16 + behind < 2 ^ 60 → (word + behind * 16) % 2 ^ 64 / 16 ≡ word / 16 + behind = λ fits. omega arith in
-    record { frame = rw (e, ← is) there; perm = rw e (same_perm word behind) }
+page_says space page word following result o is e =
+    let there : word / 16 + following < 2 ^ 60 → (word + following * 16) % 2 ^ 64 / 16 ≡ word / 16 + following = λ fits. omega arith in
+    record { frame = rw (e, ← is) there; perm = rw e (same_perm word following) }
 
 -- a leaf of 4 KiB has one page
 pub small_says : (space page word : ℕ) → IsPageWord page word (small_leaf space page word)

@@ -1,8 +1,8 @@
 -- A look in the two of three arrays that serve an access, as a look at all three.
-use Rattle.xl_tlb.proofs.Common.{◌%◌, ◌&&◌, ◌+◌, ◌/◌, ◌<◌, ◌^◌, ◌∙◌, ◌∷◌, ◌≡◌, ◌≤◌, ◌⊎◌, [], alone, Answer, answer_of, ap, AreSplit, AreThree, arith, array_filled, array_hit, array_touched, arrays_filled, arrays_without, as_all, asked, AtFetch, AtKind, AtLoad, AtStore, Bool, cond, count_by, counted, false, filled_below, filled_for, fills_array, first_for, first_of_kind, Front, FrontsStay, get_or, hits_at, inl, inr, is_purged, is_some, IsEither, IsFill, IsFront, IsFrontHit, IsKept, IsNowhere, IsPairFill, IsPairLook, IsRising, IsSplit, IsSplitWord, IsTouch, IsWord, Kind, Knows, Leaf, leaf_told, length, List, looked_arrays, map, misses_at, nat_le, nat_lt, nat_tests, Newest, None, NoneBelow, not, one_more_where, Option, plus, Purge, Reach, reaches_leaf, refl, Serves, serves_as, serves_kind, set, set-get_or, set_number, small_leaf, Some, Sought, spec_of, subst, sym, takes_leaf, takes_order, tlb_fenced, tlb_filled, tlb_looked, tlb_of, tlb_purged, TlbArray, TlbSpec, TlbState, Told, told, true, where_taken, ℕ}
+use Rattle.xl_tlb.proofs.Common.{◌%◌, ◌&&◌, ◌+◌, ◌/◌, ◌<◌, ◌^◌, ◌∙◌, ◌∷◌, ◌≡◌, ◌≤◌, ◌⊎◌, [], alone, Answer, answer_of, ap, AreSplit, AreThree, arith, array_filled, array_hit, array_touched, arrays_filled, arrays_without, as_all, asked, AtFetch, AtKind, AtLoad, AtStore, Bool, cond, count_by, counted, false, filled_below, filled_for, fills_array, first_for, first_of_kind, Front, FrontsStay, get_or, hits_at, inl, inr, is_purged, is_some, IsEither, IsFill, IsFront, IsFrontHit, IsKept, IsNowhere, IsPairFill, IsPairLook, IsRising, IsSplit, IsSplitWord, IsTouch, IsWord, Kind, Knows, Leaf, leaf_replied, length, List, looked_arrays, map, misses_at, nat_le, nat_lt, nat_tests, MruPages, None, NoneBelow, not, one_more_where, Option, plus, Purge, Reach, reaches_leaf, refl, Serves, serves_as, serves_kind, set, set-get_or, set_number, small_leaf, Some, Lookup, spec_of, subst, sym, takes_leaf, takes_order, tlb_fenced, tlb_filled, tlb_looked, tlb_of, tlb_purged, TlbArray, TlbSpec, TlbState, Replied, replied, true, where_taken, ℕ}
 use Rattle.xl_tlb.proofs.FillLemmas.{hit_set}
 use Rattle.xl_tlb.proofs.FrontLemmas.{array_found, hit_front}
-use Rattle.xl_tlb.proofs.LevelLemmas.{and_false, first_arrays, first_told, more_arrays, more_hits, more_misses, more_told, with_one}
+use Rattle.xl_tlb.proofs.LevelLemmas.{and_false, first_arrays, first_replied, more_arrays, more_hits, more_misses, more_replied, with_one}
 use Rattle.xl_tlb.proofs.PageLemmas.{small_says}
 use Rattle.xl_tlb.proofs.StayLemmas.{filled_others, first_stays, OtherSets, touched_others}
 use Rattle.xl_tlb.proofs.TlbLemmas.{count_first, filled_first, look_after, look_missed, specs_filled, specs_looked, specs_without}
@@ -12,18 +12,18 @@ use Rattle.xl_model.specs.declared.row.Serves.TheVariants as serves
 use Rattle.xl_tlb.specs.declared.pair.Seen.TheVariants as seen
 
 -- A look at these arrays tells this, and leaves those with these counts.
-pub record IsLookAt (k : Kind) (space page : ℕ) (f : Option Told) (arrays new : List TlbArray) (hits h misses m : List ℕ) : Type 0 where
-  pub tells : f ≡ told k (answer_of k arrays space page) arrays
+pub record IsLookAt (k : Kind) (space page : ℕ) (f : Option Replied) (arrays new : List TlbArray) (hits h misses m : List ℕ) : Type 0 where
+  pub tells : f ≡ replied k (answer_of k arrays space page) arrays
   pub leaves : new ≡ looked_arrays k (answer_of k arrays space page) space page arrays
   pub hit : h ≡ counted (hits_at k (answer_of k arrays space page) space page) arrays hits
   pub missed : m ≡ counted (misses_at k (answer_of k arrays space page) space page) arrays misses
 
 -- What is told with an array before, which doesn't answer, and what becomes of that.
-abbrev told_past : Kind → TlbArray → Option Told → Option Told
-told_past k a None = None
-told_past k a (Some f) = Some (with_one (fills_array k f.level f.leaf a) f)
+abbrev replied_past : Kind → TlbArray → Option Replied → Option Replied
+replied_past k a None = None
+replied_past k a (Some f) = Some (with_one (fills_array k f.level f.leaf a) f)
 
-abbrev left_past : Kind → TlbArray → Option Told → TlbArray
+abbrev left_past : Kind → TlbArray → Option Replied → TlbArray
 left_past k a None = a
 left_past k a (Some f) = filled_below k f.level f.leaf a
 
@@ -74,37 +74,37 @@ module _ (k : Kind) (space page : ℕ) where
       let m : b ∷ misses ≡ counted (misses_at k (Some x) space page) (a ∷ rest) (b ∷ misses) =
       rw (s, le_self a.spec.level, ← hit) (ap (λ (z : List ℕ). b ∷ z) (none_counted (misses_at k (Some x) space page) rest misses k a.spec.level beyond (λ c t. and_with (serves_kind k c && nat_le c.spec.level a.spec.level) (not (is_some (array_hit c space page))) t))) in
       record {
-        tells = first_told k a rest space page leaf e low;
+        tells = first_replied k a rest space page leaf e low;
         leaves = first_arrays k a rest space page leaf new e moved;
         hit = h ∙ ap (λ (o : Option Answer). counted (hits_at k o space page) (a ∷ rest) (n ∷ hits)) (sym answer);
         missed = m ∙ ap (λ (o : Option Answer). counted (misses_at k o space page) (a ∷ rest) (b ∷ misses)) (sym answer);
       }
 
-  none_answers : (o : Option Answer) (rest : List TlbArray) → None ≡ told k o rest → o ≡ None
+  none_answers : (o : Option Answer) (rest : List TlbArray) → None ≡ replied k o rest → o ≡ None
   none_answers None rest e = refl
   none_answers (Some x) rest e = cc
 
   -- an array before, which doesn't answer
-  look_past : (f : Option Told) (a new : TlbArray) (rest others : List TlbArray) (n : ℕ) (hits h : List ℕ) (b : ℕ) (misses m : List ℕ) → None ≡ asked k a space page → NoneBelow a.spec.level (map spec_of rest)
+  look_past : (f : Option Replied) (a new : TlbArray) (rest others : List TlbArray) (n : ℕ) (hits h : List ℕ) (b : ℕ) (misses m : List ℕ) → None ≡ asked k a space page → NoneBelow a.spec.level (map spec_of rest)
       → new ≡ left_past k a f → IsLookAt k space page f rest others hits h misses m
-      → IsLookAt k space page (told_past k a f) (a ∷ rest) (new ∷ others) (n ∷ hits) (n ∷ h) (b ∷ misses) (one_more_where (serves_kind k a) b ∷ m)
+      → IsLookAt k space page (replied_past k a f) (a ∷ rest) (new ∷ others) (n ∷ hits) (n ∷ h) (b ∷ misses) (one_more_where (serves_kind k a) b ∷ m)
   look_past None a new rest others n hits h b misses m e low is l =
       let none : answer_of k rest space page ≡ None = none_answers (answer_of k rest space page) rest l.tells in
       let same : answer_of k (a ∷ rest) space page ≡ None = rw (← e) none in
       record {
-        tells = ap (λ (o : Option Answer). told k o (a ∷ rest)) (sym same);
+        tells = ap (λ (o : Option Answer). replied k o (a ∷ rest)) (sym same);
         leaves = ap (λ (y : TlbArray). y ∷ others) is ∙ ap (λ (z : List TlbArray). a ∷ z) (l.leaves ∙ ap (λ (o : Option Answer). looked_arrays k o space page rest) none) ∙ ap (λ (o : Option Answer). looked_arrays k o space page (a ∷ rest)) (sym same);
         hit = ap (λ (z : List ℕ). n ∷ z) l.hit ∙ more_hits k a rest space page e low n hits;
         missed = ap (λ (z : List ℕ). one_more_where (serves_kind k a) b ∷ z) l.missed ∙ more_misses k a rest space page e low b misses;
       }
   look_past (Some f) a new rest others n hits h b misses m e low is l = record {
-    tells = more_told k a rest space page f e l.tells;
+    tells = more_replied k a rest space page f e l.tells;
     leaves = more_arrays k a rest space page f new others e l.tells is l.leaves;
     hit = ap (λ (z : List ℕ). n ∷ z) l.hit ∙ more_hits k a rest space page e low n hits;
     missed = ap (λ (z : List ℕ). one_more_where (serves_kind k a) b ∷ z) l.missed ∙ more_misses k a rest space page e low b misses;
   }
 
-  past_same : (a : TlbArray) (f : Option Told) → serves_kind k a ≡ false → (told_past k a f ≡ f) × (left_past k a f ≡ a)
+  past_same : (a : TlbArray) (f : Option Replied) → serves_kind k a ≡ false → (replied_past k a f ≡ f) × (left_past k a f ≡ a)
   past_same a None s = (refl, refl)
   past_same a (Some f) s =
       let e : fills_array k f.level f.leaf a ≡ false = and_with (serves_kind k a) (nat_lt a.spec.level f.level && takes_order a.spec f.leaf.order) s in
@@ -112,7 +112,7 @@ module _ (k : Kind) (space page : ℕ) where
       (ap (λ (b : Bool). Some (with_one b f)) e, ap (λ (b : Bool). cond b (array_filled f.leaf a) a) g)
 
   -- an array before, which doesn't serve the access
-  look_passed : (f : Option Told) (a : TlbArray) (rest others : List TlbArray) (n : ℕ) (hits h : List ℕ) (b : ℕ) (misses m : List ℕ) → serves_kind k a ≡ false → NoneBelow a.spec.level (map spec_of rest)
+  look_passed : (f : Option Replied) (a : TlbArray) (rest others : List TlbArray) (n : ℕ) (hits h : List ℕ) (b : ℕ) (misses m : List ℕ) → serves_kind k a ≡ false → NoneBelow a.spec.level (map spec_of rest)
       → IsLookAt k space page f rest others hits h misses m → IsLookAt k space page f (a ∷ rest) (a ∷ others) (n ∷ hits) (n ∷ h) (b ∷ misses) (b ∷ m)
   look_passed f a rest others n hits h b misses m s low l =
       let same = past_same a f s in
@@ -121,25 +121,25 @@ module _ (k : Kind) (space page : ℕ) where
       rw (same.0, one) at past
 
   -- an array before, which misses
-  look_behind : (f : Option Told) (a new : TlbArray) (rest others : List TlbArray) (n : ℕ) (hits h : List ℕ) (b : ℕ) (misses m : List ℕ) → serves_kind k a ≡ true → None ≡ array_hit a space page → NoneBelow a.spec.level (map spec_of rest)
+  look_next : (f : Option Replied) (a new : TlbArray) (rest others : List TlbArray) (n : ℕ) (hits h : List ℕ) (b : ℕ) (misses m : List ℕ) → serves_kind k a ≡ true → None ≡ array_hit a space page → NoneBelow a.spec.level (map spec_of rest)
       → new ≡ left_past k a f → IsLookAt k space page f rest others hits h misses m
-      → IsLookAt k space page (told_past k a f) (a ∷ rest) (new ∷ others) (n ∷ hits) (n ∷ h) (b ∷ misses) (plus b 1 ∷ m)
-  look_behind f a new rest others n hits h b misses m s missed low is l =
+      → IsLookAt k space page (replied_past k a f) (a ∷ rest) (new ∷ others) (n ∷ hits) (n ∷ h) (b ∷ misses) (plus b 1 ∷ m)
+  look_next f a new rest others n hits h b misses m s missed low is l =
       let past = look_past f a new rest others n hits h b misses m (served_asked k a space page None s missed) low is l in
       let one : one_more_where (serves_kind k a) b ≡ plus b 1 = ap (λ (x : Bool). one_more_where x b) s in
       rw one at past
 
   -- and is filled with the leaf of 4 KiB that is found
-  filled_told : (a : TlbArray) (level word : ℕ) → serves_kind k a ≡ true → a.spec.level < level → takes_order a.spec order.K4 ≡ true
-      → (told_past k a (Some (record { leaf = small_leaf space page word; level = level; fills = 0 })) ≡ Some (record { leaf = small_leaf space page word; level = level; fills = 1 }))
+  filled_replied : (a : TlbArray) (level word : ℕ) → serves_kind k a ≡ true → a.spec.level < level → takes_order a.spec order.K4 ≡ true
+      → (replied_past k a (Some (record { leaf = small_leaf space page word; level = level; fills = 0 })) ≡ Some (record { leaf = small_leaf space page word; level = level; fills = 1 }))
       × (left_past k a (Some (record { leaf = small_leaf space page word; level = level; fills = 0 })) ≡ array_filled (small_leaf space page word) a)
-  filled_told a level word s l takes =
+  filled_replied a level word s l takes =
       let less : nat_lt a.spec.level level ≡ true = grind (arith, nat_tests) in
       (rw (s, less, takes) refl, rw (s, less) refl)
 
 -- The leaf of 4 KiB with this word is found, and what is counted of it.
 pub record IsSeen (k : Kind) (space page word fills n : ℕ) (arrays new : List TlbArray) (hits h misses m : List ℕ) : Type 0 where
-  pub found : Told
+  pub found : Replied
   pub leaf : found.leaf ≡ small_leaf space page word
   pub look : IsLookAt k space page (Some found) arrays new hits h misses m
   pub filled : n ≡ plus fills found.fills
@@ -228,27 +228,27 @@ module _ (space page : ℕ) (f d s : TlbArray) (is : AreThree f.spec d.spec s.sp
         → IsSeen kind.Fetch space page word fills (plus fills 1) (f ∷ d ∷ s ∷ []) (new ∷ d ∷ after ∷ []) (h0 ∷ h1 ∷ h2 ∷ hs) (h0 ∷ h1 ∷ plus h2 1 ∷ hs) (m0 ∷ m1 ∷ m2 ∷ ms) (plus m0 1 ∷ m1 ∷ m2 ∷ ms)
     fetch_second new after missed t e =
         let k = kind.Fetch in
-        let x : Told = record { leaf = small_leaf space page word; level = s.spec.level; fills = 0 } in
-        let g = filled_told k space page f s.spec.level word fetch_serves.0 is.one.below is.one.pair.takes in
+        let x : Replied = record { leaf = small_leaf space page word; level = s.spec.level; fills = 0 } in
+        let g = filled_replied k space page f s.spec.level word fetch_serves.0 is.one.below is.one.pair.takes in
         let last = look_hit k space page (small_leaf space page word) s after [] h2 hs m2 ms (all_serve k) (array_found s space page (small_leaf space page word) t.found) t.moved tt tt in
         let mid = look_passed k space page (Some x) d (s ∷ []) (after ∷ []) h1 (h2 ∷ hs) (plus h2 1 ∷ hs) m1 (m2 ∷ ms) (m2 ∷ ms) fetch_serves.1 rising.1.0 last in
-        let all = look_behind k space page (Some x) f new (d ∷ s ∷ []) (d ∷ after ∷ []) h0 (h1 ∷ h2 ∷ hs) (h1 ∷ plus h2 1 ∷ hs) m0 (m1 ∷ m2 ∷ ms) (m1 ∷ m2 ∷ ms) fetch_serves.0 missed rising.0 (e ∙ sym g.1) mid in
+        let all = look_next k space page (Some x) f new (d ∷ s ∷ []) (d ∷ after ∷ []) h0 (h1 ∷ h2 ∷ hs) (h1 ∷ plus h2 1 ∷ hs) m0 (m1 ∷ m2 ∷ ms) (m1 ∷ m2 ∷ ms) fetch_serves.0 missed rising.0 (e ∙ sym g.1) mid in
         record { found = record { leaf = small_leaf space page word; level = s.spec.level; fills = 1 }; leaf = refl; look = rw g.0 at all; filled = refl }
 
     fetch_nowhere : None ≡ array_hit f space page → None ≡ array_hit s space page
         → IsLookAt kind.Fetch space page None (f ∷ d ∷ s ∷ []) (f ∷ d ∷ s ∷ []) (h0 ∷ h1 ∷ h2 ∷ hs) (h0 ∷ h1 ∷ h2 ∷ hs) (m0 ∷ m1 ∷ m2 ∷ ms) (plus m0 1 ∷ m1 ∷ plus m2 1 ∷ ms)
     fetch_nowhere missed none =
         let k = kind.Fetch in
-        let last = look_behind k space page None s s [] [] h2 hs hs m2 ms ms (all_serve k) none tt refl (look_none k space page hs ms) in
+        let last = look_next k space page None s s [] [] h2 hs hs m2 ms ms (all_serve k) none tt refl (look_none k space page hs ms) in
         let mid = look_passed k space page None d (s ∷ []) (s ∷ []) h1 (h2 ∷ hs) (h2 ∷ hs) m1 (m2 ∷ ms) (plus m2 1 ∷ ms) fetch_serves.1 rising.1.0 last in
-        look_behind k space page None f f (d ∷ s ∷ []) (d ∷ s ∷ []) h0 (h1 ∷ h2 ∷ hs) (h1 ∷ h2 ∷ hs) m0 (m1 ∷ m2 ∷ ms) (m1 ∷ plus m2 1 ∷ ms) fetch_serves.0 missed rising.0 refl mid
+        look_next k space page None f f (d ∷ s ∷ []) (d ∷ s ∷ []) h0 (h1 ∷ h2 ∷ hs) (h1 ∷ h2 ∷ hs) m0 (m1 ∷ m2 ∷ ms) (m1 ∷ plus m2 1 ∷ ms) fetch_serves.0 missed rising.0 refl mid
 
     -- for data
     module _ (k : Kind) (passed : serves_kind k f ≡ false) (served : serves_kind k d ≡ true) where
       data_first : (new : TlbArray) → IsTouch space page word d new → fills < 2 ^ 64
           → IsSeen k space page word fills fills (f ∷ d ∷ s ∷ []) (f ∷ new ∷ s ∷ []) (h0 ∷ h1 ∷ h2 ∷ hs) (h0 ∷ plus h1 1 ∷ h2 ∷ hs) (m0 ∷ m1 ∷ m2 ∷ ms) (m0 ∷ m1 ∷ m2 ∷ ms)
       data_first new t small =
-          let x : Told = record { leaf = small_leaf space page word; level = d.spec.level; fills = 0 } in
+          let x : Replied = record { leaf = small_leaf space page word; level = d.spec.level; fills = 0 } in
           let mid = look_hit k space page (small_leaf space page word) d new (s ∷ []) h1 (h2 ∷ hs) m1 (m2 ∷ ms) served (array_found d space page (small_leaf space page word) t.found) t.moved rising.1.0
           (above_beyond k d.spec.level s is.other.below, tt) in
           record {
@@ -261,11 +261,11 @@ module _ (space page : ℕ) (f d s : TlbArray) (is : AreThree f.spec d.spec s.sp
       data_second : (new after : TlbArray) → None ≡ array_hit d space page → IsTouch space page word s after → new ≡ array_filled (small_leaf space page word) d
           → IsSeen k space page word fills (plus fills 1) (f ∷ d ∷ s ∷ []) (f ∷ new ∷ after ∷ []) (h0 ∷ h1 ∷ h2 ∷ hs) (h0 ∷ h1 ∷ plus h2 1 ∷ hs) (m0 ∷ m1 ∷ m2 ∷ ms) (m0 ∷ plus m1 1 ∷ m2 ∷ ms)
       data_second new after missed t e =
-          let x : Told = record { leaf = small_leaf space page word; level = s.spec.level; fills = 0 } in
-          let y : Told = record { leaf = small_leaf space page word; level = s.spec.level; fills = 1 } in
-          let g = filled_told k space page d s.spec.level word served is.other.below is.other.pair.takes in
+          let x : Replied = record { leaf = small_leaf space page word; level = s.spec.level; fills = 0 } in
+          let y : Replied = record { leaf = small_leaf space page word; level = s.spec.level; fills = 1 } in
+          let g = filled_replied k space page d s.spec.level word served is.other.below is.other.pair.takes in
           let last = look_hit k space page (small_leaf space page word) s after [] h2 hs m2 ms (all_serve k) (array_found s space page (small_leaf space page word) t.found) t.moved tt tt in
-          let mid = look_behind k space page (Some x) d new (s ∷ []) (after ∷ []) h1 (h2 ∷ hs) (plus h2 1 ∷ hs) m1 (m2 ∷ ms) (m2 ∷ ms) served missed rising.1.0 (e ∙ sym g.1) last in
+          let mid = look_next k space page (Some x) d new (s ∷ []) (after ∷ []) h1 (h2 ∷ hs) (plus h2 1 ∷ hs) m1 (m2 ∷ ms) (m2 ∷ ms) served missed rising.1.0 (e ∙ sym g.1) last in
           record {
             found = y;
             leaf = refl;
@@ -276,8 +276,8 @@ module _ (space page : ℕ) (f d s : TlbArray) (is : AreThree f.spec d.spec s.sp
       data_nowhere : None ≡ array_hit d space page → None ≡ array_hit s space page
           → IsLookAt k space page None (f ∷ d ∷ s ∷ []) (f ∷ d ∷ s ∷ []) (h0 ∷ h1 ∷ h2 ∷ hs) (h0 ∷ h1 ∷ h2 ∷ hs) (m0 ∷ m1 ∷ m2 ∷ ms) (m0 ∷ plus m1 1 ∷ plus m2 1 ∷ ms)
       data_nowhere missed none =
-          let last = look_behind k space page None s s [] [] h2 hs hs m2 ms ms (all_serve k) none tt refl (look_none k space page hs ms) in
-          let mid = look_behind k space page None d d (s ∷ []) (s ∷ []) h1 (h2 ∷ hs) (h2 ∷ hs) m1 (m2 ∷ ms) (plus m2 1 ∷ ms) served missed rising.1.0 refl last in
+          let last = look_next k space page None s s [] [] h2 hs hs m2 ms ms (all_serve k) none tt refl (look_none k space page hs ms) in
+          let mid = look_next k space page None d d (s ∷ []) (s ∷ []) h1 (h2 ∷ hs) (h2 ∷ hs) m1 (m2 ∷ ms) (plus m2 1 ∷ ms) served missed rising.1.0 refl last in
           look_passed k space page None f (d ∷ s ∷ []) (d ∷ s ∷ []) h0 (h1 ∷ h2 ∷ hs) (h1 ∷ h2 ∷ hs) m0 (m1 ∷ m2 ∷ ms) (plus m1 1 ∷ plus m2 1 ∷ ms) passed rising.0 mid
 
 -- The same for the arrays as they are, and what is known of those in front.
@@ -340,7 +340,7 @@ module _ (space page word : ℕ) (hits misses : List ℕ) (fills : ℕ) (few : 3
       rw (is.1.0, is.1.1, a.4, b.4) (data_nowhere space page f d s split rising a.0 a.1 a.2 a.3 b.0 b.1 b.2 b.3 fills word kind.Store passed served is.0.0 is.0.1)
 
 -- a fill of the two arrays of a kind
-filled_past : (k : Kind) (s : Sought) (word fills : ℕ) (a : TlbArray) (rest others : List TlbArray) → serves_kind k a ≡ false → IsFill k s word fills rest others → IsFill k s word fills (a ∷ rest) (a ∷ others)
+filled_past : (k : Kind) (s : Lookup) (word fills : ℕ) (a : TlbArray) (rest others : List TlbArray) → serves_kind k a ≡ false → IsFill k s word fills rest others → IsFill k s word fills (a ∷ rest) (a ∷ others)
 filled_past k s word fills a rest others passed f =
     let leaf : Leaf = small_leaf s.space s.page word in
     let none : takes_leaf k leaf a ≡ false = and_with (serves_kind k a) (takes_order a.spec leaf.order) passed in
@@ -348,7 +348,7 @@ filled_past k s word fills a rest others passed f =
     let same : filled_for k leaf a ≡ a = ap (λ (b : Bool). cond b (array_filled leaf a) a) passed in
     record { count = omega (arith, more, f.count); filled = ap (λ (z : List TlbArray). a ∷ z) f.filled ∙ ap (λ (y : TlbArray). y ∷ map (filled_for k leaf) rest) (sym same) }
 
-module _ (q : Sought) (word : ℕ) where
+module _ (q : Lookup) (word : ℕ) where
   last_filled : (k : Kind) (s after : TlbArray) → serves_kind k s ≡ true → takes_order s.spec order.K4 ≡ true → after ≡ array_filled (small_leaf q.space q.page word) s → IsFill k q word 1 (s ∷ []) (after ∷ [])
   last_filled k s after served takes e = filled_first k q word 0 s after [] [] served takes e (record { count = refl; filled = refl })
 
@@ -381,21 +381,21 @@ module _ (q : Sought) (word : ℕ) where
       (data_filled k f d s new after passed served split all is, data_kept q.space q.page word f d s new after k refl is.front split.other.eights (fill_others q.space q.page word d new is.first))
 
 -- what a look at arrays with counts leaves of their state
-pub leaf_of_told : (k : Kind) (o : Option Answer) (arrays : List TlbArray) (f : Told) → Some f ≡ told k o arrays → Some f.leaf ≡ leaf_told o
-leaf_of_told k None arrays f e = cc
-leaf_of_told k (Some x) arrays f e = cc
+pub leaf_of_replied : (k : Kind) (o : Option Answer) (arrays : List TlbArray) (f : Replied) → Some f ≡ replied k o arrays → Some f.leaf ≡ leaf_replied o
+leaf_of_replied k None arrays f e = cc
+leaf_of_replied k (Some x) arrays f e = cc
 
 pub seen_word : (k : Kind) (space page word fills n : ℕ) (arrays new : List TlbArray) (hits h misses m : List ℕ) → IsSeen k space page word fills n arrays new hits h misses m → IsKept k space page word arrays new
     → IsSplitWord k space page word (tlb_of arrays hits misses fills) (tlb_of new h m n)
 seen_word k space page word fills n arrays new hits h misses m is kept = record {
-  found = ap (λ (x : Leaf). Some x) (sym is.leaf) ∙ leaf_of_told k (answer_of k arrays space page) arrays is.found is.look.tells;
+  found = ap (λ (x : Leaf). Some x) (sym is.leaf) ∙ leaf_of_replied k (answer_of k arrays space page) arrays is.found is.look.tells;
   after = ap (λ (x : ℕ). tlb_of new h m x) is.filled ∙ look_after k arrays new hits misses h m fills space page is.look.leaves is.look.hit is.look.missed is.found is.look.tells;
   kept = kept;
 }
 
 pub seen_none : (k : Kind) (space page fills : ℕ) (arrays new : List TlbArray) (hits h misses m : List ℕ) → IsLookAt k space page None arrays new hits h misses m → IsNowhere k space page (tlb_of arrays hits misses fills) (tlb_of new h m fills)
 seen_none k space page fills arrays new hits h misses m l = record {
-  found = ap leaf_told (sym (none_answers k space page (answer_of k arrays space page) arrays l.tells));
+  found = ap leaf_replied (sym (none_answers k space page (answer_of k arrays space page) arrays l.tells));
   after = look_missed k arrays new hits misses h m fills space page l.leaves l.hit l.missed l.tells;
 }
 
@@ -422,22 +422,22 @@ pub word_seen : (k : Kind) (space page word : ℕ) (old new : TlbState) → IsSp
 word_seen k space page word old new is = record { leaf = small_leaf space page word; found = is.found; says = small_says space page word; after = is.after }
 
 -- what is always so of arrays that are split stays so
-module _ (of_fetches of_data : Newest) (old new : TlbState) (is : IsSplit of_fetches of_data old) (specs : map spec_of new.arrays ≡ map spec_of old.arrays) where
-  pub fetch_known : (space page word : ℕ) (known : Newest) → IsKept kind.Fetch space page word old.arrays new.arrays → Knows known (first_for kind.Fetch new.arrays) → IsSplit known of_data new
+module _ (of_fetches of_data : MruPages) (old new : TlbState) (is : IsSplit of_fetches of_data old) (specs : map spec_of new.arrays ≡ map spec_of old.arrays) where
+  pub fetch_known : (space page word : ℕ) (known : MruPages) → IsKept kind.Fetch space page word old.arrays new.arrays → Knows known (first_for kind.Fetch new.arrays) → IsSplit known of_data new
   fetch_known space page word known kept knows = record {
     split = rw specs is.split;
     fetches = knows;
     loads = rw (kept.others kind.Load (λ e. absurd (omega (arith, e)))) is.loads;
   }
 
-  pub data_known : (k : Kind) (space page word : ℕ) (known : Newest) → first_of_kind k ≡ 1 → IsKept k space page word old.arrays new.arrays → Knows known (first_for k new.arrays) → IsSplit of_fetches known new
+  pub data_known : (k : Kind) (space page word : ℕ) (known : MruPages) → first_of_kind k ≡ 1 → IsKept k space page word old.arrays new.arrays → Knows known (first_for k new.arrays) → IsSplit of_fetches known new
   data_known k space page word known one kept knows = record {
     split = rw specs is.split;
     fetches = rw (kept.others kind.Fetch (λ e. absurd (omega (arith, e, one)))) is.fetches;
     loads = rw one at knows;
   }
 
-  pub all_known : (fetches loads : Newest) → ((arrays : List TlbArray) → Knows fetches arrays) → ((arrays : List TlbArray) → Knows loads arrays) → IsSplit fetches loads new
+  pub all_known : (fetches loads : MruPages) → ((arrays : List TlbArray) → Knows fetches arrays) → ((arrays : List TlbArray) → Knows loads arrays) → IsSplit fetches loads new
   all_known fetches loads one other = record { split = rw specs is.split; fetches = one (first_for kind.Fetch new.arrays); loads = other (first_for kind.Load new.arrays) }
 
   pub same_known : new.arrays ≡ old.arrays → IsSplit of_fetches of_data new

@@ -1,5 +1,5 @@
 -- Leaves in front that stay there where one set of the first array changes.
-use Rattle.xl_tlb.proofs.Common.{◌%◌, ◌&&◌, ◌*◌, ◌/◌, ◌∙◌, ◌∷◌, ◌≡◌, ◌≢◌, [], Answer, answer_of, ap, arith, array_filled, array_touched, arrays_filled, arrays_hit, asked, Bool, cond, covers_as, false, filled_below, filled_for, filled_where, find, Front, FrontsStay, get_or, get_or-set_other, HasEights, IsFront, IsFrontHit, Kind, Leaf, leaf_told, leaf_with, List, looked_arrays, map, mod-mod_of_dvd, nat_lt, None, Option, Order, pages_of, refl, serves_kind, ServesAlone, set_at, set_number, small_leaf, Some, spec_of, subst, sym, takes_order, tlb_filled, tlb_looked, TlbArray, TlbSpec, TlbState, touched, true, where_taken, with_set, ℕ}
+use Rattle.xl_tlb.proofs.Common.{◌%◌, ◌&&◌, ◌*◌, ◌/◌, ◌∙◌, ◌∷◌, ◌≡◌, ◌≢◌, [], Answer, answer_of, ap, arith, array_filled, array_touched, arrays_filled, arrays_hit, asked, Bool, cond, covers_as, false, filled_below, filled_for, filled_where, find, Front, FrontsStay, get_or, get_or-set_other, HasEights, IsFront, IsFrontHit, Kind, Leaf, leaf_replied, leaf_with, List, looked_arrays, map, mod-mod_of_dvd, nat_lt, None, Option, Order, pages_of, refl, serves_kind, ServesAlone, set_at, set_number, small_leaf, Some, spec_of, subst, sym, takes_order, tlb_filled, tlb_looked, TlbArray, TlbSpec, TlbState, touched, true, where_taken, with_set, ℕ}
 use Rattle.std.proofs.lemmas.Nat.Gcd.{dvd_of_mod-eq-zero}
 use Rattle.xl_tlb.proofs.FillLemmas.{hit_set}
 use Rattle.xl_tlb.proofs.TlbLemmas.{specs_filled, specs_hit}
@@ -70,7 +70,7 @@ first_stays x a b rest others eights o specs space page word d front =
 
 -- a look changes one set of the first array
 module _ (kind : Kind) (space page word : ℕ) (o : Order) where
-  looked_stays : (arrays : List TlbArray) → Some (leaf_with space page o word) ≡ leaf_told (answer_of kind arrays space page) → HasEights arrays
+  looked_stays : (arrays : List TlbArray) → Some (leaf_with space page o word) ≡ leaf_replied (answer_of kind arrays space page) → HasEights arrays
       → FrontsStay (page / pages_of o % 8) arrays (looked_arrays kind (answer_of kind arrays space page) space page arrays)
   unfolding arrays_hit
   looked_stays [] e eights = cc
@@ -103,18 +103,18 @@ module _ (kind : Kind) (space page word : ℕ) (o : Order) where
           subst (FrontsStay (page / pages_of o % 8) (a ∷ rest)) (sym are)
           (first_stays (page / pages_of o) a (array_touched space page leaf a) rest rest eights others refl)
 
-  pub look_stays : (t : TlbState) → Some (leaf_with space page o word) ≡ leaf_told (answer_of kind t.arrays space page) → HasEights t.arrays
+  pub look_stays : (t : TlbState) → Some (leaf_with space page o word) ≡ leaf_replied (answer_of kind t.arrays space page) → HasEights t.arrays
       → FrontsStay (page / pages_of o % 8) t.arrays (tlb_looked kind space page t).arrays
   unfolding tlb_looked
   look_stays t e eights = looked_stays t.arrays e eights
 
-pub small_stays : (kind : Kind) (space page word : ℕ) (t : TlbState) → Some (small_leaf space page word) ≡ leaf_told (answer_of kind t.arrays space page) → HasEights t.arrays
+pub small_stays : (kind : Kind) (space page word : ℕ) (t : TlbState) → Some (small_leaf space page word) ≡ leaf_replied (answer_of kind t.arrays space page) → HasEights t.arrays
     → FrontsStay (page % 8) t.arrays (tlb_looked kind space page t).arrays
 small_stays kind space page word t e eights =
     let one : page / 1 ≡ page = omega arith in
     subst (λ (n : ℕ). FrontsStay (n % 8) t.arrays (tlb_looked kind space page t).arrays) one (look_stays kind space page word order.K4 t e eights)
 
-pub look_none : (kind : Kind) (space page : ℕ) (t : TlbState) → None ≡ leaf_told (answer_of kind t.arrays space page) → (tlb_looked kind space page t).arrays ≡ t.arrays
+pub look_none : (kind : Kind) (space page : ℕ) (t : TlbState) → None ≡ leaf_replied (answer_of kind t.arrays space page) → (tlb_looked kind space page t).arrays ≡ t.arrays
 unfolding tlb_looked
 look_none kind space page t e = go (answer_of kind t.arrays space page) refl
   where

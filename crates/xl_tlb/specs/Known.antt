@@ -4,7 +4,7 @@ use Rattle.xl_model.specs.Tlb.{TlbArray}
 use Rattle.xl_model.specs.declared.address.Order.TheVariants as order
 use Rattle.xl_tlb.specs.Coding.{tag_of}
 use Rattle.xl_tlb.specs.Fronts.{IsFront}
-use Rattle.xl_tlb.specs.declared.newest.Newest.{Newest}
+use Rattle.xl_tlb.specs.declared.newest.MruPages.{MruPages}
 
 -- Empty slot; no tag has this value.
 abbrev pub no_key : ℕ
@@ -18,5 +18,5 @@ pub record IsKey (key space page : ℕ) : Type 0 where
 
 -- A page's slot is its last three bits. Each page whose key is there hits the leaf with the word
 -- beside the key, and that is the newest of its set.
-abbrev pub Knows : Newest → List TlbArray → Type 0
+abbrev pub Knows : MruPages → List TlbArray → Type 0
 Knows n arrays = (space page : ℕ) → IsKey (slice_index_or n.keys (page % 8) no_key) space page → IsFront space page (slice_index_or n.words (page % 8) 0) arrays

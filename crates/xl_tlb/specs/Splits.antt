@@ -11,12 +11,12 @@ use Rattle.xl_tlb.specs.declared.levels.Answered.{Answered}
 use Rattle.xl_tlb.specs.declared.levels.Answered.TheVariants as answered
 use Rattle.xl_tlb.specs.declared.pair.Seen.{Seen}
 use Rattle.xl_tlb.specs.declared.pair.Seen.TheVariants as seen
-use Rattle.xl_tlb.specs.declared.newest.Newest.{Newest}
+use Rattle.xl_tlb.specs.declared.newest.MruPages.{MruPages}
 use Rattle.xl_tlb.specs.Answers.{IsNowhere}
 use Rattle.xl_tlb.specs.Arrays.{IsCommon}
 use Rattle.xl_tlb.specs.Fronts.{FrontsStay, IsFront, IsFrontHit, IsTouch}
 use Rattle.xl_tlb.specs.Known.{Knows}
-use Rattle.xl_tlb.specs.Tlbs.{TlbState, spec_of, leaf_told, tlb_filled, tlb_looked}
+use Rattle.xl_tlb.specs.Tlbs.{TlbState, spec_of, leaf_replied, tlb_filled, tlb_looked}
 
 -- One of two arrays that are looked at together: it takes leaves of 4 KiB, and is a common one.
 pub record IsOfPair (s : TlbSpec) : Type 0 where
@@ -106,7 +106,7 @@ pub record IsKept (k : Kind) (space page word : ℕ) (old new : List TlbArray) :
 
 -- A leaf of 4 KiB with this word answers an access of this kind, and is kept.
 pub record IsSplitWord (k : Kind) (space page word : ℕ) (old new : TlbState) : Type 0 where
-  pub found : Some (small_leaf space page word) ≡ leaf_told (answer_of k old.arrays space page)
+  pub found : Some (small_leaf space page word) ≡ leaf_replied (answer_of k old.arrays space page)
   pub after : new ≡ tlb_looked k space page old
   pub kept : IsKept k space page word old.arrays new.arrays
 
@@ -122,7 +122,7 @@ pub record IsSplitFilled (k : Kind) (space page word : ℕ) (old new : TlbState)
   pub kept : IsKept k space page word old.arrays new.arrays
 
 -- What is always so: the arrays are split, and of each first array it is known which leaves are in front.
-pub record IsSplit (of_fetches of_data : Newest) (t : TlbState) : Type 0 where
+pub record IsSplit (of_fetches of_data : MruPages) (t : TlbState) : Type 0 where
   pub split : AreSplit (map spec_of t.arrays)
   pub fetches : Knows of_fetches (first_for kind.Fetch t.arrays)
   pub loads : Knows of_data (first_for kind.Load t.arrays)

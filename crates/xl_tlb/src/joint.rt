@@ -7,11 +7,11 @@
 ghost use Rattle.std.specs.Prelude.{◌≡◌, ◌==◌, ◌<◌, ◌≤◌, ◌^◌, ◌+◌, ℕ, true, length, map, slice_index_or, Some, IfOk, IfSome, IfNone};
 ghost use Rattle.xl_model.specs.declared.address.Kind.{Kind as KindOf};
 ghost use Rattle.xl_model.specs.declared.leaf.Leaf.{Leaf};
-ghost use Rattle.xl_model.specs.Tlb.{leaves_in};
+ghost use Rattle.xl_model.specs.Tlb.{leaf_count};
 ghost use Rattle.xl_tlb.specs.Arrays.{IsFit, InLimits};
 ghost use Rattle.xl_model.specs.LeafWords.{small_leaf};
 ghost use Rattle.xl_model.specs.declared.address.Order.TheVariants as order_of;
-ghost use Rattle.xl_tlb.specs.Sought.{IsSought};
+ghost use Rattle.xl_tlb.specs.Lookup.{IsLookup};
 ghost use Rattle.xl_tlb.specs.Answers.{IsLooked, IsNowhere, IsWord};
 ghost use Rattle.xl_tlb.specs.Fronts.{FirstMisses, IsFirstMiss};
 ghost use Rattle.xl_tlb.specs.Hits.{leaf_hit};
@@ -21,8 +21,8 @@ ghost use Rattle.xl_tlb.specs.Tlbs.{spec_of, tlb_opening, AreSpecs, IsRising, tl
 
 use crate::coding::{Hit, block_of, hit_of, page_word, word_of};
 use crate::levels::{Answered, Levels, Path};
-use crate::newest::Newest;
-use crate::sought::Sought;
+use crate::newest::MruPages;
+use crate::lookup::Lookup;
 use arrayvec::ArrayVec;
 use std::alloc::Global;
 use std::marker::Model;
@@ -37,7 +37,7 @@ const ANY: Kind = Kind::Load;
 #[derive(Drop)]
 pub(crate) struct Joint {
     levels: Levels,
-    newest: Newest,
+    newest: MruPages,
 }
 
 impl Model for Joint {
@@ -58,24 +58,24 @@ impl Joint {
     {
         Joint {
             levels,
-            newest: Newest::none(),
+            newest: MruPages::none(),
         }
     }
 
     /// The word of a page that was answered of late by a leaf of 4 KiB that is still the newest of
     /// its set of the first array: it is answered so again. None elsewhere; then nothing changes.
     #[inline(always)]
-    pub fn look_newest(&mut self, kind: Kind, sought: Sought) -> Option<u64>
-        requires { IsSought order_of.K4 sought }
-        ensures some { IfSome result (λ word. IsWord kind sought.space sought.page word self.old self.new) }
+    pub fn look_newest(&mut self, kind: Kind, lookup: Lookup) -> Option<u64>
+        requires { IsLookup order_of.K4 lookup }
+        ensures some { IfSome result (λ word. IsWord kind lookup.space lookup.page word self.old self.new) }
         ensures arrays { IfSome result (λ _. 0 < length self.old.arrays) }
         ensures none { IfNone result (self.new ≡ self.old) }
     {
-        let Some(word) = self.newest.word(sought) else {
+        let Some(word) = self.newest.word(lookup) else {
             return None;
         };
         self.levels
-            .hit_in_front(kind, sought.space, sought.page, word);
+            .hit_in_front(kind, lookup.space, lookup.page, word);
         Some(word)
     }
 
@@ -98,7 +98,7 @@ impl Joint {
         ensures { IsLooked kind space page result self.old self.new }
     {
         match self.levels.path() {
-            Path::InTurn => self.search_in_turn(kind, Sought { space, page, tag }),
+            Path::InTurn => self.search_in_turn(kind, Lookup { space, page, tag }),
             Path::Straight => self.search::<0>(kind, space, page, tag),
             Path::Single => self.search::<1>(kind, space, page, tag),
             Path::Pair => self.search::<2>(kind, space, page, tag),
@@ -116,20 +116,20 @@ impl Joint {
         page: u64,
         tag: u64,
     ) -> Option<u64>
-        requires sought { IsKey tag space page }
+        requires lookup { IsKey tag space page }
         requires ready { IsReady COMMON (map spec_of self.old.arrays) }
         ensures { IsLooked _kind space page result self.old self.new }
     {
-        let sought = Sought { space, page, tag };
+        let lookup = Lookup { space, page, tag };
         let eights = self.levels.has_eights::<COMMON>();
-        if let Some(word) = self.levels.hit_first::<COMMON>(_kind, sought) {
-            self.newest.renew(eights, sought, word);
+        if let Some(word) = self.levels.hit_first::<COMMON>(_kind, lookup) {
+            self.newest.renew(eights, lookup, word);
             return Some(word);
         }
         if self.levels.has_large() {
             return self.search_above::<COMMON>(_kind, space, page, tag);
         }
-        self.search_second::<COMMON>(_kind, sought)
+        self.search_second::<COMMON>(_kind, lookup)
     }
 
     /// Like `search`, where the first array has no leaf of 4 KiB of the page, and maybe a larger
@@ -142,7 +142,7 @@ impl Joint {
         page: u64,
         tag: u64,
     ) -> Option<u64>
-        requires sought { IsKey tag space page }
+        requires lookup { IsKey tag space page }
         requires ready { IsReady COMMON (map spec_of self.old.arrays) }
         requires missed { IsFirstMiss space page self.old.arrays }
         ensures { IsLooked _kind space page result self.old self.new }
@@ -152,31 +152,31 @@ impl Joint {
             self.newest.forget_block(eights, block_of(hit.order, page));
             return Some(page_word(page, hit));
         }
-        self.search_second::<COMMON>(_kind, Sought { space, page, tag })
+        self.search_second::<COMMON>(_kind, Lookup { space, page, tag })
     }
 
     /// Like `search`, where the first array misses the page.
     #[inline(always)]
-    fn search_second<const COMMON: usize>(&mut self, _kind: Kind, sought: Sought) -> Option<u64>
-        requires sought { IsSought order_of.K4 sought }
+    fn search_second<const COMMON: usize>(&mut self, _kind: Kind, lookup: Lookup) -> Option<u64>
+        requires lookup { IsLookup order_of.K4 lookup }
         requires ready { IsReady COMMON (map spec_of self.old.arrays) }
-        requires missed { FirstMisses sought.space sought.page self.old.arrays }
-        ensures { IsLooked _kind sought.space sought.page result self.old self.new }
+        requires missed { FirstMisses lookup.space lookup.page self.old.arrays }
+        ensures { IsLooked _kind lookup.space lookup.page result self.old self.new }
     {
         let eights = self.levels.has_eights::<COMMON>();
-        match self.levels.hit_second::<COMMON>(_kind, sought) {
+        match self.levels.hit_second::<COMMON>(_kind, lookup) {
             Answered::Word { word } => {
-                self.newest.renew(eights, sought, word);
+                self.newest.renew(eights, lookup, word);
                 Some(word)
             }
             Answered::Nowhere => None,
-            Answered::Unknown => self.look_behind(_kind, sought.space, sought.page),
+            Answered::Unknown => self.look_next(_kind, lookup.space, lookup.page),
         }
     }
 
     /// Like `look`, level by level, where all arrays serve all accesses and the first one misses.
     #[inline(always)]
-    fn look_behind(&mut self, _kind: Kind, space: u16, page: u64) -> Option<u64>
+    fn look_next(&mut self, _kind: Kind, space: u16, page: u64) -> Option<u64>
         requires missed { FirstMisses space page self.old.arrays }
         requires all { AllServe (map spec_of self.old.arrays) }
         requires space { space < 64 }
@@ -188,16 +188,16 @@ impl Joint {
 
     /// Like `look`, where the first array may share its level, or not serve the access.
     #[inline(always)]
-    fn search_in_turn(&mut self, kind: Kind, sought: Sought) -> Option<u64>
-        requires { IsSought order_of.K4 sought }
-        ensures { IsLooked kind sought.space sought.page result self.old self.new }
+    fn search_in_turn(&mut self, kind: Kind, lookup: Lookup) -> Option<u64>
+        requires { IsLookup order_of.K4 lookup }
+        ensures { IsLooked kind lookup.space lookup.page result self.old self.new }
     {
         let eights = self.levels.has_eights::<0>();
-        if let Some(word) = self.levels.hit_in_turn(kind, sought) {
-            self.newest.forget_block(eights, sought.page);
+        if let Some(word) = self.levels.hit_in_turn(kind, lookup) {
+            self.newest.forget_block(eights, lookup.page);
             return Some(word);
         }
-        self.look_in_turn(false, sought.space, sought.page, kind)
+        self.look_in_turn(false, lookup.space, lookup.page, kind)
     }
 
     /// General lookup, level by level; `missed`: skip the first array.
@@ -238,7 +238,7 @@ impl Joint {
         requires page { page < 2 ^ 52 }
         ensures { self.new ≡ tlb_filled kind (small_leaf space page word) self.old }
     {
-        if self.levels.is_bare() {
+        if self.levels.lacks_tlb() {
             return;
         }
         match self.levels.path() {
@@ -260,10 +260,10 @@ impl Joint {
         requires ready { IsReady COMMON (map spec_of self.old.arrays) }
         ensures { self.new ≡ tlb_filled kind (small_leaf space page word) self.old }
     {
-        let sought = Sought::of(space, page, Order::K4);
+        let lookup = Lookup::of(space, page, Order::K4);
         let eights = self.levels.has_eights::<COMMON>();
-        self.levels.fill_small::<COMMON>(kind, sought, word);
-        self.newest.renew(eights, sought, word);
+        self.levels.fill_small::<COMMON>(kind, lookup, word);
+        self.newest.renew(eights, lookup, word);
     }
 
     /// Like `fill`, with a leaf of any order.
@@ -282,7 +282,7 @@ impl Joint {
     /// left.
     pub fn purge(&mut self, purge: Purge, leaf: Leaf) -> u64
         requires { IsFit leaf }
-        ensures left { result + leaves_in self.new.arrays ≡ leaves_in self.old.arrays }
+        ensures left { result + leaf_count self.new.arrays ≡ leaf_count self.old.arrays }
         ensures after { self.new ≡ tlb_purged purge leaf self.old }
     {
         self.newest.forget();
@@ -292,7 +292,7 @@ impl Joint {
     /// Removes the leaves that a fence reaches in all levels, and gives how many left.
     pub fn fence(&mut self, reach: Reach) -> u64
         requires { InLimits reach }
-        ensures left { result + leaves_in self.new.arrays ≡ leaves_in self.old.arrays }
+        ensures left { result + leaf_count self.new.arrays ≡ leaf_count self.old.arrays }
         ensures after { self.new ≡ tlb_fenced reach self.old }
     {
         self.newest.forget();
@@ -301,14 +301,14 @@ impl Joint {
 
     /// Whether there are no arrays. Then all accesses miss, and a look and a fill change nothing.
     #[inline(always)]
-    pub fn is_bare(&self) -> bool
+    pub fn lacks_tlb(&self) -> bool
         ensures is { result ≡ (length self.now.arrays == 0) }
         ensures looked { result ≡ true → (kind : KindOf) (space page : ℕ)
             → IsNowhere kind space page self.now self.now }
         ensures filled { result ≡ true → (kind : KindOf) (leaf : Leaf)
             → self.now ≡ tlb_filled kind leaf self.now }
     {
-        self.levels.is_bare()
+        self.levels.lacks_tlb()
     }
 
     /// The arrays with their counts.

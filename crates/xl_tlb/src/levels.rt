@@ -4,7 +4,7 @@ ghost use Rattle.std.specs.Prelude.{ℕ, true, false, ◌==◌, ◌≡◌, ◌<�
 ghost use Rattle.xl_model.specs.declared.address.Kind.{Kind as KindOf};
 ghost use Rattle.xl_model.specs.declared.leaf.Leaf.{Leaf};
 ghost use Rattle.xl_model.specs.Base.{one_if};
-ghost use Rattle.xl_model.specs.Tlb.{answer_of, leaves_in, takes_leaf, takes_order, filled_for, array_without, is_purged, reaches_leaf};
+ghost use Rattle.xl_model.specs.Tlb.{answer_of, leaf_count, takes_leaf, takes_order, filled_for, array_without, is_purged, reaches_leaf};
 ghost use Rattle.xl_model.specs.declared.address.Order.TheVariants as order_of;
 ghost use Rattle.xl_tlb.specs.Arrays.{IsFit, InLimits};
 ghost use Rattle.xl_tlb.specs.Answers.{IsAnswered, IsHit, IsNowhere, IsSmallWord, IsWord};
@@ -12,18 +12,18 @@ ghost use Rattle.xl_tlb.specs.Splits.{AreSplit, IsSplitAnswer, IsSplitFilled, fi
 ghost use Rattle.xl_tlb.specs.Fronts.{IsFront, AreMissed, FirstMisses, HasEights, IsFirstMiss};
 ghost use Rattle.xl_model.specs.LeafWords.{small_leaf};
 ghost use Rattle.xl_tlb.specs.Paths.{AllCommon, AreCommon, IsPath, IsReady};
-ghost use Rattle.xl_tlb.specs.Sought.{IsFill, IsSought};
+ghost use Rattle.xl_tlb.specs.Lookup.{IsFill, IsLookup};
 ghost use Rattle.xl_tlb.specs.Hits.{hit_leaf, leaf_hit, small_hit};
-ghost use Rattle.xl_tlb.specs.Tlbs.{spec_of, leaf_told, tlb_opening, AreSpecs, IsRising, IsAlone, tlb_looked, tlb_filled, tlb_purged, tlb_fenced};
+ghost use Rattle.xl_tlb.specs.Tlbs.{spec_of, leaf_replied, tlb_opening, AreSpecs, IsRising, IsAlone, tlb_looked, tlb_filled, tlb_purged, tlb_fenced};
 
 use crate::any::AnyArray;
 use crate::coding::Hit;
 use crate::look::{
-    are_common, count_behind, first_and_rest, has_eights, has_large, is_straight, look_first,
+    are_common, count_following, first_and_rest, has_eights, has_large, is_straight, look_first,
     look_first_above, look_first_in_turn, look_in, look_second, serve_all,
 };
 use crate::pair::{Seen, fill_split, look_split};
-use crate::sought::Sought;
+use crate::lookup::Lookup;
 use arrayvec::ArrayVec;
 use std::alloc::Global;
 use std::marker::Model;
@@ -104,29 +104,29 @@ fn fill_each(arrays: &mut [AnyArray], kind: Kind, space: u16, page: u64, hit: Hi
 fn fill_second<const COMMON: usize>(
     arrays: &mut [AnyArray],
     kind: Kind,
-    sought: Sought,
+    lookup: Lookup,
     word: u64,
 ) -> u64
-    requires sought { IsSought order_of.K4 sought }
+    requires lookup { IsLookup order_of.K4 lookup }
     requires alone { IsAlone (map spec_of arrays.old) }
     requires common { 0 < COMMON → AllCommon (map spec_of arrays.old) }
     requires count { 0 < COMMON → 1 + length arrays.old ≡ COMMON }
-    ensures { IsFill kind sought word result arrays.old arrays.new }
+    ensures { IsFill kind lookup word result arrays.old arrays.new }
 {
-    if count_behind::<COMMON>(arrays, 1) == 0 {
+    if count_following::<COMMON>(arrays, 1) == 0 {
         return 0;
     }
     let (second, others) = first_and_rest(arrays);
-    let set = second.set_of::<COMMON>(sought);
-    second.fill_in::<COMMON>(set, sought, word);
-    if count_behind::<COMMON>(others, 2) == 0 {
+    let set = second.set_of::<COMMON>(lookup);
+    second.fill_in::<COMMON>(set, lookup, word);
+    if count_following::<COMMON>(others, 2) == 0 {
         return 1;
     }
     let hit = Hit {
         word,
         order: Order::K4,
     };
-    fill_each(others, kind, sought.space, sought.page, hit) + 1
+    fill_each(others, kind, lookup.space, lookup.page, hit) + 1
 }
 
 /// Fills the arrays with the leaf of 4 KiB that is sought: how many do. It is in front of the first
@@ -136,18 +136,18 @@ fn fill_second<const COMMON: usize>(
 fn fill_straight<const COMMON: usize>(
     arrays: &mut [AnyArray],
     kind: Kind,
-    sought: Sought,
+    lookup: Lookup,
     word: u64,
 ) -> u64
-    requires sought { IsSought order_of.K4 sought }
+    requires lookup { IsLookup order_of.K4 lookup }
     requires ready { IsReady COMMON (map spec_of arrays.old) }
-    ensures fill { IsFill kind sought word result arrays.old arrays.new }
-    ensures front { IsFront sought.space sought.page word arrays.new }
+    ensures fill { IsFill kind lookup word result arrays.old arrays.new }
+    ensures front { IsFront lookup.space lookup.page word arrays.new }
 {
     let (first, rest) = first_and_rest(arrays);
-    let set = first.set_of::<COMMON>(sought);
-    first.fill_in::<COMMON>(set, sought, word);
-    fill_second::<COMMON>(rest, kind, sought, word) + 1
+    let set = first.set_of::<COMMON>(lookup);
+    first.fill_in::<COMMON>(set, lookup, word);
+    fill_second::<COMMON>(rest, kind, lookup, word) + 1
 }
 
 /// How a leaf of 4 KiB is looked for in these arrays.
@@ -197,11 +197,11 @@ fn first_of(kind: Kind) -> usize
 }
 
 /// Purges each array: how many items left.
-#[tactic(auto, unfolding(xl_model::specs::Tlb::leaves_in))]
+#[tactic(auto, unfolding(xl_model::specs::Tlb::leaf_count))]
 fn purge_each(arrays: &mut [AnyArray], purge: Purge, leaf: Leaf) -> u64
     requires fit { IsFit leaf }
     requires few { length arrays.old ≤ 6 }
-    ensures left { result + leaves_in arrays.new ≡ leaves_in arrays.old }
+    ensures left { result + leaf_count arrays.new ≡ leaf_count arrays.old }
     ensures arrays { arrays.new ≡ map (array_without (is_purged purge leaf)) arrays.old }
     ensures most { result ≤ 274877906944 * length arrays.old }
 {
@@ -212,11 +212,11 @@ fn purge_each(arrays: &mut [AnyArray], purge: Purge, leaf: Leaf) -> u64
 }
 
 /// Fences each array: how many items left.
-#[tactic(auto, unfolding(xl_model::specs::Tlb::leaves_in))]
+#[tactic(auto, unfolding(xl_model::specs::Tlb::leaf_count))]
 fn fence_each(arrays: &mut [AnyArray], reach: Reach) -> u64
     requires limits { InLimits reach }
     requires few { length arrays.old ≤ 6 }
-    ensures left { result + leaves_in arrays.new ≡ leaves_in arrays.old }
+    ensures left { result + leaf_count arrays.new ≡ leaf_count arrays.old }
     ensures arrays { arrays.new ≡ map (array_without (reaches_leaf reach)) arrays.old }
     ensures most { result ≤ 274877906944 * length arrays.old }
 {
@@ -283,15 +283,15 @@ impl Levels {
     /// Like `look`, where the first array holds the leaf of 4 KiB that is sought, which is the
     /// newest of its set then: its word. `None`: not taken; nothing changes.
     #[inline(always)]
-    pub fn hit_first<const COMMON: usize>(&mut self, _kind: Kind, sought: Sought) -> Option<u64>
-        requires sought { IsSought order_of.K4 sought }
+    pub fn hit_first<const COMMON: usize>(&mut self, _kind: Kind, lookup: Lookup) -> Option<u64>
+        requires lookup { IsLookup order_of.K4 lookup }
         requires ready { IsReady COMMON (map spec_of self.old.arrays) }
         ensures some { IfSome result (λ word.
-            IsSmallWord _kind sought.space sought.page word self.old self.new) }
+            IsSmallWord _kind lookup.space lookup.page word self.old self.new) }
         ensures same { IfNone result (self.new ≡ self.old) }
-        ensures missed { IfNone result (IsFirstMiss sought.space sought.page self.old.arrays) }
+        ensures missed { IfNone result (IsFirstMiss lookup.space lookup.page self.old.arrays) }
     {
-        let Some(word) = look_first::<COMMON>(&mut self.arrays, sought) else {
+        let Some(word) = look_first::<COMMON>(&mut self.arrays, lookup) else {
             return None;
         };
         self.hits[0] = self.hits[0].wrapping_add(1);
@@ -302,13 +302,13 @@ impl Levels {
     /// its word; the first array is filled with it. So too where no array hits and the second one
     /// never held a larger leaf.
     #[inline(always)]
-    pub fn hit_second<const COMMON: usize>(&mut self, _kind: Kind, sought: Sought) -> Answered
-        requires sought { IsSought order_of.K4 sought }
+    pub fn hit_second<const COMMON: usize>(&mut self, _kind: Kind, lookup: Lookup) -> Answered
+        requires lookup { IsLookup order_of.K4 lookup }
         requires ready { IsReady COMMON (map spec_of self.old.arrays) }
-        requires missed { FirstMisses sought.space sought.page self.old.arrays }
-        ensures { IsAnswered _kind sought.space sought.page result self.old self.new }
+        requires missed { FirstMisses lookup.space lookup.page self.old.arrays }
+        ensures { IsAnswered _kind lookup.space lookup.page result self.old self.new }
     {
-        match look_second::<COMMON>(&mut self.arrays, sought) {
+        match look_second::<COMMON>(&mut self.arrays, lookup) {
             Answered::Word { word } => {
                 self.misses[0] = self.misses[0].wrapping_add(1);
                 self.hits[1] = self.hits[1].wrapping_add(1);
@@ -316,7 +316,7 @@ impl Levels {
                 Answered::Word { word }
             }
             Answered::Nowhere => {
-                self.miss::<COMMON>(_kind, sought.space, sought.page);
+                self.miss::<COMMON>(_kind, lookup.space, lookup.page);
                 Answered::Nowhere
             }
             Answered::Unknown => Answered::Unknown,
@@ -367,7 +367,7 @@ impl Levels {
         ensures { IsNowhere _kind _space _page self.old self.new }
     {
         self.misses[0] = self.misses[0].wrapping_add(1);
-        if count_behind::<COMMON>(&self.arrays, 0) == 2 {
+        if count_following::<COMMON>(&self.arrays, 0) == 2 {
             self.misses[1] = self.misses[1].wrapping_add(1);
         }
     }
@@ -398,13 +398,13 @@ impl Levels {
     /// and gives its word: it is the newest of its set of the first array then. Unknown where a
     /// larger leaf may answer; then nothing changes.
     #[inline(always)]
-    pub fn look_split(&mut self, kind: Kind, sought: Sought) -> Answered
-        requires sought { IsSought order_of.K4 sought }
+    pub fn look_split(&mut self, kind: Kind, lookup: Lookup) -> Answered
+        requires lookup { IsLookup order_of.K4 lookup }
         requires split { AreSplit (map spec_of self.old.arrays) }
-        ensures { IsSplitAnswer kind sought.space sought.page result self.old self.new }
+        ensures { IsSplitAnswer kind lookup.space lookup.page result self.old self.new }
     {
         let first = first_of(kind);
-        match look_split(&mut self.arrays, kind, sought) {
+        match look_split(&mut self.arrays, kind, lookup) {
             Seen::First { word } => {
                 self.hits[first] = self.hits[first].wrapping_add(1);
                 Answered::Word { word }
@@ -426,12 +426,12 @@ impl Levels {
 
     /// Like `fill_small`, where fetches and data have a first array each.
     #[inline(always)]
-    pub fn fill_split(&mut self, kind: Kind, sought: Sought, word: u64)
-        requires sought { IsSought order_of.K4 sought }
+    pub fn fill_split(&mut self, kind: Kind, lookup: Lookup, word: u64)
+        requires lookup { IsLookup order_of.K4 lookup }
         requires split { AreSplit (map spec_of self.old.arrays) }
-        ensures { IsSplitFilled kind sought.space sought.page word self.old self.new }
+        ensures { IsSplitFilled kind lookup.space lookup.page word self.old self.new }
     {
-        fill_split(&mut self.arrays, kind, sought, word);
+        fill_split(&mut self.arrays, kind, lookup, word);
         self.fills = self.fills.wrapping_add(2);
     }
 
@@ -444,7 +444,7 @@ impl Levels {
         requires space { space < 64 }
         requires page { page < 2 ^ 52 }
         ensures found { hit_leaf space page result
-            ≡ leaf_told (answer_of kind self.old.arrays space page) }
+            ≡ leaf_replied (answer_of kind self.old.arrays space page) }
         ensures after { self.new ≡ tlb_looked kind space page self.old }
     {
         if self.arrays.is_empty() {
@@ -473,9 +473,9 @@ impl Levels {
     /// Like `look`, where the first array holds the leaf of 4 KiB that is sought: its word. `None`
     /// where it doesn't; then nothing changes.
     #[inline(always)]
-    pub fn hit_in_turn(&mut self, kind: Kind, sought: Sought) -> Option<u64>
-        requires { IsSought order_of.K4 sought }
-        ensures some { IfSome result (λ word. IsHit kind sought.space sought.page (small_hit word)
+    pub fn hit_in_turn(&mut self, kind: Kind, lookup: Lookup) -> Option<u64>
+        requires { IsLookup order_of.K4 lookup }
+        ensures some { IfSome result (λ word. IsHit kind lookup.space lookup.page (small_hit word)
             self.old self.new) }
         ensures same { IfNone result (self.new ≡ self.old) }
     {
@@ -484,7 +484,7 @@ impl Levels {
             kind,
             &mut self.hits,
             &mut self.misses,
-            sought,
+            lookup,
         ) else {
             return None;
         };
@@ -509,14 +509,14 @@ impl Levels {
     /// and hold such leaves. It is the newest of its set of the first array then, and that alone in
     /// its level.
     #[inline(always)]
-    pub fn fill_small<const COMMON: usize>(&mut self, kind: Kind, sought: Sought, word: u64)
-        requires sought { IsSought order_of.K4 sought }
+    pub fn fill_small<const COMMON: usize>(&mut self, kind: Kind, lookup: Lookup, word: u64)
+        requires lookup { IsLookup order_of.K4 lookup }
         requires ready { IsReady COMMON (map spec_of self.old.arrays) }
         ensures after { self.new
-            ≡ tlb_filled kind (small_leaf sought.space sought.page word) self.old }
-        ensures front { IsFront sought.space sought.page word self.new.arrays }
+            ≡ tlb_filled kind (small_leaf lookup.space lookup.page word) self.old }
+        ensures front { IsFront lookup.space lookup.page word self.new.arrays }
     {
-        let fills = fill_straight::<COMMON>(&mut self.arrays, kind, sought, word);
+        let fills = fill_straight::<COMMON>(&mut self.arrays, kind, lookup, word);
         self.fills = self.fills.wrapping_add(fills);
     }
 
@@ -524,7 +524,7 @@ impl Levels {
     /// left.
     pub fn purge(&mut self, purge: Purge, leaf: Leaf) -> u64
         requires { IsFit leaf }
-        ensures left { result + leaves_in self.new.arrays ≡ leaves_in self.old.arrays }
+        ensures left { result + leaf_count self.new.arrays ≡ leaf_count self.old.arrays }
         ensures after { self.new ≡ tlb_purged purge leaf self.old }
     {
         purge_each(&mut self.arrays, purge, leaf)
@@ -533,7 +533,7 @@ impl Levels {
     /// Removes the leaves that a fence reaches in all levels, and gives how many left.
     pub fn fence(&mut self, reach: Reach) -> u64
         requires { InLimits reach }
-        ensures left { result + leaves_in self.new.arrays ≡ leaves_in self.old.arrays }
+        ensures left { result + leaf_count self.new.arrays ≡ leaf_count self.old.arrays }
         ensures after { self.new ≡ tlb_fenced reach self.old }
     {
         fence_each(&mut self.arrays, reach)
@@ -550,7 +550,7 @@ impl Levels {
 
     /// Whether there are no arrays. Then a look and a fill change nothing.
     #[inline]
-    pub fn is_bare(&self) -> bool
+    pub fn lacks_tlb(&self) -> bool
         ensures is { result ≡ (length self.now.arrays == 0) }
         ensures looked { result ≡ true → (kind : KindOf) (space page : ℕ)
             → self.now ≡ tlb_looked kind space page self.now }

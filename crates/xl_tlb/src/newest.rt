@@ -4,16 +4,16 @@ ghost use Rattle.std.specs.Prelude.{true, ◌≡◌, ◌<◌, ◌^◌, ◌+◌, 
 ghost use Rattle.xl_model.specs.Tlb.{TlbArray};
 ghost use Rattle.xl_tlb.specs.Fronts.{IsFront, FrontsStay};
 ghost use Rattle.xl_tlb.specs.Known.{Knows};
-ghost use Rattle.xl_tlb.specs.Sought.{IsSought};
+ghost use Rattle.xl_tlb.specs.Lookup.{IsLookup};
 ghost use Rattle.xl_model.specs.declared.address.Order.TheVariants as order;
 
-use crate::sought::Sought;
+use crate::lookup::Lookup;
 
 /// For eight pages at most, the words of the leaves that answer them: each is the newest of its set
 /// of the first array. A page's place is its number's last three bits, and its key the tag of its
 /// leaf.
 #[derive(Clone, Copy, Debug)]
-pub(crate) struct Newest {
+pub(crate) struct MruPages {
     keys: [u64; 8],
     words: [u64; 8],
 }
@@ -21,12 +21,12 @@ pub(crate) struct Newest {
 /// Empty slot; no tag has this value.
 const NONE: u64 = u64::MAX;
 
-impl Newest {
+impl MruPages {
     /// No page is known.
-    pub fn none() -> Newest
+    pub fn none() -> MruPages
         ensures { (arrays : List TlbArray) → Knows result arrays }
     {
-        Newest {
+        MruPages {
             keys: [NONE; 8],
             words: [0; 8],
         }
@@ -57,13 +57,13 @@ impl Newest {
 
     /// The word of the leaf that the page hits, where the memo has it.
     #[inline]
-    pub fn word(&self, sought: Sought) -> Option<u64>
-        requires { IsSought order.K4 sought }
+    pub fn word(&self, lookup: Lookup) -> Option<u64>
+        requires { IsLookup order.K4 lookup }
         ensures { (arrays : List TlbArray) → Knows self.now arrays
-            → IfSome result (λ word. IsFront sought.space sought.page word arrays) }
+            → IfSome result (λ word. IsFront lookup.space lookup.page word arrays) }
     {
-        let place = (sought.page % 8) as usize;
-        if self.keys[place] == sought.tag {
+        let place = (lookup.page % 8) as usize;
+        if self.keys[place] == lookup.tag {
             return Some(self.words[place]);
         }
         None
@@ -71,25 +71,25 @@ impl Newest {
 
     /// Keeps the word of the leaf that the page hits, after leaves of its set moved.
     #[inline]
-    pub fn renew(&mut self, eights: bool, sought: Sought, word: u64)
-        requires { IsSought order.K4 sought }
+    pub fn renew(&mut self, eights: bool, lookup: Lookup, word: u64)
+        requires { IsLookup order.K4 lookup }
         ensures { (old new : List TlbArray) → Knows self.old old
-            → (eights ≡ true → FrontsStay (sought.page % 8) old new)
-            → IsFront sought.space sought.page word new → Knows self.new new }
+            → (eights ≡ true → FrontsStay (lookup.page % 8) old new)
+            → IsFront lookup.space lookup.page word new → Knows self.new new }
     {
-        self.forget_block(eights, sought.page);
-        self.keep(sought, word);
+        self.forget_block(eights, lookup.page);
+        self.keep(lookup, word);
     }
 
     /// Keeps the word of the leaf that the page hits.
     #[inline]
-    fn keep(&mut self, sought: Sought, word: u64)
-        requires { IsSought order.K4 sought }
+    fn keep(&mut self, lookup: Lookup, word: u64)
+        requires { IsLookup order.K4 lookup }
         ensures { (arrays : List TlbArray) → Knows self.old arrays
-            → IsFront sought.space sought.page word arrays → Knows self.new arrays }
+            → IsFront lookup.space lookup.page word arrays → Knows self.new arrays }
     {
-        let place = (sought.page % 8) as usize;
-        self.keys[place] = sought.tag;
+        let place = (lookup.page % 8) as usize;
+        self.keys[place] = lookup.tag;
         self.words[place] = word;
     }
 }

@@ -3,13 +3,13 @@
 
 ghost use Rattle.std.specs.Prelude.{ℕ, ◌≡◌, true, map};
 ghost use Rattle.xl_model.specs.declared.address.Order.TheVariants as order_of;
-ghost use Rattle.xl_tlb.specs.Sought.{IsSought};
+ghost use Rattle.xl_tlb.specs.Lookup.{IsLookup};
 ghost use Rattle.xl_tlb.specs.Splits.{AreSplit, IsOfPair, IsPairLook, IsPairFill, IsSplitLook, IsSplitFill};
 ghost use Rattle.xl_tlb.specs.Tlbs.{spec_of};
 
 use crate::any::AnyArray;
 use crate::look::first_and_rest;
-use crate::sought::Sought;
+use crate::lookup::Lookup;
 use xl_model::{Kind, Order};
 
 /// What a look for a leaf of 4 KiB in two arrays told: the leaf's word, and which array answers; or
@@ -26,72 +26,72 @@ pub(crate) enum Seen {
 /// it. Where that is the second, the first is filled. Unknown where a larger leaf may answer; then
 /// nothing changes.
 #[inline(always)]
-fn look_pair(first: &mut AnyArray, second: &mut AnyArray, sought: Sought) -> Seen
-    requires sought { IsSought order_of.K4 sought }
+fn look_pair(first: &mut AnyArray, second: &mut AnyArray, lookup: Lookup) -> Seen
+    requires lookup { IsLookup order_of.K4 lookup }
     requires first { IsOfPair first.old.spec }
     requires second { IsOfPair second.old.spec }
-    ensures { IsPairLook sought.space sought.page result first.old second.old first.new second.new }
+    ensures { IsPairLook lookup.space lookup.page result first.old second.old first.new second.new }
 {
-    let set = first.set_of::<2>(sought);
-    if let Some(word) = first.touch_in::<2>(set, sought, Order::K4) {
+    let set = first.set_of::<2>(lookup);
+    if let Some(word) = first.touch_in::<2>(set, lookup, Order::K4) {
         return Seen::First { word };
     }
     if first.has_large() {
         return Seen::Unknown;
     }
-    let place = second.set_of::<2>(sought);
-    let Some(word) = second.touch_in::<2>(place, sought, Order::K4) else {
+    let place = second.set_of::<2>(lookup);
+    let Some(word) = second.touch_in::<2>(place, lookup, Order::K4) else {
         if second.has_large() {
             return Seen::Unknown;
         }
         return Seen::Nowhere;
     };
-    first.fill_in::<2>(set, sought, word);
+    first.fill_in::<2>(set, lookup, word);
     Seen::Second { word }
 }
 
 /// Fills both arrays with the leaf of 4 KiB that is sought.
 #[inline(always)]
-fn fill_pair(first: &mut AnyArray, second: &mut AnyArray, sought: Sought, word: u64)
-    requires sought { IsSought order_of.K4 sought }
+fn fill_pair(first: &mut AnyArray, second: &mut AnyArray, lookup: Lookup, word: u64)
+    requires lookup { IsLookup order_of.K4 lookup }
     requires first { IsOfPair first.old.spec }
     requires second { IsOfPair second.old.spec }
-    ensures { IsPairFill sought.space sought.page word first.old second.old first.new second.new }
+    ensures { IsPairFill lookup.space lookup.page word first.old second.old first.new second.new }
 {
-    let set = first.set_of::<2>(sought);
-    first.fill_in::<2>(set, sought, word);
-    let place = second.set_of::<2>(sought);
-    second.fill_in::<2>(place, sought, word);
+    let set = first.set_of::<2>(lookup);
+    first.fill_in::<2>(set, lookup, word);
+    let place = second.set_of::<2>(lookup);
+    second.fill_in::<2>(place, lookup, word);
 }
 
 /// Like `look_pair`, with the two arrays that serve an access of this kind.
 #[inline(always)]
-pub(crate) fn look_split(arrays: &mut [AnyArray], kind: Kind, sought: Sought) -> Seen
-    requires sought { IsSought order_of.K4 sought }
+pub(crate) fn look_split(arrays: &mut [AnyArray], kind: Kind, lookup: Lookup) -> Seen
+    requires lookup { IsLookup order_of.K4 lookup }
     requires split { AreSplit (map spec_of arrays.old) }
-    ensures { IsSplitLook kind sought.space sought.page result arrays.old arrays.new }
+    ensures { IsSplitLook kind lookup.space lookup.page result arrays.old arrays.new }
 {
     let (fetches, others) = first_and_rest(arrays);
     let (data, rest) = first_and_rest(others);
     let (second, _none) = first_and_rest(rest);
     match kind {
-        Kind::Fetch => look_pair(fetches, second, sought),
-        Kind::Load | Kind::Store => look_pair(data, second, sought),
+        Kind::Fetch => look_pair(fetches, second, lookup),
+        Kind::Load | Kind::Store => look_pair(data, second, lookup),
     }
 }
 
 /// Like `fill_pair`, with the two arrays that serve an access of this kind.
 #[inline(always)]
-pub(crate) fn fill_split(arrays: &mut [AnyArray], kind: Kind, sought: Sought, word: u64)
-    requires sought { IsSought order_of.K4 sought }
+pub(crate) fn fill_split(arrays: &mut [AnyArray], kind: Kind, lookup: Lookup, word: u64)
+    requires lookup { IsLookup order_of.K4 lookup }
     requires split { AreSplit (map spec_of arrays.old) }
-    ensures { IsSplitFill kind sought.space sought.page word arrays.old arrays.new }
+    ensures { IsSplitFill kind lookup.space lookup.page word arrays.old arrays.new }
 {
     let (fetches, others) = first_and_rest(arrays);
     let (data, rest) = first_and_rest(others);
     let (second, _none) = first_and_rest(rest);
     match kind {
-        Kind::Fetch => fill_pair(fetches, second, sought, word),
-        Kind::Load | Kind::Store => fill_pair(data, second, sought, word),
+        Kind::Fetch => fill_pair(fetches, second, lookup, word),
+        Kind::Load | Kind::Store => fill_pair(data, second, lookup, word),
     }
 }

@@ -6,20 +6,20 @@
 
 ghost use Rattle.std.specs.Prelude.{◌≡◌, ◌==◌, ◌<◌, ◌^◌, ◌+◌, false, length, map};
 ghost use Rattle.xl_model.specs.declared.address.Order.TheVariants as order_of;
-ghost use Rattle.xl_model.specs.Tlb.{leaves_in};
+ghost use Rattle.xl_model.specs.Tlb.{leaf_count};
 ghost use Rattle.xl_model.specs.LeafWords.{small_leaf};
 ghost use Rattle.xl_tlb.specs.Answers.{IsLooked};
 ghost use Rattle.xl_tlb.specs.Arrays.{IsFit, InLimits};
 ghost use Rattle.xl_tlb.specs.Hits.{leaf_hit};
 ghost use Rattle.xl_tlb.specs.Known.{IsKey};
-ghost use Rattle.xl_tlb.specs.Sought.{IsSought};
+ghost use Rattle.xl_tlb.specs.Lookup.{IsLookup};
 ghost use Rattle.xl_tlb.specs.Splits.{AreSplit};
 ghost use Rattle.xl_tlb.specs.Tlbs.{spec_of, tlb_filled, tlb_purged, tlb_fenced};
 
 use crate::coding::{Hit, hit_of, page_word, word_of};
 use crate::levels::{Answered, Levels};
-use crate::newest::Newest;
-use crate::sought::Sought;
+use crate::newest::MruPages;
+use crate::lookup::Lookup;
 use std::marker::Model;
 use xl_model::{Kind, Leaf, Order, Purge, Reach};
 
@@ -28,8 +28,8 @@ use xl_model::{Kind, Leaf, Order, Purge, Reach};
 #[derive(Drop)]
 pub(crate) struct Split {
     levels: Levels,
-    of_fetches: Newest,
-    of_data: Newest,
+    of_fetches: MruPages,
+    of_data: MruPages,
 }
 
 impl Model for Split {
@@ -51,35 +51,35 @@ impl Split {
     {
         Split {
             levels,
-            of_fetches: Newest::none(),
-            of_data: Newest::none(),
+            of_fetches: MruPages::none(),
+            of_data: MruPages::none(),
         }
     }
 
     /// Looks for the page whose leaf of 4 KiB is sought, for an access of this kind, and gives its
     /// word, as `look` of `Tlb` does.
     #[inline(always)]
-    pub fn look(&mut self, kind: Kind, sought: Sought) -> Option<u64>
-        requires { IsSought order_of.K4 sought }
-        ensures { IsLooked kind sought.space sought.page result self.old self.new }
+    pub fn look(&mut self, kind: Kind, lookup: Lookup) -> Option<u64>
+        requires { IsLookup order_of.K4 lookup }
+        ensures { IsLooked kind lookup.space lookup.page result self.old self.new }
     {
         match kind {
             Kind::Fetch => {
-                if let Some(word) = self.of_fetches.word(sought) {
+                if let Some(word) = self.of_fetches.word(lookup) {
                     self.levels
-                        .hit_front_of(kind, sought.space, sought.page, word);
+                        .hit_front_of(kind, lookup.space, lookup.page, word);
                     return Some(word);
                 }
             }
             Kind::Load | Kind::Store => {
-                if let Some(word) = self.of_data.word(sought) {
+                if let Some(word) = self.of_data.word(lookup) {
                     self.levels
-                        .hit_front_of(kind, sought.space, sought.page, word);
+                        .hit_front_of(kind, lookup.space, lookup.page, word);
                     return Some(word);
                 }
             }
         }
-        self.search(kind, sought.space, sought.page, sought.tag)
+        self.search(kind, lookup.space, lookup.page, lookup.tag)
     }
 
     /// Like `look`, for a page of which nothing is known, and keeps what it finds.
@@ -88,15 +88,15 @@ impl Split {
         requires { IsKey tag space page }
         ensures { IsLooked kind space page result self.old self.new }
     {
-        let sought = Sought { space, page, tag };
-        match self.levels.look_split(kind, sought) {
+        let lookup = Lookup { space, page, tag };
+        match self.levels.look_split(kind, lookup) {
             Answered::Word { word } => match kind {
                 Kind::Fetch => {
-                    self.of_fetches.renew(true, sought, word);
+                    self.of_fetches.renew(true, lookup, word);
                     Some(word)
                 }
                 Kind::Load | Kind::Store => {
-                    self.of_data.renew(true, sought, word);
+                    self.of_data.renew(true, lookup, word);
                     Some(word)
                 }
             },
@@ -141,11 +141,11 @@ impl Split {
         requires page { page < 2 ^ 52 }
         ensures { self.new ≡ tlb_filled kind (small_leaf space page word) self.old }
     {
-        let sought = Sought::of(space, page, Order::K4);
-        self.levels.fill_split(kind, sought, word);
+        let lookup = Lookup::of(space, page, Order::K4);
+        self.levels.fill_split(kind, lookup, word);
         match kind {
-            Kind::Fetch => self.of_fetches.renew(true, sought, word),
-            Kind::Load | Kind::Store => self.of_data.renew(true, sought, word),
+            Kind::Fetch => self.of_fetches.renew(true, lookup, word),
+            Kind::Load | Kind::Store => self.of_data.renew(true, lookup, word),
         }
     }
 
@@ -165,7 +165,7 @@ impl Split {
     /// left.
     pub fn purge(&mut self, purge: Purge, leaf: Leaf) -> u64
         requires { IsFit leaf }
-        ensures left { result + leaves_in self.new.arrays ≡ leaves_in self.old.arrays }
+        ensures left { result + leaf_count self.new.arrays ≡ leaf_count self.old.arrays }
         ensures after { self.new ≡ tlb_purged purge leaf self.old }
     {
         self.of_fetches.forget();
@@ -176,7 +176,7 @@ impl Split {
     /// Removes the leaves that a fence reaches in all arrays, and gives how many left.
     pub fn fence(&mut self, reach: Reach) -> u64
         requires { InLimits reach }
-        ensures left { result + leaves_in self.new.arrays ≡ leaves_in self.old.arrays }
+        ensures left { result + leaf_count self.new.arrays ≡ leaf_count self.old.arrays }
         ensures after { self.new ≡ tlb_fenced reach self.old }
     {
         self.of_fetches.forget();
@@ -186,7 +186,7 @@ impl Split {
 
     /// Whether there are no arrays: there are three.
     #[inline(always)]
-    pub fn is_bare(&self) -> bool
+    pub fn lacks_tlb(&self) -> bool
         ensures never { result ≡ false }
         ensures is { result ≡ (length self.now.arrays == 0) }
     {

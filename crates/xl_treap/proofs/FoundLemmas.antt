@@ -69,16 +69,16 @@ holds-below space page r a =
       | false ↦ λ e. refl
     ] refl
 
-holds-behind : (space page : ℕ) (r : Range) → end_key r ≤ key_at space page → holds_page space page r ≡ false
-holds-behind space page r a =
+holds-following : (space page : ℕ) (r : Range) → end_key r ≤ key_at space page → holds_page space page r ≡ false
+holds-following space page r a =
     elim (holds_page space page r) as (λ t. holds_page space page r ≡ t → t ≡ false) [
       | true ↦ λ e. let d : r.space ≡ space = grind (arith, nat_tests) in let high : page < r.start + r.pages = grind (arith, nat_tests) in absurd (omega arith)
       | false ↦ λ e. refl
     ] refl
 
-find-behind : (p : Range → Bool) (xs ys : List Range) → ((z : Range) → In z xs → p z ≡ false) → find p (xs ++ ys) ≡ find p ys
-find-behind p [] ys h = refl
-find-behind p (x ∷ xs) ys h = let e : p x ≡ false = h x (inl refl) in rw e (find-behind p xs ys (λ z i. h z (inr i)))
+find-following : (p : Range → Bool) (xs ys : List Range) → ((z : Range) → In z xs → p z ≡ false) → find p (xs ++ ys) ≡ find p ys
+find-following p [] ys h = refl
+find-following p (x ∷ xs) ys h = let e : p x ≡ false = h x (inl refl) in rw e (find-following p xs ys (λ z i. h z (inr i)))
 
 find-none : (p : Range → Bool) (ys : List Range) → ((z : Range) → In z ys → p z ≡ false) → find p ys ≡ None
 find-none p [] h = refl
@@ -97,8 +97,8 @@ found-is low high Tip space page o h = refl
 found-is low high (Bin n x l r) space page (f, p, q) h =
     let k : ℕ = key_at space page in
     let some : 0 < x.pages = f.some in
-    let behind : range_key x ≤ k → find (holds_page space page) (ranges l ++ x ∷ ranges r) ≡ find (holds_page space page) (x ∷ ranges r) =
-    (λ ge. find-behind (holds_page space page) (ranges l) (x ∷ ranges r) (λ z i. let a = order-In low (range_key x) z l p i in let b = a.to_high in holds-behind space page z (omega arith))) in
+    let following : range_key x ≤ k → find (holds_page space page) (ranges l ++ x ∷ ranges r) ≡ find (holds_page space page) (x ∷ ranges r) =
+    (λ ge. find-following (holds_page space page) (ranges l) (x ∷ ranges r) (λ z i. let a = order-In low (range_key x) z l p i in let b = a.to_high in holds-following space page z (omega arith))) in
     elim (side k (range_key x)) [
       | inl lt ↦ pick-yes k (range_key x) _ _ lt ∙ found-is low (range_key x) l space page p h
           ∙ sym (find-before (holds_page space page) (ranges l) (x ∷ ranges r)
@@ -108,8 +108,8 @@ found-is low high (Bin n x l r) space page (f, p, q) h =
           ]))
       | inr ge ↦ pick-no k (range_key x) _ _ ge ∙ elim (side (k - range_key x) x.pages) [
         | inl lt ↦ pick-yes (k - range_key x) x.pages _ _ lt
-            ∙ sym (behind ge ∙ (let e : holds_page space page x ≡ true = holds-yes space page x f h ge (omega arith) in rw e refl))
+            ∙ sym (following ge ∙ (let e : holds_page space page x ≡ true = holds-yes space page x f h ge (omega arith) in rw e refl))
         | inr le ↦ pick-no (k - range_key x) x.pages _ _ le ∙ found-is (end_key x) high r space page q h
-            ∙ sym (behind ge ∙ (let e : holds_page space page x ≡ false = holds-behind space page x (omega arith) in rw e refl))
+            ∙ sym (following ge ∙ (let e : holds_page space page x ≡ false = holds-following space page x (omega arith) in rw e refl))
       ]
     ]

@@ -19,7 +19,7 @@ down-In y (Bin n x l r) k (suc d) i = go (side_at (range_key x) k) (down-In y (o
 -- after stay after
 module _ (F : List Range → List Range) (k : ℕ) (H : List Range → Type 0)
     (in-front : (y : Range) (ys : List Range) → range_key y < k → F (y ∷ ys) ≡ y ∷ F ys)
-    (behind : (ls : List Range) (x : Range) (rs : List Range) → H ls → k ≤ range_key x → F (ls ++ x ∷ rs) ≡ F ls ++ x ∷ rs)
+    (following : (ls : List Range) (x : Range) (rs : List Range) → H ls → k ≤ range_key x → F (ls ++ x ∷ rs) ≡ F ls ++ x ∷ rs)
     (up : (t : Tree) (d : ℕ) → H (ranges (down t k d)) → H (ranges t)) where
   pub front-all : (ls ys : List Range) → ((z : Range) → In z ls → range_key z < k) → F (ls ++ ys) ≡ ls ++ F ys
   front-all [] ys h = refl
@@ -50,17 +50,17 @@ module _ (F : List Range → List Range) (k : ℕ) (H : List Range → Type 0)
             let i = graft-ranges low (range_key x) l s d o.1 (subst K c h) (subst E c e) in
             ap (λ z. ranges (with_child z (Bin n x l r) (graft (on_side z l r) k d s))) (side-low (range_key x) k ge)
             ∙ ap (λ zs. zs ++ x ∷ ranges r) i
-            ∙ sym (behind (ranges l) x (ranges r) (up l d (subst K c h)) ge)
+            ∙ sym (following (ranges l) x (ranges r) (up l d (subst K c h)) ge)
       ]
 
 -- the three changes
 with-front : (new y : Range) (ys : List Range) → range_key y < range_key new → with_range new (y ∷ ys) ≡ y ∷ with_range new ys
 with-front new y ys h = pick-yes (range_key y) (range_key new) _ _ h
 
-with-behind : (new : Range) (ls : List Range) (x : Range) (rs : List Range) → range_key new ≤ range_key x → with_range new (ls ++ x ∷ rs) ≡ with_range new ls ++ x ∷ rs
-with-behind new [] x rs h = pick-no (range_key x) (range_key new) _ _ h
-with-behind new (y ∷ ls) x rs h = elim (nat_lt (range_key y) (range_key new)) as (λ b. cond b (y ∷ with_range new (ls ++ x ∷ rs)) (new ∷ y ∷ (ls ++ x ∷ rs)) ≡ cond b (y ∷ with_range new ls) (new ∷ y ∷ ls) ++ x ∷ rs) [
-  | true ↦ ap (λ zs. y ∷ zs) (with-behind new ls x rs h)
+with-following : (new : Range) (ls : List Range) (x : Range) (rs : List Range) → range_key new ≤ range_key x → with_range new (ls ++ x ∷ rs) ≡ with_range new ls ++ x ∷ rs
+with-following new [] x rs h = pick-no (range_key x) (range_key new) _ _ h
+with-following new (y ∷ ls) x rs h = elim (nat_lt (range_key y) (range_key new)) as (λ b. cond b (y ∷ with_range new (ls ++ x ∷ rs)) (new ∷ y ∷ (ls ++ x ∷ rs)) ≡ cond b (y ∷ with_range new ls) (new ∷ y ∷ ls) ++ x ∷ rs) [
+  | true ↦ ap (λ zs. y ∷ zs) (with-following new ls x rs h)
   | false ↦ refl
 ]
 
@@ -80,12 +80,12 @@ alike a b h = grind (arith, nat_tests)
 without-front : (k : ℕ) (y : Range) (ys : List Range) → range_key y < k → without_range k (y ∷ ys) ≡ y ∷ without_range k ys
 without-front k y ys h = let e : (range_key y == k) ≡ false = unlike (range_key y) k h in ap (λ b. cond b ys (y ∷ without_range k ys)) e
 
-without-behind : (k : ℕ) (ls : List Range) (x : Range) (rs : List Range) → Has k ls → without_range k (ls ++ x ∷ rs) ≡ without_range k ls ++ x ∷ rs
-without-behind k [] x rs h = absurd h.1
-without-behind k (y ∷ ls) x rs (z, i, e) =
+without-following : (k : ℕ) (ls : List Range) (x : Range) (rs : List Range) → Has k ls → without_range k (ls ++ x ∷ rs) ≡ without_range k ls ++ x ∷ rs
+without-following k [] x rs h = absurd h.1
+without-following k (y ∷ ls) x rs (z, i, e) =
     elim (range_key y == k) as (λ b. (range_key y == k) ≡ b → cond b (ls ++ x ∷ rs) (y ∷ without_range k (ls ++ x ∷ rs)) ≡ cond b ls (y ∷ without_range k ls) ++ x ∷ rs) [
       | true ↦ λ t. refl
-      | false ↦ λ t. ap (λ zs. y ∷ zs) (without-behind k ls x rs (
+      | false ↦ λ t. ap (λ zs. y ∷ zs) (without-following k ls x rs (
         z,
         elim i [
           | inl q ↦ let P : Range → Type 0 = λ w. range_key w ≡ k in let u : (range_key y == k) ≡ true = alike (range_key y) k (subst P q e) in absurd (cc)
@@ -98,12 +98,12 @@ without-behind k (y ∷ ls) x rs (z, i, e) =
 resized-front : (k pages : ℕ) (y : Range) (ys : List Range) → range_key y < k → resized k pages (y ∷ ys) ≡ y ∷ resized k pages ys
 resized-front k pages y ys h = let e : (range_key y == k) ≡ false = unlike (range_key y) k h in ap (λ b. cond b (record y { pages = pages } ∷ ys) (y ∷ resized k pages ys)) e
 
-resized-behind : (k pages : ℕ) (ls : List Range) (x : Range) (rs : List Range) → Has k ls → resized k pages (ls ++ x ∷ rs) ≡ resized k pages ls ++ x ∷ rs
-resized-behind k pages [] x rs h = absurd h.1
-resized-behind k pages (y ∷ ls) x rs (z, i, e) =
+resized-following : (k pages : ℕ) (ls : List Range) (x : Range) (rs : List Range) → Has k ls → resized k pages (ls ++ x ∷ rs) ≡ resized k pages ls ++ x ∷ rs
+resized-following k pages [] x rs h = absurd h.1
+resized-following k pages (y ∷ ls) x rs (z, i, e) =
     elim (range_key y == k) as (λ b. (range_key y == k) ≡ b → cond b (record y { pages = pages } ∷ (ls ++ x ∷ rs)) (y ∷ resized k pages (ls ++ x ∷ rs)) ≡ cond b (record y { pages = pages } ∷ ls) (y ∷ resized k pages ls) ++ x ∷ rs) [
       | true ↦ λ t. refl
-      | false ↦ λ t. ap (λ zs. y ∷ zs) (resized-behind k pages ls x rs (
+      | false ↦ λ t. ap (λ zs. y ∷ zs) (resized-following k pages ls x rs (
         z,
         elim i [
           | inl q ↦ let P : Range → Type 0 = λ w. range_key w ≡ k in let u : (range_key y == k) ≡ true = alike (range_key y) k (subst P q e) in absurd (cc)
@@ -114,25 +114,25 @@ resized-behind k pages (y ∷ ls) x rs (z, i, e) =
     ] refl
 
 pub without-before : (k : ℕ) (ls ys : List Range) → ((z : Range) → In z ls → range_key z < k) → without_range k (ls ++ ys) ≡ ls ++ without_range k ys
-without-before k = front-all (without_range k) k (Has k) (without-front k) (λ ls x rs h le. without-behind k ls x rs h) (has-up k)
+without-before k = front-all (without_range k) k (Has k) (without-front k) (λ ls x rs h le. without-following k ls x rs h) (has-up k)
 
 pub resized-before : (k pages : ℕ) (ls ys : List Range) → ((z : Range) → In z ls → range_key z < k) → resized k pages (ls ++ ys) ≡ ls ++ resized k pages ys
-resized-before k pages = front-all (resized k pages) k (Has k) (resized-front k pages) (λ ls x rs h le. resized-behind k pages ls x rs h) (has-up k)
+resized-before k pages = front-all (resized k pages) k (Has k) (resized-front k pages) (λ ls x rs h le. resized-following k pages ls x rs h) (has-up k)
 
 pub graft-with : (new : Range) (low high : ℕ) (t s : Tree) (d : ℕ) → InOrder low high t → ranges s ≡ with_range new (ranges (down t (range_key new) d))
     → ranges (graft t (range_key new) d s) ≡ with_range new (ranges t)
 graft-with new low high t s d o e =
-    graft-ranges (with_range new) (range_key new) (λ xs. Unit {0}) (with-front new) (λ ls x rs h le. with-behind new ls x rs le) (λ t d h. h) low high t s d o tt e
+    graft-ranges (with_range new) (range_key new) (λ xs. Unit {0}) (with-front new) (λ ls x rs h le. with-following new ls x rs le) (λ t d h. h) low high t s d o tt e
 
 pub graft-without : (k low high : ℕ) (t s : Tree) (d : ℕ) → InOrder low high t → Has k (ranges (down t k d)) → ranges s ≡ without_range k (ranges (down t k d))
     → ranges (graft t k d s) ≡ without_range k (ranges t)
 graft-without k low high t s d o h e =
-    graft-ranges (without_range k) k (Has k) (without-front k) (λ ls x rs h le. without-behind k ls x rs h) (has-up k) low high t s d o h e
+    graft-ranges (without_range k) k (Has k) (without-front k) (λ ls x rs h le. without-following k ls x rs h) (has-up k) low high t s d o h e
 
 pub graft-resized : (k pages low high : ℕ) (t s : Tree) (d : ℕ) → InOrder low high t → Has k (ranges (down t k d)) → ranges s ≡ resized k pages (ranges (down t k d))
     → ranges (graft t k d s) ≡ resized k pages (ranges t)
 graft-resized k pages low high t s d o h e =
-    graft-ranges (resized k pages) k (Has k) (resized-front k pages) (λ ls x rs h le. resized-behind k pages ls x rs h) (has-up k) low high t s d o h e
+    graft-ranges (resized k pages) k (Has k) (resized-front k pages) (λ ls x rs h le. resized-following k pages ls x rs h) (has-up k) low high t s d o h e
 
 -- a tree cut at a new range's key, with the range between its parts
 pub cut-with : (new : Range) (low high : ℕ) (t : Tree) → InOrder low high t → ranges (cut Low (range_key new) t) ++ new ∷ ranges (cut High (range_key new) t) ≡ with_range new (ranges t)
@@ -146,12 +146,12 @@ cut-with new low high (Bin n x l r) o =
           ∙ append_assoc (ranges l) (x ∷ ranges (cut Low k r)) (new ∷ ranges (cut High k r))
           ∙ ap (λ zs. ranges l ++ x ∷ zs) (cut-with new (end_key x) high r o.2)
           ∙ ap (λ zs. ranges l ++ zs) (sym (with-front new x (ranges r) lt))
-          ∙ sym (front-node (with_range new) k (λ xs. Unit {0}) (with-front new) (λ ls x rs h le. with-behind new ls x rs le) (λ t d h. h) low high n x l r (x ∷ ranges r) o (omega arith))
+          ∙ sym (front-node (with_range new) k (λ xs. Unit {0}) (with-front new) (λ ls x rs h le. with-following new ls x rs le) (λ t d h. h) low high n x l r (x ∷ ranges r) o (omega arith))
       | inr ge ↦
           ap P (side-low (range_key x) k ge)
           ∙ sym (append_assoc (ranges (cut Low k l)) (new ∷ ranges (cut High k l)) (x ∷ ranges r))
           ∙ ap (λ zs. zs ++ x ∷ ranges r) (cut-with new low (range_key x) l o.1)
-          ∙ sym (with-behind new (ranges l) x (ranges r) ge)
+          ∙ sym (with-following new (ranges l) x (ranges r) ge)
     ]
 
 -- priorities: a heap with another one on a side of its top, under which each key of the top and each

@@ -8,13 +8,13 @@ pub record Holds (words : List ℕ) (root nodes : ℕ) (free : List ℕ) (held :
   pub treap : IsTreap words root nodes free (tree_at nodes words root)
   pub holds : ranges (tree_at nodes words root) ≡ held
 
-pub stands-treap : (words : List ℕ) (root nodes : ℕ) (free : List ℕ) (t : Tree) → IsTree words root t → length words ≡ 4 * nodes → length (ranges t) + length free ≡ nodes → Once free
+pub placed-treap : (words : List ℕ) (root nodes : ℕ) (free : List ℕ) (t : Tree) → IsTree words root t → length words ≡ 4 * nodes → length (ranges t) + length free ≡ nodes → Once free
     → ((e : ℕ) → In e free → IsEmpty words e) → Holds words root nodes free (ranges t)
-stands-treap words root nodes free t s size count once empty =
+placed-treap words root nodes free t s size count once empty =
     let e : tree_at nodes words root ≡ t = tree-is 0 (2 ^ 58) nodes words root t s.at (order-apart t s.apart) (omega arith) in
     let P : Tree → Type 0 = λ z. IsTreap words root nodes free z in
     record {
-      treap = subst P (sym e) (record { stands = s; size = size; count = count; free_once = once; empty = empty });
+      treap = subst P (sym e) (record { placed = s; size = size; count = count; free_once = once; empty = empty });
       holds = ap ranges e;
     }
 
@@ -38,7 +38,7 @@ pub can-put : (words : List ℕ) (root nodes n : ℕ) (front : List ℕ) (t : Tr
 can-put words root nodes n front t x k few apart =
     let e : IsEmpty words n = k.empty n (In-right n front (n ∷ []) (inl refl)) in
     let c = k.count in let s = k.size in let h = e.there in
-    record { stands = k.stands; few = omega arith; empty = e; small = omega arith; apart = apart }
+    record { placed = k.placed; few = omega arith; empty = e; small = omega arith; apart = apart }
 
 -- one range more, in a node that was free
 pub held-more : (old new : List ℕ) (root result nodes n : ℕ) (front : List ℕ) (t : Tree) (x : Range) → IsTreap old root nodes (front ++ n ∷ []) t → IsMade old new result n (with_range x (ranges t))
@@ -48,7 +48,7 @@ held-more old new root result nodes n front t x k m =
     let c = k.count in
     let l : length (ranges m.tree) ≡ suc (length (ranges t)) = ap length m.holds ∙ with-length x (ranges t) in
     let P : List Range → Type 0 = λ zs. Holds new result nodes front zs in
-    subst P m.holds (stands-treap new result nodes front m.tree m.stands (m.len ∙ k.size) (omega (arith, length-append front (n ∷ []))) once.0
+    subst P m.holds (placed-treap new result nodes front m.tree m.placed (m.len ∙ k.size) (omega (arith, length-append front (n ∷ []))) once.0
     (λ e i. m.others e (λ q. let N : ℕ → Type 0 = λ z. In z front in once.1 (subst N q i)) (k.empty e (In-left e front (n ∷ []) i))))
 
 -- one range less, whose node is free
@@ -59,7 +59,7 @@ held-less old new root result nodes n free t held k m l here was =
     let e : length (ranges m.tree) ≡ length held = ap length m.holds in
     let other : (e : ℕ) → In e free → e ≡ n → ⊥ = (λ e i q. was (let N : ℕ → Type 0 = λ z. IsEmpty old z in subst N q (k.empty e i))) in
     let P : List Range → Type 0 = λ zs. Holds new result nodes (free ++ n ∷ []) zs in
-    subst P m.holds (stands-treap new result nodes (free ++ n ∷ []) m.tree m.stands (m.len ∙ k.size) (omega (arith, length-append free (n ∷ [])))
+    subst P m.holds (placed-treap new result nodes (free ++ n ∷ []) m.tree m.placed (m.len ∙ k.size) (omega (arith, length-append free (n ∷ [])))
     (once-more free n k.free_once (λ i. other n i refl))
     (λ e i. elim (In-append e free (n ∷ []) i) [
       | inl j ↦ m.others e (other e j) (k.empty e j)
@@ -73,7 +73,7 @@ held-same old new root result nodes n free t held k m l was =
     let c = k.count in
     let e : length (ranges m.tree) ≡ length held = ap length m.holds in
     let P : List Range → Type 0 = λ zs. Holds new result nodes free zs in
-    subst P m.holds (stands-treap new result nodes free m.tree m.stands (m.len ∙ k.size) (omega arith) k.free_once
+    subst P m.holds (placed-treap new result nodes free m.tree m.placed (m.len ∙ k.size) (omega arith) k.free_once
     (λ e i. m.others e (λ q. was (let N : ℕ → Type 0 = λ z. IsEmpty old z in subst N q (k.empty e i))) (k.empty e i)))
 
 -- a treap of words that are these

@@ -1,12 +1,12 @@
 -- The search for the node whose pages hold a key.
 use Rattle.xl_treap.proofs.Common.{◌%◌, ◌*◌, ◌+◌, ◌-◌, ◌<◌, ◌^◌, ◌∙◌, ◌≡◌, ◌≤◌, ap, arith, Bin, examined, found, High, IsReached, IsTree, length, link_at, List, Low, pick-no, pick-yes, range_key, ranges, refl, slice_index, Some, suc, sym, Tip, Tree, ℕ}
-use Rattle.xl_treap.proofs.UnderLemmas.{IsTop, Stands, stands-tree, tip-of, top-of}
+use Rattle.xl_treap.proofs.UnderLemmas.{IsTop, IsPlaced, placed-tree, tip-of, top-of}
 
 -- a link reached by `loads` nodes: the tree under it decides, with the other nodes to examine
 pub record IsLeft (words : List ℕ) (t : Tree) (k loads at : ℕ) : Type 0 where
   pub small : at < 2 ^ 32
   pub under : Tree
-  pub stands : Stands words at under
+  pub placed : IsPlaced words at under
   pub few : loads + length (ranges under) ≤ length (ranges t)
   pub found_is : found t k ≡ found under k
   pub loads_is : examined t k ≡ loads + examined under k
@@ -15,11 +15,11 @@ pub left-start : (words : List ℕ) (t : Tree) (k root : ℕ) → root < 2 ^ 32 
 left-start words t k root small s =
     let few : 0 + length (ranges t) ≤ length (ranges t) = omega arith in
     let loads : examined t k ≡ 0 + examined t k = omega arith in
-    record { small = small; under = t; stands = stands-tree words root t s; few = few; found_is = refl; loads_is = loads }
+    record { small = small; under = t; placed = placed-tree words root t s; few = few; found_is = refl; loads_is = loads }
 
 pub left-end : {words : List ℕ} {t : Tree} {k loads at : ℕ} → IsLeft words t k loads at → at ≡ 0 → IsReached words t k (record { at = 0; loads = loads })
 left-end {words = words} {t = t} {k = k} {loads = loads} {at = at} b z =
-    let e : b.under ≡ Tip = tip-of words at b.under b.stands z in
+    let e : b.under ≡ Tip = tip-of words at b.under b.placed z in
     let none : examined b.under k ≡ 0 = ap (λ s. examined s k) e in
     let p = b.loads_is in
     record { at_in = omega arith; range_is = sym (b.found_is ∙ ap (λ s. found s k) e); loads_is = omega arith }
@@ -39,7 +39,7 @@ wrap-far k first pages s key ge far = let f = s.first_in in omega arith
 -- one node of the way
 module _ {words : List ℕ} {t : Tree} {k loads at : ℕ} (b : IsLeft words t k loads at) (some : 0 < at) where
   top : IsTop words at b.under
-  top = top-of words at b.under b.stands some
+  top = top-of words at b.under b.placed some
 
   pub left-there : 4 * (at - 1) + 4 ≤ length words
   left-there = top.node.there
@@ -53,13 +53,13 @@ module _ {words : List ℕ} {t : Tree} {k loads at : ℕ} (b : IsLeft words t k 
       record { first_in = omega arith; pages_in = omega arith }
 
   -- continues to one of the trees under the node
-  left-next : (next : ℕ) (s : Tree) → next < 2 ^ 32 → Stands words next s → length (ranges s) < length (ranges b.under)
+  left-next : (next : ℕ) (s : Tree) → next < 2 ^ 32 → IsPlaced words next s → length (ranges s) < length (ranges b.under)
       → found (Bin (at - 1) top.range top.low top.high) k ≡ found s k → examined (Bin (at - 1) top.range top.low top.high) k ≡ suc (examined s k) → IsLeft words t k (loads + 1) next
-  left-next next s fits stands less found_is loads_is =
+  left-next next s fits placed less found_is loads_is =
       let f = b.few in
       let n : examined b.under k ≡ suc (examined s k) = ap (λ z. examined z k) top.is ∙ loads_is in
       let p = b.loads_is in
-      record { small = fits; under = s; stands = stands; few = omega arith; found_is = b.found_is ∙ ap (λ z. found z k) top.is ∙ found_is; loads_is = omega arith }
+      record { small = fits; under = s; placed = placed; few = omega arith; found_is = b.found_is ∙ ap (λ z. found z k) top.is ∙ found_is; loads_is = omega arith }
 
   pub left-below : k < slice_index words (4 * (at - 1)) → IsLeft words t k (loads + 1) (link_at Low words (at - 1))
   left-below lt =
@@ -73,10 +73,10 @@ module _ {words : List ℕ} {t : Tree} {k loads at : ℕ} (b : IsLeft words t k 
       let w = wrap-far k (slice_index words (4 * (at - 1))) (slice_index words (4 * (at - 1) + 1)) small key ge far in
       let e = top.node.key_is in let p = top.node.pages_is in let z = top.size_is in
       let from : range_key top.range ≤ k = omega arith in
-      let behind : top.range.pages ≤ k - range_key top.range = omega arith in
+      let following : top.range.pages ≤ k - range_key top.range = omega arith in
       left-next (link_at High words (at - 1)) top.high (omega arith) (top.under High) (omega arith)
-      (pick-no k (range_key top.range) _ _ from ∙ pick-no (k - range_key top.range) top.range.pages _ _ behind)
-      (pick-no k (range_key top.range) _ _ from ∙ pick-no (k - range_key top.range) top.range.pages _ _ behind)
+      (pick-no k (range_key top.range) _ _ from ∙ pick-no (k - range_key top.range) top.range.pages _ _ following)
+      (pick-no k (range_key top.range) _ _ from ∙ pick-no (k - range_key top.range) top.range.pages _ _ following)
 
   pub left-here : k < 2 ^ 58 → (k + (2 ^ 64 - slice_index words (4 * (at - 1)))) % 2 ^ 64 < slice_index words (4 * (at - 1) + 1) → IsReached words t k (record { at = at; loads = loads + 1 })
   left-here key near =

@@ -45,17 +45,17 @@ top-In words at k (Bin n x l r) i h e =
 
 module _ (w0 w1 : List ℕ) (root nodes : ℕ) (t : Tree) (n : ℕ) (x : Range) (can : CanPut w0 root nodes t n x) where
   order : InOrder 0 (2 ^ 58) t
-  order = order-apart t can.stands.apart
+  order = order-apart t can.placed.apart
 
   pub put-fit : IsFit x
   put-fit = with-fit x (ranges t) can.apart
 
   off : Off n t
-  off = off-empty w0 n 0 (2 ^ 58) t can.empty (at-keeps w0 root t can.stands.at) order
+  off = off-empty w0 n 0 (2 ^ 58) t can.empty (at-keeps w0 root t can.placed.at) order
 
   module _ (lined : IsLined w0 w1 n x) where
     pub put-at : IsAt w1 root t
-    put-at = frame w0 w1 root t lined.len (each-map (λ m. m ≡ n → ⊥) (SameLine w0 w1) t (λ m ne. lined-line w0 w1 n x m lined ne) off) can.stands.at
+    put-at = frame w0 w1 root t lined.len (each-map (λ m. m ≡ n → ⊥) (SameLine w0 w1) t (λ m ne. lined-line w0 w1 n x m lined ne) off) can.placed.at
 
     node-one : IsNode w1 n x
     node-one = record { there = (let a = can.empty.there in let b = lined.len in omega arith); key_is = lined.key_is; pages_is = lined.pages_is; word_is = lined.word_is }
@@ -71,7 +71,7 @@ module _ (w0 w1 : List ℕ) (root nodes : ℕ) (t : Tree) (n : ℕ) (x : Range) 
       pub put-part : CanPart w1 path t (range_key x) depth
       put-part =
           let A : ℕ → Type 0 = λ a. IsWay w1 path t (range_key x) depth a in
-          record { way = subst A put-none way; order = order; heap = can.stands.heap }
+          record { way = subst A put-none way; order = order; heap = can.placed.heap }
 
       module _ (w2 : List ℕ) (parts : Parts) (parted : IsParted w1 w2 t (range_key x) depth parts) where
         abbrev under : Tree
@@ -171,7 +171,7 @@ module _ (w0 w1 : List ℕ) (root nodes : ℕ) (t : Tree) (n : ℕ) (x : Range) 
 
           made-heap : IsHeap made
           made-heap =
-              let h : IsHeap under = heap-down t (range_key x) parts.depth can.stands.heap in (
+              let h : IsHeap under = heap-down t (range_key x) parts.depth can.placed.heap in (
                 over-cut (range_key x) Low (range_key x) under parted.place.over,
                 over-cut (range_key x) High (range_key x) under parted.place.over,
                 heap-cut Low (range_key x) under h,
@@ -208,7 +208,7 @@ put-made w0 w1 w2 w3 w4 path root nodes n depth at result t x parts can lined wa
     let und : Tree = down t k parts.depth in
     let mad : Tree = Bin n x (cut Low k und) (cut High k und) in
     let bas : List ℕ = slice_set w1 (4 * n + 3) (slice_index w3 (4 * n + 3)) in
-    let ord : InOrder 0 (2 ^ 58) t = order-apart t can.stands.apart in
+    let ord : InOrder 0 (2 ^ 58) t = order-apart t can.placed.apart in
     let done : Attached bas w4 t k parts.depth mad result =
     attached bas w3 w4 path 0 (2 ^ 58) root result k parts.depth (n + 1) t mad
     (base-at w0 w1 root nodes t n x can lined path depth at way w2 parts parted w3 linked root t (off w0 w1 root nodes t n x can) (put-at w0 w1 root nodes t n x can lined))
@@ -221,16 +221,16 @@ put-made w0 w1 w2 w3 w4 path root nodes n depth at result t x parts can lined wa
     let A : List Range → Type 0 = λ zs. IsApart 0 zs in
     record {
       tree = graft t k parts.depth mad;
-      stands = record {
+      placed = record {
         at = done.here;
-        heap = heap-place t mad k parts.depth can.stands.heap (made-heap w0 w1 root nodes t n x can lined path depth at way w2 parts parted w3 linked) parted.place.stop
+        heap = heap-place t mad k parts.depth can.placed.heap (made-heap w0 w1 root nodes t n x can lined path depth at way w2 parts parted w3 linked) parted.place.stop
             (made-over w0 w1 root nodes t n x can lined path depth at way w2 parts parted w3 linked);
         apart = subst A (sym ranges-are) can.apart;
       };
       holds = ranges-are;
       len = done.off.len ∙ base-len w0 w1 root nodes t n x can lined path depth at way w2 parts parted w3 linked ∙ lined.len;
       others = λ e ne empty.
-          let o : Off e t = off-empty w0 e 0 (2 ^ 58) t empty (at-keeps w0 root t can.stands.at) ord in
+          let o : Off e t = off-empty w0 e 0 (2 ^ 58) t empty (at-keeps w0 root t can.placed.at) ord in
           let there = empty.there in
           let len : length w4 ≡ length w0 = done.off.len ∙ base-len w0 w1 root nodes t n x can lined path depth at way w2 parts parted w3 linked ∙ lined.len in
           record {

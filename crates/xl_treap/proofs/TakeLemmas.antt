@@ -139,7 +139,7 @@ sized-line old new n pages m h ne = λ j l. h.others (4 * m + j) (λ q. ne (omeg
 
 module _ (w0 path : List ℕ) (root nodes : ℕ) (t : Tree) (k depth at : ℕ) (can : CanTake w0 root nodes t k) (way : IsWay w0 path t k depth at) where
   order : InOrder 0 (2 ^ 58) t
-  order = order-apart t can.stands.apart
+  order = order-apart t can.placed.apart
 
   has : Has k (ranges (down t k depth))
   has = has-down w0 path t k depth at 0 (2 ^ 58) way order (has-held k (ranges t) can.held) depth (omega arith)
@@ -175,7 +175,7 @@ module _ (w0 path : List ℕ) (root nodes : ℕ) (t : Tree) (k depth at : ℕ) (
       (o.0, o.1, subst T take-key.is o.2)
 
   top-heap : IsHeap (Bin node range low high)
-  top-heap = let T : Tree → Type 0 = λ z. IsHeap z in subst T take-key.is (heap-down t k depth can.stands.heap)
+  top-heap = let T : Tree → Type 0 = λ z. IsHeap z in subst T take-key.is (heap-down t k depth can.placed.heap)
 
   -- a node that is no node of the tree so far down isn't one of the trees under its top
   parent-off : (d : ℕ) → depth ≡ suc d → Off (slice_index path d - 1) (Bin node range low high)
@@ -276,12 +276,12 @@ module _ (w0 path : List ℕ) (root nodes : ℕ) (t : Tree) (k depth at : ℕ) (
 
     whole-heap : IsHeap whole
     whole-heap =
-        (heap-graft t (merge low high) k depth can.stands.heap (merge-heap low high top-heap.2 top-heap.3)
+        (heap-graft t (merge low high) k depth can.placed.heap (merge-heap low high top-heap.2 top-heap.3)
         (λ y o. let T : Tree → Type 0 = λ z. Over y z in let p = subst T take-key.is o in merge-over y low high p.1 p.2)).0
 
     module _ (w2 w3 : List ℕ) (result : ℕ) (put : IsAttached w1 w2 root result (parent_at path depth) k top) (sized : IsSized w2 w3 (at - 1) 0) where
       now : Attached w0 w2 t k depth (merge low high) result
-      now = attached w0 w1 w2 path 0 (2 ^ 58) root result k depth top t (merge low high) can.stands.at order take-parent under-off both.here put
+      now = attached w0 w1 w2 path 0 (2 ^ 58) root result k depth top t (merge low high) can.placed.at order take-parent under-off both.here put
 
       gone : node ≡ at - 1
       gone = let z = take-key.link in omega arith
@@ -295,7 +295,7 @@ module _ (w0 path : List ℕ) (root nodes : ℕ) (t : Tree) (k depth at : ℕ) (
 
       gone-off : Off (at - 1) whole
       gone-off = off-miss w2 (at - 1) k whole key-stays (at-keeps w2 result whole now.here)
-          (λ y i e. let I : List Range → Type 0 = λ zs. In y zs in without-misses 0 k y (ranges t) (omega arith) can.stands.apart (subst I whole-ranges i) e)
+          (λ y i e. let I : List Range → Type 0 = λ zs. In y zs in without-misses 0 k y (ranges t) (omega arith) can.placed.apart (subst I whole-ranges i) e)
 
       pub take-made : IsTaken w0 w3 t k result (at - 1)
       take-made =
@@ -308,15 +308,15 @@ module _ (w0 path : List ℕ) (root nodes : ℕ) (t : Tree) (k depth at : ℕ) (
           record {
             made = record {
               tree = whole;
-              stands = record {
+              placed = record {
                 at = frame w2 w3 result whole sized.len (each-map (λ m. m ≡ at - 1 → ⊥) (SameLine w2 w3) whole (λ m ne. sized-line w2 w3 (at - 1) 0 m sized ne) gone-off) now.here;
                 heap = whole-heap;
-                apart = subst A (sym whole-ranges) (without-apart 0 k (ranges t) can.stands.apart);
+                apart = subst A (sym whole-ranges) (without-apart 0 k (ranges t) can.placed.apart);
               };
               holds = whole-ranges;
               len = len;
               others = λ e ne empty.
-                  let off : Off e t = off-empty w0 e 0 (2 ^ 58) t empty (at-keeps w0 root t can.stands.at) order in
+                  let off : Off e t = off-empty w0 e 0 (2 ^ 58) t empty (at-keeps w0 root t can.placed.at) order in
                   let there = empty.there in
                   record { there = omega arith; none = sized-line w2 w3 (at - 1) 0 e sized ne 1 (omega arith) ∙ now.off.same e off 1 (omega arith) ∙ empty.none };
             };
@@ -395,9 +395,9 @@ module _ (w0 path : List ℕ) (root nodes : ℕ) (t : Tree) (k depth at : ℕ) (
           node = node;
           made = record {
             tree = graft t k depth changed;
-            stands = record {
-              at = lift w0 w1 0 (2 ^ 58) root at k depth t changed can.stands.at order way.here changed-off changed-at;
-              heap = (heap-graft t changed k depth can.stands.heap top-heap (λ y p. let T : Tree → Type 0 = λ z. Over y z in subst T take-key.is p)).0;
+            placed = record {
+              at = lift w0 w1 0 (2 ^ 58) root at k depth t changed can.placed.at order way.here changed-off changed-at;
+              heap = (heap-graft t changed k depth can.placed.heap top-heap (λ y p. let T : Tree → Type 0 = λ z. Over y z in subst T take-key.is p)).0;
               apart = subst A (sym resized-is) apart;
             };
             holds = resized-is;

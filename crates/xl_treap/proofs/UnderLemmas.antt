@@ -5,14 +5,14 @@ use Rattle.xl_treap.proofs.SideLemmas.{at-side, order-side}
 use Rattle.xl_treap.proofs.WordLemmas.{node-said}
 
 -- a tree is in the words from a link on, in order
-pub record Stands (words : List ℕ) (at : ℕ) (s : Tree) : Type 0 where
+pub record IsPlaced (words : List ℕ) (at : ℕ) (s : Tree) : Type 0 where
   pub here : IsAt words at s
   pub order : (low : ℕ) × (high : ℕ) × InOrder low high s
 
-pub stands-tree : (words : List ℕ) (root : ℕ) (t : Tree) → IsTree words root t → Stands words root t
-stands-tree words root t s = record { here = s.at; order = (0, 2 ^ 58, order-apart t s.apart) }
+pub placed-tree : (words : List ℕ) (root : ℕ) (t : Tree) → IsTree words root t → IsPlaced words root t
+placed-tree words root t s = record { here = s.at; order = (0, 2 ^ 58, order-apart t s.apart) }
 
-pub tip-of : (words : List ℕ) (at : ℕ) (s : Tree) → Stands words at s → at ≡ 0 → s ≡ Tip
+pub tip-of : (words : List ℕ) (at : ℕ) (s : Tree) → IsPlaced words at s → at ≡ 0 → s ≡ Tip
 tip-of words at Tip h z = refl
 tip-of words at (Bin n x l r) h z = absurd (let i = h.here in let e = i.0 in omega arith)
 
@@ -27,9 +27,9 @@ pub record IsTop (words : List ℕ) (at : ℕ) (s : Tree) : Type 0 where
   pub said : range_of_link words at ≡ Some range
   pub size_is : length (ranges s) ≡ length (ranges low) + suc (length (ranges high))
   pub lower : (z : Range) → In z (ranges low) → range_key z < range_key range
-  pub under : (s : Side) → Stands words (link_at s words (at - 1)) (on_side s low high)
+  pub under : (s : Side) → IsPlaced words (link_at s words (at - 1)) (on_side s low high)
 
-pub top-of : (words : List ℕ) (at : ℕ) (s : Tree) → Stands words at s → 0 < at → IsTop words at s
+pub top-of : (words : List ℕ) (at : ℕ) (s : Tree) → IsPlaced words at s → 0 < at → IsTop words at s
 top-of words at Tip h some = absurd (let e : at ≡ 0 = h.here in omega arith)
 top-of words at (Bin n x l r) h some =
     let i = h.here in

@@ -24,7 +24,7 @@ after_load t = record t { seen = record t.seen { loads = counted t.seen.loads } 
 
 -- A treap's words: a tree, and nodes that are free.
 pub record IsTreap (words : List ℕ) (root nodes : ℕ) (free : List ℕ) (t : Tree) : Type 0 where
-  pub stands : IsTree words root t
+  pub placed : IsTree words root t
   pub size : length words ≡ 4 * nodes
   pub count : length (ranges t) + length free ≡ nodes
   pub free_once : Once free

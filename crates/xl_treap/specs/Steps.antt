@@ -125,7 +125,7 @@ StayEmpty old new n = (e : ℕ) → (e ≡ n → ⊥) → IsEmpty old e → IsEm
 -- the words have a tree of these ranges, and nodes that are free stay free, but for this one
 pub record IsMade (old new : List ℕ) (root n : ℕ) (held : List Range) : Type 0 where
   pub tree : Tree
-  pub stands : IsTree new root tree
+  pub placed : IsTree new root tree
   pub holds : ranges tree ≡ held
   pub len : length new ≡ length old
   pub others : StayEmpty old new n
@@ -155,7 +155,7 @@ pub record IsParted (old new : List ℕ) (t : Tree) (k depth : ℕ) (parts : Par
 
 -- a range can be put into a free node, since it lies over none
 pub record CanPut (words : List ℕ) (root nodes : ℕ) (t : Tree) (n : ℕ) (x : Range) : Type 0 where
-  pub stands : IsTree words root t
+  pub placed : IsTree words root t
   pub few : length (ranges t) ≤ nodes
   pub empty : IsEmpty words n
   pub small : n < 2 ^ 31
@@ -182,7 +182,7 @@ pub record IsRisen (old new : List ℕ) (t : Tree) (at : ℕ) : Type 0 where
 
 -- a tree has a key
 pub record CanTake (words : List ℕ) (root nodes : ℕ) (t : Tree) (k : ℕ) : Type 0 where
-  pub stands : IsTree words root t
+  pub placed : IsTree words root t
   pub few : length (ranges t) ≤ nodes
   pub held : list_any (has_key k) (ranges t) ≡ true
 

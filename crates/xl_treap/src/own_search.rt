@@ -18,7 +18,7 @@ pub(crate) struct Reached {
 /// and LLVM needs no branch for the choice.
 pub(crate) fn node_with(words: &[u64], root: u32, key: u64) -> Reached
     ghost tree: { Tree }
-    requires stands { IsTree words.now root tree }
+    requires placed { IsTree words.now root tree }
     requires few { length (ranges tree) < 2 ^ 32 }
     requires key_in { key < 2 ^ 58 }
     ensures { IsReached words.now tree key result }

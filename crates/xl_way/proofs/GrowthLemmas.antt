@@ -60,7 +60,7 @@ by-low low wide p m l b w e =
 -- no key has the slot to which it moves, unless that is the slot where it is
 by-empty : (low wide other far p m at : ℕ) → low < m → p < m → (wide ≡ low) ⊎ (wide ≡ low + m) → (far ≡ other) ⊎ (far ≡ other + m) → other < m
     → slot_by true p low wide ≡ p → slot_by true (p + 1) low wide ≡ at → slot_by true p other far ≡ at → at ≡ p
-by-empty low wide other far p m at l b w f o here goes stands =
+by-empty low wide other far p m at l b w f o here goes is_placed =
     let e : low ≡ p = by-low low wide p m l b w here in
     let t : nat_lt low (p + 1) ≡ true = grind (arith, nat_tests) in
     let g : wide ≡ at = rw t at goes in
@@ -71,13 +71,13 @@ by-empty low wide other far p m at l b w f o here goes stands =
             | inr q ↦ elim f [ inl z ↦ absurd (omega arith) | inr z ↦ absurd (omega arith) ]
           ]
       | false ↦ λ u k. elim w [ inl q ↦ omega arith | inr q ↦ absurd (omega arith) ]
-    ] refl stands
+    ] refl is_placed
 
 pub slot-empty : (r : WayRegs) (h k at : ℕ) → r.growing ≡ true → r.p < 2 ^ r.s → slot_at r h ≡ r.p → slot_at (regs_after 1 r) h ≡ at → slot_at r k ≡ at → at ≡ r.p
-slot-empty r h k at growing below here goes stands =
+slot-empty r h k at growing below here goes is_placed =
     by-empty (h % 2 ^ r.s) (h % 2 ^ (r.s + 1)) (k % 2 ^ r.s) (k % 2 ^ (r.s + 1)) r.p (2 ^ r.s) at
     (low-below h r.s) below (one-more-bit h r.s) (one-more-bit k r.s) (low-below k r.s)
-    (sym (slot-now r h growing) ∙ here) (sym (slot-after r h growing below) ∙ goes) (sym (slot-now r k growing) ∙ stands)
+    (sym (slot-now r h growing) ∙ here) (sym (slot-after r h growing below) ∙ goes) (sym (slot-now r k growing) ∙ is_placed)
 
 -- a migrated slot's key stays within the slots that the way grows to
 pub slot-within : (r : WayRegs) (h : ℕ) → r.growing ≡ true → r.p < 2 ^ r.s → slot_at (regs_after 1 r) h < 2 ^ (r.s + 1)

@@ -328,8 +328,8 @@ module _ (number cap : ℕ) (r : WayRegs) (xs : List Entry) (used : ℕ) (k : Is
       at-empty : (b : Bool) → ((cell xs goes).word == 0) ≡ b → (goes ≡ r.p → ⊥) → cell xs goes ≡ no_entry
       at-empty true t o = k.placed.empty goes goes-in (grind (arith, nat_tests))
       at-empty false t o =
-          let stands = k.placed.full goes goes-in (λ e. grind (arith, nat_tests)) in
-          absurd (o (slot-empty r (way_hash number (cell xs r.p).key) (way_hash number (cell xs goes).key) goes growing k.regs.below (k.placed.full r.p pointer-in full) refl stands))
+          let is_placed = k.placed.full goes goes-in (λ e. grind (arith, nat_tests)) in
+          absurd (o (slot-empty r (way_hash number (cell xs r.p).key) (way_hash number (cell xs goes).key) goes growing k.regs.below (k.placed.full r.p pointer-in full) refl is_placed))
 
       by : (b : Bool) → (goes == r.p) ≡ b → cell cleared goes ≡ no_entry
       by true t =

@@ -56,17 +56,17 @@ pub standing-is : (number cap : ℕ) (r : WayRegs) (xs : List Entry) (i : ℕ) �
 unfolding standing
 standing-is number cap r xs i placed less =
     ap or_empty (find-at number r xs placed i (λ e. slot r number e.key == i) less (λ e t. grind (arith, nat_tests)))
-    ∙ stands (cell xs i) ((cell xs i).word == 0) refl (λ f. placed.full i less f) (λ z. placed.empty i less z)
+    ∙ is_placed (cell xs i) ((cell xs i).word == 0) refl (λ f. placed.full i less f) (λ z. placed.empty i less z)
   where
-    stands : (x : Entry) (b : Bool) → (x.word == 0) ≡ b → ((x.word ≡ 0 → ⊥) → slot r number x.key ≡ i) → (x.word ≡ 0 → x ≡ no_entry)
+    is_placed : (x : Entry) (b : Bool) → (x.word == 0) ≡ b → ((x.word ≡ 0 → ⊥) → slot r number x.key ≡ i) → (x.word ≡ 0 → x ≡ no_entry)
         → or_empty (passing (λ e. slot r number e.key == i) x) ≡ x
-    stands x true t full empty =
+    is_placed x true t full empty =
         let e : x ≡ no_entry = empty (grind (arith, nat_tests)) in
         elim (slot r number x.key == i) as (λ a. or_empty (cond (a && not (x.word == 0)) (Some x) None) ≡ x) [
           | true ↦ rw t (sym e)
           | false ↦ sym e
         ]
-    stands x false t full empty =
+    is_placed x false t full empty =
         let e : (slot r number x.key == i) ≡ true = eq-eqb _ _ (full (λ z. grind (arith, nat_tests))) in
         rw (e, t) refl
 
@@ -178,8 +178,8 @@ module _ (number cap : ℕ) (r : WayRegs) (xs : List Entry) (used : ℕ) (k : Is
       says x false false t u = rw t refl
 
   -- an entry that is held is in its slot
-  pub stands-in : (e : Entry) → In e (entries_of xs) → (cell xs (slot r number e.key) ≡ e) × (0 < e.word)
-  stands-in e i =
+  pub is_placed-in : (e : Entry) → In e (entries_of xs) → (cell xs (slot r number e.key) ≡ e) × (0 < e.word)
+  is_placed-in e i =
       let at : ℕ = slot r number e.key in
       let found : find (is_same e) (entries_of xs) ≡ passing (is_same e) (cell xs at) =
       find-at number r xs k.placed at (is_same e) (slot-inside number cap r xs used e.key k) (λ x t. ap (λ (n : ℕ). slot r number n) (same-key e x t)) in
@@ -189,14 +189,14 @@ pub read-back : (number cap : ℕ) (r : WayRegs) (xs : List Entry) (used : ℕ) 
 read-back number cap r xs used k = record {
   size = words-size (way_of number cap r (entries_of xs));
   keys = λ e i. key-in number cap r xs used k (slot r number e.key) (slot-inside number cap r xs used e.key k)
-      ∙ ap (λ (x : Entry). x.key) (stands-in number cap r xs used k e i).0;
+      ∙ ap (λ (x : Entry). x.key) (is_placed-in number cap r xs used k e i).0;
   words = λ e i. word-in number cap r xs used k (slot r number e.key) (slot-inside number cap r xs used e.key k)
-      ∙ ap (λ (x : Entry). x.word) (stands-in number cap r xs used k e i).0;
+      ∙ ap (λ (x : Entry). x.word) (is_placed-in number cap r xs used k e i).0;
   found = λ key. look-is number cap r xs used k key;
 }
 
 pub are-apart : (number cap : ℕ) (r : WayRegs) (xs : List Entry) (used : ℕ) → IsKept number cap r xs used → AreApart (way_of number cap r (entries_of xs))
 are-apart number cap r xs used k = record {
-  slots = λ x y i j e. sym (stands-in number cap r xs used k x i).0 ∙ ap (λ (n : ℕ). cell xs n) e ∙ (stands-in number cap r xs used k y j).0;
-  some = λ e i. (stands-in number cap r xs used k e i).1;
+  slots = λ x y i j e. sym (is_placed-in number cap r xs used k x i).0 ∙ ap (λ (n : ℕ). cell xs n) e ∙ (is_placed-in number cap r xs used k y j).0;
+  some = λ e i. (is_placed-in number cap r xs used k e i).1;
 }

@@ -53,7 +53,7 @@ fn answer<F: Folder, K: Sink, E: Sink>(
     requires out_flushed { IsFlushed K.sink out.old }
     requires err_flushed { IsFlushed E.sink err.old }
     ensures lacking { IfErr words (λ why. result ≡ code_without why) }
-    ensures told { IfOk words (λ ws. IfSome (F.folder.files folder.old) (λ fs. EndsWithCode result
+    ensures known { IfOk words (λ ws. IfSome (F.folder.files folder.old) (λ fs. EndsWithCode result
         (account_of (map string_bytes ws.items) fs)
         (K.sink.outside out.old).written (K.sink.outside out.new).written)) }
 {
@@ -74,7 +74,7 @@ fn serve<F: Folder, K: Sink, E: Sink>(
 ) -> Status
     requires out_flushed { IsFlushed K.sink out.old }
     requires err_flushed { IsFlushed E.sink err.old }
-    ensures told { IfSome (F.folder.files folder.old) (λ fs. Answers result
+    ensures known { IfSome (F.folder.files folder.old) (λ fs. Answers result
         (account_of (map string_bytes words.now.items) fs)
         (K.sink.outside out.old).written (K.sink.outside out.new).written) }
 {

@@ -1,4 +1,4 @@
-use Rattle.xl_bench.proofs.Common.{◌∙◌, ◌≡◌, ◌⊎◌, account_of, Asked, asked_account, asked_machines, curve_of, Ends, IfSome, inl, is_asked_late, IsUnserved, machines_left, map, Option, plain_account, plain_of, plain_rows, string_bytes, subst, sym, told_one, true}
+use Rattle.xl_bench.proofs.Common.{◌∙◌, ◌≡◌, ◌⊎◌, account_of, Asked, asked_account, asked_machines, curve_of, Ends, IfSome, inl, is_asked_late, IsUnserved, machines_left, map, Option, plain_account, plain_of, plain_rows, string_bytes, subst, sym, known_one, true}
 use Rattle.xl_curving.specs.Curving.{curve_account, curve_rows}
 use Rattle.xl_bench.proofs.MachineLemmas.{harts_unserved, nested_unserved, none_unserved, rows_early, rows_left, rows_unserved}
 use Rattle.xl_bench.proofs.WordLemmas.{few_sets, words_refused}
@@ -13,25 +13,25 @@ pub report-requires-in-Ok-Curve-clause-most : goal.report-requires-in-Ok-Curve-c
 report-requires-in-Ok-Curve-clause-most g c =
     (few_sets (map string_bytes c.args.words.now.items) (curve_of c.in-Ok-Curve.words) (rw (c.as_slice.ensures.value, c.in-Ok-Curve.field-0-is) at c.in-Ok-Curve.ensures)).1
 
-pub returns-in-Ok-Plain-clause-told : goal.returns-in-Ok-Plain-clause-told
+pub returns-in-Ok-Plain-clause-known : goal.returns-in-Ok-Plain-clause-known
 unfolding account_of machines_left
-returns-in-Ok-Plain-clause-told g c =
+returns-in-Ok-Plain-clause-known g c =
     let out = c.args.out.now in
     let new = c.report.new.out in
     let a = plain_of c.in-Ok-Plain.words in
-    told_one (g.F.Folder.folder.files c.args.folder.now) _ _ c.report.ensures.told
+    known_one (g.F.Folder.folder.files c.args.folder.now) _ _ c.report.ensures.known
     (λ fs h. subst (λ (z : Option Asked). Ends c.report.result (asked_account z fs) g.K.Sink.sink.roomy (g.K.Sink.sink.outside out).written (g.K.Sink.sink.outside new).written out new
     (record (the_view c.machines.inside) { rows = c.report.new.rows } ≡ asked_machines z fs))
     (sym (rw (c.as_slice.ensures.value, c.in-Ok-Plain.field-0-is) at c.in-Ok-Plain.ensures))
     (rows_left c.report.result (plain_account a fs) g.K.Sink.sink.roomy (g.K.Sink.sink.outside out).written (g.K.Sink.sink.outside new).written out new (the_view c.machines.inside) c.report.new.rows (plain_rows a fs) (c.machines.view_is ∙ c.requires.none) h))
 
-pub returns-in-Ok-Curve-clause-told : goal.returns-in-Ok-Curve-clause-told
+pub returns-in-Ok-Curve-clause-known : goal.returns-in-Ok-Curve-clause-known
 unfolding account_of machines_left
-returns-in-Ok-Curve-clause-told g c =
+returns-in-Ok-Curve-clause-known g c =
     let out = c.args.out.now in
     let new = c.report-in-Ok-Curve.new.out in
     let a = curve_of c.in-Ok-Curve.words in
-    told_one (g.F.Folder.folder.files c.args.folder.now) _ _ c.report-in-Ok-Curve.ensures.told
+    known_one (g.F.Folder.folder.files c.args.folder.now) _ _ c.report-in-Ok-Curve.ensures.known
     (λ fs h. subst (λ (z : Option Asked). Ends c.report-in-Ok-Curve.result (asked_account z fs) g.K.Sink.sink.roomy (g.K.Sink.sink.outside out).written (g.K.Sink.sink.outside new).written out new
     (record (the_view c.machines.inside) { rows = c.report-in-Ok-Curve.new.rows } ≡ asked_machines z fs))
     (sym (rw (c.as_slice.ensures.value, c.in-Ok-Curve.field-0-is) at c.in-Ok-Curve.ensures))

@@ -1,4 +1,4 @@
-use Rattle.xl_bench.proofs.Common.{◌∙◌, ◌≡◌, account_of, Ends, EndsAs, machines_left, map, Says, string_bytes, sym, told_one}
+use Rattle.xl_bench.proofs.Common.{◌∙◌, ◌≡◌, account_of, Ends, EndsAs, machines_left, map, Says, string_bytes, sym, known_one}
 use Rattle.xl_course.proofs.MessageLemmas.{run_says}
 use Rattle.xl_bench.proofs.MachineLemmas.{no_memory_by}
 use Rattle.xl_bench.proofs.bench.run.Goals as goal
@@ -11,10 +11,10 @@ returns-clause-said g c =
     let before = (g.K.Sink.sink.outside c.args.out.now).written in
     let after = (g.K.Sink.sink.outside c.report_of-end.new.out).written in
     rw c.of.ensures
-    (run_says (λ text. Says g.E.Sink.sink text c.args.err.now c.tell.new.err) files (account_of words) end before after
-    (told_one files (λ fs. Ends end (account_of words fs) g.K.Sink.sink.roomy before after c.args.out.now c.report_of-end.new.out (c.report_of-end.new.machines ≡ machines_left words fs))
-    (λ fs. EndsAs end (account_of words fs) before after) c.report_of-end.ensures.told (λ fs h. h.as_said))
-    c.tell.ensures)
+    (run_says (λ text. Says g.E.Sink.sink text c.args.err.now c.report_end.new.err) files (account_of words) end before after
+    (known_one files (λ fs. Ends end (account_of words fs) g.K.Sink.sink.roomy before after c.args.out.now c.report_of-end.new.out (c.report_of-end.new.machines ≡ machines_left words fs))
+    (λ fs. EndsAs end (account_of words fs) before after) c.report_of-end.ensures.known (λ fs h. h.as_said))
+    c.report_end.ensures)
 
 pub returns-clause-early : goal.returns-clause-early
 returns-clause-early g c e =

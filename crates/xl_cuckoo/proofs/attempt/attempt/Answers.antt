@@ -14,12 +14,12 @@ kicks-init c =
       back = refl;
       inside = c.requires.start;
       full = c.requires.full;
-      told = ap (λ (ms : List Moved). length ms) c.requires.none;
+      known = ap (λ (ms : List Moved). length ms) c.requires.none;
       hands = ap (λ (ms : List Moved). map key_of ms) (sym c.requires.none);
     }
 
-pub returns-in-None-clause-stands : goal.returns-in-None-clause-stands
-returns-in-None-clause-stands c t =
+pub returns-in-None-clause-succeeds : goal.returns-in-None-clause-succeeds
+returns-in-None-clause-succeeds c t =
     sym c.kicks.invariant.rest
     ∙ attempt-free (c.args.limit - c.kicks._i) c.kicks.ways c.swap_at.new.ways c.kicks.at c.kicks.hand (map displaced c.kicks.moved.items)
     (sym c.swap_at.ensures.left ∙ c.in-None.is) c.swap_at.ensures.ways
@@ -37,13 +37,13 @@ kicks-preserved c =
     let length-is : length vs ≡ length ws = ap (λ (us : List WayState). length us) c.swap_at.ensures.ways ∙ put-length ws at c.kicks.hand in
     let to : c.next-at.result ≡ next_way (length ws) at = c.next-at.ensures.is ∙ ap (λ (m : ℕ). next_way m at) length-is in
     let last : List Moved = record { key = e.key; way = c.next-at.result } ∷ [] in
-    let new-told : map displaced c.push.new.self.items ≡ ms ++ record { key = e.key; way = c.next-at.result } ∷ [] =
+    let new-known : map displaced c.push.new.self.items ≡ ms ++ record { key = e.key; way = c.next-at.result } ∷ [] =
     ap (map displaced) c.push.ensures.items ∙ map-append displaced c.kicks.moved.items last in
     let I : Option Entry → Type 0 = λ o. IfSome o (λ d. put_at vs at d ≡ ws) in
     let A : Option Entry → Type 0 = λ o. IfSome o (λ d. occupant (state_at vs at).shape d.key ≡ Some c.kicks.hand) in
     let F : Option Entry → Type 0 = λ o. IfSome o (λ d. 0 < d.word) in
     record {
-      rest = ap (λ (l : List Displaced). attempt n (shapes vs) c.next-at.result e l) new-told
+      rest = ap (λ (l : List Displaced). attempt n (shapes vs) c.next-at.result e l) new-known
           ∙ ap (λ (a : ℕ). attempt n (shapes vs) a e (ms ++ record { key = e.key; way = a } ∷ [])) to
           ∙ sym (attempt-step n ws vs at c.kicks.hand e ms stood c.swap_at.ensures.ways)
           ∙ ap (λ (m : ℕ). attempt m (shapes ws) at c.kicks.hand ms) more
@@ -59,11 +59,11 @@ kicks-preserved c =
           (subst I c.in-Some.is c.swap_at.ensures.back) (subst A c.in-Some.is c.swap_at.ensures.again)
           ∙ ap (λ (ks : List ℕ). ks ++ e.key ∷ []) c.kicks.invariant.hands
           ∙ sym (ap (map key_of) c.push.ensures.items ∙ map-append key_of c.kicks.moved.items last);
-      told = (let l = ap (λ (l : List Moved). length l) c.push.ensures.items in let k = c.kicks.invariant.told in omega (arith, length-append c.kicks.moved.items last));
+      known = (let l = ap (λ (l : List Moved). length l) c.push.ensures.items in let k = c.kicks.invariant.known in omega (arith, length-append c.kicks.moved.items last));
     }
 
-pub returns-then-is_free_at-clause-stands : goal.returns-then-is_free_at-clause-stands
-returns-then-is_free_at-clause-stands c t =
+pub returns-then-is_free_at-clause-succeeds : goal.returns-then-is_free_at-clause-succeeds
+returns-then-is_free_at-clause-succeeds c t =
     sym c.kicks.invariant.rest
     ∙ attempt-free (c.args.limit - c.kicks._i) c.kicks.ways c.swap_at-then-is_free_at.new.ways c.kicks.at c.kicks.hand (map displaced c.kicks.moved.items)
     (c.is_free_at.ensures.0 c.if-is_free_at.true) c.swap_at-then-is_free_at.ensures.ways

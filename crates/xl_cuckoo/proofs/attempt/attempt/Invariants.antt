@@ -7,6 +7,6 @@ invariant-kicks l = record {
   back : undone l._i l.ways l.at l.hand ≡ l.initial.ways;
   inside : l.at < length l.ways;
   full : 0 < l.hand.word;
-  told : length l.moved.items ≡ l._i;
+  known : length l.moved.items ≡ l._i;
   hands : keys_in_hand l._i l.ways l.at l.hand ≡ map key_of l.moved.items;
 }

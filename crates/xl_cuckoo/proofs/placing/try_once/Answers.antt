@@ -1,6 +1,6 @@
-use Rattle.xl_cuckoo.proofs.Common.{◌∙◌, ◌≡◌, ap, candidate_in, candidate_of, Displaced, displaced, Fails, length, List, map, Moves, Placed, shapes, Stands, sym, with_kicks, ℕ}
+use Rattle.xl_cuckoo.proofs.Common.{◌∙◌, ◌≡◌, ap, candidate_in, candidate_of, Displaced, displaced, Fails, length, List, map, Moves, Placed, shapes, Succeeds, sym, with_kicks, ℕ}
 use Rattle.xl_cuckoo.proofs.KickLemmas.{map-length}
-use Rattle.xl_cuckoo.proofs.StepLemmas.{attempt-is, capped-is, grown-is, grows-here, stands-now}
+use Rattle.xl_cuckoo.proofs.StepLemmas.{attempt-is, capped-is, grown-is, grows-here, succeeds-now}
 use Rattle.xl_cuckoo.proofs.placing.try_once.Goals as goal
 
 pub returns-then-attempt : goal.returns-then-attempt
@@ -9,8 +9,8 @@ returns-then-attempt c =
     let moved : List Displaced = map displaced c.attempt.new.moved.items in
     let kicks : length moved ≡ c.len.result = map-length displaced c.attempt.new.moved.items ∙ sym c.len.ensures.value in
     λ room.
-    stands-now c.args.limit (shapes c.args.ways.now) ways c.args.entry c.args.moves moved
-    (attempt-is c.args.limit c.start-start.result c.args.ways.now c.args.entry (Stands ways moved) c.start-start.ensures.is (c.attempt.ensures.stands c.if-attempt.true)) room
+    succeeds-now c.args.limit (shapes c.args.ways.now) ways c.args.entry c.args.moves moved
+    (attempt-is c.args.limit c.start-start.result c.args.ways.now c.args.entry (Succeeds ways moved) c.start-start.ensures.is (c.attempt.ensures.succeeds c.if-attempt.true)) room
     ∙ ap (λ (n : ℕ). Placed ways moved (with_kicks n c.args.moves)) kicks
     ∙ ap (λ (m : Moves). Placed ways moved m) (sym c.count_kicks.ensures)
 

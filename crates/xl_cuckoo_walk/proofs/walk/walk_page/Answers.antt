@@ -1,4 +1,4 @@
-use Rattle.xl_cuckoo_walk.proofs.Common.{by_size, IsRow, lit<, parts_by, RowParts, small_told, subst, sym, with_table}
+use Rattle.xl_cuckoo_walk.proofs.Common.{by_size, IsRow, lit<, parts_by, RowParts, small_known, subst, sym, with_table}
 use Rattle.xl_cuckoo_walk.proofs.SoleLemmas.{both-fronts, middle-inside, middle-walked, small-walked}
 use Rattle.xl_cuckoo_walk.proofs.WalkLemmas.{IsWalked, page-of}
 use Rattle.xl_cuckoo_walk.proofs.walk.walk_page.Given.{Over}
@@ -34,13 +34,13 @@ probe_order-leaf-requires g c =
 
 small : (g : Over) (c : goal.After-small_walk g) →
     let s = c.parts.inside in
-    IsWalked c.args.parts.now c.args.space c.args.page (small_told c.args.space c.args.page c.probe_small-found.result) 2
+    IsWalked c.args.parts.now c.args.space c.args.page (small_known c.args.space c.args.page c.probe_small-found.result) 2
     (parts_by c.probe_small-found.new.table s.m2 s.g1 s.middle s.large s.middle_cache s.large_cache)
 small g c =
     let s = c.parts.inside in
     let q : RowParts = parts_by s.k4 s.m2 s.g1 s.middle s.large s.middle_cache s.large_cache in
     let in_page = page-of c.args.parts.now c.args.space c.args.page c.requires.page in
-    let leaf = small_told c.args.space c.args.page c.probe_small-found.result in
+    let leaf = small_known c.args.space c.args.page c.probe_small-found.result in
     subst (λ p. IsWalked p c.args.space c.args.page leaf 2 (with_table order.K4 c.probe_small-found.new.table q)) c.parts.view_is
     (small-walked c.words_read_back.ensures q (subst IsRow (sym c.parts.view_is) c.requires.whole) c.args.space c.args.page in_page.0 in_page.1 (by_size c.front-middle.result c.front-large.result)
     (both-fronts q c.args.space c.args.page c.section-middle_key.result c.section-large_key.result c.front-middle.result c.front-large.result c.section-middle_key.ensures c.section-large_key.ensures c.front-middle.ensures c.front-large.ensures)

@@ -1,10 +1,10 @@
-use Rattle.xl_curving.proofs.Common.{◌≡◌, AreOpened, AskedPlain, curves_by, curves_from, Ends, Err, Finds, IfSome, is_err_by, Ok, plain_of, plain_start, refl, rows_by, rows_from, start_of, subst, sym, told_one, told_then, trail_for}
+use Rattle.xl_curving.proofs.Common.{◌≡◌, AreOpened, AskedPlain, curves_by, curves_from, Ends, Err, Finds, IfSome, is_err_by, Ok, plain_of, plain_start, refl, rows_by, rows_from, start_of, subst, sym, known_one, known_then, trail_for}
 use Rattle.xl_serving.proofs.EndLemmas.{stopped_ends}
 use Rattle.xl_curving.proofs.EndLemmas.{started}
 use Rattle.xl_curving.proofs.running.report.Goals as goal
 
-pub returns-clause-told : goal.returns-clause-told
-returns-clause-told g c =
+pub returns-clause-known : goal.returns-clause-known
+returns-clause-known g c =
     let sets = c.args.words.now.sets in
     let p = plain_of c.plain_words-plain.result in
     let opened = c.open.new.rows in
@@ -18,15 +18,15 @@ returns-clause-told g c =
     let after = (g.K.Sink.sink.outside new).written in
     subst (λ (a : AskedPlain). IfSome (g.F.Folder.folder.files c.args.folder.now)
     (λ fs. Ends end (curves_by sets (trail_for a fs) (plain_start a fs)) roomy before after out new (left ≡ rows_by (trail_for a fs) (plain_start a fs)))) c.plain_words-plain.ensures
-    (told_then (g.F.Folder.folder.files c.args.folder.now) (g.F.Folder.folder.files c.open.new.folder)
+    (known_then (g.F.Folder.folder.files c.args.folder.now) (g.F.Folder.folder.files c.open.new.folder)
     (λ fs. Finds (start_of opened) (Ok script) (plain_start p fs))
     (λ fs. Ends end (curves_from sets (trail_for p fs) (start_of opened script)) roomy before after out new (left ≡ rows_from (trail_for p fs) (start_of opened script)))
     (λ fs. Ends end (curves_by sets (trail_for p fs) (plain_start p fs)) roomy before after out new (left ≡ rows_by (trail_for p fs) (plain_start p fs)))
-    c.in_ok-script.ensures.leaves.keeps c.in_ok-script.ensures.told c.report_orders.ensures.told
+    c.in_ok-script.ensures.leaves.keeps c.in_ok-script.ensures.known c.report_orders.ensures.known
     (λ fs h k. started roomy sets (trail_for p fs) (start_of opened script) (plain_start p fs) end before after out new left h k))
 
-pub returns-in_err-script-clause-told : goal.returns-in_err-script-clause-told
-returns-in_err-script-clause-told g c =
+pub returns-in_err-script-clause-known : goal.returns-in_err-script-clause-known
+returns-in_err-script-clause-known g c =
     let sets = c.args.words.now.sets in
     let p = plain_of c.plain_words-plain.result in
     let opened = c.open.new.rows in
@@ -37,8 +37,8 @@ returns-in_err-script-clause-told g c =
     rw (is_err_by c.from_residual.result stop c.from_residual.ensures.1)
     (subst (λ (a : AskedPlain). IfSome (g.F.Folder.folder.files c.args.folder.now)
     (λ fs. Ends (Err stop) (curves_by sets (trail_for a fs) (plain_start a fs)) roomy written written out out (opened ≡ rows_by (trail_for a fs) (plain_start a fs)))) c.plain_words-plain.ensures
-    (told_one (g.F.Folder.folder.files c.args.folder.now) (λ fs. Finds (start_of opened) (Err stop) (plain_start p fs)) _
-    c.in_err-script.ensures.told
+    (known_one (g.F.Folder.folder.files c.args.folder.now) (λ fs. Finds (start_of opened) (Err stop) (plain_start p fs)) _
+    c.in_err-script.ensures.known
     (λ fs h. stopped_ends roomy (start_of opened) (curves_by sets (trail_for p fs)) (plain_start p fs) stop written out _ (λ f. refl) c.in_err-script.ensures.before h)))
 
 pub returns-clause-early : goal.returns-clause-early

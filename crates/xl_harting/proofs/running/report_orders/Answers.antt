@@ -1,11 +1,11 @@
-use Rattle.xl_harting.proofs.Common.{◌∙◌, ◌≡◌, account, ap, course_ends, course_of, Ends, false, harts_form, meaning_of, Ok, Some, states_after, told_one, trail_in, true}
+use Rattle.xl_harting.proofs.Common.{◌∙◌, ◌≡◌, account, ap, course_ends, course_of, Ends, false, harts_form, meaning_of, Ok, Some, states_after, known_one, trail_in, true}
 use Rattle.xl_outside.specs.Folders.{file_of}
 use Rattle.xl_serving.specs.Tapes.{IsFedFrom}
 use Rattle.xl_serving.specs.Traces.{left_of, trail_of}
 use Rattle.xl_harting.proofs.running.report_orders.Goals as goal
 
-pub returns-clause-told : goal.returns-clause-told
-returns-clause-told g c =
+pub returns-clause-known : goal.returns-clause-known
+returns-clause-known g c =
     let source = c.in_ok-source.source in
     let script = c.args.orders.now.script.now in
     let answers = c.args.orders.now.answers in
@@ -19,10 +19,10 @@ returns-clause-told g c =
     let new = c.report-end.new.out in
     let before = (g.K.Sink.sink.outside out).written in
     let after = (g.K.Sink.sink.outside new).written in
-    told_one (g.F.Folder.folder.files c.args.folder.now)
+    known_one (g.F.Folder.folder.files c.args.folder.now)
     (λ fs. IsFedFrom (file_of fs name) source.tape → Ends end (account (meaning_of harts_form) answers harts_form.last false (course_of harts_form script (left_of (file_of fs name) source.tape)) opened)
     roomy before after out new (left ≡ states_after (meaning_of harts_form) (course_of harts_form script (left_of (file_of fs name) source.tape)).items opened)) _
-    c.report-end.ensures.told
+    c.report-end.ensures.known
     (λ fs h. course_ends harts_form answers roomy (trail_in (Some trace) fs) (Ok script) script (left_of (file_of fs name) source.tape) opened left end before after out new
     (c.in_ok-machine.ensures ∙ ap (λ spec. harts_form.opens (record { spec = spec; commands = script.commands })) c.spec.ensures.value)
     ((c.in_ok-source.ensures.unread (file_of fs name)).1 ∙ ap (λ n. trail_of (file_of fs n)) c.in_ok-source.ensures.name)

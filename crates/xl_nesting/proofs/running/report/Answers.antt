@@ -1,10 +1,10 @@
-use Rattle.xl_nesting.proofs.Common.{◌≡◌, account_from, Ends, Err, Finds, is_err_by, nest_script_of, nested_form, Ok, script_in, served_ends, Some, state_from, stopped_ends, told_one, told_then, trail_in}
+use Rattle.xl_nesting.proofs.Common.{◌≡◌, account_from, Ends, Err, Finds, is_err_by, nest_script_of, nested_form, Ok, script_in, served_ends, Some, state_from, stopped_ends, known_one, known_then, trail_in}
 use Rattle.xl_words.specs.Words.{pair_of}
 use Rattle.xl_nesting.specs.Accounts.{nested_account, nested_left}
 use Rattle.xl_nesting.proofs.running.report.Goals as goal
 
-pub returns-clause-told : goal.returns-clause-told
-returns-clause-told g c =
+pub returns-clause-known : goal.returns-clause-known
+returns-clause-known g c =
     let a = pair_of c.args.words.now in
     let script = c.in_ok-script.script in
     let end = c.report_orders.result in
@@ -14,19 +14,19 @@ returns-clause-told g c =
     let left = c.report_orders.new.nested in
     let before = (g.K.Sink.sink.outside out).written in
     let after = (g.K.Sink.sink.outside new).written in
-    told_then (g.F.Folder.folder.files c.args.folder.now) (g.F.Folder.folder.files c.read_script.new.folder)
+    known_then (g.F.Folder.folder.files c.args.folder.now) (g.F.Folder.folder.files c.read_script.new.folder)
     (λ fs. Finds (λ s. s) (Ok script) (script_in nest_script_of a.script fs))
     (λ fs. Ends end (account_from nested_form a.answers (trail_in (Some a.trace) fs) script) roomy before after out new (left ≡ Some (state_from nested_form (trail_in (Some a.trace) fs) script)))
     (λ fs. Ends end (nested_account a fs) roomy before after out new (left ≡ nested_left a fs))
-    c.in_ok-script.ensures.leaves.keeps c.in_ok-script.ensures.told c.report_orders.ensures.told
+    c.in_ok-script.ensures.leaves.keeps c.in_ok-script.ensures.known c.report_orders.ensures.known
     (λ fs h k. served_ends nested_form a.answers roomy (trail_in (Some a.trace) fs) (script_in nest_script_of a.script fs) script end before after out new left h k)
 
-pub returns-in_err-script-clause-told : goal.returns-in_err-script-clause-told
-returns-in_err-script-clause-told g c =
+pub returns-in_err-script-clause-known : goal.returns-in_err-script-clause-known
+returns-in_err-script-clause-known g c =
     let a = pair_of c.args.words.now in
     let stop = c.in_err-script.field-0.0 in
     let out = c.args.out.now in
     rw (is_err_by c.from_residual.result stop c.from_residual.ensures.1)
-    (told_one (g.F.Folder.folder.files c.args.folder.now) (λ fs. Finds (λ s. s) (Err stop) (script_in nest_script_of a.script fs)) _
-    c.in_err-script.ensures.told
+    (known_one (g.F.Folder.folder.files c.args.folder.now) (λ fs. Finds (λ s. s) (Err stop) (script_in nest_script_of a.script fs)) _
+    c.in_err-script.ensures.known
     (λ fs h. stopped_ends nested_form a.answers g.K.Sink.sink.roomy (trail_in (Some a.trace) fs) (script_in nest_script_of a.script fs) (λ s. s) stop (g.K.Sink.sink.outside out).written out _ c.in_err-script.ensures.before h))

@@ -1,5 +1,5 @@
 use Rattle.xl_outside.proofs.Common.{◌+◌, ◌-◌, ◌∙◌, ◌≡◌, ◌≤◌, arith, drop, inl, length, subst, take, true}
-use Rattle.xl_outside.proofs.SinkLemmas.{goes_then, length-rest, put_goes, put_stops, written_on}
+use Rattle.xl_outside.proofs.SinkLemmas.{proceeds_then, length-rest, put_proceeds, put_stops, written_on}
 use Rattle.xl_outside.proofs.sink.put_all.Goals as goal
 
 pub loop-done-preserved : goal.loop-done-preserved
@@ -11,7 +11,7 @@ loop-done-preserved g c =
     let most = c.in-Ok.ensures.count in record {
       within = omega (arith, most);
       so_far = written_on (g.K.Sink.sink.taken c.args.out.now) (g.K.Sink.sink.taken c.loop-done.out) _ bytes c.loop-done.done c.in-Ok.count inv.so_far put.took;
-      goes_on = goes_then true _ _ _ inv.goes_on (put_goes _ _ put.stays (put.counts.1 (inl (omega arith))));
+      proceeds = proceeds_then true _ _ _ inv.proceeds (put_proceeds _ _ put.stays (put.counts.1 (inl (omega arith))));
       calm = λ room h k.
           let fits : length (take (length bytes - c.loop-done.done) (drop c.loop-done.done bytes)) ≤ room - c.loop-done.done = omega arith in
           let step = put.calm (room - c.loop-done.done) (inv.calm room h k) fits in
@@ -29,7 +29,7 @@ returns-in-Ok-eq0 g c =
     let most = c.in-Ok-eq0.ensures.count in
     let more = c.loop-done-test.true in record {
       took = (done + c.in-Ok-eq0.field-0, omega (arith, most), written_on (g.K.Sink.sink.taken c.args.out.now) (g.K.Sink.sink.taken c.loop-done.out) _ bytes done c.in-Ok-eq0.field-0 inv.so_far put.took);
-      goes_on = put_stops _ _ _ inv.goes_on put.stays (put.counts.0 c.in-Ok-eq0.field-0-test (omega arith));
+      proceeds = put_stops _ _ _ inv.proceeds put.stays (put.counts.0 c.in-Ok-eq0.field-0-test (omega arith));
       calm = λ room h k.
           let fits : length (take (length bytes - done) (drop done bytes)) ≤ room - done = omega arith in
           let none = (put.calm (room - done) (inv.calm room h k) fits).0 c.in-Ok-eq0.field-0-test in absurd (omega arith);
@@ -43,7 +43,7 @@ returns-in-Err g c =
     let put = c.in-Err.ensures.leaves in
     let rest = length-rest bytes done inv.within in record {
       took = (done, inv.within, put.took ∙ inv.so_far);
-      goes_on = put_stops _ _ _ inv.goes_on put.stays put.counts;
+      proceeds = put_stops _ _ _ inv.proceeds put.stays put.counts;
       calm = λ room h k.
           let fits : length (take (length bytes - done) (drop done bytes)) ≤ room - done = omega arith in
           absurd (put.calm (room - done) (inv.calm room h k) fits);

@@ -8,7 +8,7 @@ loop-buf-preserved g c = record {
   within = omega (arith, c.in_ok-append.ensures.len);
   front = more_read (g.F.Folder.folder.files c.args.folder.now) (g.F.Folder.folder.files c.loop-buf.folder) c.args.name.now c.loop-buf.bytes.items
       c.len-in-loop-buf.result c.in_ok-count.count _ _ _ _
-      c.loop-buf.invariant.folder.keeps c.loop-buf.invariant.front (omega (arith, c.loop-buf.bytes.ok.0)) c.in_ok-count.ensures.told
+      c.loop-buf.invariant.folder.keeps c.loop-buf.invariant.front (omega (arith, c.loop-buf.bytes.ok.0)) c.in_ok-count.ensures.known
       (omega arith) c.in_ok-count.ensures.count c.in_ok-append.ensures.items;
   folder = folder_then _ _ _ _ _ c.loop-buf.invariant.folder c.in_ok-count.ensures.leaves;
 }

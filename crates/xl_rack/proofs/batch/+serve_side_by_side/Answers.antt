@@ -1,7 +1,7 @@
-use Rattle.xl_rack.proofs.BatchLemmas.{each-same, each-then, waiting-in-parts}
+use Rattle.xl_rack.proofs.BatchLemmas.{each-same, each-then, batched-in-parts}
 use Rattle.xl_rack.proofs.batch.+serve_side_by_side.Goals as goal
 
 pub returns : goal.returns
 returns n c =
     each-same (each-then c.serve_each_to_all-2.ensures (each-then c.step_each.ensures c.serve_side_by_side.ensures))
-    (λ v. waiting-in-parts c.args.accesses.now c.args.areas.now v c.in-Some.ensures.cases.0 c.split_at.ensures.front c.split_at.ensures.back)
+    (λ v. batched-in-parts c.args.accesses.now c.args.areas.now v c.in-Some.ensures.cases.0 c.split_at.ensures.front c.split_at.ensures.back)

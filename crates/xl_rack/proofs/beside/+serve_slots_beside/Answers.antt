@@ -1,5 +1,5 @@
 use Rattle.xl_rack.proofs.Common.{[], curve_served, map, served_of}
-use Rattle.xl_rack.proofs.BatchLemmas.{each-first, waiting-stays}
+use Rattle.xl_rack.proofs.BatchLemmas.{each-first, batched-stays}
 use Rattle.xl_rack.proofs.BesideLemmas.{no-curves}
 use Rattle.xl_rack.proofs.beside.+serve_slots_beside.Goals as goal
 
@@ -9,4 +9,4 @@ returns-in_default-clause-curves t c =
 
 pub returns-clause-slots : goal.returns-clause-slots
 returns-clause-slots t c =
-    each-first c.serve_slots_beside.ensures.slots (waiting-stays c.args.accesses.now [] c.args.areas.now) c.in-Some-split_first_mut.ensures.cases.0 c.serve_slot.ensures.served c.serve_slot.ensures.form
+    each-first c.serve_slots_beside.ensures.slots (batched-stays c.args.accesses.now [] c.args.areas.now) c.in-Some-split_first_mut.ensures.cases.0 c.serve_slot.ensures.served c.serve_slot.ensures.form

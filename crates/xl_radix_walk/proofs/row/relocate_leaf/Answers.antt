@@ -2,8 +2,8 @@ use Rattle.xl_radix_walk.proofs.Common.{◌≤◌, arith, IsMade, length, lit<, 
 use Rattle.xl_radix_walk.proofs.ChangeLemmas.{MadeRow, none-left, row-made, row-refused}
 use Rattle.xl_radix_walk.proofs.row.relocate_leaf.Goals as goal
 
-pub settle-requires : goal.settle-requires
-settle-requires g c =
+pub invalidate_freed-requires : goal.invalidate_freed-requires
+invalidate_freed-requires g c =
     let a = c.requires.row.caches in
     let b = c.requires.row.low in
     let few : length c.args.caches.now ≤ 4 = omega arith in
@@ -13,9 +13,9 @@ settle-requires g c =
 pub returns-in-Ok : goal.returns-in-Ok
 returns-in-Ok g c =
     let made : IsMade g.row.LEVELS (Relocate c.args.space c.args.first c.args.to c.args.order) c.in-Ok.given c.args.radix.now c.shift_counted.new.self = c.in-Ok.ensures.made in
-    let r : MadeRow g.row.LEVELS (Relocate c.args.space c.args.first c.args.to c.args.order) c.args.radix.now c.shift_counted.new.self c.args.caches.now c.settle.new.caches c.settle.result =
-    row-made g.row.LEVELS c.in-Ok.given (Relocate c.args.space c.args.first c.args.to c.args.order) c.args.radix.now c.shift_counted.new.self c.args.caches.now c.settle.new.caches c.settle.result
-    c.requires.row made (sym c.in-Ok.ensures.answer) c.settle.ensures.caches c.settle.ensures.work in
+    let r : MadeRow g.row.LEVELS (Relocate c.args.space c.args.first c.args.to c.args.order) c.args.radix.now c.shift_counted.new.self c.args.caches.now c.invalidate_freed.new.caches c.invalidate_freed.result =
+    row-made g.row.LEVELS c.in-Ok.given (Relocate c.args.space c.args.first c.args.to c.args.order) c.args.radix.now c.shift_counted.new.self c.args.caches.now c.invalidate_freed.new.caches c.invalidate_freed.result
+    c.requires.row made (sym c.in-Ok.ensures.answer) c.invalidate_freed.ensures.caches c.invalidate_freed.ensures.work in
     record { row = r.row; changes = r.change }
 
 pub returns-in-Err : goal.returns-in-Err

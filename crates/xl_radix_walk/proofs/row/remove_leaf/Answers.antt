@@ -2,8 +2,8 @@ use Rattle.xl_radix_walk.proofs.Common.{◌≤◌, arith, has_room, IsMade, leng
 use Rattle.xl_radix_walk.proofs.ChangeLemmas.{MadeRow, none-left, row-made}
 use Rattle.xl_radix_walk.proofs.row.remove_leaf.Goals as goal
 
-pub settle-requires : goal.settle-requires
-settle-requires g c =
+pub invalidate_freed-requires : goal.invalidate_freed-requires
+invalidate_freed-requires g c =
     let a = c.requires.row.caches in
     let b = c.requires.row.low in
     let few : length c.args.caches.now ≤ 4 = omega arith in
@@ -14,7 +14,7 @@ pub returns : goal.returns
 unfolding has_room
 returns g c =
     let made : IsMade g.row.LEVELS (Remove c.args.space c.args.first c.args.order) c.take_out_counted-given.result c.args.radix.now c.take_out_counted-given.new.self = c.take_out_counted-given.ensures.made in
-    let r : MadeRow g.row.LEVELS (Remove c.args.space c.args.first c.args.order) c.args.radix.now c.take_out_counted-given.new.self c.args.caches.now c.settle.new.caches c.settle.result =
-    row-made g.row.LEVELS c.take_out_counted-given.result (Remove c.args.space c.args.first c.args.order) c.args.radix.now c.take_out_counted-given.new.self c.args.caches.now c.settle.new.caches c.settle.result
-    c.requires.row made refl c.settle.ensures.caches c.settle.ensures.work in
+    let r : MadeRow g.row.LEVELS (Remove c.args.space c.args.first c.args.order) c.args.radix.now c.take_out_counted-given.new.self c.args.caches.now c.invalidate_freed.new.caches c.invalidate_freed.result =
+    row-made g.row.LEVELS c.take_out_counted-given.result (Remove c.args.space c.args.first c.args.order) c.args.radix.now c.take_out_counted-given.new.self c.args.caches.now c.invalidate_freed.new.caches c.invalidate_freed.result
+    c.requires.row made refl c.invalidate_freed.ensures.caches c.invalidate_freed.ensures.work in
     record { row = r.row; changes = r.change }

@@ -1,4 +1,4 @@
-use Rattle.xl_range.proofs.Common.{◌+◌, ◌-◌, ◌∙◌, ◌≡◌, ◌≤◌, ap, arith, cut, IsApart, keeping, kept_behind, length, List, Range, subst, sym, TreapView}
+use Rattle.xl_range.proofs.Common.{◌+◌, ◌-◌, ◌∙◌, ◌≡◌, ◌≤◌, ap, arith, cut, IsApart, keeping, kept_following, length, List, Range, subst, sym, TreapView}
 use Rattle.xl_range.proofs.CutCallLemmas.{can-cut, CanCut, put-calls}
 use Rattle.xl_range.proofs.pieces.cut.Goals as goal
 
@@ -42,7 +42,7 @@ cut_before-requires-clause-apart c =
 pub put_rest-requires-clause-apart : goal.put_rest-requires-clause-apart
 put_rest-requires-clause-apart c =
     let k : CanCut c.args.first c.args.order c.args.range.now c.args.treap.now.seen.kept = can-cut c.args.range.now.space c.args.first c.args.order c.args.range.now c.args.treap.now.seen.kept c.requires.held c.requires.there c.requires.place in
-    let e : kept_behind (c.args.range.now.start + c.args.range.now.pages - (c.args.first + c.pages.result)) (record c.args.range.now { start = c.args.first + c.pages.result; pages = c.args.range.now.start + c.args.range.now.pages - (c.args.first + c.pages.result); frame = c.args.range.now.frame + (c.args.first + c.pages.result - c.args.range.now.start) }) c.cut_before.new.treap.seen.kept ≡ cut c.args.first c.args.order c.args.range.now c.args.treap.now.seen.kept =
+    let e : kept_following (c.args.range.now.start + c.args.range.now.pages - (c.args.first + c.pages.result)) (record c.args.range.now { start = c.args.first + c.pages.result; pages = c.args.range.now.start + c.args.range.now.pages - (c.args.first + c.pages.result); frame = c.args.range.now.frame + (c.args.first + c.pages.result - c.args.range.now.start) }) c.cut_before.new.treap.seen.kept ≡ cut c.args.first c.args.order c.args.range.now c.args.treap.now.seen.kept =
     put-calls c.args.first c.pages.result c.args.order c.args.range.now c.args.treap.now.seen c.cut_before.new.treap.seen c.pages.ensures c.cut_before.ensures k in
     let P : List Range → Type 0 = λ xs. IsApart 0 xs in
     subst P (sym e) k.apart
@@ -50,7 +50,7 @@ put_rest-requires-clause-apart c =
 pub put_rest-requires-clause-room : goal.put_rest-requires-clause-room
 put_rest-requires-clause-room c =
     let k : CanCut c.args.first c.args.order c.args.range.now c.args.treap.now.seen.kept = can-cut c.args.range.now.space c.args.first c.args.order c.args.range.now c.args.treap.now.seen.kept c.requires.held c.requires.there c.requires.place in
-    let e : kept_behind (c.args.range.now.start + c.args.range.now.pages - (c.args.first + c.pages.result)) (record c.args.range.now { start = c.args.first + c.pages.result; pages = c.args.range.now.start + c.args.range.now.pages - (c.args.first + c.pages.result); frame = c.args.range.now.frame + (c.args.first + c.pages.result - c.args.range.now.start) }) c.cut_before.new.treap.seen.kept ≡ cut c.args.first c.args.order c.args.range.now c.args.treap.now.seen.kept =
+    let e : kept_following (c.args.range.now.start + c.args.range.now.pages - (c.args.first + c.pages.result)) (record c.args.range.now { start = c.args.first + c.pages.result; pages = c.args.range.now.start + c.args.range.now.pages - (c.args.first + c.pages.result); frame = c.args.range.now.frame + (c.args.first + c.pages.result - c.args.range.now.start) }) c.cut_before.new.treap.seen.kept ≡ cut c.args.first c.args.order c.args.range.now c.args.treap.now.seen.kept =
     put-calls c.args.first c.pages.result c.args.order c.args.range.now c.args.treap.now.seen c.cut_before.new.treap.seen c.pages.ensures c.cut_before.ensures k in
     let P : List Range → Type 0 = λ xs. length xs ≤ c.cut_before.new.treap.seen.nodes in
     let Q : TreapView → Type 0 = λ t. length (cut c.args.first c.args.order c.args.range.now c.args.treap.now.seen.kept) ≤ t.nodes in
@@ -59,6 +59,6 @@ put_rest-requires-clause-room c =
 pub returns : goal.returns
 returns c =
     let k : CanCut c.args.first c.args.order c.args.range.now c.args.treap.now.seen.kept = can-cut c.args.range.now.space c.args.first c.args.order c.args.range.now c.args.treap.now.seen.kept c.requires.held c.requires.there c.requires.place in
-    let e : kept_behind (c.args.range.now.start + c.args.range.now.pages - (c.args.first + c.pages.result)) (record c.args.range.now { start = c.args.first + c.pages.result; pages = c.args.range.now.start + c.args.range.now.pages - (c.args.first + c.pages.result); frame = c.args.range.now.frame + (c.args.first + c.pages.result - c.args.range.now.start) }) c.cut_before.new.treap.seen.kept ≡ cut c.args.first c.args.order c.args.range.now c.args.treap.now.seen.kept =
+    let e : kept_following (c.args.range.now.start + c.args.range.now.pages - (c.args.first + c.pages.result)) (record c.args.range.now { start = c.args.first + c.pages.result; pages = c.args.range.now.start + c.args.range.now.pages - (c.args.first + c.pages.result); frame = c.args.range.now.frame + (c.args.first + c.pages.result - c.args.range.now.start) }) c.cut_before.new.treap.seen.kept ≡ cut c.args.first c.args.order c.args.range.now c.args.treap.now.seen.kept =
     put-calls c.args.first c.pages.result c.args.order c.args.range.now c.args.treap.now.seen c.cut_before.new.treap.seen c.pages.ensures c.cut_before.ensures k in
     c.put_rest.ensures ∙ ap (keeping c.cut_before.new.treap.seen) e ∙ ap (λ (t : TreapView). keeping t (cut c.args.first c.args.order c.args.range.now c.args.treap.now.seen.kept)) c.cut_before.ensures

@@ -3,16 +3,16 @@ use Rattle.xl_range.proofs.CutCallLemmas.{can-cut, CanCut, test-cut}
 use Rattle.xl_range.proofs.PutLemmas.{few-test}
 use Rattle.xl_range.proofs.pieces.cut_within.Goals as goal
 
-pub overflow_add-behind : goal.overflow_add-behind
-overflow_add-behind c =
+pub overflow_add-following : goal.overflow_add-following
+overflow_add-following c =
     let k : CanCut c.args.first c.args.order c.args.range.now c.args.treap.now.seen.kept = can-cut c.args.range.now.space c.args.first c.args.order c.args.range.now c.args.treap.now.seen.kept c.requires.held c.requires.there c.requires.place in
     let b = k.inside.to in
     let d = k.inside.fit.pages_in in
     let f = k.inside.fit.frames_in in
     omega arith
 
-pub overflow_add-behind-2 : goal.overflow_add-behind-2
-overflow_add-behind-2 c =
+pub overflow_add-following-2 : goal.overflow_add-following-2
+overflow_add-following-2 c =
     let k : CanCut c.args.first c.args.order c.args.range.now c.args.treap.now.seen.kept = can-cut c.args.range.now.space c.args.first c.args.order c.args.range.now c.args.treap.now.seen.kept c.requires.held c.requires.there c.requires.place in
     let b = k.inside.to in
     let d = k.inside.fit.pages_in in

@@ -1,5 +1,5 @@
 use Rattle.xl_recency.proofs.Common.{◌≤◌, arith, length}
-use Rattle.xl_recency.proofs.ScanLemmas.{first_behind, first_within, none_within}
+use Rattle.xl_recency.proofs.ScanLemmas.{first_following, first_within, none_within}
 use Rattle.xl_recency.proofs.kernel.place_of.Goals.{else-this-le8, then-this-le8}
 use Rattle.xl_recency.proofs.kernel.place_of.Goals as goal
 
@@ -11,7 +11,7 @@ returns-in-Some-clause-some g c =
 pub returns-in_default-clause-none : goal.returns-in_default-clause-none
 returns-in_default-clause-none g c =
     let more : c.args.len ≤ c.if-this-le8.end = elim c.if-this-le8.branch [ then-this-le8 w ↦ omega arith | else-this-le8 w ↦ omega arith ] in
-    first_behind (_) c.args.slots.now c.args.len c.if-this-le8.end (omega arith) more c.in-Some.at (omega arith) c.in-Some.ensures.some
+    first_following (_) c.args.slots.now c.args.len c.if-this-le8.end (omega arith) more c.in-Some.at (omega arith) c.in-Some.ensures.some
 
 pub returns-in_default-2-clause-none : goal.returns-in_default-2-clause-none
 returns-in_default-2-clause-none g c =

@@ -20,4 +20,4 @@ returns-in-Load c =
     let rest = c.first_and_rest-second.result.1.now in
     let e : c.args.arrays.now ≡ f ∷ d ∷ s ∷ rest = c.first_and_rest-fetches.ensures.parts.0 ∙ ap (λ z. f ∷ z) (c.first_and_rest-data.ensures.parts.0 ∙ ap (λ z. d ∷ z) c.first_and_rest-second.ensures.parts.0) in
     let split : AreSplit (map spec_of (f ∷ d ∷ s ∷ rest)) = rw e at c.requires.split in
-    rw (e, no_more f d s rest split) (at_data (IsPairFill c.args.sought.space c.args.sought.page c.args.word) c.args.kind f d s c.fill_pair-in-Load.new.first c.fill_pair-in-Load.new.second c.in-Load.is c.fill_pair-in-Load.ensures)
+    rw (e, no_more f d s rest split) (at_data (IsPairFill c.args.lookup.space c.args.lookup.page c.args.word) c.args.kind f d s c.fill_pair-in-Load.new.first c.fill_pair-in-Load.new.second c.in-Load.is c.fill_pair-in-Load.ensures)

@@ -1,5 +1,5 @@
 use Rattle.xl_harts.proofs.Common.{◌∙◌, ◌≡◌, ap, Buffer, HartsState, Insert, leaf_at, None, refl, refusal_of, Request, row_table, Some, state_of}
-use Rattle.xl_harts.proofs.ChangeLemmas.{all-short, change-room, harts-after, map-finds, map-new, map-told, pool-mapped, queue-room, state-after}
+use Rattle.xl_harts.proofs.ChangeLemmas.{all-short, change-room, harts-after, map-finds, map-new, map-known, pool-mapped, queue-room, state-after}
 use Rattle.xl_harts.proofs.RefusalLemmas.{leaf-in}
 use Rattle.xl_harts.proofs.StepLemmas.{written}
 use Rattle.xl_model.specs.declared.event.Event.TheVariants as event
@@ -33,16 +33,16 @@ insert-requires-clause-room c =
     let i = c.self.inside in
     let s : HartsState = state_of i.spec (row_table 3 i.table) i.requests.items i.harts.items i.current i.accepted i.refused in
     let ruled : refusal_of (event.Map c.args.space c.args.va c.args.order c.args.perm) s ≡ None = rw (← c.self.view_is) at c.requires in
-    let told = map-told s c.self.invariant.kept c.args.space c.args.va c.args.order c.args.perm ruled i.frames c.self.invariant.pool_is c.in-Some.frame c.in-Some.ensures.lowest in
-    rw c.page_of.ensures (change-room s c.self.invariant.kept (event.Map c.args.space c.args.va c.args.order c.args.perm) (Insert (leaf_at c.args.space c.args.va c.args.order c.in-Some.frame c.args.perm)) ruled told)
+    let known = map-known s c.self.invariant.kept c.args.space c.args.va c.args.order c.args.perm ruled i.frames c.self.invariant.pool_is c.in-Some.frame c.in-Some.ensures.lowest in
+    rw c.page_of.ensures (change-room s c.self.invariant.kept (event.Map c.args.space c.args.va c.args.order c.args.perm) (Insert (leaf_at c.args.space c.args.va c.args.order c.in-Some.frame c.args.perm)) ruled known)
 
 pub put-requires-clause-room : goal.put-requires-clause-room
 put-requires-clause-room c =
     let i = c.self.inside in
     let s : HartsState = state_of i.spec (row_table 3 i.table) i.requests.items i.harts.items i.current i.accepted i.refused in
     let ruled : refusal_of (event.Map c.args.space c.args.va c.args.order c.args.perm) s ≡ None = rw (← c.self.view_is) at c.requires in
-    let told = map-told s c.self.invariant.kept c.args.space c.args.va c.args.order c.args.perm ruled i.frames c.self.invariant.pool_is c.in-Some.frame c.in-Some.ensures.lowest in
-    rw c.self.invariant.room (queue-room s c.self.invariant.kept (event.Map c.args.space c.args.va c.args.order c.args.perm) (Insert (leaf_at c.args.space c.args.va c.args.order c.in-Some.frame c.args.perm)) ruled told)
+    let known = map-known s c.self.invariant.kept c.args.space c.args.va c.args.order c.args.perm ruled i.frames c.self.invariant.pool_is c.in-Some.frame c.in-Some.ensures.lowest in
+    rw c.self.invariant.room (queue-room s c.self.invariant.kept (event.Map c.args.space c.args.va c.args.order c.args.perm) (Insert (leaf_at c.args.space c.args.va c.args.order c.in-Some.frame c.args.perm)) ruled known)
 
 pub put-requires-clause-queues : goal.put-requires-clause-queues
 put-requires-clause-queues c =
@@ -55,9 +55,9 @@ invariant_of-self c =
     let i = c.self.inside in
     let s : HartsState = state_of i.spec (row_table 3 i.table) i.requests.items i.harts.items i.current i.accepted i.refused in
     let ruled : refusal_of (event.Map c.args.space c.args.va c.args.order c.args.perm) s ≡ None = rw (← c.self.view_is) at c.requires in
-    let told = map-told s c.self.invariant.kept c.args.space c.args.va c.args.order c.args.perm ruled i.frames c.self.invariant.pool_is c.in-Some.frame c.in-Some.ensures.lowest in
+    let known = map-known s c.self.invariant.kept c.args.space c.args.va c.args.order c.args.perm ruled i.frames c.self.invariant.pool_is c.in-Some.frame c.in-Some.ensures.lowest in
     let harts = written i.harts.len i.harts.items c.deref_mut.result.now c.put.new.harts c.deref_mut.ensures.value c.deref_mut.ensures.len c.put.ensures.harts in
-    harts-after s c.self.invariant.kept (event.Map c.args.space c.args.va c.args.order c.args.perm) (Insert (leaf_at c.args.space c.args.va c.args.order c.in-Some.frame c.args.perm)) ruled told (row_table 3 c.insert.new.table) (record { before = None; after = Some (record { space = c.args.space; first = c.page_of.result; order = c.args.order; frame = c.in-Some.frame; perm = c.args.perm }) }) c.put.new.requests.items _ (rw c.page_of.ensures at c.insert.ensures) (rw c.page_of.ensures refl)
+    harts-after s c.self.invariant.kept (event.Map c.args.space c.args.va c.args.order c.args.perm) (Insert (leaf_at c.args.space c.args.va c.args.order c.in-Some.frame c.args.perm)) ruled known (row_table 3 c.insert.new.table) (record { before = None; after = Some (record { space = c.args.space; first = c.page_of.result; order = c.args.order; frame = c.in-Some.frame; perm = c.args.perm }) }) c.put.new.requests.items _ (rw c.page_of.ensures at c.insert.ensures) (rw c.page_of.ensures refl)
     (ap (λ (b : Buffer Request). b.items) c.put.ensures.requests) harts c.put.new.requests.capacity c.take.new.self (ap (λ (b : Buffer Request). b.capacity) c.put.ensures.requests ∙ c.self.invariant.room) (rw c.in-Some.ensures.taken (pool-mapped s c.self.invariant.kept c.args.space c.args.va c.args.order c.args.perm ruled i.frames c.self.invariant.pool_is c.in-Some.frame c.in-Some.ensures.lowest))
 
 pub returns : goal.returns
@@ -65,7 +65,7 @@ returns c =
     let i = c.self.inside in
     let s : HartsState = state_of i.spec (row_table 3 i.table) i.requests.items i.harts.items i.current i.accepted i.refused in
     let ruled : refusal_of (event.Map c.args.space c.args.va c.args.order c.args.perm) s ≡ None = rw (← c.self.view_is) at c.requires in
-    let told = map-told s c.self.invariant.kept c.args.space c.args.va c.args.order c.args.perm ruled i.frames c.self.invariant.pool_is c.in-Some.frame c.in-Some.ensures.lowest in
+    let known = map-known s c.self.invariant.kept c.args.space c.args.va c.args.order c.args.perm ruled i.frames c.self.invariant.pool_is c.in-Some.frame c.in-Some.ensures.lowest in
     let harts = written i.harts.len i.harts.items c.deref_mut.result.now c.put.new.harts c.deref_mut.ensures.value c.deref_mut.ensures.len c.put.ensures.harts in
-    rw (← c.self.view_is) (state-after s c.self.invariant.kept (event.Map c.args.space c.args.va c.args.order c.args.perm) (Insert (leaf_at c.args.space c.args.va c.args.order c.in-Some.frame c.args.perm)) ruled told (row_table 3 c.insert.new.table) (record { before = None; after = Some (record { space = c.args.space; first = c.page_of.result; order = c.args.order; frame = c.in-Some.frame; perm = c.args.perm }) }) c.put.new.requests.items _ (rw c.page_of.ensures at c.insert.ensures) (rw c.page_of.ensures refl)
+    rw (← c.self.view_is) (state-after s c.self.invariant.kept (event.Map c.args.space c.args.va c.args.order c.args.perm) (Insert (leaf_at c.args.space c.args.va c.args.order c.in-Some.frame c.args.perm)) ruled known (row_table 3 c.insert.new.table) (record { before = None; after = Some (record { space = c.args.space; first = c.page_of.result; order = c.args.order; frame = c.in-Some.frame; perm = c.args.perm }) }) c.put.new.requests.items _ (rw c.page_of.ensures at c.insert.ensures) (rw c.page_of.ensures refl)
     (ap (λ (b : Buffer Request). b.items) c.put.ensures.requests) harts)

@@ -20,8 +20,8 @@ returns-then-not-has_room c =
     let s = c.args.self.now in
     let ruled : hart_rule s (event.Map c.args.space c.args.va c.args.order c.args.perm) ≡ None = sym c.map_rule.ensures ∙ c.in_default.is in
     let low = map-at s c.args.space c.args.va c.args.order c.args.perm ruled in
-    let told = map-change s c.args.space c.args.va c.args.order c.args.perm low.0 low.1 in
-    sym (by-change s (event.Map c.args.space c.args.va c.args.order c.args.perm) (Insert (leaf_at c.args.space c.args.va c.args.order low.0 c.args.perm)) ruled told
+    let known = map-change s c.args.space c.args.va c.args.order c.args.perm low.0 low.1 in
+    sym (by-change s (event.Map c.args.space c.args.va c.args.order c.args.perm) (Insert (leaf_at c.args.space c.args.va c.args.order low.0 c.args.perm)) ruled known
     ∙ by-room s (Insert (leaf_at c.args.space c.args.va c.args.order low.0 c.args.perm)) false (sym (c.has_room.ensures low.0 c.args.perm) ∙ c.if-not-has_room.true))
 
 pub returns : goal.returns
@@ -29,7 +29,7 @@ returns c =
     let s = c.args.self.now in
     let ruled : hart_rule s (event.Map c.args.space c.args.va c.args.order c.args.perm) ≡ None = sym c.map_rule.ensures ∙ c.in_default.is in
     let low = map-at s c.args.space c.args.va c.args.order c.args.perm ruled in
-    let told = map-change s c.args.space c.args.va c.args.order c.args.perm low.0 low.1 in
+    let known = map-change s c.args.space c.args.va c.args.order c.args.perm low.0 low.1 in
     c.queue_refusal.ensures
-    ∙ sym (by-change s (event.Map c.args.space c.args.va c.args.order c.args.perm) (Insert (leaf_at c.args.space c.args.va c.args.order low.0 c.args.perm)) ruled told
+    ∙ sym (by-change s (event.Map c.args.space c.args.va c.args.order c.args.perm) (Insert (leaf_at c.args.space c.args.va c.args.order low.0 c.args.perm)) ruled known
     ∙ by-room s (Insert (leaf_at c.args.space c.args.va c.args.order low.0 c.args.perm)) true (sym (c.has_room.ensures low.0 c.args.perm) ∙ c.if-not-has_room.false))

@@ -11,7 +11,7 @@ relocate-requires-clause-there c =
     let i = c.self.inside in
     let s : HartsState = state_of i.spec (row_table 3 i.table) i.requests.items i.harts.items i.current i.accepted i.refused in
     let ruled : refusal_of (event.Move c.args.space c.args.from c.args.to c.args.order) s ≡ None = rw (← c.self.view_is) at c.requires.ruled in
-    let told = move-change s c.args.space c.args.from c.args.to c.args.order in
+    let known = move-change s c.args.space c.args.from c.args.to c.args.order in
     let named = old-named s c.self.invariant.kept c.args.space c.args.from c.args.order c.args.old (there-move s c.args.space c.args.from c.args.to c.args.order (rule-none s (event.Move c.args.space c.args.from c.args.to c.args.order) ruled)) (rw (← c.self.view_is) at c.requires.found) in
     rw c.page_of.ensures (ap is_some named)
 
@@ -20,36 +20,36 @@ relocate-requires-clause-valid c =
     let i = c.self.inside in
     let s : HartsState = state_of i.spec (row_table 3 i.table) i.requests.items i.harts.items i.current i.accepted i.refused in
     let ruled : refusal_of (event.Move c.args.space c.args.from c.args.to c.args.order) s ≡ None = rw (← c.self.view_is) at c.requires.ruled in
-    let told = move-change s c.args.space c.args.from c.args.to c.args.order in
+    let known = move-change s c.args.space c.args.from c.args.to c.args.order in
     let named = old-named s c.self.invariant.kept c.args.space c.args.from c.args.order c.args.old (there-move s c.args.space c.args.from c.args.to c.args.order (rule-none s (event.Move c.args.space c.args.from c.args.to c.args.order) ruled)) (rw (← c.self.view_is) at c.requires.found) in
-    rw c.page_of-place.ensures (block-for i.spec (row_table 3 i.table).shape i.table.radix.leaves c.args.space (page_of mode.Sv39 c.args.to) c.args.order c.self.invariant.kept.table_is (change-allowed s c.self.invariant.kept (event.Move c.args.space c.args.from c.args.to c.args.order) (Relocate c.args.space (page_of mode.Sv39 c.args.from) (page_of mode.Sv39 c.args.to) c.args.order) ruled told).sound)
+    rw c.page_of-place.ensures (block-for i.spec (row_table 3 i.table).shape i.table.radix.leaves c.args.space (page_of mode.Sv39 c.args.to) c.args.order c.self.invariant.kept.table_is (change-allowed s c.self.invariant.kept (event.Move c.args.space c.args.from c.args.to c.args.order) (Relocate c.args.space (page_of mode.Sv39 c.args.from) (page_of mode.Sv39 c.args.to) c.args.order) ruled known).sound)
 
 pub relocate-requires-clause-free : goal.relocate-requires-clause-free
 relocate-requires-clause-free c =
     let i = c.self.inside in
     let s : HartsState = state_of i.spec (row_table 3 i.table) i.requests.items i.harts.items i.current i.accepted i.refused in
     let ruled : refusal_of (event.Move c.args.space c.args.from c.args.to c.args.order) s ≡ None = rw (← c.self.view_is) at c.requires.ruled in
-    let told = move-change s c.args.space c.args.from c.args.to c.args.order in
+    let known = move-change s c.args.space c.args.from c.args.to c.args.order in
     let named = old-named s c.self.invariant.kept c.args.space c.args.from c.args.order c.args.old (there-move s c.args.space c.args.from c.args.to c.args.order (rule-none s (event.Move c.args.space c.args.from c.args.to c.args.order) ruled)) (rw (← c.self.view_is) at c.requires.found) in
-    rw c.page_of-place.ensures (change-allowed s c.self.invariant.kept (event.Move c.args.space c.args.from c.args.to c.args.order) (Relocate c.args.space (page_of mode.Sv39 c.args.from) (page_of mode.Sv39 c.args.to) c.args.order) ruled told).sound.apart
+    rw c.page_of-place.ensures (change-allowed s c.self.invariant.kept (event.Move c.args.space c.args.from c.args.to c.args.order) (Relocate c.args.space (page_of mode.Sv39 c.args.from) (page_of mode.Sv39 c.args.to) c.args.order) ruled known).sound.apart
 
 pub relocate-requires-clause-room : goal.relocate-requires-clause-room
 relocate-requires-clause-room c =
     let i = c.self.inside in
     let s : HartsState = state_of i.spec (row_table 3 i.table) i.requests.items i.harts.items i.current i.accepted i.refused in
     let ruled : refusal_of (event.Move c.args.space c.args.from c.args.to c.args.order) s ≡ None = rw (← c.self.view_is) at c.requires.ruled in
-    let told = move-change s c.args.space c.args.from c.args.to c.args.order in
+    let known = move-change s c.args.space c.args.from c.args.to c.args.order in
     let named = old-named s c.self.invariant.kept c.args.space c.args.from c.args.order c.args.old (there-move s c.args.space c.args.from c.args.to c.args.order (rule-none s (event.Move c.args.space c.args.from c.args.to c.args.order) ruled)) (rw (← c.self.view_is) at c.requires.found) in
-    rw (c.page_of.ensures, c.page_of-place.ensures) (change-room s c.self.invariant.kept (event.Move c.args.space c.args.from c.args.to c.args.order) (Relocate c.args.space (page_of mode.Sv39 c.args.from) (page_of mode.Sv39 c.args.to) c.args.order) ruled told)
+    rw (c.page_of.ensures, c.page_of-place.ensures) (change-room s c.self.invariant.kept (event.Move c.args.space c.args.from c.args.to c.args.order) (Relocate c.args.space (page_of mode.Sv39 c.args.from) (page_of mode.Sv39 c.args.to) c.args.order) ruled known)
 
 pub put-requires-clause-room : goal.put-requires-clause-room
 put-requires-clause-room c =
     let i = c.self.inside in
     let s : HartsState = state_of i.spec (row_table 3 i.table) i.requests.items i.harts.items i.current i.accepted i.refused in
     let ruled : refusal_of (event.Move c.args.space c.args.from c.args.to c.args.order) s ≡ None = rw (← c.self.view_is) at c.requires.ruled in
-    let told = move-change s c.args.space c.args.from c.args.to c.args.order in
+    let known = move-change s c.args.space c.args.from c.args.to c.args.order in
     let named = old-named s c.self.invariant.kept c.args.space c.args.from c.args.order c.args.old (there-move s c.args.space c.args.from c.args.to c.args.order (rule-none s (event.Move c.args.space c.args.from c.args.to c.args.order) ruled)) (rw (← c.self.view_is) at c.requires.found) in
-    rw c.self.invariant.room (queue-room s c.self.invariant.kept (event.Move c.args.space c.args.from c.args.to c.args.order) (Relocate c.args.space (page_of mode.Sv39 c.args.from) (page_of mode.Sv39 c.args.to) c.args.order) ruled told)
+    rw c.self.invariant.room (queue-room s c.self.invariant.kept (event.Move c.args.space c.args.from c.args.to c.args.order) (Relocate c.args.space (page_of mode.Sv39 c.args.from) (page_of mode.Sv39 c.args.to) c.args.order) ruled known)
 
 pub put-requires-clause-queues : goal.put-requires-clause-queues
 put-requires-clause-queues c =
@@ -62,11 +62,11 @@ invariant_of-self c =
     let i = c.self.inside in
     let s : HartsState = state_of i.spec (row_table 3 i.table) i.requests.items i.harts.items i.current i.accepted i.refused in
     let ruled : refusal_of (event.Move c.args.space c.args.from c.args.to c.args.order) s ≡ None = rw (← c.self.view_is) at c.requires.ruled in
-    let told = move-change s c.args.space c.args.from c.args.to c.args.order in
+    let known = move-change s c.args.space c.args.from c.args.to c.args.order in
     let named = old-named s c.self.invariant.kept c.args.space c.args.from c.args.order c.args.old (there-move s c.args.space c.args.from c.args.to c.args.order (rule-none s (event.Move c.args.space c.args.from c.args.to c.args.order) ruled)) (rw (← c.self.view_is) at c.requires.found) in
     let harts = written i.harts.len i.harts.items c.deref_mut.result.now c.put.new.harts c.deref_mut.ensures.value c.deref_mut.ensures.len c.put.ensures.harts in
-    let pool = pool-changed s c.self.invariant.kept (event.Move c.args.space c.args.from c.args.to c.args.order) (Relocate c.args.space (page_of mode.Sv39 c.args.from) (page_of mode.Sv39 c.args.to) c.args.order) ruled told i.frames (λ f. refl) c.self.invariant.pool_is in
-    harts-after s c.self.invariant.kept (event.Move c.args.space c.args.from c.args.to c.args.order) (Relocate c.args.space (page_of mode.Sv39 c.args.from) (page_of mode.Sv39 c.args.to) c.args.order) ruled told (row_table 3 c.relocate.new.table) (record { before = Some c.args.old; after = Some (record c.args.old { first = c.page_of-place.result }) }) c.put.new.requests.items _ (rw (c.page_of.ensures, c.page_of-place.ensures) at c.relocate.ensures) (rw (named, c.page_of-place.ensures) refl)
+    let pool = pool-changed s c.self.invariant.kept (event.Move c.args.space c.args.from c.args.to c.args.order) (Relocate c.args.space (page_of mode.Sv39 c.args.from) (page_of mode.Sv39 c.args.to) c.args.order) ruled known i.frames (λ f. refl) c.self.invariant.pool_is in
+    harts-after s c.self.invariant.kept (event.Move c.args.space c.args.from c.args.to c.args.order) (Relocate c.args.space (page_of mode.Sv39 c.args.from) (page_of mode.Sv39 c.args.to) c.args.order) ruled known (row_table 3 c.relocate.new.table) (record { before = Some c.args.old; after = Some (record c.args.old { first = c.page_of-place.result }) }) c.put.new.requests.items _ (rw (c.page_of.ensures, c.page_of-place.ensures) at c.relocate.ensures) (rw (named, c.page_of-place.ensures) refl)
     (ap (λ (b : Buffer Request). b.items) c.put.ensures.requests) harts c.put.new.requests.capacity i.frames (ap (λ (b : Buffer Request). b.capacity) c.put.ensures.requests ∙ c.self.invariant.room) pool
 
 pub returns : goal.returns
@@ -74,8 +74,8 @@ returns c =
     let i = c.self.inside in
     let s : HartsState = state_of i.spec (row_table 3 i.table) i.requests.items i.harts.items i.current i.accepted i.refused in
     let ruled : refusal_of (event.Move c.args.space c.args.from c.args.to c.args.order) s ≡ None = rw (← c.self.view_is) at c.requires.ruled in
-    let told = move-change s c.args.space c.args.from c.args.to c.args.order in
+    let known = move-change s c.args.space c.args.from c.args.to c.args.order in
     let named = old-named s c.self.invariant.kept c.args.space c.args.from c.args.order c.args.old (there-move s c.args.space c.args.from c.args.to c.args.order (rule-none s (event.Move c.args.space c.args.from c.args.to c.args.order) ruled)) (rw (← c.self.view_is) at c.requires.found) in
     let harts = written i.harts.len i.harts.items c.deref_mut.result.now c.put.new.harts c.deref_mut.ensures.value c.deref_mut.ensures.len c.put.ensures.harts in
-    rw (← c.self.view_is) (state-after s c.self.invariant.kept (event.Move c.args.space c.args.from c.args.to c.args.order) (Relocate c.args.space (page_of mode.Sv39 c.args.from) (page_of mode.Sv39 c.args.to) c.args.order) ruled told (row_table 3 c.relocate.new.table) (record { before = Some c.args.old; after = Some (record c.args.old { first = c.page_of-place.result }) }) c.put.new.requests.items _ (rw (c.page_of.ensures, c.page_of-place.ensures) at c.relocate.ensures) (rw (named, c.page_of-place.ensures) refl)
+    rw (← c.self.view_is) (state-after s c.self.invariant.kept (event.Move c.args.space c.args.from c.args.to c.args.order) (Relocate c.args.space (page_of mode.Sv39 c.args.from) (page_of mode.Sv39 c.args.to) c.args.order) ruled known (row_table 3 c.relocate.new.table) (record { before = Some c.args.old; after = Some (record c.args.old { first = c.page_of-place.result }) }) c.put.new.requests.items _ (rw (c.page_of.ensures, c.page_of-place.ensures) at c.relocate.ensures) (rw (named, c.page_of-place.ensures) refl)
     (ap (λ (b : Buffer Request). b.items) c.put.ensures.requests) harts)

@@ -66,8 +66,8 @@ fence-requires-clause-fit c =
     let request : c.oldest_of-request.result ≡ oldest (hart_at c.args.hart s) i.requests.items = c.oldest_of-request.ensures ∙ ap (λ (h : Hart). oldest h i.requests.items) first in
     rw request (oldest-fit s kept c.args.hart ruled)
 
-pub settle-requires : goal.settle-requires
-settle-requires c =
+pub release_oldest-requires : goal.release_oldest-requires
+release_oldest-requires c =
     let i = c.self.inside in
     let s : HartsState = state_of i.spec (row_table 3 i.table) i.requests.items i.harts.items i.current i.accepted i.refused in
     let kept = c.self.invariant.kept in
@@ -94,9 +94,9 @@ invariant_of-self c =
     let new : c.fence.new.self ≡ hart_fenced (oldest (hart_at c.args.hart s) i.requests.items) (hart_at c.args.hart s) =
     c.fence.ensures ∙ ap (λ (h : Hart). hart_fenced c.oldest_of-request.result h) at ∙ ap (λ (r : Request). hart_fenced r (hart_at c.args.hart s)) request in
     let far : c.longest_of.result ≡ longest (set i.harts.items c.args.hart c.fence.new.self) = c.longest_of.ensures ∙ ap (λ (hs : List Hart). longest hs) c.deref.ensures.value in
-    taken-harts s kept c.args.hart ruled c.fence.new.self new c.settle.new.requests.items (ap (λ (b : Buffer Request). b.items) c.settle.ensures.requests ∙ ap (λ (n : ℕ). take n i.requests.items) far)
-    c.settle.new.requests.capacity (ap (λ (b : Buffer Request). b.capacity) c.settle.ensures.requests ∙ c.self.invariant.room) i.frames c.settle.new.frames c.self.invariant.pool_is
-    (rw far at c.settle.ensures.frames)
+    taken-harts s kept c.args.hart ruled c.fence.new.self new c.release_oldest.new.requests.items (ap (λ (b : Buffer Request). b.items) c.release_oldest.ensures.requests ∙ ap (λ (n : ℕ). take n i.requests.items) far)
+    c.release_oldest.new.requests.capacity (ap (λ (b : Buffer Request). b.capacity) c.release_oldest.ensures.requests ∙ c.self.invariant.room) i.frames c.release_oldest.new.frames c.self.invariant.pool_is
+    (rw far at c.release_oldest.ensures.frames)
 
 pub returns : goal.returns
 returns c =
@@ -111,4 +111,4 @@ returns c =
     let new : c.fence.new.self ≡ hart_fenced (oldest (hart_at c.args.hart s) i.requests.items) (hart_at c.args.hart s) =
     c.fence.ensures ∙ ap (λ (h : Hart). hart_fenced c.oldest_of-request.result h) at ∙ ap (λ (r : Request). hart_fenced r (hart_at c.args.hart s)) request in
     let far : c.longest_of.result ≡ longest (set i.harts.items c.args.hart c.fence.new.self) = c.longest_of.ensures ∙ ap (λ (hs : List Hart). longest hs) c.deref.ensures.value in
-    rw (← c.self.view_is) (taken-after s kept c.args.hart ruled c.fence.new.self new c.settle.new.requests.items (ap (λ (b : Buffer Request). b.items) c.settle.ensures.requests ∙ ap (λ (n : ℕ). take n i.requests.items) far))
+    rw (← c.self.view_is) (taken-after s kept c.args.hart ruled c.fence.new.self new c.release_oldest.new.requests.items (ap (λ (b : Buffer Request). b.items) c.release_oldest.ensures.requests ∙ ap (λ (n : ℕ). take n i.requests.items) far))

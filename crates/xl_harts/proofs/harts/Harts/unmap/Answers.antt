@@ -11,7 +11,7 @@ remove-requires c =
     let i = c.self.inside in
     let s : HartsState = state_of i.spec (row_table 3 i.table) i.requests.items i.harts.items i.current i.accepted i.refused in
     let ruled : refusal_of (event.Unmap c.args.space c.args.va c.args.order) s ≡ None = rw (← c.self.view_is) at c.requires.ruled in
-    let told = unmap-change s c.args.space c.args.va c.args.order in
+    let known = unmap-change s c.args.space c.args.va c.args.order in
     let named = old-named s c.self.invariant.kept c.args.space c.args.va c.args.order c.args.old (there-unmap s c.args.space c.args.va c.args.order (rule-none s (event.Unmap c.args.space c.args.va c.args.order) ruled)) (rw (← c.self.view_is) at c.requires.found) in
     rw c.page_of.ensures (ap is_some named)
 
@@ -20,9 +20,9 @@ put-requires-clause-room c =
     let i = c.self.inside in
     let s : HartsState = state_of i.spec (row_table 3 i.table) i.requests.items i.harts.items i.current i.accepted i.refused in
     let ruled : refusal_of (event.Unmap c.args.space c.args.va c.args.order) s ≡ None = rw (← c.self.view_is) at c.requires.ruled in
-    let told = unmap-change s c.args.space c.args.va c.args.order in
+    let known = unmap-change s c.args.space c.args.va c.args.order in
     let named = old-named s c.self.invariant.kept c.args.space c.args.va c.args.order c.args.old (there-unmap s c.args.space c.args.va c.args.order (rule-none s (event.Unmap c.args.space c.args.va c.args.order) ruled)) (rw (← c.self.view_is) at c.requires.found) in
-    rw c.self.invariant.room (queue-room s c.self.invariant.kept (event.Unmap c.args.space c.args.va c.args.order) (Remove c.args.space (page_of mode.Sv39 c.args.va) c.args.order) ruled told)
+    rw c.self.invariant.room (queue-room s c.self.invariant.kept (event.Unmap c.args.space c.args.va c.args.order) (Remove c.args.space (page_of mode.Sv39 c.args.va) c.args.order) ruled known)
 
 pub put-requires-clause-queues : goal.put-requires-clause-queues
 put-requires-clause-queues c =
@@ -35,11 +35,11 @@ invariant_of-self c =
     let i = c.self.inside in
     let s : HartsState = state_of i.spec (row_table 3 i.table) i.requests.items i.harts.items i.current i.accepted i.refused in
     let ruled : refusal_of (event.Unmap c.args.space c.args.va c.args.order) s ≡ None = rw (← c.self.view_is) at c.requires.ruled in
-    let told = unmap-change s c.args.space c.args.va c.args.order in
+    let known = unmap-change s c.args.space c.args.va c.args.order in
     let named = old-named s c.self.invariant.kept c.args.space c.args.va c.args.order c.args.old (there-unmap s c.args.space c.args.va c.args.order (rule-none s (event.Unmap c.args.space c.args.va c.args.order) ruled)) (rw (← c.self.view_is) at c.requires.found) in
     let harts = written i.harts.len i.harts.items c.deref_mut.result.now c.put.new.harts c.deref_mut.ensures.value c.deref_mut.ensures.len c.put.ensures.harts in
-    let pool = pool-changed s c.self.invariant.kept (event.Unmap c.args.space c.args.va c.args.order) (Remove c.args.space (page_of mode.Sv39 c.args.va) c.args.order) ruled told i.frames (λ f. refl) c.self.invariant.pool_is in
-    harts-after s c.self.invariant.kept (event.Unmap c.args.space c.args.va c.args.order) (Remove c.args.space (page_of mode.Sv39 c.args.va) c.args.order) ruled told (row_table 3 c.remove.new.table) (record { before = Some c.args.old; after = None }) c.put.new.requests.items _ (rw c.page_of.ensures at c.remove.ensures) (rw named refl)
+    let pool = pool-changed s c.self.invariant.kept (event.Unmap c.args.space c.args.va c.args.order) (Remove c.args.space (page_of mode.Sv39 c.args.va) c.args.order) ruled known i.frames (λ f. refl) c.self.invariant.pool_is in
+    harts-after s c.self.invariant.kept (event.Unmap c.args.space c.args.va c.args.order) (Remove c.args.space (page_of mode.Sv39 c.args.va) c.args.order) ruled known (row_table 3 c.remove.new.table) (record { before = Some c.args.old; after = None }) c.put.new.requests.items _ (rw c.page_of.ensures at c.remove.ensures) (rw named refl)
     (ap (λ (b : Buffer Request). b.items) c.put.ensures.requests) harts c.put.new.requests.capacity i.frames (ap (λ (b : Buffer Request). b.capacity) c.put.ensures.requests ∙ c.self.invariant.room) pool
 
 pub returns : goal.returns
@@ -47,8 +47,8 @@ returns c =
     let i = c.self.inside in
     let s : HartsState = state_of i.spec (row_table 3 i.table) i.requests.items i.harts.items i.current i.accepted i.refused in
     let ruled : refusal_of (event.Unmap c.args.space c.args.va c.args.order) s ≡ None = rw (← c.self.view_is) at c.requires.ruled in
-    let told = unmap-change s c.args.space c.args.va c.args.order in
+    let known = unmap-change s c.args.space c.args.va c.args.order in
     let named = old-named s c.self.invariant.kept c.args.space c.args.va c.args.order c.args.old (there-unmap s c.args.space c.args.va c.args.order (rule-none s (event.Unmap c.args.space c.args.va c.args.order) ruled)) (rw (← c.self.view_is) at c.requires.found) in
     let harts = written i.harts.len i.harts.items c.deref_mut.result.now c.put.new.harts c.deref_mut.ensures.value c.deref_mut.ensures.len c.put.ensures.harts in
-    rw (← c.self.view_is) (state-after s c.self.invariant.kept (event.Unmap c.args.space c.args.va c.args.order) (Remove c.args.space (page_of mode.Sv39 c.args.va) c.args.order) ruled told (row_table 3 c.remove.new.table) (record { before = Some c.args.old; after = None }) c.put.new.requests.items _ (rw c.page_of.ensures at c.remove.ensures) (rw named refl)
+    rw (← c.self.view_is) (state-after s c.self.invariant.kept (event.Unmap c.args.space c.args.va c.args.order) (Remove c.args.space (page_of mode.Sv39 c.args.va) c.args.order) ruled known (row_table 3 c.remove.new.table) (record { before = Some c.args.old; after = None }) c.put.new.requests.items _ (rw c.page_of.ensures at c.remove.ensures) (rw named refl)
     (ap (λ (b : Buffer Request). b.items) c.put.ensures.requests) harts)

@@ -9,10 +9,10 @@ pub returns-clause-skims : goal.returns-clause-skims
 returns-clause-skims c =
     let r = c.self.inside in
     let skim = c.skim_lines-skim.result in
-    let behind : r.start + (r.end - r.start) ≡ r.end = omega (arith, c.self.invariant.1) in
+    let following : r.start + (r.end - r.start) ≡ r.end = omega (arith, c.self.invariant.1) in
     let text : take (r.end - r.start) (drop r.start c.as_slice.result.now) ≡ drop r.start (take r.end r.buf.items) =
     ap (λ (xs : List ℕ). take (r.end - r.start) (drop r.start xs)) c.as_slice.ensures.value ∙ sym (drop-take r.start (r.end - r.start) r.buf.items)
-    ∙ ap (λ (k : ℕ). drop r.start (take k r.buf.items)) behind in
+    ∙ ap (λ (k : ℕ). drop r.start (take k r.buf.items)) following in
     skimmed c.args.self.now c.pass.new.self _ r.lines c.args.into.now.items c.skim_lines-skim.new.into.items skim
     (sym c.bad_line.ensures ∙ c.in-None.is) (text ∙ ap (λ (s : State). s.held) c.self.view_is) (ap (λ (s : State). s.lines) c.self.view_is) c.skim_lines-skim.ensures.skims
     (c.pass.ensures ∙ ap (λ (s : State). record s { lines = skim.lines; held = drop skim.used s.held }) c.self.view_is)

@@ -1,5 +1,5 @@
 use Rattle.xl_machine.proofs.Common.{arith, Leaf, small_leaf}
-use Rattle.xl_machine.proofs.Accesses.{allowed_reply, page_in, page_small, same_kept, same_walk_left, small_answer, told_leaf, walked_kept, walked_reached}
+use Rattle.xl_machine.proofs.Accesses.{allowed_reply, page_in, page_small, same_kept, same_walk_left, small_answer, replied_leaf, walked_kept, walked_reached}
 use Rattle.xl_machine.proofs.machine.Machine.walk_at_once.Goals as goal
 
 pub walk_allowed-requires : goal.walk_allowed-requires
@@ -17,13 +17,13 @@ fill_small-requires-clause-page g c = (page_small c.self.inside.row.mode c.args.
 
 pub count_small-requires : goal.count_small-requires
 count_small-requires g c =
-    let r = (walked_reached c.self.invariant.served c.args.page (small_leaf c.self.inside.space c.args.page c.in_ok-word.word) (told_leaf c.in_ok-word.ensures.some.walks)).small in
+    let r = (walked_reached c.self.invariant.served c.args.page (small_leaf c.self.inside.space c.args.page c.in_ok-word.word) (replied_leaf c.in_ok-word.ensures.some.walks)).small in
     omega (arith, r)
 
 pub invariant_of-self-2 : goal.invariant_of-self-2
 invariant_of-self-2 g c =
     record {
-      served = rw (c.fill_small.ensures, c.in_ok-word.ensures.some.walks.after) (walked_kept c.self.invariant.served c.args.page c.args.kind (small_leaf c.self.inside.space c.args.page c.in_ok-word.word) (told_leaf c.in_ok-word.ensures.some.walks));
+      served = rw (c.fill_small.ensures, c.in_ok-word.ensures.some.walks.after) (walked_kept c.self.invariant.served c.args.page c.args.kind (small_leaf c.self.inside.space c.args.page c.in_ok-word.word) (replied_leaf c.in_ok-word.ensures.some.walks));
       span_is = c.self.invariant.span_is;
     }
 
@@ -31,6 +31,6 @@ pub returns-clause-some : goal.returns-clause-some
 returns-clause-some g c =
     let leaf : Leaf = small_leaf c.self.inside.space c.args.page c.in_ok-word.word in
     let walks = c.in_ok-word.ensures.some.walks in
-    let r = (walked_reached c.self.invariant.served c.args.page leaf (told_leaf walks)).small in
+    let r = (walked_reached c.self.invariant.served c.args.page leaf (replied_leaf walks)).small in
     rw (c.count_small.ensures.reply, c.count_small.ensures.counts, c.fill_small.ensures, ← c.self.view_is)
     (small_answer c.self.invariant.served c.args.page (rw (← c.self.view_is) at c.requires) c.args.kind c.self.inside.counts leaf 1 walks (allowed_reply c.self.inside.space c.args.page c.in_ok-word.word c.args.kind c.in_ok-word.ensures.some.allowed) (omega (arith, r)))

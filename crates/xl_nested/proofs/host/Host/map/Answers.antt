@@ -37,13 +37,13 @@ pub returns-in-Ok : goal.returns-in-Ok
 returns-in-Ok c =
     let p = place-in c.args.guest_page c.args.order c.requires in
     let free : meets_any (host_space c.args.guest_page) (host_page c.args.guest_page) c.args.order c.self.inside.stage.leaves ≡ false = rw (← c.space_of-space.ensures.value, ← c.page_in-first.ensures.value) (sym c.meets.ensures ∙ c.if-meets.false) in
-    let told = rw (c.space_of-space.ensures.value, c.page_in-first.ensures.value) at c.in-Ok.ensures in
-    rw (← c.self.view_is) (map-done c.self.invariant c.args.guest_page c.args.order c.args.perm c.in-Some.frame p.1 p.0 c.in-Some.ensures.lowest free c.self.inside.hits c.add.new.self c.take.new.self told.0 told.1 c.in-Some.ensures.taken)
+    let known = rw (c.space_of-space.ensures.value, c.page_in-first.ensures.value) at c.in-Ok.ensures in
+    rw (← c.self.view_is) (map-done c.self.invariant c.args.guest_page c.args.order c.args.perm c.in-Some.frame p.1 p.0 c.in-Some.ensures.lowest free c.self.inside.hits c.add.new.self c.take.new.self known.0 known.1 c.in-Some.ensures.taken)
 
 pub returns-in-Err : goal.returns-in-Err
 returns-in-Err c =
     let p = place-in c.args.guest_page c.args.order c.requires in
     let free : meets_any (host_space c.args.guest_page) (host_page c.args.guest_page) c.args.order c.self.inside.stage.leaves ≡ false = rw (← c.space_of-space.ensures.value, ← c.page_in-first.ensures.value) (sym c.meets.ensures ∙ c.if-meets.false) in
-    let told = rw (c.space_of-space.ensures.value, c.page_in-first.ensures.value) at c.in-Err.ensures in
-    rw (← c.self.view_is) (map-undone c.self.invariant c.args.guest_page c.args.order c.args.perm c.in-Some.frame p.1 p.0 c.in-Some.ensures.lowest free c.self.inside.hits c.in-Err.refusal c.add.new.self c.give.new.self told.0 told.1
+    let known = rw (c.space_of-space.ensures.value, c.page_in-first.ensures.value) at c.in-Err.ensures in
+    rw (← c.self.view_is) (map-undone c.self.invariant c.args.guest_page c.args.order c.args.perm c.in-Some.frame p.1 p.0 c.in-Some.ensures.lowest free c.self.inside.hits c.in-Err.refusal c.add.new.self c.give.new.self known.0 known.1
     (rw (← c.in-Some.ensures.taken) c.give.ensures))

@@ -1,13 +1,13 @@
 use Rattle.xl_outside.proofs.Common.{◌+◌, ◌-◌, ◌<◌, ◌∙◌, ◌≡◌, ◌≤◌, ap, arith, inl, length, length-drop, rules, subst, take, true, with_more}
 use Rattle.xl_outside.proofs.BufferLemmas.{moved_on}
-use Rattle.xl_outside.proofs.SinkLemmas.{goes_then, put_goes, put_stops}
+use Rattle.xl_outside.proofs.SinkLemmas.{proceeds_then, put_proceeds, put_stops}
 use Rattle.xl_outside.proofs.buffered.Buffered.pass_on.Goals as goal
 
-pub returns-in-Ok-eq0-clause-goes_on : goal.returns-in-Ok-eq0-clause-goes_on
-returns-in-Ok-eq0-clause-goes_on g c =
+pub returns-in-Ok-eq0-clause-proceeds : goal.returns-in-Ok-eq0-clause-proceeds
+returns-in-Ok-eq0-clause-proceeds g c =
     let put = c.in-Ok-eq0.ensures.leaves in
     let some : 0 < length c.as_slice.result.now = search rules in
-    put_stops _ _ _ c.loop-self.invariant.goes_on put.stays (put.counts.0 c.in-Ok-eq0.field-0-test some)
+    put_stops _ _ _ c.loop-self.invariant.proceeds put.stays (put.counts.0 c.in-Ok-eq0.field-0-test some)
 
 pub loop-self-preserved : goal.loop-self-preserved
 loop-self-preserved g c =
@@ -25,7 +25,7 @@ loop-self-preserved g c =
       kept = ap (with_more (g.K.Sink.sink.taken c.put.new.self)) gone
           ∙ moved_on (g.K.Sink.sink.taken c.loop-self.self.to) (g.K.Sink.sink.taken c.put.new.self) held count (put.took ∙ ap (λ xs. with_more (g.K.Sink.sink.taken c.loop-self.self.to) (take count xs)) shown)
           ∙ inv.kept;
-      goes_on = goes_then true _ _ _ inv.goes_on (put_goes _ _ put.stays (put.counts.1 (inl (omega (arith, some)))));
+      proceeds = proceeds_then true _ _ _ inv.proceeds (put_proceeds _ _ put.stays (put.counts.1 (inl (omega (arith, some)))));
       calm = λ room h.
           let fits : length c.as_slice.result.now ≤ length held + room = omega (arith, all) in
           let left = put.calm (length held + room) (inv.calm room h) fits in
@@ -33,5 +33,5 @@ loop-self-preserved g c =
           subst (g.K.Sink.sink.roomy c.put.new.self) e left.1;
     }
 
-pub returns-in-Err-clause-goes_on : goal.returns-in-Err-clause-goes_on
-returns-in-Err-clause-goes_on g c = put_stops _ _ _ c.loop-self.invariant.goes_on c.in-Err.ensures.leaves.stays c.in-Err.ensures.leaves.counts
+pub returns-in-Err-clause-proceeds : goal.returns-in-Err-clause-proceeds
+returns-in-Err-clause-proceeds g c = put_stops _ _ _ c.loop-self.invariant.proceeds c.in-Err.ensures.leaves.stays c.in-Err.ensures.leaves.counts

@@ -1,10 +1,10 @@
-use Rattle.xl_outside.proofs.Common.{◌+◌, ◌≡◌, GoesOn, length, true, with_more, ℕ}
+use Rattle.xl_outside.proofs.Common.{◌+◌, ◌≡◌, Proceeds, length, true, with_more, ℕ}
 use Rattle.xl_outside.proofs.buffered.Buffered.pass_on.Given as goal
 
 abbrev pub invariant-loop-self : goal.invariant-loop-self
 invariant-loop-self g l = record {
   kept : with_more (g.K.Sink.sink.taken l.self.to) l.self.held.items ≡ with_more (g.K.Sink.sink.taken l.fn.self.to) l.fn.self.held.items;
-  goes_on : GoesOn true (g.K.Sink.sink.outside l.fn.self.to) (g.K.Sink.sink.outside l.self.to);
+  proceeds : Proceeds true (g.K.Sink.sink.outside l.fn.self.to) (g.K.Sink.sink.outside l.self.to);
   calm : (room : ℕ) → g.K.Sink.sink.roomy l.fn.self.to (length l.fn.self.held.items + room) → g.K.Sink.sink.roomy l.self.to (length l.self.held.items + room);
 }
 

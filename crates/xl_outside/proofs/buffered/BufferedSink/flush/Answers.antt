@@ -1,6 +1,6 @@
 use Rattle.xl_outside.proofs.Common.{◌+◌, ◌∙◌, ◌≡◌, ap, arith, is_ok, length, subst, with_more}
 use Rattle.xl_outside.proofs.BufferLemmas.{flushed_none}
-use Rattle.xl_outside.proofs.SinkLemmas.{goes_then}
+use Rattle.xl_outside.proofs.SinkLemmas.{proceeds_then}
 use Rattle.xl_outside.proofs.buffered.BufferedSink.flush.Goals as goal
 
 pub returns : goal.returns
@@ -12,7 +12,7 @@ returns g c =
     record {
       keeps = ap (λ w. with_more w held) flushed.keeps ∙ passed.kept;
       flushed = flushed_none (is_ok c.flush.result) _ _ held passed.none flushed.flushed;
-      goes_on = goes_then (is_ok c.flush.result) _ _ _ passed.goes_on flushed.goes_on;
+      proceeds = proceeds_then (is_ok c.flush.result) _ _ _ passed.proceeds flushed.proceeds;
       calm = λ room h.
           let left = flushed.calm room (passed.calm room h).1 in
           let e : room ≡ length held + room = omega (arith, size) in

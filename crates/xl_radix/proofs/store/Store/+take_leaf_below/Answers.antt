@@ -1,5 +1,5 @@
 use Rattle.xl_radix.proofs.Common.{◌-◌, ◌≡◌, arith, leaf_in, lit<, None, slice_index, up}
-use Rattle.xl_radix.proofs.StepLemmas.{stands-in}
+use Rattle.xl_radix.proofs.StepLemmas.{at_node-in}
 use Rattle.xl_radix.proofs.TakingLemmas.{empty-without, is-zero, named-needs, not-zero, stays, still-nearly}
 use Rattle.xl_radix.proofs.store.Store.+take_leaf_below.Goals as goal
 
@@ -22,7 +22,7 @@ pub is_unused-requires : goal.is_unused-requires
 is_unused-requires g t c =
     let taken = c.take_leaf_below-given.ensures.taken in
     let child = stays c.args.space c.args.first (c.args.from.level - 1) (c.args.from.level - 1) _ c.node_below-node.result _ _ taken (omega arith) c.node_below-node.ensures.at in
-    (lit< tt, stands-in c.args.space c.args.first (c.args.from.level - 1) c.node_below-node.result _ child)
+    (lit< tt, at_node-in c.args.space c.args.first (c.args.from.level - 1) c.node_below-node.result _ child)
 
 pub returns-then-not-is_unused-clause-nearly : goal.returns-then-not-is_unused-clause-nearly
 returns-then-not-is_unused-clause-nearly g t c =

@@ -1,7 +1,7 @@
 use Rattle.xl_radix.proofs.Common.{◌≡◌, arith, inl, inr, Pte, read_back, subst, sym, up}
 use Rattle.xl_radix.proofs.PathLemmas.{ended}
 use Rattle.xl_radix.proofs.SlotLemmas.{Says}
-use Rattle.xl_radix.proofs.StepLemmas.{next-stands, read-says, stops}
+use Rattle.xl_radix.proofs.StepLemmas.{next-at_node, read-says, stops}
 use Rattle.xl_radix.proofs.store.Store.end_of.Goals as goal
 
 pub down-preserved : goal.down-preserved
@@ -12,7 +12,7 @@ down-preserved g c =
     rw (← c.self.view_is) (record {
       least_in = omega arith;
       level_in = omega arith;
-      at = next-stands c.args.space c.args.page c.down.level c.in-Pointer.next _ _ h;
+      at = next-at_node c.args.space c.args.page c.down.level c.in-Pointer.next _ _ h;
     })
 
 pub returns-in_default : goal.returns-in_default

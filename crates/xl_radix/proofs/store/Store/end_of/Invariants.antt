@@ -1,4 +1,4 @@
-use Rattle.xl_radix.proofs.Common.{◌<◌, ◌≤◌, Stands}
+use Rattle.xl_radix.proofs.Common.{◌<◌, ◌≤◌, IsAtNode}
 use Rattle.xl_radix.proofs.store.Store.end_of.Given as goal
 
 abbrev pub decreases-down : goal.decreases-down
@@ -8,5 +8,5 @@ abbrev pub invariant-down : goal.invariant-down
 invariant-down g l = record {
   least_in : l.least ≤ l.level;
   level_in : l.level < g.row.LEVELS;
-  at : Stands l.space l.page l.level l.node l.self.nodes;
+  at : IsAtNode l.space l.page l.level l.node l.self.nodes;
 }

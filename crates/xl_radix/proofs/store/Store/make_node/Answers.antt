@@ -1,7 +1,7 @@
 use Rattle.xl_radix.proofs.Common.{◌-◌, ◌∙◌, ◌≡◌, ap, arith, Node, refl, slice_set, Some, sym, up, ℕ}
 use Rattle.xl_radix.proofs.FreeLemmas.{not-none}
 use Rattle.xl_radix.proofs.NumberLemmas.{lowest-is, put-first-count, put-lowest}
-use Rattle.xl_radix.proofs.StepLemmas.{count-fits, made-step-at, stands-in}
+use Rattle.xl_radix.proofs.StepLemmas.{count-fits, made-step-at, at_node-in}
 use Rattle.xl_radix.proofs.store.Store.make_node.Goals as goal
 
 abbrev named : ℕ → ℕ → ℕ → Node
@@ -15,7 +15,7 @@ unreachable-requires g c =
 pub overflow_add-index_mut : goal.overflow_add-index_mut
 overflow_add-index_mut g c =
     let ready = rw (← c.self.view_is) at c.requires.ready in
-    let h = count-fits g.row.LEVELS _ c.args.above.node c.index_mut.result.now _ _ _ _ c.self.invariant (stands-in c.args.space c.args.page c.args.above.level c.args.above.node _ ready.at) c.index_mut.ensures.value in
+    let h = count-fits g.row.LEVELS _ c.args.above.node c.index_mut.result.now _ _ _ _ c.self.invariant (at_node-in c.args.space c.args.page c.args.above.level c.args.above.node _ ready.at) c.index_mut.ensures.value in
     omega (arith, h)
 
 pub invariant_of-self : goal.invariant_of-self

@@ -1,6 +1,6 @@
 use Rattle.xl_radix.proofs.Common.{arith, Pte, read_back, subst, sym, up}
 use Rattle.xl_radix.proofs.SlotLemmas.{pointer-low, Says}
-use Rattle.xl_radix.proofs.StepLemmas.{next-stands, read-says, stops}
+use Rattle.xl_radix.proofs.StepLemmas.{next-at_node, read-says, stops}
 use Rattle.xl_radix.proofs.store.Store.node_below.Goals as goal
 
 pub unreachable-requires : goal.unreachable-requires
@@ -24,7 +24,7 @@ returns-clause-at g c =
     let at = rw (← c.self.view_is) at c.requires.at in
     let says = read-says g.row.LEVELS _ c.args.space c.args.page c.args.above.level c.args.above.node c.index_of.result c.get-word.result _ _ _ _ c.self.invariant at c.requires.high c.index_of.ensures.value c.get-word.ensures in
     let h = subst (λ (w : Pte). Says w c.args.space c.args.above.level (up c.args.above.level c.args.page) (read_back c.self.inside.numbers c.self.inside.words) c.self.inside.numbers) (sym c.in-Pointer.ensures.value) says in
-    rw (← c.self.view_is) (next-stands c.args.space c.args.page c.args.above.level c.in-Pointer.node _ _ h)
+    rw (← c.self.view_is) (next-at_node c.args.space c.args.page c.args.above.level c.in-Pointer.node _ _ h)
 
 pub returns-clause-empty : goal.returns-clause-empty
 returns-clause-empty g c =

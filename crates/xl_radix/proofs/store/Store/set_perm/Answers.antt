@@ -1,4 +1,4 @@
-use Rattle.xl_radix.proofs.Common.{◌∙◌, ◌≡◌, ap, arith, Leaf, leaf_named, level-low, level_of, lit<, read_back, same_Some, Some, Stands, subst, sym}
+use Rattle.xl_radix.proofs.Common.{◌∙◌, ◌≡◌, ap, arith, Leaf, leaf_named, level-low, level_of, lit<, read_back, same_Some, Some, IsAtNode, subst, sym}
 use Rattle.xl_radix.proofs.PermLemmas.{found-named, named-page, protected-is}
 use Rattle.xl_radix.proofs.store.Store.set_perm.Goals as goal
 
@@ -32,7 +32,7 @@ write_perm-requires g c =
     let f = found-named g.row.LEVELS _ c.args.space c.args.first c.end_of-node.result.level c.end_of-node.result.node c.args.order c.leaf_at.result _ _ _ _ c.self.invariant name (rw c.level.ensures at end) page in
     let same : f.leaf ≡ c.in-Some.old = same_Some _ _ (sym f.at_page ∙ c.in-Some.is) in
     let own = subst (λ (v : Leaf). leaf_named v.space v.first v.order (read_back c.self.inside.numbers c.self.inside.words) ≡ Some v) same f.own in
-    let at = subst (λ (v : Leaf). Stands v.space v.first (level_of v.order) c.end_of-node.result.node c.self.inside.numbers) same f.at in
+    let at = subst (λ (v : Leaf). IsAtNode v.space v.first (level_of v.order) c.end_of-node.result.node c.self.inside.numbers) same f.at in
     (lit< tt, (c.requires.exact, (rw (← c.self.view_is) own, rw (← c.self.view_is) at)))
 
 pub returns-clause-leaves : goal.returns-clause-leaves

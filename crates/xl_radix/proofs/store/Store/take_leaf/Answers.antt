@@ -1,11 +1,11 @@
 use Rattle.xl_radix.proofs.Common.{◌-◌, arith, level-low, lit<}
-use Rattle.xl_radix.proofs.TakingLemmas.{named-stands, nearly-exact, small-of, taken-only}
+use Rattle.xl_radix.proofs.TakingLemmas.{named-at_node, nearly-exact, small-of, taken-only}
 use Rattle.xl_radix.proofs.store.Store.take_leaf.Goals as goal
 
 pub take_leaf_below-given-requires : goal.take_leaf_below-given-requires
 take_leaf_below-given-requires g c =
     let name = rw (← c.self.view_is) at c.requires.named in
-    let at = named-stands g.row.LEVELS _ c.args.space c.args.first c.args.order _ _ _ _ c.self.invariant name in
+    let at = named-at_node g.row.LEVELS _ c.args.space c.args.first c.args.order _ _ _ _ c.self.invariant name in
     let high = c.self.invariant.high in
     let low = level-low c.args.order in
     (lit< tt, (c.requires.exact, (c.requires.named, (rw (← c.self.view_is) at, (omega arith, omega arith)))))

@@ -1,11 +1,11 @@
 use Rattle.xl_radix.proofs.Common.{◌%◌, ◌∙◌, ◌≡◌, ap, arith, level_of, up, ℕ}
-use Rattle.xl_radix.proofs.StepLemmas.{count-fits, put-step, stands-in}
+use Rattle.xl_radix.proofs.StepLemmas.{count-fits, put-step, at_node-in}
 use Rattle.xl_radix.proofs.store.Store.write_leaf.Goals as goal
 
 pub overflow_add-index_mut : goal.overflow_add-index_mut
 overflow_add-index_mut g c =
     let ready = rw (← c.self.view_is) at c.requires.ready in
-    let h = count-fits g.row.LEVELS _ c.args.node c.index_mut.result.now _ _ _ _ c.self.invariant (stands-in c.args.leaf.space c.args.leaf.first (level_of c.args.leaf.order) c.args.node _ ready.at) c.index_mut.ensures.value in
+    let h = count-fits g.row.LEVELS _ c.args.node c.index_mut.result.now _ _ _ _ c.self.invariant (at_node-in c.args.leaf.space c.args.leaf.first (level_of c.args.leaf.order) c.args.node _ ready.at) c.index_mut.ensures.value in
     omega (arith, h)
 
 pub invariant_of-self : goal.invariant_of-self

@@ -1,10 +1,10 @@
-use Rattle.xl_serving.proofs.Common.{◌≡◌, count_of, event_at, events_from, plain, scene_of, take, true, waited}
+use Rattle.xl_serving.proofs.Common.{◌≡◌, count_of, event_at, events_from, plain, scene_of, take, true, drained}
 use Rattle.xl_course.specs.Serving.{HasServed}
 use Rattle.xl_serving.proofs.plain.Bench.events.Given as goal
 
 abbrev pub invariant-loop-i : goal.invariant-loop-i
 invariant-loop-i g l = record {
   served : HasServed plain g.K.Sink.sink l.answers (take l.i (events_from (event_at l.command) 0 (count_of l.command)))
-      (waited l.fn.self.waiting (scene_of (g.R.Rows.rows l.fn.rows) l.fn.self.areas)) (waited l.self.waiting (scene_of (g.R.Rows.rows l.rows) l.self.areas)) l.fn.out l.out true;
+      (drained l.fn.self.batch (scene_of (g.R.Rows.rows l.fn.rows) l.fn.self.areas)) (drained l.self.batch (scene_of (g.R.Rows.rows l.rows) l.self.areas)) l.fn.out l.out true;
   areas : l.self.areas ≡ l.fn.self.areas;
 }

@@ -9,12 +9,12 @@ use Rattle.xl_tlb.proofs.array.Array.fill_in.Goals as goal
 pub invariant_of-self : goal.invariant_of-self
 invariant_of-self g c =
     let spec = c.self.inside.spec in
-    let s = c.args.sought in
+    let s = c.args.lookup in
     let o = c.args._order in
     let item : Item = record { tag = s.tag; word = c.args.word } in
     let set_is : c.args.set ≡ set_number spec o s.page = rw (← c.self.view_is) at c.requires.set_is in
     fill_kept spec c.self.inside.sets c.fill-left.new.self g.row.W (leaf_with s.space s.page o c.args.word) item
-    (hit_back s.space s.page c.args.word o c.requires.sought.space_in item c.requires.sought.tagged refl) c.self.invariant
+    (hit_back s.space s.page c.args.word o c.requires.lookup.space_in item c.requires.lookup.tagged refl) c.self.invariant
     (rw (set_is ∙ hit_set spec s.page o, ← c.self.invariant.same_width) at c.fill-left.ensures.list)
 
 pub returns : goal.returns
@@ -22,14 +22,14 @@ returns g c =
     let spec = c.self.inside.spec in
     let sets = c.self.inside.sets in
     let new = c.fill-left.new.self in
-    let s = c.args.sought in
+    let s = c.args.lookup in
     let o = c.args._order in
     let word = c.args.word in
     let item : Item = record { tag = s.tag; word = word } in
     let set_is : c.args.set ≡ set_number spec o s.page = rw (← c.self.view_is) at c.requires.set_is in
     let takes : takes_order spec o ≡ true = rw (← c.self.view_is) at c.requires.takes in
     let is : array_of spec new ≡ array_filled (leaf_with s.space s.page o word) (array_of spec sets) = filled spec sets new (leaf_with s.space s.page o word) item
-    (hit_back s.space s.page word o c.requires.sought.space_in item c.requires.sought.tagged refl) takes
+    (hit_back s.space s.page word o c.requires.lookup.space_in item c.requires.lookup.tagged refl) takes
     (rw (set_is ∙ hit_set spec s.page o, ← c.self.invariant.same_width) at c.fill-left.ensures.list) in
     let below : c.args.set < spec.sets = below_sets spec o s.page c.args.set c.self.invariant.some set_is in
     let within : set_number spec o s.page < length (map leaves_of sets) = rw (← set_is, c.self.invariant.count) below in

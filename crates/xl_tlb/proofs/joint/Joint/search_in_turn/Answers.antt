@@ -8,13 +8,13 @@ invariant_of-self c =
     let old = c.self.inside.levels in
     let new = c.hit_in_turn.new.self in
     let is = c.in-Some.ensures.some in
-    let stay : c.has_eights-eights.result ≡ true → FrontsStay (c.args.sought.page % 8) old.arrays new.arrays = λ t.
-    rw is.after (small_stays c.args.kind c.args.sought.space c.args.sought.page c.in-Some.word old is.found (c.has_eights-eights.ensures t)) in
+    let stay : c.has_eights-eights.result ≡ true → FrontsStay (c.args.lookup.page % 8) old.arrays new.arrays = λ t.
+    rw is.after (small_stays c.args.kind c.args.lookup.space c.args.lookup.page c.in-Some.word old is.found (c.has_eights-eights.ensures t)) in
     c.forget_block.ensures old.arrays new.arrays c.self.invariant stay
 
 pub returns-in-Some : goal.returns-in-Some
 returns-in-Some c =
-    let s = c.args.sought in
+    let s = c.args.lookup in
     let is = c.in-Some.ensures.some in
     rw (← c.self.view_is) (record {
       leaf = small_leaf s.space s.page c.in-Some.word;

@@ -6,7 +6,7 @@ use Rattle.xl_tlb.proofs.levels.Levels.fill_split.Goals as goal
 pub invariant_of-self : goal.invariant_of-self
 invariant_of-self c =
     let t = c.self.inside in
-    let s = c.args.sought in
+    let s = c.args.lookup in
     let new = c.fill_split.new.arrays in
     let fill : IsSplitFill c.args.kind s.space s.page c.args.word t.arrays.items new = rw c.deref_mut.ensures.value at c.fill_split.ensures in
     let split : AreSplit (map spec_of t.arrays.items) = rw (← c.self.view_is) at c.requires.split in
@@ -18,7 +18,7 @@ invariant_of-self c =
 pub returns : goal.returns
 returns c =
     let t = c.self.inside in
-    let s = c.args.sought in
+    let s = c.args.lookup in
     let new = c.fill_split.new.arrays in
     let fill : IsSplitFill c.args.kind s.space s.page c.args.word t.arrays.items new = rw c.deref_mut.ensures.value at c.fill_split.ensures in
     let split : AreSplit (map spec_of t.arrays.items) = rw (← c.self.view_is) at c.requires.split in

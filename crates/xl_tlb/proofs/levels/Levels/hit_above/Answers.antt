@@ -1,5 +1,5 @@
 use Rattle.xl_tlb.proofs.Common.{◌++◌, ◌∙◌, ◌≡◌, ap, drop, IsFirstLeaf, leaf_hit, length, sym, take}
-use Rattle.xl_tlb.proofs.FrontLemmas.{first_after, first_looked, first_told}
+use Rattle.xl_tlb.proofs.FrontLemmas.{first_after, first_looked, first_replied}
 use Rattle.xl_tlb.proofs.TlbLemmas.{look_kept, written}
 use Rattle.xl_tlb.proofs.levels.Levels.hit_above.Goals as goal
 
@@ -23,6 +23,6 @@ returns-clause-some g c =
     let back : take t.arrays.len (new ++ drop (length new) t.arrays.items) ≡ new =
     written t.arrays.len new t.arrays.items (c.look_first_above.auto.arrays ∙ ap length c.deref_mut.ensures.value) (sym c.deref_mut.ensures.len ∙ ap length c.deref_mut.ensures.value) in
     rw (back, ← c.self.view_is) (record {
-      found = first_told c.args._kind c.args.space c.args.page leaf t.arrays.items new is;
+      found = first_replied c.args._kind c.args.space c.args.page leaf t.arrays.items new is;
       after = first_after c.args._kind c.args.space c.args.page leaf t.arrays.items new t.hits t.misses t.fills c.self.ranges.1.1.1.0.1 is;
     })

@@ -8,7 +8,7 @@ pub invariant_of-self : goal.invariant_of-self
 invariant_of-self c =
     let t = c.self.inside in
     let k = c.args.kind in
-    let s = c.args.sought in
+    let s = c.args.lookup in
     let new = c.look_split.new.arrays in
     let look : IsSplitLook k s.space s.page (seen.First c.in-First.word) t.arrays.items new = rw c.deref_mut.ensures.value at c.in-First.ensures in
     let split : AreSplit (map spec_of t.arrays.items) = rw (← c.self.view_is) at c.requires.split in
@@ -21,7 +21,7 @@ pub invariant_of-self-in-Second : goal.invariant_of-self-in-Second
 invariant_of-self-in-Second c =
     let t = c.self.inside in
     let k = c.args.kind in
-    let s = c.args.sought in
+    let s = c.args.lookup in
     let new = c.look_split.new.arrays in
     let look : IsSplitLook k s.space s.page (seen.Second c.in-Second.word) t.arrays.items new = rw c.deref_mut.ensures.value at c.in-Second.ensures in
     let split : AreSplit (map spec_of t.arrays.items) = rw (← c.self.view_is) at c.requires.split in
@@ -34,7 +34,7 @@ pub invariant_of-self-in-Nowhere : goal.invariant_of-self-in-Nowhere
 invariant_of-self-in-Nowhere c =
     let t = c.self.inside in
     let k = c.args.kind in
-    let s = c.args.sought in
+    let s = c.args.lookup in
     let new = c.look_split.new.arrays in
     let look : IsSplitLook k s.space s.page seen.Nowhere t.arrays.items new = rw c.deref_mut.ensures.value at c.in-Nowhere.ensures in
     let split : AreSplit (map spec_of t.arrays.items) = rw (← c.self.view_is) at c.requires.split in
@@ -47,7 +47,7 @@ pub returns-in-First : goal.returns-in-First
 returns-in-First c =
     let t = c.self.inside in
     let k = c.args.kind in
-    let s = c.args.sought in
+    let s = c.args.lookup in
     let new = c.look_split.new.arrays in
     let look : IsSplitLook k s.space s.page (seen.First c.in-First.word) t.arrays.items new = rw c.deref_mut.ensures.value at c.in-First.ensures in
     let split : AreSplit (map spec_of t.arrays.items) = rw (← c.self.view_is) at c.requires.split in
@@ -60,7 +60,7 @@ pub returns-in-Second : goal.returns-in-Second
 returns-in-Second c =
     let t = c.self.inside in
     let k = c.args.kind in
-    let s = c.args.sought in
+    let s = c.args.lookup in
     let new = c.look_split.new.arrays in
     let look : IsSplitLook k s.space s.page (seen.Second c.in-Second.word) t.arrays.items new = rw c.deref_mut.ensures.value at c.in-Second.ensures in
     let split : AreSplit (map spec_of t.arrays.items) = rw (← c.self.view_is) at c.requires.split in
@@ -73,7 +73,7 @@ pub returns-in-Nowhere : goal.returns-in-Nowhere
 returns-in-Nowhere c =
     let t = c.self.inside in
     let k = c.args.kind in
-    let s = c.args.sought in
+    let s = c.args.lookup in
     let new = c.look_split.new.arrays in
     let look : IsSplitLook k s.space s.page seen.Nowhere t.arrays.items new = rw c.deref_mut.ensures.value at c.in-Nowhere.ensures in
     let split : AreSplit (map spec_of t.arrays.items) = rw (← c.self.view_is) at c.requires.split in

@@ -6,7 +6,7 @@ use Rattle.xl_tlb.proofs.split.Split.fill_small.Goals as goal
 pub invariant_of-self : goal.invariant_of-self
 invariant_of-self c =
     let t = c.self.inside in
-    let s = c.of-sought.result in
+    let s = c.of-lookup.result in
     let word = c.args.word in
     let new = c.fill_split.new.self in
     let kept : IsKept kind.Fetch s.space s.page word t.levels.arrays new.arrays = rw c.in-Fetch.is at c.fill_split.ensures.kept in
@@ -16,7 +16,7 @@ invariant_of-self c =
 pub invariant_of-self-in-Load : goal.invariant_of-self-in-Load
 invariant_of-self-in-Load c =
     let t = c.self.inside in
-    let s = c.of-sought.result in
+    let s = c.of-lookup.result in
     let k = c.args.kind in
     let word = c.args.word in
     let new = c.fill_split.new.self in

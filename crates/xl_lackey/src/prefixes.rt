@@ -1,0 +1,208 @@
+//! Line-prefix cache: prefix bytes to page and kind.
+
+ghost use Rattle.std.specs.Prelude.{◌≡◌, ◌≢◌, ℕ, ◌+◌, ◌*◌, ◌^◌, ◌<◌, ◌≤◌, ◌∷◌, ◌⊎◌, [], IsTrue, length, take, drop, Some, IfSome, slice_index};
+ghost use Rattle.std.specs.List.{All};
+ghost use Rattle.xl_lackey.specs.Digits.{hex_value};
+ghost use Rattle.xl_lackey.specs.PrefixCache.{IsBeginning, IsPrefix};
+ghost use Rattle.xl_lackey.specs.Skims.{IsRecordLine};
+
+use crate::digits::{digit_or_page, eight_digits, near_size, pair, size_of_digit, word};
+use crate::skim::Access;
+use crate::usual::front_of;
+use std::marker::Model;
+use std::simd::prelude::*;
+use xl_model::Kind;
+
+/// How many pages are kept of addresses of eight digits, and as many of those of ten.
+const PLACES: usize = 256;
+
+/// A page, and how a line begins whose address lies in it: up to the last three digits, which are
+/// the place in the page.
+#[derive(Clone, Copy)]
+struct Prefix {
+    /// The eight bytes before the last three digits, of which the first counts least.
+    word: u64,
+    /// The first two bytes, of which the first counts least.
+    front: u32,
+    /// The page's first address.
+    addr: u64,
+    /// The kind of the line's access.
+    kind: Kind,
+}
+
+impl Prefix {
+    /// Whether the prefix matches. Eight bytes are the whole prefix of a line with eight digits,
+    /// and all but the letter of one with more.
+    #[inline(always)]
+    fn begins(&self, word: u64, front: u32, extra: usize) -> bool
+        ensures word { IsTrue result → self.now.word ≡ word }
+        ensures front { IsTrue result → (extra ≡ 0) ⊎ (self.now.front ≡ front) }
+    {
+        self.word == word && (extra == 0 || self.front == front)
+    }
+
+    /// The access at offset `at`, if its `above` further bytes stay in the page.
+    #[inline(always)]
+    fn access(&self, at: u64, above: u32) -> Option<Access>
+        requires at { at < 2000000 }
+        requires above { above < 99 }
+        requires addr { self.now.addr < 2 ^ 48 }
+        ensures is { IfSome result (λ a. a ≡ record { va = self.now.addr + at; kind = self.now.kind }) }
+        ensures within { IfSome result (λ a. at + above < 4096) }
+    {
+        if at + (above as u64) < 4096 {
+            Some(Access {
+                va: self.addr + at,
+                kind: self.kind,
+            })
+        } else {
+            None
+        }
+    }
+}
+
+/// The place of a page among those that are kept, by how its lines begin.
+#[inline(always)]
+fn place_of(word: u64, front: u32, extra: usize) -> usize
+    ensures { result < 256 }
+{
+    let key = if extra == 0 {
+        word
+    } else {
+        word.wrapping_add(front as u64 * 8)
+    };
+    (key.wrapping_mul(0x9e37_79b9_7f4a_7c15) >> 56) as usize
+}
+
+/// The first line of a text, where its address has `extra` digits more than eight and its page is
+/// kept: how many bytes it has with its newline, and its access.
+#[inline(always)]
+fn kept_record(prefixes: &[Prefix], text: &[u8], extra: usize) -> Option<(usize, Access)>
+    requires long { 17 ≤ length text.now }
+    requires few { extra ≤ 2 }
+    requires comma { slice_index text.now (11 + extra) ≡ 44 }
+    requires places { length prefixes.now ≡ 256 }
+    requires kept { All (IsPrefix extra) prefixes.now }
+    ensures record { IfSome result (λ r. IsRecordLine text.now r.0 (r.1 ∷ [])) }
+    ensures few { IfSome result (λ r. r.0 ≤ 17) }
+{
+    let word = word(u8x8::from_slice(&text[extra..]));
+    let front = pair(text);
+    let page = &prefixes[place_of(word, front, extra)];
+    if !page.begins(word, front, extra) {
+        return None;
+    }
+    let at = place_in_page(&text[8 + extra..]);
+    let sized = &text[12 + extra..];
+    if let Some(above) = size_of_digit(sized) {
+        return Some((14 + extra, page.access(at, above)?));
+    }
+    let (size, digits) = near_size(sized)?;
+    Some((13 + extra + digits, page.access(at, size - 1)?))
+}
+
+/// The value of three digits; 4096 or more where one of them is none.
+#[inline(always)]
+fn place_in_page(text: &[u8]) -> u64
+    requires { 3 ≤ length text.now }
+    ensures value { result < 4096 →
+        (v : ℕ) → hex_value v (take 3 text.now) ≡ Some (v * 4096 + result) }
+    ensures few { result < 2000000 }
+{
+    digit_or_page(text[0]) * 256 + digit_or_page(text[1]) * 16 + digit_or_page(text[2])
+}
+
+/// Keeps a page in its place.
+fn keep_page(prefixes: &mut [Prefix], text: &[u8], extra: usize, page: u64, kind: Kind)
+    requires long { 17 ≤ length text.now }
+    requires few { extra ≤ 2 }
+    requires begins { IsBeginning extra (take (8 + extra) text.now) kind page }
+    requires places { length prefixes.old ≡ 256 }
+    requires kept { All (IsPrefix extra) prefixes.old }
+    ensures kept { All (IsPrefix extra) prefixes.new }
+{
+    let word = word(u8x8::from_slice(&text[extra..]));
+    let front = pair(text);
+    prefixes[place_of(word, front, extra)] = Prefix {
+        word,
+        front,
+        addr: page * 4096,
+        kind,
+    };
+}
+
+/// Direct-mapped prefix cache: prefix bytes to page and kind. Of most lines only three digits and a
+/// size are left to read.
+#[derive(Drop)]
+pub(crate) struct PrefixCache {
+    eight: [Prefix; PLACES],
+    ten: [Prefix; PLACES],
+}
+
+impl Model for PrefixCache {
+    ghost use Rattle.std.specs.List.{All};
+    ghost use Rattle.xl_lackey.specs.PrefixCache.{IsPrefix};
+
+    ghost Value = { Unit {0} };
+
+    ghost view = { λ p. tt };
+
+    ghost invariant = { λ p. All (IsPrefix 0) p.eight × All (IsPrefix 2) p.ten };
+}
+
+impl PrefixCache {
+    /// In each place the first page of all.
+    pub(crate) fn new() -> PrefixCache {
+        let eight = Prefix {
+            word: 0x3030_3030_3020_2049,
+            front: 0x2049,
+            addr: 0,
+            kind: Kind::Fetch,
+        };
+        let ten = Prefix {
+            word: 0x3030_3030_3030_3020,
+            ..eight
+        };
+        PrefixCache {
+            eight: [eight; PLACES],
+            ten: [ten; PLACES],
+        }
+    }
+
+    /// The first line of a text, where its page is kept: how many bytes it has with its newline,
+    /// and its access.
+    #[inline(always)]
+    pub(crate) fn record(&self, text: &[u8]) -> Option<(usize, Access)>
+        requires { 17 ≤ length text.now }
+        ensures record { IfSome result (λ r. IsRecordLine text.now r.0 (r.1 ∷ [])) }
+        ensures few { IfSome result (λ r. r.0 ≤ 17) }
+    {
+        if text[11] == b',' {
+            kept_record(&self.eight, text, 0)
+        } else if text[13] == b',' {
+            kept_record(&self.ten, text, 2)
+        } else {
+            None
+        }
+    }
+
+    /// Keeps the page of a line, where it has eight digits or ten and is no modify.
+    pub(crate) fn keep(&mut self, text: &[u8])
+        requires { 17 ≤ length text.now }
+    {
+        let Some((front, numbers)) = front_of(text) else {
+            return;
+        };
+        if front.is_modify {
+            return;
+        }
+        let Some(eight) = eight_digits(numbers) else {
+            return;
+        };
+        if text[11] == b',' {
+            keep_page(&mut self.eight, text, 0, eight / 4096, front.kind);
+        } else {
+            keep_page(&mut self.ten, text, 2, eight / 16, front.kind);
+        }
+    }
+}

@@ -1,4 +1,0 @@
-use Rattle.xl_tlb.proofs.newest.Newest.renew.Goals as goal
-
-pub returns : goal.returns
-returns c old new knows stay front = c.keep.ensures new (c.forget_block.ensures old new knows stay) front
