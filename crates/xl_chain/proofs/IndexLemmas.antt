@@ -1,5 +1,5 @@
 -- The places in an index, as it and the chains change.
-use Rattle.xl_chain.proofs.Common.{◌+◌, ◌<◌, ◌==◌, ◌∙◌, ◌∷◌, ◌≡◌, [], ap, AreSingle, arith, bucket_of, ChainState, cond, entry_of, false, find, find-In, find-passes, first_value, found_of, has, has_tag, Held, held_with, In, in_front_of, inl, inr, is_some, IsFirst, IsIndex, IsInserted, IsTaken, length, length-by, List, map, moved, nat_lt, nat_tests, None, not, Option, place_at, place_found, placed, refl, set_place, slice_set, Some, sym, tag_led, tags_of, known, true, unequal, with_value, without_tag, WordsReadBack, ℕ}
+use Rattle.xl_chain.proofs.Common.{◌+◌, ◌<◌, ◌==◌, ◌∙◌, ◌∷◌, ◌≡◌, [], ap, AreSingle, arith, bucket_of, ChainState, cond, entry_of, false, find, find-In, find-passes, first_value, found_of, has, has_tag, Held, held_with, In, in_front_of, inl, inr, is_some, IsFirst, IsIndex, IsInserted, IsTaken, known, length, length-by, List, map, moved, nat_lt, nat_tests, None, not, Option, place_at, place_found, placed, refl, set_place, slice_set, Some, sym, tag_led, tags_of, true, unequal, with_value, without_tag, WordsReadBack, ℕ}
 use Rattle.xl_chain.proofs.FindLemmas.{has_found}
 use Rattle.xl_chain.proofs.FrontLemmas.{absent}
 use Rattle.xl_chain.proofs.MovedLemmas.{moved-same, placed-same}

@@ -2,7 +2,7 @@
 use Rattle.std.specs.Prelude.{ℕ, ◌≡◌, ◌+◌, ◌*◌, ◌<◌, ◌==◌, List, length, map, filter, true, slice_index}
 use Rattle.std.specs.List.{list_any}
 use Rattle.xl_model.specs.Chains.{bucket_of}
-use Rattle.xl_model_lemmas.specs.Members.{In}
+use Rattle.xl_list_lemmas.specs.Members.{In}
 use Rattle.xl_chain.specs.declared.shape.ChainShape.{ChainShape}
 use Rattle.xl_chain.specs.Layout.{base_at, place_of_value}
 use Rattle.xl_chain.specs.Back.{chain_back, chain_loads}

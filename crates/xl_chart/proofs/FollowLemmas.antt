@@ -29,8 +29,8 @@ use Rattle.xl_model.specs.Rows.{Row}
 use Rattle.xl_model.specs.Rules.{or_else, unless, place_rule, named_rule, there_rule, overlap_rule, insert_at, rule, change_of}
 use Rattle.xl_model.specs.Frames.{lowest}
 use Rattle.xl_model.specs.Tlb.{is_purged, reaches_leaf}
-use Rattle.xl_model_lemmas.specs.Members.{In}
-use Rattle.xl_model_lemmas.proofs.MemberLemmas.{find-In, find-None, find-passes}
+use Rattle.xl_list_lemmas.specs.Members.{In}
+use Rattle.xl_list_lemmas.proofs.MemberLemmas.{find-In, find-None, find-passes}
 use Rattle.xl_model_lemmas.proofs.OrderLemmas.{orders-same}
 use Rattle.xl_curve.specs.Tests.{purges}
 use Rattle.xl_chart.specs.Follows.{page_reach, followed}

@@ -1,7 +1,7 @@
 -- Blocks: the entry of a tag has the number of its slots in use, and then sixteen slots.
 use Rattle.std.specs.Prelude.{ℕ, zero, suc, ◌≡◌, ◌+◌, ◌<◌, ◌==◌, not, List, length, slice_index, map}
 use Rattle.xl_model.specs.Base.{one_if}
-use Rattle.xl_model_lemmas.specs.Members.{In}
+use Rattle.xl_list_lemmas.specs.Members.{In}
 use Rattle.xl_chain.specs.Held.{Held, tags_of, with_value}
 use Rattle.xl_tagged.specs.Forms.{values_under}
 

@@ -6,8 +6,9 @@ pub use Rattle.std.proofs.lemmas.List.{drop_all, get_or-set_same, get_or_default
 pub use Rattle.std.specs.Option.{option_or}
 pub use Rattle.std.specs.Prelude.{find, IfSome, is_some, IsSome}
 pub use Rattle.std.specs.Vec.{with_items}
+pub use Rattle.xl_list_lemmas.specs.Tallies.{tally}
 pub use Rattle.xl_model.specs.Base.{one_if, plus}
-pub use Rattle.xl_model.specs.Placing.{after_attempt, after_placing, AtCap, Attempt, begins, begun_if_full, by_occupant, Candidate, candidate, Displaced, Fails, forced_moves, growths_left, holder_from, is_held, next_way, Placed, Placing, put_in, settled_moves, settled_way, slots_settled, smaller, Succeeds, start_way, to_grow, total, way_at, with_growth}
+pub use Rattle.xl_model.specs.Placing.{after_attempt, after_placing, AtCap, Attempt, begins, begun_if_full, by_occupant, Candidate, candidate, Displaced, Fails, forced_moves, growths_left, holder_from, is_held, next_way, Placed, Placing, put_in, settled_moves, settled_way, slots_settled, smaller, start_way, Succeeds, to_grow, total, way_at, with_growth}
 unfoldable pub use Rattle.xl_model.specs.Placing.{attempt, forced, insertion, place, placing, settled}
 pub use Rattle.xl_model.specs.Shapes.{opening_ways}
 pub use Rattle.xl_model.specs.Ways.{has_key, occupant, reworded, slots_left, swapped, WayShape, without_key}
@@ -15,7 +16,7 @@ unfoldable pub use Rattle.xl_model.specs.Ways.{advanced, begun, opening_way, wit
 pub use Rattle.xl_model.specs.declared.way.Entry.{Entry}
 pub use Rattle.xl_model.specs.declared.way.Moves.{Moves}
 pub use Rattle.xl_model_lemmas.proofs.PlacingLemmas.{entries-same, forced-entries, insertion-adds}
-pub use Rattle.xl_model_lemmas.specs.Sections.{entries_in, entries_of, tally}
+pub use Rattle.xl_model_lemmas.specs.Sections.{entries_in, entries_of}
 pub use Rattle.xl_way.proofs.WayLemmas.{held_by}
 pub use Rattle.xl_way.specs.Slots.{WayState, word_in}
 unfoldable pub use Rattle.xl_way.specs.Slots.{word_of}

@@ -1,7 +1,7 @@
 -- Keys that occur once: which way holds one, and what a change of one key leaves.
 use Rattle.xl_cuckoo.proofs.Common.{◌+◌, ◌<◌, ◌==◌, ◌||◌, ◌∙◌, ◌∷◌, ◌≡◌, ◌≤◌, [], AddsEntry, ap, AreOnce, arith, Bool, changed_by, cond, entries-same, entries_in, Entry, false, find, has_key, held_by, holder_from, is_held, is_some, IsSome, length, List, map, nat_tests, None, not, one_if, Option, option_or, refl, reworded, SameEntries, set, shapes, Some, state_at, subst, suc, sym, tally, true, value_of, way_at, WayShape, WayState, with_word, without_entry, without_key, word_in, word_of, zero, ℕ}
 use Rattle.std.specs.List.{list_any}
-use Rattle.xl_model_lemmas.proofs.TallyLemmas.{tally-any, tally-append}
+use Rattle.xl_list_lemmas.proofs.TallyLemmas.{tally-any, tally-append}
 use Rattle.xl_model_lemmas.proofs.WayTallyLemmas.{tally-none, tally-same, ways-reworded, ways-without}
 use Rattle.xl_cuckoo.proofs.KickLemmas.{shape-at}
 use Rattle.xl_cuckoo.proofs.LoopLemmas.{value-first}

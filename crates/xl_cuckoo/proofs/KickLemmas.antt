@@ -1,6 +1,6 @@
 -- An entry put into a way and what was there put back; an attempt step by step; and displacements
 -- undone.
-use Rattle.xl_cuckoo.proofs.Common.{◌++◌, ◌+◌, ◌<◌, ◌∙◌, ◌∷◌, ◌≡◌, ◌≤◌, [], ap, arith, Attempt, attempt, by_occupant, Displaced, Entry, Fails, get_or, get_or-append_seam, get_or-set_same, IfSome, in_hand, keys_in_hand, length, length-append, length-set, length-take-le, List, map, map-set, next_way, no_way, None, occupant, Option, previous_way, put_at, put_in, refl, set, set-get_or, set-set, shapes, Some, Succeeds, state_at, suc, swapped, sym, take, take-append_seam, take-suc, undone, way_at, WayShape, WayState, with_swapped, zero, ℕ}
+use Rattle.xl_cuckoo.proofs.Common.{◌++◌, ◌+◌, ◌<◌, ◌∙◌, ◌∷◌, ◌≡◌, ◌≤◌, [], ap, arith, Attempt, attempt, by_occupant, Displaced, Entry, Fails, get_or, get_or-append_seam, get_or-set_same, IfSome, in_hand, keys_in_hand, length, length-append, length-set, length-take-le, List, map, map-set, next_way, no_way, None, occupant, Option, previous_way, put_at, put_in, refl, set, set-get_or, set-set, shapes, Some, state_at, suc, Succeeds, swapped, sym, take, take-append_seam, take-suc, undone, way_at, WayShape, WayState, with_swapped, zero, ℕ}
 
 pub map-length : {A B : Type 0} (f : A → B) (xs : List A) → length (map f xs) ≡ length xs
 map-length f [] = refl

@@ -1,5 +1,5 @@
 -- One attempt and the growth that follows it, in the definition of placing.
-use Rattle.xl_cuckoo.proofs.Common.{◌+◌, ◌<◌, ◌==◌, ◌∙◌, ◌∷◌, ◌≡◌, ◌⊎◌, [], advanced, after_attempt, ap, arith, AtCap, Attempt, attempt, begun, Bool, Candidate, candidate, cond, Displaced, entries_of, Entry, Fails, false, forced, forced-entries, forced_moves, growths_left, inl, inr, IsCapped, IsGrown, length, List, map, map-set, map-set_same, Moves, nat_le, nat_lt, nat_tests, None, opening_way, Option, Placed, placing, refl, SameEntries, set, shapes, slots_left, smaller, Some, Succeeds, start_way, state_at, subst, suc, sym, to_grow, true, way_at, WayShape, WayState, with_forced, with_growth, with_kicks, with_undone, zero, ℕ}
+use Rattle.xl_cuckoo.proofs.Common.{◌+◌, ◌<◌, ◌==◌, ◌∙◌, ◌∷◌, ◌≡◌, ◌⊎◌, [], advanced, after_attempt, ap, arith, AtCap, Attempt, attempt, begun, Bool, Candidate, candidate, cond, Displaced, entries_of, Entry, Fails, false, forced, forced-entries, forced_moves, growths_left, inl, inr, IsCapped, IsGrown, length, List, map, map-set, map-set_same, Moves, nat_le, nat_lt, nat_tests, None, opening_way, Option, Placed, placing, refl, SameEntries, set, shapes, slots_left, smaller, Some, start_way, state_at, subst, suc, Succeeds, sym, to_grow, true, way_at, WayShape, WayState, with_forced, with_growth, with_kicks, with_undone, zero, ℕ}
 use Rattle.xl_cuckoo.proofs.KickLemmas.{map-length, shape-at}
 
 -- the result of the attempts of an entry

@@ -4,7 +4,8 @@ use Rattle.xl_model.specs.declared.way.Entry.{Entry}
 use Rattle.xl_model.specs.Base.{plus, one_if}
 use Rattle.xl_model.specs.Ways.{WayShape, has_key}
 use Rattle.xl_model.specs.Placing.{Displaced, Placing, insertion}
-use Rattle.xl_model_lemmas.specs.Sections.{tally, entries_of, entries_in}
+use Rattle.xl_list_lemmas.specs.Tallies.{tally}
+use Rattle.xl_model_lemmas.specs.Sections.{entries_of, entries_in}
 use Rattle.xl_way.specs.Slots.{word_of}
 
 -- A table: its rules, its ways, what the last insertion displaced in its successful attempt, and

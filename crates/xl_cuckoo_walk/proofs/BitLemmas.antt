@@ -1,7 +1,8 @@
 -- The bits of a section, by the counts of leaves and by a leaf that covers a page.
-use Rattle.xl_cuckoo_walk.proofs.Common.{◌%◌, ◌&&◌, ◌*◌, ◌+◌, ◌-◌, ◌/◌, ◌<◌, ◌==◌, ◌^◌, ◌∙◌, ◌∷◌, ◌≡◌, ◌≤◌, [], AllAbove, any-each, ap, arith, Bool, by-fields, Count, count_of, counts-same, counts_at, counts_for, covers, false, holder_from, holds_order, In, inl, inr, is_counted, IsAligned, IsPlaced, IsSorted, IsTied, key_in, Leaf, leaf_key, level_of, List, nat_le, nat_tests, new_word, not, of_order, one_if, Option, Order, pages_of, part, parts-are, refl, same_order, section_by, section_key, section_of, sym, tally, tally-any, true, way_where, WayShape, word_by, ℕ}
+use Rattle.xl_cuckoo_walk.proofs.Common.{◌%◌, ◌&&◌, ◌*◌, ◌+◌, ◌-◌, ◌/◌, ◌<◌, ◌==◌, ◌^◌, ◌∙◌, ◌∷◌, ◌≡◌, ◌≤◌, [], AllAbove, any-each, ap, arith, Bool, by-fields, Count, count_of, counts_at, counts_for, covers, false, holder_from, holds_order, In, inl, inr, is_counted, IsAligned, IsPlaced, IsSorted, IsTied, key_in, Leaf, leaf_key, level_of, List, nat_le, nat_tests, new_word, not, of_order, one_if, Option, Order, pages_of, part, parts-are, refl, same_order, section_by, section_key, section_of, sym, tally, tally-any, true, way_where, WayShape, word_by, ℕ}
 use Rattle.xl_sections.specs.Counted.{word_of}
 use Rattle.xl_cuckoo_walk.proofs.CodeLemmas.{IsWord, word-back}
+use Rattle.xl_cuckoo_walk.proofs.SectionLemmas.{counts-same}
 use Rattle.xl_model.specs.declared.address.Order.TheVariants as order
 
 -- no more leaves lie in a stretch than it has pages

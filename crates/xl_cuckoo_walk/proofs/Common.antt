@@ -1,13 +1,19 @@
 -- The names that this crate's proofs import from elsewhere, passed on from one place. Declares nothing.
-pub use Rattle.std.proofs.Common.{◌%◌, ◌&&◌, ◌*◌, ◌++◌, ◌+◌, ◌-◌, ◌/◌, ◌<◌, ◌==◌, ◌^◌, ◌||◌, ◌∙◌, ◌∷◌, ◌≡◌, ◌≤◌, ◌⊎◌, [], ap, arith, Bool, cond, drop, Err, false, get_or, inl, inr, length, List, lit<, map, nat_le, None, not, Ok, Option, refl, Result, rules, Some, subst, suc, sym, true, zero, ℕ}
+pub use Rattle.std.proofs.Common.{◌%◌, ◌&&◌, ◌*◌, ◌++◌, ◌+◌, ◌-◌, ◌/◌, ◌<◌, ◌==◌, ◌^◌, ◌||◌, ◌∙◌, ◌∷◌, ◌≡◌, ◌≤◌, ◌⊎◌, [], ap, arith, Bool, cond, drop, Err, false, get_or, inl, inr, length, List, lit<, map, nat_le, None, not, Ok, Option, refl, Result, rules, slice_set, Some, subst, suc, sym, true, zero, ℕ}
 pub use Rattle.std.proofs.lemmas.Bool.Decides.{nat_tests}
 pub use Rattle.std.proofs.lemmas.List.{length-map}
 pub use Rattle.std.specs.List.{list_any}
 pub use Rattle.std.specs.Prelude.{find, is_some, IsSome, slice_get, slice_index}
 pub use Rattle.xl_cuckoo.proofs.KeyLemmas.{no-value, once-added, once-cleared, once-reworded, once-same}
 pub use Rattle.xl_cuckoo.specs.Table.{AddsEntry, AreOnce, CuckooState, inserted, opening, SameEntries, value_of}
+pub use Rattle.xl_list_lemmas.proofs.MemberLemmas.{any-false, any-In, find-In, find-None, find-only, find-passes, In-any, In-append, In-left, In-map, In-right, map-In}
+pub use Rattle.xl_list_lemmas.proofs.RecencyLemmas.{find-none, find-some, newest-map, purged-map, touched-map, touched-none}
+pub use Rattle.xl_list_lemmas.proofs.SameLemmas.{any-each, any-same, both, none-any, same-tests}
+pub use Rattle.xl_list_lemmas.proofs.TallyLemmas.{tally-any}
+pub use Rattle.xl_list_lemmas.specs.Members.{In}
+pub use Rattle.xl_list_lemmas.specs.Tallies.{tally}
 pub use Rattle.xl_model.specs.Addresses.{level_of, pages_of, same_order}
-pub use Rattle.xl_model.specs.Base.{one_if, plus, same_bit}
+pub use Rattle.xl_model.specs.Base.{one_if, plus}
 pub use Rattle.xl_model.specs.Caches.{Cached, empty_cache, has_changed, reaches_space, SectionCaches, without_items}
 unfoldable pub use Rattle.xl_model.specs.Caches.{caches_fenced, caches_purged}
 pub use Rattle.xl_model.specs.Chains.{leaf_tag, tag_of}
@@ -15,7 +21,8 @@ pub use Rattle.xl_model.specs.Changes.{at_page, Change, Insert, IsNamed, old_lea
 unfoldable pub use Rattle.xl_model.specs.Changes.{changed, with_both}
 pub use Rattle.xl_model.specs.Mapping.{covers, is_leaf, leaf_key, meets_block, with_leaf, without_leaf}
 unfoldable pub use Rattle.xl_model.specs.Mapping.{leaf_at_page, leaf_named, meets_any}
-pub use Rattle.xl_model.specs.Placing.{AtCap, Displaced, holder_from, insertion, is_held, no_moves, Placed, way_at}
+pub use Rattle.xl_model.specs.Placing.{after_attempt, after_placing, AtCap, Attempt, by_occupant, Candidate, Displaced, Fails, forced, forced_moves, growths_left, holder_from, is_held, next_way, no_moves, Placed, Placing, put_in, settled, start_way, Succeeds, to_grow, way_at, with_growth}
+unfoldable pub use Rattle.xl_model.specs.Placing.{attempt, insertion, place, placing}
 pub use Rattle.xl_model.specs.Recency.{purged, touched, with_newest, without_first}
 pub use Rattle.xl_model.specs.Room.{room_for}
 unfoldable pub use Rattle.xl_model.specs.Room.{has_room}
@@ -27,7 +34,7 @@ pub use Rattle.xl_model.specs.Structures.{after_by, answer_by, finds_place, IsBl
 unfoldable pub use Rattle.xl_model.specs.Structures.{fence_answer, table_after, table_answer, table_fenced, table_made, table_walked, verdict, walk_answer}
 pub use Rattle.xl_model.specs.Walks.{fills_m2, is_page_section, leaves_possible, probes, section_after, section_of_page, way_known}
 unfoldable pub use Rattle.xl_model.specs.Walks.{walked}
-pub use Rattle.xl_model.specs.Ways.{has_key, reworded, WayShape, without_key}
+pub use Rattle.xl_model.specs.Ways.{has_key, occupant, opening_way, reworded, swapped, WayShape, without_key}
 unfoldable pub use Rattle.xl_model.specs.Ways.{with_word, without_entry}
 unfoldable pub use Rattle.xl_model.specs.Words.{leaf_word}
 pub use Rattle.xl_model.specs.declared.address.Order.{Order}
@@ -37,24 +44,21 @@ pub use Rattle.xl_model.specs.declared.way.Entry.{Entry}
 pub use Rattle.xl_model.specs.declared.way.Moves.{Moves}
 pub use Rattle.xl_model.specs.declared.work.Refused.{Refused}
 pub use Rattle.xl_model.specs.declared.work.Work.{Work}
-pub use Rattle.xl_model_lemmas.proofs.FreshSectionLemmas.{by-fields, section-after, section-fenced, section-refused, section-some, section-walked, sections-same}
-pub use Rattle.xl_model_lemmas.proofs.InsertionLemmas.{stays-with, without-In, without-other}
+pub use Rattle.xl_model_lemmas.proofs.FreshSectionLemmas.{by-fields, holder-same, section-after, section-fenced, section-refused, section-some, section-walked, sections-same}
+pub use Rattle.xl_model_lemmas.proofs.InsertionLemmas.{In-with, stays-with, with-In, without-In, without-other}
 pub use Rattle.xl_model_lemmas.proofs.MappingLemmas.{named-In, named-is}
-pub use Rattle.xl_model_lemmas.proofs.MemberLemmas.{any-false, any-In, find-In, find-None, find-only, find-passes, In-any, In-append, In-left, In-map, In-right, map-In}
 pub use Rattle.xl_model_lemmas.proofs.OrderLemmas.{level-low, order-same, orders-same, pages-some, same-level}
 pub use Rattle.xl_model_lemmas.proofs.PlaceLemmas.{aligned-frame, covers-meets, first-covered, named-first, named-order, named-space}
-pub use Rattle.xl_model_lemmas.proofs.RecencyLemmas.{find-none, find-some, newest-map, purged-map, touched-map, touched-none}
-pub use Rattle.xl_model_lemmas.proofs.SameLemmas.{any-each, bit-same, both, none-any, same-tests}
+pub use Rattle.xl_model_lemmas.proofs.PlacingLemmas.{entries-same, forced-entries, one_of, set-length, settled-entries, swapped-adds}
 pub use Rattle.xl_model_lemmas.proofs.SearchLemmas.{only, only-first}
-pub use Rattle.xl_model_lemmas.proofs.SectionLemmas.{count-with, counts-same, In-keys, keys-In, keys-once, small-block}
-pub use Rattle.xl_model_lemmas.proofs.TallyLemmas.{tally-any}
+pub use Rattle.xl_model_lemmas.proofs.SectionLemmas.{count-keys, In-keys, keys-In, keys-once, small-block}
 pub use Rattle.xl_model_lemmas.proofs.WayTallyLemmas.{tally-same, ways-reworded, ways-without}
 pub use Rattle.xl_model_lemmas.specs.Entries.{or_leaf}
 pub use Rattle.xl_model_lemmas.specs.Fresh.{has_leaves, SectionFresh, SectionsFresh}
 pub use Rattle.xl_model_lemmas.specs.Kept.{IsPlaced}
 unfoldable pub use Rattle.xl_model_lemmas.specs.Kept.{mapping_of}
-pub use Rattle.xl_model_lemmas.specs.Members.{AllAbove, In, IsSorted}
-pub use Rattle.xl_model_lemmas.specs.Sections.{counts_at, entries_in, entries_of, IsAligned, key_in, of_order, tally}
+pub use Rattle.xl_model_lemmas.specs.Sections.{counts_at, entries_in, entries_of, IsAligned, key_in, of_order}
+pub use Rattle.xl_model_lemmas.specs.Sorted.{AllAbove, IsSorted}
 pub use Rattle.xl_pte.specs.ReadBack.{MadeWordsReadBack}
 pub use Rattle.xl_recency.specs.declared.item.Item.{Item}
 pub use Rattle.xl_sections.proofs.KeyLemmas.{keys-count}
@@ -73,7 +77,7 @@ pub use Rattle.xl_tagged.specs.Steps.{given_word, IsWritten}
 pub use Rattle.xl_tagged.specs.Tagged.{AreHeld, IsFit}
 pub use Rattle.xl_way.specs.Slots.{word_in}
 unfoldable pub use Rattle.xl_way.specs.Slots.{word_of}
-pub use Rattle.xl_cuckoo_walk.specs.Changes.{compared, fits_by, has_fit, IsCapped, IsEntered, IsLeft, IsPut, IsRefused, keys_if, keys_moved, page_key, page_keys, size_compared, StaysBeside, with_put_in, with_word_in, without_key_in, word_of_key}
+pub use Rattle.xl_cuckoo_walk.specs.Changes.{compared, fits_by, has_fit, IsCapped, IsEntered, IsLeft, IsPut, IsRefused, keys_if, keys_moved, page_key, page_keys, StaysBeside, with_put_in, with_word_in, without_key_in, word_of_key}
 pub use Rattle.xl_cuckoo_walk.specs.Coding.{bit_in, code_of, has_tag, hit_of, is_old, is_reached, section_by, section_in, sections_in, way_by, word_by, word_of_item}
 pub use Rattle.xl_cuckoo_walk.specs.Known.{IsFrontIf, IsKnown, word_known}
 pub use Rattle.xl_cuckoo_walk.specs.Looks.{counts_smaller, first_from, looked, looked_from}
@@ -81,4 +85,5 @@ pub use Rattle.xl_cuckoo_walk.specs.Parts.{AreFresh, AreKeys, AreTied, by_size, 
 unfoldable pub use Rattle.xl_cuckoo_walk.specs.Parts.{leaves_of_ways, row_state, tags_in, values_in}
 pub use Rattle.xl_cuckoo_walk.specs.Plans.{filled, is_counted, IsIn, key_known, loads_by, newest_in, own_section, plan_at, plan_by, probed, refreshed, touched_in, value_by, way_found}
 unfoldable pub use Rattle.xl_cuckoo_walk.specs.Plans.{keys_from, leaf_said_by, new_word, plan_of}
+pub use Rattle.xl_cuckoo_walk.specs.Soles.{ArePlans, plans_by}
 pub use Rattle.xl_cuckoo_walk.specs.declared.plan.Plan.{Plan}

@@ -1,9 +1,10 @@
 -- The counts of leaves by section when a leaf comes, goes, or gets another permission; and room for one more.
-use Rattle.xl_cuckoo_walk.proofs.Common.{◌*◌, ◌+◌, ◌==◌, ◌^◌, ◌∙◌, ◌∷◌, ◌≡◌, ◌≤◌, any-In, any-is, ap, AreCounts, arith, Bool, cond, Count, count-with, count_of, counts_at, CountState, false, fits_by, HasPlace, In, In-any, In-keys, IsDropped, IsNoted, IsPlaced, IsRoomy, IsShared, IsSorted, IsTied, key_in, keys-count, keys-In, Leaf, leaf_key, length, level_of, List, list_any, nat_le, nat_tests, not, of_order, Order, Perm, refl, same-tests, section_count, section_keys, subst, suc, sym, tally, true, unit, with_leaf, without-other, without_leaf, word-cons, ℕ}
+use Rattle.xl_cuckoo_walk.proofs.Common.{◌*◌, ◌+◌, ◌==◌, ◌^◌, ◌∙◌, ◌∷◌, ◌≡◌, ◌≤◌, any-In, any-is, ap, AreCounts, arith, Bool, cond, Count, count_of, counts_at, CountState, false, fits_by, HasPlace, In, In-any, In-keys, IsDropped, IsNoted, IsPlaced, IsRoomy, IsShared, IsSorted, IsTied, key_in, keys-count, keys-In, Leaf, leaf_key, length, level_of, List, list_any, nat_le, nat_tests, not, of_order, Order, Perm, refl, same-tests, section_count, section_keys, subst, suc, sym, tally, true, unit, with_leaf, without-other, without_leaf, word-cons, ℕ}
 use Rattle.xl_model_lemmas.proofs.LeafTallyLemmas.{tally-less, tally-with}
 use Rattle.xl_sections.specs.Counted.{word_of}
 use Rattle.xl_tagged.proofs.CountLemmas.{unit-low}
 use Rattle.xl_cuckoo_walk.proofs.BitLemmas.{few-in}
+use Rattle.xl_cuckoo_walk.proofs.SectionLemmas.{count-with}
 use Rattle.xl_model.specs.declared.address.Order.TheVariants as order
 
 -- no leaf has this leaf's place

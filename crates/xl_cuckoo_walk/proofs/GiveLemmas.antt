@@ -1,16 +1,15 @@
 -- A leaf of the row gets another permission.
 use Rattle.xl_cuckoo_walk.proofs.Common.{◌+◌, ◌-◌, ◌==◌, ◌||◌, ◌∙◌, ◌∷◌, ◌≡◌, ◌≤◌, [], ap, AreTied, arith, Bool, Cached, Change, cond, Count, count_of, counts_of, CuckooState, CuckooWays, entries_in, Entry, false, frame-back, given_word, has_key, holder_from, is_held, IsChange, IsRow, Leaf, leaf_entry, leaf_word, leaves_of_ways, length, length-map, List, list_any, loads_in, MadeWordsReadBack, map, nat_tests, no_moves, Ok, once-reworded, Order, order_of, page_key, Perm, Protect, refl, reworded, row_state, RowParts, rules_in, rules_of, Section, sections_in, Size, SizeParts, Some, StaysBeside, subst, sym, table_of, tally, tally-same, true, value_of, ways-reworded, ways_in, ways_of, WayShape, with_leaf, with_table, with_ways, with_word, with_word_in, without_leaf, work_of, ℕ}
-use Rattle.xl_cuckoo_walk.proofs.IndexLemmas.{each-way, size-stays, ways-table, with-ways-in}
 use Rattle.xl_cuckoo_walk.proofs.ComparedLemmas.{compared-row, ComparedRow, WordsStay}
 use Rattle.xl_cuckoo_walk.proofs.CountLemmas.{tied-given}
 use Rattle.xl_cuckoo_walk.proofs.HoldLemmas.{beside-now, holds-changed, IsTableFor, low-key}
+use Rattle.xl_cuckoo_walk.proofs.IndexLemmas.{each-way, size-stays, ways-table, with-ways-in}
 use Rattle.xl_cuckoo_walk.proofs.NamedLemmas.{NamedLeaf}
 use Rattle.xl_cuckoo_walk.proofs.RowLemmas.{give-leaf}
-use Rattle.xl_cuckoo_walk.proofs.ValueLemmas.{tally-In}
 use Rattle.xl_cuckoo_walk.proofs.StepLemmas.{answered, items_of}
+use Rattle.xl_cuckoo_walk.proofs.ValueLemmas.{tally-In}
 use Rattle.xl_cuckoo_walk.proofs.VerdictLemmas.{given, state_made}
 use Rattle.xl_cuckoo_walk.proofs.WordsLemmas.{word-same}
-use Rattle.xl_model.specs.declared.address.Order.TheVariants as order
 
 -- another word moves no key
 kept-key : (k word : ℕ) (e : Entry) (b : Bool) → has_key k (cond b (record e { word = word }) e) ≡ has_key k e

@@ -1,8 +1,8 @@
 -- Tables and counts that hold leaves: when a leaf comes and when one goes.
 use Rattle.xl_cuckoo_walk.proofs.Common.{◌<◌, ◌^◌, ◌∙◌, ◌≡◌, ◌≤◌, AddsEntry, aligned-frame, any-false, any-In, ap, AreFresh, AreHeld, AreKeys, AreOnce, AreTied, arith, Bool, Cached, counts_at, counts_of, CountState, CuckooState, CuckooWays, Displaced, entries_in, Entry, false, has_fit, has_key, HoldsLeaves, In, In-any, In-keys, inserted, insertion, IsDropped, IsEntered, IsFit, IsLeafFor, IsLeft, IsNoted, IsPlaced, IsRoomy, IsRow, IsTied, Item, keys-count, keys-In, keys-once, Large, Leaf, leaf_entry, leaves_of_ways, length, length-map, level_of, List, low, MadeWordsReadBack, map, meets_any, meets_block, Middle, Moves, nat_le, nat_tests, new-keys, None, once-added, once-cleared, One, one_if, Order, order_of, page_key, Placed, plus, refl, row_state, RowParts, rules_by, rules_in, rules_of, section_count, section_keys, Size, size_in, StaysBeside, subst, sym, table_of, TableRules, Tables, tags_in, tally, true, value_of, values_in, ways-without, ways_in, ways_of, WayShape, with_counts, with_leaf, with_table, with_table_at, with_ways, without-In, without_entry, without_leaf, ℕ}
-use Rattle.xl_model_lemmas.proofs.OnceLemmas.{once-short}
-use Rattle.xl_cuckoo_walk.proofs.IndexLemmas.{each-size, each-table, each-way, table-now, ways-table, with-ways-in}
+use Rattle.xl_list_lemmas.proofs.OnceLemmas.{once-short}
 use Rattle.xl_cuckoo_walk.proofs.CountLemmas.{Apart, fits-is, place-is, roomy-is, tied-less, tied-with}
+use Rattle.xl_cuckoo_walk.proofs.IndexLemmas.{each-size, each-table, each-way, table-now, ways-table, with-ways-in}
 use Rattle.xl_cuckoo_walk.proofs.RowLemmas.{free-value, key-low, leaves-known, put-leaf, take-leaf}
 use Rattle.xl_cuckoo_walk.proofs.ValueLemmas.{In-tally, tally-In}
 use Rattle.xl_model.specs.declared.address.Order.TheVariants as order

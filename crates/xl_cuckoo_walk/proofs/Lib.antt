@@ -25,3 +25,5 @@ pub mod GiveLemmas
 pub mod OpenLemmas
 pub mod CacheLemmas
 pub mod SoleLemmas
+mod StayLemmas
+mod SectionLemmas

@@ -1,5 +1,5 @@
 -- Probes as planned by the cached sections.
-use Rattle.xl_cuckoo_walk.proofs.Common.{◌%◌, ◌&&◌, ◌*◌, ◌+◌, ◌/◌, ◌<◌, ◌==◌, ◌^◌, ◌||◌, ◌∙◌, ◌≡◌, ◌≤◌, ◌⊎◌, any-In, ap, AreHeld, arith, Bool, Cached, cond, counts_for, covers, CuckooWays, false, find, find-In, find-passes, found-is, has_leaves, holder_from, holds, holds_order, In, In-any, inl, inr, is_section, is_some, IsIn, Leaf, leaf-some, leaf_said_by, leaf_tag, leaf_word, leaves_possible, length, level-low, level_of, List, loads_by, MadeWordsReadBack, meets_block, nat_le, nat_tests, None, none-any, One, only, Option, Order, order-same, orders-same, own_section, pages-some, pages_of, plan_at, plan_by, plan_of, probes, refl, same_order, Section, section_key, section_of, section_of_page, SectionFresh, SectionsFresh, slice_index, slot_of, Some, subst, sym, tag_of, tags_in, true, value_by, value_of, values_in, way_at, way_known, way_found, way_where, ways_of, WayShape, word_at, word_list, word_of, ℕ}
+use Rattle.xl_cuckoo_walk.proofs.Common.{◌%◌, ◌&&◌, ◌*◌, ◌+◌, ◌/◌, ◌<◌, ◌==◌, ◌^◌, ◌||◌, ◌∙◌, ◌≡◌, ◌≤◌, ◌⊎◌, any-In, ap, AreHeld, arith, Bool, Cached, cond, counts_for, covers, CuckooWays, false, find, find-In, find-passes, found-is, has_leaves, holder_from, holds, holds_order, In, In-any, inl, inr, is_section, is_some, IsIn, Leaf, leaf-some, leaf_said_by, leaf_tag, leaf_word, leaves_possible, length, level-low, level_of, List, loads_by, MadeWordsReadBack, meets_block, nat_le, nat_tests, None, none-any, One, only, Option, Order, order-same, orders-same, own_section, pages-some, pages_of, plan_at, plan_by, plan_of, probes, refl, same_order, Section, section_key, section_of, section_of_page, SectionFresh, SectionsFresh, slice_index, slot_of, Some, subst, sym, tag_of, tags_in, true, value_by, value_of, values_in, way_at, way_found, way_known, way_where, ways_of, WayShape, word_at, word_list, word_of, ℕ}
 use Rattle.xl_cuckoo_walk.proofs.BitLemmas.{and-first, and-second, counts-covered}
 use Rattle.xl_cuckoo_walk.proofs.HolderLemmas.{found-said, holder, IsHolder, word-under}
 use Rattle.xl_model.specs.declared.address.Order.TheVariants as order

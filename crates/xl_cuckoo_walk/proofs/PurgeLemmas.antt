@@ -1,5 +1,6 @@
 -- The purge of a few keys is the definition's purge of all sections that a change makes stale.
-use Rattle.xl_cuckoo_walk.proofs.Common.{◌%◌, ◌&&◌, ◌++◌, ◌+◌, ◌/◌, ◌<◌, ◌==◌, ◌^◌, ◌||◌, ◌∙◌, ◌∷◌, ◌≡◌, [], ap, arith, bit-same, Bool, both, Cached, Count, CuckooWays, Displaced, drop, false, has_changed, In, In-any, In-map, inl, inr, is_old, IsPlaced, IsSorted, IsTied, Item, key_known, keys_from, Leaf, List, list_any, map, nat_tests, new_word, None, not, Option, Order, purged, refl, refreshed, same_section, same_way, Section, section-after, section_by, section_in, section_key, section_of, sections-same, sections_in, SectionsFresh, slice_get, Some, subst, suc, sym, true, way_by, ways_of, without_items, zero, ℕ}
+use Rattle.xl_cuckoo_walk.proofs.Common.{◌%◌, ◌&&◌, ◌++◌, ◌+◌, ◌/◌, ◌<◌, ◌==◌, ◌^◌, ◌||◌, ◌∙◌, ◌∷◌, ◌≡◌, [], ap, arith, Bool, both, Cached, Count, CuckooWays, Displaced, drop, false, has_changed, In, In-any, In-map, inl, inr, is_old, IsPlaced, IsSorted, IsTied, Item, key_known, keys_from, Leaf, List, list_any, map, nat_tests, new_word, None, not, Option, Order, purged, refl, refreshed, same_section, same_way, Section, section-after, section_by, section_in, section_key, section_of, sections-same, sections_in, SectionsFresh, slice_get, Some, subst, suc, sym, true, way_by, ways_of, without_items, zero, ℕ}
+use Rattle.xl_model_lemmas.proofs.PermLemmas.{bit-same}
 use Rattle.xl_cuckoo_walk.proofs.BitLemmas.{written-is}
 
 -- one cut of several tests

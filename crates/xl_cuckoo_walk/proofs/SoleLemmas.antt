@@ -1,8 +1,7 @@
 -- A walk of a page of which the sections in front leave one order alone.
-use Rattle.xl_cuckoo_walk.proofs.Common.{◌%◌, ◌-◌, ◌/◌, ◌<◌, ◌==◌, ◌^◌, ◌∙◌, ◌≡◌, ap, arith, Bool, by_size, Cached, CuckooState, false, filled, find, first_from, has_tag, hit_of, IsFrontIf, IsIn, IsRow, Item, Large, Leaf, leaf_said_by, List, MadeWordsReadBack, Middle, nat_tests, None, Option, or_leaf, Order, order_of, page_key, parts_by, Plan, plan_of, probed, refl, RowParts, Size, size_in, Some, subst, suc, sym, Tables, touched_in, true, value_by, way_by, ways_in, ways_of, WayShape, with_table, word_of_item, ℕ}
+use Rattle.xl_cuckoo_walk.proofs.Common.{◌%◌, ◌-◌, ◌/◌, ◌<◌, ◌==◌, ◌^◌, ◌∙◌, ◌≡◌, ap, ArePlans, arith, Bool, by_size, Cached, CuckooState, false, filled, find, first_from, has_tag, hit_of, IsFrontIf, IsIn, IsRow, Item, Large, Leaf, leaf_said_by, List, MadeWordsReadBack, Middle, nat_tests, None, Option, or_leaf, Order, order_of, page_key, parts_by, Plan, plan_of, plans_by, probed, refl, RowParts, Size, size_in, Some, subst, suc, sym, Tables, touched_in, true, value_by, way_by, ways_in, ways_of, WayShape, with_table, word_of_item, ℕ}
 use Rattle.xl_cuckoo_walk.proofs.IndexLemmas.{each, each-size}
 use Rattle.xl_cuckoo_walk.proofs.WalkLemmas.{cache_walked, fills_size, IsWalked, plan-inside, said_in, steps-walked}
-use Rattle.xl_cuckoo_walk.specs.Soles.{ArePlans, plans_by}
 use Rattle.xl_model.specs.declared.address.Order.TheVariants as order
 use Rattle.xl_cuckoo_walk.specs.declared.plan.Plan.TheVariants as plan
 

@@ -1,10 +1,10 @@
 -- The words of sections that a leaf's coming or going leaves as they are.
 use Rattle.xl_cuckoo_walk.proofs.Common.{◌&&◌, ◌++◌, ◌+◌, ◌==◌, ◌||◌, ◌∙◌, ◌∷◌, ◌≡◌, [], ap, arith, Bool, cond, Count, count_of, counts_at, CuckooRules, CuckooWays, Displaced, Entry, false, has_key, holder_from, In, In-left, In-map, In-right, inl, is_held, IsSorted, IsTied, key_in, keys_from, keys_if, Leaf, leaf_entry, level_of, List, list_any, map, Moves, nat_le, nat_tests, new_word, not, Option, Order, order-same, page_key, part, Placed, placed_leaf, refl, same_order, Some, subst, sym, true, unit, way_where, ways_of, WayShape, with_leaf, with_ways, without_entry, without_key, without_leaf, word-cons, word_by, ℕ}
-use Rattle.xl_model_lemmas.proofs.HolderLemmas.{insertion-stays}
 use Rattle.xl_sections.specs.Counted.{word_of}
 use Rattle.xl_cuckoo_walk.proofs.CountLemmas.{Apart, word-less, word-with}
 use Rattle.xl_cuckoo_walk.proofs.HoldLemmas.{entry-key}
 use Rattle.xl_cuckoo_walk.proofs.IndexLemmas.{each-way}
+use Rattle.xl_cuckoo_walk.proofs.StayLemmas.{insertion-stays}
 use Rattle.xl_model.specs.declared.address.Order.TheVariants as order
 
 -- the word of a section by its count and the holder of its key

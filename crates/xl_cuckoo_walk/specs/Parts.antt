@@ -12,7 +12,7 @@ use Rattle.xl_model.specs.Caches.{Cached, SectionCaches}
 use Rattle.xl_model.specs.Structures.{TableState}
 use Rattle.xl_model_lemmas.specs.Fresh.{SectionsFresh}
 use Rattle.xl_model_lemmas.specs.Kept.{mapping_of}
-use Rattle.xl_model_lemmas.specs.Members.{In}
+use Rattle.xl_list_lemmas.specs.Members.{In}
 use Rattle.xl_model_lemmas.specs.Sections.{entries_in}
 use Rattle.xl_recency.specs.declared.item.Item.{Item}
 use Rattle.xl_sections.specs.Counted.{CountState, AreCounts, IsTied}

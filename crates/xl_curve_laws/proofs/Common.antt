@@ -4,6 +4,8 @@ pub use Rattle.std.proofs.lemmas.Bool.Decides.{nat_tests}
 pub use Rattle.std.specs.Cmp.{first_so, second_so}
 pub use Rattle.xl_curve_model.specs.Curves.{held_in, HitCurve, hits_of, leaf_touched, opening_point, Point, point_accessed, point_without, same_leaf, spec_of_width}
 unfoldable pub use Rattle.xl_curve_model.specs.Curves.{curve_accessed, curve_missed, curve_without, hits_at, opening_curve}
+pub use Rattle.xl_list_lemmas.proofs.MemberLemmas.{find-In, find-passes}
+pub use Rattle.xl_list_lemmas.specs.Members.{In}
 pub use Rattle.xl_model.specs.Addresses.{is_canonical, page_of, pages_of, same_order}
 pub use Rattle.xl_model.specs.Mapping.{covers, flat, leaf_at_page}
 pub use Rattle.xl_model.specs.Rows.{Row}
@@ -12,6 +14,4 @@ unfoldable pub use Rattle.xl_model.specs.Tlb.{array_hit, array_touched, arrays_f
 pub use Rattle.xl_model.specs.declared.leaf.Leaf.{Leaf}
 pub use Rattle.xl_model_lemmas.proofs.CoverLemmas.{covered-is, covered-one, found-leaf}
 pub use Rattle.xl_model_lemmas.proofs.HitLemmas.{get-In}
-pub use Rattle.xl_model_lemmas.proofs.MemberLemmas.{find-In, find-passes}
 pub use Rattle.xl_model_lemmas.specs.Fresh.{ArraysFresh}
-pub use Rattle.xl_model_lemmas.specs.Members.{In}

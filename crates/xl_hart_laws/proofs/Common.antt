@@ -11,6 +11,8 @@ pub use Rattle.xl_hart_model.specs.declared.hart.HartEvent.{HartEvent}
 pub use Rattle.xl_hart_model.specs.declared.hart.HartRefusal.{HartRefusal}
 pub use Rattle.xl_hart_model.specs.declared.hart.HartSpec.{HartSpec}
 pub use Rattle.xl_hart_model.specs.declared.hart.Request.{Request}
+pub use Rattle.xl_list_lemmas.proofs.MemberLemmas.{find-In, find-passes, In-any, In-append, In-left, In-right}
+pub use Rattle.xl_list_lemmas.specs.Members.{In}
 pub use Rattle.xl_model.specs.Addresses.{allows, is_canonical, level_of, page_of, pages_of}
 pub use Rattle.xl_model.specs.Base.{one_if}
 pub use Rattle.xl_model.specs.Changes.{at_page, Change, Insert, new_leaf, old_leaf, Protect, Relocate, Remove, with_new, with_perm, without_old}
@@ -33,7 +35,6 @@ pub use Rattle.xl_model.specs.declared.leaf.Leaf.{Leaf}
 pub use Rattle.xl_model.specs.declared.perm.Perm.{Perm}
 pub use Rattle.xl_model_lemmas.proofs.InsertionLemmas.{sorted-without, with-In, without-In, without-other}
 pub use Rattle.xl_model_lemmas.proofs.LowestLemmas.{lowest-is-lowest}
-pub use Rattle.xl_model_lemmas.proofs.MemberLemmas.{find-In, find-passes, In-any, In-append, In-left, In-right}
 pub use Rattle.xl_model_lemmas.proofs.PlaceLemmas.{frame-shared, holds-meets, named-space, page-block}
 pub use Rattle.xl_model_lemmas.proofs.PoolChangeLemmas.{new-In, old-In}
 pub use Rattle.xl_model_lemmas.proofs.RuleLemmas.{has-place, HasPlace, kept-sound, no-overlap, or-first, or-second, sound-of, unless-true}
@@ -41,7 +42,6 @@ pub use Rattle.xl_model_lemmas.proofs.SortedLemmas.{put-back, took-back}
 pub use Rattle.xl_model_lemmas.specs.Fresh.{InSets}
 pub use Rattle.xl_model_lemmas.specs.Lowest.{IsAnswer, IsFree, IsLowest}
 pub use Rattle.xl_model_lemmas.specs.Mappings.{IsMapping, IsSound}
-pub use Rattle.xl_model_lemmas.specs.Members.{In, IsSorted}
-pub use Rattle.xl_hart_laws.specs.Histories.{IsHistory, IsOwned, IsKnown, owners}
+pub use Rattle.xl_hart_laws.specs.Histories.{IsHistory, IsKnown, IsOwned, owners}
 pub use Rattle.xl_hart_laws.specs.Kept.{IsHart, IsHartSpec, IsKept, IsOfOlder, IsTable}
 pub use Rattle.xl_hart_laws.specs.Laws.{AreQueues, ComesIntoQueue, IsCoherent, IsFrameKept, IsOlderReply, IsOutOfReach, TakesOldest}

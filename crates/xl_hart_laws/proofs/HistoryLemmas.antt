@@ -1,5 +1,5 @@
 -- Histories: older mappings, what they are, and whose frames they hold.
-use Rattle.xl_hart_laws.proofs.Common.{◌++◌, ◌<◌, ◌∷◌, ◌≡◌, ◌≤◌, ◌⊎◌, [], ap, arith, Change, changed, get_or, held_leaves, holds_frames, In, In-append, In-left, In-right, inl, inr, IsHistory, IsMapping, IsOwned, IsSound, IsKnown, kept-sound, Leaf, length, List, None, older, Option, Order, refl, Request, request_of, Row, Some, subst, suc, sym, take, true, undone, with-In, with_held, with_new, without-In, without_old, zero, ℕ}
+use Rattle.xl_hart_laws.proofs.Common.{◌++◌, ◌<◌, ◌∷◌, ◌≡◌, ◌≤◌, ◌⊎◌, [], ap, arith, Change, changed, get_or, held_leaves, holds_frames, In, In-append, In-left, In-right, inl, inr, IsHistory, IsKnown, IsMapping, IsOwned, IsSound, kept-sound, Leaf, length, List, None, older, Option, Order, refl, Request, request_of, Row, Some, subst, suc, sym, take, true, undone, with-In, with_held, with_new, without-In, without_old, zero, ℕ}
 use Rattle.xl_hart_laws.proofs.UndoLemmas.{change-known, change-undone}
 
 -- the history after a change

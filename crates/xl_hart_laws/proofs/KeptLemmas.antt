@@ -1,11 +1,11 @@
 -- What harts keep, after each event.
 use Rattle.xl_hart_laws.proofs.Common.{◌++◌, ◌+◌, ◌-◌, ◌<◌, ◌==◌, ◌∙◌, ◌∷◌, ◌≡◌, ◌≤◌, accessed_by, after_hart_event, after_hart_refusal, ap, arith, array_fenced, array_walked, Bool, Change, change_rule, changed, covers, current_hart, Event, false, find-In, get_or, Hart, hart_accessed, hart_asked, hart_at, hart_change, hart_fenced, hart_hit, hart_refusal, hart_replied, hart_rule, hart_served, hart_switched, hart_walked, HartEvent, HartRefusal, HartSpec, HartsState, held_leaves, holds-meets, holds_frames, In, inl, inr, Insert, InSets, is_equal, is_full, IsFree, IsHart, IsHartSpec, IsHistory, IsKept, IsOfOlder, kept_leaves, Kind, Leaf, leaf_at_page, length, length-set, level_of, List, list_any, longest, mapping_changed, nat_lt, nat_tests, None, not, older, oldest, opening_hart, Option, own_served, owners, pages_of, Protect, refl, Relocate, Remove, Request, request_of, request_taken, rule, set, shared_row, Some, subst, suc, sym, table_made, table_walked, TableState, take, TlbArray, true, undone, unless-true, with_taken, ℕ}
 use Rattle.std.proofs.lemmas.List.{length-map}
+use Rattle.xl_list_lemmas.proofs.OnceLemmas.{own-number}
 use Rattle.xl_model.specs.declared.leaf.Reply.{Reply}
 use Rattle.xl_model_lemmas.proofs.FreshArrayLemmas.{filled-sets, filled-spec, opening-sets, purged-sets, touched-sets, touched-spec}
-use Rattle.xl_model_lemmas.proofs.OnceLemmas.{own-number}
+use Rattle.xl_model_lemmas.proofs.PermLemmas.{perm-same}
 use Rattle.xl_model_lemmas.proofs.PoolLemmas.{no-leaf}
-use Rattle.xl_model_lemmas.proofs.SameLemmas.{perm-same}
 use Rattle.xl_hart_laws.proofs.CommandLemmas.{change-made, change-none, full-none, IsAllowed, made-table, refused-true, room-none, rule-allows, rule-none, second-none}
 use Rattle.xl_hart_laws.proofs.HartLemmas.{below-full, below-longest, each-map, each-set, length-least, longest-asked, longest-same, longest-set}
 use Rattle.xl_hart_laws.proofs.HistoryLemmas.{history-changed, history-taken, older-changed, older-last, older-mapping, older-taken, undone-In}

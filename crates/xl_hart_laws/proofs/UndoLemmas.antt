@@ -1,7 +1,8 @@
 -- A request undone: the mapping is the one before its command.
-use Rattle.xl_hart_laws.proofs.Common.{◌*◌, ◌+◌, ◌==◌, ◌^◌, ◌∙◌, ◌≡◌, ap, at_page, Change, changed, In, Insert, IsMapping, IsSorted, IsSound, IsKnown, Leaf, leaf_key, leaf_named, List, named-space, new-In, new_leaf, None, old-In, old_leaf, Option, Order, Perm, Protect, put-back, refl, Relocate, Remove, request_of, Row, Some, sorted-without, subst, sym, took-back, undone, with_new, with_perm, without-In, without-other, without_leaf, without_old, ℕ}
+use Rattle.xl_hart_laws.proofs.Common.{◌*◌, ◌+◌, ◌==◌, ◌^◌, ◌∙◌, ◌≡◌, ap, at_page, Change, changed, In, Insert, IsKnown, IsMapping, IsSound, Leaf, leaf_key, leaf_named, List, named-space, new-In, new_leaf, None, old-In, old_leaf, Option, Order, Perm, Protect, put-back, refl, Relocate, Remove, request_of, Row, Some, sorted-without, subst, sym, took-back, undone, with_new, with_perm, without-In, without-other, without_leaf, without_old, ℕ}
 use Rattle.xl_model_lemmas.proofs.ChangeLemmas.{first-small, other-key, place-small}
 use Rattle.xl_model_lemmas.proofs.MappingLemmas.{named-is}
+use Rattle.xl_model_lemmas.specs.Sorted.{IsSorted}
 
 pub sorted-old : (old : Option Leaf) (xs : List Leaf) → IsSorted xs → IsSorted (without_old old xs)
 sorted-old None xs s = s

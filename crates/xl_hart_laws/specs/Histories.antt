@@ -7,7 +7,7 @@ use Rattle.xl_model.specs.Mapping.{holds_frames}
 use Rattle.xl_hart_model.specs.Requests.{undone}
 use Rattle.xl_model.specs.Rows.{Row}
 use Rattle.xl_model_lemmas.specs.Mappings.{IsMapping}
-use Rattle.xl_model_lemmas.specs.Members.{In}
+use Rattle.xl_list_lemmas.specs.Members.{In}
 
 -- A request fits the mapping after its command: the leaf after is there; where there is a leaf
 -- before too, it held the same frames.

@@ -7,7 +7,7 @@ use Rattle.xl_hart_model.specs.Harts.{Hart, HartsState, array_spec, hart_at, kep
 use Rattle.xl_hart_model.specs.Requests.{older}
 use Rattle.xl_model.specs.Shapes.{Shape, Radix, Chained, Cuckoo, Runs}
 use Rattle.xl_model_lemmas.specs.Fresh.{InSets}
-use Rattle.xl_model_lemmas.specs.Members.{In}
+use Rattle.xl_list_lemmas.specs.Members.{In}
 use Rattle.xl_hart_laws.specs.Histories.{IsHistory, owners}
 
 -- The limits of harts.

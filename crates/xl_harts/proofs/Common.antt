@@ -23,6 +23,8 @@ unfoldable pub use Rattle.xl_hart_model.specs.Tally.{count_miss}
 pub use Rattle.xl_hart_model.specs.declared.hart.HartSpec.{HartSpec}
 pub use Rattle.xl_hart_model.specs.declared.hart.Request.{Request}
 pub use Rattle.xl_lackey.specs.declared.skim.Access.{Access}
+pub use Rattle.xl_list_lemmas.proofs.MemberLemmas.{find-In, find-passes}
+pub use Rattle.xl_list_lemmas.specs.Members.{In}
 pub use Rattle.xl_model.specs.Addresses.{allows, is_aligned, is_canonical, pages_of}
 unfoldable pub use Rattle.xl_model.specs.Addresses.{page_of}
 pub use Rattle.xl_model.specs.Base.{plus}
@@ -47,11 +49,9 @@ pub use Rattle.xl_model.specs.declared.leaf.Leaf.{Leaf}
 pub use Rattle.xl_model.specs.declared.leaf.Reply.{Reply}
 pub use Rattle.xl_model.specs.declared.perm.Perm.{Perm}
 pub use Rattle.xl_model.specs.declared.work.Walk.{Walk}
-pub use Rattle.xl_model_lemmas.proofs.MemberLemmas.{find-In, find-passes}
 pub use Rattle.xl_model_lemmas.proofs.PoolLemmas.{free-of, lowest-none, lowest-some}
 pub use Rattle.xl_model_lemmas.proofs.RuleLemmas.{has-place, HasPlace, no-overlap, or-first, or-second, unless-true}
 pub use Rattle.xl_model_lemmas.specs.Mappings.{IsLeafOf, IsMapping, IsNewLeaf, IsNewPlace}
-pub use Rattle.xl_model_lemmas.specs.Members.{In}
 pub use Rattle.xl_model_lemmas.specs.Pools.{IsPoolOf}
 pub use Rattle.xl_radix_walk.specs.Row.{opening_table, row_table}
 pub use Rattle.xl_tlb.proofs.PageLemmas.{small_says}

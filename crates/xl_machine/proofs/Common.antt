@@ -1,15 +1,18 @@
 -- The names that this crate's proofs import from elsewhere, passed on from one place. Declares nothing.
-pub use Rattle.std.proofs.Common.{◌%◌, ◌&&◌, ◌*◌, ◌+◌, ◌-◌, ◌/◌, ◌<◌, ◌==◌, ◌^◌, ◌||◌, ◌∙◌, ◌∷◌, ◌≡◌, ◌≤◌, [], ap, arith, Bool, Err, false, find, is_some, IsErrAnd, length, List, nat_le, nat_lt, None, Ok, Option, refl, Result, slice_index_or, Some, subst, suc, sym, true, zero, ℕ}
+pub use Rattle.std.proofs.Common.{◌%◌, ◌&&◌, ◌*◌, ◌+◌, ◌-◌, ◌/◌, ◌<◌, ◌==◌, ◌^◌, ◌||◌, ◌∙◌, ◌∷◌, ◌≡◌, ◌≤◌, [], ap, arith, Bool, Err, false, find, inl, inr, is_some, IsErrAnd, length, List, nat_le, nat_lt, None, not, Ok, Option, refl, Result, slice_index_or, Some, subst, suc, sym, true, zero, ℕ}
 pub use Rattle.std.proofs.lemmas.Bool.Decides.{nat_tests}
+pub use Rattle.std.specs.List.{list_all, list_any}
 pub use Rattle.std.specs.Prelude.{IfSome, replicate}
 pub use Rattle.xl_frames.specs.Pool.{HasNone, IsFree, marked}
+pub use Rattle.xl_list_lemmas.proofs.MemberLemmas.{any-In, find-In, find-passes, In-any}
+pub use Rattle.xl_list_lemmas.specs.Members.{In}
 pub use Rattle.xl_model.specs.Addresses.{allows, is_aligned, levels_of, pages_of}
 unfoldable pub use Rattle.xl_model.specs.Addresses.{is_canonical, page_of}
-pub use Rattle.xl_model.specs.Changes.{Change, Insert, old_leaf, Protect, Relocate, Remove}
+pub use Rattle.xl_model.specs.Changes.{at_page, Change, Insert, new_leaf, old_leaf, Protect, Relocate, Remove, with_perm}
 unfoldable pub use Rattle.xl_model.specs.Changes.{changed}
 pub use Rattle.xl_model.specs.Frames.{lowest}
 pub use Rattle.xl_model.specs.LeafWords.{perm_at, small_leaf}
-pub use Rattle.xl_model.specs.Mapping.{covers, is_leaf, leaf_named, reply_by}
+pub use Rattle.xl_model.specs.Mapping.{covers, holds_frames, is_leaf, leaf_named, reply_by}
 unfoldable pub use Rattle.xl_model.specs.Mapping.{flat, leaf_at_page}
 pub use Rattle.xl_model.specs.RowRun.{arrays_after, changed_by, counts_refused, outcome_by, reach_of, refusal_of, RowState, walk_filled, walk_made}
 unfoldable pub use Rattle.xl_model.specs.RowRun.{accessed, after_event, served as done, fenced, looked, opening, outcome_of, reply_to}
@@ -35,16 +38,14 @@ pub use Rattle.xl_model.specs.declared.perm.Perm.{Perm}
 pub use Rattle.xl_model.specs.declared.row.Counts.{Counts}
 pub use Rattle.xl_model.specs.declared.work.Refused.{Refused}
 pub use Rattle.xl_model.specs.declared.work.Work.{Work}
-pub use Rattle.xl_model_lemmas.proofs.ChangeLemmas.{first-small, stays-changed}
+pub use Rattle.xl_model_lemmas.proofs.ChangeLemmas.{changed-In, first-small, stays-changed}
 pub use Rattle.xl_model_lemmas.proofs.CoverLemmas.{covered-is, named-by}
 pub use Rattle.xl_model_lemmas.proofs.FreshArrayLemmas.{changed-fresh, filled-fresh, hit-fresh, opening-fresh, without-fresh}
-pub use Rattle.xl_model_lemmas.proofs.MemberLemmas.{find-In, find-passes}
-pub use Rattle.xl_model_lemmas.proofs.PoolChangeLemmas.{pool-given, pool-protected, pool-relocated, pool-removed, pool-taken}
+pub use Rattle.xl_model_lemmas.proofs.PoolChangeLemmas.{new-In, old-In, pool-given, pool-removed, pool-taken}
 pub use Rattle.xl_model_lemmas.proofs.PoolLemmas.{free-of, lowest-none, lowest-some}
 pub use Rattle.xl_model_lemmas.proofs.RuleLemmas.{kept-sound, new-place, or-first, or-second, sound-of, unless-true}
 pub use Rattle.xl_model_lemmas.specs.Fresh.{ArraysFresh}
 pub use Rattle.xl_model_lemmas.specs.Mappings.{IsLeafOf, IsMapping, IsNewLeaf, IsNewPlace, IsSound}
-pub use Rattle.xl_model_lemmas.specs.Members.{In}
 pub use Rattle.xl_model_lemmas.specs.Pools.{IsPoolOf}
 pub use Rattle.xl_tlb.specs.Arrays.{InLimits, IsFit}
 pub use Rattle.xl_tlb.specs.Tlbs.{AreSpecs, IsRising, IsSpec, leaf_replied, looked_arrays, NoneBelow, TlbState}

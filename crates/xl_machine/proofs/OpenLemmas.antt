@@ -1,8 +1,7 @@
 -- A machine that is opened.
-use Rattle.xl_machine.proofs.Common.{◌&&◌, ◌*◌, ◌+◌, ◌==◌, ◌^◌, ◌||◌, ◌∷◌, ◌≡◌, ◌≤◌, [], AreSpecs, arith, Bool, Counts, false, is_array, is_width, is_within, IsMapping, IsRising, IsRow, IsRowFor, IsServed, IsSpec, length, levels_of, levels_rise, levels_rise_from, List, Mode, nat_le, nat_tests, no_counts, NoneBelow, opened, opening, opening-fresh, page_limit, refl, replicate, Row, served, spaces_of, suc, TableState, tlb_opening, TlbState, true, zero, ℕ}
+use Rattle.xl_machine.proofs.Common.{◌&&◌, ◌*◌, ◌+◌, ◌==◌, ◌^◌, ◌||◌, ◌∷◌, ◌≡◌, ◌≤◌, [], AreSpecs, arith, Bool, Counts, false, is_array, is_width, is_within, IsMapping, IsRising, IsRow, IsRowFor, IsServed, IsSpec, length, levels_of, levels_rise, levels_rise_from, List, list_all, Mode, nat_le, nat_tests, no_counts, NoneBelow, opened, opening, opening-fresh, page_limit, refl, replicate, Row, served, spaces_of, suc, TableState, tlb_opening, TlbState, true, zero, ℕ}
 use Rattle.std.proofs.lemmas.List.{get_or-replicate, length-replicate}
 use Rattle.std.specs.Cmp.{first_so, second_so}
-use Rattle.std.specs.List.{list_all}
 use Rattle.xl_model.specs.Shapes.{opening_shape}
 use Rattle.xl_model.specs.declared.row.Table.{Table}
 use Rattle.xl_model.specs.declared.row.TlbSpec.{TlbSpec}

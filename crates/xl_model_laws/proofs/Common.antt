@@ -6,6 +6,10 @@ pub use Rattle.std.proofs.lemmas.List.Sums.{sum_by-cons}
 pub use Rattle.std.specs.Cmp.{first_so, second_so}
 pub use Rattle.std.specs.List.{list_all, list_any, position_from}
 pub use Rattle.std.specs.Prelude.{count_by, filter, find, replicate}
+pub use Rattle.xl_list_lemmas.proofs.MemberLemmas.{any-In, filter-In, filter-passes, find-In, find-passes, In-any, In-append, In-filter, In-left, In-right, map-In}
+pub use Rattle.xl_list_lemmas.proofs.RecencyLemmas.{newest-In, purged-In, touched-In}
+pub use Rattle.xl_list_lemmas.specs.Members.{In, Once}
+pub use Rattle.xl_list_lemmas.specs.Tallies.{tally}
 pub use Rattle.xl_model.specs.Addresses.{is_canonical, level_of, levels_of, page_of, pages_of, same_order}
 pub use Rattle.xl_model.specs.Base.{number_or_0, one_if, plus}
 pub use Rattle.xl_model.specs.Caches.{all_without, Cached, Caches, empty_caches, holds_first, NoCaches, NodeCaches, Numbered, RangeCache, reaches_range, reaches_space, section_caches, SectionCaches, without_items}
@@ -18,7 +22,7 @@ pub use Rattle.xl_model.specs.Mapping.{covers, leaf_key, leaf_named, with_leaf, 
 unfoldable pub use Rattle.xl_model.specs.Mapping.{leaf_at_page}
 pub use Rattle.xl_model.specs.Nodes.{free_count, is_below, is_needed, is_under, kept_node, missing, Node, node_at, one_unless, put_first, roots, unless_there, up, with_path}
 unfoldable pub use Rattle.xl_model.specs.Nodes.{in_nodes, leaf_nodes_missing, number_of, only_needed, opening_nodes, with_leaf_nodes, with_node}
-pub use Rattle.xl_model.specs.Placing.{after_attempt, after_placing, AtCap, Attempt, begins, begun_if_full, by_occupant, Candidate, Displaced, Fails, forced_moves, growing_now, growths_left, next_way, no_moves, Placed, Placing, put_in, settled_way, Succeeds, start_way, to_grow, way_at, with_growth}
+pub use Rattle.xl_model.specs.Placing.{after_attempt, after_placing, AtCap, Attempt, begins, begun_if_full, by_occupant, Candidate, Displaced, Fails, forced_moves, growing_now, growths_left, next_way, no_moves, Placed, Placing, put_in, settled_way, start_way, Succeeds, to_grow, way_at, with_growth}
 unfoldable pub use Rattle.xl_model.specs.Placing.{attempt, forced, insertion, place, placing, settled}
 pub use Rattle.xl_model.specs.Ranges.{goes_into, holds_page, joined, range_of_leaf, same_perm}
 unfoldable pub use Rattle.xl_model.specs.Ranges.{ranges_of}
@@ -29,6 +33,8 @@ unfoldable pub use Rattle.xl_model.specs.RowRun.{accessed, after_event, fenced, 
 pub use Rattle.xl_model.specs.Rows.{is_table, is_width, is_within, Row}
 pub use Rattle.xl_model.specs.Rules.{change_of}
 unfoldable pub use Rattle.xl_model.specs.Rules.{rule}
+pub use Rattle.xl_model.specs.Scenes.{Live, live_after, lives_after, opened, opening_scene, rows_after, scenes_after, Served, unprinted}
+unfoldable pub use Rattle.xl_model.specs.Scenes.{scene_after}
 pub use Rattle.xl_model.specs.Shapes.{brought, Chained, Cuckoo, CuckooRules, CuckooWays, is_placed, leaf_entry, narrowed, opening_ways, placed_leaf, Radix, Runs, Shape, ways_brought, ways_of, ways_placed, ways_taken, widened, with_ways}
 unfoldable pub use Rattle.xl_model.specs.Shapes.{opening_shape, shape_after}
 pub use Rattle.xl_model.specs.Structures.{after_by, answer_by, finds_place, Made, NoPlace, NoSpace, TableState, Verdict, verdict_by}
@@ -39,7 +45,7 @@ pub use Rattle.xl_model.specs.Tlb.{Answer, answer_of, answered_by, array_hit, ar
 unfoldable pub use Rattle.xl_model.specs.Tlb.{array_filled, array_touched, arrays_filled, arrays_hit, arrays_without, opening_arrays}
 pub use Rattle.xl_model.specs.Walks.{fills_m2, is_page_section, is_tag, node_cache_after, node_caches_after, numbered, range_walk_by, section_of_page, start_level, with_fill, with_range, with_touch}
 unfoldable pub use Rattle.xl_model.specs.Walks.{walked}
-pub use Rattle.xl_model.specs.Ways.{begun_regs, has_key, regs_after, reworded, slot_at, slots_left, WayShape, with_entry, without_occupant}
+pub use Rattle.xl_model.specs.Ways.{begun_regs, has_key, regs_after, reworded, slot_at, slots_left, WayShape, with_entry, without_key, without_occupant}
 unfoldable pub use Rattle.xl_model.specs.Ways.{advanced, begun, occupant, opening_way, slot, swapped, with_word, without_entry}
 pub use Rattle.xl_model.specs.Words.{leaf_word}
 pub use Rattle.xl_model.specs.declared.address.Kind.{Kind}
@@ -53,6 +59,7 @@ pub use Rattle.xl_model.specs.declared.leaf.Reply.{Reply}
 pub use Rattle.xl_model.specs.declared.perm.Perm.{Perm}
 pub use Rattle.xl_model.specs.declared.row.Counts.{Counts}
 pub use Rattle.xl_model.specs.declared.row.Table.{Table}
+pub use Rattle.xl_model.specs.declared.script.Area.{Area}
 pub use Rattle.xl_model.specs.declared.script.Item.{Item}
 pub use Rattle.xl_model.specs.declared.way.Entry.{Entry}
 pub use Rattle.xl_model.specs.declared.way.Moves.{Moves}
@@ -63,17 +70,15 @@ pub use Rattle.xl_model.specs.declared.work.Work.{Work}
 pub use Rattle.xl_model_lemmas.proofs.ChangeLemmas.{changed-In, first-low, first-small, other-key, place-small, stays-changed}
 pub use Rattle.xl_model_lemmas.proofs.LimitLemmas.{limits-changed, limits-fenced, limits-walked, loads-by, shape-same, widened-same}
 pub use Rattle.xl_model_lemmas.proofs.MappingLemmas.{named-In, named-is}
-pub use Rattle.xl_model_lemmas.proofs.MemberLemmas.{any-In, filter-In, filter-passes, find-In, find-passes, In-any, In-append, In-filter, In-left, In-right, map-In}
 pub use Rattle.xl_model_lemmas.proofs.OrderLemmas.{level-low, order-same, orders-same}
-pub use Rattle.xl_model_lemmas.proofs.PlacingLemmas.{entries-same, forced-entries, insertion-adds, insertion-count, lists-length}
-pub use Rattle.xl_model_lemmas.proofs.RecencyLemmas.{newest-In, purged-In, touched-In}
+pub use Rattle.xl_model_lemmas.proofs.PlacingLemmas.{entries-same, forced-entries, insertion-adds, set-length, settled-entries}
 pub use Rattle.xl_model_lemmas.proofs.RuleLemmas.{kept-changed, kept-sound, sound-of}
-pub use Rattle.xl_model_lemmas.proofs.WayTallyLemmas.{tally-le, tally-none, tally-out, tally-reworded, tally-same, tally-with_entry, tally-without_key, ways-reworded, ways-without}
-pub use Rattle.xl_model_lemmas.specs.Fresh.{ArraysFresh, CachesFresh, has_leaves, LevelFresh, PageCovered, RangeFresh, RangesFresh, TagFresh, TagsFresh}
+pub use Rattle.xl_model_lemmas.proofs.WayTallyLemmas.{tally-none, tally-same, tally-with_entry, ways-reworded, ways-without}
 pub use Rattle.xl_model_lemmas.specs.Mappings.{IsFound, IsMapping, IsNewPlace, IsSound}
-pub use Rattle.xl_model_lemmas.specs.Members.{In, Once}
-pub use Rattle.xl_model_lemmas.specs.Sections.{entries_in, entries_of, tally}
-pub use Rattle.xl_model_laws.specs.Cuckoo.{ARefusalKeepsEveryWord, EachWay, HasPointer, IsPointer, KeysHaveTheirSlots, MigratingMovesNoEntry, ShapeEach, SlotsApart, is_at, ThePointerIsBelowTheSlots}
+pub use Rattle.xl_model_lemmas.specs.Sections.{entries_in, entries_of}
+pub use Rattle.xl_model_laws.specs.Cuckoo.{ARefusalKeepsEveryWord, EachWay, HasPointer, is_at, IsPointer, KeysHaveTheirSlots, MigratingMovesNoEntry, ShapeEach, SlotsApart, ThePointerIsBelowTheSlots}
+pub use Rattle.xl_model_laws.specs.FreshCaches.{CachesFresh, LevelFresh, PageCovered, RangeFresh, RangesFresh, TagFresh, TagsFresh}
 pub use Rattle.xl_model_laws.specs.Kinds.{alone, AnAccessNeedsItsArraysAlone, AnArrayForOthersStays, arrays_for, ArraysForAllTakeNoNoteOfKinds, AStoreLooksUpAsALoad, at_places, counts_for, StaysAt}
 pub use Rattle.xl_model_laws.specs.Nodes.{AreNodesOf, AreNumbered, HasNumbers, IsNodeOf, RoomIsForAllNodes, root_of, TheNodesAreTheMappings}
 pub use Rattle.xl_model_laws.specs.Runs.{AReplyIsByTheMapping, IsZeroBeyond, NothingIsCountedBeyondTheArrays, TheLeavesAreAMapping, TheLowestIsTheLeast, TheReadsAreTheLoads}
+pub use Rattle.xl_model_laws.specs.Scenes.{EachRowRunsByItself, ItemsMayBeServedInParts, PrintingChangesNoRow, ran_by, rows_by, ThePrintedTextOnlyGrows, WhatIsPrintedFirstIsFirst}

@@ -1,7 +1,7 @@
 -- Node tags: every node that the mapping needs has a number, and a cached tag has that of its node.
 use Rattle.xl_model_laws.proofs.Common.{◌&&◌, ◌+◌, ◌-◌, ◌<◌, ◌==◌, ◌||◌, ◌∙◌, ◌∷◌, ◌≡◌, ◌≤◌, ◌⊎◌, [], all_without, any-In, ap, arith, Bool, brought, Cached, Change, changed, changed-In, cond, false, free_count, In, In-any, in_nodes, inl, inr, Insert, is_below, is_needed, is_tag, is_under, IsFound, Leaf, leaf_named, leaf_nodes_missing, length, level_of, LevelFresh, List, list_any, named-In, nat_le, nat_lt, nat_tests, new_leaf, newest-In, Node, node_at, node_cache_after, node_caches_after, None, not, not-false, number_of, number_or_0, Numbered, numbered, only_needed, Option, Order, position_from, Protect, purged-In, refl, Relocate, Remove, second_so, slice_index_or, Some, subst, suc, sym, TagFresh, TagsFresh, touched-In, true, up, with_fill, with_leaf_nodes, with_path, with_perm, with_touch, without_items, ℕ}
-use Rattle.xl_model_lemmas.proofs.EndLemmas.{covered-under}
 use Rattle.xl_model_laws.proofs.NumberLemmas.{kept-at, kept-has, path-at, path-has, path-puts, position-at, position-none}
+use Rattle.xl_model_laws.proofs.UnderLemmas.{covered-under}
 
 -- every node below the root that the mapping needs is there
 pub record NodesFull (levels : ℕ) (leaves : List Leaf) (nodes : List (Option Node)) : Type 0 where

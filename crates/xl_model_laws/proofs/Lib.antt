@@ -25,3 +25,7 @@ mod SectionLawLemmas
 mod NumberLemmas
 mod FreshRangeLemmas
 mod FreshNodeLemmas
+mod UnderLemmas
+mod PlacingLemmas
+mod SceneLemmas
+mod WayTallyLemmas

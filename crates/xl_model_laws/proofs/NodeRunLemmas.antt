@@ -1,6 +1,6 @@
 -- A radix table's numbers in every run, and its room.
 use Rattle.xl_model_laws.proofs.Common.{◌&&◌, ◌++◌, ◌+◌, ◌-◌, ◌<◌, ◌==◌, ◌||◌, ◌∙◌, ◌∷◌, ◌≡◌, ◌≤◌, ◌⊎◌, [], ap, AreNodesOf, AreNumbered, arith, Bool, brought, Chained, Change, changed, Cuckoo, CuckooRules, CuckooWays, eq-eqb, false, finds_place, free_count, has_room, HasNumbers, In, In-append, In-left, In-right, in_nodes, inl, inr, is_below, is_under, IsNodeOf, Leaf, leaf_nodes_missing, length, length-append, level_of, levels_of, List, list_any, missing, Mode, narrowed, nat_le, nat_lt, nat_tests, Node, None, number_of, Once, one_unless, opening_shape, Option, position_from, Radix, refl, room_for, RoomIsForAllNodes, Row, run, Runs, Shape, shape_after, slice_index_or, Some, subst, suc, sym, Table, TheNodesAreTheMappings, true, up, widened, zero, ℕ}
-use Rattle.xl_model_lemmas.proofs.OnceLemmas.{once-append, same-by}
+use Rattle.xl_list_lemmas.proofs.OnceLemmas.{once-append, same-by}
 use Rattle.xl_model_laws.proofs.AfterLemmas.{path-room, radix-after}
 use Rattle.xl_model_laws.proofs.NodeLawLemmas.{any-at, at-any, below-is, numbered-after, numbered-opening, NumberedOnce}
 use Rattle.xl_model_laws.proofs.NumberLemmas.{position-any, position-none}

@@ -1,7 +1,6 @@
 -- What every event keeps, every run keeps.
-use Rattle.xl_model_laws.proofs.Common.{◌∷◌, [], after_event, again_where, area_wanted, areas_after, demanded, Event, Item, List, map_of, None, opening, Option, outcome_of, referenced, Row, RowState, run, Some, state_after, states_after, ℕ}
+use Rattle.xl_model_laws.proofs.Common.{◌∷◌, [], after_event, again_where, Area, area_wanted, areas_after, demanded, Event, Item, List, map_of, None, opening, Option, outcome_of, referenced, Row, RowState, run, Some, state_after, states_after, ℕ}
 use Rattle.xl_model.specs.declared.event.Outcome.{Outcome}
-use Rattle.xl_model.specs.declared.script.Area.{Area}
 use Rattle.xl_model.specs.declared.script.Item.TheVariants.{Command, Declared, Referenced}
 use Rattle.xl_model.specs.declared.event.Event.TheVariants as event
 use Rattle.xl_model.specs.declared.event.Outcome.TheVariants as outcome

@@ -1,8 +1,7 @@
 -- Laws of all rows together.
-use Rattle.xl_model_laws.proofs.Common.{ap}
-use Rattle.xl_model.specs.Scenes.{Live}
-use Rattle.xl_model_lemmas.proofs.SceneLemmas.{lives-append, lives-printed, rows-run, scene-is, printed-append}
-use Rattle.xl_model_laws.specs.Scenes.{EachRowRunsByItself, ItemsMayBeServedInParts, PrintingChangesNoRow, ThePrintedTextOnlyGrows, WhatIsPrintedFirstIsFirst}
+use Rattle.xl_model_laws.proofs.Common.{ap, EachRowRunsByItself, ItemsMayBeServedInParts, Live, PrintingChangesNoRow, ThePrintedTextOnlyGrows, WhatIsPrintedFirstIsFirst}
+use Rattle.xl_model_lemmas.proofs.SceneLemmas.{lives-append, lives-printed, printed-append, scene-is}
+use Rattle.xl_model_laws.proofs.SceneLemmas.{rows-run}
 
 pub items_may_be_served_in_parts : ItemsMayBeServedInParts
 items_may_be_served_in_parts = lives-append

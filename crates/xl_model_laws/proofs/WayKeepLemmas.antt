@@ -1,5 +1,5 @@
 -- What each step of a way keeps, every insertion and every change of a cuckoo table keeps in each way, and so every run.
-use Rattle.xl_model_laws.proofs.Common.{◌&&◌, ◌++◌, ◌+◌, ◌∷◌, ◌≡◌, ◌≤◌, [], advanced, after_attempt, after_placing, arith, AtCap, Attempt, attempt, begins, begun, begun_if_full, Bool, brought, by_occupant, Candidate, Chained, Change, cond, Cuckoo, CuckooRules, CuckooWays, Displaced, EachWay, Entry, Fails, false, forced, forced_moves, growing_now, growths_left, inl, inr, Insert, insertion, Item, Leaf, leaf_entry, leaf_word, length, levels_of, List, map, map-In, min, Moves, narrowed, next_way, no_moves, None, not, occupant, old_leaf, opening_shape, opening_way, opening_ways, Option, Order, place, Placed, placed_leaf, Placing, placing, Protect, put_in, Radix, refl, Relocate, Remove, Row, run, Runs, settled, settled_way, Shape, shape_after, ShapeEach, slice_set, slots_left, Some, Succeeds, start_way, subst, suc, swapped, sym, Table, to_grow, true, way_at, ways_brought, ways_of, ways_placed, ways_taken, WayShape, widened, with_growth, with_ways, with_word, without_entry, zero, ℕ}
+use Rattle.xl_model_laws.proofs.Common.{◌&&◌, ◌++◌, ◌+◌, ◌∷◌, ◌≡◌, ◌≤◌, [], advanced, after_attempt, after_placing, arith, AtCap, Attempt, attempt, begins, begun, begun_if_full, Bool, brought, by_occupant, Candidate, Chained, Change, cond, Cuckoo, CuckooRules, CuckooWays, Displaced, EachWay, Entry, Fails, false, forced, forced_moves, growing_now, growths_left, inl, inr, Insert, insertion, Item, Leaf, leaf_entry, leaf_word, length, levels_of, List, map, map-In, min, Moves, narrowed, next_way, no_moves, None, not, occupant, old_leaf, opening_shape, opening_way, opening_ways, Option, Order, place, Placed, placed_leaf, Placing, placing, Protect, put_in, Radix, refl, Relocate, Remove, Row, run, Runs, settled, settled_way, Shape, shape_after, ShapeEach, slice_set, slots_left, Some, start_way, subst, suc, Succeeds, swapped, sym, Table, to_grow, true, way_at, ways_brought, ways_of, ways_placed, ways_taken, WayShape, widened, with_growth, with_ways, with_word, without_entry, zero, ℕ}
 use Rattle.xl_model_laws.proofs.ShapeLemmas.{run-shape}
 use Rattle.xl_model.specs.declared.address.Order.TheVariants as order
 use Rattle.xl_model.specs.declared.row.Table.TheVariants as table

@@ -1,10 +1,11 @@
 -- Two keys of one way never have one slot, and a refused insertion keeps every key and word.
-use Rattle.xl_model_laws.proofs.Common.{◌+◌, ◌-◌, ◌<◌, ◌==◌, ◌^◌, ◌∙◌, ◌≡◌, ◌≤◌, [], advanced, after_attempt, after_placing, ap, ARefusalKeepsEveryWord, arith, AtCap, Attempt, attempt, begun, begun_regs, Bool, Candidate, cond, entries_of, Entry, eq-eqb, Fails, false, find, find-passes, forced, forced-entries, forced_moves, growths_left, HasPointer, insertion, IsPointer, KeysHaveTheirSlots, length, List, map, MigratingMovesNoEntry, Moves, nat_tests, no_moves, None, occupant, one_if, opening_way, Option, place, Placed, Placing, placing, refl, regs_after, reworded, slice_set, slot, slot_at, slots_left, SlotsApart, Some, Succeeds, is_at, start_way, subst, suc, swapped, sym, tally, tally-le, tally-none, tally-out, tally-reworded, tally-same, tally-with_entry, tally-without_key, ThePointerIsBelowTheSlots, to_grow, true, way_at, WayRegs, WayShape, with_entry, with_growth, with_word, without_entry, without_occupant, zero, ℕ}
+use Rattle.xl_model_laws.proofs.Common.{◌+◌, ◌-◌, ◌<◌, ◌==◌, ◌^◌, ◌∙◌, ◌≡◌, ◌≤◌, [], advanced, after_attempt, after_placing, ap, ARefusalKeepsEveryWord, arith, AtCap, Attempt, attempt, begun, begun_regs, Bool, Candidate, cond, entries_of, Entry, eq-eqb, Fails, false, find, find-passes, forced, forced-entries, forced_moves, growths_left, HasPointer, insertion, is_at, IsPointer, KeysHaveTheirSlots, length, List, map, MigratingMovesNoEntry, Moves, nat_tests, no_moves, None, occupant, one_if, opening_way, Option, place, Placed, Placing, placing, refl, regs_after, reworded, slice_set, slot, slot_at, slots_left, SlotsApart, Some, start_way, subst, suc, Succeeds, swapped, sym, tally, tally-none, tally-same, tally-with_entry, ThePointerIsBelowTheSlots, to_grow, true, way_at, WayRegs, WayShape, with_entry, with_growth, with_word, without_entry, without_occupant, zero, ℕ}
 use Rattle.std.proofs.Math.Seq.{map-set_same}
 use Rattle.std.proofs.lemmas.Nat.{pow_pos}
 use Rattle.xl_model.specs.Hashes.{way_hash}
 use Rattle.xl_model_laws.proofs.SlotLemmas.{before_slot, begun-slot, slot-back}
 use Rattle.xl_model_laws.proofs.WayKeepLemmas.{run-each, WayKeeps}
+use Rattle.xl_model_laws.proofs.WayTallyLemmas.{tally-le, tally-out, tally-reworded, tally-without_key}
 
 -- keys of one slot
 same-slot : (r : WayRegs) (number : ℕ) (x y : Entry) → x.key ≡ y.key → slot r number x.key ≡ slot r number y.key

@@ -9,8 +9,9 @@ use Rattle.xl_model.specs.Shapes.{Shape, Radix, Chained, Cuckoo, Runs}
 use Rattle.xl_model.specs.Rows.{Row}
 use Rattle.xl_model.specs.declared.script.Item.{Item}
 use Rattle.xl_model.specs.Items.{run}
-use Rattle.xl_model_lemmas.specs.Members.{In}
-use Rattle.xl_model_lemmas.specs.Sections.{entries_of, tally}
+use Rattle.xl_list_lemmas.specs.Members.{In}
+use Rattle.xl_list_lemmas.specs.Tallies.{tally}
+use Rattle.xl_model_lemmas.specs.Sections.{entries_of}
 
 -- an entry is in this slot of a way
 abbrev pub is_at : WayRegs → ℕ → ℕ → Entry → Bool

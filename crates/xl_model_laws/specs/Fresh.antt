@@ -4,7 +4,8 @@ use Rattle.xl_model.specs.Rows.{Row}
 use Rattle.xl_model.specs.RowRun.{RowState}
 use Rattle.xl_model.specs.declared.script.Item.{Item}
 use Rattle.xl_model.specs.Items.{run}
-use Rattle.xl_model_lemmas.specs.Fresh.{ArraysFresh, CachesFresh}
+use Rattle.xl_model_laws.specs.FreshCaches.{CachesFresh}
+use Rattle.xl_model_lemmas.specs.Fresh.{ArraysFresh}
 
 -- what the arrays and the walk caches of a row hold is not stale
 pub record IsFresh (s : RowState) : Type 0 where

@@ -8,8 +8,9 @@ use Rattle.xl_model.specs.Ways.{WayShape, has_key}
 use Rattle.xl_model.specs.Shapes.{Shape, Radix, Chained, Cuckoo, Runs, ways_of, leaf_entry}
 use Rattle.xl_model.specs.Rows.{Row, IsRow}
 use Rattle.xl_model.specs.Items.{run}
-use Rattle.xl_model_lemmas.specs.Members.{In}
-use Rattle.xl_model_lemmas.specs.Sections.{tally, entries_in}
+use Rattle.xl_list_lemmas.specs.Members.{In}
+use Rattle.xl_list_lemmas.specs.Tallies.{tally}
+use Rattle.xl_model_lemmas.specs.Sections.{entries_in}
 
 -- each leaf of an order has its key and word in the ways, no other entry is there, and each key is
 -- in one way alone

@@ -6,7 +6,7 @@ use Rattle.xl_model.specs.declared.row.Serves.TheVariants as serves
 use Rattle.xl_model.specs.Rows.{Row}
 use Rattle.xl_model.specs.RowRun.{RowState, looked, accessed}
 use Rattle.xl_model.specs.Tlb.{TlbArray, serves_kind}
-use Rattle.xl_model_lemmas.specs.Members.{In}
+use Rattle.xl_list_lemmas.specs.Members.{In}
 
 -- Each of these arrays serves all accesses.
 abbrev pub AllServeAll : List TlbArray → Type 0

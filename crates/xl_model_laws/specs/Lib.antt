@@ -10,3 +10,4 @@ pub mod Nodes
 pub mod Keys
 pub mod Kinds
 pub mod Sections
+pub mod FreshCaches

@@ -8,7 +8,7 @@ use Rattle.xl_model.specs.Shapes.{Shape, Radix, Chained, Cuckoo, Runs, brought}
 use Rattle.xl_model.specs.Room.{has_room}
 use Rattle.xl_model.specs.Rows.{Row}
 use Rattle.xl_model.specs.Items.{run}
-use Rattle.xl_model_lemmas.specs.Members.{In, Once}
+use Rattle.xl_list_lemmas.specs.Members.{In, Once}
 
 -- the root of a space
 abbrev pub root_of : ℕ → ℕ → Node

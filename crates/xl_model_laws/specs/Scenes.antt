@@ -1,9 +1,21 @@
 -- What holds of all rows together: items served in parts, and the lines written meanwhile.
-use Rattle.std.specs.Prelude.{◌≡◌, Bool, List, ◌++◌}
+use Rattle.std.specs.Prelude.{◌≡◌, Bool, List, ◌++◌, [], ◌∷◌}
 use Rattle.xl_model.specs.declared.script.Item.{Item}
 use Rattle.xl_model.specs.Rows.{Row}
-use Rattle.xl_model.specs.Scenes.{Live, Scene, lives_after, opening_scene, printed_by, scenes_after}
-use Rattle.xl_model_lemmas.specs.Scenes.{ran_by}
+use Rattle.xl_model.specs.Scenes.{Live, Scene, lives_after, opening_scene, printed_by, scenes_after, Served}
+use Rattle.xl_model.specs.Items.{run, states_after}
+use Rattle.xl_model.specs.declared.script.Area.{Area}
+
+-- each row after some items, served by itself
+abbrev pub rows_by : List Item → List Area → List Served → List Served
+rows_by items areas [] = []
+rows_by items areas (r ∷ rows) =
+    record r { state = states_after r.row items areas r.state } ∷ rows_by items areas rows
+
+-- each row with its own run over some items
+abbrev pub ran_by : List Item → List Row → List Served
+ran_by items [] = []
+ran_by items (row ∷ rows) = record { row = row; state = run row items } ∷ ran_by items rows
 
 -- Items may be served in two parts, one after the other.
 abbrev pub ItemsMayBeServedInParts : Type 0

@@ -4,7 +4,7 @@ use Rattle.std.specs.List.{list_any}
 use Rattle.xl_model.specs.declared.address.Order.{Order}
 use Rattle.xl_model.specs.declared.leaf.Leaf.{Leaf}
 use Rattle.xl_model.specs.Sections.{section_keys}
-use Rattle.xl_model_lemmas.specs.Members.{In, Once}
+use Rattle.xl_list_lemmas.specs.Members.{In, Once}
 use Rattle.xl_model_lemmas.specs.Sections.{counts_at}
 
 -- The keys are exactly those of the sections of this order in which some leaf lies that isn't

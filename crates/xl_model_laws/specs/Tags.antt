@@ -6,7 +6,7 @@ use Rattle.xl_model.specs.Chains.{leaf_tag, with_tag}
 use Rattle.xl_model.specs.Shapes.{Shape, Radix, Chained, Cuckoo, Runs}
 use Rattle.xl_model.specs.Rows.{Row}
 use Rattle.xl_model.specs.Items.{run}
-use Rattle.xl_model_lemmas.specs.Members.{In, Once}
+use Rattle.xl_list_lemmas.specs.Members.{In, Once}
 use Rattle.std.specs.Prelude.{◌≡◌}
 
 -- the tags are exactly those of the leaves, and each occurs once

@@ -1,9 +1,7 @@
 -- The one leaf that covers a page, and the one that a name names. For the machine too.
-use Rattle.xl_model_lemmas.proofs.Common.{◌∙◌, ◌≡◌, arith, covers, In, is_leaf, IsFound, IsMapping, IsNamed, Leaf, leaf_at_page, leaf_named, List, nat_tests, Order, Row, Some, subst, sym, true, ℕ}
+use Rattle.xl_model_lemmas.proofs.Common.{◌∙◌, ◌≡◌, arith, covers, find-In, find-only, find-passes, In, is_leaf, IsFound, IsMapping, Leaf, leaf_at_page, leaf_named, List, nat_tests, Order, Row, Some, subst, sym, true, ℕ}
 use Rattle.xl_model_lemmas.proofs.InsertionLemmas.{same-place}
-use Rattle.xl_model_lemmas.proofs.MemberLemmas.{find-In, find-only, find-passes, In-any}
 use Rattle.xl_model_lemmas.proofs.PlaceLemmas.{named-key}
-use Rattle.xl_model_lemmas.proofs.SameLemmas.{any-find}
 
 -- two leaves of a mapping that cover a page are one
 pub covered-one : (row : Row) (leaves : List Leaf) (space page : ℕ) (x y : Leaf) → IsMapping row leaves → In x leaves → In y leaves
@@ -33,12 +31,3 @@ unfolding leaf_named
 named-by row leaves space first o x m i t =
     find-only (is_leaf space first o) x leaves i t
     (λ y j h. same-place y x leaves m.sorted j i (named-key space first o y h ∙ sym (named-key space first o x t)))
-
--- a leaf that is found has its own name
-pub found-named : (s page : ℕ) (x : Leaf) (leaves : List Leaf) → leaf_at_page s page leaves ≡ Some x → IsNamed x.space x.first x.order leaves
-unfolding leaf_at_page leaf_named
-found-named s page x leaves h =
-    sym (any-find (is_leaf x.space x.first x.order) leaves) ∙ In-any (is_leaf x.space x.first x.order) x leaves (find-In (covers s page) x leaves h) named
-  where
-    named : is_leaf x.space x.first x.order x ≡ true
-    named = grind (arith, nat_tests)

@@ -1,10 +1,11 @@
 -- Leaves of TLB arrays: touched, filled, purged.
-use Rattle.xl_model_lemmas.proofs.Common.{◌&&◌, ◌∙◌, ◌∷◌, ◌≡◌, ◌⊎◌, [], Answer, answer_of, array_filled, array_touched, array_without, arrays_after, arrays_filled, arrays_hit, arrays_without, ArraysFresh, asked, Bool, Change, changed, cond, covers_as, eq-eqb, false, filled_below, filled_for, filled_where, Held, In, inl, inr, InSets, is_purged, IsMapping, IsSound, Kind, Leaf, List, map, nat_lt, None, old_leaf, opening_array, opening_arrays, Option, Order, purged, refl, replicate, Row, same_order, serves_kind, set_at, set_number, slice_set, Some, subst, suc, sym, takes_order, TlbArray, touched, touched_or, true, with_newest, zero, ℕ}
+use Rattle.xl_model_lemmas.proofs.Common.{◌&&◌, ◌∙◌, ◌∷◌, ◌≡◌, ◌⊎◌, [], Answer, answer_of, array_filled, array_touched, array_without, arrays_filled, arrays_hit, arrays_without, ArraysFresh, asked, Bool, Change, changed, cond, covers_as, eq-eqb, false, filled_below, filled_for, filled_where, Held, In, inl, inr, InSets, is_purged, IsMapping, IsSound, Kind, Leaf, List, map, nat_lt, newest-In, None, old_leaf, opening_array, opening_arrays, Option, Order, purged-In, refl, replicate, Row, same_order, serves_kind, set_at, set_number, slice_set, Some, subst, suc, sym, takes_order, TlbArray, touched-In, touched_or, true, zero, ℕ}
+use Rattle.xl_model.specs.Recency.{purged, touched, with_newest}
+use Rattle.xl_model.specs.RowRun.{arrays_after}
 use Rattle.xl_model.specs.declared.row.Purge.{Purge}
 use Rattle.xl_model.specs.declared.row.TlbSpec.{TlbSpec}
 use Rattle.xl_model_lemmas.proofs.ChangeLemmas.{stays-changed}
 use Rattle.xl_model_lemmas.proofs.HitLemmas.{answer-held, get-In}
-use Rattle.xl_model_lemmas.proofs.RecencyLemmas.{newest-In, purged-In, touched-In}
 use Rattle.xl_model.specs.declared.row.Purge.TheVariants as purge
 
 -- sets

@@ -1,10 +1,9 @@
 -- Cached sections: filled as they are, and out where their bits or their way change.
-use Rattle.xl_model_lemmas.proofs.Common.{◌&&◌, ◌*◌, ◌+◌, ◌/◌, ◌<◌, ◌||◌, ◌∙◌, ◌∷◌, ◌≡◌, ◌≤◌, [], ap, arith, Bool, counts_for, covers, CuckooWays, entries_of, Entry, false, first_so, has_key, has_leaves, holder_from, holds_order, inl, inr, is_held, is_page_section, IsFound, Leaf, level_of, List, list_any, map, nat_tests, None, not-false, Option, Order, pages_of, refl, same_order, same_section, same_way, second_so, Section, section_after, section_key, section_of, section_of_page, SectionFresh, SectionsFresh, Some, subst, sym, true, ways_of, WayShape, ℕ}
+use Rattle.xl_model_lemmas.proofs.Common.{◌&&◌, ◌*◌, ◌+◌, ◌/◌, ◌<◌, ◌||◌, ◌∙◌, ◌∷◌, ◌≡◌, ◌≤◌, [], ap, arith, Bool, counts_for, covers, CuckooWays, entries_of, Entry, false, first_so, has_key, has_leaves, holder_from, holds_order, In-any, inl, inr, is_held, IsFound, Leaf, level_of, List, list_any, map, nat_tests, newest-In, None, not-false, Option, Order, pages_of, purged-In, refl, same_order, same_section, same_way, second_so, Section, section_key, section_of, SectionFresh, SectionsFresh, Some, subst, sym, touched-In, true, ways_of, WayShape, ℕ}
 use Rattle.xl_model.proofs.PermLemmas.{bits-same}
 use Rattle.xl_model.specs.Caches.{Cached, has_changed, without_items}
-use Rattle.xl_model_lemmas.proofs.MemberLemmas.{In-any}
+use Rattle.xl_model.specs.Walks.{is_page_section, section_after, section_of_page}
 use Rattle.xl_model_lemmas.proofs.OrderLemmas.{order-same}
-use Rattle.xl_model_lemmas.proofs.RecencyLemmas.{newest-In, purged-In, touched-In}
 use Rattle.xl_model.specs.declared.address.Order.TheVariants as order
 
 ways-same : (a b : Option ℕ) → same_way a b ≡ true → a ≡ b

@@ -1,6 +1,5 @@
 -- A leaf with which the arrays answer is held by one of them, and covers the page. For the machine too.
-use Rattle.xl_model_lemmas.proofs.Common.{◌∷◌, ◌≡◌, [], Answer, answer_of, answered_by, array_hit, asked, Bool, covers, covers_as, false, find, first_found, found_as, Held, In, inl, inr, InSets, Kind, Leaf, List, None, Option, Order, refl, same_order, second_so, serves_kind, set_at, set_number, slice_index_or, Some, subst, suc, takes_order, TlbArray, true, where_taken, zero, ℕ}
-use Rattle.xl_model_lemmas.proofs.MemberLemmas.{find-In, find-passes}
+use Rattle.xl_model_lemmas.proofs.Common.{◌∷◌, ◌≡◌, [], Answer, answer_of, answered_by, array_hit, asked, Bool, covers, covers_as, false, find, find-In, find-passes, first_found, found_as, Held, In, inl, inr, InSets, Kind, Leaf, List, None, Option, Order, refl, same_order, second_so, serves_kind, set_at, set_number, slice_index_or, Some, subst, suc, takes_order, TlbArray, true, where_taken, zero, ℕ}
 use Rattle.xl_model.specs.declared.address.Order.TheVariants as order
 
 pub get-In : (leaf : Leaf) (sets : List (List Leaf)) (i : ℕ) → In leaf (slice_index_or sets i []) → InSets leaf sets

@@ -1,6 +1,5 @@
 -- A leaf put into a sorted list of leaves, and one taken out.
-use Rattle.xl_model_lemmas.proofs.Common.{◌*◌, ◌+◌, ◌<◌, ◌==◌, ◌^◌, ◌∙◌, ◌∷◌, ◌≡◌, ◌⊎◌, [], AllAbove, ap, arith, Bool, cond, false, filter, In, inl, inr, IsSorted, Leaf, leaf_key, List, nat_lt, nat_tests, refl, subst, sym, true, with_leaf, without_leaf, ℕ}
-use Rattle.xl_model_lemmas.proofs.MemberLemmas.{filter-In, filter-passes, In-filter}
+use Rattle.xl_model_lemmas.proofs.Common.{◌*◌, ◌+◌, ◌<◌, ◌==◌, ◌^◌, ◌∙◌, ◌∷◌, ◌≡◌, ◌⊎◌, [], AllAbove, ap, arith, Bool, cond, false, filter, filter-In, filter-passes, In, In-filter, inl, inr, IsSorted, Leaf, leaf_key, List, nat_lt, nat_tests, refl, subst, sym, true, with_leaf, without_leaf, ℕ}
 
 -- the tests of a list with one leaf more, taken one by one
 abbrev with_by : Bool → Bool → Leaf → Leaf → List Leaf → List Leaf

@@ -1,7 +1,6 @@
 -- How many leaves of a mapping pass a test: with a leaf more, and with one less.
-use Rattle.xl_model_lemmas.proofs.Common.{◌&&◌, ◌+◌, ◌<◌, ◌==◌, ◌∙◌, ◌∷◌, ◌≡◌, [], ap, arith, Bool, cond, eq-eqb, false, In, inl, inr, IsSorted, Leaf, leaf_key, List, nat_lt, nat_tests, not, Once, one_if, refl, tally, true, with_leaf, without_leaf}
+use Rattle.xl_model_lemmas.proofs.Common.{◌&&◌, ◌+◌, ◌<◌, ◌==◌, ◌∙◌, ◌∷◌, ◌≡◌, [], ap, arith, Bool, cond, eq-eqb, false, In, inl, inr, IsSorted, Leaf, leaf_key, List, nat_lt, nat_tests, not, Once, one_if, refl, tally, tally-filter, tally-only, true, with_leaf, without_leaf}
 use Rattle.xl_model_lemmas.proofs.InsertionLemmas.{above-In, same-place}
-use Rattle.xl_model_lemmas.proofs.TallyLemmas.{tally-filter, tally-only}
 
 -- in a sorted list no leaf occurs twice
 pub sorted-once : (xs : List Leaf) → IsSorted xs → Once xs

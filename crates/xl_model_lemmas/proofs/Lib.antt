@@ -1,9 +1,4 @@
 mod Common
-pub mod MemberLemmas
-pub mod SameLemmas
-pub mod OnceLemmas
-pub mod RecencyLemmas
-pub mod BucketLemmas
 pub mod OrderLemmas
 pub mod InsertionLemmas
 pub mod SortedLemmas
@@ -15,18 +10,11 @@ pub mod ChangeLemmas
 pub mod EndLemmas
 pub mod CoverLemmas
 pub mod KeptLemmas
-pub mod FrontLemmas
-pub mod WithoutLemmas
-pub mod GivenLemmas
 pub mod TagLemmas
-pub mod ReadLemmas
-pub mod TallyLemmas
 pub mod SectionLemmas
 pub mod LeafTallyLemmas
 pub mod WayTallyLemmas
 pub mod PlacingLemmas
-pub mod BlockLemmas
-pub mod EntryLemmas
 pub mod SearchLemmas
 pub mod LimitLemmas
 pub mod PoolLemmas
@@ -35,4 +23,4 @@ pub mod HitLemmas
 pub mod FreshArrayLemmas
 pub mod FreshSectionLemmas
 pub mod SceneLemmas
-pub mod HolderLemmas
+pub mod PermLemmas

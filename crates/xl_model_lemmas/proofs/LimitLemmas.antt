@@ -1,6 +1,6 @@
 -- A table takes the same spaces and pages after each call, and only a walk counts loads. For the machine too.
-use Rattle.xl_model_lemmas.proofs.Common.{◌<◌, ◌∙◌, ◌≡◌, brought, Chained, Change, Cuckoo, Leaf, List, narrowed, None, Option, Radix, refl, Result, Runs, Shape, shape_after, Some, subst, sym, widened, ℕ}
-use Rattle.xl_model.specs.Structures.{after_by, IsChange, IsFence, IsPage, IsWalk, Made, NoPlace, NoSpace, table_after, table_fenced, table_made, table_walked, TableState, Verdict, verdict}
+use Rattle.xl_model_lemmas.proofs.Common.{◌∙◌, ◌≡◌, brought, Chained, Change, Cuckoo, Leaf, List, narrowed, None, Option, Radix, refl, Result, Runs, Shape, shape_after, Some, subst, sym, widened, ℕ}
+use Rattle.xl_model.specs.Structures.{after_by, IsChange, IsWalk, Made, NoPlace, NoSpace, table_after, table_fenced, table_made, table_walked, TableState, Verdict, verdict}
 use Rattle.xl_model.specs.declared.event.Reach.{Reach}
 use Rattle.xl_model.specs.declared.work.Refused.{Refused}
 use Rattle.xl_model.specs.declared.work.Walk.{Walk}
@@ -56,16 +56,6 @@ same-change c old new r is = of-shape old new (table_after c old) is.after (limi
 pub same-walk : (space page : ℕ) (old new : TableState) (w : Walk) → IsWalk space page old w new → SameLimits old.shape new.shape
 same-walk space page old new w is = of-shape old new (table_walked space page old) is.after (limits-walked space page old)
 
-pub same-fence : (to : Reach) (old new : TableState) (n : ℕ) → IsFence to old n new → SameLimits old.shape new.shape
-same-fence to old new n is = of-shape old new (table_fenced to old) is.after (limits-fenced to old)
-
--- a page and a block of one table are those of the other
-pub page-stays : (old new : Shape) (space page : ℕ) → SameLimits old new → IsPage old space page → IsPage new space page
-page-stays old new space page same is = record {
-  space_in = subst (λ n. space < n) (sym same.spaces) is.space_in;
-  page_in = subst (λ n. page < n) (sym same.pages) is.page_in;
-}
-
 -- a change and a fence load nothing
 pub loads-by : (v : Verdict) (c : Change) (t : TableState) → (after_by v c t).loads ≡ t.loads
 unfolding table_made
@@ -76,7 +66,3 @@ loads-by NoPlace c t = refl
 pub loads-changed : (c : Change) (t : TableState) → (table_after c t).loads ≡ t.loads
 unfolding table_after
 loads-changed c t = loads-by (verdict c t) c t
-
-pub loads-fenced : (to : Reach) (t : TableState) → (table_fenced to t).loads ≡ t.loads
-unfolding table_fenced
-loads-fenced to t = refl

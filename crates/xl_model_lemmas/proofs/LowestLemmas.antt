@@ -1,6 +1,5 @@
 -- The least free candidate is the lowest free block.
-use Rattle.xl_model_lemmas.proofs.Common.{◌&&◌, ◌*◌, ◌+◌, ◌-◌, ◌/◌, ◌<◌, ◌∙◌, ◌∷◌, ◌≡◌, ◌≤◌, [], arith, following, false, filter, holds_frames, In, inl, inr, is_free_block, IsAnswer, IsFreeOf as IsFree, Leaf, least, lesser, List, list_any, lowest, map, min, nat_le, nat_tests, None, not, Option, Order, pages_of, refl, Some, subst, suc, sym, true, zero, ℕ}
-use Rattle.xl_model_lemmas.proofs.MemberLemmas.{any-false, any-In, filter-In, filter-passes, In-filter, In-map, map-In}
+use Rattle.xl_model_lemmas.proofs.Common.{◌&&◌, ◌*◌, ◌+◌, ◌-◌, ◌/◌, ◌<◌, ◌∙◌, ◌∷◌, ◌≡◌, ◌≤◌, [], any-false, any-In, arith, false, filter, filter-In, filter-passes, following, holds_frames, In, In-filter, In-map, inl, inr, is_free_block, IsAnswer, IsFreeOf as IsFree, Leaf, least, lesser, List, list_any, lowest, map, map-In, min, nat_le, nat_tests, None, not, Option, Order, pages_of, refl, Some, subst, suc, sym, true, zero, ℕ}
 use Rattle.xl_model.specs.declared.address.Order.TheVariants as order
 
 -- the least of a list is a member, and no member is less

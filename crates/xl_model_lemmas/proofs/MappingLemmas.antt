@@ -1,7 +1,6 @@
 -- What every mapping keeps, at each of the four changes of a leaf.
-use Rattle.xl_model_lemmas.proofs.Common.{◌*◌, ◌+◌, ◌^◌, ◌∙◌, ◌≡◌, ◌≤◌, ap, at_page, Bool, changed, false, holds_frames, In, inl, inr, Insert, is_leaf, IsFreeOf as IsFree, IsLeafOf, IsMapping, Leaf, leaf_key, leaf_named, levels_of, List, meets_any, meets_block, None, Option, Order, pages_of, Perm, Protect, refl, Relocate, Remove, Row, Some, subst, sym, true, with_leaf, with_new, with_perm, without_leaf, without_old, ℕ}
+use Rattle.xl_model_lemmas.proofs.Common.{◌*◌, ◌+◌, ◌^◌, ◌∙◌, ◌≡◌, ◌≤◌, any-false, ap, at_page, Bool, changed, false, find-In, find-passes, holds_frames, In, inl, inr, Insert, is_leaf, IsFreeOf as IsFree, IsLeafOf, IsMapping, Leaf, leaf_key, leaf_named, levels_of, List, meets_any, meets_block, None, Option, Order, pages_of, Perm, Protect, refl, Relocate, Remove, Row, Some, subst, sym, true, with_leaf, with_new, with_perm, without_leaf, without_old, ℕ}
 use Rattle.xl_model_lemmas.proofs.InsertionLemmas.{sorted-with, sorted-without, with-In, without-In, without-other}
-use Rattle.xl_model_lemmas.proofs.MemberLemmas.{any-false, find-In, find-passes}
 use Rattle.xl_model_lemmas.proofs.PlaceLemmas.{covers-meets, frame-shared, holds-meets, meets-covers, named-order, named-space}
 
 -- a leaf that overlaps no other and holds no other's frame

@@ -1,13 +1,11 @@
--- A pool of frames through each change: a block is taken for a new leaf, given back for one that goes, and a leaf
--- that moves or gets another permission keeps its frames. For the machine.
-use Rattle.xl_model_lemmas.proofs.Common.{◌&&◌, ◌+◌, ◌<◌, ◌∙◌, ◌≡◌, ◌≤◌, ap, arith, at_page, Bool, Change, changed, false, holds_frames, In, inl, inr, Insert, IsFree, IsFreeOf, IsMapping, IsNewPlace, IsPoolOf, IsSound, Leaf, leaf_key, leaf_named, length, List, list_any, marked, nat_lt, nat_tests, new_leaf, not, old_leaf, Order, pages_of, Perm, Protect, refl, Relocate, Remove, Row, slice_index_or, Some, subst, sym, true, with_leaf, with_perm, without_leaf, without_old, ℕ}
+-- A pool of frames through a change: a block is taken for a new leaf, or given back for one that
+-- goes.
+use Rattle.xl_model_lemmas.proofs.Common.{◌+◌, ◌<◌, ◌∙◌, ◌≡◌, ◌≤◌, any-false, any-In, ap, arith, Bool, Change, changed, false, holds_frames, In, In-any, inl, inr, Insert, IsFree, IsFreeOf, IsMapping, IsPoolOf, Leaf, leaf_key, leaf_named, length, List, list_any, marked, nat_lt, nat_tests, new_leaf, not, old_leaf, Order, pages_of, Protect, refl, Relocate, Remove, Row, slice_index_or, Some, subst, sym, true, with_leaf, without_leaf, without_old, ℕ}
 use Rattle.xl_frames.proofs.MarkLemmas.{length-marked, marked_above, marked_below, marked_inside}
-use Rattle.xl_model_lemmas.proofs.ChangeLemmas.{changed-In, stays-changed}
+use Rattle.xl_list_lemmas.proofs.SameLemmas.{none-any, same-tests}
 use Rattle.xl_model_lemmas.proofs.InsertionLemmas.{In-with, In-without, same-place, with-In, without-In, without-other}
 use Rattle.xl_model_lemmas.proofs.MappingLemmas.{named-In}
-use Rattle.xl_model_lemmas.proofs.MemberLemmas.{any-false, any-In, In-any}
 use Rattle.xl_model_lemmas.proofs.PoolLemmas.{no-leaf}
-use Rattle.xl_model_lemmas.proofs.SameLemmas.{none-any, same-tests}
 
 -- a block that is taken for a leaf
 taken-each : (leaf : Leaf) (leaves : List Leaf) (f : ℕ) → IsFreeOf (pages_of leaf.order) leaf.frame leaves → leaf.frame ≤ f → f < leaf.frame + pages_of leaf.order
@@ -91,11 +89,6 @@ pool-given frames at size leaves pool tie fits free =
               ] refl
         ] refl
 
--- tests that agree on all frames make one pool
-pool-same : (frames : ℕ) (xs ys : List Leaf) (pool : List Bool) → IsPoolOf frames xs pool → ((f : ℕ) → list_any (holds_frames f 1) ys ≡ list_any (holds_frames f 1) xs)
-    → IsPoolOf frames ys pool
-pool-same frames xs ys pool tie same = record { size = tie.size; each = λ f below. tie.each f below ∙ ap not (sym (same f)) }
-
 -- the old leaf of a change is one of the leaves
 pub old-In : (c : Change) (leaves : List Leaf) (old : Leaf) → old_leaf c leaves ≡ Some old → In old leaves
 old-In (Insert leaf) leaves old h = absurd (cc)
@@ -106,50 +99,6 @@ old-In (Relocate space first to o) leaves old h = named-In space first o old lea
 pub new-In : (c : Change) (leaves : List Leaf) (new : Leaf) → new_leaf c leaves ≡ Some new → In new (changed c leaves)
 unfolding changed
 new-In c leaves new h = rw h (In-with new (without_old (old_leaf c leaves) leaves))
-
--- a change that leaves a leaf its frames leaves the pool
-same-frames : (row : Row) (leaves : List Leaf) (c : Change) (old new : Leaf) (f : ℕ) → IsMapping row leaves → IsSound row leaves c
-    → old_leaf c leaves ≡ Some old → new_leaf c leaves ≡ Some new → new.order ≡ old.order → new.frame ≡ old.frame
-    → list_any (holds_frames f 1) (changed c leaves) ≡ list_any (holds_frames f 1) leaves
-same-frames row leaves c old new f m s is_old is_new order frame = same-tests _ _ before after
-  where
-    holds : holds_frames f 1 new ≡ holds_frames f 1 old
-    holds = ap (λ o. nat_lt new.frame (f + 1) && nat_lt f (new.frame + pages_of o)) order ∙ ap (λ n. nat_lt n (f + 1) && nat_lt f (n + pages_of old.order)) frame
-
-    before : list_any (holds_frames f 1) (changed c leaves) ≡ true → list_any (holds_frames f 1) leaves ≡ true
-    before t =
-        let x = any-In (holds_frames f 1) (changed c leaves) t in
-        elim (changed-In leaves c x.0 x.1) [
-          | inl y ↦
-              let same : y.0 ≡ new = (let e : Some y.0 ≡ Some new = sym y.1 ∙ is_new in cc) in
-              let P : Leaf → Type 0 = λ z. holds_frames f 1 z ≡ true in
-              In-any (holds_frames f 1) old leaves (old-In c leaves old is_old) (sym holds ∙ subst P (y.2 ∙ same) x.2)
-          | inr i ↦ In-any (holds_frames f 1) x.0 leaves i x.2
-        ]
-
-    other : (b : Bool) (x : Leaf) → holds_frames f 1 old ≡ b → In x leaves → holds_frames f 1 x ≡ true → list_any (holds_frames f 1) (changed c leaves) ≡ true
-    other true x h i t = In-any (holds_frames f 1) new (changed c leaves) (new-In c leaves new is_new) (holds ∙ h)
-    other false x h i t =
-        In-any (holds_frames f 1) x (changed c leaves) (stays-changed row leaves c x m s i (λ y e same.
-        let is : y ≡ old = (let q : Some y ≡ Some old = sym e ∙ is_old in cc) in
-        let P : Leaf → Type 0 = λ z. holds_frames f 1 z ≡ true in
-        let k : true ≡ false = sym (subst P (same ∙ is) t) ∙ h in
-        absurd (cc))) t
-
-    after : list_any (holds_frames f 1) leaves ≡ true → list_any (holds_frames f 1) (changed c leaves) ≡ true
-    after t = let x = any-In (holds_frames f 1) leaves t in other (holds_frames f 1 old) x.0 refl x.1 x.2
-
-pub pool-protected : (row : Row) (space first : ℕ) (o : Order) (perm : Perm) (leaves : List Leaf) (old : Leaf) (pool : List Bool) → IsMapping row leaves
-    → leaf_named space first o leaves ≡ Some old → IsPoolOf row.frames leaves pool → IsPoolOf row.frames (changed (Protect space first o perm) leaves) pool
-pool-protected row space first o perm leaves old pool m named tie =
-    pool-same row.frames leaves (changed (Protect space first o perm) leaves) pool tie
-    (λ f. same-frames row leaves (Protect space first o perm) old (record old { perm = perm }) f m tt named (ap (with_perm perm) named) refl refl)
-
-pub pool-relocated : (row : Row) (space first to : ℕ) (o : Order) (leaves : List Leaf) (old : Leaf) (pool : List Bool) → IsMapping row leaves → IsNewPlace row leaves space to o
-    → leaf_named space first o leaves ≡ Some old → IsPoolOf row.frames leaves pool → IsPoolOf row.frames (changed (Relocate space first to o) leaves) pool
-pool-relocated row space first to o leaves old pool m place named tie =
-    pool-same row.frames leaves (changed (Relocate space first to o) leaves) pool tie
-    (λ f. same-frames row leaves (Relocate space first to o) old (record old { first = to }) f m place named (ap (at_page to) named) refl refl)
 
 -- the block of a leaf that goes is free again
 removed-is : (space first : ℕ) (o : Order) (leaves : List Leaf) (old : Leaf) → leaf_named space first o leaves ≡ Some old

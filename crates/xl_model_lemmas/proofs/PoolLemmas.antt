@@ -1,7 +1,6 @@
 -- The lowest free block of a pool is the lowest block that no leaf holds. For the machine.
-use Rattle.xl_model_lemmas.proofs.Common.{◌*◌, ◌+◌, ◌<◌, ◌∙◌, ◌≡◌, ◌≤◌, ap, arith, Bool, false, HasNone, holds_frames, In, IsAnswer, IsFree, IsFreeOf, IsLowest, IsPoolOf, Leaf, length, List, list_any, lowest, nat_le, nat_tests, None, not, Option, Order, pages_of, refl, slice_index_or, Some, subst, sym, true, ℕ}
+use Rattle.xl_model_lemmas.proofs.Common.{◌*◌, ◌+◌, ◌<◌, ◌∙◌, ◌≡◌, ◌≤◌, any-In, ap, arith, Bool, false, HasNone, holds_frames, In, In-any, IsAnswer, IsFree, IsFreeOf, IsLowest, IsPoolOf, Leaf, length, List, list_any, lowest, nat_le, nat_tests, None, not, Option, Order, pages_of, refl, slice_index_or, Some, subst, sym, true, ℕ}
 use Rattle.xl_model_lemmas.proofs.LowestLemmas.{lowest-is-lowest}
-use Rattle.xl_model_lemmas.proofs.MemberLemmas.{any-In, In-any}
 use Rattle.xl_model_lemmas.proofs.OrderLemmas.{pages-some}
 
 -- a leaf that holds a frame of a block holds some frame of it

@@ -1,10 +1,7 @@
--- The keys of the sections that exist, and how many there are; the test of a section by its key. For the counts
--- of leaves by section, which the tables of chains and the cuckoo row keep.
-use Rattle.xl_model_lemmas.proofs.Common.{◌&&◌, ◌*◌, ◌+◌, ◌/◌, ◌<◌, ◌==◌, ◌^◌, ◌||◌, ◌∙◌, ◌∷◌, ◌≡◌, ◌≤◌, ◌⊎◌, [], ap, arith, Bool, cond, counts_at, counts_for, false, In, inl, inr, key_in, Leaf, leaf_key, length, level_of, List, list_any, nat_le, nat_tests, Once, Order, pages_of, refl, section_count, section_key, section_keys, subst, suc, sym, true, with_key, with_leaf, ℕ}
-use Rattle.xl_model_lemmas.proofs.InsertionLemmas.{In-with, stays-with, with-In}
-use Rattle.xl_model_lemmas.proofs.MemberLemmas.{any-false}
-use Rattle.xl_model_lemmas.proofs.OnceLemmas.{once-same}
-use Rattle.xl_model_lemmas.proofs.SameLemmas.{any-same}
+-- The keys of the sections that exist, and how many there are. For the counts of leaves by section,
+-- which the tables of chains and the cuckoo row keep.
+use Rattle.xl_model_lemmas.proofs.Common.{◌&&◌, ◌/◌, ◌<◌, ◌==◌, ◌^◌, ◌||◌, ◌∷◌, ◌≡◌, ◌⊎◌, [], any-false, arith, Bool, cond, counts_at, false, In, inl, inr, key_in, Leaf, length, level_of, List, list_any, nat_le, nat_tests, Once, Order, pages_of, refl, section_count, section_keys, subst, true, with_key, ℕ}
+use Rattle.xl_list_lemmas.proofs.OnceLemmas.{once-same}
 use Rattle.xl_model.specs.declared.address.Order.TheVariants as order
 
 -- a key put to a list of keys
@@ -40,9 +37,6 @@ put-once key keys o =
       | true ↦ λ t. o
       | false ↦ λ t. (λ i. let e : (key == key) ≡ false = any-false (λ n. n == key) key keys t i in grind (arith, nat_tests), o)
     ] refl
-
-put-short : (key : ℕ) (keys : List ℕ) → length (with_key key keys) ≤ suc (length keys)
-put-short key keys = elim (list_any (λ n. n == key) keys) as (λ b. length (cond b keys (key ∷ keys)) ≤ suc (length keys)) [ true ↦ omega arith | false ↦ omega arith ]
 
 -- the keys are those for which some leaf counts, each once
 pub keys-In : (size : Order) (key : ℕ) (xs : List Leaf) → In key (section_keys size xs) → list_any (counts_at size key) xs ≡ true
@@ -82,60 +76,14 @@ keys-once size (x ∷ xs) =
       | false ↦ keys-once size xs
     ]
 
--- no more sections than leaves
-pub count-short : (size : Order) (xs : List Leaf) → section_count size xs ≤ length xs
-count-short size [] = omega arith
-count-short size (x ∷ xs) =
-    let on = count-short size xs in
-    let put = put-short (key_in size x) (section_keys size xs) in
-    elim (nat_le (level_of x.order) (level_of size)) as (λ b. length (cond b (with_key (key_in size x) (section_keys size xs)) (section_keys size xs)) ≤ suc (length xs)) [
-      | true ↦ omega arith
-      | false ↦ omega arith
-    ]
-
 -- Keys that occur once and are those of the sections are as many as the sections.
 pub count-keys : (size : Order) (leaves : List Leaf) (keys : List ℕ) → Once keys → ((k : ℕ) → In k keys → list_any (counts_at size k) leaves ≡ true)
     → ((k : ℕ) → list_any (counts_at size k) leaves ≡ true → In k keys) → length keys ≡ section_count size leaves
 count-keys size leaves keys once there back =
     once-same keys (section_keys size leaves) once (keys-once size leaves) (λ k i. In-keys size k leaves (there k i)) (λ k i. back k (keys-In size k leaves i))
 
--- lists with the same leaves have as many sections
-pub count-same : (size : Order) (xs ys : List Leaf) → ((z : Leaf) → In z xs → In z ys) → ((z : Leaf) → In z ys → In z xs) → section_count size xs ≡ section_count size ys
-count-same size xs ys there back =
-    count-keys size ys (section_keys size xs) (keys-once size xs)
-    (λ k i. sym (any-same (counts_at size k) xs ys there back) ∙ keys-In size k xs i)
-    (λ k t. In-keys size k xs (any-same (counts_at size k) xs ys there back ∙ t))
-
--- a leaf more: its section is there, and may be new
-pub count-with : (size : Order) (x : Leaf) (xs : List Leaf) → ((z : Leaf) → In z xs → leaf_key z ≡ leaf_key x → ⊥) → section_count size (with_leaf x xs) ≡ section_count size (x ∷ xs)
-count-with size x xs apart =
-    count-same size (with_leaf x xs) (x ∷ xs)
-    (λ z i. elim (with-In z x xs i) [ inl e ↦ inl e | inr j ↦ inr j ])
-    (λ z i. elim i [
-      | inl e ↦ let P : Leaf → Type 0 = λ w. In w (with_leaf x xs) in subst P (sym e) (In-with x xs)
-      | inr j ↦ stays-with z x xs j (apart z j)
-    ])
-
 -- the definition's test of a section is that of its key
 pub small-block : (o : Order) (first : ℕ) → first < 2 ^ 45 → first / pages_of o < 2 ^ 45
 small-block order.K4 first h = omega arith
 small-block order.M2 first h = omega arith
 small-block order.G1 first h = omega arith
-
-pub counts-same : (size : Order) (space block : ℕ) (x : Leaf) → block < 2 ^ 45 → x.first < 2 ^ 45 → counts_for size space block x ≡ counts_at size (section_key space block) x
-counts-same size space block x a b =
-    moved (x.space == space) (nat_le (level_of x.order) (level_of size)) (x.first / pages_of size == block)
-    ∙ ap (λ t. nat_le (level_of x.order) (level_of size) && t) (plain space x.space block (x.first / pages_of size) a (small-block size x.first b))
-  where
-    plain : (s t m n : ℕ) → m < 2 ^ 45 → n < 2 ^ 45 → ((t == s) && (n == m)) ≡ (t * 2 ^ 45 + n == s * 2 ^ 45 + m)
-    plain s t m n h k =
-        elim (t == s) as (λ b. (t == s) ≡ b → (b && (n == m)) ≡ (t * 2 ^ 45 + n == s * 2 ^ 45 + m)) [
-          | true ↦ λ p. let e : t ≡ s = grind (arith, nat_tests) in grind (arith, nat_tests)
-          | false ↦ λ p. grind (arith, nat_tests)
-        ] refl
-
-    moved : (a b c : Bool) → (a && (b && c)) ≡ (b && (a && c))
-    moved true true c = refl
-    moved true false c = refl
-    moved false true c = refl
-    moved false false c = refl

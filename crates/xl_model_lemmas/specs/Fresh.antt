@@ -1,19 +1,12 @@
--- Nothing stale: what TLB arrays and walk caches hold is what the mapping and the shape have.
-use Rattle.std.specs.Prelude.{ℕ, ◌≡◌, ◌+◌, ◌-◌, ◌*◌, ◌⊎◌, ◌||◌, Bool, true, List, [], ◌∷◌, slice_index_or, Option, None, Some}
-use Rattle.xl_model.specs.declared.address.Order.{Order}
-use Rattle.xl_model.specs.declared.address.Order.TheVariants as order
-use Rattle.xl_model.specs.declared.leaf.Leaf.{Leaf}
-use Rattle.xl_model.specs.declared.leaf.Range.{Range}
-use Rattle.xl_model.specs.Addresses.{pages_of}
-use Rattle.xl_model.specs.Mapping.{covers}
-use Rattle.xl_model.specs.Nodes.{Node, is_needed}
-use Rattle.xl_model.specs.Ways.{WayShape}
+-- Nothing stale: what TLB arrays and cached sections hold is what the mapping and the shape have.
+use Rattle.std.specs.Prelude.{Bool, List, [], true, ◌||◌, ◌∷◌, ◌≡◌, ◌⊎◌}
+use Rattle.xl_list_lemmas.specs.Members.{In}
+use Rattle.xl_model.specs.Caches.{Cached}
 use Rattle.xl_model.specs.Sections.{Section, section_of}
-use Rattle.xl_model.specs.Ranges.{holds_page}
-use Rattle.xl_model.specs.Shapes.{Shape, Radix, Cuckoo, Runs}
-use Rattle.xl_model.specs.Caches.{Caches, NodeCaches, SectionCaches, RangeCache, Cached, Numbered}
 use Rattle.xl_model.specs.Tlb.{TlbArray}
-use Rattle.xl_model_lemmas.specs.Members.{In}
+use Rattle.xl_model.specs.Ways.{WayShape}
+use Rattle.xl_model.specs.declared.address.Order.{Order}
+use Rattle.xl_model.specs.declared.leaf.Leaf.{Leaf}
 
 -- a leaf is in one of the sets
 abbrev pub InSets : Leaf → List (List Leaf) → Type 0
@@ -29,23 +22,6 @@ Held leaf (a ∷ arrays) = InSets leaf a.sets ⊎ Held leaf arrays
 abbrev pub ArraysFresh : List TlbArray → List Leaf → Type 0
 ArraysFresh arrays leaves = (leaf : Leaf) → Held leaf arrays → In leaf leaves
 
--- a cached node is of its cache's level, the mapping needs it, and it has its number
-pub record TagFresh (levels level : ℕ) (leaves : List Leaf) (nodes : List (Option Node)) (e : Numbered) : Type 0 where
-  pub of_level : e.node.level ≡ level
-  pub needed : is_needed levels leaves e.node ≡ true
-  pub there : slice_index_or nodes e.number None ≡ Some e.node
-
--- the nodes cached for one level are fresh
-abbrev pub LevelFresh : ℕ → ℕ → List Leaf → List (Option Node) → Cached Numbered → Type 0
-LevelFresh levels level leaves nodes c =
-    (e : Numbered) → In e c.items → TagFresh levels level leaves nodes e
-
--- the caches of this level and of those above it are fresh
-abbrev pub TagsFresh : ℕ → ℕ → List Leaf → List (Option Node) → List (Cached Numbered) → Type 0
-TagsFresh levels level leaves nodes [] = Unit {0}
-TagsFresh levels level leaves nodes (c ∷ cs) =
-    LevelFresh levels level leaves nodes c × TagsFresh levels (level + 1) leaves nodes cs
-
 -- a section in which some leaf lies
 abbrev pub has_leaves : Section → Bool
 has_leaves s = s.has_k4 || (s.has_m2 || s.has_g1)
@@ -59,31 +35,3 @@ pub record SectionFresh (size : Order) (leaves : List Leaf) (ways : List WayShap
 -- each section of a cache is fresh
 abbrev pub SectionsFresh : Order → List Leaf → List WayShape → Cached Section → Type 0
 SectionsFresh size leaves ways c = (s : Section) → In s c.items → SectionFresh size leaves ways s
-
--- a page of a range is covered by a leaf of the range's order and permission, with the frame that
--- the range says
-pub record PageCovered (leaves : List Leaf) (r : Range) (page : ℕ) : Type 0 where
-  pub leaf : Leaf
-  pub member : In leaf leaves
-  pub covers_page : covers r.space page leaf ≡ true
-  pub same_order : leaf.order ≡ r.order
-  pub same_perm : leaf.perm ≡ r.perm
-  pub same_frame : leaf.frame + (page - leaf.first) ≡ r.frame + (page - r.start)
-
--- a cached range is aligned as its leaves are, and each of its pages is covered
-pub record RangeFresh (leaves : List Leaf) (r : Range) : Type 0 where
-  pub aligned : (e : ℕ) × (r.start ≡ e * pages_of r.order)
-  pub covered : (page : ℕ) → holds_page r.space page r ≡ true → PageCovered leaves r page
-
--- each range of a cache is fresh
-abbrev pub RangesFresh : List Leaf → Cached Range → Type 0
-RangesFresh leaves c = (r : Range) → In r c.items → RangeFresh leaves r
-
--- the walk caches of a table are fresh, each kind in its own way; a hashed or clustered table has
--- none
-abbrev pub CachesFresh : Shape → Caches → List Leaf → Type 0
-CachesFresh (Radix levels spaces nodes) (NodeCaches cs) leaves = TagsFresh levels 0 leaves nodes cs
-CachesFresh (Cuckoo rules ways) (SectionCaches m2 g1) leaves =
-    SectionsFresh order.M2 leaves ways.m2 m2 × SectionsFresh order.G1 leaves ways.g1 g1
-CachesFresh (Runs limit) (RangeCache c) leaves = RangesFresh leaves c
-CachesFresh shape kept leaves = Unit {0}

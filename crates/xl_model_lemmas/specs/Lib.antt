@@ -1,5 +1,3 @@
-pub mod Members
-pub mod Buckets
 pub mod Lowest
 pub mod Mappings
 pub mod Kept
@@ -8,4 +6,4 @@ pub mod Entries
 pub mod Limits
 pub mod Pools
 pub mod Fresh
-pub mod Scenes
+pub mod Sorted

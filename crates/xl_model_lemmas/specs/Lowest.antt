@@ -1,8 +1,8 @@
 -- The lowest free block, as a sentence.
-use Rattle.std.specs.Prelude.{ℕ, ◌≡◌, ◌+◌, ◌*◌, ◌≤◌, false, List, Option, None, Some}
-use Rattle.xl_model.specs.declared.leaf.Leaf.{Leaf}
+use Rattle.std.specs.Prelude.{List, None, Option, Some, false, ℕ, ◌*◌, ◌+◌, ◌≡◌, ◌≤◌}
+use Rattle.xl_list_lemmas.specs.Members.{In}
 use Rattle.xl_model.specs.Mapping.{holds_frames}
-use Rattle.xl_model_lemmas.specs.Members.{In}
+use Rattle.xl_model.specs.declared.leaf.Leaf.{Leaf}
 
 -- no leaf holds a frame of the block
 abbrev pub IsFree : ℕ → ℕ → List Leaf → Type 0

@@ -1,14 +1,15 @@
 -- What holds of every mapping: its leaves are valid for the row and sorted, no two of one space
 -- cover a page, and no two of any spaces hold a frame.
-use Rattle.std.specs.Prelude.{ℕ, ◌≡◌, ◌+◌, ◌*◌, ◌^◌, ◌<◌, ◌≤◌, true, false, List}
+use Rattle.std.specs.Prelude.{List, false, true, ℕ, ◌*◌, ◌+◌, ◌<◌, ◌^◌, ◌≡◌, ◌≤◌}
+use Rattle.xl_list_lemmas.specs.Members.{In}
+use Rattle.xl_model.specs.Addresses.{levels_of, pages_of}
+use Rattle.xl_model.specs.Changes.{Change, Insert, Protect, Relocate, Remove}
+use Rattle.xl_model.specs.Mapping.{covers, holds_frames, meets_any}
+use Rattle.xl_model.specs.Rows.{Row}
 use Rattle.xl_model.specs.declared.address.Order.{Order}
 use Rattle.xl_model.specs.declared.leaf.Leaf.{Leaf}
-use Rattle.xl_model.specs.Addresses.{levels_of, pages_of}
-use Rattle.xl_model.specs.Mapping.{covers, holds_frames, meets_any}
-use Rattle.xl_model.specs.Changes.{Change, Insert, Remove, Protect, Relocate}
-use Rattle.xl_model.specs.Rows.{Row}
 use Rattle.xl_model_lemmas.specs.Lowest.{IsFree}
-use Rattle.xl_model_lemmas.specs.Members.{In, IsSorted}
+use Rattle.xl_model_lemmas.specs.Sorted.{IsSorted}
 
 -- a leaf that is at its own places in the row's pages and frames; its permission is legal by its
 -- type

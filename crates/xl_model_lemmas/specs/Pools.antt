@@ -1,8 +1,8 @@
 -- Pools of data frames beside a mapping.
-use Rattle.std.specs.Prelude.{ℕ, ◌≡◌, ◌<◌, Bool, false, not, List, length, slice_index_or}
 use Rattle.std.specs.List.{list_any}
-use Rattle.xl_model.specs.declared.leaf.Leaf.{Leaf}
+use Rattle.std.specs.Prelude.{Bool, List, false, length, not, slice_index_or, ℕ, ◌<◌, ◌≡◌}
 use Rattle.xl_model.specs.Mapping.{holds_frames}
+use Rattle.xl_model.specs.declared.leaf.Leaf.{Leaf}
 
 -- a pool of `frames` frames, in which a frame is free where no leaf holds it
 pub record IsPoolOf (frames : ℕ) (leaves : List Leaf) (pool : List Bool) : Type 0 where

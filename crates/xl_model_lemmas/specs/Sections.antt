@@ -1,18 +1,12 @@
--- Leaves counted by a test, and the sections in which leaves lie.
-use Rattle.std.specs.Prelude.{ℕ, ◌+◌, ◌*◌, ◌/◌, ◌≡◌, ◌==◌, Bool, ◌&&◌, nat_le, List, [], ◌∷◌, ◌++◌}
+-- The sections in which leaves lie, and the entries of cuckoo ways.
+use Rattle.std.specs.Prelude.{Bool, List, [], nat_le, ℕ, ◌&&◌, ◌*◌, ◌++◌, ◌+◌, ◌/◌, ◌==◌, ◌∷◌, ◌≡◌}
+use Rattle.xl_model.specs.Addresses.{level_of, pages_of, same_order}
+use Rattle.xl_model.specs.Sections.{section_key}
+use Rattle.xl_model.specs.Ways.{WayShape}
 use Rattle.xl_model.specs.declared.address.Order.{Order}
 use Rattle.xl_model.specs.declared.leaf.Leaf.{Leaf}
 use Rattle.xl_model.specs.declared.way.Entry.{Entry}
-use Rattle.xl_model.specs.Addresses.{level_of, pages_of, same_order}
-use Rattle.xl_model.specs.Base.{one_if}
-use Rattle.xl_model.specs.Sections.{section_key}
-use Rattle.xl_model.specs.Ways.{WayShape}
 use Rattle.xl_model_lemmas.specs.Kept.{IsPlaced}
-
--- how many members of a list pass a test
-abbrev pub tally : {A : Type 0} → (A → Bool) → List A → ℕ
-tally p [] = 0
-tally p (x ∷ xs) = one_if (p x) + tally p xs
 
 -- the key of the section of this size in which a leaf begins
 abbrev pub key_in : Order → Leaf → ℕ

@@ -2,3 +2,9 @@ mod Common
 mod ScanLemmas
 mod TableLemmas
 mod MoveLemmas
+mod FrontLemmas
+mod GivenLemmas
+mod KeptLemmas
+mod ReadLemmas
+mod TagLemmas
+mod WithoutLemmas

@@ -1,14 +1,10 @@
 -- The result of a move, for a table of chains that keeps one leaf for each entry.
-use Rattle.xl_model_table.proofs.Common.{◌<◌, ◌∙◌, ◌≡◌, ◌≤◌, ap, arith, at_page, Chained, Change, changed, Err, false, find, has_room, in_front, Insert, is_leaf, IsBlock, IsChange, IsKept, IsNamed, IsNew, IsPlaced, kept-front, Leaf, leaf_named, leaf_tag, length, List, map, mapping-front, mapping-without, mapping_of, meets_any, Named, named-mapping, named-same, narrowed, nat_le, nat_lt, nat_tests, new-key, None, Ok, only_used_tags, Order, refl, Refused, Relocate, Remove, Result, room_for, shape_after, Some, stays-front, subst, sym, table_after, table_answer, table_of, TableState, true, used-without, widened, with-tag, with_leaf, with_tag, without_leaf, without_named, Work, ℕ}
-use Rattle.std.specs.Prelude.{is_some}
-use Rattle.xl_model_lemmas.proofs.KeptLemmas.{mapping-In, mapping-sorted}
-use Rattle.xl_model_lemmas.proofs.MappingLemmas.{named-In, named-is}
-use Rattle.xl_model_lemmas.proofs.MemberLemmas.{find-only}
-use Rattle.xl_model_lemmas.proofs.PlaceLemmas.{named-order, named-space}
-use Rattle.xl_model_lemmas.proofs.SameLemmas.{both}
-use Rattle.xl_model_lemmas.proofs.SortedLemmas.{with-without}
-use Rattle.xl_model_lemmas.specs.Members.{In}
+use Rattle.xl_model_table.proofs.Common.{◌<◌, ◌∙◌, ◌≡◌, ◌≤◌, ap, arith, at_page, both, Chained, Change, changed, Err, false, find, find-only, has_room, In, in_front, Insert, is_leaf, is_some, IsBlock, IsChange, IsKept, IsNamed, IsPlaced, Leaf, leaf_named, leaf_tag, length, List, map, mapping-In, mapping-sorted, mapping_of, meets_any, named-In, named-is, named-order, named-space, narrowed, nat_le, nat_lt, nat_tests, None, Ok, only_used_tags, Order, refl, Refused, Relocate, Remove, Result, room_for, shape_after, Some, subst, sym, table_after, table_answer, table_of, TableState, true, widened, with-without, with_leaf, with_tag, without_leaf, without_named, Work, ℕ}
+use Rattle.xl_model_table.proofs.FrontLemmas.{IsNew, kept-front, mapping-front, new-key, stays-front}
+use Rattle.xl_model_table.proofs.ReadLemmas.{Named, named-mapping}
 use Rattle.xl_model_table.proofs.TableLemmas.{coming, done, full, has-room, inserted, IsComing, made, no-room, not-inserted, refused, removed}
+use Rattle.xl_model_table.proofs.TagLemmas.{used-without, with-tag}
+use Rattle.xl_model_table.proofs.WithoutLemmas.{mapping-without, named-same}
 
 -- A leaf that moves: put at its new place, then taken out at its old one.
 pub record IsMoving (s f to : ℕ) (o : Order) (old : Leaf) (xs : List Leaf) : Type 0 where

@@ -1,7 +1,6 @@
 -- Loops over the kept leaves, one leaf at a step.
-use Rattle.xl_model_table.proofs.Common.{◌++◌, ◌+◌, ◌<◌, ◌∙◌, ◌∷◌, ◌≡◌, ◌≤◌, [], add-one, ap, append_assoc, arith, Bool, bucket_of, chain_of, drop, examined, false, find, get_or, in_front, Leaf, leaf_tag, length, List, map, nat_lt, nat_tests, refl, Some, suc, sym, take, take_more, true, ℕ}
+use Rattle.xl_model_table.proofs.Common.{◌++◌, ◌+◌, ◌<◌, ◌∙◌, ◌∷◌, ◌≡◌, ◌≤◌, [], add-one, ap, append_assoc, arith, Bool, bucket_of, chain_of, drop, eq-eqb, examined, false, find, get_or, in_front, Leaf, leaf_tag, length, List, map, nat_lt, nat_tests, ne_eqb, refl, Some, suc, sym, take, take_more, true, ℕ}
 use Rattle.std.proofs.Math.Seq.{drop-cons}
-use Rattle.std.proofs.lemmas.Bool.{eq-eqb, ne_eqb}
 
 pub drop-at : {A : Type 0} (xs : List A) (i : ℕ) (x : A) → i < length xs → x ≡ get_or xs i x → drop i xs ≡ x ∷ drop (i + 1) xs
 drop-at xs i x h e = rw add-one (drop-cons xs i x h ∙ ap (λ y. y ∷ drop (suc i) xs) (sym e))

@@ -1,12 +1,16 @@
 -- The result of each change but a move, for a table of chains that keeps one leaf for each entry.
-use Rattle.xl_model_table.proofs.Common.{◌+◌, ◌<◌, ◌^◌, ◌∙◌, ◌≡◌, ◌≤◌, after_by, all-used, answer_by, ap, arith, brought, Chained, chains_reads, Change, changed, Err, false, fence_answer, finds_place, has_room, in_front, Insert, is-new, IsBlock, IsChange, IsFence, IsKept, IsNamed, IsNew, IsPlaced, IsWalk, kept-front, Leaf, leaf_at_page, leaf_tag, length, length-front, length-tags, List, Made, map, mapping-front, mapping-protected, mapping-without, mapping_of, meets_any, moves_made, Named, named-of, nat_le, nat_tests, None, Ok, only_used_tags, Option, Order, orders_tried, Protect, refl, Refused, Remove, Result, shape_after, Some, subst, suc, sym, table_after, table_answer, table_fenced, table_made, table_of, table_walked, TableState, true, used-protected, used-without, verdict, verdict_by, walk_answer, walked, with-tag, with_leaf, with_perm_named, with_tag, without_named, Work, work_of, ℕ}
+use Rattle.xl_model_table.proofs.Common.{◌+◌, ◌<◌, ◌^◌, ◌∙◌, ◌≡◌, ◌≤◌, after_by, answer_by, ap, arith, brought, Chained, chains_reads, Change, changed, Err, false, fence_answer, finds_place, has_room, in_front, Insert, IsBlock, IsChange, IsFence, IsKept, IsNamed, IsPlaced, IsWalk, Leaf, leaf_at_page, leaf_tag, length, List, Made, map, mapping_of, meets_any, moves_made, nat_le, nat_tests, None, Ok, only_used_tags, Option, Order, orders_tried, Perm, Protect, refl, Refused, Remove, Result, shape_after, Some, subst, suc, sym, table_after, table_answer, table_fenced, table_made, table_of, table_walked, TableState, true, verdict, verdict_by, walk_answer, walked, with_leaf, with_perm_named, with_tag, without_named, Work, work_of, ℕ}
 use Rattle.xl_model.specs.Addresses.{pages_of}
 use Rattle.xl_model.specs.Base.{plus}
 use Rattle.xl_model.specs.Caches.{caches_fenced, caches_purged, NoCaches}
 use Rattle.xl_model.specs.Placing.{no_moves}
 use Rattle.xl_model.specs.declared.event.Reach.{Reach}
-use Rattle.xl_model.specs.declared.perm.Perm.{Perm}
 use Rattle.xl_model.specs.declared.work.Walk.{Walk}
+use Rattle.xl_model_table.proofs.FrontLemmas.{IsNew, kept-front, length-front, mapping-front}
+use Rattle.xl_model_table.proofs.GivenLemmas.{mapping-protected}
+use Rattle.xl_model_table.proofs.ReadLemmas.{is-new, Named, named-of}
+use Rattle.xl_model_table.proofs.TagLemmas.{all-used, length-tags, used-protected, used-without, with-tag}
+use Rattle.xl_model_table.proofs.WithoutLemmas.{mapping-without}
 use Rattle.xl_model.specs.declared.address.Order.TheVariants as order
 use Rattle.xl_model.specs.declared.work.NoRoom.TheVariants as why
 

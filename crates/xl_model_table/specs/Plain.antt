@@ -5,7 +5,7 @@ use Rattle.std.specs.Vec.{vec_items, vec_len, vec_capacity}
 use Rattle.xl_model.specs.declared.leaf.Leaf.{Leaf}
 use Rattle.xl_model.specs.Chains.{leaf_tag, bucket_of, chain_of, examined}
 use Rattle.xl_model.specs.Walks.{chains_reads, orders_tried}
-use Rattle.xl_model_lemmas.specs.Kept.{IsKept}
+use Rattle.xl_model_table.specs.Kept.{IsKept}
 
 -- The leaves are kept ones, no more than the entries, and there is room for as many as the entries.
 pub record IsPlain {Z : Type 0} (leaves : Vec Leaf Z) (buckets entries : ℕ) : Type 0 where

@@ -8,7 +8,8 @@ ghost use Rattle.xl_model.specs.Mapping.{covers as is_covering, meets_block, is_
 ghost use Rattle.xl_model.specs.Chains.{tag_of as order_tag, leaf_tag as tag_of_leaf, bucket_of as tag_bucket, chain_of, examined};
 ghost use Rattle.xl_model.specs.Walks.{orders_tried, orders_up_to};
 ghost use Rattle.xl_model_table.specs.Plain.{search_loads, walk_loads as loads_of_walk};
-ghost use Rattle.xl_model_lemmas.specs.Kept.{IsPlaced, in_front, without_named, protected_where, with_perm_named};
+ghost use Rattle.xl_model_lemmas.specs.Kept.{IsPlaced};
+ghost use Rattle.xl_model_table.specs.Kept.{in_front, without_named, protected_where, with_perm_named};
 
 use xl_model::{Leaf, Order, Perm, mix};
 

@@ -4,7 +4,7 @@ ghost use Rattle.std.specs.Prelude.{◌≡◌, ◌≤◌, ◌^◌, false, [], If
 ghost use Rattle.xl_model.specs.Mapping.{meets_any};
 ghost use Rattle.xl_model.specs.Changes.{Insert};
 ghost use Rattle.xl_model.specs.Structures.{IsBlock, IsChange};
-ghost use Rattle.xl_model_lemmas.specs.Kept.{table_of};
+ghost use Rattle.xl_model_table.specs.Kept.{table_of};
 
 use crate::kept::{any_meets, covering, give_perm, named, place_of, take_out, walk_loads};
 use std::alloc::Global;
@@ -26,7 +26,7 @@ impl Model for ListTable {
 
     ghost Value = { TableState };
 
-    ghost use Rattle.xl_model_lemmas.specs.Kept.{table_of};
+    ghost use Rattle.xl_model_table.specs.Kept.{table_of};
     ghost use Rattle.xl_model_table.specs.Plain.{IsPlain};
 
     ghost view = { λ p. table_of p.buckets p.entries p.loads p.leaves.items };

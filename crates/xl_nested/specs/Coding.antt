@@ -7,7 +7,7 @@ use Rattle.xl_model.specs.declared.leaf.Leaf.{Leaf}
 use Rattle.xl_model.specs.Addresses.{allows, level_of, order_at, pages_of}
 use Rattle.xl_model.specs.Caches.{Cached}
 use Rattle.xl_model.specs.LeafWords.{perm_at}
-use Rattle.xl_model_lemmas.specs.Members.{In}
+use Rattle.xl_list_lemmas.specs.Members.{In}
 use Rattle.xl_nested_model.specs.Stages.{host_page, host_space}
 use Rattle.xl_recency.specs.declared.item.Item.{Item}
 use Rattle.xl_nested.specs.declared.g_cache.Held.{Held}

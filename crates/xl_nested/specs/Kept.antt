@@ -12,7 +12,7 @@ use Rattle.xl_model.specs.Shapes.{Radix}
 use Rattle.xl_nested_model.specs.Stages.{Stage, Host, nodes_in}
 use Rattle.xl_model.specs.Structures.{spaces_of, page_limit}
 use Rattle.xl_model_lemmas.specs.Mappings.{IsMapping}
-use Rattle.xl_model_lemmas.specs.Members.{In}
+use Rattle.xl_list_lemmas.specs.Members.{In}
 use Rattle.xl_model_lemmas.specs.Pools.{IsPoolOf}
 use Rattle.xl_radix.specs.Table.{Table}
 

@@ -6,7 +6,7 @@ use Rattle.xl_model.specs.declared.address.Mode.TheVariants as mode
 use Rattle.xl_model.specs.declared.leaf.Leaf.{Leaf}
 use Rattle.xl_model.specs.Addresses.{page_of, pages_of}
 use Rattle.xl_model.specs.Mapping.{flat}
-use Rattle.xl_model_lemmas.specs.Members.{In}
+use Rattle.xl_list_lemmas.specs.Members.{In}
 use Rattle.xl_nested_model.specs.declared.nest.NestEvent.{NestEvent}
 use Rattle.xl_nested_model.specs.declared.nest.NestEvent.TheVariants as event
 use Rattle.xl_nested_model.specs.declared.nest.NestOutcome.{NestOutcome}

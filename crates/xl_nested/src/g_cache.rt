@@ -11,7 +11,7 @@ ghost use Rattle.xl_nested_model.specs.Stages.{covers_guest, host_page, host_spa
 ghost use Rattle.xl_recency.specs.declared.item.Item.{Item};
 ghost use Rattle.xl_recency.specs.Lists.{Fills, Purges, Touches};
 ghost use Rattle.xl_recency.specs.Widths.{IsWidth};
-ghost use Rattle.xl_model_lemmas.specs.Members.{In};
+ghost use Rattle.xl_list_lemmas.specs.Members.{In};
 ghost use Rattle.xl_nested.specs.Coding.{has_tag, is_among, leaf_of, tag_of as number_of, IsHeld, IsKeepable};
 ghost use Rattle.xl_nested.specs.Commands.{IsPlace};
 ghost use Rattle.xl_nested.specs.Fronts.{IsBlockOf, IsFoundBlock, IsSmallBlock};

@@ -1,7 +1,8 @@
 -- Accesses that are served by one row after another.
-use Rattle.xl_rack.proofs.Common.{◌++◌, ◌∙◌, ◌∷◌, ◌≡◌, [], Access, access_served, accessed_by, after_of, All, All-append, All-cons, All-drop, All-take, ap, Area, area_for, arith, Command, demand_served, demanded, drop, EachServed, Event, form_named, IsFramed, IsNamed, Kind, List, map, map-append, map-id, None, Option, refl, Reply, reply_to, row_served, rows_after, scene-append, scene_after, scene_of, scenes_after, Served, served_of, Slot, slot_form, Some, state_after, subst, suc, sym, take, take-append-drop, batch_served, wanted, ℕ}
+use Rattle.xl_rack.proofs.Common.{◌++◌, ◌∙◌, ◌∷◌, ◌≡◌, [], Access, access_served, accessed_by, after_of, All, All-append, All-cons, All-drop, All-take, ap, Area, area_for, arith, batch_served, Command, demand_served, demanded, drop, EachServed, Event, form_named, IsFramed, IsNamed, Kind, List, map, map-append, map-id, None, Option, refl, Reply, reply_to, row_served, rows_after, scene_after, scene_of, scenes_after, Served, served_of, Slot, slot_form, Some, state_after, subst, suc, sym, take, take-append-drop, wanted, ℕ}
 use Rattle.std.proofs.Math.Path.{fun_ext}
 use Rattle.std.proofs.lemmas.Simd.{map-map}
+use Rattle.xl_model_lemmas.proofs.SceneLemmas.{scene-append}
 use Rattle.xl_serving.specs.Batches.{item_of, items_batched}
 use Rattle.xl_serving.specs.declared.batch.BatchedEvent.{BatchedEvent}
 use Rattle.xl_rack.proofs.DemandLemmas.{access-space, referenced-is}

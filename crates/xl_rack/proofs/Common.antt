@@ -19,7 +19,7 @@ pub use Rattle.xl_model.specs.Report.{image_lines, images_lines, row_lines, word
 pub use Rattle.xl_model.specs.RowRun.{looked_by, looked_where, outcome_of, reply_to, RowState, walk_filled, walk_made}
 unfoldable pub use Rattle.xl_model.specs.RowRun.{accessed, after_event, served as done, looked, opening}
 pub use Rattle.xl_model.specs.Rows.{Row, row_of}
-pub use Rattle.xl_model.specs.Scenes.{access_line, demand_lines, event_line, rows_after, rows_lines, scenes_after, second_line, Served, served_after, printed_by}
+pub use Rattle.xl_model.specs.Scenes.{access_line, demand_lines, event_line, printed_by, rows_after, rows_lines, scenes_after, second_line, Served, served_after}
 unfoldable pub use Rattle.xl_model.specs.Scenes.{item_lines, scene_after}
 unfoldable pub use Rattle.xl_model.specs.Shapes.{opening_shape}
 pub use Rattle.xl_model.specs.declared.address.Kind.{Kind}
@@ -30,7 +30,6 @@ pub use Rattle.xl_model.specs.declared.row.Counts.{Counts}
 pub use Rattle.xl_model.specs.declared.script.Area.{Area}
 pub use Rattle.xl_model.specs.declared.script.Item.{Item}
 pub use Rattle.xl_model.specs.declared.script.Item.TheVariants.{Command, Declared, Referenced}
-pub use Rattle.xl_model_lemmas.proofs.SceneLemmas.{lines-append, scene-append}
 pub use Rattle.xl_outside.proofs.SinkLemmas.{sink_cut, sink_same, sink_then}
 pub use Rattle.xl_outside.specs.Sinks.{SinkAfter, SinkMeaning}
 pub use Rattle.xl_report.proofs.JsonLemmas.{pushed, rows-plain}
@@ -38,7 +37,7 @@ pub use Rattle.xl_report.specs.Json.{row_object, row_objects}
 pub use Rattle.xl_serving.specs.Serving.{HasServed, scene_of, SceneAfter}
 pub use Rattle.xl_tagged.specs.Forms.{One, Sixteen}
 pub use Rattle.xl_tagged.specs.Slots.{chained}
-pub use Rattle.xl_rack.specs.Batches.{access_served, demand_served, row_served, batch_served}
+pub use Rattle.xl_rack.specs.Batches.{access_served, batch_served, demand_served, row_served}
 pub use Rattle.xl_rack.specs.Beside.{curve_served, curve_stepped, each_curve}
 pub use Rattle.xl_rack.specs.Forms.{form_named, IsCuckoo, served_following}
 pub use Rattle.xl_rack.specs.Lines.{line_where}

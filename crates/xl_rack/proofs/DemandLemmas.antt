@@ -7,7 +7,7 @@ use Rattle.xl_model.specs.Tlb.{Answer, answer_of}
 use Rattle.xl_model.specs.declared.event.Outcome.{Outcome}
 use Rattle.xl_model.specs.declared.row.Row.{Row as RowFields}
 use Rattle.xl_rack.proofs.PlaceLemmas.{get-at_place, some-of}
-use Rattle.xl_rack.proofs.ServedAtLemmas.{as-at, cut-at, none-at, then-at, known-at}
+use Rattle.xl_rack.proofs.ServedAtLemmas.{as-at, cut-at, known-at, none-at, then-at}
 use Rattle.xl_rack.specs.Demands.{again_after, demand_after}
 use Rattle.xl_model.specs.declared.event.Event.TheVariants as event
 use Rattle.xl_model.specs.declared.event.Outcome.TheVariants as outcome

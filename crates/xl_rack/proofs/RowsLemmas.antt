@@ -1,7 +1,13 @@
 -- Row after row.
-use Rattle.xl_rack.proofs.Common.{◌++◌, ◌+◌, ◌<◌, ◌∙◌, ◌∷◌, ◌≡◌, ◌≤◌, [], ap, append-nil, append_assoc, Area, areas_after, arith, at_place, Bool, Counts, drop, drop_all, false, HasServed, IfSome, Item, item_lines, length, line_where, lines-append, List, refl, Row, row_line, row_lines, rows_after, rows_lines, scene_after, scene_of, SceneAfter, Served, served_after, ServedAt, sink_cut, sink_then, SinkAfter, SinkMeaning, slice_get, Some, subst, suc, sym, take, take-append-drop, take_all, printed_by, true, zero, ℕ}
+use Rattle.xl_rack.proofs.Common.{◌++◌, ◌+◌, ◌<◌, ◌∙◌, ◌∷◌, ◌≡◌, ◌≤◌, [], ap, append-nil, append_assoc, Area, areas_after, arith, at_place, Bool, Counts, drop, drop_all, false, HasServed, IfSome, Item, item_lines, length, line_where, List, printed_by, refl, Row, row_line, row_lines, rows_after, rows_lines, scene_after, scene_of, SceneAfter, Served, served_after, ServedAt, sink_cut, sink_then, SinkAfter, SinkMeaning, slice_get, Some, subst, suc, sym, take, take-append-drop, take_all, true, zero, ℕ}
 use Rattle.xl_rack.proofs.LineLemmas.{lines-cut, lines-none, lines-then}
 use Rattle.xl_rack.proofs.PlaceLemmas.{some-of}
+
+pub lines-append : (item : Item) (areas : List Area) (xs ys : List Served) → rows_lines item areas (xs ++ ys) ≡ rows_lines item areas xs ++ rows_lines item areas ys
+lines-append item areas [] ys = refl
+lines-append item areas (x ∷ xs) ys =
+    ap (λ t. item_lines item areas x.row x.state ++ t) (lines-append item areas xs ys)
+    ∙ sym (append_assoc (item_lines item areas x.row x.state) (rows_lines item areas xs) (rows_lines item areas ys))
 
 -- the first rows were served
 abbrev pub partly : Item → List Area → List Served → ℕ → List Served

@@ -8,6 +8,8 @@ pub use Rattle.std.proofs.lemmas.List.{get_or-drop, get_or-replicate, get_or-set
 pub use Rattle.std.proofs.lemmas.Option.{same_Some}
 pub use Rattle.std.specs.List.{filter, find, list_any, position, position_from}
 pub use Rattle.std.specs.Prelude.{IfNone, IfSome, is_none, is_some}
+pub use Rattle.xl_list_lemmas.proofs.MemberLemmas.{any-false, any-In, find-In, find-None, find-only, find-passes, In-any}
+pub use Rattle.xl_list_lemmas.specs.Members.{In}
 pub use Rattle.xl_model.specs.Addresses.{level_of, pages_of}
 pub use Rattle.xl_model.specs.Changes.{Insert, IsNamed, Protect, Relocate, Remove, with_new, without_old}
 unfoldable pub use Rattle.xl_model.specs.Changes.{changed}
@@ -25,18 +27,16 @@ pub use Rattle.xl_model.specs.Walks.{end_level}
 unfoldable pub use Rattle.xl_model.specs.Words.{leaf_word, pointer_word}
 pub use Rattle.xl_model.specs.declared.address.Order.{Order}
 pub use Rattle.xl_model.specs.declared.leaf.Leaf.{Leaf}
-pub use Rattle.xl_model_lemmas.proofs.EndLemmas.{end-is, up-from}
+pub use Rattle.xl_model_lemmas.proofs.EndLemmas.{up-from}
 pub use Rattle.xl_model_lemmas.proofs.InsertionLemmas.{In-with, In-without, same-place, sorted-with, sorted-without, stays-with, with-In, without-In, without-other}
 pub use Rattle.xl_model_lemmas.proofs.MappingLemmas.{named-In, named-is}
-pub use Rattle.xl_model_lemmas.proofs.MemberLemmas.{any-false, any-In, find-In, find-None, find-only, find-passes, In-any}
 pub use Rattle.xl_model_lemmas.proofs.OrderLemmas.{level-low, order-same, pages-some}
 pub use Rattle.xl_model_lemmas.proofs.PlaceLemmas.{aligned-frame, named-first, named-order, named-space}
 pub use Rattle.xl_model_lemmas.proofs.SortedLemmas.{same-sorted, with-without}
-pub use Rattle.xl_model_lemmas.specs.Members.{In, IsSorted}
 unfoldable pub use Rattle.xl_pte.specs.Decode.{decode_of}
 pub use Rattle.xl_pte.specs.declared.word.Pte.{Pte}
 pub use Rattle.xl_radix.specs.ReadBack.{leaf_by, leaf_said, order_of, read_to}
 unfoldable pub use Rattle.xl_radix.specs.ReadBack.{leaf_here, read_back}
-pub use Rattle.xl_radix.specs.Steps.{IsEnd, IsLess, IsMade, IsMove, IsReady, IsTaken, shape_of, IsAtNode}
+pub use Rattle.xl_radix.specs.Steps.{IsAtNode, IsEnd, IsLess, IsMade, IsMove, IsReady, IsTaken, shape_of}
 pub use Rattle.xl_radix.specs.Table.{IsCounted, IsExact, IsImage, IsNearly, IsNew, IsRadixLeaf, IsRadixMapping, IsRooted, IsStore, one_if_filled, Table}
 unfoldable pub use Rattle.xl_radix.specs.Table.{filled}

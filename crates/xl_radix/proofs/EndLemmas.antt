@@ -1,10 +1,32 @@
 -- Where a walk stops, and what it says of the mapping.
-use Rattle.xl_radix.proofs.Common.{◌*◌, ◌<◌, ◌∙◌, ◌≡◌, ◌≤◌, ◌⊎◌, ap, arith, cases_lt, covers, entry, false, find-only, In, In-any, inl, inr, IsEnd, IsExact, IsImage, IsRadixMapping, IsStore, Leaf, leaf_at_page, leaf_in, leaf_word, level-low, level_of, List, list_any, meets_any, meets_block, Node, None, number_of, Option, Order, pages_of, pointer_word, refl, Some, IsAtNode, subst, suc, sym, true, up, up-from, word_at, ℕ}
+use Rattle.xl_radix.proofs.Common.{◌*◌, ◌+◌, ◌-◌, ◌<◌, ◌∙◌, ◌≡◌, ◌≤◌, ◌⊎◌, ap, arith, cases_lt, cond, covers, end_level, entry, false, find-only, In, In-any, in_nodes, inl, inr, IsAtNode, IsEnd, IsExact, IsImage, IsRadixMapping, IsStore, Leaf, leaf_at_page, leaf_in, leaf_word, level-low, level_of, List, list_any, meets_any, meets_block, nat_lt, nat_tests, Node, None, number_of, Option, Order, pages_of, pointer_word, refl, Some, subst, suc, sym, true, up, up-from, word_at, zero, ℕ}
 use Rattle.xl_radix.proofs.CaseLemmas.{split-le}
 use Rattle.xl_radix.proofs.ListLemmas.{any-nothing, find-nothing}
 use Rattle.xl_radix.proofs.MeetLemmas.{covered, covering, meets, Met, met, Overlap}
 use Rattle.xl_radix.proofs.NumberLemmas.{number-some}
 use Rattle.xl_radix.proofs.SlotLemmas.{At, in-nodes, in-nodes-leaf, leaf-in-none, leaf-in-some, Under}
+
+-- the nodes of a page end at the first level, from this one on, whose node is needed
+pub end-is : (n a l space page : ℕ) (leaves : List Leaf) → a ≤ l → l ≤ a + n
+    → ((h : ℕ) → h < l → in_nodes space (suc h) (up (suc h) page) leaves ≡ false)
+    → (l ≡ a + n) ⊎ (in_nodes space (suc l) (up (suc l) page) leaves ≡ true) → end_level n a space page leaves ≡ l
+end-is zero a l space page leaves low high none last = omega arith
+end-is (suc n) a l space page leaves low high none last =
+    elim (nat_lt a l) as (λ b. nat_lt a l ≡ b → cond (in_nodes space (suc a) (up (suc a) page) leaves) a (end_level n (a + 1) space page leaves) ≡ l) [
+      | true ↦ λ t.
+          let less : a < l = grind (arith, nat_tests) in
+          rw (none a less) (end-is n (a + 1) l space page leaves (omega arith) (omega arith) none
+          (elim last [ inl e ↦ inl (omega arith) | inr k ↦ inr k ]))
+      | false ↦ λ t.
+          let same : a ≡ l = grind (arith, nat_tests) in
+          elim last [
+            | inl e ↦ absurd (omega arith)
+            | inr k ↦
+                let P : ℕ → Type 0 = λ m. in_nodes space (suc m) (up (suc m) page) leaves ≡ true in
+                let here : in_nodes space (suc a) (up (suc a) page) leaves ≡ true = subst P (sym same) k in
+                rw here same
+          ]
+    ] refl
 
 -- What holds between calls.
 pub record IsTable (top spaces : ℕ) (leaves : List Leaf) (nodes : List (Option Node)) (words : List ℕ) (used : List ℕ) : Type 0 where

@@ -1,6 +1,6 @@
 -- What a leaf that covers a page says of the walk.
-use Rattle.xl_radix.proofs.Common.{◌-◌, ◌/◌, ◌<◌, ◌∙◌, ◌≡◌, ◌≤◌, ap, arith, covers, end-is, end_level, eq-eqb, false_from_ne_true, find-In, find-passes, IfSome, In, inr, is_leaf, IsNamed, IsRadixMapping, Leaf, leaf_at_page, leaf_said, level-low, level_of, List, None, Option, order-same, order_of, refl, Some, suc, sym, true, up, up-from, ℕ}
-use Rattle.xl_model_lemmas.proofs.CoverLemmas.{found-named}
+use Rattle.xl_radix.proofs.Common.{◌-◌, ◌/◌, ◌<◌, ◌∙◌, ◌≡◌, ◌≤◌, ap, arith, covers, end_level, eq-eqb, false_from_ne_true, find-In, find-passes, In, inr, is_leaf, IsRadixMapping, Leaf, leaf_at_page, leaf_said, level-low, level_of, List, order-same, order_of, refl, Some, suc, sym, true, up, up-from, ℕ}
+use Rattle.xl_radix.proofs.EndLemmas.{end-is}
 use Rattle.xl_radix.proofs.MeetLemmas.{covered}
 use Rattle.xl_radix.proofs.ReadBackLemmas.{said-leaf}
 use Rattle.xl_radix.proofs.SlotLemmas.{in-nodes, in-nodes-leaf, Under}
@@ -43,7 +43,3 @@ leaf-said top spaces s page x leaves m e =
 
 own-name : (x : Leaf) → is_leaf x.space x.first x.order x ≡ true
 own-name x = rw (eq-eqb x.space x.space refl, eq-eqb x.first x.first refl, order-same x.order) refl
-
-pub covering-has-name : (s page : ℕ) (r : Option Leaf) (leaves : List Leaf) → r ≡ leaf_at_page s page leaves → IfSome r (λ x. IsNamed x.space x.first x.order leaves)
-covering-has-name s page None leaves e = tt
-covering-has-name s page (Some x) leaves e = found-named s page x leaves (sym e)

@@ -1,8 +1,8 @@
 -- An empty node is given back.
-use Rattle.xl_radix.proofs.Common.{◌%◌, ◌*◌, ◌+◌, ◌-◌, ◌/◌, ◌<◌, ◌==◌, ◌∙◌, ◌≡◌, ◌≢◌, ◌≤◌, ◌⊎◌, ap, arith, entry, false, false≢true, get_or-set_other, get_or-set_same, In, in_nodes, inl, inr, is_below, IsImage, IsNearly, IsRooted, Leaf, leaf_in, length, length-set, level_of, List, nat_tests, Node, None, number_of, Option, refl, same_Some, slice_index, slice_index_or, slice_set, Some, IsAtNode, subst, suc, sym, true, up, word_at, word_of, ℕ}
+use Rattle.xl_radix.proofs.Common.{◌%◌, ◌*◌, ◌+◌, ◌-◌, ◌/◌, ◌<◌, ◌==◌, ◌∙◌, ◌≡◌, ◌≢◌, ◌≤◌, ◌⊎◌, ap, arith, entry, false, false≢true, get_or-set_other, get_or-set_same, In, in_nodes, inl, inr, is_below, IsAtNode, IsImage, IsNearly, IsRooted, Leaf, leaf_in, length, length-set, level_of, List, nat_tests, Node, None, number_of, Option, refl, same_Some, slice_index, slice_index_or, slice_set, Some, subst, suc, sym, true, up, word_at, word_of, ℕ}
 use Rattle.xl_radix.proofs.CaseLemmas.{split-le}
 use Rattle.xl_radix.proofs.EndLemmas.{none-word, word-none}
-use Rattle.xl_radix.proofs.MadeNodeLemmas.{new-below, new_node, not-below, places, at_node-is, stored-same}
+use Rattle.xl_radix.proofs.MadeNodeLemmas.{at_node-is, new-below, new_node, not-below, places, stored-same}
 use Rattle.xl_radix.proofs.NumberLemmas.{below-is, Is, node-in, number-set-any, number-some, number-there}
 use Rattle.xl_radix.proofs.SlotLemmas.{At, in-nodes, in-nodes-leaf, leaf-in-none, leaf-in-some, Under}
 

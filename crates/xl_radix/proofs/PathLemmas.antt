@@ -1,5 +1,5 @@
 -- The nodes of a page's path.
-use Rattle.xl_radix.proofs.Common.{◌+◌, ◌-◌, ◌<◌, ◌∙◌, ◌≡◌, ◌≤◌, ◌⊎◌, ap, arith, inl, inr, IsEnd, IsImage, IsStore, Leaf, List, missing, Node, None, number_of, one_unless, Option, put_first, refl, Some, IsAtNode, suc, unless_there, up, with_node, with_path, zero, ℕ}
+use Rattle.xl_radix.proofs.Common.{◌+◌, ◌-◌, ◌<◌, ◌∙◌, ◌≡◌, ◌≤◌, ◌⊎◌, ap, arith, inl, inr, IsAtNode, IsEnd, IsImage, IsStore, Leaf, List, missing, Node, None, number_of, one_unless, Option, put_first, refl, Some, suc, unless_there, up, with_node, with_path, zero, ℕ}
 use Rattle.xl_radix.proofs.NumberLemmas.{number-some}
 use Rattle.xl_radix.proofs.PlacedLeafLemmas.{above}
 

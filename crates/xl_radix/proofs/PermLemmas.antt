@@ -1,5 +1,5 @@
 -- A leaf changes its permission: it leaves its slot, and comes back.
-use Rattle.xl_radix.proofs.Common.{◌%◌, ◌*◌, ◌+◌, ◌-◌, ◌<◌, ◌^◌, ◌∙◌, ◌∷◌, ◌≡◌, ◌≤◌, [], ap, arith, changed, false≢true, In, inl, inr, is_some, IsEnd, IsExact, IsNamed, IsNew, IsRadixMapping, IsReady, IsStore, Leaf, leaf_at_page, leaf_in, leaf_named, leaf_word, length, level-low, level_of, List, named-first, named-In, named-is, named-order, named-space, Node, None, number_of, only_needed, Option, Order, Protect, Radix, read_back, refl, shape_after, slice_index, slice_index_or, slice_set, Some, IsAtNode, subst, suc, sym, true, up, with_leaf, without_leaf, zero, ℕ}
+use Rattle.xl_radix.proofs.Common.{◌%◌, ◌*◌, ◌+◌, ◌-◌, ◌<◌, ◌^◌, ◌∙◌, ◌∷◌, ◌≡◌, ◌≤◌, [], ap, arith, changed, false≢true, In, inl, inr, is_some, IsAtNode, IsEnd, IsExact, IsNamed, IsNew, IsRadixMapping, IsReady, IsStore, Leaf, leaf_at_page, leaf_in, leaf_named, leaf_word, length, level-low, level_of, List, named-first, named-In, named-is, named-order, named-space, Node, None, number_of, only_needed, Option, Order, Protect, Radix, read_back, refl, shape_after, slice_index, slice_index_or, slice_set, Some, subst, suc, sym, true, up, with_leaf, without_leaf, zero, ℕ}
 use Rattle.xl_model.specs.declared.perm.Perm.{Perm}
 use Rattle.xl_radix.proofs.CaseLemmas.{split-le}
 use Rattle.xl_radix.proofs.EndLemmas.{found-at, not-both}
@@ -7,7 +7,7 @@ use Rattle.xl_radix.proofs.ReadBackLemmas.{own-slot}
 use Rattle.xl_radix.proofs.RemovalLemmas.{clear-step, Named, named}
 use Rattle.xl_radix.proofs.ShapeLemmas.{all-needed}
 use Rattle.xl_radix.proofs.SlotLemmas.{at_node-word}
-use Rattle.xl_radix.proofs.StepLemmas.{put-step, at_node-in}
+use Rattle.xl_radix.proofs.StepLemmas.{at_node-in, put-step}
 use Rattle.xl_radix.proofs.TakenLeafLemmas.{unplaced-leaf-same, without-in}
 use Rattle.xl_radix.proofs.TakingLemmas.{named-needs}
 

@@ -1,5 +1,5 @@
 -- A leaf is put into its slot.
-use Rattle.xl_radix.proofs.Common.{◌%◌, ◌*◌, ◌+◌, ◌<◌, ◌^◌, ◌∙◌, ◌≡◌, ◌≢◌, ◌≤◌, ◌⊎◌, ap, arith, cases_lt, false, In, In-with, in_nodes, inl, inr, is_below, is_slot, IsExact, IsImage, IsNearly, IsNew, IsRadixLeaf, IsRadixMapping, IsReady, Leaf, leaf_in, leaf_key, leaf_word, length, length-set, level_of, List, Node, None, number_of, Option, refl, slice_index, slice_index_or, slice_set, Some, sorted-with, IsAtNode, stays-with, subst, suc, sym, true, up, with-In, with_leaf, word_at, word_of, zero, ℕ}
+use Rattle.xl_radix.proofs.Common.{◌%◌, ◌*◌, ◌+◌, ◌<◌, ◌^◌, ◌∙◌, ◌≡◌, ◌≢◌, ◌≤◌, ◌⊎◌, ap, arith, cases_lt, false, In, In-with, in_nodes, inl, inr, is_below, is_slot, IsAtNode, IsExact, IsImage, IsNearly, IsNew, IsRadixLeaf, IsRadixMapping, IsReady, Leaf, leaf_in, leaf_key, leaf_word, length, length-set, level_of, List, Node, None, number_of, Option, refl, slice_index, slice_index_or, slice_set, Some, sorted-with, stays-with, subst, suc, sym, true, up, with-In, with_leaf, word_at, word_of, zero, ℕ}
 use Rattle.xl_radix.proofs.CaseLemmas.{split-less}
 use Rattle.xl_radix.proofs.ListLemmas.{find-with, find-with-other}
 use Rattle.xl_radix.proofs.MadeNodeLemmas.{IsSame, stored-same}

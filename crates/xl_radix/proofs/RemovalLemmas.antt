@@ -1,5 +1,5 @@
 -- Steps of a removal.
-use Rattle.xl_radix.proofs.Common.{◌%◌, ◌*◌, ◌+◌, ◌-◌, ◌<◌, ◌∙◌, ◌∷◌, ◌≡◌, ◌≢◌, ◌≤◌, ◌⊎◌, [], ap, arith, cases_lt, false≢true, filled, free_count, get_or_default_zero, In, inl, inr, is_below, is_some, IsCounted, IsExact, IsNamed, IsNearly, IsStore, IsTaken, Leaf, leaf_in, leaf_named, leaf_word, length, length-set, level_of, List, named-first, named-In, named-is, named-order, named-space, Node, None, number_of, Option, Order, pointer_word, read_back, refl, slice_index, slice_index_or, slice_set, Some, IsAtNode, subst, suc, sym, true, up, without_leaf, word_at, zero, ℕ}
+use Rattle.xl_radix.proofs.Common.{◌%◌, ◌*◌, ◌+◌, ◌-◌, ◌<◌, ◌∙◌, ◌∷◌, ◌≡◌, ◌≢◌, ◌≤◌, ◌⊎◌, [], ap, arith, cases_lt, false≢true, filled, free_count, get_or_default_zero, In, inl, inr, is_below, is_some, IsAtNode, IsCounted, IsExact, IsNamed, IsNearly, IsStore, IsTaken, Leaf, leaf_in, leaf_named, leaf_word, length, length-set, level_of, List, named-first, named-In, named-is, named-order, named-space, Node, None, number_of, Option, Order, pointer_word, read_back, refl, slice_index, slice_index_or, slice_set, Some, subst, suc, sym, true, up, without_leaf, word_at, zero, ℕ}
 use Rattle.xl_radix.proofs.CountLemmas.{counted-less, filled-zeros}
 use Rattle.xl_radix.proofs.EndLemmas.{not-both}
 use Rattle.xl_radix.proofs.FreedNodeLemmas.{freed, freed-at, freed-nearly, freed-rooted, freed_nodes, freed_words, IsEmpty, node-is}

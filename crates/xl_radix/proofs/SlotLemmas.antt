@@ -1,5 +1,5 @@
 -- What the slots of a table say.
-use Rattle.xl_radix.proofs.Common.{◌%◌, ◌*◌, ◌+◌, ◌<◌, ◌^◌, ◌∙◌, ◌≡◌, ◌≤◌, any-In, ap, arith, decode_of, entry, find-In, find-None, find-passes, In, In-any, in_nodes, is_slot, is_under, IsImage, IsRadixMapping, Leaf, leaf_in, leaf_word, length, level_of, List, nat_tests, Node, None, number_of, Option, pointer_word, Pte, refl, slice_index, Some, IsAtNode, subst, suc, true, up, word_at, word_of, zero, ℕ}
+use Rattle.xl_radix.proofs.Common.{◌%◌, ◌*◌, ◌+◌, ◌<◌, ◌^◌, ◌∙◌, ◌≡◌, ◌≤◌, any-In, ap, arith, decode_of, entry, find-In, find-None, find-passes, In, In-any, in_nodes, is_slot, is_under, IsAtNode, IsImage, IsRadixMapping, Leaf, leaf_in, leaf_word, length, level_of, List, nat_tests, Node, None, number_of, Option, pointer_word, Pte, refl, slice_index, Some, subst, suc, true, up, word_at, word_of, zero, ℕ}
 use Rattle.xl_pte.proofs.BitLemmas.{decode-made-leaf, decode-made-pointer}
 use Rattle.xl_radix.proofs.NumberLemmas.{below-some, Is, node-in, number-some}
 use Rattle.xl_pte.specs.declared.word.Pte.TheVariants as pte

@@ -1,12 +1,12 @@
 -- Steps of the table's functions.
-use Rattle.xl_radix.proofs.Common.{◌%◌, ◌*◌, ◌+◌, ◌-◌, ◌<◌, ◌∙◌, ◌≡◌, ◌≢◌, ◌≤◌, ◌⊎◌, ap, arith, decode_of, filled, free_count, get_or_default_zero, In, inl, inr, is_none, IsCounted, IsEnd, IsExact, IsNearly, IsNew, IsRadixMapping, IsReady, IsStore, Leaf, leaf_in, leaf_word, length, length-set, level_of, List, Node, None, number_of, Option, pointer_word, position, Pte, read_back, refl, slice_index, slice_index_or, slice_set, Some, IsAtNode, subst, suc, sym, up, with_leaf, word_at, zero, ℕ}
+use Rattle.xl_radix.proofs.Common.{◌%◌, ◌*◌, ◌+◌, ◌-◌, ◌<◌, ◌∙◌, ◌≡◌, ◌≢◌, ◌≤◌, ◌⊎◌, ap, arith, decode_of, filled, free_count, get_or_default_zero, In, inl, inr, is_none, IsAtNode, IsCounted, IsEnd, IsExact, IsNearly, IsNew, IsRadixMapping, IsReady, IsStore, Leaf, leaf_in, leaf_word, length, length-set, level_of, List, Node, None, number_of, Option, pointer_word, position, Pte, read_back, refl, slice_index, slice_index_or, slice_set, Some, subst, suc, sym, up, with_leaf, word_at, zero, ℕ}
 use Rattle.xl_radix.proofs.CountLemmas.{counted-more, filled-le}
 use Rattle.xl_radix.proofs.EndLemmas.{none-word, not-both, word-none}
-use Rattle.xl_radix.proofs.MadeNodeLemmas.{IsSpot, made, made-empty, made-nearly, made-rooted, made-at_node, made_nodes, made_words, new_node}
+use Rattle.xl_radix.proofs.MadeNodeLemmas.{IsSpot, made, made-at_node, made-empty, made-nearly, made-rooted, made_nodes, made_words, new_node}
 use Rattle.xl_radix.proofs.NumberLemmas.{below-some, free-none, node-in, number-some}
 use Rattle.xl_radix.proofs.PlacedLeafLemmas.{placed, placed-exact, placed-mapping, placed_words}
 use Rattle.xl_radix.proofs.ReadBackLemmas.{reads-back}
-use Rattle.xl_radix.proofs.SlotLemmas.{At, in-nodes-leaf, leaf-in-some, pointer-low, Says, says, at_node-word, Under}
+use Rattle.xl_radix.proofs.SlotLemmas.{At, at_node-word, in-nodes-leaf, leaf-in-some, pointer-low, Says, says, Under}
 use Rattle.xl_pte.specs.declared.word.Pte.TheVariants as pte
 
 -- The word that was read, in the node that is at a page, is that of the slot.

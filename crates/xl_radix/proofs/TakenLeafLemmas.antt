@@ -1,5 +1,5 @@
 -- A leaf leaves its slot.
-use Rattle.xl_radix.proofs.Common.{if◌then◌else◌, ◌%◌, ◌*◌, ◌+◌, ◌<◌, ◌==◌, ◌^◌, ◌∙◌, ◌∷◌, ◌≡◌, ◌≢◌, ◌≤◌, ◌⊎◌, [], ap, arith, Bool, cases_lt, cond, false, filter, find, In, In-without, in_nodes, inl, inr, is_slot, IsExact, IsImage, IsNearly, IsRadixMapping, Leaf, leaf_in, leaf_key, length, length-set, level_of, List, nat_tests, Node, None, number_of, Option, refl, same-place, slice_index, slice_index_or, slice_set, Some, sorted-without, IsAtNode, subst, sym, true, up, without-In, without-other, without_leaf, word_of, ℕ}
+use Rattle.xl_radix.proofs.Common.{if◌then◌else◌, ◌%◌, ◌*◌, ◌+◌, ◌<◌, ◌==◌, ◌^◌, ◌∙◌, ◌∷◌, ◌≡◌, ◌≢◌, ◌≤◌, ◌⊎◌, [], ap, arith, Bool, cases_lt, cond, false, filter, find, In, In-without, in_nodes, inl, inr, is_slot, IsAtNode, IsExact, IsImage, IsNearly, IsRadixMapping, Leaf, leaf_in, leaf_key, length, length-set, level_of, List, nat_tests, Node, None, number_of, Option, refl, same-place, slice_index, slice_index_or, slice_set, Some, sorted-without, subst, sym, true, up, without-In, without-other, without_leaf, word_of, ℕ}
 use Rattle.xl_radix.proofs.EndLemmas.{none-word}
 use Rattle.xl_radix.proofs.ListLemmas.{find-nothing}
 use Rattle.xl_radix.proofs.MadeNodeLemmas.{stored-same}

@@ -1,5 +1,5 @@
 -- A leaf is taken out, and the empty nodes above it.
-use Rattle.xl_radix.proofs.Common.{◌*◌, ◌+◌, ◌-◌, ◌<◌, ◌==◌, ◌∙◌, ◌∷◌, ◌≡◌, ◌≢◌, ◌≤◌, ◌⊎◌, [], ap, arith, Bool, changed, false, false_from_ne_true, false≢true, free_count, in_nodes, inl, inr, is_below, is_needed, is_slot, is_some, IsExact, IsLess, IsNamed, IsNearly, IsStore, IsTaken, kept_node, Leaf, leaf_in, leaf_named, length, level_of, List, map, named-first, named-is, named-space, nat_tests, Node, None, number_of, only_needed, Option, Order, Radix, refl, Remove, shape_after, slice_index, slice_index_or, Some, IsAtNode, subst, suc, sym, true, up, without-In, without_leaf, without_old, zero, ℕ}
+use Rattle.xl_radix.proofs.Common.{◌*◌, ◌+◌, ◌-◌, ◌<◌, ◌==◌, ◌∙◌, ◌∷◌, ◌≡◌, ◌≢◌, ◌≤◌, ◌⊎◌, [], ap, arith, Bool, changed, false, false_from_ne_true, false≢true, free_count, in_nodes, inl, inr, is_below, is_needed, is_slot, is_some, IsAtNode, IsExact, IsLess, IsNamed, IsNearly, IsStore, IsTaken, kept_node, Leaf, leaf_in, leaf_named, length, level_of, List, map, named-first, named-is, named-space, nat_tests, Node, None, number_of, only_needed, Option, Order, Radix, refl, Remove, shape_after, slice_index, slice_index_or, Some, subst, suc, sym, true, up, without-In, without_leaf, without_old, zero, ℕ}
 use Rattle.xl_radix.proofs.CountLemmas.{filled-some}
 use Rattle.xl_radix.proofs.FreedNodeLemmas.{filled-needed, kept-nearly, node-is}
 use Rattle.xl_radix.proofs.ListLemmas.{find-nothing}

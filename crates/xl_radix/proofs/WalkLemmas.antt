@@ -1,10 +1,10 @@
 -- The manual's walk over the words of a table.
-use Rattle.xl_radix.proofs.Common.{if◌then◌else◌, ◌%◌, ◌*◌, ◌+◌, ◌-◌, ◌/◌, ◌<◌, ◌∙◌, ◌≡◌, ◌⊎◌, arith, Bool, decode_of, end-is, end_level, false_from_ne_true, In, in_nodes, inl, inr, IsStore, Leaf, leaf_at_page, leaf_in, length, level_of, List, nat_le, nat_tests, Node, None, number_of, Option, Pte, refl, slice_index, Some, IsAtNode, subst, suc, sym, true, up, up-from, zero, ℕ}
-use Rattle.xl_radix.proofs.EndLemmas.{found-at, found-none, IsTable, seen-low}
+use Rattle.xl_radix.proofs.Common.{if◌then◌else◌, ◌%◌, ◌*◌, ◌+◌, ◌-◌, ◌/◌, ◌<◌, ◌∙◌, ◌≡◌, ◌⊎◌, arith, Bool, decode_of, end_level, false_from_ne_true, In, in_nodes, inl, inr, IsAtNode, IsStore, Leaf, leaf_at_page, leaf_in, length, level_of, List, nat_le, nat_tests, Node, None, number_of, Option, Pte, refl, slice_index, Some, subst, suc, sym, true, up, up-from, zero, ℕ}
+use Rattle.xl_radix.proofs.EndLemmas.{end-is, found-at, found-none, IsTable, seen-low}
 use Rattle.xl_radix.proofs.FilledLemmas.{words-image}
 use Rattle.xl_radix.proofs.FoundLemmas.{leaf-ends, leaf-said}
 use Rattle.xl_radix.proofs.NumberLemmas.{number-only, number-some}
-use Rattle.xl_radix.proofs.SlotLemmas.{in-nodes-leaf, leaf-in-some, pointer-low, Says, says, at_node-word, Under}
+use Rattle.xl_radix.proofs.SlotLemmas.{at_node-word, in-nodes-leaf, leaf-in-some, pointer-low, Says, says, Under}
 use Rattle.xl_radix.specs.Walk.{end_at, LeavesSaid, place_of, radix_back, reading, walk_end, WordsReadBack}
 use Rattle.xl_radix.specs.declared.walk_end.WalkEnd.{WalkEnd}
 use Rattle.xl_pte.specs.declared.word.Pte.TheVariants as pte

@@ -3,7 +3,8 @@ use Rattle.std.specs.Prelude.{ℕ, zero, suc, ◌≡◌, ◌+◌, ◌*◌, ◌/�
 use Rattle.xl_model.specs.declared.leaf.Leaf.{Leaf}
 use Rattle.xl_model.specs.Addresses.{level_of, pages_of}
 use Rattle.xl_model.specs.Nodes.{up, Node, is_below, in_nodes, number_of}
-use Rattle.xl_model_lemmas.specs.Members.{In, IsSorted}
+use Rattle.xl_list_lemmas.specs.Members.{In}
+use Rattle.xl_model_lemmas.specs.Sorted.{IsSorted}
 use Rattle.xl_model.specs.Image.{word_of}
 
 -- A radix table: its leaves, its nodes by number, its words, its spaces, and the loads made of it.

@@ -5,6 +5,8 @@ pub use Rattle.std.proofs.lemmas.List.{get_or-take, length-map, length-take, wit
 pub use Rattle.std.specs.List.{list_all, list_any, position_from}
 pub use Rattle.std.specs.Prelude.{IfNone, IfSome}
 pub use Rattle.std.specs.Vec.{with_items}
+pub use Rattle.xl_list_lemmas.proofs.MemberLemmas.{filter-In, find-In, find-passes, take-In}
+pub use Rattle.xl_list_lemmas.specs.Members.{In}
 pub use Rattle.xl_model.specs.Addresses.{level_of}
 pub use Rattle.xl_model.specs.Base.{one_if, plus}
 pub use Rattle.xl_model.specs.Caches.{all_without, Cached, empty_cache, empty_caches, items_in, NodeCaches, Numbered, reaches_space}
@@ -27,8 +29,6 @@ unfoldable pub use Rattle.xl_model.specs.Walks.{walked}
 pub use Rattle.xl_model.specs.declared.address.Kind.{Kind}
 pub use Rattle.xl_model.specs.declared.event.Reach.{Reach}
 pub use Rattle.xl_model.specs.declared.leaf.Leaf.{Leaf}
-pub use Rattle.xl_model_lemmas.proofs.MemberLemmas.{filter-In, find-In, find-passes, take-In}
-pub use Rattle.xl_model_lemmas.specs.Members.{In}
 pub use Rattle.xl_phys.specs.Lines.{counted, IsWord}
 pub use Rattle.xl_pte.specs.Decode.{bit, leaf_at, pointer_at, ppn_of, says, SaysSmall}
 unfoldable pub use Rattle.xl_pte.specs.Decode.{decode_of}

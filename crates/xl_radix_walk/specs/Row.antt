@@ -13,7 +13,7 @@ use Rattle.xl_model.specs.Recency.{with_newest, purged}
 use Rattle.xl_model.specs.Walks.{end_level, node_caches_after, start_level}
 use Rattle.xl_model.specs.Shapes.{Radix, opening_shape}
 use Rattle.xl_model.specs.Structures.{TableState, work_of}
-use Rattle.xl_model_lemmas.specs.Members.{In}
+use Rattle.xl_list_lemmas.specs.Members.{In}
 use Rattle.xl_model.specs.declared.leaf.Leaf.{Leaf}
 use Rattle.xl_pte.specs.declared.word.Pte.TheVariants as pte
 use Rattle.xl_radix.specs.declared.walk_end.WalkEnd.{WalkEnd}

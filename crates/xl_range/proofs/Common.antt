@@ -2,6 +2,10 @@
 pub use Rattle.std.proofs.Common.{◌%◌, ◌&&◌, ◌*◌, ◌+◌, ◌-◌, ◌/◌, ◌<◌, ◌==◌, ◌^◌, ◌||◌, ◌∙◌, ◌∷◌, ◌≡◌, ◌≤◌, ◌⊎◌, [], ap, arith, Bool, cond, Err, false, filter, find, inl, inr, is_some, length, List, nat_le, nat_lt, None, Ok, Option, refl, Result, Some, subst, suc, sym, true, zero, ℕ}
 pub use Rattle.std.proofs.lemmas.Bool.Decides.{nat_tests}
 pub use Rattle.std.specs.List.{list_any}
+pub use Rattle.xl_list_lemmas.proofs.MemberLemmas.{find-In, find-passes, In-any}
+pub use Rattle.xl_list_lemmas.proofs.RecencyLemmas.{newest-In, purged-In, touched-In, touched-none}
+pub use Rattle.xl_list_lemmas.proofs.SameLemmas.{any-find, both as same-bools, same-tests}
+pub use Rattle.xl_list_lemmas.specs.Members.{In}
 pub use Rattle.xl_model.specs.Addresses.{pages_of, same_order}
 pub use Rattle.xl_model.specs.Caches.{Cached, empty_cache, entries_in, holds_first, RangeCache, reaches_range, without_items}
 unfoldable pub use Rattle.xl_model.specs.Caches.{caches_fenced, caches_purged}
@@ -23,16 +27,12 @@ pub use Rattle.xl_model.specs.declared.leaf.Leaf.{Leaf}
 pub use Rattle.xl_model.specs.declared.leaf.Range.{Range}
 pub use Rattle.xl_model.specs.declared.perm.Perm.{Perm}
 pub use Rattle.xl_model_lemmas.proofs.MappingLemmas.{named-In, named-is}
-pub use Rattle.xl_model_lemmas.proofs.MemberLemmas.{find-In, find-passes, In-any}
 pub use Rattle.xl_model_lemmas.proofs.OrderLemmas.{order-same, orders-same, pages-some}
 pub use Rattle.xl_model_lemmas.proofs.PlaceLemmas.{named-first, named-order, named-space}
-pub use Rattle.xl_model_lemmas.proofs.RecencyLemmas.{newest-In, purged-In, touched-In, touched-none}
-pub use Rattle.xl_model_lemmas.proofs.SameLemmas.{any-find, perm-same, both as same-bools, same-tests}
-pub use Rattle.xl_model_lemmas.specs.Members.{AllAbove, In, IsSorted}
 pub use Rattle.xl_treap.proofs.KeptLemmas.{resized-length, with-length}
 pub use Rattle.xl_treap.specs.Treaps.{first_from, has_key, IsApart, IsFit, keeping, key_at, last_below, last_or, of_space, resized, TreapView, with_range, without_range}
-pub use Rattle.xl_range.specs.Cuts.{IsInside, kept_following, kept_cut}
-pub use Rattle.xl_range.specs.HeldRanges.{before_on, begins, following_on, first_leaf, glue, grown, IsClear, IsHeld, IsLeafIn, IsRange, leaf_by, leaf_in, range_leaves, next_leaf, pages_before, pages_following, part_following, pieces, range_from, run_on, some_if, Stops, touches}
+pub use Rattle.xl_range.specs.Cuts.{IsInside, kept_cut, kept_following}
+pub use Rattle.xl_range.specs.HeldRanges.{before_on, begins, first_leaf, following_on, glue, grown, IsClear, IsHeld, IsLeafIn, IsRange, leaf_by, leaf_in, next_leaf, pages_before, pages_following, part_following, pieces, range_from, range_leaves, run_on, some_if, Stops, touches}
 unfoldable pub use Rattle.xl_range.specs.HeldRanges.{cut, join, meets_range, spread}
 pub use Rattle.xl_range.specs.Puts.{IsThere, kept_put, kept_taken, next_of, next_where, one_if, pages_with, prev_of, prev_where, put_by, range_taken}
 pub use Rattle.xl_range.specs.Rows.{AllFresh, HasLeaf, HasRanges, IsAt, IsDone, IsFresh, IsRow, IsTable, meets_where, opening_table, row_of, row_table, RowState}

@@ -1,5 +1,5 @@
 -- The calls that cut a leaf out of a held range make the cut list, and what they ask for.
-use Rattle.xl_range.proofs.Common.{◌+◌, ◌-◌, ◌<◌, ◌==◌, ◌∙◌, ◌∷◌, ◌≡◌, ◌≤◌, [], ap, arith, before_on, following_on, Bool, cut, end_key, false, has_key, In, inl, inr, IsApart, IsHeld, IsInside, IsLeafIn, keeping, kept_following, kept_cut, length, List, list_any, nat_le, nat_lt, nat_tests, Order, pages_before, pages_following, pages_of, part_following, Range, range_key, refl, resized, some_if, subst, suc, sym, TreapView, true, with-length, with_range, without_range, zero, ℕ}
+use Rattle.xl_range.proofs.Common.{◌+◌, ◌-◌, ◌<◌, ◌==◌, ◌∙◌, ◌∷◌, ◌≡◌, ◌≤◌, [], ap, arith, before_on, Bool, cut, end_key, false, following_on, has_key, In, inl, inr, IsApart, IsHeld, IsInside, IsLeafIn, keeping, kept_cut, kept_following, length, List, list_any, nat_le, nat_lt, nat_tests, Order, pages_before, pages_following, pages_of, part_following, Range, range_key, refl, resized, some_if, subst, suc, sym, TreapView, true, with-length, with_range, without_range, zero, ℕ}
 use Rattle.xl_range.proofs.CutCountLemmas.{cut-count}
 use Rattle.xl_range.proofs.CutLemmas.{head-cut, held-cut, next-cut, own-key}
 use Rattle.xl_range.proofs.HoldLemmas.{apart-held, apart-resized, fit-range, key-there, with-front}

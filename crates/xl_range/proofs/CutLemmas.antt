@@ -1,5 +1,5 @@
 -- For the table of ranges: a leaf cut out of maximal ranges leaves maximal ranges, of the other leaves.
-use Rattle.xl_range.proofs.Common.{◌*◌, ◌+◌, ◌<◌, ◌==◌, ◌^◌, ◌∙◌, ◌∷◌, ◌≡◌, ◌≤◌, [], ap, arith, before_on, following_on, cut, end_key, false, filter, first_leaf, In, inl, inr, IsHeld, IsLeafIn, IsRange, range_leaves, List, nat_tests, Order, pages_before, pages_following, pages_of, part_following, pieces, Range, range_key, refl, run_on, spread, Stops, subst, suc, sym, touches, true, without_leaf, zero, ℕ}
+use Rattle.xl_range.proofs.Common.{◌*◌, ◌+◌, ◌<◌, ◌==◌, ◌^◌, ◌∙◌, ◌∷◌, ◌≡◌, ◌≤◌, [], ap, arith, before_on, cut, end_key, false, filter, first_leaf, following_on, In, inl, inr, IsHeld, IsLeafIn, IsRange, List, nat_tests, Order, pages_before, pages_following, pages_of, part_following, pieces, Range, range_key, range_leaves, refl, run_on, spread, Stops, subst, suc, sym, touches, true, without_leaf, zero, ℕ}
 use Rattle.xl_range.proofs.JoinLemmas.{In-key}
 use Rattle.xl_range.proofs.LeafInLemmas.{Sizes, sizes}
 use Rattle.xl_range.proofs.LeftLemmas.{head-held, stops-far}

@@ -1,6 +1,6 @@
 -- For the table of ranges: the held range of a named leaf, and how many pages of it lie before and
 -- after the leaf.
-use Rattle.xl_range.proofs.Common.{◌*◌, ◌+◌, ◌-◌, ◌<◌, ◌^◌, ◌∙◌, ◌∷◌, ◌≡◌, ◌≤◌, ◌⊎◌, [], ap, arith, cond, end_key, false, find, first_leaf, holds_page, In, inl, inr, is_leaf, IsHeld, IsLeafIn, Leaf, leaf_key, range_leaves, List, named-first, named-order, named-space, nat_tests, next_leaf, Order, pages-some, pages_before, pages_following, pages_of, part_following, Range, refl, run_on, Some, spread, subst, suc, sym, true, zero, ℕ}
+use Rattle.xl_range.proofs.Common.{◌*◌, ◌+◌, ◌-◌, ◌<◌, ◌^◌, ◌∙◌, ◌∷◌, ◌≡◌, ◌≤◌, ◌⊎◌, [], ap, arith, cond, end_key, false, find, first_leaf, holds_page, In, inl, inr, is_leaf, IsHeld, IsLeafIn, Leaf, leaf_key, List, named-first, named-order, named-space, nat_tests, next_leaf, Order, pages-some, pages_before, pages_following, pages_of, part_following, Range, range_leaves, refl, run_on, Some, spread, subst, suc, sym, true, zero, ℕ}
 use Rattle.xl_range.proofs.RunLemmas.{leaves-is}
 use Rattle.xl_range.proofs.TouchLemmas.{leap, leap-next, leap-none}
 

@@ -1,5 +1,5 @@
 -- For the table of ranges: what is left of a range without a leaf of it are maximal ranges.
-use Rattle.xl_range.proofs.Common.{◌*◌, ◌+◌, ◌<◌, ◌∙◌, ◌∷◌, ◌≡◌, ◌≤◌, [], arith, before_on, following_on, end_key, IsHeld, IsLeafIn, IsRange, List, Order, pages_before, pages_following, pages_of, part_following, Range, range_key, refl, Stops, subst, suc, sym, touches, zero, ℕ}
+use Rattle.xl_range.proofs.Common.{◌*◌, ◌+◌, ◌<◌, ◌∙◌, ◌∷◌, ◌≡◌, ◌≤◌, [], arith, before_on, end_key, following_on, IsHeld, IsLeafIn, IsRange, List, Order, pages_before, pages_following, pages_of, part_following, Range, range_key, refl, Stops, subst, suc, sym, touches, zero, ℕ}
 use Rattle.xl_range.proofs.JoinLemmas.{lower}
 use Rattle.xl_range.proofs.LeafInLemmas.{Sizes, sizes}
 use Rattle.xl_range.proofs.TouchLemmas.{not-touching, touch, touch-key}

@@ -1,5 +1,5 @@
 -- For the table of ranges: what is left of a range without a leaf of it has the range's other leaves.
-use Rattle.xl_range.proofs.Common.{◌*◌, ◌+◌, ◌/◌, ◌<◌, ◌==◌, ◌^◌, ◌∙◌, ◌∷◌, ◌≡◌, ◌≤◌, [], ap, arith, before_on, following_on, Bool, cond, end_key, false, filter, first_leaf, IsHeld, IsLeafIn, IsRange, Leaf, leaf_key, range_leaves, List, nat_tests, next_leaf, Order, pages-some, pages_before, pages_following, pages_of, part_following, Range, refl, run_on, spread, subst, suc, sym, true, zero, ℕ}
+use Rattle.xl_range.proofs.Common.{◌*◌, ◌+◌, ◌/◌, ◌<◌, ◌==◌, ◌^◌, ◌∙◌, ◌∷◌, ◌≡◌, ◌≤◌, [], ap, arith, before_on, Bool, cond, end_key, false, filter, first_leaf, following_on, IsHeld, IsLeafIn, IsRange, Leaf, leaf_key, List, nat_tests, next_leaf, Order, pages-some, pages_before, pages_following, pages_of, part_following, Range, range_leaves, refl, run_on, spread, subst, suc, sym, true, zero, ℕ}
 use Rattle.xl_range.proofs.LeafInLemmas.{leap-key, next-of-leap, Sizes, sizes}
 use Rattle.xl_range.proofs.RunLemmas.{count-is}
 use Rattle.xl_range.proofs.TouchLemmas.{leap, run-add, some-pages}

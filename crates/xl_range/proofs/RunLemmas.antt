@@ -1,5 +1,6 @@
 -- For the table of ranges: maximal ranges are the ranges of their leaves.
-use Rattle.xl_range.proofs.Common.{◌*◌, ◌+◌, ◌/◌, ◌∙◌, ◌∷◌, ◌≡◌, [], ap, arith, begins, end_key, false, first_leaf, goes_into, IsHeld, IsRange, joined, Leaf, range_leaves, List, nat_tests, next_leaf, Order, order-same, pages_of, perm-same, Range, range_from, range_of_leaf, ranges_of, refl, run_on, same_order, same_perm, spread, Stops, subst, suc, sym, true, zero, ℕ}
+use Rattle.xl_range.proofs.Common.{◌*◌, ◌+◌, ◌/◌, ◌∙◌, ◌∷◌, ◌≡◌, [], ap, arith, begins, end_key, false, first_leaf, goes_into, IsHeld, IsRange, joined, Leaf, List, nat_tests, next_leaf, Order, order-same, pages_of, Range, range_from, range_leaves, range_of_leaf, ranges_of, refl, run_on, same_order, same_perm, spread, Stops, subst, suc, sym, true, zero, ℕ}
+use Rattle.xl_model_lemmas.proofs.PermLemmas.{perm-same}
 use Rattle.xl_model.specs.declared.address.Order.TheVariants as order
 
 -- a leaf goes into a range of its kind that begins after it

@@ -1,6 +1,7 @@
 -- The leaves of held ranges: where they are, that they are sorted, and that they lie apart from
 -- what is clear of the ranges.
-use Rattle.xl_range.proofs.Common.{◌*◌, ◌+◌, ◌<◌, ◌∷◌, ◌≡◌, ◌≤◌, ◌⊎◌, [], AllAbove, arith, covers, end_key, false, first_leaf, In, inl, inr, IsClear, IsHeld, IsSorted, Leaf, leaf_key, range_leaves, List, nat_tests, next_leaf, pages-some, pages_of, Range, range_key, range_of_leaf, refl, run_on, spread, subst, suc, sym, true, zero, ℕ}
+use Rattle.xl_range.proofs.Common.{◌*◌, ◌+◌, ◌<◌, ◌∷◌, ◌≡◌, ◌≤◌, ◌⊎◌, [], arith, covers, end_key, false, first_leaf, In, inl, inr, IsClear, IsHeld, Leaf, leaf_key, List, nat_tests, next_leaf, pages-some, pages_of, Range, range_key, range_leaves, range_of_leaf, refl, run_on, spread, subst, suc, sym, true, zero, ℕ}
+use Rattle.xl_model_lemmas.specs.Sorted.{AllAbove, IsSorted}
 use Rattle.xl_range.proofs.JoinLemmas.{In-key}
 use Rattle.xl_range.proofs.RunLemmas.{leaves-is}
 

@@ -1,5 +1,5 @@
 -- For the table of ranges: the leaves of maximal ranges with a range of one leaf more are their leaves with that leaf.
-use Rattle.xl_range.proofs.Common.{◌*◌, ◌+◌, ◌<◌, ◌==◌, ◌∙◌, ◌∷◌, ◌≡◌, ◌≤◌, [], ap, arith, cond, end_key, false, first_leaf, glue, grown, IsClear, IsHeld, IsRange, join, Leaf, leaf_key, range_leaves, List, nat_lt, nat_tests, next_leaf, pages-some, pages_of, Range, range_key, range_of_leaf, refl, run_on, spread, suc, sym, touches, true, with_leaf, zero, ℕ}
+use Rattle.xl_range.proofs.Common.{◌*◌, ◌+◌, ◌<◌, ◌==◌, ◌∙◌, ◌∷◌, ◌≡◌, ◌≤◌, [], ap, arith, cond, end_key, false, first_leaf, glue, grown, IsClear, IsHeld, IsRange, join, Leaf, leaf_key, List, nat_lt, nat_tests, next_leaf, pages-some, pages_of, Range, range_key, range_leaves, range_of_leaf, refl, run_on, spread, suc, sym, touches, true, with_leaf, zero, ℕ}
 use Rattle.xl_range.proofs.JoinLemmas.{clear-ends, held-following}
 use Rattle.xl_range.proofs.RunLemmas.{count-is, leaves-is}
 use Rattle.xl_range.proofs.TouchLemmas.{grown-range, run-grown, some-pages, Touch, touch, touch-key}

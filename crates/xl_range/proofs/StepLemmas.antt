@@ -1,6 +1,6 @@
 -- What the calls of a change require, and their results: the leaves of the ranges that are held
 -- then.
-use Rattle.xl_range.proofs.Common.{◌*◌, ◌+◌, ◌<◌, ◌^◌, ◌∙◌, ◌∷◌, ◌≡◌, ◌≤◌, [], ap, arith, before_on, following_on, Bool, changed, cut, end_key, false, first_leaf, HasLeaf, HasRanges, In, inl, inr, Insert, IsAt, IsClear, IsDone, IsHeld, IsLeafFor, IsLeafIn, IsRange, IsTable, join, keeping, Leaf, leaf_in, length, List, meets_any, nat_le, Order, pages_before, pages_following, pages_of, part_following, Perm, Range, range_key, range_of_leaf, ranges_of, Remove, Runs, some_if, spread, subst, suc, sym, TreapView, true, with_leaf, without_leaf, zero, ℕ}
+use Rattle.xl_range.proofs.Common.{◌*◌, ◌+◌, ◌<◌, ◌^◌, ◌∙◌, ◌∷◌, ◌≡◌, ◌≤◌, [], ap, arith, before_on, Bool, changed, cut, end_key, false, first_leaf, following_on, HasLeaf, HasRanges, In, inl, inr, Insert, IsAt, IsClear, IsDone, IsHeld, IsLeafFor, IsLeafIn, IsRange, IsTable, join, keeping, Leaf, leaf_in, length, List, meets_any, nat_le, Order, pages_before, pages_following, pages_of, part_following, Perm, Range, range_key, range_of_leaf, ranges_of, Remove, Runs, some_if, spread, subst, suc, sym, TreapView, true, with_leaf, without_leaf, zero, ℕ}
 use Rattle.xl_range.proofs.CutCountLemmas.{cut-count}
 use Rattle.xl_range.proofs.CutLemmas.{AtHead, cut-spread, head-cut, held-cut, next-cut}
 use Rattle.xl_range.proofs.FindLemmas.{leaf-in-is}

@@ -1,5 +1,5 @@
 -- For the table of ranges: what ranges that touch share, and the leaves of both.
-use Rattle.xl_range.proofs.Common.{◌*◌, ◌+◌, ◌<◌, ◌∙◌, ◌∷◌, ◌≡◌, [], ap, arith, begins, end_key, false, first_leaf, grown, IsRange, Leaf, range_leaves, List, nat_tests, next_leaf, Order, orders-same, pages-some, pages_of, Range, range_key, refl, run_on, Stops, subst, suc, sym, touches, true, zero, ℕ}
+use Rattle.xl_range.proofs.Common.{◌*◌, ◌+◌, ◌<◌, ◌∙◌, ◌∷◌, ◌≡◌, [], ap, arith, begins, end_key, false, first_leaf, grown, IsRange, Leaf, List, nat_tests, next_leaf, Order, orders-same, pages-some, pages_of, Range, range_key, range_leaves, refl, run_on, Stops, subst, suc, sym, touches, true, zero, ℕ}
 use Rattle.xl_model.proofs.PermLemmas.{perms-same}
 use Rattle.xl_range.proofs.RunLemmas.{count-is, leaves-is}
 

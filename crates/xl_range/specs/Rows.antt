@@ -11,7 +11,7 @@ use Rattle.xl_model.specs.Room.{has_room}
 use Rattle.xl_model.specs.Shapes.{Runs}
 use Rattle.xl_model.specs.Caches.{Cached, RangeCache, empty_cache}
 use Rattle.xl_model.specs.Structures.{TableState}
-use Rattle.xl_model_lemmas.specs.Members.{In}
+use Rattle.xl_list_lemmas.specs.Members.{In}
 use Rattle.xl_range.specs.HeldRanges.{IsHeld, IsLeafIn, spread, leaf_in}
 use Rattle.xl_treap.specs.Treaps.{TreapView, TreapState, keeping, IsFit}
 

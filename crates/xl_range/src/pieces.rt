@@ -4,7 +4,7 @@ ghost use Rattle.std.specs.Prelude.{◌≡◌, ◌<◌, ◌≤◌, ◌+◌, leng
 ghost use Rattle.std.specs.List.{list_any};
 ghost use Rattle.xl_model.specs.Ranges.{range_key};
 ghost use Rattle.xl_model.specs.Changes.{IsNamed};
-ghost use Rattle.xl_model_lemmas.specs.Members.{In};
+ghost use Rattle.xl_list_lemmas.specs.Members.{In};
 ghost use Rattle.xl_range.specs.HeldRanges.{IsHeld, IsLeafIn, some_if, spread, leaf_in as leaf_of, cut as cut_from};
 ghost use Rattle.xl_range.specs.Cuts.{kept_cut, kept_following};
 ghost use Rattle.xl_range.specs.Rows.{IsAt, HasLeaf};

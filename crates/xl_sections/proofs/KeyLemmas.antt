@@ -1,7 +1,7 @@
 -- The number of keys is the number of sections.
 use Rattle.xl_sections.proofs.Common.{◌==◌, ◌∙◌, ◌≡◌, ◌≤◌, ap, AreCounts, arith, Count, count_of, false, find, find-In, find-None, find-passes, In, In-map, IsTied, keys_of, Leaf, length, length-map, List, map-In, nat_tests, None, not, number_of, Option, Order, refl, Some, subst, suc, sym, true, word_of, zero, ℕ}
 use Rattle.xl_model.specs.Sections.{section_count}
-use Rattle.xl_model_lemmas.proofs.SectionLemmas.{count-keys, count-short}
+use Rattle.xl_model_lemmas.proofs.SectionLemmas.{count-keys}
 use Rattle.xl_sections.proofs.WordLemmas.{any-is}
 
 -- a key that is counted is that of a section
@@ -46,7 +46,3 @@ keys-count size leaves cs a tie =
     ∙ count-keys size leaves (keys_of cs) a.once
     (λ k i. any-is size k leaves ∙ or-zero (word_of size k leaves) (λ z. counted k cs a i (tie k ∙ z)))
     (λ k t. In-counted k cs (λ z. zero-or (word_of size k leaves) (sym (any-is size k leaves) ∙ t) (sym (tie k) ∙ z)))
-
--- no more keys than leaves: a table with room for the leaves has room for the keys
-pub keys-short : (size : Order) (leaves : List Leaf) (cs : List Count) → AreCounts cs → IsTied size leaves cs → length cs ≤ length leaves
-keys-short size leaves cs a tie = omega (arith, keys-count size leaves cs a tie, count-short size leaves)

@@ -1,6 +1,6 @@
 -- A count that is raised, in a list of entries.
 use Rattle.xl_sections.proofs.Common.{◌+◌, ◌<◌, ◌==◌, ◌∙◌, ◌∷◌, ◌≡◌, [], ap, AreCounts, AreKept, arith, bucket_of, ChainShape, ChainState, cond, Count, count_in, count_of, counts_of, false, find, find-In, find-None, find-passes, first_value, found_of, has, has_tag, Held, held_with, In, In-map, in_front_of, inl, inr, is_entry, IsInserted, IsRaised, keys_of, length, length-map, List, map, map-In, nat_lt, nat_tests, None, number_in, number_of, Once, Option, refl, slice_set, Some, subst, suc, sym, tags_of, true, with_value, ℕ}
-use Rattle.xl_model_lemmas.proofs.BucketLemmas.{by-In, length-by}
+use Rattle.xl_list_lemmas.proofs.BucketLemmas.{by-In, length-by}
 use Rattle.xl_chain.specs.declared.shape.Seek.TheVariants as seek
 
 pub count-held : (key : ℕ) (hs : List Held) → count_of key (counts_of hs) ≡ number_in (found_of (held_with key hs))

@@ -1,8 +1,11 @@
 -- What a section's word says.
-use Rattle.xl_sections.proofs.Common.{◌&&◌, ◌*◌, ◌+◌, ◌<◌, ◌==◌, ◌^◌, ◌||◌, ◌∙◌, ◌∷◌, ◌≡◌, [], ap, arith, Bool, cond, counts_at, false, Leaf, length, List, list_any, nat_tests, not, of_order, Order, part, refl, sym, tally, true, unit, word_of, ℕ}
+use Rattle.xl_sections.proofs.Common.{◌&&◌, ◌*◌, ◌+◌, ◌<◌, ◌==◌, ◌^◌, ◌||◌, ◌∙◌, ◌∷◌, ◌≡◌, [], ap, arith, Bool, cond, false, Leaf, length, List, nat_tests, not, Order, part, refl, sym, true, unit, word_of, ℕ}
+use Rattle.std.specs.List.{list_any}
+use Rattle.xl_list_lemmas.proofs.TallyLemmas.{tally-any, tally-short}
+use Rattle.xl_list_lemmas.specs.Tallies.{tally}
 use Rattle.xl_model.specs.Addresses.{same_order}
 use Rattle.xl_model.specs.Base.{one_if}
-use Rattle.xl_model_lemmas.proofs.TallyLemmas.{tally-any, tally-short}
+use Rattle.xl_model_lemmas.specs.Sections.{counts_at, of_order}
 use Rattle.xl_model.specs.declared.address.Order.TheVariants as order
 
 pub parts-are : (a b c : ℕ) → a < 2 ^ 22 → b < 2 ^ 22 → (part order.K4 (a + (b * 2 ^ 22 + c * 2 ^ 44)) ≡ a) × (part order.M2 (a + (b * 2 ^ 22 + c * 2 ^ 44)) ≡ b) × (part order.G1 (a + (b * 2 ^ 22 + c * 2 ^ 44)) ≡ c)

@@ -1,5 +1,5 @@
 -- Areas that a script declares.
-use Rattle.xl_serving.proofs.Common.{◌++◌, ◌∷◌, ◌≡◌, [], ap, Area, Bool, Command, Declared, false, HasServed, is_area, item_lines, List, refl, rows_after, rows_lines, scene_after, scene_of, scenes_after, Served, sink_same, SinkAfter, SinkMeaning, state_after, subst, sym, scenes_printed as printed_by, true, ℕ}
+use Rattle.xl_serving.proofs.Common.{◌++◌, ◌∷◌, ◌≡◌, [], ap, Area, Bool, Command, Declared, false, HasServed, is_area, item_lines, List, scenes_printed as printed_by, refl, rows_after, rows_lines, scene_after, scene_of, scenes_after, Served, sink_same, SinkAfter, SinkMeaning, state_after, subst, sym, true, ℕ}
 use Rattle.xl_model.specs.declared.script.Command.TheVariants as command
 
 declared_rows : (area : Area) (areas : List Area) (rows : List Served) → rows_after (Declared area) areas rows ≡ rows

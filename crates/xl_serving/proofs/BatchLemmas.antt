@@ -1,5 +1,5 @@
 -- The queue: an access more, or an event more.
-use Rattle.xl_serving.proofs.Common.{◌++◌, ◌+◌, ◌∙◌, ◌∷◌, ◌≡◌, ◌≤◌, [], Access, ap, append_assoc, Area, arith, drop, drop-append-le, drop_all, gaps, Item, item_of, items_batched, Kind, length, length-drop, List, map, map-append, Referenced, refl, rows_after, Scene, scene-append, scene_after, scenes_after, Served, state_after, sum_by-cons, sym, take, take-append-le, take_all, BatchedEvent, ℕ}
+use Rattle.xl_serving.proofs.Common.{◌++◌, ◌+◌, ◌∙◌, ◌∷◌, ◌≡◌, ◌≤◌, [], Access, ap, append_assoc, Area, arith, BatchedEvent, drop, drop-append-le, drop_all, gaps, Item, item_of, items_batched, Kind, length, length-drop, List, map, map-append, Referenced, refl, rows_after, Scene, scene-append, scene_after, scenes_after, Served, state_after, sum_by-cons, sym, take, take-append-le, take_all, ℕ}
 use Rattle.xl_model.specs.declared.script.Item.TheVariants.{Command}
 
 -- the number of an access's record changes no row

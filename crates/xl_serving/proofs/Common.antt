@@ -10,7 +10,7 @@ pub use Rattle.std.specs.Vec.Iter.{into_iter_items, into_iter_len}
 pub use Rattle.xl_course.proofs.KnownLemmas.{is_err_by, known_all, known_one, known_then}
 pub use Rattle.xl_course.specs.Accounts.{Account, account, EndAfter, Ends, EndsAs, faulted, last_where}
 pub use Rattle.xl_course.specs.Courses.{commands_of, course, items_of_all, items_of as record_items}
-pub use Rattle.xl_course.specs.Meanings.{lines_where, states_after, printed_by}
+pub use Rattle.xl_course.specs.Meanings.{lines_where, printed_by, states_after}
 pub use Rattle.xl_course.specs.Sources.{accesses_of_all, Gives as Answered, EndsBy, Skims}
 pub use Rattle.xl_course.specs.declared.stop.Stop.{Stop}
 pub use Rattle.xl_lackey.specs.Skims.{accesses_in, all_accesses, pair, Takes as TakesLines, with_records}
@@ -31,7 +31,7 @@ pub use Rattle.xl_model.specs.declared.script.Area.{Area}
 pub use Rattle.xl_model.specs.declared.script.Command.{Command}
 pub use Rattle.xl_model.specs.declared.script.Item.{Item}
 pub use Rattle.xl_model.specs.declared.script.Item.TheVariants.{Declared, Referenced}
-pub use Rattle.xl_model_lemmas.proofs.SceneLemmas.{scene-append, scene-is, printed-append}
+pub use Rattle.xl_model_lemmas.proofs.SceneLemmas.{printed-append, scene-append, scene-is}
 pub use Rattle.xl_outside.proofs.SinkLemmas.{sink_cut, sink_same, sink_then}
 pub use Rattle.xl_outside.specs.Folders.{file_of, Fine, FolderAfter}
 pub use Rattle.xl_outside.specs.Sinks.{SinkAfter, SinkMeaning}
@@ -39,7 +39,7 @@ pub use Rattle.xl_outside.specs.Whole.{ReadsWhole}
 pub use Rattle.xl_script.specs.Placing.{is_area, IsPlaced}
 pub use Rattle.xl_text.specs.Texts.{lines_by, lines_of}
 pub use Rattle.xl_words.specs.Words.{AskedPlain, plain_of}
-pub use Rattle.xl_serving.specs.Batches.{Backlog, gaps, item_of, items_batched, items_of_all as scene_items, drained, deferred, BatchesMore}
+pub use Rattle.xl_serving.specs.Batches.{Backlog, BatchesMore, deferred, drained, gaps, item_of, items_batched, items_of_all as scene_items}
 pub use Rattle.xl_serving.specs.Inputs.{commands_said, config_fault, Finds, rows_in, rows_said, said_by, said_in, script_fault, trail_for}
 pub use Rattle.xl_serving.specs.Plain.{account_by, account_from, AreOpened, end_text, items_of, plain, plain_account, plain_rows, plain_start, rows_by, rows_from, rows_text, Start, start_of, step_of, steps_of, with_area}
 pub use Rattle.xl_serving.specs.Serving.{count_of, event_at, HasServed, scene_of}

@@ -1,5 +1,5 @@
 -- What the reading of a file says of its text.
-use Rattle.xl_serving.proofs.Common.{if◌then◌else◌, ◌+◌, ◌<◌, ◌∙◌, ◌≡◌, [], ap, arith, Bool, cases_lt, Command, commands_said, config_fault, Err, Finds, inl, InputFault, inr, length, length-take, List, lt-ltb, nat_lt, None, Ok, Option, refl, Result, rows_said, said_by, said_in, script_fault, Some, Stop, subst, sym, take, take_all, ReadsWhole, ℕ}
+use Rattle.xl_serving.proofs.Common.{if◌then◌else◌, ◌+◌, ◌<◌, ◌∙◌, ◌≡◌, [], ap, arith, Bool, cases_lt, Command, commands_said, config_fault, Err, Finds, inl, InputFault, inr, length, length-take, List, lt-ltb, nat_lt, None, Ok, Option, ReadsWhole, refl, Result, rows_said, said_by, said_in, script_fault, Some, Stop, subst, sym, take, take_all, ℕ}
 use Rattle.std.specs.declared.alloc.Global.{Global}
 use Rattle.std.specs.declared.vec.Vec.{Vec}
 use Rattle.xl_config.specs.Config.{config, config_by, document_of}

@@ -1,6 +1,6 @@
 -- The account of the plain form, in the words of the report.
-use Rattle.xl_serving.proofs.Common.{◌++◌, ◌∙◌, ◌≡◌, ap, append-nil, end_text, false, InputFault, last_where, List, lives_after, opening_scene, Option, plain, report, Scene, scene-is, scenes_printed, states_after, sym, tail, printed_by, unprinted, ℕ}
-use Rattle.xl_serving.proofs.PlainLemmas.{scenes-states, printed-plain}
+use Rattle.xl_serving.proofs.Common.{◌++◌, ◌∙◌, ◌≡◌, ap, append-nil, end_text, false, InputFault, last_where, List, lives_after, opening_scene, Option, plain, printed_by, report, Scene, scene-is, scenes_printed, states_after, sym, tail, unprinted, ℕ}
+use Rattle.xl_serving.proofs.PlainLemmas.{printed-plain, scenes-states}
 use Rattle.xl_serving.specs.Laws.{AFaultEndsTheText, TheTextIsTheReport}
 
 pub the_text_is_the_report : TheTextIsTheReport

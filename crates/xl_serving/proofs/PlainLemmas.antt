@@ -1,5 +1,5 @@
 -- The plain form: scenes and lines, as any form's.
-use Rattle.xl_serving.proofs.Common.{◌++◌, ◌+◌, ◌<◌, ◌∙◌, ◌∷◌, ◌≡◌, ◌≤◌, ◌⊎◌, [], Accesses, account, account_from, All, All-cons, All-head, All-nil, All-same, All-tail, ap, Area, arith, AskedPlain, Backlog, Bool, Command, commands_of, cond, count_by, count_of, course, end_text, Ends, event_at, events_from, false, HasServed, inl, inr, is_area, IsPlaced, Item, items_of, items_of_all, Kind, length, length-append, lines_where, List, Option, plain, record_items, refl, Result, Served as Row, rows_from, Scene, accesses_items as scene_accesses, scene_after, scene_items, scene_of, scenes_after, scenes_printed, SinkAfter, SinkMeaning, slice_get, Some, start_of, states_after, step_of, steps_of, Stop, subst, suc, sum_by-cons, sym, printed-append, printed_by, Trail, true, drained, deferred, BatchesMore, with_area, zero, ℕ}
+use Rattle.xl_serving.proofs.Common.{◌++◌, ◌+◌, ◌<◌, ◌∙◌, ◌∷◌, ◌≡◌, ◌≤◌, ◌⊎◌, [], Accesses, account, account_from, All, All-cons, All-head, All-nil, All-same, All-tail, ap, Area, arith, AskedPlain, Backlog, BatchesMore, Bool, Command, commands_of, cond, count_by, count_of, course, deferred, drained, end_text, Ends, event_at, events_from, false, HasServed, inl, inr, is_area, IsPlaced, Item, items_of, items_of_all, Kind, length, length-append, lines_where, List, Option, plain, printed-append, printed_by, record_items, refl, Result, Served as Row, rows_from, Scene, accesses_items as scene_accesses, scene_after, scene_items, scene_of, scenes_after, scenes_printed, SinkAfter, SinkMeaning, slice_get, Some, start_of, states_after, step_of, steps_of, Stop, subst, suc, sum_by-cons, sym, Trail, true, with_area, zero, ℕ}
 use Rattle.xl_course.specs.Serving.{HasServed as Served, Skimmed}
 use Rattle.xl_course.specs.declared.form.Step.{Step}
 use Rattle.xl_serving.proofs.AreaLemmas.{served_area}

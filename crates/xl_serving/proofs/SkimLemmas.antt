@@ -1,5 +1,5 @@
 -- Records of one access alone that a trace gives together: what is left of the trace, and what the rows are served.
-use Rattle.xl_serving.proofs.Common.{◌%◌, ◌++◌, ◌+◌, ◌<◌, ◌^◌, ◌∙◌, ◌∷◌, ◌≡◌, ◌≤◌, [], Access, Accesses, accesses_in, accesses_items, accesses_of_all, all_accesses, ap, append-nil, arith, gaps, IsFedFrom, IsUnfed, IsWithin, Item, item_of, scene_items as items_of_all, items_batched, Kind, Left, left, left_of, length, length-append, lines_of, List, made_left, MadeProgress, map, next_number, None, numbered, Option, pair, Progress, Record, records, Referenced, refl, Scene, scene-append, scene_after, scenes_after, Skims, Some, suc, sym, TakesLines, Trail, trail, true, BatchedEvent, BatchesMore, with_records, ℕ}
+use Rattle.xl_serving.proofs.Common.{◌%◌, ◌++◌, ◌+◌, ◌<◌, ◌^◌, ◌∙◌, ◌∷◌, ◌≡◌, ◌≤◌, [], Access, Accesses, accesses_in, accesses_items, accesses_of_all, all_accesses, ap, append-nil, arith, BatchedEvent, BatchesMore, gaps, IsFedFrom, IsUnfed, IsWithin, Item, item_of, items_batched, scene_items as items_of_all, Kind, Left, left, left_of, length, length-append, lines_of, List, made_left, MadeProgress, map, next_number, None, numbered, Option, pair, Progress, Record, records, Referenced, refl, Scene, scene-append, scene_after, scenes_after, Skims, Some, suc, sym, TakesLines, Trail, trail, true, with_records, ℕ}
 use Rattle.xl_lackey.specs.Skims.{Skimmed}
 use Rattle.xl_serving.proofs.BatchLemmas.{any-number, items-more}
 use Rattle.xl_serving.proofs.RecordLemmas.{gives_all, same_within, trail_on, with_numbered}

@@ -8,6 +8,13 @@ pub use Rattle.std.specs.Prelude.{filter, find, IfNone, IfSome, is_some}
 pub use Rattle.xl_chain.specs.Held.{ChainState, first_value, found_of, has, Held, in_front_of, is_entry, loads_after, tags_of, value_in, with_value}
 unfoldable pub use Rattle.xl_chain.specs.Held.{held_with, value_of, without_tag}
 pub use Rattle.xl_chain.specs.Lines.{AreSingle}
+pub use Rattle.xl_list_lemmas.proofs.BucketLemmas.{by-In, In-by, length-by, stays-by, tags-by}
+pub use Rattle.xl_list_lemmas.proofs.MemberLemmas.{any-false, any-In, filter-In, filter-passes, find-In, find-only, find-passes, In-any, In-append, In-filter, In-left, In-map, In-right}
+pub use Rattle.xl_list_lemmas.proofs.OnceLemmas.{once-short, own-number}
+pub use Rattle.xl_list_lemmas.proofs.SameLemmas.{any-each, any-find, any-or, both, none-any, same-tests}
+pub use Rattle.xl_list_lemmas.proofs.TallyLemmas.{tally-any, tally-short}
+pub use Rattle.xl_list_lemmas.specs.Members.{In}
+pub use Rattle.xl_list_lemmas.specs.Tallies.{tally}
 pub use Rattle.xl_model.proofs.CodeLemmas.{at-level}
 pub use Rattle.xl_model.specs.Addresses.{level_of, order_at, pages_of, same_order}
 pub use Rattle.xl_model.specs.Base.{one_if, plus}
@@ -30,25 +37,20 @@ pub use Rattle.xl_model.specs.declared.leaf.Leaf.{Leaf}
 pub use Rattle.xl_model.specs.declared.perm.Perm.{Perm}
 pub use Rattle.xl_model.specs.declared.work.Refused.{Refused}
 pub use Rattle.xl_model.specs.declared.work.Work.{Work}
-pub use Rattle.xl_model_lemmas.proofs.BucketLemmas.{by-In, In-by, length-by, stays-by, tags-by}
 pub use Rattle.xl_model_lemmas.proofs.InsertionLemmas.{In-with, In-without, same-place, sorted-with, sorted-without, stays-with, with-In, without-In, without-other}
 pub use Rattle.xl_model_lemmas.proofs.KeptLemmas.{mapping-In, mapping-sorted, meets-sym, place-meets}
-pub use Rattle.xl_model_lemmas.proofs.MemberLemmas.{any-false, any-In, filter-In, filter-passes, find-In, find-only, find-passes, In-any, In-append, In-filter, In-left, In-map, In-right}
-pub use Rattle.xl_model_lemmas.proofs.OnceLemmas.{once-short, own-number}
 pub use Rattle.xl_model_lemmas.proofs.OrderLemmas.{level-low, order-same, orders-same, pages-some, same-level}
 pub use Rattle.xl_model_lemmas.proofs.PlaceLemmas.{aligned-frame, covers-meets, named-first, named-key, named-order, named-space}
-pub use Rattle.xl_model_lemmas.proofs.SameLemmas.{any-each, any-find, any-or, both, none-any, same-tests}
 pub use Rattle.xl_model_lemmas.proofs.SortedLemmas.{same-sorted, with-without}
-pub use Rattle.xl_model_lemmas.proofs.TallyLemmas.{tally-any, tally-short}
 pub use Rattle.xl_model_lemmas.specs.Entries.{or_leaf, with_some}
 unfoldable pub use Rattle.xl_model_lemmas.specs.Kept.{mapping_of}
-pub use Rattle.xl_model_lemmas.specs.Members.{In, IsSorted}
-pub use Rattle.xl_model_lemmas.specs.Sections.{counts_at, IsAligned, key_in, of_order, tally}
+pub use Rattle.xl_model_lemmas.specs.Sections.{counts_at, IsAligned, key_in, of_order}
+pub use Rattle.xl_model_lemmas.specs.Sorted.{IsSorted}
 pub use Rattle.xl_pte.specs.ReadBack.{MadeWordsReadBack}
 pub use Rattle.xl_tagged.specs.Counted.{any_smaller, AreCounted, AreIn, AreLess, AreMore, HasRoom, HaveRoom, is_smaller, IsCounted, IsIn, IsLess, IsMore, smaller_word, SmallerState}
 pub use Rattle.xl_tagged.specs.Forms.{before, Form, group_of, most_tags, One, Sixteen, slot_of, values_by, word_at}
 unfoldable pub use Rattle.xl_tagged.specs.Forms.{values_under}
 pub use Rattle.xl_tagged.specs.Slots.{chained, first_found, found_from, found_in, held_leaves, leaf_read, leaf_said, loaded_more, loads_by, NoneLarge, order_loads, small_known, table_in, walk_loads}
-unfoldable pub use Rattle.xl_tagged.specs.Slots.{leaf_in, slot_leaves, leaves_under}
+unfoldable pub use Rattle.xl_tagged.specs.Slots.{leaf_in, leaves_under, slot_leaves}
 pub use Rattle.xl_tagged.specs.Steps.{given_word, IsPut, IsSameTable, IsSet, IsTaken, IsWritten, word_found}
 pub use Rattle.xl_tagged.specs.Tagged.{AreHeld, AreSized, IsAt, IsFit, IsTagged}

@@ -1,5 +1,5 @@
 -- Counts of smaller leaves by section, as leaves come and go; and that there is room for them.
-use Rattle.xl_tagged.proofs.Common.{◌%◌, ◌&&◌, ◌*◌, ◌++◌, ◌+◌, ◌/◌, ◌<◌, ◌==◌, ◌^◌, ◌∙◌, ◌∷◌, ◌≡◌, ◌≤◌, [], any-In, ap, AreHeld, arith, at-level, Bool, cond, counts_at, false, Form, group_of, HasRoom, In, In-map, inl, inr, is_smaller, IsAligned, IsCounted, IsFit, IsIn, IsLess, IsMore, IsSorted, key_in, Leaf, leaf_in, leaf_key, leaf_tag, slot_leaves, leaves_under, length, length-append, length-map, level_of, List, list_any, MadeWordsReadBack, map, mapping_of, nat_le, nat_tests, None, not, of_order, once-short, One, one_if, Option, Order, order_at, pages_of, Perm, refl, same_order, Sixteen, smaller_word, Some, subst, suc, sym, tally, tally-short, true, with_leaf, with_some, without-other, without_leaf, word_at, zero, ℕ}
+use Rattle.xl_tagged.proofs.Common.{◌%◌, ◌&&◌, ◌*◌, ◌++◌, ◌+◌, ◌/◌, ◌<◌, ◌==◌, ◌^◌, ◌∙◌, ◌∷◌, ◌≡◌, ◌≤◌, [], any-In, ap, AreHeld, arith, at-level, Bool, cond, counts_at, false, Form, group_of, HasRoom, In, In-map, inl, inr, is_smaller, IsAligned, IsCounted, IsFit, IsIn, IsLess, IsMore, IsSorted, key_in, Leaf, leaf_in, leaf_key, leaf_tag, leaves_under, length, length-append, length-map, level_of, List, list_any, MadeWordsReadBack, map, mapping_of, nat_le, nat_tests, None, not, of_order, once-short, One, one_if, Option, Order, order_at, pages_of, Perm, refl, same_order, Sixteen, slot_leaves, smaller_word, Some, subst, suc, sym, tally, tally-short, true, with_leaf, with_some, without-other, without_leaf, word_at, zero, ℕ}
 use Rattle.xl_model_lemmas.proofs.LeafTallyLemmas.{tally-less, tally-with}
 use Rattle.xl_sections.proofs.KeyLemmas.{counted}
 use Rattle.xl_sections.specs.Counted.{AreCounts, Count, count_of, CountState, keys_of, unit}

@@ -1,8 +1,8 @@
 -- What walks and looks find: the leaf of a page, the loads of its search, and whether a block
 -- overlaps a leaf.
 use Rattle.xl_tagged.proofs.Common.{◌&&◌, ◌*◌, ◌+◌, ◌/◌, ◌<◌, ◌==◌, ◌^◌, ◌||◌, ◌∙◌, ◌≡◌, ◌≤◌, any-each, any-find, any-or, ap, AreHeld, arith, Bool, chain_reads, chains_reads, cond, counts_at, covers, covers-meets, false, find, find-In, find-only, find-passes, first_found, Form, found_from, found_in, group_of, In, In-any, inl, inr, is_smaller, is_some, IsAligned, IsAt, Leaf, leaf_at_page, leaf_read, leaf_tag, leaf_word, level_of, List, list_any, loads_by, MadeWordsReadBack, meets_any, meets_block, nat_tests, None, none-any, not, of_order, Option, or_leaf, Order, order-same, orders-same, orders_tried, pages-some, pages_of, refl, same-tests, same_order, slot_of, smaller_word, Some, subst, sym, tag_of, tally, tally-any, true, word_at, ℕ}
-use Rattle.xl_model_lemmas.proofs.BlockLemmas.{meets-g1, meets-m2}
 use Rattle.xl_model_lemmas.proofs.SearchLemmas.{only, only-first}
+use Rattle.xl_tagged.proofs.BlockLemmas.{meets-g1, meets-m2}
 use Rattle.xl_tagged.proofs.PlaceLemmas.{at-covers, covered-number, covers-at, slot-low}
 use Rattle.xl_tagged.proofs.SlotLemmas.{leaf-some, none-read, read-leaf}
 use Rattle.xl_model.specs.declared.address.Order.TheVariants as order

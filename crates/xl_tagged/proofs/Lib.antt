@@ -10,3 +10,4 @@ pub mod WholeLemmas
 pub mod StepLemmas
 pub mod SearchLemmas
 pub mod GroupLemmas
+mod BlockLemmas

@@ -1,5 +1,5 @@
 -- Leaves are read back from their slots, and what is held under tags is known by its leaves.
-use Rattle.xl_tagged.proofs.Common.{◌%◌, ◌*◌, ◌+◌, ◌/◌, ◌<◌, ◌==◌, ◌^◌, ◌∙◌, ◌∷◌, ◌≡◌, ◌≤◌, ◌⊎◌, [], ap, AreHeld, arith, at-level, false, Form, group_of, IfNone, IfSome, In, In-append, In-left, In-right, In-with, inl, inr, IsAt, IsFit, Leaf, leaf_in, leaf_key, leaf_read, leaf_said, leaf_tag, leaf_word, slot_leaves, leaves_under, length, level-low, level_of, List, MadeWordsReadBack, mapping-In, mapping-sorted, mapping_of, nat_tests, None, Option, Order, order_at, pages_of, Perm, refl, same-place, same-sorted, slot_of, small_known, Some, stays-with, subst, suc, sym, true, with_leaf, with_some, word_at, zero, ℕ}
+use Rattle.xl_tagged.proofs.Common.{◌%◌, ◌*◌, ◌+◌, ◌/◌, ◌<◌, ◌==◌, ◌^◌, ◌∙◌, ◌∷◌, ◌≡◌, ◌≤◌, ◌⊎◌, [], ap, AreHeld, arith, at-level, false, Form, group_of, IfNone, IfSome, In, In-append, In-left, In-right, In-with, inl, inr, IsAt, IsFit, Leaf, leaf_in, leaf_key, leaf_read, leaf_said, leaf_tag, leaf_word, leaves_under, length, level-low, level_of, List, MadeWordsReadBack, mapping-In, mapping-sorted, mapping_of, nat_tests, None, Option, Order, order_at, pages_of, Perm, refl, same-place, same-sorted, slot_leaves, slot_of, small_known, Some, stays-with, subst, suc, sym, true, with_leaf, with_some, word_at, zero, ℕ}
 use Rattle.xl_pte.specs.Decode.{decode_of, SaysNone, SaysSmall}
 use Rattle.xl_pte.specs.declared.word.Pte.{Pte}
 use Rattle.xl_tagged.proofs.PlaceLemmas.{at-one, group-back, HasParts, IsSamePlace, number-back, slot-low, tag-parts}

@@ -1,8 +1,8 @@
 -- The result of each change, for a table of chains.
 use Rattle.xl_tagged.proofs.Common.{◌<◌, ◌==◌, ◌∙◌, ◌∷◌, ◌≡◌, ◌≤◌, [], after_by, answer_by, any-In, ap, arith, at_page, both, bucket_of, by-In, caches_purged, chained, Change, changed, cond, eq-eqb, eqb-true, Err, false, filter, find-only, finds_place, Form, group_of, has_tag, In, In-any, In-by, In-with, in_front_of_bucket, inl, inr, Insert, is_leaf, is_some, IsChange, IsSorted, Leaf, leaf_key, leaf_named, leaf_tag, length, length-by, List, list_any, Made, moves_made, named-key, nat_le, nat_lt, nat_tests, no_moves, None, none-any, not, Ok, only_used_tags, Option, Order, Perm, Protect, refl, Refused, Relocate, Remove, Result, same-place, Some, sorted-with, stays-by, stays-with, subst, suc, sym, table_after, table_answer, table_made, TableState, true, verdict, verdict_by, with-without, with_leaf, with_new, with_perm, with_tag, without_leaf, without_old, Work, work_of, ℕ}
+use Rattle.xl_list_lemmas.specs.Buckets.{in_front_by}
 use Rattle.xl_model.specs.Room.{has_room, room_for}
 use Rattle.xl_model.specs.Shapes.{brought, Chained, narrowed, shape_after, widened}
-use Rattle.xl_model_lemmas.specs.Buckets.{in_front_by}
 use Rattle.xl_tagged.proofs.HeldLemmas.{IsTagWith}
 use Rattle.xl_model.specs.declared.work.NoRoom.TheVariants as why
 

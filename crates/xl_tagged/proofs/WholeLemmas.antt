@@ -4,7 +4,6 @@ use Rattle.xl_chain.specs.declared.shape.ChainShape.{ChainShape}
 use Rattle.xl_model.specs.declared.event.Reach.{Reach}
 use Rattle.xl_model.specs.declared.work.Walk.{Walk}
 use Rattle.xl_model_lemmas.proofs.MappingLemmas.{named-In, named-is}
-use Rattle.xl_model_lemmas.proofs.TagLemmas.{named-tag}
 use Rattle.xl_tagged.proofs.ChainLemmas.{values-none}
 use Rattle.xl_tagged.proofs.CountLemmas.{counted-given, counted-less, counted-none, counted-with, has-room, is-in}
 use Rattle.xl_tagged.proofs.FindLemmas.{at-page, found-from, from-is, from-only, loads-are, meets-is, none-other, page-found}
@@ -13,6 +12,10 @@ use Rattle.xl_tagged.proofs.PlaceLemmas.{at-one, place-key, slot-low}
 use Rattle.xl_tagged.proofs.SlotLemmas.{known-leaves, leaf-some, read-leaf}
 use Rattle.xl_tagged.proofs.StateLemmas.{at_to, done, full-up, inserted, is-move, IsMove, IsMoving, no_table, protected, removed, tag-with, used-all, used-but, used-with}
 use Rattle.xl_model.specs.declared.address.Order.TheVariants as order
+
+pub named-tag : (group s f : ℕ) (o : Order) (x : Leaf) → is_leaf s f o x ≡ true → leaf_tag group x ≡ tag_of group s o f
+named-tag group s f o x h =
+    ap (λ a. tag_of group a x.order x.first) (named-space s f o x h) ∙ ap (λ p. tag_of group s p x.first) (named-order s f o x h) ∙ ap (tag_of group s o) (named-first s f o x h)
 
 -- what a change leaves of the chains and counts, and its answer
 pub record IsStep (f : Form) (c : Change) (old new : ChainState) (t : SmallerState) (r : Result Work Refused) : Type 0 where

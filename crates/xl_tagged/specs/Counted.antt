@@ -6,8 +6,9 @@ use Rattle.xl_model.specs.declared.address.Order.{Order}
 use Rattle.xl_model.specs.declared.address.Order.TheVariants as order
 use Rattle.xl_model.specs.declared.leaf.Leaf.{Leaf}
 use Rattle.xl_model.specs.Addresses.{level_of, pages_of}
-use Rattle.xl_model_lemmas.specs.Members.{In}
-use Rattle.xl_model_lemmas.specs.Sections.{counts_at, of_order, tally}
+use Rattle.xl_list_lemmas.specs.Members.{In}
+use Rattle.xl_list_lemmas.specs.Tallies.{tally}
+use Rattle.xl_model_lemmas.specs.Sections.{counts_at, of_order}
 use Rattle.xl_sections.specs.Counted.{unit, count_of, CountState, AreCounts}
 use Rattle.xl_sections.specs.Noted.{share, IsRoomy, IsShared}
 

@@ -5,7 +5,7 @@ use Rattle.xl_model.specs.declared.leaf.Leaf.{Leaf}
 use Rattle.xl_model.specs.declared.perm.Perm.{Perm}
 use Rattle.xl_model.specs.Chains.{tag_of, leaf_tag, has_tag}
 use Rattle.xl_model.specs.Words.{leaf_word}
-use Rattle.xl_model_lemmas.specs.Members.{In}
+use Rattle.xl_list_lemmas.specs.Members.{In}
 use Rattle.xl_chain.specs.Held.{Held, ChainState, tags_of}
 use Rattle.xl_tagged.specs.Forms.{Form, group_of, slot_of, values_under, word_at}
 use Rattle.xl_tagged.specs.Counted.{SmallerState}

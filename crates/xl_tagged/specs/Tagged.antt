@@ -5,7 +5,8 @@ use Rattle.xl_model.specs.Addresses.{level_of}
 use Rattle.xl_model.specs.Chains.{leaf_tag}
 use Rattle.xl_model.specs.Mapping.{meets_block}
 use Rattle.xl_model.specs.Words.{leaf_word}
-use Rattle.xl_model_lemmas.specs.Members.{In, IsSorted}
+use Rattle.xl_list_lemmas.specs.Members.{In}
+use Rattle.xl_model_lemmas.specs.Sorted.{IsSorted}
 use Rattle.xl_model_lemmas.specs.Sections.{IsAligned}
 use Rattle.xl_chain.specs.Held.{Held, ChainState, tags_of}
 use Rattle.xl_tagged.specs.Forms.{Form, group_of, before, slot_of, values_under, word_at}

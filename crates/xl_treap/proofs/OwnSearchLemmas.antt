@@ -1,6 +1,6 @@
 -- The search for the node whose pages hold a key.
 use Rattle.xl_treap.proofs.Common.{◌%◌, ◌*◌, ◌+◌, ◌-◌, ◌<◌, ◌^◌, ◌∙◌, ◌≡◌, ◌≤◌, ap, arith, Bin, examined, found, High, IsReached, IsTree, length, link_at, List, Low, pick-no, pick-yes, range_key, ranges, refl, slice_index, Some, suc, sym, Tip, Tree, ℕ}
-use Rattle.xl_treap.proofs.UnderLemmas.{IsTop, IsPlaced, placed-tree, tip-of, top-of}
+use Rattle.xl_treap.proofs.UnderLemmas.{IsPlaced, IsTop, placed-tree, tip-of, top-of}
 
 -- a link reached by `loads` nodes: the tree under it decides, with the other nodes to examine
 pub record IsLeft (words : List ℕ) (t : Tree) (k loads at : ℕ) : Type 0 where

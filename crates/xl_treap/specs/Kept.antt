@@ -1,7 +1,7 @@
 -- What the words of a treap, and the numbers of its free nodes, keep.
 use Rattle.std.specs.Prelude.{ℕ, zero, suc, ◌≡◌, ◌+◌, ◌*◌, ◌^◌, ◌<◌, ◌≤◌, List, [], ◌∷◌, ◌++◌, length, find}
 use Rattle.xl_model.specs.Ranges.{holds_page, range_reads}
-use Rattle.xl_model_lemmas.specs.Members.{In, Once}
+use Rattle.xl_list_lemmas.specs.Members.{In, Once}
 use Rattle.xl_phys.specs.Lines.{counted}
 use Rattle.xl_treap.specs.Treaps.{TreapState, IsApart}
 use Rattle.xl_treap.specs.Back.{tree_back, tree_loads, end_of}

@@ -1,8 +1,8 @@
 -- The words of a way: where the words of a slot are, and what a look at them finds.
 use Rattle.xl_way.proofs.Common.{◌&&◌, ◌*◌, ◌++◌, ◌+◌, ◌/◌, ◌<◌, ◌==◌, ◌^◌, ◌∙◌, ◌∷◌, ◌≡◌, ◌≤◌, [], ap, AreApart, ArePlaced, arith, Bool, cell, cond, entries_of, Entry, eq-eqb, false, find, found_in, get_or, get_or-append-add, get_or_append_left, inl, inr, IsKept, IsLine, kept_of, length, length-append, List, look_of, nat_lt, nat_tests, no_entry, None, not, or_empty, passing, refl, slice_index, slot, slot_back, slot_says, slot_words, slots_of, Some, standing, suc, sym, true, WayRegs, WayShape, word_in, word_of, words_of, WordsReadBack, zero, ℕ}
 use Rattle.std.proofs.Math.Nat.{pow-suc}
-use Rattle.xl_model_lemmas.specs.Buckets.{gather}
-use Rattle.xl_model_lemmas.specs.Members.{In}
+use Rattle.xl_list_lemmas.specs.Buckets.{gather}
+use Rattle.xl_list_lemmas.specs.Members.{In}
 use Rattle.xl_way.proofs.SlotLemmas.{find-at}
 use Rattle.xl_way.proofs.WayLemmas.{slot-inside, way_of, word-is}
 

@@ -3,7 +3,7 @@ use Rattle.std.specs.Prelude.{ℕ, ◌≡◌, ◌+◌, ◌-◌, ◌*◌, ◌%◌
 use Rattle.xl_model.specs.declared.way.Entry.{Entry}
 use Rattle.xl_model.specs.declared.way.WayRegs.{WayRegs}
 use Rattle.xl_model.specs.Ways.{WayShape, slot}
-use Rattle.xl_model_lemmas.specs.Members.{In}
+use Rattle.xl_list_lemmas.specs.Members.{In}
 use Rattle.xl_way.specs.Slots.{no_entry, cell, entries_of, word_of}
 use Rattle.xl_way.specs.Words.{slots_of, words_of}
 use Rattle.xl_way.specs.Back.{slot_back, look_of}

@@ -3,7 +3,7 @@
 use Rattle.std.specs.Prelude.{ℕ, ◌^◌, ◌==◌, if◌then◌else◌, List, [], ◌∷◌, find, Option, None, Some}
 use Rattle.xl_model.specs.declared.way.Entry.{Entry}
 use Rattle.xl_model.specs.Ways.{WayShape, slot}
-use Rattle.xl_model_lemmas.specs.Buckets.{gather}
+use Rattle.xl_list_lemmas.specs.Buckets.{gather}
 use Rattle.xl_way.specs.Slots.{no_entry}
 
 -- The slots of a way that may grow to 2^cap of them: those, and no fewer than a line has.

@@ -1,4 +1,4 @@
-use Rattle.xl_chain.proofs.Common.{◌∙◌, ◌≡◌, lit<, moved, Option, subst, known, ℕ}
+use Rattle.xl_chain.proofs.Common.{◌∙◌, ◌≡◌, known, lit<, moved, Option, subst, ℕ}
 use Rattle.xl_chain.proofs.IndexLemmas.{index-more, still-held}
 use Rattle.xl_chain.proofs.places.insert_placed.Goals as goal
 

@@ -1,4 +1,4 @@
-use Rattle.xl_chain.proofs.Common.{◌∙◌, ◌≡◌, ap, false, has_tag, is_some, None, sym, tags_of, known}
+use Rattle.xl_chain.proofs.Common.{◌∙◌, ◌≡◌, ap, false, has_tag, is_some, known, None, sym, tags_of}
 use Rattle.xl_chain.proofs.IndexLemmas.{none-found}
 use Rattle.xl_chain.proofs.places.look_placed.Goals as goal
 

@@ -1,4 +1,4 @@
-use Rattle.xl_chain.proofs.Common.{◌∙◌, ◌≡◌, lit<, moved, Option, place_at, Some, subst, sym, known, ℕ}
+use Rattle.xl_chain.proofs.Common.{◌∙◌, ◌≡◌, known, lit<, moved, Option, place_at, Some, subst, sym, ℕ}
 use Rattle.xl_chain.proofs.IndexLemmas.{index-less, still-held}
 use Rattle.xl_chain.proofs.places.remove_placed.Goals as goal
 

@@ -1,4 +1,4 @@
-use Rattle.xl_chain.proofs.Common.{◌∙◌, ap, arith, found_of, held_with, In-any, is_entry, lit<, moved, nat_tests, place_found, sym, known}
+use Rattle.xl_chain.proofs.Common.{◌∙◌, ap, arith, found_of, held_with, In-any, is_entry, known, lit<, moved, nat_tests, place_found, sym}
 use Rattle.xl_chain.proofs.IndexLemmas.{found-entry, known-set}
 use Rattle.xl_chain.proofs.places.set_place.Goals as goal
 

@@ -1,8 +1,8 @@
 use Rattle.xl_cuckoo_walk.proofs.Common.{◌≤◌, Insert, length, lit<, RowParts, subst, sym}
-use Rattle.xl_model.specs.declared.address.Order.TheVariants as order
 use Rattle.xl_cuckoo_walk.proofs.HoldLemmas.{few-ways, fit-leaf}
 use Rattle.xl_cuckoo_walk.proofs.StepLemmas.{counted-row, inserted-by, less-cached, SteppedRow}
 use Rattle.xl_cuckoo_walk.proofs.insert.insert_leaf.Given.{Over}
+use Rattle.xl_model.specs.declared.address.Order.TheVariants as order
 use Rattle.xl_cuckoo_walk.proofs.insert.insert_leaf.Goals as goal
 
 pub refresh_displaced-requires : goal.refresh_displaced-requires

@@ -1,6 +1,6 @@
 use Rattle.xl_cuckoo_walk.proofs.Common.{◌%◌, ◌/◌, ◌<◌, ◌^◌, ◌∙◌, ◌≡◌, ap, IsChange, IsSome, leaf_word, lit<, None, Ok, Protect, refl, row_state, Some, subst, sym, table_of, value_of, ways_in, ways_of}
-use Rattle.xl_cuckoo_walk.proofs.IndexLemmas.{ways-table}
 use Rattle.xl_cuckoo_walk.proofs.GiveLemmas.{GivenRow, row-given}
+use Rattle.xl_cuckoo_walk.proofs.IndexLemmas.{ways-table}
 use Rattle.xl_cuckoo_walk.proofs.NamedLemmas.{named-leaf, NamedLeaf, word-some}
 use Rattle.xl_cuckoo_walk.proofs.protect.protect_leaf.Given.{Over}
 use Rattle.xl_cuckoo_walk.proofs.protect.protect_leaf.Goals as goal

@@ -1,11 +1,11 @@
 use Rattle.xl_cuckoo_walk.proofs.Common.{◌∙◌, ◌≡◌, ◌≤◌, length, lit<, None, Relocate, RowParts, Some, subst, sym}
-use Rattle.xl_model.specs.declared.address.Order.TheVariants as order
 use Rattle.xl_cuckoo_walk.proofs.HoldLemmas.{few-ways}
 use Rattle.xl_cuckoo_walk.proofs.LookLemmas.{block-parts}
 use Rattle.xl_cuckoo_walk.proofs.NamedLemmas.{named-leaf, NamedLeaf}
 use Rattle.xl_cuckoo_walk.proofs.RelocateLemmas.{found-leaf, free-new, holds-between, moved-by, moved-refused, named-between, named-found, named-page, valid-new}
 use Rattle.xl_cuckoo_walk.proofs.StepLemmas.{counted-row, less-cached, SteppedRow}
 use Rattle.xl_cuckoo_walk.proofs.relocate.relocate_leaf.Given.{Over}
+use Rattle.xl_model.specs.declared.address.Order.TheVariants as order
 use Rattle.xl_cuckoo_walk.proofs.relocate.relocate_leaf.Goals as goal
 
 pub leaf_of_page-requires : goal.leaf_of_page-requires

@@ -1,7 +1,6 @@
-use Rattle.xl_cuckoo_walk.proofs.Common.{◌+◌, ◌∙◌, ◌≡◌, ap, by_size, Cached, CuckooState, fills_m2, hit_of, is_some, IsRow, Item, Leaf, lit<, Middle, None, one_if, Option, or_leaf, Order, page_key, parts_by, Plan, probed, refl, RowParts, Size, Some, subst, sym, ℕ}
-use Rattle.xl_cuckoo_walk.proofs.IndexLemmas.{each, each-size}
-use Rattle.xl_cuckoo_walk.proofs.WalkLemmas.{cache_walked, few-probed, filled-same, fills_size, found-words, hits_in, IsWalked, page-of, plan_in, probe-ready, said_in, steps-walked}
-use Rattle.xl_cuckoo_walk.specs.Soles.{plans_by}
+use Rattle.xl_cuckoo_walk.proofs.Common.{◌+◌, ◌∙◌, ◌≡◌, ap, by_size, Cached, CuckooState, fills_m2, hit_of, is_some, IsRow, Item, Leaf, lit<, Middle, None, one_if, Option, or_leaf, Order, page_key, parts_by, Plan, plans_by, probed, refl, RowParts, Size, Some, subst, sym, ℕ}
+use Rattle.xl_cuckoo_walk.proofs.IndexLemmas.{each}
+use Rattle.xl_cuckoo_walk.proofs.WalkLemmas.{cache_walked, few-probed, filled-same, found-words, IsWalked, page-of, plan_in, probe-ready, said_in, steps-walked}
 use Rattle.xl_cuckoo_walk.proofs.walk.walk_next.Given.{Over}
 use Rattle.xl_model.specs.declared.address.Order.TheVariants as order
 use Rattle.xl_cuckoo_walk.proofs.walk.walk_next.Goals as goal

@@ -1,5 +1,6 @@
-use Rattle.xl_model_table.proofs.Common.{◌++◌, ◌∙◌, ap, append-nil, arith, drop_all, given, map, perm-named-is, set, sym, take, take_all}
+use Rattle.xl_model_table.proofs.Common.{◌++◌, ◌∙◌, ap, append-nil, arith, drop_all, map, set, sym, take, take_all}
 use Rattle.std.proofs.lemmas.List.Edits.{map_over_more}
+use Rattle.xl_model_table.proofs.GivenLemmas.{given, perm-named-is}
 use Rattle.xl_model_table.proofs.kept.give_perm.Goals as goal
 
 pub loop-leaf-preserved : goal.loop-leaf-preserved

@@ -1,4 +1,5 @@
-use Rattle.xl_model_table.proofs.Common.{◌++◌, ◌≡◌, drop, given, map, take}
+use Rattle.xl_model_table.proofs.Common.{◌++◌, ◌≡◌, drop, map, take}
+use Rattle.xl_model_table.proofs.GivenLemmas.{given}
 use Rattle.xl_model_table.proofs.kept.give_perm.Given as goal
 
 abbrev pub invariant-loop-leaf : goal.invariant-loop-leaf

@@ -1,4 +1,4 @@
-use Rattle.xl_rack.proofs.BatchLemmas.{each-first, batched-stays}
+use Rattle.xl_rack.proofs.BatchLemmas.{batched-stays, each-first}
 use Rattle.xl_rack.proofs.batch.+serve_in_turn.Goals as goal
 
 pub returns : goal.returns

@@ -1,4 +1,4 @@
-use Rattle.xl_rack.proofs.BatchLemmas.{each-same, each-then, batched-in-parts}
+use Rattle.xl_rack.proofs.BatchLemmas.{batched-in-parts, each-same, each-then}
 use Rattle.xl_rack.proofs.batch.+serve_side_by_side.Goals as goal
 
 pub returns : goal.returns

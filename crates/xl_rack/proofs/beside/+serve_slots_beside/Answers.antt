@@ -1,5 +1,5 @@
 use Rattle.xl_rack.proofs.Common.{[], curve_served, map, served_of}
-use Rattle.xl_rack.proofs.BatchLemmas.{each-first, batched-stays}
+use Rattle.xl_rack.proofs.BatchLemmas.{batched-stays, each-first}
 use Rattle.xl_rack.proofs.BesideLemmas.{no-curves}
 use Rattle.xl_rack.proofs.beside.+serve_slots_beside.Goals as goal
 

@@ -1,4 +1,4 @@
-use Rattle.xl_serving.proofs.Common.{commands_said, file_of, Finds, Ok, said_in, ReadsWhole, known_one}
+use Rattle.xl_serving.proofs.Common.{commands_said, file_of, Finds, known_one, Ok, ReadsWhole, said_in}
 use Rattle.xl_serving.proofs.InputLemmas.{commands_cut, finds_text}
 use Rattle.xl_serving.proofs.opening.read_commands.Goals as goal
 

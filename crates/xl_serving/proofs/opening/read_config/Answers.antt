@@ -1,4 +1,4 @@
-use Rattle.xl_serving.proofs.Common.{file_of, Finds, map, Ok, row_of, rows_in, rows_said, ReadsWhole, known_one}
+use Rattle.xl_serving.proofs.Common.{file_of, Finds, known_one, map, Ok, ReadsWhole, row_of, rows_in, rows_said}
 use Rattle.xl_serving.proofs.InputLemmas.{finds_text, rows_cut}
 use Rattle.xl_serving.proofs.opening.read_config.Goals as goal
 

@@ -1,4 +1,4 @@
-use Rattle.xl_serving.proofs.Common.{Finds, subst, known_all}
+use Rattle.xl_serving.proofs.Common.{Finds, known_all, subst}
 use Rattle.xl_serving.proofs.InputLemmas.{none_said}
 use Rattle.xl_serving.proofs.opening.read_script.Goals as goal
 

@@ -1,4 +1,4 @@
-use Rattle.xl_serving.proofs.Common.{◌≡◌, account_by, account_from, Ends, Err, Finds, inl, is_err_by, Ok, plain_account, plain_of, plain_rows, plain_start, refl, rows_from, start_of, known_one, known_then, trail_for}
+use Rattle.xl_serving.proofs.Common.{◌≡◌, account_by, account_from, Ends, Err, Finds, inl, is_err_by, known_one, known_then, Ok, plain_account, plain_of, plain_rows, plain_start, refl, rows_from, start_of, trail_for}
 use Rattle.xl_serving.proofs.EndLemmas.{opened_or, started_ends, started_rows, stopped_ends}
 use Rattle.xl_serving.proofs.running.report.Goals as goal
 

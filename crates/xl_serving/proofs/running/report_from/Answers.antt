@@ -1,4 +1,4 @@
-use Rattle.xl_serving.proofs.Common.{◌≡◌, account, course, end_text, Ends, inl, inr, plain, plain_of, refl, scene_of, states_after, steps_of, known_one, trail_for, drained}
+use Rattle.xl_serving.proofs.Common.{◌≡◌, account, course, drained, end_text, Ends, inl, inr, known_one, plain, plain_of, refl, scene_of, states_after, steps_of, trail_for}
 use Rattle.xl_serving.proofs.PlainLemmas.{can-script, course-ends, course-rows, fresh}
 use Rattle.xl_serving.proofs.running.report_from.Goals as goal
 

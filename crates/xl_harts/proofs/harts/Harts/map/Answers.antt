@@ -1,5 +1,5 @@
 use Rattle.xl_harts.proofs.Common.{◌∙◌, ◌≡◌, ap, Buffer, HartsState, Insert, leaf_at, None, refl, refusal_of, Request, row_table, Some, state_of}
-use Rattle.xl_harts.proofs.ChangeLemmas.{all-short, change-room, harts-after, map-finds, map-new, map-known, pool-mapped, queue-room, state-after}
+use Rattle.xl_harts.proofs.ChangeLemmas.{all-short, change-room, harts-after, map-finds, map-known, map-new, pool-mapped, queue-room, state-after}
 use Rattle.xl_harts.proofs.RefusalLemmas.{leaf-in}
 use Rattle.xl_harts.proofs.StepLemmas.{written}
 use Rattle.xl_model.specs.declared.event.Event.TheVariants as event

@@ -1,5 +1,5 @@
 use Rattle.xl_harts.proofs.Common.{◌∙◌, ap, HartsState, None, Some}
-use Rattle.xl_harts.proofs.StepLemmas.{refused-after, refused-outcome, space-after, space-done, space-none, space-refused, space-known}
+use Rattle.xl_harts.proofs.StepLemmas.{refused-after, refused-outcome, space-after, space-done, space-known, space-none, space-refused}
 use Rattle.xl_hart_model.specs.declared.hart.HartEvent.TheVariants as step
 use Rattle.xl_hart_model.specs.declared.hart.HartRefusal.TheVariants as why
 use Rattle.xl_model.specs.declared.event.Event.TheVariants as event

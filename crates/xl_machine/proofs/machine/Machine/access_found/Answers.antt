@@ -1,5 +1,5 @@
 use Rattle.xl_machine.proofs.Common.{arith, HasPage, row_of, small_leaf}
-use Rattle.xl_machine.proofs.Accesses.{has_page, missed_kept, page_in, same_access_left, same_kept, small_found, replied_leaf, walked_reached}
+use Rattle.xl_machine.proofs.Accesses.{has_page, missed_kept, page_in, replied_leaf, same_access_left, same_kept, small_found, walked_reached}
 use Rattle.xl_machine.proofs.machine.Machine.access_found.Goals as goal
 
 pub walk_allowed-requires : goal.walk_allowed-requires

@@ -1,5 +1,5 @@
 use Rattle.xl_machine.proofs.Common.{◌∙◌, None, refl, small_leaf, Some, sym}
-use Rattle.xl_machine.proofs.Accesses.{missed_kept, page_in, page_small, small_answer, small_replied, replied_hits, replied_leaf, walked_answer, walked_fit, walked_kept, walked_reached}
+use Rattle.xl_machine.proofs.Accesses.{missed_kept, page_in, page_small, replied_hits, replied_leaf, small_answer, small_replied, walked_answer, walked_fit, walked_kept, walked_reached}
 use Rattle.xl_machine.proofs.machine.Machine.access_walk_in_turn.Goals as goal
 
 pub quick_walk-requires : goal.quick_walk-requires

@@ -1,6 +1,7 @@
-use Rattle.xl_machine.proofs.Common.{ap, is_some, Leaf, new-place, Option, page_of, pool-relocated, row_of}
+use Rattle.xl_machine.proofs.Common.{ap, is_some, Leaf, new-place, Option, page_of, row_of}
 use Rattle.xl_machine.proofs.CommandLemmas.{block-for}
 use Rattle.xl_machine.proofs.NamedChanges.{made-answer, made-kept, made-state, move-known, unmade-answer, unmade-kept, unmade-state}
+use Rattle.xl_machine.proofs.PoolLemmas.{pool-relocated}
 use Rattle.xl_machine.proofs.machine.Machine.relocate.Goals as goal
 
 pub relocate-requires-clause-there : goal.relocate-requires-clause-there

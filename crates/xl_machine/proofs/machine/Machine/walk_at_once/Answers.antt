@@ -1,5 +1,5 @@
 use Rattle.xl_machine.proofs.Common.{arith, Leaf, small_leaf}
-use Rattle.xl_machine.proofs.Accesses.{allowed_reply, page_in, page_small, same_kept, same_walk_left, small_answer, replied_leaf, walked_kept, walked_reached}
+use Rattle.xl_machine.proofs.Accesses.{allowed_reply, page_in, page_small, replied_leaf, same_kept, same_walk_left, small_answer, walked_kept, walked_reached}
 use Rattle.xl_machine.proofs.machine.Machine.walk_at_once.Goals as goal
 
 pub walk_allowed-requires : goal.walk_allowed-requires

@@ -1,4 +1,5 @@
-use Rattle.xl_model_table.proofs.Common.{◌<◌, ◌∙◌, ◌≡◌, ◌≤◌, ap, arith, in_front, insert, IsKept, kept-front, length, subst, sym, vec_len}
+use Rattle.xl_model_table.proofs.Common.{◌<◌, ◌∙◌, ◌≡◌, ◌≤◌, ap, arith, in_front, insert, IsKept, length, subst, sym, vec_len}
+use Rattle.xl_model_table.proofs.FrontLemmas.{kept-front}
 use Rattle.xl_model_table.proofs.TableLemmas.{coming, insert-made, insert-refused, IsComing}
 use Rattle.xl_model_table.proofs.plain.ListTable.add.Goals as goal
 

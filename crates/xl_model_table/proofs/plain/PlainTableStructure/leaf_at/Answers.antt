@@ -1,4 +1,5 @@
-use Rattle.xl_model_table.proofs.Common.{◌∙◌, ap, covers, find, leaf-at-mapping, leaf_at_page}
+use Rattle.xl_model_table.proofs.Common.{◌∙◌, ap, covers, find, leaf_at_page}
+use Rattle.xl_model_table.proofs.ReadLemmas.{leaf-at-mapping}
 use Rattle.xl_model_table.proofs.plain.PlainTableStructure.leaf_at.Goals as goal
 
 pub returns : goal.returns

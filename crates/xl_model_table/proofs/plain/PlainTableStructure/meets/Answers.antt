@@ -1,4 +1,5 @@
-use Rattle.xl_model_table.proofs.Common.{◌∙◌, ap, list_any, meets-mapping, meets_any, meets_block}
+use Rattle.xl_model_table.proofs.Common.{◌∙◌, ap, list_any, meets_any, meets_block}
+use Rattle.xl_model_table.proofs.ReadLemmas.{meets-mapping}
 use Rattle.xl_model_table.proofs.plain.PlainTableStructure.meets.Goals as goal
 
 pub returns : goal.returns

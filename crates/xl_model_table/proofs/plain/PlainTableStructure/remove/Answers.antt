@@ -1,5 +1,6 @@
-use Rattle.xl_model_table.proofs.Common.{arith, IsKept, kept-without, subst, sym}
+use Rattle.xl_model_table.proofs.Common.{arith, IsKept, subst, sym}
 use Rattle.xl_model_table.proofs.TableLemmas.{remove-made}
+use Rattle.xl_model_table.proofs.WithoutLemmas.{kept-without}
 use Rattle.xl_model_table.proofs.plain.PlainTableStructure.remove.Goals as goal
 
 pub invariant_of-self : goal.invariant_of-self

@@ -1,4 +1,4 @@
-use Rattle.xl_radix.proofs.Common.{◌∙◌, ◌≡◌, ap, arith, Leaf, leaf_named, level-low, level_of, lit<, read_back, same_Some, Some, IsAtNode, subst, sym}
+use Rattle.xl_radix.proofs.Common.{◌∙◌, ◌≡◌, ap, arith, IsAtNode, Leaf, leaf_named, level-low, level_of, lit<, read_back, same_Some, Some, subst, sym}
 use Rattle.xl_radix.proofs.PermLemmas.{found-named, named-page, protected-is}
 use Rattle.xl_radix.proofs.store.Store.set_perm.Goals as goal
 

@@ -1,5 +1,5 @@
 use Rattle.xl_radix.proofs.Common.{◌%◌, ◌∙◌, ◌≡◌, ap, arith, level_of, up, ℕ}
-use Rattle.xl_radix.proofs.StepLemmas.{count-fits, put-step, at_node-in}
+use Rattle.xl_radix.proofs.StepLemmas.{at_node-in, count-fits, put-step}
 use Rattle.xl_radix.proofs.store.Store.write_leaf.Goals as goal
 
 pub overflow_add-index_mut : goal.overflow_add-index_mut

@@ -1,4 +1,4 @@
-use Rattle.xl_serving.proofs.Common.{◌∙◌, ap, Backlog, Referenced, scene_after, scene_of, drained}
+use Rattle.xl_serving.proofs.Common.{◌∙◌, ap, Backlog, drained, Referenced, scene_after, scene_of}
 use Rattle.xl_serving.proofs.BatchLemmas.{access-deferred}
 use Rattle.xl_serving.proofs.batch.PlainBatch.put_off.Goals as goal
 

@@ -1,4 +1,4 @@
-use Rattle.xl_serving.proofs.Common.{◌+◌, ◌-◌, ◌∙◌, ◌≡◌, ap, arith, Backlog, gaps, length, scene_after, scene_of, drained, BatchedEvent}
+use Rattle.xl_serving.proofs.Common.{◌+◌, ◌-◌, ◌∙◌, ◌≡◌, ap, arith, Backlog, BatchedEvent, drained, gaps, length, scene_after, scene_of}
 use Rattle.xl_model.specs.declared.script.Item.TheVariants.{Command}
 use Rattle.xl_serving.proofs.BatchLemmas.{event-deferred}
 use Rattle.xl_serving.proofs.batch.PlainBatch.put_off_event.Goals as goal

@@ -1,4 +1,4 @@
-use Rattle.xl_serving.proofs.Common.{EndsBy, file_of, HasMore, IsFedFrom, left_of, limit, known_one, TraceTooLong}
+use Rattle.xl_serving.proofs.Common.{EndsBy, file_of, HasMore, IsFedFrom, known_one, left_of, limit, TraceTooLong}
 use Rattle.xl_serving.proofs.PieceLemmas.{too_long}
 use Rattle.xl_course.specs.declared.stop.Stop.TheVariants as why
 use Rattle.xl_serving.proofs.tape.Tape.end_at_limit.Goals as goal

@@ -1,5 +1,8 @@
--- An item put in front of its bucket: the members, the tags, and the chains of the buckets. For chains in words too.
-use Rattle.xl_model_lemmas.proofs.Common.{◌==◌, ◌∷◌, ◌≡◌, ◌⊎◌, [], ap, arith, bucket_of, chain_of, cond, false, filter, In, in_front_by, in_front_of_bucket, inl, inr, length, List, map, nat_lt, nat_tests, refl, suc, true, ℕ}
+-- An item put in front of its bucket: the members, their number and the tags. For chains in words
+-- too.
+use Rattle.xl_list_lemmas.proofs.Common.{◌==◌, ◌∷◌, ◌≡◌, ◌⊎◌, [], ap, arith, cond, false, In, inl, inr, length, List, map, nat_lt, nat_tests, refl, suc, true, ℕ}
+use Rattle.xl_model.specs.Chains.{bucket_of, in_front_of_bucket}
+use Rattle.xl_list_lemmas.specs.Buckets.{in_front_by}
 
 module _ {A : Type 0} (tag : A → ℕ) (n : ℕ) where
   -- members
@@ -51,24 +54,3 @@ module _ {A : Type 0} (tag : A → ℕ) (n : ℕ) where
 
 pub unequal : (x y : ℕ) → (x ≡ y → ⊥) → (x == y) ≡ false
 unequal x y o = elim (x == y) as (λ t. (x == y) ≡ t → t ≡ false) [ true ↦ λ t. absurd (o (grind (arith, nat_tests))) | false ↦ λ t. refl ] refl
-
--- a tag in front of its bucket changes the chain of that bucket alone
-pub chain-front : (n tag : ℕ) (tags : List ℕ) → chain_of n (bucket_of n tag) (in_front_of_bucket n tag tags) ≡ tag ∷ chain_of n (bucket_of n tag) tags
-unfolding chain_of
-chain-front n tag [] = let e : (bucket_of n tag == bucket_of n tag) ≡ true = grind (arith, nat_tests) in rw e refl
-chain-front n tag (t ∷ ts) =
-    elim (nat_lt (bucket_of n t) (bucket_of n tag)) as (λ b. nat_lt (bucket_of n t) (bucket_of n tag) ≡ b
-    → filter (λ u. bucket_of n u == bucket_of n tag) (cond b (t ∷ in_front_of_bucket n tag ts) (tag ∷ t ∷ ts)) ≡ tag ∷ filter (λ u. bucket_of n u == bucket_of n tag) (t ∷ ts)) [
-      | true ↦ λ h. let e : (bucket_of n t == bucket_of n tag) ≡ false = grind (arith, nat_tests) in rw e (chain-front n tag ts)
-      | false ↦ λ h. let e : (bucket_of n tag == bucket_of n tag) ≡ true = grind (arith, nat_tests) in rw e refl
-    ] refl
-
-pub chain-other : (n b tag : ℕ) (tags : List ℕ) → (bucket_of n tag ≡ b → ⊥) → chain_of n b (in_front_of_bucket n tag tags) ≡ chain_of n b tags
-unfolding chain_of
-chain-other n b tag [] other = let e : (bucket_of n tag == b) ≡ false = unequal (bucket_of n tag) b other in rw e refl
-chain-other n b tag (t ∷ ts) other =
-    elim (nat_lt (bucket_of n t) (bucket_of n tag)) as (λ c.
-    filter (λ u. bucket_of n u == b) (cond c (t ∷ in_front_of_bucket n tag ts) (tag ∷ t ∷ ts)) ≡ filter (λ u. bucket_of n u == b) (t ∷ ts)) [
-      | true ↦ ap (λ us. cond (bucket_of n t == b) (t ∷ us) us) (chain-other n b tag ts other)
-      | false ↦ let e : (bucket_of n tag == b) ≡ false = unequal (bucket_of n tag) b other in rw e refl
-    ]

@@ -1,8 +1,9 @@
 -- Recency lists: what is in them after a touch, a fill and a purge; and each of these under `map`, for lists
 -- of words that are seen as lists of leaves, nodes, sections or ranges (the TLB and the walk caches).
-use Rattle.xl_model_lemmas.proofs.Common.{◌∙◌, ◌∷◌, ◌≡◌, ◌⊎◌, [], ap, Bool, cond, false, find, In, inl, inr, List, map, None, not, Option, purged, refl, Some, subst, sym, take-map, touched, true, with_newest, without_first, ℕ}
-use Rattle.xl_model.specs.Recency.{in_front}
-use Rattle.xl_model_lemmas.proofs.MemberLemmas.{filter-In, filter-passes, find-In, take-In}
+use Rattle.xl_list_lemmas.proofs.Common.{◌∙◌, ◌∷◌, ◌≡◌, ◌⊎◌, [], ap, Bool, cond, false, find, In, inl, inr, List, map, None, not, Option, refl, Some, subst, sym, true, ℕ}
+use Rattle.std.proofs.lemmas.List.{take-map}
+use Rattle.xl_model.specs.Recency.{in_front, purged, touched, with_newest, without_first}
+use Rattle.xl_list_lemmas.proofs.MemberLemmas.{filter-In, filter-passes, find-In, take-In}
 
 without-first-In : {A : Type 0} (p : A → Bool) (x : A) (xs : List A) → In x (without_first p xs) → In x xs
 without-first-In p x [] i = i
@@ -80,10 +81,6 @@ module _ {A B : Type 0} (f : A → B) (p : B → Bool) (q : A → Bool) (same : 
       go : (b : Bool) → q x ≡ b → purged p (map f xs) ≡ map f (purged q xs) → purged p (map f (x ∷ xs)) ≡ map f (purged q (x ∷ xs))
       go true t more = let u : p (f x) ≡ true = sym (same x) ∙ t in rw (t, u) more
       go false t more = let u : p (f x) ≡ false = sym (same x) ∙ t in rw (t, u) (ap (λ (ys : List B). f x ∷ ys) more)
-
-  pub all-purged-map : (sets : List (List A)) → map (purged p) (map (map f) sets) ≡ map (map f) (map (purged q) sets)
-  all-purged-map [] = refl
-  all-purged-map (s ∷ sets) = rw (purged-map s) (ap (λ (z : List (List B)). map f (purged q s) ∷ z) (all-purged-map sets))
 
 pub newest-map : {A B : Type 0} (f : A → B) (width : ℕ) (x : A) (xs : List A) → with_newest width (f x) (map f xs) ≡ map f (with_newest width x xs)
 newest-map f width x xs = take-map f width (x ∷ xs)

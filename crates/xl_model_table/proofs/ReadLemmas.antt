@@ -1,13 +1,9 @@
 -- What is read of kept leaves is what their mapping says: blocks that overlap, the leaf of a page,
 -- the leaf of a name.
-use Rattle.xl_model_lemmas.proofs.Common.{◌≡◌, ap, covers, false, find, In, is_leaf, is_some, IsKept, IsNamed, Leaf, leaf_at_page, leaf_named, List, list_any, mapping_of, meets_any, meets_block, None, Option, Order, refl, Some, true, ℕ}
-use Rattle.xl_model_lemmas.proofs.FrontLemmas.{IsNew}
-use Rattle.xl_model_lemmas.proofs.KeptLemmas.{In-mapping, kept-same, mapping-In}
-use Rattle.xl_model_lemmas.proofs.MappingLemmas.{named-In, named-is}
-use Rattle.xl_model_lemmas.proofs.MemberLemmas.{any-false}
-use Rattle.xl_model_lemmas.proofs.PlaceLemmas.{covers-meets}
-use Rattle.xl_model_lemmas.proofs.SameLemmas.{any-same, both, find-same}
-use Rattle.xl_model_lemmas.proofs.WithoutLemmas.{named-same}
+use Rattle.xl_model_table.proofs.Common.{◌≡◌, any-false, any-same, ap, both, covers, covers-meets, false, find, find-same, In, is_leaf, is_some, IsKept, IsNamed, Leaf, leaf_at_page, leaf_named, List, list_any, mapping-In, mapping_of, meets_any, meets_block, named-In, named-is, None, Option, Order, refl, Some, true, ℕ}
+use Rattle.xl_model_table.proofs.FrontLemmas.{IsNew}
+use Rattle.xl_model_table.proofs.KeptLemmas.{In-mapping, kept-same}
+use Rattle.xl_model_table.proofs.WithoutLemmas.{named-same}
 
 pub meets-mapping : (s f : ℕ) (o : Order) (xs : List Leaf) → IsKept xs → list_any (meets_block s f o) xs ≡ meets_any s f o (mapping_of xs)
 unfolding meets_any

@@ -1,11 +1,6 @@
 -- The kept leaf of a name, and the leaves without it.
-use Rattle.xl_model_lemmas.proofs.Common.{◌∙◌, ◌∷◌, ◌≡◌, [], ap, Bool, cond, false, filter, In, inl, inr, is_leaf, IsKept, IsPlaced, Leaf, leaf_key, List, mapping_of, meets_block, not, not-true, Order, refl, subst, sym, true, without_leaf, without_named, ℕ}
-use Rattle.xl_model_lemmas.proofs.InsertionLemmas.{In-without, same-place, sorted-without, without-In, without-other}
-use Rattle.xl_model_lemmas.proofs.KeptLemmas.{In-mapping, kept-filter, key-apart, mapping-In, mapping-sorted}
-use Rattle.xl_model_lemmas.proofs.MemberLemmas.{all-In, any-false, filter-In, filter-passes, In-filter}
-use Rattle.xl_model_lemmas.proofs.PlaceLemmas.{named-key}
-use Rattle.xl_model_lemmas.proofs.SameLemmas.{both}
-use Rattle.xl_model_lemmas.proofs.SortedLemmas.{same-sorted}
+use Rattle.xl_model_table.proofs.Common.{◌∙◌, ◌≡◌, [], Bool, both, false, filter, filter-In, filter-passes, In, In-filter, In-without, is_leaf, IsKept, Leaf, leaf_key, List, mapping-In, mapping-sorted, mapping_of, named-key, not, not-true, Order, refl, same-place, same-sorted, sorted-without, subst, sym, true, without-In, without-other, without_leaf, without_named, ℕ}
+use Rattle.xl_model_table.proofs.KeptLemmas.{In-mapping, kept-filter}
 
 -- a leaf that has the named leaf's place is that leaf
 pub named-one : (s f : ℕ) (o : Order) (old z : Leaf) (xs : List Leaf) → IsKept xs → In old xs → is_leaf s f o old ≡ true → In z xs → leaf_key z ≡ leaf_key old → z ≡ old
@@ -44,29 +39,3 @@ mapping-without s f o old xs k i named =
 pub kept-without : (s f : ℕ) (o : Order) (xs : List Leaf) → IsKept xs → IsKept (without_named s f o xs)
 unfolding without_named
 kept-without s f o xs k = kept-filter _ xs k
-
--- the list without the leaves of a name, one leaf after another
-pub without-none : (s f : ℕ) (o : Order) → without_named s f o [] ≡ []
-unfolding without_named
-without-none s f o = refl
-
-pub without-yes : (s f : ℕ) (o : Order) (x : Leaf) (xs : List Leaf) → is_leaf s f o x ≡ true → without_named s f o (x ∷ xs) ≡ without_named s f o xs
-unfolding without_named
-without-yes s f o x xs t = ap (λ b. cond (not b) (x ∷ filter (λ leaf. not (is_leaf s f o leaf)) xs) (filter (λ leaf. not (is_leaf s f o leaf)) xs)) t
-
-pub without-no : (s f : ℕ) (o : Order) (x : Leaf) (xs : List Leaf) → is_leaf s f o x ≡ false → without_named s f o (x ∷ xs) ≡ x ∷ without_named s f o xs
-unfolding without_named
-without-no s f o x xs t = ap (λ b. cond (not b) (x ∷ filter (λ leaf. not (is_leaf s f o leaf)) xs) (filter (λ leaf. not (is_leaf s f o leaf)) xs)) t
-
-pub without-all : (s f : ℕ) (o : Order) (xs : List Leaf) → ((x : Leaf) → In x xs → is_leaf s f o x ≡ false) → without_named s f o xs ≡ xs
-without-all s f o [] n = without-none s f o
-without-all s f o (x ∷ xs) n = without-no s f o x xs (n x (inl refl)) ∙ ap (λ ys. x ∷ ys) (without-all s f o xs (λ y i. n y (inr i)))
-
--- after a named leaf no other has the name
-pub following : (s f : ℕ) (o : Order) (x : Leaf) (xs : List Leaf) → IsKept (x ∷ xs) → is_leaf s f o x ≡ true → (z : Leaf) → In z xs → is_leaf s f o z ≡ false
-following s f o x xs k t z i =
-    elim (is_leaf s f o z) as (λ b. is_leaf s f o z ≡ b → b ≡ false) [
-      | true ↦ λ u. absurd (key-apart x z (all-In IsPlaced x (x ∷ xs) k.placed (inl refl)) (all-In IsPlaced z (x ∷ xs) k.placed (inr i))
-          (any-false (meets_block x.space x.first x.order) z xs k.apart.0 i) (named-key s f o z u ∙ sym (named-key s f o x t)))
-      | false ↦ λ u. refl
-    ] refl

@@ -1,11 +1,6 @@
 -- A new leaf among kept leaves: before the first of a bucket that is not lower.
-use Rattle.xl_model_lemmas.proofs.Common.{◌∷◌, ◌≡◌, ◌⊎◌, [], bucket_of, cond, false, In, in_front, inl, inr, IsApart, IsKept, IsPlaced, Leaf, leaf_key, leaf_tag, length, List, mapping_of, meets_block, nat_lt, refl, subst, suc, sym, true, with_leaf, ℕ}
-use Rattle.xl_model_lemmas.proofs.BucketLemmas.{by-In, In-by, length-by, stays-by}
-use Rattle.xl_model_lemmas.proofs.InsertionLemmas.{In-with, sorted-with, stays-with, with-In}
-use Rattle.xl_model_lemmas.proofs.KeptLemmas.{In-mapping, key-apart, mapping-In, mapping-sorted, meets-sym}
-use Rattle.xl_model_lemmas.proofs.MemberLemmas.{all-In, any-false, In-all}
-use Rattle.xl_model_lemmas.proofs.SameLemmas.{none-any}
-use Rattle.xl_model_lemmas.proofs.SortedLemmas.{same-sorted}
+use Rattle.xl_model_table.proofs.Common.{◌∷◌, ◌≡◌, ◌⊎◌, [], all-In, any-false, bucket_of, by-In, cond, false, In, In-all, In-by, In-with, in_front, inl, inr, IsApart, IsKept, IsPlaced, Leaf, leaf_key, leaf_tag, length, length-by, List, mapping-In, mapping-sorted, mapping_of, meets-sym, meets_block, nat_lt, none-any, refl, same-sorted, sorted-with, stays-by, stays-with, subst, suc, sym, true, with-In, with_leaf, ℕ}
+use Rattle.xl_model_table.proofs.KeptLemmas.{In-mapping, key-apart}
 
 -- members of the list with a new leaf
 pub front-In : (b : ℕ) (z x : Leaf) (xs : List Leaf) → In z (in_front b x xs) → (z ≡ x) ⊎ In z xs

@@ -1,7 +1,6 @@
 -- Tests that agree, and lists with the same members: what one finds or passes, the other does.
-use Rattle.xl_model_lemmas.proofs.Common.{◌<◌, ◌||◌, ◌∙◌, ◌∷◌, ◌≡◌, ◌≤◌, [], ap, arith, Bool, cond, false, find, In, inl, inr, is_some, List, list_any, nat_lt, nat_tests, None, Option, Perm, refl, same_bit, Some, sym, true, ℕ}
-use Rattle.xl_model.specs.Ranges.{same_perm}
-use Rattle.xl_model_lemmas.proofs.MemberLemmas.{any-false, any-In, find-In, find-None, find-only, find-passes}
+use Rattle.xl_list_lemmas.proofs.Common.{◌<◌, ◌||◌, ◌∙◌, ◌∷◌, ◌≡◌, ◌≤◌, [], ap, arith, Bool, cond, false, find, In, inl, inr, is_some, List, list_any, nat_lt, nat_tests, None, Option, refl, Some, sym, true, ℕ}
+use Rattle.xl_list_lemmas.proofs.MemberLemmas.{any-false, any-In, find-In, find-None, find-only, find-passes}
 
 -- a test passes some member of both or of neither
 pub any-same : {A : Type 0} (p : A → Bool) (xs ys : List A) → ((z : A) → In z xs → In z ys) → ((z : A) → In z ys → In z xs) → list_any p xs ≡ list_any p ys
@@ -75,10 +74,3 @@ pick-yes m n a b h = let e : nat_lt m n ≡ true = grind (arith, nat_tests) in r
 
 pub pick-no : {A : Type 0} → (m n : ℕ) (a b : A) → n ≤ m → cond (nat_lt m n) a b ≡ b
 pick-no m n a b h = let e : nat_lt m n ≡ false = grind (arith, nat_tests) in rw e refl
-
-pub bit-same : (b : Bool) → same_bit b b ≡ true
-bit-same true = refl
-bit-same false = refl
-
-pub perm-same : (p : Perm) → same_perm p p ≡ true
-perm-same p = rw (bit-same p.r, bit-same p.w, bit-same p.x, bit-same p.u) refl

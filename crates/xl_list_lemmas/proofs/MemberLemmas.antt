@@ -1,5 +1,5 @@
 -- Members found by tests: `find`, `list_any`, `filter`, `map`, `take` and `All` against membership.
-use Rattle.xl_model_lemmas.proofs.Common.{◌++◌, ◌<◌, ◌||◌, ◌∷◌, ◌≡◌, ◌⊎◌, [], All, ap, arith, Bool, cond, false, filter, find, slice_index_or as get_or, In, inl, inr, length, List, list_any, map, None, refl, Some, subst, suc, sym, take, true, zero, ℕ}
+use Rattle.xl_list_lemmas.proofs.Common.{◌++◌, ◌<◌, ◌||◌, ◌∷◌, ◌≡◌, ◌⊎◌, [], All, ap, arith, Bool, cond, false, filter, find, get_or, In, inl, inr, length, List, list_any, map, None, refl, Some, subst, suc, sym, take, true, zero, ℕ}
 
 -- what is found is a member and passes
 pub find-In : {A : Type 0} (p : A → Bool) (x : A) (xs : List A) → find p xs ≡ Some x → In x xs

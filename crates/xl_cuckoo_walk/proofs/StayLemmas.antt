@@ -1,10 +1,7 @@
 -- A key that an insertion does not bring and does not displace stays in its way, and no way comes or goes. For the
 -- cuckoo table, and for the purge of cached sections in its row.
-use Rattle.xl_model_lemmas.proofs.Common.{◌++◌, ◌+◌, ◌==◌, ◌∙◌, ◌∷◌, ◌≡◌, [], after_attempt, after_placing, ap, arith, AtCap, Attempt, attempt, by_occupant, Candidate, cond, Displaced, entries_of, Entry, Fails, false, forced, forced_moves, growths_left, has_key, holder_from, In, inl, insertion, is_held, length, length-map, List, map-set_same, Moves, nat_tests, next_way, no_moves, None, not, occupant, one_if, opening_way, Option, place, Placed, Placing, placing, put_in, refl, settled, slice_set, Some, Succeeds, start_way, subst, suc, swapped, sym, tally, to_grow, true, way_at, WayShape, with_growth, zero, ℕ}
-use Rattle.xl_model_lemmas.proofs.FreshSectionLemmas.{holder-same}
-use Rattle.xl_model_lemmas.proofs.MemberLemmas.{In-left, In-right}
-use Rattle.xl_model_lemmas.proofs.PlacingLemmas.{forced-entries, one_of, set-length, settled-entries, swapped-adds}
-use Rattle.xl_model_lemmas.proofs.TallyLemmas.{tally-any}
+use Rattle.xl_cuckoo_walk.proofs.Common.{◌++◌, ◌+◌, ◌==◌, ◌∙◌, ◌∷◌, ◌≡◌, [], after_attempt, after_placing, ap, arith, AtCap, Attempt, attempt, by_occupant, Candidate, cond, Displaced, entries_of, Entry, Fails, false, forced, forced-entries, forced_moves, growths_left, has_key, holder-same, holder_from, In, In-left, In-right, inl, insertion, is_held, length, length-map, List, Moves, nat_tests, next_way, no_moves, None, not, occupant, one_if, one_of, opening_way, Option, place, Placed, Placing, placing, put_in, refl, set-length, settled, settled-entries, slice_set, Some, start_way, subst, suc, Succeeds, swapped, swapped-adds, sym, tally, tally-any, to_grow, true, way_at, WayShape, with_growth, zero, ℕ}
+use Rattle.std.proofs.Math.Seq.{map-set_same}
 
 -- a key that isn't this one
 abbrev pub Other : ℕ → ℕ → Type 0

@@ -1,5 +1,5 @@
 -- Items with tags, bucket by bucket, as the chains of a table have them.
-use Rattle.std.specs.Prelude.{ℕ, zero, suc, nat_lt, if◌then◌else◌, List, [], ◌∷◌, ◌++◌}
+use Rattle.std.specs.Prelude.{List, [], if◌then◌else◌, nat_lt, suc, zero, ℕ, ◌++◌, ◌∷◌}
 use Rattle.xl_model.specs.Chains.{bucket_of}
 
 -- an item is before the first of a bucket that isn't lower than its own

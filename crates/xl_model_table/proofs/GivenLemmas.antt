@@ -1,12 +1,7 @@
 -- Kept leaves with another permission for the one of a name.
-use Rattle.xl_model_lemmas.proofs.Common.{◌∙◌, ◌∷◌, ◌≡◌, [], ap, Bool, false, false_from_ne_true, In, inl, inr, is_leaf, IsApart, IsKept, IsPlaced, Leaf, leaf_key, length, List, map, mapping_of, meets_block, Order, Perm, protected_where, refl, subst, suc, sym, true, with_leaf, with_perm_named, without_leaf, ℕ}
-use Rattle.xl_model_lemmas.proofs.InsertionLemmas.{In-with, In-without, sorted-with, sorted-without, stays-with, with-In, without-In, without-other}
-use Rattle.xl_model_lemmas.proofs.KeptLemmas.{In-mapping, mapping-In, mapping-sorted}
-use Rattle.xl_model_lemmas.proofs.MemberLemmas.{all-In, any-false, In-all, In-map, map-In}
-use Rattle.xl_model_lemmas.proofs.PlaceLemmas.{named-key}
-use Rattle.xl_model_lemmas.proofs.SameLemmas.{none-any}
-use Rattle.xl_model_lemmas.proofs.SortedLemmas.{same-sorted}
-use Rattle.xl_model_lemmas.proofs.WithoutLemmas.{named-same, other-key}
+use Rattle.xl_model_table.proofs.Common.{◌∙◌, ◌∷◌, ◌≡◌, [], all-In, any-false, ap, Bool, false, false_from_ne_true, In, In-all, In-map, In-with, In-without, inl, inr, is_leaf, IsApart, IsKept, IsPlaced, Leaf, leaf_key, length, List, map, map-In, mapping-In, mapping-sorted, mapping_of, meets_block, named-key, none-any, Order, Perm, protected_where, refl, same-sorted, sorted-with, sorted-without, stays-with, subst, suc, sym, true, with-In, with_leaf, with_perm_named, without-In, without-other, without_leaf, ℕ}
+use Rattle.xl_model_table.proofs.KeptLemmas.{In-mapping}
+use Rattle.xl_model_table.proofs.WithoutLemmas.{named-same, other-key}
 
 -- another permission
 same-meets : (a b : Bool) (perm : Perm) (x y : Leaf)
