@@ -222,7 +222,13 @@ fn plain_lines(kept: u64, most: u64) -> u64
 /// Reads the first lines of a text, `most` at most: those whose pages are kept, and some after
 /// them. The page of the first of these is kept from then on.
 #[inline(always)]
-fn skim_some(text: &[u8], before: u64, into: &mut Batch, most: u64, prefixes: &mut PrefixCache) -> Skim
+fn skim_some(
+    text: &[u8],
+    before: u64,
+    into: &mut Batch,
+    most: u64,
+    prefixes: &mut PrefixCache,
+) -> Skim
     ensures skims { Skims before text.now into.old.items into.new.items result }
     ensures few { result.taken ≤ most }
 {

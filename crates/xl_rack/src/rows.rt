@@ -18,7 +18,7 @@ use xl_lackey::Access;
 use xl_model::{Event, Item, NoMemory, Row};
 use xl_outside::{Failed, Sink};
 use xl_report::write_row;
-use xl_serving::{Rows, BatchedEvent};
+use xl_serving::{BatchedEvent, Rows};
 
 /// Serves an item to a row, where these areas were declared.
 #[inline(always)]

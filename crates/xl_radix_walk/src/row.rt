@@ -311,7 +311,11 @@ fn walk_row<const LEVELS: usize>(
 }
 
 /// The work of a change that freed `given` nodes: their entries leave the caches.
-fn invalidate_freed<const LEVELS: usize>(radix: &Radix<LEVELS>, caches: &mut WalkCaches, given: usize) -> Work
+fn invalidate_freed<const LEVELS: usize>(
+    radix: &Radix<LEVELS>,
+    caches: &mut WalkCaches,
+    given: usize,
+) -> Work
     requires few { length caches.old ≤ 4 }
     requires none { given ≡ 0 → AreNumbered 0 radix.now.nodes caches.old }
     ensures caches { caches.new ≡ purged_caches radix.now.nodes caches.old }

@@ -21,8 +21,8 @@ ghost use Rattle.xl_tlb.specs.Tlbs.{spec_of, tlb_opening, AreSpecs, IsRising, tl
 
 use crate::coding::{Hit, block_of, hit_of, page_word, word_of};
 use crate::levels::{Answered, Levels, Path};
-use crate::newest::MruPages;
 use crate::lookup::Lookup;
+use crate::newest::MruPages;
 use arrayvec::ArrayVec;
 use std::alloc::Global;
 use std::marker::Model;

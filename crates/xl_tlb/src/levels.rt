@@ -22,8 +22,8 @@ use crate::look::{
     are_common, count_following, first_and_rest, has_eights, has_large, is_straight, look_first,
     look_first_above, look_first_in_turn, look_in, look_second, serve_all,
 };
-use crate::pair::{Seen, fill_split, look_split};
 use crate::lookup::Lookup;
+use crate::pair::{Seen, fill_split, look_split};
 use arrayvec::ArrayVec;
 use std::alloc::Global;
 use std::marker::Model;

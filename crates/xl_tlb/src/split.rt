@@ -18,8 +18,8 @@ ghost use Rattle.xl_tlb.specs.Tlbs.{spec_of, tlb_filled, tlb_purged, tlb_fenced}
 
 use crate::coding::{Hit, hit_of, page_word, word_of};
 use crate::levels::{Answered, Levels};
-use crate::newest::MruPages;
 use crate::lookup::Lookup;
+use crate::newest::MruPages;
 use std::marker::Model;
 use xl_model::{Kind, Leaf, Order, Purge, Reach};
 
