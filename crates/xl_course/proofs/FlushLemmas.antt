@@ -21,7 +21,7 @@ ends_front (Err why.ReadFault) w b a h =
     front_text w b a
     (subst (λ (t : List ℕ). WroteFront b t a) (sym all) (front_of_more b a (joined h.done) (joined h.left) (whole_front b a (joined h.done) h.wrote)))
 ends_front (Err why.NoMemory) w b a (inl h) = (0, omega arith, h ∙ with_none b)
-ends_front (Err why.NoMemory) w b a (inr h) = front_text w b a (whole_front b a (joined w.known) h.2)
+ends_front (Err why.NoMemory) w b a (inr h) = front_text w b a (whole_front b a (joined w.lines) h.2)
 
 module _ {K : Type 0} (sink : SinkMeaning K) (w : Account) (a b : K) (rows : Type 0)
     (e : IsFlushed sink a) where

@@ -144,7 +144,7 @@ module _ {K A C E S : Type 0} (p : Pairing A C E S) (answers : Bool) (roomy : K 
   stopped_as : {V : Type 0} (view : V → A) (stop : Stop) (out : Option (List ℕ)) → Finds view (Err stop) by → EndsAs (Err stop) (account_by p answers t by) out out
   stopped_as view (why.Input f) out h =
       subst (λ (z : Result A InputFault). EndsAs (Err (why.Input f)) (account_by p answers t z) out out) (sym h) (refl, with_none out)
-  stopped_as view why.ReadFault out h = record { done = []; left = (account_by p answers t by).known; split = refl; wrote = with_none out }
+  stopped_as view why.ReadFault out h = record { done = []; left = (account_by p answers t by).lines; split = refl; wrote = with_none out }
   stopped_as view why.WriteFault out h = absurd h
   stopped_as view why.NoMemory out h = inl refl
 

@@ -1,6 +1,6 @@
 use Rattle.xl_model_table.proofs.Common.{◌∙◌, ap, find, is_leaf, sym}
 use Rattle.xl_model_table.proofs.MoveLemmas.{IsMovable, movable, no-leaf}
-use Rattle.xl_model_table.proofs.plain.PlainTableStructure.relocate.Goals as goal
+use Rattle.xl_model_table.proofs.plain.ListTableStructure.relocate.Goals as goal
 
 pub unreachable-requires : goal.unreachable-requires
 unreachable-requires c =

@@ -1,6 +1,6 @@
 use Rattle.xl_model_table.proofs.Common.{◌∙◌, ap, covers, find, leaf_at_page}
 use Rattle.xl_model_table.proofs.ReadLemmas.{leaf-at-mapping}
-use Rattle.xl_model_table.proofs.plain.PlainTableStructure.leaf_at.Goals as goal
+use Rattle.xl_model_table.proofs.plain.ListTableStructure.leaf_at.Goals as goal
 
 pub returns : goal.returns
 returns c =

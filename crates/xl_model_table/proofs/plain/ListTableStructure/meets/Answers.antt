@@ -1,6 +1,6 @@
 use Rattle.xl_model_table.proofs.Common.{◌∙◌, ap, list_any, meets_any, meets_block}
 use Rattle.xl_model_table.proofs.ReadLemmas.{meets-mapping}
-use Rattle.xl_model_table.proofs.plain.PlainTableStructure.meets.Goals as goal
+use Rattle.xl_model_table.proofs.plain.ListTableStructure.meets.Goals as goal
 
 pub returns : goal.returns
 returns c =

@@ -1,7 +1,7 @@
 use Rattle.xl_model_table.proofs.Common.{◌∙◌, ◌≡◌, ap, IsKept, length, subst, sym, with_items, with_items_is, with_perm_named}
 use Rattle.xl_model_table.proofs.GivenLemmas.{kept-protected, length-protected}
 use Rattle.xl_model_table.proofs.TableLemmas.{protect-made}
-use Rattle.xl_model_table.proofs.plain.PlainTableStructure.protect.Goals as goal
+use Rattle.xl_model_table.proofs.plain.ListTableStructure.protect.Goals as goal
 
 pub invariant_of-self : goal.invariant_of-self
 invariant_of-self c =

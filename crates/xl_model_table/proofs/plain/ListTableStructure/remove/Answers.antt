@@ -1,7 +1,7 @@
 use Rattle.xl_model_table.proofs.Common.{arith, IsKept, subst, sym}
 use Rattle.xl_model_table.proofs.TableLemmas.{remove-made}
 use Rattle.xl_model_table.proofs.WithoutLemmas.{kept-without}
-use Rattle.xl_model_table.proofs.plain.PlainTableStructure.remove.Goals as goal
+use Rattle.xl_model_table.proofs.plain.ListTableStructure.remove.Goals as goal
 
 pub invariant_of-self : goal.invariant_of-self
 invariant_of-self c =

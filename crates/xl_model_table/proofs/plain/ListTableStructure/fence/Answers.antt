@@ -1,5 +1,5 @@
 use Rattle.xl_model_table.proofs.TableLemmas.{fence-made}
-use Rattle.xl_model_table.proofs.plain.PlainTableStructure.fence.Goals as goal
+use Rattle.xl_model_table.proofs.plain.ListTableStructure.fence.Goals as goal
 
 pub returns : goal.returns
 returns c =

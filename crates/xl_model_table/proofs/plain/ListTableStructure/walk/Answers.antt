@@ -1,6 +1,6 @@
 use Rattle.xl_model_table.proofs.Common.{◌∙◌, ◌≡◌, ap, chains_reads, leaf_tag, map, orders_tried, refl}
 use Rattle.xl_model_table.proofs.TableLemmas.{walk-made}
-use Rattle.xl_model_table.proofs.plain.PlainTableStructure.walk.Goals as goal
+use Rattle.xl_model_table.proofs.plain.ListTableStructure.walk.Goals as goal
 
 pub returns : goal.returns
 returns c =
