@@ -12,7 +12,7 @@ returns-clause-known g c =
     known_one (g.F.Folder.folder.files a.folder.now)
     (λ fs. g.T.Source.reads_from a.source.now fs → Ends c.replay-end.result (of fs) g.K.Sink.sink.roomy (g.K.Sink.sink.taken a.out.now) (g.K.Sink.sink.taken c.replay-end.new.out) a.out.now c.replay-end.new.out (left fs)) _
     c.replay-end.ensures.known
-    (λ fs h s. end_then g.K.Sink.sink (of fs) a.out.now c.replay-end.new.out c.flushed.new.out (left fs) c.requires.flushed (g.caused.K.Sink.fronts c.flushed.new.out)
+    (λ fs h s. end_then g.K.Sink.sink (of fs) a.out.now c.replay-end.new.out c.flushed.new.out (left fs) c.requires.flushed (g.met.K.Sink.fronts c.flushed.new.out)
     c.replay-end.result c.flushed.result c.flushed.ensures c.replay-end.ensures.proceeds (h s))
 
 pub returns-clause-proceeds : goal.returns-clause-proceeds

@@ -9,7 +9,7 @@ returns-then-is_hole-clause-moved c =
     let ranks = c.args.ranks.now in
     let g = c.requires.gap in
     let here : Place = get_or ps c.args.slot (record { tag = 0; word = 0 }) in
-    let hole = at_slot c.args.marks.now ranks ps c.requires.kept c.known-ranks c.known-slots (get_or ranks c.args.slot 0) c.args.slot _ g.below g.within g.first
+    let hole = at_slot c.args.marks.now ranks ps c.requires.kept c.told-ranks c.told-slots (get_or ranks c.args.slot 0) c.args.slot _ g.below g.within g.first
     ∙ vacant_place here (sym c.is_hole.ensures ∙ c.if-is_hole.true) in
     hole_filled (same_leaf (leaf_in c.args.leaf)) (leaf_in c.args.leaf) (in_turn ranks (places_of ps)) (in_turn c.fill.new.ranks (places_of c.fill.new.slots))
     (in_turn c.fill.new.ranks (places_of c.vacate.new.slots)) (get_or ranks c.args.slot 0) g.is hole c.fill.ensures.places c.vacate.ensures.places
@@ -20,7 +20,7 @@ returns-then-is_hole-clause-distance c =
     let ranks = c.args.ranks.now in
     let g = c.requires.gap in
     let here : Place = get_or ps c.args.slot (record { tag = 0; word = 0 }) in
-    let hole = at_slot c.args.marks.now ranks ps c.requires.kept c.known-ranks c.known-slots (get_or ranks c.args.slot 0) c.args.slot _ g.below g.within g.first
+    let hole = at_slot c.args.marks.now ranks ps c.requires.kept c.told-ranks c.told-slots (get_or ranks c.args.slot 0) c.args.slot _ g.below g.within g.first
     ∙ vacant_place here (sym c.is_hole.ensures ∙ c.if-is_hole.true) in
     c.vacate.ensures.distance
     ∙ hole_distance (same_leaf (leaf_in c.args.leaf)) (leaf_in c.args.leaf) (in_turn ranks (places_of ps)) (in_turn c.fill.new.ranks (places_of c.fill.new.slots))
@@ -34,7 +34,7 @@ returns-clause-moved c =
     let g = c.requires.gap in
     let all = in_turn ranks (places_of ps) in
     let here : Place = get_or ps c.args.slot (record { tag = 0; word = 0 }) in
-    let own = at_slot c.args.marks.now ranks ps c.requires.kept c.known-ranks c.known-slots rank c.args.slot _ g.below g.within g.first
+    let own = at_slot c.args.marks.now ranks ps c.requires.kept c.told-ranks c.told-slots rank c.args.slot _ g.below g.within g.first
     ∙ solid_place here (sym c.is_hole.ensures ∙ c.if-is_hole.false) in
     let closed = own_closed (same_leaf (leaf_in c.args.leaf)) (leaf_in c.args.leaf) all rank (leaf_in here) g.is own in
     ap (λ (rs : _). in_turn rs (places_of ps)) c.move_to_front.ensures
@@ -49,7 +49,7 @@ returns-clause-distance c =
     let rank = get_or ranks c.args.slot 0 in
     let g = c.requires.gap in
     let here : Place = get_or ps c.args.slot (record { tag = 0; word = 0 }) in
-    let own = at_slot c.args.marks.now ranks ps c.requires.kept c.known-ranks c.known-slots rank c.args.slot _ g.below g.within g.first
+    let own = at_slot c.args.marks.now ranks ps c.requires.kept c.told-ranks c.told-slots rank c.args.slot _ g.below g.within g.first
     ∙ solid_place here (sym c.is_hole.ensures ∙ c.if-is_hole.false) in
     sym (own_closed (same_leaf (leaf_in c.args.leaf)) (leaf_in c.args.leaf) (in_turn ranks (places_of ps)) rank (leaf_in here) g.is own).1
 
@@ -58,4 +58,4 @@ returns-clause-kept c =
     let ranks = c.args.ranks.now in
     let rank = get_or ranks c.args.slot 0 in
     let moved_is : c.move_to_front.new.ranks ≡ map (moved rank) ranks = c.move_to_front.ensures in
-    record { marked = c.requires.kept.marked; ranked = rw moved_is (ranks_moved rank ranks c.requires.gap.below c.known-ranks c.requires.kept.ranked) }
+    record { marked = c.requires.kept.marked; ranked = rw moved_is (ranks_moved rank ranks c.requires.gap.below c.told-ranks c.requires.kept.ranked) }

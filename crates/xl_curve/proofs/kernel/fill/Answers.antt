@@ -14,9 +14,9 @@ returns c =
       places =
           rw moved_is
           (ap (in_turn (map (moved rank) ranks)) (map-set place_of ps slot c.args.leaf ∙ ap (set (places_of ps) slot) (solid_place c.args.leaf c.requires.solid))
-          ∙ turn_filled rank slot (Some (leaf_in c.args.leaf)) ranks (places_of ps) c.known-ranks (length-map ps place_of ∙ c.known-slots) c.requires.within.0 c.requires.within.1 c.requires.slot);
+          ∙ turn_filled rank slot (Some (leaf_in c.args.leaf)) ranks (places_of ps) c.told-ranks (length-map ps place_of ∙ c.told-slots) c.requires.within.0 c.requires.within.1 c.requires.slot);
       kept = record {
         marked = mark_written c.args.marks.now ps c.requires.kept.marked slot c.mark.result c.args.leaf c.mark.ensures;
-        ranked = rw moved_is (ranks_moved rank ranks c.requires.within.1 c.known-ranks c.requires.kept.ranked);
+        ranked = rw moved_is (ranks_moved rank ranks c.requires.within.1 c.told-ranks c.requires.kept.ranked);
       };
     }

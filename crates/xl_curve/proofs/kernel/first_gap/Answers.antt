@@ -14,7 +14,7 @@ marked-init c =
       within = looked.ensures.within.1;
       passed =
           sym (further_none (gap q (in_turn ranks (places_of slots))))
-          ∙ gaps_passed marks ranks slots c.requires.kept c.known-ranks c.known-slots c.args.leaf 0 looked.result c.requires.solid (omega arith) looked.ensures.within.1
+          ∙ gaps_passed marks ranks slots c.requires.kept c.told-ranks c.told-slots c.args.leaf 0 looked.result c.requires.solid (omega arith) looked.ensures.within.1
           (λ s l a b. rw c.mark-mark.ensures at (looked.ensures.passed s l a b));
     }
 
@@ -30,7 +30,7 @@ returns-then-not-gives_way-clause-some c =
     let l : rank < 64 = c.marked-test.true in
     let found = c.slot_at-slot.ensures in
     let stays : gives_way q (get_or all rank None) ≡ false =
-    ap (gives_way q) (at_slot marks ranks slots c.requires.kept c.known-ranks c.known-slots rank c.slot_at-slot.result d l found.within found.first)
+    ap (gives_way q) (at_slot marks ranks slots c.requires.kept c.told-ranks c.told-slots rank c.slot_at-slot.result d l found.within found.first)
     ∙ sym c.gives_way.ensures ∙ c.if-not-gives_way.true in
     gap_there q rank c.slot_at-slot.result ranks slots found.within l found.first
     (c.marked.invariant.passed ∙ sym (gap_found q all rank (omega (arith, turn_length ranks (places_of slots))) stays))
@@ -48,14 +48,14 @@ marked-preserved c =
     let found = c.slot_at-slot.ensures in
     let looked = c.first_marked-rank-in-marked in
     let gives : gives_way q (get_or all rank None) ≡ true =
-    ap (gives_way q) (at_slot marks ranks slots c.requires.kept c.known-ranks c.known-slots rank c.slot_at-slot.result d l found.within found.first)
+    ap (gives_way q) (at_slot marks ranks slots c.requires.kept c.told-ranks c.told-slots rank c.slot_at-slot.result d l found.within found.first)
     ∙ sym c.gives_way.ensures ∙ c.if-not-gives_way.false in
     record {
       within = looked.ensures.within.1;
       passed =
           c.marked.invariant.passed
           ∙ pass_gap q all rank (omega (arith, turn_length ranks (places_of slots))) gives
-          ∙ gaps_passed marks ranks slots c.requires.kept c.known-ranks c.known-slots c.args.leaf (rank + 1) looked.result c.requires.solid looked.ensures.within.0 looked.ensures.within.1
+          ∙ gaps_passed marks ranks slots c.requires.kept c.told-ranks c.told-slots c.args.leaf (rank + 1) looked.result c.requires.solid looked.ensures.within.0 looked.ensures.within.1
           (λ s n a b. rw c.mark-mark.ensures at (looked.ensures.passed s n a b));
     }
 

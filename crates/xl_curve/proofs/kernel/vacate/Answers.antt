@@ -6,7 +6,7 @@ use Rattle.xl_curve.proofs.kernel.vacate.Goals as goal
 pub marked-init : goal.marked-init
 marked-init c =
     let looked = c.first_marked-rank in
-    let passed = places_passed c.args.marks.now c.args.ranks.now c.args.slots.now c.requires.kept c.known-ranks c.known-slots c.args.leaf c.args.from looked.result c.requires.solid looked.ensures.within.0 looked.ensures.within.1
+    let passed = places_passed c.args.marks.now c.args.ranks.now c.args.slots.now c.requires.kept c.told-ranks c.told-slots c.args.leaf c.args.from looked.result c.requires.solid looked.ensures.within.0 looked.ensures.within.1
     (λ s l a b. rw c.mark-mark.ensures at ((looked.ensures.passed s l a b).0)) in
     record { within = looked.ensures.within.1; same = refl; kept = c.requires.kept; passed = passed.0; far = passed.1 }
 
@@ -25,9 +25,9 @@ returns-then-is_same-clause-places c =
     let solid : is_vacant here ≡ false = rw tag c.requires.solid in
     rw c.marked.invariant.same
     (ap (in_turn ranks) (hole_written ps slot (record { tag = 18446744073709551615; word = 0 }) refl)
-    ∙ turn_set rank slot None ranks (places_of ps) c.known-ranks (length-map ps place_of ∙ c.known-slots) found.within l found.first
+    ∙ turn_set rank slot None ranks (places_of ps) c.told-ranks (length-map ps place_of ∙ c.told-slots) found.within l found.first
     ∙ left q (in_turn ranks (places_of ps)) rank (leaf_in here) (omega (arith, turn_length ranks (places_of ps)))
-    (at_slot c.args.marks.now ranks ps c.requires.kept c.known-ranks c.known-slots rank slot _ l found.within found.first ∙ solid_place here solid) (sym t)
+    (at_slot c.args.marks.now ranks ps c.requires.kept c.told-ranks c.told-slots rank slot _ l found.within found.first ∙ solid_place here solid) (sym t)
     ∙ sym c.marked.invariant.passed)
 
 pub returns-then-is_same-clause-distance : goal.returns-then-is_same-clause-distance
@@ -44,7 +44,7 @@ returns-then-is_same-clause-distance c =
     let tag : here.tag ≡ c.args.leaf.tag = rw c.marked.invariant.same at (c.is_same.ensures.tag c.if-is_same.true) in
     let solid : is_vacant here ≡ false = rw tag c.requires.solid in
     left_at q (in_turn ranks (places_of ps)) rank (leaf_in here) (omega (arith, turn_length ranks (places_of ps)))
-    (at_slot c.args.marks.now ranks ps c.requires.kept c.known-ranks c.known-slots rank slot _ l found.within found.first ∙ solid_place here solid) (sym t)
+    (at_slot c.args.marks.now ranks ps c.requires.kept c.told-ranks c.told-slots rank slot _ l found.within found.first ∙ solid_place here solid) (sym t)
     ∙ sym c.marked.invariant.far
 
 pub returns-then-is_same-clause-kept : goal.returns-then-is_same-clause-kept
@@ -69,9 +69,9 @@ marked-preserved c =
     let m : rank < length all = omega (arith, turn_length ranks (places_of ps)) in
     let f : false ≡ q (leaf_in here) = rw c.marked.invariant.same at (sym c.if-is_same.false ∙ c.is_same.ensures.same) in
     let o : is_other q (get_or all rank None) ≡ true =
-    ap (is_other q) (at_slot c.args.marks.now ranks ps c.requires.kept c.known-ranks c.known-slots rank slot _ l found.within found.first) ∙ other_place q here (sym f) in
+    ap (is_other q) (at_slot c.args.marks.now ranks ps c.requires.kept c.told-ranks c.told-slots rank slot _ l found.within found.first) ∙ other_place q here (sym f) in
     let kept : IsStack c.marked.marks ranks ps = rw c.marked.invariant.same at c.marked.invariant.kept in
-    let passed = places_passed c.marked.marks ranks ps kept c.known-ranks c.known-slots c.args.leaf (rank + 1) looked.result c.requires.solid looked.ensures.within.0 looked.ensures.within.1
+    let passed = places_passed c.marked.marks ranks ps kept c.told-ranks c.told-slots c.args.leaf (rank + 1) looked.result c.requires.solid looked.ensures.within.0 looked.ensures.within.1
     (λ s n a b. rw c.mark-mark.ensures at ((looked.ensures.passed s n a b).0)) in
     record {
       within = looked.ensures.within.1;

@@ -3,7 +3,7 @@ use Rattle.xl_curve.proofs.KernelLemmas.{all_purged, mark_written, purged_more, 
 use Rattle.xl_curve.proofs.kernel.vacate_where.Goals as goal
 
 pub loop-at-init : goal.loop-at-init
-loop-at-init g c = record { count = c.known-slots; purged = λ q test. refl; thinned = λ s t hole held. held; marks = c.requires.marks }
+loop-at-init g c = record { count = c.told-slots; purged = λ q test. refl; thinned = λ s t hole held. held; marks = c.requires.marks }
 
 pub loop-at-preserved : goal.loop-at-preserved
 loop-at-preserved g c =

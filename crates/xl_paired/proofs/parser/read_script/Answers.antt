@@ -14,4 +14,4 @@ returns-clause-known g c =
     let answer = c.script_of.result in
     known_one (g.F.Folder.folder.files c.args.folder.now) (λ fs. ReadsWhole (file_of fs name) 1048576 (Ok c.in_ok-text.text)) (λ fs. Finds p.said answer (script_in p.says name fs))
     c.in_ok-text.ensures.known
-    (λ fs h. finds_text p.said p.says (file_of fs name) c.in_ok-text.text c.as_slice.result.now answer g.caused.P.Parser.cut h c.as_slice.ensures.value c.script_of.ensures.said)
+    (λ fs h. finds_text p.said p.says (file_of fs name) c.in_ok-text.text c.as_slice.result.now answer g.met.P.Parser.cut h c.as_slice.ensures.value c.script_of.ensures.said)
