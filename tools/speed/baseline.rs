@@ -1,7 +1,7 @@
 //! The replay of the row of examples/primes.toml in plain Rust, for a measure of speed: the same work in the
 //! same form, with nothing proved. Its script has lines `map 0 ADDRESS 4k rwxu` alone.
 //!
-//!     rustc -O -C target-cpu=x86-64-v2 tools/speed/plain.rs && ./plain SCRIPT TRACE
+//!     rustc -O -C target-cpu=x86-64-v2 tools/speed/baseline.rs && ./baseline SCRIPT TRACE
 
 use std::env;
 use std::fs::{self, File};
