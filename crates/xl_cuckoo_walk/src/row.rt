@@ -18,7 +18,7 @@ use crate::walk::walk_page;
 use std::alloc::Global;
 use std::marker::Model;
 use xl_cuckoo::Cuckoo;
-use xl_model::{Leaf, NoMemory, Order, Perm, QuickWalk, Reach, Refused, Structure, Walk, Work};
+use xl_model::{Leaf, NoMemory, Order, PageWalk, Perm, Reach, Refused, Structure, Work};
 use xl_sections::Counts;
 
 /// A row of elastic cuckoo tables of `D` ways, two to four: a table for each order, and two caches
@@ -152,12 +152,7 @@ impl<const D: usize> Structure for CuckooRow<D> {
     }
 
     #[inline]
-    fn walk(&mut self, space: u16, page: u64) -> Walk {
-        self.quick_walk(space, page).whole(space, page)
-    }
-
-    #[inline]
-    fn quick_walk(&mut self, space: u16, page: u64) -> QuickWalk {
+    fn walk(&mut self, space: u16, page: u64) -> PageWalk {
         walk_page(&mut self.parts, space, page)
     }
 

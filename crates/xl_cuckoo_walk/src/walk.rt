@@ -1,7 +1,7 @@
 //! The walk.
 
 ghost use Rattle.std.specs.Prelude.{◌≡◌};
-ghost use Rattle.xl_model.specs.Structures.{IsPage, IsWalk, IsQuickWalk, walk_of_quick};
+ghost use Rattle.xl_model.specs.Structures.{IsPage, IsWalk, IsPageWalk, walk_of_page};
 ghost use Rattle.xl_tagged.specs.Slots.{small_known};
 ghost use Rattle.xl_cuckoo_walk.specs.Parts.{IsRow, row_state};
 
@@ -10,22 +10,22 @@ use crate::parts::Parts;
 use crate::plan::{Hits, Plan, planned};
 use crate::probe::{probe_next, probe_order, probe_small};
 use crate::sole::{Sole, sole_of};
-use xl_model::{Order, QuickWalk, Walk};
+use xl_model::{Order, PageWalk, Walk};
 use xl_pte::words_read_back;
 use xl_sections::section;
 
 /// The walk of a page whose sections are both cached, that found this leaf of 4 KiB or none.
 #[inline(always)]
-fn small_walk(_space: u16, _page: u64, found: Option<u64>) -> QuickWalk
-    ensures { walk_of_quick _space _page result
+fn small_walk(_space: u16, _page: u64, found: Option<u64>) -> PageWalk
+    ensures { walk_of_page _space _page result
         ≡ record { leaf = small_known _space _page found; cache_hits = 2 } }
 {
     match found {
-        Some(word) => QuickWalk::Small {
+        Some(word) => PageWalk::Small {
             word,
             cache_hits: 2,
         },
-        None => QuickWalk::Any {
+        None => PageWalk::Any {
             walk: Walk {
                 leaf: None,
                 cache_hits: 2,
@@ -37,11 +37,11 @@ fn small_walk(_space: u16, _page: u64, found: Option<u64>) -> QuickWalk
 /// The walk of a page. Where its sections are in front of both caches and leave one order alone, no
 /// more than that order is looked at. A leaf of 4 KiB comes as its word then.
 #[inline(always)]
-pub(crate) fn walk_page<const D: usize>(parts: &mut Parts<D>, space: u16, page: u64) -> QuickWalk
+pub(crate) fn walk_page<const D: usize>(parts: &mut Parts<D>, space: u16, page: u64) -> PageWalk
     requires whole { IsRow parts.old }
     requires page { IsPage (row_state parts.old).shape space page }
     ensures whole { IsRow parts.new }
-    ensures walks { IsQuickWalk space page (row_state parts.old) result (row_state parts.new) }
+    ensures walks { IsPageWalk space page (row_state parts.old) result (row_state parts.new) }
 {
     words_read_back();
     let middle_key = section(space, page, Order::M2);
@@ -55,14 +55,14 @@ pub(crate) fn walk_page<const D: usize>(parts: &mut Parts<D>, space: u16, page: 
         }
         Sole::Middle(way) => {
             let leaf = probe_order(&mut parts.m2, Plan::At(way), Order::M2, space, page);
-            QuickWalk::Any {
+            PageWalk::Any {
                 walk: Walk {
                     leaf,
                     cache_hits: 2,
                 },
             }
         }
-        Sole::Unknown => QuickWalk::Any {
+        Sole::Unknown => PageWalk::Any {
             walk: walk_next(parts, space, page),
         },
     }

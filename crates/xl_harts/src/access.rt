@@ -19,7 +19,7 @@ use crate::hart::Hart;
 use crate::harts::Harts;
 use crate::reply::{reply_of, reply_of_word};
 use xl_lackey::Access;
-use xl_model::{Kind, Leaf, Mode, QuickWalk, Reply, Structure, canonical, page_of};
+use xl_model::{Kind, Leaf, Mode, PageWalk, Reply, Structure, canonical, page_of};
 use xl_radix_walk::RadixRow;
 
 /// The reply by what a walk found.
@@ -45,15 +45,15 @@ fn walk_any(table: &mut RadixRow<3>, hart: &mut Hart, va: u64, page: u64, kind: 
 {
     let before = table.loads();
     let space = hart.space();
-    match table.quick_walk(space, page) {
-        QuickWalk::Small { word, .. } => {
+    match table.walk(space, page) {
+        PageWalk::Small { word, .. } => {
             let loads = table.loads().wrapping_sub(before);
             hart.fill_small(page, word, loads);
             let reply = reply_of_word(word, kind);
             hart.reply(reply, va);
             reply
         }
-        QuickWalk::Any { walk } => {
+        PageWalk::Any { walk } => {
             let loads = table.loads().wrapping_sub(before);
             hart.fill(walk.leaf, loads);
             let reply = reply_of_found(walk.leaf, page, kind);

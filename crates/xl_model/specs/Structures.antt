@@ -6,8 +6,8 @@ use Rattle.xl_model.specs.declared.leaf.Leaf.{Leaf}
 use Rattle.xl_model.specs.declared.event.Reach.{Reach}
 use Rattle.xl_model.specs.declared.way.Moves.{Moves}
 use Rattle.xl_model.specs.declared.work.NoRoom.TheVariants as why
-use Rattle.xl_model.specs.declared.work.QuickWalk.{QuickWalk}
-use Rattle.xl_model.specs.declared.work.QuickWalk.TheVariants as quick
+use Rattle.xl_model.specs.declared.work.PageWalk.{PageWalk}
+use Rattle.xl_model.specs.declared.work.PageWalk.TheVariants as page_walk
 use Rattle.xl_model.specs.declared.work.Refused.{Refused}
 use Rattle.xl_model.specs.declared.work.Walk.{Walk}
 use Rattle.xl_model.specs.declared.work.Work.{Work}
@@ -134,14 +134,14 @@ pub record IsWalk (space page : ℕ) (old : TableState) (result : Walk) (new : T
   pub answer : result ≡ walk_answer space page old
   pub after : new ≡ table_walked space page old
 
--- The walk of a page by the result of a quick walk.
-abbrev pub walk_of_quick : ℕ → ℕ → QuickWalk → Walk
-walk_of_quick space page (quick.Small word cache_hits) = record { leaf = Some (small_leaf space page word); cache_hits = cache_hits }
-walk_of_quick space page (quick.Any walk) = walk
+-- The walk of a page by its result, where a leaf of 4 KiB may be returned as its word.
+abbrev pub walk_of_page : ℕ → ℕ → PageWalk → Walk
+walk_of_page space page (page_walk.Small word cache_hits) = record { leaf = Some (small_leaf space page word); cache_hits = cache_hits }
+walk_of_page space page (page_walk.Any walk) = walk
 
--- The same, where a leaf of 4 KiB may be returned as its word.
-abbrev pub IsQuickWalk : ℕ → ℕ → TableState → QuickWalk → TableState → Type 0
-IsQuickWalk space page old result new = IsWalk space page old (walk_of_quick space page result) new
+-- The same by the result of a page's walk.
+abbrev pub IsPageWalk : ℕ → ℕ → TableState → PageWalk → TableState → Type 0
+IsPageWalk space page old result new = IsWalk space page old (walk_of_page space page result) new
 
 -- A walk as the definitions have it, which began at a node that a cache held, or else at the root,
 -- and found a leaf of 4 KiB that has this word and allows an access of this kind.

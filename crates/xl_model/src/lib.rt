@@ -29,4 +29,4 @@ pub use row::{Counts, Purge, Row, Serves, Table, TlbSpec};
 pub use script::{Area, Command, Item};
 pub use structure::Structure;
 pub use way::{Entry, Moves, WayRegs};
-pub use work::{Full, NoMemory, NoRoom, NoTable, QuickWalk, Refused, Walk, Work};
+pub use work::{Full, NoMemory, NoRoom, NoTable, PageWalk, Refused, Walk, Work};

@@ -3,13 +3,13 @@
 ghost use Rattle.std.specs.Prelude.{◌≡◌, false, IfSome, IfNone};
 ghost use Rattle.xl_model.specs.Mapping.{leaf_at_page, meets_any};
 ghost use Rattle.xl_model.specs.Changes.{Insert, Remove, Protect, Relocate, IsNamed};
-ghost use Rattle.xl_model.specs.Structures.{TableState, IsBlock, IsPage, IsLeafFor, IsChange, IsWalk, IsQuickWalk, IsAllowedWalk, IsSameWalk, IsFence};
+ghost use Rattle.xl_model.specs.Structures.{TableState, IsBlock, IsPage, IsLeafFor, IsChange, IsWalk, IsPageWalk, IsAllowedWalk, IsSameWalk, IsFence};
 
 use crate::address::{Kind, Order};
 use crate::event::Reach;
 use crate::leaf::Leaf;
 use crate::perm::Perm;
-use crate::work::{QuickWalk, Refused, Walk, Work};
+use crate::work::{PageWalk, Refused, Walk, Work};
 
 /// A table of a row: holds the leaves of its mapping, and is walked. Contracts see it as its
 /// `table`: the leaves, sorted by space and first page, the shape, the walk caches and the loads.
@@ -62,19 +62,9 @@ pub trait Structure: Drop {
 
     /// The leaf that covers the page, found by a walk, with the cache hits of the walk. The loads
     /// rise by those of the walk, and the caches are touched and filled.
-    fn walk(&mut self, space: u16, page: u64) -> Walk
+    fn walk(&mut self, space: u16, page: u64) -> PageWalk
         requires { IsPage (table self.old).shape space page }
-        ensures walks { IsWalk space page (table self.old) result (table self.new) };
-
-    /// Like `walk`. A leaf of 4 KiB may be returned as its word, which costs less.
-    fn quick_walk(&mut self, space: u16, page: u64) -> QuickWalk
-        requires { IsPage (table self.old).shape space page }
-        ensures walks { IsQuickWalk space page (table self.old) result (table self.new) }
-    {
-        QuickWalk::Any {
-            walk: self.walk(space, page),
-        }
-    }
+        ensures walks { IsPageWalk space page (table self.old) result (table self.new) };
 
     /// Fast path of `walk`. Where `cached`, it begins at a level-0 node in the lowest cache, else
     /// there is no cache; only for a 4 KiB leaf that permits `kind`. Returns the leaf's word.

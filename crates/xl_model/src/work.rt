@@ -2,7 +2,7 @@
 
 ghost use Rattle.std.specs.Prelude.{◌≡◌};
 ghost use Rattle.xl_model.specs.Placing.{no_moves};
-ghost use Rattle.xl_model.specs.Structures.{walk_of_quick, work_of};
+ghost use Rattle.xl_model.specs.Structures.{work_of};
 
 use crate::leaf::Leaf;
 use std::alloc::AllocError;
@@ -77,23 +77,7 @@ pub struct Walk {
 /// What a walk of a page found, where a leaf of 4 KiB may be returned as its word: its frame (times
 /// 16) and its permission (four bits: read, write, execute, user).
 #[derive(Clone, Copy, Debug, PartialEq, Eq)]
-pub enum QuickWalk {
+pub enum PageWalk {
     Small { word: u64, cache_hits: u64 },
     Any { walk: Walk },
-}
-
-impl QuickWalk {
-    /// The walk of the page in this result.
-    #[inline(always)]
-    pub fn whole(self, space: u16, page: u64) -> Walk
-        ensures { result ≡ walk_of_quick space page self }
-    {
-        match self {
-            QuickWalk::Small { word, cache_hits } => Walk {
-                leaf: Some(Leaf::small(space, page, word)),
-                cache_hits,
-            },
-            QuickWalk::Any { walk } => walk,
-        }
-    }
 }

@@ -9,7 +9,9 @@ ghost use Rattle.xl_model_table.specs.Kept.{table_of};
 use crate::kept::{any_meets, covering, give_perm, named, place_of, take_out, walk_loads};
 use std::alloc::Global;
 use std::marker::Model;
-use xl_model::{Leaf, NoMemory, NoRoom, Order, Perm, Reach, Refused, Structure, Walk, Work};
+use xl_model::{
+    Leaf, NoMemory, NoRoom, Order, PageWalk, Perm, Reach, Refused, Structure, Walk, Work,
+};
 
 /// A hashed table whose chains are searched leaf by leaf in one list. Nothing is allocated after
 /// `open`.
@@ -113,13 +115,15 @@ impl Structure for ListTable {
         }
     }
 
-    fn walk(&mut self, space: u16, page: u64) -> Walk {
+    fn walk(&mut self, space: u16, page: u64) -> PageWalk {
         let leaf = self.leaf_at(space, page);
         let loads = walk_loads(&self.leaves, self.buckets, space, page, leaf);
         self.loads = self.loads.wrapping_add(loads);
-        Walk {
-            leaf,
-            cache_hits: 0,
+        PageWalk::Any {
+            walk: Walk {
+                leaf,
+                cache_hits: 0,
+            },
         }
     }
 

@@ -12,7 +12,7 @@ ghost use Rattle.xl_model.specs.LeafWords.{small_leaf};
 ghost use Rattle.xl_model.specs.Rows.{is_width};
 ghost use Rattle.xl_model.specs.Placing.{no_moves};
 ghost use Rattle.xl_model.specs.Walks.{end_level};
-ghost use Rattle.xl_model.specs.Structures.{IsBlock, IsLeafFor, IsPage, IsChange, IsQuickWalk, IsAllowedWalk, IsSameWalk, IsFence, walk_of_quick, work_of};
+ghost use Rattle.xl_model.specs.Structures.{IsBlock, IsLeafFor, IsPage, IsChange, IsPageWalk, IsAllowedWalk, IsSameWalk, IsFence, walk_of_page, work_of};
 ghost use Rattle.xl_radix.specs.Walk.{walk_end};
 ghost use Rattle.xl_radix.specs.Steps.{shape_of};
 ghost use Rattle.xl_radix_walk.specs.Quick.{IsAllowed};
@@ -27,7 +27,7 @@ use arrayvec::ArrayVec;
 use std::alloc::Global;
 use std::marker::Model;
 use xl_model::{
-    Kind, Leaf, NoMemory, NoRoom, NoTable, Order, Perm, QuickWalk, Reach, Refused, Structure, Walk,
+    Kind, Leaf, NoMemory, NoRoom, NoTable, Order, PageWalk, Perm, Reach, Refused, Structure, Walk,
     Work,
 };
 use xl_phys::Bus;
@@ -265,26 +265,26 @@ fn walk_from<const LEVELS: usize>(
     cache_hits: u64,
     space: u16,
     page: u64,
-) -> QuickWalk
+) -> PageWalk
     requires few { length caches.old ≤ 4 }
     requires page { page < 2 ^ 45 }
     requires node { number_of space (suc from.level) (up (suc from.level) page) radix.old.nodes ≡
         Some from.node }
     requires level { from.level < LEVELS }
-    ensures hits { (walk_of_quick space page result).cache_hits ≡ cache_hits }
-    ensures walked { IsWalked LEVELS from.level space page (walk_of_quick space page result).leaf
+    ensures hits { (walk_of_page space page result).cache_hits ≡ cache_hits }
+    ensures walked { IsWalked LEVELS from.level space page (walk_of_page space page result).leaf
         radix.old caches.old radix.new caches.new }
 {
     radix.words_read_back();
     if caches.fills_none(from.level) {
         if let Some(word) = straight(radix, from, space, page, None, &mut [0; 4]) {
-            return QuickWalk::Small { word, cache_hits };
+            return PageWalk::Small { word, cache_hits };
         }
     } else if let Some(word) = straight_filling(radix, caches, from, space, page) {
-        return QuickWalk::Small { word, cache_hits };
+        return PageWalk::Small { word, cache_hits };
     }
     let leaf = walk_filling(radix, caches, from, space, page);
-    QuickWalk::Any {
+    PageWalk::Any {
         walk: Walk { leaf, cache_hits },
     }
 }
@@ -296,11 +296,11 @@ fn walk_row<const LEVELS: usize>(
     caches: &mut WalkCaches,
     space: u16,
     page: u64,
-) -> QuickWalk
+) -> PageWalk
     requires row { IsRow LEVELS (row_of radix.old caches.old) }
     requires page { IsPage (shape_of LEVELS radix.old) space page }
     ensures row { IsRow LEVELS (row_of radix.new caches.new) }
-    ensures walks { IsQuickWalk space page (row_table LEVELS (row_of radix.old caches.old))
+    ensures walks { IsPageWalk space page (row_table LEVELS (row_of radix.old caches.old))
         result (row_table LEVELS (row_of radix.new caches.new)) }
 {
     radix.words_read_back();
@@ -531,11 +531,7 @@ impl<const LEVELS: usize> Structure for RadixRow<LEVELS> {
         relocate_leaf(&mut self.radix, &mut self.caches, space, first, to, order)
     }
 
-    fn walk(&mut self, space: u16, page: u64) -> Walk {
-        self.quick_walk(space, page).whole(space, page)
-    }
-
-    fn quick_walk(&mut self, space: u16, page: u64) -> QuickWalk {
+    fn walk(&mut self, space: u16, page: u64) -> PageWalk {
         walk_row(&mut self.radix, &mut self.caches, space, page)
     }
 

@@ -13,7 +13,9 @@ use crate::changes::{add, move_to, set_perm, take_out};
 use crate::pieces::leaf_in;
 use std::alloc::Global;
 use std::marker::Model;
-use xl_model::{Leaf, NoMemory, NoRoom, Order, Perm, Range, Reach, Refused, Structure, Walk, Work};
+use xl_model::{
+    Leaf, NoMemory, NoRoom, Order, PageWalk, Perm, Range, Reach, Refused, Structure, Walk, Work,
+};
 use xl_phys::Bus;
 use xl_tlb::RangeTlb;
 use xl_treap::Treap;
@@ -120,6 +122,28 @@ impl Ranges {
             },
         }
     }
+
+    /// A walk that asks for the newest range of the range TLB first.
+    #[inline]
+    fn walk_newest(&mut self, space: u16, page: u64) -> Walk
+        requires { IsPage (row_table self.old).shape space page }
+        ensures walks { IsWalk space page (row_table self.old) result (row_table self.new) }
+    {
+        if let Some(range) = self.tlb.front(space, page) {
+            return Walk {
+                leaf: Some(leaf_in(range, page)),
+                cache_hits: 1,
+            };
+        }
+        let walk = self.walk_next(space, page);
+        let Some(leaf) = walk.leaf else {
+            return walk;
+        };
+        Walk {
+            leaf: Some(leaf.by_fields()),
+            cache_hits: walk.cache_hits,
+        }
+    }
 }
 
 impl Structure for Ranges {
@@ -173,20 +197,9 @@ impl Structure for Ranges {
     }
 
     #[inline]
-    fn walk(&mut self, space: u16, page: u64) -> Walk {
-        if let Some(range) = self.tlb.front(space, page) {
-            return Walk {
-                leaf: Some(leaf_in(range, page)),
-                cache_hits: 1,
-            };
-        }
-        let walk = self.walk_next(space, page);
-        let Some(leaf) = walk.leaf else {
-            return walk;
-        };
-        Walk {
-            leaf: Some(leaf.by_fields()),
-            cache_hits: walk.cache_hits,
+    fn walk(&mut self, space: u16, page: u64) -> PageWalk {
+        PageWalk::Any {
+            walk: self.walk_newest(space, page),
         }
     }
 

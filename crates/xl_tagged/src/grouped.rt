@@ -10,7 +10,7 @@ use crate::smaller::Smaller;
 use crate::steps::{add, is_met, leaf_of_page, move_to, set_perm, take_out, walk_page};
 use std::alloc::Global;
 use std::marker::Model;
-use xl_model::{Leaf, NoMemory, Order, Perm, QuickWalk, Reach, Refused, Structure, Walk, Work};
+use xl_model::{Leaf, NoMemory, Order, PageWalk, Perm, Reach, Refused, Structure, Work};
 use xl_pte::words_read_back;
 
 /// A table of leaf words in slots under tags: a search follows the chain of the tag's bucket.
@@ -100,11 +100,7 @@ impl<G: Grouping> Structure for Grouped<G> {
         move_to::<G>(&mut self.chains, &mut self.smaller, space, first, to, order)
     }
 
-    fn walk(&mut self, space: u16, page: u64) -> Walk {
-        self.quick_walk(space, page).whole(space, page)
-    }
-
-    fn quick_walk(&mut self, space: u16, page: u64) -> QuickWalk {
+    fn walk(&mut self, space: u16, page: u64) -> PageWalk {
         walk_page::<G>(&mut self.chains, &self.smaller, space, page)
     }
 

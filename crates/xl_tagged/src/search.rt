@@ -2,13 +2,13 @@
 
 ghost use Rattle.std.specs.Prelude.{◌≡◌, ◌<◌, ◌^◌};
 ghost use Rattle.xl_model.specs.declared.address.Order.TheVariants as orders;
-ghost use Rattle.xl_model.specs.Structures.{walk_of_quick};
+ghost use Rattle.xl_model.specs.Structures.{walk_of_page};
 ghost use Rattle.xl_tagged.specs.Forms.{values_under};
 ghost use Rattle.xl_tagged.specs.Slots.{found_in, first_found, found_from, order_loads, large_loads, walk_without_tlb, NoneLarge, walk_loads, loaded_more, small_known};
 
 use crate::place::{leaf_read, small_read};
 use crate::slots::Slots;
-use xl_model::{Leaf, Order, QuickWalk, Walk};
+use xl_model::{Leaf, Order, PageWalk, Walk};
 
 /// Searches for the leaf of this order in which a page lies, without loads.
 #[inline(always)]
@@ -123,20 +123,20 @@ fn probe_large<S: Slots>(slots: &mut S, space: u16, page: u64) -> Option<Leaf>
 /// The walk of a page, with loads: the orders are tried from the smallest on, the next one also
 /// where the page's slot is empty. A leaf of 4 KiB comes as its word.
 #[inline(always)]
-pub fn walk_all<S: Slots>(slots: &mut S, space: u16, page: u64) -> QuickWalk
+pub fn walk_all<S: Slots>(slots: &mut S, space: u16, page: u64) -> PageWalk
     requires space_in { space < 64 }
     requires page_in { page < 2 ^ 45 }
-    ensures walk { walk_of_quick space page result ≡
+    ensures walk { walk_of_page space page result ≡
         walk_without_tlb (first_found S.form space page (values_under (S.state slots.old).held)) }
     ensures after { S.state slots.new ≡
         loaded_more (walk_loads S.form space page (S.state slots.old)) (S.state slots.old) }
 {
     match probe_small(slots, space, page) {
-        Some(word) => QuickWalk::Small {
+        Some(word) => PageWalk::Small {
             word,
             cache_hits: 0,
         },
-        None => QuickWalk::Any {
+        None => PageWalk::Any {
             walk: Walk {
                 leaf: probe_large(slots, space, page),
                 cache_hits: 0,

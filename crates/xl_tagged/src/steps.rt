@@ -3,7 +3,7 @@
 ghost use Rattle.std.specs.Prelude.{◌≡◌, ◌<◌, ◌^◌, false};
 ghost use Rattle.xl_model.specs.Changes.{Insert, Remove, Protect, Relocate, IsNamed};
 ghost use Rattle.xl_model.specs.Mapping.{meets_any, leaf_at_page};
-ghost use Rattle.xl_model.specs.Structures.{IsBlock, IsPage, IsLeafFor, IsChange, IsQuickWalk};
+ghost use Rattle.xl_model.specs.Structures.{IsBlock, IsPage, IsLeafFor, IsChange, IsPageWalk};
 ghost use Rattle.xl_tagged.specs.Slots.{table_in};
 ghost use Rattle.xl_tagged.specs.Groups.{IsWhole};
 
@@ -11,7 +11,7 @@ use crate::grouping::Grouping;
 use crate::place::full_table;
 use crate::search::{look, look_all, look_from, walk_all};
 use crate::smaller::Smaller;
-use xl_model::{Leaf, Order, Perm, QuickWalk, Refused, Work};
+use xl_model::{Leaf, Order, PageWalk, Perm, Refused, Work};
 use xl_pte::words_read_back;
 
 /// Adds a leaf that overlaps no other.
@@ -125,11 +125,11 @@ pub(crate) fn walk_page<G: Grouping>(
     smaller: &Smaller,
     space: u16,
     page: u64,
-) -> QuickWalk
+) -> PageWalk
     requires whole { IsWhole G.Chains.form G.kept (G.Chains.state chains.old) smaller.now }
     requires page { IsPage (table_in G.Chains.form (G.Chains.state chains.old)).shape space page }
     ensures whole { IsWhole G.Chains.form G.kept (G.Chains.state chains.new) smaller.now }
-    ensures walks { IsQuickWalk space page
+    ensures walks { IsPageWalk space page
         (table_in G.Chains.form (G.Chains.state chains.old)) result
         (table_in G.Chains.form (G.Chains.state chains.new)) }
 {

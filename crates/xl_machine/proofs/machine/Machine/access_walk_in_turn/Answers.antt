@@ -2,8 +2,8 @@ use Rattle.xl_machine.proofs.Common.{◌∙◌, None, refl, small_leaf, Some, sy
 use Rattle.xl_machine.proofs.Accesses.{missed_kept, page_in, page_small, replied_hits, replied_leaf, small_answer, small_replied, walked_answer, walked_fit, walked_kept, walked_reached}
 use Rattle.xl_machine.proofs.machine.Machine.access_walk_in_turn.Goals as goal
 
-pub quick_walk-requires : goal.quick_walk-requires
-quick_walk-requires g c = page_in c.self.invariant.served c.args.page c.args.va (rw (← c.self.view_is) at c.requires.page_is)
+pub walk-requires : goal.walk-requires
+walk-requires g c = page_in c.self.invariant.served c.args.page c.args.va (rw (← c.self.view_is) at c.requires.page_is)
 
 pub fill-requires : goal.fill-requires
 fill-requires g c = walked_fit c.self.invariant.served c.args.page c.in-Some.leaf (sym c.in-Some.is ∙ replied_leaf c.in-Any.ensures.walks)
