@@ -8,16 +8,16 @@ use Rattle.xl_script.specs.Scripts.{after, and_then, lines_read, Reading, Said, 
 use Rattle.xl_script.specs.Texts.{script_lines, words_of}
 use Rattle.xl_hart_script.specs.Lines.{fits_command, hart_line, head_line, in_turn, leaves_line, line_named, line_of, map_line, move_line, move_words, name_of, only_number, own_line, placed, protect_line, run_line, space_line, take_line, unmap_line, unmap_words}
 use Rattle.xl_hart_script.specs.Scripts.{AreServable, harts_said, IsReady, said_by}
-use Rattle.xl_hart_script.specs.Words.{◌>>=◌, address_in, count_in, last_count, number, order_in, short_in}
+use Rattle.xl_script.specs.Reading.{◌>>=◌, address_in, count_in, last_count, number, order_in, short_in}
 use Rattle.xl_hart_script.specs.declared.command.HartCommand.{HartCommand}
 use Rattle.xl_hart_script.specs.declared.command.Line.{Line}
 use Rattle.xl_hart_script.specs.declared.lines.Name.{Name}
-use Rattle.xl_hart_script.specs.declared.reason.Reason.{Reason}
+use Rattle.xl_script.specs.declared.reason.Reason.{Reason}
 use Rattle.xl_script.specs.declared.fault.ScriptFault.TheVariants as fault
 use Rattle.xl_hart_script.specs.declared.command.HartCommand.TheVariants as command
 use Rattle.xl_hart_script.specs.declared.command.Line.TheVariants as line
 use Rattle.xl_hart_script.specs.declared.lines.Name.TheVariants as name
-use Rattle.xl_hart_script.specs.declared.reason.Reason.TheVariants as reason
+use Rattle.xl_script.specs.declared.reason.Reason.TheVariants as reason
 
 -- a reading after another keeps what each answer of the second does
 bind : {A B : Type 0} (P : Result B Reason → Type 0) → ((e : Reason) → P (Err e)) → (r : Result A Reason) (f : A → Result B Reason) → ((a : A) → P (f a)) → P (r >>= f)

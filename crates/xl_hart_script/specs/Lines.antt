@@ -15,9 +15,9 @@ use Rattle.xl_hart_script.specs.declared.command.Line.TheVariants as line
 use Rattle.xl_hart_script.specs.declared.lines.Leaves.{Leaves}
 use Rattle.xl_hart_script.specs.declared.lines.Name.{Name}
 use Rattle.xl_hart_script.specs.declared.lines.Name.TheVariants as name
-use Rattle.xl_hart_script.specs.declared.reason.Reason.{Reason}
-use Rattle.xl_hart_script.specs.declared.reason.Reason.TheVariants as reason
-use Rattle.xl_hart_script.specs.Words.{◌>>=◌, address_in, count_in, last_count, number, order_in, perm_in, short_in}
+use Rattle.xl_script.specs.declared.reason.Reason.{Reason}
+use Rattle.xl_script.specs.declared.reason.Reason.TheVariants as reason
+use Rattle.xl_script.specs.Reading.{◌>>=◌, address_in, count_in, last_count, number, order_in, perm_in, short_in}
 
 -- The limits, where each space has a node for its root.
 abbrev pub head_at : HartSpec → Result HartSpec Reason

@@ -4,6 +4,7 @@ use Rattle.xl_model.specs.declared.event.Event.{Event}
 use Rattle.xl_model.specs.declared.event.Event.TheVariants as event
 use Rattle.xl_script.specs.declared.fault.ScriptFault.{ScriptFault}
 use Rattle.xl_script.specs.declared.fault.ScriptFault.TheVariants as fault
+use Rattle.xl_script.specs.Reading.{code_of}
 use Rattle.xl_script.specs.Scripts.{Said, Reading, text_read}
 use Rattle.xl_hart_model.specs.declared.hart.HartEvent.{HartEvent}
 use Rattle.xl_hart_model.specs.declared.hart.HartEvent.TheVariants as step
@@ -13,19 +14,8 @@ use Rattle.xl_hart_script.specs.declared.command.HartCommand.{HartCommand}
 use Rattle.xl_hart_script.specs.declared.command.HartCommand.TheVariants as command
 use Rattle.xl_hart_script.specs.declared.command.Line.{Line}
 use Rattle.xl_hart_script.specs.declared.command.Line.TheVariants as line
-use Rattle.xl_hart_script.specs.declared.reason.Reason.{Reason}
-use Rattle.xl_hart_script.specs.declared.reason.Reason.TheVariants as reason
+use Rattle.xl_script.specs.declared.reason.Reason.{Reason}
 use Rattle.xl_hart_script.specs.Lines.{line_of, fits_command}
-
--- The number of a reason.
-abbrev pub code_of : Reason → ℕ
-code_of reason.FirstWord = 1
-code_of reason.WordCount = 2
-code_of reason.Number = 3
-code_of reason.Order = 4
-code_of reason.Perm = 5
-code_of reason.PastTheEnd = 6
-code_of reason.Head = 8
 
 -- The limits in the head of a script, and its commands.
 pub record HartText : Type 0 where

@@ -5,9 +5,8 @@ ghost use Rattle.xl_script.specs.Texts.{words_of};
 ghost use Rattle.xl_hart_script.specs.Lines.{head_line, head_words};
 ghost use Rattle.xl_hart_laws.specs.Kept.{IsHartSpec};
 
-use crate::reason::Reason;
-use crate::words::{needed, next_at, number};
 use xl_hart_model::HartSpec;
+use xl_script::reading::{Reason, needed, next_at, number};
 
 /// The most nodes of a table.
 const NODES: u64 = 16_384;

@@ -8,10 +8,11 @@ ghost use Rattle.xl_hart_script.specs.Scripts.{HasLimits};
 
 use crate::command::{HartCommand, Line};
 use crate::head::head_line;
-use crate::reason::Reason;
-use crate::words::{address, count, count_word, is, needed, next_at, number, order, perm, short};
 use xl_hart_model::HartEvent;
 use xl_model::{Event, Order, Perm};
+use xl_script::reading::{
+    Reason, address, count, count_word, is, needed, next_at, number, order, perm, short,
+};
 
 /// The lines of a script, by their first words.
 #[derive(Clone, Copy)]

@@ -8,10 +8,10 @@ ghost use Rattle.xl_hart_script.specs.Scripts.{harts_said};
 
 use crate::command::{HartCommand, Line};
 use crate::lines::line_of;
-use crate::words::first_word;
 use std::marker::Model;
 use xl_hart_model::HartSpec;
 use xl_script::Form;
+use xl_script::reading::first_word;
 
 /// A script, as far as it was read: it has a head once that was read.
 #[derive(Drop)]

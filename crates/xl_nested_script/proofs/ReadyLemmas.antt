@@ -8,18 +8,18 @@ use Rattle.xl_nested_model.specs.declared.nest.Nest.{Nest}
 use Rattle.xl_script.proofs.ScriptLemmas.{in_memory}
 use Rattle.xl_script.specs.Scripts.{after, and_then, lines_read, Reading, Said, text_read}
 use Rattle.xl_script.specs.Texts.{script_lines, words_of}
-use Rattle.xl_nested_script.specs.Lines.{ends_of, gmap_line, gmap_words, gunmap_line, gunmap_words, head_line, in_turn, line_named, line_of, name_of, own_line, placed, run_line, vmap_line, vmap_words, vunmap_line, vunmap_words}
+use Rattle.xl_nested_script.specs.Lines.{ends_of, gmap_line, gmap_words, gunmap_line, gunmap_words, head_line, in_turn, line_named, line_of, name_of, own_line, placed, run_line, user_perm, user_perm_in, vmap_line, vmap_words, vunmap_line, vunmap_words}
 use Rattle.xl_nested_script.specs.Scripts.{HasUsers, IsReady, nest_said, said_by}
-use Rattle.xl_nested_script.specs.Words.{◌>>=◌, address_in, count_in, last_count, number, order_in, perm_in, user_perm, user_perm_in}
+use Rattle.xl_script.specs.Reading.{◌>>=◌, address_in, count_in, last_count, number, order_in, perm_in}
 use Rattle.xl_nested_script.specs.declared.command.Line.{Line}
 use Rattle.xl_nested_script.specs.declared.command.NestCommand.{NestCommand}
 use Rattle.xl_nested_script.specs.declared.lines.Name.{Name}
-use Rattle.xl_nested_script.specs.declared.reason.Reason.{Reason}
+use Rattle.xl_script.specs.declared.reason.Reason.{Reason}
 use Rattle.xl_script.specs.declared.fault.ScriptFault.TheVariants as fault
 use Rattle.xl_nested_script.specs.declared.command.Line.TheVariants as line
 use Rattle.xl_nested_script.specs.declared.command.NestCommand.TheVariants as command
 use Rattle.xl_nested_script.specs.declared.lines.Name.TheVariants as name
-use Rattle.xl_nested_script.specs.declared.reason.Reason.TheVariants as reason
+use Rattle.xl_script.specs.declared.reason.Reason.TheVariants as reason
 
 -- a reading after another keeps what each answer of the second does
 bind : {A B : Type 0} (P : Result B Reason → Type 0) → ((e : Reason) → P (Err e)) → (r : Result A Reason) (f : A → Result B Reason) → ((a : A) → r ≡ Ok a → P (f a)) → P (r >>= f)

@@ -2,6 +2,8 @@
 use Rattle.std.specs.Prelude.{ℕ, ◌+◌, ◌^◌, nat_le, Bool, true, false, List, [], ◌∷◌, codes, Result, Ok, Err, if◌then◌else◌}
 use Rattle.std.specs.List.{list_all}
 use Rattle.std.specs.Str.{bytes_eq}
+use Rattle.xl_model.specs.Rows.{is_width}
+use Rattle.xl_model.specs.declared.perm.Perm.{Perm}
 use Rattle.xl_script.specs.Placing.{end_of, AreInMemory}
 use Rattle.xl_nested_model.specs.declared.nest.Nest.{Nest}
 use Rattle.xl_nested_model.specs.declared.nest.NestEvent.{NestEvent}
@@ -12,9 +14,25 @@ use Rattle.xl_nested_script.specs.declared.command.NestCommand.{NestCommand}
 use Rattle.xl_nested_script.specs.declared.command.NestCommand.TheVariants as command
 use Rattle.xl_nested_script.specs.declared.lines.Name.{Name}
 use Rattle.xl_nested_script.specs.declared.lines.Name.TheVariants as name
-use Rattle.xl_nested_script.specs.declared.reason.Reason.{Reason}
-use Rattle.xl_nested_script.specs.declared.reason.Reason.TheVariants as reason
-use Rattle.xl_nested_script.specs.Words.{◌>>=◌, address_in, count_in, last_count, number, order_in, perm_in, user_perm_in, width_in}
+use Rattle.xl_script.specs.declared.reason.Reason.{Reason}
+use Rattle.xl_script.specs.declared.reason.Reason.TheVariants as reason
+use Rattle.xl_script.specs.Reading.{◌>>=◌, address_in, count_in, last_count, number, order_in, perm_in}
+
+-- A permission with u.
+abbrev pub user_perm : Perm → Result Perm Reason
+user_perm p = if p.u then Ok p else Err reason.Perm
+
+-- PERM of a host's leaf has u.
+abbrev pub user_perm_in : List ℕ → Result Perm Reason
+user_perm_in word = perm_in word >>= user_perm
+
+-- A width of a recency list.
+abbrev pub a_width : ℕ → Result ℕ Reason
+a_width n = if is_width n then Ok n else Err reason.Number
+
+-- GCACHE is a width.
+abbrev pub width_in : List ℕ → Result ℕ Reason
+width_in word = number 0 64 word >>= a_width
 
 -- The sizes, where the guest's nodes are guest pages.
 abbrev pub head_at : Nest → Result Nest Reason

@@ -6,24 +6,14 @@ use Rattle.xl_nested_model.specs.declared.nest.NestEvent.TheVariants as event
 use Rattle.xl_nested_model.specs.Nested.{IsNest}
 use Rattle.xl_script.specs.declared.fault.ScriptFault.{ScriptFault}
 use Rattle.xl_script.specs.declared.fault.ScriptFault.TheVariants as fault
+use Rattle.xl_script.specs.Reading.{code_of}
 use Rattle.xl_script.specs.Scripts.{Said, Reading, text_read}
 use Rattle.xl_nested_script.specs.declared.command.Line.{Line}
 use Rattle.xl_nested_script.specs.declared.command.Line.TheVariants as line
 use Rattle.xl_nested_script.specs.declared.command.NestCommand.{NestCommand}
 use Rattle.xl_nested_script.specs.declared.command.NestCommand.TheVariants as command
-use Rattle.xl_nested_script.specs.declared.reason.Reason.{Reason}
-use Rattle.xl_nested_script.specs.declared.reason.Reason.TheVariants as reason
+use Rattle.xl_script.specs.declared.reason.Reason.{Reason}
 use Rattle.xl_nested_script.specs.Lines.{line_of, IsPlaced}
-
--- The number of a reason.
-abbrev pub code_of : Reason → ℕ
-code_of reason.FirstWord = 1
-code_of reason.WordCount = 2
-code_of reason.Number = 3
-code_of reason.Order = 4
-code_of reason.Perm = 5
-code_of reason.PastTheEnd = 6
-code_of reason.Head = 8
 
 -- The sizes in the head of a script, and its commands.
 pub record NestText : Type 0 where

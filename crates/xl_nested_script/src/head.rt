@@ -4,12 +4,10 @@ ghost use Rattle.std.specs.Prelude.{◌≡◌, ◌+◌, ◌^◌, ◌≤◌, drop
 ghost use Rattle.xl_model.specs.Rows.{is_width as has_width};
 ghost use Rattle.xl_nested_model.specs.Nested.{IsNest};
 ghost use Rattle.xl_script.specs.Texts.{words_of};
-ghost use Rattle.xl_nested_script.specs.Lines.{head_at, head_line, head_words};
-ghost use Rattle.xl_nested_script.specs.Words.{width_in};
+ghost use Rattle.xl_nested_script.specs.Lines.{head_at, head_line, head_words, width_in};
 
-use crate::reason::Reason;
-use crate::words::{address, needed, next_at, number};
 use xl_nested_model::Nest;
+use xl_script::reading::{Reason, address, needed, next_at, number};
 
 /// The most nodes of a table.
 const NODES: u64 = 16_384;

@@ -5,9 +5,7 @@ mod command;
 mod head;
 mod lines;
 mod reader;
-mod reason;
 mod script;
-mod words;
 
 pub use command::NestCommand;
 pub use script::{NestScript, parse_nest};

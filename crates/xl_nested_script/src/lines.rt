@@ -4,17 +4,16 @@ ghost use Rattle.std.specs.Prelude.{◌≡◌, ◌^◌, drop, nat_le, IfOk};
 ghost use Rattle.std.specs.List.{list_all};
 ghost use Rattle.xl_script.specs.Placing.{end_of};
 ghost use Rattle.xl_script.specs.Texts.{words_of};
-ghost use Rattle.xl_nested_script.specs.Lines.{ends_of, event_ends, gmap_line, gmap_words, gunmap_line, gunmap_words, in_turn, is_head, line_named, line_of, name_of, own_line, placed, run_line, vmap_line, vmap_words, vunmap_line, vunmap_words};
+ghost use Rattle.xl_nested_script.specs.Lines.{ends_of, event_ends, gmap_line, gmap_words, gunmap_line, gunmap_words, in_turn, is_head, line_named, line_of, name_of, own_line, placed, run_line, user_perm, user_perm_in, vmap_line, vmap_words, vunmap_line, vunmap_words};
 ghost use Rattle.xl_nested_script.specs.Scripts.{HasLimits};
 
 use crate::command::{Line, NestCommand};
 use crate::head::head_line;
-use crate::reason::Reason;
-use crate::words::{
-    address, count, count_word, is, needed, next_at, number, order, perm, user_perm,
-};
-use xl_model::Order;
+use xl_model::{Order, Perm};
 use xl_nested_model::NestEvent;
+use xl_script::reading::{
+    Reason, address, count, count_word, is, needed, next_at, number, order, perm,
+};
 
 /// The lines of a script, by their first words.
 #[derive(Clone, Copy)]
@@ -25,6 +24,20 @@ pub(crate) enum Name {
     VMap,
     VUnmap,
     Run,
+}
+
+/// A permission with u: G-stage leaves need it.
+fn for_users(perm: Perm) -> Result<Perm, Reason>
+    ensures { result ≡ user_perm perm }
+{
+    if perm.u { Ok(perm) } else { Err(Reason::Perm) }
+}
+
+/// A permission of the host.
+fn user_perm(word: &[u8]) -> Result<Perm, Reason>
+    ensures { result ≡ user_perm_in word.now }
+{
+    for_users(perm(word)?)
 }
 
 /// A map at the host, by its four words.

@@ -8,10 +8,10 @@ ghost use Rattle.xl_nested_script.specs.Scripts.{nest_said};
 
 use crate::command::{Line, NestCommand};
 use crate::lines::line_of;
-use crate::words::first_word;
 use std::marker::Model;
 use xl_nested_model::Nest;
 use xl_script::Form;
+use xl_script::reading::first_word;
 
 /// A script, as far as it was read: it has a head once that was read.
 #[derive(Drop)]

@@ -3,3 +3,4 @@ mod DigitLemmas
 mod PermLemmas
 pub mod ScriptLemmas
 mod TextLemmas
+pub mod WordLemmas

@@ -3,10 +3,11 @@ use Rattle.xl_script.proofs.Common.{if◌then◌else◌, ◌&&◌, ◌+◌, ◌^
 use Rattle.std.proofs.lemmas.List.Elements.{All-cons, All-nil}
 use Rattle.xl_model.specs.declared.script.Command.{Command}
 use Rattle.xl_script.proofs.TextLemmas.{no_lines}
-use Rattle.xl_script.specs.Commands.{◌>>=◌, command_of, named, placed}
+use Rattle.xl_script.specs.Commands.{command_of, named, placed}
 use Rattle.xl_script.specs.Placing.{AreInMemory, ends_of, is_area, IsPlaced}
-use Rattle.xl_script.specs.declared.fault.Reason.{Reason}
-use Rattle.xl_script.specs.declared.fault.Reason.TheVariants.{PastTheEnd, TooManyAreas}
+use Rattle.xl_script.specs.Reading.{◌>>=◌}
+use Rattle.xl_script.specs.declared.reason.Reason.{Reason}
+use Rattle.xl_script.specs.declared.reason.Reason.TheVariants.{PastTheEnd, TooManyAreas}
 use Rattle.xl_script.specs.declared.fault.ScriptFault.TheVariants as fault
 
 -- commands before those of an end of the text

@@ -9,51 +9,16 @@ use Rattle.xl_model.specs.declared.perm.Perm.{Perm}
 use Rattle.xl_model.specs.declared.event.Scope.TheVariants as scope
 use Rattle.xl_model.specs.declared.script.Command.{Command}
 use Rattle.xl_model.specs.declared.script.Command.TheVariants as command
-use Rattle.xl_script.specs.declared.fault.Reason.{Reason}
-use Rattle.xl_script.specs.declared.fault.Reason.TheVariants as reason
+use Rattle.xl_script.specs.declared.reason.Reason.{Reason}
+use Rattle.xl_script.specs.declared.reason.Reason.TheVariants as reason
 use Rattle.xl_script.specs.declared.lines.Leaves.{Leaves}
-use Rattle.xl_script.specs.Numbers.{decimal_of, hexadecimal_of}
-use Rattle.xl_script.specs.Words.{order_of, perm_of}
+use Rattle.xl_script.specs.Reading.{◌>>=◌, address_in, count_in, number, one, order_in, perm_in, short_in}
 use Rattle.xl_script.specs.Placing.{ends_of}
-
-infixl 10 ◌>>=◌
--- One reading after another: the first reason counts.
-abbrev pub ◌>>=◌ : {A B : Type 0} → Result A Reason → (A → Result B Reason) → Result B Reason
-Ok a >>= f = f a
-Err e >>= f = Err e
-
--- A decimal number from least to most.
-abbrev pub number : ℕ → ℕ → List ℕ → Result ℕ Reason
-number least most word = ok_or (decimal_of least most word) reason.Number
-
--- SPACE is a number from 0 to 65535.
-abbrev pub space_in : List ℕ → Result ℕ Reason
-space_in word = number 0 65535 word
-
--- ADDR is a hexadecimal number.
-abbrev pub address_in : List ℕ → Result ℕ Reason
-address_in word = ok_or (hexadecimal_of word) reason.Number
-
--- ORDER is a page's size.
-abbrev pub order_in : List ℕ → Result Order Reason
-order_in word = ok_or (order_of word) reason.Order
-
--- PERM is a legal permission.
-abbrev pub perm_in : List ℕ → Result Perm Reason
-perm_in word = ok_or (perm_of word) reason.Perm
-
--- N is a number from 1 to 2 ^ 20.
-abbrev pub count_in : List ℕ → Result ℕ Reason
-count_in word = number 1 1048576 word
-
--- N where it is left out.
-abbrev pub one : List ℕ
-one = codes "1"
 
 -- SPACE ADDR ORDER PERM N, read from left to right.
 unfoldable pub checked_leaves : List ℕ → List ℕ → List ℕ → List ℕ → List ℕ → Result Leaves Reason
 checked_leaves space addr size perm n =
-    space_in space >>= (λ s.
+    short_in space >>= (λ s.
     address_in addr >>= (λ va.
     order_in size >>= (λ o.
     perm_in perm >>= (λ p.
@@ -76,7 +41,7 @@ protect_line words = leaves_of words >>= (λ l. Ok (command.Protect l.space l.va
 -- The words of an unmap, from left to right.
 unfoldable pub unmap_words : List ℕ → List ℕ → List ℕ → List ℕ → Result Command Reason
 unmap_words space addr size n =
-    space_in space >>= (λ s.
+    short_in space >>= (λ s.
     address_in addr >>= (λ va.
     order_in size >>= (λ o.
     count_in n >>= (λ k. Ok (command.Unmap s va o k)))))
@@ -90,7 +55,7 @@ unmap_line _ = Err reason.WordCount
 -- The words of a move, from left to right.
 unfoldable pub move_words : List ℕ → List ℕ → List ℕ → List ℕ → List ℕ → Result Command Reason
 move_words space from to size n =
-    space_in space >>= (λ s.
+    short_in space >>= (λ s.
     address_in from >>= (λ a.
     address_in to >>= (λ b.
     order_in size >>= (λ o.
@@ -104,7 +69,7 @@ move_line _ = Err reason.WordCount
 
 -- `space SPACE`
 abbrev pub space_line : List (List ℕ) → Result Command Reason
-space_line (space ∷ []) = space_in space >>= (λ s. Ok (command.Space s))
+space_line (space ∷ []) = short_in space >>= (λ s. Ok (command.Space s))
 space_line _ = Err reason.WordCount
 
 -- `fence all`
@@ -114,7 +79,7 @@ fence_all _ = Err reason.WordCount
 
 -- `fence space SPACE`
 abbrev pub fence_space : List (List ℕ) → Result Command Reason
-fence_space (space ∷ []) = space_in space >>= (λ s. Ok (command.Fence (scope.Space s)))
+fence_space (space ∷ []) = short_in space >>= (λ s. Ok (command.Fence (scope.Space s)))
 fence_space _ = Err reason.WordCount
 
 -- `fence addr ADDR`
@@ -125,7 +90,7 @@ fence_addr _ = Err reason.WordCount
 -- `fence page SPACE ADDR`
 abbrev pub fence_page : List (List ℕ) → Result Command Reason
 fence_page (space ∷ addr ∷ []) =
-    space_in space >>= (λ s. address_in addr >>= (λ va. Ok (command.Fence (scope.Page s va))))
+    short_in space >>= (λ s. address_in addr >>= (λ va. Ok (command.Fence (scope.Page s va))))
 fence_page _ = Err reason.WordCount
 
 -- A fence, by the word that says how far it reaches.
@@ -152,7 +117,7 @@ area_at s va pages o p =
 -- The words of a demand, from left to right.
 unfoldable pub demand_words : List ℕ → List ℕ → List ℕ → List ℕ → List ℕ → Result Command Reason
 demand_words space addr pages size perm =
-    space_in space >>= (λ s.
+    short_in space >>= (λ s.
     address_in addr >>= (λ va.
     number 1 35184372088832 pages >>= (λ n.
     order_in size >>= (λ o.

@@ -3,21 +3,12 @@ use Rattle.std.specs.Prelude.{◌≡◌, ℕ, ◌+◌, nat_lt, List, [], ◌∷�
 use Rattle.xl_model.specs.declared.script.Command.{Command}
 use Rattle.xl_script.specs.declared.fault.ScriptFault.{ScriptFault}
 use Rattle.xl_script.specs.declared.fault.ScriptFault.TheVariants as fault
-use Rattle.xl_script.specs.declared.fault.Reason.{Reason}
-use Rattle.xl_script.specs.declared.fault.Reason.TheVariants as reason
-use Rattle.xl_script.specs.Commands.{◌>>=◌, command_of}
+use Rattle.xl_script.specs.declared.reason.Reason.{Reason}
+use Rattle.xl_script.specs.declared.reason.Reason.TheVariants as reason
+use Rattle.xl_script.specs.Commands.{command_of}
 use Rattle.xl_script.specs.Placing.{is_area}
+use Rattle.xl_script.specs.Reading.{◌>>=◌, code_of}
 use Rattle.xl_script.specs.Scripts.{Said, Reading, text_read}
-
--- The number of a reason.
-abbrev pub code_of : Reason → ℕ
-code_of reason.FirstWord = 1
-code_of reason.WordCount = 2
-code_of reason.Number = 3
-code_of reason.Order = 4
-code_of reason.Perm = 5
-code_of reason.PastTheEnd = 6
-code_of reason.TooManyAreas = 7
 
 -- A command after `areas` areas, and how many there are then: at most 256.
 abbrev pub counted : ℕ → Command → Result (ℕ × Command) Reason

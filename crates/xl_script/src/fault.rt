@@ -1,8 +1,5 @@
 //! Why a text is no script.
 
-ghost use Rattle.std.specs.Prelude.{◌≡◌};
-ghost use Rattle.xl_script.specs.Plain.{code_of};
-
 use std::alloc::AllocError;
 use std::error::Error;
 use std::fmt;
@@ -46,32 +43,3 @@ impl fmt::Display for ScriptFault {
 }
 
 impl Error for ScriptFault {}
-
-/// What is wrong with a line.
-#[derive(Clone, Copy, Debug, PartialEq, Eq)]
-pub(crate) enum Reason {
-    FirstWord,
-    WordCount,
-    Number,
-    Order,
-    Perm,
-    PastTheEnd,
-    TooManyAreas,
-}
-
-impl Reason {
-    /// The number by which a reason is reported.
-    pub(crate) fn code(self) -> u8
-        ensures { result ≡ code_of self }
-    {
-        match self {
-            Reason::FirstWord => 1,
-            Reason::WordCount => 2,
-            Reason::Number => 3,
-            Reason::Order => 4,
-            Reason::Perm => 5,
-            Reason::PastTheEnd => 6,
-            Reason::TooManyAreas => 7,
-        }
-    }
-}

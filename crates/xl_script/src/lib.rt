@@ -10,6 +10,8 @@ mod form;
 mod lines;
 mod number;
 mod plain;
+pub mod reading;
+mod reason;
 mod script;
 mod text;
 mod words;

@@ -3,12 +3,10 @@
 ghost use Rattle.std.specs.Prelude.{◌≡◌, ◌∷◌, [], ◌≤◌, ◌+◌, ◌*◌, ◌^◌, MatchResult, IfOk, nat_le};
 ghost use Rattle.xl_script.specs.Texts.{words_of};
 ghost use Rattle.xl_script.specs.Placing.{end_of, ends_of};
-ghost use Rattle.xl_script.specs.Commands.{number, space_in, address_in, order_in, perm_in, count_in, checked_leaves, leaves_of, map_line, protect_line, unmap_words, unmap_line, move_words, move_line, space_line, fence_all, fence_space, fence_addr, fence_page, fence_by, fence_line, area_at, demand_words, demand_line, run_line, named, placed};
+ghost use Rattle.xl_script.specs.Commands.{checked_leaves, leaves_of, map_line, protect_line, unmap_words, unmap_line, move_words, move_line, space_line, fence_all, fence_space, fence_addr, fence_page, fence_by, fence_line, area_at, demand_words, demand_line, run_line, named, placed};
 
-use crate::fault::Reason;
-use crate::number::{decimal, hexadecimal};
+use crate::reading::{Reason, address, count, is, number, order, perm, short};
 use crate::text::next_word;
-use crate::words::{is, order_word, perm_word};
 use xl_model::{Area, Command, Order, Perm, Scope};
 
 /// The most pages of an area.
@@ -35,48 +33,6 @@ fn needed(line: &[u8]) -> Result<(&[u8], &[u8]), Reason>
     next_word(line).ok_or(Reason::WordCount)
 }
 
-/// A decimal number from `least` to `most`.
-fn number(word: &[u8], least: u64, most: u64) -> Result<u64, Reason>
-    ensures value { result ≡ number least most word.now }
-    ensures within { IfOk result (λ n. (least ≤ n) × (n ≤ most)) }
-{
-    decimal(word, least, most).ok_or(Reason::Number)
-}
-
-/// The number of a space.
-fn space(word: &[u8]) -> Result<u16, Reason>
-    ensures { result ≡ space_in word.now }
-{
-    let space = number(word, 0, 65_535)?;
-    Ok(space as u16)
-}
-
-fn address(word: &[u8]) -> Result<u64, Reason>
-    ensures { result ≡ address_in word.now }
-{
-    hexadecimal(word).ok_or(Reason::Number)
-}
-
-fn order(word: &[u8]) -> Result<Order, Reason>
-    ensures { result ≡ order_in word.now }
-{
-    order_word(word).ok_or(Reason::Order)
-}
-
-fn perm(word: &[u8]) -> Result<Perm, Reason>
-    ensures { result ≡ perm_in word.now }
-{
-    perm_word(word).ok_or(Reason::Perm)
-}
-
-/// How many leaves a line names.
-fn count(word: &[u8]) -> Result<u32, Reason>
-    ensures { result ≡ count_in word.now }
-{
-    let n = number(word, 1, 1_048_576)?;
-    Ok(n as u32)
-}
-
 /// Leaves, by their five words.
 #[tactic(auto, unfolding(crate::specs::Commands::checked_leaves))]
 fn leaves_by(
@@ -89,7 +45,7 @@ fn leaves_by(
     ensures { result ≡ checked_leaves space_word.now addr.now size.now perm_word.now n.now }
 {
     Ok(Leaves {
-        space: space(space_word)?,
+        space: short(space_word)?,
         va: address(addr)?,
         order: order(size)?,
         perm: perm(perm_word)?,
@@ -160,7 +116,7 @@ fn unmap_by(space_word: &[u8], addr: &[u8], size: &[u8], n: &[u8]) -> Result<Com
     ensures { result ≡ unmap_words space_word.now addr.now size.now n.now }
 {
     Ok(Command::Unmap {
-        space: space(space_word)?,
+        space: short(space_word)?,
         va: address(addr)?,
         order: order(size)?,
         n: count(n)?,
@@ -195,7 +151,7 @@ fn move_by(
     ensures { result ≡ move_words space_word.now from.now to.now size.now n.now }
 {
     Ok(Command::Move {
-        space: space(space_word)?,
+        space: short(space_word)?,
         from: address(from)?,
         to: address(to)?,
         order: order(size)?,
@@ -228,7 +184,7 @@ fn space_line(rest: &[u8]) -> Result<Command, Reason>
     if next_word(rest).is_some() {
         return Err(Reason::WordCount);
     }
-    let space = space(word)?;
+    let space = short(word)?;
     Ok(Command::Space { space })
 }
 
@@ -250,7 +206,7 @@ fn fence_space(rest: &[u8]) -> Result<Command, Reason>
     if next_word(rest).is_some() {
         return Err(Reason::WordCount);
     }
-    let space = space(word)?;
+    let space = short(word)?;
     Ok(Command::Fence {
         scope: Scope::Space { space },
     })
@@ -279,7 +235,7 @@ fn fence_page(rest: &[u8]) -> Result<Command, Reason>
     if next_word(rest).is_some() {
         return Err(Reason::WordCount);
     }
-    let space = space(space_word)?;
+    let space = short(space_word)?;
     let va = address(addr)?;
     Ok(Command::Fence {
         scope: Scope::Page { space, va },
@@ -340,7 +296,7 @@ fn demand_by(
 ) -> Result<Command, Reason>
     ensures { result ≡ demand_words space_word.now addr.now pages.now size.now perm_word.now }
 {
-    let space = space(space_word)?;
+    let space = short(space_word)?;
     let va = address(addr)?;
     let pages = number(pages, 1, AREA_PAGES)?;
     let order = order(size)?;

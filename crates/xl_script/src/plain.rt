@@ -6,9 +6,9 @@ ghost use Rattle.xl_script.specs.Texts.{words_of};
 ghost use Rattle.xl_script.specs.Scripts.{Follows};
 ghost use Rattle.xl_script.specs.Plain.{plain_said, counted, counted_line, Counts};
 
-use crate::fault::Reason;
 use crate::form::Form;
 use crate::lines::{named, placed};
+use crate::reading::Reason;
 use crate::text::next_word;
 use std::marker::Model;
 use xl_model::Command;

@@ -7,7 +7,7 @@ ghost use Rattle.xl_script.specs.Words.{order_of, perm_of, flag};
 use xl_model::{Order, Perm};
 
 /// Whether a word is this text.
-pub(crate) fn is(word: &[u8], text: &[u8]) -> bool
+pub fn is(word: &[u8], text: &[u8]) -> bool
     ensures { result ≡ bytes_eq word.now text.now }
 {
     word == text

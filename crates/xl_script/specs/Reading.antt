@@ -1,12 +1,12 @@
--- The words of a line, one by one.
+-- What the words of a line say one by one, in each form of script: a value, or the reason why none.
 use Rattle.std.specs.Prelude.{ℕ, List, [], ◌∷◌, codes, Result, Ok, Err}
 use Rattle.std.specs.Option.{ok_or}
 use Rattle.xl_model.specs.declared.address.Order.{Order}
 use Rattle.xl_model.specs.declared.perm.Perm.{Perm}
 use Rattle.xl_script.specs.Numbers.{decimal_of, hexadecimal_of}
 use Rattle.xl_script.specs.Words.{order_of, perm_of}
-use Rattle.xl_hart_script.specs.declared.reason.Reason.{Reason}
-use Rattle.xl_hart_script.specs.declared.reason.Reason.TheVariants as reason
+use Rattle.xl_script.specs.declared.reason.Reason.{Reason}
+use Rattle.xl_script.specs.declared.reason.Reason.TheVariants as reason
 
 infixl 10 ◌>>=◌
 -- One reading after another: the first reason counts.
@@ -18,7 +18,7 @@ Err e >>= f = Err e
 abbrev pub number : ℕ → ℕ → List ℕ → Result ℕ Reason
 number least most word = ok_or (decimal_of least most word) reason.Number
 
--- H and SPACE are numbers from 0 to 65535.
+-- SPACE and H are numbers from 0 to 65535.
 abbrev pub short_in : List ℕ → Result ℕ Reason
 short_in word = number 0 65535 word
 
@@ -47,3 +47,14 @@ abbrev pub last_count : List (List ℕ) → Result (List ℕ) Reason
 last_count [] = Ok one
 last_count (n ∷ []) = Ok n
 last_count (n ∷ more ∷ rest) = Err reason.WordCount
+
+-- The number of a reason.
+abbrev pub code_of : Reason → ℕ
+code_of reason.FirstWord = 1
+code_of reason.WordCount = 2
+code_of reason.Number = 3
+code_of reason.Order = 4
+code_of reason.Perm = 5
+code_of reason.PastTheEnd = 6
+code_of reason.TooManyAreas = 7
+code_of reason.Head = 8

@@ -1,6 +1,6 @@
-use Rattle.xl_script.specs.Texts.{words_of}
-use Rattle.xl_hart_script.proofs.WordLemmas.{found-next, nothing-left}
-use Rattle.xl_hart_script.proofs.words.next_at.Goals as goal
+use Rattle.xl_script.proofs.Common.{words_of}
+use Rattle.xl_script.proofs.WordLemmas.{found-next, nothing-left}
+use Rattle.xl_script.proofs.reading.next_at.Goals as goal
 
 pub returns-in_default-clause-none : goal.returns-in_default-clause-none
 returns-in_default-clause-none c = nothing-left (words_of c.args.line.now) c.args.at c.in_default.ensures

@@ -1,6 +1,5 @@
 -- The words of a line from a place on.
-use Rattle.std.proofs.Common.{◌+◌, ◌∙◌, ◌∷◌, ◌≡◌, [], ap, drop, List, None, refl, slice_get, Some, suc, sym, zero, ℕ}
-use Rattle.std.proofs.lemmas.List.{drop_more}
+use Rattle.xl_script.proofs.Common.{◌+◌, ◌∙◌, ◌∷◌, ◌≡◌, [], ap, drop, drop_more, List, None, refl, slice_get, Some, suc, sym, zero, ℕ}
 use Rattle.std.proofs.lemmas.Option.{get_or_from_slice_get, slice_get_within}
 
 pub found-next : {X : Type 0} (xs : List X) (i : ℕ) (x : X) → Some x ≡ slice_get xs i → drop i xs ≡ x ∷ drop (i + 1) xs

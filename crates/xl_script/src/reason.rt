@@ -1,12 +1,12 @@
 //! Why a line is bad.
 
 ghost use Rattle.std.specs.Prelude.{◌≡◌};
-ghost use Rattle.xl_nested_script.specs.Scripts.{code_of};
+ghost use Rattle.xl_script.specs.Reading.{code_of};
 
-/// What is wrong with a line. The reasons are tested in the order of the variants but for `Head`,
-/// which comes after `FirstWord`.
+/// What is wrong with a line, of any form of script. Reasons are tested in the order of the
+/// variants but for `Head`, which comes after `FirstWord`.
 #[derive(Clone, Copy, Debug, PartialEq, Eq)]
-pub(crate) enum Reason {
+pub enum Reason {
     /// The first word names no line.
     FirstWord,
     /// There are too few or too many words.
@@ -15,17 +15,19 @@ pub(crate) enum Reason {
     Number,
     /// A word is no page size.
     Order,
-    /// A word is no permission, or the host's leaf has none for users.
+    /// A word is no permission, or none that the line takes.
     Perm,
-    /// Bytes past the last address, or nodes past the last guest page.
+    /// What the line names lies past the last address.
     PastTheEnd,
+    /// The 257th area.
+    TooManyAreas,
     /// A first line that is no head, or a later one that is.
     Head,
 }
 
 impl Reason {
     /// The number by which a reason is reported.
-    pub(crate) fn code(self) -> u8
+    pub fn code(self) -> u8
         ensures { result ≡ code_of self }
     {
         match self {
@@ -35,6 +37,7 @@ impl Reason {
             Reason::Order => 4,
             Reason::Perm => 5,
             Reason::PastTheEnd => 6,
+            Reason::TooManyAreas => 7,
             Reason::Head => 8,
         }
     }

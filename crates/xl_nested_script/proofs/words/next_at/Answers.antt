@@ -1,9 +1,0 @@
-use Rattle.xl_script.specs.Texts.{words_of}
-use Rattle.xl_nested_script.proofs.WordLemmas.{found-next, nothing-left}
-use Rattle.xl_nested_script.proofs.words.next_at.Goals as goal
-
-pub returns-in_default-clause-none : goal.returns-in_default-clause-none
-returns-in_default-clause-none c = nothing-left (words_of c.args.line.now) c.args.at c.in_default.ensures
-
-pub returns-clause-some : goal.returns-clause-some
-returns-clause-some c = found-next (words_of c.args.line.now) c.args.at c.in-Some.word.now c.in-Some.ensures
