@@ -1,7 +1,8 @@
 //! The walk.
 
 ghost use Rattle.std.specs.Prelude.{◌≡◌};
-ghost use Rattle.xl_model.specs.Structures.{IsPage, IsWalk, IsPageWalk, walk_of_page};
+ghost use Rattle.xl_model.specs.PageWalks.{IsPageWalk, walk_of_page};
+ghost use Rattle.xl_model.specs.Structures.{IsPage, IsWalk};
 ghost use Rattle.xl_tagged.specs.Slots.{small_known};
 ghost use Rattle.xl_cuckoo_walk.specs.Parts.{IsRow, row_state};
 

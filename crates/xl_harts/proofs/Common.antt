@@ -38,7 +38,8 @@ unfoldable pub use Rattle.xl_model.specs.Room.{has_room}
 pub use Rattle.xl_model.specs.Rules.{frames_rule, named_rule, overlap_rule, place_rule, there_rule, unless}
 unfoldable pub use Rattle.xl_model.specs.Rules.{change_of, rule}
 pub use Rattle.xl_model.specs.Shapes.{brought, Chained, Cuckoo, Radix, Runs, Shape}
-pub use Rattle.xl_model.specs.Structures.{answer_by, finds_place, IsBlock, IsLeafFor, IsPage, IsSameWalk, IsWalk, Made, page_limit, spaces_of, table_after, TableState}
+pub use Rattle.xl_model.specs.PageWalks.{IsSameWalk}
+pub use Rattle.xl_model.specs.Structures.{answer_by, finds_place, IsBlock, IsLeafFor, IsPage, IsWalk, Made, page_limit, spaces_of, table_after, TableState}
 unfoldable pub use Rattle.xl_model.specs.Structures.{table_answer, table_walked, verdict, walk_answer}
 pub use Rattle.xl_model.specs.Tlb.{array_hit, array_touched, first_found, TlbArray}
 pub use Rattle.xl_model.specs.declared.address.Kind.{Kind}

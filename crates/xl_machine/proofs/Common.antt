@@ -20,7 +20,8 @@ pub use Rattle.xl_model.specs.Rows.{is_array, is_width, is_within, IsRow, levels
 pub use Rattle.xl_model.specs.Rules.{fence_rule, frames_rule, named_rule, overlap_rule, place_rule, there_rule, unless}
 unfoldable pub use Rattle.xl_model.specs.Rules.{change_of, rule}
 pub use Rattle.xl_model.specs.Scenes.{Served}
-pub use Rattle.xl_model.specs.Structures.{after_by, answer_by, fence_answer, IsBlock, IsChange, IsLeafFor, IsPage, IsSameWalk, IsWalk, Made, NoPlace, NoSpace, page_limit, spaces_of, TableState, Verdict, verdict}
+pub use Rattle.xl_model.specs.PageWalks.{IsSameWalk}
+pub use Rattle.xl_model.specs.Structures.{after_by, answer_by, fence_answer, IsBlock, IsChange, IsLeafFor, IsPage, IsWalk, Made, NoPlace, NoSpace, page_limit, spaces_of, TableState, Verdict, verdict}
 unfoldable pub use Rattle.xl_model.specs.Structures.{table_after, table_answer, table_fenced, table_made, table_walked, walk_answer}
 pub use Rattle.xl_model.specs.Tally.{IsSmall}
 unfoldable pub use Rattle.xl_model.specs.Tally.{count_accepted, count_fence, count_fills, count_invalidated, count_look, count_refusal, count_reply, count_walk, count_work, no_counts}

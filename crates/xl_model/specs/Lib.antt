@@ -20,6 +20,7 @@ pub mod Caches
 pub mod Walks
 pub mod LeafWords
 pub mod Structures
+pub mod PageWalks
 pub mod Tlb
 pub mod Tally
 pub mod RowRun

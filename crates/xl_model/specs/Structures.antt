@@ -1,21 +1,17 @@
 -- A table as the layers above see it: its leaves, shape, caches and loads; and what its calls answer and leave.
 use Rattle.std.specs.Prelude.{ℕ, ◌+◌, ◌-◌, ◌^◌, ◌<◌, ◌≤◌, ◌≡◌, ◌*◌, Bool, true, false, List, Option, None, Some, Result, Ok, Err}
-use Rattle.xl_model.specs.declared.address.Kind.{Kind}
 use Rattle.xl_model.specs.declared.address.Order.{Order}
 use Rattle.xl_model.specs.declared.leaf.Leaf.{Leaf}
 use Rattle.xl_model.specs.declared.event.Reach.{Reach}
 use Rattle.xl_model.specs.declared.way.Moves.{Moves}
 use Rattle.xl_model.specs.declared.work.NoRoom.TheVariants as why
-use Rattle.xl_model.specs.declared.work.PageWalk.{PageWalk}
-use Rattle.xl_model.specs.declared.work.PageWalk.TheVariants as page_walk
 use Rattle.xl_model.specs.declared.work.Refused.{Refused}
 use Rattle.xl_model.specs.declared.work.Walk.{Walk}
 use Rattle.xl_model.specs.declared.work.Work.{Work}
-use Rattle.xl_model.specs.Addresses.{allows, pages_of}
+use Rattle.xl_model.specs.Addresses.{pages_of}
 use Rattle.xl_model.specs.Mapping.{leaf_at_page}
 use Rattle.xl_model.specs.Changes.{Change, changed}
-use Rattle.xl_model.specs.Base.{one_if, plus}
-use Rattle.xl_model.specs.LeafWords.{perm_at, small_leaf}
+use Rattle.xl_model.specs.Base.{plus}
 use Rattle.xl_model.specs.Placing.{no_moves}
 use Rattle.xl_model.specs.Shapes.{Shape, Radix, Chained, Cuckoo, Runs, brought, widened, shape_after, placed_leaf, moves_of, is_placed}
 use Rattle.xl_model.specs.Room.{has_room}
@@ -133,29 +129,6 @@ pub record IsChange (c : Change) (old : TableState) (result : Result Work Refuse
 pub record IsWalk (space page : ℕ) (old : TableState) (result : Walk) (new : TableState) : Type 0 where
   pub answer : result ≡ walk_answer space page old
   pub after : new ≡ table_walked space page old
-
--- The walk of a page by its result, where a leaf of 4 KiB may be returned as its word.
-abbrev pub walk_of_page : ℕ → ℕ → PageWalk → Walk
-walk_of_page space page (page_walk.Small word cache_hits) = record { leaf = Some (small_leaf space page word); cache_hits = cache_hits }
-walk_of_page space page (page_walk.Any walk) = walk
-
--- The same by the result of a page's walk.
-abbrev pub IsPageWalk : ℕ → ℕ → TableState → PageWalk → TableState → Type 0
-IsPageWalk space page old result new = IsWalk space page old (walk_of_page space page result) new
-
--- A walk as the definitions have it, which began at a node that a cache held, or else at the root,
--- and found a leaf of 4 KiB that has this word and allows an access of this kind.
-pub record IsAllowedWalk (space page : ℕ) (kind : Kind) (cached : Bool) (word : ℕ) (old new : TableState) : Type 0 where
-  pub walks : IsWalk space page old (record { leaf = Some (small_leaf space page word); cache_hits = one_if cached }) new
-  pub allowed : allows (perm_at word) kind ≡ true
-
--- A walk of the page finds what it did before, and leaves the same: at most its own node was
--- touched in a cache.
-pub record IsSameWalk (space page : ℕ) (old new : TableState) : Type 0 where
-  pub leaves : new.leaves ≡ old.leaves
-  pub shape : new.shape ≡ old.shape
-  pub loads : new.loads ≡ old.loads
-  pub walked_is : walked new.shape new.caches new.leaves space page ≡ walked old.shape old.caches old.leaves space page
 
 -- The result of a fence is that of the definitions, and so is the table after it.
 pub record IsFence (to : Reach) (old : TableState) (result : ℕ) (new : TableState) : Type 0 where

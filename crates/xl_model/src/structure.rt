@@ -3,7 +3,8 @@
 ghost use Rattle.std.specs.Prelude.{◌≡◌, false, IfSome, IfNone};
 ghost use Rattle.xl_model.specs.Mapping.{leaf_at_page, meets_any};
 ghost use Rattle.xl_model.specs.Changes.{Insert, Remove, Protect, Relocate, IsNamed};
-ghost use Rattle.xl_model.specs.Structures.{TableState, IsBlock, IsPage, IsLeafFor, IsChange, IsWalk, IsPageWalk, IsAllowedWalk, IsSameWalk, IsFence};
+ghost use Rattle.xl_model.specs.PageWalks.{IsPageWalk, IsAllowedWalk, IsSameWalk};
+ghost use Rattle.xl_model.specs.Structures.{TableState, IsBlock, IsPage, IsLeafFor, IsChange, IsWalk, IsFence};
 
 use crate::address::{Kind, Order};
 use crate::event::Reach;

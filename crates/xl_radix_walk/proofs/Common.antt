@@ -22,7 +22,8 @@ unfoldable pub use Rattle.xl_model.specs.Room.{has_room}
 pub use Rattle.xl_model.specs.Rows.{is_width}
 pub use Rattle.xl_model.specs.Shapes.{brought, narrowed, Radix, widened}
 unfoldable pub use Rattle.xl_model.specs.Shapes.{opening_shape, shape_after}
-pub use Rattle.xl_model.specs.Structures.{finds_place, IsAllowedWalk, IsChange, IsFence, IsPage, IsSameWalk, IsWalk, moves_made, walk_of_page, work_of}
+pub use Rattle.xl_model.specs.PageWalks.{IsAllowedWalk, IsSameWalk, walk_of_page}
+pub use Rattle.xl_model.specs.Structures.{finds_place, IsChange, IsFence, IsPage, IsWalk, moves_made, work_of}
 unfoldable pub use Rattle.xl_model.specs.Structures.{fence_answer, table_after, table_answer, table_fenced, table_made, table_walked, verdict, walk_answer}
 pub use Rattle.xl_model.specs.Walks.{end_level, is_tag, node_cache_after, node_caches_after, numbered, radix_walk_from, start_level, Walked, with_fill, with_touch}
 unfoldable pub use Rattle.xl_model.specs.Walks.{walked}

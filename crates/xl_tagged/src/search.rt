@@ -2,7 +2,7 @@
 
 ghost use Rattle.std.specs.Prelude.{◌≡◌, ◌<◌, ◌^◌};
 ghost use Rattle.xl_model.specs.declared.address.Order.TheVariants as orders;
-ghost use Rattle.xl_model.specs.Structures.{walk_of_page};
+ghost use Rattle.xl_model.specs.PageWalks.{walk_of_page};
 ghost use Rattle.xl_tagged.specs.Forms.{values_under};
 ghost use Rattle.xl_tagged.specs.Slots.{found_in, first_found, found_from, order_loads, large_loads, walk_without_tlb, NoneLarge, walk_loads, loaded_more, small_known};
 

@@ -3,7 +3,8 @@
 ghost use Rattle.std.specs.Prelude.{◌≡◌, ◌<◌, ◌^◌, false};
 ghost use Rattle.xl_model.specs.Changes.{Insert, Remove, Protect, Relocate, IsNamed};
 ghost use Rattle.xl_model.specs.Mapping.{meets_any, leaf_at_page};
-ghost use Rattle.xl_model.specs.Structures.{IsBlock, IsPage, IsLeafFor, IsChange, IsPageWalk};
+ghost use Rattle.xl_model.specs.PageWalks.{IsPageWalk};
+ghost use Rattle.xl_model.specs.Structures.{IsBlock, IsPage, IsLeafFor, IsChange};
 ghost use Rattle.xl_tagged.specs.Slots.{table_in};
 ghost use Rattle.xl_tagged.specs.Groups.{IsWhole};
 
