@@ -5,7 +5,7 @@ ghost use Rattle.xl_hart_script.specs.Scripts.{code_of};
 
 /// What is wrong with a line. The reasons are tested in the order of the variants but for `Head`,
 /// which comes after `FirstWord`.
-#[derive(Clone, Copy, Debug, PartialEq, Eq)]
+#[derive(Clone, Copy)]
 pub(crate) enum Reason {
     /// The first word names no line.
     FirstWord,

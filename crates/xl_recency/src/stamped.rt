@@ -13,7 +13,7 @@ use std::marker::Model;
 use xl_model::NoMemory;
 
 /// An item with the stamp of its last touch or fill.
-#[derive(Clone, Copy, Debug, PartialEq, Eq)]
+#[derive(Clone, Copy)]
 struct Place {
     stamp: u64,
     item: Item,
