@@ -1,7 +1,7 @@
-use Rattle.xl_rack.proofs.Common.{◌+◌, ◌≤◌, arith, false, length, sym, true}
-use Rattle.xl_rack.proofs.WordLemmas.{node-written, number-passed, table-cut, table-whole}
-use Rattle.xl_rack.proofs.image.write_table.Goals.{else-has_number, then-has_number+in-Ok}
-use Rattle.xl_rack.proofs.image.write_table.Goals as goal
+use Rattle.std.proofs.Common.{◌+◌, ◌≤◌, arith, false, length, sym, true}
+use Rattle.xl_image.proofs.WordLemmas.{node-written, number-passed, table-cut, table-whole}
+use Rattle.xl_image.proofs.table.write_table.Goals.{else-has_number, then-has_number+in-Ok}
+use Rattle.xl_image.proofs.table.write_table.Goals as goal
 
 pub returns-in-Err : goal.returns-in-Err
 returns-in-Err g c =

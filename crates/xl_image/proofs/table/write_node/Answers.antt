@@ -1,7 +1,9 @@
-use Rattle.xl_rack.proofs.Common.{◌+◌, ◌∙◌, ◌≡◌, arith, false, None, slice_index_or, true, word_of}
-use Rattle.xl_rack.proofs.WordLemmas.{node-cut, word-passed, word-written}
-use Rattle.xl_rack.proofs.image.write_node.Goals.{else-word-ne0, then-word-ne0+in-Ok}
-use Rattle.xl_rack.proofs.image.write_node.Goals as goal
+use Rattle.std.proofs.Common.{◌+◌, ◌∙◌, ◌≡◌, arith, false, None, true}
+use Rattle.std.specs.Prelude.{slice_index_or}
+use Rattle.xl_model.specs.Image.{word_of}
+use Rattle.xl_image.proofs.WordLemmas.{node-cut, word-passed, word-written}
+use Rattle.xl_image.proofs.table.write_node.Goals.{else-word-ne0, then-word-ne0+in-Ok}
+use Rattle.xl_image.proofs.table.write_node.Goals as goal
 
 pub returns-in-Err : goal.returns-in-Err
 returns-in-Err g c =

@@ -1,6 +1,14 @@
 -- The lines of a radix table's words, node by node.
-use Rattle.xl_rack.proofs.Common.{◌++◌, ◌+◌, ◌-◌, ◌∙◌, ◌∷◌, ◌≡◌, ◌≤◌, [], ap, append-nil, append_assoc, arith, Bool, drop, false, IfSome, image, image_from, image_line, is_some, Leaf, length, List, None, Option, refl, sink_cut, sink_same, sink_then, SinkAfter, SinkMeaning, slice_index_or, Some, subst, suc, sym, take, take_all, true, unless_zero, Word, word_lines, word_of, words_from, zero, ℕ}
+use Rattle.std.proofs.Common.{◌++◌, ◌+◌, ◌-◌, ◌∙◌, ◌∷◌, ◌≡◌, ◌≤◌, [], ap, append_assoc, arith, Bool, drop, false, length, List, None, Option, refl, Some, subst, suc, sym, take, true, zero, ℕ}
+use Rattle.std.proofs.lemmas.List.{append-nil, take_all}
+use Rattle.std.specs.Prelude.{IfSome, is_some, slice_index_or}
+use Rattle.xl_model.specs.Image.{image, image_from, unless_zero, Word, word_of, words_from}
+use Rattle.xl_model.specs.Lines.{image_line}
 use Rattle.xl_model.specs.Nodes.{Node}
+use Rattle.xl_model.specs.Report.{word_lines}
+use Rattle.xl_model.specs.declared.leaf.Leaf.{Leaf}
+use Rattle.xl_outside.proofs.SinkLemmas.{sink_cut, sink_same, sink_then}
+use Rattle.xl_outside.specs.Sinks.{SinkAfter, SinkMeaning}
 
 unless-append : (n i w : ℕ) (xs ys : List Word) → unless_zero n i w (xs ++ ys) ≡ unless_zero n i w xs ++ ys
 unless-append n i zero xs ys = refl

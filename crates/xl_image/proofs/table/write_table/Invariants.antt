@@ -1,6 +1,6 @@
-use Rattle.xl_rack.proofs.Common.{true}
-use Rattle.xl_rack.proofs.WordLemmas.{TableLines}
-use Rattle.xl_rack.proofs.image.write_table.Given as goal
+use Rattle.std.proofs.Common.{true}
+use Rattle.xl_image.proofs.WordLemmas.{TableLines}
+use Rattle.xl_image.proofs.table.write_table.Given as goal
 
 abbrev pub invariant-loop-number : goal.invariant-loop-number
 invariant-loop-number g l =

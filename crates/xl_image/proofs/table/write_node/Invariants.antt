@@ -1,6 +1,7 @@
-use Rattle.xl_rack.proofs.Common.{None, slice_index_or, true}
-use Rattle.xl_rack.proofs.WordLemmas.{NodeLines}
-use Rattle.xl_rack.proofs.image.write_node.Given as goal
+use Rattle.std.proofs.Common.{None, true}
+use Rattle.std.specs.Prelude.{slice_index_or}
+use Rattle.xl_image.proofs.WordLemmas.{NodeLines}
+use Rattle.xl_image.proofs.table.write_node.Given as goal
 
 abbrev pub invariant-loop-index : goal.invariant-loop-index
 invariant-loop-index g l =
