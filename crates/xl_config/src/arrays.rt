@@ -18,14 +18,11 @@ use xl_model::{Order, Serves, TlbSpec};
 fn order_named(text: &str) -> Option<Order>
     ensures { result ≡ order_named text.now }
 {
-    if text == "4k" {
-        Some(Order::K4)
-    } else if text == "2m" {
-        Some(Order::M2)
-    } else if text == "1g" {
-        Some(Order::G1)
-    } else {
-        None
+    match text {
+        "4k" => Some(Order::K4),
+        "2m" => Some(Order::M2),
+        "1g" => Some(Order::G1),
+        _ => None,
     }
 }
 
@@ -84,14 +81,11 @@ fn orders(row: u32, table: &Table, spec: TlbSpec) -> Result<TlbSpec, KeyFault>
 fn serves_named(text: &str) -> Option<Serves>
     ensures { result ≡ serves_named text.now }
 {
-    if text == "all" {
-        Some(Serves::All)
-    } else if text == "fetch" {
-        Some(Serves::Fetch)
-    } else if text == "data" {
-        Some(Serves::Data)
-    } else {
-        None
+    match text {
+        "all" => Some(Serves::All),
+        "fetch" => Some(Serves::Fetch),
+        "data" => Some(Serves::Data),
+        _ => None,
     }
 }
 
@@ -113,7 +107,7 @@ fn serves(row: u32, table: &Table) -> Result<Serves, KeyFault>
 fn is_array_key(key: &str) -> bool
     ensures { result ≡ is_array_key key.now }
 {
-    key == "level" || key == "sets" || key == "width" || key == "orders" || key == "serves"
+    matches!(key, "level" | "sets" | "width" | "orders" | "serves")
 }
 
 fn has_array_keys(table: &Table) -> bool

@@ -182,14 +182,11 @@ fn all_name_bytes(bytes: &[u8]) -> bool
 fn mode_named(text: &str) -> Option<Mode>
     ensures { result ≡ mode_named text.now }
 {
-    if text == "sv39" {
-        Some(Mode::Sv39)
-    } else if text == "sv48" {
-        Some(Mode::Sv48)
-    } else if text == "sv57" {
-        Some(Mode::Sv57)
-    } else {
-        None
+    match text {
+        "sv39" => Some(Mode::Sv39),
+        "sv48" => Some(Mode::Sv48),
+        "sv57" => Some(Mode::Sv57),
+        _ => None,
     }
 }
 
@@ -231,14 +228,11 @@ pub(crate) fn kind(row: u32, table: &Table) -> Result<TableKind, KeyFault>
 fn purge_named(text: &str) -> Option<Purge>
     ensures { result ≡ purge_named text.now }
 {
-    if text == "page" {
-        Some(Purge::Page)
-    } else if text == "space" {
-        Some(Purge::Space)
-    } else if text == "all" {
-        Some(Purge::All)
-    } else {
-        None
+    match text {
+        "page" => Some(Purge::Page),
+        "space" => Some(Purge::Space),
+        "all" => Some(Purge::All),
+        _ => None,
     }
 }
 

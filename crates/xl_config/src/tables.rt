@@ -99,34 +99,34 @@ pub(crate) fn table(
 fn is_common_key(key: &str) -> bool
     ensures { result ≡ is_common_key key.now }
 {
-    key == "name"
-        || key == "mode"
-        || key == "frames"
-        || key == "spaces"
-        || key == "table"
-        || key == "purge"
-        || key == "tlb"
+    matches!(
+        key,
+        "name" | "mode" | "frames" | "spaces" | "table" | "purge" | "tlb"
+    )
 }
 
 fn is_key_of(kind: TableKind, key: &str) -> bool
     ensures { result ≡ is_key_of kind key.now }
 {
     match kind {
-        TableKind::Radix => key == "table_frames" || key == "walk_caches",
-        TableKind::Hashed => key == "buckets" || key == "entries",
-        TableKind::Clustered => key == "buckets" || key == "blocks",
+        TableKind::Radix => matches!(key, "table_frames" | "walk_caches"),
+        TableKind::Hashed => matches!(key, "buckets" | "entries"),
+        TableKind::Clustered => matches!(key, "buckets" | "blocks"),
         TableKind::Cuckoo => {
-            key == "walk_caches"
-                || key == "ways"
-                || key == "start_bits"
-                || key == "cap_bits"
-                || key == "threshold"
-                || key == "kick_limit"
-                || key == "migrate"
-                || key == "sections_2m"
-                || key == "sections_1g"
+            matches!(
+                key,
+                "walk_caches"
+                    | "ways"
+                    | "start_bits"
+                    | "cap_bits"
+                    | "threshold"
+                    | "kick_limit"
+                    | "migrate"
+                    | "sections_2m"
+                    | "sections_1g"
+            )
         }
-        TableKind::Range => key == "ranges" || key == "range_tlb",
+        TableKind::Range => matches!(key, "ranges" | "range_tlb"),
     }
 }
 

@@ -13,7 +13,7 @@ use xl_lackey::Access;
 use xl_outside::{Failed, Sink};
 
 /// A step of a script: a command of the form's own, or records of the trace.
-#[derive(Clone, Copy, Debug, PartialEq, Eq)]
+#[derive(Clone, Copy)]
 pub enum Step<C> {
     /// A command.
     Own(C),

@@ -11,7 +11,7 @@ use xl_lackey::{Batch, Reference};
 use xl_outside::Folder;
 
 /// A record of the trace, with its number.
-#[derive(Clone, Copy, Debug)]
+#[derive(Clone, Copy)]
 pub struct Numbered {
     pub number: u64,
     pub reference: Reference,

@@ -6,7 +6,7 @@ ghost use Rattle.xl_course.specs.Stops.{status_by};
 use crate::stop::Stop;
 
 /// The status of a run, which is the program's exit code.
-#[derive(Clone, Copy, Debug, PartialEq, Eq)]
+#[derive(Clone, Copy, PartialEq)]
 pub enum Status {
     Ok,
     Usage,

@@ -13,7 +13,7 @@ use xl_report::Line;
 
 /// Why a source gives no record, serving ends, or a run does: one type for all of a run, so that a
 /// stop is handed on as it is. A clause at each call says which of these it may be.
-#[derive(Clone, Copy, Debug, PartialEq, Eq, Error)]
+#[derive(Clone, Copy, Debug, Error)]
 pub enum Stop {
     /// Something is wrong with the words or a file.
     #[error("the input is at fault")]

@@ -11,7 +11,7 @@ use xl_model::{Leaf, Order, Perm, perm_code, perm_of};
 
 /// A leaf in two words, or a hole. The tag has the leaf's space, first page and order, the word its
 /// frame and permission. No leaf has the hole's tag.
-#[derive(Clone, Copy, Debug, PartialEq, Eq)]
+#[derive(Clone, Copy)]
 pub(crate) struct Place {
     tag: u64,
     word: u64,

@@ -5,7 +5,7 @@ use xl_model::{Event, Leaf, Refusal, Reply};
 /// The limits of harts over one Sv39 radix table: how many harts there are, how many requests a
 /// queue holds, the data frames, the table's nodes, the spaces, and the sets of each hart's TLB
 /// array.
-#[derive(Clone, Copy, Debug, PartialEq, Eq)]
+#[derive(Clone, Copy)]
 pub struct HartSpec {
     pub harts: u16,
     pub queue: u16,
@@ -26,7 +26,7 @@ pub enum HartEvent {
 
 /// Why an event of harts is refused: as an event of a row (1 to 8), or by the queues and harts (10
 /// to 12).
-#[derive(Clone, Copy, Debug, PartialEq, Eq)]
+#[derive(Clone, Copy)]
 pub enum HartRefusal {
     Mapping(Refusal),
     QueueFull,
@@ -35,7 +35,7 @@ pub enum HartRefusal {
 }
 
 /// The result of an event of harts.
-#[derive(Clone, Copy, Debug, PartialEq, Eq)]
+#[derive(Clone, Copy)]
 pub enum HartOutcome {
     Replied(Reply),
     Done,
@@ -44,14 +44,14 @@ pub enum HartOutcome {
 
 /// A request of a remote fence (a TLB shootdown): the leaf as it was before a command, and as it is
 /// after it.
-#[derive(Clone, Copy, Debug, PartialEq, Eq)]
+#[derive(Clone, Copy)]
 pub struct Request {
     pub before: Option<Leaf>,
     pub after: Option<Leaf>,
 }
 
 /// The counts of a hart.
-#[derive(Clone, Copy, Debug, PartialEq, Eq)]
+#[derive(Clone, Copy)]
 pub struct HartCounts {
     pub accesses: u64,
     pub ok: u64,
@@ -68,7 +68,7 @@ pub struct HartCounts {
 
 /// The counts of all harts together: commands that were done, refusals by their numbers, requests
 /// in all queues, and frames held back.
-#[derive(Clone, Copy, Debug, PartialEq, Eq)]
+#[derive(Clone, Copy)]
 pub struct AllCounts {
     pub accepted: u64,
     pub refused: [u64; 12],

@@ -10,7 +10,7 @@ use crate::reference::Letter;
 use xl_text::without_return;
 
 /// What a line of the trace is.
-#[derive(Clone, Copy, Debug, PartialEq, Eq)]
+#[derive(Clone, Copy)]
 pub(crate) enum Verdict {
     /// No record, and no fault.
     Skipped,

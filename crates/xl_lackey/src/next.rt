@@ -3,7 +3,7 @@
 use crate::reference::Reference;
 
 /// What a reader has next.
-#[derive(Clone, Copy, Debug)]
+#[derive(Clone, Copy)]
 pub enum Next {
     /// The next record.
     Found(Reference),

@@ -4,7 +4,7 @@ ghost use Rattle.std.specs.Prelude.{ℕ, ◌+◌, ◌^◌, ◌≤◌, max};
 
 /// What a line of the trace begins with: an instruction fetch, a load, a store, or a modify, which
 /// is a load and then a store at the same place.
-#[derive(Clone, Copy, Debug, PartialEq, Eq)]
+#[derive(Clone, Copy)]
 pub enum Letter {
     I,
     L,
@@ -14,7 +14,7 @@ pub enum Letter {
 
 /// A reference: `size` bytes from the address `addr` on, and at least one, by the line of this
 /// number.
-#[derive(Clone, Copy, Debug)]
+#[derive(Clone, Copy)]
 pub struct Reference {
     pub letter: Letter,
     pub addr: u64,

@@ -9,7 +9,7 @@ use crate::usual::{NEAR, front_of, near_numbers};
 use xl_model::Kind;
 
 /// An access of the trace.
-#[derive(Clone, Copy, Debug, PartialEq, Eq)]
+#[derive(Clone, Copy)]
 pub struct Access {
     pub va: u64,
     pub kind: Kind,

@@ -4,7 +4,7 @@ ghost use Rattle.std.specs.Prelude.{◌≡◌, ◌*◌};
 ghost use Rattle.xl_model.specs.Addresses.{levels_of, level_of, pages_of, is_canonical, page_of as page_number, code_of};
 
 /// The mode of the walk (RISC-V Privileged manual, Sv39, Sv48 and Sv57).
-#[derive(Clone, Copy, Debug, PartialEq, Eq)]
+#[derive(Clone, Copy)]
 pub enum Mode {
     Sv39,
     Sv48,
@@ -25,7 +25,7 @@ impl Mode {
 }
 
 /// The size of a leaf (the page size): 4 KiB, 2 MiB or 1 GiB, which are 2^0, 2^9 and 2^18 pages.
-#[derive(Clone, Copy, Debug, PartialEq, Eq)]
+#[derive(Clone, Copy)]
 pub enum Order {
     K4,
     M2,
@@ -64,7 +64,7 @@ impl Order {
 }
 
 /// The kind of an access.
-#[derive(Clone, Copy, Debug, PartialEq, Eq)]
+#[derive(Clone, Copy)]
 pub enum Kind {
     Fetch,
     Load,

@@ -62,7 +62,7 @@ pub enum Event {
 
 /// Why a command is refused, numbered from 1 in this order, which is also the order in which they
 /// are tested.
-#[derive(Clone, Copy, Debug, PartialEq, Eq)]
+#[derive(Clone, Copy)]
 pub enum Refusal {
     BadSpace,
     NotCanonical,
@@ -76,7 +76,7 @@ pub enum Refusal {
 }
 
 /// The result of an event: an access has a reply, a command is done or refused.
-#[derive(Clone, Copy, Debug, PartialEq, Eq)]
+#[derive(Clone, Copy)]
 pub enum Outcome {
     Replied(Reply),
     Done,

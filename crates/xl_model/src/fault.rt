@@ -2,7 +2,7 @@
 
 /// Why the input ends a run. Lines are numbered from 1; reasons, keys and rules are those of the
 /// formats.
-#[derive(Clone, Copy, Debug, PartialEq, Eq)]
+#[derive(Clone, Copy, Debug)]
 pub enum InputFault {
     /// The words are not the program's.
     Words,

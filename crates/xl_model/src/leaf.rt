@@ -7,7 +7,7 @@ use crate::perm::Perm;
 
 /// A leaf of a mapping: the pages of `space` (the ASID) from `first` (a VPN) on, as many as `order`
 /// (the page size) says, are in as many data frames from `frame` (a PPN) on.
-#[derive(Clone, Copy, Debug, PartialEq, Eq)]
+#[derive(Clone, Copy)]
 pub struct Leaf {
     pub space: u16,
     pub first: u64,
@@ -35,7 +35,7 @@ impl Leaf {
 
 /// A run of leaves of one space, order and permission, consecutive in pages and in frames
 /// (Karakostas and others, 2015).
-#[derive(Clone, Copy, Debug, PartialEq, Eq)]
+#[derive(Clone, Copy)]
 pub struct Range {
     pub space: u16,
     pub start: u64,
@@ -46,7 +46,7 @@ pub struct Range {
 }
 
 /// The reply to an access: the data frame of its page, or why there is none.
-#[derive(Clone, Copy, Debug, PartialEq, Eq)]
+#[derive(Clone, Copy)]
 pub enum Reply {
     Frame(u64),
     NotCanonical,

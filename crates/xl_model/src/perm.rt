@@ -5,7 +5,7 @@ ghost use Rattle.std.specs.Prelude.{◌≡◌, ◌||◌, ◌&&◌, not, false, I
 /// What a leaf lets a user do: read, write, execute, and whether user accesses may use it at all.
 /// The type keeps the rule of the RISC-V Privileged manual's leaf PTEs: one of read, write and
 /// execute is set, and write is never set without read.
-#[derive(Clone, Copy, Debug, PartialEq, Eq)]
+#[derive(Clone, Copy)]
 pub struct Perm {
     pub r: bool,
     pub w: bool,

@@ -10,7 +10,7 @@ use arrayvec::{ArrayString, ArrayVec};
 
 /// The purge, which is the TLB invalidation by a change itself: what an accepted unmap, protect or
 /// move removes from the TLB arrays. The leaf as it was before, all leaves of its space, or all.
-#[derive(Clone, Copy, Debug, PartialEq, Eq)]
+#[derive(Clone, Copy)]
 pub enum Purge {
     Page,
     Space,
@@ -18,7 +18,7 @@ pub enum Purge {
 }
 
 /// The accesses that a TLB array serves: all, fetches, or data (loads and stores).
-#[derive(Clone, Copy, Debug, PartialEq, Eq)]
+#[derive(Clone, Copy)]
 pub enum Serves {
     All,
     Fetch,

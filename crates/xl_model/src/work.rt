@@ -8,7 +8,7 @@ use crate::leaf::Leaf;
 use std::alloc::AllocError;
 
 /// There is no memory.
-#[derive(Clone, Copy, Debug, PartialEq, Eq)]
+#[derive(Clone, Copy, Debug)]
 pub struct NoMemory;
 
 impl From<AllocError> for NoMemory {
@@ -20,15 +20,15 @@ impl From<AllocError> for NoMemory {
 }
 
 /// A radix table has no free node.
-#[derive(Clone, Copy, Debug, PartialEq, Eq)]
+#[derive(Clone, Copy)]
 pub struct NoTable;
 
 /// A table holds as many entries as it can.
-#[derive(Clone, Copy, Debug, PartialEq, Eq)]
+#[derive(Clone, Copy)]
 pub struct Full;
 
 /// Why a table takes no leaf: it has no room, or every way of a cuckoo table is at its cap.
-#[derive(Clone, Copy, Debug, PartialEq, Eq)]
+#[derive(Clone, Copy)]
 pub enum NoRoom {
     NoTable,
     WayAtCap,
@@ -36,7 +36,7 @@ pub enum NoRoom {
 
 /// What a command cost in the table: displacements, those undone, slots migrated, growths begun
 /// (cuckoo tables), and cache entries purged.
-#[derive(Clone, Copy, Debug, PartialEq, Eq)]
+#[derive(Clone, Copy)]
 pub struct Work {
     pub kicks: u64,
     pub undone: u64,
@@ -61,14 +61,14 @@ impl Work {
 }
 
 /// A refused command, with what was done before the refusal.
-#[derive(Clone, Copy, Debug, PartialEq, Eq)]
+#[derive(Clone, Copy)]
 pub struct Refused {
     pub why: NoRoom,
     pub work: Work,
 }
 
 /// What a walk found, and how many walk caches hit.
-#[derive(Clone, Copy, Debug, PartialEq, Eq)]
+#[derive(Clone, Copy)]
 pub struct Walk {
     pub leaf: Option<Leaf>,
     pub cache_hits: u64,
@@ -76,7 +76,7 @@ pub struct Walk {
 
 /// What a walk of a page found, where a leaf of 4 KiB may be returned as its word: its frame (times
 /// 16) and its permission (four bits: read, write, execute, user).
-#[derive(Clone, Copy, Debug, PartialEq, Eq)]
+#[derive(Clone, Copy)]
 pub enum PageWalk {
     Small { word: u64, cache_hits: u64 },
     Any { walk: Walk },

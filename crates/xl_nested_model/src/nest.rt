@@ -4,7 +4,7 @@ use xl_model::{Kind, Order, Perm};
 
 /// The sizes of a guest with tables of its own and of the host below it. Node n of the guest's
 /// table lies in guest page `base + n`.
-#[derive(Clone, Copy, Debug, PartialEq, Eq)]
+#[derive(Clone, Copy)]
 pub struct Nest {
     /// The guest page of the guest's first node.
     pub base: u64,
@@ -20,7 +20,7 @@ pub struct Nest {
 
 /// One event: an access of the guest, or a command of one leaf. `GMap` and `GUnmap` change the
 /// host's table, the G-stage; `VMap` and `VUnmap` change the guest's, the VS-stage.
-#[derive(Clone, Copy, Debug, PartialEq, Eq)]
+#[derive(Clone, Copy)]
 pub enum NestEvent {
     Access {
         va: u64,
@@ -49,7 +49,7 @@ pub enum NestEvent {
 
 /// The reply to an access: the host's frame of its page, a page fault of the VS-stage, or a
 /// guest-page fault of the G-stage.
-#[derive(Clone, Copy, Debug, PartialEq, Eq)]
+#[derive(Clone, Copy)]
 pub enum NestReply {
     Frame(u64),
     PageFault,
@@ -57,7 +57,7 @@ pub enum NestReply {
 }
 
 /// Why a command is refused: 1 to 6 in this order, in which they are tested.
-#[derive(Clone, Copy, Debug, PartialEq, Eq)]
+#[derive(Clone, Copy)]
 pub enum NestRefusal {
     /// The virtual address isn't canonical in Sv39, or the guest physical address has more than 41
     /// bits.
@@ -75,7 +75,7 @@ pub enum NestRefusal {
 }
 
 /// The outcome of an event: an access has a reply, a command is done or refused.
-#[derive(Clone, Copy, Debug, PartialEq, Eq)]
+#[derive(Clone, Copy)]
 pub enum NestOutcome {
     Replied(NestReply),
     Done,
@@ -83,7 +83,7 @@ pub enum NestOutcome {
 }
 
 /// The counts, each modulo 2^64.
-#[derive(Clone, Copy, Debug, PartialEq, Eq)]
+#[derive(Clone, Copy)]
 pub struct NestCounts {
     pub accesses: u64,
     pub ok: u64,

@@ -5,7 +5,7 @@ use xl_nested_model::{Nest, NestEvent};
 /// A command: events, or a run of the next records of the trace, by their number or all that are
 /// left. Event i of `Events`, from 0, is `first` with each of its addresses raised by i times the
 /// order's size.
-#[derive(Clone, Copy, Debug, PartialEq, Eq)]
+#[derive(Clone, Copy)]
 pub enum NestCommand {
     Events { first: NestEvent, n: u32 },
     Run { n: u64 },

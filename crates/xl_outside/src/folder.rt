@@ -6,7 +6,7 @@ ghost use Rattle.xl_outside.specs.Folders.{FolderMeaning, file_of, ReadsFile, Fo
 use thiserror::Error;
 
 /// Why a read gave nothing.
-#[derive(Clone, Copy, Debug, PartialEq, Eq, Error)]
+#[derive(Clone, Copy, Debug, Error)]
 pub enum Unread {
     /// No file of this name can be opened.
     #[error("no such file")]

@@ -6,7 +6,7 @@ ghost use Rattle.xl_outside.specs.Sinks.{SinkMeaning, IsMore, PutAfter, SinkAfte
 use thiserror::Error;
 
 /// A put failed, and took nothing.
-#[derive(Clone, Copy, Debug, PartialEq, Eq, Error)]
+#[derive(Clone, Copy, Debug, Error)]
 #[error("a put failed")]
 pub struct Failed;
 

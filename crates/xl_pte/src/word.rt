@@ -7,7 +7,7 @@ ghost use Rattle.xl_pte.specs.Decode.{bit as bit_of, low_allows, pointer_at as p
 use xl_model::{Kind, Perm};
 
 /// What a PTE word says at a level of the table.
-#[derive(Clone, Copy, Debug, PartialEq, Eq)]
+#[derive(Clone, Copy)]
 pub enum Pte {
     /// There is nothing.
     Invalid,

@@ -1,21 +1,19 @@
 -- The names that this crate's proofs import from elsewhere, passed on from one place. Declares nothing.
-pub use Rattle.std.proofs.Common.{◌++◌, ◌+◌, ◌-◌, ◌<◌, ◌∙◌, ◌∷◌, ◌≡◌, ◌≤◌, [], ap, append_assoc, arith, Bool, drop, false, is_ok, length, List, map, None, Option, refl, Some, subst, suc, sym, take, true, zero, ℕ}
+pub use Rattle.std.proofs.Common.{◌++◌, ◌+◌, ◌<◌, ◌∙◌, ◌∷◌, ◌≡◌, ◌≤◌, [], ap, append_assoc, arith, Bool, drop, false, is_ok, length, List, map, None, Option, refl, Some, subst, suc, sym, take, true, zero, ℕ}
 pub use Rattle.std.proofs.lemmas.List.{append-nil, drop_all, map-append, map-id, nil_from_length, take-append-drop, take_all}
 pub use Rattle.std.proofs.lemmas.List.Elements.{All-append, All-cons, All-drop, All-push, All-set, All-take}
 pub use Rattle.std.specs.List.{All}
-pub use Rattle.std.specs.Prelude.{IfSome, is_some, slice_get, slice_index_or, slice_set}
+pub use Rattle.std.specs.Prelude.{IfSome, slice_get, slice_index_or, slice_set}
 pub use Rattle.serde_json.specs.Data.{Data}
 pub use Rattle.serde_json.specs.View.{items_of, view}
 pub use Rattle.xl_lackey.specs.declared.skim.Access.{Access}
 pub use Rattle.xl_machine.specs.Served.{accessed_by, after_of, IsFramed}
 pub use Rattle.xl_model.specs.Addresses.{is_canonical, levels_of, page_of}
 unfoldable pub use Rattle.xl_model.specs.Caches.{opening_caches}
-pub use Rattle.xl_model.specs.Image.{image_from, unless_zero, Word, word_of, words_from}
-unfoldable pub use Rattle.xl_model.specs.Image.{image}
 pub use Rattle.xl_model.specs.Items.{area_for, area_wanted, areas_after, demanded, map_of, wanted}
 unfoldable pub use Rattle.xl_model.specs.Items.{referenced, state_after}
-pub use Rattle.xl_model.specs.Lines.{answer_line, command_line, image_line, row_line}
-pub use Rattle.xl_model.specs.Report.{image_lines, images_lines, row_lines, word_lines}
+pub use Rattle.xl_model.specs.Lines.{answer_line, command_line, row_line}
+pub use Rattle.xl_model.specs.Report.{image_lines, images_lines, row_lines}
 pub use Rattle.xl_model.specs.RowRun.{looked_by, looked_where, outcome_of, reply_to, RowState, walk_filled, walk_made}
 unfoldable pub use Rattle.xl_model.specs.RowRun.{accessed, after_event, served as done, looked, opening}
 pub use Rattle.xl_model.specs.Rows.{Row, row_of}
@@ -24,7 +22,6 @@ unfoldable pub use Rattle.xl_model.specs.Scenes.{item_lines, scene_after}
 unfoldable pub use Rattle.xl_model.specs.Shapes.{opening_shape}
 pub use Rattle.xl_model.specs.declared.address.Kind.{Kind}
 pub use Rattle.xl_model.specs.declared.event.Event.{Event}
-pub use Rattle.xl_model.specs.declared.leaf.Leaf.{Leaf}
 pub use Rattle.xl_model.specs.declared.leaf.Reply.{Reply}
 pub use Rattle.xl_model.specs.declared.row.Counts.{Counts}
 pub use Rattle.xl_model.specs.declared.script.Area.{Area}

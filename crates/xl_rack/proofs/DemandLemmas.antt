@@ -1,10 +1,11 @@
 -- An access that a row is served, and the events of its demand.
-use Rattle.xl_rack.proofs.Common.{◌++◌, ◌∙◌, ◌≡◌, [], access_line, accessed, after_event, after_of, answer_line, ap, Area, area_for, area_wanted, at_place, Bool, Command, command_line, Declared, demand_lines, demanded, done, Event, event_line, false, IfSome, is_canonical, Item, item_lines, Kind, Leaf, List, looked, looked_by, looked_where, map_of, None, Option, outcome_of, page_of, Referenced, referenced, refl, Reply, reply_to, Row, row_of, RowState, second_line, Served, served_after, ServedAt, SinkAfter, SinkMeaning, slice_get, Some, state_after, sym, true, walk_filled, walk_made, wanted, ℕ}
+use Rattle.xl_rack.proofs.Common.{◌++◌, ◌∙◌, ◌≡◌, [], access_line, accessed, after_event, after_of, answer_line, ap, Area, area_for, area_wanted, at_place, Bool, Command, command_line, Declared, demand_lines, demanded, done, Event, event_line, false, IfSome, is_canonical, Item, item_lines, Kind, List, looked, looked_by, looked_where, map_of, None, Option, outcome_of, page_of, Referenced, referenced, refl, Reply, reply_to, Row, row_of, RowState, second_line, Served, served_after, ServedAt, SinkAfter, SinkMeaning, slice_get, Some, state_after, sym, true, walk_filled, walk_made, wanted, ℕ}
 use Rattle.xl_model.specs.Mapping.{leaf_at_page}
 use Rattle.xl_model.specs.Rules.{rule}
 use Rattle.xl_model.specs.Tally.{count_look}
 use Rattle.xl_model.specs.Tlb.{Answer, answer_of}
 use Rattle.xl_model.specs.declared.event.Outcome.{Outcome}
+use Rattle.xl_model.specs.declared.leaf.Leaf.{Leaf}
 use Rattle.xl_model.specs.declared.row.Row.{Row as RowFields}
 use Rattle.xl_rack.proofs.PlaceLemmas.{get-at_place, some-of}
 use Rattle.xl_rack.proofs.ServedAtLemmas.{as-at, cut-at, known-at, none-at, then-at}

@@ -9,4 +9,3 @@ pub mod PlaceLemmas
 mod RowsLemmas
 mod ServedAtLemmas
 mod SlotLemmas
-mod WordLemmas

@@ -5,7 +5,7 @@ ghost use Rattle.std.specs.Prelude.{◌≡◌};
 use xl_model::Perm;
 
 /// The end of the manual's walk, with the level at which it came.
-#[derive(Clone, Copy, Debug, PartialEq, Eq)]
+#[derive(Clone, Copy)]
 pub enum WalkEnd {
     /// A leaf of this level, from this frame on.
     Leaf {

@@ -1,7 +1,4 @@
 mod Common
 mod FrontLemmas
-mod ScanLemmas
+pub mod ScanLemmas
 mod TotalLemmas
-mod OrderLemmas
-mod TouchLemmas
-mod RankLemmas

@@ -1,5 +1,6 @@
 -- The items of all sets, when one set changes.
-use Rattle.xl_recency.proofs.Common.{◌++◌, ◌+◌, ◌<◌, ◌∙◌, ◌∷◌, ◌≡◌, [], ap, arith, Bool, drop, get_or, get_or_default, items_in, length, List, map, map_over_more, purged, Purges, PurgesIn, set, suc, sym, take, zero, ℕ}
+use Rattle.xl_recency.proofs.Common.{◌++◌, ◌+◌, ◌<◌, ◌∙◌, ◌∷◌, ◌≡◌, [], ap, arith, Bool, drop, get_or, get_or_default, items_in, length, List, map, purged, Purges, PurgesIn, set, suc, sym, take, zero, ℕ}
+use Rattle.std.proofs.lemmas.List.Edits.{map_over_more}
 
 pub items_in-set : {A : Type 0} (sets : List (List A)) (i n : ℕ) (d new : List A) → i < length sets
     → n + length new ≡ length (get_or sets i d) → n + items_in (set sets i new) ≡ items_in sets

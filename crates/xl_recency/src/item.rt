@@ -1,7 +1,7 @@
 //! What a recency list holds.
 
 /// An item of a recency list: a tag, and a word for whoever keeps the list.
-#[derive(Clone, Copy, Debug, Default, PartialEq, Eq)]
+#[derive(Clone, Copy, Default)]
 pub struct Item {
     pub tag: u64,
     pub word: u64,

@@ -5,7 +5,7 @@ use std::error::Error;
 use std::fmt;
 
 /// Why a script is not read.
-#[derive(Clone, Copy, Debug, PartialEq, Eq)]
+#[derive(Clone, Copy, Debug)]
 pub enum ScriptFault {
     /// The first bad line, by its number from 1, and the first that is wrong with it: 1, its first
     /// word names no line; 2, it has too few or too many words; 3, a number or an address; 4, a

@@ -5,7 +5,7 @@ ghost use Rattle.xl_script.specs.Reading.{code_of};
 
 /// What is wrong with a line, of any form of script. Reasons are tested in the order of the
 /// variants but for `Head`, which comes after `FirstWord`.
-#[derive(Clone, Copy, Debug, PartialEq, Eq)]
+#[derive(Clone, Copy)]
 pub enum Reason {
     /// The first word names no line.
     FirstWord,

@@ -5,35 +5,34 @@ ghost use Rattle.std.specs.Prelude.{◌≡◌, ◌<◌};
 use arrayvec::ArrayVec;
 use std::alloc::Global;
 use std::test::Fail;
-use xl_model::{NoMemory, Order, Perm, Range, WayRegs};
+use xl_model::{NoMemory, Order, Perm, WayRegs};
 use xl_phys::{Bus, PhysMem};
 use xl_pte::{Pte, decode};
 use xl_radix_walk::{WalkEnd, walk};
 use xl_treap::{Search, Treap};
 use xl_way::{Look, look};
 
-const READ: Perm = Perm {
-    r: true,
-    w: false,
-    x: false,
-    u: true,
-};
+/// Whether a user may read, and no more.
+fn is_read(perm: Perm) -> bool {
+    perm.r && !perm.w && !perm.x && perm.u
+}
 
 #[test]
 fn the_rules_of_an_entry_are_tested_in_order(rt: HostRuntime) {
-    for (word, level, want) in [
-        (0u64, 0, Pte::Invalid),
-        (1 << 63, 4, Pte::Invalid),
-        (1 << 54 | 1, 1, Pte::Reserved),
-        (0x5, 0, Pte::Reserved),
-        (0xd, 2, Pte::Reserved),
-        (0x1, 0, Pte::Reserved),
-        (0x403, 1, Pte::Misaligned),
-        (0x10, 3, Pte::Invalid),
-        (0xf1, 4, Pte::Pointer { node: 0 }),
-    ] {
-        assert_eq!(rt; decode(word, level), want);
+    for (word, level) in [(0u64, 0), (1 << 63, 4), (0x10, 3)] {
+        assert!(rt;
+            matches!(decode(word, level), Pte::Invalid),
+            "{word} at {level}"
+        );
     }
+    for (word, level) in [(1u64 << 54 | 1, 1), (0x5, 0), (0xd, 2), (0x1, 0)] {
+        assert!(rt;
+            matches!(decode(word, level), Pte::Reserved),
+            "{word} at {level}"
+        );
+    }
+    assert!(rt; matches!(decode(0x403, 1), Pte::Misaligned));
+    assert!(rt; matches!(decode(0xf1, 4), Pte::Pointer { node: 0 }));
 }
 
 /// Index 1 at level 2, index 2 at level 1 and index 3 at level 0.
@@ -48,19 +47,14 @@ fn a_walk_ends_at_a_leaf_at_no_entry_and_where_no_word_is(rt: HostRuntime) -> Re
     memory.poke(1027, (77 << 10) + 19);
     let mut path = ArrayVec::new();
     let end = walk::<PhysMem, 3>(&mut memory, 2, 0, PAGE, &mut path);
-    let leaf = WalkEnd::Leaf {
-        level: 0,
-        frame: 77,
-        perm: READ,
-    };
-    assert_eq!(rt; end, leaf);
+    assert!(rt; matches!(end, WalkEnd::Leaf { level: 0, frame: 77, perm } if is_read(perm)));
     assert_eq!(rt; path.as_slice(), [1, 2].as_slice());
     let mut path = ArrayVec::new();
     let end = walk::<PhysMem, 3>(&mut memory, 2, 0, 3 << 18, &mut path);
-    assert_eq!(rt; end, WalkEnd::Invalid { level: 2 });
+    assert!(rt; matches!(end, WalkEnd::Invalid { level: 2 }));
     let mut path = ArrayVec::new();
     let end = walk::<PhysMem, 3>(&mut memory, 2, 0, 2 << 18, &mut path);
-    assert_eq!(rt; end, WalkEnd::OutOfBus { level: 1 });
+    assert!(rt; matches!(end, WalkEnd::OutOfBus { level: 1 }));
     assert_eq!(rt; path.as_slice(), [5].as_slice());
     Ok(())
 }
@@ -70,14 +64,13 @@ fn a_walk_ends_at_a_leaf_at_no_entry_and_where_no_word_is(rt: HostRuntime) -> Re
 fn a_look_past_the_words_finds_none(rt: HostRuntime) -> Result<(), Fail> {
     let mut memory = PhysMem::open(rt.alloc(), 8)?;
     memory.poke(1, 7);
-    for (s, want) in [(2, Look::Found(7)), (3, Look::OutOfBus)] {
-        let regs = WayRegs {
-            s,
-            p: 0,
-            growing: false,
-        };
-        assert_eq!(rt; look(&mut memory, regs, 1, 0), want);
-    }
+    let regs = |s| WayRegs {
+        s,
+        p: 0,
+        growing: false,
+    };
+    assert!(rt; matches!(look(&mut memory, regs(2), 1, 0), Look::Found(7)));
+    assert!(rt; matches!(look(&mut memory, regs(3), 1, 0), Look::OutOfBus));
     Ok(())
 }
 
@@ -102,28 +95,22 @@ fn no_treap(alloc: Global) -> Result<PhysMem, NoMemory> {
 #[test]
 fn words_that_are_no_treap_end_a_search(rt: HostRuntime) -> Result<(), Fail> {
     let mut memory = no_treap(rt.alloc())?;
-    let huge = Range {
-        space: 0,
-        start: 20,
-        pages: 5,
-        frame: 0x4_0000,
-        order: Order::G1,
-        perm: READ,
-    };
-    for (root, nodes, page, want) in [
-        (1u32, 3u32, 10u32, Search::Absent),
-        (1, 3, 5, Search::Absent),
-        (1, 3, 2, Search::TooLong),
-        (1, 2, 2, Search::TooLong),
-        (1, 3, 22, Search::Found(huge)),
-        (1, 3, 15, Search::OutOfBus),
-        (1, 2, 30, Search::Absent),
-        (0, 0, 5, Search::Absent),
-        (1, 0, 5, Search::TooLong),
-    ] {
+    for (root, nodes, page) in [(1u32, 3u32, 10u32), (1, 3, 5), (1, 2, 30), (0, 0, 5)] {
         let found = Treap::search(&mut memory, root, nodes, 0, page as u64);
-        assert_eq!(rt; found, want, "at {page}");
+        assert!(rt; matches!(found, Search::Absent), "at {page}");
     }
+    for (root, nodes, page) in [(1u32, 3u32, 2u32), (1, 2, 2), (1, 0, 5)] {
+        let found = Treap::search(&mut memory, root, nodes, 0, page as u64);
+        assert!(rt; matches!(found, Search::TooLong), "at {page}");
+    }
+    let outside = Treap::search(&mut memory, 1, 3, 0, 15);
+    assert!(rt; matches!(outside, Search::OutOfBus));
+    let Search::Found(range) = Treap::search(&mut memory, 1, 3, 0, 22) else {
+        return Err("no range".into());
+    };
+    assert_eq!(rt; (range.space, range.start, range.pages), (0, 20, 5));
+    assert_eq!(rt; range.frame, 0x4_0000);
+    assert!(rt; matches!(range.order, Order::G1) && is_read(range.perm));
     assert_eq!(rt; memory.loads(), 15);
     Ok(())
 }

@@ -10,6 +10,15 @@ use xl_hashed::Hashed;
 use xl_model::{Leaf, NoRoom, Order, Perm, Refused, Structure, Work};
 use xl_model_table::ListTable;
 
+/// Whether a command cost nothing.
+fn is_none(work: Work) -> bool {
+    work.kicks == 0
+        && work.undone == 0
+        && work.migrated == 0
+        && work.growths == 0
+        && work.invalidated == 0
+}
+
 /// Adds a leaf of one page of space 1, None where a leaf overlaps it.
 fn added<S: Structure>(table: &mut S, first: u64) -> Option<Result<Work, Refused>>
     requires small { first < 100 }
@@ -55,14 +64,13 @@ fn the_plain_table_reads_up_to_its_leaf_and_refuses_where_it_is_full(
     rt: HostRuntime,
 ) -> Result<(), Fail> {
     let mut table = ListTable::open(rt.alloc(), 1, 2)?;
-    assert_eq!(rt; added(&mut table, 30), Some(Ok(Work::none())));
-    assert_eq!(rt; added(&mut table, 10), Some(Ok(Work::none())));
-    assert_eq!(rt; added(&mut table, 10), None);
-    let refused = Refused {
-        why: NoRoom::NoTable,
-        work: Work::none(),
+    assert!(rt; matches!(added(&mut table, 30), Some(Ok(work)) if is_none(work)));
+    assert!(rt; matches!(added(&mut table, 10), Some(Ok(work)) if is_none(work)));
+    assert!(rt; added(&mut table, 10).is_none());
+    let Some(Err(refused)) = added(&mut table, 40) else {
+        return Err("no refusal".into());
     };
-    assert_eq!(rt; added(&mut table, 40), Some(Err(refused)));
+    assert!(rt; matches!(refused.why, NoRoom::NoTable) && is_none(refused.work));
     assert_eq!(rt;
         (loads_of(&mut table, 10), loads_of(&mut table, 40)),
         (2, 9)
@@ -75,18 +83,12 @@ fn the_plain_table_reads_up_to_its_leaf_and_refuses_where_it_is_full(
 #[test]
 fn the_words_of_a_hashed_table_are_searched(rt: HostRuntime) -> Result<(), Fail> {
     let mut table = Hashed::open(rt.alloc(), 4, 8)?;
-    assert_eq!(rt; added(&mut table, 30), Some(Ok(Work::none())));
+    assert!(rt; matches!(added(&mut table, 30), Some(Ok(work)) if is_none(work)));
     let mut chains = table.into_table();
     let (shape, tag) = (chains.shape(), (1 << 45) + 30);
     let found = seek(&mut chains, shape, tag);
     let entry = chains.find(tag).ok_or("no entry")?;
-    assert_eq!(rt;
-        found,
-        Seek::Found {
-            entry,
-            value: 0x1cd3
-        }
-    );
-    assert_eq!(rt; seek(&mut chains, shape, 30), Seek::Absent);
+    assert!(rt; matches!(found, Seek::Found { entry: at, value: 0x1cd3 } if at == entry));
+    assert!(rt; matches!(seek(&mut chains, shape, 30), Seek::Absent));
     Ok(())
 }

@@ -12,7 +12,7 @@ use crate::lookup::Lookup;
 /// For eight pages at most, the words of the leaves that answer them: each is the newest of its set
 /// of the first array. A page's place is its number's last three bits, and its key the tag of its
 /// leaf.
-#[derive(Clone, Copy, Debug)]
+#[derive(Clone, Copy)]
 pub(crate) struct MruPages {
     keys: [u64; 8],
     words: [u64; 8],

@@ -11,7 +11,7 @@ use xl_model::{Order, Range, Reach, perm_code, perm_of};
 
 /// An item of a range TLB: the tag has the range's space and its first page, the word its frame and
 /// its permission, and `more` its pages (times 4) and its order.
-#[derive(Clone, Copy, Debug, PartialEq, Eq)]
+#[derive(Clone, Copy)]
 pub(crate) struct RangeItem {
     pub(crate) tag: u64,
     pub(crate) word: u64,

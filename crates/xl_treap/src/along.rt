@@ -8,7 +8,7 @@ use xl_model::Range;
 use xl_phys::Bus;
 
 /// The result of a search for a page.
-#[derive(Clone, Copy, Debug, PartialEq, Eq)]
+#[derive(Clone, Copy)]
 pub enum Search {
     /// The range that holds the page.
     Found(Range),

@@ -1,7 +1,7 @@
 //! The result of a look at a way.
 
 /// The result of a look for a key.
-#[derive(Clone, Copy, Debug, PartialEq, Eq)]
+#[derive(Clone, Copy)]
 pub enum Look {
     /// The word that is kept for the key.
     Found(u64),

@@ -64,7 +64,7 @@ pub enum Form {
 }
 
 /// Why the words ask for nothing.
-#[derive(Clone, Copy, Debug, PartialEq, Eq, Error)]
+#[derive(Clone, Copy, Debug, Error)]
 pub enum WordsFault {
     /// They are not those of their form's command, or records are to be made beside a script or a
     /// trace.

@@ -1,0 +1,4 @@
+mod Common
+mod OrderLemmas
+mod TouchLemmas
+mod RankLemmas
