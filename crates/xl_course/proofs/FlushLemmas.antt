@@ -1,11 +1,8 @@
 -- What a flush makes of the end of a run.
-use Rattle.xl_course.proofs.Common.{◌∙◌, ◌≡◌, ◌⊎◌, Account, ap, arith, Bool, end_flushed, Ends, EndsAs, Err, false, fate_by, FileMissing, Fine, FlushAfter, FlushesEnd, folder_then, FolderAfter, FolderLeft, FolderMeaning, front_of_more, front_written, proceeds_then, Proceeds, inl, inr, is_all_put, IsFlushed, IsMore, joined, length, List, Ok, Option, Outside, ReadFailed, refl, Result, SinkMeaning, status_by, Stop, stop_fate, subst, sym, take_all, text_of, true, with_more, WroteFront, ℕ}
+use Rattle.xl_course.proofs.Common.{◌∙◌, ◌≡◌, ◌⊎◌, Account, ap, arith, Bool, end_flushed, Ends, EndsAs, Err, false, FlushAfter, FlushesEnd, FolderMeaning, front_of_more, front_written, inl, inr, is_all_put, IsFlushed, IsMore, joined, length, List, Ok, Option, Outside, Proceeds, proceeds_then, refl, Result, SinkMeaning, Stop, subst, sym, take_all, text_of, true, with_more, WroteFront, ℕ}
 use Rattle.xl_outside.specs.Fronts.{with_none}
 use Rattle.xl_course.proofs.EndLemmas.{front_text}
 use Rattle.xl_course.proofs.MeaningLemmas.{joined-append}
-use Rattle.xl_course.specs.declared.status.Status.{Status}
-use Rattle.xl_model.specs.declared.fault.InputFault.TheVariants as fault
-use Rattle.xl_course.specs.declared.status.Status.TheVariants as status
 use Rattle.xl_course.specs.declared.stop.Stop.TheVariants as why
 
 whole_front : (before after : Option (List ℕ)) (text : List ℕ) → after ≡ with_more before text → WroteFront before text after
@@ -104,47 +101,6 @@ module _ {K : Type 0} (sink : SinkMeaning K) (a b c : K) (end after : Result (Un
   proceeds_flushed h goes = proceeds_by goes (flush_kind sink b c end after h)
 
 module _ {D : Type 0} (folder : FolderMeaning D) (old new : D) where
-  -- how a run leaves the folder, by the status of its end
-  pub left_by : (end : Result (Unit {0}) Stop) → FolderAfter folder old new (fate_by stop_fate end) → FolderLeft folder old new (status_by end)
-  left_by (Ok u) h = h
-  left_by (Err why.ReadFault) h = h
-  left_by (Err why.WriteFault) h = (Fine, h)
-  left_by (Err why.NoMemory) h = h
-  left_by (Err (why.Input fault.Words)) h = h
-  left_by (Err (why.Input fault.NoFile)) h = h
-  left_by (Err (why.Input fault.ConfigTooLong)) h = h
-  left_by (Err (why.Input fault.ConfigNotToml)) h = h
-  left_by (Err (why.Input (fault.ConfigKey row key rule))) h = h
-  left_by (Err (why.Input fault.ScriptTooLong)) h = h
-  left_by (Err (why.Input (fault.ScriptLine line reason))) h = h
-  left_by (Err (why.Input fault.TraceTooLong)) h = h
-  left_by (Err (why.Input (fault.TraceLine line reason))) h = h
-
-  -- calls that were all fine, and a run after them
-  pub left_then : (mid : D) (s : Status) → FolderAfter folder old mid Fine → FolderLeft folder mid new s → FolderLeft folder old new s
-  left_then mid status.WriteFault x y = (y.0, folder_then folder old mid new y.0 x y.1)
-  left_then mid status.Ok x y = folder_then folder old mid new Fine x y
-  left_then mid status.Usage x y = folder_then folder old mid new Fine x y
-  left_then mid status.BadConfig x y = folder_then folder old mid new Fine x y
-  left_then mid status.BadScript x y = folder_then folder old mid new Fine x y
-  left_then mid status.BadTrace x y = folder_then folder old mid new Fine x y
-  left_then mid status.ReadFault x y = folder_then folder old mid new ReadFailed x y
-  left_then mid status.NoMemory x y = folder_then folder old mid new Fine x y
-  left_then mid status.NoFile x y = folder_then folder old mid new FileMissing x y
-
-  left_whole : (whole : Bool) (end : Result (Unit {0}) Stop) → FolderAfter folder old new (fate_by stop_fate end)
-      → FolderLeft folder old new (status_by (end_flushed whole end))
-  left_whole true end h = left_by end h
-  left_whole false end h = (fate_by stop_fate end, h)
-
-  pub left_flushed : {K : Type 0} (sink : SinkMeaning K) (b c : K) (end after : Result (Unit {0}) Stop)
-      → FlushesEnd sink b c end after → FolderAfter folder old new (fate_by stop_fate end)
-      → FolderLeft folder old new (status_by after)
-  left_flushed sink b c end after h x = by_kind (flush_kind sink b c end after h)
-    where
-      by_kind : FlushKind sink b c end after → FolderLeft folder old new (status_by after)
-      by_kind (inl (p, q, r)) = subst (λ (z : Result (Unit {0}) Stop). FolderLeft folder old new (status_by z)) (p ∙ sym r) (left_by end x)
-      by_kind (inr (t, whole, y, is)) = subst (λ (z : Result (Unit {0}) Stop). FolderLeft folder old new (status_by z)) (sym is) (left_whole whole end x)
 
 -- a flush that fails is a failed put, so NoMemory is from before the flush
 unflushed : (whole : Bool) (end : Result (Unit {0}) Stop) → end_flushed whole end ≡ Err why.NoMemory → end ≡ Err why.NoMemory

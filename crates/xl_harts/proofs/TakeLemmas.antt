@@ -1,6 +1,6 @@
 -- A request that a hart takes: what it was, and what comes free.
 use Rattle.xl_harts.proofs.Common.{◌++◌, ◌+◌, ◌-◌, ◌<◌, ◌∙◌, ◌∷◌, ◌≡◌, ◌≤◌, [], after-take, after_hart_event, ap, arith, Bool, false, first-none, get_or, Hart, hart_at, hart_fenced, hart_refusal, HartsState, held_leaves, IfSome, In, IsFit, IsHarts, IsKept, IsLeafOf, IsPoolOf, kept_leaves, Leaf, length, List, longest, nat_lt, nat_tests, None, older, older-last, older-mapping, oldest, opening_hart, Option, owners, owners-append, owners-oldest, pool-stays, pool-without, refl, refused-true, Request, request-kept, request_taken, set, shared_row, Some, subst, suc, sym, take, take-all, take-some, true, undone, with_held, with_new, without_old, ℕ}
-use Rattle.xl_hart_laws.proofs.HartLemmas.{longest-less, longest-set}
+use Rattle.xl_hart_laws.proofs.HartLemmas.{longest-less}
 use Rattle.xl_model_lemmas.proofs.InsertionLemmas.{In-with}
 use Rattle.xl_harts.proofs.RefusalLemmas.{leaf-fit}
 use Rattle.xl_harts.specs.Pools.{Fits, given_back, last_of, LeafFits, nothing, pool_after, released, settled_by}
@@ -38,9 +38,6 @@ module _ (s : HartsState) (kept : IsKept s) (n : ℕ) (x : Hart) (less : (hart_a
   -- all requests but at most the oldest stay
   pub near : length s.requests ≤ longest (set s.harts n x) + 1
   near = let a = longest-less (opening_hart s.spec) x s.harts n less in let b = kept.longest_is in omega arith
-
-  pub few : longest (set s.harts n x) ≤ length s.requests
-  few = let a = longest-set (opening_hart s.spec) x s.harts n no_more in let b = kept.longest_is in omega arith
 
 -- the pool after a request is dropped
 given : (frames : ℕ) (before after : Option Leaf) (leaves rest all : List Leaf) (pool : List Bool) → ((f : ℕ) → owners f all ≡ owners f (with_held before after []) + owners f rest)

@@ -1,5 +1,5 @@
 -- Nothing is stale: what every event keeps of arrays and caches.
-use Rattle.xl_model_laws.proofs.Common.{◌*◌, ◌+◌, ◌-◌, ◌<◌, ◌∷◌, ◌≡◌, ◌≤◌, [], accessed, after_by, after_event, after_rule, Answer, answer_by, answer_of, arith, Bool, brought, Caches, caches_fenced, caches_purged, CachesFresh, Chained, Change, change_of, changed, changed_by, changed_where, count_look, covers, Cuckoo, CuckooRules, CuckooWays, empty_caches, Event, false, fenced, fills_m2, find, find-In, finds_place, has_room, holds_page, In, in_nodes, is_canonical, is_page_section, is_some, IsFound, IsMapping, IsSound, kept-sound, Kind, Leaf, leaf_at_page, length, level-low, level_of, levels_of, List, looked, looked_by, looked_where, Made, Mode, NoCaches, Node, NodeCaches, None, NoPlace, NoSpace, not, Numbered, old_leaf, only_needed, opening, opening_caches, opening_nodes, opening_shape, Option, Order, page_of, pages_of, purged_at, Radix, Range, range_walk_by, RangeCache, ranges_of, reach_of, reaches_leaf, reaches_range, reaches_space, refl, Refusal, Row, RowState, rule, Runs, same_order, section_caches, section_of_page, SectionCaches, served, Shape, shape_after, Some, sound-of, start_level, subst, suc, sym, Table, table_after, table_answer, table_fenced, table_made, table_walked, TableState, TagsFresh, true, Verdict, verdict, walk_filled, walk_made, walked, ways_brought, ways_taken, widened, zero, ℕ}
+use Rattle.xl_model_laws.proofs.Common.{◌*◌, ◌+◌, ◌-◌, ◌<◌, ◌∷◌, ◌≡◌, ◌≤◌, [], accessed, after_by, after_event, after_rule, Answer, answer_by, answer_of, arith, Bool, brought, Caches, caches_fenced, caches_purged, CachesFresh, Chained, Change, change_of, changed, changed_by, changed_where, count_look, covers, Cuckoo, CuckooRules, CuckooWays, empty_caches, Event, false, fenced, fills_m2, find, find-In, finds_place, has_room, holds_page, In, in_nodes, is_canonical, is_page_section, is_some, IsFound, IsMapping, IsSound, kept-sound, Kind, Leaf, leaf_at_page, length, level-low, level_of, levels_of, List, looked, looked_by, looked_where, Made, Mode, NoCaches, Node, NodeCaches, None, NoPlace, NoSpace, not, Numbered, old_leaf, only_needed, opening, opening_caches, opening_nodes, opening_shape, Option, Order, page_of, pages_of, purged_at, Radix, Range, range_walk_by, RangeCache, ranges_of, reach_of, reaches_leaf, reaches_range, reaches_space, refl, Refusal, Row, RowState, rule, Runs, same_order, section_caches, section_of_page, SectionCaches, served, Shape, shape_after, Some, sound-of, start_level, subst, suc, sym, Table, table_after, table_answer, table_fenced, table_made, table_walked, TagsFresh, true, Verdict, verdict, walk_filled, walk_made, walked, ways_brought, ways_taken, widened, zero, ℕ}
 use Rattle.xl_model.specs.declared.event.Reach.{Reach}
 use Rattle.xl_model_lemmas.proofs.CoverLemmas.{found-leaf}
 use Rattle.xl_model_lemmas.proofs.FreshArrayLemmas.{changed-fresh, filled-fresh, hit-fresh, opening-fresh, without-fresh}
@@ -22,10 +22,6 @@ use Rattle.xl_model.specs.declared.row.Table.TheVariants as table
 ShapeFull : Shape → Caches → List Leaf → Type 0
 ShapeFull (Radix levels spaces nodes) (NodeCaches cs) leaves = NodesFull levels leaves nodes × (length cs < levels)
 ShapeFull shape kept leaves = Unit {0}
-
-record TableFresh (t : TableState) : Type 0 where
-  fresh : CachesFresh t.shape t.caches t.leaves
-  full : ShapeFull t.shape t.caches t.leaves
 
 -- what is known of every leaf
 all-known : (row : Row) (leaves : List Leaf) → IsMapping row leaves → (x : Leaf) → In x leaves → In x leaves × ((e : ℕ) × (x.first ≡ e * pages_of x.order))

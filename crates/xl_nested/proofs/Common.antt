@@ -36,7 +36,7 @@ pub use Rattle.xl_nested_model.specs.Nested.{along, loaded_where, NestState, wal
 unfoldable pub use Rattle.xl_nested_model.specs.Nested.{after_nest_event, nest_accessed, nest_outcome, nest_rule, nest_served}
 pub use Rattle.xl_nested_model.specs.Rules.{guest_map, host_map, is_beyond, map_rule, refused_if, room_rule, stage_after, unmap_rule}
 unfoldable pub use Rattle.xl_nested_model.specs.Rules.{gmap_rule, gmapped, gunmap_rule, gunmapped, vmap_rule, vmapped, vunmap_rule, vunmapped}
-pub use Rattle.xl_nested_model.specs.Stages.{covers_guest, frame_of, Guest, guest_reply, Host, host_page, host_reply, host_space, is_loadable, nodes_in, opening_host, opening_stage, path_from, reply_if_canonical, reply_if_loadable, Stage, translated_by, with_found, with_loads}
+pub use Rattle.xl_nested_model.specs.Stages.{covers_guest, frame_of, Guest, guest_reply, Host, host_page, host_reply, host_space, is_loadable, nodes_in, opening_stage, path_from, reply_if_canonical, reply_if_loadable, Stage, translated_by, with_found, with_loads}
 unfoldable pub use Rattle.xl_nested_model.specs.Stages.{guest_path, host_leaf, nested, stage2, translated}
 pub use Rattle.xl_nested_model.specs.declared.nest.NestEvent.{NestEvent}
 pub use Rattle.xl_nested_model.specs.declared.nest.NestRefusal.{NestRefusal}

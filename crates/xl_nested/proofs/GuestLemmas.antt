@@ -1,5 +1,5 @@
 -- What the guest keeps, and what its leaves are.
-use Rattle.xl_nested.proofs.Common.{◌++◌, ◌+◌, ◌-◌, ◌<◌, ◌^◌, ◌∙◌, ◌≡◌, ◌≤◌, arith, Change, changed-In, covers, Entry, find-In, find-passes, guest_map, In, inl, inr, IsAt, IsBlock, IsEntry, IsFor, IsGuest, IsLeafFor, IsPage, IsPlace, IsReached, IsStage, Leaf, leaf_at_page, LeavesReach, length, length-append, length-replicate, List, nat_tests, Node, nodes_in, None, number-some, opening_nodes, opening_stage, Option, Order, pages-some, pages_of, Perm, refl, Remove, replicate, roots, small_leaf, Some, Stage, stage_after, subst, suc, sym, true, up, with_loads, ℕ}
+use Rattle.xl_nested.proofs.Common.{◌++◌, ◌+◌, ◌-◌, ◌<◌, ◌^◌, ◌∙◌, ◌≡◌, ◌≤◌, arith, Change, changed-In, covers, Entry, find-In, find-passes, guest_map, In, inl, inr, IsAt, IsBlock, IsEntry, IsFor, IsGuest, IsPage, IsPlace, IsReached, IsStage, Leaf, leaf_at_page, LeavesReach, length, length-append, length-replicate, List, nat_tests, Node, nodes_in, None, number-some, opening_nodes, opening_stage, Option, Order, pages-some, pages_of, Perm, refl, Remove, replicate, roots, small_leaf, Some, Stage, stage_after, subst, suc, sym, true, up, ℕ}
 use Rattle.xl_radix.proofs.OpeningLemmas.{length-roots}
 use Rattle.xl_nested.proofs.ApartLemmas.{left-In}
 use Rattle.xl_nested.proofs.ShapeLemmas.{shape-like}
@@ -44,12 +44,6 @@ page-of spaces space page stage is few low =
 
 pub first-low : (first : ℕ) (o : Order) (limit : ℕ) → IsPlace first o limit → first < limit
 first-low first o limit place = let p = place.within in let q : 0 < pages_of o = pages-some o in omega arith
-
-pub guest-leaf : (page : ℕ) (o : Order) (g : ℕ) (perm : Perm) (stage : Stage) → IsStage 1 stage → IsPlace page o (2 ^ 27) → IsPlace g o (2 ^ 29)
-    → IsLeafFor stage.shape (record { space = 0; first = page; order = o; frame = g; perm = perm })
-guest-leaf page o g perm stage is place frames =
-    let f = frames.within in
-    record { block = block-of 1 0 page o stage is (omega arith) place; frames_in = omega arith; frames_aligned = frames.aligned }
 
 pub guest-mapped : (base page : ℕ) (o : Order) (g : ℕ) (perm : Perm) (stage : Stage) → IsGuest base stage → IsPlace g o (2 ^ 29)
     → IsGuest base (stage_after (Some (guest_map page o g perm)) stage)
@@ -104,14 +98,6 @@ node-low base level node page stage is at =
     let h = (number-some 0 (suc level) (up (suc level) page) node (nodes_in stage.shape) at.at).0 in
     let n = is.low_nodes in
     omega arith
-
--- a load changes the loads alone
-pub loaded-kept : (base n : ℕ) (stage : Stage) → IsGuest base stage → IsGuest base (with_loads n stage)
-loaded-kept base n stage is = record {
-  stage_is = record { spaces_are = is.stage_is.spaces_are; pages_are = is.stage_is.pages_are };
-  low_nodes = is.low_nodes;
-  low_frames = is.low_frames;
-}
 
 pub entry-reaches : (base level page : ℕ) (stage : Stage) → IsGuest base stage → (e : Entry) → IsEntry level page e stage → LeavesReach page e
 entry-reaches base level page stage is (entry.Node next) says = tt

@@ -1,6 +1,6 @@
 -- Row after row.
 use Rattle.xl_rack.proofs.Common.{◌++◌, ◌+◌, ◌<◌, ◌∙◌, ◌∷◌, ◌≡◌, ◌≤◌, [], ap, append-nil, append_assoc, Area, areas_after, arith, at_place, Bool, Counts, drop, drop_all, false, HasServed, IfSome, Item, item_lines, length, line_where, List, printed_by, refl, Row, row_line, row_lines, rows_after, rows_lines, scene_after, scene_of, SceneAfter, Served, served_after, ServedAt, sink_cut, sink_then, SinkAfter, SinkMeaning, slice_get, Some, subst, suc, sym, take, take-append-drop, take_all, true, zero, ℕ}
-use Rattle.xl_rack.proofs.LineLemmas.{lines-cut, lines-none, lines-then}
+use Rattle.xl_rack.proofs.LineLemmas.{lines-cut, lines-then}
 use Rattle.xl_rack.proofs.PlaceLemmas.{some-of}
 
 pub lines-append : (item : Item) (areas : List Area) (xs ys : List Served) → rows_lines item areas (xs ++ ys) ≡ rows_lines item areas xs ++ rows_lines item areas ys
@@ -51,9 +51,6 @@ take_next rows i v h = (let e : i + 1 ≡ suc i = omega arith in ap (λ (j : ℕ
     one (r ∷ rows) zero h = let e : r ≡ v = cc in ap (λ (w : Served). w ∷ []) e
     one (r ∷ rows) (suc i) h = ap (λ (rest : List Served). r ∷ rest) (one rows i h)
 
-parts : (rows : List Served) (i : ℕ) (v : Served) → slice_get rows i ≡ Some v → rows ≡ (take i rows ++ v ∷ []) ++ drop (i + 1) rows
-parts rows i v h = sym (take-append-drop (i + 1) rows) ∙ ap (λ (xs : List Served). xs ++ drop (i + 1) rows) (take_next rows i v h)
-
 lines-next : (item : Item) (areas : List Area) (rows : List Served) (i : ℕ) (v : Served) → slice_get rows i ≡ Some v
     → rows_lines item areas (take (i + 1) rows) ≡ rows_lines item areas (take i rows) ++ item_lines item areas v.row v.state
 lines-next item areas rows i v h =
@@ -89,9 +86,6 @@ module _ {K : Type 0} (sink : SinkMeaning K) where
   pub record Going (answers : Bool) (item : Item) (areas : List Area) (i : ℕ) (p q : List Served) (k l : K) : Type 0 where
     pub rows_are : q ≡ partly item areas p i
     pub writes : SinkAfter sink (line_where answers (rows_lines item areas (take i p))) k l true
-
-  pub nothing-yet : (answers : Bool) (item : Item) (areas : List Area) (p : List Served) (k : K) → Going answers item areas 0 p p k k
-  nothing-yet answers item areas p k = record { rows_are = refl; writes = lines-none sink answers k }
 
   -- the lines of the row at the place
   next-known : (answers : Bool) (item : Item) (areas : List Area) (i : ℕ) (p q r : List Served) (k l m : K) (whole : Bool) (v : Served) → slice_get p i ≡ Some v → i < length p

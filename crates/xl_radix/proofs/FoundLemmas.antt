@@ -1,5 +1,5 @@
 -- What a leaf that covers a page says of the walk.
-use Rattle.xl_radix.proofs.Common.{◌-◌, ◌/◌, ◌<◌, ◌∙◌, ◌≡◌, ◌≤◌, ap, arith, covers, end_level, eq-eqb, false_from_ne_true, find-In, find-passes, In, inr, is_leaf, IsRadixMapping, Leaf, leaf_at_page, leaf_said, level-low, level_of, List, order-same, order_of, refl, Some, suc, sym, true, up, up-from, ℕ}
+use Rattle.xl_radix.proofs.Common.{◌-◌, ◌/◌, ◌<◌, ◌∙◌, ◌≡◌, ◌≤◌, ap, arith, covers, end_level, false_from_ne_true, find-In, find-passes, In, inr, IsRadixMapping, Leaf, leaf_at_page, leaf_said, level-low, level_of, List, order_of, refl, Some, suc, sym, up, up-from, ℕ}
 use Rattle.xl_radix.proofs.EndLemmas.{end-is}
 use Rattle.xl_radix.proofs.MeetLemmas.{covered}
 use Rattle.xl_radix.proofs.ReadBackLemmas.{said-leaf}
@@ -40,6 +40,3 @@ pub leaf-said : (top spaces s page : ℕ) (x : Leaf) (leaves : List Leaf) → Is
 leaf-said top spaces s page x leaves m e =
     let c = covering-is top spaces s page x leaves m e in
     said-leaf s (level_of x.order) (up (level_of x.order) page) x (record { space_is = c.space_is; level_is = refl; block_is = c.block_is }) (m.proper x c.there).aligned
-
-own-name : (x : Leaf) → is_leaf x.space x.first x.order x ≡ true
-own-name x = rw (eq-eqb x.space x.space refl, eq-eqb x.first x.first refl, order-same x.order) refl

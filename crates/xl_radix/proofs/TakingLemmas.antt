@@ -46,30 +46,6 @@ still-nearly top spaces s page (suc l) k leaves nodes words used store pos low a
     let h : suc l - 1 ≡ l = omega arith in
     still-core top spaces s page l k leaves nodes words used store low (rw h at at) ne (rw h at nearly)
 
--- Giving back continues.
-pub less-trans : (a b c : List (Option Node)) → IsLess a b → IsLess b c → IsLess a c
-less-trans a b c f g = record {
-  size = g.size ∙ f.size;
-  each = λ n. elim (g.each n) [ inr e ↦ inr e | inl e ↦ elim (f.each n) [ inl d ↦ inl (e ∙ d) | inr d ↦ inr (e ∙ d) ] ];
-}
-
-pub taken-more : (j given : ℕ) (a b c : List (Option Node)) → IsTaken (j - 1) given a b → IsTaken j 1 b c → IsTaken j (given + 1) a c
-taken-more j given a b c f g = record {
-  less = less-trans a b c f.less g.less;
-  others = λ s l q n h t. g.others s l q n h (f.others s l q n (omega arith) t);
-  count = let d = f.count in let e = g.count in omega arith;
-}
-
-pub taken-up : (j given : ℕ) (a b : List (Option Node)) → IsTaken (j - 1) given a b → IsTaken j given a b
-taken-up j given a b f = record { less = f.less; others = λ s l q n h t. f.others s l q n (omega arith) t; count = f.count }
-
-pub taken-none : (j : ℕ) (a : List (Option Node)) → IsTaken j 0 a a
-taken-none j a = record {
-  less = record { size = refl; each = λ n. inl refl };
-  others = λ s l q n h t. t;
-  count = omega arith;
-}
-
 -- At the top nothing of the path is left over.
 pub nearly-exact : (top spaces s page : ℕ) (leaves : List Leaf) (nodes : List (Option Node)) (words used : List ℕ) → IsStore top spaces leaves nodes words used → IsNearly top s page (top - 1) leaves nodes → IsExact top leaves nodes
 nearly-exact top spaces s page leaves nodes words used store nearly = record {

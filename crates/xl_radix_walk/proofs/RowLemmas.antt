@@ -72,9 +72,6 @@ pub record WalkedRow (top space page : ℕ) (t new : Table) (cs after : List (Ca
   pub row : IsRow top (row_of new after)
   pub table : row_table top (row_of new after) ≡ table_walked space page (row_table top (row_of t cs))
 
-with-loads : Table → ℕ → Table
-with-loads t n = record t { loads = n }
-
 pub row-walked : (top space page : ℕ) (t new : Table) (cs looked after : List (Cached Item)) (found : Option Start) (from : Start) (e : WalkEnd) (path : List ℕ) → WordsReadBack top t.spaces t.leaves t.nodes t.words → page < 2 ^ 45 → IsRow top (row_of t cs) → IsStart top space page t.nodes cs found → from ≡ start_or top space found →
     caches_in 0 looked ≡ node_caches_after 0 (start_level 0 space page (caches_in 0 cs)) None space page [] (caches_in 0 cs) → length looked ≡ length cs → AreNumbered 0 t.nodes looked →
     e ≡ walk_end (leaf_at_page space page t.leaves) (end_level (top - 1) 0 space page t.leaves) → IsPath (end_level (top - 1) 0 space page t.leaves) from.level space page path t.nodes →

@@ -90,7 +90,3 @@ no-range space first o rs h named none =
     let n : IsNamedIn space first o rs = named-range space first o rs h named in
     let bad : None ≡ Some n.range = none ∙ n.found in
     absurd (cc)
-
--- A leaf that is in a range, by the range's own space.
-pub own-place : (space first : ℕ) (o : Order) (r : Range) → IsLeafIn space first o r → IsLeafIn r.space first o r
-own-place space first o r i = record { before = i.before; following = i.following; count = i.count; at = i.at; space_same = refl; order_same = i.order_same }

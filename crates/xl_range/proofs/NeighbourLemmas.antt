@@ -88,15 +88,6 @@ next-there x rs h = by-option (λ o. IsThere (next_where (of_space x.space o) x)
       | false ↦ tt
     ]
 
-pub prev-there : (x : Range) (rs : List Range) → IsHeld 0 rs → IsThere (prev_of x rs) rs
-prev-there x rs h = by-option (λ o. IsThere (prev_where (of_space x.space o) x) rs) (last_below (range_key x) rs) (λ e. tt) (λ q e. go q (last-prev 0 (range_key x) rs q h e).there)
-  where
-    go : (q : Range) → list_any (has_key (range_key q)) rs ≡ true → IsThere (prev_where (of_space x.space (Some q)) x) rs
-    go q t = elim (q.space == x.space) as (λ b. IsThere (prev_where (cond b (Some q) None) x) rs) [
-      | true ↦ elim (touches q x) as (λ b. IsThere (cond b (Some q) None) rs) [ true ↦ t | false ↦ tt ]
-      | false ↦ tt
-    ]
-
 pub next-is : (x q : Range) (rs : List Range) → IsHeld 0 rs → next_of x rs ≡ Some q → IsNext 0 (range_key x) q rs
 next-is x q rs h e = by-option (λ o. next_where (of_space x.space o) x ≡ Some q → IsNext 0 (range_key x) q rs) (first_from (range_key x) rs) (λ n f. absurd (cc)) (λ z n. here z (first-next 0 (range_key x) rs z h n)) e
   where

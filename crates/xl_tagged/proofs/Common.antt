@@ -1,6 +1,6 @@
 -- The names that this crate's proofs import from elsewhere, passed on from one place. Declares nothing.
 pub use Rattle.std.proofs.Common.{◌%◌, ◌&&◌, ◌*◌, ◌++◌, ◌+◌, ◌/◌, ◌<◌, ◌==◌, ◌^◌, ◌||◌, ◌∙◌, ◌∷◌, ◌≡◌, ◌≤◌, ◌⊎◌, [], ap, arith, Bool, cond, Err, false, inl, inr, length, length-append, List, lit<, map, nat_le, nat_lt, None, not, Ok, OnErr, Option, refl, Result, slice_index, slice_set, Some, subst, suc, sym, true, zero, ℕ}
-pub use Rattle.std.proofs.lemmas.Bool.{eq-eqb, eqb-true, ne_eqb}
+pub use Rattle.std.proofs.lemmas.Bool.{eq-eqb, eqb-true}
 pub use Rattle.std.proofs.lemmas.Bool.Decides.{nat_tests}
 pub use Rattle.std.proofs.lemmas.List.{length-map, length-set}
 pub use Rattle.std.specs.List.{list_any}

@@ -2,7 +2,7 @@
 use Rattle.xl_tagged.proofs.Common.{◌%◌, ◌*◌, ◌+◌, ◌/◌, ◌<◌, ◌==◌, ◌^◌, ◌∙◌, ◌∷◌, ◌≡◌, ◌≤◌, ◌⊎◌, [], ap, AreHeld, arith, at-level, false, Form, group_of, IfNone, IfSome, In, In-append, In-left, In-right, In-with, inl, inr, IsAt, IsFit, Leaf, leaf_in, leaf_key, leaf_read, leaf_said, leaf_tag, leaf_word, leaves_under, length, level-low, level_of, List, MadeWordsReadBack, mapping-In, mapping-sorted, mapping_of, nat_tests, None, Option, Order, order_at, pages_of, Perm, refl, same-place, same-sorted, slot_leaves, slot_of, small_known, Some, stays-with, subst, suc, sym, true, with_leaf, with_some, word_at, zero, ℕ}
 use Rattle.xl_pte.specs.Decode.{decode_of, SaysNone, SaysSmall}
 use Rattle.xl_pte.specs.declared.word.Pte.{Pte}
-use Rattle.xl_tagged.proofs.PlaceLemmas.{at-one, group-back, HasParts, IsSamePlace, number-back, slot-low, tag-parts}
+use Rattle.xl_tagged.proofs.PlaceLemmas.{group-back, HasParts, number-back, slot-low, tag-parts}
 use Rattle.xl_model.specs.declared.address.Order.TheVariants as order
 use Rattle.xl_pte.specs.declared.word.Pte.TheVariants as pte
 
@@ -34,16 +34,6 @@ pub leaf-some : MadeWordsReadBack → (x : Leaf) → IsFit x → leaf_word x.fra
 leaf-some back x fit e =
     let bad : Some x ≡ None = sym (read-leaf back x fit) ∙ ap (leaf_read x.space x.order (x.first / pages_of x.order)) e ∙ none-read x.space x.order (x.first / pages_of x.order) in
     absurd (cc)
-
--- leaves at one place with one word are one
-pub same-leaf : MadeWordsReadBack → (f : Form) (tag i : ℕ) (x y : Leaf) → IsFit x → IsFit y → IsAt f tag i x → IsAt f tag i y → leaf_word x.frame x.perm ≡ leaf_word y.frame y.perm → x ≡ y
-same-leaf back f tag i x y a b p q w =
-    let s : IsSamePlace x y = at-one f tag i x y a.aligned b.aligned p q in
-    let e : Some x ≡ Some y = sym (read-leaf back x a) ∙ ap (leaf_read x.space x.order (x.first / pages_of x.order)) w
-    ∙ ap (λ m. leaf_read m x.order (x.first / pages_of x.order) (leaf_word y.frame y.perm)) s.space_same
-    ∙ ap (λ o. leaf_read y.space o (x.first / pages_of o) (leaf_word y.frame y.perm)) s.order_same
-    ∙ ap (λ n. leaf_read y.space y.order (n / pages_of y.order) (leaf_word y.frame y.perm)) s.first_same ∙ read-leaf back y b in
-    cc
 
 -- a leaf is read at its place
 pub in-leaf : MadeWordsReadBack → (f : Form) (tag i : ℕ) (x : Leaf) → IsFit x → IsAt f tag i x → leaf_in f tag i (leaf_word x.frame x.perm) ≡ Some x

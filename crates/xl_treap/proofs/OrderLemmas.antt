@@ -24,10 +24,6 @@ pub within-le : (low high : ℕ) (xs : List Range) → Within low high xs → lo
 within-le low high [] h = h
 within-le low high (x ∷ xs) (a, f, b) = let c = within-le (end_key x) high xs b in let d = f.some in omega arith
 
-pub within-apart : (low high : ℕ) (xs : List Range) → Within low high xs → IsApart low xs
-within-apart low high [] h = tt
-within-apart low high (x ∷ xs) (a, f, b) = (a, f, within-apart (end_key x) high xs b)
-
 -- the parts before a range and after it
 pub within-split : (low high : ℕ) (ls : List Range) (x : Range) (rs : List Range) → Within low high (ls ++ x ∷ rs) → Within low (range_key x) ls × IsFit x × Within (end_key x) high rs
 within-split low high [] x rs (a, f, b) = (a, f, b)

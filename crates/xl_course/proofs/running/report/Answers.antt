@@ -1,5 +1,5 @@
 use Rattle.xl_course.proofs.Common.{account, course, Ends, Files, states_after}
-use Rattle.xl_course.proofs.FlushLemmas.{end_then, proceeds_flushed, no_memory_before}
+use Rattle.xl_course.proofs.FlushLemmas.{end_then, no_memory_before, proceeds_flushed}
 use Rattle.xl_course.proofs.KnownLemmas.{known_one}
 use Rattle.xl_course.proofs.running.report.Goals as goal
 
