@@ -1,6 +1,5 @@
 mod Common
 pub mod KickLemmas
 pub mod LoopLemmas
-pub mod StepLemmas
 pub mod KeyLemmas
 pub mod TableLemmas

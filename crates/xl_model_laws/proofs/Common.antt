@@ -33,8 +33,6 @@ unfoldable pub use Rattle.xl_model.specs.RowRun.{accessed, after_event, fenced, 
 pub use Rattle.xl_model.specs.Rows.{is_table, is_width, is_within, Row}
 pub use Rattle.xl_model.specs.Rules.{change_of}
 unfoldable pub use Rattle.xl_model.specs.Rules.{rule}
-pub use Rattle.xl_model.specs.Scenes.{Live, live_after, lives_after, opened, opening_scene, rows_after, scenes_after, Served, unprinted}
-unfoldable pub use Rattle.xl_model.specs.Scenes.{scene_after}
 pub use Rattle.xl_model.specs.Shapes.{brought, Chained, Cuckoo, CuckooRules, CuckooWays, is_placed, leaf_entry, narrowed, opening_ways, placed_leaf, Radix, Runs, Shape, ways_brought, ways_of, ways_placed, ways_taken, widened, with_ways}
 unfoldable pub use Rattle.xl_model.specs.Shapes.{opening_shape, shape_after}
 pub use Rattle.xl_model.specs.Structures.{after_by, answer_by, finds_place, Made, NoPlace, NoSpace, TableState, Verdict, verdict_by}
@@ -63,7 +61,6 @@ pub use Rattle.xl_model.specs.declared.script.Area.{Area}
 pub use Rattle.xl_model.specs.declared.script.Item.{Item}
 pub use Rattle.xl_model.specs.declared.way.Entry.{Entry}
 pub use Rattle.xl_model.specs.declared.way.Moves.{Moves}
-pub use Rattle.xl_model.specs.declared.way.WayRegs.{WayRegs}
 pub use Rattle.xl_model.specs.declared.work.NoRoom.{NoRoom}
 pub use Rattle.xl_model.specs.declared.work.Refused.{Refused}
 pub use Rattle.xl_model.specs.declared.work.Work.{Work}
@@ -81,4 +78,3 @@ pub use Rattle.xl_model_laws.specs.FreshCaches.{CachesFresh, LevelFresh, PageCov
 pub use Rattle.xl_model_laws.specs.Kinds.{alone, AnAccessNeedsItsArraysAlone, AnArrayForOthersStays, arrays_for, ArraysForAllTakeNoNoteOfKinds, AStoreLooksUpAsALoad, at_places, counts_for, StaysAt}
 pub use Rattle.xl_model_laws.specs.Nodes.{AreNodesOf, AreNumbered, HasNumbers, IsNodeOf, RoomIsForAllNodes, root_of, TheNodesAreTheMappings}
 pub use Rattle.xl_model_laws.specs.Runs.{AReplyIsByTheMapping, IsZeroBeyond, NothingIsCountedBeyondTheArrays, TheLeavesAreAMapping, TheLowestIsTheLeast, TheReadsAreTheLoads}
-pub use Rattle.xl_model_laws.specs.Scenes.{EachRowRunsByItself, ItemsMayBeServedInParts, PrintingChangesNoRow, ran_by, rows_by, ThePrintedTextOnlyGrows, WhatIsPrintedFirstIsFirst}

@@ -1,5 +1,5 @@
 -- What was read so far of a file that is known.
-use Rattle.xl_outside.proofs.Common.{◌++◌, ◌+◌, ◌∙◌, ◌≡◌, ◌≤◌, [], ap, arith, drop, file_of, Files, IfSome, length, length-append, length-take, List, None, Ok, Option, Some, subst, sym, take, take-add, take-take, ReadsFile, ℕ}
+use Rattle.xl_outside.proofs.Common.{◌++◌, ◌+◌, ◌∙◌, ◌≡◌, ◌≤◌, [], ap, arith, drop, file_of, Files, IfSome, length, length-append, length-take, List, None, Ok, Option, ReadsFile, Some, subst, sym, take, take-add, take-take, ℕ}
 
 -- nothing of a file that isn't there, and the first bytes of one that is
 abbrev pub IsFrontOf : Option (List ℕ) → List ℕ → Type 0

@@ -15,10 +15,7 @@ mod PathLemmas
 pub mod OpeningLemmas
 mod FreeLemmas
 mod LookLemmas
-pub mod FoundLemmas
-mod FilledLemmas
 pub mod LazyLemmas
-mod WalkLemmas
 mod TakenLeafLemmas
 pub mod FreedNodeLemmas
 mod RemovalLemmas

@@ -26,7 +26,6 @@ unfoldable pub use Rattle.xl_model.specs.Scenes.{item_lines, scene_after}
 pub use Rattle.xl_model.specs.declared.address.Kind.{Kind}
 pub use Rattle.xl_model.specs.declared.fault.InputFault.{InputFault}
 pub use Rattle.xl_model.specs.declared.fault.InputFault.TheVariants.{TraceTooLong}
-pub use Rattle.xl_model.specs.declared.row.Row.{Row as RowFields}
 pub use Rattle.xl_model.specs.declared.script.Area.{Area}
 pub use Rattle.xl_model.specs.declared.script.Command.{Command}
 pub use Rattle.xl_model.specs.declared.script.Item.{Item}
