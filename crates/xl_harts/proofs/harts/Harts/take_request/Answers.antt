@@ -114,25 +114,18 @@ index-requires c =
     let below : c.args.hart < length i.harts.items = take-hart s c.args.hart ruled in
     omega arith
 
-pub oldest_of-request-requires-clause-some : goal.oldest_of-request-requires-clause-some
-oldest_of-request-requires-clause-some c =
+pub oldest_of-request-requires : goal.oldest_of-request-requires
+oldest_of-request-requires c =
     let i = c.self.inside in
     let s : HartsState = state_of i.spec (row_table 3 i.table) i.requests.items i.harts.items i.current i.accepted i.refused in
     let kept = c.self.invariant.kept in
     let ruled : hart_refusal s (step.Take c.args.hart) ≡ None = rw (← c.self.view_is) at c.requires in
     let below : c.args.hart < length i.harts.items = take-hart s c.args.hart ruled in
     let first = c.index.ensures ∙ same-place i.harts.items c.args.hart c.index.result.now (opening_hart i.spec) below in
-    rw first (take-some s c.args.hart ruled)
-
-pub oldest_of-request-requires-clause-there : goal.oldest_of-request-requires-clause-there
-oldest_of-request-requires-clause-there c =
-    let i = c.self.inside in
-    let s : HartsState = state_of i.spec (row_table 3 i.table) i.requests.items i.harts.items i.current i.accepted i.refused in
-    let kept = c.self.invariant.kept in
-    let ruled : hart_refusal s (step.Take c.args.hart) ≡ None = rw (← c.self.view_is) at c.requires in
-    let below : c.args.hart < length i.harts.items = take-hart s c.args.hart ruled in
-    let first = c.index.ensures ∙ same-place i.harts.items c.args.hart c.index.result.now (opening_hart i.spec) below in
-    rw first (kept.each c.args.hart).waiting_in
+    record {
+      some = rw first (take-some s c.args.hart ruled);
+      there = rw first (kept.each c.args.hart).waiting_in;
+    }
 
 pub index_mut-requires : goal.index_mut-requires
 index_mut-requires c =
@@ -143,8 +136,8 @@ index_mut-requires c =
     let below : c.args.hart < length i.harts.items = take-hart s c.args.hart ruled in
     omega arith
 
-pub fence-requires-clause-some : goal.fence-requires-clause-some
-fence-requires-clause-some c =
+pub fence-requires : goal.fence-requires
+fence-requires c =
     let i = c.self.inside in
     let s : HartsState = state_of i.spec (row_table 3 i.table) i.requests.items i.harts.items i.current i.accepted i.refused in
     let kept = c.self.invariant.kept in
@@ -153,19 +146,10 @@ fence-requires-clause-some c =
     let at = c.index_mut.ensures.value ∙ same-place i.harts.items c.args.hart c.index_mut.result.now (opening_hart i.spec) below in
     let first = c.index.ensures ∙ same-place i.harts.items c.args.hart c.index.result.now (opening_hart i.spec) below in
     let request : c.oldest_of-request.result ≡ oldest (hart_at c.args.hart s) i.requests.items = c.oldest_of-request.ensures ∙ ap (λ (h : Hart). oldest h i.requests.items) first in
-    rw at (take-some s c.args.hart ruled)
-
-pub fence-requires-clause-fit : goal.fence-requires-clause-fit
-fence-requires-clause-fit c =
-    let i = c.self.inside in
-    let s : HartsState = state_of i.spec (row_table 3 i.table) i.requests.items i.harts.items i.current i.accepted i.refused in
-    let kept = c.self.invariant.kept in
-    let ruled : hart_refusal s (step.Take c.args.hart) ≡ None = rw (← c.self.view_is) at c.requires in
-    let below : c.args.hart < length i.harts.items = take-hart s c.args.hart ruled in
-    let at = c.index_mut.ensures.value ∙ same-place i.harts.items c.args.hart c.index_mut.result.now (opening_hart i.spec) below in
-    let first = c.index.ensures ∙ same-place i.harts.items c.args.hart c.index.result.now (opening_hart i.spec) below in
-    let request : c.oldest_of-request.result ≡ oldest (hart_at c.args.hart s) i.requests.items = c.oldest_of-request.ensures ∙ ap (λ (h : Hart). oldest h i.requests.items) first in
-    rw request (oldest-fit s kept c.args.hart ruled)
+    record {
+      some = rw at (take-some s c.args.hart ruled);
+      fit = rw request (oldest-fit s kept c.args.hart ruled);
+    }
 
 pub release_oldest-requires : goal.release_oldest-requires
 release_oldest-requires c =
