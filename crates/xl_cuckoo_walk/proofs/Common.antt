@@ -21,8 +21,7 @@ pub use Rattle.xl_model.specs.Changes.{at_page, Change, Insert, IsNamed, old_lea
 unfoldable pub use Rattle.xl_model.specs.Changes.{changed, with_both}
 pub use Rattle.xl_model.specs.Mapping.{covers, is_leaf, leaf_key, meets_block, with_leaf, without_leaf}
 unfoldable pub use Rattle.xl_model.specs.Mapping.{leaf_at_page, leaf_named, meets_any}
-pub use Rattle.xl_model.specs.Placing.{after_attempt, after_placing, AtCap, Attempt, by_occupant, Candidate, Displaced, Fails, forced, forced_moves, growths_left, holder_from, is_held, next_way, no_moves, Placed, Placing, put_in, settled, start_way, Succeeds, to_grow, way_at, with_growth}
-unfoldable pub use Rattle.xl_model.specs.Placing.{attempt, insertion, place, placing}
+pub use Rattle.xl_model.specs.Placing.{AtCap, attempt, Displaced, forced, growths_left, holder_from, insertion, is_held, next_way, no_moves, Placed, put_in, start_way, way_at}
 pub use Rattle.xl_model.specs.Recency.{purged, touched, with_newest, without_first}
 pub use Rattle.xl_model.specs.Room.{room_for}
 unfoldable pub use Rattle.xl_model.specs.Room.{has_room}
@@ -49,7 +48,7 @@ pub use Rattle.xl_model_lemmas.proofs.InsertionLemmas.{In-with, stays-with, with
 pub use Rattle.xl_model_lemmas.proofs.MappingLemmas.{named-In, named-is}
 pub use Rattle.xl_model_lemmas.proofs.OrderLemmas.{level-low, order-same, orders-same, pages-some, same-level}
 pub use Rattle.xl_model_lemmas.proofs.PlaceLemmas.{aligned-frame, covers-meets, first-covered, named-first, named-order, named-space}
-pub use Rattle.xl_model_lemmas.proofs.PlacingLemmas.{entries-same, forced-entries, one_of, set-length, settled-entries, swapped-adds}
+pub use Rattle.xl_model_lemmas.proofs.PlacingLemmas.{attempt-by, entries-same, forced-entries, insertion-by, one_of, placing-by, set-length, Succeeded, swapped-adds}
 pub use Rattle.xl_model_lemmas.proofs.SearchLemmas.{only, only-first}
 pub use Rattle.xl_model_lemmas.proofs.SectionLemmas.{count-keys, In-keys, keys-In, keys-once, small-block}
 pub use Rattle.xl_model_lemmas.proofs.WayTallyLemmas.{tally-same, ways-reworded, ways-without}

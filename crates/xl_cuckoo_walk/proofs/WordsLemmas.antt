@@ -1,5 +1,5 @@
 -- The words of sections that a leaf's coming or going leaves as they are.
-use Rattle.xl_cuckoo_walk.proofs.Common.{◌&&◌, ◌++◌, ◌+◌, ◌==◌, ◌||◌, ◌∙◌, ◌∷◌, ◌≡◌, [], after_attempt, after_placing, ap, arith, AtCap, Attempt, attempt, Bool, by_occupant, Candidate, cond, Count, count_of, counts_at, CuckooRules, CuckooWays, Displaced, entries_of, Entry, Fails, false, forced, forced-entries, forced_moves, growths_left, has_key, holder-same, holder_from, In, In-left, In-map, In-right, inl, insertion, is_held, IsSorted, IsTied, key_in, keys_from, keys_if, Leaf, leaf_entry, length, length-map, level_of, List, list_any, map, Moves, nat_le, nat_tests, new_word, next_way, no_moves, None, not, occupant, one_if, one_of, opening_way, Option, Order, order-same, page_key, part, place, Placed, placed_leaf, Placing, placing, put_in, refl, same_order, set-length, settled, settled-entries, slice_set, Some, start_way, subst, suc, Succeeds, swapped, swapped-adds, sym, tally, tally-any, to_grow, true, unit, way_at, way_where, ways_of, WayShape, with_growth, with_leaf, with_ways, without_entry, without_key, without_leaf, word-cons, word_by, zero, ℕ}
+use Rattle.xl_cuckoo_walk.proofs.Common.{◌&&◌, ◌++◌, ◌+◌, ◌==◌, ◌||◌, ◌∙◌, ◌∷◌, ◌≡◌, [], ap, arith, attempt, attempt-by, Bool, cond, Count, count_of, counts_at, CuckooRules, CuckooWays, Displaced, entries_of, Entry, false, forced, forced-entries, growths_left, has_key, holder-same, holder_from, In, In-left, In-map, In-right, inl, insertion, insertion-by, is_held, IsSorted, IsTied, key_in, keys_from, keys_if, Leaf, leaf_entry, length, length-map, level_of, List, list_any, map, Moves, nat_le, nat_tests, new_word, next_way, no_moves, None, not, occupant, one_if, one_of, opening_way, Option, Order, order-same, page_key, part, Placed, placed_leaf, placing-by, put_in, refl, same_order, set-length, slice_set, Some, start_way, subst, suc, Succeeded, swapped, swapped-adds, sym, tally, tally-any, true, unit, way_at, way_where, ways_of, WayShape, with_leaf, with_ways, without_entry, without_key, without_leaf, word-cons, word_by, zero, ℕ}
 use Rattle.std.proofs.Math.Seq.{map-set_same}
 use Rattle.xl_sections.specs.Counted.{word_of}
 use Rattle.xl_cuckoo_walk.proofs.CountLemmas.{Apart, word-less, word-with}
@@ -36,116 +36,49 @@ holder-set key [] at v e i = refl
 holder-set key (w ∷ ways) zero v e i = ap (λ b. cond b (Some i) (holder_from (i + 1) ways key)) e
 holder-set key (w ∷ ways) (suc at) v e i = ap (λ o. cond (is_held w key) (Some i) o) (holder-set key ways at v e (i + 1))
 
--- what was displaced stays in the log
-Known : Displaced → Attempt → Type 0
-Known d (Succeeds ways moved) = In d moved
-Known d Fails = Unit {0}
-
-moved-stays : (d : Displaced) (left : ℕ) (ways : List WayShape) (at : ℕ) (hand : Entry) (moved : List Displaced) → In d moved → Known d (attempt left ways at hand moved)
-unfolding attempt Known
-moved-stays d zero ways at hand moved i = go (occupant (way_at ways at) hand.key)
-  where
-    go : (o : Option Entry) → Known d (by_occupant o (Succeeds (put_in ways at hand) moved) (λ e. Fails))
-    go None = i
-    go (Some e) = tt
-moved-stays d (suc left) ways at hand moved i =
-    go (occupant (way_at ways at) hand.key)
-    (λ e. moved-stays d left (put_in ways at hand) (next_way (length ways) at) e (moved ++ record { key = e.key; way = next_way (length ways) at } ∷ []) (In-left d moved (record { key = e.key; way = next_way (length ways) at } ∷ []) i))
-  where
-    go : (o : Option Entry) → ((e : Entry) → Known d (attempt left (put_in ways at hand) (next_way (length ways) at) e (moved ++ record { key = e.key; way = next_way (length ways) at } ∷ [])))
-        → Known d (by_occupant o (Succeeds (put_in ways at hand) moved) (λ e. attempt left (put_in ways at hand) (next_way (length ways) at) e (moved ++ record { key = e.key; way = next_way (length ways) at } ∷ [])))
-    go None next = i
-    go (Some e) next = next e
-
 -- none of these was displaced
 abbrev pub NotIn : ℕ → List Displaced → Type 0
 NotIn key moved = (d : Displaced) → In d moved → Other key d.key
 
-Stay : ℕ → List WayShape → Attempt → Type 0
-Stay key ways (Succeeds after moved) = NotIn key moved → (length after ≡ length ways) × ((i : ℕ) → holder_from i after key ≡ holder_from i ways key)
-Stay key ways Fails = Unit {0}
+-- a key is held in these ways as in those
+abbrev HoldsAs : ℕ → List WayShape → List WayShape → Type 0
+HoldsAs key ways us = (length us ≡ length ways) × ((i : ℕ) → holder_from i us key ≡ holder_from i ways key)
 
-through : (key : ℕ) (ways mid : List WayShape) (d : Displaced) (r : Attempt) → Known d r → length mid ≡ length ways
-    → (Other key d.key → (i : ℕ) → holder_from i mid key ≡ holder_from i ways key) → (Other key d.key → Stay key mid r) → Stay key ways r
-unfolding Known Stay
-through key ways mid d (Succeeds after moved) t l h s = λ n. let o = n d t in let r = s o n in (r.0 ∙ l, λ i. r.1 i ∙ h o i)
-through key ways mid d Fails t l h s = tt
+put-stays : (key : ℕ) (ways us : List WayShape) (at : ℕ) (hand : Entry) (o : Option Entry) → occupant (way_at us at) hand.key ≡ o → Other key hand.key → OtherOf key o
+    → HoldsAs key ways us → HoldsAs key ways (put_in us at hand)
+put-stays key ways us at hand o e h k r = (
+  set-length us at (swapped (way_at us at) hand) ∙ r.0,
+  λ i. holder-set key us at (swapped (way_at us at) hand) (held-same key (way_at us at) hand o e h k) i ∙ r.1 i,
+)
 
-attempt-stays : (key left : ℕ) (ways : List WayShape) (at : ℕ) (hand : Entry) (moved : List Displaced) → Other key hand.key → Stay key ways (attempt left ways at hand moved)
-unfolding attempt Stay OtherOf
-attempt-stays key zero ways at hand moved h = go (occupant (way_at ways at) hand.key) refl
-  where
-    go : (o : Option Entry) → occupant (way_at ways at) hand.key ≡ o → Stay key ways (by_occupant o (Succeeds (put_in ways at hand) moved) (λ e. Fails))
-    go None e = λ n. (set-length ways at (swapped (way_at ways at) hand), holder-set key ways at (swapped (way_at ways at) hand) (held-same key (way_at ways at) hand None e h tt))
-    go (Some y) e = tt
-attempt-stays key (suc left) ways at hand moved h =
-    go (occupant (way_at ways at) hand.key) refl
-    (λ e o. attempt-stays key left (put_in ways at hand) (next_way (length ways) at) e (moved ++ record { key = e.key; way = next_way (length ways) at } ∷ []) o)
-  where
-    go : (o : Option Entry) → occupant (way_at ways at) hand.key ≡ o
-        → ((e : Entry) → Other key e.key → Stay key (put_in ways at hand) (attempt left (put_in ways at hand) (next_way (length ways) at) e (moved ++ record { key = e.key; way = next_way (length ways) at } ∷ [])))
-        → Stay key ways (by_occupant o (Succeeds (put_in ways at hand) moved) (λ e. attempt left (put_in ways at hand) (next_way (length ways) at) e (moved ++ record { key = e.key; way = next_way (length ways) at } ∷ [])))
-    go None e next = λ n. (set-length ways at (swapped (way_at ways at) hand), holder-set key ways at (swapped (way_at ways at) hand) (held-same key (way_at ways at) hand None e h tt))
-    go (Some y) e next =
-        let d : Displaced = record { key = y.key; way = next_way (length ways) at } in
-        through key ways (put_in ways at hand) d (attempt left (put_in ways at hand) (next_way (length ways) at) y (moved ++ d ∷ []))
-        (moved-stays d left (put_in ways at hand) (next_way (length ways) at) y (moved ++ d ∷ []) (In-right d moved (d ∷ []) (inl refl)))
-        (set-length ways at (swapped (way_at ways at) hand))
-        (λ o. holder-set key ways at (swapped (way_at ways at) hand) (held-same key (way_at ways at) hand (Some y) e h o))
-        (next y)
-
-PlacingStays : ℕ → List WayShape → Placing → Type 0
-PlacingStays key ways (Placed after moved m) = NotIn key moved → (length after ≡ length ways) × ((i : ℕ) → holder_from i after key ≡ holder_from i ways key)
-PlacingStays key ways (AtCap after m) = Unit {0}
-
-after-stays : (key : ℕ) (ways : List WayShape) (a : Attempt) (limit : ℕ) (m : Moves) (failed : Moves → Placing) → Stay key ways a → ((k : Moves) → PlacingStays key ways (failed k)) → PlacingStays key ways (after_attempt a limit m failed)
-unfolding Stay PlacingStays
-after-stays key ways (Succeeds after moved) limit m failed h next = h
-after-stays key ways Fails limit m failed h next = next _
-
-grown-stays : (key : ℕ) (ways mid : List WayShape) (p : Placing) → length mid ≡ length ways → ((i : ℕ) → holder_from i mid key ≡ holder_from i ways key) → PlacingStays key mid p → PlacingStays key ways p
-unfolding PlacingStays
-grown-stays key ways mid (Placed after moved m) l h s = λ n. let r = s n in (r.0 ∙ l, λ i. r.1 i ∙ h i)
-grown-stays key ways mid (AtCap after m) l h s = tt
-
-placing-stays : (key room limit : ℕ) (ways : List WayShape) (x : Entry) (m : Moves) → Other key x.key → PlacingStays key ways (placing room limit ways x m)
-unfolding placing PlacingStays
-placing-stays key zero limit ways x m h =
-    after-stays key ways (attempt limit ways (start_way (length ways) x.key) x []) limit m (λ n. AtCap ways n)
-    (attempt-stays key limit ways (start_way (length ways) x.key) x [] h) (λ n. tt)
-placing-stays key (suc room) limit ways x m h =
-    after-stays key ways (attempt limit ways (start_way (length ways) x.key) x []) limit m
-    (λ n. with_growth (to_grow 0 ways) (AtCap ways n) (λ i. placing room limit (slice_set ways i (forced (way_at ways i))) x (forced_moves (way_at ways i) n)))
-    (attempt-stays key limit ways (start_way (length ways) x.key) x [] h)
-    (λ n. grown (to_grow 0 ways) n (λ i.
-    grown-stays key ways (slice_set ways i (forced (way_at ways i))) (placing room limit (slice_set ways i (forced (way_at ways i))) x (forced_moves (way_at ways i) n))
-    (set-length ways i (forced (way_at ways i)))
-    (λ j. holder-same j (slice_set ways i (forced (way_at ways i))) ways key (map-set_same entries_of ways i (forced (way_at ways i)) (opening_way 0 0 0) (forced-entries (way_at ways i))))
-    (placing-stays key room limit (slice_set ways i (forced (way_at ways i))) x (forced_moves (way_at ways i) n) h)))
-  where
-    grown : (c : Option Candidate) (n : Moves) → ((i : ℕ) → PlacingStays key ways (placing room limit (slice_set ways i (forced (way_at ways i))) x (forced_moves (way_at ways i) n)))
-        → PlacingStays key ways (with_growth c (AtCap ways n) (λ i. placing room limit (slice_set ways i (forced (way_at ways i))) x (forced_moves (way_at ways i) n)))
-    grown None n next = tt
-    grown (Some c) n next = next c.way
+attempt-stays : (key left : ℕ) (ways us : List WayShape) (at : ℕ) (hand : Entry) → Other key hand.key → HoldsAs key ways us
+    → Succeeded (λ vs moved. NotIn key moved → HoldsAs key ways vs) (attempt left us at hand [])
+unfolding OtherOf
+attempt-stays key left ways us at hand h r =
+    attempt-by (λ vs at hand moved. NotIn key moved → Other key hand.key × HoldsAs key ways vs) (λ vs moved. NotIn key moved → HoldsAs key ways vs)
+    (λ vs at hand moved i none n. let k = i n in put-stays key ways vs at hand None none k.0 tt k.1)
+    (λ vs at hand moved y i some n.
+    let d : Displaced = record { key = y.key; way = next_way (length vs) at } in
+    let k = i (λ z j. n z (In-left z moved (d ∷ []) j)) in
+    let other : Other key y.key = n d (In-right d moved (d ∷ []) (inl refl)) in
+    (other, put-stays key ways vs at hand (Some y) some k.0 other k.1))
+    left us at hand [] (λ n. (h, r))
 
 -- after an insertion a key that didn't come and wasn't displaced is held by the way that held it
 pub insertion-stays : (key limit most threshold : ℕ) (ways after : List WayShape) (x : Entry) (moved : List Displaced) (m : Moves) → Other key x.key → NotIn key moved
     → insertion limit most threshold ways x ≡ Placed after moved m → (length after ≡ length ways) × (holder_from 0 after key ≡ holder_from 0 ways key)
-unfolding insertion place PlacingStays
-insertion-stays key limit most threshold ways after x moved m h n e = go (placing (growths_left ways) limit ways x no_moves) (placing-stays key (growths_left ways) limit ways x no_moves h) e
-  where
-    settled-length : (vs : List WayShape) → length (settled most threshold vs) ≡ length vs
-    settled-length vs = sym (length-map (settled most threshold vs) entries_of) ∙ ap length (settled-entries most threshold vs) ∙ length-map vs entries_of
-
-    go : (q : Placing) → PlacingStays key ways q → after_placing most threshold q ≡ Placed after moved m → (length after ≡ length ways) × (holder_from 0 after key ≡ holder_from 0 ways key)
-    go (Placed vs mv k) s t =
-        let same : settled most threshold vs ≡ after = cc in
-        let known : mv ≡ moved = cc in
-        let r = s (subst (λ l. NotIn key l) (sym known) n) in (
-          ap (λ (us : List WayShape). length us) (sym same) ∙ settled-length vs ∙ r.0,
-          ap (λ us. holder_from 0 us key) (sym same) ∙ holder-same 0 (settled most threshold vs) vs key (settled-entries most threshold vs) ∙ r.1 0,
-        )
-    go (AtCap vs k) s t = absurd (cc)
+insertion-stays key limit most threshold ways after x moved m h n e =
+    let C : List WayShape → List Displaced → Type 0 = λ us mv. NotIn key mv → HoldsAs key ways us in
+    let Q : List WayShape → Type 0 = λ us. HoldsAs key ways us in
+    let r = insertion-by C Q limit most threshold ways after x moved m
+    (placing-by C Q x limit (λ us k. attempt-stays key limit ways us (start_way (length us) x.key) x h k)
+    (λ us i k. (
+      set-length us i (forced (way_at us i)) ∙ k.0,
+      λ j. holder-same j (slice_set us i (forced (way_at us i))) us key (map-set_same entries_of us i (forced (way_at us i)) (opening_way 0 0 0) (forced-entries (way_at us i))) ∙ k.1 j,
+    ))
+    (growths_left ways) ways no_moves (refl, λ i. refl)) e in
+    let s = r.2 n in
+    (sym (length-map after entries_of) ∙ ap length r.1 ∙ length-map r.0 entries_of ∙ s.0, holder-same 0 after r.0 key r.1 ∙ s.1 0)
 
 -- the word of a section by its count and the holder of its key
 abbrev word_for : Order → ℕ → Option ℕ → ℕ

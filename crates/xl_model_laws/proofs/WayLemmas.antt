@@ -1,5 +1,5 @@
 -- Two keys of one way never have one slot, and a refused insertion keeps every key and word.
-use Rattle.xl_model_laws.proofs.Common.{◌%◌, ◌&&◌, ◌+◌, ◌-◌, ◌<◌, ◌==◌, ◌^◌, ◌∙◌, ◌∷◌, ◌≡◌, ◌≤◌, [], advanced, after_attempt, after_placing, ap, ARefusalKeepsEveryWord, arith, AtCap, Attempt, attempt, begun, begun_regs, Bool, Candidate, cond, entries_of, Entry, eq-eqb, Fails, false, find, find-passes, forced, forced-entries, forced_moves, growths_left, HasPointer, insertion, is_at, IsPointer, KeysHaveTheirSlots, length, List, map, MigratingMovesNoEntry, Moves, nat_lt, nat_tests, no_moves, None, occupant, one_if, opening_way, Option, place, Placed, Placing, placing, refl, regs_after, reworded, slice_set, slot, slot_at, slots_left, SlotsApart, Some, start_way, subst, suc, Succeeds, swapped, sym, tally, tally-none, tally-same, tally-with_entry, ThePointerIsBelowTheSlots, to_grow, true, way_at, WayShape, with_entry, with_growth, with_word, without_entry, without_key, without_occupant, zero, zero-add, ℕ}
+use Rattle.xl_model_laws.proofs.Common.{◌%◌, ◌&&◌, ◌+◌, ◌-◌, ◌<◌, ◌==◌, ◌^◌, ◌∙◌, ◌∷◌, ◌≡◌, ◌≤◌, [], advanced, after_placing, ap, ARefusalKeepsEveryWord, arith, AtCap, Attempt, attempt, begun, begun_regs, Bool, cond, entries_of, Entry, eq-eqb, Fails, false, find, find-passes, forced, forced-entries, growths_left, HasPointer, insertion, is_at, IsPointer, KeysHaveTheirSlots, length, List, map, MigratingMovesNoEntry, Moves, nat_lt, nat_tests, no_moves, None, occupant, one_if, opening_way, Option, place, Placed, PlacedBy, Placing, placing, placing-by, refl, regs_after, reworded, slice_set, slot, slot_at, slots_left, SlotsApart, Some, start_way, subst, Succeeded, Succeeds, swapped, sym, tally, tally-none, tally-same, tally-with_entry, ThePointerIsBelowTheSlots, true, way_at, WayShape, with_entry, with_word, without_entry, without_key, without_occupant, zero-add, ℕ}
 use Rattle.std.proofs.Math.Pow.{mod-mod-pow}
 use Rattle.std.proofs.Math.Seq.{map-set_same}
 use Rattle.std.proofs.lemmas.Nat.{pow_pos}
@@ -253,42 +253,22 @@ pub the_pointer_is_below_the_slots : ThePointerIsBelowTheSlots
 the_pointer_is_below_the_slots row items = run-each HasPointer pointer-keeps row items
 
 -- a refusal keeps every key and word
-AsBefore : List WayShape → Placing → Type 0
-AsBefore ways (Placed after moved m) = Unit {0}
-AsBefore ways (AtCap after m) = map entries_of after ≡ map entries_of ways
-
-after-before : (ways : List WayShape) (a : Attempt) (limit : ℕ) (m : Moves) (failed : Moves → Placing) → ((n : Moves) → AsBefore ways (failed n)) → AsBefore ways (after_attempt a limit m failed)
-unfolding AsBefore
-after-before ways (Succeeds after moved) limit m failed next = tt
-after-before ways Fails limit m failed next = next _
+abbrev AsBefore : List WayShape → Placing → Type 0
+AsBefore ways p = PlacedBy (λ us moved. Unit {0}) (λ us. map entries_of us ≡ map entries_of ways) p
 
 set-entries : (ways : List WayShape) (i : ℕ) → map entries_of (slice_set ways i (forced (way_at ways i))) ≡ map entries_of ways
 set-entries ways i = map-set_same entries_of ways i (forced (way_at ways i)) (opening_way 0 0 0) (forced-entries (way_at ways i))
 
-before-through : (ways grown : List WayShape) (p : Placing) → map entries_of grown ≡ map entries_of ways → AsBefore grown p → AsBefore ways p
-unfolding AsBefore
-before-through ways grown (Placed after moved m) e h = tt
-before-through ways grown (AtCap after m) e h = h ∙ e
-
 placing-before : (room limit : ℕ) (ways : List WayShape) (x : Entry) (m : Moves) → AsBefore ways (placing room limit ways x m)
-unfolding placing AsBefore
-placing-before zero limit ways x m =
-    after-before ways (attempt limit ways (start_way (length ways) x.key) x []) limit m (λ n. AtCap ways n) (λ n. refl)
-placing-before (suc room) limit ways x m =
-    after-before ways (attempt limit ways (start_way (length ways) x.key) x []) limit m
-    (λ n. with_growth (to_grow 0 ways) (AtCap ways n) (λ i. placing room limit (slice_set ways i (forced (way_at ways i))) x (forced_moves (way_at ways i) n)))
-    (λ n. grown (to_grow 0 ways) n
-    (λ i. before-through ways (slice_set ways i (forced (way_at ways i))) (placing room limit (slice_set ways i (forced (way_at ways i))) x (forced_moves (way_at ways i) n))
-    (set-entries ways i)
-    (placing-before room limit (slice_set ways i (forced (way_at ways i))) x (forced_moves (way_at ways i) n))))
+placing-before room limit ways x m =
+    placing-by (λ us moved. Unit {0}) (λ us. map entries_of us ≡ map entries_of ways) x limit
+    (λ us h. any (attempt limit us (start_way (length us) x.key) x [])) (λ us i h. set-entries us i ∙ h) room ways m refl
   where
-    grown : (c : Option Candidate) (n : Moves) → ((i : ℕ) → AsBefore ways (placing room limit (slice_set ways i (forced (way_at ways i))) x (forced_moves (way_at ways i) n)))
-        → AsBefore ways (with_growth c (AtCap ways n) (λ i. placing room limit (slice_set ways i (forced (way_at ways i))) x (forced_moves (way_at ways i) n)))
-    grown None n next = refl
-    grown (Some c) n next = next c.way
+    any : (a : Attempt) → Succeeded (λ us moved. Unit {0}) a
+    any (Succeeds us moved) = tt
+    any Fails = tt
 
 refused-before : (most threshold : ℕ) (ways after : List WayShape) (p : Placing) (m : Moves) → AsBefore ways p → after_placing most threshold p ≡ AtCap after m → map entries_of after ≡ map entries_of ways
-unfolding AsBefore
 refused-before most threshold ways after (Placed w moved n) m h e = absurd (cc)
 refused-before most threshold ways after (AtCap w n) m h e = let same : w ≡ after = cc in let P : List WayShape → Type 0 = λ z. map entries_of z ≡ map entries_of ways in subst P same h
 
