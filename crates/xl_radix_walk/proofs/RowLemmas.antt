@@ -1,5 +1,5 @@
 -- A walk of a row.
-use Rattle.xl_radix_walk.proofs.Common.{◌*◌, ◌+◌, ◌-◌, ◌<◌, ◌^◌, ◌∙◌, ◌∷◌, ◌≡◌, ◌≤◌, [], ap, AreNumbered, arith, Cached, caches_in, end_level, filled_by, IfNone, IfSome, is_some, IsPath, IsRow, Item, Leaf, leaf_at_page, leaf_known, length, List, nat_lt, nat_tests, Node, node_caches_after, None, number_of, Numbered, one_if, Option, plus, refl, row_of, row_table, Some, Start, start_level, start_or, subst, suc, sym, Table, table_walked, up, walk_answer, walk_end, walked, WalkEnd, WordsReadBack, zero, ℕ}
+use Rattle.xl_radix_walk.proofs.Common.{◌*◌, ◌+◌, ◌-◌, ◌<◌, ◌^◌, ◌∙◌, ◌∷◌, ◌≡◌, ◌≤◌, [], ap, AreNumbered, arith, Cached, caches_in, end_level, filled_by, IfNone, IfSome, is_some, IsPath, IsRow, Item, Leaf, leaf_at_page, leaf_known, length, List, nat_lt, nat_tests, Node, node_caches_after, None, number_of, Numbered, one_if, Option, plus, refl, row_of, row_table, Some, Start, start_level, start_or, subst, suc, sym, Table, table_walked, up, up-top, walk_answer, walk_end, walked, WalkEnd, WordsReadBack, ℕ}
 use Rattle.xl_radix_walk.proofs.FillLemmas.{filled, filled-length, numbered-filled}
 
 pub length-in : (level : ℕ) (cs : List (Cached Item)) → length (caches_in level cs) ≡ length cs
@@ -92,24 +92,6 @@ pub row-answer : (top space page : ℕ) (t : Table) (cs : List (Cached Item)) (f
     → record { leaf = r; cache_hits = one_if (is_some found) } ≡ walk_answer space page (row_table top (row_of t cs))
 unfolding walk_answer walked
 row-answer top space page t cs found r s f = rw (f, s.hits) refl
-
-pub page-low : (n page : ℕ) → n ≤ 5 → page < 2 ^ (9 * n) → page < 2 ^ 45
-page-low zero page h low = omega arith
-page-low (suc zero) page h low = omega arith
-page-low (suc (suc zero)) page h low = omega arith
-page-low (suc (suc (suc zero))) page h low = omega arith
-page-low (suc (suc (suc (suc zero)))) page h low = omega arith
-page-low (suc (suc (suc (suc (suc zero))))) page h low = omega arith
-page-low (suc (suc (suc (suc (suc (suc n)))))) page h low = absurd (omega arith)
-
-pub up-top : (n page : ℕ) → n ≤ 5 → page < 2 ^ (9 * n) → up n page ≡ 0
-up-top zero page h low = omega arith
-up-top (suc zero) page h low = omega arith
-up-top (suc (suc zero)) page h low = omega arith
-up-top (suc (suc (suc zero))) page h low = omega arith
-up-top (suc (suc (suc (suc zero)))) page h low = omega arith
-up-top (suc (suc (suc (suc (suc zero))))) page h low = omega arith
-up-top (suc (suc (suc (suc (suc (suc n)))))) page h low = absurd (omega arith)
 
 pub root-at : (top spaces space page : ℕ) (leaves : List Leaf) (nodes : List (Option Node)) (words : List ℕ) → WordsReadBack top spaces leaves nodes words → top ≤ 5 → page < 2 ^ (9 * top) → space < spaces
     → number_of space top (up top page) nodes ≡ Some space
