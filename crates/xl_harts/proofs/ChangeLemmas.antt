@@ -127,8 +127,7 @@ module _ (s : HartsState) (kept : IsKept s) (e : Event) (c : Change) (ruled : re
     pub harts-after : (capacity : ℕ) (pool : List Bool) → capacity ≡ s.spec.queue → IsPoolOf s.spec.frames (kept_leaves (mapping_changed (Some c) s)) pool
         → IsHarts (state_of s.spec t requests harts s.current (plus s.accepted 1) s.refused) capacity pool
     harts-after capacity pool room tie =
-        let P : HartsState → Type 0 = λ v. IsHarts v capacity pool in
-        subst P (sym changed-is) (record { kept = change-kept; pool_is = tie; room = room })
+        subst (λ (v : HartsState). IsHarts v capacity pool) (sym changed-is) (record { kept = change-kept; pool_is = tie; room = room })
 
 -- a map that nothing refuses
 module _ (s : HartsState) (kept : IsKept s) (space va : ℕ) (o : Order) (perm : Perm) (ruled : refusal_of (event.Map space va o perm) s ≡ None) (pool : List Bool)

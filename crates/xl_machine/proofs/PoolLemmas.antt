@@ -22,8 +22,7 @@ same-frames row leaves c old new f m s is_old is_new order frame = same-tests _ 
         elim (changed-In leaves c x.0 x.1) [
           | inl y ↦
               let same : y.0 ≡ new = (let e : Some y.0 ≡ Some new = sym y.1 ∙ is_new in cc) in
-              let P : Leaf → Type 0 = λ z. holds_frames f 1 z ≡ true in
-              In-any (holds_frames f 1) old leaves (old-In c leaves old is_old) (sym holds ∙ subst P (y.2 ∙ same) x.2)
+              In-any (holds_frames f 1) old leaves (old-In c leaves old is_old) (sym holds ∙ subst (λ (z : Leaf). holds_frames f 1 z ≡ true) (y.2 ∙ same) x.2)
           | inr i ↦ In-any (holds_frames f 1) x.0 leaves i x.2
         ]
 
@@ -32,8 +31,7 @@ same-frames row leaves c old new f m s is_old is_new order frame = same-tests _ 
     other false x h i t =
         In-any (holds_frames f 1) x (changed c leaves) (stays-changed row leaves c x m s i (λ y e same.
         let is : y ≡ old = (let q : Some y ≡ Some old = sym e ∙ is_old in cc) in
-        let P : Leaf → Type 0 = λ z. holds_frames f 1 z ≡ true in
-        let k : true ≡ false = sym (subst P (same ∙ is) t) ∙ h in
+        let k : true ≡ false = sym (subst (λ (z : Leaf). holds_frames f 1 z ≡ true) (same ∙ is) t) ∙ h in
         absurd (cc))) t
 
     after : list_any (holds_frames f 1) leaves ≡ true → list_any (holds_frames f 1) (changed c leaves) ≡ true

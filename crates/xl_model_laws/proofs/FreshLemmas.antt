@@ -138,14 +138,12 @@ made-shape row c leaves (Radix levels spaces nodes) kept m s room fresh full =
     subst P (sym (radix-after c leaves levels spaces nodes)) (made-radix row c leaves levels spaces nodes kept room fresh full)
 made-shape row c leaves (Chained group buckets entries tags) kept m s room fresh full =
     let new = chained-after c leaves group buckets entries tags in
-    let P : Shape → Type 0 = λ z. AfterFresh c leaves (Chained group buckets entries tags) kept z in
-    subst P (sym new.1) (any-chained group buckets entries new.0 _ (changed c leaves))
+    subst (λ (z : Shape). AfterFresh c leaves (Chained group buckets entries tags) kept z) (sym new.1) (any-chained group buckets entries new.0 _ (changed c leaves))
 made-shape row c leaves (Cuckoo rules ways) kept m s room fresh full =
     let P : Shape → Type 0 = λ z. AfterFresh c leaves (Cuckoo rules ways) kept z in
     subst P (sym (cuckoo-after c leaves rules ways)) (made-cuckoo c leaves rules ways (ways_taken c (old_leaf c leaves) (ways_brought rules (brought c leaves) ways)) kept fresh)
 made-shape row c leaves (Runs limit) kept m s room fresh full =
-    let P : Shape → Type 0 = λ z. AfterFresh c leaves (Runs limit) kept z in
-    subst P (sym (runs-after c leaves limit)) (made-runs row c leaves limit kept m s fresh)
+    subst (λ (z : Shape). AfterFresh c leaves (Runs limit) kept z) (sym (runs-after c leaves limit)) (made-runs row c leaves limit kept m s fresh)
 
 -- a refused attempt: the growths alone stay
 refused-shape : (leaf : Option Leaf) (leaves : List Leaf) (shape : Shape) (kept : Caches) → finds_place leaf shape ≡ false

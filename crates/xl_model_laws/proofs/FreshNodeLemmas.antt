@@ -62,8 +62,7 @@ wide-puts levels space l block leaf nodes room under below =
     let h : list_any (is_below leaf.space l (up l leaf.first)) (with_path leaf.space leaf.first (level_of leaf.order) (levels - 1 - level_of leaf.order) nodes) ≡ true =
     path-puts leaf.space leaf.first (level_of leaf.order) (levels - 1 - level_of leaf.order) nodes room l b (omega arith) in
     let P : ℕ → Type 0 = λ s. list_any (is_below s l (up l leaf.first)) (with_path leaf.space leaf.first (level_of leaf.order) (levels - 1 - level_of leaf.order) nodes) ≡ true in
-    let Q : ℕ → Type 0 = λ p. list_any (is_below space l p) (with_path leaf.space leaf.first (level_of leaf.order) (levels - 1 - level_of leaf.order) nodes) ≡ true in
-    subst Q c (subst P a h)
+    subst (λ (p : ℕ). list_any (is_below space l p) (with_path leaf.space leaf.first (level_of leaf.order) (levels - 1 - level_of leaf.order) nodes) ≡ true) c (subst P a h)
 
 -- a node that the mapping needs after a change is one that it needed, or the new leaf's
 pub new-brought : (c : Change) (leaves : List Leaf) (y : Leaf) → new_leaf c leaves ≡ Some y
@@ -82,8 +81,7 @@ new-brought (Protect space first o perm) leaves y h = go (leaf_named space first
 
 same-under : (space l block : ℕ) (y z : Leaf) → y.space ≡ z.space → y.first ≡ z.first → y.order ≡ z.order → is_under space l block y ≡ is_under space l block z
 same-under space l block y z a b c =
-    let P : Order → Type 0 = λ o. is_under space l block y ≡ ((y.space == space) && (nat_lt (level_of o) l && (up l y.first == block))) in
-    subst P c refl ∙ rw (a, b) refl
+    subst (λ (o : Order). is_under space l block y ≡ ((y.space == space) && (nat_lt (level_of o) l && (up l y.first == block)))) c refl ∙ rw (a, b) refl
 
 needed-after : (space l block : ℕ) (c : Change) (leaves : List Leaf) → in_nodes space l block (changed c leaves) ≡ true
     → ((y : Leaf) × (brought c leaves ≡ Some y) × (is_under space l block y ≡ true)) ⊎ (in_nodes space l block leaves ≡ true)
@@ -108,9 +106,8 @@ full-after levels c leaves nodes f room = record {
       kept-has levels space l block (changed c leaves) (wide levels (brought c leaves) nodes)
       (elim (needed-after space l block c leaves need) [
         | inl new ↦
-            let P : Option Leaf → Type 0 = λ b. HasPath levels b nodes in
             let Q : Option Leaf → Type 0 = λ b. list_any (is_below space l block) (wide levels b nodes) ≡ true in
-            subst Q (sym new.1) (wide-puts levels space l block new.0 nodes (subst P new.1 room) new.2 below)
+            subst Q (sym new.1) (wide-puts levels space l block new.0 nodes (subst (λ (b : Option Leaf). HasPath levels b nodes) new.1 room) new.2 below)
         | inr old ↦ wide-has levels space l block (brought c leaves) nodes (f.full space l block old below)
       ])
       need;
@@ -230,8 +227,7 @@ tag-walked levels level start (Some leaf) space page leaves nodes c f is below f
           let it : IsFound space page leaves leaf = is leaf refl in
           let under : is_under space (suc level) (up (suc level) page) leaf ≡ true = covered-under space page level leaf it.aligned.0 it.covers_page it.aligned.1 new.0 in
           let need : list_any (is_under space (suc level) (up (suc level) page)) leaves ≡ true = In-any (is_under space (suc level) (up (suc level) page)) leaf leaves it.member under in
-          let P : Numbered → Type 0 = λ x. TagFresh levels level leaves nodes x in
-          subst P (sym new.1) (numbered-fresh levels level space page leaves nodes f below need)
+          subst (λ (x : Numbered). TagFresh levels level leaves nodes x) (sym new.1) (numbered-fresh levels level space page leaves nodes f below need)
     ]
 
 pub tags-walked : (levels level start : ℕ) (found : Option Leaf) (space page : ℕ) (leaves : List Leaf) (nodes : List (Option Node)) (cs : List (Cached Numbered))

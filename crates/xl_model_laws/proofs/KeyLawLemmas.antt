@@ -118,9 +118,8 @@ key-place order.G1 s t f g d e a b c h k = (omega arith, omega arith)
 keys-apart : (x y : Leaf) → x.first < 2 ^ 45 → y.first < 2 ^ 45 → ((e : ℕ) × (x.first ≡ e * pages_of x.order)) → ((e : ℕ) × (y.first ≡ e * pages_of y.order))
     → y.order ≡ x.order → (leaf_entry y).key ≡ (leaf_entry x).key → leaf_key y ≡ leaf_key x
 keys-apart x y a b c d same k =
-    let P : Order → Type 0 = λ o. y.first ≡ d.0 * pages_of o in
     let Q : Order → Type 0 = λ o. y.space * 2 ^ 45 + y.first / pages_of o / 1 ≡ (leaf_entry x).key in
-    let r = key-place x.order y.space x.space y.first x.first d.0 c.0 b a (subst P same d.1) c.1 (subst Q same k) in
+    let r = key-place x.order y.space x.space y.first x.first d.0 c.0 b a (subst (λ (o : Order). y.first ≡ d.0 * pages_of o) same d.1) c.1 (subst Q same k) in
     let s : y.space ≡ x.space = r.0 in
     let f : y.first ≡ x.first = r.1 in
     omega arith
@@ -329,10 +328,9 @@ changed-counted row (Relocate space first to o) rules ws leaves m s placed h =
     go None e p = h
     go (Some old) e p =
         let is = named-is space first o old leaves e in
-        let P : Order → Type 0 = λ q. (n : ℕ) × (to ≡ n * pages_of q) in
         moved-counted row rules ws old (record old { first = to }) leaves m (named-In space first o old leaves e)
         (λ z i k. move-apart row leaves space to o old z m s (named-space space first o old is) i k)
-        (move-first row leaves space to o s) (subst P (sym (named-order space first o old is)) s.pages_aligned) p h
+        (move-first row leaves space to o s) (subst (λ (q : Order). (n : ℕ) × (to ≡ n * pages_of q)) (sym (named-order space first o old is)) s.pages_aligned) p h
 
 -- a refused attempt leaves every entry
 refused-counted : (rules : CuckooRules) (ws : CuckooWays) (leaf : Leaf) (leaves : List Leaf) → is_placed (placed_leaf rules ws leaf) ≡ false → IsCounted leaves ws

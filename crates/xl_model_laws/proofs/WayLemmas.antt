@@ -10,8 +10,7 @@ use Rattle.xl_model_laws.proofs.WayKeepLemmas.{run-each, WayKeeps}
 -- Slots of a growing way: the slot before is a function of the slot after, so keys apart stay apart.
 low-bits : (h s : ℕ) → h % 2 ^ (s + 1) % 2 ^ s ≡ h % 2 ^ s
 low-bits h s = let e : s + 1 ≡ 1 + s = omega arith in
-    let P : ℕ → Type 0 = λ k. h % 2 ^ k % 2 ^ s ≡ h % 2 ^ s in
-    subst P (sym e) (mod-mod-pow h 1 s)
+    subst (λ (k : ℕ). h % 2 ^ k % 2 ^ s ≡ h % 2 ^ s) (sym e) (mod-mod-pow h 1 s)
 
 -- the slot before, from the slot after
 abbrev pub before_slot : WayRegs → ℕ → ℕ
@@ -72,12 +71,10 @@ slot-back r n h at growing e = go (n == slots_left r) refl
     go : (b : Bool) → (n == slots_left r) ≡ b → slot_at r h ≡ before_slot r at
     go true t =
         let regs : regs_after n r ≡ record { s = r.s + 1; p = 0; growing = false } = rw t refl in
-        let P : WayRegs → Type 0 = λ q. slot_at q h ≡ at in
-        start (doubled-back r.p r.s at h (subst P regs e))
+        start (doubled-back r.p r.s at h (subst (λ (q : WayRegs). slot_at q h ≡ at) regs e))
     go false t =
         let regs : regs_after n r ≡ record { s = r.s; p = r.p + n; growing = true } = rw (t, growing) refl in
-        let P : WayRegs → Type 0 = λ q. slot_at q h ≡ at in
-        start (grown-back r.p n r.s at h (subst P regs e))
+        start (grown-back r.p n r.s at h (subst (λ (q : WayRegs). slot_at q h ≡ at) regs e))
 
 -- a way that isn't growing and begins to grow: every key stays in its slot
 pub begun-slot : (r : WayRegs) (h : ℕ) → r.growing ≡ false → slot_at (begun_regs r) h ≡ slot_at r h

@@ -83,8 +83,7 @@ section-walked size space page leaves ways false None c some fresh s i = fresh s
 section-walked size space page leaves ways true None c some fresh s i =
     elim (newest-In c.width s (section_of_page size space page leaves ways) c.items i) [
       | inl e ↦
-          let P : Section → Type 0 = λ z. SectionFresh size leaves (ways_of size ways) z in
-          subst P (sym e) (record { is = refl; some = some refl })
+          subst (λ (z : Section). SectionFresh size leaves (ways_of size ways) z) (sym e) (record { is = refl; some = some refl })
       | inr j ↦ fresh s j
     ]
 

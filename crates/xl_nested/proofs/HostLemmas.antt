@@ -186,8 +186,7 @@ module _ {stage : Stage} {pool : List Bool} {cache : Cached Leaf} (is : IsHost s
 
   pub old-frames : (space first : ℕ) (o : Order) (old : Leaf) → leaf_named space first o stage.leaves ≡ Some old → old.frame + pages_of o ≤ length pool
   old-frames space first o old e =
-      let P : Order → Type 0 = λ q. old.frame + pages_of q ≤ length pool in
-      subst P (old-order space first o old e) (is.mapping.valid old (named-In space first o old stage.leaves e)).frames_in
+      subst (λ (q : Order). old.frame + pages_of q ≤ length pool) (old-order space first o old e) (is.mapping.valid old (named-In space first o old stage.leaves e)).frames_in
 
   old-given : (space first : ℕ) (o : Order) (old : Leaf) → leaf_named space first o stage.leaves ≡ Some old
       → IsPoolOf (length pool) (changed (Remove space first o) stage.leaves) (marked pool old.frame (pages_of o) true)

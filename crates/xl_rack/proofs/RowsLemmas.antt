@@ -126,10 +126,9 @@ module _ {K : Type 0} (sink : SinkMeaning K) where
       next-known answers item areas i p q r k l m false v e h going x in
       let P : List ℕ → Type 0 = λ t. SinkAfter sink (line_where answers t) k m false in
       let upto : SinkAfter sink (line_where answers (rows_lines item areas (take (i + 1) p))) k m false = subst P (sym (lines-next item areas p i v e)) front in
-      let Q : List ℕ → Type 0 = λ t. SinkAfter sink t k m false in
       record {
         scene_is = tt;
-        writes = subst Q (ap (line_where answers) (sym (lines-parts item areas p (i + 1))) ∙ known-item answers item areas p)
+        writes = subst (λ (t : List ℕ). SinkAfter sink t k m false) (ap (line_where answers) (sym (lines-parts item areas p (i + 1))) ∙ known-item answers item areas p)
             (lines-cut sink answers (rows_lines item areas (take (i + 1) p)) (rows_lines item areas (drop (i + 1) p)) k m upto);
       }
 
@@ -147,6 +146,5 @@ module _ {K : Type 0} (sink : SinkMeaning K) where
 
   pub rows-cut : (rows : List Served) (i : ℕ) (k l : K) → SinkAfter sink (row_lines (take i rows)) k l false → SinkAfter sink (row_lines rows) k l false
   rows-cut rows i k l first =
-      let P : List ℕ → Type 0 = λ t. SinkAfter sink t k l false in
-      subst P (sym (row-lines-append (take i rows) (drop i rows)) ∙ ap row_lines (take-append-drop i rows))
+      subst (λ (t : List ℕ). SinkAfter sink t k l false) (sym (row-lines-append (take i rows) (drop i rows)) ∙ ap row_lines (take-append-drop i rows))
       (sink_cut sink (row_lines (take i rows)) (row_lines (drop i rows)) k l first)

@@ -22,8 +22,7 @@ end-is (suc n) a l space page leaves low high none last =
           elim last [
             | inl e ↦ absurd (omega arith)
             | inr k ↦
-                let P : ℕ → Type 0 = λ m. in_nodes space (suc m) (up (suc m) page) leaves ≡ true in
-                let here : in_nodes space (suc a) (up (suc a) page) leaves ≡ true = subst P (sym same) k in
+                let here : in_nodes space (suc a) (up (suc a) page) leaves ≡ true = subst (λ (m : ℕ). in_nodes space (suc m) (up (suc m) page) leaves ≡ true) (sym same) k in
                 rw here same
           ]
     ] refl

@@ -41,8 +41,7 @@ cut-calls space first o low r (y ∷ rs) i (above, is, stops, rest) (inl e) =
     let from = s.from in
     let to = s.to in
     let some = s.some in
-    let K : Range → Type 0 = λ z. IsHeld (end_key z) rs in
-    let held : IsHeld (end_key r) rs = subst K (sym e) rest in
+    let held : IsHeld (end_key r) rs = subst (λ (z : Range). IsHeld (end_key z) rs) (sym e) rest in
     let F : Range → Type 0 = λ z. kept_following (pages_following first o r) (part_following first o r) (kept_cut (pages_before first r) (range_key r) (z ∷ rs)) ≡ cut first o r (z ∷ rs) in
     subst F e (cut-front (pages_before first r) (pages_following first o r) (end_key r) r (part_following first o r) rs held (omega arith) (omega arith) ∙ sym (head-cut first o r rs))
 cut-calls space first o low r (y ∷ rs) i (above, is, stops, rest) (inr m) =

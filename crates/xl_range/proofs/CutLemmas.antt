@@ -22,8 +22,7 @@ following-held : (m b low : ℕ) (r x : Range) (rs : List Range) → m ≡ b * p
 following-held zero b low r x rs h p is stops le ends rest = lower low (end_key r) rs (omega arith) rest
 following-held (suc m) b low r x rs h p is stops le ends rest =
     let e : end_key r ≡ end_key x = omega arith in
-    let P : ℕ → Type 0 = λ k. IsHeld k rs in
-    (le, is (omega arith), stops (omega arith), subst P e rest)
+    (le, is (omega arith), stops (omega arith), subst (λ (k : ℕ). IsHeld k rs) e rest)
 
 before-held : (n a low top : ℕ) (r : Range) (ys : List Range) → n ≡ a * pages_of r.order → IsRange r → n ≤ r.pages → low ≤ range_key r → range_key r + n < top → IsHeld top ys → IsHeld low (before_on n r ys)
 before-held zero a low top r ys h is le above less held = lower low top ys (omega arith) held
@@ -48,18 +47,16 @@ following-range space first o r i is some = by-count i.following s.following_is
     by-count : (b : ℕ) → pages_following first o r ≡ b * pages_of o → IsRange (part_following first o r)
     by-count zero e = absurd (omega arith)
     by-count (suc b) e =
-        let P : Order → Type 0 = λ q. pages_following first o r ≡ suc b * pages_of q in
-        let Q : Order → Type 0 = λ q. (e : ℕ) × (first + pages_of o ≡ e * pages_of q) in
         let R : Order → Type 0 = λ q. r.start ≡ is.aligned.0 * pages_of q in
         let start : r.start ≡ is.aligned.0 * pages_of o = subst R i.order_same is.aligned.1 in
         let at : first ≡ r.start + i.before * pages_of o = i.at in
         let next : first + pages_of o ≡ (is.aligned.0 + i.before + 1) * pages_of o = mult is.aligned.0 i.before (pages_of o) r.start first start at in
         record {
-          leaves = (b, subst P (sym i.order_same) e);
+          leaves = (b, subst (λ (q : Order). pages_following first o r ≡ suc b * pages_of q) (sym i.order_same) e);
           space_in = is.space_in;
           pages_in = (let u = s.to in let v = is.pages_in in omega arith);
           frames_in = (let u = s.to in let v = is.frames_in in let w = s.from in omega arith);
-          aligned = subst Q (sym i.order_same) (is.aligned.0 + i.before + 1, next);
+          aligned = subst (λ (q : Order). (e : ℕ) × (first + pages_of o ≡ e * pages_of q)) (sym i.order_same) (is.aligned.0 + i.before + 1, next);
         }
       where
         mult : (e a p start first : ℕ) → start ≡ e * p → first ≡ start + a * p → first + p ≡ (e + a + 1) * p
@@ -133,12 +130,9 @@ head-spread space first o r rs i is rest =
     let b : ℕ = i.following in
     let s : Sizes first o r a b = sizes space first o r i in
     let x : Range = part_following first o r in
-    let P : Order → Type 0 = λ q. pages_before first r ≡ a * pages_of q in
-    let Q : Order → Type 0 = λ q. pages_following first o r ≡ b * pages_of q in
-    let C : Order → Type 0 = λ q. r.pages ≡ (a + suc b) * pages_of q in
-    let before : pages_before first r ≡ a * pages_of r.order = subst P (sym i.order_same) s.before_is in
-    let following : pages_following first o r ≡ b * pages_of r.order = subst Q (sym i.order_same) s.following_is in
-    let count : range_leaves r ≡ a + suc b = count-is r.order (a + suc b) r.pages (subst C (sym i.order_same) i.count) in
+    let before : pages_before first r ≡ a * pages_of r.order = subst (λ (q : Order). pages_before first r ≡ a * pages_of q) (sym i.order_same) s.before_is in
+    let following : pages_following first o r ≡ b * pages_of r.order = subst (λ (q : Order). pages_following first o r ≡ b * pages_of q) (sym i.order_same) s.following_is in
+    let count : range_leaves r ≡ a + suc b = count-is r.order (a + suc b) r.pages (subst (λ (q : Order). r.pages ≡ (a + suc b) * pages_of q) (sym i.order_same) i.count) in
     let m : Leaf = leap a (first_leaf r) in
     let split : run_on (a + suc b) (first_leaf r) (spread rs) ≡ run_on a (first_leaf r) (m ∷ run_on b (next_leaf m) (spread rs)) = run-add a (suc b) (first_leaf r) (spread rs) in
     let same_space : r.space ≡ space = i.space_same in
@@ -179,8 +173,7 @@ pub cut-spread : (space first : ℕ) (o : Order) (low : ℕ) (r : Range) (rs : L
 unfolding spread stays without_leaf
 cut-spread space first o low r [] i h m = absurd m
 cut-spread space first o low r (y ∷ rs) i (above, is, stops, rest) (inl e) =
-    let A : Range → Type 0 = λ z. AtHead low z rs in
-    let at : AtHead low r rs = subst A (sym e) (record { above = above; is = is; stops = stops; rest = rest }) in
+    let at : AtHead low r rs = subst (λ (z : Range). AtHead low z rs) (sym e) (record { above = above; is = is; stops = stops; rest = rest }) in
     let F : Range → Type 0 = λ z. spread (cut first o r (z ∷ rs)) ≡ filter (stays (space * 2 ^ 52 + first)) (spread (z ∷ rs)) in
     subst F e (ap spread (head-cut first o r rs) ∙ head-spread space first o r rs i at.is at.rest)
 cut-spread space first o low r (y ∷ rs) i (above, is, stops, rest) (inr m) =
@@ -203,17 +196,14 @@ cut-spread space first o low r (y ∷ rs) i (above, is, stops, rest) (inr m) =
 stops-cut : (space first : ℕ) (o : Order) (low : ℕ) (y r : Range) (rs : List Range) (i : IsLeafIn space first o r) → end_key y ≤ low → IsHeld low rs → In r rs → Stops y rs → Stops y (cut first o r rs)
 stops-cut space first o low y r [] i le h m stops = absurd m
 stops-cut space first o low y r (z ∷ rs) i le (above, is, next, rest) (inl e) stops =
-    let A : Range → Type 0 = λ w. AtHead low w rs in
-    let at : AtHead low r rs = subst A (sym e) (record { above = above; is = is; stops = next; rest = rest }) in
-    let T : Range → Type 0 = λ w. touches y w ≡ false in
-    let apart : touches y r ≡ false = subst T (sym e) stops in
+    let at : AtHead low r rs = subst (λ (w : Range). AtHead low w rs) (sym e) (record { above = above; is = is; stops = next; rest = rest }) in
+    let apart : touches y r ≡ false = subst (λ (w : Range). touches y w ≡ false) (sym e) stops in
     let F : Range → Type 0 = λ w. Stops y (cut first o r (w ∷ rs)) in
-    let S : List Range → Type 0 = λ ys. Stops y ys in
     let s : Sizes first o r i.before i.following = sizes space first o r i in
     let held : IsHeld (range_key r) (before_on (pages_before first r) r (following_on (pages_following first o r) (part_following first o r) rs)) = head-held space first o (range_key r) r rs i (omega arith) at.is at.stops at.rest in
     let some : 0 < r.pages = some-pages r at.is in
     let key : low ≤ range_key r = at.above in
-    subst F e (subst S (sym (head-cut first o r rs)) (head-stops (pages_before first r) (pages_following first o r) refl apart (omega arith) s at))
+    subst F e (subst (λ (ys : List Range). Stops y ys) (sym (head-cut first o r rs)) (head-stops (pages_before first r) (pages_following first o r) refl apart (omega arith) s at))
   where
     head-stops : (n m : ℕ) → n ≡ pages_before first r → touches y r ≡ false → end_key y ≤ range_key r → Sizes first o r i.before i.following → AtHead low r rs → Stops y (before_on n r (following_on m (part_following first o r) rs))
     head-stops zero zero e apart le s at = let p = some-pages r at.is in stops-far (end_key r) y rs (omega arith) at.rest
@@ -225,20 +215,16 @@ stops-cut space first o low y r (z ∷ rs) i le (above, is, next, rest) (inl e) 
 stops-cut space first o low y r (z ∷ rs) i le (above, is, next, rest) (inr m) stops =
     let some : 0 < z.pages = some-pages z is in
     let key : end_key z ≤ range_key r = In-key (end_key z) r rs rest m in
-    let S : List Range → Type 0 = λ ys. Stops y ys in
-    subst S (sym (next-cut first o z r rs (omega arith))) stops
+    subst (λ (ys : List Range). Stops y ys) (sym (next-cut first o z r rs (omega arith))) stops
 
 pub held-cut : (space first : ℕ) (o : Order) (low : ℕ) (r : Range) (rs : List Range) (i : IsLeafIn space first o r) → IsHeld low rs → In r rs → IsHeld low (cut first o r rs)
 held-cut space first o low r [] i h m = absurd m
 held-cut space first o low r (y ∷ rs) i (above, is, stops, rest) (inl e) =
-    let A : Range → Type 0 = λ z. AtHead low z rs in
-    let at : AtHead low r rs = subst A (sym e) (record { above = above; is = is; stops = stops; rest = rest }) in
-    let F : Range → Type 0 = λ z. IsHeld low (cut first o r (z ∷ rs)) in
+    let at : AtHead low r rs = subst (λ (z : Range). AtHead low z rs) (sym e) (record { above = above; is = is; stops = stops; rest = rest }) in
     let H : List Range → Type 0 = λ ys. IsHeld low ys in
-    subst F e (subst H (sym (head-cut first o r rs)) (head-held space first o low r rs i at.above at.is at.stops at.rest))
+    subst (λ (z : Range). IsHeld low (cut first o r (z ∷ rs))) e (subst H (sym (head-cut first o r rs)) (head-held space first o low r rs i at.above at.is at.stops at.rest))
 held-cut space first o low r (y ∷ rs) i (above, is, stops, rest) (inr m) =
     let some : 0 < y.pages = some-pages y is in
     let key : end_key y ≤ range_key r = In-key (end_key y) r rs rest m in
-    let H : List Range → Type 0 = λ ys. IsHeld low ys in
-    subst H (sym (next-cut first o y r rs (omega arith)))
+    subst (λ (ys : List Range). IsHeld low ys) (sym (next-cut first o y r rs (omega arith)))
     (above, is, stops-cut space first o (end_key y) y r rs i (omega arith) rest m stops, held-cut space first o (end_key y) r rs i rest m)

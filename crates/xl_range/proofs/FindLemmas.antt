@@ -102,8 +102,7 @@ find-spread space page low (r ∷ rs) (above, is, stops, rest) =
           let to : page < r.start + r.pages = grind (arith, nat_tests) in
           find-in space page n (first_leaf r) (spread rs) same from (omega arith) ∙ ap Some (off-is r page)
       | false ↦ λ t.
-          let P : ℕ → Type 0 = λ k. ((r.space == space) && (nat_le r.start page && nat_lt page (r.start + k))) ≡ false in
-          find-out space page n (first_leaf r) (spread rs) (subst P pages t) ∙ tail
+          find-out space page n (first_leaf r) (spread rs) (subst (λ (k : ℕ). ((r.space == space) && (nat_le r.start page && nat_lt page (r.start + k))) ≡ false) pages t) ∙ tail
     ] refl)
 
 pub at-page : (space page : ℕ) (r : Range) → IsFit r → holds_page space page r ≡ true → IsAt page r
@@ -112,8 +111,7 @@ at-page space page r fit h = record { fit = fit; from = grind (arith, nat_tests)
 pub find-held : (space page low : ℕ) (r : Range) (rs : List Range) → IsHeld low rs → In r rs → holds_page space page r ≡ true → find (holds_page space page) rs ≡ Some r
 find-held space page low r [] h i t = absurd i
 find-held space page low r (x ∷ rs) h (inl e) t =
-    let P : Range → Type 0 = λ z. holds_page space page z ≡ true in
-    let u : holds_page space page x ≡ true = subst P e t in
+    let u : holds_page space page x ≡ true = subst (λ (z : Range). holds_page space page z ≡ true) e t in
     rw u (ap Some (sym e))
 find-held space page low r (x ∷ rs) (above, is, stops, rest) (inr i) t =
     let after : end_key x ≤ range_key r = In-key (end_key x) r rs rest i in
@@ -181,8 +179,7 @@ found-range space first o rs r h named found =
     let n : IsNamedIn space first o rs = named-range space first o rs h named in
     let some : Some n.range ≡ Some r = sym n.found ∙ sym found in
     let same : n.range ≡ r = cc in
-    let P : Range → Type 0 = λ z. HasLeaf space first o rs z in
-    subst P same n.has
+    subst (λ (z : Range). HasLeaf space first o rs z) same n.has
 
 pub no-range : (space first : ℕ) (o : Order) (rs : List Range) → IsHeld 0 rs → IsNamed space first o (spread rs) → None ≡ find (holds_page space first) rs → ⊥
 no-range space first o rs h named none =

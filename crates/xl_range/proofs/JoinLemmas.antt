@@ -28,8 +28,7 @@ held-glue low x (q ∷ qs) le is (above, also, stops, rest) =
       | true ↦ λ t.
           let k : Touch x q = touch x q t in
           let e : end_key (grown x q) ≡ end_key q = let f : end_key x ≡ range_key q = touch-key x q k in omega arith in
-          let P : ℕ → Type 0 = λ n. IsHeld n qs in
-          (le, grown-range x q k is also, stops-grown x q qs k stops, subst P (sym e) rest)
+          (le, grown-range x q k is also, stops-grown x q qs k stops, subst (λ (n : ℕ). IsHeld n qs) (sym e) rest)
       | false ↦ λ t. (le, is, t, (above, also, stops, rest))
     ] refl
 
@@ -66,9 +65,8 @@ held-join low x (r ∷ rs) (above, also, stops, rest) le is (apart, clear) =
                 let k : Touch r x = touch r x t in
                 let f : end_key r ≡ range_key x = touch-key r x k in
                 let e : end_key (grown r x) ≡ end_key x = omega arith in
-                let P : ℕ → Type 0 = λ n. IsHeld n rs in
                 let following : IsHeld (end_key x) rs = held-following (end_key r) x rs rest clear (omega arith) in
-                held-glue low (grown r x) rs above (grown-range r x k also is) (subst P (sym e) following)
+                held-glue low (grown r x) rs above (grown-range r x k also is) (subst (λ (n : ℕ). IsHeld n rs) (sym e) following)
             | false ↦ λ t. (above, also, stops-join r x rs stops t, held-join (end_key r) x rs rest ends is clear)
           ] refl
       | false ↦ λ l.

@@ -36,10 +36,9 @@ protect-done space first o perm n t cutt new r l whole k ec el test en =
     let is : changed (Protect space first o perm) (spread t.kept) ≡ with_leaf (record l { perm = perm }) (spread cutt.kept) =
     given-leaves space first o perm t r l whole.held k el ∙ ap (λ (rs : List Range). with_leaf (record l { perm = perm }) (spread rs)) (sym (kept-is t cutt (cut first o r t.kept) ec)) in
     let all : new ≡ keeping t (join x cutt.kept) = en ∙ ap (λ (v : TreapView). keeping v (join x cutt.kept)) ec in
-    let L : List Leaf → Type 0 = λ xs. HasRanges xs t new in
     record {
       room = test ∙ ap (λ (xs : List Range). nat_le (length xs) n) (sym a.ranges) ∙ ap (λ (xs : List Leaf). nat_le (length (ranges_of xs)) n) (sym is) ∙ sym (protect-room space first o perm (spread t.kept) n);
-      made = λ e. subst L (sym is) (has-ranges t new (join x cutt.kept) (with_leaf (record l { perm = perm }) (spread cutt.kept)) all a);
+      made = λ e. subst (λ (xs : List Leaf). HasRanges xs t new) (sym is) (has-ranges t new (join x cutt.kept) (with_leaf (record l { perm = perm }) (spread cutt.kept)) all a);
       same = λ f. absurd (cc);
     }
 
@@ -104,7 +103,6 @@ moving space first to o n t r l whole k is block free =
     let that : IsThat space first o l = is-that space first o l (spread t.kept) named in
     let p : CanPutLeaf n (keeping t (cut first o r t.kept)) (record l { perm = l.perm }) = cut-can space first o n t (keeping t (cut first o r t.kept)) r l.perm l whole k refl is in
     let low = block.pages_in in
-    let A : Order → Type 0 = λ q. (e : ℕ) × (to ≡ e * pages_of q) in
     let M : ℕ → Type 0 = λ s. meets_any s to o (spread t.kept) ≡ false in
     let O : Order → Type 0 = λ q. meets_any l.space to q (spread t.kept) ≡ false in
     let S : ℕ → Type 0 = λ s. s < 64 in
@@ -121,7 +119,7 @@ moving space first to o n t r l whole k is block free =
         space_in = p.range.space_in;
         pages_in = omega arith;
         frames_in = p.range.frames_in;
-        aligned = subst A (sym that.order_same) block.aligned;
+        aligned = subst (λ (q : Order). (e : ℕ) × (to ≡ e * pages_of q)) (sym that.order_same) block.aligned;
       };
       clear = clear-any (record l { first = to }) t.kept whole.held (omega arith) (subst O (sym that.order_same) (subst M (sym that.space_same) free));
     }

@@ -33,9 +33,8 @@ first-next low k (r ∷ rs) q (above, is, stops, rest) e =
           record { low_in = (let a = n.low_in in omega arith); from = n.from; range = n.range; there = or-second (has_key (range_key q) r) (list_any (has_key (range_key q)) rs) n.there }
       | false ↦ λ t f.
           let same : r ≡ q = cc in
-          let P : Range → Type 0 = λ z. IsNext low k z (r ∷ rs) in
           let own : has_key (range_key r) r ≡ true = grind (arith, nat_tests) in
-          subst P same (record { low_in = above; from = grind (arith, nat_tests); range = is; there = rw own refl })
+          subst (λ (z : Range). IsNext low k z (r ∷ rs)) same (record { low_in = above; from = grind (arith, nat_tests); range = is; there = rw own refl })
     ] refl e
   where
     or-second : (a b : Bool) → b ≡ true → (a || b) ≡ true
@@ -66,9 +65,8 @@ last-prev low k (r ∷ rs) p (above, is, stops, rest) e =
     go : (o : Option Range) → last_below k rs ≡ o → last_or r (last_below k rs) ≡ p → range_key r < k → ((z : Range) → last_below k rs ≡ Some z → IsPrev (end_key r) k z rs) → IsPrev low k p (r ∷ rs)
     go None o f less more =
         let same : r ≡ p = rw o at f in
-        let P : Range → Type 0 = λ z. IsPrev low k z (r ∷ rs) in
         let own : has_key (range_key r) r ≡ true = grind (arith, nat_tests) in
-        subst P same (record { low_in = above; below = less; range = is; there = rw own refl })
+        subst (λ (z : Range). IsPrev low k z (r ∷ rs)) same (record { low_in = above; below = less; range = is; there = rw own refl })
     go (Some z) o f less more =
         let same : z ≡ p = rw o at f in
         let P : Range → Type 0 = λ w. IsPrev low k w (r ∷ rs) in

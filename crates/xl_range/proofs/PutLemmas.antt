@@ -149,18 +149,15 @@ pub record IsReady (x : Range) (rs : List Range) (y : Range) (next prev : Option
 pub ready : (x : Range) (rs : List Range) (y : Range) (next prev : Option Range) → IsHeld 0 rs → IsRange x → IsClear x rs
     → y ≡ x → next ≡ next_of y rs → prev ≡ prev_of y rs → IsReady x rs y next prev
 ready x rs y next prev h is clear ex en ep =
-    let R : Range → Type 0 = λ z. IsRange z in
     let all : put_by next prev y rs ≡ put_by (next_of x rs) (prev_of x rs) x rs =
     ap (λ (m : Option Range). put_by m prev y rs) en ∙ ap (λ (p : Option Range). put_by (next_of y rs) p y rs) ep ∙ ap (λ (z : Range). put_by (next_of z rs) (prev_of z rs) z rs) ex in
     let same : put_by next prev y rs ≡ join x rs = all ∙ put-join 0 x rs h is clear in
-    let H : List Range → Type 0 = λ ys. IsApart 0 ys in
-    let N : List Range → Type 0 = λ ys. length ys + (one_if next + one_if prev) ≡ suc (length rs) in
     let there : IsThere next rs = (let T : Option Range → Type 0 = λ o. IsThere o rs in subst T (sym en) (next-there y rs h)) in
     record {
-      can = can-put y rs next prev h (subst R (sym ex) is) en ep;
+      can = can-put y rs next prev h (subst (λ (z : Range). IsRange z) (sym ex) is) en ep;
       same = same;
-      apart = subst H (sym same) (apart-held 0 (join x rs) (held-join 0 x rs h (omega arith) is clear));
-      count = subst N same (put-length next prev y rs there);
+      apart = subst (λ (ys : List Range). IsApart 0 ys) (sym same) (apart-held 0 (join x rs) (held-join 0 x rs h (omega arith) is clear));
+      count = subst (λ (ys : List Range). length ys + (one_if next + one_if prev) ≡ suc (length rs)) same (put-length next prev y rs there);
     }
 
 -- the same, of the ranges that are found beside the place

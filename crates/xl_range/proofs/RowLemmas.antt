@@ -31,8 +31,7 @@ find-filter p q x (y ∷ ys) e t =
     elim (p y) as (λ b. p y ≡ b → cond b (Some y) (find p ys) ≡ Some x → find p (filter q (y ∷ ys)) ≡ Some x) [
       | true ↦ λ u f.
           let same : y ≡ x = cc in
-          let P : Leaf → Type 0 = λ z. q z ≡ true in
-          let v : q y ≡ true = subst P (sym same) t in
+          let v : q y ≡ true = subst (λ (z : Leaf). q z ≡ true) (sym same) t in
           rw (v, u) f
       | false ↦ λ u f. elim (q y) as (λ b. find p (cond b (y ∷ filter q ys) (filter q ys)) ≡ Some x) [
         | true ↦ rw u (find-filter p q x ys f t)
@@ -209,12 +208,11 @@ change-made c n t new k left b w row done now is work fresh =
     let has : has_room c (spread t.kept) (Runs n) ≡ true = sym done.room ∙ now in
     let same : ranges_of (changed c (spread t.kept)) ≡ new.kept = ap ranges_of (sym h.leaves) ∙ ranges-spread 0 new.kept h.held in
     let few : length (ranges_of (changed c (spread t.kept))) ≤ n = room-few c (spread t.kept) n has in
-    let L : List Range → Type 0 = λ rs. length rs ≤ n in
     let F : List Leaf → Type 0 = λ xs. AllFresh xs left.items in
     let loads : new.loads ≡ t.loads = ap (λ (v : TreapView). v.loads) h.rest in
     let m = made c n t new k has (sym h.leaves) loads in
     record {
-      row = record { whole = whole-rest n t new row.whole h.rest h.held (subst L same few); fresh = subst F (sym h.leaves) fresh };
+      row = record { whole = whole-rest n t new row.whole h.rest h.held (subst (λ (rs : List Range). length rs ≤ n) same few); fresh = subst F (sym h.leaves) fresh };
       changes = record {
         answer = ap Ok (work ∙ ap (λ (x : Cached Range). work_of no_moves (length k.items - length x.items)) is) ∙ sym m.answer;
         after = ap (row_of n new) is ∙ sym m.after;
@@ -228,9 +226,8 @@ unfolding table_answer table_after
 change-refused c n t new k b w row done not_made is =
     let e : new ≡ t = done.same not_made in
     let v : verdict c (row_of n t k) ≡ NoSpace = is-refused c n t k (sym done.room ∙ not_made) in
-    let R : TreapView → Type 0 = λ x. IsRow n x k in
     record {
-      row = subst R (sym e) row;
+      row = subst (λ (x : TreapView). IsRow n x k) (sym e) row;
       changes = record {
         answer = ap Err is ∙ sym (ap (λ (v : Verdict). answer_by v c (row_of n t k)) v);
         after = ap (λ (x : TreapView). row_of n x k) e ∙ sym (ap (λ (v : Verdict). after_by v c (row_of n t k)) v);

@@ -15,8 +15,7 @@ run-In : (n : ℕ) (l z : Leaf) (rest : List Leaf) → In z (run_on n l rest) �
 run-In zero l z rest i = inr i
 run-In (suc n) l z rest (inl e) =
     let p : ℕ = pages_of l.order in
-    let P : Leaf → Type 0 = λ y. IsPlacedIn l.space (leaf_key l) (leaf_key l + suc n * p) y in
-    inl (subst P (sym e) (record { space_same = refl; from = omega arith; to = omega arith }))
+    inl (subst (λ (y : Leaf). IsPlacedIn l.space (leaf_key l) (leaf_key l + suc n * p) y) (sym e) (record { space_same = refl; from = omega arith; to = omega arith }))
 run-In (suc n) l z rest (inr i) =
     let p : ℕ = pages_of l.order in
     elim (run-In n (next_leaf l) z rest i) [
@@ -40,8 +39,7 @@ spread-In low (r ∷ rs) z (above, is, stops, rest) i =
     let p : ℕ = pages_of r.order in
     let count : range_leaves r ≡ suc is.leaves.0 = leaves-is r is in
     let pages : r.pages ≡ suc is.leaves.0 * p = is.leaves.1 in
-    let F : ℕ → Type 0 = λ n. In z (run_on n (first_leaf r) (spread rs)) in
-    elim (run-In (suc is.leaves.0) (first_leaf r) z (spread rs) (subst F count i)) [
+    elim (run-In (suc is.leaves.0) (first_leaf r) z (spread rs) (subst (λ (n : ℕ). In z (run_on n (first_leaf r) (spread rs))) count i)) [
       | inl s ↦
           let from = s.from in
           let to = s.to in

@@ -97,15 +97,12 @@ pub clear-cut : (space first : ℕ) (o : Order) (low : ℕ) (x r : Range) (rs : 
     → range_key x ≡ space * 2 ^ 52 + first → x.pages ≡ pages_of o → IsClear x (cut first o r rs)
 clear-cut space first o low x r [] i h m key pages = absurd m
 clear-cut space first o low x r (y ∷ rs) i (above, is, stops, rest) (inl e) key pages =
-    let A : Range → Type 0 = λ z. AtHead low z rs in
-    let at : AtHead low r rs = subst A (sym e) (record { above = above; is = is; stops = stops; rest = rest }) in
-    let F : Range → Type 0 = λ z. IsClear x (cut first o r (z ∷ rs)) in
-    let S : List Range → Type 0 = λ ys. IsClear x ys in
+    let at : AtHead low r rs = subst (λ (z : Range). AtHead low z rs) (sym e) (record { above = above; is = is; stops = stops; rest = rest }) in
     let s : Sizes first o r i.before i.following = sizes space first o r i in
     let from = s.from in
     let to = s.to in
     let same : r.space ≡ space = i.space_same in
-    subst F e (subst S (sym (head-cut first o r rs))
+    subst (λ (z : Range). IsClear x (cut first o r (z ∷ rs))) e (subst (λ (ys : List Range). IsClear x ys) (sym (head-cut first o r rs))
     (clear-before (pages_before first r) x r (following_on (pages_following first o r) (part_following first o r) rs) (omega arith)
     (clear-following (pages_following first o r) x (part_following first o r) rs (omega arith) (clear-high (end_key r) x rs (omega arith) at.rest))))
 clear-cut space first o low x r (y ∷ rs) i (above, is, stops, rest) (inr m) key pages =
@@ -114,8 +111,7 @@ clear-cut space first o low x r (y ∷ rs) i (above, is, stops, rest) (inr m) ke
     let s : Sizes first o r i.before i.following = sizes space first o r i in
     let from = s.from in
     let same : r.space ≡ space = i.space_same in
-    let S : List Range → Type 0 = λ ys. IsClear x ys in
-    subst S (sym (next-cut first o y r rs (omega arith)))
+    subst (λ (ys : List Range). IsClear x ys) (sym (next-cut first o y r rs (omega arith)))
     (inl (omega arith), clear-cut space first o (end_key y) x r rs i rest m key pages)
 
 most-if : (a b : ℕ) → some_if a + some_if b ≤ 2
@@ -155,8 +151,7 @@ leaf-at space first o r rs h k =
 part-range : (space first : ℕ) (o : Order) (r : Range) (perm : Perm) (i : IsLeafIn space first o r) → IsRange r → IsRange (range_of_leaf (record (leap i.before (first_leaf r)) { perm = perm }))
 unfolding leap
 part-range space first o r perm i is =
-    let C : Order → Type 0 = λ q. r.pages ≡ (i.before + suc i.following) * pages_of q in
-    let count : r.pages ≡ (i.before + suc i.following) * pages_of r.order = subst C (sym i.order_same) i.count in
+    let count : r.pages ≡ (i.before + suc i.following) * pages_of r.order = subst (λ (q : Order). r.pages ≡ (i.before + suc i.following) * pages_of q) (sym i.order_same) i.count in
     let a : ℕ = i.before in
     let b : ℕ = i.following in
     let p : ℕ = pages_of r.order in
@@ -196,10 +191,9 @@ pub cut-can : (space first : ℕ) (o : Order) (n : ℕ) (t cutt : TreapView) (r 
     → l ≡ leaf_in first r → CanPutLeaf n cutt (record l { perm = perm })
 cut-can space first o n t cutt r perm l whole k e is =
     let i : IsLeafIn space first o r = k.place in
-    let P : TreapView → Type 0 = λ v. CanPutLeaf n v (record l { perm = perm }) in
     let Q : Leaf → Type 0 = λ x. CanPutLeaf n (keeping t (cut first o r t.kept)) (record x { perm = perm }) in
     let room = whole.nodes in
-    subst P (sym e) (subst Q (sym (is ∙ leaf-in-is space first o r i)) (record {
+    subst (λ (v : TreapView). CanPutLeaf n v (record l { perm = perm })) (sym e) (subst Q (sym (is ∙ leaf-in-is space first o r i)) (record {
       range = part-range space first o r perm i (In-range 0 r t.kept whole.held k.member);
       held = held-cut space first o 0 r t.kept i whole.held k.member;
       clear = part-clear space first o r t.kept perm i whole.held k.member;
@@ -222,8 +216,7 @@ kept-is t new rs e = ap (λ (v : TreapView). v.kept) e
 pub has-ranges : (t new : TreapView) (rs : List Range) (leaves : List Leaf) → new ≡ keeping t rs → AreRanges rs leaves → HasRanges leaves t new
 has-ranges t new rs leaves e a =
     let k : new.kept ≡ rs = kept-is t new rs e in
-    let H : List Range → Type 0 = λ ys. IsHeld 0 ys in
-    record { held = subst H (sym k) a.held; leaves = ap spread k ∙ a.leaves_are; rest = e ∙ ap (keeping t) (sym k) }
+    record { held = subst (λ (ys : List Range). IsHeld 0 ys) (sym k) a.held; leaves = ap spread k ∙ a.leaves_are; rest = e ∙ ap (keeping t) (sym k) }
 
 -- An insertion.
 pub insert-clear : (n : ℕ) (t : TreapView) (leaf : Leaf) → IsTable n t → IsLeafFor (Runs n) leaf → meets_any leaf.space leaf.first leaf.order (spread t.kept) ≡ false → IsClear (range_of_leaf leaf) t.kept
@@ -257,9 +250,8 @@ pub remove-done : (space first : ℕ) (o : Order) (n : ℕ) (t new : TreapView) 
 remove-done space first o n t new r result whole k test made same =
     let a : AreRanges (cut first o r t.kept) (without_leaf space first (spread t.kept)) = cut-ranges space first o r t.kept whole.held k in
     let is : changed (Remove space first o) (spread t.kept) ≡ without_leaf space first (spread t.kept) = remove-changed space first o (leaf_in first r) (spread t.kept) k.named in
-    let L : List Leaf → Type 0 = λ xs. HasRanges xs t new in
     record {
       room = test ∙ ap (λ (xs : List Range). nat_le (length xs) n) (sym a.ranges) ∙ ap (λ (xs : List Leaf). nat_le (length (ranges_of xs)) n) (sym is) ∙ sym (remove-room space first o (spread t.kept) n);
-      made = λ e. subst L (sym is) (has-ranges t new (cut first o r t.kept) (without_leaf space first (spread t.kept)) (made e) a);
+      made = λ e. subst (λ (xs : List Leaf). HasRanges xs t new) (sym is) (has-ranges t new (cut first o r t.kept) (without_leaf space first (spread t.kept)) (made e) a);
       same = same;
     }

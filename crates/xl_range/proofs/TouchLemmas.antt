@@ -78,8 +78,7 @@ next-first x q n t pages =
 grown-pages : (x q : Range) (a b : ℕ) → Touch x q → x.pages ≡ suc a * pages_of x.order → q.pages ≡ suc b * pages_of q.order
     → x.pages + q.pages ≡ suc (suc a + b) * pages_of x.order
 grown-pages x q a b t h k =
-    let P : Order → Type 0 = λ o. q.pages ≡ suc b * pages_of o in
-    let l : q.pages ≡ suc b * pages_of x.order = subst P (sym t.order_same) k in
+    let l : q.pages ≡ suc b * pages_of x.order = subst (λ (o : Order). q.pages ≡ suc b * pages_of o) (sym t.order_same) k in
     omega arith
 
 pub grown-range : (x q : Range) → Touch x q → IsRange x → IsRange q → IsRange (grown x q)

@@ -253,10 +253,9 @@ raised-new key by old new k n some done =
     let hs = old.held in
     let b = old.shape.buckets in
     let x : Held = record { entry = done.held.0; tag = key; values = by ∷ [] } in
-    let P : List Held → Type 0 = λ gs. AreKept gs in
     let none : count_of key (counts_of hs) ≡ 0 = zero-count key hs n in
     record {
-      kept = subst P (sym done.held.3) (record {
+      kept = subst (λ (gs : List Held). AreKept gs) (sym done.held.3) (record {
         counts = record {
           once = once-front b x hs k.counts.once n;
           some = λ c j. (let r = map-In count_in c (in_front_of b x hs) j in let Q : Count → Type 0 = λ d. 0 < d.number in

@@ -77,8 +77,7 @@ In-slots f values tag (suc n) i x h e =
     elim (i == n) as (λ b. (i == n) ≡ b → In x (with_some (leaf_in f tag n (word_at f values tag n)) (slot_leaves f values tag n))) [
       | true ↦ λ t.
           let same : i ≡ n = grind (arith, nat_tests) in
-          let P : Option Leaf → Type 0 = λ q. In x (with_some q (slot_leaves f values tag n)) in
-          subst P (sym e ∙ ap (λ m. leaf_in f tag m (word_at f values tag m)) same) (inl refl)
+          subst (λ (q : Option Leaf). In x (with_some q (slot_leaves f values tag n))) (sym e ∙ ap (λ m. leaf_in f tag m (word_at f values tag m)) same) (inl refl)
       | false ↦ λ t. let l : i < n = grind (arith, nat_tests) in In-some (leaf_in f tag n (word_at f values tag n)) x (slot_leaves f values tag n) (In-slots f values tag n i x l e)
     ] refl
 

@@ -21,8 +21,7 @@ pub off-child : (words : List ℕ) (at low high : ℕ) (side : Side) (t : Tree) 
 off-child words at low high side Tip i h o = tt
 off-child words at low high side (Bin n x l r) i h o =
     let m : n ≡ at - 1 = let q = i.0 in omega arith in
-    let N : ℕ → Type 0 = λ z. Off z (on_side side l r) in
-    subst N m (off-side words n low high x l r (at-keeps words at (Bin n x l r) i) o side)
+    subst (λ (z : ℕ). Off z (on_side side l r)) m (off-side words n low high x l r (at-keeps words at (Bin n x l r) i) o side)
 
 hung-under : (base w new : List ℕ) (low high k p b : ℕ) (q s : Tree) → IsAt base (suc p) q → InOrder low high q → SameOff (child (toward k q) q) base w
     → IsHung w new p (side_in w p k) b → IsAt w b s → Off p s → Hung base new (toward k q) p q s
@@ -49,10 +48,7 @@ pub attached : (base w new path : List ℕ) (low high root result k depth at : �
     → IsParent base path t k depth s → SameOff (down t k depth) base w → IsAt w at s → IsAttached w new root result (parent_at path depth) k at
     → Attached base new t k depth s result
 attached base w new path low high root result k zero at t s i o parent so u a =
-    let R : ℕ → Type 0 = λ z. IsAt new z s in
-    let W : List ℕ → Type 0 = λ z. IsAt z at s in
-    let O : List ℕ → Type 0 = λ z. SameOff t base z in
-    record { here = subst R (sym a.1) (subst W (sym a.0) u); off = subst O (sym a.0) so }
+    record { here = subst (λ (z : ℕ). IsAt new z s) (sym a.1) (subst (λ (z : List ℕ). IsAt z at s) (sym a.0) u); off = subst (λ (z : List ℕ). SameOff t base z) (sym a.0) so }
 attached base w new path low high root result k (suc d) at t s i o parent so u a = go (slice_index path d) (parent d refl) a
   where
     go : (q : ℕ) → IsAt base q (down t k d) × (0 < q) × Off (q - 1) s → IsAttached w new root result q k at → Attached base new t k (suc d) s result

@@ -188,8 +188,7 @@ reached-kept words root nodes space page free end k h r =
     let t : Tree = tree_at nodes words root in
     let size = k.size in
     let e : length words / 4 ≡ nodes = omega arith in
-    let P : ℕ → Type 0 = λ m. IsReached words (tree_at m words root) (key_at space page) end in
-    let q : IsReached words t (key_at space page) end = subst P e r in
+    let q : IsReached words t (key_at space page) end = subst (λ (m : ℕ). IsReached words (tree_at m words root) (key_at space page) end) e r in
     let o = order-apart t k.placed.apart in
     (q.range_is ∙ found-is 0 (2 ^ 58) t space page o h, q.loads_is ∙ examined-reads 0 (2 ^ 58) t space page o k.placed.heap)
 
@@ -225,10 +224,8 @@ opened words free nodes count room w f n few room-in =
     let size : length words ≡ 4 * nodes = ap length w ∙ length-replicate (4 * nodes) 0 in
     let len : length free ≡ nodes = ap length f ∙ upto-length nodes in
     let O : List ℕ → Type 0 = λ fs. Once fs in
-    let C : ℕ → Type 0 = λ m. IsKept words 0 m free room in
     let each : (e : ℕ) → In e free → IsEmpty words e = (λ e i.
-    let F : List ℕ → Type 0 = λ fs. In e fs in
-    let less : e < nodes = upto-In e nodes (subst F f i) in
+    let less : e < nodes = upto-In e nodes (subst (λ (fs : List ℕ). In e fs) f i) in
     record { there = omega arith; none = ap (λ (ws : List ℕ). slice_index ws (4 * e + 1)) w ∙ get_or-replicate (4 * nodes) (4 * e + 1) 0 0 (omega arith) }) in
     let h = placed-treap words 0 nodes free Tip (record { at = refl; heap = tt; apart = tt }) size (omega arith) (subst O (sym f) (upto-once nodes)) each in
-    subst C (sym n) (h.treap, few, room-in)
+    subst (λ (m : ℕ). IsKept words 0 m free room) (sym n) (h.treap, few, room-in)

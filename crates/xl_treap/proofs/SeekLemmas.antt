@@ -42,9 +42,8 @@ pub rest-visit : (x : Searched) (n i : ℕ) (words here : List ℕ) (at node key
     → i < n → at ≡ suc node → v ≡ visit_of here node key → here ≡ words → v ≡ w
     → x ≡ loaded_before i (visited w (λ next. search_from (n - (i + 1)) words next key))
 rest-visit x n i words here at node key v w h less is said same f =
-    let P : List ℕ → Type 0 = λ ws. v ≡ visit_of ws node key in
     let a : n - i ≡ suc (n - (i + 1)) = omega arith in
-    let e : w ≡ visit_of words node key = sym f ∙ subst P same said in
+    let e : w ≡ visit_of words node key = sym f ∙ subst (λ (ws : List ℕ). v ≡ visit_of ws node key) same said in
     h ∙ ap (loaded_before i) (rw (a, is, e) (from-visit (n - (i + 1)) words node key))
 
 pub said-end : (x : Searched) (n : ℕ) (r : Search) → x ≡ ended n r → r ≡ x.end

@@ -90,12 +90,10 @@ placed-set number r xs at x placed less full empty = record {
     go-full : (j : ℕ) → j < length xs → ((cell (set xs at x) j).word ≡ 0 → ⊥) → (b : Bool) → (j == at) ≡ b → slot r number (cell (set xs at x) j).key ≡ j
     go-full j l f true t =
         let e : j ≡ at = grind (arith, nat_tests) in
-        let W : Entry → Type 0 = λ y. y.word ≡ 0 → ⊥ in
-        ap (λ (y : Entry). slot r number y.key) (here j e) ∙ full (subst W (here j e) f) ∙ sym e
+        ap (λ (y : Entry). slot r number y.key) (here j e) ∙ full (subst (λ (y : Entry). y.word ≡ 0 → ⊥) (here j e) f) ∙ sym e
     go-full j l f false t =
         let o : j ≡ at → ⊥ = (λ e. grind (arith, nat_tests)) in
-        let W : Entry → Type 0 = λ y. y.word ≡ 0 → ⊥ in
-        ap (λ (y : Entry). slot r number y.key) (there j o) ∙ placed.full j l (subst W (there j o) f)
+        ap (λ (y : Entry). slot r number y.key) (there j o) ∙ placed.full j l (subst (λ (y : Entry). y.word ≡ 0 → ⊥) (there j o) f)
 
     go-empty : (j : ℕ) → j < length xs → (cell (set xs at x) j).word ≡ 0 → (b : Bool) → (j == at) ≡ b → cell (set xs at x) j ≡ no_entry
     go-empty j l z true t =
@@ -305,9 +303,8 @@ module _ (number cap : ℕ) (r : WayRegs) (xs : List Entry) (used : ℕ) (k : Is
       go j l f false t =
           let o : j ≡ r.p → ⊥ = (λ e. grind (arith, nat_tests)) in
           let same : cell (set xs r.p no_entry) j ≡ cell xs j = get_or-set_other xs r.p j no_entry no_entry o in
-          let W : Entry → Type 0 = λ y. y.word ≡ 0 → ⊥ in
           ap (λ (y : Entry). slot (regs_after 1 r) number y.key) same
-          ∙ slot-stays r (way_hash number (cell xs j).key) j growing k.regs.below (k.placed.full j l (subst W same f)) o
+          ∙ slot-stays r (way_hash number (cell xs j).key) j growing k.regs.below (k.placed.full j l (subst (λ (y : Entry). y.word ≡ 0 → ⊥) same f)) o
 
   -- where the entry at the pointer goes
   goes : ℕ

@@ -135,8 +135,7 @@ change_refused row c s r NoSpace is known small =
     rw (is, ← e) refl
 change_refused row c s r NoPlace is known small =
     let e : refused.WayAtCap ≡ r = cc in
-    let P : Refusal → Type 0 = λ q. leaves_nothing q ≡ true in
-    let no : false ≡ true = subst P (sym e) small in
+    let no : false ≡ true = subst (λ (q : Refusal). leaves_nothing q ≡ true) (sym e) small in
     absurd (cc)
 change_refused row c s r Made is known small = absurd (cc)
 

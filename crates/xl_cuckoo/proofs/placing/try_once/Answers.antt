@@ -141,8 +141,7 @@ grown-is limit ws vs us x m failed after c e same some is ways moves =
 grows-here : (ws : List WayState) (c : Candidate) → to_grow 0 (shapes ws) ≡ Some c → (c.way < length ws) × ((state_at ws c.way).shape.regs.s < (state_at ws c.way).shape.cap)
 grows-here ws c e =
     let g : GrowsAt (shapes ws) c.way = grows-at (shapes ws) c e in
-    let P : WayShape → Type 0 = λ w. w.regs.s < w.cap in
-    ((let t = g.there in let l = map-length (λ (w : WayState). w.shape) ws in omega arith), subst P (shape-at ws c.way) g.room)
+    ((let t = g.there in let l = map-length (λ (w : WayState). w.shape) ws in omega arith), subst (λ (w : WayShape). w.regs.s < w.cap) (shape-at ws c.way) g.room)
 
 pub returns-then-attempt : goal.returns-then-attempt
 returns-then-attempt c =

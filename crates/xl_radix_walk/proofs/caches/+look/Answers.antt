@@ -1,4 +1,4 @@
-use Rattle.xl_radix_walk.proofs.Common.{◌+◌, ◌∙◌, ◌≡◌, arith, find, has_tag, length, None, Some, sym, tag_at, touched}
+use Rattle.xl_radix_walk.proofs.Common.{◌+◌, ◌∙◌, ◌≡◌, arith, find, has_tag, length, None, rules, Some, sym, tag_at, touched}
 use Rattle.xl_radix_walk.proofs.LookLemmas.{Hit, hit, Miss, miss}
 use Rattle.xl_radix_walk.proofs.caches.+look.Goals as goal
 

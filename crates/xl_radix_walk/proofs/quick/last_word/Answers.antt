@@ -14,8 +14,7 @@ steps-on words (suc level) node page word next low h points =
     let same : suc level - 1 ≡ level = omega arith in
     let e : decode_of (slice_index words (place_of (suc level) node page)) (suc level) ≡ pte.Pointer next =
     ap (λ (w : ℕ). decode_of w (suc level)) (sym h.1) ∙ points (suc level) low in
-    let P : ℕ → Type 0 = λ l. radix_back words (suc level) node page ≡ radix_back words l next page in
-    subst P (sym same) (rw (h.0, e) refl)
+    subst (λ (l : ℕ). radix_back words (suc level) node page ≡ radix_back words l next page) (sym same) (rw (h.0, e) refl)
 
 enters-on : (words : List ℕ) (level node page word next : ℕ) → 0 < level → HasWord words level node page word → Points word next
     → radix_path words level node page ≡ next ∷ radix_path words (level - 1) next page
@@ -25,8 +24,7 @@ enters-on words (suc level) node page word next low h points =
     let same : suc level - 1 ≡ level = omega arith in
     let e : decode_of (slice_index words (place_of (suc level) node page)) (suc level) ≡ pte.Pointer next =
     ap (λ (w : ℕ). decode_of w (suc level)) (sym h.1) ∙ points (suc level) low in
-    let P : ℕ → Type 0 = λ l. radix_path words (suc level) node page ≡ next ∷ radix_path words l next page in
-    subst P (sym same) (rw (h.0, e) refl)
+    subst (λ (l : ℕ). radix_path words (suc level) node page ≡ next ∷ radix_path words l next page) (sym same) (rw (h.0, e) refl)
 
 -- a node more after those that were entered
 entered-more : (whole path rest : List ℕ) (start level next : ℕ) → level ≤ start → 0 < level → start < length path + level → whole ≡ take (start - level) path ++ next ∷ rest
@@ -48,8 +46,7 @@ ends-if : (words : List ℕ) (start from level at page : ℕ) (o : Option ℕ) �
     → IfSome o (λ word. at < 2 ^ 44) → IfSome o (HasWord words 0 at page) → IfSome o (EndsAt words start from page)
 ends-if words start from level at page None z e near h = tt
 ends-if words start from level at page (Some word) z e near h = λ small said.
-    let P : ℕ → Type 0 = λ l. radix_back words start from page ≡ radix_back words l at page in
-    subst P z (e near) ∙ ends-at words at page word small h said
+    subst (λ (l : ℕ). radix_back words start from page ≡ radix_back words l at page) z (e near) ∙ ends-at words at page word small h said
 
 -- at level 0 no node is entered
 enters-if : (words : List ℕ) (start from level at page : ℕ) (path : List ℕ) (o : Option ℕ) → level ≡ 0 → (at < 2 ^ 44 → radix_path words start from page ≡ take (start - level) path ++ radix_path words level at page)

@@ -1,4 +1,4 @@
-use Rattle.xl_radix_walk.proofs.Common.{◌+◌, ◌-◌, ◌∙◌, ◌≡◌, ap, arith, end_level, end_of, number-some, suc}
+use Rattle.xl_radix_walk.proofs.Common.{◌+◌, ◌-◌, ◌∙◌, ◌≡◌, ap, arith, end_level, end_of, number-some, rules, suc}
 use Rattle.xl_radix_walk.proofs.DescentLemmas.{end-at-level, loads-are, walk-path}
 use Rattle.xl_radix_walk.proofs.row.descend.Goals as goal
 

@@ -1,4 +1,4 @@
-use Rattle.xl_range.proofs.Common.{◌∙◌, Bool, IsDone, Protect, subst, sym}
+use Rattle.xl_range.proofs.Common.{◌∙◌, Bool, IsDone, Protect, rules, subst, sym}
 use Rattle.xl_range.proofs.MoveStepLemmas.{protect-done, protect-undone}
 use Rattle.xl_range.proofs.StepLemmas.{cut-can, cut-room, leaf-at}
 use Rattle.xl_range.proofs.changes.set_perm.Goals as goal

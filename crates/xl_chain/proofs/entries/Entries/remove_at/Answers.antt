@@ -29,8 +29,7 @@ pub unlink-entry-requires-clause-leads : goal.unlink-entry-requires-clause-leads
 unlink-entry-requires-clause-leads g c =
     let s = c.self.inside in
     let k = place g (goal.at.unlink-entry-requires-clause-leads g c).After-self in
-    let L : List ℕ → Type 0 = λ ws. Leads s.shape ws c.args.place in
-    subst L (sym c.deref_mut.ensures.value) (leads-at s.shape s.words.items s.free.items k.tag c.args.place c.self.invariant.0 k.is)
+    subst (λ (ws : List ℕ). Leads s.shape ws c.args.place) (sym c.deref_mut.ensures.value) (leads-at s.shape s.words.items s.free.items k.tag c.args.place c.self.invariant.0 k.is)
 
 pub invariant_of-self : goal.invariant_of-self
 invariant_of-self g c =
@@ -47,8 +46,7 @@ returns-clause-taken g c =
     let s = c.self.inside in
     let a = (goal.at.returns-clause-taken g c).After-unlink-entry in
     let N : List ℕ = c.unlink-entry.new.words in
-    let R : ChainState → Type 0 = λ v. (u : ℕ) → place_at v u ≡ Some c.args.place → IsTaken u c.args.place v (seen_in s.shape (with_items s.words N).items s.loads) in
-    subst R c.self.view_is (λ u k.
+    subst (λ (v : ChainState). (u : ℕ) → place_at v u ≡ Some c.args.place → IsTaken u c.args.place v (seen_in s.shape (with_items s.words N).items s.loads)) c.self.view_is (λ u k.
     let T : List ℕ → Type 0 = λ ws. IsTaken u c.args.place (seen_in s.shape s.words.items s.loads) (seen_in s.shape ws s.loads) in
     subst T (sym (words g a)) (taken s.shape s.words.items N s.free.items u c.args.place c.unlink-entry.result s.loads c.self.invariant.0 k (past g a)))
 

@@ -21,8 +21,7 @@ opening-harts : (spec : HartSpec) (table : TableState) (requests : List Request)
     → table ≡ opening_table 3 spec.nodes spec.spaces (0 ∷ 0 ∷ 0 ∷ 0 ∷ []) → requests ≡ [] → harts ≡ replicate spec.harts (opening_hart spec) → capacity ≡ spec.queue → pool ≡ replicate spec.frames true
     → IsHarts (state_of spec table requests harts 0 0 no_refusals) capacity pool
 opening-harts spec table requests harts capacity pool is a b c room p =
-    let P : HartsState → Type 0 = λ v. IsHarts v capacity pool in
-    subst P (sym (opening-is spec table requests harts a b c)) (opened capacity room p)
+    subst (λ (v : HartsState). IsHarts v capacity pool) (sym (opening-is spec table requests harts a b c)) (opened capacity room p)
   where
     opened : (n : ℕ) → n ≡ spec.queue → pool ≡ replicate spec.frames true → IsHarts (opening_harts spec) n pool
     opened n room q = record { kept = opening-kept spec is; pool_is = all-free spec pool q; room = full spec n room }

@@ -19,8 +19,7 @@ before-valid s kept i below x e =
     let last = older-last i s.requests s.table.leaves nothing below in
     let P : Option Leaf → Type 0 = λ o. In x (with_new o (without_old r.after (older i s.requests s.table.leaves))) in
     let there : In x (undone r (older i s.requests s.table.leaves)) = subst P (sym e) (In-with x (without_old r.after (older i s.requests s.table.leaves))) in
-    let Q : List Leaf → Type 0 = λ xs. In x xs in
-    (older-mapping (shared_row s.spec) (suc i) s.requests s.table.leaves kept.history).valid x (subst Q (sym last) there)
+    (older-mapping (shared_row s.spec) (suc i) s.requests s.table.leaves kept.history).valid x (subst (λ (xs : List Leaf). In x xs) (sym last) there)
 
 before-fits : (s : HartsState) → IsKept s → (pool : List Bool) → IsPoolOf s.spec.frames (kept_leaves s) pool → Fits (last_of s.requests) pool
 before-fits s kept pool tie = go s.requests refl
@@ -58,18 +57,16 @@ pool-released s kept pool tie k near = go (nat_lt k (length s.requests)) refl
         let e : length s.requests ≡ suc k = omega arith in
         let last : last_of s.requests ≡ get_or s.requests k nothing = ap (λ (i : ℕ). get_or s.requests i nothing) (let f : length s.requests - 1 ≡ k = omega arith in f) in
         let P : Request → Type 0 = λ r. IsPoolOf s.spec.frames (s.table.leaves ++ held_leaves (take k s.requests)) (pool_after r pool) in
-        let Q : Request → Type 0 = λ r. Fits r pool in
         subst P (sym last) (given s.spec.frames (get_or s.requests k nothing).before (get_or s.requests k nothing).after s.table.leaves (s.table.leaves ++ held_leaves (take k s.requests)) (kept_leaves s) pool
         (λ f.
         let a = owners-append f s.table.leaves (held_leaves s.requests) in
         let b = owners-append f s.table.leaves (held_leaves (take k s.requests)) in
         let c = owners-oldest f k s.requests nothing e in
         omega arith)
-        kept.alone (subst Q last (before-fits s kept pool tie)) tie.size tie)
+        kept.alone (subst (λ (r : Request). Fits r pool) last (before-fits s kept pool tie)) tie.size tie)
     go false t =
         let above : length s.requests ≤ k = grind (arith, nat_tests) in
-        let P : List Request → Type 0 = λ rs. IsPoolOf s.spec.frames (s.table.leaves ++ held_leaves rs) pool in
-        subst P (sym (take-all k s.requests above)) tie
+        subst (λ (rs : List Request). IsPoolOf s.spec.frames (s.table.leaves ++ held_leaves rs) pool) (sym (take-all k s.requests above)) tie
 
 -- the requests that stay are at most one less
 take-near : (s : HartsState) → IsKept s → (n : ℕ) → hart_refusal s (step.Take n) ≡ None → length s.requests ≤ longest (set s.harts n (hart_fenced (oldest (hart_at n s) s.requests) (hart_at n s))) + 1
@@ -97,10 +94,9 @@ module _ (s : HartsState) (kept : IsKept s) (n : ℕ) (ruled : hart_refusal s (s
   taken-harts : (capacity : ℕ) → capacity ≡ s.spec.queue → (pool after : List Bool) → IsPoolOf s.spec.frames (kept_leaves s) pool → after ≡ released (longest (set s.harts n x)) s.requests pool
       → IsHarts (record s { harts = set s.harts n x; requests = requests }) capacity after
   taken-harts capacity room pool after tie settles =
-      let P : HartsState → Type 0 = λ v. IsKept v in
       let far : length s.requests ≤ longest (set s.harts n x) + 1 = rw is (take-near s kept n ruled) in
       record {
-        kept = subst P (sym taken-is) (request-kept s kept n (take-some s n ruled));
+        kept = subst (λ (v : HartsState). IsKept v) (sym taken-is) (request-kept s kept n (take-some s n ruled));
         pool_is = rw (are, settles) (pool-released s kept pool tie (longest (set s.harts n x)) far);
         room = room;
       }

@@ -1,4 +1,4 @@
-use Rattle.xl_radix.proofs.Common.{◌%◌, ◌∙◌, ◌≡◌, ap, level_of, refl, up, ℕ}
+use Rattle.xl_radix.proofs.Common.{◌%◌, ◌∙◌, ◌≡◌, ap, level_of, refl, rules, up, ℕ}
 use Rattle.xl_radix.proofs.RemovalLemmas.{clear-step}
 use Rattle.xl_radix.proofs.store.Store.clear_leaf.Goals as goal
 

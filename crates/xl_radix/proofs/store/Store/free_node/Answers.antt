@@ -1,4 +1,4 @@
-use Rattle.xl_radix.proofs.Common.{◌%◌, refl, up}
+use Rattle.xl_radix.proofs.Common.{◌%◌, refl, rules, up}
 use Rattle.xl_radix.proofs.RemovalLemmas.{release-step}
 use Rattle.xl_radix.proofs.store.Store.free_node.Goals as goal
 

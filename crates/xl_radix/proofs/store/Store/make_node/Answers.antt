@@ -1,4 +1,4 @@
-use Rattle.xl_radix.proofs.Common.{◌-◌, ◌∙◌, ◌≡◌, ap, arith, Node, refl, slice_set, Some, sym, up, ℕ}
+use Rattle.xl_radix.proofs.Common.{◌-◌, ◌∙◌, ◌≡◌, ap, arith, Node, refl, rules, slice_set, Some, sym, up, ℕ}
 use Rattle.xl_radix.proofs.FreeLemmas.{not-none}
 use Rattle.xl_radix.proofs.NumberLemmas.{lowest-is, put-first-count, put-lowest}
 use Rattle.xl_radix.proofs.StepLemmas.{at_node-in, count-fits, made-step-at}

@@ -1,4 +1,4 @@
-use Rattle.xl_radix.proofs.Common.{arith}
+use Rattle.xl_radix.proofs.Common.{arith, rules}
 use Rattle.xl_radix.proofs.OpeningLemmas.{opening-back, opening-count, opening-exact, opening-store}
 use Rattle.xl_radix.proofs.store.Store.open.Goals as goal
 

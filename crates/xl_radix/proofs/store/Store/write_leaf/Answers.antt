@@ -1,4 +1,4 @@
-use Rattle.xl_radix.proofs.Common.{◌%◌, ◌∙◌, ◌≡◌, ap, arith, level_of, up, ℕ}
+use Rattle.xl_radix.proofs.Common.{◌%◌, ◌∙◌, ◌≡◌, ap, arith, level_of, rules, up, ℕ}
 use Rattle.xl_radix.proofs.StepLemmas.{at_node-in, count-fits, put-step}
 use Rattle.xl_radix.proofs.store.Store.write_leaf.Goals as goal
 

@@ -1,4 +1,4 @@
-use Rattle.xl_radix.proofs.Common.{◌%◌, ◌∙◌, ◌≡◌, ap, arith, level_of, up, ℕ}
+use Rattle.xl_radix.proofs.Common.{◌%◌, ◌∙◌, ◌≡◌, ap, arith, level_of, rules, up, ℕ}
 use Rattle.xl_radix.proofs.PermLemmas.{frame-low, node-low, perm-step}
 use Rattle.xl_radix.proofs.store.Store.write_perm.Goals as goal
 

@@ -8,8 +8,7 @@ key_of-key-requires c =
     let s = c.self.inside in
     let t = tree_at (length s.path.items) s.words.items s.root in
     let k = key_at c.args.space c.args.start in
-    let A : TreapState → Type 0 = λ v. list_any (has_key k) v.seen.kept ≡ true in
-    held-small k (ranges t) c.self.invariant.0.placed.apart (subst A (sym c.self.view_is) c.requires.held)
+    held-small k (ranges t) c.self.invariant.0.placed.apart (subst (λ (v : TreapState). list_any (has_key k) v.seen.kept ≡ true) (sym c.self.view_is) c.requires.held)
 
 pub invariant_of-self : goal.invariant_of-self
 invariant_of-self c =

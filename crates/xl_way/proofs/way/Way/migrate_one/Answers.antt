@@ -25,9 +25,8 @@ invariant_of-self c =
     let now : c.set.new.self ≡ record { number = s.places.number; regs = regs_after 1 s.places.regs } =
     c.set.ensures ∙ ap (λ (r : WayRegs). record { number = s.places.number; regs = r }) (c.stepped.ensures ∙ ap (regs_after 1) c.regs-regs.ensures) in
     let items = items-now s c.migrate_slot.new.slots (moved s.places.regs s.places.number s.slots.items) is (done.kept.size ∙ sym c.self.invariant.size) in
-    let K : List Entry → Type 0 = λ xs. IsKept c.set.new.self.number s.cap c.set.new.self.regs xs s.used in
     let R : PlacesState → Type 0 = λ p. IsKept p.number s.cap p.regs (moved s.places.regs s.places.number s.slots.items) s.used in
-    subst K (sym items) (subst R (sym now) done.kept)
+    subst (λ (xs : List Entry). IsKept c.set.new.self.number s.cap c.set.new.self.regs xs s.used) (sym items) (subst R (sym now) done.kept)
 
 pub returns : goal.returns
 unfolding advanced

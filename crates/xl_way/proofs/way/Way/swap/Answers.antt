@@ -1,4 +1,4 @@
-use Rattle.xl_way.proofs.Common.{◌+◌, ◌<◌, ◌∙◌, ◌≡◌, ap, arith, cell, entries_of, Entry, IsKept, List, None, occupant, refl, set, subst, swapped, sym, WayState, with_items}
+use Rattle.xl_way.proofs.Common.{◌+◌, ◌<◌, ◌∙◌, ◌≡◌, ap, arith, cell, entries_of, Entry, IsKept, List, None, occupant, refl, rules, set, subst, swapped, sym, WayState, with_items}
 use Rattle.xl_way.proofs.FieldLemmas.{inside-now, items-set, swapped-now}
 use Rattle.xl_way.proofs.WayLemmas.{few-used, kept-set, occupant-is, some-word, standing_in, swap-back, swap-more, way_of}
 use Rattle.xl_way.proofs.way.Way.swap.Goals as goal
